@@ -1,0 +1,5 @@
+pub mod Complete
+pub mod Lengths
+pub mod Many
+pub mod Sorts
+pub mod Sound

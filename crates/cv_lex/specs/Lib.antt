@@ -1,0 +1,3 @@
+pub mod Lexis
+pub mod Symbols
+pub mod View

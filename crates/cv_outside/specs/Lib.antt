@@ -1,0 +1,4 @@
+pub mod Causes
+pub mod Shelves
+pub mod Sinks
+pub mod Told

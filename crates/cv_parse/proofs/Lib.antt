@@ -1,0 +1,9 @@
+pub mod Chains
+pub mod Declarations
+pub mod Laws
+pub mod Levels
+pub mod Made
+pub mod Places
+pub mod Productions
+pub mod Rows
+pub mod Whole

@@ -1,0 +1,15 @@
+use Rattle.std.proofs.Common.{refl, sym, arith, length-drop}
+use Rattle.cv_grammar.specs.Form.{◌▸◌}
+use Rattle.cv_grammar.specs.declared.sign.Mark.TheVariants.{Both}
+use Rattle.cv_parse.specs.Rules.{occurs}
+use Rattle.cv_parse.proofs.Rows.{trees_begin, trees_go, place_grows}
+use Rattle.cv_parse.proofs.decls.occurs_row.Goals as goal
+
+pub row-init : goal.row-init
+row-init c = trees_begin c.args.depth Both occurs refl refl c.args.signs.now _ _ c.args.at _ c.requires.at c.in_ok-place.ensures.makes
+
+pub row-preserved : goal.row-preserved
+row-preserved c = trees_go c.args.depth (Both ▸ occurs) refl refl c.args.signs.now _ _ _ _ _ _ _ c.row.invariant (sym c.row-test.ensures) c.in_ok-place-2.ensures.makes
+
+pub row-smaller : goal.row-smaller
+row-smaller c = place_grows c.args.depth (Both ▸ occurs) refl refl c.args.signs.now _ _ _ _ c.row.invariant.read.within c.in_ok-place-2.ensures.makes

@@ -1,0 +1,13 @@
+use Rattle.std.proofs.Common.{◌-◌, length, drop}
+use Rattle.cv_grammar.specs.Form.{◌▸◌}
+use Rattle.cv_grammar.specs.declared.sign.Mark.TheVariants.{Comma}
+use Rattle.cv_parse.specs.Rules.{row, type_name}
+use Rattle.cv_parse.specs.Gives.{read_in}
+use Rattle.cv_parse.proofs.Rows.{SoFar}
+use Rattle.cv_parse.proofs.lists.types.Given as goal
+
+abbrev pub invariant-row : goal.invariant-row
+invariant-row l = SoFar l.depth (Comma ▸ type_name) l.signs l.fn.uses.items l.uses.items (read_in l.depth (row Comma (type_name)) (drop l.fn.at l.signs)) l.names.items l.place
+
+abbrev pub decreases-row : goal.decreases-row
+decreases-row l = length l.signs - l.place

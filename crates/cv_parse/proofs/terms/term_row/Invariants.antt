@@ -1,0 +1,13 @@
+use Rattle.std.proofs.Common.{◌-◌, ◌≤◌, length, drop}
+use Rattle.cv_grammar.specs.Form.{◌▸◌, deeper}
+use Rattle.cv_grammar.specs.declared.sign.Mark.TheVariants.{Comma}
+use Rattle.cv_parse.specs.Rules.{row, Term}
+use Rattle.cv_parse.specs.Gives.{read_in}
+use Rattle.cv_parse.proofs.Rows.{TreesSoFar}
+use Rattle.cv_parse.proofs.terms.term_row.Given as goal
+
+abbrev pub invariant-row : goal.invariant-row
+invariant-row l = TreesSoFar l.depth (Comma ▸ deeper Term) l.signs l.fn.trail l.trail (read_in l.depth (row Comma (deeper Term)) (drop l.fn.at l.signs)) l.count l.place
+
+abbrev pub decreases-row : goal.decreases-row
+decreases-row l = length l.signs - l.place

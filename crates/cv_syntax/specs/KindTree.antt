@@ -1,0 +1,61 @@
+use Rattle.std.specs.Prelude.{ℕ, ◌+◌, ◌≡◌, List, [], ◌∷◌, ◌++◌, Option, Some, None, refl, Bool, true, false}
+use Rattle.std.proofs.Common.{ap, ◌∙◌, sym, append_assoc}
+use Rattle.std.specs.Coded.{Coded, code_by, coded×, coded_ℕ, coded_option, coded_list}
+use Rattle.cv_syntax.specs.declared.node.Kind.{Kind}
+
+-- a tree, or none
+pub data KindTree : Type 0 where
+  NoTree : KindTree
+  Fork : (kind : Kind) → (first second : KindTree) → KindTree
+
+-- how many nodes a tree has
+abbrev pub tree_size : KindTree → ℕ
+tree_size NoTree = 0
+tree_size (Fork k a b) = tree_size a + tree_size b + 1
+
+abbrev pub kind_of : KindTree → Kind
+kind_of NoTree = record { tag = 0; a = 0; b = 0 }
+kind_of (Fork k a b) = k
+
+-- the second child, or the first
+abbrev pub side : Bool → KindTree → KindTree
+side second NoTree = NoTree
+side true (Fork k a b) = b
+side false (Fork k a b) = a
+
+-- A tree as a list: none, or a node behind its two children.
+abbrev pub Steps : Type 0
+Steps = List (Option (ℕ × (ℕ × ℕ)))
+
+abbrev pub steps_of : KindTree → Steps
+steps_of NoTree = None ∷ []
+steps_of (Fork k a b) = steps_of a ++ (steps_of b ++ Some (k.tag, (k.a, k.b)) ∷ [])
+
+abbrev pub joined : ℕ × (ℕ × ℕ) → List KindTree → List KindTree
+joined k (b ∷ (a ∷ stack)) = Fork (record { tag = k.0; a = k.1.0; b = k.1.1 }) a b ∷ stack
+joined k (b ∷ []) = []
+joined k [] = []
+
+abbrev pub stacked : List KindTree → Steps → List KindTree
+stacked stack [] = stack
+stacked stack (None ∷ steps) = stacked (NoTree ∷ stack) steps
+stacked stack (Some k ∷ steps) = stacked (joined k stack) steps
+
+abbrev pub top : List KindTree → KindTree
+top [] = NoTree
+top (t ∷ ts) = t
+
+pub stacked-steps_of : (t : KindTree) (stack : List KindTree) (rest : Steps) → stacked stack (steps_of t ++ rest) ≡ stacked (t ∷ stack) rest
+stacked-steps_of NoTree stack rest = refl
+stacked-steps_of (Fork k a b) stack rest =
+    ap (stacked stack) (append_assoc (steps_of a) (steps_of b ++ Some (k.tag, (k.a, k.b)) ∷ []) rest)
+    ∙ (stacked-steps_of a stack ((steps_of b ++ Some (k.tag, (k.a, k.b)) ∷ []) ++ rest)
+    ∙ (ap (stacked (a ∷ stack)) (append_assoc (steps_of b) (Some (k.tag, (k.a, k.b)) ∷ []) rest)
+    ∙ stacked-steps_of b (a ∷ stack) (Some (k.tag, (k.a, k.b)) ∷ rest)))
+
+pub steps_back : (t : KindTree) → top (stacked [] (steps_of t ++ [])) ≡ t
+steps_back t = ap top (stacked-steps_of t [] [])
+
+abbrev pub coded_tree : Coded KindTree
+coded_tree =
+    code_by Steps (coded_list (coded_option (coded× coded_ℕ (coded× coded_ℕ coded_ℕ)))) (λ t. steps_of t ++ []) (λ s. top (stacked [] s)) steps_back

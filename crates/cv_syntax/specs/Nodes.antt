@@ -1,0 +1,36 @@
+use Rattle.std.specs.Prelude.{ℕ, ◌+◌, ◌<◌, ◌≤◌, ◌≡◌, List, [], ◌∷◌, ◌++◌, Option, Some, None, length, slice_index_or, refl, IfSome}
+use Rattle.cv_syntax.specs.declared.node.Entry.{Entry}
+use Rattle.cv_syntax.specs.declared.node.Kind.{Kind}
+use Rattle.cv_syntax.specs.declared.node.NodeId.{NodeId}
+use Rattle.cv_syntax.specs.KindTree.{KindTree, NoTree, Fork}
+
+-- the tree at a number, or none
+abbrev pub at : List KindTree → ℕ → KindTree
+at trees n = slice_index_or trees n NoTree
+
+-- the tree of a child
+abbrev pub child : List KindTree → Option NodeId → KindTree
+child trees None = NoTree
+child trees (Some n) = at trees n.0
+
+abbrev pub tree_of : List KindTree → Entry → KindTree
+tree_of done c = Fork c.kind (child done c.first) (child done c.second)
+
+-- the trees of the cells, each over those before it
+abbrev pub built : List KindTree → List Entry → List KindTree
+built done [] = done
+built done (c ∷ cs) = built (done ++ tree_of done c ∷ []) cs
+
+-- each child has a smaller number
+abbrev pub ChildBelow : ℕ → Option NodeId → Type 0
+ChildBelow i None = Unit {0}
+ChildBelow i (Some n) = n.0 < i
+
+pub record EntryBelow (i : ℕ) (c : Entry) : Type 0 where
+  pub first : ChildBelow i c.first
+  pub second : ChildBelow i c.second
+
+-- the cells from number i on
+abbrev pub IsClosed : ℕ → List Entry → Type 0
+IsClosed i [] = Unit {0}
+IsClosed i (c ∷ cs) = EntryBelow i c × IsClosed (i + 1) cs

@@ -1,0 +1,8 @@
+use crate::head::Head;
+
+/// A part of a tree that is made from the bottom: nothing, or a node over the two trees before it.
+#[derive(Clone, Copy, Debug, PartialEq, Eq)]
+pub enum Make {
+    Nothing,
+    Over(Head),
+}
