@@ -1,5 +1,5 @@
 -- Readers one after another, and the parts that they make.
-use Rattle.std.proofs.Common.{◌≡◌, ℕ, zero, suc, ◌+◌, ◌-◌, ◌<◌, ◌≤◌, Bool, true, false, List, [], ◌∷◌, ◌++◌, length, drop, refl, ap, ap₂, sym, ◌∙◌, arith, subst, append_assoc, append-nil, Err, Ok, Some, None, Option}
+use Rattle.std.proofs.Common.{◌≡◌, ℕ, ◌+◌, ◌≤◌, Bool, true, false, List, [], ◌∷◌, ◌++◌, length, drop, ap, ap₂, sym, ◌∙◌, subst, append_assoc, append-nil}
 use Rattle.cv_syntax.specs.declared.head.Head.{Head}
 use Rattle.cv_syntax.specs.declared.head.Head.TheVariants.{Cons}
 use Rattle.cv_syntax.specs.declared.make.Make.{Make}
@@ -8,8 +8,7 @@ use Rattle.cv_syntax.specs.Tree.{Tree, Empty, Node}
 use Rattle.cv_syntax.specs.Postorder.{postorder}
 use Rattle.cv_grammar.specs.declared.sign.Sign.{Sign}
 use Rattle.cv_grammar.specs.declared.sign.Mark.{Mark}
-use Rattle.cv_grammar.specs.Spells.{Use}
-use Rattle.cv_grammar.specs.Reads.{Read, Reader, Found, ◌>>=◌, found, joined, mapped, pick, read_sign, nothing}
+use Rattle.cv_grammar.specs.Reads.{Read, Reader, ◌>>=◌, found, joined, mapped, pick, read_sign}
 use Rattle.cv_parse.specs.declared.role.Role.{Role}
 use Rattle.cv_parse.specs.declared.role.NameUse.{NameUse}
 use Rattle.cv_parse.specs.Gives.{IsRead, IsSign, uses_of}

@@ -1,5 +1,5 @@
 -- Levels, and choices by the next token.
-use Rattle.std.proofs.Common.{◌≡◌, ℕ, zero, suc, ◌+◌, ◌-◌, ◌<◌, ◌≤◌, Bool, true, false, List, [], ◌∷◌, ◌++◌, length, drop, ◌||◌, refl, ap, ap₂, sym, ◌∙◌, arith, subst, length-drop, append-nil, Err, Ok, Some, None, Option, Result, is_some}
+use Rattle.std.proofs.Common.{◌≡◌, ℕ, zero, suc, ◌+◌, ◌-◌, ◌<◌, ◌≤◌, Bool, true, false, List, [], ◌∷◌, ◌++◌, length, drop, ◌||◌, refl, ap, ap₂, sym, ◌∙◌, arith, subst, length-drop, append-nil, Err, Ok, Some, None, Result, is_some}
 use Rattle.cv_syntax.specs.Tree.{Tree, Empty}
 use Rattle.cv_syntax.specs.declared.make.Make.{Make}
 use Rattle.cv_syntax.specs.declared.make.Make.TheVariants.{Nothing}
@@ -7,18 +7,15 @@ use Rattle.cv_syntax.specs.Postorder.{postorder}
 use Rattle.cv_grammar.specs.declared.sign.Sign.{Sign}
 use Rattle.cv_grammar.specs.declared.sign.Sign.TheVariants as token
 use Rattle.cv_grammar.specs.declared.sign.Mark.{Mark}
-use Rattle.cv_grammar.specs.declared.sign.Mark.TheVariants as mark
-use Rattle.cv_grammar.specs.Spells.{Kind, next_is, is_mark, is_word, Use, starts}
+use Rattle.cv_grammar.specs.Spells.{Kind, next_is, is_mark, is_word, starts}
 use Rattle.cv_grammar.specs.Form.{level, made, may}
-use Rattle.cv_grammar.specs.Reads.{nothing, Read, Reader, Found, Fault, Syntax, Nesting, ◌>>=◌, found, pick, no_syntax, no_level, read_sign, read_sort, too_deep, reads, mapped, joined}
+use Rattle.cv_grammar.specs.Reads.{nothing, Read, Reader, Found, Fault, Syntax, Nesting, ◌>>=◌, found, pick, no_syntax, no_level, read_sign, read_sort, too_deep, mapped}
 use Rattle.cv_parse.specs.declared.reading.ReadError.{ReadError}
 use Rattle.cv_parse.specs.declared.reading.ReadError.TheVariants as error
 use Rattle.cv_parse.specs.declared.role.Role.{Role}
-use Rattle.cv_parse.specs.declared.role.NameUse.{NameUse}
 use Rattle.cv_parse.specs.declared.trail.Trail.{Trail}
 use Rattle.cv_parse.specs.Rules.{Sort, Phrase, rule, heads, or_else}
-use Rattle.cv_parse.specs.Gives.{uses_of, MakesOver, Fails, IsRead, IsMade, Makes, IsSign, positive, below, read_in, read_opening, next_word, word_in}
-use Rattle.cv_parse.proofs.Places.{fails_bind}
+use Rattle.cv_parse.specs.Gives.{uses_of, MakesOver, Fails, Makes, positive, below, read_in, read_opening, next_word}
 
 -- a name stands there where one is read there
 pub word_stands : (ts : List Sign) → is_some (next_word ts) ≡ next_is is_word ts

@@ -1,11 +1,11 @@
 -- What is made at the end of a list of parts.
 use Rattle.std.proofs.Common.{◌≡◌, ℕ, zero, suc, ◌+◌, ◌<◌, ◌≤◌, List, [], ◌∷◌, ◌++◌, length, drop, refl, ap, ap₂, sym, ◌∙◌, arith, subst, append_assoc, append-nil, map, get_or}
-use Rattle.std.specs.Prelude.{replicate, flat_map, reverse}
+use Rattle.std.specs.Prelude.{replicate, flat_map}
 use Rattle.cv_syntax.specs.declared.head.Head.{Head}
 use Rattle.cv_syntax.specs.declared.head.Head.TheVariants.{Cons, Binder, Name}
 use Rattle.cv_syntax.specs.declared.make.Make.{Make}
 use Rattle.cv_syntax.specs.declared.make.Make.TheVariants.{Nothing, Over}
-use Rattle.cv_syntax.specs.Tree.{Tree, Empty, Node, chain, lone, binders, names}
+use Rattle.cv_syntax.specs.Tree.{Tree, Empty, Node, chain, binders, names}
 use Rattle.cv_syntax.specs.Postorder.{postorder}
 use Rattle.cv_parse.specs.Spines.{spine}
 

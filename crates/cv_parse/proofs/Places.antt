@@ -1,12 +1,11 @@
 -- Places in the list of tokens, and readers one after another.
-use Rattle.std.proofs.Common.{◌≡◌, ℕ, zero, suc, ◌+◌, ◌-◌, ◌<◌, ◌≤◌, Bool, true, false, List, [], ◌∷◌, ◌++◌, length, drop, refl, ap, sym, ◌∙◌, arith, subst, get_or, length-drop, Err, Ok, Some, None, Option, append_assoc}
-use Rattle.std.specs.Prelude.{map}
+use Rattle.std.proofs.Common.{◌≡◌, ℕ, zero, suc, ◌+◌, ◌-◌, ◌<◌, ◌≤◌, Bool, true, false, List, [], ◌∷◌, ◌++◌, length, drop, refl, ap, sym, ◌∙◌, arith, subst, get_or, length-drop, Err, Some, None}
 use Rattle.std.proofs.lemmas.List.{map-append}
 use Rattle.cv_grammar.specs.declared.sign.Sign.{Sign}
 use Rattle.cv_grammar.specs.declared.sign.Sign.TheVariants as token
 use Rattle.cv_grammar.specs.declared.sign.Mark.{Mark}
-use Rattle.cv_grammar.specs.Spells.{Kind, kind_of, next_is, is_mark, is_zero, Use, used}
-use Rattle.cv_grammar.specs.Reads.{Read, Found, Fault, Syntax, Nesting, ◌>>=◌, found, pick, no_syntax, read_sign, read_word, read_nought, joined, mapped}
+use Rattle.cv_grammar.specs.Spells.{Kind, kind_of, next_is, is_mark, is_zero, used}
+use Rattle.cv_grammar.specs.Reads.{Read, Found, Syntax, ◌>>=◌, found, pick, no_syntax, read_sign, read_word, read_nought}
 use Rattle.cv_parse.specs.declared.reading.ReadError.{ReadError}
 use Rattle.cv_parse.specs.declared.reading.ReadError.TheVariants as error
 use Rattle.cv_parse.specs.declared.role.Role.{Role}

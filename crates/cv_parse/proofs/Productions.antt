@@ -1,5 +1,5 @@
 -- Each construct of a process, from its parts.
-use Rattle.std.proofs.Common.{◌≡◌, ℕ, zero, suc, ◌+◌, ◌-◌, ◌<◌, ◌≤◌, Bool, true, false, List, [], ◌∷◌, ◌++◌, ◌||◌, length, drop, refl, ap, sym, subst, append-nil, ◌∙◌, arith, length-drop, Err, Ok, Some, None, Option}
+use Rattle.std.proofs.Common.{◌≡◌, ℕ, zero, suc, ◌+◌, ◌<◌, ◌≤◌, Bool, false, List, [], ◌∷◌, ◌++◌, ◌||◌, length, drop, refl, ap, sym, subst, append-nil, ◌∙◌, Err, Ok}
 use Rattle.cv_syntax.specs.declared.head.Head.TheVariants.{Cons, Name, Out, In, New, Event, Occurs, Query as QueryHead}
 use Rattle.cv_syntax.specs.declared.make.Make.{Make}
 use Rattle.cv_syntax.specs.declared.make.Make.TheVariants.{Nothing, Over}
@@ -10,7 +10,7 @@ use Rattle.cv_grammar.specs.declared.sign.Mark.{Mark}
 use Rattle.cv_grammar.specs.declared.sign.Mark.TheVariants as mark
 use Rattle.cv_grammar.specs.Form.{deeper, either, made, may, ◌&◌, ◌▸◌, ◌◂◌, word}
 use Rattle.cv_grammar.specs.Spells.{next_is, is_mark, is_zero, starts}
-use Rattle.cv_grammar.specs.Reads.{Read, Syntax, ◌>>=◌, found, joined, pick, no_level, no_syntax, read_sign, read_word}
+use Rattle.cv_grammar.specs.Reads.{Read, ◌>>=◌, found, joined, pick, no_level, no_syntax, read_sign, read_word}
 use Rattle.cv_parse.specs.declared.role.Role.{Role}
 use Rattle.cv_parse.specs.declared.role.Role.TheVariants.{Asks, Declares}
 use Rattle.cv_parse.specs.declared.role.Asked.TheVariants.{AType, AnEvent}
@@ -39,7 +39,7 @@ use Rattle.cv_syntax.specs.declared.decls.Class.{Class}
 use Rattle.cv_parse.specs.declared.trail.Trail.{Trail}
 use Rattle.std.specs.Prelude.{flat_map, replicate}
 use Rattle.cv_parse.specs.Gives.{uses_of, IsRead, IsSign, Fails, below, positive, read_in}
-use Rattle.cv_parse.proofs.Levels.{room, no_room, fails_second, not_here}
+use Rattle.cv_parse.proofs.Levels.{room, fails_second, not_here}
 use Rattle.cv_parse.proofs.Places.{fails_bind, fails_behind, sign_stops}
 use Rattle.cv_parse.proofs.Chains.{both_read, both_sign, sign_both, made_read, first_read, second_made, both_made, over_made}
 

@@ -1,11 +1,11 @@
 -- Reading many, one after another.
-use Rattle.std.proofs.Common.{◌≡◌, ℕ, zero, suc, ◌+◌, ◌-◌, ◌<◌, ◌≤◌, Bool, true, false, List, [], ◌∷◌, ◌++◌, length, drop, refl, ap, ap₂, sym, ◌∙◌, arith, subst, Err, Ok, append_assoc, append-nil, length-append, length-drop, flat_map}
+use Rattle.std.proofs.Common.{◌≡◌, ℕ, zero, suc, ◌+◌, ◌-◌, ◌<◌, ◌≤◌, true, false, List, [], ◌∷◌, ◌++◌, length, drop, refl, ap, ap₂, sym, ◌∙◌, arith, subst, Err, Ok, append_assoc, append-nil, length-append, length-drop, flat_map}
 use Rattle.cv_syntax.specs.Tree.{Tree}
 use Rattle.cv_grammar.specs.declared.sign.Sign.{Sign}
 use Rattle.cv_grammar.specs.declared.sign.Mark.{Mark}
-use Rattle.cv_grammar.specs.Form.{Form, ◌▸◌, many, made, ◌&◌}
-use Rattle.cv_grammar.specs.Spells.{Kind, next_is, Use, starts, may_vanish, is_steady, IsSort, no_sort}
-use Rattle.cv_grammar.specs.Reads.{Fault, Read, Reader, Found, Syntax, Nesting, ◌>>=◌, found, one_more, joined, mapped, read_many, read_sign, read_sort, too_deep}
+use Rattle.cv_grammar.specs.Form.{◌▸◌, many}
+use Rattle.cv_grammar.specs.Spells.{next_is, Use, starts, may_vanish, is_steady, IsSort, no_sort}
+use Rattle.cv_grammar.specs.Reads.{Fault, Read, Found, Syntax, Nesting, ◌>>=◌, found, one_more, joined, mapped, read_many, read_sort, too_deep}
 use Rattle.cv_grammar.proofs.Many.{many_ends, many_more, many_fails}
 use Rattle.cv_grammar.proofs.Lengths.{lengths, toll}
 use Rattle.cv_grammar.proofs.Sound.{sound, no_ok}
@@ -16,8 +16,8 @@ use Rattle.cv_parse.specs.declared.role.Role.{Role}
 use Rattle.cv_parse.specs.declared.role.NameUse.{NameUse}
 use Rattle.cv_parse.specs.declared.trail.Trail.{Trail}
 use Rattle.cv_syntax.specs.Postorder.{postorder}
-use Rattle.cv_parse.specs.Rules.{Sort, Phrase, rule, heads, tails, row}
-use Rattle.cv_parse.specs.Gives.{Fails, IsRead, IsMade, IsRow, IsSign, uses_of, below, read_in}
+use Rattle.cv_parse.specs.Rules.{Phrase, rule, heads, tails, row}
+use Rattle.cv_parse.specs.Gives.{Fails, IsRead, IsMade, IsRow, uses_of, read_in}
 use Rattle.cv_parse.proofs.Laws.{all_fit}
 
 -- what is read takes a token

@@ -1,13 +1,12 @@
 -- A file from its declarations and its process.
-use Rattle.std.proofs.Common.{◌≡◌, ℕ, zero, suc, ◌+◌, ◌-◌, ◌<◌, ◌≤◌, true, false, List, [], ◌∷◌, ◌++◌, length, drop, refl, ap, sym, ◌∙◌, subst, arith, append_assoc, append-nil, length-drop, Ok, Err}
+use Rattle.std.proofs.Common.{◌≡◌, ℕ, zero, suc, ◌<◌, ◌≤◌, false, List, [], ◌∷◌, ◌++◌, length, drop, refl, ap, sym, ◌∙◌, subst, arith, length-drop, Ok, Err}
 use Rattle.std.specs.Prelude.{map, flat_map}
-use Rattle.cv_syntax.specs.declared.make.Make.{Make}
 use Rattle.cv_syntax.specs.Tree.{Tree}
 use Rattle.cv_syntax.specs.Declarations.{Declaration}
 use Rattle.cv_syntax.specs.Postorder.{postorder}
 use Rattle.cv_grammar.specs.declared.sign.Sign.{Sign}
 use Rattle.cv_grammar.specs.declared.sign.Mark.TheVariants as mark
-use Rattle.cv_grammar.specs.Form.{many, made, ◌&◌, ◌▸◌}
+use Rattle.cv_grammar.specs.Form.{many, ◌▸◌}
 use Rattle.cv_grammar.specs.Spells.{Use}
 use Rattle.cv_grammar.specs.Reads.{Read, Found, Syntax, ◌>>=◌, found}
 use Rattle.cv_parse.specs.declared.role.Role.{Role}
@@ -15,7 +14,6 @@ use Rattle.cv_parse.specs.declared.role.NameUse.{NameUse}
 use Rattle.cv_parse.specs.declared.heard.Heard.{Heard}
 use Rattle.cv_parse.specs.declared.trail.Trail.{Trail}
 use Rattle.cv_parse.specs.declared.file.Reading.{Reading}
-use Rattle.cv_parse.specs.declared.reading.ReadError.{ReadError}
 use Rattle.cv_parse.specs.declared.reading.ReadError.TheVariants as error
 use Rattle.cv_parse.specs.Files.{Parts, levels, read_whole, ends_there}
 use Rattle.cv_parse.specs.Rules.{decl, input, file}

@@ -10,7 +10,6 @@ use Rattle.cv_syntax.specs.declared.make.Make.{Make}
 use Rattle.cv_grammar.specs.declared.sign.Sign.{Sign}
 use Rattle.cv_grammar.specs.declared.sign.Sign.TheVariants as token
 use Rattle.cv_grammar.specs.declared.sign.Mark.{Mark}
-use Rattle.cv_grammar.specs.declared.sign.Mark.TheVariants as mark
 use Rattle.cv_grammar.specs.Spells.{Use, next_is, is_mark}
 use Rattle.cv_grammar.specs.Reads.{Read, Syntax, Nesting, found, pick, no_level, no_syntax, read_sign, reads, read_sort, too_deep}
 use Rattle.cv_parse.specs.declared.role.Role.{Role}

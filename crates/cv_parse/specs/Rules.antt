@@ -1,8 +1,8 @@
 -- The grammar of files, in its notation, with the tree of each phrase.
 -- This much of the whole grammar has rows so far: declarations of types, channels and events, queries of
 -- events, and a process that is `0` or one input.
-use Rattle.std.specs.Prelude.{ℕ, map, flat_map, ◌==◌, Bool, true, false, ◌||◌, List, [], ◌∷◌, Option, Some, None}
-use Rattle.cv_syntax.specs.Tree.{Tree, Empty, Node, first, second, lone, chain, names, binders}
+use Rattle.std.specs.Prelude.{ℕ, map, flat_map, Bool, false, List, [], ◌∷◌, Option, Some, None}
+use Rattle.cv_syntax.specs.Tree.{Tree, Empty, Node, second, lone, chain, names, binders}
 use Rattle.cv_syntax.specs.declared.head.Head.TheVariants.{Stop, Yield, In, Out, Event, New, Leaf, Cons, Name, Query as QueryHead, Occurs}
 use Rattle.cv_syntax.specs.declared.decls.Class.TheVariants as class
 use Rattle.cv_syntax.specs.Declarations.{Declaration, Named, Query}

@@ -1,7 +1,7 @@
-use Rattle.std.proofs.Common.{◌≡◌, ℕ, ◌+◌, ◌<◌, ◌≤◌, List, [], ◌∷◌, ◌++◌, length, take, drop, refl, ap, sym, ◌∙◌, append_assoc, arith, length-append, get_or, subst, Option, Some, None}
-use Rattle.std.proofs.lemmas.List.{get_or_append_left, take-append-drop, length-take}
+use Rattle.std.proofs.Common.{◌≡◌, ℕ, ◌<◌, ◌≤◌, ◌++◌, length, take, drop, refl, ap, sym, ◌∙◌, append_assoc, arith, length-append, Option, Some, None}
+use Rattle.std.proofs.lemmas.List.{get_or_append_left, take-append-drop}
 use Rattle.std.proofs.Math.Seq.{take-append_seam, take-length}
-use Rattle.cv_syntax.specs.KindTree.{KindTree, NoTree}
+use Rattle.cv_syntax.specs.KindTree.{NoTree}
 use Rattle.cv_syntax.specs.Nodes.{at, child, ChildBelow}
 use Rattle.cv_syntax.specs.PoolView.{PoolView, Grows}
 use Rattle.cv_syntax.specs.declared.node.NodeId.{NodeId}

@@ -1,6 +1,5 @@
-use Rattle.std.specs.Prelude.{ℕ, ◌+◌, ◌<◌, ◌≤◌, ◌≡◌, List, [], ◌∷◌, ◌++◌, Option, Some, None, length, slice_index_or, refl, IfSome}
+use Rattle.std.specs.Prelude.{ℕ, ◌+◌, ◌<◌, List, [], ◌∷◌, ◌++◌, Option, Some, None, slice_index_or}
 use Rattle.cv_syntax.specs.declared.node.Entry.{Entry}
-use Rattle.cv_syntax.specs.declared.node.Kind.{Kind}
 use Rattle.cv_syntax.specs.declared.node.NodeId.{NodeId}
 use Rattle.cv_syntax.specs.KindTree.{KindTree, NoTree, Fork}
 

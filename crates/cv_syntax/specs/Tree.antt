@@ -1,6 +1,6 @@
 -- Trees of the calculus: one binary tree with named heads, for games, declarations, steps and contexts.
 -- The continuation of a construct is its second child. A list is a chain of `Cons`.
-use Rattle.std.specs.Prelude.{◌≡◌, ℕ, zero, suc, ◌+◌, ◌-◌, max, Bool, true, false, ◌&&◌, ◌||◌, ◌==◌, nat_lt, if◌then◌else◌, List, [], ◌∷◌, ◌++◌, Option, Some, None}
+use Rattle.std.specs.Prelude.{ℕ, ◌+◌, ◌-◌, max, Bool, true, false, ◌&&◌, ◌||◌, ◌==◌, nat_lt, if◌then◌else◌, List, [], ◌∷◌, ◌++◌, Option, Some, None}
 use Rattle.cv_syntax.specs.declared.head.Head.{Head}
 use Rattle.cv_syntax.specs.declared.head.Head.TheVariants.{Cons, Binder, Name, Leaf, Read}
 use Rattle.cv_syntax.specs.declared.node.NodeId.{NodeId}

@@ -1,5 +1,5 @@
-ghost use Rattle.std.specs.Prelude.{◌≡◌, ℕ, ◌+◌, ◌*◌, ◌/◌, ◌%◌, ◌^◌};
-ghost use Rattle.cv_syntax.specs.Head.{code, decoded};
+ghost use Rattle.std.specs.Prelude.{◌≡◌, ◌≤◌, ℕ, ◌+◌, ◌*◌, ◌/◌, ◌%◌, ◌^◌};
+ghost use Rattle.cv_syntax.specs.Head.{code, decoded, weight};
 
 use crate::node::Kind;
 
@@ -260,6 +260,30 @@ impl Head {
             Head::Call(x, y) => (94, x, y),
         };
         Kind { tag, a, b }
+    }
+
+    /// 1 for a syntax node, 0 for a list, a binder and what only holds declarations together.
+    pub fn weight(self) -> u32
+        ensures weight { result ≡ weight self }
+        ensures one { result ≤ 1 }
+    {
+        match self {
+            Head::Cons
+            | Head::Binder(_, _)
+            | Head::Name(_)
+            | Head::Number(_)
+            | Head::Forall
+            | Head::Query
+            | Head::Occurs(_)
+            | Head::OccursOnce(_)
+            | Head::Secret(_)
+            | Head::SecretOnce(_)
+            | Head::Equivalence(_)
+            | Head::Bound(_, _)
+            | Head::Single(_)
+            | Head::Oracle(_) => 0,
+            _ => 1,
+        }
     }
 
     /// The head of a node of this kind. A kind of no head counts as a call.

@@ -1,4 +1,4 @@
-ghost use Rattle.std.specs.Prelude.{◌≡◌, ◌≢◌, ◌+◌, ◌<◌, ◌≤◌, ◌^◌, ◌↔◌, ◌++◌, ◌∷◌, [], ℕ, List, Some, None, length, take, slice_get, IfOk, OnErr, OnOk, IsErrOf, IsNone};
+ghost use Rattle.std.specs.Prelude.{◌≡◌, ◌≢◌, ◌+◌, ◌<◌, ◌≤◌, ◌^◌, ◌↔◌, ◌++◌, ◌∷◌, [], ℕ, List, Some, None, length, take, slice_get, IfOk, OnErr, OnOk, IsErrOf, IsNone, IfSome};
 ghost use Rattle.cv_syntax.specs.Texts.{NoRepeat};
 
 use indexmap::IndexSet;
@@ -69,6 +69,19 @@ impl Names {
         ensures { slice_get self.now id.0 ≡ Some result.now }
     {
         self.texts.get_index(id.0 as usize).unwrap().as_str()
+    }
+
+    /// The text of a number, where it is one of a name.
+    #[tactic(auto, using(crate::proofs::Places::places))]
+    pub fn get(&self, id: NameId) -> Option<&str>
+        ensures none { IsNone result ↔ (length self.now ≤ id.0) }
+        ensures some { IfSome result (λ text. slice_get self.now id.0 ≡ Some text.now) }
+    {
+        if id.0 < self.len() {
+            Some(self.text(id))
+        } else {
+            None
+        }
     }
 
     /// Adds a name.

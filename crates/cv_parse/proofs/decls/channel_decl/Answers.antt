@@ -1,4 +1,4 @@
-use Rattle.std.proofs.Common.{refl, map}
+use Rattle.std.proofs.Common.{map}
 use Rattle.cv_grammar.specs.Form.{word}
 use Rattle.cv_grammar.specs.declared.sign.Mark.TheVariants.{Channel, Comma}
 use Rattle.cv_syntax.specs.declared.decls.Class.TheVariants as class

@@ -1,6 +1,4 @@
-use Rattle.std.proofs.Common.{refl, sym}
-use Rattle.cv_parse.specs.Rules.{decl}
-use Rattle.cv_parse.proofs.Rows.{many_stops}
+use Rattle.std.proofs.Common.{sym}
 use Rattle.cv_parse.proofs.Declarations.{decls_begin, decls_go, decls_done, decls_nearer}
 use Rattle.cv_parse.proofs.decls.decls.Goals as goal
 

@@ -1,4 +1,4 @@
-use Rattle.std.proofs.Common.{◌-◌, ◌≤◌, length, drop}
+use Rattle.std.proofs.Common.{◌-◌, length, drop}
 use Rattle.cv_grammar.specs.Form.{◌▸◌}
 use Rattle.cv_grammar.specs.declared.sign.Mark.TheVariants.{Both}
 use Rattle.cv_parse.specs.Rules.{row, occurs}

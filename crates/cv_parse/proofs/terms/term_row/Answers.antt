@@ -1,4 +1,4 @@
-use Rattle.std.proofs.Common.{refl, sym, arith, length-drop}
+use Rattle.std.proofs.Common.{refl, sym}
 use Rattle.cv_grammar.specs.Form.{◌▸◌, deeper}
 use Rattle.cv_grammar.specs.declared.sign.Mark.TheVariants.{Comma}
 use Rattle.cv_parse.specs.Rules.{Term}

@@ -1,0 +1,75 @@
+-- The text of a report.
+use Rattle.std.specs.Prelude.{ℕ, ◌+◌, List, [], ◌∷◌, ◌++◌, flat_map, codes, Option, Some, None}
+use Rattle.std.specs.Fmt.{decimal}
+use Rattle.cv_syntax.specs.declared.work.File.{File}
+use Rattle.cv_syntax.specs.KindTree.{KindTree}
+use Rattle.cv_syntax.specs.Tree.{Tree, Empty, Node, tree_at}
+use Rattle.cv_direct.specs.declared.search.Route.{Route}
+use Rattle.cv_direct.specs.declared.search.Entry.{Entry}
+use Rattle.cv_print.specs.Games.{game_text}
+use Rattle.cv_print.specs.Terms.{term_text}
+use Rattle.cv.specs.declared.report.Report.{Report}
+use Rattle.cv.specs.declared.report.Status.{Status}
+use Rattle.cv.specs.declared.report.Status.TheVariants as status
+use Rattle.cv.specs.declared.report.Step.{Step}
+use Rattle.cv.specs.declared.report.Step.TheVariants.{Success}
+use Rattle.cv.specs.declared.report.Verdict.{Verdict}
+use Rattle.cv.specs.declared.report.Verdict.TheVariants.{Proved, NotProved}
+use Rattle.cv.specs.declared.report.Which.TheVariants.{File as FileLimit, Pool}
+
+-- the equation of a term with itself, with its reason
+abbrev pub target_text : List (List ℕ) → Tree → List ℕ
+target_text names m = codes "(" ++ term_text names m ++ codes " = " ++ term_text names m ++ codes ") by refl; "
+
+-- the same for each term of a list
+unfoldable pub targets_text : List (List ℕ) → Tree → List ℕ
+targets_text names Empty = []
+targets_text names (Node h m more) = target_text names m ++ targets_text names more
+
+-- an event node above, whose arguments are the same
+abbrev pub route_text : List (List ℕ) → List KindTree → Route → List ℕ
+route_text names trees r = codes " event above " ++ decimal r.place ++ codes " { " ++ targets_text names (tree_at trees r.arguments) ++ codes "}"
+
+-- a left event's node
+abbrev pub entry_text : List (List ℕ) → List KindTree → Entry → List ℕ
+entry_text names trees e = codes " at " ++ decimal e.place ++ codes " with ()" ++ flat_map (route_text names trees) e.routes.items
+
+-- a step, with its cost
+abbrev pub step_text : List (List ℕ) → List KindTree → ℕ → Step → List ℕ
+step_text names trees k (Success q entries) = codes "step " ++ decimal k ++ codes ": success " ++ decimal q ++ codes " events" ++ flat_map (entry_text names trees) entries.items ++ codes ";\ncost 0\n"
+
+unfoldable pub steps_text : List (List ℕ) → List KindTree → ℕ → List Step → List ℕ
+steps_text names trees k [] = []
+steps_text names trees k (s ∷ ss) = step_text names trees k s ++ steps_text names trees (k + 1) ss
+
+abbrev pub said_text : Verdict → List ℕ
+said_text (Proved s) = codes " proved up to 0\n"
+said_text NotProved = codes " open\n"
+
+abbrev pub verdict_text : ℕ → Verdict → List ℕ
+verdict_text k v = codes "query " ++ decimal k ++ said_text v
+
+unfoldable pub verdicts_text : ℕ → List Verdict → List ℕ
+verdicts_text k [] = []
+verdicts_text k (v ∷ vs) = verdict_text k v ++ verdicts_text (k + 1) vs
+
+abbrev pub end_text : Status → List ℕ
+end_text status.Proved = codes "end 0 proved\n"
+end_text (status.Open cause) = codes "end 1 open: stuck\n"
+end_text status.Words = codes "end 3 words\n"
+end_text status.Read = codes "end 4 read\n"
+end_text status.Write = codes "end 5 write\n"
+end_text status.Memory = codes "end 6 memory\n"
+end_text (status.Limit FileLimit) = codes "end 7 limit: file\n"
+end_text (status.Limit (Pool need)) = codes "end 7 limit: pool\n"
+end_text status.Unbuilt = codes "end 8 unbuilt\n"
+
+-- the game, the steps and the verdicts, where the file was accepted
+abbrev pub body_text : Report → Option File → List ℕ
+body_text r None = []
+body_text r (Some f) =
+    codes "game 1\n" ++ game_text r.work.names (tree_at r.work.pool.trees (Some f.game.root))
+    ++ steps_text r.work.names r.work.pool.trees 1 r.steps.items ++ verdicts_text 1 r.verdicts.items
+
+abbrev pub text_of : Report → List ℕ
+text_of r = body_text r r.file ++ end_text r.status

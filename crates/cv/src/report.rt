@@ -1,0 +1,101 @@
+ghost use Rattle.std.specs.Prelude.{◌≡◌};
+ghost use Rattle.cv.specs.Codes.{code_of};
+
+use crate::sum::Sum;
+use cv_direct::Entry;
+use cv_syntax::{File, Work};
+
+/// What the words ask for.
+#[derive(Clone, Copy, Debug, PartialEq, Eq)]
+pub enum Command {
+    /// A proof of the file's queries, in at most so many moves.
+    Prove { moves: u32 },
+    /// The words ask for nothing.
+    Nothing,
+}
+
+/// A step of a proof.
+#[derive(Drop)]
+pub enum Step {
+    /// A query, counted from 1, is closed by events above each left event.
+    Success { query: u32, entries: Vec<Entry> },
+}
+
+/// What is said of a query.
+#[derive(Clone, Copy, Debug, PartialEq, Eq)]
+pub enum Verdict {
+    /// The advantage against it is at most this sum.
+    Proved(Sum),
+    NotProved,
+}
+
+/// Why a query is left open.
+#[derive(Clone, Copy, Debug, PartialEq, Eq)]
+pub enum Cause {
+    /// The strategy has no step.
+    Stuck,
+}
+
+/// What passed its number.
+#[derive(Clone, Copy, Debug, PartialEq, Eq)]
+pub enum Which {
+    /// The bytes of the file.
+    File,
+    /// The nodes of the pool, which would have had so many more.
+    Pool { need: u32 },
+}
+
+/// How a run ended.
+#[derive(Clone, Copy, Debug, PartialEq, Eq)]
+pub enum Status {
+    Proved,
+    Open(Cause),
+    Words,
+    Read,
+    Write,
+    Memory,
+    Limit(Which),
+    /// The file isn't of a form that is built.
+    Unbuilt,
+}
+
+impl Status {
+    /// The exit code of the program.
+    pub fn code(&self) -> u8
+        ensures { result ≡ code_of self.now }
+    {
+        match self {
+            Status::Proved => 0,
+            Status::Open(_) => 1,
+            Status::Words => 3,
+            Status::Read => 4,
+            Status::Write => 5,
+            Status::Memory => 6,
+            Status::Limit(_) => 7,
+            Status::Unbuilt => 8,
+        }
+    }
+}
+
+/// What was done.
+#[derive(Drop)]
+pub struct Report {
+    /// The names, the declarations and the trees of the file.
+    pub work: Work,
+    /// The file, where it was accepted.
+    pub file: Option<File>,
+    pub command: Command,
+    /// The accepted steps, in order.
+    pub steps: Vec<Step>,
+    /// What is said of each query of an accepted file, in order.
+    pub verdicts: Vec<Verdict>,
+    /// How the run ended, leaving faults of writing aside.
+    pub status: Status,
+}
+
+/// What a run answers.
+#[derive(Drop)]
+pub struct Outcome {
+    pub status: Status,
+    pub report: Report,
+}

@@ -1,0 +1,4 @@
+pub mod Matching
+pub mod Queries
+pub mod Scoped
+pub mod Searching

@@ -1,0 +1,286 @@
+ghost use Rattle.std.specs.Prelude.{◌≡◌, ◌+◌, ◌<◌, ◌^◌, ◌++◌, [], true, All, IfOk, IfSome, OnOk, if◌then◌else◌, is_some, length, map, option_map, None, Some};
+ghost use Rattle.cv_syntax.specs.Nodes.{ChildBelow};
+ghost use Rattle.cv_syntax.specs.Tree.{size, tree_at};
+ghost use Rattle.cv_meaning.specs.Correspondences.{atom_of, atoms_of, correspondence_of, leaf_names};
+ghost use Rattle.cv_meaning.specs.Direct.{plainly_covered};
+ghost use Rattle.cv_direct.specs.Search.{entries_of, first_noted, head_entries, joined, route, routes_of, wanted_of};
+ghost use Rattle.cv_direct.specs.Found.{RoutesBelow, entry_trees, placed, RouteBelow, route_tree, SeenBelow, seen_by, wanted};
+
+use crate::instances::is_instance;
+use cv_syntax::{Head, NodeId, Opened, Pool};
+use std::alloc::{AllocError, Global};
+
+/// Why a right event holds: an event node above, and the list of its arguments.
+#[derive(Clone, Copy, Debug, PartialEq, Eq)]
+pub struct Route {
+    pub place: u32,
+    pub arguments: Option<NodeId>,
+}
+
+/// A left event's node, and one route for each right event, in order.
+#[derive(Drop)]
+pub struct Entry {
+    pub place: u32,
+    pub routes: Vec<Route>,
+}
+
+/// What is searched for: the left event, its variables and the right events.
+#[derive(Clone, Copy, Debug)]
+struct Sought {
+    event: u32,
+    variables: Option<NodeId>,
+    rights: Option<NodeId>,
+}
+
+/// An event node above, and the list of its arguments.
+#[derive(Clone, Copy, Debug)]
+struct Seen {
+    event: u32,
+    arguments: Option<NodeId>,
+    place: u32,
+}
+
+/// The event nodes above the present place, root first, and the entries so far.
+#[derive(Drop)]
+struct Search {
+    above: Vec<Seen>,
+    entries: Vec<Entry>,
+    place: u32,
+}
+
+/// The routes of all left events of a game, in preorder, or `None` where a right event does not stand above.
+#[tactic(auto, using(crate::proofs::Searching::search_laws))]
+pub fn direct(
+    alloc: Global,
+    pool: &Pool,
+    query: NodeId,
+    game: NodeId,
+) -> Result<Option<Vec<Entry>>, AllocError>
+    requires query { query.0 < length pool.now.trees }
+    requires game { game.0 < length pool.now.trees }
+    requires fits { size (tree_at pool.now.trees (Some game)) < 2 ^ 32 }
+    ensures closed { IfOk result (λ o. is_some o ≡ plainly_covered (correspondence_of (tree_at pool.now.trees (Some query))) [] (tree_at pool.now.trees (Some game))) }
+    ensures entries { IfOk result (λ o. option_map (λ es. entry_trees pool.now.trees es.items) o ≡ entries_of (wanted_of (correspondence_of (tree_at pool.now.trees (Some query)))) [] 0 (tree_at pool.now.trees (Some game))) }
+    ensures live { IfOk result (λ o. IfSome o (λ es. All (RoutesBelow (length pool.now.trees)) es.items)) }
+{
+    let wanted = sought_by(pool, query);
+    let mut search = Search {
+        above: Vec::new(alloc),
+        entries: Vec::new(alloc),
+        place: 0,
+    };
+    let closed = walk(alloc, pool, wanted, &mut search, Some(game))?;
+    let Search { entries, .. } = search;
+    if closed { Ok(Some(entries)) } else { Ok(None) }
+}
+
+/// What a query searches for.
+#[tactic(auto, using(crate::proofs::Searching::search_laws))]
+fn sought_by(pool: &Pool, query: NodeId) -> Sought
+    requires { query.0 < length pool.now.trees }
+    ensures wanted { wanted pool.now.trees result ≡ wanted_of (correspondence_of (tree_at pool.now.trees (Some query))) }
+    ensures variables { ChildBelow (length pool.now.trees) result.variables }
+    ensures rights { ChildBelow (length pool.now.trees) result.rights }
+{
+    let Some(list) = pool.opened(query).second else {
+        return Sought {
+            event: 0,
+            variables: None,
+            rights: None,
+        };
+    };
+    let events = pool.opened(list);
+    let Some(first) = events.first else {
+        return Sought {
+            event: 0,
+            variables: None,
+            rights: events.second,
+        };
+    };
+    let left = pool.opened(first);
+    let event = match left.head {
+        Head::Occurs(e) => e,
+        Head::OccursOnce(e) => e,
+        _ => 0,
+    };
+    Sought {
+        event,
+        variables: left.first,
+        rights: events.second,
+    }
+}
+
+/// Walks over a tree. It adds its entries, or answers `false` where a right event does not stand above.
+#[tactic(auto, using(crate::proofs::Searching::search_laws))]
+fn walk(
+    alloc: Global,
+    pool: &Pool,
+    sought: Sought,
+    search: &mut Search,
+    tree: Option<NodeId>,
+) -> Result<bool, AllocError>
+    requires tree { ChildBelow (length pool.now.trees) tree }
+    requires variables { ChildBelow (length pool.now.trees) sought.variables }
+    requires rights { ChildBelow (length pool.now.trees) sought.rights }
+    requires above { All (SeenBelow (length pool.now.trees)) search.old.above.items }
+    requires entries { All (RoutesBelow (length pool.now.trees)) search.old.entries.items }
+    requires fits { search.old.place + size (tree_at pool.now.trees tree) < 2 ^ 32 }
+    ensures place { IfOk result (λ closed. closed ≡ true → search.new.place ≡ search.old.place + size (tree_at pool.now.trees tree)) }
+    ensures above { IfOk result (λ closed. closed ≡ true → search.new.above.items ≡ search.old.above.items) }
+    ensures entries { IfOk result (λ closed. joined (Some (entry_trees pool.now.trees search.old.entries.items)) (entries_of (wanted pool.now.trees sought) (map (placed pool.now.trees) search.old.above.items) search.old.place (tree_at pool.now.trees tree)) ≡ (if closed then Some (entry_trees pool.now.trees search.new.entries.items) else None)) }
+    ensures live { OnOk result (All (RoutesBelow (length pool.now.trees)) search.new.entries.items) }
+{
+    let depth = search.above.len();
+    let mut at = tree;
+    'path: while let Some(n) = at {
+        let node = pool.opened(n);
+        let place = search.place;
+        if !enter(alloc, pool, sought, search, node)? {
+            return Ok(false);
+        }
+        search.place += node.head.weight();
+        if !walk(alloc, pool, sought, search, node.first)? {
+            return Ok(false);
+        }
+        note(search, place, node)?;
+        at = node.second;
+    }
+    search.above.truncate(depth);
+    Ok(true)
+}
+
+/// Adds the entry of a node, where it is the left event.
+#[tactic(auto, using(crate::proofs::Searching::search_laws))]
+fn enter(
+    alloc: Global,
+    pool: &Pool,
+    sought: Sought,
+    search: &mut Search,
+    node: Opened,
+) -> Result<bool, AllocError>
+    requires variables { ChildBelow (length pool.now.trees) sought.variables }
+    requires rights { ChildBelow (length pool.now.trees) sought.rights }
+    requires above { All (SeenBelow (length pool.now.trees)) search.old.above.items }
+    requires entries { All (RoutesBelow (length pool.now.trees)) search.old.entries.items }
+    requires first { ChildBelow (length pool.now.trees) node.first }
+    ensures place { search.new.place ≡ search.old.place }
+    ensures above { search.new.above ≡ search.old.above }
+    ensures entries { IfOk result (λ closed. joined (Some (entry_trees pool.now.trees search.old.entries.items)) (head_entries (wanted pool.now.trees sought) (map (placed pool.now.trees) search.old.above.items) search.old.place node.head (tree_at pool.now.trees node.first)) ≡ (if closed then Some (entry_trees pool.now.trees search.new.entries.items) else None)) }
+    ensures live { OnOk result (All (RoutesBelow (length pool.now.trees)) search.new.entries.items) }
+{
+    let Head::Event(event) = node.head else {
+        return Ok(true);
+    };
+    if event != sought.event {
+        return Ok(true);
+    }
+    let Some(routes) = routes(alloc, pool, sought, node.first, &search.above)? else {
+        return Ok(false);
+    };
+    search.entries.push(Entry {
+        place: search.place,
+        routes,
+    })?;
+    Ok(true)
+}
+
+/// Keeps a node, where it is an event.
+#[tactic(auto, using(crate::proofs::Searching::search_laws))]
+fn note(search: &mut Search, place: u32, node: Opened) -> Result<(), AllocError>
+    ensures place { search.new.place ≡ search.old.place }
+    ensures entries { search.new.entries ≡ search.old.entries }
+    ensures above { OnOk result (search.new.above.items ≡ search.old.above.items ++ seen_by place node.head node.first) }
+{
+    if let Head::Event(event) = node.head {
+        search.above.push(Seen {
+            event,
+            arguments: node.first,
+            place,
+        })?;
+    }
+    Ok(())
+}
+
+/// A route for each right event, by the left event's arguments, or `None` where one does not stand above.
+#[tactic(auto, using(crate::proofs::Searching::search_laws))]
+fn routes(
+    alloc: Global,
+    pool: &Pool,
+    sought: Sought,
+    arguments: Option<NodeId>,
+    above: &[Seen],
+) -> Result<Option<Vec<Route>>, AllocError>
+    requires variables { ChildBelow (length pool.now.trees) sought.variables }
+    requires rights { ChildBelow (length pool.now.trees) sought.rights }
+    requires arguments { ChildBelow (length pool.now.trees) arguments }
+    requires above { All (SeenBelow (length pool.now.trees)) above.now }
+    ensures routes { IfOk result (λ o. option_map (λ rs. map (route_tree pool.now.trees) rs.items) o ≡ routes_of (leaf_names (tree_at pool.now.trees sought.variables)) (map (placed pool.now.trees) above.now) (tree_at pool.now.trees arguments) (atoms_of (tree_at pool.now.trees sought.rights))) }
+    ensures live { IfOk result (λ o. IfSome o (λ rs. All (RouteBelow (length pool.now.trees)) rs.items)) }
+{
+    let mut found = Vec::new(alloc);
+    let mut at = sought.rights;
+    'rights: while let Some(n) = at {
+        let node = pool.opened(n);
+        let Some(route) = right_route(pool, sought.variables, arguments, node.first, above) else {
+            return Ok(None);
+        };
+        found.push(route)?;
+        at = node.second;
+    }
+    Ok(Some(found))
+}
+
+/// The route of a right event.
+#[tactic(auto, using(crate::proofs::Searching::search_laws))]
+fn right_route(
+    pool: &Pool,
+    variables: Option<NodeId>,
+    arguments: Option<NodeId>,
+    right: Option<NodeId>,
+    above: &[Seen],
+) -> Option<Route>
+    requires variables { ChildBelow (length pool.now.trees) variables }
+    requires arguments { ChildBelow (length pool.now.trees) arguments }
+    requires right { ChildBelow (length pool.now.trees) right }
+    requires above { All (SeenBelow (length pool.now.trees)) above.now }
+    ensures route { option_map (route_tree pool.now.trees) result ≡ route (leaf_names (tree_at pool.now.trees variables)) (map (placed pool.now.trees) above.now) (tree_at pool.now.trees arguments) (atom_of (tree_at pool.now.trees right)) }
+    ensures live { IfSome result (RouteBelow (length pool.now.trees)) }
+{
+    let Some(n) = right else {
+        return None;
+    };
+    let node = pool.opened(n);
+    match node.head {
+        Head::Occurs(event) => first(pool, variables, arguments, event, node.first, above),
+        Head::OccursOnce(event) => first(pool, variables, arguments, event, node.first, above),
+        _ => None,
+    }
+}
+
+/// The first event node above that is the event with these terms.
+#[tactic(auto, using(crate::proofs::Searching::search_laws))]
+fn first(
+    pool: &Pool,
+    variables: Option<NodeId>,
+    arguments: Option<NodeId>,
+    event: u32,
+    terms: Option<NodeId>,
+    above: &[Seen],
+) -> Option<Route>
+    requires variables { ChildBelow (length pool.now.trees) variables }
+    requires arguments { ChildBelow (length pool.now.trees) arguments }
+    requires terms { ChildBelow (length pool.now.trees) terms }
+    requires above { All (SeenBelow (length pool.now.trees)) above.now }
+    ensures route { option_map (route_tree pool.now.trees) result ≡ first_noted (leaf_names (tree_at pool.now.trees variables)) (map (placed pool.now.trees) above.now) (tree_at pool.now.trees arguments) event (tree_at pool.now.trees terms) }
+    ensures live { IfSome result (RouteBelow (length pool.now.trees)) }
+{
+    for seen in above {
+        if seen.event == event && is_instance(pool, variables, arguments, terms, seen.arguments) {
+            return Some(Route {
+                place: seen.place,
+                arguments: seen.arguments,
+            });
+        }
+    }
+    None
+}

@@ -1,0 +1,10 @@
+pub mod Acceptance
+pub mod Admissions
+pub mod Bridges
+pub mod Buildings
+pub mod Declarings
+pub mod Fillings
+pub mod Namings
+pub mod Signatures
+pub mod Spellings
+pub mod Typings

@@ -1,0 +1,12 @@
+-- Lists of declarations of names and of queries alone.
+use Rattle.std.specs.Prelude.{◌≡◌, ℕ, ◌<◌, true}
+use Rattle.cv_syntax.specs.declared.decls.Decl.{Decl}
+use Rattle.cv_syntax.specs.declared.decls.Decl.TheVariants as decl
+use Rattle.cv_syntax.specs.Nodes.{ChildBelow}
+use Rattle.cv_files.specs.Typing.{is_of_name}
+
+-- a declaration of a name or a query, whose tree is below a bound
+abbrev pub IsPlain : ℕ → Decl → Type 0
+IsPlain bound (decl.Name id class args result) = (is_of_name class ≡ true) × ChildBelow bound args
+IsPlain bound (decl.Query n) = n.0 < bound
+IsPlain bound _ = ⊥

@@ -1,0 +1,19 @@
+// Files of the form that is built.
+#![tactic(auto)]
+
+mod building;
+mod declaring;
+mod error;
+mod file;
+mod laws;
+mod naming;
+mod spelling;
+mod typing;
+
+pub use building::build;
+pub use declaring::declare_all;
+pub use error::FileError;
+pub use file::read;
+pub use laws::accepted_is_typed;
+pub use naming::{Known, is_named};
+pub use spelling::spelled;

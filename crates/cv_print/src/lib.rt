@@ -1,0 +1,14 @@
+// The text of games and terms.
+#![tactic(auto)]
+
+mod games;
+mod lines;
+mod steps;
+mod terms;
+#[cfg(test)]
+mod tests;
+mod words;
+
+pub use games::{game_text, push_game};
+pub use terms::{push_term, term_text};
+pub use words::push_decimal;

@@ -1,0 +1,11 @@
+// The signs of a file: its tokens as the grammar sees them, with numbers in place of names.
+#![tactic(auto)]
+
+mod marks;
+mod pass;
+
+pub use marks::{spelled, spelling, spelling_is_unique};
+pub use pass::{signs, signs_tell_tokens};
+
+#[cfg(test)]
+mod tests;

@@ -1,0 +1,18 @@
+use Rattle.std.proofs.Common.{◌≡◌, ◌+◌, ◌≤◌, drop, length}
+use Rattle.cv_syntax.specs.Layouts.{trees_of}
+use Rattle.cv_syntax.specs.Nodes.{ChildBelow}
+use Rattle.cv_syntax.specs.PoolView.{Grows}
+use Rattle.cv_syntax.specs.Tree.{chain, tree_at}
+use Rattle.cv_syntax.proofs.building.chain.Given as goal
+
+abbrev pub invariant-items : goal.invariant-items
+invariant-items l = record {
+  tree : tree_at l.pool.trees l.list ≡ chain (drop l.left (trees_of l.fn.pool.trees l.kids));
+  live : ChildBelow (length l.pool.trees) l.list;
+  grows : Grows l.fn.pool l.pool;
+  within : l.left ≤ length l.kids;
+  spare : l.fn.pool.spare + l.left ≤ l.pool.spare + length l.kids;
+}
+
+abbrev pub decreases-items : goal.decreases-items
+decreases-items l = l.left

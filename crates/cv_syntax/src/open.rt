@@ -1,0 +1,34 @@
+ghost use Rattle.std.specs.Prelude.{◌≡◌, ◌<◌, ◌↔◌, length, Some, IsNone};
+ghost use Rattle.cv_syntax.specs.Nodes.{ChildBelow};
+ghost use Rattle.cv_syntax.specs.Tree.{Tree, Empty, Node, tree_at};
+
+use crate::head::Head;
+use crate::node::NodeId;
+use crate::pool::Pool;
+
+/// A node: what it is, and its children.
+#[derive(Clone, Copy, Debug)]
+pub struct Opened {
+    pub head: Head,
+    pub first: Option<NodeId>,
+    pub second: Option<NodeId>,
+}
+
+impl Pool {
+    /// Reads a node as a node of a tree.
+    #[tactic(auto, using(crate::proofs::Openings::openings))]
+    pub fn opened(&self, n: NodeId) -> Opened
+        requires { n.0 < length self.now.trees }
+        ensures tree { tree_at self.now.trees (Some n) ≡ Node result.head (tree_at self.now.trees result.first) (tree_at self.now.trees result.second) }
+        ensures first { ChildBelow n.0 result.first }
+        ensures second { ChildBelow n.0 result.second }
+        ensures no_first { IsNone result.first ↔ (tree_at self.now.trees result.first ≡ Empty) }
+        ensures no_second { IsNone result.second ↔ (tree_at self.now.trees result.second ≡ Empty) }
+    {
+        Opened {
+            head: Head::of(self.kind(n)),
+            first: self.kid(n, false),
+            second: self.kid(n, true),
+        }
+    }
+}
