@@ -1,0 +1,13 @@
+pub mod Lists
+pub mod Breaking
+pub mod Matching
+pub mod Ordered
+pub mod Finding
+pub mod Choosing
+pub mod Tabled
+pub mod Sorted
+pub mod TypedRuns
+pub mod Counting
+pub mod TypedTapes
+pub mod Worked
+pub mod Reading

@@ -1,0 +1,9 @@
+pub mod FractionLaws
+pub mod Within
+pub mod Unions
+pub mod CellLists
+pub mod Unread
+pub mod Covers
+pub mod Renaming
+pub mod Hits
+pub mod Asking
