@@ -1,3 +1,4 @@
+pub mod Endings
 pub mod Takes
 pub mod Texts
 pub mod Verdicts

@@ -1,5 +1,5 @@
 -- What is said of a file, by what the strategy finds.
-use Rattle.std.proofs.Common.{◌≡◌, ℕ, zero, suc, ◌<◌, ◌≤◌, Bool, true, false, ◌&&◌, List, [], ◌∷◌, length, map, refl, ap, sym, ◌∙◌, subst, arith, Some, None, Result, Ok, Err}
+use Rattle.std.proofs.Common.{◌≡◌, ℕ, zero, suc, ◌<◌, ◌≤◌, Bool, true, false, ◌&&◌, List, [], ◌∷◌, length, map, refl, ap, sym, ◌∙◌, subst, arith, append-nil, Option, Some, None, Result, Ok, Err}
 use Rattle.std.specs.Prelude.{slice_get, All, IfOk}
 use Rattle.std.specs.List.{list_all}
 use Rattle.cv_syntax.specs.declared.decls.Decl.{Decl}
@@ -19,13 +19,16 @@ use Rattle.cv_files.specs.Accepted.{file_of}
 use Rattle.cv_files.specs.Plain.{IsPlain}
 use Rattle.cv_files.specs.Typing.{Signature, signature_of, process_fits, queries_fit, queries_in}
 use Rattle.cv_files.proofs.Signatures.{queries-same}
+use Rattle.cv_direct.specs.Search.{EntryTree, entries_of, wanted_of}
+use Rattle.cv_meaning.specs.Correspondences.{correspondence_of}
+use Rattle.cv.specs.declared.report.Step.{Step}
 use Rattle.cv_direct.proofs.Queries.{never_broken}
 use Rattle.cv.specs.declared.report.Status.{Status}
 use Rattle.cv.specs.declared.report.Verdict.{Verdict}
 use Rattle.cv.specs.declared.report.Verdict.TheVariants.{Proved}
 use Rattle.cv.specs.declared.sum.Sum.{Sum}
 use Rattle.cv.specs.Faults.{status_of}
-use Rattle.cv.specs.Strategy.{is_closed, verdict_by, status_by, expected, Judged, most_pool}
+use Rattle.cv.specs.Strategy.{is_closed, closing, said_by, steps_for, verdict_by, status_by, expected, Judged, most_pool}
 
 one_query : (s : Signature) (qs : List Tree) → queries_fit s qs ≡ true → length qs ≤ 1
 one_query s [] e = omega arith
@@ -108,5 +111,14 @@ and_true false = refl
 
 pub status_said : (s : Status) (b : Bool) (f : NodeId → Bool) (qs : List NodeId) (q : NodeId) → s ≡ status_by b → b ≡ f q → qs ≡ q ∷ [] → s ≡ status_by (list_all f qs)
 status_said s b f qs q e g h = e ∙ ap status_by (g ∙ (and_true (f q) ∙ sym (ap (list_all f) h)))
+
+-- the steps of no query, and of one
+pub steps_none : (trees : List KindTree) (game : Tree) (ts : List Tree) (ss : List Step) → ss ≡ [] → ts ≡ [] → map (said_by trees) ss ≡ steps_for game 1 ts
+unfolding steps_for
+steps_none trees game ts ss e t = ap (map (said_by trees)) e ∙ ap (steps_for game 1) (sym t)
+
+pub steps_said : (trees : List KindTree) (game q : Tree) (ts : List Tree) (ss : List Step) (es : Option (List EntryTree)) → map (said_by trees) ss ≡ closing 1 es → es ≡ entries_of (wanted_of (correspondence_of q)) [] 0 game → ts ≡ q ∷ [] → map (said_by trees) ss ≡ steps_for game 1 ts
+unfolding steps_for
+steps_said trees game q ts ss es h e t = h ∙ (ap (closing 1) e ∙ (sym (append-nil (closing 1 (entries_of (wanted_of (correspondence_of q)) [] 0 game))) ∙ ap (steps_for game 1) (sym t)))
 
 pub ruleset verdicts = (few_queries)

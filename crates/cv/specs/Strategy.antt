@@ -1,9 +1,10 @@
 -- What the plain strategy says of a file: a query is closed where each left event stands below its right
 -- events, with the same variables as arguments.
-use Rattle.std.specs.Prelude.{◌≡◌, ℕ, ◌<◌, Bool, true, false, List, [], Option, Some, None, slice_get, IfSome}
+use Rattle.std.specs.Prelude.{◌≡◌, ℕ, ◌+◌, ◌<◌, Bool, true, false, List, [], ◌∷◌, ◌++◌, map, Option, Some, None, slice_get, IfSome}
 use Rattle.std.specs.List.{list_all}
 use Rattle.cv_syntax.specs.declared.work.File.{File}
 use Rattle.cv_syntax.specs.Declarations.{Declaration, declarations}
+use Rattle.cv_syntax.specs.KindTree.{KindTree}
 use Rattle.cv_syntax.specs.Tree.{Tree, tree_at}
 use Rattle.cv_meaning.specs.Correspondences.{correspondence_of}
 use Rattle.cv_meaning.specs.Direct.{plainly_covered}
@@ -12,12 +13,16 @@ use Rattle.cv_meaning.specs.Satisfies.{Satisfies}
 use Rattle.cv_meaning.specs.Runs.{Adversary}
 use Rattle.cv_meaning.specs.Advantage.{advantage}
 use Rattle.cv_meaning.specs.Chances.{Chance, AtMost, zero_chance}
-use Rattle.cv_files.specs.Accepted.{Content, file_of}
+use Rattle.cv_direct.specs.Found.{entry_trees}
+use Rattle.cv_direct.specs.Search.{EntryTree, entries_of, wanted_of}
+use Rattle.cv_files.specs.Accepted.{Content, IsFile, file_of}
 use Rattle.cv_files.specs.Typing.{queries_in}
 use Rattle.cv.specs.declared.report.Cause.TheVariants.{Stuck}
 use Rattle.cv.specs.declared.report.Report.{Report}
 use Rattle.cv.specs.declared.report.Status.{Status}
 use Rattle.cv.specs.declared.report.Status.TheVariants as status
+use Rattle.cv.specs.declared.report.Step.{Step}
+use Rattle.cv.specs.declared.report.Step.TheVariants.{Success}
 use Rattle.cv.specs.declared.report.Verdict.{Verdict}
 use Rattle.cv.specs.declared.report.Verdict.TheVariants.{Proved, NotProved}
 use Rattle.cv.specs.declared.report.Which.TheVariants.{Pool}
@@ -38,6 +43,24 @@ verdict_by false = NotProved
 abbrev pub status_by : Bool → Status
 status_by true = status.Proved
 status_by false = status.Open Stuck
+
+abbrev pub option_list : {A : Type 0} → Option A → List A
+option_list None = []
+option_list (Some x) = x ∷ []
+
+-- the step that closes a query, with its certificate
+abbrev pub closing : ℕ → Option (List EntryTree) → List (ℕ × List EntryTree)
+closing k None = []
+closing k (Some es) = (k, es) ∷ []
+
+-- the steps for queries that are counted from a number
+unfoldable pub steps_for : Tree → ℕ → List Tree → List (ℕ × List EntryTree)
+steps_for game k [] = []
+steps_for game k (q ∷ qs) = closing k (entries_of (wanted_of (correspondence_of q)) [] 0 game) ++ steps_for game (k + 1) qs
+
+-- a step, with the trees of its certificate
+abbrev pub said_by : List KindTree → Step → ℕ × List EntryTree
+said_by trees (Success k entries) = (k, entry_trees trees entries.items)
 
 -- the status of a file, or of bytes that are none
 abbrev pub expected : Option Content → Status
@@ -66,6 +89,35 @@ declared_in r = declarations r.work.pool.trees r.work.decls.list
 
 abbrev pub game_in : Report → File → Tree
 game_in r f = tree_at r.work.pool.trees (Some f.game.root)
+
+-- The steps are those that close the queries which are closed, and there is a verdict on each query.
+pub record FollowsStrategy (r : Report) (f : File) : Type 0 where
+  pub steps : map (said_by r.work.pool.trees) r.steps.items ≡ steps_for (game_in r f) 1 (queries_in (declared_in r))
+  pub verdicts : r.verdicts.items ≡ map (λ q. verdict_by (is_closed (game_in r f) q)) (queries_in (declared_in r))
+
+-- without a file there are none
+pub record SaysNothing (r : Report) : Type 0 where
+  pub steps : r.steps.items ≡ []
+  pub verdicts : r.verdicts.items ≡ []
+
+-- the status says that there is a file
+abbrev pub HasFile : Status → Type 0
+HasFile status.Proved = Unit {0}
+HasFile (status.Open cause) = Unit {0}
+HasFile s = ⊥
+
+-- a file all of whose queries are closed by the events above
+pub record IsGood (bytes : List ℕ) : Type 0 where
+  pub content : Content
+  pub file : IsFile bytes content
+  pub closed : list_all (is_closed content.game) (queries_in content.declarations) ≡ true
+
+-- proved, unless the pool or memory ended the run
+abbrev pub EndsWell : Status → Type 0
+EndsWell status.Proved = Unit {0}
+EndsWell status.Memory = Unit {0}
+EndsWell (status.Limit (Pool need)) = most_pool < need
+EndsWell s = ⊥
 
 -- Where the verdict on a query is `Proved`, the advantage against it is at most the value of the sum, for
 -- every interpretation that satisfies the declarations and every adversary.

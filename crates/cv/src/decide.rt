@@ -1,4 +1,4 @@
-ghost use Rattle.std.specs.Prelude.{◌≡◌, ◌+◌, ◌<◌, ◌≤◌, ◌^◌, [], ◌∷◌, All, None, Some, is_some, map, length, IfOk, IfSome};
+ghost use Rattle.std.specs.Prelude.{◌≡◌, ◌+◌, ◌<◌, ◌≤◌, ◌^◌, ◌↔◌, [], ◌∷◌, All, None, Some, is_some, map, length, IfOk, IfSome, IsSome, MatchOption};
 ghost use Rattle.std.specs.List.{list_all};
 ghost use Rattle.cv_syntax.specs.Classes.{queries};
 ghost use Rattle.cv_syntax.specs.Tree.{tree_at, size};
@@ -6,7 +6,7 @@ ghost use Rattle.cv_files.specs.Accepted.{file_of};
 ghost use Rattle.cv_files.specs.Plain.{IsPlain};
 ghost use Rattle.cv_files.specs.Works.{content_at};
 ghost use Rattle.cv.specs.Faults.{status_of as ended_by};
-ghost use Rattle.cv.specs.Strategy.{most_pool, is_closed, verdict_by, status_by, Judged, IsSound};
+ghost use Rattle.cv.specs.Strategy.{most_pool, is_closed, option_list, verdict_by, status_by, said_by, steps_for, FollowsStrategy, HasFile, Judged, IsSound, SaysNothing};
 
 use crate::report::{Cause, Command, Report, Status, Step, Verdict, Which};
 use crate::sum::Sum;
@@ -28,7 +28,9 @@ struct Said {
 
 /// What is said of a query that is closed or stays open.
 fn verdict_on(alloc: Global, step: Option<Step>) -> Result<Said, AllocError>
-    ensures { IfOk result (λ s. (s.verdicts.items ≡ verdict_by (is_some step) ∷ []) × (s.status ≡ status_by (is_some step))) }
+    ensures steps { IfOk result (λ s. s.steps.items ≡ option_list step) }
+    ensures verdicts { IfOk result (λ s. s.verdicts.items ≡ verdict_by (is_some step) ∷ []) }
+    ensures status { IfOk result (λ s. s.status ≡ status_by (is_some step)) }
 {
     let mut steps = Vec::new(alloc);
     let mut verdicts = Vec::new(alloc);
@@ -59,6 +61,7 @@ fn answer(alloc: Global, work: &Work, game: NodeId) -> Result<Said, AllocError>
     requires fits { size (tree_at work.now.pool.trees (Some game)) < 2 ^ 32 }
     requires plain { All (IsPlain (length work.now.pool.trees)) work.now.decls.list }
     requires few { length (queries work.now.decls.list) ≤ 1 }
+    ensures steps { IfOk result (λ s. map (said_by work.now.pool.trees) s.steps.items ≡ steps_for (tree_at work.now.pool.trees (Some game)) 1 (map (λ n. tree_at work.now.pool.trees (Some n)) (queries work.now.decls.list))) }
     ensures verdicts { IfOk result (λ s. s.verdicts.items ≡ map (λ n. verdict_by (is_closed (tree_at work.now.pool.trees (Some game)) (tree_at work.now.pool.trees (Some n)))) (queries work.now.decls.list)) }
     ensures status { IfOk result (λ s. s.status ≡ status_by (list_all (λ n. is_closed (tree_at work.now.pool.trees (Some game)) (tree_at work.now.pool.trees (Some n))) (queries work.now.decls.list))) }
 {
@@ -79,6 +82,7 @@ fn answer(alloc: Global, work: &Work, game: NodeId) -> Result<Said, AllocError>
 pub fn refused(alloc: Global, work: Work, command: Command, status: Status) -> Report
     ensures status { result.status ≡ status }
     ensures file { result.file ≡ None }
+    ensures nothing { SaysNothing result }
 {
     Report {
         work,
@@ -111,6 +115,8 @@ pub fn judge(alloc: Global, work: Work, bytes: &[u8]) -> Report
     ensures sound { IsSound result }
     ensures file { IfSome result.file (λ f. file_of bytes.now ≡ Some (content_at result.work f.game.root)) }
     ensures live { IfSome result.file (λ f. f.game.root.0 < length result.work.pool.trees) }
+    ensures follows { MatchOption result.file (SaysNothing result) (FollowsStrategy result) }
+    ensures given { IsSome result.file ↔ HasFile result.status }
     ensures judged { Judged result.status bytes.now }
 {
     let command = Command::Prove { moves: MOVES };

@@ -1,83 +1,300 @@
+ghost use Rattle.std.specs.Prelude.{◌≤◌, length};
+
 use crate::report::Status;
 use crate::top::run;
-use cv_outside::{MemShelf, MemSink};
+use cv_outside::{MemShelf, MemSink, PutError, Sink, SureShelf, SureSink};
 use std::alloc::{AllocError, Global};
 use std::test::Fail;
 
-fn command(alloc: Global) -> Result<Vec<String>, AllocError> {
+/// Declarations and a query for small processes.
+const HEAD: &str =
+    "type T [fixed]. channel c, d. event e(T). event f(T). query x:T; event e(x) ==> event f(x). process ";
+
+/// A process that has its right event above the left one, and the report on it.
+const ABOVE: &str = "in(c, ()); new n:T; event f(n); event e(n); out(d, (n))";
+
+const ABOVE_REPORT: &str =
+    "game 1\nin(c, ());\nnew n: T;\nevent f(n);\nevent e(n);\nout(d, (n));\n0\nstep 1: success 1 events at 4 with () event above 2 { (n = n) by refl; };\ncost 0\nquery 1 proved up to 0\nend 0 proved\n";
+
+fn words(alloc: Global, given: &[&str]) -> Result<Vec<String>, AllocError> {
     let mut words = Vec::new(alloc);
-    words.push(String::from_str(alloc, "cv")?)?;
-    words.push(String::from_str(alloc, "prove")?)?;
-    words.push(String::from_str(alloc, "file")?)?;
+    for word in given {
+        words.push(String::from_str(alloc, word)?)?;
+    }
     Ok(words)
 }
 
-fn one_file(alloc: Global, text: &str) -> Result<MemShelf, AllocError> {
+fn joined(alloc: Global, front: &str, back: &str) -> Result<String, AllocError> {
+    let mut text = String::from_str(alloc, front)?;
+    text.push_str(back)?;
+    Ok(text)
+}
+
+/// A text that stands so many times between a front and a back.
+fn repeated(
+    alloc: Global,
+    front: &str,
+    middle: &str,
+    times: u32,
+    back: &str,
+) -> Result<String, AllocError> {
+    let mut text = String::from_str(alloc, front)?;
+    for _ in 0..times {
+        text.push_str(middle)?;
+    }
+    text.push_str(back)?;
+    Ok(text)
+}
+
+fn files(alloc: Global, text: &str) -> Result<Vec<(String, Vec<u8>)>, AllocError> {
     let name = String::from_str(alloc, "file")?;
     let bytes = Vec::from_slice(alloc, text.as_bytes())?;
     let mut files = Vec::new(alloc);
     files.push((name, bytes))?;
-    Ok(MemShelf::new(alloc, files, Vec::new(alloc)))
+    Ok(files)
 }
 
-fn reported(alloc: Global, text: &str) -> Result<(Status, MemSink), AllocError> {
-    let words = command(alloc)?;
-    let mut shelf = one_file(alloc, text)?;
-    let mut sink = MemSink::new(alloc, 100_000, Vec::new(alloc))?;
+/// Runs over a text into a sink.
+fn put_into<K: Sink>(alloc: Global, text: &str, sink: &mut K) -> Result<Status, AllocError> {
+    let words = words(alloc, &["cv", "prove", "file"])?;
+    let mut shelf = MemShelf::new(alloc, files(alloc, text)?, Vec::new(alloc));
+    let outcome = run(alloc, &words, &mut shelf, sink);
+    Ok(outcome.status)
+}
+
+/// The exit code of a run over a text.
+fn code_of(alloc: Global, text: &str) -> Result<u8, AllocError> {
+    let mut sink = MemSink::new(alloc, 1_000_000, Vec::new(alloc))?;
+    let status = put_into(alloc, text, &mut sink)?;
+    Ok(status.code())
+}
+
+/// A sink that takes one byte at each call.
+#[derive(Drop)]
+struct ByteSink {
+    inner: MemSink,
+}
+
+impl Sink for ByteSink {
+    ghost taken = { λ s. ⟦<MemSink as Sink>⟧.taken s.inner };
+
+    ghost faults = { λ s. ⟦<MemSink as Sink>⟧.faults s.inner };
+
+    fn put(&mut self, piece: &[u8]) -> Result<usize, PutError> {
+        if piece.len() > 1 {
+            return self.inner.put(&piece[..1]);
+        }
+        self.inner.put(piece)
+    }
+}
+
+#[test]
+fn reports(rt: HostRuntime) -> Result<(), Fail> {
+    let alloc = rt.alloc();
+    let branches =
+        "in(c, (a:T, b:T)); if a = b then event f(a); out(d, ()) else event e(a); out(d, ())";
+    for (process, wanted) in [
+        (ABOVE, ABOVE_REPORT),
+        (
+            "in(c, ()); new n:T; event e(n); event f(n); out(d, (n))",
+            "game 1\nin(c, ());\nnew n: T;\nevent e(n);\nevent f(n);\nout(d, (n));\n0\nquery 1 open\nend 1 open: stuck\n",
+        ),
+        (
+            branches,
+            "game 1\nin(c, (a: T, b: T));\nif (a = b) then\n  event f(a);\n  out(d, ());\n  0\nelse\n  event e(a);\n  out(d, ());\n  0\nquery 1 open\nend 1 open: stuck\n",
+        ),
+        (
+            "in(c, (a:T, b:T)); if a = b then event f(a); if b = a then event e(a); yield",
+            "game 1\nin(c, (a: T, b: T));\nif (a = b) then\n  event f(a);\n  if (b = a) then\n    event e(a);\n    yield\n  else\n    yield\nelse\n  yield\nstep 1: success 1 events at 11 with () event above 5 { (a = a) by refl; };\ncost 0\nquery 1 proved up to 0\nend 0 proved\n",
+        ),
+    ] {
+        let text = joined(alloc, HEAD, process)?;
+        let mut sink = MemSink::new(alloc, 100_000, Vec::new(alloc))?;
+        let _ = put_into(alloc, text.as_str(), &mut sink)?;
+        assert_eq!(rt; sink.taken(), wanted.as_bytes());
+    }
+    Ok(())
+}
+
+#[test]
+fn small_processes(rt: HostRuntime) -> Result<(), Fail> {
+    let alloc = rt.alloc();
+    for (process, wanted) in [
+        ("0", 0),
+        ("in(c, ()); yield", 0),
+        ("in(c, (a:T)); event f(a); event e(a); out(d, (a))", 0),
+        (
+            "in(c, (a:T, b:T)); event f(a); if a = b then event e(a); yield else event e(a); yield",
+            0,
+        ),
+        (
+            "in(c, (a:T, b:T)); if a = b then event f(a); event e(a); yield else yield",
+            0,
+        ),
+        (
+            "in(c, (a:T, b:T)); if a = b then event f(a); if b = a then yield else event e(a); yield",
+            0,
+        ),
+        ("in(c, (a:T)); if (a = a) then yield", 0),
+        (
+            "in(c, (a:T)); if (a) = ((a)) then out(d, a); 0 else out(d, a)",
+            0,
+        ),
+        (
+            "in(c, (a:T)); if a = a then new n:T; event f(n); event e(n); yield else new n:T; event f(n); event e(n); yield",
+            0,
+        ),
+        (
+            "in(c, ()); new n:T; new m:T; event f(n); event e(n); event e(m); out(d, (n))",
+            1,
+        ),
+        (
+            "in(c, (a:T, b:T)); event e(a); if a = b then event f(a); yield",
+            1,
+        ),
+        (
+            "in(c, (a:T, b:T)); event f(a); if a = b then event e(b); yield",
+            1,
+        ),
+        (
+            "in(c, (a:T)); if a = a then new n:T; event f(n); event e(n); yield else new n:T; event e(n); yield",
+            1,
+        ),
+        ("in(c, ()); new c:T; yield", 8),
+        ("in(c, ()); new n:T; new n:T; yield", 8),
+        (
+            "in(c, (a:T)); if a = a then new n:T; yield else event f(n); yield",
+            8,
+        ),
+        (
+            "in(c, (a:T)); if a = a then new n:T; yield else new n:bool; yield",
+            8,
+        ),
+        ("in(c, (a:T)); new n:T; if a = n then new n:T; yield", 8),
+        ("in(c, (a:T, b:bool)); if a = b then yield", 8),
+        ("in(c, (b:bool)); if b then yield", 8),
+        ("in(c, (a:T)); if a = a = a then yield", 8),
+        ("in(c, (a:T)); if a <> a then yield", 8),
+        ("in(c, (a:T)); if a = z then yield", 8),
+        ("in(c, (a:T)); yield else yield", 8),
+        ("in(c, (a:T)); (yield)", 8),
+    ] {
+        let text = joined(alloc, HEAD, process)?;
+        assert_eq!(rt; code_of(alloc, text.as_str())?, wanted, "of {process}");
+    }
+    Ok(())
+}
+
+#[test]
+fn lexis(rt: HostRuntime) -> Result<(), Fail> {
+    let alloc = rt.alloc();
+    for (text, wanted) in [
+        ("process 0", 0),
+        ("(* a (* nested *) comment *)process\t\r\n00", 0),
+        ("process 0 (* open", 8),
+        ("process 0 (* open (* twice *)", 8),
+        ("process 18446744073709551616", 8),
+        ("event e. query event e ==> event e. process 0", 0),
+        ("event e. query event e = => event e. process 0", 8),
+        ("event e. query event e =>> event e. process 0", 8),
+        ("process 0 #", 8),
+    ] {
+        assert_eq!(rt; code_of(alloc, text)?, wanted, "of {text}");
+    }
+    Ok(())
+}
+
+#[test]
+fn sizes(rt: HostRuntime) -> Result<(), Fail> {
+    let alloc = rt.alloc();
+    let comment = "(*____________*)";
+    let largest = repeated(alloc, "process 0       ", comment, 65_535, "")?;
+    assert_eq!(rt; largest.len(), 1_048_576);
+    assert_eq!(rt; code_of(alloc, largest.as_str())?, 0);
+    let longer = joined(alloc, largest.as_str(), " ")?;
+    assert_eq!(rt; code_of(alloc, longer.as_str())?, 7);
+
+    // The variables of the last condition stand three levels below the last test.
+    let front = "type T. channel c. process in(c, (a:T)); ";
+    for (tests, wanted) in [(187, 0), (197, 0), (198, 8)] {
+        let text = repeated(alloc, front, "if a = a then ", tests, "yield")?;
+        assert_eq!(rt; code_of(alloc, text.as_str())?, wanted, "of {tests} tests");
+    }
+    Ok(())
+}
+
+#[test]
+fn one_byte_at_a_time(rt: HostRuntime) -> Result<(), Fail> {
+    let alloc = rt.alloc();
+    let text = joined(alloc, HEAD, ABOVE)?;
+    let inner = MemSink::new(alloc, 1_000, Vec::new(alloc))?;
+    let mut sink = ByteSink { inner };
+    let status = put_into(alloc, text.as_str(), &mut sink)?;
+    assert_eq!(rt; status, Status::Proved);
+    assert_eq!(rt; sink.inner.taken(), ABOVE_REPORT.as_bytes());
+    Ok(())
+}
+
+#[test]
+fn each_line_fails(rt: HostRuntime) -> Result<(), Fail> {
+    let alloc = rt.alloc();
+    let text = joined(alloc, HEAD, ABOVE)?;
+    let lines = [
+        "game 1\n",
+        "in(c, ());\n",
+        "new n: T;\n",
+        "event f(n);\n",
+        "event e(n);\n",
+        "out(d, (n));\n",
+        "0\n",
+        "step 1: success 1 events at 4 with () event above 2 { (n = n) by refl; };\n",
+        "cost 0\n",
+        "query 1 proved up to 0\n",
+        "end 0 proved\n",
+    ];
+    let mut taken = String::new(alloc);
+    for k in 0..lines.len() {
+        let mut sink = MemSink::new(alloc, 1_000, vec![in alloc; k as u64 + 1]?)?;
+        let status = put_into(alloc, text.as_str(), &mut sink)?;
+        assert_eq!(rt; status, Status::Write);
+        assert_eq!(rt; sink.taken(), taken.as_bytes());
+        taken.push_str(lines[k])?;
+    }
+    assert_eq!(rt; taken.as_str(), ABOVE_REPORT);
+    Ok(())
+}
+
+#[test]
+fn faults(rt: HostRuntime) -> Result<(), Fail> {
+    let alloc = rt.alloc();
+    for (given, failing, wanted) in [
+        (["cv", "prove", "other"].as_slice(), 2, "end 4 read\n"),
+        (["cv", "prove", "file"].as_slice(), 1, "end 4 read\n"),
+        (["cv", "prove"].as_slice(), 2, "end 3 words\n"),
+        (
+            ["cv", "prove", "file", "more"].as_slice(),
+            2,
+            "end 3 words\n",
+        ),
+        (["cv", "prove", "-file"].as_slice(), 2, "end 3 words\n"),
+        (["cv", "games", "file"].as_slice(), 2, "end 3 words\n"),
+    ] {
+        let words = words(alloc, given)?;
+        let mut shelf = MemShelf::new(alloc, files(alloc, "process 0")?, vec![in alloc; failing]?);
+        let mut sink = MemSink::new(alloc, 100, Vec::new(alloc))?;
+        let _ = run(alloc, &words, &mut shelf, &mut sink);
+        assert_eq!(rt; sink.taken(), wanted.as_bytes());
+    }
+    Ok(())
+}
+
+#[test]
+fn ends_that_never_fail(rt: HostRuntime) -> Result<(), Fail> {
+    let alloc = rt.alloc();
+    let words = words(alloc, &["cv", "prove", "file"])?;
+    let mut shelf = SureShelf::new(alloc, files(alloc, "process 0")?);
+    let mut sink = SureSink::new(alloc, 100)?;
     let outcome = run(alloc, &words, &mut shelf, &mut sink);
-    Ok((outcome.status, sink))
-}
-
-#[test]
-fn no_process(rt: HostRuntime) -> Result<(), Fail> {
-    let (_, sink) = reported(rt.alloc(), "process 0")?;
-    assert_eq!(rt; sink.taken(), b"game 1\n0\nend 0 proved\n".as_slice());
-    Ok(())
-}
-
-#[test]
-fn right_event_above(rt: HostRuntime) -> Result<(), Fail> {
-    let text =
-        "type T [fixed]. channel c, d. event e(T). event f(T). query x:T; event e(x) ==> event f(x). process in(c, ()); new n:T; event f(n); event e(n); out(d, (n))";
-    let (_, sink) = reported(rt.alloc(), text)?;
-    let wanted =
-        b"game 1\nin(c, ());\nnew n: T;\nevent f(n);\nevent e(n);\nout(d, (n));\n0\nstep 1: success 1 events at 4 with () event above 2 { (n = n) by refl; };\ncost 0\nquery 1 proved up to 0\nend 0 proved\n";
-    assert_eq!(rt; sink.taken(), wanted.as_slice());
-    Ok(())
-}
-
-#[test]
-fn right_event_below(rt: HostRuntime) -> Result<(), Fail> {
-    let text =
-        "type T [fixed]. channel c, d. event e(T). event f(T). query x:T; event e(x) ==> event f(x). process in(c, ()); new n:T; event e(n); event f(n); out(d, (n))";
-    let (_, sink) = reported(rt.alloc(), text)?;
-    let wanted =
-        b"game 1\nin(c, ());\nnew n: T;\nevent e(n);\nevent f(n);\nout(d, (n));\n0\nquery 1 open\nend 1 open: stuck\n";
-    assert_eq!(rt; sink.taken(), wanted.as_slice());
-    Ok(())
-}
-
-#[test]
-fn one_of_two_left_events(rt: HostRuntime) -> Result<(), Fail> {
-    let text =
-        "type T [fixed]. channel c, d. event e(T). event f(T). query x:T; event e(x) ==> event f(x). process in(c, ()); new n:T; new m:T; event f(n); event e(n); event e(m); out(d, (n))";
-    let (status, _) = reported(rt.alloc(), text)?;
-    assert_eq!(rt; status.code(), 1);
-    Ok(())
-}
-
-#[test]
-fn variable_with_a_declared_name(rt: HostRuntime) -> Result<(), Fail> {
-    let text = "type T [fixed]. channel c. process in(c, ()); new c:T; yield";
-    let (status, _) = reported(rt.alloc(), text)?;
-    assert_eq!(rt; status.code(), 8);
-    Ok(())
-}
-
-#[test]
-fn variable_bound_twice(rt: HostRuntime) -> Result<(), Fail> {
-    let text = "type T [fixed]. channel c. process in(c, ()); new n:T; new n:T; yield";
-    let (status, _) = reported(rt.alloc(), text)?;
-    assert_eq!(rt; status.code(), 8);
+    assert_eq!(rt; outcome.status, Status::Proved);
     Ok(())
 }

@@ -1,14 +1,14 @@
 -- In a typed body no variable of an event above is assigned again.
-use Rattle.std.proofs.Common.{◌≡◌, ℕ, Bool, true, false, cond, ◌||◌, ◌&&◌, not, ◌==◌, List, [], ◌∷◌, ◌++◌, Option, Some, None, refl, sym, ap, ap₂, subst, ◌∙◌, eqb-true, is_none, is_some}
+use Rattle.std.proofs.Common.{◌≡◌, ℕ, Bool, true, false, cond, ◌||◌, ◌&&◌, not, ◌==◌, List, [], ◌∷◌, ◌++◌, Option, Some, None, refl, sym, ap, ap₂, subst, ◌∙◌, eqb-true, append-nil, is_none, is_some}
 use Rattle.std.specs.List.{list_any, list_all}
 use Rattle.std.proofs.lemmas.Bool.{both_ways, and_parts}
 use Rattle.cv_syntax.specs.declared.head.Head.{Head}
-use Rattle.cv_syntax.specs.declared.head.Head.TheVariants.{Stop, Yield, In, Out, Event, New, Leaf, Cons, Binder, Name}
+use Rattle.cv_syntax.specs.declared.head.Head.TheVariants.{Stop, Yield, In, Out, Event, New, If, Leaf, Eq, Cons, Binder, Name}
 use Rattle.cv_syntax.specs.Tree.{Tree, Empty, Node, second, reads_only, head_reads_only}
 use Rattle.cv_meaning.specs.Correspondences.{Correspondence, Atom, RightEvent, RightTerm}
 use Rattle.cv_meaning.specs.Direct.{Noted, is_noted, atom_noted, event_covered, plainly_covered, kept, is_other, covered}
 use Rattle.cv_files.specs.Updates.{updated}
-use Rattle.cv_files.specs.Typing.{Signature, Scope, has_type, is_fixed, arguments_fit, with_binders, body_fits, process_fits, no_variable}
+use Rattle.cv_files.specs.Typing.{Signature, Scope, has_type, is_fixed, arguments_fit, type_of, are_one_type, condition_fits, with_binders, body_fits, process_fits, no_variable}
 
 -- the variables in scope
 abbrev pub in_scope : Scope → ℕ → Bool
@@ -108,6 +108,22 @@ all_same p q h (c ∷ cs) = ap₂ ◌&&◌ (h c) (all_same p q h cs)
 event_rooted : (q : Correspondence) (above : List Noted) (e : ℕ) (a : Tree) → event_covered q (rooted above) e a ≡ event_covered q above e a
 event_rooted q above e a = ap (λ b. cond (e == q.event) b true) (all_same (atom_noted q.variables (rooted above) a) (atom_noted q.variables above a) (atom_rooted q.variables above a) q.atoms)
 
+-- no event stands in a variable, or in the equality of two
+variable_covered : (q : Correspondence) (scope : Scope) (above : List Noted) (t : Tree) (T : ℕ) → type_of scope t ≡ Some T → covered q above t ≡ true
+unfolding covered
+variable_covered q scope above (Node (Leaf x) Empty Empty) T e = refl
+variable_covered q scope above _ T e = absurd (cc)
+
+condition_covered : (q : Correspondence) (scope : Scope) (above : List Noted) (t : Tree) → condition_fits scope t ≡ true → covered q above t ≡ true
+unfolding covered
+condition_covered q scope above (Node Eq a b) f = go (type_of scope a) (type_of scope b) refl refl f
+  where
+    go : (o r : Option ℕ) → type_of scope a ≡ o → type_of scope b ≡ r → are_one_type o r ≡ true → (covered q above a && covered q above b) ≡ true
+    go (Some T) (Some S) e d g = ap₂ ◌&&◌ (variable_covered q scope above a T e) (variable_covered q scope above b S d)
+    go (Some T) None e d g = absurd (both_ways _ refl g)
+    go None r e d g = absurd (both_ways _ refl g)
+condition_covered q scope above _ f = absurd (both_ways _ refl f)
+
 -- a typed body whose left events have their right events above them is of the direct shape
 pub body_covered : (q : Correspondence) (s : Signature) (scope : Scope) (above : List Noted) (t : Tree) → body_fits s scope t ≡ true → AllScoped scope above → plainly_covered q (rooted above) t ≡ true → covered q above t ≡ true
 unfolding body_fits plainly_covered covered
@@ -117,17 +133,25 @@ body_covered q s scope above (Node (New x T) a b) f h p =
     let k = and_parts (is_fixed (s.class T)) _ r.1 in
     let c = and_parts (plainly_covered q (rooted above) a) _ p in
     ap (λ l. covered q l b) (kept_all scope x r.0 above h)
-    ∙ body_covered q s (updated scope x (Some T)) above b k.1 (scoped_on scope x T above h) (ap (λ l. plainly_covered q l b) (sym (nil_last (rooted above))) ∙ c.1)
-  where
-    nil_last : (es : List Noted) → es ++ [] ≡ es
-    nil_last [] = refl
-    nil_last (e ∷ es) = ap (λ l. e ∷ l) (nil_last es)
+    ∙ body_covered q s (updated scope x (Some T)) above b k.1 (scoped_on scope x T above h) (ap (λ l. plainly_covered q l b) (sym (append-nil (rooted above))) ∙ c.1)
 body_covered q s scope above (Node (Event e) terms b) f h p =
     let r = and_parts (arguments_fit scope (s.arguments e) terms) _ f in
     let c = and_parts (event_covered q (rooted above) e terms) _ p in
     let d = and_parts (plainly_covered q (rooted above) terms) _ c.1 in
     ap₂ ◌&&◌ (sym (event_rooted q above e terms) ∙ c.0) (body_covered q s scope ((e, terms) ∷ above) b r.1 (arguments_read scope (s.arguments e) terms r.0, h) d.1)
 body_covered q s scope above (Node (Out c) a (Node Stop Empty Empty)) f h p = refl
+body_covered q s scope above (Node If a (Node Cons met (Node Cons unmet Empty))) f h p =
+    let r = and_parts (condition_fits scope a) _ f in
+    let k = and_parts (body_fits s scope met) _ r.1 in
+    let c = branches (rooted above) met unmet (and_parts (plainly_covered q (rooted above) a) _ p).1 in
+    ap₂ ◌&&◌ (condition_covered q scope above a r.0) (ap₂ ◌&&◌ (body_covered q s scope above met k.0 h c.0) (ap (λ b. b && true) (body_covered q s scope above unmet k.1 h c.1)))
+  where
+    -- a list of two bodies
+    branches : (es : List Noted) (m u : Tree) → (plainly_covered q (es ++ []) m && (plainly_covered q ((es ++ []) ++ []) u && true)) ≡ true → (plainly_covered q es m ≡ true) × (plainly_covered q es u ≡ true)
+    branches es m u e =
+        let d = and_parts (plainly_covered q (es ++ []) m) _ e in
+        let g = and_parts (plainly_covered q ((es ++ []) ++ []) u) _ d.1 in
+        (ap (λ l. plainly_covered q l m) (sym (append-nil es)) ∙ d.0, ap (λ l. plainly_covered q l u) (sym (append-nil (es ++ []) ∙ append-nil es)) ∙ g.0)
 body_covered q s scope above _ f h p = absurd (both_ways _ refl f)
 
 pub process_covered : (q : Correspondence) (s : Signature) (t : Tree) → process_fits s t ≡ true → plainly_covered q [] t ≡ true → covered q [] t ≡ true

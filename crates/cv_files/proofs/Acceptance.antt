@@ -6,9 +6,10 @@ use Rattle.cv_grammar.specs.Reads.{Read}
 use Rattle.cv_parse.specs.declared.role.Role.{Role}
 use Rattle.cv_parse.specs.Files.{Parts, levels, read_whole}
 use Rattle.cv_signs.specs.Signs.{signs_of}
-use Rattle.cv_files.specs.Accepted.{Content, bool_type, content_of, content_from, file_of, is_admitted, is_small, is_typed}
+use Rattle.cv_files.specs.Accepted.{Content, bool_type, content_of, content_from, file_of, game_fits, is_admitted, is_small, is_typed}
 use Rattle.cv_files.specs.Naming.{are_named, nothing_known}
-use Rattle.cv_files.specs.Typing.{are_new, signature_of, process_fits, queries_fit, queries_in}
+use Rattle.cv_files.specs.Sites.{are_of_one_type, sites_of}
+use Rattle.cv_files.specs.Typing.{no_variable, are_new, signature_of, process_fits, queries_fit, queries_in}
 use Rattle.cv_files.specs.Works.{IsAccepted}
 
 and_left : (a b : Bool) → (a && b) ≡ true → a ≡ true
@@ -19,7 +20,7 @@ and_right : (a b : Bool) → (a && b) ≡ true → b ≡ true
 and_right true b e = e
 and_right false b e = absurd (cc)
 
-some_if : (b : Bool) (c f : Content) → (if b then Some c else None) ≡ Some f → (b ≡ true) × (c ≡ f)
+pub some_if : (b : Bool) (c f : Content) → (if b then Some c else None) ≡ Some f → (b ≡ true) × (c ≡ f)
 some_if true c f e = (refl, cc)
 some_if false c f e = absurd (cc)
 
@@ -29,10 +30,13 @@ by_reading names (Ok x) f e =
     let rest = and_right (are_named nothing_known x.uses) _ p.0 in
     let more = and_right (are_new (bool_type ∷ []) x.value.0) (is_small x.value.1 && is_typed (bool_type ∷ x.value.0) x.value.1) rest in
     let typed = and_right (is_small x.value.1) (is_typed (bool_type ∷ x.value.0) x.value.1) more in
+    let s = signature_of (bool_type ∷ x.value.0) in
+    let game = and_left (game_fits s x.value.1) (queries_fit s (queries_in (bool_type ∷ x.value.0))) typed in
     subst IsAccepted p.1 (record {
       small = and_left (is_small x.value.1) (is_typed (bool_type ∷ x.value.0) x.value.1) more;
-      process = and_left (process_fits (signature_of (bool_type ∷ x.value.0)) x.value.1) (queries_fit (signature_of (bool_type ∷ x.value.0)) (queries_in (bool_type ∷ x.value.0))) typed;
-      queries = and_right (process_fits (signature_of (bool_type ∷ x.value.0)) x.value.1) (queries_fit (signature_of (bool_type ∷ x.value.0)) (queries_in (bool_type ∷ x.value.0))) typed;
+      process = and_left (process_fits s x.value.1) (are_of_one_type no_variable (sites_of x.value.1)) game;
+      sites = and_right (process_fits s x.value.1) (are_of_one_type no_variable (sites_of x.value.1)) game;
+      queries = and_right (game_fits s x.value.1) (queries_fit s (queries_in (bool_type ∷ x.value.0))) typed;
     })
 by_reading names (Err x) f e = absurd (cc)
 

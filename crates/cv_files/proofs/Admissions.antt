@@ -19,7 +19,7 @@ use Rattle.cv_parse.specs.Gives.{uses_of, heard_of, tree_in, parts_of}
 use Rattle.cv_files.specs.Accepted.{bool_type, is_admitted, is_small, is_typed}
 use Rattle.cv_files.specs.Naming.{are_named, nothing_known}
 use Rattle.cv_files.specs.Plain.{IsPlain}
-use Rattle.cv_files.specs.Typing.{signature_of, is_of_name, are_new, process_fits, queries_fit, queries_in}
+use Rattle.cv_files.specs.Typing.{is_of_name, are_new}
 use Rattle.cv_files.specs.Stages.{PartsOf, bool_decl, decl_of, may_add, all_added, all_decls}
 use Rattle.cv_files.proofs.Bridges.{empty_at, all_same, all_read}
 use Rattle.cv_files.proofs.Buildings.{all_trees, flat_parts, few_nodes, few_heard}
@@ -113,8 +113,8 @@ decls_same r p trees hs roots list h e l =
     ap (declarations trees) l
     ∙ ap₂ (λ d ds. d ∷ ds) (bool_same trees) (ap (λ x. declarations trees (all_decls x roots)) (h ∙ p.heard) ∙ all_read trees p.value.0 roots (p.value.1 ∷ []) p.whole e)
 
-pub typed_same : (ds es : List Declaration) (t u : Tree) → ds ≡ es → t ≡ u → (process_fits (signature_of ds) t && queries_fit (signature_of ds) (queries_in ds)) ≡ is_typed es u
-typed_same ds es t u e f = ap₂ (λ x y. process_fits (signature_of x) y && queries_fit (signature_of x) (queries_in x)) e f
+pub typed_same : (ds es : List Declaration) (t u : Tree) → ds ≡ es → t ≡ u → is_typed ds t ≡ is_typed es u
+typed_same ds es t u e f = ap₂ is_typed e f
 
 no_first : (a b c d : Bool) → a ≡ false → (a && (b && (c && d))) ≡ false
 no_first false b c d e = refl

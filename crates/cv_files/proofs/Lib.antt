@@ -5,6 +5,9 @@ pub mod Buildings
 pub mod Declarings
 pub mod Fillings
 pub mod Namings
+pub mod Relations
+pub mod Removals
 pub mod Signatures
+pub mod Sited
 pub mod Spellings
 pub mod Typings

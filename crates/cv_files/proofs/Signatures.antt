@@ -13,9 +13,10 @@ use Rattle.cv_syntax.specs.KindTree.{KindTree}
 use Rattle.cv_syntax.specs.Nodes.{ChildBelow}
 use Rattle.cv_syntax.specs.Tree.{Tree, tree_at}
 use Rattle.cv_files.proofs.Typings.{empty-none}
+use Rattle.cv_files.specs.Accepted.{game_fits, is_typed}
 use Rattle.cv_files.specs.Cells.{signature_in}
 use Rattle.cv_files.specs.Plain.{IsPlain}
-use Rattle.cv_files.specs.Typing.{Signature, arguments_of, class_of, process_fits, queries_fit, queries_in, query_fits, signature_of}
+use Rattle.cv_files.specs.Typing.{Signature, arguments_of, class_of, queries_fit, queries_in, query_fits, signature_of}
 
 pick-class : (b : Bool) (d e : Option Decl) → class_by (cond b d e) ≡ cond b (class_by d) (class_by e)
 pick-class true d e = refl
@@ -84,24 +85,21 @@ fits-two s trees [] q e f = absurd (cc)
 fits-two s trees (n ∷ []) q e f = absurd (cc)
 fits-two s trees (n ∷ m ∷ ns) q e f = refl
 
--- an input is typed when its process and its query are
-abbrev pub both_fit : List KindTree → List Decl → NodeId → Bool
-both_fit trees ds root = process_fits (signature_of (declarations trees ds)) (tree_at trees (Some root)) && queries_fit (signature_of (declarations trees ds)) (queries_in (declarations trees ds))
+-- a file is typed when its game and its query are
+game-part : (trees : List KindTree) (ds : List Decl) (root : NodeId) (b : Bool) → All (IsPlain (length trees)) ds → b ≡ game_fits (signature_in trees ds) (tree_at trees (Some root)) → is_typed (declarations trees ds) (tree_at trees (Some root)) ≡ (b && queries_fit (signature_of (declarations trees ds)) (queries_in (declarations trees ds)))
+game-part trees ds root b p e = ap (λ c. c && queries_fit (signature_of (declarations trees ds)) (queries_in (declarations trees ds))) (sym (e ∙ ap (λ s. game_fits s (tree_at trees (Some root))) (signature-same trees (length trees) ds p)))
 
-process-part : (trees : List KindTree) (ds : List Decl) (root : NodeId) (b : Bool) → All (IsPlain (length trees)) ds → b ≡ process_fits (signature_in trees ds) (tree_at trees (Some root)) → both_fit trees ds root ≡ (b && queries_fit (signature_of (declarations trees ds)) (queries_in (declarations trees ds)))
-process-part trees ds root b p e = ap (λ c. c && queries_fit (signature_of (declarations trees ds)) (queries_in (declarations trees ds))) (sym (e ∙ ap (λ s. process_fits s (tree_at trees (Some root))) (signature-same trees (length trees) ds p)))
+pub game-refused : (trees : List KindTree) (ds : List Decl) (root : NodeId) (b : Bool) → All (IsPlain (length trees)) ds → b ≡ game_fits (signature_in trees ds) (tree_at trees (Some root)) → b ≡ false → false ≡ is_typed (declarations trees ds) (tree_at trees (Some root))
+game-refused trees ds root b p e f = sym (game-part trees ds root b p e ∙ ap (λ c. c && queries_fit (signature_of (declarations trees ds)) (queries_in (declarations trees ds))) f)
 
-pub process-refused : (trees : List KindTree) (ds : List Decl) (root : NodeId) (b : Bool) → All (IsPlain (length trees)) ds → b ≡ process_fits (signature_in trees ds) (tree_at trees (Some root)) → b ≡ false → false ≡ both_fit trees ds root
-process-refused trees ds root b p e f = sym (process-part trees ds root b p e ∙ ap (λ c. c && queries_fit (signature_of (declarations trees ds)) (queries_in (declarations trees ds))) f)
+game-goes : (trees : List KindTree) (ds : List Decl) (root : NodeId) (b : Bool) → All (IsPlain (length trees)) ds → b ≡ game_fits (signature_in trees ds) (tree_at trees (Some root)) → b ≡ true → is_typed (declarations trees ds) (tree_at trees (Some root)) ≡ queries_fit (signature_of (declarations trees ds)) (map (λ n. tree_at trees (Some n)) (queries ds))
+game-goes trees ds root b p e f = game-part trees ds root b p e ∙ (ap (λ c. c && queries_fit (signature_of (declarations trees ds)) (queries_in (declarations trees ds))) f ∙ ap (queries_fit (signature_of (declarations trees ds))) (queries-same trees ds))
 
-process-goes : (trees : List KindTree) (ds : List Decl) (root : NodeId) (b : Bool) → All (IsPlain (length trees)) ds → b ≡ process_fits (signature_in trees ds) (tree_at trees (Some root)) → b ≡ true → both_fit trees ds root ≡ queries_fit (signature_of (declarations trees ds)) (map (λ n. tree_at trees (Some n)) (queries ds))
-process-goes trees ds root b p e f = process-part trees ds root b p e ∙ (ap (λ c. c && queries_fit (signature_of (declarations trees ds)) (queries_in (declarations trees ds))) f ∙ ap (queries_fit (signature_of (declarations trees ds))) (queries-same trees ds))
+pub query-none : (trees : List KindTree) (ds : List Decl) (root : NodeId) (b : Bool) → All (IsPlain (length trees)) ds → b ≡ game_fits (signature_in trees ds) (tree_at trees (Some root)) → b ≡ true → None ≡ from_one (queries ds) 1 → true ≡ is_typed (declarations trees ds) (tree_at trees (Some root))
+query-none trees ds root b p e f n = sym (game-goes trees ds root b p e f ∙ fits-none (signature_of (declarations trees ds)) trees (queries ds) n)
 
-pub query-none : (trees : List KindTree) (ds : List Decl) (root : NodeId) (b : Bool) → All (IsPlain (length trees)) ds → b ≡ process_fits (signature_in trees ds) (tree_at trees (Some root)) → b ≡ true → None ≡ from_one (queries ds) 1 → true ≡ both_fit trees ds root
-query-none trees ds root b p e f n = sym (process-goes trees ds root b p e f ∙ fits-none (signature_of (declarations trees ds)) trees (queries ds) n)
+pub query-two : (trees : List KindTree) (ds : List Decl) (root : NodeId) (b : Bool) (q : NodeId) → All (IsPlain (length trees)) ds → b ≡ game_fits (signature_in trees ds) (tree_at trees (Some root)) → b ≡ true → Some q ≡ from_one (queries ds) 1 → is_some (from_one (queries ds) 2) ≡ true → false ≡ is_typed (declarations trees ds) (tree_at trees (Some root))
+query-two trees ds root b q p e f n m = sym (game-goes trees ds root b p e f ∙ fits-two (signature_of (declarations trees ds)) trees (queries ds) q n m)
 
-pub query-two : (trees : List KindTree) (ds : List Decl) (root : NodeId) (b : Bool) (q : NodeId) → All (IsPlain (length trees)) ds → b ≡ process_fits (signature_in trees ds) (tree_at trees (Some root)) → b ≡ true → Some q ≡ from_one (queries ds) 1 → is_some (from_one (queries ds) 2) ≡ true → false ≡ both_fit trees ds root
-query-two trees ds root b q p e f n m = sym (process-goes trees ds root b p e f ∙ fits-two (signature_of (declarations trees ds)) trees (queries ds) q n m)
-
-pub query-one : (trees : List KindTree) (ds : List Decl) (root : NodeId) (b : Bool) (q : NodeId) (r : Bool) → All (IsPlain (length trees)) ds → b ≡ process_fits (signature_in trees ds) (tree_at trees (Some root)) → b ≡ true → Some q ≡ from_one (queries ds) 1 → is_some (from_one (queries ds) 2) ≡ false → r ≡ query_fits (signature_in trees ds) (tree_at trees (Some q)) → r ≡ both_fit trees ds root
-query-one trees ds root b q r p e f n m h = (h ∙ ap (λ s. query_fits s (tree_at trees (Some q))) (signature-same trees (length trees) ds p)) ∙ sym (process-goes trees ds root b p e f ∙ fits-one (signature_of (declarations trees ds)) trees (queries ds) q n m)
+pub query-one : (trees : List KindTree) (ds : List Decl) (root : NodeId) (b : Bool) (q : NodeId) (r : Bool) → All (IsPlain (length trees)) ds → b ≡ game_fits (signature_in trees ds) (tree_at trees (Some root)) → b ≡ true → Some q ≡ from_one (queries ds) 1 → is_some (from_one (queries ds) 2) ≡ false → r ≡ query_fits (signature_in trees ds) (tree_at trees (Some q)) → r ≡ is_typed (declarations trees ds) (tree_at trees (Some root))
+query-one trees ds root b q r p e f n m h = (h ∙ ap (λ s. query_fits s (tree_at trees (Some q))) (signature-same trees (length trees) ds p)) ∙ sym (game-goes trees ds root b p e f ∙ fits-one (signature_of (declarations trees ds)) trees (queries ds) q n m)

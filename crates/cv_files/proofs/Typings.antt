@@ -1,17 +1,18 @@
 -- The check of types, cell by cell.
-use Rattle.std.proofs.Common.{◌≡◌, ℕ, ◌<◌, Bool, true, false, ◌&&◌, ◌||◌, not, cond, List, [], refl, ap, ap₂, sym, ◌∙◌, arith, nat_eq, Option, Some, None, is_none, is_some, IsNone, ◌↔◌, option_and_then}
+use Rattle.std.proofs.Common.{◌≡◌, ℕ, ◌+◌, ◌<◌, ◌≤◌, Bool, true, false, ◌&&◌, ◌||◌, not, cond, List, [], refl, ap, ap₂, sym, ◌∙◌, arith, nat_eq, Option, Some, None, is_none, is_some, IsNone, ◌↔◌, option_and_then}
 use Rattle.std.specs.Prelude.{◌==◌, if◌then◌else◌}
 use Rattle.std.proofs.Math.Path.{fun_ext}
 use Rattle.std.specs.HashMap.{get, Updates}
 use Rattle.cv_syntax.specs.declared.head.Head.{Head}
-use Rattle.cv_syntax.specs.declared.head.Head.TheVariants.{Stop, Yield, In, Out, Event, New, Leaf, Cons, Binder, Name, Query as QueryHead}
+use Rattle.cv_syntax.specs.declared.head.Head.TheVariants.{Stop, Yield, In, Out, Event, New, If, Leaf, Cons, Binder, Name, Query as QueryHead}
 use Rattle.cv_syntax.specs.declared.node.NodeId.{NodeId}
 use Rattle.cv_syntax.specs.KindTree.{KindTree}
 use Rattle.cv_syntax.specs.Nodes.{ChildBelow}
+use Rattle.cv_syntax.specs.Walks.{above}
 use Rattle.cv_syntax.specs.Tree.{Tree, Empty, Node, second, tree_of, tree_at}
 use Rattle.cv_syntax.proofs.Walking.{below-some, live-child}
-use Rattle.cv_files.specs.Cells.{Types, cell_variable, either, end_fits, is_empty, is_in, is_of_type, leaf_of, or_else, over, passes, right_fits, scope_of}
-use Rattle.cv_files.specs.Typing.{Scope, Signature, are_among, are_distinct, are_in_scope, arguments_fit, binders_fit, body_fits, each_passes, event_fits, is_fixed, no_variable, nothing_seen, process_fits, query_fits, query_scope, rights_fit, terms_of, with_binders}
+use Rattle.cv_files.specs.Cells.{Types, cell_variable, either, end_fits, rest_fits, bodies_fit, branches_fit, two_of, is_empty, is_in, is_of_type, leaf_of, or_else, over, passes, right_fits, scope_of}
+use Rattle.cv_files.specs.Typing.{Scope, Signature, are_among, are_distinct, are_in_scope, arguments_fit, binders_fit, body_fits, condition_fits, each_passes, event_fits, is_fixed, no_variable, nothing_seen, process_fits, query_fits, query_scope, rights_fit, terms_of, with_binders}
 use Rattle.cv_files.specs.Updates.{updated}
 
 -- one step of a conjunction
@@ -47,6 +48,10 @@ none-empty trees (Some n) h = full (tree_at trees (Some n)) h.1
 
 pub child-live : (m : ℕ) (at : Option NodeId) (k : NodeId) (child : Option NodeId) → at ≡ Some k → ChildBelow m at → ChildBelow k.0 child → ChildBelow m child
 child-live m at k child e l b = let n : k.0 < m = below-some m at k e l in live-child m k.0 child (omega arith) b
+
+pub child-above : (m : ℕ) (at : Option NodeId) (k : NodeId) (child : Option NodeId) → at ≡ Some k → above at ≤ m → ChildBelow k.0 child → above child ≤ m
+child-above m at k None e l b = omega arith
+child-above m at k (Some n) e l b = let f : above at ≡ k.0 + 1 = ap above e in omega arith
 
 pub none-result : {A : Type 0} (o : Option A) (b : Bool) → is_some o ≡ not b → b ≡ is_none o
 none-result None true e = refl
@@ -144,13 +149,23 @@ pub body-event : (s : Signature) (scope : Scope) (t : Tree) (h : Head) (a b : Tr
 unfolding body_fits
 body-event s scope t h a b e f g = ap (body_fits s scope) f ∙ ap (λ k. body_fits s scope (Node k a b)) g
 
-pub body-other : (s : Signature) (scope : Scope) (t : Tree) (h : Head) (a b : Tree) → t ≡ Node h a b → ((x T : ℕ) → h ≡ New x T → ⊥) → ((e : ℕ) → h ≡ Event e → ⊥) → body_fits s scope t ≡ end_fits scope h a b
+no-and : (b : Bool) → false ≡ (b && false)
+no-and true = refl
+no-and false = refl
+
+pub body-other : (s : Signature) (scope : Scope) (t : Tree) (h : Head) (a b : Tree) → t ≡ Node h a b → ((x T : ℕ) → h ≡ New x T → ⊥) → ((e : ℕ) → h ≡ Event e → ⊥) → body_fits s scope t ≡ rest_fits s scope h a b
 unfolding body_fits
 body-other s scope t h a b e n m = ap (body_fits s scope) e ∙ step s scope h a b n m
   where
-    step : (s : Signature) (scope : Scope) (h : Head) (a b : Tree) → ((x T : ℕ) → h ≡ New x T → ⊥) → ((e : ℕ) → h ≡ Event e → ⊥) → body_fits s scope (Node h a b) ≡ end_fits scope h a b
+    step : (s : Signature) (scope : Scope) (h : Head) (a b : Tree) → ((x T : ℕ) → h ≡ New x T → ⊥) → ((e : ℕ) → h ≡ Event e → ⊥) → body_fits s scope (Node h a b) ≡ rest_fits s scope h a b
     step s scope (New x T) a b n m = absurd (n x T refl)
     step s scope (Event e) a b n m = absurd (m e refl)
+    step s scope If a Empty n m = no-and (condition_fits scope a)
+    step s scope If a (Node Cons c Empty) n m = no-and (condition_fits scope a)
+    step s scope If a (Node Cons c (Node Cons d Empty)) n m = refl
+    step s scope If a (Node Cons c (Node Cons d (Node k p q))) n m = no-and (condition_fits scope a)
+    step s scope If a (Node Cons c (Node k p q)) n m = no-and (condition_fits scope a)
+    step s scope If a (Node k c d) n m = no-and (condition_fits scope a)
     step s scope Yield Empty Empty n m = refl
     step s scope Yield Empty (Node k c d) n m = refl
     step s scope Yield (Node k c d) b n m = refl
@@ -160,6 +175,53 @@ body-other s scope t h a b e n m = ap (body_fits s scope) e ∙ step s scope h a
     step s scope (Out c) a (Node Stop (Node k p q) z) n m = refl
     step s scope (Out c) a (Node k p q) n m = refl
     step s scope h a b n m = refl
+
+-- a node that is no test ends a body
+pub rest-other : (s : Signature) (scope : Scope) (h : Head) (a b : Tree) → (h ≡ If → ⊥) → end_fits scope h a b ≡ rest_fits s scope h a b
+rest-other s scope If a b n = absurd (n refl)
+rest-other s scope h a b n = refl
+
+pub rest-test : (s : Signature) (scope : Scope) (h : Head) (a b : Tree) → h ≡ If → rest_fits s scope h a b ≡ (condition_fits scope a && branches_fit s scope b)
+rest-test s scope h a b e = ap (λ k. rest_fits s scope k a b) e
+
+-- the second body, where the first one fits
+pub branches-second : (s : Signature) (scope : Scope) (t m u : Tree) → Some (m, u) ≡ two_of t → body_fits s scope m ≡ true → body_fits s scope u ≡ branches_fit s scope t
+branches-second s scope t m u e f = sym (ap (bodies_fit s scope) (sym e) ∙ ap (λ b. b && body_fits s scope u) f)
+
+-- a list of two trees
+pub two-other : (t : Tree) (h : Head) (a b : Tree) → t ≡ Node h a b → (h ≡ Cons → ⊥) → two_of t ≡ None
+two-other t h a b e n = ap two_of e ∙ step h a b n
+  where
+    step : (h : Head) (a b : Tree) → (h ≡ Cons → ⊥) → two_of (Node h a b) ≡ None
+    step Cons a b n = absurd (n refl)
+    step h a b n = refl
+
+pub two-one : (t : Tree) (h : Head) (a b : Tree) → t ≡ Node h a b → b ≡ Empty → two_of t ≡ None
+two-one t h a b e f = ap two_of (e ∙ ap (Node h a) f) ∙ step h a
+  where
+    step : (h : Head) (a : Tree) → two_of (Node h a Empty) ≡ None
+    step Cons a = refl
+    step h a = refl
+
+pub two-more : (t : Tree) (h : Head) (a b : Tree) (k : Head) (c d : Tree) → t ≡ Node h a b → b ≡ Node k c d → (d ≡ Empty → ⊥) → two_of t ≡ None
+two-more t h a b k c d e f n = ap two_of (e ∙ ap (Node h a) f) ∙ step h a k c d n
+  where
+    step : (h : Head) (a : Tree) (k : Head) (c d : Tree) → (d ≡ Empty → ⊥) → two_of (Node h a (Node k c d)) ≡ None
+    step Cons a Cons c Empty n = absurd (n refl)
+    step Cons a Cons c (Node i p q) n = refl
+    step Cons a k c d n = refl
+    step h a k c d n = refl
+
+pub two-second : (t : Tree) (h : Head) (a b : Tree) (k : Head) (c d : Tree) → t ≡ Node h a b → b ≡ Node k c d → (k ≡ Cons → ⊥) → two_of t ≡ None
+two-second t h a b k c d e f n = ap two_of (e ∙ ap (Node h a) f) ∙ step h a k c d n
+  where
+    step : (h : Head) (a : Tree) (k : Head) (c d : Tree) → (k ≡ Cons → ⊥) → two_of (Node h a (Node k c d)) ≡ None
+    step Cons a Cons c d n = absurd (n refl)
+    step Cons a k c d n = refl
+    step h a k c d n = refl
+
+pub two-both : (t : Tree) (h : Head) (a b : Tree) (k : Head) (c d : Tree) → t ≡ Node h a b → b ≡ Node k c d → h ≡ Cons → k ≡ Cons → d ≡ Empty → two_of t ≡ Some (a, c)
+two-both t h a b k c d e f g i j = ap two_of (e ∙ ap₂ (λ x y. Node x a y) g (f ∙ ap₂ (λ x y. Node x c y) i j))
 
 pub body-end : (s : Signature) (scope : Scope) (trees : List KindTree) (at : Option NodeId) → at ≡ None → body_fits s scope (tree_at trees at) ≡ false
 unfolding body_fits tree_of

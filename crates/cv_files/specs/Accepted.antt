@@ -11,7 +11,8 @@ use Rattle.cv_grammar.specs.Reads.{Read}
 use Rattle.cv_parse.specs.declared.role.Role.{Role}
 use Rattle.cv_parse.specs.Files.{IsFile as Spells, Parts, levels, read_whole}
 use Rattle.cv_files.specs.Naming.{are_named, nothing_known}
-use Rattle.cv_files.specs.Typing.{signature_of, process_fits, queries_in, queries_fit, are_new}
+use Rattle.cv_files.specs.Sites.{are_of_one_type, sites_of}
+use Rattle.cv_files.specs.Typing.{Signature, no_variable, signature_of, process_fits, queries_in, queries_fit, are_new}
 
 -- what a file holds: its names, what it declares, and its process
 pub record Content : Type 0 where
@@ -29,9 +30,13 @@ most_nodes = 50000
 abbrev pub most_depth : ℕ
 most_depth = 200
 
+-- the process is typed and in scope, and each variable has one type
+abbrev pub game_fits : Signature → Tree → Bool
+game_fits s game = process_fits s game && are_of_one_type no_variable (sites_of game)
+
 -- declarations and a process are typed and in scope, with at most one query
 abbrev pub is_typed : List Declaration → Tree → Bool
-is_typed ds game = process_fits (signature_of ds) game && queries_fit (signature_of ds) (queries_in ds)
+is_typed ds game = game_fits (signature_of ds) game && queries_fit (signature_of ds) (queries_in ds)
 
 -- the process is no larger than a game may be
 abbrev pub is_small : Tree → Bool

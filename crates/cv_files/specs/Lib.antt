@@ -3,6 +3,7 @@ pub mod Cells
 pub mod Faults
 pub mod Naming
 pub mod Plain
+pub mod Sites
 pub mod Stages
 pub mod Typing
 pub mod Updates

@@ -1,10 +1,11 @@
 -- Which declarations and processes of one input are typed and in scope.
-use Rattle.std.specs.Prelude.{ℕ, Bool, true, false, ◌==◌, ◌&&◌, not, is_none, is_some, if◌then◌else◌, List, [], ◌∷◌, ◌++◌, Option, Some, None}
+-- The types of all sites of a variable are in Sites.
+use Rattle.std.specs.Prelude.{ℕ, Bool, true, false, ◌==◌, ◌&&◌, not, is_none, is_some, if◌then◌else◌, List, [], ◌∷◌, ◌++◌, Option, Some, None, option_and_then}
 use Rattle.cv_syntax.specs.declared.decls.Class.{Class}
 use Rattle.cv_syntax.specs.declared.decls.Class.TheVariants.{TypeName, Free, Equiv as EquivName}
 use Rattle.cv_syntax.specs.Declarations.{Declaration, Named, Query}
 use Rattle.cv_syntax.specs.Tree.{Tree, Empty, Node, second}
-use Rattle.cv_syntax.specs.declared.head.Head.TheVariants.{Stop, Yield, In, Out, Event, New, Leaf, Cons, Binder, Name, Occurs, Query as QueryHead}
+use Rattle.cv_syntax.specs.declared.head.Head.TheVariants.{Stop, Yield, In, Out, Event, New, If, Leaf, Eq, Cons, Binder, Name, Occurs, Query as QueryHead}
 use Rattle.cv_files.specs.Updates.{updated}
 
 -- what declarations say of a name: its class, and the types of its arguments
@@ -63,6 +64,25 @@ unfoldable pub with_binders : Scope → Tree → Scope
 with_binders scope (Node (Binder x T) a more) = with_binders (updated scope x (Some T)) more
 with_binders scope _ = scope
 
+-- the variable that a term is
+abbrev pub variable_of : Tree → Option ℕ
+variable_of (Node (Leaf x) Empty Empty) = Some x
+variable_of _ = None
+
+-- the type of a term that is a variable in scope
+abbrev pub type_of : Scope → Tree → Option ℕ
+type_of scope t = option_and_then scope (variable_of t)
+
+-- both are there, and are one type
+abbrev pub are_one_type : Option ℕ → Option ℕ → Bool
+are_one_type None t = false
+are_one_type (Some T) t = has_type T t
+
+-- a condition is an equality of two variables in scope, of one type
+abbrev pub condition_fits : Scope → Tree → Bool
+condition_fits scope (Node Eq a b) = are_one_type (type_of scope a) (type_of scope b)
+condition_fits scope _ = false
+
 -- No variable is bound twice on a path, `new` is of a fixed type, events have arguments of their types, and
 -- what is read is in scope.
 unfoldable pub body_fits : Signature → Scope → Tree → Bool
@@ -70,6 +90,7 @@ body_fits s scope (Node Yield Empty Empty) = true
 body_fits s scope (Node (New x T) a b) = is_none (scope x) && (is_fixed (s.class T) && body_fits s (updated scope x (Some T)) b)
 body_fits s scope (Node (Event e) terms b) = arguments_fit scope (s.arguments e) terms && body_fits s scope b
 body_fits s scope (Node (Out c) a (Node Stop Empty Empty)) = are_in_scope scope (second a)
+body_fits s scope (Node If a (Node Cons met (Node Cons unmet Empty))) = condition_fits scope a && (body_fits s scope met && body_fits s scope unmet)
 body_fits s scope _ = false
 
 abbrev pub process_fits : Signature → Tree → Bool

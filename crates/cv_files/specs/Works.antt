@@ -5,14 +5,17 @@ use Rattle.cv_syntax.specs.declared.work.Work.{Work}
 use Rattle.cv_syntax.specs.Declarations.{declarations}
 use Rattle.cv_syntax.specs.Tree.{tree_at}
 use Rattle.cv_files.specs.Accepted.{Content, is_small}
-use Rattle.cv_files.specs.Typing.{signature_of, process_fits, queries_fit, queries_in}
+use Rattle.cv_files.specs.Sites.{are_of_one_type, sites_of}
+use Rattle.cv_files.specs.Typing.{no_variable, signature_of, process_fits, queries_fit, queries_in}
 
 -- the names and declarations of a work, with the game at a node
 abbrev pub content_at : Work → NodeId → Content
 content_at w root = record { names = w.names; declarations = declarations w.pool.trees w.decls.list; game = tree_at w.pool.trees (Some root) }
 
--- a file's game is no larger than a game may be, and it and the queries are typed and in scope
+-- a file's game is no larger than a game may be, and it and the queries are typed and in scope, with one
+-- type for each variable
 pub record IsAccepted (f : Content) : Type 0 where
   pub small : is_small f.game ≡ true
   pub process : process_fits (signature_of f.declarations) f.game ≡ true
+  pub sites : are_of_one_type no_variable (sites_of f.game) ≡ true
   pub queries : queries_fit (signature_of f.declarations) (queries_in f.declarations) ≡ true

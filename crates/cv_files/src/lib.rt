@@ -1,12 +1,15 @@
 // Files of the form that is built.
 #![tactic(auto)]
 
+mod bodies;
 mod building;
 mod declaring;
 mod error;
 mod file;
 mod laws;
 mod naming;
+mod scopes;
+mod sites;
 mod spelling;
 mod typing;
 
@@ -14,6 +17,6 @@ pub use building::build;
 pub use declaring::declare_all;
 pub use error::FileError;
 pub use file::read;
-pub use laws::accepted_is_typed;
+pub use laws::{accepted_is_typed, file_is_computed};
 pub use naming::{Known, is_named};
 pub use spelling::spelled;

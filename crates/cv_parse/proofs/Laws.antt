@@ -8,11 +8,12 @@ use Rattle.cv_grammar.proofs.Sound.{sound, bind_ok}
 use Rattle.cv_grammar.proofs.Complete.{complete}
 use Rattle.cv_grammar.proofs.Sorts.{read_is_spelled, spelled_is_read, shorter, begins}
 use Rattle.cv_parse.specs.declared.role.Role.{Role}
-use Rattle.cv_parse.specs.Rules.{Sort, Term, Arguments, Output, Ending, Pattern, Variables, Sending, Payload, rule, heads, tails, file}
+use Rattle.cv_parse.specs.Rules.{Sort, Term, Primary, Arguments, Output, Ending, Pattern, Variables, Sending, Payload, rule, heads, tails, file}
 use Rattle.cv_parse.specs.Files.{Parts, IsFile, read_file, ends_there, read_whole}
 
 pub all_fit : (s : Sort) → fitting heads tails rule s ≡ true
 all_fit Term = refl
+all_fit Primary = refl
 all_fit Arguments = refl
 all_fit Output = refl
 all_fit Ending = refl

@@ -1,5 +1,6 @@
 pub mod Chains
 pub mod Declarations
+pub mod Equalities
 pub mod Laws
 pub mod Levels
 pub mod Made

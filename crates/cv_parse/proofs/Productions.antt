@@ -1,6 +1,6 @@
 -- Each construct of a process, from its parts.
-use Rattle.std.proofs.Common.{◌≡◌, ℕ, zero, suc, ◌+◌, ◌<◌, ◌≤◌, Bool, false, List, [], ◌∷◌, ◌++◌, ◌||◌, length, drop, refl, ap, sym, subst, append-nil, ◌∙◌, Err, Ok}
-use Rattle.cv_syntax.specs.declared.head.Head.TheVariants.{Cons, Name, Out, In, New, Event, Occurs, Query as QueryHead}
+use Rattle.std.proofs.Common.{◌≡◌, ℕ, zero, suc, ◌+◌, ◌<◌, ◌≤◌, Bool, false, List, [], ◌∷◌, ◌++◌, ◌||◌, length, drop, refl, ap, sym, subst, append-nil, append_assoc, ◌∙◌, Err, Ok}
+use Rattle.cv_syntax.specs.declared.head.Head.TheVariants.{Cons, Name, Out, In, New, Event, If, Occurs, Query as QueryHead}
 use Rattle.cv_syntax.specs.declared.make.Make.{Make}
 use Rattle.cv_syntax.specs.declared.make.Make.TheVariants.{Nothing, Over}
 use Rattle.cv_syntax.specs.Tree.{Tree, Empty, Node, second, chain}
@@ -17,7 +17,7 @@ use Rattle.cv_parse.specs.declared.role.Asked.TheVariants.{AType, AnEvent}
 use Rattle.cv_parse.specs.declared.role.NameUse.{NameUse}
 use Rattle.cv_parse.specs.declared.reading.ReadError.{ReadError}
 use Rattle.cv_parse.specs.declared.reading.ReadError.TheVariants as error
-use Rattle.cv_parse.specs.Rules.{Phrase, Sending, Pattern, Output, Arguments, name_of, or_else, heads, typed, continuation, ending, receiving, yielding, outgoing, restriction, recording, output, input, decl, bracket, terms, occurs, query_vars, query, type_options, type_decl}
+use Rattle.cv_parse.specs.Rules.{Phrase, Term, Sending, Pattern, Output, Arguments, name_of, or_else, heads, typed, continuation, ending, receiving, yielding, outgoing, restriction, recording, otherwise, test, testing, output, input, decl, bracket, terms, occurs, query_vars, query, type_options, type_decl}
 use Rattle.std.specs.List.{list_any}
 use Rattle.cv_parse.specs.Options.{is_fixed, is_large}
 use Rattle.cv_parse.specs.declared.heard.TypeOption.{TypeOption}
@@ -97,6 +97,21 @@ recording_made n at k l m o g all u v w y a b c d x s t h sign name args semi re
   makes = both_made (Event x) s t a b c d p q r;
 }
 
+pub testing_made : (n at k l m o g : ℕ) (all : List Sign) (u v w y : List NameUse) (a b c d e f : List Make) (x s t : Tree) → 0 < n → Stands all mark.If at k → IsRead all u v (below n Term (drop k all)) x l → Stands all mark.Then l m → IsRead all v w (below n Output (drop m all)) s o → IsRead all w y (read_in n otherwise (drop o all)) t g → b ≡ a ++ postorder x → c ≡ b ++ postorder s → d ≡ c ++ postorder t → e ≡ d ++ (Nothing ∷ replicate 2 (Over Cons)) → f ≡ e ++ Over If ∷ [] → Made all u y a f (read_in n testing (drop at all)) g
+testing_made n at k l m o g all u v w y a b c d e f x s t h sign condition then body other p q r z i = record {
+  value = Node If x (chain (s ∷ (t ∷ [])));
+  read =
+      first_read (positive n) (read_in n (made test (mark.If ▸ (deeper Term & (mark.Then ▸ (deeper Output & otherwise)))))) (pick (next_is (starts heads testing) (drop at all)) no_level no_syntax) (drop at all) (room n h)
+      (made_read test
+      (made_read (λ p. p.1) (sign_both mark.If at k (read_in n (deeper Term & (mark.Then ▸ (deeper Output & otherwise)))) sign
+      (both_read (read_in n (mark.Then ▸ (deeper Output & otherwise))) condition
+      (made_read (λ p. p.1) (sign_both mark.Then l m (read_in n (deeper Output & otherwise)) then (both_read (read_in n otherwise) body other)))))));
+  makes = both_made If x (chain (s ∷ (t ∷ []))) a b e f p (row-made b d e (s ∷ (t ∷ [])) 2 two refl z) i;
+}
+  where
+    two : d ≡ b ++ (postorder s ++ (postorder t ++ []))
+    two = r ∙ (ap (λ l. l ++ postorder t) q ∙ (append_assoc b (postorder s) (postorder t) ∙ ap (λ l. b ++ (postorder s ++ l)) (sym (append-nil (postorder t)))))
+
 -- a word or symbol, and a phrase that fails behind it
 fails_sign : {A : Type 0} (n at k : ℕ) (all : List Sign) (m : Mark) (f : Phrase A) (e : ReadError) → Stands all m at k → Fails all e (read_in n f (drop k all)) → Fails all e (read_sign m (drop at all) >>= λ x. read_in n f x.rest >>= joined x)
 fails_sign n at k all m f e s d = subst (λ r. Fails all e (r >>= λ x. read_in n f x.rest >>= joined x)) (sym (s.2 ∙ ap (λ i. found tt [] (drop i all)) (sym s.0))) (fails_bind all e _ _ d)
@@ -107,13 +122,14 @@ begins_no : (b : Bool) (all : List Sign) (at n : ℕ) (p : List Sign → Read Ro
 begins_no b all at zero p l h d = not_here all at b l h
 begins_no b all at (suc n) p l h d = d
 
-pub output_missing : (all : List Sign) (at n : ℕ) → at ≤ length all → next_is (is_mark mark.Yield) (drop at all) ≡ false → next_is (is_mark mark.Out) (drop at all) ≡ false → next_is (is_mark mark.New) (drop at all) ≡ false → next_is (is_mark mark.EventWord) (drop at all) ≡ false → Fails all (error.Syntax at) (read_in n output (drop at all))
-output_missing all at n l y o w e =
-    fails_second all (error.Syntax at) (next_is (starts heads yielding) (drop at all)) (read_in n yielding) (read_in n (either outgoing (either restriction recording))) (drop at all) y
-    (fails_second all (error.Syntax at) (next_is (starts heads outgoing) (drop at all)) (read_in n outgoing) (read_in n (either restriction recording)) (drop at all) o
-    (fails_second all (error.Syntax at) (next_is (starts heads restriction) (drop at all)) (read_in n restriction) (read_in n recording) (drop at all) w
-    (begins_no (next_is (starts heads recording) (drop at all)) all at n (read_in n (made (λ p. Node (Event p.0) p.1.0 p.1.1) (mark.EventWord ▸ (word (Asks AnEvent) & (made (or_else Empty) (may false (deeper Arguments)) & (mark.Semicolon ▸ deeper Output)))))) l e
-    (fails_bind all (error.Syntax at) _ _ (fails_bind all (error.Syntax at) _ _ (fails_bind all (error.Syntax at) _ _ (sign_stops mark.EventWord at all l e)))))))
+pub output_missing : (all : List Sign) (at n : ℕ) → at ≤ length all → next_is (is_mark mark.Yield) (drop at all) ≡ false → next_is (is_mark mark.Out) (drop at all) ≡ false → next_is (is_mark mark.New) (drop at all) ≡ false → next_is (is_mark mark.EventWord) (drop at all) ≡ false → next_is (is_mark mark.If) (drop at all) ≡ false → Fails all (error.Syntax at) (read_in n output (drop at all))
+output_missing all at n l y o w e i =
+    fails_second all (error.Syntax at) (next_is (starts heads yielding) (drop at all)) (read_in n yielding) (read_in n (either outgoing (either restriction (either recording testing)))) (drop at all) y
+    (fails_second all (error.Syntax at) (next_is (starts heads outgoing) (drop at all)) (read_in n outgoing) (read_in n (either restriction (either recording testing))) (drop at all) o
+    (fails_second all (error.Syntax at) (next_is (starts heads restriction) (drop at all)) (read_in n restriction) (read_in n (either recording testing)) (drop at all) w
+    (fails_second all (error.Syntax at) (next_is (starts heads recording) (drop at all)) (read_in n recording) (read_in n testing) (drop at all) e
+    (begins_no (next_is (starts heads testing) (drop at all)) all at n (read_in n (made test (mark.If ▸ (deeper Term & (mark.Then ▸ (deeper Output & otherwise)))))) l i
+    (fails_bind all (error.Syntax at) _ _ (fails_bind all (error.Syntax at) _ _ (fails_bind all (error.Syntax at) _ _ (sign_stops mark.If at all l i))))))))
 
 pub input_missing : (all : List Sign) (at n : ℕ) → at ≤ length all → next_is is_zero (drop at all) ≡ false → next_is (is_mark mark.In) (drop at all) ≡ false → Fails all (error.Syntax at) (read_in n input (drop at all))
 input_missing all at n l z i =

@@ -1,9 +1,9 @@
 -- The grammar of files, in its notation, with the tree of each phrase.
 -- This much of the whole grammar has rows so far: declarations of types, channels and events, queries of
--- events, and a process that is `0` or one input.
-use Rattle.std.specs.Prelude.{ℕ, map, flat_map, Bool, false, List, [], ◌∷◌, Option, Some, None}
+-- events, and a process that is `0` or one input, whose body may branch.
+use Rattle.std.specs.Prelude.{ℕ, map, flat_map, Bool, true, false, List, [], ◌∷◌, Option, Some, None}
 use Rattle.cv_syntax.specs.Tree.{Tree, Empty, Node, second, lone, chain, names, binders}
-use Rattle.cv_syntax.specs.declared.head.Head.TheVariants.{Stop, Yield, In, Out, Event, New, Leaf, Cons, Name, Query as QueryHead, Occurs}
+use Rattle.cv_syntax.specs.declared.head.Head.TheVariants.{Stop, Yield, In, Out, Event, New, If, Leaf, Eq, Cons, Name, Query as QueryHead, Occurs}
 use Rattle.cv_syntax.specs.declared.decls.Class.TheVariants as class
 use Rattle.cv_syntax.specs.Declarations.{Declaration, Named, Query}
 use Rattle.cv_grammar.specs.declared.sign.Mark.{Mark}
@@ -21,7 +21,7 @@ use Rattle.cv_parse.specs.declared.role.Role.TheVariants.{Declares, Asks, Binds,
 
 -- the phrases that stand one level down
 pub data Sort : Type 0 where
-  Term Arguments Output Ending Pattern Variables Sending Payload : Sort
+  Term Primary Arguments Output Ending Pattern Variables Sending Payload : Sort
 
 abbrev pub Phrase : Type 0 → Type 1
 Phrase A = Form Role Sort A
@@ -51,13 +51,24 @@ typed = word Binds & (mark.Colon ▸ type_name)
 abbrev pub vars : Phrase Tree
 vars = made binders (row mark.Comma typed)
 
--- terms: a variable, also in parentheses
+-- terms: a variable, or an equality of two terms; parentheses leave no trace
 
 abbrev pub variable : Phrase Tree
 variable = level (made (λ x. lone (Leaf x)) (word Mentions))
 
+abbrev pub primary : Phrase Tree
+primary = either variable (bracket (deeper Term))
+
+-- what a term is equal to; the symbol opens the level of the equality
+abbrev pub right_side : Phrase Tree
+right_side = made (λ p. p.1) (level (sign mark.Equal) & deeper Primary)
+
+abbrev pub equated : Tree → Option Tree → Tree
+equated l None = l
+equated l (Some r) = Node Eq l r
+
 abbrev pub term : Phrase Tree
-term = either variable (bracket (deeper Term))
+term = made (λ p. equated p.0 p.1) (primary & may false right_side)
 
 abbrev pub terms : Phrase Tree
 terms = made chain (row mark.Comma (deeper Term))
@@ -122,8 +133,19 @@ restriction = level (made (λ p. Node (New p.0.0 p.0.1) Empty p.1) (mark.New ▸
 abbrev pub recording : Phrase Tree
 recording = level (made (λ p. Node (Event p.0) p.1.0 p.1.1) (mark.EventWord ▸ (word (Asks AnEvent) & (made (or_else Empty) (may false (deeper Arguments)) & (mark.Semicolon ▸ deeper Output)))))
 
+-- a missing `else` is `else yield`; it belongs to the nearest open test
+abbrev pub otherwise : Phrase Tree
+otherwise = made (or_else yields) (may true (mark.Else ▸ deeper Output))
+
+-- a test: its condition, and a list of the two bodies
+abbrev pub test : Tree × (Tree × Tree) → Tree
+test p = Node If p.0 (chain (p.1.0 ∷ (p.1.1 ∷ [])))
+
+abbrev pub testing : Phrase Tree
+testing = level (made test (mark.If ▸ (deeper Term & (mark.Then ▸ (deeper Output & otherwise)))))
+
 abbrev pub output : Phrase Tree
-output = either yielding (either outgoing (either restriction recording))
+output = either yielding (either outgoing (either restriction (either recording testing)))
 
 -- declarations
 
@@ -174,6 +196,7 @@ file = made (λ p. (flat_map (λ l. l) p.0, p.1)) (many false decl & (mark.Proce
 
 abbrev pub rule : Sort → Phrase Tree
 rule Term = term
+rule Primary = primary
 rule Arguments = bracket terms
 rule Output = output
 rule Ending = ending
@@ -188,5 +211,6 @@ heads s k = starts (λ _ _. false) (rule s) k
 
 -- the tokens behind a phrase of a sort that could belong to it
 abbrev pub tails : Sort → Kind → Bool
+tails Term k = is_mark mark.Equal k
 tails Output k = is_mark mark.Semicolon k
 tails _ k = false

@@ -5,14 +5,14 @@ ghost use Rattle.cv_grammar.specs.Reads.{read_nought};
 ghost use Rattle.cv_grammar.specs.declared.sign.Mark.TheVariants as mark;
 ghost use Rattle.cv_syntax.specs.Tree.{Empty, chain, binders};
 ghost use Rattle.cv_syntax.specs.Postorder.{postorder};
-ghost use Rattle.cv_parse.specs.Rules.{Term, Arguments, Output, Ending, Pattern, Sending, Payload, or_else, stops, typed as typed_form, bound as bound_form, message as message_form, pattern as pattern_form, sending as sending_form, payload as payload_form, terms as terms_form, ending as ending_form, input as input_form, output as output_form, yielding as yielding_form, continuation as continuation_form, receiving as receiving_form, outgoing as outgoing_form, restriction as restriction_form, recording as recording_form, bracket};
+ghost use Rattle.cv_parse.specs.Rules.{Term, Arguments, Output, Ending, Pattern, Sending, Payload, or_else, stops, typed as typed_form, bound as bound_form, message as message_form, pattern as pattern_form, sending as sending_form, payload as payload_form, terms as terms_form, ending as ending_form, input as input_form, output as output_form, yielding as yielding_form, continuation as continuation_form, receiving as receiving_form, outgoing as outgoing_form, restriction as restriction_form, recording as recording_form, otherwise as otherwise_form, testing as testing_form, bracket};
 ghost use Rattle.cv_parse.specs.Gives.{Gives, Makes, MakesOver, Fails, read_in, below};
 
 use crate::bindings::{inner_variables, one_binder};
 use crate::reading::{ReadError, descend, expect, is_at, is_zero_at, open, typed, word, zero};
 use crate::role::{Asked, Role};
-use crate::terms::{inner_arguments, inner_payload, one_term};
-use crate::trail::{Trail, leaf};
+use crate::terms::{inner_arguments, inner_payload, inner_term, one_term};
+use crate::trail::{Trail, close_chain, leaf};
 use cv_grammar::{Mark, Sign};
 use cv_syntax::{Head, Make};
 use std::alloc::Global;
@@ -279,6 +279,44 @@ fn recording(signs: &[Sign], at: usize, trail: &mut Trail, depth: u32) -> Result
     Ok(place)
 }
 
+/// The body of a test where its condition isn't met: `yield` where none is written.
+#[cycle(outputs)]
+#[tactic(auto, using(crate::proofs::Places::places, crate::proofs::Levels::levels))]
+fn otherwise(signs: &[Sign], at: usize, trail: &mut Trail, depth: u32) -> Result<usize, ReadError>
+    requires at { at ≤ length signs.now }
+    requires few { length signs.now < 2 ^ 32 }
+    ensures makes { Makes postorder signs.now trail.old trail.new result (read_in depth otherwise_form (drop at signs.now)) }
+{
+    if is_at(signs, at, Mark::Else) {
+        let place = expect(signs, at, Mark::Else)?;
+        return inner_output(signs, place, trail, depth);
+    }
+    leaf(&mut trail.makes, Head::Yield)?;
+    Ok(at)
+}
+
+/// A test, with its two bodies.
+#[cycle(outputs)]
+#[tactic(auto, using(crate::proofs::Places::places, crate::proofs::Levels::levels))]
+fn testing(signs: &[Sign], at: usize, trail: &mut Trail, depth: u32) -> Result<usize, ReadError>
+    requires at { at ≤ length signs.now }
+    requires few { length signs.now < 2 ^ 32 }
+    requires begins { next_is (is_mark mark.If) (drop at signs.now) ≡ true }
+    ensures makes { Makes postorder signs.now trail.old trail.new result (read_in depth testing_form (drop at signs.now)) }
+{
+    if depth == 0 {
+        return Err(ReadError::Nesting(at as u32));
+    }
+    let place = expect(signs, at, Mark::If)?;
+    let place = inner_term(signs, place, trail, depth)?;
+    let place = expect(signs, place, Mark::Then)?;
+    let place = inner_output(signs, place, trail, depth)?;
+    let place = otherwise(signs, place, trail, depth)?;
+    close_chain(&mut trail.makes, 2)?;
+    trail.makes.push(Make::Over(Head::If))?;
+    Ok(place)
+}
+
 /// What an input goes on with.
 #[cycle(outputs)]
 #[tactic(auto, using(crate::proofs::Places::places, crate::proofs::Levels::levels))]
@@ -299,6 +337,9 @@ fn output(signs: &[Sign], at: usize, trail: &mut Trail, depth: u32) -> Result<us
     if is_at(signs, at, Mark::EventWord) {
         return recording(signs, at, trail, depth);
     }
+    if is_at(signs, at, Mark::If) {
+        return testing(signs, at, trail, depth);
+    }
     Err(ReadError::Syntax(at as u32))
 }
 
@@ -313,6 +354,7 @@ fn too_deep(signs: &[Sign], at: usize) -> ReadError
         || is_at(signs, at, Mark::Out)
         || is_at(signs, at, Mark::New)
         || is_at(signs, at, Mark::EventWord)
+        || is_at(signs, at, Mark::If)
     {
         return ReadError::Nesting(at as u32);
     }

@@ -4,8 +4,8 @@ ghost use Rattle.cv_grammar.specs.Form.{◌▸◌, deeper, made, may};
 ghost use Rattle.cv_grammar.specs.declared.sign.Mark.TheVariants.{Comma};
 ghost use Rattle.cv_syntax.specs.Tree.{Empty, chain};
 ghost use Rattle.cv_syntax.specs.Postorder.{postorder};
-ghost use Rattle.cv_parse.specs.Rules.{Term, Arguments, Payload, row, or_else, bracket, payload as payload_form, term as term_form, variable as variable_form, terms as terms_form};
-ghost use Rattle.cv_parse.specs.Gives.{Makes, MakesRow, read_in, below};
+ghost use Rattle.cv_parse.specs.Rules.{Term, Primary, Arguments, Payload, row, or_else, bracket, payload as payload_form, primary as primary_form, right_side as right_side_form, term as term_form, variable as variable_form, terms as terms_form};
+ghost use Rattle.cv_parse.specs.Gives.{Fails, Makes, MakesRow, read_in, below};
 
 use crate::reading::{ReadError, descend, expect, is_at, is_word_at, open, word};
 use crate::role::Role;
@@ -29,13 +29,13 @@ fn variable(signs: &[Sign], at: usize, trail: &mut Trail, depth: u32) -> Result<
     Ok(place)
 }
 
-/// A term: a variable, also in parentheses.
+/// A variable, or a term in parentheses.
 #[cycle(terms)]
 #[tactic(auto, using(crate::proofs::Places::places, crate::proofs::Levels::levels))]
-pub fn term(signs: &[Sign], at: usize, trail: &mut Trail, depth: u32) -> Result<usize, ReadError>
+fn primary(signs: &[Sign], at: usize, trail: &mut Trail, depth: u32) -> Result<usize, ReadError>
     requires at { at ≤ length signs.now }
     requires few { length signs.now < 2 ^ 32 }
-    ensures makes { Makes postorder signs.now trail.old trail.new result (read_in depth term_form (drop at signs.now)) }
+    ensures makes { Makes postorder signs.now trail.old trail.new result (read_in depth primary_form (drop at signs.now)) }
 {
     if is_word_at(signs, at) {
         return variable(signs, at, trail, depth);
@@ -43,6 +43,68 @@ pub fn term(signs: &[Sign], at: usize, trail: &mut Trail, depth: u32) -> Result<
     let place = open(signs, at, depth, Mark::Open)?;
     let place = inner_term(signs, place, trail, depth)?;
     expect(signs, place, Mark::Close)
+}
+
+/// The fault of a term where no level is left.
+#[tactic(auto, using(crate::proofs::Places::places, crate::proofs::Levels::levels))]
+fn too_deep(signs: &[Sign], at: usize) -> ReadError
+    requires at { at ≤ length signs.now }
+    requires few { length signs.now < 2 ^ 32 }
+    ensures term { Fails signs.now result (below 0 Term (drop at signs.now)) }
+    ensures primary { Fails signs.now result (below 0 Primary (drop at signs.now)) }
+{
+    if is_word_at(signs, at) || is_at(signs, at, Mark::Open) {
+        return ReadError::Nesting(at as u32);
+    }
+    ReadError::Syntax(at as u32)
+}
+
+/// A variable, or a term in parentheses, one level down.
+#[cycle(terms)]
+#[tactic(auto, using(crate::proofs::Places::places, crate::proofs::Levels::levels))]
+fn inner_primary(
+    signs: &[Sign],
+    at: usize,
+    trail: &mut Trail,
+    depth: u32,
+) -> Result<usize, ReadError>
+    requires at { at ≤ length signs.now }
+    requires few { length signs.now < 2 ^ 32 }
+    ensures makes { Makes postorder signs.now trail.old trail.new result (below depth Primary (drop at signs.now)) }
+{
+    if depth > 0 {
+        return primary(signs, at, trail, depth - 1);
+    }
+    Err(too_deep(signs, at))
+}
+
+/// What a term is equal to.
+#[cycle(terms)]
+#[tactic(auto, using(crate::proofs::Places::places, crate::proofs::Levels::levels))]
+fn right_side(signs: &[Sign], at: usize, trail: &mut Trail, depth: u32) -> Result<usize, ReadError>
+    requires at { at ≤ length signs.now }
+    requires few { length signs.now < 2 ^ 32 }
+    ensures makes { Makes postorder signs.now trail.old trail.new result (read_in depth right_side_form (drop at signs.now)) }
+{
+    let place = open(signs, at, depth, Mark::Equal)?;
+    inner_primary(signs, place, trail, depth)
+}
+
+/// A term: a variable, or an equality.
+#[cycle(terms)]
+#[tactic(auto, using(crate::proofs::Places::places, crate::proofs::Levels::levels))]
+pub fn term(signs: &[Sign], at: usize, trail: &mut Trail, depth: u32) -> Result<usize, ReadError>
+    requires at { at ≤ length signs.now }
+    requires few { length signs.now < 2 ^ 32 }
+    ensures makes { Makes postorder signs.now trail.old trail.new result (read_in depth term_form (drop at signs.now)) }
+{
+    let place = primary(signs, at, trail, depth)?;
+    if is_at(signs, place, Mark::Equal) {
+        let place = right_side(signs, place, trail, depth)?;
+        trail.makes.push(Make::Over(Head::Eq))?;
+        return Ok(place);
+    }
+    Ok(place)
 }
 
 /// A term one level down.
@@ -61,10 +123,7 @@ pub fn inner_term(
     if depth > 0 {
         return term(signs, at, trail, depth - 1);
     }
-    if is_word_at(signs, at) || is_at(signs, at, Mark::Open) {
-        return Err(ReadError::Nesting(at as u32));
-    }
-    Err(ReadError::Syntax(at as u32))
+    Err(too_deep(signs, at))
 }
 
 /// One more term behind a comma.

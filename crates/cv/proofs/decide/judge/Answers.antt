@@ -1,7 +1,8 @@
-use Rattle.std.proofs.Common.{ap, Some}
+use Rattle.std.proofs.Common.{ap, sym, ◌∙◌, Some}
 use Rattle.cv_syntax.specs.Declarations.{declarations}
 use Rattle.cv_syntax.specs.Tree.{tree_at}
-use Rattle.cv.specs.Strategy.{expected}
+use Rattle.cv.specs.Strategy.{expected, steps_for}
+use Rattle.cv_files.proofs.Signatures.{queries-same}
 use Rattle.cv_files.proofs.Acceptance.{accepted}
 use Rattle.cv.proofs.Verdicts.{few_queries, sound_at, verdicts_are, status_is, judged_by}
 use Rattle.cv.proofs.decide.judge.Goals as goal
@@ -19,3 +20,12 @@ returns-in-Ok-answer-clause-sound c = λ k query s e h i _ a.
 
 pub returns-in-Ok-answer-clause-judged : goal.returns-in-Ok-answer-clause-judged
 returns-in-Ok-answer-clause-judged c = judged_by _ _ c.args.bytes.now (status_is c.read.new.work.pool.trees c.read.new.work.decls.list _ _ c.in-Ok-answer.ensures.status) (ap expected c.in-Ok.ensures.ok)
+
+pub returns-in-Ok-answer-clause-follows : goal.returns-in-Ok-answer-clause-follows
+returns-in-Ok-answer-clause-follows c =
+    let trees = c.read.new.work.pool.trees in
+    let list = c.read.new.work.decls.list in
+    record {
+      steps = c.in-Ok-answer.ensures.steps ∙ ap (steps_for (tree_at trees (Some c.in-Ok.file.game.root)) 1) (sym (queries-same trees list));
+      verdicts = verdicts_are trees list _ _ c.in-Ok-answer.ensures.verdicts;
+    }

@@ -11,4 +11,10 @@ abbrev pub decreases-recording : goal.decreases-recording
 decreases-recording l = 4 * l.depth + 1
 
 abbrev pub decreases-output : goal.decreases-output
-decreases-output l = 4 * l.depth + 2
+decreases-output l = 4 * l.depth + 3
+
+abbrev pub decreases-otherwise : goal.decreases-otherwise
+decreases-otherwise l = 4 * l.depth + 1
+
+abbrev pub decreases-testing : goal.decreases-testing
+decreases-testing l = 4 * l.depth + 2

@@ -1,0 +1,41 @@
+-- How a run over a good file ends.
+use Rattle.std.proofs.Common.{◌≡◌, ℕ, List, Option, Some, None, ap, sym, ◌∙◌, subst, ◌⊎◌, inl, inr}
+use Rattle.std.specs.Prelude.{IfSome, ◌≢◌}
+use Rattle.cv_files.specs.Accepted.{file_of}
+use Rattle.cv_files.proofs.Relations.{file_is_read}
+use Rattle.cv.specs.declared.report.Status.{Status}
+use Rattle.cv.specs.declared.report.Status.TheVariants as status
+use Rattle.cv.specs.declared.report.Which.TheVariants.{File, Pool}
+use Rattle.cv.specs.Strategy.{status_by, expected, Judged, IsGood, EndsWell}
+
+pub some_moved : {A : Type 0} (P Q : A → Type 0) (o : Option A) → ((x : A) → P x → Q x) → IfSome o P → IfSome o Q
+some_moved P Q None m h = tt
+some_moved P Q (Some x) m h = m x h
+
+-- what is expected of a good file
+good_proved : (bytes : List ℕ) → IsGood bytes → expected (file_of bytes) ≡ status.Proved
+good_proved bytes g = ap expected (file_is_read bytes g.content g.file) ∙ ap status_by g.closed
+
+judged_well : (s : Status) (bytes : List ℕ) → Judged s bytes → expected (file_of bytes) ≡ status.Proved → EndsWell s
+judged_well status.Proved bytes j e = tt
+judged_well status.Memory bytes j e = tt
+judged_well (status.Limit (Pool need)) bytes j e = j
+judged_well (status.Limit File) bytes j e = absurd (let h = j ∙ e in cc)
+judged_well (status.Open cause) bytes j e = absurd (let h = j ∙ e in cc)
+judged_well status.Words bytes j e = absurd (let h = j ∙ e in cc)
+judged_well status.Read bytes j e = absurd (let h = j ∙ e in cc)
+judged_well status.Write bytes j e = absurd (let h = j ∙ e in cc)
+judged_well status.Unbuilt bytes j e = absurd (let h = j ∙ e in cc)
+
+pub ends_well : (s r : Status) (bytes : List ℕ) → Judged r bytes → IsGood bytes → (s ≡ r) ⊎ (s ≡ status.Write) ⊎ (s ≡ status.Memory) → s ≢ status.Write → EndsWell s
+ends_well s r bytes j g (inl e) n = subst EndsWell (sym e) (judged_well r bytes j (good_proved bytes g))
+ends_well s r bytes j g (inr (inl e)) n = absurd (n e)
+ends_well s r bytes j g (inr (inr e)) n = subst EndsWell (sym e) tt
+
+-- a fault of writing is one of the sink
+pub not_written : (s r : Status) (Faulted : Type 0) → (s ≡ status.Write → (r ≡ status.Write) ⊎ Faulted) → r ≢ status.Write → (Faulted → ⊥) → s ≢ status.Write
+not_written s r Faulted h n f e = go (h e)
+  where
+    go : (r ≡ status.Write) ⊎ Faulted → ⊥
+    go (inl w) = n w
+    go (inr w) = f w
