@@ -1,0 +1,13 @@
+pub mod Lists
+pub mod Together
+pub mod Placed
+pub mod Copies
+pub mod Spots
+pub mod Addresses
+pub mod Tested
+pub mod Listed
+pub mod Simulation
+pub mod Places
+pub mod Replacement
+pub mod Outputs
+pub mod Once
