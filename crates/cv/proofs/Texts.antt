@@ -1,10 +1,10 @@
 -- Texts, part by part.
 use Rattle.std.proofs.Common.{◌≡◌, ℕ, zero, suc, ◌+◌, ◌<◌, ◌≤◌, List, [], ◌∷◌, ◌++◌, length, drop, get_or, append_assoc, append-nil, refl, ap, sym, ◌∙◌, arith, Option, Some, None}
 use Rattle.std.specs.Prelude.{flat_map}
-use Rattle.cv_syntax.specs.declared.node.NodeId.{NodeId}
+use Rattle.cv_pool.specs.declared.node.NodeId.{NodeId}
 use Rattle.cv_syntax.specs.declared.head.Head.{Head}
-use Rattle.cv_syntax.specs.KindTree.{KindTree, NoTree}
-use Rattle.cv_syntax.specs.Nodes.{at, child}
+use Rattle.cv_pool.specs.KindTree.{KindTree, NoTree}
+use Rattle.cv_pool.specs.Nodes.{at, child}
 use Rattle.cv_syntax.specs.Tree.{Tree, Node, tree_at, tree_of}
 use Rattle.cv.specs.declared.report.Step.{Step}
 use Rattle.cv.specs.declared.report.Verdict.{Verdict}

@@ -2,7 +2,7 @@
 use Rattle.std.specs.Prelude.{ℕ, ◌+◌, List, [], ◌∷◌, ◌++◌, flat_map, codes, Option, Some, None}
 use Rattle.std.specs.Fmt.{decimal}
 use Rattle.cv_syntax.specs.declared.work.File.{File}
-use Rattle.cv_syntax.specs.KindTree.{KindTree}
+use Rattle.cv_pool.specs.KindTree.{KindTree}
 use Rattle.cv_syntax.specs.Tree.{Tree, Empty, Node, tree_at}
 use Rattle.cv_direct.specs.declared.search.Route.{Route}
 use Rattle.cv_direct.specs.declared.search.Entry.{Entry}

@@ -1,5 +1,5 @@
 ghost use Rattle.std.specs.Prelude.{◌≡◌, ◌+◌, ◌<◌, ◌++◌, [], length, flat_map, IfOk, OnOk, IfSome};
-ghost use Rattle.cv_syntax.specs.Nodes.{ChildBelow};
+ghost use Rattle.cv_pool.specs.Nodes.{ChildBelow};
 ghost use Rattle.cv_syntax.specs.Tree.{tree_at};
 ghost use Rattle.cv_print.specs.Terms.{term_text};
 ghost use Rattle.cv.specs.Text.{target_text, targets_text, route_text, entry_text, step_text, steps_text, said_text, verdict_text, verdicts_text, end_text, text_of};
@@ -7,7 +7,7 @@ ghost use Rattle.cv.specs.Text.{target_text, targets_text, route_text, entry_tex
 use crate::report::{Report, Status, Step, Verdict, Which};
 use cv_direct::{Entry, Route};
 use cv_print::{push_decimal, push_game, push_term};
-use cv_syntax::{Names, NodeId, Pool};
+use cv_syntax::{Names, NodeId, Pool, read_node};
 use std::alloc::{AllocError, Global};
 
 /// Appends a term, where there is one.
@@ -59,7 +59,7 @@ fn push_targets(
         if n.0 >= pool.live() {
             return Ok(());
         }
-        let node = pool.opened(n);
+        let node = read_node(pool, n);
         push_target(out, pool, names, node.first)?;
         at = node.second;
     }

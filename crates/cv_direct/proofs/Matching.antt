@@ -3,7 +3,7 @@ use Rattle.std.proofs.Common.{◌≡◌, ℕ, Bool, true, false, ◌&&◌, ◌==
 use Rattle.cv_syntax.specs.declared.head.Head.{Head}
 use Rattle.cv_syntax.specs.declared.head.Head.TheVariants.{Leaf}
 use Rattle.cv_syntax.specs.Head.{same_head}
-use Rattle.cv_syntax.specs.KindTree.{NoTree}
+use Rattle.cv_pool.specs.KindTree.{NoTree}
 use Rattle.cv_syntax.specs.Tree.{Tree, Empty, Node, same_tree, tree_of}
 use Rattle.cv_meaning.specs.Correspondences.{leaf_name, leaf_names}
 use Rattle.cv_meaning.specs.Direct.{argument, is_argument, is_instance}

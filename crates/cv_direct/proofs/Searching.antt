@@ -6,10 +6,10 @@ use Rattle.std.proofs.lemmas.Grind.{common_steps}
 use Rattle.std.specs.List.{list_any, list_all}
 use Rattle.cv_syntax.specs.declared.head.Head.{Head}
 use Rattle.cv_syntax.specs.declared.head.Head.TheVariants.{Event}
-use Rattle.cv_syntax.specs.declared.node.NodeId.{NodeId}
-use Rattle.cv_syntax.specs.Nodes.{ChildBelow}
+use Rattle.cv_pool.specs.declared.node.NodeId.{NodeId}
+use Rattle.cv_pool.specs.Nodes.{ChildBelow}
 use Rattle.cv_syntax.specs.Head.{weight}
-use Rattle.cv_syntax.specs.KindTree.{KindTree, NoTree}
+use Rattle.cv_pool.specs.KindTree.{KindTree, NoTree}
 use Rattle.cv_syntax.specs.Tree.{Tree, Empty, Node, size, tree_of, tree_at, first_place, second_place}
 use Rattle.cv_meaning.specs.Correspondences.{Correspondence, Atom, RightEvent, RightTerm, atoms_of}
 use Rattle.cv_meaning.specs.Direct.{Noted, is_noted, atom_noted, event_covered, head_covered, noted_by, plainly_covered}

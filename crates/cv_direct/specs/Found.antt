@@ -2,9 +2,9 @@
 use Rattle.std.specs.Prelude.{ℕ, List, [], ◌∷◌, map, All, Option}
 use Rattle.cv_syntax.specs.declared.head.Head.{Head}
 use Rattle.cv_syntax.specs.declared.head.Head.TheVariants.{Event}
-use Rattle.cv_syntax.specs.declared.node.NodeId.{NodeId}
-use Rattle.cv_syntax.specs.KindTree.{KindTree}
-use Rattle.cv_syntax.specs.Nodes.{ChildBelow}
+use Rattle.cv_pool.specs.declared.node.NodeId.{NodeId}
+use Rattle.cv_pool.specs.KindTree.{KindTree}
+use Rattle.cv_pool.specs.Nodes.{ChildBelow}
 use Rattle.cv_syntax.specs.Tree.{tree_at}
 use Rattle.cv_meaning.specs.Correspondences.{atoms_of, leaf_names}
 use Rattle.cv_direct.specs.declared.search.Route.{Route}

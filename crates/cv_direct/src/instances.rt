@@ -1,5 +1,5 @@
 ghost use Rattle.std.specs.Prelude.{◌≡◌, length};
-ghost use Rattle.cv_syntax.specs.Nodes.{ChildBelow};
+ghost use Rattle.cv_pool.specs.Nodes.{ChildBelow};
 ghost use Rattle.cv_syntax.specs.Tree.{same_tree, tree_at};
 ghost use Rattle.cv_meaning.specs.Correspondences as names;
 ghost use Rattle.cv_meaning.specs.Correspondences.{leaf_names};
@@ -7,7 +7,7 @@ ghost use Rattle.cv_direct.specs.Search as search_specs;
 ghost use Rattle.cv_meaning.specs.Direct as direct;
 ghost use Rattle.cv_meaning.specs.Direct.{argument};
 
-use cv_syntax::{Head, NodeId, Pool};
+use cv_syntax::{Head, NodeId, Pool, read_node};
 
 /// Whether a tree is empty.
 #[tactic(auto, using(crate::proofs::Matching::instance_laws))]
@@ -18,7 +18,7 @@ fn is_empty(pool: &Pool, tree: Option<NodeId>) -> bool
     match tree {
         Some(n) => {
             // A node of the pool is never empty, as reading it shows.
-            let _node = pool.opened(n);
+            let _node = read_node(pool, n);
             false
         }
         None => true,
@@ -35,11 +35,11 @@ pub(crate) fn same(pool: &Pool, left: Option<NodeId>, right: Option<NodeId>) -> 
     let mut p = left;
     let mut q = right;
     'chain: while let Some(m) = p {
-        let x = pool.opened(m);
+        let x = read_node(pool, m);
         let Some(n) = q else {
             return false;
         };
-        let y = pool.opened(n);
+        let y = read_node(pool, n);
         if x.head.kind() != y.head.kind() {
             return false;
         }
@@ -59,7 +59,7 @@ pub(crate) fn leaf_name(pool: &Pool, node: Option<NodeId>) -> u32
     ensures { result ≡ names.leaf_name (tree_at pool.now.trees node) }
 {
     match node {
-        Some(n) => match pool.opened(n).head {
+        Some(n) => match read_node(pool, n).head {
             Head::Leaf(x) => x,
             _ => 0,
         },
@@ -84,11 +84,11 @@ pub(crate) fn is_argument(
     let mut xs = variables;
     let mut ms = arguments;
     'arguments: while let Some(x) = xs {
-        let name = pool.opened(x);
+        let name = read_node(pool, x);
         let Some(m) = ms else {
             return false;
         };
-        let argument = pool.opened(m);
+        let argument = read_node(pool, m);
         if leaf_name(pool, name.first) == variable {
             return same(pool, argument.first, term);
         }
@@ -116,15 +116,15 @@ pub(crate) fn is_instance(
     let mut ys = list;
     let mut ms = terms;
     'terms: while let Some(y) = ys {
-        let read = pool.opened(y);
+        let read = read_node(pool, y);
         let Some(m) = ms else {
             return false;
         };
-        let term = pool.opened(m);
+        let term = read_node(pool, m);
         let Some(variable) = read.first else {
             return false;
         };
-        let Head::Leaf(x) = pool.opened(variable).head else {
+        let Head::Leaf(x) = read_node(pool, variable).head else {
             return false;
         };
         if !is_argument(pool, variables, arguments, x, term.first) {

@@ -1,5 +1,5 @@
 ghost use Rattle.std.specs.Prelude.{◌≡◌, ◌+◌, ◌<◌, ◌^◌, ◌++◌, [], true, All, IfOk, IfSome, OnOk, if◌then◌else◌, is_some, length, map, option_map, None, Some};
-ghost use Rattle.cv_syntax.specs.Nodes.{ChildBelow};
+ghost use Rattle.cv_pool.specs.Nodes.{ChildBelow};
 ghost use Rattle.cv_syntax.specs.Tree.{size, tree_at};
 ghost use Rattle.cv_meaning.specs.Correspondences.{atom_of, atoms_of, correspondence_of, leaf_names};
 ghost use Rattle.cv_meaning.specs.Direct.{plainly_covered};
@@ -7,7 +7,7 @@ ghost use Rattle.cv_direct.specs.Search.{entries_of, first_noted, head_entries, 
 ghost use Rattle.cv_direct.specs.Found.{RoutesBelow, entry_trees, placed, RouteBelow, route_tree, SeenBelow, seen_by, wanted};
 
 use crate::instances::is_instance;
-use cv_syntax::{Head, NodeId, Opened, Pool};
+use cv_syntax::{Head, NodeId, Opened, Pool, read_node};
 use std::alloc::{AllocError, Global};
 
 /// Why a right event holds: an event node above, and the list of its arguments.
@@ -82,14 +82,14 @@ fn sought_by(pool: &Pool, query: NodeId) -> Sought
     ensures variables { ChildBelow (length pool.now.trees) result.variables }
     ensures rights { ChildBelow (length pool.now.trees) result.rights }
 {
-    let Some(list) = pool.opened(query).second else {
+    let Some(list) = read_node(pool, query).second else {
         return Sought {
             event: 0,
             variables: None,
             rights: None,
         };
     };
-    let events = pool.opened(list);
+    let events = read_node(pool, list);
     let Some(first) = events.first else {
         return Sought {
             event: 0,
@@ -97,7 +97,7 @@ fn sought_by(pool: &Pool, query: NodeId) -> Sought
             rights: events.second,
         };
     };
-    let left = pool.opened(first);
+    let left = read_node(pool, first);
     let event = match left.head {
         Head::Occurs(e) => e,
         Head::OccursOnce(e) => e,
@@ -133,7 +133,7 @@ fn walk(
     let depth = search.above.len();
     let mut at = tree;
     'path: while let Some(n) = at {
-        let node = pool.opened(n);
+        let node = read_node(pool, n);
         let place = search.place;
         if !enter(alloc, pool, sought, search, node)? {
             return Ok(false);
@@ -220,7 +220,7 @@ fn routes(
     let mut found = Vec::new(alloc);
     let mut at = sought.rights;
     'rights: while let Some(n) = at {
-        let node = pool.opened(n);
+        let node = read_node(pool, n);
         let Some(route) = right_route(pool, sought.variables, arguments, node.first, above) else {
             return Ok(None);
         };
@@ -249,7 +249,7 @@ fn right_route(
     let Some(n) = right else {
         return None;
     };
-    let node = pool.opened(n);
+    let node = read_node(pool, n);
     match node.head {
         Head::Occurs(event) => first(pool, variables, arguments, event, node.first, above),
         Head::OccursOnce(event) => first(pool, variables, arguments, event, node.first, above),

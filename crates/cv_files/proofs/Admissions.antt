@@ -6,10 +6,10 @@ use Rattle.std.specs.List.{AllByRecursion}
 use Rattle.cv_syntax.specs.declared.decls.Decl.{Decl}
 use Rattle.cv_syntax.specs.declared.decls.Class.TheVariants.{TypeName}
 use Rattle.cv_syntax.specs.declared.make.Make.{Make}
-use Rattle.cv_syntax.specs.declared.node.NodeId.{NodeId}
+use Rattle.cv_pool.specs.declared.node.NodeId.{NodeId}
 use Rattle.cv_syntax.specs.Declarations.{Declaration, Named, declared, declarations}
-use Rattle.cv_syntax.specs.KindTree.{KindTree}
-use Rattle.cv_syntax.specs.Nodes.{ChildBelow}
+use Rattle.cv_pool.specs.KindTree.{KindTree}
+use Rattle.cv_pool.specs.Nodes.{ChildBelow}
 use Rattle.cv_syntax.specs.Postorder.{postorder}
 use Rattle.cv_syntax.specs.Tree.{Tree, size, tree_at}
 use Rattle.cv_parse.specs.declared.heard.Heard.{Heard}

@@ -4,10 +4,10 @@ use Rattle.std.specs.List.{AllByRecursion}
 use Rattle.cv_syntax.specs.declared.decls.Decl.{Decl}
 use Rattle.cv_syntax.specs.declared.decls.Decl.TheVariants as decl
 use Rattle.cv_syntax.specs.declared.decls.Class.{Class}
-use Rattle.cv_syntax.specs.declared.node.NodeId.{NodeId}
+use Rattle.cv_pool.specs.declared.node.NodeId.{NodeId}
 use Rattle.cv_syntax.specs.Classes.{declaration_in, class_by, class_in}
 use Rattle.cv_syntax.specs.Declarations.{Declaration, Named, Equation, Equiv, Query, declared, declarations}
-use Rattle.cv_syntax.specs.KindTree.{KindTree}
+use Rattle.cv_pool.specs.KindTree.{KindTree}
 use Rattle.cv_syntax.specs.Tree.{Tree, Empty, Node, tree_at, tree_of}
 use Rattle.cv_parse.specs.Gives.{heard_of, tree_in, IsWhole}
 use Rattle.cv_files.specs.Typing.{is_of_name, is_free, is_new, are_new, class_of}

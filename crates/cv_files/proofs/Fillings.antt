@@ -1,9 +1,9 @@
 -- From what was read to what a work holds.
 use Rattle.std.proofs.Common.{◌≡◌, ℕ, Bool, false, List, ◌∷◌, if◌then◌else◌, ap, sym, ◌∙◌, Some, None}
 use Rattle.cv_syntax.specs.declared.decls.Decl.{Decl}
-use Rattle.cv_syntax.specs.declared.node.NodeId.{NodeId}
+use Rattle.cv_pool.specs.declared.node.NodeId.{NodeId}
 use Rattle.cv_syntax.specs.Declarations.{declarations}
-use Rattle.cv_syntax.specs.KindTree.{KindTree}
+use Rattle.cv_pool.specs.KindTree.{KindTree}
 use Rattle.cv_syntax.specs.Tree.{tree_at}
 use Rattle.cv_parse.specs.declared.file.Reading.{Reading}
 use Rattle.cv_parse.specs.Gives.{uses_of}

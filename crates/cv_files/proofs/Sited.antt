@@ -1,8 +1,8 @@
 -- The check of sites, part by part.
 use Rattle.std.proofs.Common.{◌≡◌, ℕ, Bool, true, false, ◌&&◌, List, [], ◌∷◌, ◌++◌, refl, ap, sym, ◌∙◌, Option, None}
 use Rattle.cv_syntax.specs.declared.head.Head.{Head}
-use Rattle.cv_syntax.specs.declared.node.NodeId.{NodeId}
-use Rattle.cv_syntax.specs.KindTree.{KindTree}
+use Rattle.cv_pool.specs.declared.node.NodeId.{NodeId}
+use Rattle.cv_pool.specs.KindTree.{KindTree}
 use Rattle.cv_syntax.specs.Tree.{Tree, Node, tree_at}
 use Rattle.std.proofs.Common.{nat_eq, Some}
 use Rattle.std.proofs.Math.Path.{fun_ext}

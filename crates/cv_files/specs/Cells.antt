@@ -8,8 +8,8 @@ use Rattle.cv_syntax.specs.declared.decls.Decl.{Decl}
 use Rattle.cv_syntax.specs.declared.head.Head.{Head}
 use Rattle.cv_syntax.specs.declared.head.Head.TheVariants.{Stop, Yield, Out, If, Leaf, Cons, Name}
 use Rattle.cv_syntax.specs.Classes.{class_in, args_in}
-use Rattle.cv_syntax.specs.KindTree.{KindTree}
-use Rattle.cv_syntax.specs.Nodes.{ChildBelow}
+use Rattle.cv_pool.specs.KindTree.{KindTree}
+use Rattle.cv_pool.specs.Nodes.{ChildBelow}
 use Rattle.cv_syntax.specs.Tree.{Tree, Empty, Node, second, tree_at}
 use Rattle.cv_files.specs.Typing.{Signature, Scope, has_type, are_in_scope, variable_of, condition_fits, body_fits, event_fits, each_passes, terms_of}
 

@@ -3,8 +3,8 @@ use Rattle.cv_lex.specs.declared.LexError.{LexError}
 use Rattle.cv_lex.specs.declared.LexError.TheVariants as lex
 use Rattle.cv_parse.specs.declared.reading.ReadError.{ReadError}
 use Rattle.cv_parse.specs.declared.reading.ReadError.TheVariants as reading
-use Rattle.cv_syntax.specs.declared.pool.PoolError.{PoolError}
-use Rattle.cv_syntax.specs.declared.pool.PoolError.TheVariants as pool
+use Rattle.cv_pool.specs.declared.pool.PoolError.{PoolError}
+use Rattle.cv_pool.specs.declared.pool.PoolError.TheVariants as pool
 use Rattle.cv_files.specs.declared.error.FileError.{FileError}
 use Rattle.cv_files.specs.declared.error.FileError.TheVariants.{Unaccepted, Full, OutOfMemory}
 

@@ -3,12 +3,12 @@ use Rattle.std.specs.Prelude.{◌≡◌, ℕ, Bool, true, false, ◌&&◌, is_so
 use Rattle.std.specs.List.{AllByRecursion}
 use Rattle.cv_syntax.specs.declared.decls.Decl.{Decl}
 use Rattle.cv_syntax.specs.declared.decls.Decl.TheVariants as decl
-use Rattle.cv_syntax.specs.declared.node.NodeId.{NodeId}
+use Rattle.cv_pool.specs.declared.node.NodeId.{NodeId}
 use Rattle.cv_syntax.specs.Classes.{class_in}
 use Rattle.cv_files.specs.Typing.{is_of_name, is_free}
 use Rattle.cv_syntax.specs.declared.decls.Class.TheVariants.{TypeName}
 use Rattle.cv_syntax.specs.Declarations.{declarations}
-use Rattle.cv_syntax.specs.KindTree.{KindTree}
+use Rattle.cv_pool.specs.KindTree.{KindTree}
 use Rattle.cv_syntax.specs.Tree.{tree_at}
 use Rattle.cv_syntax.specs.Postorder.{postorder}
 use Rattle.cv_parse.specs.Files.{Parts}

@@ -1,6 +1,6 @@
 -- What a work holds.
 use Rattle.std.specs.Prelude.{◌≡◌, true, Some}
-use Rattle.cv_syntax.specs.declared.node.NodeId.{NodeId}
+use Rattle.cv_pool.specs.declared.node.NodeId.{NodeId}
 use Rattle.cv_syntax.specs.declared.work.Work.{Work}
 use Rattle.cv_syntax.specs.Declarations.{declarations}
 use Rattle.cv_syntax.specs.Tree.{tree_at}

@@ -1,12 +1,12 @@
 ghost use Rattle.std.specs.Prelude.{◌≡◌, ◌<◌, ◌↔◌, IsNone, length, IfOk, IfSome, Some, true, option_map};
-ghost use Rattle.cv_syntax.specs.Nodes.{ChildBelow};
+ghost use Rattle.cv_pool.specs.Nodes.{ChildBelow};
 ghost use Rattle.cv_syntax.specs.Tree.{Empty, tree_at};
 ghost use Rattle.cv_syntax.specs.Walks.{above};
 ghost use Rattle.cv_files.specs.Cells.{AreBelow, branches_fit as both, end_fits as ends, is_stop as stops, rest_fits as rests, scope_of, signature_in, two_of};
 ghost use Rattle.cv_files.specs.Typing as typing;
 
 use crate::scopes::{are_in_scope, arguments_fit, bind, bind_all, rest, type_of, unbind};
-use cv_syntax::{Class, Decls, Head, NameId, NodeId, Opened, Pool};
+use cv_syntax::{Class, Decls, Head, NameId, NodeId, Opened, Pool, read_node};
 use std::alloc::{AllocError, Global};
 use std::collections::HashMap;
 
@@ -21,7 +21,7 @@ pub fn process_fits(
     requires below { AreBelow pool.now.trees decls.now.list }
     ensures { IfOk result (λ yes. yes ≡ typing.process_fits (signature_in pool.now.trees decls.now.list) (tree_at pool.now.trees (Some root))) }
 {
-    let node = pool.opened(root);
+    let node = read_node(pool, root);
     match node.head {
         Head::Stop => Ok(node.first.is_none() && node.second.is_none()),
         Head::In(_) => {
@@ -52,7 +52,7 @@ fn body_fits(
     let mut bound = Vec::new(alloc);
     let mut at = body;
     'body: while let Some(k) = at {
-        let node = pool.opened(k);
+        let node = read_node(pool, k);
         match node.head {
             Head::New(x, t) => {
                 if !bind(scope, x, t)? || !is_fixed(decls.class(NameId(t))) {
@@ -131,8 +131,8 @@ fn bodies(pool: &Pool, list: Option<NodeId>) -> Option<(Option<NodeId>, Option<N
     ensures trees { option_map (λ b. (tree_at pool.now.trees b.0, tree_at pool.now.trees b.1)) result ≡ two_of (tree_at pool.now.trees list) }
     ensures less { IfSome result (λ b. (above b.0 < above list) × (above b.1 < above list)) }
 {
-    let first = pool.opened(list?);
-    let second = pool.opened(first.second?);
+    let first = read_node(pool, list?);
+    let second = read_node(pool, first.second?);
     if !matches!(first.head, Head::Cons)
         || !matches!(second.head, Head::Cons)
         || second.second.is_some()
@@ -150,7 +150,7 @@ fn condition_fits(pool: &Pool, scope: &HashMap<u32, u32>, condition: Option<Node
     let Some(k) = condition else {
         return false;
     };
-    let node = pool.opened(k);
+    let node = read_node(pool, k);
     if !matches!(node.head, Head::Eq) {
         return false;
     }
@@ -188,7 +188,7 @@ fn is_stop(pool: &Pool, process: Option<NodeId>) -> bool
     let Some(k) = process else {
         return false;
     };
-    let node = pool.opened(k);
+    let node = read_node(pool, k);
     matches!(node.head, Head::Stop) && node.first.is_none() && node.second.is_none()
 }
 

@@ -1,11 +1,11 @@
 ghost use Rattle.std.specs.Prelude.{◌≡◌, ◌↔◌, IsNone, length, IfOk, OnOk, Some, true, is_none, option_and_then};
-ghost use Rattle.cv_syntax.specs.Nodes.{ChildBelow};
+ghost use Rattle.cv_pool.specs.Nodes.{ChildBelow};
 ghost use Rattle.cv_syntax.specs.Tree.{Empty, tree_at, second};
 ghost use Rattle.cv_files.specs.Cells.{cell_variable, is_of_type as of_type, leaf_of, scope_of, without};
 ghost use Rattle.cv_files.specs.Typing as typing;
 ghost use Rattle.cv_files.specs.Updates.{updated};
 
-use cv_syntax::{Head, NodeId, Opened, Pool};
+use cv_syntax::{Head, NodeId, Opened, Pool, read_node};
 use std::alloc::AllocError;
 use std::collections::HashMap;
 
@@ -30,7 +30,7 @@ pub fn bind_all(
 {
     let mut at = list;
     'list: while let Some(k) = at {
-        let cell = pool.opened(k);
+        let cell = read_node(pool, k);
         let Head::Binder(x, t) = cell.head else {
             return Ok(false);
         };
@@ -58,7 +58,7 @@ pub fn rest(pool: &Pool, tree: Option<NodeId>) -> Option<NodeId>
     ensures tree { tree_at pool.now.trees result ≡ second (tree_at pool.now.trees tree) }
     ensures below { ChildBelow (length pool.now.trees) result }
 {
-    pool.opened(tree?).second
+    read_node(pool, tree?).second
 }
 
 /// The variable that a term reads at its top.
@@ -66,7 +66,7 @@ pub fn leaf(pool: &Pool, term: Option<NodeId>) -> Option<u32>
     requires { ChildBelow (length pool.now.trees) term }
     ensures { result ≡ leaf_of (tree_at pool.now.trees term) }
 {
-    match pool.opened(term?).head {
+    match read_node(pool, term?).head {
         Head::Leaf(x) => Some(x),
         _ => None,
     }
@@ -77,7 +77,7 @@ fn variable_of(pool: &Pool, term: Option<NodeId>) -> Option<u32>
     requires { ChildBelow (length pool.now.trees) term }
     ensures { result ≡ typing.variable_of (tree_at pool.now.trees term) }
 {
-    let node = pool.opened(term?);
+    let node = read_node(pool, term?);
     if node.first.is_some() || node.second.is_some() {
         return None;
     }
@@ -120,7 +120,7 @@ pub fn are_in_scope(pool: &Pool, scope: &HashMap<u32, u32>, list: Option<NodeId>
 {
     let mut at = list;
     'list: while let Some(k) = at {
-        let cell = pool.opened(k);
+        let cell = read_node(pool, k);
         if type_in(scope, variable(pool, cell)).is_none() {
             return false;
         }
@@ -154,11 +154,11 @@ pub fn arguments_fit(
     let mut wanted = types;
     let mut at = terms;
     'types: while let Some(n) = wanted {
-        let kind = pool.opened(n);
+        let kind = read_node(pool, n);
         let Some(k) = at else {
             return false;
         };
-        let cell = pool.opened(k);
+        let cell = read_node(pool, k);
         if !is_of_type(kind.head, type_in(scope, variable(pool, cell))) {
             return false;
         }

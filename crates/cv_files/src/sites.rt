@@ -1,11 +1,11 @@
 ghost use Rattle.std.specs.Prelude.{◌≡◌, ◌<◌, length, IfOk, OnOk, Some, true};
-ghost use Rattle.cv_syntax.specs.Nodes.{ChildBelow};
+ghost use Rattle.cv_pool.specs.Nodes.{ChildBelow};
 ghost use Rattle.cv_syntax.specs.Tree.{tree_at};
 ghost use Rattle.cv_files.specs.Cells.{scope_of};
 ghost use Rattle.cv_files.specs.Sites.{are_of_one_type, site_of as site, sites_at, sites_of, with_sites};
 ghost use Rattle.cv_files.specs.Typing.{no_variable};
 
-use cv_syntax::{Head, NodeId, Pool};
+use cv_syntax::{Head, NodeId, Pool, read_node};
 use std::alloc::{AllocError, Global};
 use std::collections::HashMap;
 
@@ -30,7 +30,7 @@ fn note_sites(
 {
     let mut at = tree;
     'path: while let Some(k) = at {
-        let node = pool.opened(k);
+        let node = read_node(pool, k);
         if !note(types, node.head)? || !note_sites(pool, types, node.first)? {
             return Ok(false);
         }

@@ -1,6 +1,6 @@
 ghost use Rattle.std.specs.Prelude.{◌≡◌, ◌<◌, ◌&&◌, length, All, IfOk, OnOk, Some, true, is_some};
 ghost use Rattle.cv_syntax.specs.Declarations.{declarations};
-ghost use Rattle.cv_syntax.specs.Nodes.{ChildBelow};
+ghost use Rattle.cv_pool.specs.Nodes.{ChildBelow};
 ghost use Rattle.cv_syntax.specs.Tree.{tree_at};
 ghost use Rattle.cv_files.specs.Accepted.{game_fits as fits, is_typed as typed};
 ghost use Rattle.cv_files.specs.Cells.{AreBelow, either, is_in, over, right_fits as right, scope_of, signature_in};
@@ -12,7 +12,7 @@ ghost use Rattle.cv_files.specs.Updates.{updated};
 use crate::bodies::process_fits;
 use crate::scopes::{arguments_fit, bind, leaf, type_in};
 use crate::sites::have_one_type;
-use cv_syntax::{Decls, Head, NameId, NodeId, Opened, Pool};
+use cv_syntax::{Decls, Head, NameId, NodeId, Opened, Pool, read_node};
 use std::alloc::{AllocError, Global};
 use std::collections::HashMap;
 
@@ -54,7 +54,7 @@ fn terms(pool: &Pool, event: Option<NodeId>) -> Option<NodeId>
     ensures tree { tree_at pool.now.trees result ≡ terms_of (tree_at pool.now.trees event) }
     ensures below { ChildBelow (length pool.now.trees) result }
 {
-    pool.opened(event?).first
+    read_node(pool, event?).first
 }
 
 /// Whether an event has arguments of its types.
@@ -66,7 +66,7 @@ fn event_fits(pool: &Pool, decls: &Decls, scope: &HashMap<u32, u32>, event: Opti
     let Some(k) = event else {
         return false;
     };
-    let node = pool.opened(k);
+    let node = read_node(pool, k);
     match node.head {
         Head::Occurs(e) => {
             node.second.is_none() && arguments_fit(pool, scope, decls.args(NameId(e)), node.first)
@@ -87,7 +87,7 @@ fn query_scope(
     let mut scope = HashMap::new(alloc);
     let mut at = binders;
     'list: while let Some(k) = at {
-        let cell = pool.opened(k);
+        let cell = read_node(pool, k);
         let Head::Binder(x, t) = cell.head else {
             return Ok(scope);
         };
@@ -119,7 +119,7 @@ fn are_distinct(
 {
     let mut at = list;
     'list: while let Some(k) = at {
-        let cell = pool.opened(k);
+        let cell = read_node(pool, k);
         let Some(x) = leaf(pool, cell.first) else {
             return Ok(false);
         };
@@ -138,7 +138,7 @@ fn each_passes(pool: &Pool, left: &HashMap<u32, u32>, list: Option<NodeId>) -> b
 {
     let mut at = list;
     'list: while let Some(k) = at {
-        let cell = pool.opened(k);
+        let cell = read_node(pool, k);
         if type_in(left, leaf(pool, cell.first)).is_none() {
             return false;
         }
@@ -179,7 +179,7 @@ fn rights_fit(
 {
     let mut at = list;
     'list: while let Some(k) = at {
-        let cell = pool.opened(k);
+        let cell = read_node(pool, k);
         if !right_fits(pool, decls, scope, left, cell) {
             return false;
         }
@@ -194,14 +194,14 @@ fn query_fits(alloc: Global, pool: &Pool, decls: &Decls, query: NodeId) -> Resul
     requires below { AreBelow pool.now.trees decls.now.list }
     ensures { IfOk result (λ yes. yes ≡ typing.query_fits (signature_in pool.now.trees decls.now.list) (tree_at pool.now.trees (Some query))) }
 {
-    let node = pool.opened(query);
+    let node = read_node(pool, query);
     if !matches!(node.head, Head::Query) {
         return Ok(false);
     }
     let Some(k) = node.second else {
         return Ok(false);
     };
-    let events = pool.opened(k);
+    let events = read_node(pool, k);
     if !matches!(events.head, Head::Cons) {
         return Ok(false);
     }

@@ -1,7 +1,7 @@
 // Processes, line by line.
 ghost use Rattle.std.specs.Prelude.{◌≡◌, ◌++◌, ◌+◌, ◌*◌, ◌^◌, ◌<◌, [], OnOk, IfOk, Some, length, is_none, codes, replicate};
 ghost use Rattle.std.specs.Fmt.{decimal};
-ghost use Rattle.cv_syntax.specs.Nodes.{ChildBelow};
+ghost use Rattle.cv_pool.specs.Nodes.{ChildBelow};
 ghost use Rattle.cv_syntax.specs.Tree.{tree_at};
 ghost use Rattle.cv_print.specs.Numbers.{above};
 ghost use Rattle.cv_print.specs.Terms.{is_empty, binder_text, term_text};

@@ -1,5 +1,5 @@
 ghost use Rattle.std.specs.Prelude.{◌≡◌, ◌++◌, ◌*◌, ◌+◌, ◌^◌, ◌<◌, [], OnOk, Some, length, codes, replicate, is_none};
-ghost use Rattle.cv_syntax.specs.Nodes.{ChildBelow};
+ghost use Rattle.cv_pool.specs.Nodes.{ChildBelow};
 ghost use Rattle.cv_syntax.specs.Tree.{Node, first, second, tree_at};
 ghost use Rattle.cv_print.specs.Numbers.{above};
 ghost use Rattle.cv_print.specs.Terms.{is_empty};
@@ -7,7 +7,7 @@ ghost use Rattle.cv_print.specs.Games.{line, channel_text, arguments_text, indic
 
 use crate::terms::push_terms;
 use crate::words::{push_entries, push_name};
-use cv_syntax::{Names, NodeId, Opened, Pool};
+use cv_syntax::{Names, NodeId, Opened, Pool, read_node};
 use std::alloc::AllocError;
 
 /// Appends the spaces in front of a line.
@@ -41,7 +41,7 @@ pub(crate) fn open_node(pool: &Pool, n: NodeId) -> Opened
     ensures no_first { is_none result.first ≡ is_empty (tree_at pool.now.trees result.first) }
     ensures no_second { is_none result.second ≡ is_empty (tree_at pool.now.trees result.second) }
 {
-    pool.opened(n)
+    read_node(pool, n)
 }
 
 /// The children of a node, where there is one.

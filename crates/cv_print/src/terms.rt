@@ -1,10 +1,10 @@
 ghost use Rattle.std.specs.Prelude.{◌≡◌, ◌<◌, ◌++◌, [], OnOk, IfOk, length, Some, codes};
-ghost use Rattle.cv_syntax.specs.Nodes.{ChildBelow};
+ghost use Rattle.cv_pool.specs.Nodes.{ChildBelow};
 ghost use Rattle.cv_syntax.specs.Tree.{tree_at};
 ghost use Rattle.cv_print.specs.Terms.{term_text, terms_text};
 
 use crate::words::push_name;
-use cv_syntax::{Head, Names, NodeId, Opened, Pool};
+use cv_syntax::{Head, Names, NodeId, Opened, Pool, read_node};
 use std::alloc::{AllocError, Global};
 
 /// The text of a term. It fails for want of memory alone.
@@ -35,7 +35,7 @@ pub fn push_term(
     ensures { OnOk result (out.new.items
         ≡ out.old.items ++ term_text names.now (tree_at pool.now.trees (Some term))) }
 {
-    let node = pool.opened(term);
+    let node = read_node(pool, term);
     match node.head {
         Head::Leaf(x) => push_name(out, names, x),
         Head::Read(x) => {
@@ -121,7 +121,7 @@ pub(crate) fn push_terms(
     let mut before: &[u8] = b"";
     let mut at = list;
     'terms: while let Some(n) = at {
-        let node = pool.opened(n);
+        let node = read_node(pool, n);
         out.extend_from_slice(before)?;
         push_child(out, pool, names, node.first)?;
         before = b", ";

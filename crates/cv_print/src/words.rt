@@ -1,10 +1,10 @@
 ghost use Rattle.std.specs.Prelude.{◌≡◌, ◌++◌, [], OnOk, length};
 ghost use Rattle.std.specs.Fmt.{decimal};
-ghost use Rattle.cv_syntax.specs.Nodes.{ChildBelow};
+ghost use Rattle.cv_pool.specs.Nodes.{ChildBelow};
 ghost use Rattle.cv_syntax.specs.Tree.{tree_at};
 ghost use Rattle.cv_print.specs.Terms.{name_text, binder_text, entry_text, entries_text};
 
-use cv_syntax::{Head, NameId, Names, NodeId, Pool};
+use cv_syntax::{Head, NameId, Names, NodeId, Pool, read_node};
 use std::alloc::AllocError;
 
 /// Appends a number in decimal.
@@ -69,7 +69,7 @@ pub(crate) fn push_entries(
     let mut before: &[u8] = b"";
     let mut at = list;
     'entries: while let Some(n) = at {
-        let node = pool.opened(n);
+        let node = read_node(pool, n);
         out.extend_from_slice(before)?;
         push_entry(out, names, mark, node.head)?;
         before = b", ";

@@ -4,7 +4,7 @@ use Rattle.std.specs.Prelude.{slice_get}
 use Rattle.std.specs.Str.{bytes_eq}
 use Rattle.std.proofs.lemmas.Slice.Eq.{bytes_eq-Decides}
 use Rattle.std.proofs.lemmas.Bool.{false_from_ne_true}
-use Rattle.cv_syntax.specs.Texts.{NoRepeat}
+use Rattle.cv_names.specs.Texts.{NoRepeat}
 use Rattle.cv_signs.specs.Signs.{place_of, with_name}
 
 -- two texts are the same, or the test tells them apart

@@ -12,7 +12,7 @@ use Rattle.cv_lex.proofs.Pieces.{token_not_end}
 use Rattle.cv_grammar.specs.declared.sign.Mark.{Mark}
 use Rattle.cv_grammar.specs.declared.sign.Sign.{Sign}
 use Rattle.cv_grammar.specs.declared.sign.Sign.TheVariants as sign
-use Rattle.cv_syntax.specs.Texts.{NoRepeat}
+use Rattle.cv_names.specs.Texts.{NoRepeat}
 use Rattle.cv_signs.specs.Spelling.{mark_of_text}
 use Rattle.cv_signs.specs.Signs.{Step, Signed, join, token_step, text_step, word_step, signs_from, signs_of, place_of, Tells, TellInOrder, NumberBelow}
 use Rattle.cv_signs.proofs.Table.{only}

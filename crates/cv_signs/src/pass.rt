@@ -3,7 +3,7 @@
 ghost use Rattle.std.specs.Prelude.{◌≡◌, ◌≢◌, ◌+◌, ◌<◌, ◌^◌, [], ◌∷◌, List, All, Some, length, slice_get, codes, IfOk, OnErr};
 ghost use Rattle.cv_lex.specs.Lexis.{Token};
 ghost use Rattle.cv_lex.specs.View.{AreTokens};
-ghost use Rattle.cv_syntax.specs.Texts.{NoRepeat};
+ghost use Rattle.cv_names.specs.Texts.{NoRepeat};
 ghost use Rattle.cv_signs.specs.Signs.{place_of, with_name, token_step, text_step, signs_of, TellInOrder, NumberBelow};
 ghost use Rattle.cv_signs.specs.Spelling.{mark_of_text};
 

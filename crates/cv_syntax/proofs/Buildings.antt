@@ -4,17 +4,17 @@ use Rattle.std.specs.Prelude.{All}
 use Rattle.std.proofs.lemmas.List.{drop_more, drop_all, take-map, length-map}
 use Rattle.cv_syntax.specs.declared.head.Head.{Head}
 use Rattle.cv_syntax.specs.declared.head.Head.TheVariants.{Cons}
-use Rattle.cv_syntax.specs.declared.node.NodeId.{NodeId}
-use Rattle.cv_syntax.specs.declared.node.Kind.{Kind}
+use Rattle.cv_pool.specs.declared.node.NodeId.{NodeId}
+use Rattle.cv_pool.specs.declared.node.Kind.{Kind}
 use Rattle.cv_syntax.specs.Head.{code, decoded}
-use Rattle.cv_syntax.specs.KindTree.{KindTree, Fork}
+use Rattle.cv_pool.specs.KindTree.{KindTree, Fork}
 use Rattle.cv_syntax.specs.Layouts.{trees_of, item, all_but, first_part, second_part, layout_of, arranged}
-use Rattle.cv_syntax.specs.Nodes.{ChildBelow}
+use Rattle.cv_pool.specs.Nodes.{ChildBelow}
 use Rattle.cv_syntax.specs.declared.layout.Layout.{Layout}
 use Rattle.cv_syntax.specs.declared.layout.Layout.TheVariants.{Taking, Giving, Three, Chosen}
-use Rattle.cv_syntax.specs.PoolView.{PoolView, Grows}
+use Rattle.cv_pool.specs.PoolView.{PoolView, Grows}
 use Rattle.cv_syntax.specs.Tree.{Tree, Empty, Node, chain, tree_of, tree_at}
-use Rattle.cv_syntax.proofs.Growth.{Grows-at, Grows-child, Grows-length}
+use Rattle.cv_pool.proofs.Growth.{Grows-at, Grows-child, Grows-length}
 
 -- the trees of live nodes stay
 pub trees-kept : (old new : PoolView) (ns : List NodeId) → Grows old new → All (λ (n : NodeId). n.0 < length old.trees) ns → trees_of new.trees ns ≡ trees_of old.trees ns

@@ -9,9 +9,9 @@ use Rattle.cv_syntax.specs.declared.decls.Class.{Class}
 use Rattle.cv_syntax.specs.declared.decls.Class.TheVariants as class
 use Rattle.cv_syntax.specs.declared.decls.Decl.{Decl}
 use Rattle.cv_syntax.specs.declared.decls.Decl.TheVariants as decl
-use Rattle.cv_syntax.specs.declared.node.NodeId.{NodeId}
+use Rattle.cv_pool.specs.declared.node.NodeId.{NodeId}
 use Rattle.cv_syntax.specs.Classes.{Index, IsIndexed, IsNamed, IsNew, class_by, class_in, id_at, id_of, is_number, declaration_in, from_one, name_at, name_in}
-use Rattle.cv_syntax.specs.KindTree.{KindTree}
+use Rattle.cv_pool.specs.KindTree.{KindTree}
 use Rattle.cv_syntax.specs.Tree.{Tree, Node, tree_of, tree_at}
 use Rattle.cv_syntax.specs.declared.head.Head.{Head}
 use Rattle.cv_syntax.specs.declared.head.Head.TheVariants.{Name}

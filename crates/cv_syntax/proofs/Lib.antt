@@ -1,9 +1,6 @@
 pub mod Arrangements
 pub mod Buildings
-pub mod Built
-pub mod Growth
 pub mod Indexed
 pub mod Openings
-pub mod Places
 pub mod Plantings
 pub mod Walking

@@ -1,10 +1,10 @@
 -- A node of a pool as a node of a tree.
 use Rattle.std.proofs.Common.{◌≡◌, ◌≢◌, List, refl, ap, ◌∙◌, Option, Some, true, false, IsNone, ◌↔◌}
-use Rattle.cv_syntax.specs.declared.node.NodeId.{NodeId}
+use Rattle.cv_pool.specs.declared.node.NodeId.{NodeId}
 use Rattle.cv_syntax.specs.declared.head.Head.{Head}
 use Rattle.cv_syntax.specs.Head.{decoded}
-use Rattle.cv_syntax.specs.KindTree.{KindTree, NoTree, Fork, kind_of, side}
-use Rattle.cv_syntax.specs.Nodes.{at, child}
+use Rattle.cv_pool.specs.KindTree.{KindTree, NoTree, Fork, kind_of, side}
+use Rattle.cv_pool.specs.Nodes.{at, child}
 use Rattle.cv_syntax.specs.Tree.{Empty, Node, tree_of, tree_at}
 
 opened_parts : (t : KindTree) (h : Head) (a b : KindTree) → t ≢ NoTree → h ≡ decoded (kind_of t) → a ≡ side false t → b ≡ side true t → tree_of t ≡ Node h (tree_of a) (tree_of b)

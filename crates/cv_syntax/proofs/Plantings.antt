@@ -3,19 +3,19 @@ use Rattle.std.proofs.Common.{◌≡◌, ℕ, zero, suc, ◌+◌, ◌<◌, ◌�
 use Rattle.std.specs.Prelude.{All, unwrap_or}
 use Rattle.std.specs.Option.{option_to_list}
 use Rattle.std.proofs.lemmas.List.{map-append, reverse-append, reverse-reverse, drop_more, get_or_append_left, get_or_at, drop_all}
-use Rattle.cv_syntax.specs.declared.node.NodeId.{NodeId}
-use Rattle.cv_syntax.specs.declared.node.Kind.{Kind}
+use Rattle.cv_pool.specs.declared.node.NodeId.{NodeId}
+use Rattle.cv_pool.specs.declared.node.Kind.{Kind}
 use Rattle.cv_syntax.specs.declared.head.Head.{Head}
 use Rattle.cv_syntax.specs.declared.make.Make.{Make}
 use Rattle.cv_syntax.specs.declared.make.Make.TheVariants as make
 use Rattle.cv_syntax.specs.Head.{code, decoded, decoded-code}
-use Rattle.cv_syntax.specs.KindTree.{KindTree, NoTree, Fork}
-use Rattle.cv_syntax.specs.Nodes.{at, child, ChildBelow}
+use Rattle.cv_pool.specs.KindTree.{KindTree, NoTree, Fork}
+use Rattle.cv_pool.specs.Nodes.{at, child, ChildBelow}
 use Rattle.cv_syntax.specs.Planting.{overs}
-use Rattle.cv_syntax.specs.PoolView.{PoolView, Grows}
+use Rattle.cv_pool.specs.PoolView.{PoolView, Grows}
 use Rattle.cv_syntax.specs.Postorder.{joined, made, postorder, made-postorder}
 use Rattle.cv_syntax.specs.Tree.{Tree, Empty, Node, tree_of, tree_at}
-use Rattle.cv_syntax.proofs.Growth.{Grows-child, Grows-length, Grows-trans, ChildBelow-more}
+use Rattle.cv_pool.proofs.Growth.{Grows-child, Grows-length, Grows-trans, ChildBelow-more}
 use Rattle.std.proofs.lemmas.List.Elements.{All-append}
 
 pub tree_of-none : tree_of NoTree ≡ Empty

@@ -2,13 +2,13 @@
 use Rattle.std.proofs.Common.{◌≡◌, ℕ, zero, suc, ◌+◌, ◌<◌, ◌≤◌, max, List, [], ◌∷◌, ◌++◌, length, refl, ap, sym, ◌∙◌, arith, length-append, Option, Some, None, Ok, Err, Result}
 use Rattle.std.specs.Prelude.{slice_get, ◌==◌, if◌then◌else◌}
 use Rattle.cv_syntax.specs.declared.head.Head.{Head}
-use Rattle.cv_syntax.specs.declared.node.NodeId.{NodeId}
+use Rattle.cv_pool.specs.declared.node.NodeId.{NodeId}
 use Rattle.cv_syntax.specs.declared.open.Opened.{Opened}
 use Rattle.cv_syntax.specs.declared.head.Head.TheVariants.{Cons}
 use Rattle.cv_syntax.specs.Head.{weight, decoded}
-use Rattle.cv_syntax.specs.declared.node.Kind.{Kind}
-use Rattle.cv_syntax.specs.KindTree.{KindTree, NoTree, Fork}
-use Rattle.cv_syntax.specs.Nodes.{ChildBelow}
+use Rattle.cv_pool.specs.declared.node.Kind.{Kind}
+use Rattle.cv_pool.specs.KindTree.{KindTree, NoTree, Fork}
+use Rattle.cv_pool.specs.Nodes.{ChildBelow}
 use Rattle.cv_syntax.specs.Tree.{Tree, Empty, Node, size, depth, tops, children, tree_of, tree_at}
 use Rattle.cv_syntax.specs.Walks.{Reaches, above}
 

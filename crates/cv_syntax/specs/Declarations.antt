@@ -3,8 +3,8 @@ use Rattle.std.specs.Prelude.{ℕ, List, Option, Some, None, map}
 use Rattle.cv_syntax.specs.declared.decls.Class.{Class}
 use Rattle.cv_syntax.specs.declared.decls.Decl.{Decl}
 use Rattle.cv_syntax.specs.declared.decls.Decl.TheVariants as decl
-use Rattle.cv_syntax.specs.declared.names.NameId.{NameId}
-use Rattle.cv_syntax.specs.KindTree.{KindTree}
+use Rattle.cv_names.specs.declared.names.NameId.{NameId}
+use Rattle.cv_pool.specs.KindTree.{KindTree}
 use Rattle.cv_syntax.specs.Tree.{Tree, tree_at}
 
 -- a declaration, with its trees

@@ -1,7 +1,7 @@
 -- Heads of nodes, and the kinds that a pool keeps of them.
 use Rattle.std.specs.Prelude.{◌≡◌, ℕ, ◌+◌, ◌*◌, ◌/◌, ◌%◌, ◌^◌, Bool, ◌&&◌, ◌==◌, nat_lt, if◌then◌else◌, refl}
 use Rattle.std.proofs.Common.{ap, arith}
-use Rattle.cv_syntax.specs.declared.node.Kind.{Kind}
+use Rattle.cv_pool.specs.declared.node.Kind.{Kind}
 use Rattle.cv_syntax.specs.declared.head.Head.{Head}
 use Rattle.cv_syntax.specs.declared.head.Head.TheVariants.{Stop, Yield, Par, Repl, In, Out, Event, New, Let, If, Find, Branch, Leaf, Read, Apply, Eq, And, Or, Not, Yes, No, Cons, Binder, Name, Number, Forall, Query, Occurs, OccursOnce, Secret, SecretOnce, Equivalence, Bound, Single, Oracle, RenameStep, RewriteStep, PruneStep, PickStep, MergeStep, SplitStep, LetStep, NewStep, UnletStep, UnnewStep, MoveStep, ArrayRenameStep, AddCellStep, DropCellStep, BirthdayStep, GuessStep, FreshStep, CryptoStep, SuccessStep, SimplifyStep, ThenPart, ElsePart, BranchPart, Line, Defined, Cases, Primed, ByFact, ByHere, ByOf, BySite, ByEquation, ByRefl, BySym, ByTrans, ByCong, ByMp, ByAnd, ByLeft, ByRight, ByContra, ByExfalso, ByData, ByGiven, ByAgain, ByBool, ByOtherFact, ByOtherHere, BySame, ByDistinct, EventsCertificate, SecretCertificate, NeverEntry, WithEntry, AboveRoute, CellRoute, HoldsRoute, Pair, Key, Call}
 

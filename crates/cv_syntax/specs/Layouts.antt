@@ -4,9 +4,9 @@ use Rattle.cv_syntax.specs.declared.head.Head.{Head}
 use Rattle.cv_syntax.specs.declared.head.Head.TheVariants.{Par, Let, Eq, And, Or, Not, If, Read, Apply, In, Out, Branch, Cons}
 use Rattle.cv_syntax.specs.declared.layout.Layout.{Layout}
 use Rattle.cv_syntax.specs.declared.layout.Layout.TheVariants.{Lone, One, Two, Three, Listed, Rest, Taking, Giving, Chosen}
-use Rattle.cv_syntax.specs.declared.node.NodeId.{NodeId}
+use Rattle.cv_pool.specs.declared.node.NodeId.{NodeId}
 use Rattle.cv_syntax.specs.Head.{weight}
-use Rattle.cv_syntax.specs.KindTree.{KindTree}
+use Rattle.cv_pool.specs.KindTree.{KindTree}
 use Rattle.cv_syntax.specs.Tree.{Tree, Empty, Node, chain, tree_at}
 
 -- the layout that a head has with as many children as it asks for

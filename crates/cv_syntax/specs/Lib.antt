@@ -1,12 +1,8 @@
 pub mod Classes
 pub mod Declarations
 pub mod Head
-pub mod KindTree
 pub mod Layouts
-pub mod Nodes
 pub mod Planting
-pub mod PoolView
 pub mod Postorder
-pub mod Texts
 pub mod Tree
 pub mod Walks

@@ -3,10 +3,10 @@
 use Rattle.std.specs.Prelude.{ℕ, ◌+◌, ◌-◌, max, Bool, true, false, ◌&&◌, ◌||◌, ◌==◌, nat_lt, if◌then◌else◌, List, [], ◌∷◌, ◌++◌, Option, Some, None}
 use Rattle.cv_syntax.specs.declared.head.Head.{Head}
 use Rattle.cv_syntax.specs.declared.head.Head.TheVariants.{Cons, Binder, Name, Leaf, Read}
-use Rattle.cv_syntax.specs.declared.node.NodeId.{NodeId}
+use Rattle.cv_pool.specs.declared.node.NodeId.{NodeId}
 use Rattle.cv_syntax.specs.Head.{weight, decoded, same_head}
-use Rattle.cv_syntax.specs.KindTree.{KindTree, NoTree, Fork}
-use Rattle.cv_syntax.specs.Nodes.{child}
+use Rattle.cv_pool.specs.KindTree.{KindTree, NoTree, Fork}
+use Rattle.cv_pool.specs.Nodes.{child}
 
 pub data Tree : Type 0 where
   Empty : Tree

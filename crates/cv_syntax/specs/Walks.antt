@@ -1,7 +1,7 @@
 -- What a walk over the syntax nodes of a tree finds.
 use Rattle.std.specs.Prelude.{◌≡◌, ℕ, ◌+◌, ◌<◌, List, length, slice_get, Option, Some, None, Result, MatchResult}
-use Rattle.cv_syntax.specs.declared.node.NodeId.{NodeId}
-use Rattle.cv_syntax.specs.KindTree.{KindTree}
+use Rattle.cv_pool.specs.declared.node.NodeId.{NodeId}
+use Rattle.cv_pool.specs.KindTree.{KindTree}
 use Rattle.cv_syntax.specs.Tree.{Tree, tree_at}
 
 -- a node below a bound, that stands for the tree at a place of the list; or how many places lie past the list

@@ -1,20 +1,19 @@
 ghost use Rattle.std.specs.Prelude.{◌≡◌, ◌+◌, ◌<◌, ◌≤◌, List, All, Some, length};
 ghost use Rattle.cv_syntax.specs.Head.{decoded};
-ghost use Rattle.cv_syntax.specs.KindTree.{kind_of};
+ghost use Rattle.cv_pool.specs.KindTree.{kind_of};
 ghost use Rattle.cv_syntax.specs.Layouts.{arranged, shape_of, layout_of, IsLaidOut, first_part, second_part, first_cost, second_cost, trees_of, IsSyntax};
-ghost use Rattle.cv_syntax.specs.Nodes.{at, ChildBelow};
-ghost use Rattle.cv_syntax.specs.PoolView.{Grows};
+ghost use Rattle.cv_pool.specs.Nodes.{at, ChildBelow};
+ghost use Rattle.cv_pool.specs.PoolView.{Grows};
 ghost use Rattle.cv_syntax.specs.Tree as tree;
 ghost use Rattle.cv_syntax.specs.Tree.{Tree, Node, tree_at};
 
 use crate::head::Head;
 use crate::layout::Layout;
-use crate::node::{Kind, NodeId};
-use crate::pool::Pool;
+use cv_pool::{Kind, NodeId, Pool};
 
 /// A node over the children that are given, laid out as nodes of this kind are: without binders, and without
 /// the indices of a channel. Where a kind does not have so many children, all but the last become a list.
-#[tactic(auto, using(crate::proofs::Growth::growth, crate::proofs::Buildings::kept))]
+#[tactic(auto, using(cv_pool::proofs::Growth::growth, crate::proofs::Buildings::kept))]
 pub fn build(pool: &mut Pool, kind: Kind, kids: &[NodeId]) -> NodeId
     requires spare { length kids.now + 1 ≤ pool.old.spare }
     requires kids { All (λ n. n.0 < length pool.old.trees) kids.now }
@@ -37,7 +36,7 @@ pub fn built_children()
 {}
 
 /// The first child of a node of this layout.
-#[tactic(auto, using(crate::proofs::Growth::growth, crate::proofs::Buildings::kept))]
+#[tactic(auto, using(cv_pool::proofs::Growth::growth, crate::proofs::Buildings::kept))]
 fn first_part(pool: &mut Pool, layout: Layout, kids: &[NodeId]) -> Option<NodeId>
     requires laid { IsLaidOut layout (length kids.now) }
     requires spare { first_cost layout (length kids.now) ≤ pool.old.spare }
@@ -65,7 +64,7 @@ fn first_part(pool: &mut Pool, layout: Layout, kids: &[NodeId]) -> Option<NodeId
 }
 
 /// The second child of a node of this layout.
-#[tactic(auto, using(crate::proofs::Growth::growth, crate::proofs::Buildings::kept))]
+#[tactic(auto, using(cv_pool::proofs::Growth::growth, crate::proofs::Buildings::kept))]
 fn second_part(pool: &mut Pool, layout: Layout, kids: &[NodeId]) -> Option<NodeId>
     requires laid { IsLaidOut layout (length kids.now) }
     requires spare { second_cost layout (length kids.now) ≤ pool.old.spare }
@@ -100,7 +99,7 @@ fn second_part(pool: &mut Pool, layout: Layout, kids: &[NodeId]) -> Option<NodeI
 }
 
 /// A list of trees.
-#[tactic(auto, using(crate::proofs::Growth::growth, crate::proofs::Buildings::kept))]
+#[tactic(auto, using(cv_pool::proofs::Growth::growth, crate::proofs::Buildings::kept))]
 fn chain(pool: &mut Pool, kids: &[NodeId]) -> Option<NodeId>
     requires spare { length kids.now ≤ pool.old.spare }
     requires kids { All (λ n. n.0 < length pool.old.trees) kids.now }
@@ -119,7 +118,7 @@ fn chain(pool: &mut Pool, kids: &[NodeId]) -> Option<NodeId>
 }
 
 /// A node over two children.
-#[tactic(auto, using(crate::proofs::Growth::growth))]
+#[tactic(auto, using(cv_pool::proofs::Growth::growth))]
 fn join(pool: &mut Pool, kind: Kind, first: Option<NodeId>, second: Option<NodeId>) -> NodeId
     requires spare { 0 < pool.old.spare }
     requires first { ChildBelow (length pool.old.trees) first }

@@ -2,13 +2,13 @@ ghost use Rattle.std.specs.Prelude.{◌↔◌, All, None, ◌≡◌, ◌+◌, �
 ghost use Rattle.std.specs.Option.{option_copied};
 ghost use Rattle.cv_syntax.specs.Classes.{DeclsView, id_of, declaration_in, class_by, class_in, result_in, args_in, equiv_in, equations, queries, from_one, name_at, IsNamed, IsNew};
 ghost use Rattle.cv_syntax.specs.Declarations.{number};
-ghost use Rattle.cv_syntax.specs.Nodes.{ChildBelow};
+ghost use Rattle.cv_pool.specs.Nodes.{ChildBelow};
 ghost use Rattle.cv_syntax.specs.Tree.{tree_at};
 
 use crate::head::Head;
-use crate::names::NameId;
-use crate::node::NodeId;
-use crate::pool::Pool;
+use crate::open::read_node;
+use cv_names::NameId;
+use cv_pool::{NodeId, Pool};
 use std::alloc::{AllocError, Global};
 use std::collections::HashMap;
 use std::marker::Model;
@@ -261,7 +261,7 @@ fn name(pool: &Pool, list: Option<NodeId>, k: u32) -> Option<NameId>
     let mut left = k;
     let mut at = list;
     'chain: while let Some(n) = at {
-        let node = pool.opened(n);
+        let node = read_node(pool, n);
         if left == 0 {
             return match node.head {
                 Head::Name(x) => Some(NameId(x)),

@@ -1,7 +1,7 @@
 ghost use Rattle.std.specs.Prelude.{◌≡◌, ◌≤◌, ℕ, ◌+◌, ◌*◌, ◌/◌, ◌%◌, ◌^◌};
 ghost use Rattle.cv_syntax.specs.Head.{code, decoded, weight};
 
-use crate::node::Kind;
+use cv_pool::Kind;
 
 /// What a node of a tree is, with the numbers of the names that it holds.
 #[derive(Clone, Copy, Debug, PartialEq, Eq)]

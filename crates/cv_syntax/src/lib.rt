@@ -6,23 +6,19 @@ mod decls;
 mod head;
 mod layout;
 mod make;
-mod names;
-mod node;
 mod open;
 mod planting;
-mod pool;
 mod walk;
 mod work;
 
 pub use building::{build, built_children};
+pub use cv_names::{NameError, NameId, Names};
+pub use cv_pool::{Kind, Mark, NodeId, Pool, PoolError};
 pub use decls::{Class, Decl, Decls};
 pub use head::Head;
 pub use make::Make;
-pub use names::{NameError, NameId, Names};
-pub use node::{Kind, Mark, NodeId};
-pub use open::Opened;
+pub use open::{Opened, read_node};
 pub use planting::plant;
-pub use pool::{Pool, PoolError};
 pub use walk::{child, depth, size};
 pub use work::{BuildError, File, Game, Work};
 

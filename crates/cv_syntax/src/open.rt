@@ -1,10 +1,9 @@
 ghost use Rattle.std.specs.Prelude.{◌≡◌, ◌<◌, ◌↔◌, length, Some, IsNone};
-ghost use Rattle.cv_syntax.specs.Nodes.{ChildBelow};
+ghost use Rattle.cv_pool.specs.Nodes.{ChildBelow};
 ghost use Rattle.cv_syntax.specs.Tree.{Tree, Empty, Node, tree_at};
 
 use crate::head::Head;
-use crate::node::NodeId;
-use crate::pool::Pool;
+use cv_pool::{NodeId, Pool};
 
 /// A node: what it is, and its children.
 #[derive(Clone, Copy, Debug)]
@@ -14,21 +13,19 @@ pub struct Opened {
     pub second: Option<NodeId>,
 }
 
-impl Pool {
-    /// Reads a node as a node of a tree.
-    #[tactic(auto, using(crate::proofs::Openings::openings))]
-    pub fn opened(&self, n: NodeId) -> Opened
-        requires { n.0 < length self.now.trees }
-        ensures tree { tree_at self.now.trees (Some n) ≡ Node result.head (tree_at self.now.trees result.first) (tree_at self.now.trees result.second) }
-        ensures first { ChildBelow n.0 result.first }
-        ensures second { ChildBelow n.0 result.second }
-        ensures no_first { IsNone result.first ↔ (tree_at self.now.trees result.first ≡ Empty) }
-        ensures no_second { IsNone result.second ↔ (tree_at self.now.trees result.second ≡ Empty) }
-    {
-        Opened {
-            head: Head::of(self.kind(n)),
-            first: self.kid(n, false),
-            second: self.kid(n, true),
-        }
+/// Reads a node of a pool as a node of a tree.
+#[tactic(auto, using(crate::proofs::Openings::openings))]
+pub fn read_node(pool: &Pool, n: NodeId) -> Opened
+    requires { n.0 < length pool.now.trees }
+    ensures tree { tree_at pool.now.trees (Some n) ≡ Node result.head (tree_at pool.now.trees result.first) (tree_at pool.now.trees result.second) }
+    ensures first { ChildBelow n.0 result.first }
+    ensures second { ChildBelow n.0 result.second }
+    ensures no_first { IsNone result.first ↔ (tree_at pool.now.trees result.first ≡ Empty) }
+    ensures no_second { IsNone result.second ↔ (tree_at pool.now.trees result.second ≡ Empty) }
+{
+    Opened {
+        head: Head::of(pool.kind(n)),
+        first: pool.kid(n, false),
+        second: pool.kid(n, true),
     }
 }

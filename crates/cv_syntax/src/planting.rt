@@ -1,14 +1,13 @@
 ghost use Rattle.std.specs.Prelude.{◌≡◌, ◌+◌, ◌<◌, ◌≤◌, ◌^◌, ◌↔◌, [], ◌∷◌, ℕ, List, length, map, reverse, flat_map, All, Some, IfOk, OnOk, OnErr, IsErrOf};
-ghost use Rattle.cv_syntax.specs.Nodes.{ChildBelow};
+ghost use Rattle.cv_pool.specs.Nodes.{ChildBelow};
 ghost use Rattle.cv_syntax.specs.Planting.{overs};
-ghost use Rattle.cv_syntax.specs.PoolView.{Grows};
+ghost use Rattle.cv_pool.specs.PoolView.{Grows};
 ghost use Rattle.cv_syntax.specs.Postorder.{joined, made, postorder};
 ghost use Rattle.cv_syntax.specs.Tree.{Tree, tree_at};
 
 use crate::head::Head;
 use crate::make::Make;
-use crate::node::NodeId;
-use crate::pool::{Pool, PoolError};
+use cv_pool::{NodeId, Pool, PoolError};
 use std::alloc::{AllocError, Global};
 
 /// How many nodes a list makes.

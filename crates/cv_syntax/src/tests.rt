@@ -2,41 +2,15 @@ use super::*;
 use std::test::Fail;
 
 #[test]
-fn a_pool_holds_its_limit(rt: HostRuntime) -> Result<(), Fail> {
-    let mut pool = Pool::new(rt.alloc(), 2);
-    assert_eq!(rt; pool.reserve(3), Err(PoolError::Full { need: 3 }));
-    assert_eq!(rt; pool.live(), 0);
-    assert_eq!(rt; pool.spare(), 0);
-    pool.reserve(2)?;
-    let leaf = pool.node(Head::Leaf(7).kind(), None, None);
-    let root = pool.node(Head::Not.kind(), Some(leaf), None);
-    assert_eq!(rt; pool.live(), 2);
-    assert_eq!(rt; pool.kid(root, false), Some(leaf));
+fn a_wide_head_is_read_back(rt: HostRuntime) -> Result<(), Fail> {
+    let high = Head::Find(1 << 32);
+    assert_eq!(rt; Head::of(high.kind()), Head::Find(4_294_967_296));
+    assert!(rt; high.kind() != Head::Find(1).kind());
     Ok(())
 }
 
 #[test]
-#[tactic(auto, using(crate::proofs::Growth::growth))]
-fn equal_trees_are_the_same(rt: HostRuntime) -> Result<(), Fail> {
-    let mut pool = Pool::new(rt.alloc(), 9);
-    pool.reserve(5)?;
-    let mark = pool.mark();
-    let stop = pool.node(Head::Stop.kind(), None, None);
-    let again = pool.node(Head::Stop.kind(), None, None);
-    let high = pool.node(Head::Find(1 << 32).kind(), Some(stop), Some(stop));
-    let low = pool.node(Head::Find(1).kind(), Some(stop), Some(again));
-    let found = pool.node(Head::Find(1).kind(), Some(again), Some(again));
-    assert!(rt; pool.same(stop, again));
-    assert!(rt; pool.same(low, found));
-    assert!(rt; !pool.same(high, low));
-    assert_eq!(rt; Head::of(pool.kind(high)), Head::Find(4_294_967_296));
-    pool.release(mark);
-    assert_eq!(rt; pool.live(), 0);
-    Ok(())
-}
-
-#[test]
-#[tactic(auto, using(crate::proofs::Growth::growth))]
+#[tactic(auto, using(cv_pool::proofs::Growth::growth))]
 fn an_input_is_walked(rt: HostRuntime) -> Result<(), Fail> {
     let mut pool = Pool::new(rt.alloc(), 9);
     pool.reserve(3)?;
@@ -47,7 +21,7 @@ fn an_input_is_walked(rt: HostRuntime) -> Result<(), Fail> {
     assert_eq!(rt; depth(&pool, root), 2);
     assert_eq!(rt; child(&pool, root, 0), Some(stop));
     assert_eq!(rt; child(&pool, root, 1), None);
-    assert_eq!(rt; pool.opened(root).head, Head::In(4));
+    assert_eq!(rt; read_node(&pool, root).head, Head::In(4));
     Ok(())
 }
 
@@ -74,7 +48,7 @@ fn two_trees_are_planted(rt: HostRuntime) -> Result<(), Fail> {
 }
 
 #[test]
-#[tactic(auto, using(crate::proofs::Growth::growth))]
+#[tactic(auto, using(cv_pool::proofs::Growth::growth))]
 fn an_if_is_built(rt: HostRuntime) -> Result<(), Fail> {
     let mut pool = Pool::new(rt.alloc(), 9);
     pool.reserve(7)?;
@@ -86,17 +60,6 @@ fn an_if_is_built(rt: HostRuntime) -> Result<(), Fail> {
     assert_eq!(rt; child(&pool, root, 1), Some(stop));
     assert_eq!(rt; child(&pool, root, 2), Some(end));
     assert_eq!(rt; child(&pool, root, 3), None);
-    Ok(())
-}
-
-#[test]
-fn names_are_declared_once(rt: HostRuntime) -> Result<(), Fail> {
-    let mut names = Names::new(rt.alloc());
-    assert_eq!(rt; names.declare("a"), Ok(NameId(0)));
-    assert_eq!(rt; names.declare("a"), Err(NameError::Twice(NameId(0))));
-    assert_eq!(rt; names.find("b"), None);
-    assert_eq!(rt; names.get(NameId(1)).is_none(), true);
-    assert_eq!(rt; names.get(NameId(0)).ok_or("no name")?, "a");
     Ok(())
 }
 
@@ -132,7 +95,7 @@ fn declarations_are_read(rt: HostRuntime) -> Result<(), Fail> {
 }
 
 #[test]
-#[tactic(auto, using(crate::proofs::Growth::growth))]
+#[tactic(auto, using(cv_pool::proofs::Growth::growth))]
 fn an_equivalence_and_a_function_are_read(rt: HostRuntime) -> Result<(), Fail> {
     let mut work = Work::new(rt.alloc(), 5);
     work.pool.reserve(1)?;

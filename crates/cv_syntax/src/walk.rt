@@ -1,11 +1,11 @@
 ghost use Rattle.std.specs.Prelude.{◌≡◌, ◌+◌, ◌<◌, ◌≤◌, ◌^◌, ℕ, length, option_map, slice_get, Some, IfSome};
-ghost use Rattle.cv_syntax.specs.Nodes.{ChildBelow};
+ghost use Rattle.cv_pool.specs.Nodes.{ChildBelow};
 ghost use Rattle.cv_syntax.specs.Tree as tree;
 ghost use Rattle.cv_syntax.specs.Tree.{tree_at};
 ghost use Rattle.cv_syntax.specs.Walks.{above, Reaches};
 
-use crate::node::NodeId;
-use crate::pool::Pool;
+use crate::open::read_node;
+use cv_pool::{NodeId, Pool};
 
 /// How many syntax nodes a tree has.
 #[tactic(auto, using(crate::proofs::Walking::walking))]
@@ -17,7 +17,7 @@ pub fn size(pool: &Pool, n: NodeId) -> u32
     let mut total = 0;
     let mut at = Some(n);
     'chain: while let Some(k) = at {
-        let node = pool.opened(k);
+        let node = read_node(pool, k);
         total += node.head.weight();
         if let Some(first) = node.first {
             total += size(pool, first);
@@ -38,7 +38,7 @@ pub fn depth(pool: &Pool, n: NodeId) -> u32
     let mut deepest = 0;
     let mut at = Some(n);
     'chain: while let Some(k) = at {
-        let node = pool.opened(k);
+        let node = read_node(pool, k);
         above += node.head.weight();
         let below = match node.first {
             Some(first) => depth(pool, first),
@@ -57,7 +57,7 @@ pub fn child(pool: &Pool, n: NodeId, k: u32) -> Option<NodeId>
     ensures child { option_map (λ c. tree_at pool.now.trees (Some c)) result ≡ slice_get (tree.children (tree_at pool.now.trees (Some n))) k }
     ensures below { ChildBelow n.0 result }
 {
-    let node = pool.opened(n);
+    let node = read_node(pool, n);
     match top(pool, node.first, k) {
         Ok(found) => Some(found),
         Err(left) => match top(pool, node.second, left) {
@@ -76,7 +76,7 @@ fn top(pool: &Pool, start: Option<NodeId>, place: u32) -> Result<NodeId, u32>
     let mut left = place;
     let mut at = start;
     'chain: while let Some(k) = at {
-        let node = pool.opened(k);
+        let node = read_node(pool, k);
         if node.head.weight() == 1 {
             return if left == 0 { Ok(k) } else { Err(left - 1) };
         }

@@ -1,9 +1,8 @@
 ghost use Rattle.std.specs.Prelude.{◌≡◌, []};
 
 use crate::decls::Decls;
-use crate::names::Names;
-use crate::node::NodeId;
-use crate::pool::Pool;
+use cv_names::Names;
+use cv_pool::{NodeId, Pool};
 use std::alloc::Global;
 
 /// What most calls work on: nodes, names and declarations.

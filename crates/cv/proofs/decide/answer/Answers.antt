@@ -1,6 +1,6 @@
 use Rattle.std.proofs.Common.{◌∙◌, ap, sym, map, length, Some, true, false, is_some, option_map}
 use Rattle.std.specs.List.{list_all}
-use Rattle.cv_syntax.specs.declared.node.NodeId.{NodeId}
+use Rattle.cv_pool.specs.declared.node.NodeId.{NodeId}
 use Rattle.cv_syntax.specs.Classes.{queries}
 use Rattle.cv_syntax.specs.Tree.{tree_at}
 use Rattle.cv_direct.specs.Found.{entry_trees}

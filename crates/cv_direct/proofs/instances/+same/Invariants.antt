@@ -1,5 +1,5 @@
 use Rattle.std.proofs.Common.{◌≡◌, ◌≤◌, length}
-use Rattle.cv_syntax.specs.Nodes.{ChildBelow}
+use Rattle.cv_pool.specs.Nodes.{ChildBelow}
 use Rattle.cv_syntax.specs.Tree.{same_tree, tree_at}
 use Rattle.cv_syntax.specs.Walks.{above}
 use Rattle.cv_direct.proofs.instances.+same.Given as goal

@@ -1,6 +1,6 @@
 use Rattle.std.proofs.Common.{rules, arith, refl, subst, List, ◌≡◌, ◌+◌, ◌++◌, ap, sym, ◌∙◌, length, map, Some, None}
 use Rattle.std.specs.Prelude.{All}
-use Rattle.cv_syntax.specs.Nodes.{ChildBelow}
+use Rattle.cv_pool.specs.Nodes.{ChildBelow}
 use Rattle.cv_direct.specs.declared.search.Seen.{Seen}
 use Rattle.cv_syntax.specs.Head.{weight}
 use Rattle.cv_syntax.specs.Tree.{Node, size, tree_at}
@@ -13,8 +13,8 @@ pub returns-then-not-branch-2-clause-entries : goal.returns-then-not-branch-2-cl
 returns-then-not-branch-2-clause-entries t c =
     let trees = c.args.pool.now.trees in
     let w = wanted trees c.args.sought in
-    let o = c.opened-node.result in
-    let here : tree_at trees c.path.at ≡ Node o.head (tree_at trees o.first) (tree_at trees o.second) = ap (tree_at trees) c.in-Some.is ∙ c.opened-node.ensures.tree in
+    let o = c.read_node-node.result in
+    let here : tree_at trees c.path.at ≡ Node o.head (tree_at trees o.first) (tree_at trees o.second) = ap (tree_at trees) c.in-Some.is ∙ c.read_node-node.ensures.tree in
     let entered : joined (Some (entry_trees trees c.path.search.entries.items)) (head_entries w (map (placed trees) c.path.search.above.items) c.path.search.place o.head (tree_at trees o.first)) ≡ Some (entry_trees trees c.enter.new.search.entries.items) = search rules in
     let walked : joined (Some (entry_trees trees c.enter.new.search.entries.items)) (entries_of w (map (placed trees) c.enter.new.search.above.items) (c.enter.new.search.place + c.weight.result) (tree_at trees o.first)) ≡ None = search rules in
     let above : map (placed trees) c.enter.new.search.above.items ≡ map (placed trees) c.path.search.above.items = search rules in
@@ -26,8 +26,8 @@ pub path-preserved : goal.path-preserved
 path-preserved t c =
     let trees = c.args.pool.now.trees in
     let w = wanted trees c.args.sought in
-    let o = c.opened-node.result in
-    let here : tree_at trees c.path.at ≡ Node o.head (tree_at trees o.first) (tree_at trees o.second) = ap (tree_at trees) c.in-Some.is ∙ c.opened-node.ensures.tree in
+    let o = c.read_node-node.result in
+    let here : tree_at trees c.path.at ≡ Node o.head (tree_at trees o.first) (tree_at trees o.second) = ap (tree_at trees) c.in-Some.is ∙ c.read_node-node.ensures.tree in
     let entered : joined (Some (entry_trees trees c.path.search.entries.items)) (head_entries w (map (placed trees) c.path.search.above.items) c.path.search.place o.head (tree_at trees o.first)) ≡ Some (entry_trees trees c.enter.new.search.entries.items) = search rules in
     let walked : joined (Some (entry_trees trees c.enter.new.search.entries.items)) (entries_of w (map (placed trees) c.enter.new.search.above.items) (c.enter.new.search.place + c.weight.result) (tree_at trees o.first)) ≡ Some (entry_trees trees c.note.new.search.entries.items) = search rules in
     let above : map (placed trees) c.enter.new.search.above.items ≡ map (placed trees) c.path.search.above.items = search rules in

@@ -1,6 +1,6 @@
 use Rattle.std.proofs.Common.{◌≡◌, ◌≤◌, ◌+◌, length, map, take, Some}
 use Rattle.std.specs.Prelude.{All}
-use Rattle.cv_syntax.specs.Nodes.{ChildBelow}
+use Rattle.cv_pool.specs.Nodes.{ChildBelow}
 use Rattle.cv_syntax.specs.Tree.{size, tree_at}
 use Rattle.cv_syntax.specs.Walks.{above}
 use Rattle.cv_direct.specs.Found.{RoutesBelow, entry_trees, placed, SeenBelow, wanted}

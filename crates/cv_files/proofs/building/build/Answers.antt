@@ -1,5 +1,5 @@
 use Rattle.std.proofs.Common.{All, length, map, subst, sym, ap, ◌∙◌, arith}
-use Rattle.cv_syntax.specs.Nodes.{ChildBelow}
+use Rattle.cv_pool.specs.Nodes.{ChildBelow}
 use Rattle.cv_syntax.specs.Tree.{tree_at, size}
 use Rattle.cv_parse.specs.Gives.{uses_of}
 use Rattle.cv_files.specs.Accepted.{is_small}

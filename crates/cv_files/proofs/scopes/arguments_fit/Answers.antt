@@ -5,17 +5,17 @@ use Rattle.cv_files.proofs.Typings.{and-false, and-true, arguments-end, argument
 use Rattle.cv_files.proofs.scopes.arguments_fit.Goals as goal
 
 pub returns-in_default-at : goal.returns-in_default-at
-returns-in_default-at c = sym (arguments-short (scope_of c.args.scope.now) (tree_at c.args.pool.now.trees c.types.wanted) (tree_at c.args.pool.now.trees c.types.at) c.opened-kind.result.head (tree_at c.args.pool.now.trees c.opened-kind.result.first) (tree_at c.args.pool.now.trees c.opened-kind.result.second) (ap (tree_at c.args.pool.now.trees) c.in-Some.is ∙ c.opened-kind.ensures.tree) (empty-at c.args.pool.now.trees c.types.at c.in_default-at.is)) ∙ c.types.invariant.same
+returns-in_default-at c = sym (arguments-short (scope_of c.args.scope.now) (tree_at c.args.pool.now.trees c.types.wanted) (tree_at c.args.pool.now.trees c.types.at) c.read_node-kind.result.head (tree_at c.args.pool.now.trees c.read_node-kind.result.first) (tree_at c.args.pool.now.trees c.read_node-kind.result.second) (ap (tree_at c.args.pool.now.trees) c.in-Some.is ∙ c.read_node-kind.ensures.tree) (empty-at c.args.pool.now.trees c.types.at c.in_default-at.is)) ∙ c.types.invariant.same
 
 pub returns-then-not-is_of_type : goal.returns-then-not-is_of_type
-returns-then-not-is_of_type c = and-false _ _ _ _ (arguments-step (scope_of c.args.scope.now) (tree_at c.args.pool.now.trees c.types.wanted) (tree_at c.args.pool.now.trees c.types.at) c.opened-kind.result.head (tree_at c.args.pool.now.trees c.opened-kind.result.first) (tree_at c.args.pool.now.trees c.opened-kind.result.second) c.opened-cell.result.head (tree_at c.args.pool.now.trees c.opened-cell.result.first) (tree_at c.args.pool.now.trees c.opened-cell.result.second) (ap (tree_at c.args.pool.now.trees) c.in-Some.is ∙ c.opened-kind.ensures.tree) (ap (tree_at c.args.pool.now.trees) c.in-Some-at.is ∙ c.opened-cell.ensures.tree)) c.types.invariant.same (sym (c.is_of_type.ensures ∙ ap (is_of_type c.opened-kind.result.head) (c.type_in.ensures ∙ ap (option_and_then (scope_of c.args.scope.now)) c.variable.ensures)) ∙ c.if-not-is_of_type.true)
+returns-then-not-is_of_type c = and-false _ _ _ _ (arguments-step (scope_of c.args.scope.now) (tree_at c.args.pool.now.trees c.types.wanted) (tree_at c.args.pool.now.trees c.types.at) c.read_node-kind.result.head (tree_at c.args.pool.now.trees c.read_node-kind.result.first) (tree_at c.args.pool.now.trees c.read_node-kind.result.second) c.read_node-cell.result.head (tree_at c.args.pool.now.trees c.read_node-cell.result.first) (tree_at c.args.pool.now.trees c.read_node-cell.result.second) (ap (tree_at c.args.pool.now.trees) c.in-Some.is ∙ c.read_node-kind.ensures.tree) (ap (tree_at c.args.pool.now.trees) c.in-Some-at.is ∙ c.read_node-cell.ensures.tree)) c.types.invariant.same (sym (c.is_of_type.ensures ∙ ap (is_of_type c.read_node-kind.result.head) (c.type_in.ensures ∙ ap (option_and_then (scope_of c.args.scope.now)) c.variable.ensures)) ∙ c.if-not-is_of_type.true)
 
 pub types-preserved : goal.types-preserved
 types-preserved c = record {
-  wanted = child-live (length c.args.pool.now.trees) c.types.wanted c.in-Some.n c.opened-kind.result.second c.in-Some.is c.types.invariant.wanted c.opened-kind.ensures.second;
-  live = child-live (length c.args.pool.now.trees) c.types.at c.in-Some-at.k c.opened-cell.result.second c.in-Some-at.is c.types.invariant.live c.opened-cell.ensures.second;
-  none = c.opened-cell.ensures.no_second;
-  same = and-true _ _ _ _ (arguments-step (scope_of c.args.scope.now) (tree_at c.args.pool.now.trees c.types.wanted) (tree_at c.args.pool.now.trees c.types.at) c.opened-kind.result.head (tree_at c.args.pool.now.trees c.opened-kind.result.first) (tree_at c.args.pool.now.trees c.opened-kind.result.second) c.opened-cell.result.head (tree_at c.args.pool.now.trees c.opened-cell.result.first) (tree_at c.args.pool.now.trees c.opened-cell.result.second) (ap (tree_at c.args.pool.now.trees) c.in-Some.is ∙ c.opened-kind.ensures.tree) (ap (tree_at c.args.pool.now.trees) c.in-Some-at.is ∙ c.opened-cell.ensures.tree)) c.types.invariant.same (sym (c.is_of_type.ensures ∙ ap (is_of_type c.opened-kind.result.head) (c.type_in.ensures ∙ ap (option_and_then (scope_of c.args.scope.now)) c.variable.ensures)) ∙ c.if-not-is_of_type.false);
+  wanted = child-live (length c.args.pool.now.trees) c.types.wanted c.in-Some.n c.read_node-kind.result.second c.in-Some.is c.types.invariant.wanted c.read_node-kind.ensures.second;
+  live = child-live (length c.args.pool.now.trees) c.types.at c.in-Some-at.k c.read_node-cell.result.second c.in-Some-at.is c.types.invariant.live c.read_node-cell.ensures.second;
+  none = c.read_node-cell.ensures.no_second;
+  same = and-true _ _ _ _ (arguments-step (scope_of c.args.scope.now) (tree_at c.args.pool.now.trees c.types.wanted) (tree_at c.args.pool.now.trees c.types.at) c.read_node-kind.result.head (tree_at c.args.pool.now.trees c.read_node-kind.result.first) (tree_at c.args.pool.now.trees c.read_node-kind.result.second) c.read_node-cell.result.head (tree_at c.args.pool.now.trees c.read_node-cell.result.first) (tree_at c.args.pool.now.trees c.read_node-cell.result.second) (ap (tree_at c.args.pool.now.trees) c.in-Some.is ∙ c.read_node-kind.ensures.tree) (ap (tree_at c.args.pool.now.trees) c.in-Some-at.is ∙ c.read_node-cell.ensures.tree)) c.types.invariant.same (sym (c.is_of_type.ensures ∙ ap (is_of_type c.read_node-kind.result.head) (c.type_in.ensures ∙ ap (option_and_then (scope_of c.args.scope.now)) c.variable.ensures)) ∙ c.if-not-is_of_type.false);
 }
 
 pub returns : goal.returns

@@ -1,9 +1,9 @@
 use Rattle.std.proofs.Common.{arith, ◌≡◌, ◌+◌, ◌-◌, drop, ap, ◌∙◌, get_or, refl}
-use Rattle.cv_syntax.specs.declared.node.NodeId.{NodeId}
+use Rattle.cv_pool.specs.declared.node.NodeId.{NodeId}
 use Rattle.cv_syntax.specs.Layouts.{trees_of}
 use Rattle.cv_syntax.specs.Tree.{chain}
 use Rattle.cv_syntax.proofs.Buildings.{list-init, chain-step}
-use Rattle.cv_syntax.proofs.Growth.{Grows-refl, Grows-trans}
+use Rattle.cv_pool.proofs.Growth.{Grows-refl, Grows-trans}
 use Rattle.cv_syntax.proofs.building.chain.Goals as goal
 
 pub items-init : goal.items-init

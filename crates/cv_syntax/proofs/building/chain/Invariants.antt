@@ -1,7 +1,7 @@
 use Rattle.std.proofs.Common.{◌≡◌, ◌+◌, ◌≤◌, drop, length}
 use Rattle.cv_syntax.specs.Layouts.{trees_of}
-use Rattle.cv_syntax.specs.Nodes.{ChildBelow}
-use Rattle.cv_syntax.specs.PoolView.{Grows}
+use Rattle.cv_pool.specs.Nodes.{ChildBelow}
+use Rattle.cv_pool.specs.PoolView.{Grows}
 use Rattle.cv_syntax.specs.Tree.{chain, tree_at}
 use Rattle.cv_syntax.proofs.building.chain.Given as goal
 

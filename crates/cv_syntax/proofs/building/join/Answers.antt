@@ -1,4 +1,4 @@
-use Rattle.cv_syntax.specs.Nodes.{at, child}
+use Rattle.cv_pool.specs.Nodes.{at, child}
 use Rattle.cv_syntax.proofs.Buildings.{tree-node}
 use Rattle.cv_syntax.proofs.building.join.Goals as goal
 

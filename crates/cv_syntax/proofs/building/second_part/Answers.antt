@@ -1,5 +1,5 @@
 use Rattle.std.proofs.Common.{ap, sym, ◌∙◌, length, subst}
-use Rattle.cv_syntax.specs.declared.node.NodeId.{NodeId}
+use Rattle.cv_pool.specs.declared.node.NodeId.{NodeId}
 use Rattle.cv_syntax.specs.Layouts.{trees_of, second_part, IsLaidOut}
 use Rattle.cv_syntax.proofs.Buildings.{nothing, three, chosen}
 use Rattle.cv_syntax.proofs.building.second_part.Goals as goal

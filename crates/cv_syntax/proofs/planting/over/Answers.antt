@@ -1,7 +1,7 @@
 use Rattle.std.proofs.Common.{arith, length}
 use Rattle.std.specs.Option.{option_to_list}
-use Rattle.cv_syntax.specs.Nodes.{ChildBelow}
-use Rattle.cv_syntax.proofs.Growth.{Grows-length}
+use Rattle.cv_pool.specs.Nodes.{ChildBelow}
+use Rattle.cv_pool.proofs.Growth.{Grows-length}
 use Rattle.cv_syntax.proofs.Plantings.{over-trees, All-front, All-grows}
 use Rattle.cv_syntax.proofs.planting.over.Goals as goal
 

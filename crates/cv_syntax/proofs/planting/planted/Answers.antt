@@ -1,9 +1,9 @@
 use Rattle.std.proofs.Common.{arith, map, reverse, drop, ap, sym, ◌∙◌, ◌≤◌, ◌+◌, subst, None, Some}
 use Rattle.std.proofs.lemmas.List.{reverse-reverse}
-use Rattle.cv_syntax.specs.PoolView.{PoolView, Grows}
+use Rattle.cv_pool.specs.PoolView.{PoolView, Grows}
 use Rattle.cv_syntax.specs.Planting.{overs}
 use Rattle.cv_syntax.specs.Tree.{tree_at}
-use Rattle.cv_syntax.proofs.Growth.{Grows-trans}
+use Rattle.cv_pool.proofs.Growth.{Grows-trans}
 use Rattle.cv_syntax.proofs.Plantings.{step-nothing, step-over, step-live, overs-nothing, overs-over, made-all}
 use Rattle.cv_syntax.proofs.planting.planted.Goals as goal
 use Rattle.cv_syntax.proofs.planting.planted.Goals.{in-Nothing, in-Over}

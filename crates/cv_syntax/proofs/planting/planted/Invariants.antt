@@ -1,8 +1,8 @@
 use Rattle.std.proofs.Common.{◌≡◌, ◌≤◌, drop, length, map, [], reverse}
 use Rattle.std.specs.Prelude.{All}
-use Rattle.cv_syntax.specs.Nodes.{ChildBelow}
+use Rattle.cv_pool.specs.Nodes.{ChildBelow}
 use Rattle.cv_syntax.specs.Planting.{overs}
-use Rattle.cv_syntax.specs.PoolView.{Grows}
+use Rattle.cv_pool.specs.PoolView.{Grows}
 use Rattle.cv_syntax.specs.Postorder.{made}
 use Rattle.cv_syntax.specs.Tree.{tree_at}
 use Rattle.cv_syntax.proofs.planting.planted.Given as goal

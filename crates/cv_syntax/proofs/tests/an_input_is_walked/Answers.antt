@@ -1,8 +1,8 @@
 use Rattle.std.proofs.Common.{arith, ap}
-use Rattle.cv_syntax.specs.KindTree.{NoTree}
-use Rattle.cv_syntax.specs.Nodes.{at}
+use Rattle.cv_pool.specs.KindTree.{NoTree}
+use Rattle.cv_pool.specs.Nodes.{at}
 use Rattle.cv_syntax.specs.Tree.{size, tree_of}
-use Rattle.cv_syntax.proofs.Growth.{Grows-at}
+use Rattle.cv_pool.proofs.Growth.{Grows-at}
 use Rattle.cv_syntax.proofs.Walking.{size-fork, size-nothing}
 use Rattle.cv_syntax.proofs.tests.an_input_is_walked.Goals as goal
 

@@ -1,7 +1,7 @@
 use Rattle.std.proofs.Common.{◌≤◌, ℕ, length}
 use Rattle.std.specs.Prelude.{Result}
-use Rattle.cv_syntax.specs.declared.node.NodeId.{NodeId}
-use Rattle.cv_syntax.specs.Nodes.{ChildBelow}
+use Rattle.cv_pool.specs.declared.node.NodeId.{NodeId}
+use Rattle.cv_pool.specs.Nodes.{ChildBelow}
 use Rattle.cv_syntax.specs.Tree as tree
 use Rattle.cv_syntax.specs.Tree.{tree_at}
 use Rattle.cv_syntax.specs.Walks.{above, Reaches}

@@ -1,6 +1,6 @@
 use Rattle.std.proofs.Common.{◌≡◌, ◌<◌, ◌≤◌, ◌↔◌, length}
-use Rattle.cv_syntax.specs.Nodes.{at}
-use Rattle.cv_syntax.proofs.pool.Pool.+same.Given as goal
+use Rattle.cv_pool.specs.Nodes.{at}
+use Rattle.cv_pool.proofs.pool.Pool.+same.Given as goal
 
 abbrev pub decreases-same : goal.decreases-same
 decreases-same l = l.a.0

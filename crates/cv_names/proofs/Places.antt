@@ -10,8 +10,8 @@ use Rattle.std.proofs.lemmas.Slice.Eq.{bytes_eq-Decides}
 use Rattle.std.proofs.lemmas.List.Quantifiers.{position-Some}
 use Rattle.std.proofs.lemmas.Bool.{false_from_ne_true}
 use Rattle.indexmap.specs.IndexSet.{insert_key}
-use Rattle.cv_syntax.specs.declared.names.NameId.{NameId}
-use Rattle.cv_syntax.specs.Texts.{NoRepeat, texts_of}
+use Rattle.cv_names.specs.declared.names.NameId.{NameId}
+use Rattle.cv_names.specs.Texts.{NoRepeat, texts_of}
 
 pub length-texts : (keys : List (String Global)) → length (texts_of keys) ≡ length keys
 length-texts keys = length-map keys string_bytes

@@ -1,10 +1,10 @@
 use Rattle.std.proofs.Common.{◌≡◌, ℕ, zero, suc, ◌+◌, ◌<◌, ◌≤◌, List, [], ◌∷◌, ◌++◌, length, take, refl, ap, sym, ◌∙◌, append_assoc, arith, length-append, get_or, subst, Option, Some, None, true, false, IsNone, ◌↔◌, ◌≢◌, add-zero, append-nil}
 use Rattle.std.proofs.Math.Seq.{take-append_seam, take-length, get_or-append_seam}
 use Rattle.std.proofs.lemmas.List.{get_or_append_left}
-use Rattle.cv_syntax.specs.declared.node.NodeId.{NodeId}
-use Rattle.cv_syntax.specs.declared.node.Entry.{Entry}
-use Rattle.cv_syntax.specs.KindTree.{KindTree, NoTree, Fork, side}
-use Rattle.cv_syntax.specs.Nodes.{built, tree_of, at, child, IsClosed, EntryBelow, ChildBelow}
+use Rattle.cv_pool.specs.declared.node.NodeId.{NodeId}
+use Rattle.cv_pool.specs.declared.node.Entry.{Entry}
+use Rattle.cv_pool.specs.KindTree.{KindTree, NoTree, Fork, side}
+use Rattle.cv_pool.specs.Nodes.{built, tree_of, at, child, IsClosed, EntryBelow, ChildBelow}
 
 pub length-built : (done : List KindTree) (cs : List Entry) → length (built done cs) ≡ length done + length cs
 length-built done [] = omega arith

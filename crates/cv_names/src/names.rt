@@ -1,5 +1,5 @@
 ghost use Rattle.std.specs.Prelude.{◌≡◌, ◌≢◌, ◌+◌, ◌<◌, ◌≤◌, ◌^◌, ◌↔◌, ◌++◌, ◌∷◌, [], ℕ, List, Some, None, length, take, slice_get, IfOk, OnErr, OnOk, IsErrOf, IsNone, IfSome};
-ghost use Rattle.cv_syntax.specs.Texts.{NoRepeat};
+ghost use Rattle.cv_names.specs.Texts.{NoRepeat};
 
 use indexmap::IndexSet;
 use std::alloc::{AllocError, AllocFailed, Global};
@@ -24,7 +24,7 @@ pub struct Names {
 
 impl Model for Names {
     ghost use Rattle.std.specs.Prelude.{List, ℕ, length, ◌<◌, ◌^◌};
-    ghost use Rattle.cv_syntax.specs.Texts.{NoRepeat, texts_of};
+    ghost use Rattle.cv_names.specs.Texts.{NoRepeat, texts_of};
 
     ghost Value = { List (List ℕ) };
 

@@ -1,7 +1,7 @@
 use Rattle.std.specs.Prelude.{ℕ, ◌+◌, ◌<◌, List, [], ◌∷◌, ◌++◌, Option, Some, None, slice_index_or}
-use Rattle.cv_syntax.specs.declared.node.Entry.{Entry}
-use Rattle.cv_syntax.specs.declared.node.NodeId.{NodeId}
-use Rattle.cv_syntax.specs.KindTree.{KindTree, NoTree, Fork}
+use Rattle.cv_pool.specs.declared.node.Entry.{Entry}
+use Rattle.cv_pool.specs.declared.node.NodeId.{NodeId}
+use Rattle.cv_pool.specs.KindTree.{KindTree, NoTree, Fork}
 
 -- the tree at a number, or none
 abbrev pub at : List KindTree → ℕ → KindTree

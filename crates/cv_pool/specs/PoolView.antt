@@ -1,5 +1,5 @@
 use Rattle.std.specs.Prelude.{ℕ, ◌≡◌, List, length, take, refl}
-use Rattle.cv_syntax.specs.KindTree.{KindTree, coded_tree}
+use Rattle.cv_pool.specs.KindTree.{KindTree, coded_tree}
 use Rattle.std.specs.Coded.{Coded, code_by, coded×, coded_ℕ, coded_list}
 
 -- what a contract sees of a pool

@@ -1,7 +1,7 @@
 use Rattle.std.specs.Prelude.{ℕ, ◌+◌, ◌≡◌, List, [], ◌∷◌, ◌++◌, Option, Some, None, refl, Bool, true, false}
 use Rattle.std.proofs.Common.{ap, ◌∙◌, append_assoc}
 use Rattle.std.specs.Coded.{Coded, code_by, coded×, coded_ℕ, coded_option, coded_list}
-use Rattle.cv_syntax.specs.declared.node.Kind.{Kind}
+use Rattle.cv_pool.specs.declared.node.Kind.{Kind}
 
 -- a tree, or none
 pub data KindTree : Type 0 where

@@ -1,8 +1,8 @@
 use Rattle.std.proofs.Common.{sym, refl}
-use Rattle.cv_syntax.proofs.Places.{found, hits, misses}
+use Rattle.cv_names.proofs.Places.{found, hits, misses}
 use Rattle.std.proofs.Common.{subst, ◌≡◌, ◌≢◌, ℕ, List, Some}
 use Rattle.std.specs.Prelude.{slice_get}
-use Rattle.cv_syntax.proofs.names.Names.find.Goals as goal
+use Rattle.cv_names.proofs.names.Names.find.Goals as goal
 
 pub returns-in-Some-clause-found : goal.returns-in-Some-clause-found
 returns-in-Some-clause-found c = found c.self.inside.texts.keys c.args.text.now c.in-Some.place c.self.invariant.0 (sym c.in-Some.ensures.index) c.args.self.now c.self.view_is

@@ -1,7 +1,7 @@
 ghost use Rattle.std.specs.Prelude.{◌≡◌, ◌≢◌, ◌+◌, ◌-◌, ◌<◌, ◌≤◌, ◌↔◌, ◌++◌, ◌∷◌, [], ℕ, length, take, IsTrue, OnOk, OnErr, IsErrOf, IfSome, IsNone, slice_index_or};
-ghost use Rattle.cv_syntax.specs.KindTree.{KindTree, NoTree, Fork, kind_of, side};
-ghost use Rattle.cv_syntax.specs.Nodes.{at, child, ChildBelow};
-ghost use Rattle.cv_syntax.specs.PoolView.{PoolView, Grows};
+ghost use Rattle.cv_pool.specs.KindTree.{KindTree, NoTree, Fork, kind_of, side};
+ghost use Rattle.cv_pool.specs.Nodes.{at, child, ChildBelow};
+ghost use Rattle.cv_pool.specs.PoolView.{PoolView, Grows};
 
 use crate::node::{Entry, Kind, Mark, NodeId};
 use std::alloc::{AllocError, Global};
@@ -23,9 +23,9 @@ pub struct Pool {
 
 impl Model for Pool {
     ghost use Rattle.std.specs.Prelude.{[], length, ◌+◌, ◌≤◌, vec_len, vec_capacity};
-    ghost use Rattle.cv_syntax.specs.KindTree.{KindTree};
-    ghost use Rattle.cv_syntax.specs.Nodes.{built, IsClosed};
-    ghost use Rattle.cv_syntax.specs.PoolView.{PoolView, coded_view};
+    ghost use Rattle.cv_pool.specs.KindTree.{KindTree};
+    ghost use Rattle.cv_pool.specs.Nodes.{built, IsClosed};
+    ghost use Rattle.cv_pool.specs.PoolView.{PoolView, coded_view};
 
     ghost Value = { PoolView };
 
@@ -61,7 +61,7 @@ impl Pool {
         self.nodes.len() as u32
     }
 
-    /// Makes room for nodes to come.
+    /// Makes room for so many nodes to come.
     #[tactic(auto, using(crate::proofs::Built::built_laws))]
     pub fn reserve(&mut self, need: u32) -> Result<(), PoolError>
         ensures ok { OnOk result (need ≤ self.new.spare) }
@@ -70,6 +70,7 @@ impl Pool {
         ensures spare { self.old.spare ≤ self.new.spare }
         ensures full { IsErrOf result (PoolError.Full need) ↔ (self.old.limit < length self.old.trees + need) }
         ensures other { (n : ℕ) → IsErrOf result (PoolError.Full n) → n ≡ need }
+        ensures err { OnErr result (self.new ≡ self.old) }
     {
         if need > self.limit - self.nodes.len() as u32 {
             return Err(PoolError::Full { need });

@@ -1,10 +1,10 @@
 use Rattle.std.proofs.Common.{◌≡◌, ℕ, ◌<◌, ◌≤◌, ◌++◌, length, take, drop, refl, ap, sym, ◌∙◌, append_assoc, arith, length-append, Option, Some, None}
 use Rattle.std.proofs.lemmas.List.{get_or_append_left, take-append-drop}
 use Rattle.std.proofs.Math.Seq.{take-append_seam, take-length}
-use Rattle.cv_syntax.specs.KindTree.{NoTree}
-use Rattle.cv_syntax.specs.Nodes.{at, child, ChildBelow}
-use Rattle.cv_syntax.specs.PoolView.{PoolView, Grows}
-use Rattle.cv_syntax.specs.declared.node.NodeId.{NodeId}
+use Rattle.cv_pool.specs.KindTree.{NoTree}
+use Rattle.cv_pool.specs.Nodes.{at, child, ChildBelow}
+use Rattle.cv_pool.specs.PoolView.{PoolView, Grows}
+use Rattle.cv_pool.specs.declared.node.NodeId.{NodeId}
 
 -- What callers use of growth.
 pub Grows-split : (old new : PoolView) → Grows old new → old.trees ++ drop (length old.trees) new.trees ≡ new.trees

@@ -1,0 +1,9 @@
+// Names without repeats, each with its number.
+#![tactic(auto)]
+
+mod names;
+
+pub use names::{NameError, NameId, Names};
+
+#[cfg(test)]
+mod tests;

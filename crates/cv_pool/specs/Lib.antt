@@ -1,0 +1,3 @@
+pub mod KindTree
+pub mod Nodes
+pub mod PoolView
