@@ -1,3 +1,4 @@
+-- Where a text stands in a list without repeats.
 use Rattle.std.proofs.Common.{◌≡◌, ◌≢◌, ℕ, zero, suc, ◌<◌, ◌↔◌, ◌⊎◌, inl, inr, List, [], ◌∷◌, ◌++◌, length, take, refl, ap, sym, ◌∙◌, arith, subst, get_or, Some, Bool, true, false, ◌||◌}
 use Rattle.std.specs.Prelude.{slice_get, string_bytes, position}
 use Rattle.std.specs.List.{list_any}

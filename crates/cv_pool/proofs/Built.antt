@@ -1,3 +1,4 @@
+-- The trees of entries: adding one, keeping the first, reading one.
 use Rattle.std.proofs.Common.{◌≡◌, ℕ, zero, suc, ◌+◌, ◌<◌, ◌≤◌, List, [], ◌∷◌, ◌++◌, length, take, refl, ap, sym, ◌∙◌, append_assoc, arith, length-append, get_or, subst, Option, Some, None, true, false, IsNone, ◌↔◌, ◌≢◌, add-zero, append-nil}
 use Rattle.std.proofs.Math.Seq.{take-append_seam, take-length, get_or-append_seam}
 use Rattle.std.proofs.lemmas.List.{get_or_append_left}

@@ -1,3 +1,4 @@
+-- What callers use of growth: nodes that are there keep their numbers and trees.
 use Rattle.std.proofs.Common.{◌≡◌, ℕ, ◌<◌, ◌≤◌, ◌++◌, length, take, drop, refl, ap, sym, ◌∙◌, append_assoc, arith, length-append, Option, Some, None}
 use Rattle.std.proofs.lemmas.List.{get_or_append_left, take-append-drop}
 use Rattle.std.proofs.Math.Seq.{take-append_seam, take-length}
@@ -6,7 +7,6 @@ use Rattle.cv_pool.specs.Nodes.{at, child, ChildBelow}
 use Rattle.cv_pool.specs.PoolView.{PoolView, Grows}
 use Rattle.cv_pool.specs.declared.node.NodeId.{NodeId}
 
--- What callers use of growth.
 pub Grows-split : (old new : PoolView) → Grows old new → old.trees ++ drop (length old.trees) new.trees ≡ new.trees
 Grows-split old new g = ap (λ ts. ts ++ drop (length old.trees) new.trees) (sym g.kept) ∙ take-append-drop (length old.trees) new.trees
 

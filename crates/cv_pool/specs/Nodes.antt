@@ -1,3 +1,4 @@
+-- Entries of a pool, and the trees that their numbers stand for.
 use Rattle.std.specs.Prelude.{ℕ, ◌+◌, ◌<◌, List, [], ◌∷◌, ◌++◌, Option, Some, None, slice_index_or}
 use Rattle.cv_pool.specs.declared.node.Entry.{Entry}
 use Rattle.cv_pool.specs.declared.node.NodeId.{NodeId}
@@ -12,24 +13,26 @@ abbrev pub child : List KindTree → Option NodeId → KindTree
 child trees None = NoTree
 child trees (Some n) = at trees n.0
 
+-- the tree of an entry over those that are there
 abbrev pub tree_of : List KindTree → Entry → KindTree
 tree_of done c = Fork c.kind (child done c.first) (child done c.second)
 
--- the trees of the cells, each over those before it
+-- the trees of entries, each over those before it
 abbrev pub built : List KindTree → List Entry → List KindTree
 built done [] = done
 built done (c ∷ cs) = built (done ++ tree_of done c ∷ []) cs
 
--- each child has a smaller number
+-- a child has a smaller number
 abbrev pub ChildBelow : ℕ → Option NodeId → Type 0
 ChildBelow i None = Unit {0}
 ChildBelow i (Some n) = n.0 < i
 
+-- each child of an entry has a smaller number
 pub record EntryBelow (i : ℕ) (c : Entry) : Type 0 where
   pub first : ChildBelow i c.first
   pub second : ChildBelow i c.second
 
--- the cells from number i on
+-- entries whose numbers start here have children of smaller numbers
 abbrev pub IsClosed : ℕ → List Entry → Type 0
 IsClosed i [] = Unit {0}
 IsClosed i (c ∷ cs) = EntryBelow i c × IsClosed (i + 1) cs

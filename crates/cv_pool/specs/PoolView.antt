@@ -1,3 +1,4 @@
+-- A pool as its trees, its limit and its spare room.
 use Rattle.std.specs.Prelude.{ℕ, ◌≡◌, List, length, take, refl}
 use Rattle.cv_pool.specs.KindTree.{KindTree, coded_tree}
 use Rattle.std.specs.Coded.{Coded, code_by, coded×, coded_ℕ, coded_list}
@@ -8,6 +9,7 @@ pub record PoolView : Type 0 where
   pub limit : ℕ
   pub spare : ℕ
 
+-- a view in one code
 abbrev pub coded_view : Coded PoolView
 coded_view =
     code_by (List KindTree × (ℕ × ℕ)) (coded× (coded_list coded_tree) (coded× coded_ℕ coded_ℕ)) (λ s. (s.trees, (s.limit, s.spare))) (λ p. record { trees = p.0; limit = p.1.0; spare = p.1.1 }) (λ _. refl)
