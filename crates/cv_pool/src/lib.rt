@@ -2,9 +2,11 @@
 #![tactic(auto)]
 
 mod node;
+mod numbers;
 mod pool;
 
 pub use node::{Kind, Mark, NodeId};
+pub use numbers::numbers_are_stable;
 pub use pool::{Pool, PoolError};
 
 #[cfg(test)]
