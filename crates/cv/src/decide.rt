@@ -81,6 +81,7 @@ fn answer(alloc: Global, work: &Work, game: NodeId) -> Result<Said, AllocError>
 /// A report on a run that ended before a file was accepted.
 pub fn refused(alloc: Global, work: Work, command: Command, status: Status) -> Report
     ensures status { result.status ≡ status }
+    ensures command { result.command ≡ command }
     ensures file { result.file ≡ None }
     ensures nothing { SaysNothing result }
 {
@@ -113,6 +114,7 @@ pub fn judge(alloc: Global, work: Work, bytes: &[u8]) -> Report
     requires limit { work.pool.limit ≡ most_pool }
     requires few { length bytes.now ≤ 1048576 }
     ensures sound { IsSound result }
+    ensures command { result.command ≡ Command.Prove 32 }
     ensures file { IfSome result.file (λ f. file_of bytes.now ≡ Some (content_at result.work f.game.root)) }
     ensures live { IfSome result.file (λ f. f.game.root.0 < length result.work.pool.trees) }
     ensures follows { MatchOption result.file (SaysNothing result) (FollowsStrategy result) }

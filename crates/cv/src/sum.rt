@@ -1,10 +1,3 @@
 /// A sum of costs. No step that is built has a cost, so this is the empty sum.
 #[derive(Clone, Copy, Debug, PartialEq, Eq)]
 pub struct Sum;
-
-impl Sum {
-    /// The empty sum.
-    pub fn new() -> Sum {
-        Sum
-    }
-}

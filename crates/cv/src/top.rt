@@ -6,7 +6,7 @@ ghost use Rattle.cv_files.specs.Works.{content_at};
 ghost use Rattle.cv.specs.Fetched.{fetch_ended};
 ghost use Rattle.cv.specs.Strategy.{EndsWell, FollowsStrategy, HasFile, IsGood, IsSound, Judged, SaysNothing, SpeaksOfFile};
 ghost use Rattle.cv.specs.Text.{text_of};
-ghost use Rattle.cv.specs.Words.{file_named};
+ghost use Rattle.cv.specs.Words.{command_of, file_named};
 ghost use Rattle.cv.specs.Writing.{TakesFront, TakesAll};
 
 use crate::decide::{MOVES, judge, refused};
@@ -38,6 +38,7 @@ fn status_of(fault: FetchError) -> Status
 /// All but the writing, where the words name a file.
 fn prove<F: Shelf>(alloc: Global, name: &str, shelf: &mut F) -> Report
     ensures sound { IsSound result }
+    ensures command { result.command ≡ Command.Prove 32 }
     ensures file { IfSome result.file (λ f. IfSome (F.told shelf.old) (λ files. file_of (bytes_of files name.now) ≡ Some (content_at result.work f.game.root))) }
     ensures live { IfSome result.file (λ f. f.game.root.0 < length result.work.pool.trees) }
     ensures follows { MatchOption result.file (SaysNothing result) (FollowsStrategy result) }
@@ -67,6 +68,7 @@ fn prove<F: Shelf>(alloc: Global, name: &str, shelf: &mut F) -> Report
 /// All but the writing.
 fn decide<F: Shelf>(alloc: Global, words: &[String], shelf: &mut F) -> Report
     ensures sound { IsSound result }
+    ensures command { result.command ≡ command_of (file_named (map string_bytes words.now)) }
     ensures file { IfSome result.file (λ f. IfSome (file_named (map string_bytes words.now)) (λ name. IfSome (F.told shelf.old) (λ files. file_of (bytes_of files name) ≡ Some (content_at result.work f.game.root)))) }
     ensures live { IfSome result.file (λ f. f.game.root.0 < length result.work.pool.trees) }
     ensures follows { MatchOption result.file (SaysNothing result) (FollowsStrategy result) }
@@ -119,6 +121,8 @@ pub fn run<F: Shelf, K: Sink>(
 ) -> Outcome
     // What is called proved holds, for all meanings that satisfy the declarations, and all adversaries.
     ensures headline { IsSound result.report }
+    // The command is the one that the words give.
+    ensures command { result.report.command ≡ command_of (file_named (map string_bytes words.now)) }
     // Where the shelf tells its files, the report's file is the reading of the bytes under the given name.
     ensures file { IfSome result.report.file (λ f. IfSome (file_named (map string_bytes words.now)) (λ name. IfSome (F.told shelf.old) (λ files. file_of (bytes_of files name) ≡ Some (content_at result.report.work f.game.root)))) }
 
