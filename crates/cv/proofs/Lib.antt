@@ -1,4 +1,5 @@
 pub mod Endings
+pub mod Sayings
 pub mod Takes
 pub mod Texts
 pub mod Verdicts

@@ -1,6 +1,6 @@
 -- What the plain strategy says of a file: a query is closed where each left event stands below its right
--- events, with the same variables as arguments.
-use Rattle.std.specs.Prelude.{◌≡◌, ℕ, ◌+◌, ◌<◌, Bool, true, false, List, [], ◌∷◌, ◌++◌, map, Option, Some, None, slice_get, IfSome}
+-- events, with the same variables as arguments. It closes one query after another, in at most 2,000 steps.
+use Rattle.std.specs.Prelude.{◌≡◌, ℕ, ◌+◌, ◌<◌, ◌≤◌, nat_lt, Bool, true, false, if◌then◌else◌, List, [], ◌∷◌, ◌++◌, length, map, Option, Some, None, slice_get, IfSome}
 use Rattle.std.specs.List.{list_all}
 use Rattle.cv_syntax.specs.declared.work.File.{File}
 use Rattle.cv_syntax.specs.Declarations.{Declaration, declarations}
@@ -25,7 +25,7 @@ use Rattle.cv.specs.declared.report.Step.{Step}
 use Rattle.cv.specs.declared.report.Step.TheVariants.{Success}
 use Rattle.cv.specs.declared.report.Verdict.{Verdict}
 use Rattle.cv.specs.declared.report.Verdict.TheVariants.{Proved, NotProved}
-use Rattle.cv.specs.declared.report.Which.TheVariants.{Pool}
+use Rattle.cv.specs.declared.report.Which.TheVariants.{Pool, Steps}
 use Rattle.cv.specs.declared.sum.Sum.{Sum}
 
 -- the value of a sum, which is empty
@@ -36,36 +36,53 @@ value_of s = zero_chance
 abbrev pub is_closed : Tree → Tree → Bool
 is_closed game query = plainly_covered (correspondence_of query) [] game
 
-abbrev pub verdict_by : Bool → Verdict
-verdict_by true = Proved (record {})
-verdict_by false = NotProved
+-- what is said of the queries of a game: the steps that close them, each with the number of its query and
+-- its certificate, and a verdict on each
+pub record Said : Type 0 where
+  pub steps : List (ℕ × List EntryTree)
+  pub verdicts : List Verdict
+  pub all : Bool  -- each query is closed
+  pub full : Bool  -- a query would be closed, and no step is left for it
 
-abbrev pub status_by : Bool → Status
-status_by true = status.Proved
-status_by false = status.Open Stuck
+abbrev pub nothing_said : Said
+nothing_said = record { steps = []; verdicts = []; all = true; full = false }
 
-abbrev pub option_list : {A : Type 0} → Option A → List A
-option_list None = []
-option_list (Some x) = x ∷ []
+abbrev pub most_steps : ℕ
+most_steps = 2000
 
--- the step that closes a query, with its certificate
-abbrev pub closing : ℕ → Option (List EntryTree) → List (ℕ × List EntryTree)
-closing k None = []
-closing k (Some es) = (k, es) ∷ []
+-- one query more stays open, or is closed where a step is left
+abbrev pub left_open : Said → Said
+left_open s = record s { verdicts = s.verdicts ++ NotProved ∷ []; all = false }
 
--- the steps for queries that are counted from a number
-unfoldable pub steps_for : Tree → ℕ → List Tree → List (ℕ × List EntryTree)
-steps_for game k [] = []
-steps_for game k (q ∷ qs) = closing k (entries_of (wanted_of (correspondence_of q)) [] 0 game) ++ steps_for game (k + 1) qs
+abbrev pub closed_by : Said → List EntryTree → Said
+closed_by s es =
+    if nat_lt (length s.steps) most_steps then record s { steps = s.steps ++ (length s.verdicts + 1, es) ∷ []; verdicts = s.verdicts ++ Proved (record {}) ∷ [] }
+    else record s { verdicts = s.verdicts ++ NotProved ∷ []; full = true }
 
--- a step, with the trees of its certificate
-abbrev pub said_by : List KindTree → Step → ℕ × List EntryTree
-said_by trees (Success k entries) = (k, entry_trees trees entries.items)
+abbrev pub said_then : Said → Option (List EntryTree) → Said
+said_then s None = left_open s
+said_then s (Some es) = closed_by s es
+
+-- the certificate of a query, where it has one
+abbrev pub certificate : Tree → Tree → Option (List EntryTree)
+certificate game query = entries_of (wanted_of (correspondence_of query)) [] 0 game
+
+-- the plain strategy goes over the queries in order
+unfoldable pub said_of : Tree → Said → List Tree → Said
+said_of game s [] = s
+said_of game s (q ∷ qs) = said_of game (said_then s (certificate game q)) qs
+
+abbrev pub status_by : Bool → Bool → Status
+status_by full true = if full then status.Limit Steps else status.Proved
+status_by full false = if full then status.Limit Steps else status.Open Stuck
+
+abbrev pub status_of : Said → Status
+status_of s = status_by s.full s.all
 
 -- the status of a file, or of bytes that are none
 abbrev pub expected : Option Content → Status
 expected None = status.Unbuilt
-expected (Some c) = status_by (list_all (is_closed c.game) (queries_in c.declarations))
+expected (Some c) = status_of (said_of c.game nothing_said (queries_in c.declarations))
 
 abbrev pub most_pool : ℕ
 most_pool = 16000000
@@ -76,11 +93,16 @@ Judged status.Memory bytes = Unit {0}
 Judged (status.Limit (Pool need)) bytes = most_pool < need
 Judged s bytes = s ≡ expected (file_of bytes)
 
+-- a step, with the trees of its certificate
+abbrev pub said_by : List KindTree → Step → ℕ × List EntryTree
+said_by trees (Success k entries) = (k, entry_trees trees entries.items)
+
 -- the status speaks of the bytes of a file
 abbrev pub SpeaksOfFile : Status → Type 0
 SpeaksOfFile status.Proved = Unit {0}
 SpeaksOfFile (status.Open cause) = Unit {0}
 SpeaksOfFile status.Unbuilt = Unit {0}
+SpeaksOfFile (status.Limit Steps) = Unit {0}
 SpeaksOfFile s = ⊥
 
 -- the declarations of a report's file, and its game
@@ -90,10 +112,10 @@ declared_in r = declarations r.work.pool.trees r.work.decls.list
 abbrev pub game_in : Report → File → Tree
 game_in r f = tree_at r.work.pool.trees (Some f.game.root)
 
--- The steps are those that close the queries which are closed, and there is a verdict on each query.
+-- The steps and the verdicts are those of the plain strategy.
 pub record FollowsStrategy (r : Report) (f : File) : Type 0 where
-  pub steps : map (said_by r.work.pool.trees) r.steps.items ≡ steps_for (game_in r f) 1 (queries_in (declared_in r))
-  pub verdicts : r.verdicts.items ≡ map (λ q. verdict_by (is_closed (game_in r f) q)) (queries_in (declared_in r))
+  pub steps : map (said_by r.work.pool.trees) r.steps.items ≡ (said_of (game_in r f) nothing_said (queries_in (declared_in r))).steps
+  pub verdicts : r.verdicts.items ≡ (said_of (game_in r f) nothing_said (queries_in (declared_in r))).verdicts
 
 -- without a file there are none
 pub record SaysNothing (r : Report) : Type 0 where
@@ -104,13 +126,15 @@ pub record SaysNothing (r : Report) : Type 0 where
 abbrev pub HasFile : Status → Type 0
 HasFile status.Proved = Unit {0}
 HasFile (status.Open cause) = Unit {0}
+HasFile (status.Limit Steps) = Unit {0}
 HasFile s = ⊥
 
--- a file all of whose queries are closed by the events above
+-- a file whose queries are all closed by the events above, and are no more than there may be steps
 pub record IsGood (bytes : List ℕ) : Type 0 where
   pub content : Content
   pub file : IsFile bytes content
   pub closed : list_all (is_closed content.game) (queries_in content.declarations) ≡ true
+  pub few : length (queries_in content.declarations) ≤ most_steps
 
 -- proved, unless the pool or memory ended the run
 abbrev pub EndsWell : Status → Type 0

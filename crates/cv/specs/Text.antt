@@ -15,7 +15,7 @@ use Rattle.cv.specs.declared.report.Step.{Step}
 use Rattle.cv.specs.declared.report.Step.TheVariants.{Success}
 use Rattle.cv.specs.declared.report.Verdict.{Verdict}
 use Rattle.cv.specs.declared.report.Verdict.TheVariants.{Proved, NotProved}
-use Rattle.cv.specs.declared.report.Which.TheVariants.{File as FileLimit, Pool}
+use Rattle.cv.specs.declared.report.Which.TheVariants.{File as FileLimit, Steps, Pool}
 
 -- the equation of a term with itself, with its reason
 abbrev pub target_text : List (List ℕ) → Tree → List ℕ
@@ -61,6 +61,7 @@ end_text status.Read = codes "end 4 read\n"
 end_text status.Write = codes "end 5 write\n"
 end_text status.Memory = codes "end 6 memory\n"
 end_text (status.Limit FileLimit) = codes "end 7 limit: file\n"
+end_text (status.Limit Steps) = codes "end 7 limit: steps\n"
 end_text (status.Limit (Pool need)) = codes "end 7 limit: pool\n"
 end_text status.Unbuilt = codes "end 8 unbuilt\n"
 

@@ -1,81 +1,107 @@
-ghost use Rattle.std.specs.Prelude.{◌≡◌, ◌+◌, ◌<◌, ◌≤◌, ◌^◌, ◌↔◌, [], ◌∷◌, All, None, Some, is_some, map, length, IfOk, IfSome, IsSome, MatchOption};
-ghost use Rattle.std.specs.List.{list_all};
+ghost use Rattle.std.specs.Prelude.{◌≡◌, ◌+◌, ◌<◌, ◌≤◌, ◌^◌, ◌↔◌, [], ◌∷◌, All, None, Some, map, length, IfOk, IfSome, IsSome, MatchOption, OnOk};
 ghost use Rattle.cv_syntax.specs.Classes.{queries};
 ghost use Rattle.cv_syntax.specs.Tree.{tree_at, size};
 ghost use Rattle.cv_files.specs.Accepted.{file_of};
 ghost use Rattle.cv_files.specs.Plain.{IsPlain};
 ghost use Rattle.cv_files.specs.Works.{content_at};
 ghost use Rattle.cv.specs.Faults.{status_of as ended_by};
-ghost use Rattle.cv.specs.Strategy.{most_pool, is_closed, option_list, verdict_by, status_by, said_by, steps_for, FollowsStrategy, HasFile, Judged, IsSound, SaysNothing};
+ghost use Rattle.cv.specs.Findings.{said};
+ghost use Rattle.cv.specs.Strategy.{most_pool, certificate, nothing_said, said_of, said_then, status_by, FollowsStrategy, HasFile, Judged, IsSound, SaysNothing};
 
 use crate::report::{Cause, Command, Report, Status, Step, Verdict, Which};
 use crate::sum::Sum;
 use cv_direct::direct;
-use cv_files::{FileError, read};
-use cv_syntax::{NodeId, Work};
+use cv_files::{FileError, query_at, read};
+use cv_syntax::{NodeId, Pool, Work};
 use std::alloc::{AllocError, Global};
 
 /// How many moves a proof has where the words don't say.
 pub const MOVES: u32 = 32;
 
-/// What is said of a game.
+/// How many steps a proof may have.
+const MOST_STEPS: usize = 2_000;
+
+/// What is said of the queries of a game so far.
 #[derive(Drop)]
-struct Said {
+pub struct Findings {
     steps: Vec<Step>,
     verdicts: Vec<Verdict>,
-    status: Status,
+    /// Whether each query is closed.
+    all: bool,
+    /// Whether a query would be closed, and no step was left for it.
+    full: bool,
 }
 
-/// What is said of a query that is closed or stays open.
-fn verdict_on(alloc: Global, step: Option<Step>) -> Result<Said, AllocError>
-    ensures steps { IfOk result (λ s. s.steps.items ≡ option_list step) }
-    ensures verdicts { IfOk result (λ s. s.verdicts.items ≡ verdict_by (is_some step) ∷ []) }
-    ensures status { IfOk result (λ s. s.status ≡ status_by (is_some step)) }
-{
-    let mut steps = Vec::new(alloc);
-    let mut verdicts = Vec::new(alloc);
-    match step {
-        Some(step) => {
-            steps.push(step)?;
-            verdicts.push(Verdict::Proved(Sum))?;
-            Ok(Said {
-                steps,
-                verdicts,
-                status: Status::Proved,
-            })
+impl Findings {
+    /// How a run ends that has found this.
+    fn status(&self) -> Status
+        ensures { result ≡ status_by self.now.full self.now.all }
+    {
+        if self.full {
+            return Status::Limit(Which::Steps);
         }
-        None => {
-            verdicts.push(Verdict::NotProved)?;
-            Ok(Said {
-                steps,
-                verdicts,
-                status: Status::Open(Cause::Stuck),
-            })
+        if self.all {
+            return Status::Proved;
         }
+        Status::Open(Cause::Stuck)
     }
 }
 
-/// The plain strategy: a step for the query where it is closed by the events above.
-fn answer(alloc: Global, work: &Work, game: NodeId) -> Result<Said, AllocError>
+/// Says of one query more whether it is closed by the events above, and closes it where a step is left.
+#[tactic(auto, using(crate::proofs::Sayings::sayings))]
+fn find(
+    alloc: Global,
+    pool: &Pool,
+    game: NodeId,
+    query: NodeId,
+    found: &mut Findings,
+) -> Result<(), AllocError>
+    requires game { game.0 < length pool.now.trees }
+    requires query { query.0 < length pool.now.trees }
+    requires fits { size (tree_at pool.now.trees (Some game)) < 2 ^ 32 }
+    requires few { length found.old.verdicts.items + 1 < 2 ^ 32 }
+    ensures said { OnOk result (said pool.now.trees found.new ≡ said_then (said pool.now.trees found.old) (certificate (tree_at pool.now.trees (Some game)) (tree_at pool.now.trees (Some query)))) }
+    ensures more { OnOk result (length found.new.verdicts.items ≡ length found.old.verdicts.items + 1) }
+{
+    match direct(alloc, pool, query, game)? {
+        Some(entries) if found.steps.len() < MOST_STEPS => {
+            let query = found.verdicts.len() as u32 + 1;
+            found.steps.push(Step::Success { query, entries })?;
+            found.verdicts.push(Verdict::Proved(Sum))?;
+        }
+        Some(_) => {
+            found.full = true;
+            found.verdicts.push(Verdict::NotProved)?;
+        }
+        None => {
+            found.all = false;
+            found.verdicts.push(Verdict::NotProved)?;
+        }
+    }
+    Ok(())
+}
+
+/// The plain strategy: a step for each query that is closed by the events above, in order.
+#[tactic(auto, using(crate::proofs::Sayings::sayings))]
+fn answer(alloc: Global, work: &Work, game: NodeId) -> Result<Findings, AllocError>
     requires game { game.0 < length work.now.pool.trees }
     requires fits { size (tree_at work.now.pool.trees (Some game)) < 2 ^ 32 }
     requires plain { All (IsPlain (length work.now.pool.trees)) work.now.decls.list }
-    requires few { length (queries work.now.decls.list) ≤ 1 }
-    ensures steps { IfOk result (λ s. map (said_by work.now.pool.trees) s.steps.items ≡ steps_for (tree_at work.now.pool.trees (Some game)) 1 (map (λ n. tree_at work.now.pool.trees (Some n)) (queries work.now.decls.list))) }
-    ensures verdicts { IfOk result (λ s. s.verdicts.items ≡ map (λ n. verdict_by (is_closed (tree_at work.now.pool.trees (Some game)) (tree_at work.now.pool.trees (Some n)))) (queries work.now.decls.list)) }
-    ensures status { IfOk result (λ s. s.status ≡ status_by (list_all (λ n. is_closed (tree_at work.now.pool.trees (Some game)) (tree_at work.now.pool.trees (Some n))) (queries work.now.decls.list))) }
+    ensures { IfOk result (λ f. said work.now.pool.trees f ≡ said_of (tree_at work.now.pool.trees (Some game)) nothing_said (map (λ n. tree_at work.now.pool.trees (Some n)) (queries work.now.decls.list))) }
 {
-    let Some(query) = work.decls.query(1) else {
-        return Ok(Said {
-            steps: Vec::new(alloc),
-            verdicts: Vec::new(alloc),
-            status: Status::Proved,
-        });
+    let mut found = Findings {
+        steps: Vec::new(alloc),
+        verdicts: Vec::new(alloc),
+        all: true,
+        full: false,
     };
-    match direct(alloc, &work.pool, query, game)? {
-        Some(entries) => verdict_on(alloc, Some(Step::Success { query: 1, entries })),
-        None => verdict_on(alloc, None),
+    'decls: for k in 0..work.decls.len() {
+        let Some(query) = query_at(&work.decls, k) else {
+            continue;
+        };
+        find(alloc, &work.pool, game, query, &mut found)?;
     }
+    Ok(found)
 }
 
 /// A report on a run that ended before a file was accepted.
@@ -128,14 +154,22 @@ pub fn judge(alloc: Global, work: Work, bytes: &[u8]) -> Report
         Err(fault) => return refused(alloc, work, command, status_of(fault)),
     };
     match answer(alloc, &work, file.game.root) {
-        Ok(said) => Report {
-            work,
-            file: Some(file),
-            command,
-            steps: said.steps,
-            verdicts: said.verdicts,
-            status: said.status,
-        },
+        Ok(found) => {
+            let status = found.status();
+            let Findings {
+                steps,
+                verdicts,
+                ..
+            } = found;
+            Report {
+                work,
+                file: Some(file),
+                command,
+                steps,
+                verdicts,
+                status,
+            }
+        }
         Err(AllocError) => refused(alloc, work, command, Status::Memory),
     }
 }

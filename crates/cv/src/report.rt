@@ -41,6 +41,8 @@ pub enum Cause {
 pub enum Which {
     /// The bytes of the file.
     File,
+    /// The steps of a proof.
+    Steps,
     /// The nodes of the pool, which would have had so many more.
     Pool { need: u32 },
 }

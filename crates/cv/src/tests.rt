@@ -186,6 +186,35 @@ fn small_processes(rt: HostRuntime) -> Result<(), Fail> {
 }
 
 #[test]
+fn several_queries(rt: HostRuntime) -> Result<(), Fail> {
+    let alloc = rt.alloc();
+    let head = "type T [fixed]. channel c, d. event e(T). event f(T). event g(T). ";
+    let queries =
+        "query x:T; event e(x) ==> event f(x). query x:T; event f(x) ==> event e(x). query x:T; event g(x) ==> event e(x) && event f(x). ";
+    let process = "process in(c, (a:T)); event f(a); event e(a); event g(a); yield";
+    let wanted =
+        "game 1\nin(c, (a: T));\nevent f(a);\nevent e(a);\nevent g(a);\nyield\nstep 1: success 1 events at 3 with () event above 1 { (a = a) by refl; };\ncost 0\nstep 2: success 3 events at 5 with () event above 3 { (a = a) by refl; } event above 1 { (a = a) by refl; };\ncost 0\nquery 1 proved up to 0\nquery 2 open\nquery 3 proved up to 0\nend 1 open: stuck\n";
+    let front = joined(alloc, head, queries)?;
+    let text = joined(alloc, front.as_str(), process)?;
+    let mut sink = MemSink::new(alloc, 10_000, Vec::new(alloc))?;
+    let _ = put_into(alloc, text.as_str(), &mut sink)?;
+    assert_eq!(rt; sink.taken(), wanted.as_bytes());
+
+    // One step for each query, and no more than there may be.
+    let front = "type T. channel c. event e. event f. ";
+    let query = "query event e ==> event f. ";
+    for (queries, wanted) in [(2_000, 0), (2_001, 7)] {
+        let text = repeated(alloc, front, query, queries, "process in(c, ()); yield")?;
+        assert_eq!(rt;
+            code_of(alloc, text.as_str())?,
+            wanted,
+            "of {queries} queries"
+        );
+    }
+    Ok(())
+}
+
+#[test]
 fn lexis(rt: HostRuntime) -> Result<(), Fail> {
     let alloc = rt.alloc();
     for (text, wanted) in [

@@ -202,6 +202,7 @@ fn push_end(out: &mut Vec<u8>, status: Status) -> Result<(), AllocError>
         Status::Write => out.extend_from_slice(b"end 5 write\n"),
         Status::Memory => out.extend_from_slice(b"end 6 memory\n"),
         Status::Limit(Which::File) => out.extend_from_slice(b"end 7 limit: file\n"),
+        Status::Limit(Which::Steps) => out.extend_from_slice(b"end 7 limit: steps\n"),
         Status::Limit(Which::Pool { need: _ }) => out.extend_from_slice(b"end 7 limit: pool\n"),
         Status::Unbuilt => out.extend_from_slice(b"end 8 unbuilt\n"),
     }

@@ -34,7 +34,7 @@ most_depth = 200
 abbrev pub game_fits : Signature → Tree → Bool
 game_fits s game = process_fits s game && are_of_one_type no_variable (sites_of game)
 
--- declarations and a process are typed and in scope, with at most one query
+-- declarations, a process and queries are typed and in scope
 abbrev pub is_typed : List Declaration → Tree → Bool
 is_typed ds game = game_fits (signature_of ds) game && queries_fit (signature_of ds) (queries_in ds)
 

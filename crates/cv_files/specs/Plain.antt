@@ -1,7 +1,8 @@
 -- Lists of declarations of names and of queries alone.
-use Rattle.std.specs.Prelude.{◌≡◌, ℕ, ◌<◌, true}
+use Rattle.std.specs.Prelude.{◌≡◌, ℕ, ◌<◌, true, Option, Some, None}
 use Rattle.cv_syntax.specs.declared.decls.Decl.{Decl}
 use Rattle.cv_syntax.specs.declared.decls.Decl.TheVariants as decl
+use Rattle.cv_pool.specs.declared.node.NodeId.{NodeId}
 use Rattle.cv_pool.specs.Nodes.{ChildBelow}
 use Rattle.cv_files.specs.Typing.{is_of_name}
 
@@ -10,3 +11,8 @@ abbrev pub IsPlain : ℕ → Decl → Type 0
 IsPlain bound (decl.Name id class args result) = (is_of_name class ≡ true) × ChildBelow bound args
 IsPlain bound (decl.Query n) = n.0 < bound
 IsPlain bound _ = ⊥
+
+-- the tree of a query
+abbrev pub query_of : Decl → Option NodeId
+query_of (decl.Query n) = Some n
+query_of d = None

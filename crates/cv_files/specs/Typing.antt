@@ -1,6 +1,7 @@
 -- Which declarations and processes of one input are typed and in scope.
 -- The types of all sites of a variable are in Sites.
 use Rattle.std.specs.Prelude.{ℕ, Bool, true, false, ◌==◌, ◌&&◌, not, is_none, is_some, if◌then◌else◌, List, [], ◌∷◌, ◌++◌, Option, Some, None, option_and_then}
+use Rattle.std.specs.List.{list_all}
 use Rattle.cv_syntax.specs.declared.decls.Class.{Class}
 use Rattle.cv_syntax.specs.declared.decls.Class.TheVariants.{TypeName, Free, Equiv as EquivName}
 use Rattle.cv_syntax.specs.Declarations.{Declaration, Named, Query}
@@ -169,11 +170,9 @@ queries_in [] = []
 queries_in (Query t ∷ ds) = t ∷ queries_in ds
 queries_in (d ∷ ds) = queries_in ds
 
--- at most one query, and that one fits
+-- each query fits
 abbrev pub queries_fit : Signature → List Tree → Bool
-queries_fit s [] = true
-queries_fit s (q ∷ []) = query_fits s q
-queries_fit s _ = false
+queries_fit s qs = list_all (query_fits s) qs
 
 -- each declaration is new among those before it
 unfoldable pub are_new : List Declaration → List Declaration → Bool

@@ -1,4 +1,6 @@
 ghost use Rattle.std.specs.Prelude.{◌≡◌, ◌<◌, ◌&&◌, length, All, IfOk, OnOk, Some, true, is_some};
+ghost use Rattle.std.specs.List.{list_all};
+ghost use Rattle.cv_syntax.specs.Classes.{queries};
 ghost use Rattle.cv_syntax.specs.Declarations.{declarations};
 ghost use Rattle.cv_pool.specs.Nodes.{ChildBelow};
 ghost use Rattle.cv_syntax.specs.Tree.{tree_at};
@@ -10,13 +12,14 @@ ghost use Rattle.cv_files.specs.Typing.{Scope, are_among, terms_of};
 ghost use Rattle.cv_files.specs.Updates.{updated};
 
 use crate::bodies::process_fits;
+use crate::queries::query_at;
 use crate::scopes::{arguments_fit, bind, leaf, type_in};
 use crate::sites::have_one_type;
 use cv_syntax::{Decls, Head, NameId, NodeId, Opened, Pool, read_node};
 use std::alloc::{AllocError, Global};
 use std::collections::HashMap;
 
-/// Whether the process and the query of a file are typed and in scope.
+/// Whether the process and the queries of a file are typed and in scope.
 pub fn is_typed(alloc: Global, pool: &Pool, decls: &Decls, root: NodeId) -> Result<bool, AllocError>
     requires live { root.0 < length pool.now.trees }
     requires plain { All (IsPlain (length pool.now.trees)) decls.now.list }
@@ -25,15 +28,23 @@ pub fn is_typed(alloc: Global, pool: &Pool, decls: &Decls, root: NodeId) -> Resu
     if !game_fits(alloc, pool, decls, root)? {
         return Ok(false);
     }
-    match decls.query(1) {
-        None => Ok(true),
-        Some(query) => {
-            if decls.query(2).is_some() {
-                return Ok(false);
-            }
-            query_fits(alloc, pool, decls, query)
+    queries_fit(alloc, pool, decls)
+}
+
+/// Whether each query is typed, and its left event has distinct variables.
+fn queries_fit(alloc: Global, pool: &Pool, decls: &Decls) -> Result<bool, AllocError>
+    requires plain { All (IsPlain (length pool.now.trees)) decls.now.list }
+    ensures { IfOk result (λ yes. yes ≡ list_all (λ n. typing.query_fits (signature_in pool.now.trees decls.now.list) (tree_at pool.now.trees (Some n))) (queries decls.now.list)) }
+{
+    'decls: for k in 0..decls.len() {
+        let Some(query) = query_at(decls, k) else {
+            continue;
+        };
+        if !query_fits(alloc, pool, decls, query)? {
+            return Ok(false);
         }
     }
+    Ok(true)
 }
 
 /// Whether a process is typed and in scope, and each variable has one type.
