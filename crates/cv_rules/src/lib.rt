@@ -1,0 +1,8 @@
+// The definition of files: the grammar, the rules of names, and the game that a file stands for.
+#![tactic(auto)]
+
+mod laws;
+mod role;
+
+pub use laws::reading_is_exact;
+pub use role::{Asked, Region, Role, TypeOption};
