@@ -1,14 +1,20 @@
-ghost use Rattle.std.specs.Prelude.{◌≡◌, ℕ, List, []};
-ghost use Rattle.cv_grammar.specs.Reads.{Found, found};
+ghost use Rattle.std.specs.Prelude.{◌≡◌, ℕ, List, [], Ok, Err};
+ghost use Rattle.cv_grammar.specs.Reads.{Found, found, Syntax};
 ghost use Rattle.cv_grammar.specs.Spells.{Use};
+ghost use Rattle.cv_grammar.specs.Whole.{Dead};
 ghost use Rattle.cv_grammar.specs.declared.sign.Sign.{Sign};
-ghost use Rattle.cv_rules.specs.Files.{IsFile, read_whole};
+ghost use Rattle.cv_rules.specs.Files.{IsFile, IsSomeFile, read_whole};
 ghost use Rattle.cv_rules.specs.Rules.{File};
 ghost use Rattle.cv_rules.specs.declared.role.Role.{Role};
 
 /// Reading by the next token takes the files of the grammar and nothing else. So tokens spell at most one
-/// file, with one tree and one list of uses of names.
+/// file, with one tree and one list of uses of names. And where reading names a token as a fault of syntax,
+/// no file begins with the tokens through that one.
 pub fn reading_is_exact()
-    ensures sound { (n : ℕ) (tokens : List Sign) (x : Found Role File) → read_whole n tokens ≡ Ok x → IsFile n tokens x.value x.uses [] }
-    ensures complete { (n : ℕ) (tokens : List Sign) (f : File) (uses : List (Use Role)) → IsFile n tokens f uses [] → read_whole n tokens ≡ found f uses [] }
+    ensures sound { (n : ℕ) (tokens : List Sign) (x : Found Role File) →
+        read_whole n tokens ≡ Ok x → IsFile n tokens x.value x.uses [] }
+    ensures complete { (n : ℕ) (tokens : List Sign) (f : File) (uses : List (Use Role)) →
+        IsFile n tokens f uses [] → read_whole n tokens ≡ found f uses [] }
+    ensures faults { (n : ℕ) (tokens : List Sign) (left : ℕ) →
+        read_whole n tokens ≡ Err (Syntax left) → Dead (IsSomeFile n) tokens left }
 {}
