@@ -1,1 +1,3 @@
 pub mod Fitting
+pub mod InOrder
+pub mod Names

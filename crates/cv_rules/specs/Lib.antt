@@ -1,7 +1,11 @@
 pub mod Declarations
 pub mod Equivalences
 pub mod Files
+pub mod Filled
+pub mod InOrder
+pub mod Names
 pub mod Phrases
 pub mod Processes
 pub mod Rules
 pub mod Terms
+pub mod Whole

@@ -1,9 +1,10 @@
-ghost use Rattle.std.specs.Prelude.{◌≡◌, ℕ, List, [], Ok, Err};
+ghost use Rattle.std.specs.Prelude.{◌≡◌, ◌↔◌, ℕ, List, [], Ok, Err, Some, None};
 ghost use Rattle.cv_grammar.specs.Reads.{Found, found, Syntax};
 ghost use Rattle.cv_grammar.specs.Spells.{Use};
 ghost use Rattle.cv_grammar.specs.Whole.{Dead};
 ghost use Rattle.cv_grammar.specs.declared.sign.Sign.{Sign};
 ghost use Rattle.cv_rules.specs.Files.{IsFile, IsSomeFile, read_whole};
+ghost use Rattle.cv_rules.specs.Names.{Uses, NameFault, AreNamed, IsNameFault, name_fault};
 ghost use Rattle.cv_rules.specs.Rules.{File};
 ghost use Rattle.cv_rules.specs.declared.role.Role.{Role};
 
@@ -17,4 +18,11 @@ pub fn reading_is_exact()
         IsFile n tokens f uses [] → read_whole n tokens ≡ found f uses [] }
     ensures faults { (n : ℕ) (tokens : List Sign) (left : ℕ) →
         read_whole n tokens ≡ Err (Syntax left) → Dead (IsSomeFile n) tokens left }
+{}
+
+/// The rules of names are decided from left to right: no fault is found exactly where every use of a name
+/// obeys its rule, and else the fault of the first use that breaks its rule.
+pub fn names_are_decided()
+    ensures none { (uses : Uses) → name_fault uses ≡ None ↔ AreNamed uses }
+    ensures first { (uses : Uses) (f : NameFault) → name_fault uses ≡ Some f ↔ IsNameFault uses f }
 {}
