@@ -1,3 +1,4 @@
 pub mod Fitting
 pub mod InOrder
 pub mod Names
+pub mod Outcome

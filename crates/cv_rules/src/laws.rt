@@ -1,4 +1,6 @@
-ghost use Rattle.std.specs.Prelude.{◌≡◌, ◌↔◌, ℕ, List, [], Ok, Err, Some, None};
+ghost use Rattle.std.specs.Prelude.{◌≡◌, ◌↔◌, ℕ, List, [], Option, Ok, Err, Some, None};
+ghost use Rattle.cv_syntax.specs.Declarations.{Declaration};
+ghost use Rattle.cv_syntax.specs.Tree.{Tree};
 ghost use Rattle.cv_grammar.specs.Reads.{Found, found, Syntax};
 ghost use Rattle.cv_grammar.specs.Spells.{Use};
 ghost use Rattle.cv_grammar.specs.Whole.{Dead};
@@ -6,6 +8,7 @@ ghost use Rattle.cv_grammar.specs.declared.sign.Sign.{Sign};
 ghost use Rattle.cv_rules.specs.Files.{IsFile, IsSomeFile, read_whole};
 ghost use Rattle.cv_rules.specs.Names.{Uses, NameFault, AreNamed, IsNameFault, name_fault};
 ghost use Rattle.cv_rules.specs.Rules.{File};
+ghost use Rattle.cv_rules.specs.Whole.{IsRead, IsMisnamed, Misnamed, outcome};
 ghost use Rattle.cv_rules.specs.declared.role.Role.{Role};
 
 /// Reading by the next token takes the files of the grammar and nothing else. So tokens spell at most one
@@ -25,4 +28,14 @@ pub fn reading_is_exact()
 pub fn names_are_decided()
     ensures none { (uses : Uses) → name_fault uses ≡ None ↔ AreNamed uses }
     ensures first { (uses : Uses) (f : NameFault) → name_fault uses ≡ Some f ↔ IsNameFault uses f }
+{}
+
+/// What is computed of a file is what is meant: it is accepted with its declarations, its proof block and its
+/// game exactly where the grammar and the rules of names hold, and refused for a name exactly where the
+/// grammar holds and that use of a name is the first that breaks its rule. So a file says one thing only.
+pub fn files_are_decided()
+    ensures accepted { (tokens : List Sign) (decls : List Declaration) (script : Option (ℕ × ℕ)) (game : Tree) →
+        outcome tokens ≡ Ok (decls, (script, game)) ↔ IsRead tokens decls script game }
+    ensures misnamed { (tokens : List Sign) (f : NameFault) →
+        outcome tokens ≡ Err (Misnamed f) ↔ IsMisnamed tokens f }
 {}

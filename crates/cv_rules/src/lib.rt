@@ -4,5 +4,5 @@
 mod laws;
 mod role;
 
-pub use laws::{names_are_decided, reading_is_exact};
+pub use laws::{files_are_decided, names_are_decided, reading_is_exact};
 pub use role::{Asked, Region, Role, TypeOption};
