@@ -1,5 +1,5 @@
 -- The first item that breaks a rule is found from left to right.
-use Rattle.std.proofs.Common.{◌≡◌, Bool, true, false, if◌then◌else◌, List, [], ◌∷◌, ◌++◌, Option, Some, None, refl, ap, sym, ◌∙◌, subst}
+use Rattle.std.proofs.Common.{◌≡◌, Bool, true, false, if◌then◌else◌, List, [], ◌∷◌, ◌++◌, Some, None, refl, ap, ◌∙◌, subst}
 use Rattle.cv_rules.specs.InOrder.{Rule, AllObey, BreaksFirst, later, first_broken}
 
 module _ {A : Type 0} where

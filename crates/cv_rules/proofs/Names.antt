@@ -1,8 +1,8 @@
 -- The first fault of names, computed, is the one that is meant.
-use Rattle.std.proofs.Common.{◌≡◌, List, Option, Some, None, option_map, refl, ap, sym, ◌∙◌}
+use Rattle.std.proofs.Common.{◌≡◌, Option, Some, None, option_map, refl, ap, sym, ◌∙◌}
 use Rattle.cv_grammar.specs.Spells.{Use}
 use Rattle.cv_rules.specs.declared.role.Role.{Role}
-use Rattle.cv_rules.specs.InOrder.{BreaksFirst, first_broken}
+use Rattle.cv_rules.specs.InOrder.{first_broken}
 use Rattle.cv_rules.specs.Names.{NameFault, Uses, name_rule, fault_of, AreNamed, IsNameFault, name_fault}
 use Rattle.cv_rules.proofs.InOrder.{none_broken, all_obeyed, one_broken, first_is_found}
 

@@ -1,12 +1,11 @@
 -- What is computed of a file is what is meant.
-use Rattle.std.proofs.Common.{◌≡◌, ℕ, List, [], Option, Some, None, Ok, Err, refl, ap, sym, ◌∙◌, subst}
+use Rattle.std.proofs.Common.{◌≡◌, ℕ, List, [], Option, Some, None, Ok, Err, refl, ap, ◌∙◌, subst}
 use Rattle.cv_syntax.specs.Declarations.{Declaration}
 use Rattle.cv_syntax.specs.Tree.{Tree}
 use Rattle.cv_grammar.specs.declared.sign.Sign.{Sign}
-use Rattle.cv_grammar.specs.Reads.{Found, Read, found}
+use Rattle.cv_grammar.specs.Reads.{Found, Read}
 use Rattle.cv_grammar.proofs.Whole.{whole_sound, whole_complete}
 use Rattle.cv_rules.specs.declared.role.Role.{Role}
-use Rattle.cv_rules.specs.Filled.{filled}
 use Rattle.cv_rules.specs.Files.{levels, IsFile, read_whole}
 use Rattle.cv_rules.specs.Names.{NameFault, name_fault}
 use Rattle.cv_rules.specs.Rules.{File, rule, heads, tails, file}

@@ -1,5 +1,6 @@
 pub mod Declarations
 pub mod Equivalences
+pub mod Expected
 pub mod Files
 pub mod Filled
 pub mod InOrder
@@ -9,3 +10,4 @@ pub mod Processes
 pub mod Rules
 pub mod Terms
 pub mod Whole
+pub mod Worked

@@ -6,7 +6,7 @@ use Rattle.cv_rules.specs.InOrder.{Rule, AllObey, BreaksFirst, first_broken}
 use Rattle.cv_rules.specs.declared.role.Asked.{Asked}
 use Rattle.cv_rules.specs.declared.role.Asked.TheVariants.{AParam, AChannel, AFunction, AnEvent, AProbability, AnEquivalence, AType}
 use Rattle.cv_rules.specs.declared.role.Region.{Region}
-use Rattle.cv_rules.specs.declared.role.Region.TheVariants.{InEquation, InQuery, InEquivalence, InProcess}
+use Rattle.cv_rules.specs.declared.role.Region.TheVariants.{InEquivalence, InProcess}
 use Rattle.cv_rules.specs.declared.role.Role.{Role}
 use Rattle.cv_rules.specs.declared.role.Role.TheVariants.{Declares, Asks, BindsLocal, BindsBound, AsksBound, BindsVariable, BindsIndex, AsksIndex, Mentions, AsCall, AsBare, MentionsCell, Enters, Leaves}
 

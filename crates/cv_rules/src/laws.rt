@@ -1,14 +1,17 @@
 ghost use Rattle.std.specs.Prelude.{◌≡◌, ◌↔◌, ℕ, List, [], Option, Ok, Err, Some, None};
 ghost use Rattle.cv_syntax.specs.Declarations.{Declaration};
-ghost use Rattle.cv_syntax.specs.Tree.{Tree};
+ghost use Rattle.cv_syntax.specs.Tree.{Tree, lone};
+ghost use Rattle.cv_syntax.specs.declared.head.Head.TheVariants.{Stop};
 ghost use Rattle.cv_grammar.specs.Reads.{Found, found, Syntax};
 ghost use Rattle.cv_grammar.specs.Spells.{Use};
 ghost use Rattle.cv_grammar.specs.Whole.{Dead};
 ghost use Rattle.cv_grammar.specs.declared.sign.Sign.{Sign};
 ghost use Rattle.cv_rules.specs.Files.{IsFile, IsSomeFile, read_whole};
-ghost use Rattle.cv_rules.specs.Names.{Uses, NameFault, AreNamed, IsNameFault, name_fault};
+ghost use Rattle.cv_rules.specs.Names.{Uses, NameFault, NameTwice, NameUnknown, AreNamed, IsNameFault, name_fault};
 ghost use Rattle.cv_rules.specs.Rules.{File};
-ghost use Rattle.cv_rules.specs.Whole.{IsRead, IsMisnamed, Misnamed, outcome};
+ghost use Rattle.cv_rules.specs.Whole.{IsRead, IsMisnamed, Unread, Misnamed, outcome};
+ghost use Rattle.cv_rules.specs.Worked.{declarations, equivalences, tests, searches, reserved, repeated, unknown, later};
+ghost use Rattle.cv_rules.specs.Expected.{declared, equated, tested, testing, searched, searching};
 ghost use Rattle.cv_rules.specs.declared.role.Role.{Role};
 
 /// Reading by the next token takes the files of the grammar and nothing else. So tokens spell at most one
@@ -38,4 +41,22 @@ pub fn files_are_decided()
         outcome tokens ≡ Ok (decls, (script, game)) ↔ IsRead tokens decls script game }
     ensures misnamed { (tokens : List Sign) (f : NameFault) →
         outcome tokens ≡ Err (Misnamed f) ↔ IsMisnamed tokens f }
+{}
+
+/// Four small files with the trees that they say: each kind of declaration, a collision and an equivalence,
+/// nested tests, and a search in an array.
+pub fn worked_files()
+    ensures declarations { IsRead declarations declared None (lone Stop) }
+    ensures equivalences { IsRead equivalences equated None (lone Stop) }
+    ensures tests { IsRead tests tested None testing }
+    ensures searches { IsRead searches searched (Some (72, 67)) searching }
+{}
+
+/// Four small files that are refused: a reserved word is no name, a name is declared twice, a parameter is
+/// not declared, and an index is read before it is bound. The number counts the tokens that are left.
+pub fn refused_files()
+    ensures reserved { outcome reserved ≡ Err (Unread (Syntax 4)) }
+    ensures repeated { outcome repeated ≡ Err (Misnamed (NameTwice 4)) }
+    ensures unknown { outcome unknown ≡ Err (Misnamed (NameUnknown 2)) }
+    ensures later { outcome later ≡ Err (Misnamed (NameUnknown 11)) }
 {}
