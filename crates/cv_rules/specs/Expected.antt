@@ -4,7 +4,7 @@ use Rattle.cv_syntax.specs.Declarations.{Declaration, Named, Equation, Equiv, Qu
 use Rattle.cv_syntax.specs.Tree.{Tree, Empty, Node, lone, chain, names, binders}
 use Rattle.cv_syntax.specs.declared.decls.Class.TheVariants as class
 use Rattle.cv_syntax.specs.declared.head.Head.{Head}
-use Rattle.cv_syntax.specs.declared.head.Head.TheVariants.{Stop, Yield, Par, Repl, In, Out, Event, New, If, Find, Branch, Leaf, Read, Apply, Eq, And, Not, Yes, No, Cons, Forall, Query as Correspondence, Occurs, OccursOnce, Secret, Equivalence, Bound, Single, Oracle}
+use Rattle.cv_syntax.specs.declared.head.Head.TheVariants.{Stop, Yield, Par, Repl, In, Out, Event, New, Let, If, Find, Branch, Leaf, Read, Apply, Eq, And, Or, Not, Yes, No, Cons, Forall, Query as Correspondence, Occurs, OccursOnce, Secret, Equivalence, Bound, Single, Oracle}
 
 -- terms
 
@@ -116,3 +116,36 @@ searcher = Node (Repl 8 1) Empty (on (In 3) (8 ∷ []) Empty (Node (Find 1) (cha
 -- each plain read and each plain channel has the current index
 abbrev pub searching : Tree
 searching = Node Par sender searcher
+
+-- two parameters, a type, a constant, a function and two channels
+abbrev pub arrayed : List Declaration
+arrayed =
+    Named 1 class.Param Empty None
+    ∷ Named 2 class.Param Empty None
+    ∷ Named 3 (class.TypeName true false) Empty None
+    ∷ Named 4 (class.Fun false) Empty (Some 3)
+    ∷ Named 5 (class.Fun false) (names (3 ∷ [])) (Some 3)
+    ∷ Named 6 class.Channel Empty None
+    ∷ Named 7 class.Channel Empty None
+    ∷ []
+
+-- x[i, j], under the replications with the indices i and j
+abbrev read_inside : ℕ → Tree
+read_inside x = cell x (variable 8 ∷ variable 10 ∷ [])
+
+-- y[u[i, j], v[i, j]]
+abbrev pair_cell : Tree
+pair_cell = cell 11 (read_inside 14 ∷ read_inside 15 ∷ [])
+
+abbrev pair_condition : Tree
+pair_condition = Node Or (equal pair_cell (read_under 9 8)) (equal (variable 4) (read_inside 12))
+
+abbrev pair_branch : Tree
+pair_branch = branch (binders ((14, 1) ∷ ((15, 2) ∷ []))) (chain (cell 9 (read_inside 14 ∷ []) ∷ pair_cell ∷ [])) pair_condition (on (Out 7) (8 ∷ 10 ∷ []) (chain (read_inside 13 ∷ read_under 9 8 ∷ [])) (lone Stop))
+
+abbrev inner_receiver : Tree
+inner_receiver = Node (Repl 10 2) Empty (on (In 6) (8 ∷ 10 ∷ []) (binders ((11, 3) ∷ ((12, 3) ∷ []))) (Node (Let 13 3) (call 5 (variable 4 ∷ [])) (Node (Find 7) (chain (pair_branch ∷ [])) (lone Yield))))
+
+-- a plain read of the variable 9, which stands under one replication, has the first index alone
+abbrev pub arraying : Tree
+arraying = Node (Repl 8 1) Empty (on (In 6) (8 ∷ []) Empty (Node (New 9 3) Empty (on (Out 7) (8 ∷ []) Empty inner_receiver)))

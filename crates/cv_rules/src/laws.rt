@@ -1,8 +1,8 @@
-ghost use Rattle.std.specs.Prelude.{◌≡◌, ◌↔◌, ℕ, List, [], Option, Ok, Err, Some, None};
+ghost use Rattle.std.specs.Prelude.{◌≡◌, ◌↔◌, ℕ, suc, List, [], Option, Ok, Err, Some, None};
 ghost use Rattle.cv_syntax.specs.Declarations.{Declaration};
 ghost use Rattle.cv_syntax.specs.Tree.{Tree, lone};
 ghost use Rattle.cv_syntax.specs.declared.head.Head.TheVariants.{Stop};
-ghost use Rattle.cv_grammar.specs.Reads.{Found, found, Syntax};
+ghost use Rattle.cv_grammar.specs.Reads.{Found, found, Syntax, Nesting};
 ghost use Rattle.cv_grammar.specs.Spells.{Use};
 ghost use Rattle.cv_grammar.specs.Whole.{Dead};
 ghost use Rattle.cv_grammar.specs.declared.sign.Sign.{Sign};
@@ -10,13 +10,13 @@ ghost use Rattle.cv_rules.specs.Files.{IsFile, IsSomeFile, read_whole};
 ghost use Rattle.cv_rules.specs.Names.{Uses, NameFault, NameTwice, NameUnknown, AreNamed, IsNameFault, name_fault};
 ghost use Rattle.cv_rules.specs.Rules.{File};
 ghost use Rattle.cv_rules.specs.Whole.{IsRead, IsMisnamed, Unread, Misnamed, outcome};
-ghost use Rattle.cv_rules.specs.Worked.{declarations, equivalences, tests, searches, reserved, repeated, unknown, later};
-ghost use Rattle.cv_rules.specs.Expected.{declared, equated, tested, testing, searched, searching};
+ghost use Rattle.cv_rules.specs.Worked.{declarations, equivalences, tests, searches, arrays, nested, reserved, repeated, local_first, unbound, unknown, later};
+ghost use Rattle.cv_rules.specs.Expected.{declared, equated, tested, testing, searched, searching, arrayed, arraying};
 ghost use Rattle.cv_rules.specs.declared.role.Role.{Role};
 
 /// Reading by the next token takes the files of the grammar and nothing else. So tokens spell at most one
-/// file, with one tree and one list of uses of names. And where reading names a token as a fault of syntax,
-/// no file begins with the tokens through that one.
+/// file, with one tree and one list of uses of names. Where reading names a token as a fault of syntax, no
+/// file begins with the tokens through that one. And one level more takes all files that were taken.
 pub fn reading_is_exact()
     ensures sound { (n : ℕ) (tokens : List Sign) (x : Found Role File) →
         read_whole n tokens ≡ Ok x → IsFile n tokens x.value x.uses [] }
@@ -24,6 +24,8 @@ pub fn reading_is_exact()
         IsFile n tokens f uses [] → read_whole n tokens ≡ found f uses [] }
     ensures faults { (n : ℕ) (tokens : List Sign) (left : ℕ) →
         read_whole n tokens ≡ Err (Syntax left) → Dead (IsSomeFile n) tokens left }
+    ensures deeper { (n : ℕ) (tokens : List Sign) (f : File) (uses : List (Use Role)) →
+        IsFile n tokens f uses [] → IsFile (suc n) tokens f uses [] }
 {}
 
 /// The rules of names are decided from left to right: no fault is found exactly where every use of a name
@@ -43,20 +45,26 @@ pub fn files_are_decided()
         outcome tokens ≡ Err (Misnamed f) ↔ IsMisnamed tokens f }
 {}
 
-/// Four small files with the trees that they say: each kind of declaration, a collision and an equivalence,
-/// nested tests, and a search in an array.
+/// Small files with what they say: each kind of declaration, a collision and an equivalence, nested tests,
+/// a search in an array with plain reads, written indices, and as many parentheses as there are levels.
 pub fn worked_files()
     ensures declarations { IsRead declarations declared None (lone Stop) }
     ensures equivalences { IsRead equivalences equated None (lone Stop) }
     ensures tests { IsRead tests tested None testing }
     ensures searches { IsRead searches searched (Some (72, 67)) searching }
+    ensures arrays { IsRead arrays arrayed None arraying }
+    ensures nested { IsRead (nested 199) [] None (lone Stop) }
 {}
 
-/// Four small files that are refused: a reserved word is no name, a name is declared twice, a parameter is
-/// not declared, and an index is read before it is bound. The number counts the tokens that are left.
+/// Small files that are refused: a reserved word is no name, one parenthesis is too many, a name is declared
+/// twice or after an equation has bound it, a name of an equivalence is declared later, a parameter is not
+/// declared, and an index is read before it is bound. The number counts the tokens that are left.
 pub fn refused_files()
     ensures reserved { outcome reserved ≡ Err (Unread (Syntax 4)) }
+    ensures nested { outcome (nested 200) ≡ Err (Unread (Nesting 201)) }
     ensures repeated { outcome repeated ≡ Err (Misnamed (NameTwice 4)) }
+    ensures local_first { outcome local_first ≡ Err (Misnamed (NameTwice 6)) }
+    ensures unbound { outcome unbound ≡ Err (Misnamed (NameUnknown 36)) }
     ensures unknown { outcome unknown ≡ Err (Misnamed (NameUnknown 2)) }
     ensures later { outcome later ≡ Err (Misnamed (NameUnknown 11)) }
 {}

@@ -19,3 +19,15 @@ returns-clause-unknown c = refl
 pub returns-clause-later : goal.returns-clause-later
 unfolding read_sort first_broken part_from own_from
 returns-clause-later c = refl
+
+pub returns-clause-nested : goal.returns-clause-nested
+unfolding read_sort first_broken part_from own_from
+returns-clause-nested c = refl
+
+pub returns-clause-local_first : goal.returns-clause-local_first
+unfolding read_sort first_broken part_from own_from
+returns-clause-local_first c = refl
+
+pub returns-clause-unbound : goal.returns-clause-unbound
+unfolding read_sort first_broken part_from own_from
+returns-clause-unbound c = refl

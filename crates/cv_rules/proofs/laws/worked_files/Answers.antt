@@ -1,12 +1,12 @@
-use Rattle.std.proofs.Common.{refl, Some, None}
+use Rattle.std.proofs.Common.{[], refl, Some, None}
 use Rattle.cv_syntax.specs.Tree.{lone}
 use Rattle.cv_syntax.specs.declared.head.Head.TheVariants.{Stop}
 use Rattle.cv_grammar.specs.Reads.{read_sort}
-use Rattle.cv_rules.specs.Expected.{declared, equated, tested, testing, searched, searching}
+use Rattle.cv_rules.specs.Expected.{declared, equated, tested, testing, searched, searching, arrayed, arraying}
 use Rattle.cv_rules.specs.Filled.{first_site, filled_at}
 use Rattle.cv_rules.specs.InOrder.{first_broken}
 use Rattle.cv_rules.specs.Names.{part_from, own_from}
-use Rattle.cv_rules.specs.Worked.{declarations, equivalences, tests, searches}
+use Rattle.cv_rules.specs.Worked.{declarations, equivalences, tests, searches, arrays, nested}
 use Rattle.cv_rules.proofs.Outcome.{accepted_is_read}
 use Rattle.cv_rules.proofs.laws.worked_files.Goals as goal
 
@@ -25,3 +25,11 @@ returns-clause-tests c = accepted_is_read tests tested None testing refl
 pub returns-clause-searches : goal.returns-clause-searches
 unfolding read_sort first_site filled_at first_broken part_from own_from
 returns-clause-searches c = accepted_is_read searches searched (Some (72, 67)) searching refl
+
+pub returns-clause-arrays : goal.returns-clause-arrays
+unfolding read_sort first_site filled_at first_broken part_from own_from
+returns-clause-arrays c = accepted_is_read arrays arrayed None arraying refl
+
+pub returns-clause-nested : goal.returns-clause-nested
+unfolding read_sort first_site filled_at first_broken part_from own_from
+returns-clause-nested c = accepted_is_read (nested 199) [] None (lone Stop) refl
