@@ -1,3 +1,4 @@
+pub mod Filling
 pub mod Fitting
 pub mod InOrder
 pub mod Names

@@ -7,6 +7,7 @@ ghost use Rattle.cv_grammar.specs.Spells.{Use};
 ghost use Rattle.cv_grammar.specs.Whole.{Dead};
 ghost use Rattle.cv_grammar.specs.declared.sign.Sign.{Sign};
 ghost use Rattle.cv_rules.specs.Files.{IsFile, IsSomeFile, read_whole};
+ghost use Rattle.cv_rules.specs.Filled.{filled_at};
 ghost use Rattle.cv_rules.specs.Names.{Uses, NameFault, NameTwice, NameUnknown, AreNamed, IsNameFault, name_fault};
 ghost use Rattle.cv_rules.specs.Rules.{File};
 ghost use Rattle.cv_rules.specs.Whole.{IsRead, IsMisnamed, Unread, Misnamed, outcome};
@@ -43,6 +44,13 @@ pub fn files_are_decided()
         outcome tokens ≡ Ok (decls, (script, game)) ↔ IsRead tokens decls script game }
     ensures misnamed { (tokens : List Sign) (f : NameFault) →
         outcome tokens ≡ Err (Misnamed f) ↔ IsMisnamed tokens f }
+{}
+
+/// Filling changes nothing in what it has filled, whatever first definitions the variables have and whatever
+/// replications stand above: a second filling with the same ones gives the same tree.
+pub fn filling_is_settled()
+    ensures { (sites : ℕ → Option ℕ) (now : List ℕ) (text : Tree) →
+        filled_at sites now (filled_at sites now text) ≡ filled_at sites now text }
 {}
 
 /// Small files with what they say: each kind of declaration, a collision and an equivalence, nested tests,

@@ -5,6 +5,7 @@ mod laws;
 mod role;
 
 pub use laws::{
-    files_are_decided, names_are_decided, reading_is_exact, refused_files, worked_files,
+    files_are_decided, filling_is_settled, names_are_decided, reading_is_exact, refused_files,
+    worked_files,
 };
 pub use role::{Asked, Region, Role, TypeOption};
