@@ -109,6 +109,18 @@ local_first =
     Mark ConstWord ∷ Word 1 ∷ Mark Colon ∷ Mark Bool ∷ Mark Dot ∷
     Mark Process ∷ Number 0 ∷ []
 
+-- a variable of an equivalence whose name is declared later:
+-- proba P. fun f(bool): bool. equiv q !i<=n new r: bool; (O: (x: bool) -> f(x)) <=(P)=> !i<=n new r: bool; (O: (x: bool) -> x). const x: bool. process 0
+abbrev pub bound_first : List Sign
+bound_first =
+    Mark Proba ∷ Word 1 ∷ Mark Dot ∷
+    Mark Fun ∷ Word 2 ∷ Mark Open ∷ Mark Bool ∷ Mark Close ∷ Mark Colon ∷ Mark Bool ∷ Mark Dot ∷
+    Mark Equiv ∷ Word 3 ∷ Mark Bang ∷ Word 4 ∷ Mark AtMost ∷ Word 5 ∷ Mark New ∷ Word 6 ∷ Mark Colon ∷ Mark Bool ∷ Mark Semicolon ∷
+    Mark Open ∷ Word 7 ∷ Mark Colon ∷ Mark Open ∷ Word 8 ∷ Mark Colon ∷ Mark Bool ∷ Mark Close ∷ Mark Arrow ∷ Word 2 ∷ Mark Open ∷ Word 8 ∷ Mark Close ∷ Mark Close ∷ Mark AtMost ∷ Mark Open ∷ Word 1 ∷ Mark Close ∷ Mark Gives ∷ Mark Bang ∷ Word 4 ∷ Mark AtMost ∷ Word 5 ∷ Mark New ∷ Word 6 ∷ Mark Colon ∷ Mark Bool ∷ Mark Semicolon ∷
+    Mark Open ∷ Word 7 ∷ Mark Colon ∷ Mark Open ∷ Word 8 ∷ Mark Colon ∷ Mark Bool ∷ Mark Close ∷ Mark Arrow ∷ Word 8 ∷ Mark Close ∷ Mark Dot ∷
+    Mark ConstWord ∷ Word 8 ∷ Mark Colon ∷ Mark Bool ∷ Mark Dot ∷
+    Mark Process ∷ Number 0 ∷ []
+
 -- a name in an equivalence that is declared later:
 -- proba P. fun f(bool): bool. equiv q !i<=n new r: bool; (O: () -> f(g)) <=(P)=> !i<=n new r: bool; (O: () -> f(r)). const g: bool. process 0
 abbrev pub unbound : List Sign

@@ -11,7 +11,7 @@ ghost use Rattle.cv_rules.specs.Filled.{filled_at};
 ghost use Rattle.cv_rules.specs.Names.{Uses, NameFault, NameTwice, NameUnknown, AreNamed, IsNameFault, name_fault};
 ghost use Rattle.cv_rules.specs.Rules.{File};
 ghost use Rattle.cv_rules.specs.Whole.{IsRead, IsMisnamed, Unread, Misnamed, outcome};
-ghost use Rattle.cv_rules.specs.Worked.{declarations, equivalences, tests, searches, arrays, nested, reserved, repeated, local_first, unbound, unknown, later};
+ghost use Rattle.cv_rules.specs.Worked.{declarations, equivalences, tests, searches, arrays, nested, reserved, repeated, local_first, bound_first, unbound, unknown, later};
 ghost use Rattle.cv_rules.specs.Expected.{declared, equated, tested, testing, searched, searching, arrayed, arraying};
 ghost use Rattle.cv_rules.specs.declared.role.Role.{Role};
 
@@ -65,13 +65,15 @@ pub fn worked_files()
 {}
 
 /// Small files that are refused: a reserved word is no name, one parenthesis is too many, a name is declared
-/// twice or after an equation has bound it, a name of an equivalence is declared later, a parameter is not
+/// twice or after an equation or an
+/// equivalence has bound it, a name of an equivalence is declared later, a parameter is not
 /// declared, and an index is read before it is bound. The number counts the tokens that are left.
 pub fn refused_files()
     ensures reserved { outcome reserved ≡ Err (Unread (Syntax 4)) }
     ensures nested { outcome (nested 200) ≡ Err (Unread (Nesting 201)) }
     ensures repeated { outcome repeated ≡ Err (Misnamed (NameTwice 4)) }
     ensures local_first { outcome local_first ≡ Err (Misnamed (NameTwice 6)) }
+    ensures bound_first { outcome bound_first ≡ Err (Misnamed (NameTwice 6)) }
     ensures unbound { outcome unbound ≡ Err (Misnamed (NameUnknown 36)) }
     ensures unknown { outcome unknown ≡ Err (Misnamed (NameUnknown 2)) }
     ensures later { outcome later ≡ Err (Misnamed (NameUnknown 11)) }

@@ -31,3 +31,7 @@ returns-clause-local_first c = refl
 pub returns-clause-unbound : goal.returns-clause-unbound
 unfolding read_sort first_broken part_from own_from
 returns-clause-unbound c = refl
+
+pub returns-clause-bound_first : goal.returns-clause-bound_first
+unfolding read_sort first_broken part_from own_from
+returns-clause-bound_first c = refl
