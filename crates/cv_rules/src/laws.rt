@@ -65,9 +65,8 @@ pub fn worked_files()
 {}
 
 /// Small files that are refused: a reserved word is no name, one parenthesis is too many, a name is declared
-/// twice or after an equation or an
-/// equivalence has bound it, a name of an equivalence is declared later, a parameter is not
-/// declared, and an index is read before it is bound. The number counts the tokens that are left.
+/// twice, or after an equation or an equivalence has bound it, a name of an equivalence is declared later, a
+/// parameter is not declared, and an index is read before it is bound. The number counts the tokens left.
 pub fn refused_files()
     ensures reserved { outcome reserved ≡ Err (Unread (Syntax 4)) }
     ensures nested { outcome (nested 200) ≡ Err (Unread (Nesting 201)) }
