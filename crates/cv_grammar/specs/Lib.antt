@@ -1,5 +1,7 @@
 pub mod Fits
 pub mod Form
+pub mod Local
 pub mod Marks
 pub mod Reads
 pub mod Spells
+pub mod Whole

@@ -1,0 +1,11 @@
+// The definition of files: the grammar, the rules of names, and the game that a file stands for.
+#![tactic(auto)]
+
+mod laws;
+mod role;
+
+pub use laws::{
+    files_are_decided, filling_is_settled, names_are_decided, reading_is_exact, refused_files,
+    worked_files,
+};
+pub use role::{Asked, Region, Role, TypeOption};
