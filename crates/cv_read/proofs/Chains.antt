@@ -114,6 +114,11 @@ both_made h s t a b c d e f g =
     g ∙ (ap (λ l. l ++ Over h ∷ []) (f ∙ (ap (λ l. l ++ postorder t) e ∙ append_assoc a (postorder s) (postorder t)))
     ∙ (append_assoc a (postorder s ++ postorder t) (Over h ∷ []) ∙ ap (λ l. a ++ l) (append_assoc (postorder s) (postorder t) (Over h ∷ []))))
 
+-- a node without a second child
+pub first_made : (h : Head) (s : Tree) (a b c d : List Make) → b ≡ a ++ postorder s → c ≡ b ++ Nothing ∷ [] → d ≡ c ++ Over h ∷ [] → d ≡ a ++ postorder (Node h s Empty)
+unfolding postorder
+first_made h s a b c d e f g = both_made h s Empty a b c d e f g
+
 -- an input or an output: its indices, what is bound or sent, and what follows
 pub over_made : (h : Head) (i s t : Tree) (a b c d e : List Make) → b ≡ a ++ (postorder i ++ postorder s) → c ≡ b ++ Over Cons ∷ [] → d ≡ c ++ postorder t → e ≡ d ++ Over h ∷ [] → e ≡ a ++ postorder (Node h (Node Cons i s) t)
 over_made h i s t a b c d e p q r x = both_made h (Node Cons i s) t a c d e (both_made Cons i s a (a ++ postorder i) b c refl (p ∙ sym (append_assoc a (postorder i) (postorder s))) q) r x

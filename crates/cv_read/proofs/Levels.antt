@@ -71,12 +71,21 @@ fails_below all e (suc n) s ts h d = absurd (omega arith)
 pub makes_less : (all : List Sign) (emit : Tree → List Make) (old new : Trail) (r : Result ℕ ReadError) (n m : ℕ) (s : Sort) (ts : List Sign) → m + 1 ≡ n → Makes emit all old new r (read_in m (rule s) ts) → Makes emit all old new r (below n s ts)
 makes_less all emit old new r n m s ts h d = subst (λ x. Makes emit all old new r x) (sym (below_is n m s ts (omega arith))) d
 
+pub made_less : {all : List Sign} {s t : Trail} {l : ℕ} (n m : ℕ) (q : Sort) (ts : List Sign) → m + 1 ≡ n → IsMade postorder all s t (read_in m (rule q) ts) l → IsMade postorder all s t (below n q ts) l
+made_less {all = all} {s = s} {t = t} {l = l} n m q ts h d = makes_less all postorder s t (Ok l) n m q ts h d
+
+pub fails_less : (all : List Sign) (e : ReadError) (n m : ℕ) (s : Sort) (ts : List Sign) → m + 1 ≡ n → Fails all e (read_in m (rule s) ts) → Fails all e (below n s ts)
+fails_less all e n m s ts h d = subst (λ x. Fails all e x) (sym (below_is n m s ts (omega arith))) d
+
 pub over_less : (all : List Sign) (old new : Trail) (r : Result (ℕ × ℕ) ReadError) (n m : ℕ) (s : Sort) (ts : List Sign) → m + 1 ≡ n → MakesOver all old new r (read_in m (rule s) ts) → MakesOver all old new r (below n s ts)
 over_less all old new r n m s ts h d = subst (λ x. MakesOver all old new r x) (sym (below_is n m s ts (omega arith))) d
 
 pub fails_none : (all : List Sign) (e : ReadError) (n : ℕ) (s : Sort) (ts : List Sign) → n ≡ 0 → Fails all e (too_deep heads s ts) → Fails all e (below n s ts)
 fails_none all e zero s ts h d = d
 fails_none all e (suc n) s ts h d = absurd (omega arith)
+
+pub shallow_below : (all : List Sign) (e : ReadError) (at n : ℕ) (s : Sort) (b : Bool) → n ≤ 0 → b ≡ next_is (heads s) (drop at all) → Shallow all e b at → Fails all e (below n s (drop at all))
+shallow_below all e at n s b l h d = fails_below all e n s (drop at all) l (subst (λ c. Shallow all e c at) h d)
 
 -- the fault of an opening parenthesis is that of a phrase in parentheses
 same_fault : {A : Type 0} (m : Mark) (n : ℕ) (b : Bool) (f : Found Role (Unit {0}) → Read Role A) (g : Reader Role A) (ts : List Sign) (e : Fault) → ((us : List Sign) → g us ≡ (read_sign m us >>= f)) → pick {R = Role} {A = Unit {0}} (positive n) (read_sign m) (pick b no_level no_syntax) ts ≡ Err e → pick {R = Role} {A = A} (positive n) g (pick b no_level no_syntax) ts ≡ Err e
@@ -134,4 +143,4 @@ there (Err e) = refl
 pub some_tree : (n : ℕ) (f : Phrase Tree) (all : List Sign) (old new : Trail) (r : Result ℕ ReadError) (ts : List Sign) → next_is (starts heads f) ts ≡ true → Makes postorder all old new r (read_in n f ts) → Makes postorder all old new r (read_in n (listed f) ts)
 some_tree n f all old new r ts h d = subst (λ x. Makes postorder all old new r x) (sym (ap (λ x. x >>= mapped (or_else Empty)) (some_read (next_is (starts heads f) ts) (read_in n f) ts h) ∙ there (read_in n f ts))) d
 
-pub ruleset levels = (some_tree, no_tree, opening_too_deep, opening_missing, room, no_room, fails_first, fails_second, makes_first, makes_second, too_deep_here, not_here, makes_below, fails_below, makes_less, over_less, fails_none)
+pub ruleset levels = (some_tree, no_tree, opening_too_deep, opening_missing, room, no_room, fails_first, fails_second, makes_first, makes_second, too_deep_here, not_here, makes_below, fails_below, shallow_below, makes_less, fails_less, over_less, fails_none)
