@@ -118,29 +118,32 @@ none_read : {A : Type 0} (b : Bool) (p : Reader Role A) (ts : List Sign) → b �
 none_read true p ts h = absurd (cc)
 none_read false p ts h = refl
 
-pub no_tree : (n : ℕ) (f : Phrase Tree) (all : List Sign) (old new : Trail) (at : ℕ) → at ≤ length all → next_is (starts heads f) (drop at all) ≡ false → new.uses.items ≡ old.uses.items → new.makes.items ≡ old.makes.items ++ Nothing ∷ [] → Makes postorder all old new (Ok at) (read_in n (listed f) (drop at all))
-unfolding postorder
-no_tree n f all old new at l h u m = record {
-  value = Empty;
+pub default_tree : (near : Bool) (d : Tree) (n : ℕ) (f : Phrase Tree) (all : List Sign) (old new : Trail) (at : ℕ) → at ≤ length all → next_is (starts heads f) (drop at all) ≡ false → new.uses.items ≡ old.uses.items → new.makes.items ≡ old.makes.items ++ postorder d → Makes postorder all old new (Ok at) (read_in n (made (or_else d) (may near f)) (drop at all))
+default_tree near d n f all old new at l h u m = record {
+  value = d;
   read = record {
     uses = [];
-    is = ap (λ r. r >>= mapped (or_else Empty)) (none_read (next_is (starts heads f) (drop at all)) (read_in n f) (drop at all) h);
+    is = ap (λ r. r >>= mapped (or_else d)) (none_read (next_is (starts heads f) (drop at all)) (read_in n f) (drop at all) h);
     noted = ap uses_of u ∙ sym (append-nil (uses_of old.uses.items));
     within = l;
   };
   makes = m;
 }
 
+pub no_tree : (n : ℕ) (f : Phrase Tree) (all : List Sign) (old new : Trail) (at : ℕ) → at ≤ length all → next_is (starts heads f) (drop at all) ≡ false → new.uses.items ≡ old.uses.items → new.makes.items ≡ old.makes.items ++ Nothing ∷ [] → Makes postorder all old new (Ok at) (read_in n (listed f) (drop at all))
+unfolding postorder
+no_tree n f all old new at l h u m = default_tree false Empty n f all old new at l h u m
+
 -- and one that is there
 some_read : {A : Type 0} (b : Bool) (p : Reader Role A) (ts : List Sign) → b ≡ true → pick b (λ us. p us >>= mapped Some) (nothing None) ts ≡ (p ts >>= mapped Some)
 some_read true p ts h = refl
 some_read false p ts h = absurd (cc)
 
-there : (r : Read Role Tree) → ((r >>= mapped Some) >>= mapped (or_else Empty)) ≡ r
-there (Ok x) = refl
-there (Err e) = refl
+there : (d : Tree) (r : Read Role Tree) → ((r >>= mapped Some) >>= mapped (or_else d)) ≡ r
+there d (Ok x) = refl
+there d (Err e) = refl
 
-pub some_tree : (n : ℕ) (f : Phrase Tree) (all : List Sign) (old new : Trail) (r : Result ℕ ReadError) (ts : List Sign) → next_is (starts heads f) ts ≡ true → Makes postorder all old new r (read_in n f ts) → Makes postorder all old new r (read_in n (listed f) ts)
-some_tree n f all old new r ts h d = subst (λ x. Makes postorder all old new r x) (sym (ap (λ x. x >>= mapped (or_else Empty)) (some_read (next_is (starts heads f) ts) (read_in n f) ts h) ∙ there (read_in n f ts))) d
+pub some_tree : (near : Bool) (d : Tree) (n : ℕ) (f : Phrase Tree) (all : List Sign) (old new : Trail) (r : Result ℕ ReadError) (ts : List Sign) → next_is (starts heads f) ts ≡ true → Makes postorder all old new r (read_in n f ts) → Makes postorder all old new r (read_in n (made (or_else d) (may near f)) ts)
+some_tree near d n f all old new r ts h m = subst (λ x. Makes postorder all old new r x) (sym (ap (λ x. x >>= mapped (or_else d)) (some_read (next_is (starts heads f) ts) (read_in n f) ts h) ∙ there d (read_in n f ts))) m
 
 pub ruleset levels = (some_tree, no_tree, opening_too_deep, opening_missing, room, no_room, fails_first, fails_second, makes_first, makes_second, too_deep_here, not_here, makes_below, fails_below, shallow_below, makes_less, fails_less, over_less, fails_none)

@@ -4,7 +4,7 @@ ghost use Rattle.cv_grammar.specs.Form.{◌▸◌, deeper, either, made, may};
 ghost use Rattle.cv_grammar.specs.declared.sign.Mark.TheVariants.{Comma};
 ghost use Rattle.cv_syntax.specs.Tree.{chain};
 ghost use Rattle.cv_syntax.specs.Postorder.{postorder};
-ghost use Rattle.cv_rules.specs.Phrases.{Term, Conjunction, Primary, Arguments, Subscript, row};
+ghost use Rattle.cv_rules.specs.Phrases.{Term, Conjunction, Primary, Arguments, Subscript, listed, row};
 ghost use Rattle.cv_rules.specs.Rules.{heads};
 ghost use Rattle.cv_rules.specs.Terms.{arguments as arguments_form, conjoined as conjoined_form, conjunction as conjunction_form, disjoined as disjoined_form, equal_to as equal_to_form, equality as equality_form, falsehood as falsehood_form, mention as mention_form, negation as negation_form, parentheses as parentheses_form, primary as primary_form, subscript as subscript_form, term as term_form, terms as terms_form, truth as truth_form, unequal as unequal_form, unequal_to as unequal_to_form};
 ghost use Rattle.cv_read.specs.Gives.{Makes, MakesRow, MakesTail, applied, below, perhaps, read_in};
@@ -20,7 +20,7 @@ use cv_syntax::{Head, Make};
 
 /// Whether a term begins at a place.
 #[tactic(auto, using(crate::proofs::Begins::term_begins))]
-fn begins_term(signs: &[Sign], at: usize) -> bool
+pub fn begins_term(signs: &[Sign], at: usize) -> bool
     ensures { result ≡ next_is (heads Term) (drop at signs.now) }
 {
     is_word_at(signs, at)
@@ -467,4 +467,23 @@ pub fn one_term(
     let place = inner_term(signs, at, trail, depth)?;
     close_chain(&mut trail.makes, 1)?;
     Ok(place)
+}
+
+/// Terms with commas between them, where there are some.
+#[tactic(auto, using(cv_read::proofs::Levels::levels))]
+pub fn maybe_terms(
+    signs: &[Sign],
+    at: usize,
+    trail: &mut Trail,
+    depth: u32,
+) -> Result<usize, ReadError>
+    requires at { at ≤ length signs.now }
+    requires few { length signs.now < 2 ^ 32 }
+    ensures makes { Makes postorder signs.now trail.old trail.new result (read_in depth (listed terms_form) (drop at signs.now)) }
+{
+    if begins_term(signs, at) {
+        return terms(signs, at, trail, depth);
+    }
+    trail.makes.push(Make::Nothing)?;
+    Ok(at)
 }
