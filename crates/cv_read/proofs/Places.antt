@@ -93,7 +93,7 @@ fault_at : {A : Type 0} (at : ℕ) (all : List Sign) (r : Read Role A) → at �
 fault_at at all r l e = (l, e ∙ ap (λ n. let r : Read Role _ = Err (Syntax n) in r) (length-drop at all))
 
 -- a use of a name that is noted
-use_noted : (r : Role) (at : ℕ) (all : List Sign) (x : ℕ) (us vs : List NameUse) (n : ℕ) → n ≡ length all - at → vs ≡ us ++ record { role = r; name = x; left = n } ∷ [] → uses_of vs ≡ uses_of us ++ used r x (drop at all)
+pub use_noted : (r : Role) (at : ℕ) (all : List Sign) (x : ℕ) (us vs : List NameUse) (n : ℕ) → n ≡ length all - at → vs ≡ us ++ record { role = r; name = x; left = n } ∷ [] → uses_of vs ≡ uses_of us ++ used r x (drop at all)
 use_noted r at all x us vs n l e = ap uses_of e ∙ (map-append use_of us (record { role = r; name = x; left = n } ∷ []) ∙ ap (λ k. uses_of us ++ record { role = r; name = x; left = k } ∷ []) (l ∙ sym (length-drop at all)))
 
 -- a name
@@ -108,11 +108,11 @@ word_fails r [] h = refl
 word_fails r (token.Word y ∷ ts) h = absurd (cc)
 word_fails r (t ∷ ts) h = refl
 
-pub word_gives : (r : Role) (at : ℕ) (all : List Sign) (x : ℕ) (us vs : List NameUse) (n : ℕ) → next_value word_in (drop at all) ≡ Some x → n ≡ length all - at → vs ≡ us ++ record { role = r; name = x; left = n } ∷ [] → IsRead all us vs (read_word r (drop at all)) x (at + 1)
-word_gives r at all x us vs n h l e = record {
+pub word_gives : (r : Role) (at : ℕ) (all : List Sign) (x : ℕ) (us vs : List NameUse) → next_value word_in (drop at all) ≡ Some x → uses_of vs ≡ uses_of us ++ used r x (drop at all) → IsRead all us vs (read_word r (drop at all)) x (at + 1)
+word_gives r at all x us vs h e = record {
   uses = used r x (drop at all);
   is = word_read r (drop at all) x h ∙ ap (λ ts. found x (used r x (drop at all)) ts) (drop_one at all);
-  noted = use_noted r at all x us vs n l e;
+  noted = e;
   within = let i = value_here word_in at all x h in omega arith;
 }
 
@@ -131,11 +131,11 @@ unnamed_fails r [] h = refl
 unnamed_fails r (token.Unnamed y ∷ ts) h = absurd (cc)
 unnamed_fails r (t ∷ ts) h = refl
 
-pub unnamed_gives : (r : Role) (at : ℕ) (all : List Sign) (x : ℕ) (us vs : List NameUse) (n : ℕ) → next_value unnamed_in (drop at all) ≡ Some x → n ≡ length all - at → vs ≡ us ++ record { role = r; name = x; left = n } ∷ [] → IsRead all us vs (read_unnamed r (drop at all)) x (at + 1)
-unnamed_gives r at all x us vs n h l e = record {
+pub unnamed_gives : (r : Role) (at : ℕ) (all : List Sign) (x : ℕ) (us vs : List NameUse) → next_value unnamed_in (drop at all) ≡ Some x → uses_of vs ≡ uses_of us ++ used r x (drop at all) → IsRead all us vs (read_unnamed r (drop at all)) x (at + 1)
+unnamed_gives r at all x us vs h e = record {
   uses = used r x (drop at all);
   is = unnamed_read r (drop at all) x h ∙ ap (λ ts. found x (used r x (drop at all)) ts) (drop_one at all);
-  noted = use_noted r at all x us vs n l e;
+  noted = e;
   within = let i = value_here unnamed_in at all x h in omega arith;
 }
 
@@ -143,11 +143,11 @@ pub unnamed_stops : (r : Role) (at : ℕ) (all : List Sign) → at ≤ length al
 unnamed_stops r at all l h = fault_at at all (read_unnamed r (drop at all)) l (unnamed_fails r (drop at all) h)
 
 -- a note, which is no token
-pub note_gives : (r : Role) (at : ℕ) (all : List Sign) (us vs : List NameUse) (n : ℕ) → at ≤ length all → n ≡ length all - at → vs ≡ us ++ record { role = r; name = 0; left = n } ∷ [] → IsRead all us vs (read_note r (drop at all)) n at
+pub note_gives : (r : Role) (at : ℕ) (all : List Sign) (us vs : List NameUse) (n : ℕ) → at ≤ length all → n ≡ length all - at → uses_of vs ≡ uses_of us ++ used r 0 (drop at all) → IsRead all us vs (read_note r (drop at all)) n at
 note_gives r at all us vs n w l e = record {
   uses = used r 0 (drop at all);
   is = ap (λ k. found k (used r 0 (drop at all)) (drop at all)) (length-drop at all ∙ sym l);
-  noted = use_noted r at all 0 us vs n l e;
+  noted = e;
   within = w;
 }
 
@@ -283,4 +283,4 @@ plain_read us d = record { uses = []; is = d.is; noted = sym (append-nil (uses_o
 pub ruleset places = (past_end, sign_gives, sign_stops, value_next, no_value_past, word_gives, word_stops, fails_bind, fails_after_sign, read_after_sign, fails_behind)
 
 -- for the readers of single tokens
-pub ruleset tokens = (past_end, value_next, no_value_past, word_stands, find_stands, unnamed_stands, word_gives, word_stops, unnamed_gives, unnamed_stops, note_gives, number_gives, number_stops, find_gives, find_stops, zero_gives, zero_stops, other_gives, other_past, brace_opens, brace_closes)
+pub ruleset tokens = (past_end, value_next, no_value_past, word_stands, find_stands, unnamed_stands, use_noted, word_gives, word_stops, unnamed_gives, unnamed_stops, note_gives, number_gives, number_stops, find_gives, find_stops, zero_gives, zero_stops, other_gives, other_past, brace_opens, brace_closes)

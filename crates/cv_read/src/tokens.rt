@@ -1,12 +1,30 @@
-ghost use Rattle.std.specs.Prelude.{◌≡◌, ◌+◌, ◌<◌, ◌≤◌, ◌^◌, ℕ, length, drop, OnOk, IfOk};
+ghost use Rattle.std.specs.Prelude.{◌≡◌, ◌++◌, ◌+◌, ◌<◌, ◌≤◌, ◌^◌, ℕ, length, drop, OnOk, IfOk};
+ghost use Rattle.cv_grammar.specs.Spells.{used};
 ghost use Rattle.cv_grammar.specs.Reads.{read_word, read_number, read_nought, read_find, read_unnamed, read_other};
-ghost use Rattle.cv_read.specs.Gives.{Gives, GivesPlain, IsRead, Passes, next_value, read_note, number_in as number_of};
+ghost use Rattle.cv_read.specs.Gives.{Gives, uses_of, GivesPlain, IsRead, Passes, next_value, read_note, number_in as number_of};
 
 use crate::reading::{ReadError, find_at, is_at, is_zero_at, unnamed_at, word_at};
 use crate::trail::NameUse;
 use cv_grammar::{Mark, Sign};
 use cv_rules::Role;
 use std::alloc::AllocError;
+
+/// Notes a use of a name at a place.
+#[tactic(auto, using(crate::proofs::Places::tokens))]
+fn note_use(
+    signs: &[Sign],
+    at: usize,
+    uses: &mut Vec<NameUse>,
+    role: Role,
+    name: u32,
+) -> Result<(), AllocError>
+    requires at { at ≤ length signs.now }
+    ensures noted { OnOk result (uses_of uses.new.items ≡ uses_of uses.old.items ++ used role name (drop at signs.now)) }
+{
+    let left = signs.len() - at;
+    uses.push(NameUse { role, name, left })?;
+    Ok(())
+}
 
 /// A name, which is used so.
 #[tactic(auto, using(crate::proofs::Places::tokens))]
@@ -23,8 +41,7 @@ pub fn word(
     let Some(name) = word_at(signs, at) else {
         return Err(ReadError::Syntax(at as u32));
     };
-    let left = signs.len() - at;
-    uses.push(NameUse { role, name, left })?;
+    note_use(signs, at, uses, role, name)?;
     Ok((name, at + 1))
 }
 
@@ -43,8 +60,7 @@ pub fn unnamed(
     let Some(name) = unnamed_at(signs, at) else {
         return Err(ReadError::Syntax(at as u32));
     };
-    let left = signs.len() - at;
-    uses.push(NameUse { role, name, left })?;
+    note_use(signs, at, uses, role, name)?;
     Ok((name, at + 1))
 }
 
@@ -59,10 +75,8 @@ pub fn note(
     requires at { at ≤ length signs.now }
     ensures gives { IfOk result (λ left. IsRead signs.now uses.old.items uses.new.items (read_note role (drop at signs.now)) left at) }
 {
-    let left = signs.len() - at;
-    let name = 0;
-    uses.push(NameUse { role, name, left })?;
-    Ok(left)
+    note_use(signs, at, uses, role, 0)?;
+    Ok(signs.len() - at)
 }
 
 /// The number that a token is.

@@ -235,7 +235,12 @@ fn maybe_equal(signs: &[Sign], at: usize, trail: &mut Trail, depth: u32) -> Resu
 /// A term without `&&` and `||`.
 #[cycle(terms)]
 #[tactic(auto, using(cv_read::proofs::Places::places))]
-pub fn equality(signs: &[Sign], at: usize, trail: &mut Trail, depth: u32) -> Result<usize, ReadError>
+pub fn equality(
+    signs: &[Sign],
+    at: usize,
+    trail: &mut Trail,
+    depth: u32,
+) -> Result<usize, ReadError>
     requires at { at ≤ length signs.now }
     requires few { length signs.now < 2 ^ 32 }
     ensures makes { Makes postorder signs.now trail.old trail.new result (read_in depth equality_form (drop at signs.now)) }

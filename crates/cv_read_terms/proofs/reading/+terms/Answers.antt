@@ -27,14 +27,14 @@ negation-returns t c =
 pub going_on-returns-then-is_at : goal.going_on-returns-then-is_at
 going_on-returns-then-is_at t c = record {
   makes = makes_first (parts_behind c.args.x) c.args.signs.now c.args.trail.now _ (Ok _) _ (read_in c.args.depth called) (read_in c.args.depth (either indexed alone)) _ (sym c.if-is_at.ensures)
-  (behind_name c.args.depth (λ f. Apply f) AsCall Arguments c.args.x c.args.trail.now _ _ c.in_ok-note.ensures.gives refl c.in_ok-place.ensures.makes c.in_ok-push.ensures.items c.in_ok-push-2.ensures.items refl);
+      (behind_name c.args.depth (λ f. Apply f) AsCall Arguments c.args.x c.args.trail.now _ _ c.in_ok-note.ensures.gives refl c.in_ok-place.ensures.makes c.in_ok-push.ensures.items c.in_ok-push-2.ensures.items refl);
 }
 
 pub going_on-returns-then-is_at-2 : goal.going_on-returns-then-is_at-2
 going_on-returns-then-is_at-2 t c = record {
   makes = makes_second (parts_behind c.args.x) c.args.signs.now c.args.trail.now _ (Ok _) _ (read_in c.args.depth called) (read_in c.args.depth (either indexed alone)) _ (sym c.if-is_at.ensures)
-  (makes_first (parts_behind c.args.x) c.args.signs.now c.args.trail.now _ (Ok _) _ (read_in c.args.depth indexed) (read_in c.args.depth alone) _ (sym c.if-is_at-2.ensures)
-  (behind_name c.args.depth (λ x. Read x) AsArray Subscript c.args.x c.args.trail.now _ _ c.in_ok-note-2.ensures.gives refl c.in_ok-place-2.ensures.makes c.in_ok-push-3.ensures.items c.in_ok-push-4.ensures.items refl));
+      (makes_first (parts_behind c.args.x) c.args.signs.now c.args.trail.now _ (Ok _) _ (read_in c.args.depth indexed) (read_in c.args.depth alone) _ (sym c.if-is_at-2.ensures)
+      (behind_name c.args.depth (λ x. Read x) AsArray Subscript c.args.x c.args.trail.now _ _ c.in_ok-note-2.ensures.gives refl c.in_ok-place-2.ensures.makes c.in_ok-push-3.ensures.items c.in_ok-push-4.ensures.items refl));
 }
 
 pub unequal_to-returns : goal.unequal_to-returns
