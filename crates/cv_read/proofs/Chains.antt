@@ -1,5 +1,5 @@
 -- Readers one after another, and the parts that they make.
-use Rattle.std.proofs.Common.{◌≡◌, ℕ, ◌+◌, ◌<◌, ◌≤◌, Result, Ok, Err, Bool, true, false, List, [], ◌∷◌, ◌++◌, length, drop, refl, ap, ap₂, sym, ◌∙◌, subst, append_assoc, append-nil}
+use Rattle.std.proofs.Common.{◌≡◌, ℕ, Result, Ok, Err, Bool, true, false, List, [], ◌∷◌, ◌++◌, drop, refl, ap, ap₂, sym, ◌∙◌, subst, append_assoc, append-nil}
 use Rattle.cv_syntax.specs.declared.head.Head.{Head}
 use Rattle.cv_syntax.specs.declared.head.Head.TheVariants.{Cons}
 use Rattle.cv_syntax.specs.declared.make.Make.{Make}
@@ -17,9 +17,9 @@ use Rattle.cv_read.specs.declared.trail.NameUse.{NameUse}
 use Rattle.cv_read.specs.declared.trail.Trail.{Trail}
 use Rattle.cv_read.specs.declared.reading.ReadError.{ReadError}
 use Rattle.cv_rules.specs.Phrases.{Phrase}
-use Rattle.cv_read.specs.Gives.{Fails, IsMade, IsRead, IsSign, Makes, Opens, Stands, positive, read_in, uses_of}
+use Rattle.cv_read.specs.Gives.{Fails, IsMade, IsRead, Makes, Opens, Stands, positive, read_in, uses_of}
 use Rattle.cv_read.proofs.Levels.{room, fails_first}
-use Rattle.cv_read.proofs.Places.{fails_bind, fails_behind, fails_after_sign}
+use Rattle.cv_read.proofs.Places.{fails_bind, fails_behind}
 
 -- one phrase, and another behind it
 pub both_read : {A B : Type 0} {all : List Sign} {u v w : List NameUse} {r : Read Role A} {a : A} {m : ℕ} {b : B} {end : ℕ} (q : Reader Role B) → IsRead all u v r a m → IsRead all v w (q (drop m all)) b end → IsRead all u w (r >>= λ x. q x.rest >>= joined x) (a, b) end

@@ -1,13 +1,12 @@
 -- Levels, and choices by the next token.
-use Rattle.std.proofs.Common.{◌≡◌, ℕ, zero, suc, ◌+◌, ◌-◌, ◌<◌, ◌≤◌, Bool, true, false, List, [], ◌∷◌, ◌++◌, length, drop, ◌||◌, refl, ap, ap₂, sym, ◌∙◌, arith, subst, length-drop, append-nil, Err, Ok, Some, None, Result, is_some}
+use Rattle.std.proofs.Common.{◌≡◌, ℕ, zero, suc, ◌+◌, ◌-◌, ◌<◌, ◌≤◌, Bool, true, false, List, [], ◌∷◌, ◌++◌, length, drop, ◌||◌, refl, ap, ap₂, sym, ◌∙◌, arith, subst, length-drop, append-nil, Err, Ok, Some, None, Result}
 use Rattle.cv_syntax.specs.Tree.{Tree, Empty}
 use Rattle.cv_syntax.specs.declared.make.Make.{Make}
 use Rattle.cv_syntax.specs.declared.make.Make.TheVariants.{Nothing}
 use Rattle.cv_syntax.specs.Postorder.{postorder}
 use Rattle.cv_grammar.specs.declared.sign.Sign.{Sign}
-use Rattle.cv_grammar.specs.declared.sign.Sign.TheVariants as token
 use Rattle.cv_grammar.specs.declared.sign.Mark.{Mark}
-use Rattle.cv_grammar.specs.Spells.{Kind, next_is, is_mark, is_word, starts}
+use Rattle.cv_grammar.specs.Spells.{Kind, next_is, is_mark, starts}
 use Rattle.cv_grammar.specs.Form.{level, made, may}
 use Rattle.cv_grammar.specs.Reads.{nothing, Read, Reader, Found, Fault, Syntax, Nesting, ◌>>=◌, found, pick, no_syntax, no_level, read_sign, read_sort, too_deep, mapped}
 use Rattle.cv_read.specs.declared.reading.ReadError.{ReadError}

@@ -5,8 +5,8 @@ use Rattle.cv_grammar.specs.declared.sign.Sign.{Sign}
 use Rattle.cv_grammar.specs.declared.sign.Sign.TheVariants as token
 use Rattle.cv_grammar.specs.declared.sign.Mark.{Mark}
 use Rattle.cv_grammar.specs.declared.sign.Mark.TheVariants as mark
-use Rattle.cv_grammar.specs.Spells.{Kind, kind_of, next_is, is_mark, is_word, is_zero, is_find, is_unnamed, is_other, used}
-use Rattle.cv_grammar.specs.Reads.{Read, Found, Syntax, ◌>>=◌, Reader, found, pick, no_syntax, read_sign, read_word, read_number, read_nought, read_find, read_unnamed, read_other}
+use Rattle.cv_grammar.specs.Spells.{Kind, kind_of, next_is, is_mark, is_word, is_zero, is_find, is_unnamed, used}
+use Rattle.cv_grammar.specs.Reads.{Read, Found, Syntax, ◌>>=◌, found, pick, no_syntax, read_sign, read_word, read_number, read_nought, read_find, read_unnamed, read_other}
 use Rattle.cv_read.specs.declared.reading.ReadError.{ReadError}
 use Rattle.cv_read.specs.declared.reading.ReadError.TheVariants as error
 use Rattle.cv_rules.specs.declared.role.Role.{Role}

@@ -1,5 +1,5 @@
 -- Tails: what may stand behind a tree, and goes around it.
-use Rattle.std.proofs.Common.{◌≡◌, ℕ, ◌≤◌, Bool, true, false, List, [], ◌∷◌, ◌++◌, length, drop, refl, ap, sym, ◌∙◌, subst, append_assoc, append-nil, Option, Some, None, Result, Ok, Err}
+use Rattle.std.proofs.Common.{◌≡◌, ℕ, ◌≤◌, Bool, true, false, List, [], ◌∷◌, ◌++◌, length, drop, refl, ap, sym, ◌∙◌, append_assoc, append-nil, Some, None, Result, Ok, Err}
 use Rattle.cv_syntax.specs.declared.head.Head.{Head}
 use Rattle.cv_syntax.specs.declared.make.Make.TheVariants.{Over}
 use Rattle.cv_syntax.specs.Tree.{Tree, Node}
@@ -8,7 +8,7 @@ use Rattle.cv_grammar.specs.declared.sign.Sign.{Sign}
 use Rattle.cv_grammar.specs.declared.sign.Mark.{Mark}
 use Rattle.cv_grammar.specs.Form.{deeper, level, made, may, sign, ◌&◌}
 use Rattle.cv_grammar.specs.Spells.{next_is, starts}
-use Rattle.cv_grammar.specs.Reads.{Read, Reader, ◌>>=◌, found, joined, mapped, nothing, pick}
+use Rattle.cv_grammar.specs.Reads.{Reader, ◌>>=◌, joined, mapped, nothing, pick}
 use Rattle.cv_rules.specs.declared.role.Role.{Role}
 use Rattle.cv_rules.specs.Phrases.{Phrase, Sort}
 use Rattle.cv_rules.specs.Rules.{heads}

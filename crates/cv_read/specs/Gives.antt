@@ -2,7 +2,7 @@
 use Rattle.std.specs.Prelude.{ℕ, zero, suc, Bool, false, true, ◌-◌, ◌+◌, ◌<◌, ◌≤◌, ◌≡◌, List, [], length, drop, ◌++◌, ◌∷◌, map, flat_map, Option, Some, None, Result, Ok, Err}
 use Rattle.std.specs.declared.vec.Vec.{Vec}
 use Rattle.std.specs.declared.alloc.Global.{Global}
-use Rattle.cv_syntax.specs.Tree.{Tree, Empty, Node}
+use Rattle.cv_syntax.specs.Tree.{Tree, Node}
 use Rattle.cv_syntax.specs.Postorder.{postorder}
 use Rattle.cv_syntax.specs.declared.head.Head.TheVariants.{Name}
 use Rattle.cv_syntax.specs.declared.make.Make.{Make}

@@ -1,5 +1,5 @@
 -- The items of lists of names, and of lists of pairs of names. This profile's own.
-use Rattle.std.specs.Prelude.{ℕ, List, []}
+use Rattle.std.specs.Prelude.{ℕ}
 use Rattle.cv_grammar.specs.declared.sign.Mark.TheVariants as mark
 use Rattle.cv_grammar.specs.Form.{word, ◌&◌, ◌▸◌}
 use Rattle.cv_rules.specs.Phrases.{Phrase, type_name, typed}

@@ -1,10 +1,10 @@
 -- What follows a name, and the parts that it makes. This profile's own.
-use Rattle.std.specs.Prelude.{ℕ, false, List, Option}
+use Rattle.std.specs.Prelude.{ℕ, List, Option}
 use Rattle.cv_syntax.specs.Tree.{Tree}
 use Rattle.cv_syntax.specs.Postorder.{postorder}
 use Rattle.cv_syntax.specs.declared.make.Make.{Make}
-use Rattle.cv_grammar.specs.Form.{either, may, deeper}
-use Rattle.cv_rules.specs.Phrases.{Phrase, Subscript}
+use Rattle.cv_grammar.specs.Form.{either}
+use Rattle.cv_rules.specs.Phrases.{Phrase}
 use Rattle.cv_rules.specs.Terms.{called, indexed, alone, cell_of}
 
 -- arguments, indices or nothing

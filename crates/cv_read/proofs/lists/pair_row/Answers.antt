@@ -2,7 +2,7 @@ use Rattle.std.proofs.Common.{refl, sym}
 use Rattle.cv_grammar.specs.Form.{◌▸◌}
 use Rattle.cv_grammar.specs.declared.sign.Mark.TheVariants.{Comma}
 use Rattle.cv_read.specs.Items.{pair_form}
-use Rattle.cv_read.proofs.Rows.{many_goes, many_done, many_stops, read_grows}
+use Rattle.cv_read.proofs.Rows.{many_goes}
 use Rattle.cv_read.proofs.Steady.{pair_steady}
 use Rattle.cv_read.proofs.lists.pair_row.Goals as goal
 

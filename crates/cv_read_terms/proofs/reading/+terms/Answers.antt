@@ -1,20 +1,14 @@
-use Rattle.std.proofs.Common.{Ok, ◌∷◌, [], false, refl, sym, ◌++◌, drop}
+use Rattle.std.proofs.Common.{Ok, false, refl, sym, drop}
 use Rattle.cv_syntax.specs.declared.head.Head.TheVariants.{And, Apply, Eq, Not, Or, Read}
-use Rattle.cv_syntax.specs.Tree.{chain}
-use Rattle.cv_syntax.specs.Postorder.{postorder}
 use Rattle.cv_grammar.specs.Form.{◌▸◌, deeper, either, may}
-use Rattle.cv_grammar.specs.Spells.{next_is, starts}
 use Rattle.cv_grammar.specs.declared.sign.Mark.TheVariants as mark
 use Rattle.cv_rules.specs.declared.role.Role.TheVariants.{AsArray, AsCall}
 use Rattle.cv_rules.specs.Phrases.{Arguments, Conjunction, Parentheses, Primary, Subscript, Term, Unequal}
-use Rattle.cv_rules.specs.Rules.{heads}
-use Rattle.cv_rules.specs.Terms.{alone, called, conjoined, conjunction, disjoined, equal_to, equality, indexed, primary, terms, unequal_to}
+use Rattle.cv_rules.specs.Terms.{alone, called, conjoined, conjunction, disjoined, equal_to, equality, indexed, primary, unequal_to}
 use Rattle.cv_read.specs.Gives.{perhaps, read_in}
-use Rattle.cv_read.proofs.Chains.{between}
 use Rattle.cv_read.proofs.Levels.{makes_first, makes_second, made_less}
-use Rattle.cv_read.proofs.Made.{row-made}
-use Rattle.cv_read.proofs.Rows.{mapped_read, place_grows, trees_begin, trees_go}
-use Rattle.cv_read.proofs.Tails.{joining, no_tail, some_tail, tail_behind}
+use Rattle.cv_read.proofs.Rows.{place_grows, trees_begin, trees_go}
+use Rattle.cv_read.proofs.Tails.{joining, some_tail, tail_behind}
 use Rattle.cv_read_terms.specs.Mentions.{parts_behind}
 use Rattle.cv_read_terms.proofs.Nodes.{behind_name, differing, under}
 use Rattle.cv_read_terms.proofs.reading.+terms.Goals as goal
