@@ -23,7 +23,7 @@ use Rattle.cv_read.specs.Gives.{Fails, IsMade, IsRead, IsTail, Makes, Opens, Sta
 use Rattle.cv_read.proofs.Places.{fails_bind, fails_behind}
 use Rattle.cv_read.proofs.Levels.{fails_first, room}
 use Rattle.cv_read.proofs.Chains.{both_read, first_made, first_read, made_read, opened_read, second_read, sign_both}
-use Rattle.cv_read_terms.specs.Mentions.{parts_behind, parts_of_cell}
+use Rattle.cv_read_terms.specs.Mentions.{differs, parts_behind, parts_of_cell}
 
 -- the same, where the parts of a node were made behind
 pub then_made : {A : Type 0} {all : List Sign} {u v : List NameUse} {r : Reading Role A} {a : A} {end : ℕ} (w : List NameUse) → w ≡ v → IsRead all u v r a end → IsRead all u w r a end
@@ -98,15 +98,14 @@ under {s = s} {t = t} h q u c o d f g i = record {
 }
 
 -- `<>` behind a term
-pub differing : {all : List Sign} {l : ℕ} {s t : Trail} (n at : ℕ) (u : Trail) (b c : List Make) → IsMade postorder all s t (below n Unequal (drop at all)) l → b ≡ t.makes.items ++ Over Eq ∷ [] → c ≡ b ++ Nothing ∷ [] → u.makes.items ≡ c ++ Over Not ∷ [] → u.uses.items ≡ t.uses.items → IsTail applied all s u (read_in n unequal_to (drop at all)) l
+pub differing : {all : List Sign} {l : ℕ} {s t : Trail} (n at : ℕ) (u : Trail) → IsMade postorder all s t (below n Unequal (drop at all)) l → u.makes.items ≡ t.makes.items ++ differs → u.uses.items ≡ t.uses.items → IsTail applied all s u (read_in n unequal_to (drop at all)) l
 unfolding postorder
-differing {s = s} n at u b c d e f g i = record {
+differing {s = s} n at u d f i = record {
   value = λ l. Node Not (Node Eq l d.value) Empty;
-  parts = (postorder d.value ++ Over Eq ∷ []) ++ (Nothing ∷ (Over Not ∷ []));
+  parts = postorder d.value ++ differs;
   read = then_made u.uses.items i (made_read (λ r l. Node Not (Node Eq l r) Empty) d.read);
-  makes = g ∙ (ap (λ l. l ++ Over Not ∷ []) (f ∙ ap (λ l. l ++ Nothing ∷ []) (e ∙ ap (λ l. l ++ Over Eq ∷ []) d.makes)) ∙ regrouped s.makes.items (postorder d.value) (Over Eq ∷ []) (Nothing ∷ []) (Over Not ∷ []));
-  behind = λ l. append_assoc (postorder l) (postorder d.value ++ Over Eq ∷ []) (Nothing ∷ (Over Not ∷ []));
+  makes = f ∙ (ap (λ l. l ++ differs) d.makes ∙ append_assoc s.makes.items (postorder d.value) differs);
+  behind = λ l.
+      append_assoc (postorder l) (postorder d.value ++ Over Eq ∷ []) (Nothing ∷ (Over Not ∷ []))
+      ∙ ap (λ k. postorder l ++ k) (append_assoc (postorder d.value) (Over Eq ∷ []) (Nothing ∷ (Over Not ∷ [])));
 }
-  where
-    regrouped : (a b c d e : List Make) → (((a ++ b) ++ c) ++ d) ++ e ≡ a ++ ((b ++ c) ++ (d ++ e))
-    regrouped a b c d e = simp append_assoc

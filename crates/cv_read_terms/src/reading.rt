@@ -1,4 +1,4 @@
-ghost use Rattle.std.specs.Prelude.{◌≡◌, false, true, ◌∷◌, [], ◌+◌, ◌<◌, ◌≤◌, ◌^◌, ℕ, length, drop};
+ghost use Rattle.std.specs.Prelude.{◌≡◌, false, true, ◌∷◌, [], ◌+◌, ◌++◌, ◌<◌, ◌≤◌, ◌^◌, ℕ, length, drop, OnOk};
 ghost use Rattle.cv_grammar.specs.Spells.{next_is, is_word};
 ghost use Rattle.cv_grammar.specs.Form.{◌▸◌, deeper, either, made, may};
 ghost use Rattle.cv_grammar.specs.declared.sign.Mark.TheVariants.{Comma};
@@ -8,7 +8,7 @@ ghost use Rattle.cv_rules.specs.Phrases.{Term, Conjunction, Primary, Arguments, 
 ghost use Rattle.cv_rules.specs.Rules.{heads};
 ghost use Rattle.cv_rules.specs.Terms.{arguments as arguments_form, conjoined as conjoined_form, conjunction as conjunction_form, disjoined as disjoined_form, equal_to as equal_to_form, equality as equality_form, falsehood as falsehood_form, mention as mention_form, negation as negation_form, parentheses as parentheses_form, primary as primary_form, subscript as subscript_form, term as term_form, terms as terms_form, truth as truth_form, unequal as unequal_form, unequal_to as unequal_to_form};
 ghost use Rattle.cv_read.specs.Gives.{Makes, MakesRow, MakesTail, applied, below, perhaps, read_in};
-ghost use Rattle.cv_read_terms.specs.Mentions.{going_on as going_on_form, parts_behind};
+ghost use Rattle.cv_read_terms.specs.Mentions.{differs, going_on as going_on_form, parts_behind};
 
 use cv_grammar::{Mark, Sign};
 use cv_read::{
@@ -17,6 +17,7 @@ use cv_read::{
 };
 use cv_rules::Role;
 use cv_syntax::{Head, Make};
+use std::alloc::AllocError;
 
 /// Whether a term begins at a place.
 #[tactic(auto, using(crate::proofs::Begins::term_begins))]
@@ -185,6 +186,16 @@ fn unequal(signs: &[Sign], at: usize, trail: &mut Trail, depth: u32) -> Result<u
     inner_primary(signs, place, trail, depth)
 }
 
+/// Makes that the two trees before it differ: M <> N is not(M = N).
+fn close_differing(makes: &mut Vec<Make>) -> Result<(), AllocError>
+    ensures { OnOk result (makes.new.items ≡ makes.old.items ++ differs) }
+{
+    makes.push(Make::Over(Head::Eq))?;
+    makes.push(Make::Nothing)?;
+    makes.push(Make::Over(Head::Not))?;
+    Ok(())
+}
+
 /// `<>` behind a term.
 #[cycle(terms)]
 #[tactic(auto, using(cv_read::proofs::Places::places, cv_read::proofs::Levels::levels))]
@@ -195,9 +206,7 @@ fn unequal_to(signs: &[Sign], at: usize, trail: &mut Trail, depth: u32) -> Resul
 {
     let less = descend(signs, at, depth, Mark::Differ)?;
     let place = unequal(signs, at, trail, less)?;
-    trail.makes.push(Make::Over(Head::Eq))?;
-    trail.makes.push(Make::Nothing)?;
-    trail.makes.push(Make::Over(Head::Not))?;
+    close_differing(&mut trail.makes)?;
     Ok(place)
 }
 

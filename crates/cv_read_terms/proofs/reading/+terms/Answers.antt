@@ -34,7 +34,7 @@ going_on-returns-then-is_at-2 t c = record {
 pub unequal_to-returns : goal.unequal_to-returns
 unequal_to-returns t c =
     let d = made_less c.args.depth _ Unequal (drop c.args.at c.args.signs.now) c.in_ok-less.ensures.less c.in_ok-place.ensures.makes in
-    record { tail = differing c.args.depth c.args.at _ _ _ d c.in_ok-push.ensures.items c.in_ok-push-2.ensures.items c.in_ok-push-3.ensures.items refl }
+    record { tail = differing c.args.depth c.args.at _ d c.in_ok-close_differing.ensures refl }
 
 pub equal_to-returns : goal.equal_to-returns
 equal_to-returns t c = record { tail = joining Eq Primary _ c.in_ok-place.ensures.opens c.in_ok-place-2.ensures.makes refl c.in_ok-push.ensures.items }
