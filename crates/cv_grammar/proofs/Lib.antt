@@ -1,5 +1,6 @@
 pub mod Complete
 pub mod Lengths
+pub mod Levels
 pub mod Locality
 pub mod Many
 pub mod Sorts

@@ -1,1 +1,5 @@
+pub mod Filling
 pub mod Fitting
+pub mod InOrder
+pub mod Names
+pub mod Outcome

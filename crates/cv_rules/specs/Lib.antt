@@ -1,7 +1,13 @@
 pub mod Declarations
 pub mod Equivalences
+pub mod Expected
 pub mod Files
+pub mod Filled
+pub mod InOrder
+pub mod Names
 pub mod Phrases
 pub mod Processes
 pub mod Rules
 pub mod Terms
+pub mod Whole
+pub mod Worked

@@ -4,5 +4,8 @@
 mod laws;
 mod role;
 
-pub use laws::reading_is_exact;
+pub use laws::{
+    files_are_decided, filling_is_settled, names_are_decided, reading_is_exact, refused_files,
+    worked_files,
+};
 pub use role::{Asked, Region, Role, TypeOption};

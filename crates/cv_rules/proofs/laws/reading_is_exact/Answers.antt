@@ -1,4 +1,5 @@
-use Rattle.std.proofs.Common.{refl}
+use Rattle.std.proofs.Common.{[], refl}
+use Rattle.cv_grammar.proofs.Levels.{one_level_more}
 use Rattle.cv_grammar.proofs.Whole.{whole_sound, whole_complete, syntax_is_final}
 use Rattle.cv_rules.specs.Rules.{rule, heads, tails, file}
 use Rattle.cv_rules.proofs.Fitting.{all_fit, file_fits}
@@ -12,3 +13,6 @@ returns-clause-complete c = λ n ts f us d. whole_complete heads tails rule all_
 
 pub returns-clause-faults : goal.returns-clause-faults
 returns-clause-faults c = λ n ts left e. syntax_is_final heads tails rule all_fit file file_fits refl n ts left e
+
+pub returns-clause-deeper : goal.returns-clause-deeper
+returns-clause-deeper c = λ n ts f us d. one_level_more heads rule file n ts f us [] d
