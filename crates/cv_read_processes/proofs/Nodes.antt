@@ -1,19 +1,17 @@
 -- What was read between brackets, and the lists of branches.
-use Rattle.std.proofs.Common.{◌≡◌, ℕ, List, [], ◌∷◌, ◌++◌, length, drop, true, refl, ap, ap₂, Ok, Err}
+use Rattle.std.proofs.Common.{◌≡◌, ℕ, List, ◌∷◌, drop, true, ap, ap₂, Ok, Err}
 use Rattle.cv_syntax.specs.Tree.{Tree, chain}
 use Rattle.cv_grammar.specs.declared.sign.Sign.{Sign}
 use Rattle.cv_grammar.specs.declared.sign.Mark.TheVariants as mark
 use Rattle.cv_grammar.specs.Form.{deeper, made, many, ◌&◌, ◌▸◌, ◌◂◌}
 use Rattle.cv_grammar.specs.Spells.{is_mark, next_is}
-use Rattle.cv_grammar.specs.Reads.{Read as Reading, Found, ◌>>=◌, found, mapped, no_level, no_syntax, pick}
-use Rattle.cv_grammar.proofs.Sound.{bind_ok, same_found}
+use Rattle.cv_grammar.specs.Reads.{Read as Reading, ◌>>=◌, found, mapped, no_level, no_syntax, pick}
+use Rattle.cv_grammar.proofs.Sound.{same_found}
 use Rattle.cv_rules.specs.declared.role.Role.{Role}
-use Rattle.cv_rules.specs.Phrases.{Phrase, ProcessBranch, bracket, row}
-use Rattle.cv_read.specs.declared.reading.ReadError.{ReadError}
-use Rattle.cv_read.specs.declared.reading.ReadError.TheVariants as error
+use Rattle.cv_rules.specs.Phrases.{Phrase, Sort, bracket, row}
 use Rattle.cv_read.specs.declared.trail.NameUse.{NameUse}
 use Rattle.cv_read.specs.declared.trail.Trail.{Trail}
-use Rattle.cv_read.specs.Gives.{Fails, IsOver, IsRead, Opens, Stands, positive, read_in}
+use Rattle.cv_read.specs.Gives.{IsOver, IsRead, Opens, Stands, positive, read_in}
 use Rattle.cv_read.proofs.Levels.{room}
 use Rattle.cv_read.proofs.Chains.{both_sign, first_read, made_read, sign_both, stands}
 
@@ -29,11 +27,11 @@ over_between {all = all} {n = n} {at = at} {k = k} {end = end} f o d c = record 
 }
 
 -- the branches of a `find`, the first of them apart
-abbrev pub branch_pair : Phrase (Tree × List Tree)
-branch_pair = deeper ProcessBranch & many true (mark.Orfind ▸ deeper ProcessBranch)
+abbrev pub branch_pair : Sort → Phrase (Tree × List Tree)
+branch_pair q = deeper q & many true (mark.Orfind ▸ deeper q)
 
-abbrev pub branch_list : Phrase Tree
-branch_list = made chain (row mark.Orfind (deeper ProcessBranch))
+abbrev pub branch_list : Sort → Phrase Tree
+branch_list q = made chain (row mark.Orfind (deeper q))
 
 pub record IsPair (all : List Sign) (u v : List NameUse) (r : Reading Role (Tree × List Tree)) (t : Tree) (end : ℕ) : Type 0 where
   pub pair : Tree × List Tree
@@ -55,15 +53,5 @@ pair_of {all = all} {t = t} {end = end} (Ok y) d =
     }
 pair_of (Err e) d = absurd (let i = d.is in cc)
 
-pub branches_apart : {all : List Sign} (n at : ℕ) {u v : List NameUse} {t : Tree} {end : ℕ} → IsRead all u v (read_in n branch_list (drop at all)) t end → IsPair all u v (read_in n branch_pair (drop at all)) t end
-branches_apart {all = all} n at d = pair_of (read_in n branch_pair (drop at all)) d
-
-fault_of : (all : List Sign) (e : ReadError) (r : Reading Role (Tree × List Tree)) → Fails all e (chained r) → Fails all e r
-fault_of all (error.Syntax k) (Ok y) d = absurd (let i = d.1 in cc)
-fault_of all (error.Nesting k) (Ok y) d = absurd (let i = d.1 in cc)
-fault_of all error.OutOfMemory r d = tt
-fault_of all (error.Syntax k) (Err f) d = (d.0, cc)
-fault_of all (error.Nesting k) (Err f) d = (d.0, cc)
-
-pub branches_fail : (all : List Sign) (e : ReadError) (n at : ℕ) → Fails all e (read_in n branch_list (drop at all)) → Fails all e (read_in n branch_pair (drop at all))
-branches_fail all e n at d = fault_of all e (read_in n branch_pair (drop at all)) d
+pub branches_apart : {all : List Sign} (q : Sort) (n at : ℕ) {u v : List NameUse} {t : Tree} {end : ℕ} → IsRead all u v (read_in n (branch_list q) (drop at all)) t end → IsPair all u v (read_in n (branch_pair q) (drop at all)) t end
+branches_apart {all = all} q n at d = pair_of (read_in n (branch_pair q) (drop at all)) d

@@ -5,9 +5,8 @@ mod labels;
 mod messages;
 mod processes;
 
+pub use labels::{find_label, label_or};
 pub use messages::{
     channel, inner_indices, inner_pattern, inner_payload, inner_sending, inner_variables,
 };
-pub use processes::{
-    begins_input, begins_output, inner_input, inner_inputs, inner_output, inputs,
-};
+pub use processes::{begins_input, begins_output, inner_input, inner_inputs, inner_output, inputs};

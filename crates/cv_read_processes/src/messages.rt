@@ -17,19 +17,38 @@ use std::alloc::Global;
 
 /// The indices of a channel, in square brackets.
 #[tactic(auto, using(cv_read::proofs::Places::places, cv_read::proofs::Levels::levels))]
-fn channel_indices(alloc: Global, signs: &[Sign], at: usize, trail: &mut Trail, depth: u32) -> Result<usize, ReadError>
+fn channel_indices(
+    alloc: Global,
+    signs: &[Sign],
+    at: usize,
+    trail: &mut Trail,
+    depth: u32,
+) -> Result<usize, ReadError>
     requires at { at ≤ length signs.now }
     requires few { length signs.now < 2 ^ 32 }
     ensures makes { Makes postorder signs.now trail.old trail.new result (read_in depth indices_form (drop at signs.now)) }
 {
     let place = open(signs, at, depth, Mark::OpenSquare)?;
-    let place = name_list(alloc, signs, place, trail, Item::Name(Role::AsksIndex), depth)?;
+    let place = name_list(
+        alloc,
+        signs,
+        place,
+        trail,
+        Item::Name(Role::AsksIndex),
+        depth,
+    )?;
     expect(signs, place, Mark::CloseSquare)
 }
 
 /// The indices of a channel, one level down.
 #[tactic(auto, using(cv_read::proofs::Places::places, cv_read::proofs::Levels::levels))]
-pub fn inner_indices(alloc: Global, signs: &[Sign], at: usize, trail: &mut Trail, depth: u32) -> Result<usize, ReadError>
+pub fn inner_indices(
+    alloc: Global,
+    signs: &[Sign],
+    at: usize,
+    trail: &mut Trail,
+    depth: u32,
+) -> Result<usize, ReadError>
     requires at { at ≤ length signs.now }
     requires few { length signs.now < 2 ^ 32 }
     ensures makes { Makes postorder signs.now trail.old trail.new result (below depth Indices (drop at signs.now)) }
@@ -40,7 +59,13 @@ pub fn inner_indices(alloc: Global, signs: &[Sign], at: usize, trail: &mut Trail
 
 /// The indices of a channel, where there are some.
 #[tactic(auto, using(cv_read::proofs::Places::places, cv_read::proofs::Levels::levels))]
-fn maybe_indices(alloc: Global, signs: &[Sign], at: usize, trail: &mut Trail, depth: u32) -> Result<usize, ReadError>
+fn maybe_indices(
+    alloc: Global,
+    signs: &[Sign],
+    at: usize,
+    trail: &mut Trail,
+    depth: u32,
+) -> Result<usize, ReadError>
     requires at { at ≤ length signs.now }
     requires few { length signs.now < 2 ^ 32 }
     ensures makes { Makes postorder signs.now trail.old trail.new result (read_in depth (listed (deeper Indices)) (drop at signs.now)) }
@@ -54,7 +79,13 @@ fn maybe_indices(alloc: Global, signs: &[Sign], at: usize, trail: &mut Trail, de
 
 /// A channel with its indices.
 #[tactic(auto, using(cv_read::proofs::Places::places, cv_read::proofs::Levels::levels))]
-pub fn channel(alloc: Global, signs: &[Sign], at: usize, trail: &mut Trail, depth: u32) -> Result<(u32, usize), ReadError>
+pub fn channel(
+    alloc: Global,
+    signs: &[Sign],
+    at: usize,
+    trail: &mut Trail,
+    depth: u32,
+) -> Result<(u32, usize), ReadError>
     requires at { at ≤ length signs.now }
     requires few { length signs.now < 2 ^ 32 }
     ensures makes { MakesWith postorder signs.now trail.old trail.new result (read_in depth channel_form (drop at signs.now)) }
@@ -66,7 +97,13 @@ pub fn channel(alloc: Global, signs: &[Sign], at: usize, trail: &mut Trail, dept
 
 /// The variables that an input binds, in parentheses, one level down.
 #[tactic(auto, using(cv_read::proofs::Places::places, cv_read::proofs::Levels::levels))]
-pub fn inner_variables(alloc: Global, signs: &[Sign], at: usize, trail: &mut Trail, depth: u32) -> Result<usize, ReadError>
+pub fn inner_variables(
+    alloc: Global,
+    signs: &[Sign],
+    at: usize,
+    trail: &mut Trail,
+    depth: u32,
+) -> Result<usize, ReadError>
     requires at { at ≤ length signs.now }
     requires few { length signs.now < 2 ^ 32 }
     ensures makes { Makes postorder signs.now trail.old trail.new result (below depth Variables (drop at signs.now)) }
@@ -77,7 +114,13 @@ pub fn inner_variables(alloc: Global, signs: &[Sign], at: usize, trail: &mut Tra
 
 /// What an input binds: a list of variables, or one.
 #[tactic(auto, using(cv_read::proofs::Places::places, cv_read::proofs::Levels::levels))]
-fn received(alloc: Global, signs: &[Sign], at: usize, trail: &mut Trail, depth: u32) -> Result<usize, ReadError>
+fn received(
+    alloc: Global,
+    signs: &[Sign],
+    at: usize,
+    trail: &mut Trail,
+    depth: u32,
+) -> Result<usize, ReadError>
     requires at { at ≤ length signs.now }
     requires few { length signs.now < 2 ^ 32 }
     ensures makes { Makes postorder signs.now trail.old trail.new result (read_in depth received_form (drop at signs.now)) }
@@ -90,7 +133,13 @@ fn received(alloc: Global, signs: &[Sign], at: usize, trail: &mut Trail, depth: 
 
 /// A comma, and what an input binds.
 #[tactic(auto, using(cv_read::proofs::Places::places, cv_read::proofs::Levels::levels))]
-fn then_received(alloc: Global, signs: &[Sign], at: usize, trail: &mut Trail, depth: u32) -> Result<usize, ReadError>
+fn then_received(
+    alloc: Global,
+    signs: &[Sign],
+    at: usize,
+    trail: &mut Trail,
+    depth: u32,
+) -> Result<usize, ReadError>
     requires at { at ≤ length signs.now }
     requires few { length signs.now < 2 ^ 32 }
     ensures makes { Makes postorder signs.now trail.old trail.new result (read_in depth (Comma ▸ received_form) (drop at signs.now)) }
@@ -101,7 +150,13 @@ fn then_received(alloc: Global, signs: &[Sign], at: usize, trail: &mut Trail, de
 
 /// A channel, and what an input binds.
 #[tactic(auto, using(cv_read::proofs::Places::places, cv_read::proofs::Levels::levels))]
-fn bound_over(alloc: Global, signs: &[Sign], at: usize, trail: &mut Trail, depth: u32) -> Result<(u32, usize), ReadError>
+fn bound_over(
+    alloc: Global,
+    signs: &[Sign],
+    at: usize,
+    trail: &mut Trail,
+    depth: u32,
+) -> Result<(u32, usize), ReadError>
     requires at { at ≤ length signs.now }
     requires few { length signs.now < 2 ^ 32 }
     ensures makes { MakesOver signs.now trail.old trail.new result (read_in depth (made over (channel_form & (Comma ▸ received_form))) (drop at signs.now)) }
@@ -113,7 +168,13 @@ fn bound_over(alloc: Global, signs: &[Sign], at: usize, trail: &mut Trail, depth
 
 /// A channel, and what an input binds, in parentheses.
 #[tactic(auto, using(cv_read::proofs::Places::places, cv_read::proofs::Levels::levels))]
-fn pattern(alloc: Global, signs: &[Sign], at: usize, trail: &mut Trail, depth: u32) -> Result<(u32, usize), ReadError>
+fn pattern(
+    alloc: Global,
+    signs: &[Sign],
+    at: usize,
+    trail: &mut Trail,
+    depth: u32,
+) -> Result<(u32, usize), ReadError>
     requires at { at ≤ length signs.now }
     requires few { length signs.now < 2 ^ 32 }
     ensures makes { MakesOver signs.now trail.old trail.new result (read_in depth pattern_form (drop at signs.now)) }
@@ -126,7 +187,13 @@ fn pattern(alloc: Global, signs: &[Sign], at: usize, trail: &mut Trail, depth: u
 
 /// A channel, and what an input binds, one level down.
 #[tactic(auto, using(cv_read::proofs::Places::places, cv_read::proofs::Levels::levels))]
-pub fn inner_pattern(alloc: Global, signs: &[Sign], at: usize, trail: &mut Trail, depth: u32) -> Result<(u32, usize), ReadError>
+pub fn inner_pattern(
+    alloc: Global,
+    signs: &[Sign],
+    at: usize,
+    trail: &mut Trail,
+    depth: u32,
+) -> Result<(u32, usize), ReadError>
     requires at { at ≤ length signs.now }
     requires few { length signs.now < 2 ^ 32 }
     ensures makes { MakesOver signs.now trail.old trail.new result (below depth Pattern (drop at signs.now)) }
@@ -149,7 +216,12 @@ fn payload(signs: &[Sign], at: usize, trail: &mut Trail, depth: u32) -> Result<u
 
 /// A list of terms that an output sends, one level down.
 #[tactic(auto, using(cv_read::proofs::Places::places, cv_read::proofs::Levels::levels))]
-pub fn inner_payload(signs: &[Sign], at: usize, trail: &mut Trail, depth: u32) -> Result<usize, ReadError>
+pub fn inner_payload(
+    signs: &[Sign],
+    at: usize,
+    trail: &mut Trail,
+    depth: u32,
+) -> Result<usize, ReadError>
     requires at { at ≤ length signs.now }
     requires few { length signs.now < 2 ^ 32 }
     ensures makes { Makes postorder signs.now trail.old trail.new result (below depth Payload (drop at signs.now)) }
@@ -184,7 +256,13 @@ fn then_sent(signs: &[Sign], at: usize, trail: &mut Trail, depth: u32) -> Result
 
 /// A channel, and what an output sends.
 #[tactic(auto, using(cv_read::proofs::Places::places, cv_read::proofs::Levels::levels))]
-fn sent_over(alloc: Global, signs: &[Sign], at: usize, trail: &mut Trail, depth: u32) -> Result<(u32, usize), ReadError>
+fn sent_over(
+    alloc: Global,
+    signs: &[Sign],
+    at: usize,
+    trail: &mut Trail,
+    depth: u32,
+) -> Result<(u32, usize), ReadError>
     requires at { at ≤ length signs.now }
     requires few { length signs.now < 2 ^ 32 }
     ensures makes { MakesOver signs.now trail.old trail.new result (read_in depth (made over (channel_form & (Comma ▸ sent_form))) (drop at signs.now)) }
@@ -196,7 +274,13 @@ fn sent_over(alloc: Global, signs: &[Sign], at: usize, trail: &mut Trail, depth:
 
 /// A channel, and what an output sends, in parentheses.
 #[tactic(auto, using(cv_read::proofs::Places::places, cv_read::proofs::Levels::levels))]
-fn sending(alloc: Global, signs: &[Sign], at: usize, trail: &mut Trail, depth: u32) -> Result<(u32, usize), ReadError>
+fn sending(
+    alloc: Global,
+    signs: &[Sign],
+    at: usize,
+    trail: &mut Trail,
+    depth: u32,
+) -> Result<(u32, usize), ReadError>
     requires at { at ≤ length signs.now }
     requires few { length signs.now < 2 ^ 32 }
     ensures makes { MakesOver signs.now trail.old trail.new result (read_in depth sending_form (drop at signs.now)) }
@@ -209,7 +293,13 @@ fn sending(alloc: Global, signs: &[Sign], at: usize, trail: &mut Trail, depth: u
 
 /// A channel, and what an output sends, one level down.
 #[tactic(auto, using(cv_read::proofs::Places::places, cv_read::proofs::Levels::levels))]
-pub fn inner_sending(alloc: Global, signs: &[Sign], at: usize, trail: &mut Trail, depth: u32) -> Result<(u32, usize), ReadError>
+pub fn inner_sending(
+    alloc: Global,
+    signs: &[Sign],
+    at: usize,
+    trail: &mut Trail,
+    depth: u32,
+) -> Result<(u32, usize), ReadError>
     requires at { at ≤ length signs.now }
     requires few { length signs.now < 2 ^ 32 }
     ensures makes { MakesOver signs.now trail.old trail.new result (below depth Sending (drop at signs.now)) }
@@ -217,4 +307,3 @@ pub fn inner_sending(alloc: Global, signs: &[Sign], at: usize, trail: &mut Trail
     let less = descend(signs, at, depth, Mark::Open)?;
     sending(alloc, signs, at, trail, less)
 }
-

@@ -26,7 +26,13 @@ use std::alloc::Global;
 pub fn begins_output(signs: &[Sign], at: usize) -> bool
     ensures { result ≡ next_is (heads Output) (drop at signs.now) }
 {
-    is_at(signs, at, Mark::Yield) || (is_at(signs, at, Mark::Open) || (is_at(signs, at, Mark::Out) || (is_at(signs, at, Mark::New) || (is_at(signs, at, Mark::Let) || (is_at(signs, at, Mark::EventWord) || (is_at(signs, at, Mark::If) || is_find_at(signs, at)))))))
+    is_at(signs, at, Mark::Yield)
+        || (is_at(signs, at, Mark::Open)
+            || (is_at(signs, at, Mark::Out)
+                || (is_at(signs, at, Mark::New)
+                    || (is_at(signs, at, Mark::Let)
+                        || (is_at(signs, at, Mark::EventWord)
+                            || (is_at(signs, at, Mark::If) || is_find_at(signs, at)))))))
 }
 
 /// Whether an input process begins at a place.
@@ -34,7 +40,9 @@ pub fn begins_output(signs: &[Sign], at: usize) -> bool
 pub fn begins_input(signs: &[Sign], at: usize) -> bool
     ensures { result ≡ next_is (heads Input) (drop at signs.now) }
 {
-    is_zero_at(signs, at) || (is_at(signs, at, Mark::Open) || (is_at(signs, at, Mark::Bang) || is_at(signs, at, Mark::In)))
+    is_zero_at(signs, at)
+        || (is_at(signs, at, Mark::Open)
+            || (is_at(signs, at, Mark::Bang) || is_at(signs, at, Mark::In)))
 }
 
 /// Whether a branch of `find` begins at a place.
@@ -74,7 +82,12 @@ fn ending(signs: &[Sign], at: usize, trail: &mut Trail, depth: u32) -> Result<us
 
 /// The arguments of an event, where there are some.
 #[tactic(auto, using(cv_read::proofs::Places::places, cv_read::proofs::Levels::levels))]
-fn maybe_arguments(signs: &[Sign], at: usize, trail: &mut Trail, depth: u32) -> Result<usize, ReadError>
+fn maybe_arguments(
+    signs: &[Sign],
+    at: usize,
+    trail: &mut Trail,
+    depth: u32,
+) -> Result<usize, ReadError>
     requires at { at ≤ length signs.now }
     requires few { length signs.now < 2 ^ 32 }
     ensures makes { Makes postorder signs.now trail.old trail.new result (read_in depth (listed (deeper Arguments)) (drop at signs.now)) }
@@ -89,7 +102,14 @@ fn maybe_arguments(signs: &[Sign], at: usize, trail: &mut Trail, depth: u32) -> 
 /// A word or symbol, and an output process.
 #[cycle(processes)]
 #[tactic(auto, using(cv_read::proofs::Places::places, cv_read::proofs::Levels::levels))]
-fn follow(alloc: Global, signs: &[Sign], at: usize, trail: &mut Trail, mark: Mark, depth: u32) -> Result<usize, ReadError>
+fn follow(
+    alloc: Global,
+    signs: &[Sign],
+    at: usize,
+    trail: &mut Trail,
+    mark: Mark,
+    depth: u32,
+) -> Result<usize, ReadError>
     requires at { at ≤ length signs.now }
     requires few { length signs.now < 2 ^ 32 }
     ensures makes { Makes postorder signs.now trail.old trail.new result (read_in depth (mark ▸ deeper Output) (drop at signs.now)) }
@@ -101,7 +121,13 @@ fn follow(alloc: Global, signs: &[Sign], at: usize, trail: &mut Trail, mark: Mar
 /// An output process in parentheses.
 #[cycle(processes)]
 #[tactic(auto, using(cv_read::proofs::Places::places, cv_read::proofs::Levels::levels))]
-fn output_in_parentheses(alloc: Global, signs: &[Sign], at: usize, trail: &mut Trail, depth: u32) -> Result<usize, ReadError>
+fn output_in_parentheses(
+    alloc: Global,
+    signs: &[Sign],
+    at: usize,
+    trail: &mut Trail,
+    depth: u32,
+) -> Result<usize, ReadError>
     requires at { at ≤ length signs.now }
     requires few { length signs.now < 2 ^ 32 }
     ensures makes { Makes postorder signs.now trail.old trail.new result (read_in depth (bracket (deeper Output)) (drop at signs.now)) }
@@ -114,7 +140,13 @@ fn output_in_parentheses(alloc: Global, signs: &[Sign], at: usize, trail: &mut T
 /// A semicolon, and what follows an output.
 #[cycle(processes)]
 #[tactic(auto, using(cv_read::proofs::Places::places, cv_read::proofs::Levels::levels))]
-fn continued(alloc: Global, signs: &[Sign], at: usize, trail: &mut Trail, depth: u32) -> Result<usize, ReadError>
+fn continued(
+    alloc: Global,
+    signs: &[Sign],
+    at: usize,
+    trail: &mut Trail,
+    depth: u32,
+) -> Result<usize, ReadError>
     requires at { at ≤ length signs.now }
     requires few { length signs.now < 2 ^ 32 }
     ensures makes { Makes postorder signs.now trail.old trail.new result (read_in depth (Semicolon ▸ deeper Input) (drop at signs.now)) }
@@ -126,7 +158,13 @@ fn continued(alloc: Global, signs: &[Sign], at: usize, trail: &mut Trail, depth:
 /// What follows an output: `0`, also where nothing is written.
 #[cycle(processes)]
 #[tactic(auto, using(cv_read::proofs::Places::places, cv_read::proofs::Levels::levels))]
-fn continuation(alloc: Global, signs: &[Sign], at: usize, trail: &mut Trail, depth: u32) -> Result<usize, ReadError>
+fn continuation(
+    alloc: Global,
+    signs: &[Sign],
+    at: usize,
+    trail: &mut Trail,
+    depth: u32,
+) -> Result<usize, ReadError>
     requires at { at ≤ length signs.now }
     requires few { length signs.now < 2 ^ 32 }
     ensures makes { Makes postorder signs.now trail.old trail.new result (read_in depth continuation_form (drop at signs.now)) }
@@ -141,7 +179,13 @@ fn continuation(alloc: Global, signs: &[Sign], at: usize, trail: &mut Trail, dep
 /// An output, with its continuation.
 #[cycle(processes)]
 #[tactic(auto, using(cv_read::proofs::Places::places, cv_read::proofs::Levels::levels))]
-fn outgoing(alloc: Global, signs: &[Sign], at: usize, trail: &mut Trail, depth: u32) -> Result<usize, ReadError>
+fn outgoing(
+    alloc: Global,
+    signs: &[Sign],
+    at: usize,
+    trail: &mut Trail,
+    depth: u32,
+) -> Result<usize, ReadError>
     requires at { at ≤ length signs.now }
     requires few { length signs.now < 2 ^ 32 }
     ensures makes { Makes postorder signs.now trail.old trail.new result (read_in depth outgoing_form (drop at signs.now)) }
@@ -157,7 +201,13 @@ fn outgoing(alloc: Global, signs: &[Sign], at: usize, trail: &mut Trail, depth: 
 /// A restriction, and what follows it.
 #[cycle(processes)]
 #[tactic(auto, using(cv_read::proofs::Places::places, cv_read::proofs::Levels::levels))]
-fn restriction(alloc: Global, signs: &[Sign], at: usize, trail: &mut Trail, depth: u32) -> Result<usize, ReadError>
+fn restriction(
+    alloc: Global,
+    signs: &[Sign],
+    at: usize,
+    trail: &mut Trail,
+    depth: u32,
+) -> Result<usize, ReadError>
     requires at { at ≤ length signs.now }
     requires few { length signs.now < 2 ^ 32 }
     ensures makes { Makes postorder signs.now trail.old trail.new result (read_in depth restriction_form (drop at signs.now)) }
@@ -173,7 +223,13 @@ fn restriction(alloc: Global, signs: &[Sign], at: usize, trail: &mut Trail, dept
 /// An assignment, and what follows it.
 #[cycle(processes)]
 #[tactic(auto, using(cv_read::proofs::Places::places, cv_read::proofs::Levels::levels))]
-fn assignment(alloc: Global, signs: &[Sign], at: usize, trail: &mut Trail, depth: u32) -> Result<usize, ReadError>
+fn assignment(
+    alloc: Global,
+    signs: &[Sign],
+    at: usize,
+    trail: &mut Trail,
+    depth: u32,
+) -> Result<usize, ReadError>
     requires at { at ≤ length signs.now }
     requires few { length signs.now < 2 ^ 32 }
     ensures makes { Makes postorder signs.now trail.old trail.new result (read_in depth assignment_form (drop at signs.now)) }
@@ -190,7 +246,13 @@ fn assignment(alloc: Global, signs: &[Sign], at: usize, trail: &mut Trail, depth
 /// An event, and what follows it.
 #[cycle(processes)]
 #[tactic(auto, using(cv_read::proofs::Places::places, cv_read::proofs::Levels::levels))]
-fn recording(alloc: Global, signs: &[Sign], at: usize, trail: &mut Trail, depth: u32) -> Result<usize, ReadError>
+fn recording(
+    alloc: Global,
+    signs: &[Sign],
+    at: usize,
+    trail: &mut Trail,
+    depth: u32,
+) -> Result<usize, ReadError>
     requires at { at ≤ length signs.now }
     requires few { length signs.now < 2 ^ 32 }
     ensures makes { Makes postorder signs.now trail.old trail.new result (read_in depth recording_form (drop at signs.now)) }
@@ -206,7 +268,13 @@ fn recording(alloc: Global, signs: &[Sign], at: usize, trail: &mut Trail, depth:
 /// The body of a test where its condition isn't met: `yield` where none is written.
 #[cycle(processes)]
 #[tactic(auto, using(cv_read::proofs::Places::places, cv_read::proofs::Levels::levels))]
-fn otherwise(alloc: Global, signs: &[Sign], at: usize, trail: &mut Trail, depth: u32) -> Result<usize, ReadError>
+fn otherwise(
+    alloc: Global,
+    signs: &[Sign],
+    at: usize,
+    trail: &mut Trail,
+    depth: u32,
+) -> Result<usize, ReadError>
     requires at { at ≤ length signs.now }
     requires few { length signs.now < 2 ^ 32 }
     ensures makes { Makes postorder signs.now trail.old trail.new result (read_in depth otherwise_form (drop at signs.now)) }
@@ -221,7 +289,13 @@ fn otherwise(alloc: Global, signs: &[Sign], at: usize, trail: &mut Trail, depth:
 /// A test, with its two bodies.
 #[cycle(processes)]
 #[tactic(auto, using(cv_read::proofs::Places::places, cv_read::proofs::Levels::levels))]
-fn testing(alloc: Global, signs: &[Sign], at: usize, trail: &mut Trail, depth: u32) -> Result<usize, ReadError>
+fn testing(
+    alloc: Global,
+    signs: &[Sign],
+    at: usize,
+    trail: &mut Trail,
+    depth: u32,
+) -> Result<usize, ReadError>
     requires at { at ≤ length signs.now }
     requires few { length signs.now < 2 ^ 32 }
     ensures makes { Makes postorder signs.now trail.old trail.new result (read_in depth testing_form (drop at signs.now)) }
@@ -239,7 +313,13 @@ fn testing(alloc: Global, signs: &[Sign], at: usize, trail: &mut Trail, depth: u
 /// A branch of `find`: its indices, its condition and its body.
 #[cycle(processes)]
 #[tactic(auto, using(cv_read::proofs::Places::places, cv_read::proofs::Levels::levels))]
-fn branch(alloc: Global, signs: &[Sign], at: usize, trail: &mut Trail, depth: u32) -> Result<usize, ReadError>
+fn branch(
+    alloc: Global,
+    signs: &[Sign],
+    at: usize,
+    trail: &mut Trail,
+    depth: u32,
+) -> Result<usize, ReadError>
     requires at { at ≤ length signs.now }
     requires few { length signs.now < 2 ^ 32 }
     ensures makes { Makes postorder signs.now trail.old trail.new result (read_in depth branch_form (drop at signs.now)) }
@@ -261,7 +341,13 @@ fn branch(alloc: Global, signs: &[Sign], at: usize, trail: &mut Trail, depth: u3
 /// A branch of `find`, one level down.
 #[cycle(processes)]
 #[tactic(auto, using(cv_read::proofs::Places::places, cv_read::proofs::Levels::levels))]
-fn inner_branch(alloc: Global, signs: &[Sign], at: usize, trail: &mut Trail, depth: u32) -> Result<usize, ReadError>
+fn inner_branch(
+    alloc: Global,
+    signs: &[Sign],
+    at: usize,
+    trail: &mut Trail,
+    depth: u32,
+) -> Result<usize, ReadError>
     requires at { at ≤ length signs.now }
     requires few { length signs.now < 2 ^ 32 }
     ensures makes { Makes postorder signs.now trail.old trail.new result (below depth ProcessBranch (drop at signs.now)) }
@@ -275,7 +361,13 @@ fn inner_branch(alloc: Global, signs: &[Sign], at: usize, trail: &mut Trail, dep
 /// One more branch behind `orfind`.
 #[cycle(processes)]
 #[tactic(auto, using(cv_read::proofs::Places::places, cv_read::proofs::Levels::levels))]
-fn next_branch(alloc: Global, signs: &[Sign], at: usize, trail: &mut Trail, depth: u32) -> Result<usize, ReadError>
+fn next_branch(
+    alloc: Global,
+    signs: &[Sign],
+    at: usize,
+    trail: &mut Trail,
+    depth: u32,
+) -> Result<usize, ReadError>
     requires at { at ≤ length signs.now }
     requires few { length signs.now < 2 ^ 32 }
     ensures makes { Makes postorder signs.now trail.old trail.new result (read_in depth (Orfind ▸ deeper ProcessBranch) (drop at signs.now)) }
@@ -287,7 +379,13 @@ fn next_branch(alloc: Global, signs: &[Sign], at: usize, trail: &mut Trail, dept
 /// Branches with `orfind` between them, and how many they are.
 #[cycle(processes)]
 #[tactic(auto, using(cv_read::proofs::Places::places, cv_read::proofs::Levels::levels, cv_read::proofs::Rows::rows))]
-fn branch_row(alloc: Global, signs: &[Sign], at: usize, trail: &mut Trail, depth: u32) -> Result<(usize, usize), ReadError>
+fn branch_row(
+    alloc: Global,
+    signs: &[Sign],
+    at: usize,
+    trail: &mut Trail,
+    depth: u32,
+) -> Result<(usize, usize), ReadError>
     requires at { at ≤ length signs.now }
     requires few { length signs.now < 2 ^ 32 }
     ensures makes { MakesRow signs.now trail.old trail.new result (read_in depth (row Orfind (deeper ProcessBranch)) (drop at signs.now)) }
@@ -304,7 +402,13 @@ fn branch_row(alloc: Global, signs: &[Sign], at: usize, trail: &mut Trail, depth
 /// A list of branches.
 #[cycle(processes)]
 #[tactic(auto, using(cv_read::proofs::Places::places, cv_read::proofs::Levels::levels))]
-fn branches(alloc: Global, signs: &[Sign], at: usize, trail: &mut Trail, depth: u32) -> Result<usize, ReadError>
+fn branches(
+    alloc: Global,
+    signs: &[Sign],
+    at: usize,
+    trail: &mut Trail,
+    depth: u32,
+) -> Result<usize, ReadError>
     requires at { at ≤ length signs.now }
     requires few { length signs.now < 2 ^ 32 }
     ensures makes { Makes postorder signs.now trail.old trail.new result (read_in depth (made chain (row Orfind (deeper ProcessBranch))) (drop at signs.now)) }
@@ -317,7 +421,13 @@ fn branches(alloc: Global, signs: &[Sign], at: usize, trail: &mut Trail, depth: 
 /// A word `find`, its label and its branches.
 #[cycle(processes)]
 #[tactic(auto, using(cv_read::proofs::Places::places, cv_read::proofs::Levels::levels))]
-fn find_in(alloc: Global, signs: &[Sign], at: usize, trail: &mut Trail, depth: u32) -> Result<(u64, usize), ReadError>
+fn find_in(
+    alloc: Global,
+    signs: &[Sign],
+    at: usize,
+    trail: &mut Trail,
+    depth: u32,
+) -> Result<(u64, usize), ReadError>
     requires at { at ≤ length signs.now }
     requires few { length signs.now < 2 ^ 32 }
     ensures makes { MakesWith postorder signs.now trail.old trail.new result (read_in depth (find_form ProcessBranch) (drop at signs.now)) }
@@ -331,7 +441,13 @@ fn find_in(alloc: Global, signs: &[Sign], at: usize, trail: &mut Trail, depth: u
 /// A `find`, with what is done where no branch succeeds.
 #[cycle(processes)]
 #[tactic(auto, using(cv_read::proofs::Places::places, cv_read::proofs::Levels::levels))]
-fn finding(alloc: Global, signs: &[Sign], at: usize, trail: &mut Trail, depth: u32) -> Result<usize, ReadError>
+fn finding(
+    alloc: Global,
+    signs: &[Sign],
+    at: usize,
+    trail: &mut Trail,
+    depth: u32,
+) -> Result<usize, ReadError>
     requires at { at ≤ length signs.now }
     requires few { length signs.now < 2 ^ 32 }
     ensures makes { Makes postorder signs.now trail.old trail.new result (read_in depth finding_form (drop at signs.now)) }
@@ -348,7 +464,13 @@ fn finding(alloc: Global, signs: &[Sign], at: usize, trail: &mut Trail, depth: u
 /// An assignment, an event, a test or a `find`.
 #[cycle(processes)]
 #[tactic(auto, using(cv_read::proofs::Places::places, cv_read::proofs::Levels::levels))]
-fn longer_output(alloc: Global, signs: &[Sign], at: usize, trail: &mut Trail, depth: u32) -> Result<usize, ReadError>
+fn longer_output(
+    alloc: Global,
+    signs: &[Sign],
+    at: usize,
+    trail: &mut Trail,
+    depth: u32,
+) -> Result<usize, ReadError>
     requires at { at ≤ length signs.now }
     requires few { length signs.now < 2 ^ 32 }
     ensures makes { Makes postorder signs.now trail.old trail.new result (read_in depth (either assignment_form (either recording_form (either testing_form finding_form))) (drop at signs.now)) }
@@ -368,7 +490,13 @@ fn longer_output(alloc: Global, signs: &[Sign], at: usize, trail: &mut Trail, de
 /// An output process.
 #[cycle(processes)]
 #[tactic(auto, using(cv_read::proofs::Places::places, cv_read::proofs::Levels::levels))]
-fn output(alloc: Global, signs: &[Sign], at: usize, trail: &mut Trail, depth: u32) -> Result<usize, ReadError>
+fn output(
+    alloc: Global,
+    signs: &[Sign],
+    at: usize,
+    trail: &mut Trail,
+    depth: u32,
+) -> Result<usize, ReadError>
     requires at { at ≤ length signs.now }
     requires few { length signs.now < 2 ^ 32 }
     ensures makes { Makes postorder signs.now trail.old trail.new result (read_in depth output_form (drop at signs.now)) }
@@ -391,7 +519,13 @@ fn output(alloc: Global, signs: &[Sign], at: usize, trail: &mut Trail, depth: u3
 /// An output process, one level down.
 #[cycle(processes)]
 #[tactic(auto, using(cv_read::proofs::Places::places, cv_read::proofs::Levels::levels))]
-pub fn inner_output(alloc: Global, signs: &[Sign], at: usize, trail: &mut Trail, depth: u32) -> Result<usize, ReadError>
+pub fn inner_output(
+    alloc: Global,
+    signs: &[Sign],
+    at: usize,
+    trail: &mut Trail,
+    depth: u32,
+) -> Result<usize, ReadError>
     requires at { at ≤ length signs.now }
     requires few { length signs.now < 2 ^ 32 }
     ensures makes { Makes postorder signs.now trail.old trail.new result (below depth Output (drop at signs.now)) }
@@ -405,7 +539,13 @@ pub fn inner_output(alloc: Global, signs: &[Sign], at: usize, trail: &mut Trail,
 /// A replication.
 #[cycle(processes)]
 #[tactic(auto, using(cv_read::proofs::Places::places, cv_read::proofs::Levels::levels))]
-fn replication(alloc: Global, signs: &[Sign], at: usize, trail: &mut Trail, depth: u32) -> Result<usize, ReadError>
+fn replication(
+    alloc: Global,
+    signs: &[Sign],
+    at: usize,
+    trail: &mut Trail,
+    depth: u32,
+) -> Result<usize, ReadError>
     requires at { at ≤ length signs.now }
     requires few { length signs.now < 2 ^ 32 }
     ensures makes { Makes postorder signs.now trail.old trail.new result (read_in depth replication_form (drop at signs.now)) }
@@ -423,7 +563,13 @@ fn replication(alloc: Global, signs: &[Sign], at: usize, trail: &mut Trail, dept
 /// An input, and what follows it.
 #[cycle(processes)]
 #[tactic(auto, using(cv_read::proofs::Places::places, cv_read::proofs::Levels::levels))]
-fn receiving(alloc: Global, signs: &[Sign], at: usize, trail: &mut Trail, depth: u32) -> Result<usize, ReadError>
+fn receiving(
+    alloc: Global,
+    signs: &[Sign],
+    at: usize,
+    trail: &mut Trail,
+    depth: u32,
+) -> Result<usize, ReadError>
     requires at { at ≤ length signs.now }
     requires few { length signs.now < 2 ^ 32 }
     ensures makes { Makes postorder signs.now trail.old trail.new result (read_in depth receiving_form (drop at signs.now)) }
@@ -439,7 +585,13 @@ fn receiving(alloc: Global, signs: &[Sign], at: usize, trail: &mut Trail, depth:
 /// Input processes in parentheses.
 #[cycle(processes)]
 #[tactic(auto, using(cv_read::proofs::Places::places, cv_read::proofs::Levels::levels))]
-fn inputs_in_parentheses(alloc: Global, signs: &[Sign], at: usize, trail: &mut Trail, depth: u32) -> Result<usize, ReadError>
+fn inputs_in_parentheses(
+    alloc: Global,
+    signs: &[Sign],
+    at: usize,
+    trail: &mut Trail,
+    depth: u32,
+) -> Result<usize, ReadError>
     requires at { at ≤ length signs.now }
     requires few { length signs.now < 2 ^ 32 }
     ensures makes { Makes postorder signs.now trail.old trail.new result (read_in depth (bracket (deeper Inputs)) (drop at signs.now)) }
@@ -452,7 +604,13 @@ fn inputs_in_parentheses(alloc: Global, signs: &[Sign], at: usize, trail: &mut T
 /// An input process without `|` outside of parentheses.
 #[cycle(processes)]
 #[tactic(auto, using(cv_read::proofs::Places::places, cv_read::proofs::Levels::levels))]
-fn input(alloc: Global, signs: &[Sign], at: usize, trail: &mut Trail, depth: u32) -> Result<usize, ReadError>
+fn input(
+    alloc: Global,
+    signs: &[Sign],
+    at: usize,
+    trail: &mut Trail,
+    depth: u32,
+) -> Result<usize, ReadError>
     requires at { at ≤ length signs.now }
     requires few { length signs.now < 2 ^ 32 }
     ensures makes { Makes postorder signs.now trail.old trail.new result (read_in depth input_form (drop at signs.now)) }
@@ -472,7 +630,13 @@ fn input(alloc: Global, signs: &[Sign], at: usize, trail: &mut Trail, depth: u32
 /// An input process without `|`, one level down.
 #[cycle(processes)]
 #[tactic(auto, using(cv_read::proofs::Places::places, cv_read::proofs::Levels::levels))]
-pub fn inner_input(alloc: Global, signs: &[Sign], at: usize, trail: &mut Trail, depth: u32) -> Result<usize, ReadError>
+pub fn inner_input(
+    alloc: Global,
+    signs: &[Sign],
+    at: usize,
+    trail: &mut Trail,
+    depth: u32,
+) -> Result<usize, ReadError>
     requires at { at ≤ length signs.now }
     requires few { length signs.now < 2 ^ 32 }
     ensures makes { Makes postorder signs.now trail.old trail.new result (below depth Input (drop at signs.now)) }
@@ -486,21 +650,33 @@ pub fn inner_input(alloc: Global, signs: &[Sign], at: usize, trail: &mut Trail, 
 /// `|` behind an input process.
 #[cycle(processes)]
 #[tactic(auto, using(cv_read::proofs::Places::places, cv_read::proofs::Levels::levels))]
-fn beside(alloc: Global, signs: &[Sign], at: usize, trail: &mut Trail, depth: u32) -> Result<usize, ReadError>
+fn beside(
+    alloc: Global,
+    signs: &[Sign],
+    at: usize,
+    trail: &mut Trail,
+    depth: u32,
+) -> Result<usize, ReadError>
     requires at { at ≤ length signs.now }
     requires few { length signs.now < 2 ^ 32 }
     ensures tail { MakesTail applied signs.now trail.old trail.new result (read_in depth beside_form (drop at signs.now)) }
 {
     let place = open(signs, at, depth, Mark::Bar)?;
-    let place = inner_inputs(alloc, signs, place, trail, depth)?;
+    let end = inner_inputs(alloc, signs, place, trail, depth)?;
     trail.makes.push(Make::Over(Head::Par))?;
-    Ok(place)
+    Ok(end)
 }
 
 /// A whole process: input processes with `|` between them.
 #[cycle(processes)]
 #[tactic(auto, using(cv_read::proofs::Places::places))]
-pub fn inputs(alloc: Global, signs: &[Sign], at: usize, trail: &mut Trail, depth: u32) -> Result<usize, ReadError>
+pub fn inputs(
+    alloc: Global,
+    signs: &[Sign],
+    at: usize,
+    trail: &mut Trail,
+    depth: u32,
+) -> Result<usize, ReadError>
     requires at { at ≤ length signs.now }
     requires few { length signs.now < 2 ^ 32 }
     ensures makes { Makes postorder signs.now trail.old trail.new result (read_in depth inputs_form (drop at signs.now)) }
@@ -515,7 +691,13 @@ pub fn inputs(alloc: Global, signs: &[Sign], at: usize, trail: &mut Trail, depth
 /// A whole process, one level down.
 #[cycle(processes)]
 #[tactic(auto, using(cv_read::proofs::Places::places, cv_read::proofs::Levels::levels))]
-pub fn inner_inputs(alloc: Global, signs: &[Sign], at: usize, trail: &mut Trail, depth: u32) -> Result<usize, ReadError>
+pub fn inner_inputs(
+    alloc: Global,
+    signs: &[Sign],
+    at: usize,
+    trail: &mut Trail,
+    depth: u32,
+) -> Result<usize, ReadError>
     requires at { at ≤ length signs.now }
     requires few { length signs.now < 2 ^ 32 }
     ensures makes { Makes postorder signs.now trail.old trail.new result (below depth Inputs (drop at signs.now)) }
@@ -525,4 +707,3 @@ pub fn inner_inputs(alloc: Global, signs: &[Sign], at: usize, trail: &mut Trail,
     }
     Err(shallow(signs, at, begins_input(signs, at)))
 }
-

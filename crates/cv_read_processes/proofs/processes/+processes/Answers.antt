@@ -1,16 +1,18 @@
-use Rattle.std.proofs.Common.{◌∷◌, [], false, true, refl, sym, ◌++◌, drop, arith}
+use Rattle.std.proofs.Common.{false, refl, sym, arith}
 use Rattle.cv_syntax.specs.declared.head.Head.TheVariants.{Par}
 use Rattle.cv_syntax.specs.Tree.{chain}
 use Rattle.cv_grammar.specs.Form.{◌▸◌, deeper, may}
 use Rattle.cv_grammar.specs.declared.sign.Mark.TheVariants as mark
 use Rattle.cv_rules.specs.Phrases.{Inputs, Output, ProcessBranch}
-use Rattle.cv_rules.specs.Processes.{beside, input}
+use Rattle.cv_rules.specs.Processes.{beside, input, otherwise}
+use Rattle.cv_rules.specs.declared.role.Role.TheVariants.{Asks, BindsVariable}
+use Rattle.cv_rules.specs.declared.role.Asked.TheVariants.{AParam}
 use Rattle.cv_read.specs.Gives.{perhaps}
 use Rattle.cv_read.proofs.Chains.{between}
 use Rattle.cv_read.proofs.Made.{row-made}
 use Rattle.cv_read.proofs.Rows.{mapped_read, place_grows, trees_begin, trees_go}
-use Rattle.cv_read.proofs.Tails.{joining, no_tail, some_tail, tail_behind}
-use Rattle.cv_read_processes.proofs.Productions.{assignment_made, branch_made, finding_made, found_in, outgoing_made, receiving_made, recording_made, replication_made, restriction_made, testing_made}
+use Rattle.cv_read.proofs.Tails.{joining, some_tail, tail_behind}
+use Rattle.cv_read_processes.proofs.Productions.{branch_made, find_made, found_in, let_made, new_made, outgoing_made, receiving_made, recording_made, replication_made, test_made}
 use Rattle.cv_read_processes.proofs.processes.+processes.Goals as goal
 
 pub output_in_parentheses-returns : goal.output_in_parentheses-returns
@@ -36,7 +38,7 @@ receiving-returns t c =
 pub restriction-returns : goal.restriction-returns
 restriction-returns t c =
     let rest = c.in_ok-place-2.ensures.makes in
-    let m = restriction_made c.in_ok-place.ensures.opens c.in_ok-x.ensures.gives rest.read c.in_ok-push.ensures.items rest.makes c.in_ok-push-2.ensures.items in
+    let m = new_made BindsVariable Output c.in_ok-place.ensures.opens c.in_ok-x.ensures.gives rest.read c.in_ok-push.ensures.items rest.makes c.in_ok-push-2.ensures.items in
     record { makes = record { value = m.value; read = m.read; makes = m.makes } }
 
 pub replication-returns : goal.replication-returns
@@ -49,7 +51,7 @@ pub assignment-returns : goal.assignment-returns
 assignment-returns t c =
     let is = c.in_ok-place-3.ensures.makes in
     let rest = c.in_ok-place-4.ensures.makes in
-    let m = assignment_made c.in_ok-place.ensures.opens c.in_ok-x.ensures.gives c.in_ok-place-2.ensures.read is.read rest.read is.makes rest.makes c.in_ok-push.ensures.items in
+    let m = let_made BindsVariable Output c.in_ok-place.ensures.opens c.in_ok-x.ensures.gives c.in_ok-place-2.ensures.read is.read rest.read is.makes rest.makes c.in_ok-push.ensures.items in
     record { makes = record { value = m.value; read = m.read; makes = m.makes } }
 
 pub recording-returns : goal.recording-returns
@@ -64,7 +66,7 @@ testing-returns t c =
     let holds = c.in_ok-place-2.ensures.makes in
     let body = c.in_ok-place-4.ensures.makes in
     let other = c.in_ok-place-5.ensures.makes in
-    let m = testing_made c.in_ok-place.ensures.opens holds.read c.in_ok-place-3.ensures.read body.read other.read holds.makes body.makes other.makes c.in_ok-close_chain.ensures c.in_ok-push.ensures.items in
+    let m = test_made Output otherwise c.in_ok-place.ensures.opens holds.read c.in_ok-place-3.ensures.read body.read other.read holds.makes body.makes other.makes c.in_ok-close_chain.ensures c.in_ok-push.ensures.items in
     record { makes = record { value = m.value; read = m.read; makes = m.makes } }
 
 pub branch-returns : goal.branch-returns
@@ -72,7 +74,7 @@ branch-returns t c =
     let bound = c.in_ok-place.ensures.makes in
     let holds = c.in_ok-place-3.ensures.makes in
     let body = c.in_ok-place-4.ensures.makes in
-    let m = branch_made c.args.depth c.args.at (omega arith) bound.read c.in_ok-place-2.ensures.read holds.read body.read bound.makes holds.makes body.makes c.in_ok-push.ensures.items c.in_ok-push-2.ensures.items c.in_ok-push-3.ensures.items in
+    let m = branch_made BindsVariable (Asks AParam) Output c.args.depth c.args.at (omega arith) bound.read c.in_ok-place-2.ensures.read holds.read body.read bound.makes holds.makes body.makes c.in_ok-push.ensures.items c.in_ok-push-2.ensures.items c.in_ok-push-3.ensures.items in
     record { makes = record { value = m.value; read = m.read; makes = m.makes } }
 
 pub branch_row-row-init : goal.branch_row-row-init
@@ -92,17 +94,17 @@ branches-returns t c =
 pub find_in-returns : goal.find_in-returns
 find_in-returns t c =
     let d = c.in_ok-place.ensures.makes in
-    record { makes = record { value = d.value; read = found_in c.args.depth c.args.at c.label_or.ensures c.in_ok-count.ensures.gives c.in_ok-label.ensures.gives d.read; makes = d.makes } }
+    record { makes = record { value = d.value; read = found_in ProcessBranch c.args.depth c.args.at c.label_or.ensures c.in_ok-count.ensures.gives c.in_ok-label.ensures.gives d.read; makes = d.makes } }
 
 pub finding-returns : goal.finding-returns
 finding-returns t c =
     let head = c.in_ok-label.ensures.makes in
     let other = c.in_ok-place.ensures.makes in
-    let m = finding_made c.args.depth c.args.at (omega arith) head.read other.read head.makes other.makes c.in_ok-push.ensures.items in
+    let m = find_made ProcessBranch otherwise c.args.depth c.args.at (omega arith) head.read other.read head.makes other.makes c.in_ok-push.ensures.items in
     record { makes = record { value = m.value; read = m.read; makes = m.makes } }
 
 pub beside-returns : goal.beside-returns
-beside-returns t c = record { tail = joining Par Inputs _ c.in_ok-place.ensures.opens c.in_ok-place-2.ensures.makes refl c.in_ok-push.ensures.items }
+beside-returns t c = record { tail = joining Par Inputs _ c.in_ok-place.ensures.opens c.in_ok-end.ensures.makes refl c.in_ok-push.ensures.items }
 
 pub inputs-returns-then-is_at : goal.inputs-returns-then-is_at
 inputs-returns-then-is_at t c = record { makes = tail_behind c.args.depth c.args.at _ perhaps input (may false beside) _ c.in_ok-place.ensures.makes (some_tail c.args.depth beside _ _ _ _ _ (sym c.if-is_at.ensures) c.beside.ensures.tail) }
