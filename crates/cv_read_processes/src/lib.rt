@@ -10,3 +10,6 @@ pub use messages::{
     channel, inner_indices, inner_pattern, inner_payload, inner_sending, inner_variables,
 };
 pub use processes::{begins_input, begins_output, inner_input, inner_inputs, inner_output, inputs};
+
+#[cfg(test)]
+mod tests;
