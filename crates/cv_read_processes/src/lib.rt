@@ -1,0 +1,15 @@
+// Reading of processes: channels and messages, inputs, outputs, tests and `find`.
+#![tactic(auto)]
+
+mod labels;
+mod messages;
+mod processes;
+
+pub use labels::{find_label, label_or};
+pub use messages::{
+    channel, inner_indices, inner_pattern, inner_payload, inner_sending, inner_variables,
+};
+pub use processes::{begins_input, begins_output, inner_input, inner_inputs, inner_output, inputs};
+
+#[cfg(test)]
+mod tests;
