@@ -2,5 +2,8 @@
 #![tactic(auto)]
 
 mod bodies;
+mod functions;
+mod groups;
 
 pub use bodies::body;
+pub use groups::{Side, group};
