@@ -1,5 +1,5 @@
 -- The functions of equivalences, from their parts.
-use Rattle.std.proofs.Common.{◌≡◌, ℕ, zero, suc, ◌+◌, false, List, [], ◌∷◌, ◌++◌, drop, refl, ap, sym, ◌∙◌, subst, append_assoc, append-nil, Option, Result, Ok, Err}
+use Rattle.std.proofs.Common.{◌≡◌, ℕ, ◌+◌, false, List, [], ◌∷◌, ◌++◌, drop, refl, ap, sym, ◌∙◌, subst, append_assoc, Option, Result, Ok, Err}
 use Rattle.std.specs.Prelude.{replicate}
 use Rattle.cv_syntax.specs.declared.head.Head.{Head}
 use Rattle.cv_syntax.specs.declared.head.Head.TheVariants.{Bound, Cons, New, Oracle}
@@ -10,7 +10,7 @@ use Rattle.cv_syntax.specs.Postorder.{postorder}
 use Rattle.cv_grammar.specs.declared.sign.Sign.{Sign}
 use Rattle.cv_grammar.specs.declared.sign.Mark.{Mark}
 use Rattle.cv_grammar.specs.declared.sign.Mark.TheVariants as mark
-use Rattle.cv_grammar.specs.Form.{deeper, level, made, many, may, word, ◌&◌, ◌▸◌, ◌◂◌}
+use Rattle.cv_grammar.specs.Form.{deeper, many, may, word, ◌&◌, ◌▸◌, ◌◂◌}
 use Rattle.cv_grammar.specs.Reads.{◌>>=◌, found, joined, read_word}
 use Rattle.cv_rules.specs.declared.role.Role.TheVariants.{BindsBound, BindsLocal}
 use Rattle.cv_rules.specs.Phrases.{Phrase, RightRest, Sort, typed, var_list}

@@ -13,8 +13,8 @@ ghost use Rattle.cv_read.specs.Gives.{Makes, MakesRow, MakesWith, below, read_in
 
 use cv_grammar::{Mark, Sign};
 use cv_read::{
-    ReadError, Trail, close_chain, expect, find_word, is_at, is_find_at, is_word_at,
-    maybe_indices, open, shallow, typed,
+    ReadError, Trail, close_chain, expect, find_word, is_at, is_find_at, is_word_at, maybe_indices,
+    open, shallow, typed,
 };
 use cv_read_processes::{find_label, label_or};
 use cv_read_terms::{begins_term, condition, inner_term, term};
@@ -29,8 +29,7 @@ fn begins_body(signs: &[Sign], at: usize) -> bool
 {
     is_at(signs, at, Mark::New)
         || (is_at(signs, at, Mark::Let)
-            || (is_at(signs, at, Mark::If)
-                || (is_find_at(signs, at) || begins_term(signs, at))))
+            || (is_at(signs, at, Mark::If) || (is_find_at(signs, at) || begins_term(signs, at))))
 }
 
 /// Whether a branch of `find` begins at a place.

@@ -11,9 +11,7 @@ ghost use Rattle.cv_read_groups.specs.Around.{functions_of, parts_of_keyed};
 
 use crate::functions::{inner_left_function, inner_right_function};
 use cv_grammar::{Mark, Sign};
-use cv_read::{
-    ReadError, Trail, close_chain, expect, is_at, make_binders, open, typed, word,
-};
+use cv_read::{ReadError, Trail, close_chain, expect, is_at, make_binders, open, typed, word};
 use cv_rules::Role;
 use cv_syntax::{Head, Make};
 use std::alloc::Global;

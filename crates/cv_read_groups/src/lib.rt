@@ -5,5 +5,4 @@ mod bodies;
 mod functions;
 mod groups;
 
-pub use bodies::body;
 pub use groups::{Side, group};

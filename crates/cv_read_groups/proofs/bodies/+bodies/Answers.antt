@@ -1,4 +1,4 @@
-use Rattle.std.proofs.Common.{false, refl, sym, arith}
+use Rattle.std.proofs.Common.{refl, sym, arith}
 use Rattle.cv_syntax.specs.Tree.{chain}
 use Rattle.cv_grammar.specs.Form.{◌▸◌, deeper}
 use Rattle.cv_grammar.specs.declared.sign.Mark.TheVariants as mark
