@@ -12,10 +12,15 @@ use Rattle.cv_grammar.specs.declared.sign.Sign.{Sign}
 use Rattle.cv_grammar.specs.declared.sign.Mark.{Mark}
 use Rattle.cv_grammar.specs.declared.sign.Mark.TheVariants as mark
 use Rattle.cv_grammar.specs.Form.{made, ◌▸◌, ◌◂◌}
-use Rattle.cv_rules.specs.Phrases.{Phrase}
+use Rattle.cv_grammar.specs.Spells.{is_mark, next_is}
+use Rattle.cv_grammar.specs.Reads.{Read, found, no_level, no_syntax, pick}
+use Rattle.cv_rules.specs.declared.role.Role.{Role}
+use Rattle.cv_rules.specs.Phrases.{Phrase, square}
 use Rattle.cv_read.specs.declared.trail.NameUse.{NameUse}
-use Rattle.cv_read.specs.Gives.{IsRead, Stands, read_in}
-use Rattle.cv_read.proofs.Chains.{both_sign, made_read, sign_both}
+use Rattle.cv_read.specs.Gives.{IsPlain, IsRead, Opens, Stands, positive, read_in}
+use Rattle.cv_read.proofs.Levels.{room}
+use Rattle.cv_read.proofs.Places.{plain_read}
+use Rattle.cv_read.proofs.Chains.{both_sign, first_read, made_read, sign_both, stands}
 use Rattle.cv_read_declarations.specs.declared.heard.Heard.{Heard}
 use Rattle.cv_read_declarations.specs.declared.heard.Heard.TheVariants as heard
 use Rattle.cv_read_declarations.specs.Declares.{IsWhole, heard_of, parts_of}
@@ -55,3 +60,14 @@ one_made d a b e = e ∙ ap (λ l. a ++ l) (sym (append-nil (parts_of d)))
 pub name_made : (c : Class) (r : Option ℕ) (x : ℕ) (a b : List Make) → b ≡ a ++ Nothing ∷ [] → b ≡ a ++ flat_map parts_of (Named x c Empty r ∷ [])
 unfolding postorder
 name_made c r x a b e = e
+
+-- nothing was noted
+plain_of : {A : Type 0} {all : List Sign} {a : A} {end : ℕ} (r : Read Role A) → IsRead all [] [] r a end → IsPlain all r a end
+plain_of {all = all} {a = a} {end = end} r d = record { is = d.is ∙ ap (λ us. found a us (drop end all)) (sym d.noted); within = d.within }
+
+-- tokens in square brackets
+pub squared : {all : List Sign} {k l end : ℕ} (n at : ℕ) (f : Phrase (Unit {0})) → Opens all mark.OpenSquare n at k → IsPlain all (read_in n f (drop k all)) tt l → Stands all mark.CloseSquare l end → IsPlain all (read_in n (square f) (drop at all)) tt end
+squared {all = all} {k = k} {end = end} n at f o d e =
+    plain_of (read_in n (square f) (drop at all))
+    (first_read (positive n) (read_in n (mark.OpenSquare ▸ f ◂ mark.CloseSquare)) (pick (next_is (is_mark mark.OpenSquare) (drop at all)) no_level no_syntax) (drop at all) (room n o.room)
+    (made_read (λ p. p.1) (sign_both mark.OpenSquare at k (read_in n (f ◂ mark.CloseSquare)) (stands o) (made_read (λ p. p.0) (both_sign mark.CloseSquare end (plain_read [] d) e)))))

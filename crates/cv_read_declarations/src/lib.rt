@@ -1,8 +1,10 @@
-// Reading of declarations: parameters, channels, probabilities, constants and events.
+// Reading of declarations: parameters, channels, probabilities, constants, functions and events.
 #![tactic(auto)]
 
+mod functions;
 mod heard;
 mod named;
 
+pub use functions::fun_decl;
 pub use heard::Heard;
 pub use named::{channel_decl, const_decl, event_decl, param_decl, proba_decl};

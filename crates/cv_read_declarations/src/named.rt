@@ -144,7 +144,7 @@ pub fn const_decl(
 
 /// A list of types in parentheses.
 #[tactic(auto, using(cv_read::proofs::Places::places, cv_read::proofs::Levels::levels))]
-fn type_list(
+pub fn type_list(
     alloc: Global,
     signs: &[Sign],
     at: usize,
