@@ -62,11 +62,11 @@ unfolding postorder
 name_made c r x a b e = e
 
 -- nothing was noted
-plain_of : {A : Type 0} {all : List Sign} {a : A} {end : ℕ} (r : Read Role A) → IsRead all [] [] r a end → IsPlain all r a end
+pub plain_of : {A : Type 0} {all : List Sign} {a : A} {end : ℕ} (r : Read Role A) → IsRead all [] [] r a end → IsPlain all r a end
 plain_of {all = all} {a = a} {end = end} r d = record { is = d.is ∙ ap (λ us. found a us (drop end all)) (sym d.noted); within = d.within }
 
 -- tokens in square brackets
-pub squared : {all : List Sign} {k l end : ℕ} (n at : ℕ) (f : Phrase (Unit {0})) → Opens all mark.OpenSquare n at k → IsPlain all (read_in n f (drop k all)) tt l → Stands all mark.CloseSquare l end → IsPlain all (read_in n (square f) (drop at all)) tt end
+pub squared : {A : Type 0} {all : List Sign} {k l end : ℕ} {a : A} (n at : ℕ) (f : Phrase A) → Opens all mark.OpenSquare n at k → IsPlain all (read_in n f (drop k all)) a l → Stands all mark.CloseSquare l end → IsPlain all (read_in n (square f) (drop at all)) a end
 squared {all = all} {k = k} {end = end} n at f o d e =
     plain_of (read_in n (square f) (drop at all))
     (first_read (positive n) (read_in n (mark.OpenSquare ▸ f ◂ mark.CloseSquare)) (pick (next_is (is_mark mark.OpenSquare) (drop at all)) no_level no_syntax) (drop at all) (room n o.room)

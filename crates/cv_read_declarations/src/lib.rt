@@ -1,10 +1,12 @@
-// Reading of declarations: parameters, channels, probabilities, constants, functions and events.
+// Reading of declarations: parameters, channels, probabilities, types, constants, functions and events.
 #![tactic(auto)]
 
 mod functions;
 mod heard;
 mod named;
+mod types;
 
 pub use functions::fun_decl;
 pub use heard::Heard;
 pub use named::{channel_decl, const_decl, event_decl, param_decl, proba_decl};
+pub use types::type_decl;
