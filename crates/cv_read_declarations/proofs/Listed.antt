@@ -1,13 +1,14 @@
 -- Declarations from their parts.
-use Rattle.std.proofs.Common.{◌≡◌, ℕ, List, [], ◌∷◌, ◌++◌, drop, length, refl, ap, sym, ◌∙◌, append-nil, Option, map}
+use Rattle.std.proofs.Common.{◌≡◌, ◌≢◌, ℕ, List, [], ◌∷◌, ◌++◌, drop, length, refl, ap, sym, ◌∙◌, append-nil, Option, map}
 use Rattle.std.specs.Prelude.{replicate, flat_map}
 use Rattle.std.specs.List.{AllByRecursion}
 use Rattle.cv_syntax.specs.declared.decls.Class.{Class}
+use Rattle.cv_syntax.specs.declared.head.Head.{Head}
 use Rattle.cv_syntax.specs.declared.make.Make.{Make}
 use Rattle.cv_syntax.specs.declared.make.Make.TheVariants.{Nothing}
 use Rattle.cv_syntax.specs.Declarations.{Declaration, Named}
 use Rattle.cv_syntax.specs.Postorder.{postorder}
-use Rattle.cv_syntax.specs.Tree.{Tree, Empty}
+use Rattle.cv_syntax.specs.Tree.{Tree, Empty, Node}
 use Rattle.cv_grammar.specs.declared.sign.Sign.{Sign}
 use Rattle.cv_grammar.specs.declared.sign.Mark.{Mark}
 use Rattle.cv_grammar.specs.declared.sign.Mark.TheVariants as mark
@@ -71,3 +72,7 @@ squared {all = all} {k = k} {end = end} n at f o d e =
     plain_of (read_in n (square f) (drop at all))
     (first_read (positive n) (read_in n (mark.OpenSquare ▸ f ◂ mark.CloseSquare)) (pick (next_is (is_mark mark.OpenSquare) (drop at all)) no_level no_syntax) (drop at all) (room n o.room)
     (made_read (λ p. p.1) (sign_both mark.OpenSquare at k (read_in n (f ◂ mark.CloseSquare)) (stands o) (made_read (λ p. p.0) (both_sign mark.CloseSquare end (plain_read [] d) e)))))
+
+-- a tree that is there
+pub is_there : (h : Head) (s t : Tree) → Node h s t ≢ Empty
+is_there h s t e = absurd (cc)
