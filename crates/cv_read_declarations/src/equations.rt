@@ -70,10 +70,15 @@ pub fn equation_decl(
     ensures declares { Declares signs.now trail.old trail.new heard.old.items heard.new.items result (read_in depth equation_form (drop at signs.now)) }
 {
     let place = expect(signs, at, Mark::EquationWord)?;
-    let begin = note(signs, place, &mut trail.uses, Role::Enters(Region::InEquation))?;
+    note(
+        signs,
+        place,
+        &mut trail.uses,
+        Role::Enters(Region::InEquation),
+    )?;
     let place = forall_vars(alloc, signs, place, trail, depth)?;
     let place = term(signs, place, trail, depth)?;
-    let rest = note(signs, place, &mut trail.uses, Role::Leaves)?;
+    note(signs, place, &mut trail.uses, Role::Leaves)?;
     let place = expect(signs, place, Mark::Dot)?;
     trail.makes.push(Make::Over(Head::Forall))?;
     heard.push(Heard::Equation)?;

@@ -13,9 +13,7 @@ ghost use Rattle.cv_read_declarations.specs.declared.heard.Heard.TheVariants.{Na
 
 use crate::heard::Heard;
 use cv_grammar::{Mark, Sign};
-use cv_read::{
-    Item, ReadError, Trail, expect, is_at, item_row, name_list, open, type_name, word,
-};
+use cv_read::{Item, ReadError, Trail, expect, is_at, item_row, name_list, open, type_name, word};
 use cv_rules::{Asked, Role};
 use cv_syntax::{Class, Make};
 use std::alloc::{AllocError, Global};

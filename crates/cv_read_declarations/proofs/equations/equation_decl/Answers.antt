@@ -26,8 +26,8 @@ returns c =
         read =
             ended_read n c.args.at mark.EquationWord (λ (l, t). Equation (Node Forall l t) ∷ []) (inside InEquation (forall_vars & term)) c.in_ok-place.ensures.read
             (made_read (λ (n, (a, m)). a)
-            (both_read (read_in n ((forall_vars & term) & note Leaves)) c.in_ok-begin.ensures.gives
-            (both_read (read_note Leaves) (both_read (read_in n term) l.read t.read) c.in_ok-rest.ensures.gives))) c.in_ok-place-4.ensures.read;
+            (both_read (read_in n ((forall_vars & term) & note Leaves)) c.in_ok-note.ensures.gives
+            (both_read (read_note Leaves) (both_read (read_in n term) l.read t.read) c.in_ok-note-2.ensures.gives))) c.in_ok-place-4.ensures.read;
         heard = c.in_ok-push-2.ensures.items;
         makes = one_made (Equation e) _ _ (both_made Forall l.value t.value _ _ _ _ l.makes t.makes c.in_ok-push.ensures.items);
         whole = (is_there Forall l.value t.value, tt);
