@@ -1,0 +1,20 @@
+use Rattle.std.proofs.Common.{◌∷◌, [], None}
+use Rattle.cv_syntax.specs.declared.decls.Class.TheVariants.{Proba}
+use Rattle.cv_grammar.specs.Form.{word}
+use Rattle.cv_grammar.specs.declared.sign.Mark.TheVariants as mark
+use Rattle.cv_rules.specs.declared.role.Role.TheVariants.{Declares}
+use Rattle.cv_rules.specs.declared.role.Asked.TheVariants.{AProbability}
+use Rattle.cv_rules.specs.Declarations.{named}
+use Rattle.cv_read_declarations.proofs.Listed.{ended_read, name_made}
+use Rattle.cv_read_declarations.proofs.named.proba_decl.Goals as goal
+
+pub returns : goal.returns
+returns c = record {
+  declares = record {
+    value = named Proba c.in_ok-name.name ∷ [];
+    read = ended_read c.args.depth c.args.at mark.Proba (λ x. named Proba x ∷ []) (word (Declares AProbability)) c.in_ok-place.ensures.read c.in_ok-name.ensures.gives c.in_ok-place-2.ensures.read;
+    heard = c.in_ok-push.ensures.items;
+    makes = name_made Proba None c.in_ok-name.name _ _ c.in_ok-push-2.ensures.items;
+    whole = (tt, tt);
+  };
+}
