@@ -1,10 +1,4 @@
-pub mod Chains
-pub mod Declarations
-pub mod Equalities
-pub mod Laws
-pub mod Levels
-pub mod Made
-pub mod Places
-pub mod Productions
-pub mod Rows
-pub mod Whole
+pub mod Builds
+pub mod Declarings
+pub mod Parsings
+pub mod Weighing

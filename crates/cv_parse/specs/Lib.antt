@@ -1,5 +1,5 @@
-pub mod Files
-pub mod Gives
-pub mod Options
-pub mod Rules
-pub mod Spines
+pub mod Building
+pub mod Declaring
+pub mod Faults
+pub mod Parsed
+pub mod Weights

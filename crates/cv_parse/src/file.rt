@@ -1,37 +1,150 @@
-ghost use Rattle.std.specs.Prelude.{◌≡◌, ◌<◌, ◌^◌, length};
-ghost use Rattle.cv_parse.specs.Gives.{GivesFile};
+ghost use Rattle.std.specs.Prelude.{◌≡◌, ◌+◌, ◌<◌, ◌≤◌, ◌^◌, ◌++◌, [], None, Some, Ok, length, All, OnErr, IfErr, IfOk, OnOk};
+ghost use Rattle.cv_rules.specs.Filled.{filled};
+ghost use Rattle.cv_rules.specs.Names.{name_fault as fault_of};
+ghost use Rattle.cv_read.specs.Gives.{uses_of};
+ghost use Rattle.cv_signs.specs.Signs.{signs_of};
+ghost use Rattle.cv_syntax.specs.Postorder.{postorder};
+ghost use Rattle.cv_syntax.specs.Tree.{Tree, tree_at, size};
+ghost use Rattle.cv_parse.specs.Building.{Misnames};
+ghost use Rattle.cv_parse.specs.Declaring.{IsBelow};
+ghost use Rattle.cv_parse.specs.Parsed.{Parses, ParsesIn, Refuses, range_of, sized};
 
-use crate::decls::decls;
-use crate::heard::Heard;
-use crate::processes::input;
-use crate::reading::{ReadError, expect};
-use crate::trail::Trail;
-use cv_grammar::{Mark, Sign};
-use std::alloc::Global;
+use crate::building::build;
+use crate::error::ParseError;
+use cv_filling::{fill, measure};
+use cv_grammar::Sign;
+use cv_lex::Tokens;
+use cv_naming::{NameFault, name_fault};
+use cv_read::NameUse;
+use cv_read_file::{Reading, read};
+use cv_signs::signs;
+use cv_syntax::{BuildError, Decls, File, Game, Make, NodeId, Pool, Work};
+use std::alloc::{AllocError, Global};
 
-/// What was read of a file.
-#[derive(Drop)]
-pub struct Reading {
-    pub trail: Trail,
-    pub heard: Vec<Heard>,
+/// The most syntax nodes of a game, and of a path in it.
+const MOST_NODES: u32 = 50_000;
+
+const MOST_DEPTH: u32 = 200;
+
+/// Checks the names of so many tokens.
+fn check_names(alloc: Global, uses: &[NameUse], count: usize) -> Result<(), ParseError>
+    requires few { count < 2 ^ 32 }
+    ensures named { OnOk result (fault_of (uses_of uses.now) ≡ None) }
+    ensures misnamed { IfErr result (λ e. Misnames count (uses_of uses.now) e) }
+{
+    match name_fault(alloc, uses)? {
+        None => Ok(()),
+        Some(NameFault::Twice(left)) => Err(ParseError::NameTwice(count.saturating_sub(left) as u32)),
+        Some(NameFault::Unknown(left)) => {
+            Err(ParseError::NameUnknown(count.saturating_sub(left) as u32))
+        }
+    }
 }
 
-/// How deep brackets and syntax nodes may stand.
-const DEPTH: u32 = 200;
-
-/// Reads a file.
-#[tactic(auto, using(crate::proofs::Places::places))]
-pub fn read(alloc: Global, signs: &[Sign]) -> Result<Reading, ReadError>
-    requires { length signs.now < 2 ^ 32 }
-    ensures { GivesFile signs.now result }
+/// Checks that a game is no larger than a game may be.
+fn check_size(alloc: Global, process: &[Make]) -> Result<(), ParseError>
+    ensures small { (t : Tree) → process.now ≡ postorder t → OnOk result (sized (filled t) ≡ Ok tt) }
+    ensures large { (t : Tree) → process.now ≡ postorder t → IfErr result (λ e. Refuses e (sized (filled t))) }
 {
-    let mut trail = Trail::new(alloc);
-    let mut heard = Vec::new(alloc);
-    let place = decls(alloc, signs, 0, &mut trail, &mut heard, DEPTH)?;
-    let place = expect(signs, place, Mark::Process)?;
-    let place = input(alloc, signs, place, &mut trail, DEPTH)?;
-    if place < signs.len() {
-        return Err(ReadError::Syntax(place as u32));
+    let found = measure(alloc, process)?;
+    if found.nodes > MOST_NODES {
+        return Err(ParseError::Build(BuildError::Nodes { count: found.nodes }));
     }
-    Ok(Reading { trail, heard })
+    if found.depth > MOST_DEPTH {
+        return Err(ParseError::Build(BuildError::Depth { depth: found.depth }));
+    }
+    Ok(())
+}
+
+/// The parts of all trees of a file: those of its declarations, and behind them those of its game.
+fn all_parts(alloc: Global, trees: &[Make], process: &[Make]) -> Result<Vec<Make>, AllocError>
+    ensures { (t : Tree) → process.now ≡ postorder t → IfOk result (λ makes. makes.items ≡ trees.now ++ postorder (filled t)) }
+{
+    let game = fill(alloc, process)?;
+    let mut makes = Vec::from_slice(alloc, trees)?;
+    makes.extend_from_slice(&game)?;
+    Ok(makes)
+}
+
+/// The tokens of a proof block, by how many tokens of so many are left at its ends.
+fn range(count: usize, script: Option<(usize, usize)>) -> Option<(u32, u32)>
+    requires few { count < 2 ^ 32 }
+    ensures { result ≡ range_of count script }
+{
+    let (first, last) = script?;
+    Some((
+        count.saturating_sub(first) as u32,
+        count.saturating_sub(last) as u32,
+    ))
+}
+
+/// Reads a file from its tokens into a pool and declarations.
+fn parse(
+    alloc: Global,
+    pool: &mut Pool,
+    decls: &mut Decls,
+    signs: &[Sign],
+) -> Result<File, ParseError>
+    requires empty { decls.old.list ≡ [] }
+    requires trees { pool.old.trees ≡ [] }
+    requires few { length signs.now < 2 ^ 32 }
+    ensures parses { ParsesIn pool.old.limit signs.now pool.new.trees decls.new.list result }
+    ensures live { IfOk result (λ f. f.game.root.0 < length pool.new.trees) }
+    ensures fits { IfOk result (λ f. size (tree_at pool.new.trees (Some f.game.root)) ≤ 50000) }
+    ensures below { OnOk result (All (IsBelow (length pool.new.trees)) decls.new.list) }
+{
+    let reading = read(alloc, signs)?;
+    check_names(alloc, &reading.uses, signs.len())?;
+    check_size(alloc, &reading.process)?;
+    let makes = all_parts(alloc, &reading.trees, &reading.process)?;
+    let root = build(alloc, pool, decls, &reading, &makes)?;
+    Ok(File {
+        game: Game { root },
+        script: range(signs.len(), reading.script),
+    })
+}
+
+/// Fills an empty work with what tokens say.
+fn fill_work(alloc: Global, work: &mut Work, tokens: &Tokens) -> Result<File, ParseError>
+    requires names { work.old.names ≡ [] }
+    requires decls { work.old.decls.list ≡ [] }
+    requires trees { work.old.pool.trees ≡ [] }
+    requires few { length tokens.now < 200000000 }
+    ensures parses { Parses work.old.pool.limit (signs_of tokens.now).signs work.new result }
+    ensures names { OnOk result (work.new.names ≡ (signs_of tokens.now).names) }
+    ensures live { IfOk result (λ f. f.game.root.0 < length work.new.pool.trees) }
+    ensures fits { IfOk result (λ f. size (tree_at work.new.pool.trees (Some f.game.root)) ≤ 50000) }
+    ensures below { OnOk result (All (IsBelow (length work.new.pool.trees)) work.new.decls.list) }
+{
+    let signs = signs(alloc, &mut work.names, tokens)?;
+    let file = parse(alloc, &mut work.pool, &mut work.decls, &signs)?;
+    work.decls.set_own(work.names.len());
+    Ok(file)
+}
+
+/// Reads a file from its tokens into an empty work, which is empty again where no file is read.
+pub fn file(alloc: Global, work: &mut Work, tokens: &Tokens) -> Result<File, ParseError>
+    requires names { work.old.names ≡ [] }
+    requires decls { work.old.decls.list ≡ [] }
+    requires trees { work.old.pool.trees ≡ [] }
+    requires few { length tokens.now < 200000000 }
+    ensures parses { Parses work.old.pool.limit (signs_of tokens.now).signs work.new result }
+    ensures names { OnOk result (work.new.names ≡ (signs_of tokens.now).names) }
+    ensures live { IfOk result (λ f. f.game.root.0 < length work.new.pool.trees) }
+    ensures fits { IfOk result (λ f. size (tree_at work.new.pool.trees (Some f.game.root)) ≤ 50000) }
+    ensures below { OnOk result (All (IsBelow (length work.new.pool.trees)) work.new.decls.list) }
+    ensures no_names { OnErr result (work.new.names ≡ []) }
+    ensures no_decls { OnErr result (work.new.decls.list ≡ []) }
+    ensures no_trees { OnErr result (work.new.pool.trees ≡ []) }
+{
+    let before = work.pool.mark();
+    match fill_work(alloc, work, tokens) {
+        Ok(file) => Ok(file),
+        Err(fault) => {
+            work.names.keep(0);
+            work.decls.keep(0);
+            work.pool.release(before);
+            Err(fault)
+        }
+    }
 }

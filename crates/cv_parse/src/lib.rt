@@ -1,19 +1,11 @@
-// Reading of files.
+// Files, from their tokens: the grammar, the rules of names, the limits, and the trees in a pool.
 #![tactic(auto)]
 
-mod bindings;
-mod decls;
+mod building;
+mod declaring;
+mod error;
 mod file;
-mod heard;
-mod lists;
-mod processes;
-mod reading;
-mod role;
-mod terms;
-mod trail;
+mod weights;
 
-pub use file::{Reading, read};
-pub use heard::{Heard, TypeOption};
-pub use reading::ReadError;
-pub use role::{Asked, NameUse, Role};
-pub use trail::Trail;
+pub use error::ParseError;
+pub use file::file;

@@ -1,1 +1,3 @@
+pub mod Choices
 pub mod Declares
+pub mod Sides

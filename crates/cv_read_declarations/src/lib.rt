@@ -1,14 +1,15 @@
-// Reading of declarations: parameters, channels, probabilities, types, constants, functions, events and equations.
+// Reading of declarations, of each kind and one after another.
 #![tactic(auto)]
 
+mod choice;
+mod collisions;
 mod equations;
+mod equivalences;
 mod functions;
 mod heard;
 mod named;
+mod queries;
 mod types;
 
-pub use equations::equation_decl;
-pub use functions::fun_decl;
+pub use choice::{begins_decl, decls};
 pub use heard::Heard;
-pub use named::{channel_decl, const_decl, event_decl, param_decl, proba_decl};
-pub use types::type_decl;

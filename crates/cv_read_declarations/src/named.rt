@@ -1,4 +1,4 @@
-ghost use Rattle.std.specs.Prelude.{◌≡◌, false, ◌+◌, ◌<◌, ◌≤◌, ◌^◌, ◌++◌, ◌∷◌, [], ℕ, length, drop, map, replicate, OnOk};
+ghost use Rattle.std.specs.Prelude.{◌≡◌, false, true, ◌+◌, ◌<◌, ◌≤◌, ◌^◌, ◌++◌, ◌∷◌, [], ℕ, length, drop, map, replicate, OnOk};
 ghost use Rattle.cv_grammar.specs.Form.{◌▸◌, ◌◂◌, made};
 ghost use Rattle.cv_grammar.specs.declared.sign.Mark.TheVariants.{Comma, Dot};
 ghost use Rattle.cv_syntax.specs.Tree.{names as name_tree};
@@ -8,7 +8,7 @@ ghost use Rattle.cv_rules.specs.declared.role.Role.TheVariants.{Declares as decl
 ghost use Rattle.cv_rules.specs.Phrases.{listed, row, type_name as type_form};
 ghost use Rattle.cv_rules.specs.Declarations.{channel_decl as channel_form, const_decl as const_form, event_decl as event_form, ids, named, param_decl as param_form, proba_decl as proba_form, type_list as type_list_form};
 ghost use Rattle.cv_read.specs.Gives.{Makes, read_in};
-ghost use Rattle.cv_read_declarations.specs.Declares.{Declares};
+ghost use Rattle.cv_read_declarations.specs.Declares.{Declares, is_of_name};
 ghost use Rattle.cv_read_declarations.specs.declared.heard.Heard.TheVariants.{Named};
 
 use crate::heard::Heard;
@@ -49,6 +49,7 @@ fn names_decl(
 ) -> Result<usize, ReadError>
     requires at { at ≤ length signs.now }
     requires few { length signs.now < 2 ^ 32 }
+    requires named { is_of_name kind.2 ≡ true }
     ensures declares { Declares signs.now trail.old trail.new heard.old.items heard.new.items result (read_in depth (made (map (named kind.2)) (kind.0 ▸ ids (declares kind.1) ◂ Dot)) (drop at signs.now)) }
 {
     let place = expect(signs, at, kind.0)?;

@@ -1,4 +1,4 @@
-use Rattle.std.proofs.Common.{◌∷◌, [], Some}
+use Rattle.std.proofs.Common.{◌∷◌, [], Some, refl}
 use Rattle.cv_syntax.specs.Declarations.{Named}
 use Rattle.cv_syntax.specs.declared.decls.Class.TheVariants.{Fun}
 use Rattle.cv_grammar.specs.Form.{word, ◌&◌, ◌▸◌}
@@ -28,6 +28,6 @@ returns c =
             (made_read (λ p. p.1) (sign_both mark.Colon _ _ (read_in n (type_name & data_option)) c.in_ok-place-3.ensures.read (both_read (read_in n data_option) c.in_ok-sort.ensures.gives (plain_read _ c.in_ok-data_like.ensures.gives)))))) c.in_ok-place-4.ensures.read;
         heard = c.in_ok-push.ensures.items;
         makes = one_made d _ _ types.makes;
-        whole = (tt, tt);
+        whole = (refl, tt);
       };
     }

@@ -1,4 +1,4 @@
-use Rattle.std.proofs.Common.{map, false, Some}
+use Rattle.std.proofs.Common.{map, false, Some, refl}
 use Rattle.cv_syntax.specs.declared.decls.Class.TheVariants.{Fun}
 use Rattle.cv_grammar.specs.Form.{◌&◌, ◌▸◌}
 use Rattle.cv_grammar.specs.declared.sign.Mark.TheVariants as mark
@@ -23,6 +23,6 @@ returns c =
             (both_read (read_in n (mark.Colon ▸ type_name)) c.in_ok-names.ensures.gives (made_read (λ p. p.1) (sign_both mark.Colon _ _ (read_in n type_name) c.in_ok-place-2.ensures.read c.in_ok-sort.ensures.gives))) c.in_ok-place-3.ensures.read;
         heard = names_heard (Fun false) (Some c.in_ok-sort.sort) xs _ _ _ c.deref.ensures.value c.in_ok-hear_names.ensures.heard;
         makes = names_made (Fun false) (Some c.in_ok-sort.sort) xs _ _ _ c.deref.ensures.value c.in_ok-hear_names.ensures.makes;
-        whole = names_whole (Fun false) (Some c.in_ok-sort.sort) xs;
+        whole = names_whole (Fun false) (Some c.in_ok-sort.sort) xs refl;
       };
     }

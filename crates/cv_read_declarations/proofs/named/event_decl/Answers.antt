@@ -1,4 +1,4 @@
-use Rattle.std.proofs.Common.{◌∷◌, [], None}
+use Rattle.std.proofs.Common.{◌∷◌, [], None, refl}
 use Rattle.cv_syntax.specs.Declarations.{Named}
 use Rattle.cv_syntax.specs.declared.decls.Class.TheVariants.{Event}
 use Rattle.cv_grammar.specs.Form.{word, ◌&◌}
@@ -22,6 +22,6 @@ returns c =
         read = ended_read n c.args.at mark.EventWord (λ (e, l). Named e Event l None ∷ []) (word (Declares AnEvent) & listed type_list) c.in_ok-place.ensures.read (both_read (read_in n (listed type_list)) c.in_ok-name.ensures.gives types.read) c.in_ok-place-3.ensures.read;
         heard = c.in_ok-push.ensures.items;
         makes = one_made (Named c.in_ok-name.name Event types.value None) _ _ types.makes;
-        whole = (tt, tt);
+        whole = (refl, tt);
       };
     }

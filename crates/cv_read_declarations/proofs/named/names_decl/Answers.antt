@@ -14,6 +14,6 @@ returns c =
         read = ended_read c.args.depth c.args.at k.0 (map (named k.2)) (ids (Declares k.1)) c.in_ok-place.ensures.read c.in_ok-names.ensures.gives c.in_ok-place-2.ensures.read;
         heard = names_heard k.2 None xs _ _ _ c.deref.ensures.value c.in_ok-hear_names.ensures.heard;
         makes = names_made k.2 None xs _ _ _ c.deref.ensures.value c.in_ok-hear_names.ensures.makes;
-        whole = names_whole k.2 None xs;
+        whole = names_whole k.2 None xs c.requires.named;
       };
     }

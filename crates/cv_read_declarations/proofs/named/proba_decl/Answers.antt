@@ -1,4 +1,4 @@
-use Rattle.std.proofs.Common.{◌∷◌, [], None}
+use Rattle.std.proofs.Common.{◌∷◌, [], None, refl}
 use Rattle.cv_syntax.specs.declared.decls.Class.TheVariants.{Proba}
 use Rattle.cv_grammar.specs.Form.{word}
 use Rattle.cv_grammar.specs.declared.sign.Mark.TheVariants as mark
@@ -15,6 +15,6 @@ returns c = record {
     read = ended_read c.args.depth c.args.at mark.Proba (λ x. named Proba x ∷ []) (word (Declares AProbability)) c.in_ok-place.ensures.read c.in_ok-name.ensures.gives c.in_ok-place-2.ensures.read;
     heard = c.in_ok-push.ensures.items;
     makes = name_made Proba None c.in_ok-name.name _ _ c.in_ok-push-2.ensures.items;
-    whole = (tt, tt);
+    whole = (refl, tt);
   };
 }

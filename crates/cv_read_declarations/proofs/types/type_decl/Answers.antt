@@ -1,4 +1,4 @@
-use Rattle.std.proofs.Common.{◌∷◌, ◌++◌, [], None, ap, ◌∙◌}
+use Rattle.std.proofs.Common.{◌∷◌, ◌++◌, [], None, ap, ◌∙◌, refl}
 use Rattle.cv_grammar.specs.Form.{word, ◌&◌}
 use Rattle.cv_grammar.specs.declared.sign.Mark.TheVariants as mark
 use Rattle.cv_rules.specs.declared.role.Role.TheVariants.{Declares}
@@ -21,6 +21,6 @@ returns c =
         read = ended_read c.args.depth c.args.at mark.TypeWord (λ (x, l). named (class_of l) x ∷ []) (word (Declares AType) & type_options) c.in_ok-place.ensures.read (both_read (read_in c.args.depth type_options) c.in_ok-name.ensures.gives (plain_read _ c.in_ok-options.ensures.gives)) c.in_ok-place-2.ensures.read;
         heard = c.in_ok-push.ensures.items ∙ ap (λ k. c.args.heard.now.items ++ Named x k None ∷ []) (c.type_class.ensures ∙ ap class_of c.deref.ensures.value);
         makes = name_made (class_of opts) None x _ _ c.in_ok-push-2.ensures.items;
-        whole = (tt, tt);
+        whole = (refl, tt);
       };
     }

@@ -1,0 +1,182 @@
+-- From the stages of reading a file to what it says, or what it is refused for.
+use Rattle.std.proofs.Common.{◌≡◌, ℕ, zero, suc, ◌+◌, ◌-◌, ◌<◌, ◌≤◌, true, false, Bool, nat_lt, if◌then◌else◌, List, [], ◌∷◌, ◌++◌, length, refl, ap, ap₂, subst, sym, ◌∙◌, arith, Option, Some, None, Result, Ok, Err}
+use Rattle.cv_pool.specs.KindTree.{KindTree}
+use Rattle.cv_syntax.specs.declared.decls.Decl.{Decl}
+use Rattle.cv_syntax.specs.declared.make.Make.{Make}
+use Rattle.cv_syntax.specs.declared.work.BuildError.TheVariants as build
+use Rattle.cv_syntax.specs.declared.work.File.{File}
+use Rattle.cv_syntax.specs.Postorder.{postorder}
+use Rattle.cv_syntax.specs.Tree.{Tree, Empty, depth, size, tree_at}
+use Rattle.cv_grammar.specs.declared.sign.Sign.{Sign}
+use Rattle.cv_grammar.specs.Reads.{Found}
+use Rattle.cv_rules.specs.declared.role.Role.{Role}
+use Rattle.cv_rules.specs.Filled.{filled}
+use Rattle.cv_rules.specs.Files.{levels, read_whole}
+use Rattle.cv_rules.specs.Names.{name_fault}
+use Rattle.cv_rules.specs.Rules as rules
+use Rattle.cv_rules.specs.Whole.{built_in, content_of, outcome, outcome_of, unless}
+use Rattle.cv_rules.proofs.Identities.{ids_are_distinct}
+use Rattle.cv_rules.proofs.Outcome.{accepted_is_read}
+use Rattle.cv_read.specs.declared.reading.ReadError.{ReadError}
+use Rattle.cv_read.specs.declared.reading.ReadError.TheVariants as reading
+use Rattle.cv_read.specs.Gives.{Fails, uses_of}
+use Rattle.cv_read_file.specs.declared.file.Reading.{Reading}
+use Rattle.cv_read_file.specs.Files.{IsReading}
+use Rattle.cv_parse.specs.declared.error.ParseError.{ParseError}
+use Rattle.cv_parse.specs.declared.error.ParseError.TheVariants.{Syntax, Nesting, NameTwice, NameUnknown, Build}
+use Rattle.cv_parse.specs.Building.{Builds, Crowds, IsBuilt, Misnames}
+use Rattle.cv_parse.specs.Faults.{of_read}
+use Rattle.cv_parse.specs.Parsed.{Parsed, Refuses, bool_type, held_in, limited, most_depth, most_nodes, of_name, of_outcome, parsed, range_of, roomed, said, sized, sized_first, weight_of}
+use Rattle.cv_parse.specs.Weights.{asked, capped, declared_weight, parts_weight, tree_weight}
+use Rattle.cv_parse.proofs.Weighing.{declared-weight, tree-weight, weight-both}
+
+-- a stage that is refused, and what comes of it
+refuses_on : {A B : Type 0} (e : ParseError) (r : Result A ParseError) (s : Result B ParseError) → (r ≡ Err e → s ≡ Err e) → Refuses e r → Refuses e s
+refuses_on (Syntax k) r s f h = f h
+refuses_on (Nesting k) r s f h = f h
+refuses_on (NameTwice k) r s f h = f h
+refuses_on (NameUnknown k) r s f h = f h
+refuses_on (Build (build.Full n)) r s f h = f h
+refuses_on (Build (build.Nodes n)) r s f h = f h
+refuses_on (Build (build.Depth n)) r s f h = f h
+refuses_on (Build build.OutOfMemory) r s f h = tt
+
+back_to : (n k : ℕ) → k ≤ n → n - (n - k) ≡ k
+back_to n k h = omega arith
+
+-- by the grammar
+pub read_refuses : (limit : ℕ) (signs : List Sign) (e : ReadError) → Fails signs e (read_whole levels signs) → Refuses (of_read e) (parsed limit signs)
+unfolding parsed
+read_refuses limit signs (reading.Syntax k) h = ap (λ r. of_outcome limit (length signs) (outcome_of r)) h.1 ∙ ap (λ n. Err (Syntax n)) (back_to (length signs) k h.0)
+read_refuses limit signs (reading.Nesting k) h = ap (λ r. of_outcome limit (length signs) (outcome_of r)) h.1 ∙ ap (λ n. Err (Nesting n)) (back_to (length signs) k h.0)
+read_refuses limit signs reading.OutOfMemory h = tt
+
+module _ (limit : ℕ) (signs : List Sign) (r : Reading) (d : IsReading signs r) where
+  -- what is said of the file
+  by_names : parsed limit signs ≡ of_outcome limit (length signs) (unless (name_fault (built_in ∷ d.uses)) d.value)
+  unfolding parsed
+  by_names = ap (λ x. of_outcome limit (length signs) (outcome_of x)) d.is
+
+  noted : name_fault (uses_of r.uses.items) ≡ name_fault (built_in ∷ d.uses)
+  noted = ap name_fault d.noted
+
+  misnamed : (f : _) (e : ParseError) → name_fault (uses_of r.uses.items) ≡ Some f → e ≡ of_name (length signs) f → parsed limit signs ≡ Err e
+  misnamed f e i j = by_names ∙ (ap (λ o. of_outcome limit (length signs) (unless o d.value)) (sym noted ∙ i) ∙ ap Err (sym j))
+
+  -- by the rules of names
+  pub names_refuse : (e : ParseError) → Misnames (length signs) (uses_of r.uses.items) e → Refuses e (parsed limit signs)
+  names_refuse (Syntax k) h = misnamed h.0 (Syntax k) h.1 h.2
+  names_refuse (Nesting k) h = misnamed h.0 (Nesting k) h.1 h.2
+  names_refuse (NameTwice k) h = misnamed h.0 (NameTwice k) h.1 h.2
+  names_refuse (NameUnknown k) h = misnamed h.0 (NameUnknown k) h.1 h.2
+  names_refuse (Build (build.Full n)) h = misnamed h.0 (Build (build.Full n)) h.1 h.2
+  names_refuse (Build (build.Nodes n)) h = misnamed h.0 (Build (build.Nodes n)) h.1 h.2
+  names_refuse (Build (build.Depth n)) h = misnamed h.0 (Build (build.Depth n)) h.1 h.2
+  names_refuse (Build build.OutOfMemory) h = tt
+
+  -- what the file says, its limits aside
+  abbrev pub content : Parsed
+  content = said (length signs) (content_of d.value)
+
+  by_limits : name_fault (uses_of r.uses.items) ≡ None → parsed limit signs ≡ limited limit content
+  by_limits n = by_names ∙ ap (λ o. of_outcome limit (length signs) (unless o d.value)) (sym noted ∙ n)
+
+  -- by the size of the game
+  pub size_refuses : name_fault (uses_of r.uses.items) ≡ None → (e : ParseError) → Refuses e (sized (filled d.value.game)) → Refuses e (parsed limit signs)
+  size_refuses n e h = refuses_on e (sized (filled d.value.game)) (parsed limit signs) (λ i. by_limits n ∙ ap (sized_first limit content) i) h
+
+  by_room : name_fault (uses_of r.uses.items) ≡ None → sized (filled d.value.game) ≡ Ok tt → parsed limit signs ≡ roomed limit content
+  by_room n s = by_limits n ∙ ap (sized_first limit content) s
+
+  -- what there is to be built
+  pub builds : name_fault (uses_of r.uses.items) ≡ None → (makes : List Make) → makes ≡ r.trees.items ++ postorder (filled d.value.game) → Builds r makes
+  builds n makes e = record {
+    file = d.value;
+    hears = d.hears;
+    parts = e;
+    distinct = ids_are_distinct signs d.value.decls d.value.script (filled d.value.game) (accepted_is_read signs d.value.decls d.value.script (filled d.value.game) (ap outcome_of d.is ∙ ap (λ o. unless o d.value) (sym noted ∙ n)));
+  }
+
+  weighed : (makes : List Make) → makes ≡ r.trees.items ++ postorder (filled d.value.game) → parts_weight makes ≡ weight_of content
+  unfolding tree_weight
+  weighed makes e =
+      ap parts_weight e
+      ∙ (weight-both r.trees.items (postorder (filled d.value.game))
+      ∙ ap₂ (λ m n. m + n) (ap parts_weight d.hears.trees ∙ declared-weight d.value.decls) (tree-weight (filled d.value.game)))
+
+  full : (need n : ℕ) → need ≡ asked (weight_of content) → limit < n → n ≡ need → roomed limit content ≡ Err (Build (build.Full need))
+  full need n e l i =
+      subst (λ m. (if nat_lt limit m then Err (Build (build.Full m)) else Ok content) ≡ Err (Build (build.Full need))) e
+      (too_much (nat_lt limit need) (let j : limit < need = omega arith in grind (arith, nat_tests)))
+    where
+      too_much : (b : Bool) → b ≡ true → (if b then Err (Build (build.Full need)) else Ok content) ≡ Err (Build (build.Full need))
+      too_much true j = refl
+      too_much false j = absurd (cc)
+
+  room : (need : ℕ) → need ≡ asked (weight_of content) → need ≤ limit → roomed limit content ≡ Ok content
+  room need e l =
+      subst (λ m. (if nat_lt limit m then Err (Build (build.Full m)) else Ok content) ≡ Ok content) e
+      (enough (nat_lt limit need) (grind (arith, nat_tests)))
+    where
+      enough : (b : Bool) → b ≡ false → (if b then Err (Build (build.Full need)) else Ok content) ≡ Ok content
+      enough false j = refl
+      enough true j = absurd (cc)
+
+  -- by the room of the pool
+  pub room_refuses : name_fault (uses_of r.uses.items) ≡ None → sized (filled d.value.game) ≡ Ok tt → (makes : List Make) → makes ≡ r.trees.items ++ postorder (filled d.value.game) → (live : ℕ) → live ≡ 0 → (e : ParseError) → Crowds limit live (asked (parts_weight makes)) e → Refuses e (parsed limit signs)
+  room_refuses n s makes m live z e h = crowded e h
+    where
+      need : asked (parts_weight makes) ≡ asked (weight_of content)
+      need = ap asked (weighed makes m)
+
+      refused : (e : ParseError) → (e ≡ Build (build.Full (asked (parts_weight makes)))) × (limit < live + asked (parts_weight makes)) → parsed limit signs ≡ Err e
+      refused e h = by_room n s ∙ (full (asked (parts_weight makes)) (live + asked (parts_weight makes)) need h.1 (omega arith) ∙ ap Err (sym h.0))
+
+      crowded : (e : ParseError) → Crowds limit live (asked (parts_weight makes)) e → Refuses e (parsed limit signs)
+      crowded (Syntax k) h = refused (Syntax k) h
+      crowded (Nesting k) h = refused (Nesting k) h
+      crowded (NameTwice k) h = refused (NameTwice k) h
+      crowded (NameUnknown k) h = refused (NameUnknown k) h
+      crowded (Build (build.Full k)) h = refused (Build (build.Full k)) h
+      crowded (Build (build.Nodes k)) h = refused (Build (build.Nodes k)) h
+      crowded (Build (build.Depth k)) h = refused (Build (build.Depth k)) h
+      crowded (Build build.OutOfMemory) h = tt
+
+  -- what was built is what the file says
+  pub parses : name_fault (uses_of r.uses.items) ≡ None → sized (filled d.value.game) ≡ Ok tt → (makes : List Make) → makes ≡ r.trees.items ++ postorder (filled d.value.game) → (live : ℕ) → live + asked (parts_weight makes) ≤ limit → (trees : List KindTree) (list : List Decl) (f : File) → IsBuilt d.value trees list f.game.root → f.script ≡ range_of (length signs) d.value.script → parsed limit signs ≡ Ok (held_in trees list f)
+  parses n s makes m live l trees list f b c =
+      by_room n s
+      ∙ (room (asked (parts_weight makes)) (ap asked (weighed makes m)) (omega arith)
+      ∙ ap₂ (λ ds p. Ok (record { declarations = ds; script = p.0; game = p.1 })) (sym b.declared) (ap₂ (λ x y. (x, y)) (sym c) (sym b.game)))
+
+-- sizes
+
+pub too_large : (t : Tree) (n : ℕ) → n ≡ capped (size t) → most_nodes < n → sized t ≡ Err (Build (build.Nodes n))
+too_large t n e l = first (nat_lt most_nodes (size t)) (let k : most_nodes < size t = omega arith in grind (arith, nat_tests)) ∙ ap (λ m. Err (Build (build.Nodes m))) (sym e)
+  where
+    first : (b : Bool) → b ≡ true → (if b then Err (Build (build.Nodes (capped (size t)))) else if nat_lt most_depth (depth t) then Err (Build (build.Depth (capped (depth t)))) else Ok tt) ≡ Err (Build (build.Nodes (capped (size t))))
+    first true j = refl
+    first false j = absurd (cc)
+
+pub too_deep : (t : Tree) (n m : ℕ) → n ≡ capped (size t) → n ≤ most_nodes → m ≡ capped (depth t) → most_depth < m → sized t ≡ Err (Build (build.Depth m))
+too_deep t n m e l f k = second (nat_lt most_nodes (size t)) (nat_lt most_depth (depth t)) (let i : size t ≤ most_nodes = omega arith in grind (arith, nat_tests)) (let i : most_depth < depth t = omega arith in grind (arith, nat_tests)) ∙ ap (λ x. Err (Build (build.Depth x))) (sym f)
+  where
+    second : (b c : Bool) → b ≡ false → c ≡ true → (if b then Err (Build (build.Nodes (capped (size t)))) else if c then Err (Build (build.Depth (capped (depth t)))) else Ok tt) ≡ Err (Build (build.Depth (capped (depth t))))
+    second false true i j = refl
+    second true c i j = absurd (cc)
+    second false false i j = absurd (cc)
+
+pub small_enough : (t : Tree) (n m : ℕ) → n ≡ capped (size t) → n ≤ most_nodes → m ≡ capped (depth t) → m ≤ most_depth → sized t ≡ Ok tt
+small_enough t n m e l f k = third (nat_lt most_nodes (size t)) (nat_lt most_depth (depth t)) (let i : size t ≤ most_nodes = omega arith in grind (arith, nat_tests)) (let i : depth t ≤ most_depth = omega arith in grind (arith, nat_tests))
+  where
+    third : (b c : Bool) → b ≡ false → c ≡ false → (if b then Err (Build (build.Nodes (capped (size t)))) else if c then Err (Build (build.Depth (capped (depth t)))) else Ok tt) ≡ Ok tt
+    third false false i j = refl
+    third true c i j = absurd (cc)
+    third false true i j = absurd (cc)
+
+pub few_nodes : (t : Tree) → sized t ≡ Ok tt → size t ≤ most_nodes
+few_nodes t e = not_first (nat_lt most_nodes (size t)) refl e
+  where
+    not_first : (b : Bool) → nat_lt most_nodes (size t) ≡ b → (if b then Err (Build (build.Nodes (capped (size t)))) else if nat_lt most_depth (depth t) then Err (Build (build.Depth (capped (depth t)))) else Ok tt) ≡ Ok tt → size t ≤ most_nodes
+    not_first false i j = grind (arith, nat_tests)
+    not_first true i j = absurd (cc)

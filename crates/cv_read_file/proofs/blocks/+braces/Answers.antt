@@ -1,0 +1,22 @@
+use Rattle.std.proofs.Common.{sym}
+use Rattle.cv_rules.specs.Rules.{matched}
+use Rattle.cv_grammar.specs.Form.{made}
+use Rattle.cv_grammar.specs.declared.sign.Mark.TheVariants as mark
+use Rattle.cv_syntax.specs.Tree.{Empty}
+use Rattle.cv_read.proofs.Chains.{made_read}
+use Rattle.cv_read.proofs.Places.{plain_read}
+use Rattle.cv_read_declarations.proofs.Listed.{enclosed, plain_of}
+use Rattle.cv_read_file.proofs.Pieces.{braces_passed, pieces_begin, pieces_done, pieces_go, pieces_nearer, token_passed}
+use Rattle.cv_read_file.proofs.blocks.+braces.Goals as goal
+
+pub matched-pieces-init : goal.matched-pieces-init
+matched-pieces-init t c = pieces_begin c.args.depth c.args.signs.now c.args.at c.requires.at
+
+pub matched-pieces-preserved : goal.matched-pieces-preserved
+matched-pieces-preserved t c = pieces_go c.args.depth c.args.signs.now _ _ _ c.pieces.invariant (sym c.pieces-test.ensures) c.in_ok-place.ensures.passes
+
+pub matched-pieces-smaller : goal.matched-pieces-smaller
+matched-pieces-smaller t c = pieces_nearer c.args.depth c.args.signs.now _ _ c.pieces.invariant.read.within c.in_ok-place.ensures.passes
+
+pub matched-returns : goal.matched-returns
+matched-returns t c = record { passes = pieces_done c.args.depth c.args.signs.now _ _ c.pieces.invariant (sym c.pieces-test.ensures) }
