@@ -1,5 +1,6 @@
 pub mod Filling
 pub mod Fitting
+pub mod Identities
 pub mod InOrder
 pub mod Names
 pub mod Outcome

@@ -3,6 +3,7 @@ pub mod Equivalences
 pub mod Expected
 pub mod Files
 pub mod Filled
+pub mod Identities
 pub mod InOrder
 pub mod Names
 pub mod Phrases

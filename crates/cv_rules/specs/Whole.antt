@@ -1,22 +1,28 @@
 -- What a file says, and what it is refused for.
-use Rattle.std.specs.Prelude.{◌≡◌, ℕ, List, [], Option, Some, None, Result, Ok, Err}
+use Rattle.std.specs.Prelude.{◌≡◌, ℕ, List, [], ◌∷◌, Option, Some, None, Result, Ok, Err}
 use Rattle.cv_syntax.specs.Declarations.{Declaration}
 use Rattle.cv_syntax.specs.Tree.{Tree}
 use Rattle.cv_grammar.specs.declared.sign.Sign.{Sign}
 use Rattle.cv_grammar.specs.Spells.{Use}
 use Rattle.cv_grammar.specs.Reads.{Fault, Read}
+use Rattle.cv_rules.specs.declared.role.Asked.TheVariants.{AType}
 use Rattle.cv_rules.specs.declared.role.Role.{Role}
+use Rattle.cv_rules.specs.declared.role.Role.TheVariants.{Declares}
 use Rattle.cv_rules.specs.Filled.{filled}
 use Rattle.cv_rules.specs.Files.{levels, IsFile, read_whole}
 use Rattle.cv_rules.specs.Names.{NameFault, AreNamed, IsNameFault, name_fault}
 use Rattle.cv_rules.specs.Rules.{File}
+
+-- `bool` is declared as a type before all that a file declares
+abbrev pub built_in : Use Role
+built_in = record { role = Declares AType; name = 0; left = 0 }
 
 -- The tokens spell a file within 200 levels, its names obey their rules, and its process stands for the game.
 pub record IsRead (tokens : List Sign) (decls : List Declaration) (script : Option (ℕ × ℕ)) (game : Tree) : Type 0 where
   pub text : Tree
   pub uses : List (Use Role)
   pub spelled : IsFile levels tokens (record { decls = decls; script = script; game = text }) uses []
-  pub named : AreNamed uses
+  pub named : AreNamed (built_in ∷ uses)
   pub stands_for : filled text ≡ game
 
 -- The tokens spell a file within 200 levels, and this is the first fault of its names.
@@ -24,7 +30,7 @@ pub record IsMisnamed (tokens : List Sign) (f : NameFault) : Type 0 where
   pub file : File
   pub uses : List (Use Role)
   pub spelled : IsFile levels tokens file uses []
-  pub fault : IsNameFault uses f
+  pub fault : IsNameFault (built_in ∷ uses) f
 
 -- the same, computed
 
@@ -43,7 +49,7 @@ unless None f = Ok (content_of f)
 unless (Some e) f = Err (Misnamed e)
 
 abbrev pub outcome_of : Read Role File → Result Content Refusal
-outcome_of (Ok x) = unless (name_fault x.uses) x.value
+outcome_of (Ok x) = unless (name_fault (built_in ∷ x.uses)) x.value
 outcome_of (Err e) = Err (Unread e)
 
 abbrev pub outcome : List Sign → Result Content Refusal

@@ -1,4 +1,4 @@
-ghost use Rattle.std.specs.Prelude.{◌≡◌, ◌↔◌, ℕ, suc, List, [], Option, Ok, Err, Some, None};
+ghost use Rattle.std.specs.Prelude.{◌≡◌, ◌↔◌, ℕ, suc, List, [], ◌∷◌, Option, Ok, Err, Some, None};
 ghost use Rattle.cv_syntax.specs.Declarations.{Declaration};
 ghost use Rattle.cv_syntax.specs.Tree.{Tree, lone};
 ghost use Rattle.cv_syntax.specs.declared.head.Head.TheVariants.{Stop};
@@ -8,6 +8,7 @@ ghost use Rattle.cv_grammar.specs.Whole.{Dead};
 ghost use Rattle.cv_grammar.specs.declared.sign.Sign.{Sign};
 ghost use Rattle.cv_rules.specs.Files.{IsFile, IsSomeFile, read_whole};
 ghost use Rattle.cv_rules.specs.Filled.{filled_at};
+ghost use Rattle.cv_rules.specs.Identities.{AreDistinct, ids_of};
 ghost use Rattle.cv_rules.specs.Names.{Uses, NameFault, NameTwice, NameUnknown, AreNamed, IsNameFault, name_fault};
 ghost use Rattle.cv_rules.specs.Rules.{File};
 ghost use Rattle.cv_rules.specs.Whole.{IsRead, IsMisnamed, Unread, Misnamed, outcome};
@@ -44,6 +45,12 @@ pub fn files_are_decided()
         outcome tokens ≡ Ok (decls, (script, game)) ↔ IsRead tokens decls script game }
     ensures misnamed { (tokens : List Sign) (f : NameFault) →
         outcome tokens ≡ Err (Misnamed f) ↔ IsMisnamed tokens f }
+{}
+
+/// A file declares no name twice, and none as `bool`, whose number is 0.
+pub fn declarations_are_distinct()
+    ensures { (tokens : List Sign) (decls : List Declaration) (script : Option (ℕ × ℕ)) (game : Tree) →
+        IsRead tokens decls script game → AreDistinct (0 ∷ ids_of decls) }
 {}
 
 /// Filling changes nothing in what it has filled, whatever first definitions the variables have and whatever

@@ -5,7 +5,7 @@ mod laws;
 mod role;
 
 pub use laws::{
-    files_are_decided, filling_is_settled, names_are_decided, reading_is_exact, refused_files,
-    worked_files,
+    declarations_are_distinct, files_are_decided, filling_is_settled, names_are_decided,
+    reading_is_exact, refused_files, worked_files,
 };
 pub use role::{Asked, Region, Role, TypeOption};
