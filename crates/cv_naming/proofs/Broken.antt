@@ -1,5 +1,5 @@
 -- The first item that breaks a rule, where the first items of the list obey it.
-use Rattle.std.proofs.Common.{◌≡◌, Bool, true, false, if◌then◌else◌, List, [], ◌∷◌, ◌++◌, Option, Some, None, refl, ap, sym, ◌∙◌, append_assoc, append-nil}
+use Rattle.std.proofs.Common.{◌≡◌, true, false, if◌then◌else◌, List, [], ◌∷◌, ◌++◌, Some, None, refl, ap, sym, ◌∙◌, append_assoc, append-nil}
 use Rattle.cv_rules.specs.InOrder.{Rule, later, first_broken}
 
 module _ {A : Type 0} where

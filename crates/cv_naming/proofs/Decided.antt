@@ -1,8 +1,7 @@
 -- The rules by an entry are the rules of names.
-use Rattle.std.proofs.Common.{◌≡◌, ◌==◌, ℕ, Bool, true, false, ◌&&◌, ◌||◌, not, if◌then◌else◌, is_some, List, [], ◌∷◌, ◌++◌, Option, Some, None, refl, ap, ap₂, sym, ◌∙◌}
+use Rattle.std.proofs.Common.{◌≡◌, ◌==◌, ℕ, Bool, true, false, ◌&&◌, ◌||◌, not, if◌then◌else◌, [], ◌∷◌, ◌++◌, Option, Some, None, refl, ap, ap₂, ◌∙◌}
 use Rattle.std.proofs.lemmas.List.Folds.{list_any-append}
 use Rattle.cv_grammar.specs.Spells.{Use}
-use Rattle.cv_rules.specs.declared.role.Asked.{Asked}
 use Rattle.cv_rules.specs.declared.role.Asked.TheVariants.{AParam, AFunction}
 use Rattle.cv_rules.specs.declared.role.Region.{Region}
 use Rattle.cv_rules.specs.declared.role.Region.TheVariants.{InEquation, InQuery, InEquivalence, InProcess}
@@ -43,12 +42,12 @@ variable_there before behind u x start e n k = k.variable_somewhere ∙ around b
 
 -- a name of a term
 
-other_known : (before behind : Uses) (x start : ℕ) (all : Uses) (e : Entry) → IsKnown all before x start e → (was_declared AFunction e.declared || (not (goes_on_as_call (next_of behind)) && is_since start e.bound)) ≡ known_there None before behind x
+other_known : (before behind : Uses) (x start : ℕ) (all : Uses) (e : Entry) → IsKnown all before x start e → (was_declared AFunction e.declared || (not (goes_on_as_call (next_of behind)) && is_since start e.bound_at)) ≡ known_there None before behind x
 other_known before behind x start all e k = ap3 (λ f c o. f || (not c && o)) (k.asked AFunction) (call_follows behind) k.own
 
 mention_known : (q : Option Region) (before behind : Uses) (u : Use Role) (x start : ℕ) (e : Entry) → declares u.role ≡ false → binds_variable u.role ≡ false → IsKnown (before ++ u ∷ behind) before x start e → known_in q e start (next_of behind) ≡ known_there q before behind x
 mention_known (Some InProcess) before behind u x start e n v k =
-    ap3 (λ c f b. if c then f else e.variable_somewhere || (b && (f || e.is_index))) (call_follows behind) (k.asked AFunction) (bare_follows behind)
+    ap3 (λ c f b. if c then f else e.variable_somewhere || (b && (f || e.as_index))) (call_follows behind) (k.asked AFunction) (bare_follows behind)
     ∙ ap₂ (λ w i. if as_call behind then is_function before x else w || (as_bare behind && (is_function before x || i))) (variable_there before behind u x start e v k) k.is_index
 mention_known (Some InEquivalence) before behind u x start e n v k =
     ap3 (λ o c f. if o then not c else f || not e.declared_somewhere) k.own (call_follows behind) (k.asked AFunction)
@@ -57,7 +56,7 @@ mention_known (Some InEquation) before behind u x start e n v k = other_known be
 mention_known (Some InQuery) before behind u x start e n v k = other_known before behind x start (before ++ u ∷ behind) e k
 mention_known None before behind u x start e n v k = other_known before behind x start (before ++ u ∷ behind) e k
 
-other_cell : (before behind : Uses) (u : Use Role) (x start : ℕ) (e : Entry) → declares u.role ≡ false → IsKnown (before ++ u ∷ behind) before x start e → (is_since start e.bound || not e.declared_somewhere) ≡ cell_known_there None before behind x
+other_cell : (before behind : Uses) (u : Use Role) (x start : ℕ) (e : Entry) → declares u.role ≡ false → IsKnown (before ++ u ∷ behind) before x start e → (is_since start e.bound_at || not e.declared_somewhere) ≡ cell_known_there None before behind x
 other_cell before behind u x start e n k = ap₂ (λ o f. o || f) k.own (free_there before behind u x start e n k)
 
 mention_cell : (q : Option Region) (before behind : Uses) (u : Use Role) (x start : ℕ) (e : Entry) → declares u.role ≡ false → binds_variable u.role ≡ false → IsKnown (before ++ u ∷ behind) before x start e → cell_known_in q e start ≡ cell_known_there q before behind x

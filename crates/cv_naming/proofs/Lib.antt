@@ -1,3 +1,6 @@
 pub mod Broken
 pub mod Decided
 pub mod Entries
+pub mod Places
+pub mod Reading
+pub mod Survey

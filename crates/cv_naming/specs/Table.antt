@@ -1,11 +1,11 @@
 -- What the table says of a name, what a use changes in it, and the rules of names by what it says.
-use Rattle.std.specs.Prelude.{◌≡◌, ℕ, ◌+◌, ◌<◌, Bool, true, false, ◌&&◌, ◌||◌, not, nat_le, if◌then◌else◌, is_some, is_none, length, take, slice_index_or, List, [], ◌∷◌, Option, Some, None}
+use Rattle.std.specs.Prelude.{◌≡◌, ℕ, ◌+◌, ◌<◌, Bool, true, false, ◌&&◌, ◌||◌, not, nat_le, if◌then◌else◌, is_some, length, take, slice_index_or, List, [], ◌∷◌, Option, Some, None}
 use Rattle.cv_rules.specs.declared.role.Asked.{Asked}
 use Rattle.cv_rules.specs.declared.role.Asked.TheVariants.{AParam, AFunction}
 use Rattle.cv_rules.specs.declared.role.Region.{Region}
 use Rattle.cv_rules.specs.declared.role.Region.TheVariants.{InEquivalence, InProcess}
 use Rattle.cv_rules.specs.declared.role.Role.{Role}
-use Rattle.cv_rules.specs.declared.role.Role.TheVariants.{Declares, Asks, BindsLocal, BindsBound, AsksBound, BindsVariable, BindsIndex, AsksIndex, Mentions, AsCall, AsBare, MentionsCell, Enters, Leaves, Nothing}
+use Rattle.cv_rules.specs.declared.role.Role.TheVariants.{Declares, Asks, BindsLocal, BindsBound, AsksBound, BindsVariable, BindsIndex, AsksIndex, Mentions, AsCall, AsBare, MentionsCell, Enters, Leaves}
 use Rattle.cv_rules.specs.Names.{Uses, binds_variable, declares, is_used, same_asked}
 use Rattle.cv_read.specs.declared.trail.NameUse.{NameUse}
 use Rattle.cv_read.specs.Gives.{uses_of}
@@ -14,13 +14,14 @@ use Rattle.cv_naming.specs.declared.table.Scope.{Scope}
 
 -- nothing is known
 abbrev pub unseen : Entry
-unseen = record { declared_somewhere = false; variable_somewhere = false; declared = None; bound = None; is_bound = false; is_index = false }
+unseen = record { declared_somewhere = false; variable_somewhere = false; declared = None; bound_at = None; as_bound = false; as_index = false }
 
 abbrev pub entry_at : List Entry → ℕ → Entry
 entry_at table x = slice_index_or table x unseen
 
+-- the use at a place below the length
 abbrev pub use_at : List NameUse → ℕ → NameUse
-use_at uses k = slice_index_or uses k (record { role = Nothing; name = 0; left = 0 })
+use_at uses k = slice_index_or uses k (record { role = Declares AParam; name = 0; left = 0 })
 
 -- what the uses of the next role are for
 abbrev pub next_of : Uses → Option Role
@@ -36,10 +37,10 @@ foreseen e r = e
 -- what the use at a place does with its name
 abbrev pub noted : Entry → Role → ℕ → Entry
 noted e (Declares a) at = record e { declared = Some a }
-noted e BindsLocal at = record e { bound = Some at }
-noted e BindsVariable at = record e { bound = Some at }
-noted e BindsIndex at = record e { bound = Some at; is_index = true }
-noted e BindsBound at = record e { is_bound = true }
+noted e BindsLocal at = record e { bound_at = Some at }
+noted e BindsVariable at = record e { bound_at = Some at }
+noted e BindsIndex at = record e { bound_at = Some at; as_index = true }
+noted e BindsBound at = record e { as_bound = true }
 noted e r at = e
 
 -- the part that is open behind the use at a place
@@ -80,7 +81,7 @@ goes_on_bare None = false
 goes_on_bare (Some r) = bare r
 
 abbrev pub declares_well : Entry → Asked → Bool
-declares_well e a = not (is_some e.declared) && (not (is_some e.bound) && (same_asked a AParam || not e.is_bound))
+declares_well e a = not (is_some e.declared) && (not (is_some e.bound_at) && (same_asked a AParam || not e.as_bound))
 
 abbrev pub may_bound : Entry → Bool
 may_bound e = not (is_some e.declared) || was_declared AParam e.declared
@@ -88,16 +89,16 @@ may_bound e = not (is_some e.declared) || was_declared AParam e.declared
 abbrev pub known_in : Option Region → Entry → ℕ → Option Role → Bool
 known_in (Some InProcess) e start next =
     if goes_on_as_call next then was_declared AFunction e.declared
-    else e.variable_somewhere || (goes_on_bare next && (was_declared AFunction e.declared || e.is_index))
-known_in (Some InEquivalence) e start next = if is_since start e.bound then not (goes_on_as_call next) else was_declared AFunction e.declared || not e.declared_somewhere
-known_in p e start next = was_declared AFunction e.declared || (not (goes_on_as_call next) && is_since start e.bound)
+    else e.variable_somewhere || (goes_on_bare next && (was_declared AFunction e.declared || e.as_index))
+known_in (Some InEquivalence) e start next = if is_since start e.bound_at then not (goes_on_as_call next) else was_declared AFunction e.declared || not e.declared_somewhere
+known_in p e start next = was_declared AFunction e.declared || (not (goes_on_as_call next) && is_since start e.bound_at)
 
 abbrev pub known : Entry → Scope → Option Role → Bool
 known e s next = known_in s.region e s.start next
 
 abbrev pub cell_known_in : Option Region → Entry → ℕ → Bool
 cell_known_in (Some InProcess) e start = e.variable_somewhere
-cell_known_in p e start = is_since start e.bound || not e.declared_somewhere
+cell_known_in p e start = is_since start e.bound_at || not e.declared_somewhere
 
 abbrev pub cell_known : Entry → Scope → Bool
 cell_known e s = cell_known_in s.region e s.start
@@ -110,7 +111,7 @@ name_obeys e s BindsVariable next = not (is_some e.declared)
 name_obeys e s BindsIndex next = not (is_some e.declared)
 name_obeys e s BindsBound next = may_bound e
 name_obeys e s AsksBound next = may_bound e
-name_obeys e s AsksIndex next = e.is_index
+name_obeys e s AsksIndex next = e.as_index
 name_obeys e s Mentions next = known e s next
 name_obeys e s MentionsCell next = cell_known e s
 name_obeys e s r next = true

@@ -56,11 +56,10 @@ fn role_behind(uses: &[NameUse], at: usize) -> Option<Role>
 }
 
 /// The first fault, by what all uses say of each name.
-fn first_fault(table: Vec<Entry>, uses: &[NameUse]) -> Option<NameFault>
+fn first_fault(mut table: Vec<Entry>, uses: &[NameUse]) -> Option<NameFault>
     requires { IsSurvey uses.now (length uses.now) table.items }
     ensures { option_map fault_in result ≡ first_name_fault (uses_of uses.now) }
 {
-    let mut table = table;
     let mut scope = Scope {
         region: None,
         start: 0,

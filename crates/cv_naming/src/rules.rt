@@ -17,9 +17,9 @@ fn is_declared_as(declared: Option<Asked>, asked: Asked) -> bool
 
 /// Whether a name was bound in the part that is open.
 fn is_own(entry: Entry, scope: Scope) -> bool
-    ensures { result ≡ is_since scope.start entry.bound }
+    ensures { result ≡ is_since scope.start entry.bound_at }
 {
-    match entry.bound {
+    match entry.bound_at {
         Some(at) => scope.start <= at,
         None => false,
     }
@@ -44,8 +44,8 @@ fn may_declare(entry: Entry, asked: Asked) -> bool
     ensures { result ≡ declares_well entry asked }
 {
     entry.declared.is_none()
-        && entry.bound.is_none()
-        && (asked == Asked::AParam || !entry.is_bound)
+        && entry.bound_at.is_none()
+        && (asked == Asked::AParam || !entry.as_bound)
 }
 
 /// Whether a name may be a bound of an equivalence.
@@ -65,7 +65,7 @@ fn is_known(entry: Entry, scope: Scope, next: Option<Role>) -> bool
             if is_call(next) {
                 is_function
             } else {
-                entry.variable_somewhere || (is_bare(next) && (is_function || entry.is_index))
+                entry.variable_somewhere || (is_bare(next) && (is_function || entry.as_index))
             }
         }
         Some(Region::InEquivalence) => {
@@ -102,7 +102,7 @@ pub fn obeys(entry: Entry, scope: Scope, role: Role, next: Option<Role>) -> bool
         Role::Asks(asked) => is_declared_as(entry.declared, asked),
         Role::BindsLocal | Role::BindsVariable | Role::BindsIndex => entry.declared.is_none(),
         Role::BindsBound | Role::AsksBound => is_bound_name(entry),
-        Role::AsksIndex => entry.is_index,
+        Role::AsksIndex => entry.as_index,
         Role::Mentions => is_known(entry, scope, next),
         Role::MentionsCell => is_known_cell(entry, scope),
         Role::AsCall

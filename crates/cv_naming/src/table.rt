@@ -15,11 +15,11 @@ pub struct Entry {
     /// What the uses that were read declare it as.
     pub declared: Option<Asked>,
     /// The place of the last use that was read and binds it.
-    pub bound: Option<usize>,
+    pub bound_at: Option<usize>,
     /// A use that was read binds it as a bound of an equivalence.
-    pub is_bound: bool,
+    pub as_bound: bool,
     /// A use that was read binds it as an index.
-    pub is_index: bool,
+    pub as_index: bool,
 }
 
 /// The part of the file that is open, and the place where its own names begin.
@@ -37,17 +37,16 @@ fn unseen() -> Entry
         declared_somewhere: false,
         variable_somewhere: false,
         declared: None,
-        bound: None,
-        is_bound: false,
-        is_index: false,
+        bound_at: None,
+        as_bound: false,
+        as_index: false,
     }
 }
 
 /// Puts down of a name what a use says wherever it stands.
-fn foresee(entry: Entry, role: Role) -> Entry
+fn foresee(mut entry: Entry, role: Role) -> Entry
     ensures { result ≡ foreseen entry role }
 {
-    let mut entry = entry;
     match role {
         Role::Declares(_) => entry.declared_somewhere = true,
         Role::BindsVariable => entry.variable_somewhere = true,
@@ -84,18 +83,17 @@ pub fn survey(alloc: Global, uses: &[NameUse]) -> Result<Vec<Entry>, AllocError>
 }
 
 /// Puts down of a name what the use at a place does with it.
-pub fn note(entry: Entry, role: Role, at: usize) -> Entry
+pub fn note(mut entry: Entry, role: Role, at: usize) -> Entry
     ensures { result ≡ entry_noted entry role at }
 {
-    let mut entry = entry;
     match role {
         Role::Declares(asked) => entry.declared = Some(asked),
-        Role::BindsLocal | Role::BindsVariable => entry.bound = Some(at),
+        Role::BindsLocal | Role::BindsVariable => entry.bound_at = Some(at),
         Role::BindsIndex => {
-            entry.bound = Some(at);
-            entry.is_index = true;
+            entry.bound_at = Some(at);
+            entry.as_index = true;
         }
-        Role::BindsBound => entry.is_bound = true,
+        Role::BindsBound => entry.as_bound = true,
         _ => {}
     }
     entry
@@ -103,7 +101,7 @@ pub fn note(entry: Entry, role: Role, at: usize) -> Entry
 
 /// The part that is open behind the use at a place.
 pub fn follow(scope: Scope, role: Role, at: usize) -> Scope
-    requires { at < 2 ^ 63 }
+    requires { at + 1 < 2 ^ 64 }
     ensures { result ≡ part_behind scope role at }
 {
     match role {
