@@ -20,10 +20,10 @@ pub is_used-push : (p : Role → Bool) (x : ℕ) (us : Uses) (u : Use Role) → 
 is_used-push p x us u = list_any-append (λ v. p v.role && (v.name == x)) us (u ∷ []) ∙ ap (λ b. is_used p x us || b) (or-false (p u.role && (u.name == x)))
 
 -- one more use, of this name or of another
-pub push_same : (p : Role → Bool) (x : ℕ) (us : Uses) (u : Use Role) → (u.name == x) ≡ true → is_used p x (us ++ u ∷ []) ≡ (is_used p x us || p u.role)
+push_same : (p : Role → Bool) (x : ℕ) (us : Uses) (u : Use Role) → (u.name == x) ≡ true → is_used p x (us ++ u ∷ []) ≡ (is_used p x us || p u.role)
 push_same p x us u e = is_used-push p x us u ∙ ap (λ b. is_used p x us || b) (ap (λ b. p u.role && b) e ∙ and-true (p u.role))
 
-pub push_other : (p : Role → Bool) (x : ℕ) (us : Uses) (u : Use Role) → (u.name == x) ≡ false → is_used p x (us ++ u ∷ []) ≡ is_used p x us
+push_other : (p : Role → Bool) (x : ℕ) (us : Uses) (u : Use Role) → (u.name == x) ≡ false → is_used p x (us ++ u ∷ []) ≡ is_used p x us
 push_other p x us u e = is_used-push p x us u ∙ (ap (λ b. is_used p x us || b) (ap (λ b. p u.role && b) e ∙ and-false (p u.role)) ∙ or-false (is_used p x us))
 
 -- the names of the part that is open, and the part

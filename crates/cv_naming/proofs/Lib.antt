@@ -3,4 +3,3 @@ pub mod Decided
 pub mod Entries
 pub mod Places
 pub mod Reading
-pub mod Survey

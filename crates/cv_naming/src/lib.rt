@@ -6,3 +6,6 @@ mod rules;
 mod table;
 
 pub use fault::{NameFault, name_fault};
+
+#[cfg(test)]
+mod tests;
