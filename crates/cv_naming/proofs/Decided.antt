@@ -48,7 +48,7 @@ other_known before behind x start all e k = ap3 (λ f c o. f || (not c && o)) (k
 mention_known : (q : Option Region) (before behind : Uses) (u : Use Role) (x start : ℕ) (e : Entry) → declares u.role ≡ false → binds_variable u.role ≡ false → IsKnown (before ++ u ∷ behind) before x start e → known_in q e start (next_of behind) ≡ known_there q before behind x
 mention_known (Some InProcess) before behind u x start e n v k =
     ap3 (λ c f b. if c then f else e.variable_somewhere || (b && (f || e.as_index))) (call_follows behind) (k.asked AFunction) (bare_follows behind)
-    ∙ ap₂ (λ w i. if as_call behind then is_function before x else w || (as_bare behind && (is_function before x || i))) (variable_there before behind u x start e v k) k.is_index
+    ∙ ap₂ (λ w i. if as_call behind then is_function before x else w || (as_bare behind && (is_function before x || i))) (variable_there before behind u x start e v k) k.as_index
 mention_known (Some InEquivalence) before behind u x start e n v k =
     ap3 (λ o c f. if o then not c else f || not e.declared_somewhere) k.own (call_follows behind) (k.asked AFunction)
     ∙ ap (λ f. if is_own before x then not (as_call behind) else is_function before x || f) (free_there before behind u x start e n k)
@@ -69,14 +69,14 @@ mention_cell None before behind u x start e n v k = other_cell before behind u x
 -- every rule
 
 obeys_there : (r : Role) (x left : ℕ) (before behind : Uses) (s : Scope) (e : Entry) → s.region ≡ part_from None before → IsKnown (before ++ record { role = r; name = x; left = left } ∷ behind) before x s.start e → name_obeys e s r (next_of behind) ≡ obeys before r x behind
-obeys_there (Declares a) x left before behind s e q k = ap3 (λ d b i. not d && (not b && (same_asked a AParam || not i))) k.declared k.bound k.is_bound
+obeys_there (Declares a) x left before behind s e q k = ap3 (λ d b i. not d && (not b && (same_asked a AParam || not i))) k.declared k.bound k.as_bound
 obeys_there (Asks a) x left before behind s e q k = k.asked a
 obeys_there BindsLocal x left before behind s e q k = ap not k.declared
 obeys_there BindsVariable x left before behind s e q k = ap not k.declared
 obeys_there BindsIndex x left before behind s e q k = ap not k.declared
 obeys_there BindsBound x left before behind s e q k = ap₂ (λ d p. not d || p) k.declared (k.asked AParam)
 obeys_there AsksBound x left before behind s e q k = ap₂ (λ d p. not d || p) k.declared (k.asked AParam)
-obeys_there AsksIndex x left before behind s e q k = k.is_index
+obeys_there AsksIndex x left before behind s e q k = k.as_index
 obeys_there Mentions x left before behind s e q k = mention_known s.region before behind (record { role = Mentions; name = x; left = left }) x s.start e refl refl k ∙ ap (λ p. known_there p before behind x) q
 obeys_there MentionsCell x left before behind s e q k = mention_cell s.region before behind (record { role = MentionsCell; name = x; left = left }) x s.start e refl refl k ∙ ap (λ p. cell_known_there p before behind x) q
 obeys_there r x left before behind s e q k = refl

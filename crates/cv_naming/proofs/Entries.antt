@@ -46,8 +46,8 @@ pub record IsKnown (all before : Uses) (x start : ℕ) (e : Entry) : Type 0 wher
   pub bound : is_some e.bound_at ≡ is_used binds x before
   pub own : is_since start e.bound_at ≡ is_used binds x (own_from [] before)
   pub early : (at : ℕ) → e.bound_at ≡ Some at → at < length before
-  pub is_bound : e.as_bound ≡ is_used binds_bound x before
-  pub is_index : e.as_index ≡ is_used binds_index x before
+  pub as_bound : e.as_bound ≡ is_used binds_bound x before
+  pub as_index : e.as_index ≡ is_used binds_index x before
 
 -- what a use puts down, column by column
 
@@ -69,13 +69,13 @@ note_bound e BindsVariable at = sym (or-true (is_some e.bound_at))
 note_bound e BindsIndex at = sym (or-true (is_some e.bound_at))
 note_bound e r at = sym (or-false (is_some e.bound_at))
 
-note_is_bound : (e : Entry) (r : Role) (at : ℕ) → (noted e r at).as_bound ≡ (e.as_bound || binds_bound r)
-note_is_bound e BindsBound at = sym (or-true e.as_bound)
-note_is_bound e r at = sym (or-false e.as_bound)
+note_as_bound : (e : Entry) (r : Role) (at : ℕ) → (noted e r at).as_bound ≡ (e.as_bound || binds_bound r)
+note_as_bound e BindsBound at = sym (or-true e.as_bound)
+note_as_bound e r at = sym (or-false e.as_bound)
 
-note_is_index : (e : Entry) (r : Role) (at : ℕ) → (noted e r at).as_index ≡ (e.as_index || binds_index r)
-note_is_index e BindsIndex at = sym (or-true e.as_index)
-note_is_index e r at = sym (or-false e.as_index)
+note_as_index : (e : Entry) (r : Role) (at : ℕ) → (noted e r at).as_index ≡ (e.as_index || binds_index r)
+note_as_index e BindsIndex at = sym (or-true e.as_index)
+note_as_index e r at = sym (or-false e.as_index)
 
 note_foreseen : (e : Entry) (r : Role) (at : ℕ) → ((noted e r at).declared_somewhere ≡ e.declared_somewhere) × ((noted e r at).variable_somewhere ≡ e.variable_somewhere)
 note_foreseen e r at = elim r as (λ r. ((noted e r at).declared_somewhere ≡ e.declared_somewhere) × ((noted e r at).variable_somewhere ≡ e.variable_somewhere)) [ Declares a ↦ (refl, refl) | _ ↦ (refl, refl) ]
@@ -123,8 +123,8 @@ known_noted all before s e u first l k = record {
   bound = note_bound e u.role n ∙ more binds (is_some e.bound_at) k.bound;
   own = note_own e s n (own_from [] before) u.role u.name u.left k.early l k.own ∙ ap (is_used binds u.name) (sym (own_from-push [] before u));
   early = λ at h. subst (λ m. at < m) (sym (length_push before u)) (note_early e u.role n k.early at h);
-  is_bound = note_is_bound e u.role n ∙ more binds_bound e.as_bound k.is_bound;
-  is_index = note_is_index e u.role n ∙ more binds_index e.as_index k.is_index;
+  as_bound = note_as_bound e u.role n ∙ more binds_bound e.as_bound k.as_bound;
+  as_index = note_as_index e u.role n ∙ more binds_index e.as_index k.as_index;
 }
   where
     n : ℕ
@@ -142,6 +142,6 @@ known_kept all before s e u x d k = record {
   bound = k.bound ∙ sym (push_other binds x before u d);
   own = keep_own e s (length before) (own_from [] before) u.role u.name u.left x d k.early k.own ∙ ap (is_used binds x) (sym (own_from-push [] before u));
   early = λ at h. let i : at < length before = k.early at h in let j = length_push before u in omega arith;
-  is_bound = k.is_bound ∙ sym (push_other binds_bound x before u d);
-  is_index = k.is_index ∙ sym (push_other binds_index x before u d);
+  as_bound = k.as_bound ∙ sym (push_other binds_bound x before u d);
+  as_index = k.as_index ∙ sym (push_other binds_index x before u d);
 }

@@ -1,7 +1,7 @@
 -- The uses before a place, the use at it, and the uses behind it; an entry of a table after a write.
 use Rattle.std.proofs.Common.{◌≡◌, ◌==◌, ℕ, zero, suc, ◌+◌, ◌<◌, ◌≤◌, true, false, List, [], ◌∷◌, ◌++◌, length, get_or, set, take, drop, refl, ap, sym, ◌∙◌, arith, add-one, drop-cons, eq-eqb}
 use Rattle.std.specs.Prelude.{replicate}
-use Rattle.std.proofs.lemmas.List.{get_or-set_other, get_or-set_same, map-append, map_more, take-append-drop, take_all}
+use Rattle.std.proofs.lemmas.List.{get_or_default, get_or-set_other, get_or-set_same, map-append, map_more, take-append-drop, take_all}
 use Rattle.std.proofs.lemmas.Bool.{eqb-true}
 use Rattle.cv_read.specs.declared.trail.NameUse.{NameUse}
 use Rattle.cv_read.specs.Gives.{use_of, uses_of}
@@ -47,9 +47,4 @@ entry_reached old new n k x e l h i =
 
 -- an entry that is read
 pub entry_read : (table : List Entry) (y : ℕ) (e : Entry) → y < length table → e ≡ get_or table y e → e ≡ entry_at table y
-entry_read table y e h i = i ∙ any_default table y e unseen h
-  where
-    any_default : (table : List Entry) (y : ℕ) (d e : Entry) → y < length table → get_or table y d ≡ get_or table y e
-    any_default [] y d e h = absurd (omega arith)
-    any_default (a ∷ table) zero d e h = refl
-    any_default (a ∷ table) (suc y) d e h = any_default table y d e (omega arith)
+entry_read table y e h i = i ∙ get_or_default table y e unseen h

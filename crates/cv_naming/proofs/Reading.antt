@@ -29,7 +29,7 @@ pub record IsReadTo (uses : List NameUse) (at : ℕ) (table : List Entry) (s : S
 
 known_first : (all : Uses) (x : ℕ) → IsKnown all [] x 0 (record unseen { declared_somewhere = is_used declares x all; variable_somewhere = is_used binds_variable x all })
 unfolding own_from
-known_first all x = record { declared_somewhere = refl; variable_somewhere = refl; declared = refl; asked = λ a. refl; bound = refl; own = refl; early = λ at h. absurd (cc); is_bound = refl; is_index = refl }
+known_first all x = record { declared_somewhere = refl; variable_somewhere = refl; declared = refl; asked = λ a. refl; bound = refl; own = refl; early = λ at h. absurd (cc); as_bound = refl; as_index = refl }
 
 pub reading_starts : (uses : List NameUse) (table : List Entry) → IsSurvey uses (length uses) table → IsReadTo uses 0 table (record { region = None; start = 0 })
 unfolding part_from
