@@ -1,0 +1,4 @@
+pub mod Backward
+pub mod Contexts
+pub mod Current
+pub mod Stacks

@@ -1,0 +1,8 @@
+// The game that a process stands for: plain reads get their indices, and plain channels the current ones.
+#![tactic(auto)]
+
+mod context;
+mod current;
+
+pub use context::{Context, Place};
+pub use current::Current;
