@@ -1,3 +1,5 @@
 pub mod Keeping
 pub mod Nodes
 pub mod Pending
+pub mod Settling
+pub mod Stacking

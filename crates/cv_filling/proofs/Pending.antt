@@ -1,5 +1,5 @@
 -- Trees that are still to come, by the parts that are left of a list.
-use Rattle.std.proofs.Common.{◌≡◌, ℕ, zero, suc, ◌+◌, ◌<◌, List, [], ◌∷◌, ◌++◌, length, take, reverse, get_or, refl, ap, sym, ◌∙◌, subst, arith, append_assoc, append-nil, add-one}
+use Rattle.std.proofs.Common.{◌≡◌, ℕ, zero, suc, ◌+◌, ◌-◌, ◌<◌, ◌≤◌, List, [], ◌∷◌, ◌++◌, length, take, reverse, get_or, refl, ap, sym, ◌∙◌, subst, arith, append_assoc, append-nil, add-one}
 use Rattle.std.proofs.lemmas.List.{reverse-append, reverse-reverse, take_more, take_all}
 use Rattle.cv_syntax.specs.declared.head.Head.{Head}
 use Rattle.cv_syntax.specs.declared.make.Make.{Make}
@@ -7,6 +7,7 @@ use Rattle.cv_syntax.specs.declared.make.Make.TheVariants.{Nothing, Over}
 use Rattle.cv_syntax.specs.Tree.{Tree, Empty, Node}
 use Rattle.cv_syntax.specs.Postorder.{postorder}
 use Rattle.cv_filling.specs.Backward.{backward, all_backward}
+use Rattle.cv_filling.specs.Sites.{part_before}
 
 pub backward-postorder : (t : Tree) → reverse (postorder t) ≡ backward t
 unfolding backward postorder
@@ -66,6 +67,10 @@ pending_over makes at h P Q l e f p = taken p.trees (sym (last_part makes at (Ov
     }
 
 -- nothing is left
+pub pending_none : (makes : List Make) (P : List Tree → Type 0) → P [] → Pending makes 0 P
+unfolding all_backward
+pending_none makes P p = record { trees = []; parts = refl; holds = p }
+
 pub pending_end : (makes : List Make) (P : List Tree → Type 0) → Pending makes 0 P → P []
 unfolding backward all_backward
 pending_end makes P p = end p.trees p.parts p.holds
@@ -74,3 +79,25 @@ pending_end makes P p = end p.trees p.parts p.holds
     end [] e q = q
     end (Empty ∷ ts) e q = absurd (cc)
     end (Node h a b ∷ ts) e q = absurd (cc)
+
+pub pending_same : (makes : List Make) (at : ℕ) (P Q : List Tree → Type 0) → ((ts : List Tree) → P ts → Q ts) → Pending makes at P → Pending makes at Q
+pending_same makes at P Q f p = record { trees = p.trees; parts = p.parts; holds = f p.trees p.holds }
+
+-- one part further, if one is left
+pub pending_before : (makes : List Make) (at next : ℕ) (P Q : List Tree → Type 0) → at ≤ length makes → next ≡ at - 1 → (part_before makes at ≡ Nothing → P [] → Q []) → (part_before makes at ≡ Nothing → (ts : List Tree) → P (Empty ∷ ts) → Q ts) → ((h : Head) → part_before makes at ≡ Over h → (a b : Tree) (ts : List Tree) → P (Node h a b ∷ ts) → Q (b ∷ (a ∷ ts))) → Pending makes at P → Pending makes next Q
+pending_before makes at next P Q l e f g h p = by_place at l e f g h p
+  where
+    by_place : (at : ℕ) → at ≤ length makes → next ≡ at - 1 → (part_before makes at ≡ Nothing → P [] → Q []) → (part_before makes at ≡ Nothing → (ts : List Tree) → P (Empty ∷ ts) → Q ts) → ((h : Head) → part_before makes at ≡ Over h → (a b : Tree) (ts : List Tree) → P (Node h a b ∷ ts) → Q (b ∷ (a ∷ ts))) → Pending makes at P → Pending makes next Q
+    by_place zero l e f g h p =
+        let n : 0 ≡ next = omega arith in
+        subst (λ (k : ℕ). Pending makes k Q) n (pending_none makes Q (f refl (pending_end makes P p)))
+    by_place (suc k) l e f g h p =
+        let n : k ≡ next = omega arith in
+        let m : k < length makes = omega arith in
+        subst (λ (j : ℕ). Pending makes j Q) n (by_make (get_or makes k Nothing) refl)
+      where
+        q : Pending makes (k + 1) P
+        q = subst (λ (j : ℕ). Pending makes j P) (sym (add-one k)) p
+        by_make : (m : Make) → get_or makes k Nothing ≡ m → Pending makes k Q
+        by_make Nothing i = pending_nothing makes k P Q (omega arith) i (g i) q
+        by_make (Over j) i = pending_over makes k j P Q (omega arith) i (h j i) q

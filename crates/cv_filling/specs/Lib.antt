@@ -2,3 +2,4 @@ pub mod Backward
 pub mod Contexts
 pub mod Current
 pub mod Stacks
+pub mod Sites

@@ -3,6 +3,8 @@
 
 mod context;
 mod current;
+mod sites;
 
 pub use context::{Context, Place};
 pub use current::Current;
+pub use sites::first_sites;
