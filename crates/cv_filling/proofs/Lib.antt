@@ -3,3 +3,4 @@ pub mod Nodes
 pub mod Pending
 pub mod Settling
 pub mod Stacking
+pub mod Rows

@@ -26,8 +26,8 @@ pub record Popped (names : List ℕ) (old new : List Context) (c : Context) : Ty
   pub low : c.level ≤ length names
   pub below : Descends c.level (reverse new)
 
-pub popped_context : (names : List ℕ) (old new : List Context) (r : Option Context) (c : Context) → Descends (length names) (reverse old) → old ≡ new ++ option_to_list r → (length old ≡ 0 → None ≡ r) → (r ≡ None → length old ≡ 0) → c ≡ unwrap_or r outside → Popped names old new c
-popped_context names old new (Some x) c d e g h f =
+pub popped_context : (names : List ℕ) (old new : List Context) (r : Option Context) (c : Context) → Descends (length names) (reverse old) → old ≡ new ++ option_to_list r → (r ≡ None → length old ≡ 0) → c ≡ unwrap_or r outside → Popped names old new c
+popped_context names old new (Some x) c d e h f =
     let is : reverse old ≡ x ∷ reverse new = ap reverse e ∙ reverse-append new (x ∷ []) in
     let both = subst (Descends (length names)) is d in
     subst (Popped names old new) (sym f) (record {
@@ -36,7 +36,7 @@ popped_context names old new (Some x) c d e g h f =
       low = both.0;
       below = both.1;
     })
-popped_context names old new None c d e g h f =
+popped_context names old new None c d e h f =
     let n : old ≡ [] = none_left old (h refl) in
     let m : new ≡ [] = sym (append-nil new) ∙ (sym e ∙ n) in
     subst (Popped names old new) (sym f) (record {

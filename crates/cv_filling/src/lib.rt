@@ -3,8 +3,12 @@
 
 mod context;
 mod current;
+mod reads;
 mod sites;
+mod writing;
 
 pub use context::{Context, Place};
 pub use current::Current;
+pub use reads::index_count;
 pub use sites::first_sites;
+pub use writing::write_part;
