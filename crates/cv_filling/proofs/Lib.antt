@@ -4,3 +4,4 @@ pub mod Pending
 pub mod Settling
 pub mod Stacking
 pub mod Rows
+pub mod Parting

@@ -5,6 +5,8 @@ use Rattle.std.specs.declared.hash.BuildHasherDefault.{BuildHasherDefault}
 use Rattle.std.specs.HashMap.{get, HashMap}
 use Rattle.cv_syntax.specs.declared.head.Head.{Head}
 use Rattle.cv_syntax.specs.declared.head.Head.TheVariants.{Repl}
+use Rattle.cv_syntax.specs.declared.make.Make.{Make}
+use Rattle.cv_syntax.specs.declared.make.Make.TheVariants.{Nothing, Over}
 
 abbrev pub Numbers : Type 0
 Numbers = HashMap ℕ ℕ (BuildHasherDefault FoldHasher)
@@ -23,10 +25,14 @@ pub record IsKept (names : List ℕ) (places : Numbers) (k : ℕ) : Type 0 where
 abbrev pub AreKept : List ℕ → Numbers → Type 0
 AreKept names places = (k : ℕ) → k < length names → IsKept names places k
 
--- the names after a replication at a level, and how many there are
-abbrev pub entered : ℕ → Head → List ℕ → List ℕ
-entered level (Repl i n) names = take level names ++ i ∷ []
-entered level h names = names
+-- the names below a node that stands under so many of them, and how many they are
+abbrev pub entered_below : ℕ → Head → List ℕ → List ℕ
+entered_below level (Repl i n) names = take level names ++ i ∷ []
+entered_below level h names = names
+
+abbrev pub entered : ℕ → Make → List ℕ → List ℕ
+entered level Nothing names = names
+entered level (Over h) names = entered_below level h names
 
 abbrev pub level_below : ℕ → Head → ℕ
 level_below level (Repl i n) = suc level

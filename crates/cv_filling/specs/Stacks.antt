@@ -1,6 +1,8 @@
 -- The contexts of trees that are still to come, the next one first.
-use Rattle.std.specs.Prelude.{ℕ, zero, ◌≤◌, List, [], ◌∷◌, map, take, reverse}
+use Rattle.std.specs.Prelude.{ℕ, zero, ◌≤◌, List, [], ◌∷◌, ◌≡◌, length, map, take, reverse}
 use Rattle.cv_syntax.specs.declared.head.Head.{Head}
+use Rattle.cv_syntax.specs.declared.make.Make.{Make}
+use Rattle.cv_syntax.specs.declared.make.Make.TheVariants.{Nothing, Over}
 use Rattle.cv_filling.specs.declared.context.Context.{Context}
 use Rattle.cv_filling.specs.declared.context.Place.{Place}
 use Rattle.cv_filling.specs.declared.context.Place.TheVariants.{Plain}
@@ -12,6 +14,11 @@ first_context c h = record { level = c.level; place = first_place c.place h }
 
 abbrev pub second_context : Context → Head → Context
 second_context c h = record { level = level_below c.level h; place = second_place c.place h }
+
+-- what comes next at a part
+abbrev pub children : Context → Make → List Context
+children c Nothing = []
+children c (Over h) = first_context c h ∷ second_context c h ∷ []
 
 -- the current indices of a tree, and where it stands
 abbrev pub Standing : Type 0
@@ -37,3 +44,10 @@ top (s ∷ ss) = s
 abbrev pub rest : List Standing → List Standing
 rest [] = []
 rest (s ∷ ss) = ss
+
+-- the context of the next tree was taken from a stack
+pub record Popped (names : List ℕ) (old new : List Context) (c : Context) : Type 0 where
+  pub first : top (standings names old) ≡ standing names c
+  pub others : rest (standings names old) ≡ standings names new
+  pub low : c.level ≤ length names
+  pub below : Descends c.level (reverse new)

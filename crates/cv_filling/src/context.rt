@@ -1,10 +1,10 @@
-ghost use Rattle.std.specs.Prelude.{◌≡◌, ◌≤◌, ◌++◌, ◌∷◌, [], length, IfOk, OnOk};
+ghost use Rattle.std.specs.Prelude.{◌≡◌, ◌≤◌, ◌++◌, ℕ, List, length, reverse, IfOk, OnOk};
 ghost use Rattle.cv_filling.specs.Contexts.{first_place as first, second_place as second};
-ghost use Rattle.cv_filling.specs.Current.{entered, level_below};
-ghost use Rattle.cv_filling.specs.Stacks.{first_context, second_context};
+ghost use Rattle.cv_filling.specs.Current.{entered, entered_below, level_below};
+ghost use Rattle.cv_filling.specs.Stacks.{Descends, Popped, children};
 
 use crate::current::Current;
-use cv_syntax::Head;
+use cv_syntax::{Head, Make};
 use std::alloc::AllocError;
 
 /// What a tree is for the node above it.
@@ -53,17 +53,30 @@ pub fn second_place(place: Place, head: Head) -> Place
     }
 }
 
-/// Goes below a node: its children are the next trees, the second one first.
+/// The context of the next tree. Where none is left, that is the whole process.
+pub fn next_context(stack: &mut Vec<Context>) -> Context
+    ensures { (names : List ℕ) → Descends (length names) (reverse stack.old.items) → Popped names stack.old.items stack.new.items result }
+{
+    stack.pop().unwrap_or(Context {
+        level: 0,
+        place: Place::Plain,
+    })
+}
+
+/// Goes below a part: the children of a node are the next trees, the second one first.
 pub fn open(
     stack: &mut Vec<Context>,
     current: &mut Current,
     context: Context,
-    head: Head,
+    make: Make,
 ) -> Result<(), AllocError>
     requires { context.level ≤ length current.old }
-    ensures stack { OnOk result (stack.new.items ≡ stack.old.items ++ first_context context head ∷ second_context context head ∷ []) }
-    ensures current { OnOk result (current.new ≡ entered context.level head current.old) }
+    ensures stack { OnOk result (stack.new.items ≡ stack.old.items ++ children context make) }
+    ensures current { OnOk result (current.new ≡ entered context.level make current.old) }
 {
+    let Make::Over(head) = make else {
+        return Ok(());
+    };
     let level = go_below(current, context.level, head)?;
     stack.push(Context {
         level: context.level,
@@ -80,7 +93,7 @@ pub fn open(
 fn go_below(current: &mut Current, level: usize, head: Head) -> Result<usize, AllocError>
     requires { level ≤ length current.old }
     ensures level { IfOk result (λ n. n ≡ level_below level head) }
-    ensures current { OnOk result (current.new ≡ entered level head current.old) }
+    ensures current { OnOk result (current.new ≡ entered_below level head current.old) }
 {
     match head {
         Head::Repl(index, _) => {

@@ -3,12 +3,9 @@
 
 mod context;
 mod current;
+mod filling;
 mod reads;
 mod sites;
 mod writing;
 
-pub use context::{Context, Place};
-pub use current::Current;
-pub use reads::index_count;
-pub use sites::first_sites;
-pub use writing::write_part;
+pub use filling::fill;
