@@ -5,3 +5,4 @@ pub mod Settling
 pub mod Stacking
 pub mod Rows
 pub mod Parting
+pub mod Weighing

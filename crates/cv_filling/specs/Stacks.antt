@@ -51,3 +51,16 @@ pub record Popped (names : List ℕ) (old new : List Context) (c : Context) : Ty
   pub others : rest (standings names old) ≡ standings names new
   pub low : c.level ≤ length names
   pub below : Descends c.level (reverse new)
+
+-- how many syntax nodes stand above the next tree, and above those after it
+abbrev pub first_above : List ℕ → ℕ
+first_above [] = 0
+first_above (u ∷ us) = u
+
+abbrev pub rest_above : List ℕ → List ℕ
+rest_above [] = []
+rest_above (u ∷ us) = us
+
+abbrev pub both : ℕ → Make → List ℕ
+both u Nothing = []
+both u (Over h) = u ∷ u ∷ []

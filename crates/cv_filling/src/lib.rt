@@ -4,8 +4,10 @@
 mod context;
 mod current;
 mod filling;
+mod measuring;
 mod reads;
 mod sites;
 mod writing;
 
 pub use filling::fill;
+pub use measuring::{Extent, measure};
