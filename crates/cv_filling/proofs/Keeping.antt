@@ -1,7 +1,7 @@
 -- Which names are current indices, by the first places that a map keeps of them.
-use Rattle.std.proofs.Common.{◌≡◌, ℕ, ◌+◌, ◌<◌, ◌≤◌, ◌==◌, nat_eq, ◌⊎◌, inl, inr, Bool, true, false, if◌then◌else◌, List, [], ◌∷◌, ◌++◌, length, take, get_or, Option, Some, None, refl, ap, sym, ◌∙◌, subst, arith, length-append}
+use Rattle.std.proofs.Common.{◌≡◌, ℕ, ◌<◌, ◌≤◌, ◌==◌, nat_eq, ◌⊎◌, inl, inr, Bool, true, false, List, [], ◌∷◌, ◌++◌, length, take, get_or, Some, None, refl, ap, sym, ◌∙◌, subst, arith, length-append}
 use Rattle.std.specs.List.{list_any}
-use Rattle.std.proofs.lemmas.Bool.{eqb-true, eqb-false, eq-eqb, ne_eqb, cases_Bool, false_from_ne_true}
+use Rattle.std.proofs.lemmas.Bool.{eqb-true, eq-eqb, ne_eqb, cases_Bool, false_from_ne_true}
 use Rattle.std.proofs.lemmas.List.{get_or-take, get_or_append_left, get_or_at, take_all, length-take-le, get_or_default}
 use Rattle.std.proofs.lemmas.List.Folds.{Any-from_list_any, list_any_at}
 use Rattle.std.specs.HashMap.{Updates}
@@ -48,7 +48,7 @@ not_within names places count x q kept few e g =
     absurd (omega (arith, h.within))))
 
 pub there : (names : List ℕ) (places : Numbers) (count x q : ℕ) → AreKept names places → count ≤ length names → numbers_of places x ≡ Some q → q < count → nat_eq (get_or names q 0) x ≡ is_among (take count names) x
-there names places count x q kept few e l = by_cases (cases_Bool (is_among (take count names) x)) 
+there names places count x q kept few e l = by_cases (cases_Bool (is_among (take count names) x))
   where
     by_cases : (is_among (take count names) x ≡ true) ⊎ (is_among (take count names) x ≡ false) → nat_eq (get_or names q 0) x ≡ is_among (take count names) x
     by_cases (inl t) =

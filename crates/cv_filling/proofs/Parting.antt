@@ -1,6 +1,5 @@
 -- The parts of the game, tree by tree.
-use Rattle.std.proofs.Common.{◌≡◌, ℕ, zero, suc, ◌+◌, ◌<◌, ◌≤◌, List, [], ◌∷◌, ◌++◌, length, take, reverse, get_or, Option, refl, ap, ap₂, sym, ◌∙◌, subst, arith, append_assoc, append-nil}
-use Rattle.cv_syntax.specs.declared.head.Head.{Head}
+use Rattle.std.proofs.Common.{◌≡◌, ℕ, zero, suc, ◌+◌, ◌<◌, ◌≤◌, List, [], ◌∷◌, ◌++◌, length, take, reverse, get_or, Option, ap, ap₂, sym, ◌∙◌, subst, arith, append_assoc, append-nil}
 use Rattle.cv_syntax.specs.declared.make.Make.{Make}
 use Rattle.cv_syntax.specs.declared.make.Make.TheVariants.{Nothing, Over}
 use Rattle.cv_syntax.specs.Tree.{Tree, Empty, Node}

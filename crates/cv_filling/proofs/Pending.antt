@@ -55,8 +55,10 @@ pending_over makes at h P Q l e f p = taken p.trees (sym (last_part makes at (Ov
   where
     tail_is : {x y : Make} {xs ys : List Make} → x ∷ xs ≡ y ∷ ys → xs ≡ ys
     tail_is e = cc
+
     head_is : {k : Head} {xs ys : List Make} → Over h ∷ xs ≡ Over k ∷ ys → k ≡ h
     head_is e = cc
+
     taken : (ts : List Tree) → Over h ∷ reverse (take at makes) ≡ all_backward ts → P ts → Pending makes at Q
     taken [] e q = absurd (cc)
     taken (Empty ∷ ts) e q = absurd (cc)
@@ -98,6 +100,7 @@ pending_before makes at next P Q l e f g h p = by_place at l e f g h p
       where
         q : Pending makes (k + 1) P
         q = subst (λ (j : ℕ). Pending makes j P) (sym (add-one k)) p
+
         by_make : (m : Make) → get_or makes k Nothing ≡ m → Pending makes k Q
         by_make Nothing i = pending_nothing makes k P Q (omega arith) i (g i) q
         by_make (Over j) i = pending_over makes k j P Q (omega arith) i (h j i) q

@@ -1,5 +1,5 @@
 -- Looking for first definitions, task by task.
-use Rattle.std.proofs.Common.{◌≡◌, ℕ, zero, suc, ◌+◌, ◌-◌, ◌*◌, ◌<◌, ◌≤◌, ◌==◌, nat_eq, Bool, true, false, if◌then◌else◌, List, [], ◌∷◌, ◌++◌, length, reverse, get_or, Option, Some, None, refl, ap, sym, ◌∙◌, subst, arith, append_assoc, append-nil, length-append, add-one}
+use Rattle.std.proofs.Common.{◌≡◌, ℕ, zero, suc, ◌+◌, ◌-◌, ◌*◌, ◌<◌, ◌≤◌, ◌==◌, nat_eq, Bool, true, false, if◌then◌else◌, List, [], ◌∷◌, ◌++◌, length, reverse, get_or, Option, Some, None, refl, ap, sym, ◌∙◌, subst, arith, append-nil, length-append}
 use Rattle.std.proofs.Math.Path.{fun_ext}
 use Rattle.std.specs.HashMap.{Updates}
 use Rattle.std.specs.Map.{lookup}
@@ -11,12 +11,11 @@ use Rattle.cv_syntax.specs.declared.make.Make.TheVariants.{Nothing, Over}
 use Rattle.cv_syntax.specs.Tree.{Tree, Empty, Node}
 use Rattle.cv_syntax.specs.Postorder.{postorder}
 use Rattle.cv_rules.specs.Filled.{defines, first_of, first_site, under}
-use Rattle.cv_filling.specs.Backward.{all_backward}
 use Rattle.cv_filling.specs.Current.{Numbers, numbers_of}
-use Rattle.cv_filling.specs.Sites.{defined_by, defining, tasks_at, part_before, noted, settled, level_of, AreWithin}
+use Rattle.cv_filling.specs.Sites.{defined_by, defining, tasks_at, part_before, settled, level_of, AreWithin}
 use Rattle.cv_filling.specs.declared.sites.Task.{Task}
 use Rattle.cv_filling.specs.declared.sites.Task.TheVariants.{Look, Define}
-use Rattle.cv_filling.proofs.Pending.{Pending, pending_whole, pending_same, pending_before, pending_end}
+use Rattle.cv_filling.proofs.Pending.{Pending, pending_whole, pending_same, pending_before}
 
 -- once the tasks are done, the first definitions in the tree are noted
 abbrev pub Settles : Tree → List Task → Numbers → List Tree → Type 0
@@ -123,8 +122,10 @@ within_node all at level h s l w = by_defined (defined_by h)
   where
     below : under h level + at ≤ all
     below = omega (arith, under_less h level)
+
     here : level + at ≤ all
     here = omega arith
+
     by_defined : (o : Option ℕ) → AreWithin all at (reverse (defining level o ++ Look level ∷ Look (under h level) ∷ []) ++ s)
     by_defined None = (below, (here, w))
     by_defined (Some y) = (below, (here, (here, w)))
@@ -139,8 +140,10 @@ within_look makes at next old rest new level e f g w = by_place at g f w
       where
         low : level + suc k ≤ length makes
         low = within_task (length makes) (suc k) old rest (Look level) e w
+
         less : AreWithin (length makes) next (reverse rest)
         less = within_less (length makes) (suc k) next (reverse rest) (omega arith) (within_rest (length makes) (suc k) old rest (Look level) e w)
+
         by_make : (m : Make) → new ≡ rest ++ tasks_at level m → AreWithin (length makes) next (reverse new)
         by_make Nothing f = subst (λ (l : List Task). AreWithin (length makes) next (reverse l)) (sym (f ∙ append-nil rest)) less
         by_make (Over h) f = subst (AreWithin (length makes) next) (sym (look_tasks old rest new level (Over h) f)) (within_node (length makes) next level h (reverse rest) (omega (arith, low)) less)

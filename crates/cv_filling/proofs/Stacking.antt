@@ -1,7 +1,7 @@
 -- A stack of contexts, and the current indices that each has.
-use Rattle.std.proofs.Common.{◌≡◌, ℕ, zero, suc, ◌+◌, ◌≤◌, List, [], ◌∷◌, ◌++◌, length, map, take, reverse, Option, Some, None, refl, ap, ap₂, sym, ◌∙◌, subst, arith, append_assoc, append-nil, length-append}
+use Rattle.std.proofs.Common.{◌≡◌, ℕ, suc, ◌≤◌, List, [], ◌∷◌, ◌++◌, length, map, take, reverse, Option, Some, None, refl, ap, ap₂, sym, ◌∙◌, subst, arith, append-nil, length-append}
 use Rattle.std.specs.Prelude.{unwrap_or}
-use Rattle.std.specs.Option.{option_to_list, IsSome}
+use Rattle.std.specs.Option.{option_to_list}
 use Rattle.std.proofs.lemmas.List.{reverse-append, take-take, take-append-le, take_all, length-take-le}
 use Rattle.cv_syntax.specs.declared.head.Head.{Head}
 use Rattle.cv_syntax.specs.declared.head.Head.TheVariants.{Repl}
@@ -12,7 +12,7 @@ use Rattle.cv_filling.specs.declared.context.Context.{Context}
 use Rattle.cv_filling.specs.declared.context.Place.TheVariants.{Plain}
 use Rattle.cv_filling.specs.Contexts.{first_place, second_place}
 use Rattle.cv_filling.specs.Current.{entered, entered_below, level_below}
-use Rattle.cv_filling.specs.Stacks.{Standing, standing, standings, Descends, first_context, second_context, top, rest, children, Popped}
+use Rattle.cv_filling.specs.Stacks.{standing, standings, Descends, first_context, second_context, top, rest, children, Popped}
 
 pub none_left : {A : Type 0} (l : List A) → length l ≡ 0 → l ≡ []
 none_left [] e = refl

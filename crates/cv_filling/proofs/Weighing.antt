@@ -1,9 +1,7 @@
 -- Sizes and depths of the game, tree by tree.
-use Rattle.std.proofs.Common.{◌≡◌, ℕ, zero, suc, ◌+◌, ◌<◌, ◌≤◌, min, List, [], ◌∷◌, ◌++◌, length, map, take, reverse, get_or, Option, Some, None, refl, ap, ap₂, sym, ◌∙◌, subst, arith, append-nil}
-use Rattle.std.specs.Prelude.{max, unwrap_or}
-use Rattle.std.specs.Option.{option_to_list}
+use Rattle.std.proofs.Common.{◌≡◌, ℕ, zero, suc, ◌+◌, ◌<◌, ◌≤◌, min, List, [], ◌∷◌, ◌++◌, length, map, take, reverse, get_or, Option, refl, ap, ap₂, sym, ◌∙◌, subst, arith, append-nil}
+use Rattle.std.specs.Prelude.{max}
 use Rattle.std.proofs.lemmas.List.{reverse-append, length-take-le}
-use Rattle.cv_syntax.specs.declared.head.Head.{Head}
 use Rattle.cv_syntax.specs.declared.head.Head.TheVariants.{Leaf}
 use Rattle.cv_syntax.specs.declared.make.Make.{Make}
 use Rattle.cv_syntax.specs.declared.make.Make.TheVariants.{Nothing, Over}
@@ -18,7 +16,7 @@ use Rattle.cv_filling.specs.Current.{entered}
 use Rattle.cv_filling.specs.Stacks.{Standing, standings, top, rest, children, Popped, first_above, rest_above, both}
 use Rattle.cv_filling.proofs.Nodes.{size-empty, size-node, depth-empty, depth-node}
 use Rattle.cv_filling.proofs.Pending.{Pending, pending_whole, pending_nothing, pending_over, pending_end}
-use Rattle.cv_filling.proofs.Stacking.{opened_node, none_left}
+use Rattle.cv_filling.proofs.Stacking.{opened_node}
 
 -- a read weighs one node, and one for each index
 

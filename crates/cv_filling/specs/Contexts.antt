@@ -1,12 +1,12 @@
 -- What stands in the game for a tree of the text, by where it stands.
-use Rattle.std.specs.Prelude.{ℕ, suc, ◌+◌, max, List, [], ◌∷◌, ◌++◌, take, Option}
+use Rattle.std.specs.Prelude.{ℕ, List, [], ◌∷◌, Option}
 use Rattle.cv_syntax.specs.declared.head.Head.{Head}
-use Rattle.cv_syntax.specs.declared.head.Head.TheVariants.{Repl, In, Out, Leaf, Cons}
+use Rattle.cv_syntax.specs.declared.head.Head.TheVariants.{In, Out, Leaf, Cons}
 use Rattle.cv_syntax.specs.declared.make.Make.{Make}
 use Rattle.cv_syntax.specs.declared.make.Make.TheVariants.{Nothing, Over}
 use Rattle.cv_syntax.specs.Head.{weight}
 use Rattle.cv_syntax.specs.Tree.{Tree, Empty, Node, names, size, depth}
-use Rattle.cv_rules.specs.Filled.{bare, filled_at, now_below}
+use Rattle.cv_rules.specs.Filled.{bare, filled_at}
 use Rattle.cv_filling.specs.declared.context.Place.{Place}
 use Rattle.cv_filling.specs.declared.context.Place.TheVariants.{Plain, Channel, Indices, Dropped}
 use Rattle.cv_filling.specs.Backward.{backward}

@@ -1,5 +1,5 @@
 -- The contexts of trees that are still to come, the next one first.
-use Rattle.std.specs.Prelude.{ℕ, zero, ◌≤◌, List, [], ◌∷◌, ◌≡◌, length, map, take, reverse}
+use Rattle.std.specs.Prelude.{ℕ, ◌≤◌, List, [], ◌∷◌, ◌≡◌, length, map, take, reverse}
 use Rattle.cv_syntax.specs.declared.head.Head.{Head}
 use Rattle.cv_syntax.specs.declared.make.Make.{Make}
 use Rattle.cv_syntax.specs.declared.make.Make.TheVariants.{Nothing, Over}

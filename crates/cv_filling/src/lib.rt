@@ -11,3 +11,6 @@ mod writing;
 
 pub use filling::fill;
 pub use measuring::{Extent, measure};
+
+#[cfg(test)]
+mod tests;

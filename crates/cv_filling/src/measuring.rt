@@ -58,21 +58,14 @@ pub fn measure(alloc: Global, makes: &[Make]) -> Result<Extent, AllocError>
 }
 
 /// What one part of the text weighs in the game.
-fn weigh(
-    sites: &HashMap<u32, usize>,
-    current: &Current,
-    context: Context,
-    make: Make,
-) -> Weight
+fn weigh(sites: &HashMap<u32, usize>, current: &Current, context: Context, make: Make) -> Weight
     requires { context.level ≤ length current.now }
     ensures nodes { result.nodes ≡ min (nodes_at (numbers_of sites.now) (take context.level current.now) context.place make) (2 ^ 64 - 1) }
     ensures depth { result.depth ≡ depth_at (numbers_of sites.now) (take context.level current.now) context.place make }
 {
     match (context.place, make) {
         (Place::Dropped, _) | (_, Make::Nothing) => Weight { nodes: 0, depth: 0 },
-        (_, Make::Over(Head::Leaf(name))) => {
-            weigh_name(sites, current, context.level, name)
-        }
+        (_, Make::Over(Head::Leaf(name))) => { weigh_name(sites, current, context.level, name) }
         (_, Make::Over(head)) => {
             let weight = head.weight() as usize;
             Weight {
@@ -84,12 +77,7 @@ fn weigh(
 }
 
 /// What a bare name weighs: one node, and one for each index that it gets.
-fn weigh_name(
-    sites: &HashMap<u32, usize>,
-    current: &Current,
-    level: usize,
-    name: u32,
-) -> Weight
+fn weigh_name(sites: &HashMap<u32, usize>, current: &Current, level: usize, name: u32) -> Weight
     requires { level ≤ length current.now }
     ensures nodes { result.nodes ≡ min (size (bare (numbers_of sites.now) (take level current.now) name)) (2 ^ 64 - 1) }
     ensures depth { result.depth ≡ tree_depth (bare (numbers_of sites.now) (take level current.now) name) }

@@ -6,12 +6,7 @@ use crate::current::Current;
 use std::collections::HashMap;
 
 /// How many of the first so many indices a bare name gets.
-pub fn index_count(
-    sites: &HashMap<u32, usize>,
-    current: &Current,
-    level: usize,
-    name: u32,
-) -> usize
+pub fn index_count(sites: &HashMap<u32, usize>, current: &Current, level: usize, name: u32) -> usize
     requires { level ≤ length current.now }
     ensures within { result ≤ level }
     ensures read { bare (numbers_of sites.now) (take level current.now) name ≡ read_at name (take result current.now) }

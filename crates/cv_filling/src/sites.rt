@@ -45,7 +45,11 @@ fn part_before(makes: &[Make], at: usize) -> Make
     requires { at ≤ length makes.now }
     ensures { result ≡ part makes.now at }
 {
-    if at == 0 { Make::Nothing } else { makes[at - 1] }
+    if at == 0 {
+        Make::Nothing
+    } else {
+        makes[at - 1]
+    }
 }
 
 /// Adds what is left to do at a part.

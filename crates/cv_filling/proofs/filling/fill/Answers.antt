@@ -1,4 +1,4 @@
-use Rattle.std.proofs.Common.{◌-◌, get_or, refl, arith, sym, ◌∙◌}
+use Rattle.std.proofs.Common.{◌-◌, get_or, refl, arith, ◌∙◌}
 use Rattle.cv_syntax.specs.declared.make.Make.TheVariants.{Nothing}
 use Rattle.cv_filling.specs.Current.{numbers_of}
 use Rattle.cv_filling.proofs.Parting.{writes_first, writes_step, writes_end}

@@ -1,4 +1,4 @@
-use Rattle.std.proofs.Common.{◌-◌, ◌^◌, get_or, refl, arith, sym, ◌∙◌, lit≤}
+use Rattle.std.proofs.Common.{◌-◌, ◌^◌, get_or, refl, arith, ◌∙◌, lit≤}
 use Rattle.cv_syntax.specs.declared.make.Make.TheVariants.{Nothing}
 use Rattle.cv_filling.specs.Current.{numbers_of}
 use Rattle.cv_filling.proofs.Weighing.{counts_first, counts_step, counts_end, rises_first, rises_step, rises_end}

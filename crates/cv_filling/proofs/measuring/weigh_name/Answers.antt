@@ -1,5 +1,4 @@
-use Rattle.std.proofs.Common.{◌≡◌, ◌+◌, ◌≤◌, ◌-◌, ◌^◌, min, length, ap, sym, ◌∙◌, arith}
-use Rattle.cv_syntax.specs.Tree.{size}
+use Rattle.std.proofs.Common.{◌-◌, ◌^◌, min, ap, sym, ◌∙◌, arith}
 use Rattle.cv_filling.proofs.Weighing.{name_size, name_depth_one, name_depth_two}
 use Rattle.cv_filling.proofs.measuring.weigh_name.Goals as goal
 

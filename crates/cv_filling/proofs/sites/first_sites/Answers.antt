@@ -1,4 +1,4 @@
-use Rattle.std.proofs.Common.{◌≡◌, ◌+◌, ◌<◌, ◌≤◌, ◌++◌, ◌∷◌, [], List, ap, sym, refl, ◌∙◌, arith, length}
+use Rattle.std.proofs.Common.{◌≡◌, ◌+◌, ◌≤◌, ◌++◌, ◌∷◌, [], List, ap, sym, ◌∙◌, arith, length}
 use Rattle.cv_filling.specs.Sites.{tasks_at}
 use Rattle.cv_filling.specs.declared.sites.Task.{Task}
 use Rattle.cv_filling.specs.declared.sites.Task.TheVariants.{Look, Define}

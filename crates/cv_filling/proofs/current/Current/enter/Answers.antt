@@ -25,14 +25,14 @@ invariant_of-self-in_err-push c =
     let few = few_names names c.args.self.now c.args.count c.self.view_is c.requires in
     elim c.if-not-known.branch [
       | then-not-known+in_ok-insert w ↦
-        at_places c.if-not-known.self-inside _ c.push.new.self.items w.self-inside-is
-        (cut_noted names c.push.new.self.items c.self.inside.places w.insert.new.self c.args.name c.args.count c.self.invariant few
-        (c.in_err-push.ensures.items ∙ (names_of c.if-not-known.self-inside _ w.self-inside-is ∙ c.truncate.ensures.items))
-        (ap (λ l. is_among (take c.args.count l) c.args.name) c.self.view_is ∙ (sym c.holds-known.ensures ∙ w.if-not-known.true)) w.in_ok-insert.ensures.updates)
+          at_places c.if-not-known.self-inside _ c.push.new.self.items w.self-inside-is
+          (cut_noted names c.push.new.self.items c.self.inside.places w.insert.new.self c.args.name c.args.count c.self.invariant few
+          (c.in_err-push.ensures.items ∙ (names_of c.if-not-known.self-inside _ w.self-inside-is ∙ c.truncate.ensures.items))
+          (ap (λ l. is_among (take c.args.count l) c.args.name) c.self.view_is ∙ (sym c.holds-known.ensures ∙ w.if-not-known.true)) w.in_ok-insert.ensures.updates)
       | else-not-known w ↦
-        at_places c.if-not-known.self-inside _ c.push.new.self.items w.self-inside-is
-        (still_kept names c.push.new.self.items c.self.inside.places c.self.inside.places c.args.count c.self.invariant few
-        (c.in_err-push.ensures.items ∙ (names_of c.if-not-known.self-inside _ w.self-inside-is ∙ c.truncate.ensures.items)) refl)
+          at_places c.if-not-known.self-inside _ c.push.new.self.items w.self-inside-is
+          (still_kept names c.push.new.self.items c.self.inside.places c.self.inside.places c.args.count c.self.invariant few
+          (c.in_err-push.ensures.items ∙ (names_of c.if-not-known.self-inside _ w.self-inside-is ∙ c.truncate.ensures.items)) refl)
     ]
 
 pub invariant_of-self-2 : goal.invariant_of-self-2
@@ -41,13 +41,13 @@ invariant_of-self-2 c =
     let few = few_names names c.args.self.now c.args.count c.self.view_is c.requires in
     elim c.if-not-known.branch [
       | then-not-known+in_ok-insert w ↦
-        at_places c.if-not-known.self-inside _ c.push.new.self.items w.self-inside-is
-        (entered_new names c.truncate.new.self.items c.push.new.self.items c.self.inside.places w.insert.new.self c.args.name c.args.count c.self.invariant few c.truncate.ensures.items
-        (c.in_ok-push.ensures.items ∙ ap (λ l. l ++ c.args.name ∷ []) (names_of c.if-not-known.self-inside _ w.self-inside-is))
-        (ap (λ l. is_among (take c.args.count l) c.args.name) c.self.view_is ∙ (sym c.holds-known.ensures ∙ w.if-not-known.true)) w.in_ok-insert.ensures.updates)
+          at_places c.if-not-known.self-inside _ c.push.new.self.items w.self-inside-is
+          (entered_new names c.truncate.new.self.items c.push.new.self.items c.self.inside.places w.insert.new.self c.args.name c.args.count c.self.invariant few c.truncate.ensures.items
+          (c.in_ok-push.ensures.items ∙ ap (λ l. l ++ c.args.name ∷ []) (names_of c.if-not-known.self-inside _ w.self-inside-is))
+          (ap (λ l. is_among (take c.args.count l) c.args.name) c.self.view_is ∙ (sym c.holds-known.ensures ∙ w.if-not-known.true)) w.in_ok-insert.ensures.updates)
       | else-not-known w ↦
-        at_places c.if-not-known.self-inside _ c.push.new.self.items w.self-inside-is
-        (entered_known names c.truncate.new.self.items c.push.new.self.items c.self.inside.places c.args.name c.args.count c.self.invariant few c.truncate.ensures.items
-        (c.in_ok-push.ensures.items ∙ ap (λ l. l ++ c.args.name ∷ []) (names_of c.if-not-known.self-inside _ w.self-inside-is))
-        (ap (λ l. is_among (take c.args.count l) c.args.name) c.self.view_is ∙ (sym c.holds-known.ensures ∙ w.if-not-known.false)))
+          at_places c.if-not-known.self-inside _ c.push.new.self.items w.self-inside-is
+          (entered_known names c.truncate.new.self.items c.push.new.self.items c.self.inside.places c.args.name c.args.count c.self.invariant few c.truncate.ensures.items
+          (c.in_ok-push.ensures.items ∙ ap (λ l. l ++ c.args.name ∷ []) (names_of c.if-not-known.self-inside _ w.self-inside-is))
+          (ap (λ l. is_among (take c.args.count l) c.args.name) c.self.view_is ∙ (sym c.holds-known.ensures ∙ w.if-not-known.false)))
     ]
