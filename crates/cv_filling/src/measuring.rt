@@ -65,7 +65,7 @@ fn weigh(sites: &HashMap<u32, usize>, current: &Current, context: Context, make:
 {
     match (context.place, make) {
         (Place::Dropped, _) | (_, Make::Nothing) => Weight { nodes: 0, depth: 0 },
-        (_, Make::Over(Head::Leaf(name))) => { weigh_name(sites, current, context.level, name) }
+        (_, Make::Over(Head::Leaf(name))) => weigh_name(sites, current, context.level, name),
         (_, Make::Over(head)) => {
             let weight = head.weight() as usize;
             Weight {
