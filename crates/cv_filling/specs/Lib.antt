@@ -1,0 +1,5 @@
+pub mod Backward
+pub mod Contexts
+pub mod Current
+pub mod Stacks
+pub mod Sites

@@ -1,0 +1,16 @@
+// The game that a process stands for: plain reads get their indices, and plain channels the current ones.
+#![tactic(auto)]
+
+mod context;
+mod current;
+mod filling;
+mod measuring;
+mod reads;
+mod sites;
+mod writing;
+
+pub use filling::fill;
+pub use measuring::{Extent, measure};
+
+#[cfg(test)]
+mod tests;
