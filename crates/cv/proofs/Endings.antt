@@ -1,13 +1,13 @@
 -- How a run over a good file ends.
 use Rattle.std.proofs.Common.{◌≡◌, ℕ, ◌+◌, ◌≤◌, arith, refl, List, Option, Some, None, ap, sym, ◌∙◌, subst, ◌⊎◌, inl, inr}
 use Rattle.std.specs.Prelude.{IfSome, ◌≢◌}
-use Rattle.cv_files.specs.Accepted.{file_of}
+use Rattle.cv_files.specs.Accepted.{read_of}
 use Rattle.cv_files.specs.Typing.{queries_in}
-use Rattle.cv_files.proofs.Relations.{file_is_read}
+use Rattle.cv_files.proofs.Readings.{file_is_read}
 use Rattle.cv.specs.declared.report.Status.{Status}
 use Rattle.cv.specs.declared.report.Status.TheVariants as status
-use Rattle.cv.specs.declared.report.Which.TheVariants.{File, Steps, Pool}
-use Rattle.cv.specs.Strategy.{nothing_said, expected, Judged, IsGood, EndsWell}
+use Rattle.cv.specs.declared.report.Which.TheVariants.{File, Nodes, Depth, Steps, Pool}
+use Rattle.cv.specs.Strategy.{nothing_said, expected, most_pool, Judged, IsGood, EndsWell}
 use Rattle.cv.proofs.Verdicts.{all_closed}
 
 pub some_moved : {A : Type 0} (P Q : A → Type 0) (o : Option A) → ((x : A) → P x → Q x) → IfSome o P → IfSome o Q
@@ -15,13 +15,16 @@ some_moved P Q None m h = tt
 some_moved P Q (Some x) m h = m x h
 
 -- what is expected of a good file
-good_proved : (bytes : List ℕ) → IsGood bytes → expected (file_of bytes) ≡ status.Proved
-good_proved bytes g = ap expected (file_is_read bytes g.content g.file) ∙ all_closed g.content.game nothing_said (queries_in g.content.declarations) g.closed (omega (arith, g.few)) refl refl
+good_proved : (bytes : List ℕ) → IsGood bytes → expected (read_of most_pool bytes) ≡ status.Proved
+good_proved bytes g = ap expected (file_is_read most_pool bytes g.content g.file) ∙ all_closed g.content.game nothing_said (queries_in g.content.declarations) g.closed (omega (arith, g.few)) refl refl
 
-judged_well : (s : Status) (bytes : List ℕ) → Judged s bytes → expected (file_of bytes) ≡ status.Proved → EndsWell s
+judged_well : (s : Status) (bytes : List ℕ) → Judged s bytes → expected (read_of most_pool bytes) ≡ status.Proved → EndsWell s
 judged_well status.Proved bytes j e = tt
 judged_well status.Memory bytes j e = tt
-judged_well (status.Limit (Pool need)) bytes j e = j
+judged_well (status.FileRefused fault) bytes j e = absurd (let h = j ∙ e in cc)
+judged_well (status.Limit (Nodes count)) bytes j e = absurd (let h = j ∙ e in cc)
+judged_well (status.Limit (Depth depth)) bytes j e = absurd (let h = j ∙ e in cc)
+judged_well (status.Limit (Pool need)) bytes j e = absurd (let h = j ∙ e in cc)
 judged_well (status.Limit File) bytes j e = absurd (let h = j ∙ e in cc)
 judged_well (status.Limit Steps) bytes j e = absurd (let h = j ∙ e in cc)
 judged_well (status.Open cause) bytes j e = absurd (let h = j ∙ e in cc)

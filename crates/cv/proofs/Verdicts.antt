@@ -1,5 +1,5 @@
 -- What is said of a file, by what the strategy finds.
-use Rattle.std.proofs.Common.{◌≡◌, ℕ, zero, suc, ◌+◌, ◌<◌, ◌≤◌, nat_lt, Bool, true, false, cond, ◌&&◌, List, [], ◌∷◌, ◌++◌, length, length-append, refl, ap, ap₂, sym, ◌∙◌, subst, arith, append-nil, append_assoc, Option, Some, None, is_some}
+use Rattle.std.proofs.Common.{◌≡◌, ℕ, zero, suc, ◌+◌, ◌<◌, ◌≤◌, nat_lt, Bool, true, false, cond, ◌&&◌, List, [], ◌∷◌, ◌++◌, length, length-append, refl, ap, ap₂, sym, ◌∙◌, subst, arith, append-nil, append_assoc, Option, Some, None, Err, is_some}
 use Rattle.std.specs.Prelude.{slice_get}
 use Rattle.std.specs.List.{list_all}
 use Rattle.std.proofs.lemmas.Bool.{and_parts, both_ways, lt-ltb}
@@ -10,9 +10,12 @@ use Rattle.cv_meaning.specs.Chances.{AtMost, zero_chance}
 use Rattle.cv_meaning.specs.Correspondences.{correspondence_of}
 use Rattle.cv_meaning.specs.Interpretation.{Interpretation, setting_of}
 use Rattle.cv_meaning.specs.Runs.{Adversary}
+use Rattle.cv_parse.specs.declared.error.ParseError.{ParseError}
+use Rattle.cv_parse.specs.declared.error.ParseError.TheVariants as parse
+use Rattle.cv_syntax.specs.declared.work.BuildError.TheVariants as build
 use Rattle.cv_files.specs.declared.error.FileError.{FileError}
 use Rattle.cv_files.specs.declared.error.FileError.TheVariants as fault
-use Rattle.cv_files.specs.Accepted.{file_of}
+use Rattle.cv_files.specs.Accepted.{Refuses, read_of}
 use Rattle.cv_files.specs.Typing.{Signature, signature_of, process_fits, query_fits, queries_fit}
 use Rattle.cv_direct.specs.Search.{EntryTree}
 use Rattle.cv_direct.proofs.Queries.{never_broken}
@@ -22,7 +25,7 @@ use Rattle.cv.specs.declared.report.Status.TheVariants as status
 use Rattle.cv.specs.declared.report.Verdict.{Verdict}
 use Rattle.cv.specs.declared.report.Verdict.TheVariants.{Proved, NotProved}
 use Rattle.cv.specs.declared.sum.Sum.{Sum}
-use Rattle.cv.specs.Faults.{status_of as ended_by}
+use Rattle.cv.specs.Faults.{parse_ended, status_of as ended_by}
 use Rattle.cv.specs.Strategy.{Said, is_closed, said_then, closed_by, left_open, said_of, certificate, most_steps, status_by, status_of, expected, HasFile, Judged, most_pool}
 
 -- a query has a certificate where it is closed
@@ -76,16 +79,27 @@ has_file true false = tt
 has_file false true = tt
 has_file false false = tt
 
-pub judged_by : (full all : Bool) (s : Status) (bytes : List ℕ) → s ≡ status_by full all → expected (file_of bytes) ≡ status_by full all → Judged s bytes
+pub judged_by : (full all : Bool) (s : Status) (bytes : List ℕ) → s ≡ status_by full all → expected (read_of most_pool bytes) ≡ status_by full all → Judged s bytes
 judged_by true true s bytes e f = subst (λ x. Judged x bytes) (sym e) (sym f)
 judged_by true false s bytes e f = subst (λ x. Judged x bytes) (sym e) (sym f)
 judged_by false true s bytes e f = subst (λ x. Judged x bytes) (sym e) (sym f)
 judged_by false false s bytes e f = subst (λ x. Judged x bytes) (sym e) (sym f)
 
-pub judged_fault : (x : FileError) (bytes : List ℕ) → (x ≡ fault.Unaccepted → file_of bytes ≡ None) → ((need : ℕ) → x ≡ fault.Full need → most_pool < need) → Judged (ended_by x) bytes
-judged_fault fault.Unaccepted bytes e f = sym (ap expected (e refl))
-judged_fault (fault.Full need) bytes e f = f need refl
-judged_fault fault.OutOfMemory bytes e f = tt
+judged_limit : (x : ParseError) (bytes : List ℕ) → read_of most_pool bytes ≡ Err (fault.Parse x) → Judged (parse_ended x) bytes
+judged_limit (parse.Syntax k) bytes e = sym (ap expected e)
+judged_limit (parse.Nesting k) bytes e = sym (ap expected e)
+judged_limit (parse.NameTwice k) bytes e = sym (ap expected e)
+judged_limit (parse.NameUnknown k) bytes e = sym (ap expected e)
+judged_limit (parse.Build (build.Full n)) bytes e = sym (ap expected e)
+judged_limit (parse.Build (build.Nodes n)) bytes e = sym (ap expected e)
+judged_limit (parse.Build (build.Depth n)) bytes e = sym (ap expected e)
+judged_limit (parse.Build build.OutOfMemory) bytes e = tt
+
+pub judged_fault : (x : FileError) (bytes : List ℕ) → Refuses x (read_of most_pool bytes) → Judged (ended_by x) bytes
+judged_fault (fault.Lex x) bytes e = sym (ap expected e)
+judged_fault (fault.Parse x) bytes e = judged_limit x bytes e
+judged_fault fault.Unbuilt bytes e = sym (ap expected e)
+judged_fault fault.OutOfMemory bytes e = tt
 
 -- queries that are all closed, and for which there are steps
 

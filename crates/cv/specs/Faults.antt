@@ -1,11 +1,24 @@
 -- How a run ends where bytes are refused.
+use Rattle.cv_parse.specs.declared.error.ParseError.{ParseError}
+use Rattle.cv_parse.specs.declared.error.ParseError.TheVariants as parse
+use Rattle.cv_syntax.specs.declared.work.BuildError.TheVariants as build
 use Rattle.cv_files.specs.declared.error.FileError.{FileError}
 use Rattle.cv_files.specs.declared.error.FileError.TheVariants as fault
+use Rattle.cv.specs.declared.report.FileFault.TheVariants.{Lex, Parse}
 use Rattle.cv.specs.declared.report.Status.{Status}
 use Rattle.cv.specs.declared.report.Status.TheVariants as status
-use Rattle.cv.specs.declared.report.Which.TheVariants.{Pool}
+use Rattle.cv.specs.declared.report.Which.TheVariants.{Depth, Nodes, Pool}
+
+-- limits and want of memory are told apart from the faults of a file
+abbrev pub parse_ended : ParseError → Status
+parse_ended (parse.Build (build.Nodes count)) = status.Limit (Nodes count)
+parse_ended (parse.Build (build.Depth depth)) = status.Limit (Depth depth)
+parse_ended (parse.Build (build.Full need)) = status.Limit (Pool need)
+parse_ended (parse.Build build.OutOfMemory) = status.Memory
+parse_ended e = status.FileRefused (Parse e)
 
 abbrev pub status_of : FileError → Status
-status_of fault.Unaccepted = status.Unbuilt
-status_of (fault.Full need) = status.Limit (Pool need)
+status_of (fault.Lex e) = status.FileRefused (Lex e)
+status_of (fault.Parse e) = parse_ended e
+status_of fault.Unbuilt = status.Unbuilt
 status_of fault.OutOfMemory = status.Memory

@@ -1,6 +1,6 @@
 -- What the plain strategy says of a file: a query is closed where each left event stands below its right
 -- events, with the same variables as arguments. It closes one query after another, in at most 2,000 steps.
-use Rattle.std.specs.Prelude.{◌≡◌, ℕ, ◌+◌, ◌<◌, ◌≤◌, nat_lt, Bool, true, false, if◌then◌else◌, List, [], ◌∷◌, ◌++◌, length, map, Option, Some, None, slice_get, IfSome}
+use Rattle.std.specs.Prelude.{◌≡◌, ℕ, ◌+◌, ◌<◌, ◌≤◌, nat_lt, Bool, true, false, if◌then◌else◌, List, [], ◌∷◌, ◌++◌, length, map, Option, Some, None, Result, Ok, Err, slice_get, IfSome}
 use Rattle.std.specs.List.{list_all}
 use Rattle.cv_syntax.specs.declared.work.File.{File}
 use Rattle.cv_syntax.specs.Declarations.{Declaration, declarations}
@@ -15,8 +15,10 @@ use Rattle.cv_meaning.specs.Advantage.{advantage}
 use Rattle.cv_meaning.specs.Chances.{Chance, AtMost, zero_chance}
 use Rattle.cv_direct.specs.Found.{entry_trees}
 use Rattle.cv_direct.specs.Search.{EntryTree, entries_of, wanted_of}
-use Rattle.cv_files.specs.Accepted.{Content, IsFile, file_of}
+use Rattle.cv_files.specs.declared.error.FileError.{FileError}
+use Rattle.cv_files.specs.Accepted.{Content, IsFile, read_of}
 use Rattle.cv_files.specs.Typing.{queries_in}
+use Rattle.cv.specs.Faults.{status_of as ended_by}
 use Rattle.cv.specs.declared.report.Cause.TheVariants.{Stuck}
 use Rattle.cv.specs.declared.report.Report.{Report}
 use Rattle.cv.specs.declared.report.Status.{Status}
@@ -25,7 +27,7 @@ use Rattle.cv.specs.declared.report.Step.{Step}
 use Rattle.cv.specs.declared.report.Step.TheVariants.{Success}
 use Rattle.cv.specs.declared.report.Verdict.{Verdict}
 use Rattle.cv.specs.declared.report.Verdict.TheVariants.{Proved, NotProved}
-use Rattle.cv.specs.declared.report.Which.TheVariants.{Pool, Steps}
+use Rattle.cv.specs.declared.report.Which.TheVariants.{Depth, Nodes, Pool, Steps}
 use Rattle.cv.specs.declared.sum.Sum.{Sum}
 
 -- the value of a sum, which is empty
@@ -79,19 +81,18 @@ status_by full false = if full then status.Limit Steps else status.Open Stuck
 abbrev pub status_of : Said → Status
 status_of s = status_by s.full s.all
 
--- the status of a file, or of bytes that are none
-abbrev pub expected : Option Content → Status
-expected None = status.Unbuilt
-expected (Some c) = status_of (said_of c.game nothing_said (queries_in c.declarations))
+-- the status of a file, or of bytes that are refused
+abbrev pub expected : Result Content FileError → Status
+expected (Err e) = ended_by e
+expected (Ok c) = status_of (said_of c.game nothing_said (queries_in c.declarations))
 
 abbrev pub most_pool : ℕ
 most_pool = 16000000
 
--- The status is the one that these bytes have, unless the pool or memory ended the run.
+-- The status is the one that these bytes have, unless memory ended the run.
 abbrev pub Judged : Status → List ℕ → Type 0
 Judged status.Memory bytes = Unit {0}
-Judged (status.Limit (Pool need)) bytes = most_pool < need
-Judged s bytes = s ≡ expected (file_of bytes)
+Judged s bytes = s ≡ expected (read_of most_pool bytes)
 
 -- a step, with the trees of its certificate
 abbrev pub said_by : List KindTree → Step → ℕ × List EntryTree
@@ -102,6 +103,10 @@ abbrev pub SpeaksOfFile : Status → Type 0
 SpeaksOfFile status.Proved = Unit {0}
 SpeaksOfFile (status.Open cause) = Unit {0}
 SpeaksOfFile status.Unbuilt = Unit {0}
+SpeaksOfFile (status.FileRefused fault) = Unit {0}
+SpeaksOfFile (status.Limit (Nodes count)) = Unit {0}
+SpeaksOfFile (status.Limit (Depth depth)) = Unit {0}
+SpeaksOfFile (status.Limit (Pool need)) = Unit {0}
 SpeaksOfFile (status.Limit Steps) = Unit {0}
 SpeaksOfFile s = ⊥
 
@@ -129,18 +134,17 @@ HasFile (status.Open cause) = Unit {0}
 HasFile (status.Limit Steps) = Unit {0}
 HasFile s = ⊥
 
--- a file whose queries are all closed by the events above, and are no more than there may be steps
+-- a file within the limits whose queries are all closed by the events above, and are no more than there may be steps
 pub record IsGood (bytes : List ℕ) : Type 0 where
   pub content : Content
-  pub file : IsFile bytes content
+  pub file : IsFile most_pool bytes content
   pub closed : list_all (is_closed content.game) (queries_in content.declarations) ≡ true
   pub few : length (queries_in content.declarations) ≤ most_steps
 
--- proved, unless the pool or memory ended the run
+-- proved, unless memory ended the run
 abbrev pub EndsWell : Status → Type 0
 EndsWell status.Proved = Unit {0}
 EndsWell status.Memory = Unit {0}
-EndsWell (status.Limit (Pool need)) = most_pool < need
 EndsWell s = ⊥
 
 -- Where the verdict on a query is `Proved`, the advantage against it is at most the value of the sum, for

@@ -8,6 +8,12 @@ use Rattle.cv_direct.specs.declared.search.Route.{Route}
 use Rattle.cv_direct.specs.declared.search.Entry.{Entry}
 use Rattle.cv_print.specs.Games.{game_text}
 use Rattle.cv_print.specs.Terms.{term_text}
+use Rattle.cv_lex.specs.declared.LexError.{LexError}
+use Rattle.cv_lex.specs.declared.LexError.TheVariants as lex
+use Rattle.cv_parse.specs.declared.error.ParseError.{ParseError}
+use Rattle.cv_parse.specs.declared.error.ParseError.TheVariants as parse
+use Rattle.cv.specs.declared.report.FileFault.{FileFault}
+use Rattle.cv.specs.declared.report.FileFault.TheVariants.{Lex, Parse}
 use Rattle.cv.specs.declared.report.Report.{Report}
 use Rattle.cv.specs.declared.report.Status.{Status}
 use Rattle.cv.specs.declared.report.Status.TheVariants as status
@@ -15,7 +21,7 @@ use Rattle.cv.specs.declared.report.Step.{Step}
 use Rattle.cv.specs.declared.report.Step.TheVariants.{Success}
 use Rattle.cv.specs.declared.report.Verdict.{Verdict}
 use Rattle.cv.specs.declared.report.Verdict.TheVariants.{Proved, NotProved}
-use Rattle.cv.specs.declared.report.Which.TheVariants.{File as FileLimit, Steps, Pool}
+use Rattle.cv.specs.declared.report.Which.TheVariants.{File as FileLimit, Nodes, Depth, Steps, Pool}
 
 -- the equation of a term with itself, with its reason
 abbrev pub target_text : List (List ℕ) → Tree → List ℕ
@@ -53,14 +59,38 @@ unfoldable pub verdicts_text : ℕ → List Verdict → List ℕ
 verdicts_text k [] = []
 verdicts_text k (v ∷ vs) = verdict_text k v ++ verdicts_text (k + 1) vs
 
+-- the end line of a file that is refused: what is wrong, and at which byte or token
+abbrev pub refused_text : List ℕ → ℕ → List ℕ
+refused_text what place = codes "end 2 file refused: " ++ what ++ decimal place ++ codes "\n"
+
+abbrev pub lexis_text : LexError → List ℕ
+lexis_text (lex.Char byte) = refused_text (codes "char at byte ") byte
+lexis_text (lex.CommentOpen byte) = refused_text (codes "comment at byte ") byte
+lexis_text (lex.NumberWide byte) = refused_text (codes "number at byte ") byte
+lexis_text lex.OutOfMemory = codes "end 6 memory\n"
+
+abbrev pub grammar_text : ParseError → List ℕ
+grammar_text (parse.Syntax token) = refused_text (codes "syntax at token ") token
+grammar_text (parse.Nesting token) = refused_text (codes "nesting at token ") token
+grammar_text (parse.NameTwice token) = refused_text (codes "name twice at token ") token
+grammar_text (parse.NameUnknown token) = refused_text (codes "name unknown at token ") token
+grammar_text (parse.Build fault) = codes "end 6 memory\n"
+
+abbrev pub fault_text : FileFault → List ℕ
+fault_text (Lex e) = lexis_text e
+fault_text (Parse e) = grammar_text e
+
 abbrev pub end_text : Status → List ℕ
 end_text status.Proved = codes "end 0 proved\n"
 end_text (status.Open cause) = codes "end 1 open: stuck\n"
+end_text (status.FileRefused fault) = fault_text fault
 end_text status.Words = codes "end 3 words\n"
 end_text status.Read = codes "end 4 read\n"
 end_text status.Write = codes "end 5 write\n"
 end_text status.Memory = codes "end 6 memory\n"
 end_text (status.Limit FileLimit) = codes "end 7 limit: file\n"
+end_text (status.Limit (Nodes count)) = codes "end 7 limit: nodes\n"
+end_text (status.Limit (Depth depth)) = codes "end 7 limit: depth\n"
 end_text (status.Limit Steps) = codes "end 7 limit: steps\n"
 end_text (status.Limit (Pool need)) = codes "end 7 limit: pool\n"
 end_text status.Unbuilt = codes "end 8 unbuilt\n"

@@ -1,18 +1,19 @@
-ghost use Rattle.std.specs.Prelude.{◌≡◌, ◌+◌, ◌<◌, ◌≤◌, ◌^◌, ◌↔◌, [], ◌∷◌, All, None, Some, map, length, IfOk, IfSome, IsSome, MatchOption, OnOk};
+ghost use Rattle.std.specs.Prelude.{◌≡◌, ◌+◌, ◌<◌, ◌≤◌, ◌^◌, ◌↔◌, [], ◌∷◌, All, None, Some, Ok, map, length, IfOk, IfSome, IsSome, MatchOption, OnOk};
 ghost use Rattle.cv_syntax.specs.Classes.{queries};
 ghost use Rattle.cv_syntax.specs.Tree.{tree_at, size};
-ghost use Rattle.cv_files.specs.Accepted.{file_of};
+ghost use Rattle.cv_files.specs.Accepted.{read_of};
 ghost use Rattle.cv_files.specs.Plain.{IsPlain};
 ghost use Rattle.cv_files.specs.Works.{content_at};
-ghost use Rattle.cv.specs.Faults.{status_of as ended_by};
+ghost use Rattle.cv.specs.Faults.{parse_ended, status_of as ended_by};
 ghost use Rattle.cv.specs.Findings.{said};
 ghost use Rattle.cv.specs.Strategy.{most_pool, certificate, nothing_said, said_of, said_then, status_by, FollowsStrategy, HasFile, Judged, IsSound, SaysNothing};
 
-use crate::report::{Cause, Command, Report, Status, Step, Verdict, Which};
+use crate::report::{Cause, Command, FileFault, Report, Status, Step, Verdict, Which};
 use crate::sum::Sum;
 use cv_direct::direct;
 use cv_files::{FileError, query_at, read};
-use cv_syntax::{NodeId, Pool, Work};
+use cv_parse::ParseError;
+use cv_syntax::{BuildError, NodeId, Pool, Work};
 use std::alloc::{AllocError, Global};
 
 /// How many moves a proof has where the words don't say.
@@ -121,13 +122,27 @@ pub fn refused(alloc: Global, work: Work, command: Command, status: Status) -> R
     }
 }
 
+/// How tokens that are no file end a run.
+fn parse_ended(fault: ParseError) -> Status
+    ensures { result ≡ parse_ended fault }
+{
+    match fault {
+        ParseError::Build(BuildError::Nodes { count }) => Status::Limit(Which::Nodes { count }),
+        ParseError::Build(BuildError::Depth { depth }) => Status::Limit(Which::Depth { depth }),
+        ParseError::Build(BuildError::Full { need }) => Status::Limit(Which::Pool { need }),
+        ParseError::Build(BuildError::OutOfMemory) => Status::Memory,
+        other => Status::FileRefused(FileFault::Parse(other)),
+    }
+}
+
 /// How a refusal of bytes ends a run.
 fn status_of(fault: FileError) -> Status
     ensures { result ≡ ended_by fault }
 {
     match fault {
-        FileError::Unaccepted => Status::Unbuilt,
-        FileError::Full { need } => Status::Limit(Which::Pool { need }),
+        FileError::Lex(fault) => Status::FileRefused(FileFault::Lex(fault)),
+        FileError::Parse(fault) => parse_ended(fault),
+        FileError::Unbuilt => Status::Unbuilt,
         FileError::OutOfMemory => Status::Memory,
     }
 }
@@ -141,7 +156,7 @@ pub fn judge(alloc: Global, work: Work, bytes: &[u8]) -> Report
     requires few { length bytes.now ≤ 1048576 }
     ensures sound { IsSound result }
     ensures command { result.command ≡ Command.Prove 32 }
-    ensures file { IfSome result.file (λ f. file_of bytes.now ≡ Some (content_at result.work f.game.root)) }
+    ensures file { IfSome result.file (λ f. read_of most_pool bytes.now ≡ Ok (content_at result.work f.game.root)) }
     ensures live { IfSome result.file (λ f. f.game.root.0 < length result.work.pool.trees) }
     ensures follows { MatchOption result.file (SaysNothing result) (FollowsStrategy result) }
     ensures given { IsSome result.file ↔ HasFile result.status }

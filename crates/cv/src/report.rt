@@ -3,6 +3,8 @@ ghost use Rattle.cv.specs.Codes.{code_of};
 
 use crate::sum::Sum;
 use cv_direct::Entry;
+use cv_lex::LexError;
+use cv_parse::ParseError;
 use cv_syntax::{File, Work};
 
 /// What the words ask for.
@@ -36,14 +38,27 @@ pub enum Cause {
     Stuck,
 }
 
+/// Why bytes are no file.
+#[derive(Clone, Copy, Debug, PartialEq, Eq)]
+pub enum FileFault {
+    /// They have no tokens.
+    Lex(LexError),
+    /// Their tokens are not those of a file, by the grammar or the rules of names.
+    Parse(ParseError),
+}
+
 /// What passed its number.
 #[derive(Clone, Copy, Debug, PartialEq, Eq)]
 pub enum Which {
     /// The bytes of the file.
     File,
+    /// The syntax nodes of the game, which are so many.
+    Nodes { count: u32 },
+    /// The syntax nodes on a path of the game.
+    Depth { depth: u32 },
     /// The steps of a proof.
     Steps,
-    /// The nodes of the pool, which would have had so many more.
+    /// The nodes of the pool, of which so many were asked for.
     Pool { need: u32 },
 }
 
@@ -52,12 +67,14 @@ pub enum Which {
 pub enum Status {
     Proved,
     Open(Cause),
+    /// The bytes are no file.
+    FileRefused(FileFault),
     Words,
     Read,
     Write,
     Memory,
     Limit(Which),
-    /// The file isn't of a form that is built.
+    /// The file isn't of the form that is built.
     Unbuilt,
 }
 
@@ -69,6 +86,7 @@ impl Status {
         match self {
             Status::Proved => 0,
             Status::Open(_) => 1,
+            Status::FileRefused(_) => 2,
             Status::Words => 3,
             Status::Read => 4,
             Status::Write => 5,

@@ -2,10 +2,12 @@ ghost use Rattle.std.specs.Prelude.{◌≡◌, ◌+◌, ◌<◌, ◌++◌, [], l
 ghost use Rattle.cv_pool.specs.Nodes.{ChildBelow};
 ghost use Rattle.cv_syntax.specs.Tree.{tree_at};
 ghost use Rattle.cv_print.specs.Terms.{term_text};
-ghost use Rattle.cv.specs.Text.{target_text, targets_text, route_text, entry_text, step_text, steps_text, said_text, verdict_text, verdicts_text, end_text, text_of};
+ghost use Rattle.cv.specs.Text.{target_text, targets_text, route_text, entry_text, step_text, steps_text, said_text, verdict_text, verdicts_text, refused_text, lexis_text, grammar_text, fault_text, end_text, text_of};
 
-use crate::report::{Report, Status, Step, Verdict, Which};
+use crate::report::{FileFault, Report, Status, Step, Verdict, Which};
 use cv_direct::{Entry, Route};
+use cv_lex::LexError;
+use cv_parse::ParseError;
 use cv_print::{push_decimal, push_game, push_term};
 use cv_syntax::{Names, NodeId, Pool, read_node};
 use std::alloc::{AllocError, Global};
@@ -190,6 +192,51 @@ fn push_verdicts(out: &mut Vec<u8>, verdicts: &[Verdict]) -> Result<(), AllocErr
     Ok(())
 }
 
+/// Appends the end line of a file that is refused: what is wrong, and where.
+fn push_refused(out: &mut Vec<u8>, what: &[u8], place: u32) -> Result<(), AllocError>
+    ensures { OnOk result (out.new.items ≡ out.old.items ++ refused_text what.now place) }
+{
+    out.extend_from_slice(b"end 2 file refused: ")?;
+    out.extend_from_slice(what)?;
+    push_decimal(out, place as u64)?;
+    out.extend_from_slice(b"\n")
+}
+
+/// Appends the end line of bytes without tokens.
+fn push_lexis(out: &mut Vec<u8>, fault: LexError) -> Result<(), AllocError>
+    ensures { OnOk result (out.new.items ≡ out.old.items ++ lexis_text fault) }
+{
+    match fault {
+        LexError::Char(byte) => push_refused(out, b"char at byte ", byte),
+        LexError::CommentOpen(byte) => push_refused(out, b"comment at byte ", byte),
+        LexError::NumberWide(byte) => push_refused(out, b"number at byte ", byte),
+        LexError::OutOfMemory => out.extend_from_slice(b"end 6 memory\n"),
+    }
+}
+
+/// Appends the end line of tokens that are no file.
+fn push_grammar(out: &mut Vec<u8>, fault: ParseError) -> Result<(), AllocError>
+    ensures { OnOk result (out.new.items ≡ out.old.items ++ grammar_text fault) }
+{
+    match fault {
+        ParseError::Syntax(token) => push_refused(out, b"syntax at token ", token),
+        ParseError::Nesting(token) => push_refused(out, b"nesting at token ", token),
+        ParseError::NameTwice(token) => push_refused(out, b"name twice at token ", token),
+        ParseError::NameUnknown(token) => push_refused(out, b"name unknown at token ", token),
+        ParseError::Build(_) => out.extend_from_slice(b"end 6 memory\n"),
+    }
+}
+
+/// Appends the end line of bytes that are no file.
+fn push_fault(out: &mut Vec<u8>, fault: FileFault) -> Result<(), AllocError>
+    ensures { OnOk result (out.new.items ≡ out.old.items ++ fault_text fault) }
+{
+    match fault {
+        FileFault::Lex(fault) => push_lexis(out, fault),
+        FileFault::Parse(fault) => push_grammar(out, fault),
+    }
+}
+
 /// Appends the end line.
 fn push_end(out: &mut Vec<u8>, status: Status) -> Result<(), AllocError>
     ensures { OnOk result (out.new.items ≡ out.old.items ++ end_text status) }
@@ -197,11 +244,14 @@ fn push_end(out: &mut Vec<u8>, status: Status) -> Result<(), AllocError>
     match status {
         Status::Proved => out.extend_from_slice(b"end 0 proved\n"),
         Status::Open(_) => out.extend_from_slice(b"end 1 open: stuck\n"),
+        Status::FileRefused(fault) => push_fault(out, fault),
         Status::Words => out.extend_from_slice(b"end 3 words\n"),
         Status::Read => out.extend_from_slice(b"end 4 read\n"),
         Status::Write => out.extend_from_slice(b"end 5 write\n"),
         Status::Memory => out.extend_from_slice(b"end 6 memory\n"),
         Status::Limit(Which::File) => out.extend_from_slice(b"end 7 limit: file\n"),
+        Status::Limit(Which::Nodes { count: _ }) => out.extend_from_slice(b"end 7 limit: nodes\n"),
+        Status::Limit(Which::Depth { depth: _ }) => out.extend_from_slice(b"end 7 limit: depth\n"),
         Status::Limit(Which::Steps) => out.extend_from_slice(b"end 7 limit: steps\n"),
         Status::Limit(Which::Pool { need: _ }) => out.extend_from_slice(b"end 7 limit: pool\n"),
         Status::Unbuilt => out.extend_from_slice(b"end 8 unbuilt\n"),

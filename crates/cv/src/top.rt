@@ -1,10 +1,10 @@
-ghost use Rattle.std.specs.Prelude.{◌≡◌, ◌≢◌, ◌<◌, ◌≤◌, ◌++◌, ◌∷◌, ◌↔◌, ◌⊎◌, [], ℕ, None, Some, map, length, IsNone, IfSome, IsSomeAnd, IsSome, MatchOption, OnOk, OnErr, string_bytes};
+ghost use Rattle.std.specs.Prelude.{◌≡◌, ◌≢◌, ◌<◌, ◌≤◌, ◌++◌, ◌∷◌, ◌↔◌, ◌⊎◌, [], ℕ, None, Some, Ok, map, length, IsNone, IfSome, IsSomeAnd, IsSome, MatchOption, OnOk, OnErr, string_bytes};
 ghost use Rattle.cv_outside.specs.Causes.{Rose};
 ghost use Rattle.cv_outside.specs.Told.{bytes_of};
-ghost use Rattle.cv_files.specs.Accepted.{file_of};
+ghost use Rattle.cv_files.specs.Accepted.{read_of};
 ghost use Rattle.cv_files.specs.Works.{content_at};
 ghost use Rattle.cv.specs.Fetched.{fetch_ended};
-ghost use Rattle.cv.specs.Strategy.{EndsWell, FollowsStrategy, HasFile, IsGood, IsSound, Judged, SaysNothing, SpeaksOfFile};
+ghost use Rattle.cv.specs.Strategy.{EndsWell, FollowsStrategy, HasFile, IsGood, IsSound, Judged, SaysNothing, SpeaksOfFile, most_pool};
 ghost use Rattle.cv.specs.Text.{text_of};
 ghost use Rattle.cv.specs.Words.{command_of, file_named};
 ghost use Rattle.cv.specs.Writing.{TakesFront, TakesAll};
@@ -39,7 +39,7 @@ fn status_of(fault: FetchError) -> Status
 fn prove<F: Shelf>(alloc: Global, name: &str, shelf: &mut F) -> Report
     ensures sound { IsSound result }
     ensures command { result.command ≡ Command.Prove 32 }
-    ensures file { IfSome result.file (λ f. IfSome (F.told shelf.old) (λ files. file_of (bytes_of files name.now) ≡ Some (content_at result.work f.game.root))) }
+    ensures file { IfSome result.file (λ f. IfSome (F.told shelf.old) (λ files. read_of most_pool (bytes_of files name.now) ≡ Ok (content_at result.work f.game.root))) }
     ensures live { IfSome result.file (λ f. f.game.root.0 < length result.work.pool.trees) }
     ensures follows { MatchOption result.file (SaysNothing result) (FollowsStrategy result) }
     ensures given { IsSome result.file ↔ HasFile result.status }
@@ -69,7 +69,7 @@ fn prove<F: Shelf>(alloc: Global, name: &str, shelf: &mut F) -> Report
 fn decide<F: Shelf>(alloc: Global, words: &[String], shelf: &mut F) -> Report
     ensures sound { IsSound result }
     ensures command { result.command ≡ command_of (file_named (map string_bytes words.now)) }
-    ensures file { IfSome result.file (λ f. IfSome (file_named (map string_bytes words.now)) (λ name. IfSome (F.told shelf.old) (λ files. file_of (bytes_of files name) ≡ Some (content_at result.work f.game.root)))) }
+    ensures file { IfSome result.file (λ f. IfSome (file_named (map string_bytes words.now)) (λ name. IfSome (F.told shelf.old) (λ files. read_of most_pool (bytes_of files name) ≡ Ok (content_at result.work f.game.root)))) }
     ensures live { IfSome result.file (λ f. f.game.root.0 < length result.work.pool.trees) }
     ensures follows { MatchOption result.file (SaysNothing result) (FollowsStrategy result) }
     ensures given { IsSome result.file ↔ HasFile result.status }
@@ -124,16 +124,16 @@ pub fn run<F: Shelf, K: Sink>(
     // The command is the one that the words give.
     ensures command { result.report.command ≡ command_of (file_named (map string_bytes words.now)) }
     // Where the shelf tells its files, the report's file is the reading of the bytes under the given name.
-    ensures file { IfSome result.report.file (λ f. IfSome (file_named (map string_bytes words.now)) (λ name. IfSome (F.told shelf.old) (λ files. file_of (bytes_of files name) ≡ Some (content_at result.report.work f.game.root)))) }
+    ensures file { IfSome result.report.file (λ f. IfSome (file_named (map string_bytes words.now)) (λ name. IfSome (F.told shelf.old) (λ files. read_of most_pool (bytes_of files name) ≡ Ok (content_at result.report.work f.game.root)))) }
 
     // Its steps and verdicts are those of the plain strategy; without a file there are none.
     ensures follows { MatchOption result.report.file (SaysNothing result.report) (FollowsStrategy result.report) }
     ensures given { IsSome result.report.file ↔ HasFile result.report.status }
 
-    // A file whose queries are all closed by the events above is proved, unless a fault, memory or the pool's limit comes.
+    // A file within the limits whose queries are all closed by the events above is proved, unless a fault or want of memory comes.
     ensures good { IfSome (file_named (map string_bytes words.now)) (λ name. IfSome (F.told shelf.old) (λ files. IsGood (bytes_of files name) → length (bytes_of files name) ≤ 1048576 → (Rose (F.faults shelf.old) (F.faults shelf.new) → ⊥) → (Rose (K.faults sink.old) (K.faults sink.new) → ⊥) → EndsWell result.status)) }
 
-    // What is said of a file is what its bytes call for, and it is said unless a fault, memory or a limit comes.
+    // What is said of a file is what its bytes call for, and it is said unless a fault or want of memory comes.
     ensures said { SpeaksOfFile result.report.status → IfSome (file_named (map string_bytes words.now)) (λ name. IfSome (F.told shelf.old) (λ files. Judged result.report.status (bytes_of files name))) }
     ensures complete { IfSome (file_named (map string_bytes words.now)) (λ name. IfSome (F.told shelf.old) (λ files. length (bytes_of files name) ≤ 1048576 → (Rose (F.faults shelf.old) (F.faults shelf.new) → ⊥) → Judged result.report.status (bytes_of files name))) }
 

@@ -1,13 +1,5 @@
-pub mod Acceptance
-pub mod Admissions
-pub mod Bridges
-pub mod Buildings
-pub mod Declarings
-pub mod Fillings
-pub mod Namings
-pub mod Relations
+pub mod Readings
 pub mod Removals
 pub mod Signatures
 pub mod Sited
-pub mod Spellings
 pub mod Typings

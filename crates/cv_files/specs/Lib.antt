@@ -1,10 +1,8 @@
 pub mod Accepted
 pub mod Cells
 pub mod Faults
-pub mod Naming
 pub mod Plain
 pub mod Sites
-pub mod Stages
 pub mod Typing
 pub mod Updates
 pub mod Works

@@ -155,16 +155,6 @@ is_of_name Free = false
 is_of_name EquivName = false
 is_of_name c = true
 
-abbrev pub is_free : Class → Bool
-is_free Free = true
-is_free c = false
-
--- In this form a name that isn't declared yet is declared, or a query.
-abbrev pub is_new : List Declaration → Declaration → Bool
-is_new ds (Named id c args result) = is_of_name c && is_free (class_of ds id)
-is_new ds (Query (Node h a b)) = true
-is_new ds d = false
-
 unfoldable pub queries_in : List Declaration → List Tree
 queries_in [] = []
 queries_in (Query t ∷ ds) = t ∷ queries_in ds
@@ -173,8 +163,3 @@ queries_in (d ∷ ds) = queries_in ds
 -- each query fits
 abbrev pub queries_fit : Signature → List Tree → Bool
 queries_fit s qs = list_all (query_fits s) qs
-
--- each declaration is new among those before it
-unfoldable pub are_new : List Declaration → List Declaration → Bool
-are_new before [] = true
-are_new before (d ∷ ds) = is_new before d && are_new (before ++ d ∷ []) ds

@@ -1,10 +1,13 @@
 -- What a work holds.
-use Rattle.std.specs.Prelude.{◌≡◌, true, Some}
+use Rattle.std.specs.Prelude.{◌≡◌, ℕ, ◌≤◌, true, List, Some, Result, Ok, Err}
 use Rattle.cv_pool.specs.declared.node.NodeId.{NodeId}
+use Rattle.cv_syntax.specs.declared.work.File.{File}
 use Rattle.cv_syntax.specs.declared.work.Work.{Work}
 use Rattle.cv_syntax.specs.Declarations.{declarations}
-use Rattle.cv_syntax.specs.Tree.{tree_at}
-use Rattle.cv_files.specs.Accepted.{Content, is_small}
+use Rattle.cv_syntax.specs.Tree.{depth, size, tree_at}
+use Rattle.cv_parse.specs.Parsed.{most_depth, most_nodes}
+use Rattle.cv_files.specs.declared.error.FileError.{FileError}
+use Rattle.cv_files.specs.Accepted.{Content, Refuses, read_of}
 use Rattle.cv_files.specs.Sites.{are_of_one_type, sites_of}
 use Rattle.cv_files.specs.Typing.{no_variable, signature_of, process_fits, queries_fit, queries_in}
 
@@ -12,10 +15,16 @@ use Rattle.cv_files.specs.Typing.{no_variable, signature_of, process_fits, queri
 abbrev pub content_at : Work → NodeId → Content
 content_at w root = record { names = w.names; declarations = declarations w.pool.trees w.decls.list; game = tree_at w.pool.trees (Some root) }
 
+-- what was read is what the bytes hold, and an error is the one that they are refused for
+abbrev pub Reads : (limit : ℕ) → List ℕ → Work → Result File FileError → Type 0
+Reads limit bytes w (Ok f) = read_of limit bytes ≡ Ok (content_at w f.game.root)
+Reads limit bytes w (Err e) = Refuses e (read_of limit bytes)
+
 -- a file's game is no larger than a game may be, and it and the queries are typed and in scope, with one
 -- type for each variable
 pub record IsAccepted (f : Content) : Type 0 where
-  pub small : is_small f.game ≡ true
+  pub small : size f.game ≤ most_nodes
+  pub shallow : depth f.game ≤ most_depth
   pub process : process_fits (signature_of f.declarations) f.game ≡ true
   pub sites : are_of_one_type no_variable (sites_of f.game) ≡ true
   pub queries : queries_fit (signature_of f.declarations) (queries_in f.declarations) ≡ true

@@ -1,15 +1,17 @@
 use cv_lex::LexError;
-use cv_parse::ReadError;
-use cv_syntax::PoolError;
+use cv_parse::ParseError;
+use cv_syntax::BuildError;
 use std::alloc::AllocError;
 
 /// Why bytes aren't taken as a file.
 #[derive(Clone, Copy, Debug, PartialEq, Eq)]
 pub enum FileError {
-    /// They are no file of the form that is built.
-    Unaccepted,
-    /// The pool has no room for so many nodes more.
-    Full { need: u32 },
+    /// They have no tokens.
+    Lex(LexError),
+    /// Their tokens are no file.
+    Parse(ParseError),
+    /// They are a file that isn't of the form that is built.
+    Unbuilt,
     OutOfMemory,
 }
 
@@ -33,37 +35,21 @@ impl From<LexError> for FileError {
     fn from(fault: LexError) -> FileError {
         match fault {
             LexError::OutOfMemory => FileError::OutOfMemory,
-            LexError::Char(_) | LexError::CommentOpen(_) | LexError::NumberWide(_) => {
-                FileError::Unaccepted
-            }
+            other => FileError::Lex(other),
         }
     }
 }
 
-impl From<ReadError> for FileError {
-    ghost use Rattle.cv_files.specs.Faults.{of_read};
+impl From<ParseError> for FileError {
+    ghost use Rattle.cv_files.specs.Faults.{of_parse};
     ghost use Rattle.std.specs.Prelude.{◌≡◌};
 
-    ghost from_gives = { λ fault e. e ≡ of_read fault };
+    ghost from_gives = { λ fault e. e ≡ of_parse fault };
 
-    fn from(fault: ReadError) -> FileError {
+    fn from(fault: ParseError) -> FileError {
         match fault {
-            ReadError::OutOfMemory => FileError::OutOfMemory,
-            ReadError::Syntax(_) | ReadError::Nesting(_) => FileError::Unaccepted,
-        }
-    }
-}
-
-impl From<PoolError> for FileError {
-    ghost use Rattle.cv_files.specs.Faults.{of_pool};
-    ghost use Rattle.std.specs.Prelude.{◌≡◌};
-
-    ghost from_gives = { λ fault e. e ≡ of_pool fault };
-
-    fn from(fault: PoolError) -> FileError {
-        match fault {
-            PoolError::Full { need } => FileError::Full { need },
-            PoolError::OutOfMemory => FileError::OutOfMemory,
+            ParseError::Build(BuildError::OutOfMemory) => FileError::OutOfMemory,
+            other => FileError::Parse(other),
         }
     }
 }

@@ -1,4 +1,5 @@
 pub mod Builds
 pub mod Declarings
+pub mod Exactness
 pub mod Parsings
 pub mod Weighing

@@ -5,7 +5,9 @@ mod building;
 mod declaring;
 mod error;
 mod file;
+mod laws;
 mod weights;
 
 pub use error::ParseError;
 pub use file::file;
+pub use laws::parsing_is_exact;

@@ -2,7 +2,7 @@ use Rattle.std.proofs.Common.{◌≡◌, ap, sym, subst, ◌∙◌, Some}
 use Rattle.cv_syntax.specs.Declarations.{declarations}
 use Rattle.cv_syntax.specs.Tree.{Tree, tree_at}
 use Rattle.cv_files.specs.Typing.{queries_in}
-use Rattle.cv_files.proofs.Acceptance.{accepted}
+use Rattle.cv_files.proofs.Readings.{accepted}
 use Rattle.cv_files.proofs.Signatures.{queries-same}
 use Rattle.cv.specs.Findings.{said}
 use Rattle.cv.specs.Strategy.{Said, expected, nothing_said, said_of, status_of}
@@ -17,7 +17,7 @@ returns-in-Ok-answer-clause-sound c = λ k query s e h i _ a.
     let trees = c.read.new.work.pool.trees in
     let ds = declarations trees c.read.new.work.decls.list in
     let game : Tree = tree_at trees (Some c.in-Ok.file.game.root) in
-    let f = accepted c.args.bytes.now _ c.in-Ok.ensures.ok in
+    let f = accepted most_pool c.args.bytes.now _ (reads_in c.requires.limit c.in-Ok.ensures.reads) in
     let same = c.in-Ok-answer.ensures ∙ ap (said_of game nothing_said) (sym (queries-same trees c.read.new.work.decls.list)) in
     let sound = said_sound game nothing_said (queries_in ds) in
     sound_at ds game (queries_in ds) c.in-Ok-answer.found.verdicts.items f.process f.queries (subst (AreSound game (queries_in ds)) (sym (ap (λ (t : Said). t.verdicts) same ∙ sound.1)) sound.2) k query s e h i a

@@ -1,5 +1,5 @@
-use Rattle.cv_files.proofs.Acceptance.{accepted}
+use Rattle.cv_files.proofs.Readings.{accepted}
 use Rattle.cv_files.proofs.laws.accepted_is_typed.Goals as goal
 
 pub returns : goal.returns
-returns c = accepted
+returns c = λ limit bytes f e. accepted limit bytes f e

@@ -1,0 +1,125 @@
+-- From bytes to what they hold, or what they are refused for.
+use Rattle.std.proofs.Common.{◌≡◌, ℕ, suc, ◌+◌, ◌≤◌, true, false, Bool, ◌&&◌, is_none, if◌then◌else◌, List, [], ◌∷◌, length, refl, ap, subst, sym, ◌∙◌, arith, Option, Some, None, Result, Ok, Err, All}
+use Rattle.std.specs.List.{list_all}
+use Rattle.cv_lex.specs.declared.LexError.{LexError}
+use Rattle.cv_lex.specs.declared.LexError.TheVariants as lex
+use Rattle.cv_lex.specs.Lexis.{Token, Lexed, tokens_of, Fails}
+use Rattle.cv_lex.proofs.Exact.{computed, said}
+use Rattle.cv_grammar.specs.declared.sign.Sign.{Sign}
+use Rattle.cv_pool.specs.KindTree.{KindTree}
+use Rattle.cv_syntax.specs.declared.decls.Decl.{Decl}
+use Rattle.cv_syntax.specs.declared.decls.Decl.TheVariants as decl
+use Rattle.cv_syntax.specs.declared.work.BuildError.TheVariants as build
+use Rattle.cv_syntax.specs.declared.work.File.{File}
+use Rattle.cv_syntax.specs.declared.work.Work.{Work}
+use Rattle.cv_syntax.specs.Declarations.{declarations}
+use Rattle.cv_signs.specs.Signs.{signs_of}
+use Rattle.cv_parse.specs.declared.error.ParseError.{ParseError}
+use Rattle.cv_parse.specs.declared.error.ParseError.TheVariants as parse
+use Rattle.cv_parse.specs.Declaring.{IsBelow}
+use Rattle.cv_parse.specs.Parsed.{Parsed, held_in, parsed}
+use Rattle.cv_parse.specs.Parsed as parsing
+use Rattle.cv_parse.proofs.Exactness.{said_is_saying, says_is_said}
+use Rattle.cv_files.specs.declared.error.FileError.{FileError}
+use Rattle.cv_files.specs.declared.error.FileError.TheVariants.{Lex, Parse, Unbuilt, OutOfMemory}
+use Rattle.cv_files.specs.Accepted.{Content, IsFile, Refuses, content_of, game_fits, is_built, is_plain, is_typed, of_form, of_parsed, of_tokens, read_of}
+use Rattle.cv_files.specs.Faults.{of_lex, of_parse}
+use Rattle.cv_files.specs.Plain.{IsPlain, is_plain_decl}
+use Rattle.cv_files.specs.Sites.{are_of_one_type, sites_of}
+use Rattle.cv_files.specs.Typing.{is_of_name, no_variable, process_fits, queries_fit, queries_in, signature_of}
+use Rattle.cv_files.specs.Works.{IsAccepted, content_at}
+
+-- what tokens make of bytes
+by_tokens : (limit : ℕ) (bs : List ℕ) (ts : List Token) → tokens_of bs ≡ Ok ts → read_of limit bs ≡ of_parsed (signs_of ts).names (parsed limit (signs_of ts).signs)
+unfolding read_of
+by_tokens limit bs ts e = ap (of_tokens limit) e
+
+-- no tokens
+pub lexis_refuses : (limit : ℕ) (bs : List ℕ) (e : LexError) → Fails e (tokens_of bs) → Refuses (of_lex e) (read_of limit bs)
+unfolding read_of
+lexis_refuses limit bs lex.OutOfMemory f = tt
+lexis_refuses limit bs (lex.Char k) f = ap (of_tokens limit) f
+lexis_refuses limit bs (lex.CommentOpen k) f = ap (of_tokens limit) f
+lexis_refuses limit bs (lex.NumberWide k) f = ap (of_tokens limit) f
+
+-- no file
+pub grammar_refuses : (limit : ℕ) (bs : List ℕ) (ts : List Token) (e : ParseError) → tokens_of bs ≡ Ok ts → parsing.Refuses e (parsed limit (signs_of ts).signs) → Refuses (of_parse e) (read_of limit bs)
+grammar_refuses limit bs ts (parse.Syntax k) t h = by_tokens limit bs ts t ∙ ap (of_parsed (signs_of ts).names) h
+grammar_refuses limit bs ts (parse.Nesting k) t h = by_tokens limit bs ts t ∙ ap (of_parsed (signs_of ts).names) h
+grammar_refuses limit bs ts (parse.NameTwice k) t h = by_tokens limit bs ts t ∙ ap (of_parsed (signs_of ts).names) h
+grammar_refuses limit bs ts (parse.NameUnknown k) t h = by_tokens limit bs ts t ∙ ap (of_parsed (signs_of ts).names) h
+grammar_refuses limit bs ts (parse.Build (build.Full n)) t h = by_tokens limit bs ts t ∙ ap (of_parsed (signs_of ts).names) h
+grammar_refuses limit bs ts (parse.Build (build.Nodes n)) t h = by_tokens limit bs ts t ∙ ap (of_parsed (signs_of ts).names) h
+grammar_refuses limit bs ts (parse.Build (build.Depth n)) t h = by_tokens limit bs ts t ∙ ap (of_parsed (signs_of ts).names) h
+grammar_refuses limit bs ts (parse.Build build.OutOfMemory) t h = tt
+
+-- the form that is built, or not
+
+pub form_refuses : (limit : ℕ) (bs : List ℕ) (ts : List Token) (p : Parsed) → tokens_of bs ≡ Ok ts → parsed limit (signs_of ts).signs ≡ Ok p → is_built p ≡ false → read_of limit bs ≡ Err Unbuilt
+form_refuses limit bs ts p t h b = by_tokens limit bs ts t ∙ (ap (of_parsed (signs_of ts).names) h ∙ ap (λ x. if x then Ok (content_of (signs_of ts).names p) else Err Unbuilt) b)
+
+pub form_reads : (limit : ℕ) (bs : List ℕ) (ts : List Token) (w : Work) (f : File) → tokens_of bs ≡ Ok ts → (signs_of ts).names ≡ w.names → parsed limit (signs_of ts).signs ≡ Ok (held_in w.pool.trees w.decls.list f) → is_built (held_in w.pool.trees w.decls.list f) ≡ true → read_of limit bs ≡ Ok (content_at w f.game.root)
+form_reads limit bs ts w f t n h b =
+    by_tokens limit bs ts t
+    ∙ (ap (of_parsed (signs_of ts).names) h
+    ∙ (ap (λ x. if x then Ok (content_of (signs_of ts).names (held_in w.pool.trees w.decls.list f)) else Err Unbuilt) b
+    ∙ ap (λ ns. Ok (content_of ns (held_in w.pool.trees w.decls.list f))) n))
+
+-- what is known of a file that is accepted
+
+and_left : (a b : Bool) → (a && b) ≡ true → a ≡ true
+and_left true b e = refl
+and_left false b e = absurd (cc)
+
+and_right : (a b : Bool) → (a && b) ≡ true → b ≡ true
+and_right true b e = e
+and_right false b e = absurd (cc)
+
+ok_if : (b : Bool) (c f : Content) → (if b then Ok c else Err Unbuilt) ≡ Ok f → (b ≡ true) × (c ≡ f)
+ok_if true c f e = (refl, cc)
+ok_if false c f e = absurd (cc)
+
+from_parsed : (limit : ℕ) (bs : List ℕ) (ts : List Token) (f : Content) (r : Result Parsed ParseError) → Lexed 0 bs (Ok ts) → parsed limit (signs_of ts).signs ≡ r → of_parsed (signs_of ts).names r ≡ Ok f → IsFile limit bs f
+from_parsed limit bs ts f (Ok p) l e i =
+    let b = ok_if (is_built p) (content_of (signs_of ts).names p) f i in
+    record { tokens = ts; said = p; lexed = l; says = said_is_saying limit (signs_of ts).signs p e; built = b.0; content = sym b.1 }
+from_parsed limit bs ts f (Err x) l e i = absurd (cc)
+
+from_tokens : (limit : ℕ) (bs : List ℕ) (f : Content) (r : Result (List Token) LexError) → Lexed 0 bs r → of_tokens limit r ≡ Ok f → IsFile limit bs f
+from_tokens limit bs f (Ok ts) l i = from_parsed limit bs ts f (parsed limit (signs_of ts).signs) l refl i
+from_tokens limit bs f (Err x) l i = absurd (cc)
+
+pub read_is_file : (limit : ℕ) (bs : List ℕ) (f : Content) → read_of limit bs ≡ Ok f → IsFile limit bs f
+unfolding read_of
+read_is_file limit bs f e = from_tokens limit bs f (tokens_of bs) (computed (suc (length bs)) 0 bs (omega arith)) e
+
+pub file_is_read : (limit : ℕ) (bs : List ℕ) (f : Content) → IsFile limit bs f → read_of limit bs ≡ Ok f
+unfolding read_of
+file_is_read limit bs f w =
+    ap (of_tokens limit) (said bs (Ok w.tokens) w.lexed)
+    ∙ (ap (of_parsed (signs_of w.tokens).names) (says_is_said limit (signs_of w.tokens).signs w.said w.says)
+    ∙ (ap (λ b. if b then Ok (content_of (signs_of w.tokens).names w.said) else Err Unbuilt) w.built ∙ ap Ok (sym w.content)))
+
+pub accepted : (limit : ℕ) (bs : List ℕ) (f : Content) → read_of limit bs ≡ Ok f → IsAccepted f
+accepted limit bs f e =
+    let w = read_is_file limit bs f e in
+    let p = w.said in
+    let s = signature_of p.declarations in
+    let typed = and_right (list_all is_plain p.declarations) (is_typed p.declarations p.game) (and_right (is_none p.script) (list_all is_plain p.declarations && is_typed p.declarations p.game) w.built) in
+    let game = and_left (game_fits s p.game) (queries_fit s (queries_in p.declarations)) typed in
+    subst IsAccepted (sym w.content) (record {
+      small = w.says.small;
+      shallow = w.says.shallow;
+      process = and_left (process_fits s p.game) (are_of_one_type no_variable (sites_of p.game)) game;
+      sites = and_right (process_fits s p.game) (are_of_one_type no_variable (sites_of p.game)) game;
+      queries = and_right (game_fits s p.game) (queries_fit s (queries_in p.declarations)) typed;
+    })
+
+-- plain declarations
+
+pub plain_same : (trees : List KindTree) (ds : List Decl) → list_all is_plain_decl ds ≡ list_all is_plain (declarations trees ds)
+plain_same trees [] = refl
+plain_same trees (decl.Name id c args result ∷ ds) = ap (λ b. is_of_name c && b) (plain_same trees ds)
+plain_same trees (decl.Equation n ∷ ds) = refl
+plain_same trees (decl.Equiv id n ∷ ds) = refl
+plain_same trees (decl.Query n ∷ ds) = plain_same trees ds

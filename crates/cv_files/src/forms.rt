@@ -1,0 +1,63 @@
+ghost use Rattle.std.specs.Prelude.{◌≡◌, ◌<◌, ◌&&◌, IfOk, All, Some, true, length};
+ghost use Rattle.std.specs.List.{list_all};
+ghost use Rattle.cv_parse.specs.Declaring.{IsBelow};
+ghost use Rattle.cv_parse.specs.Parsed.{held_in};
+ghost use Rattle.cv_syntax.specs.Declarations.{declarations};
+ghost use Rattle.cv_files.specs.Accepted.{is_built as built, is_plain as plain};
+ghost use Rattle.cv_files.specs.Plain.{IsPlain, is_plain_decl};
+ghost use Rattle.cv_files.specs.Typing as typing;
+
+use crate::typing::is_typed;
+use cv_syntax::{Class, Decl, Decls, File, Pool};
+use std::alloc::{AllocError, Global};
+
+/// Whether a declared name may have this class.
+fn is_of_name(class: Class) -> bool
+    ensures { result ≡ typing.is_of_name class }
+{
+    !matches!(class, Class::Free | Class::Equiv)
+}
+
+/// Whether a declaration is of a name, or is a query.
+fn is_plain(decl: &Decl) -> bool
+    ensures { result ≡ is_plain_decl decl.now }
+{
+    match decl {
+        Decl::Name { class, .. } => is_of_name(*class),
+        Decl::Equation(_) | Decl::Equiv { .. } => false,
+        Decl::Query(_) => true,
+    }
+}
+
+/// Whether a file declares names and queries alone.
+fn are_plain(decls: &Decls) -> bool
+    ensures { result ≡ list_all is_plain_decl decls.now.list }
+{
+    'decls: for k in 0..decls.len() {
+        let Some(decl) = decls.get(k) else {
+            return true;
+        };
+        if !is_plain(decl) {
+            return false;
+        }
+    }
+    true
+}
+
+/// Whether a file is of the form that is built.
+pub fn is_built(
+    alloc: Global,
+    pool: &Pool,
+    decls: &Decls,
+    file: &File,
+) -> Result<bool, AllocError>
+    requires live { file.now.game.root.0 < length pool.now.trees }
+    requires below { All (IsBelow (length pool.now.trees)) decls.now.list }
+    ensures built { IfOk result (λ yes. yes ≡ built (held_in pool.now.trees decls.now.list file.now)) }
+    ensures plain { IfOk result (λ yes. yes ≡ true → All (IsPlain (length pool.now.trees)) decls.now.list) }
+{
+    if file.script.is_some() || !are_plain(decls) {
+        return Ok(false);
+    }
+    is_typed(alloc, pool, decls, file.game.root)
+}
