@@ -1,22 +1,23 @@
 -- Declarations, one after another.
 use Rattle.std.proofs.Common.{◌≡◌, ℕ, zero, suc, ◌+◌, ◌<◌, ◌≤◌, ◌==◌, if◌then◌else◌, Bool, true, false, ◌||◌, List, [], ◌∷◌, ◌++◌, length, drop, get_or, append_assoc, append-nil, length-append, subst, refl, ap, ap₂, sym, ◌∙◌, arith, Option, Some, None, eqb-true, eq-eqb}
-use Rattle.std.specs.Prelude.{flat_map}
+use Rattle.std.specs.Prelude.{flat_map, option_map}
 use Rattle.std.specs.List.{AllByRecursion, list_any}
 use Rattle.cv_syntax.specs.declared.decls.Class.{Class}
 use Rattle.cv_syntax.specs.declared.decls.Class.TheVariants as class
 use Rattle.cv_syntax.specs.declared.decls.Decl.{Decl}
 use Rattle.cv_syntax.specs.declared.decls.Decl.TheVariants as decl
 use Rattle.cv_syntax.specs.Classes.{IsNamed, IsNew, declaration_in, id_of, is_number}
+use Rattle.cv_names.specs.declared.names.NameId.{NameId}
 use Rattle.cv_pool.specs.declared.node.NodeId.{NodeId}
 use Rattle.cv_rules.specs.Identities.{AreDistinct, is_among}
 use Rattle.cv_read_declarations.specs.declared.heard.Heard.{Heard}
 use Rattle.cv_read_declarations.specs.declared.heard.Heard.TheVariants as heard
 use Rattle.cv_read_declarations.specs.Declares.{is_of_name}
-use Rattle.cv_parse.specs.Declaring.{IsNameable, all_decls, decl_of, names_by, names_of}
+use Rattle.cv_parse.specs.Declaring.{IsNameable, all_decls, decl_of, named_by, names_by, names_of}
 
 -- a declaration is of a name as far as it was heard so
 
-named_class : (id : _) (c : Class) (args : _) (result : _) → is_of_name c ≡ true → IsNamed (decl.Name id c args result)
+named_class : (id : NameId) (c : Class) (args : Option NodeId) (result : Option NameId) → is_of_name c ≡ true → IsNamed (decl.Name id c args result)
 named_class id class.Free args result e = absurd (let g : false ≡ true = e in cc)
 named_class id class.Equiv args result e = absurd (let g : false ≡ true = e in cc)
 named_class id (class.TypeName a b) args result e = tt
@@ -27,7 +28,7 @@ named_class id class.Event args result e = tt
 named_class id class.Proba args result e = tt
 
 pub is_named : (h : Heard) (r : Option NodeId) → IsNameable h → IsNamed (decl_of h r)
-is_named (heard.Named id c sort) r e = named_class _ c r _ e
+is_named (heard.Named id c sort) r e = named_class (named_by id) c r (option_map named_by sort) e
 is_named heard.Equation r e = tt
 is_named (heard.Equiv id) r e = tt
 is_named heard.Query r e = tt

@@ -1,7 +1,10 @@
 -- From the stages of reading a file to what it says, or what it is refused for.
 use Rattle.std.proofs.Common.{◌≡◌, ℕ, zero, suc, ◌+◌, ◌-◌, ◌<◌, ◌≤◌, true, false, Bool, nat_lt, if◌then◌else◌, List, [], ◌∷◌, ◌++◌, length, refl, ap, ap₂, subst, sym, ◌∙◌, arith, Option, Some, None, Result, Ok, Err}
+use Rattle.std.proofs.lemmas.Bool.Decides.{nat_tests}
+use Rattle.std.specs.Prelude.{IsErrAnd}
 use Rattle.cv_pool.specs.KindTree.{KindTree}
 use Rattle.cv_syntax.specs.declared.decls.Decl.{Decl}
+use Rattle.cv_syntax.specs.Declarations.{Declaration}
 use Rattle.cv_syntax.specs.declared.make.Make.{Make}
 use Rattle.cv_syntax.specs.declared.work.BuildError.TheVariants as build
 use Rattle.cv_syntax.specs.declared.work.File.{File}
@@ -18,6 +21,7 @@ use Rattle.cv_rules.specs.Whole.{built_in, content_of, outcome, outcome_of, unle
 use Rattle.cv_rules.proofs.Identities.{ids_are_distinct}
 use Rattle.cv_rules.proofs.Outcome.{accepted_is_read}
 use Rattle.cv_read.specs.declared.reading.ReadError.{ReadError}
+use Rattle.cv_read.specs.declared.trail.NameUse.{NameUse}
 use Rattle.cv_read.specs.declared.reading.ReadError.TheVariants as reading
 use Rattle.cv_read.specs.Gives.{Fails, uses_of}
 use Rattle.cv_read_file.specs.declared.file.Reading.{Reading}
@@ -26,9 +30,17 @@ use Rattle.cv_parse.specs.declared.error.ParseError.{ParseError}
 use Rattle.cv_parse.specs.declared.error.ParseError.TheVariants.{Syntax, Nesting, NameTwice, NameUnknown, Build}
 use Rattle.cv_parse.specs.Building.{Builds, Crowds, IsBuilt, Misnames}
 use Rattle.cv_parse.specs.Faults.{of_read}
-use Rattle.cv_parse.specs.Parsed.{Parsed, Refuses, bool_type, held_in, limited, most_depth, most_nodes, of_name, of_outcome, parsed, range_of, roomed, said, sized, sized_first, weight_of}
+use Rattle.cv_parse.specs.Parsed.{Parsed, ParsesIn, Refuses, bool_type, held_in, limited, most_depth, most_nodes, of_name, of_outcome, parsed, range_of, roomed, said, sized, sized_first, weight_of}
 use Rattle.cv_parse.specs.Weights.{asked, capped, declared_weight, parts_weight, tree_weight}
 use Rattle.cv_parse.proofs.Weighing.{declared-weight, tree-weight, weight-both}
+
+told_again : {ds es : List Declaration} {s r : Option (ℕ × ℕ)} {t u : Tree} → ds ≡ es → s ≡ r → t ≡ u → (let x : Result Parsed ParseError = Ok (record { declarations = ds; script = s; game = t }) in x) ≡ Ok (record { declarations = es; script = r; game = u })
+told_again {es = es} {s = s} {r = r} {t = t} e f g = ap (λ ds. let x : Result Parsed ParseError = Ok (record { declarations = ds; script = s; game = t }) in x) e ∙ ap₂ (λ p q. Ok (record { declarations = es; script = p; game = q })) f g
+
+-- an error that was passed on
+pub passed_on : (limit : ℕ) (signs : List Sign) (trees : List KindTree) (list : List Decl) (r : Result File ParseError) (e : ParseError) → IsErrAnd r (λ x. x ≡ e) → Refuses e (parsed limit signs) → ParsesIn limit signs trees list r
+passed_on limit signs trees list (Ok f) e i h = absurd i
+passed_on limit signs trees list (Err x) e i h = subst (λ y. Refuses y (parsed limit signs)) (sym i) h
 
 -- a stage that is refused, and what comes of it
 refuses_on : {A B : Type 0} (e : ParseError) (r : Result A ParseError) (s : Result B ParseError) → (r ≡ Err e → s ≡ Err e) → Refuses e r → Refuses e s
@@ -57,7 +69,7 @@ module _ (limit : ℕ) (signs : List Sign) (r : Reading) (d : IsReading signs r)
   unfolding parsed
   by_names = ap (λ x. of_outcome limit (length signs) (outcome_of x)) d.is
 
-  noted : name_fault (uses_of r.uses.items) ≡ name_fault (built_in ∷ d.uses)
+  pub noted : name_fault (uses_of r.uses.items) ≡ name_fault (built_in ∷ d.uses)
   noted = ap name_fault d.noted
 
   misnamed : (f : _) (e : ParseError) → name_fault (uses_of r.uses.items) ≡ Some f → e ≡ of_name (length signs) f → parsed limit signs ≡ Err e
@@ -74,6 +86,9 @@ module _ (limit : ℕ) (signs : List Sign) (r : Reading) (d : IsReading signs r)
   names_refuse (Build (build.Depth n)) h = misnamed h.0 (Build (build.Depth n)) h.1 h.2
   names_refuse (Build build.OutOfMemory) h = tt
 
+  pub names_refuse_at : (us : List NameUse) → us ≡ r.uses.items → (e : ParseError) → Misnames (length signs) (uses_of us) e → Refuses e (parsed limit signs)
+  names_refuse_at us i e h = names_refuse e (subst (λ l. Misnames (length signs) (uses_of l) e) i h)
+
   -- what the file says, its limits aside
   abbrev pub content : Parsed
   content = said (length signs) (content_of d.value)
@@ -89,7 +104,7 @@ module _ (limit : ℕ) (signs : List Sign) (r : Reading) (d : IsReading signs r)
   by_room n s = by_limits n ∙ ap (sized_first limit content) s
 
   -- what there is to be built
-  pub builds : name_fault (uses_of r.uses.items) ≡ None → (makes : List Make) → makes ≡ r.trees.items ++ postorder (filled d.value.game) → Builds r makes
+  abbrev pub builds : name_fault (uses_of r.uses.items) ≡ None → (makes : List Make) → makes ≡ r.trees.items ++ postorder (filled d.value.game) → Builds r makes
   builds n makes e = record {
     file = d.value;
     hears = d.hears;
@@ -100,9 +115,12 @@ module _ (limit : ℕ) (signs : List Sign) (r : Reading) (d : IsReading signs r)
   weighed : (makes : List Make) → makes ≡ r.trees.items ++ postorder (filled d.value.game) → parts_weight makes ≡ weight_of content
   unfolding tree_weight
   weighed makes e =
-      ap parts_weight e
-      ∙ (weight-both r.trees.items (postorder (filled d.value.game))
-      ∙ ap₂ (λ m n. m + n) (ap parts_weight d.hears.trees ∙ declared-weight d.value.decls) (tree-weight (filled d.value.game)))
+      let a = ap parts_weight e in
+      let b = weight-both r.trees.items (postorder (filled d.value.game)) in
+      let c = ap parts_weight d.hears.trees in
+      let f = declared-weight d.value.decls in
+      let g = tree-weight (filled d.value.game) in
+      omega arith
 
   full : (need n : ℕ) → need ≡ asked (weight_of content) → limit < n → n ≡ need → roomed limit content ≡ Err (Build (build.Full need))
   full need n e l i =
@@ -147,36 +165,45 @@ module _ (limit : ℕ) (signs : List Sign) (r : Reading) (d : IsReading signs r)
   parses n s makes m live l trees list f b c =
       by_room n s
       ∙ (room (asked (parts_weight makes)) (ap asked (weighed makes m)) (omega arith)
-      ∙ ap₂ (λ ds p. Ok (record { declarations = ds; script = p.0; game = p.1 })) (sym b.declared) (ap₂ (λ x y. (x, y)) (sym c) (sym b.game)))
+      ∙ told_again (sym b.declared) (sym c) (sym b.game))
 
 -- sizes
 
+abbrev sized_by : Tree → Bool → Bool → Result (Unit {0}) ParseError
+sized_by t a b = if a then Err (Build (build.Nodes (capped (size t)))) else if b then Err (Build (build.Depth (capped (depth t)))) else Ok tt
+
+is_large : (t : Tree) (a b : Bool) → a ≡ true → sized_by t a b ≡ Err (Build (build.Nodes (capped (size t))))
+is_large t true b e = refl
+is_large t false b e = absurd (cc)
+
+is_deep : (t : Tree) (a b : Bool) → a ≡ false → b ≡ true → sized_by t a b ≡ Err (Build (build.Depth (capped (depth t))))
+is_deep t false true e f = refl
+is_deep t true b e f = absurd (cc)
+is_deep t false false e f = absurd (cc)
+
+is_small : (t : Tree) (a b : Bool) → a ≡ false → b ≡ false → sized_by t a b ≡ Ok tt
+is_small t false false e f = refl
+is_small t true b e f = absurd (cc)
+is_small t false true e f = absurd (cc)
+
+more : (m n : ℕ) → m < n → nat_lt m n ≡ true
+more m n h = grind (arith, nat_tests)
+
+not_more : (m n : ℕ) → n ≤ m → nat_lt m n ≡ false
+not_more m n h = grind (arith, nat_tests)
+
 pub too_large : (t : Tree) (n : ℕ) → n ≡ capped (size t) → most_nodes < n → sized t ≡ Err (Build (build.Nodes n))
-too_large t n e l = first (nat_lt most_nodes (size t)) (let k : most_nodes < size t = omega arith in grind (arith, nat_tests)) ∙ ap (λ m. Err (Build (build.Nodes m))) (sym e)
-  where
-    first : (b : Bool) → b ≡ true → (if b then Err (Build (build.Nodes (capped (size t)))) else if nat_lt most_depth (depth t) then Err (Build (build.Depth (capped (depth t)))) else Ok tt) ≡ Err (Build (build.Nodes (capped (size t))))
-    first true j = refl
-    first false j = absurd (cc)
+too_large t n e l = is_large t (nat_lt most_nodes (size t)) (nat_lt most_depth (depth t)) (more most_nodes (size t) (omega arith)) ∙ ap (λ m. let r : Result (Unit {0}) ParseError = Err (Build (build.Nodes m)) in r) (sym e)
 
 pub too_deep : (t : Tree) (n m : ℕ) → n ≡ capped (size t) → n ≤ most_nodes → m ≡ capped (depth t) → most_depth < m → sized t ≡ Err (Build (build.Depth m))
-too_deep t n m e l f k = second (nat_lt most_nodes (size t)) (nat_lt most_depth (depth t)) (let i : size t ≤ most_nodes = omega arith in grind (arith, nat_tests)) (let i : most_depth < depth t = omega arith in grind (arith, nat_tests)) ∙ ap (λ x. Err (Build (build.Depth x))) (sym f)
-  where
-    second : (b c : Bool) → b ≡ false → c ≡ true → (if b then Err (Build (build.Nodes (capped (size t)))) else if c then Err (Build (build.Depth (capped (depth t)))) else Ok tt) ≡ Err (Build (build.Depth (capped (depth t))))
-    second false true i j = refl
-    second true c i j = absurd (cc)
-    second false false i j = absurd (cc)
+too_deep t n m e l f k = is_deep t (nat_lt most_nodes (size t)) (nat_lt most_depth (depth t)) (not_more most_nodes (size t) (omega arith)) (more most_depth (depth t) (omega arith)) ∙ ap (λ x. let r : Result (Unit {0}) ParseError = Err (Build (build.Depth x)) in r) (sym f)
 
 pub small_enough : (t : Tree) (n m : ℕ) → n ≡ capped (size t) → n ≤ most_nodes → m ≡ capped (depth t) → m ≤ most_depth → sized t ≡ Ok tt
-small_enough t n m e l f k = third (nat_lt most_nodes (size t)) (nat_lt most_depth (depth t)) (let i : size t ≤ most_nodes = omega arith in grind (arith, nat_tests)) (let i : depth t ≤ most_depth = omega arith in grind (arith, nat_tests))
-  where
-    third : (b c : Bool) → b ≡ false → c ≡ false → (if b then Err (Build (build.Nodes (capped (size t)))) else if c then Err (Build (build.Depth (capped (depth t)))) else Ok tt) ≡ Ok tt
-    third false false i j = refl
-    third true c i j = absurd (cc)
-    third false true i j = absurd (cc)
+small_enough t n m e l f k = is_small t (nat_lt most_nodes (size t)) (nat_lt most_depth (depth t)) (not_more most_nodes (size t) (omega arith)) (not_more most_depth (depth t) (omega arith))
+
+few_by : (t : Tree) (a b : Bool) → nat_lt most_nodes (size t) ≡ a → sized_by t a b ≡ Ok tt → size t ≤ most_nodes
+few_by t false b e f = grind (arith, nat_tests)
+few_by t true b e f = absurd (cc)
 
 pub few_nodes : (t : Tree) → sized t ≡ Ok tt → size t ≤ most_nodes
-few_nodes t e = not_first (nat_lt most_nodes (size t)) refl e
-  where
-    not_first : (b : Bool) → nat_lt most_nodes (size t) ≡ b → (if b then Err (Build (build.Nodes (capped (size t)))) else if nat_lt most_depth (depth t) then Err (Build (build.Depth (capped (depth t)))) else Ok tt) ≡ Ok tt → size t ≤ most_nodes
-    not_first false i j = grind (arith, nat_tests)
-    not_first true i j = absurd (cc)
+few_nodes t e = few_by t (nat_lt most_nodes (size t)) (nat_lt most_depth (depth t)) refl e

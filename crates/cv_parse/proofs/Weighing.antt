@@ -11,7 +11,7 @@ use Rattle.cv_read_declarations.specs.Declares.{parts_of, tree_in}
 use Rattle.cv_parse.specs.Weights.{declared_weight, held, part_weight, parts_weight, tree_weight}
 
 pub weight-both : (a b : List Make) → parts_weight (a ++ b) ≡ parts_weight a + parts_weight b
-weight-both [] b = refl
+weight-both [] b = omega arith
 weight-both (m ∷ a) b = let e = weight-both a b in omega arith
 
 pub tree-weight : (t : Tree) → parts_weight (postorder t) ≡ tree_weight t
@@ -33,3 +33,11 @@ pub weight-next : (ms : List Make) (d : Make) (k : ℕ) → k < length ms → pa
 weight-next [] d k l = absurd (omega arith)
 weight-next (m ∷ ms) d zero l = omega arith
 weight-next (m ∷ ms) d (suc k) l = let e : suc k + 1 ≡ suc (k + 1) = omega arith in ap (λ n. parts_weight (take n (m ∷ ms))) e ∙ (let i = weight-next ms d k (omega arith) in omega arith)
+
+pub weight-all : (ms : List Make) (k : ℕ) → length ms ≤ k → parts_weight (take k ms) ≡ parts_weight ms
+weight-all [] zero l = refl
+weight-all [] (suc k) l = refl
+weight-all (m ∷ ms) zero l = absurd (omega arith)
+weight-all (m ∷ ms) (suc k) l = let e = weight-all ms k (omega arith) in omega arith
+
+pub ruleset weighings = (weight-next, weight-all)

@@ -21,6 +21,7 @@ const TOO_MANY: u64 = 4_294_967_294;
 
 /// Makes the trees of a list, where the pool has room for four times their weight. A list that is too long to
 /// be counted is want of memory, and so is a pool without room for the trees themselves.
+#[tactic(auto, using(crate::proofs::Builds::buildings))]
 fn planted(
     alloc: Global,
     pool: &mut Pool,

@@ -4,10 +4,10 @@
 mod building;
 mod declaring;
 mod error;
-mod file;
+mod files;
 mod laws;
 mod weights;
 
 pub use error::ParseError;
-pub use file::file;
+pub use files::file;
 pub use laws::parsing_is_exact;

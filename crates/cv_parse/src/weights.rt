@@ -46,9 +46,11 @@ fn part_weight(make: Make) -> u32
 }
 
 /// The weight of parts of trees.
+#[tactic(auto, using(crate::proofs::Weighing::weighings))]
 pub fn parts_weight(makes: &[Make]) -> u64
     requires { length makes.now < 2 ^ 32 }
-    ensures { result ≡ weight_in makes.now }
+    ensures weight { result ≡ weight_in makes.now }
+    ensures few { result ≤ 3 * length makes.now }
 {
     let mut weight = 0;
     'parts: for make in makes {
