@@ -1,3 +1,4 @@
+pub mod Lengths
 pub mod Readings
 pub mod Removals
 pub mod Signatures

@@ -1,6 +1,9 @@
 -- From bytes to what they hold, or what they are refused for.
-use Rattle.std.proofs.Common.{◌≡◌, ℕ, suc, ◌+◌, ◌≤◌, true, false, Bool, ◌&&◌, is_none, if◌then◌else◌, List, [], ◌∷◌, length, refl, ap, subst, sym, ◌∙◌, arith, Option, Some, None, Result, Ok, Err, All}
+use Rattle.std.proofs.Common.{◌≡◌, ℕ, zero, suc, ◌<◌, drop, is_some, slice_get, ◌+◌, ◌≤◌, true, false, Bool, ◌&&◌, is_none, if◌then◌else◌, List, [], ◌∷◌, length, refl, ap, ap₂, subst, sym, ◌∙◌, arith, Option, Some, None, Result, Ok, Err, All}
 use Rattle.std.specs.List.{list_all}
+use Rattle.std.specs.Prelude.{IfOk, IsErrAnd}
+use Rattle.std.specs.declared.alloc.AllocError.{AllocError}
+use Rattle.std.proofs.lemmas.List.Elements.{All-head, All-tail}
 use Rattle.cv_lex.specs.declared.LexError.{LexError}
 use Rattle.cv_lex.specs.declared.LexError.TheVariants as lex
 use Rattle.cv_lex.specs.Lexis.{Token, Lexed, tokens_of, Fails}
@@ -24,10 +27,10 @@ use Rattle.cv_files.specs.declared.error.FileError.{FileError}
 use Rattle.cv_files.specs.declared.error.FileError.TheVariants.{Lex, Parse, Unbuilt, OutOfMemory}
 use Rattle.cv_files.specs.Accepted.{Content, IsFile, Refuses, content_of, game_fits, is_built, is_plain, is_typed, of_form, of_parsed, of_tokens, read_of}
 use Rattle.cv_files.specs.Faults.{of_lex, of_parse}
-use Rattle.cv_files.specs.Plain.{IsPlain, is_plain_decl}
+use Rattle.cv_files.specs.Plain.{IsPlain, is_plain_decl, plain_there}
 use Rattle.cv_files.specs.Sites.{are_of_one_type, sites_of}
 use Rattle.cv_files.specs.Typing.{is_of_name, no_variable, process_fits, queries_fit, queries_in, signature_of}
-use Rattle.cv_files.specs.Works.{IsAccepted, content_at}
+use Rattle.cv_files.specs.Works.{IsAccepted, ReadsIn, content_in}
 
 -- what tokens make of bytes
 by_tokens : (limit : ℕ) (bs : List ℕ) (ts : List Token) → tokens_of bs ≡ Ok ts → read_of limit bs ≡ of_parsed (signs_of ts).names (parsed limit (signs_of ts).signs)
@@ -58,12 +61,17 @@ grammar_refuses limit bs ts (parse.Build build.OutOfMemory) t h = tt
 pub form_refuses : (limit : ℕ) (bs : List ℕ) (ts : List Token) (p : Parsed) → tokens_of bs ≡ Ok ts → parsed limit (signs_of ts).signs ≡ Ok p → is_built p ≡ false → read_of limit bs ≡ Err Unbuilt
 form_refuses limit bs ts p t h b = by_tokens limit bs ts t ∙ (ap (of_parsed (signs_of ts).names) h ∙ ap (λ x. if x then Ok (content_of (signs_of ts).names p) else Err Unbuilt) b)
 
-pub form_reads : (limit : ℕ) (bs : List ℕ) (ts : List Token) (w : Work) (f : File) → tokens_of bs ≡ Ok ts → (signs_of ts).names ≡ w.names → parsed limit (signs_of ts).signs ≡ Ok (held_in w.pool.trees w.decls.list f) → is_built (held_in w.pool.trees w.decls.list f) ≡ true → read_of limit bs ≡ Ok (content_at w f.game.root)
-form_reads limit bs ts w f t n h b =
+pub form_reads : (limit : ℕ) (bs : List ℕ) (ts : List Token) (names : List (List ℕ)) (trees : List KindTree) (list : List Decl) (f : File) → tokens_of bs ≡ Ok ts → (signs_of ts).names ≡ names → parsed limit (signs_of ts).signs ≡ Ok (held_in trees list f) → is_built (held_in trees list f) ≡ true → read_of limit bs ≡ Ok (content_in names trees list f.game.root)
+form_reads limit bs ts names trees list f t n h b =
     by_tokens limit bs ts t
     ∙ (ap (of_parsed (signs_of ts).names) h
-    ∙ (ap (λ x. if x then Ok (content_of (signs_of ts).names (held_in w.pool.trees w.decls.list f)) else Err Unbuilt) b
-    ∙ ap (λ ns. Ok (content_of ns (held_in w.pool.trees w.decls.list f))) n))
+    ∙ (ap (λ x. if x then Ok (content_of (signs_of ts).names (held_in trees list f)) else Err Unbuilt) b
+    ∙ ap (λ ns. Ok (content_of ns (held_in trees list f))) n))
+
+-- an error that was passed on
+pub reads_on : (limit : ℕ) (bs : List ℕ) (names : List (List ℕ)) (trees : List KindTree) (list : List Decl) (r : Result File FileError) (e : FileError) → IsErrAnd r (λ x. x ≡ e) → Refuses e (read_of limit bs) → ReadsIn limit bs names trees list r
+reads_on limit bs names trees list (Ok f) e i h = absurd i
+reads_on limit bs names trees list (Err x) e i h = subst (λ y. Refuses y (read_of limit bs)) (sym i) h
 
 -- what is known of a file that is accepted
 
@@ -123,3 +131,58 @@ plain_same trees (decl.Name id c args result ∷ ds) = ap (λ b. is_of_name c &&
 plain_same trees (decl.Equation n ∷ ds) = refl
 plain_same trees (decl.Equiv id n ∷ ds) = refl
 plain_same trees (decl.Query n ∷ ds) = plain_same trees ds
+
+-- of these declarations each is below a bound
+plain_one : (bound : ℕ) (d : Decl) → is_plain_decl d ≡ true → IsBelow bound d → IsPlain bound d
+plain_one bound (decl.Name id c args result) e b = (e, b)
+plain_one bound (decl.Equation n) e b = absurd (cc)
+plain_one bound (decl.Equiv id n) e b = absurd (cc)
+plain_one bound (decl.Query n) e b = b
+
+pub all_plain : (bound : ℕ) (ds : List Decl) → list_all is_plain_decl ds ≡ true → All (IsBelow bound) ds → All (IsPlain bound) ds
+all_plain bound [] e b k d l = absurd (omega arith)
+all_plain bound (d ∷ ds) e b zero x l = plain_one bound d (and_left (is_plain_decl d) (list_all is_plain_decl ds) e) (All-head (IsBelow bound) d ds b)
+all_plain bound (d ∷ ds) e b (suc k) x l = all_plain bound ds (and_right (is_plain_decl d) (list_all is_plain_decl ds) e) (All-tail (IsBelow bound) d ds b) k x (omega arith)
+
+-- plain declarations, one after another
+pub plain_next : (ds : List Decl) (k : ℕ) → k < length ds → list_all is_plain_decl (drop k ds) ≡ (plain_there (slice_get ds k) && list_all is_plain_decl (drop (k + 1) ds))
+plain_next [] k l = absurd (omega arith)
+plain_next (d ∷ ds) zero l = refl
+plain_next (d ∷ ds) (suc k) l = let e : suc k + 1 ≡ suc (k + 1) = omega arith in plain_next ds k (omega arith) ∙ ap (λ n. plain_there (slice_get ds k) && list_all is_plain_decl (drop n (d ∷ ds))) (sym e)
+
+pub plain_past : (ds : List Decl) (k : ℕ) → length ds ≤ k → list_all is_plain_decl (drop k ds) ≡ true
+plain_past [] zero l = refl
+plain_past [] (suc k) l = refl
+plain_past (d ∷ ds) zero l = absurd (omega arith)
+plain_past (d ∷ ds) (suc k) l = plain_past ds k (omega arith)
+
+pub plain_fails : (ds : List Decl) (k : ℕ) (b total : Bool) → k < length ds → list_all is_plain_decl (drop k ds) ≡ total → b ≡ plain_there (slice_get ds k) → b ≡ false → false ≡ total
+plain_fails ds k b total l e f g = sym (ap (λ x. x && list_all is_plain_decl (drop (k + 1) ds)) (sym f ∙ g)) ∙ (sym (plain_next ds k l) ∙ e)
+
+pub plain_goes : (ds : List Decl) (k : ℕ) (b total : Bool) → k < length ds → list_all is_plain_decl (drop k ds) ≡ total → b ≡ plain_there (slice_get ds k) → b ≡ true → list_all is_plain_decl (drop (k + 1) ds) ≡ total
+plain_goes ds k b total l e f g = sym (ap (λ x. x && list_all is_plain_decl (drop (k + 1) ds)) (sym f ∙ g)) ∙ (sym (plain_next ds k l) ∙ e)
+
+pub ruleset plains = (plain_past)
+
+-- whether a file is of the form that is built
+
+script_there : (o : Option (ℕ × ℕ)) → is_some o ≡ true → is_none o ≡ false
+script_there None e = absurd (cc)
+script_there (Some x) e = refl
+
+no_script : (o : Option (ℕ × ℕ)) → is_some o ≡ false → is_none o ≡ true
+no_script None e = refl
+no_script (Some x) e = absurd (cc)
+
+pub with_script : (p : Parsed) → is_some p.script ≡ true → false ≡ is_built p
+with_script p e = sym (ap (λ b. b && (list_all is_plain p.declarations && is_typed p.declarations p.game)) (script_there p.script e))
+
+pub not_plain : (p : Parsed) → is_some p.script ≡ false → list_all is_plain p.declarations ≡ false → false ≡ is_built p
+not_plain p e f = sym (ap₂ (λ s b. s && (b && is_typed p.declarations p.game)) (no_script p.script e) f)
+
+pub by_types : (p : Parsed) → is_some p.script ≡ false → list_all is_plain p.declarations ≡ true → is_typed p.declarations p.game ≡ is_built p
+by_types p e f = sym (ap₂ (λ s b. s && (b && is_typed p.declarations p.game)) (no_script p.script e) f)
+
+pub by_types_if : (r : Result Bool AllocError) (p : Parsed) → is_some p.script ≡ false → list_all is_plain p.declarations ≡ true → IfOk r (λ yes. yes ≡ is_typed p.declarations p.game) → IfOk r (λ yes. yes ≡ is_built p)
+by_types_if (Ok b) p e f h = h ∙ by_types p e f
+by_types_if (Err x) p e f h = tt

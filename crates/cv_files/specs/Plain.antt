@@ -19,6 +19,11 @@ is_plain_decl (decl.Equation n) = false
 is_plain_decl (decl.Equiv id n) = false
 is_plain_decl (decl.Query n) = true
 
+-- the same where one is there
+abbrev pub plain_there : Option Decl → Bool
+plain_there None = true
+plain_there (Some d) = is_plain_decl d
+
 -- the tree of a query
 abbrev pub query_of : Decl → Option NodeId
 query_of (decl.Query n) = Some n

@@ -1,6 +1,8 @@
 -- What a work holds.
 use Rattle.std.specs.Prelude.{◌≡◌, ℕ, ◌≤◌, true, List, Some, Result, Ok, Err}
 use Rattle.cv_pool.specs.declared.node.NodeId.{NodeId}
+use Rattle.cv_pool.specs.KindTree.{KindTree}
+use Rattle.cv_syntax.specs.declared.decls.Decl.{Decl}
 use Rattle.cv_syntax.specs.declared.work.File.{File}
 use Rattle.cv_syntax.specs.declared.work.Work.{Work}
 use Rattle.cv_syntax.specs.Declarations.{declarations}
@@ -11,14 +13,20 @@ use Rattle.cv_files.specs.Accepted.{Content, Refuses, read_of}
 use Rattle.cv_files.specs.Sites.{are_of_one_type, sites_of}
 use Rattle.cv_files.specs.Typing.{no_variable, signature_of, process_fits, queries_fit, queries_in}
 
--- the names and declarations of a work, with the game at a node
+-- names and declarations, with the game at a node
+abbrev pub content_in : List (List ℕ) → List KindTree → List Decl → NodeId → Content
+content_in names trees list root = record { names = names; declarations = declarations trees list; game = tree_at trees (Some root) }
+
 abbrev pub content_at : Work → NodeId → Content
-content_at w root = record { names = w.names; declarations = declarations w.pool.trees w.decls.list; game = tree_at w.pool.trees (Some root) }
+content_at w root = content_in w.names w.pool.trees w.decls.list root
 
 -- what was read is what the bytes hold, and an error is the one that they are refused for
+abbrev pub ReadsIn : (limit : ℕ) → List ℕ → List (List ℕ) → List KindTree → List Decl → Result File FileError → Type 0
+ReadsIn limit bytes names trees list (Ok f) = read_of limit bytes ≡ Ok (content_in names trees list f.game.root)
+ReadsIn limit bytes names trees list (Err e) = Refuses e (read_of limit bytes)
+
 abbrev pub Reads : (limit : ℕ) → List ℕ → Work → Result File FileError → Type 0
-Reads limit bytes w (Ok f) = read_of limit bytes ≡ Ok (content_at w f.game.root)
-Reads limit bytes w (Err e) = Refuses e (read_of limit bytes)
+Reads limit bytes w r = ReadsIn limit bytes w.names w.pool.trees w.decls.list r
 
 -- a file's game is no larger than a game may be, and it and the queries are typed and in scope, with one
 -- type for each variable

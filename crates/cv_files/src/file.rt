@@ -11,6 +11,7 @@ use cv_syntax::{File, Work};
 use std::alloc::Global;
 
 /// Fills an empty work with what bytes hold, where they are a file.
+#[tactic(auto, using(crate::proofs::Lengths::lengths))]
 fn fill(alloc: Global, work: &mut Work, bytes: &[u8]) -> Result<File, FileError>
     requires names { work.old.names ≡ [] }
     requires decls { work.old.decls.list ≡ [] }

@@ -1,10 +1,10 @@
-ghost use Rattle.std.specs.Prelude.{◌≡◌, ◌<◌, ◌&&◌, IfOk, All, Some, true, length};
+ghost use Rattle.std.specs.Prelude.{◌≡◌, ◌<◌, ◌&&◌, slice_get, IfOk, All, Some, true, length};
 ghost use Rattle.std.specs.List.{list_all};
 ghost use Rattle.cv_parse.specs.Declaring.{IsBelow};
 ghost use Rattle.cv_parse.specs.Parsed.{held_in};
 ghost use Rattle.cv_syntax.specs.Declarations.{declarations};
 ghost use Rattle.cv_files.specs.Accepted.{is_built as built, is_plain as plain};
-ghost use Rattle.cv_files.specs.Plain.{IsPlain, is_plain_decl};
+ghost use Rattle.cv_files.specs.Plain.{IsPlain, is_plain_decl, plain_there};
 ghost use Rattle.cv_files.specs.Typing as typing;
 
 use crate::typing::is_typed;
@@ -29,15 +29,23 @@ fn is_plain(decl: &Decl) -> bool
     }
 }
 
+/// Whether the declaration at a place, where one stands there, is of a name, or is a query.
+fn is_plain_at(decls: &Decls, k: u32) -> bool
+    ensures { result ≡ plain_there (slice_get decls.now.list k) }
+{
+    match decls.get(k) {
+        Some(decl) => is_plain(decl),
+        None => true,
+    }
+}
+
 /// Whether a file declares names and queries alone.
+#[tactic(auto, using(crate::proofs::Readings::plains))]
 fn are_plain(decls: &Decls) -> bool
     ensures { result ≡ list_all is_plain_decl decls.now.list }
 {
     'decls: for k in 0..decls.len() {
-        let Some(decl) = decls.get(k) else {
-            return true;
-        };
-        if !is_plain(decl) {
+        if !is_plain_at(decls, k) {
             return false;
         }
     }
@@ -56,7 +64,10 @@ pub fn is_built(
     ensures built { IfOk result (λ yes. yes ≡ built (held_in pool.now.trees decls.now.list file.now)) }
     ensures plain { IfOk result (λ yes. yes ≡ true → All (IsPlain (length pool.now.trees)) decls.now.list) }
 {
-    if file.script.is_some() || !are_plain(decls) {
+    if file.script.is_some() {
+        return Ok(false);
+    }
+    if !are_plain(decls) {
         return Ok(false);
     }
     is_typed(alloc, pool, decls, file.game.root)

@@ -1,0 +1,15 @@
+use Rattle.std.proofs.Common.{ap, sym, ◌∙◌}
+use Rattle.cv_files.proofs.Readings.{form_reads, form_refuses, grammar_refuses, lexis_refuses, reads_on}
+use Rattle.cv_files.proofs.file.fill.Goals as goal
+
+pub returns-in_err-tokens-clause-reads : goal.returns-in_err-tokens-clause-reads
+returns-in_err-tokens-clause-reads c = reads_on c.args.work.now.pool.limit c.args.bytes.now _ _ _ _ _ c.from_residual.ensures.1 (lexis_refuses c.args.work.now.pool.limit c.args.bytes.now _ c.in_err-tokens.ensures.err)
+
+pub returns-in_err-file-clause-reads : goal.returns-in_err-file-clause-reads
+returns-in_err-file-clause-reads c = reads_on c.args.work.now.pool.limit c.args.bytes.now _ _ _ _ _ c.from_residual-in_err-file.ensures.1 (grammar_refuses c.args.work.now.pool.limit c.args.bytes.now _ _ c.in_ok-tokens.ensures.ok c.in_err-file.ensures.parses)
+
+pub returns-then-not-branch-clause-reads : goal.returns-then-not-branch-clause-reads
+returns-then-not-branch-clause-reads c = form_refuses c.args.work.now.pool.limit c.args.bytes.now _ _ c.in_ok-tokens.ensures.ok c.in_ok-file.ensures.parses (sym c.in_ok-is_built.ensures.built ∙ c.if-not-branch.true)
+
+pub returns-clause-reads : goal.returns-clause-reads
+returns-clause-reads c = form_reads c.args.work.now.pool.limit c.args.bytes.now _ _ _ _ c.in_ok-file.file c.in_ok-tokens.ensures.ok (sym c.in_ok-file.ensures.names) c.in_ok-file.ensures.parses (sym c.in_ok-is_built.ensures.built ∙ c.if-not-branch.false)
