@@ -1,5 +1,5 @@
 -- What is said of a file, by what the strategy finds.
-use Rattle.std.proofs.Common.{◌≡◌, ℕ, zero, suc, ◌+◌, ◌<◌, ◌≤◌, nat_lt, Bool, true, false, cond, ◌&&◌, List, [], ◌∷◌, ◌++◌, length, length-append, refl, ap, ap₂, sym, ◌∙◌, subst, arith, append-nil, append_assoc, Option, Some, None, Err, is_some}
+use Rattle.std.proofs.Common.{◌≡◌, ℕ, zero, suc, ◌+◌, ◌<◌, ◌≤◌, nat_lt, Bool, true, false, cond, ◌&&◌, List, [], ◌∷◌, ◌++◌, length, length-append, refl, ap, ap₂, sym, ◌∙◌, subst, arith, append-nil, append_assoc, Option, Some, None, Ok, Err, is_some}
 use Rattle.std.specs.Prelude.{slice_get}
 use Rattle.std.specs.List.{list_all}
 use Rattle.std.proofs.lemmas.Bool.{and_parts, both_ways, lt-ltb}
@@ -15,7 +15,7 @@ use Rattle.cv_parse.specs.declared.error.ParseError.TheVariants as parse
 use Rattle.cv_syntax.specs.declared.work.BuildError.TheVariants as build
 use Rattle.cv_files.specs.declared.error.FileError.{FileError}
 use Rattle.cv_files.specs.declared.error.FileError.TheVariants as fault
-use Rattle.cv_files.specs.Accepted.{Refuses, read_of}
+use Rattle.cv_files.specs.Accepted.{Content, Refuses, read_of}
 use Rattle.cv_files.specs.Typing.{Signature, signature_of, process_fits, query_fits, queries_fit}
 use Rattle.cv_direct.specs.Search.{EntryTree}
 use Rattle.cv_direct.proofs.Queries.{never_broken}
@@ -94,6 +94,13 @@ judged_limit (parse.Build (build.Full n)) bytes e = sym (ap expected e)
 judged_limit (parse.Build (build.Nodes n)) bytes e = sym (ap expected e)
 judged_limit (parse.Build (build.Depth n)) bytes e = sym (ap expected e)
 judged_limit (parse.Build build.OutOfMemory) bytes e = tt
+
+-- under the pool's own limit
+pub reads_at : (n : ℕ) (bytes : List ℕ) (c : Content) → n ≡ most_pool → read_of n bytes ≡ Ok c → read_of most_pool bytes ≡ Ok c
+reads_at n bytes c e h = ap (λ m. read_of m bytes) (sym e) ∙ h
+
+pub refuses_at : (n : ℕ) (bytes : List ℕ) (x : FileError) → n ≡ most_pool → Refuses x (read_of n bytes) → Refuses x (read_of most_pool bytes)
+refuses_at n bytes x e h = subst (λ m. Refuses x (read_of m bytes)) e h
 
 pub judged_fault : (x : FileError) (bytes : List ℕ) → Refuses x (read_of most_pool bytes) → Judged (ended_by x) bytes
 judged_fault (fault.Lex x) bytes e = sym (ap expected e)

@@ -5,8 +5,8 @@ use Rattle.cv_files.specs.Typing.{queries_in}
 use Rattle.cv_files.proofs.Readings.{accepted}
 use Rattle.cv_files.proofs.Signatures.{queries-same}
 use Rattle.cv.specs.Findings.{said}
-use Rattle.cv.specs.Strategy.{Said, expected, nothing_said, said_of, status_of}
-use Rattle.cv.proofs.Verdicts.{AreSound, said_sound, sound_at, judged_by}
+use Rattle.cv.specs.Strategy.{Said, expected, most_pool, nothing_said, said_of, status_of}
+use Rattle.cv.proofs.Verdicts.{AreSound, said_sound, sound_at, judged_by, reads_at}
 use Rattle.cv.proofs.decide.judge.Goals as goal
 
 pub answer-requires-clause-fits : goal.answer-requires-clause-fits
@@ -17,7 +17,7 @@ returns-in-Ok-answer-clause-sound c = λ k query s e h i _ a.
     let trees = c.read.new.work.pool.trees in
     let ds = declarations trees c.read.new.work.decls.list in
     let game : Tree = tree_at trees (Some c.in-Ok.file.game.root) in
-    let f = accepted most_pool c.args.bytes.now _ (reads_in c.requires.limit c.in-Ok.ensures.reads) in
+    let f = accepted most_pool c.args.bytes.now _ (reads_at _ c.args.bytes.now _ c.requires.limit c.in-Ok.ensures.reads) in
     let same = c.in-Ok-answer.ensures ∙ ap (said_of game nothing_said) (sym (queries-same trees c.read.new.work.decls.list)) in
     let sound = said_sound game nothing_said (queries_in ds) in
     sound_at ds game (queries_in ds) c.in-Ok-answer.found.verdicts.items f.process f.queries (subst (AreSound game (queries_in ds)) (sym (ap (λ (t : Said). t.verdicts) same ∙ sound.1)) sound.2) k query s e h i a
@@ -37,4 +37,4 @@ returns-in-Ok-answer-clause-judged c =
     let trees = c.read.new.work.pool.trees in
     let game : Tree = tree_at trees (Some c.in-Ok.file.game.root) in
     let same = c.in-Ok-answer.ensures ∙ ap (said_of game nothing_said) (sym (queries-same trees c.read.new.work.decls.list)) in
-    judged_by _ _ _ c.args.bytes.now c.status-status.ensures (ap expected c.in-Ok.ensures.ok ∙ ap status_of (sym same))
+    judged_by _ _ _ c.args.bytes.now c.status-status.ensures (ap expected (reads_at _ c.args.bytes.now _ c.requires.limit c.in-Ok.ensures.reads) ∙ ap status_of (sym same))
