@@ -1,5 +1,6 @@
 pub mod Parts
 pub mod Signature
 pub mod Sites
+pub mod Tables
 pub mod Typing
 pub mod Wants
