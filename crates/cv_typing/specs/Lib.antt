@@ -1,4 +1,6 @@
+pub mod Lookups
 pub mod Parts
+pub mod Refusals
 pub mod Signature
 pub mod Sites
 pub mod Tables

@@ -5,11 +5,12 @@ use Rattle.cv_syntax.specs.declared.head.Head.TheVariants.{New, Let, Bound, Sing
 use Rattle.cv_syntax.specs.Declarations.{Declaration, Named, Equation, Equiv, Query}
 use Rattle.cv_syntax.specs.Tree.{Tree, Empty, Node, first, second, size}
 use Rattle.cv_typing.specs.declared.fault.Fault.{Fault}
+use Rattle.cv_typing.specs.declared.form.Form.TheVariants.{InProcess, InBody}
 use Rattle.cv_typing.specs.declared.sort.Sort.{Sort}
 use Rattle.cv_typing.specs.declared.sort.Sort.TheVariants.{OfType}
 use Rattle.cv_typing.specs.Sites.{first_of, bound_sort, sites_of}
 use Rattle.cv_typing.specs.Signature.{Signature, Arrays, OfGame, OfSide, OfNothing, Above, boolean, sort_of}
-use Rattle.cv_typing.specs.Wants.{Want, Run, Of, Correspondence, InProcess, InBody}
+use Rattle.cv_typing.specs.Wants.{Want, Run, Of, Correspondence}
 use Rattle.cv_typing.specs.Wants.{all_bound}
 use Rattle.cv_typing.specs.Typing.{IsTyped, Faulty, first_fault}
 

@@ -1,5 +1,6 @@
 -- What the tables of a check hold.
-use Rattle.std.specs.Prelude.{ℕ, nat_eq, Bool, true, false, ◌==◌, if◌then◌else◌, List, option_map, Some, None}
+use Rattle.std.specs.Prelude.{ℕ, nat_eq, Bool, true, false, ◌&&◌, ◌==◌, if◌then◌else◌, List, option_map, Option, Some, None}
+use Rattle.std.specs.List.{list_any}
 use Rattle.std.specs.declared.hash.FoldHasher.{FoldHasher}
 use Rattle.std.specs.declared.hash.BuildHasherDefault.{BuildHasherDefault}
 use Rattle.std.specs.HashMap.{get, HashMap}
@@ -9,6 +10,11 @@ use Rattle.cv_typing.specs.declared.site.Site.{Site}
 use Rattle.cv_typing.specs.declared.sites.Sites.{Sites}
 use Rattle.cv_typing.specs.declared.sort.Sort.{Sort}
 use Rattle.cv_typing.specs.declared.sort.Sort.TheVariants.{OfType, BelowParameter}
+use Rattle.cv_typing.specs.declared.arrays.Arrays.{Arrays}
+use Rattle.cv_typing.specs.declared.arrays.Arrays.TheVariants as held
+use Rattle.cv_typing.specs.declared.arrays.Locals.{Locals}
+use Rattle.cv_typing.specs.Signature as signature
+use Rattle.cv_typing.specs.Signature.{Above}
 use Rattle.cv_typing.specs.Sites.{SitesView, Variable, first_of, bound_sort, site_here, index_here, at_parameters, first_site, first_index}
 
 abbrev pub Map : Type 0 → Type 0
@@ -51,3 +57,22 @@ with_node s ps h a = record {
 -- all that a tree defines
 abbrev pub with_sites : SitesView → List ℕ → Tree → SitesView
 with_sites s ps t = record { variable = λ x. first_of (s.variable x) (first_site x ps t); index = λ i. first_of (s.index i) (first_index i t) }
+
+abbrev pub same_pair : ℕ × ℕ → ℕ × ℕ → Bool
+same_pair p q = nat_eq p.0 q.0 && nat_eq p.1 q.1
+
+abbrev pub locals_of : Locals → ℕ → ℕ → Option Sort
+locals_of l m x = get same_pair l.sorts (m, x)
+
+abbrev pub arrays_of : Arrays → signature.Arrays
+arrays_of (held.OfGame s) = signature.OfGame (seen s)
+arrays_of (held.OfSide l) = signature.OfSide (locals_of l)
+arrays_of held.OfNothing = signature.OfNothing
+
+-- the names above that a map holds
+abbrev pub above_of : Map Sort → Above
+above_of m x = get nat_eq m x
+
+-- names above, without those of a list
+abbrev pub without : Above → List ℕ → Above
+without above xs y = if list_any (λ x. x == y) xs then None else above y

@@ -33,14 +33,16 @@ abbrev pub is_unfixed : Signature → Head → Bool
 is_unfixed e (New x T) = not (is_fixed_in e.declarations T)
 is_unfixed e h = false
 
+-- an index where a value is sent, and `new` of a type that isn't fixed
+abbrev pub value_fault : Signature → Want → Option Sort → Head → Option Fault
+value_fault e w S h = if is_index_sent w S then Some IndexAsMessage else if is_unfixed e h then Some NotFixed else None
+
 -- the fault of a node by itself
 abbrev pub fault_of : Signature → Above → Want → Head → Tree → Option Fault
 fault_of e above w h a =
     if is_wrong w (sort_by e above h a) || site_differs e.arrays h a then Some WrongType
-    else if not (is_arity (arity_by e above h) (count a)) then Some Arity
-    else if is_index_sent w (sort_by e above h a) then Some IndexAsMessage
-    else if is_unfixed e h then Some NotFixed
-    else None
+    else if is_arity (arity_by e above h) (count a) then value_fault e w (sort_by e above h a) h
+    else Some Arity
 
 -- every node of the tree gives what its position asks
 unfoldable pub IsTyped : Signature → Above → Want → Tree → Type 0

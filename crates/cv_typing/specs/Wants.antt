@@ -2,16 +2,14 @@
 use Rattle.std.specs.Prelude.{ℕ, Bool, true, false, ◌==◌, not, if◌then◌else◌, List, [], ◌∷◌, Option, Some, None}
 use Rattle.cv_syntax.specs.declared.head.Head.{Head}
 use Rattle.cv_syntax.specs.declared.head.Head.TheVariants.{Par, Repl, In, Out, Event, New, Let, If, Find, Branch, Read, Apply, Eq, And, Or, Not, Cons, Binder, Query, Occurs, OccursOnce}
+use Rattle.cv_syntax.specs.Declarations.{Declaration}
 use Rattle.cv_syntax.specs.Tree.{Tree, Empty, Node}
+use Rattle.cv_typing.specs.declared.form.Form.{Form}
+use Rattle.cv_typing.specs.declared.form.Form.TheVariants.{InProcess, InBody}
 use Rattle.cv_typing.specs.declared.sort.Sort.{Sort}
 use Rattle.cv_typing.specs.declared.sort.Sort.TheVariants.{OfType, BelowParameter}
 use Rattle.cv_typing.specs.Sites.{Variable, first_of}
 use Rattle.cv_typing.specs.Signature.{Signature, Function, Arrays, OfGame, OfSide, OfNothing, Above, boolean, same_sort, function_in, event_in, sort_of}
-
--- a process, or a body of an equivalence, whose results are values of this sort where one is known
-pub data Form : Type 0 where
-  InProcess : Form
-  InBody : Option Sort → Form
 
 pub data Want : Type 0 where
   -- a process or a body; the branches of a `find`; the cells, the condition and the body of a branch; its condition and body
@@ -52,41 +50,81 @@ abbrev pub wants_arguments : Option Function → Want
 wants_arguments None = EachTerm
 wants_arguments (Some f) = Messages f.arguments
 
--- what the two children of a node are asked, by what is asked of the node, its head and its first child
+-- What the two children of a node are asked. Terms ask the same of their parts wherever they stand.
+
+abbrev pub nothing : Want × Want
+nothing = (NoTerms, NoTerms)
+
+abbrev pub term_wants : Signature → Above → Head → Tree → Option (Want × Want)
+term_wants e above (Read x) a = Some (wants_indices e.arrays x, NoTerms)
+term_wants e above (Apply f) a = Some (wants_arguments (function_in e.declarations f), NoTerms)
+term_wants e above Eq a = Some (AnyTerm, like (sort_of e above a))
+term_wants e above And a = Some (Of boolean, Of boolean)
+term_wants e above Or a = Some (Of boolean, Of boolean)
+term_wants e above Not a = Some (Of boolean, NoTerms)
+term_wants e above h a = None
+
+-- in a process or a body
+abbrev pub run_wants : List Declaration → Form → Head → Want × Want
+run_wants ds f Par = (Run f, Run f)
+run_wants ds f (Repl i n) = (NoTerms, Run f)
+run_wants ds f (In c) = (NoTerms, Run f)
+run_wants ds f (Out c) = (Sent, Run f)
+run_wants ds f (Event v) = (Messages (event_in ds v), Run f)
+run_wants ds f (New x T) = (NoTerms, Run f)
+run_wants ds f (Let x T) = (Message T, Run f)
+run_wants ds f If = (Of boolean, Run f)
+run_wants ds f (Find l) = (Branches f, Run f)
+run_wants ds f Cons = (Run f, Run f)
+run_wants ds f h = nothing
+
+abbrev pub branch_wants : Form → Head → Want × Want
+branch_wants f Cons = (Branches f, Branches f)
+branch_wants f Branch = (NoTerms, Guarded f)
+branch_wants f h = nothing
+
+abbrev pub query_wants : Head → Want × Want
+query_wants Query = (NoTerms, Atoms)
+query_wants h = nothing
+
+abbrev pub atom_wants : List Declaration → Head → Want × Want
+atom_wants ds Cons = (Atoms, Atoms)
+atom_wants ds (Occurs v) = (Messages (event_in ds v), NoTerms)
+atom_wants ds (OccursOnce v) = (Messages (event_in ds v), NoTerms)
+atom_wants ds h = nothing
+
+-- the item and the rest of a list
+abbrev pub list_wants : Want → Want × Want
+list_wants (Guarded f) = (EachTerm, Tested f)
+list_wants (Tested f) = (Of boolean, Run f)
+list_wants Sent = (NoTerms, AllMessages)
+list_wants EachTerm = (AnyTerm, EachTerm)
+list_wants EachIndex = (AnyIndex, EachIndex)
+list_wants AllMessages = (AnyMessage, AllMessages)
+list_wants (Messages (T ∷ Ts)) = (Message T, Messages Ts)
+list_wants (Messages []) = (AnyTerm, EachTerm)
+list_wants (Indices (n ∷ ns)) = (Of (BelowParameter n), Indices ns)
+list_wants (Indices []) = (AnyTerm, EachTerm)
+list_wants w = nothing
+
+abbrev pub on_list : Head → Want × Want → Want × Want
+on_list Cons ws = ws
+on_list h ws = nothing
+
+abbrev pub place_wants : List Declaration → Want → Head → Want × Want
+place_wants ds (Run f) h = run_wants ds f h
+place_wants ds (Branches f) h = branch_wants f h
+place_wants ds Correspondence h = query_wants h
+place_wants ds Atoms h = atom_wants ds h
+place_wants ds w h = on_list h (list_wants w)
+
+abbrev pub or_wants : Option (Want × Want) → Want × Want → Want × Want
+or_wants None ws = ws
+or_wants (Some us) ws = us
+
+-- by what is asked of the node, its head and its first child
 abbrev pub wants : Signature → Above → Want → Head → Tree → Want × Want
-wants e above w (Read x) a = (wants_indices e.arrays x, NoTerms)
-wants e above w (Apply f) a = (wants_arguments (function_in e.declarations f), NoTerms)
-wants e above w Eq a = (AnyTerm, like (sort_of e above a))
-wants e above w And a = (Of boolean, Of boolean)
-wants e above w Or a = (Of boolean, Of boolean)
-wants e above w Not a = (Of boolean, NoTerms)
-wants e above (Run f) Par a = (Run f, Run f)
-wants e above (Run f) (Repl i n) a = (NoTerms, Run f)
-wants e above (Run f) (In c) a = (NoTerms, Run f)
-wants e above (Run f) (Out c) a = (Sent, Run f)
-wants e above (Run f) (Event v) a = (Messages (event_in e.declarations v), Run f)
-wants e above (Run f) (New x T) a = (NoTerms, Run f)
-wants e above (Run f) (Let x T) a = (Message T, Run f)
-wants e above (Run f) If a = (Of boolean, Run f)
-wants e above (Run f) (Find l) a = (Branches f, Run f)
-wants e above (Run f) Cons a = (Run f, Run f)
-wants e above (Branches f) Cons a = (Branches f, Branches f)
-wants e above (Branches f) Branch a = (NoTerms, Guarded f)
-wants e above (Guarded f) Cons a = (EachTerm, Tested f)
-wants e above (Tested f) Cons a = (Of boolean, Run f)
-wants e above Sent Cons a = (NoTerms, AllMessages)
-wants e above Correspondence Query a = (NoTerms, Atoms)
-wants e above Atoms Cons a = (Atoms, Atoms)
-wants e above Atoms (Occurs v) a = (Messages (event_in e.declarations v), NoTerms)
-wants e above Atoms (OccursOnce v) a = (Messages (event_in e.declarations v), NoTerms)
-wants e above EachTerm Cons a = (AnyTerm, EachTerm)
-wants e above EachIndex Cons a = (AnyIndex, EachIndex)
-wants e above AllMessages Cons a = (AnyMessage, AllMessages)
-wants e above (Messages (T ∷ Ts)) Cons a = (Message T, Messages Ts)
-wants e above (Messages []) Cons a = (AnyTerm, EachTerm)
-wants e above (Indices (n ∷ ns)) Cons a = (Of (BelowParameter n), Indices ns)
-wants e above (Indices []) Cons a = (AnyTerm, EachTerm)
-wants e above w h a = (NoTerms, NoTerms)
+wants e above w h a = or_wants (term_wants e above h a) (place_wants e.declarations w h)
 
 -- A term that gives less than is asked of it. A term of which nothing is known gives all.
 
@@ -137,9 +175,25 @@ all_bound above sort Empty = above
 all_bound above sort (Node (Binder x T) a b) = all_bound (bound above x (sort T)) sort b
 all_bound above sort (Node h a b) = all_bound above sort b
 
+abbrev pub is_in_body : Want → Bool
+is_in_body (Run (InBody r)) = true
+is_in_body (Branches (InBody r)) = true
+is_in_body w = false
+
+abbrev pub binds : Want → Head → Bool
+binds w (Repl i n) = true
+binds w (New x T) = is_in_body w
+binds w (Let x T) = is_in_body w
+binds w Branch = is_in_body w
+binds w h = false
+
+-- with the names that a node binds
+abbrev pub with_names : Head → Tree → Above → Above
+with_names (Repl i n) a above = bound above i (BelowParameter n)
+with_names (New x T) a above = bound above x (OfType T)
+with_names (Let x T) a above = bound above x (OfType T)
+with_names Branch a above = all_bound above BelowParameter a
+with_names h a above = above
+
 abbrev pub above_second : Want → Head → Tree → Above → Above
-above_second w (Repl i n) a above = bound above i (BelowParameter n)
-above_second (Run (InBody r)) (New x T) a above = bound above x (OfType T)
-above_second (Run (InBody r)) (Let x T) a above = bound above x (OfType T)
-above_second (Branches (InBody r)) Branch a above = all_bound above BelowParameter a
-above_second w h a above = above
+above_second w h a above = if binds w h then with_names h a above else above

@@ -1,13 +1,25 @@
 // Types of terms, games and files.
 #![tactic(auto)]
 
+mod above;
+mod arrays;
+mod below;
 mod fault;
+mod faults;
+mod form;
+mod function;
 mod laws;
 mod site;
 pub mod sites;
 mod sort;
+mod terms;
+mod walk;
+mod want;
 
-pub use fault::Fault;
+pub use arrays::{Arrays, Locals};
+pub use fault::{Fault, TypeFault};
+pub use form::Form;
 pub use laws::{file_faults_are_first, game_faults_are_first, tree_faults_are_first};
 pub use site::Site;
 pub use sort::Sort;
+pub use want::Want;

@@ -1,4 +1,4 @@
-ghost use Rattle.std.specs.Prelude.{◌≡◌, ◌<◌, ℕ, length, slice_get, option_map, option_and_then, IfOk, OnOk, OnErr, Some};
+ghost use Rattle.std.specs.Prelude.{◌≡◌, ◌<◌, ℕ, length, slice_get, ◌+◌, ◌^◌, OnSome, option_map, option_and_then, IfOk, OnOk, OnErr, Some};
 ghost use Rattle.cv_pool.specs.Nodes.{ChildBelow};
 ghost use Rattle.cv_syntax.specs.Tree.{second, tree_at};
 ghost use Rattle.cv_typing.specs.Sites.{Variable, no_sites, sites_of};
@@ -57,7 +57,8 @@ impl Sites {
 
     /// The parameter of an index of a variable, counted from 0.
     pub fn parameter(&self, x: u32, k: usize) -> Option<u32>
-        ensures { result ≡ option_and_then (λ (v : Variable). slice_get v.parameters k) ((seen self.now).variable x) }
+        ensures parameter { result ≡ option_and_then (λ (v : Variable). slice_get v.parameters k) ((seen self.now).variable x) }
+        ensures bound { OnSome result (k + 1 < 2 ^ 64) }
     {
         let site = self.variables.get(&x)?;
         site.parameters.get(k).copied()
@@ -172,7 +173,7 @@ impl Sites {
 }
 
 /// The sort that a binder gives: that of an index, or of a value of a type.
-fn sort_of_binder(is_index: bool, name: u32) -> Sort
+pub fn sort_of_binder(is_index: bool, name: u32) -> Sort
     ensures { result ≡ binder_sort is_index name }
 {
     if is_index {
@@ -183,7 +184,7 @@ fn sort_of_binder(is_index: bool, name: u32) -> Sort
 }
 
 /// The second child of a tree.
-fn rest(pool: &Pool, tree: Option<NodeId>) -> Option<NodeId>
+pub fn rest(pool: &Pool, tree: Option<NodeId>) -> Option<NodeId>
     requires { ChildBelow (length pool.now.trees) tree }
     ensures tree { tree_at pool.now.trees result ≡ second (tree_at pool.now.trees tree) }
     ensures below { ChildBelow (length pool.now.trees) result }
