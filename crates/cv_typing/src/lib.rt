@@ -4,6 +4,7 @@
 mod above;
 mod arrays;
 mod below;
+mod check;
 mod fault;
 mod faults;
 mod form;
@@ -17,6 +18,7 @@ mod walk;
 mod want;
 
 pub use arrays::{Arrays, Locals};
+pub use check::check_game;
 pub use fault::{Fault, TypeFault};
 pub use form::Form;
 pub use laws::{file_faults_are_first, game_faults_are_first, tree_faults_are_first};
