@@ -5,17 +5,18 @@ use Rattle.std.specs.declared.hash.FoldHasher.{FoldHasher}
 use Rattle.std.specs.declared.hash.BuildHasherDefault.{BuildHasherDefault}
 use Rattle.std.specs.HashMap.{get, HashMap}
 use Rattle.cv_syntax.specs.declared.head.Head.{Head}
-use Rattle.cv_syntax.specs.Tree.{Tree}
+use Rattle.cv_syntax.specs.Tree.{Tree, first, second}
 use Rattle.cv_typing.specs.declared.site.Site.{Site}
 use Rattle.cv_typing.specs.declared.sites.Sites.{Sites}
 use Rattle.cv_typing.specs.declared.sort.Sort.{Sort}
 use Rattle.cv_typing.specs.declared.sort.Sort.TheVariants.{OfType, BelowParameter}
 use Rattle.cv_typing.specs.declared.arrays.Arrays.{Arrays}
 use Rattle.cv_typing.specs.declared.arrays.Arrays.TheVariants as held
-use Rattle.cv_typing.specs.declared.arrays.Locals.{Locals}
+use Rattle.cv_typing.specs.declared.locals.Locals.{Locals}
 use Rattle.cv_typing.specs.Signature as signature
 use Rattle.cv_typing.specs.Signature.{Above}
 use Rattle.cv_typing.specs.Sites.{SitesView, Variable, first_of, bound_sort, site_here, index_here, at_parameters, first_site, first_index}
+use Rattle.cv_typing.specs.Parts.{bound_at, local_here, local_in, own_sort, sort_by_bound}
 
 abbrev pub Map : Type 0 → Type 0
 Map X = HashMap ℕ X (BuildHasherDefault FoldHasher)
@@ -76,3 +77,33 @@ above_of m x = get nat_eq m x
 -- names above, without those of a list
 abbrev pub without : Above → List ℕ → Above
 without above xs y = if list_any (λ x. x == y) xs then None else above y
+
+-- the names of functions, by bound
+
+abbrev pub ByBound : Type 0
+ByBound = ℕ → ℕ → Option Sort
+
+abbrev pub no_locals : ByBound
+no_locals m x = None
+
+-- what is known of names, and else what a function with a bound says of them
+abbrev pub and_else : ByBound → ℕ → (ℕ → Option Sort) → ByBound
+and_else l m f n y = first_of (l n y) (if m == n then f y else None)
+
+abbrev pub with_local : ByBound → ℕ → ℕ → Sort → ByBound
+with_local l m x S = and_else l m (λ y. if x == y then Some S else None)
+
+abbrev pub with_binders_of : ByBound → ℕ → Tree → ByBound
+with_binders_of l m binders = and_else l m (λ y. bound_sort OfType y binders)
+
+abbrev pub with_here : ByBound → ℕ → Head → ByBound
+with_here l m h = and_else l m (λ y. local_here y h)
+
+abbrev pub with_body : ByBound → ℕ → Tree → ByBound
+with_body l m body = and_else l m (λ y. local_in y body)
+
+abbrev pub with_function : ByBound → Tree → ByBound
+with_function l f = and_else l (bound_at (first f)) (λ y. own_sort y (first f) (second f))
+
+abbrev pub with_functions : ByBound → Tree → ByBound
+with_functions l functions n y = first_of (l n y) (sort_by_bound functions n y)

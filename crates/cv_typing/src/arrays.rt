@@ -1,26 +1,11 @@
 ghost use Rattle.std.specs.Prelude.{◌≡◌, ◌<◌, ◌^◌, ◌+◌, ℕ, length, drop, slice_get, option_map, option_and_then, OnSome};
 ghost use Rattle.cv_typing.specs.Sites.{Variable};
 ghost use Rattle.cv_typing.specs.Signature.{index_in, variable_in};
-ghost use Rattle.cv_typing.specs.Tables.{arrays_of, locals_of};
+ghost use Rattle.cv_typing.specs.Tables.{arrays_of};
 
+use crate::locals::Locals;
 use crate::sites::Sites;
 use crate::sort::Sort;
-use std::collections::HashMap;
-
-/// The sorts of the names that the functions of a side bind, by bound and name.
-#[derive(Drop)]
-pub struct Locals {
-    sorts: HashMap<(u32, u32), Sort>,
-}
-
-impl Locals {
-    /// The sort of a name of the function with a bound.
-    pub fn sort(&self, bound: u32, x: u32) -> Option<Sort>
-        ensures { result ≡ locals_of self.now bound x }
-    {
-        self.sorts.get(&(bound, x)).copied()
-    }
-}
 
 /// What is read at indices.
 #[derive(Drop)]

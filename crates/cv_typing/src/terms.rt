@@ -44,7 +44,7 @@ fn leaf_sort(decls: &Decls, arrays: &Arrays, above: &HashMap<u32, Sort>, x: u32)
 }
 
 /// The first child of a tree.
-fn first(pool: &Pool, tree: Option<NodeId>) -> Option<NodeId>
+pub fn first(pool: &Pool, tree: Option<NodeId>) -> Option<NodeId>
     requires { ChildBelow (length pool.now.trees) tree }
     ensures tree { tree_at pool.now.trees result ≡ first_child (tree_at pool.now.trees tree) }
     ensures below { ChildBelow (length pool.now.trees) result }
