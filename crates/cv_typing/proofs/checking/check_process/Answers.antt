@@ -9,7 +9,7 @@ use Rattle.cv_typing.specs.Sites.{SitesView}
 use Rattle.cv_typing.specs.Typing.{first_fault}
 use Rattle.cv_typing.specs.Wants.{Run}
 use Rattle.cv_typing.proofs.Files.{nothing-bound, part-refused, part-step, parts-end}
-use Rattle.cv_typing.proofs.check.check_process.Goals as goal
+use Rattle.cv_typing.proofs.checking.check_process.Goals as goal
 
 pub returns-in_err-walk-clause-fault : goal.returns-in_err-walk-clause-fault
 returns-in_err-walk-clause-fault c =
