@@ -1,6 +1,8 @@
 -- The sides of an equivalence, and the declarations of a file.
 use Rattle.std.proofs.Common.{◌≡◌, ℕ, zero, suc, ◌+◌, List, [], ◌∷◌, ◌++◌, drop, length, map, refl, ap, ap₂, sym, subst, ◌∙◌, arith, append_assoc, Option, Some, None, Result, Ok, Err, IfErr, OnOk}
-use Rattle.std.specs.Prelude.{flat_map, slice_get}
+use Rattle.std.specs.Prelude.{All, flat_map, slice_get}
+use Rattle.std.proofs.lemmas.List.Elements.{All-head, All-tail}
+use Rattle.cv_typing.specs.Lookups.{IsLive}
 use Rattle.cv_syntax.specs.declared.decls.Decl.{Decl}
 use Rattle.cv_syntax.specs.declared.head.Head.{Head}
 use Rattle.cv_syntax.specs.Declarations.{Declaration, declared, declarations}
@@ -91,3 +93,8 @@ refused-as m total r e h = subst (λ (x : Option (ℕ × Fault)). IfErr r (IsRef
 pub file-typed : (ds : List Declaration) (parts : List Part) (r : Result (Unit {0}) TypeFault) → OnOk r (first_in ds 0 parts ≡ None) → OnOk r (AreTyped ds parts)
 file-typed ds parts (Ok u) h = parts_typed_where_none ds 0 parts h
 file-typed ds parts (Err t) h = h
+
+pub live-at : (n : ℕ) (ds : List Decl) (k : ℕ) (d : Decl) → slice_get ds k ≡ Some d → All (IsLive n) ds → IsLive n d
+live-at n [] k d e l = absurd (cc)
+live-at n (x ∷ ds) zero d e l = let f : x ≡ d = cc in subst (IsLive n) f (All-head (IsLive n) x ds l)
+live-at n (x ∷ ds) (suc k) d e l = live-at n ds k d e (All-tail (IsLive n) x ds l)

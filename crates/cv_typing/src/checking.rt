@@ -53,9 +53,10 @@ fn check_parts(
 {
     let mut place = 0;
     'decls: for k in 0..decls.len() {
-        if let Some(decl) = decls.get(k) {
-            place = check_declaration(alloc, pool, decls, place, *decl)?;
-        }
+        let Some(decl) = decls.get(k) else {
+            continue;
+        };
+        place = check_declaration(alloc, pool, decls, place, *decl)?;
     }
     check_process(alloc, pool, decls, place, root)
 }

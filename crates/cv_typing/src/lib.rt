@@ -23,7 +23,9 @@ pub use arrays::Arrays;
 pub use checking::{check, check_game};
 pub use fault::{Fault, TypeFault};
 pub use form::Form;
-pub use laws::{file_faults_are_first, game_faults_are_first, tree_faults_are_first};
+pub use laws::{
+    file_faults_are_first, game_faults_are_first, tree_faults_are_first, worked_files, worked_games,
+};
 pub use locals::Locals;
 pub use site::Site;
 pub use sort::Sort;

@@ -1,18 +1,11 @@
-use Rattle.std.proofs.Common.{◌≡◌, ◌+◌, ◌≤◌, ◌<◌, drop, length, refl, ap, ap₂, sym, ◌∙◌, arith, None, Some}
+use Rattle.std.proofs.Common.{◌+◌, drop, length, ap, ◌∙◌, arith}
 use Rattle.std.proofs.lemmas.Result.{err_from_is_err_and}
 use Rattle.cv_syntax.specs.Declarations.{declarations}
-use Rattle.cv_syntax.specs.Tree.{Tree, first, second, size, tree_at}
-use Rattle.cv_syntax.specs.Walks.{above as rank}
+use Rattle.cv_syntax.specs.Tree.{size, tree_at}
 use Rattle.cv_syntax.proofs.Walking.{above-child, above-some}
-use Rattle.cv_typing.specs.declared.form.Form.TheVariants.{InBody}
-use Rattle.cv_typing.specs.declared.sort.Sort.{Sort}
 use Rattle.cv_typing.specs.Lookups.{signature_in}
-use Rattle.cv_typing.specs.Parts.{body_parts, first_result, names_of}
-use Rattle.cv_typing.specs.Refusals.{parts_size}
-use Rattle.cv_typing.specs.Signature.{Above}
+use Rattle.cv_typing.specs.Parts.{names_of}
 use Rattle.cv_typing.specs.Tables.{arrays_of}
-use Rattle.cv_typing.specs.Typing.{first_fault}
-use Rattle.cv_typing.specs.Wants.{Run}
 use Rattle.cv_typing.proofs.Bodies.{bodies-end, bodies-next, bodies-refused, bodies-size, body-same}
 use Rattle.cv_typing.proofs.Walks.{child-live, empty-at, node-at}
 use Rattle.cv_typing.proofs.parts.check_bodies.Goals as goal

@@ -1,7 +1,6 @@
-use Rattle.std.proofs.Common.{arith, ap, sym, ◌∙◌}
+use Rattle.std.proofs.Common.{ap}
 use Rattle.cv_syntax.specs.Declarations.{declarations, declared}
 use Rattle.cv_typing.specs.Parts.{declaration_parts}
-use Rattle.cv_typing.specs.Refusals.{IsChecked}
 use Rattle.cv_typing.proofs.Bodies.{named-checked}
 use Rattle.cv_typing.proofs.parts.check_declaration.Goals as goal
 

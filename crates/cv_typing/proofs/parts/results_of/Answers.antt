@@ -1,9 +1,9 @@
-use Rattle.std.proofs.Common.{length, ap, ap₂, sym, ◌++◌, ◌∙◌, [], arith}
+use Rattle.std.proofs.Common.{length, ap, ap₂, ◌∙◌}
 use Rattle.cv_syntax.specs.Tree.{Tree, tree_at}
 use Rattle.cv_typing.specs.Lookups.{signature_in}
 use Rattle.cv_typing.specs.Parts.{names_of}
 use Rattle.cv_typing.specs.Signature.{Above, sort_of}
-use Rattle.cv_typing.proofs.Bodies.{results-end, results-push, results-start, results-whole}
+use Rattle.cv_typing.proofs.Bodies.{results-push, results-start, results-whole}
 use Rattle.cv_typing.proofs.Walks.{child-live, empty-at, node-at}
 use Rattle.cv_typing.proofs.parts.results_of.Goals as goal
 

@@ -1,4 +1,4 @@
-use Rattle.std.proofs.Common.{refl, Option, Some, None, ap, ap₂, sym, ◌∙◌}
+use Rattle.std.proofs.Common.{refl, Option, ap, ap₂, sym, ◌∙◌}
 use Rattle.std.specs.Prelude.{option_map}
 use Rattle.std.specs.Option.{option_copied}
 use Rattle.cv_typing.specs.declared.sort.Sort.{Sort}
