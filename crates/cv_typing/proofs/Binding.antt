@@ -43,7 +43,6 @@ if-first : (b : Bool) (S : Sort) (o : Option Sort) → cond b (Some S) o ≡ fir
 if-first true S o = refl
 if-first false S o = refl
 
-
 -- one name
 pub note-new : (l k : ByBound) (m x : ℕ) (S : Sort) → ((n y : ℕ) → k n y ≡ cond ((m == n) && (x == y)) (Some S) (l n y)) → l m x ≡ None → k ≡ with_local l m x S
 note-new l k m x S u e = same_table _ _ (λ n y. u n y ∙ cases n y (m == n) (x == y) refl refl)

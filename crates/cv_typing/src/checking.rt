@@ -39,12 +39,7 @@ pub fn check(alloc: Global, work: &Work, file: &File) -> Result<(), TypeFault>
 }
 
 /// Whether declarations and a process are typed, or their first fault.
-fn check_parts(
-    alloc: Global,
-    pool: &Pool,
-    decls: &Decls,
-    root: NodeId,
-) -> Result<(), TypeFault>
+fn check_parts(alloc: Global, pool: &Pool, decls: &Decls, root: NodeId) -> Result<(), TypeFault>
     requires live { root.0 < length pool.now.trees }
     requires declared { All (IsLive (length pool.now.trees)) decls.now.list }
     requires fits { parts_size (file_parts (declarations pool.now.trees decls.now.list) (tree_at pool.now.trees (Some root))) < 2 ^ 32 }

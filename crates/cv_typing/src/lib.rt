@@ -30,3 +30,6 @@ pub use locals::Locals;
 pub use site::Site;
 pub use sort::Sort;
 pub use want::Want;
+
+#[cfg(test)]
+mod tests;

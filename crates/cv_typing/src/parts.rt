@@ -71,7 +71,16 @@ fn check_equation(
     let mut above = bind_locals(alloc, pool, node.first)?;
     let arrays = Arrays::OfNothing;
     let want = Want::Of(Sort::OfType(0));
-    walk(alloc, pool, decls, &arrays, &mut above, want, from, node.second)
+    walk(
+        alloc,
+        pool,
+        decls,
+        &arrays,
+        &mut above,
+        want,
+        from,
+        node.second,
+    )
 }
 
 /// Checks a query.
@@ -91,15 +100,20 @@ fn check_query(
     let mut above = bind_locals(alloc, pool, node.first)?;
     let arrays = Arrays::OfNothing;
     let want = Want::Correspondence;
-    walk(alloc, pool, decls, &arrays, &mut above, want, from, Some(tree))
+    walk(
+        alloc,
+        pool,
+        decls,
+        &arrays,
+        &mut above,
+        want,
+        from,
+        Some(tree),
+    )
 }
 
 /// The arrays of a side of an equivalence.
-fn arrays_of_side(
-    alloc: Global,
-    pool: &Pool,
-    group: Option<NodeId>,
-) -> Result<Arrays, AllocError>
+fn arrays_of_side(alloc: Global, pool: &Pool, group: Option<NodeId>) -> Result<Arrays, AllocError>
     requires { ChildBelow (length pool.now.trees) group }
     ensures { IfOk result (λ r. arrays_of r ≡ side_arrays (tree_at pool.now.trees group)) }
 {
@@ -194,10 +208,28 @@ fn check_equivalence(
     let right = arrays_of_side(alloc, pool, node.second)?;
     let none = Vec::new(alloc);
     let sorts = results_of(alloc, pool, decls, &left, key, functions)?;
-    let middle = check_bodies(alloc, pool, decls, &left, none.as_slice(), from, key, functions)?;
+    let middle = check_bodies(
+        alloc,
+        pool,
+        decls,
+        &left,
+        none.as_slice(),
+        from,
+        key,
+        functions,
+    )?;
     let other_key = first(pool, node.second);
     let others = rest(pool, node.second);
-    check_bodies(alloc, pool, decls, &right, sorts.as_slice(), middle, other_key, others)
+    check_bodies(
+        alloc,
+        pool,
+        decls,
+        &right,
+        sorts.as_slice(),
+        middle,
+        other_key,
+        others,
+    )
 }
 
 /// Checks the terms of a declaration.
