@@ -1,5 +1,5 @@
 -- The table of the names of functions, as it is made.
-use Rattle.std.proofs.Common.{◌≡◌, ℕ, Bool, true, false, ◌&&◌, cond, List, [], refl, ap, ap₂, sym, ◌∙◌, nat_eq, eqb-true, Option, Some, None, is_some}
+use Rattle.std.proofs.Common.{◌≡◌, ℕ, Bool, true, false, ◌&&◌, cond, [], refl, ap, ap₂, sym, ◌∙◌, eqb-true, Option, Some, None, is_some}
 use Rattle.std.specs.Prelude.{◌==◌, if◌then◌else◌}
 use Rattle.std.proofs.Math.Path.{fun_ext}
 use Rattle.cv_syntax.specs.declared.head.Head.{Head}

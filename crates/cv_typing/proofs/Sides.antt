@@ -13,7 +13,7 @@ use Rattle.cv_typing.specs.declared.fault.TypeFault.{TypeFault}
 use Rattle.cv_typing.specs.declared.sort.Sort.{Sort}
 use Rattle.cv_typing.specs.Parts.{Part, AreTyped, first_in, body_parts, declaration_parts, equivalence_parts, file_parts, game_part, results, side_arrays}
 use Rattle.cv_typing.specs.Refusals.{IsChecked, IsRefusalOf}
-use Rattle.cv_typing.specs.Signature.{Arrays, Signature}
+use Rattle.cv_typing.specs.Signature.{Arrays}
 use Rattle.cv_typing.proofs.First.{parts_typed_where_none}
 use Rattle.cv_typing.proofs.Parameters.{drop-none, drop-some}
 

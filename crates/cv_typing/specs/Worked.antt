@@ -1,8 +1,7 @@
 -- Small games and files with their first faults.
 use Rattle.std.specs.Prelude.{ℕ, true, false, List, [], ◌∷◌, ◌++◌, Option, Some, None}
 use Rattle.cv_syntax.specs.declared.decls.Class.TheVariants as class
-use Rattle.cv_syntax.specs.declared.head.Head.{Head}
-use Rattle.cv_syntax.specs.declared.head.Head.TheVariants.{Stop, Yield, Par, Repl, In, Out, Event, New, Let, If, Find, Branch, Leaf, Read, Apply, Eq, And, Or, Not, Yes, No, Cons, Forall, Query as Correspondence, Occurs, Secret, Equivalence, Bound, Single, Oracle}
+use Rattle.cv_syntax.specs.declared.head.Head.TheVariants.{Stop, Yield, Par, Repl, In, Out, Event, New, Let, If, Find, Branch, Leaf, Read, Apply, Eq, And, Or, Not, Yes, No, Cons, Forall, Query as Correspondence, Occurs, Secret, Equivalence, Bound, Oracle}
 use Rattle.cv_syntax.specs.Declarations.{Declaration, Named, Equation, Equiv, Query}
 use Rattle.cv_syntax.specs.Tree.{Tree, Empty, Node, lone, chain, names, binders}
 use Rattle.cv_typing.specs.declared.fault.Fault.{Fault}
