@@ -1,0 +1,15 @@
+use Rattle.std.proofs.Common.{◌≡◌, length}
+use Rattle.cv_pool.specs.Nodes.{ChildBelow}
+use Rattle.cv_syntax.specs.Tree.{tree_at}
+use Rattle.cv_syntax.specs.Walks.{above}
+use Rattle.cv_typing.specs.Tables.{seen, with_binders}
+use Rattle.cv_typing.proofs.sites.Sites.note_binders.Given as goal
+
+abbrev pub invariant-list : goal.invariant-list
+invariant-list l = record {
+  live : ChildBelow (length l.pool.trees) l.at;
+  same : with_binders (seen l.self) l.path l.are_indices (tree_at l.pool.trees l.at) ≡ with_binders (seen l.fn.self) l.path l.are_indices (tree_at l.pool.trees l.fn.list);
+}
+
+abbrev pub decreases-list : goal.decreases-list
+decreases-list l = above l.at

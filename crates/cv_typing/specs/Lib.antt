@@ -1,0 +1,9 @@
+pub mod Lookups
+pub mod Parts
+pub mod Refusals
+pub mod Signature
+pub mod Sites
+pub mod Tables
+pub mod Typing
+pub mod Wants
+pub mod Worked

@@ -1,0 +1,109 @@
+-- What the tables of a check hold.
+use Rattle.std.specs.Prelude.{ℕ, nat_eq, Bool, true, false, ◌&&◌, ◌==◌, if◌then◌else◌, List, option_map, Option, Some, None}
+use Rattle.std.specs.List.{list_any}
+use Rattle.std.specs.declared.hash.FoldHasher.{FoldHasher}
+use Rattle.std.specs.declared.hash.BuildHasherDefault.{BuildHasherDefault}
+use Rattle.std.specs.HashMap.{get, HashMap}
+use Rattle.cv_syntax.specs.declared.head.Head.{Head}
+use Rattle.cv_syntax.specs.Tree.{Tree, first, second}
+use Rattle.cv_typing.specs.declared.site.Site.{Site}
+use Rattle.cv_typing.specs.declared.sites.Sites.{Sites}
+use Rattle.cv_typing.specs.declared.sort.Sort.{Sort}
+use Rattle.cv_typing.specs.declared.sort.Sort.TheVariants.{OfType, BelowParameter}
+use Rattle.cv_typing.specs.declared.arrays.Arrays.{Arrays}
+use Rattle.cv_typing.specs.declared.arrays.Arrays.TheVariants as held
+use Rattle.cv_typing.specs.declared.locals.Locals.{Locals}
+use Rattle.cv_typing.specs.Signature as signature
+use Rattle.cv_typing.specs.Signature.{Above}
+use Rattle.cv_typing.specs.Sites.{SitesView, Variable, first_of, bound_sort, site_here, index_here, at_parameters, first_site, first_index}
+use Rattle.cv_typing.specs.Parts.{bound_at, local_here, local_in, own_sort, sort_by_bound}
+
+abbrev pub Map : Type 0 → Type 0
+Map X = HashMap ℕ X (BuildHasherDefault FoldHasher)
+
+abbrev pub variable_of : Site → Variable
+variable_of s = record { parameters = s.parameters.items; sort = s.sort }
+
+abbrev pub sites_in : Map Site → Map ℕ → SitesView
+sites_in variables indices = record { variable = λ x. option_map variable_of (get nat_eq variables x); index = λ i. get nat_eq indices i }
+
+-- the sites that a table holds
+abbrev pub seen : Sites → SitesView
+seen s = sites_in s.variables s.indices
+
+-- the sorts that binders give: indices, or values of types
+abbrev pub binder_sort : Bool → ℕ → Sort
+binder_sort true = BelowParameter
+binder_sort false = OfType
+
+-- one more variable, or one more index, unless it is there
+abbrev pub with_variable : SitesView → ℕ → Variable → SitesView
+with_variable s x v = record s { variable = λ y. first_of (s.variable y) (if x == y then Some v else None) }
+
+abbrev pub with_index : SitesView → ℕ → ℕ → SitesView
+with_index s i n = record s { index = λ j. first_of (s.index j) (if i == j then Some n else None) }
+
+-- the variables of a list of binders
+abbrev pub with_binders : SitesView → List ℕ → Bool → Tree → SitesView
+with_binders s ps are_indices binders =
+    record s { variable = λ x. first_of (s.variable x) (at_parameters ps (bound_sort (binder_sort are_indices) x binders)) }
+
+-- what a node itself defines
+abbrev pub with_node : SitesView → List ℕ → Head → Tree → SitesView
+with_node s ps h a = record {
+  variable = λ x. first_of (s.variable x) (at_parameters ps (site_here x h a));
+  index = λ i. first_of (s.index i) (index_here i h);
+}
+
+-- all that a tree defines
+abbrev pub with_sites : SitesView → List ℕ → Tree → SitesView
+with_sites s ps t = record { variable = λ x. first_of (s.variable x) (first_site x ps t); index = λ i. first_of (s.index i) (first_index i t) }
+
+abbrev pub same_pair : ℕ × ℕ → ℕ × ℕ → Bool
+same_pair p q = nat_eq p.0 q.0 && nat_eq p.1 q.1
+
+abbrev pub locals_of : Locals → ℕ → ℕ → Option Sort
+locals_of l m x = get same_pair l.sorts (m, x)
+
+abbrev pub arrays_of : Arrays → signature.Arrays
+arrays_of (held.OfGame s) = signature.OfGame (seen s)
+arrays_of (held.OfSide l) = signature.OfSide (locals_of l)
+arrays_of held.OfNothing = signature.OfNothing
+
+-- the names above that a map holds
+abbrev pub above_of : Map Sort → Above
+above_of m x = get nat_eq m x
+
+-- names above, without those of a list
+abbrev pub without : Above → List ℕ → Above
+without above xs y = if list_any (λ x. x == y) xs then None else above y
+
+-- the names of functions, by bound
+
+abbrev pub ByBound : Type 0
+ByBound = ℕ → ℕ → Option Sort
+
+abbrev pub no_locals : ByBound
+no_locals m x = None
+
+-- what is known of names, and else what a function with a bound says of them
+abbrev pub and_else : ByBound → ℕ → (ℕ → Option Sort) → ByBound
+and_else l m f n y = first_of (l n y) (if m == n then f y else None)
+
+abbrev pub with_local : ByBound → ℕ → ℕ → Sort → ByBound
+with_local l m x S = and_else l m (λ y. if x == y then Some S else None)
+
+abbrev pub with_binders_of : ByBound → ℕ → Tree → ByBound
+with_binders_of l m binders = and_else l m (λ y. bound_sort OfType y binders)
+
+abbrev pub with_here : ByBound → ℕ → Head → ByBound
+with_here l m h = and_else l m (λ y. local_here y h)
+
+abbrev pub with_body : ByBound → ℕ → Tree → ByBound
+with_body l m body = and_else l m (λ y. local_in y body)
+
+abbrev pub with_function : ByBound → Tree → ByBound
+with_function l f = and_else l (bound_at (first f)) (λ y. own_sort y (first f) (second f))
+
+abbrev pub with_functions : ByBound → Tree → ByBound
+with_functions l functions n y = first_of (l n y) (sort_by_bound functions n y)

@@ -1,0 +1,76 @@
+-- Typing: each node of a tree gives what its position asks of it; else the first node in preorder that does not.
+use Rattle.std.specs.Prelude.{◌≡◌, ◌≤◌, ℕ, Bool, false, ◌||◌, not, if◌then◌else◌, Option, Some, None}
+use Rattle.cv_syntax.specs.declared.head.Head.{Head}
+use Rattle.cv_syntax.specs.declared.head.Head.TheVariants.{In, New, Let, Branch, Binder}
+use Rattle.cv_syntax.specs.Tree.{Tree, Empty, Node, second, first_place, second_place}
+use Rattle.cv_typing.specs.declared.fault.Fault.{Fault}
+use Rattle.cv_typing.specs.declared.fault.Fault.TheVariants.{WrongType, Arity, IndexAsMessage, NotFixed}
+use Rattle.cv_typing.specs.declared.sort.Sort.{Sort}
+use Rattle.cv_typing.specs.declared.sort.Sort.TheVariants.{OfType, BelowParameter}
+use Rattle.cv_typing.specs.Sites.{Variable, first_of}
+use Rattle.cv_typing.specs.Signature.{Signature, Arrays, Above, same_sort, variable_in, is_fixed_in, sort_by, arity_by, is_arity, count}
+use Rattle.cv_typing.specs.Wants.{Want, wants, is_wrong, is_index_sent, above_second}
+
+-- A definition of a variable has the sort of its first site.
+
+abbrev pub differs : Option Variable → Sort → Bool
+differs None S = false
+differs (Some v) S = not (same_sort v.sort S)
+
+unfoldable pub binders_differ : Arrays → (ℕ → Sort) → Tree → Bool
+binders_differ arrays sort Empty = false
+binders_differ arrays sort (Node (Binder x T) a b) = differs (variable_in arrays x) (sort T) || binders_differ arrays sort b
+binders_differ arrays sort (Node h a b) = binders_differ arrays sort b
+
+abbrev pub site_differs : Arrays → Head → Tree → Bool
+site_differs arrays (New x T) a = differs (variable_in arrays x) (OfType T)
+site_differs arrays (Let x T) a = differs (variable_in arrays x) (OfType T)
+site_differs arrays (In c) a = binders_differ arrays OfType (second a)
+site_differs arrays Branch a = binders_differ arrays BelowParameter a
+site_differs arrays h a = false
+
+abbrev pub is_unfixed : Signature → Head → Bool
+is_unfixed e (New x T) = not (is_fixed_in e.declarations T)
+is_unfixed e h = false
+
+-- an index where a value is sent, and `new` of a type that isn't fixed
+abbrev pub value_fault : Signature → Want → Option Sort → Head → Option Fault
+value_fault e w S h = if is_index_sent w S then Some IndexAsMessage else if is_unfixed e h then Some NotFixed else None
+
+-- the fault of a node by itself
+abbrev pub fault_of : Signature → Above → Want → Head → Tree → Option Fault
+fault_of e above w h a =
+    if is_wrong w (sort_by e above h a) || site_differs e.arrays h a then Some WrongType
+    else if is_arity (arity_by e above h) (count a) then value_fault e w (sort_by e above h a) h
+    else Some Arity
+
+-- every node of the tree gives what its position asks
+unfoldable pub IsTyped : Signature → Above → Want → Tree → Type 0
+IsTyped e above w Empty = Unit {0}
+IsTyped e above w (Node h a b) =
+    (fault_of e above w h a ≡ None)
+    × IsTyped e above (wants e above w h a).0 a
+    × IsTyped e (above_second w h a above) (wants e above w h a).1 b
+
+abbrev pub placed : ℕ → Option Fault → Option (ℕ × Fault)
+placed p None = None
+placed p (Some f) = Some (p, f)
+
+-- the place and the fault of the first node in preorder that does not, in a tree that stands at a place
+unfoldable pub first_fault : Signature → Above → Want → ℕ → Tree → Option (ℕ × Fault)
+first_fault e above w p Empty = None
+first_fault e above w p (Node h a b) =
+    first_of (placed p (fault_of e above w h a))
+    (first_of (first_fault e above (wants e above w h a).0 (first_place p h) a)
+    (first_fault e (above_second w h a above) (wants e above w h a).1 (second_place p h a) b))
+
+-- in a tree that stands at p a node at q has the fault
+pub data Faulty (e : Signature) : Above → Want → ℕ → Tree → ℕ → Fault → Type 0 where
+  here : {above : Above} {w : Want} {p : ℕ} {h : Head} {a b : Tree} {f : Fault} → fault_of e above w h a ≡ Some f → Faulty e above w p (Node h a b) p f
+  in_first : {above : Above} {w : Want} {p q : ℕ} {h : Head} {a b : Tree} {f : Fault} → Faulty e above (wants e above w h a).0 (first_place p h) a q f → Faulty e above w p (Node h a b) q f
+  in_second : {above : Above} {w : Want} {p q : ℕ} {h : Head} {a b : Tree} {f : Fault} → Faulty e (above_second w h a above) (wants e above w h a).1 (second_place p h a) b q f → Faulty e above w p (Node h a b) q f
+
+-- a fault, and none at a lesser place
+pub record IsFirst (e : Signature) (above : Above) (w : Want) (p : ℕ) (t : Tree) (q : ℕ) (f : Fault) : Type 0 where
+  pub there : Faulty e above w p t q f
+  pub least : (r : ℕ) (g : Fault) → Faulty e above w p t r g → q ≤ r
