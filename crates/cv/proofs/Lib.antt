@@ -1,3 +1,4 @@
+pub mod Causing
 pub mod Endings
 pub mod Sayings
 pub mod Takes

@@ -29,7 +29,7 @@ use Rattle.cv.specs.Faults.{parse_ended, status_of as ended_by}
 use Rattle.cv.specs.Strategy.{Said, is_closed, said_then, closed_by, left_open, said_of, certificate, most_steps, status_by, status_of, expected, HasFile, Judged, most_pool}
 
 -- a query has a certificate where it is closed
-closed_some : (game q : Tree) → is_some (certificate game q) ≡ is_closed game q
+pub closed_some : (game q : Tree) → is_some (certificate game q) ≡ is_closed game q
 closed_some game q = entries_some (correspondence_of q) [] 0 game
 
 -- verdicts on queries, of which each that is `Proved` is on a closed one

@@ -1,9 +1,10 @@
-ghost use Rattle.std.specs.Prelude.{◌≡◌, ◌+◌, ◌<◌, ◌≤◌, ◌^◌, ◌↔◌, [], ◌∷◌, All, None, Some, Ok, map, length, IfOk, IfSome, IsSome, MatchOption, OnOk};
+ghost use Rattle.std.specs.Prelude.{◌≡◌, ◌+◌, ◌<◌, ◌≤◌, ◌^◌, ◌↔◌, [], ◌∷◌, ℕ, All, None, Some, Ok, map, length, IfOk, IfSome, IsSome, MatchOption, OnOk};
 ghost use Rattle.cv_syntax.specs.Classes.{queries};
 ghost use Rattle.cv_syntax.specs.Tree.{tree_at, size};
 ghost use Rattle.cv_files.specs.Accepted.{read_of};
 ghost use Rattle.cv_files.specs.Plain.{IsPlain};
 ghost use Rattle.cv_files.specs.Works.{content_at};
+ghost use Rattle.cv.specs.Causes.{Caused};
 ghost use Rattle.cv.specs.Faults.{parse_ended, status_of as ended_by};
 ghost use Rattle.cv.specs.Findings.{said};
 ghost use Rattle.cv.specs.Strategy.{most_pool, certificate, nothing_said, said_of, said_then, status_by, FollowsStrategy, HasFile, Judged, IsSound, SaysNothing};
@@ -161,6 +162,8 @@ pub fn judge(alloc: Global, work: Work, bytes: &[u8]) -> Report
     ensures follows { MatchOption result.file (SaysNothing result) (FollowsStrategy result) }
     ensures given { IsSome result.file ↔ HasFile result.status }
     ensures judged { Judged result.status bytes.now }
+    ensures caused { Caused result.status bytes.now }
+    ensures pool { (need : ℕ) → result.status ≡ Status.Limit (Which.Pool need) → most_pool < need }
 {
     let command = Command::Prove { moves: MOVES };
     let mut work = work;

@@ -3,6 +3,7 @@ ghost use Rattle.cv_outside.specs.Causes.{Rose};
 ghost use Rattle.cv_outside.specs.Told.{bytes_of};
 ghost use Rattle.cv_files.specs.Accepted.{read_of};
 ghost use Rattle.cv_files.specs.Works.{content_at};
+ghost use Rattle.cv.specs.Causes.{Caused};
 ghost use Rattle.cv.specs.Fetched.{fetch_ended};
 ghost use Rattle.cv.specs.Strategy.{EndsWell, FollowsStrategy, HasFile, IsGood, IsSound, Judged, SaysNothing, SpeaksOfFile, most_pool};
 ghost use Rattle.cv.specs.Text.{text_of};
@@ -44,6 +45,7 @@ fn prove<F: Shelf>(alloc: Global, name: &str, shelf: &mut F) -> Report
     ensures follows { MatchOption result.file (SaysNothing result) (FollowsStrategy result) }
     ensures given { IsSome result.file ↔ HasFile result.status }
     ensures said { SpeaksOfFile result.status → IfSome (F.told shelf.old) (λ files. Judged result.status (bytes_of files name.now)) }
+    ensures caused { SpeaksOfFile result.status → IfSome (F.told shelf.old) (λ files. Caused result.status (bytes_of files name.now)) }
     ensures complete { IfSome (F.told shelf.old) (λ files. length (bytes_of files name.now) ≤ 1048576 → (Rose (F.faults shelf.old) (F.faults shelf.new) → ⊥) → Judged result.status (bytes_of files name.now)) }
     ensures read { result.status ≡ Status.Read → Rose (F.faults shelf.old) (F.faults shelf.new) }
     ensures limit { result.status ≡ Status.Limit Which.File → IfSome (F.told shelf.old) (λ files. 1048576 < length (bytes_of files name.now)) }
@@ -74,6 +76,7 @@ fn decide<F: Shelf>(alloc: Global, words: &[String], shelf: &mut F) -> Report
     ensures follows { MatchOption result.file (SaysNothing result) (FollowsStrategy result) }
     ensures given { IsSome result.file ↔ HasFile result.status }
     ensures said { SpeaksOfFile result.status → IfSome (file_named (map string_bytes words.now)) (λ name. IfSome (F.told shelf.old) (λ files. Judged result.status (bytes_of files name))) }
+    ensures caused { SpeaksOfFile result.status → IfSome (file_named (map string_bytes words.now)) (λ name. IfSome (F.told shelf.old) (λ files. Caused result.status (bytes_of files name))) }
     ensures complete { IfSome (file_named (map string_bytes words.now)) (λ name. IfSome (F.told shelf.old) (λ files. length (bytes_of files name) ≤ 1048576 → (Rose (F.faults shelf.old) (F.faults shelf.new) → ⊥) → Judged result.status (bytes_of files name))) }
     ensures words { (result.status ≡ Status.Words) ↔ IsNone (file_named (map string_bytes words.now)) }
     ensures read { result.status ≡ Status.Read → Rose (F.faults shelf.old) (F.faults shelf.new) }
@@ -135,6 +138,7 @@ pub fn run<F: Shelf, K: Sink>(
 
     // What is said of a file is what its bytes call for, and it is said unless a fault or want of memory comes.
     ensures said { SpeaksOfFile result.report.status → IfSome (file_named (map string_bytes words.now)) (λ name. IfSome (F.told shelf.old) (λ files. Judged result.report.status (bytes_of files name))) }
+    ensures caused { SpeaksOfFile result.report.status → IfSome (file_named (map string_bytes words.now)) (λ name. IfSome (F.told shelf.old) (λ files. Caused result.report.status (bytes_of files name))) }
     ensures complete { IfSome (file_named (map string_bytes words.now)) (λ name. IfSome (F.told shelf.old) (λ files. length (bytes_of files name) ≤ 1048576 → (Rose (F.faults shelf.old) (F.faults shelf.new) → ⊥) → Judged result.report.status (bytes_of files name))) }
 
     // Each other answer has its cause.

@@ -131,6 +131,19 @@ pub dead_token : (limit : ℕ) (signs : List Sign) (token : ℕ) → parsed limi
 unfolding parsed
 dead_token limit signs token e = dead_by limit signs token (outcome signs) refl e
 
+-- a token that stands too deep
+
+deep_by : (limit : ℕ) (signs : List Sign) (token : ℕ) (o : Result Content Refusal) → outcome signs ≡ o → of_outcome limit (length signs) o ≡ Err (Nesting token) → (left : ℕ) × (token ≡ length signs - left) × (read_whole levels signs ≡ Err (fault.Nesting left))
+deep_by limit signs token (Ok c) e i = absurd (are_limited limit (said (length signs) c) (Err (Nesting token)) i)
+deep_by limit signs token (Err (Unread (fault.Syntax left))) e i = absurd (cc)
+deep_by limit signs token (Err (Unread (fault.Nesting left))) e i = (left, cc, reading_fault (read_whole levels signs) (fault.Nesting left) e)
+deep_by limit signs token (Err (Misnamed (names.NameTwice left))) e i = absurd (cc)
+deep_by limit signs token (Err (Misnamed (names.NameUnknown left))) e i = absurd (cc)
+
+pub deep_token : (limit : ℕ) (signs : List Sign) (token : ℕ) → parsed limit signs ≡ Err (Nesting token) → (left : ℕ) × (token ≡ length signs - left) × (read_whole levels signs ≡ Err (fault.Nesting left))
+unfolding parsed
+deep_token limit signs token e = deep_by limit signs token (outcome signs) refl e
+
 -- names
 
 twice_by : (limit : ℕ) (signs : List Sign) (token : ℕ) (o : Result Content Refusal) → outcome signs ≡ o → of_outcome limit (length signs) o ≡ Err (NameTwice token) → IsMisnamedAt signs names.NameTwice token

@@ -1,0 +1,54 @@
+-- What each answer about bytes comes from.
+use Rattle.std.specs.Prelude.{◌≡◌, ℕ, suc, ◌-◌, ◌<◌, if◌then◌else◌, List, [], ◌∷◌, length, Ok, Err}
+use Rattle.cv_lex.specs.Lexis.{Token, tokens_of}
+use Rattle.cv_signs.specs.Signs.{signs_of}
+use Rattle.cv_grammar.specs.declared.sign.Sign.{Sign}
+use Rattle.cv_grammar.specs.Reads as fault
+use Rattle.cv_rules.specs.Files.{levels, read_whole}
+use Rattle.cv_rules.specs.Names as names
+use Rattle.cv_parse.specs.declared.error.ParseError.TheVariants.{Syntax, Nesting, NameTwice, NameUnknown}
+use Rattle.cv_parse.specs.Says.{HasDepth, HasNodes, HasWeight, IsDead, IsLarge, IsMisnamedAt}
+use Rattle.cv_syntax.specs.Tree.{Tree}
+use Rattle.cv_files.specs.Accepted.{Content, IsFile}
+use Rattle.cv_files.specs.Typing.{queries_in}
+use Rattle.cv.specs.declared.report.FileFault.TheVariants.{Lex, Parse}
+use Rattle.cv.specs.declared.report.Status.{Status}
+use Rattle.cv.specs.declared.report.Status.TheVariants as status
+use Rattle.cv.specs.declared.report.Which.TheVariants.{Depth, Nodes, Pool, Steps}
+use Rattle.cv.specs.Strategy.{is_closed, most_pool, most_steps}
+
+-- The bytes have tokens, of which this holds.
+pub record OfTokens (bytes : List ℕ) (Holds : List Sign → Type 0) : Type 0 where
+  pub tokens : List Token
+  pub lexed : tokens_of bytes ≡ Ok tokens
+  pub holds : Holds (signs_of tokens).signs
+
+-- Reading goes one level too deep at this token.
+pub record IsTooDeep (signs : List Sign) (token : ℕ) : Type 0 where
+  pub left : ℕ
+  pub at : token ≡ length signs - left
+  pub deep : read_whole levels signs ≡ Err (fault.Nesting left)
+
+-- how many queries are closed in a game
+unfoldable pub closed_count : Tree → List Tree → ℕ
+closed_count game [] = 0
+closed_count game (q ∷ qs) = if is_closed game q then suc (closed_count game qs) else closed_count game qs
+
+-- A file has more queries that are closed than there may be steps.
+pub record HasManyClosed (bytes : List ℕ) : Type 0 where
+  pub content : Content
+  pub file : IsFile most_pool bytes content
+  pub many : most_steps < closed_count content.game (queries_in content.declarations)
+
+-- the cause of an answer that speaks of bytes that are refused, or of a limit
+abbrev pub Caused : Status → List ℕ → Type 0
+Caused (status.FileRefused (Lex e)) bytes = tokens_of bytes ≡ Err e
+Caused (status.FileRefused (Parse (Syntax token))) bytes = OfTokens bytes (λ signs. IsDead signs token)
+Caused (status.FileRefused (Parse (Nesting token))) bytes = OfTokens bytes (λ signs. IsTooDeep signs token)
+Caused (status.FileRefused (Parse (NameTwice token))) bytes = OfTokens bytes (λ signs. IsMisnamedAt signs names.NameTwice token)
+Caused (status.FileRefused (Parse (NameUnknown token))) bytes = OfTokens bytes (λ signs. IsMisnamedAt signs names.NameUnknown token)
+Caused (status.Limit (Nodes count)) bytes = OfTokens bytes (λ signs. IsLarge signs (HasNodes count))
+Caused (status.Limit (Depth depth)) bytes = OfTokens bytes (λ signs. IsLarge signs (HasDepth depth))
+Caused (status.Limit (Pool need)) bytes = OfTokens bytes (λ signs. IsLarge signs (HasWeight most_pool need))
+Caused (status.Limit Steps) bytes = HasManyClosed bytes
+Caused s bytes = Unit {0}
