@@ -160,7 +160,7 @@ fn small_processes(rt: HostRuntime) -> Result<(), Fail> {
             "in(c, (a:T)); if a = a then new n:T; event f(n); event e(n); yield else new n:T; event e(n); yield",
             1,
         ),
-        ("in(c, ()); new c:T; yield", 8),
+        ("in(c, ()); new c:T; yield", 2),
         ("in(c, ()); new n:T; new n:T; yield", 8),
         (
             "in(c, (a:T)); if a = a then new n:T; yield else event f(n); yield",
@@ -173,11 +173,14 @@ fn small_processes(rt: HostRuntime) -> Result<(), Fail> {
         ("in(c, (a:T)); new n:T; if a = n then new n:T; yield", 8),
         ("in(c, (a:T, b:bool)); if a = b then yield", 8),
         ("in(c, (b:bool)); if b then yield", 8),
-        ("in(c, (a:T)); if a = a = a then yield", 8),
+        ("in(c, (a:T)); if a = a = a then yield", 2),
         ("in(c, (a:T)); if a <> a then yield", 8),
-        ("in(c, (a:T)); if a = z then yield", 8),
-        ("in(c, (a:T)); yield else yield", 8),
-        ("in(c, (a:T)); (yield)", 8),
+        ("in(c, (a:T)); if a = z then yield", 2),
+        ("in(c, (a:T)); yield else yield", 2),
+        ("in(c, (a:T)); (yield)", 0),
+        ("in(c, (a:T)); find u <= 2 suchthat true then yield", 2),
+        ("in(c, (a:T)); let b:T = a in yield", 8),
+        ("in(c, ()); yield | in(d, ()); yield", 8),
     ] {
         let text = joined(alloc, HEAD, process)?;
         assert_eq!(rt; code_of(alloc, text.as_str())?, wanted, "of {process}");
@@ -220,16 +223,81 @@ fn lexis(rt: HostRuntime) -> Result<(), Fail> {
     for (text, wanted) in [
         ("process 0", 0),
         ("(* a (* nested *) comment *)process\t\r\n00", 0),
-        ("process 0 (* open", 8),
-        ("process 0 (* open (* twice *)", 8),
-        ("process 18446744073709551616", 8),
+        ("process 0 (* open", 2),
+        ("process 0 (* open (* twice *)", 2),
+        ("process 18446744073709551616", 2),
         ("event e. query event e ==> event e. process 0", 0),
-        ("event e. query event e = => event e. process 0", 8),
-        ("event e. query event e =>> event e. process 0", 8),
-        ("process 0 #", 8),
+        ("event e. query event e = => event e. process 0", 2),
+        ("event e. query event e =>> event e. process 0", 2),
+        ("process 0 #", 2),
     ] {
         assert_eq!(rt; code_of(alloc, text)?, wanted, "of {text}");
     }
+    Ok(())
+}
+
+#[test]
+fn refusals(rt: HostRuntime) -> Result<(), Fail> {
+    let alloc = rt.alloc();
+    let open = repeated(alloc, "process ", "(", 201, "")?;
+    for (text, wanted) in [
+        (
+            "process in(c, ()); find u <=",
+            "end 2 file refused: syntax at token 12\n",
+        ),
+        ("process 0 0", "end 2 file refused: syntax at token 2\n"),
+        (
+            "type T U. process 0",
+            "end 2 file refused: syntax at token 2\n",
+        ),
+        (open.as_str(), "end 2 file refused: nesting at token 201\n"),
+        ("process 0 #", "end 2 file refused: char at byte 10\n"),
+        (
+            "process (* 0",
+            "end 2 file refused: comment at byte 8\n",
+        ),
+        (
+            "process 18446744073709551616",
+            "end 2 file refused: number at byte 8\n",
+        ),
+        (
+            "channel c. channel c. process 0",
+            "end 2 file refused: name twice at token 4\n",
+        ),
+        (
+            "type bool. process 0",
+            "end 2 file refused: syntax at token 1\n",
+        ),
+        (
+            "process in(c, ()); yield",
+            "end 2 file refused: name unknown at token 3\n",
+        ),
+        ("proof { } process 0", "end 8 unbuilt\n"),
+        (
+            "equation true. process 0",
+            "end 8 unbuilt\n",
+        ),
+    ] {
+        let mut sink = MemSink::new(alloc, 1_000, Vec::new(alloc))?;
+        let _ = put_into(alloc, text, &mut sink)?;
+        assert_eq!(rt; sink.taken(), wanted.as_bytes(), "of {text}");
+    }
+    Ok(())
+}
+
+#[test]
+fn limits(rt: HostRuntime) -> Result<(), Fail> {
+    let alloc = rt.alloc();
+    let large = repeated(
+        alloc,
+        "channel c. process in(c, ()); out(c, (",
+        "true, ",
+        50_000,
+        "true))",
+    )?;
+    let mut sink = MemSink::new(alloc, 1_000, Vec::new(alloc))?;
+    let _ = put_into(alloc, large.as_str(), &mut sink)?;
+    assert_eq!(rt; sink.taken(), b"end 7 limit: nodes\n".as_slice());
     Ok(())
 }
 
@@ -245,7 +313,7 @@ fn sizes(rt: HostRuntime) -> Result<(), Fail> {
 
     // The variables of the last condition stand three levels below the last test.
     let front = "type T. channel c. process in(c, (a:T)); ";
-    for (tests, wanted) in [(187, 0), (197, 0), (198, 8)] {
+    for (tests, wanted) in [(187, 0), (197, 0), (198, 2)] {
         let text = repeated(alloc, front, "if a = a then ", tests, "yield")?;
         assert_eq!(rt; code_of(alloc, text.as_str())?, wanted, "of {tests} tests");
     }
