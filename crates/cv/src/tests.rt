@@ -252,10 +252,7 @@ fn refusals(rt: HostRuntime) -> Result<(), Fail> {
         ),
         (open.as_str(), "end 2 file refused: nesting at token 201\n"),
         ("process 0 #", "end 2 file refused: char at byte 10\n"),
-        (
-            "process (* 0",
-            "end 2 file refused: comment at byte 8\n",
-        ),
+        ("process (* 0", "end 2 file refused: comment at byte 8\n"),
         (
             "process 18446744073709551616",
             "end 2 file refused: number at byte 8\n",
@@ -273,10 +270,7 @@ fn refusals(rt: HostRuntime) -> Result<(), Fail> {
             "end 2 file refused: name unknown at token 3\n",
         ),
         ("proof { } process 0", "end 8 unbuilt\n"),
-        (
-            "equation true. process 0",
-            "end 8 unbuilt\n",
-        ),
+        ("equation true. process 0", "end 8 unbuilt\n"),
     ] {
         let mut sink = MemSink::new(alloc, 1_000, Vec::new(alloc))?;
         let _ = put_into(alloc, text, &mut sink)?;

@@ -8,13 +8,11 @@ use Rattle.cv_lex.specs.declared.LexError.{LexError}
 use Rattle.cv_lex.specs.declared.LexError.TheVariants as lex
 use Rattle.cv_lex.specs.Lexis.{Token, Lexed, tokens_of, Fails}
 use Rattle.cv_lex.proofs.Exact.{computed, said}
-use Rattle.cv_grammar.specs.declared.sign.Sign.{Sign}
 use Rattle.cv_pool.specs.KindTree.{KindTree}
 use Rattle.cv_syntax.specs.declared.decls.Decl.{Decl}
 use Rattle.cv_syntax.specs.declared.decls.Decl.TheVariants as decl
 use Rattle.cv_syntax.specs.declared.work.BuildError.TheVariants as build
 use Rattle.cv_syntax.specs.declared.work.File.{File}
-use Rattle.cv_syntax.specs.declared.work.Work.{Work}
 use Rattle.cv_syntax.specs.Declarations.{declarations}
 use Rattle.cv_signs.specs.Signs.{signs_of}
 use Rattle.cv_parse.specs.declared.error.ParseError.{ParseError}
@@ -24,8 +22,8 @@ use Rattle.cv_parse.specs.Parsed.{Parsed, held_in, parsed}
 use Rattle.cv_parse.specs.Parsed as parsing
 use Rattle.cv_parse.proofs.Exactness.{said_is_saying, says_is_said}
 use Rattle.cv_files.specs.declared.error.FileError.{FileError}
-use Rattle.cv_files.specs.declared.error.FileError.TheVariants.{Lex, Parse, Unbuilt, OutOfMemory}
-use Rattle.cv_files.specs.Accepted.{Content, IsFile, Refuses, content_of, game_fits, is_built, is_plain, is_typed, of_form, of_parsed, of_tokens, read_of}
+use Rattle.cv_files.specs.declared.error.FileError.TheVariants.{Unbuilt}
+use Rattle.cv_files.specs.Accepted.{Content, IsFile, Refuses, content_of, game_fits, is_built, is_plain, is_typed, of_parsed, of_tokens, read_of}
 use Rattle.cv_files.specs.Faults.{of_lex, of_parse}
 use Rattle.cv_files.specs.Plain.{IsPlain, is_plain_decl, plain_there}
 use Rattle.cv_files.specs.Sites.{are_of_one_type, sites_of}

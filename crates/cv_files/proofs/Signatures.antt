@@ -1,5 +1,5 @@
 -- What a plain list of declarations says of names and of queries.
-use Rattle.std.proofs.Common.{◌≡◌, ℕ, zero, suc, ◌+◌, ◌<◌, ◌≤◌, drop, Bool, true, false, ◌&&◌, cond, List, [], ◌∷◌, length, map, refl, ap, ap₂, sym, ◌∙◌, arith, Option, Some, None, is_some, option_and_then, All}
+use Rattle.std.proofs.Common.{◌≡◌, ℕ, zero, suc, ◌+◌, ◌<◌, ◌≤◌, drop, Bool, true, false, ◌&&◌, cond, List, [], ◌∷◌, length, map, refl, ap, ap₂, sym, ◌∙◌, arith, Option, Some, None, option_and_then, All}
 use Rattle.std.specs.Prelude.{◌==◌, slice_get}
 use Rattle.std.specs.List.{list_all}
 use Rattle.std.proofs.Math.Path.{fun_ext}

@@ -1,5 +1,5 @@
 -- Files of the form that is built: what they hold, and which bytes are one.
-use Rattle.std.specs.Prelude.{◌≡◌, ℕ, Bool, true, false, ◌&&◌, is_none, if◌then◌else◌, List, [], ◌∷◌, Option, Some, None, Result, Ok, Err}
+use Rattle.std.specs.Prelude.{◌≡◌, ℕ, Bool, true, false, ◌&&◌, is_none, if◌then◌else◌, List, Result, Ok, Err}
 use Rattle.std.specs.List.{list_all}
 use Rattle.cv_lex.specs.Lexis.{Token, Lexed, tokens_of}
 use Rattle.cv_lex.specs.declared.LexError.{LexError}

@@ -53,12 +53,7 @@ fn are_plain(decls: &Decls) -> bool
 }
 
 /// Whether a file is of the form that is built.
-pub fn is_built(
-    alloc: Global,
-    pool: &Pool,
-    decls: &Decls,
-    file: &File,
-) -> Result<bool, AllocError>
+pub fn is_built(alloc: Global, pool: &Pool, decls: &Decls, file: &File) -> Result<bool, AllocError>
     requires live { file.now.game.root.0 < length pool.now.trees }
     requires below { All (IsBelow (length pool.now.trees)) decls.now.list }
     ensures built { IfOk result (λ yes. yes ≡ built (held_in pool.now.trees decls.now.list file.now)) }

@@ -1,12 +1,12 @@
 -- Declarations, one after another.
 use Rattle.std.proofs.Common.{◌≡◌, ℕ, zero, suc, ◌+◌, ◌<◌, ◌≤◌, ◌==◌, if◌then◌else◌, Bool, true, false, ◌||◌, List, [], ◌∷◌, ◌++◌, length, drop, get_or, append_assoc, append-nil, length-append, subst, refl, ap, ap₂, sym, ◌∙◌, arith, Option, Some, None, eqb-true, eq-eqb}
 use Rattle.std.specs.Prelude.{flat_map, option_map}
-use Rattle.std.specs.List.{AllByRecursion, list_any}
+use Rattle.std.specs.List.{AllByRecursion}
 use Rattle.cv_syntax.specs.declared.decls.Class.{Class}
 use Rattle.cv_syntax.specs.declared.decls.Class.TheVariants as class
 use Rattle.cv_syntax.specs.declared.decls.Decl.{Decl}
 use Rattle.cv_syntax.specs.declared.decls.Decl.TheVariants as decl
-use Rattle.cv_syntax.specs.Classes.{IsNamed, IsNew, declaration_in, id_of, is_number}
+use Rattle.cv_syntax.specs.Classes.{IsNamed, IsNew, declaration_in}
 use Rattle.cv_names.specs.declared.names.NameId.{NameId}
 use Rattle.cv_pool.specs.declared.node.NodeId.{NodeId}
 use Rattle.cv_rules.specs.Identities.{AreDistinct, is_among}

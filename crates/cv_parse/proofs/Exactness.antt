@@ -1,10 +1,9 @@
 -- What is computed of tokens, and what they say.
-use Rattle.std.proofs.Common.{◌≡◌, ℕ, ◌-◌, ◌<◌, ◌≤◌, true, false, Bool, nat_lt, if◌then◌else◌, List, ◌∷◌, length, refl, ap, ap₂, subst, sym, ◌∙◌, arith, Option, Some, None, Result, Ok, Err}
+use Rattle.std.proofs.Common.{◌≡◌, ℕ, ◌-◌, ◌≤◌, true, false, Bool, nat_lt, if◌then◌else◌, List, ◌∷◌, length, refl, ap, ap₂, subst, sym, ◌∙◌, arith, Option, Some, None, Result, Ok, Err}
 use Rattle.std.proofs.lemmas.Bool.Decides.{nat_tests}
 use Rattle.cv_syntax.specs.declared.work.BuildError.{BuildError}
 use Rattle.cv_syntax.specs.declared.work.BuildError.TheVariants as build
-use Rattle.cv_syntax.specs.Declarations.{Declaration}
-use Rattle.cv_syntax.specs.Tree.{Tree, depth, size}
+use Rattle.cv_syntax.specs.Tree.{depth, size}
 use Rattle.cv_grammar.specs.declared.sign.Sign.{Sign}
 use Rattle.cv_grammar.specs.Reads.{Fault, Read}
 use Rattle.cv_grammar.specs.Reads as fault
@@ -14,12 +13,12 @@ use Rattle.cv_rules.specs.Files.{levels, read_whole}
 use Rattle.cv_rules.specs.Names.{NameFault, name_fault}
 use Rattle.cv_rules.specs.Names as names
 use Rattle.cv_rules.specs.Rules.{File, file, heads, rule, tails}
-use Rattle.cv_rules.specs.Whole.{Content, Misnamed, Refusal, Unread, built_in, content_of, outcome, outcome_of, unless}
+use Rattle.cv_rules.specs.Whole.{Content, Misnamed, Refusal, Unread, built_in, outcome, outcome_of, unless}
 use Rattle.cv_rules.proofs.Fitting.{all_fit, file_fits}
 use Rattle.cv_rules.proofs.Outcome.{accepted_is_read, read_is_accepted, refused_is_misnamed}
 use Rattle.cv_parse.specs.declared.error.ParseError.{ParseError}
 use Rattle.cv_parse.specs.declared.error.ParseError.TheVariants.{Syntax, Nesting, NameTwice, NameUnknown, Build}
-use Rattle.cv_parse.specs.Parsed.{Parsed, bool_type, limited, most_depth, most_nodes, of_fault, of_name, of_outcome, parsed, range_of, roomed, said, sized, sized_first, weight_of}
+use Rattle.cv_parse.specs.Parsed.{Parsed, limited, most_depth, most_nodes, of_fault, of_name, of_outcome, parsed, said, sized_first, weight_of}
 use Rattle.cv_parse.specs.Says.{HasDepth, HasNodes, HasWeight, IsDead, IsLarge, IsMisnamedAt, Says}
 use Rattle.cv_parse.specs.Weights.{asked, capped}
 

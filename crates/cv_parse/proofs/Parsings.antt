@@ -1,5 +1,5 @@
 -- From the stages of reading a file to what it says, or what it is refused for.
-use Rattle.std.proofs.Common.{◌≡◌, ℕ, zero, suc, ◌+◌, ◌-◌, ◌<◌, ◌≤◌, true, false, Bool, nat_lt, if◌then◌else◌, List, [], ◌∷◌, ◌++◌, length, refl, ap, ap₂, subst, sym, ◌∙◌, arith, Option, Some, None, Result, Ok, Err}
+use Rattle.std.proofs.Common.{◌≡◌, ℕ, ◌+◌, ◌-◌, ◌<◌, ◌≤◌, true, false, Bool, nat_lt, if◌then◌else◌, List, ◌∷◌, ◌++◌, length, refl, ap, ap₂, subst, sym, ◌∙◌, arith, Option, Some, None, Result, Ok, Err}
 use Rattle.std.proofs.lemmas.Bool.Decides.{nat_tests}
 use Rattle.std.specs.Prelude.{IsErrAnd}
 use Rattle.cv_pool.specs.KindTree.{KindTree}
@@ -9,15 +9,12 @@ use Rattle.cv_syntax.specs.declared.make.Make.{Make}
 use Rattle.cv_syntax.specs.declared.work.BuildError.TheVariants as build
 use Rattle.cv_syntax.specs.declared.work.File.{File}
 use Rattle.cv_syntax.specs.Postorder.{postorder}
-use Rattle.cv_syntax.specs.Tree.{Tree, Empty, depth, size, tree_at}
+use Rattle.cv_syntax.specs.Tree.{Tree, depth, size}
 use Rattle.cv_grammar.specs.declared.sign.Sign.{Sign}
-use Rattle.cv_grammar.specs.Reads.{Found}
-use Rattle.cv_rules.specs.declared.role.Role.{Role}
 use Rattle.cv_rules.specs.Filled.{filled}
 use Rattle.cv_rules.specs.Files.{levels, read_whole}
 use Rattle.cv_rules.specs.Names.{name_fault}
-use Rattle.cv_rules.specs.Rules as rules
-use Rattle.cv_rules.specs.Whole.{built_in, content_of, outcome, outcome_of, unless}
+use Rattle.cv_rules.specs.Whole.{built_in, content_of, outcome_of, unless}
 use Rattle.cv_rules.proofs.Identities.{ids_are_distinct}
 use Rattle.cv_rules.proofs.Outcome.{accepted_is_read}
 use Rattle.cv_read.specs.declared.reading.ReadError.{ReadError}
@@ -30,8 +27,8 @@ use Rattle.cv_parse.specs.declared.error.ParseError.{ParseError}
 use Rattle.cv_parse.specs.declared.error.ParseError.TheVariants.{Syntax, Nesting, NameTwice, NameUnknown, Build}
 use Rattle.cv_parse.specs.Building.{Builds, Crowds, IsBuilt, Misnames}
 use Rattle.cv_parse.specs.Faults.{of_read}
-use Rattle.cv_parse.specs.Parsed.{Parsed, ParsesIn, Refuses, bool_type, held_in, limited, most_depth, most_nodes, of_name, of_outcome, parsed, range_of, roomed, said, sized, sized_first, weight_of}
-use Rattle.cv_parse.specs.Weights.{asked, capped, declared_weight, parts_weight, tree_weight}
+use Rattle.cv_parse.specs.Parsed.{Parsed, ParsesIn, Refuses, held_in, limited, most_depth, most_nodes, of_name, of_outcome, parsed, range_of, roomed, said, sized, sized_first, weight_of}
+use Rattle.cv_parse.specs.Weights.{asked, capped, parts_weight, tree_weight}
 use Rattle.cv_parse.proofs.Weighing.{declared-weight, tree-weight, weight-both}
 
 told_again : {ds es : List Declaration} {s r : Option (ℕ × ℕ)} {t u : Tree} → ds ≡ es → s ≡ r → t ≡ u → (let x : Result Parsed ParseError = Ok (record { declarations = ds; script = s; game = t }) in x) ≡ Ok (record { declarations = es; script = r; game = u })

@@ -1,14 +1,13 @@
 -- The weight of trees is that of their parts.
-use Rattle.std.proofs.Common.{◌≡◌, ℕ, zero, suc, ◌+◌, ◌*◌, ◌<◌, ◌≤◌, List, [], ◌∷◌, ◌++◌, length, take, drop, get_or, refl, ap, ap₂, sym, ◌∙◌, arith, append_assoc}
+use Rattle.std.proofs.Common.{◌≡◌, ℕ, zero, suc, ◌+◌, ◌<◌, ◌≤◌, List, [], ◌∷◌, ◌++◌, length, take, get_or, refl, ap, ap₂, ◌∙◌, arith}
 use Rattle.std.specs.Prelude.{flat_map}
 use Rattle.cv_syntax.specs.declared.make.Make.{Make}
-use Rattle.cv_syntax.specs.declared.make.Make.TheVariants.{Nothing, Over}
+use Rattle.cv_syntax.specs.declared.make.Make.TheVariants.{Over}
 use Rattle.cv_syntax.specs.Declarations.{Declaration}
-use Rattle.cv_syntax.specs.Head.{weight}
 use Rattle.cv_syntax.specs.Postorder.{postorder}
 use Rattle.cv_syntax.specs.Tree.{Tree, Empty, Node}
 use Rattle.cv_read_declarations.specs.Declares.{parts_of, tree_in}
-use Rattle.cv_parse.specs.Weights.{declared_weight, held, part_weight, parts_weight, tree_weight}
+use Rattle.cv_parse.specs.Weights.{declared_weight, part_weight, parts_weight, tree_weight}
 
 pub weight-both : (a b : List Make) → parts_weight (a ++ b) ≡ parts_weight a + parts_weight b
 weight-both [] b = omega arith

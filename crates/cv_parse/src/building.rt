@@ -44,11 +44,7 @@ fn planted(
 }
 
 /// Declares `bool`, and behind it all that was heard.
-fn declare(
-    decls: &mut Decls,
-    heard: &[Heard],
-    roots: &[Option<NodeId>],
-) -> Result<(), AllocError>
+fn declare(decls: &mut Decls, heard: &[Heard], roots: &[Option<NodeId>]) -> Result<(), AllocError>
     requires empty { decls.old.list ≡ [] }
     requires few { length heard.now + 2 < 2 ^ 32 }
     requires rooted { length heard.now ≤ length roots.now }

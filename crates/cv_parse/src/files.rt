@@ -34,7 +34,9 @@ fn check_names(alloc: Global, uses: &[NameUse], count: usize) -> Result<(), Pars
 {
     match name_fault(alloc, uses)? {
         None => Ok(()),
-        Some(NameFault::Twice(left)) => Err(ParseError::NameTwice(count.saturating_sub(left) as u32)),
+        Some(NameFault::Twice(left)) => Err(ParseError::NameTwice(
+            count.saturating_sub(left) as u32,
+        )),
         Some(NameFault::Unknown(left)) => {
             Err(ParseError::NameUnknown(count.saturating_sub(left) as u32))
         }

@@ -1,5 +1,5 @@
 -- Queries, from their parts.
-use Rattle.std.proofs.Common.{◌≡◌, ◌≢◌, subst, ℕ, Bool, true, false, List, [], ◌∷◌, ◌++◌, drop, length, refl, ap, sym, ◌∙◌, flat_map}
+use Rattle.std.proofs.Common.{◌≡◌, ◌≢◌, subst, ℕ, Bool, true, false, List, [], ◌∷◌, ◌++◌, drop, length, ap, sym, ◌∙◌, flat_map}
 use Rattle.std.specs.Prelude.{replicate, Result, Ok, Err}
 use Rattle.cv_syntax.specs.declared.head.Head.TheVariants.{Cons, Query as Correspondence, Secret, SecretOnce}
 use Rattle.cv_syntax.specs.declared.make.Make.{Make}
@@ -11,7 +11,7 @@ use Rattle.cv_grammar.specs.declared.sign.Mark.{Mark}
 use Rattle.cv_grammar.specs.declared.sign.Mark.TheVariants as mark
 use Rattle.cv_grammar.specs.Form.{either, made, word, ◌&◌, ◌▸◌, ◌◂◌}
 use Rattle.cv_grammar.specs.Spells.{next_is, starts}
-use Rattle.cv_grammar.specs.Reads.{Found, Read, Reader, ◌>>=◌, found, joined, mapped, pick}
+use Rattle.cv_grammar.specs.Reads.{Found, Reader, ◌>>=◌, found, joined, mapped, pick}
 use Rattle.cv_grammar.proofs.Sound.{bind_ok, same_found}
 use Rattle.cv_rules.specs.declared.role.Role.{Role}
 use Rattle.cv_rules.specs.declared.role.Role.TheVariants.{BindsLocal, Unchecked}

@@ -1,16 +1,15 @@
 -- Equivalences and collisions, from their parts.
-use Rattle.std.proofs.Common.{◌≡◌, ℕ, List, [], ◌∷◌, ◌++◌, drop, refl, ap, ap₂, sym, ◌∙◌, append_assoc, None}
+use Rattle.std.proofs.Common.{◌≡◌, ℕ, List, [], ◌∷◌, ◌++◌, drop, refl, ap, ap₂, sym, ◌∙◌, append_assoc}
 use Rattle.cv_syntax.specs.declared.head.Head.TheVariants.{Cons, Equivalence, Oracle, Single}
 use Rattle.cv_syntax.specs.declared.make.Make.{Make}
 use Rattle.cv_syntax.specs.declared.make.Make.TheVariants.{Nothing, Over}
-use Rattle.cv_syntax.specs.Tree.{Tree, Empty, Node, binders, chain}
+use Rattle.cv_syntax.specs.Tree.{Tree, Node, binders}
 use Rattle.cv_syntax.specs.Postorder.{postorder}
 use Rattle.cv_grammar.specs.declared.sign.Sign.{Sign}
 use Rattle.cv_grammar.specs.declared.sign.Mark.TheVariants as mark
 use Rattle.cv_grammar.specs.Form.{◌&◌, ◌◂◌}
 use Rattle.cv_rules.specs.Terms.{term}
 use Rattle.cv_rules.specs.Declarations.{forall_vars, probability}
-use Rattle.cv_rules.specs.Equivalences.{function_of, lone_group}
 use Rattle.cv_read.specs.declared.trail.NameUse.{NameUse}
 use Rattle.cv_read.specs.Gives.{IsRead, Stands, read_in}
 use Rattle.cv_read.proofs.Chains.{both_made, both_read, both_sign, made_read}

@@ -79,12 +79,7 @@ fn shared_event(
 
 /// The word `inj`, and an event that no other shares.
 #[tactic(auto, using(cv_read::proofs::Places::places))]
-fn own_event(
-    signs: &[Sign],
-    at: usize,
-    trail: &mut Trail,
-    depth: u32,
-) -> Result<usize, ReadError>
+fn own_event(signs: &[Sign], at: usize, trail: &mut Trail, depth: u32) -> Result<usize, ReadError>
     requires at { at ≤ length signs.now }
     requires few { length signs.now < 2 ^ 32 }
     ensures makes { Makes postorder signs.now trail.old trail.new result (read_in depth (made (λ (e, l). Node (OccursOnce e) l Empty) (Inj ▸ happens_form)) (drop at signs.now)) }
@@ -319,12 +314,7 @@ pub fn query_decl(
     ensures declares { Declares signs.now trail.old trail.new heard.old.items heard.new.items result (read_in depth query_form (drop at signs.now)) }
 {
     let place = expect(signs, at, Mark::QueryWord)?;
-    note(
-        signs,
-        place,
-        &mut trail.uses,
-        Role::Enters(Region::InQuery),
-    )?;
+    note(signs, place, &mut trail.uses, Role::Enters(Region::InQuery))?;
     let place = query(alloc, signs, place, trail, depth)?;
     note(signs, place, &mut trail.uses, Role::Leaves)?;
     let place = expect(signs, place, Mark::Dot)?;

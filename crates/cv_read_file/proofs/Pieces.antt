@@ -1,17 +1,17 @@
 -- Pieces of a proof block, one after another.
-use Rattle.std.proofs.Common.{◌≡◌, ℕ, ◌-◌, ◌<◌, ◌≤◌, Bool, true, false, not, ◌||◌, List, [], ◌∷◌, ◌++◌, length, drop, refl, sym, arith, subst, length-drop, Result, Ok, Err}
-use Rattle.cv_syntax.specs.Tree.{Tree, Empty}
+use Rattle.std.proofs.Common.{◌≡◌, ℕ, ◌-◌, ◌<◌, ◌≤◌, Bool, true, false, not, ◌||◌, List, [], ◌∷◌, ◌++◌, length, drop, refl, sym, arith, subst, length-drop, Result}
+use Rattle.cv_syntax.specs.Tree.{Empty}
 use Rattle.cv_grammar.specs.declared.sign.Sign.{Sign}
 use Rattle.cv_grammar.specs.declared.sign.Mark.TheVariants as mark
 use Rattle.cv_grammar.specs.Form.{deeper, made, other}
 use Rattle.cv_grammar.specs.Spells.{AFind, AMark, ANumber, AWord, AnUnnamed, Kind, Zero, is_mark, kind_of, next_is, starts}
-use Rattle.cv_grammar.specs.Reads.{Read, pick, read_other}
+use Rattle.cv_grammar.specs.Reads.{Read, read_other}
 use Rattle.cv_grammar.proofs.Sound.{same_mark_eq}
 use Rattle.cv_rules.specs.declared.role.Role.{Role}
 use Rattle.cv_rules.specs.Phrases.{Braces, Phrase, Sort}
 use Rattle.cv_rules.specs.Rules.{heads, matched, rule}
 use Rattle.cv_read.specs.declared.reading.ReadError.{ReadError}
-use Rattle.cv_read.specs.Gives.{IsPlain, IsRead, below, read_in}
+use Rattle.cv_read.specs.Gives.{IsPlain, below, read_in}
 use Rattle.cv_read.proofs.Chains.{first_read, made_read, second_read}
 use Rattle.cv_read.proofs.Levels.{below_is}
 use Rattle.cv_read.proofs.Places.{past_end, plain_read}

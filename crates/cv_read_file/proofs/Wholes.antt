@@ -3,7 +3,6 @@ use Rattle.std.proofs.Common.{◌≡◌, ℕ, zero, suc, ◌<◌, ◌≤◌, fal
 use Rattle.std.specs.Prelude.{map, flat_map}
 use Rattle.cv_syntax.specs.Tree.{Tree}
 use Rattle.cv_syntax.specs.Declarations.{Declaration}
-use Rattle.cv_syntax.specs.declared.make.Make.{Make}
 use Rattle.cv_syntax.specs.Postorder.{postorder}
 use Rattle.cv_grammar.specs.declared.sign.Sign.{Sign}
 use Rattle.cv_grammar.specs.declared.sign.Mark.TheVariants as mark

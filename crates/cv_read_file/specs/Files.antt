@@ -1,5 +1,5 @@
 -- What the reader of files gives, by what the grammar reads. This profile's own.
-use Rattle.std.specs.Prelude.{ℕ, ◌≡◌, List, [], ◌∷◌, map, flat_map, Result, Ok, Err}
+use Rattle.std.specs.Prelude.{◌≡◌, List, [], ◌∷◌, map, flat_map, Result, Ok, Err}
 use Rattle.std.specs.List.{AllByRecursion}
 use Rattle.cv_syntax.specs.Postorder.{postorder}
 use Rattle.cv_grammar.specs.declared.sign.Sign.{Sign}

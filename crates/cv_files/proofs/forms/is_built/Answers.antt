@@ -1,5 +1,4 @@
-use Rattle.std.proofs.Common.{sym, ◌∙◌, Some}
-use Rattle.cv_syntax.specs.Declarations.{declarations}
+use Rattle.std.proofs.Common.{sym, ◌∙◌}
 use Rattle.cv_parse.specs.Parsed.{held_in}
 use Rattle.cv_files.proofs.Readings.{all_plain, by_types_if, not_plain, plain_same, with_script}
 use Rattle.cv_files.proofs.forms.is_built.Goals as goal

@@ -1,4 +1,4 @@
-use Rattle.std.proofs.Common.{◌≡◌, Bool, IfOk, length, subst, ◌∙◌}
+use Rattle.std.proofs.Common.{◌≡◌, Bool, IfOk, length, subst}
 use Rattle.cv_files.proofs.Signatures.{plain-below, game-refused, queries-fit}
 use Rattle.cv_files.proofs.typing.is_typed.Goals as goal
 

@@ -6,7 +6,7 @@ use Rattle.cv_grammar.specs.Form.{note, ◌&◌, ◌▸◌, ◌◂◌}
 use Rattle.cv_grammar.specs.declared.sign.Mark.TheVariants as mark
 use Rattle.cv_rules.specs.declared.role.Region.TheVariants.{InEquivalence}
 use Rattle.cv_rules.specs.declared.role.Role.TheVariants.{BindsLocal, Leaves}
-use Rattle.cv_rules.specs.Phrases.{Phrase, inside, typed}
+use Rattle.cv_rules.specs.Phrases.{inside, typed}
 use Rattle.cv_rules.specs.Terms.{term}
 use Rattle.cv_rules.specs.Equivalences.{lone_group}
 use Rattle.cv_rules.specs.Declarations.{collision, forall_vars, probability}

@@ -1,12 +1,5 @@
 use Rattle.std.proofs.Common.{sym}
-use Rattle.cv_rules.specs.Rules.{matched}
-use Rattle.cv_grammar.specs.Form.{made}
-use Rattle.cv_grammar.specs.declared.sign.Mark.TheVariants as mark
-use Rattle.cv_syntax.specs.Tree.{Empty}
-use Rattle.cv_read.proofs.Chains.{made_read}
-use Rattle.cv_read.proofs.Places.{plain_read}
-use Rattle.cv_read_declarations.proofs.Listed.{enclosed, plain_of}
-use Rattle.cv_read_file.proofs.Pieces.{braces_passed, pieces_begin, pieces_done, pieces_go, pieces_nearer, token_passed}
+use Rattle.cv_read_file.proofs.Pieces.{pieces_begin, pieces_done, pieces_go, pieces_nearer}
 use Rattle.cv_read_file.proofs.blocks.+braces.Goals as goal
 
 pub matched-pieces-init : goal.matched-pieces-init

@@ -1,4 +1,4 @@
-use Rattle.std.proofs.Common.{refl, arith, ap, sym, ◌∙◌, ◌++◌, ◌∷◌, []}
+use Rattle.std.proofs.Common.{refl, arith, ap, ◌∙◌, ◌++◌, ◌∷◌, []}
 use Rattle.cv_read.specs.Gives.{uses_of}
 use Rattle.cv_read_file.proofs.Wholes.{file_unended, reading_of}
 use Rattle.cv_read_file.proofs.file.read.Goals as goal
