@@ -12,10 +12,17 @@ use Rattle.cv_parse.specs.declared.error.ParseError.{ParseError}
 use Rattle.cv_parse.specs.declared.error.ParseError.TheVariants as parse
 use Rattle.cv_parse.specs.Parsed.{Parsed, parsed}
 use Rattle.cv_parse.specs.Says.{HasWeight, IsLarge}
-use Rattle.cv_parse.proofs.Exactness.{dead_token, deep_game, deep_token, heavy_trees, large_game, twice_named, unknown_name}
+use Rattle.cv_parse.proofs.Exactness.{dead_token, deep_game, deep_token, heavy_trees, large_game, said_is_saying, twice_named, unknown_name}
+use Rattle.cv_syntax.specs.Declarations.{Declaration}
+use Rattle.cv_typing.specs.declared.fault.Fault.{Fault}
+use Rattle.cv_typing.specs.declared.fault.Fault.TheVariants as type
+use Rattle.cv_typing.specs.declared.fault.TypeFault.{TypeFault}
+use Rattle.cv_typing.specs.Parts.{IsFirstIn, Part, file_parts}
+use Rattle.cv_typing.specs.Refusals.{IsFirstRefusal, refusal}
+use Rattle.cv_typing.proofs.First.{finds_first_in}
 use Rattle.cv_files.specs.declared.error.FileError.{FileError}
 use Rattle.cv_files.specs.declared.error.FileError.TheVariants as fault
-use Rattle.cv_files.specs.Accepted.{Content, content_of, is_built, of_form, of_parsed, of_tokens, read_of}
+use Rattle.cv_files.specs.Accepted.{Content, content_of, is_built, of_form, of_parsed, of_script, of_tokens, of_types, read_of, type_fault}
 use Rattle.cv_files.specs.Typing.{queries_in}
 use Rattle.cv_files.proofs.Readings.{read_is_file}
 use Rattle.cv_direct.specs.Search.{EntryTree}
@@ -25,7 +32,7 @@ use Rattle.cv.specs.declared.report.Status.{Status}
 use Rattle.cv.specs.declared.report.Status.TheVariants as status
 use Rattle.cv.specs.declared.report.Verdict.TheVariants.{Proved, NotProved}
 use Rattle.cv.specs.declared.report.Which.TheVariants.{Depth, File, Nodes, Pool, Steps}
-use Rattle.cv.specs.Causes.{Caused, HasManyClosed, IsTooDeep, OfTokens, closed_count}
+use Rattle.cv.specs.Causes.{Caused, HasManyClosed, HasTypeFault, IsTooDeep, OfTokens, closed_count}
 use Rattle.cv.specs.Faults.{parse_ended, status_of as ended_by}
 use Rattle.cv.specs.Strategy.{Judged, Said, certificate, closed_by, expected, is_closed, left_open, most_pool, most_steps, nothing_said, said_of, said_then, status_by, status_of}
 use Rattle.cv.proofs.Verdicts.{closed_some}
@@ -40,13 +47,69 @@ form_no_lex : (b : Bool) (c : Content) (x : LexError) → (if b then Ok c else E
 form_no_lex true c x e = cc
 form_no_lex false c x e = cc
 
+types_no_parse : (names : List (List ℕ)) (p : Parsed) (o : Option (ℕ × Fault)) (x : ParseError) → of_types names p o ≡ Err (fault.Parse x) → ⊥
+types_no_parse names p None x e = form_no_parse (is_built p) (content_of names p) x e
+types_no_parse names p (Some y) x e = cc
+
+types_no_lex : (names : List (List ℕ)) (p : Parsed) (o : Option (ℕ × Fault)) (x : LexError) → of_types names p o ≡ Err (fault.Lex x) → ⊥
+types_no_lex names p None x e = form_no_lex (is_built p) (content_of names p) x e
+types_no_lex names p (Some y) x e = cc
+
+script_no_parse : (names : List (List ℕ)) (p : Parsed) (s : Option (ℕ × ℕ)) (x : ParseError) → of_script names p s ≡ Err (fault.Parse x) → ⊥
+script_no_parse names p None x e = types_no_parse names p (type_fault p) x e
+script_no_parse names p (Some y) x e = cc
+
+script_no_lex : (names : List (List ℕ)) (p : Parsed) (s : Option (ℕ × ℕ)) (x : LexError) → of_script names p s ≡ Err (fault.Lex x) → ⊥
+script_no_lex names p None x e = types_no_lex names p (type_fault p) x e
+script_no_lex names p (Some y) x e = cc
+
 by_parsed : (names : List (List ℕ)) (r : Result Parsed ParseError) (x : ParseError) → of_parsed names r ≡ Err (fault.Parse x) → r ≡ Err x
-by_parsed names (Ok p) x e = absurd (form_no_parse (is_built p) (content_of names p) x e)
+by_parsed names (Ok p) x e = absurd (script_no_parse names p p.script x e)
 by_parsed names (Err y) x e = let s : y ≡ x = cc in ap (λ z. let r : Result Parsed ParseError = Err z in r) s
 
 no_lexis : (names : List (List ℕ)) (r : Result Parsed ParseError) (x : LexError) → of_parsed names r ≡ Err (fault.Lex x) → ⊥
-no_lexis names (Ok p) x e = form_no_lex (is_built p) (content_of names p) x e
+no_lexis names (Ok p) x e = script_no_lex names p p.script x e
 no_lexis names (Err y) x e = cc
+
+-- types
+
+form_no_types : (b : Bool) (c : Content) (x : TypeFault) → (if b then Ok c else Err fault.Unbuilt) ≡ Err (fault.Types x) → ⊥
+form_no_types true c x e = cc
+form_no_types false c x e = cc
+
+by_types : (names : List (List ℕ)) (p : Parsed) (o : Option (ℕ × Fault)) (x : TypeFault) → of_types names p o ≡ Err (fault.Types x) → (q : ℕ) × (f : Fault) × (o ≡ Some (q, f)) × (refusal q f ≡ x)
+by_types names p None x e = absurd (form_no_types (is_built p) (content_of names p) x e)
+by_types names p (Some (q, f)) x e = (q, f, refl, cc)
+
+by_script : (names : List (List ℕ)) (p : Parsed) (s : Option (ℕ × ℕ)) (x : TypeFault) → of_script names p s ≡ Err (fault.Types x) → (s ≡ None) × (of_types names p (type_fault p) ≡ Err (fault.Types x))
+by_script names p None x e = (refl, e)
+by_script names p (Some y) x e = absurd (cc)
+
+refused_as : (ds : List Declaration) (parts : List Part) (q : ℕ) (f : Fault) → IsFirstIn ds 0 parts q f → IsFirstRefusal ds parts (refusal q f)
+refused_as ds parts q type.WrongType h = h
+refused_as ds parts q type.Arity h = h
+refused_as ds parts q type.IndexAsMessage h = h
+refused_as ds parts q type.NotFixed h = h
+
+faulty : (names : List (List ℕ)) (signs : List Sign) (r : Result Parsed ParseError) (x : TypeFault) → parsed most_pool signs ≡ r → of_parsed names r ≡ Err (fault.Types x) → HasTypeFault signs x
+faulty names signs (Ok p) x e i =
+    let s = by_script names p p.script x i in
+    let t = by_types names p (type_fault p) x s.1 in
+    record {
+      said = p;
+      says = said_is_saying most_pool signs p e;
+      no_script = s.0;
+      first = subst (IsFirstRefusal p.declarations (file_parts p.declarations p.game)) t.3 (refused_as p.declarations (file_parts p.declarations p.game) t.0 t.1 (finds_first_in p.declarations 0 (file_parts p.declarations p.game) t.0 t.1 t.2));
+    }
+faulty names signs (Err y) x e i = absurd (cc)
+
+faulty_tokens : (bytes : List ℕ) (r : Result (List Token) LexError) (x : TypeFault) → tokens_of bytes ≡ r → of_tokens most_pool r ≡ Err (fault.Types x) → OfTokens bytes (λ signs. HasTypeFault signs x)
+faulty_tokens bytes (Ok ts) x e i = record { tokens = ts; lexed = e; holds = faulty (signs_of ts).names (signs_of ts).signs (parsed most_pool (signs_of ts).signs) x refl i }
+faulty_tokens bytes (Err y) x e i = absurd (cc)
+
+typed_badly : (bytes : List ℕ) (x : TypeFault) → read_of most_pool bytes ≡ Err (fault.Types x) → OfTokens bytes (λ signs. HasTypeFault signs x)
+unfolding read_of
+typed_badly bytes x e = faulty_tokens bytes (tokens_of bytes) x refl e
 
 by_tokens : (limit : ℕ) (r : Result (List Token) LexError) (x : ParseError) → of_tokens limit r ≡ Err (fault.Parse x) → (ts : List Token) × (r ≡ Ok ts) × (parsed limit (signs_of ts).signs ≡ Err x)
 by_tokens limit (Ok ts) x e = (ts, refl, by_parsed (signs_of ts).names (parsed limit (signs_of ts).signs) x e)
@@ -126,6 +189,7 @@ caused_by bytes (Err (fault.Parse (parse.Build (build.Full n)))) e = told bytes 
 caused_by bytes (Err (fault.Parse (parse.Build (build.Nodes n)))) e = told bytes (parse.Build (build.Nodes n)) _ (λ signs i. large_game most_pool signs n i) e
 caused_by bytes (Err (fault.Parse (parse.Build (build.Depth n)))) e = told bytes (parse.Build (build.Depth n)) _ (λ signs i. deep_game most_pool signs n i) e
 caused_by bytes (Err (fault.Parse (parse.Build build.OutOfMemory))) e = tt
+caused_by bytes (Err (fault.Types x)) e = typed_badly bytes x e
 caused_by bytes (Err fault.Unbuilt) e = tt
 caused_by bytes (Err fault.OutOfMemory) e = tt
 

@@ -105,6 +105,7 @@ refuses_at n bytes x e h = subst (λ m. Refuses x (read_of m bytes)) e h
 pub judged_fault : (x : FileError) (bytes : List ℕ) → Refuses x (read_of most_pool bytes) → Judged (ended_by x) bytes
 judged_fault (fault.Lex x) bytes e = sym (ap expected e)
 judged_fault (fault.Parse x) bytes e = judged_limit x bytes e
+judged_fault (fault.Types x) bytes e = sym (ap expected e)
 judged_fault fault.Unbuilt bytes e = sym (ap expected e)
 judged_fault fault.OutOfMemory bytes e = tt
 

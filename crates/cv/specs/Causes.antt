@@ -1,5 +1,5 @@
 -- What each answer about bytes comes from.
-use Rattle.std.specs.Prelude.{◌≡◌, ℕ, suc, ◌-◌, ◌<◌, if◌then◌else◌, List, [], ◌∷◌, length, Ok, Err}
+use Rattle.std.specs.Prelude.{◌≡◌, ℕ, suc, ◌-◌, ◌<◌, if◌then◌else◌, List, [], ◌∷◌, length, None, Ok, Err}
 use Rattle.cv_lex.specs.Lexis.{Token, tokens_of}
 use Rattle.cv_signs.specs.Signs.{signs_of}
 use Rattle.cv_grammar.specs.declared.sign.Sign.{Sign}
@@ -7,11 +7,15 @@ use Rattle.cv_grammar.specs.Reads as fault
 use Rattle.cv_rules.specs.Files.{levels, read_whole}
 use Rattle.cv_rules.specs.Names as names
 use Rattle.cv_parse.specs.declared.error.ParseError.TheVariants.{Syntax, Nesting, NameTwice, NameUnknown}
-use Rattle.cv_parse.specs.Says.{HasDepth, HasNodes, HasWeight, IsDead, IsLarge, IsMisnamedAt}
+use Rattle.cv_parse.specs.Parsed.{Parsed}
+use Rattle.cv_parse.specs.Says.{HasDepth, HasNodes, HasWeight, IsDead, IsLarge, IsMisnamedAt, Says}
+use Rattle.cv_typing.specs.declared.fault.TypeFault.{TypeFault}
+use Rattle.cv_typing.specs.Parts.{file_parts}
+use Rattle.cv_typing.specs.Refusals.{IsFirstRefusal}
 use Rattle.cv_syntax.specs.Tree.{Tree}
 use Rattle.cv_files.specs.Accepted.{Content, IsFile}
 use Rattle.cv_files.specs.Typing.{queries_in}
-use Rattle.cv.specs.declared.report.FileFault.TheVariants.{Lex, Parse}
+use Rattle.cv.specs.declared.report.FileFault.TheVariants.{Lex, Parse, Types}
 use Rattle.cv.specs.declared.report.Status.{Status}
 use Rattle.cv.specs.declared.report.Status.TheVariants as status
 use Rattle.cv.specs.declared.report.Which.TheVariants.{Depth, Nodes, Pool, Steps}
@@ -34,6 +38,13 @@ unfoldable pub closed_count : Tree → List Tree → ℕ
 closed_count game [] = 0
 closed_count game (q ∷ qs) = if is_closed game q then suc (closed_count game qs) else closed_count game qs
 
+-- The tokens are those of a file without a proof block, and this is the first fault of its terms.
+pub record HasTypeFault (signs : List Sign) (e : TypeFault) : Type 0 where
+  pub said : Parsed
+  pub says : Says most_pool signs said
+  pub no_script : said.script ≡ None
+  pub first : IsFirstRefusal said.declarations (file_parts said.declarations said.game) e
+
 -- A file has more queries that are closed than there may be steps.
 pub record HasManyClosed (bytes : List ℕ) : Type 0 where
   pub content : Content
@@ -47,6 +58,7 @@ Caused (status.FileRefused (Parse (Syntax token))) bytes = OfTokens bytes (λ si
 Caused (status.FileRefused (Parse (Nesting token))) bytes = OfTokens bytes (λ signs. IsTooDeep signs token)
 Caused (status.FileRefused (Parse (NameTwice token))) bytes = OfTokens bytes (λ signs. IsMisnamedAt signs names.NameTwice token)
 Caused (status.FileRefused (Parse (NameUnknown token))) bytes = OfTokens bytes (λ signs. IsMisnamedAt signs names.NameUnknown token)
+Caused (status.FileRefused (Types e)) bytes = OfTokens bytes (λ signs. HasTypeFault signs e)
 Caused (status.Limit (Nodes count)) bytes = OfTokens bytes (λ signs. IsLarge signs (HasNodes count))
 Caused (status.Limit (Depth depth)) bytes = OfTokens bytes (λ signs. IsLarge signs (HasDepth depth))
 Caused (status.Limit (Pool need)) bytes = OfTokens bytes (λ signs. IsLarge signs (HasWeight most_pool need))

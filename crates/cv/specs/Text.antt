@@ -12,8 +12,10 @@ use Rattle.cv_lex.specs.declared.LexError.{LexError}
 use Rattle.cv_lex.specs.declared.LexError.TheVariants as lex
 use Rattle.cv_parse.specs.declared.error.ParseError.{ParseError}
 use Rattle.cv_parse.specs.declared.error.ParseError.TheVariants as parse
+use Rattle.cv_typing.specs.declared.fault.TypeFault.{TypeFault}
+use Rattle.cv_typing.specs.declared.fault.TypeFault.TheVariants as type
 use Rattle.cv.specs.declared.report.FileFault.{FileFault}
-use Rattle.cv.specs.declared.report.FileFault.TheVariants.{Lex, Parse}
+use Rattle.cv.specs.declared.report.FileFault.TheVariants.{Lex, Parse, Types}
 use Rattle.cv.specs.declared.report.Report.{Report}
 use Rattle.cv.specs.declared.report.Status.{Status}
 use Rattle.cv.specs.declared.report.Status.TheVariants as status
@@ -59,7 +61,7 @@ unfoldable pub verdicts_text : ℕ → List Verdict → List ℕ
 verdicts_text k [] = []
 verdicts_text k (v ∷ vs) = verdict_text k v ++ verdicts_text (k + 1) vs
 
--- the end line of a file that is refused: what is wrong, and at which byte or token
+-- the end line of a file that is refused: what is wrong, and at which byte, token or node
 abbrev pub refused_text : List ℕ → ℕ → List ℕ
 refused_text what place = codes "end 2 file refused: " ++ what ++ decimal place ++ codes "\n"
 
@@ -76,9 +78,17 @@ grammar_text (parse.NameTwice token) = refused_text (codes "name twice at token 
 grammar_text (parse.NameUnknown token) = refused_text (codes "name unknown at token ") token
 grammar_text (parse.Build fault) = codes "end 6 memory\n"
 
+abbrev pub types_text : TypeFault → List ℕ
+types_text (type.WrongType node) = refused_text (codes "type at node ") node
+types_text (type.Arity node) = refused_text (codes "arity at node ") node
+types_text (type.IndexAsMessage node) = refused_text (codes "index as message at node ") node
+types_text (type.NotFixed node) = refused_text (codes "not fixed at node ") node
+types_text type.OutOfMemory = codes "end 6 memory\n"
+
 abbrev pub fault_text : FileFault → List ℕ
 fault_text (Lex e) = lexis_text e
 fault_text (Parse e) = grammar_text e
+fault_text (Types e) = types_text e
 
 abbrev pub end_text : Status → List ℕ
 end_text status.Proved = codes "end 0 proved\n"

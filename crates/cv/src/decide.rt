@@ -143,6 +143,7 @@ fn status_of(fault: FileError) -> Status
     match fault {
         FileError::Lex(fault) => Status::FileRefused(FileFault::Lex(fault)),
         FileError::Parse(fault) => parse_ended(fault),
+        FileError::Types(fault) => Status::FileRefused(FileFault::Types(fault)),
         FileError::Unbuilt => Status::Unbuilt,
         FileError::OutOfMemory => Status::Memory,
     }

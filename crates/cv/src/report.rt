@@ -6,6 +6,7 @@ use cv_direct::Entry;
 use cv_lex::LexError;
 use cv_parse::ParseError;
 use cv_syntax::{File, Work};
+use cv_typing::TypeFault;
 
 /// What the words ask for.
 #[derive(Clone, Copy, Debug, PartialEq, Eq)]
@@ -45,6 +46,8 @@ pub enum FileFault {
     Lex(LexError),
     /// Their tokens are not those of a file, by the grammar or the rules of names.
     Parse(ParseError),
+    /// The terms of the file aren't typed.
+    Types(TypeFault),
 }
 
 /// What passed its number.

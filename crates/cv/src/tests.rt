@@ -168,10 +168,10 @@ fn small_processes(rt: HostRuntime) -> Result<(), Fail> {
         ),
         (
             "in(c, (a:T)); if a = a then new n:T; yield else new n:bool; yield",
-            8,
+            2,
         ),
         ("in(c, (a:T)); new n:T; if a = n then new n:T; yield", 8),
-        ("in(c, (a:T, b:bool)); if a = b then yield", 8),
+        ("in(c, (a:T, b:bool)); if a = b then yield", 2),
         ("in(c, (b:bool)); if b then yield", 8),
         ("in(c, (a:T)); if a = a = a then yield", 2),
         ("in(c, (a:T)); if a <> a then yield", 8),
@@ -268,6 +268,22 @@ fn refusals(rt: HostRuntime) -> Result<(), Fail> {
         (
             "process in(c, ()); yield",
             "end 2 file refused: name unknown at token 3\n",
+        ),
+        (
+            "type T. channel c. process in(c, ()); new n:T; yield",
+            "end 2 file refused: not fixed at node 1\n",
+        ),
+        (
+            "type T. type U. channel c. process in(c, (x:T, y:U)); if x = y then yield",
+            "end 2 file refused: type at node 4\n",
+        ),
+        (
+            "event e. channel c. process in(c, ()); event e(true); yield",
+            "end 2 file refused: arity at node 1\n",
+        ),
+        (
+            "param N. channel c, d. process !i <= N in(c, ()); out(d, (i))",
+            "end 2 file refused: index as message at node 3\n",
         ),
         ("proof { } process 0", "end 8 unbuilt\n"),
         ("equation true. process 0", "end 8 unbuilt\n"),

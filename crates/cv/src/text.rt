@@ -2,7 +2,7 @@ ghost use Rattle.std.specs.Prelude.{◌≡◌, ◌+◌, ◌<◌, ◌++◌, [], l
 ghost use Rattle.cv_pool.specs.Nodes.{ChildBelow};
 ghost use Rattle.cv_syntax.specs.Tree.{tree_at};
 ghost use Rattle.cv_print.specs.Terms.{term_text};
-ghost use Rattle.cv.specs.Text.{target_text, targets_text, route_text, entry_text, step_text, steps_text, said_text, verdict_text, verdicts_text, refused_text, lexis_text, grammar_text, fault_text, end_text, text_of};
+ghost use Rattle.cv.specs.Text.{target_text, targets_text, route_text, entry_text, step_text, steps_text, said_text, verdict_text, verdicts_text, refused_text, lexis_text, grammar_text, types_text, fault_text, end_text, text_of};
 
 use crate::report::{FileFault, Report, Status, Step, Verdict, Which};
 use cv_direct::{Entry, Route};
@@ -10,6 +10,7 @@ use cv_lex::LexError;
 use cv_parse::ParseError;
 use cv_print::{push_decimal, push_game, push_term};
 use cv_syntax::{Names, NodeId, Pool, read_node};
+use cv_typing::TypeFault;
 use std::alloc::{AllocError, Global};
 
 /// Appends a term, where there is one.
@@ -227,6 +228,19 @@ fn push_grammar(out: &mut Vec<u8>, fault: ParseError) -> Result<(), AllocError>
     }
 }
 
+/// Appends the end line of a file that isn't typed.
+fn push_types(out: &mut Vec<u8>, fault: TypeFault) -> Result<(), AllocError>
+    ensures { OnOk result (out.new.items ≡ out.old.items ++ types_text fault) }
+{
+    match fault {
+        TypeFault::WrongType(node) => push_refused(out, b"type at node ", node),
+        TypeFault::Arity(node) => push_refused(out, b"arity at node ", node),
+        TypeFault::IndexAsMessage(node) => push_refused(out, b"index as message at node ", node),
+        TypeFault::NotFixed(node) => push_refused(out, b"not fixed at node ", node),
+        TypeFault::OutOfMemory => out.extend_from_slice(b"end 6 memory\n"),
+    }
+}
+
 /// Appends the end line of bytes that are no file.
 fn push_fault(out: &mut Vec<u8>, fault: FileFault) -> Result<(), AllocError>
     ensures { OnOk result (out.new.items ≡ out.old.items ++ fault_text fault) }
@@ -234,6 +248,7 @@ fn push_fault(out: &mut Vec<u8>, fault: FileFault) -> Result<(), AllocError>
     match fault {
         FileFault::Lex(fault) => push_lexis(out, fault),
         FileFault::Parse(fault) => push_grammar(out, fault),
+        FileFault::Types(fault) => push_types(out, fault),
     }
 }
 

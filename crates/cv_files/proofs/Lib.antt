@@ -4,3 +4,4 @@ pub mod Removals
 pub mod Signatures
 pub mod Sited
 pub mod Typings
+pub mod Weights

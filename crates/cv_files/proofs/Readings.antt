@@ -13,7 +13,8 @@ use Rattle.cv_syntax.specs.declared.decls.Decl.{Decl}
 use Rattle.cv_syntax.specs.declared.decls.Decl.TheVariants as decl
 use Rattle.cv_syntax.specs.declared.work.BuildError.TheVariants as build
 use Rattle.cv_syntax.specs.declared.work.File.{File}
-use Rattle.cv_syntax.specs.Declarations.{declarations}
+use Rattle.cv_syntax.specs.Declarations.{Declaration, declarations}
+use Rattle.cv_syntax.specs.Tree.{Tree}
 use Rattle.cv_signs.specs.Signs.{signs_of}
 use Rattle.cv_parse.specs.declared.error.ParseError.{ParseError}
 use Rattle.cv_parse.specs.declared.error.ParseError.TheVariants as parse
@@ -21,10 +22,16 @@ use Rattle.cv_parse.specs.Declaring.{IsBelow}
 use Rattle.cv_parse.specs.Parsed.{Parsed, held_in, parsed}
 use Rattle.cv_parse.specs.Parsed as parsing
 use Rattle.cv_parse.proofs.Exactness.{said_is_saying, says_is_said}
+use Rattle.cv_typing.specs.declared.fault.Fault.{Fault}
+use Rattle.cv_typing.specs.declared.fault.TypeFault.{TypeFault}
+use Rattle.cv_typing.specs.declared.fault.TypeFault.TheVariants as type
+use Rattle.cv_typing.specs.Parts.{file_parts}
+use Rattle.cv_typing.specs.Refusals.{IsRefusalOf}
+use Rattle.cv_typing.proofs.First.{none_where_parts_typed, parts_typed_where_none}
 use Rattle.cv_files.specs.declared.error.FileError.{FileError}
 use Rattle.cv_files.specs.declared.error.FileError.TheVariants.{Unbuilt}
-use Rattle.cv_files.specs.Accepted.{Content, IsFile, Refuses, content_of, game_fits, is_built, is_plain, is_typed, of_parsed, of_tokens, read_of}
-use Rattle.cv_files.specs.Faults.{of_lex, of_parse}
+use Rattle.cv_files.specs.Accepted.{Content, IsFile, Refuses, content_of, of_script, of_types, type_fault, game_fits, is_built, is_plain, is_typed, of_parsed, of_tokens, read_of}
+use Rattle.cv_files.specs.Faults.{of_lex, of_parse, of_type}
 use Rattle.cv_files.specs.Plain.{IsPlain, is_plain_decl, plain_there}
 use Rattle.cv_files.specs.Sites.{are_of_one_type, sites_of}
 use Rattle.cv_files.specs.Typing.{is_of_name, no_variable, process_fits, queries_fit, queries_in, signature_of}
@@ -54,15 +61,39 @@ grammar_refuses limit bs ts (parse.Build (build.Nodes n)) t h = by_tokens limit 
 grammar_refuses limit bs ts (parse.Build (build.Depth n)) t h = by_tokens limit bs ts t ∙ ap (of_parsed (signs_of ts).names) h
 grammar_refuses limit bs ts (parse.Build build.OutOfMemory) t h = tt
 
+-- a proof block
+pub script_refuses : (limit : ℕ) (bs : List ℕ) (ts : List Token) (p : Parsed) → tokens_of bs ≡ Ok ts → parsed limit (signs_of ts).signs ≡ Ok p → is_some p.script ≡ true → read_of limit bs ≡ Err Unbuilt
+script_refuses limit bs ts p t h b = by_tokens limit bs ts t ∙ (ap (of_parsed (signs_of ts).names) h ∙ some_script p.script b)
+  where
+    some_script : (s : Option (ℕ × ℕ)) → is_some s ≡ true → of_script (signs_of ts).names p s ≡ Err Unbuilt
+    some_script (Some x) e = refl
+    some_script None e = absurd (cc)
+
+-- without one
+by_script : (limit : ℕ) (bs : List ℕ) (ts : List Token) (p : Parsed) → tokens_of bs ≡ Ok ts → parsed limit (signs_of ts).signs ≡ Ok p → is_some p.script ≡ false → read_of limit bs ≡ of_types (signs_of ts).names p (type_fault p)
+by_script limit bs ts p t h b = by_tokens limit bs ts t ∙ (ap (of_parsed (signs_of ts).names) h ∙ no_script p.script b)
+  where
+    no_script : (s : Option (ℕ × ℕ)) → is_some s ≡ false → of_script (signs_of ts).names p s ≡ of_types (signs_of ts).names p (type_fault p)
+    no_script None e = refl
+    no_script (Some x) e = absurd (cc)
+
+-- types
+pub types_refuse : (limit : ℕ) (bs : List ℕ) (ts : List Token) (p : Parsed) (e : TypeFault) → tokens_of bs ≡ Ok ts → parsed limit (signs_of ts).signs ≡ Ok p → is_some p.script ≡ false → IsRefusalOf (type_fault p) e → Refuses (of_type e) (read_of limit bs)
+types_refuse limit bs ts p (type.WrongType n) t h b r = by_script limit bs ts p t h b ∙ ap (of_types (signs_of ts).names p) r
+types_refuse limit bs ts p (type.Arity n) t h b r = by_script limit bs ts p t h b ∙ ap (of_types (signs_of ts).names p) r
+types_refuse limit bs ts p (type.IndexAsMessage n) t h b r = by_script limit bs ts p t h b ∙ ap (of_types (signs_of ts).names p) r
+types_refuse limit bs ts p (type.NotFixed n) t h b r = by_script limit bs ts p t h b ∙ ap (of_types (signs_of ts).names p) r
+types_refuse limit bs ts p type.OutOfMemory t h b r = tt
+
 -- the form that is built, or not
 
-pub form_refuses : (limit : ℕ) (bs : List ℕ) (ts : List Token) (p : Parsed) → tokens_of bs ≡ Ok ts → parsed limit (signs_of ts).signs ≡ Ok p → is_built p ≡ false → read_of limit bs ≡ Err Unbuilt
-form_refuses limit bs ts p t h b = by_tokens limit bs ts t ∙ (ap (of_parsed (signs_of ts).names) h ∙ ap (λ x. if x then Ok (content_of (signs_of ts).names p) else Err Unbuilt) b)
+pub form_refuses : (limit : ℕ) (bs : List ℕ) (ts : List Token) (p : Parsed) → tokens_of bs ≡ Ok ts → parsed limit (signs_of ts).signs ≡ Ok p → is_some p.script ≡ false → type_fault p ≡ None → is_built p ≡ false → read_of limit bs ≡ Err Unbuilt
+form_refuses limit bs ts p t h s n b = by_script limit bs ts p t h s ∙ (ap (of_types (signs_of ts).names p) n ∙ ap (λ x. if x then Ok (content_of (signs_of ts).names p) else Err Unbuilt) b)
 
-pub form_reads : (limit : ℕ) (bs : List ℕ) (ts : List Token) (names : List (List ℕ)) (trees : List KindTree) (list : List Decl) (f : File) → tokens_of bs ≡ Ok ts → (signs_of ts).names ≡ names → parsed limit (signs_of ts).signs ≡ Ok (held_in trees list f) → is_built (held_in trees list f) ≡ true → read_of limit bs ≡ Ok (content_in names trees list f.game.root)
-form_reads limit bs ts names trees list f t n h b =
-    by_tokens limit bs ts t
-    ∙ (ap (of_parsed (signs_of ts).names) h
+pub form_reads : (limit : ℕ) (bs : List ℕ) (ts : List Token) (names : List (List ℕ)) (trees : List KindTree) (list : List Decl) (f : File) → tokens_of bs ≡ Ok ts → (signs_of ts).names ≡ names → parsed limit (signs_of ts).signs ≡ Ok (held_in trees list f) → is_some f.script ≡ false → type_fault (held_in trees list f) ≡ None → is_built (held_in trees list f) ≡ true → read_of limit bs ≡ Ok (content_in names trees list f.game.root)
+form_reads limit bs ts names trees list f t n h s e b =
+    by_script limit bs ts (held_in trees list f) t h s
+    ∙ (ap (of_types (signs_of ts).names (held_in trees list f)) e
     ∙ (ap (λ x. if x then Ok (content_of (signs_of ts).names (held_in trees list f)) else Err Unbuilt) b
     ∙ ap (λ ns. Ok (content_of ns (held_in trees list f))) n))
 
@@ -85,10 +116,28 @@ ok_if : (b : Bool) (c f : Content) → (if b then Ok c else Err Unbuilt) ≡ Ok 
 ok_if true c f e = (refl, cc)
 ok_if false c f e = absurd (cc)
 
+from_types : (names : List (List ℕ)) (p : Parsed) (f : Content) (o : Option (ℕ × Fault)) → of_types names p o ≡ Ok f → (o ≡ None) × (is_built p ≡ true) × (content_of names p ≡ f)
+from_types names p f None e = let b = ok_if (is_built p) (content_of names p) f e in (refl, b.0, b.1)
+from_types names p f (Some x) e = absurd (cc)
+
+from_script : (names : List (List ℕ)) (p : Parsed) (f : Content) (s : Option (ℕ × ℕ)) → of_script names p s ≡ Ok f → (s ≡ None) × (of_types names p (type_fault p) ≡ Ok f)
+from_script names p f None e = (refl, e)
+from_script names p f (Some x) e = absurd (cc)
+
 from_parsed : (limit : ℕ) (bs : List ℕ) (ts : List Token) (f : Content) (r : Result Parsed ParseError) → Lexed 0 bs (Ok ts) → parsed limit (signs_of ts).signs ≡ r → of_parsed (signs_of ts).names r ≡ Ok f → IsFile limit bs f
 from_parsed limit bs ts f (Ok p) l e i =
-    let b = ok_if (is_built p) (content_of (signs_of ts).names p) f i in
-    record { tokens = ts; said = p; lexed = l; says = said_is_saying limit (signs_of ts).signs p e; built = b.0; content = sym b.1 }
+    let s = from_script (signs_of ts).names p f p.script i in
+    let b = from_types (signs_of ts).names p f (type_fault p) s.1 in
+    record {
+      tokens = ts;
+      said = p;
+      lexed = l;
+      says = said_is_saying limit (signs_of ts).signs p e;
+      no_script = s.0;
+      typed = parts_typed_where_none p.declarations 0 (file_parts p.declarations p.game) b.0;
+      built = b.1;
+      content = sym b.2;
+    }
 from_parsed limit bs ts f (Err x) l e i = absurd (cc)
 
 from_tokens : (limit : ℕ) (bs : List ℕ) (f : Content) (r : Result (List Token) LexError) → Lexed 0 bs r → of_tokens limit r ≡ Ok f → IsFile limit bs f
@@ -104,14 +153,16 @@ unfolding read_of
 file_is_read limit bs f w =
     ap (of_tokens limit) (said bs (Ok w.tokens) w.lexed)
     ∙ (ap (of_parsed (signs_of w.tokens).names) (says_is_said limit (signs_of w.tokens).signs w.said w.says)
-    ∙ (ap (λ b. if b then Ok (content_of (signs_of w.tokens).names w.said) else Err Unbuilt) w.built ∙ ap Ok (sym w.content)))
+    ∙ (ap (of_script (signs_of w.tokens).names w.said) w.no_script
+    ∙ (ap (of_types (signs_of w.tokens).names w.said) (none_where_parts_typed w.said.declarations 0 (file_parts w.said.declarations w.said.game) w.typed)
+    ∙ (ap (λ b. if b then Ok (content_of (signs_of w.tokens).names w.said) else Err Unbuilt) w.built ∙ ap Ok (sym w.content)))))
 
 pub accepted : (limit : ℕ) (bs : List ℕ) (f : Content) → read_of limit bs ≡ Ok f → IsAccepted f
 accepted limit bs f e =
     let w = read_is_file limit bs f e in
     let p = w.said in
     let s = signature_of p.declarations in
-    let typed = and_right (list_all is_plain p.declarations) (is_typed p.declarations p.game) (and_right (is_none p.script) (list_all is_plain p.declarations && is_typed p.declarations p.game) w.built) in
+    let typed = and_right (list_all is_plain p.declarations) (is_typed p.declarations p.game) w.built in
     let game = and_left (game_fits s p.game) (queries_fit s (queries_in p.declarations)) typed in
     subst IsAccepted (sym w.content) (record {
       small = w.says.small;
@@ -164,23 +215,9 @@ pub ruleset plains = (plain_past)
 
 -- whether a file is of the form that is built
 
-script_there : (o : Option (ℕ × ℕ)) → is_some o ≡ true → is_none o ≡ false
-script_there None e = absurd (cc)
-script_there (Some x) e = refl
+pub not_plain : (ds : List Declaration) (t : Tree) → list_all is_plain ds ≡ false → false ≡ (list_all is_plain ds && is_typed ds t)
+not_plain ds t e = sym (ap (λ b. b && is_typed ds t) e)
 
-no_script : (o : Option (ℕ × ℕ)) → is_some o ≡ false → is_none o ≡ true
-no_script None e = refl
-no_script (Some x) e = absurd (cc)
-
-pub with_script : (p : Parsed) → is_some p.script ≡ true → false ≡ is_built p
-with_script p e = sym (ap (λ b. b && (list_all is_plain p.declarations && is_typed p.declarations p.game)) (script_there p.script e))
-
-pub not_plain : (p : Parsed) → is_some p.script ≡ false → list_all is_plain p.declarations ≡ false → false ≡ is_built p
-not_plain p e f = sym (ap₂ (λ s b. s && (b && is_typed p.declarations p.game)) (no_script p.script e) f)
-
-pub by_types : (p : Parsed) → is_some p.script ≡ false → list_all is_plain p.declarations ≡ true → is_typed p.declarations p.game ≡ is_built p
-by_types p e f = sym (ap₂ (λ s b. s && (b && is_typed p.declarations p.game)) (no_script p.script e) f)
-
-pub by_types_if : (r : Result Bool AllocError) (p : Parsed) → is_some p.script ≡ false → list_all is_plain p.declarations ≡ true → IfOk r (λ yes. yes ≡ is_typed p.declarations p.game) → IfOk r (λ yes. yes ≡ is_built p)
-by_types_if (Ok b) p e f h = h ∙ by_types p e f
-by_types_if (Err x) p e f h = tt
+pub by_form : (r : Result Bool AllocError) (ds : List Declaration) (t : Tree) → list_all is_plain ds ≡ true → IfOk r (λ b. b ≡ is_typed ds t) → IfOk r (λ b. b ≡ (list_all is_plain ds && is_typed ds t))
+by_form (Ok b) ds t e h = h ∙ sym (ap (λ x. x && is_typed ds t) e)
+by_form (Err x) ds t e h = tt

@@ -1,5 +1,5 @@
 -- Files of the form that is built: what they hold, and which bytes are one.
-use Rattle.std.specs.Prelude.{◌≡◌, ℕ, Bool, true, false, ◌&&◌, is_none, if◌then◌else◌, List, Result, Ok, Err}
+use Rattle.std.specs.Prelude.{◌≡◌, ℕ, Bool, true, false, ◌&&◌, if◌then◌else◌, List, Option, Some, None, Result, Ok, Err}
 use Rattle.std.specs.List.{list_all}
 use Rattle.cv_lex.specs.Lexis.{Token, Lexed, tokens_of}
 use Rattle.cv_lex.specs.declared.LexError.{LexError}
@@ -9,8 +9,11 @@ use Rattle.cv_syntax.specs.Tree.{Tree}
 use Rattle.cv_parse.specs.declared.error.ParseError.{ParseError}
 use Rattle.cv_parse.specs.Parsed.{Parsed, parsed}
 use Rattle.cv_parse.specs.Says.{Says}
+use Rattle.cv_typing.specs.declared.fault.Fault.{Fault}
+use Rattle.cv_typing.specs.Parts.{IsTypedFile, file_parts, first_in}
+use Rattle.cv_typing.specs.Refusals.{refusal}
 use Rattle.cv_files.specs.declared.error.FileError.{FileError}
-use Rattle.cv_files.specs.declared.error.FileError.TheVariants.{Lex, Parse, Unbuilt, OutOfMemory}
+use Rattle.cv_files.specs.declared.error.FileError.TheVariants.{Lex, Parse, Types, Unbuilt, OutOfMemory}
 use Rattle.cv_files.specs.Sites.{are_of_one_type, sites_of}
 use Rattle.cv_files.specs.Typing.{Signature, no_variable, is_of_name, signature_of, process_fits, queries_in, queries_fit}
 
@@ -35,9 +38,9 @@ is_plain (Equation t) = false
 is_plain (Equiv id t) = false
 is_plain (Query t) = true
 
--- A file of the form that is built: it has no proof block, declares names and queries alone, and is typed.
+-- A file of the form that is built: it declares names and queries alone, and is typed and in scope as that form asks.
 abbrev pub is_built : Parsed → Bool
-is_built p = is_none p.script && (list_all is_plain p.declarations && is_typed p.declarations p.game)
+is_built p = list_all is_plain p.declarations && is_typed p.declarations p.game
 
 abbrev pub content_of : List (List ℕ) → Parsed → Content
 content_of names p = record { names = names; declarations = p.declarations; game = p.game }
@@ -48,6 +51,8 @@ pub record IsFile (limit : ℕ) (bytes : List ℕ) (f : Content) : Type 0 where
   pub said : Parsed
   pub lexed : Lexed 0 bytes (Ok tokens)
   pub says : Says limit (signs_of tokens).signs said
+  pub no_script : said.script ≡ None
+  pub typed : IsTypedFile said.declarations said.game
   pub built : is_built said ≡ true
   pub content : f ≡ content_of (signs_of tokens).names said
 
@@ -56,15 +61,28 @@ pub record IsFile (limit : ℕ) (bytes : List ℕ) (f : Content) : Type 0 where
 abbrev pub of_form : List (List ℕ) → Parsed → Result Content FileError
 of_form names p = if is_built p then Ok (content_of names p) else Err Unbuilt
 
+abbrev pub of_types : List (List ℕ) → Parsed → Option (ℕ × Fault) → Result Content FileError
+of_types names p None = of_form names p
+of_types names p (Some (place, fault)) = Err (Types (refusal place fault))
+
+-- the first fault of the terms of a file
+abbrev pub type_fault : Parsed → Option (ℕ × Fault)
+type_fault p = first_in p.declarations 0 (file_parts p.declarations p.game)
+
+-- no proof block is read yet
+abbrev pub of_script : List (List ℕ) → Parsed → Option (ℕ × ℕ) → Result Content FileError
+of_script names p None = of_types names p (type_fault p)
+of_script names p (Some s) = Err Unbuilt
+
 abbrev pub of_parsed : List (List ℕ) → Result Parsed ParseError → Result Content FileError
-of_parsed names (Ok p) = of_form names p
+of_parsed names (Ok p) = of_script names p p.script
 of_parsed names (Err e) = Err (Parse e)
 
 abbrev pub of_tokens : ℕ → Result (List Token) LexError → Result Content FileError
 of_tokens limit (Ok ts) = of_parsed (signs_of ts).names (parsed limit (signs_of ts).signs)
 of_tokens limit (Err e) = Err (Lex e)
 
--- Lexis first, then what the tokens say, then the form that is built.
+-- Lexis first, then what the tokens say, the proof block, types, and the form that is built.
 unfoldable pub read_of : (limit : ℕ) → List ℕ → Result Content FileError
 read_of limit bytes = of_tokens limit (tokens_of bytes)
 

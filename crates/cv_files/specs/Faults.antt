@@ -4,12 +4,18 @@ use Rattle.cv_lex.specs.declared.LexError.TheVariants as lex
 use Rattle.cv_syntax.specs.declared.work.BuildError.TheVariants as build
 use Rattle.cv_parse.specs.declared.error.ParseError.{ParseError}
 use Rattle.cv_parse.specs.declared.error.ParseError.TheVariants as parse
+use Rattle.cv_typing.specs.declared.fault.TypeFault.{TypeFault}
+use Rattle.cv_typing.specs.declared.fault.TypeFault.TheVariants as type
 use Rattle.cv_files.specs.declared.error.FileError.{FileError}
-use Rattle.cv_files.specs.declared.error.FileError.TheVariants.{Lex, Parse, OutOfMemory}
+use Rattle.cv_files.specs.declared.error.FileError.TheVariants.{Lex, Parse, Types, OutOfMemory}
 
 abbrev pub of_lex : LexError → FileError
 of_lex lex.OutOfMemory = OutOfMemory
 of_lex e = Lex e
+
+abbrev pub of_type : TypeFault → FileError
+of_type type.OutOfMemory = OutOfMemory
+of_type e = Types e
 
 abbrev pub of_parse : ParseError → FileError
 of_parse (parse.Build build.OutOfMemory) = OutOfMemory

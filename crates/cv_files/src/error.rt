@@ -1,6 +1,7 @@
 use cv_lex::LexError;
 use cv_parse::ParseError;
 use cv_syntax::BuildError;
+use cv_typing::TypeFault;
 use std::alloc::AllocError;
 
 /// Why bytes aren't taken as a file.
@@ -10,6 +11,8 @@ pub enum FileError {
     Lex(LexError),
     /// Their tokens are no file.
     Parse(ParseError),
+    /// They are a file whose terms aren't typed.
+    Types(TypeFault),
     /// They are a file that isn't of the form that is built.
     Unbuilt,
     OutOfMemory,
@@ -50,6 +53,20 @@ impl From<ParseError> for FileError {
         match fault {
             ParseError::Build(BuildError::OutOfMemory) => FileError::OutOfMemory,
             other => FileError::Parse(other),
+        }
+    }
+}
+
+impl From<TypeFault> for FileError {
+    ghost use Rattle.cv_files.specs.Faults.{of_type};
+    ghost use Rattle.std.specs.Prelude.{◌≡◌};
+
+    ghost from_gives = { λ fault e. e ≡ of_type fault };
+
+    fn from(fault: TypeFault) -> FileError {
+        match fault {
+            TypeFault::OutOfMemory => FileError::OutOfMemory,
+            other => FileError::Types(other),
         }
     }
 }

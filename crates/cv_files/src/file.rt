@@ -8,6 +8,7 @@ use crate::forms::is_built;
 use cv_lex::tokens;
 use cv_parse::file;
 use cv_syntax::{File, Work};
+use cv_typing::check;
 use std::alloc::Global;
 
 /// Fills an empty work with what bytes hold, where they are a file.
@@ -16,6 +17,7 @@ fn fill(alloc: Global, work: &mut Work, bytes: &[u8]) -> Result<File, FileError>
     requires names { work.old.names ≡ [] }
     requires decls { work.old.decls.list ≡ [] }
     requires trees { work.old.pool.trees ≡ [] }
+    requires limit { work.old.pool.limit < 4294967295 }
     requires few { length bytes.now ≤ 1048576 }
     ensures reads { Reads work.old.pool.limit bytes.now work.new result }
     ensures live { IfOk result (λ f. f.game.root.0 < length work.new.pool.trees) }
@@ -24,7 +26,11 @@ fn fill(alloc: Global, work: &mut Work, bytes: &[u8]) -> Result<File, FileError>
 {
     let tokens = tokens(alloc, bytes)?;
     let file = file(alloc, work, &tokens)?;
-    if !is_built(alloc, &work.pool, &work.decls, &file)? {
+    if file.script.is_some() {
+        return Err(FileError::Unbuilt);
+    }
+    check(alloc, work, &file)?;
+    if !is_built(alloc, &work.pool, &work.decls, file.game.root)? {
         return Err(FileError::Unbuilt);
     }
     Ok(file)
@@ -36,6 +42,7 @@ pub fn read(alloc: Global, work: &mut Work, bytes: &[u8]) -> Result<File, FileEr
     requires names { work.old.names ≡ [] }
     requires decls { work.old.decls.list ≡ [] }
     requires trees { work.old.pool.trees ≡ [] }
+    requires limit { work.old.pool.limit < 4294967295 }
     requires few { length bytes.now ≤ 1048576 }
     ensures reads { Reads work.old.pool.limit bytes.now work.new result }
     ensures live { IfOk result (λ f. f.game.root.0 < length work.new.pool.trees) }

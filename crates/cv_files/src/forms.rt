@@ -1,14 +1,14 @@
 ghost use Rattle.std.specs.Prelude.{◌≡◌, ◌<◌, ◌&&◌, slice_get, IfOk, All, Some, true, length};
 ghost use Rattle.std.specs.List.{list_all};
 ghost use Rattle.cv_parse.specs.Declaring.{IsBelow};
-ghost use Rattle.cv_parse.specs.Parsed.{held_in};
 ghost use Rattle.cv_syntax.specs.Declarations.{declarations};
-ghost use Rattle.cv_files.specs.Accepted.{is_built as built, is_plain as plain};
+ghost use Rattle.cv_syntax.specs.Tree.{tree_at};
+ghost use Rattle.cv_files.specs.Accepted.{is_plain as plain, is_typed as typed};
 ghost use Rattle.cv_files.specs.Plain.{IsPlain, is_plain_decl, plain_there};
 ghost use Rattle.cv_files.specs.Typing as typing;
 
 use crate::typing::is_typed;
-use cv_syntax::{Class, Decl, Decls, File, Pool};
+use cv_syntax::{Class, Decl, Decls, NodeId, Pool};
 use std::alloc::{AllocError, Global};
 
 /// Whether a declared name may have this class.
@@ -53,17 +53,19 @@ fn are_plain(decls: &Decls) -> bool
 }
 
 /// Whether a file is of the form that is built.
-pub fn is_built(alloc: Global, pool: &Pool, decls: &Decls, file: &File) -> Result<bool, AllocError>
-    requires live { file.now.game.root.0 < length pool.now.trees }
+pub fn is_built(
+    alloc: Global,
+    pool: &Pool,
+    decls: &Decls,
+    root: NodeId,
+) -> Result<bool, AllocError>
+    requires live { root.0 < length pool.now.trees }
     requires below { All (IsBelow (length pool.now.trees)) decls.now.list }
-    ensures built { IfOk result (λ yes. yes ≡ built (held_in pool.now.trees decls.now.list file.now)) }
+    ensures built { IfOk result (λ yes. yes ≡ (list_all plain (declarations pool.now.trees decls.now.list) && typed (declarations pool.now.trees decls.now.list) (tree_at pool.now.trees (Some root)))) }
     ensures plain { IfOk result (λ yes. yes ≡ true → All (IsPlain (length pool.now.trees)) decls.now.list) }
 {
-    if file.script.is_some() {
-        return Ok(false);
-    }
     if !are_plain(decls) {
         return Ok(false);
     }
-    is_typed(alloc, pool, decls, file.game.root)
+    is_typed(alloc, pool, decls, root)
 }

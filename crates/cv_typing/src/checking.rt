@@ -32,6 +32,8 @@ pub fn check(alloc: Global, work: &Work, file: &File) -> Result<(), TypeFault>
     requires live { file.now.game.root.0 < length work.now.pool.trees }
     requires declared { All (IsLive (length work.now.pool.trees)) work.now.decls.list }
     requires fits { parts_size (file_parts (declarations work.now.pool.trees work.now.decls.list) (tree_at work.now.pool.trees (Some file.now.game.root))) < 2 ^ 32 }
+    ensures none { OnOk result (first_in (declarations work.now.pool.trees work.now.decls.list) 0 (file_parts (declarations work.now.pool.trees work.now.decls.list) (tree_at work.now.pool.trees (Some file.now.game.root))) ≡ None) }
+    ensures found { IfErr result (IsRefusalOf (first_in (declarations work.now.pool.trees work.now.decls.list) 0 (file_parts (declarations work.now.pool.trees work.now.decls.list) (tree_at work.now.pool.trees (Some file.now.game.root))))) }
     ensures typed { OnOk result (IsTypedFile (declarations work.now.pool.trees work.now.decls.list) (tree_at work.now.pool.trees (Some file.now.game.root))) }
     ensures fault { IfErr result (IsFirstRefusal (declarations work.now.pool.trees work.now.decls.list) (file_parts (declarations work.now.pool.trees work.now.decls.list) (tree_at work.now.pool.trees (Some file.now.game.root)))) }
 {
