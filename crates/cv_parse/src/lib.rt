@@ -11,3 +11,6 @@ mod weights;
 pub use error::ParseError;
 pub use files::file;
 pub use laws::parsing_is_exact;
+
+#[cfg(test)]
+mod tests;
