@@ -1,0 +1,8 @@
+// Array scope of games.
+#![tactic(auto)]
+
+mod fault;
+mod laws;
+
+pub use fault::{Fault, ScopeFault};
+pub use laws::{game_faults_are_first, nodes_are_decided, tree_faults_are_first};
