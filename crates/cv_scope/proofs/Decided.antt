@@ -9,7 +9,9 @@ use Rattle.cv_syntax.specs.Tree.{Tree, Node, same_tree}
 use Rattle.cv_typing.specs.Signature.{count}
 use Rattle.cv_scope.specs.declared.fault.Fault.{Fault}
 use Rattle.cv_scope.specs.declared.fault.Fault.TheVariants.{Unscoped, TwoSites, Channel, Replications}
-use Rattle.cv_scope.specs.Context.{Context, Position, OneCell}
+use Rattle.cv_scope.specs.declared.position.Position.{Position}
+use Rattle.cv_scope.specs.declared.position.Position.TheVariants.{OneCell}
+use Rattle.cv_scope.specs.Context.{Context}
 use Rattle.cv_scope.specs.Sites.{Site, SiteName, Variable, Channel as ChannelName, Label, InOneOf, named_here, channel_here}
 use Rattle.cv_scope.specs.Standing.{Standing}
 use Rattle.cv_scope.specs.Rules.{Names, IsAmong, InReach, is_index, ReadsInReach, IsInScope, AreAlike, MayFollow, MayStand, carries_current, IsFewIndices, BindsNewIndex, Obeys, Breaks}

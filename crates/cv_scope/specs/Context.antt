@@ -6,6 +6,8 @@ use Rattle.cv_syntax.specs.declared.head.Head.TheVariants.{Repl, In, Event, New,
 use Rattle.cv_syntax.specs.Head.{weight}
 use Rattle.cv_syntax.specs.Tree.{Tree, Empty, Node, second, lone, chain, size}
 use Rattle.cv_meaning.specs.Binders.{bound_names}
+use Rattle.cv_scope.specs.declared.position.Position.{Position}
+use Rattle.cv_scope.specs.declared.position.Position.TheVariants.{Anywhere, Bodies, ElseBody, Branches, Guards, Guarded, Cells, OneCell}
 
 pub record Context : Type 0 where
   -- the index and the parameter of each replication above, outermost first
@@ -18,17 +20,11 @@ pub record Context : Type 0 where
   pub facts : List Tree
   -- the events above, with their terms
   pub events : List (ℕ × Tree)
+  -- at the bodies of an `if`, its condition
+  pub tested : Tree
 
 abbrev pub nothing_known : Context
-nothing_known = record { replications = []; cells = []; own = []; facts = []; events = [] }
-
--- What a tree is for the node above it: a construct or a term; the bodies of an `if` with this condition, and its else
--- body; the branches of a `find`; the cells, the condition and the body of a branch; its condition and body; a `defined`
--- list; a cell of one.
-pub data Position : Type 0 where
-  Anywhere : Position
-  Bodies ElseBody : (condition : Tree) → Position
-  Branches Guards Guarded Cells OneCell : Position
+nothing_known = record { replications = []; cells = []; own = []; facts = []; events = []; tested = Empty }
 
 -- x[i, ..] at the current indices
 abbrev pub index_terms : List (ℕ × ℕ) → Tree
@@ -62,7 +58,7 @@ abbrev pub replications_below : Head → List (ℕ × ℕ) → List (ℕ × ℕ)
 replications_below (Repl i n) rs = rs ++ (i, n) ∷ []
 replications_below h rs = rs
 
--- Positions of the item and of the rest, at a cell of a list in a position.
+-- Positions of the item and of the rest of a list.
 
 abbrev pub item_position : Position → Position
 item_position Guards = Cells
@@ -70,30 +66,30 @@ item_position Cells = OneCell
 item_position w = Anywhere
 
 abbrev pub rest_position : Position → Position
-rest_position (Bodies m) = ElseBody m
+rest_position Bodies = ElseBody
 rest_position Branches = Branches
 rest_position Guards = Guarded
 rest_position Cells = Cells
 rest_position w = Anywhere
 
--- positions of a node's children, the first of which is a
+-- positions of a node's children
 
 abbrev pub first_position : Position → Head → Position
 first_position w Cons = item_position w
 first_position w (Find l) = Branches
 first_position w h = Anywhere
 
-abbrev pub second_position : Position → Head → Tree → Position
-second_position w Cons a = rest_position w
-second_position w If a = Bodies a
-second_position w Branch a = Guards
-second_position w h a = Anywhere
+abbrev pub second_position : Position → Head → Position
+second_position w Cons = rest_position w
+second_position w If = Bodies
+second_position w Branch = Guards
+second_position w h = Anywhere
 
 -- What is known there. In a `defined` list the cells that stand earlier are known.
 
 abbrev pub item_context : Position → Context → Context
-item_context (Bodies m) Γ = with_fact Γ m
-item_context (ElseBody m) Γ = with_fact Γ (Node Not m Empty)
+item_context Bodies Γ = with_fact Γ Γ.tested
+item_context ElseBody Γ = with_fact Γ (Node Not Γ.tested Empty)
 item_context w Γ = Γ
 
 abbrev pub rest_context : Position → Tree → Context → Context
@@ -113,7 +109,8 @@ second_context w (In c) a Γ = with_cells Γ (cells_of Γ.replications (second a
 second_context w (New x T) a Γ = with_cells Γ (cell_of Γ.replications x ∷ [])
 second_context w (Let x T) a Γ = with_definition Γ x a
 second_context w (Event e) a Γ = record Γ { events = Γ.events ++ (e, a) ∷ [] }
-second_context w Branch a Γ = record Γ { own = cells_of Γ.replications a }
+second_context w If a Γ = record Γ { tested = a }
+second_context w Branch a Γ = record Γ { own = Γ.own ++ cells_of Γ.replications a }
 second_context w h a Γ = Γ
 
 -- what is known at the node at a place of a tree
@@ -122,7 +119,7 @@ context_at w Γ Empty p = None
 context_at w Γ (Node h a b) p =
     if nat_lt p (weight h) then Some Γ
     else if nat_lt p (weight h + size a) then context_at (first_position w h) (first_context w h Γ) a (p - weight h)
-    else context_at (second_position w h a) (second_context w h a Γ) b (p - (weight h + size a))
+    else context_at (second_position w h) (second_context w h a Γ) b (p - (weight h + size a))
 
 abbrev pub known_at : Tree → ℕ → Option Context
 known_at game p = context_at Anywhere nothing_known game p

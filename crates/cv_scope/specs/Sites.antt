@@ -41,7 +41,7 @@ channel_here rs p (In c) a = record { name = Channel c; replications = rs; types
 channel_here rs p h a = []
 
 abbrev pub sites_here : List (ℕ × ℕ) → ℕ → Head → Tree → List Site
-sites_here rs p h a = channel_here rs p h a ++ named_here rs p h a
+sites_here rs p h a = named_here rs p h a ++ channel_here rs p h a
 
 -- the sites of a tree, in preorder
 unfoldable pub sites_from : List (ℕ × ℕ) → ℕ → Tree → List Site

@@ -3,7 +3,9 @@ use Rattle.std.specs.Prelude.{ℕ, Bool, true, false, if◌then◌else◌, List,
 use Rattle.cv_syntax.specs.declared.head.Head.{Head}
 use Rattle.cv_syntax.specs.declared.head.Head.TheVariants.{Find, Cons}
 use Rattle.cv_syntax.specs.Tree.{Tree, first_place, second_place}
-use Rattle.cv_scope.specs.Context.{Context, Position, Anywhere, Bodies, Branches, nothing_known, first_position, second_position, first_context, second_context}
+use Rattle.cv_scope.specs.declared.position.Position.{Position}
+use Rattle.cv_scope.specs.declared.position.Position.TheVariants.{Anywhere, Bodies, Branches}
+use Rattle.cv_scope.specs.Context.{Context, nothing_known, first_position, second_position, first_context, second_context}
 use Rattle.cv_scope.specs.Sites.{Site, sites_here, sites_from}
 
 pub record Standing : Type 0 where
@@ -20,7 +22,7 @@ abbrev pub at_root : Standing
 at_root = record { position = Anywhere; known = nothing_known; place = 0; sites = []; passed = [] }
 
 abbrev pub is_choice : Position → Bool
-is_choice (Bodies m) = true
+is_choice Bodies = true
 is_choice Branches = true
 is_choice w = false
 
@@ -47,7 +49,7 @@ passed_second s h a =
 
 abbrev pub second_standing : Standing → Head → Tree → Standing
 second_standing s h a = record {
-  position = second_position s.position h a;
+  position = second_position s.position h;
   known = second_context s.position h a s.known;
   place = second_place s.place h a;
   sites = s.sites ++ (sites_here s.known.replications s.place h a ++ sites_from s.known.replications (first_place s.place h) a);

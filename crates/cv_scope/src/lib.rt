@@ -3,6 +3,8 @@
 
 mod fault;
 mod laws;
+mod position;
 
 pub use fault::{Fault, ScopeFault};
 pub use laws::{game_faults_are_first, nodes_are_decided, tree_faults_are_first};
+pub use position::Position;
