@@ -5,3 +5,4 @@ pub mod Rules
 pub mod Tests
 pub mod Scope
 pub mod Refusals
+pub mod Worked

@@ -6,5 +6,5 @@ mod laws;
 mod position;
 
 pub use fault::{Fault, ScopeFault};
-pub use laws::{game_faults_are_first, nodes_are_decided, tree_faults_are_first};
+pub use laws::{game_faults_are_first, nodes_are_decided, tree_faults_are_first, worked_games};
 pub use position::Position;
