@@ -1,3 +1,4 @@
+pub mod Stacks
 pub mod Trees
 pub mod Decided
 pub mod First

@@ -6,3 +6,5 @@ pub mod Tests
 pub mod Scope
 pub mod Refusals
 pub mod Worked
+pub mod Seen
+pub mod Held

@@ -1,8 +1,13 @@
 // Array scope of games.
 #![tactic(auto)]
 
+mod defined;
 mod fault;
+mod binders;
+mod lasts;
 mod laws;
+mod names;
+mod passed;
 mod position;
 
 pub use fault::{Fault, ScopeFault};
