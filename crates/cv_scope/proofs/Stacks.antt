@@ -6,7 +6,7 @@ use Rattle.std.specs.HashMap.{get, Updates}
 use Rattle.std.proofs.lemmas.Bool.{and_parts, and_from, or_cases, or_parts, or_left, or_right, both_ways, eq-eqb, not_from_false, not_from_true, lt-ltb, le-ltb, or_from, and_left, and_right, leb-true, leb-false}
 use Rattle.std.specs.List.Sorted.{IsNonDecreasingBy}
 use Rattle.cv_typing.specs.Tables.{same_pair}
-use Rattle.cv_scope.specs.Held.{MapFrom, IsPlaced, EndBy, Rise}
+use Rattle.cv_scope.specs.Ordered.{MapFrom, IsPlaced, EndBy, Rise}
 use Rattle.cv_scope.specs.Seen.{is_defined, with_definition}
 use Rattle.cv_scope.specs.Tests.{is_in_one_of}
 

@@ -1,9 +1,6 @@
 -- What the tables of the code hold.
-use Rattle.std.specs.Prelude.{◌≡◌, ◌≤◌, ◌<◌, ℕ, length, List, [], ◌∷◌, slice_get, nat_eq, option_map, Option, Some, None, is_some}
-use Rattle.std.specs.List.{AllByRecursion}
-use Rattle.std.specs.declared.hash.FoldHasher.{FoldHasher}
-use Rattle.std.specs.declared.hash.BuildHasherDefault.{BuildHasherDefault}
-use Rattle.std.specs.HashMap.{get, HashMap}
+use Rattle.std.specs.Prelude.{All, ◌+◌, ◌≡◌, ◌≤◌, ◌<◌, ℕ, length, map, List, [], ◌∷◌, slice_get, nat_eq, option_map, Option, Some, None, is_some}
+use Rattle.std.specs.HashMap.{get}
 use Rattle.cv_pool.specs.KindTree.{KindTree}
 use Rattle.cv_pool.specs.Nodes.{ChildBelow}
 use Rattle.cv_pool.specs.declared.node.NodeId.{NodeId}
@@ -11,28 +8,14 @@ use Rattle.cv_syntax.specs.Tree.{tree_at}
 use Rattle.cv_syntax.specs.Walks.{above}
 use Rattle.cv_meaning.specs.Binders.{bound_names}
 use Rattle.cv_scope.specs.declared.binders.FirstBinder.{FirstBinder}
-use Rattle.cv_typing.specs.Tables.{same_pair, seen}
+use Rattle.cv_typing.specs.Tables.{seen}
 use Rattle.cv_scope.specs.declared.names.NameKinds.{NameKinds}
 use Rattle.cv_scope.specs.Rules.{Names}
+use Rattle.cv_scope.specs.declared.state.State.{State}
+use Rattle.cv_scope.specs.Seen.{Seen, with_sites}
 use Rattle.cv_scope.specs.declared.lasts.LastSite.{LastSite}
 use Rattle.cv_scope.specs.declared.lasts.Lasts.{Lasts}
 use Rattle.cv_scope.specs.Sites.{Site, SiteName, Variable, Channel, Label, bound_types}
-
-abbrev pub MapFrom : Type 0 → Type 0 → Type 0
-MapFrom K X = HashMap K X (BuildHasherDefault FoldHasher)
-
--- each pair of a list has its place in a table; a pair that no longer is in the list may have one too
-abbrev pub IsPlaced : List (ℕ × ℕ) → MapFrom (ℕ × ℕ) ℕ → Type 0
-IsPlaced ds places = (k : ℕ) (d : ℕ × ℕ) → slice_get ds k ≡ Some d → get same_pair places d ≡ Some k
-
--- ranges that end at or before a place
-abbrev pub EndBy : ℕ → List (ℕ × ℕ) → Type 0
-EndBy p ranges = AllByRecursion (λ (r : ℕ × ℕ). r.1 ≤ p) ranges
-
--- ranges one behind the other
-abbrev pub Rise : List (ℕ × ℕ) → Type 0
-Rise [] = Unit {0}
-Rise (r ∷ rs) = AllByRecursion (λ (q : ℕ × ℕ). r.1 ≤ q.0) rs × (r.0 ≤ r.1) × Rise rs
 
 -- sites
 
@@ -70,3 +53,39 @@ IsFirstBinder trees list (Some b) =
 -- which names are constants and variables
 abbrev pub names_held : NameKinds → Names
 names_held n = record { constant = λ x. is_some (get nat_eq n.constants x); variable = λ x. is_some ((seen n.sites).variable x) }
+
+-- each tree of a list is live
+abbrev pub AreLive : ℕ → List (Option NodeId) → Type 0
+AreLive n list = All (ChildBelow n) list
+
+-- a number, and so many more
+abbrev pub and_more : ℕ → Option ℕ → Option ℕ
+and_more n None = None
+and_more n (Some k) = Some (n + k)
+
+-- what is known at a node
+
+abbrev pub IsSiteOf : List (ℕ × ℕ) → ℕ → Option NodeId → LastSite → Type 0
+IsSiteOf rs p binders s = (s.place ≡ p) × (s.replications.items ≡ rs) × (s.binders ≡ binders)
+
+abbrev pub state_held : List KindTree → State → Seen
+state_held trees s = record {
+  replications = s.replications.items;
+  defined = s.defined;
+  listed = map (tree_at trees) s.listed.items;
+  passed = s.passed;
+  last = last_held trees s.last;
+}
+
+-- the same but for sites
+pub record SameAbove (s r : State) : Type 0 where
+  pub replications : r.replications.items ≡ s.replications.items
+  pub defined : r.defined ≡ s.defined
+  pub listed : r.listed.items ≡ s.listed.items
+  pub passed : r.passed ≡ s.passed
+
+-- the same, with more sites
+pub record OnlySites (trees : List KindTree) (s r : State) (sites : List Site) : Type 0 where
+  pub above : SameAbove s r
+  pub last : last_held trees r.last ≡ with_sites (last_held trees s.last) sites
+  pub live : HasLiveBinders (length trees) r.last

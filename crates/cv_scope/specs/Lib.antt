@@ -8,3 +8,4 @@ pub mod Refusals
 pub mod Worked
 pub mod Seen
 pub mod Held
+pub mod Ordered

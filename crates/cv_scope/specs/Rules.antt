@@ -1,5 +1,5 @@
 -- The rules of array scope, one by one: what each asks of a node, by its head and its children a and b.
-use Rattle.std.specs.Prelude.{◌≡◌, ◌≤◌, ℕ, Bool, true, false, ◌==◌, List, [], ◌∷◌, ◌⊎◌, length}
+use Rattle.std.specs.Prelude.{◌≡◌, ◌≤◌, ℕ, Bool, true, false, ◌&&◌, ◌==◌, List, [], ◌∷◌, ◌⊎◌, length}
 use Rattle.std.specs.List.{AllByRecursion, list_any}
 use Rattle.cv_syntax.specs.declared.head.Head.{Head}
 use Rattle.cv_syntax.specs.declared.head.Head.TheVariants.{Repl, In, Out, Branch, Leaf, Read, Name}
@@ -58,9 +58,13 @@ MayStand passed sites (s ∷ ss) = AllByRecursion (MayFollow passed s) sites × 
 
 -- Channels. An input or an output carries exactly the current indices.
 
+abbrev pub is_name : ℕ → Head → Bool
+is_name x (Name y) = x == y
+is_name x h = false
+
 abbrev pub carries : List (ℕ × ℕ) → Tree → Bool
 carries [] Empty = true
-carries (r ∷ rs) (Node (Name x) a b) = elim (r.0 == x) [ true ↦ carries rs b | false ↦ false ]
+carries (r ∷ rs) (Node h a b) = is_name r.0 h && carries rs b
 carries _ _ = false
 
 abbrev pub carries_current : List (ℕ × ℕ) → Head → Tree → Bool

@@ -8,13 +8,13 @@ use std::marker::Model;
 /// The variables that are defined above a node, each with the number of replications above its definition.
 #[derive(Drop)]
 pub struct Defined {
-    list: Vec<(u32, u32)>,
-    places: HashMap<(u32, u32), usize>,
+    list: Vec<(u32, usize)>,
+    places: HashMap<(u32, usize), usize>,
 }
 
 impl Model for Defined {
     ghost use Rattle.std.specs.Prelude.{ℕ, List};
-    ghost use Rattle.cv_scope.specs.Held.{IsPlaced};
+    ghost use Rattle.cv_scope.specs.Ordered.{IsPlaced};
 
     ghost Value = { List (ℕ × ℕ) };
 
@@ -42,7 +42,7 @@ impl Defined {
     }
 
     /// Whether a variable is there, with so many indices.
-    pub fn has(&self, variable: u32, indices: u32) -> bool
+    pub fn has(&self, variable: u32, indices: usize) -> bool
         ensures { result ≡ is_defined self.now (variable, indices) }
     {
         let Some(k) = self.places.get(&(variable, indices)).copied() else {
@@ -55,14 +55,14 @@ impl Defined {
     }
 
     /// The variable at a place of the list.
-    fn at(&self, k: usize) -> Option<(u32, u32)>
+    fn at(&self, k: usize) -> Option<(u32, usize)>
         ensures { result ≡ slice_get self.now k }
     {
         self.list.get(k).copied()
     }
 
     /// Adds a variable, unless it is there.
-    pub fn add(&mut self, variable: u32, indices: u32) -> Result<(), AllocError>
+    pub fn add(&mut self, variable: u32, indices: usize) -> Result<(), AllocError>
         ensures { OnOk result (self.new ≡ with_definition self.old (variable, indices)) }
     {
         if self.has(variable, indices) {

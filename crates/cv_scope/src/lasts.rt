@@ -76,4 +76,42 @@ impl Lasts {
         self.variables.insert(x, site)?;
         Ok(may)
     }
+
+    /// Notes an input on a channel, and says whether it may stand behind the last one.
+    pub fn note_channel(
+        &mut self,
+        pool: &Pool,
+        passed: &Passed,
+        c: u32,
+        site: LastSite,
+    ) -> Result<bool, AllocError>
+        requires site { ChildBelow (length pool.now.trees) site.binders }
+        requires live { HasLiveBinders (length pool.now.trees) self.old }
+        ensures may { IfOk result (λ yes. yes ≡ may_follow_last passed.now (site_held pool.now.trees (Channel c) site) (last_held pool.now.trees self.old (Channel c))) }
+        ensures noted { OnOk result (last_held pool.now.trees self.new ≡ with_site (last_held pool.now.trees self.old) (site_held pool.now.trees (Channel c) site)) }
+        ensures live { OnOk result (HasLiveBinders (length pool.now.trees) self.new) }
+    {
+        let may = may_follow(pool, passed, &site, self.channels.get(&c));
+        self.channels.insert(c, site)?;
+        Ok(may)
+    }
+
+    /// Notes a `find` with a label, and says whether it may stand behind the last one.
+    pub fn note_label(
+        &mut self,
+        pool: &Pool,
+        passed: &Passed,
+        l: u64,
+        site: LastSite,
+    ) -> Result<bool, AllocError>
+        requires site { ChildBelow (length pool.now.trees) site.binders }
+        requires live { HasLiveBinders (length pool.now.trees) self.old }
+        ensures may { IfOk result (λ yes. yes ≡ may_follow_last passed.now (site_held pool.now.trees (Label l) site) (last_held pool.now.trees self.old (Label l))) }
+        ensures noted { OnOk result (last_held pool.now.trees self.new ≡ with_site (last_held pool.now.trees self.old) (site_held pool.now.trees (Label l) site)) }
+        ensures live { OnOk result (HasLiveBinders (length pool.now.trees) self.new) }
+    {
+        let may = may_follow(pool, passed, &site, self.labels.get(&l));
+        self.labels.insert(l, site)?;
+        Ok(may)
+    }
 }

@@ -9,6 +9,8 @@ mod laws;
 mod names;
 mod passed;
 mod position;
+mod state;
+mod terms;
 
 pub use fault::{Fault, ScopeFault};
 pub use laws::{game_faults_are_first, nodes_are_decided, tree_faults_are_first, worked_games};

@@ -1,5 +1,5 @@
 ghost use Rattle.std.specs.Prelude.{◌≡◌, ◌≤◌, ◌++◌, ◌∷◌, [], length, take, OnOk};
-ghost use Rattle.cv_scope.specs.Held.{EndBy, Rise};
+ghost use Rattle.cv_scope.specs.Ordered.{EndBy, Rise};
 ghost use Rattle.cv_scope.specs.Tests.{is_in_one_of};
 
 use std::alloc::{AllocError, Global};
@@ -13,7 +13,7 @@ pub struct Passed {
 
 impl Model for Passed {
     ghost use Rattle.std.specs.Prelude.{ℕ, List};
-    ghost use Rattle.cv_scope.specs.Held.{Rise};
+    ghost use Rattle.cv_scope.specs.Ordered.{Rise};
 
     ghost Value = { List (ℕ × ℕ) };
 

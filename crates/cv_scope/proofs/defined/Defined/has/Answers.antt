@@ -1,5 +1,5 @@
 use Rattle.std.proofs.Common.{sym, ◌∙◌, subst}
-use Rattle.cv_scope.specs.Held.{IsPlaced}
+use Rattle.cv_scope.specs.Ordered.{IsPlaced}
 use Rattle.cv_scope.proofs.Stacks.{has-some, has-past, has-none}
 use Rattle.cv_scope.proofs.defined.Defined.has.Goals as goal
 

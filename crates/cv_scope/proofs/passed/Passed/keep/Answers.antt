@@ -1,5 +1,5 @@
 use Rattle.std.proofs.Common.{sym, subst}
-use Rattle.cv_scope.specs.Held.{Rise}
+use Rattle.cv_scope.specs.Ordered.{Rise}
 use Rattle.cv_scope.proofs.Stacks.{rise-take}
 use Rattle.cv_scope.proofs.passed.Passed.keep.Goals as goal
 
