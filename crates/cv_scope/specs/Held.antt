@@ -1,10 +1,11 @@
 -- What the tables of the code hold.
-use Rattle.std.specs.Prelude.{All, ◌+◌, ◌≡◌, ◌≤◌, ◌<◌, ℕ, length, map, List, [], ◌∷◌, slice_get, nat_eq, option_map, Option, Some, None, is_some}
+use Rattle.std.specs.Prelude.{All, IsNone, ◌↔◌, ◌+◌, ◌≡◌, ◌≤◌, ◌<◌, ℕ, length, map, List, [], ◌∷◌, slice_get, nat_eq, option_map, Option, Some, None, is_some}
 use Rattle.std.specs.HashMap.{get}
 use Rattle.cv_pool.specs.KindTree.{KindTree}
 use Rattle.cv_pool.specs.Nodes.{ChildBelow}
 use Rattle.cv_pool.specs.declared.node.NodeId.{NodeId}
-use Rattle.cv_syntax.specs.Tree.{tree_at}
+use Rattle.cv_syntax.specs.declared.open.Opened.{Opened}
+use Rattle.cv_syntax.specs.Tree.{Empty, Node, tree_at}
 use Rattle.cv_syntax.specs.Walks.{above}
 use Rattle.cv_meaning.specs.Binders.{bound_names}
 use Rattle.cv_scope.specs.declared.binders.FirstBinder.{FirstBinder}
@@ -89,3 +90,12 @@ pub record OnlySites (trees : List KindTree) (s r : State) (sites : List Site) :
   pub above : SameAbove s r
   pub last : last_held trees r.last ≡ with_sites (last_held trees s.last) sites
   pub live : HasLiveBinders (length trees) r.last
+
+-- a live node, read
+pub record IsOpened (trees : List KindTree) (k : NodeId) (node : Opened) : Type 0 where
+  pub live : k.0 < length trees
+  pub tree : tree_at trees (Some k) ≡ Node node.head (tree_at trees node.first) (tree_at trees node.second)
+  pub first : ChildBelow k.0 node.first
+  pub second : ChildBelow k.0 node.second
+  pub no_first : IsNone node.first ↔ (tree_at trees node.first ≡ Empty)
+  pub no_second : IsNone node.second ↔ (tree_at trees node.second ≡ Empty)

@@ -9,6 +9,7 @@ mod laws;
 mod names;
 mod passed;
 mod position;
+mod reads;
 mod state;
 mod terms;
 
