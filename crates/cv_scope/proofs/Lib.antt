@@ -1,4 +1,5 @@
 pub mod Noting
+pub mod Faults
 pub mod Stacks
 pub mod Comparing
 pub mod Trees

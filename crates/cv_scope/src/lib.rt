@@ -10,6 +10,7 @@ mod names;
 mod passed;
 mod position;
 mod reads;
+mod rules;
 mod state;
 mod terms;
 
