@@ -1,4 +1,5 @@
 pub mod Noting
+pub mod Entering
 pub mod Faults
 pub mod Stacks
 pub mod Comparing

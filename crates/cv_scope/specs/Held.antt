@@ -1,19 +1,22 @@
 -- What the tables of the code hold.
-use Rattle.std.specs.Prelude.{All, IsNone, ◌↔◌, ◌+◌, ◌≡◌, ◌≤◌, ◌<◌, ℕ, length, map, List, [], ◌∷◌, slice_get, nat_eq, option_map, Option, Some, None, is_some}
+use Rattle.std.specs.Prelude.{All, IsNone, ◌↔◌, ◌+◌, ◌≡◌, ◌≤◌, ◌<◌, ℕ, length, map, take, ◌++◌, List, [], ◌∷◌, slice_get, nat_eq, option_map, Option, Some, None, is_some}
 use Rattle.std.specs.HashMap.{get}
 use Rattle.cv_pool.specs.KindTree.{KindTree}
 use Rattle.cv_pool.specs.Nodes.{ChildBelow}
 use Rattle.cv_pool.specs.declared.node.NodeId.{NodeId}
+use Rattle.cv_syntax.specs.declared.head.Head.{Head}
+use Rattle.cv_scope.specs.declared.position.Position.{Position}
 use Rattle.cv_syntax.specs.declared.open.Opened.{Opened}
-use Rattle.cv_syntax.specs.Tree.{Empty, Node, tree_at}
+use Rattle.cv_syntax.specs.Tree.{Tree, Empty, Node, tree_at}
 use Rattle.cv_syntax.specs.Walks.{above}
 use Rattle.cv_meaning.specs.Binders.{bound_names}
 use Rattle.cv_scope.specs.declared.binders.FirstBinder.{FirstBinder}
 use Rattle.cv_typing.specs.Tables.{seen}
 use Rattle.cv_scope.specs.declared.names.NameKinds.{NameKinds}
 use Rattle.cv_scope.specs.Rules.{Names}
+use Rattle.cv_scope.specs.declared.enter.Marks.{Marks}
 use Rattle.cv_scope.specs.declared.state.State.{State}
-use Rattle.cv_scope.specs.Seen.{Seen, with_sites}
+use Rattle.cv_scope.specs.Seen.{Seen, behind, with_sites}
 use Rattle.cv_scope.specs.declared.lasts.LastSite.{LastSite}
 use Rattle.cv_scope.specs.declared.lasts.Lasts.{Lasts}
 use Rattle.cv_scope.specs.Sites.{Site, SiteName, Variable, Channel, Label, bound_types}
@@ -99,3 +102,43 @@ pub record IsOpened (trees : List KindTree) (k : NodeId) (node : Opened) : Type 
   pub second : ChildBelow k.0 node.second
   pub no_first : IsNone node.first ↔ (tree_at trees node.first ≡ Empty)
   pub no_second : IsNone node.second ↔ (tree_at trees node.second ≡ Empty)
+
+-- the fronts of lists of these lengths, and the same sites
+pub record IsTaken (marks : Marks) (s r : State) : Type 0 where
+  pub replications : r.replications.items ≡ take marks.replications s.replications.items
+  pub defined : r.defined ≡ take marks.defined s.defined
+  pub listed : r.listed.items ≡ take marks.listed s.listed.items
+  pub passed : r.passed ≡ take marks.passed s.passed
+  pub last : r.last ≡ s.last
+
+-- the same, with these definitions
+pub record DefinesOnly (s r : State) (definitions : List (ℕ × ℕ)) : Type 0 where
+  pub replications : r.replications.items ≡ s.replications.items
+  pub defined : r.defined ≡ definitions
+  pub listed : r.listed.items ≡ s.listed.items
+  pub passed : r.passed ≡ s.passed
+  pub last : r.last ≡ s.last
+
+-- the same, with more cells
+pub record ListsOnly (trees : List KindTree) (s r : State) (cells : List Tree) : Type 0 where
+  pub replications : r.replications.items ≡ s.replications.items
+  pub defined : r.defined ≡ s.defined
+  pub listed : map (tree_at trees) r.listed.items ≡ map (tree_at trees) s.listed.items ++ cells
+  pub front : take (length s.listed.items) r.listed.items ≡ s.listed.items
+  pub live : AreLive (length trees) r.listed.items
+  pub passed : r.passed ≡ s.passed
+  pub last : r.last ≡ s.last
+
+-- each list of a state is the front of that of the other
+pub record Extends (s r : State) : Type 0 where
+  pub replications : take (length s.replications.items) r.replications.items ≡ s.replications.items
+  pub defined : take (length s.defined) r.defined ≡ s.defined
+  pub listed : take (length s.listed.items) r.listed.items ≡ s.listed.items
+  pub passed : take (length s.passed) r.passed ≡ s.passed
+
+-- what the second child of a node knows, the first of which is a and lies from one place up to another
+pub record IsEntered (trees : List KindTree) (s r : State) (w : Position) (h : Head) (a : Tree) (from to : ℕ) : Type 0 where
+  pub held : state_held trees r ≡ behind (state_held trees s) w h a from to
+  pub front : Extends s r
+  pub live : AreLive (length trees) r.listed.items
+  pub last : r.last ≡ s.last

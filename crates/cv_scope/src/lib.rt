@@ -2,6 +2,7 @@
 #![tactic(auto)]
 
 mod defined;
+mod enter;
 mod fault;
 mod binders;
 mod lasts;
