@@ -1,3 +1,4 @@
+pub mod Going
 pub mod Noting
 pub mod Entering
 pub mod Faults

@@ -1,9 +1,12 @@
 -- What the tables of the code hold.
-use Rattle.std.specs.Prelude.{All, IsNone, ◌↔◌, ◌+◌, ◌≡◌, ◌≤◌, ◌<◌, ℕ, length, map, take, ◌++◌, List, [], ◌∷◌, slice_get, nat_eq, option_map, Option, Some, None, is_some}
+use Rattle.std.specs.Prelude.{Bool, false, ◌||◌, ◌==◌, All, IsNone, ◌↔◌, ◌+◌, ◌≡◌, ◌≤◌, ◌<◌, ℕ, length, map, take, ◌++◌, List, [], ◌∷◌, slice_get, nat_eq, option_map, Option, Some, None, is_some}
 use Rattle.std.specs.HashMap.{get}
 use Rattle.cv_pool.specs.KindTree.{KindTree}
 use Rattle.cv_pool.specs.Nodes.{ChildBelow}
 use Rattle.cv_pool.specs.declared.node.NodeId.{NodeId}
+use Rattle.cv_syntax.specs.declared.decls.Class.TheVariants.{Fun}
+use Rattle.cv_syntax.specs.declared.decls.Decl.{Decl}
+use Rattle.cv_syntax.specs.declared.decls.Decl.TheVariants as decl
 use Rattle.cv_syntax.specs.declared.head.Head.{Head}
 use Rattle.cv_scope.specs.declared.position.Position.{Position}
 use Rattle.cv_syntax.specs.declared.open.Opened.{Opened}
@@ -142,3 +145,23 @@ pub record IsEntered (trees : List KindTree) (s r : State) (w : Position) (h : H
   pub front : Extends s r
   pub live : AreLive (length trees) r.listed.items
   pub last : r.last ≡ s.last
+
+-- what was known in s is the front of what is known in r
+pub record Keeps (marks : Marks) (s r : State) : Type 0 where
+  pub replications : take marks.replications r.replications.items ≡ s.replications.items
+  pub defined : take marks.defined r.defined ≡ s.defined
+  pub listed : take marks.listed r.listed.items ≡ s.listed.items
+  pub passed : take marks.passed r.passed ≡ s.passed
+
+-- the constant that a declaration of the code declares
+abbrev pub constant_in : Decl → Option ℕ
+constant_in (decl.Name id (Fun d) None result) = Some id.0
+constant_in d = None
+
+abbrev pub is_here : Option ℕ → ℕ → Bool
+is_here None x = false
+is_here (Some y) x = y == x
+
+abbrev pub has_constant : List Decl → ℕ → Bool
+has_constant [] x = false
+has_constant (d ∷ ds) x = is_here (constant_in d) x || has_constant ds x

@@ -1,4 +1,4 @@
-ghost use Rattle.std.specs.Prelude.{◌≡◌, ◌<◌, List, length, IfOk, OnOk, option_map};
+ghost use Rattle.std.specs.Prelude.{◌≡◌, ◌<◌, ℕ, List, length, IfOk, OnOk, option_map};
 ghost use Rattle.std.specs.Option.{option_copied};
 ghost use Rattle.cv_pool.specs.KindTree.{KindTree};
 ghost use Rattle.cv_pool.specs.Nodes.{ChildBelow};
@@ -49,7 +49,7 @@ impl Lasts {
     /// No site.
     pub fn new(alloc: Global) -> Lasts
         ensures held { (trees : List KindTree) → last_held trees result ≡ no_site }
-        ensures live { HasLiveBinders 0 result }
+        ensures live { (n : ℕ) → HasLiveBinders n result }
     {
         Lasts {
             variables: HashMap::new(alloc),

@@ -1,6 +1,7 @@
 // Array scope of games.
 #![tactic(auto)]
 
+mod checking;
 mod defined;
 mod enter;
 mod fault;
@@ -14,7 +15,9 @@ mod reads;
 mod rules;
 mod state;
 mod terms;
+mod walk;
 
+pub use checking::check;
 pub use fault::{Fault, ScopeFault};
 pub use laws::{game_faults_are_first, nodes_are_decided, tree_faults_are_first, worked_games};
 pub use position::Position;

@@ -1,8 +1,9 @@
-ghost use Rattle.std.specs.Prelude.{◌≡◌, ◌<◌, ◌≤◌, [], ◌∷◌, true, length, Option, None, Some, IfOk, OnOk};
+ghost use Rattle.std.specs.Prelude.{◌≡◌, ◌<◌, ◌≤◌, ℕ, List, [], ◌∷◌, true, length, Option, None, Some, IfOk, OnOk};
+ghost use Rattle.cv_pool.specs.KindTree.{KindTree};
 ghost use Rattle.cv_pool.specs.Nodes.{ChildBelow};
 ghost use Rattle.cv_syntax.specs.Tree.{tree_at};
 ghost use Rattle.cv_scope.specs.Held.{HasLiveBinders, IsSiteOf, OnlySites, state_held};
-ghost use Rattle.cv_scope.specs.Seen.{may_stand_last, with_sites};
+ghost use Rattle.cv_scope.specs.Seen.{may_stand_last, nothing_seen, with_sites};
 ghost use Rattle.cv_scope.specs.Sites.{Variable, Label, channel_here, named_here, site_of, variable_sites};
 
 use crate::binders::first_binder;
@@ -26,6 +27,9 @@ pub struct State {
 impl State {
     /// What is known at the root.
     pub fn new(alloc: Global) -> State
+        ensures held { (trees : List KindTree) → state_held trees result ≡ nothing_seen }
+        ensures listed { result.listed.items ≡ [] }
+        ensures live { (n : ℕ) → HasLiveBinders n result.last }
     {
         State {
             replications: Vec::new(alloc),
