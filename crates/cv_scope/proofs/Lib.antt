@@ -5,5 +5,6 @@ pub mod Faults
 pub mod Stacks
 pub mod Comparing
 pub mod Trees
+pub mod Constants
 pub mod Decided
 pub mod First

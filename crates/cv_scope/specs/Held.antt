@@ -6,7 +6,7 @@ use Rattle.cv_pool.specs.Nodes.{ChildBelow}
 use Rattle.cv_pool.specs.declared.node.NodeId.{NodeId}
 use Rattle.cv_syntax.specs.declared.decls.Class.TheVariants.{Fun}
 use Rattle.cv_syntax.specs.declared.decls.Decl.{Decl}
-use Rattle.cv_syntax.specs.declared.decls.Decl.TheVariants as decl
+use Rattle.cv_syntax.specs.Declarations.{Declaration, Named, declared}
 use Rattle.cv_syntax.specs.declared.head.Head.{Head}
 use Rattle.cv_scope.specs.declared.position.Position.{Position}
 use Rattle.cv_syntax.specs.declared.open.Opened.{Opened}
@@ -153,15 +153,15 @@ pub record Keeps (marks : Marks) (s r : State) : Type 0 where
   pub listed : take marks.listed r.listed.items ≡ s.listed.items
   pub passed : take marks.passed r.passed ≡ s.passed
 
--- the constant that a declaration of the code declares
-abbrev pub constant_in : Decl → Option ℕ
-constant_in (decl.Name id (Fun d) None result) = Some id.0
-constant_in d = None
+-- the constant that a declaration declares
+abbrev pub constant_by : Declaration → Option ℕ
+constant_by (Named x (Fun d) Empty result) = Some x
+constant_by d = None
 
 abbrev pub is_here : Option ℕ → ℕ → Bool
 is_here None x = false
 is_here (Some y) x = y == x
 
-abbrev pub has_constant : List Decl → ℕ → Bool
-has_constant [] x = false
-has_constant (d ∷ ds) x = is_here (constant_in d) x || has_constant ds x
+abbrev pub has_constant : List KindTree → List Decl → ℕ → Bool
+has_constant trees [] x = false
+has_constant trees (d ∷ ds) x = is_here (constant_by (declared trees d)) x || has_constant trees ds x

@@ -1,13 +1,13 @@
-ghost use Rattle.std.specs.Prelude.{◌≡◌, ◌<◌, ◌||◌, ℕ, All, length, Some, IfOk, OnOk};
+ghost use Rattle.std.specs.Prelude.{◌≡◌, ◌<◌, ◌||◌, ℕ, All, length, Some, IfOk, OnOk, option_and_then, slice_get};
 ghost use Rattle.cv_meaning.specs.Interpretation.{is_constant_of};
 ghost use Rattle.cv_pool.specs.Nodes.{ChildBelow};
-ghost use Rattle.cv_syntax.specs.Declarations.{declarations};
+ghost use Rattle.cv_syntax.specs.Declarations.{declarations, declared};
 ghost use Rattle.cv_syntax.specs.Tree.{tree_at};
 ghost use Rattle.cv_typing.specs.Lookups.{IsLive};
-ghost use Rattle.cv_scope.specs.Held.{constant_in, has_constant, names_held};
+ghost use Rattle.cv_scope.specs.Held.{constant_by, has_constant, is_here, names_held};
 ghost use Rattle.cv_scope.specs.Scope.{names_of};
 
-use cv_syntax::{Class, Decl, Decls, NodeId, Pool};
+use cv_syntax::{Class, Decl, Decls, NodeId, Pool, read_node};
 use cv_typing::sites::Sites;
 use std::alloc::{AllocError, Global};
 use std::collections::HashMap;
@@ -49,37 +49,65 @@ impl NameKinds {
             constants: HashMap::new(alloc),
             sites: Sites::of(alloc, pool, root)?,
         };
-        names.note_constants(decls)?;
+        names.note_constants(pool, decls)?;
         Ok(names)
     }
 
     /// Notes the constants of declarations.
-    fn note_constants(&mut self, decls: &Decls) -> Result<(), AllocError>
-        ensures constants { OnOk result ((x : ℕ) → (names_held self.new).constant x ≡ ((names_held self.old).constant x || has_constant decls.now.list x)) }
+    fn note_constants(&mut self, pool: &Pool, decls: &Decls) -> Result<(), AllocError>
+        requires { All (IsLive (length pool.now.trees)) decls.now.list }
+        ensures constants { OnOk result ((x : ℕ) → (names_held self.new).constant x ≡ ((names_held self.old).constant x || has_constant pool.now.trees decls.now.list x)) }
         ensures sites { OnOk result (self.new.sites ≡ self.old.sites) }
     {
-        let mut k = 0;
-        while let Some(decl) = decls.get(k) {
-            if let Some(x) = constant_of(decl) {
-                self.constants.insert(x, true)?;
-            }
-            k += 1;
+        for k in 0..decls.len() {
+            self.note(constant_at(pool, decls, k))?;
+        }
+        Ok(())
+    }
+
+    /// Notes a constant, where there is one.
+    fn note(&mut self, constant: Option<u32>) -> Result<(), AllocError>
+        ensures constant { OnOk result ((x : ℕ) → (names_held self.new).constant x ≡ ((names_held self.old).constant x || is_here constant x)) }
+        ensures sites { OnOk result (self.new.sites ≡ self.old.sites) }
+    {
+        if let Some(x) = constant {
+            self.constants.insert(x, true)?;
         }
         Ok(())
     }
 }
 
+/// The constant that the declaration at a place declares.
+fn constant_at(pool: &Pool, decls: &Decls, k: u32) -> Option<u32>
+    requires { All (IsLive (length pool.now.trees)) decls.now.list }
+    ensures { result ≡ option_and_then (λ d. constant_by (declared pool.now.trees d)) (slice_get decls.now.list k) }
+{
+    match decls.get(k) {
+        Some(decl) => constant_of(pool, decl),
+        None => None,
+    }
+}
+
 /// The constant that a declaration declares.
-fn constant_of(decl: &Decl) -> Option<u32>
-    ensures { result ≡ constant_in decl.now }
+#[tactic(auto, using(crate::proofs::Comparing::term_laws))]
+fn constant_of(pool: &Pool, decl: &Decl) -> Option<u32>
+    requires { IsLive (length pool.now.trees) decl.now }
+    ensures { result ≡ constant_by (declared pool.now.trees decl.now) }
 {
     match decl {
         Decl::Name {
             id,
             class: Class::Fun { .. },
-            args: None,
+            args,
             ..
-        } => Some(id.0),
+        } => match args {
+            Some(n) => {
+                // A node of the pool is never empty, as reading it shows.
+                let _node = read_node(pool, *n);
+                None
+            }
+            None => Some(id.0),
+        },
         _ => None,
     }
 }
