@@ -1,28 +1,22 @@
 -- The constants of a list of declarations.
-use Rattle.std.proofs.Common.{◌≡◌, ℕ, zero, suc, ◌+◌, ◌<◌, Bool, true, false, ◌||◌, cond, List, [], ◌∷◌, length, drop, refl, ap, ap₂, sym, ◌∙◌, arith, Option, Some, None, is_some}
-use Rattle.std.specs.Prelude.{All, slice_get, option_and_then, ◌==◌}
+use Rattle.std.proofs.Common.{◌≡◌, ℕ, zero, suc, ◌+◌, ◌<◌, Bool, true, false, ◌||◌, List, [], ◌∷◌, length, drop, refl, ap, sym, ◌∙◌, arith, Option, is_some}
+use Rattle.std.specs.Prelude.{slice_get, option_and_then}
 use Rattle.std.proofs.Math.Path.{fun_ext}
-use Rattle.std.proofs.lemmas.List.Elements.{All-tail}
 use Rattle.cv_syntax.specs.declared.decls.Class.TheVariants as class
 use Rattle.cv_syntax.specs.declared.decls.Decl.{Decl}
-use Rattle.cv_syntax.specs.declared.decls.Decl.TheVariants as decl
-use Rattle.cv_pool.specs.declared.node.NodeId.{NodeId}
 use Rattle.cv_pool.specs.KindTree.{KindTree}
 use Rattle.cv_syntax.specs.Declarations.{Declaration, Named, declarations, declared}
-use Rattle.cv_syntax.specs.Tree.{Tree, Empty, Node, tree_at}
+use Rattle.cv_syntax.specs.Tree.{Tree, Empty, Node}
 use Rattle.cv_meaning.specs.Interpretation.{is_constant_of}
-use Rattle.cv_typing.specs.Lookups.{IsLive}
 use Rattle.cv_typing.specs.Sites.{SitesView, sites_of}
 use Rattle.cv_typing.specs.Tables.{seen}
 use Rattle.cv_scope.specs.declared.names.NameKinds.{NameKinds}
 use Rattle.cv_scope.specs.Held.{constant_by, has_constant, is_here, names_held}
-use Rattle.cv_scope.specs.Rules.{Names}
 use Rattle.cv_scope.specs.Scope.{names_of}
 
 or-assoc : (a b c : Bool) → ((a || b) || c) ≡ (a || (b || c))
 or-assoc true b c = refl
 or-assoc false b c = refl
-
 
 drop-has : (trees : List KindTree) (ds : List Decl) (k x : ℕ) → k < length ds → has_constant trees (drop k ds) x ≡ (is_here (option_and_then (λ d. constant_by (declared trees d)) (slice_get ds k)) x || has_constant trees (drop (suc k) ds) x)
 drop-has trees [] k x l = absurd (omega arith)

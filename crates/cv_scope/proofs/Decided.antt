@@ -1,5 +1,5 @@
 -- The tests of a node decide the rules.
-use Rattle.std.proofs.Common.{◌≡◌, ◌≤◌, ◌<◌, ℕ, Bool, true, false, ◌&&◌, not, cond, List, [], ◌∷◌, length, inl, inr, refl, ap, ap₂, subst, arith, nat_lt, Option, Some, None, eqb-true}
+use Rattle.std.proofs.Common.{◌≡◌, ◌≤◌, ◌<◌, ℕ, Bool, true, false, ◌&&◌, not, cond, List, [], ◌∷◌, ◌++◌, length, inl, inr, refl, ap, ap₂, subst, arith, nat_lt, Option, Some, None, eqb-true}
 use Rattle.std.specs.Prelude.{◌==◌}
 use Rattle.std.specs.List.{AllByRecursion, list_any, list_all}
 use Rattle.std.proofs.lemmas.Bool.{and_parts, and_from, or_cases, or_left, or_right, both_ways, not-true, not_from_false, eq-eqb, ltb-true, ltb-false, lt-ltb, le-ltb}
@@ -136,21 +136,21 @@ follow-tested passed s e m = go (same_name e.name s.name) refl
     go true k = let p = m (name-same e.name s.name k) in or_right (not (same_name e.name s.name)) _ (and_from (is_in_one_of passed e.place) _ (ranges-tested passed e.place p.0) (alike-tested e s p.1))
     go false k = or_left (not (same_name e.name s.name)) _ (not_from_false _ k)
 
-follows-found : (passed : List (ℕ × ℕ)) (s : Site) (sites : List Site) → list_all (may_follow passed s) sites ≡ true → AllByRecursion (MayFollow passed s) sites
+pub follows-found : (passed : List (ℕ × ℕ)) (s : Site) (sites : List Site) → list_all (may_follow passed s) sites ≡ true → AllByRecursion (MayFollow passed s) sites
 follows-found passed s [] h = tt
 follows-found passed s (e ∷ sites) h = let p = and_parts (may_follow passed s e) _ h in (follow-found passed s e p.0, follows-found passed s sites p.1)
 
-follows-tested : (passed : List (ℕ × ℕ)) (s : Site) (sites : List Site) → AllByRecursion (MayFollow passed s) sites → list_all (may_follow passed s) sites ≡ true
+pub follows-tested : (passed : List (ℕ × ℕ)) (s : Site) (sites : List Site) → AllByRecursion (MayFollow passed s) sites → list_all (may_follow passed s) sites ≡ true
 follows-tested passed s [] m = refl
 follows-tested passed s (e ∷ sites) m = and_from (may_follow passed s e) _ (follow-tested passed s e m.0) (follows-tested passed s sites m.1)
 
 pub stand-found : (passed : List (ℕ × ℕ)) (ss sites : List Site) → may_stand passed sites ss ≡ true → MayStand passed sites ss
 stand-found passed [] sites h = tt
-stand-found passed (s ∷ ss) sites h = let p = and_parts (list_all (may_follow passed s) sites) _ h in (follows-found passed s sites p.0, stand-found passed ss (s ∷ sites) p.1)
+stand-found passed (s ∷ ss) sites h = let p = and_parts (list_all (may_follow passed s) sites) _ h in (follows-found passed s sites p.0, stand-found passed ss (sites ++ s ∷ []) p.1)
 
 pub stand-tested : (passed : List (ℕ × ℕ)) (ss sites : List Site) → MayStand passed sites ss → may_stand passed sites ss ≡ true
 stand-tested passed [] sites m = refl
-stand-tested passed (s ∷ ss) sites m = and_from (list_all (may_follow passed s) sites) _ (follows-tested passed s sites m.0) (stand-tested passed ss (s ∷ sites) m.1)
+stand-tested passed (s ∷ ss) sites m = and_from (list_all (may_follow passed s) sites) _ (follows-tested passed s sites m.0) (stand-tested passed ss (sites ++ s ∷ []) m.1)
 
 -- replications
 

@@ -1,17 +1,15 @@
 -- What is learned on the way into a second child.
-use Rattle.std.proofs.Common.{◌≡◌, ℕ, zero, suc, ◌+◌, ◌≤◌, Bool, true, false, cond, List, [], ◌∷◌, ◌++◌, length, map, take, refl, ap, ap₂, sym, ◌∙◌, subst, append-nil, append_assoc, Result, Ok, Err, OnOk}
+use Rattle.std.proofs.Common.{◌≡◌, ℕ, Bool, true, false, cond, List, [], ◌∷◌, ◌++◌, length, map, take, refl, ap, sym, ◌∙◌, subst, append-nil, append_assoc, Result, Ok, Err, OnOk}
 use Rattle.std.proofs.lemmas.Result.{IfOk-weaker}
 use Rattle.cv_pool.specs.KindTree.{KindTree}
 use Rattle.cv_syntax.specs.declared.head.Head.{Head}
 use Rattle.cv_syntax.specs.declared.head.Head.TheVariants.{Repl, In, New, Let, Find, Branch, Cons}
 use Rattle.cv_syntax.specs.Tree.{Tree, tree_at}
 use Rattle.cv_scope.specs.declared.position.Position.{Position}
-use Rattle.cv_scope.specs.declared.passed.Passed.{Passed}
 use Rattle.cv_scope.specs.declared.state.State.{State}
-use Rattle.cv_scope.specs.Context.{items, replications_below}
+use Rattle.cv_scope.specs.Context.{replications_below}
 use Rattle.cv_scope.specs.Held.{AreLive, DefinesOnly, Extends, IsEntered, ListsOnly, state_held}
 use Rattle.cv_scope.specs.Seen.{defined_by, is_defined, listed_by, passed_by, with_definition, with_definitions}
-use Rattle.cv_scope.specs.Standing.{parts_ways}
 
 pub on-ok : {X E : Type 0} (r : Result X E) (A B : Type 0) → (A → B) → OnOk r A → OnOk r B
 on-ok r A B f m = IfOk-weaker r (λ x. A) (λ x. B) (λ x y. f y) m
@@ -76,35 +74,35 @@ module _ (trees : List KindTree) (s r : State) (w : Position) (h : Head) (a : Tr
   pub defines-entered : AreLive (length trees) s.listed.items → replications_below h s.replications.items ≡ s.replications.items → listed_by w h a ≡ [] → passed_by w h p q ≡ [] → DefinesOnly s r (with_definitions s.defined (length s.replications.items) (defined_by h a)) → IsEntered trees s r w h a p q
   defines-entered live er el ep d =
       entered (d.replications ∙ sym er) d.defined
-        (ap (map (tree_at trees)) d.listed ∙ (sym (append-nil (map (tree_at trees) s.listed.items)) ∙ ap (λ l. map (tree_at trees) s.listed.items ++ l) (sym el)))
-        (front-same s.listed.items r.listed.items d.listed)
-        (d.passed ∙ (sym (append-nil s.passed) ∙ ap (λ l. s.passed ++ l) (sym ep)))
-        d.last (subst (AreLive (length trees)) (sym d.listed) live)
+      (ap (map (tree_at trees)) d.listed ∙ (sym (append-nil (map (tree_at trees) s.listed.items)) ∙ ap (λ l. map (tree_at trees) s.listed.items ++ l) (sym el)))
+      (front-same s.listed.items r.listed.items d.listed)
+      (d.passed ∙ (sym (append-nil s.passed) ∙ ap (λ l. s.passed ++ l) (sym ep)))
+      d.last (subst (AreLive (length trees)) (sym d.listed) live)
 
   pub lists-entered : replications_below h s.replications.items ≡ s.replications.items → defined_by h a ≡ [] → passed_by w h p q ≡ [] → ListsOnly trees s r (listed_by w h a) → IsEntered trees s r w h a p q
   lists-entered er ed ep d =
       entered (d.replications ∙ sym er) (d.defined ∙ ap (with_definitions s.defined (length s.replications.items)) (sym ed)) d.listed d.front
-        (d.passed ∙ (sym (append-nil s.passed) ∙ ap (λ l. s.passed ++ l) (sym ep)))
-        d.last d.live
+      (d.passed ∙ (sym (append-nil s.passed) ∙ ap (λ l. s.passed ++ l) (sym ep)))
+      d.last d.live
 
   pub passes-entered : AreLive (length trees) s.listed.items → replications_below h s.replications.items ≡ s.replications.items → defined_by h a ≡ [] → listed_by w h a ≡ [] → passed_by w h p q ≡ (p, q) ∷ [] → r ≡ record s { passed = r.passed } → r.passed ≡ s.passed ++ (p, q) ∷ [] → IsEntered trees s r w h a p q
   passes-entered live er ed el ep e m =
       let same = ap (λ (z : State). z.listed.items) e in
       entered (ap (λ (z : State). z.replications.items) e ∙ sym er) (ap (λ (z : State). z.defined) e ∙ ap (with_definitions s.defined (length s.replications.items)) (sym ed))
-        (ap (map (tree_at trees)) same ∙ (sym (append-nil (map (tree_at trees) s.listed.items)) ∙ ap (λ l. map (tree_at trees) s.listed.items ++ l) (sym el)))
-        (front-same s.listed.items r.listed.items same)
-        (m ∙ ap (λ l. s.passed ++ l) (sym ep))
-        (ap (λ (z : State). z.last) e) (subst (AreLive (length trees)) (sym same) live)
+      (ap (map (tree_at trees)) same ∙ (sym (append-nil (map (tree_at trees) s.listed.items)) ∙ ap (λ l. map (tree_at trees) s.listed.items ++ l) (sym el)))
+      (front-same s.listed.items r.listed.items same)
+      (m ∙ ap (λ l. s.passed ++ l) (sym ep))
+      (ap (λ (z : State). z.last) e) (subst (AreLive (length trees)) (sym same) live)
 
   pub replicates-entered : (i n : ℕ) → h ≡ Repl i n → AreLive (length trees) s.listed.items → r ≡ record s { replications = r.replications } → r.replications.items ≡ s.replications.items ++ (i, n) ∷ [] → IsEntered trees s r w h a p q
   replicates-entered i n eh live e m =
       let same = ap (λ (z : State). z.listed.items) e in
       entered (m ∙ ap (λ k. replications_below k s.replications.items) (sym eh))
-        (ap (λ (z : State). z.defined) e ∙ ap (λ k. with_definitions s.defined (length s.replications.items) (defined_by k a)) (sym eh))
-        (ap (map (tree_at trees)) same ∙ (sym (append-nil (map (tree_at trees) s.listed.items)) ∙ ap (λ k. map (tree_at trees) s.listed.items ++ listed_by w k a) (sym eh)))
-        (front-same s.listed.items r.listed.items same)
-        (ap (λ (z : State). z.passed) e ∙ (sym (append-nil s.passed) ∙ ap (λ k. s.passed ++ passed_by w k p q) (sym eh)))
-        (ap (λ (z : State). z.last) e) (subst (AreLive (length trees)) (sym same) live)
+      (ap (λ (z : State). z.defined) e ∙ ap (λ k. with_definitions s.defined (length s.replications.items) (defined_by k a)) (sym eh))
+      (ap (map (tree_at trees)) same ∙ (sym (append-nil (map (tree_at trees) s.listed.items)) ∙ ap (λ k. map (tree_at trees) s.listed.items ++ listed_by w k a) (sym eh)))
+      (front-same s.listed.items r.listed.items same)
+      (ap (λ (z : State). z.passed) e ∙ (sym (append-nil s.passed) ∙ ap (λ k. s.passed ++ passed_by w k p q) (sym eh)))
+      (ap (λ (z : State). z.last) e) (subst (AreLive (length trees)) (sym same) live)
 
 -- a head that makes nothing known
 abbrev pub IsPlain : List (ℕ × ℕ) → Position → Head → Tree → ℕ → ℕ → Type 0

@@ -1,14 +1,13 @@
 -- The first fault of a node, test by test.
-use Rattle.std.proofs.Common.{◌≡◌, ℕ, Bool, true, false, ◌&&◌, not, cond, List, [], ◌∷◌, ◌++◌, map, refl, ap, ap₂, sym, ◌∙◌, subst, Option, Some, None}
+use Rattle.std.proofs.Common.{◌≡◌, ℕ, Bool, true, false, ◌&&◌, List, [], ◌∷◌, ◌++◌, map, refl, ap, ap₂, sym, ◌∙◌, Option, Some, None}
 use Rattle.cv_pool.specs.KindTree.{KindTree}
 use Rattle.cv_syntax.specs.declared.head.Head.{Head}
 use Rattle.cv_syntax.specs.declared.head.Head.TheVariants.{In, New, Let, Find, Branch}
 use Rattle.cv_syntax.specs.Tree.{Tree, second}
 use Rattle.cv_meaning.specs.Binders.{bound_names}
-use Rattle.cv_scope.specs.declared.fault.Fault.{Fault}
 use Rattle.cv_scope.specs.declared.fault.Fault.TheVariants as fault
 use Rattle.cv_scope.specs.declared.state.State.{State}
-use Rattle.cv_scope.specs.Held.{OnlySites, SameAbove, last_held}
+use Rattle.cv_scope.specs.Held.{OnlySites, last_held}
 use Rattle.cv_scope.specs.Seen.{may_follow_last, may_stand_last, with_site, with_sites}
 use Rattle.cv_scope.specs.Sites.{Site, SiteName, Variable, Channel, Label, channel_here, named_here, sites_here, site_of}
 use Rattle.cv_scope.proofs.Decided.{first_failing}

@@ -1,5 +1,5 @@
 -- The first fault of a tree, node by node.
-use Rattle.std.proofs.Common.{append-nil, cond, Bool, true, false, ◌≡◌, ℕ, ◌+◌, ◌≤◌, List, [], ◌∷◌, ◌++◌, length, map, take, refl, ap, ap₂, sym, subst, ◌∙◌, arith, Option, Some, None}
+use Rattle.std.proofs.Common.{append-nil, cond, Bool, true, false, ◌≡◌, ℕ, ◌+◌, ◌≤◌, List, [], ◌∷◌, ◌++◌, length, map, take, refl, ap, sym, subst, ◌∙◌, arith, Option, Some, None}
 use Rattle.std.proofs.lemmas.List.{length-take, take-take}
 use Rattle.cv_pool.specs.KindTree.{KindTree}
 use Rattle.cv_syntax.specs.declared.head.Head.{Head}

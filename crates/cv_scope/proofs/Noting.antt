@@ -1,11 +1,11 @@
 -- Sites as they are noted.
-use Rattle.std.proofs.Common.{◌≡◌, ℕ, Bool, true, false, ◌&&◌, List, [], ◌∷◌, length, map, refl, ap, ap₂, sym, ◌∙◌, subst, Option, Some, None, Result, Ok, Err, IfOk, OnOk}
+use Rattle.std.proofs.Common.{◌≡◌, ℕ, Bool, true, false, ◌&&◌, List, [], ◌∷◌, length, map, refl, ap, ap₂, sym, ◌∙◌, Option, None, Result, Ok, Err, IfOk, OnOk}
 use Rattle.std.specs.declared.alloc.AllocError.{AllocError}
 use Rattle.cv_pool.specs.declared.node.NodeId.{NodeId}
 use Rattle.cv_pool.specs.KindTree.{KindTree}
 use Rattle.cv_syntax.specs.declared.head.Head.{Head}
 use Rattle.cv_syntax.specs.declared.head.Head.TheVariants.{In, New, Let, Find, Branch}
-use Rattle.cv_syntax.specs.Tree.{Tree, Empty, second, tree_at}
+use Rattle.cv_syntax.specs.Tree.{Tree, tree_at}
 use Rattle.cv_meaning.specs.Binders.{bound_names}
 use Rattle.cv_typing.proofs.Walks.{empty-none}
 use Rattle.cv_scope.specs.declared.lasts.LastSite.{LastSite}
@@ -13,7 +13,7 @@ use Rattle.cv_scope.specs.declared.lasts.Lasts.{Lasts}
 use Rattle.cv_scope.specs.declared.state.State.{State}
 use Rattle.cv_scope.specs.Held.{HasLiveBinders, IsSiteOf, OnlySites, SameAbove, last_held, site_held}
 use Rattle.cv_scope.specs.Seen.{may_follow_last, may_stand_last, with_site, with_sites}
-use Rattle.cv_scope.specs.Sites.{Site, SiteName, Variable, Channel, bound_types, channel_here, named_here, site_of, variable_sites}
+use Rattle.cv_scope.specs.Sites.{Site, SiteName, Variable, bound_types, channel_here, named_here, site_of, variable_sites}
 
 abbrev pub site_at : List (ℕ × ℕ) → ℕ → SiteName → List ℕ → Site
 site_at rs p name types = record { name = name; replications = rs; types = types; place = p }

@@ -1,13 +1,13 @@
 -- Lists that a table or their order makes quick to search.
-use Rattle.std.proofs.Common.{◌≡◌, ℕ, zero, suc, ◌+◌, ◌-◌, ◌≤◌, ◌<◌, Bool, true, false, not, ◌&&◌, ◌||◌, ◌⊎◌, inl, inr, List, [], ◌∷◌, ◌++◌, length, take, get_or, refl, ap, sym, ◌∙◌, arith, subst, Option, Some, None, nat_eq, nat_lt, eqb-true, leb, ap₂}
-use Rattle.std.specs.Prelude.{slice_get, ◌==◌}
-use Rattle.std.specs.List.{AllByRecursion, list_any}
+use Rattle.std.proofs.Common.{◌≡◌, ℕ, zero, suc, ◌-◌, ◌≤◌, ◌<◌, Bool, true, false, not, ◌&&◌, ◌||◌, ◌⊎◌, inl, inr, List, [], ◌∷◌, ◌++◌, length, take, get_or, refl, ap, sym, ◌∙◌, arith, subst, Option, Some, None, nat_eq, nat_lt, eqb-true, leb, ap₂}
+use Rattle.std.specs.Prelude.{slice_get}
+use Rattle.std.specs.List.{AllByRecursion}
 use Rattle.std.specs.HashMap.{get, Updates}
-use Rattle.std.proofs.lemmas.Bool.{and_parts, and_from, or_cases, or_parts, or_left, or_right, both_ways, eq-eqb, not_from_false, not_from_true, lt-ltb, le-ltb, or_from, and_left, and_right, leb-true, leb-false}
+use Rattle.std.proofs.lemmas.Bool.{and_parts, and_from, or_cases, or_left, or_right, both_ways, eq-eqb, not_from_true, lt-ltb, le-ltb, or_from, and_left, and_right, leb-true, leb-false}
 use Rattle.std.specs.List.Sorted.{IsNonDecreasingBy}
 use Rattle.cv_typing.specs.Tables.{same_pair}
 use Rattle.cv_scope.specs.Ordered.{MapFrom, IsPlaced, EndBy, Rise}
-use Rattle.cv_scope.specs.Seen.{is_defined, with_definition}
+use Rattle.cv_scope.specs.Seen.{is_defined}
 use Rattle.cv_scope.specs.Tests.{is_in_one_of}
 
 -- pairs

@@ -1,5 +1,5 @@
 -- What the tables of the code hold.
-use Rattle.std.specs.Prelude.{Bool, false, ◌||◌, ◌==◌, All, IsNone, ◌↔◌, ◌+◌, ◌≡◌, ◌≤◌, ◌<◌, ℕ, length, map, take, ◌++◌, List, [], ◌∷◌, slice_get, nat_eq, option_map, Option, Some, None, is_some}
+use Rattle.std.specs.Prelude.{Bool, false, ◌||◌, ◌==◌, All, IsNone, ◌↔◌, ◌+◌, ◌≡◌, ◌<◌, ℕ, length, map, take, ◌++◌, List, [], ◌∷◌, nat_eq, option_map, Option, Some, None, is_some}
 use Rattle.std.specs.HashMap.{get}
 use Rattle.cv_pool.specs.KindTree.{KindTree}
 use Rattle.cv_pool.specs.Nodes.{ChildBelow}

@@ -1,5 +1,5 @@
 -- The rules of array scope, one by one: what each asks of a node, by its head and its children a and b.
-use Rattle.std.specs.Prelude.{◌≡◌, ◌≤◌, ℕ, Bool, true, false, ◌&&◌, ◌==◌, List, [], ◌∷◌, ◌⊎◌, length}
+use Rattle.std.specs.Prelude.{◌≡◌, ◌≤◌, ℕ, Bool, true, false, ◌&&◌, ◌==◌, List, [], ◌∷◌, ◌++◌, ◌⊎◌, length}
 use Rattle.std.specs.List.{AllByRecursion, list_any}
 use Rattle.cv_syntax.specs.declared.head.Head.{Head}
 use Rattle.cv_syntax.specs.declared.head.Head.TheVariants.{Repl, In, Out, Branch, Leaf, Read, Name}
@@ -54,7 +54,7 @@ MayFollow passed s e = e.name ≡ s.name → InOneOf passed e.place × AreAlike 
 -- sites of one node, each of which may stand behind all earlier ones
 abbrev pub MayStand : List (ℕ × ℕ) → List Site → List Site → Type 0
 MayStand passed sites [] = Unit {0}
-MayStand passed sites (s ∷ ss) = AllByRecursion (MayFollow passed s) sites × MayStand passed (s ∷ sites) ss
+MayStand passed sites (s ∷ ss) = AllByRecursion (MayFollow passed s) sites × MayStand passed (sites ++ s ∷ []) ss
 
 -- Channels. An input or an output carries exactly the current indices.
 

@@ -1,5 +1,5 @@
 -- The rules of array scope as tests.
-use Rattle.std.specs.Prelude.{ℕ, Bool, true, false, ◌&&◌, ◌||◌, not, ◌==◌, nat_lt, if◌then◌else◌, List, [], ◌∷◌, Option, Some, None, length}
+use Rattle.std.specs.Prelude.{ℕ, Bool, true, false, ◌&&◌, ◌||◌, not, ◌==◌, nat_lt, if◌then◌else◌, List, [], ◌∷◌, ◌++◌, Option, Some, None, length}
 use Rattle.std.specs.List.{list_any, list_all}
 use Rattle.cv_syntax.specs.declared.head.Head.{Head}
 use Rattle.cv_syntax.specs.declared.head.Head.TheVariants.{Repl, Branch, Leaf, Read}
@@ -53,7 +53,7 @@ may_follow passed s e = not (same_name e.name s.name) || (is_in_one_of passed e.
 
 abbrev pub may_stand : List (ℕ × ℕ) → List Site → List Site → Bool
 may_stand passed sites [] = true
-may_stand passed sites (s ∷ ss) = list_all (may_follow passed s) sites && may_stand passed (s ∷ sites) ss
+may_stand passed sites (s ∷ ss) = list_all (may_follow passed s) sites && may_stand passed (sites ++ s ∷ []) ss
 
 abbrev pub is_few_indices : Head → Tree → Bool
 is_few_indices Branch a = nat_lt (count a) 9

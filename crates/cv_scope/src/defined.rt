@@ -68,8 +68,7 @@ impl Defined {
         if self.has(variable, indices) {
             return Ok(());
         }
-        self.places
-            .insert((variable, indices), self.list.len())?;
+        self.places.insert((variable, indices), self.list.len())?;
         self.list.push((variable, indices))?;
         Ok(())
     }

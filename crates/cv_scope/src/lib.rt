@@ -1,11 +1,11 @@
 // Array scope of games.
 #![tactic(auto)]
 
+mod binders;
 mod checking;
 mod defined;
 mod enter;
 mod fault;
-mod binders;
 mod lasts;
 mod laws;
 mod names;

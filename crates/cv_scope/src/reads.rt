@@ -39,8 +39,7 @@ fn is_reached(state: &State, pool: &Pool, k: NodeId, node: Opened) -> bool
     requires listed { AreLive (length pool.now.trees) state.now.listed.items }
     ensures { result ≡ is_reached_by (state_held pool.now.trees state.now) node.head (tree_at pool.now.trees node.first) (tree_at pool.now.trees node.second) }
 {
-    reads_definition(state, pool, k, node)
-        || is_among(pool, Some(k), state.listed.as_slice())
+    reads_definition(state, pool, k, node) || is_among(pool, Some(k), state.listed.as_slice())
 }
 
 /// Whether a node reads only what is in scope.

@@ -66,9 +66,7 @@ fn binds_new_index(state: &State, names: &NameKinds, head: Head) -> bool
     ensures { result ≡ is_new_index (names_held names.now) state.now.replications.items head }
 {
     match head {
-        Head::Repl(i, _) => {
-            !is_index(state.replications.as_slice(), i) && !names.is_variable(i)
-        }
+        Head::Repl(i, _) => { !is_index(state.replications.as_slice(), i) && !names.is_variable(i) }
         _ => true,
     }
 }

@@ -91,11 +91,7 @@ pub fn is_leaf(pool: &Pool, i: u32, term: Option<NodeId>) -> bool
 
 /// How many indices a list of terms has, where they are the first of the current ones.
 #[tactic(auto, using(crate::proofs::Comparing::term_laws))]
-pub fn current(
-    pool: &Pool,
-    replications: &[(u32, u32)],
-    list: Option<NodeId>,
-) -> Option<usize>
+pub fn current(pool: &Pool, replications: &[(u32, u32)], list: Option<NodeId>) -> Option<usize>
     requires { ChildBelow (length pool.now.trees) list }
     ensures { result ≡ current_of replications.now (tree_at pool.now.trees list) }
 {

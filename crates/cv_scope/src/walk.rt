@@ -45,7 +45,15 @@ pub fn walk(
             return Err(fault.at(place));
         }
         let first = place + node.head.weight();
-        place = walk(alloc, pool, names, state, here.first(node.head), first, node.first)?;
+        place = walk(
+            alloc,
+            pool,
+            names,
+            state,
+            here.first(node.head),
+            first,
+            node.first,
+        )?;
         state.enter(pool, here, node.head, node.first, first, place)?;
         here = here.second(node.head);
         at = node.second;

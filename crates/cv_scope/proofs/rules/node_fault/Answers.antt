@@ -1,4 +1,4 @@
-use Rattle.std.proofs.Common.{◌≡◌, ap, sym, ◌∙◌, true, false}
+use Rattle.std.proofs.Common.{ap, sym, ◌∙◌}
 use Rattle.cv_syntax.specs.Tree.{tree_at}
 use Rattle.cv_scope.specs.Held.{last_held, names_held}
 use Rattle.cv_scope.specs.Rules.{carries_current}
@@ -54,5 +54,5 @@ returns-clause-fault c =
 
 pub returns-clause-noted : goal.returns-clause-noted
 returns-clause-noted c = λ t.
-  let trees = c.args.pool.now.trees in
-  both-noted trees c.args.state.now c.note_named.new.self c.note_channel.new.self c.args.place c.args.node.head (tree_at trees c.args.node.first) (c.in_ok-note_named.ensures.noted c.if-not-branch.false) c.in_ok-note_channel.ensures.noted
+    let trees = c.args.pool.now.trees in
+    both-noted trees c.args.state.now c.note_named.new.self c.note_channel.new.self c.args.place c.args.node.head (tree_at trees c.args.node.first) (c.in_ok-note_named.ensures.noted c.if-not-branch.false) c.in_ok-note_channel.ensures.noted

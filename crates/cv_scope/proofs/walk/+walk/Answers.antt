@@ -1,4 +1,4 @@
-use Rattle.std.proofs.Common.{rules, ◌≡◌, ◌+◌, ◌<◌, ◌≤◌, ◌^◌, length, arith, refl, ap, sym, ◌∙◌, None, Some, subst}
+use Rattle.std.proofs.Common.{rules, ◌≡◌, ◌+◌, ◌<◌, length, arith, refl, ap, sym, ◌∙◌, subst}
 use Rattle.std.proofs.lemmas.Result.{err_from_is_err_and}
 use Rattle.cv_syntax.specs.Head.{weight}
 use Rattle.cv_syntax.specs.Tree.{size, tree_at}
@@ -6,8 +6,6 @@ use Rattle.cv_syntax.specs.Walks.{above as rank}
 use Rattle.cv_syntax.proofs.Walking.{above-child, above-some, size-at, size-end}
 use Rattle.cv_typing.proofs.Walks.{child-above, child-live, empty-at, node-at}
 use Rattle.cv_scope.specs.Held.{AreLive, HasLiveBinders, last_held, names_held, state_held}
-use Rattle.cv_scope.specs.Scope.{placed}
-use Rattle.cv_scope.specs.Seen.{with_sites}
 use Rattle.cv_scope.proofs.Going.{found-end, found-parts, held-only, keeps-more, keeps-same, passed-first, passed-second, refused-first, refused-here, released, seen-second, sites-end, sites-second, skip-two}
 use Rattle.cv_scope.proofs.walk.+walk.Goals as goal
 

@@ -3,7 +3,7 @@ use Rattle.std.specs.HashMap.{get}
 use Rattle.cv_typing.specs.Tables.{same_pair}
 use Rattle.cv_scope.specs.Ordered.{IsPlaced}
 use Rattle.cv_scope.specs.Seen.{is_defined}
-use Rattle.cv_scope.proofs.Stacks.{placed-insert, placed-push, pair-self}
+use Rattle.cv_scope.proofs.Stacks.{placed-insert, placed-push}
 use Rattle.cv_scope.proofs.defined.Defined.add.Goals as goal
 
 pub invariant_of-self-in_err-push : goal.invariant_of-self-in_err-push

@@ -3,7 +3,7 @@ use Rattle.cv_pool.specs.Nodes.{ChildBelow}
 use Rattle.cv_syntax.specs.Tree.{tree_at}
 use Rattle.cv_syntax.specs.Walks.{above}
 use Rattle.cv_scope.specs.Context.{items}
-use Rattle.cv_scope.specs.Held.{AreLive, DefinesOnly}
+use Rattle.cv_scope.specs.Held.{AreLive}
 use Rattle.cv_scope.proofs.state.State.list_all.Given as goal
 
 abbrev pub invariant-cells : goal.invariant-cells

@@ -31,10 +31,10 @@ binders-preserved c =
 
 pub returns-clause-noted : goal.returns-clause-noted
 returns-clause-noted c = λ t.
-  let trees = c.args.pool.now.trees in
-  let i = c.binders.invariant in
-  record {
-    above = i.above;
-    last = sym (ap (with_sites (last_held trees c.binders.self.last)) (sites-end c.args.self.now.replications.items c.args.place (tree_at trees c.binders.at) c.in_default.ensures.0)) ∙ i.noted;
-    live = i.live;
-  }
+    let trees = c.args.pool.now.trees in
+    let i = c.binders.invariant in
+    record {
+      above = i.above;
+      last = sym (ap (with_sites (last_held trees c.binders.self.last)) (sites-end c.args.self.now.replications.items c.args.place (tree_at trees c.binders.at) c.in_default.ensures.0)) ∙ i.noted;
+      live = i.live;
+    }
