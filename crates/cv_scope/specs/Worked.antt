@@ -1,10 +1,16 @@
 -- Worked games.
 -- Names are numbers: 1 and 7 are replication indices, 2 is a parameter, 3 and 8 are channels of inputs, 6 and 12 of
--- outputs, 4 and 10 are variables, 5 is a type, and 9 is an index variable of a find.
-use Rattle.std.specs.Prelude.{ℕ, List, [], ◌∷◌}
-use Rattle.cv_syntax.specs.declared.head.Head.TheVariants.{Stop, Yield, Par, Repl, New, If, Yes}
+-- outputs, 4 and 10 are variables, 5 and 13 are types, 9 is an index variable or a received message, 11 is an event,
+-- and 20 is a constant where it is declared.
+use Rattle.std.specs.Prelude.{ℕ, false, List, [], ◌∷◌, Some}
+use Rattle.cv_syntax.specs.declared.decls.Class.TheVariants.{Fun}
+use Rattle.cv_syntax.specs.declared.head.Head.TheVariants.{Stop, Yield, Par, Repl, New, Let, If, Yes}
+use Rattle.cv_syntax.specs.Declarations.{Declaration, Named}
 use Rattle.cv_syntax.specs.Tree.{Tree, Empty, Node, lone, chain}
 use Rattle.cv_meaning.specs.Worked.{leaf, read, input, output, branch, find}
+
+abbrev pub constants : List Declaration
+constants = Named 20 (Fun false) Empty (Some 5) ∷ []
 
 abbrev pub repl : ℕ → Tree → Tree
 repl i q = Node (Repl i 2) Empty q
@@ -12,8 +18,19 @@ repl i q = Node (Repl i 2) Empty q
 abbrev pub restriction : ℕ → Tree → Tree
 restriction x p = Node (New x 5) Empty p
 
+abbrev pub assignment : ℕ → Tree → Tree → Tree
+assignment x m p = Node (Let x 5) m p
+
 abbrev pub test : Tree → Tree → Tree
 test p q = Node If (lone Yes) (chain (p ∷ q ∷ []))
+
+-- in(3, ()); p
+abbrev pub starts : Tree → Tree
+starts p = input 3 [] [] p
+
+-- out(6, (x))
+abbrev pub sends : ℕ → Tree
+sends x = output 6 [] (leaf x ∷ []) (lone Stop)
 
 -- !1<=2 in(3[1], ()); new 4:5; out(6[1], (4[1])) | another process
 abbrev pub sender_and : Tree → Tree
@@ -24,31 +41,30 @@ abbrev pub reads_without_definition : Tree
 reads_without_definition = sender_and (repl 7 (input 8 (7 ∷ []) [] (output 12 (7 ∷ []) (read 4 (leaf 7 ∷ []) ∷ []) (lone Stop))))
 
 -- !7<=2 in(8[7], ()); find 9<=2 suchthat defined(cells) && true then out(12[7], (4[9[7]]))
-abbrev pub finds : List Tree → Tree
-finds cells = sender_and (repl 7 (input 8 (7 ∷ []) [] (find 1 (branch ((9, 2) ∷ []) cells (lone Yes) (output 12 (7 ∷ []) (read 4 (read 9 (leaf 7 ∷ []) ∷ []) ∷ []) (lone Stop)) ∷ []) (lone Yield))))
-
 abbrev pub cell_found : Tree
 cell_found = read 4 (read 9 (leaf 7 ∷ []) ∷ [])
 
--- in(3, ()); two sites of 4 in the branches of a test
-abbrev pub defines_in_branches : Tree
-defines_in_branches = input 3 [] [] (test (restriction 4 (lone Yield)) (restriction 4 (output 6 [] (leaf 4 ∷ []) (lone Stop))))
+abbrev pub finds : List Tree → Tree
+finds cells = sender_and (repl 7 (input 8 (7 ∷ []) [] (find 1 (branch ((9, 2) ∷ []) cells (lone Yes) (output 12 (7 ∷ []) (cell_found ∷ []) (lone Stop)) ∷ []) (lone Yield))))
 
--- the same, one below the other
-abbrev pub defines_twice : Tree
-defines_twice = input 3 [] [] (restriction 4 (test (restriction 4 (lone Yield)) (lone Yield)))
+-- !1<=2 !7<=2 in(3[1, 7], ()); new 4:5; out(6[1, 7], (4[indices]))
+abbrev pub reads_below_two : List Tree → Tree
+reads_below_two indices = repl 1 (repl 7 (input 3 (1 ∷ 7 ∷ []) [] (restriction 4 (output 6 (1 ∷ 7 ∷ []) (read 4 indices ∷ []) (lone Stop)))))
 
--- the else branch reads what the then branch defines
-abbrev pub reads_other_branch : Tree
-reads_other_branch = input 3 [] [] (test (restriction 4 (lone Yield)) (output 6 [] (leaf 4 ∷ []) (lone Stop)))
+-- find suchthat defined(cells) && condition then yield else otherwise
+abbrev pub tests_cells : List Tree → Tree → Tree → Tree
+tests_cells cells condition otherwise = find 1 (branch [] cells condition (lone Yield) ∷ []) otherwise
 
--- !1<=2 in(3, ()); yield: a channel without the current index
-abbrev pub forgets_index : Tree
-forgets_index = repl 1 (input 3 [] [] (lone Yield))
+-- a branch 9<=2 suchthat true then yield
+abbrev pub finds_index : Tree
+finds_index = branch ((9, 2) ∷ []) [] (lone Yes) (lone Yield)
 
--- two inputs of one channel side by side
-abbrev pub reads_channel_twice : Tree
-reads_channel_twice = Node Par (input 3 [] [] (lone Yield)) (input 3 [] [] (lone Yield))
+-- in(3, ()); if true then out(6, ()); in(8, (4:T)) else out(6, ()); in(8, (4:U))
+abbrev pub answers : ℕ → Tree
+answers T = output 6 [] [] (input 8 [] ((4, T) ∷ []) (lone Yield))
+
+abbrev pub answers_twice : ℕ → ℕ → Tree
+answers_twice T U = starts (test (answers T) (answers U))
 
 -- replications with these indices, one below the other
 abbrev pub replicated : List ℕ → Tree

@@ -1,14 +1,12 @@
-ghost use Rattle.std.specs.Prelude.{◌≡◌, ◌↔◌, ℕ, List, [], ◌∷◌, None, Some};
+ghost use Rattle.std.specs.Prelude.{◌≡◌, ◌↔◌, ℕ, List, None, Some};
 ghost use Rattle.cv_syntax.specs.declared.head.Head.{Head};
 ghost use Rattle.cv_syntax.specs.Declarations.{Declaration};
 ghost use Rattle.cv_syntax.specs.Tree.{Tree};
 ghost use Rattle.cv_scope.specs.declared.fault.Fault.{Fault};
-ghost use Rattle.cv_scope.specs.declared.fault.Fault.TheVariants.{Unscoped, TwoSites, Channel, Replications};
 ghost use Rattle.cv_scope.specs.Standing.{Standing};
 ghost use Rattle.cv_scope.specs.Rules.{Names, Obeys, Breaks};
 ghost use Rattle.cv_scope.specs.Tests.{fault_of};
 ghost use Rattle.cv_scope.specs.Scope.{IsScopedAt, IsFirst, IsScoped, IsFirstFault, first_fault, first_scope_fault};
-ghost use Rattle.cv_scope.specs.Worked.{reads_without_definition, finds, cell_found, defines_in_branches, defines_twice, reads_other_branch, forgets_index, reads_channel_twice, replicated};
 
 /// The tests of a node find no fault exactly where it obeys each rule, and else a kind of rules that it breaks.
 pub fn nodes_are_decided()
@@ -30,20 +28,4 @@ pub fn game_faults_are_first()
     ensures scoped { (ds : List Declaration) (game : Tree) → (first_scope_fault ds game ≡ None) ↔ IsScoped ds game }
     ensures first { (ds : List Declaration) (game : Tree) (q : ℕ) (f : Fault) →
         first_scope_fault ds game ≡ Some (q, f) → IsFirstFault ds game q f }
-{}
-
-/// Worked games: a read without its definition; a read in the reach of a `defined` list; sites in two branches, and one
-/// below the other; a read of what another branch defines; a channel without its index, and one that is read twice;
-/// nine replications, and an index name that is bound twice.
-pub fn worked_games()
-    ensures alone { first_scope_fault [] reads_without_definition ≡ Some (11, Unscoped) }
-    ensures listed { first_scope_fault [] (finds (cell_found ∷ [])) ≡ None }
-    ensures unlisted { first_scope_fault [] (finds []) ≡ Some (14, Unscoped) }
-    ensures branches { first_scope_fault [] defines_in_branches ≡ None }
-    ensures twice { first_scope_fault [] defines_twice ≡ Some (4, TwoSites) }
-    ensures other { first_scope_fault [] reads_other_branch ≡ Some (6, Unscoped) }
-    ensures index { first_scope_fault [] forgets_index ≡ Some (1, Channel) }
-    ensures channel { first_scope_fault [] reads_channel_twice ≡ Some (3, Channel) }
-    ensures many { first_scope_fault [] (replicated (1 ∷ 2 ∷ 3 ∷ 4 ∷ 5 ∷ 6 ∷ 7 ∷ 8 ∷ 9 ∷ [])) ≡ Some (9, Replications) }
-    ensures again { first_scope_fault [] (replicated (1 ∷ 2 ∷ 1 ∷ [])) ≡ Some (2, Replications) }
 {}

@@ -16,8 +16,10 @@ mod rules;
 mod state;
 mod terms;
 mod walk;
+mod worked;
 
 pub use checking::check;
 pub use fault::{Fault, ScopeFault};
-pub use laws::{game_faults_are_first, nodes_are_decided, tree_faults_are_first, worked_games};
+pub use laws::{game_faults_are_first, nodes_are_decided, tree_faults_are_first};
 pub use position::Position;
+pub use worked::{worked_channels, worked_lists, worked_reads, worked_replications, worked_sites};

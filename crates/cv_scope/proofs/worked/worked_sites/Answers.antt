@@ -4,44 +4,44 @@ use Rattle.cv_typing.specs.Sites.{first_site, bound_sort}
 use Rattle.cv_typing.specs.Signature.{count}
 use Rattle.cv_scope.specs.Sites.{sites_from}
 use Rattle.cv_scope.specs.Scope.{first_fault}
-use Rattle.cv_scope.proofs.laws.worked_games.Goals as goal
-
-pub returns-clause-alone : goal.returns-clause-alone
-unfolding first_fault sites_from same_tree size first_site bound_sort count
-returns-clause-alone c = refl
-
-pub returns-clause-listed : goal.returns-clause-listed
-unfolding first_fault sites_from same_tree size first_site bound_sort count
-returns-clause-listed c = refl
-
-pub returns-clause-unlisted : goal.returns-clause-unlisted
-unfolding first_fault sites_from same_tree size first_site bound_sort count
-returns-clause-unlisted c = refl
+use Rattle.cv_scope.proofs.worked.worked_sites.Goals as goal
 
 pub returns-clause-branches : goal.returns-clause-branches
 unfolding first_fault sites_from same_tree size first_site bound_sort count
 returns-clause-branches c = refl
 
+pub returns-clause-below : goal.returns-clause-below
+unfolding first_fault sites_from same_tree size first_site bound_sort count
+returns-clause-below c = refl
+
 pub returns-clause-twice : goal.returns-clause-twice
 unfolding first_fault sites_from same_tree size first_site bound_sort count
 returns-clause-twice c = refl
 
-pub returns-clause-other : goal.returns-clause-other
+pub returns-clause-beside : goal.returns-clause-beside
 unfolding first_fault sites_from same_tree size first_site bound_sort count
-returns-clause-other c = refl
+returns-clause-beside c = refl
 
-pub returns-clause-index : goal.returns-clause-index
+pub returns-clause-indices : goal.returns-clause-indices
 unfolding first_fault sites_from same_tree size first_site bound_sort count
-returns-clause-index c = refl
+returns-clause-indices c = refl
 
-pub returns-clause-channel : goal.returns-clause-channel
+pub returns-clause-otherwise : goal.returns-clause-otherwise
 unfolding first_fault sites_from same_tree size first_site bound_sort count
-returns-clause-channel c = refl
+returns-clause-otherwise c = refl
 
-pub returns-clause-many : goal.returns-clause-many
+pub returns-clause-inside : goal.returns-clause-inside
 unfolding first_fault sites_from same_tree size first_site bound_sort count
-returns-clause-many c = refl
+returns-clause-inside c = refl
 
-pub returns-clause-again : goal.returns-clause-again
+pub returns-clause-replicated : goal.returns-clause-replicated
 unfolding first_fault sites_from same_tree size first_site bound_sort count
-returns-clause-again c = refl
+returns-clause-replicated c = refl
+
+pub returns-clause-labels : goal.returns-clause-labels
+unfolding first_fault sites_from same_tree size first_site bound_sort count
+returns-clause-labels c = refl
+
+pub returns-clause-labels_apart : goal.returns-clause-labels_apart
+unfolding first_fault sites_from same_tree size first_site bound_sort count
+returns-clause-labels_apart c = refl
