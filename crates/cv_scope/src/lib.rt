@@ -23,3 +23,6 @@ pub use fault::{Fault, ScopeFault};
 pub use laws::{game_faults_are_first, nodes_are_decided, tree_faults_are_first};
 pub use position::Position;
 pub use worked::{worked_channels, worked_lists, worked_reads, worked_replications, worked_sites};
+
+#[cfg(test)]
+mod tests;
