@@ -1,5 +1,5 @@
 -- The table of the names of functions, as it is made.
-use Rattle.std.proofs.Common.{◌≡◌, ℕ, Bool, true, false, ◌&&◌, cond, List, [], refl, ap, ap₂, sym, ◌∙◌, nat_eq, eqb-true, Option, Some, None, is_some}
+use Rattle.std.proofs.Common.{◌≡◌, ℕ, Bool, true, false, ◌&&◌, cond, [], refl, ap, ap₂, sym, ◌∙◌, eqb-true, Option, Some, None, is_some}
 use Rattle.std.specs.Prelude.{◌==◌, if◌then◌else◌}
 use Rattle.std.proofs.Math.Path.{fun_ext}
 use Rattle.cv_syntax.specs.declared.head.Head.{Head}
@@ -42,7 +42,6 @@ else-same l m f g e = ap (and_else l m) (fun_ext e)
 if-first : (b : Bool) (S : Sort) (o : Option Sort) → cond b (Some S) o ≡ first_of (cond b (Some S) None) o
 if-first true S o = refl
 if-first false S o = refl
-
 
 -- one name
 pub note-new : (l k : ByBound) (m x : ℕ) (S : Sort) → ((n y : ℕ) → k n y ≡ cond ((m == n) && (x == y)) (Some S) (l n y)) → l m x ≡ None → k ≡ with_local l m x S

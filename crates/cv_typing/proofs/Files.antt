@@ -1,13 +1,13 @@
 -- The parts of a file, one after another.
-use Rattle.std.proofs.Common.{◌≡◌, ℕ, ◌+◌, ◌<◌, Bool, true, false, cond, List, [], ◌∷◌, ◌++◌, length, refl, ap, ap₂, sym, subst, ◌∙◌, arith, nat_eq, Option, Some, None, Result, Ok, Err, IfErr, OnOk}
+use Rattle.std.proofs.Common.{◌≡◌, ℕ, ◌+◌, Bool, true, false, cond, List, [], ◌∷◌, refl, ap, subst, nat_eq, Option, Some, None, Result, Ok, Err, IfErr, OnOk}
 use Rattle.std.specs.Prelude.{All, ◌==◌}
 use Rattle.std.proofs.Math.Path.{fun_ext}
 use Rattle.std.proofs.lemmas.List.Elements.{All-head, All-tail}
 use Rattle.cv_syntax.specs.declared.decls.Decl.{Decl}
 use Rattle.cv_syntax.specs.declared.decls.Decl.TheVariants as decl
-use Rattle.cv_syntax.specs.Classes.{declaration_in, args_in, args_by}
+use Rattle.cv_syntax.specs.Classes.{declaration_in, args_by}
 use Rattle.cv_syntax.specs.Declarations.{Declaration}
-use Rattle.cv_syntax.specs.Tree.{Tree, size}
+use Rattle.cv_syntax.specs.Tree.{size}
 use Rattle.cv_pool.specs.Nodes.{ChildBelow}
 use Rattle.cv_typing.specs.declared.fault.Fault.{Fault}
 use Rattle.cv_typing.specs.declared.fault.Fault.TheVariants as fault
@@ -15,9 +15,8 @@ use Rattle.cv_typing.specs.declared.fault.TypeFault.{TypeFault}
 use Rattle.cv_typing.specs.declared.fault.TypeFault.TheVariants as refused
 use Rattle.cv_typing.specs.declared.sort.Sort.{Sort}
 use Rattle.cv_typing.specs.Lookups.{HasLiveArguments, IsLive}
-use Rattle.cv_typing.specs.Parts.{Part, IsTypedPart, IsFirstIn, signature_of, first_in, nothing_above, game_part}
+use Rattle.cv_typing.specs.Parts.{Part, IsTypedPart, signature_of, first_in, nothing_above}
 use Rattle.cv_typing.specs.Refusals.{IsFirstRefusal, IsRefusalOf}
-use Rattle.cv_typing.specs.Signature.{Above}
 use Rattle.cv_typing.specs.Sites.{first_of}
 use Rattle.cv_typing.specs.Tables.{Map, above_of}
 use Rattle.cv_typing.specs.Typing.{first_fault}

@@ -1,5 +1,5 @@
 -- The sort of a bare name, step by step.
-use Rattle.std.proofs.Common.{◌≡◌, ℕ, refl, ap, ap₂, sym, ◌∙◌, Option, Some, None}
+use Rattle.std.proofs.Common.{◌≡◌, ℕ, ap₂, sym, ◌∙◌, Option, None}
 use Rattle.std.specs.Prelude.{option_map}
 use Rattle.cv_typing.specs.declared.sort.Sort.{Sort}
 use Rattle.cv_typing.specs.declared.sort.Sort.TheVariants.{OfType, BelowParameter}

@@ -4,12 +4,12 @@ use Rattle.std.specs.Prelude.{slice_get}
 use Rattle.cv_typing.specs.Lookups.{parameters_of}
 use Rattle.cv_typing.specs.Sites.{Variable}
 
-drop-some : (xs : List ℕ) (k n : ℕ) → slice_get xs k ≡ Some n → drop k xs ≡ n ∷ drop (k + 1) xs
+pub drop-some : {A : Type 0} (xs : List A) (k : ℕ) (n : A) → slice_get xs k ≡ Some n → drop k xs ≡ n ∷ drop (k + 1) xs
 drop-some [] k n e = absurd (cc)
 drop-some (x ∷ xs) zero n e = let f : x ≡ n = cc in ap (λ y. y ∷ xs) f
 drop-some (x ∷ xs) (suc k) n e = let f : suc k + 1 ≡ suc (k + 1) = omega arith in drop-some xs k n e ∙ sym (ap (λ j. n ∷ drop j (x ∷ xs)) f)
 
-drop-none : (xs : List ℕ) (k : ℕ) → slice_get xs k ≡ None → drop k xs ≡ []
+pub drop-none : {A : Type 0} (xs : List A) (k : ℕ) → slice_get xs k ≡ None → drop k xs ≡ []
 drop-none [] zero e = refl
 drop-none [] (suc k) e = refl
 drop-none (x ∷ xs) zero e = absurd (cc)

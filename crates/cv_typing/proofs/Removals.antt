@@ -1,9 +1,9 @@
 -- Names above, as they come and go.
-use Rattle.std.proofs.Common.{◌≡◌, ℕ, Bool, true, false, ◌||◌, cond, List, [], ◌∷◌, ◌++◌, refl, ap, sym, ◌∙◌, nat_eq, subst, eqb-true, Option, Some, None, is_none, is_some}
+use Rattle.std.proofs.Common.{◌≡◌, ℕ, Bool, true, false, ◌||◌, cond, List, [], ◌∷◌, ◌++◌, refl, ap, sym, ◌∙◌, nat_eq, subst, eqb-true, Option, Some, None, is_some}
 use Rattle.std.specs.Prelude.{◌==◌}
 use Rattle.std.specs.List.{list_any}
 use Rattle.std.proofs.Math.Path.{fun_ext}
-use Rattle.std.specs.HashMap.{get, Updates, UpdatesBy}
+use Rattle.std.specs.HashMap.{Updates, UpdatesBy}
 use Rattle.cv_syntax.specs.declared.head.Head.{Head}
 use Rattle.cv_syntax.specs.declared.head.Head.TheVariants.{Binder, Branch, Let, New, Repl}
 use Rattle.cv_syntax.specs.Tree.{Tree, Empty, Node}

@@ -6,3 +6,4 @@ pub mod Sites
 pub mod Tables
 pub mod Typing
 pub mod Wants
+pub mod Worked

@@ -1,5 +1,5 @@
 -- What the code finds of a name in a list of declarations of a pool.
-use Rattle.std.specs.Prelude.{ℕ, Bool, true, false, drop, List, [], length, All, option_map, Option, Some, None, ◌<◌}
+use Rattle.std.specs.Prelude.{ℕ, Bool, false, drop, List, [], Option, Some, None, ◌<◌}
 use Rattle.cv_syntax.specs.declared.decls.Class.TheVariants.{TypeName, Fun, Event as AnEvent}
 use Rattle.cv_syntax.specs.declared.decls.Decl.{Decl}
 use Rattle.cv_syntax.specs.declared.decls.Decl.TheVariants as decl

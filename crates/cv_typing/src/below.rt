@@ -194,13 +194,7 @@ fn list_wants(pool: &Pool, arrays: &Arrays, want: Want) -> (Want, Want)
 }
 
 /// What a node that is no term asks of its parts, by its place and its head.
-fn place_wants(
-    pool: &Pool,
-    decls: &Decls,
-    arrays: &Arrays,
-    want: Want,
-    head: Head,
-) -> (Want, Want)
+fn place_wants(pool: &Pool, decls: &Decls, arrays: &Arrays, want: Want, head: Head) -> (Want, Want)
     requires live { IsLiveWant (length pool.now.trees) want }
     requires arguments { HasLiveArguments (length pool.now.trees) decls.now.list }
     ensures wants { both_wants pool.now.trees arrays.now result ≡ wants.place_wants (declarations pool.now.trees decls.now.list) (want_of pool.now.trees arrays.now want) head }

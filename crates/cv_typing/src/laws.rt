@@ -1,10 +1,11 @@
-ghost use Rattle.std.specs.Prelude.{◌≡◌, ◌↔◌, ℕ, List, [], ◌∷◌, None, Some};
+ghost use Rattle.std.specs.Prelude.{◌≡◌, ◌↔◌, ℕ, List, map, [], ◌∷◌, None, Some};
 ghost use Rattle.cv_syntax.specs.Declarations.{Declaration};
 ghost use Rattle.cv_syntax.specs.Tree.{Tree};
 ghost use Rattle.cv_typing.specs.declared.fault.Fault.{Fault};
 ghost use Rattle.cv_typing.specs.Signature.{Signature, Above};
 ghost use Rattle.cv_typing.specs.Wants.{Want};
 ghost use Rattle.cv_typing.specs.Typing.{IsTyped, IsFirst, first_fault};
+ghost use Rattle.cv_typing.specs.Worked.{file_fault, files, game_fault, games};
 ghost use Rattle.cv_typing.specs.Parts.{IsTypedGame, IsTypedFile, IsFirstIn, file_parts, first_in, game_part};
 
 /// A tree has no first fault exactly where it is typed, and what is computed is the first fault in preorder.
@@ -29,4 +30,14 @@ pub fn file_faults_are_first()
         (first_in ds 0 (file_parts ds game) ≡ None) ↔ IsTypedFile ds game }
     ensures first { (ds : List Declaration) (game : Tree) (q : ℕ) (f : Fault) →
         first_in ds 0 (file_parts ds game) ≡ Some (q, f) → IsFirstIn ds 0 (file_parts ds game) q f }
+{}
+
+/// Small games with their first faults.
+pub fn worked_games()
+    ensures { map (λ g. game_fault g.0) games ≡ map (λ g. g.1) games }
+{}
+
+/// Small files of equations, queries and equivalences with their first faults.
+pub fn worked_files()
+    ensures { map (λ f. file_fault f.0) files ≡ map (λ f. f.1) files }
 {}

@@ -4,13 +4,14 @@
 mod above;
 mod arrays;
 mod below;
-mod check;
+mod checking;
 mod fault;
 mod faults;
 mod form;
 mod function;
 mod laws;
 mod locals;
+mod parts;
 mod site;
 pub mod sites;
 mod sort;
@@ -19,11 +20,16 @@ mod walk;
 mod want;
 
 pub use arrays::Arrays;
-pub use check::check_game;
+pub use checking::{check, check_game};
 pub use fault::{Fault, TypeFault};
 pub use form::Form;
-pub use laws::{file_faults_are_first, game_faults_are_first, tree_faults_are_first};
+pub use laws::{
+    file_faults_are_first, game_faults_are_first, tree_faults_are_first, worked_files, worked_games,
+};
 pub use locals::Locals;
 pub use site::Site;
 pub use sort::Sort;
 pub use want::Want;
+
+#[cfg(test)]
+mod tests;

@@ -34,11 +34,7 @@ fn bound_at(pool: &Pool, taken: Option<NodeId>) -> u32
 
 impl Locals {
     /// The names of the functions of a list.
-    pub fn of(
-        alloc: Global,
-        pool: &Pool,
-        functions: Option<NodeId>,
-    ) -> Result<Locals, AllocError>
+    pub fn of(alloc: Global, pool: &Pool, functions: Option<NodeId>) -> Result<Locals, AllocError>
         requires { ChildBelow (length pool.now.trees) functions }
         ensures { IfOk result (λ l. locals_of l ≡ sort_by_bound (tree_at pool.now.trees functions)) }
     {
@@ -67,12 +63,7 @@ impl Locals {
     }
 
     /// Notes the names of a list of binders.
-    fn note_binders(
-        &mut self,
-        pool: &Pool,
-        m: u32,
-        list: Option<NodeId>,
-    ) -> Result<(), AllocError>
+    fn note_binders(&mut self, pool: &Pool, m: u32, list: Option<NodeId>) -> Result<(), AllocError>
         requires { ChildBelow (length pool.now.trees) list }
         ensures { OnOk result (locals_of self.new ≡ with_binders_of (locals_of self.old) m (tree_at pool.now.trees list)) }
     {

@@ -47,10 +47,21 @@ pub fn walk(
         }
         let below = wants_below(pool, decls, arrays, above, want, node);
         place += node.head.weight();
-        place = walk(alloc, pool, decls, arrays, above, below.0, place, node.first)?;
+        place = walk(
+            alloc, pool, decls, arrays, above, below.0, place, node.first,
+        )?;
         if binds(want, node.head) {
             let bound = bind_names(alloc, pool, above, node.head, node.first)?;
-            let next = walk(alloc, pool, decls, arrays, above, below.1, place, node.second)?;
+            let next = walk(
+                alloc,
+                pool,
+                decls,
+                arrays,
+                above,
+                below.1,
+                place,
+                node.second,
+            )?;
             unbind(above, &bound);
             return Ok(next);
         }

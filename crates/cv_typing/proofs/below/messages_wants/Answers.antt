@@ -1,4 +1,4 @@
-use Rattle.std.proofs.Common.{ap, sym, ◌∙◌}
+use Rattle.std.proofs.Common.{ap, sym}
 use Rattle.cv_syntax.specs.Tree.{tree_at}
 use Rattle.cv_typing.specs.Wants as wants
 use Rattle.cv_typing.proofs.Counts.{names-end, names-other, names-step}

@@ -1,4 +1,4 @@
-use Rattle.std.proofs.Common.{Bool, true, false, Option, Some, None, ap₂, sym, ◌∙◌}
+use Rattle.std.proofs.Common.{Bool, Option, Some, None, ap₂, sym, ◌∙◌}
 use Rattle.std.specs.Prelude.{if◌then◌else◌}
 use Rattle.cv_typing.specs.declared.fault.Fault.{Fault}
 use Rattle.cv_typing.specs.declared.fault.Fault.TheVariants.{IndexAsMessage, NotFixed}

@@ -1,8 +1,6 @@
-use Rattle.std.proofs.Common.{◌≡◌, ◌+◌, ◌≤◌, length, arith, refl, ap, sym, ◌∙◌}
+use Rattle.std.proofs.Common.{length, arith}
 use Rattle.cv_syntax.specs.Tree.{tree_at}
-use Rattle.cv_syntax.specs.Walks.{above}
 use Rattle.cv_syntax.proofs.Walking.{above-child, above-some}
-use Rattle.cv_typing.specs.Signature as signature
 use Rattle.cv_typing.proofs.Counts.{count-end, count-step}
 use Rattle.cv_typing.proofs.Walks.{child-live, empty-at, node-at}
 use Rattle.cv_typing.proofs.function.count.Goals as goal

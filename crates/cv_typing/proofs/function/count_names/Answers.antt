@@ -1,8 +1,6 @@
-use Rattle.std.proofs.Common.{◌≡◌, ◌+◌, ◌≤◌, length, arith, refl, ap, sym, ◌∙◌}
+use Rattle.std.proofs.Common.{length, arith, ap}
 use Rattle.cv_syntax.specs.Tree.{tree_at}
-use Rattle.cv_syntax.specs.Walks.{above}
 use Rattle.cv_syntax.proofs.Walking.{above-child, above-some}
-use Rattle.cv_typing.specs.Signature.{names_in}
 use Rattle.cv_typing.proofs.Counts.{names-end, names-other, names-step}
 use Rattle.cv_typing.proofs.Walks.{child-live, empty-at, node-at}
 use Rattle.cv_typing.proofs.function.count_names.Goals as goal

@@ -1,4 +1,4 @@
-use Rattle.std.proofs.Common.{ap, sym, ◌∙◌}
+use Rattle.std.proofs.Common.{ap, sym}
 use Rattle.cv_typing.specs.Parts.{bound_at}
 use Rattle.cv_typing.proofs.Walks.{empty-at}
 use Rattle.cv_typing.proofs.locals.bound_at.Goals as goal

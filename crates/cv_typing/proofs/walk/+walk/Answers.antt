@@ -1,14 +1,12 @@
-use Rattle.std.proofs.Common.{rules, ◌≡◌, ◌+◌, ◌<◌, ◌≤◌, ◌^◌, length, arith, refl, ap, ap₂, sym, ◌∙◌, None, Some}
+use Rattle.std.proofs.Common.{rules, ◌+◌, ◌<◌, length, arith, refl, ap, ap₂, sym, ◌∙◌}
 use Rattle.std.proofs.lemmas.Result.{err_from_is_err_and}
-use Rattle.cv_syntax.specs.Head.{weight}
-use Rattle.cv_syntax.specs.Tree.{size, tree_at}
+use Rattle.cv_syntax.specs.Tree.{tree_at}
 use Rattle.cv_syntax.specs.Walks.{above as rank}
 use Rattle.cv_syntax.proofs.Walking.{above-child, above-some, size-at, size-end}
 use Rattle.cv_typing.specs.Lookups.{signature_in, want_of}
 use Rattle.cv_typing.specs.Tables.{above_of, without}
-use Rattle.cv_typing.specs.Typing.{first_fault}
-use Rattle.cv_typing.specs.Wants.{with_names, above_second}
-use Rattle.cv_typing.proofs.Steps.{fault-end, fault-parts, names-bound, no-memory, none-bound, refused-as, refused-first, refused-here, skip-two}
+use Rattle.cv_typing.specs.Wants.{with_names}
+use Rattle.cv_typing.proofs.Steps.{fault-end, fault-parts, names-bound, none-bound, refused-as, refused-first, refused-here, skip-two}
 use Rattle.cv_typing.proofs.Walks.{child-above, child-live, empty-at, node-at}
 use Rattle.cv_typing.proofs.walk.+walk.Goals as goal
 

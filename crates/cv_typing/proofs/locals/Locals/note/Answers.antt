@@ -1,4 +1,4 @@
-use Rattle.std.proofs.Common.{ap, sym, ◌∙◌, None}
+use Rattle.std.proofs.Common.{sym, ◌∙◌}
 use Rattle.cv_typing.specs.Tables.{locals_of}
 use Rattle.cv_typing.proofs.Binding.{note-new, note-old, not-there}
 use Rattle.cv_typing.proofs.locals.Locals.note.Goals as goal

@@ -1,4 +1,4 @@
-use Rattle.std.proofs.Common.{ap, sym, ◌∙◌}
+use Rattle.std.proofs.Common.{ap, ◌∙◌}
 use Rattle.cv_syntax.specs.Tree.{first, second, tree_at}
 use Rattle.cv_typing.specs.Parts.{bound_at}
 use Rattle.cv_typing.specs.Tables.{locals_of, with_binders_of, with_body}

@@ -1,4 +1,3 @@
-use Rattle.std.proofs.Common.{◌∙◌}
 use Rattle.cv_typing.specs.Tables.{locals_of}
 use Rattle.cv_typing.proofs.Binding.{none-here}
 use Rattle.cv_typing.proofs.locals.Locals.note_here.Goals as goal

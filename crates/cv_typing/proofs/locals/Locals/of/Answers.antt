@@ -1,4 +1,4 @@
-use Rattle.std.proofs.Common.{ap, ◌∙◌}
+use Rattle.std.proofs.Common.{◌∙◌}
 use Rattle.cv_syntax.specs.Tree.{tree_at}
 use Rattle.cv_typing.specs.Tables.{locals_of}
 use Rattle.cv_typing.proofs.Binding.{from-no-locals, no-names}

@@ -3,7 +3,7 @@ use Rattle.cv_syntax.specs.Declarations.{declarations}
 use Rattle.cv_syntax.specs.Tree.{tree_at}
 use Rattle.cv_typing.specs.Parts.{game_part}
 use Rattle.cv_typing.proofs.Files.{arguments-live, first-refusals, game-typed}
-use Rattle.cv_typing.proofs.check.check_game.Goals as goal
+use Rattle.cv_typing.proofs.checking.check_game.Goals as goal
 
 pub check_process-requires-clause-arguments : goal.check_process-requires-clause-arguments
 check_process-requires-clause-arguments c = arguments-live (length c.args.work.now.pool.trees) c.args.work.now.decls.list c.requires.declared

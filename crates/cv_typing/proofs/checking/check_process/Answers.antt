@@ -1,15 +1,15 @@
-use Rattle.std.proofs.Common.{◌≡◌, ◌+◌, [], ◌∷◌, Some, None, length, ap, ap₂, sym, ◌∙◌}
+use Rattle.std.proofs.Common.{◌+◌, [], Some, ap₂, sym, ◌∙◌}
 use Rattle.std.proofs.lemmas.Result.{err_from_is_err_and}
 use Rattle.cv_syntax.specs.Declarations.{declarations}
 use Rattle.cv_syntax.specs.Tree.{size, tree_at}
 use Rattle.cv_typing.specs.declared.form.Form.TheVariants.{InProcess}
 use Rattle.cv_typing.specs.Parts.{game_part}
-use Rattle.cv_typing.specs.Signature.{Above, OfGame, Signature}
+use Rattle.cv_typing.specs.Signature.{Above, OfGame}
 use Rattle.cv_typing.specs.Sites.{SitesView}
 use Rattle.cv_typing.specs.Typing.{first_fault}
 use Rattle.cv_typing.specs.Wants.{Run}
 use Rattle.cv_typing.proofs.Files.{nothing-bound, part-refused, part-step, parts-end}
-use Rattle.cv_typing.proofs.check.check_process.Goals as goal
+use Rattle.cv_typing.proofs.checking.check_process.Goals as goal
 
 pub returns-in_err-walk-clause-fault : goal.returns-in_err-walk-clause-fault
 returns-in_err-walk-clause-fault c =

@@ -1,0 +1,86 @@
+ghost use Rattle.std.specs.Prelude.{◌≡◌, ◌<◌, ◌+◌, ◌^◌, ◌∷◌, [], All, None, length, IfErr, OnOk, Some};
+ghost use Rattle.cv_syntax.specs.Declarations.{declarations};
+ghost use Rattle.cv_syntax.specs.Tree.{size, tree_at};
+ghost use Rattle.cv_typing.specs.Lookups.{HasLiveArguments, IsLive};
+ghost use Rattle.cv_typing.specs.Parts.{IsTypedFile, IsTypedGame, file_parts, first_in, game_part};
+ghost use Rattle.cv_typing.specs.Refusals.{IsFirstRefusal, IsRefusalOf, parts_size};
+
+use crate::arrays::Arrays;
+use crate::fault::TypeFault;
+use crate::form::Form;
+use crate::parts::check_declaration;
+use crate::sites::Sites;
+use crate::walk::walk;
+use crate::want::Want;
+use cv_syntax::{Decls, File, Game, NodeId, Pool, Work};
+use std::alloc::Global;
+use std::collections::HashMap;
+
+/// Whether a game is typed, or its first fault in preorder.
+pub fn check_game(alloc: Global, work: &Work, game: Game) -> Result<(), TypeFault>
+    requires live { game.root.0 < length work.now.pool.trees }
+    requires declared { All (IsLive (length work.now.pool.trees)) work.now.decls.list }
+    requires fits { size (tree_at work.now.pool.trees (Some game.root)) < 2 ^ 32 }
+    ensures typed { OnOk result (IsTypedGame (declarations work.now.pool.trees work.now.decls.list) (tree_at work.now.pool.trees (Some game.root))) }
+    ensures fault { IfErr result (IsFirstRefusal (declarations work.now.pool.trees work.now.decls.list) (game_part (tree_at work.now.pool.trees (Some game.root)) ∷ [])) }
+{
+    check_process(alloc, &work.pool, &work.decls, 0, game.root)
+}
+
+/// Whether a file is typed, or its first fault: in its equations, equivalences and queries in order, or in its process.
+pub fn check(alloc: Global, work: &Work, file: &File) -> Result<(), TypeFault>
+    requires live { file.now.game.root.0 < length work.now.pool.trees }
+    requires declared { All (IsLive (length work.now.pool.trees)) work.now.decls.list }
+    requires fits { parts_size (file_parts (declarations work.now.pool.trees work.now.decls.list) (tree_at work.now.pool.trees (Some file.now.game.root))) < 2 ^ 32 }
+    ensures typed { OnOk result (IsTypedFile (declarations work.now.pool.trees work.now.decls.list) (tree_at work.now.pool.trees (Some file.now.game.root))) }
+    ensures fault { IfErr result (IsFirstRefusal (declarations work.now.pool.trees work.now.decls.list) (file_parts (declarations work.now.pool.trees work.now.decls.list) (tree_at work.now.pool.trees (Some file.now.game.root)))) }
+{
+    check_parts(alloc, &work.pool, &work.decls, file.game.root)
+}
+
+/// Whether declarations and a process are typed, or their first fault.
+fn check_parts(alloc: Global, pool: &Pool, decls: &Decls, root: NodeId) -> Result<(), TypeFault>
+    requires live { root.0 < length pool.now.trees }
+    requires declared { All (IsLive (length pool.now.trees)) decls.now.list }
+    requires fits { parts_size (file_parts (declarations pool.now.trees decls.now.list) (tree_at pool.now.trees (Some root))) < 2 ^ 32 }
+    ensures typed { OnOk result (first_in (declarations pool.now.trees decls.now.list) 0 (file_parts (declarations pool.now.trees decls.now.list) (tree_at pool.now.trees (Some root))) ≡ None) }
+    ensures fault { IfErr result (IsRefusalOf (first_in (declarations pool.now.trees decls.now.list) 0 (file_parts (declarations pool.now.trees decls.now.list) (tree_at pool.now.trees (Some root))))) }
+{
+    let mut place = 0;
+    'decls: for k in 0..decls.len() {
+        let Some(decl) = decls.get(k) else {
+            continue;
+        };
+        place = check_declaration(alloc, pool, decls, place, *decl)?;
+    }
+    check_process(alloc, pool, decls, place, root)
+}
+
+/// Whether a process that stands at a place is typed, or its first fault.
+fn check_process(
+    alloc: Global,
+    pool: &Pool,
+    decls: &Decls,
+    from: u32,
+    root: NodeId,
+) -> Result<(), TypeFault>
+    requires live { root.0 < length pool.now.trees }
+    requires arguments { HasLiveArguments (length pool.now.trees) decls.now.list }
+    requires fits { from + size (tree_at pool.now.trees (Some root)) < 2 ^ 32 }
+    ensures typed { OnOk result (first_in (declarations pool.now.trees decls.now.list) from (game_part (tree_at pool.now.trees (Some root)) ∷ []) ≡ None) }
+    ensures fault { IfErr result (IsRefusalOf (first_in (declarations pool.now.trees decls.now.list) from (game_part (tree_at pool.now.trees (Some root)) ∷ []))) }
+{
+    let arrays = Arrays::OfGame(Sites::of(alloc, pool, root)?);
+    let mut above = HashMap::new(alloc);
+    walk(
+        alloc,
+        pool,
+        decls,
+        &arrays,
+        &mut above,
+        Want::Run(Form::InProcess),
+        from,
+        Some(root),
+    )?;
+    Ok(())
+}
