@@ -19,12 +19,13 @@ use Rattle.cv_scope.specs.Seen.{Seen, fault_seen, current, found, is_defined_at,
 use Rattle.cv_scope.specs.Sites.{InOneOf, Site, channel_here, named_here, sites_from, sites_here}
 use Rattle.cv_scope.specs.Standing.{Standing, at_root, first_standing, second_standing, parts_ways, passed_second}
 use Rattle.cv_scope.specs.Tests.{fault_of, is_in_scope, may_stand, reads_in_reach}
-use Rattle.cv_scope.proofs.Apart.{IsApart, IsBefore, IsLike, IsWithin, before-first, before-second, first-replications, second-replications, here-apart, in-fewer, in-last, in-more, past-end, tree-apart, tree-within}
+use Rattle.cv_scope.proofs.Apart.{IsApart, IsBefore, IsWithin, before-first, before-second, first-replications, second-replications, here-apart, in-fewer, in-last, in-more, past-end, tree-apart, tree-within}
 use Rattle.cv_scope.proofs.Decided.{first_failing, node-obeys}
 use Rattle.cv_scope.proofs.Faults.{sites-append}
 use Rattle.cv_scope.proofs.First.{finds_first, scoped_where_none}
 use Rattle.cv_scope.proofs.Latest.{IsCovered, all-stand}
-use Rattle.cv_scope.proofs.Pairs.{Each, Pairs, each-weaker, pairs-append, pairs-of, pairs-weaker}
+use Rattle.cv_scope.specs.Branches.{Each, Pairs, IsLike}
+use Rattle.cv_scope.proofs.Pairs.{each-weaker, pairs-append, pairs-of, pairs-weaker}
 use Rattle.cv_scope.proofs.Reaching.{and-false, or-false, AreBounded, ReachesAlike, bounded-behind, reaches-first, reaches-second}
 
 -- the tables hold what is known where a node stands

@@ -9,13 +9,15 @@ use Rattle.cv_meaning.specs.Binders.{bound_names}
 use Rattle.cv_scope.specs.declared.fault.Fault.TheVariants as fault
 use Rattle.cv_scope.specs.declared.position.Position.{Position}
 use Rattle.cv_scope.specs.declared.position.Position.TheVariants.{Bodies, ElseBody, Guards, Guarded, Cells}
-use Rattle.cv_scope.specs.Context.{Context, first_context, second_context, item_context, rest_context, replications_below}
+use Rattle.cv_scope.specs.Context.{Context, first_position, second_position, first_context, second_context, item_context, rest_context, replications_below}
 use Rattle.cv_scope.specs.Ordered.{EndBy}
-use Rattle.cv_scope.specs.Rules.{Names, AreAlike, MayFollow, MayStand}
-use Rattle.cv_scope.specs.Scope.{IsScopedAt}
+use Rattle.cv_scope.specs.Rules.{Names, MayFollow, MayStand}
+use Rattle.cv_syntax.specs.Declarations.{Declaration}
+use Rattle.cv_scope.specs.Scope.{IsScoped, IsScopedAt, names_of}
 use Rattle.cv_scope.specs.Sites.{InOneOf, Site, Variable, Channel, channel_here, named_here, site_of, sites_from, sites_here, variable_sites}
-use Rattle.cv_scope.specs.Standing.{Standing, first_standing, second_standing, parts_ways, passed_second}
-use Rattle.cv_scope.proofs.Pairs.{Each, Pairs, all-append, all-both, all-left, all-map, all-right, all-true, all-weaker, each-append, each-of, each-weaker, pairs-append, pairs-weaker}
+use Rattle.cv_scope.specs.Standing.{Standing, at_root, first_standing, second_standing, parts_ways, passed_second}
+use Rattle.cv_scope.specs.Branches.{AreInDifferentBranches, AreSitesAlike, HasOtherName, IsApartByBranches, Each, Pairs, IsLike}
+use Rattle.cv_scope.proofs.Pairs.{all-append, all-both, all-left, all-map, all-right, all-true, all-weaker, each-append, each-of, each-weaker, pairs-append, pairs-weaker}
 use Rattle.cv_scope.proofs.Stacks.{end-later, end-push}
 
 -- ranges
@@ -102,9 +104,6 @@ tree-within rs p (Node h a b) =
 
 abbrev pub IsApart : List (ℕ × ℕ) → Site → Site → Type 0
 IsApart passed e s = MayFollow passed s e
-
-abbrev pub IsLike : Site → Site → Type 0
-IsLike e s = e.name ≡ s.name → AreAlike e s
 
 pub apart-like : (passed : List (ℕ × ℕ)) (e s : Site) → IsApart passed e s → IsLike e s
 apart-like passed e s m n = (m n).1
@@ -213,3 +212,43 @@ tree-apart names s (Node h a b) m i =
           (each-append IsLike here left right (each-weaker (IsApart s.passed) IsLike here left (apart-like s.passed) (all-right (λ e. AllByRecursion (IsApart s.passed e) left) s.sites here f0))
           (each-weaker (IsApart (passed_second s h a)) IsLike here right (apart-like (passed_second s h a)) (all-left (λ e. AllByRecursion (IsApart (passed_second s h a) e) right) here left new))),
     )
+
+-- different branches
+
+-- a site at or behind the place is in no branch that is passed
+other-name : (s : Standing) (e l : Site) → IsBefore s → s.place ≤ e.place → IsApart s.passed e l → HasOtherName e l
+other-name s e l m p r n = past-end s.passed s.place e.place m.passed p (r n).0
+
+pub tree-branches : (names : Names) (s : Standing) (t : Tree) → IsBefore s → IsScopedAt names s t → AreInDifferentBranches s.position s.known.replications s.place t
+unfolding IsScopedAt AreInDifferentBranches
+tree-branches names s Empty m i = tt
+tree-branches names s (Node h a b) m i =
+    let rs = s.known.replications in
+    let p = s.place in
+    let here = sites_here rs p h a in
+    let left = sites_from rs (p + weight h) a in
+    let right = sites_from (replications_below h rs) (p + weight h + size a) b in
+    let f = tree-apart names (first_standing s h a) a (before-first s h a m) i.1 in
+    let g = tree-apart names (second_standing s h a) b (before-second s h a m) i.2 in
+    let frs = first-replications s.position h s.known in
+    let srs = second-replications s.position h a s.known in
+    let f0 : Each (IsApart s.passed) (s.sites ++ here) left = subst (λ l. Each (IsApart s.passed) (s.sites ++ here) (sites_from l (p + weight h) a)) frs f.0 in
+    let g0 : Each (IsApart (passed_second s h a)) (s.sites ++ (here ++ left)) right = subst (λ l. Each (IsApart (passed_second s h a)) (s.sites ++ (here ++ left)) (sites_from l (p + weight h + size a) b)) srs g.0 in
+    let new = all-right (λ e. AllByRecursion (IsApart (passed_second s h a) e) right) s.sites (here ++ left) g0 in
+    let within = here-within rs p h a in
+    let h0 = each-of (IsWithin p (p + weight h)) (IsApart s.passed) HasOtherName here left (λ e l q r. other-name s e l m q.0 r) within (all-right (λ e. AllByRecursion (IsApart s.passed e) left) s.sites here f0) in
+    let h1 = each-of (IsWithin p (p + weight h)) (IsApart (passed_second s h a)) HasOtherName here right (λ e l q r n. past-end s.passed p e.place m.passed q.0 (passed-before s h a e.place q.1 (r n).0)) within (all-left (λ e. AllByRecursion (IsApart (passed_second s h a) e) right) here left new) in (
+      each-append HasOtherName here left right h0 h1,
+      (λ d. each-of (IsWithin (p + weight h) (p + weight h + size a)) (IsApart (passed_second s h a)) HasOtherName left right (λ e l q r n. past-end s.passed p e.place m.passed (omega (arith, q.0)) (subst (λ c. InOneOf (cond c (s.passed ++ (s.place + weight h, s.place + weight h + size a) ∷ []) s.passed) e.place) d (r n).0)) (tree-within rs (p + weight h) a) (all-right (λ e. AllByRecursion (IsApart (passed_second s h a) e) right) here left new)),
+      subst (λ l. AreInDifferentBranches (first_position s.position h) l (p + weight h) a) frs (tree-branches names (first_standing s h a) a (before-first s h a m) i.1),
+      subst (λ l. AreInDifferentBranches (second_position s.position h) l (p + weight h + size a) b) srs (tree-branches names (second_standing s h a) b (before-second s h a m) i.2),
+    )
+
+root-before : IsBefore at_root
+root-before = record { sites = tt; passed = tt }
+
+pub game-alike : (ds : List Declaration) (game : Tree) → IsScoped ds game → AreSitesAlike game
+game-alike ds game i = (tree-apart (names_of ds game) at_root game root-before i).1
+
+pub game-branches : (ds : List Declaration) (game : Tree) → IsScoped ds game → IsApartByBranches game
+game-branches ds game i = tree-branches (names_of ds game) at_root game root-before i

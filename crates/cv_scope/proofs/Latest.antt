@@ -9,7 +9,8 @@ use Rattle.cv_scope.specs.Sites.{InOneOf, Site, SiteName}
 use Rattle.cv_scope.specs.Tests.{is_in_one_of, may_follow, may_stand, same_name}
 use Rattle.cv_scope.proofs.Decided.{alike-found, alike-tested, follows-found, follows-tested, name-same, ranges-found, ranges-tested, same-name}
 use Rattle.cv_scope.proofs.Faults.{sites-append}
-use Rattle.cv_scope.proofs.Pairs.{Pairs, all-weaker, pairs-append}
+use Rattle.cv_scope.specs.Branches.{Pairs}
+use Rattle.cv_scope.proofs.Pairs.{all-weaker, pairs-append}
 
 -- an earlier site is in another branch where a later one of its name is, and they are alike
 abbrev pub IsCovered : List (ℕ × ℕ) → Site → Site → Type 0

@@ -1,15 +1,7 @@
 -- All of a list, and each two of a list.
 use Rattle.std.proofs.Common.{List, [], ◌∷◌, ◌++◌, map}
 use Rattle.std.specs.List.{AllByRecursion}
-
--- each two elements, the earlier one first
-abbrev pub Pairs : {A : Type 0} → (A → A → Type 0) → List A → Type 0
-Pairs R [] = Unit {0}
-Pairs R (x ∷ xs) = AllByRecursion (R x) xs × Pairs R xs
-
--- each element of one list with each of another
-abbrev pub Each : {A : Type 0} → (A → A → Type 0) → List A → List A → Type 0
-Each R xs ys = AllByRecursion (λ x. AllByRecursion (R x) ys) xs
+use Rattle.cv_scope.specs.Branches.{Each, Pairs}
 
 pub all-weaker : {A : Type 0} (P Q : A → Type 0) (xs : List A) → ((x : A) → P x → Q x) → AllByRecursion P xs → AllByRecursion Q xs
 all-weaker P Q [] f a = tt

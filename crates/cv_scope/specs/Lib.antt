@@ -9,3 +9,4 @@ pub mod Worked
 pub mod Seen
 pub mod Held
 pub mod Ordered
+pub mod Branches

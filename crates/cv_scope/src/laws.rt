@@ -3,6 +3,7 @@ ghost use Rattle.cv_syntax.specs.declared.head.Head.{Head};
 ghost use Rattle.cv_syntax.specs.Declarations.{Declaration};
 ghost use Rattle.cv_syntax.specs.Tree.{Tree};
 ghost use Rattle.cv_scope.specs.declared.fault.Fault.{Fault};
+ghost use Rattle.cv_scope.specs.Branches.{AreSitesAlike, IsApartByBranches};
 ghost use Rattle.cv_scope.specs.Standing.{Standing};
 ghost use Rattle.cv_scope.specs.Rules.{Names, Obeys, Breaks};
 ghost use Rattle.cv_scope.specs.Tests.{fault_of};
@@ -28,4 +29,10 @@ pub fn game_faults_are_first()
     ensures scoped { (ds : List Declaration) (game : Tree) → (first_scope_fault ds game ≡ None) ↔ IsScoped ds game }
     ensures first { (ds : List Declaration) (game : Tree) (q : ℕ) (f : Fault) →
         first_scope_fault ds game ≡ Some (q, f) → IsFirstFault ds game q f }
+{}
+
+/// In a scoped game the sites of one name are alike, and stand in different branches of one `if` or `find`.
+pub fn scoped_sites_are_apart()
+    ensures alike { (ds : List Declaration) (game : Tree) → IsScoped ds game → AreSitesAlike game }
+    ensures branches { (ds : List Declaration) (game : Tree) → IsScoped ds game → IsApartByBranches game }
 {}

@@ -20,7 +20,9 @@ mod worked;
 
 pub use checking::check;
 pub use fault::{Fault, ScopeFault};
-pub use laws::{game_faults_are_first, nodes_are_decided, tree_faults_are_first};
+pub use laws::{
+    game_faults_are_first, nodes_are_decided, scoped_sites_are_apart, tree_faults_are_first,
+};
 pub use position::Position;
 pub use worked::{worked_channels, worked_lists, worked_reads, worked_replications, worked_sites};
 
