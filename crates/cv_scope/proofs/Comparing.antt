@@ -1,0 +1,42 @@
+-- Terms by the heads and the children of their nodes.
+use Rattle.std.proofs.Common.{◌≡◌, ◌≤◌, ℕ, zero, suc, Bool, true, false, ◌&&◌, refl, ap, sym, ◌∙◌, arith, nat_eq, eqb-true, List, [], ◌∷◌, length, drop}
+use Rattle.std.proofs.lemmas.Bool.{eq-eqb, ne_eqb, eqb-false}
+use Rattle.cv_scope.specs.Rules.{carries}
+use Rattle.cv_syntax.specs.Head.{same_head}
+use Rattle.cv_pool.specs.KindTree.{NoTree}
+use Rattle.cv_syntax.specs.Tree.{Tree, Empty, Node, same_tree, tree_of}
+
+pub no-tree : tree_of NoTree ≡ Empty
+unfolding tree_of
+no-tree = refl
+
+abbrev pub same_parts : Tree → Tree → Bool
+same_parts Empty Empty = true
+same_parts (Node h a b) (Node k c d) = same_head h k && (same_tree a c && same_tree b d)
+same_parts _ _ = false
+
+pub same-open : (s t : Tree) → same_tree s t ≡ same_parts s t
+unfolding same_tree
+same-open Empty Empty = refl
+same-open Empty (Node k c d) = refl
+same-open (Node h a b) Empty = refl
+same-open (Node h a b) (Node k c d) = refl
+
+pub ruleset term_laws = (no-tree, same-open)
+
+-- at the end of a list of names all indices were there
+pub carries-end : (rs : List (ℕ × ℕ)) (n : ℕ) (t : Tree) → n ≤ length rs → t ≡ Empty → nat_eq n (length rs) ≡ carries (drop n rs) t
+carries-end rs n t l e = at-empty rs n l ∙ ap (carries (drop n rs)) (sym e)
+  where
+    at-empty : (rs : List (ℕ × ℕ)) (n : ℕ) → n ≤ length rs → nat_eq n (length rs) ≡ carries (drop n rs) Empty
+    at-empty [] zero l = eq-eqb 0 0 refl
+    at-empty [] (suc n) l = absurd (omega arith)
+    at-empty (r ∷ rs) zero l = ne_eqb 0 (length (r ∷ rs)) (λ z. omega arith)
+    at-empty (r ∷ rs) (suc n) l = same-suc n (length rs) ∙ at-empty rs n (omega arith)
+      where
+        same-suc : (a b : ℕ) → nat_eq (suc a) (suc b) ≡ nat_eq a b
+        same-suc a b = go (nat_eq a b) refl
+          where
+            go : (c : Bool) → nat_eq a b ≡ c → nat_eq (suc a) (suc b) ≡ c
+            go true f = eq-eqb (suc a) (suc b) (ap suc (eqb-true a b f))
+            go false f = ne_eqb (suc a) (suc b) (λ z. eqb-false a b f (omega arith))

@@ -1,0 +1,15 @@
+pub mod Going
+pub mod Latest
+pub mod Noting
+pub mod Entering
+pub mod Faults
+pub mod Stacks
+pub mod Comparing
+pub mod Trees
+pub mod Agreeing
+pub mod Reaching
+pub mod Pairs
+pub mod Apart
+pub mod Constants
+pub mod Decided
+pub mod First

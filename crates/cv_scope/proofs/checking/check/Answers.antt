@@ -1,0 +1,25 @@
+use Rattle.std.proofs.Common.{ap, sym, subst, length, Some}
+use Rattle.std.proofs.lemmas.Result.{err_from_is_err_and}
+use Rattle.cv_syntax.specs.Declarations.{declarations}
+use Rattle.cv_syntax.specs.Tree.{tree_at}
+use Rattle.cv_scope.specs.Held.{names_held, state_held}
+use Rattle.cv_scope.specs.Ordered.{EndBy}
+use Rattle.cv_scope.proofs.Agreeing.{refused-game, scoped-game}
+use Rattle.cv_scope.proofs.checking.check.Goals as goal
+
+pub walk-requires-clause-binders : goal.walk-requires-clause-binders
+walk-requires-clause-binders c = c.new-state.ensures.live (length c.args.work.now.pool.trees)
+
+pub walk-requires-clause-passed : goal.walk-requires-clause-passed
+walk-requires-clause-passed c = subst (EndBy 0) (sym (ap (λ S. S.passed) (c.new-state.ensures.held c.args.work.now.pool.trees))) tt
+
+pub returns-in_err-walk-clause-fault : goal.returns-in_err-walk-clause-fault
+returns-in_err-walk-clause-fault c =
+    let trees = c.args.work.now.pool.trees in
+    let p = err_from_is_err_and c.from_residual-in_err-walk.result c.from_residual-in_err-walk.ensures.1 in
+    rw (p.1, p.2) (refused-game (declarations trees c.args.work.now.decls.list) (tree_at trees (Some c.args.game.root)) (names_held c.in_ok-names.names) (state_held trees c.new-state.result) c.in_err-walk.field-0.0 c.in_ok-names.ensures (c.new-state.ensures.held trees) c.in_err-walk.ensures.fault)
+
+pub returns-clause-scoped : goal.returns-clause-scoped
+returns-clause-scoped c =
+    let trees = c.args.work.now.pool.trees in
+    scoped-game (declarations trees c.args.work.now.decls.list) (tree_at trees (Some c.args.game.root)) (names_held c.in_ok-names.names) (state_held trees c.new-state.result) c.in_ok-names.ensures (c.new-state.ensures.held trees) c.in_ok-walk.ensures.scoped

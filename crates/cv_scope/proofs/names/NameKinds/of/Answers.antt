@@ -1,0 +1,9 @@
+use Rattle.std.proofs.Common.{ap, Some, nat_eq, is_some}
+use Rattle.cv_syntax.specs.Tree.{tree_at}
+use Rattle.cv_scope.proofs.Constants.{names-are}
+use Rattle.cv_scope.proofs.names.NameKinds.of.Goals as goal
+
+pub returns : goal.returns
+returns c =
+    let trees = c.args.pool.now.trees in
+    names-are trees c.args.decls.now.list (tree_at trees (Some c.args.root)) (record { constants = c.new.result; sites = c.in_ok-of.field-0 }) c.note_constants.new.self c.in_ok-note_constants.ensures.constants (λ x. ap (λ es. is_some (Rattle.std.specs.Map.lookup (nat_eq x) es)) c.new.ensures.empty) c.in_ok-note_constants.ensures.sites c.in_ok-of.ensures

@@ -1,0 +1,20 @@
+use Rattle.std.proofs.Common.{◌++◌, append-nil, ap, map, sym, ◌∙◌}
+use Rattle.cv_syntax.specs.Tree.{tree_at}
+use Rattle.cv_typing.proofs.Walks.{empty-at}
+use Rattle.cv_scope.specs.Context.{items}
+use Rattle.cv_scope.proofs.state.State.list_all.Goals as goal
+
+pub returns : goal.returns
+returns c =
+    let trees = c.args.pool.now.trees in
+    let i = c.cells.invariant in
+    let cells = map (tree_at trees) c.cells.self.listed.items in
+    record {
+      replications = i.replications;
+      defined = i.defined;
+      listed = sym (append-nil cells) ∙ (sym (ap (λ t. cells ++ items t) (empty-at trees c.cells.at c.in_default.is)) ∙ i.same);
+      front = i.front;
+      live = i.live;
+      passed = i.passed;
+      last = i.last;
+    }

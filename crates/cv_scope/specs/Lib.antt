@@ -1,0 +1,12 @@
+pub mod Context
+pub mod Sites
+pub mod Standing
+pub mod Rules
+pub mod Tests
+pub mod Scope
+pub mod Refusals
+pub mod Worked
+pub mod Seen
+pub mod Held
+pub mod Ordered
+pub mod Branches

@@ -1,0 +1,59 @@
+-- Array scope: each node of a game obeys the rules; else the first node in preorder that does not.
+use Rattle.std.specs.Prelude.{◌≡◌, ◌≤◌, ℕ, Bool, List, [], Option, Some, None, is_some}
+use Rattle.cv_syntax.specs.declared.head.Head.{Head}
+use Rattle.cv_syntax.specs.Declarations.{Declaration}
+use Rattle.cv_syntax.specs.Tree.{Tree, Empty, Node}
+use Rattle.cv_meaning.specs.Interpretation.{is_constant_of}
+use Rattle.cv_typing.specs.Sites.{first_of, first_site}
+use Rattle.cv_scope.specs.declared.fault.Fault.{Fault}
+use Rattle.cv_scope.specs.Standing.{Standing, at_root, first_standing, second_standing}
+use Rattle.cv_scope.specs.Rules.{Names, Obeys, Breaks}
+use Rattle.cv_scope.specs.Tests.{fault_of}
+
+-- every node of the tree obeys the rules
+unfoldable pub IsScopedAt : Names → Standing → Tree → Type 0
+IsScopedAt names s Empty = Unit {0}
+IsScopedAt names s (Node h a b) =
+    ((f : Fault) → Obeys names s h a b f)
+    × IsScopedAt names (first_standing s h a) a
+    × IsScopedAt names (second_standing s h a) b
+
+-- a node at q of the tree breaks the rules of a kind
+pub data Faulty (names : Names) : Standing → Tree → ℕ → Fault → Type 0 where
+  here : {s : Standing} {h : Head} {a b : Tree} {q : ℕ} {f : Fault} → s.place ≡ q → Breaks names s h a b f → Faulty names s (Node h a b) q f
+  in_first : {s : Standing} {h : Head} {a b : Tree} {q : ℕ} {f : Fault} → Faulty names (first_standing s h a) a q f → Faulty names s (Node h a b) q f
+  in_second : {s : Standing} {h : Head} {a b : Tree} {q : ℕ} {f : Fault} → Faulty names (second_standing s h a) b q f → Faulty names s (Node h a b) q f
+
+-- a fault, and none at a lesser place
+pub record IsFirst (names : Names) (s : Standing) (t : Tree) (q : ℕ) (f : Fault) : Type 0 where
+  pub there : Faulty names s t q f
+  pub least : (r : ℕ) (g : Fault) → Faulty names s t r g → q ≤ r
+
+abbrev pub placed : ℕ → Option Fault → Option (ℕ × Fault)
+placed p None = None
+placed p (Some f) = Some (p, f)
+
+-- the place and the fault of the first node in preorder that breaks a rule
+unfoldable pub first_fault : Names → Standing → Tree → Option (ℕ × Fault)
+first_fault names s Empty = None
+first_fault names s (Node h a b) =
+    first_of (placed s.place (fault_of names s h a b))
+    (first_of (first_fault names (first_standing s h a) a)
+    (first_fault names (second_standing s h a) b))
+
+-- games
+
+abbrev pub is_variable : Tree → ℕ → Bool
+is_variable game x = is_some (first_site x [] game)
+
+abbrev pub names_of : List Declaration → Tree → Names
+names_of ds game = record { constant = is_constant_of ds; variable = is_variable game }
+
+abbrev pub IsScoped : List Declaration → Tree → Type 0
+IsScoped ds game = IsScopedAt (names_of ds game) at_root game
+
+abbrev pub IsFirstFault : List Declaration → Tree → ℕ → Fault → Type 0
+IsFirstFault ds game q f = IsFirst (names_of ds game) at_root game q f
+
+abbrev pub first_scope_fault : List Declaration → Tree → Option (ℕ × Fault)
+first_scope_fault ds game = first_fault (names_of ds game) at_root game

@@ -1,0 +1,37 @@
+ghost use Rattle.std.specs.Prelude.{◌≡◌, ◌<◌, ◌^◌, All, length, IfErr, OnOk, Some};
+ghost use Rattle.cv_syntax.specs.Declarations.{declarations};
+ghost use Rattle.cv_syntax.specs.Tree.{size, tree_at};
+ghost use Rattle.cv_typing.specs.Lookups.{IsLive};
+ghost use Rattle.cv_scope.specs.Refusals.{IsFirstRefusal};
+ghost use Rattle.cv_scope.specs.Scope.{IsScoped};
+
+use crate::fault::ScopeFault;
+use crate::names::NameKinds;
+use crate::position::Position;
+use crate::state::State;
+use crate::walk::walk;
+use cv_syntax::{Game, Work};
+use std::alloc::Global;
+
+/// Whether each read of a game is in scope, its names have their sites in different branches, its channels carry the
+/// current indices and its replications are few and apart; or its first fault.
+pub fn check(alloc: Global, work: &Work, game: Game) -> Result<(), ScopeFault>
+    requires live { game.root.0 < length work.now.pool.trees }
+    requires declared { All (IsLive (length work.now.pool.trees)) work.now.decls.list }
+    requires fits { size (tree_at work.now.pool.trees (Some game.root)) < 2 ^ 32 }
+    ensures scoped { OnOk result (IsScoped (declarations work.now.pool.trees work.now.decls.list) (tree_at work.now.pool.trees (Some game.root))) }
+    ensures fault { IfErr result (IsFirstRefusal (declarations work.now.pool.trees work.now.decls.list) (tree_at work.now.pool.trees (Some game.root))) }
+{
+    let names = NameKinds::of(alloc, &work.pool, &work.decls, game.root)?;
+    let mut state = State::new(alloc);
+    walk(
+        alloc,
+        &work.pool,
+        &names,
+        &mut state,
+        Position::Anywhere,
+        0,
+        Some(game.root),
+    )?;
+    Ok(())
+}

@@ -1,0 +1,142 @@
+ghost use Rattle.std.specs.Prelude.{◌≡◌, ◌<◌, length, map};
+ghost use Rattle.std.specs.List.{list_any};
+ghost use Rattle.cv_pool.specs.Nodes.{ChildBelow};
+ghost use Rattle.cv_syntax.specs.Tree.{same_tree, tree_at};
+ghost use Rattle.cv_scope.specs.Held.{AreLive};
+ghost use Rattle.cv_scope.specs.Rules.{carries as are_carried, is_index as is_index_of};
+ghost use Rattle.cv_scope.specs.Seen.{current as current_of, is_empty as is_empty_tree, is_leaf as is_leaf_of};
+ghost use Rattle.cv_scope.specs.Rules.{is_name as is_name_of};
+
+use cv_syntax::{Head, NodeId, Pool, read_node};
+
+/// Whether a tree is empty.
+#[tactic(auto, using(crate::proofs::Comparing::term_laws))]
+fn is_empty(pool: &Pool, tree: Option<NodeId>) -> bool
+    requires { ChildBelow (length pool.now.trees) tree }
+    ensures { result ≡ is_empty_tree (tree_at pool.now.trees tree) }
+{
+    match tree {
+        Some(n) => {
+            // A node of the pool is never empty, as reading it shows.
+            let _node = read_node(pool, n);
+            false
+        }
+        None => true,
+    }
+}
+
+/// Whether two trees are the same.
+#[tactic(auto, using(crate::proofs::Comparing::term_laws))]
+pub fn same(pool: &Pool, left: Option<NodeId>, right: Option<NodeId>) -> bool
+    requires left { ChildBelow (length pool.now.trees) left }
+    requires right { ChildBelow (length pool.now.trees) right }
+    ensures { result ≡ same_tree (tree_at pool.now.trees left) (tree_at pool.now.trees right) }
+{
+    let mut p = left;
+    let mut q = right;
+    'chain: while let Some(m) = p {
+        let x = read_node(pool, m);
+        let Some(n) = q else {
+            return false;
+        };
+        let y = read_node(pool, n);
+        if x.head.kind() != y.head.kind() {
+            return false;
+        }
+        if !same(pool, x.first, y.first) {
+            return false;
+        }
+        p = x.second;
+        q = y.second;
+    }
+    is_empty(pool, q)
+}
+
+/// Whether a tree is in a list of trees.
+pub fn is_among(pool: &Pool, tree: Option<NodeId>, list: &[Option<NodeId>]) -> bool
+    requires tree { ChildBelow (length pool.now.trees) tree }
+    requires list { AreLive (length pool.now.trees) list.now }
+    ensures { result ≡ list_any (same_tree (tree_at pool.now.trees tree)) (map (tree_at pool.now.trees) list.now) }
+{
+    for item in list {
+        if same(pool, tree, *item) {
+            return true;
+        }
+    }
+    false
+}
+
+/// Whether a name is the index of one of these replications.
+pub fn is_index(replications: &[(u32, u32)], x: u32) -> bool
+    ensures { result ≡ is_index_of replications.now x }
+{
+    replications.iter().any(|r| r.0 == x)
+}
+
+/// Whether a term is an index.
+#[tactic(auto, using(crate::proofs::Comparing::term_laws))]
+pub fn is_leaf(pool: &Pool, i: u32, term: Option<NodeId>) -> bool
+    requires { ChildBelow (length pool.now.trees) term }
+    ensures { result ≡ is_leaf_of i (tree_at pool.now.trees term) }
+{
+    let Some(k) = term else {
+        return false;
+    };
+    let node = read_node(pool, k);
+    match node.head {
+        Head::Leaf(j) => i == j && is_empty(pool, node.first) && is_empty(pool, node.second),
+        _ => false,
+    }
+}
+
+/// How many indices a list of terms has, where they are the first of the current ones.
+#[tactic(auto, using(crate::proofs::Comparing::term_laws))]
+pub fn current(pool: &Pool, replications: &[(u32, u32)], list: Option<NodeId>) -> Option<usize>
+    requires { ChildBelow (length pool.now.trees) list }
+    ensures { result ≡ current_of replications.now (tree_at pool.now.trees list) }
+{
+    let mut count = 0;
+    let mut at = list;
+    'list: while let Some(k) = at {
+        let cell = read_node(pool, k);
+        let replication = replications.get(count)?;
+        if !matches!(cell.head, Head::Cons) || !is_leaf(pool, replication.0, cell.first) {
+            return None;
+        }
+        count += 1;
+        at = cell.second;
+    }
+    Some(count)
+}
+
+/// Whether a list of names has exactly the current indices.
+#[tactic(auto, using(crate::proofs::Comparing::term_laws))]
+pub fn carries(pool: &Pool, replications: &[(u32, u32)], list: Option<NodeId>) -> bool
+    requires { ChildBelow (length pool.now.trees) list }
+    ensures { result ≡ are_carried replications.now (tree_at pool.now.trees list) }
+{
+    let mut count = 0;
+    let mut at = list;
+    'list: while let Some(k) = at {
+        let name = read_node(pool, k);
+        let Some(replication) = replications.get(count) else {
+            return false;
+        };
+        if !is_name(name.head, replication.0) {
+            return false;
+        }
+        count += 1;
+        at = name.second;
+    }
+    count == replications.len()
+}
+
+/// Whether a head is this name.
+fn is_name(head: Head, x: u32) -> bool
+    ensures { result ≡ is_name_of x head }
+{
+    match head {
+        Head::Name(y) => x == y,
+        _ => false,
+    }
+}
