@@ -1,11 +1,10 @@
 -- The terms of a file have no more syntax nodes than the file weighs.
-use Rattle.std.proofs.Common.{◌≡◌, ℕ, ◌+◌, ◌*◌, ◌<◌, ◌≤◌, min, List, [], ◌∷◌, ◌++◌, flat_map, Option, refl, ap, arith, Ok}
+use Rattle.std.proofs.Common.{◌≡◌, ℕ, ◌+◌, ◌*◌, ◌<◌, ◌≤◌, min, List, [], ◌∷◌, ◌++◌, flat_map, Option, arith, Ok}
 use Rattle.cv_grammar.specs.declared.sign.Sign.{Sign}
 use Rattle.cv_syntax.specs.Declarations.{Declaration, Named, Equation, Equiv, Query}
-use Rattle.cv_syntax.specs.Head.{weight}
 use Rattle.cv_syntax.specs.Tree.{Tree, Empty, Node, first, second, size}
 use Rattle.cv_parse.specs.Parsed.{Parsed, parsed, weight_of}
-use Rattle.cv_parse.specs.Weights.{asked, declared_weight, held, tree_weight}
+use Rattle.cv_parse.specs.Weights.{declared_weight, tree_weight}
 use Rattle.cv_parse.proofs.Exactness.{said_is_saying}
 use Rattle.cv_read_declarations.specs.Declares.{tree_in}
 use Rattle.cv_typing.specs.declared.sort.Sort.{Sort}

@@ -53,12 +53,7 @@ fn are_plain(decls: &Decls) -> bool
 }
 
 /// Whether a file is of the form that is built.
-pub fn is_built(
-    alloc: Global,
-    pool: &Pool,
-    decls: &Decls,
-    root: NodeId,
-) -> Result<bool, AllocError>
+pub fn is_built(alloc: Global, pool: &Pool, decls: &Decls, root: NodeId) -> Result<bool, AllocError>
     requires live { root.0 < length pool.now.trees }
     requires below { All (IsBelow (length pool.now.trees)) decls.now.list }
     ensures built { IfOk result (λ yes. yes ≡ (list_all plain (declarations pool.now.trees decls.now.list) && typed (declarations pool.now.trees decls.now.list) (tree_at pool.now.trees (Some root)))) }

@@ -1,4 +1,4 @@
-use Rattle.std.proofs.Common.{ap, sym, ◌∙◌}
+use Rattle.std.proofs.Common.{sym, ◌∙◌}
 use Rattle.cv_files.proofs.Readings.{form_reads, form_refuses, grammar_refuses, lexis_refuses, reads_on, script_refuses, types_refuse}
 use Rattle.cv_files.proofs.Weights.{few_terms}
 use Rattle.cv_files.proofs.file.fill.Goals as goal
