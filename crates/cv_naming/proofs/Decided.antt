@@ -10,7 +10,7 @@ use Rattle.cv_rules.specs.declared.role.Role.TheVariants.{Declares, Asks, BindsL
 use Rattle.cv_rules.specs.Names.{Uses, as_bare, as_call, binds_variable, cell_known_in as cell_known_there, declares, is_declared, is_free, is_function, is_own, is_used, is_variable, known_in as known_there, obeys, part_from, same_asked}
 use Rattle.cv_naming.specs.declared.table.Entry.{Entry}
 use Rattle.cv_naming.specs.declared.table.Scope.{Scope}
-use Rattle.cv_naming.specs.Table.{called, bare, cell_known_in, goes_on_as_call, goes_on_bare, is_since, known_in, name_obeys, next_of, was_declared}
+use Rattle.cv_naming.specs.Table.{called, bare, cell_known_in, goes_on_as_call, goes_on_bare, is_since, known_in, name_obeys, next_of, stands_as_function, was_declared}
 use Rattle.cv_naming.proofs.Entries.{IsKnown}
 
 not-or : (b c : Bool) → not (b || c) ≡ (not b && not c)
@@ -42,16 +42,18 @@ variable_there before behind u x start e n k = k.variable_somewhere ∙ around b
 
 -- a name of a term
 
-other_known : (before behind : Uses) (x start : ℕ) (all : Uses) (e : Entry) → IsKnown all before x start e → (was_declared AFunction e.declared || (not (goes_on_as_call (next_of behind)) && is_since start e.bound_at)) ≡ known_there None before behind x
-other_known before behind x start all e k = ap3 (λ f c o. f || (not c && o)) (k.asked AFunction) (call_follows behind) k.own
+other_known : (before behind : Uses) (x start : ℕ) (all : Uses) (e : Entry) → IsKnown all before x start e → (stands_as_function e (next_of behind) || (not (goes_on_as_call (next_of behind)) && is_since start e.bound_at)) ≡ known_there None before behind x
+other_known before behind x start all e k =
+    ap3 (λ c b f. ((c || b) && f) || (not c && is_since start e.bound_at)) (call_follows behind) (bare_follows behind) (k.asked AFunction)
+    ∙ ap (λ o. ((as_call behind || as_bare behind) && is_function before x) || (not (as_call behind) && o)) k.own
 
 mention_known : (q : Option Region) (before behind : Uses) (u : Use Role) (x start : ℕ) (e : Entry) → declares u.role ≡ false → binds_variable u.role ≡ false → IsKnown (before ++ u ∷ behind) before x start e → known_in q e start (next_of behind) ≡ known_there q before behind x
 mention_known (Some InProcess) before behind u x start e n v k =
     ap3 (λ c f b. if c then f else e.variable_somewhere || (b && (f || e.as_index))) (call_follows behind) (k.asked AFunction) (bare_follows behind)
     ∙ ap₂ (λ w i. if as_call behind then is_function before x else w || (as_bare behind && (is_function before x || i))) (variable_there before behind u x start e v k) k.as_index
 mention_known (Some InEquivalence) before behind u x start e n v k =
-    ap3 (λ o c f. if o then not c else f || not e.declared_somewhere) k.own (call_follows behind) (k.asked AFunction)
-    ∙ ap (λ f. if is_own before x then not (as_call behind) else is_function before x || f) (free_there before behind u x start e n k)
+    ap3 (λ c b f. if is_since start e.bound_at then not c else ((c || b) && f) || not e.declared_somewhere) (call_follows behind) (bare_follows behind) (k.asked AFunction)
+    ∙ ap₂ (λ o f. if o then not (as_call behind) else ((as_call behind || as_bare behind) && is_function before x) || f) k.own (free_there before behind u x start e n k)
 mention_known (Some InEquation) before behind u x start e n v k = other_known before behind x start (before ++ u ∷ behind) e k
 mention_known (Some InQuery) before behind u x start e n v k = other_known before behind x start (before ++ u ∷ behind) e k
 mention_known None before behind u x start e n v k = other_known before behind x start (before ++ u ∷ behind) e k

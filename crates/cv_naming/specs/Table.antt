@@ -86,12 +86,15 @@ declares_well e a = not (is_some e.declared) && (not (is_some e.bound_at) && (sa
 abbrev pub may_bound : Entry → Bool
 may_bound e = not (is_some e.declared) || was_declared AParam e.declared
 
+abbrev pub stands_as_function : Entry → Option Role → Bool
+stands_as_function e next = (goes_on_as_call next || goes_on_bare next) && was_declared AFunction e.declared
+
 abbrev pub known_in : Option Region → Entry → ℕ → Option Role → Bool
 known_in (Some InProcess) e start next =
     if goes_on_as_call next then was_declared AFunction e.declared
     else e.variable_somewhere || (goes_on_bare next && (was_declared AFunction e.declared || e.as_index))
-known_in (Some InEquivalence) e start next = if is_since start e.bound_at then not (goes_on_as_call next) else was_declared AFunction e.declared || not e.declared_somewhere
-known_in p e start next = was_declared AFunction e.declared || (not (goes_on_as_call next) && is_since start e.bound_at)
+known_in (Some InEquivalence) e start next = if is_since start e.bound_at then not (goes_on_as_call next) else stands_as_function e next || not e.declared_somewhere
+known_in p e start next = stands_as_function e next || (not (goes_on_as_call next) && is_since start e.bound_at)
 
 abbrev pub known : Entry → Scope → Option Role → Bool
 known e s next = known_in s.region e s.start next

@@ -1,6 +1,6 @@
 ghost use Rattle.std.specs.Prelude.{◌≡◌};
 ghost use Rattle.cv_rules.specs.Names.{same_asked};
-ghost use Rattle.cv_naming.specs.Table.{may_bound, cell_known, declares_well, goes_on_as_call, goes_on_bare, is_since, known, name_obeys, was_declared};
+ghost use Rattle.cv_naming.specs.Table.{may_bound, cell_known, declares_well, goes_on_as_call, goes_on_bare, is_since, known, name_obeys, stands_as_function, was_declared};
 
 use crate::table::{Entry, Scope};
 use cv_rules::{Asked, Region, Role};
@@ -55,6 +55,13 @@ fn is_bound_name(entry: Entry) -> bool
     entry.declared.is_none() || is_declared_as(entry.declared, Asked::AParam)
 }
 
+/// Whether a name is a function at its arguments, or alone.
+fn stands_as_function(entry: Entry, next: Option<Role>) -> bool
+    ensures { result ≡ stands_as_function entry next }
+{
+    (is_call(next) || is_bare(next)) && is_declared_as(entry.declared, Asked::AFunction)
+}
+
 /// Whether a name of a term is known.
 fn is_known(entry: Entry, scope: Scope, next: Option<Role>) -> bool
     ensures { result ≡ known entry scope next }
@@ -72,11 +79,11 @@ fn is_known(entry: Entry, scope: Scope, next: Option<Role>) -> bool
             if is_own(entry, scope) {
                 !is_call(next)
             } else {
-                is_function || !entry.declared_somewhere
+                stands_as_function(entry, next) || !entry.declared_somewhere
             }
         }
         Some(Region::InEquation | Region::InQuery) | None => {
-            is_function || (!is_call(next) && is_own(entry, scope))
+            stands_as_function(entry, next) || (!is_call(next) && is_own(entry, scope))
         }
     }
 }

@@ -114,6 +114,10 @@ is_function before x = is_used (declares_as AFunction) x before
 abbrev pub may_bound : (before : Uses) → ℕ → Bool
 may_bound before x = not (is_declared before x) || is_used (declares_as AParam) x before
 
+-- a function at its arguments, or alone; at indices a variable is asked for
+abbrev pub stands_as_function : (before behind : Uses) → ℕ → Bool
+stands_as_function before behind x = (as_call behind || as_bare behind) && is_function before x
+
 -- A name of a term is known: in the process a function at its arguments, else a variable, or alone a constant or an
 -- index that is bound before; in an equivalence a variable of its own, a function, or a name that nothing declares; in an
 -- equation or a query a function or a variable of its own.
@@ -121,8 +125,8 @@ abbrev pub known_in : Option Region → (before behind : Uses) → ℕ → Bool
 known_in (Some InProcess) before behind x =
     if as_call behind then is_function before x
     else is_variable before behind x || (as_bare behind && (is_function before x || is_used binds_index x before))
-known_in (Some InEquivalence) before behind x = if is_own before x then not (as_call behind) else is_function before x || is_free before behind x
-known_in p before behind x = is_function before x || (not (as_call behind) && is_own before x)
+known_in (Some InEquivalence) before behind x = if is_own before x then not (as_call behind) else stands_as_function before behind x || is_free before behind x
+known_in p before behind x = stands_as_function before behind x || (not (as_call behind) && is_own before x)
 
 -- the variable of a `defined` cell is known
 abbrev pub cell_known_in : Option Region → (before behind : Uses) → ℕ → Bool

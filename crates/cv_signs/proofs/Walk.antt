@@ -11,74 +11,90 @@ use Rattle.cv_lex.proofs.Pieces.{token_not_end}
 use Rattle.cv_grammar.specs.declared.sign.Mark.{Mark}
 use Rattle.cv_grammar.specs.declared.sign.Sign.{Sign}
 use Rattle.cv_grammar.specs.declared.sign.Sign.TheVariants as sign
+use Rattle.cv_signs.specs.declared.pass.Counts.{Counts}
 use Rattle.cv_signs.specs.Spelling.{mark_of_text}
-use Rattle.cv_signs.specs.Signs.{Step, join, go_on, token_step, text_step, word_step, signs_from, signs_of, place_of, with_name}
+use Rattle.cv_signs.specs.Signs.{Step, no_counts, one_find, join, go_on, step_before, unnamed_step, unnamed_name, is_unnamed, first_text, token_step, text_step, word_step, signs_from, signs_of, place_of, with_name}
 use Rattle.cv_signs.proofs.Naming.{length-with_name}
 
--- a token adds at most one name and one `find` word
-pub record IsSmall (names : List (List ℕ)) (finds : ℕ) (s : Step) : Type 0 where
+-- a token adds at most one name, one `find` word and one collision without a name
+pub record IsSmall (names : List (List ℕ)) (counts : Counts) (s : Step) : Type 0 where
   pub names_more : length s.names ≤ length names + 1
-  pub finds_more : s.finds ≤ finds + 1
+  pub finds_more : s.counts.finds ≤ counts.finds + 1
+  pub unnamed_more : s.counts.unnamed ≤ counts.unnamed + 1
 
-small_word : (names : List (List ℕ)) (finds : ℕ) (text : List ℕ) → IsSmall names finds (word_step names finds text)
-small_word names finds text =
-    elim (bytes_eq text (codes "find")) as (λ b. IsSmall names finds (if b then (record { signs = sign.Find (suc finds) ∷ []; names = names; finds = suc finds }) else (record { signs = sign.Word (place_of names text) ∷ []; names = with_name names text; finds = finds }))) [
-      | true ↦ record { names_more = omega arith; finds_more = omega arith }
-      | false ↦ record { names_more = length-with_name names text; finds_more = omega arith }
+small_word : (names : List (List ℕ)) (counts : Counts) (text : List ℕ) → IsSmall names counts (word_step names counts text)
+small_word names counts text =
+    elim (bytes_eq text (codes "find")) as (λ b. IsSmall names counts (if b then (record { signs = sign.Find (suc counts.finds) ∷ []; names = names; counts = one_find counts }) else (record { signs = sign.Word (place_of names text) ∷ []; names = with_name names text; counts = counts }))) [
+      | true ↦ record { names_more = omega arith; finds_more = omega arith; unnamed_more = omega arith }
+      | false ↦ record { names_more = length-with_name names text; finds_more = omega arith; unnamed_more = omega arith }
     ]
 
-small_text : (names : List (List ℕ)) (finds : ℕ) (text : List ℕ) (m : Option Mark) → IsSmall names finds (text_step names finds text m)
-small_text names finds text (Some m) = record { names_more = omega arith; finds_more = omega arith }
-small_text names finds text None = small_word names finds text
+small_text : (names : List (List ℕ)) (counts : Counts) (text : List ℕ) (m : Option Mark) → IsSmall names counts (text_step names counts text m)
+small_text names counts text (Some m) = record { names_more = omega arith; finds_more = omega arith; unnamed_more = omega arith }
+small_text names counts text None = small_word names counts text
 
-pub small : (names : List (List ℕ)) (finds : ℕ) (k : TokenKind) (text : List ℕ) → IsSmall names finds (token_step names finds k text)
-small names finds kind.Ident text = small_text names finds text (mark_of_text text)
-small names finds kind.Symbol text = small_text names finds text (mark_of_text text)
-small names finds (kind.Number v) text = record { names_more = omega arith; finds_more = omega arith }
-small names finds kind.End text = record { names_more = omega arith; finds_more = omega arith }
+small_token : (names : List (List ℕ)) (counts : Counts) (k : TokenKind) (text : List ℕ) → IsSmall names counts (token_step names counts k text)
+small_token names counts kind.Ident text = small_text names counts text (mark_of_text text)
+small_token names counts kind.Symbol text = small_text names counts text (mark_of_text text)
+small_token names counts (kind.Number v) text = record { names_more = omega arith; finds_more = omega arith; unnamed_more = omega arith }
+small_token names counts kind.End text = record { names_more = omega arith; finds_more = omega arith; unnamed_more = omega arith }
+
+pub small : (names : List (List ℕ)) (counts : Counts) (k : TokenKind) (text next : List ℕ) → IsSmall names counts (step_before names counts k text next)
+small names counts k text next =
+    elim (is_unnamed text next) as (λ b. IsSmall names counts (if b then unnamed_step names counts else token_step names counts k text)) [
+      | true ↦ record { names_more = length-with_name names (unnamed_name (suc counts.unnamed)); finds_more = omega arith; unnamed_more = omega arith }
+      | false ↦ small_token names counts k text
+    ]
 
 -- the pass at a token, by its step
-pub signs_from-cons : (names : List (List ℕ)) (finds : ℕ) (t : Token) (ts : List Token) (s : Step) → token_step names finds t.kind t.text ≡ s → signs_from names finds (t ∷ ts) ≡ join s.signs (signs_from s.names s.finds ts)
+pub signs_from-cons : (names : List (List ℕ)) (counts : Counts) (t : Token) (ts : List Token) (s : Step) → step_before names counts t.kind t.text (first_text ts) ≡ s → signs_from names counts (t ∷ ts) ≡ join s.signs (signs_from s.names s.counts ts)
 unfolding signs_from
-signs_from-cons names finds t ts s e = ap (go_on (λ n f. signs_from n f ts)) e
+signs_from-cons names counts t ts s e = ap (go_on (λ n c. signs_from n c ts)) e
 
 -- so far the pass is done: what is left gives the rest
-pub record IsReached (ts : List Token) (signs : List Sign) (names : List (List ℕ)) (finds k : ℕ) : Type 0 where
-  pub all : signs_of ts ≡ join signs (signs_from names finds (drop k ts))
+pub record IsReached (ts : List Token) (signs : List Sign) (names : List (List ℕ)) (counts : Counts) (k : ℕ) : Type 0 where
+  pub all : signs_of ts ≡ join signs (signs_from names counts (drop k ts))
   pub names_few : length names ≤ k + 1
-  pub finds_few : finds ≤ k
+  pub finds_few : counts.finds ≤ k
+  pub unnamed_few : counts.unnamed ≤ k
   pub count : length signs ≡ k
 
-pub reached_first : (ts : List Token) → IsReached ts [] (codes "bool" ∷ []) 0 0
-reached_first ts = record { all = refl; names_few = omega arith; finds_few = omega arith; count = refl }
+pub reached_first : (ts : List Token) → IsReached ts [] (codes "bool" ∷ []) no_counts 0
+reached_first ts = record { all = refl; names_few = omega arith; finds_few = omega arith; unnamed_few = omega arith; count = refl }
 
-pub reached_next : (ts : List Token) (signs : List Sign) (names : List (List ℕ)) (finds k : ℕ) → IsReached ts signs names finds k → k < length ts → (s : Sign) (names' : List (List ℕ)) (finds' : ℕ) → token_step names finds (token_at ts k).kind (token_at ts k).text ≡ record { signs = s ∷ []; names = names'; finds = finds' } → IsReached ts (signs ++ s ∷ []) names' finds' (k + 1)
-reached_next ts signs names finds k r h s names' finds' e =
-    let few = small names finds (token_at ts k).kind (token_at ts k).text in
-    let same_names : length (token_step names finds (token_at ts k).kind (token_at ts k).text).names ≡ length names' = ap (λ (x : Step). length x.names) e in
-    let same_finds : (token_step names finds (token_at ts k).kind (token_at ts k).text).finds ≡ finds' = ap (λ (x : Step). x.finds) e in
+pub reached_next : (ts : List Token) (signs : List Sign) (names : List (List ℕ)) (counts : Counts) (k : ℕ) → IsReached ts signs names counts k → k < length ts → (s : Sign) (names' : List (List ℕ)) (counts' : Counts) → step_before names counts (token_at ts k).kind (token_at ts k).text (first_text (drop (k + 1) ts)) ≡ record { signs = s ∷ []; names = names'; counts = counts' } → IsReached ts (signs ++ s ∷ []) names' counts' (k + 1)
+reached_next ts signs names counts k r h s names' counts' e =
+    let next : List ℕ = first_text (drop (k + 1) ts) in
+    let few = small names counts (token_at ts k).kind (token_at ts k).text next in
+    let same_names : length (step_before names counts (token_at ts k).kind (token_at ts k).text next).names ≡ length names' = ap (λ (x : Step). length x.names) e in
+    let same_finds : (step_before names counts (token_at ts k).kind (token_at ts k).text next).counts.finds ≡ counts'.finds = ap (λ (x : Step). x.counts.finds) e in
+    let same_unnamed : (step_before names counts (token_at ts k).kind (token_at ts k).text next).counts.unnamed ≡ counts'.unnamed = ap (λ (x : Step). x.counts.unnamed) e in
     let here : drop k ts ≡ token_at ts k ∷ drop (k + 1) ts = drop_more ts k (end_token 0) h in
     record {
-      all = r.all ∙ ap (λ l. join signs (signs_from names finds l)) here ∙ ap (join signs) (signs_from-cons names finds (token_at ts k) (drop (k + 1) ts) (record { signs = s ∷ []; names = names'; finds = finds' }) e) ∙ ap (λ l. record { signs = l; names = (signs_from names' finds' (drop (k + 1) ts)).names }) (sym (append_assoc signs (s ∷ []) (signs_from names' finds' (drop (k + 1) ts)).signs));
+      all = r.all ∙ ap (λ l. join signs (signs_from names counts l)) here ∙ ap (join signs) (signs_from-cons names counts (token_at ts k) (drop (k + 1) ts) (record { signs = s ∷ []; names = names'; counts = counts' }) e) ∙ ap (λ l. record { signs = l; names = (signs_from names' counts' (drop (k + 1) ts)).names }) (sym (append_assoc signs (s ∷ []) (signs_from names' counts' (drop (k + 1) ts)).signs));
       names_few = omega (arith, few.names_more, r.names_few, same_names);
       finds_few = omega (arith, few.finds_more, r.finds_few, same_finds);
+      unnamed_few = omega (arith, few.unnamed_more, r.unnamed_few, same_unnamed);
       count = length_push signs s ∙ ap (λ n. n + 1) r.count;
     }
 
 -- one more sign is pushed
-pub reached_push : (ts : List Token) (signs : List Sign) (names : List (List ℕ)) (finds k : ℕ) → IsReached ts signs names finds k → k < length ts → (w : TokenKind) (text : List ℕ) → w ≡ (token_at ts k).kind → text ≡ (token_at ts k).text → (s : Sign) (names' : List (List ℕ)) (finds' : ℕ) → token_step names finds w text ≡ record { signs = s ∷ []; names = names'; finds = finds' } → (signs' : List Sign) → signs' ≡ signs ++ s ∷ [] → IsReached ts signs' names' finds' (k + 1)
-reached_push ts signs names finds k r h w text kind_is text_is s names' finds' e signs' pushed =
-    let step : token_step names finds (token_at ts k).kind (token_at ts k).text ≡ record { signs = s ∷ []; names = names'; finds = finds' } = ap (λ v. token_step names finds v (token_at ts k).text) (sym kind_is) ∙ ap (token_step names finds w) (sym text_is) ∙ e in
-    subst (λ l. IsReached ts l names' finds' (k + 1)) (sym pushed) (reached_next ts signs names finds k r h s names' finds' step)
+pub reached_push : (ts : List Token) (signs : List Sign) (names : List (List ℕ)) (counts : Counts) (k : ℕ) → IsReached ts signs names counts k → k + 1 < length ts → (w : TokenKind) (text next : List ℕ) → w ≡ (token_at ts k).kind → text ≡ (token_at ts k).text → next ≡ (token_at ts (k + 1)).text → (s : Sign) (names' : List (List ℕ)) (counts' : Counts) → step_before names counts w text next ≡ record { signs = s ∷ []; names = names'; counts = counts' } → (signs' : List Sign) → signs' ≡ signs ++ s ∷ [] → IsReached ts signs' names' counts' (k + 1)
+reached_push ts signs names counts k r h w text next kind_is text_is next_is s names' counts' e signs' pushed =
+    let ahead : first_text (drop (k + 1) ts) ≡ next = ap first_text (drop_more ts (k + 1) (end_token 0) h) ∙ sym next_is in
+    let step : step_before names counts (token_at ts k).kind (token_at ts k).text (first_text (drop (k + 1) ts)) ≡ record { signs = s ∷ []; names = names'; counts = counts' } =
+    ap (λ v. step_before names counts v (token_at ts k).text (first_text (drop (k + 1) ts))) (sym kind_is) ∙ ap (λ v. step_before names counts w v (first_text (drop (k + 1) ts))) (sym text_is) ∙ ap (step_before names counts w text) ahead ∙ e
+    in
+    subst (λ l. IsReached ts l names' counts' (k + 1)) (sym pushed) (reached_next ts signs names counts k r (omega arith) s names' counts' step)
 
 -- before the end token the pass is over
-pub reached_last : (ts : List Token) (are : AreTokens ts) (signs : List Sign) (names : List (List ℕ)) (finds k : ℕ) → IsReached ts signs names finds k → k + 1 ≡ length ts → signs_of ts ≡ record { signs = signs; names = names }
+pub reached_last : (ts : List Token) (are : AreTokens ts) (signs : List Sign) (names : List (List ℕ)) (counts : Counts) (k : ℕ) → IsReached ts signs names counts k → k + 1 ≡ length ts → signs_of ts ≡ record { signs = signs; names = names }
 unfolding signs_from
-reached_last ts are signs names finds k r h =
+reached_last ts are signs names counts k r h =
     let below : k < length ts = omega arith in
     let none : drop (k + 1) ts ≡ [] = drop_all (k + 1) ts (omega arith) in
     let here : drop k ts ≡ end_token are.end ∷ [] = drop_more ts k (end_token 0) below ∙ ap (λ t. t ∷ drop (k + 1) ts) (last_token ts are k h) ∙ ap (λ l. end_token are.end ∷ l) none in
-    r.all ∙ ap (λ l. join signs (signs_from names finds l)) here ∙ ap (λ l. record { signs = l; names = names }) (append-nil signs)
+    r.all ∙ ap (λ l. join signs (signs_from names counts l)) here ∙ ap (λ l. record { signs = l; names = names }) (append-nil signs)
 
 -- before the end token no token is one
 pub no_end_yet : (ts : List Token) → AreTokens ts → (k : ℕ) → k + 1 < length ts → (w : TokenKind) → w ≡ (token_at ts k).kind → w ≡ kind.End → ⊥

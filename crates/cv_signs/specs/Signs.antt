@@ -1,6 +1,7 @@
 -- The signs of tokens, and the names in them.
-use Rattle.std.specs.Prelude.{◌≡◌, ℕ, suc, ◌+◌, ◌<◌, if◌then◌else◌, List, [], ◌∷◌, ◌++◌, Option, Some, None, codes, length, slice_get}
+use Rattle.std.specs.Prelude.{◌≡◌, ℕ, suc, ◌+◌, ◌<◌, ◌≤◌, Bool, ◌&&◌, if◌then◌else◌, List, [], ◌∷◌, ◌++◌, Option, Some, None, codes, length, slice_get}
 use Rattle.std.specs.Str.{bytes_eq}
+use Rattle.std.specs.Fmt.{decimal}
 use Rattle.cv_lex.specs.declared.TokenKind.{TokenKind}
 use Rattle.cv_lex.specs.declared.TokenKind.TheVariants as kind
 use Rattle.cv_lex.specs.Lexis.{Token}
@@ -8,6 +9,7 @@ use Rattle.cv_lex.specs.View.{token_at}
 use Rattle.cv_grammar.specs.declared.sign.Mark.{Mark}
 use Rattle.cv_grammar.specs.declared.sign.Sign.{Sign}
 use Rattle.cv_grammar.specs.declared.sign.Sign.TheVariants as sign
+use Rattle.cv_signs.specs.declared.pass.Counts.{Counts}
 use Rattle.cv_signs.specs.Spelling.{spelling, mark_of_text}
 
 -- the place of a text among names, or their number where it isn't there
@@ -20,30 +22,67 @@ abbrev pub with_name : List (List ℕ) → List ℕ → List (List ℕ)
 with_name [] text = text ∷ []
 with_name (name ∷ names) text = if bytes_eq name text then name ∷ names else name ∷ with_name names text
 
--- the signs of one token, and the names and the number of `find` words behind it
+-- no words are counted yet
+abbrev pub no_counts : Counts
+no_counts = record { finds = 0; unnamed = 0 }
+
+-- one more `find` word
+abbrev pub one_find : Counts → Counts
+one_find counts = record { finds = suc counts.finds; unnamed = counts.unnamed }
+
+-- one more collision without a name
+abbrev pub one_unnamed : Counts → Counts
+one_unnamed counts = record { finds = counts.finds; unnamed = suc counts.unnamed }
+
+-- the signs of one token, and the names and counts behind it
 pub record Step : Type 0 where
   pub signs : List Sign
   pub names : List (List ℕ)
-  pub finds : ℕ
+  pub counts : Counts
 
 -- a word that is no mark: `find`, or a name
-abbrev pub word_step : List (List ℕ) → ℕ → List ℕ → Step
-word_step names finds text =
+abbrev pub word_step : List (List ℕ) → Counts → List ℕ → Step
+word_step names counts text =
     if bytes_eq text (codes "find")
-    then (record { signs = sign.Find (suc finds) ∷ []; names = names; finds = suc finds })
-    else (record { signs = sign.Word (place_of names text) ∷ []; names = with_name names text; finds = finds })
+    then (record { signs = sign.Find (suc counts.finds) ∷ []; names = names; counts = one_find counts })
+    else (record { signs = sign.Word (place_of names text) ∷ []; names = with_name names text; counts = counts })
 
 -- an identifier or a symbol, by the mark that is written so
-abbrev pub text_step : List (List ℕ) → ℕ → List ℕ → Option Mark → Step
-text_step names finds text (Some m) = record { signs = sign.Mark m ∷ []; names = names; finds = finds }
-text_step names finds text None = word_step names finds text
+abbrev pub text_step : List (List ℕ) → Counts → List ℕ → Option Mark → Step
+text_step names counts text (Some m) = record { signs = sign.Mark m ∷ []; names = names; counts = counts }
+text_step names counts text None = word_step names counts text
 
 -- a token; the end token has no sign
-abbrev pub token_step : List (List ℕ) → ℕ → TokenKind → List ℕ → Step
-token_step names finds kind.Ident text = text_step names finds text (mark_of_text text)
-token_step names finds kind.Symbol text = text_step names finds text (mark_of_text text)
-token_step names finds (kind.Number value) text = record { signs = sign.Number value ∷ []; names = names; finds = finds }
-token_step names finds kind.End text = record { signs = []; names = names; finds = finds }
+abbrev pub token_step : List (List ℕ) → Counts → TokenKind → List ℕ → Step
+token_step names counts kind.Ident text = text_step names counts text (mark_of_text text)
+token_step names counts kind.Symbol text = text_step names counts text (mark_of_text text)
+token_step names counts (kind.Number value) text = record { signs = sign.Number value ∷ []; names = names; counts = counts }
+token_step names counts kind.End text = record { signs = []; names = names; counts = counts }
+
+-- the word `collision` before the word `new`: a collision without a name
+abbrev pub is_unnamed : (text next : List ℕ) → Bool
+is_unnamed text next = bytes_eq text (codes "collision") && bytes_eq next (codes "new")
+
+-- the name of the k-th collision without one
+abbrev pub unnamed_name : ℕ → List ℕ
+unnamed_name k = codes "collision_" ++ decimal k
+
+-- the next collision without a name
+abbrev pub unnamed_step : List (List ℕ) → Counts → Step
+unnamed_step names counts = record {
+  signs = sign.Unnamed (place_of names (unnamed_name (suc counts.unnamed))) ∷ [];
+  names = with_name names (unnamed_name (suc counts.unnamed));
+  counts = one_unnamed counts;
+}
+
+-- a token before the next one's text
+abbrev pub step_before : List (List ℕ) → Counts → TokenKind → (text next : List ℕ) → Step
+step_before names counts kind text next = if is_unnamed text next then unnamed_step names counts else token_step names counts kind text
+
+-- the text of the first token, or none
+abbrev pub first_text : List Token → List ℕ
+first_text [] = []
+first_text (t ∷ ts) = t.text
 
 -- the signs of tokens, and all names behind them
 pub record Signed : Type 0 where
@@ -55,24 +94,24 @@ abbrev pub join : List Sign → Signed → Signed
 join front rest = record { signs = front ++ rest.signs; names = rest.names }
 
 -- a step, and what comes behind it
-abbrev pub go_on : (List (List ℕ) → ℕ → Signed) → Step → Signed
-go_on rest s = join s.signs (rest s.names s.finds)
+abbrev pub go_on : (List (List ℕ) → Counts → Signed) → Step → Signed
+go_on rest s = join s.signs (rest s.names s.counts)
 
--- the signs of tokens, where these names and so many `find` words stand before them
-unfoldable pub signs_from : List (List ℕ) → ℕ → List Token → Signed
-signs_from names finds [] = record { signs = []; names = names }
-signs_from names finds (t ∷ ts) = go_on (λ n f. signs_from n f ts) (token_step names finds t.kind t.text)
+-- the signs of tokens, where these names and so many counted words stand before them
+unfoldable pub signs_from : List (List ℕ) → Counts → List Token → Signed
+signs_from names counts [] = record { signs = []; names = names }
+signs_from names counts (t ∷ ts) = go_on (λ n c. signs_from n c ts) (step_before names counts t.kind t.text (first_text ts))
 
 -- the signs of a text's tokens; the name `bool` is number 0
 abbrev pub signs_of : List Token → Signed
-signs_of ts = signs_from (codes "bool" ∷ []) 0 ts
+signs_of ts = signs_from (codes "bool" ∷ []) no_counts ts
 
 -- a sign says what its token says; a number stands for the text at its place among the names
 abbrev pub Tells : List (List ℕ) → Token → Sign → Type 0
 Tells names t (sign.Word n) = (slice_get names n ≡ Some t.text) × (mark_of_text t.text ≡ None)
 Tells names t (sign.Number value) = t.kind ≡ kind.Number value
 Tells names t (sign.Find n) = t.text ≡ codes "find"
-Tells names t (sign.Unnamed n) = ⊥
+Tells names t (sign.Unnamed n) = (t.text ≡ codes "collision") × ((k : ℕ) × (1 ≤ k) × (slice_get names n ≡ Some (unnamed_name k)))
 Tells names t (sign.Mark m) = t.text ≡ spelling m
 
 -- each token but the end token has a sign that says the same, in the same order

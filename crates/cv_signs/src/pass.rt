@@ -4,7 +4,7 @@ ghost use Rattle.std.specs.Prelude.{◌≡◌, ◌≢◌, ◌+◌, ◌<◌, ◌^
 ghost use Rattle.cv_lex.specs.Lexis.{Token};
 ghost use Rattle.cv_lex.specs.View.{AreTokens};
 ghost use Rattle.cv_names.specs.Texts.{NoRepeat};
-ghost use Rattle.cv_signs.specs.Signs.{place_of, with_name, token_step, text_step, signs_of, TellInOrder, NumberBelow};
+ghost use Rattle.cv_signs.specs.Signs.{place_of, with_name, step_before, token_step, text_step, unnamed_step, signs_of, TellInOrder, NumberBelow};
 ghost use Rattle.cv_signs.specs.Spelling.{mark_of_text};
 
 use crate::marks::spelled;
@@ -12,6 +12,13 @@ use cv_grammar::Sign;
 use cv_lex::{TokenKind, Tokens};
 use cv_syntax::{NameError, Names};
 use std::alloc::{AllocError, Global};
+
+// How many words of two kinds were read: `find`, and `collision` before `new`.
+#[derive(Clone, Copy)]
+struct Counts {
+    finds: u64,
+    unnamed: u64,
+}
 
 // The number of a text among the names, to which it is added where it isn't there yet.
 fn number_of(names: &mut Names, text: &str) -> Result<u32, AllocError>
@@ -27,17 +34,17 @@ fn number_of(names: &mut Names, text: &str) -> Result<u32, AllocError>
 }
 
 // The sign of an identifier or a symbol.
-fn text_sign(names: &mut Names, finds: &mut u64, text: &str) -> Result<Sign, AllocError>
+fn text_sign(names: &mut Names, counts: &mut Counts, text: &str) -> Result<Sign, AllocError>
     requires names { length names.old + 1 < 2 ^ 32 }
-    requires finds { finds.old + 1 < 2 ^ 64 }
-    ensures { IfOk result (λ s. text_step names.old finds.old text.now (mark_of_text text.now) ≡ record { signs = s ∷ []; names = names.new; finds = finds.new }) }
+    requires finds { counts.old.finds + 1 < 2 ^ 64 }
+    ensures { IfOk result (λ s. text_step names.old counts.old text.now (mark_of_text text.now) ≡ record { signs = s ∷ []; names = names.new; counts = counts.new }) }
 {
     if let Some(mark) = spelled(text) {
         return Ok(Sign::Mark(mark));
     }
     if text == "find" {
-        *finds += 1;
-        return Ok(Sign::Find(*finds));
+        counts.finds += 1;
+        return Ok(Sign::Find(counts.finds));
     }
     Ok(Sign::Word(number_of(names, text)?))
 }
@@ -45,19 +52,53 @@ fn text_sign(names: &mut Names, finds: &mut u64, text: &str) -> Result<Sign, All
 // The sign of a token.
 fn token_sign(
     names: &mut Names,
-    finds: &mut u64,
+    counts: &mut Counts,
     kind: TokenKind,
     text: &str,
 ) -> Result<Sign, AllocError>
     requires names { length names.old + 1 < 2 ^ 32 }
-    requires finds { finds.old + 1 < 2 ^ 64 }
+    requires finds { counts.old.finds + 1 < 2 ^ 64 }
     requires inner { kind ≢ TokenKind.End }
-    ensures { IfOk result (λ s. token_step names.old finds.old kind text.now ≡ record { signs = s ∷ []; names = names.new; finds = finds.new }) }
+    ensures { IfOk result (λ s. token_step names.old counts.old kind text.now ≡ record { signs = s ∷ []; names = names.new; counts = counts.new }) }
 {
     match kind {
-        TokenKind::Ident | TokenKind::Symbol => text_sign(names, finds, text),
+        TokenKind::Ident | TokenKind::Symbol => text_sign(names, counts, text),
         TokenKind::Number(value) => Ok(Sign::Number(value)),
         TokenKind::End => unreachable!(),
+    }
+}
+
+// The sign of the next collision without a name.
+fn unnamed_sign(alloc: Global, names: &mut Names, counts: &mut Counts) -> Result<Sign, AllocError>
+    requires names { length names.old + 1 < 2 ^ 32 }
+    requires unnamed { counts.old.unnamed + 1 < 2 ^ 64 }
+    ensures { IfOk result (λ s. unnamed_step names.old counts.old ≡ record { signs = s ∷ []; names = names.new; counts = counts.new }) }
+{
+    counts.unnamed += 1;
+    let number = counts.unnamed;
+    let name = format!(in alloc; "collision_{number}")?;
+    Ok(Sign::Unnamed(number_of(names, name.as_str())?))
+}
+
+// The sign of a token before the next one's text.
+fn sign_before(
+    alloc: Global,
+    names: &mut Names,
+    counts: &mut Counts,
+    kind: TokenKind,
+    text: &str,
+    next: &str,
+) -> Result<Sign, AllocError>
+    requires names { length names.old + 1 < 2 ^ 32 }
+    requires finds { counts.old.finds + 1 < 2 ^ 64 }
+    requires unnamed { counts.old.unnamed + 1 < 2 ^ 64 }
+    requires inner { kind ≢ TokenKind.End }
+    ensures { IfOk result (λ s. step_before names.old counts.old kind text.now next.now ≡ record { signs = s ∷ []; names = names.new; counts = counts.new }) }
+{
+    if text == "collision" && next == "new" {
+        unnamed_sign(alloc, names, counts)
+    } else {
+        token_sign(names, counts, kind, text)
     }
 }
 
@@ -76,9 +117,14 @@ fn signs_in_order(
     let count = tokens.len() - 1;
     number_of(names, "bool")?;
     let mut signs = Vec::with_capacity(alloc, count as usize)?;
-    let mut finds = 0u64;
+    let mut counts = Counts {
+        finds: 0,
+        unnamed: 0,
+    };
     for k in 0..count {
-        let sign = token_sign(names, &mut finds, tokens.kind(k), tokens.text(k))?;
+        let text = tokens.text(k);
+        let next = tokens.text(k + 1);
+        let sign = sign_before(alloc, names, &mut counts, tokens.kind(k), text, next)?;
         signs.push(sign)?;
     }
     Ok(signs)

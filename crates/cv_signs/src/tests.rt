@@ -143,3 +143,71 @@ fn many_names(rt: HostRuntime) -> Result<(), Fail> {
     assert_eq!(rt; name(&names, 200000), "a199999");
     Ok(())
 }
+
+// The sign at a place, or a number that the texts don't have.
+fn sign_at(signs: &[Sign], place: usize) -> Sign {
+    match signs.get(place) {
+        Some(sign) => *sign,
+        None => Sign::Number(999),
+    }
+}
+
+#[test]
+fn collisions_without_names_are_counted(rt: HostRuntime) -> Result<(), Fail> {
+    let mut names = Names::new(rt.alloc());
+    let text = "proba p. collision new k: bool; true <=(p)=> true. \
+        collision h new k: bool; true <=(p)=> true. \
+        collision new k: bool; true <=(p)=> true.";
+    let found = signs_of_text(&rt, rt.alloc(), &mut names, text)?;
+    let signs = found.as_slice();
+    assert_eq!(rt; signs.len(), 46);
+    assert_eq!(rt; sign_at(signs, 3), Sign::Unnamed(2));
+    assert_eq!(rt; sign_at(signs, 4), Sign::Mark(Mark::New));
+    assert_eq!(rt; sign_at(signs, 17), Sign::Mark(Mark::Collision));
+    assert_eq!(rt; sign_at(signs, 18), Sign::Word(4));
+    assert_eq!(rt; sign_at(signs, 32), Sign::Unnamed(5));
+    assert_eq!(rt; names.len(), 6);
+    assert_eq!(rt; name(&names, 2), "collision_1");
+    assert_eq!(rt; name(&names, 4), "h");
+    assert_eq!(rt; name(&names, 5), "collision_2");
+    Ok(())
+}
+
+#[test]
+fn a_declared_name_is_a_collision(rt: HostRuntime) -> Result<(), Fail> {
+    let mut names = Names::new(rt.alloc());
+    let text = "type collision_1. collision new collision new";
+    let found = signs_of_text(&rt, rt.alloc(), &mut names, text)?;
+    let wanted = [
+        Sign::Mark(Mark::TypeWord),
+        Sign::Word(1),
+        Sign::Mark(Mark::Dot),
+        Sign::Unnamed(1),
+        Sign::Mark(Mark::New),
+        Sign::Unnamed(2),
+        Sign::Mark(Mark::New),
+    ];
+    assert_eq!(rt; found.as_slice(), wanted.as_slice());
+    assert_eq!(rt; names.len(), 3);
+    assert_eq!(rt; name(&names, 1), "collision_1");
+    assert_eq!(rt; name(&names, 2), "collision_2");
+    Ok(())
+}
+
+#[test]
+fn a_collision_before_no_new_is_a_mark(rt: HostRuntime) -> Result<(), Fail> {
+    let mut names = Names::new(rt.alloc());
+    let text = "collision news collision ; new collision";
+    let found = signs_of_text(&rt, rt.alloc(), &mut names, text)?;
+    let wanted = [
+        Sign::Mark(Mark::Collision),
+        Sign::Word(1),
+        Sign::Mark(Mark::Collision),
+        Sign::Mark(Mark::Semicolon),
+        Sign::Mark(Mark::New),
+        Sign::Mark(Mark::Collision),
+    ];
+    assert_eq!(rt; found.as_slice(), wanted.as_slice());
+    assert_eq!(rt; names.len(), 2);
+    Ok(())
+}

@@ -205,6 +205,24 @@ fn equations_and_collisions(rt: HostRuntime) -> Result<(), Fail> {
                 Syntax(18),
             ),
             ("collision h new k: bool; true. process 0", Syntax(8)),
+            ("collision new k: bool;", Syntax(6)),
+            (
+                "collision new k: bool, true <=(p)=> true. process 0",
+                Syntax(5),
+            ),
+            (
+                "collision new k: bool; forall x: bool; new y: bool; true <=(p)=> true. process 0",
+                Syntax(11),
+            ),
+            (
+                "collision new k: bool; true <= p => true. process 0",
+                Syntax(8),
+            ),
+            (
+                "collision new k: bool; true <=()=> true. process 0",
+                Syntax(9),
+            ),
+            ("collision new k: bool; true. process 0", Syntax(7)),
         ],
     )
 }

@@ -23,6 +23,14 @@ fn names_declared_twice(rt: HostRuntime) -> Result<(), Fail> {
                 NameTwice(7),
             ),
             (
+                "proba p. event collision_1. collision new k: bool; true <=(p)=> true. process 0",
+                NameTwice(6),
+            ),
+            (
+                "proba p. collision new k: bool; true <=(p)=> true. const collision_1: bool. process 0",
+                NameTwice(18),
+            ),
+            (
                 "equation forall x: bool; x. type x. process 0",
                 NameTwice(9),
             ),
@@ -141,6 +149,22 @@ fn names_unknown_in_declarations(rt: HostRuntime) -> Result<(), Fail> {
             (
                 "proba p. equiv e !i <= n new r: bool; (O: () -> y) <=(p)=> !i <= n new r: bool; (O: () -> r). const y: bool. process 0",
                 NameUnknown(20),
+            ),
+            (
+                "fun f(bool): bool. equation f[true]. process 0",
+                NameUnknown(9),
+            ),
+            (
+                "const k: bool. equation k[true]. process 0",
+                NameUnknown(6),
+            ),
+            (
+                "fun f(bool): bool. event e(bool). query x: bool; event e(f[x]) ==> event e(x). process 0",
+                NameUnknown(22),
+            ),
+            (
+                "fun f(bool): bool. proba p. equiv e !i <= n new r: bool; (O: () -> f[i]) <=(p)=> !i <= n new r: bool; (O: () -> r). process 0",
+                NameUnknown(28),
             ),
             (
                 "proba p. channel c. equiv e !i <= n new r: bool; (O: () -> c) <=(p)=> !i <= n new r: bool; (O: () -> r). process 0",
@@ -273,6 +297,7 @@ fn names_that_are_known(rt: HostRuntime) -> Result<(), Fail> {
             "equation forall x: bool; x. equation forall x: bool; x. process 0",
             "channel c. fun f(bool): bool. process in(c, ()); if f then yield",
             "channel c. const k: bool. process in(c, ()); if k then yield",
+            "proba p. collision new k: bool; true <=(p)=> true. collision new k: bool; true <=(p)=> true. process 0",
         ],
     )
 }
