@@ -1,5 +1,5 @@
 /// What a node is, apart from its children.
-#[derive(Clone, Copy, Debug, PartialEq, Eq)]
+#[derive(Clone, Copy, Debug, PartialEq, Eq, Hash)]
 pub struct Kind {
     pub tag: u8,
     pub a: u32,
