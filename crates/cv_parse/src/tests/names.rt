@@ -154,10 +154,7 @@ fn names_unknown_in_declarations(rt: HostRuntime) -> Result<(), Fail> {
                 "fun f(bool): bool. equation f[true]. process 0",
                 NameUnknown(9),
             ),
-            (
-                "const k: bool. equation k[true]. process 0",
-                NameUnknown(6),
-            ),
+            ("const k: bool. equation k[true]. process 0", NameUnknown(6)),
             (
                 "fun f(bool): bool. event e(bool). query x: bool; event e(f[x]) ==> event e(x). process 0",
                 NameUnknown(22),
