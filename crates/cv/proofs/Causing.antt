@@ -19,11 +19,20 @@ use Rattle.cv_typing.specs.declared.fault.Fault.TheVariants as type
 use Rattle.cv_typing.specs.declared.fault.TypeFault.{TypeFault}
 use Rattle.cv_typing.specs.Parts.{IsFirstIn, Part, file_parts}
 use Rattle.cv_typing.specs.Refusals.{IsFirstRefusal, refusal}
-use Rattle.cv_typing.proofs.First.{finds_first_in}
+use Rattle.cv_typing.proofs.First.{finds_first_in, parts_typed_where_none}
+use Rattle.cv_scope.specs.declared.fault.Fault.{Fault as ScopeRules}
+use Rattle.cv_scope.specs.declared.fault.ScopeFault.{ScopeFault}
+use Rattle.cv_scope.specs.Refusals.{refusal as scope_refusal}
+use Rattle.cv_scope.specs.Scope.{first_scope_fault, names_of}
+use Rattle.cv_scope.specs.Standing.{at_root}
+use Rattle.cv_scope.proofs.First.{finds_first, scoped_where_none}
+use Rattle.cv_queries.specs.Queries.{queries_in}
+use Rattle.cv_queries.proofs.First.{finds-first as first_refused_is_first}
 use Rattle.cv_files.specs.declared.error.FileError.{FileError}
 use Rattle.cv_files.specs.declared.error.FileError.TheVariants as fault
-use Rattle.cv_files.specs.Accepted.{Content, content_of, is_built, of_form, of_parsed, of_script, of_tokens, of_types, read_of, type_fault}
-use Rattle.cv_files.specs.Typing.{queries_in}
+use Rattle.cv_files.specs.Accepted.{Content, has_equivalence, of_equivalences, of_parsed, of_queries, of_scopes, of_script, of_tokens, of_types, query_fault, read_of, scope_fault, type_fault}
+use Rattle.cv_files.specs.Places.{nodes_before}
+use Rattle.cv_files.proofs.Places.{behind_none, behind_some}
 use Rattle.cv_files.proofs.Readings.{read_is_file}
 use Rattle.cv_direct.specs.Search.{EntryTree}
 use Rattle.cv.specs.declared.report.FileFault.{FileFault}
@@ -32,58 +41,75 @@ use Rattle.cv.specs.declared.report.Status.{Status}
 use Rattle.cv.specs.declared.report.Status.TheVariants as status
 use Rattle.cv.specs.declared.report.Verdict.TheVariants.{Proved, NotProved}
 use Rattle.cv.specs.declared.report.Which.TheVariants.{Depth, File, Nodes, Pool, Steps}
-use Rattle.cv.specs.Causes.{Caused, HasManyClosed, HasTypeFault, IsTooDeep, OfTokens, closed_count}
+use Rattle.cv.specs.Causes.{Caused, HasManyClosed, HasQueryFault, HasScopeFault, HasTypeFault, IsTooDeep, OfTokens, closed_count}
 use Rattle.cv.specs.Faults.{parse_ended, status_of as ended_by}
-use Rattle.cv.specs.Strategy.{Judged, Said, certificate, closed_by, expected, is_closed, left_open, most_pool, most_steps, nothing_said, said_of, said_then, status_by, status_of}
+use Rattle.cv_direct.specs.Plain.{certificate}
+use Rattle.cv.specs.Strategy.{Judged, Said, closed_by, expected, is_closed, left_open, most_pool, most_steps, nothing_said, said_of, said_then, status_by, status_of}
 use Rattle.cv.proofs.Verdicts.{closed_some}
 
 -- bytes that are refused
 
-form_no_parse : (b : Bool) (c : Content) (x : ParseError) → (if b then Ok c else Err fault.Unbuilt) ≡ Err (fault.Parse x) → ⊥
-form_no_parse true c x e = cc
-form_no_parse false c x e = cc
+-- the order of the stages that refuse
+abbrev rank : FileError → ℕ
+rank (fault.Lex e) = 0
+rank (fault.Parse e) = 1
+rank (fault.Types e) = 2
+rank (fault.Scope e) = 3
+rank (fault.Query k) = 4
+rank fault.Unbuilt = 5
+rank fault.OutOfMemory = 6
 
-form_no_lex : (b : Bool) (c : Content) (x : LexError) → (if b then Ok c else Err fault.Unbuilt) ≡ Err (fault.Lex x) → ⊥
-form_no_lex true c x e = cc
-form_no_lex false c x e = cc
+queries_rank : (names : List (List ℕ)) (p : Parsed) (o : Option ℕ) (x : FileError) → of_queries names p o ≡ Err x → 4 ≤ rank x
+queries_rank names p None x e = absurd (cc)
+queries_rank names p (Some k) x e = let s : fault.Query k ≡ x = cc in subst (λ y. 4 ≤ rank y) s (omega arith)
 
-types_no_parse : (names : List (List ℕ)) (p : Parsed) (o : Option (ℕ × Fault)) (x : ParseError) → of_types names p o ≡ Err (fault.Parse x) → ⊥
-types_no_parse names p None x e = form_no_parse (is_built p) (content_of names p) x e
-types_no_parse names p (Some y) x e = cc
+equivalences_rank : (names : List (List ℕ)) (p : Parsed) (b : Bool) (x : FileError) → of_equivalences names p b ≡ Err x → 4 ≤ rank x
+equivalences_rank names p false x e = queries_rank names p (query_fault p) x e
+equivalences_rank names p true x e = let s : fault.Unbuilt ≡ x = cc in subst (λ y. 4 ≤ rank y) s (omega arith)
 
-types_no_lex : (names : List (List ℕ)) (p : Parsed) (o : Option (ℕ × Fault)) (x : LexError) → of_types names p o ≡ Err (fault.Lex x) → ⊥
-types_no_lex names p None x e = form_no_lex (is_built p) (content_of names p) x e
-types_no_lex names p (Some y) x e = cc
+scopes_rank : (names : List (List ℕ)) (p : Parsed) (o : Option (ℕ × ScopeRules)) (x : FileError) → of_scopes names p o ≡ Err x → 3 ≤ rank x
+scopes_rank names p None x e = let r = equivalences_rank names p (has_equivalence p.declarations) x e in omega arith
+scopes_rank names p (Some y) x e = let s : fault.Scope (scope_refusal y.0 y.1) ≡ x = cc in subst (λ y. 3 ≤ rank y) s (omega arith)
 
-script_no_parse : (names : List (List ℕ)) (p : Parsed) (s : Option (ℕ × ℕ)) (x : ParseError) → of_script names p s ≡ Err (fault.Parse x) → ⊥
-script_no_parse names p None x e = types_no_parse names p (type_fault p) x e
-script_no_parse names p (Some y) x e = cc
+types_rank : (names : List (List ℕ)) (p : Parsed) (o : Option (ℕ × Fault)) (x : FileError) → of_types names p o ≡ Err x → 2 ≤ rank x
+types_rank names p None x e = let r = scopes_rank names p (scope_fault p) x e in omega arith
+types_rank names p (Some y) x e = let s : fault.Types (refusal y.0 y.1) ≡ x = cc in subst (λ y. 2 ≤ rank y) s (omega arith)
 
-script_no_lex : (names : List (List ℕ)) (p : Parsed) (s : Option (ℕ × ℕ)) (x : LexError) → of_script names p s ≡ Err (fault.Lex x) → ⊥
-script_no_lex names p None x e = types_no_lex names p (type_fault p) x e
-script_no_lex names p (Some y) x e = cc
+script_rank : (names : List (List ℕ)) (p : Parsed) (s : Option (ℕ × ℕ)) (x : FileError) → of_script names p s ≡ Err x → 2 ≤ rank x
+script_rank names p None x e = types_rank names p (type_fault p) x e
+script_rank names p (Some y) x e = let s : fault.Unbuilt ≡ x = cc in subst (λ y. 2 ≤ rank y) s (omega arith)
 
 by_parsed : (names : List (List ℕ)) (r : Result Parsed ParseError) (x : ParseError) → of_parsed names r ≡ Err (fault.Parse x) → r ≡ Err x
-by_parsed names (Ok p) x e = absurd (script_no_parse names p p.script x e)
+by_parsed names (Ok p) x e = absurd (let r = script_rank names p p.script (fault.Parse x) e in omega arith)
 by_parsed names (Err y) x e = let s : y ≡ x = cc in ap (λ z. let r : Result Parsed ParseError = Err z in r) s
 
 no_lexis : (names : List (List ℕ)) (r : Result Parsed ParseError) (x : LexError) → of_parsed names r ≡ Err (fault.Lex x) → ⊥
-no_lexis names (Ok p) x e = script_no_lex names p p.script x e
+no_lexis names (Ok p) x e = let r = script_rank names p p.script (fault.Lex x) e in omega arith
 no_lexis names (Err y) x e = cc
+
+-- what a refusal by a later stage passed
+
+past_script : (names : List (List ℕ)) (p : Parsed) (s : Option (ℕ × ℕ)) (x : FileError) → rank x ≤ 4 → of_script names p s ≡ Err x → (s ≡ None) × (of_types names p (type_fault p) ≡ Err x)
+past_script names p None x r e = (refl, e)
+past_script names p (Some y) x r e = absurd (let s : fault.Unbuilt ≡ x = cc in let i = subst (λ y. 5 ≤ rank y) s (omega arith) in omega arith)
+
+past_types : (names : List (List ℕ)) (p : Parsed) (o : Option (ℕ × Fault)) (x : FileError) → 3 ≤ rank x → of_types names p o ≡ Err x → (o ≡ None) × (of_scopes names p (scope_fault p) ≡ Err x)
+past_types names p None x r e = (refl, e)
+past_types names p (Some y) x r e = absurd (let s : fault.Types (refusal y.0 y.1) ≡ x = cc in let i = subst (λ y. rank y ≤ 2) s (omega arith) in omega arith)
+
+past_scopes : (names : List (List ℕ)) (p : Parsed) (o : Option (ℕ × ScopeRules)) (x : FileError) → 4 ≤ rank x → of_scopes names p o ≡ Err x → (o ≡ None) × (of_equivalences names p (has_equivalence p.declarations) ≡ Err x)
+past_scopes names p None x r e = (refl, e)
+past_scopes names p (Some y) x r e = absurd (let s : fault.Scope (scope_refusal y.0 y.1) ≡ x = cc in let i = subst (λ y. rank y ≤ 3) s (omega arith) in omega arith)
+
+past_equivalences : (names : List (List ℕ)) (p : Parsed) (b : Bool) (x : FileError) → rank x ≤ 4 → of_equivalences names p b ≡ Err x → (b ≡ false) × (of_queries names p (query_fault p) ≡ Err x)
+past_equivalences names p false x r e = (refl, e)
+past_equivalences names p true x r e = absurd (let s : fault.Unbuilt ≡ x = cc in let i = subst (λ y. 5 ≤ rank y) s (omega arith) in omega arith)
 
 -- types
 
-form_no_types : (b : Bool) (c : Content) (x : TypeFault) → (if b then Ok c else Err fault.Unbuilt) ≡ Err (fault.Types x) → ⊥
-form_no_types true c x e = cc
-form_no_types false c x e = cc
-
 by_types : (names : List (List ℕ)) (p : Parsed) (o : Option (ℕ × Fault)) (x : TypeFault) → of_types names p o ≡ Err (fault.Types x) → (q : ℕ) × (f : Fault) × (o ≡ Some (q, f)) × (refusal q f ≡ x)
-by_types names p None x e = absurd (form_no_types (is_built p) (content_of names p) x e)
+by_types names p None x e = absurd (let r = scopes_rank names p (scope_fault p) (fault.Types x) e in omega arith)
 by_types names p (Some (q, f)) x e = (q, f, refl, cc)
-
-by_script : (names : List (List ℕ)) (p : Parsed) (s : Option (ℕ × ℕ)) (x : TypeFault) → of_script names p s ≡ Err (fault.Types x) → (s ≡ None) × (of_types names p (type_fault p) ≡ Err (fault.Types x))
-by_script names p None x e = (refl, e)
-by_script names p (Some y) x e = absurd (cc)
 
 refused_as : (ds : List Declaration) (parts : List Part) (q : ℕ) (f : Fault) → IsFirstIn ds 0 parts q f → IsFirstRefusal ds parts (refusal q f)
 refused_as ds parts q type.WrongType h = h
@@ -91,9 +117,9 @@ refused_as ds parts q type.Arity h = h
 refused_as ds parts q type.IndexAsMessage h = h
 refused_as ds parts q type.NotFixed h = h
 
-faulty : (names : List (List ℕ)) (signs : List Sign) (r : Result Parsed ParseError) (x : TypeFault) → parsed most_pool signs ≡ r → of_parsed names r ≡ Err (fault.Types x) → HasTypeFault signs x
-faulty names signs (Ok p) x e i =
-    let s = by_script names p p.script x i in
+type_cause : (names : List (List ℕ)) (signs : List Sign) (p : Parsed) (x : TypeFault) → parsed most_pool signs ≡ Ok p → of_script names p p.script ≡ Err (fault.Types x) → HasTypeFault signs x
+type_cause names signs p x e i =
+    let s = past_script names p p.script (fault.Types x) (omega arith) i in
     let t = by_types names p (type_fault p) x s.1 in
     record {
       said = p;
@@ -101,15 +127,68 @@ faulty names signs (Ok p) x e i =
       no_script = s.0;
       first = subst (IsFirstRefusal p.declarations (file_parts p.declarations p.game)) t.3 (refused_as p.declarations (file_parts p.declarations p.game) t.0 t.1 (finds_first_in p.declarations 0 (file_parts p.declarations p.game) t.0 t.1 t.2));
     }
-faulty names signs (Err y) x e i = absurd (cc)
 
-faulty_tokens : (bytes : List ℕ) (r : Result (List Token) LexError) (x : TypeFault) → tokens_of bytes ≡ r → of_tokens most_pool r ≡ Err (fault.Types x) → OfTokens bytes (λ signs. HasTypeFault signs x)
-faulty_tokens bytes (Ok ts) x e i = record { tokens = ts; lexed = e; holds = faulty (signs_of ts).names (signs_of ts).signs (parsed most_pool (signs_of ts).signs) x refl i }
-faulty_tokens bytes (Err y) x e i = absurd (cc)
+-- scope
 
-typed_badly : (bytes : List ℕ) (x : TypeFault) → read_of most_pool bytes ≡ Err (fault.Types x) → OfTokens bytes (λ signs. HasTypeFault signs x)
+by_scopes : (names : List (List ℕ)) (p : Parsed) (o : Option (ℕ × ScopeRules)) (x : ScopeFault) → of_scopes names p o ≡ Err (fault.Scope x) → (q : ℕ) × (f : ScopeRules) × (o ≡ Some (q, f)) × (scope_refusal q f ≡ x)
+by_scopes names p None x e = absurd (let r = equivalences_rank names p (has_equivalence p.declarations) (fault.Scope x) e in omega arith)
+by_scopes names p (Some (q, f)) x e = (q, f, refl, cc)
+
+scope_cause : (names : List (List ℕ)) (signs : List Sign) (p : Parsed) (x : ScopeFault) → parsed most_pool signs ≡ Ok p → of_script names p p.script ≡ Err (fault.Scope x) → HasScopeFault signs x
+scope_cause names signs p x e i =
+    let s = past_script names p p.script (fault.Scope x) (omega arith) i in
+    let t = past_types names p (type_fault p) (fault.Scope x) (omega arith) s.1 in
+    let u = by_scopes names p (scope_fault p) x t.1 in
+    let v = behind_some (nodes_before p.declarations) (first_scope_fault p.declarations p.game) u.0 u.1 u.2 in
+    record {
+      said = p;
+      says = said_is_saying most_pool signs p e;
+      no_script = s.0;
+      typed = parts_typed_where_none p.declarations 0 (file_parts p.declarations p.game) t.0;
+      node = v.0;
+      rules = u.1;
+      refused = sym u.3 ∙ ap (λ n. scope_refusal n u.1) v.2;
+      first = finds_first (names_of p.declarations p.game) at_root p.game v.0 u.1 v.1;
+    }
+
+-- queries
+
+by_queries : (names : List (List ℕ)) (p : Parsed) (o : Option ℕ) (k : ℕ) → of_queries names p o ≡ Err (fault.Query k) → o ≡ Some k
+by_queries names p None k e = absurd (cc)
+by_queries names p (Some j) k e = let s : j ≡ k = cc in ap (λ n. let o : Option ℕ = Some n in o) s
+
+query_cause : (names : List (List ℕ)) (signs : List Sign) (p : Parsed) (k : ℕ) → parsed most_pool signs ≡ Ok p → of_script names p p.script ≡ Err (fault.Query k) → HasQueryFault signs k
+query_cause names signs p k e i =
+    let s = past_script names p p.script (fault.Query k) (omega arith) i in
+    let t = past_types names p (type_fault p) (fault.Query k) (omega arith) s.1 in
+    let u = past_scopes names p (scope_fault p) (fault.Query k) (omega arith) t.1 in
+    let v = past_equivalences names p (has_equivalence p.declarations) (fault.Query k) (omega arith) u.1 in
+    record {
+      said = p;
+      says = said_is_saying most_pool signs p e;
+      no_script = s.0;
+      typed = parts_typed_where_none p.declarations 0 (file_parts p.declarations p.game) t.0;
+      scoped = scoped_where_none (names_of p.declarations p.game) at_root p.game (behind_none (nodes_before p.declarations) (first_scope_fault p.declarations p.game) u.0);
+      no_equivalence = v.0;
+      first = first_refused_is_first p.game (queries_in p.declarations) k (by_queries names p (query_fault p) k v.1);
+    }
+
+-- a refusal of what tokens say comes from the tokens of the bytes
+
+abbrev of_file : (x : FileError) (Holds : List Sign → Type 0) → 2 ≤ rank x → Type 0
+of_file x Holds r = (names : List (List ℕ)) (signs : List Sign) (p : Parsed) → parsed most_pool signs ≡ Ok p → of_script names p p.script ≡ Err x → Holds signs
+
+by_said : (names : List (List ℕ)) (signs : List Sign) (x : FileError) (Holds : List Sign → Type 0) (l : 2 ≤ rank x) → of_file x Holds l → (r : Result Parsed ParseError) → parsed most_pool signs ≡ r → of_parsed names r ≡ Err x → Holds signs
+by_said names signs x Holds l h (Ok p) e i = h names signs p e i
+by_said names signs x Holds l h (Err y) e i = absurd (let s : fault.Parse y ≡ x = cc in let j = subst (λ y. rank y ≤ 1) s (omega arith) in omega arith)
+
+by_bytes : (bytes : List ℕ) (x : FileError) (Holds : List Sign → Type 0) (l : 2 ≤ rank x) → of_file x Holds l → (r : Result (List Token) LexError) → tokens_of bytes ≡ r → of_tokens most_pool r ≡ Err x → OfTokens bytes Holds
+by_bytes bytes x Holds l h (Ok ts) e i = record { tokens = ts; lexed = e; holds = by_said (signs_of ts).names (signs_of ts).signs x Holds l h (parsed most_pool (signs_of ts).signs) refl i }
+by_bytes bytes x Holds l h (Err y) e i = absurd (let s : fault.Lex y ≡ x = cc in let j = subst (λ y. rank y ≤ 0) s (omega arith) in omega arith)
+
+refused_later : (bytes : List ℕ) (x : FileError) (Holds : List Sign → Type 0) (l : 2 ≤ rank x) → of_file x Holds l → read_of most_pool bytes ≡ Err x → OfTokens bytes Holds
 unfolding read_of
-typed_badly bytes x e = faulty_tokens bytes (tokens_of bytes) x refl e
+refused_later bytes x Holds l h e = by_bytes bytes x Holds l h (tokens_of bytes) refl e
 
 by_tokens : (limit : ℕ) (r : Result (List Token) LexError) (x : ParseError) → of_tokens limit r ≡ Err (fault.Parse x) → (ts : List Token) × (r ≡ Ok ts) × (parsed limit (signs_of ts).signs ≡ Err x)
 by_tokens limit (Ok ts) x e = (ts, refl, by_parsed (signs_of ts).names (parsed limit (signs_of ts).signs) x e)
@@ -189,7 +268,9 @@ caused_by bytes (Err (fault.Parse (parse.Build (build.Full n)))) e = told bytes 
 caused_by bytes (Err (fault.Parse (parse.Build (build.Nodes n)))) e = told bytes (parse.Build (build.Nodes n)) _ (λ signs i. large_game most_pool signs n i) e
 caused_by bytes (Err (fault.Parse (parse.Build (build.Depth n)))) e = told bytes (parse.Build (build.Depth n)) _ (λ signs i. deep_game most_pool signs n i) e
 caused_by bytes (Err (fault.Parse (parse.Build build.OutOfMemory))) e = tt
-caused_by bytes (Err (fault.Types x)) e = typed_badly bytes x e
+caused_by bytes (Err (fault.Types x)) e = refused_later bytes (fault.Types x) (λ signs. HasTypeFault signs x) (omega arith) (λ names signs p i j. type_cause names signs p x i j) e
+caused_by bytes (Err (fault.Scope x)) e = refused_later bytes (fault.Scope x) (λ signs. HasScopeFault signs x) (omega arith) (λ names signs p i j. scope_cause names signs p x i j) e
+caused_by bytes (Err (fault.Query k)) e = refused_later bytes (fault.Query k) (λ signs. HasQueryFault signs k) (omega arith) (λ names signs p i j. query_cause names signs p k i j) e
 caused_by bytes (Err fault.Unbuilt) e = tt
 caused_by bytes (Err fault.OutOfMemory) e = tt
 

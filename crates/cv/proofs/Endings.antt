@@ -2,7 +2,7 @@
 use Rattle.std.proofs.Common.{◌≡◌, ℕ, ◌+◌, ◌≤◌, arith, refl, List, Option, Some, None, ap, sym, ◌∙◌, subst, ◌⊎◌, inl, inr}
 use Rattle.std.specs.Prelude.{IfSome, ◌≢◌}
 use Rattle.cv_files.specs.Accepted.{read_of}
-use Rattle.cv_files.specs.Typing.{queries_in}
+use Rattle.cv_queries.specs.Queries.{queries_in}
 use Rattle.cv_files.proofs.Readings.{file_is_read}
 use Rattle.cv.specs.declared.report.Status.{Status}
 use Rattle.cv.specs.declared.report.Status.TheVariants as status

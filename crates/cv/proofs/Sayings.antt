@@ -13,15 +13,16 @@ use Rattle.cv_syntax.specs.Tree.{Tree, tree_at}
 use Rattle.cv_direct.specs.Search.{EntryTree}
 use Rattle.cv_direct.specs.Found.{entry_trees}
 use Rattle.cv_direct.specs.declared.search.Entry.{Entry}
-use Rattle.cv_files.specs.Plain.{query_of}
-use Rattle.cv_files.proofs.Signatures.{queries-skip, queries-take, queries-past}
+use Rattle.cv_files.specs.Lists.{query_of}
+use Rattle.cv_files.proofs.QueryLists.{queries-skip, queries-take, queries-past}
 use Rattle.cv.specs.declared.decide.Findings.{Findings}
 use Rattle.cv.specs.declared.report.Step.{Step}
 use Rattle.cv.specs.declared.report.Step.TheVariants.{Success}
 use Rattle.cv.specs.declared.report.Verdict.{Verdict}
 use Rattle.cv.specs.declared.report.Verdict.TheVariants.{Proved, NotProved}
 use Rattle.cv.specs.Findings.{said}
-use Rattle.cv.specs.Strategy.{Said, said_by, said_then, said_of, closed_by, left_open, certificate, most_steps}
+use Rattle.cv_direct.specs.Plain.{certificate}
+use Rattle.cv.specs.Strategy.{Said, said_by, said_then, said_of, closed_by, left_open, most_steps}
 
 abbrev pub made : List (ℕ × List EntryTree) → List Verdict → Bool → Bool → Said
 made ss vs a f = record { steps = ss; verdicts = vs; all = a; full = f }

@@ -7,7 +7,6 @@ use Rattle.cv_syntax.specs.Declarations.{Declaration}
 use Rattle.cv_syntax.specs.Tree.{Tree}
 use Rattle.cv_meaning.specs.Advantage.{advantage}
 use Rattle.cv_meaning.specs.Chances.{AtMost, zero_chance}
-use Rattle.cv_meaning.specs.Correspondences.{correspondence_of}
 use Rattle.cv_meaning.specs.Interpretation.{Interpretation, setting_of}
 use Rattle.cv_meaning.specs.Runs.{Adversary}
 use Rattle.cv_parse.specs.declared.error.ParseError.{ParseError}
@@ -16,21 +15,21 @@ use Rattle.cv_syntax.specs.declared.work.BuildError.TheVariants as build
 use Rattle.cv_files.specs.declared.error.FileError.{FileError}
 use Rattle.cv_files.specs.declared.error.FileError.TheVariants as fault
 use Rattle.cv_files.specs.Accepted.{Content, Refuses, read_of}
-use Rattle.cv_files.specs.Typing.{Signature, signature_of, process_fits, query_fits, queries_fit}
 use Rattle.cv_direct.specs.Search.{EntryTree}
-use Rattle.cv_direct.proofs.Queries.{never_broken}
-use Rattle.cv_direct.proofs.Searching.{entries_some}
+use Rattle.cv_discipline.specs.Phrases.{IsWellFormed}
+use Rattle.cv_direct.proofs.Certificates.{certificate_some, no_advantage}
 use Rattle.cv.specs.declared.report.Status.{Status}
 use Rattle.cv.specs.declared.report.Status.TheVariants as status
 use Rattle.cv.specs.declared.report.Verdict.{Verdict}
 use Rattle.cv.specs.declared.report.Verdict.TheVariants.{Proved, NotProved}
 use Rattle.cv.specs.declared.sum.Sum.{Sum}
 use Rattle.cv.specs.Faults.{parse_ended, status_of as ended_by}
-use Rattle.cv.specs.Strategy.{Said, is_closed, said_then, closed_by, left_open, said_of, certificate, most_steps, status_by, status_of, expected, HasFile, Judged, most_pool}
+use Rattle.cv_direct.specs.Plain.{certificate}
+use Rattle.cv.specs.Strategy.{Said, is_closed, said_then, closed_by, left_open, said_of, most_steps, status_by, status_of, expected, HasFile, Judged, most_pool}
 
 -- a query has a certificate where it is closed
 pub closed_some : (game q : Tree) → is_some (certificate game q) ≡ is_closed game q
-closed_some game q = entries_some (correspondence_of q) [] 0 game
+closed_some game q = certificate_some game q
 
 -- verdicts on queries, of which each that is `Proved` is on a closed one
 abbrev pub AreSound : Tree → List Tree → List Verdict → Type 0
@@ -63,13 +62,8 @@ sound_in game (q ∷ qs) [] h k query s e f = absurd h
 sound_in game (q ∷ qs) (v ∷ vs) h zero query s e f = let same : q ≡ query = cc in let said : v ≡ Proved s = cc in ap (is_closed game) (sym same) ∙ h.0 s said
 sound_in game (q ∷ qs) (v ∷ vs) h (suc k) query s e f = sound_in game qs vs h.1 k query s e f
 
-all_at : {A : Type 0} (p : A → Bool) (xs : List A) (k : ℕ) (x : A) → list_all p xs ≡ true → slice_get xs k ≡ Some x → p x ≡ true
-all_at p [] k x h e = absurd (cc)
-all_at p (y ∷ xs) zero x h e = let same : y ≡ x = cc in ap p (sym same) ∙ (and_parts (p y) _ h).0
-all_at p (y ∷ xs) (suc k) x h e = all_at p xs k x (and_parts (p y) _ h).1 e
-
-pub sound_at : (ds : List Declaration) (game : Tree) (qs : List Tree) (vs : List Verdict) → process_fits (signature_of ds) game ≡ true → queries_fit (signature_of ds) qs ≡ true → AreSound game qs vs → (k : ℕ) (query : Tree) (s : Sum) → slice_get qs k ≡ Some query → slice_get vs k ≡ Some (Proved s) → (i : Interpretation) (a : Adversary) → AtMost (advantage (setting_of ds i) query a game) zero_chance
-sound_at ds game qs vs p f v k query s e h i a = never_broken ds query game p (all_at (query_fits (signature_of ds)) qs k query f e) (sound_in game qs vs v k query s e h) i a
+pub sound_at : (ds : List Declaration) (game : Tree) (qs : List Tree) (vs : List Verdict) → IsWellFormed ds game → AreSound game qs vs → (k : ℕ) (query : Tree) (s : Sum) → slice_get qs k ≡ Some query → slice_get vs k ≡ Some (Proved s) → (i : Interpretation) (a : Adversary) → AtMost (advantage (setting_of ds i) query a game) zero_chance
+sound_at ds game qs vs w v k query s e h i a = no_advantage ds game query w (sound_in game qs vs v k query s e h) i a
 
 -- statuses
 
@@ -106,6 +100,8 @@ pub judged_fault : (x : FileError) (bytes : List ℕ) → Refuses x (read_of mos
 judged_fault (fault.Lex x) bytes e = sym (ap expected e)
 judged_fault (fault.Parse x) bytes e = judged_limit x bytes e
 judged_fault (fault.Types x) bytes e = sym (ap expected e)
+judged_fault (fault.Scope x) bytes e = sym (ap expected e)
+judged_fault (fault.Query k) bytes e = sym (ap expected e)
 judged_fault fault.Unbuilt bytes e = sym (ap expected e)
 judged_fault fault.OutOfMemory bytes e = tt
 

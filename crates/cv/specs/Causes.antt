@@ -1,5 +1,5 @@
 -- What each answer about bytes comes from.
-use Rattle.std.specs.Prelude.{◌≡◌, ℕ, suc, ◌-◌, ◌<◌, if◌then◌else◌, List, [], ◌∷◌, length, None, Ok, Err}
+use Rattle.std.specs.Prelude.{◌≡◌, ℕ, suc, ◌+◌, ◌-◌, ◌<◌, false, if◌then◌else◌, List, [], ◌∷◌, length, None, Ok, Err}
 use Rattle.cv_lex.specs.Lexis.{Token, tokens_of}
 use Rattle.cv_signs.specs.Signs.{signs_of}
 use Rattle.cv_grammar.specs.declared.sign.Sign.{Sign}
@@ -10,12 +10,18 @@ use Rattle.cv_parse.specs.declared.error.ParseError.TheVariants.{Syntax, Nesting
 use Rattle.cv_parse.specs.Parsed.{Parsed}
 use Rattle.cv_parse.specs.Says.{HasDepth, HasNodes, HasWeight, IsDead, IsLarge, IsMisnamedAt, Says}
 use Rattle.cv_typing.specs.declared.fault.TypeFault.{TypeFault}
-use Rattle.cv_typing.specs.Parts.{file_parts}
+use Rattle.cv_typing.specs.Parts.{IsTypedFile, file_parts}
 use Rattle.cv_typing.specs.Refusals.{IsFirstRefusal}
+use Rattle.cv_scope.specs.declared.fault.ScopeFault.{ScopeFault}
+use Rattle.cv_scope.specs.declared.fault.Fault.{Fault}
+use Rattle.cv_scope.specs.Refusals.{refusal}
+use Rattle.cv_scope.specs.Scope.{IsFirstFault, IsScoped}
+use Rattle.cv_queries.specs.Queries.{queries_in}
+use Rattle.cv_queries.specs.Rules.{IsFirstRefused}
 use Rattle.cv_syntax.specs.Tree.{Tree}
-use Rattle.cv_files.specs.Accepted.{Content, IsFile}
-use Rattle.cv_files.specs.Typing.{queries_in}
-use Rattle.cv.specs.declared.report.FileFault.TheVariants.{Lex, Parse, Types}
+use Rattle.cv_files.specs.Accepted.{Content, IsFile, has_equivalence}
+use Rattle.cv_files.specs.Places.{nodes_before}
+use Rattle.cv.specs.declared.report.FileFault.TheVariants.{Lex, Parse, Types, Scope, Query}
 use Rattle.cv.specs.declared.report.Status.{Status}
 use Rattle.cv.specs.declared.report.Status.TheVariants as status
 use Rattle.cv.specs.declared.report.Which.TheVariants.{Depth, Nodes, Pool, Steps}
@@ -45,6 +51,29 @@ pub record HasTypeFault (signs : List Sign) (e : TypeFault) : Type 0 where
   pub no_script : said.script ≡ None
   pub first : IsFirstRefusal said.declarations (file_parts said.declarations said.game) e
 
+-- The tokens are those of a typed file without a proof block, and this names the first node of its game that breaks a rule of
+-- array scope, by its place in the file.
+pub record HasScopeFault (signs : List Sign) (e : ScopeFault) : Type 0 where
+  pub said : Parsed
+  pub says : Says most_pool signs said
+  pub no_script : said.script ≡ None
+  pub typed : IsTypedFile said.declarations said.game
+  pub node : ℕ
+  pub rules : Fault
+  pub refused : e ≡ refusal (nodes_before said.declarations + node) rules
+  pub first : IsFirstFault said.declarations said.game node rules
+
+-- The tokens are those of a typed and scoped file without a proof block or an equivalence, and the k-th of its queries
+-- is the first that may not be asked.
+pub record HasQueryFault (signs : List Sign) (k : ℕ) : Type 0 where
+  pub said : Parsed
+  pub says : Says most_pool signs said
+  pub no_script : said.script ≡ None
+  pub typed : IsTypedFile said.declarations said.game
+  pub scoped : IsScoped said.declarations said.game
+  pub no_equivalence : has_equivalence said.declarations ≡ false
+  pub first : IsFirstRefused said.game (queries_in said.declarations) k
+
 -- A file has more queries that are closed than there may be steps.
 pub record HasManyClosed (bytes : List ℕ) : Type 0 where
   pub content : Content
@@ -59,6 +88,8 @@ Caused (status.FileRefused (Parse (Nesting token))) bytes = OfTokens bytes (λ s
 Caused (status.FileRefused (Parse (NameTwice token))) bytes = OfTokens bytes (λ signs. IsMisnamedAt signs names.NameTwice token)
 Caused (status.FileRefused (Parse (NameUnknown token))) bytes = OfTokens bytes (λ signs. IsMisnamedAt signs names.NameUnknown token)
 Caused (status.FileRefused (Types e)) bytes = OfTokens bytes (λ signs. HasTypeFault signs e)
+Caused (status.FileRefused (Scope e)) bytes = OfTokens bytes (λ signs. HasScopeFault signs e)
+Caused (status.FileRefused (Query k)) bytes = OfTokens bytes (λ signs. HasQueryFault signs k)
 Caused (status.Limit (Nodes count)) bytes = OfTokens bytes (λ signs. IsLarge signs (HasNodes count))
 Caused (status.Limit (Depth depth)) bytes = OfTokens bytes (λ signs. IsLarge signs (HasDepth depth))
 Caused (status.Limit (Pool need)) bytes = OfTokens bytes (λ signs. IsLarge signs (HasWeight most_pool need))

@@ -4,7 +4,7 @@ use Rattle.cv_parse.specs.declared.error.ParseError.TheVariants as parse
 use Rattle.cv_syntax.specs.declared.work.BuildError.TheVariants as build
 use Rattle.cv_files.specs.declared.error.FileError.{FileError}
 use Rattle.cv_files.specs.declared.error.FileError.TheVariants as fault
-use Rattle.cv.specs.declared.report.FileFault.TheVariants.{Lex, Parse, Types}
+use Rattle.cv.specs.declared.report.FileFault.TheVariants.{Lex, Parse, Types, Scope, Query}
 use Rattle.cv.specs.declared.report.Status.{Status}
 use Rattle.cv.specs.declared.report.Status.TheVariants as status
 use Rattle.cv.specs.declared.report.Which.TheVariants.{Depth, Nodes, Pool}
@@ -21,5 +21,7 @@ abbrev pub status_of : FileError → Status
 status_of (fault.Lex e) = status.FileRefused (Lex e)
 status_of (fault.Parse e) = parse_ended e
 status_of (fault.Types e) = status.FileRefused (Types e)
+status_of (fault.Scope e) = status.FileRefused (Scope e)
+status_of (fault.Query k) = status.FileRefused (Query k)
 status_of fault.Unbuilt = status.Unbuilt
 status_of fault.OutOfMemory = status.Memory

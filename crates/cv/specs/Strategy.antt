@@ -6,18 +6,17 @@ use Rattle.cv_syntax.specs.declared.work.File.{File}
 use Rattle.cv_syntax.specs.Declarations.{Declaration, declarations}
 use Rattle.cv_pool.specs.KindTree.{KindTree}
 use Rattle.cv_syntax.specs.Tree.{Tree, tree_at}
-use Rattle.cv_meaning.specs.Correspondences.{correspondence_of}
-use Rattle.cv_meaning.specs.Direct.{plainly_covered}
 use Rattle.cv_meaning.specs.Interpretation.{Interpretation, setting_of}
 use Rattle.cv_meaning.specs.Satisfies.{Satisfies}
 use Rattle.cv_meaning.specs.Runs.{Adversary}
 use Rattle.cv_meaning.specs.Advantage.{advantage}
 use Rattle.cv_meaning.specs.Chances.{Chance, AtMost, zero_chance}
 use Rattle.cv_direct.specs.Found.{entry_trees}
-use Rattle.cv_direct.specs.Search.{EntryTree, entries_of, wanted_of}
+use Rattle.cv_direct.specs.Plain.{certificate, is_plainly_direct}
+use Rattle.cv_direct.specs.Search.{EntryTree}
 use Rattle.cv_files.specs.declared.error.FileError.{FileError}
 use Rattle.cv_files.specs.Accepted.{Content, IsFile, read_of}
-use Rattle.cv_files.specs.Typing.{queries_in}
+use Rattle.cv_queries.specs.Queries.{queries_in}
 use Rattle.cv.specs.Faults.{status_of as ended_by}
 use Rattle.cv.specs.declared.report.Cause.TheVariants.{Stuck}
 use Rattle.cv.specs.declared.report.Report.{Report}
@@ -34,9 +33,9 @@ use Rattle.cv.specs.declared.sum.Sum.{Sum}
 abbrev pub value_of : Sum → Chance
 value_of s = zero_chance
 
--- the query is closed in this game
+-- the query is closed in this game: it is a correspondence of events, and each left event stands below its right events
 abbrev pub is_closed : Tree → Tree → Bool
-is_closed game query = plainly_covered (correspondence_of query) [] game
+is_closed game query = is_plainly_direct game query
 
 -- what is said of the queries of a game: the steps that close them, each with the number of its query and
 -- its certificate, and a verdict on each
@@ -64,10 +63,6 @@ closed_by s es =
 abbrev pub said_then : Said → Option (List EntryTree) → Said
 said_then s None = left_open s
 said_then s (Some es) = closed_by s es
-
--- the certificate of a query, where it has one
-abbrev pub certificate : Tree → Tree → Option (List EntryTree)
-certificate game query = entries_of (wanted_of (correspondence_of query)) [] 0 game
 
 -- the plain strategy goes over the queries in order
 unfoldable pub said_of : Tree → Said → List Tree → Said

@@ -14,8 +14,10 @@ use Rattle.cv_parse.specs.declared.error.ParseError.{ParseError}
 use Rattle.cv_parse.specs.declared.error.ParseError.TheVariants as parse
 use Rattle.cv_typing.specs.declared.fault.TypeFault.{TypeFault}
 use Rattle.cv_typing.specs.declared.fault.TypeFault.TheVariants as type
+use Rattle.cv_scope.specs.declared.fault.ScopeFault.{ScopeFault}
+use Rattle.cv_scope.specs.declared.fault.ScopeFault.TheVariants as scope
 use Rattle.cv.specs.declared.report.FileFault.{FileFault}
-use Rattle.cv.specs.declared.report.FileFault.TheVariants.{Lex, Parse, Types}
+use Rattle.cv.specs.declared.report.FileFault.TheVariants.{Lex, Parse, Types, Scope, Query}
 use Rattle.cv.specs.declared.report.Report.{Report}
 use Rattle.cv.specs.declared.report.Status.{Status}
 use Rattle.cv.specs.declared.report.Status.TheVariants as status
@@ -61,7 +63,7 @@ unfoldable pub verdicts_text : ℕ → List Verdict → List ℕ
 verdicts_text k [] = []
 verdicts_text k (v ∷ vs) = verdict_text k v ++ verdicts_text (k + 1) vs
 
--- the end line of a file that is refused: what is wrong, and at which byte, token or node
+-- the end line of a file that is refused: what is wrong, and at which byte, token or node, or in which query
 abbrev pub refused_text : List ℕ → ℕ → List ℕ
 refused_text what place = codes "end 2 file refused: " ++ what ++ decimal place ++ codes "\n"
 
@@ -85,10 +87,22 @@ types_text (type.IndexAsMessage node) = refused_text (codes "index as message at
 types_text (type.NotFixed node) = refused_text (codes "not fixed at node ") node
 types_text type.OutOfMemory = codes "end 6 memory\n"
 
+abbrev pub scope_text : ScopeFault → List ℕ
+scope_text (scope.Unscoped node) = refused_text (codes "unscoped at node ") node
+scope_text (scope.TwoSites node) = refused_text (codes "two sites at node ") node
+scope_text (scope.Channel node) = refused_text (codes "channel at node ") node
+scope_text (scope.Replications node) = refused_text (codes "replications at node ") node
+scope_text scope.OutOfMemory = codes "end 6 memory\n"
+
+abbrev pub query_text : ℕ → List ℕ
+query_text k = refused_text (codes "query ") k
+
 abbrev pub fault_text : FileFault → List ℕ
 fault_text (Lex e) = lexis_text e
 fault_text (Parse e) = grammar_text e
 fault_text (Types e) = types_text e
+fault_text (Scope e) = scope_text e
+fault_text (Query k) = query_text k
 
 abbrev pub end_text : Status → List ℕ
 end_text status.Proved = codes "end 0 proved\n"

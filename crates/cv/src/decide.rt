@@ -2,12 +2,13 @@ ghost use Rattle.std.specs.Prelude.{◌≡◌, ◌+◌, ◌<◌, ◌≤◌, ◌^
 ghost use Rattle.cv_syntax.specs.Classes.{queries};
 ghost use Rattle.cv_syntax.specs.Tree.{tree_at, size};
 ghost use Rattle.cv_files.specs.Accepted.{read_of};
-ghost use Rattle.cv_files.specs.Plain.{IsPlain};
+ghost use Rattle.cv_parse.specs.Declaring.{IsBelow};
 ghost use Rattle.cv_files.specs.Works.{content_at};
 ghost use Rattle.cv.specs.Causes.{Caused};
 ghost use Rattle.cv.specs.Faults.{parse_ended, status_of as ended_by};
 ghost use Rattle.cv.specs.Findings.{said};
-ghost use Rattle.cv.specs.Strategy.{most_pool, certificate, nothing_said, said_of, said_then, status_by, FollowsStrategy, HasFile, Judged, IsSound, SaysNothing};
+ghost use Rattle.cv_direct.specs.Plain.{certificate};
+ghost use Rattle.cv.specs.Strategy.{most_pool, nothing_said, said_of, said_then, status_by, FollowsStrategy, HasFile, Judged, IsSound, SaysNothing};
 
 use crate::report::{Cause, Command, FileFault, Report, Status, Step, Verdict, Which};
 use crate::sum::Sum;
@@ -88,7 +89,7 @@ fn find(
 fn answer(alloc: Global, work: &Work, game: NodeId) -> Result<Findings, AllocError>
     requires game { game.0 < length work.now.pool.trees }
     requires fits { size (tree_at work.now.pool.trees (Some game)) < 2 ^ 32 }
-    requires plain { All (IsPlain (length work.now.pool.trees)) work.now.decls.list }
+    requires below { All (IsBelow (length work.now.pool.trees)) work.now.decls.list }
     ensures { IfOk result (λ f. said work.now.pool.trees f ≡ said_of (tree_at work.now.pool.trees (Some game)) nothing_said (map (λ n. tree_at work.now.pool.trees (Some n)) (queries work.now.decls.list))) }
 {
     let mut found = Findings {
@@ -144,6 +145,8 @@ fn status_of(fault: FileError) -> Status
         FileError::Lex(fault) => Status::FileRefused(FileFault::Lex(fault)),
         FileError::Parse(fault) => parse_ended(fault),
         FileError::Types(fault) => Status::FileRefused(FileFault::Types(fault)),
+        FileError::Scope(fault) => Status::FileRefused(FileFault::Scope(fault)),
+        FileError::Query(k) => Status::FileRefused(FileFault::Query(k)),
         FileError::Unbuilt => Status::Unbuilt,
         FileError::OutOfMemory => Status::Memory,
     }

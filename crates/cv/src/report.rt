@@ -5,6 +5,7 @@ use crate::sum::Sum;
 use cv_direct::Entry;
 use cv_lex::LexError;
 use cv_parse::ParseError;
+use cv_scope::ScopeFault;
 use cv_syntax::{File, Work};
 use cv_typing::TypeFault;
 
@@ -48,6 +49,10 @@ pub enum FileFault {
     Parse(ParseError),
     /// The terms of the file aren't typed.
     Types(TypeFault),
+    /// The game of the file breaks a rule of array scope.
+    Scope(ScopeFault),
+    /// The query of this number, counted from 1, may not be asked.
+    Query(u32),
 }
 
 /// What passed its number.
@@ -77,7 +82,7 @@ pub enum Status {
     Write,
     Memory,
     Limit(Which),
-    /// The file isn't of the form that is built.
+    /// The file has a part that isn't read yet: a proof block or an equivalence.
     Unbuilt,
 }
 

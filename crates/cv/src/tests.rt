@@ -6,6 +6,8 @@ use cv_outside::{MemShelf, MemSink, PutError, Sink, SureShelf, SureSink};
 use std::alloc::{AllocError, Global};
 use std::test::Fail;
 
+mod static_faults;
+
 /// Declarations and a query for small processes.
 const HEAD: &str =
     "type T [fixed]. channel c, d. event e(T). event f(T). query x:T; event e(x) ==> event f(x). process ";
@@ -161,26 +163,26 @@ fn small_processes(rt: HostRuntime) -> Result<(), Fail> {
             1,
         ),
         ("in(c, ()); new c:T; yield", 2),
-        ("in(c, ()); new n:T; new n:T; yield", 8),
+        ("in(c, ()); new n:T; new n:T; yield", 2),
         (
             "in(c, (a:T)); if a = a then new n:T; yield else event f(n); yield",
-            8,
+            2,
         ),
         (
             "in(c, (a:T)); if a = a then new n:T; yield else new n:bool; yield",
             2,
         ),
-        ("in(c, (a:T)); new n:T; if a = n then new n:T; yield", 8),
+        ("in(c, (a:T)); new n:T; if a = n then new n:T; yield", 2),
         ("in(c, (a:T, b:bool)); if a = b then yield", 2),
-        ("in(c, (b:bool)); if b then yield", 8),
+        ("in(c, (b:bool)); if b then yield", 0),
         ("in(c, (a:T)); if a = a = a then yield", 2),
-        ("in(c, (a:T)); if a <> a then yield", 8),
+        ("in(c, (a:T)); if a <> a then yield", 0),
         ("in(c, (a:T)); if a = z then yield", 2),
         ("in(c, (a:T)); yield else yield", 2),
         ("in(c, (a:T)); (yield)", 0),
         ("in(c, (a:T)); find u <= 2 suchthat true then yield", 2),
-        ("in(c, (a:T)); let b:T = a in yield", 8),
-        ("in(c, ()); yield | in(d, ()); yield", 8),
+        ("in(c, (a:T)); let b:T = a in yield", 0),
+        ("in(c, ()); yield | in(d, ()); yield", 0),
     ] {
         let text = joined(alloc, HEAD, process)?;
         assert_eq!(rt; code_of(alloc, text.as_str())?, wanted, "of {process}");
@@ -285,8 +287,32 @@ fn refusals(rt: HostRuntime) -> Result<(), Fail> {
             "param N. channel c, d. process !i <= N in(c, ()); out(d, (i))",
             "end 2 file refused: index as message at node 3\n",
         ),
+        (
+            "param N. type T [fixed]. channel c, d, p, q. process !i<=N in(c, ()); new x:T; out(d, (x)) | !j<=N in(p, ()); out(q, (x[j]))",
+            "end 2 file refused: unscoped at node 11\n",
+        ),
+        (
+            "type T [fixed]. channel c. process in(c, ()); new n:T; new n:T; yield",
+            "end 2 file refused: two sites at node 2\n",
+        ),
+        (
+            "channel c. process in(c, ()); yield | in(c, ()); yield",
+            "end 2 file refused: channel at node 3\n",
+        ),
+        (
+            "param N. process !i<=N !i<=N 0",
+            "end 2 file refused: replications at node 1\n",
+        ),
+        (
+            "event e(bool). query x:bool; event e(x) ==> event e(x). query event e(true) ==> event e(true). process 0",
+            "end 2 file refused: query 2\n",
+        ),
         ("proof { } process 0", "end 8 unbuilt\n"),
-        ("equation true. process 0", "end 8 unbuilt\n"),
+        ("equation true. process 0", "game 1\n0\nend 0 proved\n"),
+        (
+            "proba p. collision new k: bool; true <=(p)=> true. event e. query inj event e ==> event e. process 0",
+            "end 8 unbuilt\n",
+        ),
     ] {
         let mut sink = MemSink::new(alloc, 1_000, Vec::new(alloc))?;
         let _ = put_into(alloc, text, &mut sink)?;

@@ -2,13 +2,14 @@ ghost use Rattle.std.specs.Prelude.{◌≡◌, ◌+◌, ◌<◌, ◌++◌, [], l
 ghost use Rattle.cv_pool.specs.Nodes.{ChildBelow};
 ghost use Rattle.cv_syntax.specs.Tree.{tree_at};
 ghost use Rattle.cv_print.specs.Terms.{term_text};
-ghost use Rattle.cv.specs.Text.{target_text, targets_text, route_text, entry_text, step_text, steps_text, said_text, verdict_text, verdicts_text, refused_text, lexis_text, grammar_text, types_text, fault_text, end_text, text_of};
+ghost use Rattle.cv.specs.Text.{target_text, targets_text, route_text, entry_text, step_text, steps_text, said_text, verdict_text, verdicts_text, refused_text, lexis_text, grammar_text, types_text, scope_text, query_text, fault_text, end_text, text_of};
 
 use crate::report::{FileFault, Report, Status, Step, Verdict, Which};
 use cv_direct::{Entry, Route};
 use cv_lex::LexError;
 use cv_parse::ParseError;
 use cv_print::{push_decimal, push_game, push_term};
+use cv_scope::ScopeFault;
 use cv_syntax::{Names, NodeId, Pool, read_node};
 use cv_typing::TypeFault;
 use std::alloc::{AllocError, Global};
@@ -241,6 +242,26 @@ fn push_types(out: &mut Vec<u8>, fault: TypeFault) -> Result<(), AllocError>
     }
 }
 
+/// Appends the end line of a file whose game isn't scoped.
+fn push_scope(out: &mut Vec<u8>, fault: ScopeFault) -> Result<(), AllocError>
+    ensures { OnOk result (out.new.items ≡ out.old.items ++ scope_text fault) }
+{
+    match fault {
+        ScopeFault::Unscoped(node) => push_refused(out, b"unscoped at node ", node),
+        ScopeFault::TwoSites(node) => push_refused(out, b"two sites at node ", node),
+        ScopeFault::Channel(node) => push_refused(out, b"channel at node ", node),
+        ScopeFault::Replications(node) => push_refused(out, b"replications at node ", node),
+        ScopeFault::OutOfMemory => out.extend_from_slice(b"end 6 memory\n"),
+    }
+}
+
+/// Appends the end line of a file with a query that may not be asked.
+fn push_query(out: &mut Vec<u8>, k: u32) -> Result<(), AllocError>
+    ensures { OnOk result (out.new.items ≡ out.old.items ++ query_text k) }
+{
+    push_refused(out, b"query ", k)
+}
+
 /// Appends the end line of bytes that are no file.
 fn push_fault(out: &mut Vec<u8>, fault: FileFault) -> Result<(), AllocError>
     ensures { OnOk result (out.new.items ≡ out.old.items ++ fault_text fault) }
@@ -249,6 +270,8 @@ fn push_fault(out: &mut Vec<u8>, fault: FileFault) -> Result<(), AllocError>
         FileFault::Lex(fault) => push_lexis(out, fault),
         FileFault::Parse(fault) => push_grammar(out, fault),
         FileFault::Types(fault) => push_types(out, fault),
+        FileFault::Scope(fault) => push_scope(out, fault),
+        FileFault::Query(k) => push_query(out, k),
     }
 }
 

@@ -1,4 +1,4 @@
+pub mod Certificates
 pub mod Matching
-pub mod Queries
-pub mod Scoped
+pub mod PlainQueries
 pub mod Searching

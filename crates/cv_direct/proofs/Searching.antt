@@ -68,7 +68,7 @@ alone_some : {A : Type 0} (o : Option A) → is_some (alone o) ≡ is_some o
 alone_some None = refl
 alone_some (Some x) = refl
 
-map_some : {A B : Type 0} (f : A → B) (o : Option A) → is_some (option_map f o) ≡ is_some o
+pub map_some : {A B : Type 0} (f : A → B) (o : Option A) → is_some (option_map f o) ≡ is_some o
 map_some f None = refl
 map_some f (Some x) = refl
 
@@ -149,11 +149,6 @@ entries_end w above p es t et = ap (joined (Some es)) (ap (entries_of w above p)
 
 pub routes_end : (xs : List ℕ) (above : List Placed) (a : Tree) (es : List RouteTree) (t : Tree) → t ≡ Empty → joined (Some es) (routes_of xs above a (atoms_of t)) ≡ Some es
 routes_end xs above a es t e = ap (λ s. joined (Some es) (routes_of xs above a (atoms_of s))) e ∙ ap Some (append-nil es)
-
--- whether there are entries
-pub closed_by : (q : Correspondence) (t : Tree) (w : Wanted) (o : Option (List EntryTree)) → w ≡ wanted_of q → joined (Some []) (entries_of w [] 0 t) ≡ o → is_some o ≡ plainly_covered q [] t
-closed_by q t w o e f =
-    ap is_some (sym f) ∙ (joined_some (Some []) (entries_of w [] 0 t) ∙ (ap (λ v. is_some (entries_of v [] 0 t)) e ∙ entries_some q [] 0 t))
 
 -- what is kept of a node
 

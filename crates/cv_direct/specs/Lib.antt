@@ -1,2 +1,4 @@
 pub mod Found
+pub mod Plain
 pub mod Search
+pub mod Variables

@@ -2,11 +2,12 @@ ghost use Rattle.std.specs.Prelude.{◌≡◌, ◌+◌, ◌<◌, ◌^◌, ◌++�
 ghost use Rattle.cv_pool.specs.Nodes.{ChildBelow};
 ghost use Rattle.cv_syntax.specs.Tree.{size, tree_at};
 ghost use Rattle.cv_meaning.specs.Correspondences.{atom_of, atoms_of, correspondence_of, leaf_names};
-ghost use Rattle.cv_meaning.specs.Direct.{plainly_covered};
+ghost use Rattle.cv_direct.specs.Plain.{certificate, is_plainly_direct};
 ghost use Rattle.cv_direct.specs.Search.{entries_of, first_noted, head_entries, joined, route, routes_of, wanted_of};
 ghost use Rattle.cv_direct.specs.Found.{RoutesBelow, entry_trees, placed, RouteBelow, route_tree, SeenBelow, seen_by, wanted};
 
 use crate::instances::is_instance;
+use crate::plain::is_plain_query;
 use cv_syntax::{Head, NodeId, Opened, Pool, read_node};
 use std::alloc::{AllocError, Global};
 
@@ -48,8 +49,9 @@ struct Search {
     place: u32,
 }
 
-/// The routes of all left events of a game, in preorder, or `None` where a right event does not stand above.
-#[tactic(auto, using(crate::proofs::Searching::search_laws))]
+/// The routes of all left events of a game, in preorder, or `None` where the query is not plain or a right
+/// event does not stand above.
+#[tactic(auto, using(crate::proofs::Certificates::certificate_laws))]
 pub fn direct(
     alloc: Global,
     pool: &Pool,
@@ -59,7 +61,27 @@ pub fn direct(
     requires query { query.0 < length pool.now.trees }
     requires game { game.0 < length pool.now.trees }
     requires fits { size (tree_at pool.now.trees (Some game)) < 2 ^ 32 }
-    ensures closed { IfOk result (λ o. is_some o ≡ plainly_covered (correspondence_of (tree_at pool.now.trees (Some query))) [] (tree_at pool.now.trees (Some game))) }
+    ensures closed { IfOk result (λ o. is_some o ≡ is_plainly_direct (tree_at pool.now.trees (Some game)) (tree_at pool.now.trees (Some query))) }
+    ensures entries { IfOk result (λ o. option_map (λ es. entry_trees pool.now.trees es.items) o ≡ certificate (tree_at pool.now.trees (Some game)) (tree_at pool.now.trees (Some query))) }
+    ensures live { IfOk result (λ o. IfSome o (λ es. All (RoutesBelow (length pool.now.trees)) es.items)) }
+{
+    if !is_plain_query(alloc, pool, query)? {
+        return Ok(None);
+    }
+    entries_in(alloc, pool, query, game)
+}
+
+/// The same, of any query.
+#[tactic(auto, using(crate::proofs::Searching::search_laws))]
+fn entries_in(
+    alloc: Global,
+    pool: &Pool,
+    query: NodeId,
+    game: NodeId,
+) -> Result<Option<Vec<Entry>>, AllocError>
+    requires query { query.0 < length pool.now.trees }
+    requires game { game.0 < length pool.now.trees }
+    requires fits { size (tree_at pool.now.trees (Some game)) < 2 ^ 32 }
     ensures entries { IfOk result (λ o. option_map (λ es. entry_trees pool.now.trees es.items) o ≡ entries_of (wanted_of (correspondence_of (tree_at pool.now.trees (Some query)))) [] 0 (tree_at pool.now.trees (Some game))) }
     ensures live { IfOk result (λ o. IfSome o (λ es. All (RoutesBelow (length pool.now.trees)) es.items)) }
 {

@@ -1,7 +1,6 @@
+pub mod EquivalenceLists
 pub mod Lengths
+pub mod Places
+pub mod QueryLists
 pub mod Readings
-pub mod Removals
-pub mod Signatures
-pub mod Sited
-pub mod Typings
 pub mod Weights

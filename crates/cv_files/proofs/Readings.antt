@@ -28,13 +28,25 @@ use Rattle.cv_typing.specs.declared.fault.TypeFault.TheVariants as type
 use Rattle.cv_typing.specs.Parts.{file_parts}
 use Rattle.cv_typing.specs.Refusals.{IsRefusalOf}
 use Rattle.cv_typing.proofs.First.{none_where_parts_typed, parts_typed_where_none}
+use Rattle.cv_scope.specs.declared.fault.Fault.{Fault as ScopeRules}
+use Rattle.cv_scope.specs.declared.fault.ScopeFault.{ScopeFault}
+use Rattle.cv_scope.specs.declared.fault.ScopeFault.TheVariants as scope
+use Rattle.cv_scope.specs.Refusals.{IsRefusalOf as IsRefusal}
+use Rattle.cv_scope.specs.Scope.{first_scope_fault, names_of}
+use Rattle.cv_scope.specs.Standing.{at_root}
+use Rattle.cv_scope.proofs.First.{none_where_scoped, scoped_where_none}
+use Rattle.cv_queries.specs.declared.fault.QueryFault.{QueryFault}
+use Rattle.cv_queries.specs.declared.fault.QueryFault.TheVariants as query
+use Rattle.cv_queries.specs.Queries.{queries_in}
+use Rattle.cv_queries.specs.Refusals.{IsRefusalOf as IsQueryRefusal}
+use Rattle.cv_queries.proofs.First.{asked-where-none, none-where-asked}
+use Rattle.cv_shapes.proofs.Games.{well_formed}
 use Rattle.cv_files.specs.declared.error.FileError.{FileError}
 use Rattle.cv_files.specs.declared.error.FileError.TheVariants.{Unbuilt}
-use Rattle.cv_files.specs.Accepted.{Content, IsFile, Refuses, content_of, of_script, of_types, type_fault, game_fits, is_built, is_plain, is_typed, of_parsed, of_tokens, read_of}
-use Rattle.cv_files.specs.Faults.{of_lex, of_parse, of_type}
-use Rattle.cv_files.specs.Plain.{IsPlain, is_plain_decl, plain_there}
-use Rattle.cv_files.specs.Sites.{are_of_one_type, sites_of}
-use Rattle.cv_files.specs.Typing.{is_of_name, no_variable, process_fits, queries_fit, queries_in, signature_of}
+use Rattle.cv_files.specs.Accepted.{Content, IsFile, Refuses, content_of, has_equivalence, of_equivalences, of_parsed, of_queries, of_scopes, of_script, of_tokens, of_types, query_fault, read_of, scope_fault, type_fault}
+use Rattle.cv_files.specs.Faults.{of_lex, of_parse, of_query, of_scope, of_type}
+use Rattle.cv_files.specs.Places.{nodes_before}
+use Rattle.cv_files.proofs.Places.{behind_none, none_behind}
 use Rattle.cv_files.specs.Works.{IsAccepted, ReadsIn, content_in}
 
 -- what tokens make of bytes
@@ -78,6 +90,7 @@ by_script limit bs ts p t h b = by_tokens limit bs ts t ∙ (ap (of_parsed (sign
     no_script (Some x) e = absurd (cc)
 
 -- types
+
 pub types_refuse : (limit : ℕ) (bs : List ℕ) (ts : List Token) (p : Parsed) (e : TypeFault) → tokens_of bs ≡ Ok ts → parsed limit (signs_of ts).signs ≡ Ok p → is_some p.script ≡ false → IsRefusalOf (type_fault p) e → Refuses (of_type e) (read_of limit bs)
 types_refuse limit bs ts p (type.WrongType n) t h b r = by_script limit bs ts p t h b ∙ ap (of_types (signs_of ts).names p) r
 types_refuse limit bs ts p (type.Arity n) t h b r = by_script limit bs ts p t h b ∙ ap (of_types (signs_of ts).names p) r
@@ -85,17 +98,37 @@ types_refuse limit bs ts p (type.IndexAsMessage n) t h b r = by_script limit bs 
 types_refuse limit bs ts p (type.NotFixed n) t h b r = by_script limit bs ts p t h b ∙ ap (of_types (signs_of ts).names p) r
 types_refuse limit bs ts p type.OutOfMemory t h b r = tt
 
--- the form that is built, or not
+pub by_types : (limit : ℕ) (bs : List ℕ) (ts : List Token) (p : Parsed) → tokens_of bs ≡ Ok ts → parsed limit (signs_of ts).signs ≡ Ok p → is_some p.script ≡ false → type_fault p ≡ None → read_of limit bs ≡ of_scopes (signs_of ts).names p (scope_fault p)
+by_types limit bs ts p t h b n = by_script limit bs ts p t h b ∙ ap (of_types (signs_of ts).names p) n
 
-pub form_refuses : (limit : ℕ) (bs : List ℕ) (ts : List Token) (p : Parsed) → tokens_of bs ≡ Ok ts → parsed limit (signs_of ts).signs ≡ Ok p → is_some p.script ≡ false → type_fault p ≡ None → is_built p ≡ false → read_of limit bs ≡ Err Unbuilt
-form_refuses limit bs ts p t h s n b = by_script limit bs ts p t h s ∙ (ap (of_types (signs_of ts).names p) n ∙ ap (λ x. if x then Ok (content_of (signs_of ts).names p) else Err Unbuilt) b)
+-- scope, of a file that is read as far as this
 
-pub form_reads : (limit : ℕ) (bs : List ℕ) (ts : List Token) (names : List (List ℕ)) (trees : List KindTree) (list : List Decl) (f : File) → tokens_of bs ≡ Ok ts → (signs_of ts).names ≡ names → parsed limit (signs_of ts).signs ≡ Ok (held_in trees list f) → is_some f.script ≡ false → type_fault (held_in trees list f) ≡ None → is_built (held_in trees list f) ≡ true → read_of limit bs ≡ Ok (content_in names trees list f.game.root)
-form_reads limit bs ts names trees list f t n h s e b =
-    by_script limit bs ts (held_in trees list f) t h s
-    ∙ (ap (of_types (signs_of ts).names (held_in trees list f)) e
-    ∙ (ap (λ x. if x then Ok (content_of (signs_of ts).names (held_in trees list f)) else Err Unbuilt) b
-    ∙ ap (λ ns. Ok (content_of ns (held_in trees list f))) n))
+pub scope_refuses : (r : Result Content FileError) (names : List (List ℕ)) (p : Parsed) (e : ScopeFault) → r ≡ of_scopes names p (scope_fault p) → IsRefusal (scope_fault p) e → Refuses (of_scope e) r
+scope_refuses r names p (scope.Unscoped n) h f = h ∙ ap (of_scopes names p) f
+scope_refuses r names p (scope.TwoSites n) h f = h ∙ ap (of_scopes names p) f
+scope_refuses r names p (scope.Channel n) h f = h ∙ ap (of_scopes names p) f
+scope_refuses r names p (scope.Replications n) h f = h ∙ ap (of_scopes names p) f
+scope_refuses r names p scope.OutOfMemory h f = tt
+
+pub by_scope : (r : Result Content FileError) (names : List (List ℕ)) (p : Parsed) → r ≡ of_scopes names p (scope_fault p) → scope_fault p ≡ None → r ≡ of_equivalences names p (has_equivalence p.declarations)
+by_scope r names p h n = h ∙ ap (of_scopes names p) n
+
+-- equivalences
+
+pub equivalence_refuses : (r : Result Content FileError) (names : List (List ℕ)) (p : Parsed) → r ≡ of_equivalences names p (has_equivalence p.declarations) → has_equivalence p.declarations ≡ true → r ≡ Err Unbuilt
+equivalence_refuses r names p h e = h ∙ ap (of_equivalences names p) e
+
+pub by_equivalences : (r : Result Content FileError) (names : List (List ℕ)) (p : Parsed) → r ≡ of_equivalences names p (has_equivalence p.declarations) → has_equivalence p.declarations ≡ false → r ≡ of_queries names p (query_fault p)
+by_equivalences r names p h e = h ∙ ap (of_equivalences names p) e
+
+-- queries
+
+pub query_refuses : (r : Result Content FileError) (names : List (List ℕ)) (p : Parsed) (e : QueryFault) → r ≡ of_queries names p (query_fault p) → IsQueryRefusal (query_fault p) e → Refuses (of_query e) r
+query_refuses r names p (query.Query k) h f = h ∙ ap (of_queries names p) f
+query_refuses r names p query.OutOfMemory h f = tt
+
+pub all_reads : (r : Result Content FileError) (names held : List (List ℕ)) (trees : List KindTree) (list : List Decl) (f : File) → r ≡ of_queries names (held_in trees list f) (query_fault (held_in trees list f)) → query_fault (held_in trees list f) ≡ None → names ≡ held → r ≡ Ok (content_in held trees list f.game.root)
+all_reads r names held trees list f h q n = h ∙ (ap (of_queries names (held_in trees list f)) q ∙ ap (λ ns. Ok (content_of ns (held_in trees list f))) n)
 
 -- an error that was passed on
 pub reads_on : (limit : ℕ) (bs : List ℕ) (names : List (List ℕ)) (trees : List KindTree) (list : List Decl) (r : Result File FileError) (e : FileError) → IsErrAnd r (λ x. x ≡ e) → Refuses e (read_of limit bs) → ReadsIn limit bs names trees list r
@@ -104,21 +137,29 @@ reads_on limit bs names trees list (Err x) e i h = subst (λ y. Refuses y (read_
 
 -- what is known of a file that is accepted
 
-and_left : (a b : Bool) → (a && b) ≡ true → a ≡ true
-and_left true b e = refl
-and_left false b e = absurd (cc)
+-- what an accepted file passed
+record Passed (names : List (List ℕ)) (p : Parsed) (f : Content) : Type 0 where
+  types : type_fault p ≡ None
+  scope : scope_fault p ≡ None
+  equivalences : has_equivalence p.declarations ≡ false
+  queries : query_fault p ≡ None
+  content : content_of names p ≡ f
 
-and_right : (a b : Bool) → (a && b) ≡ true → b ≡ true
-and_right true b e = e
-and_right false b e = absurd (cc)
+from_queries : (names : List (List ℕ)) (p : Parsed) (f : Content) → type_fault p ≡ None → scope_fault p ≡ None → has_equivalence p.declarations ≡ false → (o : Option ℕ) → query_fault p ≡ o → of_queries names p o ≡ Ok f → Passed names p f
+from_queries names p f t s q None i e = record { types = t; scope = s; equivalences = q; queries = i; content = cc }
+from_queries names p f t s q (Some k) i e = absurd (cc)
 
-ok_if : (b : Bool) (c f : Content) → (if b then Ok c else Err Unbuilt) ≡ Ok f → (b ≡ true) × (c ≡ f)
-ok_if true c f e = (refl, cc)
-ok_if false c f e = absurd (cc)
+from_equivalences : (names : List (List ℕ)) (p : Parsed) (f : Content) → type_fault p ≡ None → scope_fault p ≡ None → (b : Bool) → has_equivalence p.declarations ≡ b → of_equivalences names p b ≡ Ok f → Passed names p f
+from_equivalences names p f t s false i e = from_queries names p f t s i (query_fault p) refl e
+from_equivalences names p f t s true i e = absurd (cc)
 
-from_types : (names : List (List ℕ)) (p : Parsed) (f : Content) (o : Option (ℕ × Fault)) → of_types names p o ≡ Ok f → (o ≡ None) × (is_built p ≡ true) × (content_of names p ≡ f)
-from_types names p f None e = let b = ok_if (is_built p) (content_of names p) f e in (refl, b.0, b.1)
-from_types names p f (Some x) e = absurd (cc)
+from_scopes : (names : List (List ℕ)) (p : Parsed) (f : Content) → type_fault p ≡ None → (o : Option (ℕ × ScopeRules)) → scope_fault p ≡ o → of_scopes names p o ≡ Ok f → Passed names p f
+from_scopes names p f t None i e = from_equivalences names p f t i (has_equivalence p.declarations) refl e
+from_scopes names p f t (Some x) i e = absurd (cc)
+
+from_types : (names : List (List ℕ)) (p : Parsed) (f : Content) (o : Option (ℕ × Fault)) → type_fault p ≡ o → of_types names p o ≡ Ok f → Passed names p f
+from_types names p f None i e = from_scopes names p f i (scope_fault p) refl e
+from_types names p f (Some x) i e = absurd (cc)
 
 from_script : (names : List (List ℕ)) (p : Parsed) (f : Content) (s : Option (ℕ × ℕ)) → of_script names p s ≡ Ok f → (s ≡ None) × (of_types names p (type_fault p) ≡ Ok f)
 from_script names p f None e = (refl, e)
@@ -127,16 +168,18 @@ from_script names p f (Some x) e = absurd (cc)
 from_parsed : (limit : ℕ) (bs : List ℕ) (ts : List Token) (f : Content) (r : Result Parsed ParseError) → Lexed 0 bs (Ok ts) → parsed limit (signs_of ts).signs ≡ r → of_parsed (signs_of ts).names r ≡ Ok f → IsFile limit bs f
 from_parsed limit bs ts f (Ok p) l e i =
     let s = from_script (signs_of ts).names p f p.script i in
-    let b = from_types (signs_of ts).names p f (type_fault p) s.1 in
+    let b = from_types (signs_of ts).names p f (type_fault p) refl s.1 in
     record {
       tokens = ts;
       said = p;
       lexed = l;
       says = said_is_saying limit (signs_of ts).signs p e;
       no_script = s.0;
-      typed = parts_typed_where_none p.declarations 0 (file_parts p.declarations p.game) b.0;
-      built = b.1;
-      content = sym b.2;
+      typed = parts_typed_where_none p.declarations 0 (file_parts p.declarations p.game) b.types;
+      scoped = scoped_where_none (names_of p.declarations p.game) at_root p.game (behind_none (nodes_before p.declarations) (first_scope_fault p.declarations p.game) b.scope);
+      no_equivalence = b.equivalences;
+      asked = asked-where-none p.game (queries_in p.declarations) b.queries;
+      content = sym b.content;
     }
 from_parsed limit bs ts f (Err x) l e i = absurd (cc)
 
@@ -155,69 +198,18 @@ file_is_read limit bs f w =
     ∙ (ap (of_parsed (signs_of w.tokens).names) (says_is_said limit (signs_of w.tokens).signs w.said w.says)
     ∙ (ap (of_script (signs_of w.tokens).names w.said) w.no_script
     ∙ (ap (of_types (signs_of w.tokens).names w.said) (none_where_parts_typed w.said.declarations 0 (file_parts w.said.declarations w.said.game) w.typed)
-    ∙ (ap (λ b. if b then Ok (content_of (signs_of w.tokens).names w.said) else Err Unbuilt) w.built ∙ ap Ok (sym w.content)))))
+    ∙ (ap (of_scopes (signs_of w.tokens).names w.said) (none_behind (nodes_before w.said.declarations) (first_scope_fault w.said.declarations w.said.game) (none_where_scoped (names_of w.said.declarations w.said.game) at_root w.said.game w.scoped))
+    ∙ (ap (of_equivalences (signs_of w.tokens).names w.said) w.no_equivalence
+    ∙ (ap (of_queries (signs_of w.tokens).names w.said) (none-where-asked w.said.game (queries_in w.said.declarations) w.asked)
+    ∙ ap Ok (sym w.content)))))))
 
 pub accepted : (limit : ℕ) (bs : List ℕ) (f : Content) → read_of limit bs ≡ Ok f → IsAccepted f
 accepted limit bs f e =
     let w = read_is_file limit bs f e in
-    let p = w.said in
-    let s = signature_of p.declarations in
-    let typed = and_right (list_all is_plain p.declarations) (is_typed p.declarations p.game) w.built in
-    let game = and_left (game_fits s p.game) (queries_fit s (queries_in p.declarations)) typed in
     subst IsAccepted (sym w.content) (record {
       small = w.says.small;
       shallow = w.says.shallow;
-      process = and_left (process_fits s p.game) (are_of_one_type no_variable (sites_of p.game)) game;
-      sites = and_right (process_fits s p.game) (are_of_one_type no_variable (sites_of p.game)) game;
-      queries = and_right (game_fits s p.game) (queries_fit s (queries_in p.declarations)) typed;
+      typed = w.typed;
+      well_formed = well_formed limit (signs_of w.tokens).signs w.said (says_is_said limit (signs_of w.tokens).signs w.said w.says) w.scoped;
+      asked = w.asked;
     })
-
--- plain declarations
-
-pub plain_same : (trees : List KindTree) (ds : List Decl) → list_all is_plain_decl ds ≡ list_all is_plain (declarations trees ds)
-plain_same trees [] = refl
-plain_same trees (decl.Name id c args result ∷ ds) = ap (λ b. is_of_name c && b) (plain_same trees ds)
-plain_same trees (decl.Equation n ∷ ds) = refl
-plain_same trees (decl.Equiv id n ∷ ds) = refl
-plain_same trees (decl.Query n ∷ ds) = plain_same trees ds
-
--- of these declarations each is below a bound
-plain_one : (bound : ℕ) (d : Decl) → is_plain_decl d ≡ true → IsBelow bound d → IsPlain bound d
-plain_one bound (decl.Name id c args result) e b = (e, b)
-plain_one bound (decl.Equation n) e b = absurd (cc)
-plain_one bound (decl.Equiv id n) e b = absurd (cc)
-plain_one bound (decl.Query n) e b = b
-
-pub all_plain : (bound : ℕ) (ds : List Decl) → list_all is_plain_decl ds ≡ true → All (IsBelow bound) ds → All (IsPlain bound) ds
-all_plain bound [] e b k d l = absurd (omega arith)
-all_plain bound (d ∷ ds) e b zero x l = plain_one bound d (and_left (is_plain_decl d) (list_all is_plain_decl ds) e) (All-head (IsBelow bound) d ds b)
-all_plain bound (d ∷ ds) e b (suc k) x l = all_plain bound ds (and_right (is_plain_decl d) (list_all is_plain_decl ds) e) (All-tail (IsBelow bound) d ds b) k x (omega arith)
-
--- plain declarations, one after another
-pub plain_next : (ds : List Decl) (k : ℕ) → k < length ds → list_all is_plain_decl (drop k ds) ≡ (plain_there (slice_get ds k) && list_all is_plain_decl (drop (k + 1) ds))
-plain_next [] k l = absurd (omega arith)
-plain_next (d ∷ ds) zero l = refl
-plain_next (d ∷ ds) (suc k) l = let e : suc k + 1 ≡ suc (k + 1) = omega arith in plain_next ds k (omega arith) ∙ ap (λ n. plain_there (slice_get ds k) && list_all is_plain_decl (drop n (d ∷ ds))) (sym e)
-
-pub plain_past : (ds : List Decl) (k : ℕ) → length ds ≤ k → list_all is_plain_decl (drop k ds) ≡ true
-plain_past [] zero l = refl
-plain_past [] (suc k) l = refl
-plain_past (d ∷ ds) zero l = absurd (omega arith)
-plain_past (d ∷ ds) (suc k) l = plain_past ds k (omega arith)
-
-pub plain_fails : (ds : List Decl) (k : ℕ) (b total : Bool) → k < length ds → list_all is_plain_decl (drop k ds) ≡ total → b ≡ plain_there (slice_get ds k) → b ≡ false → false ≡ total
-plain_fails ds k b total l e f g = sym (ap (λ x. x && list_all is_plain_decl (drop (k + 1) ds)) (sym f ∙ g)) ∙ (sym (plain_next ds k l) ∙ e)
-
-pub plain_goes : (ds : List Decl) (k : ℕ) (b total : Bool) → k < length ds → list_all is_plain_decl (drop k ds) ≡ total → b ≡ plain_there (slice_get ds k) → b ≡ true → list_all is_plain_decl (drop (k + 1) ds) ≡ total
-plain_goes ds k b total l e f g = sym (ap (λ x. x && list_all is_plain_decl (drop (k + 1) ds)) (sym f ∙ g)) ∙ (sym (plain_next ds k l) ∙ e)
-
-pub ruleset plains = (plain_past)
-
--- whether a file is of the form that is built
-
-pub not_plain : (ds : List Declaration) (t : Tree) → list_all is_plain ds ≡ false → false ≡ (list_all is_plain ds && is_typed ds t)
-not_plain ds t e = sym (ap (λ b. b && is_typed ds t) e)
-
-pub by_form : (r : Result Bool AllocError) (ds : List Declaration) (t : Tree) → list_all is_plain ds ≡ true → IfOk r (λ b. b ≡ is_typed ds t) → IfOk r (λ b. b ≡ (list_all is_plain ds && is_typed ds t))
-by_form (Ok b) ds t e h = h ∙ sym (ap (λ x. x && is_typed ds t) e)
-by_form (Err x) ds t e h = tt

@@ -27,7 +27,7 @@ unfolding size
 first_second Empty = omega arith
 first_second (Node h a b) = omega arith
 
-parts_both : (xs ys : List Part) → parts_size (xs ++ ys) ≡ parts_size xs + parts_size ys
+pub parts_both : (xs ys : List Part) → parts_size (xs ++ ys) ≡ parts_size xs + parts_size ys
 parts_both [] ys = omega arith
 parts_both (x ∷ xs) ys = let e = parts_both xs ys in omega arith
 

@@ -1,5 +1,5 @@
 -- What a work holds.
-use Rattle.std.specs.Prelude.{◌≡◌, ℕ, ◌≤◌, true, List, Some, Result, Ok, Err}
+use Rattle.std.specs.Prelude.{◌≡◌, ℕ, ◌≤◌, List, Some, Result, Ok, Err}
 use Rattle.cv_pool.specs.declared.node.NodeId.{NodeId}
 use Rattle.cv_pool.specs.KindTree.{KindTree}
 use Rattle.cv_syntax.specs.declared.decls.Decl.{Decl}
@@ -8,10 +8,12 @@ use Rattle.cv_syntax.specs.declared.work.Work.{Work}
 use Rattle.cv_syntax.specs.Declarations.{declarations}
 use Rattle.cv_syntax.specs.Tree.{depth, size, tree_at}
 use Rattle.cv_parse.specs.Parsed.{most_depth, most_nodes}
+use Rattle.cv_typing.specs.Parts.{IsTypedFile}
+use Rattle.cv_discipline.specs.Phrases.{IsWellFormed}
+use Rattle.cv_queries.specs.Queries.{queries_in}
+use Rattle.cv_queries.specs.Rules.{AreAsked}
 use Rattle.cv_files.specs.declared.error.FileError.{FileError}
 use Rattle.cv_files.specs.Accepted.{Content, Refuses, read_of}
-use Rattle.cv_files.specs.Sites.{are_of_one_type, sites_of}
-use Rattle.cv_files.specs.Typing.{no_variable, signature_of, process_fits, queries_fit, queries_in}
 
 -- names and declarations, with the game at a node
 abbrev pub content_in : List (List ℕ) → List KindTree → List Decl → NodeId → Content
@@ -28,11 +30,10 @@ ReadsIn limit bytes names trees list (Err e) = Refuses e (read_of limit bytes)
 abbrev pub Reads : (limit : ℕ) → List ℕ → Work → Result File FileError → Type 0
 Reads limit bytes w r = ReadsIn limit bytes w.names w.pool.trees w.decls.list r
 
--- a file's game is no larger than a game may be, and it and the queries are typed and in scope, with one
--- type for each variable
+-- a file's game is no larger than a game may be and well formed, the file is typed, and its queries may be asked
 pub record IsAccepted (f : Content) : Type 0 where
   pub small : size f.game ≤ most_nodes
   pub shallow : depth f.game ≤ most_depth
-  pub process : process_fits (signature_of f.declarations) f.game ≡ true
-  pub sites : are_of_one_type no_variable (sites_of f.game) ≡ true
-  pub queries : queries_fit (signature_of f.declarations) (queries_in f.declarations) ≡ true
+  pub typed : IsTypedFile f.declarations f.game
+  pub well_formed : IsWellFormed f.declarations f.game
+  pub asked : AreAsked f.game (queries_in f.declarations)

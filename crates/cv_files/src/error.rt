@@ -1,5 +1,7 @@
 use cv_lex::LexError;
 use cv_parse::ParseError;
+use cv_queries::QueryFault;
+use cv_scope::ScopeFault;
 use cv_syntax::BuildError;
 use cv_typing::TypeFault;
 use std::alloc::AllocError;
@@ -13,7 +15,11 @@ pub enum FileError {
     Parse(ParseError),
     /// They are a file whose terms aren't typed.
     Types(TypeFault),
-    /// They are a file that isn't of the form that is built.
+    /// They are a file whose game breaks a rule of array scope.
+    Scope(ScopeFault),
+    /// They are a file whose query of this number, counted from 1, may not be asked.
+    Query(u32),
+    /// They are a file with a part that isn't read yet: a proof block or an equivalence.
     Unbuilt,
     OutOfMemory,
 }
@@ -67,6 +73,34 @@ impl From<TypeFault> for FileError {
         match fault {
             TypeFault::OutOfMemory => FileError::OutOfMemory,
             other => FileError::Types(other),
+        }
+    }
+}
+
+impl From<ScopeFault> for FileError {
+    ghost use Rattle.cv_files.specs.Faults.{of_scope};
+    ghost use Rattle.std.specs.Prelude.{◌≡◌};
+
+    ghost from_gives = { λ fault e. e ≡ of_scope fault };
+
+    fn from(fault: ScopeFault) -> FileError {
+        match fault {
+            ScopeFault::OutOfMemory => FileError::OutOfMemory,
+            other => FileError::Scope(other),
+        }
+    }
+}
+
+impl From<QueryFault> for FileError {
+    ghost use Rattle.cv_files.specs.Faults.{of_query};
+    ghost use Rattle.std.specs.Prelude.{◌≡◌};
+
+    ghost from_gives = { λ fault e. e ≡ of_query fault };
+
+    fn from(fault: QueryFault) -> FileError {
+        match fault {
+            QueryFault::Query(k) => FileError::Query(k),
+            QueryFault::OutOfMemory => FileError::OutOfMemory,
         }
     }
 }

@@ -1,14 +1,16 @@
 ghost use Rattle.std.specs.Prelude.{◌≡◌, ◌+◌, ◌<◌, ◌≤◌, ◌^◌, [], ℕ, Some, None, All, length, IfOk, OnOk, OnErr};
+ghost use Rattle.cv_parse.specs.Declaring.{IsBelow};
 ghost use Rattle.cv_syntax.specs.Tree.{size, tree_at};
-ghost use Rattle.cv_files.specs.Plain.{IsPlain};
 ghost use Rattle.cv_files.specs.Works.{Reads};
 
+use crate::equivalences::has_equivalence;
 use crate::error::FileError;
-use crate::forms::is_built;
+use crate::scoping::check_game;
 use cv_lex::tokens;
 use cv_parse::file;
+use cv_queries::check as check_queries;
 use cv_syntax::{File, Work};
-use cv_typing::check;
+use cv_typing::check as check_types;
 use std::alloc::Global;
 
 /// Fills an empty work with what bytes hold, where they are a file.
@@ -22,17 +24,19 @@ fn fill(alloc: Global, work: &mut Work, bytes: &[u8]) -> Result<File, FileError>
     ensures reads { Reads work.old.pool.limit bytes.now work.new result }
     ensures live { IfOk result (λ f. f.game.root.0 < length work.new.pool.trees) }
     ensures fits { IfOk result (λ f. size (tree_at work.new.pool.trees (Some f.game.root)) ≤ 50000) }
-    ensures plain { OnOk result (All (IsPlain (length work.new.pool.trees)) work.new.decls.list) }
+    ensures below { OnOk result (All (IsBelow (length work.new.pool.trees)) work.new.decls.list) }
 {
     let tokens = tokens(alloc, bytes)?;
     let file = file(alloc, work, &tokens)?;
     if file.script.is_some() {
         return Err(FileError::Unbuilt);
     }
-    check(alloc, work, &file)?;
-    if !is_built(alloc, &work.pool, &work.decls, file.game.root)? {
+    let nodes = check_types(alloc, work, &file)?;
+    check_game(alloc, work, file.game, nodes)?;
+    if has_equivalence(&work.decls) {
         return Err(FileError::Unbuilt);
     }
+    check_queries(alloc, work, file.game)?;
     Ok(file)
 }
 
@@ -47,7 +51,7 @@ pub fn read(alloc: Global, work: &mut Work, bytes: &[u8]) -> Result<File, FileEr
     ensures reads { Reads work.old.pool.limit bytes.now work.new result }
     ensures live { IfOk result (λ f. f.game.root.0 < length work.new.pool.trees) }
     ensures fits { IfOk result (λ f. size (tree_at work.new.pool.trees (Some f.game.root)) ≤ 50000) }
-    ensures plain { OnOk result (All (IsPlain (length work.new.pool.trees)) work.new.decls.list) }
+    ensures below { OnOk result (All (IsBelow (length work.new.pool.trees)) work.new.decls.list) }
     ensures names { OnErr result (work.new.names ≡ []) }
     ensures decls { OnErr result (work.new.decls.list ≡ []) }
     ensures trees { OnErr result (work.new.pool.trees ≡ []) }

@@ -2,8 +2,8 @@ ghost use Rattle.std.specs.Prelude.{◌≡◌, ℕ, List, Ok};
 ghost use Rattle.cv_files.specs.Accepted.{Content, IsFile, read_of};
 ghost use Rattle.cv_files.specs.Works.{IsAccepted};
 
-/// A file that is accepted is small, typed and in scope.
-pub fn accepted_is_typed()
+/// A file that is accepted is small and typed, its game is well formed, and its queries may be asked.
+pub fn accepted_is_well_formed()
     ensures { (limit : ℕ) (bytes : List ℕ) (f : Content) → read_of limit bytes ≡ Ok f → IsAccepted f }
 {}
 

@@ -1,17 +1,14 @@
-// Files of the form that is built.
+// Files: which bytes are one, and what is checked of them.
 #![tactic(auto)]
 
-mod bodies;
+mod equivalences;
 mod error;
 mod file;
-mod forms;
 mod laws;
 mod queries;
-mod scopes;
-mod sites;
-mod typing;
+mod scoping;
 
 pub use error::FileError;
 pub use file::read;
-pub use laws::{accepted_is_typed, file_is_computed};
+pub use laws::{accepted_is_well_formed, file_is_computed};
 pub use queries::query_at;

@@ -1,5 +1,5 @@
 ghost use Rattle.std.specs.Prelude.{◌≡◌, option_and_then, slice_get};
-ghost use Rattle.cv_files.specs.Plain.{query_of};
+ghost use Rattle.cv_files.specs.Lists.{query_of};
 
 use cv_syntax::{Decl, Decls, NodeId};
 

@@ -14,7 +14,7 @@ use Rattle.cv_scope.specs.Refusals.{IsFirstRefusal, IsRefusalOf}
 use Rattle.cv_scope.specs.declared.position.Position.{Position}
 use Rattle.cv_scope.specs.declared.position.Position.TheVariants.{Anywhere, OneCell}
 use Rattle.cv_scope.specs.Rules.{Names, is_index, carries_current}
-use Rattle.cv_scope.specs.Scope.{IsFirstFault, IsScoped, IsScopedAt, first_fault, names_of, placed}
+use Rattle.cv_scope.specs.Scope.{IsFirstFault, IsScoped, IsScopedAt, first_fault, first_scope_fault, names_of, placed}
 use Rattle.cv_scope.specs.Seen.{Seen, fault_seen, current, found, is_defined_at, is_empty, is_reached, is_read_reached, is_scoped_read, is_well_replicated, may_stand_last, no_site, nothing_seen, second_seen, with_node, with_sites, with_tree}
 use Rattle.cv_scope.specs.Sites.{InOneOf, Site, channel_here, named_here, sites_from, sites_here}
 use Rattle.cv_scope.specs.Standing.{Standing, at_root, first_standing, second_standing, parts_ways, passed_second}
@@ -218,6 +218,15 @@ pub found-game : (names : Names) (t : Tree) → found names nothing_seen Anywher
 found-game names t = found-first names t nothing_seen at_root root-agrees
 
 -- what a walk over a game finds
+
+found-fault : (ds : List Declaration) (t : Tree) (names : Names) (S : Seen) → names ≡ names_of ds t → S ≡ nothing_seen → found names S Anywhere 0 t ≡ first_scope_fault ds t
+found-fault ds t names S e f = (λ i. found (e i) (f i) Anywhere 0 t) ∙ found-game (names_of ds t) t
+
+pub no-game-fault : (ds : List Declaration) (t : Tree) (names : Names) (S : Seen) → names ≡ names_of ds t → S ≡ nothing_seen → found names S Anywhere 0 t ≡ None → first_scope_fault ds t ≡ None
+no-game-fault ds t names S e f h = sym (found-fault ds t names S e f) ∙ h
+
+pub game-refusal : (ds : List Declaration) (t : Tree) (names : Names) (S : Seen) (r : ScopeFault) → names ≡ names_of ds t → S ≡ nothing_seen → IsRefusalOf (found names S Anywhere 0 t) r → IsRefusalOf (first_scope_fault ds t) r
+game-refusal ds t names S r e f h = subst (λ (o : Option (ℕ × Fault)). IsRefusalOf o r) (found-fault ds t names S e f) h
 
 pub scoped-game : (ds : List Declaration) (t : Tree) (names : Names) (S : Seen) → names ≡ names_of ds t → S ≡ nothing_seen → found names S Anywhere 0 t ≡ None → IsScoped ds t
 scoped-game ds t names S e f h = scoped_where_none (names_of ds t) at_root t (sym (found-game (names_of ds t) t) ∙ (sym (λ i. found (e i) (f i) Anywhere 0 t) ∙ h))

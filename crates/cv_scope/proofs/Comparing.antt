@@ -1,28 +1,15 @@
 -- Terms by the heads and the children of their nodes.
-use Rattle.std.proofs.Common.{◌≡◌, ◌≤◌, ℕ, zero, suc, Bool, true, false, ◌&&◌, refl, ap, sym, ◌∙◌, arith, nat_eq, eqb-true, List, [], ◌∷◌, length, drop}
+use Rattle.std.proofs.Common.{◌≡◌, ◌≤◌, ℕ, zero, suc, Bool, true, false, refl, ap, sym, ◌∙◌, arith, nat_eq, eqb-true, List, [], ◌∷◌, length, drop}
 use Rattle.std.proofs.lemmas.Bool.{eq-eqb, ne_eqb, eqb-false}
 use Rattle.cv_scope.specs.Rules.{carries}
-use Rattle.cv_syntax.specs.Head.{same_head}
 use Rattle.cv_pool.specs.KindTree.{NoTree}
-use Rattle.cv_syntax.specs.Tree.{Tree, Empty, Node, same_tree, tree_of}
+use Rattle.cv_syntax.specs.Tree.{Tree, Empty, tree_of}
 
 pub no-tree : tree_of NoTree ≡ Empty
 unfolding tree_of
 no-tree = refl
 
-abbrev pub same_parts : Tree → Tree → Bool
-same_parts Empty Empty = true
-same_parts (Node h a b) (Node k c d) = same_head h k && (same_tree a c && same_tree b d)
-same_parts _ _ = false
-
-pub same-open : (s t : Tree) → same_tree s t ≡ same_parts s t
-unfolding same_tree
-same-open Empty Empty = refl
-same-open Empty (Node k c d) = refl
-same-open (Node h a b) Empty = refl
-same-open (Node h a b) (Node k c d) = refl
-
-pub ruleset term_laws = (no-tree, same-open)
+pub ruleset term_laws = (no-tree)
 
 -- at the end of a list of names all indices were there
 pub carries-end : (rs : List (ℕ × ℕ)) (n : ℕ) (t : Tree) → n ≤ length rs → t ≡ Empty → nat_eq n (length rs) ≡ carries (drop n rs) t

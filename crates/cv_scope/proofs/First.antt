@@ -47,7 +47,7 @@ module _ (names : Names) where
   later s (Node h a b) q f (in_first d) = let i = later (first_standing s h a) a q f d in omega arith
   later s (Node h a b) q f (in_second d) = let i = later (second_standing s h a) b q f d in omega arith
 
-  earlier : (s : Standing) (t : Tree) (q : ℕ) (f : Fault) → Faulty names s t q f → q ≤ s.place + size t
+  pub earlier : (s : Standing) (t : Tree) (q : ℕ) (f : Fault) → Faulty names s t q f → q ≤ s.place + size t
   unfolding size
   earlier s Empty q f d = elim d [ ]
   earlier s (Node h a b) q f (here e x) = omega arith

@@ -1,10 +1,10 @@
 -- The first fault of a tree, node by node.
-use Rattle.std.proofs.Common.{append-nil, cond, Bool, true, false, ◌≡◌, ℕ, ◌+◌, ◌≤◌, List, [], ◌∷◌, ◌++◌, length, map, take, refl, ap, sym, subst, ◌∙◌, arith, Option, Some, None}
+use Rattle.std.proofs.Common.{append-nil, cond, Bool, true, false, ◌≡◌, ℕ, ◌+◌, ◌≤◌, List, [], ◌∷◌, ◌++◌, length, take, refl, ap, sym, subst, ◌∙◌, arith, Option, Some, None}
 use Rattle.std.proofs.lemmas.List.{length-take, take-take}
 use Rattle.cv_pool.specs.KindTree.{KindTree}
 use Rattle.cv_syntax.specs.declared.head.Head.{Head}
 use Rattle.cv_syntax.specs.Head.{weight}
-use Rattle.cv_syntax.specs.Tree.{Tree, Empty, Node, size, tree_at}
+use Rattle.cv_syntax.specs.Tree.{Tree, Empty, Node, size}
 use Rattle.cv_typing.specs.Sites.{first_of}
 use Rattle.cv_scope.specs.declared.fault.Fault.{Fault}
 use Rattle.cv_scope.specs.declared.fault.Fault.TheVariants as fault
@@ -14,7 +14,7 @@ use Rattle.cv_scope.specs.declared.enter.Marks.{Marks}
 use Rattle.cv_scope.specs.declared.position.Position.{Position}
 use Rattle.cv_scope.specs.declared.state.State.{State}
 use Rattle.cv_scope.specs.Context.{first_position, second_position, replications_below}
-use Rattle.cv_scope.specs.Held.{Extends, HasLiveBinders, IsEntered, IsTaken, Keeps, OnlySites, SameAbove, last_held, state_held}
+use Rattle.cv_scope.specs.Held.{Extends, HasLiveBinders, IsEntered, IsTaken, Keeps, OnlySites, SameAbove, cells_held, last_held, state_held}
 use Rattle.cv_scope.specs.Refusals.{IsRefusalOf, refusal}
 use Rattle.cv_scope.specs.Rules.{Names}
 use Rattle.cv_scope.specs.Scope.{placed}
@@ -80,7 +80,7 @@ no-memory m t e = subst (IsRefusalOf m) (sym e) tt
 -- what the state holds
 
 pub held-only : (trees : List KindTree) (s r : State) (sites : List Site) → OnlySites trees s r sites → state_held trees r ≡ record (state_held trees s) { last = with_sites (last_held trees s.last) sites }
-held-only trees s r sites m = λ i. record { replications = m.above.replications i; defined = m.above.defined i; listed = map (tree_at trees) (m.above.listed i); passed = m.above.passed i; last = m.last i }
+held-only trees s r sites m = λ i. record { replications = m.above.replications i; defined = m.above.defined i; listed = cells_held trees (m.above.listed i); passed = m.above.passed i; last = m.last i }
 
 -- the tree's sites: the node's, those of the first part, and those of the second
 pub sites-node : (last : SiteName → Option Site) (rs : List (ℕ × ℕ)) (p : ℕ) (t : Tree) (h : Head) (a b : Tree) → t ≡ Node h a b → with_sites last (sites_from rs p t) ≡ with_sites (with_sites (with_sites last (sites_here rs p h a)) (sites_from rs (p + weight h) a)) (sites_from (replications_below h rs) (p + weight h + size a) b)
@@ -101,11 +101,11 @@ front-on m xs ys zs e f g =
     let l : m ≤ length xs = omega (arith, e, ap length f, length-take m xs) in
     sym (take-take m (length xs) ys l) ∙ (ap (take m) g ∙ f)
 
-pub keeps-start : (marks : Marks) (s : State) → marks.replications ≡ length s.replications.items → marks.defined ≡ length s.defined → marks.listed ≡ length s.listed.items → marks.passed ≡ length s.passed → Keeps marks s s
+pub keeps-start : (marks : Marks) (s : State) → marks.replications ≡ length s.replications.items → marks.defined ≡ length s.defined → marks.listed ≡ length s.listed → marks.passed ≡ length s.passed → Keeps marks s s
 keeps-start marks s a b c d = record {
   replications = ap (λ n. take n s.replications.items) a ∙ front-all s.replications.items;
   defined = ap (λ n. take n s.defined) b ∙ front-all s.defined;
-  listed = ap (λ n. take n s.listed.items) c ∙ front-all s.listed.items;
+  listed = ap (λ n. take n s.listed) c ∙ front-all s.listed;
   passed = ap (λ n. take n s.passed) d ∙ front-all s.passed;
 }
 
@@ -117,11 +117,11 @@ keeps-same marks s r q k m = record {
   passed = ap (take marks.passed) m.passed ∙ k.passed;
 }
 
-pub keeps-more : (marks : Marks) (s r q : State) → marks.replications ≡ length s.replications.items → marks.defined ≡ length s.defined → marks.listed ≡ length s.listed.items → marks.passed ≡ length s.passed → Keeps marks s r → Extends r q → Keeps marks s q
+pub keeps-more : (marks : Marks) (s r q : State) → marks.replications ≡ length s.replications.items → marks.defined ≡ length s.defined → marks.listed ≡ length s.listed → marks.passed ≡ length s.passed → Keeps marks s r → Extends r q → Keeps marks s q
 keeps-more marks s r q a b c d k m = record {
   replications = front-on marks.replications r.replications.items q.replications.items s.replications.items a k.replications m.replications;
   defined = front-on marks.defined r.defined q.defined s.defined b k.defined m.defined;
-  listed = front-on marks.listed r.listed.items q.listed.items s.listed.items c k.listed m.listed;
+  listed = front-on marks.listed r.listed q.listed s.listed c k.listed m.listed;
   passed = front-on marks.passed r.passed q.passed s.passed d k.passed m.passed;
 }
 
@@ -134,7 +134,7 @@ released trees marks s r q sites k t l v = record {
 }
 
 -- a node's own sites are noted, then those of its first part, and then what the second part knows is learned
-module _ (trees : List KindTree) (s s1 s2 s3 : State) (w : Position) (h : Head) (a : Tree) (p p1 p2 : ℕ) (e1 : OnlySites trees s s1 (sites_here s.replications.items p h a)) (q1 : p1 ≡ p + weight h) (e2 : OnlySites trees s1 s2 (sites_from s1.replications.items p1 a)) (q2 : p2 ≡ p1 + size a) (e3 : IsEntered trees s2 s3 w h a p1 p2) where
+module _ (trees : List KindTree) (numbers : List ℕ) (s s1 s2 s3 : State) (w : Position) (h : Head) (a : Tree) (p p1 p2 : ℕ) (e1 : OnlySites trees s s1 (sites_here s.replications.items p h a)) (q1 : p1 ≡ p + weight h) (e2 : OnlySites trees s1 s2 (sites_from s1.replications.items p1 a)) (q2 : p2 ≡ p1 + size a) (e3 : IsEntered trees numbers s2 s3 w h a p1 p2) where
   place-second : p2 ≡ p + weight h + size a
   place-second = q2 ∙ ap (λ n. n + size a) q1
 

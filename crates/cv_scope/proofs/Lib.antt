@@ -4,6 +4,7 @@ pub mod Noting
 pub mod Entering
 pub mod Faults
 pub mod Stacks
+pub mod Listing
 pub mod Comparing
 pub mod Trees
 pub mod Agreeing

@@ -4,6 +4,7 @@ use Rattle.std.specs.HashMap.{get}
 use Rattle.cv_pool.specs.KindTree.{KindTree}
 use Rattle.cv_pool.specs.Nodes.{ChildBelow}
 use Rattle.cv_pool.specs.declared.node.NodeId.{NodeId}
+use Rattle.cv_interning.specs.Numbers.{number_of}
 use Rattle.cv_syntax.specs.declared.decls.Class.TheVariants.{Fun}
 use Rattle.cv_syntax.specs.declared.decls.Decl.{Decl}
 use Rattle.cv_syntax.specs.Declarations.{Declaration, Named, declared}
@@ -20,6 +21,7 @@ use Rattle.cv_scope.specs.Rules.{Names}
 use Rattle.cv_scope.specs.declared.enter.Marks.{Marks}
 use Rattle.cv_scope.specs.declared.state.State.{State}
 use Rattle.cv_scope.specs.Seen.{Seen, behind, with_sites}
+use Rattle.cv_scope.specs.declared.listed.ListedCell.{ListedCell}
 use Rattle.cv_scope.specs.declared.lasts.LastSite.{LastSite}
 use Rattle.cv_scope.specs.declared.lasts.Lasts.{Lasts}
 use Rattle.cv_scope.specs.Sites.{Site, SiteName, Variable, Channel, Label, bound_types}
@@ -61,9 +63,16 @@ IsFirstBinder trees list (Some b) =
 abbrev pub names_held : NameKinds → Names
 names_held n = record { constant = λ x. is_some (get nat_eq n.constants x); variable = λ x. is_some ((seen n.sites).variable x) }
 
--- each tree of a list is live
-abbrev pub AreLive : ℕ → List (Option NodeId) → Type 0
-AreLive n list = All (ChildBelow n) list
+-- a listed cell is live, and has the number of its tree
+abbrev pub IsListed : List KindTree → List ℕ → ListedCell → Type 0
+IsListed trees numbers c = ChildBelow (length trees) c.tree × (c.number ≡ number_of numbers c.tree)
+
+abbrev pub AreListed : List KindTree → List ℕ → List ListedCell → Type 0
+AreListed trees numbers list = All (IsListed trees numbers) list
+
+-- the trees of listed cells
+abbrev pub cells_held : List KindTree → List ListedCell → List Tree
+cells_held trees list = map (λ (c : ListedCell). tree_at trees c.tree) list
 
 -- a number, and so many more
 abbrev pub and_more : ℕ → Option ℕ → Option ℕ
@@ -79,7 +88,7 @@ abbrev pub state_held : List KindTree → State → Seen
 state_held trees s = record {
   replications = s.replications.items;
   defined = s.defined;
-  listed = map (tree_at trees) s.listed.items;
+  listed = cells_held trees s.listed;
   passed = s.passed;
   last = last_held trees s.last;
 }
@@ -88,7 +97,7 @@ state_held trees s = record {
 pub record SameAbove (s r : State) : Type 0 where
   pub replications : r.replications.items ≡ s.replications.items
   pub defined : r.defined ≡ s.defined
-  pub listed : r.listed.items ≡ s.listed.items
+  pub listed : r.listed ≡ s.listed
   pub passed : r.passed ≡ s.passed
 
 -- the same, with more sites
@@ -110,7 +119,7 @@ pub record IsOpened (trees : List KindTree) (k : NodeId) (node : Opened) : Type 
 pub record IsTaken (marks : Marks) (s r : State) : Type 0 where
   pub replications : r.replications.items ≡ take marks.replications s.replications.items
   pub defined : r.defined ≡ take marks.defined s.defined
-  pub listed : r.listed.items ≡ take marks.listed s.listed.items
+  pub listed : r.listed ≡ take marks.listed s.listed
   pub passed : r.passed ≡ take marks.passed s.passed
   pub last : r.last ≡ s.last
 
@@ -118,17 +127,17 @@ pub record IsTaken (marks : Marks) (s r : State) : Type 0 where
 pub record DefinesOnly (s r : State) (definitions : List (ℕ × ℕ)) : Type 0 where
   pub replications : r.replications.items ≡ s.replications.items
   pub defined : r.defined ≡ definitions
-  pub listed : r.listed.items ≡ s.listed.items
+  pub listed : r.listed ≡ s.listed
   pub passed : r.passed ≡ s.passed
   pub last : r.last ≡ s.last
 
 -- the same, with more cells
-pub record ListsOnly (trees : List KindTree) (s r : State) (cells : List Tree) : Type 0 where
+pub record ListsOnly (trees : List KindTree) (numbers : List ℕ) (s r : State) (cells : List Tree) : Type 0 where
   pub replications : r.replications.items ≡ s.replications.items
   pub defined : r.defined ≡ s.defined
-  pub listed : map (tree_at trees) r.listed.items ≡ map (tree_at trees) s.listed.items ++ cells
-  pub front : take (length s.listed.items) r.listed.items ≡ s.listed.items
-  pub live : AreLive (length trees) r.listed.items
+  pub listed : cells_held trees r.listed ≡ cells_held trees s.listed ++ cells
+  pub front : take (length s.listed) r.listed ≡ s.listed
+  pub live : AreListed trees numbers r.listed
   pub passed : r.passed ≡ s.passed
   pub last : r.last ≡ s.last
 
@@ -136,21 +145,21 @@ pub record ListsOnly (trees : List KindTree) (s r : State) (cells : List Tree) :
 pub record Extends (s r : State) : Type 0 where
   pub replications : take (length s.replications.items) r.replications.items ≡ s.replications.items
   pub defined : take (length s.defined) r.defined ≡ s.defined
-  pub listed : take (length s.listed.items) r.listed.items ≡ s.listed.items
+  pub listed : take (length s.listed) r.listed ≡ s.listed
   pub passed : take (length s.passed) r.passed ≡ s.passed
 
 -- what the second child of a node knows, the first of which is a and lies from one place up to another
-pub record IsEntered (trees : List KindTree) (s r : State) (w : Position) (h : Head) (a : Tree) (from to : ℕ) : Type 0 where
+pub record IsEntered (trees : List KindTree) (numbers : List ℕ) (s r : State) (w : Position) (h : Head) (a : Tree) (from to : ℕ) : Type 0 where
   pub held : state_held trees r ≡ behind (state_held trees s) w h a from to
   pub front : Extends s r
-  pub live : AreLive (length trees) r.listed.items
+  pub live : AreListed trees numbers r.listed
   pub last : r.last ≡ s.last
 
 -- what was known in s is the front of what is known in r
 pub record Keeps (marks : Marks) (s r : State) : Type 0 where
   pub replications : take marks.replications r.replications.items ≡ s.replications.items
   pub defined : take marks.defined r.defined ≡ s.defined
-  pub listed : take marks.listed r.listed.items ≡ s.listed.items
+  pub listed : take marks.listed r.listed ≡ s.listed
   pub passed : take marks.passed r.passed ≡ s.passed
 
 -- the constant that a declaration declares

@@ -1,15 +1,16 @@
-ghost use Rattle.std.specs.Prelude.{◌≡◌, ◌<◌, ◌^◌, All, length, IfErr, OnOk, Some};
+ghost use Rattle.std.specs.Prelude.{◌≡◌, ◌<◌, ◌^◌, All, length, IfErr, OnOk, None, Some};
 ghost use Rattle.cv_syntax.specs.Declarations.{declarations};
 ghost use Rattle.cv_syntax.specs.Tree.{size, tree_at};
 ghost use Rattle.cv_typing.specs.Lookups.{IsLive};
-ghost use Rattle.cv_scope.specs.Refusals.{IsFirstRefusal};
-ghost use Rattle.cv_scope.specs.Scope.{IsScoped};
+ghost use Rattle.cv_scope.specs.Refusals.{IsFirstRefusal, IsRefusalOf};
+ghost use Rattle.cv_scope.specs.Scope.{IsScoped, first_scope_fault};
 
 use crate::fault::ScopeFault;
 use crate::names::NameKinds;
 use crate::position::Position;
 use crate::state::State;
 use crate::walk::walk;
+use cv_interning::Interned;
 use cv_syntax::{Game, Work};
 use std::alloc::Global;
 
@@ -21,12 +22,16 @@ pub fn check(alloc: Global, work: &Work, game: Game) -> Result<(), ScopeFault>
     requires fits { size (tree_at work.now.pool.trees (Some game.root)) < 2 ^ 32 }
     ensures scoped { OnOk result (IsScoped (declarations work.now.pool.trees work.now.decls.list) (tree_at work.now.pool.trees (Some game.root))) }
     ensures fault { IfErr result (IsFirstRefusal (declarations work.now.pool.trees work.now.decls.list) (tree_at work.now.pool.trees (Some game.root))) }
+    ensures none { OnOk result (first_scope_fault (declarations work.now.pool.trees work.now.decls.list) (tree_at work.now.pool.trees (Some game.root)) ≡ None) }
+    ensures found { IfErr result (IsRefusalOf (first_scope_fault (declarations work.now.pool.trees work.now.decls.list) (tree_at work.now.pool.trees (Some game.root)))) }
 {
+    let interned = Interned::of(alloc, &work.pool)?;
     let names = NameKinds::of(alloc, &work.pool, &work.decls, game.root)?;
     let mut state = State::new(alloc);
     walk(
         alloc,
         &work.pool,
+        &interned,
         &names,
         &mut state,
         Position::Anywhere,

@@ -8,6 +8,7 @@ mod enter;
 mod fault;
 mod lasts;
 mod laws;
+mod listed;
 mod names;
 mod passed;
 mod position;

@@ -1,13 +1,16 @@
 ghost use Rattle.std.specs.Prelude.{◌≡◌, ◌<◌, ◌↔◌, length, Some, IsNone};
+ghost use Rattle.std.specs.List.{list_any};
+ghost use Rattle.cv_interning.specs.Numbers.{TellsTrees};
 ghost use Rattle.cv_pool.specs.Nodes.{ChildBelow};
-ghost use Rattle.cv_syntax.specs.Tree.{Empty, Node, tree_at};
-ghost use Rattle.cv_scope.specs.Held.{AreLive, IsOpened, names_held, state_held};
+ghost use Rattle.cv_syntax.specs.Tree.{Empty, Node, same_tree, tree_at};
+ghost use Rattle.cv_scope.specs.Held.{AreListed, IsOpened, cells_held, names_held, state_held};
 ghost use Rattle.cv_scope.specs.Seen.{is_reached as is_reached_by, is_scoped_read, reads_definition as is_defined_by};
 
 use crate::names::NameKinds;
 use crate::position::Position;
 use crate::state::State;
-use crate::terms::{current, is_among, is_index};
+use crate::terms::{current, is_index};
+use cv_interning::Interned;
 use cv_syntax::{Head, NodeId, Opened, Pool};
 
 /// Whether a node is a cell that a definition above assigns.
@@ -33,26 +36,39 @@ fn reads_definition(state: &State, pool: &Pool, k: NodeId, node: Opened) -> bool
     }
 }
 
+/// Whether a `defined` list around has a node.
+fn is_listed(state: &State, pool: &Pool, interned: &Interned, k: NodeId) -> bool
+    requires told { TellsTrees pool.now.trees interned.now }
+    requires live { k.0 < length pool.now.trees }
+    requires listed { AreListed pool.now.trees interned.now state.now.listed }
+    ensures { result ≡ list_any (same_tree (tree_at pool.now.trees (Some k))) (cells_held pool.now.trees state.now.listed) }
+{
+    state.listed.has(interned.number(Some(k)))
+}
+
 /// Whether a node is a cell that is assigned above, or that a `defined` list around has.
-fn is_reached(state: &State, pool: &Pool, k: NodeId, node: Opened) -> bool
+fn is_reached(state: &State, pool: &Pool, interned: &Interned, k: NodeId, node: Opened) -> bool
+    requires told { TellsTrees pool.now.trees interned.now }
     requires node { IsOpened pool.now.trees k node }
-    requires listed { AreLive (length pool.now.trees) state.now.listed.items }
+    requires listed { AreListed pool.now.trees interned.now state.now.listed }
     ensures { result ≡ is_reached_by (state_held pool.now.trees state.now) node.head (tree_at pool.now.trees node.first) (tree_at pool.now.trees node.second) }
 {
-    reads_definition(state, pool, k, node) || is_among(pool, Some(k), state.listed.as_slice())
+    reads_definition(state, pool, k, node) || is_listed(state, pool, interned, k)
 }
 
 /// Whether a node reads only what is in scope.
 pub fn is_in_scope(
     state: &State,
     pool: &Pool,
+    interned: &Interned,
     names: &NameKinds,
     position: Position,
     k: NodeId,
     node: Opened,
 ) -> bool
+    requires told { TellsTrees pool.now.trees interned.now }
     requires node { IsOpened pool.now.trees k node }
-    requires listed { AreLive (length pool.now.trees) state.now.listed.items }
+    requires listed { AreListed pool.now.trees interned.now state.now.listed }
     ensures { result ≡ is_scoped_read (names_held names.now) position (state_held pool.now.trees state.now) node.head (tree_at pool.now.trees node.first) (tree_at pool.now.trees node.second) }
 {
     if matches!(position, Position::OneCell) {
@@ -62,9 +78,9 @@ pub fn is_in_scope(
         Head::Leaf(x) => {
             is_index(state.replications.as_slice(), x)
                 || names.is_constant(x)
-                || is_reached(state, pool, k, node)
+                || is_reached(state, pool, interned, k, node)
         }
-        Head::Read(_) => is_reached(state, pool, k, node),
+        Head::Read(_) => is_reached(state, pool, interned, k, node),
         _ => true,
     }
 }

@@ -9,6 +9,7 @@ ghost use Rattle.cv_scope.specs.Sites.{Variable, Label, channel_here, named_here
 use crate::binders::first_binder;
 use crate::defined::Defined;
 use crate::lasts::{LastSite, Lasts};
+use crate::listed::Listed;
 use crate::passed::Passed;
 use cv_syntax::{Head, NodeId, Pool};
 use cv_typing::sites::rest;
@@ -19,7 +20,7 @@ use std::alloc::{AllocError, Global};
 pub struct State {
     pub replications: Vec<(u32, u32)>,
     pub defined: Defined,
-    pub listed: Vec<Option<NodeId>>,
+    pub listed: Listed,
     pub passed: Passed,
     pub last: Lasts,
 }
@@ -28,13 +29,13 @@ impl State {
     /// What is known at the root.
     pub fn new(alloc: Global) -> State
         ensures held { (trees : List KindTree) → state_held trees result ≡ nothing_seen }
-        ensures listed { result.listed.items ≡ [] }
+        ensures listed { result.listed ≡ [] }
         ensures live { (n : ℕ) → HasLiveBinders n result.last }
     {
         State {
             replications: Vec::new(alloc),
             defined: Defined::new(alloc),
-            listed: Vec::new(alloc),
+            listed: Listed::new(alloc),
             passed: Passed::new(alloc),
             last: Lasts::new(alloc),
         }

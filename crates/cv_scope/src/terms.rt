@@ -1,8 +1,6 @@
-ghost use Rattle.std.specs.Prelude.{◌≡◌, ◌<◌, length, map};
-ghost use Rattle.std.specs.List.{list_any};
+ghost use Rattle.std.specs.Prelude.{◌≡◌, ◌<◌, length};
 ghost use Rattle.cv_pool.specs.Nodes.{ChildBelow};
-ghost use Rattle.cv_syntax.specs.Tree.{same_tree, tree_at};
-ghost use Rattle.cv_scope.specs.Held.{AreLive};
+ghost use Rattle.cv_syntax.specs.Tree.{tree_at};
 ghost use Rattle.cv_scope.specs.Rules.{carries as are_carried, is_index as is_index_of};
 ghost use Rattle.cv_scope.specs.Seen.{current as current_of, is_empty as is_empty_tree, is_leaf as is_leaf_of};
 ghost use Rattle.cv_scope.specs.Rules.{is_name as is_name_of};
@@ -23,47 +21,6 @@ fn is_empty(pool: &Pool, tree: Option<NodeId>) -> bool
         }
         None => true,
     }
-}
-
-/// Whether two trees are the same.
-#[tactic(auto, using(crate::proofs::Comparing::term_laws))]
-pub fn same(pool: &Pool, left: Option<NodeId>, right: Option<NodeId>) -> bool
-    requires left { ChildBelow (length pool.now.trees) left }
-    requires right { ChildBelow (length pool.now.trees) right }
-    ensures { result ≡ same_tree (tree_at pool.now.trees left) (tree_at pool.now.trees right) }
-{
-    let mut p = left;
-    let mut q = right;
-    'chain: while let Some(m) = p {
-        let x = read_node(pool, m);
-        let Some(n) = q else {
-            return false;
-        };
-        let y = read_node(pool, n);
-        if x.head.kind() != y.head.kind() {
-            return false;
-        }
-        if !same(pool, x.first, y.first) {
-            return false;
-        }
-        p = x.second;
-        q = y.second;
-    }
-    is_empty(pool, q)
-}
-
-/// Whether a tree is in a list of trees.
-pub fn is_among(pool: &Pool, tree: Option<NodeId>, list: &[Option<NodeId>]) -> bool
-    requires tree { ChildBelow (length pool.now.trees) tree }
-    requires list { AreLive (length pool.now.trees) list.now }
-    ensures { result ≡ list_any (same_tree (tree_at pool.now.trees tree)) (map (tree_at pool.now.trees) list.now) }
-{
-    for item in list {
-        if same(pool, tree, *item) {
-            return true;
-        }
-    }
-    false
 }
 
 /// Whether a name is the index of one of these replications.

@@ -104,3 +104,28 @@ fn an_index_is_bound_once(rt: HostRuntime) -> Result<(), Fail> {
     );
     Ok(())
 }
+
+#[test]
+#[tactic(auto, using(cv_pool::proofs::Growth::growth))]
+fn a_condition_reads_the_cells_of_its_list(rt: HostRuntime) -> Result<(), Fail> {
+    let mut work = Work::new(rt.alloc(), 16);
+    work.pool.reserve(10)?;
+    let end = work.pool.node(Head::Yield.kind(), None, None);
+    let cell = work.pool.node(Head::Leaf(4).kind(), None, None);
+    let cells = work.pool.node(Head::Cons.kind(), Some(cell), None);
+    let read = work.pool.node(Head::Leaf(4).kind(), None, None);
+    let equal = work.pool.node(Head::Eq.kind(), Some(read), Some(read));
+    let tested = work.pool.node(Head::Cons.kind(), Some(equal), Some(end));
+    let guards = work.pool.node(Head::Cons.kind(), Some(cells), Some(tested));
+    let branch = work.pool.node(Head::Branch.kind(), None, Some(guards));
+    let branches = work.pool.node(Head::Cons.kind(), Some(branch), None);
+    let root = work
+        .pool
+        .node(Head::Find(1).kind(), Some(branches), Some(end));
+    assert_eq!(rt; answer(rt.alloc(), &work, root), Ok(()));
+    assert_eq!(rt;
+        answer(rt.alloc(), &work, equal),
+        Err(ScopeFault::Unscoped(1))
+    );
+    Ok(())
+}

@@ -59,7 +59,7 @@ first-refusal ds parts (refused.IndexAsMessage q) i = finds_first_in ds 0 parts 
 first-refusal ds parts (refused.NotFixed q) i = finds_first_in ds 0 parts q fault.NotFixed i
 first-refusal ds parts refused.OutOfMemory i = tt
 
-pub first-refusals : (ds : List Declaration) (parts : List Part) (r : Result (Unit {0}) TypeFault) → IfErr r (IsRefusalOf (first_in ds 0 parts)) → IfErr r (IsFirstRefusal ds parts)
+pub first-refusals : {A : Type 0} (ds : List Declaration) (parts : List Part) (r : Result A TypeFault) → IfErr r (IsRefusalOf (first_in ds 0 parts)) → IfErr r (IsFirstRefusal ds parts)
 first-refusals ds parts (Ok u) i = i
 first-refusals ds parts (Err t) i = first-refusal ds parts t i
 

@@ -90,7 +90,7 @@ typed-as m total r e h = subst (λ (x : Option (ℕ × Fault)). OnOk r (x ≡ No
 pub refused-as : (m total : Option (ℕ × Fault)) (r : Result (Unit {0}) TypeFault) → m ≡ total → IfErr r (IsRefusalOf m) → IfErr r (IsRefusalOf total)
 refused-as m total r e h = subst (λ (x : Option (ℕ × Fault)). IfErr r (IsRefusalOf x)) e h
 
-pub file-typed : (ds : List Declaration) (parts : List Part) (r : Result (Unit {0}) TypeFault) → OnOk r (first_in ds 0 parts ≡ None) → OnOk r (AreTyped ds parts)
+pub file-typed : {A : Type 0} (ds : List Declaration) (parts : List Part) (r : Result A TypeFault) → OnOk r (first_in ds 0 parts ≡ None) → OnOk r (AreTyped ds parts)
 file-typed ds parts (Ok u) h = parts_typed_where_none ds 0 parts h
 file-typed ds parts (Err t) h = h
 

@@ -1,4 +1,4 @@
-ghost use Rattle.std.specs.Prelude.{◌≡◌, ◌<◌, ◌+◌, ◌^◌, ◌∷◌, [], All, None, length, IfErr, OnOk, Some};
+ghost use Rattle.std.specs.Prelude.{◌≡◌, ◌<◌, ◌+◌, ◌^◌, ◌∷◌, [], All, None, length, IfErr, IfOk, OnOk, Some};
 ghost use Rattle.cv_syntax.specs.Declarations.{declarations};
 ghost use Rattle.cv_syntax.specs.Tree.{size, tree_at};
 ghost use Rattle.cv_typing.specs.Lookups.{HasLiveArguments, IsLive};
@@ -28,10 +28,12 @@ pub fn check_game(alloc: Global, work: &Work, game: Game) -> Result<(), TypeFaul
 }
 
 /// Whether a file is typed, or its first fault: in its equations, equivalences and queries in order, or in its process.
-pub fn check(alloc: Global, work: &Work, file: &File) -> Result<(), TypeFault>
+/// Of a typed file it gives the number of the process's first node in the preorder of the file.
+pub fn check(alloc: Global, work: &Work, file: &File) -> Result<u32, TypeFault>
     requires live { file.now.game.root.0 < length work.now.pool.trees }
     requires declared { All (IsLive (length work.now.pool.trees)) work.now.decls.list }
     requires fits { parts_size (file_parts (declarations work.now.pool.trees work.now.decls.list) (tree_at work.now.pool.trees (Some file.now.game.root))) < 2 ^ 32 }
+    ensures place { IfOk result (λ place. place + size (tree_at work.now.pool.trees (Some file.now.game.root)) ≡ parts_size (file_parts (declarations work.now.pool.trees work.now.decls.list) (tree_at work.now.pool.trees (Some file.now.game.root)))) }
     ensures none { OnOk result (first_in (declarations work.now.pool.trees work.now.decls.list) 0 (file_parts (declarations work.now.pool.trees work.now.decls.list) (tree_at work.now.pool.trees (Some file.now.game.root))) ≡ None) }
     ensures found { IfErr result (IsRefusalOf (first_in (declarations work.now.pool.trees work.now.decls.list) 0 (file_parts (declarations work.now.pool.trees work.now.decls.list) (tree_at work.now.pool.trees (Some file.now.game.root))))) }
     ensures typed { OnOk result (IsTypedFile (declarations work.now.pool.trees work.now.decls.list) (tree_at work.now.pool.trees (Some file.now.game.root))) }
@@ -40,11 +42,12 @@ pub fn check(alloc: Global, work: &Work, file: &File) -> Result<(), TypeFault>
     check_parts(alloc, &work.pool, &work.decls, file.game.root)
 }
 
-/// Whether declarations and a process are typed, or their first fault.
-fn check_parts(alloc: Global, pool: &Pool, decls: &Decls, root: NodeId) -> Result<(), TypeFault>
+/// The place of a process behind declarations, where all are typed, or their first fault.
+fn check_parts(alloc: Global, pool: &Pool, decls: &Decls, root: NodeId) -> Result<u32, TypeFault>
     requires live { root.0 < length pool.now.trees }
     requires declared { All (IsLive (length pool.now.trees)) decls.now.list }
     requires fits { parts_size (file_parts (declarations pool.now.trees decls.now.list) (tree_at pool.now.trees (Some root))) < 2 ^ 32 }
+    ensures place { IfOk result (λ place. place + size (tree_at pool.now.trees (Some root)) ≡ parts_size (file_parts (declarations pool.now.trees decls.now.list) (tree_at pool.now.trees (Some root)))) }
     ensures typed { OnOk result (first_in (declarations pool.now.trees decls.now.list) 0 (file_parts (declarations pool.now.trees decls.now.list) (tree_at pool.now.trees (Some root))) ≡ None) }
     ensures fault { IfErr result (IsRefusalOf (first_in (declarations pool.now.trees decls.now.list) 0 (file_parts (declarations pool.now.trees decls.now.list) (tree_at pool.now.trees (Some root))))) }
 {
@@ -55,7 +58,8 @@ fn check_parts(alloc: Global, pool: &Pool, decls: &Decls, root: NodeId) -> Resul
         };
         place = check_declaration(alloc, pool, decls, place, *decl)?;
     }
-    check_process(alloc, pool, decls, place, root)
+    check_process(alloc, pool, decls, place, root)?;
+    Ok(place)
 }
 
 /// Whether a process that stands at a place is typed, or its first fault.

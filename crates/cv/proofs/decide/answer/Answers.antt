@@ -1,14 +1,14 @@
 use Rattle.std.proofs.Common.{◌+◌, ◌<◌, ◌≤◌, length, map, ap, sym, ◌∙◌, Some, arith}
 use Rattle.cv_pool.specs.declared.node.NodeId.{NodeId}
 use Rattle.cv_syntax.specs.Tree.{tree_at}
-use Rattle.cv_files.proofs.Signatures.{query-below, queries-skip, queries-take, queries-past}
+use Rattle.cv_files.proofs.QueryLists.{query-below, queries-skip, queries-take, queries-past}
 use Rattle.cv.specs.Findings.{said}
 use Rattle.cv.specs.Strategy.{said_of}
 use Rattle.cv.proofs.Sayings.{said_more, said_end}
 use Rattle.cv.proofs.decide.answer.Goals as goal
 
 pub find-requires-clause-query : goal.find-requires-clause-query
-find-requires-clause-query c = query-below (length c.args.work.now.pool.trees) c.args.work.now.decls.list c.decls.k c.in-Some.query c.requires.plain (sym c.query_at.ensures ∙ c.in-Some.is)
+find-requires-clause-query c = query-below (length c.args.work.now.pool.trees) c.args.work.now.decls.list c.decls.k c.in-Some.query c.requires.below (sym c.query_at.ensures ∙ c.in-Some.is)
 
 pub decls-preserved-in_default : goal.decls-preserved-in_default
 decls-preserved-in_default c =

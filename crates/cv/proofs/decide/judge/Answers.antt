@@ -1,9 +1,9 @@
 use Rattle.std.proofs.Common.{◌≡◌, arith, ap, sym, subst, ◌∙◌, Some}
 use Rattle.cv_syntax.specs.Declarations.{declarations}
 use Rattle.cv_syntax.specs.Tree.{Tree, tree_at}
-use Rattle.cv_files.specs.Typing.{queries_in}
+use Rattle.cv_queries.specs.Queries.{queries_in}
 use Rattle.cv_files.proofs.Readings.{accepted}
-use Rattle.cv_files.proofs.Signatures.{queries-same}
+use Rattle.cv_files.proofs.QueryLists.{queries-same}
 use Rattle.cv.specs.Findings.{said}
 use Rattle.cv.specs.Strategy.{Said, expected, most_pool, nothing_said, said_of, status_of}
 use Rattle.cv.specs.Causes.{Caused}
@@ -22,7 +22,7 @@ returns-in-Ok-answer-clause-sound c = λ k query s e h i _ a.
     let f = accepted most_pool c.args.bytes.now _ (reads_at _ c.args.bytes.now _ c.requires.limit c.in-Ok.ensures.reads) in
     let same = c.in-Ok-answer.ensures ∙ ap (said_of game nothing_said) (sym (queries-same trees c.read.new.work.decls.list)) in
     let sound = said_sound game nothing_said (queries_in ds) in
-    sound_at ds game (queries_in ds) c.in-Ok-answer.found.verdicts.items f.process f.queries (subst (AreSound game (queries_in ds)) (sym (ap (λ (t : Said). t.verdicts) same ∙ sound.1)) sound.2) k query s e h i a
+    sound_at ds game (queries_in ds) c.in-Ok-answer.found.verdicts.items f.well_formed (subst (AreSound game (queries_in ds)) (sym (ap (λ (t : Said). t.verdicts) same ∙ sound.1)) sound.2) k query s e h i a
 
 pub returns-in-Ok-answer-clause-follows : goal.returns-in-Ok-answer-clause-follows
 returns-in-Ok-answer-clause-follows c =

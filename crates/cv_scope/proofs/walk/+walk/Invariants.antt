@@ -2,7 +2,7 @@ use Rattle.std.proofs.Common.{◌≡◌, ◌≤◌, ◌+◌, length}
 use Rattle.cv_pool.specs.Nodes.{ChildBelow}
 use Rattle.cv_syntax.specs.Tree.{size, tree_at}
 use Rattle.cv_syntax.specs.Walks.{above as rank}
-use Rattle.cv_scope.specs.Held.{AreLive, HasLiveBinders, Keeps, last_held, names_held, state_held}
+use Rattle.cv_scope.specs.Held.{AreListed, HasLiveBinders, Keeps, last_held, names_held, state_held}
 use Rattle.cv_scope.specs.Ordered.{EndBy}
 use Rattle.cv_scope.specs.Seen.{found, with_sites}
 use Rattle.cv_scope.specs.Sites.{sites_from}
@@ -14,7 +14,7 @@ decreases-walk l = rank l.tree
 abbrev pub invariant-tree : goal.invariant-tree
 invariant-tree l = record {
   live : ChildBelow (length l.pool.trees) l.at;
-  listed : AreLive (length l.pool.trees) l.state.listed.items;
+  listed : AreListed l.pool.trees l.interned l.state.listed;
   binders : HasLiveBinders (length l.pool.trees) l.state.last;
   passed : EndBy l.place l.state.passed;
   same : found (names_held l.names) (state_held l.pool.trees l.state) l.here l.place (tree_at l.pool.trees l.at) ≡ found (names_held l.names) (state_held l.pool.trees l.fn.state) l.fn.position l.fn.from (tree_at l.pool.trees l.fn.tree);

@@ -1,14 +1,14 @@
-use Rattle.std.proofs.Common.{◌++◌, append-nil, ap, map, sym, ◌∙◌}
-use Rattle.cv_syntax.specs.Tree.{tree_at}
+use Rattle.std.proofs.Common.{◌++◌, append-nil, ap, sym, ◌∙◌}
 use Rattle.cv_typing.proofs.Walks.{empty-at}
 use Rattle.cv_scope.specs.Context.{items}
+use Rattle.cv_scope.specs.Held.{cells_held}
 use Rattle.cv_scope.proofs.state.State.list_all.Goals as goal
 
 pub returns : goal.returns
 returns c =
     let trees = c.args.pool.now.trees in
     let i = c.cells.invariant in
-    let cells = map (tree_at trees) c.cells.self.listed.items in
+    let cells = cells_held trees c.cells.self.listed in
     record {
       replications = i.replications;
       defined = i.defined;

@@ -1,9 +1,9 @@
-use Rattle.std.proofs.Common.{◌≡◌, ◌++◌, ◌≤◌, length, map, take}
+use Rattle.std.proofs.Common.{◌≡◌, ◌++◌, ◌≤◌, length, take}
 use Rattle.cv_pool.specs.Nodes.{ChildBelow}
 use Rattle.cv_syntax.specs.Tree.{tree_at}
 use Rattle.cv_syntax.specs.Walks.{above}
 use Rattle.cv_scope.specs.Context.{items}
-use Rattle.cv_scope.specs.Held.{AreLive}
+use Rattle.cv_scope.specs.Held.{AreListed, cells_held}
 use Rattle.cv_scope.proofs.state.State.list_all.Given as goal
 
 abbrev pub invariant-cells : goal.invariant-cells
@@ -13,10 +13,10 @@ invariant-cells l = record {
   defined : l.self.defined ≡ l.fn.self.defined;
   passed : l.self.passed ≡ l.fn.self.passed;
   last : l.self.last ≡ l.fn.self.last;
-  live : AreLive (length l.pool.trees) l.self.listed.items;
-  front : take (length l.fn.self.listed.items) l.self.listed.items ≡ l.fn.self.listed.items;
-  long : length l.fn.self.listed.items ≤ length l.self.listed.items;
-  same : map (tree_at l.pool.trees) l.self.listed.items ++ items (tree_at l.pool.trees l.at) ≡ map (tree_at l.pool.trees) l.fn.self.listed.items ++ items (tree_at l.pool.trees l.fn.list);
+  live : AreListed l.pool.trees l.interned l.self.listed;
+  front : take (length l.fn.self.listed) l.self.listed ≡ l.fn.self.listed;
+  long : length l.fn.self.listed ≤ length l.self.listed;
+  same : cells_held l.pool.trees l.self.listed ++ items (tree_at l.pool.trees l.at) ≡ cells_held l.pool.trees l.fn.self.listed ++ items (tree_at l.pool.trees l.fn.list);
 }
 
 abbrev pub decreases-cells : goal.decreases-cells

@@ -1,0 +1,5 @@
+pub mod Phrases
+pub mod Reads
+pub mod Made
+pub mod Promises
+pub mod Worked

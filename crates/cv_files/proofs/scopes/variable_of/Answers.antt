@@ -1,7 +1,0 @@
-use Rattle.std.proofs.Common.{ap, sym, ◌∙◌}
-use Rattle.cv_files.specs.Typing.{variable_of}
-use Rattle.cv_files.proofs.Typings.{empty-at}
-use Rattle.cv_files.proofs.scopes.variable_of.Goals as goal
-
-pub returns-in_err-term : goal.returns-in_err-term
-returns-in_err-term c = c.from_residual.ensures ∙ sym (ap variable_of (empty-at c.args.pool.now.trees c.args.term c.in_err-term.was))

@@ -1,0 +1,5 @@
+pub mod Distinct
+pub mod Empties
+pub mod Decided
+pub mod First
+pub mod Parts

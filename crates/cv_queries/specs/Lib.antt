@@ -1,0 +1,6 @@
+pub mod Queries
+pub mod Rules
+pub mod Tests
+pub mod Refusals
+pub mod Held
+pub mod Worked

@@ -1,0 +1,56 @@
+-- The rules of queries as tests.
+use Rattle.std.specs.Prelude.{ℕ, suc, Bool, true, false, ◌&&◌, ◌||◌, not, ◌==◌, if◌then◌else◌, List, [], ◌∷◌, Option, Some, None, option_map}
+use Rattle.std.specs.List.{list_any}
+use Rattle.cv_syntax.specs.declared.head.Head.TheVariants.{Leaf, Cons, Query, Occurs, OccursOnce, Secret, SecretOnce}
+use Rattle.cv_syntax.specs.Tree.{Tree, Empty, Node}
+use Rattle.cv_meaning.specs.Binders.{bound_names}
+use Rattle.cv_meaning.specs.Correspondences.{is_once}
+use Rattle.cv_typing.specs.declared.sort.Sort.{Sort}
+use Rattle.cv_typing.specs.declared.sort.Sort.TheVariants.{OfType}
+use Rattle.cv_typing.specs.Sites.{Variable, first_site}
+
+abbrev pub is_one_of : List ℕ → ℕ → Bool
+is_one_of xs x = list_any (λ y. y == x) xs
+
+abbrev pub without : (ℕ → Bool) → ℕ → ℕ → Bool
+without free x y = if x == y then false else free y
+
+-- each term is a variable that is free, and no longer is behind it
+unfoldable pub are_distinct : (ℕ → Bool) → Tree → Bool
+are_distinct free Empty = true
+are_distinct free (Node Cons (Node (Leaf x) Empty Empty) more) = free x && are_distinct (without free x) more
+are_distinct free _ = false
+
+unfoldable pub is_left_event : (ℕ → Bool) → Tree → Bool
+is_left_event free (Node (Occurs e) terms Empty) = are_distinct free terms
+is_left_event free (Node (OccursOnce e) terms Empty) = are_distinct free terms
+is_left_event free _ = false
+
+unfoldable pub some_is_marked : Tree → Bool
+some_is_marked Empty = false
+some_is_marked (Node h atom more) = is_once atom || some_is_marked more
+
+abbrev pub are_marked_alike : Tree → Tree → Bool
+are_marked_alike left atoms = if is_once left then some_is_marked atoms else not (some_is_marked atoms)
+
+abbrev pub is_of_type : Option Sort → Bool
+is_of_type (Some (OfType T)) = true
+is_of_type s = false
+
+abbrev pub has_values : Tree → ℕ → Bool
+has_values game x = is_of_type (option_map (λ (v : Variable). v.sort) (first_site x [] game))
+
+-- a query passes, where these names have values
+unfoldable pub passes : (ℕ → Bool) → Tree → Bool
+passes valued (Node Query bs (Node Cons left atoms)) = is_left_event (is_one_of (bound_names bs)) left && are_marked_alike left atoms
+passes valued (Node (Secret x) Empty Empty) = valued x
+passes valued (Node (SecretOnce x) Empty Empty) = valued x
+passes valued _ = false
+
+abbrev pub may_be_asked : Tree → Tree → Bool
+may_be_asked game query = passes (has_values game) query
+
+-- the number, from 1, of the first query that may not be asked
+unfoldable pub first_refused : Tree → List Tree → Option ℕ
+first_refused game [] = None
+first_refused game (q ∷ qs) = if may_be_asked game q then option_map suc (first_refused game qs) else Some 1

@@ -1,0 +1,34 @@
+-- Worked queries.
+-- Names are numbers: 3 and 8 are channels of inputs, 4 is a nonce and 5 its type, 6 is a channel of outputs, 9 is an
+-- index variable of a find, 2 its parameter, 10 is what the second input receives, 20 is a constant, 11 and 12 are events,
+-- and 21, 22 and 23 are variables of a query.
+use Rattle.std.specs.Prelude.{ℕ, Bool, List, [], ◌∷◌}
+use Rattle.cv_syntax.specs.declared.head.Head.TheVariants.{Yield, New, Yes, Cons, Secret, SecretOnce, Apply}
+use Rattle.cv_syntax.specs.Tree.{Tree, Empty, Node, lone}
+use Rattle.cv_meaning.specs.Worked.{leaf, input, output, branch, find, occurs, correspondence}
+
+-- in(3, ()); new 4:5; out(6, ()); in(8, (10:5)); find 9<=2 suchthat true then yield
+abbrev pub game : Tree
+game =
+    input 3 [] [] (Node (New 4 5) Empty (output 6 [] [] (input 8 [] ((10, 5) ∷ [])
+    (find 1 (branch ((9, 2) ∷ []) [] (lone Yes) (lone Yield) ∷ []) (lone Yield)))))
+
+-- 21, 22 and 23 are the query's variables
+abbrev pub asks : Tree → List Tree → Tree
+asks left atoms = correspondence ((21, 5) ∷ (22, 5) ∷ (23, 5) ∷ []) left atoms
+
+-- event 11(terms) ==> event 12(22), with `inj` on the left and on the right
+abbrev pub begins_before : Bool → Bool → List Tree → Tree
+begins_before left right terms = asks (occurs left 11 terms) (occurs right 12 (leaf 22 ∷ []) ∷ [])
+
+abbrev pub two_variables : List Tree
+two_variables = leaf 21 ∷ leaf 22 ∷ []
+
+abbrev pub applied : Tree
+applied = Node (Apply 4) (Node Cons (leaf 21) Empty) Empty
+
+abbrev pub secret : ℕ → Tree
+secret x = lone (Secret x)
+
+abbrev pub secret_once : ℕ → Tree
+secret_once x = lone (SecretOnce x)

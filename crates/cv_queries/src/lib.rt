@@ -1,0 +1,20 @@
+// Which queries of a file may be asked.
+#![tactic(auto)]
+
+mod arguments;
+mod binders;
+mod checking;
+mod fault;
+mod laws;
+mod marks;
+mod query;
+mod secrets;
+mod worked;
+
+pub use checking::check;
+pub use fault::QueryFault;
+pub use laws::queries_are_decided;
+pub use worked::{worked_correspondences, worked_secrets};
+
+#[cfg(test)]
+mod tests;

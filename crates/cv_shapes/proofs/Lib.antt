@@ -1,0 +1,6 @@
+pub mod Yielding
+pub mod Shaping
+pub mod Rows
+pub mod Filling
+pub mod Naming
+pub mod Games
