@@ -1,5 +1,5 @@
 -- What the plain strategy says of a file: a query is closed where each left event stands below its right
--- events, with the same variables as arguments. It closes one query after another, in at most 2,000 steps.
+-- events, with the arguments that the query asks for. It closes one query after another, in at most 2,000 steps.
 use Rattle.std.specs.Prelude.{◌≡◌, ℕ, ◌+◌, ◌<◌, ◌≤◌, nat_lt, Bool, true, false, if◌then◌else◌, List, [], ◌∷◌, ◌++◌, length, map, Option, Some, None, Result, Ok, Err, slice_get, IfSome}
 use Rattle.std.specs.List.{list_all}
 use Rattle.cv_syntax.specs.declared.work.File.{File}

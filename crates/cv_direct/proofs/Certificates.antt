@@ -9,7 +9,7 @@ use Rattle.cv_syntax.specs.Tree.{Tree, Empty, Node, first}
 use Rattle.cv_meaning.specs.Advantage.{advantage}
 use Rattle.cv_meaning.specs.Chances.{AtMost, zero_chance}
 use Rattle.cv_meaning.specs.Correspondences.{atom_of, atoms_of, correspondence_of, is_once, leaf_names, on_the_right_alone}
-use Rattle.cv_meaning.specs.Direct.{IsPlainlyDirect, is_unmarked, plainly_covered}
+use Rattle.cv_meaning.specs.Direct.{IsPlainlyDirect, is_unmarked, is_unbound, plainly_covered}
 use Rattle.cv_meaning.specs.Interpretation.{Interpretation, setting_of}
 use Rattle.cv_meaning.specs.Runs.{Adversary}
 use Rattle.cv_discipline.specs.Phrases.{IsWellFormed}
@@ -22,14 +22,14 @@ use Rattle.cv_direct.proofs.Searching.{entries_some, map_some}
 pub certificate_some : (game q : Tree) → is_some (certificate game q) ≡ is_plainly_direct game q
 certificate_some game q = go (is_plain_query q)
   where
-    go : (b : Bool) → is_some {T = List EntryTree} (cond b (entries_of (wanted_of (correspondence_of q)) [] 0 game) None) ≡ (b && plainly_covered (correspondence_of q) [] game)
-    go true = entries_some (correspondence_of q) [] 0 game
+    go : (b : Bool) → is_some {T = List EntryTree} (cond b (entries_of (wanted_of game (correspondence_of q)) [] 0 game) None) ≡ (b && plainly_covered (is_unbound game) (correspondence_of q) [] game)
+    go true = entries_some game (correspondence_of q) [] 0 game
     go false = refl
 
-certificate_plain : (game q : Tree) → is_plain_query q ≡ true → certificate game q ≡ entries_of (wanted_of (correspondence_of q)) [] 0 game
-certificate_plain game q e = ap (λ b. cond b (entries_of (wanted_of (correspondence_of q)) [] 0 game) None) e
+certificate_plain : (game q : Tree) → is_plain_query q ≡ true → certificate game q ≡ entries_of (wanted_of game (correspondence_of q)) [] 0 game
+certificate_plain game q e = ap (λ b. cond b (entries_of (wanted_of game (correspondence_of q)) [] 0 game) None) e
 
-pub closed_by : {A E : Type 0} (r : Result (Option A) E) (f : A → List EntryTree) (game q : Tree) → is_plain_query q ≡ true → IfOk r (λ o. option_map f o ≡ entries_of (wanted_of (correspondence_of q)) [] 0 game) → IfOk r (λ o. is_some o ≡ is_plainly_direct game q)
+pub closed_by : {A E : Type 0} (r : Result (Option A) E) (f : A → List EntryTree) (game q : Tree) → is_plain_query q ≡ true → IfOk r (λ o. option_map f o ≡ entries_of (wanted_of game (correspondence_of q)) [] 0 game) → IfOk r (λ o. is_some o ≡ is_plainly_direct game q)
 closed_by (Ok o) f game q e h = sym (map_some f o) ∙ (ap is_some (h ∙ sym (certificate_plain game q e)) ∙ certificate_some game q)
 closed_by (Err x) f game q e h = tt
 

@@ -12,7 +12,7 @@ use Rattle.cv_syntax.specs.Head.{weight}
 use Rattle.cv_pool.specs.KindTree.{KindTree, NoTree}
 use Rattle.cv_syntax.specs.Tree.{Tree, Empty, Node, size, tree_of, tree_at, first_place, second_place}
 use Rattle.cv_meaning.specs.Correspondences.{Correspondence, Atom, RightEvent, RightTerm, atoms_of}
-use Rattle.cv_meaning.specs.Direct.{Noted, is_noted, atom_noted, event_covered, head_covered, noted_by, plainly_covered}
+use Rattle.cv_meaning.specs.Direct.{Noted, is_noted, is_unbound, atom_noted, event_covered, head_covered, noted_by, plainly_covered}
 use Rattle.cv_direct.specs.declared.search.Seen.{Seen}
 use Rattle.cv_direct.specs.Found.{placed, SeenBelow, seen_by}
 use Rattle.cv_direct.specs.Search.{Wanted, wanted_of, Placed, RouteTree, EntryTree, first_noted, route, joined, alone, routes_of, event_entries, head_entries, placed_by, entries_of}
@@ -72,47 +72,47 @@ pub map_some : {A B : Type 0} (f : A → B) (o : Option A) → is_some (option_m
 map_some f None = refl
 map_some f (Some x) = refl
 
-first_some : (xs : List ℕ) (above : List Placed) (a : Tree) (f : ℕ) (ms : Tree) → is_some (first_noted xs above a f ms) ≡ list_any (is_noted xs a f ms) (all_noted above)
-first_some xs [] a f ms = refl
-first_some xs (s ∷ above) a f ms = go (is_noted xs a f ms s.noted) (first_some xs above a f ms)
+first_some : (own : ℕ → Bool) (xs : List ℕ) (above : List Placed) (a : Tree) (f : ℕ) (ms : Tree) → is_some (first_noted own xs above a f ms) ≡ list_any (is_noted own xs a f ms) (all_noted above)
+first_some own xs [] a f ms = refl
+first_some own xs (s ∷ above) a f ms = go (is_noted own xs a f ms s.noted) (first_some own xs above a f ms)
   where
-    go : (c : Bool) → is_some (first_noted xs above a f ms) ≡ list_any (is_noted xs a f ms) (all_noted above) → is_some {T = RouteTree} (cond c (Some (s.place, s.noted.1)) (first_noted xs above a f ms)) ≡ (c || list_any (is_noted xs a f ms) (all_noted above))
+    go : (c : Bool) → is_some (first_noted own xs above a f ms) ≡ list_any (is_noted own xs a f ms) (all_noted above) → is_some {T = RouteTree} (cond c (Some (s.place, s.noted.1)) (first_noted own xs above a f ms)) ≡ (c || list_any (is_noted own xs a f ms) (all_noted above))
     go true e = refl
     go false e = e
 
-route_some : (xs : List ℕ) (above : List Placed) (a : Tree) (m : Atom) → is_some (route xs above a m) ≡ atom_noted xs (all_noted above) a m
-route_some xs above a (RightEvent inj f ms) = first_some xs above a f ms
-route_some xs above a (RightTerm m) = refl
+route_some : (own : ℕ → Bool) (xs : List ℕ) (above : List Placed) (a : Tree) (m : Atom) → is_some (route own xs above a m) ≡ atom_noted own xs (all_noted above) a m
+route_some own xs above a (RightEvent inj f ms) = first_some own xs above a f ms
+route_some own xs above a (RightTerm m) = refl
 
-routes_some : (xs : List ℕ) (above : List Placed) (a : Tree) (ms : List Atom) → is_some (routes_of xs above a ms) ≡ list_all (atom_noted xs (all_noted above) a) ms
-routes_some xs above a [] = refl
-routes_some xs above a (m ∷ ms) =
-    joined_some (alone (route xs above a m)) (routes_of xs above a ms) ∙ ap₂ ◌&&◌ (alone_some (route xs above a m) ∙ route_some xs above a m) (routes_some xs above a ms)
+routes_some : (own : ℕ → Bool) (xs : List ℕ) (above : List Placed) (a : Tree) (ms : List Atom) → is_some (routes_of own xs above a ms) ≡ list_all (atom_noted own xs (all_noted above) a) ms
+routes_some own xs above a [] = refl
+routes_some own xs above a (m ∷ ms) =
+    joined_some (alone (route own xs above a m)) (routes_of own xs above a ms) ∙ ap₂ ◌&&◌ (alone_some (route own xs above a m) ∙ route_some own xs above a m) (routes_some own xs above a ms)
 
-event_some : (q : Correspondence) (above : List Placed) (p e : ℕ) (a : Tree) → is_some (event_entries (wanted_of q) above p e a) ≡ event_covered q (all_noted above) e a
-event_some q above p e a = go (e == q.event)
+event_some : (game : Tree) (q : Correspondence) (above : List Placed) (p e : ℕ) (a : Tree) → is_some (event_entries (wanted_of game q) above p e a) ≡ event_covered (is_unbound game) q (all_noted above) e a
+event_some game q above p e a = go (e == q.event)
   where
-    go : (c : Bool) → is_some {T = List EntryTree} (cond c (option_map (λ rs. (p, rs) ∷ []) (routes_of q.variables above a q.atoms)) (Some [])) ≡ cond c (list_all (atom_noted q.variables (all_noted above) a) q.atoms) true
-    go true = map_some (λ rs. (p, rs) ∷ []) (routes_of q.variables above a q.atoms) ∙ routes_some q.variables above a q.atoms
+    go : (c : Bool) → is_some {T = List EntryTree} (cond c (option_map (λ rs. (p, rs) ∷ []) (routes_of (is_unbound game) q.variables above a q.atoms)) (Some [])) ≡ cond c (list_all (atom_noted (is_unbound game) q.variables (all_noted above) a) q.atoms) true
+    go true = map_some (λ rs. (p, rs) ∷ []) (routes_of (is_unbound game) q.variables above a q.atoms) ∙ routes_some (is_unbound game) q.variables above a q.atoms
     go false = refl
 
-head_some : (q : Correspondence) (above : List Placed) (p : ℕ) (h : Head) (a : Tree) → is_some (head_entries (wanted_of q) above p h a) ≡ head_covered q (all_noted above) h a
-head_some q above p (Event e) a = event_some q above p e a
-head_some q above p h a = refl
+head_some : (game : Tree) (q : Correspondence) (above : List Placed) (p : ℕ) (h : Head) (a : Tree) → is_some (head_entries (wanted_of game q) above p h a) ≡ head_covered (is_unbound game) q (all_noted above) h a
+head_some game q above p (Event e) a = event_some game q above p e a
+head_some game q above p h a = refl
 
 noted_more : (above : List Placed) (p : ℕ) (h : Head) (a : Tree) → all_noted (above ++ placed_by p h a) ≡ all_noted above ++ noted_by h a
 noted_more [] p (Event e) a = refl
 noted_more [] p h a = refl
 noted_more (s ∷ above) p h a = ap (λ l. s.noted ∷ l) (noted_more above p h a)
 
-pub entries_some : (q : Correspondence) (above : List Placed) (p : ℕ) (t : Tree) → is_some (entries_of (wanted_of q) above p t) ≡ plainly_covered q (all_noted above) t
+pub entries_some : (game : Tree) (q : Correspondence) (above : List Placed) (p : ℕ) (t : Tree) → is_some (entries_of (wanted_of game q) above p t) ≡ plainly_covered (is_unbound game) q (all_noted above) t
 unfolding entries_of plainly_covered
-entries_some q above p Empty = refl
-entries_some q above p (Node h a b) =
-    joined_some (head_entries (wanted_of q) above p h a) (joined (entries_of (wanted_of q) above (first_place p h) a) (entries_of (wanted_of q) (above ++ placed_by p h a) (second_place p h a) b))
-    ∙ ap₂ ◌&&◌ (head_some q above p h a)
-    (joined_some (entries_of (wanted_of q) above (first_place p h) a) (entries_of (wanted_of q) (above ++ placed_by p h a) (second_place p h a) b)
-    ∙ ap₂ ◌&&◌ (entries_some q above (first_place p h) a) (entries_some q (above ++ placed_by p h a) (second_place p h a) b ∙ ap (λ l. plainly_covered q l b) (noted_more above p h a)))
+entries_some game q above p Empty = refl
+entries_some game q above p (Node h a b) =
+    joined_some (head_entries (wanted_of game q) above p h a) (joined (entries_of (wanted_of game q) above (first_place p h) a) (entries_of (wanted_of game q) (above ++ placed_by p h a) (second_place p h a) b))
+    ∙ ap₂ ◌&&◌ (head_some game q above p h a)
+    (joined_some (entries_of (wanted_of game q) above (first_place p h) a) (entries_of (wanted_of game q) (above ++ placed_by p h a) (second_place p h a) b)
+    ∙ ap₂ ◌&&◌ (entries_some game q above (first_place p h) a) (entries_some game q (above ++ placed_by p h a) (second_place p h a) b ∙ ap (λ l. plainly_covered (is_unbound game) q l b) (noted_more above p h a)))
 
 abbrev pub size_parts : Tree → ℕ
 size_parts Empty = 0
@@ -147,8 +147,8 @@ entries_stop_first w above here p q es fs t h a b et e eh eq f =
 pub entries_end : (w : Wanted) (above : List Placed) (p : ℕ) (es : List EntryTree) (t : Tree) → t ≡ Empty → joined (Some es) (entries_of w above p t) ≡ Some es
 entries_end w above p es t et = ap (joined (Some es)) (ap (entries_of w above p) et ∙ entries_open w above p Empty) ∙ ap Some (append-nil es)
 
-pub routes_end : (xs : List ℕ) (above : List Placed) (a : Tree) (es : List RouteTree) (t : Tree) → t ≡ Empty → joined (Some es) (routes_of xs above a (atoms_of t)) ≡ Some es
-routes_end xs above a es t e = ap (λ s. joined (Some es) (routes_of xs above a (atoms_of s))) e ∙ ap Some (append-nil es)
+pub routes_end : (own : ℕ → Bool) (xs : List ℕ) (above : List Placed) (a : Tree) (es : List RouteTree) (t : Tree) → t ≡ Empty → joined (Some es) (routes_of own xs above a (atoms_of t)) ≡ Some es
+routes_end own xs above a es t e = ap (λ s. joined (Some es) (routes_of own xs above a (atoms_of s))) e ∙ ap Some (append-nil es)
 
 -- what is kept of a node
 

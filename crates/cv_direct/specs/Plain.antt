@@ -3,7 +3,7 @@ use Rattle.std.specs.Prelude.{ℕ, Bool, true, false, ◌&&◌, if◌then◌else
 use Rattle.cv_syntax.specs.declared.head.Head.TheVariants.{Cons, Occurs, Query}
 use Rattle.cv_syntax.specs.Tree.{Tree, Empty, Node, first}
 use Rattle.cv_meaning.specs.Correspondences.{correspondence_of, leaf_names, on_the_right_alone}
-use Rattle.cv_meaning.specs.Direct.{plainly_covered}
+use Rattle.cv_meaning.specs.Direct.{is_unbound, plainly_covered}
 use Rattle.cv_direct.specs.Search.{EntryTree, entries_of, wanted_of}
 
 -- an event that is not marked `inj`
@@ -30,8 +30,8 @@ is_plain_query _ = false
 
 -- such a query whose right events stand above each left event of the game
 abbrev pub is_plainly_direct : (game query : Tree) → Bool
-is_plainly_direct game query = is_plain_query query && plainly_covered (correspondence_of query) [] game
+is_plainly_direct game query = is_plain_query query && plainly_covered (is_unbound game) (correspondence_of query) [] game
 
 -- an entry for each left event, where the query is plain and all right events stand above
 abbrev pub certificate : (game query : Tree) → Option (List EntryTree)
-certificate game query = if is_plain_query query then entries_of (wanted_of (correspondence_of query)) [] 0 game else None
+certificate game query = if is_plain_query query then entries_of (wanted_of game (correspondence_of query)) [] 0 game else None

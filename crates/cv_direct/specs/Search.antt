@@ -4,20 +4,22 @@ use Rattle.cv_syntax.specs.declared.head.Head.{Head}
 use Rattle.cv_syntax.specs.declared.head.Head.TheVariants.{Event}
 use Rattle.cv_syntax.specs.Tree.{Tree, Empty, Node, first_place, second_place}
 use Rattle.cv_meaning.specs.Correspondences.{Correspondence, Atom, RightEvent, RightTerm}
-use Rattle.cv_meaning.specs.Direct.{Noted, is_noted}
+use Rattle.cv_meaning.specs.Direct.{Noted, is_noted, is_unbound}
 
 abbrev pub is_empty : Tree → Bool
 is_empty Empty = true
 is_empty (Node h a b) = false
 
--- what is searched for: the left event with its variables, and the right events
+-- what is searched for: the left event with its variables, and the right events; and the names that the game
+-- does not bind
 pub record Wanted : Type 0 where
+  pub own : ℕ → Bool
   pub event : ℕ
   pub variables : List ℕ
   pub atoms : List Atom
 
-abbrev pub wanted_of : Correspondence → Wanted
-wanted_of q = record { event = q.event; variables = q.variables; atoms = q.atoms }
+abbrev pub wanted_of : Tree → Correspondence → Wanted
+wanted_of game q = record { own = is_unbound game; event = q.event; variables = q.variables; atoms = q.atoms }
 
 -- an event node with its place
 pub record Placed : Type 0 where
@@ -33,13 +35,13 @@ abbrev pub EntryTree : Type 0
 EntryTree = ℕ × List RouteTree
 
 -- the first of the event nodes above that is the right event
-abbrev pub first_noted : List ℕ → List Placed → Tree → ℕ → Tree → Option RouteTree
-first_noted xs [] a f ms = None
-first_noted xs (s ∷ above) a f ms = if is_noted xs a f ms s.noted then Some (s.place, s.noted.1) else first_noted xs above a f ms
+abbrev pub first_noted : (ℕ → Bool) → List ℕ → List Placed → Tree → ℕ → Tree → Option RouteTree
+first_noted own xs [] a f ms = None
+first_noted own xs (s ∷ above) a f ms = if is_noted own xs a f ms s.noted then Some (s.place, s.noted.1) else first_noted own xs above a f ms
 
-abbrev pub route : List ℕ → List Placed → Tree → Atom → Option RouteTree
-route xs above a (RightEvent inj f ms) = first_noted xs above a f ms
-route xs above a (RightTerm m) = None
+abbrev pub route : (ℕ → Bool) → List ℕ → List Placed → Tree → Atom → Option RouteTree
+route own xs above a (RightEvent inj f ms) = first_noted own xs above a f ms
+route own xs above a (RightTerm m) = None
 
 -- two lists one behind the other, if there are both
 abbrev pub joined : {A : Type 0} → Option (List A) → Option (List A) → Option (List A)
@@ -52,13 +54,13 @@ alone None = None
 alone (Some x) = Some (x ∷ [])
 
 -- a route for each right event
-abbrev pub routes_of : List ℕ → List Placed → Tree → List Atom → Option (List RouteTree)
-routes_of xs above a [] = Some []
-routes_of xs above a (m ∷ ms) = joined (alone (route xs above a m)) (routes_of xs above a ms)
+abbrev pub routes_of : (ℕ → Bool) → List ℕ → List Placed → Tree → List Atom → Option (List RouteTree)
+routes_of own xs above a [] = Some []
+routes_of own xs above a (m ∷ ms) = joined (alone (route own xs above a m)) (routes_of own xs above a ms)
 
 -- the entry of a node, if it is the left event
 abbrev pub event_entries : Wanted → List Placed → ℕ → ℕ → Tree → Option (List EntryTree)
-event_entries w above p e a = if e == w.event then option_map (λ rs. (p, rs) ∷ []) (routes_of w.variables above a w.atoms) else Some []
+event_entries w above p e a = if e == w.event then option_map (λ rs. (p, rs) ∷ []) (routes_of w.own w.variables above a w.atoms) else Some []
 
 abbrev pub head_entries : Wanted → List Placed → ℕ → Head → Tree → Option (List EntryTree)
 head_entries w above p (Event e) a = event_entries w above p e a

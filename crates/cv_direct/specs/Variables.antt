@@ -1,5 +1,5 @@
 -- What the code reads of a query, part by part.
-use Rattle.std.specs.Prelude.{ℕ, nat_eq, Bool, false, ◌&&◌, not, ◌==◌, List}
+use Rattle.std.specs.Prelude.{ℕ, nat_eq, Bool, false, ◌&&◌, not, ◌==◌, List, Option, Some, None}
 use Rattle.std.specs.List.{list_any}
 use Rattle.std.specs.declared.hash.FoldHasher.{FoldHasher}
 use Rattle.std.specs.declared.hash.BuildHasherDefault.{BuildHasherDefault}
@@ -19,6 +19,10 @@ is_in names x = contains nat_eq names x
 
 abbrev pub is_outside : NameSet → ℕ → Bool
 is_outside names x = not (is_in names x)
+
+abbrev pub is_there : Option ℕ → ℕ → Bool
+is_there None y = false
+is_there (Some x) y = x == y
 
 abbrev pub is_one_of : List ℕ → ℕ → Bool
 is_one_of xs x = list_any (λ y. y == x) xs

@@ -14,6 +14,7 @@ ghost use Rattle.cv_meaning.specs.Runs.{Adversary};
 ghost use Rattle.cv_discipline.specs.Phrases.{IsWellFormed};
 ghost use Rattle.cv_direct.specs.Plain.{is_plain_event, is_plainly_direct};
 
+mod bound;
 mod instances;
 mod plain;
 mod search;

@@ -5,11 +5,14 @@ ghost use Rattle.cv_meaning.specs.Correspondences.{atom_of, atoms_of, correspond
 ghost use Rattle.cv_direct.specs.Plain.{certificate, is_plainly_direct};
 ghost use Rattle.cv_direct.specs.Search.{entries_of, first_noted, head_entries, joined, route, routes_of, wanted_of};
 ghost use Rattle.cv_direct.specs.Found.{RoutesBelow, entry_trees, placed, RouteBelow, route_tree, SeenBelow, seen_by, wanted};
+ghost use Rattle.cv_direct.specs.Variables.{is_outside};
 
-use crate::instances::is_instance;
+use crate::bound::names_bound_in;
+use crate::instances::{Bindings, is_instance};
 use crate::plain::is_plain_query;
 use cv_syntax::{Head, NodeId, Opened, Pool, read_node};
 use std::alloc::{AllocError, Global};
+use std::collections::HashSet;
 
 /// Why a right event holds: an event node above, and the list of its arguments.
 #[derive(Clone, Copy, Debug, PartialEq, Eq)]
@@ -25,7 +28,7 @@ pub struct Entry {
     pub routes: Vec<Route>,
 }
 
-/// What is searched for: the left event, its variables and the right events.
+/// What is searched for in a game: the left event, its variables and the right events.
 #[derive(Clone, Copy, Debug)]
 struct Sought {
     event: u32,
@@ -82,25 +85,28 @@ fn entries_in(
     requires query { query.0 < length pool.now.trees }
     requires game { game.0 < length pool.now.trees }
     requires fits { size (tree_at pool.now.trees (Some game)) < 2 ^ 32 }
-    ensures entries { IfOk result (λ o. option_map (λ es. entry_trees pool.now.trees es.items) o ≡ entries_of (wanted_of (correspondence_of (tree_at pool.now.trees (Some query)))) [] 0 (tree_at pool.now.trees (Some game))) }
+    ensures entries { IfOk result (λ o. option_map (λ es. entry_trees pool.now.trees es.items) o ≡ entries_of (wanted_of (tree_at pool.now.trees (Some game)) (correspondence_of (tree_at pool.now.trees (Some query)))) [] 0 (tree_at pool.now.trees (Some game))) }
     ensures live { IfOk result (λ o. IfSome o (λ es. All (RoutesBelow (length pool.now.trees)) es.items)) }
 {
-    let wanted = sought_by(pool, query);
+    let bound = names_bound_in(alloc, pool, Some(game))?;
+    let sought = sought_by(pool, query);
     let mut search = Search {
         above: Vec::new(alloc),
         entries: Vec::new(alloc),
         place: 0,
     };
-    let closed = walk(alloc, pool, wanted, &mut search, Some(game))?;
+    let closed = walk(alloc, pool, &bound, sought, &mut search, Some(game))?;
     let Search { entries, .. } = search;
     if closed { Ok(Some(entries)) } else { Ok(None) }
 }
 
-/// What a query searches for.
+/// What a query searches for in a game.
 #[tactic(auto, using(crate::proofs::Searching::search_laws))]
 fn sought_by(pool: &Pool, query: NodeId) -> Sought
     requires { query.0 < length pool.now.trees }
-    ensures wanted { wanted pool.now.trees result ≡ wanted_of (correspondence_of (tree_at pool.now.trees (Some query))) }
+    ensures event { result.event ≡ (correspondence_of (tree_at pool.now.trees (Some query))).event }
+    ensures named { leaf_names (tree_at pool.now.trees result.variables) ≡ (correspondence_of (tree_at pool.now.trees (Some query))).variables }
+    ensures atoms { atoms_of (tree_at pool.now.trees result.rights) ≡ (correspondence_of (tree_at pool.now.trees (Some query))).atoms }
     ensures variables { ChildBelow (length pool.now.trees) result.variables }
     ensures rights { ChildBelow (length pool.now.trees) result.rights }
 {
@@ -137,6 +143,7 @@ fn sought_by(pool: &Pool, query: NodeId) -> Sought
 fn walk(
     alloc: Global,
     pool: &Pool,
+    bound: &HashSet<u32>,
     sought: Sought,
     search: &mut Search,
     tree: Option<NodeId>,
@@ -149,7 +156,7 @@ fn walk(
     requires fits { search.old.place + size (tree_at pool.now.trees tree) < 2 ^ 32 }
     ensures place { IfOk result (λ closed. closed ≡ true → search.new.place ≡ search.old.place + size (tree_at pool.now.trees tree)) }
     ensures above { IfOk result (λ closed. closed ≡ true → search.new.above.items ≡ search.old.above.items) }
-    ensures entries { IfOk result (λ closed. joined (Some (entry_trees pool.now.trees search.old.entries.items)) (entries_of (wanted pool.now.trees sought) (map (placed pool.now.trees) search.old.above.items) search.old.place (tree_at pool.now.trees tree)) ≡ (if closed then Some (entry_trees pool.now.trees search.new.entries.items) else None)) }
+    ensures entries { IfOk result (λ closed. joined (Some (entry_trees pool.now.trees search.old.entries.items)) (entries_of (wanted pool.now.trees bound.now sought) (map (placed pool.now.trees) search.old.above.items) search.old.place (tree_at pool.now.trees tree)) ≡ (if closed then Some (entry_trees pool.now.trees search.new.entries.items) else None)) }
     ensures live { OnOk result (All (RoutesBelow (length pool.now.trees)) search.new.entries.items) }
 {
     let depth = search.above.len();
@@ -157,11 +164,11 @@ fn walk(
     'path: while let Some(n) = at {
         let node = read_node(pool, n);
         let place = search.place;
-        if !enter(alloc, pool, sought, search, node)? {
+        if !enter(alloc, pool, bound, sought, search, node)? {
             return Ok(false);
         }
         search.place += node.head.weight();
-        if !walk(alloc, pool, sought, search, node.first)? {
+        if !walk(alloc, pool, bound, sought, search, node.first)? {
             return Ok(false);
         }
         note(search, place, node)?;
@@ -176,6 +183,7 @@ fn walk(
 fn enter(
     alloc: Global,
     pool: &Pool,
+    bound: &HashSet<u32>,
     sought: Sought,
     search: &mut Search,
     node: Opened,
@@ -187,7 +195,7 @@ fn enter(
     requires first { ChildBelow (length pool.now.trees) node.first }
     ensures place { search.new.place ≡ search.old.place }
     ensures above { search.new.above ≡ search.old.above }
-    ensures entries { IfOk result (λ closed. joined (Some (entry_trees pool.now.trees search.old.entries.items)) (head_entries (wanted pool.now.trees sought) (map (placed pool.now.trees) search.old.above.items) search.old.place node.head (tree_at pool.now.trees node.first)) ≡ (if closed then Some (entry_trees pool.now.trees search.new.entries.items) else None)) }
+    ensures entries { IfOk result (λ closed. joined (Some (entry_trees pool.now.trees search.old.entries.items)) (head_entries (wanted pool.now.trees bound.now sought) (map (placed pool.now.trees) search.old.above.items) search.old.place node.head (tree_at pool.now.trees node.first)) ≡ (if closed then Some (entry_trees pool.now.trees search.new.entries.items) else None)) }
     ensures live { OnOk result (All (RoutesBelow (length pool.now.trees)) search.new.entries.items) }
 {
     let Head::Event(event) = node.head else {
@@ -196,7 +204,7 @@ fn enter(
     if event != sought.event {
         return Ok(true);
     }
-    let Some(routes) = routes(alloc, pool, sought, node.first, &search.above)? else {
+    let Some(routes) = routes(alloc, pool, bound, sought, node.first, &search.above)? else {
         return Ok(false);
     };
     search.entries.push(Entry {
@@ -228,6 +236,7 @@ fn note(search: &mut Search, place: u32, node: Opened) -> Result<(), AllocError>
 fn routes(
     alloc: Global,
     pool: &Pool,
+    bound: &HashSet<u32>,
     sought: Sought,
     arguments: Option<NodeId>,
     above: &[Seen],
@@ -236,14 +245,18 @@ fn routes(
     requires rights { ChildBelow (length pool.now.trees) sought.rights }
     requires arguments { ChildBelow (length pool.now.trees) arguments }
     requires above { All (SeenBelow (length pool.now.trees)) above.now }
-    ensures routes { IfOk result (λ o. option_map (λ rs. map (route_tree pool.now.trees) rs.items) o ≡ routes_of (leaf_names (tree_at pool.now.trees sought.variables)) (map (placed pool.now.trees) above.now) (tree_at pool.now.trees arguments) (atoms_of (tree_at pool.now.trees sought.rights))) }
+    ensures routes { IfOk result (λ o. option_map (λ rs. map (route_tree pool.now.trees) rs.items) o ≡ routes_of (is_outside bound.now) (leaf_names (tree_at pool.now.trees sought.variables)) (map (placed pool.now.trees) above.now) (tree_at pool.now.trees arguments) (atoms_of (tree_at pool.now.trees sought.rights))) }
     ensures live { IfOk result (λ o. IfSome o (λ rs. All (RouteBelow (length pool.now.trees)) rs.items)) }
 {
+    let bindings = Bindings {
+        variables: sought.variables,
+        arguments,
+    };
     let mut found = Vec::new(alloc);
     let mut at = sought.rights;
     'rights: while let Some(n) = at {
         let node = read_node(pool, n);
-        let Some(route) = right_route(pool, sought.variables, arguments, node.first, above) else {
+        let Some(route) = right_route(pool, bound, bindings, node.first, above) else {
             return Ok(None);
         };
         found.push(route)?;
@@ -256,16 +269,16 @@ fn routes(
 #[tactic(auto, using(crate::proofs::Searching::search_laws))]
 fn right_route(
     pool: &Pool,
-    variables: Option<NodeId>,
-    arguments: Option<NodeId>,
+    bound: &HashSet<u32>,
+    bindings: Bindings,
     right: Option<NodeId>,
     above: &[Seen],
 ) -> Option<Route>
-    requires variables { ChildBelow (length pool.now.trees) variables }
-    requires arguments { ChildBelow (length pool.now.trees) arguments }
+    requires variables { ChildBelow (length pool.now.trees) bindings.variables }
+    requires arguments { ChildBelow (length pool.now.trees) bindings.arguments }
     requires right { ChildBelow (length pool.now.trees) right }
     requires above { All (SeenBelow (length pool.now.trees)) above.now }
-    ensures route { option_map (route_tree pool.now.trees) result ≡ route (leaf_names (tree_at pool.now.trees variables)) (map (placed pool.now.trees) above.now) (tree_at pool.now.trees arguments) (atom_of (tree_at pool.now.trees right)) }
+    ensures route { option_map (route_tree pool.now.trees) result ≡ route (is_outside bound.now) (leaf_names (tree_at pool.now.trees bindings.variables)) (map (placed pool.now.trees) above.now) (tree_at pool.now.trees bindings.arguments) (atom_of (tree_at pool.now.trees right)) }
     ensures live { IfSome result (RouteBelow (length pool.now.trees)) }
 {
     let Some(n) = right else {
@@ -273,8 +286,8 @@ fn right_route(
     };
     let node = read_node(pool, n);
     match node.head {
-        Head::Occurs(event) => first(pool, variables, arguments, event, node.first, above),
-        Head::OccursOnce(event) => first(pool, variables, arguments, event, node.first, above),
+        Head::Occurs(event) => first(pool, bound, bindings, event, node.first, above),
+        Head::OccursOnce(event) => first(pool, bound, bindings, event, node.first, above),
         _ => None,
     }
 }
@@ -283,21 +296,21 @@ fn right_route(
 #[tactic(auto, using(crate::proofs::Searching::search_laws))]
 fn first(
     pool: &Pool,
-    variables: Option<NodeId>,
-    arguments: Option<NodeId>,
+    bound: &HashSet<u32>,
+    bindings: Bindings,
     event: u32,
     terms: Option<NodeId>,
     above: &[Seen],
 ) -> Option<Route>
-    requires variables { ChildBelow (length pool.now.trees) variables }
-    requires arguments { ChildBelow (length pool.now.trees) arguments }
+    requires variables { ChildBelow (length pool.now.trees) bindings.variables }
+    requires arguments { ChildBelow (length pool.now.trees) bindings.arguments }
     requires terms { ChildBelow (length pool.now.trees) terms }
     requires above { All (SeenBelow (length pool.now.trees)) above.now }
-    ensures route { option_map (route_tree pool.now.trees) result ≡ first_noted (leaf_names (tree_at pool.now.trees variables)) (map (placed pool.now.trees) above.now) (tree_at pool.now.trees arguments) event (tree_at pool.now.trees terms) }
+    ensures route { option_map (route_tree pool.now.trees) result ≡ first_noted (is_outside bound.now) (leaf_names (tree_at pool.now.trees bindings.variables)) (map (placed pool.now.trees) above.now) (tree_at pool.now.trees bindings.arguments) event (tree_at pool.now.trees terms) }
     ensures live { IfSome result (RouteBelow (length pool.now.trees)) }
 {
     for seen in above {
-        if seen.event == event && is_instance(pool, variables, arguments, terms, seen.arguments) {
+        if seen.event == event && is_instance(pool, bound, bindings, terms, seen.arguments) {
             return Some(Route {
                 place: seen.place,
                 arguments: seen.arguments,

@@ -9,7 +9,8 @@ use std::alloc::{AllocError, Global};
 use std::test::Fail;
 
 // Names are numbers: 1 is a replication index, 2 a parameter, 3 and 8 are channels of inputs, 6 is one of outputs,
-// 4 is a nonce and 5 its type, 11 and 12 are events, and 21 and 22 are the variables of a query.
+// 4 is a nonce and 5 its type, 11 and 12 are events, 21 and 22 are the variables of a query, 30 is a function, and 31 and
+// 32 are constants.
 
 // How much of some room a tree leaves, where it fits.
 fn room_left(pool: &Pool, tree: Option<NodeId>, room: u32) -> Option<u32>
@@ -157,6 +158,92 @@ fn a_secret_stays_open(rt: HostRuntime) -> Result<(), Fail> {
     pool.reserve(20)?;
     let game = sessions(&mut pool);
     let query = pool.node(Head::Secret(4).kind(), None, None);
+    assert!(rt; places(rt.alloc(), &pool, query, game)?.is_none());
+    Ok(())
+}
+
+// The list `30(x), c`.
+#[tactic(auto, using(cv_pool::proofs::Growth::growth))]
+fn two_terms(pool: &mut Pool, x: u32, c: u32) -> NodeId
+    requires { 6 ≤ pool.old.spare }
+    ensures live { result.0 < length pool.new.trees }
+    ensures grows { Grows pool.old pool.new }
+    ensures spare { pool.old.spare ≤ pool.new.spare + 6 }
+{
+    let argument = pool.node(Head::Leaf(x).kind(), None, None);
+    let arguments = pool.node(Head::Cons.kind(), Some(argument), None);
+    let applied = pool.node(Head::Apply(30).kind(), Some(arguments), None);
+    let constant = pool.node(Head::Leaf(c).kind(), None, None);
+    let last = pool.node(Head::Cons.kind(), Some(constant), None);
+    pool.node(Head::Cons.kind(), Some(applied), Some(last))
+}
+
+// `in(3, ()); new 4:5; event 11(30(4), c); event 12(4); yield`
+#[tactic(auto, using(cv_pool::proofs::Growth::growth))]
+fn told(pool: &mut Pool, c: u32) -> NodeId
+    requires { 16 ≤ pool.old.spare }
+    ensures live { result.0 < length pool.new.trees }
+    ensures grows { Grows pool.old pool.new }
+    ensures spare { pool.old.spare ≤ pool.new.spare + 16 }
+{
+    let end = pool.node(Head::Yield.kind(), None, None);
+    let accepted = one_term(pool, 4, false);
+    let second = pool.node(Head::Event(12).kind(), Some(accepted), Some(end));
+    let begun = two_terms(pool, 4, c);
+    let first = pool.node(Head::Event(11).kind(), Some(begun), Some(second));
+    let nonce = pool.node(Head::New(4, 5).kind(), None, Some(first));
+    let pattern = pool.node(Head::Cons.kind(), None, None);
+    pool.node(Head::In(3).kind(), Some(pattern), Some(nonce))
+}
+
+// `event 12(21) ==> event 11(30(21), c)`
+#[tactic(auto, using(cv_pool::proofs::Growth::growth))]
+fn tells(pool: &mut Pool, c: u32) -> NodeId
+    requires { 16 ≤ pool.old.spare }
+    ensures live { result.0 < length pool.new.trees }
+    ensures grows { Grows pool.old pool.new }
+    ensures spare { pool.old.spare ≤ pool.new.spare + 16 }
+{
+    let binders = pool.node(Head::Binder(21, 5).kind(), None, None);
+    let begun = two_terms(pool, 21, c);
+    let before = pool.node(Head::Occurs(11).kind(), Some(begun), None);
+    let atoms = pool.node(Head::Cons.kind(), Some(before), None);
+    let accepted = one_term(pool, 21, false);
+    let after = pool.node(Head::Occurs(12).kind(), Some(accepted), None);
+    let sides = pool.node(Head::Cons.kind(), Some(after), Some(atoms));
+    pool.node(Head::Query.kind(), Some(binders), Some(sides))
+}
+
+#[test]
+#[tactic(auto, using(cv_pool::proofs::Growth::growth))]
+fn a_right_event_of_terms_closes_a_query(rt: HostRuntime) -> Result<(), Fail> {
+    let mut pool = Pool::new(rt.alloc(), 40);
+    pool.reserve(32)?;
+    let game = told(&mut pool, 31);
+    let query = tells(&mut pool, 31);
+    let found = places(rt.alloc(), &pool, query, game)?;
+    assert_eq!(rt; found.as_deref(), Some(&[6, 2][..]));
+    Ok(())
+}
+
+#[test]
+#[tactic(auto, using(cv_pool::proofs::Growth::growth))]
+fn another_constant_leaves_a_query_open(rt: HostRuntime) -> Result<(), Fail> {
+    let mut pool = Pool::new(rt.alloc(), 40);
+    pool.reserve(32)?;
+    let game = told(&mut pool, 31);
+    let query = tells(&mut pool, 32);
+    assert!(rt; places(rt.alloc(), &pool, query, game)?.is_none());
+    Ok(())
+}
+
+#[test]
+#[tactic(auto, using(cv_pool::proofs::Growth::growth))]
+fn a_variable_of_the_game_is_no_constant(rt: HostRuntime) -> Result<(), Fail> {
+    let mut pool = Pool::new(rt.alloc(), 40);
+    pool.reserve(32)?;
+    let game = told(&mut pool, 4);
+    let query = tells(&mut pool, 4);
     assert!(rt; places(rt.alloc(), &pool, query, game)?.is_none());
     Ok(())
 }

@@ -1,19 +1,21 @@
 -- Where the right events stand above a left one and were recorded, the left event is met.
-use Rattle.std.proofs.Common.{◌≡◌, ℕ, Bool, true, false, cond, ◌||◌, ◌&&◌, not, ◌==◌, List, [], ◌∷◌, ◌++◌, ◌⊎◌, Option, Some, None, refl, sym, ap, ap₂, subst, ◌∙◌, inl, inr, zip}
+use Rattle.std.proofs.Common.{◌≡◌, ℕ, Bool, true, false, cond, ◌||◌, ◌&&◌, not, ◌==◌, List, [], ◌∷◌, ◌++◌, ◌⊎◌, Option, Some, None, refl, sym, ap, ap₂, subst, ◌∙◌, inl, inr, zip, eqb-true}
 use Rattle.std.proofs.lemmas.Bool.{both_ways, and_parts, and_from}
 use Rattle.std.specs.List.{AllByRecursion, list_any, list_all}
-use Rattle.cv_syntax.specs.declared.head.Head.TheVariants.{Leaf}
+use Rattle.cv_syntax.specs.declared.head.Head.TheVariants.{Leaf, Apply, Eq, And, Or, Not, Yes, No}
 use Rattle.cv_syntax.specs.Tree.{Tree, Empty, Node}
 use Rattle.cv_meaning.specs.Tapes.{same_tuple}
 use Rattle.cv_meaning.specs.Interpretation.{Setting}
 use Rattle.cv_meaning.specs.Memory.{Store, nowhere, Happened, Indices}
-use Rattle.cv_meaning.specs.Terms.{found_in, leaf_value_from, leaf_value, value, values}
+use Rattle.cv_meaning.specs.Terms.{found_in, bit, is_one, leaf_value_from, leaf_value, value, values}
 use Rattle.cv_meaning.specs.Correspondences.{Correspondence, Atom, RightEvent, RightTerm, is_event, holds, left_values, is_left, is_met, assignments}
-use Rattle.cv_meaning.specs.Direct.{Noted, argument, is_argument, is_instance, is_noted, atom_noted, event_covered}
+use Rattle.cv_meaning.specs.Direct.{Noted, argument, is_argument, is_leaf, is_one_of, stands_for, is_substituted, is_instance, is_noted, atom_noted, event_covered}
 use Rattle.cv_meaning.proofs.Counts.{same_tuple_refl}
-use Rattle.cv_meaning.proofs.Direct.{same_tree_exact, Among, IsMetBy, AllMet}
+use Rattle.cv_meaning.proofs.Direct.{same_tree_exact, or_none, Among, IsMetBy, AllMet}
 use Rattle.cv_discipline.specs.Promises.{IsRecorded}
 use Rattle.cv_discipline.proofs.OnceGames.{or_right}
+use Rattle.cv_discipline.proofs.TermsLater.{LeafReads, Readable, AllReadable}
+use Rattle.cv_discipline.proofs.Contexts.{EventHolds}
 
 any_recorded : (p : Happened → Bool) (e : Happened) (es : List Happened) → IsRecorded e es → p e ≡ true → list_any p es ≡ true
 any_recorded p e [] h k = absurd h
@@ -32,9 +34,9 @@ all_mono : {A : Type 0} (p q : A → Bool) → ((x : A) → p x ≡ true → q x
 all_mono p q h [] e = refl
 all_mono p q h (x ∷ xs) e = let r = and_parts (p x) _ e in and_from (q x) _ (h x r.0) (all_mono p q h xs r.1)
 
--- event nodes above, with the values that their terms have
-abbrev pub WasRecorded : Setting → Indices → Store → List Happened → Noted → Type 0
-WasRecorded g at m es e = IsRecorded (record { event = e.0; values = values g at m e.1 }) es
+-- a name that is read, and stands for itself, has the value that it has in the query
+abbrev pub StandsForItself : Setting → (ℕ → Bool) → Indices → Store → ℕ → Type 0
+StandsForItself g variable at m y = LeafReads g variable at m y → leaf_value g at m y ≡ leaf_value_from g nowhere y None
 
 -- the query's arguments at a left event
 
@@ -57,35 +59,78 @@ is_argument_value g at m xs a y n e = go (argument xs a y) refl e
         ap (value g at m) (sym (same_tree_exact b n k))
         ∙ sym (ap (leaf_value_from g nowhere y) (argument_value g at m xs a y b q))
 
-instance_values : (g : Setting) (at : Indices) (m : Store) (xs : List ℕ) (a ms ns : Tree) → is_instance xs a ms ns ≡ true → values g at m ns ≡ values g (zip xs (values g at m a)) nowhere ms
-unfolding is_instance value
-instance_values g at m xs a Empty Empty e = refl
-instance_values g at m xs a (Node h (Node (Leaf y) b c) more) (Node k n rest) e =
-    let p = and_parts (is_argument (argument xs a y) n) _ e in
-    ap₂ ◌∷◌ (is_argument_value g at m xs a y n p.0) (instance_values g at m xs a more rest p.1)
-instance_values g at m xs a _ _ e = absurd (both_ways _ refl e)
+none_among : (xs : List ℕ) (vs : List ℕ) (y : ℕ) → is_one_of xs y ≡ false → found_in (zip xs vs) y ≡ None
+none_among [] vs y e = refl
+none_among (x ∷ xs) [] y e = refl
+none_among (x ∷ xs) (v ∷ vs) y e = let r = or_none (x == y) _ e in ap₂ (λ b o. cond b (Some v) o) r.0 (none_among xs vs y r.1)
 
-noted_holds : (g : Setting) (at : Indices) (m : Store) (es : List Happened) (xs : List ℕ) (a : Tree) (inj : Bool) (f : ℕ) (ms : Tree) (above : List Noted) → AllByRecursion (WasRecorded g at m es) above → list_any (is_noted xs a f ms) above ≡ true → list_any (is_event g (zip xs (values g at m a)) f ms) es ≡ true
-noted_holds g at m es xs a inj f ms [] r e = absurd (both_ways _ refl e)
-noted_holds g at m es xs a inj f ms (d ∷ above) r e = go (is_noted xs a f ms d) refl (noted_holds g at m es xs a inj f ms above r.1) e
-  where
-    ρ : Indices
-    ρ = zip xs (values g at m a)
+module _ (g : Setting) (variable own : ℕ → Bool) (at : Indices) (m : Store) (fixed : (y : ℕ) → own y ≡ true → StandsForItself g variable at m y) (xs : List ℕ) (a : Tree) where
+  abbrev ρ : Indices
+  ρ = zip xs (values g at m a)
 
-    go : (b : Bool) → is_noted xs a f ms d ≡ b → (list_any (is_noted xs a f ms) above ≡ true → list_any (is_event g ρ f ms) es ≡ true) → (b || list_any (is_noted xs a f ms) above) ≡ true → list_any (is_event g ρ f ms) es ≡ true
-    go true k ih q =
-        let p = and_parts (d.0 == f) _ k in
-        any_recorded (is_event g ρ f ms) _ es r.0 (and_from (d.0 == f) _ p.0 (ap (same_tuple (values g at m d.1)) (sym (instance_values g at m xs a ms d.1 p.1)) ∙ same_tuple_refl (values g at m d.1)))
-    go false k ih q = ih q
+  leaf_itself : (y : ℕ) (n : Tree) → is_one_of xs y ≡ false → own y && is_leaf y n ≡ true → Readable g variable at m n → value g at m n ≡ leaf_value g ρ nowhere y
+  unfolding value
+  leaf_itself y (Node (Leaf x) b c) o e r =
+      let p = and_parts (own y) _ e in
+      let same : x ≡ y = eqb-true x y p.1 in
+      ap (leaf_value g at m) same ∙ fixed y p.0 (subst (LeafReads g variable at m) same r) ∙ sym (ap (leaf_value_from g nowhere y) (none_among xs (values g at m a) y o))
+  leaf_itself y n o e r = absurd (both_ways _ refl (and_parts (own y) _ e).1)
 
-atom_holds : (g : Setting) (at : Indices) (m : Store) (es : List Happened) (xs : List ℕ) (a : Tree) (above : List Noted) → AllByRecursion (WasRecorded g at m es) above → (c : Atom) → atom_noted xs above a c ≡ true → holds g es (zip xs (values g at m a)) c ≡ true
-atom_holds g at m es xs a above r (RightEvent inj f ms) e = noted_holds g at m es xs a inj f ms above r e
-atom_holds g at m es xs a above r (RightTerm n) e = absurd (both_ways _ refl e)
+  stands_for_value : (y : ℕ) (n : Tree) → stands_for own xs a y n ≡ true → Readable g variable at m n → value g at m n ≡ leaf_value g ρ nowhere y
+  stands_for_value y n e r = go (is_one_of xs y) refl e
+    where
+      go : (b : Bool) → is_one_of xs y ≡ b → cond b (is_argument (argument xs a y) n) (own y && is_leaf y n) ≡ true → value g at m n ≡ leaf_value g ρ nowhere y
+      go true o k = is_argument_value g at m xs a y n k
+      go false o k = leaf_itself y n o k r
 
-pub event_met : (g : Setting) (q : Correspondence) (at : Indices) (m : Store) (es : List Happened) (above : List Noted) (e : ℕ) (a : Tree) → event_covered q above e a ≡ true → AllByRecursion (WasRecorded g at m es) above → IsMetBy g q es (record { event = e; values = values g at m a })
-event_met g q at m es above e a c r l =
-    let c' : list_all (atom_noted q.variables above a) q.atoms ≡ true = subst (λ b. cond b (list_all (atom_noted q.variables above a) q.atoms) true ≡ true) l c in
-    all_mono _ _ (atom_holds g at m es q.variables a above r) q.atoms c'
+  mutual
+    unfolding is_substituted is_instance value
+
+    substituted_value : (l n : Tree) → is_substituted own xs a l n ≡ true → Readable g variable at m n → value g at m n ≡ value g ρ nowhere l
+    substituted_value (Node (Leaf y) b c) n e r = stands_for_value y n e r
+    substituted_value (Node (Apply f) ms b) (Node (Apply k) ns c) e r =
+        let p = and_parts (f == k) _ e in
+        ap₂ g.interpretation.table (sym (eqb-true f k p.0)) (instance_values ms ns p.1 r)
+    substituted_value (Node Eq b c) (Node Eq n d) e r =
+        let p = and_parts (is_substituted own xs a b n) _ e in
+        ap₂ (λ x y. bit (x == y)) (substituted_value b n p.0 r.0) (substituted_value c d p.1 r.1)
+    substituted_value (Node And b c) (Node And n d) e r =
+        let p = and_parts (is_substituted own xs a b n) _ e in
+        ap₂ (λ x y. bit (is_one x && is_one y)) (substituted_value b n p.0 r.0) (substituted_value c d p.1 r.1)
+    substituted_value (Node Or b c) (Node Or n d) e r =
+        let p = and_parts (is_substituted own xs a b n) _ e in
+        ap₂ (λ x y. bit (is_one x || is_one y)) (substituted_value b n p.0 r.0) (substituted_value c d p.1 r.1)
+    substituted_value (Node Not b c) (Node Not n d) e r = ap (λ x. bit (not (is_one x))) (substituted_value b n e r.0)
+    substituted_value (Node Yes b c) (Node Yes n d) e r = refl
+    substituted_value (Node No b c) (Node No n d) e r = refl
+    substituted_value _ _ e r = absurd (both_ways _ refl e)
+
+    instance_values : (ms ns : Tree) → is_instance own xs a ms ns ≡ true → AllReadable g variable at m ns → values g at m ns ≡ values g ρ nowhere ms
+    instance_values Empty Empty e r = refl
+    instance_values (Node h l more) (Node k n rest) e r =
+        let p = and_parts (is_substituted own xs a l n) _ e in
+        ap₂ ◌∷◌ (substituted_value l n p.0 r.0) (instance_values more rest p.1 r.1)
+    instance_values Empty (Node k n rest) e r = absurd (both_ways _ refl e)
+    instance_values (Node h l more) Empty e r = absurd (both_ways _ refl e)
+
+  noted_holds : (es : List Happened) (f : ℕ) (ms : Tree) (above : List Noted) → AllByRecursion (EventHolds g variable at m es) above → list_any (is_noted own xs a f ms) above ≡ true → list_any (is_event g ρ f ms) es ≡ true
+  noted_holds es f ms [] r e = absurd (both_ways _ refl e)
+  noted_holds es f ms (d ∷ above) r e = go (is_noted own xs a f ms d) refl (noted_holds es f ms above r.1) e
+    where
+      go : (b : Bool) → is_noted own xs a f ms d ≡ b → (list_any (is_noted own xs a f ms) above ≡ true → list_any (is_event g ρ f ms) es ≡ true) → (b || list_any (is_noted own xs a f ms) above) ≡ true → list_any (is_event g ρ f ms) es ≡ true
+      go true k ih q =
+          let p = and_parts (d.0 == f) _ k in
+          any_recorded (is_event g ρ f ms) _ es r.0.recorded (and_from (d.0 == f) _ p.0 (ap (same_tuple (values g at m d.1)) (sym (instance_values ms d.1 p.1 r.0.readable)) ∙ same_tuple_refl (values g at m d.1)))
+      go false k ih q = ih q
+
+  atom_holds : (es : List Happened) (above : List Noted) → AllByRecursion (EventHolds g variable at m es) above → (c : Atom) → atom_noted own xs above a c ≡ true → holds g es ρ c ≡ true
+  atom_holds es above r (RightEvent inj f ms) e = noted_holds es f ms above r e
+  atom_holds es above r (RightTerm n) e = absurd (both_ways _ refl e)
+
+pub event_met : (g : Setting) (variable own : ℕ → Bool) (q : Correspondence) (at : Indices) (m : Store) (es : List Happened) (above : List Noted) (e : ℕ) (a : Tree) → ((y : ℕ) → own y ≡ true → StandsForItself g variable at m y) → event_covered own q above e a ≡ true → AllByRecursion (EventHolds g variable at m es) above → IsMetBy g q es (record { event = e; values = values g at m a })
+event_met g variable own q at m es above e a fixed c r l =
+    let c' : list_all (atom_noted own q.variables above a) q.atoms ≡ true = subst (λ b. cond b (list_all (atom_noted own q.variables above a) q.atoms) true ≡ true) l c in
+    all_mono _ _ (atom_holds g variable own at m fixed q.variables a es above r) q.atoms c'
 
 -- one more event
 

@@ -1,10 +1,10 @@
 -- Worked games.
 -- Names are numbers: 1 and 20 are replication indices, 2 is a parameter, 3 and 8 are channels of inputs, 6 is one of
--- outputs, 4 is a variable and 5 its type, 9 is a variable of a query, 11 and 12 are events, and 20 is a constant where
--- it is declared.
+-- outputs, 4 is a variable and 5 its type, 9 is a variable of a query, 11 and 12 are events, 20 is a constant where it is
+-- declared, and 30 is a function.
 use Rattle.std.specs.Prelude.{ℕ, false, List, [], ◌∷◌, Option, Some}
-use Rattle.cv_syntax.specs.declared.head.Head.TheVariants.{Yield, Let, Yes}
-use Rattle.cv_syntax.specs.Tree.{Tree, Node, lone}
+use Rattle.cv_syntax.specs.declared.head.Head.TheVariants.{Yield, Let, Yes, Apply}
+use Rattle.cv_syntax.specs.Tree.{Tree, Empty, Node, lone, chain}
 use Rattle.cv_meaning.specs.Interpretation.{Setting, setting_of}
 use Rattle.cv_meaning.specs.Runs.{Adversary, Answer, Move, Calls}
 use Rattle.cv_meaning.specs.Correspondences.{Correspondence, correspondence_of}
@@ -18,6 +18,18 @@ begun_before = correspondence_of (correspondence ((9, 5) ∷ []) (occurs false 1
 -- !1<=2 in(3[1], ()); new 4:5; event 11(4[1]); out(6[1], ()); in(8[1], ()); event 12(4[1]); yield
 abbrev pub sessions : Tree
 sessions = repl 1 (input 3 (1 ∷ []) [] (restriction 4 (event 11 (read 4 (leaf 1 ∷ []) ∷ []) (output 6 (1 ∷ []) [] (input 8 (1 ∷ []) [] (event 12 (read 4 (leaf 1 ∷ []) ∷ []) (lone Yield)))))))
+
+-- 30(x)
+abbrev pub applied : ℕ → Tree
+applied x = Node (Apply 30) (chain (leaf x ∷ [])) Empty
+
+-- event 12(9) ==> event 11(30(9), 20)
+abbrev pub told_before : Correspondence
+told_before = correspondence_of (correspondence ((9, 5) ∷ []) (occurs false 12 (leaf 9 ∷ [])) (occurs false 11 (applied 9 ∷ leaf 20 ∷ []) ∷ []))
+
+-- in(3, (4:5)); event 11(30(4), 20); event 12(4); yield
+abbrev pub told : Tree
+told = input 3 [] ((4, 5) ∷ []) (event 11 (applied 4 ∷ leaf 20 ∷ []) (event 12 (leaf 4 ∷ []) (lone Yield)))
 
 -- in(3, (4:5)); event 11(4); let 4:5 = true in event 12(4); yield
 abbrev pub assigned_again : Tree

@@ -25,6 +25,8 @@ ghost use Rattle.cv_scope.specs.Worked.{cell_found, constants, finds};
 ghost use Rattle.cv_discipline.specs.Worked.{
   begun_before,
   sessions,
+  told_before,
+  told,
   assigned_again,
   constant_captured,
   two_values,
@@ -136,7 +138,8 @@ pub fn plainly_direct_is_never_broken()
 
 /// Worked games that are well-formed. In the first, below a replication, the right event stands in an
 /// earlier input than the left one: there the correspondence is met by the shape of the game, though not
-/// within one body. The second has a `find`.
+/// within one body. The second has a `find`. In the third the right event has a function's value and a
+/// constant as arguments.
 pub fn worked_games()
     ensures sessions { IsWellFormed [] sessions }
     ensures shape { IsPlainlyDirect begun_before sessions }
@@ -144,6 +147,10 @@ pub fn worked_games()
     ensures never { (i : Interpretation) (a : Adversary) →
         AtMost (break_chance (setting_of [] i) begun_before a sessions) zero_chance }
     ensures found { IsWellFormed [] (finds (cell_found ∷ [])) }
+    ensures terms { IsWellFormed constants told }
+    ensures terms_shape { IsPlainlyDirect told_before told }
+    ensures terms_never { (i : Interpretation) (a : Adversary) →
+        AtMost (break_chance (setting_of constants i) told_before a told) zero_chance }
 {}
 
 /// Array scope is needed: a game in the grammar that assigns a variable again breaks a correspondence

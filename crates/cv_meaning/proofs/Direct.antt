@@ -3,7 +3,7 @@ use Rattle.std.proofs.Common.{◌≡◌, ℕ, zero, suc, Bool, true, false, cond
 use Rattle.std.proofs.lemmas.Bool.{both_ways, and_parts, and_from, not-true}
 use Rattle.std.specs.List.{AllByRecursion, list_any, list_all}
 use Rattle.cv_syntax.specs.declared.head.Head.{Head}
-use Rattle.cv_syntax.specs.declared.head.Head.TheVariants.{Par, Repl, In, Out, Event, New, Let, If, Find, Branch, Leaf, Read, Apply, Eq, And, Or, Not, Cons, Binder, Key, Call}
+use Rattle.cv_syntax.specs.declared.head.Head.TheVariants.{Par, Repl, In, Out, Event, New, Let, If, Find, Branch, Leaf, Read, Apply, Eq, And, Or, Not, Yes, No, Cons, Binder, Key, Call}
 use Rattle.cv_syntax.specs.Head.{code, decoded, decoded-code, same_head}
 use Rattle.cv_syntax.specs.Tree.{Tree, Empty, Node, head_reads_only, same_tree, reads_only, binds}
 use Rattle.cv_meaning.specs.Tapes.{Tape, Find_at, same_tuple}
@@ -15,7 +15,7 @@ use Rattle.cv_meaning.specs.Candidates.{Candidate, below, candidates, chosen}
 use Rattle.cv_meaning.specs.Inputs.{Input, inputs_of}
 use Rattle.cv_meaning.specs.Serving.{Served, after_find, step, serve, after_turn}
 use Rattle.cv_meaning.specs.Correspondences.{Correspondence, Atom, RightEvent, RightTerm, is_event, holds, left_values, is_left}
-use Rattle.cv_meaning.specs.Direct.{Noted, argument, is_argument, is_instance, is_noted, atom_noted, event_covered, kept, is_other, covered}
+use Rattle.cv_meaning.specs.Direct.{Noted, argument, is_argument, is_one_of, stands_for, is_substituted, is_instance, is_noted, atom_noted, event_covered, kept, is_other, no_name, covered}
 use Rattle.cv_meaning.proofs.Counts.{same_tuple_refl}
 
 -- trees
@@ -190,28 +190,61 @@ is_argument_value g at m xs a y n e = go (argument xs a y) refl e
         ap (value g at m) (sym (same_tree_exact b n k))
         ∙ sym (ap (leaf_value_from g nowhere y) (argument_value g at m xs a y b q))
 
-instance_values : (g : Setting) (at : Indices) (m : Store) (xs : List ℕ) (a ms ns : Tree) → is_instance xs a ms ns ≡ true → values g at m ns ≡ values g (zip xs (values g at m a)) nowhere ms
-unfolding is_instance value
-instance_values g at m xs a Empty Empty e = refl
-instance_values g at m xs a (Node h (Node (Leaf y) b c) more) (Node k n rest) e =
-    let p = and_parts (is_argument (argument xs a y) n) _ e in
-    ap₂ ◌∷◌ (is_argument_value g at m xs a y n p.0) (instance_values g at m xs a more rest p.1)
-instance_values g at m xs a _ _ e = absurd (both_ways _ refl e)
+stands_for_value : (g : Setting) (at : Indices) (m : Store) (xs : List ℕ) (a : Tree) (y : ℕ) (n : Tree) → stands_for no_name xs a y n ≡ true → value g at m n ≡ leaf_value g (zip xs (values g at m a)) nowhere y
+stands_for_value g at m xs a y n e = go (is_one_of xs y) e
+  where
+    go : (b : Bool) → cond b (is_argument (argument xs a y) n) false ≡ true → value g at m n ≡ leaf_value g (zip xs (values g at m a)) nowhere y
+    go true k = is_argument_value g at m xs a y n k
+    go false k = absurd (both_ways _ refl k)
 
-noted_holds : (g : Setting) (at : Indices) (m : Store) (es : List Happened) (xs : List ℕ) (a : Tree) (inj : Bool) (f : ℕ) (ms : Tree) (above : List Noted) → Recorded g at m es above → list_any (is_noted xs a f ms) above ≡ true → list_any (is_event g (zip xs (values g at m a)) f ms) es ≡ true
+module _ (g : Setting) (at : Indices) (m : Store) (xs : List ℕ) (a : Tree) where
+  abbrev ρ : Indices
+  ρ = zip xs (values g at m a)
+
+  mutual
+    unfolding is_substituted is_instance value
+
+    substituted_value : (l n : Tree) → is_substituted no_name xs a l n ≡ true → value g at m n ≡ value g ρ nowhere l
+    substituted_value (Node (Leaf y) b c) n e = stands_for_value g at m xs a y n e
+    substituted_value (Node (Apply f) ms b) (Node (Apply k) ns c) e =
+        let p = and_parts (f == k) _ e in
+        ap₂ g.interpretation.table (sym (eqb-true f k p.0)) (instance_values ms ns p.1)
+    substituted_value (Node Eq b c) (Node Eq n r) e =
+        let p = and_parts (is_substituted no_name xs a b n) _ e in
+        ap₂ (λ x y. bit (x == y)) (substituted_value b n p.0) (substituted_value c r p.1)
+    substituted_value (Node And b c) (Node And n r) e =
+        let p = and_parts (is_substituted no_name xs a b n) _ e in
+        ap₂ (λ x y. bit (is_one x && is_one y)) (substituted_value b n p.0) (substituted_value c r p.1)
+    substituted_value (Node Or b c) (Node Or n r) e =
+        let p = and_parts (is_substituted no_name xs a b n) _ e in
+        ap₂ (λ x y. bit (is_one x || is_one y)) (substituted_value b n p.0) (substituted_value c r p.1)
+    substituted_value (Node Not b c) (Node Not n r) e = ap (λ x. bit (not (is_one x))) (substituted_value b n e)
+    substituted_value (Node Yes b c) (Node Yes n r) e = refl
+    substituted_value (Node No b c) (Node No n r) e = refl
+    substituted_value _ _ e = absurd (both_ways _ refl e)
+
+    instance_values : (ms ns : Tree) → is_instance no_name xs a ms ns ≡ true → values g at m ns ≡ values g ρ nowhere ms
+    instance_values Empty Empty e = refl
+    instance_values (Node h l more) (Node k n rest) e =
+        let p = and_parts (is_substituted no_name xs a l n) _ e in
+        ap₂ ◌∷◌ (substituted_value l n p.0) (instance_values more rest p.1)
+    instance_values Empty (Node k n rest) e = absurd (both_ways _ refl e)
+    instance_values (Node h l more) Empty e = absurd (both_ways _ refl e)
+
+noted_holds : (g : Setting) (at : Indices) (m : Store) (es : List Happened) (xs : List ℕ) (a : Tree) (inj : Bool) (f : ℕ) (ms : Tree) (above : List Noted) → Recorded g at m es above → list_any (is_noted no_name xs a f ms) above ≡ true → list_any (is_event g (zip xs (values g at m a)) f ms) es ≡ true
 noted_holds g at m es xs a inj f ms [] r e = absurd (both_ways _ refl e)
-noted_holds g at m es xs a inj f ms (d ∷ above) r e = go (is_noted xs a f ms d) refl (noted_holds g at m es xs a inj f ms above r.1) e
+noted_holds g at m es xs a inj f ms (d ∷ above) r e = go (is_noted no_name xs a f ms d) refl (noted_holds g at m es xs a inj f ms above r.1) e
   where
     ρ : Indices
     ρ = zip xs (values g at m a)
 
-    go : (b : Bool) → is_noted xs a f ms d ≡ b → (list_any (is_noted xs a f ms) above ≡ true → list_any (is_event g ρ f ms) es ≡ true) → (b || list_any (is_noted xs a f ms) above) ≡ true → list_any (is_event g ρ f ms) es ≡ true
+    go : (b : Bool) → is_noted no_name xs a f ms d ≡ b → (list_any (is_noted no_name xs a f ms) above ≡ true → list_any (is_event g ρ f ms) es ≡ true) → (b || list_any (is_noted no_name xs a f ms) above) ≡ true → list_any (is_event g ρ f ms) es ≡ true
     go true k ih q =
         let p = and_parts (d.0 == f) _ k in
         any_among (is_event g ρ f ms) _ es r.0 (and_from (d.0 == f) _ p.0 (ap (same_tuple (values g at m d.1)) (sym (instance_values g at m xs a ms d.1 p.1)) ∙ same_tuple_refl (values g at m d.1)))
     go false k ih q = ih q
 
-atom_holds : (g : Setting) (at : Indices) (m : Store) (es : List Happened) (xs : List ℕ) (a : Tree) (above : List Noted) → Recorded g at m es above → (c : Atom) → atom_noted xs above a c ≡ true → holds g es (zip xs (values g at m a)) c ≡ true
+atom_holds : (g : Setting) (at : Indices) (m : Store) (es : List Happened) (xs : List ℕ) (a : Tree) (above : List Noted) → Recorded g at m es above → (c : Atom) → atom_noted no_name xs above a c ≡ true → holds g es (zip xs (values g at m a)) c ≡ true
 atom_holds g at m es xs a above r (RightEvent inj f ms) e = noted_holds g at m es xs a inj f ms above r e
 atom_holds g at m es xs a above r (RightTerm n) e = absurd (both_ways _ refl e)
 
@@ -237,9 +270,9 @@ met_push g q es d h k e a = go (among_push e d es a)
     go (inl old) = met_more g q es (d ∷ []) e (h e old)
     go (inr new) = subst (IsMetBy g q (es ++ d ∷ [])) (sym new) (met_more g q es (d ∷ []) d k)
 
-event_met : (g : Setting) (q : Correspondence) (at : Indices) (m : Store) (es : List Happened) (above : List Noted) (e : ℕ) (a : Tree) → event_covered q above e a ≡ true → Recorded g at m es above → IsMetBy g q es (record { event = e; values = values g at m a })
+event_met : (g : Setting) (q : Correspondence) (at : Indices) (m : Store) (es : List Happened) (above : List Noted) (e : ℕ) (a : Tree) → event_covered no_name q above e a ≡ true → Recorded g at m es above → IsMetBy g q es (record { event = e; values = values g at m a })
 event_met g q at m es above e a c r l =
-    let c' : list_all (atom_noted q.variables above a) q.atoms ≡ true = subst (λ b. cond b (list_all (atom_noted q.variables above a) q.atoms) true ≡ true) l c in
+    let c' : list_all (atom_noted no_name q.variables above a) q.atoms ≡ true = subst (λ b. cond b (list_all (atom_noted no_name q.variables above a) q.atoms) true ≡ true) l c in
     all_mono _ _ (atom_holds g at m es q.variables a above r) q.atoms c'
 
 -- the service of a body
@@ -274,7 +307,7 @@ unfolding serve step covered
 serve_good g t q Empty p k vs s above e r m = record { met = m; opened = tt }
 serve_good g t q (Node (In c) a b) p k vs s above e r m = serve_good g t q b _ 0 [] _ [] e tt m
 serve_good g t q (Node (Event x) a b) p k vs s above e r m =
-    let c = and_parts (event_covered q above x a) _ e in
+    let c = and_parts (event_covered no_name q above x a) _ e in
     serve_good g t q b _ 0 [] _ ((x, a) ∷ above) c.1
     (among_last _ s.memory.events, recorded_more g s.indices s.memory.store s.memory.events _ above r)
     (met_push g q s.memory.events _ m (event_met g q s.indices s.memory.store s.memory.events above x a c.0 r))

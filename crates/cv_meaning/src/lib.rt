@@ -15,7 +15,7 @@ ghost use Rattle.cv_meaning.specs.Experiments.{visits_of_run};
 ghost use Rattle.cv_meaning.specs.Correspondences.{Correspondence, RightEvent, correspondence_of};
 ghost use Rattle.cv_meaning.specs.Chances.{AtMost, IsFraction, zero_chance};
 ghost use Rattle.cv_meaning.specs.Advantage.{breaks, break_chance, guess_chance, advantage};
-ghost use Rattle.cv_meaning.specs.Direct.{IsDirect, IsPlainlyDirect, covered, plainly_covered};
+ghost use Rattle.cv_meaning.specs.Direct.{IsDirect, IsPlainlyDirect, covered, is_unbound, plainly_covered};
 ghost use Rattle.cv_meaning.specs.Worked.{
   sized,
   adversary,
@@ -167,11 +167,11 @@ pub fn shapes()
         (two_events_game 12 11) ≡ false }
     ensures later { covered (correspondence_of (authentication_query false)) [] later_game ≡ false }
 
-    ensures plainly_above { plainly_covered (correspondence_of (authentication_query false)) []
-        (two_events_game 11 12) ≡ true }
-    ensures plainly_below { plainly_covered (correspondence_of (authentication_query false)) []
-        (two_events_game 12 11) ≡ false }
-    ensures plainly_later { plainly_covered (correspondence_of (authentication_query false)) []
-        later_game ≡ true }
+    ensures plainly_above { plainly_covered (is_unbound (two_events_game 11 12))
+        (correspondence_of (authentication_query false)) [] (two_events_game 11 12) ≡ true }
+    ensures plainly_below { plainly_covered (is_unbound (two_events_game 12 11))
+        (correspondence_of (authentication_query false)) [] (two_events_game 12 11) ≡ false }
+    ensures plainly_later { plainly_covered (is_unbound later_game)
+        (correspondence_of (authentication_query false)) [] later_game ≡ true }
     ensures plainly_direct { IsPlainlyDirect (correspondence_of (authentication_query false)) later_game }
 {}

@@ -1,6 +1,6 @@
 use Rattle.std.proofs.Common.{◌≡◌, Option, Some, None, refl}
 use Rattle.cv_syntax.specs.Tree.{size, same_tree, reads_only}
-use Rattle.cv_meaning.specs.Direct.{argument, is_instance, plainly_covered}
+use Rattle.cv_meaning.specs.Direct.{argument, is_substituted, is_instance, plainly_covered}
 use Rattle.cv_meaning.specs.Memory.{put}
 use Rattle.cv_meaning.specs.Terms.{value}
 use Rattle.cv_meaning.specs.Binders.{bound_to}
@@ -29,7 +29,7 @@ unfolding first_fault sites_from same_tree size first_site bound_sort count
 unscoped s = some_none _ (none_where_scoped (names_of constants assigned_again) at_root assigned_again s)
 
 pub returns-clause-shape : goal.returns-clause-shape
-unfolding plainly_covered is_instance argument same_tree reads_only
+unfolding plainly_covered is_substituted is_instance argument same_tree reads_only
 returns-clause-shape c = record { inj = refl; others = refl; atoms = refl; covered = refl }
 
 pub returns-clause-unscoped : goal.returns-clause-unscoped
@@ -48,7 +48,7 @@ unfolding breaks broken assignments run run_from moved taken serve step inputs_o
 returns-clause-broken c = refl
 
 pub returns-clause-captured_shape : goal.returns-clause-captured_shape
-unfolding plainly_covered is_instance argument same_tree reads_only
+unfolding plainly_covered is_substituted is_instance argument same_tree reads_only
 returns-clause-captured_shape c = record { inj = refl; others = refl; atoms = refl; covered = refl }
 
 pub returns-clause-captured_scope : goal.returns-clause-captured_scope

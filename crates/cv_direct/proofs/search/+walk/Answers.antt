@@ -12,7 +12,7 @@ use Rattle.cv_direct.proofs.search.+walk.Goals as goal
 pub returns-then-not-branch-2-clause-entries : goal.returns-then-not-branch-2-clause-entries
 returns-then-not-branch-2-clause-entries t c =
     let trees = c.args.pool.now.trees in
-    let w = wanted trees c.args.sought in
+    let w = wanted trees c.args.bound.now c.args.sought in
     let o = c.read_node-node.result in
     let here : tree_at trees c.path.at ≡ Node o.head (tree_at trees o.first) (tree_at trees o.second) = ap (tree_at trees) c.in-Some.is ∙ c.read_node-node.ensures.tree in
     let entered : joined (Some (entry_trees trees c.path.search.entries.items)) (head_entries w (map (placed trees) c.path.search.above.items) c.path.search.place o.head (tree_at trees o.first)) ≡ Some (entry_trees trees c.enter.new.search.entries.items) = search rules in
@@ -25,7 +25,7 @@ returns-then-not-branch-2-clause-entries t c =
 pub path-preserved : goal.path-preserved
 path-preserved t c =
     let trees = c.args.pool.now.trees in
-    let w = wanted trees c.args.sought in
+    let w = wanted trees c.args.bound.now c.args.sought in
     let o = c.read_node-node.result in
     let here : tree_at trees c.path.at ≡ Node o.head (tree_at trees o.first) (tree_at trees o.second) = ap (tree_at trees) c.in-Some.is ∙ c.read_node-node.ensures.tree in
     let entered : joined (Some (entry_trees trees c.path.search.entries.items)) (head_entries w (map (placed trees) c.path.search.above.items) c.path.search.place o.head (tree_at trees o.first)) ≡ Some (entry_trees trees c.enter.new.search.entries.items) = search rules in
@@ -56,4 +56,4 @@ pub returns-clause-entries : goal.returns-clause-entries
 returns-clause-entries t c =
     let trees = c.args.pool.now.trees in
     sym c.path.invariant.entries
-    ∙ entries_end (wanted trees c.args.sought) (map (placed trees) c.path.search.above.items) c.path.search.place (entry_trees trees c.path.search.entries.items) (tree_at trees c.path.at) (ap (tree_at trees) c.in_default.is ∙ no_tree)
+    ∙ entries_end (wanted trees c.args.bound.now c.args.sought) (map (placed trees) c.path.search.above.items) c.path.search.place (entry_trees trees c.path.search.entries.items) (tree_at trees c.path.at) (ap (tree_at trees) c.in_default.is ∙ no_tree)

@@ -18,7 +18,7 @@ invariant-path l = record {
   found : All (RoutesBelow (length l.pool.trees)) l.search.entries.items;
   kept : take (length l.fn.search.above.items) l.search.above.items ≡ l.fn.search.above.items;
   place : l.search.place + size (tree_at l.pool.trees l.at) ≡ l.fn.search.place + size (tree_at l.pool.trees l.fn.tree);
-  entries : joined (Some (entry_trees l.pool.trees l.search.entries.items)) (entries_of (wanted l.pool.trees l.sought) (map (placed l.pool.trees) l.search.above.items) l.search.place (tree_at l.pool.trees l.at)) ≡ joined (Some (entry_trees l.pool.trees l.fn.search.entries.items)) (entries_of (wanted l.pool.trees l.sought) (map (placed l.pool.trees) l.fn.search.above.items) l.fn.search.place (tree_at l.pool.trees l.fn.tree));
+  entries : joined (Some (entry_trees l.pool.trees l.search.entries.items)) (entries_of (wanted l.pool.trees l.bound l.sought) (map (placed l.pool.trees) l.search.above.items) l.search.place (tree_at l.pool.trees l.at)) ≡ joined (Some (entry_trees l.pool.trees l.fn.search.entries.items)) (entries_of (wanted l.pool.trees l.bound l.sought) (map (placed l.pool.trees) l.fn.search.above.items) l.fn.search.place (tree_at l.pool.trees l.fn.tree));
 }
 
 abbrev pub decreases-path : goal.decreases-path
