@@ -1,5 +1,5 @@
 -- What each answer about bytes comes from.
-use Rattle.std.proofs.Common.{◌≡◌, ℕ, zero, suc, ◌+◌, ◌-◌, ◌<◌, ◌≤◌, nat_lt, Bool, true, false, if◌then◌else◌, List, [], ◌∷◌, ◌++◌, length, length-append, refl, ap, sym, ◌∙◌, subst, arith, Option, Some, None, is_some, Result, Ok, Err}
+use Rattle.std.proofs.Common.{◌≡◌, ℕ, suc, ◌+◌, ◌<◌, ◌≤◌, nat_lt, Bool, true, false, if◌then◌else◌, List, [], ◌∷◌, ◌++◌, length, length-append, refl, ap, sym, ◌∙◌, subst, arith, Option, Some, None, is_some, Result, Ok, Err}
 use Rattle.std.proofs.lemmas.Bool.Decides.{nat_tests}
 use Rattle.cv_lex.specs.declared.LexError.{LexError}
 use Rattle.cv_lex.specs.Lexis.{Token, tokens_of}
@@ -35,16 +35,16 @@ use Rattle.cv_files.specs.Places.{nodes_before}
 use Rattle.cv_files.proofs.Places.{behind_none, behind_some}
 use Rattle.cv_files.proofs.Readings.{read_is_file}
 use Rattle.cv_direct.specs.Search.{EntryTree}
-use Rattle.cv.specs.declared.report.FileFault.{FileFault}
-use Rattle.cv.specs.declared.report.FileFault.TheVariants.{Lex, Parse}
-use Rattle.cv.specs.declared.report.Status.{Status}
-use Rattle.cv.specs.declared.report.Status.TheVariants as status
-use Rattle.cv.specs.declared.report.Verdict.TheVariants.{Proved, NotProved}
-use Rattle.cv.specs.declared.report.Which.TheVariants.{Depth, File, Nodes, Pool, Steps}
+use Rattle.cv_success.specs.Certificates.{step_of}
+use Rattle.cv_report.specs.declared.report.FileFault.{FileFault}
+use Rattle.cv_report.specs.declared.report.FileFault.TheVariants.{Lex, Parse}
+use Rattle.cv_report.specs.declared.report.Status.{Status}
+use Rattle.cv_report.specs.declared.report.Status.TheVariants as status
+use Rattle.cv_report.specs.declared.report.Verdict.TheVariants.{Proved, NotProved}
+use Rattle.cv_report.specs.declared.report.Which.TheVariants.{Depth, Nodes, Pool}
 use Rattle.cv.specs.Causes.{Caused, HasManyClosed, HasQueryFault, HasScopeFault, HasTypeFault, IsTooDeep, OfTokens, closed_count}
-use Rattle.cv.specs.Faults.{parse_ended, status_of as ended_by}
 use Rattle.cv_direct.specs.Plain.{certificate}
-use Rattle.cv.specs.Strategy.{Judged, Said, closed_by, expected, is_closed, left_open, most_pool, most_steps, nothing_said, said_of, said_then, status_by, status_of}
+use Rattle.cv.specs.Strategy.{Judged, Said, expected, is_closed, left_open, most_pool, most_steps, nothing_said, said_of, said_then, status_by, status_of}
 use Rattle.cv.proofs.Verdicts.{closed_some}
 
 -- bytes that are refused
@@ -225,10 +225,10 @@ one_closed game q qs e = ap (λ b. if b then suc (closed_count game qs) else clo
 abbrev Behind : Tree → List Tree → Type 0
 Behind game qs = (t : Said) → t.full ≡ false → (said_of game t qs).full ≡ true → most_steps < length t.steps + closed_count game qs
 
-full_step : (game : Tree) (s : Said) (q : Tree) (qs : List Tree) → s.full ≡ false → Behind game qs → (es : List EntryTree) (b : Bool) → nat_lt (length s.steps) most_steps ≡ b → is_closed game q ≡ true → (said_of game (if b then record s { steps = s.steps ++ (length s.verdicts + 1, es) ∷ []; verdicts = s.verdicts ++ Proved (record {}) ∷ [] } else record s { verdicts = s.verdicts ++ NotProved ∷ []; full = true }) qs).full ≡ true → most_steps < length s.steps + closed_count game (q ∷ qs)
+full_step : (game : Tree) (s : Said) (q : Tree) (qs : List Tree) → s.full ≡ false → Behind game qs → (es : List EntryTree) (b : Bool) → nat_lt (length s.steps) most_steps ≡ b → is_closed game q ≡ true → (said_of game (if b then record s { steps = s.steps ++ step_of (length s.verdicts + 1) es ∷ []; verdicts = s.verdicts ++ Proved [] ∷ [] } else record s { verdicts = s.verdicts ++ NotProved ∷ []; full = true }) qs).full ≡ true → most_steps < length s.steps + closed_count game (q ∷ qs)
 full_step game s q qs f more es true l c h =
-    let i = more (record s { steps = s.steps ++ (length s.verdicts + 1, es) ∷ []; verdicts = s.verdicts ++ Proved (record {}) ∷ [] }) f h in
-    let j = length-append s.steps ((length s.verdicts + 1, es) ∷ []) in
+    let i = more (record s { steps = s.steps ++ step_of (length s.verdicts + 1) es ∷ []; verdicts = s.verdicts ++ Proved [] ∷ [] }) f h in
+    let j = length-append s.steps (step_of (length s.verdicts + 1) es ∷ []) in
     let k = one_closed game q qs c in
     omega arith
 full_step game s q qs f more es false l c h =

@@ -1,6 +1,5 @@
 pub mod Causing
 pub mod Endings
+pub mod Growing
 pub mod Sayings
-pub mod Takes
-pub mod Texts
 pub mod Verdicts

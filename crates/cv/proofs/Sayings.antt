@@ -1,30 +1,28 @@
 -- The strategy, query by query.
-use Rattle.std.proofs.Common.{◌≡◌, ℕ, zero, suc, ◌+◌, ◌<◌, ◌≤◌, nat_lt, Bool, true, false, cond, List, [], ◌∷◌, ◌++◌, length, map, drop, refl, ap, ap₂, sym, ◌∙◌, subst, arith, Option, Some, None, option_and_then}
-use Rattle.std.specs.Prelude.{slice_get, All}
-use Rattle.std.proofs.lemmas.List.{map-append, length-map}
+use Rattle.std.proofs.Common.{◌≡◌, ℕ, ◌+◌, ◌<◌, ◌≤◌, nat_lt, Bool, true, false, cond, List, [], ◌∷◌, ◌++◌, length, map, drop, refl, ap, ap₂, sym, ◌∙◌, arith, Option, Some, None, append_assoc, append-nil, get_or}
+use Rattle.std.specs.Prelude.{option_map, All}
+use Rattle.std.proofs.lemmas.List.{map-append, length-map, drop_more}
 use Rattle.std.proofs.lemmas.Bool.{lt-ltb, ltb-true}
 use Rattle.std.specs.declared.vec.Vec.{Vec}
 use Rattle.std.specs.declared.alloc.Global.{Global}
-use Rattle.cv_pool.specs.declared.node.NodeId.{NodeId}
 use Rattle.cv_pool.specs.KindTree.{KindTree}
-use Rattle.cv_syntax.specs.declared.decls.Decl.{Decl}
-use Rattle.cv_syntax.specs.Classes.{queries}
 use Rattle.cv_syntax.specs.Tree.{Tree, tree_at}
 use Rattle.cv_direct.specs.Search.{EntryTree}
 use Rattle.cv_direct.specs.Found.{entry_trees}
 use Rattle.cv_direct.specs.declared.search.Entry.{Entry}
-use Rattle.cv_files.specs.Lists.{query_of}
-use Rattle.cv_files.proofs.QueryLists.{queries-skip, queries-take, queries-past}
 use Rattle.cv.specs.declared.decide.Findings.{Findings}
-use Rattle.cv.specs.declared.report.Step.{Step}
-use Rattle.cv.specs.declared.report.Step.TheVariants.{Success}
-use Rattle.cv.specs.declared.report.Verdict.{Verdict}
-use Rattle.cv.specs.declared.report.Verdict.TheVariants.{Proved, NotProved}
-use Rattle.cv.specs.Findings.{said}
+use Rattle.cv_pool.specs.PoolView.{PoolView, Grows}
+use Rattle.cv_report.specs.declared.report.Entry.{Entry as Trail}
+use Rattle.cv_script.specs.declared.steps.Step.{Step}
+use Rattle.cv_success.specs.Certificates.{step_of}
+use Rattle.cv.proofs.Growing.{steps-grown}
+use Rattle.cv_report.specs.declared.report.Verdict.{Verdict}
+use Rattle.cv_report.specs.declared.report.Verdict.TheVariants.{Proved, NotProved}
+use Rattle.cv.specs.Findings.{IsStepBelow, said}
 use Rattle.cv_direct.specs.Plain.{certificate}
-use Rattle.cv.specs.Strategy.{Said, said_by, said_then, said_of, closed_by, left_open, most_steps}
+use Rattle.cv.specs.Strategy.{Said, closing, said_by, said_then, said_of, most_steps}
 
-abbrev pub made : List (ℕ × List EntryTree) → List Verdict → Bool → Bool → Said
+abbrev pub made : List Tree → List Verdict → Bool → Bool → Said
 made ss vs a f = record { steps = ss; verdicts = vs; all = a; full = f }
 
 below : (n m : ℕ) → n < m → nat_lt n m ≡ true
@@ -38,21 +36,43 @@ above n m l = go (nat_lt n m) refl
     go false e = refl
 
 -- a query that is closed, one for which no step is left, and one that stays open
-pub closed_says : (trees : List KindTree) (f : Findings) (ss : List Step) (vs : List Verdict) (es : Vec Entry Global) (c : Option (List EntryTree)) → Some (entry_trees trees es.items) ≡ c → length f.steps.items < 2000 → ss ≡ f.steps.items ++ Success (length f.verdicts.items + 1) es ∷ [] → vs ≡ f.verdicts.items ++ Proved (record {}) ∷ [] → made (map (said_by trees) ss) vs f.all f.full ≡ said_then (said trees f) c
-closed_says trees f ss vs es c e l p q =
-    ap₂ (λ a b. made (map (said_by trees) a) b f.all f.full) p q
-    ∙ (ap (λ a. made a (f.verdicts.items ++ Proved (record {}) ∷ []) f.all f.full) (map-append (said_by trees) f.steps.items (Success (length f.verdicts.items + 1) es ∷ []))
-    ∙ (sym (ap (λ b. cond b (made (map (said_by trees) f.steps.items ++ (length f.verdicts.items + 1, entry_trees trees es.items) ∷ []) (f.verdicts.items ++ Proved (record {}) ∷ []) f.all f.full) (made (map (said_by trees) f.steps.items) (f.verdicts.items ++ NotProved ∷ []) f.all true)) (below (length (map (said_by trees) f.steps.items)) most_steps (let n = length-map f.steps.items (said_by trees) in omega arith)))
-    ∙ ap (said_then (said trees f)) e))
+
+some_is : {A B : Type 0} (f : A → B) (b : B) (c : Option A) → Some b ≡ option_map f c → (a : A) × (c ≡ Some a) × (b ≡ f a)
+some_is f b None e = absurd (cc)
+some_is f b (Some a) e = (a, refl, cc)
+
+none_is : {A B : Type 0} (f : A → B) (c : Option A) → None ≡ option_map f c → c ≡ None
+none_is f None e = refl
+none_is f (Some a) e = absurd (cc)
+
+pub closed_says : (old new : PoolView) (f : Findings) (ss : List Step) (vs : List Verdict) (step : Step) (n : ℕ) (c : Option (List EntryTree)) → Grows old new → All (IsStepBelow (length old.trees)) f.steps.items → Some (tree_at new.trees (Some step.0)) ≡ option_map (step_of n) c → n ≡ length f.verdicts.items + 1 → length f.steps.items < 2000 → ss ≡ f.steps.items ++ step ∷ [] → vs ≡ f.verdicts.items ++ Proved [] ∷ [] → made (map (said_by new.trees) ss) vs f.all f.full ≡ said_then (said old.trees f) c
+closed_says old new f ss vs step n c g a e k l p q =
+    let one = some_is (step_of n) (tree_at new.trees (Some step.0)) c e in
+    let old_steps : List Tree = map (said_by old.trees) f.steps.items in
+    let last : tree_at new.trees (Some step.0) ≡ step_of (length f.verdicts.items + 1) one.0 = one.2 ∙ ap (λ m. step_of m one.0) k in
+    let steps : map (said_by new.trees) ss ≡ old_steps ++ step_of (length f.verdicts.items + 1) one.0 ∷ [] =
+    ap (map (said_by new.trees)) p ∙ (map-append (said_by new.trees) f.steps.items (step ∷ []) ∙ ap₂ (λ ts t. ts ++ t ∷ []) (steps-grown old new f.steps.items g a) last)
+    in
+    ap₂ (λ ts us. made ts us f.all f.full) steps q
+    ∙ (sym (ap (λ b. cond b (made (old_steps ++ step_of (length f.verdicts.items + 1) one.0 ∷ []) (f.verdicts.items ++ Proved [] ∷ []) f.all f.full) (made old_steps (f.verdicts.items ++ NotProved ∷ []) f.all true)) (below (length old_steps) most_steps (let m = length-map f.steps.items (said_by old.trees) in omega arith)))
+    ∙ ap (said_then (said old.trees f)) (sym one.1))
 
 pub full_says : (trees : List KindTree) (f : Findings) (vs : List Verdict) (es : Vec Entry Global) (c : Option (List EntryTree)) → Some (entry_trees trees es.items) ≡ c → 2000 ≤ length f.steps.items → vs ≡ f.verdicts.items ++ NotProved ∷ [] → made (map (said_by trees) f.steps.items) vs f.all true ≡ said_then (said trees f) c
 full_says trees f vs es c e l q =
     ap (λ b. made (map (said_by trees) f.steps.items) b f.all true) q
-    ∙ (sym (ap (λ b. cond b (made (map (said_by trees) f.steps.items ++ (length f.verdicts.items + 1, entry_trees trees es.items) ∷ []) (f.verdicts.items ++ Proved (record {}) ∷ []) f.all f.full) (made (map (said_by trees) f.steps.items) (f.verdicts.items ++ NotProved ∷ []) f.all true)) (above (length (map (said_by trees) f.steps.items)) most_steps (let n = length-map f.steps.items (said_by trees) in omega arith)))
+    ∙ (sym (ap (λ b. cond b (made (map (said_by trees) f.steps.items ++ step_of (length f.verdicts.items + 1) (entry_trees trees es.items) ∷ []) (f.verdicts.items ++ Proved [] ∷ []) f.all f.full) (made (map (said_by trees) f.steps.items) (f.verdicts.items ++ NotProved ∷ []) f.all true)) (above (length (map (said_by trees) f.steps.items)) most_steps (let n = length-map f.steps.items (said_by trees) in omega arith)))
     ∙ ap (said_then (said trees f)) e)
 
 pub open_says : (trees : List KindTree) (f : Findings) (vs : List Verdict) (c : Option (List EntryTree)) → None ≡ c → vs ≡ f.verdicts.items ++ NotProved ∷ [] → made (map (said_by trees) f.steps.items) vs false f.full ≡ said_then (said trees f) c
 open_says trees f vs c e q = ap (λ b. made (map (said_by trees) f.steps.items) b false f.full) q ∙ ap (said_then (said trees f)) e
+
+pub left_says : (old new : PoolView) (f : Findings) (vs : List Verdict) (n : ℕ) (c : Option (List EntryTree)) → Grows old new → All (IsStepBelow (length old.trees)) f.steps.items → None ≡ option_map (step_of n) c → vs ≡ f.verdicts.items ++ NotProved ∷ [] → made (map (said_by new.trees) f.steps.items) vs false f.full ≡ said_then (said old.trees f) c
+left_says old new f vs n c g a e q = ap (λ ts. made ts vs false f.full) (steps-grown old new f.steps.items g a) ∙ open_says old.trees f vs c (sym (none_is (step_of n) c e)) q
+
+-- the trail of steps, one by one
+pub trail-goes : (xs : List Step) (k : ℕ) (d : Step) (out new total : List Trail) → k < length xs → out ++ map closing (drop k xs) ≡ total → new ≡ out ++ closing (get_or xs k d) ∷ [] → new ++ map closing (drop (k + 1) xs) ≡ total
+trail-goes xs k d out new total l i n =
+    ap (λ o. o ++ map closing (drop (k + 1) xs)) n ∙ (append_assoc out (closing (get_or xs k d) ∷ []) (map closing (drop (k + 1) xs)) ∙ (ap (λ ys. out ++ map closing ys) (sym (drop_more xs k d l)) ∙ i))
 
 -- one query more
 pub said_more : (game : Tree) (s t : Said) (q : Tree) (qs : List Tree) → t ≡ said_then s (certificate game q) → said_of game t qs ≡ said_of game s (q ∷ qs)
@@ -63,4 +83,4 @@ pub said_end : (game : Tree) (s : Said) (qs : List Tree) → qs ≡ [] → said_
 unfolding said_of
 said_end game s qs e = ap (said_of game s) e
 
-pub ruleset sayings = (said_end)
+pub ruleset sayings = (said_end, append-nil)

@@ -1,14 +1,16 @@
 -- What is said of a file, by what the strategy finds.
-use Rattle.std.proofs.Common.{◌≡◌, ℕ, zero, suc, ◌+◌, ◌<◌, ◌≤◌, nat_lt, Bool, true, false, cond, ◌&&◌, List, [], ◌∷◌, ◌++◌, length, length-append, refl, ap, ap₂, sym, ◌∙◌, subst, arith, append-nil, append_assoc, Option, Some, None, Ok, Err, is_some}
+use Rattle.std.proofs.Common.{◌≡◌, ℕ, zero, suc, ◌+◌, ◌*◌, ◌<◌, ◌≤◌, nat_lt, Bool, true, false, cond, List, [], ◌∷◌, ◌++◌, length, length-append, refl, ap, ap₂, sym, ◌∙◌, subst, arith, append-nil, append_assoc, Option, Some, None, Ok, Err, is_some}
 use Rattle.std.specs.Prelude.{slice_get}
 use Rattle.std.specs.List.{list_all}
 use Rattle.std.proofs.lemmas.Bool.{and_parts, both_ways, lt-ltb}
 use Rattle.cv_syntax.specs.Declarations.{Declaration}
 use Rattle.cv_syntax.specs.Tree.{Tree}
 use Rattle.cv_meaning.specs.Advantage.{advantage}
-use Rattle.cv_meaning.specs.Chances.{AtMost, zero_chance}
+use Rattle.cv_meaning.specs.Chances.{Chance, AtMost, zero_chance}
 use Rattle.cv_meaning.specs.Interpretation.{Interpretation, setting_of}
 use Rattle.cv_meaning.specs.Runs.{Adversary}
+use Rattle.cv_meaning.specs.Satisfies.{Satisfies}
+use Rattle.cv_queries.specs.Queries.{queries_in}
 use Rattle.cv_parse.specs.declared.error.ParseError.{ParseError}
 use Rattle.cv_parse.specs.declared.error.ParseError.TheVariants as parse
 use Rattle.cv_syntax.specs.declared.work.BuildError.TheVariants as build
@@ -18,14 +20,16 @@ use Rattle.cv_files.specs.Accepted.{Content, Refuses, read_of}
 use Rattle.cv_direct.specs.Search.{EntryTree}
 use Rattle.cv_discipline.specs.Phrases.{IsWellFormed}
 use Rattle.cv_direct.proofs.Certificates.{certificate_some, no_advantage}
-use Rattle.cv.specs.declared.report.Status.{Status}
-use Rattle.cv.specs.declared.report.Status.TheVariants as status
-use Rattle.cv.specs.declared.report.Verdict.{Verdict}
-use Rattle.cv.specs.declared.report.Verdict.TheVariants.{Proved, NotProved}
-use Rattle.cv.specs.declared.sum.Sum.{Sum}
+use Rattle.cv_report.specs.declared.report.Status.{Status}
+use Rattle.cv_report.specs.declared.report.Status.TheVariants as status
+use Rattle.cv_report.specs.declared.report.Verdict.{Verdict}
+use Rattle.cv_report.specs.declared.report.Verdict.TheVariants.{Proved, NotProved}
+use Rattle.cv_bound.specs.declared.terms.Term.{Term}
+use Rattle.cv_success.specs.Certificates.{step_of}
 use Rattle.cv.specs.Faults.{parse_ended, status_of as ended_by}
 use Rattle.cv_direct.specs.Plain.{certificate}
-use Rattle.cv.specs.Strategy.{Said, is_closed, said_then, closed_by, left_open, said_of, most_steps, status_by, status_of, expected, HasFile, Judged, most_pool}
+use Rattle.cv.specs.Strategy.{Said, is_closed, said_then, said_of, most_steps, status_by, status_of, expected, HasFile, Judged, most_pool}
+use Rattle.cv.specs.Values.{value_of}
 
 -- a query has a certificate where it is closed
 pub closed_some : (game q : Tree) → is_some (certificate game q) ≡ is_closed game q
@@ -34,17 +38,17 @@ closed_some game q = certificate_some game q
 -- verdicts on queries, of which each that is `Proved` is on a closed one
 abbrev pub AreSound : Tree → List Tree → List Verdict → Type 0
 AreSound game [] [] = Unit {0}
-AreSound game (q ∷ qs) (v ∷ vs) = ((s : Sum) → v ≡ Proved s → is_closed game q ≡ true) × AreSound game qs vs
+AreSound game (q ∷ qs) (v ∷ vs) = ((s : List Term) → v ≡ Proved s → is_closed game q ≡ true) × AreSound game qs vs
 AreSound game _ _ = ⊥
 
-one_verdict : (game : Tree) (s : Said) (q : Tree) → (v : Verdict) × ((said_then s (certificate game q)).verdicts ≡ s.verdicts ++ v ∷ []) × ((x : Sum) → v ≡ Proved x → is_closed game q ≡ true)
+one_verdict : (game : Tree) (s : Said) (q : Tree) → (v : Verdict) × ((said_then s (certificate game q)).verdicts ≡ s.verdicts ++ v ∷ []) × ((x : List Term) → v ≡ Proved x → is_closed game q ≡ true)
 one_verdict game s q = go (certificate game q) refl
   where
-    closed : (es : List EntryTree) → certificate game q ≡ Some es → (b : Bool) → (v : Verdict) × ((cond b (record s { steps = s.steps ++ (length s.verdicts + 1, es) ∷ []; verdicts = s.verdicts ++ Proved (record {}) ∷ [] }) (record s { verdicts = s.verdicts ++ NotProved ∷ []; full = true })).verdicts ≡ s.verdicts ++ v ∷ []) × ((x : Sum) → v ≡ Proved x → is_closed game q ≡ true)
-    closed es e true = (Proved (record {}), refl, λ x h. sym (closed_some game q) ∙ ap is_some e)
+    closed : (es : List EntryTree) → certificate game q ≡ Some es → (b : Bool) → (v : Verdict) × ((cond b (record s { steps = s.steps ++ step_of (length s.verdicts + 1) es ∷ []; verdicts = s.verdicts ++ Proved [] ∷ [] }) (record s { verdicts = s.verdicts ++ NotProved ∷ []; full = true })).verdicts ≡ s.verdicts ++ v ∷ []) × ((x : List Term) → v ≡ Proved x → is_closed game q ≡ true)
+    closed es e true = (Proved [], refl, λ x h. sym (closed_some game q) ∙ ap is_some e)
     closed es e false = (NotProved, refl, λ x h. absurd (cc))
 
-    go : (c : Option (List EntryTree)) → certificate game q ≡ c → (v : Verdict) × ((said_then s c).verdicts ≡ s.verdicts ++ v ∷ []) × ((x : Sum) → v ≡ Proved x → is_closed game q ≡ true)
+    go : (c : Option (List EntryTree)) → certificate game q ≡ c → (v : Verdict) × ((said_then s c).verdicts ≡ s.verdicts ++ v ∷ []) × ((x : List Term) → v ≡ Proved x → is_closed game q ≡ true)
     go None e = (NotProved, refl, λ x h. absurd (cc))
     go (Some es) e = closed es e (nat_lt (length s.steps) most_steps)
 
@@ -56,14 +60,26 @@ said_sound game s (q ∷ qs) =
     let more = said_sound game (said_then s (certificate game q)) qs in
     (one.0 ∷ more.0, more.1 ∙ (ap (λ l. l ++ more.0) one.1 ∙ append_assoc s.verdicts (one.0 ∷ []) more.0), (one.2, more.2))
 
-sound_in : (game : Tree) (qs : List Tree) (vs : List Verdict) → AreSound game qs vs → (k : ℕ) (query : Tree) (s : Sum) → slice_get qs k ≡ Some query → slice_get vs k ≡ Some (Proved s) → is_closed game query ≡ true
+sound_in : (game : Tree) (qs : List Tree) (vs : List Verdict) → AreSound game qs vs → (k : ℕ) (query : Tree) (s : List Term) → slice_get qs k ≡ Some query → slice_get vs k ≡ Some (Proved s) → is_closed game query ≡ true
 sound_in game [] vs h k query s e f = absurd (cc)
 sound_in game (q ∷ qs) [] h k query s e f = absurd h
 sound_in game (q ∷ qs) (v ∷ vs) h zero query s e f = let same : q ≡ query = cc in let said : v ≡ Proved s = cc in ap (is_closed game) (sym same) ∙ h.0 s said
 sound_in game (q ∷ qs) (v ∷ vs) h (suc k) query s e f = sound_in game qs vs h.1 k query s e f
 
-pub sound_at : (ds : List Declaration) (game : Tree) (qs : List Tree) (vs : List Verdict) → IsWellFormed ds game → AreSound game qs vs → (k : ℕ) (query : Tree) (s : Sum) → slice_get qs k ≡ Some query → slice_get vs k ≡ Some (Proved s) → (i : Interpretation) (a : Adversary) → AtMost (advantage (setting_of ds i) query a game) zero_chance
-sound_at ds game qs vs w v k query s e h i a = no_advantage ds game query w (sound_in game qs vs v k query s e h) i a
+-- where the verdict on a query is `Proved`, its advantage is at most the value of the sum
+abbrev pub IsSoundFor : Content → List Verdict → Type 0
+IsSoundFor c vs = (k : ℕ) (query : Tree) (s : List Term) → slice_get (queries_in c.declarations) k ≡ Some query → slice_get vs k ≡ Some (Proved s) → (i : Interpretation) → Satisfies c.declarations i → (a : Adversary) → AtMost (advantage (setting_of c.declarations i) query a c.game) (value_of c.declarations i [] query a s)
+
+-- what is at most zero is at most anything
+at_most_any : (p q : Chance) → AtMost p zero_chance → AtMost p q
+at_most_any p q h =
+    let none : p.good ≡ 0 = omega (arith, h) in
+    let left : p.good * q.all ≡ 0 = ap (λ n. n * q.all) none ∙ (let e : 0 * q.all ≡ 0 = omega arith in e) in
+    omega (arith, left)
+
+pub sound_at : (ds : List Declaration) (game : Tree) (qs : List Tree) (vs : List Verdict) → IsWellFormed ds game → AreSound game qs vs → (k : ℕ) (query : Tree) (s : List Term) → slice_get qs k ≡ Some query → slice_get vs k ≡ Some (Proved s) → (i : Interpretation) → Satisfies ds i → (a : Adversary) → AtMost (advantage (setting_of ds i) query a game) (value_of ds i [] query a s)
+sound_at ds game qs vs w v k query s e h i sat a =
+    at_most_any (advantage (setting_of ds i) query a game) (value_of ds i [] query a s) (no_advantage ds game query w (sound_in game qs vs v k query s e h) i a)
 
 -- statuses
 
@@ -117,8 +133,8 @@ all_closed game s [] c l a f = ap₂ status_by f a
 all_closed game s (q ∷ qs) c l a f =
     let parts = and_parts (is_closed game q) _ c in
     let found = some_of (certificate game q) (closed_some game q ∙ parts.0) in
-    let next : Said = record s { steps = s.steps ++ (length s.verdicts + 1, found.0) ∷ []; verdicts = s.verdicts ++ Proved (record {}) ∷ [] } in
+    let next : Said = record s { steps = s.steps ++ step_of (length s.verdicts + 1) found.0 ∷ []; verdicts = s.verdicts ++ Proved [] ∷ [] } in
     let room : length s.steps < most_steps = omega arith in
-    let more = length-append s.steps ((length s.verdicts + 1, found.0) ∷ []) in
+    let more = length-append s.steps (step_of (length s.verdicts + 1) found.0 ∷ []) in
     ap (λ t. status_of (said_of game t qs)) (ap (said_then s) found.1 ∙ ap (λ b. cond b next (record s { verdicts = s.verdicts ++ NotProved ∷ []; full = true })) (lt-ltb (length s.steps) most_steps room))
     ∙ all_closed game next qs parts.1 (omega arith) a f

@@ -21,10 +21,10 @@ use Rattle.cv_queries.specs.Rules.{IsFirstRefused}
 use Rattle.cv_syntax.specs.Tree.{Tree}
 use Rattle.cv_files.specs.Accepted.{Content, IsFile, has_equivalence}
 use Rattle.cv_files.specs.Places.{nodes_before}
-use Rattle.cv.specs.declared.report.FileFault.TheVariants.{Lex, Parse, Types, Scope, Query}
-use Rattle.cv.specs.declared.report.Status.{Status}
-use Rattle.cv.specs.declared.report.Status.TheVariants as status
-use Rattle.cv.specs.declared.report.Which.TheVariants.{Depth, Nodes, Pool, Steps}
+use Rattle.cv_report.specs.declared.report.FileFault.TheVariants.{Lex, Parse, Types, Scope, Query}
+use Rattle.cv_report.specs.declared.report.Status.{Status}
+use Rattle.cv_report.specs.declared.report.Status.TheVariants as status
+use Rattle.cv_report.specs.declared.report.Which.TheVariants.{Depth, Nodes, Pool, Steps}
 use Rattle.cv.specs.Strategy.{is_closed, most_pool, most_steps}
 
 -- The bytes have tokens, of which this holds.

@@ -4,10 +4,10 @@ use Rattle.cv_parse.specs.declared.error.ParseError.TheVariants as parse
 use Rattle.cv_syntax.specs.declared.work.BuildError.TheVariants as build
 use Rattle.cv_files.specs.declared.error.FileError.{FileError}
 use Rattle.cv_files.specs.declared.error.FileError.TheVariants as fault
-use Rattle.cv.specs.declared.report.FileFault.TheVariants.{Lex, Parse, Types, Scope, Query}
-use Rattle.cv.specs.declared.report.Status.{Status}
-use Rattle.cv.specs.declared.report.Status.TheVariants as status
-use Rattle.cv.specs.declared.report.Which.TheVariants.{Depth, Nodes, Pool}
+use Rattle.cv_report.specs.declared.report.FileFault.TheVariants.{Lex, Parse, Types, Scope, Query}
+use Rattle.cv_report.specs.declared.report.Status.{Status}
+use Rattle.cv_report.specs.declared.report.Status.TheVariants as status
+use Rattle.cv_report.specs.declared.report.Which.TheVariants.{Depth, Nodes, Pool}
 
 -- limits and want of memory are told apart from the faults of a file
 abbrev pub parse_ended : ParseError → Status

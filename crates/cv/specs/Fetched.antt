@@ -3,9 +3,9 @@ use Rattle.cv_outside.specs.declared.shelf.FetchError.{FetchError}
 use Rattle.cv_outside.specs.declared.shelf.FetchError.TheVariants as fetch
 use Rattle.std.specs.declared.io.ErrorKind.{ErrorKind}
 use Rattle.std.specs.declared.io.ErrorKind.TheVariants as kind
-use Rattle.cv.specs.declared.report.Status.{Status}
-use Rattle.cv.specs.declared.report.Status.TheVariants as status
-use Rattle.cv.specs.declared.report.Which.TheVariants.{File}
+use Rattle.cv_report.specs.declared.report.Status.{Status}
+use Rattle.cv_report.specs.declared.report.Status.TheVariants as status
+use Rattle.cv_report.specs.declared.report.Which.TheVariants.{File}
 
 abbrev pub fetch_ended : FetchError → Status
 fetch_ended fetch.Failed = status.Read

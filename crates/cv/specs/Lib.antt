@@ -1,9 +1,7 @@
 pub mod Causes
-pub mod Codes
 pub mod Faults
 pub mod Fetched
 pub mod Findings
 pub mod Strategy
-pub mod Text
+pub mod Values
 pub mod Words
-pub mod Writing

@@ -1,6 +1,6 @@
 -- What the plain strategy says of a file: a query is closed where each left event stands below its right
 -- events, with the arguments that the query asks for. It closes one query after another, in at most 2,000 steps.
-use Rattle.std.specs.Prelude.{◌≡◌, ℕ, ◌+◌, ◌<◌, ◌≤◌, nat_lt, Bool, true, false, if◌then◌else◌, List, [], ◌∷◌, ◌++◌, length, map, Option, Some, None, Result, Ok, Err, slice_get, IfSome}
+use Rattle.std.specs.Prelude.{◌≡◌, ℕ, ◌+◌, ◌≤◌, nat_lt, Bool, true, false, if◌then◌else◌, List, [], ◌∷◌, ◌++◌, length, map, Option, Some, None, Result, Ok, Err, slice_get, IfSome}
 use Rattle.std.specs.List.{list_all}
 use Rattle.cv_syntax.specs.declared.work.File.{File}
 use Rattle.cv_syntax.specs.Declarations.{Declaration, declarations}
@@ -10,37 +10,38 @@ use Rattle.cv_meaning.specs.Interpretation.{Interpretation, setting_of}
 use Rattle.cv_meaning.specs.Satisfies.{Satisfies}
 use Rattle.cv_meaning.specs.Runs.{Adversary}
 use Rattle.cv_meaning.specs.Advantage.{advantage}
-use Rattle.cv_meaning.specs.Chances.{Chance, AtMost, zero_chance}
-use Rattle.cv_direct.specs.Found.{entry_trees}
+use Rattle.cv_meaning.specs.Chances.{AtMost}
 use Rattle.cv_direct.specs.Plain.{certificate, is_plainly_direct}
 use Rattle.cv_direct.specs.Search.{EntryTree}
+use Rattle.cv_success.specs.Certificates.{step_of}
+use Rattle.cv_script.specs.declared.steps.Step.{Step}
+use Rattle.cv_bound.specs.declared.cost.Cost.TheVariants.{Zero}
+use Rattle.cv_bound.specs.declared.terms.Term.{Term}
+use Rattle.cv.specs.Values.{Contexts, value_of}
 use Rattle.cv_files.specs.declared.error.FileError.{FileError}
 use Rattle.cv_files.specs.Accepted.{Content, IsFile, read_of}
 use Rattle.cv_queries.specs.Queries.{queries_in}
 use Rattle.cv.specs.Faults.{status_of as ended_by}
-use Rattle.cv.specs.declared.report.Cause.TheVariants.{Stuck}
-use Rattle.cv.specs.declared.report.Report.{Report}
-use Rattle.cv.specs.declared.report.Status.{Status}
-use Rattle.cv.specs.declared.report.Status.TheVariants as status
-use Rattle.cv.specs.declared.report.Step.{Step}
-use Rattle.cv.specs.declared.report.Step.TheVariants.{Success}
-use Rattle.cv.specs.declared.report.Verdict.{Verdict}
-use Rattle.cv.specs.declared.report.Verdict.TheVariants.{Proved, NotProved}
-use Rattle.cv.specs.declared.report.Which.TheVariants.{Depth, Nodes, Pool, Steps}
-use Rattle.cv.specs.declared.sum.Sum.{Sum}
+use Rattle.cv_report.specs.declared.report.Cause.TheVariants.{Stuck}
+use Rattle.cv_report.specs.declared.report.Report.{Report}
+use Rattle.cv_report.specs.declared.report.Status.{Status}
+use Rattle.cv_report.specs.declared.report.Status.TheVariants as status
+use Rattle.cv_report.specs.declared.report.Entry.{Entry}
+use Rattle.cv_report.specs.declared.report.Verdict.{Verdict}
+use Rattle.cv_report.specs.declared.report.Verdict.TheVariants.{Proved, NotProved}
+use Rattle.cv_report.specs.declared.report.Which.TheVariants.{Depth, Nodes, Pool, Steps}
 
--- the value of a sum, which is empty
-abbrev pub value_of : Sum → Chance
-value_of s = zero_chance
+-- the contexts of a report's cryptographic steps; no such step is built
+abbrev pub contexts_in : Report → Contexts
+contexts_in r = []
 
 -- the query is closed in this game: it is a correspondence of events, and each left event stands below its right events
 abbrev pub is_closed : Tree → Tree → Bool
 is_closed game query = is_plainly_direct game query
 
--- what is said of the queries of a game: the steps that close them, each with the number of its query and
--- its certificate, and a verdict on each
+-- what is said of the queries of a game: the steps that close them, and a verdict on each
 pub record Said : Type 0 where
-  pub steps : List (ℕ × List EntryTree)
+  pub steps : List Tree
   pub verdicts : List Verdict
   pub all : Bool  -- each query is closed
   pub full : Bool  -- a query would be closed, and no step is left for it
@@ -57,7 +58,7 @@ left_open s = record s { verdicts = s.verdicts ++ NotProved ∷ []; all = false 
 
 abbrev pub closed_by : Said → List EntryTree → Said
 closed_by s es =
-    if nat_lt (length s.steps) most_steps then record s { steps = s.steps ++ (length s.verdicts + 1, es) ∷ []; verdicts = s.verdicts ++ Proved (record {}) ∷ [] }
+    if nat_lt (length s.steps) most_steps then record s { steps = s.steps ++ step_of (length s.verdicts + 1) es ∷ []; verdicts = s.verdicts ++ Proved [] ∷ [] }
     else record s { verdicts = s.verdicts ++ NotProved ∷ []; full = true }
 
 abbrev pub said_then : Said → Option (List EntryTree) → Said
@@ -89,9 +90,13 @@ abbrev pub Judged : Status → List ℕ → Type 0
 Judged status.Memory bytes = Unit {0}
 Judged s bytes = s ≡ expected (read_of most_pool bytes)
 
--- a step, with the trees of its certificate
-abbrev pub said_by : List KindTree → Step → ℕ × List EntryTree
-said_by trees (Success k entries) = (k, entry_trees trees entries.items)
+-- the tree of a step
+abbrev pub said_by : List KindTree → Step → Tree
+said_by trees s = tree_at trees (Some s.0)
+
+-- a step that closes a query costs nothing, and leads to no game
+abbrev pub closing : Step → Entry
+closing s = record { step = s; cost = Zero; next = None }
 
 -- the status speaks of the bytes of a file
 abbrev pub SpeaksOfFile : Status → Type 0
@@ -114,12 +119,14 @@ game_in r f = tree_at r.work.pool.trees (Some f.game.root)
 
 -- The steps and the verdicts are those of the plain strategy.
 pub record FollowsStrategy (r : Report) (f : File) : Type 0 where
+  pub trail : r.trail.items ≡ map closing r.steps.items
   pub steps : map (said_by r.work.pool.trees) r.steps.items ≡ (said_of (game_in r f) nothing_said (queries_in (declared_in r))).steps
   pub verdicts : r.verdicts.items ≡ (said_of (game_in r f) nothing_said (queries_in (declared_in r))).verdicts
 
 -- without a file there are none
 pub record SaysNothing (r : Report) : Type 0 where
   pub steps : r.steps.items ≡ []
+  pub trail : r.trail.items ≡ []
   pub verdicts : r.verdicts.items ≡ []
 
 -- the status says that there is a file
@@ -145,5 +152,5 @@ EndsWell s = ⊥
 -- Where the verdict on a query is `Proved`, the advantage against it is at most the value of the sum, for
 -- every interpretation that satisfies the declarations and every adversary.
 abbrev pub IsSound : Report → Type 0
-IsSound r = IfSome r.file (λ f. (k : ℕ) (query : Tree) (s : Sum) → slice_get (queries_in (declared_in r)) k ≡ Some query → slice_get r.verdicts.items k ≡ Some (Proved s)
-    → (i : Interpretation) → Satisfies (declared_in r) i → (a : Adversary) → AtMost (advantage (setting_of (declared_in r) i) query a (game_in r f)) (value_of s))
+IsSound r = IfSome r.file (λ f. (k : ℕ) (query : Tree) (s : List Term) → slice_get (queries_in (declared_in r)) k ≡ Some query → slice_get r.verdicts.items k ≡ Some (Proved s)
+    → (i : Interpretation) → Satisfies (declared_in r) i → (a : Adversary) → AtMost (advantage (setting_of (declared_in r) i) query a (game_in r f)) (value_of (declared_in r) i (contexts_in r) query a s))

@@ -1,8 +1,8 @@
 -- The words of a command.
 use Rattle.std.specs.Prelude.{ℕ, Bool, false, ◌&&◌, ◌==◌, not, if◌then◌else◌, List, [], ◌∷◌, Option, Some, None, codes}
 use Rattle.std.specs.Str.{bytes_eq}
-use Rattle.cv.specs.declared.report.Command.{Command}
-use Rattle.cv.specs.declared.report.Command.TheVariants.{Prove, Nothing}
+use Rattle.cv_report.specs.declared.report.Command.{Command}
+use Rattle.cv_report.specs.declared.report.Command.TheVariants.{Prove, Nothing}
 
 -- a word that names a file isn't empty and doesn't begin with `-`
 abbrev pub is_operand : List ℕ → Bool

@@ -6,15 +6,19 @@ ghost use Rattle.cv_parse.specs.Declaring.{IsBelow};
 ghost use Rattle.cv_files.specs.Works.{content_at};
 ghost use Rattle.cv.specs.Causes.{Caused};
 ghost use Rattle.cv.specs.Faults.{parse_ended, status_of as ended_by};
-ghost use Rattle.cv.specs.Findings.{said};
+ghost use Rattle.cv_pool.specs.PoolView.{Grows};
+ghost use Rattle.cv_report.specs.Text.{IsLive};
+ghost use Rattle.cv.specs.Findings.{IsStepBelow, said};
 ghost use Rattle.cv_direct.specs.Plain.{certificate};
-ghost use Rattle.cv.specs.Strategy.{most_pool, nothing_said, said_of, said_then, status_by, FollowsStrategy, HasFile, Judged, IsSound, SaysNothing};
+ghost use Rattle.cv.specs.Strategy.{closing, most_pool, nothing_said, said_of, said_then, status_by, FollowsStrategy, HasFile, Judged, IsSound, SaysNothing};
 
-use crate::report::{Cause, Command, FileFault, Report, Status, Step, Verdict, Which};
-use crate::sum::Sum;
+use cv_bound::{Cost, Sum};
 use cv_direct::direct;
 use cv_files::{FileError, query_at, read};
 use cv_parse::ParseError;
+use cv_report::{Cause, Command, Entry, FileFault, Report, Status, Verdict, Which};
+use cv_script::Step;
+use cv_success::success;
 use cv_syntax::{BuildError, NodeId, Pool, Work};
 use std::alloc::{AllocError, Global};
 
@@ -50,9 +54,9 @@ impl Findings {
     }
 }
 
-/// Says of one query more whether it is closed by the events above, and closes it where a step is left.
+/// Says of one query more, for which no step is left, whether it would be closed.
 #[tactic(auto, using(crate::proofs::Sayings::sayings))]
-fn find(
+fn pass_over(
     alloc: Global,
     pool: &Pool,
     game: NodeId,
@@ -62,35 +66,63 @@ fn find(
     requires game { game.0 < length pool.now.trees }
     requires query { query.0 < length pool.now.trees }
     requires fits { size (tree_at pool.now.trees (Some game)) < 2 ^ 32 }
-    requires few { length found.old.verdicts.items + 1 < 2 ^ 32 }
+    requires full { 2000 ≤ length found.old.steps.items }
     ensures said { OnOk result (said pool.now.trees found.new ≡ said_then (said pool.now.trees found.old) (certificate (tree_at pool.now.trees (Some game)) (tree_at pool.now.trees (Some query)))) }
     ensures more { OnOk result (length found.new.verdicts.items ≡ length found.old.verdicts.items + 1) }
+    ensures steps { found.new.steps ≡ found.old.steps }
 {
     match direct(alloc, pool, query, game)? {
-        Some(entries) if found.steps.len() < MOST_STEPS => {
-            let query = found.verdicts.len() as u32 + 1;
-            found.steps.push(Step::Success { query, entries })?;
-            found.verdicts.push(Verdict::Proved(Sum))?;
-        }
-        Some(_) => {
-            found.full = true;
-            found.verdicts.push(Verdict::NotProved)?;
-        }
-        None => {
-            found.all = false;
-            found.verdicts.push(Verdict::NotProved)?;
-        }
+        Some(_) => found.full = true,
+        None => found.all = false,
     }
+    found.verdicts.push(Verdict::NotProved)?;
+    Ok(())
+}
+
+/// Says of one query more whether it is closed by the events above, and closes it where a step is left.
+#[tactic(auto, using(crate::proofs::Sayings::sayings))]
+fn find(
+    alloc: Global,
+    pool: &mut Pool,
+    game: NodeId,
+    query: NodeId,
+    found: &mut Findings,
+) -> Result<(), AllocError>
+    requires game { game.0 < length pool.old.trees }
+    requires query { query.0 < length pool.old.trees }
+    requires fits { size (tree_at pool.old.trees (Some game)) < 2 ^ 32 }
+    requires few { length found.old.verdicts.items + 1 < 2 ^ 32 }
+    requires live { All (IsStepBelow (length pool.old.trees)) found.old.steps.items }
+    ensures said { OnOk result (said pool.new.trees found.new ≡ said_then (said pool.old.trees found.old) (certificate (tree_at pool.old.trees (Some game)) (tree_at pool.old.trees (Some query)))) }
+    ensures more { OnOk result (length found.new.verdicts.items ≡ length found.old.verdicts.items + 1) }
+    ensures live { OnOk result (All (IsStepBelow (length pool.new.trees)) found.new.steps.items) }
+    ensures grows { OnOk result (Grows pool.old pool.new) }
+{
+    if found.steps.len() >= MOST_STEPS {
+        return pass_over(alloc, pool, game, query, found);
+    }
+    let number = found.verdicts.len() as u32 + 1;
+    let Some(step) = success(alloc, pool, query, number, game)? else {
+        found.all = false;
+        found.verdicts.push(Verdict::NotProved)?;
+        return Ok(());
+    };
+    found.steps.push(step)?;
+    found.verdicts.push(Verdict::Proved(Sum::new(alloc)))?;
     Ok(())
 }
 
 /// The plain strategy: a step for each query that is closed by the events above, in order.
 #[tactic(auto, using(crate::proofs::Sayings::sayings))]
-fn answer(alloc: Global, work: &Work, game: NodeId) -> Result<Findings, AllocError>
-    requires game { game.0 < length work.now.pool.trees }
-    requires fits { size (tree_at work.now.pool.trees (Some game)) < 2 ^ 32 }
-    requires below { All (IsBelow (length work.now.pool.trees)) work.now.decls.list }
-    ensures { IfOk result (λ f. said work.now.pool.trees f ≡ said_of (tree_at work.now.pool.trees (Some game)) nothing_said (map (λ n. tree_at work.now.pool.trees (Some n)) (queries work.now.decls.list))) }
+fn answer(alloc: Global, work: &mut Work, game: NodeId) -> Result<Findings, AllocError>
+    requires game { game.0 < length work.old.pool.trees }
+    requires fits { size (tree_at work.old.pool.trees (Some game)) < 2 ^ 32 }
+    requires below { All (IsBelow (length work.old.pool.trees)) work.old.decls.list }
+    ensures said { IfOk result (λ f. said work.new.pool.trees f ≡ said_of (tree_at work.old.pool.trees (Some game)) nothing_said (map (λ n. tree_at work.old.pool.trees (Some n)) (queries work.old.decls.list))) }
+    ensures live { IfOk result (λ f. All (IsStepBelow (length work.new.pool.trees)) f.steps.items) }
+    ensures grows { OnOk result (Grows work.old.pool work.new.pool) }
+    ensures names { work.new.names ≡ work.old.names }
+    ensures decls { work.new.decls ≡ work.old.decls }
 {
     let mut found = Findings {
         steps: Vec::new(alloc),
@@ -102,9 +134,25 @@ fn answer(alloc: Global, work: &Work, game: NodeId) -> Result<Findings, AllocErr
         let Some(query) = query_at(&work.decls, k) else {
             continue;
         };
-        find(alloc, &work.pool, game, query, &mut found)?;
+        find(alloc, &mut work.pool, game, query, &mut found)?;
     }
     Ok(found)
+}
+
+/// The trail of steps that close queries.
+#[tactic(auto, using(crate::proofs::Sayings::sayings))]
+fn trail_of(alloc: Global, steps: &[Step]) -> Result<Vec<Entry>, AllocError>
+    ensures { IfOk result (λ trail. trail.items ≡ map closing steps.now) }
+{
+    let mut trail = Vec::new(alloc);
+    for step in steps {
+        trail.push(Entry {
+            step: *step,
+            cost: Cost::Zero,
+            next: None,
+        })?;
+    }
+    Ok(trail)
 }
 
 /// A report on a run that ended before a file was accepted.
@@ -119,6 +167,7 @@ pub fn refused(alloc: Global, work: Work, command: Command, status: Status) -> R
         file: None,
         command,
         steps: Vec::new(alloc),
+        trail: Vec::new(alloc),
         verdicts: Vec::new(alloc),
         status,
     }
@@ -162,7 +211,7 @@ pub fn judge(alloc: Global, work: Work, bytes: &[u8]) -> Report
     ensures sound { IsSound result }
     ensures command { result.command ≡ Command.Prove 32 }
     ensures file { IfSome result.file (λ f. read_of most_pool bytes.now ≡ Ok (content_at result.work f.game.root)) }
-    ensures live { IfSome result.file (λ f. f.game.root.0 < length result.work.pool.trees) }
+    ensures live { IsLive result }
     ensures follows { MatchOption result.file (SaysNothing result) (FollowsStrategy result) }
     ensures given { IsSome result.file ↔ HasFile result.status }
     ensures judged { Judged result.status bytes.now }
@@ -175,23 +224,25 @@ pub fn judge(alloc: Global, work: Work, bytes: &[u8]) -> Report
         Ok(file) => file,
         Err(fault) => return refused(alloc, work, command, status_of(fault)),
     };
-    match answer(alloc, &work, file.game.root) {
-        Ok(found) => {
-            let status = found.status();
-            let Findings {
-                steps,
-                verdicts,
-                ..
-            } = found;
-            Report {
-                work,
-                file: Some(file),
-                command,
-                steps,
-                verdicts,
-                status,
-            }
-        }
-        Err(AllocError) => refused(alloc, work, command, Status::Memory),
+    let Ok(found) = answer(alloc, &mut work, file.game.root) else {
+        return refused(alloc, work, command, Status::Memory);
+    };
+    let Ok(trail) = trail_of(alloc, &found.steps) else {
+        return refused(alloc, work, command, Status::Memory);
+    };
+    let status = found.status();
+    let Findings {
+        steps,
+        verdicts,
+        ..
+    } = found;
+    Report {
+        work,
+        file: Some(file),
+        command,
+        steps,
+        trail,
+        verdicts,
+        status,
     }
 }

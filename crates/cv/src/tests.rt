@@ -1,8 +1,8 @@
 ghost use Rattle.std.specs.Prelude.{◌≤◌, length};
 
-use crate::report::Status;
 use crate::top::run;
 use cv_outside::{MemShelf, MemSink, PutError, Sink, SureShelf, SureSink};
+use cv_report::Status;
 use std::alloc::{AllocError, Global};
 use std::test::Fail;
 

@@ -6,16 +6,14 @@ ghost use Rattle.cv_files.specs.Works.{content_at};
 ghost use Rattle.cv.specs.Causes.{Caused};
 ghost use Rattle.cv.specs.Fetched.{fetch_ended};
 ghost use Rattle.cv.specs.Strategy.{EndsWell, FollowsStrategy, HasFile, IsGood, IsSound, Judged, SaysNothing, SpeaksOfFile, most_pool};
-ghost use Rattle.cv.specs.Text.{text_of};
+ghost use Rattle.cv_report.specs.Text.{IsLive, text_of};
 ghost use Rattle.cv.specs.Words.{command_of, file_named};
-ghost use Rattle.cv.specs.Writing.{TakesFront, TakesAll};
+ghost use Rattle.cv_report.specs.Writing.{TakesFront, TakesAll};
 
 use crate::decide::{MOVES, judge, refused};
-use crate::report::{Command, Outcome, Report, Status, Which};
-use crate::text::report_text;
 use crate::words::named;
-use crate::write::put_lines;
 use cv_outside::{FetchError, Shelf, Sink};
+use cv_report::{Command, Report, Status, Which, WriteError, write as write_report};
 use cv_syntax::Work;
 use std::alloc::Global;
 
@@ -24,6 +22,13 @@ const MOST_BYTES: usize = 1_048_576;
 
 /// The most nodes of the pool.
 const MOST_NODES: u32 = 16_000_000;
+
+/// What a run answers.
+#[derive(Drop)]
+pub struct Outcome {
+    pub status: Status,
+    pub report: Report,
+}
 
 /// How a file that wasn't fetched ends a run.
 fn status_of(fault: FetchError) -> Status
@@ -41,7 +46,7 @@ fn prove<F: Shelf>(alloc: Global, name: &str, shelf: &mut F) -> Report
     ensures sound { IsSound result }
     ensures command { result.command ≡ Command.Prove 32 }
     ensures file { IfSome result.file (λ f. IfSome (F.told shelf.old) (λ files. read_of most_pool (bytes_of files name.now) ≡ Ok (content_at result.work f.game.root))) }
-    ensures live { IfSome result.file (λ f. f.game.root.0 < length result.work.pool.trees) }
+    ensures live { IsLive result }
     ensures follows { MatchOption result.file (SaysNothing result) (FollowsStrategy result) }
     ensures given { IsSome result.file ↔ HasFile result.status }
     ensures said { SpeaksOfFile result.status → IfSome (F.told shelf.old) (λ files. Judged result.status (bytes_of files name.now)) }
@@ -72,7 +77,7 @@ fn decide<F: Shelf>(alloc: Global, words: &[String], shelf: &mut F) -> Report
     ensures sound { IsSound result }
     ensures command { result.command ≡ command_of (file_named (map string_bytes words.now)) }
     ensures file { IfSome result.file (λ f. IfSome (file_named (map string_bytes words.now)) (λ name. IfSome (F.told shelf.old) (λ files. read_of most_pool (bytes_of files name) ≡ Ok (content_at result.work f.game.root)))) }
-    ensures live { IfSome result.file (λ f. f.game.root.0 < length result.work.pool.trees) }
+    ensures live { IsLive result }
     ensures follows { MatchOption result.file (SaysNothing result) (FollowsStrategy result) }
     ensures given { IsSome result.file ↔ HasFile result.status }
     ensures said { SpeaksOfFile result.status → IfSome (file_named (map string_bytes words.now)) (λ name. IfSome (F.told shelf.old) (λ files. Judged result.status (bytes_of files name))) }
@@ -96,22 +101,20 @@ fn decide<F: Shelf>(alloc: Global, words: &[String], shelf: &mut F) -> Report
     }
 }
 
-/// Puts the text of a report line by line. It says Write where a fault came, and Memory where there is none
-/// left for the text; else what the report says.
+/// Writes a report. It says Write where a fault came, and Memory where there is none left for the text; else
+/// what the report says.
 fn write<K: Sink>(alloc: Global, report: &Report, sink: &mut K) -> Status
-    requires { IfSome report.now.file (λ f. f.game.root.0 < length report.now.work.pool.trees) }
+    requires { IsLive report.now }
     ensures status { (result ≡ report.now.status) ⊎ (result ≡ Status.Write) ⊎ (result ≡ Status.Memory) }
     ensures front { TakesFront (K.taken sink.old) (K.taken sink.new) (text_of report.now) }
     ensures all { result ≢ Status.Write → result ≢ Status.Memory → TakesAll (K.taken sink.old) (K.taken sink.new) (text_of report.now) }
     ensures rose { result ≡ Status.Write → (report.now.status ≡ Status.Write) ⊎ Rose (K.faults sink.old) (K.faults sink.new) }
     ensures tells { IsSome (K.taken sink.new) → IsSome (K.taken sink.old) }
 {
-    let Ok(text) = report_text(alloc, report) else {
-        return Status::Memory;
-    };
-    match put_lines(sink, &text) {
+    match write_report(alloc, sink, report) {
         Ok(()) => report.status,
-        Err(_) => Status::Write,
+        Err(WriteError::Failed) => Status::Write,
+        Err(WriteError::OutOfMemory) => Status::Memory,
     }
 }
 

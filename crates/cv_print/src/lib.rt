@@ -10,5 +10,5 @@ mod tests;
 mod words;
 
 pub use games::{game_text, push_game};
-pub use terms::{push_term, term_text};
+pub use terms::{push_term, push_terms, term_text};
 pub use words::push_decimal;

@@ -108,7 +108,7 @@ pub(crate) fn push_child(
 /// Appends a list of terms.
 #[cycle(terms)]
 #[tactic(auto, using(crate::proofs::Readings::term_laws))]
-pub(crate) fn push_terms(
+pub fn push_terms(
     out: &mut Vec<u8>,
     pool: &Pool,
     names: &Names,

@@ -1,0 +1,69 @@
+-- What stays of a work while its pool grows.
+use Rattle.std.proofs.Common.{◌≡◌, ℕ, zero, suc, ◌<◌, List, [], ◌∷◌, ◌++◌, length, map, refl, ap, ap₂, sym, ◌∙◌, subst, arith, Some}
+use Rattle.std.proofs.lemmas.Grind.{common_steps}
+use Rattle.std.specs.Prelude.{All}
+use Rattle.cv_pool.specs.declared.node.NodeId.{NodeId}
+use Rattle.cv_pool.specs.PoolView.{PoolView, Grows}
+use Rattle.cv_pool.proofs.Growth.{Grows-length}
+use Rattle.cv_syntax.proofs.Buildings.{child-grown}
+use Rattle.cv_syntax.specs.declared.decls.Decl.{Decl}
+use Rattle.cv_syntax.specs.declared.decls.Decl.TheVariants as decl
+use Rattle.cv_syntax.specs.Declarations.{Declaration, Named, Equation, Equiv, Query, declared, declarations, number}
+use Rattle.cv_syntax.specs.Classes.{DeclsView}
+use Rattle.cv_syntax.specs.Tree.{Tree, tree_at}
+use Rattle.cv_syntax.specs.declared.work.Work.{Work}
+use Rattle.cv_parse.specs.Declaring.{IsBelow}
+use Rattle.cv_script.specs.declared.steps.Step.{Step}
+use Rattle.cv_report.specs.declared.report.Entry.{Entry}
+use Rattle.cv_report.specs.Text.{EntryLive}
+use Rattle.cv_files.specs.Accepted.{Content}
+use Rattle.cv_files.specs.Works.{content_at, content_in}
+use Rattle.cv.specs.Findings.{IsStepBelow}
+use Rattle.cv.specs.Strategy.{closing, said_by}
+
+pub root-grown : (old new : PoolView) (n : NodeId) → Grows old new → n.0 < length old.trees → tree_at new.trees (Some n) ≡ tree_at old.trees (Some n)
+root-grown old new n g l = child-grown old new (Some n) g l
+
+pub steps-grown : (old new : PoolView) (ss : List Step) → Grows old new → All (IsStepBelow (length old.trees)) ss → map (said_by new.trees) ss ≡ map (said_by old.trees) ss
+steps-grown old new [] g a = refl
+steps-grown old new (s ∷ ss) g a = ap₂ (λ t ts. t ∷ ts) (root-grown old new s.0 g (a zero s (omega arith))) (steps-grown old new ss g (λ k d l. a (suc k) d (omega arith)))
+
+pub steps-below : (old new : PoolView) (ss : List Step) → Grows old new → All (IsStepBelow (length old.trees)) ss → All (IsStepBelow (length new.trees)) ss
+steps-below old new ss g a = λ k d l. let h = a k d l in let m = Grows-length old new g in omega arith
+
+decl-grown : (old new : PoolView) (d : Decl) → Grows old new → IsBelow (length old.trees) d → declared new.trees d ≡ declared old.trees d
+decl-grown old new (decl.Name id class args result) g b = ap (λ t. Named id.0 class t (number result)) (child-grown old new args g b)
+decl-grown old new (decl.Equation n) g b = ap Equation (root-grown old new n g b)
+decl-grown old new (decl.Equiv id n) g b = ap (Equiv id.0) (root-grown old new n g b)
+decl-grown old new (decl.Query n) g b = ap Query (root-grown old new n g b)
+
+pub declarations-grown : (old new : PoolView) (ds : List Decl) → Grows old new → All (IsBelow (length old.trees)) ds → declarations new.trees ds ≡ declarations old.trees ds
+declarations-grown old new [] g a = refl
+declarations-grown old new (d ∷ ds) g a = ap₂ (λ t ts. t ∷ ts) (decl-grown old new d g (a zero d (omega arith))) (declarations-grown old new ds g (λ k e l. a (suc k) e (omega arith)))
+
+queries-grown : (old new : PoolView) (ns : List NodeId) → Grows old new → All (λ (n : NodeId). n.0 < length old.trees) ns → map (λ (n : NodeId). tree_at new.trees (Some n)) ns ≡ map (λ (n : NodeId). tree_at old.trees (Some n)) ns
+queries-grown old new [] g a = refl
+queries-grown old new (n ∷ ns) g a = ap₂ (λ t ts. t ∷ ts) (root-grown old new n g (a zero n (omega arith))) (queries-grown old new ns g (λ k d l. a (suc k) d (omega arith)))
+
+-- what a work holds stays
+pub content-grown : (old new : Work) (root : NodeId) → Grows old.pool new.pool → new.names ≡ old.names → new.decls ≡ old.decls → root.0 < length old.pool.trees → All (IsBelow (length old.pool.trees)) old.decls.list → content_at new root ≡ content_at old root
+content-grown old new root g n d l a =
+    ap (λ (ns : List (List ℕ)). content_in ns new.pool.trees new.decls.list root) n
+    ∙ (ap (λ (ds : List Decl). content_in old.names new.pool.trees ds root) (ap (λ (v : DeclsView). v.list) d)
+    ∙ ap₂ (λ (ds : List Declaration) (t : Tree). held old.names ds t) (declarations-grown old.pool new.pool old.decls.list g a) (root-grown old.pool new.pool root g l))
+  where
+    held : List (List ℕ) → List Declaration → Tree → Content
+    held ns ds t = record { names = ns; declarations = ds; game = t }
+
+-- one step more
+pub steps-more : (n : ℕ) (ss ts : List Step) (s : Step) → ts ≡ ss ++ s ∷ [] → All (IsStepBelow n) ss → s.0.0 < n → All (IsStepBelow n) ts
+steps-more n ss ts s e a l = grind (arith, common_steps)
+
+-- the nodes of a trail
+pub trail-live : (n : ℕ) (ss : List Step) (trail : List Entry) → trail ≡ map closing ss → All (IsStepBelow n) ss → All (EntryLive n) trail
+trail-live n ss trail e a = subst (All (EntryLive n)) (sym e) (go ss a)
+  where
+    go : (xs : List Step) → All (IsStepBelow n) xs → All (EntryLive n) (map closing xs)
+    go [] b k d l = absurd (omega arith)
+    go (x ∷ xs) b zero d l = (b zero x (omega arith), tt)
+    go (x ∷ xs) b (suc k) d l = go xs (λ j c m. b (suc j) c (omega arith)) k d (omega arith)

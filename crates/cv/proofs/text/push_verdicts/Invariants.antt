@@ -1,6 +1,0 @@
-use Rattle.std.proofs.Common.{◌≡◌, ◌+◌, ◌++◌, drop}
-use Rattle.cv.specs.Text.{verdicts_text}
-use Rattle.cv.proofs.text.push_verdicts.Given as goal
-
-abbrev pub invariant-verdicts : goal.invariant-verdicts
-invariant-verdicts l = l.out.items ++ verdicts_text (l.k + 1) (drop l.k l.verdicts) ≡ l.fn.out.items ++ verdicts_text 1 l.verdicts

@@ -1,0 +1,4 @@
+pub mod Merging
+pub mod Adding
+pub mod Orders
+pub mod Coefficients

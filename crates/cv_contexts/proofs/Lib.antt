@@ -1,0 +1,3 @@
+pub mod Authentication
+pub mod Locality
+pub mod OnlyMade

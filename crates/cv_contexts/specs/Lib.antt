@@ -1,0 +1,11 @@
+pub mod Groups
+pub mod Sites
+pub mod Frames
+pub mod BodyTerms
+pub mod Finds
+pub mod Bodies
+pub mod Sides
+pub mod ContextAdvantage
+pub mod Made
+pub mod OwnCells
+pub mod Worked

@@ -1,0 +1,138 @@
+-- The text of a report.
+use Rattle.std.specs.Prelude.{ℕ, ◌+◌, ◌<◌, List, [], ◌∷◌, ◌++◌, codes, if◌then◌else◌, length, All, Option, Some, None, is_some, IfSome}
+use Rattle.std.specs.Fmt.{decimal}
+use Rattle.cv_syntax.specs.declared.work.File.{File}
+use Rattle.cv_syntax.specs.declared.work.Game.{Game}
+use Rattle.cv_pool.specs.KindTree.{KindTree}
+use Rattle.cv_syntax.specs.Tree.{tree_at}
+use Rattle.cv_print.specs.Games.{game_text}
+use Rattle.cv_script.specs.Text.{step_text}
+use Rattle.cv_bound.specs.Texts.{listed_text, sum_text}
+use Rattle.cv_bound.specs.declared.cost.Cost.{Cost}
+use Rattle.cv_lex.specs.declared.LexError.{LexError}
+use Rattle.cv_lex.specs.declared.LexError.TheVariants as lex
+use Rattle.cv_parse.specs.declared.error.ParseError.{ParseError}
+use Rattle.cv_parse.specs.declared.error.ParseError.TheVariants as parse
+use Rattle.cv_typing.specs.declared.fault.TypeFault.{TypeFault}
+use Rattle.cv_typing.specs.declared.fault.TypeFault.TheVariants as type
+use Rattle.cv_scope.specs.declared.fault.ScopeFault.{ScopeFault}
+use Rattle.cv_scope.specs.declared.fault.ScopeFault.TheVariants as scope
+use Rattle.cv_report.specs.declared.report.FileFault.{FileFault}
+use Rattle.cv_report.specs.declared.report.FileFault.TheVariants.{Lex, Parse, Types, Scope, Query}
+use Rattle.cv_report.specs.declared.report.Report.{Report}
+use Rattle.cv_report.specs.declared.report.Status.{Status}
+use Rattle.cv_report.specs.declared.report.Status.TheVariants as status
+use Rattle.cv_report.specs.declared.report.Entry.{Entry}
+use Rattle.cv_report.specs.declared.report.Verdict.{Verdict}
+use Rattle.cv_report.specs.declared.report.Verdict.TheVariants.{Proved, NotProved}
+use Rattle.cv_report.specs.declared.report.Which.TheVariants.{File as FileLimit, Nodes, Depth, Steps, Pool}
+
+-- the line of a step's cost
+abbrev pub cost_text : List (List ℕ) → Cost → List ℕ
+cost_text names c = codes "cost " ++ listed_text names c ++ codes "\n"
+
+-- the game that a step leads to, with its number
+abbrev pub next_text : List (List ℕ) → List KindTree → ℕ → Option Game → List ℕ
+next_text names trees g None = []
+next_text names trees g (Some game) = codes "game " ++ decimal g ++ codes "\n" ++ game_text names (tree_at trees (Some game.root))
+
+-- the k-th step, with its cost, and the game that it leads to, which would be the g-th
+abbrev pub entry_text : List (List ℕ) → List KindTree → (k g : ℕ) → Entry → List ℕ
+entry_text names trees k g e =
+    codes "step " ++ decimal k ++ codes ": " ++ step_text names (tree_at trees (Some e.step.0)) ++ codes ";\n"
+    ++ cost_text names e.cost ++ next_text names trees g e.next
+
+-- the number of the next game
+abbrev pub games_after : ℕ → Entry → ℕ
+games_after g e = if is_some e.next then g + 1 else g
+
+unfoldable pub trail_text : List (List ℕ) → List KindTree → (k g : ℕ) → List Entry → List ℕ
+trail_text names trees k g [] = []
+trail_text names trees k g (e ∷ es) = entry_text names trees k g e ++ trail_text names trees (k + 1) (games_after g e) es
+
+abbrev pub said_text : List (List ℕ) → Verdict → List ℕ
+said_text names (Proved s) = codes " proved up to " ++ sum_text names s ++ codes "\n"
+said_text names NotProved = codes " open\n"
+
+abbrev pub verdict_text : List (List ℕ) → ℕ → Verdict → List ℕ
+verdict_text names k v = codes "query " ++ decimal k ++ said_text names v
+
+unfoldable pub verdicts_text : List (List ℕ) → ℕ → List Verdict → List ℕ
+verdicts_text names k [] = []
+verdicts_text names k (v ∷ vs) = verdict_text names k v ++ verdicts_text names (k + 1) vs
+
+-- the end line of a file that is refused: what is wrong, and at which byte, token or node, or in which query
+abbrev pub refused_text : List ℕ → ℕ → List ℕ
+refused_text what place = codes "end 2 file refused: " ++ what ++ decimal place ++ codes "\n"
+
+abbrev pub lexis_text : LexError → List ℕ
+lexis_text (lex.Char byte) = refused_text (codes "char at byte ") byte
+lexis_text (lex.CommentOpen byte) = refused_text (codes "comment at byte ") byte
+lexis_text (lex.NumberWide byte) = refused_text (codes "number at byte ") byte
+lexis_text lex.OutOfMemory = codes "end 6 memory\n"
+
+abbrev pub grammar_text : ParseError → List ℕ
+grammar_text (parse.Syntax token) = refused_text (codes "syntax at token ") token
+grammar_text (parse.Nesting token) = refused_text (codes "nesting at token ") token
+grammar_text (parse.NameTwice token) = refused_text (codes "name twice at token ") token
+grammar_text (parse.NameUnknown token) = refused_text (codes "name unknown at token ") token
+grammar_text (parse.Build fault) = codes "end 6 memory\n"
+
+abbrev pub types_text : TypeFault → List ℕ
+types_text (type.WrongType node) = refused_text (codes "type at node ") node
+types_text (type.Arity node) = refused_text (codes "arity at node ") node
+types_text (type.IndexAsMessage node) = refused_text (codes "index as message at node ") node
+types_text (type.NotFixed node) = refused_text (codes "not fixed at node ") node
+types_text type.OutOfMemory = codes "end 6 memory\n"
+
+abbrev pub scope_text : ScopeFault → List ℕ
+scope_text (scope.Unscoped node) = refused_text (codes "unscoped at node ") node
+scope_text (scope.TwoSites node) = refused_text (codes "two sites at node ") node
+scope_text (scope.Channel node) = refused_text (codes "channel at node ") node
+scope_text (scope.Replications node) = refused_text (codes "replications at node ") node
+scope_text scope.OutOfMemory = codes "end 6 memory\n"
+
+abbrev pub query_text : ℕ → List ℕ
+query_text k = refused_text (codes "query ") k
+
+abbrev pub fault_text : FileFault → List ℕ
+fault_text (Lex e) = lexis_text e
+fault_text (Parse e) = grammar_text e
+fault_text (Types e) = types_text e
+fault_text (Scope e) = scope_text e
+fault_text (Query k) = query_text k
+
+abbrev pub end_text : Status → List ℕ
+end_text status.Proved = codes "end 0 proved\n"
+end_text (status.Open cause) = codes "end 1 open: stuck\n"
+end_text (status.FileRefused fault) = fault_text fault
+end_text status.Words = codes "end 3 words\n"
+end_text status.Read = codes "end 4 read\n"
+end_text status.Write = codes "end 5 write\n"
+end_text status.Memory = codes "end 6 memory\n"
+end_text (status.Limit FileLimit) = codes "end 7 limit: file\n"
+end_text (status.Limit (Nodes count)) = codes "end 7 limit: nodes\n"
+end_text (status.Limit (Depth depth)) = codes "end 7 limit: depth\n"
+end_text (status.Limit Steps) = codes "end 7 limit: steps\n"
+end_text (status.Limit (Pool need)) = codes "end 7 limit: pool\n"
+end_text status.Unbuilt = codes "end 8 unbuilt\n"
+
+-- the game, the steps and the verdicts, where the file was accepted
+abbrev pub body_text : Report → Option File → List ℕ
+body_text r None = []
+body_text r (Some f) =
+    codes "game 1\n" ++ game_text r.work.names (tree_at r.work.pool.trees (Some f.game.root))
+    ++ trail_text r.work.names r.work.pool.trees 1 2 r.trail.items ++ verdicts_text r.work.names 1 r.verdicts.items
+
+-- The text is a function of the report.
+abbrev pub text_of : Report → List ℕ
+text_of r = body_text r r.file ++ end_text r.status
+
+-- the game of the file, the steps and the games that they lead to are nodes of the report's pool
+
+abbrev pub EntryLive : ℕ → Entry → Type 0
+EntryLive n e = (e.step.0.0 < n) × IfSome e.next (λ g. g.root.0 < n)
+
+pub record IsLive (r : Report) : Type 0 where
+  pub file : IfSome r.file (λ f. f.game.root.0 < length r.work.pool.trees)
+  pub trail : All (EntryLive (length r.work.pool.trees)) r.trail.items

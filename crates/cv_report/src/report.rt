@@ -1,0 +1,125 @@
+ghost use Rattle.std.specs.Prelude.{◌≡◌};
+ghost use Rattle.cv_report.specs.Codes.{code_of};
+
+use cv_bound::{Cost, Sum};
+use cv_lex::LexError;
+use cv_parse::ParseError;
+use cv_scope::ScopeFault;
+use cv_script::Step;
+use cv_syntax::{File, Game, Work};
+use cv_typing::TypeFault;
+
+/// What the words ask for.
+#[derive(Clone, Copy, Debug, PartialEq, Eq)]
+pub enum Command {
+    /// A proof of the file's queries, in at most so many moves.
+    Prove { moves: u32 },
+    /// The words ask for nothing.
+    Nothing,
+}
+
+/// An accepted step, with its cost and the game that it leads to; a step that closes a query leads to none.
+#[derive(Drop)]
+pub struct Entry {
+    pub step: Step,
+    pub cost: Cost,
+    pub next: Option<Game>,
+}
+
+/// What is said of a query.
+#[derive(Drop)]
+pub enum Verdict {
+    /// The advantage against it is at most this sum.
+    Proved(Sum),
+    NotProved,
+}
+
+/// Why a query is left open.
+#[derive(Clone, Copy, Debug, PartialEq, Eq)]
+pub enum Cause {
+    /// The strategy has no step.
+    Stuck,
+}
+
+/// Why bytes are no file.
+#[derive(Clone, Copy, Debug, PartialEq, Eq)]
+pub enum FileFault {
+    /// They have no tokens.
+    Lex(LexError),
+    /// Their tokens are not those of a file, by the grammar or the rules of names.
+    Parse(ParseError),
+    /// The terms of the file aren't typed.
+    Types(TypeFault),
+    /// The game of the file breaks a rule of array scope.
+    Scope(ScopeFault),
+    /// The query of this number, counted from 1, may not be asked.
+    Query(u32),
+}
+
+/// What passed its number.
+#[derive(Clone, Copy, Debug, PartialEq, Eq)]
+pub enum Which {
+    /// The bytes of the file.
+    File,
+    /// The syntax nodes of the game, which are so many.
+    Nodes { count: u32 },
+    /// The syntax nodes on a path of the game.
+    Depth { depth: u32 },
+    /// The steps of a proof.
+    Steps,
+    /// The nodes of the pool, of which so many were asked for.
+    Pool { need: u32 },
+}
+
+/// How a run ended.
+#[derive(Clone, Copy, Debug, PartialEq, Eq)]
+pub enum Status {
+    Proved,
+    Open(Cause),
+    /// The bytes are no file.
+    FileRefused(FileFault),
+    Words,
+    Read,
+    Write,
+    Memory,
+    Limit(Which),
+    /// The file has a part that isn't read yet: a proof block or an equivalence.
+    Unbuilt,
+}
+
+impl Status {
+    /// The exit code of the program.
+    pub fn code(&self) -> u8
+        ensures { result ≡ code_of self.now }
+    {
+        match self {
+            Status::Proved => 0,
+            Status::Open(_) => 1,
+            Status::FileRefused(_) => 2,
+            Status::Words => 3,
+            Status::Read => 4,
+            Status::Write => 5,
+            Status::Memory => 6,
+            Status::Limit(_) => 7,
+            Status::Unbuilt => 8,
+        }
+    }
+}
+
+/// What was done.
+#[derive(Drop)]
+pub struct Report {
+    /// The names, the declarations and the trees of the file.
+    pub work: Work,
+    /// The file, where it was accepted.
+    pub file: Option<File>,
+    pub command: Command,
+    /// The accepted steps, in order.
+    pub steps: Vec<Step>,
+    /// The same steps, each with its cost and the game that it leads to.
+    pub trail: Vec<Entry>,
+    /// What is said of each query of an accepted file, in order.
+    pub verdicts: Vec<Verdict>,
+    /// How the run ended, leaving faults of writing aside.
+    pub status: Status,
+}

@@ -1,0 +1,255 @@
+// The text of a report.
+ghost use Rattle.std.specs.Prelude.{◌≡◌, ◌+◌, ◌<◌, ◌^◌, ◌++◌, [], All, length, IfOk, OnOk, IfSome};
+ghost use Rattle.cv_report.specs.Text.{EntryLive, IsLive, cost_text, end_text, entry_text, fault_text, games_after, grammar_text, lexis_text, next_text, query_text, refused_text, said_text, scope_text, text_of, trail_text, types_text, verdict_text, verdicts_text};
+
+use crate::report::{Entry, FileFault, Report, Status, Verdict, Which};
+use cv_bound::{Cost, listed_text};
+use cv_lex::LexError;
+use cv_parse::ParseError;
+use cv_print::{push_decimal, push_game};
+use cv_scope::ScopeFault;
+use cv_script::push_step;
+use cv_syntax::{Game, Names, Pool};
+use cv_typing::TypeFault;
+use std::alloc::{AllocError, Global};
+
+/// Appends the cost of a step.
+fn push_cost(out: &mut Vec<u8>, names: &Names, cost: &Cost) -> Result<(), AllocError>
+    ensures { OnOk result (out.new.items ≡ out.old.items ++ cost_text names.now cost.now) }
+{
+    let alloc = *out.allocator();
+    let text = listed_text(alloc, names, cost)?;
+    out.extend_from_slice(b"cost ")?;
+    out.extend_from_slice(&text)?;
+    out.extend_from_slice(b"\n")
+}
+
+/// Appends a game with its number, where there is one.
+fn push_next(
+    out: &mut Vec<u8>,
+    pool: &Pool,
+    names: &Names,
+    number: u64,
+    next: Option<Game>,
+) -> Result<(), AllocError>
+    requires { IfSome next (λ g. g.root.0 < length pool.now.trees) }
+    ensures { OnOk result (out.new.items ≡ out.old.items ++ next_text names.now pool.now.trees number next) }
+{
+    let Some(game) = next else {
+        return Ok(());
+    };
+    out.extend_from_slice(b"game ")?;
+    push_decimal(out, number)?;
+    out.extend_from_slice(b"\n")?;
+    push_game(out, pool, names, game.root)
+}
+
+/// Appends a step with its number, its cost and the game that it leads to, which would have this number.
+fn push_entry(
+    out: &mut Vec<u8>,
+    pool: &Pool,
+    names: &Names,
+    number: u64,
+    game: u64,
+    entry: &Entry,
+) -> Result<(), AllocError>
+    requires { EntryLive (length pool.now.trees) entry.now }
+    ensures { OnOk result (out.new.items ≡ out.old.items ++ entry_text names.now pool.now.trees number game entry.now) }
+{
+    out.extend_from_slice(b"step ")?;
+    push_decimal(out, number)?;
+    out.extend_from_slice(b": ")?;
+    push_step(out, pool, names, entry.step)?;
+    out.extend_from_slice(b";\n")?;
+    push_cost(out, names, &entry.cost)?;
+    push_next(out, pool, names, game, entry.next)
+}
+
+/// The number of the next game behind an entry.
+fn game_after(game: u64, entry: &Entry) -> u64
+    requires { game + 1 < 2 ^ 64 }
+    ensures { result ≡ games_after game entry.now }
+{
+    match entry.next {
+        Some(_) => game + 1,
+        None => game,
+    }
+}
+
+/// Appends the steps.
+#[tactic(auto, using(crate::proofs::Texts::texts))]
+fn push_trail(
+    out: &mut Vec<u8>,
+    pool: &Pool,
+    names: &Names,
+    trail: &[Entry],
+) -> Result<(), AllocError>
+    requires { All (EntryLive (length pool.now.trees)) trail.now }
+    ensures { OnOk result (out.new.items ≡ out.old.items ++ trail_text names.now pool.now.trees 1 2 trail.now) }
+{
+    let mut game = 2;
+    'trail: for k in 0..trail.len() {
+        push_entry(out, pool, names, k as u64 + 1, game, &trail[k])?;
+        game = game_after(game, &trail[k]);
+    }
+    Ok(())
+}
+
+/// Appends what is said of a query.
+fn push_said(out: &mut Vec<u8>, names: &Names, verdict: &Verdict) -> Result<(), AllocError>
+    ensures { OnOk result (out.new.items ≡ out.old.items ++ said_text names.now verdict.now) }
+{
+    match verdict {
+        Verdict::Proved(sum) => {
+            let text = sum.text(names)?;
+            out.extend_from_slice(b" proved up to ")?;
+            out.extend_from_slice(&text)?;
+            out.extend_from_slice(b"\n")
+        }
+        Verdict::NotProved => out.extend_from_slice(b" open\n"),
+    }
+}
+
+/// Appends a verdict with the number of its query.
+fn push_verdict(
+    out: &mut Vec<u8>,
+    names: &Names,
+    number: u64,
+    verdict: &Verdict,
+) -> Result<(), AllocError>
+    ensures { OnOk result (out.new.items ≡ out.old.items ++ verdict_text names.now number verdict.now) }
+{
+    out.extend_from_slice(b"query ")?;
+    push_decimal(out, number)?;
+    push_said(out, names, verdict)
+}
+
+/// Appends verdicts with the numbers of their queries.
+#[tactic(auto, using(crate::proofs::Texts::texts))]
+fn push_verdicts(out: &mut Vec<u8>, names: &Names, verdicts: &[Verdict]) -> Result<(), AllocError>
+    ensures { OnOk result (out.new.items ≡ out.old.items ++ verdicts_text names.now 1 verdicts.now) }
+{
+    'verdicts: for k in 0..verdicts.len() {
+        push_verdict(out, names, k as u64 + 1, &verdicts[k])?;
+    }
+    Ok(())
+}
+
+/// Appends the end line of a file that is refused: what is wrong, and where.
+fn push_refused(out: &mut Vec<u8>, what: &[u8], place: u32) -> Result<(), AllocError>
+    ensures { OnOk result (out.new.items ≡ out.old.items ++ refused_text what.now place) }
+{
+    out.extend_from_slice(b"end 2 file refused: ")?;
+    out.extend_from_slice(what)?;
+    push_decimal(out, place as u64)?;
+    out.extend_from_slice(b"\n")
+}
+
+/// Appends the end line of bytes without tokens.
+fn push_lexis(out: &mut Vec<u8>, fault: LexError) -> Result<(), AllocError>
+    ensures { OnOk result (out.new.items ≡ out.old.items ++ lexis_text fault) }
+{
+    match fault {
+        LexError::Char(byte) => push_refused(out, b"char at byte ", byte),
+        LexError::CommentOpen(byte) => push_refused(out, b"comment at byte ", byte),
+        LexError::NumberWide(byte) => push_refused(out, b"number at byte ", byte),
+        LexError::OutOfMemory => out.extend_from_slice(b"end 6 memory\n"),
+    }
+}
+
+/// Appends the end line of tokens that are no file.
+fn push_grammar(out: &mut Vec<u8>, fault: ParseError) -> Result<(), AllocError>
+    ensures { OnOk result (out.new.items ≡ out.old.items ++ grammar_text fault) }
+{
+    match fault {
+        ParseError::Syntax(token) => push_refused(out, b"syntax at token ", token),
+        ParseError::Nesting(token) => push_refused(out, b"nesting at token ", token),
+        ParseError::NameTwice(token) => push_refused(out, b"name twice at token ", token),
+        ParseError::NameUnknown(token) => push_refused(out, b"name unknown at token ", token),
+        ParseError::Build(_) => out.extend_from_slice(b"end 6 memory\n"),
+    }
+}
+
+/// Appends the end line of a file that isn't typed.
+fn push_types(out: &mut Vec<u8>, fault: TypeFault) -> Result<(), AllocError>
+    ensures { OnOk result (out.new.items ≡ out.old.items ++ types_text fault) }
+{
+    match fault {
+        TypeFault::WrongType(node) => push_refused(out, b"type at node ", node),
+        TypeFault::Arity(node) => push_refused(out, b"arity at node ", node),
+        TypeFault::IndexAsMessage(node) => push_refused(out, b"index as message at node ", node),
+        TypeFault::NotFixed(node) => push_refused(out, b"not fixed at node ", node),
+        TypeFault::OutOfMemory => out.extend_from_slice(b"end 6 memory\n"),
+    }
+}
+
+/// Appends the end line of a file whose game isn't scoped.
+fn push_scope(out: &mut Vec<u8>, fault: ScopeFault) -> Result<(), AllocError>
+    ensures { OnOk result (out.new.items ≡ out.old.items ++ scope_text fault) }
+{
+    match fault {
+        ScopeFault::Unscoped(node) => push_refused(out, b"unscoped at node ", node),
+        ScopeFault::TwoSites(node) => push_refused(out, b"two sites at node ", node),
+        ScopeFault::Channel(node) => push_refused(out, b"channel at node ", node),
+        ScopeFault::Replications(node) => push_refused(out, b"replications at node ", node),
+        ScopeFault::OutOfMemory => out.extend_from_slice(b"end 6 memory\n"),
+    }
+}
+
+/// Appends the end line of a file with a query that may not be asked.
+fn push_query(out: &mut Vec<u8>, k: u32) -> Result<(), AllocError>
+    ensures { OnOk result (out.new.items ≡ out.old.items ++ query_text k) }
+{
+    push_refused(out, b"query ", k)
+}
+
+/// Appends the end line of bytes that are no file.
+fn push_fault(out: &mut Vec<u8>, fault: FileFault) -> Result<(), AllocError>
+    ensures { OnOk result (out.new.items ≡ out.old.items ++ fault_text fault) }
+{
+    match fault {
+        FileFault::Lex(fault) => push_lexis(out, fault),
+        FileFault::Parse(fault) => push_grammar(out, fault),
+        FileFault::Types(fault) => push_types(out, fault),
+        FileFault::Scope(fault) => push_scope(out, fault),
+        FileFault::Query(k) => push_query(out, k),
+    }
+}
+
+/// Appends the end line.
+fn push_end(out: &mut Vec<u8>, status: Status) -> Result<(), AllocError>
+    ensures { OnOk result (out.new.items ≡ out.old.items ++ end_text status) }
+{
+    match status {
+        Status::Proved => out.extend_from_slice(b"end 0 proved\n"),
+        Status::Open(_) => out.extend_from_slice(b"end 1 open: stuck\n"),
+        Status::FileRefused(fault) => push_fault(out, fault),
+        Status::Words => out.extend_from_slice(b"end 3 words\n"),
+        Status::Read => out.extend_from_slice(b"end 4 read\n"),
+        Status::Write => out.extend_from_slice(b"end 5 write\n"),
+        Status::Memory => out.extend_from_slice(b"end 6 memory\n"),
+        Status::Limit(Which::File) => out.extend_from_slice(b"end 7 limit: file\n"),
+        Status::Limit(Which::Nodes { count: _ }) => out.extend_from_slice(b"end 7 limit: nodes\n"),
+        Status::Limit(Which::Depth { depth: _ }) => out.extend_from_slice(b"end 7 limit: depth\n"),
+        Status::Limit(Which::Steps) => out.extend_from_slice(b"end 7 limit: steps\n"),
+        Status::Limit(Which::Pool { need: _ }) => out.extend_from_slice(b"end 7 limit: pool\n"),
+        Status::Unbuilt => out.extend_from_slice(b"end 8 unbuilt\n"),
+    }
+}
+
+/// The text of a report.
+pub fn report_text(alloc: Global, report: &Report) -> Result<Vec<u8>, AllocError>
+    requires { IsLive report.now }
+    ensures { IfOk result (λ v. v.items ≡ text_of report.now) }
+{
+    let mut out = Vec::new(alloc);
+    if let Some(file) = report.file {
+        let work = &report.work;
+        out.extend_from_slice(b"game 1\n")?;
+        push_game(&mut out, &work.pool, &work.names, file.game.root)?;
+        push_trail(&mut out, &work.pool, &work.names, &report.trail)?;
+        push_verdicts(&mut out, &work.names, &report.verdicts)?;
+    }
+    push_end(&mut out, report.status)?;
+    Ok(out)
+}

@@ -1,0 +1,10 @@
+pub mod Pieces
+pub mod Spelling
+pub mod Phrases
+pub mod Terms
+pub mod Lists
+pub mod Constructs
+pub mod Games
+pub mod Shown
+pub mod Plain
+pub mod Back

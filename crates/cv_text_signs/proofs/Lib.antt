@@ -1,0 +1,12 @@
+pub mod Shown
+pub mod Fronts
+pub mod Bytes
+pub mod Tokens
+pub mod Literals
+pub mod Named
+pub mod Terms
+pub mod Lines
+pub mod Processes
+pub mod Read
+pub mod Files
+pub mod Small
