@@ -18,6 +18,14 @@ const ABOVE: &str = "in(c, ()); new n:T; event f(n); event e(n); out(d, (n))";
 const ABOVE_REPORT: &str =
     "game 1\nin(c, ());\nnew n: T;\nevent f(n);\nevent e(n);\nout(d, (n));\n0\nstep 1: success 1 events at 4 with () event above 2 { (n = n) by refl; };\ncost 0\nquery 1 proved up to 0\nend 0 proved\n";
 
+/// Declarations of an authentication of messages.
+const AUTHENTICATION: &str =
+    "param NA, NB. type message. type key [fixed, large]. type tag. fun mac2(message, key): tag. fun check2(message, key, tag): bool. channel st, ca, da, cb, db. event e(message). event f(message). query m:message; event e(m) ==> event f(m). process ";
+
+/// The game to which the assumption on the authentication leads, as it is printed.
+const AUTHENTICATED: &str =
+    "in(st, ());\nnew r_1: key;\nout(st, ());\n(\n  !i <= NA\n    in(ca[i], (a: message));\n    event f(a[i]);\n    let x_2: message = a[i] in\n    out(da[i], (mac2(x_2[i], r_1)));\n    0\n|\n  !j <= NB\n    in(cb[j], (b: message, t: tag));\n    let y_3: message = b[j] in\n    let z_4: tag = t[j] in\n    find @1 u_5 <= NA suchthat defined(x_2[u_5[j]]) && ((y_3[j] = x_2[u_5[j]]) && check2(x_2[u_5[j]], r_1, z_4[j])) then\n      if true then\n        event e(b[j]);\n        out(db[j], ());\n        0\n      else\n        yield\n    else\n      if false then\n        event e(b[j]);\n        out(db[j], ());\n        0\n      else\n        yield\n)\n";
+
 fn words(alloc: Global, given: &[&str]) -> Result<Vec<String>, AllocError> {
     let mut words = Vec::new(alloc);
     for word in given {
@@ -235,6 +243,18 @@ fn lexis(rt: HostRuntime) -> Result<(), Fail> {
     ] {
         assert_eq!(rt; code_of(alloc, text)?, wanted, "of {text}");
     }
+    Ok(())
+}
+
+#[test]
+fn a_printed_game_is_a_process(rt: HostRuntime) -> Result<(), Fail> {
+    let alloc = rt.alloc();
+    let text = joined(alloc, AUTHENTICATION, AUTHENTICATED)?;
+    let front = joined(alloc, "game 1\n", AUTHENTICATED)?;
+    let wanted = joined(alloc, front.as_str(), "query 1 open\nend 1 open: stuck\n")?;
+    let mut sink = MemSink::new(alloc, 100_000, Vec::new(alloc))?;
+    let _ = put_into(alloc, text.as_str(), &mut sink)?;
+    assert_eq!(rt; sink.taken(), wanted.as_bytes());
     Ok(())
 }
 

@@ -4,6 +4,7 @@ use Rattle.std.specs.Prelude.{slice_get}
 use Rattle.std.specs.Str.{bytes_eq}
 use Rattle.std.proofs.lemmas.Slice.Eq.{bytes_eq-Decides}
 use Rattle.std.proofs.lemmas.Bool.{false_from_ne_true}
+use Rattle.std.proofs.lemmas.List.{append-nil}
 use Rattle.cv_names.specs.Texts.{NoRepeat}
 use Rattle.cv_signs.specs.Signs.{place_of, with_name}
 
@@ -53,6 +54,15 @@ length-with_name (x ∷ xs) text =
     elim (text_test x text) [
       | inl a ↦ rw a.0 (omega arith)
       | inr b ↦ rw b (let rest = length-with_name xs text in omega arith)
+    ]
+
+-- nothing goes before the names that were there
+pub with_name-behind : (names : List (List ℕ)) (text : List ℕ) → (more : List (List ℕ)) × (with_name names text ≡ names ++ more)
+with_name-behind [] text = (text ∷ [], refl)
+with_name-behind (x ∷ xs) text =
+    elim (text_test x text) [
+      | inl a ↦ rw a.0 ([], ap (λ l. x ∷ l) (sym (append-nil xs)))
+      | inr b ↦ rw b (let rest = with_name-behind xs text in (rest.0, ap (λ l. x ∷ l) rest.1))
     ]
 
 -- the only place at which a text stands is its place

@@ -5,7 +5,7 @@ mod marks;
 mod pass;
 
 pub use marks::{spelled, spelling, spelling_is_unique};
-pub use pass::{signs, signs_tell_tokens};
+pub use pass::{more_signs, signs, signs_tell_tokens};
 
 #[cfg(test)]
 mod tests;

@@ -1,10 +1,10 @@
 // One pass over the tokens, which makes their signs and collects the names.
 
-ghost use Rattle.std.specs.Prelude.{◌≡◌, ◌≢◌, ◌+◌, ◌<◌, ◌^◌, [], ◌∷◌, List, All, Some, length, slice_get, codes, IfOk, OnErr};
+ghost use Rattle.std.specs.Prelude.{◌≡◌, ◌≢◌, ◌+◌, ◌<◌, ◌^◌, [], ◌∷◌, List, All, Some, length, take, drop, slice_get, codes, IfOk, OnErr};
 ghost use Rattle.cv_lex.specs.Lexis.{Token};
 ghost use Rattle.cv_lex.specs.View.{AreTokens};
 ghost use Rattle.cv_names.specs.Texts.{NoRepeat};
-ghost use Rattle.cv_signs.specs.Signs.{place_of, with_name, step_before, token_step, text_step, unnamed_step, signs_of, TellInOrder, NumberBelow};
+ghost use Rattle.cv_signs.specs.Signs.{place_of, with_name, step_before, token_step, text_step, unnamed_step, no_counts, signs_from, signs_of, TellInOrder, NumberBelow};
 ghost use Rattle.cv_signs.specs.Spelling.{mark_of_text};
 
 use crate::marks::spelled;
@@ -25,6 +25,7 @@ fn number_of(names: &mut Names, text: &str) -> Result<u32, AllocError>
     requires { length names.old + 1 < 2 ^ 32 }
     ensures number { IfOk result (λ n. n ≡ place_of names.old text.now) }
     ensures names { IfOk result (λ _. names.new ≡ with_name names.old text.now) }
+    ensures err { OnErr result (names.new ≡ names.old) }
 {
     match names.declare(text) {
         Ok(id) => Ok(id.0),
@@ -37,7 +38,8 @@ fn number_of(names: &mut Names, text: &str) -> Result<u32, AllocError>
 fn text_sign(names: &mut Names, counts: &mut Counts, text: &str) -> Result<Sign, AllocError>
     requires names { length names.old + 1 < 2 ^ 32 }
     requires finds { counts.old.finds + 1 < 2 ^ 64 }
-    ensures { IfOk result (λ s. text_step names.old counts.old text.now (mark_of_text text.now) ≡ record { signs = s ∷ []; names = names.new; counts = counts.new }) }
+    ensures step { IfOk result (λ s. text_step names.old counts.old text.now (mark_of_text text.now) ≡ record { signs = s ∷ []; names = names.new; counts = counts.new }) }
+    ensures err { OnErr result (names.new ≡ names.old) }
 {
     if let Some(mark) = spelled(text) {
         return Ok(Sign::Mark(mark));
@@ -59,7 +61,8 @@ fn token_sign(
     requires names { length names.old + 1 < 2 ^ 32 }
     requires finds { counts.old.finds + 1 < 2 ^ 64 }
     requires inner { kind ≢ TokenKind.End }
-    ensures { IfOk result (λ s. token_step names.old counts.old kind text.now ≡ record { signs = s ∷ []; names = names.new; counts = counts.new }) }
+    ensures step { IfOk result (λ s. token_step names.old counts.old kind text.now ≡ record { signs = s ∷ []; names = names.new; counts = counts.new }) }
+    ensures err { OnErr result (names.new ≡ names.old) }
 {
     match kind {
         TokenKind::Ident | TokenKind::Symbol => text_sign(names, counts, text),
@@ -72,7 +75,8 @@ fn token_sign(
 fn unnamed_sign(alloc: Global, names: &mut Names, counts: &mut Counts) -> Result<Sign, AllocError>
     requires names { length names.old + 1 < 2 ^ 32 }
     requires unnamed { counts.old.unnamed + 1 < 2 ^ 64 }
-    ensures { IfOk result (λ s. unnamed_step names.old counts.old ≡ record { signs = s ∷ []; names = names.new; counts = counts.new }) }
+    ensures step { IfOk result (λ s. unnamed_step names.old counts.old ≡ record { signs = s ∷ []; names = names.new; counts = counts.new }) }
+    ensures err { OnErr result (names.new ≡ names.old) }
 {
     counts.unnamed += 1;
     let number = counts.unnamed;
@@ -93,7 +97,8 @@ fn sign_before(
     requires finds { counts.old.finds + 1 < 2 ^ 64 }
     requires unnamed { counts.old.unnamed + 1 < 2 ^ 64 }
     requires inner { kind ≢ TokenKind.End }
-    ensures { IfOk result (λ s. step_before names.old counts.old kind text.now next.now ≡ record { signs = s ∷ []; names = names.new; counts = counts.new }) }
+    ensures step { IfOk result (λ s. step_before names.old counts.old kind text.now next.now ≡ record { signs = s ∷ []; names = names.new; counts = counts.new }) }
+    ensures err { OnErr result (names.new ≡ names.old) }
 {
     if text == "collision" && next == "new" {
         unnamed_sign(alloc, names, counts)
@@ -102,32 +107,46 @@ fn sign_before(
     }
 }
 
-// The signs of all tokens but the end token.
+// The signs of the tokens from one on, all but the end token.
 fn signs_in_order(
     alloc: Global,
     names: &mut Names,
     tokens: &Tokens,
+    from: u32,
 ) -> Result<Vec<Sign>, AllocError>
-    requires empty { names.old ≡ [] }
-    requires few { length tokens.now < 200000000 }
-    ensures signs { IfOk result (λ v. (signs_of tokens.now).signs ≡ v.items) }
-    ensures names { IfOk result (λ _. (signs_of tokens.now).names ≡ names.new) }
-    ensures count { IfOk result (λ v. length v.items + 1 ≡ length tokens.now) }
+    requires from { from < length tokens.now }
+    requires few { length names.old + length tokens.now < 2 ^ 32 }
+    ensures signs { IfOk result (λ v. (signs_from names.old no_counts (drop from tokens.now)).signs ≡ v.items) }
+    ensures names { IfOk result (λ _. (signs_from names.old no_counts (drop from tokens.now)).names ≡ names.new) }
+    ensures count { IfOk result (λ v. from + length v.items + 1 ≡ length tokens.now) }
+    ensures kept { take (length names.old) names.new ≡ names.old }
 {
     let count = tokens.len() - 1;
-    number_of(names, "bool")?;
-    let mut signs = Vec::with_capacity(alloc, count as usize)?;
+    let mut signs = Vec::with_capacity(alloc, (count - from) as usize)?;
     let mut counts = Counts {
         finds: 0,
         unnamed: 0,
     };
-    for k in 0..count {
+    for k in from..count {
         let text = tokens.text(k);
         let next = tokens.text(k + 1);
         let sign = sign_before(alloc, names, &mut counts, tokens.kind(k), text, next)?;
         signs.push(sign)?;
     }
     Ok(signs)
+}
+
+// The signs of a file's tokens, where the name `bool` is number 0.
+fn file_signs(alloc: Global, names: &mut Names, tokens: &Tokens) -> Result<Vec<Sign>, AllocError>
+    requires empty { names.old ≡ [] }
+    requires few { length tokens.now < 200000000 }
+    ensures signs { IfOk result (λ v. (signs_of tokens.now).signs ≡ v.items) }
+    ensures names { IfOk result (λ _. (signs_of tokens.now).names ≡ names.new) }
+    ensures count { IfOk result (λ v. length v.items + 1 ≡ length tokens.now) }
+{
+    let _tokens = tokens.len();
+    number_of(names, "bool")?;
+    signs_in_order(alloc, names, tokens, 0)
 }
 
 /// The signs of tokens, one for each but the end token. Takes time linear in the text.
@@ -139,9 +158,32 @@ pub fn signs(alloc: Global, names: &mut Names, tokens: &Tokens) -> Result<Vec<Si
     ensures count { IfOk result (λ v. length v.items + 1 ≡ length tokens.now) }
     ensures err { OnErr result (names.new ≡ names.old) }
 {
-    let outcome = signs_in_order(alloc, names, tokens);
+    let outcome = file_signs(alloc, names, tokens);
     if outcome.is_err() {
         names.keep(0);
+    }
+    outcome
+}
+
+/// The signs of the tokens from one on, by names that are numbered before. The new ones are added behind them.
+pub fn more_signs(
+    alloc: Global,
+    names: &mut Names,
+    tokens: &Tokens,
+    from: u32,
+) -> Result<Vec<Sign>, AllocError>
+    requires from { from < length tokens.now }
+    requires few { length names.old + length tokens.now < 2 ^ 32 }
+    ensures signs { IfOk result (λ v. (signs_from names.old no_counts (drop from tokens.now)).signs ≡ v.items) }
+    ensures names { IfOk result (λ _. (signs_from names.old no_counts (drop from tokens.now)).names ≡ names.new) }
+    ensures count { IfOk result (λ v. from + length v.items + 1 ≡ length tokens.now) }
+    ensures kept { take (length names.old) names.new ≡ names.old }
+    ensures err { OnErr result (names.new ≡ names.old) }
+{
+    let before = names.len();
+    let outcome = signs_in_order(alloc, names, tokens, from);
+    if outcome.is_err() {
+        names.keep(before);
     }
     outcome
 }

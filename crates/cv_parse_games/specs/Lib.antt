@@ -1,0 +1,6 @@
+pub mod Games
+pub mod Measures
+pub mod Says
+pub mod Stages
+pub mod Terms
+pub mod Texts
