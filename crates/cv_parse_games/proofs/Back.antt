@@ -117,18 +117,18 @@ not_opens : (ts : List Sign) → next_is goes_on ts ≡ false → next_is opens 
 not_opens [] e = refl
 not_opens (t ∷ ts) e = (not_next t e).0
 
-not_tails : (ts : List Sign) → next_is goes_on ts ≡ false → next_is (tails sort.Term) ts ≡ false
+pub not_tails : (ts : List Sign) → next_is goes_on ts ≡ false → next_is (tails sort.Term) ts ≡ false
 not_tails [] e = refl
 not_tails (t ∷ ts) e = (not_next t e).1
 
-abbrev whole_term : List Sign → Read Role Tree
+abbrev pub whole_term : List Sign → Read Role Tree
 whole_term signs = reads_with heads rule term levels signs
 
-whole_read : (signs : List Sign) → read_sort heads rule 200 sort.Term signs ≡ whole_term signs
+pub whole_read : (signs : List Sign) → read_sort heads rule 200 sort.Term signs ≡ whole_term signs
 unfolding read_sort
 whole_read signs = refl
 
-stops_there : (t : Tree) (us : Uses) (rest : List Sign) → next_is goes_on rest ≡ false → stops (record { value = t; uses = us; rest = rest }) ≡ found t us rest
+pub stops_there : (t : Tree) (us : Uses) (rest : List Sign) → next_is goes_on rest ≡ false → stops (record { value = t; uses = us; rest = rest }) ≡ found t us rest
 stops_there t us rest e = rw e refl
 
 pub term_in_front : (limit live from : ℕ) (t : Tree) (rest : List Sign) → IsWritten Term t → term_levels t ≤ levels → live + nodes_of t ≤ limit → next_is goes_on rest ≡ false → term_of limit live from (term_signs t ++ rest) ≡ Ok (t, from + length (term_signs t))

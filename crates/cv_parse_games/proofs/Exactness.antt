@@ -1,8 +1,7 @@
 -- What is computed of a game's tokens, and what they say.
-use Rattle.std.proofs.Common.{◌≡◌, ℕ, ◌+◌, ◌-◌, ◌<◌, ◌≤◌, true, false, Bool, nat_lt, if◌then◌else◌, List, ◌++◌, length, refl, ap, subst, sym, ◌∙◌, arith, Option, Some, None, Result, Ok, Err}
+use Rattle.std.proofs.Common.{◌≡◌, ℕ, ◌+◌, ◌≤◌, true, false, Bool, nat_lt, if◌then◌else◌, List, ◌++◌, length, refl, ap, subst, sym, ◌∙◌, arith, Option, Some, None, Result, Ok, Err}
 use Rattle.std.proofs.lemmas.Bool.Decides.{nat_tests}
 use Rattle.cv_syntax.specs.declared.decls.Decl.{Decl}
-use Rattle.cv_syntax.specs.declared.work.BuildError.{BuildError}
 use Rattle.cv_syntax.specs.declared.work.BuildError.TheVariants as build
 use Rattle.cv_syntax.specs.Tree.{Tree, depth, size}
 use Rattle.cv_grammar.specs.declared.sign.Sign.{Sign}
@@ -19,9 +18,9 @@ use Rattle.cv_rules.proofs.Fitting.{all_fit}
 use Rattle.cv_rules.proofs.Names.{fault_is_first, named_has_none, no_fault}
 use Rattle.cv_parse.specs.declared.error.ParseError.{ParseError}
 use Rattle.cv_parse.specs.declared.error.ParseError.TheVariants.{Syntax, Nesting, NameTwice, NameUnknown, Build}
-use Rattle.cv_parse.specs.Parsed.{most_depth, most_nodes, of_fault, of_name, sized}
+use Rattle.cv_parse.specs.Parsed.{most_depth, most_nodes, sized}
 use Rattle.cv_parse.specs.Weights.{capped}
-use Rattle.cv_parse_games.specs.Games.{declared_before, game_of, nodes_of, of_reading, process, read_process, roomed, sized_first, unless}
+use Rattle.cv_parse_games.specs.Games.{declared_before, game_of, nodes_of, of_reading, process, read_process, sized_first, unless}
 use Rattle.cv_parse_games.specs.Says.{HasDepth, HasNodes, IsDeadGame, IsGameText, IsLargeGame, IsMisnamedGame, IsNamedGame, SaysGame, Takes}
 
 process_fits : fits heads tails process ≡ true

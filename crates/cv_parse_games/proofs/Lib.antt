@@ -5,3 +5,4 @@ pub mod Outcomes
 pub mod Plants
 pub mod Reached
 pub mod Sizes
+pub mod TermExactness

@@ -1,15 +1,18 @@
--- What the tokens of a game say, as a relation. This profile's own.
-use Rattle.std.specs.Prelude.{◌≡◌, ℕ, ◌+◌, ◌-◌, ◌<◌, ◌≤◌, List, [], ◌++◌, length}
+-- What the tokens of a game, or of a term, say, as a relation. This profile's own.
+use Rattle.std.specs.Prelude.{◌≡◌, ℕ, ◌+◌, ◌-◌, ◌<◌, ◌≤◌, false, List, [], ◌++◌, length}
 use Rattle.cv_syntax.specs.declared.decls.Decl.{Decl}
 use Rattle.cv_syntax.specs.Tree.{Tree, depth, size}
 use Rattle.cv_grammar.specs.declared.sign.Sign.{Sign}
+use Rattle.cv_grammar.specs.Spells.{next_is}
 use Rattle.cv_grammar.specs.Whole.{Dead, IsWhole, SpellsWith}
 use Rattle.cv_rules.specs.Files.{levels}
 use Rattle.cv_rules.specs.Names.{AreNamed, IsNameFault, NameFault, Uses}
 use Rattle.cv_rules.specs.Rules.{heads, rule}
+use Rattle.cv_rules.specs.Terms.{term}
 use Rattle.cv_parse.specs.Parsed.{most_depth, most_nodes}
 use Rattle.cv_parse.specs.Weights.{capped}
 use Rattle.cv_parse_games.specs.Games.{declared_before, nodes_of, process}
+use Rattle.cv_parse_games.specs.Terms.{goes_on}
 
 -- These tokens, and no others, spell a game within 200 levels, and use names so.
 abbrev pub IsGameText : List Sign → Tree → Uses → Type 0
@@ -59,3 +62,23 @@ HasDepth n t = (most_depth < depth t) × (n ≡ capped (depth t))
 
 abbrev pub Takes : (limit live : ℕ) → ℕ → Tree → Type 0
 Takes limit live n t = (limit < live + n) × (n ≡ nodes_of t)
+
+-- The tokens spell a term, within 200 levels, in front of the rest, which begins with a token that may stand behind a term.
+pub record IsTermText (signs : List Sign) (t : Tree) (rest : List Sign) : Type 0 where
+  pub uses : Uses
+  pub spelled : SpellsWith heads rule term levels signs t uses rest
+  pub ends : next_is goes_on rest ≡ false
+
+-- The tokens, which begin at one of a text, spell a term up to the token `next`, and the pool has room for it.
+pub record SaysTerm (limit live from : ℕ) (signs : List Sign) (t : Tree) (next : ℕ) : Type 0 where
+  pub rest : List Sign
+  pub text : IsTermText signs t rest
+  pub at : next ≡ from + length signs - length rest
+  pub room : live + nodes_of t ≤ limit
+
+-- The tokens spell a term that takes so many nodes, for which the pool has no room.
+pub record IsLargeTerm (limit live : ℕ) (signs : List Sign) (need : ℕ) : Type 0 where
+  pub term : Tree
+  pub rest : List Sign
+  pub is : IsTermText signs term rest
+  pub large : Takes limit live need term

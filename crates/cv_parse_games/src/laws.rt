@@ -12,7 +12,7 @@ ghost use Rattle.cv_round_trip.specs.Levels.{term_levels};
 ghost use Rattle.cv_round_trip.specs.Signs.{term_signs};
 ghost use Rattle.cv_round_trip.specs.Written.{IsWritten};
 ghost use Rattle.cv_parse_games.specs.Games.{game_of, nodes_of};
-ghost use Rattle.cv_parse_games.specs.Says.{HasDepth, HasNodes, IsDeadGame, IsLargeGame, IsMisnamedGame, SaysGame, Takes};
+ghost use Rattle.cv_parse_games.specs.Says.{HasDepth, HasNodes, IsDeadGame, IsLargeGame, IsLargeTerm, IsMisnamedGame, SaysGame, SaysTerm, Takes};
 ghost use Rattle.cv_parse_games.specs.Terms.{goes_on, term_of};
 ghost use Rattle.cv_parse_games.specs.Texts.{IsGameBack, IsProperGame, IsProperTerm, IsTermBack};
 
@@ -36,6 +36,17 @@ pub fn reading_games_is_exact()
         game_of limit live ds signs ≡ Err (Build (Full need)) → IsLargeGame ds signs (Takes limit live need) }
     ensures memory { (limit live : ℕ) (ds : List Decl) (signs : List Sign) →
         game_of limit live ds signs ≢ Err (Build OutOfMemory) }
+{}
+
+/// What is computed of a term's tokens is what they say, and it is refused for want of room only where they spell a term
+/// for which the pool has none. A refusal for want of memory alone is never computed.
+pub fn reading_terms_is_exact()
+    ensures says { (limit live from : ℕ) (signs : List Sign) (t : Tree) (next : ℕ) →
+        term_of limit live from signs ≡ Ok (t, next) ↔ SaysTerm limit live from signs t next }
+    ensures full { (limit live from : ℕ) (signs : List Sign) (need : ℕ) →
+        term_of limit live from signs ≡ Err (Build (Full need)) → IsLargeTerm limit live signs need }
+    ensures memory { (limit live from : ℕ) (signs : List Sign) →
+        term_of limit live from signs ≢ Err (Build OutOfMemory) }
 {}
 
 /// The text of a game is read as the game, by the names that it is written with.

@@ -10,7 +10,7 @@ mod reading;
 mod terms;
 
 pub use games::game;
-pub use laws::{games_come_back, reading_games_is_exact, terms_come_back};
+pub use laws::{games_come_back, reading_games_is_exact, reading_terms_is_exact, terms_come_back};
 pub use terms::term;
 
 #[cfg(test)]

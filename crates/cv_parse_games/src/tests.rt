@@ -2,6 +2,8 @@
 
 ghost use Rattle.std.specs.Prelude.{◌<◌, IfOk, length};
 
+mod built;
+
 use crate::{game, term};
 use cv_lex::{Tokens, tokens};
 use cv_parse::{ParseError, file};
@@ -112,22 +114,6 @@ fn nothing_is_filled_in(rt: HostRuntime) -> Result<(), Fail> {
         work.decls.class(NameId(names.saturating_add(1))),
         Class::Free
     );
-    Ok(())
-}
-
-#[test]
-fn a_game_behind_a_step_comes_back(rt: HostRuntime) -> Result<(), Fail> {
-    let alloc = rt.alloc();
-    let found = tokens_in(&rt, alloc, AUTHENTICATION.as_bytes())?;
-    let mut work = Work::new(alloc, 1_000_000);
-    let _ = file(alloc, &mut work, &found)?;
-    expect_printed(&rt, alloc, &mut work, AUTHENTICATED, AUTHENTICATED)?;
-    let found = tokens_in(&rt, alloc, CHECKED.as_bytes())?;
-    assert!(rt; work.names.len() < 4_000_000_000);
-    assert!(rt; found.len() > 0);
-    let (root, _) = term(alloc, &mut work, &found, 0)?;
-    let printed = term_text(alloc, &work.pool, &work.names, root)?;
-    assert!(rt; printed.as_slice() == CHECKED.as_bytes());
     Ok(())
 }
 

@@ -1,0 +1,171 @@
+-- What stands above a place is known there.
+use Rattle.std.proofs.Common.{◌≡◌, ℕ, ◌+◌, ◌-◌, true, List, [], ◌∷◌, ◌++◌, Option, Some, None, refl, sym, ap, subst, ◌∙◌}
+use Rattle.std.specs.List.{AllByRecursion}
+use Rattle.cv_syntax.specs.declared.head.Head.{Head}
+use Rattle.cv_syntax.specs.declared.head.Head.TheVariants.{Repl, In, Event, New, Let, If, Branch, Cons, Not, Eq}
+use Rattle.cv_syntax.specs.Head.{weight}
+use Rattle.cv_syntax.specs.Tree.{Tree, Empty, Node, second, size}
+use Rattle.cv_meaning.specs.Interpretation.{Setting}
+use Rattle.cv_meaning.specs.Memory.{Memory, Indices}
+use Rattle.cv_meaning.specs.Terms.{value}
+use Rattle.cv_meaning.specs.Candidates.{is_assigned}
+use Rattle.cv_meaning.specs.Serving.{Visit}
+use Rattle.cv_scope.specs.declared.position.Position.{Position}
+use Rattle.cv_scope.specs.declared.position.Position.TheVariants.{Anywhere, Bodies, ElseBody, Guards, Guarded, Cells}
+use Rattle.cv_scope.specs.Context.{Context, cell_of, cells_of, context_at, first_context, first_position, items, known_at, nothing_known, second_context, second_position, with_cells, with_fact}
+use Rattle.cv_discipline.specs.Promises.{GrowsTo, ContextHolds, PlaceHolds}
+use Rattle.cv_path.specs.declared.place.Lies.{Lies}
+use Rattle.cv_path.specs.declared.place.Lies.TheVariants.{Here, Within, Behind}
+use Rattle.cv_path.specs.Places.{LiesAt}
+use Rattle.cv_path.proofs.Bounds.{lies-somewhere}
+use Rattle.cv_path.proofs.Going.{choice-here, choice-within, choice-behind, less-within, less-behind}
+use Rattle.cv_facts.specs.Standing.{with_held, with_failed, first_standing, second_standing, standing_at, stands_at}
+use Rattle.cv_facts.specs.Promises.{StandsIn, PlaceStands}
+use Rattle.cv_facts.proofs.Standings.{standing-here, standing-within, standing-behind}
+
+module _ {A : Type 0} (P : A → Type 0) where
+  front : (xs ys : List A) → AllByRecursion P (xs ++ ys) → AllByRecursion P xs
+  front [] ys a = tt
+  front (x ∷ xs) ys a = (a.0, front xs ys a.1)
+
+  back : (xs ys : List A) → AllByRecursion P (xs ++ ys) → AllByRecursion P ys
+  back [] ys a = a
+  back (x ∷ xs) ys a = back xs ys a.1
+
+  both : (xs ys : List A) → AllByRecursion P xs → AllByRecursion P ys → AllByRecursion P (xs ++ ys)
+  both [] ys a b = b
+  both (x ∷ xs) ys a b = (a.0, both xs ys a.1 b)
+
+module _ (w : Position) (Γ : Context) (h : Head) (a b : Tree) (p q : ℕ) where
+  known-here : LiesAt h a p Here → context_at w Γ (Node h a b) p ≡ Some Γ
+  unfolding context_at
+  known-here l = choice-here h a p (Some Γ) (context_at (first_position w h) (first_context w h Γ) a (p - weight h)) (context_at (second_position w h) (second_context w h a Γ) b (p - (weight h + size a))) l
+
+  known-within : LiesAt h a p (Within q) → context_at w Γ (Node h a b) p ≡ context_at (first_position w h) (first_context w h Γ) a q
+  unfolding context_at
+  known-within l =
+      choice-within h a p (Some Γ) (context_at (first_position w h) (first_context w h Γ) a (p - weight h)) (context_at (second_position w h) (second_context w h a Γ) b (p - (weight h + size a))) q l
+      ∙ ap (context_at (first_position w h) (first_context w h Γ) a) (less-within h a p q l)
+
+  known-behind : LiesAt h a p (Behind q) → context_at w Γ (Node h a b) p ≡ context_at (second_position w h) (second_context w h a Γ) b q
+  unfolding context_at
+  known-behind l =
+      choice-behind h a p (Some Γ) (context_at (first_position w h) (first_context w h Γ) a (p - weight h)) (context_at (second_position w h) (second_context w h a Γ) b (p - (weight h + size a))) q l
+      ∙ ap (context_at (second_position w h) (second_context w h a Γ) b) (less-behind h a p q l)
+
+module _ (P Q : Tree → Type 0) where
+  -- what is true of what is known is true of what stands above
+  record Covers (Γ Δ : Context) : Type 0 where
+    replications : Δ.replications ≡ Γ.replications
+    tested : Δ.tested ≡ Γ.tested
+    cells : AllByRecursion Q Γ.cells → AllByRecursion Q Δ.cells
+    own : AllByRecursion Q Γ.own → AllByRecursion Q Δ.own
+    facts : AllByRecursion P Γ.facts → AllByRecursion P Δ.facts
+
+  same-covers : (Γ : Context) → Covers Γ Γ
+  same-covers Γ = record { replications = refl; tested = refl; cells = λ a. a; own = λ a. a; facts = λ a. a }
+
+  more-cells : (Γ Δ : Context) (cs ds : List Tree) → ds ≡ cs → Covers Γ Δ → Covers (with_cells Γ cs) (with_cells Δ ds)
+  more-cells Γ Δ cs ds e c = record {
+    replications = c.replications;
+    tested = c.tested;
+    cells = λ a. both Q Δ.cells ds (c.cells (front Q Γ.cells cs a)) (subst (AllByRecursion Q) (sym e) (back Q Γ.cells cs a));
+    own = c.own;
+    facts = c.facts;
+  }
+
+  more-facts : (Γ Δ : Context) (f k : Tree) → k ≡ f → Covers Γ Δ → Covers (with_fact Γ f) (with_fact Δ k)
+  more-facts Γ Δ f k e c = record {
+    replications = c.replications;
+    tested = c.tested;
+    cells = c.cells;
+    own = c.own;
+    facts = λ a. both P Δ.facts (k ∷ []) (c.facts (front P Γ.facts (f ∷ []) a)) (subst (AllByRecursion P) (ap (λ t. t ∷ []) (sym e)) (back P Γ.facts (f ∷ []) a));
+  }
+
+  fewer-facts : (Γ Δ : Context) (f : Tree) → Covers Γ Δ → Covers (with_fact Γ f) Δ
+  fewer-facts Γ Δ f c = record { replications = c.replications; tested = c.tested; cells = c.cells; own = c.own; facts = λ a. c.facts (front P Γ.facts (f ∷ []) a) }
+
+  fewer-cells : (Γ Δ : Context) (cs : List Tree) → Covers Γ Δ → Covers (with_cells Γ cs) Δ
+  fewer-cells Γ Δ cs c = record { replications = c.replications; tested = c.tested; cells = λ a. c.cells (front Q Γ.cells cs a); own = c.own; facts = c.facts }
+
+  held : (Γ Δ : Context) (f k : Tree) → k ≡ f → Covers Γ Δ → Covers (with_fact Γ f) (with_held Δ k)
+  held Γ Δ f Empty e c = fewer-facts Γ Δ f c
+  held Γ Δ f (Node h a b) e c = more-facts Γ Δ f (Node h a b) e c
+
+  failed : (Γ Δ : Context) (f k : Tree) → k ≡ f → Covers Γ Δ → Covers (with_fact Γ (Node Not f Empty)) (with_failed Δ k)
+  failed Γ Δ f Empty e c = fewer-facts Γ Δ (Node Not f Empty) c
+  failed Γ Δ f (Node h a b) e c = more-facts Γ Δ (Node Not f Empty) (Node Not (Node h a b) Empty) (ap (λ t. Node Not t Empty) e) c
+
+  own-over : (Γ Δ : Context) → Covers Γ Δ → Covers (record Γ { cells = Γ.cells ++ Γ.own; own = [] }) (record Δ { cells = Δ.cells ++ Δ.own; own = [] })
+  own-over Γ Δ c = record {
+    replications = c.replications;
+    tested = c.tested;
+    cells = λ a. both Q Δ.cells Δ.own (c.cells (front Q Γ.cells Γ.own a)) (c.own (back Q Γ.cells Γ.own a));
+    own = λ a. a;
+    facts = c.facts;
+  }
+
+  first-covers : (w : Position) (h : Head) (Γ Δ : Context) → Covers Γ Δ → Covers (first_context w h Γ) (first_standing w h Δ)
+  first-covers Bodies Cons Γ Δ c = held Γ Δ Γ.tested Δ.tested c.tested c
+  first-covers ElseBody Cons Γ Δ c = failed Γ Δ Γ.tested Δ.tested c.tested c
+  first-covers w Cons Γ Δ c = c
+  first-covers w h Γ Δ c = c
+
+  second-covers : (w : Position) (h : Head) (a : Tree) (Γ Δ : Context) → Covers Γ Δ → Covers (second_context w h a Γ) (second_standing w h a Δ)
+  second-covers Guards Cons a Γ Δ c = more-cells Γ Δ (items a) (items a) refl c
+  second-covers Guarded Cons a Γ Δ c = held (record Γ { cells = Γ.cells ++ Γ.own; own = [] }) (record Δ { cells = Δ.cells ++ Δ.own; own = [] }) a a refl (own-over Γ Δ c)
+  second-covers Cells Cons a Γ Δ c = fewer-cells Γ Δ (a ∷ []) c
+  second-covers w Cons a Γ Δ c = c
+  second-covers w (Repl i n) a Γ Δ c = record { replications = ap (λ rs. rs ++ (i, n) ∷ []) c.replications; tested = c.tested; cells = c.cells; own = c.own; facts = c.facts }
+  second-covers w (In d) a Γ Δ c = more-cells Γ Δ (cells_of Γ.replications (second a)) (cells_of Δ.replications (second a)) (ap (λ rs. cells_of rs (second a)) c.replications) c
+  second-covers w (New x T) a Γ Δ c = more-cells Γ Δ (cell_of Γ.replications x ∷ []) (cell_of Δ.replications x ∷ []) (ap (λ rs. cell_of rs x ∷ []) c.replications) c
+  second-covers w (Let x T) a Γ Δ c =
+      more-facts (with_cells Γ (cell_of Γ.replications x ∷ [])) (with_cells Δ (cell_of Δ.replications x ∷ [])) (Node Eq (cell_of Γ.replications x) a) (Node Eq (cell_of Δ.replications x) a) (ap (λ rs. Node Eq (cell_of rs x) a) c.replications)
+      (more-cells Γ Δ (cell_of Γ.replications x ∷ []) (cell_of Δ.replications x ∷ []) (ap (λ rs. cell_of rs x ∷ []) c.replications) c)
+  second-covers w (Event e) a Γ Δ c = record { replications = c.replications; tested = c.tested; cells = c.cells; own = c.own; facts = c.facts }
+  second-covers w If a Γ Δ c = record { replications = c.replications; tested = refl; cells = c.cells; own = c.own; facts = c.facts }
+  second-covers w Branch a Γ Δ c = record { replications = c.replications; tested = c.tested; cells = c.cells; own = λ o. subst (AllByRecursion Q) (ap (λ rs. cells_of rs a) (sym c.replications)) (back Q Γ.own (cells_of Γ.replications a) o); facts = c.facts }
+  second-covers w h a Γ Δ c = c
+
+  abbrev Covered : Option Context → Option Context → Type 0
+  Covered o u = (Γ : Context) → o ≡ Some Γ → (Δ : Context) × (u ≡ Some Δ) × Covers Γ Δ
+
+  covers-at : (w : Position) (Γ Δ : Context) (t : Tree) (p : ℕ) → Covers Γ Δ → Covered (context_at w Γ t p) (standing_at w Δ t p)
+  unfolding context_at
+  covers-at w Γ Δ Empty p c = λ Θ e. absurd (clash Θ e)
+    where
+      clash : (Θ : Context) → None ≡ Some Θ → ⊥
+      clash Θ x = cc
+  covers-at w Γ Δ (Node h a b) p c =
+      go (λ q. covers-at (first_position w h) (first_context w h Γ) (first_standing w h Δ) a q (first-covers w h Γ Δ c)) (λ q. covers-at (second_position w h) (second_context w h a Γ) (second_standing w h a Δ) b q (second-covers w h a Γ Δ c)) (lies-somewhere h a p)
+    where
+      go : ((q : ℕ) → Covered (context_at (first_position w h) (first_context w h Γ) a q) (standing_at (first_position w h) (first_standing w h Δ) a q)) → ((q : ℕ) → Covered (context_at (second_position w h) (second_context w h a Γ) b q) (standing_at (second_position w h) (second_standing w h a Δ) b q)) → (l : Lies) × LiesAt h a p l → Covered (context_at w Γ (Node h a b) p) (standing_at w Δ (Node h a b) p)
+      go f g (Here, l) = λ Θ e. (Δ, standing-here w Δ (Node h a b) h a b p 0 refl l, subst (λ (x : Context). Covers x Δ) (let z = sym (known-here w Γ h a b p 0 l) ∙ e in cc) c)
+      go f g (Within q, l) = λ Θ e. let r = f q Θ (sym (known-within w Γ h a b p q l) ∙ e) in (r.0, standing-within w Δ (Node h a b) h a b p q refl l ∙ r.1, r.2)
+      go f g (Behind q, l) = λ Θ e. let r = g q Θ (sym (known-behind w Γ h a b p q l) ∙ e) in (r.0, standing-behind w Δ (Node h a b) h a b p q refl l ∙ r.1, r.2)
+
+-- what is known at a visited place holds, so what stands above it does
+place-stands : (g : Setting) (game : Tree) (v : Visit) → PlaceHolds g game v → PlaceStands g game v
+place-stands g game v holds = λ s. stands (holds s)
+  where
+    at : Indices
+    at = v.before.indices
+
+    stands : (Γ : Context) × (known_at game v.place ≡ Some Γ) × ((y : Memory) → GrowsTo v.before.memory y → ContextHolds g Γ at y) → (Δ : Context) × (stands_at game v.place ≡ Some Δ) × ((y : Memory) → GrowsTo v.before.memory y → StandsIn g Δ at y)
+    stands k =
+        let first = covers-at (λ f. Unit {0}) (λ c. Unit {0}) Anywhere nothing_known nothing_known game v.place (same-covers (λ f. Unit {0}) (λ c. Unit {0}) nothing_known) k.0 k.1 in (
+          first.0,
+          first.1,
+          λ y grown.
+              let P = λ (f : Tree). value g at y.store f ≡ 1 in
+              let Q = λ (c : Tree). is_assigned g at y.store y.store c ≡ true in
+              let r = covers-at P Q Anywhere nothing_known nothing_known game v.place (same-covers P Q nothing_known) k.0 k.1 in
+              let same : r.0 ≡ first.0 = let z = sym r.1 ∙ first.1 in cc in
+              let h = k.2 y grown in
+              subst (λ (Δ : Context). StandsIn g Δ at y) same (record { cells = r.2.cells h.cells; facts = r.2.facts h.facts }),
+        )
+
+pub places-stand : (g : Setting) (game : Tree) (vs : List Visit) → AllByRecursion (PlaceHolds g game) vs → AllByRecursion (PlaceStands g game) vs
+places-stand g game [] a = tt
+places-stand g game (v ∷ vs) a = (place-stands g game v a.0, places-stand g game vs a.1)

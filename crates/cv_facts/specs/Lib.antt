@@ -1,0 +1,5 @@
+pub mod Definitions
+pub mod Facts
+pub mod Promises
+pub mod Standing
+pub mod Walks

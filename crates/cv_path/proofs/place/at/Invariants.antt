@@ -1,0 +1,15 @@
+use Rattle.std.proofs.Common.{◌≡◌, ◌+◌, ◌≤◌, Some}
+use Rattle.cv_pool.specs.Nodes.{ChildBelow}
+use Rattle.cv_syntax.specs.Tree.{size, subtree, tree_at}
+use Rattle.cv_syntax.specs.Walks.{above}
+use Rattle.cv_path.proofs.place.at.Given as goal
+
+abbrev pub invariant-down : goal.invariant-down
+invariant-down l = record {
+  live : ChildBelow (l.fn.root.0 + 1) l.at;
+  within : size (tree_at l.pool.trees l.at) ≤ size (tree_at l.pool.trees (Some l.fn.root));
+  same : subtree (tree_at l.pool.trees l.at) l.left ≡ subtree (tree_at l.pool.trees (Some l.fn.root)) l.fn.place;
+}
+
+abbrev pub decreases-down : goal.decreases-down
+decreases-down l = above l.at

@@ -1,0 +1,18 @@
+use Rattle.std.proofs.Common.{◌≡◌, ◌<◌, ◌≤◌, Some, length}
+use Rattle.std.specs.Prelude.{All}
+use Rattle.cv_pool.specs.PoolView.{Grows}
+use Rattle.cv_syntax.specs.Tree.{tree_at}
+use Rattle.cv_path.specs.Ways.{led}
+use Rattle.cv_path.proofs.replacing.rebuilt.Given as goal
+
+abbrev pub invariant-up : goal.invariant-up
+invariant-up l = record {
+  tree : led l.fn.pool.trees l.left.items (tree_at l.pool.trees (Some l.new)) ≡ led l.fn.pool.trees l.fn.way.items (tree_at l.fn.pool.trees (Some l.fn.by));
+  live : l.new.0 < length l.pool.trees;
+  grows : Grows l.fn.pool l.pool;
+  spare : length l.left.items ≤ l.pool.spare;
+  nodes : All (λ t. t.node.0 < length l.fn.pool.trees) l.left.items;
+}
+
+abbrev pub decreases-up : goal.decreases-up
+decreases-up l = length l.left.items

@@ -1,0 +1,5 @@
+pub mod Copies
+pub mod Places
+pub mod Refusals
+pub mod Ways
+pub mod Worked

@@ -1,0 +1,150 @@
+ghost use Rattle.std.specs.Prelude.{◌≡◌, ◌+◌, ◌<◌, ◌≤◌, ◌^◌, ◌⊎◌, ◌++◌, ◌∷◌, [], All, IfErr, IfOk, IsErrOf, None, OnErr, OnOk, Some, length};
+ghost use Rattle.cv_pool.specs.Nodes.{ChildBelow};
+ghost use Rattle.cv_pool.specs.PoolView.{Grows};
+ghost use Rattle.cv_syntax.specs.Tree.{Node, size, tree_at};
+ghost use Rattle.cv_runs.specs.Replacement.{replaced};
+ghost use Rattle.cv_path.specs.Places.{nodes_above};
+ghost use Rattle.cv_path.specs.Refusals.{no_memory, refusal};
+ghost use Rattle.cv_path.specs.Ways.{led, turned};
+
+use crate::error::{PathError, no_room};
+use crate::place::{Lies, place_in};
+use cv_pool::{NodeId, Pool};
+use cv_syntax::{BuildError, Head, read_node};
+use std::alloc::Global;
+
+/// A node above a place, and whether the way goes on through its second child.
+#[derive(Clone, Copy, Debug)]
+pub(crate) struct Turn {
+    pub(crate) node: NodeId,
+    pub(crate) second: bool,
+}
+
+/// Adds a node to a way.
+fn push(way: &mut Vec<Turn>, node: NodeId, second: bool) -> Result<(), PathError>
+    ensures ok { OnOk result (way.new.items ≡ way.old.items ++ record { node = node; second = second } ∷ []) }
+    ensures err { IfErr result (λ e. e ≡ no_memory) }
+{
+    match way.push(Turn { node, second }) {
+        Ok(()) => Ok(()),
+        Err(_) => Err(PathError::Build(BuildError::OutOfMemory)),
+    }
+}
+
+/// The way down to a place, where the node `by` is to stand.
+#[tactic(auto, using(crate::proofs::Going::going))]
+fn way_to(
+    alloc: Global,
+    pool: &Pool,
+    root: NodeId,
+    place: u32,
+    by: NodeId,
+) -> Result<Vec<Turn>, PathError>
+    requires live { root.0 < length pool.now.trees }
+    requires fits { size (tree_at pool.now.trees (Some root)) < 2 ^ 32 }
+    ensures leads { IfOk result (λ way. led pool.now.trees way.items (tree_at pool.now.trees (Some by)) ≡ replaced (tree_at pool.now.trees (Some root)) place (tree_at pool.now.trees (Some by))) }
+    ensures few { IfOk result (λ way. length way.items ≤ root.0) }
+    ensures long { IfOk result (λ way. length way.items ≡ nodes_above (tree_at pool.now.trees (Some root)) place) }
+    ensures live { IfOk result (λ way. All (λ t. t.node.0 < length pool.now.trees) way.items) }
+    ensures place { OnOk result (place < size (tree_at pool.now.trees (Some root))) }
+    ensures refused { (e : PathError) → IsErrOf result e → (e ≡ no_memory) ⊎ ((e ≡ PathError.NoSuchPlace) × (size (tree_at pool.now.trees (Some root)) ≤ place)) }
+{
+    let mut way = Vec::new(alloc);
+    let mut at = Some(root);
+    let mut left = place;
+    'down: while let Some(n) = at {
+        let node = read_node(pool, n);
+        match place_in(pool, node, left) {
+            Lies::Here => return Ok(way),
+            Lies::Within(rest) => {
+                push(&mut way, n, false)?;
+                at = node.first;
+                left = rest;
+            }
+            Lies::Behind(rest) => {
+                push(&mut way, n, true)?;
+                at = node.second;
+                left = rest;
+            }
+        }
+    }
+    Err(PathError::NoSuchPlace)
+}
+
+/// A node over two children.
+#[tactic(auto, using(cv_pool::proofs::Growth::growth))]
+fn join(pool: &mut Pool, head: Head, first: Option<NodeId>, second: Option<NodeId>) -> NodeId
+    requires spare { 0 < pool.old.spare }
+    requires first { ChildBelow (length pool.old.trees) first }
+    requires second { ChildBelow (length pool.old.trees) second }
+    ensures tree { tree_at pool.new.trees (Some result) ≡ Node head (tree_at pool.old.trees first) (tree_at pool.old.trees second) }
+    ensures live { result.0 < length pool.new.trees }
+    ensures grows { Grows pool.old pool.new }
+    ensures spare { pool.old.spare ≤ pool.new.spare + 1 }
+{
+    pool.node(head.kind(), first, second)
+}
+
+/// A node of a way once more, with another child.
+#[tactic(auto, using(cv_pool::proofs::Growth::growth, crate::proofs::Going::turning))]
+fn turned(pool: &mut Pool, turn: Turn, new: NodeId) -> NodeId
+    requires spare { 0 < pool.old.spare }
+    requires node { turn.node.0 < length pool.old.trees }
+    requires new { new.0 < length pool.old.trees }
+    ensures tree { tree_at pool.new.trees (Some result) ≡ turned turn.second (tree_at pool.old.trees (Some turn.node)) (tree_at pool.old.trees (Some new)) }
+    ensures live { result.0 < length pool.new.trees }
+    ensures grows { Grows pool.old pool.new }
+    ensures spare { pool.old.spare ≤ pool.new.spare + 1 }
+{
+    let node = read_node(pool, turn.node);
+    if turn.second {
+        join(pool, node.head, node.first, Some(new))
+    } else {
+        join(pool, node.head, Some(new), node.second)
+    }
+}
+
+/// The nodes of a way once more, with another node at its end.
+#[tactic(auto, using(cv_pool::proofs::Growth::growth))]
+fn rebuilt(pool: &mut Pool, way: Vec<Turn>, by: NodeId) -> NodeId
+    requires spare { length way.items ≤ pool.old.spare }
+    requires way { All (λ t. t.node.0 < length pool.old.trees) way.items }
+    requires by { by.0 < length pool.old.trees }
+    ensures tree { tree_at pool.new.trees (Some result) ≡ led pool.old.trees way.items (tree_at pool.old.trees (Some by)) }
+    ensures live { result.0 < length pool.new.trees }
+    ensures grows { Grows pool.old pool.new }
+{
+    let mut left = way;
+    let mut new = by;
+    'up: while let Some(turn) = left.pop() {
+        new = turned(pool, turn, new);
+    }
+    new
+}
+
+/// The tree with another subtree at a place. Only the nodes above the place are new.
+#[tactic(auto, using(crate::proofs::Going::going))]
+pub fn replace(
+    alloc: Global,
+    pool: &mut Pool,
+    root: NodeId,
+    place: u32,
+    by: NodeId,
+) -> Result<NodeId, PathError>
+    requires live { root.0 < length pool.old.trees }
+    requires by { by.0 < length pool.old.trees }
+    requires fits { size (tree_at pool.old.trees (Some root)) < 2 ^ 32 }
+    ensures tree { IfOk result (λ n. tree_at pool.new.trees (Some n) ≡ replaced (tree_at pool.old.trees (Some root)) place (tree_at pool.old.trees (Some by))) }
+    ensures live { IfOk result (λ n. n.0 < length pool.new.trees) }
+    ensures grows { OnOk result (Grows pool.old pool.new) }
+    ensures accepted { OnOk result (refusal pool.old (tree_at pool.old.trees (Some root)) place ≡ None) }
+    ensures refused { (e : PathError) → IsErrOf result e → (e ≡ no_memory) ⊎ (refusal pool.old (tree_at pool.old.trees (Some root)) place ≡ Some e) }
+    ensures kept { OnErr result (pool.new.trees ≡ pool.old.trees) }
+    ensures limit { pool.new.limit ≡ pool.old.limit }
+{
+    let way = way_to(alloc, pool, root, place, by)?;
+    match pool.reserve(way.len() as u32) {
+        Ok(()) => Ok(rebuilt(pool, way, by)),
+        Err(fault) => Err(no_room(fault)),
+    }
+}
