@@ -1,6 +1,6 @@
 ghost use Rattle.std.specs.Prelude.{◌≡◌, ◌&&◌, length};
 ghost use Rattle.cv_pool.specs.Nodes.{ChildBelow};
-ghost use Rattle.cv_syntax.specs.Tree.{same_tree, tree_at};
+ghost use Rattle.cv_syntax.specs.Tree.{tree_at};
 ghost use Rattle.cv_meaning.specs.Correspondences as names;
 ghost use Rattle.cv_meaning.specs.Correspondences.{leaf_names};
 ghost use Rattle.cv_direct.specs.Search as search_specs;
@@ -9,6 +9,7 @@ ghost use Rattle.cv_meaning.specs.Direct.{argument};
 ghost use Rattle.cv_direct.specs.Found.{term_stands, terms_stand};
 ghost use Rattle.cv_direct.specs.Variables.{is_outside};
 
+use cv_path::same;
 use cv_syntax::{Head, NodeId, Opened, Pool, read_node};
 use std::collections::HashSet;
 
@@ -33,33 +34,6 @@ fn is_empty(pool: &Pool, tree: Option<NodeId>) -> bool
         }
         None => true,
     }
-}
-
-/// Whether two trees are the same.
-#[tactic(auto, using(crate::proofs::Matching::instance_laws))]
-pub(crate) fn same(pool: &Pool, left: Option<NodeId>, right: Option<NodeId>) -> bool
-    requires left { ChildBelow (length pool.now.trees) left }
-    requires right { ChildBelow (length pool.now.trees) right }
-    ensures { result ≡ same_tree (tree_at pool.now.trees left) (tree_at pool.now.trees right) }
-{
-    let mut p = left;
-    let mut q = right;
-    'chain: while let Some(m) = p {
-        let x = read_node(pool, m);
-        let Some(n) = q else {
-            return false;
-        };
-        let y = read_node(pool, n);
-        if x.head.kind() != y.head.kind() {
-            return false;
-        }
-        if !same(pool, x.first, y.first) {
-            return false;
-        }
-        p = x.second;
-        q = y.second;
-    }
-    is_empty(pool, q)
 }
 
 /// The variable that a node is, or 0.

@@ -2,25 +2,26 @@
 use Rattle.std.proofs.Common.{◌≡◌, ℕ, ◌+◌, ◌-◌, true, List, [], ◌∷◌, ◌++◌, Option, Some, None, refl, sym, ap, subst, ◌∙◌}
 use Rattle.std.specs.List.{AllByRecursion}
 use Rattle.cv_syntax.specs.declared.head.Head.{Head}
-use Rattle.cv_syntax.specs.declared.head.Head.TheVariants.{Repl, In, Event, New, Let, If, Branch, Cons, Not, Eq}
+use Rattle.cv_syntax.specs.declared.head.Head.TheVariants.{Repl, In, Event, New, Let, If, Find, Branch, Cons, Not, Eq}
 use Rattle.cv_syntax.specs.Head.{weight}
-use Rattle.cv_syntax.specs.Tree.{Tree, Empty, Node, second, size}
+use Rattle.cv_syntax.specs.Tree.{Tree, Empty, Node, first, second, size}
 use Rattle.cv_meaning.specs.Interpretation.{Setting}
-use Rattle.cv_meaning.specs.Memory.{Memory, Indices}
+use Rattle.cv_meaning.specs.Binders.{bound_to}
+use Rattle.cv_meaning.specs.Memory.{Memory, Indices, Local, Store, tuple}
 use Rattle.cv_meaning.specs.Terms.{value}
 use Rattle.cv_meaning.specs.Candidates.{is_assigned}
 use Rattle.cv_meaning.specs.Serving.{Visit}
 use Rattle.cv_scope.specs.declared.position.Position.{Position}
 use Rattle.cv_scope.specs.declared.position.Position.TheVariants.{Anywhere, Bodies, ElseBody, Guards, Guarded, Cells}
 use Rattle.cv_scope.specs.Context.{Context, cell_of, cells_of, context_at, first_context, first_position, items, known_at, nothing_known, second_context, second_position, with_cells, with_fact}
-use Rattle.cv_discipline.specs.Promises.{GrowsTo, ContextHolds, PlaceHolds}
+use Rattle.cv_discipline.specs.Promises.{GrowsTo, BranchHolds, BranchesHold, CandidatesHold, ContextHolds, FindHolds, PlaceHolds}
 use Rattle.cv_path.specs.declared.place.Lies.{Lies}
 use Rattle.cv_path.specs.declared.place.Lies.TheVariants.{Here, Within, Behind}
 use Rattle.cv_path.specs.Places.{LiesAt}
 use Rattle.cv_path.proofs.Bounds.{lies-somewhere}
 use Rattle.cv_path.proofs.Going.{choice-here, choice-within, choice-behind, less-within, less-behind}
 use Rattle.cv_facts.specs.Standing.{with_held, with_failed, first_standing, second_standing, standing_at, stands_at}
-use Rattle.cv_facts.specs.Promises.{StandsIn, PlaceStands}
+use Rattle.cv_facts.specs.Promises.{BranchStands, BranchesStand, CandidatesStand, FindStands, StandsIn, PlaceStands}
 use Rattle.cv_facts.proofs.Standings.{standing-here, standing-within, standing-behind}
 
 module _ {A : Type 0} (P : A → Type 0) where
@@ -55,14 +56,14 @@ module _ (w : Position) (Γ : Context) (h : Head) (a b : Tree) (p q : ℕ) where
 
 module _ (P Q : Tree → Type 0) where
   -- what is true of what is known is true of what stands above
-  record Covers (Γ Δ : Context) : Type 0 where
-    replications : Δ.replications ≡ Γ.replications
-    tested : Δ.tested ≡ Γ.tested
-    cells : AllByRecursion Q Γ.cells → AllByRecursion Q Δ.cells
-    own : AllByRecursion Q Γ.own → AllByRecursion Q Δ.own
-    facts : AllByRecursion P Γ.facts → AllByRecursion P Δ.facts
+  pub record Covers (Γ Δ : Context) : Type 0 where
+    pub replications : Δ.replications ≡ Γ.replications
+    pub tested : Δ.tested ≡ Γ.tested
+    pub cells : AllByRecursion Q Γ.cells → AllByRecursion Q Δ.cells
+    pub own : AllByRecursion Q Γ.own → AllByRecursion Q Δ.own
+    pub facts : AllByRecursion P Γ.facts → AllByRecursion P Δ.facts
 
-  same-covers : (Γ : Context) → Covers Γ Γ
+  pub same-covers : (Γ : Context) → Covers Γ Γ
   same-covers Γ = record { replications = refl; tested = refl; cells = λ a. a; own = λ a. a; facts = λ a. a }
 
   more-cells : (Γ Δ : Context) (cs ds : List Tree) → ds ≡ cs → Covers Γ Δ → Covers (with_cells Γ cs) (with_cells Δ ds)
@@ -106,18 +107,18 @@ module _ (P Q : Tree → Type 0) where
     facts = c.facts;
   }
 
-  first-covers : (w : Position) (h : Head) (Γ Δ : Context) → Covers Γ Δ → Covers (first_context w h Γ) (first_standing w h Δ)
+  pub first-covers : (w : Position) (h : Head) (Γ Δ : Context) → Covers Γ Δ → Covers (first_context w h Γ) (first_standing w h Δ)
   first-covers Bodies Cons Γ Δ c = held Γ Δ Γ.tested Δ.tested c.tested c
   first-covers ElseBody Cons Γ Δ c = failed Γ Δ Γ.tested Δ.tested c.tested c
   first-covers w Cons Γ Δ c = c
   first-covers w h Γ Δ c = c
 
-  second-covers : (w : Position) (h : Head) (a : Tree) (Γ Δ : Context) → Covers Γ Δ → Covers (second_context w h a Γ) (second_standing w h a Δ)
+  pub second-covers : (w : Position) (h : Head) (a : Tree) (Γ Δ : Context) → Covers Γ Δ → Covers (second_context w h a Γ) (second_standing w h a Δ)
   second-covers Guards Cons a Γ Δ c = more-cells Γ Δ (items a) (items a) refl c
   second-covers Guarded Cons a Γ Δ c = held (record Γ { cells = Γ.cells ++ Γ.own; own = [] }) (record Δ { cells = Δ.cells ++ Δ.own; own = [] }) a a refl (own-over Γ Δ c)
   second-covers Cells Cons a Γ Δ c = fewer-cells Γ Δ (a ∷ []) c
   second-covers w Cons a Γ Δ c = c
-  second-covers w (Repl i n) a Γ Δ c = record { replications = ap (λ rs. rs ++ (i, n) ∷ []) c.replications; tested = c.tested; cells = c.cells; own = c.own; facts = c.facts }
+  second-covers w (Repl i n) a Γ Δ c = record { replications = ap (λ rs. rs ++ (i, n) ∷ []) c.replications; tested = c.tested; cells = c.cells; own = λ o. tt; facts = c.facts }
   second-covers w (In d) a Γ Δ c = more-cells Γ Δ (cells_of Γ.replications (second a)) (cells_of Δ.replications (second a)) (ap (λ rs. cells_of rs (second a)) c.replications) c
   second-covers w (New x T) a Γ Δ c = more-cells Γ Δ (cell_of Γ.replications x ∷ []) (cell_of Δ.replications x ∷ []) (ap (λ rs. cell_of rs x ∷ []) c.replications) c
   second-covers w (Let x T) a Γ Δ c =
@@ -169,3 +170,53 @@ place-stands g game v holds = λ s. stands (holds s)
 pub places-stand : (g : Setting) (game : Tree) (vs : List Visit) → AllByRecursion (PlaceHolds g game) vs → AllByRecursion (PlaceStands g game) vs
 places-stand g game [] a = tt
 places-stand g game (v ∷ vs) a = (place-stands g game v a.0, places-stand g game vs a.1)
+
+-- what is known in the branches of a visited `find` holds, so what stands there does
+
+pub stands-in : (g : Setting) (Γ Δ : Context) (at : Indices) (y : Memory) → Covers (λ f. value g at y.store f ≡ 1) (λ c. is_assigned g at y.store y.store c ≡ true) Γ Δ → ContextHolds g Γ at y → StandsIn g Δ at y
+stands-in g Γ Δ at y c h = record { cells = c.cells h.cells; facts = c.facts h.facts }
+
+module _ (g : Setting) (game : Tree) (p : ℕ) (Γ Δ : Context) (known : known_at game p ≡ Some Γ) (stands : stands_at game p ≡ Some Δ) where
+  covered : (P Q : Tree → Type 0) → Covers P Q Γ Δ
+  covered P Q =
+      let r = covers-at P Q Anywhere nothing_known nothing_known game p (same-covers P Q nothing_known) Γ known in
+      let same : r.0 ≡ Δ = let z = sym r.1 ∙ stands in cc in
+      subst (Covers P Q Γ) same r.2
+
+  branch-stands : (at : Indices) (x : Memory) (n : Store) (u : List ℕ) (us rest : Tree) → BranchHolds g Γ at x n u us rest → BranchStands g Δ at x n us rest
+  branch-stands at x n u us rest h =
+      let P = λ (f : Tree). value g at n f ≡ 1 in
+      let Q = λ (c : Tree). is_assigned g at n n c ≡ true in
+      let y = with-store x n in
+      let l = second-covers P Q Anywhere Branch us Γ Δ (covered P Q) in
+      let c = second-covers P Q Guards Cons (first rest) (second_context Anywhere Branch us Γ) (second_standing Anywhere Branch us Δ) l in
+      let b = second-covers P Q Guarded Cons (first (second rest)) (second_context Guards Cons (first rest) (second_context Anywhere Branch us Γ)) (second_standing Guards Cons (first rest) (second_standing Anywhere Branch us Δ)) c in
+      record {
+        list = stands-in g (second_context Anywhere Branch us Γ) (second_standing Anywhere Branch us Δ) at y l h.list;
+        condition = λ a. stands-in g _ _ at y c (h.condition a);
+        body = λ a. stands-in g _ _ at y b (h.body a);
+      }
+    where
+      with-store : Memory → Store → Memory
+      with-store x n = record x { store = n }
+
+  branches-stand : (at : Indices) (x : Memory) (t : Tree) → BranchesHold g Γ at x t → BranchesStand g Δ at x t
+  branches-stand at x Empty h = tt
+  branches-stand at x (Node k branch more) h = ((λ u f. branch-stands at x (bound_to x.store (tuple at) (first branch) u) u (first branch) (second branch) (h.0 u f)), branches-stand at x more h.1)
+
+  find-stands : (s : Local) (t : Tree) → FindHolds g Γ s t → FindStands g Δ s t
+  find-stands s Empty h = tt
+  find-stands s (Node (Find l) a b) h = branches-stand s.indices s.memory a h
+  find-stands s (Node k a b) h = tt
+
+candidates-stand : (g : Setting) (game : Tree) (v : Visit) → PlaceHolds g game v → CandidatesHold g game v → CandidatesStand g game v
+candidates-stand g game v place holds = λ s. stands (place s)
+  where
+    stands : (Γ : Context) × (known_at game v.place ≡ Some Γ) × ((y : Memory) → GrowsTo v.before.memory y → ContextHolds g Γ v.before.indices y) → (Δ : Context) × (stands_at game v.place ≡ Some Δ) × FindStands g Δ v.before v.tree
+    stands k =
+        let first = covers-at (λ f. Unit {0}) (λ c. Unit {0}) Anywhere nothing_known nothing_known game v.place (same-covers (λ f. Unit {0}) (λ c. Unit {0}) nothing_known) k.0 k.1 in
+        (first.0, first.1, find-stands g game v.place k.0 first.0 k.1 first.1 v.before v.tree (holds k.0 k.1))
+
+pub all-candidates-stand : (g : Setting) (game : Tree) (vs : List Visit) → AllByRecursion (PlaceHolds g game) vs → AllByRecursion (CandidatesHold g game) vs → AllByRecursion (CandidatesStand g game) vs
+all-candidates-stand g game [] a b = tt
+all-candidates-stand g game (v ∷ vs) a b = (candidates-stand g game v a.0 b.0, all-candidates-stand g game vs a.1 b.1)

@@ -1,3 +1,6 @@
+mod Comparing
 mod Covering
+mod Looking
+mod SitesStanding
 mod Sitings
 mod Standings

@@ -1,16 +1,23 @@
 -- What stands above a visited place holds there. This profile's own; Blanchet, TDSC 2008, for facts at a place of a game.
-use Rattle.std.specs.Prelude.{◌≡◌, true, Some}
+use Rattle.std.specs.Prelude.{◌≡◌, ℕ, true, if◌then◌else◌, List, [], ◌∷◌, ◌++◌, Some}
 use Rattle.std.specs.List.{AllByRecursion}
+use Rattle.cv_syntax.specs.declared.head.Head.{Head}
+use Rattle.cv_syntax.specs.declared.head.Head.TheVariants.{Branch, Cons, Find}
 use Rattle.cv_syntax.specs.Layouts.{IsSyntax}
-use Rattle.cv_syntax.specs.Tree.{Tree}
+use Rattle.cv_syntax.specs.Tree.{Tree, Empty, Node, first, first_place, second, second_place}
 use Rattle.cv_meaning.specs.Interpretation.{Setting}
-use Rattle.cv_meaning.specs.Memory.{Memory, Indices}
+use Rattle.cv_meaning.specs.Binders.{bound_to, fits}
+use Rattle.cv_meaning.specs.Memory.{Memory, Indices, Local, Store, tuple}
 use Rattle.cv_meaning.specs.Terms.{value}
-use Rattle.cv_meaning.specs.Candidates.{is_assigned}
+use Rattle.cv_meaning.specs.Candidates.{are_assigned, is_assigned, is_candidate}
 use Rattle.cv_meaning.specs.Serving.{Visit}
-use Rattle.cv_scope.specs.Context.{Context}
+use Rattle.cv_scope.specs.declared.position.Position.{Position}
+use Rattle.cv_scope.specs.declared.position.Position.TheVariants as position
+use Rattle.cv_scope.specs.Context.{Context, first_position, nothing_known, second_position}
+use Rattle.cv_scope.specs.Sites.{Variable}
+use Rattle.cv_discipline.specs.Made.{made_by}
 use Rattle.cv_discipline.specs.Promises.{GrowsTo}
-use Rattle.cv_facts.specs.Standing.{stands_at}
+use Rattle.cv_facts.specs.Standing.{first_standing, second_standing, stands_at}
 
 -- the cells that are directly defined are assigned, and the facts true
 pub record StandsIn (g : Setting) (Γ : Context) (at : Indices) (x : Memory) : Type 0 where
@@ -21,3 +28,59 @@ pub record StandsIn (g : Setting) (Γ : Context) (at : Indices) (x : Memory) : T
 abbrev pub PlaceStands : Setting → Tree → Visit → Type 0
 PlaceStands g game v =
     IsSyntax v.tree → (Γ : Context) × (stands_at game v.place ≡ Some Γ) × ((y : Memory) → GrowsTo v.before.memory y → StandsIn g Γ v.before.indices y)
+
+-- what stands in a branch's list, in its condition and in its body
+abbrev pub in_list : Context → Tree → Context
+in_list Γ us = second_standing position.Anywhere Branch us Γ
+
+abbrev pub in_condition : Context → (us cells : Tree) → Context
+in_condition Γ us cells = second_standing position.Guards Cons cells (in_list Γ us)
+
+abbrev pub in_body : Context → (us cells c : Tree) → Context
+in_body Γ us cells c = second_standing position.Guarded Cons c (in_condition Γ us cells)
+
+-- with a tuple of a branch in the second store: what stands in the list is so there, in the condition where the cells of the
+-- list are assigned, and in the body where the branch is a candidate, taken or not
+pub record BranchStands (g : Setting) (Γ : Context) (at : Indices) (x : Memory) (n : Store) (us rest : Tree) : Type 0 where
+  pub list : StandsIn g (in_list Γ us) at (record x { store = n })
+  pub condition : are_assigned g at x.store n (first rest) ≡ true → StandsIn g (in_condition Γ us (first rest)) at (record x { store = n })
+  pub body : is_candidate g at x.store n rest ≡ true → StandsIn g (in_body Γ us (first rest) (first (second rest))) at (record x { store = n })
+
+abbrev pub BranchesStand : Setting → Context → Indices → Memory → Tree → Type 0
+BranchesStand g Γ at x Empty = Unit {0}
+BranchesStand g Γ at x (Node h branch more) =
+    ((u : List ℕ) → fits g.interpretation.parameter_value (first branch) u ≡ true → BranchStands g Γ at x (bound_to x.store (tuple at) (first branch) u) (first branch) (second branch))
+    × BranchesStand g Γ at x more
+
+abbrev pub FindStands : Setting → Context → Local → Tree → Type 0
+FindStands g Γ s (Node (Find l) a b) = BranchesStand g Γ s.indices s.memory a
+FindStands g Γ s t = Unit {0}
+
+-- at each tuple of each branch of a visited `find`
+abbrev pub CandidatesStand : Setting → Tree → Visit → Type 0
+CandidatesStand g game v = IsSyntax v.tree → (Γ : Context) × (stands_at game v.place ≡ Some Γ) × FindStands g Γ v.before v.tree
+
+-- what stands behind a definition; behind a branch, that is in its body
+abbrev pub behind_site : Head → Tree → Tree → Context → Context
+behind_site Branch us (Node h cells (Node k c body)) Γ = in_body Γ us cells c
+behind_site h a b Γ = second_standing position.Anywhere h a Γ
+
+-- the definitions of a variable: their places, and what stands behind each
+unfoldable pub sites_in : ℕ → Position → Context → ℕ → Tree → List (ℕ × Context)
+sites_in x w Γ p Empty = []
+sites_in x w Γ p (Node h a b) =
+    (if made_by h a (Variable x) then (p, behind_site h a b Γ) ∷ [] else [])
+    ++ (sites_in x (first_position w h) (first_standing w h Γ) (first_place p h) a ++ sites_in x (second_position w h) (second_standing w h a Γ) (second_place p h a) b)
+
+abbrev pub sites_of : Tree → ℕ → List (ℕ × Context)
+sites_of game x = sites_in x position.Anywhere nothing_known 0 game
+
+-- Of a variable with one definition, what stands behind it holds at the tuple of each assigned cell, then and later.
+abbrev pub SitesStand : Setting → Tree → Memory → Type 0
+SitesStand g game x =
+    (y p : ℕ) (Γ : Context) → sites_of game y ≡ (p, Γ) ∷ [] → (u : List ℕ) (v : ℕ) → x.store y u ≡ Some v →
+    (at : Indices) × (tuple at ≡ u) × ((z : Memory) → GrowsTo x z → StandsIn g Γ at z)
+
+-- so it is before each visit
+abbrev pub VisitSitesStand : Setting → Tree → Visit → Type 0
+VisitSitesStand g game v = SitesStand g game v.before.memory

@@ -4,12 +4,12 @@
 -- of the branches whose condition or body holds the place. Blanchet, TDSC 2008; the order of the facts is this profile's own.
 use Rattle.std.specs.Prelude.{ℕ, ◌+◌, ◌-◌, nat_lt, if◌then◌else◌, [], ◌++◌, Option, Some, None}
 use Rattle.cv_syntax.specs.declared.head.Head.{Head}
-use Rattle.cv_syntax.specs.declared.head.Head.TheVariants.{Branch, Cons, Not}
+use Rattle.cv_syntax.specs.declared.head.Head.TheVariants.{Repl, Branch, Cons, Not}
 use Rattle.cv_syntax.specs.Head.{weight}
 use Rattle.cv_syntax.specs.Tree.{Tree, Empty, Node, size}
 use Rattle.cv_scope.specs.declared.position.Position.{Position}
 use Rattle.cv_scope.specs.declared.position.Position.TheVariants.{Anywhere, Bodies, ElseBody, Guards, Guarded}
-use Rattle.cv_scope.specs.Context.{Context, cells_of, first_position, items, nothing_known, second_context, second_position, with_cells, with_fact}
+use Rattle.cv_scope.specs.Context.{Context, cells_of, first_position, items, nothing_known, replications_below, second_context, second_position, with_cells, with_fact}
 
 -- a condition that holds, or that doesn't, if there is one
 abbrev pub with_held : Context → Tree → Context
@@ -39,6 +39,7 @@ first_standing w h Γ = Γ
 abbrev pub second_standing : Position → Head → Tree → Context → Context
 second_standing w Cons a Γ = rest_standing w a Γ
 second_standing w Branch a Γ = record Γ { own = cells_of Γ.replications a }
+second_standing w (Repl i n) a Γ = record Γ { replications = replications_below (Repl i n) Γ.replications; own = [] }
 second_standing w h a Γ = second_context w h a Γ
 
 -- what stands above a place of a tree, if there is such a place

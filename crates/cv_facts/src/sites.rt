@@ -28,7 +28,7 @@ fn seen_then(seen: Seen, is_one: bool, place: u32) -> Seen
 
 /// Whether a list of binders binds a variable.
 #[tactic(auto, using(crate::proofs::Sitings::sitings))]
-fn is_bound(pool: &Pool, list: Option<NodeId>, x: u32) -> bool
+pub(crate) fn is_bound(pool: &Pool, list: Option<NodeId>, x: u32) -> bool
     requires { ChildBelow (length pool.now.trees) list }
     ensures { result ≡ is_bound (tree_at pool.now.trees list) x }
 {
@@ -48,7 +48,7 @@ fn is_bound(pool: &Pool, list: Option<NodeId>, x: u32) -> bool
 
 /// The second child of a node that is a child.
 #[tactic(auto, using(crate::proofs::Sitings::sitings))]
-fn second_of(pool: &Pool, child: Option<NodeId>) -> Option<NodeId>
+pub(crate) fn second_of(pool: &Pool, child: Option<NodeId>) -> Option<NodeId>
     requires { ChildBelow (length pool.now.trees) child }
     ensures tree { tree_at pool.now.trees result ≡ second (tree_at pool.now.trees child) }
     ensures live { ChildBelow (length pool.now.trees) result }

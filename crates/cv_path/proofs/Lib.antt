@@ -1,3 +1,4 @@
 pub mod Bounds
 pub mod Going
 mod Products
+mod Sames

@@ -2,6 +2,7 @@
 #![tactic(auto)]
 
 mod counting;
+mod equality;
 mod error;
 mod laws;
 mod place;
@@ -10,6 +11,7 @@ mod replacing;
 mod room;
 
 pub use counting::copies;
+pub use equality::same;
 pub use error::PathError;
 pub use laws::{places_are_below_the_size, worked_copies};
 pub use place::{Lies, at, place_in};

@@ -1,8 +1,23 @@
-use Rattle.cv_meaning.specs.Experiments.{visits_of_run, coins_on}
-use Rattle.cv_discipline.proofs.FactsRuns.{all_places_hold}
-use Rattle.cv_facts.proofs.Covering.{places-stand}
+use Rattle.cv_meaning.specs.Experiments.{run, visits_of_run, coins_on}
+use Rattle.cv_discipline.proofs.FactsRuns.{all_candidates_hold, all_cells_hold, all_places_hold, last_cells_hold}
+use Rattle.cv_facts.proofs.Covering.{all-candidates-stand, places-stand}
+use Rattle.cv_facts.proofs.SitesStanding.{sites-stand, visits-stand}
 use Rattle.cv_facts.proofs.laws.facts_hold_where_they_stand.Goals as goal
 
-pub returns : goal.returns
+pub returns-clause-places : goal.returns-clause-places
 unfolding visits_of_run
-returns c = λ ds g m a game t e w. places-stand g game _ (all_places_hold ds g m (a.next (coins_on t 0 a.coins)) t a.moves game e w)
+returns-clause-places c = λ ds g m a game t e w. places-stand g game _ (all_places_hold ds g m (a.next (coins_on t 0 a.coins)) t a.moves game e w)
+
+pub returns-clause-candidates : goal.returns-clause-candidates
+unfolding visits_of_run
+returns-clause-candidates c = λ ds g m a game t e w.
+    let next = a.next (coins_on t 0 a.coins) in
+    all-candidates-stand g game _ (all_places_hold ds g m next t a.moves game e w) (all_candidates_hold ds g m next t a.moves game e w)
+
+pub returns-clause-sites : goal.returns-clause-sites
+unfolding visits_of_run
+returns-clause-sites c = λ ds g m a game t e w. visits-stand g game _ (all_cells_hold ds g m (a.next (coins_on t 0 a.coins)) t a.moves game e w)
+
+pub returns-clause-last : goal.returns-clause-last
+unfolding run
+returns-clause-last c = λ ds g m a game t e w. sites-stand g game _ (last_cells_hold ds g m (a.next (coins_on t 0 a.coins)) t a.moves game e w)

@@ -1,0 +1,83 @@
+-- What stands behind a definition is known there.
+use Rattle.std.proofs.Common.{◌≡◌, ℕ, true, false, Bool, cond, List, [], ◌∷◌, ◌++◌, refl, sym, ap, subst, ◌∙◌}
+use Rattle.std.specs.List.{AllByRecursion}
+use Rattle.cv_syntax.specs.declared.head.Head.{Head}
+use Rattle.cv_syntax.specs.declared.head.Head.TheVariants.{Branch, Cons}
+use Rattle.cv_syntax.specs.Tree.{Tree, Empty, Node, first_place, second_place}
+use Rattle.cv_meaning.specs.Interpretation.{Setting}
+use Rattle.cv_meaning.specs.Memory.{Memory}
+use Rattle.cv_meaning.specs.Terms.{value}
+use Rattle.cv_meaning.specs.Candidates.{is_assigned}
+use Rattle.cv_meaning.specs.Serving.{Visit}
+use Rattle.cv_scope.specs.declared.position.Position.{Position}
+use Rattle.cv_scope.specs.declared.position.Position.TheVariants.{Anywhere, Guards, Guarded}
+use Rattle.cv_scope.specs.Context.{Context, first_context, first_position, nothing_known, second_context, second_position}
+use Rattle.cv_scope.specs.Sites.{Variable}
+use Rattle.cv_discipline.specs.Made.{made_by}
+use Rattle.cv_discipline.specs.Promises.{CellsHold, VisitCellsHold, after_site, definitions_in, definitions_of}
+use Rattle.cv_discipline.proofs.FactsRuns.{one_definition_holds}
+use Rattle.cv_facts.specs.Standing.{first_standing, second_standing}
+use Rattle.cv_facts.specs.Promises.{SitesStand, VisitSitesStand, behind_site, sites_in, sites_of}
+use Rattle.cv_facts.proofs.Covering.{Covers, first-covers, same-covers, second-covers, stands-in}
+
+module _ (P Q : Tree → Type 0) where
+  -- the definitions have the same places, and what stands behind each is known there
+  abbrev Pairs : List (ℕ × Context) → List (ℕ × Context) → Type 0
+  Pairs [] [] = Unit {0}
+  Pairs (d ∷ ds) (s ∷ ss) = (d.0 ≡ s.0) × Covers P Q d.1 s.1 × Pairs ds ss
+  Pairs _ _ = ⊥
+
+  pairs-append : (ds es ss ts : List (ℕ × Context)) → Pairs ds ss → Pairs es ts → Pairs (ds ++ es) (ss ++ ts)
+  pairs-append [] es [] ts a b = b
+  pairs-append [] es (s ∷ ss) ts a b = absurd a
+  pairs-append (d ∷ ds) es [] ts a b = absurd a
+  pairs-append (d ∷ ds) es (s ∷ ss) ts a b = (a.0, a.1, pairs-append ds es ss ts a.2 b)
+
+  pairs-where : (b : Bool) (p : ℕ) (Γ Δ : Context) → Covers P Q Γ Δ → Pairs (cond b ((p, Γ) ∷ []) []) (cond b ((p, Δ) ∷ []) [])
+  pairs-where true p Γ Δ c = (refl, c, tt)
+  pairs-where false p Γ Δ c = tt
+
+  behind-covers : (h : Head) (a b : Tree) (Γ Δ : Context) → Covers P Q Γ Δ → Covers P Q (after_site h a b Γ) (behind_site h a b Δ)
+  behind-covers Branch us (Node h cells (Node k c body)) Γ Δ e =
+      second-covers P Q Guarded Cons c (second_context Guards Cons cells (second_context Anywhere Branch us Γ)) (second_standing Guards Cons cells (second_standing Anywhere Branch us Δ))
+      (second-covers P Q Guards Cons cells (second_context Anywhere Branch us Γ) (second_standing Anywhere Branch us Δ) (second-covers P Q Anywhere Branch us Γ Δ e))
+  behind-covers Branch us (Node h cells Empty) Γ Δ e = second-covers P Q Anywhere Branch us Γ Δ e
+  behind-covers Branch us Empty Γ Δ e = second-covers P Q Anywhere Branch us Γ Δ e
+  behind-covers h a b Γ Δ e = second-covers P Q Anywhere h a Γ Δ e
+
+  sites-pair : (x : ℕ) (w : Position) (Γ Δ : Context) (p : ℕ) (t : Tree) → Covers P Q Γ Δ → Pairs (definitions_in x w Γ p t) (sites_in x w Δ p t)
+  unfolding definitions_in sites_in
+  sites-pair x w Γ Δ p Empty c = tt
+  sites-pair x w Γ Δ p (Node h a b) c =
+      pairs-append _ _ _ _ (pairs-where (made_by h a (Variable x)) p (after_site h a b Γ) (behind_site h a b Δ) (behind-covers h a b Γ Δ c))
+      (pairs-append _ _ _ _ (sites-pair x (first_position w h) (first_context w h Γ) (first_standing w h Δ) (first_place p h) a (first-covers P Q w h Γ Δ c))
+      (sites-pair x (second_position w h) (second_context w h a Γ) (second_standing w h a Δ) (second_place p h a) b (second-covers P Q w h a Γ Δ c)))
+
+  one-pair : (ds ss : List (ℕ × Context)) (p : ℕ) (Δ : Context) → ss ≡ (p, Δ) ∷ [] → Pairs ds ss → (Γ : Context) × (ds ≡ (p, Γ) ∷ []) × Covers P Q Γ Δ
+  one-pair [] ss p Δ e a = absurd (subst (Pairs []) e a)
+  one-pair (d ∷ []) ss p Δ e a = let b = subst (Pairs (d ∷ [])) e a in (d.1, ap (λ q. (q, d.1) ∷ []) b.0, b.1)
+  one-pair (d ∷ (f ∷ ds)) ss p Δ e a = absurd (subst (Pairs (d ∷ (f ∷ ds))) e a).2
+
+  one-site : (game : Tree) (y p : ℕ) (Δ : Context) → sites_of game y ≡ (p, Δ) ∷ [] → (Γ : Context) × (definitions_of game y ≡ (p, Γ) ∷ []) × Covers P Q Γ Δ
+  one-site game y p Δ e = one-pair (definitions_of game y) (sites_of game y) p Δ e (sites-pair y Anywhere nothing_known nothing_known 0 game (same-covers P Q nothing_known))
+
+only-one : (a b : ℕ × Context) → a ∷ [] ≡ b ∷ [] → a ≡ b
+only-one a b e = cc
+
+pub sites-stand : (g : Setting) (game : Tree) (x : Memory) → CellsHold g game x → SitesStand g game x
+sites-stand g game x holds y p Δ e u v s =
+    let first = one-site (λ f. Unit {0}) (λ c. Unit {0}) game y p Δ e in
+    let known = one_definition_holds g game x holds y p first.0 first.1 u v s in (
+      known.0,
+      known.1,
+      λ z grown.
+          let P = λ (f : Tree). value g known.0 z.store f ≡ 1 in
+          let Q = λ (c : Tree). is_assigned g known.0 z.store z.store c ≡ true in
+          let r = one-site P Q game y p Δ e in
+          let same : r.0 ≡ first.0 = ap (λ (q : ℕ × Context). q.1) (only-one (p, r.0) (p, first.0) (sym r.1 ∙ first.1)) in
+          stands-in g first.0 Δ known.0 z (subst (λ (Γ : Context). Covers P Q Γ Δ) same r.2) (known.2 z grown),
+    )
+
+pub visits-stand : (g : Setting) (game : Tree) (vs : List Visit) → AllByRecursion (VisitCellsHold g game) vs → AllByRecursion (VisitSitesStand g game) vs
+visits-stand g game [] a = tt
+visits-stand g game (v ∷ vs) a = (sites-stand g game v.before.memory a.0, visits-stand g game vs a.1)

@@ -1,0 +1,49 @@
+ghost use Rattle.std.specs.Prelude.{◌≡◌, length};
+ghost use Rattle.cv_pool.specs.Nodes.{ChildBelow};
+ghost use Rattle.cv_syntax.specs.Tree.{Empty, same_tree, tree_at};
+
+use cv_pool::{NodeId, Pool};
+use cv_syntax::read_node;
+
+/// Whether there is nothing.
+#[tactic(auto, using(crate::proofs::Sames::sames))]
+fn is_nothing(pool: &Pool, tree: Option<NodeId>) -> bool
+    requires { ChildBelow (length pool.now.trees) tree }
+    ensures { result ≡ same_tree Empty (tree_at pool.now.trees tree) }
+{
+    match tree {
+        Some(n) => {
+            // A node of the pool is never empty, as reading it shows.
+            let _node = read_node(pool, n);
+            false
+        }
+        None => true,
+    }
+}
+
+/// Whether two nodes stand for one tree of the calculus.
+#[tactic(auto, using(crate::proofs::Sames::sames))]
+pub fn same(pool: &Pool, left: Option<NodeId>, right: Option<NodeId>) -> bool
+    requires left { ChildBelow (length pool.now.trees) left }
+    requires right { ChildBelow (length pool.now.trees) right }
+    ensures { result ≡ same_tree (tree_at pool.now.trees left) (tree_at pool.now.trees right) }
+{
+    let mut p = left;
+    let mut q = right;
+    'chain: while let Some(m) = p {
+        let x = read_node(pool, m);
+        let Some(n) = q else {
+            return false;
+        };
+        let y = read_node(pool, n);
+        if x.head.kind() != y.head.kind() {
+            return false;
+        }
+        if !same(pool, x.first, y.first) {
+            return false;
+        }
+        p = x.second;
+        q = y.second;
+    }
+    is_nothing(pool, q)
+}
