@@ -3,8 +3,8 @@ use Rattle.std.proofs.Common.{◌≡◌, ℕ, suc, ◌+◌, ◌<◌, ◌≤◌, 
 use Rattle.std.proofs.lemmas.Bool.Decides.{nat_tests}
 use Rattle.cv_lex.specs.declared.LexError.{LexError}
 use Rattle.cv_lex.specs.Lexis.{Token, tokens_of}
-use Rattle.cv_signs.specs.Signs.{signs_of}
-use Rattle.cv_grammar.specs.declared.sign.Sign.{Sign}
+use Rattle.cv_parse_terminals.specs.Signs.{signs_of}
+use Rattle.cv_parse_notation.specs.declared.sign.Sign.{Sign}
 use Rattle.cv_syntax.specs.declared.work.BuildError.{BuildError}
 use Rattle.cv_syntax.specs.declared.work.BuildError.TheVariants as build
 use Rattle.cv_syntax.specs.Tree.{Tree}
@@ -26,16 +26,16 @@ use Rattle.cv_scope.specs.Refusals.{refusal as scope_refusal}
 use Rattle.cv_scope.specs.Scope.{first_scope_fault, names_of}
 use Rattle.cv_scope.specs.Standing.{at_root}
 use Rattle.cv_scope.proofs.First.{finds_first, scoped_where_none}
-use Rattle.cv_queries.specs.Queries.{queries_in}
-use Rattle.cv_queries.proofs.First.{finds-first as first_refused_is_first}
-use Rattle.cv_files.specs.declared.error.FileError.{FileError}
-use Rattle.cv_files.specs.declared.error.FileError.TheVariants as fault
-use Rattle.cv_files.specs.Accepted.{Content, has_equivalence, of_equivalences, of_parsed, of_queries, of_scopes, of_script, of_tokens, of_types, query_fault, read_of, scope_fault, type_fault}
-use Rattle.cv_files.specs.Places.{nodes_before}
-use Rattle.cv_files.proofs.Places.{behind_none, behind_some}
-use Rattle.cv_files.proofs.Readings.{read_is_file}
-use Rattle.cv_direct.specs.Search.{EntryTree}
-use Rattle.cv_success.specs.Certificates.{step_of}
+use Rattle.cv_query_form.specs.Queries.{queries_in}
+use Rattle.cv_query_form.proofs.First.{finds-first as first_refused_is_first}
+use Rattle.cv_accept.specs.declared.error.FileError.{FileError}
+use Rattle.cv_accept.specs.declared.error.FileError.TheVariants as fault
+use Rattle.cv_accept.specs.Accepted.{Content, has_equivalence, of_equivalences, of_parsed, of_queries, of_scopes, of_script, of_tokens, of_types, query_fault, read_of, scope_fault, type_fault}
+use Rattle.cv_accept.specs.Places.{nodes_before}
+use Rattle.cv_accept.proofs.Places.{behind_none, behind_some}
+use Rattle.cv_accept.proofs.Readings.{read_is_file}
+use Rattle.cv_query_direct.specs.Search.{EntryTree}
+use Rattle.cv_query_direct.specs.Certificates.{step_of}
 use Rattle.cv_report.specs.declared.report.FileFault.{FileFault}
 use Rattle.cv_report.specs.declared.report.FileFault.TheVariants.{Lex, Parse}
 use Rattle.cv_report.specs.declared.report.Status.{Status}
@@ -43,7 +43,7 @@ use Rattle.cv_report.specs.declared.report.Status.TheVariants as status
 use Rattle.cv_report.specs.declared.report.Verdict.TheVariants.{Proved, NotProved}
 use Rattle.cv_report.specs.declared.report.Which.TheVariants.{Depth, Nodes, Pool}
 use Rattle.cv.specs.Causes.{Caused, HasManyClosed, HasQueryFault, HasScopeFault, HasTypeFault, IsTooDeep, OfTokens, closed_count}
-use Rattle.cv_direct.specs.Plain.{certificate}
+use Rattle.cv_query_direct.specs.Plain.{certificate}
 use Rattle.cv.specs.Strategy.{Judged, Said, expected, is_closed, left_open, most_pool, most_steps, nothing_said, said_of, said_then, status_by, status_of}
 use Rattle.cv.proofs.Verdicts.{closed_some}
 

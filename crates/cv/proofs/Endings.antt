@@ -1,9 +1,9 @@
 -- How a run over a good file ends.
 use Rattle.std.proofs.Common.{◌≡◌, ℕ, arith, refl, List, Option, Some, None, ap, sym, ◌∙◌, subst, ◌⊎◌, inl, inr}
 use Rattle.std.specs.Prelude.{IfSome, ◌≢◌}
-use Rattle.cv_files.specs.Accepted.{read_of}
-use Rattle.cv_queries.specs.Queries.{queries_in}
-use Rattle.cv_files.proofs.Readings.{file_is_read}
+use Rattle.cv_accept.specs.Accepted.{read_of}
+use Rattle.cv_query_form.specs.Queries.{queries_in}
+use Rattle.cv_accept.proofs.Readings.{file_is_read}
 use Rattle.cv_report.specs.declared.report.Status.{Status}
 use Rattle.cv_report.specs.declared.report.Status.TheVariants as status
 use Rattle.cv_report.specs.declared.report.Which.TheVariants.{File, Nodes, Depth, Steps, Pool}

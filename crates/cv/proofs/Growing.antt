@@ -16,8 +16,8 @@ use Rattle.cv_parse.specs.Declaring.{IsBelow}
 use Rattle.cv_script.specs.declared.steps.Step.{Step}
 use Rattle.cv_report.specs.declared.report.Entry.{Entry}
 use Rattle.cv_report.specs.Text.{EntryLive}
-use Rattle.cv_files.specs.Accepted.{Content}
-use Rattle.cv_files.specs.Works.{content_at, content_in}
+use Rattle.cv_accept.specs.Accepted.{Content}
+use Rattle.cv_accept.specs.Works.{content_at, content_in}
 use Rattle.cv.specs.Findings.{IsStepBelow}
 use Rattle.cv.specs.Strategy.{closing, said_by}
 

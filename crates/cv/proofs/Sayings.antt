@@ -7,19 +7,19 @@ use Rattle.std.specs.declared.vec.Vec.{Vec}
 use Rattle.std.specs.declared.alloc.Global.{Global}
 use Rattle.cv_pool.specs.KindTree.{KindTree}
 use Rattle.cv_syntax.specs.Tree.{Tree, tree_at}
-use Rattle.cv_direct.specs.Search.{EntryTree}
-use Rattle.cv_direct.specs.Found.{entry_trees}
-use Rattle.cv_direct.specs.declared.search.Entry.{Entry}
+use Rattle.cv_query_direct.specs.Search.{EntryTree}
+use Rattle.cv_query_direct.specs.Found.{entry_trees}
+use Rattle.cv_query_direct.specs.declared.search.Entry.{Entry}
 use Rattle.cv.specs.declared.decide.Findings.{Findings}
 use Rattle.cv_pool.specs.PoolView.{PoolView, Grows}
 use Rattle.cv_report.specs.declared.report.Entry.{Entry as Trail}
 use Rattle.cv_script.specs.declared.steps.Step.{Step}
-use Rattle.cv_success.specs.Certificates.{step_of}
+use Rattle.cv_query_direct.specs.Certificates.{step_of}
 use Rattle.cv.proofs.Growing.{steps-grown}
 use Rattle.cv_report.specs.declared.report.Verdict.{Verdict}
 use Rattle.cv_report.specs.declared.report.Verdict.TheVariants.{Proved, NotProved}
 use Rattle.cv.specs.Findings.{IsStepBelow, said}
-use Rattle.cv_direct.specs.Plain.{certificate}
+use Rattle.cv_query_direct.specs.Plain.{certificate}
 use Rattle.cv.specs.Strategy.{Said, closing, said_by, said_then, said_of, most_steps}
 
 abbrev pub made : List Tree → List Verdict → Bool → Bool → Said

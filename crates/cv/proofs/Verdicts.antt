@@ -10,24 +10,24 @@ use Rattle.cv_meaning.specs.Chances.{Chance, AtMost, zero_chance}
 use Rattle.cv_meaning.specs.Interpretation.{Interpretation, setting_of}
 use Rattle.cv_meaning.specs.Runs.{Adversary}
 use Rattle.cv_meaning.specs.Satisfies.{Satisfies}
-use Rattle.cv_queries.specs.Queries.{queries_in}
+use Rattle.cv_query_form.specs.Queries.{queries_in}
 use Rattle.cv_parse.specs.declared.error.ParseError.{ParseError}
 use Rattle.cv_parse.specs.declared.error.ParseError.TheVariants as parse
 use Rattle.cv_syntax.specs.declared.work.BuildError.TheVariants as build
-use Rattle.cv_files.specs.declared.error.FileError.{FileError}
-use Rattle.cv_files.specs.declared.error.FileError.TheVariants as fault
-use Rattle.cv_files.specs.Accepted.{Content, Refuses, read_of}
-use Rattle.cv_direct.specs.Search.{EntryTree}
-use Rattle.cv_discipline.specs.Phrases.{IsWellFormed}
-use Rattle.cv_direct.proofs.Certificates.{certificate_some, no_advantage}
+use Rattle.cv_accept.specs.declared.error.FileError.{FileError}
+use Rattle.cv_accept.specs.declared.error.FileError.TheVariants as fault
+use Rattle.cv_accept.specs.Accepted.{Content, Refuses, read_of}
+use Rattle.cv_query_direct.specs.Search.{EntryTree}
+use Rattle.cv_scope_runs.specs.Phrases.{IsWellFormed}
+use Rattle.cv_query_direct.proofs.Certificates.{certificate_some, no_advantage}
 use Rattle.cv_report.specs.declared.report.Status.{Status}
 use Rattle.cv_report.specs.declared.report.Status.TheVariants as status
 use Rattle.cv_report.specs.declared.report.Verdict.{Verdict}
 use Rattle.cv_report.specs.declared.report.Verdict.TheVariants.{Proved, NotProved}
 use Rattle.cv_bound.specs.declared.terms.Term.{Term}
-use Rattle.cv_success.specs.Certificates.{step_of}
+use Rattle.cv_query_direct.specs.Certificates.{step_of}
 use Rattle.cv.specs.Faults.{parse_ended, status_of as ended_by}
-use Rattle.cv_direct.specs.Plain.{certificate}
+use Rattle.cv_query_direct.specs.Plain.{certificate}
 use Rattle.cv.specs.Strategy.{Said, is_closed, said_then, said_of, most_steps, status_by, status_of, expected, HasFile, Judged, most_pool}
 use Rattle.cv.specs.Values.{value_of}
 

@@ -1,11 +1,11 @@
 -- What each answer about bytes comes from.
 use Rattle.std.specs.Prelude.{◌≡◌, ℕ, suc, ◌+◌, ◌-◌, ◌<◌, false, if◌then◌else◌, List, [], ◌∷◌, length, None, Ok, Err}
 use Rattle.cv_lex.specs.Lexis.{Token, tokens_of}
-use Rattle.cv_signs.specs.Signs.{signs_of}
-use Rattle.cv_grammar.specs.declared.sign.Sign.{Sign}
-use Rattle.cv_grammar.specs.Reads as fault
-use Rattle.cv_rules.specs.Files.{levels, read_whole}
-use Rattle.cv_rules.specs.Names as names
+use Rattle.cv_parse_terminals.specs.Signs.{signs_of}
+use Rattle.cv_parse_notation.specs.declared.sign.Sign.{Sign}
+use Rattle.cv_parse_notation.specs.Reads as fault
+use Rattle.cv_parse_grammar.specs.Files.{levels, read_whole}
+use Rattle.cv_parse_grammar.specs.Names as names
 use Rattle.cv_parse.specs.declared.error.ParseError.TheVariants.{Syntax, Nesting, NameTwice, NameUnknown}
 use Rattle.cv_parse.specs.Parsed.{Parsed}
 use Rattle.cv_parse.specs.Says.{HasDepth, HasNodes, HasWeight, IsDead, IsLarge, IsMisnamedAt, Says}
@@ -16,11 +16,11 @@ use Rattle.cv_scope.specs.declared.fault.ScopeFault.{ScopeFault}
 use Rattle.cv_scope.specs.declared.fault.Fault.{Fault}
 use Rattle.cv_scope.specs.Refusals.{refusal}
 use Rattle.cv_scope.specs.Scope.{IsFirstFault, IsScoped}
-use Rattle.cv_queries.specs.Queries.{queries_in}
-use Rattle.cv_queries.specs.Rules.{IsFirstRefused}
+use Rattle.cv_query_form.specs.Queries.{queries_in}
+use Rattle.cv_query_form.specs.Rules.{IsFirstRefused}
 use Rattle.cv_syntax.specs.Tree.{Tree}
-use Rattle.cv_files.specs.Accepted.{Content, IsFile, has_equivalence}
-use Rattle.cv_files.specs.Places.{nodes_before}
+use Rattle.cv_accept.specs.Accepted.{Content, IsFile, has_equivalence}
+use Rattle.cv_accept.specs.Places.{nodes_before}
 use Rattle.cv_report.specs.declared.report.FileFault.TheVariants.{Lex, Parse, Types, Scope, Query}
 use Rattle.cv_report.specs.declared.report.Status.{Status}
 use Rattle.cv_report.specs.declared.report.Status.TheVariants as status

@@ -2,8 +2,8 @@
 use Rattle.cv_parse.specs.declared.error.ParseError.{ParseError}
 use Rattle.cv_parse.specs.declared.error.ParseError.TheVariants as parse
 use Rattle.cv_syntax.specs.declared.work.BuildError.TheVariants as build
-use Rattle.cv_files.specs.declared.error.FileError.{FileError}
-use Rattle.cv_files.specs.declared.error.FileError.TheVariants as fault
+use Rattle.cv_accept.specs.declared.error.FileError.{FileError}
+use Rattle.cv_accept.specs.declared.error.FileError.TheVariants as fault
 use Rattle.cv_report.specs.declared.report.FileFault.TheVariants.{Lex, Parse, Types, Scope, Query}
 use Rattle.cv_report.specs.declared.report.Status.{Status}
 use Rattle.cv_report.specs.declared.report.Status.TheVariants as status

@@ -11,16 +11,16 @@ use Rattle.cv_meaning.specs.Satisfies.{Satisfies}
 use Rattle.cv_meaning.specs.Runs.{Adversary}
 use Rattle.cv_meaning.specs.Advantage.{advantage}
 use Rattle.cv_meaning.specs.Chances.{AtMost}
-use Rattle.cv_direct.specs.Plain.{certificate, is_plainly_direct}
-use Rattle.cv_direct.specs.Search.{EntryTree}
-use Rattle.cv_success.specs.Certificates.{step_of}
+use Rattle.cv_query_direct.specs.Plain.{certificate, is_plainly_direct}
+use Rattle.cv_query_direct.specs.Search.{EntryTree}
+use Rattle.cv_query_direct.specs.Certificates.{step_of}
 use Rattle.cv_script.specs.declared.steps.Step.{Step}
 use Rattle.cv_bound.specs.declared.cost.Cost.TheVariants.{Zero}
 use Rattle.cv_bound.specs.declared.terms.Term.{Term}
 use Rattle.cv.specs.Values.{Contexts, value_of}
-use Rattle.cv_files.specs.declared.error.FileError.{FileError}
-use Rattle.cv_files.specs.Accepted.{Content, IsFile, read_of}
-use Rattle.cv_queries.specs.Queries.{queries_in}
+use Rattle.cv_accept.specs.declared.error.FileError.{FileError}
+use Rattle.cv_accept.specs.Accepted.{Content, IsFile, read_of}
+use Rattle.cv_query_form.specs.Queries.{queries_in}
 use Rattle.cv.specs.Faults.{status_of as ended_by}
 use Rattle.cv_report.specs.declared.report.Cause.TheVariants.{Stuck}
 use Rattle.cv_report.specs.declared.report.Report.{Report}

@@ -8,9 +8,9 @@ use Rattle.cv_meaning.specs.Interpretation.{Interpretation}
 use Rattle.cv_meaning.specs.Runs.{Adversary}
 use Rattle.cv_meaning.specs.Runs as mode
 use Rattle.cv_meaning.specs.Chances.{Chance, zero_chance}
-use Rattle.cv_contexts.specs.Sides.{Context}
-use Rattle.cv_contexts.specs.ContextAdvantage as context
-use Rattle.cv_contexts.specs.ContextAdvantage.{context_advantage}
+use Rattle.cv_meaning_contexts.specs.Sides.{Context}
+use Rattle.cv_meaning_contexts.specs.ContextAdvantage as context
+use Rattle.cv_meaning_contexts.specs.ContextAdvantage.{context_advantage}
 use Rattle.cv_bound.specs.declared.terms.Experiment.{Experiment}
 use Rattle.cv_bound.specs.declared.terms.Experiment.TheVariants.{Events, Real, Random}
 use Rattle.cv_bound.specs.declared.terms.Term.{Term}

@@ -1,24 +1,23 @@
 ghost use Rattle.std.specs.Prelude.{◌≡◌, ◌+◌, ◌<◌, ◌≤◌, ◌^◌, ◌↔◌, [], ◌∷◌, ℕ, All, None, Some, Ok, map, length, IfOk, IfSome, IsSome, MatchOption, OnOk};
 ghost use Rattle.cv_syntax.specs.Classes.{queries};
 ghost use Rattle.cv_syntax.specs.Tree.{tree_at, size};
-ghost use Rattle.cv_files.specs.Accepted.{read_of};
+ghost use Rattle.cv_accept.specs.Accepted.{read_of};
 ghost use Rattle.cv_parse.specs.Declaring.{IsBelow};
-ghost use Rattle.cv_files.specs.Works.{content_at};
+ghost use Rattle.cv_accept.specs.Works.{content_at};
 ghost use Rattle.cv.specs.Causes.{Caused};
 ghost use Rattle.cv.specs.Faults.{parse_ended, status_of as ended_by};
 ghost use Rattle.cv_pool.specs.PoolView.{Grows};
 ghost use Rattle.cv_report.specs.Text.{IsLive};
 ghost use Rattle.cv.specs.Findings.{IsStepBelow, said};
-ghost use Rattle.cv_direct.specs.Plain.{certificate};
+ghost use Rattle.cv_query_direct.specs.Plain.{certificate};
 ghost use Rattle.cv.specs.Strategy.{closing, most_pool, nothing_said, said_of, said_then, status_by, FollowsStrategy, HasFile, Judged, IsSound, SaysNothing};
 
+use cv_accept::{FileError, query_at, read};
 use cv_bound::{Cost, Sum};
-use cv_direct::direct;
-use cv_files::{FileError, query_at, read};
 use cv_parse::ParseError;
+use cv_query_direct::{direct, success};
 use cv_report::{Cause, Command, Entry, FileFault, Report, Status, Verdict, Which};
 use cv_script::Step;
-use cv_success::success;
 use cv_syntax::{BuildError, NodeId, Pool, Work};
 use std::alloc::{AllocError, Global};
 

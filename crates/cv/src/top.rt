@@ -1,8 +1,8 @@
 ghost use Rattle.std.specs.Prelude.{◌≡◌, ◌≢◌, ◌<◌, ◌≤◌, ◌++◌, ◌∷◌, ◌↔◌, ◌⊎◌, [], ℕ, None, Some, Ok, map, length, IsNone, IfSome, IsSomeAnd, IsSome, MatchOption, OnOk, OnErr, string_bytes};
 ghost use Rattle.cv_outside.specs.Causes.{Rose};
 ghost use Rattle.cv_outside.specs.Told.{bytes_of};
-ghost use Rattle.cv_files.specs.Accepted.{read_of};
-ghost use Rattle.cv_files.specs.Works.{content_at};
+ghost use Rattle.cv_accept.specs.Accepted.{read_of};
+ghost use Rattle.cv_accept.specs.Works.{content_at};
 ghost use Rattle.cv.specs.Causes.{Caused};
 ghost use Rattle.cv.specs.Fetched.{fetch_ended};
 ghost use Rattle.cv.specs.Strategy.{EndsWell, FollowsStrategy, HasFile, IsGood, IsSound, Judged, SaysNothing, SpeaksOfFile, most_pool};

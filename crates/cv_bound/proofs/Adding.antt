@@ -7,9 +7,9 @@ use Rattle.std.proofs.lemmas.Bool.{and_parts, eqb-true}
 use Rattle.cv_names.specs.declared.names.NameId.{NameId}
 use Rattle.cv_meaning.specs.Chances.{Chance, AtMost, Same, zero_chance}
 use Rattle.cv_meaning.specs.Interpretation.{Interpretation}
-use Rattle.cv_chances.specs.Fractions.{HasTapes, plus, scaled, times}
+use Rattle.cv_meaning_chances.specs.Fractions.{HasTapes, plus, scaled, times}
 use Rattle.std.proofs.Math.Nat.{mul-pos}
-use Rattle.cv_chances.proofs.FractionLaws.{at_most_trans}
+use Rattle.cv_meaning_chances.proofs.FractionLaws.{at_most_trans}
 use Rattle.cv_bound.specs.declared.cost.Collision.{Collision}
 use Rattle.cv_bound.specs.declared.cost.Cost.{Cost}
 use Rattle.cv_bound.specs.declared.cost.Cost.TheVariants as cost

@@ -4,7 +4,7 @@ use Rattle.std.specs.Prelude.{ℕ, ◌*◌, ◌^◌, Bool, true, false, List, []
 use Rattle.cv_names.specs.declared.names.NameId.{NameId}
 use Rattle.cv_meaning.specs.Chances.{Chance}
 use Rattle.cv_meaning.specs.Interpretation.{Interpretation}
-use Rattle.cv_chances.specs.Fractions.{sum_of}
+use Rattle.cv_meaning_chances.specs.Fractions.{sum_of}
 use Rattle.cv_bound.specs.declared.cost.Collision.{Collision}
 use Rattle.cv_bound.specs.declared.cost.Cost.{Cost}
 use Rattle.cv_bound.specs.declared.terms.Experiment.{Experiment}

@@ -5,7 +5,7 @@ ghost use Rattle.std.specs.Prelude.{◌≡◌, ℕ, ◌+◌, ◌*◌, ◌^◌, �
 ghost use Rattle.std.specs.List.{AllByRecursion, IsDistinct};
 ghost use Rattle.cv_meaning.specs.Chances.{AtMost, Chance, Same, zero_chance};
 ghost use Rattle.cv_meaning.specs.Interpretation.{Interpretation};
-ghost use Rattle.cv_chances.specs.Fractions.{HasTapes, plus, times};
+ghost use Rattle.cv_meaning_chances.specs.Fractions.{HasTapes, plus, times};
 ghost use Rattle.cv_bound.specs.declared.terms.Term.{Term};
 ghost use Rattle.cv_bound.specs.Orders.{are_like_terms, bare};
 ghost use Rattle.cv_bound.specs.Sums.{AllFit, added, coefficients, counted, terms_of, with_terms};

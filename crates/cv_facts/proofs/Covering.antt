@@ -14,7 +14,7 @@ use Rattle.cv_meaning.specs.Serving.{Visit}
 use Rattle.cv_scope.specs.declared.position.Position.{Position}
 use Rattle.cv_scope.specs.declared.position.Position.TheVariants.{Anywhere, Bodies, ElseBody, Guards, Guarded, Cells}
 use Rattle.cv_scope.specs.Context.{Context, cell_of, cells_of, context_at, first_context, first_position, items, known_at, nothing_known, second_context, second_position, with_cells, with_fact}
-use Rattle.cv_discipline.specs.Promises.{GrowsTo, BranchHolds, BranchesHold, CandidatesHold, ContextHolds, FindHolds, PlaceHolds}
+use Rattle.cv_scope_runs.specs.Promises.{GrowsTo, BranchHolds, BranchesHold, CandidatesHold, ContextHolds, FindHolds, PlaceHolds}
 use Rattle.cv_path.specs.declared.place.Lies.{Lies}
 use Rattle.cv_path.specs.declared.place.Lies.TheVariants.{Here, Within, Behind}
 use Rattle.cv_path.specs.Places.{LiesAt}

@@ -11,7 +11,7 @@ use Rattle.cv_scope.specs.declared.position.Position.{Position}
 use Rattle.cv_scope.specs.declared.position.Position.TheVariants.{Bodies, ElseBody, Guards, Guarded}
 use Rattle.cv_scope.specs.Context.{Context, cell_of, cells_of, first_position, replications_below, second_position}
 use Rattle.cv_scope.specs.Rules.{IsAmong}
-use Rattle.cv_discipline.specs.Made.{is_bound}
+use Rattle.cv_scope_runs.specs.Made.{is_bound}
 use Rattle.cv_path.specs.declared.place.Lies.{Lies}
 use Rattle.cv_path.specs.declared.place.Lies.TheVariants.{Here, Within, Behind}
 use Rattle.cv_path.specs.Places.{LiesAt}

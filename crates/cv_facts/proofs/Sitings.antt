@@ -9,7 +9,7 @@ use Rattle.cv_syntax.specs.declared.head.Head.TheVariants.{Binder}
 use Rattle.cv_syntax.specs.Head.{weight}
 use Rattle.cv_syntax.specs.Tree.{Tree, Empty, Node, second, size, tree_at, tree_of}
 use Rattle.cv_scope.specs.Sites.{Variable}
-use Rattle.cv_discipline.specs.Made.{is_bound, made_by}
+use Rattle.cv_scope_runs.specs.Made.{is_bound, made_by}
 use Rattle.cv_facts.specs.declared.sites.Seen.{Seen}
 use Rattle.cv_facts.specs.declared.sites.Seen.TheVariants.{Nothing, Once, Often}
 use Rattle.cv_facts.specs.Definitions.{counted_on, only, places_of, seen_then}

@@ -8,7 +8,7 @@ use Rattle.cv_syntax.specs.Tree.{Tree, Empty, Node, lone, second, tree_at}
 use Rattle.cv_scope.specs.declared.position.Position.{Position}
 use Rattle.cv_scope.specs.declared.position.Position.TheVariants.{Guards, Guarded}
 use Rattle.cv_scope.specs.Context.{Context, cell_of, cells_of, items}
-use Rattle.cv_discipline.specs.Made.{is_bound}
+use Rattle.cv_scope_runs.specs.Made.{is_bound}
 use Rattle.cv_facts.specs.declared.cells.Ahead.{Ahead}
 use Rattle.cv_facts.specs.declared.cells.Ahead.TheVariants.{Rest, Apart}
 use Rattle.cv_facts.specs.declared.cells.Cell.{Cell}

@@ -3,7 +3,7 @@
 use Rattle.std.specs.Prelude.{ℕ, if◌then◌else◌, List, [], ◌∷◌, ◌++◌, Option, Some, None}
 use Rattle.cv_syntax.specs.Tree.{Tree, Empty, Node, first_place, second_place}
 use Rattle.cv_scope.specs.Sites.{Variable}
-use Rattle.cv_discipline.specs.Made.{made_by}
+use Rattle.cv_scope_runs.specs.Made.{made_by}
 use Rattle.cv_facts.specs.declared.sites.Seen.{Seen}
 use Rattle.cv_facts.specs.declared.sites.Seen.TheVariants.{Nothing, Once, Often}
 

@@ -15,8 +15,8 @@ use Rattle.cv_scope.specs.declared.position.Position.{Position}
 use Rattle.cv_scope.specs.declared.position.Position.TheVariants as position
 use Rattle.cv_scope.specs.Context.{Context, first_position, nothing_known, second_position}
 use Rattle.cv_scope.specs.Sites.{Variable}
-use Rattle.cv_discipline.specs.Made.{made_by}
-use Rattle.cv_discipline.specs.Promises.{GrowsTo}
+use Rattle.cv_scope_runs.specs.Made.{made_by}
+use Rattle.cv_scope_runs.specs.Promises.{GrowsTo}
 use Rattle.cv_facts.specs.Standing.{first_standing, second_standing, stands_at}
 
 -- the cells that are directly defined are assigned, and the facts true

@@ -6,7 +6,7 @@ ghost use Rattle.cv_meaning.specs.Tapes.{Tape};
 ghost use Rattle.cv_meaning.specs.Interpretation.{Setting};
 ghost use Rattle.cv_meaning.specs.Runs.{Adversary, Mode};
 ghost use Rattle.cv_meaning.specs.Experiments.{run, visits_of_run};
-ghost use Rattle.cv_discipline.specs.Phrases.{HasConstantsOf, IsWellFormed};
+ghost use Rattle.cv_scope_runs.specs.Phrases.{HasConstantsOf, IsWellFormed};
 ghost use Rattle.cv_facts.specs.Promises.{CandidatesStand, PlaceStands, SitesStand, VisitSitesStand};
 
 /// At each visited place of a run of a well-formed game the facts that a derivation may cite are true, and the cells that

@@ -2,7 +2,7 @@ ghost use Rattle.std.specs.Prelude.{◌≡◌, ◌+◌, ◌<◌, ◌^◌, if◌t
 ghost use Rattle.cv_pool.specs.Nodes.{ChildBelow};
 ghost use Rattle.cv_syntax.specs.Tree.{second, size, tree_at};
 ghost use Rattle.cv_scope.specs.Sites.{Variable};
-ghost use Rattle.cv_discipline.specs.Made.{is_bound, made_by};
+ghost use Rattle.cv_scope_runs.specs.Made.{is_bound, made_by};
 ghost use Rattle.cv_facts.specs.Definitions.{counted_on, only, places_of, seen_then};
 
 use cv_syntax::{Game, Head, NameId, NodeId, Opened, Pool, Work, read_node};

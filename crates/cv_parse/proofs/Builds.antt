@@ -14,12 +14,12 @@ use Rattle.cv_syntax.specs.Declarations.{Declaration, Named, Equation, Equiv, Qu
 use Rattle.cv_syntax.specs.Planting.{overs}
 use Rattle.cv_syntax.specs.Postorder.{postorder}
 use Rattle.cv_syntax.specs.Tree.{Tree, Empty, Node, tree_at, tree_of}
-use Rattle.cv_rules.specs.Filled.{filled}
-use Rattle.cv_rules.specs.Identities.{AreDistinct, ids_of}
-use Rattle.cv_rules.specs.Rules.{File}
-use Rattle.cv_read_declarations.specs.declared.heard.Heard.{Heard}
-use Rattle.cv_read_declarations.specs.Declares.{IsWhole, heard_of, parts_of, tree_in}
-use Rattle.cv_read_file.specs.declared.file.Reading.{Reading}
+use Rattle.cv_parse_grammar.specs.Filled.{filled}
+use Rattle.cv_parse_grammar.specs.Identities.{AreDistinct, ids_of}
+use Rattle.cv_parse_grammar.specs.Rules.{File}
+use Rattle.cv_parse_declarations.specs.declared.heard.Heard.{Heard}
+use Rattle.cv_parse_declarations.specs.Declares.{IsWhole, heard_of, parts_of, tree_in}
+use Rattle.cv_parse_declarations.specs.declared.file.Reading.{Reading}
 use Rattle.cv_parse.specs.Building.{Builds}
 use Rattle.cv_parse.specs.Declaring.{IsBelow, IsNameable, all_decls, bool_decl, decl_of, named_by, names_by}
 use Rattle.cv_parse.specs.Parsed.{bool_type}

@@ -4,18 +4,18 @@ use Rattle.std.proofs.lemmas.Bool.Decides.{nat_tests}
 use Rattle.cv_syntax.specs.declared.work.BuildError.{BuildError}
 use Rattle.cv_syntax.specs.declared.work.BuildError.TheVariants as build
 use Rattle.cv_syntax.specs.Tree.{depth, size}
-use Rattle.cv_grammar.specs.declared.sign.Sign.{Sign}
-use Rattle.cv_grammar.specs.Reads.{Fault, Read}
-use Rattle.cv_grammar.specs.Reads as fault
-use Rattle.cv_grammar.proofs.Whole.{syntax_is_final}
-use Rattle.cv_rules.specs.declared.role.Role.{Role}
-use Rattle.cv_rules.specs.Files.{levels, read_whole}
-use Rattle.cv_rules.specs.Names.{NameFault, name_fault}
-use Rattle.cv_rules.specs.Names as names
-use Rattle.cv_rules.specs.Rules.{File, file, heads, rule, tails}
-use Rattle.cv_rules.specs.Whole.{Content, Misnamed, Refusal, Unread, built_in, outcome, outcome_of, unless}
-use Rattle.cv_rules.proofs.Fitting.{all_fit, file_fits}
-use Rattle.cv_rules.proofs.Outcome.{accepted_is_read, read_is_accepted, refused_is_misnamed}
+use Rattle.cv_parse_notation.specs.declared.sign.Sign.{Sign}
+use Rattle.cv_parse_notation.specs.Reads.{Fault, Read}
+use Rattle.cv_parse_notation.specs.Reads as fault
+use Rattle.cv_parse_notation.proofs.Whole.{syntax_is_final}
+use Rattle.cv_parse_grammar.specs.declared.role.Role.{Role}
+use Rattle.cv_parse_grammar.specs.Files.{levels, read_whole}
+use Rattle.cv_parse_grammar.specs.Names.{NameFault, name_fault}
+use Rattle.cv_parse_grammar.specs.Names as names
+use Rattle.cv_parse_grammar.specs.Rules.{File, file, heads, rule, tails}
+use Rattle.cv_parse_grammar.specs.Whole.{Content, Misnamed, Refusal, Unread, built_in, outcome, outcome_of, unless}
+use Rattle.cv_parse_grammar.proofs.Fitting.{all_fit, file_fits}
+use Rattle.cv_parse_grammar.proofs.Outcome.{accepted_is_read, read_is_accepted, refused_is_misnamed}
 use Rattle.cv_parse.specs.declared.error.ParseError.{ParseError}
 use Rattle.cv_parse.specs.declared.error.ParseError.TheVariants.{Syntax, Nesting, NameTwice, NameUnknown, Build}
 use Rattle.cv_parse.specs.Parsed.{Parsed, limited, most_depth, most_nodes, of_fault, of_name, of_outcome, parsed, said, sized_first, weight_of}

@@ -3,3 +3,8 @@ pub mod Declarings
 pub mod Exactness
 pub mod Parsings
 pub mod Weighing
+pub mod Behind
+pub mod Outcomes
+pub mod Plants
+pub mod Reached
+pub mod Sizes

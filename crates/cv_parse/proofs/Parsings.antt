@@ -10,19 +10,19 @@ use Rattle.cv_syntax.specs.declared.work.BuildError.TheVariants as build
 use Rattle.cv_syntax.specs.declared.work.File.{File}
 use Rattle.cv_syntax.specs.Postorder.{postorder}
 use Rattle.cv_syntax.specs.Tree.{Tree, depth, size}
-use Rattle.cv_grammar.specs.declared.sign.Sign.{Sign}
-use Rattle.cv_rules.specs.Filled.{filled}
-use Rattle.cv_rules.specs.Files.{levels, read_whole}
-use Rattle.cv_rules.specs.Names.{name_fault}
-use Rattle.cv_rules.specs.Whole.{built_in, content_of, outcome_of, unless}
-use Rattle.cv_rules.proofs.Identities.{ids_are_distinct}
-use Rattle.cv_rules.proofs.Outcome.{accepted_is_read}
-use Rattle.cv_read.specs.declared.reading.ReadError.{ReadError}
-use Rattle.cv_read.specs.declared.trail.NameUse.{NameUse}
-use Rattle.cv_read.specs.declared.reading.ReadError.TheVariants as reading
-use Rattle.cv_read.specs.Gives.{Fails, uses_of}
-use Rattle.cv_read_file.specs.declared.file.Reading.{Reading}
-use Rattle.cv_read_file.specs.Files.{IsReading}
+use Rattle.cv_parse_notation.specs.declared.sign.Sign.{Sign}
+use Rattle.cv_parse_grammar.specs.Filled.{filled}
+use Rattle.cv_parse_grammar.specs.Files.{levels, read_whole}
+use Rattle.cv_parse_grammar.specs.Names.{name_fault}
+use Rattle.cv_parse_grammar.specs.Whole.{built_in, content_of, outcome_of, unless}
+use Rattle.cv_parse_grammar.proofs.Identities.{ids_are_distinct}
+use Rattle.cv_parse_grammar.proofs.Outcome.{accepted_is_read}
+use Rattle.cv_parse_terms.specs.declared.lookahead.ReadError.{ReadError}
+use Rattle.cv_parse_terms.specs.declared.trail.NameUse.{NameUse}
+use Rattle.cv_parse_terms.specs.declared.lookahead.ReadError.TheVariants as reading
+use Rattle.cv_parse_terms.specs.Gives.{Fails, uses_of}
+use Rattle.cv_parse_declarations.specs.declared.file.Reading.{Reading}
+use Rattle.cv_parse_declarations.specs.Files.{IsReading}
 use Rattle.cv_parse.specs.declared.error.ParseError.{ParseError}
 use Rattle.cv_parse.specs.declared.error.ParseError.TheVariants.{Syntax, Nesting, NameTwice, NameUnknown, Build}
 use Rattle.cv_parse.specs.Building.{Builds, Crowds, IsBuilt, Misnames}

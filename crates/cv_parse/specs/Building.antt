@@ -8,12 +8,12 @@ use Rattle.cv_syntax.specs.declared.work.BuildError.TheVariants.{Full, OutOfMemo
 use Rattle.cv_syntax.specs.Declarations.{declarations}
 use Rattle.cv_syntax.specs.Postorder.{postorder}
 use Rattle.cv_syntax.specs.Tree.{tree_at}
-use Rattle.cv_rules.specs.Filled.{filled}
-use Rattle.cv_rules.specs.Identities.{AreDistinct, ids_of}
-use Rattle.cv_rules.specs.Names.{NameFault, Uses, name_fault}
-use Rattle.cv_rules.specs.Rules.{File}
-use Rattle.cv_read_file.specs.declared.file.Reading.{Reading}
-use Rattle.cv_read_file.specs.Files.{Hears}
+use Rattle.cv_parse_grammar.specs.Filled.{filled}
+use Rattle.cv_parse_grammar.specs.Identities.{AreDistinct, ids_of}
+use Rattle.cv_parse_grammar.specs.Names.{NameFault, Uses, name_fault}
+use Rattle.cv_parse_grammar.specs.Rules.{File}
+use Rattle.cv_parse_declarations.specs.declared.file.Reading.{Reading}
+use Rattle.cv_parse_declarations.specs.Files.{Hears}
 use Rattle.cv_parse.specs.declared.error.ParseError.{ParseError}
 use Rattle.cv_parse.specs.declared.error.ParseError.TheVariants.{Build}
 use Rattle.cv_parse.specs.Parsed.{bool_type, of_name}

@@ -1,8 +1,8 @@
 -- How the faults of the stages are answered.
 use Rattle.cv_pool.specs.declared.pool.PoolError.{PoolError}
 use Rattle.cv_pool.specs.declared.pool.PoolError.TheVariants as pool
-use Rattle.cv_read.specs.declared.reading.ReadError.{ReadError}
-use Rattle.cv_read.specs.declared.reading.ReadError.TheVariants as reading
+use Rattle.cv_parse_terms.specs.declared.lookahead.ReadError.{ReadError}
+use Rattle.cv_parse_terms.specs.declared.lookahead.ReadError.TheVariants as reading
 use Rattle.cv_syntax.specs.declared.work.BuildError.TheVariants as build
 use Rattle.cv_parse.specs.declared.error.ParseError.{ParseError}
 use Rattle.cv_parse.specs.declared.error.ParseError.TheVariants.{Syntax, Nesting, Build}

@@ -4,3 +4,7 @@ pub mod Faults
 pub mod Parsed
 pub mod Says
 pub mod Weights
+pub mod Games
+pub mod Measures
+pub mod Stages
+pub mod Terms

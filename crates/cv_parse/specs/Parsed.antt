@@ -8,12 +8,12 @@ use Rattle.cv_syntax.specs.declared.work.File.{File}
 use Rattle.cv_syntax.specs.declared.work.Work.{Work}
 use Rattle.cv_syntax.specs.Declarations.{Declaration, Named, declarations}
 use Rattle.cv_syntax.specs.Tree.{Tree, Empty, size, depth, tree_at}
-use Rattle.cv_grammar.specs.declared.sign.Sign.{Sign}
-use Rattle.cv_grammar.specs.Reads.{Fault}
-use Rattle.cv_grammar.specs.Reads as fault
-use Rattle.cv_rules.specs.Names.{NameFault}
-use Rattle.cv_rules.specs.Names as names
-use Rattle.cv_rules.specs.Whole.{Content, Misnamed, Refusal, Unread, outcome}
+use Rattle.cv_parse_notation.specs.declared.sign.Sign.{Sign}
+use Rattle.cv_parse_notation.specs.Reads.{Fault}
+use Rattle.cv_parse_notation.specs.Reads as fault
+use Rattle.cv_parse_grammar.specs.Names.{NameFault}
+use Rattle.cv_parse_grammar.specs.Names as names
+use Rattle.cv_parse_grammar.specs.Whole.{Content, Misnamed, Refusal, Unread, outcome}
 use Rattle.cv_parse.specs.declared.error.ParseError.{ParseError}
 use Rattle.cv_parse.specs.declared.error.ParseError.TheVariants.{Syntax, Nesting, NameTwice, NameUnknown, Build}
 use Rattle.cv_parse.specs.Weights.{asked, capped, declared_weight, tree_weight}

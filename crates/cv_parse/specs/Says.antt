@@ -2,11 +2,11 @@
 use Rattle.std.specs.Prelude.{◌≡◌, ℕ, ◌-◌, ◌<◌, ◌≤◌, List, ◌∷◌, length, Option}
 use Rattle.cv_syntax.specs.Declarations.{Declaration}
 use Rattle.cv_syntax.specs.Tree.{Tree, depth, size}
-use Rattle.cv_grammar.specs.declared.sign.Sign.{Sign}
-use Rattle.cv_grammar.specs.Whole.{Dead}
-use Rattle.cv_rules.specs.Files.{IsSomeFile, levels}
-use Rattle.cv_rules.specs.Names.{NameFault}
-use Rattle.cv_rules.specs.Whole.{IsMisnamed, IsRead}
+use Rattle.cv_parse_notation.specs.declared.sign.Sign.{Sign}
+use Rattle.cv_parse_notation.specs.Whole.{Dead}
+use Rattle.cv_parse_grammar.specs.Files.{IsSomeFile, levels}
+use Rattle.cv_parse_grammar.specs.Names.{NameFault}
+use Rattle.cv_parse_grammar.specs.Whole.{IsMisnamed, IsRead}
 use Rattle.cv_parse.specs.Parsed.{Parsed, bool_type, most_depth, most_nodes, range_of, weight_of}
 use Rattle.cv_parse.specs.Weights.{asked, capped}
 

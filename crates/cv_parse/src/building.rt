@@ -1,7 +1,7 @@
 ghost use Rattle.std.specs.Prelude.{◌≡◌, ◌+◌, ◌<◌, ◌≤◌, ◌^◌, ◌++◌, ◌∷◌, [], ℕ, List, All, map, flat_map, length, Some, IfOk, IfErr, OnOk};
 ghost use Rattle.std.specs.List.{AllByRecursion};
 ghost use Rattle.cv_pool.specs.Nodes.{ChildBelow};
-ghost use Rattle.cv_rules.specs.Identities.{AreDistinct};
+ghost use Rattle.cv_parse_grammar.specs.Identities.{AreDistinct};
 ghost use Rattle.cv_syntax.specs.Postorder.{postorder};
 ghost use Rattle.cv_syntax.specs.Tree.{Tree, size, tree_at};
 ghost use Rattle.cv_parse.specs.Building.{Builds, Crowds, IsBuilt};
@@ -11,8 +11,7 @@ ghost use Rattle.cv_parse.specs.Weights.{asked as asked_for, parts_weight as wei
 use crate::declaring::declare_all;
 use crate::error::ParseError;
 use crate::weights::{asked, parts_weight};
-use cv_read_declarations::Heard;
-use cv_read_file::Reading;
+use cv_parse_declarations::{Heard, Reading};
 use cv_syntax::{BuildError, Class, Decl, Decls, Make, NameId, NodeId, Pool, plant};
 use std::alloc::{AllocError, Global};
 

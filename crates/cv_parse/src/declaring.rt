@@ -1,9 +1,9 @@
 ghost use Rattle.std.specs.Prelude.{◌≡◌, ◌+◌, ◌<◌, ◌≤◌, ◌^◌, ◌++◌, length, flat_map, OnOk};
 ghost use Rattle.std.specs.List.{AllByRecursion};
-ghost use Rattle.cv_rules.specs.Identities.{AreDistinct};
+ghost use Rattle.cv_parse_grammar.specs.Identities.{AreDistinct};
 ghost use Rattle.cv_parse.specs.Declaring.{IsNameable, all_decls, decl_of as declaration_of, names_by, names_of, or_first as first_of};
 
-use cv_read_declarations::Heard;
+use cv_parse_declarations::Heard;
 use cv_syntax::{Decl, Decls, NameId, NodeId};
 use std::alloc::AllocError;
 

@@ -1,4 +1,4 @@
-use cv_read::ReadError;
+use cv_parse_terms::ReadError;
 use cv_syntax::{BuildError, PoolError};
 use std::alloc::AllocError;
 

@@ -1,8 +1,8 @@
 ghost use Rattle.std.specs.Prelude.{◌≡◌, ◌+◌, ◌<◌, ◌≤◌, ◌^◌, ◌++◌, [], None, Some, Ok, length, All, OnErr, IfErr, IfOk, OnOk};
-ghost use Rattle.cv_rules.specs.Filled.{filled};
-ghost use Rattle.cv_rules.specs.Names.{name_fault as fault_of};
-ghost use Rattle.cv_read.specs.Gives.{uses_of};
-ghost use Rattle.cv_signs.specs.Signs.{signs_of};
+ghost use Rattle.cv_parse_grammar.specs.Filled.{filled};
+ghost use Rattle.cv_parse_grammar.specs.Names.{name_fault as fault_of};
+ghost use Rattle.cv_parse_terms.specs.Gives.{uses_of};
+ghost use Rattle.cv_parse_terminals.specs.Signs.{signs_of};
 ghost use Rattle.cv_syntax.specs.Postorder.{postorder};
 ghost use Rattle.cv_syntax.specs.Tree.{Tree, tree_at, size};
 ghost use Rattle.cv_parse.specs.Building.{Misnames};
@@ -11,13 +11,13 @@ ghost use Rattle.cv_parse.specs.Parsed.{Parses, ParsesIn, Refuses, range_of, siz
 
 use crate::building::build;
 use crate::error::ParseError;
-use cv_filling::{fill, measure};
-use cv_grammar::Sign;
 use cv_lex::Tokens;
-use cv_naming::{NameFault, name_fault};
-use cv_read::NameUse;
-use cv_read_file::{Reading, read};
-use cv_signs::signs;
+use cv_parse_declarations::{Reading, read};
+use cv_parse_indices::{fill, measure};
+use cv_parse_names::{NameFault, name_fault};
+use cv_parse_notation::Sign;
+use cv_parse_terminals::signs;
+use cv_parse_terms::NameUse;
 use cv_syntax::{BuildError, Decls, File, Game, Make, NodeId, Pool, Work};
 use std::alloc::{AllocError, Global};
 

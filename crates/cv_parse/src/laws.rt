@@ -1,6 +1,6 @@
 ghost use Rattle.std.specs.Prelude.{◌≡◌, ◌↔◌, ℕ, List, Ok, Err};
-ghost use Rattle.cv_grammar.specs.declared.sign.Sign.{Sign};
-ghost use Rattle.cv_rules.specs.Names as names;
+ghost use Rattle.cv_parse_notation.specs.declared.sign.Sign.{Sign};
+ghost use Rattle.cv_parse_grammar.specs.Names as names;
 ghost use Rattle.cv_syntax.specs.declared.work.BuildError.TheVariants.{Depth, Full, Nodes};
 ghost use Rattle.cv_parse.specs.declared.error.ParseError.TheVariants.{Build, NameTwice, NameUnknown, Syntax};
 ghost use Rattle.cv_parse.specs.Parsed.{Parsed, parsed};

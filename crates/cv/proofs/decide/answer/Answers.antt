@@ -5,9 +5,9 @@ use Rattle.cv_pool.proofs.Growth.{Grows-length, Grows-trans}
 use Rattle.cv_syntax.specs.declared.decls.Decl.{Decl}
 use Rattle.cv_syntax.specs.Classes.{DeclsView}
 use Rattle.cv_syntax.specs.Tree.{size, tree_at}
-use Rattle.cv_files.specs.Lists.{query_of}
-use Rattle.cv_files.proofs.QueryLists.{query-below, queries-skip, queries-take, queries-past}
-use Rattle.cv_direct.specs.Plain.{certificate}
+use Rattle.cv_accept.specs.Lists.{query_of}
+use Rattle.cv_accept.proofs.QueryLists.{query-below, queries-skip, queries-take, queries-past}
+use Rattle.cv_query_direct.specs.Plain.{certificate}
 use Rattle.cv.specs.Findings.{said}
 use Rattle.cv.specs.Strategy.{said_of, said_then}
 use Rattle.cv.proofs.Growing.{root-grown}

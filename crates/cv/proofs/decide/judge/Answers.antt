@@ -2,10 +2,10 @@ use Rattle.std.proofs.Common.{arith, ap, sym, subst, ◌∙◌, Some, Ok, length
 use Rattle.cv_pool.proofs.Growth.{Grows-length}
 use Rattle.cv_syntax.specs.Declarations.{declarations}
 use Rattle.cv_syntax.specs.Tree.{Tree, tree_at}
-use Rattle.cv_queries.specs.Queries.{queries_in}
-use Rattle.cv_files.specs.Accepted.{Content}
-use Rattle.cv_files.proofs.Readings.{accepted}
-use Rattle.cv_files.proofs.QueryLists.{queries-same}
+use Rattle.cv_query_form.specs.Queries.{queries_in}
+use Rattle.cv_accept.specs.Accepted.{Content}
+use Rattle.cv_accept.proofs.Readings.{accepted}
+use Rattle.cv_accept.proofs.QueryLists.{queries-same}
 use Rattle.cv.specs.Findings.{said}
 use Rattle.cv.specs.Strategy.{Said, closing, expected, most_pool, nothing_said, said_of, status_of}
 use Rattle.cv.specs.Causes.{Caused}

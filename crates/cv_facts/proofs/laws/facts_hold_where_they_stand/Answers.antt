@@ -1,5 +1,5 @@
 use Rattle.cv_meaning.specs.Experiments.{run, visits_of_run, coins_on}
-use Rattle.cv_discipline.proofs.FactsRuns.{all_candidates_hold, all_cells_hold, all_places_hold, last_cells_hold}
+use Rattle.cv_scope_runs.proofs.FactsRuns.{all_candidates_hold, all_cells_hold, all_places_hold, last_cells_hold}
 use Rattle.cv_facts.proofs.Covering.{all-candidates-stand, places-stand}
 use Rattle.cv_facts.proofs.SitesStanding.{sites-stand, visits-stand}
 use Rattle.cv_facts.proofs.laws.facts_hold_where_they_stand.Goals as goal

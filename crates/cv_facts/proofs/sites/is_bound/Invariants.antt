@@ -2,7 +2,7 @@ use Rattle.std.proofs.Common.{◌≡◌, length}
 use Rattle.cv_pool.specs.Nodes.{ChildBelow}
 use Rattle.cv_syntax.specs.Tree.{tree_at}
 use Rattle.cv_syntax.specs.Walks.{above}
-use Rattle.cv_discipline.specs.Made.{is_bound}
+use Rattle.cv_scope_runs.specs.Made.{is_bound}
 use Rattle.cv_facts.proofs.sites.is_bound.Given as goal
 
 abbrev pub invariant-binders : goal.invariant-binders

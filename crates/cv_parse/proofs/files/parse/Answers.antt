@@ -1,9 +1,9 @@
 use Rattle.std.proofs.Common.{◌++◌, ◌≤◌, ap, sym, ◌∙◌, length, subst}
 use Rattle.cv_syntax.specs.Postorder.{postorder}
 use Rattle.cv_syntax.specs.Tree.{size}
-use Rattle.cv_rules.specs.Filled.{filled}
-use Rattle.cv_rules.specs.Names.{name_fault}
-use Rattle.cv_read.specs.Gives.{uses_of}
+use Rattle.cv_parse_grammar.specs.Filled.{filled}
+use Rattle.cv_parse_grammar.specs.Names.{name_fault}
+use Rattle.cv_parse_terms.specs.Gives.{uses_of}
 use Rattle.cv_parse.specs.Parsed.{range_of}
 use Rattle.cv_parse.proofs.Parsings.{builds, few_nodes, names_refuse_at, parses, passed_on, read_refuses, room_refuses, size_refuses}
 use Rattle.cv_parse.proofs.files.parse.Goals as goal

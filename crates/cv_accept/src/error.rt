@@ -1,0 +1,106 @@
+use cv_lex::LexError;
+use cv_parse::ParseError;
+use cv_query_form::QueryFault;
+use cv_scope::ScopeFault;
+use cv_syntax::BuildError;
+use cv_typing::TypeFault;
+use std::alloc::AllocError;
+
+/// Why bytes aren't taken as a file.
+#[derive(Clone, Copy, Debug, PartialEq, Eq)]
+pub enum FileError {
+    /// They have no tokens.
+    Lex(LexError),
+    /// Their tokens are no file.
+    Parse(ParseError),
+    /// They are a file whose terms aren't typed.
+    Types(TypeFault),
+    /// They are a file whose game breaks a rule of array scope.
+    Scope(ScopeFault),
+    /// They are a file whose query of this number, counted from 1, may not be asked.
+    Query(u32),
+    /// They are a file with a part that isn't read yet: a proof block or an equivalence.
+    Unbuilt,
+    OutOfMemory,
+}
+
+impl From<AllocError> for FileError {
+    ghost use Rattle.std.specs.Prelude.{◌≡◌};
+    ghost use Rattle.cv_accept.specs.declared.error.FileError.TheVariants.{OutOfMemory};
+
+    ghost from_gives = { λ _ e. e ≡ OutOfMemory };
+
+    fn from(_: AllocError) -> FileError {
+        FileError::OutOfMemory
+    }
+}
+
+impl From<LexError> for FileError {
+    ghost use Rattle.cv_accept.specs.Faults.{of_lex};
+    ghost use Rattle.std.specs.Prelude.{◌≡◌};
+
+    ghost from_gives = { λ fault e. e ≡ of_lex fault };
+
+    fn from(fault: LexError) -> FileError {
+        match fault {
+            LexError::OutOfMemory => FileError::OutOfMemory,
+            other => FileError::Lex(other),
+        }
+    }
+}
+
+impl From<ParseError> for FileError {
+    ghost use Rattle.cv_accept.specs.Faults.{of_parse};
+    ghost use Rattle.std.specs.Prelude.{◌≡◌};
+
+    ghost from_gives = { λ fault e. e ≡ of_parse fault };
+
+    fn from(fault: ParseError) -> FileError {
+        match fault {
+            ParseError::Build(BuildError::OutOfMemory) => FileError::OutOfMemory,
+            other => FileError::Parse(other),
+        }
+    }
+}
+
+impl From<TypeFault> for FileError {
+    ghost use Rattle.cv_accept.specs.Faults.{of_type};
+    ghost use Rattle.std.specs.Prelude.{◌≡◌};
+
+    ghost from_gives = { λ fault e. e ≡ of_type fault };
+
+    fn from(fault: TypeFault) -> FileError {
+        match fault {
+            TypeFault::OutOfMemory => FileError::OutOfMemory,
+            other => FileError::Types(other),
+        }
+    }
+}
+
+impl From<ScopeFault> for FileError {
+    ghost use Rattle.cv_accept.specs.Faults.{of_scope};
+    ghost use Rattle.std.specs.Prelude.{◌≡◌};
+
+    ghost from_gives = { λ fault e. e ≡ of_scope fault };
+
+    fn from(fault: ScopeFault) -> FileError {
+        match fault {
+            ScopeFault::OutOfMemory => FileError::OutOfMemory,
+            other => FileError::Scope(other),
+        }
+    }
+}
+
+impl From<QueryFault> for FileError {
+    ghost use Rattle.cv_accept.specs.Faults.{of_query};
+    ghost use Rattle.std.specs.Prelude.{◌≡◌};
+
+    ghost from_gives = { λ fault e. e ≡ of_query fault };
+
+    fn from(fault: QueryFault) -> FileError {
+        match fault {
+            QueryFault::Query(k) => FileError::Query(k),
+            QueryFault::OutOfMemory => FileError::OutOfMemory,
+        }
+    }
+}

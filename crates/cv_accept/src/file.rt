@@ -1,0 +1,69 @@
+ghost use Rattle.std.specs.Prelude.{◌≡◌, ◌+◌, ◌<◌, ◌≤◌, ◌^◌, [], ℕ, Some, None, All, length, IfOk, OnOk, OnErr};
+ghost use Rattle.cv_parse.specs.Declaring.{IsBelow};
+ghost use Rattle.cv_syntax.specs.Tree.{size, tree_at};
+ghost use Rattle.cv_accept.specs.Works.{Reads};
+
+use crate::equivalences::has_equivalence;
+use crate::error::FileError;
+use crate::scoping::check_game;
+use cv_lex::tokens;
+use cv_parse::file;
+use cv_query_form::check as check_queries;
+use cv_syntax::{File, Work};
+use cv_typing::check as check_types;
+use std::alloc::Global;
+
+/// Fills an empty work with what bytes hold, where they are a file.
+#[tactic(auto, using(crate::proofs::Lengths::lengths))]
+fn fill(alloc: Global, work: &mut Work, bytes: &[u8]) -> Result<File, FileError>
+    requires names { work.old.names ≡ [] }
+    requires decls { work.old.decls.list ≡ [] }
+    requires trees { work.old.pool.trees ≡ [] }
+    requires limit { work.old.pool.limit < 4294967295 }
+    requires few { length bytes.now ≤ 1048576 }
+    ensures reads { Reads work.old.pool.limit bytes.now work.new result }
+    ensures live { IfOk result (λ f. f.game.root.0 < length work.new.pool.trees) }
+    ensures fits { IfOk result (λ f. size (tree_at work.new.pool.trees (Some f.game.root)) ≤ 50000) }
+    ensures below { OnOk result (All (IsBelow (length work.new.pool.trees)) work.new.decls.list) }
+{
+    let tokens = tokens(alloc, bytes)?;
+    let file = file(alloc, work, &tokens)?;
+    if file.script.is_some() {
+        return Err(FileError::Unbuilt);
+    }
+    let nodes = check_types(alloc, work, &file)?;
+    check_game(alloc, work, file.game, nodes)?;
+    if has_equivalence(&work.decls) {
+        return Err(FileError::Unbuilt);
+    }
+    check_queries(alloc, work, file.game)?;
+    Ok(file)
+}
+
+/// Reads a file into an empty work, which is empty again where no file is read. A file has at most a
+/// mebibyte.
+pub fn read(alloc: Global, work: &mut Work, bytes: &[u8]) -> Result<File, FileError>
+    requires names { work.old.names ≡ [] }
+    requires decls { work.old.decls.list ≡ [] }
+    requires trees { work.old.pool.trees ≡ [] }
+    requires limit { work.old.pool.limit < 4294967295 }
+    requires few { length bytes.now ≤ 1048576 }
+    ensures reads { Reads work.old.pool.limit bytes.now work.new result }
+    ensures live { IfOk result (λ f. f.game.root.0 < length work.new.pool.trees) }
+    ensures fits { IfOk result (λ f. size (tree_at work.new.pool.trees (Some f.game.root)) ≤ 50000) }
+    ensures below { OnOk result (All (IsBelow (length work.new.pool.trees)) work.new.decls.list) }
+    ensures names { OnErr result (work.new.names ≡ []) }
+    ensures decls { OnErr result (work.new.decls.list ≡ []) }
+    ensures trees { OnErr result (work.new.pool.trees ≡ []) }
+{
+    let before = work.pool.mark();
+    match fill(alloc, work, bytes) {
+        Ok(file) => Ok(file),
+        Err(fault) => {
+            work.names.keep(0);
+            work.decls.keep(0);
+            work.pool.release(before);
+            Err(fault)
+        }
+    }
+}

@@ -1,4 +1,0 @@
-pub mod Found
-pub mod Plain
-pub mod Search
-pub mod Variables

@@ -1,0 +1,13 @@
+use Rattle.cv_meaning_adequacy.proofs.Sorted.{typed_value}
+use Rattle.cv_meaning_adequacy.proofs.TypedRuns.{run_typed}
+use Rattle.cv_meaning_adequacy.proofs.TypedTapes.{tapes_typed}
+use Rattle.cv_meaning_adequacy.proofs.typed_variables_have_values.Goals as goal
+
+pub returns-clause-terms : goal.returns-clause-terms
+returns-clause-terms c = typed_value
+
+pub returns-clause-runs : goal.returns-clause-runs
+returns-clause-runs c = run_typed
+
+pub returns-clause-tapes : goal.returns-clause-tapes
+returns-clause-tapes c = tapes_typed

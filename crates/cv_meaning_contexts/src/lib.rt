@@ -1,0 +1,192 @@
+// Reduction contexts with a side of an equivalence, and their advantage.
+#![tactic(auto)]
+
+ghost use Rattle.std.specs.Prelude.{◌≡◌, ℕ, ◌==◌, ◌&&◌, true, false, [], ◌∷◌, List, Some, None, map};
+ghost use Rattle.std.specs.List.{AllByRecursion, IsDistinct};
+ghost use Rattle.cv_syntax.specs.declared.head.Head.TheVariants.{Equivalence};
+ghost use Rattle.cv_syntax.specs.Declarations.{Declaration};
+ghost use Rattle.cv_syntax.specs.Tree.{Tree, Node};
+ghost use Rattle.cv_meaning.specs.Tapes.{Tape, Key_at, Made_at, Picked_at, same_cell, cells_of, blank, count};
+ghost use Rattle.cv_meaning.specs.Side.{Arrays, CallNumber, OracleCall};
+ghost use Rattle.cv_meaning.specs.Interpretation.{Interpretation, setting_of};
+ghost use Rattle.cv_meaning.specs.Terms.{bit, is_one};
+ghost use Rattle.cv_meaning.specs.Runs.{Adversary, Real, Random};
+ghost use Rattle.cv_meaning.specs.Worked.{adversary, never_query, leaf, declared_file};
+ghost use Rattle.cv_meaning_contexts.specs.Groups.{Left, Right, side_group};
+ghost use Rattle.cv_meaning_contexts.specs.Sites.{sites_of};
+ghost use Rattle.cv_meaning_contexts.specs.Frames.{Frame};
+ghost use Rattle.cv_meaning_contexts.specs.Finds.{Oracles, Pick, picks};
+ghost use Rattle.cv_meaning_contexts.specs.Made.{WasMade, have_own_cells};
+ghost use Rattle.cv_meaning_contexts.specs.Sides.{Context, side_from, side_of};
+ghost use Rattle.cv_meaning_contexts.specs.ContextAdvantage.{Experiment, Breaks, Guesses, context_chance, context_advantage};
+ghost use Rattle.cv_meaning_contexts.specs.OwnCells.{IsOfCall};
+ghost use Rattle.cv_meaning_contexts.specs.Worked.{parity, answers, at_site, site, side_at, encrypting, encryption, chosen_after, encryption_equivalence, encrypter, was_authenticated, checked, authenticating, tag, check, call_with, bound_twice, constant_group, keeper, one_put, one_of_two_branches, two_alike, bound_or_not, itself, put, get, last_of, picking, guessing, is_key, guess_equivalence, guess_context, guesses_zero, tells_the_test, authentication_context, forges, asks, replicated_game};
+
+/// An equivalence whose two sides are one group has the advantage zero in every context and every
+/// experiment, and so has any context whose two sides answer alike, whatever the interpretation and
+/// the adversary.
+pub fn equal_sides_have_no_advantage()
+    ensures one_group { (ds : List Declaration) (i : Interpretation) (p : ℕ) (group game : Tree)
+        (fs : List ℕ) (x : Experiment) (a : Adversary) →
+        (context_advantage ds i
+        (record { game = game; equivalence = Node (Equivalence p) group group; functions = fs }) x a).good ≡ 0 }
+    ensures equal_sides { (ds : List Declaration) (i : Interpretation) (c : Context) (x : Experiment)
+        (a : Adversary) → side_of ds i c Left ≡ side_of ds i c Right →
+        (context_advantage ds i c x a).good ≡ 0 }
+{}
+
+/// A side's answer to a call depends on the key and on the listed cells of the call alone. Each cell is
+/// listed once, and is no other call's.
+pub fn answers_are_local()
+    ensures reads { (o : Oracles) (t u : Tape) (arrays : Arrays) (call : OracleCall) →
+        AllByRecursion (λ c. t c ≡ u c) (Key_at call.key ∷ cells_of ((side_from o).cells call.number)) →
+        (side_from o).reply t arrays call ≡ (side_from o).reply u arrays call }
+    ensures once { (o : Oracles) (n : CallNumber) →
+        IsDistinct same_cell (cells_of ((side_from o).cells n)) }
+    ensures own { (o : Oracles) (n : CallNumber) →
+        AllByRecursion (IsOfCall n) (cells_of ((side_from o).cells n)) }
+{}
+
+/// Where the list of each branch of a find has a cell at the branch's own index, each candidate is a call
+/// that was made under the key of the call that searches.
+pub fn only_calls_that_were_made_are_found()
+    ensures { (o : Oracles) (e : Frame) (branches : Tree) → have_own_cells branches ≡ true →
+        AllByRecursion (λ (c : Pick). WasMade e c.number) (picks o e branches) }
+{}
+
+/// The parts of the two groups of an equivalence. Coins stand before the arguments on the left, and at
+/// the front of the body on the right; a function without a replication has a bound of its own name.
+pub fn worked_groups()
+    ensures left { side_group Left encryption_equivalence ≡ record {
+      key = (30, 5);
+      functions =
+          record { index = Some 23; bound = 24; coins = (34, 38) ∷ []; arguments = (31, 5) ∷ []; body = encryption }
+          ∷ record { index = None; bound = 25; coins = []; arguments = []; body = leaf 30 }
+          ∷ [];
+    } }
+    ensures right { side_group Right encryption_equivalence ≡ record {
+      key = (30, 5);
+      functions =
+          record { index = Some 23; bound = 24; coins = []; arguments = (31, 5) ∷ []; body = chosen_after }
+          ∷ record { index = None; bound = 25; coins = []; arguments = []; body = leaf 30 }
+          ∷ [];
+    } }
+{}
+
+/// The sites of a context by number, with the values of the parameters above each call. A call whose
+/// function isn't told is no site, nor is a number without a call.
+pub fn worked_sites()
+    ensures { sites_of (setting_of [] parity) replicated_game (1 ∷ 0 ∷ 1 ∷ [])
+        ≡ site 0 1 (2 ∷ 2 ∷ []) ∷ site 1 0 (2 ∷ []) ∷ [] }
+{}
+
+/// The coins of a call are those of its tuple and site, on either side, and each has a cell of the size of
+/// its type. The key is that of the call's key tuple.
+pub fn worked_coins()
+    ensures left { (i : Interpretation) (t : Tape) →
+        answers (encrypter i (encrypting ((34, 38) ∷ []) encryption)) t
+        (call_with (0 ∷ []) (at_site 0 (1 ∷ [])) (1 ∷ [])
+        ∷ call_with (1 ∷ []) (at_site 1 (0 ∷ [])) (0 ∷ []) ∷ [])
+        ≡ i.table 40 (1 ∷ t (Key_at (0 ∷ [])) ∷ t (Made_at 34 (1 ∷ []) 0) ∷ [])
+        ∷ i.table 40 (0 ∷ t (Key_at (1 ∷ [])) ∷ t (Made_at 34 (0 ∷ []) 1) ∷ []) ∷ [] }
+    ensures right { (i : Interpretation) (t : Tape) →
+        answers (encrypter i (encrypting [] chosen_after)) t
+        (call_with (0 ∷ []) (at_site 0 (1 ∷ [])) (1 ∷ [])
+        ∷ call_with (1 ∷ []) (at_site 1 (0 ∷ [])) (0 ∷ []) ∷ [])
+        ≡ i.table 40 (1 ∷ t (Key_at (0 ∷ [])) ∷ t (Made_at 34 (1 ∷ []) 0) ∷ [])
+        ∷ i.table 40 (0 ∷ t (Key_at (1 ∷ [])) ∷ t (Made_at 34 (0 ∷ []) 1) ∷ []) ∷ [] }
+    ensures left_cells { (i : Interpretation) →
+        (encrypter i (encrypting ((34, 38) ∷ []) encryption)).cells (at_site 1 (0 ∷ []))
+        ≡ (Made_at 34 (0 ∷ []) 1, i.type_size 38) ∷ [] }
+    ensures right_cells { (i : Interpretation) →
+        (encrypter i (encrypting [] chosen_after)).cells (at_site 1 (0 ∷ []))
+        ≡ (Made_at 34 (0 ∷ []) 1, i.type_size 38) ∷ [] }
+    ensures key_size { (i : Interpretation) →
+        (encrypter i (encrypting [] chosen_after)).key_size ≡ i.type_size 5 }
+{}
+
+/// Of a name that is bound twice the newest binding counts, and a name that nothing binds has the value
+/// 0, unless it is a constant. A site that the side doesn't have is answered by 0.
+pub fn worked_bodies()
+    ensures bound_twice { answers (keeper parity bound_twice) blank
+        (get 1 ∷ get 0 ∷ call_with [] (at_site 7 []) (1 ∷ []) ∷ []) ≡ 1 ∷ 1 ∷ 0 ∷ [] }
+    ensures constant { (i : Interpretation) →
+        answers (side_at (setting_of declared_file i) (site 0 0 [] ∷ []) constant_group) blank
+        (call_with [] (at_site 0 []) [] ∷ []) ≡ i.table 6 [] ∷ [] }
+{}
+
+/// A find over earlier calls, whatever the values, the functions and the tape: a message is accepted
+/// exactly where it was authenticated under the key and the function accepts it with its tag. It is not
+/// accepted where a message was authenticated under another key alone, or none before. The other side
+/// accepts each message that the function accepts.
+pub fn worked_authentication()
+    ensures authenticated { (i : Interpretation) (t : Tape) (m n z : ℕ) →
+        answers (authenticating i was_authenticated) t (tag 0 m ∷ check 0 n z ∷ [])
+        ≡ i.table 40 (m ∷ t (Key_at (0 ∷ [])) ∷ [])
+        ∷ bit ((n == m) && is_one (i.table 41 (m ∷ t (Key_at (0 ∷ [])) ∷ z ∷ []))) ∷ [] }
+    ensures other_key { (i : Interpretation) (t : Tape) (m z : ℕ) →
+        answers (authenticating i was_authenticated) t (tag 0 m ∷ check 1 m z ∷ [])
+        ≡ i.table 40 (m ∷ t (Key_at (0 ∷ [])) ∷ []) ∷ 0 ∷ [] }
+    ensures no_message { (i : Interpretation) (t : Tape) (m z : ℕ) →
+        answers (authenticating i was_authenticated) t (check 0 m z ∷ tag 0 m ∷ [])
+        ≡ 0 ∷ i.table 40 (m ∷ t (Key_at (0 ∷ [])) ∷ []) ∷ [] }
+    ensures other_side { (i : Interpretation) (t : Tape) (m z : ℕ) →
+        answers (authenticating i checked) t (check 0 m z ∷ [])
+        ≡ i.table 41 (m ∷ t (Key_at (0 ∷ [])) ∷ z ∷ []) ∷ [] }
+{}
+
+/// The candidates of a find stand by tuple, then by site, and then by branch, in whatever order the calls
+/// were made, and each value of the find's cell picks one. Two calls with one value are told apart by their
+/// sites, and a call finds itself. A plain name in a list is that of the call that searches.
+pub fn worked_finds()
+    ensures cells { (i : Interpretation) →
+        (keeper i one_put).cells (at_site 2 []) ≡ (Picked_at 1 [] 2, i.choices) ∷ [] }
+    ensures by_tuple { map (λ v. last_of (answers (keeper parity one_put) (picking v)
+        (put 0 (1 ∷ []) 1 ∷ put 1 (0 ∷ []) 0 ∷ get 1 ∷ []))) (0 ∷ 1 ∷ 2 ∷ []) ≡ 0 ∷ 1 ∷ 0 ∷ [] }
+    ensures by_length { map (λ v. last_of (answers (keeper parity one_put) (picking v)
+        (put 0 (0 ∷ []) 1 ∷ put 3 [] 0 ∷ get 1 ∷ []))) (0 ∷ 1 ∷ 2 ∷ []) ≡ 0 ∷ 1 ∷ 0 ∷ [] }
+    ensures by_site { map (λ v. last_of (answers (keeper parity one_put) (picking v)
+        (put 1 (0 ∷ []) 0 ∷ put 0 (0 ∷ []) 1 ∷ get 1 ∷ []))) (0 ∷ 1 ∷ 2 ∷ []) ≡ 1 ∷ 0 ∷ 1 ∷ [] }
+    ensures by_branch { map (λ v. last_of (answers (keeper parity one_of_two_branches) (picking v)
+        (put 0 (0 ∷ []) 1 ∷ put 0 (1 ∷ []) 1 ∷ get 1 ∷ []))) (0 ∷ 1 ∷ 2 ∷ 3 ∷ []) ≡ 1 ∷ 0 ∷ 1 ∷ 0 ∷ [] }
+    ensures each_half { count ((keeper parity one_put).cells (at_site 2 []))
+        (λ t. last_of (answers (keeper parity one_put) t (put 0 (0 ∷ []) 0 ∷ put 0 (1 ∷ []) 1 ∷ get 1 ∷ [])) == 1) blank ≡ 1 }
+
+    ensures alike { answers (keeper parity two_alike) blank
+        (put 0 (0 ∷ []) 1 ∷ put 1 (0 ∷ []) 1 ∷ get 1 ∷ []) ≡ 1 ∷ 1 ∷ 1 ∷ [] }
+    ensures one_alone { answers (keeper parity two_alike) blank
+        (put 0 (0 ∷ []) 1 ∷ get 1 ∷ []) ≡ 1 ∷ 0 ∷ [] }
+    ensures bound_or_not { answers (keeper parity bound_or_not) blank
+        (put 0 (0 ∷ []) 1 ∷ get 0 ∷ get 1 ∷ []) ≡ 1 ∷ 0 ∷ 1 ∷ [] }
+    ensures itself { answers (keeper parity itself) blank
+        (get 1 ∷ []) ≡ 1 ∷ [] }
+{}
+
+/// Whether a message is a key of size 2: with the side that tells it, the event comes on 1 of 2 tapes, and
+/// with the side that denies it on none. A test of the answer tells the sides apart in the same way, and
+/// a test of a random value does not. With one side in both places the advantage is zero.
+pub fn worked_guess()
+    ensures left { context_chance [] parity (guess_context guess_equivalence) Left (Breaks never_query)
+        (adversary 1 guesses_zero) ≡ record { good = 1; all = 2 } }
+    ensures right { context_chance [] parity (guess_context guess_equivalence) Right (Breaks never_query)
+        (adversary 1 guesses_zero) ≡ record { good = 0; all = 2 } }
+    ensures advantage { context_advantage [] parity (guess_context guess_equivalence) (Breaks never_query)
+        (adversary 1 guesses_zero) ≡ record { good = 2; all = 4 } }
+    ensures real { context_advantage [] parity (guess_context guess_equivalence) (Guesses (Real false 15))
+        (adversary 3 tells_the_test) ≡ record { good = 8; all = 16 } }
+    ensures random { context_advantage [] parity (guess_context guess_equivalence) (Guesses (Random false 15))
+        (adversary 3 tells_the_test) ≡ record { good = 0; all = 16 } }
+    ensures same { context_advantage [] parity (guess_context (Node (Equivalence 1) (guessing is_key) (guessing is_key)))
+        (Breaks never_query) (adversary 1 guesses_zero) ≡ record { good = 0; all = 4 } }
+{}
+
+/// A tag that is right under one of two keys is accepted on half of the tapes by the side that checks it,
+/// and on none by the side that searches for its message. Where the tag was asked for, both accept it.
+pub fn worked_context()
+    ensures forged { context_advantage [] parity authentication_context (Breaks never_query)
+        (adversary 2 forges) ≡ record { good = 4; all = 8 } }
+    ensures asked { context_chance [] parity authentication_context Right (Breaks never_query)
+        (adversary 3 asks) ≡ record { good = 4; all = 4 } }
+    ensures asked_on_both { context_advantage [] parity authentication_context (Breaks never_query)
+        (adversary 3 asks) ≡ record { good = 0; all = 8 } }
+{}

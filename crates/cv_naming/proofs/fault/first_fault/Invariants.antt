@@ -1,5 +1,0 @@
-use Rattle.cv_naming.proofs.Reading.{IsReadTo}
-use Rattle.cv_naming.proofs.fault.first_fault.Given as goal
-
-abbrev pub invariant-uses : goal.invariant-uses
-invariant-uses l = IsReadTo l.uses l.at l.table.items l.scope

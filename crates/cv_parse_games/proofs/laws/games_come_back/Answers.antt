@@ -1,5 +1,0 @@
-use Rattle.cv_parse_games.proofs.Back.{game_comes_back}
-use Rattle.cv_parse_games.proofs.laws.games_come_back.Goals as goal
-
-pub returns : goal.returns
-returns c = λ limit live names ds t p. game_comes_back limit live names ds t p

@@ -1,5 +1,0 @@
-use Rattle.cv_parse_games.proofs.Sizes.{IsMeasured}
-use Rattle.cv_parse_games.proofs.measuring.measure.Given as goal
-
-abbrev pub invariant-parts : goal.invariant-parts
-invariant-parts l = IsMeasured l.makes l.make-index l.nodes l.depths.items

@@ -1,7 +1,0 @@
-use Rattle.std.proofs.Common.{◌≡◌, ◌++◌, take}
-use Rattle.cv_read.specs.Gives.{uses_of}
-use Rattle.cv_parse_games.specs.Games.{declared_before}
-use Rattle.cv_parse_games.proofs.naming.note_declared.Given as goal
-
-abbrev pub invariant-declared : goal.invariant-declared
-invariant-declared l = uses_of l.uses.items ≡ uses_of l.fn.uses.items ++ declared_before (take l.k l.decls.list)

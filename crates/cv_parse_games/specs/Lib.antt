@@ -1,6 +1,0 @@
-pub mod Games
-pub mod Measures
-pub mod Says
-pub mod Stages
-pub mod Terms
-pub mod Texts

@@ -1,0 +1,18 @@
+use Rattle.std.proofs.Common.{◌≡◌, ◌≤◌, length, reverse}
+use Rattle.cv_syntax.specs.Postorder.{postorder}
+use Rattle.cv_syntax.specs.Tree.{Tree}
+use Rattle.cv_parse_indices.specs.Current.{numbers_of}
+use Rattle.cv_parse_indices.specs.Stacks.{Descends}
+use Rattle.cv_parse_indices.proofs.Pending.{Pending}
+use Rattle.cv_parse_indices.proofs.Parting.{Writes}
+use Rattle.cv_parse_indices.proofs.filling.fill.Given as goal
+
+abbrev pub invariant-parts : goal.invariant-parts
+invariant-parts l = record {
+  within : l.at ≤ length l.makes;
+  descends : Descends (length l.current) (reverse l.stack.items);
+  writes : (t : Tree) → l.makes ≡ postorder t → Pending l.makes l.at (Writes (numbers_of l.sites) t l.current l.stack.items l.parts.items);
+}
+
+abbrev pub decreases-parts : goal.decreases-parts
+decreases-parts l = l.at

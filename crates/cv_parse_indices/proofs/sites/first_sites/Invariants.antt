@@ -1,0 +1,17 @@
+use Rattle.std.proofs.Common.{◌≡◌, ◌+◌, ◌≤◌, length, ◌*◌, reverse}
+use Rattle.cv_syntax.specs.Postorder.{postorder}
+use Rattle.cv_syntax.specs.Tree.{Tree}
+use Rattle.cv_parse_indices.specs.Sites.{AreWithin}
+use Rattle.cv_parse_indices.proofs.Pending.{Pending}
+use Rattle.cv_parse_indices.proofs.Settling.{Settles}
+use Rattle.cv_parse_indices.proofs.sites.first_sites.Given as goal
+
+abbrev pub invariant-tasks : goal.invariant-tasks
+invariant-tasks l = record {
+  within : l.at ≤ length l.makes;
+  levels : AreWithin (length l.makes) l.at (reverse l.tasks.items);
+  settles : (t : Tree) → l.makes ≡ postorder t → Pending l.makes l.at (Settles t (reverse l.tasks.items) l.sites);
+}
+
+abbrev pub decreases-tasks : goal.decreases-tasks
+decreases-tasks l = 4 * l.at + length l.tasks.items

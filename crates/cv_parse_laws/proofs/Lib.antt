@@ -1,0 +1,11 @@
+pub mod Yielding
+pub mod Shaping
+pub mod Rows
+pub mod Filling
+pub mod Naming
+pub mod Games
+pub mod Tokens
+pub mod WordRows
+pub mod WordFilling
+pub mod Signs
+pub mod WrittenGames

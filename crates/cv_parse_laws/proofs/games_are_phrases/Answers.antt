@@ -1,0 +1,5 @@
+use Rattle.cv_parse_laws.proofs.Games.{game_is}
+use Rattle.cv_parse_laws.proofs.games_are_phrases.Goals as goal
+
+pub returns : goal.returns
+returns c = λ limit signs p e. (game_is limit signs p e).phrase

@@ -1,0 +1,3 @@
+pub mod Yields
+pub mod Shapes
+pub mod Words

@@ -1,0 +1,19 @@
+-- How processes begin.
+use Rattle.std.proofs.Common.{◌≡◌, List, [], ◌∷◌, ◌||◌, refl}
+use Rattle.cv_parse_notation.specs.declared.sign.Sign.{Sign}
+use Rattle.cv_parse_notation.specs.declared.sign.Mark.TheVariants as mark
+use Rattle.cv_parse_notation.specs.Spells.{next_is, is_mark, is_word, is_find, is_zero}
+use Rattle.cv_parse_grammar.specs.Phrases.{Input, Output, ProcessBranch}
+use Rattle.cv_parse_grammar.specs.Rules.{heads}
+
+pub output_begins : (ts : List Sign) → (next_is (is_mark mark.Yield) ts || (next_is (is_mark mark.Open) ts || (next_is (is_mark mark.Out) ts || (next_is (is_mark mark.New) ts || (next_is (is_mark mark.Let) ts || (next_is (is_mark mark.EventWord) ts || (next_is (is_mark mark.If) ts || next_is is_find ts))))))) ≡ next_is (heads Output) ts
+output_begins [] = refl
+output_begins (t ∷ ts) = refl
+
+pub input_begins : (ts : List Sign) → (next_is is_zero ts || (next_is (is_mark mark.Open) ts || (next_is (is_mark mark.Bang) ts || next_is (is_mark mark.In) ts))) ≡ next_is (heads Input) ts
+input_begins [] = refl
+input_begins (t ∷ ts) = refl
+
+pub branch_begins : (ts : List Sign) → (next_is is_word ts || next_is (is_mark mark.Suchthat) ts) ≡ next_is (heads ProcessBranch) ts
+branch_begins [] = refl
+branch_begins (t ∷ ts) = refl

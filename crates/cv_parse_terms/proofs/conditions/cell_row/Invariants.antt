@@ -1,0 +1,13 @@
+use Rattle.std.proofs.Common.{◌-◌, length, drop}
+use Rattle.cv_parse_notation.specs.Form.{◌▸◌, deeper}
+use Rattle.cv_parse_notation.specs.declared.sign.Mark.TheVariants.{Comma}
+use Rattle.cv_parse_grammar.specs.Phrases.{row, OneCell}
+use Rattle.cv_parse_terms.specs.Gives.{read_in}
+use Rattle.cv_parse_terms.proofs.Rows.{TreesSoFar}
+use Rattle.cv_parse_terms.proofs.conditions.cell_row.Given as goal
+
+abbrev pub invariant-row : goal.invariant-row
+invariant-row l = TreesSoFar l.depth (Comma ▸ deeper OneCell) l.signs l.fn.trail l.trail (read_in l.depth (row Comma (deeper OneCell)) (drop l.fn.at l.signs)) l.count l.place
+
+abbrev pub decreases-row : goal.decreases-row
+decreases-row l = length l.signs - l.place

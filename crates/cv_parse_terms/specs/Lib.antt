@@ -1,0 +1,4 @@
+pub mod Gives
+pub mod Items
+pub mod Spines
+pub mod Mentions

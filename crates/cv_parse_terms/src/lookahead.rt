@@ -1,0 +1,212 @@
+ghost use Rattle.std.specs.Prelude.{◌≡◌, ◌+◌, ◌<◌, ◌≤◌, ◌^◌, ℕ, length, drop, IfOk, IfErr, OnErr, [], true, false};
+ghost use Rattle.cv_parse_notation.specs.Spells.{next_is, is_mark, is_word, is_zero, is_find, is_unnamed, kind_of};
+ghost use Rattle.cv_parse_notation.specs.Reads.{read_sign};
+ghost use Rattle.cv_parse_terms.specs.Gives.{Fails, IsSign, Opens, Shallow, read_opening, read_too_deep, next_value, word_in as word_of, find_in as find_of, unnamed_in as unnamed_of};
+ghost use Rattle.cv_parse_terms.specs.declared.lookahead.ReadError.TheVariants.{OutOfMemory};
+
+use cv_parse_notation::{Mark, Sign};
+use std::alloc::{AllocError, AllocFailed};
+
+/// Why a phrase isn't read. A fault carries the number of its token.
+#[derive(Clone, Copy, Debug, PartialEq, Eq)]
+pub enum ReadError {
+    Syntax(u32),
+    Nesting(u32),
+    OutOfMemory,
+}
+
+impl<T: Drop> From<AllocFailed<T>> for ReadError {
+    ghost from_gives = { λ _ e. e ≡ OutOfMemory };
+
+    fn from(_e: AllocFailed<T>) -> ReadError {
+        ReadError::OutOfMemory
+    }
+}
+
+impl From<AllocError> for ReadError {
+    ghost from_gives = { λ _ e. e ≡ OutOfMemory };
+
+    fn from(_e: AllocError) -> ReadError {
+        ReadError::OutOfMemory
+    }
+}
+
+/// Whether a word or symbol stands at a place.
+#[tactic(auto, using(crate::proofs::Places::tokens, crate::proofs::Places::places))]
+pub fn is_at(signs: &[Sign], at: usize, mark: Mark) -> bool
+    ensures { result ≡ next_is (is_mark mark) (drop at signs.now) }
+{
+    if at < signs.len() {
+        if let Sign::Mark(m) = signs[at] {
+            return m.code() == mark.code();
+        }
+    }
+    false
+}
+
+/// The place behind a word or symbol.
+#[tactic(auto, using(crate::proofs::Places::tokens, crate::proofs::Places::places))]
+pub fn expect(signs: &[Sign], at: usize, mark: Mark) -> Result<usize, ReadError>
+    requires at { at ≤ length signs.now }
+    requires few { length signs.now < 2 ^ 32 }
+    ensures read { IfOk result (λ end. (end ≡ at + 1) × (end ≤ length signs.now) × IsSign signs.now mark at) }
+    ensures fails { IfErr result (λ e. Fails signs.now e (read_sign mark (drop at signs.now))) }
+{
+    if is_at(signs, at, mark) {
+        return Ok(at + 1);
+    }
+    Err(ReadError::Syntax(at as u32))
+}
+
+/// The name that a token is.
+fn word_in(sign: Sign) -> Option<u32>
+    ensures { result ≡ word_of sign }
+{
+    match sign {
+        Sign::Word(name) => Some(name),
+        Sign::Number(_) | Sign::Find(_) | Sign::Unnamed(_) | Sign::Mark(_) => None,
+    }
+}
+
+/// The name that stands at a place.
+#[tactic(auto, using(crate::proofs::Places::tokens, crate::proofs::Places::places))]
+pub fn word_at(signs: &[Sign], at: usize) -> Option<u32>
+    ensures { result ≡ next_value word_of (drop at signs.now) }
+{
+    if at < signs.len() {
+        return word_in(signs[at]);
+    }
+    None
+}
+
+/// The number of a word `find`.
+fn find_in(sign: Sign) -> Option<u64>
+    ensures { result ≡ find_of sign }
+{
+    match sign {
+        Sign::Find(count) => Some(count),
+        Sign::Word(_) | Sign::Number(_) | Sign::Unnamed(_) | Sign::Mark(_) => None,
+    }
+}
+
+/// The number of the word `find` at a place.
+#[tactic(auto, using(crate::proofs::Places::tokens, crate::proofs::Places::places))]
+pub fn find_at(signs: &[Sign], at: usize) -> Option<u64>
+    ensures { result ≡ next_value find_of (drop at signs.now) }
+{
+    if at < signs.len() {
+        return find_in(signs[at]);
+    }
+    None
+}
+
+/// The name of a `collision` before `new`.
+fn unnamed_in(sign: Sign) -> Option<u32>
+    ensures { result ≡ unnamed_of sign }
+{
+    match sign {
+        Sign::Unnamed(name) => Some(name),
+        Sign::Word(_) | Sign::Number(_) | Sign::Find(_) | Sign::Mark(_) => None,
+    }
+}
+
+/// The name of the `collision` before `new` at a place.
+#[tactic(auto, using(crate::proofs::Places::tokens, crate::proofs::Places::places))]
+pub fn unnamed_at(signs: &[Sign], at: usize) -> Option<u32>
+    ensures { result ≡ next_value unnamed_of (drop at signs.now) }
+{
+    if at < signs.len() {
+        return unnamed_in(signs[at]);
+    }
+    None
+}
+
+/// Whether a name stands at a place.
+#[tactic(auto, using(crate::proofs::Places::tokens, crate::proofs::Places::places))]
+pub fn is_word_at(signs: &[Sign], at: usize) -> bool
+    ensures { result ≡ next_is is_word (drop at signs.now) }
+{
+    word_at(signs, at).is_some()
+}
+
+/// Whether a word `find` stands at a place.
+#[tactic(auto, using(crate::proofs::Places::tokens, crate::proofs::Places::places))]
+pub fn is_find_at(signs: &[Sign], at: usize) -> bool
+    ensures { result ≡ next_is is_find (drop at signs.now) }
+{
+    find_at(signs, at).is_some()
+}
+
+/// Whether a `collision` without a name stands at a place.
+#[tactic(auto, using(crate::proofs::Places::tokens, crate::proofs::Places::places))]
+pub fn is_unnamed_at(signs: &[Sign], at: usize) -> bool
+    ensures { result ≡ next_is is_unnamed (drop at signs.now) }
+{
+    unnamed_at(signs, at).is_some()
+}
+
+/// Whether a token is the number 0.
+fn is_nought(sign: Sign) -> bool
+    ensures { result ≡ is_zero (kind_of sign) }
+{
+    match sign {
+        Sign::Number(value) => value == 0,
+        Sign::Word(_) | Sign::Find(_) | Sign::Unnamed(_) | Sign::Mark(_) => false,
+    }
+}
+
+/// Whether the number 0 stands at a place.
+#[tactic(auto, using(crate::proofs::Places::tokens, crate::proofs::Places::places))]
+pub fn is_zero_at(signs: &[Sign], at: usize) -> bool
+    ensures { result ≡ next_is is_zero (drop at signs.now) }
+{
+    at < signs.len() && is_nought(signs[at])
+}
+
+/// The place behind an opening bracket, which opens a level.
+#[tactic(auto, using(crate::proofs::Places::places, crate::proofs::Levels::levels))]
+pub fn open(signs: &[Sign], at: usize, depth: u32, mark: Mark) -> Result<usize, ReadError>
+    requires at { at ≤ length signs.now }
+    requires few { length signs.now < 2 ^ 32 }
+    ensures opens { IfOk result (λ end. Opens signs.now mark depth at end) }
+    ensures fails { IfErr result (λ e. Fails signs.now e (read_opening mark depth (drop at signs.now))) }
+{
+    if depth > 0 {
+        return expect(signs, at, mark);
+    }
+    if is_at(signs, at, mark) {
+        return Err(ReadError::Nesting(at as u32));
+    }
+    Err(ReadError::Syntax(at as u32))
+}
+
+/// The levels that are left one level down, for a phrase that begins with this word or symbol.
+#[tactic(auto, using(crate::proofs::Places::places, crate::proofs::Levels::levels))]
+pub fn descend(signs: &[Sign], at: usize, depth: u32, mark: Mark) -> Result<u32, ReadError>
+    requires at { at ≤ length signs.now }
+    requires few { length signs.now < 2 ^ 32 }
+    ensures less { IfOk result (λ less. less + 1 ≡ depth) }
+    ensures none { OnErr result (depth ≡ 0) }
+    ensures fails { IfErr result (λ e. Fails signs.now e (read_too_deep mark (drop at signs.now))) }
+{
+    if depth > 0 {
+        return Ok(depth - 1);
+    }
+    if is_at(signs, at, mark) {
+        return Err(ReadError::Nesting(at as u32));
+    }
+    Err(ReadError::Syntax(at as u32))
+}
+
+/// The fault of a phrase for which no level is left, by whether it begins at the place.
+#[tactic(auto, using(crate::proofs::Levels::levels))]
+pub fn shallow(signs: &[Sign], at: usize, begins: bool) -> ReadError
+    requires at { at ≤ length signs.now }
+    requires few { length signs.now < 2 ^ 32 }
+    ensures { Shallow signs.now result begins at }
+{
+    if begins {
+        return ReadError::Nesting(at as u32);
+    }
+    ReadError::Syntax(at as u32)
+}

@@ -1,0 +1,78 @@
+ghost use Rattle.std.specs.Prelude.{◌≡◌, ◌+◌, ◌++◌, ◌∷◌, [], ℕ, length, OnOk, replicate};
+ghost use Rattle.cv_syntax.specs.Tree.{lone};
+ghost use Rattle.cv_syntax.specs.Postorder.{postorder};
+ghost use Rattle.cv_syntax.specs.declared.make.Make.TheVariants.{Nothing, Over};
+ghost use Rattle.cv_syntax.specs.declared.head.Head.TheVariants.{Cons};
+ghost use Rattle.cv_parse_terms.specs.Spines.{spine};
+
+use cv_parse_grammar::Role;
+use cv_syntax::{Head, Make};
+use std::alloc::{AllocError, Global};
+
+/// A use of a name: what for, the number of the name, and how many tokens are left where it stands.
+#[derive(Clone, Copy, Debug, PartialEq, Eq)]
+pub struct NameUse {
+    pub role: Role,
+    pub name: u32,
+    pub left: usize,
+}
+
+/// What reading leaves, in the order of the text: the uses of names, and the parts of trees.
+#[derive(Drop)]
+pub struct Trail {
+    pub uses: Vec<NameUse>,
+    pub makes: Vec<Make>,
+}
+
+impl Trail {
+    /// Nothing was read.
+    pub fn new(alloc: Global) -> Trail
+        ensures uses { result.uses.items ≡ [] }
+        ensures makes { result.makes.items ≡ [] }
+    {
+        Trail {
+            uses: Vec::new(alloc),
+            makes: Vec::new(alloc),
+        }
+    }
+}
+
+/// Makes a tree without children.
+#[tactic(auto, unfolding(cv_syntax::specs::Postorder::postorder), using(crate::proofs::Made::makes))]
+pub fn leaf(makes: &mut Vec<Make>, head: Head) -> Result<(), AllocError>
+    ensures { OnOk result (makes.new.items ≡ makes.old.items ++ postorder (lone head)) }
+{
+    makes.push(Make::Nothing)?;
+    makes.push(Make::Nothing)?;
+    makes.push(Make::Over(head))?;
+    Ok(())
+}
+
+/// Makes a list of so many trees, which were made before.
+#[tactic(auto, using(crate::proofs::Made::makes))]
+pub fn close_chain(makes: &mut Vec<Make>, count: usize) -> Result<(), AllocError>
+    ensures { OnOk result (makes.new.items ≡ makes.old.items ++ Nothing ∷ replicate count (Over Cons)) }
+{
+    makes.push(Make::Nothing)?;
+    'cells: for _ in 0..count {
+        makes.push(Make::Over(Head::Cons))?;
+    }
+    Ok(())
+}
+
+/// Makes a node without children for each head, each under the one before it.
+#[tactic(auto, using(crate::proofs::Made::makes))]
+pub fn make_spine(makes: &mut Vec<Make>, heads: &[Head]) -> Result<(), AllocError>
+    ensures { OnOk result (makes.new.items ≡ makes.old.items ++ postorder (spine heads.now)) }
+{
+    'ends: for _ in heads {
+        makes.push(Make::Nothing)?;
+    }
+    makes.push(Make::Nothing)?;
+    let mut at = heads.len();
+    'heads: while at > 0 {
+        at -= 1;
+        makes.push(Make::Over(heads[at]))?;
+    }
+    Ok(())
+}

@@ -1,0 +1,2 @@
+pub mod GameSays
+pub mod Texts

@@ -1,0 +1,5 @@
+pub mod Certificates
+pub mod Matching
+pub mod PlainQueries
+pub mod Searching
+pub mod Made

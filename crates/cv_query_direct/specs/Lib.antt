@@ -1,0 +1,6 @@
+pub mod Found
+pub mod Plain
+pub mod Search
+pub mod Variables
+pub mod Certificates
+pub mod Closing

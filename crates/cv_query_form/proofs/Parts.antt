@@ -1,0 +1,264 @@
+-- The tests of a query, node by node.
+use Rattle.std.proofs.Common.{◌≡◌, ℕ, zero, suc, ◌+◌, ◌<◌, ◌≤◌, Bool, true, false, ◌&&◌, ◌||◌, not, cond, List, [], ◌∷◌, length, drop, refl, ap, sym, ◌∙◌, arith, nat_eq, Option, Some, None, IsNone, is_some, ◌↔◌, ◌⊎◌, inl, inr, subst, option_and_then, All, Result, IfOk}
+use Rattle.std.specs.Prelude.{◌==◌, slice_get, option_map}
+use Rattle.std.specs.HashSet.{Updates, UpdatesBy}
+use Rattle.std.proofs.Math.Path.{fun_ext}
+use Rattle.std.proofs.lemmas.List.Elements.{All-head, All-tail}
+use Rattle.cv_pool.specs.declared.node.NodeId.{NodeId}
+use Rattle.cv_pool.specs.KindTree.{KindTree}
+use Rattle.cv_syntax.specs.declared.decls.Decl.{Decl}
+use Rattle.cv_syntax.specs.declared.decls.Decl.TheVariants as decl
+use Rattle.cv_syntax.specs.declared.head.Head.{Head}
+use Rattle.cv_syntax.specs.declared.head.Head.TheVariants.{Leaf, Cons, Binder, Query, Occurs, OccursOnce, Secret, SecretOnce}
+use Rattle.cv_syntax.specs.Declarations.{declarations}
+use Rattle.cv_syntax.specs.Tree.{Tree, Empty, Node, tree_at}
+use Rattle.cv_meaning.specs.Binders.{bound_names}
+use Rattle.cv_meaning.specs.Correspondences.{is_once}
+use Rattle.cv_typing.specs.Lookups.{IsLive}
+use Rattle.cv_typing.specs.Sites.{SitesView, sites_of}
+use Rattle.cv_typing.proofs.Walks.{empty-none, empty-at}
+use Rattle.cv_query_form.specs.Held.{NameSet, is_in, valued, query_of, is_empty, cell_variable, event_passes, events_pass, correspondence_passes, secret_passes, node_passes}
+use Rattle.cv_query_form.specs.Queries.{queries_in}
+use Rattle.cv_query_form.specs.Tests.{is_one_of, without, are_distinct, are_marked_alike, is_left_event, some_is_marked, passes, may_be_asked, first_refused}
+use Rattle.cv_query_form.proofs.First.{passed, stopped}
+
+-- one step of a conjunction, and of a disjunction
+pub and-false : (x : Bool) (b r total : Bool) → x ≡ (b && r) → x ≡ total → b ≡ false → false ≡ total
+and-false x b r total e h f = sym (ap (λ c. c && r) f) ∙ (sym e ∙ h)
+
+pub and-true : (x : Bool) (b r total : Bool) → x ≡ (b && r) → x ≡ total → b ≡ true → r ≡ total
+and-true x b r total e h f = sym (ap (λ c. c && r) f) ∙ (sym e ∙ h)
+
+pub or-true : (x : Bool) (b r total : Bool) → x ≡ (b || r) → x ≡ total → b ≡ true → true ≡ total
+or-true x b r total e h f = sym (ap (λ c. c || r) f) ∙ (sym e ∙ h)
+
+pub or-false : (x : Bool) (b r total : Bool) → x ≡ (b || r) → x ≡ total → b ≡ false → r ≡ total
+or-false x b r total e h f = sym (ap (λ c. c || r) f) ∙ (sym e ∙ h)
+
+-- two tests, the second of which is made only where the first one passes
+pub and-here : (found e r d : Bool) → found ≡ e → found ≡ true → r ≡ d → r ≡ (e && d)
+and-here found e r d f g h = h ∙ sym (ap (λ b. b && d) (sym f ∙ g))
+
+pub and-nowhere : (found e r d : Bool) → found ≡ e → found ≡ false → r ≡ found → r ≡ (e && d)
+and-nowhere found e r d f g h = h ∙ (g ∙ sym (ap (λ b. b && d) (sym f ∙ g)))
+
+-- a node has a tree
+pub none-empty : (trees : List KindTree) (o : Option NodeId) (found : Bool) → is_some o ≡ not found → (IsNone o ↔ (tree_at trees o ≡ Empty)) → found ≡ is_empty (tree_at trees o)
+none-empty trees None true e h = ap is_empty (sym (empty-none trees))
+none-empty trees None false e h = absurd (cc)
+none-empty trees (Some n) true e h = absurd (cc)
+none-empty trees (Some n) false e h = full (tree_at trees (Some n)) h.1
+  where
+    full : (t : Tree) → (t ≡ Empty → IsNone (Some n)) → false ≡ is_empty t
+    full Empty f = sym (f refl)
+    full (Node k a b) f = refl
+
+-- binders
+
+pub bound-step : (t : Tree) (h : Head) (a b : Tree) (x T : ℕ) → t ≡ Node h a b → h ≡ Binder x T → bound_names t ≡ x ∷ bound_names b
+bound-step t h a b x T e f = ap bound_names e ∙ ap (λ k. bound_names (Node k a b)) f
+
+pub bound-other : (t : Tree) (h : Head) (a b : Tree) → t ≡ Node h a b → ((x T : ℕ) → h ≡ Binder x T → ⊥) → bound_names t ≡ []
+bound-other t h a b e n = ap bound_names e ∙ step h a b n
+  where
+    step : (h : Head) (a b : Tree) → ((x T : ℕ) → h ≡ Binder x T → ⊥) → bound_names (Node h a b) ≡ []
+    step (Binder x T) a b n = absurd (n x T refl)
+    step h a b n = refl
+
+pub bound-end : (trees : List KindTree) (at : Option NodeId) → at ≡ None → bound_names (tree_at trees at) ≡ []
+bound-end trees at e = ap bound_names (empty-at trees at e)
+
+-- a name more
+pub one-more : (m n : NameSet) (x : ℕ) (xs : List ℕ) → Updates nat_eq m n x true → (y : ℕ) → (is_in n y || is_one_of xs y) ≡ (is_in m y || is_one_of (x ∷ xs) y)
+one-more m n x xs u y = ap (λ b. b || is_one_of xs y) (u.0 y) ∙ cases (x == y) (is_in m y) (is_one_of xs y)
+  where
+    cases : (b c d : Bool) → (cond b true c || d) ≡ (c || (b || d))
+    cases true true d = refl
+    cases true false d = refl
+    cases false c d = refl
+
+pub no-more : (m : NameSet) (xs ys : List ℕ) → ys ≡ [] → ((y : ℕ) → (is_in m y || is_one_of ys y) ≡ is_one_of xs y) → is_in m ≡ is_one_of xs
+no-more m xs ys e h = fun_ext (λ y. or-nothing (is_in m y) ∙ (ap (λ zs. is_in m y || is_one_of zs y) (sym e) ∙ h y))
+  where
+    or-nothing : (b : Bool) → b ≡ (b || false)
+    or-nothing true = refl
+    or-nothing false = refl
+
+pub removed : (x : ℕ) (m n : NameSet) → UpdatesBy nat_eq (nat_eq x) m n false → is_in n ≡ without (is_in m) x
+removed x m n u = fun_ext (λ y. u.0 y)
+
+-- arguments
+
+pub distinct-step : (free : ℕ → Bool) (t : Tree) (h : Head) (a b : Tree) (x : ℕ) → t ≡ Node h a b → cell_variable h a ≡ Some x → are_distinct free t ≡ (free x && are_distinct (without free x) b)
+unfolding are_distinct
+distinct-step free t h a b x e f = ap (are_distinct free) e ∙ step h a b x f
+  where
+    step : (h : Head) (a b : Tree) (x : ℕ) → cell_variable h a ≡ Some x → are_distinct free (Node h a b) ≡ (free x && are_distinct (without free x) b)
+    step Cons (Node (Leaf y) Empty Empty) b x f = let g : y ≡ x = cc in ap (λ z. free z && are_distinct (without free z) b) g
+    step Cons a b x f = absurd (cc)
+    step h a b x f = absurd (cc)
+
+pub distinct-other : (free : ℕ → Bool) (t : Tree) (h : Head) (a b : Tree) → t ≡ Node h a b → cell_variable h a ≡ None → are_distinct free t ≡ false
+unfolding are_distinct
+distinct-other free t h a b e f = ap (are_distinct free) e ∙ step h a b f
+  where
+    step : (h : Head) (a b : Tree) → cell_variable h a ≡ None → are_distinct free (Node h a b) ≡ false
+    step Cons (Node (Leaf y) Empty Empty) b f = absurd (cc)
+    step Cons a b f = refl
+    step h a b f = refl
+
+pub distinct-end : (free : ℕ → Bool) (trees : List KindTree) (at : Option NodeId) → at ≡ None → are_distinct free (tree_at trees at) ≡ true
+unfolding are_distinct
+distinct-end free trees at e = ap (are_distinct free) (empty-at trees at e)
+
+pub event-step : (free : ℕ → Bool) (t : Tree) (h : Head) (a b : Tree) → t ≡ Node h a b → is_left_event free t ≡ event_passes free h a b
+unfolding is_left_event
+event-step free t h a b e = ap (is_left_event free) e ∙ step h a b
+  where
+    step : (h : Head) (a b : Tree) → is_left_event free (Node h a b) ≡ event_passes free h a b
+    step (Occurs e) a Empty = refl
+    step (Occurs e) a (Node k c d) = refl
+    step (OccursOnce e) a Empty = refl
+    step (OccursOnce e) a (Node k c d) = refl
+    step h a b = refl
+
+pub event-end : (free : ℕ → Bool) (trees : List KindTree) (at : Option NodeId) → at ≡ None → false ≡ is_left_event free (tree_at trees at)
+unfolding is_left_event
+event-end free trees at e = sym (ap (is_left_event free) (empty-at trees at e))
+
+pub event-other : (free : ℕ → Bool) (t : Tree) (h : Head) (a b : Tree) → t ≡ Node h a b → ((x : ℕ) → h ≡ Occurs x → ⊥) → ((x : ℕ) → h ≡ OccursOnce x → ⊥) → false ≡ is_left_event free t
+event-other free t h a b e n m = sym (event-step free t h a b e ∙ step h n m)
+  where
+    step : (h : Head) → ((x : ℕ) → h ≡ Occurs x → ⊥) → ((x : ℕ) → h ≡ OccursOnce x → ⊥) → event_passes free h a b ≡ false
+    step (Occurs x) n m = absurd (n x refl)
+    step (OccursOnce x) n m = absurd (m x refl)
+    step h n m = refl
+
+pub event-passes : (free : ℕ → Bool) (t : Tree) (h : Head) (a b : Tree) (r : Bool) → t ≡ Node h a b → ((x : ℕ) × (h ≡ Occurs x)) ⊎ ((x : ℕ) × (h ≡ OccursOnce x)) → r ≡ (is_empty b && are_distinct free a) → r ≡ is_left_event free t
+event-passes free t h a b r e (inl k) f = f ∙ sym (event-step free t h a b e ∙ ap (λ j. event_passes free j a b) k.1)
+event-passes free t h a b r e (inr k) f = f ∙ sym (event-step free t h a b e ∙ ap (λ j. event_passes free j a b) k.1)
+
+-- marks
+
+pub marked-step : (t : Tree) (h : Head) (a b : Tree) → t ≡ Node h a b → some_is_marked t ≡ (is_once a || some_is_marked b)
+unfolding some_is_marked
+marked-step t h a b e = ap some_is_marked e
+
+pub marked-end : (trees : List KindTree) (at : Option NodeId) → at ≡ None → some_is_marked (tree_at trees at) ≡ false
+unfolding some_is_marked
+marked-end trees at e = ap some_is_marked (empty-at trees at e)
+
+pub once-end : (trees : List KindTree) (at : Option NodeId) → at ≡ None → is_once (tree_at trees at) ≡ false
+once-end trees at e = ap is_once (empty-at trees at e)
+
+-- queries
+
+pub passes-step : (values : ℕ → Bool) (t : Tree) (h : Head) (a b : Tree) → t ≡ Node h a b → passes values t ≡ node_passes values h a b
+unfolding passes
+passes-step values t h a b e = ap (passes values) e ∙ step h a b
+  where
+    step : (h : Head) (a b : Tree) → passes values (Node h a b) ≡ node_passes values h a b
+    step Query a Empty = refl
+    step Query a (Node Cons c d) = refl
+    step Query a (Node k c d) = refl
+    step (Secret x) Empty Empty = refl
+    step (Secret x) Empty (Node k c d) = refl
+    step (Secret x) (Node k c d) b = refl
+    step (SecretOnce x) Empty Empty = refl
+    step (SecretOnce x) Empty (Node k c d) = refl
+    step (SecretOnce x) (Node k c d) b = refl
+    step h a b = refl
+
+pub passes-other : (values : ℕ → Bool) (t : Tree) (h : Head) (a b : Tree) → t ≡ Node h a b → (h ≡ Query → ⊥) → ((x : ℕ) → h ≡ Secret x → ⊥) → ((x : ℕ) → h ≡ SecretOnce x → ⊥) → false ≡ passes values t
+passes-other values t h a b e n m o = sym (passes-step values t h a b e ∙ step h n m o)
+  where
+    step : (h : Head) → (h ≡ Query → ⊥) → ((x : ℕ) → h ≡ Secret x → ⊥) → ((x : ℕ) → h ≡ SecretOnce x → ⊥) → node_passes values h a b ≡ false
+    step Query n m o = absurd (n refl)
+    step (Secret x) n m o = absurd (m x refl)
+    step (SecretOnce x) n m o = absurd (o x refl)
+    step h n m o = refl
+
+pub passes-query : (values : ℕ → Bool) (t : Tree) (h : Head) (a b : Tree) → t ≡ Node h a b → h ≡ Query → correspondence_passes a b ≡ passes values t
+passes-query values t h a b e f = sym (passes-step values t h a b e ∙ ap (λ k. node_passes values k a b) f)
+
+pub passes-secret : (values : ℕ → Bool) (t : Tree) (h : Head) (a b : Tree) (x : ℕ) (r : Bool) → t ≡ Node h a b → (h ≡ Secret x) ⊎ (h ≡ SecretOnce x) → r ≡ secret_passes values x a b → r ≡ passes values t
+passes-secret values t h a b x r e (inl k) f = f ∙ sym (passes-step values t h a b e ∙ ap (λ j. node_passes values j a b) k)
+passes-secret values t h a b x r e (inr k) f = f ∙ sym (passes-step values t h a b e ∙ ap (λ j. node_passes values j a b) k)
+
+pub events-end : (bs : Tree) (trees : List KindTree) (at : Option NodeId) → at ≡ None → false ≡ correspondence_passes bs (tree_at trees at)
+events-end bs trees at e = sym (ap (correspondence_passes bs) (empty-at trees at e))
+
+events-step : (bs t : Tree) (h : Head) (l r : Tree) (free : ℕ → Bool) → t ≡ Node h l r → h ≡ Cons → free ≡ is_one_of (bound_names bs) → correspondence_passes bs t ≡ (is_left_event free l && are_marked_alike l r)
+events-step bs t h l r free e f g = ap (correspondence_passes bs) e ∙ (ap (λ k. events_pass bs k l r) f ∙ ap (λ p. is_left_event p l && are_marked_alike l r) (sym g))
+
+pub events-refused : (bs t : Tree) (h : Head) (l r : Tree) (free : ℕ → Bool) (found : Bool) → t ≡ Node h l r → h ≡ Cons → free ≡ is_one_of (bound_names bs) → found ≡ is_left_event free l → found ≡ false → false ≡ correspondence_passes bs t
+events-refused bs t h l r free found e f g i n = sym (events-step bs t h l r free e f g ∙ ap (λ b. b && are_marked_alike l r) (sym i ∙ n))
+
+pub events-marked : (bs t : Tree) (h : Head) (l r : Tree) (free : ℕ → Bool) (found : Bool) → t ≡ Node h l r → h ≡ Cons → free ≡ is_one_of (bound_names bs) → found ≡ is_left_event free l → found ≡ true → are_marked_alike l r ≡ correspondence_passes bs t
+events-marked bs t h l r free found e f g i n = sym (events-step bs t h l r free e f g ∙ ap (λ b. b && are_marked_alike l r) (sym i ∙ n))
+
+pub ok-same : {E : Type 0} (r : Result Bool E) (b c : Bool) → b ≡ c → IfOk r (λ found. found ≡ b) → IfOk r (λ found. found ≡ c)
+ok-same r b c e m = subst (λ d. IfOk r (λ found. found ≡ d)) e m
+
+pub asked-same : (sites : SitesView) (game query : Tree) (found b : Bool) → sites ≡ sites_of game → found ≡ passes (valued sites) query → found ≡ b → may_be_asked game query ≡ b
+asked-same sites game query found b e f g = sym (ap (λ s. passes (valued s) query) e) ∙ (sym f ∙ g)
+
+-- the queries of a list of declarations, from a place on
+
+pub queries-skip : (trees : List KindTree) (ds : List Decl) (k : ℕ) → k < length ds → option_and_then query_of (slice_get ds k) ≡ None → queries_in (declarations trees (drop k ds)) ≡ queries_in (declarations trees (drop (k + 1) ds))
+unfolding queries_in
+queries-skip trees [] k l e = absurd (omega arith)
+queries-skip trees (decl.Name id c args result ∷ ds) zero l e = refl
+queries-skip trees (decl.Equation n ∷ ds) zero l e = refl
+queries-skip trees (decl.Equiv id n ∷ ds) zero l e = refl
+queries-skip trees (decl.Query n ∷ ds) zero l e = absurd (cc)
+queries-skip trees (x ∷ ds) (suc k) l e = let n : suc k + 1 ≡ suc (k + 1) = omega arith in queries-skip trees ds k (omega arith) e ∙ ap (λ j. queries_in (declarations trees (drop j (x ∷ ds)))) (sym n)
+
+pub queries-take : (trees : List KindTree) (ds : List Decl) (k : ℕ) (q : NodeId) → option_and_then query_of (slice_get ds k) ≡ Some q → queries_in (declarations trees (drop k ds)) ≡ tree_at trees (Some q) ∷ queries_in (declarations trees (drop (k + 1) ds))
+unfolding queries_in
+queries-take trees [] k q e = absurd (cc)
+queries-take trees (decl.Name id c args result ∷ ds) zero q e = absurd (cc)
+queries-take trees (decl.Equation n ∷ ds) zero q e = absurd (cc)
+queries-take trees (decl.Equiv id n ∷ ds) zero q e = absurd (cc)
+queries-take trees (decl.Query n ∷ ds) zero q e = let h : n ≡ q = cc in ap (λ m. tree_at trees (Some m) ∷ queries_in (declarations trees ds)) h
+queries-take trees (x ∷ ds) (suc k) q e = let n : suc k + 1 ≡ suc (k + 1) = omega arith in queries-take trees ds k q e ∙ ap (λ j. tree_at trees (Some q) ∷ queries_in (declarations trees (drop j (x ∷ ds)))) (sym n)
+
+pub queries-past : (trees : List KindTree) (ds : List Decl) (k : ℕ) → length ds ≤ k → queries_in (declarations trees (drop k ds)) ≡ []
+unfolding queries_in
+queries-past trees [] zero l = refl
+queries-past trees [] (suc k) l = refl
+queries-past trees (x ∷ ds) zero l = absurd (omega arith)
+queries-past trees (x ∷ ds) (suc k) l = queries-past trees ds k (omega arith)
+
+pub query-below : (bound : ℕ) (ds : List Decl) (k : ℕ) (q : NodeId) → All (IsLive bound) ds → option_and_then query_of (slice_get ds k) ≡ Some q → q.0 < bound
+query-below bound [] k q p e = absurd (cc)
+query-below bound (decl.Name id c args result ∷ ds) zero q p e = absurd (cc)
+query-below bound (decl.Equation n ∷ ds) zero q p e = absurd (cc)
+query-below bound (decl.Equiv id n ∷ ds) zero q p e = absurd (cc)
+query-below bound (decl.Query n ∷ ds) zero q p e = let h : n ≡ q = cc in subst (λ (m : NodeId). m.0 < bound) h (All-head (IsLive bound) (decl.Query n) ds p)
+query-below bound (d ∷ ds) (suc k) q p e = query-below bound ds k q (All-tail (IsLive bound) d ds p) e
+
+-- a number, and so many queries before
+abbrev pub behind : ℕ → Option ℕ → Option ℕ
+behind n o = option_map (λ m. m + n) o
+
+pub none-before : (o : Option ℕ) → behind 0 o ≡ o
+none-before None = refl
+none-before (Some k) = let n : k + 0 ≡ k = omega arith in ap Some n
+
+-- one query that may be asked
+pub refused-later : (game q : Tree) (qs rest : List Tree) (n : ℕ) (total : Option ℕ) → rest ≡ q ∷ qs → may_be_asked game q ≡ true → behind n (first_refused game rest) ≡ total → behind (n + 1) (first_refused game qs) ≡ total
+refused-later game q qs rest n total e f h = one-later (first_refused game qs) ∙ (ap (behind n) (sym (passed game q qs f)) ∙ (ap (λ l. behind n (first_refused game l)) (sym e) ∙ h))
+  where
+    one-later : (o : Option ℕ) → behind (n + 1) o ≡ behind n (option_map suc o)
+    one-later None = refl
+    one-later (Some k) = let m : k + (n + 1) ≡ suc k + n = omega arith in ap Some m
+
+-- one query that may not
+pub refused-here : (game q : Tree) (qs rest : List Tree) (n : ℕ) (total : Option ℕ) → rest ≡ q ∷ qs → may_be_asked game q ≡ false → behind n (first_refused game rest) ≡ total → Some (n + 1) ≡ total
+refused-here game q qs rest n total e f h = let m : n + 1 ≡ 1 + n = omega arith in ap Some m ∙ (ap (behind n) (sym (stopped game q qs f)) ∙ (ap (λ l. behind n (first_refused game l)) (sym e) ∙ h))
+
+-- no query more
+pub refused-none : (game : Tree) (rest : List Tree) (n : ℕ) (total : Option ℕ) → rest ≡ [] → behind n (first_refused game rest) ≡ total → None ≡ total
+unfolding first_refused
+refused-none game rest n total e h = ap (λ l. behind n (first_refused game l)) (sym e) ∙ h

@@ -1,0 +1,66 @@
+-- What the code reads of a query, part by part.
+use Rattle.std.specs.Prelude.{ℕ, nat_eq, Bool, true, false, ◌&&◌, Option, Some, None, option_map}
+use Rattle.std.specs.declared.hash.FoldHasher.{FoldHasher}
+use Rattle.std.specs.declared.hash.BuildHasherDefault.{BuildHasherDefault}
+use Rattle.std.specs.HashSet.{HashSet, contains}
+use Rattle.cv_syntax.specs.declared.decls.Decl.{Decl}
+use Rattle.cv_syntax.specs.declared.decls.Decl.TheVariants as decl
+use Rattle.cv_syntax.specs.declared.head.Head.{Head}
+use Rattle.cv_syntax.specs.declared.head.Head.TheVariants.{Leaf, Cons, Query, Occurs, OccursOnce, Secret, SecretOnce}
+use Rattle.cv_pool.specs.declared.node.NodeId.{NodeId}
+use Rattle.cv_syntax.specs.Tree.{Tree, Empty, Node}
+use Rattle.cv_meaning.specs.Binders.{bound_names}
+use Rattle.cv_typing.specs.Sites.{SitesView, Variable}
+use Rattle.cv_query_form.specs.Tests.{are_distinct, are_marked_alike, is_left_event, is_of_type, is_one_of}
+
+abbrev pub NameSet : Type 0
+NameSet = HashSet ℕ (BuildHasherDefault FoldHasher)
+
+abbrev pub is_in : NameSet → ℕ → Bool
+is_in names x = contains nat_eq names x
+
+-- which names have values, by a table of sites
+abbrev pub valued : SitesView → ℕ → Bool
+valued sites x = is_of_type (option_map (λ (v : Variable). v.sort) (sites.variable x))
+
+abbrev pub query_of : Decl → Option NodeId
+query_of (decl.Query n) = Some n
+query_of d = None
+
+abbrev pub is_empty : Tree → Bool
+is_empty Empty = true
+is_empty t = false
+
+abbrev pub variable_of : Tree → Option ℕ
+variable_of (Node (Leaf x) Empty Empty) = Some x
+variable_of _ = None
+
+-- the variable that a cell of a list holds
+abbrev pub cell_variable : Head → Tree → Option ℕ
+cell_variable Cons t = variable_of t
+cell_variable h t = None
+
+-- a left event, by its node
+abbrev pub event_passes : (ℕ → Bool) → Head → Tree → Tree → Bool
+event_passes free (Occurs e) terms b = is_empty b && are_distinct free terms
+event_passes free (OccursOnce e) terms b = is_empty b && are_distinct free terms
+event_passes free h terms b = false
+
+-- a correspondence, by its binders and its cell of events
+abbrev pub events_pass : Tree → Head → Tree → Tree → Bool
+events_pass bs Cons left atoms = is_left_event (is_one_of (bound_names bs)) left && are_marked_alike left atoms
+events_pass bs h left atoms = false
+
+abbrev pub correspondence_passes : Tree → Tree → Bool
+correspondence_passes bs Empty = false
+correspondence_passes bs (Node h a b) = events_pass bs h a b
+
+abbrev pub secret_passes : (ℕ → Bool) → ℕ → Tree → Tree → Bool
+secret_passes valued x a b = (is_empty a && is_empty b) && valued x
+
+-- a query, by its node
+abbrev pub node_passes : (ℕ → Bool) → Head → Tree → Tree → Bool
+node_passes valued Query a b = correspondence_passes a b
+node_passes valued (Secret x) a b = secret_passes valued x a b
+node_passes valued (SecretOnce x) a b = secret_passes valued x a b
+node_passes valued h a b = false

@@ -1,0 +1,60 @@
+ghost use Rattle.std.specs.Prelude.{◌≡◌, ◌<◌, All, length, IfErr, IfOk, OnOk, None, Some, option_and_then, slice_get};
+ghost use Rattle.cv_syntax.specs.Declarations.{declarations};
+ghost use Rattle.cv_syntax.specs.Tree.{tree_at};
+ghost use Rattle.cv_typing.specs.Lookups.{IsLive};
+ghost use Rattle.cv_query_form.specs.Held.{query_of};
+ghost use Rattle.cv_query_form.specs.Queries.{queries_in};
+ghost use Rattle.cv_query_form.specs.Refusals.{IsFirstRefusal, IsRefusalOf};
+ghost use Rattle.cv_query_form.specs.Rules.{AreAsked};
+ghost use Rattle.cv_query_form.specs.Tests.{first_refused as first_refused_of};
+
+use crate::fault::QueryFault;
+use crate::query::may_be_asked;
+use cv_syntax::{Decl, Decls, Game, NodeId, Work};
+use cv_typing::sites::Sites;
+use std::alloc::{AllocError, Global};
+
+/// Whether each query of a file may be asked of its game; or the first that may not.
+pub fn check(alloc: Global, work: &Work, game: Game) -> Result<(), QueryFault>
+    requires live { game.root.0 < length work.now.pool.trees }
+    requires declared { All (IsLive (length work.now.pool.trees)) work.now.decls.list }
+    ensures none { OnOk result (first_refused_of (tree_at work.now.pool.trees (Some game.root)) (queries_in (declarations work.now.pool.trees work.now.decls.list)) ≡ None) }
+    ensures asked { OnOk result (AreAsked (tree_at work.now.pool.trees (Some game.root)) (queries_in (declarations work.now.pool.trees work.now.decls.list))) }
+    ensures found { IfErr result (IsRefusalOf (first_refused_of (tree_at work.now.pool.trees (Some game.root)) (queries_in (declarations work.now.pool.trees work.now.decls.list)))) }
+    ensures fault { IfErr result (IsFirstRefusal (tree_at work.now.pool.trees (Some game.root)) (queries_in (declarations work.now.pool.trees work.now.decls.list))) }
+{
+    match first_refused(alloc, work, game)? {
+        Some(number) => Err(QueryFault::Query(number)),
+        None => Ok(()),
+    }
+}
+
+/// The number, from 1, of the first query that may not be asked.
+fn first_refused(alloc: Global, work: &Work, game: Game) -> Result<Option<u32>, AllocError>
+    requires live { game.root.0 < length work.now.pool.trees }
+    requires declared { All (IsLive (length work.now.pool.trees)) work.now.decls.list }
+    ensures { IfOk result (λ number. number ≡ first_refused_of (tree_at work.now.pool.trees (Some game.root)) (queries_in (declarations work.now.pool.trees work.now.decls.list))) }
+{
+    let sites = Sites::of(alloc, &work.pool, game.root)?;
+    let mut number = 0;
+    'decls: for k in 0..work.decls.len() {
+        let Some(query) = query_at(&work.decls, k) else {
+            continue;
+        };
+        number += 1;
+        if !may_be_asked(alloc, &work.pool, &sites, query)? {
+            return Ok(Some(number));
+        }
+    }
+    Ok(None)
+}
+
+/// The query at a place in a list of declarations, counted from 0, where one stands there.
+fn query_at(decls: &Decls, k: u32) -> Option<NodeId>
+    ensures { result ≡ option_and_then query_of (slice_get decls.now.list k) }
+{
+    match decls.get(k)? {
+        Decl::Query(query) => Some(*query),
+        Decl::Name { .. } | Decl::Equation(_) | Decl::Equiv { .. } => None,
+    }
+}

@@ -1,6 +1,0 @@
-use Rattle.std.proofs.Common.{arith}
-use Rattle.cv_read.proofs.Made.{spine-whole}
-use Rattle.cv_read.proofs.trail.make_spine.Goals as goal
-
-pub returns : goal.returns
-returns c = spine-whole c.args.heads.now c.heads.at _ _ (omega arith) c.heads.invariant.makes

@@ -1,6 +1,0 @@
-pub mod Begins
-pub mod Choices
-pub mod Correspondences
-pub mod Groups
-pub mod Listed
-pub mod Sequences

@@ -1,9 +1,0 @@
-use Rattle.cv_syntax.specs.Tree.{chain}
-use Rattle.cv_grammar.specs.Form.{deeper, made}
-use Rattle.cv_grammar.specs.declared.sign.Mark.TheVariants.{Comma, Open, Close}
-use Rattle.cv_rules.specs.Phrases.{row, OneCell}
-use Rattle.cv_read.proofs.Chains.{between}
-use Rattle.cv_read_terms.proofs.conditions.cells.Goals as goal
-
-pub returns : goal.returns
-returns c = record { makes = between Open Close (made chain (row Comma (deeper OneCell))) _ c.in_ok-place.ensures.opens c.in_ok-place-2.ensures.makes c.expect.ensures.read c.expect.ensures.fails }

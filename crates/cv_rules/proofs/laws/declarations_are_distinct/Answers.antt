@@ -1,5 +1,0 @@
-use Rattle.cv_rules.proofs.Identities.{ids_are_distinct}
-use Rattle.cv_rules.proofs.laws.declarations_are_distinct.Goals as goal
-
-pub returns : goal.returns
-returns c = λ ts ds s g w. ids_are_distinct ts ds s g w

@@ -1,9 +1,0 @@
-use Rattle.cv_runs.proofs.Spots.{spots_distinct}
-use Rattle.cv_runs.proofs.Once.{cells_once}
-use Rattle.cv_runs.proofs.no_construct_is_visited_twice.Goals as goal
-
-pub returns-clause-spots : goal.returns-clause-spots
-returns-clause-spots c = spots_distinct
-
-pub returns-clause-cells : goal.returns-clause-cells
-returns-clause-cells c = cells_once

@@ -1,5 +1,0 @@
-use Rattle.cv_runs.proofs.Places.{replaced_where}
-use Rattle.cv_runs.proofs.replaced_where_a_service_comes.Goals as goal
-
-pub returns : goal.returns
-returns c = replaced_where

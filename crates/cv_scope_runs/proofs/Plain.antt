@@ -1,0 +1,69 @@
+-- A tree in the grammar of games has no key and no call, and so it is of each visit.
+use Rattle.std.proofs.Common.{◌≡◌, ℕ, Bool, true, false, ◌&&◌, List, [], Option, Some, None, refl, sym, ap₂, ◌∙◌}
+use Rattle.std.proofs.lemmas.Bool.{both_ways, and_parts}
+use Rattle.std.specs.List.{AllByRecursion}
+use Rattle.cv_syntax.specs.declared.head.Head.{Head}
+use Rattle.cv_syntax.specs.declared.head.Head.TheVariants.{Key, Call}
+use Rattle.cv_syntax.specs.Tree.{Tree, Empty, Node}
+use Rattle.cv_meaning.specs.Tapes.{Tape}
+use Rattle.cv_meaning.specs.Interpretation.{Setting}
+use Rattle.cv_meaning.specs.Serving.{Visit}
+use Rattle.cv_meaning.specs.Runs.{Mode, Answer, Move, run_visits, start}
+use Rattle.cv_meaning.specs.Experiments.{visits_of_run}
+use Rattle.cv_meaning_runs.specs.Listed.{head_is_no_call, has_no_calls}
+use Rattle.cv_meaning_runs.proofs.Placed.{visits_have}
+use Rattle.cv_scope_runs.specs.Phrases.{Phrase, Nil, parts, both_are, is_phrase}
+
+abbrev head_is_plain : Head → Bool
+head_is_plain (Key x) = false
+head_is_plain (Call x l) = false
+head_is_plain h = true
+
+abbrev pub is_plain : Tree → Bool
+is_plain Empty = true
+is_plain (Node h a b) = head_is_plain h && (is_plain a && is_plain b)
+
+no_key : (σ : Phrase) (x : ℕ) → parts σ (Key x) ≡ None
+no_key Nil x = refl
+no_key σ x = refl
+
+no_call : (σ : Phrase) (x l : ℕ) → parts σ (Call x l) ≡ None
+no_call Nil x l = refl
+no_call σ x l = refl
+
+none_some : {A : Type 0} (q : A) → ◌≡◌ {A = Option A} None (Some q) → ⊥
+none_some q e = cc
+
+head_plain : (σ : Phrase) (h : Head) (q : Phrase × Phrase) → parts σ h ≡ Some q → head_is_plain h ≡ true
+head_plain σ (Key x) q e = absurd (none_some q (sym (no_key σ x) ∙ e))
+head_plain σ (Call x l) q e = absurd (none_some q (sym (no_call σ x l) ∙ e))
+head_plain σ h q e = refl
+
+pub phrase_plain : (σ : Phrase) (b : Tree) → is_phrase σ b ≡ true → is_plain b ≡ true
+unfolding is_phrase
+phrase_plain σ Empty e = refl
+phrase_plain σ (Node h a b) e = go (parts σ h) refl e (λ τ. phrase_plain τ a) (λ τ. phrase_plain τ b)
+  where
+    go : (o : Option (Phrase × Phrase)) → parts σ h ≡ o → both_are o (λ τ. is_phrase τ a) (λ ρ. is_phrase ρ b) ≡ true → ((τ : Phrase) → is_phrase τ a ≡ true → is_plain a ≡ true) → ((τ : Phrase) → is_phrase τ b ≡ true → is_plain b ≡ true) → head_is_plain h && (is_plain a && is_plain b) ≡ true
+    go None k z f g = absurd (both_ways _ refl z)
+    go (Some q) k z f g = let r = and_parts (is_phrase q.0 a) _ z in ap₂ ◌&&◌ (head_plain σ h q k) (ap₂ ◌&&◌ (f q.0 r.0) (g q.1 r.1))
+
+abbrev pub VisitPlain : Visit → Type 0
+VisitPlain v = is_plain v.tree ≡ true
+
+pub visits_plain : (g : Setting) (m : Mode) (next : List Answer → Option Move) (t : Tape) (n : ℕ) (game : Tree) → is_plain game ≡ true → AllByRecursion VisitPlain (run_visits g m next t n (start g game))
+unfolding visits_of_run
+visits_plain g m next t n game e =
+    visits_have (λ p b. is_plain b ≡ true) g m (record { coins = []; coins_have_values = tt; moves = n; next = λ cs. next }) game t
+    (λ p h a b x. let r = and_parts (is_plain a) _ (and_parts (head_is_plain h) _ x).1 in (r.0, r.1)) e
+
+head_no_call : (h : Head) → head_is_plain h ≡ true → head_is_no_call h ≡ true
+head_no_call (Call x l) e = e
+head_no_call h e = refl
+
+pub plain_no_calls : (b : Tree) → is_plain b ≡ true → has_no_calls b ≡ true
+plain_no_calls Empty e = refl
+plain_no_calls (Node h a b) e =
+    let r = and_parts (head_is_plain h) _ e in
+    let s = and_parts (is_plain a) _ r.1 in
+    ap₂ ◌&&◌ (head_no_call h r.0) (ap₂ ◌&&◌ (plain_no_calls a s.0) (plain_no_calls b s.1))

@@ -1,0 +1,68 @@
+use Rattle.std.proofs.Common.{◌≡◌, Option, Some, None, refl}
+use Rattle.cv_syntax.specs.Tree.{size, same_tree, reads_only}
+use Rattle.cv_meaning.specs.Direct.{argument, is_substituted, is_instance, plainly_covered}
+use Rattle.cv_meaning.specs.Memory.{put}
+use Rattle.cv_meaning.specs.Terms.{value}
+use Rattle.cv_meaning.specs.Binders.{bound_to}
+use Rattle.cv_meaning.specs.Inputs.{inputs_of}
+use Rattle.cv_meaning.specs.Serving.{step, serve}
+use Rattle.cv_meaning.specs.Runs.{taken, moved, run_from}
+use Rattle.cv_meaning.specs.Experiments.{run}
+use Rattle.cv_meaning.specs.Correspondences.{assignments, broken}
+use Rattle.cv_meaning.specs.Advantage.{breaks}
+use Rattle.cv_typing.specs.Sites.{first_site, bound_sort}
+use Rattle.cv_typing.specs.Signature.{count}
+use Rattle.cv_scope.specs.Sites.{sites_from}
+use Rattle.cv_scope.specs.Standing.{at_root}
+use Rattle.cv_scope.specs.Scope.{first_fault, names_of, IsScoped}
+use Rattle.cv_scope.specs.Worked.{constants}
+use Rattle.cv_scope.proofs.First.{scoped_where_none, none_where_scoped}
+use Rattle.cv_scope_runs.specs.Phrases.{is_phrase, binds_none}
+use Rattle.cv_scope_runs.specs.Worked.{assigned_again, constant_captured}
+use Rattle.cv_scope_runs.proofs.scope_and_constants_are_needed.Goals as goal
+
+some_none : {A : Type 0} (a : A) → ◌≡◌ {A = Option A} (Some a) None → ⊥
+some_none a e = cc
+
+unscoped : IsScoped constants assigned_again → ⊥
+unfolding first_fault sites_from same_tree size first_site bound_sort count
+unscoped s = some_none _ (none_where_scoped (names_of constants assigned_again) at_root assigned_again s)
+
+pub returns-clause-shape : goal.returns-clause-shape
+unfolding plainly_covered is_substituted is_instance argument same_tree reads_only
+returns-clause-shape c = record { inj = refl; others = refl; atoms = refl; covered = refl }
+
+pub returns-clause-unscoped : goal.returns-clause-unscoped
+returns-clause-unscoped c = unscoped
+
+pub returns-clause-phrase : goal.returns-clause-phrase
+unfolding is_phrase
+returns-clause-phrase c = refl
+
+pub returns-clause-unbound : goal.returns-clause-unbound
+unfolding binds_none
+returns-clause-unbound c = refl
+
+pub returns-clause-broken : goal.returns-clause-broken
+unfolding breaks broken assignments run run_from moved taken serve step inputs_of bound_to value put reads_only
+returns-clause-broken c = refl
+
+pub returns-clause-captured_shape : goal.returns-clause-captured_shape
+unfolding plainly_covered is_substituted is_instance argument same_tree reads_only
+returns-clause-captured_shape c = record { inj = refl; others = refl; atoms = refl; covered = refl }
+
+pub returns-clause-captured_scope : goal.returns-clause-captured_scope
+unfolding first_fault sites_from same_tree size first_site bound_sort count
+returns-clause-captured_scope c = scoped_where_none (names_of constants constant_captured) at_root constant_captured refl
+
+pub returns-clause-captured_phrase : goal.returns-clause-captured_phrase
+unfolding is_phrase
+returns-clause-captured_phrase c = refl
+
+pub returns-clause-captured : goal.returns-clause-captured
+unfolding binds_none
+returns-clause-captured c = refl
+
+pub returns-clause-captured_broken : goal.returns-clause-captured_broken
+unfolding breaks broken assignments run run_from moved taken serve step inputs_of bound_to value put reads_only
+returns-clause-captured_broken c = refl

@@ -1,0 +1,170 @@
+// Laws of well-formed games: single assignment, what holds at a visited place, and correspondences that
+// are met by the shape of a game.
+#![tactic(auto)]
+
+ghost use Rattle.std.specs.Prelude.{◌≡◌, ℕ, List, [], ◌∷◌, false, true};
+ghost use Rattle.std.specs.List.{AllByRecursion, IsDistinct};
+ghost use Rattle.cv_syntax.specs.declared.head.Head.TheVariants.{Query};
+ghost use Rattle.cv_syntax.specs.Declarations.{Declaration};
+ghost use Rattle.cv_syntax.specs.Tree.{Node, Tree};
+ghost use Rattle.cv_meaning.specs.Tapes.{Tape, blank, same_cell};
+ghost use Rattle.cv_meaning.specs.Interpretation.{Interpretation, Setting, is_constant_of, setting_of};
+ghost use Rattle.cv_meaning.specs.Memory.{Memory};
+ghost use Rattle.cv_meaning.specs.Runs.{Adversary, Mode};
+ghost use Rattle.cv_meaning.specs.Experiments.{run, visits_of_run};
+ghost use Rattle.cv_meaning.specs.Consulted.{consulted};
+ghost use Rattle.cv_meaning.specs.Correspondences.{Correspondence, correspondence_of};
+ghost use Rattle.cv_meaning.specs.Chances.{AtMost, zero_chance};
+ghost use Rattle.cv_meaning.specs.Advantage.{advantage, breaks, break_chance};
+ghost use Rattle.cv_meaning.specs.Direct.{IsPlainlyDirect, covered};
+ghost use Rattle.cv_meaning_runs.specs.Listed.{has_no_calls};
+ghost use Rattle.cv_meaning_runs.specs.Spots.{same_address};
+ghost use Rattle.cv_scope.specs.Branches.{Pairs};
+ghost use Rattle.cv_scope.specs.Scope.{IsScoped};
+ghost use Rattle.cv_scope.specs.Worked.{cell_found, constants, finds};
+ghost use Rattle.cv_scope_runs.specs.Worked.{
+  begun_before,
+  sessions,
+  told_before,
+  told,
+  assigned_again,
+  constant_captured,
+  two_values,
+  caller,
+};
+ghost use Rattle.cv_scope_runs.specs.Phrases.{Inputs, is_phrase, binds_none, IsWellFormed, HasConstantsOf};
+ghost use Rattle.cv_scope_runs.specs.Reads.{VisitReadsAssigned};
+ghost use Rattle.cv_scope_runs.specs.Made.{MakeApart, AssignsNew};
+ghost use Rattle.cv_scope_runs.specs.Promises.{
+  VisitsGrow,
+  GrowsToEnd,
+  PlaceHolds,
+  InputHolds,
+  CandidatesHold,
+  CellsHold,
+  OneDefinitionHolds,
+  VisitCellsHold,
+};
+
+/// At each visit of a run of a well-formed game, each value that the construct reads has been assigned,
+/// or is a constant's or a current index's. In the list and the condition of a branch, at each tuple
+/// that the `find` tries, the branch's index variables have the tuple's values; there the list is read up
+/// to its first cell that is not assigned, and the condition where the whole list is assigned.
+pub fn values_are_assigned_before_they_are_read()
+    ensures { (ds : List Declaration) (g : Setting) (m : Mode) (a : Adversary) (game : Tree)
+        (t : Tape) → HasConstantsOf ds g → IsWellFormed ds game →
+        AllByRecursion (VisitReadsAssigned g) (visits_of_run g m a game t) }
+{}
+
+/// In a run of a well-formed game no two visits assign one cell of a variable, serve one copy of a
+/// channel's input, or choose at one copy of a `find`; what a visit assigns was not assigned before; and
+/// no cell of the tape is consulted twice. (That no construct is visited twice at one copy is a law of
+/// all games: `no_construct_is_visited_twice`.)
+pub fn cells_are_assigned_once()
+    ensures made { (ds : List Declaration) (g : Setting) (m : Mode) (a : Adversary) (game : Tree)
+        (t : Tape) → IsWellFormed ds game →
+        Pairs MakeApart (visits_of_run g m a game t) }
+    ensures new { (ds : List Declaration) (g : Setting) (m : Mode) (a : Adversary) (game : Tree)
+        (t : Tape) → IsWellFormed ds game →
+        AllByRecursion AssignsNew (visits_of_run g m a game t) }
+    ensures consulted { (ds : List Declaration) (g : Setting) (m : Mode) (a : Adversary)
+        (game : Tree) (t : Tape) → IsWellFormed ds game →
+        IsDistinct same_cell (consulted g (visits_of_run g m a game t)) }
+{}
+
+/// In a run of a well-formed game no two available copies answer to the same calls, so a call takes the
+/// only copy that it may (`a_call_takes_the_only_copy`); and a game in the grammar has no calls of oracles.
+pub fn calls_take_the_only_copy()
+    ensures available { (ds : List Declaration) (g : Setting) (m : Mode) (a : Adversary)
+        (game : Tree) (t : Tape) → IsWellFormed ds game →
+        IsDistinct same_address (run g m a game t).inputs }
+    ensures no_oracles { (ds : List Declaration) (game : Tree) → IsWellFormed ds game →
+        has_no_calls game ≡ true }
+{}
+
+/// What is assigned before a visit of a run of a well-formed game stays so, with its value, and what was
+/// recorded stays recorded, at later visits and at the end.
+pub fn runs_only_grow()
+    ensures visits { (ds : List Declaration) (g : Setting) (m : Mode) (a : Adversary) (game : Tree)
+        (t : Tape) → HasConstantsOf ds g → IsWellFormed ds game →
+        Pairs VisitsGrow (visits_of_run g m a game t) }
+    ensures last { (ds : List Declaration) (g : Setting) (m : Mode) (a : Adversary) (game : Tree)
+        (t : Tape) → HasConstantsOf ds g → IsWellFormed ds game →
+        AllByRecursion (GrowsToEnd (run g m a game t)) (visits_of_run g m a game t) }
+{}
+
+/// What is known at a visited place of a well-formed game holds there, then and later: its replications
+/// have the current indices, below their parameters, its cells are assigned, its facts are true, and its
+/// events were recorded, with the values that their terms have at this copy. At a visited `find` it
+/// holds at each tuple in the list of a branch, in its condition where the list is assigned, and in its
+/// body where the branch is a candidate, taken or not. It holds of each available copy of an input. And
+/// behind some definition of the variable of each assigned cell, so behind its only one, what is known
+/// holds at the cell's tuple, before each visit and at the end.
+pub fn what_stands_above_holds()
+    ensures places { (ds : List Declaration) (g : Setting) (m : Mode) (a : Adversary) (game : Tree)
+        (t : Tape) → HasConstantsOf ds g → IsWellFormed ds game →
+        AllByRecursion (PlaceHolds g game) (visits_of_run g m a game t) }
+    ensures candidates { (ds : List Declaration) (g : Setting) (m : Mode) (a : Adversary)
+        (game : Tree) (t : Tape) → HasConstantsOf ds g → IsWellFormed ds game →
+        AllByRecursion (CandidatesHold g game) (visits_of_run g m a game t) }
+    ensures inputs { (ds : List Declaration) (g : Setting) (m : Mode) (a : Adversary) (game : Tree)
+        (t : Tape) → HasConstantsOf ds g → IsWellFormed ds game →
+        AllByRecursion (InputHolds g game (run g m a game t).memory) (run g m a game t).inputs }
+    ensures cells { (ds : List Declaration) (g : Setting) (m : Mode) (a : Adversary) (game : Tree)
+        (t : Tape) → HasConstantsOf ds g → IsWellFormed ds game →
+        AllByRecursion (VisitCellsHold g game) (visits_of_run g m a game t) }
+    ensures last { (ds : List Declaration) (g : Setting) (m : Mode) (a : Adversary) (game : Tree)
+        (t : Tape) → HasConstantsOf ds g → IsWellFormed ds game →
+        CellsHold g game (run g m a game t).memory }
+    ensures one { (g : Setting) (game : Tree) (x : Memory) →
+        CellsHold g game x → OneDefinitionHolds g game x }
+{}
+
+/// A correspondence whose right events all stand above each left event in a well-formed game, be it in an
+/// earlier input or outside of replications, is broken on no tape, whatever the interpretation and the
+/// adversary. So no adversary has an advantage against such a query.
+pub fn plainly_direct_is_never_broken()
+    ensures tapes { (ds : List Declaration) (g : Setting) (q : Correspondence) (a : Adversary)
+        (game : Tree) (t : Tape) → HasConstantsOf ds g → IsWellFormed ds game →
+        IsPlainlyDirect q game → breaks g q a game t ≡ false }
+    ensures chance { (ds : List Declaration) (g : Setting) (q : Correspondence) (a : Adversary)
+        (game : Tree) → HasConstantsOf ds g → IsWellFormed ds game → IsPlainlyDirect q game →
+        AtMost (break_chance g q a game) zero_chance }
+    ensures query { (ds : List Declaration) (g : Setting) (binders sides : Tree) (a : Adversary)
+        (game : Tree) → HasConstantsOf ds g → IsWellFormed ds game →
+        IsPlainlyDirect (correspondence_of (Node Query binders sides)) game →
+        AtMost (advantage g (Node Query binders sides) a game) zero_chance }
+{}
+
+/// Worked games that are well-formed. In the first, below a replication, the right event stands in an
+/// earlier input than the left one: there the correspondence is met by the shape of the game, though not
+/// within one body. The second has a `find`. In the third the right event has a function's value and a
+/// constant as arguments.
+pub fn worked_games()
+    ensures sessions { IsWellFormed [] sessions }
+    ensures shape { IsPlainlyDirect begun_before sessions }
+    ensures body { covered begun_before [] sessions ≡ false }
+    ensures never { (i : Interpretation) (a : Adversary) →
+        AtMost (break_chance (setting_of [] i) begun_before a sessions) zero_chance }
+    ensures found { IsWellFormed [] (finds (cell_found ∷ [])) }
+    ensures terms { IsWellFormed constants told }
+    ensures terms_shape { IsPlainlyDirect told_before told }
+    ensures terms_never { (i : Interpretation) (a : Adversary) →
+        AtMost (break_chance (setting_of constants i) told_before a told) zero_chance }
+{}
+
+/// Array scope is needed: a game in the grammar that assigns a variable again breaks a correspondence
+/// that its shape meets. And so is it that no constant is bound: a game in array scope whose replication
+/// index is named as a constant does the same.
+pub fn scope_and_constants_are_needed()
+    ensures shape { IsPlainlyDirect begun_before assigned_again }
+    ensures unscoped { IsScoped constants assigned_again → ⊥ }
+    ensures phrase { is_phrase Inputs assigned_again ≡ true }
+    ensures unbound { binds_none (is_constant_of constants) assigned_again ≡ true }
+    ensures broken { breaks two_values begun_before (caller 1 (0 ∷ [])) assigned_again blank ≡ true }
+    ensures captured_shape { IsPlainlyDirect begun_before constant_captured }
+    ensures captured_scope { IsScoped constants constant_captured }
+    ensures captured_phrase { is_phrase Inputs constant_captured ≡ true }
+    ensures captured { binds_none (is_constant_of constants) constant_captured ≡ false }
+    ensures captured_broken { breaks two_values begun_before (caller 2 []) constant_captured blank ≡ true }
+{}

@@ -1,5 +1,0 @@
-use Rattle.cv_shapes.proofs.Filling.{filled_is}
-use Rattle.cv_shapes.proofs.filling_keeps_phrases.Goals as goal
-
-pub returns : goal.returns
-returns c = λ barred sites now φ t w. filled_is sites now φ t w

@@ -1,9 +1,0 @@
-use Rattle.std.proofs.Common.{arith}
-use Rattle.cv_direct.specs.Found.{entry_tree}
-use Rattle.cv_success.specs.Certificates.{entry_of}
-use Rattle.cv_success.proofs.Made.{items-past, on-ok}
-use Rattle.cv_success.proofs.parts.push_entries.Goals as goal
-
-pub returns : goal.returns
-returns c =
-    on-ok c.close_list.result (λ e. items-past entry_of (entry_tree c.args.pool.now.trees) c.args.entries.now c.entries.k c.entries.makes.items c.close_list.new.makes.items c.args.makes.now.items (omega arith) c.entries.invariant e) c.close_list.ensures

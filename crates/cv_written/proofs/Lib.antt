@@ -1,5 +1,0 @@
-pub mod Tokens
-pub mod Rows
-pub mod Filling
-pub mod Signs
-pub mod Games

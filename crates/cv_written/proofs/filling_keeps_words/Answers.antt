@@ -1,5 +1,0 @@
-use Rattle.cv_written.proofs.Filling.{filled_words}
-use Rattle.cv_written.proofs.filling_keeps_words.Goals as goal
-
-pub returns : goal.returns
-returns c = λ sites now t w e. filled_words sites now t w e

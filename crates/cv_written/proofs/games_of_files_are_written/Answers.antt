@@ -1,7 +1,0 @@
-use Rattle.cv_signs.specs.Signs.{signs_of}
-use Rattle.cv_written.proofs.Games.{game_written}
-use Rattle.cv_written.proofs.Signs.{signs_named}
-use Rattle.cv_written.proofs.games_of_files_are_written.Goals as goal
-
-pub returns : goal.returns
-returns c = λ limit tokens p e. game_written limit (signs_of tokens).signs p (signs_named tokens) e
