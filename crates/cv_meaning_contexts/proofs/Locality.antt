@@ -10,8 +10,8 @@ use Rattle.cv_meaning.specs.Side.{CallNumber, Arrays, OracleCall, OracleAnswer}
 use Rattle.cv_meaning.specs.Interpretation.{Interpretation}
 use Rattle.cv_meaning.specs.Terms.{is_one}
 use Rattle.cv_meaning.specs.Cells.{without_repeats}
-use Rattle.cv_meaning.proofs.Counts.{same_cell_exact}
-use Rattle.cv_meaning.proofs.Listed.{Sized, Has, has_left, has_right, distinct-without_repeats, is_in-without_repeats}
+use Rattle.cv_meaning_laws.proofs.Counts.{same_cell_exact}
+use Rattle.cv_meaning_laws.proofs.Listed.{Sized, Has, has_left, has_right, distinct-without_repeats, is_in-without_repeats}
 use Rattle.cv_meaning_contexts.specs.Groups.{Function}
 use Rattle.cv_meaning_contexts.specs.Frames.{IsValue, Frame, assigned, with_call}
 use Rattle.cv_meaning_contexts.specs.BodyTerms.{body_value}

@@ -15,7 +15,7 @@ use Rattle.cv_meaning.specs.Memory.{no_memory}
 use Rattle.cv_meaning.specs.Terms.{bit}
 use Rattle.cv_meaning.specs.Serving.{Sent}
 use Rattle.cv_meaning.specs.Runs.{Move, Calls, Tests, Guesses, Answer, Replied, Told}
-use Rattle.cv_meaning.specs.Worked.{leaf, read, input, output, event, branch, find}
+use Rattle.cv_syntax.specs.Builders.{leaf, read, input, output, event, branch, find}
 use Rattle.cv_meaning_contexts.specs.Groups.{group_of}
 use Rattle.cv_meaning_contexts.specs.Sites.{Site}
 use Rattle.cv_meaning_contexts.specs.Sides.{Context, side_from}
