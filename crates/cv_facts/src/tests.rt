@@ -1,5 +1,5 @@
 use crate::{Fact, defined_here, fact, site};
-use cv_path::room_left;
+use cv_syntax::children::room_left;
 use cv_syntax::{Game, Head, NameId, Work};
 use std::test::Fail;
 

@@ -7,8 +7,9 @@ use Rattle.cv_pool.specs.declared.node.NodeId.{NodeId}
 use Rattle.cv_pool.specs.KindTree.{KindTree}
 use Rattle.cv_syntax.specs.declared.head.Head.{Head}
 use Rattle.cv_syntax.specs.declared.head.Head.TheVariants.{Binder}
+use Rattle.cv_syntax.specs.Children.{is_empty}
 use Rattle.cv_syntax.specs.NameSets.{NameSet, is_in, is_one_of}
-use Rattle.cv_syntax.specs.Tree.{Tree, Node, bound_names, tree_at}
+use Rattle.cv_syntax.specs.Tree.{Tree, Empty, Node, bound_names, same_tree, tree_at}
 use Rattle.cv_syntax.proofs.Trees.{empty-at}
 
 -- what a smaller tree leaves of a smaller room
@@ -46,3 +47,9 @@ no-more m xs ys e h = fun_ext (λ y. or-nothing (is_in m y) ∙ (ap (λ zs. is_i
     or-nothing : (b : Bool) → b ≡ (b || false)
     or-nothing true = refl
     or-nothing false = refl
+
+-- a tree is the empty one where it is empty
+pub same_tree-Empty : (t : Tree) → same_tree Empty t ≡ is_empty t
+unfolding same_tree
+same_tree-Empty Empty = refl
+same_tree-Empty (Node h a b) = refl

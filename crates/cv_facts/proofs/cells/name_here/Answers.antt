@@ -1,7 +1,7 @@
 use Rattle.std.proofs.Common.{ap, subst, sym, ◌∙◌}
 use Rattle.cv_syntax.specs.Tree.{tree_at}
+use Rattle.cv_syntax.proofs.Trees.{empty-at}
 use Rattle.cv_facts.specs.Cells.{ArePartsOf, IsAhead, indices_of}
-use Rattle.cv_path.proofs.Going.{nothing}
 use Rattle.cv_facts.proofs.Comparing.{apart_is, rest_is, named_apart, named_here, named_more}
 use Rattle.cv_facts.proofs.cells.name_here.Goals as goal
 
@@ -13,7 +13,7 @@ returns-in_default-ahead c =
 pub returns-in_default-rest : goal.returns-in_default-rest
 returns-in_default-rest c =
     let trees = c.args.pool.now.trees in
-    λ rs t p i. named_here trees t c.in-Some.parts (subst (ArePartsOf trees t) c.in-Some.is p) rs (tree_at trees c.in-Rest.rest) (rest_is trees rs _ c.args.ahead c.in-Rest.rest c.in-Rest.is (subst (λ o. IsAhead trees rs (indices_of trees o) c.args.ahead) c.in-Some.is i)) (nothing trees c.in-Rest.rest c.in_default-rest.is)
+    λ rs t p i. named_here trees t c.in-Some.parts (subst (ArePartsOf trees t) c.in-Some.is p) rs (tree_at trees c.in-Rest.rest) (rest_is trees rs _ c.args.ahead c.in-Rest.rest c.in-Rest.is (subst (λ o. IsAhead trees rs (indices_of trees o) c.args.ahead) c.in-Some.is i)) (empty-at trees c.in-Rest.rest c.in_default-rest.is)
 
 pub returns : goal.returns
 returns c =
