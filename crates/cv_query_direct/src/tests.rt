@@ -4,31 +4,14 @@ ghost use Rattle.cv_pool.specs.PoolView.{Grows};
 ghost use Rattle.cv_syntax.specs.Tree.{size, tree_at};
 
 use super::*;
-use cv_syntax::{Head, NodeId, Pool, read_node};
+use cv_syntax::children::room_left;
+use cv_syntax::{Head, NodeId, Pool};
 use std::alloc::{AllocError, Global};
 use std::test::Fail;
 
 // Names are numbers: 1 is a replication index, 2 a parameter, 3 and 8 are channels of inputs, 6 is one of outputs,
 // 4 is a nonce and 5 its type, 11 and 12 are events, 21 and 22 are the variables of a query, 30 is a function, and 31 and
 // 32 are constants.
-
-// How much of some room a tree leaves, where it fits.
-fn room_left(pool: &Pool, tree: Option<NodeId>, room: u32) -> Option<u32>
-    requires { ChildBelow (length pool.now.trees) tree }
-    ensures { IfSome result (λ left. size (tree_at pool.now.trees tree) + left ≡ room) }
-{
-    let Some(k) = tree else {
-        return Some(room);
-    };
-    let node = read_node(pool, k);
-    let weight = node.head.weight();
-    if room < weight {
-        return None;
-    }
-    let rest = room_left(pool, node.first, room - weight)?;
-    let left = room_left(pool, node.second, rest)?;
-    Some(left)
-}
 
 // The places of the left event and of its right events' nodes, where the query is closed.
 fn places(

@@ -4,27 +4,10 @@ ghost use Rattle.cv_syntax.specs.Tree.{size, tree_at};
 ghost use Rattle.cv_typing.specs.Lookups.{IsLive};
 
 use super::*;
+use cv_syntax::children::room_left;
 use cv_syntax::{Game, Head, NodeId, Pool, Work, read_node};
 use std::alloc::Global;
 use std::test::Fail;
-
-// How much of some room a tree leaves, where it fits.
-fn room_left(pool: &Pool, tree: Option<NodeId>, room: u32) -> Option<u32>
-    requires { ChildBelow (length pool.now.trees) tree }
-    ensures { IfSome result (λ left. size (tree_at pool.now.trees tree) + left ≡ room) }
-{
-    let Some(k) = tree else {
-        return Some(room);
-    };
-    let node = read_node(pool, k);
-    let weight = node.head.weight();
-    if room < weight {
-        return None;
-    }
-    let rest = room_left(pool, node.first, room - weight)?;
-    let left = room_left(pool, node.second, rest)?;
-    Some(left)
-}
 
 // What is answered of a small game.
 fn answer(alloc: Global, work: &Work, root: NodeId) -> Result<(), ScopeFault>

@@ -8,7 +8,8 @@ ghost use Rattle.cv_typing.specs.Lookups.{IsLive};
 use super::{AUTHENTICATED, AUTHENTICATION, CHECKED, read_game, tokens_in};
 use cv_parse::{file, term};
 use cv_print::{game_text, term_text};
-use cv_syntax::{Decl, Game, Head, NodeId, Pool, Work, read_node};
+use cv_syntax::children::room_left;
+use cv_syntax::{Decl, Game, Head, NodeId, Pool, Work};
 use cv_typing::check_game;
 use std::alloc::Global;
 use std::process::Abort;
@@ -251,24 +252,6 @@ fn are_live(work: &Work) -> bool
         }
     }
     true
-}
-
-/// How much of some room a tree leaves, where it fits.
-fn room_left(pool: &Pool, part: Part, room: u32) -> Option<u32>
-    requires { ChildBelow (length pool.now.trees) part }
-    ensures { IfSome result (λ left. size (tree_at pool.now.trees part) + left ≡ room) }
-{
-    let Some(k) = part else {
-        return Some(room);
-    };
-    let node = read_node(pool, k);
-    let weight = node.head.weight();
-    if room < weight {
-        return None;
-    }
-    let rest = room_left(pool, node.first, room - weight)?;
-    let left = room_left(pool, node.second, rest)?;
-    Some(left)
 }
 
 /// The game that a test has built, where `check_game` accepts it.
