@@ -14,6 +14,7 @@ use Rattle.cv_syntax.specs.Declarations.{Declaration, Named, Equation, Equiv, Qu
 use Rattle.cv_syntax.specs.Planting.{overs}
 use Rattle.cv_syntax.specs.Postorder.{postorder}
 use Rattle.cv_syntax.specs.Tree.{Tree, Empty, Node, tree_at, tree_of}
+use Rattle.cv_syntax.proofs.Trees.{tree_at-None}
 use Rattle.cv_parse_grammar.specs.Filled.{filled}
 use Rattle.cv_parse_grammar.specs.Identities.{AreDistinct, ids_of}
 use Rattle.cv_parse_grammar.specs.Rules.{File}
@@ -33,12 +34,8 @@ pub ruleset buildings = (few_overs)
 
 -- declarations
 
-empty_at : (trees : List KindTree) → tree_at trees None ≡ Empty
-unfolding tree_of
-empty_at trees = refl
-
 bool_same : (trees : List KindTree) → declared trees bool_decl ≡ bool_type
-bool_same trees = ap (λ t. Named 0 (TypeName true false) t None) (empty_at trees)
+bool_same trees = ap (λ t. Named 0 (TypeName true false) t None) (tree_at-None trees)
 
 sort_same : (o : Option ℕ) → number (option_map named_by o) ≡ o
 sort_same None = refl
@@ -47,20 +44,20 @@ sort_same (Some x) = refl
 declared_same : (trees : List KindTree) (d : Declaration) (r : Option NodeId) → IsWhole d → tree_at trees r ≡ tree_in d → declared trees (decl_of (heard_of d) r) ≡ d
 declared_same trees (Named id c args result) r w e = ap₂ (λ t o. Named id c t o) e (sort_same result)
 declared_same trees (Equation t) (Some n) w e = ap Equation e
-declared_same trees (Equation t) None w e = absurd (w (sym e ∙ empty_at trees))
+declared_same trees (Equation t) None w e = absurd (w (sym e ∙ tree_at-None trees))
 declared_same trees (Equiv id t) (Some n) w e = ap (Equiv id) e
-declared_same trees (Equiv id t) None w e = absurd (w (sym e ∙ empty_at trees))
+declared_same trees (Equiv id t) None w e = absurd (w (sym e ∙ tree_at-None trees))
 declared_same trees (Query t) (Some n) w e = ap Query e
-declared_same trees (Query t) None w e = absurd (w (sym e ∙ empty_at trees))
+declared_same trees (Query t) None w e = absurd (w (sym e ∙ tree_at-None trees))
 
 below_one : (trees : List KindTree) (bound : ℕ) (d : Declaration) (r : Option NodeId) → IsWhole d → tree_at trees r ≡ tree_in d → ChildBelow bound r → IsBelow bound (decl_of (heard_of d) r)
 below_one trees bound (Named id c args result) r w e l = l
 below_one trees bound (Equation t) (Some n) w e l = l
-below_one trees bound (Equation t) None w e l = absurd (w (sym e ∙ empty_at trees))
+below_one trees bound (Equation t) None w e l = absurd (w (sym e ∙ tree_at-None trees))
 below_one trees bound (Equiv id t) (Some n) w e l = l
-below_one trees bound (Equiv id t) None w e l = absurd (w (sym e ∙ empty_at trees))
+below_one trees bound (Equiv id t) None w e l = absurd (w (sym e ∙ tree_at-None trees))
 below_one trees bound (Query t) (Some n) w e l = l
-below_one trees bound (Query t) None w e l = absurd (w (sym e ∙ empty_at trees))
+below_one trees bound (Query t) None w e l = absurd (w (sym e ∙ tree_at-None trees))
 
 front : {A : Type 0} (x y : A) (xs ys : List A) → x ∷ xs ≡ y ∷ ys → (x ≡ y) × (xs ≡ ys)
 front x y xs ys e = (cc, cc)

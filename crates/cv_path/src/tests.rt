@@ -1,4 +1,5 @@
-use crate::{PathError, at, replace, room_left};
+use crate::{PathError, at, replace};
+use cv_syntax::children::room_left;
 use cv_pool::{NodeId, Pool};
 use cv_syntax::{BuildError, Head};
 use std::alloc::Global;

@@ -10,12 +10,9 @@ use Rattle.cv_syntax.specs.declared.make.Make.TheVariants.{Nothing, Over}
 use Rattle.cv_syntax.specs.Planting.{overs}
 use Rattle.cv_syntax.specs.Tree.{Tree, Empty, Node, chain, tree_at, tree_of}
 use Rattle.cv_syntax.specs.Postorder.{postorder}
+use Rattle.cv_syntax.proofs.Trees.{tree_of-NoTree}
 use Rattle.cv_script.specs.Steps.{reflexive, reflexive_lines, terms_in}
 use Rattle.cv_query_direct.specs.Closing.{closing}
-
-pub no_tree : tree_of NoTree ≡ Empty
-unfolding tree_of
-no_tree = refl
 
 pub closing-last : (hs : List Head) (h : Head) → closing (hs ++ h ∷ []) ≡ Over h ∷ closing hs
 closing-last [] h = refl
@@ -114,4 +111,4 @@ pub only : (trees : List KindTree) (ids : List (Option NodeId)) (o : Option Node
 only trees [] o t e f = absurd (cc)
 only trees (i ∷ ids) o t e f = let same : o ≡ i = cc in let first : tree_at trees i ≡ t = cc in ap (tree_at trees) same ∙ first
 
-pub ruleset making = (no_tree, few_overs, replicate_last, append_assoc, append-nil)
+pub ruleset making = (tree_of-NoTree, few_overs, replicate_last, append_assoc, append-nil)

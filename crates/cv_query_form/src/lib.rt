@@ -2,7 +2,6 @@
 #![tactic(auto)]
 
 mod arguments;
-mod binders;
 mod checking;
 mod fault;
 mod laws;

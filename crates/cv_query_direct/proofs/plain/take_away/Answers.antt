@@ -1,6 +1,6 @@
 use Rattle.std.proofs.Common.{length, ◌∙◌}
 use Rattle.cv_syntax.specs.Tree.{tree_at}
-use Rattle.cv_typing.proofs.Walks.{child-live, node-at}
+use Rattle.cv_syntax.proofs.Trees.{child-live, node-at}
 use Rattle.cv_query_direct.proofs.PlainQueries.{one-less, no-argument-more}
 use Rattle.cv_query_direct.proofs.plain.take_away.Goals as goal
 

@@ -1,7 +1,7 @@
 use Rattle.std.proofs.Common.{length, ap, sym, ◌∙◌}
 use Rattle.cv_syntax.specs.Tree.{tree_at}
-use Rattle.cv_typing.proofs.Walks.{child-live, node-at}
-use Rattle.cv_query_form.specs.Held.{is_in}
+use Rattle.cv_syntax.specs.NameSets.{is_in}
+use Rattle.cv_syntax.proofs.Trees.{child-live, node-at}
 use Rattle.cv_query_form.specs.Tests.{are_distinct}
 use Rattle.cv_query_form.proofs.Parts.{and-false, and-true, distinct-end, distinct-other, distinct-step, removed}
 use Rattle.cv_query_form.proofs.arguments.are_distinct.Goals as goal

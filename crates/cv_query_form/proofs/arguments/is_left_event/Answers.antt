@@ -1,7 +1,8 @@
 use Rattle.std.proofs.Common.{◌∙◌}
 use Rattle.cv_syntax.specs.Tree.{tree_at}
-use Rattle.cv_typing.proofs.Walks.{node-at}
-use Rattle.cv_query_form.specs.Held.{is_empty, is_in}
+use Rattle.cv_syntax.specs.NameSets.{is_in}
+use Rattle.cv_syntax.specs.Children.{is_empty}
+use Rattle.cv_syntax.proofs.Trees.{node-at}
 use Rattle.cv_query_form.specs.Tests.{are_distinct}
 use Rattle.cv_query_form.proofs.Parts.{and-here, and-nowhere, event-end, event-other, event-passes, none-empty}
 use Rattle.cv_query_form.proofs.arguments.is_left_event.Goals as goal

@@ -1,7 +1,7 @@
 use Rattle.std.proofs.Common.{sym, ◌∙◌}
 use Rattle.cv_syntax.specs.Tree.{tree_at}
-use Rattle.cv_typing.proofs.Walks.{node-at}
-use Rattle.cv_query_form.specs.Held.{is_in}
+use Rattle.cv_syntax.specs.NameSets.{is_in}
+use Rattle.cv_syntax.proofs.Trees.{node-at}
 use Rattle.cv_query_form.proofs.Parts.{events-end, events-marked, events-refused}
 use Rattle.cv_query_form.proofs.query.correspondence_may_be_asked.Goals as goal
 use Rattle.cv_query_form.proofs.query.correspondence_may_be_asked.Goals.{in-Cons, in_default-matches}

@@ -2,9 +2,9 @@ use Rattle.std.proofs.Common.{◌≡◌, ◌||◌, ℕ, length}
 use Rattle.cv_pool.specs.Nodes.{ChildBelow}
 use Rattle.cv_syntax.specs.Tree.{tree_at}
 use Rattle.cv_syntax.specs.Walks.{above}
-use Rattle.cv_meaning.specs.Binders.{bound_names}
-use Rattle.cv_query_direct.specs.Variables.{is_in, is_one_of}
-use Rattle.cv_query_direct.proofs.plain.variables_of.Given as goal
+use Rattle.cv_syntax.specs.Tree.{bound_names}
+use Rattle.cv_syntax.specs.NameSets.{is_in, is_one_of}
+use Rattle.cv_syntax.proofs.children.variables_of.Given as goal
 
 abbrev pub invariant-binders : goal.invariant-binders
 invariant-binders l = record {

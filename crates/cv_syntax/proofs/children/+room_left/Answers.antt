@@ -1,11 +1,13 @@
 use Rattle.std.proofs.Common.{◌≡◌, ◌+◌, arith, refl, ap, ◌∙◌}
 use Rattle.cv_syntax.specs.Head.{weight}
 use Rattle.cv_syntax.specs.Tree.{size, tree_at}
-use Rattle.cv_path.proofs.Going.{left-over, nothing, size-empty, size-node}
-use Rattle.cv_path.proofs.room.+room_left.Goals as goal
+use Rattle.cv_syntax.proofs.ChildReads.{left-over}
+use Rattle.cv_syntax.proofs.Trees.{empty-at, size-Empty}
+use Rattle.cv_syntax.proofs.Walking.{size-node}
+use Rattle.cv_syntax.proofs.children.+room_left.Goals as goal
 
 pub returns-in_default-clause-left : goal.returns-in_default-clause-left
-returns-in_default-clause-left t c = omega (arith, size-empty (tree_at c.args.pool.now.trees c.args.part) (nothing c.args.pool.now.trees c.args.part c.in_default.is))
+returns-in_default-clause-left t c = omega (arith, size-Empty (tree_at c.args.pool.now.trees c.args.part) (empty-at c.args.pool.now.trees c.args.part c.in_default.is))
 
 pub returns-then-room-weight-clause-more : goal.returns-then-room-weight-clause-more
 returns-then-room-weight-clause-more t c =
