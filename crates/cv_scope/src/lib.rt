@@ -26,6 +26,3 @@ pub use laws::{
 };
 pub use position::Position;
 pub use worked::{worked_channels, worked_lists, worked_reads, worked_replications, worked_sites};
-
-#[cfg(test)]
-mod tests;

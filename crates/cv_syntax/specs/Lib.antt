@@ -1,3 +1,4 @@
+pub mod Builders
 pub mod Children
 pub mod Classes
 pub mod Declarations
