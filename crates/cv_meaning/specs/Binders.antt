@@ -4,7 +4,6 @@ use Rattle.std.specs.Prelude.{ℕ, suc, max, Bool, true, false, ◌&&◌, nat_lt
 use Rattle.cv_syntax.specs.declared.head.Head.TheVariants.{Binder, Name}
 use Rattle.cv_syntax.specs.Tree.{Tree, Empty, Node}
 use Rattle.cv_meaning.specs.Memory.{Store, Local, put, tuple, with_store}
-
 -- the variables of a list of binders
 pub use Rattle.cv_syntax.specs.Tree.{bound_names}
 

@@ -1,6 +1,7 @@
 -- What was read of a file, built in a pool.
 use Rattle.std.proofs.Common.{◌≡◌, ℕ, zero, suc, ◌+◌, ◌<◌, ◌≤◌, true, false, List, [], ◌∷◌, ◌++◌, length, length-append, map, All, slice_index_or, refl, ap, ap₂, subst, sym, ◌∙◌, arith, append_assoc, append-nil, Option, Some, None}
 use Rattle.std.proofs.lemmas.List.{length-map}
+use Rattle.std.proofs.lemmas.List.Elements.{recursion_from_All, All-from_recursion}
 use Rattle.std.specs.Prelude.{flat_map, option_map}
 use Rattle.std.specs.List.{AllByRecursion}
 use Rattle.cv_pool.specs.declared.node.NodeId.{NodeId}
@@ -77,15 +78,6 @@ all_below trees bound (d ∷ ds) [] rest w e l = tt
 all_below trees bound (d ∷ ds) (r ∷ roots) rest w e l =
     let p = front (tree_at trees r) (tree_in d) (map (tree_at trees) roots) (map tree_in ds ++ rest) e in
     (below_one trees bound d r w.0 p.0 l.0, all_below trees bound ds roots rest w.1 p.1 l.1)
-
-by_recursion : {A : Type 0} (P : A → Type 0) (xs : List A) → All P xs → AllByRecursion P xs
-by_recursion P [] h = tt
-by_recursion P (x ∷ xs) h = (h 0 x (omega arith), by_recursion P xs (λ k d l. h (suc k) d (omega arith)))
-
-by_place : {A : Type 0} (P : A → Type 0) (xs : List A) → AllByRecursion P xs → All P xs
-by_place P [] h k d l = absurd (omega arith)
-by_place P (x ∷ xs) h zero d l = h.0
-by_place P (x ∷ xs) h (suc k) d l = by_place P xs h.1 k d (omega arith)
 
 -- the trees of a file, that of its game at the end
 abbrev pub all_trees : File → List Tree
@@ -167,8 +159,8 @@ module _ (r : Reading) (makes : List Make) (b : Builds r makes) where
   pub decls_below : (trees : List KindTree) (bound : ℕ) (hs : List Heard) (roots : List (Option NodeId)) (list : List Decl) → hs ≡ r.heard.items → map (tree_at trees) roots ≡ all_trees b.file → All (ChildBelow bound) roots → list ≡ bool_decl ∷ all_decls hs roots → All (IsBelow bound) list
   decls_below trees bound hs roots list h e live l =
       subst (All (IsBelow bound)) (sym l)
-      (by_place (IsBelow bound) (bool_decl ∷ all_decls hs roots)
-      (tt, subst (λ x. AllByRecursion (IsBelow bound) (all_decls x roots)) (sym (h ∙ b.hears.heard)) (all_below trees bound b.file.decls roots (filled b.file.game ∷ []) b.hears.whole e (by_recursion (ChildBelow bound) roots live))))
+      (All-from_recursion (IsBelow bound) (bool_decl ∷ all_decls hs roots)
+      (tt, subst (λ x. AllByRecursion (IsBelow bound) (all_decls x roots)) (sym (h ∙ b.hears.heard)) (all_below trees bound b.file.decls roots (filled b.file.game ∷ []) b.hears.whole e (recursion_from_All (ChildBelow bound) roots live))))
 
 pub last_live : (bound : ℕ) (roots : List (Option NodeId)) (k : ℕ) (o : Option NodeId) (root : NodeId) → All (ChildBelow bound) roots → k < length roots → slice_index_or roots k o ≡ Some root → root.0 < bound
 last_live bound roots k o root live l e = subst (ChildBelow bound) e (live k o l)

@@ -7,7 +7,7 @@ use Rattle.cv_pool.specs.Nodes.{ChildBelow}
 use Rattle.cv_pool.specs.declared.node.NodeId.{NodeId}
 use Rattle.cv_pool.specs.PoolView.{PoolView, Grows}
 use Rattle.cv_syntax.proofs.Buildings.{child-grown}
-use Rattle.cv_syntax.proofs.Trees.{empty-at, size-Empty}
+use Rattle.cv_syntax.proofs.Trees.{empty_at, size-Empty}
 use Rattle.cv_syntax.proofs.Walking.{size-node}
 use Rattle.cv_syntax.specs.declared.head.Head.{Head}
 use Rattle.cv_syntax.specs.Head.{weight}
@@ -123,6 +123,6 @@ way-back old now new ws vs t n r goal e g a m i =
     ap (led old.trees vs) (m ∙ ap (λ u. turned t.second u (tree_at now.trees (Some n))) (child-grown old now (Some t.node) g live))
     ∙ (sym (led-last old.trees vs t (tree_at now.trees (Some n))) ∙ (ap (λ l. led old.trees l (tree_at now.trees (Some n))) (sym e) ∙ i))
 
-pub ruleset going = (size-node, size-Empty, empty-at)
+pub ruleset going = (size-node, size-Empty, empty_at)
 
 pub ruleset turning = (turned-second, turned-first)

@@ -1,6 +1,6 @@
 use crate::{PathError, at, replace};
-use cv_syntax::children::room_left;
 use cv_pool::{NodeId, Pool};
+use cv_syntax::children::room_left;
 use cv_syntax::{BuildError, Head};
 use std::alloc::Global;
 use std::process::Abort;

@@ -8,7 +8,7 @@ use Rattle.cv_pool.specs.KindTree.{KindTree, NoTree}
 use Rattle.cv_pool.specs.declared.node.NodeId.{NodeId}
 use Rattle.std.specs.HashSet.{Updates, contains}
 use Rattle.cv_syntax.specs.Tree.{Tree, Empty, Node, same_tree, tree_at, tree_of}
-use Rattle.cv_syntax.proofs.Trees.{tree_of-NoTree, same_open, empty-at}
+use Rattle.cv_syntax.proofs.Trees.{tree_of-NoTree, same_open, empty_at}
 use Rattle.cv_meaning.specs.Correspondences.{leaf_name, leaf_names}
 use Rattle.std.specs.Prelude.{nat_eq}
 use Rattle.cv_query_direct.specs.Variables.{is_there}
@@ -112,6 +112,6 @@ bound-more t h a b m n k e f g y =
     cases false false false s = refl
 
 pub bound-end : (trees : List KindTree) (at : Option NodeId) (m : NameSet) → at ≡ None → (y : ℕ) → (is_unbound (tree_at trees at) y && is_outside m y) ≡ is_outside m y
-bound-end trees at m e y = ap (λ t. is_unbound t y && is_outside m y) (empty-at trees at e) ∙ ap (λ c. c && is_outside m y) (unbound_open Empty y)
+bound-end trees at m e y = ap (λ t. is_unbound t y && is_outside m y) (empty_at trees at e) ∙ ap (λ c. c && is_outside m y) (unbound_open Empty y)
 
 pub ruleset instance_laws = (tree_of-NoTree, same_open, argument_open, unbound_open, substituted_open, instance_open)

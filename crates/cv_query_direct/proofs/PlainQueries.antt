@@ -3,13 +3,14 @@ use Rattle.std.proofs.Common.{◌≡◌, ℕ, Bool, true, false, ◌&&◌, ◌||
 use Rattle.std.specs.HashSet.{Updates, UpdatesBy}
 use Rattle.std.proofs.Math.Path.{fun_ext}
 use Rattle.std.proofs.lemmas.Bool.{and_parts, both_ways, eq-eqb, eqb-true}
+use Rattle.cv_lists.proofs.Tests.{equals_comm}
 use Rattle.cv_syntax.specs.declared.head.Head.{Head}
 use Rattle.cv_syntax.specs.declared.head.Head.TheVariants.{Leaf, Read, Binder, Cons, Query}
 use Rattle.cv_pool.specs.declared.node.NodeId.{NodeId}
 use Rattle.cv_pool.specs.KindTree.{KindTree, NoTree}
 use Rattle.cv_syntax.specs.Tree.{Tree, Empty, Node, first, head_reads_only, reads_only, tree_at, tree_of}
 use Rattle.cv_syntax.specs.NameSets.{NameSet, is_in, is_one_of, is_outside}
-use Rattle.cv_syntax.proofs.Trees.{tree_of-NoTree, reads_open, empty-at}
+use Rattle.cv_syntax.proofs.Trees.{tree_of-NoTree, reads_open, empty_at}
 use Rattle.cv_meaning.specs.Binders.{bound_names}
 use Rattle.cv_meaning.specs.Correspondences.{leaf_name, leaf_names, reads, on_the_right_alone}
 use Rattle.cv_query_direct.specs.Plain.{are_plain_events, has_none, is_plain_event, is_plain_query, none_alone}
@@ -80,15 +81,6 @@ outside_more x xs ys y = go (x == y) (is_one_of xs y) (is_one_of ys y)
     go true false false = refl
     go false c d = refl
 
-equal_swap : (x y : ℕ) → (x == y) ≡ (y == x)
-equal_swap x y = go (x == y) (y == x) refl refl
-  where
-    go : (b c : Bool) → (x == y) ≡ b → (y == x) ≡ c → b ≡ c
-    go true true e f = refl
-    go true false e f = absurd (both_ways (y == x) f (eq-eqb y x (sym (eqb-true x y e))))
-    go false true e f = absurd (both_ways (x == y) e (eq-eqb x y (sym (eqb-true y x f))))
-    go false false e f = refl
-
 outside_one : (x : ℕ) (ys : List ℕ) (m : Tree) → reads_only (outside (x ∷ []) ys) m ≡ not (reads m x && not (is_one_of ys x))
 outside_one x ys m = go (is_one_of ys x) refl
   where
@@ -113,7 +105,7 @@ outside_one x ys m = go (is_one_of ys x) refl
 
     go : (c : Bool) → is_one_of ys x ≡ c → reads_only (outside (x ∷ []) ys) m ≡ not (reads m x && not c)
     go true e = ap (λ p. reads_only p m) (fun_ext (λ y. argument e y (x == y) refl)) ∙ (reads_all m ∙ never (reads m x))
-    go false e = ap (λ p. reads_only p m) (fun_ext (λ y. other e y (x == y) refl ∙ ap not (equal_swap x y))) ∙ twice (reads_only (λ y. not (y == x)) m)
+    go false e = ap (λ p. reads_only p m) (fun_ext (λ y. other e y (x == y) refl ∙ ap not (equals_comm x y))) ∙ twice (reads_only (λ y. not (y == x)) m)
 
 none_read : (bs : Tree) (ys : List ℕ) (m : Tree) → reads_only (outside (bound_names bs) ys) m ≡ has_none (on_the_right_alone bs ys m)
 none_read (Node (Binder x T) a b) ys m =
@@ -141,7 +133,7 @@ one-less m n x t h a b e f u y =
     cases false c d = refl
 
 pub no-argument-more : (m n : NameSet) (trees : List KindTree) (at : Option NodeId) (t : Tree) → at ≡ None → ((y : ℕ) → is_no_argument (is_in m) (tree_at trees at) y ≡ is_no_argument (is_in n) t y) → is_in m ≡ is_no_argument (is_in n) t
-no-argument-more m n trees at t e h = fun_ext (λ y. and_all (is_in m y) ∙ (ap (λ s. is_no_argument (is_in m) s y) (sym (empty-at trees at e)) ∙ h y))
+no-argument-more m n trees at t e h = fun_ext (λ y. and_all (is_in m y) ∙ (ap (λ s. is_no_argument (is_in m) s y) (sym (empty_at trees at e)) ∙ h y))
   where
     and_all : (b : Bool) → b ≡ (b && not false)
     and_all true = refl

@@ -15,7 +15,7 @@ use Rattle.cv_syntax.specs.NameSets.{NameSet, is_in, is_one_of}
 use Rattle.cv_syntax.specs.Tree.{Tree, Empty, Node, tree_at}
 use Rattle.cv_syntax.specs.Children.{is_empty}
 use Rattle.cv_syntax.specs.Classes.{query_of}
-use Rattle.cv_syntax.proofs.Trees.{tree_at-None, empty-at}
+use Rattle.cv_syntax.proofs.Trees.{tree_at-None, empty_at}
 use Rattle.cv_meaning.specs.Binders.{bound_names}
 use Rattle.cv_meaning.specs.Correspondences.{is_once}
 use Rattle.cv_typing.specs.Lookups.{IsLive}
@@ -83,7 +83,7 @@ distinct-other free t h a b e f = ap (are_distinct free) e ∙ step h a b f
 
 pub distinct-end : (free : ℕ → Bool) (trees : List KindTree) (at : Option NodeId) → at ≡ None → are_distinct free (tree_at trees at) ≡ true
 unfolding are_distinct
-distinct-end free trees at e = ap (are_distinct free) (empty-at trees at e)
+distinct-end free trees at e = ap (are_distinct free) (empty_at trees at e)
 
 pub event-step : (free : ℕ → Bool) (t : Tree) (h : Head) (a b : Tree) → t ≡ Node h a b → is_left_event free t ≡ event_passes free h a b
 unfolding is_left_event
@@ -98,7 +98,7 @@ event-step free t h a b e = ap (is_left_event free) e ∙ step h a b
 
 pub event-end : (free : ℕ → Bool) (trees : List KindTree) (at : Option NodeId) → at ≡ None → false ≡ is_left_event free (tree_at trees at)
 unfolding is_left_event
-event-end free trees at e = sym (ap (is_left_event free) (empty-at trees at e))
+event-end free trees at e = sym (ap (is_left_event free) (empty_at trees at e))
 
 pub event-other : (free : ℕ → Bool) (t : Tree) (h : Head) (a b : Tree) → t ≡ Node h a b → ((x : ℕ) → h ≡ Occurs x → ⊥) → ((x : ℕ) → h ≡ OccursOnce x → ⊥) → false ≡ is_left_event free t
 event-other free t h a b e n m = sym (event-step free t h a b e ∙ step h n m)
@@ -120,10 +120,10 @@ marked-step t h a b e = ap some_is_marked e
 
 pub marked-end : (trees : List KindTree) (at : Option NodeId) → at ≡ None → some_is_marked (tree_at trees at) ≡ false
 unfolding some_is_marked
-marked-end trees at e = ap some_is_marked (empty-at trees at e)
+marked-end trees at e = ap some_is_marked (empty_at trees at e)
 
 pub once-end : (trees : List KindTree) (at : Option NodeId) → at ≡ None → is_once (tree_at trees at) ≡ false
-once-end trees at e = ap is_once (empty-at trees at e)
+once-end trees at e = ap is_once (empty_at trees at e)
 
 -- queries
 
@@ -160,7 +160,7 @@ passes-secret values t h a b x r e (inl k) f = f ∙ sym (passes-step values t h
 passes-secret values t h a b x r e (inr k) f = f ∙ sym (passes-step values t h a b e ∙ ap (λ j. node_passes values j a b) k)
 
 pub events-end : (bs : Tree) (trees : List KindTree) (at : Option NodeId) → at ≡ None → false ≡ correspondence_passes bs (tree_at trees at)
-events-end bs trees at e = sym (ap (correspondence_passes bs) (empty-at trees at e))
+events-end bs trees at e = sym (ap (correspondence_passes bs) (empty_at trees at e))
 
 events-step : (bs t : Tree) (h : Head) (l r : Tree) (free : ℕ → Bool) → t ≡ Node h l r → h ≡ Cons → free ≡ is_one_of (bound_names bs) → correspondence_passes bs t ≡ (is_left_event free l && are_marked_alike l r)
 events-step bs t h l r free e f g = ap (correspondence_passes bs) e ∙ (ap (λ k. events_pass bs k l r) f ∙ ap (λ p. is_left_event p l && are_marked_alike l r) (sym g))

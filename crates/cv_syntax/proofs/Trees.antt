@@ -20,8 +20,8 @@ pub tree_at-None : (trees : List KindTree) → tree_at trees None ≡ Empty
 unfolding tree_of
 tree_at-None trees = refl
 
-pub empty-at : (trees : List KindTree) (at : Option NodeId) → at ≡ None → tree_at trees at ≡ Empty
-empty-at trees at e = ap (tree_at trees) e ∙ tree_at-None trees
+pub empty_at : (trees : List KindTree) (at : Option NodeId) → at ≡ None → tree_at trees at ≡ Empty
+empty_at trees at e = ap (tree_at trees) e ∙ tree_at-None trees
 
 pub first-None : (trees : List KindTree) (o : Option NodeId) → o ≡ None → tree_at trees None ≡ first (tree_at trees o)
 unfolding tree_of
@@ -33,15 +33,15 @@ second-None trees o e = sym (ap (λ q. second (tree_at trees q)) e)
 
 -- at a node, and at its children
 
-pub node-at : (trees : List KindTree) (at : Option NodeId) (k : NodeId) (o : Opened) → at ≡ Some k → tree_at trees (Some k) ≡ Node o.head (tree_at trees o.first) (tree_at trees o.second) → tree_at trees at ≡ Node o.head (tree_at trees o.first) (tree_at trees o.second)
-node-at trees at k o e f = ap (tree_at trees) e ∙ f
+pub node_at : (trees : List KindTree) (at : Option NodeId) (k : NodeId) (o : Opened) → at ≡ Some k → tree_at trees (Some k) ≡ Node o.head (tree_at trees o.first) (tree_at trees o.second) → tree_at trees at ≡ Node o.head (tree_at trees o.first) (tree_at trees o.second)
+node_at trees at k o e f = ap (tree_at trees) e ∙ f
 
-pub child-live : (m : ℕ) (at : Option NodeId) (k : NodeId) (child : Option NodeId) → at ≡ Some k → ChildBelow m at → ChildBelow k.0 child → ChildBelow m child
-child-live m at k child e l b = let n : k.0 < m = below-some m at k e l in live-child m k.0 child (omega arith) b
+pub child_live : (m : ℕ) (at : Option NodeId) (k : NodeId) (child : Option NodeId) → at ≡ Some k → ChildBelow m at → ChildBelow k.0 child → ChildBelow m child
+child_live m at k child e l b = let n : k.0 < m = below-some m at k e l in live-child m k.0 child (omega arith) b
 
-pub child-above : (m : ℕ) (at : Option NodeId) (k : NodeId) (child : Option NodeId) → at ≡ Some k → above at ≤ m → ChildBelow k.0 child → above child ≤ m
-child-above m at k None e l b = omega arith
-child-above m at k (Some n) e l b = let f : above at ≡ k.0 + 1 = ap above e in omega arith
+pub child_above : (m : ℕ) (at : Option NodeId) (k : NodeId) (child : Option NodeId) → at ≡ Some k → above at ≤ m → ChildBelow k.0 child → above child ≤ m
+child_above m at k None e l b = omega arith
+child_above m at k (Some n) e l b = let f : above at ≡ k.0 + 1 = ap above e in omega arith
 
 -- the definitions of a tree, by its parts
 
