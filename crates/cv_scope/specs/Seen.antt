@@ -4,6 +4,7 @@ use Rattle.std.specs.Prelude.{◌+◌, ℕ, Bool, true, false, ◌&&◌, ◌||�
 use Rattle.std.specs.List.{list_any}
 use Rattle.cv_syntax.specs.declared.head.Head.{Head}
 use Rattle.cv_syntax.specs.declared.head.Head.TheVariants.{In, New, Let, Branch, Leaf, Read, Cons, Key, Call}
+use Rattle.cv_syntax.specs.Children.{is_empty, is_leaf}
 use Rattle.cv_syntax.specs.Tree.{Tree, Empty, Node, second, same_tree, first_place, second_place}
 use Rattle.cv_meaning.specs.Binders.{bound_names}
 use Rattle.cv_typing.specs.Sites.{first_of}
@@ -40,15 +41,6 @@ nothing_seen = record { replications = []; defined = []; listed = []; passed = [
 
 abbrev pub is_defined : List (ℕ × ℕ) → ℕ × ℕ → Bool
 is_defined ds d = list_any (same_pair d) ds
-
-abbrev pub is_empty : Tree → Bool
-is_empty Empty = true
-is_empty (Node h a b) = false
-
--- the term is this index
-abbrev pub is_leaf : ℕ → Tree → Bool
-is_leaf i (Node (Leaf j) a b) = (i == j) && (is_empty a && is_empty b)
-is_leaf i t = false
 
 abbrev pub plus_one : Option ℕ → Option ℕ
 plus_one None = None

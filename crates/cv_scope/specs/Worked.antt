@@ -7,7 +7,7 @@ use Rattle.cv_syntax.specs.declared.decls.Class.TheVariants.{Fun}
 use Rattle.cv_syntax.specs.declared.head.Head.TheVariants.{Stop, Yield, Par, Repl, New, Let, If, Yes, Key, Call}
 use Rattle.cv_syntax.specs.Declarations.{Declaration, Named}
 use Rattle.cv_syntax.specs.Tree.{Tree, Empty, Node, lone, chain}
-use Rattle.cv_meaning.specs.Worked.{leaf, read, input, output, branch, find}
+use Rattle.cv_syntax.specs.Builders.{leaf, read, input, output, branch, find}
 
 abbrev pub constants : List Declaration
 constants = Named 20 (Fun false) Empty (Some 5) ∷ []

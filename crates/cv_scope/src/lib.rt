@@ -28,6 +28,3 @@ pub use position::Position;
 pub use worked::{
     worked_channels, worked_lists, worked_oracles, worked_reads, worked_replications, worked_sites,
 };
-
-#[cfg(test)]
-mod tests;

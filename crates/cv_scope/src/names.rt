@@ -7,6 +7,7 @@ ghost use Rattle.cv_typing.specs.Lookups.{IsLive};
 ghost use Rattle.cv_scope.specs.Held.{constant_by, has_constant, is_here, names_held, untyped_held};
 ghost use Rattle.cv_scope.specs.Scope.{is_untyped_here, is_untyped_in, names_of};
 
+use cv_syntax::children::read_child;
 use cv_syntax::{Class, Decl, Decls, Head, NodeId, Pool, read_node};
 use cv_typing::sites::Sites;
 use std::alloc::{AllocError, Global};
@@ -145,12 +146,8 @@ fn constant_of(pool: &Pool, decl: &Decl) -> Option<u32>
             class: Class::Fun { .. },
             args,
             ..
-        } => match args {
-            Some(n) => {
-                // A node of the pool is never empty, as reading it shows.
-                let _node = read_node(pool, *n);
-                None
-            }
+        } => match read_child(pool, *args) {
+            Some(_) => None,
             None => Some(id.0),
         },
         _ => None,

@@ -9,7 +9,7 @@ use Rattle.cv_meaning.specs.Memory.{Store, Indices, Happened, put, tuple}
 use Rattle.cv_meaning.specs.Terms.{or_zero, value, values}
 use Rattle.cv_meaning.specs.Binders.{fits, bound_to}
 use Rattle.cv_meaning.specs.Candidates.{Candidate, is_assigned, are_assigned, is_candidate, candidate, candidates_at, candidates, chosen, tuples_up_to, most_indices, widest}
-use Rattle.cv_meaning.proofs.Direct.{each_append, each_flat_map}
+use Rattle.cv_meaning_laws.proofs.Lists.{each_append, each_flat_map}
 use Rattle.cv_meaning_runs.proofs.Lists.{all_map}
 use Rattle.cv_scope.specs.declared.position.Position.TheVariants as position
 use Rattle.cv_scope.specs.Context.{Context, cells_of, items, with_cells}

@@ -11,8 +11,8 @@ use Rattle.cv_meaning.specs.Memory.{Local, tuple}
 use Rattle.cv_meaning.specs.Serving.{Visit}
 use Rattle.cv_meaning.specs.Consulted.{consulted, consulted_at}
 use Rattle.cv_meaning.specs.Runs.{Mode, Answer, Move, run_visits, start}
-use Rattle.cv_meaning.proofs.Counts.{same_tuple_exact}
-use Rattle.cv_meaning.proofs.Direct.{each_append}
+use Rattle.cv_meaning_laws.proofs.Counts.{same_tuple_exact}
+use Rattle.cv_meaning_laws.proofs.Lists.{each_append}
 use Rattle.cv_meaning_runs.proofs.Lists.{all_map, all_both}
 use Rattle.cv_scope.specs.Sites.{SiteName, Variable, Label}
 use Rattle.cv_scope.specs.Branches.{Pairs, IsApartByBranches}

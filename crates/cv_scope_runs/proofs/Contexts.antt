@@ -10,8 +10,8 @@ use Rattle.cv_meaning.specs.Memory.{Store, Indices, Happened, put, tuple}
 use Rattle.cv_meaning.specs.Terms.{or_zero, found_in, leaf_value_from, leaf_value, value, values}
 use Rattle.cv_meaning.specs.Binders.{bound_to}
 use Rattle.cv_meaning.specs.Candidates.{is_assigned}
-use Rattle.cv_meaning.proofs.Counts.{same_tuple_refl, same_tuple_exact}
-use Rattle.cv_meaning.proofs.Direct.{each_append}
+use Rattle.cv_meaning_laws.proofs.Counts.{same_tuple_refl, same_tuple_exact}
+use Rattle.cv_meaning_laws.proofs.Lists.{each_append}
 use Rattle.cv_meaning_runs.proofs.Lists.{all_map}
 use Rattle.cv_scope.specs.declared.position.Position.TheVariants.{Anywhere}
 use Rattle.cv_scope.specs.Context.{Context, index_terms, cell_of}

@@ -11,8 +11,8 @@ use Rattle.cv_meaning.specs.Binders.{bound_to}
 use Rattle.cv_meaning.specs.Candidates.{Candidate, candidates, chosen}
 use Rattle.cv_meaning.specs.Serving.{Turn, Ends, First, Second, after_find, step, serve, after_turn, Visit, visits}
 use Rattle.cv_meaning.specs.Runs.{Mode, Answer, Move, Calls, Tests, Guesses, State, Taken, admitted, called, told, tested_with, moved, start, begun, next_move, by_move, visits_of_call, visits_of_move, run_visits}
-use Rattle.cv_meaning.proofs.Counts.{same_tuple_exact}
-use Rattle.cv_meaning.proofs.Direct.{each_append}
+use Rattle.cv_meaning_laws.proofs.Counts.{same_tuple_exact}
+use Rattle.cv_meaning_laws.proofs.Lists.{each_append}
 use Rattle.cv_scope.specs.Sites.{SiteName, Variable}
 use Rattle.cv_scope.specs.Branches.{Pairs, IsApartByBranches}
 use Rattle.cv_meaning_runs.proofs.Lists.{all_both, left_part}

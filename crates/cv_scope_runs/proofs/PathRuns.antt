@@ -14,8 +14,8 @@ use Rattle.cv_meaning.specs.Binders.{fits, bound_to}
 use Rattle.cv_meaning.specs.Candidates.{Candidate, below, is_candidate, are_assigned, candidates, chosen}
 use Rattle.cv_meaning.specs.Inputs.{Input, inputs_of}
 use Rattle.cv_meaning.specs.Serving.{Served, Turn, Ends, First, Second, after_find, step, oracle_call}
-use Rattle.cv_meaning.proofs.Counts.{same_tuple_exact}
-use Rattle.cv_meaning.proofs.Direct.{each_append}
+use Rattle.cv_meaning_laws.proofs.Counts.{same_tuple_exact}
+use Rattle.cv_meaning_laws.proofs.Lists.{each_append}
 use Rattle.cv_meaning_runs.proofs.Copies.{all_below}
 use Rattle.cv_scope.specs.Context.{Context, cell_of, cells_of, items, with_cells, with_fact}
 use Rattle.cv_scope.specs.Sites.{Variable}

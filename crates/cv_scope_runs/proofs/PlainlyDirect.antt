@@ -19,8 +19,8 @@ use Rattle.cv_meaning.specs.Correspondences.{Correspondence, broken, can_match, 
 use Rattle.cv_meaning.specs.Chances.{AtMost, zero_chance}
 use Rattle.cv_meaning.specs.Advantage.{breaks, break_chance}
 use Rattle.cv_meaning.specs.Direct.{head_names, is_unbound, head_covered, noted_by, plainly_covered, IsPlainlyDirect}
-use Rattle.cv_meaning.proofs.Counts.{count_same, count_false}
-use Rattle.cv_meaning.proofs.Direct.{IsMetBy, AllMet}
+use Rattle.cv_meaning_laws.proofs.Counts.{count_same, count_false}
+use Rattle.cv_scope_runs.proofs.Covered.{IsMetBy, AllMet}
 use Rattle.cv_meaning_runs.proofs.Lists.{all_map, left_part, right_part}
 use Rattle.cv_scope.specs.declared.position.Position.{Position}
 use Rattle.cv_scope.specs.declared.position.Position.TheVariants.{Bodies, ElseBody, Guards, Guarded, Cells}

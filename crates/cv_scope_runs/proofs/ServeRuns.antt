@@ -11,8 +11,8 @@ use Rattle.cv_meaning.specs.Binders.{fits}
 use Rattle.cv_meaning.specs.Inputs.{Input, message_binders}
 use Rattle.cv_meaning.specs.Serving.{Served, Turn, Ends, First, Second, step, serve, after_turn, Visit, visits}
 use Rattle.cv_meaning.specs.Runs.{Mode, Answer, Move, Calls, Tests, Guesses, State, Taken, taken, admitted, if_fitting, called, told, tested_with, moved, run_from, start, begun, next_move, by_move, visits_of_call, visits_of_move, run_visits}
-use Rattle.cv_meaning.proofs.Direct.{each_append}
-use Rattle.cv_meaning.proofs.DirectRuns.{TakenEach, admitted_each}
+use Rattle.cv_meaning_laws.proofs.Lists.{each_append}
+use Rattle.cv_meaning_laws.proofs.Moves.{TakenEach, admitted_each}
 use Rattle.cv_meaning_runs.proofs.Lists.{all_map, all_cross, left_part, right_part}
 use Rattle.cv_scope.specs.Context.{Context, nothing_known}
 use Rattle.cv_scope.specs.Branches.{Pairs}

@@ -8,7 +8,8 @@ use Rattle.cv_syntax.specs.Tree.{Tree, Empty, Node, lone, chain}
 use Rattle.cv_meaning.specs.Interpretation.{Setting, setting_of}
 use Rattle.cv_meaning.specs.Runs.{Adversary, Answer, Move, Calls}
 use Rattle.cv_meaning.specs.Correspondences.{Correspondence, correspondence_of}
-use Rattle.cv_meaning.specs.Worked.{leaf, read, input, output, event, correspondence, occurs, adversary}
+use Rattle.cv_syntax.specs.Builders.{leaf, read, input, output, event, correspondence, occurs}
+use Rattle.cv_meaning_laws.specs.Worked.{adversary}
 use Rattle.cv_scope.specs.Worked.{call, constants, key, repl, restriction, sends, starts}
 
 -- event 12(9) ==> event 11(9)

@@ -16,7 +16,7 @@ ghost use Rattle.cv_meaning.specs.Consulted.{consulted};
 ghost use Rattle.cv_meaning.specs.Correspondences.{Correspondence, correspondence_of};
 ghost use Rattle.cv_meaning.specs.Chances.{AtMost, zero_chance};
 ghost use Rattle.cv_meaning.specs.Advantage.{advantage, breaks, break_chance};
-ghost use Rattle.cv_meaning.specs.Direct.{IsPlainlyDirect, covered};
+ghost use Rattle.cv_meaning.specs.Direct.{IsPlainlyDirect};
 ghost use Rattle.cv_meaning_runs.specs.Listed.{AreKeysListed, has_no_calls};
 ghost use Rattle.cv_meaning_runs.specs.Spots.{same_address};
 ghost use Rattle.cv_scope.specs.Branches.{Pairs};
@@ -190,13 +190,12 @@ pub fn plainly_direct_is_never_broken()
 {}
 
 /// Worked games that are well-formed. In the first, below a replication, the right event stands in an
-/// earlier input than the left one: there the correspondence is met by the shape of the game, though not
-/// within one body. The second has a `find`. In the third the right event has a function's value and a
-/// constant as arguments. The fourth tree is a context, which makes a call under a key and sends the result.
+/// earlier input than the left one: there the correspondence is met by the shape of the game. The second
+/// has a `find`. In the third the right event has a function's value and a constant as arguments. The fourth
+/// tree is a context, which makes a call under a key and sends the result.
 pub fn worked_games()
     ensures sessions { IsWellFormed [] sessions }
     ensures shape { IsPlainlyDirect begun_before sessions }
-    ensures body { covered begun_before [] sessions ≡ false }
     ensures never { (i : Interpretation) (a : Adversary) →
         AtMost (break_chance (setting_of [] i) begun_before a sessions) zero_chance }
     ensures found { IsWellFormed [] (finds (cell_found ∷ [])) }

@@ -30,6 +30,3 @@ pub use locals::Locals;
 pub use site::Site;
 pub use sort::Sort;
 pub use want::Want;
-
-#[cfg(test)]
-mod tests;

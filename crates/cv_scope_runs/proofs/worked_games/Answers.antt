@@ -1,7 +1,7 @@
 use Rattle.std.proofs.Common.{◌≡◌, false, [], ◌∷◌, refl}
 use Rattle.std.proofs.lemmas.Bool.{both_ways}
 use Rattle.cv_syntax.specs.Tree.{size, same_tree, reads_only, binds}
-use Rattle.cv_meaning.specs.Direct.{argument, is_substituted, is_instance, is_unbound, plainly_covered, kept, covered}
+use Rattle.cv_meaning.specs.Direct.{argument, is_substituted, is_instance, is_unbound, plainly_covered}
 use Rattle.cv_meaning.specs.Interpretation.{setting_of}
 use Rattle.cv_typing.specs.Sites.{first_site, bound_sort}
 use Rattle.cv_typing.specs.Signature.{count}
@@ -29,10 +29,6 @@ returns-clause-sessions c = well
 
 pub returns-clause-shape : goal.returns-clause-shape
 returns-clause-shape c = direct
-
-pub returns-clause-body : goal.returns-clause-body
-unfolding covered kept is_substituted is_instance argument same_tree reads_only binds
-returns-clause-body c = refl
 
 pub returns-clause-never : goal.returns-clause-never
 returns-clause-never c = λ i a. plainly_at_most [] (setting_of [] i) begun_before a sessions refl well direct
