@@ -11,6 +11,7 @@ use Rattle.cv_meaning.specs.Satisfies.{Satisfies}
 use Rattle.cv_meaning.specs.Runs.{Adversary}
 use Rattle.cv_meaning.specs.Advantage.{advantage}
 use Rattle.cv_meaning.specs.Chances.{AtMost}
+use Rattle.cv_meaning_chances.specs.Fractions.{HasTapes}
 use Rattle.cv_query_direct.specs.Plain.{certificate, is_plainly_direct}
 use Rattle.cv_query_direct.specs.Search.{EntryTree}
 use Rattle.cv_query_direct.specs.Certificates.{step_of}
@@ -149,8 +150,15 @@ EndsWell status.Proved = Unit {0}
 EndsWell status.Memory = Unit {0}
 EndsWell s = ⊥
 
--- Where the verdict on a query is `Proved`, the advantage against it is at most the value of the sum, for
--- every interpretation that satisfies the declarations and every adversary.
+-- No adversary has a greater advantage against the query than the value of the sum, which has tapes, in any
+-- interpretation that satisfies the declarations.
+abbrev pub HoldsUpTo : List Declaration → Contexts → Tree → Tree → List Term → Type 0
+HoldsUpTo ds cs game query s =
+    (i : Interpretation) → Satisfies ds i → (a : Adversary)
+    → HasTapes (value_of ds i cs query a s) × AtMost (advantage (setting_of ds i) query a game) (value_of ds i cs query a s)
+
+-- Where the verdict on a query is `Proved`, the query holds up to the sum.
 abbrev pub IsSound : Report → Type 0
-IsSound r = IfSome r.file (λ f. (k : ℕ) (query : Tree) (s : List Term) → slice_get (queries_in (declared_in r)) k ≡ Some query → slice_get r.verdicts.items k ≡ Some (Proved s)
-    → (i : Interpretation) → Satisfies (declared_in r) i → (a : Adversary) → AtMost (advantage (setting_of (declared_in r) i) query a (game_in r f)) (value_of (declared_in r) i (contexts_in r) query a s))
+IsSound r =
+    IfSome r.file (λ f. (k : ℕ) (query : Tree) (s : List Term) → slice_get (queries_in (declared_in r)) k ≡ Some query
+    → slice_get r.verdicts.items k ≡ Some (Proved s) → HoldsUpTo (declared_in r) (contexts_in r) (game_in r f) query s)

@@ -5,3 +5,4 @@ pub mod Fractions
 pub mod Lists
 pub mod Listed
 pub mod Moves
+pub mod Sides

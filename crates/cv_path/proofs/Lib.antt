@@ -1,4 +1,4 @@
 pub mod Bounds
 pub mod Going
-mod Products
+pub mod Products
 mod Sames

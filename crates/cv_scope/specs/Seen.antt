@@ -3,7 +3,7 @@
 use Rattle.std.specs.Prelude.{◌+◌, ℕ, Bool, true, false, ◌&&◌, ◌||◌, not, ◌==◌, nat_lt, if◌then◌else◌, List, [], ◌∷◌, ◌++◌, length, Option, Some, None}
 use Rattle.std.specs.List.{list_any}
 use Rattle.cv_syntax.specs.declared.head.Head.{Head}
-use Rattle.cv_syntax.specs.declared.head.Head.TheVariants.{In, New, Let, Branch, Leaf, Read, Cons}
+use Rattle.cv_syntax.specs.declared.head.Head.TheVariants.{In, New, Let, Branch, Leaf, Read, Cons, Key, Call}
 use Rattle.cv_syntax.specs.Children.{is_empty, is_leaf}
 use Rattle.cv_syntax.specs.Tree.{Tree, Empty, Node, second, same_tree, first_place, second_place}
 use Rattle.cv_meaning.specs.Binders.{bound_names}
@@ -120,6 +120,8 @@ abbrev pub defined_by : Head → Tree → List ℕ
 defined_by (In c) a = bound_names (second a)
 defined_by (New x T) a = x ∷ []
 defined_by (Let x T) a = x ∷ []
+defined_by (Key x) a = x ∷ []
+defined_by (Call x l) a = x ∷ []
 defined_by Branch a = bound_names a
 defined_by h a = []
 

@@ -19,7 +19,6 @@ use Rattle.cv_scope.specs.Branches.{Pairs}
 use Rattle.cv_scope.proofs.Pairs.{pairs-append}
 use Rattle.cv_scope_runs.specs.Phrases.{Phrase, Inputs}
 use Rattle.cv_scope_runs.specs.Promises.{GrowsTo, VisitsGrow}
-use Rattle.cv_scope_runs.proofs.Plain.{phrase_plain}
 use Rattle.cv_scope_runs.proofs.FreshRuns.{IsClear, visits_clear}
 use Rattle.cv_scope_runs.proofs.Contexts.{Matches, Holds}
 use Rattle.cv_scope_runs.proofs.Rows.{row}
@@ -184,4 +183,4 @@ module _ (g : Setting) (variable : ℕ → Bool) (game : Tree) (fine : Game g va
   game_holds m next t n =
       run_holds m next t n (start g game)
       (record { stores = λ x u v e. cc; inputs = inputs_hold g variable game fine game 0 nothing_known [] nowhere [] root (record { named = tt; found = tt; apart = tt }) (record { cells = tt; own = tt; facts = tt; events = tt }) })
-      (visits_clear g m next t n game fine.branches (phrase_plain Inputs game fine.phrase))
+      (visits_clear g m next t n game fine.branches)

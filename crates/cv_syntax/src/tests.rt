@@ -4,7 +4,7 @@ use std::test::Fail;
 #[test]
 fn a_wide_head_is_read_back(rt: HostRuntime) -> Result<(), Fail> {
     let high = Head::Find(1 << 32);
-    assert_eq!(rt; Head::of(high.kind()), Head::Find(4_294_967_296));
+    assert!(rt; matches!(Head::of(high.kind()), Head::Find(4_294_967_296)));
     assert!(rt; high.kind() != Head::Find(1).kind());
     Ok(())
 }
@@ -21,7 +21,7 @@ fn an_input_is_walked(rt: HostRuntime) -> Result<(), Fail> {
     assert_eq!(rt; depth(&pool, root), 2);
     assert_eq!(rt; child(&pool, root, 0), Some(stop));
     assert_eq!(rt; child(&pool, root, 1), None);
-    assert_eq!(rt; read_node(&pool, root).head, Head::In(4));
+    assert!(rt; matches!(read_node(&pool, root).head, Head::In(4)));
     Ok(())
 }
 

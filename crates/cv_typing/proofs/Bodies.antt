@@ -10,9 +10,9 @@ use Rattle.cv_typing.specs.declared.fault.TypeFault.{TypeFault}
 use Rattle.cv_typing.specs.declared.fault.TypeFault.TheVariants as refused
 use Rattle.cv_typing.specs.declared.form.Form.TheVariants.{InBody}
 use Rattle.cv_typing.specs.declared.sort.Sort.{Sort}
-use Rattle.cv_typing.specs.Parts.{Part, signature_of, first_in, body_parts, first_result, more_results, names_of, results}
+use Rattle.cv_typing.specs.Parts.{Part, signature_of, first_in, body_parts, first_result, in_function, more_results, names_of, results}
 use Rattle.cv_typing.specs.Refusals.{IsChecked, IsRefusalOf, parts_size}
-use Rattle.cv_typing.specs.Signature.{Above, Arrays, Signature, sort_of}
+use Rattle.cv_typing.specs.Signature.{Above, Arrays, OfGame, OfNothing, OfSide, Signature, sort_of}
 use Rattle.cv_typing.specs.Sites.{first_of}
 use Rattle.cv_typing.specs.Typing.{first_fault}
 use Rattle.cv_typing.specs.Wants.{Run}
@@ -84,7 +84,7 @@ results-push e key t h f more xs ys zs S x y s z =
     ∙ (ap (λ l. xs ++ l) (sym (results-step e key t h f more x)) ∙ z))
 
 abbrev pub function-part : Arrays → Tree → List (Option Sort) → Tree → Part
-function-part r key Ss f = record { arrays = r; above = names_of key (first f); want = Run (InBody (first_result Ss)); tree = second f }
+function-part r key Ss f = record { arrays = in_function r f; above = names_of key (first f); want = Run (InBody (first_result Ss)); tree = second f }
 
 pub bodies-step : (r : Arrays) (key : Tree) (Ss : List (Option Sort)) (t : Tree) (h : Head) (f more : Tree) → t ≡ Node h f more → body_parts r key Ss t ≡ function-part r key Ss f ∷ body_parts r key (more_results Ss) more
 unfolding body_parts
@@ -141,10 +141,19 @@ append-nothing (x ∷ xs) = ap (λ l. x ∷ l) (append-nothing xs)
 pub results-whole : (e : Signature) (key t : Tree) (xs zs : List (Option Sort)) → t ≡ Empty → xs ++ results e key t ≡ zs → xs ≡ zs
 results-whole e key t xs zs x h = sym (ap (λ l. xs ++ l) (results-end e key t x) ∙ append-nothing xs) ∙ h
 
-pub body-same : (e : Signature) (p : ℕ) (f g : Above) (S R : Option Sort) (t u : Tree) → f ≡ g → S ≡ R → t ≡ u → first_fault e f (Run (InBody S)) p t ≡ first_fault e g (Run (InBody R)) p u
-body-same e p f g S R t u a b c =
-    ap (λ (x : Above). first_fault e x (Run (InBody S)) p t) a ∙ (ap (λ (x : Option Sort). first_fault e g (Run (InBody x)) p t) b ∙ ap (λ (x : Tree). first_fault e g (Run (InBody R)) p x) c)
+pub body-same : (d e : Signature) (p : ℕ) (f g : Above) (S R : Option Sort) (t u : Tree) → d ≡ e → f ≡ g → S ≡ R → t ≡ u → first_fault d f (Run (InBody S)) p t ≡ first_fault e g (Run (InBody R)) p u
+body-same d e p f g S R t u z a b c =
+    ap₂ (λ (s : Signature) (x : Above). first_fault s x (Run (InBody S)) p t) z a ∙ (ap (λ (x : Option Sort). first_fault e g (Run (InBody x)) p t) b ∙ ap (λ (x : Tree). first_fault e g (Run (InBody R)) p x) c)
 
 -- behind the last part
 pub all-checked : (ds : List Declaration) (p n : ℕ) (rest parts : List Part) → rest ≡ [] → first_in ds n rest ≡ first_in ds p parts → n + parts_size rest ≡ p + parts_size parts → (first_in ds p parts ≡ None) × (n ≡ p + parts_size parts)
 all-checked ds p n rest parts e f s = (sym f ∙ (ap (first_in ds n) e ∙ parts-end ds n), let z = ap parts_size e in omega arith)
+
+-- from the body of one function to that of another
+pub in-another : (r : Arrays) (f g : Tree) → in_function (in_function r f) g ≡ in_function r g
+in-another (OfGame s) f g = refl
+in-another (OfSide by_bound own) f g = refl
+in-another OfNothing f g = refl
+
+pub with-arrays : (ds : List Declaration) (r s t : Arrays) (f : Tree) → r ≡ in_function s f → in_function s f ≡ in_function t f → (let e : Signature = record { declarations = ds; arrays = r } in e) ≡ record { declarations = ds; arrays = in_function t f }
+with-arrays ds r s t f a b = ap (λ (x : Arrays). let e : Signature = record { declarations = ds; arrays = x } in e) (a ∙ b)

@@ -1,55 +1,57 @@
 -- Names above, as they come and go.
-use Rattle.std.proofs.Common.{◌≡◌, ℕ, Bool, true, false, ◌||◌, cond, List, [], ◌∷◌, ◌++◌, refl, ap, sym, ◌∙◌, nat_eq, subst, eqb-true, Option, Some, None, is_some}
+use Rattle.std.proofs.Common.{◌≡◌, ℕ, Bool, true, false, cond, List, [], ◌∷◌, ◌++◌, length, refl, ap, ap₂, sym, ◌∙◌, nat_eq, eqb-true, arith, Option, Some, None, is_some}
 use Rattle.std.specs.Prelude.{◌==◌}
-use Rattle.std.specs.List.{list_any}
 use Rattle.std.proofs.Math.Path.{fun_ext}
 use Rattle.std.specs.HashMap.{Updates, UpdatesBy}
 use Rattle.cv_syntax.specs.declared.head.Head.{Head}
 use Rattle.cv_syntax.specs.declared.head.Head.TheVariants.{Binder, Branch, Let, New, Repl}
 use Rattle.cv_syntax.specs.Tree.{Tree, Empty, Node}
+use Rattle.cv_typing.specs.declared.precedence.Precedence.{Precedence}
+use Rattle.cv_typing.specs.declared.precedence.Precedence.TheVariants.{First, Newest}
 use Rattle.cv_typing.specs.declared.sort.Sort.{Sort}
 use Rattle.cv_typing.specs.Sites.{first_of}
 use Rattle.cv_typing.specs.Signature.{Above}
-use Rattle.cv_typing.specs.Tables.{Map, above_of, without}
+use Rattle.cv_typing.specs.Tables.{Map, above_of, restored}
 use Rattle.cv_typing.specs.Wants.{all_bound, bound, with_names}
 
 -- the function with another value at one name
 abbrev updated : Above → ℕ → Option Sort → Above
 updated f x o y = cond (x == y) o (f y)
 
-pub without-none : (f : Above) → without f [] ≡ f
-without-none f = fun_ext (λ y. refl)
+-- a value and then the value of before
+updated-back : (f : Above) (x : ℕ) (o : Option Sort) → updated (updated f x o) x (f x) ≡ f
+updated-back f x o = fun_ext (λ y. cases y (x == y) refl)
+  where
+    cases : (y : ℕ) (b : Bool) → (x == y) ≡ b → cond b (f x) (cond b o (f y)) ≡ f y
+    cases y true e = ap f (eqb-true x y e)
+    cases y false e = refl
 
-any-last : (xs : List ℕ) (x y : ℕ) → list_any (λ z. z == y) (xs ++ x ∷ []) ≡ (list_any (λ z. z == y) xs || (x == y))
-any-last [] x y = or-false (x == y)
-  where
-    or-false : (b : Bool) → (b || false) ≡ b
-    or-false true = refl
-    or-false false = refl
-any-last (w ∷ xs) x y = ap (λ b. (w == y) || b) (any-last xs x y) ∙ or-or (w == y) (list_any (λ z. z == y) xs) (x == y)
-  where
-    or-or : (a b c : Bool) → (a || (b || c)) ≡ ((a || b) || c)
-    or-or true b c = refl
-    or-or false b c = refl
+pub restored-none : (f : Above) → restored f [] ≡ f
+restored-none f = fun_ext (λ y. refl)
 
--- one more name is taken away
-pub without-last : (f : Above) (xs : List ℕ) (x : ℕ) → updated (without f xs) x None ≡ without f (xs ++ x ∷ [])
-without-last f xs x = fun_ext (λ y. cases (x == y) (list_any (λ z. z == y) xs) (f y) ∙ sym (ap (λ b. cond b None (f y)) (any-last xs x y)))
+-- the last entry is brought back first
+pub restored-last : (f : Above) (ps : List (ℕ × Option Sort)) (x : ℕ) (o : Option Sort) → restored f (ps ++ (x, o) ∷ []) ≡ restored (updated f x o) ps
+restored-last f ps x o = fun_ext (λ y. go ps y)
   where
-    cases : (b c : Bool) (o : Option Sort) → cond b None (cond c None o) ≡ cond (c || b) None o
-    cases true true o = refl
-    cases true false o = refl
-    cases false true o = refl
-    cases false false o = refl
+    go : (ps : List (ℕ × Option Sort)) (y : ℕ) → restored f (ps ++ (x, o) ∷ []) y ≡ restored (updated f x o) ps y
+    go [] y = refl
+    go (p ∷ ps) y = ap (λ r. cond (p.0 == y) p.1 r) (go ps y)
 
--- a new name comes, and is taken away with the others
-without-new : (f : Above) (xs : List ℕ) (x : ℕ) (S : Sort) → f x ≡ None → without (updated f x (Some S)) (xs ++ x ∷ []) ≡ without f xs
-without-new f xs x S n = fun_ext (λ y. ap (λ b. cond b None (updated f x (Some S) y)) (any-last xs x y) ∙ cases y (list_any (λ z. z == y) xs) (x == y) refl)
-  where
-    cases : (y : ℕ) (c b : Bool) → (x == y) ≡ b → cond (c || b) None (cond b (Some S) (f y)) ≡ cond c None (f y)
-    cases y true b e = refl
-    cases y false true e = sym (subst (λ z. f z ≡ None) (eqb-true x y e) n)
-    cases y false false e = refl
+-- a name is bound anew, and what stood there before is noted
+pub bound-back : (f g : Above) (ps qs : List (ℕ × Option Sort)) (x : ℕ) (S : Sort) (o : Option Sort) → g ≡ updated f x (Some S) → o ≡ f x → qs ≡ ps ++ (x, o) ∷ [] → restored g qs ≡ restored f ps
+bound-back f g ps qs x S o e d q =
+    ap₂ restored e q
+    ∙ (restored-last (updated f x (Some S)) ps x o
+    ∙ ap (λ h. restored h ps) (ap (updated (updated f x (Some S)) x) d ∙ updated-back f x (Some S)))
+
+-- the last entry is taken away and brought back
+pub restored-step : (f g total : Above) (ps qs : List (ℕ × Option Sort)) (x : ℕ) (o : Option Sort) → restored f ps ≡ total → ps ≡ qs ++ (x, o) ∷ [] → g ≡ updated f x o → restored g qs ≡ total
+restored-step f g total ps qs x o h e u = ap (λ k. restored k qs) u ∙ (sym (restored-last f qs x o) ∙ (ap (restored f) (sym e) ∙ h))
+
+-- nothing is left to bring back
+pub restored-end : (f total : Above) (ps : List (ℕ × Option Sort)) → length ps ≡ 0 → restored f ps ≡ total → f ≡ total
+restored-end f total [] e h = sym (restored-none f) ∙ h
+restored-end f total (p ∷ ps) e h = absurd (omega arith)
 
 pub removed : (x : ℕ) (m n : Map Sort) → UpdatesBy nat_eq (nat_eq x) m n None → above_of n ≡ updated (above_of m) x None
 removed x m n u = fun_ext (λ y. u.0 y)
@@ -58,15 +60,11 @@ pub inserted : (x : ℕ) (S : Sort) (m n : Map Sort) → Updates nat_eq m n x (S
 inserted x S m n u = fun_ext (λ y. u.0 y)
 
 -- a name that is new
-pub bound-new : (f : Above) (x : ℕ) (S : Sort) → f x ≡ None → updated f x (Some S) ≡ bound f x S
-bound-new f x S n = fun_ext (λ y. cases y (x == y) refl)
-  where
-    cases : (y : ℕ) (b : Bool) → (x == y) ≡ b → cond b (Some S) (f y) ≡ cond b (first_of (f x) (Some S)) (f y)
-    cases y true e = sym (ap (λ o. first_of o (Some S)) n)
-    cases y false e = refl
+pub bound-new : (f : Above) (x : ℕ) (S : Sort) → f x ≡ None → bound Newest f x S ≡ bound First f x S
+bound-new f x S n = fun_ext (λ y. ap (λ o. cond (x == y) o (f y)) (sym (ap (λ o. first_of o (Some S)) n)))
 
 -- a name that is bound already
-pub bound-old : (f : Above) (x : ℕ) (S : Sort) → is_some (f x) ≡ true → f ≡ bound f x S
+pub bound-old : (f : Above) (x : ℕ) (S : Sort) → is_some (f x) ≡ true → f ≡ bound First f x S
 bound-old f x S n = fun_ext (λ y. cases y (x == y) refl)
   where
     keeps : (o : Option Sort) → is_some o ≡ true → o ≡ first_of o (Some S)
@@ -77,25 +75,26 @@ bound-old f x S n = fun_ext (λ y. cases y (x == y) refl)
     cases y true e = sym (ap f (eqb-true x y e)) ∙ keeps (f x) n
     cases y false e = refl
 
-pub taken-back : (x : ℕ) (S : Sort) (m n : Map Sort) (xs ys : List ℕ) → Updates nat_eq m n x (Some S) → above_of m x ≡ None → ys ≡ xs ++ x ∷ [] → without (above_of n) ys ≡ without (above_of m) xs
-taken-back x S m n xs ys u e f = ap (without (above_of n)) f ∙ (ap (λ g. without g (xs ++ x ∷ [])) (inserted x S m n u) ∙ without-new (above_of m) xs x S e)
+pub not-bound : (o : Option Sort) → is_some o ≡ false → o ≡ None
+not-bound None e = refl
+not-bound (Some S) e = absurd (cc)
 
 -- lists of binders
-pub bound-step : (f : Above) (sort : ℕ → Sort) (t : Tree) (h : Head) (a b : Tree) (x T : ℕ) → t ≡ Node h a b → h ≡ Binder x T → all_bound f sort t ≡ all_bound (bound f x (sort T)) sort b
+pub bound-step : (r : Precedence) (f : Above) (sort : ℕ → Sort) (t : Tree) (h : Head) (a b : Tree) (x T : ℕ) → t ≡ Node h a b → h ≡ Binder x T → all_bound r f sort t ≡ all_bound r (bound r f x (sort T)) sort b
 unfolding all_bound
-bound-step f sort t h a b x T e g = ap (all_bound f sort) e ∙ ap (λ k. all_bound f sort (Node k a b)) g
+bound-step r f sort t h a b x T e g = ap (all_bound r f sort) e ∙ ap (λ k. all_bound r f sort (Node k a b)) g
 
-pub bound-skip : (f : Above) (sort : ℕ → Sort) (t : Tree) (h : Head) (a b : Tree) → t ≡ Node h a b → ((x T : ℕ) → h ≡ Binder x T → ⊥) → all_bound f sort t ≡ all_bound f sort b
+pub bound-skip : (r : Precedence) (f : Above) (sort : ℕ → Sort) (t : Tree) (h : Head) (a b : Tree) → t ≡ Node h a b → ((x T : ℕ) → h ≡ Binder x T → ⊥) → all_bound r f sort t ≡ all_bound r f sort b
 unfolding all_bound
-bound-skip f sort t h a b e n = ap (all_bound f sort) e ∙ step h n
+bound-skip r f sort t h a b e n = ap (all_bound r f sort) e ∙ step h n
   where
-    step : (h : Head) → ((x T : ℕ) → h ≡ Binder x T → ⊥) → all_bound f sort (Node h a b) ≡ all_bound f sort b
+    step : (h : Head) → ((x T : ℕ) → h ≡ Binder x T → ⊥) → all_bound r f sort (Node h a b) ≡ all_bound r f sort b
     step (Binder x T) n = absurd (n x T refl)
     step h n = refl
 
-pub bound-end : (f : Above) (sort : ℕ → Sort) (t : Tree) → t ≡ Empty → all_bound f sort t ≡ f
+pub bound-end : (r : Precedence) (f : Above) (sort : ℕ → Sort) (t : Tree) → t ≡ Empty → all_bound r f sort t ≡ f
 unfolding all_bound
-bound-end f sort t e = ap (all_bound f sort) e
+bound-end r f sort t e = ap (all_bound r f sort) e
 
 -- a node that binds nothing
 pub names-other : (f : Above) (h : Head) (a : Tree) → ((i n : ℕ) → h ≡ Repl i n → ⊥) → ((x T : ℕ) → h ≡ New x T → ⊥) → ((x T : ℕ) → h ≡ Let x T → ⊥) → (h ≡ Branch → ⊥) → f ≡ with_names h a f
@@ -105,4 +104,4 @@ names-other f (Let x T) a r m l b = absurd (l x T refl)
 names-other f Branch a r m l b = absurd (b refl)
 names-other f h a r m l b = refl
 
-pub ruleset removals = (without-none, without-last)
+pub ruleset removals = (restored-none, restored-last)

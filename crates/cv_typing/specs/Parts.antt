@@ -6,9 +6,10 @@ use Rattle.cv_syntax.specs.Declarations.{Declaration, Named, Equation, Equiv, Qu
 use Rattle.cv_syntax.specs.Tree.{Tree, Empty, Node, first, second, size}
 use Rattle.cv_typing.specs.declared.fault.Fault.{Fault}
 use Rattle.cv_typing.specs.declared.form.Form.TheVariants.{InProcess, InBody}
+use Rattle.cv_typing.specs.declared.precedence.Precedence.TheVariants.{First, Newest}
 use Rattle.cv_typing.specs.declared.sort.Sort.{Sort}
 use Rattle.cv_typing.specs.declared.sort.Sort.TheVariants.{OfType}
-use Rattle.cv_typing.specs.Sites.{first_of, bound_sort, sites_of}
+use Rattle.cv_typing.specs.Sites.{first_of, sites_of}
 use Rattle.cv_typing.specs.Signature.{Signature, Arrays, OfGame, OfSide, OfNothing, Above, boolean, sort_of}
 use Rattle.cv_typing.specs.Wants.{Want, Run, Of, Correspondence}
 use Rattle.cv_typing.specs.Wants.{all_bound}
@@ -27,9 +28,9 @@ nothing_above x = None
 abbrev pub game_part : Tree → Part
 game_part t = record { arrays = OfGame (sites_of t); above = nothing_above; want = Run InProcess; tree = t }
 
--- the variables of a list of binders; of two binders of one name the first counts
+-- the variables of an equation or a query; of two binders of one name the first counts
 abbrev pub local_names : Tree → Above
-local_names binders = all_bound nothing_above OfType binders
+local_names binders = all_bound First nothing_above OfType binders
 
 -- an equation is of type `bool`
 abbrev pub equation_part : Tree → Part
@@ -60,9 +61,13 @@ unfoldable pub local_in : ℕ → Tree → Option Sort
 local_in x Empty = None
 local_in x (Node h a b) = first_of (local_here x h) (first_of (local_in x a) (local_in x b))
 
--- the sort of a name of a function, whose first child and body these are
+-- names, with the chosen variables and the arguments of a function with this first child; the newest binding counts
+abbrev pub with_taken : Above → Tree → Above
+with_taken above taken = all_bound Newest (all_bound Newest above OfType (first taken)) OfType (second taken)
+
+-- the sort that a function, whose first child and body these are, gives a name wherever it binds the name
 abbrev pub own_sort : ℕ → Tree → Tree → Option Sort
-own_sort x taken body = first_of (bound_sort OfType x (first taken)) (first_of (bound_sort OfType x (second taken)) (local_in x body))
+own_sort x taken body = first_of (with_taken nothing_above taken x) (local_in x body)
 
 -- the sort of a name of the functions with a bound
 unfoldable pub sort_by_bound : Tree → ℕ → ℕ → Option Sort
@@ -72,7 +77,7 @@ sort_by_bound (Node h f more) m x =
 
 -- the names of the key, of the chosen variables and of the arguments, in a function with this first child
 abbrev pub names_of : Tree → Tree → Above
-names_of key taken = all_bound (all_bound (local_names key) OfType (first taken)) OfType (second taken)
+names_of key taken = with_taken (all_bound Newest nothing_above OfType key) taken
 
 -- the sorts of the results of functions, one by one, where they are terms
 unfoldable pub results : Signature → (key functions : Tree) → List (Option Sort)
@@ -87,15 +92,21 @@ abbrev pub more_results : List (Option Sort) → List (Option Sort)
 more_results [] = []
 more_results (S ∷ Ss) = Ss
 
+-- a side's arrays in the body of one of its functions
+abbrev pub in_function : Arrays → Tree → Arrays
+in_function (OfSide by_bound own) f = OfSide by_bound (λ x. own_sort x (first f) (second f))
+in_function arrays f = arrays
+
 -- the bodies of functions, with results of these sorts
 unfoldable pub body_parts : Arrays → (key : Tree) → List (Option Sort) → (functions : Tree) → List Part
 body_parts arrays key Ss Empty = []
 body_parts arrays key Ss (Node h f more) =
-    record { arrays = arrays; above = names_of key (first f); want = Run (InBody (first_result Ss)); tree = second f }
+    record { arrays = in_function arrays f; above = names_of key (first f); want = Run (InBody (first_result Ss)); tree = second f }
     ∷ body_parts arrays key (more_results Ss) more
 
+-- the arrays of a side, outside the bodies of its functions
 abbrev pub side_arrays : Tree → Arrays
-side_arrays group = OfSide (sort_by_bound (second group))
+side_arrays group = OfSide (sort_by_bound (second group)) nothing_above
 
 -- on the right the results have the sorts that those on the left have
 abbrev pub equivalence_parts : List Declaration → Tree → List Part

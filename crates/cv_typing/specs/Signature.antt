@@ -64,16 +64,27 @@ is_fixed_in ds T = fixed_by (declaration_of ds T)
 
 -- arrays
 
--- What is read at indices: the variables of a game, or on a side of an equivalence what the function with a bound
--- binds; equations and queries have no arrays.
+-- What is read at indices, and what definitions say of a name: the variables of a game, or on a side of an equivalence
+-- what the function with a bound binds, and what that function binds whose body this is; equations and queries have no
+-- arrays.
 pub data Arrays : Type 0 where
   OfGame : SitesView → Arrays
-  OfSide : (by_bound : ℕ → ℕ → Option Sort) → Arrays
+  OfSide : (by_bound : ℕ → ℕ → Option Sort) → (own : ℕ → Option Sort) → Arrays
   OfNothing : Arrays
 
 abbrev pub variable_in : Arrays → ℕ → Option Variable
 variable_in (OfGame sites) x = sites.variable x
 variable_in arrays x = None
+
+-- the sort of a game's variable
+abbrev pub variable_sort : Arrays → ℕ → Option Sort
+variable_sort arrays x = option_map (λ (v : Variable). v.sort) (variable_in arrays x)
+
+-- the sort that definitions give a name: of a game's variable, or of a name of the function whose body this is
+abbrev pub defined_sort : Arrays → ℕ → Option Sort
+defined_sort (OfGame sites) x = variable_sort (OfGame sites) x
+defined_sort (OfSide by_bound own) x = own x
+defined_sort OfNothing x = None
 
 -- the parameter of an index that no replication above binds
 abbrev pub index_in : Arrays → ℕ → Option ℕ
@@ -104,18 +115,18 @@ sort_at_bound by_bound x (Some m) = by_bound m x
 
 -- sorts of terms
 
--- a bare name is a name bound above, a variable, a function, or an index out of its scope
+-- a bare name is a name bound above, a name with a definition, a function, or an index out of its scope
 abbrev pub leaf_sort : Signature → Above → ℕ → Option Sort
 leaf_sort e above x =
     first_of (above x)
-    (first_of (option_map (λ (v : Variable). v.sort) (variable_in e.arrays x))
+    (first_of (defined_sort e.arrays x)
     (first_of (option_map (λ (f : Function). OfType f.result) (function_in e.declarations x))
     (option_map BelowParameter (index_in e.arrays x))))
 
 -- a name at these indices
 abbrev pub read_sort : Arrays → Above → ℕ → Tree → Option Sort
-read_sort (OfGame sites) above x indices = option_map (λ (v : Variable). v.sort) (sites.variable x)
-read_sort (OfSide by_bound) above x indices = sort_at_bound by_bound x (bound_of_term above (first indices))
+read_sort (OfGame sites) above x indices = variable_sort (OfGame sites) x
+read_sort (OfSide by_bound own) above x indices = sort_at_bound by_bound x (bound_of_term above (first indices))
 read_sort OfNothing above x indices = above x
 
 -- The sort of a term by its head and its first child. Nothing is known of a name that is defined nowhere.
@@ -151,7 +162,7 @@ leaf_arity e above x = elim (above x) [
 -- how many indices a name takes: on a side the one that names a call
 abbrev pub read_arity : Arrays → ℕ → Option ℕ
 read_arity (OfGame sites) x = option_map (λ (v : Variable). length v.parameters) (sites.variable x)
-read_arity (OfSide by_bound) x = Some 1
+read_arity (OfSide by_bound own) x = Some 1
 read_arity OfNothing x = Some 0
 
 -- how many arguments or indices a node takes, where that is known

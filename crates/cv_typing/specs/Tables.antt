@@ -1,6 +1,5 @@
 -- What the tables of a check hold.
-use Rattle.std.specs.Prelude.{ℕ, nat_eq, Bool, true, false, ◌&&◌, ◌==◌, if◌then◌else◌, List, option_map, Option, Some, None}
-use Rattle.std.specs.List.{list_any}
+use Rattle.std.specs.Prelude.{ℕ, nat_eq, Bool, true, false, ◌&&◌, ◌==◌, if◌then◌else◌, List, [], ◌∷◌, option_map, Option, Some, None}
 use Rattle.std.specs.declared.hash.FoldHasher.{FoldHasher}
 use Rattle.std.specs.declared.hash.BuildHasherDefault.{BuildHasherDefault}
 use Rattle.std.specs.HashMap.{get, HashMap}
@@ -13,6 +12,7 @@ use Rattle.cv_typing.specs.declared.sort.Sort.TheVariants.{OfType, BelowParamete
 use Rattle.cv_typing.specs.declared.arrays.Arrays.{Arrays}
 use Rattle.cv_typing.specs.declared.arrays.Arrays.TheVariants as held
 use Rattle.cv_typing.specs.declared.locals.Locals.{Locals}
+use Rattle.cv_typing.specs.declared.locals.Own.{Own}
 use Rattle.cv_typing.specs.Signature as signature
 use Rattle.cv_typing.specs.Signature.{Above}
 use Rattle.cv_typing.specs.Sites.{SitesView, Variable, first_of, bound_sort, site_here, index_here, at_parameters, first_site, first_index}
@@ -62,45 +62,44 @@ with_sites s ps t = record { variable = λ x. first_of (s.variable x) (first_sit
 abbrev pub same_pair : ℕ × ℕ → ℕ × ℕ → Bool
 same_pair p q = nat_eq p.0 q.0 && nat_eq p.1 q.1
 
-abbrev pub locals_of : Locals → ℕ → ℕ → Option Sort
-locals_of l m x = get same_pair l.sorts (m, x)
-
-abbrev pub arrays_of : Arrays → signature.Arrays
-arrays_of (held.OfGame s) = signature.OfGame (seen s)
-arrays_of (held.OfSide l) = signature.OfSide (locals_of l)
-arrays_of held.OfNothing = signature.OfNothing
-
 -- the names above that a map holds
 abbrev pub above_of : Map Sort → Above
 above_of m x = get nat_eq m x
 
--- names above, without those of a list
-abbrev pub without : Above → List ℕ → Above
-without above xs y = if list_any (λ x. x == y) xs then None else above y
+-- names above, with what stood there before for the names of a list; of two entries of one name the first counts
+abbrev pub restored : Above → List (ℕ × Option Sort) → Above
+restored above [] y = above y
+restored above (p ∷ ps) y = if p.0 == y then p.1 else restored above ps y
+
+-- names, and else what a body binds
+
+abbrev pub with_here : Above → Head → Above
+with_here above h y = first_of (above y) (local_here y h)
+
+abbrev pub with_body : Above → Tree → Above
+with_body above body y = first_of (above y) (local_in y body)
 
 -- the names of functions, by bound
 
 abbrev pub ByBound : Type 0
 ByBound = ℕ → ℕ → Option Sort
 
-abbrev pub no_locals : ByBound
-no_locals m x = None
+-- the sort of a name of the functions with a bound: of the first of these that binds it
+abbrev pub by_bound_in : List Own → ByBound
+by_bound_in [] m x = None
+by_bound_in (f ∷ fs) m x = if f.bound == m then first_of (above_of f.sorts x) (by_bound_in fs m x) else by_bound_in fs m x
+
+abbrev pub locals_of : Locals → ByBound
+locals_of l = by_bound_in l.functions.items
+
+abbrev pub arrays_of : Arrays → signature.Arrays
+arrays_of (held.OfGame s) = signature.OfGame (seen s)
+arrays_of (held.OfSide l own) = signature.OfSide (locals_of l) (above_of own)
+arrays_of held.OfNothing = signature.OfNothing
 
 -- what is known of names, and else what a function with a bound says of them
 abbrev pub and_else : ByBound → ℕ → (ℕ → Option Sort) → ByBound
 and_else l m f n y = first_of (l n y) (if m == n then f y else None)
-
-abbrev pub with_local : ByBound → ℕ → ℕ → Sort → ByBound
-with_local l m x S = and_else l m (λ y. if x == y then Some S else None)
-
-abbrev pub with_binders_of : ByBound → ℕ → Tree → ByBound
-with_binders_of l m binders = and_else l m (λ y. bound_sort OfType y binders)
-
-abbrev pub with_here : ByBound → ℕ → Head → ByBound
-with_here l m h = and_else l m (λ y. local_here y h)
-
-abbrev pub with_body : ByBound → ℕ → Tree → ByBound
-with_body l m body = and_else l m (λ y. local_in y body)
 
 abbrev pub with_function : ByBound → Tree → ByBound
 with_function l f = and_else l (bound_at (first f)) (λ y. own_sort y (first f) (second f))

@@ -7,24 +7,25 @@ use Rattle.cv_typing.specs.declared.fault.Fault.{Fault}
 use Rattle.cv_typing.specs.declared.fault.Fault.TheVariants.{WrongType, Arity, IndexAsMessage, NotFixed}
 use Rattle.cv_typing.specs.declared.sort.Sort.{Sort}
 use Rattle.cv_typing.specs.declared.sort.Sort.TheVariants.{OfType, BelowParameter}
-use Rattle.cv_typing.specs.Sites.{Variable, first_of}
-use Rattle.cv_typing.specs.Signature.{Signature, Arrays, Above, same_sort, variable_in, is_fixed_in, sort_by, arity_by, is_arity, count}
+use Rattle.cv_typing.specs.Sites.{first_of}
+use Rattle.cv_typing.specs.Signature.{Signature, Arrays, Above, same_sort, variable_sort, defined_sort, is_fixed_in, sort_by, arity_by, is_arity, count}
 use Rattle.cv_typing.specs.Wants.{Want, wants, is_wrong, is_index_sent, above_second}
 
--- A definition of a variable has the sort of its first site.
+-- A definition of a variable has the sort of its first site. In a body of an equivalence a name that its function binds
+-- has one sort wherever the function binds it, but for the indices of branches.
 
-abbrev pub differs : Option Variable → Sort → Bool
-differs None S = false
-differs (Some v) S = not (same_sort v.sort S)
+abbrev pub differs_from : Option Sort → Sort → Bool
+differs_from None S = false
+differs_from (Some R) S = not (same_sort R S)
 
 unfoldable pub binders_differ : Arrays → (ℕ → Sort) → Tree → Bool
 binders_differ arrays sort Empty = false
-binders_differ arrays sort (Node (Binder x T) a b) = differs (variable_in arrays x) (sort T) || binders_differ arrays sort b
+binders_differ arrays sort (Node (Binder x T) a b) = differs_from (variable_sort arrays x) (sort T) || binders_differ arrays sort b
 binders_differ arrays sort (Node h a b) = binders_differ arrays sort b
 
 abbrev pub site_differs : Arrays → Head → Tree → Bool
-site_differs arrays (New x T) a = differs (variable_in arrays x) (OfType T)
-site_differs arrays (Let x T) a = differs (variable_in arrays x) (OfType T)
+site_differs arrays (New x T) a = differs_from (defined_sort arrays x) (OfType T)
+site_differs arrays (Let x T) a = differs_from (defined_sort arrays x) (OfType T)
 site_differs arrays (In c) a = binders_differ arrays OfType (second a)
 site_differs arrays Branch a = binders_differ arrays BelowParameter a
 site_differs arrays h a = false

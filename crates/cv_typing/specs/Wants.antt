@@ -6,6 +6,8 @@ use Rattle.cv_syntax.specs.Declarations.{Declaration}
 use Rattle.cv_syntax.specs.Tree.{Tree, Empty, Node}
 use Rattle.cv_typing.specs.declared.form.Form.{Form}
 use Rattle.cv_typing.specs.declared.form.Form.TheVariants.{InProcess, InBody}
+use Rattle.cv_typing.specs.declared.precedence.Precedence.{Precedence}
+use Rattle.cv_typing.specs.declared.precedence.Precedence.TheVariants.{First, Newest}
 use Rattle.cv_typing.specs.declared.sort.Sort.{Sort}
 use Rattle.cv_typing.specs.declared.sort.Sort.TheVariants.{OfType, BelowParameter}
 use Rattle.cv_typing.specs.Sites.{Variable, first_of}
@@ -43,7 +45,7 @@ asks_indices (Some v) = Indices v.parameters
 
 abbrev pub wants_indices : Arrays → ℕ → Want
 wants_indices (OfGame sites) x = asks_indices (sites.variable x)
-wants_indices (OfSide by_bound) x = EachIndex
+wants_indices (OfSide by_bound own) x = EachIndex
 wants_indices OfNothing x = EachTerm
 
 abbrev pub wants_arguments : Option Function → Want
@@ -166,14 +168,15 @@ is_index_sent w (Some S) = if is_message w then is_index S else false
 -- Names that a node binds for what stands behind it: the index of a replication, and in a body what `new` and `let`
 -- define and the indices of a branch.
 
--- a name that is bound keeps its first sort
-abbrev pub bound : Above → ℕ → Sort → Above
-bound above x S y = if x == y then first_of (above x) (Some S) else above y
+-- with a name's sort: of two bindings of one name the first counts, or the newest
+abbrev pub bound : Precedence → Above → ℕ → Sort → Above
+bound First above x S y = if x == y then first_of (above x) (Some S) else above y
+bound Newest above x S y = if x == y then Some S else above y
 
-unfoldable pub all_bound : Above → (ℕ → Sort) → Tree → Above
-all_bound above sort Empty = above
-all_bound above sort (Node (Binder x T) a b) = all_bound (bound above x (sort T)) sort b
-all_bound above sort (Node h a b) = all_bound above sort b
+unfoldable pub all_bound : Precedence → Above → (ℕ → Sort) → Tree → Above
+all_bound precedence above sort Empty = above
+all_bound precedence above sort (Node (Binder x T) a b) = all_bound precedence (bound precedence above x (sort T)) sort b
+all_bound precedence above sort (Node h a b) = all_bound precedence above sort b
 
 abbrev pub is_in_body : Want → Bool
 is_in_body (Run (InBody r)) = true
@@ -187,12 +190,13 @@ binds w (Let x T) = is_in_body w
 binds w Branch = is_in_body w
 binds w h = false
 
--- with the names that a node binds
+-- With the names that a node binds. Of two replications that bind one index the outer one counts, and of a name that
+-- a body binds again the newest binding.
 abbrev pub with_names : Head → Tree → Above → Above
-with_names (Repl i n) a above = bound above i (BelowParameter n)
-with_names (New x T) a above = bound above x (OfType T)
-with_names (Let x T) a above = bound above x (OfType T)
-with_names Branch a above = all_bound above BelowParameter a
+with_names (Repl i n) a above = bound First above i (BelowParameter n)
+with_names (New x T) a above = bound Newest above x (OfType T)
+with_names (Let x T) a above = bound Newest above x (OfType T)
+with_names Branch a above = all_bound Newest above BelowParameter a
 with_names h a above = above
 
 abbrev pub above_second : Want → Head → Tree → Above → Above

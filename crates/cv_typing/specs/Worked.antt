@@ -220,6 +220,14 @@ side t s =
 abbrev equivalence : Tree → Tree → Tree → Tree → Declaration
 equivalence t s t2 s2 = Equiv 12 (Node (Equivalence 11) (side t s) (side t2 s2))
 
+-- !n1 new r: T; (O1: !m1 new ..; (..) -> ..)
+abbrev alone : (coins arguments : List (ℕ × ℕ)) → Tree → Tree
+alone coins arguments t =
+    Node (Bound 50 51) (binders ((52, T) ∷ [])) (chain (Node (Oracle 53) (Node (Bound 54 55) (binders coins) (binders arguments)) t ∷ []))
+
+abbrev lone_equivalence : (coins arguments : List (ℕ × ℕ)) → Tree → Tree → Declaration
+lone_equivalence coins arguments t s = Equiv 12 (Node (Equivalence 11) (alone coins arguments t) (alone [] arguments s))
+
 -- files with the process 0, each with its first fault
 abbrev pub files : List (List Declaration × Option (ℕ × Fault))
 files =
@@ -248,6 +256,25 @@ files =
     ∷ (equivalence (bare 52) yes (bare k) (search ((63, 55) ∷ []) (cell 56 (bare 63 ∷ bare 63 ∷ []) ∷ []) yes yes yes) ∷ [], at 5 Arity)
     -- of a free name nothing is asked
     ∷ (equivalence (bare 52) yes (bare nowhere) (bare 56) ∷ [], none)
+    -- a name has one type wherever a function binds it: by two `new`, by an argument and a `let`, by an argument and a `new`
+    ∷ (equivalence (bare 52) yes (test yes (chosen 62 T (bare 62)) (chosen 62 T (bare k))) yes ∷ [], none)
+    ∷ (equivalence (bare 52) yes (test yes (chosen 62 T (bare 62)) (chosen 62 0 (bare k))) yes ∷ [], at 6 WrongType)
+    ∷ (equivalence (bare 52) yes (assigned 56 U (bare 56) (bare k)) yes ∷ [], none)
+    ∷ (equivalence (bare 52) yes (assigned 56 T (bare k) (bare 56)) yes ∷ [], at 2 WrongType)
+    ∷ (equivalence (bare 52) yes (chosen 56 T (bare 56)) yes ∷ [], at 2 WrongType)
+    -- another function may give it another type, the key's name may be bound again with any, and so may an index
+    ∷ (equivalence (bare 52) yes (chosen 62 T (bare 62)) (chosen 62 0 (bare 62)) ∷ [], none)
+    ∷ (equivalence (bare 52) yes (bare k) (chosen 52 0 (bare 52)) ∷ [], none)
+    ∷ (equivalence (bare 52) yes (chosen 62 T (search ((62, 55) ∷ []) [] yes (bare k) (bare 62))) yes ∷ [], none)
+    -- the newest of two bindings is meant: the key's name bound again, a coin, an argument or an index
+    ∷ (equivalence (bare 52) yes (chosen 52 0 (bare 52)) yes ∷ [], at 3 WrongType)
+    ∷ (lone_equivalence ((60, T) ∷ []) ((60, U) ∷ []) (call g (bare 52 ∷ bare 60 ∷ [])) yes ∷ [], none)
+    ∷ (lone_equivalence ((60, T) ∷ []) ((60, U) ∷ []) (call g (bare 60 ∷ bare 60 ∷ [])) yes ∷ [], at 1 WrongType)
+    ∷ (lone_equivalence [] ((60, U) ∷ (60, T) ∷ []) (bare 60) (chosen 60 T (bare 60)) ∷ [], none)
+    ∷ (lone_equivalence [] ((60, T) ∷ (60, U) ∷ []) (bare k) (chosen 60 T (bare 60)) ∷ [], at 1 WrongType)
+    ∷ (equivalence (bare 52) yes (chosen 62 T (search ((62, 55) ∷ []) [] yes (bare 62) (bare 62))) yes ∷ [], at 6 WrongType)
+    -- where a name isn't bound above, it has the type that its function gives it
+    ∷ (equivalence (bare 52) yes (bare k) (test yes (chosen 62 T yes) (call g (bare 62 ∷ bare 62 ∷ []))) ∷ [], at 9 WrongType)
     ∷ []
 
 abbrev pub game_fault : Tree → Option (ℕ × Fault)

@@ -1,31 +1,64 @@
-ghost use Rattle.std.specs.Prelude.{◌≡◌, ◌<◌, ◌^◌, ◌+◌, ℕ, length, drop, slice_get, option_map, option_and_then, OnSome};
+ghost use Rattle.std.specs.Prelude.{◌≡◌, ◌<◌, ◌^◌, ◌+◌, length, drop, slice_get, option_map, option_and_then, OnOk, OnSome};
+ghost use Rattle.cv_pool.specs.Nodes.{ChildBelow};
+ghost use Rattle.cv_syntax.specs.Tree.{tree_at};
 ghost use Rattle.cv_typing.specs.Sites.{Variable};
-ghost use Rattle.cv_typing.specs.Signature.{index_in, variable_in};
+ghost use Rattle.cv_typing.specs.Parts.{in_function};
+ghost use Rattle.cv_typing.specs.Signature.{defined_sort, index_in, variable_in, variable_sort as sort_of_variable};
 ghost use Rattle.cv_typing.specs.Tables.{arrays_of};
 
-use crate::locals::Locals;
+use crate::locals::{Locals, own_names};
 use crate::sites::Sites;
 use crate::sort::Sort;
+use cv_syntax::{NodeId, Pool};
+use std::alloc::{AllocError, Global};
+use std::collections::HashMap;
 
-/// What is read at indices.
+/// What is read at indices, and what definitions say of names.
 #[derive(Drop)]
 pub enum Arrays {
     /// The variables of a game.
     OfGame(Sites),
-    /// On a side of an equivalence, what the function with a bound binds.
-    OfSide(Locals),
+    /// On a side of an equivalence, what the function with a bound binds, and what that function binds whose body this is.
+    OfSide(Locals, HashMap<u32, Sort>),
     /// Nothing, in equations and queries.
     OfNothing,
 }
 
 impl Arrays {
+    /// On a side, goes to the body of a function.
+    pub fn enter(
+        &mut self,
+        alloc: Global,
+        pool: &Pool,
+        function: Option<NodeId>,
+    ) -> Result<(), AllocError>
+        requires { ChildBelow (length pool.now.trees) function }
+        ensures { OnOk result (arrays_of self.new ≡ in_function (arrays_of self.old) (tree_at pool.now.trees function)) }
+    {
+        if let Arrays::OfSide(_, own) = self {
+            *own = own_names(alloc, pool, function)?;
+        }
+        Ok(())
+    }
+
     /// The sort of a game's variable.
-    pub fn sort(&self, x: u32) -> Option<Sort>
-        ensures { result ≡ option_map (λ (v : Variable). v.sort) (variable_in (arrays_of self.now) x) }
+    pub fn variable_sort(&self, x: u32) -> Option<Sort>
+        ensures { result ≡ sort_of_variable (arrays_of self.now) x }
     {
         match self {
             Arrays::OfGame(sites) => sites.sort(x),
-            Arrays::OfSide(_) => None,
+            Arrays::OfSide(_, _) => None,
+            Arrays::OfNothing => None,
+        }
+    }
+
+    /// The sort that definitions give a name.
+    pub fn sort(&self, x: u32) -> Option<Sort>
+        ensures { result ≡ defined_sort (arrays_of self.now) x }
+    {
+        match self {
+            Arrays::OfGame(sites) => sites.sort(x),
+            Arrays::OfSide(_, own) => own.get(&x).copied(),
             Arrays::OfNothing => None,
         }
     }
@@ -36,7 +69,7 @@ impl Arrays {
     {
         match self {
             Arrays::OfGame(sites) => sites.arity(x),
-            Arrays::OfSide(_) => None,
+            Arrays::OfSide(_, _) => None,
             Arrays::OfNothing => None,
         }
     }
@@ -48,7 +81,7 @@ impl Arrays {
     {
         match self {
             Arrays::OfGame(sites) => sites.parameter(x, k),
-            Arrays::OfSide(_) => None,
+            Arrays::OfSide(_, _) => None,
             Arrays::OfNothing => None,
         }
     }
@@ -59,7 +92,7 @@ impl Arrays {
     {
         match self {
             Arrays::OfGame(sites) => sites.index(i),
-            Arrays::OfSide(_) => None,
+            Arrays::OfSide(_, _) => None,
             Arrays::OfNothing => None,
         }
     }

@@ -40,7 +40,7 @@ fn wants_indices(arrays: &Arrays, x: u32) -> Want
             Some(_) => Want::Indices(x, 0),
             None => Want::EachTerm,
         },
-        Arrays::OfSide(_) => Want::EachIndex,
+        Arrays::OfSide(_, _) => Want::EachIndex,
         Arrays::OfNothing => Want::EachTerm,
     }
 }

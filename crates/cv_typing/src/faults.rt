@@ -6,7 +6,7 @@ ghost use Rattle.cv_syntax.specs.Declarations.{declarations};
 ghost use Rattle.cv_syntax.specs.Tree.{tree_at};
 ghost use Rattle.cv_typing.specs.Lookups.{HasLiveArguments, signature_in, want_of};
 ghost use Rattle.cv_typing.specs.Signature as signature;
-ghost use Rattle.cv_typing.specs.Signature.{is_arity, same_sort as same, variable_in};
+ghost use Rattle.cv_typing.specs.Signature.{is_arity, same_sort as same};
 ghost use Rattle.cv_typing.specs.Tables.{above_of, arrays_of, binder_sort};
 ghost use Rattle.cv_typing.specs.Typing as typing;
 ghost use Rattle.cv_typing.specs.Wants as wants;
@@ -83,12 +83,12 @@ fn is_message(want: Want) -> bool
     matches!(want, Want::AnyMessage | Want::Message(_))
 }
 
-/// Whether a definition gives a variable another sort than its first site.
-fn differs(arrays: &Arrays, x: u32, sort: Sort) -> bool
-    ensures { result ≡ typing.differs (variable_in (arrays_of arrays.now) x) sort }
+/// Whether a definition gives another sort than one that is known.
+fn differs_from(known: Option<Sort>, sort: Sort) -> bool
+    ensures { result ≡ typing.differs_from known sort }
 {
-    match arrays.sort(x) {
-        Some(first) => !same_sort(first, sort),
+    match known {
+        Some(known) => !same_sort(known, sort),
         None => false,
     }
 }
@@ -102,7 +102,7 @@ fn binders_differ(pool: &Pool, arrays: &Arrays, are_indices: bool, list: Option<
     'list: while let Some(k) = at {
         let node = read_node(pool, k);
         if let Head::Binder(x, t) = node.head {
-            if differs(arrays, x, sort_of_binder(are_indices, t)) {
+            if differs_from(arrays.variable_sort(x), sort_of_binder(are_indices, t)) {
                 return true;
             }
         }
@@ -111,14 +111,15 @@ fn binders_differ(pool: &Pool, arrays: &Arrays, are_indices: bool, list: Option<
     false
 }
 
-/// Whether a node defines a variable with another sort than its first site.
+/// Whether a node defines a variable with another sort than its first site, or in a body of an equivalence a name with
+/// another sort than its function.
 fn site_differs(pool: &Pool, arrays: &Arrays, head: Head, first: Option<NodeId>) -> bool
     requires { ChildBelow (length pool.now.trees) first }
     ensures { result ≡ typing.site_differs (arrays_of arrays.now) head (tree_at pool.now.trees first) }
 {
     match head {
-        Head::New(x, t) => differs(arrays, x, Sort::OfType(t)),
-        Head::Let(x, t) => differs(arrays, x, Sort::OfType(t)),
+        Head::New(x, t) => differs_from(arrays.sort(x), Sort::OfType(t)),
+        Head::Let(x, t) => differs_from(arrays.sort(x), Sort::OfType(t)),
         Head::In(_) => binders_differ(pool, arrays, false, rest(pool, first)),
         Head::Branch => binders_differ(pool, arrays, true, first),
         _ => false,

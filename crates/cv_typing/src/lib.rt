@@ -12,6 +12,7 @@ mod function;
 mod laws;
 mod locals;
 mod parts;
+mod precedence;
 mod site;
 pub mod sites;
 mod sort;
@@ -26,7 +27,8 @@ pub use form::Form;
 pub use laws::{
     file_faults_are_first, game_faults_are_first, tree_faults_are_first, worked_files, worked_games,
 };
-pub use locals::Locals;
+pub use locals::{Locals, Own};
+pub use precedence::Precedence;
 pub use site::Site;
 pub use sort::Sort;
 pub use want::Want;

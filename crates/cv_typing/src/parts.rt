@@ -11,7 +11,8 @@ use crate::above::bind_all;
 use crate::arrays::Arrays;
 use crate::fault::TypeFault;
 use crate::form::Form;
-use crate::locals::Locals;
+use crate::locals::{Locals, bind_taken};
+use crate::precedence::Precedence;
 use crate::sites::rest;
 use crate::sort::Sort;
 use crate::terms::{first, sort_of_term};
@@ -21,7 +22,7 @@ use cv_syntax::{Decl, Decls, NodeId, Pool, read_node};
 use std::alloc::{AllocError, Global};
 use std::collections::HashMap;
 
-/// The names of a list of binders.
+/// The variables of an equation or a query.
 fn bind_locals(
     alloc: Global,
     pool: &Pool,
@@ -32,7 +33,14 @@ fn bind_locals(
 {
     let mut above = HashMap::new(alloc);
     let mut bound = Vec::new(alloc);
-    bind_all(pool, &mut above, &mut bound, false, binders)?;
+    bind_all(
+        pool,
+        &mut above,
+        &mut bound,
+        Precedence::First,
+        false,
+        binders,
+    )?;
     Ok(above)
 }
 
@@ -47,10 +55,10 @@ fn bind_function(
     requires taken { ChildBelow (length pool.now.trees) taken }
     ensures { IfOk result (λ m. above_of m ≡ names_of (tree_at pool.now.trees key) (tree_at pool.now.trees taken)) }
 {
-    let mut above = bind_locals(alloc, pool, key)?;
+    let mut above = HashMap::new(alloc);
     let mut bound = Vec::new(alloc);
-    bind_all(pool, &mut above, &mut bound, false, first(pool, taken))?;
-    bind_all(pool, &mut above, &mut bound, false, rest(pool, taken))?;
+    bind_all(pool, &mut above, &mut bound, Precedence::Newest, false, key)?;
+    bind_taken(alloc, pool, &mut above, taken)?;
     Ok(above)
 }
 
@@ -118,7 +126,7 @@ fn arrays_of_side(alloc: Global, pool: &Pool, group: Option<NodeId>) -> Result<A
     ensures { IfOk result (λ r. arrays_of r ≡ side_arrays (tree_at pool.now.trees group)) }
 {
     let locals = Locals::of(alloc, pool, rest(pool, group))?;
-    Ok(Arrays::OfSide(locals))
+    Ok(Arrays::OfSide(locals, HashMap::new(alloc)))
 }
 
 /// The sort that the result of a function is to have, by its place.
@@ -161,7 +169,7 @@ fn check_bodies(
     alloc: Global,
     pool: &Pool,
     decls: &Decls,
-    arrays: &Arrays,
+    arrays: &mut Arrays,
     sorts: &[Option<Sort>],
     from: u32,
     key: Option<NodeId>,
@@ -170,8 +178,8 @@ fn check_bodies(
     requires key { ChildBelow (length pool.now.trees) key }
     requires functions { ChildBelow (length pool.now.trees) functions }
     requires arguments { HasLiveArguments (length pool.now.trees) decls.now.list }
-    requires fits { from + parts_size (body_parts (arrays_of arrays.now) (tree_at pool.now.trees key) sorts.now (tree_at pool.now.trees functions)) < 2 ^ 32 }
-    ensures { IsChecked (declarations pool.now.trees decls.now.list) from (body_parts (arrays_of arrays.now) (tree_at pool.now.trees key) sorts.now (tree_at pool.now.trees functions)) result }
+    requires fits { from + parts_size (body_parts (arrays_of arrays.old) (tree_at pool.now.trees key) sorts.now (tree_at pool.now.trees functions)) < 2 ^ 32 }
+    ensures { IsChecked (declarations pool.now.trees decls.now.list) from (body_parts (arrays_of arrays.old) (tree_at pool.now.trees key) sorts.now (tree_at pool.now.trees functions)) result }
 {
     let mut place = from;
     let mut n = 0;
@@ -179,6 +187,7 @@ fn check_bodies(
     'list: while let Some(k) = at {
         let node = read_node(pool, k);
         let mut above = bind_function(alloc, pool, key, first(pool, node.first))?;
+        arrays.enter(alloc, pool, node.first)?;
         let want = Want::Run(Form::InBody(result_at(sorts, n)));
         let body = rest(pool, node.first);
         place = walk(alloc, pool, decls, arrays, &mut above, want, place, body)?;
@@ -204,15 +213,15 @@ fn check_equivalence(
     let node = read_node(pool, tree);
     let key = first(pool, node.first);
     let functions = rest(pool, node.first);
-    let left = arrays_of_side(alloc, pool, node.first)?;
-    let right = arrays_of_side(alloc, pool, node.second)?;
+    let mut left = arrays_of_side(alloc, pool, node.first)?;
+    let mut right = arrays_of_side(alloc, pool, node.second)?;
     let none = Vec::new(alloc);
     let sorts = results_of(alloc, pool, decls, &left, key, functions)?;
     let middle = check_bodies(
         alloc,
         pool,
         decls,
-        &left,
+        &mut left,
         none.as_slice(),
         from,
         key,
@@ -224,7 +233,7 @@ fn check_equivalence(
         alloc,
         pool,
         decls,
-        &right,
+        &mut right,
         sorts.as_slice(),
         middle,
         other_key,

@@ -79,7 +79,7 @@ fn read_sort(
 {
     match arrays {
         Arrays::OfGame(sites) => sites.sort(x),
-        Arrays::OfSide(locals) => {
+        Arrays::OfSide(locals, _) => {
             let bound = bound_of_term(pool, above, first(pool, indices))?;
             locals.sort(bound, x)
         }
@@ -179,7 +179,7 @@ pub fn arity_of_head(
         Head::Leaf(x) => leaf_arity(pool, decls, arrays, above, x),
         Head::Read(x) => match arrays {
             Arrays::OfGame(sites) => sites.arity(x),
-            Arrays::OfSide(_) => Some(1),
+            Arrays::OfSide(_, _) => Some(1),
             Arrays::OfNothing => Some(0),
         },
         Head::Apply(f) => function_arity(pool, decls, f),

@@ -62,7 +62,7 @@ pub fn walk(
                 place,
                 node.second,
             )?;
-            unbind(above, &bound);
+            unbind(above, bound)?;
             return Ok(next);
         }
         want = below.1;

@@ -7,14 +7,13 @@ use Rattle.cv_meaning.specs.Binders.{bound_to}
 use Rattle.cv_meaning.specs.Inputs.{inputs_of}
 use Rattle.cv_meaning.specs.Serving.{step, serve}
 use Rattle.cv_meaning.specs.Runs.{taken, moved, run_from}
-use Rattle.cv_meaning.specs.Experiments.{run}
+use Rattle.cv_meaning.specs.Experiments.{run, holds_on}
 use Rattle.cv_meaning.specs.Correspondences.{assignments, broken}
-use Rattle.cv_meaning.specs.Advantage.{breaks}
 use Rattle.cv_typing.specs.Sites.{first_site, bound_sort}
 use Rattle.cv_typing.specs.Signature.{count}
 use Rattle.cv_scope.specs.Sites.{sites_from}
 use Rattle.cv_scope.specs.Standing.{at_root}
-use Rattle.cv_scope.specs.Scope.{first_fault, names_of, IsScoped}
+use Rattle.cv_scope.specs.Scope.{first_fault, is_untyped_in, names_of, IsScoped}
 use Rattle.cv_scope.specs.Worked.{constants}
 use Rattle.cv_scope.proofs.First.{scoped_where_none, none_where_scoped}
 use Rattle.cv_scope_runs.specs.Phrases.{is_phrase, binds_none}
@@ -25,7 +24,7 @@ some_none : {A : Type 0} (a : A) → ◌≡◌ {A = Option A} (Some a) None → 
 some_none a e = cc
 
 unscoped : IsScoped constants assigned_again → ⊥
-unfolding first_fault sites_from same_tree size first_site bound_sort count
+unfolding first_fault sites_from same_tree size first_site bound_sort count is_untyped_in
 unscoped s = some_none _ (none_where_scoped (names_of constants assigned_again) at_root assigned_again s)
 
 pub returns-clause-shape : goal.returns-clause-shape
@@ -44,7 +43,7 @@ unfolding binds_none
 returns-clause-unbound c = refl
 
 pub returns-clause-broken : goal.returns-clause-broken
-unfolding breaks broken assignments run run_from moved taken serve step inputs_of bound_to value put reads_only
+unfolding holds_on broken assignments run run_from moved taken serve step inputs_of bound_to value put reads_only
 returns-clause-broken c = refl
 
 pub returns-clause-captured_shape : goal.returns-clause-captured_shape
@@ -52,7 +51,7 @@ unfolding plainly_covered is_substituted is_instance argument same_tree reads_on
 returns-clause-captured_shape c = record { inj = refl; others = refl; atoms = refl; covered = refl }
 
 pub returns-clause-captured_scope : goal.returns-clause-captured_scope
-unfolding first_fault sites_from same_tree size first_site bound_sort count
+unfolding first_fault sites_from same_tree size first_site bound_sort count is_untyped_in
 returns-clause-captured_scope c = scoped_where_none (names_of constants constant_captured) at_root constant_captured refl
 
 pub returns-clause-captured_phrase : goal.returns-clause-captured_phrase
@@ -64,5 +63,5 @@ unfolding binds_none
 returns-clause-captured c = refl
 
 pub returns-clause-captured_broken : goal.returns-clause-captured_broken
-unfolding breaks broken assignments run run_from moved taken serve step inputs_of bound_to value put reads_only
+unfolding holds_on broken assignments run run_from moved taken serve step inputs_of bound_to value put reads_only
 returns-clause-captured_broken c = refl

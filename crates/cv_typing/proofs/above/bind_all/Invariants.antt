@@ -2,15 +2,15 @@ use Rattle.std.proofs.Common.{◌≡◌, length}
 use Rattle.cv_pool.specs.Nodes.{ChildBelow}
 use Rattle.cv_syntax.specs.Tree.{tree_at}
 use Rattle.cv_syntax.specs.Walks.{above as rank}
-use Rattle.cv_typing.specs.Tables.{above_of, binder_sort, without}
+use Rattle.cv_typing.specs.Tables.{above_of, binder_sort, restored}
 use Rattle.cv_typing.specs.Wants.{all_bound}
 use Rattle.cv_typing.proofs.above.bind_all.Given as goal
 
 abbrev pub invariant-list : goal.invariant-list
 invariant-list l = record {
   live : ChildBelow (length l.pool.trees) l.at;
-  names : all_bound (above_of l.above) (binder_sort l.are_indices) (tree_at l.pool.trees l.at) ≡ all_bound (above_of l.fn.above) (binder_sort l.are_indices) (tree_at l.pool.trees l.fn.list);
-  back : without (above_of l.above) l.bound.items ≡ without (above_of l.fn.above) l.fn.bound.items;
+  names : all_bound l.precedence (above_of l.above) (binder_sort l.are_indices) (tree_at l.pool.trees l.at) ≡ all_bound l.precedence (above_of l.fn.above) (binder_sort l.are_indices) (tree_at l.pool.trees l.fn.list);
+  back : restored (above_of l.above) l.bound.items ≡ restored (above_of l.fn.above) l.fn.bound.items;
 }
 
 abbrev pub decreases-list : goal.decreases-list

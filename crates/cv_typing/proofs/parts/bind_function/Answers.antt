@@ -1,10 +1,15 @@
-use Rattle.std.proofs.Common.{ap₂, ◌∙◌}
+use Rattle.std.proofs.Common.{ap, ◌∙◌}
+use Rattle.cv_syntax.specs.Tree.{tree_at}
+use Rattle.cv_typing.specs.declared.precedence.Precedence.TheVariants.{Newest}
 use Rattle.cv_typing.specs.declared.sort.Sort.TheVariants.{OfType}
+use Rattle.cv_typing.specs.Parts.{with_taken}
 use Rattle.cv_typing.specs.Signature.{Above}
 use Rattle.cv_typing.specs.Wants.{all_bound}
+use Rattle.cv_typing.proofs.Files.{nothing-bound}
 use Rattle.cv_typing.proofs.parts.bind_function.Goals as goal
 
 pub returns : goal.returns
 returns c =
-    c.in_ok-bind_all-2.ensures.names
-    ∙ ap₂ (λ (f : Above) t. all_bound f OfType t) (c.in_ok-bind_all.ensures.names ∙ ap₂ (λ (f : Above) t. all_bound f OfType t) c.in_ok-above.ensures c.first.ensures.tree) c.rest.ensures.tree
+    let trees = c.args.pool.now.trees in
+    let key = ap (λ (f : Above). all_bound Newest f OfType (tree_at trees c.args.key)) (nothing-bound c.new-above.result c.new-above.ensures.empty) in
+    c.in_ok-bind_taken.ensures ∙ ap (λ (f : Above). with_taken f (tree_at trees c.args.taken)) (c.in_ok-bind_all.ensures.names ∙ key)

@@ -3,10 +3,9 @@ use Rattle.std.proofs.lemmas.Result.{err_from_is_err_and}
 use Rattle.cv_syntax.specs.Declarations.{declarations}
 use Rattle.cv_syntax.specs.Tree.{size, tree_at}
 use Rattle.cv_syntax.proofs.Walking.{above-child, above-some}
-use Rattle.cv_typing.specs.Lookups.{signature_in}
-use Rattle.cv_typing.specs.Parts.{names_of}
+use Rattle.cv_typing.specs.Parts.{in_function, names_of}
 use Rattle.cv_typing.specs.Tables.{arrays_of}
-use Rattle.cv_typing.proofs.Bodies.{bodies-end, bodies-next, bodies-refused, bodies-size, body-same}
+use Rattle.cv_typing.proofs.Bodies.{bodies-end, bodies-next, bodies-refused, bodies-size, body-same, in-another, with-arrays}
 use Rattle.cv_typing.proofs.Walks.{child-live, empty-at, node-at}
 use Rattle.cv_typing.proofs.parts.check_bodies.Goals as goal
 
@@ -24,7 +23,9 @@ returns-in_err-place c =
     let node = c.read_node-node.result in
     let key = tree_at trees c.args.key in
     let names = c.in_ok-above.ensures ∙ ap (names_of key) c.first.ensures.tree in
-    let same = body-same (signature_in trees c.args.decls.now.list c.args.arrays.now) c.list.place _ _ _ _ _ _ names c.result_at.ensures c.rest-body.ensures.tree in
+    let f = tree_at trees node.first in
+    let arrays = with-arrays (declarations trees c.args.decls.now.list) (arrays_of c.enter.new.self) (arrays_of c.list.arrays) (arrays_of c.args.arrays.now) f (c.in_ok-enter.ensures) (c.list.invariant.arrays f) in
+    let same = body-same _ _ c.list.place _ _ _ _ _ _ arrays names c.result_at.ensures c.rest-body.ensures.tree in
     let p = err_from_is_err_and c.from_residual-in_err-place.result c.from_residual-in_err-place.ensures.1 in
     rw (p.1, p.2) (bodies-refused (declarations trees c.args.decls.now.list) c.list.place (arrays_of c.args.arrays.now) key (drop c.list.n c.args.sorts.now) (tree_at trees c.list.at) node.head (tree_at trees node.first) (tree_at trees node.second) _ _ c.in_err-place.field-0.0 (node-at trees c.list.at c.in-Some.k node c.in-Some.is c.read_node-node.ensures.tree) same c.list.invariant.same c.in_err-place.ensures.fault)
 
@@ -37,7 +38,9 @@ list-preserved c =
     let node = c.read_node-node.result in
     let key = tree_at trees c.args.key in
     let names = c.in_ok-above.ensures ∙ ap (names_of key) c.first.ensures.tree in
-    let same = body-same (signature_in trees c.args.decls.now.list c.args.arrays.now) c.list.place _ _ _ _ _ _ names c.result_at.ensures c.rest-body.ensures.tree in
+    let f = tree_at trees node.first in
+    let arrays = with-arrays (declarations trees c.args.decls.now.list) (arrays_of c.enter.new.self) (arrays_of c.list.arrays) (arrays_of c.args.arrays.now) f (c.in_ok-enter.ensures) (c.list.invariant.arrays f) in
+    let same = body-same _ _ c.list.place _ _ _ _ _ _ arrays names c.result_at.ensures c.rest-body.ensures.tree in
     let tree = node-at trees c.list.at c.in-Some.k node c.in-Some.is c.read_node-node.ensures.tree in
     let s = bodies-size (arrays_of c.args.arrays.now) key c.list.n c.args.sorts.now (tree_at trees c.list.at) node.head (tree_at trees node.first) (tree_at trees node.second) tree in
     let b = ap size c.rest-body.ensures.tree in
@@ -48,6 +51,7 @@ list-preserved c =
       same = bodies-next (declarations trees c.args.decls.now.list) c.list.place c.in_ok-place.place (arrays_of c.args.arrays.now) key c.list.n c.args.sorts.now (tree_at trees c.list.at) node.head (tree_at trees node.first) (tree_at trees node.second) _ _ tree same c.in_ok-place.ensures.typed (c.in_ok-place.ensures.next ∙ ap (λ n. c.list.place + n) b) c.list.invariant.same;
       sum = omega (arith, s, b, c.list.invariant.sum, c.in_ok-place.ensures.next);
       bound = omega (arith, less, here, c.list.invariant.bound);
+      arrays = λ g. ap (λ r. in_function r g) c.in_ok-enter.ensures ∙ (in-another (arrays_of c.list.arrays) f g ∙ c.list.invariant.arrays g);
     }
 
 pub returns : goal.returns

@@ -4,7 +4,7 @@ use Rattle.cv_syntax.specs.Tree.{tree_at}
 use Rattle.cv_syntax.specs.Walks.{above as rank}
 use Rattle.cv_syntax.proofs.Walking.{above-child, above-some, size-at, size-end}
 use Rattle.cv_typing.specs.Lookups.{signature_in, want_of}
-use Rattle.cv_typing.specs.Tables.{above_of, without}
+use Rattle.cv_typing.specs.Tables.{above_of, restored}
 use Rattle.cv_typing.specs.Wants.{with_names}
 use Rattle.cv_typing.proofs.Steps.{fault-end, fault-parts, names-bound, none-bound, refused-as, refused-first, refused-here, skip-two}
 use Rattle.cv_typing.proofs.Walks.{child-above, child-live, empty-at, node-at}
@@ -82,7 +82,7 @@ returns-then-binds-clause-next t c =
     omega (arith, s, c.tree.invariant.sum, c.weight-place.ensures.weight, c.in_ok-place.ensures.next, c.in_ok-next.ensures.next)
 
 pub returns-then-binds-clause-kept : goal.returns-then-binds-clause-kept
-returns-then-binds-clause-kept t c = c.unbind.ensures ∙ (ap₂ without c.in_ok-next.ensures.kept c.deref.ensures.value ∙ (c.in_ok-bound.ensures.back ∙ (c.in_ok-place.ensures.kept ∙ c.tree.invariant.kept)))
+returns-then-binds-clause-kept t c = c.in_ok-unbind.ensures ∙ (ap (λ f. restored f c.in_ok-bound.bound.items) c.in_ok-next.ensures.kept ∙ (c.in_ok-bound.ensures.back ∙ (c.in_ok-place.ensures.kept ∙ c.tree.invariant.kept)))
 
 pub tree-preserved : goal.tree-preserved
 tree-preserved t c =
