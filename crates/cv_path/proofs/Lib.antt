@@ -1,4 +1,3 @@
 pub mod Bounds
 pub mod Going
 pub mod Products
-mod Sames

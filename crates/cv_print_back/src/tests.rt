@@ -42,11 +42,30 @@ fn a_game_comes_back(rt: HostRuntime) -> Result<(), Fail> {
     let found = tokens_in(&rt, alloc, &text)?;
     let names = work.names.len();
     assert!(rt; names < 4_000_000_000);
-    assert!(rt; first.root.0 < work.pool.live());
+    let live = work.pool.live();
     let second = game(alloc, &mut work, &found)?;
-    assert!(rt; first.root.0 < work.pool.live());
-    assert!(rt; work.pool.same(first.root, second.root));
+    assert_eq!(rt; second.root, first.root);
+    assert_eq!(rt; work.pool.live(), live);
     assert_eq!(rt; work.names.len(), names);
+    Ok(())
+}
+
+#[test]
+fn a_game_goes_again(rt: HostRuntime) -> Result<(), Fail> {
+    let alloc = rt.alloc();
+    let (mut work, first) = read_file(&rt, alloc, EACH_CONSTRUCT)?;
+    let text = game_text(alloc, &work.pool, &work.names, first.root)?;
+    let live = work.pool.live();
+    let mark = work.pool.mark();
+    let found = tokens_in(&rt, alloc, b"in(c, ()); out(d, (k)); 0")?;
+    assert!(rt; work.names.len() < 4_000_000_000);
+    game(alloc, &mut work, &found)?;
+    assert!(rt; live < work.pool.live());
+    work.pool.release(mark);
+    assert_eq!(rt; work.pool.live(), live);
+    assert!(rt; first.root.0 < work.pool.live());
+    let again = game_text(alloc, &work.pool, &work.names, first.root)?;
+    assert!(rt; again.as_slice() == text.as_slice());
     Ok(())
 }
 

@@ -43,6 +43,8 @@ fn two_trees_are_planted(rt: HostRuntime) -> Result<(), Fail> {
         ids.as_slice(),
         [Some(NodeId(1)), Some(NodeId(2))].as_slice()
     );
+    let again = plant(rt.alloc(), &mut pool, &makes)?;
+    assert_eq!(rt; again.as_slice(), ids.as_slice());
     assert_eq!(rt; pool.live(), 3);
     Ok(())
 }

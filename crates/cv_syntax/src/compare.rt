@@ -2,11 +2,11 @@ ghost use Rattle.std.specs.Prelude.{◌≡◌, length};
 ghost use Rattle.cv_pool.specs.Nodes.{ChildBelow};
 ghost use Rattle.cv_syntax.specs.Tree.{same_tree, tree_at};
 
+use crate::children::is_empty;
+use crate::open::read_node;
 use cv_pool::{NodeId, Pool};
-use cv_syntax::children::is_empty;
-use cv_syntax::read_node;
 
-/// Whether two nodes stand for one tree of the calculus.
+/// Whether two nodes stand for one tree of the calculus. A node is not compared with itself.
 #[tactic(auto, using(crate::proofs::Sames::sames))]
 pub fn same(pool: &Pool, left: Option<NodeId>, right: Option<NodeId>) -> bool
     requires left { ChildBelow (length pool.now.trees) left }
@@ -20,6 +20,9 @@ pub fn same(pool: &Pool, left: Option<NodeId>, right: Option<NodeId>) -> bool
         let Some(n) = q else {
             return false;
         };
+        if m == n {
+            return true;
+        }
         let y = read_node(pool, n);
         if x.head.kind() != y.head.kind() {
             return false;

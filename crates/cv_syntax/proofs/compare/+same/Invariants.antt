@@ -2,7 +2,7 @@ use Rattle.std.proofs.Common.{◌≡◌, ◌≤◌, length}
 use Rattle.cv_pool.specs.Nodes.{ChildBelow}
 use Rattle.cv_syntax.specs.Tree.{same_tree, tree_at}
 use Rattle.cv_syntax.specs.Walks.{above}
-use Rattle.cv_path.proofs.equality.+same.Given as goal
+use Rattle.cv_syntax.proofs.compare.+same.Given as goal
 
 abbrev pub decreases-same : goal.decreases-same
 decreases-same l = above l.left
