@@ -9,8 +9,8 @@ use Rattle.cv_syntax.specs.Tree.{Tree}
 use Rattle.cv_meaning.specs.Advantage.{advantage}
 use Rattle.cv_meaning.specs.Chances.{Chance, AtMost, zero_chance}
 use Rattle.cv_meaning.specs.Interpretation.{Interpretation, setting_of}
-use Rattle.cv_meaning.specs.Runs.{Adversary}
 use Rattle.cv_meaning_chances.specs.Fractions.{HasTapes}
+use Rattle.cv_meaning.specs.Runs.{Adversary}
 use Rattle.cv_query_form.specs.Queries.{queries_in}
 use Rattle.cv_parse.specs.declared.error.ParseError.{ParseError}
 use Rattle.cv_parse.specs.declared.error.ParseError.TheVariants as parse
@@ -36,24 +36,20 @@ use Rattle.cv.specs.Values.{value_of}
 pub closed_some : (game q : Tree) → is_some (certificate game q) ≡ is_closed game q
 closed_some game q = certificate_some game q
 
--- a closed query, and a sum without terms
-abbrev pub IsClosedFor : Tree → Tree → List Term → Type 0
-IsClosedFor game q s = (is_closed game q ≡ true) × (s ≡ [])
-
--- verdicts on queries, of which each that is `Proved` is on a closed one
+-- verdicts on queries, of which each that is `Proved` is on a closed one, up to nothing
 abbrev pub AreSound : Tree → List Tree → List Verdict → Type 0
 AreSound game [] [] = Unit {0}
-AreSound game (q ∷ qs) (v ∷ vs) = ((s : List Term) → v ≡ Proved s → IsClosedFor game q s) × AreSound game qs vs
+AreSound game (q ∷ qs) (v ∷ vs) = ((s : List Term) → v ≡ Proved s → (is_closed game q ≡ true) × (s ≡ [])) × AreSound game qs vs
 AreSound game _ _ = ⊥
 
-one_verdict : (game : Tree) (s : Said) (q : Tree) → (v : Verdict) × ((said_then s (certificate game q)).verdicts ≡ s.verdicts ++ v ∷ []) × ((x : List Term) → v ≡ Proved x → IsClosedFor game q x)
+one_verdict : (game : Tree) (s : Said) (q : Tree) → (v : Verdict) × ((said_then s (certificate game q)).verdicts ≡ s.verdicts ++ v ∷ []) × ((x : List Term) → v ≡ Proved x → (is_closed game q ≡ true) × (x ≡ []))
 one_verdict game s q = go (certificate game q) refl
   where
-    closed : (es : List EntryTree) → certificate game q ≡ Some es → (b : Bool) → (v : Verdict) × ((cond b (record s { steps = s.steps ++ step_of (length s.verdicts + 1) es ∷ []; verdicts = s.verdicts ++ Proved [] ∷ [] }) (record s { verdicts = s.verdicts ++ NotProved ∷ []; full = true })).verdicts ≡ s.verdicts ++ v ∷ []) × ((x : List Term) → v ≡ Proved x → IsClosedFor game q x)
-    closed es e true = (Proved [], refl, λ x h. let none : ◌≡◌ {A = List Term} [] x = cc in (sym (closed_some game q) ∙ ap is_some e, sym none))
+    closed : (es : List EntryTree) → certificate game q ≡ Some es → (b : Bool) → (v : Verdict) × ((cond b (record s { steps = s.steps ++ step_of (length s.verdicts + 1) es ∷ []; verdicts = s.verdicts ++ Proved [] ∷ [] }) (record s { verdicts = s.verdicts ++ NotProved ∷ []; full = true })).verdicts ≡ s.verdicts ++ v ∷ []) × ((x : List Term) → v ≡ Proved x → (is_closed game q ≡ true) × (x ≡ []))
+    closed es e true = (Proved [], refl, λ x h. (sym (closed_some game q) ∙ ap is_some e, let same : [] ≡ x = cc in sym same))
     closed es e false = (NotProved, refl, λ x h. absurd (cc))
 
-    go : (c : Option (List EntryTree)) → certificate game q ≡ c → (v : Verdict) × ((said_then s c).verdicts ≡ s.verdicts ++ v ∷ []) × ((x : List Term) → v ≡ Proved x → IsClosedFor game q x)
+    go : (c : Option (List EntryTree)) → certificate game q ≡ c → (v : Verdict) × ((said_then s c).verdicts ≡ s.verdicts ++ v ∷ []) × ((x : List Term) → v ≡ Proved x → (is_closed game q ≡ true) × (x ≡ []))
     go None e = (NotProved, refl, λ x h. absurd (cc))
     go (Some es) e = closed es e (nat_lt (length s.steps) most_steps)
 
@@ -65,13 +61,13 @@ said_sound game s (q ∷ qs) =
     let more = said_sound game (said_then s (certificate game q)) qs in
     (one.0 ∷ more.0, more.1 ∙ (ap (λ l. l ++ more.0) one.1 ∙ append_assoc s.verdicts (one.0 ∷ []) more.0), (one.2, more.2))
 
-sound_in : (game : Tree) (qs : List Tree) (vs : List Verdict) → AreSound game qs vs → (k : ℕ) (query : Tree) (s : List Term) → slice_get qs k ≡ Some query → slice_get vs k ≡ Some (Proved s) → IsClosedFor game query s
+sound_in : (game : Tree) (qs : List Tree) (vs : List Verdict) → AreSound game qs vs → (k : ℕ) (query : Tree) (s : List Term) → slice_get qs k ≡ Some query → slice_get vs k ≡ Some (Proved s) → (is_closed game query ≡ true) × (s ≡ [])
 sound_in game [] vs h k query s e f = absurd (cc)
 sound_in game (q ∷ qs) [] h k query s e f = absurd h
 sound_in game (q ∷ qs) (v ∷ vs) h zero query s e f = let same : q ≡ query = cc in let said : v ≡ Proved s = cc in let found = h.0 s said in (ap (is_closed game) (sym same) ∙ found.0, found.1)
 sound_in game (q ∷ qs) (v ∷ vs) h (suc k) query s e f = sound_in game qs vs h.1 k query s e f
 
--- where the verdict on a query is `Proved`, it holds up to the sum
+-- where the verdict on a query is `Proved`, the query holds up to the sum
 abbrev pub IsSoundFor : Content → List Verdict → Type 0
 IsSoundFor c vs = (k : ℕ) (query : Tree) (s : List Term) → slice_get (queries_in c.declarations) k ≡ Some query → slice_get vs k ≡ Some (Proved s) → HoldsUpTo c.declarations [] c.game query s
 
@@ -82,14 +78,14 @@ at_most_any p q h =
     let left : p.good * q.all ≡ 0 = ap (λ n. n * q.all) none ∙ (let e : 0 * q.all ≡ 0 = omega arith in e) in
     omega (arith, left)
 
--- the value of a sum without terms has a tape
-one_tape : (ds : List Declaration) (query : Tree) (i : Interpretation) (a : Adversary) (s : List Term) → s ≡ [] → HasTapes (value_of ds i [] query a s)
-one_tape ds query i a s e = subst (λ r. HasTapes (value_of ds i [] query a r)) (sym e) (let one : 0 < 1 = omega arith in one)
+-- a sum without terms has the value zero, of one tape
+no_terms : (ds : List Declaration) (i : Interpretation) (query : Tree) (a : Adversary) (s : List Term) → s ≡ [] → HasTapes (value_of ds i [] query a s)
+no_terms ds i query a s e = subst (λ (x : List Term). HasTapes (value_of ds i [] query a x)) (sym e) (omega arith)
 
 pub sound_at : (ds : List Declaration) (game : Tree) (qs : List Tree) (vs : List Verdict) → IsWellFormed ds game → AreSound game qs vs → (k : ℕ) (query : Tree) (s : List Term) → slice_get qs k ≡ Some query → slice_get vs k ≡ Some (Proved s) → HoldsUpTo ds [] game query s
 sound_at ds game qs vs w v k query s e h i sat a =
     let found = sound_in game qs vs v k query s e h in
-    (one_tape ds query i a s found.1, at_most_any (advantage (setting_of ds i) query a game) (value_of ds i [] query a s) (no_advantage ds game query w found.0 i a))
+    (no_terms ds i query a s found.1, at_most_any (advantage (setting_of ds i) query a game) (value_of ds i [] query a s) (no_advantage ds game query w found.0 i a))
 
 -- statuses
 
