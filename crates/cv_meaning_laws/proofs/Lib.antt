@@ -1,4 +1,5 @@
 pub mod Agreeing
+pub mod Asked
 pub mod Counts
 pub mod Declared
 pub mod Fractions

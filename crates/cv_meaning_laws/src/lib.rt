@@ -14,13 +14,13 @@ ghost use Rattle.cv_meaning.specs.Candidates.{candidates};
 ghost use Rattle.cv_meaning.specs.Inputs.{inputs_of};
 ghost use Rattle.cv_meaning_laws.specs.Agreement.{AgreeOn};
 ghost use Rattle.cv_meaning.specs.Satisfies.{Satisfies};
-ghost use Rattle.cv_meaning.specs.Runs.{Adversary, Mode, Real, Random, State};
+ghost use Rattle.cv_meaning.specs.Runs.{Adversary, Events, Mode, Real, Random, State};
 ghost use Rattle.cv_meaning.specs.Consulted.{consulted, IsListed};
 ghost use Rattle.cv_meaning.specs.Cells.{cells};
 ghost use Rattle.cv_meaning.specs.Experiments.{Experiment, Guesses, holds_in, visits_of_run};
 ghost use Rattle.cv_meaning.specs.Correspondences.{Correspondence, RightEvent, broken, correspondence_of};
 ghost use Rattle.cv_meaning.specs.Chances.{IsFraction};
-ghost use Rattle.cv_meaning.specs.Advantage.{advantage, chance_of};
+ghost use Rattle.cv_meaning.specs.Advantage.{IsAsked, advantage, chance_of};
 ghost use Rattle.cv_meaning.specs.Direct.{IsPlainlyDirect, is_unbound, plainly_covered};
 ghost use Rattle.cv_syntax.specs.Builders.{leaf};
 ghost use Rattle.cv_meaning_laws.specs.Worked.{sized, adversary, colliding_game, game_after_collision, never_query, sends_twice, choosing_game, calls_copy, own_index_game, calls_once, two_events_game, authentication_query, some_query, later_game, replay_game, replays, compares, sessions_game, tests_sessions, data_file, declared_file, with_function, interpretation_of_file, context_game, context_setting, constant_query};
@@ -136,6 +136,15 @@ pub fn worked_secrecy()
         (adversary 5 (tests_sessions 0)) sessions_game ≡ record { good = 0; all = 16 } }
     ensures secret { advantage (sized 2 2 1) (lone (Secret 4))
         (adversary 5 (tests_sessions 1)) sessions_game ≡ record { good = 0; all = 256 } }
+{}
+
+/// A query of secrecy asks for the real and the random experiment of its variable, in its own form, and no
+/// query asks for guesses in the mode of events.
+pub fn worked_experiments()
+    ensures real { (x : ℕ) → IsAsked (lone (Secret x) ∷ []) (Guesses (Real false x)) }
+    ensures random { (x : ℕ) → IsAsked (lone (Secret x) ∷ []) (Guesses (Random false x)) }
+    ensures other_form { (x : ℕ) → ¬ IsAsked (lone (Secret x) ∷ []) (Guesses (Real true x)) }
+    ensures events { (queries : List Tree) → ¬ IsAsked queries (Guesses Events) }
 {}
 
 /// A call is answered by the side, from the key at the call's key tuple and a cell of the call.
