@@ -105,4 +105,3 @@ status_told game qs =
     let t = all_tells game nothing_said qs in
     by_tests _ _ _ _ t.full (t.proved ∙ ap (λ b. b && not (list_any (lacks_step game) (zip qs t.added))) (sym t.all))
     ∙ ap (status_for game qs) (sym t.verdicts)
-

@@ -107,8 +107,8 @@ placed-again cells c m i h =
     let p = subst (IsPlacedBy cells m r.0) r.3 (i r.0 r.1 r.2) in
     let l = below-length cells r.0 r.1 r.2 in
     placed-more cells (Some c) m i (λ d e.
-        let s : c ≡ d = cc in
-        subst (λ (y : NodeId). IsPlacedBy (cells ++ Some c ∷ []) m (length cells) y.0) s (record { place = p.place; node = p.node; known = p.known; before = omega (arith, p.before, l); there = at-front cells (Some c) p.place p.node p.there; same = p.same }))
+    let s : c ≡ d = cc in
+    subst (λ (y : NodeId). IsPlacedBy (cells ++ Some c ∷ []) m (length cells) y.0) s (record { place = p.place; node = p.node; known = p.known; before = omega (arith, p.before, l); there = at-front cells (Some c) p.place p.node p.there; same = p.same }))
 
 -- a node with a new number
 pub placed-new : (cells : Cells) (c : NodeId) (m : MapFrom ℕ ℕ) → AreNumbersPlaced cells m → get nat_eq m c.0 ≡ Some (length cells) → AreNumbersPlaced (cells ++ Some c ∷ []) m

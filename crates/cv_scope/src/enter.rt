@@ -71,11 +71,7 @@ impl State {
     }
 
     /// Lists a cell.
-    fn list_one(
-        &mut self,
-        pool: &Pool,
-        cell: Option<NodeId>,
-    ) -> Result<(), AllocError>
+    fn list_one(&mut self, pool: &Pool, cell: Option<NodeId>) -> Result<(), AllocError>
         requires cell { ChildBelow (length pool.now.trees) cell }
         requires listed { AreListed pool.now.trees self.old.listed }
         ensures { OnOk result (ListsOnly pool.now.trees self.old self.new (tree_at pool.now.trees cell ∷ [])) }
@@ -84,11 +80,7 @@ impl State {
     }
 
     /// Lists the cells of a list.
-    fn list_all(
-        &mut self,
-        pool: &Pool,
-        list: Option<NodeId>,
-    ) -> Result<(), AllocError>
+    fn list_all(&mut self, pool: &Pool, list: Option<NodeId>) -> Result<(), AllocError>
         requires list { ChildBelow (length pool.now.trees) list }
         requires listed { AreListed pool.now.trees self.old.listed }
         ensures { OnOk result (ListsOnly pool.now.trees self.old self.new (items (tree_at pool.now.trees list))) }

@@ -58,7 +58,7 @@ impl Listed {
             return false;
         };
         match self.at(k) {
-            Some(there) => there == node,
+            Some(there) => there.0 == node.0,
             None => false,
         }
     }

@@ -41,9 +41,7 @@ pub fn walk(
     let mut at = tree;
     'tree: while let Some(k) = at {
         let node = read_node(pool, k);
-        if let Some(fault) = node_fault(
-            alloc, state, pool, names, here, place, k, node,
-        )? {
+        if let Some(fault) = node_fault(alloc, state, pool, names, here, place, k, node)? {
             return Err(fault.at(place));
         }
         let first = place + node.head.weight();
