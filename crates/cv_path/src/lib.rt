@@ -14,6 +14,3 @@ pub use laws::{places_are_below_the_size, worked_copies};
 pub use place::{Lies, at, place_in};
 pub use product::Product;
 pub use replacing::replace;
-
-#[cfg(test)]
-mod tests;

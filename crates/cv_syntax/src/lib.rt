@@ -24,6 +24,3 @@ pub use open::{Opened, read_node};
 pub use planting::plant;
 pub use walk::{child, depth, size};
 pub use work::{BuildError, File, Game, Work};
-
-#[cfg(test)]
-mod tests;

@@ -1,6 +1,6 @@
 ghost use Rattle.std.specs.Prelude.{◌≡◌};
 
-use super::*;
+use cv_pool::{Kind, Pool, PoolError};
 use std::test::Fail;
 
 fn leaf(a: u32) -> Kind
@@ -26,7 +26,7 @@ fn a_pool_keeps_its_limit(rt: HostRuntime) -> Result<(), Fail> {
 }
 
 #[test]
-#[tactic(auto, using(crate::proofs::Growth::growth))]
+#[tactic(auto, using(cv_pool::proofs::Growth::growth))]
 fn each_tree_has_one_node(rt: HostRuntime) -> Result<(), Fail> {
     let mut pool = Pool::new(rt.alloc(), 9);
     pool.reserve(2)?;

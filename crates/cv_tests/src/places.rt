@@ -1,4 +1,4 @@
-use crate::{PathError, at, replace};
+use cv_path::{PathError, at, replace};
 use cv_pool::{NodeId, Pool};
 use cv_syntax::children::room_left;
 use cv_syntax::{BuildError, Head};

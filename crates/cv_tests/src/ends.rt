@@ -1,4 +1,6 @@
-use crate::{FetchError, FileShelf, MemShelf, MemSink, PutError, Shelf, Sink, SureShelf, SureSink};
+use cv_outside::{
+    FetchError, FileShelf, MemShelf, MemSink, PutError, Shelf, Sink, SureShelf, SureSink,
+};
 use std::alloc::{AllocError, Global};
 use std::fs;
 use std::test::Fail;

@@ -1,9 +1,7 @@
 ghost use Rattle.std.specs.Prelude.{◌≡◌, ◌+◌, ◌≤◌, sum_by, IfOk, IfSome};
 ghost use Rattle.cv_bound.specs.Sums.{coefficients, terms_of};
 
-use crate::cost::{Collision, Collisions, Cost, Factors};
-use crate::sum::Sum;
-use crate::text::listed_text;
+use cv_bound::{Collision, Collisions, Cost, Factors, Sum, listed_text};
 use cv_syntax::{NameId, Names};
 use std::alloc::Global;
 use std::test::Fail;
@@ -68,7 +66,7 @@ fn total_of(list: &[Collision]) -> Option<u64>
 }
 
 /// How much collisions add to the coefficients of a sum, where that has at most 64 bits.
-#[tactic(auto, using(crate::proofs::Coefficients::counts))]
+#[tactic(auto, using(cv_bound::proofs::Coefficients::counts))]
 fn bound_of(list: &[Collision], secrecy: bool) -> Option<u64>
     ensures { IfSome result (λ n. coefficients (terms_of (Cost.Collisions list.now) secrecy) ≡ n) }
 {
@@ -122,7 +120,7 @@ impl Draft {
         Ok(())
     }
 
-    #[tactic(auto, using(crate::proofs::Coefficients::counts))]
+    #[tactic(auto, using(cv_bound::proofs::Coefficients::counts))]
     fn advantage(&mut self, step: u32, secrecy: bool) -> Result<(), Fail> {
         self.add(&Cost::Advantage { step, equiv: UF }, 0, secrecy)
     }
