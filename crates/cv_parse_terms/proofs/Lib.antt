@@ -8,3 +8,4 @@ pub mod Tails
 pub mod Begins
 pub mod Nodes
 pub mod Listing
+pub mod Passing
