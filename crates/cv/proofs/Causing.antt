@@ -1,17 +1,20 @@
 -- What each answer about bytes comes from.
-use Rattle.std.proofs.Common.{◌≡◌, ℕ, suc, ◌+◌, ◌<◌, ◌≤◌, nat_lt, Bool, true, false, if◌then◌else◌, List, [], ◌∷◌, ◌++◌, length, length-append, refl, ap, sym, ◌∙◌, subst, arith, Option, Some, None, is_some, Result, Ok, Err}
+use Rattle.std.proofs.Common.{◌≡◌, ℕ, suc, ◌+◌, ◌<◌, ◌≤◌, nat_lt, Bool, true, false, if◌then◌else◌, List, [], ◌∷◌, ◌++◌, length, length-append, refl, ap, sym, ◌∙◌, subst, arith, Option, Some, None, is_some, Result, Ok, Err, ◌⊎◌, inl, inr}
 use Rattle.std.proofs.lemmas.Bool.Decides.{nat_tests}
+use Rattle.std.specs.List.{list_all, list_any, zip}
+use Rattle.std.specs.Prelude.{IfSome}
 use Rattle.cv_lex.specs.declared.LexError.{LexError}
 use Rattle.cv_lex.specs.Lexis.{Token, tokens_of}
 use Rattle.cv_parse_terminals.specs.Signs.{signs_of}
 use Rattle.cv_parse_notation.specs.declared.sign.Sign.{Sign}
+use Rattle.cv_parse_grammar.specs.Names as names
 use Rattle.cv_syntax.specs.declared.work.BuildError.{BuildError}
 use Rattle.cv_syntax.specs.declared.work.BuildError.TheVariants as build
 use Rattle.cv_syntax.specs.Tree.{Tree}
 use Rattle.cv_parse.specs.declared.error.ParseError.{ParseError}
 use Rattle.cv_parse.specs.declared.error.ParseError.TheVariants as parse
 use Rattle.cv_parse.specs.Parsed.{Parsed, parsed}
-use Rattle.cv_parse.specs.Says.{HasWeight, IsLarge}
+use Rattle.cv_parse.specs.Says.{HasDepth, HasNodes, HasWeight, IsDead, IsLarge, IsMisnamedAt}
 use Rattle.cv_parse.proofs.Exactness.{dead_token, deep_game, deep_token, heavy_trees, large_game, said_is_saying, twice_named, unknown_name}
 use Rattle.cv_syntax.specs.Declarations.{Declaration}
 use Rattle.cv_typing.specs.declared.fault.Fault.{Fault}
@@ -30,21 +33,26 @@ use Rattle.cv_query_form.specs.Queries.{queries_in}
 use Rattle.cv_query_form.proofs.First.{finds-first as first_refused_is_first}
 use Rattle.cv_accept.specs.declared.error.FileError.{FileError}
 use Rattle.cv_accept.specs.declared.error.FileError.TheVariants as fault
-use Rattle.cv_accept.specs.Accepted.{Content, has_equivalence, of_equivalences, of_parsed, of_queries, of_scopes, of_script, of_tokens, of_types, query_fault, read_of, scope_fault, type_fault}
+use Rattle.cv_accept.specs.Accepted.{Content, Refuses, has_equivalence, of_equivalences, of_parsed, of_queries, of_scopes, of_script, of_tokens, of_types, query_fault, read_of, scope_fault, type_fault}
 use Rattle.cv_accept.specs.Places.{nodes_before}
+use Rattle.cv_accept.specs.Works.{content_at}
 use Rattle.cv_accept.proofs.Places.{behind_none, behind_some}
 use Rattle.cv_accept.proofs.Readings.{read_is_file}
 use Rattle.cv_query_direct.specs.Search.{EntryTree}
 use Rattle.cv_query_direct.specs.Certificates.{step_of}
-use Rattle.cv_report.specs.declared.report.FileFault.{FileFault}
-use Rattle.cv_report.specs.declared.report.FileFault.TheVariants.{Lex, Parse}
-use Rattle.cv_report.specs.declared.report.Status.{Status}
+use Rattle.cv_report.specs.declared.report.Cause.TheVariants.{Stuck}
+use Rattle.cv_report.specs.declared.report.Report.{Report}
 use Rattle.cv_report.specs.declared.report.Status.TheVariants as status
 use Rattle.cv_report.specs.declared.report.Verdict.TheVariants.{Proved, NotProved}
-use Rattle.cv_report.specs.declared.report.Which.TheVariants.{Depth, Nodes, Pool}
-use Rattle.cv.specs.Causes.{Caused, HasManyClosed, HasQueryFault, HasScopeFault, HasTypeFault, IsTooDeep, OfTokens, closed_count}
+use Rattle.cv_report.specs.declared.report.Which.TheVariants.{Steps}
+use Rattle.cv_syntax.specs.declared.work.File.{File}
+use Rattle.cv.specs.Causes.{ComesFrom, HasEquivalence, HasManyClosed, HasProofBlock, HasQueryFault, HasQueryWithoutStep, HasScopeFault, HasTypeFault, IsTooDeep, OfTokens, Outside, closed_count}
+use Rattle.cv.specs.Causes as cause
+use Rattle.cv.specs.Faults.{parse_ended, status_of as ended_by}
+use Rattle.cv.specs.Words.{AreTold}
 use Rattle.cv_query_direct.specs.Plain.{certificate}
-use Rattle.cv.specs.Strategy.{Judged, Said, expected, is_closed, left_open, most_pool, most_steps, nothing_said, said_of, said_then, status_by, status_of}
+use Rattle.cv.specs.Strategy.{FollowsStrategy, Said, declared_in, game_in, is_closed, is_proved, lacks_step, left_open, most_pool, most_steps, nothing_said, said_of, said_then}
+use Rattle.cv.proofs.Telling.{full_told}
 use Rattle.cv.proofs.Verdicts.{closed_some}
 
 -- bytes that are refused
@@ -173,6 +181,33 @@ query_cause names signs p k e i =
       first = first_refused_is_first p.game (queries_in p.declarations) k (by_queries names p (query_fault p) k v.1);
     }
 
+-- parts that aren't read yet
+
+queries_are_built : (names : List (List ℕ)) (p : Parsed) (o : Option ℕ) → of_queries names p o ≡ Err fault.Unbuilt → ⊥
+queries_are_built names p None e = cc
+queries_are_built names p (Some k) e = cc
+
+unbuilt_cause : (names : List (List ℕ)) (signs : List Sign) (p : Parsed) → parsed most_pool signs ≡ Ok p → of_script names p p.script ≡ Err fault.Unbuilt → HasProofBlock signs ⊎ HasEquivalence signs
+unbuilt_cause names signs p e i = go p.script refl i
+  where
+    with_equivalence : p.script ≡ None → (type_fault p ≡ None) → (scope_fault p ≡ None) → (b : Bool) → has_equivalence p.declarations ≡ b → of_equivalences names p b ≡ Err fault.Unbuilt → HasProofBlock signs ⊎ HasEquivalence signs
+    with_equivalence n t s true h j = inr (record {
+      said = p;
+      says = said_is_saying most_pool signs p e;
+      no_script = n;
+      typed = parts_typed_where_none p.declarations 0 (file_parts p.declarations p.game) t;
+      scoped = scoped_where_none (names_of p.declarations p.game) at_root p.game (behind_none (nodes_before p.declarations) (first_scope_fault p.declarations p.game) s);
+      equivalence = h;
+    })
+    with_equivalence n t s false h j = absurd (queries_are_built names p (query_fault p) j)
+
+    go : (s : Option (ℕ × ℕ)) → p.script ≡ s → of_script names p s ≡ Err fault.Unbuilt → HasProofBlock signs ⊎ HasEquivalence signs
+    go None n j =
+        let t = past_types names p (type_fault p) fault.Unbuilt (omega arith) j in
+        let u = past_scopes names p (scope_fault p) fault.Unbuilt (omega arith) t.1 in
+        with_equivalence n t.0 u.0 (has_equivalence p.declarations) refl u.1
+    go (Some s) n j = inl (record { said = p; says = said_is_saying most_pool signs p e; script = ap is_some n })
+
 -- a refusal of what tokens say comes from the tokens of the bytes
 
 abbrev of_file : (x : FileError) (Holds : List Sign → Type 0) → 2 ≤ rank x → Type 0
@@ -248,48 +283,53 @@ unfolding said_of
 full_many game s [] f e = absurd (let g : false ≡ true = sym f ∙ e in cc)
 full_many game s (q ∷ qs) f e = full_next game s q qs f (λ t g h. full_many game t qs g h) (certificate game q) refl e
 
-by_steps : (bytes : List ℕ) (f a : Bool) → (f ≡ true → HasManyClosed bytes) → Caused (status_by f a) bytes
-by_steps bytes true true h = h refl
-by_steps bytes true false h = h refl
-by_steps bytes false true h = tt
-by_steps bytes false false h = tt
+-- of told bytes this holds
+pub where_told : (told : Option (List ℕ)) (bytes : List ℕ) (P : List ℕ → Type 0) → AreTold told bytes → P bytes → IfSome told P
+where_told None bytes P a p = tt
+where_told (Some b) bytes P a p = subst P (sym a) p
 
--- the cause of what is expected
-caused_by : (bytes : List ℕ) (r : Result Content FileError) → read_of most_pool bytes ≡ r → Caused (expected r) bytes
-caused_by bytes (Ok c) e =
-    let s = said_of c.game nothing_said (queries_in c.declarations) in
-    by_steps bytes s.full s.all (λ f. record { content = c; file = read_is_file most_pool bytes c e; many = (let m = full_many c.game nothing_said (queries_in c.declarations) refl f in omega arith) })
-caused_by bytes (Err (fault.Lex x)) e = lexis_of bytes x e
-caused_by bytes (Err (fault.Parse (parse.Syntax k))) e = told bytes (parse.Syntax k) _ (λ signs i. dead_token most_pool signs k i) e
-caused_by bytes (Err (fault.Parse (parse.Nesting k))) e = told bytes (parse.Nesting k) _ (λ signs i. deep_at signs k i) e
-caused_by bytes (Err (fault.Parse (parse.NameTwice k))) e = told bytes (parse.NameTwice k) _ (λ signs i. twice_named most_pool signs k i) e
-caused_by bytes (Err (fault.Parse (parse.NameUnknown k))) e = told bytes (parse.NameUnknown k) _ (λ signs i. unknown_name most_pool signs k i) e
-caused_by bytes (Err (fault.Parse (parse.Build (build.Full n)))) e = told bytes (parse.Build (build.Full n)) _ (λ signs i. heavy_trees most_pool signs n i) e
-caused_by bytes (Err (fault.Parse (parse.Build (build.Nodes n)))) e = told bytes (parse.Build (build.Nodes n)) _ (λ signs i. large_game most_pool signs n i) e
-caused_by bytes (Err (fault.Parse (parse.Build (build.Depth n)))) e = told bytes (parse.Build (build.Depth n)) _ (λ signs i. deep_game most_pool signs n i) e
-caused_by bytes (Err (fault.Parse (parse.Build build.OutOfMemory))) e = tt
-caused_by bytes (Err (fault.Types x)) e = refused_later bytes (fault.Types x) (λ signs. HasTypeFault signs x) (omega arith) (λ names signs p i j. type_cause names signs p x i j) e
-caused_by bytes (Err (fault.Scope x)) e = refused_later bytes (fault.Scope x) (λ signs. HasScopeFault signs x) (omega arith) (λ names signs p i j. scope_cause names signs p x i j) e
-caused_by bytes (Err (fault.Query k)) e = refused_later bytes (fault.Query k) (λ signs. HasQueryFault signs k) (omega arith) (λ names signs p i j. query_cause names signs p k i j) e
-caused_by bytes (Err fault.Unbuilt) e = tt
-caused_by bytes (Err fault.OutOfMemory) e = tt
+-- the cause of a refusal
+pub refusal_cause : (o : Outside) (r : Report) (bytes : List ℕ) → AreTold o.told bytes → (x : FileError) → Refuses x (read_of most_pool bytes) → ComesFrom o r (ended_by x)
+refusal_cause o r bytes a x e = go x e
+  where
+    in_told : (P : List ℕ → Type 0) → P bytes → IfSome o.told P
+    in_told P p = where_told o.told bytes P a p
 
-by_expected : (s : Status) (bytes : List ℕ) → s ≡ expected (read_of most_pool bytes) → Caused s bytes
-by_expected s bytes e = subst (λ x. Caused x bytes) (sym e) (caused_by bytes (read_of most_pool bytes) refl)
+    parsing : (x : ParseError) → read_of most_pool bytes ≡ Err (fault.Parse x) → ComesFrom o r (parse_ended x)
+    parsing (parse.Syntax k) e = cause.syntax (in_told _ (told bytes (parse.Syntax k) (λ signs. IsDead signs k) (λ signs i. dead_token most_pool signs k i) e))
+    parsing (parse.Nesting k) e = cause.nesting (in_told _ (told bytes (parse.Nesting k) (λ signs. IsTooDeep signs k) (λ signs i. deep_at signs k i) e))
+    parsing (parse.NameTwice k) e = cause.name_twice (in_told _ (told bytes (parse.NameTwice k) (λ signs. IsMisnamedAt signs names.NameTwice k) (λ signs i. twice_named most_pool signs k i) e))
+    parsing (parse.NameUnknown k) e = cause.name_unknown (in_told _ (told bytes (parse.NameUnknown k) (λ signs. IsMisnamedAt signs names.NameUnknown k) (λ signs i. unknown_name most_pool signs k i) e))
+    parsing (parse.Build (build.Full n)) e =
+        let large = told bytes (parse.Build (build.Full n)) (λ signs. IsLarge signs (HasWeight most_pool n)) (λ signs i. heavy_trees most_pool signs n i) e in
+        cause.pool large.holds.large.0 (in_told _ large)
+    parsing (parse.Build (build.Nodes n)) e = cause.nodes (in_told _ (told bytes (parse.Build (build.Nodes n)) (λ signs. IsLarge signs (HasNodes n)) (λ signs i. large_game most_pool signs n i) e))
+    parsing (parse.Build (build.Depth n)) e = cause.deep (in_told _ (told bytes (parse.Build (build.Depth n)) (λ signs. IsLarge signs (HasDepth n)) (λ signs i. deep_game most_pool signs n i) e))
+    parsing (parse.Build build.OutOfMemory) e = cause.memory
 
-pub judged_caused : (s : Status) (bytes : List ℕ) → Judged s bytes → Caused s bytes
-judged_caused status.Memory bytes j = tt
-judged_caused status.Proved bytes j = tt
-judged_caused (status.Open cause) bytes j = tt
-judged_caused (status.FileRefused fault) bytes j = by_expected (status.FileRefused fault) bytes j
-judged_caused status.Words bytes j = tt
-judged_caused status.Read bytes j = tt
-judged_caused status.Write bytes j = tt
-judged_caused (status.Limit which) bytes j = by_expected (status.Limit which) bytes j
-judged_caused status.Unbuilt bytes j = tt
+    go : (x : FileError) → Refuses x (read_of most_pool bytes) → ComesFrom o r (ended_by x)
+    go (fault.Lex x) e = cause.no_tokens (in_told (λ (bs : List ℕ). tokens_of bs ≡ Err x) (lexis_of bytes x e))
+    go (fault.Parse x) e = parsing x e
+    go (fault.Types x) e = cause.types (in_told _ (refused_later bytes (fault.Types x) (λ signs. HasTypeFault signs x) (omega arith) (λ names signs p i j. type_cause names signs p x i j) e))
+    go (fault.Scope x) e = cause.scope (in_told _ (refused_later bytes (fault.Scope x) (λ signs. HasScopeFault signs x) (omega arith) (λ names signs p i j. scope_cause names signs p x i j) e))
+    go (fault.Query k) e = cause.query (in_told _ (refused_later bytes (fault.Query k) (λ signs. HasQueryFault signs k) (omega arith) (λ names signs p i j. query_cause names signs p k i j) e))
+    go fault.Unbuilt e = cause.unbuilt (in_told _ (refused_later bytes fault.Unbuilt (λ signs. HasProofBlock signs ⊎ HasEquivalence signs) (omega arith) (λ names signs p i j. unbuilt_cause names signs p i j) e))
+    go fault.OutOfMemory e = cause.memory
 
--- what the pool's limit was passed by
-pub pool_passed : (s : Status) (bytes : List ℕ) → Caused s bytes → (need : ℕ) → s ≡ status.Limit (Pool need) → most_pool < need
-pool_passed s bytes h need e =
-    let c : OfTokens bytes (λ signs. IsLarge signs (HasWeight most_pool need)) = subst (λ x. Caused x bytes) e h in
-    c.holds.large.0
+-- more queries are closed than there may be steps
+many_closed : (bytes : List ℕ) (c : Content) → read_of most_pool bytes ≡ Ok c → (said_of c.game nothing_said (queries_in c.declarations)).full ≡ true → HasManyClosed bytes
+many_closed bytes c e f = record { content = c; file = read_is_file most_pool bytes c e; many = (let m = full_many c.game nothing_said (queries_in c.declarations) refl f in omega arith) }
+
+-- the cause of what is said of a file that is read
+pub verdict_cause : (o : Outside) (r : Report) (f : File) (bytes : List ℕ) → AreTold o.told bytes → r.file ≡ Some f → FollowsStrategy r f → read_of most_pool bytes ≡ Ok (content_at r.work f.game.root) → ComesFrom o r r.status
+verdict_cause o r f bytes a s h e = subst (ComesFrom o r) (sym h.told) (go (list_all is_proved r.verdicts.items) refl (list_any (lacks_step (game_in r f)) (zip (queries_in (declared_in r)) r.verdicts.items)) refl)
+  where
+    there : (has : Bool) → HasQueryWithoutStep r f has → IfSome r.file (λ (g : File). HasQueryWithoutStep r g has)
+    there has l = subst (λ (x : Option File). IfSome x (λ (g : File). HasQueryWithoutStep r g has)) (sym s) l
+
+    go : (p : Bool) → list_all is_proved r.verdicts.items ≡ p → (l : Bool) → HasQueryWithoutStep r f l → ComesFrom o r (if p then status.Proved else (if l then status.Limit Steps else status.Open Stuck))
+    go true i l j = cause.all_proved i
+    go false i true j =
+        let full = full_told (game_in r f) (queries_in (declared_in r)) ∙ ap (λ vs. list_any (lacks_step (game_in r f)) (zip (queries_in (declared_in r)) vs)) (sym h.verdicts) ∙ j in
+        cause.steps (there true j) (where_told o.told bytes HasManyClosed a (many_closed bytes (content_at r.work f.game.root) e full))
+    go false i false j = cause.stuck i (there false j)

@@ -1,14 +1,35 @@
--- How a run over a good file ends.
-use Rattle.std.proofs.Common.{◌≡◌, ℕ, arith, refl, List, ap, sym, ◌∙◌, subst, ◌⊎◌, inl, inr}
-use Rattle.std.specs.Prelude.{◌≢◌}
-use Rattle.cv_accept.specs.Accepted.{read_of}
+-- How runs end.
+use Rattle.std.proofs.Common.{◌≡◌, ℕ, ◌<◌, ◌≤◌, arith, refl, Bool, true, false, List, length, Option, Some, None, Result, Ok, Err, ap, sym, ◌∙◌, subst, ◌⊎◌, inl, inr}
+use Rattle.std.specs.Prelude.{IfSome, IsNone, IsSome, MatchOption, slice_get, ◌≢◌}
+use Rattle.cv_outside.specs.Causes.{NoFault, Rose}
+use Rattle.cv_outside.specs.Told.{Files, bytes_of}
+use Rattle.cv_outside.specs.declared.shelf.FetchError.{FetchError}
+use Rattle.cv_outside.specs.declared.shelf.FetchError.TheVariants as fetch
+use Rattle.cv_syntax.specs.declared.work.BuildError.TheVariants as build
+use Rattle.cv_syntax.specs.declared.work.File.{File as SourceFile}
+use Rattle.cv_syntax.specs.Tree.{Tree}
+use Rattle.cv_bound.specs.declared.terms.Term.{Term}
+use Rattle.cv_parse.specs.declared.error.ParseError.TheVariants as parse
+use Rattle.cv_accept.specs.declared.error.FileError.{FileError}
+use Rattle.cv_accept.specs.declared.error.FileError.TheVariants as fault
+use Rattle.cv_accept.specs.Accepted.{Content, IsFile, Refuses, read_of}
+use Rattle.cv_accept.specs.Works.{content_at}
 use Rattle.cv_query_form.specs.Queries.{queries_in}
 use Rattle.cv_accept.proofs.Readings.{file_is_read}
 use Rattle.cv_report.specs.declared.report.Status.{Status}
 use Rattle.cv_report.specs.declared.report.Status.TheVariants as status
 use Rattle.cv_report.specs.declared.report.Which.TheVariants.{File, Nodes, Depth, Steps, Pool}
-use Rattle.cv.specs.Strategy.{nothing_said, expected, most_pool, Judged, IsGood, EndsWell}
-use Rattle.cv.proofs.Verdicts.{all_closed}
+use Rattle.cv_report.specs.declared.report.Report.{Report}
+use Rattle.cv_report.specs.declared.report.Verdict.TheVariants.{Proved}
+use Rattle.cv.specs.Answers.{Answers, IsComplete}
+use Rattle.cv.specs.Causes.{ComesFrom, Outside}
+use Rattle.cv.specs.Causes as cause
+use Rattle.cv.specs.Faults.{status_of as ended_by}
+use Rattle.cv.specs.Fetched.{fetch_ended}
+use Rattle.cv.specs.Strategy.{EndsWell, FollowsStrategy, HasFile, HoldsUpTo, IsGood, IsSound, Judged, Said, SaysNothing, SpeaksOfFile, contexts_in, declared_in, expected, game_in, most_bytes, most_pool, nothing_said, said_of, status_by, status_of}
+use Rattle.cv.specs.Words.{AreTold, bytes_named, bytes_under}
+use Rattle.cv.proofs.Causing.{where_told}
+use Rattle.cv.proofs.Verdicts.{all_closed, judged_fault}
 
 -- what is expected of a good file
 good_proved : (bytes : List ℕ) → IsGood bytes → expected (read_of most_pool bytes) ≡ status.Proved
@@ -29,15 +50,152 @@ judged_well status.Read bytes j e = absurd (let h = j ∙ e in cc)
 judged_well status.Write bytes j e = absurd (let h = j ∙ e in cc)
 judged_well status.Unbuilt bytes j e = absurd (let h = j ∙ e in cc)
 
-pub ends_well : (s r : Status) (bytes : List ℕ) → Judged r bytes → IsGood bytes → (s ≡ r) ⊎ (s ≡ status.Write) ⊎ (s ≡ status.Memory) → s ≢ status.Write → EndsWell s
-ends_well s r bytes j g (inl e) n = subst EndsWell (sym e) (judged_well r bytes j (good_proved bytes g))
-ends_well s r bytes j g (inr (inl e)) n = absurd (n e)
-ends_well s r bytes j g (inr (inr e)) n = subst EndsWell (sym e) tt
+pub ends_well : (s r : Status) (bytes : List ℕ) → IsComplete bytes r → IsGood bytes → (s ≡ r) ⊎ (s ≡ status.Write) → s ≢ status.Write → EndsWell s
+ends_well s r bytes c g (inl e) n = subst EndsWell (sym e) (judged_well r bytes (c.short g.short) (good_proved bytes g))
+ends_well s r bytes c g (inr e) n = absurd (n e)
 
--- a fault of writing is one of the sink
-pub not_written : (s r : Status) (Faulted : Type 0) → (s ≡ status.Write → (r ≡ status.Write) ⊎ Faulted) → r ≢ status.Write → (Faulted → ⊥) → s ≢ status.Write
-not_written s r Faulted h n f e = go (h e)
+-- what is said of told bytes
+pub judged_complete : (told : Option (List ℕ)) (bytes : List ℕ) (s : Status) → AreTold told bytes → length bytes ≤ most_bytes → Judged s bytes → IfSome told (λ (b : List ℕ). IsComplete b s)
+judged_complete told bytes s a l j = where_told told bytes (λ (b : List ℕ). IsComplete b s) a (record { short = λ k. j; long = λ k. absurd (let m : most_bytes < length bytes = k in omega arith) })
+
+-- what is read speaks of a file, unless memory ran out
+expected_speaks : (r : Result Content FileError) → (expected r ≡ status.Memory) ⊎ SpeaksOfFile (expected r)
+expected_speaks (Ok c) = of_said (said_of c.game nothing_said (queries_in c.declarations))
   where
-    go : (r ≡ status.Write) ⊎ Faulted → ⊥
-    go (inl w) = n w
-    go (inr w) = f w
+    by_tests : (full all : Bool) → (status_by full all ≡ status.Memory) ⊎ SpeaksOfFile (status_by full all)
+    by_tests true true = inr tt
+    by_tests true false = inr tt
+    by_tests false true = inr tt
+    by_tests false false = inr tt
+
+    of_said : (s : Said) → (status_of s ≡ status.Memory) ⊎ SpeaksOfFile (status_of s)
+    of_said s = by_tests s.full s.all
+expected_speaks (Err (fault.Lex x)) = inr tt
+expected_speaks (Err (fault.Parse (parse.Syntax k))) = inr tt
+expected_speaks (Err (fault.Parse (parse.Nesting k))) = inr tt
+expected_speaks (Err (fault.Parse (parse.NameTwice k))) = inr tt
+expected_speaks (Err (fault.Parse (parse.NameUnknown k))) = inr tt
+expected_speaks (Err (fault.Parse (parse.Build (build.Full n)))) = inr tt
+expected_speaks (Err (fault.Parse (parse.Build (build.Nodes n)))) = inr tt
+expected_speaks (Err (fault.Parse (parse.Build (build.Depth n)))) = inr tt
+expected_speaks (Err (fault.Parse (parse.Build build.OutOfMemory))) = inl refl
+expected_speaks (Err (fault.Types x)) = inr tt
+expected_speaks (Err (fault.Scope x)) = inr tt
+expected_speaks (Err (fault.Query k)) = inr tt
+expected_speaks (Err fault.Unbuilt) = inr tt
+expected_speaks (Err fault.OutOfMemory) = inl refl
+
+by_expected : (s : Status) (bytes : List ℕ) → s ≡ expected (read_of most_pool bytes) → (s ≡ status.Memory) ⊎ SpeaksOfFile s
+by_expected s bytes e = subst (λ x. (x ≡ status.Memory) ⊎ SpeaksOfFile x) (sym e) (expected_speaks (read_of most_pool bytes))
+
+pub judged_speaks : (s : Status) (bytes : List ℕ) → Judged s bytes → (s ≡ status.Memory) ⊎ SpeaksOfFile s
+judged_speaks status.Memory bytes j = inl refl
+judged_speaks status.Proved bytes j = by_expected status.Proved bytes j
+judged_speaks (status.Open c) bytes j = by_expected (status.Open c) bytes j
+judged_speaks (status.FileRefused f) bytes j = by_expected (status.FileRefused f) bytes j
+judged_speaks status.Words bytes j = by_expected status.Words bytes j
+judged_speaks status.Read bytes j = by_expected status.Read bytes j
+judged_speaks status.Write bytes j = by_expected status.Write bytes j
+judged_speaks (status.Limit w) bytes j = by_expected (status.Limit w) bytes j
+judged_speaks status.Unbuilt bytes j = by_expected status.Unbuilt bytes j
+
+-- neither Words nor Write
+pub speaks_never : (s : Status) → (s ≡ status.Memory) ⊎ SpeaksOfFile s → (s ≢ status.Words) × (s ≢ status.Write)
+speaks_never s (inl m) = (λ e. (let h = sym m ∙ e in cc), λ e. (let h = sym m ∙ e in cc))
+speaks_never s (inr h) = (λ e. subst SpeaksOfFile e h, λ e. subst SpeaksOfFile e h)
+
+-- reports without a file
+
+pub sound_without : (r : Report) → r.file ≡ None → IsSound r
+sound_without r e = subst (λ (o : Option SourceFile). IfSome o (λ f. (k : ℕ) (query : Tree) (s : List Term) → slice_get (queries_in (declared_in r)) k ≡ Some query → slice_get r.verdicts.items k ≡ Some (Proved s) → HoldsUpTo (declared_in r) (contexts_in r) (game_in r f) query s)) (sym e) tt
+
+pub answers_without : (told : Option (List ℕ)) (r : Report) → r.file ≡ None → SaysNothing r → (HasFile r.status → ⊥) → (SpeaksOfFile r.status → IfSome told (Judged r.status)) → Answers told r
+answers_without told r e n h j = record {
+  file = subst (λ (o : Option SourceFile). IfSome o (λ f. IfSome told (λ bytes. IsFile most_pool bytes (content_at r.work f.game.root)))) (sym e) tt;
+  follows = subst (λ (o : Option SourceFile). MatchOption o (SaysNothing r) (FollowsStrategy r)) (sym e) n;
+  given = (λ s. absurd (let t = subst (λ (o : Option SourceFile). IsSome o) e s in cc), λ s. absurd (h s));
+  judged = j;
+}
+
+pub memory_answers : (told : Option (List ℕ)) (r : Report) → r.file ≡ None → SaysNothing r → r.status ≡ status.Memory → Answers told r
+memory_answers told r e n s = answers_without told r e n (λ h. subst HasFile s h) (λ h. absurd (subst SpeaksOfFile s h))
+
+pub memory_cause : (o : Outside) (r : Report) → r.status ≡ status.Memory → ComesFrom o r r.status
+memory_cause o r s = subst (ComesFrom o r) (sym s) cause.memory
+
+pub ruleset without_file = (sound_without, memory_answers, memory_cause)
+
+-- bytes that are refused
+
+refusal_has_none : (x : FileError) → HasFile (ended_by x) → ⊥
+refusal_has_none (fault.Lex x) h = h
+refusal_has_none (fault.Parse (parse.Syntax k)) h = h
+refusal_has_none (fault.Parse (parse.Nesting k)) h = h
+refusal_has_none (fault.Parse (parse.NameTwice k)) h = h
+refusal_has_none (fault.Parse (parse.NameUnknown k)) h = h
+refusal_has_none (fault.Parse (parse.Build (build.Full n))) h = h
+refusal_has_none (fault.Parse (parse.Build (build.Nodes n))) h = h
+refusal_has_none (fault.Parse (parse.Build (build.Depth n))) h = h
+refusal_has_none (fault.Parse (parse.Build build.OutOfMemory)) h = h
+refusal_has_none (fault.Types x) h = h
+refusal_has_none (fault.Scope x) h = h
+refusal_has_none (fault.Query k) h = h
+refusal_has_none fault.Unbuilt h = h
+refusal_has_none fault.OutOfMemory h = h
+
+pub refusal_answers : (told : Option (List ℕ)) (r : Report) (bytes : List ℕ) (x : FileError) → AreTold told bytes → Refuses x (read_of most_pool bytes) → r.status ≡ ended_by x → r.file ≡ None → SaysNothing r → Answers told r
+refusal_answers told r bytes x a f s e n =
+    answers_without told r e n (λ h. refusal_has_none x (subst HasFile s h))
+    (λ h. where_told told bytes (Judged r.status) a (subst (λ y. Judged y bytes) (sym s) (judged_fault x bytes f)))
+
+-- a file that isn't fetched
+
+pub fetch_answers : (told : Option (List ℕ)) (r : Report) (x : FetchError) → r.status ≡ fetch_ended x → r.file ≡ None → SaysNothing r → Answers told r
+fetch_answers told r x s e n = answers_without told r e n (λ h. no_file x (subst HasFile s h)) (λ h. absurd (speaks_not x (subst SpeaksOfFile s h)))
+  where
+    no_file : (x : FetchError) → HasFile (fetch_ended x) → ⊥
+    no_file fetch.Failed h = h
+    no_file fetch.Long h = h
+    no_file fetch.OutOfMemory h = h
+
+    speaks_not : (x : FetchError) → SpeaksOfFile (fetch_ended x) → ⊥
+    speaks_not fetch.Failed h = h
+    speaks_not fetch.Long h = h
+    speaks_not fetch.OutOfMemory h = h
+
+pub fetch_cause : (o : Outside) (r : Report) (x : FetchError) → (x ≡ fetch.Failed → Rose o.before o.after) → (x ≡ fetch.Long → IfSome o.told (λ bytes. most_bytes < length bytes)) → ComesFrom o r (fetch_ended x)
+fetch_cause o r fetch.Failed f l = cause.read (f refl)
+fetch_cause o r fetch.Long f l = cause.long (l refl)
+fetch_cause o r fetch.OutOfMemory f l = cause.memory
+
+pub fetch_never : (x : FetchError) → (fetch_ended x ≢ status.Words) × (fetch_ended x ≢ status.Write)
+fetch_never fetch.Failed = (λ e. (cc), λ e. (cc))
+fetch_never fetch.Long = (λ e. (cc), λ e. (cc))
+fetch_never fetch.OutOfMemory = (λ e. (cc), λ e. (cc))
+
+pub fetch_complete : (told : Option (List ℕ)) (x : FetchError) (before after : ℕ) → (x ≡ fetch.Failed → Rose before after) → (x ≡ fetch.Long → IfSome told (λ bytes. most_bytes < length bytes)) → NoFault before after → IfSome told (λ (b : List ℕ). IsComplete b (fetch_ended x))
+fetch_complete None x before after f l n = tt
+fetch_complete (Some b) fetch.Failed before after f l n = absurd (n (f refl))
+fetch_complete (Some b) fetch.Long before after f l n = record { short = λ k. absurd (let m : most_bytes < length b = l refl in let j : length b ≤ most_bytes = k in omega arith); long = λ k. inl refl }
+fetch_complete (Some b) fetch.OutOfMemory before after f l n = record { short = λ k. tt; long = λ k. inr refl }
+
+-- told bytes under a name
+
+pub under_told : (told : Option Files) (name : List ℕ) (P : List ℕ → Type 0) → IfSome told (λ files. P (bytes_of files name)) → IfSome (bytes_under told name) P
+under_told None name P h = tt
+under_told (Some files) name P h = h
+
+pub fetched_told : (files : Option Files) (name slice items : List ℕ) → slice ≡ items → IfSome files (λ fs. items ≡ bytes_of fs name) → AreTold (bytes_under files name) slice
+fetched_told None name slice items e h = tt
+fetched_told (Some fs) name slice items e h = sym (e ∙ h)
+
+-- words that name no file
+
+pub words_answers : (told : Option (List ℕ)) (r : Report) → r.file ≡ None → SaysNothing r → r.status ≡ status.Words → Answers told r
+words_answers told r e n s = answers_without told r e n (λ h. subst HasFile s h) (λ h. absurd (subst SpeaksOfFile s h))
+
+pub words_cause : (o : Outside) (r : Report) → r.status ≡ status.Words → o.name ≡ None → ComesFrom o r r.status
+words_cause o r s e = subst (ComesFrom o r) (sym s) (cause.words (subst (λ (n : Option (List ℕ)). IsNone n) (sym e) refl))
+
+pub words_complete : (told : Option Files) (name : Option (List ℕ)) (P : List ℕ → Type 0) → name ≡ None → IfSome (bytes_named told name) P
+words_complete told name P e = subst (λ (n : Option (List ℕ)). IfSome (bytes_named told n) P) (sym e) tt

@@ -4,3 +4,4 @@ pub mod Growing
 pub mod Sayings
 pub mod Telling
 pub mod Verdicts
+pub mod Writing

@@ -105,3 +105,9 @@ status_told game qs =
     let t = all_tells game nothing_said qs in
     by_tests _ _ _ _ t.full (t.proved ∙ ap (λ b. b && not (list_any (lacks_step game) (zip qs t.added))) (sym t.all))
     ∙ ap (status_for game qs) (sym t.verdicts)
+
+-- whether steps ran out, by the verdicts
+pub full_told : (game : Tree) (qs : List Tree) → (said_of game nothing_said qs).full ≡ list_any (lacks_step game) (zip qs (said_of game nothing_said qs).verdicts)
+full_told game qs =
+    let t = all_tells game nothing_said qs in
+    t.full ∙ ap (λ vs. list_any (lacks_step game) (zip qs vs)) (sym t.verdicts)

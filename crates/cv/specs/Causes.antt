@@ -1,5 +1,9 @@
--- What each answer about bytes comes from.
-use Rattle.std.specs.Prelude.{◌≡◌, ℕ, suc, ◌+◌, ◌-◌, ◌<◌, false, if◌then◌else◌, List, [], ◌∷◌, length, None, Ok, Err}
+-- What each answer comes from.
+use Rattle.std.specs.Prelude.{◌≡◌, ℕ, suc, ◌+◌, ◌-◌, ◌<◌, ◌⊎◌, Bool, false, true, if◌then◌else◌, List, [], ◌∷◌, length, Option, None, Ok, Err, IfSome, IsNone, is_some}
+use Rattle.std.specs.List.{list_all, list_any, zip}
+use Rattle.cv_outside.specs.Causes.{Rose}
+use Rattle.cv_outside.specs.Told.{Files}
+use Rattle.cv_lex.specs.declared.LexError.{LexError}
 use Rattle.cv_lex.specs.Lexis.{Token, tokens_of}
 use Rattle.cv_parse_terminals.specs.Signs.{signs_of}
 use Rattle.cv_parse_notation.specs.declared.sign.Sign.{Sign}
@@ -19,13 +23,17 @@ use Rattle.cv_scope.specs.Scope.{IsFirstFault, IsScoped}
 use Rattle.cv_query_form.specs.Queries.{queries_in}
 use Rattle.cv_query_form.specs.Rules.{IsFirstRefused}
 use Rattle.cv_syntax.specs.Tree.{Tree}
+use Rattle.cv_syntax.specs.declared.work.File.{File}
 use Rattle.cv_accept.specs.Accepted.{Content, IsFile, has_equivalence}
 use Rattle.cv_accept.specs.Places.{nodes_before}
 use Rattle.cv_report.specs.declared.report.FileFault.TheVariants.{Lex, Parse, Types, Scope, Query}
+use Rattle.cv_report.specs.declared.report.Cause.TheVariants.{Stuck}
+use Rattle.cv_report.specs.declared.report.Report.{Report}
 use Rattle.cv_report.specs.declared.report.Status.{Status}
 use Rattle.cv_report.specs.declared.report.Status.TheVariants as status
-use Rattle.cv_report.specs.declared.report.Which.TheVariants.{Depth, Nodes, Pool, Steps}
-use Rattle.cv.specs.Strategy.{is_closed, most_pool, most_steps}
+use Rattle.cv_report.specs.declared.report.Which.TheVariants.{Depth, Nodes, Pool, Steps, File as FileLimit}
+use Rattle.cv.specs.Strategy.{declared_in, game_in, is_closed, is_proved, lacks_step, most_bytes, most_pool, most_steps}
+use Rattle.cv.specs.Words.{bytes_named}
 
 -- The bytes have tokens, of which this holds.
 pub record OfTokens (bytes : List ℕ) (Holds : List Sign → Type 0) : Type 0 where
@@ -74,24 +82,64 @@ pub record HasQueryFault (signs : List Sign) (k : ℕ) : Type 0 where
   pub no_equivalence : has_equivalence said.declarations ≡ false
   pub first : IsFirstRefused said.game (queries_in said.declarations) k
 
+-- The tokens are those of a file with a proof block.
+pub record HasProofBlock (signs : List Sign) : Type 0 where
+  pub said : Parsed
+  pub says : Says most_pool signs said
+  pub script : is_some said.script ≡ true
+
+-- The tokens are those of a typed and scoped file without a proof block that declares an equivalence.
+pub record HasEquivalence (signs : List Sign) : Type 0 where
+  pub said : Parsed
+  pub says : Says most_pool signs said
+  pub no_script : said.script ≡ None
+  pub typed : IsTypedFile said.declarations said.game
+  pub scoped : IsScoped said.declarations said.game
+  pub equivalence : has_equivalence said.declarations ≡ true
+
 -- A file has more queries that are closed than there may be steps.
 pub record HasManyClosed (bytes : List ℕ) : Type 0 where
   pub content : Content
   pub file : IsFile most_pool bytes content
   pub many : most_steps < closed_count content.game (queries_in content.declarations)
 
--- the cause of an answer that speaks of bytes that are refused, or of a limit
-abbrev pub Caused : Status → List ℕ → Type 0
-Caused (status.FileRefused (Lex e)) bytes = tokens_of bytes ≡ Err e
-Caused (status.FileRefused (Parse (Syntax token))) bytes = OfTokens bytes (λ signs. IsDead signs token)
-Caused (status.FileRefused (Parse (Nesting token))) bytes = OfTokens bytes (λ signs. IsTooDeep signs token)
-Caused (status.FileRefused (Parse (NameTwice token))) bytes = OfTokens bytes (λ signs. IsMisnamedAt signs names.NameTwice token)
-Caused (status.FileRefused (Parse (NameUnknown token))) bytes = OfTokens bytes (λ signs. IsMisnamedAt signs names.NameUnknown token)
-Caused (status.FileRefused (Types e)) bytes = OfTokens bytes (λ signs. HasTypeFault signs e)
-Caused (status.FileRefused (Scope e)) bytes = OfTokens bytes (λ signs. HasScopeFault signs e)
-Caused (status.FileRefused (Query k)) bytes = OfTokens bytes (λ signs. HasQueryFault signs k)
-Caused (status.Limit (Nodes count)) bytes = OfTokens bytes (λ signs. IsLarge signs (HasNodes count))
-Caused (status.Limit (Depth depth)) bytes = OfTokens bytes (λ signs. IsLarge signs (HasDepth depth))
-Caused (status.Limit (Pool need)) bytes = OfTokens bytes (λ signs. IsLarge signs (HasWeight most_pool need))
-Caused (status.Limit Steps) bytes = HasManyClosed bytes
-Caused s bytes = Unit {0}
+-- whether a query that would be closed has no step
+abbrev pub HasQueryWithoutStep : Report → File → Bool → Type 0
+HasQueryWithoutStep r f has =
+    list_any (lacks_step (game_in r f)) (zip (queries_in (declared_in r)) r.verdicts.items) ≡ has
+
+-- what is known of the outside: the file that the words name, its told bytes, and the faults of the shelf, before and after
+pub record Outside : Type 0 where
+  pub name : Option (List ℕ)
+  pub told : Option (List ℕ)
+  pub before : ℕ
+  pub after : ℕ
+
+abbrev pub outside_of : Option Files → Option (List ℕ) → ℕ → ℕ → Outside
+outside_of files name before after = record { name = name; told = bytes_named files name; before = before; after = after }
+
+-- where bytes are told, they have tokens of which this holds
+abbrev pub OfTold : Outside → (List Sign → Type 0) → Type 0
+OfTold o Holds = IfSome o.told (λ bytes. OfTokens bytes Holds)
+
+-- The table of causes: what each answer comes from. What is said of bytes is said of told ones.
+pub data ComesFrom (o : Outside) (r : Report) : Status → Type 0 where
+  all_proved : list_all is_proved r.verdicts.items ≡ true → ComesFrom o r status.Proved
+  stuck : list_all is_proved r.verdicts.items ≡ false → IfSome r.file (λ f. HasQueryWithoutStep r f false) → ComesFrom o r (status.Open Stuck)
+  steps : IfSome r.file (λ f. HasQueryWithoutStep r f true) → IfSome o.told HasManyClosed → ComesFrom o r (status.Limit Steps)
+  words : IsNone o.name → ComesFrom o r status.Words
+  read : Rose o.before o.after → ComesFrom o r status.Read
+  long : IfSome o.told (λ bytes. most_bytes < length bytes) → ComesFrom o r (status.Limit FileLimit)
+  no_tokens : {e : LexError} → IfSome o.told (λ bytes. tokens_of bytes ≡ Err e) → ComesFrom o r (status.FileRefused (Lex e))
+  syntax : {token : ℕ} → OfTold o (λ signs. IsDead signs token) → ComesFrom o r (status.FileRefused (Parse (Syntax token)))
+  nesting : {token : ℕ} → OfTold o (λ signs. IsTooDeep signs token) → ComesFrom o r (status.FileRefused (Parse (Nesting token)))
+  name_twice : {token : ℕ} → OfTold o (λ signs. IsMisnamedAt signs names.NameTwice token) → ComesFrom o r (status.FileRefused (Parse (NameTwice token)))
+  name_unknown : {token : ℕ} → OfTold o (λ signs. IsMisnamedAt signs names.NameUnknown token) → ComesFrom o r (status.FileRefused (Parse (NameUnknown token)))
+  types : {e : TypeFault} → OfTold o (λ signs. HasTypeFault signs e) → ComesFrom o r (status.FileRefused (Types e))
+  scope : {e : ScopeFault} → OfTold o (λ signs. HasScopeFault signs e) → ComesFrom o r (status.FileRefused (Scope e))
+  query : {k : ℕ} → OfTold o (λ signs. HasQueryFault signs k) → ComesFrom o r (status.FileRefused (Query k))
+  unbuilt : OfTold o (λ signs. HasProofBlock signs ⊎ HasEquivalence signs) → ComesFrom o r status.Unbuilt
+  nodes : {count : ℕ} → OfTold o (λ signs. IsLarge signs (HasNodes count)) → ComesFrom o r (status.Limit (Nodes count))
+  deep : {depth : ℕ} → OfTold o (λ signs. IsLarge signs (HasDepth depth)) → ComesFrom o r (status.Limit (Depth depth))
+  pool : {need : ℕ} → most_pool < need → OfTold o (λ signs. IsLarge signs (HasWeight most_pool need)) → ComesFrom o r (status.Limit (Pool need))
+  memory : ComesFrom o r status.Memory

@@ -1,8 +1,6 @@
--- How a run ends where its file isn't fetched, or its words aren't read.
+-- How a run ends where its file isn't fetched.
 use Rattle.cv_outside.specs.declared.shelf.FetchError.{FetchError}
 use Rattle.cv_outside.specs.declared.shelf.FetchError.TheVariants as fetch
-use Rattle.std.specs.declared.io.ErrorKind.{ErrorKind}
-use Rattle.std.specs.declared.io.ErrorKind.TheVariants as kind
 use Rattle.cv_report.specs.declared.report.Status.{Status}
 use Rattle.cv_report.specs.declared.report.Status.TheVariants as status
 use Rattle.cv_report.specs.declared.report.Which.TheVariants.{File}
@@ -11,7 +9,3 @@ abbrev pub fetch_ended : FetchError → Status
 fetch_ended fetch.Failed = status.Read
 fetch_ended fetch.Long = status.Limit File
 fetch_ended fetch.OutOfMemory = status.Memory
-
-abbrev pub words_ended : ErrorKind → Status
-words_ended kind.OutOfMemory = status.Memory
-words_ended k = status.Words

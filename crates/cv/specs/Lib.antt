@@ -1,3 +1,4 @@
+pub mod Answers
 pub mod Causes
 pub mod Faults
 pub mod Fetched
@@ -5,3 +6,4 @@ pub mod Findings
 pub mod Strategy
 pub mod Values
 pub mod Words
+pub mod Written

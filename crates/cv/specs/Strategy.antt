@@ -102,6 +102,10 @@ expected (Ok c) = status_of (said_of c.game nothing_said (queries_in c.declarati
 abbrev pub most_pool : ℕ
 most_pool = 16000000
 
+-- the most bytes of a file
+abbrev pub most_bytes : ℕ
+most_bytes = 1048576
+
 -- The status is the one that these bytes have, unless memory ended the run.
 abbrev pub Judged : Status → List ℕ → Type 0
 Judged status.Memory bytes = Unit {0}
@@ -162,6 +166,7 @@ HasFile s = ⊥
 
 -- a file within the limits whose queries are all closed by the events above, and are no more than there may be steps
 pub record IsGood (bytes : List ℕ) : Type 0 where
+  pub short : length bytes ≤ most_bytes
   pub content : Content
   pub file : IsFile most_pool bytes content
   pub closed : list_all (is_closed content.game) (queries_in content.declarations) ≡ true

@@ -1,16 +1,16 @@
-ghost use Rattle.std.specs.Prelude.{◌≡◌, ◌+◌, ◌<◌, ◌≤◌, ◌^◌, ◌↔◌, [], ◌∷◌, ℕ, All, None, Some, Ok, map, length, IfOk, IfSome, IsSome, MatchOption, OnOk};
+ghost use Rattle.std.specs.Prelude.{◌≡◌, ◌+◌, ◌<◌, ◌≤◌, ◌^◌, [], ℕ, List, Option, All, None, Some, map, length, IfOk, OnOk};
 ghost use Rattle.cv_syntax.specs.Classes.{queries};
 ghost use Rattle.cv_syntax.specs.Tree.{tree_at, size};
-ghost use Rattle.cv_accept.specs.Accepted.{read_of};
 ghost use Rattle.cv_parse.specs.Declaring.{IsBelow};
-ghost use Rattle.cv_accept.specs.Works.{content_at};
-ghost use Rattle.cv.specs.Causes.{Caused};
+ghost use Rattle.cv.specs.Answers.{Answers};
+ghost use Rattle.cv.specs.Causes.{ComesFrom, Outside};
+ghost use Rattle.cv.specs.Words.{AreTold};
 ghost use Rattle.cv.specs.Faults.{parse_ended, status_of as ended_by};
 ghost use Rattle.cv_pool.specs.PoolView.{Grows};
 ghost use Rattle.cv_report.specs.Text.{IsLive};
 ghost use Rattle.cv.specs.Findings.{IsStepBelow, said};
 ghost use Rattle.cv_query_direct.specs.Plain.{certificate};
-ghost use Rattle.cv.specs.Strategy.{closing, most_pool, nothing_said, said_of, said_then, status_by, FollowsStrategy, HasFile, Judged, IsSound, SaysNothing};
+ghost use Rattle.cv.specs.Strategy.{closing, most_pool, nothing_said, said_of, said_then, status_by, Judged, IsSound, SaysNothing};
 
 use cv_accept::{FileError, read};
 use cv_bound::{Cost, Sum};
@@ -66,8 +66,11 @@ fn pass_over(
     requires query { query.0 < length pool.now.trees }
     requires fits { size (tree_at pool.now.trees (Some game)) < 2 ^ 32 }
     requires full { 2000 ≤ length found.old.steps.items }
-    ensures said { OnOk result (said pool.now.trees found.new ≡ said_then (said pool.now.trees found.old) (certificate (tree_at pool.now.trees (Some game)) (tree_at pool.now.trees (Some query)))) }
-    ensures more { OnOk result (length found.new.verdicts.items ≡ length found.old.verdicts.items + 1) }
+    ensures said { OnOk result (said pool.now.trees found.new
+        ≡ said_then (said pool.now.trees found.old)
+        (certificate (tree_at pool.now.trees (Some game)) (tree_at pool.now.trees (Some query)))) }
+    ensures more { OnOk result
+        (length found.new.verdicts.items ≡ length found.old.verdicts.items + 1) }
     ensures steps { found.new.steps ≡ found.old.steps }
 {
     match direct(alloc, pool, query, game)? {
@@ -92,8 +95,11 @@ fn find(
     requires fits { size (tree_at pool.old.trees (Some game)) < 2 ^ 32 }
     requires few { length found.old.verdicts.items + 1 < 2 ^ 32 }
     requires live { All (IsStepBelow (length pool.old.trees)) found.old.steps.items }
-    ensures said { OnOk result (said pool.new.trees found.new ≡ said_then (said pool.old.trees found.old) (certificate (tree_at pool.old.trees (Some game)) (tree_at pool.old.trees (Some query)))) }
-    ensures more { OnOk result (length found.new.verdicts.items ≡ length found.old.verdicts.items + 1) }
+    ensures said { OnOk result (said pool.new.trees found.new
+        ≡ said_then (said pool.old.trees found.old)
+        (certificate (tree_at pool.old.trees (Some game)) (tree_at pool.old.trees (Some query)))) }
+    ensures more { OnOk result
+        (length found.new.verdicts.items ≡ length found.old.verdicts.items + 1) }
     ensures live { OnOk result (All (IsStepBelow (length pool.new.trees)) found.new.steps.items) }
     ensures grows { OnOk result (Grows pool.old pool.new) }
 {
@@ -117,7 +123,9 @@ fn answer(alloc: Global, work: &mut Work, game: NodeId) -> Result<Findings, Allo
     requires game { game.0 < length work.old.pool.trees }
     requires fits { size (tree_at work.old.pool.trees (Some game)) < 2 ^ 32 }
     requires below { All (IsBelow (length work.old.pool.trees)) work.old.decls.list }
-    ensures said { IfOk result (λ f. said work.new.pool.trees f ≡ said_of (tree_at work.old.pool.trees (Some game)) nothing_said (map (λ n. tree_at work.old.pool.trees (Some n)) (queries work.old.decls.list))) }
+    ensures said { IfOk result (λ f. said work.new.pool.trees f
+        ≡ said_of (tree_at work.old.pool.trees (Some game)) nothing_said
+        (map (λ n. tree_at work.old.pool.trees (Some n)) (queries work.old.decls.list))) }
     ensures live { IfOk result (λ f. All (IsStepBelow (length work.new.pool.trees)) f.steps.items) }
     ensures grows { OnOk result (Grows work.old.pool work.new.pool) }
     ensures names { work.new.names ≡ work.old.names }
@@ -201,6 +209,7 @@ fn status_of(fault: FileError) -> Status
 }
 
 /// Reads the bytes of a file into an empty work, and applies the strategy.
+#[tactic(auto, using(crate::proofs::Endings::without_file))]
 pub fn judge(alloc: Global, work: Work, bytes: &[u8]) -> Report
     requires names { work.names ≡ [] }
     requires decls { work.decls.list ≡ [] }
@@ -209,13 +218,10 @@ pub fn judge(alloc: Global, work: Work, bytes: &[u8]) -> Report
     requires few { length bytes.now ≤ 1048576 }
     ensures sound { IsSound result }
     ensures command { result.command ≡ Command.Prove 32 }
-    ensures file { IfSome result.file (λ f. read_of most_pool bytes.now ≡ Ok (content_at result.work f.game.root)) }
     ensures live { IsLive result }
-    ensures follows { MatchOption result.file (SaysNothing result) (FollowsStrategy result) }
-    ensures given { IsSome result.file ↔ HasFile result.status }
+    ensures answers { (told : Option (List ℕ)) → AreTold told bytes.now → Answers told result }
+    ensures cause { (o : Outside) → AreTold o.told bytes.now → ComesFrom o result result.status }
     ensures judged { Judged result.status bytes.now }
-    ensures caused { Caused result.status bytes.now }
-    ensures pool { (need : ℕ) → result.status ≡ Status.Limit (Which.Pool need) → most_pool < need }
 {
     let command = Command::Prove { moves: MOVES };
     let mut work = work;

@@ -54,14 +54,17 @@ pub fn read(alloc: Global, work: &mut Work, bytes: &[u8]) -> Result<File, FileEr
     ensures below { OnOk result (All (IsBelow (length work.new.pool.trees)) work.new.decls.list) }
     ensures names { OnErr result (work.new.names ≡ []) }
     ensures decls { OnErr result (work.new.decls.list ≡ []) }
+    ensures own { OnErr result (work.new.decls.own ≡ work.old.decls.own) }
     ensures trees { OnErr result (work.new.pool.trees ≡ []) }
 {
     let before = work.pool.mark();
+    let own = work.decls.own();
     match fill(alloc, work, bytes) {
         Ok(file) => Ok(file),
         Err(fault) => {
             work.names.keep(0);
             work.decls.keep(0);
+            work.decls.set_own(own);
             work.pool.release(before);
             Err(fault)
         }

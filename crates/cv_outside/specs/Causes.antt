@@ -8,3 +8,7 @@ next_count count = min (count + 1) (2 ^ 64 - 1)
 -- A count rose, or stands at its end.
 abbrev pub Rose : ℕ → ℕ → Type 0
 Rose before now = next_count before ≤ now
+
+-- no fault came
+abbrev pub NoFault : ℕ → ℕ → Type 0
+NoFault before now = Rose before now → ⊥

@@ -44,6 +44,7 @@ pub fn write<K: Sink>(alloc: Global, sink: &mut K, report: &Report) -> Result<()
     ensures all { OnOk result (TakesAll (K.taken sink.old) (K.taken sink.new) (text_of report.now)) }
     ensures front { TakesFront (K.taken sink.old) (K.taken sink.new) (text_of report.now) }
     ensures failed { result ≡ Err WriteError.Failed → Rose (K.faults sink.old) (K.faults sink.new) }
+    ensures untouched { result ≡ Err WriteError.OutOfMemory → K.taken sink.new ≡ K.taken sink.old }
     ensures later { K.faults sink.old ≤ K.faults sink.new }
     ensures tells { IsSome (K.taken sink.new) → IsSome (K.taken sink.old) }
 {

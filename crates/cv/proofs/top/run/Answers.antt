@@ -1,13 +1,38 @@
 use Rattle.std.specs.Prelude.{map, string_bytes}
 use Rattle.cv_lists.proofs.Options.{IfSome-weaker}
-use Rattle.cv_outside.specs.Told.{bytes_of}
-use Rattle.cv.specs.Words.{file_named}
-use Rattle.cv.proofs.Endings.{ends_well, not_written}
+use Rattle.cv.specs.Words.{bytes_named, file_named}
+use Rattle.cv.proofs.Endings.{ends_well}
+use Rattle.cv.proofs.Writing.{by_sink, ends_either, kept_answers, kept_cause, kept_complete, kept_sound, kept_words}
 use Rattle.cv.proofs.top.run.Goals as goal
 
+pub returns-clause-headline : goal.returns-clause-headline
+returns-clause-headline g c = kept_sound _ _ c.write.ensures.kept c.decide-report.ensures.sound
+
+pub returns-clause-words : goal.returns-clause-words
+returns-clause-words g c = kept_words _ _ _ c.write.ensures.kept c.decide-report.ensures.words
+
+pub returns-clause-answers : goal.returns-clause-answers
+returns-clause-answers g c = kept_answers _ _ _ c.write.ensures.kept c.decide-report.ensures.answers
+
+pub returns-clause-cause : goal.returns-clause-cause
+returns-clause-cause g c = kept_cause _ _ _ c.write.ensures.kept c.decide-report.ensures.cause
+
+pub returns-clause-complete : goal.returns-clause-complete
+returns-clause-complete g c = λ quiet.
+    IfSome-weaker _ _ (bytes_named (g.F.Shelf.told c.args.shelf.now) (file_named (map string_bytes c.args.words.now)))
+    (λ bytes done. kept_complete bytes _ _ c.write.ensures.kept done) (c.decide-report.ensures.complete quiet)
+
 pub returns-clause-good : goal.returns-clause-good
-returns-clause-good g c =
-    IfSome-weaker _ _ (file_named (map string_bytes c.args.words.now)) (λ name told.
-    IfSome-weaker _ _ (g.F.Shelf.told c.args.shelf.now) (λ files judged good few quiet still.
-    ends_well c.write-status.result c.decide-report.result.status (bytes_of files name) (judged few quiet) good c.write-status.ensures.status
-    (not_written c.write-status.result c.decide-report.result.status _ c.write-status.ensures.rose c.decide-report.ensures.never still)) told) c.decide-report.ensures.complete
+returns-clause-good g c = λ quiet still.
+    IfSome-weaker _ _ (bytes_named (g.F.Shelf.told c.args.shelf.now) (file_named (map string_bytes c.args.words.now)))
+    (λ bytes done good. ends_well _ _ bytes (kept_complete bytes _ _ c.write.ensures.kept done) good (ends_either _ _ _ c.write.ensures.status) (λ w. still (by_sink _ _ _ _ c.write.ensures.kept c.decide-report.ensures.never c.write.ensures.status w))) (c.decide-report.ensures.complete quiet)
+
+pub returns-clause-written : goal.returns-clause-written
+returns-clause-written g c = record { front = c.write.ensures.front; all = c.write.ensures.all }
+
+pub returns-clause-ends : goal.returns-clause-ends
+returns-clause-ends g c = record {
+  either = ends_either _ _ _ c.write.ensures.status;
+  write = λ w. by_sink _ _ _ _ c.write.ensures.kept c.decide-report.ensures.never c.write.ensures.status w;
+  memory = c.write.ensures.memory;
+}

@@ -1,0 +1,85 @@
+-- How a run ends whose report isn't written to its end.
+use Rattle.std.proofs.Common.{◌≡◌, ℕ, List, Option, Some, None, ◌++◌, refl, sym, ◌∙◌, subst, append-nil, ◌⊎◌, inl, inr}
+use Rattle.std.specs.Prelude.{◌≢◌, IsNone, take}
+use Rattle.cv_report.specs.Writing.{TakesFront}
+use Rattle.cv_report.specs.declared.report.Report.{Report}
+use Rattle.cv_report.specs.declared.report.Status.{Status}
+use Rattle.cv_report.specs.declared.report.Status.TheVariants as status
+use Rattle.cv.specs.Answers.{Answers, IsComplete, SaysMemory}
+use Rattle.cv.specs.Causes.{ComesFrom, Outside}
+use Rattle.cv.specs.Causes as cause
+use Rattle.cv.specs.Strategy.{IsSound}
+use Rattle.cv.specs.Words.{SaysOfWords}
+use Rattle.cv.specs.Written.{unwritten}
+use Rattle.cv.proofs.Endings.{memory_answers, sound_without}
+
+pub unwritten_either : (s : Status) → (unwritten s ≡ s) ⊎ (unwritten s ≡ status.Write)
+unwritten_either status.Memory = inl refl
+unwritten_either status.Proved = inr refl
+unwritten_either (status.Open c) = inr refl
+unwritten_either (status.FileRefused f) = inr refl
+unwritten_either status.Words = inr refl
+unwritten_either status.Read = inr refl
+unwritten_either status.Write = inr refl
+unwritten_either (status.Limit w) = inr refl
+unwritten_either status.Unbuilt = inr refl
+
+pub unwritten_memory : (s : Status) → s ≡ status.Memory → unwritten s ≡ status.Memory
+unwritten_memory s e = subst (λ x. unwritten x ≡ status.Memory) (sym e) refl
+
+pub unwritten_ends : (s : Status) → unwritten s ≢ status.Write → unwritten s ≡ status.Memory
+unwritten_ends status.Memory n = refl
+unwritten_ends status.Proved n = absurd (n refl)
+unwritten_ends (status.Open c) n = absurd (n refl)
+unwritten_ends (status.FileRefused f) n = absurd (n refl)
+unwritten_ends status.Words n = absurd (n refl)
+unwritten_ends status.Read n = absurd (n refl)
+unwritten_ends status.Write n = absurd (n refl)
+unwritten_ends (status.Limit w) n = absurd (n refl)
+unwritten_ends status.Unbuilt n = absurd (n refl)
+
+-- nothing is a front of each text
+pub takes_nothing : (before after : Option (List ℕ)) (text : List ℕ) → after ≡ before → TakesFront before after text
+takes_nothing before after text e = subst (λ a. TakesFront before a text) (sym e) (go before)
+  where
+    go : (b : Option (List ℕ)) → TakesFront b b text
+    go None = tt
+    go (Some first) = (0, sym (append-nil first))
+
+pub ruleset unwritten_laws = (unwritten_either, unwritten_memory, unwritten_ends, takes_nothing)
+
+-- what is kept of a report, or of one that memory ran out in
+
+pub kept_sound : (old new : Report) → (new ≡ old) ⊎ SaysMemory old.command new → IsSound old → IsSound new
+kept_sound old new (inl e) h = subst IsSound (sym e) h
+kept_sound old new (inr m) h = sound_without new m.file
+
+pub kept_words : (words : List (List ℕ)) (old new : Report) → (new ≡ old) ⊎ SaysMemory old.command new → SaysOfWords words old → SaysOfWords words new
+kept_words words old new (inl e) h = subst (SaysOfWords words) (sym e) h
+kept_words words old new (inr m) h = record {
+  command = m.command ∙ h.command;
+  refused = λ n. inr m.status;
+  only = λ e. absurd (let f = sym m.status ∙ e in cc);
+}
+
+pub kept_answers : (told : Option (List ℕ)) (old new : Report) → (new ≡ old) ⊎ SaysMemory old.command new → Answers told old → Answers told new
+kept_answers told old new (inl e) h = subst (Answers told) (sym e) h
+kept_answers told old new (inr m) h = memory_answers told new m.file m.nothing m.status
+
+pub kept_cause : (o : Outside) (old new : Report) → (new ≡ old) ⊎ SaysMemory old.command new → ComesFrom o old old.status → ComesFrom o new new.status
+kept_cause o old new (inl e) h = subst (λ (r : Report). ComesFrom o r r.status) (sym e) h
+kept_cause o old new (inr m) h = subst (ComesFrom o new) (sym m.status) cause.memory
+
+pub kept_complete : (bytes : List ℕ) (old new : Report) → (new ≡ old) ⊎ SaysMemory old.command new → IsComplete bytes old.status → IsComplete bytes new.status
+kept_complete bytes old new (inl e) h = subst (λ (r : Report). IsComplete bytes r.status) (sym e) h
+kept_complete bytes old new (inr m) h = subst (IsComplete bytes) (sym m.status) (record { short = λ k. tt; long = λ k. inr refl })
+
+-- a status of writing comes of a fault of the sink
+pub by_sink : (s : Status) (old new : Report) (Faulted : Type 0) → (new ≡ old) ⊎ SaysMemory old.command new → old.status ≢ status.Write → (s ≡ new.status) ⊎ ((s ≡ status.Write) × Faulted) → s ≡ status.Write → Faulted
+by_sink s old new Faulted k n (inr f) w = f.1
+by_sink s old new Faulted (inl e) n (inl h) w = absurd (n (subst (λ (r : Report). r.status ≡ status.Write) e (sym h ∙ w)))
+by_sink s old new Faulted (inr m) n (inl h) w = absurd (let f = sym m.status ∙ (sym h ∙ w) in cc)
+
+pub ends_either : (s r : Status) (Faulted : Type 0) → (s ≡ r) ⊎ ((s ≡ status.Write) × Faulted) → (s ≡ r) ⊎ (s ≡ status.Write)
+ends_either s r Faulted (inl e) = inl e
+ends_either s r Faulted (inr e) = inr e.0
