@@ -1,5 +1,5 @@
-pub mod Begins
+pub mod Starts
+pub mod Branches
 pub mod Nodes
 pub mod Productions
-pub mod BodyBegins
 pub mod Parts

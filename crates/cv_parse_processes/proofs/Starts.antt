@@ -1,10 +1,13 @@
--- How processes begin.
+-- How processes, bodies and functions begin.
 use Rattle.std.proofs.Common.{◌≡◌, List, [], ◌∷◌, ◌||◌, refl}
 use Rattle.cv_parse_notation.specs.declared.sign.Sign.{Sign}
 use Rattle.cv_parse_notation.specs.declared.sign.Mark.TheVariants as mark
 use Rattle.cv_parse_notation.specs.Spells.{next_is, is_mark, is_word, is_find, is_zero}
-use Rattle.cv_parse_grammar.specs.Phrases.{Input, Output, ProcessBranch}
+use Rattle.cv_parse_grammar.specs.Phrases.{Body, Input, Output, RightRest, Term}
 use Rattle.cv_parse_grammar.specs.Rules.{heads}
+use Rattle.cv_parse_processes.specs.declared.continuation.Continuation.{Continuation}
+use Rattle.cv_parse_processes.specs.declared.continuation.Continuation.TheVariants.{Function, Process}
+use Rattle.cv_parse_processes.specs.Continuations.{begins_branch, branches_of}
 
 pub output_begins : (ts : List Sign) → (next_is (is_mark mark.Yield) ts || (next_is (is_mark mark.Open) ts || (next_is (is_mark mark.Out) ts || (next_is (is_mark mark.New) ts || (next_is (is_mark mark.Let) ts || (next_is (is_mark mark.EventWord) ts || (next_is (is_mark mark.If) ts || next_is is_find ts))))))) ≡ next_is (heads Output) ts
 output_begins [] = refl
@@ -14,6 +17,21 @@ pub input_begins : (ts : List Sign) → (next_is is_zero ts || (next_is (is_mark
 input_begins [] = refl
 input_begins (t ∷ ts) = refl
 
-pub branch_begins : (ts : List Sign) → (next_is is_word ts || next_is (is_mark mark.Suchthat) ts) ≡ next_is (heads ProcessBranch) ts
+pub body_begins : (ts : List Sign) → (next_is (is_mark mark.New) ts || (next_is (is_mark mark.Let) ts || (next_is (is_mark mark.If) ts || (next_is is_find ts || next_is (heads Term) ts)))) ≡ next_is (heads Body) ts
+body_begins [] = refl
+body_begins (t ∷ ts) = refl
+
+pub rest_begins : (ts : List Sign) → (next_is (is_mark mark.New) ts || next_is (is_mark mark.Open) ts) ≡ next_is (heads RightRest) ts
+rest_begins [] = refl
+rest_begins (t ∷ ts) = refl
+
+-- a word or `suchthat`
+pub branch_begins : (ts : List Sign) → (next_is is_word ts || next_is (is_mark mark.Suchthat) ts) ≡ next_is begins_branch ts
 branch_begins [] = refl
 branch_begins (t ∷ ts) = refl
+
+pub branches_begin : (c : Continuation) (ts : List Sign) → next_is begins_branch ts ≡ next_is (heads (branches_of c)) ts
+branches_begin Process [] = refl
+branches_begin Process (t ∷ ts) = refl
+branches_begin Function [] = refl
+branches_begin Function (t ∷ ts) = refl

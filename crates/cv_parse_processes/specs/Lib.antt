@@ -1,1 +1,3 @@
 pub mod Around
+pub mod Continuations
+pub mod Reading

@@ -11,7 +11,7 @@ ghost use Rattle.cv_parse_grammar.specs.Equivalences.{arguments_and_body as argu
 ghost use Rattle.cv_parse_terms.specs.Gives.{Gives, GivesList, Makes, below, read_in};
 ghost use Rattle.cv_parse_processes.specs.Around.{parts_around, parts_of_binders};
 
-use crate::bodies::body;
+use crate::processes::body;
 use cv_parse_grammar::Role;
 use cv_parse_notation::{Mark, Sign};
 use cv_parse_terms::{
@@ -222,7 +222,7 @@ fn arguments_and_body(
 }
 
 /// Whether the arguments of a function of the right side begin at a place, or a `new` before them.
-#[tactic(auto, using(crate::proofs::BodyBegins::rest_begins))]
+#[tactic(auto, using(crate::proofs::Starts::rest_begins))]
 fn begins_rest(signs: &[Sign], at: usize) -> bool
     ensures { result ≡ next_is (heads RightRest) (drop at signs.now) }
 {

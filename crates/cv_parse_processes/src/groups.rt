@@ -19,7 +19,7 @@ use cv_syntax::{Head, Make};
 use std::alloc::Global;
 
 /// The sides of an equivalence.
-#[derive(Clone, Copy, Debug, PartialEq, Eq)]
+#[derive(Clone, Copy)]
 pub enum Side {
     Left,
     Right,
