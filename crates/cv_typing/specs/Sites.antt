@@ -3,6 +3,7 @@ use Rattle.std.specs.Prelude.{ℕ, ◌==◌, if◌then◌else◌, List, [], ◌�
 use Rattle.cv_syntax.specs.declared.head.Head.{Head}
 use Rattle.cv_syntax.specs.declared.head.Head.TheVariants.{Repl, In, New, Let, Branch, Binder}
 use Rattle.cv_syntax.specs.Tree.{Tree, Empty, Node, second}
+pub use Rattle.cv_first_fault.specs.Walk.{first_of}
 use Rattle.cv_typing.specs.declared.sort.Sort.{Sort}
 use Rattle.cv_typing.specs.declared.sort.Sort.TheVariants.{OfType, BelowParameter}
 
@@ -10,10 +11,6 @@ use Rattle.cv_typing.specs.declared.sort.Sort.TheVariants.{OfType, BelowParamete
 pub record Variable : Type 0 where
   pub parameters : List ℕ
   pub sort : Sort
-
-abbrev pub first_of : {A : Type 0} → Option A → Option A → Option A
-first_of (Some a) b = Some a
-first_of None b = b
 
 -- the sort that a list of binders gives a name; of two binders of one name the first counts
 unfoldable pub bound_sort : (ℕ → Sort) → ℕ → Tree → Option Sort

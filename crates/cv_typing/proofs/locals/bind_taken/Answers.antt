@@ -1,5 +1,4 @@
 use Rattle.std.proofs.Common.{ap, ap₂, ◌∙◌}
-use Rattle.cv_syntax.specs.Tree.{tree_at}
 use Rattle.cv_typing.specs.declared.precedence.Precedence.TheVariants.{Newest}
 use Rattle.cv_typing.specs.declared.sort.Sort.TheVariants.{OfType}
 use Rattle.cv_typing.specs.Signature.{Above}

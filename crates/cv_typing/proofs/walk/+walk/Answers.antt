@@ -1,4 +1,4 @@
-use Rattle.std.proofs.Common.{rules, ◌+◌, ◌<◌, length, arith, refl, ap, ap₂, sym, ◌∙◌}
+use Rattle.std.proofs.Common.{rules, ◌+◌, ◌<◌, length, arith, refl, ap, sym, ◌∙◌}
 use Rattle.std.proofs.lemmas.Result.{err_from_is_err_and}
 use Rattle.cv_syntax.specs.Tree.{tree_at}
 use Rattle.cv_syntax.specs.Walks.{above as rank}
@@ -6,7 +6,8 @@ use Rattle.cv_syntax.proofs.Walking.{above-child, above-some, size-at, size-end}
 use Rattle.cv_typing.specs.Lookups.{signature_in, want_of}
 use Rattle.cv_typing.specs.Tables.{above_of, restored}
 use Rattle.cv_typing.specs.Wants.{with_names}
-use Rattle.cv_typing.proofs.Steps.{fault-end, fault-parts, names-bound, none-bound, refused-as, refused-first, refused-here, skip-two}
+use Rattle.cv_typing.proofs.Steps.{fault-end, fault-parts, names-bound, none-bound, refused-as, refused-first, refused-here}
+use Rattle.cv_first_fault.proofs.Steps.{skip-two}
 use Rattle.cv_typing.proofs.Walks.{child-above, child-live, empty-at, node-at}
 use Rattle.cv_typing.proofs.walk.+walk.Goals as goal
 
@@ -103,7 +104,9 @@ tree-preserved t c =
     }
 
 pub returns-clause-typed : goal.returns-clause-typed
-returns-clause-typed t c = sym c.tree.invariant.same ∙ fault-end _ _ _ _ _ (empty-at c.args.pool.now.trees c.tree.at c.in_default.is)
+returns-clause-typed t c =
+    let trees = c.args.pool.now.trees in
+    sym c.tree.invariant.same ∙ fault-end (signature_in trees c.args.decls.now.list c.args.arrays.now) (above_of c.tree.above) (want_of trees c.args.arrays.now c.tree.want) c.tree.place (tree_at trees c.tree.at) (empty-at trees c.tree.at c.in_default.is)
 
 pub returns-clause-next : goal.returns-clause-next
 returns-clause-next t c = omega (arith, c.tree.invariant.sum, size-end c.args.pool.now.trees c.tree.at c.in_default.is)
