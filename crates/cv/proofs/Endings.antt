@@ -1,6 +1,7 @@
 -- How a run over a good file ends.
 use Rattle.std.proofs.Common.{◌≡◌, ℕ, arith, refl, List, Option, Some, None, ap, sym, ◌∙◌, subst, ◌⊎◌, inl, inr}
 use Rattle.std.specs.Prelude.{IfSome, ◌≢◌}
+use Rattle.cv_lists.proofs.Options.{IfSome-weaker}
 use Rattle.cv_accept.specs.Accepted.{read_of}
 use Rattle.cv_query_form.specs.Queries.{queries_in}
 use Rattle.cv_accept.proofs.Readings.{file_is_read}
@@ -9,10 +10,6 @@ use Rattle.cv_report.specs.declared.report.Status.TheVariants as status
 use Rattle.cv_report.specs.declared.report.Which.TheVariants.{File, Nodes, Depth, Steps, Pool}
 use Rattle.cv.specs.Strategy.{nothing_said, expected, most_pool, Judged, IsGood, EndsWell}
 use Rattle.cv.proofs.Verdicts.{all_closed}
-
-pub some_moved : {A : Type 0} (P Q : A → Type 0) (o : Option A) → ((x : A) → P x → Q x) → IfSome o P → IfSome o Q
-some_moved P Q None m h = tt
-some_moved P Q (Some x) m h = m x h
 
 -- what is expected of a good file
 good_proved : (bytes : List ℕ) → IsGood bytes → expected (read_of most_pool bytes) ≡ status.Proved

@@ -3,6 +3,7 @@ use Rattle.std.proofs.Common.{◌≡◌, ℕ, zero, suc, ◌+◌, ◌*◌, ◌<�
 use Rattle.std.specs.Prelude.{slice_get}
 use Rattle.std.specs.List.{list_all}
 use Rattle.std.proofs.lemmas.Bool.{and_parts, both_ways, lt-ltb}
+use Rattle.cv_lists.proofs.Options.{some_from_is_some}
 use Rattle.cv_syntax.specs.Declarations.{Declaration}
 use Rattle.cv_syntax.specs.Tree.{Tree}
 use Rattle.cv_meaning.specs.Advantage.{advantage}
@@ -123,16 +124,12 @@ judged_fault fault.OutOfMemory bytes e = tt
 
 -- queries that are all closed, and for which there are steps
 
-some_of : {A : Type 0} (o : Option A) → is_some o ≡ true → (x : A) × (o ≡ Some x)
-some_of None e = absurd (both_ways _ refl e)
-some_of (Some x) e = (x, refl)
-
 pub all_closed : (game : Tree) (s : Said) (qs : List Tree) → list_all (is_closed game) qs ≡ true → length s.steps + length qs ≤ 2000 → s.all ≡ true → s.full ≡ false → status_of (said_of game s qs) ≡ status.Proved
 unfolding said_of
 all_closed game s [] c l a f = ap₂ status_by f a
 all_closed game s (q ∷ qs) c l a f =
     let parts = and_parts (is_closed game q) _ c in
-    let found = some_of (certificate game q) (closed_some game q ∙ parts.0) in
+    let found = some_from_is_some (certificate game q) (closed_some game q ∙ parts.0) in
     let next : Said = record s { steps = s.steps ++ step_of (length s.verdicts + 1) found.0 ∷ []; verdicts = s.verdicts ++ Proved [] ∷ [] } in
     let room : length s.steps < most_steps = omega arith in
     let more = length-append s.steps (step_of (length s.verdicts + 1) found.0 ∷ []) in

@@ -12,13 +12,13 @@ ghost use Rattle.cv.specs.Findings.{IsStepBelow, said};
 ghost use Rattle.cv_query_direct.specs.Plain.{certificate};
 ghost use Rattle.cv.specs.Strategy.{closing, most_pool, nothing_said, said_of, said_then, status_by, FollowsStrategy, HasFile, Judged, IsSound, SaysNothing};
 
-use cv_accept::{FileError, query_at, read};
+use cv_accept::{FileError, read};
 use cv_bound::{Cost, Sum};
 use cv_parse::ParseError;
 use cv_query_direct::{direct, success};
 use cv_report::{Cause, Command, Entry, FileFault, Report, Status, Verdict, Which};
 use cv_script::Step;
-use cv_syntax::{BuildError, NodeId, Pool, Work};
+use cv_syntax::{BuildError, NodeId, Pool, Work, query_at};
 use std::alloc::{AllocError, Global};
 
 /// How many moves a proof has where the words don't say.

@@ -5,13 +5,12 @@ use Rattle.std.proofs.lemmas.List.Elements.{All-head, All-tail}
 use Rattle.cv_syntax.specs.declared.decls.Decl.{Decl}
 use Rattle.cv_syntax.specs.declared.decls.Decl.TheVariants as decl
 use Rattle.cv_pool.specs.declared.node.NodeId.{NodeId}
-use Rattle.cv_syntax.specs.Classes.{queries}
+use Rattle.cv_syntax.specs.Classes.{queries, query_of}
 use Rattle.cv_syntax.specs.Declarations.{declarations}
 use Rattle.cv_pool.specs.KindTree.{KindTree}
 use Rattle.cv_syntax.specs.Tree.{tree_at}
 use Rattle.cv_parse.specs.Declaring.{IsBelow}
 use Rattle.cv_query_form.specs.Queries.{queries_in}
-use Rattle.cv_accept.specs.Lists.{query_of}
 
 pub queries-same : (trees : List KindTree) (ds : List Decl) → queries_in (declarations trees ds) ≡ map (λ n. tree_at trees (Some n)) (queries ds)
 unfolding queries_in

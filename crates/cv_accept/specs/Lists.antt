@@ -2,7 +2,6 @@
 use Rattle.std.specs.Prelude.{Bool, true, false, Option, Some, None}
 use Rattle.cv_syntax.specs.declared.decls.Decl.{Decl}
 use Rattle.cv_syntax.specs.declared.decls.Decl.TheVariants as decl
-use Rattle.cv_pool.specs.declared.node.NodeId.{NodeId}
 
 abbrev pub is_equivalence_decl : Decl → Bool
 is_equivalence_decl (decl.Equiv id n) = true
@@ -12,8 +11,3 @@ is_equivalence_decl d = false
 abbrev pub equivalence_there : Option Decl → Bool
 equivalence_there None = false
 equivalence_there (Some d) = is_equivalence_decl d
-
--- the tree of a query
-abbrev pub query_of : Decl → Option NodeId
-query_of (decl.Query n) = Some n
-query_of d = None

@@ -5,10 +5,8 @@ mod equivalences;
 mod error;
 mod file;
 mod laws;
-mod queries;
 mod scoping;
 
 pub use error::FileError;
 pub use file::read;
 pub use laws::{accepted_is_well_formed, file_is_computed};
-pub use queries::query_at;

@@ -65,8 +65,3 @@ still_bounded old new c secrecy total (Ok u) h k l = let e = ap coefficients h i
 still_bounded old new c secrecy total (Err x) h k l = let e = ap coefficients k in omega arith
 
 pub ruleset counts = (counted_once, counted_twice, advantage_counts)
-
-pub alone_fits : (c : Cost) (n : ℕ) → coefficients (terms_of c false) ≡ n → n < 2 ^ 64 → AllFit (added [] c false)
-alone_fits c n e l = added_fits [] c false (omega arith)
-
-pub ruleset sums_alone = (alone_fits)

@@ -3,7 +3,7 @@ ghost use Rattle.cv_bound.specs.Sums.{coefficients, terms_of};
 
 use crate::cost::{Collision, Collisions, Cost, Factors};
 use crate::sum::Sum;
-use crate::text::{cost_text, listed_text};
+use crate::text::listed_text;
 use cv_syntax::{NameId, Names};
 use std::alloc::Global;
 use std::test::Fail;
@@ -142,128 +142,22 @@ impl Draft {
     }
 }
 
-/// Whether the texts of a cost of collisions are these: of its sum, and as it stands.
-#[tactic(auto, using(crate::proofs::Coefficients::sums_alone))]
-fn reads_alone(alloc: Global, given: &[Given], sum: &[u8], listed: &[u8]) -> Result<bool, Fail> {
-    let names = names(alloc)?;
-    let list = collisions(alloc, given)?;
-    let Some(_) = bound_of(&list, false) else {
-        return Err("too wide")?;
-    };
-    let cost = cost_of(list)?;
-    let one = cost_text(alloc, &names, &cost)?;
-    let other = listed_text(alloc, &names, &cost.copy(alloc)?)?;
-    Ok(one.as_slice() == sum && other.as_slice() == listed)
-}
-
-/// Whether the text of a cost, as it stands, is this one.
-fn reads_listed(alloc: Global, cost: &Cost, text: &[u8]) -> Result<bool, Fail> {
-    let names = names(alloc)?;
-    Ok(listed_text(alloc, &names, cost)?.as_slice() == text)
-}
-
 #[test]
-fn an_empty_sum(rt: HostRuntime) -> Result<(), Fail> {
-    let draft = Draft::new(rt.alloc())?;
-    assert!(rt; draft.reads(b"0")?);
-    assert!(rt; draft.sum.len() == 0);
-    assert!(rt; draft.sum.collision(0).is_none());
-    Ok(())
-}
-
-#[test]
-fn terms_of_collisions(rt: HostRuntime) -> Result<(), Fail> {
-    let mut draft = Draft::new(rt.alloc())?;
-    let given = [
-        Given(1, &[(N, 1)], false, NONCE),
-        Given(1, &[(N, 2)], true, NONCE),
-        Given(3, &[(N, 1), (NB, 2)], false, MESSAGE),
-        Given(2, &[], false, NONCE),
-        Given(1, &[], true, NONCE),
-    ];
-    draft.collisions(&given, false)?;
-    let text = b"N/|nonce| + N^2/(2|nonce|) + 3*N*NB^2/|message| + 2*1/|nonce| + 1/(2|nonce|)";
-    assert!(rt; draft.reads(text)?);
-    Ok(())
-}
-
-#[test]
-fn collisions_are_read(rt: HostRuntime) -> Result<(), Fail> {
-    let mut draft = Draft::new(rt.alloc())?;
-    draft.advantage(1, false)?;
-    draft.collisions(&[Given(3, &[(N, 1), (NB, 2)], true, MESSAGE)], false)?;
-    assert!(rt; draft.sum.len() == 2);
-    assert!(rt; draft.sum.collision(0).is_none());
-    assert!(rt; draft.sum.collision(2).is_none());
-    let there = draft.sum.collision(1).ok_or("no collision")?;
-    assert!(rt; there.times == 3 && there.half && there.over == MESSAGE);
-    assert!(rt; there.factors.len() == 2);
-    let factor = there.factors.get(1).ok_or("no factor")?;
-    assert!(rt; factor.0 == NB && factor.1 == 2);
-    Ok(())
-}
-
-#[test]
-fn equal_collisions_are_merged(rt: HostRuntime) -> Result<(), Fail> {
+fn a_sum_of_costs(rt: HostRuntime) -> Result<(), Fail> {
     let mut draft = Draft::new(rt.alloc())?;
     let half = Given(1, &[(N, 2)], true, NONCE);
     let whole = Given(4, &[(N, 2)], false, NONCE);
-    let other = Given(1, &[(N, 2)], false, MESSAGE);
+    let other = Given(3, &[(N, 1), (NB, 2)], false, MESSAGE);
     draft.collisions(&[half, whole], false)?;
-    draft.advantage(1, false)?;
-    draft.collisions(&[whole, other, half, half], false)?;
-    draft.advantage(1, false)?;
-    let text = b"3*N^2/(2|nonce|) + 8*N^2/|nonce| + Adv(uf, C1) + N^2/|message| + Adv(uf, C1)";
-    assert!(rt; draft.reads(text)?);
-    draft.sum = draft.sum.copy()?;
-    assert!(rt; draft.reads(text)?);
-    Ok(())
-}
-
-#[test]
-fn secrecy_counts_twice(rt: HostRuntime) -> Result<(), Fail> {
-    let mut draft = Draft::new(rt.alloc())?;
     draft.advantage(1, true)?;
-    let given = [
-        Given(1, &[(N, 2)], true, NONCE),
-        Given(3, &[(N, 2)], true, NONCE),
-    ];
-    draft.collisions(&given, true)?;
-    let text = b"Adv(uf, C1, real) + Adv(uf, C1, random) + 8*N^2/(2|nonce|)";
+    draft.collisions(&[half, other], true)?;
+    draft.sum = draft.sum.copy()?;
+    let text =
+        b"3*N^2/(2|nonce|) + 4*N^2/|nonce| + Adv(uf, C1, real) + Adv(uf, C1, random) + 6*N*NB^2/|message|";
     assert!(rt; draft.reads(text)?);
-    Ok(())
-}
-
-#[test]
-fn an_advantage_and_a_collision(rt: HostRuntime) -> Result<(), Fail> {
-    let mut draft = Draft::new(rt.alloc())?;
-    draft.advantage(1, false)?;
-    draft.collisions(&[Given(1, &[(NB, 2)], true, MESSAGE)], false)?;
-    assert!(rt; draft.reads(b"Adv(uf, C1) + NB^2/(2|message|)")?);
-    Ok(())
-}
-
-#[test]
-fn the_greatest_coefficient(rt: HostRuntime) -> Result<(), Fail> {
-    let mut draft = Draft::new(rt.alloc())?;
-    draft.collisions(&[Given(u64::MAX - 1, &[(N, 1)], false, NONCE)], false)?;
-    draft.collisions(&[Given(1, &[(N, 1)], false, NONCE)], false)?;
-    assert!(rt; draft.reads(b"18446744073709551615*N/|nonce|")?);
-    Ok(())
-}
-
-#[test]
-fn texts_of_costs(rt: HostRuntime) -> Result<(), Fail> {
-    let one = Given(1, &[], false, NONCE);
-    let given = [one, Given(1, &[(N, 1)], false, NONCE), one];
-    let sum = b"2*1/|nonce| + N/|nonce|";
-    let listed = b"1/|nonce| + N/|nonce| + 1/|nonce|";
-    assert!(rt; reads_alone(rt.alloc(), &given, sum, listed)?);
-    assert!(rt; reads_listed(rt.alloc(), &Cost::Zero, b"0")?);
-    let advantage = Cost::Advantage {
-        step: 12,
-        equiv: UF,
-    };
-    assert!(rt; reads_listed(rt.alloc(), &advantage, b"Adv(uf, C12)")?);
+    let cost = cost_of(collisions(rt.alloc(), &[half, whole, half])?)?.copy(rt.alloc())?;
+    let listed = listed_text(rt.alloc(), &draft.names, &cost)?;
+    let text = b"N^2/(2|nonce|) + 4*N^2/|nonce| + N^2/(2|nonce|)";
+    assert!(rt; listed.as_slice() == text.as_slice());
     Ok(())
 }

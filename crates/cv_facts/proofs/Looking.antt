@@ -7,6 +7,7 @@ use Rattle.cv_pool.specs.KindTree.{KindTree}
 use Rattle.cv_syntax.specs.declared.head.Head.{Head}
 use Rattle.cv_syntax.specs.declared.head.Head.TheVariants.{Repl, In, New, Let, Branch, Cons, Binder}
 use Rattle.cv_syntax.specs.Tree.{Tree, Empty, Node, tree_at, tree_of}
+use Rattle.cv_syntax.proofs.Trees.{tree_at-None}
 use Rattle.cv_scope.specs.declared.position.Position.{Position}
 use Rattle.cv_scope.specs.declared.position.Position.TheVariants.{Bodies, ElseBody, Guards, Guarded}
 use Rattle.cv_scope.specs.Context.{Context, cell_of, cells_of, first_position, replications_below, second_position}
@@ -131,12 +132,8 @@ cells-stay t w Γ Δ (Node h a b) p e m = go (λ q. cells-stay t (first_position
 
 -- the indices of a branch on the way down
 
-empty_at : (trees : List KindTree) → tree_at trees None ≡ Empty
-unfolding tree_of
-empty_at trees = refl
-
 pub no_cells : (trees : List KindTree) (rs : List (ℕ × ℕ)) → [] ≡ cells_of rs (tree_at trees None)
-no_cells trees rs = ap (cells_of rs) (sym (empty_at trees))
+no_cells trees rs = ap (cells_of rs) (sym (tree_at-None trees))
 
 second-own : (trees : List KindTree) (w : Position) (h : Head) (a : Option NodeId) (Γ : Context) (own : Option NodeId) → Γ.own ≡ cells_of Γ.replications (tree_at trees own)
     → (second_standing w h (tree_at trees a) Γ).own ≡ cells_of (second_standing w h (tree_at trees a) Γ).replications (tree_at trees (own_behind w h a own))

@@ -37,10 +37,6 @@ binder-is t h a b x T y e f g = bound-binder t h a b x T y e f ∙ ap (λ v. v |
 pub binder-differs : (t : Tree) (h : Head) (a b : Tree) (x T y : ℕ) → t ≡ Node h a b → h ≡ Binder x T → (y ≡ x → ⊥) → is_bound t y ≡ is_bound b y
 binder-differs t h a b x T y e f g = bound-binder t h a b x T y e f ∙ ap (λ v. v || is_bound b y) (ne_eqb y x g)
 
-pub second-nothing : (trees : List KindTree) (o : Option NodeId) → o ≡ None → tree_at trees None ≡ second (tree_at trees o)
-unfolding tree_of
-second-nothing trees o e = sym (ap (λ q. second (tree_at trees q)) e)
-
 pub counted-append : (s : Seen) (ps qs : List ℕ) → counted_on s (ps ++ qs) ≡ counted_on (counted_on s ps) qs
 counted-append s [] qs = refl
 counted-append s (p ∷ ps) qs = counted-append (seen_then s p) ps qs
@@ -84,4 +80,4 @@ only-once (q ∷ (r ∷ ps)) p e = absurd (clash (sym (often ps) ∙ e))
     clash : Often ≡ Once p → ⊥
     clash x = cc
 
-pub ruleset sitings = (bound-empty, second-nothing)
+pub ruleset sitings = (bound-empty)

@@ -1,13 +1,13 @@
 ghost use Rattle.std.specs.Prelude.{◌≡◌, ◌↔◌, ◌<◌, ◌++◌, ◌∷◌, [], ℕ, List, IfSome, IsTrue, Some, length};
 ghost use Rattle.cv_pool.specs.Nodes.{ChildBelow};
-ghost use Rattle.cv_syntax.specs.Tree.{Tree, lone, tree_at};
-ghost use Rattle.cv_syntax.specs.declared.head.Head.TheVariants.{Leaf};
+ghost use Rattle.cv_syntax.specs.Tree.{Tree, tree_at};
 ghost use Rattle.cv_scope.specs.Context.{items};
 ghost use Rattle.cv_scope.specs.Rules.{IsAmong};
 ghost use Rattle.cv_facts.specs.Cells.{AheadBelow, ArePartsOf, IsAhead, IsNamed, binds_name, indices_of};
 
 use crate::sites::is_bound;
 use cv_path::same;
+use cv_syntax::children::{is_empty, is_leaf};
 use cv_syntax::{Head, NodeId, Pool, read_node};
 
 /// What is left of a cell's index terms behind those of the replications above.
@@ -55,22 +55,6 @@ pub(crate) fn parts(pool: &Pool, n: NodeId) -> Option<Cell>
     }
 }
 
-/// Whether a term is an index.
-#[tactic(auto, using(crate::proofs::Comparing::comparing))]
-fn is_index(pool: &Pool, term: Option<NodeId>, i: u32) -> bool
-    requires { ChildBelow (length pool.now.trees) term }
-    ensures { IsTrue result ↔ (tree_at pool.now.trees term ≡ lone (Leaf i)) }
-{
-    let Some(n) = term else {
-        return false;
-    };
-    let node = read_node(pool, n);
-    let Head::Leaf(j) = node.head else {
-        return false;
-    };
-    j == i && node.first.is_none() && node.second.is_none()
-}
-
 /// The index terms that are left behind one replication more.
 #[tactic(auto, using(crate::proofs::Comparing::comparing))]
 pub(crate) fn pass(pool: &Pool, ahead: Ahead, i: u32) -> Ahead
@@ -88,7 +72,7 @@ pub(crate) fn pass(pool: &Pool, ahead: Ahead, i: u32) -> Ahead
     let Head::Cons = node.head else {
         return Ahead::Apart;
     };
-    if !is_index(pool, node.first, i) {
+    if !is_leaf(pool, i, node.first) {
         return Ahead::Apart;
     }
     Ahead::Rest(node.second)
@@ -106,11 +90,9 @@ pub(crate) fn name_here(pool: &Pool, cell: Option<Cell>, ahead: Ahead) -> Option
     let Ahead::Rest(rest) = ahead else {
         return None;
     };
-    let Some(n) = rest else {
+    if is_empty(pool, rest) {
         return Some(parts.name);
-    };
-    // A node of the pool is never empty, as reading it shows.
-    let _node = read_node(pool, n);
+    }
     None
 }
 

@@ -8,9 +8,9 @@ ghost use Rattle.cv_facts.specs.Looks.{Holds, Looks, own_behind};
 ghost use Rattle.cv_facts.specs.Standing.{stands_at};
 
 use crate::cells::{Ahead, Cell, binds, is_item, name_here, parts, pass};
-use crate::sites::second_of;
 use cv_path::{Lies, place_in};
 use cv_scope::Position;
+use cv_syntax::children::second_of;
 use cv_syntax::{Game, Head, NodeId, Opened, Pool, Work, read_node};
 
 /// A node on the way to a place: what is left of the place and of the index terms that are looked for, and the indices of the

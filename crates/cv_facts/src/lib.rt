@@ -13,6 +13,3 @@ pub use facts::fact;
 pub use known::Fact;
 pub use laws::facts_hold_where_they_stand;
 pub use sites::site;
-
-#[cfg(test)]
-mod tests;

@@ -1,10 +1,11 @@
 ghost use Rattle.std.specs.Prelude.{◌≡◌, ◌+◌, ◌<◌, ◌^◌, if◌then◌else◌, Some, length};
 ghost use Rattle.cv_pool.specs.Nodes.{ChildBelow};
-ghost use Rattle.cv_syntax.specs.Tree.{second, size, tree_at};
+ghost use Rattle.cv_syntax.specs.Tree.{size, tree_at};
 ghost use Rattle.cv_scope.specs.Sites.{Variable};
 ghost use Rattle.cv_scope_runs.specs.Made.{is_bound, made_by};
 ghost use Rattle.cv_facts.specs.Definitions.{counted_on, only, places_of, seen_then};
 
+use cv_syntax::children::second_of;
 use cv_syntax::{Game, Head, NameId, NodeId, Opened, Pool, Work, read_node};
 
 /// How many definitions were seen, with the place of the only one.
@@ -44,19 +45,6 @@ pub(crate) fn is_bound(pool: &Pool, list: Option<NodeId>, x: u32) -> bool
         at = node.second;
     }
     false
-}
-
-/// The second child of a node that is a child.
-#[tactic(auto, using(crate::proofs::Sitings::sitings))]
-pub(crate) fn second_of(pool: &Pool, child: Option<NodeId>) -> Option<NodeId>
-    requires { ChildBelow (length pool.now.trees) child }
-    ensures tree { tree_at pool.now.trees result ≡ second (tree_at pool.now.trees child) }
-    ensures live { ChildBelow (length pool.now.trees) result }
-{
-    match child {
-        Some(n) => read_node(pool, n).second,
-        None => None,
-    }
 }
 
 /// Whether a construct defines a variable.

@@ -73,6 +73,3 @@ pub fn lexis_is_computed()
     ensures is { (bs : List ℕ) → Lexed 0 bs (tokens_of bs) }
     ensures only { (bs : List ℕ) (r : Result (List Token) LexError) → Lexed 0 bs r → tokens_of bs ≡ r }
 {}
-
-#[cfg(test)]
-mod tests;

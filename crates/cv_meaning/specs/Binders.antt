@@ -4,11 +4,8 @@ use Rattle.std.specs.Prelude.{ℕ, suc, max, Bool, true, false, ◌&&◌, nat_lt
 use Rattle.cv_syntax.specs.declared.head.Head.TheVariants.{Binder, Name}
 use Rattle.cv_syntax.specs.Tree.{Tree, Empty, Node}
 use Rattle.cv_meaning.specs.Memory.{Store, Local, put, tuple, with_store}
-
 -- the variables of a list of binders
-abbrev pub bound_names : Tree → List ℕ
-bound_names (Node (Binder x T) a b) = x ∷ bound_names b
-bound_names _ = []
+pub use Rattle.cv_syntax.specs.Tree.{bound_names}
 
 -- there is a value below its bound for each binder, and no other
 abbrev pub fits : (ℕ → ℕ) → Tree → List ℕ → Bool

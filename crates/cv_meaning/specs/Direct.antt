@@ -2,8 +2,8 @@
 use Rattle.std.specs.Prelude.{◌≡◌, ℕ, Bool, true, false, ◌&&◌, not, ◌==◌, if◌then◌else◌, List, [], ◌∷◌, ◌++◌, Option, Some, None}
 use Rattle.std.specs.List.{list_any, list_all}
 use Rattle.cv_syntax.specs.declared.head.Head.{Head}
-use Rattle.cv_syntax.specs.declared.head.Head.TheVariants.{Leaf, Apply, Eq, And, Or, Not, Yes, No, Event, Repl, New, Let, Branch, Binder, Out, In, Key, Call}
-use Rattle.cv_syntax.specs.Tree.{Tree, Empty, Node, same_tree, reads_only, binds}
+use Rattle.cv_syntax.specs.declared.head.Head.TheVariants.{Leaf, Apply, Eq, And, Or, Not, Yes, No, Event, Repl, New, Let, Binder}
+use Rattle.cv_syntax.specs.Tree.{Tree, Empty, Node, same_tree}
 use Rattle.cv_meaning.specs.Correspondences.{Correspondence, Atom, RightEvent, RightTerm}
 
 -- an event node, with its arguments
@@ -100,35 +100,3 @@ pub record IsPlainlyDirect (q : Correspondence) (game : Tree) : Type 0 where
   pub others : q.others ≡ []
   pub atoms : list_all is_unmarked q.atoms ≡ true
   pub covered : plainly_covered (is_unbound game) q [] game ≡ true
-
--- within one body, while no variable of the arguments is assigned again
-
--- the nodes whose arguments read only such variables
-unfoldable pub kept : (ℕ → Bool) → List Noted → List Noted
-kept on [] = []
-kept on (e ∷ es) = if reads_only on e.1 then e ∷ kept on es else kept on es
-
-abbrev pub is_other : ℕ → ℕ → Bool
-is_other x y = not (y == x)
-
--- no name stands for itself: a replication's index may be named as a constant
-abbrev pub no_name : ℕ → Bool
-no_name y = false
-
--- each left event has its right events above it in its body
-unfoldable pub covered : Correspondence → List Noted → Tree → Bool
-covered q above Empty = true
-covered q above (Node (Event e) a b) = event_covered no_name q above e a && covered q ((e, a) ∷ above) b
-covered q above (Node (New x T) a b) = covered q (kept (is_other x) above) b
-covered q above (Node (Let x T) a b) = covered q (kept (is_other x) above) b
-covered q above (Node (Key x) a b) = covered q (kept (is_other x) above) b
-covered q above (Node (Call x l) a b) = covered q (kept (is_other x) above) b
-covered q above (Node Branch a b) = covered q (kept (λ y. not (binds a y)) above) b
-covered q above (Node (Out c) a b) = covered q [] b
-covered q above (Node (In c) a b) = covered q [] b
-covered q above (Node h a b) = covered q above a && covered q above b
-
-pub record IsDirect (q : Correspondence) (game : Tree) : Type 0 where
-  pub inj : q.inj ≡ false
-  pub others : q.others ≡ []
-  pub covered : covered q [] game ≡ true

@@ -16,4 +16,3 @@ pub mod Correspondences
 pub mod Chances
 pub mod Advantage
 pub mod Direct
-pub mod Worked

@@ -8,8 +8,8 @@ use Rattle.cv_meaning.specs.Memory.{Happened, Indices, nowhere}
 use Rattle.cv_meaning.specs.Terms.{value, values, is_one}
 use Rattle.cv_meaning.specs.Candidates.{below}
 use Rattle.cv_meaning.specs.Correspondences.{Correspondence, Atom, RightEvent, RightTerm, is_event, holds, assignments, left_values, is_left, is_met, is_used, positions, ways}
-use Rattle.cv_meaning.proofs.Counts.{same_tuple_refl, same_tuple_exact}
-use Rattle.cv_meaning.proofs.Listed.{Has, has_left, has_right, has_flat_map}
+use Rattle.cv_meaning_laws.proofs.Counts.{same_tuple_refl, same_tuple_exact}
+use Rattle.cv_meaning_laws.proofs.Listed.{Has, has_left, has_right, has_flat_map}
 use Rattle.cv_meaning_adequacy.specs.Broken.{StandsAt, AreValues, query_values, right_event, Holds, HoldsWith, IsMet, HasUnmet}
 use Rattle.cv_meaning_adequacy.proofs.Lists.{or_cases, or_true, any_has, has_any, has_append, flat_map_has, stands_has, has_stands, contains_has, has_contains, all_stands, stands_all, below_has, has_below}
 

@@ -6,8 +6,8 @@ use Rattle.std.proofs.Math.Path.{fun_ext}
 use Rattle.std.specs.List.{count_by}
 use Rattle.cv_meaning.specs.Tapes.{Cell, Tape, same_cell, written, sum_below, count, total}
 use Rattle.cv_meaning.specs.Candidates.{below}
-use Rattle.cv_meaning.proofs.Counts.{same_cell_exact, count_true}
-use Rattle.cv_meaning.proofs.Listed.{Has}
+use Rattle.cv_meaning_laws.proofs.Counts.{same_cell_exact, count_true}
+use Rattle.cv_meaning_laws.proofs.Listed.{Has}
 use Rattle.cv_meaning_adequacy.specs.Counted.{tapes_of}
 use Rattle.cv_meaning_adequacy.proofs.Lists.{flat_map_has, below_has}
 

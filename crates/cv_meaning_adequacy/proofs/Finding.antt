@@ -10,7 +10,7 @@ use Rattle.cv_meaning.specs.Memory.{Store, Indices}
 use Rattle.cv_meaning.specs.Terms.{value, is_one}
 use Rattle.cv_meaning.specs.Binders.{fits, binder_count, widest_binder}
 use Rattle.cv_meaning.specs.Candidates.{Candidate, below, tuples_up_to, is_assigned, are_assigned, is_candidate, candidate, candidates_at, most_indices, widest, candidates}
-use Rattle.cv_meaning.proofs.Listed.{Has, has_left, has_right, has_map, has_flat_map}
+use Rattle.cv_meaning_laws.proofs.Listed.{Has, has_left, has_right, has_map, has_flat_map}
 use Rattle.cv_meaning_adequacy.specs.Finds.{branch_at, AreIndices, IsAssigned, AreAssigned, with_indices, IsCandidate, IsCandidateOf, IsEarlier, IsBefore}
 use Rattle.cv_meaning_adequacy.proofs.Lists.{has_append, flat_map_has, map_has, has_below, contains_has, has_contains}
 use Rattle.cv_meaning_adequacy.proofs.Ordered.{Ordered, ordered_pairs, ordered_append, ordered_map, ordered_flat_map, ordered_below}

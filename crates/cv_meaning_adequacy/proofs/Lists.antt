@@ -4,7 +4,7 @@ use Rattle.std.proofs.lemmas.Bool.{both_ways, and_parts, and_from, eqb-false}
 use Rattle.std.proofs.lemmas.Option.{slice_get-get_or, slice_get_within, get_or_from_slice_get}
 use Rattle.std.specs.List.{list_any, list_all, All, Contains}
 use Rattle.cv_meaning.specs.Candidates.{below}
-use Rattle.cv_meaning.proofs.Listed.{Has, has_left, has_right}
+use Rattle.cv_meaning_laws.proofs.Listed.{Has, has_left, has_right}
 use Rattle.cv_meaning_adequacy.specs.Broken.{StandsAt}
 
 pub or_cases : (a b : Bool) → (a || b) ≡ true → (a ≡ true) ⊎ (b ≡ true)

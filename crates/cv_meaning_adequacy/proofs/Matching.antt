@@ -7,7 +7,7 @@ use Rattle.cv_syntax.specs.Tree.{Tree}
 use Rattle.cv_meaning.specs.Interpretation.{Setting}
 use Rattle.cv_meaning.specs.Memory.{Happened}
 use Rattle.cv_meaning.specs.Correspondences.{Correspondence, RightEvent, assignments, left_values, is_left, is_met, is_used, ways, can_match, broken}
-use Rattle.cv_meaning.proofs.Listed.{has_flat_map}
+use Rattle.cv_meaning_laws.proofs.Listed.{has_flat_map}
 use Rattle.cv_meaning_adequacy.specs.Broken.{StandsAt, AreValues, query_values, IsLeftAt, IsMet, AllMet, HasUnmet, Choice, HasMatching, IsKept, IsBroken}
 use Rattle.cv_meaning_adequacy.proofs.Lists.{any_has, has_any, flat_map_has}
 use Rattle.cv_meaning_adequacy.proofs.Breaking.{names, assigned_values, values_assigned, unmet, met_means, means_met, plain_means, means_plain, Used, used_with, used_kept, used_new, used_only, AtomsHold, Fresh, Way, ways_sound, ways_complete}

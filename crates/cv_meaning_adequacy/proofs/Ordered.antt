@@ -3,7 +3,7 @@ use Rattle.std.proofs.Common.{ℕ, zero, suc, ◌<◌, List, [], ◌∷◌, ◌+
 use Rattle.std.proofs.lemmas.List.Kept.{AllPairs-cons}
 use Rattle.std.specs.List.{AllPairs}
 use Rattle.cv_meaning.specs.Candidates.{below}
-use Rattle.cv_meaning.proofs.Listed.{Has}
+use Rattle.cv_meaning_laws.proofs.Listed.{Has}
 use Rattle.cv_meaning_adequacy.proofs.Lists.{has_append, flat_map_has, map_has, below_has, has_all}
 
 abbrev pub Ordered : {A : Type 0} → (A → A → Type 0) → List A → Type 0

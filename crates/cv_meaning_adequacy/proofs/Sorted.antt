@@ -13,7 +13,7 @@ use Rattle.cv_meaning.specs.Memory.{Store, Indices}
 use Rattle.cv_meaning.specs.Terms.{or_zero, found_in, bit, leaf_value_from, value, values}
 use Rattle.cv_meaning.specs.Binders.{fits_types}
 use Rattle.cv_meaning.specs.Satisfies.{Satisfies, DeclarationHolds, IsTotal}
-use Rattle.cv_meaning.proofs.Listed.{Has}
+use Rattle.cv_meaning_laws.proofs.Listed.{Has}
 use Rattle.cv_meaning_adequacy.specs.Typed.{Sort, OfType, BelowParameter, boolean, size_of, Variable, Context, Scope, parameter_in, IsFunction, NameHasSort, HasSort, HaveSorts, IsModel, IsDeclared, AreIndicesOf, IsTypedStore}
 use Rattle.cv_meaning_adequacy.proofs.Lists.{contains_has}
 

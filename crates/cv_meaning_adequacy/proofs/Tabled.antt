@@ -14,8 +14,8 @@ use Rattle.cv_meaning.specs.Experiments.{coins_on, run, guesses_one, guessed}
 use Rattle.cv_meaning.specs.Correspondences.{Correspondence, correspondence_of, broken}
 use Rattle.cv_meaning.specs.Chances.{chance, distance}
 use Rattle.cv_meaning.specs.Advantage.{breaks, break_chance, guess_chance, advantage}
-use Rattle.cv_meaning.proofs.Counts.{same_tuple_refl, same_tuple_exact}
-use Rattle.cv_meaning.proofs.Listed.{Has, has_left, has_right, has_map, has_flat_map}
+use Rattle.cv_meaning_laws.proofs.Counts.{same_tuple_refl, same_tuple_exact}
+use Rattle.cv_meaning_laws.proofs.Listed.{Has, has_left, has_right, has_map, has_flat_map}
 use Rattle.cv_meaning_adequacy.specs.Counted.{tapes_of}
 use Rattle.cv_meaning_adequacy.specs.Tables.{same_reply, same_answer, same_answers, Row, move_in, Table, table_adversary, Play, run_of, Target, advantage_at}
 use Rattle.cv_meaning_adequacy.proofs.Lists.{flat_map_has, has_below, has_all}

@@ -14,10 +14,10 @@ use Rattle.cv_meaning.specs.Inputs.{Input, inputs_of, message_binders}
 use Rattle.cv_meaning.specs.Serving.{Served, after_find, step, serve, after_turn}
 use Rattle.cv_meaning.specs.Runs.{Mode, Move, Calls, Tests, Guesses, State, Adversary, Taken, taken, called, told, tested_with, moved, admitted, if_fitting, start}
 use Rattle.cv_meaning.specs.Experiments.{run, coins_on}
-use Rattle.cv_meaning.proofs.Counts.{same_tuple_exact}
-use Rattle.cv_meaning.proofs.Direct.{each_append}
-use Rattle.cv_meaning.proofs.DirectRuns.{TakenEach, admitted_each, run_keeps}
-use Rattle.cv_meaning.proofs.Listed.{Has, each_flat_map_in}
+use Rattle.cv_meaning_laws.proofs.Counts.{same_tuple_exact}
+use Rattle.cv_meaning_laws.proofs.Lists.{each_append}
+use Rattle.cv_meaning_laws.proofs.Moves.{TakenEach, admitted_each, run_keeps}
+use Rattle.cv_meaning_laws.proofs.Listed.{Has, each_flat_map_in}
 use Rattle.cv_meaning_adequacy.specs.Finds.{branch_at, AreIndices, IsCandidateOf}
 use Rattle.cv_meaning_adequacy.specs.Typed.{Sort, OfType, BelowParameter, size_of, Variable, Context, Scope, parameters, AreVariables, AreBranches, IsTyped, IsModel, AreBelowParameters, AreIndicesOf, IsTypedStore, IsTypedTape}
 use Rattle.cv_meaning_adequacy.proofs.Lists.{below_has, stands_has}

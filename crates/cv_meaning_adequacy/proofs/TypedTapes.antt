@@ -10,7 +10,7 @@ use Rattle.cv_meaning.specs.Side.{Side}
 use Rattle.cv_meaning.specs.Interpretation.{Interpretation, Setting, setting_with}
 use Rattle.cv_meaning.specs.Runs.{Mode, Events, Real, Random, Adversary}
 use Rattle.cv_meaning.specs.Cells.{tuples_below, bounds_under, at_each_copy, cells_at, if_tested, test_cells_at, test_cells, coin_cells, without_repeats, cells}
-use Rattle.cv_meaning.proofs.Listed.{Has, is_not}
+use Rattle.cv_meaning_laws.proofs.Listed.{Has, is_not}
 use Rattle.cv_meaning_adequacy.specs.Counted.{tapes_of}
 use Rattle.cv_meaning_adequacy.specs.Typed.{size_of, Variable, Context, IsModel, HasTypedRestrictions, LeavesRestrictions, IsTypedTape}
 use Rattle.cv_meaning_adequacy.proofs.Lists.{has_append, flat_map_has, has_contains, has_all, filter_has}

@@ -2,7 +2,7 @@
 use Rattle.std.proofs.Common.{◌≡◌, ℕ, Bool, true, false, cond, ◌==◌, [], ◌∷◌, Some, None, refl, sym, ap, subst, ◌∙◌, inl, inr, arith}
 use Rattle.cv_syntax.specs.Tree.{Empty}
 use Rattle.cv_meaning.specs.Side.{no_side}
-use Rattle.cv_meaning.specs.Worked.{colliding_game, finder, nonce_at, own, interpretation_of_file}
+use Rattle.cv_meaning_laws.specs.Worked.{colliding_game, finder, nonce_at, own, interpretation_of_file}
 use Rattle.cv_meaning_adequacy.specs.Typed.{Sort, OfType, BelowParameter, boolean, Variable, Scope, HasSort, HaveSorts, IsTyped, IsModel, IsDeclared, HasTypedRestrictions, LeavesRestrictions}
 use Rattle.cv_meaning_adequacy.specs.WorkedTyping.{nonces, found_indices, worked_variables, worked_context}
 use Rattle.cv_meaning_adequacy.proofs.Lists.{contains_has, has_contains}

@@ -13,7 +13,7 @@ ghost use Rattle.cv_meaning.specs.Runs.{Adversary, Mode};
 ghost use Rattle.cv_meaning.specs.Cells.{cells};
 ghost use Rattle.cv_meaning.specs.Experiments.{run};
 ghost use Rattle.cv_meaning.specs.Correspondences.{Correspondence, correspondence_of, broken};
-ghost use Rattle.cv_meaning.specs.Worked.{colliding_game, finder, nonce_at, interpretation_of_file};
+ghost use Rattle.cv_meaning_laws.specs.Worked.{colliding_game, finder, nonce_at, interpretation_of_file};
 ghost use Rattle.cv_meaning_adequacy.specs.Broken.{IsKept, IsBroken};
 ghost use Rattle.cv_meaning_adequacy.specs.Queries.{IsOnTheRightAlone};
 ghost use Rattle.cv_meaning_adequacy.specs.Finds.{IsCandidateOf, IsBefore, times_chosen};

@@ -6,7 +6,7 @@ use Rattle.std.proofs.lemmas.Map.Keys.{IsDistinct-cons}
 use Rattle.std.proofs.lemmas.Map.Made.{IsDistinct-keys_filter}
 use Rattle.std.specs.List.{AllByRecursion}
 use Rattle.cv_meaning.specs.Tapes.{Cell, Tape, same_cell, cells_of, written, sum_below, count, total}
-use Rattle.cv_meaning.proofs.Counts.{sum_same, count_true, count_false}
+use Rattle.cv_meaning_laws.proofs.Counts.{sum_same, count_true, count_false}
 use Rattle.cv_meaning_chances.specs.Tests.{HasDistinctCells}
 use Rattle.cv_meaning_chances.specs.Questions.{Questions, Says, Asks, answer, without, AskAlike}
 use Rattle.cv_meaning_chances.proofs.Within.{same_cell_flip, later_distinct, not_later, written_here, count_same_off}

@@ -5,7 +5,7 @@ use Rattle.std.proofs.lemmas.List.Elements.{Contains-append_left, Contains-appen
 use Rattle.std.proofs.lemmas.List.Sorted.{IsPermutation-map, IsPermutation-middle}
 use Rattle.std.proofs.lemmas.Map.Keys.{IsDistinct-IsPermutation}
 use Rattle.cv_meaning.specs.Tapes.{Cell, Tape, same_cell, cells_of, is_in, written, count, total}
-use Rattle.cv_meaning.proofs.Counts.{same_cell_refl, same_cell_exact, sum_same, count_swap}
+use Rattle.cv_meaning_laws.proofs.Counts.{same_cell_refl, same_cell_exact, sum_same, count_swap}
 use Rattle.cv_meaning_chances.specs.Tests.{HasDistinctCells}
 use Rattle.cv_meaning_chances.proofs.Within.{same_cell_flip, later_distinct, not_later}
 

@@ -6,7 +6,7 @@ use Rattle.std.proofs.lemmas.Map.Keys.{IsDistinct-head, IsDistinct-tail}
 use Rattle.std.specs.List.{AllByRecursion, IsDistinct, list_any}
 use Rattle.cv_meaning.specs.Tapes.{Cell, Tape, blank, same_cell, written, sum_below, count, total}
 use Rattle.cv_meaning.specs.Chances.{chance, AtMost}
-use Rattle.cv_meaning.proofs.Counts.{same_cell_exact, count_le, count_same, sum_same, sum_le, sum_swap, sum_zero, count_or, count_true, count_false}
+use Rattle.cv_meaning_laws.proofs.Counts.{same_cell_exact, count_le, count_same, sum_same, sum_le, sum_swap, sum_zero, count_or, count_true, count_false}
 use Rattle.cv_meaning_chances.specs.Tests.{HasDistinctCells, Ignores, hits_one_of, some_equal}
 use Rattle.cv_meaning_chances.specs.Fractions.{one_of, birthday_bound}
 use Rattle.cv_meaning_chances.proofs.Within.{count_cases, same_cell_flip, later_distinct, not_later, written_here, written_apart, count_same_off}

@@ -6,7 +6,7 @@ use Rattle.std.proofs.lemmas.Map.Keys.{IsDistinct-cons, IsDistinct-head, IsDisti
 use Rattle.std.specs.List.{AllByRecursion}
 use Rattle.cv_meaning.specs.Tapes.{Cell, Tape, blank, same_cell, cells_of, written, count, total}
 use Rattle.cv_meaning.specs.Chances.{chance}
-use Rattle.cv_meaning.proofs.Counts.{same_cell_refl, same_cell_exact, sum_same}
+use Rattle.cv_meaning_laws.proofs.Counts.{same_cell_refl, same_cell_exact, sum_same}
 use Rattle.cv_meaning_chances.specs.Tests.{HasDistinctCells, renamed, IsOneToOne}
 
 same_renamed : (name : Cell → Cell) → IsOneToOne name → (c d : Cell) → same_cell (name c) (name d) ≡ same_cell c d

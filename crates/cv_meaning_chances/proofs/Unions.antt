@@ -6,7 +6,7 @@ use Rattle.std.proofs.lemmas.List.Sums.{sum_by-cons}
 use Rattle.std.specs.List.{AllByRecursion, list_any}
 use Rattle.cv_meaning.specs.Tapes.{Cell, Tape, blank, count, total}
 use Rattle.cv_meaning.specs.Chances.{Chance, chance, AtMost, distance}
-use Rattle.cv_meaning.proofs.Counts.{count_or, count_false}
+use Rattle.cv_meaning_laws.proofs.Counts.{count_or, count_false}
 use Rattle.cv_meaning_chances.specs.Tests.{HasDistinctCells, IsWithin}
 use Rattle.cv_meaning_chances.specs.Fractions.{plus, sum_of, times}
 use Rattle.cv_meaning_chances.proofs.FractionLaws.{least_distance}

@@ -3,7 +3,7 @@ use Rattle.std.proofs.Common.{◌≡◌, ℕ, ◌*◌, Bool, true, false, cond, 
 use Rattle.std.proofs.Math.Path.{fun_ext}
 use Rattle.cv_meaning.specs.Tapes.{Cell, Tape, blank, same_cell, written, count, total}
 use Rattle.cv_meaning.specs.Chances.{chance, Same}
-use Rattle.cv_meaning.proofs.Counts.{Agree, Reads, same_cell_refl, same_cell_exact, count_agree, count_unread}
+use Rattle.cv_meaning_laws.proofs.Counts.{Agree, Reads, same_cell_refl, same_cell_exact, count_agree, count_unread}
 use Rattle.cv_meaning_chances.specs.Tests.{Ignores}
 use Rattle.cv_meaning_chances.proofs.Within.{written_apart}
 

@@ -4,7 +4,7 @@ use Rattle.std.proofs.lemmas.Bool.{both_ways, or_parts}
 use Rattle.std.proofs.lemmas.Map.Keys.{IsDistinct-head, IsDistinct-tail}
 use Rattle.std.specs.List.{AllByRecursion}
 use Rattle.cv_meaning.specs.Tapes.{Cell, Tape, same_cell, cells_of, is_in, written, sum_below, count, total}
-use Rattle.cv_meaning.proofs.Counts.{same_cell_refl, same_cell_exact, sum_same, sum_add, count_le, count_true}
+use Rattle.cv_meaning_laws.proofs.Counts.{same_cell_refl, same_cell_exact, sum_same, sum_add, count_le, count_true}
 use Rattle.cv_meaning_chances.specs.Tests.{HasDistinctCells, HasValues, IsWithin}
 
 -- cells

@@ -1,8 +1,8 @@
 -- A message is accepted exactly where its tag was asked for and the function accepts it.
 use Rattle.std.proofs.Common.{◌≡◌, ℕ, Bool, true, false, ◌&&◌, ◌==◌, if◌then◌else◌, List, [], ◌∷◌, ◌++◌, refl, ap, ◌∙◌}
 use Rattle.std.proofs.Math.Nat.{mod-one}
-use Rattle.cv_syntax.specs.declared.head.Head.TheVariants.{No}
-use Rattle.cv_syntax.specs.Tree.{lone, first}
+use Rattle.cv_syntax.specs.declared.head.Head.TheVariants.{No, Find}
+use Rattle.cv_syntax.specs.Tree.{lone, first, second_place}
 use Rattle.cv_meaning.specs.Tapes.{Tape, Key_at, Picked_at}
 use Rattle.cv_meaning.specs.Memory.{no_memory}
 use Rattle.cv_meaning.specs.Interpretation.{Interpretation, setting_of}
@@ -59,7 +59,7 @@ both_hold false d = refl
 
 -- the only candidate is picked
 entered : (i : Interpretation) (t : Tape) (m n z v : ℕ) (b : Bool) →
-    (after_pick (branch_answer (oracles i) t (checking t m n z) (first was_authenticated)) (body_answer (oracles i) t (checking t m n z) (lone No)) (picked (if_accepted b) v)).value ≡ bit b
+    (after_pick (branch_answer (oracles i) t (checking t m n z) 1 (first was_authenticated)) (body_answer (oracles i) t (checking t m n z) (second_place 0 (Find 1) (first was_authenticated)) (lone No)) (picked (if_accepted b) v)).value ≡ bit b
 unfolding picked body_value body_answer branch_answer
 entered i t m n z v true = rw (mod-one v) refl
 entered i t m n z v false = refl
@@ -67,7 +67,7 @@ entered i t m n z v false = refl
 served : (i : Interpretation) (t : Tape) (m n z : ℕ) →
     answers (authenticating i was_authenticated) t (tag 0 m ∷ check 0 n z ∷ [])
     ≡ i.table 40 (m ∷ key_on t ∷ [])
-    ∷ (after_pick (branch_answer (oracles i) t (checking t m n z) (first was_authenticated)) (body_answer (oracles i) t (checking t m n z) (lone No)) (picked (picks (oracles i) (checking t m n z) (first was_authenticated)) (t (Picked_at 1 (0 ∷ 1 ∷ []) 1)))).value
+    ∷ (after_pick (branch_answer (oracles i) t (checking t m n z) 1 (first was_authenticated)) (body_answer (oracles i) t (checking t m n z) (second_place 0 (Find 1) (first was_authenticated)) (lone No)) (picked (picks (oracles i) (checking t m n z) (first was_authenticated)) (t (Picked_at 0 (0 ∷ 1 ∷ []) 1)))).value
     ∷ []
 unfolding body_value body_values body_answer branch_answer reply
 served i t m n z = refl
@@ -77,5 +77,5 @@ pub authenticated : (i : Interpretation) (t : Tape) (m n z : ℕ) →
     ≡ i.table 40 (m ∷ t (Key_at (0 ∷ [])) ∷ []) ∷ bit ((n == m) && is_one (i.table 41 (m ∷ t (Key_at (0 ∷ [])) ∷ z ∷ []))) ∷ []
 authenticated i t m n z =
     served i t m n z
-    ∙ ap (λ cs. i.table 40 (m ∷ key_on t ∷ []) ∷ (after_pick (branch_answer (oracles i) t (checking t m n z) (first was_authenticated)) (body_answer (oracles i) t (checking t m n z) (lone No)) (picked cs (t (Picked_at 1 (0 ∷ 1 ∷ []) 1)))).value ∷ []) (found i t m n z ∙ ap among_others (both_hold (n == m) (accepts i t m z)) ∙ alone ((n == m) && accepts i t m z))
-    ∙ ap (λ v. i.table 40 (m ∷ key_on t ∷ []) ∷ v ∷ []) (entered i t m n z (t (Picked_at 1 (0 ∷ 1 ∷ []) 1)) ((n == m) && accepts i t m z))
+    ∙ ap (λ cs. i.table 40 (m ∷ key_on t ∷ []) ∷ (after_pick (branch_answer (oracles i) t (checking t m n z) 1 (first was_authenticated)) (body_answer (oracles i) t (checking t m n z) (second_place 0 (Find 1) (first was_authenticated)) (lone No)) (picked cs (t (Picked_at 0 (0 ∷ 1 ∷ []) 1)))).value ∷ []) (found i t m n z ∙ ap among_others (both_hold (n == m) (accepts i t m z)) ∙ alone ((n == m) && accepts i t m z))
+    ∙ ap (λ v. i.table 40 (m ∷ key_on t ∷ []) ∷ v ∷ []) (entered i t m n z (t (Picked_at 0 (0 ∷ 1 ∷ []) 1)) ((n == m) && accepts i t m z))

@@ -8,7 +8,7 @@ use Rattle.cv_syntax.specs.Tree.{Tree, Empty, Node, first, second}
 use Rattle.cv_meaning.specs.Side.{CallNumber}
 use Rattle.cv_meaning.specs.Terms.{is_one}
 use Rattle.cv_meaning.specs.Candidates.{tuples_up_to}
-use Rattle.cv_meaning.proofs.Direct.{each_append, each_flat_map}
+use Rattle.cv_meaning_laws.proofs.Lists.{each_append, each_flat_map}
 use Rattle.cv_meaning_contexts.specs.Sites.{Site, sites_at, most_bounds, greatest_bound}
 use Rattle.cv_meaning_contexts.specs.Frames.{Frame, IsCall, with_call, meaning_of}
 use Rattle.cv_meaning_contexts.specs.BodyTerms.{call_meant, call_at, array_at, body_value}

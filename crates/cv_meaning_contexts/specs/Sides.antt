@@ -3,7 +3,7 @@
 use Rattle.std.specs.Prelude.{ℕ, List, [], ◌∷◌, ◌++◌, map, Option, Some, None}
 use Rattle.cv_syntax.specs.declared.head.Head.{Head}
 use Rattle.cv_syntax.specs.declared.head.Head.TheVariants.{New, Find}
-use Rattle.cv_syntax.specs.Tree.{Tree, Empty, Node}
+use Rattle.cv_syntax.specs.Tree.{Tree, Empty, Node, first_place, second_place}
 use Rattle.cv_syntax.specs.Declarations.{Declaration}
 use Rattle.cv_meaning.specs.Tapes.{Cell, Made_at, Picked_at}
 use Rattle.cv_meaning.specs.Side.{CallNumber, Side}
@@ -19,18 +19,18 @@ use Rattle.cv_meaning_contexts.specs.Bodies.{function_called, reply}
 abbrev pub chosen_cell : Interpretation → CallNumber → ℕ × ℕ → Cell × ℕ
 chosen_cell i n x = (Made_at x.0 n.tuple n.site, i.type_size x.1)
 
-abbrev pub cells_here : Interpretation → CallNumber → Head → List (Cell × ℕ)
-cells_here i n (New x T) = chosen_cell i n (x, T) ∷ []
-cells_here i n (Find l) = (Picked_at l n.tuple n.site, i.choices) ∷ []
-cells_here i n h = []
+abbrev pub cells_here : Interpretation → CallNumber → ℕ → Head → List (Cell × ℕ)
+cells_here i n p (New x T) = chosen_cell i n (x, T) ∷ []
+cells_here i n p (Find l) = (Picked_at p n.tuple n.site, i.choices) ∷ []
+cells_here i n p h = []
 
-unfoldable pub body_cells : Interpretation → CallNumber → Tree → List (Cell × ℕ)
-body_cells i n Empty = []
-body_cells i n (Node h a b) = cells_here i n h ++ (body_cells i n a ++ body_cells i n b)
+unfoldable pub body_cells : Interpretation → CallNumber → ℕ → Tree → List (Cell × ℕ)
+body_cells i n p Empty = []
+body_cells i n p (Node h a b) = cells_here i n p h ++ (body_cells i n (first_place p h) a ++ body_cells i n (second_place p h a) b)
 
 abbrev pub function_cells : Interpretation → CallNumber → Option Function → List (Cell × ℕ)
 function_cells i n None = []
-function_cells i n (Some f) = without_repeats (map (chosen_cell i n) f.coins ++ body_cells i n f.body)
+function_cells i n (Some f) = without_repeats (map (chosen_cell i n) f.coins ++ body_cells i n 0 f.body)
 
 abbrev pub side_from : Oracles → Side
 side_from o =

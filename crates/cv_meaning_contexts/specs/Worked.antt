@@ -15,7 +15,7 @@ use Rattle.cv_meaning.specs.Memory.{no_memory}
 use Rattle.cv_meaning.specs.Terms.{bit}
 use Rattle.cv_meaning.specs.Serving.{Sent}
 use Rattle.cv_meaning.specs.Runs.{Move, Calls, Tests, Guesses, Answer, Replied, Told}
-use Rattle.cv_meaning.specs.Worked.{leaf, read, input, output, event, branch, find}
+use Rattle.cv_syntax.specs.Builders.{leaf, read, input, output, event, branch, find}
 use Rattle.cv_meaning_contexts.specs.Groups.{group_of}
 use Rattle.cv_meaning_contexts.specs.Sites.{Site}
 use Rattle.cv_meaning_contexts.specs.Sides.{Context, side_from}
@@ -162,9 +162,33 @@ is_bound_here = find 1 (branch ((36, 24) ∷ []) (argument_at 36 ∷ leaf 34 ∷
 abbrev pub bound_or_not : Tree
 bound_or_not = test (leaf 31) (Node (Let 34 0) (lone Yes) is_bound_here) is_bound_here
 
+-- two finds of one body under one label: whether both pick one call
+-- find 36<=24 suchthat defined(31[36]) && true then
+--   find 37<=24 suchthat defined(31[37]) && true then 37 = 36 else false
+-- else false
+abbrev pub one_label : Tree
+one_label =
+    find 1 (any_put (find 1 (branch ((37, 24) ∷ []) (argument_at 37 ∷ []) (lone Yes) (equal (leaf 37) (leaf 36)) ∷ []) (lone No)) ∷ []) (lone No)
+
+-- new 34: T; 34
+abbrev pub choosing : ℕ → Tree
+choosing T = Node (New 34 T) Empty (leaf 34)
+
+-- a variable that both branches choose: of the type 38, and of a given type
+-- if 31 then new 34: 38; 34 else new 34: T; 34
+abbrev pub choosing_twice : ℕ → Tree
+choosing_twice T = test (leaf 31) (choosing 38) (choosing T)
+
+-- type 38 has one value, and each other type two
+abbrev pub uneven : Interpretation
+uneven = record parity { type_size = λ T. if T == 38 then 1 else 2 }
+
 -- two replicated sites and one without a replication that put, and one that gets
+abbrev pub kept_by : Interpretation → Tree → Side
+kept_by i g = side_at (setting_of [] i) (site 0 0 (2 ∷ []) ∷ site 1 0 (2 ∷ []) ∷ site 2 1 [] ∷ site 3 0 [] ∷ []) g
+
 abbrev pub keeper : Interpretation → Tree → Side
-keeper i got = side_at (setting_of [] i) (site 0 0 (2 ∷ []) ∷ site 1 0 (2 ∷ []) ∷ site 2 1 [] ∷ site 3 0 [] ∷ []) (keeping got)
+keeper i got = kept_by i (keeping got)
 
 abbrev pub put : ℕ → List ℕ → ℕ → OracleCall
 put l u v = call_with [] (at_site l u) (v ∷ [])
@@ -174,7 +198,7 @@ get v = call_with [] (at_site 2 []) (v ∷ [])
 
 -- the tape of zeros, with a value by which the find of that call picks
 abbrev pub picking : ℕ → Tape
-picking v = written blank (Picked_at 1 [] 2) v
+picking v = written blank (Picked_at 0 [] 2) v
 
 -- the last answer, or 0
 abbrev pub last_of : List ℕ → ℕ
@@ -186,6 +210,18 @@ last_of (v ∷ w ∷ vs) = last_of (w ∷ vs)
 -- let 34: bool = true in let 34: bool = 31 in if false || 34 then 40(34, 35) else true
 abbrev pub bound_twice : Tree
 bound_twice = Node (Let 34 0) (lone Yes) (Node (Let 34 0) (leaf 31) (test (Node Or (lone No) (leaf 34)) (apply 40 (leaf 34 ∷ leaf 35 ∷ [])) (lone Yes)))
+
+-- a function that answers a name which it binds again
+-- 22: !23<=24 coins; (x: 5) -> body
+abbrev pub binding_again : List (ℕ × ℕ) → ℕ → Tree → Tree
+binding_again coins x body = group (oracle 22 (Bound 23 24) coins ((x, 5) ∷ []) body ∷ [])
+
+abbrev pub binder_again : Interpretation → Tree → Side
+binder_again i g = side_at (setting_of [] i) (site 0 0 [] ∷ []) g
+
+-- 22: !23<=24 (31: 5) -> let 31: bool = true in 31 | 25: !26<=27 (31: 5) -> got
+abbrev pub renewing : Tree → Tree
+renewing got = group (oracle 22 (Bound 23 24) [] ((31, 5) ∷ []) (Node (Let 31 0) (lone Yes) (leaf 31)) ∷ oracle 25 (Bound 26 27) [] ((31, 5) ∷ []) got ∷ [])
 
 -- a function that answers a constant
 abbrev pub constant_group : Tree

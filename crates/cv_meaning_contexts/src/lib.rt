@@ -11,7 +11,9 @@ ghost use Rattle.cv_meaning.specs.Side.{Arrays, CallNumber, OracleCall};
 ghost use Rattle.cv_meaning.specs.Interpretation.{Interpretation, setting_of};
 ghost use Rattle.cv_meaning.specs.Terms.{bit, is_one};
 ghost use Rattle.cv_meaning.specs.Runs.{Adversary, Real, Random};
-ghost use Rattle.cv_meaning.specs.Worked.{adversary, never_query, leaf, declared_file};
+ghost use Rattle.cv_meaning.specs.Chances.{chance};
+ghost use Rattle.cv_syntax.specs.Builders.{leaf};
+ghost use Rattle.cv_meaning_laws.specs.Worked.{adversary, never_query, declared_file};
 ghost use Rattle.cv_meaning_contexts.specs.Groups.{Left, Right, side_group};
 ghost use Rattle.cv_meaning_contexts.specs.Sites.{sites_of};
 ghost use Rattle.cv_meaning_contexts.specs.Frames.{Frame};
@@ -20,7 +22,7 @@ ghost use Rattle.cv_meaning_contexts.specs.Made.{WasMade, have_own_cells};
 ghost use Rattle.cv_meaning_contexts.specs.Sides.{Context, side_from, side_of};
 ghost use Rattle.cv_meaning_contexts.specs.ContextAdvantage.{Experiment, Breaks, Guesses, context_chance, context_advantage};
 ghost use Rattle.cv_meaning_contexts.specs.OwnCells.{IsOfCall};
-ghost use Rattle.cv_meaning_contexts.specs.Worked.{parity, answers, at_site, site, side_at, encrypting, encryption, chosen_after, encryption_equivalence, encrypter, was_authenticated, checked, authenticating, tag, check, call_with, bound_twice, constant_group, keeper, one_put, one_of_two_branches, two_alike, bound_or_not, itself, put, get, last_of, picking, guessing, is_key, guess_equivalence, guess_context, guesses_zero, tells_the_test, authentication_context, forges, asks, replicated_game};
+ghost use Rattle.cv_meaning_contexts.specs.Worked.{binding_again, binder_again, choosing, choosing_twice, kept_by, one_label, renewing, uneven, parity, answers, at_site, site, side_at, encrypting, encryption, chosen_after, encryption_equivalence, encrypter, was_authenticated, checked, authenticating, tag, check, call_with, bound_twice, constant_group, keeper, one_put, one_of_two_branches, two_alike, bound_or_not, itself, put, get, last_of, picking, guessing, is_key, guess_equivalence, guess_context, guesses_zero, tells_the_test, authentication_context, forges, asks, replicated_game};
 
 /// An equivalence whose two sides are one group has the advantage zero in every context and every
 /// experiment, and so has any context whose two sides answer alike, whatever the interpretation and
@@ -105,14 +107,49 @@ pub fn worked_coins()
         (encrypter i (encrypting [] chosen_after)).key_size ≡ i.type_size 5 }
 {}
 
-/// Of a name that is bound twice the newest binding counts, and a name that nothing binds has the value
-/// 0, unless it is a constant. A site that the side doesn't have is answered by 0.
+/// A name that nothing binds has the value 0, unless it is a constant. A site that the side doesn't have
+/// is answered by 0.
 pub fn worked_bodies()
     ensures bound_twice { answers (keeper parity bound_twice) blank
         (get 1 ∷ get 0 ∷ call_with [] (at_site 7 []) (1 ∷ []) ∷ []) ≡ 1 ∷ 1 ∷ 0 ∷ [] }
     ensures constant { (i : Interpretation) →
         answers (side_at (setting_of declared_file i) (site 0 0 [] ∷ []) constant_group) blank
         (call_with [] (at_site 0 []) [] ∷ []) ≡ i.table 6 [] ∷ [] }
+{}
+
+/// Of a name that is bound twice the newest binding is meant, in the order of the text: an argument hides
+/// the coin and the key of its name, and what a body binds hides the argument, in terms and in arrays.
+pub fn worked_names()
+    ensures over_coin { (i : Interpretation) (t : Tape) (v : ℕ) →
+        answers (binder_again i (binding_again ((31, 38) ∷ []) 31 (leaf 31))) t
+        (call_with [] (at_site 0 []) (v ∷ []) ∷ []) ≡ v ∷ [] }
+    ensures over_key { (i : Interpretation) (t : Tape) (v : ℕ) →
+        answers (binder_again i (binding_again [] 30 (leaf 30))) t
+        (call_with [] (at_site 0 []) (v ∷ []) ∷ []) ≡ v ∷ [] }
+    ensures coin_over_key { (i : Interpretation) (t : Tape) (v : ℕ) →
+        answers (binder_again i (binding_again ((30, 38) ∷ []) 31 (leaf 30))) t
+        (call_with [] (at_site 0 []) (v ∷ []) ∷ []) ≡ t (Made_at 30 [] 0) ∷ [] }
+    ensures over_argument { (i : Interpretation) (t : Tape) (v : ℕ) →
+        answers (binder_again i (binding_again [] 34 (choosing 38))) t
+        (call_with [] (at_site 0 []) (v ∷ []) ∷ []) ≡ t (Made_at 34 [] 0) ∷ [] }
+    ensures in_arrays { answers (kept_by parity (renewing one_put)) blank
+        (put 0 (0 ∷ []) 0 ∷ get 1 ∷ []) ≡ 1 ∷ 1 ∷ [] }
+{}
+
+/// Where both branches of a body choose one variable, they share its cell. Where they gave it two types,
+/// the cell would have the size of the first: a value that the second branch alone chooses on one tape of
+/// two would be chosen on none. So a name has one type wherever a function binds it.
+pub fn worked_types()
+    ensures shared { (i : Interpretation) →
+        (keeper i (choosing_twice 38)).cells (at_site 2 []) ≡ (Made_at 34 [] 2, i.type_size 38) ∷ [] }
+    ensures two_types { (i : Interpretation) →
+        (keeper i (choosing_twice 5)).cells (at_site 2 []) ≡ (Made_at 34 [] 2, i.type_size 38) ∷ [] }
+    ensures chosen_on_none { chance ((keeper uneven (choosing_twice 5)).cells (at_site 2 []))
+        (λ t. last_of (answers (keeper uneven (choosing_twice 5)) t (get 0 ∷ [])) == 1)
+        ≡ record { good = 0; all = 1 } }
+    ensures chosen_on_one { chance ((keeper uneven (choosing 5)).cells (at_site 2 []))
+        (λ t. last_of (answers (keeper uneven (choosing 5)) t (get 0 ∷ [])) == 1)
+        ≡ record { good = 1; all = 2 } }
 {}
 
 /// A find over earlier calls, whatever the values, the functions and the tape: a message is accepted
@@ -136,11 +173,11 @@ pub fn worked_authentication()
 {}
 
 /// The candidates of a find stand by tuple, then by site, and then by branch, in whatever order the calls
-/// were made, and each value of the find's cell picks one. Two calls with one value are told apart by their
-/// sites, and a call finds itself. A plain name in a list is that of the call that searches.
+/// were made, and each value of the find's cell picks one. Each find of a body has a cell of its own, by its
+/// place, whatever its label. Two calls with one value are told apart by their sites, and a call finds itself. A plain name in a list is that of the call that searches.
 pub fn worked_finds()
     ensures cells { (i : Interpretation) →
-        (keeper i one_put).cells (at_site 2 []) ≡ (Picked_at 1 [] 2, i.choices) ∷ [] }
+        (keeper i one_put).cells (at_site 2 []) ≡ (Picked_at 0 [] 2, i.choices) ∷ [] }
     ensures by_tuple { map (λ v. last_of (answers (keeper parity one_put) (picking v)
         (put 0 (1 ∷ []) 1 ∷ put 1 (0 ∷ []) 0 ∷ get 1 ∷ []))) (0 ∷ 1 ∷ 2 ∷ []) ≡ 0 ∷ 1 ∷ 0 ∷ [] }
     ensures by_length { map (λ v. last_of (answers (keeper parity one_put) (picking v)
@@ -151,6 +188,12 @@ pub fn worked_finds()
         (put 0 (0 ∷ []) 1 ∷ put 0 (1 ∷ []) 1 ∷ get 1 ∷ []))) (0 ∷ 1 ∷ 2 ∷ 3 ∷ []) ≡ 1 ∷ 0 ∷ 1 ∷ 0 ∷ [] }
     ensures each_half { count ((keeper parity one_put).cells (at_site 2 []))
         (λ t. last_of (answers (keeper parity one_put) t (put 0 (0 ∷ []) 0 ∷ put 0 (1 ∷ []) 1 ∷ get 1 ∷ [])) == 1) blank ≡ 1 }
+
+    ensures own_cells { (i : Interpretation) → (keeper i one_label).cells (at_site 2 [])
+        ≡ (Picked_at 0 [] 2, i.choices) ∷ (Picked_at 5 [] 2, i.choices) ∷ [] }
+    ensures own_choices { chance ((keeper parity one_label).cells (at_site 2 []))
+        (λ t. last_of (answers (keeper parity one_label) t (put 0 (0 ∷ []) 0 ∷ put 0 (1 ∷ []) 1 ∷ get 1 ∷ [])) == 1)
+        ≡ record { good = 2; all = 4 } }
 
     ensures alike { answers (keeper parity two_alike) blank
         (put 0 (0 ∷ []) 1 ∷ put 1 (0 ∷ []) 1 ∷ get 1 ∷ []) ≡ 1 ∷ 1 ∷ 1 ∷ [] }

@@ -10,7 +10,7 @@ use Rattle.cv_meaning.specs.Memory.{tuple}
 use Rattle.cv_meaning.specs.Inputs.{Input}
 use Rattle.cv_meaning.specs.Runs.{Mode, Adversary, Taken, taken, behind, is_at}
 use Rattle.cv_meaning.specs.Experiments.{run, visits_of_run}
-use Rattle.cv_meaning.proofs.Counts.{same_tuple_exact, same_tuple_refl}
+use Rattle.cv_meaning_laws.proofs.Counts.{same_tuple_exact, same_tuple_refl}
 use Rattle.cv_meaning_runs.specs.Placed.{IsInputOn, InputHas, IsSubtree}
 use Rattle.cv_meaning_runs.specs.Spots.{same_spot, spot_of_input, spots_of_visits, spots_of_inputs, same_address, HasOwnChannels}
 use Rattle.cv_meaning_runs.proofs.Lists.{distinct_right, all_map}

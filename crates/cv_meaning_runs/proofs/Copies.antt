@@ -7,7 +7,7 @@ use Rattle.cv_meaning.specs.Interpretation.{Setting}
 use Rattle.cv_meaning.specs.Memory.{Indices, tuple}
 use Rattle.cv_meaning.specs.Candidates.{below}
 use Rattle.cv_meaning.specs.Inputs.{Input, inputs_of}
-use Rattle.cv_meaning.proofs.Direct.{each_append}
+use Rattle.cv_meaning_laws.proofs.Lists.{each_append}
 use Rattle.cv_meaning_runs.proofs.Lists.{all_map, all_cross, Pairwise, pairwise_append}
 use Rattle.cv_meaning_runs.specs.Spots.{Spot, spot_of_input}
 

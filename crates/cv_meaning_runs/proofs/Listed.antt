@@ -12,9 +12,9 @@ use Rattle.cv_meaning.specs.Serving.{Visit}
 use Rattle.cv_meaning.specs.Cells.{at_each_copy, cells_at, test_cells_at, test_cells, coin_cells, cells}
 use Rattle.cv_meaning.specs.Experiments.{coins_on}
 use Rattle.cv_meaning.specs.Consulted.{consulted_by, consulted_at, consulted, is_key, IsListed}
-use Rattle.cv_meaning.proofs.Counts.{same_cell_exact}
-use Rattle.cv_meaning.proofs.Direct.{each_append}
-use Rattle.cv_meaning.proofs.Listed.{Has, has_left, has_right, is_in-without_repeats, consulted_listed}
+use Rattle.cv_meaning_laws.proofs.Counts.{same_cell_exact}
+use Rattle.cv_meaning_laws.proofs.Lists.{each_append}
+use Rattle.cv_meaning_laws.proofs.Listed.{Has, has_left, has_right, is_in-without_repeats, consulted_listed}
 use Rattle.cv_meaning.specs.Runs.{Mode, Events, Real, Random, Adversary, State, start}
 use Rattle.cv_meaning_runs.specs.Moments.{Moment, Visited, Tested, cells_of_test, cells_of_moment, moments_of_run, visits_among, cells_of_run}
 use Rattle.cv_meaning_runs.specs.Listed.{IsTestable, AreKeysListed, head_is_no_call, has_no_calls}

@@ -1,7 +1,7 @@
 -- Lists whose elements have a property, and whose elements are related in pairs.
 use Rattle.std.proofs.Common.{◌≡◌, Bool, false, List, [], ◌∷◌, ◌++◌}
 use Rattle.std.specs.List.{AllByRecursion, IsDistinct}
-use Rattle.cv_meaning.proofs.Direct.{each_append}
+use Rattle.cv_meaning_laws.proofs.Lists.{each_append}
 
 pub left_part : {A : Type 0} (P : A → Type 0) (xs ys : List A) → AllByRecursion P (xs ++ ys) → AllByRecursion P xs
 left_part P [] ys h = tt

@@ -11,7 +11,7 @@ use Rattle.cv_meaning.specs.Serving.{Visit}
 use Rattle.cv_meaning.specs.Consulted.{consulted_at, consulted}
 use Rattle.cv_meaning.specs.Runs.{Mode, Adversary}
 use Rattle.cv_meaning.specs.Experiments.{run, visits_of_run}
-use Rattle.cv_meaning.proofs.Direct.{each_append}
+use Rattle.cv_meaning_laws.proofs.Lists.{each_append}
 use Rattle.cv_meaning_runs.specs.Listed.{has_no_calls}
 use Rattle.cv_meaning_runs.specs.Placed.{IsSubtreeOrList, VisitHas}
 use Rattle.cv_meaning_runs.specs.Spots.{Spot, same_spot, spots_of_visit, spots_of_visits, spots_of_inputs, HasOwnNames}

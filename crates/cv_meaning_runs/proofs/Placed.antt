@@ -13,8 +13,8 @@ use Rattle.cv_meaning.specs.Inputs.{inputs_of}
 use Rattle.cv_meaning.specs.Serving.{Served, Turn, Ends, First, Second, after_find, step, serve, after_turn, Visit, visits}
 use Rattle.cv_meaning.specs.Runs.{Mode, Adversary, Answer, Move, Calls, Tests, Guesses, State, Taken, admitted, called, told, tested_with, moved, run_from, begun, next_move, by_move, visits_of_call, visits_of_move, run_visits, start}
 use Rattle.cv_meaning.specs.Experiments.{run, visits_of_run, coins_on}
-use Rattle.cv_meaning.proofs.Direct.{each_append, each_flat_map}
-use Rattle.cv_meaning.proofs.DirectRuns.{TakenEach, admitted_each}
+use Rattle.cv_meaning_laws.proofs.Lists.{each_append, each_flat_map}
+use Rattle.cv_meaning_laws.proofs.Moves.{TakenEach, admitted_each}
 use Rattle.cv_meaning_runs.proofs.Lists.{all_map}
 use Rattle.cv_meaning_runs.specs.Placed.{IsPassedDown, IsInputOn, InputHas, VisitHas, IsSubtree, IsSubtreeOrList}
 

@@ -13,7 +13,7 @@ use Rattle.cv_meaning.specs.Cells.{cells}
 use Rattle.cv_meaning.specs.Correspondences.{Correspondence, broken}
 use Rattle.cv_meaning.specs.Chances.{chance}
 use Rattle.cv_meaning.specs.Advantage.{breaks, break_chance, guess_chance}
-use Rattle.cv_meaning.proofs.Counts.{count_same}
+use Rattle.cv_meaning_laws.proofs.Counts.{count_same}
 use Rattle.cv_meaning.specs.Experiments.{run, guessed, guesses_one, visits_of_run, coins_on}
 use Rattle.cv_meaning_runs.specs.Simulation.{InOrder, AreAlike, IsSimulation, IsGameSimulation}
 use Rattle.cv_meaning_runs.proofs.Lists.{left_part, right_part}

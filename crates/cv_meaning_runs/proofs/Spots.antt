@@ -15,11 +15,11 @@ use Rattle.cv_meaning.specs.Inputs.{Input, inputs_of, message_binders}
 use Rattle.cv_meaning.specs.Serving.{Served, Turn, Ends, First, Second, after_find, step, serve, after_turn, Visit, visits}
 use Rattle.cv_meaning.specs.Runs.{Mode, Adversary, Answer, Move, Calls, Tests, Guesses, State, Taken, taken, behind, is_at, admitted, if_fitting, called, told, tested_with, moved, run_from, begun, next_move, by_move, visits_of_call, visits_of_move, run_visits, start}
 use Rattle.cv_meaning.specs.Experiments.{run, visits_of_run, coins_on}
-use Rattle.cv_meaning.proofs.Counts.{same_tuple_exact}
-use Rattle.cv_meaning.proofs.Direct.{each_append}
+use Rattle.cv_meaning_laws.proofs.Counts.{same_tuple_exact}
+use Rattle.cv_meaning_laws.proofs.Lists.{each_append}
 use Rattle.cv_meaning_runs.proofs.Lists.{all_map, all_both, all_cross, Pairwise, pairwise_append}
 use Rattle.cv_meaning_runs.proofs.Copies.{Extends, IsBetween, Under, Within, Apart, apart_back, extends_refl, Copies, copies_among, copies_append, inputs_copies}
-use Rattle.cv_meaning.proofs.DirectRuns.{TakenEach, taken_each}
+use Rattle.cv_meaning_laws.proofs.Moves.{TakenEach, taken_each}
 use Rattle.cv_meaning_runs.specs.Spots.{Spot, same_spot, spot_of_input, spots_of_visit, spots_of_visits, spots_of_inputs}
 
 -- a service: its visits' spots, and the copies that it opens

@@ -13,11 +13,11 @@ use Rattle.cv_meaning.specs.Candidates.{Candidate, below, candidates, chosen}
 use Rattle.cv_meaning.specs.Inputs.{Input, inputs_of}
 use Rattle.cv_meaning.specs.Serving.{Served, Turn, Ends, First, Second, after_find, step, serve, after_turn, Visit}
 use Rattle.cv_meaning.specs.Cells.{tuples_below, bounds_under, at_each_copy, if_tested, test_cells_at}
-use Rattle.cv_meaning.proofs.Counts.{same_tuple_exact}
-use Rattle.cv_meaning.proofs.Direct.{each_append}
-use Rattle.cv_meaning.proofs.Listed.{Has, has_left, has_right, has_flat_map, each_flat_map_in, Within, within_has, within_push}
+use Rattle.cv_meaning_laws.proofs.Counts.{same_tuple_exact}
+use Rattle.cv_meaning_laws.proofs.Lists.{each_append}
+use Rattle.cv_meaning_laws.proofs.Listed.{Has, has_left, has_right, has_flat_map, each_flat_map_in, Within, within_has, within_push}
 use Rattle.cv_meaning.specs.Runs.{Mode, Random, Answer, Move, Calls, Tests, Guesses, State, Taken, admitted, called, told, tested_with, moved, begun, next_move, by_move, visits_of_move}
-use Rattle.cv_meaning.proofs.DirectRuns.{TakenEach, admitted_each}
+use Rattle.cv_meaning_laws.proofs.Moves.{TakenEach, admitted_each}
 use Rattle.cv_meaning_runs.specs.Moments.{Moment, Visited, Tested, cells_of_test, moments_of_move, run_moments}
 use Rattle.cv_meaning_runs.specs.Listed.{head_is_testable, is_testable}
 use Rattle.cv_meaning_runs.proofs.Copies.{tuple_push}

@@ -14,7 +14,7 @@ use Rattle.cv_meaning.specs.Consulted.{consulted_by}
 use Rattle.cv_meaning.specs.Runs.{Mode, Events, Real, Random, Adversary, Answer, Move, Calls, Tests, Guesses, State, Taken, admitted, called, told, tested_with, moved, run_from, after_service, begun, next_move, by_move, visits_of_call, visits_of_move, run_visits, start}
 use Rattle.cv_meaning.specs.Cells.{coin_cells}
 use Rattle.cv_meaning.specs.Experiments.{run, visits_of_run, coins_on}
-use Rattle.cv_meaning.proofs.Direct.{or_none}
+use Rattle.cv_meaning_laws.proofs.Lists.{or_none}
 use Rattle.cv_meaning_runs.specs.Moments.{Moment, Visited, Tested, cells_of_test, cells_of_moment, moments_of_move, run_moments, moments_of_run, visits_among, cells_of_run}
 use Rattle.cv_meaning_runs.specs.Agreement.{AgreeAt, AgreeOff, AgreeBut, IsLocal, SameRun, SameUpTo, consults, visit_consults}
 

@@ -1,6 +1,4 @@
-use crate::{
-    FetchError, FileShelf, MemShelf, MemSink, OutSink, PutError, Shelf, Sink, SureShelf, SureSink,
-};
+use crate::{FetchError, FileShelf, MemShelf, MemSink, PutError, Shelf, Sink, SureShelf, SureSink};
 use std::alloc::{AllocError, Global};
 use std::fs;
 use std::test::Fail;
@@ -44,18 +42,6 @@ fn memory_shelf(rt: HostRuntime) -> Result<(), Fail> {
 }
 
 #[test]
-fn sure_shelf(rt: HostRuntime) -> Result<(), Fail> {
-    let alloc = rt.alloc();
-    let mut shelf = SureShelf::new(alloc, one_file(alloc)?);
-    let bytes = read(&mut shelf, alloc, "game")?;
-    assert_eq!(rt; bytes.as_slice(), b"bytes".as_slice());
-    let absent = shelf.fetch(alloc, "absent", 0)?;
-    assert!(rt; absent.is_empty());
-    assert_eq!(rt; shelf.fetch(alloc, "game", 4).err(), Some(FetchError::Long));
-    Ok(())
-}
-
-#[test]
 fn memory_sink(rt: HostRuntime) -> Result<(), Fail> {
     let alloc = rt.alloc();
     let mut sink = MemSink::new(alloc, 5, Vec::from_slice(alloc, &[2])?)?;
@@ -69,8 +55,15 @@ fn memory_sink(rt: HostRuntime) -> Result<(), Fail> {
 }
 
 #[test]
-fn sure_sink(rt: HostRuntime) -> Result<(), Fail> {
-    let mut sink = SureSink::new(rt.alloc(), 2)?;
+fn ends_that_never_fail(rt: HostRuntime) -> Result<(), Fail> {
+    let alloc = rt.alloc();
+    let mut shelf = SureShelf::new(alloc, one_file(alloc)?);
+    let bytes = read(&mut shelf, alloc, "game")?;
+    assert_eq!(rt; bytes.as_slice(), b"bytes".as_slice());
+    let absent = shelf.fetch(alloc, "absent", 0)?;
+    assert!(rt; absent.is_empty());
+    assert_eq!(rt; shelf.fetch(alloc, "game", 4).err(), Some(FetchError::Long));
+    let mut sink = SureSink::new(alloc, 2)?;
     assert_eq!(rt; write(&mut sink, b"a"), Ok(1));
     assert_eq!(rt; sink.put(b"bcd"), Ok(3), "past the room");
     assert_eq!(rt; sink.put(b"e"), Ok(1));
@@ -78,7 +71,7 @@ fn sure_sink(rt: HostRuntime) -> Result<(), Fail> {
 }
 
 #[test]
-fn real_shelf(rt: HostRuntime) -> Result<(), Fail> {
+fn real_files(rt: HostRuntime) -> Result<(), Fail> {
     let alloc = rt.alloc();
     let mut shelf = FileShelf::new(alloc, &rt);
     assert_eq!(rt;
@@ -97,29 +90,16 @@ fn real_shelf(rt: HostRuntime) -> Result<(), Fail> {
     );
     let empty = shelf.fetch(alloc, "/dev/null", 0)?;
     assert!(rt; empty.is_empty());
-    Ok(())
-}
 
-// Where the folder of the test can't be written, there is no file to read.
-#[test]
-fn real_bytes(rt: HostRuntime) -> Result<(), Fail> {
-    let alloc = rt.alloc();
+    // Where the folder of the test can't be written, there is no file to read.
     let name = "read_by_a_test";
     if fs::write(&rt, name, "bytes").is_err() {
         return Ok(());
     }
-    let mut shelf = FileShelf::new(alloc, &rt);
     let exact = read(&mut shelf, alloc, name);
     let longer = shelf.fetch(alloc, name, 4).err();
     fs::remove_file(&rt, name)?;
     assert_eq!(rt; exact?.as_slice(), b"bytes".as_slice());
     assert_eq!(rt; longer, Some(FetchError::Long));
     Ok(())
-}
-
-#[test]
-fn real_sink(rt: HostRuntime) {
-    let mut sink = OutSink::new(&rt);
-    assert_eq!(rt; sink.put(b""), Ok(0));
-    assert_eq!(rt; write(&mut sink, b"a\n"), Ok(2));
 }

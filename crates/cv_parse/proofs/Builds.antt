@@ -1,6 +1,7 @@
 -- What was read of a file, built in a pool.
 use Rattle.std.proofs.Common.{◌≡◌, ℕ, zero, suc, ◌+◌, ◌<◌, ◌≤◌, true, false, List, [], ◌∷◌, ◌++◌, length, length-append, map, All, slice_index_or, refl, ap, ap₂, subst, sym, ◌∙◌, arith, append_assoc, append-nil, Option, Some, None}
 use Rattle.std.proofs.lemmas.List.{length-map}
+use Rattle.std.proofs.lemmas.List.Elements.{recursion_from_All, All-from_recursion}
 use Rattle.std.specs.Prelude.{flat_map, option_map}
 use Rattle.std.specs.List.{AllByRecursion}
 use Rattle.cv_pool.specs.declared.node.NodeId.{NodeId}
@@ -14,6 +15,7 @@ use Rattle.cv_syntax.specs.Declarations.{Declaration, Named, Equation, Equiv, Qu
 use Rattle.cv_syntax.specs.Planting.{overs}
 use Rattle.cv_syntax.specs.Postorder.{postorder}
 use Rattle.cv_syntax.specs.Tree.{Tree, Empty, Node, tree_at, tree_of}
+use Rattle.cv_syntax.proofs.Trees.{tree_at-None}
 use Rattle.cv_parse_grammar.specs.Filled.{filled}
 use Rattle.cv_parse_grammar.specs.Identities.{AreDistinct, ids_of}
 use Rattle.cv_parse_grammar.specs.Rules.{File}
@@ -33,12 +35,8 @@ pub ruleset buildings = (few_overs)
 
 -- declarations
 
-empty_at : (trees : List KindTree) → tree_at trees None ≡ Empty
-unfolding tree_of
-empty_at trees = refl
-
 bool_same : (trees : List KindTree) → declared trees bool_decl ≡ bool_type
-bool_same trees = ap (λ t. Named 0 (TypeName true false) t None) (empty_at trees)
+bool_same trees = ap (λ t. Named 0 (TypeName true false) t None) (tree_at-None trees)
 
 sort_same : (o : Option ℕ) → number (option_map named_by o) ≡ o
 sort_same None = refl
@@ -47,20 +45,20 @@ sort_same (Some x) = refl
 declared_same : (trees : List KindTree) (d : Declaration) (r : Option NodeId) → IsWhole d → tree_at trees r ≡ tree_in d → declared trees (decl_of (heard_of d) r) ≡ d
 declared_same trees (Named id c args result) r w e = ap₂ (λ t o. Named id c t o) e (sort_same result)
 declared_same trees (Equation t) (Some n) w e = ap Equation e
-declared_same trees (Equation t) None w e = absurd (w (sym e ∙ empty_at trees))
+declared_same trees (Equation t) None w e = absurd (w (sym e ∙ tree_at-None trees))
 declared_same trees (Equiv id t) (Some n) w e = ap (Equiv id) e
-declared_same trees (Equiv id t) None w e = absurd (w (sym e ∙ empty_at trees))
+declared_same trees (Equiv id t) None w e = absurd (w (sym e ∙ tree_at-None trees))
 declared_same trees (Query t) (Some n) w e = ap Query e
-declared_same trees (Query t) None w e = absurd (w (sym e ∙ empty_at trees))
+declared_same trees (Query t) None w e = absurd (w (sym e ∙ tree_at-None trees))
 
 below_one : (trees : List KindTree) (bound : ℕ) (d : Declaration) (r : Option NodeId) → IsWhole d → tree_at trees r ≡ tree_in d → ChildBelow bound r → IsBelow bound (decl_of (heard_of d) r)
 below_one trees bound (Named id c args result) r w e l = l
 below_one trees bound (Equation t) (Some n) w e l = l
-below_one trees bound (Equation t) None w e l = absurd (w (sym e ∙ empty_at trees))
+below_one trees bound (Equation t) None w e l = absurd (w (sym e ∙ tree_at-None trees))
 below_one trees bound (Equiv id t) (Some n) w e l = l
-below_one trees bound (Equiv id t) None w e l = absurd (w (sym e ∙ empty_at trees))
+below_one trees bound (Equiv id t) None w e l = absurd (w (sym e ∙ tree_at-None trees))
 below_one trees bound (Query t) (Some n) w e l = l
-below_one trees bound (Query t) None w e l = absurd (w (sym e ∙ empty_at trees))
+below_one trees bound (Query t) None w e l = absurd (w (sym e ∙ tree_at-None trees))
 
 front : {A : Type 0} (x y : A) (xs ys : List A) → x ∷ xs ≡ y ∷ ys → (x ≡ y) × (xs ≡ ys)
 front x y xs ys e = (cc, cc)
@@ -80,15 +78,6 @@ all_below trees bound (d ∷ ds) [] rest w e l = tt
 all_below trees bound (d ∷ ds) (r ∷ roots) rest w e l =
     let p = front (tree_at trees r) (tree_in d) (map (tree_at trees) roots) (map tree_in ds ++ rest) e in
     (below_one trees bound d r w.0 p.0 l.0, all_below trees bound ds roots rest w.1 p.1 l.1)
-
-by_recursion : {A : Type 0} (P : A → Type 0) (xs : List A) → All P xs → AllByRecursion P xs
-by_recursion P [] h = tt
-by_recursion P (x ∷ xs) h = (h 0 x (omega arith), by_recursion P xs (λ k d l. h (suc k) d (omega arith)))
-
-by_place : {A : Type 0} (P : A → Type 0) (xs : List A) → AllByRecursion P xs → All P xs
-by_place P [] h k d l = absurd (omega arith)
-by_place P (x ∷ xs) h zero d l = h.0
-by_place P (x ∷ xs) h (suc k) d l = by_place P xs h.1 k d (omega arith)
 
 -- the trees of a file, that of its game at the end
 abbrev pub all_trees : File → List Tree
@@ -170,8 +159,8 @@ module _ (r : Reading) (makes : List Make) (b : Builds r makes) where
   pub decls_below : (trees : List KindTree) (bound : ℕ) (hs : List Heard) (roots : List (Option NodeId)) (list : List Decl) → hs ≡ r.heard.items → map (tree_at trees) roots ≡ all_trees b.file → All (ChildBelow bound) roots → list ≡ bool_decl ∷ all_decls hs roots → All (IsBelow bound) list
   decls_below trees bound hs roots list h e live l =
       subst (All (IsBelow bound)) (sym l)
-      (by_place (IsBelow bound) (bool_decl ∷ all_decls hs roots)
-      (tt, subst (λ x. AllByRecursion (IsBelow bound) (all_decls x roots)) (sym (h ∙ b.hears.heard)) (all_below trees bound b.file.decls roots (filled b.file.game ∷ []) b.hears.whole e (by_recursion (ChildBelow bound) roots live))))
+      (All-from_recursion (IsBelow bound) (bool_decl ∷ all_decls hs roots)
+      (tt, subst (λ x. AllByRecursion (IsBelow bound) (all_decls x roots)) (sym (h ∙ b.hears.heard)) (all_below trees bound b.file.decls roots (filled b.file.game ∷ []) b.hears.whole e (recursion_from_All (ChildBelow bound) roots live))))
 
 pub last_live : (bound : ℕ) (roots : List (Option NodeId)) (k : ℕ) (o : Option NodeId) (root : NodeId) → All (ChildBelow bound) roots → k < length roots → slice_index_or roots k o ≡ Some root → root.0 < bound
 last_live bound roots k o root live l e = subst (ChildBelow bound) e (live k o l)

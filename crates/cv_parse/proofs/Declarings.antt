@@ -1,7 +1,9 @@
 -- Declarations, one after another.
 use Rattle.std.proofs.Common.{◌≡◌, ℕ, zero, suc, ◌+◌, ◌<◌, ◌≤◌, ◌==◌, if◌then◌else◌, Bool, true, false, ◌||◌, List, [], ◌∷◌, ◌++◌, length, drop, get_or, append_assoc, append-nil, length-append, subst, refl, ap, ap₂, sym, ◌∙◌, arith, Option, Some, None, eqb-true, eq-eqb}
+use Rattle.std.proofs.lemmas.List.{drop_all}
 use Rattle.std.specs.Prelude.{flat_map, option_map}
 use Rattle.std.specs.List.{AllByRecursion}
+use Rattle.cv_lists.proofs.Tests.{or_first, or_second}
 use Rattle.cv_syntax.specs.declared.decls.Class.{Class}
 use Rattle.cv_syntax.specs.declared.decls.Class.TheVariants as class
 use Rattle.cv_syntax.specs.declared.decls.Decl.{Decl}
@@ -44,23 +46,15 @@ names_same heard.Query r = refl
 other_number : (x y : ℕ) → (y == x) ≡ false → (x == y) ≡ false
 other_number x y e = elim (x == y) as (λ b. (x == y) ≡ b → b ≡ false) [ true ↦ λ f. absurd (let g = eq-eqb y x (sym (eqb-true x y f)) in cc) | false ↦ λ f. refl ] refl
 
-or_false_left : (a b : Bool) → (a || b) ≡ false → a ≡ false
-or_false_left false b e = refl
-or_false_left true b e = absurd (cc)
-
-or_false_right : (a b : Bool) → (a || b) ≡ false → b ≡ false
-or_false_right false b e = e
-or_false_right true b e = absurd (cc)
-
 passed : (b : Bool) (d : Decl) (o : Option Decl) → b ≡ false → o ≡ None → (if b then Some d else o) ≡ None
 passed false d o e f = f
 passed true d o e f = absurd (cc)
 
 not_declared : (ds : List Decl) (x : ℕ) → is_among (flat_map names_of ds) x ≡ false → declaration_in ds x ≡ None
 not_declared [] x e = refl
-not_declared (decl.Name id c args result ∷ ds) x e = passed (x == id.0) (decl.Name id c args result) (declaration_in ds x) (other_number x id.0 (or_false_left (id.0 == x) _ e)) (not_declared ds x (or_false_right (id.0 == x) _ e))
+not_declared (decl.Name id c args result ∷ ds) x e = passed (x == id.0) (decl.Name id c args result) (declaration_in ds x) (other_number x id.0 (or_first (id.0 == x) _ e)) (not_declared ds x (or_second (id.0 == x) _ e))
 not_declared (decl.Equation n ∷ ds) x e = not_declared ds x e
-not_declared (decl.Equiv id n ∷ ds) x e = passed (x == id.0) (decl.Equiv id n) (declaration_in ds x) (other_number x id.0 (or_false_left (id.0 == x) _ e)) (not_declared ds x (or_false_right (id.0 == x) _ e))
+not_declared (decl.Equiv id n ∷ ds) x e = passed (x == id.0) (decl.Equiv id n) (declaration_in ds x) (other_number x id.0 (or_first (id.0 == x) _ e)) (not_declared ds x (or_second (id.0 == x) _ e))
 not_declared (decl.Query n ∷ ds) x e = not_declared ds x e
 
 pub is_new : (ds : List Decl) (h : Heard) (r : Option NodeId) (hs : List Heard) → AreDistinct (flat_map names_of ds ++ flat_map names_by (h ∷ hs)) → IsNew ds (decl_of h r)
@@ -111,15 +105,9 @@ left_goes list new hs rs h r k total l m w e =
           ∙ (ap (λ x. list ++ x) (sym (ap₂ all_decls (drop_next hs h k l) (drop_next rs r k m))) ∙ w.is));
     }
 
-drop_past : {A : Type 0} (n : ℕ) (xs : List A) → length xs ≤ n → drop n xs ≡ []
-drop_past zero [] h = refl
-drop_past (suc n) [] h = refl
-drop_past zero (x ∷ xs) h = absurd (omega arith)
-drop_past (suc n) (x ∷ xs) h = drop_past n xs (omega arith)
-
 pub left_ends : (list : List Decl) (hs : List Heard) (rs : List (Option NodeId)) (k : ℕ) (total : List Decl) → length hs ≤ k → Left list hs rs k total → list ≡ total
 unfolding all_decls
-left_ends list hs rs k total l w = sym (append-nil list) ∙ (sym (ap (λ x. list ++ all_decls x (drop k rs)) (drop_past k hs l)) ∙ w.is)
+left_ends list hs rs k total l w = sym (append-nil list) ∙ (sym (ap (λ x. list ++ all_decls x (drop k rs)) (drop_all k hs l)) ∙ w.is)
 
 pub longer : (list new : List Decl) (d : Decl) → new ≡ list ++ d ∷ [] → length new ≡ length list + 1
 longer list new d e = ap length e ∙ length-append list (d ∷ [])

@@ -1,6 +1,7 @@
 -- What is computed of tokens, and what they say.
 use Rattle.std.proofs.Common.{◌≡◌, ℕ, ◌-◌, ◌≤◌, true, false, Bool, nat_lt, if◌then◌else◌, List, ◌∷◌, length, refl, ap, ap₂, subst, sym, ◌∙◌, arith, Option, Some, None, Result, Ok, Err}
 use Rattle.std.proofs.lemmas.Bool.Decides.{nat_tests}
+use Rattle.std.proofs.lemmas.Bool.{le-ltb}
 use Rattle.cv_syntax.specs.declared.work.BuildError.{BuildError}
 use Rattle.cv_syntax.specs.declared.work.BuildError.TheVariants as build
 use Rattle.cv_syntax.specs.Tree.{depth, size}
@@ -86,14 +87,11 @@ pub said_is_saying : (limit : ℕ) (signs : List Sign) (p : Parsed) → parsed l
 unfolding parsed
 said_is_saying limit signs p e = is_content limit signs p (outcome signs) refl e
 
-not_more : (m n : ℕ) → n ≤ m → nat_lt m n ≡ false
-not_more m n h = grind (arith, nat_tests)
-
 pub says_is_said : (limit : ℕ) (signs : List Sign) (p : Parsed) → Says limit signs p → parsed limit signs ≡ Ok p
 unfolding parsed
 says_is_said limit signs p w =
     ap (of_outcome limit (length signs)) (read_is_accepted signs w.decls w.script p.game w.read)
-    ∙ (ap (limited limit) same ∙ one_by_one limit p false false false (not_more most_nodes (size p.game) w.small) (not_more most_depth (depth p.game) w.shallow) (not_more limit (asked (weight_of p)) w.room))
+    ∙ (ap (limited limit) same ∙ one_by_one limit p false false false (le-ltb most_nodes (size p.game) w.small) (le-ltb most_depth (depth p.game) w.shallow) (le-ltb limit (asked (weight_of p)) w.room))
   where
     same : said (length signs) (w.decls, (w.script, p.game)) ≡ p
     same = ap₂ (λ ds s. record { declarations = ds; script = s; game = p.game }) (sym w.declared) (sym w.range)

@@ -1,6 +1,7 @@
 -- From the stages of reading a file to what it says, or what it is refused for.
 use Rattle.std.proofs.Common.{◌≡◌, ℕ, ◌+◌, ◌-◌, ◌<◌, ◌≤◌, true, false, Bool, nat_lt, if◌then◌else◌, List, ◌∷◌, ◌++◌, length, refl, ap, ap₂, subst, sym, ◌∙◌, arith, Option, Some, None, Result, Ok, Err}
 use Rattle.std.proofs.lemmas.Bool.Decides.{nat_tests}
+use Rattle.std.proofs.lemmas.Bool.{lt-ltb, le-ltb}
 use Rattle.std.specs.Prelude.{IsErrAnd}
 use Rattle.cv_pool.specs.KindTree.{KindTree}
 use Rattle.cv_syntax.specs.declared.decls.Decl.{Decl}
@@ -183,20 +184,14 @@ is_small t false false e f = refl
 is_small t true b e f = absurd (cc)
 is_small t false true e f = absurd (cc)
 
-more : (m n : ℕ) → m < n → nat_lt m n ≡ true
-more m n h = grind (arith, nat_tests)
-
-not_more : (m n : ℕ) → n ≤ m → nat_lt m n ≡ false
-not_more m n h = grind (arith, nat_tests)
-
 pub too_large : (t : Tree) (n : ℕ) → n ≡ capped (size t) → most_nodes < n → sized t ≡ Err (Build (build.Nodes n))
-too_large t n e l = is_large t (nat_lt most_nodes (size t)) (nat_lt most_depth (depth t)) (more most_nodes (size t) (omega arith)) ∙ ap (λ m. let r : Result (Unit {0}) ParseError = Err (Build (build.Nodes m)) in r) (sym e)
+too_large t n e l = is_large t (nat_lt most_nodes (size t)) (nat_lt most_depth (depth t)) (lt-ltb most_nodes (size t) (omega arith)) ∙ ap (λ m. let r : Result (Unit {0}) ParseError = Err (Build (build.Nodes m)) in r) (sym e)
 
 pub too_deep : (t : Tree) (n m : ℕ) → n ≡ capped (size t) → n ≤ most_nodes → m ≡ capped (depth t) → most_depth < m → sized t ≡ Err (Build (build.Depth m))
-too_deep t n m e l f k = is_deep t (nat_lt most_nodes (size t)) (nat_lt most_depth (depth t)) (not_more most_nodes (size t) (omega arith)) (more most_depth (depth t) (omega arith)) ∙ ap (λ x. let r : Result (Unit {0}) ParseError = Err (Build (build.Depth x)) in r) (sym f)
+too_deep t n m e l f k = is_deep t (nat_lt most_nodes (size t)) (nat_lt most_depth (depth t)) (le-ltb most_nodes (size t) (omega arith)) (lt-ltb most_depth (depth t) (omega arith)) ∙ ap (λ x. let r : Result (Unit {0}) ParseError = Err (Build (build.Depth x)) in r) (sym f)
 
 pub small_enough : (t : Tree) (n m : ℕ) → n ≡ capped (size t) → n ≤ most_nodes → m ≡ capped (depth t) → m ≤ most_depth → sized t ≡ Ok tt
-small_enough t n m e l f k = is_small t (nat_lt most_nodes (size t)) (nat_lt most_depth (depth t)) (not_more most_nodes (size t) (omega arith)) (not_more most_depth (depth t) (omega arith))
+small_enough t n m e l f k = is_small t (nat_lt most_nodes (size t)) (nat_lt most_depth (depth t)) (le-ltb most_nodes (size t) (omega arith)) (le-ltb most_depth (depth t) (omega arith))
 
 few_by : (t : Tree) (a b : Bool) → nat_lt most_nodes (size t) ≡ a → sized_by t a b ≡ Ok tt → size t ≤ most_nodes
 few_by t false b e f = grind (arith, nat_tests)

@@ -20,6 +20,3 @@ pub use files::file;
 pub use games::game;
 pub use laws::parsing_is_exact;
 pub use terms::term;
-
-#[cfg(test)]
-mod tests;

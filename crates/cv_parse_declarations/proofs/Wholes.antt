@@ -1,5 +1,6 @@
 -- A file from its declarations, its proof block and its process.
 use Rattle.std.proofs.Common.{◌≡◌, ℕ, zero, suc, ◌<◌, ◌≤◌, false, List, [], ◌∷◌, ◌++◌, length, drop, refl, ap, sym, ◌∙◌, subst, arith, length-drop, Ok, Err, Option}
+use Rattle.std.proofs.lemmas.List.{drop_all}
 use Rattle.std.specs.Prelude.{map, flat_map}
 use Rattle.cv_syntax.specs.Tree.{Tree}
 use Rattle.cv_syntax.specs.Declarations.{Declaration}
@@ -45,12 +46,6 @@ drop_zero : {A : Type 0} (xs : List A) → drop 0 xs ≡ xs
 drop_zero [] = refl
 drop_zero (x ∷ xs) = refl
 
-drop_past : {A : Type 0} (n : ℕ) (xs : List A) → length xs ≤ n → drop n xs ≡ []
-drop_past zero [] h = refl
-drop_past (suc n) [] h = refl
-drop_past zero (x ∷ xs) h = absurd (omega arith)
-drop_past (suc n) (x ∷ xs) h = drop_past n xs (omega arith)
-
 ended : (x : Found Role File) → x.rest ≡ [] → ends_there x ≡ Ok x
 ended x e = rw e refl
 
@@ -62,7 +57,7 @@ whole_read : (all : List Sign) (u w : List NameUse) (v : File) (end : ℕ) → u
 whole_read all u w v end b d l = (
   d.uses,
   ap (λ ts. read_in 200 file ts >>= ends_there) (sym (drop_zero all))
-      ∙ (ap (λ r. r >>= ends_there) d.is ∙ (ended (record { value = v; uses = d.uses; rest = drop end all }) (drop_past end all l) ∙ ap (λ ts. found v d.uses ts) (drop_past end all l))),
+      ∙ (ap (λ r. r >>= ends_there) d.is ∙ (ended (record { value = v; uses = d.uses; rest = drop end all }) (drop_all end all l) ∙ ap (λ ts. found v d.uses ts) (drop_all end all l))),
   d.noted ∙ ap (λ us. us ++ d.uses) b,
 )
 

@@ -1,6 +1,7 @@
 -- The names that a file declares are those that its uses of names declare.
 use Rattle.std.proofs.Common.{◌≡◌, ◌⊎◌, ℕ, zero, suc, Bool, true, false, ◌&&◌, ◌||◌, ◌==◌, subst, not, List, [], ◌∷◌, ◌++◌, map, append_assoc, append-nil, inl, inr, refl, ap, ap₂, sym, ◌∙◌, Option, Some, None}
 use Rattle.std.specs.Prelude.{flat_map}
+use Rattle.cv_lists.proofs.Tests.{and_first, and_second}
 use Rattle.cv_syntax.specs.Tree.{Tree, Node}
 use Rattle.cv_syntax.specs.declared.head.Head.TheVariants.{Equivalence, Forall}
 use Rattle.cv_syntax.specs.declared.decls.Class.{Class}
@@ -57,14 +58,6 @@ quiet_use : (r : Role) (x : ℕ) (ts : List Sign) → is_quiet r ≡ true → de
 quiet_use (Declares a) x ts h = absurd (cc)
 quiet_use r x ts h = refl
 
-and_left : (a b : Bool) → (a && b) ≡ true → a ≡ true
-and_left true b e = refl
-and_left false b e = absurd (cc)
-
-and_right : (a b : Bool) → (a && b) ≡ true → b ≡ true
-and_right true b e = e
-and_right false b e = absurd (cc)
-
 quiet_both : (us vs : Uses) → declared_in us ≡ [] → declared_in vs ≡ [] → declared_in (us ++ vs) ≡ []
 quiet_both us vs e f = declared-both us vs ∙ ap₂ (λ a b. a ++ b) e f
 
@@ -87,12 +80,12 @@ module _ (room : Bool) (below : Sort → Relation Role Tree) (low : (s : Sort) �
   says_nothing (unnamed r) h ts a us rest d = ap declared_in d.uses ∙ quiet_use r a ts h
   says_nothing other h ts a us rest d = ap declared_in d.2.uses
   says_nothing (note r) h ts a us rest d = ap declared_in d.1.uses ∙ quiet_use r 0 ts h
-  says_nothing (both f g) h ts a us rest d = ap declared_in d.uses ∙ quiet_both d.front d.back (says_nothing f (and_left (quiet f) (quiet g) h) ts a.0 d.front d.mid d.first) (says_nothing g (and_right (quiet f) (quiet g) h) d.mid a.1 d.back rest d.second)
+  says_nothing (both f g) h ts a us rest d = ap declared_in d.uses ∙ quiet_both d.front d.back (says_nothing f (and_first (quiet f) (quiet g) h) ts a.0 d.front d.mid d.first) (says_nothing g (and_second (quiet f) (quiet g) h) d.mid a.1 d.back rest d.second)
   says_nothing (may near f) h ts a us rest d = quiet_perhaps (Spells heads room below f) near (starts heads f) (says_nothing f h) ts a us rest d
   says_nothing (many near f) h ts a us rest d = quiet_each (Spells heads room below f) near (starts heads f) (says_nothing f h) ts a us rest d
   says_nothing (either f g) h ts a us rest d = elim d as (λ _. declared_in us ≡ []) [
-    | inl e ↦ says_nothing f (and_left (quiet f) (quiet g) h) ts a us rest e
-    | inr e ↦ says_nothing g (and_right (quiet f) (quiet g) h) ts a us rest e.1
+    | inl e ↦ says_nothing f (and_first (quiet f) (quiet g) h) ts a us rest e
+    | inr e ↦ says_nothing g (and_second (quiet f) (quiet g) h) ts a us rest e.1
   ]
   says_nothing (made v f) h ts a us rest d = says_nothing f h ts d.0 us rest d.1
   says_nothing (level f) h ts a us rest d = says_nothing f h ts a us rest d.1

@@ -1,7 +1,7 @@
 -- Reads and lists of names, part by part.
 use Rattle.std.proofs.Common.{◌≡◌, ℕ, zero, suc, ◌+◌, ◌<◌, ◌≤◌, min, ◌⊎◌, inl, inr, List, [], ◌∷◌, ◌++◌, length, map, take, drop, replicate, get_or, refl, ap, ap₂, sym, ◌∙◌, arith, append_assoc}
 use Rattle.std.proofs.lemmas.Bool.{cases_lt}
-use Rattle.std.proofs.lemmas.List.{take-take, take_all, length-take, map_more, drop_all}
+use Rattle.std.proofs.lemmas.List.{take-take, take_all, length-take, map_more, drop_all, replicate_more}
 use Rattle.cv_parse_grammar.specs.Filled.{read_at}
 use Rattle.cv_syntax.specs.declared.head.Head.TheVariants.{Leaf, Cons, Name, Read}
 use Rattle.cv_syntax.specs.declared.make.Make.{Make}
@@ -47,16 +47,13 @@ leaves-drop [] n d h = absurd (omega arith)
 leaves-drop (x ∷ l) zero d h = refl
 leaves-drop (x ∷ l) (suc n) d h = let e : suc n + 1 ≡ suc (n + 1) = omega arith in rw e (leaves-drop l n d (omega arith))
 
-pub replicate_last : {A : Type 0} (n : ℕ) (a : A) → replicate n a ++ a ∷ [] ≡ replicate (n + 1) a
-replicate_last n a = one_more n a ∙ ap (λ k. replicate k a) (let e : suc n ≡ n + 1 = omega arith in e)
-
 pub push_assoc : (a b c d : List Make) → a ≡ b ++ c → a ++ d ≡ b ++ (c ++ d)
 push_assoc a b c d e = ap (λ l. l ++ d) e ∙ append_assoc b c d
 
 -- the steps of writing a list of indices
 
 pub cells_more : (a b c : List Make) (n : ℕ) → b ≡ a ++ replicate n (Over Cons) → c ≡ b ++ Over Cons ∷ [] → c ≡ a ++ replicate (n + 1) (Over Cons)
-cells_more a b c n e f = f ∙ (push_assoc b a (replicate n (Over Cons)) (Over Cons ∷ []) e ∙ ap (λ l. a ++ l) (replicate_last n (Over Cons)))
+cells_more a b c n e f = f ∙ (push_assoc b a (replicate n (Over Cons)) (Over Cons ∷ []) e ∙ ap (λ l. a ++ l) (replicate_more n (Over Cons)))
 
 pub leaves_begin : (a b c : List Make) (l : List ℕ) (n k : ℕ) → n ≡ length l → k ≡ length l → b ≡ a ++ replicate n (Over Cons) → c ≡ b ++ Nothing ∷ [] → c ≡ a ++ (replicate (length l) (Over Cons) ++ Nothing ∷ leaves_back (drop k l))
 leaves_begin a b c l n k g h e f =
@@ -103,7 +100,7 @@ ends_begin a b c l n h e f = f ∙ (push_assoc b a (map (λ y. Over (Name y)) (t
 pub ends_more : (a b c : List Make) (l : List ℕ) (n : ℕ) → b ≡ a ++ (map (λ y. Over (Name y)) l ++ Nothing ∷ replicate n Nothing) → c ≡ b ++ Nothing ∷ [] → c ≡ a ++ (map (λ y. Over (Name y)) l ++ Nothing ∷ replicate (n + 1) Nothing)
 ends_more a b c l n e f =
     f ∙ (push_assoc b a (map (λ y. Over (Name y)) l ++ Nothing ∷ replicate n Nothing) (Nothing ∷ []) e
-    ∙ ap (λ z. a ++ z) (append_assoc (map (λ y. Over (Name y)) l) (Nothing ∷ replicate n Nothing) (Nothing ∷ []) ∙ ap (λ z. map (λ y. Over (Name y)) l ++ Nothing ∷ z) (replicate_last n Nothing)))
+    ∙ ap (λ z. a ++ z) (append_assoc (map (λ y. Over (Name y)) l) (Nothing ∷ replicate n Nothing) (Nothing ∷ []) ∙ ap (λ z. map (λ y. Over (Name y)) l ++ Nothing ∷ z) (replicate_more n Nothing)))
 
 pub ends_end : (a b : List Make) (l : List ℕ) (n : ℕ) → n ≡ length l → b ≡ a ++ (map (λ y. Over (Name y)) l ++ Nothing ∷ replicate n Nothing) → b ≡ a ++ backward (names l)
 ends_end a b l n h e = e ∙ ap (λ z. a ++ z) (ap (λ k. map (λ y. Over (Name y)) l ++ Nothing ∷ replicate k Nothing) h ∙ sym (names_back l))

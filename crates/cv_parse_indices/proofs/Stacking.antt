@@ -2,7 +2,7 @@
 use Rattle.std.proofs.Common.{◌≡◌, ℕ, suc, ◌≤◌, List, [], ◌∷◌, ◌++◌, length, map, take, reverse, Option, Some, None, refl, ap, ap₂, sym, ◌∙◌, subst, arith, append-nil, length-append}
 use Rattle.std.specs.Prelude.{unwrap_or}
 use Rattle.std.specs.Option.{option_to_list}
-use Rattle.std.proofs.lemmas.List.{reverse-append, take-take, take-append-le, take_all, length-take-le}
+use Rattle.std.proofs.lemmas.List.{reverse-append, take-take, take-append-le, take_all, length-take-le, nil_from_length}
 use Rattle.cv_syntax.specs.declared.head.Head.{Head}
 use Rattle.cv_syntax.specs.declared.head.Head.TheVariants.{Repl}
 use Rattle.cv_syntax.specs.declared.make.Make.{Make}
@@ -13,10 +13,6 @@ use Rattle.cv_parse_indices.specs.declared.context.Place.TheVariants.{Plain}
 use Rattle.cv_parse_indices.specs.Contexts.{first_place, second_place}
 use Rattle.cv_parse_indices.specs.Current.{entered, entered_below, level_below}
 use Rattle.cv_parse_indices.specs.Stacks.{standing, standings, Descends, first_context, second_context, top, rest, children, Popped}
-
-pub none_left : {A : Type 0} (l : List A) → length l ≡ 0 → l ≡ []
-none_left [] e = refl
-none_left (x ∷ l) e = absurd (omega arith)
 
 abbrev pub outside : Context
 outside = record { level = 0; place = Plain }
@@ -32,7 +28,7 @@ popped_context names old new (Some x) c d e h f =
       below = both.1;
     })
 popped_context names old new None c d e h f =
-    let n : old ≡ [] = none_left old (h refl) in
+    let n : old ≡ [] = nil_from_length old (h refl) in
     let m : new ≡ [] = sym (append-nil new) ∙ (sym e ∙ n) in
     subst (Popped names old new) (sym f) (record {
       first = ap (λ l. top (standings names l)) n;

@@ -11,6 +11,3 @@ mod writing;
 
 pub use filling::fill;
 pub use measuring::{Extent, measure};
-
-#[cfg(test)]
-mod tests;

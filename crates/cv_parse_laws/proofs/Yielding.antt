@@ -1,6 +1,7 @@
 -- What is spelled is made of what the parts of its phrase are made of.
 use Rattle.std.proofs.Common.{◌≡◌, ℕ, zero, suc, Bool, true, false, List, [], ◌∷◌, ◌++◌, Option, Some, None, inl, inr, subst}
 use Rattle.std.specs.List.{AllByRecursion}
+use Rattle.cv_lists.proofs.Each.{AllByRecursion-left, AllByRecursion-right, AllByRecursion-weaker}
 use Rattle.cv_syntax.specs.Tree.{Tree}
 use Rattle.cv_parse_notation.specs.declared.sign.Mark.{Mark}
 use Rattle.cv_parse_notation.specs.declared.sign.Sign.{Sign}
@@ -9,24 +10,16 @@ use Rattle.cv_parse_notation.specs.Spells.{Each, IsSort, Kind, Perhaps, Relation
 use Rattle.cv_parse_notation.specs.Whole.{SpellsWith}
 use Rattle.cv_parse_laws.specs.Yields.{AllUsed, IfThere, Yields}
 
-in_front : {A : Type 0} (P : A → Type 0) (l k : List A) → AllByRecursion P (l ++ k) → AllByRecursion P l
-in_front P [] k w = tt
-in_front P (a ∷ l) k w = (w.0, in_front P l k w.1)
-
-in_back : {A : Type 0} (P : A → Type 0) (l k : List A) → AllByRecursion P (l ++ k) → AllByRecursion P k
-in_back P [] k w = w
-in_back P (a ∷ l) k w = in_back P l k w.1
-
 module _ {R σ : Type 0} (W : R → ℕ → Type 0) (P : σ → Tree → Type 0) where
   -- what is spelled is such, where its names are
   abbrev pub Tells : {A : Type 0} → Relation R A → (A → Type 0) → Type 0
   Tells {A} S Q = (ts : List Sign) (a : A) (us : List (Use R)) (rest : List Sign) → S ts a us rest → AllUsed W us → Q a
 
   front_used : (us front back : List (Use R)) → us ≡ front ++ back → AllUsed W us → AllUsed W front
-  front_used us front back e w = in_front (λ u. W u.role u.name) front back (subst (AllUsed W) e w)
+  front_used us front back e w = AllByRecursion-left (λ u. W u.role u.name) front back (subst (AllUsed W) e w)
 
   back_used : (us front back : List (Use R)) → us ≡ front ++ back → AllUsed W us → AllUsed W back
-  back_used us front back e w = in_back (λ u. W u.role u.name) front back (subst (AllUsed W) e w)
+  back_used us front back e w = AllByRecursion-right (λ u. W u.role u.name) front back (subst (AllUsed W) e w)
 
   perhaps_tells : {A : Type 0} (S : Relation R A) (Q : A → Type 0) (near : Bool) (k : Kind → Bool) → Tells S Q → Tells (Perhaps S near k) (IfThere Q)
   perhaps_tells S Q near k q ts None us rest d w = tt
@@ -76,10 +69,6 @@ if_there : {A : Type 0} (p q : A → Type 0) → ((a : A) → p a → q a) → (
 if_there p q i None y = tt
 if_there p q i (Some a) y = i a y
 
-of_all : {A : Type 0} (p q : A → Type 0) → ((a : A) → p a → q a) → (l : List A) → AllByRecursion p l → AllByRecursion q l
-of_all p q i [] y = tt
-of_all p q i (a ∷ l) y = (i a y.0, of_all p q i l y.1)
-
 module _ {R σ : Type 0} {W : R → ℕ → Type 0} {P : σ → Tree → Type 0} where
   pub anything : {A : Type 0} {f : Form R σ A} → Gives W P f (λ _. Unit {0})
   anything = record { gives = λ a y. tt }
@@ -103,7 +92,7 @@ module _ {R σ : Type 0} {W : R → ℕ → Type 0} {P : σ → Tree → Type 0}
   perhaps {f = f} {p = p} i = record { gives = if_there (Yields W P f) p i.gives }
 
   pub several : {A : Type 0} {near : Bool} {f : Form R σ A} {p : A → Type 0} → Gives W P f p → Gives W P (many near f) (AllByRecursion p)
-  several {f = f} {p = p} i = record { gives = of_all (Yields W P f) p i.gives }
+  several {f = f} {p = p} i = record { gives = AllByRecursion-weaker (Yields W P f) p i.gives }
 
   pub one_of : {A : Type 0} {f g : Form R σ A} {p : A → Type 0} → Gives W P f p → Gives W P g p → Gives W P (either f g) p
   one_of {p = p} i j = record { gives = λ a y. elim y as (λ _. p a) [ inl e ↦ i.gives a e | inr e ↦ j.gives a e ] }

@@ -1,6 +1,7 @@
 -- The rules by an entry are the rules of names.
 use Rattle.std.proofs.Common.{◌≡◌, ◌==◌, ℕ, Bool, true, false, ◌&&◌, ◌||◌, not, if◌then◌else◌, [], ◌∷◌, ◌++◌, Option, Some, None, refl, ap, ap₂, ◌∙◌}
 use Rattle.std.proofs.lemmas.List.Folds.{list_any-append}
+use Rattle.cv_lists.proofs.Tests.{not-or}
 use Rattle.cv_parse_notation.specs.Spells.{Use}
 use Rattle.cv_parse_grammar.specs.declared.role.Asked.TheVariants.{AParam, AFunction}
 use Rattle.cv_parse_grammar.specs.declared.role.Region.{Region}
@@ -12,10 +13,6 @@ use Rattle.cv_parse_names.specs.declared.table.Entry.{Entry}
 use Rattle.cv_parse_names.specs.declared.table.Scope.{Scope}
 use Rattle.cv_parse_names.specs.Table.{called, bare, cell_known_in, goes_on_as_call, goes_on_bare, is_since, known_in, name_obeys, next_of, stands_as_function, was_declared}
 use Rattle.cv_parse_names.proofs.Entries.{IsKnown}
-
-not-or : (b c : Bool) → not (b || c) ≡ (not b && not c)
-not-or true c = refl
-not-or false c = refl
 
 ap3 : (f : Bool → Bool → Bool → Bool) {a b c i j k : Bool} → a ≡ i → b ≡ j → c ≡ k → f a b c ≡ f i j k
 ap3 f {a} {b} {c} {i} {j} d e g = ap (λ z. f z b c) d ∙ (ap (λ z. f i z c) e ∙ ap (f i j) g)

@@ -6,6 +6,3 @@ mod rules;
 mod table;
 
 pub use fault::{NameFault, name_fault};
-
-#[cfg(test)]
-mod tests;

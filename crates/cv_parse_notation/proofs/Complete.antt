@@ -1,6 +1,8 @@
 -- What is spelled is read, where the next token always tells how a phrase goes on.
 use Rattle.std.proofs.Common.{◌≡◌, ℕ, zero, suc, ◌<◌, ◌≤◌, Bool, true, false, ◌&&◌, ◌||◌, not, ◌⊎◌, inl, inr, IsTrue, List, [], ◌∷◌, length, refl, ap, sym, ◌∙◌, arith, subst, Option, Some, None}
 use Rattle.std.proofs.lemmas.Bool.Decides.{nat_tests}
+use Rattle.std.proofs.lemmas.Bool.{not-false, false_from_ne_true, not-true}
+use Rattle.cv_lists.proofs.Tests.{or_first, or_second, and_first, and_second}
 use Rattle.cv_syntax.specs.Tree.{Tree}
 use Rattle.cv_parse_notation.specs.declared.sign.Mark.{Mark}
 use Rattle.cv_parse_notation.specs.declared.sign.Sign.{Sign}
@@ -11,15 +13,6 @@ use Rattle.cv_parse_notation.specs.Spells.{Kind, AWord, ANumber, Zero, AFind, An
 use Rattle.cv_parse_notation.specs.Reads.{Read, Reader, ◌>>=◌, found, pick, no_syntax, no_level, read_sign, read_word, read_number, read_nought, read_find, read_unnamed, read_other, nothing, joined, one_more, mapped, read_many, reads}
 use Rattle.cv_parse_notation.specs.Fits.{goes_on, all_marks, all_kinds, apart, within, fits}
 use Rattle.cv_parse_notation.proofs.Lengths.{toll, lengths}
-use Rattle.cv_parse_notation.proofs.Sound.{and_first, and_second, not_true}
-
-or_first : (a b : Bool) → (a || b) ≡ false → a ≡ false
-or_first true b h = absurd (cc)
-or_first false b h = refl
-
-or_second : (a b : Bool) → (a || b) ≡ false → b ≡ false
-or_second true b h = absurd (cc)
-or_second false b h = h
 
 marks_in : (n : ℕ) (p : Kind → Bool) → all_marks n p ≡ true → (c : ℕ) → c < n → p (AMark (mark_of c)) ≡ true
 marks_in zero p h c l = absurd (omega arith)
@@ -44,24 +37,16 @@ nand true true h e = absurd (cc)
 nand true false h e = refl
 nand false b h e = absurd (cc)
 
-not_false : (a : Bool) → not a ≡ false → a ≡ true
-not_false true h = refl
-not_false false h = absurd (cc)
-
 apart_next : (p q : Kind → Bool) → apart p q ≡ true → (ts : List Sign) → next_is p ts ≡ true → next_is q ts ≡ false
 apart_next p q h [] e = absurd (cc)
 apart_next p q h (t ∷ ts) e = nand (p (kind_of t)) (q (kind_of t)) (kind_in (λ k. not (p k && q k)) h (kind_of t)) e
 
 pub within_next : (p q : Kind → Bool) → within p q ≡ true → (ts : List Sign) → next_is p ts ≡ true → next_is q ts ≡ true
 within_next p q h [] e = absurd (cc)
-within_next p q h (t ∷ ts) e = not_false (q (kind_of t)) (nand (p (kind_of t)) (not (q (kind_of t))) (kind_in (λ k. not (p k && not (q k))) h (kind_of t)) e)
-
-contra : (a : Bool) → (a ≡ true → ⊥) → a ≡ false
-contra true h = absurd (h refl)
-contra false h = refl
+within_next p q h (t ∷ ts) e = not-false (q (kind_of t)) (nand (p (kind_of t)) (not (q (kind_of t))) (kind_in (λ k. not (p k && not (q k))) h (kind_of t)) e)
 
 pub outside_next : (p q : Kind → Bool) → within p q ≡ true → (ts : List Sign) → next_is q ts ≡ false → next_is p ts ≡ false
-outside_next p q h ts e = contra (next_is p ts) (λ i. let j = within_next p q h ts i in cc)
+outside_next p q h ts e = false_from_ne_true (next_is p ts) (λ i. let j = within_next p q h ts i in cc)
 
 next_first : (p q : Kind → Bool) (ts : List Sign) → next_is p ts ≡ true → next_is (λ k. p k || q k) ts ≡ true
 next_first p q [] h = h
@@ -259,15 +244,15 @@ module _ {R σ : Type 0} (h g : σ → Kind → Bool) (room : Bool) (below : σ 
       let i = and_second (fits h g f) (fits h g f' && apart (starts h f') (goes_on h g f)) w in
       both_complete (reads h room r f) (reads h room r f') (Spells h room below f) (Spells h room below f') (goes_on h g f) (goes_on h g f') (starts h f') (may_vanish f') (complete f (and_first (fits h g f) _ w)) (complete f' (and_first (fits h g f') _ i)) (front h room below begins f') (and_second (fits h g f') _ i) ts a us rest d n
   complete (may near f) w ts a us rest d n =
-      let v = not_true (may_vanish f) (and_second (fits h g f) _ w) in
+      let v = not-true (may_vanish f) (and_second (fits h g f) _ w) in
       may_complete (reads h room r f) (Spells h room below f) near (starts h f) (goes_on h g f) (complete f (and_first (fits h g f) _ w)) (begins_with h room below begins f v) ts a us rest d n
   complete (many near f) w ts a us rest d n =
       let i = and_second (fits h g f) (not (may_vanish f) && apart (starts h f) (goes_on h g f)) w in
-      let v = not_true (may_vanish f) (and_first (not (may_vanish f)) _ i) in
+      let v = not-true (may_vanish f) (and_first (not (may_vanish f)) _ i) in
       many_complete (reads h room r f) (Spells h room below f) near (starts h f) (goes_on h g f) (complete f (and_first (fits h g f) _ w)) (begins_with h room below begins f v) (λ ts a us rest d. let k = lengths h room below shorter f ts a us rest d in let j = ap toll v in omega arith) (and_second (not (may_vanish f)) _ i) (length ts) ts a us rest (omega arith) d n
   complete (either f f') w ts a us rest d n =
       let i = and_second (fits h g f) (fits h g f' && not (may_vanish f)) w in
-      let v = not_true (may_vanish f) (and_second (fits h g f') _ i) in
+      let v = not-true (may_vanish f) (and_second (fits h g f') _ i) in
       either_complete (reads h room r f) (reads h room r f') (Spells h room below f) (Spells h room below f') (starts h f) (goes_on h g f) (goes_on h g f') (complete f (and_first (fits h g f) _ w)) (complete f' (and_first (fits h g f') _ i)) (begins_with h room below begins f v) ts a us rest d n
   complete (made v f) w ts a us rest d n = ap (λ y. y >>= mapped v) (complete f w ts d.0 us rest d.1 n) ∙ ap (λ b. found b us rest) d.2
   complete (level f) w ts a us rest d n = picked room (reads h room r f) (pick (next_is (starts h f) ts) no_level no_syntax) ts (found a us rest) d.0 (complete f w ts a us rest d.1 n)

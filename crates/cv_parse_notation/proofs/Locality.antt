@@ -1,5 +1,7 @@
 -- Reading looks at no token past the one where it ends or fails.
 use Rattle.std.proofs.Common.{◌≡◌, ℕ, zero, suc, ◌<◌, ◌≤◌, Bool, true, false, not, List, [], ◌∷◌, ◌++◌, length, refl, ap, sym, ◌∙◌, arith, subst, Some, None, Ok, Err, append_assoc}
+use Rattle.std.proofs.lemmas.Bool.{not-true}
+use Rattle.cv_lists.proofs.Tests.{and_first, and_second}
 use Rattle.cv_syntax.specs.Tree.{Tree}
 use Rattle.cv_parse_notation.specs.declared.sign.Sign.{Sign}
 use Rattle.cv_parse_notation.specs.declared.sign.Sign.TheVariants as token
@@ -11,7 +13,7 @@ use Rattle.cv_parse_notation.specs.Fits.{fitting}
 use Rattle.cv_parse_notation.proofs.Lengths.{toll, lengths}
 use Rattle.cv_parse_notation.proofs.Many.{many_ends, many_more, many_fails}
 use Rattle.cv_parse_notation.proofs.Sorts.{read_is_spelled, shorter, parts}
-use Rattle.cv_parse_notation.proofs.Sound.{and_first, and_second, not_true, no_ok, sound}
+use Rattle.cv_parse_notation.proofs.Sound.{no_ok, sound}
 
 abbrev pub Local : {R A : Type 0} → Reader R A → Type 0
 Local p = (ts : List Sign) → LocalAt p ts (p ts)
@@ -221,7 +223,7 @@ module _ {R σ : Type 0} (h : σ → Kind → Bool) (room : Bool) (r : σ → Re
   local (note q) w = λ ts. ([], refl, λ more s. (record { value = length more; uses = used q 0 more; rest = more }, refl, refl))
   local (both f g) w = λ ts. after_local (reads h room r f) (reads h room r g) joined joined_joins (local g (and_second (is_steady f) (is_steady g) w)) ts (reads h room r f ts) (local f (and_first (is_steady f) (is_steady g) w) ts)
   local (may near f) w = λ ts. pick_local (starts h f) (λ us. reads h room r f us >>= mapped Some) (nothing None) ts (next_is (starts h f) ts) refl (mapped_local (reads h room r f) Some ts (reads h room r f ts) (local f w ts)) (nothing_local None ts)
-  local (many near f) w = many_local (starts h f) (reads h room r f) (local f (and_second (not (may_vanish f)) (is_steady f) w)) (takes _ f (and_second (not (may_vanish f)) (is_steady f) w) (not_true (may_vanish f) (and_first (not (may_vanish f)) (is_steady f) w)))
+  local (many near f) w = many_local (starts h f) (reads h room r f) (local f (and_second (not (may_vanish f)) (is_steady f) w)) (takes _ f (and_second (not (may_vanish f)) (is_steady f) w) (not-true (may_vanish f) (and_first (not (may_vanish f)) (is_steady f) w)))
   local (either f g) w = λ ts. pick_local (starts h f) (reads h room r f) (reads h room r g) ts (next_is (starts h f) ts) refl (local f (and_first (is_steady f) (is_steady g) w) ts) (local g (and_second (is_steady f) (is_steady g) w) ts)
   local (made v f) w = λ ts. mapped_local (reads h room r f) v ts (reads h room r f ts) (local f w ts)
   local (level f) w = level_local room (starts h f) (reads h room r f) (local f w)

@@ -1,5 +1,7 @@
 -- Both laws for all sorts of a table of rules that fits.
 use Rattle.std.proofs.Common.{◌≡◌, ℕ, zero, suc, ◌<◌, Bool, true, false, ◌&&◌, not, List, length, Ok}
+use Rattle.std.proofs.lemmas.Bool.{not-true}
+use Rattle.cv_lists.proofs.Tests.{and_first, and_second}
 use Rattle.cv_syntax.specs.Tree.{Tree}
 use Rattle.cv_parse_notation.specs.declared.sign.Sign.{Sign}
 use Rattle.cv_parse_notation.specs.Form.{Form}
@@ -7,7 +9,7 @@ use Rattle.cv_parse_notation.specs.Spells.{Kind, starts, next_is, may_vanish, is
 use Rattle.cv_parse_notation.specs.Reads.{Found, found, too_deep, read_sort}
 use Rattle.cv_parse_notation.specs.Fits.{goes_on, within, fits, fitting}
 use Rattle.cv_parse_notation.proofs.Lengths.{sort_lengths}
-use Rattle.cv_parse_notation.proofs.Sound.{and_first, and_second, not_true, sort_sound}
+use Rattle.cv_parse_notation.proofs.Sound.{sort_sound}
 use Rattle.cv_parse_notation.proofs.Complete.{complete, begins_with, within_next, outside_next}
 
 -- the parts of the test
@@ -27,7 +29,7 @@ parts h t rule s e =
       fit = and_first (fits h t (rule s)) (within (starts h (rule s)) (h s) && (within (goes_on h t (rule s)) (t s) && (not (may_vanish (rule s)) && is_steady (rule s)))) e;
       heads = and_first (within (starts h (rule s)) (h s)) (within (goes_on h t (rule s)) (t s) && (not (may_vanish (rule s)) && is_steady (rule s))) a;
       tails = and_first (within (goes_on h t (rule s)) (t s)) (not (may_vanish (rule s)) && is_steady (rule s)) b;
-      stays = not_true (may_vanish (rule s)) (and_first (not (may_vanish (rule s))) (is_steady (rule s)) c);
+      stays = not-true (may_vanish (rule s)) (and_first (not (may_vanish (rule s))) (is_steady (rule s)) c);
       steady = and_second (not (may_vanish (rule s))) (is_steady (rule s)) c;
     }
 

@@ -1,6 +1,8 @@
 -- What is read is spelled so.
 use Rattle.std.proofs.Common.{◌≡◌, ℕ, zero, suc, ◌<◌, ◌≤◌, Bool, true, false, ◌&&◌, not, ◌⊎◌, inl, inr, IsTrue, List, [], ◌∷◌, ◌++◌, length, refl, ap, sym, ◌∙◌, arith, subst, Some, None, Ok, Err}
 use Rattle.std.proofs.lemmas.Bool.Decides.{nat_tests}
+use Rattle.std.proofs.lemmas.Bool.{not-true}
+use Rattle.cv_lists.proofs.Tests.{and_first, and_second}
 use Rattle.cv_syntax.specs.Tree.{Tree}
 use Rattle.cv_parse_notation.specs.declared.sign.Mark.{Mark}
 use Rattle.cv_parse_notation.specs.declared.sign.Sign.{Sign}
@@ -94,18 +96,6 @@ may_sound p P near k s ts x h = elim (pick_ok (next_is k ts) (λ us. p us >>= ma
   | inr e ↦ lies (Perhaps P near k) ts (record { value = None; uses = []; rest = ts }) x e.1 (record { tokens = refl; uses = refl }, λ _. e.0)
 ]
 
-pub and_first : (a b : Bool) → (a && b) ≡ true → a ≡ true
-and_first true b h = refl
-and_first false b h = absurd (cc)
-
-pub and_second : (a b : Bool) → (a && b) ≡ true → b ≡ true
-and_second true b h = h
-and_second false b h = absurd (cc)
-
-pub not_true : (a : Bool) → not a ≡ true → a ≡ false
-not_true true h = absurd (cc)
-not_true false h = refl
-
 none_next : (k : Kind → Bool) (ts : List Sign) → length ts ≤ 0 → next_is k ts ≡ false
 none_next k [] h = refl
 none_next k (t ∷ ts) h = absurd (omega arith)
@@ -146,7 +136,7 @@ module _ {R σ : Type 0} (h : σ → Kind → Bool) (room : Bool) (below : σ �
   sound (both f g) w ts x e = both_sound (reads h room r f) (reads h room r g) (Spells h room below f) (Spells h room below g) (sound f (and_first (is_steady f) (is_steady g) w)) (sound g (and_second (is_steady f) (is_steady g) w)) ts x e
   sound (may near f) w ts x e = may_sound (reads h room r f) (Spells h room below f) near (starts h f) (sound f w) ts x e
   sound (many near f) w ts x e =
-      let v = ap toll (not_true (may_vanish f) (and_first (not (may_vanish f)) (is_steady f) w)) in
+      let v = ap toll (not-true (may_vanish f) (and_first (not (may_vanish f)) (is_steady f) w)) in
       many_sound (reads h room r f) (Spells h room below f) near (starts h f) (sound f (and_second (not (may_vanish f)) (is_steady f) w)) (λ ts a us rest d. let i = lengths h room below shorter f ts a us rest d in omega arith) (length ts) ts x (omega arith) e
   sound (either f g) w ts x e = elim (pick_ok (next_is (starts h f) ts) (reads h room r f) (reads h room r g) ts x e) [
     | inl q ↦ inl (sound f (and_first (is_steady f) (is_steady g) w) ts x q.1)

@@ -1,5 +1,6 @@
 -- The functions of equivalences, from their parts.
 use Rattle.std.proofs.Common.{◌≡◌, ℕ, ◌+◌, false, List, [], ◌∷◌, ◌++◌, drop, refl, ap, sym, ◌∙◌, subst, append_assoc, Option, Result, Ok, Err}
+use Rattle.std.proofs.lemmas.List.{replicate_more}
 use Rattle.std.specs.Prelude.{replicate}
 use Rattle.cv_syntax.specs.declared.head.Head.{Head}
 use Rattle.cv_syntax.specs.declared.head.Head.TheVariants.{Bound, Cons, New, Oracle}
@@ -20,7 +21,6 @@ use Rattle.cv_parse_terms.specs.declared.lookahead.ReadError.{ReadError}
 use Rattle.cv_parse_terms.specs.declared.trail.Trail.{Trail}
 use Rattle.cv_parse_terms.specs.Gives.{Fails, IsRead, Makes, Opens, Stands, below, read_in}
 use Rattle.cv_parse_terms.proofs.Places.{fails_bind}
-use Rattle.cv_parse_terms.proofs.Made.{replicate_last}
 use Rattle.cv_parse_terms.proofs.Chains.{both_made, both_read, made_read, opened_read, sign_both}
 use Rattle.cv_parse_processes.proofs.Productions.{Made}
 use Rattle.cv_parse_processes.specs.Around.{parts_around, parts_of_keyed}
@@ -72,7 +72,7 @@ arguments_made n at {a = a} {args = args} {t = t} h count arguments is x1 x2 x3 
 pub new_put : (h : Head) (count x T : ℕ) (p : Tree) (a b c : List Make) → b ≡ a ++ parts_around h (count + 1) p → c ≡ b ++ Over (New x T) ∷ [] → c ≡ a ++ parts_around h count (Node Cons (first p) (Node (New x T) Empty (second p)))
 unfolding postorder
 new_put h count x T p a b c e f =
-    f ∙ (ap (λ l. l ++ Over (New x T) ∷ []) (e ∙ ap (λ l. a ++ (postorder (first p) ++ (Over h ∷ (l ++ postorder (second p))))) (sym (replicate_last count Nothing)))
+    f ∙ (ap (λ l. l ++ Over (New x T) ∷ []) (e ∙ ap (λ l. a ++ (postorder (first p) ++ (Over h ∷ (l ++ postorder (second p))))) (sym (replicate_more count Nothing)))
     ∙ regrouped a (postorder (first p)) (Over h ∷ []) (replicate count Nothing) (Nothing ∷ []) (postorder (second p)) (Over (New x T) ∷ []))
   where
     regrouped : (a b c d e f g : List Make) → (a ++ (b ++ (c ++ ((d ++ e) ++ f)))) ++ g ≡ a ++ (b ++ (c ++ (d ++ (e ++ (f ++ g)))))

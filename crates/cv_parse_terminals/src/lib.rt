@@ -6,6 +6,3 @@ mod pass;
 
 pub use marks::{spelled, spelling, spelling_is_unique};
 pub use pass::{more_signs, signs, signs_tell_tokens};
-
-#[cfg(test)]
-mod tests;

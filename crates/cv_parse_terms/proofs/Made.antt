@@ -1,5 +1,6 @@
 -- What is made at the end of a list of parts.
 use Rattle.std.proofs.Common.{◌≡◌, ℕ, zero, suc, ◌+◌, ◌<◌, ◌≤◌, List, [], ◌∷◌, ◌++◌, length, drop, refl, ap, ap₂, sym, ◌∙◌, arith, subst, append_assoc, append-nil, map, get_or}
+use Rattle.std.proofs.lemmas.List.{replicate_more}
 use Rattle.std.specs.Prelude.{replicate, flat_map}
 use Rattle.cv_syntax.specs.declared.head.Head.{Head}
 use Rattle.cv_syntax.specs.declared.head.Head.TheVariants.{Cons, Binder, Name}
@@ -9,17 +10,13 @@ use Rattle.cv_syntax.specs.Tree.{Tree, Empty, Node, chain, binders, names}
 use Rattle.cv_syntax.specs.Postorder.{postorder}
 use Rattle.cv_parse_terms.specs.Spines.{spine}
 
-pub replicate_last : {A : Type 0} (n : ℕ) (a : A) → replicate n a ++ a ∷ [] ≡ replicate (n + 1) a
-replicate_last zero a = refl
-replicate_last (suc n) a = let e : suc n + 1 ≡ suc (n + 1) = omega arith in ap (λ l. a ∷ l) (replicate_last n a) ∙ ap (λ k. replicate k a) (sym e)
-
 -- a list of trees
 pub chain-made : (ts : List Tree) → flat_map postorder ts ++ (Nothing ∷ replicate (length ts) (Over Cons)) ≡ postorder (chain ts)
 unfolding postorder
 chain-made [] = refl
 chain-made (t ∷ ts) =
     append_assoc (postorder t) (flat_map postorder ts) (Nothing ∷ replicate (suc (length ts)) (Over Cons))
-    ∙ ap (λ l. postorder t ++ l) (ap (λ l. flat_map postorder ts ++ Nothing ∷ l) (ap (λ k. replicate k (Over Cons)) (let e : suc (length ts) ≡ length ts + 1 = omega arith in e) ∙ sym (replicate_last (length ts) (Over Cons)))
+    ∙ ap (λ l. postorder t ++ l) (ap (λ l. flat_map postorder ts ++ Nothing ∷ l) (ap (λ k. replicate k (Over Cons)) (let e : suc (length ts) ≡ length ts + 1 = omega arith in e) ∙ sym (replicate_more (length ts) (Over Cons)))
     ∙ (sym (append_assoc (flat_map postorder ts) (Nothing ∷ replicate (length ts) (Over Cons)) (Over Cons ∷ [])) ∙ ap (λ l. l ++ Over Cons ∷ []) (chain-made ts)))
 
 -- the heads from the last on
@@ -61,4 +58,4 @@ row-made a b c ts n h l e =
 pub one-made : (a b c : List Make) (t : Tree) → b ≡ a ++ postorder t → c ≡ b ++ (Nothing ∷ replicate 1 (Over Cons)) → c ≡ a ++ postorder (chain (t ∷ []))
 one-made a b c t h e = row-made a b c (t ∷ []) 1 (h ∙ ap (λ x. a ++ x) (sym (append-nil (postorder t)))) refl e
 
-pub ruleset makes = (row-made, one-made, binders-spine, names-spine, replicate_last, push_assoc, append_assoc)
+pub ruleset makes = (row-made, one-made, binders-spine, names-spine, replicate_more, push_assoc, append_assoc)

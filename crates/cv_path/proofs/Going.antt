@@ -7,6 +7,8 @@ use Rattle.cv_pool.specs.Nodes.{ChildBelow}
 use Rattle.cv_pool.specs.declared.node.NodeId.{NodeId}
 use Rattle.cv_pool.specs.PoolView.{PoolView, Grows}
 use Rattle.cv_syntax.proofs.Buildings.{child-grown}
+use Rattle.cv_syntax.proofs.Trees.{empty_at, size-Empty}
+use Rattle.cv_syntax.proofs.Walking.{size-node}
 use Rattle.cv_syntax.specs.declared.head.Head.{Head}
 use Rattle.cv_syntax.specs.Head.{weight}
 use Rattle.cv_syntax.specs.Tree.{Tree, Empty, Node, first, second, size, subtree, tree_at, tree_of}
@@ -16,31 +18,6 @@ use Rattle.cv_path.specs.declared.place.Lies.TheVariants.{Here, Within, Behind}
 use Rattle.cv_path.specs.declared.replacing.Turn.{Turn}
 use Rattle.cv_path.specs.Places.{LiesAt, nodes_above}
 use Rattle.cv_path.specs.Ways.{turned, led}
-
-pub nothing : (trees : List KindTree) (o : Option NodeId) → o ≡ None → tree_at trees o ≡ Empty
-unfolding tree_of
-nothing trees o e = ap (tree_at trees) e
-
-pub first-nothing : (trees : List KindTree) (o : Option NodeId) → o ≡ None → tree_at trees None ≡ first (tree_at trees o)
-unfolding tree_of
-first-nothing trees o e = sym (ap (λ q. first (tree_at trees q)) e)
-
-pub second-nothing : (trees : List KindTree) (o : Option NodeId) → o ≡ None → tree_at trees None ≡ second (tree_at trees o)
-unfolding tree_of
-second-nothing trees o e = sym (ap (λ q. second (tree_at trees q)) e)
-
-pub size-node : (t : Tree) (h : Head) (a b : Tree) → t ≡ Node h a b → size t ≡ weight h + size a + size b
-unfolding size
-size-node t h a b e = ap size e
-
-pub size-empty : (t : Tree) → t ≡ Empty → size t ≡ 0
-unfolding size
-size-empty t e = ap size e
-
--- what a smaller tree leaves of a smaller room
-pub left-over : (o : Option ℕ) (small more part rest room : ℕ) → part ≡ small + more → rest + more ≡ room → IfSome o (λ left. small + left ≡ rest) → IfSome o (λ left. part + left ≡ room)
-left-over None small more part rest room e f i = tt
-left-over (Some left) small more part rest room e f i = let j : small + left ≡ rest = i in omega arith
 
 -- a choice between three values by where a place lies
 module _ {A : Type 0} (h : Head) (a : Tree) (p : ℕ) (x y z : A) where
@@ -114,9 +91,6 @@ turn-of n s = record { node = n; second = s }
 pub live-at : (n root : ℕ) (o : Option NodeId) (k : NodeId) → o ≡ Some k → ChildBelow (root + 1) o → root < n → k.0 < n
 live-at n root o k e l m = let b : k.0 < root + 1 = subst (ChildBelow (root + 1)) e l in omega arith
 
-pub above-some : (o : Option NodeId) (k : NodeId) → o ≡ Some k → above o ≡ k.0 + 1
-above-some o k e = ap above e
-
 pub above-below : (o : Option NodeId) (n : ℕ) → ChildBelow n o → above o ≤ n
 above-below None n l = omega arith
 above-below (Some k) n l = let m : k.0 < n = l in omega arith
@@ -149,6 +123,6 @@ way-back old now new ws vs t n r goal e g a m i =
     ap (led old.trees vs) (m ∙ ap (λ u. turned t.second u (tree_at now.trees (Some n))) (child-grown old now (Some t.node) g live))
     ∙ (sym (led-last old.trees vs t (tree_at now.trees (Some n))) ∙ (ap (λ l. led old.trees l (tree_at now.trees (Some n))) (sym e) ∙ i))
 
-pub ruleset going = (size-node, size-empty, nothing)
+pub ruleset going = (size-node, size-Empty, empty_at)
 
 pub ruleset turning = (turned-second, turned-first)

@@ -1,13 +1,14 @@
 ghost use Rattle.std.specs.Prelude.{◌≡◌, ◌+◌, ◌<◌, ◌≤◌, ◌^◌, ◌++◌, length, option_map, Some, true, false};
 ghost use Rattle.cv_pool.specs.Nodes.{ChildBelow};
 ghost use Rattle.cv_syntax.specs.Tree as tree;
-ghost use Rattle.cv_syntax.specs.Tree.{first, second, tree_at};
+ghost use Rattle.cv_syntax.specs.Tree.{tree_at};
 ghost use Rattle.cv_path.specs.Copies.{added, few_copies_at, guards, most_factors, parameter_of, parameters};
 
 use crate::place::{Lies, place_in, size_below};
 use crate::product::Product;
 use arrayvec::ArrayVec;
 use cv_pool::{NodeId, Pool};
+use cv_syntax::children::{first_of, second_of};
 use cv_syntax::{Head, Opened, read_node};
 
 /// Adds the parameter of an index that is bound, and says whether there was room.
@@ -41,30 +42,6 @@ fn add_parameters(pool: &Pool, product: &mut ArrayVec<u32, 16>, indices: Option<
         at = node.second;
     }
     true
-}
-
-/// The first child of a node that is a child.
-fn first_of(pool: &Pool, child: Option<NodeId>) -> Option<NodeId>
-    requires { ChildBelow (length pool.now.trees) child }
-    ensures tree { tree_at pool.now.trees result ≡ first (tree_at pool.now.trees child) }
-    ensures live { ChildBelow (length pool.now.trees) result }
-{
-    match child {
-        Some(n) => read_node(pool, n).first,
-        None => None,
-    }
-}
-
-/// The second child of a node that is a child.
-fn second_of(pool: &Pool, child: Option<NodeId>) -> Option<NodeId>
-    requires { ChildBelow (length pool.now.trees) child }
-    ensures tree { tree_at pool.now.trees result ≡ second (tree_at pool.now.trees child) }
-    ensures live { ChildBelow (length pool.now.trees) result }
-{
-    match child {
-        Some(n) => read_node(pool, n).second,
-        None => None,
-    }
 }
 
 /// How many syntax nodes stand in the list and in the condition of a branch, behind its indices.

@@ -1,25 +1,10 @@
 ghost use Rattle.std.specs.Prelude.{◌≡◌, length};
 ghost use Rattle.cv_pool.specs.Nodes.{ChildBelow};
-ghost use Rattle.cv_syntax.specs.Tree.{Empty, same_tree, tree_at};
+ghost use Rattle.cv_syntax.specs.Tree.{same_tree, tree_at};
 
 use cv_pool::{NodeId, Pool};
+use cv_syntax::children::is_empty;
 use cv_syntax::read_node;
-
-/// Whether there is nothing.
-#[tactic(auto, using(crate::proofs::Sames::sames))]
-fn is_nothing(pool: &Pool, tree: Option<NodeId>) -> bool
-    requires { ChildBelow (length pool.now.trees) tree }
-    ensures { result ≡ same_tree Empty (tree_at pool.now.trees tree) }
-{
-    match tree {
-        Some(n) => {
-            // A node of the pool is never empty, as reading it shows.
-            let _node = read_node(pool, n);
-            false
-        }
-        None => true,
-    }
-}
 
 /// Whether two nodes stand for one tree of the calculus.
 #[tactic(auto, using(crate::proofs::Sames::sames))]
@@ -45,5 +30,5 @@ pub fn same(pool: &Pool, left: Option<NodeId>, right: Option<NodeId>) -> bool
         p = x.second;
         q = y.second;
     }
-    is_nothing(pool, q)
+    is_empty(pool, q)
 }

@@ -8,7 +8,6 @@ mod laws;
 mod place;
 mod product;
 mod replacing;
-mod room;
 
 pub use counting::copies;
 pub use equality::same;
@@ -17,7 +16,6 @@ pub use laws::{places_are_below_the_size, worked_copies};
 pub use place::{Lies, at, place_in};
 pub use product::Product;
 pub use replacing::replace;
-pub use room::room_left;
 
 #[cfg(test)]
 mod tests;

@@ -1,6 +1,7 @@
-use crate::{PathError, at, copies, replace, room_left};
+use crate::{PathError, at, replace};
 use cv_pool::{NodeId, Pool};
-use cv_syntax::{BuildError, Head, NameId};
+use cv_syntax::children::room_left;
+use cv_syntax::{BuildError, Head};
 use std::alloc::Global;
 use std::process::Abort;
 use std::test::Fail;
@@ -24,44 +25,6 @@ fn searching(alloc: Global, limit: u32) -> Result<Pool, Fail> {
 }
 
 const ROOT: NodeId = NodeId(9);
-
-#[test]
-fn the_node_at_each_place(rt: HostRuntime) -> Result<(), Fail> {
-    let pool = searching(rt.alloc(), 100)?;
-    assert!(rt; ROOT.0 < pool.live());
-    assert!(rt; room_left(&pool, Some(ROOT), 6).is_some());
-    for (place, wanted) in &[
-        (0, Some(9)),
-        (1, Some(8)),
-        (2, Some(5)),
-        (3, Some(1)),
-        (4, Some(0)),
-        (5, Some(7)),
-        (6, None),
-    ] {
-        assert_eq!(rt; at(&pool, ROOT, *place), wanted.map(NodeId), "at {place}");
-    }
-    Ok(())
-}
-
-#[test]
-fn copies_of_each_place(rt: HostRuntime) -> Result<(), Fail> {
-    let pool = searching(rt.alloc(), 100)?;
-    assert!(rt; ROOT.0 < pool.live());
-    assert!(rt; room_left(&pool, Some(ROOT), 6).is_some());
-    for (place, wanted) in &[(0, 0), (1, 1), (2, 1), (3, 2), (4, 1), (5, 1)] {
-        let Some(found) = copies(&pool, ROOT, *place) else {
-            return Err("a place has no copies")?;
-        };
-        assert_eq!(rt; found.len(), *wanted, "at {place}");
-        assert_eq!(rt; found.name(*wanted), None, "at {place}");
-        if *wanted == 2 {
-            assert_eq!(rt; found.name(1), Some(NameId(12)));
-        }
-    }
-    assert!(rt; copies(&pool, ROOT, 6).is_none());
-    Ok(())
-}
 
 /// What replaces the node at a place of a pool with this limit.
 fn replaced(

@@ -1,10 +1,10 @@
 -- The trees of entries: adding one, keeping the first, reading one.
-use Rattle.std.proofs.Common.{◌≡◌, ℕ, zero, suc, ◌+◌, ◌<◌, ◌≤◌, List, [], ◌∷◌, ◌++◌, length, take, refl, ap, sym, ◌∙◌, append_assoc, arith, length-append, get_or, subst, Option, Some, None, true, false, IsNone, ◌↔◌, ◌≢◌, add-zero, append-nil}
+use Rattle.std.proofs.Common.{◌≡◌, ℕ, zero, suc, ◌+◌, ◌<◌, ◌≤◌, List, [], ◌∷◌, ◌++◌, length, take, refl, ap, sym, ◌∙◌, append_assoc, arith, length-append, get_or, subst, Option, Some, None, IsNone, ◌↔◌, ◌≢◌, add-zero, append-nil}
 use Rattle.std.proofs.Math.Seq.{take-append_seam, take-length, get_or-append_seam}
 use Rattle.std.proofs.lemmas.List.{get_or_append_left}
 use Rattle.cv_pool.specs.declared.node.NodeId.{NodeId}
 use Rattle.cv_pool.specs.declared.node.Entry.{Entry}
-use Rattle.cv_pool.specs.KindTree.{KindTree, NoTree, Fork, side}
+use Rattle.cv_pool.specs.KindTree.{KindTree, NoTree, Fork}
 use Rattle.cv_pool.specs.Nodes.{built, tree_of, at, child, IsClosed, EntryBelow, ChildBelow}
 
 pub length-built : (done : List KindTree) (cs : List Entry) → length (built done cs) ≡ length done + length cs
@@ -44,7 +44,7 @@ front-built done (c ∷ cs) =
 take_front : (done : List KindTree) (cs : List Entry) → take (length done) (built done cs) ≡ done
 take_front done cs = let h = front-built done cs in rw h.1 (take-append_seam done h.0)
 
-take-past : (ts : List KindTree) (n : ℕ) → length ts ≤ n → take n ts ≡ ts
+pub take-past : (ts : List KindTree) (n : ℕ) → length ts ≤ n → take n ts ≡ ts
 take-past [] zero h = refl
 take-past [] (suc n) h = refl
 take-past (t ∷ ts) zero h = absurd (omega arith)
@@ -116,21 +116,6 @@ pub child-none : (cs : List Entry) (i : ℕ) (d : Entry) (o : Option NodeId) →
 child-none cs i d None h l b = (λ _. refl, λ _. refl)
 child-none cs i d (Some k) h l b = (λ e. absurd (cc), λ e. let m : k.0 < length cs = omega arith in absurd (at-live cs k.0 d h m e))
 
--- trees of which one lacks a child differ
-pub lacks-first : (cs : List Entry) (i j : ℕ) (c d : Entry) (k : NodeId) → IsClosed 0 cs → i < length cs → j < length cs → c ≡ get_or cs i c → d ≡ get_or cs j d → c.first ≡ None → d.first ≡ Some k → at (built [] cs) i ≡ at (built [] cs) j → ⊥
-lacks-first cs i j c d k h li lj ei ej n s e =
-    let lk : k.0 < length cs = let b : ChildBelow j (Some k) = subst (ChildBelow j) (ap (λ (x : Entry). x.first) (sym ej) ∙ s) ((below-at cs j d h lj).first) in omega arith in
-    let p : NoTree ≡ at (built [] cs) k.0 = ap (child (built [] cs)) (sym n) ∙ (ap (λ t. side false t) (sym (at-built cs i c h li ∙ ap (tree_of (built [] cs)) (sym ei)) ∙ (e ∙ (at-built cs j d h lj ∙ ap (tree_of (built [] cs)) (sym ej)))) ∙ ap (child (built [] cs)) s) in
-    at-live cs k.0 d h lk (sym p)
-
-pub lacks-second : (cs : List Entry) (i j : ℕ) (c d : Entry) (k : NodeId) → IsClosed 0 cs → i < length cs → j < length cs → c ≡ get_or cs i c → d ≡ get_or cs j d → c.second ≡ None → d.second ≡ Some k → at (built [] cs) i ≡ at (built [] cs) j → ⊥
-lacks-second cs i j c d k h li lj ei ej n s e =
-    let lk : k.0 < length cs = let b : ChildBelow j (Some k) = subst (ChildBelow j) (ap (λ (x : Entry). x.second) (sym ej) ∙ s) ((below-at cs j d h lj).second) in omega arith in
-    let p : NoTree ≡ at (built [] cs) k.0 = ap (child (built [] cs)) (sym n) ∙ (ap (λ t. side true t) (sym (at-built cs i c h li ∙ ap (tree_of (built [] cs)) (sym ei)) ∙ (e ∙ (at-built cs j d h lj ∙ ap (tree_of (built [] cs)) (sym ej)))) ∙ ap (child (built [] cs)) s) in
-    at-live cs k.0 d h lk (sym p)
-
 pub ruleset built_laws = (length-trees, built-append, IsClosed-append, at-built_last, take-trees, kept-last, IsClosed-take)
 
 pub ruleset reads = (length-trees, at-built, below-at, child-none, at-live)
-
-pub ruleset same_laws = (reads, lacks-first, lacks-second)

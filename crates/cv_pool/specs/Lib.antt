@@ -1,3 +1,6 @@
+pub mod Bucket
+pub mod Chain
+pub mod Inside
 pub mod KindTree
 pub mod Nodes
 pub mod PoolView

@@ -1,5 +1,5 @@
 -- Entries of a pool, and the trees that their numbers stand for.
-use Rattle.std.specs.Prelude.{ℕ, ◌+◌, ◌<◌, List, [], ◌∷◌, ◌++◌, Option, Some, None, slice_index_or}
+use Rattle.std.specs.Prelude.{ℕ, ◌≡◌, ◌+◌, ◌<◌, List, [], ◌∷◌, ◌++◌, Option, Some, None, length, slice_index_or}
 use Rattle.cv_pool.specs.declared.node.Entry.{Entry}
 use Rattle.cv_pool.specs.declared.node.NodeId.{NodeId}
 use Rattle.cv_pool.specs.KindTree.{KindTree, NoTree, Fork}
@@ -36,3 +36,7 @@ pub record EntryBelow (i : ℕ) (c : Entry) : Type 0 where
 abbrev pub IsClosed : ℕ → List Entry → Type 0
 IsClosed i [] = Unit {0}
 IsClosed i (c ∷ cs) = EntryBelow i c × IsClosed (i + 1) cs
+
+-- live nodes with equal trees have equal numbers
+pub record AreDistinct (trees : List KindTree) : Type 0 where
+  pub same : (m n : ℕ) → m < length trees → n < length trees → at trees m ≡ at trees n → m ≡ n

@@ -1,5 +1,5 @@
 -- A pool as its trees, its limit and its spare room.
-use Rattle.std.specs.Prelude.{ℕ, ◌≡◌, List, length, take, refl}
+use Rattle.std.specs.Prelude.{ℕ, ◌≡◌, ◌+◌, List, [], ◌∷◌, ◌++◌, length, take, refl}
 use Rattle.cv_pool.specs.KindTree.{KindTree, coded_tree}
 use Rattle.std.specs.Coded.{Coded, code_by, coded×, coded_ℕ, coded_list}
 
@@ -18,3 +18,9 @@ coded_view =
 pub record Grows (old new : PoolView) : Type 0 where
   pub kept : take (length old.trees) new.trees ≡ old.trees
   pub limit : new.limit ≡ old.limit
+
+-- this tree comes behind the others, and takes one of the spare places
+pub record Adds (old new : PoolView) (tree : KindTree) : Type 0 where
+  pub trees : new.trees ≡ old.trees ++ tree ∷ []
+  pub limit : new.limit ≡ old.limit
+  pub spare : new.spare + 1 ≡ old.spare

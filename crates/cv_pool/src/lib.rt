@@ -1,6 +1,8 @@
-// A pool of nodes of binary trees, with marks to go back to.
+// A pool of nodes of binary trees, in which each tree has one node, with marks to go back to.
 #![tactic(auto)]
 
+mod bucket;
+mod chains;
 mod node;
 mod numbers;
 mod pool;

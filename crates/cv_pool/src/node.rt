@@ -15,7 +15,7 @@ pub struct NodeId(pub u32);
 pub struct Mark(pub u32);
 
 /// A node with the numbers of its children.
-#[derive(Clone, Copy, Debug)]
+#[derive(Clone, Copy, Debug, PartialEq, Eq)]
 pub struct Entry {
     pub kind: Kind,
     pub first: Option<NodeId>,

@@ -1,8 +1,9 @@
-ghost use Rattle.std.specs.Prelude.{◌≡◌, ◌≢◌, ◌+◌, ◌-◌, ◌<◌, ◌≤◌, ◌↔◌, ◌++◌, ◌∷◌, [], ℕ, length, take, IsTrue, OnOk, OnErr, IsErrOf, IfSome, IsNone, slice_index_or};
+ghost use Rattle.std.specs.Prelude.{◌≡◌, ◌≢◌, ◌+◌, ◌-◌, ◌<◌, ◌≤◌, ◌↔◌, ◌⊎◌, ◌++◌, ◌∷◌, [], ℕ, length, take, IsTrue, OnOk, OnErr, IsErrOf, IfSome, IsNone, slice_index_or};
 ghost use Rattle.cv_pool.specs.KindTree.{KindTree, NoTree, Fork, kind_of, side};
-ghost use Rattle.cv_pool.specs.Nodes.{at, child, ChildBelow};
-ghost use Rattle.cv_pool.specs.PoolView.{PoolView, Grows};
+ghost use Rattle.cv_pool.specs.Nodes.{AreDistinct, at, child, tree_of, ChildBelow, EntryBelow};
+ghost use Rattle.cv_pool.specs.PoolView.{PoolView, Adds, Grows};
 
+use crate::chains::Chains;
 use crate::node::{Entry, Kind, Mark, NodeId};
 use std::alloc::{AllocError, Global};
 use std::marker::Model;
@@ -13,27 +14,31 @@ pub enum PoolError {
     OutOfMemory,
 }
 
-/// Nodes, each with at most two children of smaller numbers.
+/// Nodes, each with at most two children of smaller numbers. No two have the same kind and the same children.
 #[derive(Drop)]
 pub struct Pool {
     nodes: Vec<Entry>,
+    chains: Chains,
     limit: u32,
     spare: u32,
 }
 
 impl Model for Pool {
-    ghost use Rattle.std.specs.Prelude.{[], length, ◌+◌, ◌≤◌, vec_len, vec_capacity};
+    ghost use Rattle.std.specs.Prelude.{[], ◌≡◌, length, ◌+◌, ◌≤◌, vec_len, vec_capacity};
+    ghost use Rattle.cv_pool.specs.Chain.{IsChained, buckets, chained};
     ghost use Rattle.cv_pool.specs.KindTree.{KindTree};
-    ghost use Rattle.cv_pool.specs.Nodes.{built, IsClosed};
+    ghost use Rattle.cv_pool.specs.Nodes.{built, AreDistinct, IsClosed};
     ghost use Rattle.cv_pool.specs.PoolView.{PoolView, coded_view};
 
     ghost Value = { PoolView };
 
     ghost coded = { coded_view };
 
+    ghost use Rattle.cv_pool.specs.Inside.{IsInterned};
+
     ghost view = { λ p. record { trees = built [] p.nodes.items; limit = p.limit; spare = p.spare } };
 
-    ghost invariant = { λ p. IsClosed 0 p.nodes.items × (vec_len p.nodes + p.spare ≤ p.limit) × (vec_len p.nodes + p.spare ≤ vec_capacity p.nodes) };
+    ghost invariant = { IsInterned };
 }
 
 impl Pool {
@@ -42,6 +47,7 @@ impl Pool {
     {
         Pool {
             nodes: Vec::new(alloc),
+            chains: Chains::new(alloc),
             limit,
             spare: 0,
         }
@@ -78,17 +84,28 @@ impl Pool {
         if need <= self.spare {
             return Ok(());
         }
-        match self.nodes.reserve(need as usize) {
-            Ok(()) => {
-                self.spare = need;
-                Ok(())
-            }
+        match self.grow(need) {
+            Ok(()) => Ok(()),
             Err(AllocError) => Err(PoolError::OutOfMemory),
         }
     }
 
-    /// Adds a node.
+    /// Makes room for more nodes than there was room for, in the vector and in the chains.
     #[tactic(auto, using(crate::proofs::Built::built_laws))]
+    fn grow(&mut self, need: u32) -> Result<(), AllocError>
+        requires more { self.old.spare < need }
+        requires fits { length self.old.trees + need ≤ self.old.limit }
+        ensures ok { OnOk result (self.new ≡ record self.old { spare = need }) }
+        ensures err { OnErr result (self.new ≡ self.old) }
+    {
+        self.nodes.reserve(need as usize)?;
+        self.chains.reserve(self.nodes.as_slice(), need as usize)?;
+        self.spare = need;
+        Ok(())
+    }
+
+    /// The node with this kind and these children: the one that is there, or a new one.
+    #[tactic(auto, using(crate::proofs::Distinct::node_laws))]
     pub fn node(&mut self, kind: Kind, first: Option<NodeId>, second: Option<NodeId>) -> NodeId
         requires spare { 0 < self.old.spare }
         requires first { ChildBelow (length self.old.trees) first }
@@ -98,15 +115,34 @@ impl Pool {
         ensures grows { Grows self.old self.new }
         ensures spare { self.old.spare ≤ self.new.spare + 1 }
         ensures few { length self.new.trees ≤ length self.old.trees + 1 }
+
+        // No second node comes for a tree that has one.
+        ensures added { (self.new ≡ self.old) ⊎ Adds self.old self.new (Fork kind (child self.old.trees first) (child self.old.trees second)) }
+        ensures distinct { AreDistinct self.new.trees }
+    {
+        let entry = Entry {
+            kind,
+            first,
+            second,
+        };
+        match self.chains.find(self.nodes.as_slice(), entry) {
+            Some(there) => there,
+            None => self.add(entry),
+        }
+    }
+
+    /// Adds a node that is not there.
+    #[tactic(auto, using(crate::proofs::Distinct::node_laws))]
+    fn add(&mut self, entry: Entry) -> NodeId
+        requires spare { 0 < self.old.spare }
+        requires below { EntryBelow (length self.old.trees) entry }
+        requires new { (n : ℕ) → n < length self.old.trees → at self.old.trees n ≢ tree_of self.old.trees entry }
+        ensures number { result.0 ≡ length self.old.trees }
+        ensures adds { Adds self.old self.new (tree_of self.old.trees entry) }
     {
         let number = NodeId(self.nodes.len() as u32);
-        self.nodes
-            .push(Entry {
-                kind,
-                first,
-                second,
-            })
-            .unwrap();
+        self.nodes.push(entry).unwrap();
+        self.chains.add(self.nodes.as_slice());
         self.spare -= 1;
         number
     }
@@ -117,6 +153,7 @@ impl Pool {
         requires { n.0 < length self.now.trees }
         ensures kind { result ≡ kind_of (at self.now.trees n.0) }
         ensures some { at self.now.trees n.0 ≢ NoTree }
+        ensures distinct { AreDistinct self.now.trees }
     {
         self.nodes[n.0 as usize].kind
     }
@@ -135,43 +172,14 @@ impl Pool {
     }
 
     /// Whether two nodes stand for one tree.
-    #[tactic(auto, using(crate::proofs::Built::same_laws))]
+    #[tactic(auto, using(crate::proofs::Distinct::same_laws))]
     pub fn same(&self, a: NodeId, b: NodeId) -> bool
         requires a { a.0 < length self.now.trees }
         requires b { b.0 < length self.now.trees }
         ensures { IsTrue result ↔ (at self.now.trees a.0 ≡ at self.now.trees b.0) }
     {
-        let mut p = a;
-        let mut q = b;
-        'chain: loop {
-            if p == q {
-                return true;
-            }
-            let x = self.nodes[p.0 as usize];
-            let y = self.nodes[q.0 as usize];
-            if x.kind != y.kind {
-                return false;
-            }
-            match (x.first, y.first) {
-                (None, None) => {}
-                (Some(f), Some(g)) => {
-                    if !self.same(f, g) {
-                        return false;
-                    }
-                }
-                (None, Some(_)) => return false,
-                (Some(_), None) => return false,
-            }
-            match (x.second, y.second) {
-                (None, None) => return true,
-                (Some(f), Some(g)) => {
-                    p = f;
-                    q = g;
-                }
-                (None, Some(_)) => return false,
-                (Some(_), None) => return false,
-            }
-        }
+        let _limit = self.limit;
+        a == b
     }
 
     /// The present state.
@@ -191,8 +199,22 @@ impl Pool {
         ensures limit { self.new.limit ≡ self.old.limit }
         ensures spare { self.old.spare ≤ self.new.spare }
     {
-        let dropped = self.nodes.len() - m.0 as usize;
-        self.nodes.truncate(m.0 as usize);
-        self.spare += dropped as u32;
+        'newest: while self.nodes.len() > m.0 as usize {
+            self.pop();
+        }
+    }
+
+    /// Takes the newest node off.
+    #[tactic(auto, using(crate::proofs::Distinct::node_laws))]
+    fn pop(&mut self)
+        requires { 0 < length self.old.trees }
+        ensures trees { self.new.trees ≡ take (length self.old.trees - 1) self.old.trees }
+        ensures limit { self.new.limit ≡ self.old.limit }
+        ensures spare { self.new.spare ≡ self.old.spare + 1 }
+    {
+        let last = self.nodes.len() - 1;
+        self.chains.pop(self.nodes.as_slice());
+        self.nodes.truncate(last);
+        self.spare += 1;
     }
 }

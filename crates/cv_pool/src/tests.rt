@@ -10,7 +10,7 @@ fn leaf(a: u32) -> Kind
 }
 
 #[test]
-fn a_pool_holds_its_limit(rt: HostRuntime) -> Result<(), Fail> {
+fn a_pool_keeps_its_limit(rt: HostRuntime) -> Result<(), Fail> {
     let mut pool = Pool::new(rt.alloc(), 2);
     assert_eq!(rt; pool.reserve(3), Err(PoolError::Full { need: 3 }));
     assert_eq!(rt; pool.live(), 0);
@@ -27,19 +27,23 @@ fn a_pool_holds_its_limit(rt: HostRuntime) -> Result<(), Fail> {
 
 #[test]
 #[tactic(auto, using(crate::proofs::Growth::growth))]
-fn equal_trees_are_the_same(rt: HostRuntime) -> Result<(), Fail> {
+fn each_tree_has_one_node(rt: HostRuntime) -> Result<(), Fail> {
     let mut pool = Pool::new(rt.alloc(), 9);
-    pool.reserve(5)?;
+    pool.reserve(2)?;
     let mark = pool.mark();
     let one = pool.node(leaf(1), None, None);
-    let again = pool.node(leaf(1), None, None);
-    let low = pool.node(leaf(2), Some(one), Some(again));
-    let found = pool.node(leaf(2), Some(again), Some(again));
-    let high = pool.node(leaf(3), Some(one), Some(one));
-    assert!(rt; pool.same(one, again));
-    assert!(rt; pool.same(low, found));
-    assert!(rt; !pool.same(high, low));
+    assert_eq!(rt; pool.spare(), 1);
+    assert_eq!(rt; pool.node(leaf(1), None, None), one);
+    assert_eq!(rt; pool.live(), 1);
+    assert_eq!(rt; pool.spare(), 1);
+    let two = pool.node(leaf(2), Some(one), Some(one));
+    pool.reserve(7)?;
+    assert_eq!(rt; pool.node(leaf(2), Some(one), Some(one)), two);
+    let three = pool.node(leaf(2), Some(one), None);
+    assert!(rt; !pool.same(two, three));
+    assert_eq!(rt; pool.live(), 3);
     pool.release(mark);
     assert_eq!(rt; pool.live(), 0);
+    assert_eq!(rt; pool.spare(), 9);
     Ok(())
 }

@@ -7,12 +7,10 @@ use Rattle.cv_pool.specs.KindTree.{NoTree}
 use Rattle.cv_syntax.specs.Tree.{Tree, Empty, Node, tree_of}
 use Rattle.cv_pool.specs.declared.node.NodeId.{NodeId}
 use Rattle.cv_syntax.specs.declared.head.Head.TheVariants.{Leaf, Read, Apply, Eq, And, Or, Not, Yes, No, Par, Repl, If, Find}
-use Rattle.cv_print.specs.Terms.{name_text, binder_text, entry_text, entries_text, is_empty, term_text, terms_text}
+use Rattle.cv_syntax.specs.Children.{is_empty}
+use Rattle.cv_syntax.proofs.Trees.{tree_of-NoTree}
+use Rattle.cv_print.specs.Terms.{name_text, binder_text, entry_text, entries_text, term_text, terms_text}
 use Rattle.cv_print.specs.Games.{line, branch_line, step_text, process_text, bodies_text, branches_text, branch_text}
-
-pub no_tree : tree_of NoTree ≡ Empty
-unfolding tree_of
-no_tree = refl
 
 pub empty_test : (o : Option NodeId) (t : Tree) → IsNone o ↔ (t ≡ Empty) → is_none o ≡ is_empty t
 empty_test None Empty d = refl
@@ -96,10 +94,10 @@ unfolding branch_text
 branch_open names level word (Node h indices (Node i cells (Node j term body))) = refl
 branch_open names level word _ = refl
 
-pub ruleset entry_laws = (entries_open, no_tree, append_assoc, append-nil)
+pub ruleset entry_laws = (entries_open, tree_of-NoTree, append_assoc, append-nil)
 
-pub ruleset term_laws = (term_open, terms_open, no_tree, append_assoc, append-nil)
+pub ruleset term_laws = (term_open, terms_open, tree_of-NoTree, append_assoc, append-nil)
 
-pub ruleset step_laws = (no_tree, append_assoc, append-nil)
+pub ruleset step_laws = (tree_of-NoTree, append_assoc, append-nil)
 
-pub ruleset process_laws = (process_open, bodies_open, branches_open, branch_open, no_tree, append_assoc, append-nil)
+pub ruleset process_laws = (process_open, bodies_open, branches_open, branch_open, tree_of-NoTree, append_assoc, append-nil)

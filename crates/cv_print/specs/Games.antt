@@ -4,7 +4,8 @@ use Rattle.std.specs.Fmt.{decimal}
 use Rattle.cv_syntax.specs.Tree.{Tree, Empty, Node, first, second}
 use Rattle.cv_syntax.specs.declared.head.Head.{Head}
 use Rattle.cv_syntax.specs.declared.head.Head.TheVariants.{Stop, Yield, Par, Repl, In, Out, Event, New, Let, If, Find}
-use Rattle.cv_print.specs.Terms.{name_text, binder_text, entries_text, is_empty, term_text, terms_text}
+use Rattle.cv_syntax.specs.Children.{is_empty}
+use Rattle.cv_print.specs.Terms.{name_text, binder_text, entries_text, term_text, terms_text}
 
 abbrev pub line : ℕ → List ℕ → List ℕ
 line level text = replicate (2 * level) 32 ++ text ++ codes "\n"

@@ -1,5 +1,5 @@
 -- The text of terms, and of lists of terms, of names and of binders.
-use Rattle.std.specs.Prelude.{ℕ, Bool, true, false, List, [], ◌++◌, unwrap_or, slice_get, codes}
+use Rattle.std.specs.Prelude.{ℕ, List, [], ◌++◌, unwrap_or, slice_get, codes}
 use Rattle.cv_syntax.specs.Tree.{Tree, Empty, Node}
 use Rattle.cv_syntax.specs.declared.head.Head.{Head}
 use Rattle.cv_syntax.specs.declared.head.Head.TheVariants.{Leaf, Read, Apply, Eq, And, Or, Not, Yes, No, Binder, Name}
@@ -22,10 +22,6 @@ entry_text names mark _ = []
 unfoldable pub entries_text : List (List ℕ) → List ℕ → List ℕ → Tree → List ℕ
 entries_text names mark before Empty = []
 entries_text names mark before (Node h a b) = before ++ entry_text names mark h ++ entries_text names mark (codes ", ") b
-
-abbrev pub is_empty : Tree → Bool
-is_empty Empty = true
-is_empty (Node h a b) = false
 
 unfoldable mutual
   pub term_text : List (List ℕ) → Tree → List ℕ

@@ -5,8 +5,6 @@ mod games;
 mod lines;
 mod steps;
 mod terms;
-#[cfg(test)]
-mod tests;
 mod words;
 
 pub use games::{game_text, push_game};

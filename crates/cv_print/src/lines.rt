@@ -1,8 +1,8 @@
 ghost use Rattle.std.specs.Prelude.{◌≡◌, ◌++◌, ◌*◌, ◌+◌, ◌^◌, ◌<◌, [], OnOk, Some, length, codes, replicate, is_none};
 ghost use Rattle.cv_pool.specs.Nodes.{ChildBelow};
 ghost use Rattle.cv_syntax.specs.Tree.{Node, first, second, tree_at};
+ghost use Rattle.cv_syntax.specs.Children.{is_empty};
 ghost use Rattle.cv_print.specs.Numbers.{above};
-ghost use Rattle.cv_print.specs.Terms.{is_empty};
 ghost use Rattle.cv_print.specs.Games.{line, channel_text, arguments_text, indices_text, cells_text};
 
 use crate::terms::push_terms;

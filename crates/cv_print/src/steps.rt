@@ -2,7 +2,8 @@
 ghost use Rattle.std.specs.Prelude.{◌≡◌, ◌++◌, ◌^◌, ◌<◌, OnOk, length, is_none, codes};
 ghost use Rattle.cv_pool.specs.Nodes.{ChildBelow};
 ghost use Rattle.cv_syntax.specs.Tree.{tree_at};
-ghost use Rattle.cv_print.specs.Terms.{binder_text, is_empty};
+ghost use Rattle.cv_syntax.specs.Children.{is_empty};
+ghost use Rattle.cv_print.specs.Terms.{binder_text};
 ghost use Rattle.cv_print.specs.Games.{line, step_text};
 
 use crate::lines::{children, push_arguments, push_channel, push_indent, push_line};

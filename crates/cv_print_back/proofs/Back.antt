@@ -3,6 +3,7 @@ use Rattle.std.proofs.Common.{◌≡◌, ℕ, ◌+◌, ◌-◌, ◌≤◌, Bool,
 use Rattle.std.specs.Prelude.{max}
 use Rattle.std.proofs.lemmas.Bool.Decides.{nat_tests}
 use Rattle.std.proofs.lemmas.List.{append-nil, take_all}
+use Rattle.std.proofs.lemmas.Bool.{le-ltb}
 use Rattle.cv_syntax.specs.declared.decls.Decl.{Decl}
 use Rattle.cv_syntax.specs.Tree.{Tree, depth, size}
 use Rattle.cv_parse_terminals.specs.Signs.{Signed, no_counts, signs_from}
@@ -66,9 +67,6 @@ inner_read signs = refl
 process_read : (t : Tree) (signs : List Sign) → read_sort heads rule 200 sort.Inputs signs ≡ found t (game_uses t 0) [] → read_process signs ≡ found t (record { role = Enters InProcess; name = 0; left = length signs } ∷ (game_uses t 0 ++ record { role = Leaves; name = 0; left = 0 } ∷ [])) []
 process_read t signs e = process_around signs ∙ ap (around signs) (sym (inner_read signs) ∙ e)
 
-not_more : (m n : ℕ) → n ≤ m → nat_lt m n ≡ false
-not_more m n h = grind (arith, nat_tests)
-
 abbrev sized_by : Tree → Bool → Bool → Result (Unit {0}) ParseError
 sized_by t a b = if a then Err (Build (Nodes (capped (size t)))) else if b then Err (Build (Depth (capped (depth t)))) else Ok tt
 
@@ -78,7 +76,7 @@ fits_by t true b e f = absurd (cc)
 fits_by t false true e f = absurd (cc)
 
 size_fits : (t : Tree) → size t ≤ most_nodes → depth t ≤ most_depth → sized t ≡ Ok tt
-size_fits t h k = fits_by t (nat_lt most_nodes (size t)) (nat_lt most_depth (depth t)) (not_more most_nodes (size t) h) (not_more most_depth (depth t) k)
+size_fits t h k = fits_by t (nat_lt most_nodes (size t)) (nat_lt most_depth (depth t)) (le-ltb most_nodes (size t) h) (le-ltb most_depth (depth t) k)
 
 pub game_comes_back : (limit live : ℕ) (names : List (List ℕ)) (ds : List Decl) (t : Tree) → IsProperGame limit live names ds t → IsGameBack limit live names ds t
 unfolding game_of

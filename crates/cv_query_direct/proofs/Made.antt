@@ -1,5 +1,7 @@
 -- What is made at the end of a list of parts.
 use Rattle.std.proofs.Common.{◌≡◌, ℕ, zero, suc, ◌+◌, ◌≤◌, List, [], ◌∷◌, ◌++◌, length, drop, refl, ap, sym, ◌∙◌, arith, append_assoc, append-nil, map, Option, Some, Result, Ok, Err}
+use Rattle.std.proofs.lemmas.List.{drop_all, replicate_more}
+use Rattle.std.proofs.lemmas.Result.{on_ok_weaker}
 use Rattle.std.specs.Prelude.{OnOk, replicate, flat_map, slice_get}
 use Rattle.cv_pool.specs.declared.node.NodeId.{NodeId}
 use Rattle.cv_pool.specs.KindTree.{KindTree, NoTree}
@@ -10,12 +12,9 @@ use Rattle.cv_syntax.specs.declared.make.Make.TheVariants.{Nothing, Over}
 use Rattle.cv_syntax.specs.Planting.{overs}
 use Rattle.cv_syntax.specs.Tree.{Tree, Empty, Node, chain, tree_at, tree_of}
 use Rattle.cv_syntax.specs.Postorder.{postorder}
+use Rattle.cv_syntax.proofs.Trees.{tree_of-NoTree}
 use Rattle.cv_script.specs.Steps.{reflexive, reflexive_lines, terms_in}
 use Rattle.cv_query_direct.specs.Closing.{closing}
-
-pub no_tree : tree_of NoTree ≡ Empty
-unfolding tree_of
-no_tree = refl
 
 pub closing-last : (hs : List Head) (h : Head) → closing (hs ++ h ∷ []) ≡ Over h ∷ closing hs
 closing-last [] h = refl
@@ -41,17 +40,13 @@ chain-goes t h a b out new total hs ks e i n k =
 pub chain-ends : (t : Tree) (out new total : List Make) (hs : List Head) → t ≡ Empty → out ++ (postorder t ++ closing hs) ≡ total → new ≡ out ++ Nothing ∷ [] → new ++ closing hs ≡ total
 chain-ends t out new total hs e i n = ap (λ l. l ++ closing hs) n ∙ (append_assoc out (Nothing ∷ []) (closing hs) ∙ (ap (λ l. out ++ (l ++ closing hs)) (sym (ap postorder e ∙ postorder-empty)) ∙ i))
 
-pub replicate_last : {A : Type 0} (n : ℕ) (a : A) → replicate n a ++ a ∷ [] ≡ replicate (n + 1) a
-replicate_last zero a = refl
-replicate_last (suc n) a = let e : suc n + 1 ≡ suc (n + 1) = omega arith in ap (λ l. a ∷ l) (replicate_last n a) ∙ ap (λ k. replicate k a) (sym e)
-
 -- a list of trees
 pub list-made : (ts : List Tree) → flat_map postorder ts ++ (Nothing ∷ replicate (length ts) (Over Cons)) ≡ postorder (chain ts)
 unfolding postorder
 list-made [] = refl
 list-made (t ∷ ts) =
     append_assoc (postorder t) (flat_map postorder ts) (Nothing ∷ replicate (suc (length ts)) (Over Cons))
-    ∙ ap (λ l. postorder t ++ l) (ap (λ l. flat_map postorder ts ++ Nothing ∷ l) (ap (λ k. replicate k (Over Cons)) (let e : suc (length ts) ≡ length ts + 1 = omega arith in e) ∙ sym (replicate_last (length ts) (Over Cons)))
+    ∙ ap (λ l. postorder t ++ l) (ap (λ l. flat_map postorder ts ++ Nothing ∷ l) (ap (λ k. replicate k (Over Cons)) (let e : suc (length ts) ≡ length ts + 1 = omega arith in e) ∙ sym (replicate_more (length ts) (Over Cons)))
     ∙ (sym (append_assoc (flat_map postorder ts) (Nothing ∷ replicate (length ts) (Over Cons)) (Over Cons ∷ [])) ∙ ap (λ l. l ++ Over Cons ∷ []) (list-made ts)))
 
 -- what the items of a list make
@@ -77,11 +72,6 @@ few_overs [] = omega arith
 few_overs (Nothing ∷ ms) = omega (arith, few_overs ms)
 few_overs (Over h ∷ ms) = omega (arith, few_overs ms)
 
--- what follows where a call succeeds
-pub on-ok : {A E P Q : Type 0} (r : Result A E) → (P → Q) → OnOk r P → OnOk r Q
-on-ok (Ok x) f p = f p
-on-ok (Err e) f p = tt
-
 -- one head is made, the last one
 pub closing-goes : (hs ks : List Head) (h : Head) (out new total : List Make) → hs ≡ ks ++ h ∷ [] → out ++ closing hs ≡ total → new ≡ out ++ Over h ∷ [] → new ++ closing ks ≡ total
 closing-goes hs ks h out new total e i n = ap (λ l. l ++ closing ks) n ∙ (append_assoc out (Over h ∷ []) (closing ks) ∙ (ap (λ l. out ++ l) (sym (ap closing e ∙ closing-last ks h)) ∙ i))
@@ -93,12 +83,6 @@ lines-end t s n out new start e i l f =
     let all : n ≡ length (terms_in s) = omega (arith, none, l) in
     items-end reflexive (terms_in s) n out new start (sym (append-nil out) ∙ (ap (λ u. out ++ made reflexive (terms_in u)) (sym e) ∙ i)) all f
 
-drop_past : {A : Type 0} (n : ℕ) (xs : List A) → length xs ≤ n → drop n xs ≡ []
-drop_past zero [] h = refl
-drop_past (suc n) [] h = refl
-drop_past zero (x ∷ xs) h = absurd (omega arith)
-drop_past (suc n) (x ∷ xs) h = drop_past n xs (omega arith)
-
 map_twice : {A B C : Type 0} (f : B → C) (g : A → B) (xs : List A) → map (λ x. f (g x)) xs ≡ map f (map g xs)
 map_twice f g [] = refl
 map_twice f g (x ∷ xs) = ap (λ l. f (g x) ∷ l) (map_twice f g xs)
@@ -106,7 +90,7 @@ map_twice f g (x ∷ xs) = ap (λ l. f (g x) ∷ l) (map_twice f g xs)
 -- the trees of all items
 pub items-past : {A B : Type 0} (f : B → Tree) (g : A → B) (xs : List A) (k : ℕ) (out new start : List Make) → length xs ≤ k → out ++ made (λ x. f (g x)) (drop k xs) ≡ start ++ made (λ x. f (g x)) xs → new ≡ out ++ (Nothing ∷ replicate (length xs) (Over Cons)) → new ≡ start ++ postorder (chain (map f (map g xs)))
 items-past f g xs k out new start h i e =
-    items-end (λ x. f (g x)) xs (length xs) out new start (sym (append-nil out) ∙ (ap (λ ys. out ++ made (λ x. f (g x)) ys) (sym (drop_past k xs h)) ∙ i)) refl e
+    items-end (λ x. f (g x)) xs (length xs) out new start (sym (append-nil out) ∙ (ap (λ ys. out ++ made (λ x. f (g x)) ys) (sym (drop_all k xs h)) ∙ i)) refl e
     ∙ ap (λ ts. start ++ postorder (chain ts)) (map_twice f g xs)
 
 -- the one tree that is made
@@ -114,4 +98,4 @@ pub only : (trees : List KindTree) (ids : List (Option NodeId)) (o : Option Node
 only trees [] o t e f = absurd (cc)
 only trees (i ∷ ids) o t e f = let same : o ≡ i = cc in let first : tree_at trees i ≡ t = cc in ap (tree_at trees) same ∙ first
 
-pub ruleset making = (no_tree, few_overs, replicate_last, append_assoc, append-nil)
+pub ruleset making = (tree_of-NoTree, few_overs, replicate_more, append_assoc, append-nil)

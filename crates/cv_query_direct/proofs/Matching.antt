@@ -3,31 +3,16 @@ use Rattle.std.proofs.Common.{◌≡◌, ℕ, Bool, true, false, ◌&&◌, not, 
 use Rattle.cv_syntax.specs.declared.head.Head.{Head}
 use Rattle.cv_syntax.specs.declared.head.Head.TheVariants.{Leaf, Apply, Eq, And, Or, Not, Yes, No}
 use Rattle.cv_syntax.specs.Head.{same_head}
+use Rattle.cv_syntax.specs.NameSets.{NameSet, is_outside}
 use Rattle.cv_pool.specs.KindTree.{KindTree, NoTree}
 use Rattle.cv_pool.specs.declared.node.NodeId.{NodeId}
-use Rattle.cv_typing.proofs.Walks.{empty-at}
 use Rattle.std.specs.HashSet.{Updates, contains}
 use Rattle.cv_syntax.specs.Tree.{Tree, Empty, Node, same_tree, tree_at, tree_of}
+use Rattle.cv_syntax.proofs.Trees.{tree_of-NoTree, same_open, empty_at}
 use Rattle.cv_meaning.specs.Correspondences.{leaf_name, leaf_names}
 use Rattle.std.specs.Prelude.{nat_eq}
-use Rattle.cv_query_direct.specs.Variables.{NameSet, is_outside, is_there}
+use Rattle.cv_query_direct.specs.Variables.{is_there}
 use Rattle.cv_meaning.specs.Direct.{argument, stands_for, head_names, is_unbound, is_substituted, is_instance}
-
-pub no_tree : tree_of NoTree ≡ Empty
-unfolding tree_of
-no_tree = refl
-
-abbrev pub same_parts : Tree → Tree → Bool
-same_parts Empty Empty = true
-same_parts (Node h a b) (Node k c d) = same_head h k && (same_tree a c && same_tree b d)
-same_parts _ _ = false
-
-pub same_open : (s t : Tree) → same_tree s t ≡ same_parts s t
-unfolding same_tree
-same_open Empty Empty = refl
-same_open Empty (Node k c d) = refl
-same_open (Node h a b) Empty = refl
-same_open (Node h a b) (Node k c d) = refl
 
 abbrev pub argument_parts : List ℕ → Tree → ℕ → Option Tree
 argument_parts (x ∷ xs) (Node h m more) y = cond (x == y) (Some m) (argument xs more y)
@@ -127,6 +112,6 @@ bound-more t h a b m n k e f g y =
     cases false false false s = refl
 
 pub bound-end : (trees : List KindTree) (at : Option NodeId) (m : NameSet) → at ≡ None → (y : ℕ) → (is_unbound (tree_at trees at) y && is_outside m y) ≡ is_outside m y
-bound-end trees at m e y = ap (λ t. is_unbound t y && is_outside m y) (empty-at trees at e) ∙ ap (λ c. c && is_outside m y) (unbound_open Empty y)
+bound-end trees at m e y = ap (λ t. is_unbound t y && is_outside m y) (empty_at trees at e) ∙ ap (λ c. c && is_outside m y) (unbound_open Empty y)
 
-pub ruleset instance_laws = (no_tree, same_open, argument_open, unbound_open, substituted_open, instance_open)
+pub ruleset instance_laws = (tree_of-NoTree, same_open, argument_open, unbound_open, substituted_open, instance_open)

@@ -3,20 +3,18 @@ use Rattle.std.proofs.Common.{◌≡◌, ℕ, Bool, true, false, ◌&&◌, ◌||
 use Rattle.std.specs.HashSet.{Updates, UpdatesBy}
 use Rattle.std.proofs.Math.Path.{fun_ext}
 use Rattle.std.proofs.lemmas.Bool.{and_parts, both_ways, eq-eqb, eqb-true}
+use Rattle.cv_lists.proofs.Tests.{equals_comm}
 use Rattle.cv_syntax.specs.declared.head.Head.{Head}
 use Rattle.cv_syntax.specs.declared.head.Head.TheVariants.{Leaf, Read, Binder, Cons, Query}
 use Rattle.cv_pool.specs.declared.node.NodeId.{NodeId}
 use Rattle.cv_pool.specs.KindTree.{KindTree, NoTree}
 use Rattle.cv_syntax.specs.Tree.{Tree, Empty, Node, first, head_reads_only, reads_only, tree_at, tree_of}
+use Rattle.cv_syntax.specs.NameSets.{NameSet, is_in, is_one_of, is_outside}
+use Rattle.cv_syntax.proofs.Trees.{tree_of-NoTree, reads_open, empty_at}
 use Rattle.cv_meaning.specs.Binders.{bound_names}
 use Rattle.cv_meaning.specs.Correspondences.{leaf_name, leaf_names, reads, on_the_right_alone}
-use Rattle.cv_typing.proofs.Walks.{empty-at}
 use Rattle.cv_query_direct.specs.Plain.{are_plain_events, has_none, is_plain_event, is_plain_query, none_alone}
-use Rattle.cv_query_direct.specs.Variables.{NameSet, cell_is_plain, is_alone, is_in, is_no_argument, is_one_of, is_outside, query_is_plain, sides_are_plain}
-
-pub no_tree : tree_of NoTree ≡ Empty
-unfolding tree_of
-no_tree = refl
+use Rattle.cv_query_direct.specs.Variables.{cell_is_plain, is_alone, is_no_argument, query_is_plain, sides_are_plain}
 
 abbrev pub events_parts : Tree → Bool
 events_parts Empty = true
@@ -26,15 +24,6 @@ pub events_open : (t : Tree) → are_plain_events t ≡ events_parts t
 unfolding are_plain_events
 events_open Empty = refl
 events_open (Node h a b) = refl
-
-abbrev pub reads_parts : (ℕ → Bool) → Tree → Bool
-reads_parts on Empty = true
-reads_parts on (Node h a b) = head_reads_only on h && (reads_only on a && reads_only on b)
-
-pub reads_open : (on : ℕ → Bool) (t : Tree) → reads_only on t ≡ reads_parts on t
-unfolding reads_only
-reads_open on Empty = refl
-reads_open on (Node h a b) = refl
 
 abbrev pub query_parts : Tree → Bool
 query_parts Empty = false
@@ -92,15 +81,6 @@ outside_more x xs ys y = go (x == y) (is_one_of xs y) (is_one_of ys y)
     go true false false = refl
     go false c d = refl
 
-equal_swap : (x y : ℕ) → (x == y) ≡ (y == x)
-equal_swap x y = go (x == y) (y == x) refl refl
-  where
-    go : (b c : Bool) → (x == y) ≡ b → (y == x) ≡ c → b ≡ c
-    go true true e f = refl
-    go true false e f = absurd (both_ways (y == x) f (eq-eqb y x (sym (eqb-true x y e))))
-    go false true e f = absurd (both_ways (x == y) e (eq-eqb x y (sym (eqb-true y x f))))
-    go false false e f = refl
-
 outside_one : (x : ℕ) (ys : List ℕ) (m : Tree) → reads_only (outside (x ∷ []) ys) m ≡ not (reads m x && not (is_one_of ys x))
 outside_one x ys m = go (is_one_of ys x) refl
   where
@@ -125,7 +105,7 @@ outside_one x ys m = go (is_one_of ys x) refl
 
     go : (c : Bool) → is_one_of ys x ≡ c → reads_only (outside (x ∷ []) ys) m ≡ not (reads m x && not c)
     go true e = ap (λ p. reads_only p m) (fun_ext (λ y. argument e y (x == y) refl)) ∙ (reads_all m ∙ never (reads m x))
-    go false e = ap (λ p. reads_only p m) (fun_ext (λ y. other e y (x == y) refl ∙ ap not (equal_swap x y))) ∙ twice (reads_only (λ y. not (y == x)) m)
+    go false e = ap (λ p. reads_only p m) (fun_ext (λ y. other e y (x == y) refl ∙ ap not (equals_comm x y))) ∙ twice (reads_only (λ y. not (y == x)) m)
 
 none_read : (bs : Tree) (ys : List ℕ) (m : Tree) → reads_only (outside (bound_names bs) ys) m ≡ has_none (on_the_right_alone bs ys m)
 none_read (Node (Binder x T) a b) ys m =
@@ -140,34 +120,6 @@ none_read bs ys m = reads_all m
 
 -- sets of variables
 
-pub bound-step : (t : Tree) (h : Head) (a b : Tree) (x T : ℕ) → t ≡ Node h a b → h ≡ Binder x T → bound_names t ≡ x ∷ bound_names b
-bound-step t h a b x T e f = ap bound_names e ∙ ap (λ k. bound_names (Node k a b)) f
-
-pub bound-other : (t : Tree) (h : Head) (a b : Tree) → t ≡ Node h a b → ((x T : ℕ) → h ≡ Binder x T → ⊥) → bound_names t ≡ []
-bound-other t h a b e n = ap bound_names e ∙ step h a b n
-  where
-    step : (h : Head) (a b : Tree) → ((x T : ℕ) → h ≡ Binder x T → ⊥) → bound_names (Node h a b) ≡ []
-    step (Binder x T) a b n = absurd (n x T refl)
-    step h a b n = refl
-
-pub bound-end : (trees : List KindTree) (at : Option NodeId) → at ≡ None → bound_names (tree_at trees at) ≡ []
-bound-end trees at e = ap bound_names (empty-at trees at e)
-
-pub one-more : (m n : NameSet) (x : ℕ) (xs : List ℕ) → Updates nat_eq m n x true → (y : ℕ) → (is_in n y || is_one_of xs y) ≡ (is_in m y || is_one_of (x ∷ xs) y)
-one-more m n x xs u y = ap (λ b. b || is_one_of xs y) (u.0 y) ∙ cases (x == y) (is_in m y) (is_one_of xs y)
-  where
-    cases : (b c d : Bool) → (cond b true c || d) ≡ (c || (b || d))
-    cases true true d = refl
-    cases true false d = refl
-    cases false c d = refl
-
-pub no-more : (m : NameSet) (xs ys : List ℕ) → ys ≡ [] → ((y : ℕ) → (is_in m y || is_one_of ys y) ≡ is_one_of xs y) → is_in m ≡ is_one_of xs
-no-more m xs ys e h = fun_ext (λ y. or_nothing (is_in m y) ∙ (ap (λ zs. is_in m y || is_one_of zs y) (sym e) ∙ h y))
-  where
-    or_nothing : (b : Bool) → b ≡ (b || false)
-    or_nothing true = refl
-    or_nothing false = refl
-
 pub one-less : (m n : NameSet) (x : ℕ) (t : Tree) (h : Head) (a b : Tree) → t ≡ Node h a b → x ≡ leaf_name a → UpdatesBy nat_eq (nat_eq x) m n false → (y : ℕ) → is_no_argument (is_in n) b y ≡ is_no_argument (is_in m) t y
 one-less m n x t h a b e f u y =
     ap (λ c. c && not (is_one_of (leaf_names b) y)) (u.0 y)
@@ -181,7 +133,7 @@ one-less m n x t h a b e f u y =
     cases false c d = refl
 
 pub no-argument-more : (m n : NameSet) (trees : List KindTree) (at : Option NodeId) (t : Tree) → at ≡ None → ((y : ℕ) → is_no_argument (is_in m) (tree_at trees at) y ≡ is_no_argument (is_in n) t y) → is_in m ≡ is_no_argument (is_in n) t
-no-argument-more m n trees at t e h = fun_ext (λ y. and_all (is_in m y) ∙ (ap (λ s. is_no_argument (is_in m) s y) (sym (empty-at trees at e)) ∙ h y))
+no-argument-more m n trees at t e h = fun_ext (λ y. and_all (is_in m y) ∙ (ap (λ s. is_no_argument (is_in m) s y) (sym (empty_at trees at e)) ∙ h y))
   where
     and_all : (b : Bool) → b ≡ (b && not false)
     and_all true = refl
@@ -198,4 +150,4 @@ sides-read bs t h left atoms names e f r n =
     alone_read names bs left atoms n
     ∙ sym (ap (sides_are_plain bs) e ∙ (ap (λ k. cell_is_plain bs k left atoms) f ∙ ap₂ (λ c d. c && (d && none_alone bs left atoms)) both.0 both.1))
 
-pub ruleset plain_laws = (no_tree, events_open, reads_open, query_open)
+pub ruleset plain_laws = (tree_of-NoTree, events_open, reads_open, query_open)

@@ -11,15 +11,12 @@ use Rattle.cv_pool.specs.Nodes.{ChildBelow}
 use Rattle.cv_syntax.specs.Head.{weight}
 use Rattle.cv_pool.specs.KindTree.{KindTree, NoTree}
 use Rattle.cv_syntax.specs.Tree.{Tree, Empty, Node, size, tree_of, tree_at, first_place, second_place}
+use Rattle.cv_syntax.proofs.Trees.{tree_of-NoTree, size_open}
 use Rattle.cv_meaning.specs.Correspondences.{Correspondence, Atom, RightEvent, RightTerm, atoms_of}
 use Rattle.cv_meaning.specs.Direct.{Noted, is_noted, is_unbound, atom_noted, event_covered, head_covered, noted_by, plainly_covered}
 use Rattle.cv_query_direct.specs.declared.search.Seen.{Seen}
 use Rattle.cv_query_direct.specs.Found.{placed, SeenBelow, seen_by}
 use Rattle.cv_query_direct.specs.Search.{Wanted, wanted_of, Placed, RouteTree, EntryTree, first_noted, route, joined, alone, routes_of, event_entries, head_entries, placed_by, entries_of}
-
-pub no_tree : tree_of NoTree ≡ Empty
-unfolding tree_of
-no_tree = refl
 
 abbrev pub entries_parts : Wanted → List Placed → ℕ → Tree → Option (List EntryTree)
 entries_parts w above p Empty = Some []
@@ -114,15 +111,6 @@ entries_some game q above p (Node h a b) =
     (joined_some (entries_of (wanted_of game q) above (first_place p h) a) (entries_of (wanted_of game q) (above ++ placed_by p h a) (second_place p h a) b)
     ∙ ap₂ ◌&&◌ (entries_some game q above (first_place p h) a) (entries_some game q (above ++ placed_by p h a) (second_place p h a) b ∙ ap (λ l. plainly_covered (is_unbound game) q l b) (noted_more above p h a)))
 
-abbrev pub size_parts : Tree → ℕ
-size_parts Empty = 0
-size_parts (Node h a b) = weight h + size a + size b
-
-pub size_open : (t : Tree) → size t ≡ size_parts t
-unfolding size
-size_open Empty = refl
-size_open (Node h a b) = refl
-
 -- one node of a walk
 
 pub entries_step : (w : Wanted) (above here below : List Placed) (p q r : ℕ) (es fs gs : List EntryTree) (t : Tree) (h : Head) (a b : Tree) → t ≡ Node h a b → joined (Some es) (head_entries w above p h a) ≡ Some fs → here ≡ above → q ≡ p + weight h → joined (Some fs) (entries_of w here q a) ≡ Some gs → below ≡ here ++ placed_by p h a → r ≡ q + size a → joined (Some gs) (entries_of w below r b) ≡ joined (Some es) (entries_of w above p t)
@@ -167,4 +155,4 @@ seen_more n xs p h o a b = subst (All (SeenBelow n)) (sym (append-nil xs)) a
 pub kept_more : {A : Type 0} (xs ys zs more : List A) (n : ℕ) → take n xs ≡ zs → n ≡ length zs → ys ≡ xs ++ more → take n ys ≡ zs
 kept_more xs ys zs more n e l f = grind (arith, common_steps)
 
-pub ruleset search_laws = (no_tree, entries_open, size_open)
+pub ruleset search_laws = (tree_of-NoTree, entries_open, size_open)

@@ -6,6 +6,7 @@ use Rattle.cv_pool.specs.declared.node.NodeId.{NodeId}
 use Rattle.cv_pool.specs.KindTree.{KindTree}
 use Rattle.cv_pool.specs.Nodes.{ChildBelow}
 use Rattle.cv_syntax.specs.Tree.{Tree, tree_at}
+use Rattle.cv_syntax.specs.NameSets.{NameSet, is_outside}
 use Rattle.cv_meaning.specs.Correspondences.{atoms_of, leaf_names}
 use Rattle.cv_meaning.specs.Direct.{is_substituted, is_instance}
 use Rattle.cv_query_direct.specs.declared.instances.Bindings.{Bindings}
@@ -14,7 +15,6 @@ use Rattle.cv_query_direct.specs.declared.search.Entry.{Entry}
 use Rattle.cv_query_direct.specs.declared.search.Sought.{Sought}
 use Rattle.cv_query_direct.specs.declared.search.Seen.{Seen}
 use Rattle.cv_query_direct.specs.Search.{Wanted, Placed, RouteTree, EntryTree}
-use Rattle.cv_query_direct.specs.Variables.{NameSet, is_outside}
 
 -- whether a term, or each of a list of terms, is the query's where these trees stand for its variables, and
 -- each other name that is none of these for itself

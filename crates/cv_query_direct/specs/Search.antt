@@ -6,10 +6,6 @@ use Rattle.cv_syntax.specs.Tree.{Tree, Empty, Node, first_place, second_place}
 use Rattle.cv_meaning.specs.Correspondences.{Correspondence, Atom, RightEvent, RightTerm}
 use Rattle.cv_meaning.specs.Direct.{Noted, is_noted, is_unbound}
 
-abbrev pub is_empty : Tree → Bool
-is_empty Empty = true
-is_empty (Node h a b) = false
-
 -- what is searched for: the left event with its variables, and the right events; and the names that the game
 -- does not bind
 pub record Wanted : Type 0 where

@@ -1,31 +1,16 @@
 -- What the code reads of a query, part by part.
-use Rattle.std.specs.Prelude.{ℕ, nat_eq, Bool, false, ◌&&◌, not, ◌==◌, List, Option, Some, None}
-use Rattle.std.specs.List.{list_any}
-use Rattle.std.specs.declared.hash.FoldHasher.{FoldHasher}
-use Rattle.std.specs.declared.hash.BuildHasherDefault.{BuildHasherDefault}
-use Rattle.std.specs.HashSet.{HashSet, contains}
+use Rattle.std.specs.Prelude.{ℕ, Bool, false, ◌&&◌, not, ◌==◌, Option, Some, None}
 use Rattle.cv_syntax.specs.declared.head.Head.{Head}
 use Rattle.cv_syntax.specs.declared.head.Head.TheVariants.{Cons, Query}
 use Rattle.cv_syntax.specs.Tree.{Tree, Empty, Node, first}
+use Rattle.cv_syntax.specs.NameSets.{is_one_of}
 use Rattle.cv_meaning.specs.Binders.{bound_names}
 use Rattle.cv_meaning.specs.Correspondences.{leaf_names}
 use Rattle.cv_query_direct.specs.Plain.{are_plain_events, is_plain_event, none_alone}
 
-abbrev pub NameSet : Type 0
-NameSet = HashSet ℕ (BuildHasherDefault FoldHasher)
-
-abbrev pub is_in : NameSet → ℕ → Bool
-is_in names x = contains nat_eq names x
-
-abbrev pub is_outside : NameSet → ℕ → Bool
-is_outside names x = not (is_in names x)
-
 abbrev pub is_there : Option ℕ → ℕ → Bool
 is_there None y = false
 is_there (Some x) y = x == y
-
-abbrev pub is_one_of : List ℕ → ℕ → Bool
-is_one_of xs x = list_any (λ y. y == x) xs
 
 -- a name of these that is none of the arguments
 abbrev pub is_no_argument : (ℕ → Bool) → Tree → ℕ → Bool

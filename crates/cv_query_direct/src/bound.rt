@@ -2,8 +2,9 @@
 ghost use Rattle.std.specs.Prelude.{◌≡◌, ℕ, ◌&&◌, IfOk, length, not};
 ghost use Rattle.cv_pool.specs.Nodes.{ChildBelow};
 ghost use Rattle.cv_syntax.specs.Tree.{tree_at};
+ghost use Rattle.cv_syntax.specs.NameSets.{is_outside};
 ghost use Rattle.cv_meaning.specs.Direct.{head_names, is_unbound};
-ghost use Rattle.cv_query_direct.specs.Variables.{is_outside, is_there};
+ghost use Rattle.cv_query_direct.specs.Variables.{is_there};
 
 use cv_syntax::{Head, NodeId, Pool, read_node};
 use std::alloc::{AllocError, Global};

@@ -1,15 +1,15 @@
 ghost use Rattle.std.specs.Prelude.{◌≡◌, ◌&&◌, length};
 ghost use Rattle.cv_pool.specs.Nodes.{ChildBelow};
 ghost use Rattle.cv_syntax.specs.Tree.{tree_at};
+ghost use Rattle.cv_syntax.specs.NameSets.{is_outside};
 ghost use Rattle.cv_meaning.specs.Correspondences as names;
 ghost use Rattle.cv_meaning.specs.Correspondences.{leaf_names};
-ghost use Rattle.cv_query_direct.specs.Search as search_specs;
 ghost use Rattle.cv_meaning.specs.Direct as direct;
 ghost use Rattle.cv_meaning.specs.Direct.{argument};
 ghost use Rattle.cv_query_direct.specs.Found.{term_stands, terms_stand};
-ghost use Rattle.cv_query_direct.specs.Variables.{is_outside};
 
 use cv_path::same;
+use cv_syntax::children::is_empty;
 use cv_syntax::{Head, NodeId, Opened, Pool, read_node};
 use std::collections::HashSet;
 
@@ -18,22 +18,6 @@ use std::collections::HashSet;
 pub(crate) struct Bindings {
     pub(crate) variables: Option<NodeId>,
     pub(crate) arguments: Option<NodeId>,
-}
-
-/// Whether a tree is empty.
-#[tactic(auto, using(crate::proofs::Matching::instance_laws))]
-fn is_empty(pool: &Pool, tree: Option<NodeId>) -> bool
-    requires { ChildBelow (length pool.now.trees) tree }
-    ensures { result ≡ search_specs.is_empty (tree_at pool.now.trees tree) }
-{
-    match tree {
-        Some(n) => {
-            // A node of the pool is never empty, as reading it shows.
-            let _node = read_node(pool, n);
-            false
-        }
-        None => true,
-    }
 }
 
 /// The variable that a node is, or 0.

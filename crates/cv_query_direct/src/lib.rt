@@ -43,6 +43,3 @@ pub fn plainly_direct_has_no_advantage()
         is_plainly_direct game query ≡ true → (i : Interpretation) (a : Adversary) →
         AtMost (advantage (setting_of ds i) query a game) zero_chance }
 {}
-
-#[cfg(test)]
-mod tests;

@@ -1,12 +1,13 @@
 ghost use Rattle.std.specs.Prelude.{◌≡◌, ◌<◌, ◌&&◌, IfOk, Some, length};
 ghost use Rattle.cv_pool.specs.Nodes.{ChildBelow};
 ghost use Rattle.cv_syntax.specs.Tree.{head_reads_only, reads_only, tree_at};
-ghost use Rattle.cv_meaning.specs.Binders.{bound_names};
+ghost use Rattle.cv_syntax.specs.NameSets.{is_in, is_one_of, is_outside};
 ghost use Rattle.cv_query_direct.specs.Plain as plain;
 ghost use Rattle.cv_query_direct.specs.Variables as variables;
-ghost use Rattle.cv_query_direct.specs.Variables.{is_alone, is_in, is_no_argument, is_one_of, is_outside};
+ghost use Rattle.cv_query_direct.specs.Variables.{is_alone, is_no_argument};
 
 use crate::instances::leaf_name;
+use cv_syntax::children::{first_of, variables_of};
 use cv_syntax::{Head, NodeId, Pool, read_node};
 use std::alloc::{AllocError, Global};
 use std::collections::HashSet;
@@ -51,30 +52,6 @@ fn have_plain_events(pool: &Pool, left: Option<NodeId>, atoms: Option<NodeId>) -
     is_plain_event(pool, left) && are_plain_events(pool, atoms)
 }
 
-/// The variables of a list of binders.
-#[tactic(auto, using(crate::proofs::PlainQueries::plain_laws))]
-fn variables_of(
-    alloc: Global,
-    pool: &Pool,
-    binders: Option<NodeId>,
-) -> Result<HashSet<u32>, AllocError>
-    requires { ChildBelow (length pool.now.trees) binders }
-    ensures { IfOk result (λ names.
-        is_in names ≡ is_one_of (bound_names (tree_at pool.now.trees binders))) }
-{
-    let mut names = HashSet::new(alloc);
-    let mut at = binders;
-    'binders: while let Some(n) = at {
-        let cell = read_node(pool, n);
-        let Head::Binder(x, _) = cell.head else {
-            return Ok(names);
-        };
-        names.insert(x)?;
-        at = cell.second;
-    }
-    Ok(names)
-}
-
 /// Takes the arguments of an event away from a set of variables.
 #[tactic(auto, using(crate::proofs::PlainQueries::plain_laws))]
 fn take_away(pool: &Pool, names: &mut HashSet<u32>, arguments: Option<NodeId>)
@@ -104,11 +81,7 @@ fn alone(
         is_alone (tree_at pool.now.trees binders) (tree_at pool.now.trees left)) }
 {
     let mut names = variables_of(alloc, pool, binders)?;
-    let arguments = match left {
-        Some(n) => read_node(pool, n).first,
-        None => None,
-    };
-    take_away(pool, &mut names, arguments);
+    take_away(pool, &mut names, first_of(pool, left));
     Ok(names)
 }
 

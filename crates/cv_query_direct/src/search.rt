@@ -1,11 +1,11 @@
 ghost use Rattle.std.specs.Prelude.{◌≡◌, ◌+◌, ◌<◌, ◌^◌, ◌++◌, [], true, All, IfOk, IfSome, OnOk, if◌then◌else◌, is_some, length, map, option_map, None, Some};
 ghost use Rattle.cv_pool.specs.Nodes.{ChildBelow};
 ghost use Rattle.cv_syntax.specs.Tree.{size, tree_at};
+ghost use Rattle.cv_syntax.specs.NameSets.{is_outside};
 ghost use Rattle.cv_meaning.specs.Correspondences.{atom_of, atoms_of, correspondence_of, leaf_names};
 ghost use Rattle.cv_query_direct.specs.Plain.{certificate, is_plainly_direct};
 ghost use Rattle.cv_query_direct.specs.Search.{entries_of, first_noted, head_entries, joined, route, routes_of, wanted_of};
 ghost use Rattle.cv_query_direct.specs.Found.{RoutesBelow, entry_trees, placed, RouteBelow, route_tree, SeenBelow, seen_by, wanted};
-ghost use Rattle.cv_query_direct.specs.Variables.{is_outside};
 
 use crate::bound::names_bound_in;
 use crate::instances::{Bindings, is_instance};

@@ -11,15 +11,18 @@ use Rattle.cv_syntax.specs.declared.decls.Decl.TheVariants as decl
 use Rattle.cv_syntax.specs.declared.head.Head.{Head}
 use Rattle.cv_syntax.specs.declared.head.Head.TheVariants.{Leaf, Cons, Binder, Query, Occurs, OccursOnce, Secret, SecretOnce}
 use Rattle.cv_syntax.specs.Declarations.{declarations}
+use Rattle.cv_syntax.specs.NameSets.{NameSet, is_in, is_one_of}
 use Rattle.cv_syntax.specs.Tree.{Tree, Empty, Node, tree_at}
+use Rattle.cv_syntax.specs.Children.{is_empty}
+use Rattle.cv_syntax.specs.Classes.{query_of}
+use Rattle.cv_syntax.proofs.Trees.{tree_at-None, empty_at}
 use Rattle.cv_meaning.specs.Binders.{bound_names}
 use Rattle.cv_meaning.specs.Correspondences.{is_once}
 use Rattle.cv_typing.specs.Lookups.{IsLive}
 use Rattle.cv_typing.specs.Sites.{SitesView, sites_of}
-use Rattle.cv_typing.proofs.Walks.{empty-none, empty-at}
-use Rattle.cv_query_form.specs.Held.{NameSet, is_in, valued, query_of, is_empty, cell_variable, event_passes, events_pass, correspondence_passes, secret_passes, node_passes}
+use Rattle.cv_query_form.specs.Held.{valued, cell_variable, event_passes, events_pass, correspondence_passes, secret_passes, node_passes}
 use Rattle.cv_query_form.specs.Queries.{queries_in}
-use Rattle.cv_query_form.specs.Tests.{is_one_of, without, are_distinct, are_marked_alike, is_left_event, some_is_marked, passes, may_be_asked, first_refused}
+use Rattle.cv_query_form.specs.Tests.{without, are_distinct, are_marked_alike, is_left_event, some_is_marked, passes, may_be_asked, first_refused}
 use Rattle.cv_query_form.proofs.First.{passed, stopped}
 
 -- one step of a conjunction, and of a disjunction
@@ -44,7 +47,7 @@ and-nowhere found e r d f g h = h ∙ (g ∙ sym (ap (λ b. b && d) (sym f ∙ g
 
 -- a node has a tree
 pub none-empty : (trees : List KindTree) (o : Option NodeId) (found : Bool) → is_some o ≡ not found → (IsNone o ↔ (tree_at trees o ≡ Empty)) → found ≡ is_empty (tree_at trees o)
-none-empty trees None true e h = ap is_empty (sym (empty-none trees))
+none-empty trees None true e h = ap is_empty (sym (tree_at-None trees))
 none-empty trees None false e h = absurd (cc)
 none-empty trees (Some n) true e h = absurd (cc)
 none-empty trees (Some n) false e h = full (tree_at trees (Some n)) h.1
@@ -54,35 +57,6 @@ none-empty trees (Some n) false e h = full (tree_at trees (Some n)) h.1
     full (Node k a b) f = refl
 
 -- binders
-
-pub bound-step : (t : Tree) (h : Head) (a b : Tree) (x T : ℕ) → t ≡ Node h a b → h ≡ Binder x T → bound_names t ≡ x ∷ bound_names b
-bound-step t h a b x T e f = ap bound_names e ∙ ap (λ k. bound_names (Node k a b)) f
-
-pub bound-other : (t : Tree) (h : Head) (a b : Tree) → t ≡ Node h a b → ((x T : ℕ) → h ≡ Binder x T → ⊥) → bound_names t ≡ []
-bound-other t h a b e n = ap bound_names e ∙ step h a b n
-  where
-    step : (h : Head) (a b : Tree) → ((x T : ℕ) → h ≡ Binder x T → ⊥) → bound_names (Node h a b) ≡ []
-    step (Binder x T) a b n = absurd (n x T refl)
-    step h a b n = refl
-
-pub bound-end : (trees : List KindTree) (at : Option NodeId) → at ≡ None → bound_names (tree_at trees at) ≡ []
-bound-end trees at e = ap bound_names (empty-at trees at e)
-
--- a name more
-pub one-more : (m n : NameSet) (x : ℕ) (xs : List ℕ) → Updates nat_eq m n x true → (y : ℕ) → (is_in n y || is_one_of xs y) ≡ (is_in m y || is_one_of (x ∷ xs) y)
-one-more m n x xs u y = ap (λ b. b || is_one_of xs y) (u.0 y) ∙ cases (x == y) (is_in m y) (is_one_of xs y)
-  where
-    cases : (b c d : Bool) → (cond b true c || d) ≡ (c || (b || d))
-    cases true true d = refl
-    cases true false d = refl
-    cases false c d = refl
-
-pub no-more : (m : NameSet) (xs ys : List ℕ) → ys ≡ [] → ((y : ℕ) → (is_in m y || is_one_of ys y) ≡ is_one_of xs y) → is_in m ≡ is_one_of xs
-no-more m xs ys e h = fun_ext (λ y. or-nothing (is_in m y) ∙ (ap (λ zs. is_in m y || is_one_of zs y) (sym e) ∙ h y))
-  where
-    or-nothing : (b : Bool) → b ≡ (b || false)
-    or-nothing true = refl
-    or-nothing false = refl
 
 pub removed : (x : ℕ) (m n : NameSet) → UpdatesBy nat_eq (nat_eq x) m n false → is_in n ≡ without (is_in m) x
 removed x m n u = fun_ext (λ y. u.0 y)
@@ -109,7 +83,7 @@ distinct-other free t h a b e f = ap (are_distinct free) e ∙ step h a b f
 
 pub distinct-end : (free : ℕ → Bool) (trees : List KindTree) (at : Option NodeId) → at ≡ None → are_distinct free (tree_at trees at) ≡ true
 unfolding are_distinct
-distinct-end free trees at e = ap (are_distinct free) (empty-at trees at e)
+distinct-end free trees at e = ap (are_distinct free) (empty_at trees at e)
 
 pub event-step : (free : ℕ → Bool) (t : Tree) (h : Head) (a b : Tree) → t ≡ Node h a b → is_left_event free t ≡ event_passes free h a b
 unfolding is_left_event
@@ -124,7 +98,7 @@ event-step free t h a b e = ap (is_left_event free) e ∙ step h a b
 
 pub event-end : (free : ℕ → Bool) (trees : List KindTree) (at : Option NodeId) → at ≡ None → false ≡ is_left_event free (tree_at trees at)
 unfolding is_left_event
-event-end free trees at e = sym (ap (is_left_event free) (empty-at trees at e))
+event-end free trees at e = sym (ap (is_left_event free) (empty_at trees at e))
 
 pub event-other : (free : ℕ → Bool) (t : Tree) (h : Head) (a b : Tree) → t ≡ Node h a b → ((x : ℕ) → h ≡ Occurs x → ⊥) → ((x : ℕ) → h ≡ OccursOnce x → ⊥) → false ≡ is_left_event free t
 event-other free t h a b e n m = sym (event-step free t h a b e ∙ step h n m)
@@ -146,10 +120,10 @@ marked-step t h a b e = ap some_is_marked e
 
 pub marked-end : (trees : List KindTree) (at : Option NodeId) → at ≡ None → some_is_marked (tree_at trees at) ≡ false
 unfolding some_is_marked
-marked-end trees at e = ap some_is_marked (empty-at trees at e)
+marked-end trees at e = ap some_is_marked (empty_at trees at e)
 
 pub once-end : (trees : List KindTree) (at : Option NodeId) → at ≡ None → is_once (tree_at trees at) ≡ false
-once-end trees at e = ap is_once (empty-at trees at e)
+once-end trees at e = ap is_once (empty_at trees at e)
 
 -- queries
 
@@ -186,7 +160,7 @@ passes-secret values t h a b x r e (inl k) f = f ∙ sym (passes-step values t h
 passes-secret values t h a b x r e (inr k) f = f ∙ sym (passes-step values t h a b e ∙ ap (λ j. node_passes values j a b) k)
 
 pub events-end : (bs : Tree) (trees : List KindTree) (at : Option NodeId) → at ≡ None → false ≡ correspondence_passes bs (tree_at trees at)
-events-end bs trees at e = sym (ap (correspondence_passes bs) (empty-at trees at e))
+events-end bs trees at e = sym (ap (correspondence_passes bs) (empty_at trees at e))
 
 events-step : (bs t : Tree) (h : Head) (l r : Tree) (free : ℕ → Bool) → t ≡ Node h l r → h ≡ Cons → free ≡ is_one_of (bound_names bs) → correspondence_passes bs t ≡ (is_left_event free l && are_marked_alike l r)
 events-step bs t h l r free e f g = ap (correspondence_passes bs) e ∙ (ap (λ k. events_pass bs k l r) f ∙ ap (λ p. is_left_event p l && are_marked_alike l r) (sym g))

@@ -1,35 +1,17 @@
 -- What the code reads of a query, part by part.
-use Rattle.std.specs.Prelude.{ℕ, nat_eq, Bool, true, false, ◌&&◌, Option, Some, None, option_map}
-use Rattle.std.specs.declared.hash.FoldHasher.{FoldHasher}
-use Rattle.std.specs.declared.hash.BuildHasherDefault.{BuildHasherDefault}
-use Rattle.std.specs.HashSet.{HashSet, contains}
-use Rattle.cv_syntax.specs.declared.decls.Decl.{Decl}
-use Rattle.cv_syntax.specs.declared.decls.Decl.TheVariants as decl
+use Rattle.std.specs.Prelude.{ℕ, Bool, true, false, ◌&&◌, Option, Some, None, option_map}
 use Rattle.cv_syntax.specs.declared.head.Head.{Head}
 use Rattle.cv_syntax.specs.declared.head.Head.TheVariants.{Leaf, Cons, Query, Occurs, OccursOnce, Secret, SecretOnce}
-use Rattle.cv_pool.specs.declared.node.NodeId.{NodeId}
 use Rattle.cv_syntax.specs.Tree.{Tree, Empty, Node}
+use Rattle.cv_syntax.specs.Children.{is_empty}
+use Rattle.cv_syntax.specs.NameSets.{is_one_of}
 use Rattle.cv_meaning.specs.Binders.{bound_names}
 use Rattle.cv_typing.specs.Sites.{SitesView, Variable}
-use Rattle.cv_query_form.specs.Tests.{are_distinct, are_marked_alike, is_left_event, is_of_type, is_one_of}
-
-abbrev pub NameSet : Type 0
-NameSet = HashSet ℕ (BuildHasherDefault FoldHasher)
-
-abbrev pub is_in : NameSet → ℕ → Bool
-is_in names x = contains nat_eq names x
+use Rattle.cv_query_form.specs.Tests.{are_distinct, are_marked_alike, is_left_event, is_of_type}
 
 -- which names have values, by a table of sites
 abbrev pub valued : SitesView → ℕ → Bool
 valued sites x = is_of_type (option_map (λ (v : Variable). v.sort) (sites.variable x))
-
-abbrev pub query_of : Decl → Option NodeId
-query_of (decl.Query n) = Some n
-query_of d = None
-
-abbrev pub is_empty : Tree → Bool
-is_empty Empty = true
-is_empty t = false
 
 abbrev pub variable_of : Tree → Option ℕ
 variable_of (Node (Leaf x) Empty Empty) = Some x

@@ -5,7 +5,7 @@
 use Rattle.std.specs.Prelude.{ℕ, Bool, List, [], ◌∷◌}
 use Rattle.cv_syntax.specs.declared.head.Head.TheVariants.{Yield, New, Yes, Cons, Secret, SecretOnce, Apply}
 use Rattle.cv_syntax.specs.Tree.{Tree, Empty, Node, lone}
-use Rattle.cv_meaning.specs.Worked.{leaf, input, output, branch, find, occurs, correspondence}
+use Rattle.cv_syntax.specs.Builders.{leaf, input, output, branch, find, occurs, correspondence}
 
 -- in(3, ()); new 4:5; out(6, ()); in(8, (10:5)); find 9<=2 suchthat true then yield
 abbrev pub game : Tree

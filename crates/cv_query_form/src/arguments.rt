@@ -1,14 +1,15 @@
 ghost use Rattle.std.specs.Prelude.{◌≡◌, length, Some};
 ghost use Rattle.cv_pool.specs.Nodes.{ChildBelow};
 ghost use Rattle.cv_syntax.specs.Tree.{tree_at};
-ghost use Rattle.cv_query_form.specs.Held.{cell_variable, is_in, variable_of as variable_in};
+ghost use Rattle.cv_syntax.specs.NameSets.{is_in};
+ghost use Rattle.cv_query_form.specs.Held.{cell_variable, variable_of as variable_in};
 ghost use Rattle.cv_query_form.specs.Tests as test;
 
 use cv_syntax::{Head, NodeId, Opened, Pool, read_node};
 use std::collections::HashSet;
 
 /// The variable that a term is.
-#[tactic(auto, using(crate::proofs::Empties::empties))]
+#[tactic(auto, using(cv_syntax::proofs::Trees::opened))]
 fn variable_of(pool: &Pool, term: Option<NodeId>) -> Option<u32>
     requires { ChildBelow (length pool.now.trees) term }
     ensures { result ≡ variable_in (tree_at pool.now.trees term) }

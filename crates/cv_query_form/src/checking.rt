@@ -1,8 +1,7 @@
-ghost use Rattle.std.specs.Prelude.{◌≡◌, ◌<◌, All, length, IfErr, IfOk, OnOk, None, Some, option_and_then, slice_get};
+ghost use Rattle.std.specs.Prelude.{◌≡◌, ◌<◌, All, length, IfErr, IfOk, OnOk, None, Some};
 ghost use Rattle.cv_syntax.specs.Declarations.{declarations};
 ghost use Rattle.cv_syntax.specs.Tree.{tree_at};
 ghost use Rattle.cv_typing.specs.Lookups.{IsLive};
-ghost use Rattle.cv_query_form.specs.Held.{query_of};
 ghost use Rattle.cv_query_form.specs.Queries.{queries_in};
 ghost use Rattle.cv_query_form.specs.Refusals.{IsFirstRefusal, IsRefusalOf};
 ghost use Rattle.cv_query_form.specs.Rules.{AreAsked};
@@ -10,7 +9,7 @@ ghost use Rattle.cv_query_form.specs.Tests.{first_refused as first_refused_of};
 
 use crate::fault::QueryFault;
 use crate::query::may_be_asked;
-use cv_syntax::{Decl, Decls, Game, NodeId, Work};
+use cv_syntax::{Game, Work, query_at};
 use cv_typing::sites::Sites;
 use std::alloc::{AllocError, Global};
 
@@ -47,14 +46,4 @@ fn first_refused(alloc: Global, work: &Work, game: Game) -> Result<Option<u32>, 
         }
     }
     Ok(None)
-}
-
-/// The query at a place in a list of declarations, counted from 0, where one stands there.
-fn query_at(decls: &Decls, k: u32) -> Option<NodeId>
-    ensures { result ≡ option_and_then query_of (slice_get decls.now.list k) }
-{
-    match decls.get(k)? {
-        Decl::Query(query) => Some(*query),
-        Decl::Name { .. } | Decl::Equation(_) | Decl::Equiv { .. } => None,
-    }
 }

@@ -2,7 +2,6 @@
 #![tactic(auto)]
 
 mod arguments;
-mod binders;
 mod checking;
 mod fault;
 mod laws;
@@ -15,6 +14,3 @@ pub use checking::check;
 pub use fault::QueryFault;
 pub use laws::queries_are_decided;
 pub use worked::{worked_correspondences, worked_secrets};
-
-#[cfg(test)]
-mod tests;

@@ -7,7 +7,7 @@ ghost use Rattle.cv_query_form.specs.Tests as test;
 use cv_syntax::{Head, NodeId, Pool, read_node};
 
 /// Whether a tree is an event that is marked `inj`.
-#[tactic(auto, using(crate::proofs::Empties::empties))]
+#[tactic(auto, using(cv_syntax::proofs::Trees::opened))]
 fn is_marked(pool: &Pool, event: Option<NodeId>) -> bool
     requires { ChildBelow (length pool.now.trees) event }
     ensures { result ≡ is_once (tree_at pool.now.trees event) }

@@ -6,9 +6,9 @@ ghost use Rattle.cv_query_form.specs.Held.{correspondence_passes, secret_passes,
 ghost use Rattle.cv_query_form.specs.Tests.{passes};
 
 use crate::arguments::is_left_event;
-use crate::binders::variables_of;
 use crate::marks::are_marked_alike;
 use crate::secrets::has_values;
+use cv_syntax::children::variables_of;
 use cv_syntax::{Head, NodeId, Opened, Pool, read_node};
 use cv_typing::sites::Sites;
 use std::alloc::{AllocError, Global};

@@ -1,5 +1,6 @@
 -- Texts, part by part.
 use Rattle.std.proofs.Common.{◌≡◌, ℕ, zero, suc, ◌+◌, ◌<◌, ◌≤◌, List, [], ◌∷◌, ◌++◌, length, drop, get_or, Bool, true, false, cond, is_some, append_assoc, append-nil, refl, ap, sym, ◌∙◌, arith}
+use Rattle.std.proofs.lemmas.List.{drop_all, get_or_default}
 use Rattle.cv_pool.specs.KindTree.{KindTree}
 use Rattle.cv_report.specs.declared.report.Entry.{Entry}
 use Rattle.cv_report.specs.declared.report.Verdict.{Verdict}
@@ -7,17 +8,6 @@ use Rattle.cv_report.specs.Text.{entry_text, games_after, trail_text, verdict_te
 
 next : (k : ℕ) → suc k ≡ k + 1
 next k = omega arith
-
-drop_past : {A : Type 0} (n : ℕ) (xs : List A) → length xs ≤ n → drop n xs ≡ []
-drop_past zero [] h = refl
-drop_past (suc n) [] h = refl
-drop_past zero (x ∷ xs) h = absurd (omega arith)
-drop_past (suc n) (x ∷ xs) h = drop_past n xs (omega arith)
-
-pub same_item : {A : Type 0} (xs : List A) (k : ℕ) (d e : A) → k < length xs → get_or xs k d ≡ get_or xs k e
-same_item [] k d e l = absurd (omega arith)
-same_item (x ∷ xs) zero d e l = refl
-same_item (x ∷ xs) (suc k) d e l = same_item xs k d e (omega arith)
 
 trail_more : (names : List (List ℕ)) (trees : List KindTree) (n g : ℕ) (xs : List Entry) (k : ℕ) (d : Entry) → k < length xs → trail_text names trees n g (drop k xs) ≡ entry_text names trees n g (get_or xs k d) ++ trail_text names trees (n + 1) (games_after g (get_or xs k d)) (drop (suc k) xs)
 unfolding trail_text
@@ -41,7 +31,7 @@ few_games g h k e i l = go (is_some e.next) i
 
 pub trail_end : (names : List (List ℕ)) (trees : List KindTree) (xs : List Entry) (k n g : ℕ) (out total : List ℕ) → length xs ≤ k → out ++ trail_text names trees n g (drop k xs) ≡ total → out ≡ total
 unfolding trail_text
-trail_end names trees xs k n g out total l h = sym (append-nil out) ∙ (sym (ap (λ t. out ++ trail_text names trees n g t) (drop_past k xs l)) ∙ h)
+trail_end names trees xs k n g out total l h = sym (append-nil out) ∙ (sym (ap (λ t. out ++ trail_text names trees n g t) (drop_all k xs l)) ∙ h)
 
 verdicts_more : (names : List (List ℕ)) (n : ℕ) (xs : List Verdict) (k : ℕ) (d : Verdict) → k < length xs → verdicts_text names n (drop k xs) ≡ verdict_text names n (get_or xs k d) ++ verdicts_text names (n + 1) (drop (suc k) xs)
 unfolding verdicts_text
@@ -57,6 +47,6 @@ verdict_goes names xs k d out new total l h n =
 
 pub verdicts_end : (names : List (List ℕ)) (xs : List Verdict) (k n : ℕ) (out total : List ℕ) → length xs ≤ k → out ++ verdicts_text names n (drop k xs) ≡ total → out ≡ total
 unfolding verdicts_text
-verdicts_end names xs k n out total l h = sym (append-nil out) ∙ (sym (ap (λ t. out ++ verdicts_text names n t) (drop_past k xs l)) ∙ h)
+verdicts_end names xs k n out total l h = sym (append-nil out) ∙ (sym (ap (λ t. out ++ verdicts_text names n t) (drop_all k xs l)) ∙ h)
 
 pub ruleset texts = (append_assoc)

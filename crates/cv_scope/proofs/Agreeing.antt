@@ -8,6 +8,7 @@ use Rattle.cv_typing.specs.Sites.{first_of}
 use Rattle.cv_scope.specs.declared.fault.Fault.{Fault}
 use Rattle.cv_scope.specs.declared.fault.Fault.TheVariants as fault
 use Rattle.cv_syntax.specs.Declarations.{Declaration}
+use Rattle.cv_syntax.specs.Children.{is_empty}
 use Rattle.cv_scope.specs.declared.fault.ScopeFault.{ScopeFault}
 use Rattle.cv_scope.specs.declared.fault.ScopeFault.TheVariants as refused
 use Rattle.cv_scope.specs.Refusals.{IsFirstRefusal, IsRefusalOf}
@@ -15,7 +16,7 @@ use Rattle.cv_scope.specs.declared.position.Position.{Position}
 use Rattle.cv_scope.specs.declared.position.Position.TheVariants.{Anywhere, OneCell}
 use Rattle.cv_scope.specs.Rules.{Names, is_index, carries_current}
 use Rattle.cv_scope.specs.Scope.{IsFirstFault, IsScoped, IsScopedAt, first_fault, first_scope_fault, names_of, placed}
-use Rattle.cv_scope.specs.Seen.{Seen, fault_seen, current, found, is_defined_at, is_empty, is_reached, is_read_reached, is_scoped_read, is_well_replicated, may_stand_last, no_site, nothing_seen, second_seen, with_node, with_sites, with_tree}
+use Rattle.cv_scope.specs.Seen.{Seen, fault_seen, current, found, is_defined_at, is_reached, is_read_reached, is_scoped_read, is_well_replicated, may_stand_last, no_site, nothing_seen, second_seen, with_node, with_sites, with_tree}
 use Rattle.cv_scope.specs.Sites.{InOneOf, Site, channel_here, named_here, sites_from, sites_here}
 use Rattle.cv_scope.specs.Standing.{Standing, at_root, first_standing, second_standing, parts_ways, passed_second}
 use Rattle.cv_scope.specs.Tests.{fault_of, is_in_scope, may_stand, reads_in_reach}

@@ -2,7 +2,7 @@
 use Rattle.std.proofs.Common.{◌≡◌, ℕ, ◌+◌, ◌≤◌, ◌<◌, Bool, true, false, cond, inl, inr, List, [], ◌∷◌, ◌++◌, refl, subst, arith}
 use Rattle.std.specs.List.{AllByRecursion}
 use Rattle.cv_syntax.specs.declared.head.Head.{Head}
-use Rattle.cv_syntax.specs.declared.head.Head.TheVariants.{Repl, In, Event, New, Let, If, Find, Branch, Cons}
+use Rattle.cv_syntax.specs.declared.head.Head.TheVariants.{Repl, In, Event, New, Let, If, Find, Branch, Cons, Key, Call}
 use Rattle.cv_syntax.specs.Head.{weight}
 use Rattle.cv_syntax.specs.Tree.{Tree, Empty, Node, second, size}
 use Rattle.cv_meaning.specs.Binders.{bound_names}
@@ -65,6 +65,8 @@ second-replications w (Repl i n) a Γ = refl
 second-replications w (In c) a Γ = refl
 second-replications w (New x T) a Γ = refl
 second-replications w (Let x T) a Γ = refl
+second-replications w (Key x) a Γ = refl
+second-replications w (Call x l) a Γ = refl
 second-replications w (Event e) a Γ = refl
 second-replications w If a Γ = refl
 second-replications w Branch a Γ = refl
@@ -81,6 +83,8 @@ variables-within rs p q binders l = all-map (IsWithin p q) (λ x. site_of rs p (
 pub here-within : (rs : List (ℕ × ℕ)) (p : ℕ) (h : Head) (a : Tree) → AllByRecursion (IsWithin p (p + weight h)) (sites_here rs p h a)
 here-within rs p (New x T) a = ((omega arith, omega arith), tt)
 here-within rs p (Let x T) a = ((omega arith, omega arith), tt)
+here-within rs p (Key x) a = ((omega arith, omega arith), tt)
+here-within rs p (Call x l) a = ((omega arith, omega arith), tt)
 here-within rs p (In c) a = all-append (IsWithin p (p + 1)) (variable_sites rs p (second a)) (channel_here rs p (In c) a) (variables-within rs p (p + 1) (second a) (omega arith)) ((omega arith, omega arith), tt)
 here-within rs p Branch a = all-append (IsWithin p (p + 1)) (variable_sites rs p a) [] (variables-within rs p (p + 1) a (omega arith)) tt
 here-within rs p (Find l) a = ((omega arith, omega arith), tt)
@@ -123,6 +127,8 @@ IsNoChannel e = (c : ℕ) → e.name ≡ Channel c → ⊥
 named-no-channels : (rs : List (ℕ × ℕ)) (p : ℕ) (h : Head) (a : Tree) → AllByRecursion IsNoChannel (named_here rs p h a)
 named-no-channels rs p (New x T) a = (λ c e. absurd (cc), tt)
 named-no-channels rs p (Let x T) a = (λ c e. absurd (cc), tt)
+named-no-channels rs p (Key x) a = (λ c e. absurd (cc), tt)
+named-no-channels rs p (Call x l) a = (λ c e. absurd (cc), tt)
 named-no-channels rs p (In d) a = all-map IsNoChannel (λ x. site_of rs p (Variable x)) (bound_names (second a)) (λ x c e. absurd (cc))
 named-no-channels rs p Branch a = all-map IsNoChannel (λ x. site_of rs p (Variable x)) (bound_names a) (λ x c e. absurd (cc))
 named-no-channels rs p (Find l) a = (λ c e. absurd (cc), tt)

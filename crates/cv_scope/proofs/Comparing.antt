@@ -4,12 +4,9 @@ use Rattle.std.proofs.lemmas.Bool.{eq-eqb, ne_eqb, eqb-false}
 use Rattle.cv_scope.specs.Rules.{carries}
 use Rattle.cv_pool.specs.KindTree.{NoTree}
 use Rattle.cv_syntax.specs.Tree.{Tree, Empty, tree_of}
+use Rattle.cv_syntax.proofs.Trees.{tree_of-NoTree}
 
-pub no-tree : tree_of NoTree ≡ Empty
-unfolding tree_of
-no-tree = refl
-
-pub ruleset term_laws = (no-tree)
+pub ruleset term_laws = (tree_of-NoTree)
 
 -- at the end of a list of names all indices were there
 pub carries-end : (rs : List (ℕ × ℕ)) (n : ℕ) (t : Tree) → n ≤ length rs → t ≡ Empty → nat_eq n (length rs) ≡ carries (drop n rs) t

@@ -3,7 +3,7 @@ use Rattle.std.proofs.Common.{◌≡◌, ℕ, Bool, true, false, cond, List, [],
 use Rattle.std.proofs.lemmas.Result.{IfOk-weaker}
 use Rattle.cv_pool.specs.KindTree.{KindTree}
 use Rattle.cv_syntax.specs.declared.head.Head.{Head}
-use Rattle.cv_syntax.specs.declared.head.Head.TheVariants.{Repl, In, New, Let, Find, Branch, Cons}
+use Rattle.cv_syntax.specs.declared.head.Head.TheVariants.{Repl, In, New, Let, Find, Branch, Cons, Key, Call}
 use Rattle.cv_syntax.specs.Tree.{Tree}
 use Rattle.cv_scope.specs.declared.position.Position.{Position}
 use Rattle.cv_scope.specs.declared.state.State.{State}
@@ -108,15 +108,17 @@ module _ (trees : List KindTree) (numbers : List ℕ) (s r : State) (w : Positio
 abbrev pub IsPlain : List (ℕ × ℕ) → Position → Head → Tree → ℕ → ℕ → Type 0
 IsPlain rs w h a p q = (replications_below h rs ≡ rs) × (defined_by h a ≡ []) × (listed_by w h a ≡ []) × (passed_by w h p q ≡ [])
 
-pub plain-head : (rs : List (ℕ × ℕ)) (w : Position) (h : Head) (a : Tree) (p q : ℕ) → ((i n : ℕ) → h ≡ Repl i n → ⊥) → ((c : ℕ) → h ≡ In c → ⊥) → ((x T : ℕ) → h ≡ New x T → ⊥) → ((x T : ℕ) → h ≡ Let x T → ⊥) → ((l : ℕ) → h ≡ Find l → ⊥) → (h ≡ Branch → ⊥) → (h ≡ Cons → ⊥) → IsPlain rs w h a p q
-plain-head rs w (Repl i n) a p q m i' k l f b c = absurd (m i n refl)
-plain-head rs w (In d) a p q m i k l f b c = absurd (i d refl)
-plain-head rs w (New x T) a p q m i k l f b c = absurd (k x T refl)
-plain-head rs w (Let x T) a p q m i k l f b c = absurd (l x T refl)
-plain-head rs w (Find x) a p q m i k l f b c = absurd (f x refl)
-plain-head rs w Branch a p q m i k l f b c = absurd (b refl)
-plain-head rs w Cons a p q m i k l f b c = absurd (c refl)
-plain-head rs w h a p q m i k l f b c = (refl, refl, refl, refl)
+pub plain-head : (rs : List (ℕ × ℕ)) (w : Position) (h : Head) (a : Tree) (p q : ℕ) → ((i n : ℕ) → h ≡ Repl i n → ⊥) → ((c : ℕ) → h ≡ In c → ⊥) → ((x T : ℕ) → h ≡ New x T → ⊥) → ((x T : ℕ) → h ≡ Let x T → ⊥) → ((x : ℕ) → h ≡ Key x → ⊥) → ((x l : ℕ) → h ≡ Call x l → ⊥) → ((l : ℕ) → h ≡ Find l → ⊥) → (h ≡ Branch → ⊥) → (h ≡ Cons → ⊥) → IsPlain rs w h a p q
+plain-head rs w (Repl i n) a p q m i' k l y z f b c = absurd (m i n refl)
+plain-head rs w (In d) a p q m i k l y z f b c = absurd (i d refl)
+plain-head rs w (New x T) a p q m i k l y z f b c = absurd (k x T refl)
+plain-head rs w (Let x T) a p q m i k l y z f b c = absurd (l x T refl)
+plain-head rs w (Key x) a p q m i k l y z f b c = absurd (y x refl)
+plain-head rs w (Call x j) a p q m i k l y z f b c = absurd (z x j refl)
+plain-head rs w (Find x) a p q m i k l y z f b c = absurd (f x refl)
+plain-head rs w Branch a p q m i k l y z f b c = absurd (b refl)
+plain-head rs w Cons a p q m i k l y z f b c = absurd (c refl)
+plain-head rs w h a p q m i k l y z f b c = (refl, refl, refl, refl)
 
 pub plain-entered : (trees : List KindTree) (numbers : List ℕ) (s : State) (w : Position) (h : Head) (a : Tree) (p q : ℕ) → AreListed trees numbers s.listed → IsPlain s.replications.items w h a p q → IsEntered trees numbers s s w h a p q
 plain-entered trees numbers s w h a p q live e =

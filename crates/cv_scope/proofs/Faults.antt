@@ -2,7 +2,7 @@
 use Rattle.std.proofs.Common.{◌≡◌, ℕ, Bool, true, false, ◌&&◌, List, [], ◌∷◌, ◌++◌, map, refl, ap, ap₂, sym, ◌∙◌, Option, Some, None}
 use Rattle.cv_pool.specs.KindTree.{KindTree}
 use Rattle.cv_syntax.specs.declared.head.Head.{Head}
-use Rattle.cv_syntax.specs.declared.head.Head.TheVariants.{In, New, Let, Find, Branch}
+use Rattle.cv_syntax.specs.declared.head.Head.TheVariants.{In, New, Let, Find, Branch, Key, Call}
 use Rattle.cv_syntax.specs.Tree.{Tree, second}
 use Rattle.cv_meaning.specs.Binders.{bound_names}
 use Rattle.cv_scope.specs.declared.fault.Fault.TheVariants as fault
@@ -25,6 +25,8 @@ variables-keep last rs p (x ∷ xs) c = variables-keep (with_site last (site_of 
 named-keep : (last : SiteName → Option Site) (rs : List (ℕ × ℕ)) (p : ℕ) (h : Head) (a : Tree) (c : ℕ) → with_sites last (named_here rs p h a) (Channel c) ≡ last (Channel c)
 named-keep last rs p (New x T) a c = refl
 named-keep last rs p (Let x T) a c = refl
+named-keep last rs p (Key x) a c = refl
+named-keep last rs p (Call x l) a c = refl
 named-keep last rs p (In d) a c = variables-keep last rs p (bound_names (second a)) c
 named-keep last rs p Branch a c = variables-keep last rs p (bound_names a) c
 named-keep last rs p (Find l) a c = refl

@@ -4,7 +4,7 @@ use Rattle.std.specs.declared.alloc.AllocError.{AllocError}
 use Rattle.cv_pool.specs.declared.node.NodeId.{NodeId}
 use Rattle.cv_pool.specs.KindTree.{KindTree}
 use Rattle.cv_syntax.specs.declared.head.Head.{Head}
-use Rattle.cv_syntax.specs.declared.head.Head.TheVariants.{In, New, Let, Find, Branch}
+use Rattle.cv_syntax.specs.declared.head.Head.TheVariants.{In, New, Let, Find, Branch, Key, Call}
 use Rattle.cv_syntax.specs.Tree.{Tree, tree_at}
 use Rattle.cv_meaning.specs.Binders.{bound_names}
 use Rattle.cv_typing.proofs.Walks.{empty-none}
@@ -61,13 +61,15 @@ pub above-again : (s r q : State) → SameAbove s r → SameAbove r q → SameAb
 above-again s r q a b = record { replications = b.replications ∙ a.replications; defined = b.defined ∙ a.defined; listed = b.listed ∙ a.listed; passed = b.passed ∙ a.passed }
 
 -- heads without sites
-pub no-named : (rs : List (ℕ × ℕ)) (p : ℕ) (h : Head) (a : Tree) → ((x T : ℕ) → h ≡ New x T → ⊥) → ((x T : ℕ) → h ≡ Let x T → ⊥) → ((c : ℕ) → h ≡ In c → ⊥) → (h ≡ Branch → ⊥) → ((l : ℕ) → h ≡ Find l → ⊥) → named_here rs p h a ≡ []
-no-named rs p (New x T) a n l i b f = absurd (n x T refl)
-no-named rs p (Let x T) a n l i b f = absurd (l x T refl)
-no-named rs p (In c) a n l i b f = absurd (i c refl)
-no-named rs p Branch a n l i b f = absurd (b refl)
-no-named rs p (Find m) a n l i b f = absurd (f m refl)
-no-named rs p h a n l i b f = refl
+pub no-named : (rs : List (ℕ × ℕ)) (p : ℕ) (h : Head) (a : Tree) → ((x T : ℕ) → h ≡ New x T → ⊥) → ((x T : ℕ) → h ≡ Let x T → ⊥) → ((x : ℕ) → h ≡ Key x → ⊥) → ((x l : ℕ) → h ≡ Call x l → ⊥) → ((c : ℕ) → h ≡ In c → ⊥) → (h ≡ Branch → ⊥) → ((l : ℕ) → h ≡ Find l → ⊥) → named_here rs p h a ≡ []
+no-named rs p (New x T) a n l y z i b f = absurd (n x T refl)
+no-named rs p (Let x T) a n l y z i b f = absurd (l x T refl)
+no-named rs p (Key x) a n l y z i b f = absurd (y x refl)
+no-named rs p (Call x m) a n l y z i b f = absurd (z x m refl)
+no-named rs p (In c) a n l y z i b f = absurd (i c refl)
+no-named rs p Branch a n l y z i b f = absurd (b refl)
+no-named rs p (Find m) a n l y z i b f = absurd (f m refl)
+no-named rs p h a n l y z i b f = refl
 
 pub no-channel : (rs : List (ℕ × ℕ)) (p : ℕ) (h : Head) (a : Tree) → ((c : ℕ) → h ≡ In c → ⊥) → channel_here rs p h a ≡ []
 no-channel rs p (In c) a i = absurd (i c refl)

@@ -5,14 +5,15 @@ use Rattle.std.specs.List.{AllByRecursion, list_any}
 use Rattle.std.proofs.lemmas.Bool.{eq-eqb, ne_eqb, eqb-false, or_right}
 use Rattle.std.proofs.lemmas.List.Folds.{list_any-append}
 use Rattle.cv_syntax.specs.declared.head.Head.{Head}
-use Rattle.cv_syntax.specs.declared.head.Head.TheVariants.{Repl, In, Event, New, Let, If, Branch, Leaf, Read, Cons}
+use Rattle.cv_syntax.specs.declared.head.Head.TheVariants.{Repl, In, Event, New, Let, If, Branch, Leaf, Read, Cons, Key, Call}
 use Rattle.cv_syntax.specs.Head.{same_head}
 use Rattle.cv_syntax.specs.Tree.{Tree, Empty, Node, second, lone, same_tree}
+use Rattle.cv_syntax.specs.Children.{is_empty, is_leaf}
 use Rattle.cv_typing.specs.Tables.{same_pair}
 use Rattle.cv_scope.specs.declared.position.Position.{Position}
 use Rattle.cv_scope.specs.declared.position.Position.TheVariants.{Bodies, ElseBody, Guards, Guarded, Cells}
 use Rattle.cv_scope.specs.Context.{Context, cell_of, cells_of, index_terms, items, first_context, second_context, item_context, rest_context, replications_below}
-use Rattle.cv_scope.specs.Seen.{Seen, behind, current, defined_by, is_cons, is_defined, is_defined_at, is_empty, is_leaf, is_reached, listed_by, plus_one, reads_definition, with_definition, with_definitions}
+use Rattle.cv_scope.specs.Seen.{Seen, behind, current, defined_by, is_cons, is_defined, is_defined_at, is_reached, listed_by, plus_one, reads_definition, with_definition, with_definitions}
 use Rattle.cv_scope.specs.Tests.{is_in_reach}
 use Rattle.cv_scope.proofs.Stacks.{pair-same}
 
@@ -288,6 +289,8 @@ reach-second w (Repl i n) a Γ t = sym (or-false (is_in_reach Γ t))
 reach-second w (In c) a Γ t = more-cells Γ (cells_of Γ.replications (second a)) t ∙ ap (λ b. is_in_reach Γ t || b) (sym (or-false (list_any (same_tree t) (cells_of Γ.replications (second a)))))
 reach-second w (New x T) a Γ t = more-cells Γ (cell_of Γ.replications x ∷ []) t ∙ ap (λ b. is_in_reach Γ t || b) (sym (or-false (list_any (same_tree t) (cell_of Γ.replications x ∷ []))))
 reach-second w (Let x T) a Γ t = more-cells Γ (cell_of Γ.replications x ∷ []) t ∙ ap (λ b. is_in_reach Γ t || b) (sym (or-false (list_any (same_tree t) (cell_of Γ.replications x ∷ []))))
+reach-second w (Key x) a Γ t = more-cells Γ (cell_of Γ.replications x ∷ []) t ∙ ap (λ b. is_in_reach Γ t || b) (sym (or-false (list_any (same_tree t) (cell_of Γ.replications x ∷ []))))
+reach-second w (Call x l) a Γ t = more-cells Γ (cell_of Γ.replications x ∷ []) t ∙ ap (λ b. is_in_reach Γ t || b) (sym (or-false (list_any (same_tree t) (cell_of Γ.replications x ∷ []))))
 reach-second w (Event e) a Γ t = sym (or-false (is_in_reach Γ t))
 reach-second w If a Γ t = sym (or-false (is_in_reach Γ t))
 reach-second w Branch a Γ t = more-own Γ (cells_of Γ.replications a) t ∙ ap (λ b. is_in_reach Γ t || b) (sym (or-false (list_any (same_tree t) (cells_of Γ.replications a))))

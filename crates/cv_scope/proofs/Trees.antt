@@ -5,7 +5,7 @@ use Rattle.std.proofs.lemmas.Bool.{and_from, eq-eqb}
 use Rattle.cv_syntax.specs.declared.head.Head.{Head}
 use Rattle.cv_syntax.specs.Head.{code, same_head}
 use Rattle.cv_syntax.specs.Tree.{Tree, Empty, Node, same_tree}
-use Rattle.cv_meaning.proofs.Direct.{same_tree_exact}
+use Rattle.cv_syntax.proofs.Equality.{same_tree_exact}
 
 same_head-self : (h : Head) → same_head h h ≡ true
 same_head-self h = and_from ((code h).tag == (code h).tag) _ (eq-eqb _ _ refl) (and_from ((code h).a == (code h).a) _ (eq-eqb _ _ refl) (eq-eqb _ _ refl))

@@ -2,7 +2,7 @@
 -- Reads under `defined` conditions are those of Blanchet, TDSC 2008, section 2.
 use Rattle.std.specs.Prelude.{ℕ, ◌+◌, ◌-◌, nat_lt, if◌then◌else◌, List, [], ◌∷◌, ◌++◌, map, Option, Some, None}
 use Rattle.cv_syntax.specs.declared.head.Head.{Head}
-use Rattle.cv_syntax.specs.declared.head.Head.TheVariants.{Repl, In, Event, New, Let, If, Find, Branch, Leaf, Read, Eq, Not, Cons}
+use Rattle.cv_syntax.specs.declared.head.Head.TheVariants.{Repl, In, Event, New, Let, If, Find, Branch, Leaf, Read, Eq, Not, Cons, Key, Call}
 use Rattle.cv_syntax.specs.Head.{weight}
 use Rattle.cv_syntax.specs.Tree.{Tree, Empty, Node, second, lone, chain, size}
 use Rattle.cv_meaning.specs.Binders.{bound_names}
@@ -108,6 +108,8 @@ second_context w (Repl i n) a Γ = record Γ { replications = replications_below
 second_context w (In c) a Γ = with_cells Γ (cells_of Γ.replications (second a))
 second_context w (New x T) a Γ = with_cells Γ (cell_of Γ.replications x ∷ [])
 second_context w (Let x T) a Γ = with_definition Γ x a
+second_context w (Key x) a Γ = with_cells Γ (cell_of Γ.replications x ∷ [])
+second_context w (Call x l) a Γ = with_cells Γ (cell_of Γ.replications x ∷ [])
 second_context w (Event e) a Γ = record Γ { events = Γ.events ++ (e, a) ∷ [] }
 second_context w If a Γ = record Γ { tested = a }
 second_context w Branch a Γ = record Γ { own = Γ.own ++ cells_of Γ.replications a }

@@ -59,9 +59,16 @@ IsFirstBinder trees list (Some b) =
     × ChildBelow (length trees) b.rest
     × (above b.rest < above list)
 
+-- which names are variables with no type
+abbrev pub untyped_held : NameKinds → ℕ → Bool
+untyped_held n x = is_some (get nat_eq n.untyped x)
+
 -- which names are constants and variables
 abbrev pub names_held : NameKinds → Names
-names_held n = record { constant = λ x. is_some (get nat_eq n.constants x); variable = λ x. is_some ((seen n.sites).variable x) }
+names_held n = record {
+  constant = λ x. is_some (get nat_eq n.constants x);
+  variable = λ x. is_some ((seen n.sites).variable x) || untyped_held n x;
+}
 
 -- a listed cell is live, and has the number of its tree
 abbrev pub IsListed : List KindTree → List ℕ → ListedCell → Type 0

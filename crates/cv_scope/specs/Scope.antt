@@ -1,6 +1,7 @@
 -- Array scope: each node of a game obeys the rules; else the first node in preorder that does not.
-use Rattle.std.specs.Prelude.{◌≡◌, ◌≤◌, ℕ, Bool, List, [], Option, Some, None, is_some}
+use Rattle.std.specs.Prelude.{◌≡◌, ◌≤◌, ◌||◌, ◌==◌, ℕ, Bool, false, List, [], Option, Some, None, is_some}
 use Rattle.cv_syntax.specs.declared.head.Head.{Head}
+use Rattle.cv_syntax.specs.declared.head.Head.TheVariants.{Key, Call}
 use Rattle.cv_syntax.specs.Declarations.{Declaration}
 use Rattle.cv_syntax.specs.Tree.{Tree, Empty, Node}
 use Rattle.cv_meaning.specs.Interpretation.{is_constant_of}
@@ -41,10 +42,21 @@ first_fault names s (Node h a b) =
     (first_of (first_fault names (first_standing s h a) a)
     (first_fault names (second_standing s h a) b))
 
--- games
+-- games and contexts
+
+-- the node defines the variable with no type: as a key, or as the result of a call
+abbrev pub is_untyped_here : ℕ → Head → Bool
+is_untyped_here x (Key y) = y == x
+is_untyped_here x (Call y l) = y == x
+is_untyped_here x h = false
+
+-- so does a node of the tree
+unfoldable pub is_untyped_in : ℕ → Tree → Bool
+is_untyped_in x Empty = false
+is_untyped_in x (Node h a b) = is_untyped_here x h || (is_untyped_in x a || is_untyped_in x b)
 
 abbrev pub is_variable : Tree → ℕ → Bool
-is_variable game x = is_some (first_site x [] game)
+is_variable game x = is_some (first_site x [] game) || is_untyped_in x game
 
 abbrev pub names_of : List Declaration → Tree → Names
 names_of ds game = record { constant = is_constant_of ds; variable = is_variable game }

@@ -3,7 +3,8 @@
 use Rattle.std.specs.Prelude.{◌+◌, ℕ, Bool, true, false, ◌&&◌, ◌||◌, not, ◌==◌, nat_lt, if◌then◌else◌, List, [], ◌∷◌, ◌++◌, length, Option, Some, None}
 use Rattle.std.specs.List.{list_any}
 use Rattle.cv_syntax.specs.declared.head.Head.{Head}
-use Rattle.cv_syntax.specs.declared.head.Head.TheVariants.{In, New, Let, Branch, Leaf, Read, Cons}
+use Rattle.cv_syntax.specs.declared.head.Head.TheVariants.{In, New, Let, Branch, Leaf, Read, Cons, Key, Call}
+use Rattle.cv_syntax.specs.Children.{is_empty, is_leaf}
 use Rattle.cv_syntax.specs.Tree.{Tree, Empty, Node, second, same_tree, first_place, second_place}
 use Rattle.cv_meaning.specs.Binders.{bound_names}
 use Rattle.cv_typing.specs.Sites.{first_of}
@@ -40,15 +41,6 @@ nothing_seen = record { replications = []; defined = []; listed = []; passed = [
 
 abbrev pub is_defined : List (ℕ × ℕ) → ℕ × ℕ → Bool
 is_defined ds d = list_any (same_pair d) ds
-
-abbrev pub is_empty : Tree → Bool
-is_empty Empty = true
-is_empty (Node h a b) = false
-
--- the term is this index
-abbrev pub is_leaf : ℕ → Tree → Bool
-is_leaf i (Node (Leaf j) a b) = (i == j) && (is_empty a && is_empty b)
-is_leaf i t = false
 
 abbrev pub plus_one : Option ℕ → Option ℕ
 plus_one None = None
@@ -128,6 +120,8 @@ abbrev pub defined_by : Head → Tree → List ℕ
 defined_by (In c) a = bound_names (second a)
 defined_by (New x T) a = x ∷ []
 defined_by (Let x T) a = x ∷ []
+defined_by (Key x) a = x ∷ []
+defined_by (Call x l) a = x ∷ []
 defined_by Branch a = bound_names a
 defined_by h a = []
 

@@ -1,7 +1,7 @@
 -- Sites: where a variable is defined, a channel is read, and a `find` has its label.
 use Rattle.std.specs.Prelude.{◌≤◌, ◌<◌, ℕ, List, [], ◌∷◌, ◌++◌, map, ◌⊎◌}
 use Rattle.cv_syntax.specs.declared.head.Head.{Head}
-use Rattle.cv_syntax.specs.declared.head.Head.TheVariants.{In, New, Let, Find, Branch, Binder}
+use Rattle.cv_syntax.specs.declared.head.Head.TheVariants.{In, New, Let, Find, Branch, Binder, Key, Call}
 use Rattle.cv_syntax.specs.Tree.{Tree, Empty, Node, second, first_place, second_place}
 use Rattle.cv_meaning.specs.Binders.{bound_names}
 use Rattle.cv_scope.specs.Context.{replications_below}
@@ -30,6 +30,8 @@ variable_sites rs p binders = map (λ x. site_of rs p (Variable x)) (bound_names
 abbrev pub named_here : List (ℕ × ℕ) → ℕ → Head → Tree → List Site
 named_here rs p (New x T) a = site_of rs p (Variable x) ∷ []
 named_here rs p (Let x T) a = site_of rs p (Variable x) ∷ []
+named_here rs p (Key x) a = site_of rs p (Variable x) ∷ []
+named_here rs p (Call x l) a = site_of rs p (Variable x) ∷ []
 named_here rs p (In c) a = variable_sites rs p (second a)
 named_here rs p Branch a = variable_sites rs p a
 named_here rs p (Find l) a = site_of rs p (Label l) ∷ []

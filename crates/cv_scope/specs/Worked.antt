@@ -1,13 +1,13 @@
--- Worked games.
+-- Worked games and contexts.
 -- Names are numbers: 1 and 7 are replication indices, 2 is a parameter, 3 and 8 are channels of inputs, 6 and 12 of
 -- outputs, 4 and 10 are variables, 5 and 13 are types, 9 is an index variable or a received message, 11 is an event,
 -- and 20 is a constant where it is declared.
 use Rattle.std.specs.Prelude.{ℕ, false, List, [], ◌∷◌, Some}
 use Rattle.cv_syntax.specs.declared.decls.Class.TheVariants.{Fun}
-use Rattle.cv_syntax.specs.declared.head.Head.TheVariants.{Stop, Yield, Par, Repl, New, Let, If, Yes}
+use Rattle.cv_syntax.specs.declared.head.Head.TheVariants.{Stop, Yield, Par, Repl, New, Let, If, Yes, Key, Call}
 use Rattle.cv_syntax.specs.Declarations.{Declaration, Named}
 use Rattle.cv_syntax.specs.Tree.{Tree, Empty, Node, lone, chain}
-use Rattle.cv_meaning.specs.Worked.{leaf, read, input, output, branch, find}
+use Rattle.cv_syntax.specs.Builders.{leaf, read, input, output, branch, find}
 
 abbrev pub constants : List Declaration
 constants = Named 20 (Fun false) Empty (Some 5) ∷ []
@@ -20,6 +20,14 @@ restriction x p = Node (New x 5) Empty p
 
 abbrev pub assignment : ℕ → Tree → Tree → Tree
 assignment x m p = Node (Let x 5) m p
+
+-- key x; p
+abbrev pub key : ℕ → Tree → Tree
+key x p = Node (Key x) Empty p
+
+-- x <- the call of a site with a key and arguments; p
+abbrev pub call : (x site : ℕ) → List Tree → Tree → Tree
+call x site ms p = Node (Call x site) (chain ms) p
 
 abbrev pub test : Tree → Tree → Tree
 test p q = Node If (lone Yes) (chain (p ∷ q ∷ []))

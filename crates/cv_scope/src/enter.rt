@@ -157,6 +157,8 @@ impl State {
             Head::Repl(i, n) => self.replicate(i, n),
             Head::New(x, _) => self.define(x),
             Head::Let(x, _) => self.define(x),
+            Head::Key(x) => self.define(x),
+            Head::Call(x, _) => self.define(x),
             Head::In(_) => self.define_all(pool, rest(pool, first)),
             Head::Branch => self.define_all(pool, first),
             _ => Ok(()),

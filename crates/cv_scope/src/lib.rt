@@ -25,7 +25,6 @@ pub use laws::{
     game_faults_are_first, nodes_are_decided, scoped_sites_are_apart, tree_faults_are_first,
 };
 pub use position::Position;
-pub use worked::{worked_channels, worked_lists, worked_reads, worked_replications, worked_sites};
-
-#[cfg(test)]
-mod tests;
+pub use worked::{
+    worked_channels, worked_lists, worked_oracles, worked_reads, worked_replications, worked_sites,
+};

@@ -129,6 +129,8 @@ impl State {
         match head {
             Head::New(x, _) => self.note_variable(alloc, pool, place, x),
             Head::Let(x, _) => self.note_variable(alloc, pool, place, x),
+            Head::Key(x) => self.note_variable(alloc, pool, place, x),
+            Head::Call(x, _) => self.note_variable(alloc, pool, place, x),
             Head::In(_) => self.note_binders(alloc, pool, place, rest(pool, first)),
             Head::Branch => self.note_binders(alloc, pool, place, first),
             Head::Find(l) => self.note_label(alloc, pool, place, l),

@@ -2,48 +2,17 @@ ghost use Rattle.std.specs.Prelude.{◌≡◌, ◌<◌, length};
 ghost use Rattle.cv_pool.specs.Nodes.{ChildBelow};
 ghost use Rattle.cv_syntax.specs.Tree.{tree_at};
 ghost use Rattle.cv_scope.specs.Rules.{carries as are_carried, is_index as is_index_of};
-ghost use Rattle.cv_scope.specs.Seen.{current as current_of, is_empty as is_empty_tree, is_leaf as is_leaf_of};
+ghost use Rattle.cv_scope.specs.Seen.{current as current_of};
 ghost use Rattle.cv_scope.specs.Rules.{is_name as is_name_of};
 
+use cv_syntax::children::is_leaf;
 use cv_syntax::{Head, NodeId, Pool, read_node};
-
-/// Whether a tree is empty.
-#[tactic(auto, using(crate::proofs::Comparing::term_laws))]
-fn is_empty(pool: &Pool, tree: Option<NodeId>) -> bool
-    requires { ChildBelow (length pool.now.trees) tree }
-    ensures { result ≡ is_empty_tree (tree_at pool.now.trees tree) }
-{
-    match tree {
-        Some(n) => {
-            // A node of the pool is never empty, as reading it shows.
-            let _node = read_node(pool, n);
-            false
-        }
-        None => true,
-    }
-}
 
 /// Whether a name is the index of one of these replications.
 pub fn is_index(replications: &[(u32, u32)], x: u32) -> bool
     ensures { result ≡ is_index_of replications.now x }
 {
     replications.iter().any(|r| r.0 == x)
-}
-
-/// Whether a term is an index.
-#[tactic(auto, using(crate::proofs::Comparing::term_laws))]
-pub fn is_leaf(pool: &Pool, i: u32, term: Option<NodeId>) -> bool
-    requires { ChildBelow (length pool.now.trees) term }
-    ensures { result ≡ is_leaf_of i (tree_at pool.now.trees term) }
-{
-    let Some(k) = term else {
-        return false;
-    };
-    let node = read_node(pool, k);
-    match node.head {
-        Head::Leaf(j) => i == j && is_empty(pool, node.first) && is_empty(pool, node.second),
-        _ => false,
-    }
 }
 
 /// How many indices a list of terms has, where they are the first of the current ones.

@@ -1,10 +1,10 @@
 ghost use Rattle.std.specs.Prelude.{◌≡◌, [], ◌∷◌, None, Some};
 ghost use Rattle.cv_syntax.specs.declared.head.Head.TheVariants.{Eq, Par, Stop, Yes, Yield};
 ghost use Rattle.cv_syntax.specs.Tree.{Node, lone};
-ghost use Rattle.cv_meaning.specs.Worked.{branch, event, find, input, leaf, output, read};
+ghost use Rattle.cv_syntax.specs.Builders.{branch, event, find, input, leaf, output, read};
 ghost use Rattle.cv_scope.specs.declared.fault.Fault.TheVariants.{Channel, Replications, TwoSites, Unscoped};
 ghost use Rattle.cv_scope.specs.Scope.{first_scope_fault};
-ghost use Rattle.cv_scope.specs.Worked.{answers_twice, assignment, cell_found, constants, finds, finds_index, reads_below_two, reads_without_definition, repl, replicated, restriction, sends, starts, test, tests_cells};
+ghost use Rattle.cv_scope.specs.Worked.{answers_twice, assignment, call, cell_found, constants, finds, finds_index, key, reads_below_two, reads_without_definition, repl, replicated, restriction, sends, starts, test, tests_cells};
 
 /// Worked games on reads: below their definitions, beside them, and at other indices than the current ones.
 pub fn worked_reads()
@@ -48,6 +48,18 @@ pub fn worked_sites()
     ensures replicated { first_scope_fault [] (starts (test (output 6 [] [] (repl 1 (input 8 (1 ∷ []) [] (restriction 4 (lone Yield))))) (restriction 4 (lone Yield)))) ≡ Some (8, TwoSites) }
     ensures labels { first_scope_fault [] (starts (find 1 (finds_index ∷ []) (find 1 [] (lone Yield)))) ≡ Some (5, TwoSites) }
     ensures labels_apart { first_scope_fault [] (starts (test (find 1 [] (lone Yield)) (find 1 [] (lone Yield)))) ≡ None }
+{}
+
+/// Worked contexts: a key and the result of a call are read below them alone, have one site as other variables do, and are
+/// no index.
+pub fn worked_oracles()
+    ensures called { first_scope_fault [] (starts (key 4 (call 10 1 (leaf 4 ∷ []) (sends 10)))) ≡ None }
+    ensures unkeyed { first_scope_fault [] (starts (call 10 1 (leaf 4 ∷ []) (key 4 (lone Yield)))) ≡ Some (2, Unscoped) }
+    ensures itself { first_scope_fault [] (starts (key 4 (call 10 1 (leaf 4 ∷ leaf 10 ∷ []) (lone Yield)))) ≡ Some (4, Unscoped) }
+    ensures keyed_twice { first_scope_fault [] (starts (key 4 (key 4 (lone Yield)))) ≡ Some (2, TwoSites) }
+    ensures called_twice { first_scope_fault [] (starts (key 4 (call 10 1 (leaf 4 ∷ []) (call 10 2 (leaf 4 ∷ []) (lone Yield))))) ≡ Some (4, TwoSites) }
+    ensures branches { first_scope_fault [] (starts (test (key 4 (lone Yield)) (key 4 (sends 4)))) ≡ None }
+    ensures index { first_scope_fault [] (repl 4 (input 3 (4 ∷ []) [] (key 4 (lone Yield)))) ≡ Some (0, Replications) }
 {}
 
 /// Worked games on channels: with other indices than the current ones, and with several inputs.

@@ -9,11 +9,11 @@ use Rattle.cv_meaning.specs.Memory.{Store, Indices, Happened, put, tuple}
 use Rattle.cv_meaning.specs.Terms.{or_zero, value, values}
 use Rattle.cv_meaning.specs.Binders.{fits, bound_to}
 use Rattle.cv_meaning.specs.Candidates.{Candidate, is_assigned, are_assigned, is_candidate, candidate, candidates_at, candidates, chosen, tuples_up_to, most_indices, widest}
-use Rattle.cv_meaning.proofs.Direct.{each_append, each_flat_map}
+use Rattle.cv_meaning_laws.proofs.Lists.{each_append, each_flat_map}
 use Rattle.cv_meaning_runs.proofs.Lists.{all_map}
 use Rattle.cv_scope.specs.declared.position.Position.TheVariants as position
 use Rattle.cv_scope.specs.Context.{Context, cells_of, items, with_cells}
-use Rattle.cv_scope_runs.specs.Phrases.{Terms, Cells, OneCell, is_phrase}
+use Rattle.cv_scope_runs.specs.Phrases.{Terms, Cells, OneCell, is_oracle_phrase}
 use Rattle.cv_scope_runs.specs.Reads.{IsKept, CellAssigned, CellsAssigned}
 use Rattle.cv_scope_runs.specs.Made.{is_bound}
 use Rattle.cv_scope_runs.proofs.Asked.{Asked, AreDistinct}
@@ -112,15 +112,15 @@ module _ (g : Setting) (variable : ℕ → Bool) where
 
   -- a cell of a list that is assigned
   pub listed_cell : NamesApart g variable → (Γ : Context) (at : Indices) (m n : Store) (es : List Happened) → Matches g variable Γ.replications at → Holds g variable Γ at n es → IsKept m n → OnlyVariables m
-      → (c : Tree) → is_phrase OneCell c ≡ true → Asked (game_names g variable) position.OneCell Γ c → is_assigned g at m n c ≡ true → CellHolds g variable at n c
-  unfolding is_phrase
+      → (c : Tree) → is_oracle_phrase OneCell c ≡ true → Asked (game_names g variable) position.OneCell Γ c → is_assigned g at m n c ≡ true → CellHolds g variable at n c
+  unfolding is_oracle_phrase
   listed_cell apart Γ at m n es k h l o (Node (Leaf x) a b) f s z =
       let v : variable x ≡ true = o x [] z in
       let y : is_some (n x []) ≡ true = ap is_some (later_same m n l x [] z) ∙ z in
       record { readable = cell (variable_none g variable Γ.replications at k x v) (not_constant g variable apart x v) v y; assigned = y }
   listed_cell apart Γ at m n es k h l o (Node (Read x) a b) f s z =
       let y : is_some (n x (values g at n a)) ≡ true = ap is_some (later_same m n l x (values g at n a) z) ∙ z in
-      record { readable = (y, all_scope_readable g variable Γ at n es k h a (and_parts (is_phrase Terms a) _ f).0 s.1); assigned = y }
+      record { readable = (y, all_scope_readable g variable Γ at n es k h a (and_parts (is_oracle_phrase Terms a) _ f).0 s.1); assigned = y }
   listed_cell apart Γ at m n es k h l o (Node j a b) f s z = absurd (both_ways _ refl f)
   listed_cell apart Γ at m n es k h l o Empty f s z = absurd (both_ways _ refl f)
 
@@ -129,11 +129,11 @@ module _ (g : Setting) (variable : ℕ → Bool) where
 
   -- the cells of a list that are all assigned
   pub list_cells : NamesApart g variable → (Γ : Context) (at : Indices) (m n : Store) (es : List Happened) → Matches g variable Γ.replications at → Holds g variable Γ at n es → IsKept m n → OnlyVariables m
-      → (cells : Tree) → is_phrase Cells cells ≡ true → Asked (game_names g variable) position.Cells Γ cells → are_assigned g at m n cells ≡ true → AllByRecursion (CellHolds g variable at n) (items cells)
-  unfolding is_phrase
+      → (cells : Tree) → is_oracle_phrase Cells cells ≡ true → Asked (game_names g variable) position.Cells Γ cells → are_assigned g at m n cells ≡ true → AllByRecursion (CellHolds g variable at n) (items cells)
+  unfolding is_oracle_phrase
   list_cells apart Γ at m n es k h l o Empty f s e = tt
   list_cells apart Γ at m n es k h l o (Node Cons c more) f s e =
-      let r = and_parts (is_phrase OneCell c) _ f in
+      let r = and_parts (is_oracle_phrase OneCell c) _ f in
       go (is_assigned g at m n c) refl e (listed_cell apart Γ at m n es k h l o c r.0 s.1) (λ x. list_cells apart (with_cells Γ (c ∷ [])) at m n es k (with_cell_holds Γ at n es c h x) l o more r.1 s.2)
     where
       go : (b : Bool) → is_assigned g at m n c ≡ b → (elim b [ true ↦ are_assigned g at m n more | false ↦ false ]) ≡ true → (is_assigned g at m n c ≡ true → CellHolds g variable at n c)
@@ -144,15 +144,15 @@ module _ (g : Setting) (variable : ℕ → Bool) where
 
   -- what a list reads, up to its first cell that is not assigned, is assigned
   pub list_read : NamesApart g variable → (Γ : Context) (at : Indices) (m n : Store) (es : List Happened) → Matches g variable Γ.replications at → Holds g variable Γ at n es → IsKept m n → OnlyVariables m
-      → (cells : Tree) → is_phrase Cells cells ≡ true → Asked (game_names g variable) position.Cells Γ cells → CellsAssigned g at m n cells
-  unfolding is_phrase
+      → (cells : Tree) → is_oracle_phrase Cells cells ≡ true → Asked (game_names g variable) position.Cells Γ cells → CellsAssigned g at m n cells
+  unfolding is_oracle_phrase
   list_read apart Γ at m n es k h l o Empty f s = tt
   list_read apart Γ at m n es k h l o (Node Cons c more) f s =
-      let r = and_parts (is_phrase OneCell c) _ f in
+      let r = and_parts (is_oracle_phrase OneCell c) _ f in
       (this c r.0 s.1, λ e. list_read apart (with_cells Γ (c ∷ [])) at m n es k (with_cell_holds Γ at n es c h (listed_cell apart Γ at m n es k h l o c r.0 s.1 e)) l o more r.1 s.2)
     where
-      this : (c : Tree) → is_phrase OneCell c ≡ true → Asked (game_names g variable) position.OneCell Γ c → CellAssigned g at n c
-      this (Node (Read x) a b) f s = all_readable_assigned g variable at n a (all_scope_readable g variable Γ at n es k h a (and_parts (is_phrase Terms a) _ f).0 s.1)
+      this : (c : Tree) → is_oracle_phrase OneCell c ≡ true → Asked (game_names g variable) position.OneCell Γ c → CellAssigned g at n c
+      this (Node (Read x) a b) f s = all_readable_assigned g variable at n a (all_scope_readable g variable Γ at n es k h a (and_parts (is_oracle_phrase Terms a) _ f).0 s.1)
       this (Node j a b) f s = tt
       this Empty f s = tt
   list_read apart Γ at m n es k h l o (Node i c more) f s = absurd (both_ways _ refl f)

@@ -1,27 +1,27 @@
 -- In a run of a well-formed game no cell of the tape is consulted twice.
-use Rattle.std.proofs.Common.{◌≡◌, ℕ, Bool, true, false, ◌&&◌, ◌==◌, List, [], ◌∷◌, ◌++◌, Option, refl, sym, ap, ◌∙◌, eq-eqb, append-nil}
+use Rattle.std.proofs.Common.{◌≡◌, ℕ, Bool, true, false, ◌&&◌, ◌||◌, ◌==◌, List, [], ◌∷◌, ◌++◌, inl, inr, Option, refl, sym, ap, ◌∙◌, eq-eqb, append-nil}
 use Rattle.std.proofs.lemmas.Bool.{both_ways, and_parts}
 use Rattle.std.specs.List.{AllByRecursion, IsDistinct}
-use Rattle.cv_syntax.specs.declared.head.Head.TheVariants.{New, Find, Call}
+use Rattle.cv_syntax.specs.declared.head.Head.TheVariants.{New, Find, Branch, Call}
 use Rattle.cv_syntax.specs.Declarations.{Declaration}
-use Rattle.cv_syntax.specs.Tree.{Tree, Empty, Node}
+use Rattle.cv_syntax.specs.Tree.{Tree, Empty, Node, first_place, second_place}
 use Rattle.cv_meaning.specs.Tapes.{Tape, Cell, same_tuple, same_cell}
 use Rattle.cv_meaning.specs.Interpretation.{Setting}
 use Rattle.cv_meaning.specs.Memory.{Local, tuple}
 use Rattle.cv_meaning.specs.Serving.{Visit}
 use Rattle.cv_meaning.specs.Consulted.{consulted, consulted_at}
 use Rattle.cv_meaning.specs.Runs.{Mode, Answer, Move, run_visits, start}
-use Rattle.cv_meaning.proofs.Counts.{same_tuple_exact}
-use Rattle.cv_meaning.proofs.Direct.{each_append}
+use Rattle.cv_meaning_laws.proofs.Counts.{same_tuple_exact}
+use Rattle.cv_meaning_laws.proofs.Lists.{each_append}
 use Rattle.cv_meaning_runs.proofs.Lists.{all_map, all_both}
 use Rattle.cv_scope.specs.Sites.{SiteName, Variable, Label}
 use Rattle.cv_scope.specs.Branches.{Pairs, IsApartByBranches}
 use Rattle.cv_scope.proofs.Pairs.{pairs-append}
 use Rattle.cv_scope.proofs.Apart.{game-branches}
-use Rattle.cv_scope_runs.specs.Phrases.{Inputs, IsWellFormed}
-use Rattle.cv_scope_runs.specs.Made.{made_at, MakeApart, AssignsNew}
-use Rattle.cv_scope_runs.proofs.Plain.{is_plain, phrase_plain, VisitPlain, visits_plain}
-use Rattle.cv_scope_runs.proofs.OnceRuns.{made_has}
+use Rattle.cv_scope_runs.specs.Phrases.{is_plain, IsWellFormed, IsWellFormedContext}
+use Rattle.cv_scope_runs.specs.Made.{is_bound, is_own_at, is_own_of, made_at, MakeApart, AssignsNew, OwnUnassigned}
+use Rattle.cv_scope_runs.proofs.Plain.{game_context, game_plain, VisitPlain, visits_plain}
+use Rattle.cv_scope_runs.proofs.OnceRuns.{Has, made_has}
 use Rattle.cv_scope_runs.proofs.OnceGames.{MakesName, names_at, made_once}
 use Rattle.cv_scope_runs.proofs.FreshRuns.{IsClear, visits_clear}
 
@@ -89,18 +89,36 @@ distinct (c ∷ cs) h = (h.0, distinct cs h.1)
 assigns_new : (v : Visit) → IsClear v → AssignsNew v
 assigns_new v c y e = ap (v.before.memory.store y) (sym (append-nil (tuple v.before.indices))) ∙ c y [] (made_has SiteName MakesName v.place v.tree (Variable y) (names_at v.place v.tree (Variable y) e))
 
-module _ (ds : List Declaration) (g : Setting) (m : Mode) (next : List Answer → Option Move) (t : Tape) (n : ℕ) (game : Tree) (well : IsWellFormed ds game) where
+-- the index variables of a visited find
+
+branches_have : (p : ℕ) (a : Tree) (y : ℕ) → is_own_of a y ≡ true → Has SiteName MakesName p a (Variable y)
+branches_have p (Node h (Node Branch us rest) more) y e = go (is_bound us y) refl e (branches_have (second_place p h (Node Branch us rest)) more y)
+  where
+    go : (b : Bool) → is_bound us y ≡ b → (b || is_own_of more y) ≡ true → (is_own_of more y ≡ true → Has SiteName MakesName (second_place p h (Node Branch us rest)) more (Variable y)) → Has SiteName MakesName p (Node h (Node Branch us rest) more) (Variable y)
+    go true k z f = inr (inl (inl k))
+    go false k z f = inr (inr (f z))
+branches_have p t y e = absurd (both_ways _ refl e)
+
+find_has : (p : ℕ) (t : Tree) (y : ℕ) → is_own_at t y ≡ true → Has SiteName MakesName p t (Variable y)
+find_has p (Node (Find l) a b) y e = inr (inl (branches_have (first_place p (Find l)) a y e))
+find_has p t y e = absurd (both_ways _ refl e)
+
+own_unassigned : (v : Visit) → IsClear v → OwnUnassigned v
+own_unassigned v c y e = ap (v.before.memory.store y) (sym (append-nil (tuple v.before.indices))) ∙ c y [] (find_has v.place v.tree y e)
+
+module _ (ds : List Declaration) (g : Setting) (m : Mode) (next : List Answer → Option Move) (t : Tape) (n : ℕ) (game : Tree) (well : IsWellFormedContext ds game) where
   branches : IsApartByBranches game
   branches = game-branches ds game well.scoped
-
-  plain : is_plain game ≡ true
-  plain = phrase_plain Inputs game well.phrase
 
   pub all_made_once : Pairs MakeApart (run_visits g m next t n (start g game))
   all_made_once = made_once g m next t n game branches
 
   pub all_assign_new : AllByRecursion AssignsNew (run_visits g m next t n (start g game))
-  all_assign_new = all_map IsClear AssignsNew assigns_new _ (visits_clear g m next t n game branches plain)
+  all_assign_new = all_map IsClear AssignsNew assigns_new _ (visits_clear g m next t n game branches)
 
-  pub all_consulted_once : IsDistinct same_cell (consulted g (run_visits g m next t n (start g game)))
-  all_consulted_once = distinct _ (all_apart g (run_visits g m next t n (start g game)) (visits_plain g m next t n game plain) all_made_once)
+  pub all_own_unassigned : AllByRecursion OwnUnassigned (run_visits g m next t n (start g game))
+  all_own_unassigned = all_map IsClear OwnUnassigned own_unassigned _ (visits_clear g m next t n game branches)
+
+pub all_consulted_once : (ds : List Declaration) (g : Setting) (m : Mode) (next : List Answer → Option Move) (t : Tape) (n : ℕ) (game : Tree) → IsWellFormed ds game → IsDistinct same_cell (consulted g (run_visits g m next t n (start g game)))
+all_consulted_once ds g m next t n game w =
+    distinct _ (all_apart g (run_visits g m next t n (start g game)) (visits_plain g m next t n game (game_plain ds game w)) (all_made_once ds g m next t n game (game_context ds game w)))

@@ -10,13 +10,13 @@ use Rattle.cv_meaning.specs.Memory.{Store, Indices, Happened, put, tuple}
 use Rattle.cv_meaning.specs.Terms.{or_zero, found_in, leaf_value_from, leaf_value, value, values}
 use Rattle.cv_meaning.specs.Binders.{bound_to}
 use Rattle.cv_meaning.specs.Candidates.{is_assigned}
-use Rattle.cv_meaning.proofs.Counts.{same_tuple_refl, same_tuple_exact}
-use Rattle.cv_meaning.proofs.Direct.{each_append}
+use Rattle.cv_meaning_laws.proofs.Counts.{same_tuple_refl, same_tuple_exact}
+use Rattle.cv_meaning_laws.proofs.Lists.{each_append}
 use Rattle.cv_meaning_runs.proofs.Lists.{all_map}
 use Rattle.cv_scope.specs.declared.position.Position.TheVariants.{Anywhere}
 use Rattle.cv_scope.specs.Context.{Context, index_terms, cell_of}
 use Rattle.cv_scope.specs.Rules.{Names, is_index, IsAmong, InReach, ReadsInReach}
-use Rattle.cv_scope_runs.specs.Phrases.{Nil, Terms, Term, is_phrase}
+use Rattle.cv_scope_runs.specs.Phrases.{Nil, Terms, Term, is_oracle_phrase}
 use Rattle.cv_scope_runs.specs.Reads.{IsKept}
 use Rattle.cv_scope_runs.specs.Made.{is_bound}
 use Rattle.cv_scope_runs.specs.Promises.{IsRecorded, EventsKept, AreIndicesOf}
@@ -193,30 +193,30 @@ module _ (g : Setting) (variable : ℕ → Bool) where
   leaf_readable Γ at m es k h x a b (inr (inl e)) = constant (constant_none Γ.replications at k x e) e
   leaf_readable Γ at m es k h x a b (inr (inr e)) = (reach_holds Γ at m es h (Node (Leaf x) a b) e).readable
 
-  nil_readable : (at : Indices) (m : Store) (t : Tree) → is_phrase Nil t ≡ true → Readable g variable at m t
-  unfolding is_phrase
+  nil_readable : (at : Indices) (m : Store) (t : Tree) → is_oracle_phrase Nil t ≡ true → Readable g variable at m t
+  unfolding is_oracle_phrase
   nil_readable at m Empty f = tt
   nil_readable at m (Node h a b) f = absurd (both_ways _ refl f)
 
   mutual
-    unfolding is_phrase
+    unfolding is_oracle_phrase
 
-    pub scope_readable : (Γ : Context) (at : Indices) (m : Store) (es : List Happened) → Matches g variable Γ.replications at → Holds Γ at m es → (t : Tree) → is_phrase Term t ≡ true → Asked game_names Anywhere Γ t → Readable g variable at m t
+    pub scope_readable : (Γ : Context) (at : Indices) (m : Store) (es : List Happened) → Matches g variable Γ.replications at → Holds Γ at m es → (t : Tree) → is_oracle_phrase Term t ≡ true → Asked game_names Anywhere Γ t → Readable g variable at m t
     scope_readable Γ at m es k h Empty f s = tt
     scope_readable Γ at m es k h (Node (Leaf x) a b) f s = leaf_readable Γ at m es k h x a b s.0.scope
     scope_readable Γ at m es k h (Node (Read x) a b) f s = (reach_holds Γ at m es h (Node (Read x) a b) s.0.scope).readable
-    scope_readable Γ at m es k h (Node (Apply q) a b) f s = all_scope_readable Γ at m es k h a (and_parts (is_phrase Terms a) _ f).0 s.1
-    scope_readable Γ at m es k h (Node Eq a b) f s = let r = and_parts (is_phrase Term a) _ f in (scope_readable Γ at m es k h a r.0 s.1, scope_readable Γ at m es k h b r.1 s.2)
-    scope_readable Γ at m es k h (Node And a b) f s = let r = and_parts (is_phrase Term a) _ f in (scope_readable Γ at m es k h a r.0 s.1, scope_readable Γ at m es k h b r.1 s.2)
-    scope_readable Γ at m es k h (Node Or a b) f s = let r = and_parts (is_phrase Term a) _ f in (scope_readable Γ at m es k h a r.0 s.1, scope_readable Γ at m es k h b r.1 s.2)
-    scope_readable Γ at m es k h (Node Not a b) f s = let r = and_parts (is_phrase Term a) _ f in (scope_readable Γ at m es k h a r.0 s.1, nil_readable at m b r.1)
-    scope_readable Γ at m es k h (Node Yes a b) f s = let r = and_parts (is_phrase Nil a) _ f in (nil_readable at m a r.0, nil_readable at m b r.1)
-    scope_readable Γ at m es k h (Node No a b) f s = let r = and_parts (is_phrase Nil a) _ f in (nil_readable at m a r.0, nil_readable at m b r.1)
+    scope_readable Γ at m es k h (Node (Apply q) a b) f s = all_scope_readable Γ at m es k h a (and_parts (is_oracle_phrase Terms a) _ f).0 s.1
+    scope_readable Γ at m es k h (Node Eq a b) f s = let r = and_parts (is_oracle_phrase Term a) _ f in (scope_readable Γ at m es k h a r.0 s.1, scope_readable Γ at m es k h b r.1 s.2)
+    scope_readable Γ at m es k h (Node And a b) f s = let r = and_parts (is_oracle_phrase Term a) _ f in (scope_readable Γ at m es k h a r.0 s.1, scope_readable Γ at m es k h b r.1 s.2)
+    scope_readable Γ at m es k h (Node Or a b) f s = let r = and_parts (is_oracle_phrase Term a) _ f in (scope_readable Γ at m es k h a r.0 s.1, scope_readable Γ at m es k h b r.1 s.2)
+    scope_readable Γ at m es k h (Node Not a b) f s = let r = and_parts (is_oracle_phrase Term a) _ f in (scope_readable Γ at m es k h a r.0 s.1, nil_readable at m b r.1)
+    scope_readable Γ at m es k h (Node Yes a b) f s = let r = and_parts (is_oracle_phrase Nil a) _ f in (nil_readable at m a r.0, nil_readable at m b r.1)
+    scope_readable Γ at m es k h (Node No a b) f s = let r = and_parts (is_oracle_phrase Nil a) _ f in (nil_readable at m a r.0, nil_readable at m b r.1)
     scope_readable Γ at m es k h (Node i a b) f s = absurd (both_ways _ refl f)
 
-    pub all_scope_readable : (Γ : Context) (at : Indices) (m : Store) (es : List Happened) → Matches g variable Γ.replications at → Holds Γ at m es → (t : Tree) → is_phrase Terms t ≡ true → Asked game_names Anywhere Γ t → AllReadable g variable at m t
+    pub all_scope_readable : (Γ : Context) (at : Indices) (m : Store) (es : List Happened) → Matches g variable Γ.replications at → Holds Γ at m es → (t : Tree) → is_oracle_phrase Terms t ≡ true → Asked game_names Anywhere Γ t → AllReadable g variable at m t
     all_scope_readable Γ at m es k h Empty f s = tt
-    all_scope_readable Γ at m es k h (Node Cons a b) f s = let r = and_parts (is_phrase Term a) _ f in (scope_readable Γ at m es k h a r.0 s.1, all_scope_readable Γ at m es k h b r.1 s.2)
+    all_scope_readable Γ at m es k h (Node Cons a b) f s = let r = and_parts (is_oracle_phrase Term a) _ f in (scope_readable Γ at m es k h a r.0 s.1, all_scope_readable Γ at m es k h b r.1 s.2)
     all_scope_readable Γ at m es k h (Node i a b) f s = absurd (both_ways _ refl f)
 
   -- replications

@@ -10,12 +10,21 @@ use Rattle.cv_meaning.specs.Memory.{Store, nowhere, Happened, Indices}
 use Rattle.cv_meaning.specs.Terms.{found_in, bit, is_one, leaf_value_from, leaf_value, value, values}
 use Rattle.cv_meaning.specs.Correspondences.{Correspondence, Atom, RightEvent, RightTerm, is_event, holds, left_values, is_left, is_met, assignments}
 use Rattle.cv_meaning.specs.Direct.{Noted, argument, is_argument, is_leaf, is_one_of, stands_for, is_substituted, is_instance, is_noted, atom_noted, event_covered}
-use Rattle.cv_meaning.proofs.Counts.{same_tuple_refl}
-use Rattle.cv_meaning.proofs.Direct.{same_tree_exact, or_none, Among, IsMetBy, AllMet}
+use Rattle.cv_meaning_laws.proofs.Counts.{same_tuple_refl}
+use Rattle.cv_syntax.proofs.Equality.{same_tree_exact}
+use Rattle.cv_meaning_laws.proofs.Lists.{or_none}
 use Rattle.cv_scope_runs.specs.Promises.{IsRecorded}
 use Rattle.cv_scope_runs.proofs.OnceGames.{or_right}
 use Rattle.cv_scope_runs.proofs.TermsLater.{LeafReads, Readable, AllReadable}
 use Rattle.cv_scope_runs.proofs.Contexts.{EventHolds}
+
+-- every left event so far is met
+
+abbrev pub IsMetBy : Setting → Correspondence → List Happened → Happened → Type 0
+IsMetBy g q es e = is_left q e ≡ true → list_all (holds g es (left_values q e)) q.atoms ≡ true
+
+abbrev pub AllMet : Setting → Correspondence → List Happened → Type 0
+AllMet g q es = (e : Happened) → IsRecorded e es → IsMetBy g q es e
 
 any_recorded : (p : Happened → Bool) (e : Happened) (es : List Happened) → IsRecorded e es → p e ≡ true → list_any p es ≡ true
 any_recorded p e [] h k = absurd h
@@ -134,13 +143,13 @@ event_met g variable own q at m es above e a fixed c r l =
 
 -- one more event
 
-among_push : (e d : Happened) (es : List Happened) → Among e (es ++ d ∷ []) → Among e es ⊎ (e ≡ d)
+among_push : (e d : Happened) (es : List Happened) → IsRecorded e (es ++ d ∷ []) → IsRecorded e es ⊎ (e ≡ d)
 among_push e d [] (inl h) = inr h
 among_push e d [] (inr h) = absurd h
 among_push e d (x ∷ es) (inl h) = inl (inl h)
 among_push e d (x ∷ es) (inr h) = more (among_push e d es h)
   where
-    more : Among e es ⊎ (e ≡ d) → Among e (x ∷ es) ⊎ (e ≡ d)
+    more : IsRecorded e es ⊎ (e ≡ d) → IsRecorded e (x ∷ es) ⊎ (e ≡ d)
     more (inl k) = inl (inr k)
     more (inr k) = inr k
 
@@ -154,7 +163,7 @@ met_more g q es fs e h k = all_mono _ _ (holds_more g es fs (left_values q e)) q
 pub met_push : (g : Setting) (q : Correspondence) (es : List Happened) (d : Happened) → AllMet g q es → IsMetBy g q es d → AllMet g q (es ++ d ∷ [])
 met_push g q es d h k e a = go (among_push e d es a)
   where
-    go : Among e es ⊎ (e ≡ d) → IsMetBy g q (es ++ d ∷ []) e
+    go : IsRecorded e es ⊎ (e ≡ d) → IsMetBy g q (es ++ d ∷ []) e
     go (inl old) = met_more g q es (d ∷ []) e (h e old)
     go (inr new) = subst (IsMetBy g q (es ++ d ∷ [])) (sym new) (met_more g q es (d ∷ []) d k)
 
@@ -166,7 +175,7 @@ is_met_by g q es e o h l =
     ap (λ os. list_any (λ ρ. list_all (holds g es ρ) q.atoms) (assignments g os (left_values q e))) o
     ∙ ap (λ b. b || false) (h l)
 
-pub none_breaks : (g : Setting) (q : Correspondence) (es : List Happened) → q.others ≡ [] → (fs : List Happened) → ((e : Happened) → Among e fs → IsMetBy g q es e) → list_any (λ e. is_left q e && not (is_met g q es e)) fs ≡ false
+pub none_breaks : (g : Setting) (q : Correspondence) (es : List Happened) → q.others ≡ [] → (fs : List Happened) → ((e : Happened) → IsRecorded e fs → IsMetBy g q es e) → list_any (λ e. is_left q e && not (is_met g q es e)) fs ≡ false
 none_breaks g q es o [] h = refl
 none_breaks g q es o (e ∷ fs) h = ap₂ ◌||◌ (go (is_left q e) refl) (none_breaks g q es o fs (λ d k. h d (inr k)))
   where

@@ -2,7 +2,7 @@
 use Rattle.std.proofs.Common.{◌≡◌, ℕ, Bool, true, List, [], ◌∷◌, inl, inr, Option, Some, None, refl, sym, ap, subst, ◌∙◌, append-nil}
 use Rattle.std.proofs.lemmas.Bool.{both_ways, and_parts}
 use Rattle.std.specs.List.{AllByRecursion}
-use Rattle.cv_syntax.specs.declared.head.Head.TheVariants.{Out, Event, Let, If, Find, Branch, Cons}
+use Rattle.cv_syntax.specs.declared.head.Head.TheVariants.{Out, Event, Let, If, Find, Branch, Cons, Call}
 use Rattle.cv_syntax.specs.Declarations.{Declaration}
 use Rattle.cv_syntax.specs.Tree.{Tree, Empty, Node, first, second, first_place, second_place}
 use Rattle.cv_meaning.specs.Tapes.{Tape}
@@ -21,20 +21,20 @@ use Rattle.cv_scope.specs.Branches.{Pairs}
 use Rattle.cv_scope.proofs.Apart.{game-branches}
 use Rattle.cv_scope.specs.declared.position.Position.TheVariants.{Anywhere}
 use Rattle.cv_scope.specs.Context.{nothing_known}
-use Rattle.cv_scope_runs.specs.Phrases.{Phrase, Inputs, Body, Branches, Arm, Message, Binders, Cells, is_phrase, binds_none, IsWellFormed, HasConstantsOf}
+use Rattle.cv_scope_runs.specs.Phrases.{Phrase, Inputs, Body, Branches, Arm, Message, Binders, Cells, is_oracle_phrase, binds_none, IsWellFormedContext, HasConstantsOf}
 use Rattle.cv_scope_runs.specs.Reads.{IsKept, TermsAssigned, ReadsAssigned, VisitReadsAssigned, BranchAssigned, BranchesAssigned}
 use Rattle.cv_scope_runs.specs.Made.{is_bound}
+use Rattle.cv_scope_runs.specs.Indexed.{HasValuesBelow, StateHasValuesBelow, VisitHasValuesBelow, head_indexes, is_index_below}
 use Rattle.cv_scope_runs.specs.Promises.{GrowsToEnd, VisitsGrow, ContextHolds, HoldsFrom, PlaceHolds, InputHolds, in_list, in_condition, in_body, TuplesHold, BranchesHold, FindHolds, CandidatesHold, after_site, IsDefinition, HoldsAt, CellsHold, OneDefinitionHolds, VisitCellsHold}
 use Rattle.cv_scope_runs.proofs.Asked.{Asked, AreDistinct, game_asked}
 use Rattle.cv_scope_runs.proofs.OnceRuns.{Has}
 use Rattle.cv_scope_runs.proofs.OnceGames.{MakesName}
-use Rattle.cv_scope_runs.proofs.Plain.{phrase_plain}
 use Rattle.cv_scope_runs.proofs.FreshRuns.{IsClear, visits_clear}
 use Rattle.cv_scope_runs.proofs.TermsLater.{readable_assigned, all_readable_assigned}
 use Rattle.cv_scope_runs.proofs.Contexts.{Matches, CellHolds, FactHolds, EventHolds, Holds, bound_later}
 use Rattle.cv_scope_runs.proofs.Candidates.{OnlyVariables, bound_values, list_cells, list_read}
-use Rattle.cv_scope_runs.proofs.Standing.{Stands, in_first, in_second, stands_known, stands_definition}
-use Rattle.cv_scope_runs.proofs.Games.{Game, no_site, stands_phrase, stands_asked, stands_variable}
+use Rattle.cv_scope_runs.proofs.Standing.{Stands, root, in_first, in_second, stands_known, stands_definition}
+use Rattle.cv_scope_runs.proofs.Games.{Game, no_variable, variable_site, stands_phrase, stands_asked, stands_variable}
 use Rattle.cv_scope_runs.proofs.PathRuns.{term_reads, terms_read, later_holds, only_variables, SiteHolds, StoreHolds, InputReady, GuardsShape, shape, guards_shape, own_ready, guarded_holds, branch_holds}
 use Rattle.cv_scope_runs.proofs.ServeRuns.{VisitHolds, Moves, game_holds}
 
@@ -55,7 +55,7 @@ module _ (g : Setting) (variable : ℕ → Bool) (game : Tree) (fine : Game g va
 
   cells_hold : (x : Memory) → StoreHolds g variable game fine x.store x.events → CellsHold g game x
   cells_hold x s y u v e =
-      let h : SiteHolds g variable game fine y u x.store x.events = s y u v e in
+      let h : SiteHolds g variable game fine y u v x.store x.events = s y u v e in
       let Δ : Context = after_site h.head h.one h.two h.above in
       ((h.place, Δ), stands_definition game y h.place h.phrase h.above h.head h.one h.two h.stands h.defines, (h.indices, h.at, holds_from Δ h.indices x h.matches h.holds))
 
@@ -67,10 +67,10 @@ module _ (g : Setting) (variable : ℕ → Bool) (game : Tree) (fine : Game g va
   data ArmShape : Tree → Type 0 where
     arm : (us cells c body : Tree) → ArmShape (Node Branch us (Node Cons cells (Node Cons c body)))
 
-  arm_shape : (b : Tree) → is_phrase Arm b ≡ true → ArmShape b
-  unfolding is_phrase
+  arm_shape : (b : Tree) → is_oracle_phrase Arm b ≡ true → ArmShape b
+  unfolding is_oracle_phrase
   arm_shape Empty f = absurd (both_ways _ refl f)
-  arm_shape (Node Branch us rest) f = go rest (guards_shape g variable game fine rest (and_parts (is_phrase Binders us) _ f).1)
+  arm_shape (Node Branch us rest) f = go rest (guards_shape g variable game fine rest (and_parts (is_oracle_phrase Binders us) _ f).1)
     where
       go : (rest : Tree) → GuardsShape g variable game fine rest → ArmShape (Node Branch us rest)
       go _ (shape cells c body) = arm us cells c body
@@ -139,7 +139,7 @@ module _ (g : Setting) (variable : ℕ → Bool) (game : Tree) (fine : Game g va
 
   branches_fine : (a : Tree) (p : ℕ) (Γ : Context) (at : Indices) (x : Memory) → OnlyVariables g variable x.store → Stands game p Branches Γ a → Matches g variable Γ.replications at → Holds g variable Γ at x.store x.events
       → ((y : ℕ) → Has SiteName MakesName p a (Variable y) → x.store y (tuple at) ≡ None) → BranchesFine Γ at x a
-  unfolding is_phrase
+  unfolding is_oracle_phrase
   branches_fine Empty p Γ at x o st k h free = record { kept = tt; read = tt }
   branches_fine (Node Cons branch more) p Γ at x o st k h free =
       let first_st : Stands game (first_place p Cons) Arm Γ branch = in_first refl st in
@@ -162,21 +162,23 @@ module _ (g : Setting) (variable : ℕ → Bool) (game : Tree) (fine : Game g va
       branches_fine a (first_place p (Find l)) Γ s.indices s.memory k.only (in_first refl st) k.matches k.holds (λ y e. ap (s.memory.store y) (sym (append-nil (tuple s.indices))) ∙ k.clear y [] (inr (inl e)))
 
   sent_assigned : {p : ℕ} {Γ : Context} (a : Tree) (s : Local) → Stands game p Message Γ a → Matches g variable Γ.replications s.indices → Holds g variable Γ s.indices s.memory.store s.memory.events → TermsAssigned g s.indices s.memory.store (second a)
-  unfolding is_phrase
+  unfolding is_oracle_phrase
   sent_assigned Empty s st k h = tt
   sent_assigned (Node Cons is ms) s st k h = all_readable_assigned g variable s.indices s.memory.store ms (terms_read g variable game fine (in_second refl st) s.indices s.memory.store s.memory.events k h)
   sent_assigned (Node i is ms) s st k h = absurd (both_ways _ refl (stands_phrase g variable game fine st))
 
   reads_of : (p : ℕ) (σ : Phrase) (Γ : Context) (t : Tree) (s : Local) → Stands game p σ Γ t → IsKnown p Γ t s → ReadsAssigned g t s
-  unfolding is_phrase
+  unfolding is_oracle_phrase
   reads_of p Body Γ (Node (Let x T) a b) s st k = readable_assigned g variable s.indices s.memory.store a (term_reads g variable game fine (in_first refl st) s.indices s.memory.store s.memory.events k.matches k.holds)
   reads_of p Body Γ (Node If a b) s st k = readable_assigned g variable s.indices s.memory.store a (term_reads g variable game fine (in_first refl st) s.indices s.memory.store s.memory.events k.matches k.holds)
   reads_of p Body Γ (Node (Event e) a b) s st k = all_readable_assigned g variable s.indices s.memory.store a (terms_read g variable game fine (in_first refl st) s.indices s.memory.store s.memory.events k.matches k.holds)
+  reads_of p Body Γ (Node (Call x l) a b) s st k = all_readable_assigned g variable s.indices s.memory.store a (terms_read g variable game fine (in_first refl st) s.indices s.memory.store s.memory.events k.matches k.holds)
   reads_of p Body Γ (Node (Out c) a b) s st k = sent_assigned a s (in_first refl st) k.matches k.holds
   reads_of p Body Γ (Node (Find l) a b) s st k = (find_fine p Γ l a b s st k).read
   reads_of p σ Γ (Node (Let x T) a b) s st k = absurd (both_ways _ refl (stands_phrase g variable game fine st))
   reads_of p σ Γ (Node If a b) s st k = absurd (both_ways _ refl (stands_phrase g variable game fine st))
   reads_of p σ Γ (Node (Event e) a b) s st k = absurd (both_ways _ refl (stands_phrase g variable game fine st))
+  reads_of p σ Γ (Node (Call x l) a b) s st k = absurd (both_ways _ refl (stands_phrase g variable game fine st))
   reads_of p σ Γ (Node (Out c) a b) s st k = absurd (both_ways _ refl (stands_phrase g variable game fine st))
   reads_of p σ Γ (Node (Find l) a b) s st k = absurd (both_ways _ refl (stands_phrase g variable game fine st))
   reads_of p σ Γ t s st k = tt
@@ -185,28 +187,41 @@ module _ (g : Setting) (variable : ℕ → Bool) (game : Tree) (fine : Game g va
   some_same Γ Δ e = cc
 
   candidates_of : (p : ℕ) (σ : Phrase) (Γ : Context) (t : Tree) (s : Local) → Stands game p σ Γ t → IsKnown p Γ t s → (Δ : Context) → known_at game p ≡ Some Δ → FindHolds g Δ s t
-  unfolding is_phrase
+  unfolding is_oracle_phrase
   candidates_of p Body Γ (Node (Find l) a b) s st k Δ e =
       subst (λ Ε. BranchesHold g Ε s.indices s.memory a) (some_same Γ Δ (sym (stands_known game p Body Γ (Node (Find l) a b) refl st) ∙ e)) (find_fine p Γ l a b s st k).kept
   candidates_of p σ Γ (Node (Find l) a b) s st k Δ e = absurd (both_ways _ refl (stands_phrase g variable game fine st))
   candidates_of p σ Γ t s st k Δ e = tt
 
+-- an index variable of the game is one where it is defined
+stands_index : (game : Tree) (x n : ℕ) → is_index_below x n game ≡ true → {p : ℕ} {σ : Phrase} {Γ : Context} {b : Tree} → Stands game p σ Γ b → is_index_below x n b ≡ true
+unfolding is_index_below
+stands_index game x n e root = e
+stands_index game x n e (in_first {h = h} {a = a} i st) = (and_parts (is_index_below x n a) _ (and_parts (head_indexes x n h a) _ (stands_index game x n e st)).1).0
+stands_index game x n e (in_second {h = h} {a = a} i st) = (and_parts (is_index_below x n a) _ (and_parts (head_indexes x n h a) _ (stands_index game x n e st)).1).1
+
+values_below : (g : Setting) (variable : ℕ → Bool) (game : Tree) (fine : Game g variable game) (x n : ℕ) → is_index_below x n game ≡ true → (m : Store) (es : List Happened) → StoreHolds g variable game fine m es → HasValuesBelow g x n m
+unfolding is_index_below
+values_below g variable game fine x n e m es s u v i =
+    let h : SiteHolds g variable game fine x u v m es = s x u v i in
+    h.below n (and_parts (head_indexes x n h.head h.one) _ (stands_index game x n e h.stands)).0
+
 -- over runs
 
-pub well_game : (ds : List Declaration) (g : Setting) (game : Tree) → HasConstantsOf ds g → IsWellFormed ds game → Game g (is_variable game) game
+pub well_game : (ds : List Declaration) (g : Setting) (game : Tree) → HasConstantsOf ds g → IsWellFormedContext ds game → Game g (is_variable game) game
 well_game ds g game e w = record {
   asked = subst (λ c. Asked (record { constant = c; variable = is_variable game }) Anywhere nothing_known game) (sym e) (game_asked ds game w.scoped);
   phrase = w.phrase;
   branches = game-branches ds game w.scoped;
   constants = free;
-  apart = λ x c. no_site g.is_constant x c game free [];
-  variables = λ x s. s [];
+  apart = λ x c. no_variable g.is_constant x c game free;
+  variables = λ x s. variable_site x game s;
 }
   where
     free : binds_none g.is_constant game ≡ true
     free = subst (λ c. binds_none c game ≡ true) (sym e) w.constants
 
-module _ (ds : List Declaration) (g : Setting) (m : Mode) (next : List Answer → Option Move) (t : Tape) (n : ℕ) (game : Tree) (same : HasConstantsOf ds g) (well : IsWellFormed ds game) where
+module _ (ds : List Declaration) (g : Setting) (m : Mode) (next : List Answer → Option Move) (t : Tape) (n : ℕ) (game : Tree) (same : HasConstantsOf ds g) (well : IsWellFormedContext ds game) where
   fine : Game g (is_variable game) game
   fine = well_game ds g game same well
 
@@ -214,7 +229,7 @@ module _ (ds : List Declaration) (g : Setting) (m : Mode) (next : List Answer �
   moves = game_holds g (is_variable game) game fine m next t n
 
   clear : AllByRecursion IsClear (run_visits g m next t n (start g game))
-  clear = visits_clear g m next t n game fine.branches (phrase_plain Inputs game fine.phrase)
+  clear = visits_clear g m next t n game fine.branches
 
   known : (v : Visit) (h : VisitHolds g (is_variable game) game fine v) → IsClear v → IsKnown g (is_variable game) game fine v.place h.above v.tree v.before
   known v h c = record { matches = h.matches; holds = h.holds; only = only_variables g (is_variable game) game fine v.before.memory.store v.before.memory.events h.stores; clear = c }
@@ -231,6 +246,12 @@ module _ (ds : List Declaration) (g : Setting) (m : Mode) (next : List Answer �
   all_candidates_hold =
       all_both (VisitHolds g (is_variable game) game fine) IsClear (CandidatesHold g game)
       (λ v h c. candidates_of g (is_variable game) game fine v.place h.phrase h.above v.tree v.before h.stands (known v h c)) _ moves.passes.visits clear
+
+  pub all_values_below : (x k : ℕ) → is_index_below x k game ≡ true → AllByRecursion (VisitHasValuesBelow g x k) (run_visits g m next t n (start g game))
+  all_values_below x k e = all_map (VisitHolds g (is_variable game) game fine) (VisitHasValuesBelow g x k) (λ v h. values_below g (is_variable game) game fine x k e v.before.memory.store v.before.memory.events h.stores) _ moves.passes.visits
+
+  pub last_values_below : (x k : ℕ) → is_index_below x k game ≡ true → StateHasValuesBelow g x k (run_from g m next t n (start g game))
+  last_values_below x k e = values_below g (is_variable game) game fine x k e _ _ moves.state.stores
 
   pub all_cells_hold : AllByRecursion (VisitCellsHold g game) (run_visits g m next t n (start g game))
   all_cells_hold = all_map (VisitHolds g (is_variable game) game fine) (VisitCellsHold g game) (λ v h. cells_hold g (is_variable game) game fine v.before.memory h.stores) _ moves.passes.visits

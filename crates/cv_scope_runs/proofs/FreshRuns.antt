@@ -1,6 +1,5 @@
 -- In a run of such a game no cell is assigned that a visited node could still assign.
 use Rattle.std.proofs.Common.{◌≡◌, ℕ, zero, suc, Bool, true, false, cond, ◌||◌, ◌&&◌, ◌==◌, List, [], ◌∷◌, ◌++◌, ◌⊎◌, inl, inr, Option, Some, None, refl, sym, ◌∙◌}
-use Rattle.std.proofs.lemmas.Bool.{both_ways}
 use Rattle.std.specs.List.{AllByRecursion}
 use Rattle.cv_syntax.specs.declared.head.Head.{Head}
 use Rattle.cv_syntax.specs.declared.head.Head.TheVariants.{In, Event, New, Let, If, Find, Branch, Cons, Binder, Key, Call}
@@ -12,13 +11,12 @@ use Rattle.cv_meaning.specs.Binders.{bound_to}
 use Rattle.cv_meaning.specs.Candidates.{Candidate, candidates, chosen}
 use Rattle.cv_meaning.specs.Serving.{Turn, Ends, First, Second, after_find, step, serve, after_turn, Visit, visits}
 use Rattle.cv_meaning.specs.Runs.{Mode, Answer, Move, Calls, Tests, Guesses, State, Taken, admitted, called, told, tested_with, moved, start, begun, next_move, by_move, visits_of_call, visits_of_move, run_visits}
-use Rattle.cv_meaning.proofs.Counts.{same_tuple_exact}
-use Rattle.cv_meaning.proofs.Direct.{each_append}
+use Rattle.cv_meaning_laws.proofs.Counts.{same_tuple_exact}
+use Rattle.cv_meaning_laws.proofs.Lists.{each_append}
 use Rattle.cv_scope.specs.Sites.{SiteName, Variable}
 use Rattle.cv_scope.specs.Branches.{Pairs, IsApartByBranches}
 use Rattle.cv_meaning_runs.proofs.Lists.{all_both, left_part}
 use Rattle.cv_scope_runs.specs.Made.{is_bound, made_at}
-use Rattle.cv_scope_runs.proofs.Plain.{is_plain, VisitPlain, visits_plain}
 use Rattle.cv_scope_runs.proofs.OnceRuns.{Has, VisitsApart, nothing_twice}
 use Rattle.cv_scope_runs.proofs.OnceGames.{MakesName, names_single, names_at, or_left, or_right}
 
@@ -59,7 +57,7 @@ known_more K (v ∷ vs) y w = known_more (λ x u. K x u ⊎ ((made_at v.tree (Va
 
 -- the visited node can't assign a cell that is known
 abbrev pub ClearOf : Known → Visit → Type 0
-ClearOf K v = VisitPlain v × ((y : ℕ) (w l : List ℕ) → K y w → Has SiteName MakesName v.place v.tree (Variable y) → w ≡ tuple v.before.indices ++ l → ⊥)
+ClearOf K v = (y : ℕ) (w l : List ℕ) → K y w → Has SiteName MakesName v.place v.tree (Variable y) → w ≡ tuple v.before.indices ++ l → ⊥
 
 -- no cell is assigned that the visited node could assign
 abbrev pub IsClear : Visit → Type 0
@@ -70,7 +68,7 @@ clear_of K v a c y l h = go (v.before.memory.store y (tuple v.before.indices ++ 
   where
     go : (o : Option ℕ) → v.before.memory.store y (tuple v.before.indices ++ l) ≡ o → v.before.memory.store y (tuple v.before.indices ++ l) ≡ None
     go None e = e
-    go (Some z) e = absurd (c.1 y _ l (a y _ z e) h refl)
+    go (Some z) e = absurd (c y _ l (a y _ z e) h refl)
 
 abbrev pub KnownAfter : Known → Visit → Known
 KnownAfter K v x u = K x u ⊎ ((made_at v.tree (Variable x) ≡ true) × (u ≡ tuple v.before.indices))
@@ -80,10 +78,10 @@ clear_more : (K : Known) (v : Visit) (vs : List Visit) → AllByRecursion (Visit
 clear_more K v vs a c = all_both (VisitsApart SiteName MakesName v) (ClearOf K) (ClearOf (KnownAfter K v)) go vs a c
   where
     go : (x : Visit) → VisitsApart SiteName MakesName v x → ClearOf K x → ClearOf (KnownAfter K v) x
-    go x p q = (q.0, clear)
+    go x p q = clear
       where
         clear : (y : ℕ) (w l : List ℕ) → KnownAfter K v y w → Has SiteName MakesName x.place x.tree (Variable y) → w ≡ tuple x.before.indices ++ l → ⊥
-        clear y w l (inl k) h e = q.1 y w l k h e
+        clear y w l (inl k) h e = q y w l k h e
         clear y w l (inr k) h e = p (Variable y) (names_at v.place v.tree (Variable y) k.0) h l (sym k.1 ∙ e)
 
 -- services
@@ -93,40 +91,48 @@ turn_known K (Ends r) = AssignedBy K r.last.memory.store
 turn_known K (First k vs s) = AssignedBy K s.memory.store
 turn_known K (Second k vs s) = AssignedBy K s.memory.store
 
-step_known : (K : Known) (g : Setting) (t : Tape) (h : Head) (a b : Tree) (p k : ℕ) (vs : List ℕ) (s : Local) → is_plain (Node h a b) ≡ true → AssignedBy K s.memory.store → turn_known (KnownAfter K (record { place = p; tree = Node h a b; before = s })) (step g t h a b p k vs s)
+step_known : (K : Known) (g : Setting) (t : Tape) (h : Head) (a b : Tree) (p k : ℕ) (vs : List ℕ) (s : Local) → AssignedBy K s.memory.store → turn_known (KnownAfter K (record { place = p; tree = Node h a b; before = s })) (step g t h a b p k vs s)
 unfolding step turn_known
-step_known K g t (In c) a b p k vs s i x = λ y w z e. go y w z (bound_made s.memory.store (tuple s.indices) (second a) vs y w z e)
+step_known K g t (In c) a b p k vs s x = λ y w z e. go y w z (bound_made s.memory.store (tuple s.indices) (second a) vs y w z e)
   where
     go : (y : ℕ) (w : List ℕ) (z : ℕ) → (s.memory.store y w ≡ Some z) ⊎ ((is_bound (second a) y ≡ true) × (w ≡ tuple s.indices)) → K y w ⊎ ((is_bound (second a) y ≡ true) × (w ≡ tuple s.indices))
     go y w z (inl i) = inl (x y w z i)
     go y w z (inr i) = inr i
-step_known K g t Branch a b p k vs s i x = λ y w z e. go y w z (bound_made s.memory.store (tuple s.indices) a vs y w z e)
+step_known K g t Branch a b p k vs s x = λ y w z e. go y w z (bound_made s.memory.store (tuple s.indices) a vs y w z e)
   where
     go : (y : ℕ) (w : List ℕ) (z : ℕ) → (s.memory.store y w ≡ Some z) ⊎ ((is_bound a y ≡ true) × (w ≡ tuple s.indices)) → K y w ⊎ ((is_bound a y ≡ true) × (w ≡ tuple s.indices))
     go y w z (inl i) = inl (x y w z i)
     go y w z (inr i) = inr i
-step_known K g t (New n T) a b p k vs s i x = λ y w z e. go y w z (put_made s.memory.store n (tuple s.indices) _ y w z e)
+step_known K g t (New n T) a b p k vs s x = λ y w z e. go y w z (put_made s.memory.store n (tuple s.indices) _ y w z e)
   where
     go : (y : ℕ) (w : List ℕ) (z : ℕ) → (s.memory.store y w ≡ Some z) ⊎ (((y == n) ≡ true) × (w ≡ tuple s.indices)) → K y w ⊎ (((y == n) ≡ true) × (w ≡ tuple s.indices))
     go y w z (inl i) = inl (x y w z i)
     go y w z (inr i) = inr i
-step_known K g t (Let n T) a b p k vs s i x = λ y w z e. go y w z (put_made s.memory.store n (tuple s.indices) _ y w z e)
+step_known K g t (Let n T) a b p k vs s x = λ y w z e. go y w z (put_made s.memory.store n (tuple s.indices) _ y w z e)
   where
     go : (y : ℕ) (w : List ℕ) (z : ℕ) → (s.memory.store y w ≡ Some z) ⊎ (((y == n) ≡ true) × (w ≡ tuple s.indices)) → K y w ⊎ (((y == n) ≡ true) × (w ≡ tuple s.indices))
     go y w z (inl i) = inl (x y w z i)
     go y w z (inr i) = inr i
-step_known K g t (Find l) a b p k vs s i x = go (chosen (candidates g s.indices s.memory.store a) (t (Find_at l (tuple s.indices))))
+step_known K g t (Find l) a b p k vs s x = go (chosen (candidates g s.indices s.memory.store a) (t (Find_at l (tuple s.indices))))
   where
     go : (o : Option Candidate) → turn_known (KnownAfter K (record { place = p; tree = Node (Find l) a b; before = s })) (after_find s o)
     go None = λ y w z e. inl (x y w z e)
     go (Some c) = λ y w z e. inl (x y w z e)
-step_known K g t Cons a b p zero vs s i x = λ y w z e. inl (x y w z e)
-step_known K g t Cons a b p (suc k) vs s i x = λ y w z e. inl (x y w z e)
-step_known K g t (Event n) a b p k vs s i x = λ y w z e. inl (x y w z e)
-step_known K g t If a b p k vs s i x = λ y w z e. inl (x y w z e)
-step_known K g t (Key n) a b p k vs s i x = absurd (both_ways _ refl i)
-step_known K g t (Call n l) a b p k vs s i x = absurd (both_ways _ refl i)
-step_known K g t h a b p k vs s i x = λ y w z e. inl (x y w z e)
+step_known K g t Cons a b p zero vs s x = λ y w z e. inl (x y w z e)
+step_known K g t Cons a b p (suc k) vs s x = λ y w z e. inl (x y w z e)
+step_known K g t (Event n) a b p k vs s x = λ y w z e. inl (x y w z e)
+step_known K g t If a b p k vs s x = λ y w z e. inl (x y w z e)
+step_known K g t (Key n) a b p k vs s x = λ y w z e. go y w z (put_made s.memory.store n (tuple s.indices) _ y w z e)
+  where
+    go : (y : ℕ) (w : List ℕ) (z : ℕ) → (s.memory.store y w ≡ Some z) ⊎ (((y == n) ≡ true) × (w ≡ tuple s.indices)) → K y w ⊎ (((y == n) ≡ true) × (w ≡ tuple s.indices))
+    go y w z (inl i) = inl (x y w z i)
+    go y w z (inr i) = inr i
+step_known K g t (Call n l) a b p k vs s x = λ y w z e. go y w z (put_made s.memory.store n (tuple s.indices) _ y w z e)
+  where
+    go : (y : ℕ) (w : List ℕ) (z : ℕ) → (s.memory.store y w ≡ Some z) ⊎ (((y == n) ≡ true) × (w ≡ tuple s.indices)) → K y w ⊎ (((y == n) ≡ true) × (w ≡ tuple s.indices))
+    go y w z (inl i) = inl (x y w z i)
+    go y w z (inr i) = inr i
+step_known K g t h a b p k vs s x = λ y w z e. inl (x y w z e)
 
 pub record ClearService (K : Known) (m : Store) (vs : List Visit) : Type 0 where
   pub clear : AllByRecursion IsClear vs
@@ -137,7 +143,7 @@ serve_clear : (g : Setting) (t : Tape) (b : Tree) (p k : ℕ) (vs : List ℕ) (s
 unfolding serve visits turn_known
 serve_clear g t Empty p k vs s K a w c = record { clear = tt; known = a }
 serve_clear g t (Node h a b) p k vs s K x w c =
-    let r = go (step g t h a b p k vs s) (step_known K g t h a b p k vs s c.0.0 x)
+    let r = go (step g t h a b p k vs s) (step_known K g t h a b p k vs s x)
     (λ j ws n. serve_clear g t a (first_place p h) j ws n (KnownAfter K here)) (λ j ws n. serve_clear g t b (second_place p h a) j ws n (KnownAfter K here)) w.1 (clear_more K here _ w.0 c.1) in
     record { clear = (clear_of K here x c.0, r.clear); known = r.known }
   where
@@ -204,10 +210,10 @@ run_clear g m next t (suc n) st K x w c = go (next_move next st) (λ a. run_clea
         let r = step_of a (pairwise_left (VisitsApart SiteName MakesName) ws (rest a) p) (left_part (ClearOf K) ws (rest a) q) in
         each_append IsClear ws (rest a) r.clear (ih a (known_more K ws) r.known (pairwise_right (VisitsApart SiteName MakesName) ws (rest a) p) (clear_rest K ws (rest a) p q))
 
-all_of_none : (vs : List Visit) → AllByRecursion VisitPlain vs → AllByRecursion (ClearOf (λ y w. ⊥)) vs
-all_of_none [] h = tt
-all_of_none (v ∷ vs) h = ((h.0, λ y w l k. absurd k), all_of_none vs h.1)
+all_of_none : (vs : List Visit) → AllByRecursion (ClearOf (λ y w. ⊥)) vs
+all_of_none [] = tt
+all_of_none (v ∷ vs) = ((λ y w l k. absurd k), all_of_none vs)
 
-pub visits_clear : (g : Setting) (m : Mode) (next : List Answer → Option Move) (t : Tape) (n : ℕ) (game : Tree) → IsApartByBranches game → is_plain game ≡ true → AllByRecursion IsClear (run_visits g m next t n (start g game))
-visits_clear g m next t n game s e =
-    run_clear g m next t n (start g game) (λ y w. ⊥) (λ y w z e. cc) (nothing_twice SiteName MakesName g m next t n game (names_single _ [] 0 game s)) (all_of_none _ (visits_plain g m next t n game e))
+pub visits_clear : (g : Setting) (m : Mode) (next : List Answer → Option Move) (t : Tape) (n : ℕ) (game : Tree) → IsApartByBranches game → AllByRecursion IsClear (run_visits g m next t n (start g game))
+visits_clear g m next t n game s =
+    run_clear g m next t n (start g game) (λ y w. ⊥) (λ y w z e. cc) (nothing_twice SiteName MakesName g m next t n game (names_single _ [] 0 game s)) (all_of_none _)

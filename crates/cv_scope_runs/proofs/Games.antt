@@ -1,8 +1,8 @@
 -- What holds of the subtrees of a well-formed game where they stand.
-use Rattle.std.proofs.Common.{◌≡◌, ℕ, Bool, true, false, cond, ◌||◌, not, ◌==◌, List, Option, Some, None, is_some, refl, sym, ap, subst, ◌∙◌, eqb-true, eq-eqb}
+use Rattle.std.proofs.Common.{◌≡◌, ℕ, Bool, true, false, cond, ◌||◌, not, ◌==◌, List, [], ◌⊎◌, inl, inr, Option, Some, None, is_some, refl, sym, ap, ap₂, subst, ◌∙◌, eqb-true, eq-eqb}
 use Rattle.std.proofs.lemmas.Bool.{both_ways, and_parts, not-true}
 use Rattle.cv_syntax.specs.declared.head.Head.{Head}
-use Rattle.cv_syntax.specs.declared.head.Head.TheVariants.{Repl, In, New, Let, Branch, Binder}
+use Rattle.cv_syntax.specs.declared.head.Head.TheVariants.{Repl, In, New, Let, Branch, Binder, Key, Call}
 use Rattle.cv_syntax.specs.Tree.{Tree, Empty, Node, second}
 use Rattle.cv_meaning.specs.Interpretation.{Setting}
 use Rattle.cv_typing.specs.declared.sort.Sort.{Sort}
@@ -11,10 +11,12 @@ use Rattle.cv_typing.specs.Sites.{first_of, bound_sort, site_here, at_parameters
 use Rattle.cv_scope.specs.declared.position.Position.TheVariants.{Anywhere}
 use Rattle.cv_scope.specs.Context.{Context, nothing_known}
 use Rattle.cv_scope.specs.Sites.{Variable}
+use Rattle.cv_scope.specs.Scope.{is_untyped_here, is_untyped_in, is_variable}
 use Rattle.cv_scope.specs.Branches.{IsApartByBranches}
-use Rattle.cv_scope_runs.specs.Phrases.{Phrase, Inputs, parts, both_are, is_phrase, head_binds_none, binds_none}
+use Rattle.cv_scope_runs.specs.Phrases.{Phrase, Inputs, oracle_parts, both_are, is_oracle_phrase, head_binds_none, binds_none}
 use Rattle.cv_scope_runs.specs.Made.{is_bound, made_by}
 use Rattle.cv_scope_runs.proofs.Asked.{Asked}
+use Rattle.cv_scope_runs.proofs.OnceGames.{or_left, or_right}
 use Rattle.cv_scope_runs.proofs.Rows.{position_of, placed}
 use Rattle.cv_scope_runs.proofs.Contexts.{NamesApart, game_names, NewIndex}
 use Rattle.cv_scope_runs.proofs.Standing.{Stands, root, in_first, in_second, first_below, second_below}
@@ -22,7 +24,7 @@ use Rattle.cv_scope_runs.proofs.Standing.{Stands, root, in_first, in_second, fir
 -- a variable that has a site in a tree
 
 abbrev pub HasSite : ℕ → Tree → Type 0
-HasSite x b = (ps : List ℕ) → is_some (first_site x ps b) ≡ true
+HasSite x b = ((ps : List ℕ) → is_some (first_site x ps b) ≡ true) ⊎ (is_untyped_in x b ≡ true)
 
 first_some : {A : Type 0} (o q : Option A) → is_some o ≡ true → is_some (first_of o q) ≡ true
 first_some (Some a) q e = refl
@@ -33,12 +35,14 @@ second_some (Some a) q e = refl
 second_some None q e = e
 
 site_first : (x : ℕ) (h : Head) (a b : Tree) → HasSite x a → HasSite x (Node h a b)
-unfolding first_site
-site_first x h a b s ps = second_some (at_parameters ps (site_here x h a)) _ (first_some (first_site x ps a) _ (s ps))
+unfolding first_site is_untyped_in
+site_first x h a b (inl s) = inl (λ ps. second_some (at_parameters ps (site_here x h a)) _ (first_some (first_site x ps a) _ (s ps)))
+site_first x h a b (inr e) = inr (or_right (is_untyped_here x h) _ (or_left (is_untyped_in x a) _ e))
 
 site_second : (x : ℕ) (h : Head) (a b : Tree) → HasSite x b → HasSite x (Node h a b)
-unfolding first_site
-site_second x h a b s ps = second_some (at_parameters ps (site_here x h a)) _ (second_some (first_site x ps a) _ (s (parameters_below h ps)))
+unfolding first_site is_untyped_in
+site_second x h a b (inl s) = inl (λ ps. second_some (at_parameters ps (site_here x h a)) _ (second_some (first_site x ps a) _ (s (parameters_below h ps))))
+site_second x h a b (inr e) = inr (or_right (is_untyped_here x h) _ (or_right (is_untyped_in x a) _ e))
 
 flipped : (x y : ℕ) → (y == x) ≡ true → (x == y) ≡ true
 flipped x y e = eq-eqb x y (sym (eqb-true y x e))
@@ -59,20 +63,30 @@ bound_some sort (Node (Binder x T) a b) y e = go (x == y) refl e (bound_some sor
         rest false i z = z
 bound_some sort bs y e = absurd (both_ways _ refl e)
 
-sort_here : (h : Head) (a : Tree) (y : ℕ) → made_by h a (Variable y) ≡ true → is_some (site_here y h a) ≡ true
-sort_here (New x T) a y e = one_sort x y (OfType T) e
-sort_here (Let x T) a y e = one_sort x y (OfType T) e
-sort_here (In c) a y e = bound_some OfType (second a) y e
-sort_here Branch a y e = bound_some BelowParameter a y e
-sort_here h a y e = absurd (both_ways _ refl e)
+site_here_made : (h : Head) (a : Tree) (y : ℕ) → made_by h a (Variable y) ≡ true → (is_some (site_here y h a) ≡ true) ⊎ (is_untyped_here y h ≡ true)
+site_here_made (New x T) a y e = inl (one_sort x y (OfType T) e)
+site_here_made (Let x T) a y e = inl (one_sort x y (OfType T) e)
+site_here_made (Key x) a y e = inr (flipped x y e)
+site_here_made (Call x l) a y e = inr (flipped x y e)
+site_here_made (In c) a y e = inl (bound_some OfType (second a) y e)
+site_here_made Branch a y e = inl (bound_some BelowParameter a y e)
+site_here_made h a y e = absurd (both_ways _ refl e)
 
 with_parameters : (ps : List ℕ) (o : Option Sort) → is_some o ≡ true → is_some (at_parameters ps o) ≡ true
 with_parameters ps None e = absurd (both_ways _ refl e)
 with_parameters ps (Some S) e = refl
 
 site_made : (x : ℕ) (h : Head) (a b : Tree) → made_by h a (Variable x) ≡ true → HasSite x (Node h a b)
-unfolding first_site
-site_made x h a b e ps = first_some (at_parameters ps (site_here x h a)) _ (with_parameters ps (site_here x h a) (sort_here h a x e))
+unfolding first_site is_untyped_in
+site_made x h a b e = go (site_here_made h a x e)
+  where
+    go : (is_some (site_here x h a) ≡ true) ⊎ (is_untyped_here x h ≡ true) → HasSite x (Node h a b)
+    go (inl s) = inl (λ ps. first_some (at_parameters ps (site_here x h a)) _ (with_parameters ps (site_here x h a) s))
+    go (inr u) = inr (or_left (is_untyped_here x h) _ u)
+
+pub variable_site : (x : ℕ) (b : Tree) → HasSite x b → is_variable b x ≡ true
+variable_site x b (inl s) = or_left (is_some (first_site x [] b)) _ (s [])
+variable_site x b (inr e) = or_right (is_some (first_site x [] b)) _ e
 
 -- a name that is bound nowhere has no site
 
@@ -80,12 +94,15 @@ none_of : {A : Type 0} (o q : Option A) → is_some o ≡ false → is_some q �
 none_of (Some a) q e f = e
 none_of None q e f = f
 
-other_sort : (names : ℕ → Bool) (x y : ℕ) (S : Sort) → names x ≡ true → not (names y) ≡ true → is_some (cond (y == x) (Some S) None) ≡ false
-other_sort names x y S e f = go (y == x) refl
+differs : (names : ℕ → Bool) (x y : ℕ) → names x ≡ true → not (names y) ≡ true → (y == x) ≡ false
+differs names x y e f = go (y == x) refl
   where
-    go : (b : Bool) → (y == x) ≡ b → is_some (cond b (Some S) None) ≡ false
+    go : (b : Bool) → (y == x) ≡ b → b ≡ false
     go true k = absurd (both_ways (names x) (ap names (sym (eqb-true y x k)) ∙ not-true _ f) e)
     go false k = refl
+
+other_sort : (names : ℕ → Bool) (x y : ℕ) (S : Sort) → names x ≡ true → not (names y) ≡ true → is_some (cond (y == x) (Some S) None) ≡ false
+other_sort names x y S e f = ap (λ b. is_some (cond b (Some S) None)) (differs names x y e f)
 
 bound_none : (names : ℕ → Bool) (sort : ℕ → Sort) (x : ℕ) → names x ≡ true → (bs : Tree) → binds_none names bs ≡ true → is_some (bound_sort sort x bs) ≡ false
 unfolding bound_sort binds_none
@@ -115,7 +132,7 @@ without_parameters : (ps : List ℕ) (o : Option Sort) → is_some o ≡ false �
 without_parameters ps None e = refl
 without_parameters ps (Some S) e = e
 
-pub no_site : (names : ℕ → Bool) (x : ℕ) → names x ≡ true → (b : Tree) → binds_none names b ≡ true → (ps : List ℕ) → is_some (first_site x ps b) ≡ false
+no_site : (names : ℕ → Bool) (x : ℕ) → names x ≡ true → (b : Tree) → binds_none names b ≡ true → (ps : List ℕ) → is_some (first_site x ps b) ≡ false
 unfolding first_site binds_none
 no_site names x e Empty f ps = refl
 no_site names x e (Node h a b) f ps =
@@ -124,29 +141,45 @@ no_site names x e (Node h a b) f ps =
     none_of (at_parameters ps (site_here x h a)) _ (without_parameters ps (site_here x h a) (here_none names x e h a r.0 s.0))
     (none_of (first_site x ps a) _ (no_site names x e a s.0 ps) (no_site names x e b s.1 (parameters_below h ps)))
 
--- the well-formed game, as the proofs take it
+untyped_here_none : (names : ℕ → Bool) (x : ℕ) → names x ≡ true → (h : Head) → head_binds_none names h ≡ true → is_untyped_here x h ≡ false
+untyped_here_none names x e (Key y) f = differs names x y e f
+untyped_here_none names x e (Call y l) f = differs names x y e f
+untyped_here_none names x e h f = refl
+
+untyped_none : (names : ℕ → Bool) (x : ℕ) → names x ≡ true → (b : Tree) → binds_none names b ≡ true → is_untyped_in x b ≡ false
+unfolding is_untyped_in binds_none
+untyped_none names x e Empty f = refl
+untyped_none names x e (Node h a b) f =
+    let r = and_parts (head_binds_none names h) _ f in
+    let s = and_parts (binds_none names a) _ r.1 in
+    ap₂ ◌||◌ (untyped_here_none names x e h r.0) (ap₂ ◌||◌ (untyped_none names x e a s.0) (untyped_none names x e b s.1))
+
+pub no_variable : (names : ℕ → Bool) (x : ℕ) → names x ≡ true → (b : Tree) → binds_none names b ≡ true → is_variable b x ≡ false
+no_variable names x e b f = ap₂ ◌||◌ (no_site names x e b f []) (untyped_none names x e b f)
+
+-- the well-formed game or context, as the proofs take it
 pub record Game (g : Setting) (variable : ℕ → Bool) (game : Tree) : Type 0 where
   pub asked : Asked (game_names g variable) Anywhere nothing_known game
-  pub phrase : is_phrase Inputs game ≡ true
+  pub phrase : is_oracle_phrase Inputs game ≡ true
   pub branches : IsApartByBranches game
   pub constants : binds_none g.is_constant game ≡ true
   pub apart : NamesApart g variable
   pub variables : (x : ℕ) → HasSite x game → variable x ≡ true
 
-phrase_parts : (σ τ ρ : Phrase) (h : Head) (a b : Tree) → parts σ h ≡ Some (τ, ρ) → is_phrase σ (Node h a b) ≡ true → (is_phrase τ a ≡ true) × (is_phrase ρ b ≡ true)
-unfolding is_phrase
-phrase_parts σ τ ρ h a b e f = and_parts (is_phrase τ a) _ (subst (λ o. both_are o (λ τ. is_phrase τ a) (λ ρ. is_phrase ρ b) ≡ true) e f)
+pub phrase_parts : (σ τ ρ : Phrase) (h : Head) (a b : Tree) → oracle_parts σ h ≡ Some (τ, ρ) → is_oracle_phrase σ (Node h a b) ≡ true → (is_oracle_phrase τ a ≡ true) × (is_oracle_phrase ρ b ≡ true)
+unfolding is_oracle_phrase
+phrase_parts σ τ ρ h a b e f = and_parts (is_oracle_phrase τ a) _ (subst (λ o. both_are o (λ τ. is_oracle_phrase τ a) (λ ρ. is_oracle_phrase ρ b) ≡ true) e f)
 
-pub has_parts : (σ : Phrase) (h : Head) (a b : Tree) → is_phrase σ (Node h a b) ≡ true → (q : Phrase × Phrase) × (parts σ h ≡ Some q)
-unfolding is_phrase
-has_parts σ h a b f = go (parts σ h) refl f
+pub has_parts : (σ : Phrase) (h : Head) (a b : Tree) → is_oracle_phrase σ (Node h a b) ≡ true → (q : Phrase × Phrase) × (oracle_parts σ h ≡ Some q)
+unfolding is_oracle_phrase
+has_parts σ h a b f = go (oracle_parts σ h) refl f
   where
-    go : (o : Option (Phrase × Phrase)) → parts σ h ≡ o → both_are o (λ τ. is_phrase τ a) (λ ρ. is_phrase ρ b) ≡ true → (q : Phrase × Phrase) × (parts σ h ≡ Some q)
+    go : (o : Option (Phrase × Phrase)) → oracle_parts σ h ≡ o → both_are o (λ τ. is_oracle_phrase τ a) (λ ρ. is_oracle_phrase ρ b) ≡ true → (q : Phrase × Phrase) × (oracle_parts σ h ≡ Some q)
     go None e z = absurd (both_ways _ refl z)
     go (Some q) e z = (q, e)
 
 module _ (g : Setting) (variable : ℕ → Bool) (game : Tree) (fine : Game g variable game) where
-  pub stands_phrase : {p : ℕ} {σ : Phrase} {Γ : Context} {b : Tree} → Stands game p σ Γ b → is_phrase σ b ≡ true
+  pub stands_phrase : {p : ℕ} {σ : Phrase} {Γ : Context} {b : Tree} → Stands game p σ Γ b → is_oracle_phrase σ b ≡ true
   stands_phrase root = fine.phrase
   stands_phrase (in_first {σ = σ} {τ = τ} {ρ = ρ} {h = h} {a = a} {b = b} e st) = (phrase_parts σ τ ρ h a b e (stands_phrase st)).0
   stands_phrase (in_second {σ = σ} {τ = τ} {ρ = ρ} {h = h} {a = a} {b = b} e st) = (phrase_parts σ τ ρ h a b e (stands_phrase st)).1

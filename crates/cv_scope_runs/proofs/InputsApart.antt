@@ -10,7 +10,7 @@ use Rattle.cv_meaning.specs.Memory.{tuple}
 use Rattle.cv_meaning.specs.Inputs.{Input}
 use Rattle.cv_meaning.specs.Runs.{Mode, Adversary}
 use Rattle.cv_meaning.specs.Experiments.{run, coins_on}
-use Rattle.cv_meaning.proofs.Counts.{same_tuple_exact}
+use Rattle.cv_meaning_laws.proofs.Counts.{same_tuple_exact}
 use Rattle.cv_meaning_runs.specs.Placed.{IsInputOn, InputHas}
 use Rattle.cv_meaning_runs.specs.Spots.{same_address}
 use Rattle.cv_meaning_runs.proofs.Lists.{all_both}

@@ -13,6 +13,7 @@ pub mod Games
 pub mod PathRuns
 pub mod ServeRuns
 pub mod FactsRuns
+pub mod KeysListed
 pub mod Covered
 pub mod PlainlyDirect
 pub mod ConsultedOnce

@@ -3,7 +3,7 @@ use Rattle.std.proofs.Common.{◌≡◌, ℕ, ◌+◌, Bool, true, false, ◌||�
 use Rattle.std.proofs.lemmas.Bool.{both_ways}
 use Rattle.std.specs.List.{AllByRecursion}
 use Rattle.cv_syntax.specs.declared.head.Head.{Head}
-use Rattle.cv_syntax.specs.declared.head.Head.TheVariants.{Par, In, New, Let, Find, Branch, Cons, Binder}
+use Rattle.cv_syntax.specs.declared.head.Head.TheVariants.{Par, In, New, Let, Find, Branch, Cons, Binder, Key, Call}
 use Rattle.cv_syntax.specs.Tree.{Tree, Empty, Node, second, first_place, second_place}
 use Rattle.cv_meaning.specs.Tapes.{Tape}
 use Rattle.cv_meaning.specs.Interpretation.{Setting}
@@ -69,6 +69,10 @@ made_named rs p (New x T) a (Variable y) e = inl (same_variable x y e)
 made_named rs p (New x T) a y e = absurd (both_ways _ refl e)
 made_named rs p (Let x T) a (Variable y) e = inl (same_variable x y e)
 made_named rs p (Let x T) a y e = absurd (both_ways _ refl e)
+made_named rs p (Key x) a (Variable y) e = inl (same_variable x y e)
+made_named rs p (Key x) a y e = absurd (both_ways _ refl e)
+made_named rs p (Call x l) a (Variable y) e = inl (same_variable x y e)
+made_named rs p (Call x l) a y e = absurd (both_ways _ refl e)
 made_named rs p (In c) a (Variable y) e = name_left (Variable y) (variable_sites rs p (second a)) (channel_here rs p (In c) a) (bound_named rs p (second a) y e)
 made_named rs p (In c) a (Channel d) e = name_right (Channel d) (variable_sites rs p (second a)) (channel_here rs p (In c) a) (inl (ap Channel (sym (eqb-true d c e))))
 made_named rs p (In c) a (Label y) e = absurd (both_ways _ refl e)

@@ -1,26 +1,29 @@
 -- In a run of a well-formed game, each construct keeps what is known: what its row of the table promises.
-use Rattle.std.proofs.Common.{◌≡◌, ℕ, zero, suc, ◌<◌, Bool, true, false, cond, not, ◌==◌, List, [], ◌∷◌, ◌++◌, ◌⊎◌, inl, inr, Option, Some, None, is_some, flat_map, refl, sym, ap, ap₂, subst, ◌∙◌, append-nil, eqb-true, eq-eqb, arith}
-use Rattle.std.proofs.lemmas.Bool.{both_ways, and_parts}
+use Rattle.std.proofs.Common.{◌≡◌, ℕ, zero, suc, ◌<◌, Bool, true, false, cond, ◌&&◌, ◌||◌, not, ◌==◌, nat_lt, List, [], ◌∷◌, ◌++◌, ◌⊎◌, inl, inr, Option, Some, None, is_some, flat_map, refl, sym, ap, ap₂, subst, ◌∙◌, append-nil, eqb-true, eq-eqb, arith}
+use Rattle.std.proofs.lemmas.Bool.{both_ways, and_parts, not-true, ltb-true}
 use Rattle.std.specs.List.{AllByRecursion}
 use Rattle.cv_syntax.specs.declared.head.Head.{Head}
-use Rattle.cv_syntax.specs.declared.head.Head.TheVariants.{Par, Repl, In, Out, Event, New, Let, If, Find, Branch, Eq, Not, Cons}
+use Rattle.cv_syntax.specs.declared.head.Head.TheVariants.{Par, Repl, In, Out, Event, New, Let, If, Find, Branch, Eq, Not, Cons, Binder, Key, Call}
 use Rattle.cv_syntax.specs.Layouts.{IsSyntax}
 use Rattle.cv_syntax.specs.Tree.{Tree, Empty, Node, second, first_place, second_place}
-use Rattle.cv_meaning.specs.Tapes.{Tape, New_at, Find_at}
+use Rattle.cv_meaning.specs.Tapes.{Tape, New_at, Find_at, same_tuple}
 use Rattle.cv_meaning.specs.Interpretation.{Setting}
 use Rattle.cv_meaning.specs.Memory.{Memory, Store, Indices, Happened, Local, put, tuple}
 use Rattle.cv_meaning.specs.Terms.{bit, is_one, or_zero, value, value_here, values_here}
 use Rattle.cv_meaning.specs.Binders.{fits, bound_to}
 use Rattle.cv_meaning.specs.Candidates.{Candidate, below, is_candidate, are_assigned, candidates, chosen}
 use Rattle.cv_meaning.specs.Inputs.{Input, inputs_of}
-use Rattle.cv_meaning.specs.Serving.{Served, Turn, Ends, First, Second, after_find, step}
-use Rattle.cv_meaning.proofs.Direct.{each_append}
+use Rattle.cv_meaning.specs.Serving.{Served, Turn, Ends, First, Second, after_find, step, oracle_call}
+use Rattle.cv_meaning_laws.proofs.Counts.{same_tuple_exact}
+use Rattle.cv_meaning_laws.proofs.Lists.{each_append}
 use Rattle.cv_meaning_runs.proofs.Copies.{all_below}
-use Rattle.cv_scope.specs.Context.{Context, cell_of, cells_of, items, with_fact}
+use Rattle.cv_scope.specs.Context.{Context, cell_of, cells_of, items, with_cells, with_fact}
 use Rattle.cv_scope.specs.Sites.{Variable}
-use Rattle.cv_scope_runs.specs.Phrases.{Phrase, Nil, Inputs, Body, Then, Else, Branches, Arm, Guards, Guarded, Pattern, Binders, Cells, Terms, Term, is_phrase}
+use Rattle.cv_scope_runs.specs.Phrases.{Phrase, Nil, Inputs, Body, Then, Else, Branches, Arm, Guards, Guarded, Pattern, Binders, Cells, Terms, Term, is_oracle_phrase}
 use Rattle.cv_scope_runs.specs.Reads.{IsKept}
 use Rattle.cv_scope_runs.specs.Made.{is_bound, made_by}
+use Rattle.cv_scope_runs.specs.Indexed.{binds_below, head_indexes}
+use Rattle.cv_scope_runs.proofs.OnceGames.{or_left, or_right}
 use Rattle.cv_scope_runs.specs.Promises.{EventsKept, GrowsTo, after_site}
 use Rattle.cv_scope_runs.proofs.FreshRuns.{put_made, bound_made, IsClear}
 use Rattle.cv_scope_runs.proofs.TermsLater.{Readable, AllReadable, Extends, some_of, store_extends, value_kept, readable_kept}
@@ -41,6 +44,55 @@ grows_same x = record { store = λ y u v e. e; events = λ e h. h }
 pub grows_then : (x y z : Memory) → GrowsTo x y → GrowsTo y z → GrowsTo x z
 grows_then x y z a b = record { store = λ w u v e. b.store w u v (a.store w u v e); events = λ e h. b.events e (a.events e h) }
 
+-- values of index variables are below their parameters
+
+abbrev pub IsBelow : Setting → Head → Tree → ℕ → ℕ → Type 0
+IsBelow g h a x v = (n : ℕ) → head_indexes x n h a ≡ true → v < g.interpretation.parameter_value n
+
+-- a value that was there before, or that the node has assigned
+abbrev pub MadeHere : Setting → Head → Tree → Store → List ℕ → ℕ → List ℕ → ℕ → Type 0
+MadeHere g h a m u y w z = (m y w ≡ Some z) ⊎ ((made_by h a (Variable y) ≡ true) × (w ≡ u) × IsBelow g h a y z)
+
+-- what is made by a node that is no branch
+made_unindexed : (g : Setting) (h : Head) (a : Tree) (m : Store) (u : List ℕ) (y : ℕ) (w : List ℕ) (z : ℕ) → ((n : ℕ) → head_indexes y n h a ≡ not (made_by h a (Variable y))) → (m y w ≡ Some z) ⊎ ((made_by h a (Variable y) ≡ true) × (w ≡ u)) → MadeHere g h a m u y w z
+made_unindexed g h a m u y w z same (inl i) = inl i
+made_unindexed g h a m u y w z same (inr i) = inr (i.0, i.1, λ n e. absurd (both_ways (made_by h a (Variable y)) (not-true _ (sym (same n) ∙ e)) i.0))
+
+put_value : (m : Store) (x : ℕ) (u : List ℕ) (v y : ℕ) (w : List ℕ) (z : ℕ) → put m x u v y w ≡ Some z → (m y w ≡ Some z) ⊎ (((y == x) ≡ true) × (w ≡ u) × (v ≡ z))
+unfolding put
+put_value m x u v y w z e = go (y == x) (same_tuple w u) refl refl e
+  where
+    go : (b c : Bool) → (y == x) ≡ b → same_tuple w u ≡ c → cond (b && c) (Some v) (m y w) ≡ Some z → (m y w ≡ Some z) ⊎ (((y == x) ≡ true) × (w ≡ u) × (v ≡ z))
+    go true true i j k = inr (i, same_tuple_exact w u j, (let q : v ≡ z = cc in q))
+    go true false i j k = inl k
+    go false c i j k = inl k
+
+either_true : (a b : Bool) → a ≡ true → (not a || b) ≡ true → b ≡ true
+either_true true b e f = f
+either_true false b e f = absurd (both_ways _ refl e)
+
+-- what binders make has values below their ranges
+bound_values_below : (range : ℕ → ℕ) (m : Store) (u : List ℕ) (bs : Tree) (vs : List ℕ) → fits range bs vs ≡ true → (y : ℕ) (w : List ℕ) (z : ℕ) → bound_to m u bs vs y w ≡ Some z
+    → (m y w ≡ Some z) ⊎ ((is_bound bs y ≡ true) × (w ≡ u) × ((n : ℕ) → binds_below y n bs ≡ true → z < range n))
+unfolding bound_to is_bound
+bound_values_below range m u (Node (Binder x T) a b) (v ∷ vs) f y w z e = go (bound_values_below range (put m x u v) u b vs (and_parts (nat_lt v (range T)) _ f).1 y w z e)
+  where
+    put_case : (m y w ≡ Some z) ⊎ (((y == x) ≡ true) × (w ≡ u) × (v ≡ z)) → (m y w ≡ Some z) ⊎ (((y == x) || is_bound b y ≡ true) × (w ≡ u) × ((n : ℕ) → binds_below y n (Node (Binder x T) a b) ≡ true → z < range n))
+    put_case (inl k) = inl k
+    put_case (inr k) = inr (
+      or_left (y == x) _ k.0,
+      k.1,
+      λ n q.
+          let same : T ≡ n = eqb-true T n (either_true (x == y) (T == n) (eq-eqb x y (sym (eqb-true y x k.0))) (and_parts (not (x == y) || (T == n)) _ q).0) in
+          let below : v < range T = ltb-true v (range T) (and_parts (nat_lt v (range T)) _ f).0 in
+          subst (λ r. r < range n) k.2 (subst (λ r. v < range r) same below),
+    )
+
+    go : (put m x u v y w ≡ Some z) ⊎ ((is_bound b y ≡ true) × (w ≡ u) × ((n : ℕ) → binds_below y n b ≡ true → z < range n)) → (m y w ≡ Some z) ⊎ (((y == x) || is_bound b y ≡ true) × (w ≡ u) × ((n : ℕ) → binds_below y n (Node (Binder x T) a b) ≡ true → z < range n))
+    go (inl k) = put_case (put_value m x u v y w z k)
+    go (inr k) = inr (or_right (y == x) _ k.0, k.1, λ n q. k.2 n (and_parts (not (x == y) || (T == n)) _ q).1)
+bound_values_below range m u _ _ f y w z e = inl e
+
 module _ (g : Setting) (variable : ℕ → Bool) (game : Tree) (fine : Game g variable game) where
   -- what a term or a list of terms of the game reads is assigned where what is known holds
 
@@ -51,7 +103,7 @@ module _ (g : Setting) (variable : ℕ → Bool) (game : Tree) (fine : Game g va
   terms_read {Γ = Γ} {a = a} st at m es k h = all_scope_readable g variable Γ at m es k h a (stands_phrase g variable game fine st) (stands_asked g variable game fine st)
 
   -- the path of a site holds
-  pub record SiteHolds (x : ℕ) (u : List ℕ) (m : Store) (es : List Happened) : Type 0 where
+  pub record SiteHolds (x : ℕ) (u : List ℕ) (v : ℕ) (m : Store) (es : List Happened) : Type 0 where
     pub place : ℕ
     pub phrase : Phrase
     pub above : Context
@@ -61,12 +113,13 @@ module _ (g : Setting) (variable : ℕ → Bool) (game : Tree) (fine : Game g va
     pub indices : Indices
     pub stands : Stands game place phrase above (Node head one two)
     pub defines : made_by head one (Variable x) ≡ true
+    pub below : IsBelow g head one x v
     pub at : tuple indices ≡ u
     pub matches : Matches g variable (after_site head one two above).replications indices
     pub holds : Holds g variable (after_site head one two above) indices m es
 
   abbrev pub StoreHolds : Store → List Happened → Type 0
-  StoreHolds m es = (x : ℕ) (u : List ℕ) (v : ℕ) → m x u ≡ Some v → SiteHolds x u m es
+  StoreHolds m es = (x : ℕ) (u : List ℕ) (v : ℕ) → m x u ≡ Some v → SiteHolds x u v m es
 
   pub only_variables : (m : Store) (es : List Happened) → StoreHolds m es → OnlyVariables g variable m
   only_variables m es h x u e = let r = some_of (m x u) e in let k = h x u r.0 r.1 in stands_variable g variable game fine k.stands x k.defines
@@ -74,8 +127,8 @@ module _ (g : Setting) (variable : ℕ → Bool) (game : Tree) (fine : Game g va
   pub later_holds : (Γ : Context) (at : Indices) (m : Store) (es : List Happened) (n : Store) (fs : List Happened) → IsKept m n → EventsKept es fs → Holds g variable Γ at m es → Holds g variable Γ at n fs
   later_holds Γ at m es n fs l w h = holds_kept g variable Γ at m at n es fs (store_extends g variable at m n l) w h
 
-  site_later : (x : ℕ) (u : List ℕ) (m : Store) (es : List Happened) (n : Store) (fs : List Happened) → IsKept m n → EventsKept es fs → SiteHolds x u m es → SiteHolds x u n fs
-  site_later x u m es n fs l w s = record {
+  site_later : (x : ℕ) (u : List ℕ) (v : ℕ) (m : Store) (es : List Happened) (n : Store) (fs : List Happened) → IsKept m n → EventsKept es fs → SiteHolds x u v m es → SiteHolds x u v n fs
+  site_later x u v m es n fs l w s = record {
     place = s.place;
     phrase = s.phrase;
     above = s.above;
@@ -85,6 +138,7 @@ module _ (g : Setting) (variable : ℕ → Bool) (game : Tree) (fine : Game g va
     indices = s.indices;
     stands = s.stands;
     defines = s.defines;
+    below = s.below;
     at = s.at;
     matches = s.matches;
     holds = later_holds (after_site s.head s.one s.two s.above) s.indices m es n fs l w s.holds;
@@ -92,13 +146,13 @@ module _ (g : Setting) (variable : ℕ → Bool) (game : Tree) (fine : Game g va
 
   -- after a definition
   stores_more : (p : ℕ) (σ : Phrase) (Γ : Context) (h : Head) (a b : Tree) (at : Indices) (m n : Store) (es : List Happened) → Stands game p σ Γ (Node h a b) → Matches g variable (after_site h a b Γ).replications at → IsKept m n
-      → ((y : ℕ) (w : List ℕ) (z : ℕ) → n y w ≡ Some z → (m y w ≡ Some z) ⊎ ((made_by h a (Variable y) ≡ true) × (w ≡ tuple at)))
+      → ((y : ℕ) (w : List ℕ) (z : ℕ) → n y w ≡ Some z → MadeHere g h a m (tuple at) y w z)
       → Holds g variable (after_site h a b Γ) at n es → StoreHolds m es → StoreHolds n es
   stores_more p σ Γ h a b at m n es st k l made hold old y w z e = go (made y w z e)
     where
-      go : (m y w ≡ Some z) ⊎ ((made_by h a (Variable y) ≡ true) × (w ≡ tuple at)) → SiteHolds y w n es
-      go (inl i) = site_later y w m es n es l (λ e h. h) (old y w z i)
-      go (inr i) = record { place = p; phrase = σ; above = Γ; head = h; one = a; two = b; indices = at; stands = st; defines = i.0; at = sym i.1; matches = k; holds = hold }
+      go : MadeHere g h a m (tuple at) y w z → SiteHolds y w z n es
+      go (inl i) = site_later y w z m es n es l (λ e h. h) (old y w z i)
+      go (inr i) = record { place = p; phrase = σ; above = Γ; head = h; one = a; two = b; indices = at; stands = st; defines = i.0; below = i.2; at = sym i.1; matches = k; holds = hold }
 
   -- available inputs
 
@@ -240,49 +294,96 @@ module _ (g : Setting) (variable : ℕ → Bool) (game : Tree) (fine : Game g va
 
   -- each row
 
+  -- a node of which all that is known behind it is the cell that it assigns
+  record Assigned (p : ℕ) (Γ : Context) (h : Head) (a b : Tree) (x v : ℕ) (s : Local) : Type 0 where
+    later : IsKept s.memory.store (put s.memory.store x (tuple s.indices) v)
+    own : CellHolds g variable s.indices (put s.memory.store x (tuple s.indices) v) (cell_of Γ.replications x)
+    old : Holds g variable Γ s.indices (put s.memory.store x (tuple s.indices) v) s.memory.events
+    made : (y : ℕ) (w : List ℕ) (z : ℕ) → put s.memory.store x (tuple s.indices) v y w ≡ Some z → (s.memory.store y w ≡ Some z) ⊎ (((y == x) ≡ true) × (w ≡ tuple s.indices))
+
+  cell_assigned : (p : ℕ) (σ : Phrase) (Γ : Context) (h : Head) (a b : Tree) (x v : ℕ) (s : Local) → made_by h a (Variable x) ≡ true → Stands game p σ Γ (Node h a b) → Matches g variable Γ.replications s.indices → Holds g variable Γ s.indices s.memory.store s.memory.events
+      → IsClear (record { place = p; tree = Node h a b; before = s }) → Assigned p Γ h a b x v s
+  cell_assigned p σ Γ h a b x v s e st k hold clear =
+      let u : List ℕ = tuple s.indices in
+      let n : Store = put s.memory.store x u v in
+      let l : IsKept s.memory.store n = put_later s.memory.store x u v (own_clear p h a b s clear x e) in
+      record {
+        later = l;
+        own = own_holds g variable fine.apart Γ.replications s.indices n k x (stands_variable g variable game fine st x e) (ap is_some (put_here s.memory.store x u v));
+        old = later_holds Γ s.indices s.memory.store s.memory.events n s.memory.events l (λ e h. h) hold;
+        made = λ y w z e. put_made s.memory.store x u v y w z e;
+      }
+
+  with_own : (p : ℕ) (Γ : Context) (h : Head) (a b : Tree) (x v : ℕ) (s : Local) → Assigned p Γ h a b x v s → Holds g variable (with_cells Γ (cell_of Γ.replications x ∷ [])) s.indices (put s.memory.store x (tuple s.indices) v) s.memory.events
+  with_own p Γ h a b x v s k = record {
+    cells = each_append (CellHolds g variable s.indices (put s.memory.store x (tuple s.indices) v)) Γ.cells (cell_of Γ.replications x ∷ []) k.old.cells (k.own, tt);
+    own = k.old.own;
+    facts = k.old.facts;
+    events = k.old.events;
+  }
+
   new_goes : (t : Tape) (p : ℕ) (Γ : Context) (x T : ℕ) (a b : Tree) (k : ℕ) (vs : List ℕ) (s : Local) → Stands game p Body Γ (Node (New x T) a b) → Comes Body Γ (Node (New x T) a b) k vs s → IsClear (record { place = p; tree = Node (New x T) a b; before = s })
       → turn_holds Body Nil Body Γ (New x T) a b s (step g t (New x T) a b p k vs s)
   unfolding turn_holds step
   new_goes t p Γ x T a b k vs s st come clear =
-      let u : List ℕ = tuple s.indices in
-      let v : ℕ = t (New_at x u) in
-      let n : Store = put s.memory.store x u v in
-      let l : IsKept s.memory.store n = put_later s.memory.store x u v (own_clear p (New x T) a b s clear x (eq-eqb x x refl)) in
-      let old : Holds g variable Γ s.indices n s.memory.events = later_holds Γ s.indices s.memory.store s.memory.events n s.memory.events l (λ e h. h) come.holds in
-      let own : CellHolds g variable s.indices n (cell_of Γ.replications x) = own_holds g variable fine.apart Γ.replications s.indices n come.matches x (stands_variable g variable game fine st x (eq-eqb x x refl)) (ap is_some (put_here s.memory.store x u v)) in
-      let new : Holds g variable (second_below Body (New x T) a Γ) s.indices n s.memory.events = record { cells = each_append (CellHolds g variable s.indices n) Γ.cells (cell_of Γ.replications x ∷ []) old.cells (own, tt); own = old.own; facts = old.facts; events = old.events } in
+      let v : ℕ = t (New_at x (tuple s.indices)) in
+      let n : Store = put s.memory.store x (tuple s.indices) v in
+      let c : Assigned p Γ (New x T) a b x v s = cell_assigned p Body Γ (New x T) a b x v s (eq-eqb x x refl) st come.matches come.holds clear in
+      let new : Holds g variable (second_below Body (New x T) a Γ) s.indices n s.memory.events = with_own p Γ (New x T) a b x v s c in
       record {
-        comes = record { walks = refl; promise = tt; matches = come.matches; holds = new; stores = stores_more p Body Γ (New x T) a b s.indices s.memory.store n s.memory.events st come.matches l (λ y w z e. put_made s.memory.store x u v y w z e) new come.stores };
-        grown = record { store = l; events = λ e h. h };
+        comes = record { walks = refl; promise = tt; matches = come.matches; holds = new; stores = stores_more p Body Γ (New x T) a b s.indices s.memory.store n s.memory.events st come.matches c.later (λ y w z e. made_unindexed g (New x T) a s.memory.store (tuple s.indices) y w z (λ i. refl) (c.made y w z e)) new come.stores };
+        grown = record { store = c.later; events = λ e h. h };
+      }
+
+  key_goes : (t : Tape) (p : ℕ) (Γ : Context) (x : ℕ) (a b : Tree) (k : ℕ) (vs : List ℕ) (s : Local) → Stands game p Body Γ (Node (Key x) a b) → Comes Body Γ (Node (Key x) a b) k vs s → IsClear (record { place = p; tree = Node (Key x) a b; before = s })
+      → turn_holds Body Nil Body Γ (Key x) a b s (step g t (Key x) a b p k vs s)
+  unfolding turn_holds step
+  key_goes t p Γ x a b k vs s st come clear =
+      let n : Store = put s.memory.store x (tuple s.indices) 0 in
+      let c : Assigned p Γ (Key x) a b x 0 s = cell_assigned p Body Γ (Key x) a b x 0 s (eq-eqb x x refl) st come.matches come.holds clear in
+      let new : Holds g variable (second_below Body (Key x) a Γ) s.indices n s.memory.events = with_own p Γ (Key x) a b x 0 s c in
+      record {
+        comes = record { walks = refl; promise = tt; matches = come.matches; holds = new; stores = stores_more p Body Γ (Key x) a b s.indices s.memory.store n s.memory.events st come.matches c.later (λ y w z e. made_unindexed g (Key x) a s.memory.store (tuple s.indices) y w z (λ i. refl) (c.made y w z e)) new come.stores };
+        grown = record { store = c.later; events = λ e h. h };
+      }
+
+  call_goes : (t : Tape) (p : ℕ) (Γ : Context) (x l : ℕ) (a b : Tree) (k : ℕ) (vs : List ℕ) (s : Local) → Stands game p Body Γ (Node (Call x l) a b) → Comes Body Γ (Node (Call x l) a b) k vs s → IsClear (record { place = p; tree = Node (Call x l) a b; before = s })
+      → turn_holds Body Terms Body Γ (Call x l) a b s (step g t (Call x l) a b p k vs s)
+  unfolding turn_holds step
+  call_goes t p Γ x l a b k vs s st come clear =
+      let v : ℕ = (g.side.reply t s.memory.arrays (oracle_call g s l a)).value in
+      let n : Store = put s.memory.store x (tuple s.indices) v in
+      let c : Assigned p Γ (Call x l) a b x v s = cell_assigned p Body Γ (Call x l) a b x v s (eq-eqb x x refl) st come.matches come.holds clear in
+      let new : Holds g variable (second_below Body (Call x l) a Γ) s.indices n s.memory.events = with_own p Γ (Call x l) a b x v s c in
+      record {
+        comes = record { walks = refl; promise = tt; matches = come.matches; holds = new; stores = stores_more p Body Γ (Call x l) a b s.indices s.memory.store n s.memory.events st come.matches c.later (λ y w z e. made_unindexed g (Call x l) a s.memory.store (tuple s.indices) y w z (λ i. refl) (c.made y w z e)) new come.stores };
+        grown = record { store = c.later; events = λ e h. h };
       }
 
   let_goes : (t : Tape) (p : ℕ) (Γ : Context) (x T : ℕ) (a b : Tree) (k : ℕ) (vs : List ℕ) (s : Local) → Stands game p Body Γ (Node (Let x T) a b) → Comes Body Γ (Node (Let x T) a b) k vs s → IsClear (record { place = p; tree = Node (Let x T) a b; before = s })
       → turn_holds Body Term Body Γ (Let x T) a b s (step g t (Let x T) a b p k vs s)
   unfolding turn_holds step value
   let_goes t p Γ x T a b k vs s st come clear =
-      let u : List ℕ = tuple s.indices in
       let v : ℕ = value_here g s a in
-      let n : Store = put s.memory.store x u v in
-      let l : IsKept s.memory.store n = put_later s.memory.store x u v (own_clear p (Let x T) a b s clear x (eq-eqb x x refl)) in
-      let old : Holds g variable Γ s.indices n s.memory.events = later_holds Γ s.indices s.memory.store s.memory.events n s.memory.events l (λ e h. h) come.holds in
-      let w : variable x ≡ true = stands_variable g variable game fine st x (eq-eqb x x refl) in
-      let own : CellHolds g variable s.indices n (cell_of Γ.replications x) = own_holds g variable fine.apart Γ.replications s.indices n come.matches x w (ap is_some (put_here s.memory.store x u v)) in
+      let n : Store = put s.memory.store x (tuple s.indices) v in
+      let c : Assigned p Γ (Let x T) a b x v s = cell_assigned p Body Γ (Let x T) a b x v s (eq-eqb x x refl) st come.matches come.holds clear in
       let r : Readable g variable s.indices s.memory.store a = term_reads (in_first refl st) s.indices s.memory.store s.memory.events come.matches come.holds in
-      let ext : Extends g variable s.indices s.memory.store s.indices n = store_extends g variable s.indices s.memory.store n l in
-      let same : value g s.indices n (cell_of Γ.replications x) ≡ v = own_value g variable fine.apart Γ.replications s.indices n come.matches x w ∙ ap or_zero (put_here s.memory.store x u v) in
+      let ext : Extends g variable s.indices s.memory.store s.indices n = store_extends g variable s.indices s.memory.store n c.later in
+      let same : value g s.indices n (cell_of Γ.replications x) ≡ v = own_value g variable fine.apart Γ.replications s.indices n come.matches x (stands_variable g variable game fine st x (eq-eqb x x refl)) ∙ ap or_zero (put_here s.memory.store x (tuple s.indices) v) in
       let fact : FactHolds g variable s.indices n (Node Eq (cell_of Γ.replications x) a) = record {
-        readable = (own.readable, readable_kept g variable s.indices s.memory.store s.indices n ext a r);
+        readable = (c.own.readable, readable_kept g variable s.indices s.memory.store s.indices n ext a r);
         true = ap₂ (λ i j. bit (i == j)) same (value_kept g variable s.indices s.memory.store s.indices n ext a r) ∙ ap bit (eq-eqb v v refl);
       } in
+      let cell : Holds g variable (with_cells Γ (cell_of Γ.replications x ∷ [])) s.indices n s.memory.events = with_own p Γ (Let x T) a b x v s c in
       let new : Holds g variable (second_below Body (Let x T) a Γ) s.indices n s.memory.events = record {
-        cells = each_append (CellHolds g variable s.indices n) Γ.cells (cell_of Γ.replications x ∷ []) old.cells (own, tt);
-        own = old.own;
-        facts = each_append (FactHolds g variable s.indices n) Γ.facts (Node Eq (cell_of Γ.replications x) a ∷ []) old.facts (fact, tt);
-        events = old.events;
+        cells = cell.cells;
+        own = cell.own;
+        facts = each_append (FactHolds g variable s.indices n) Γ.facts (Node Eq (cell_of Γ.replications x) a ∷ []) cell.facts (fact, tt);
+        events = cell.events;
       } in
       record {
-        comes = record { walks = refl; promise = tt; matches = come.matches; holds = new; stores = stores_more p Body Γ (Let x T) a b s.indices s.memory.store n s.memory.events st come.matches l (λ y w z e. put_made s.memory.store x u v y w z e) new come.stores };
-        grown = record { store = l; events = λ e h. h };
+        comes = record { walks = refl; promise = tt; matches = come.matches; holds = new; stores = stores_more p Body Γ (Let x T) a b s.indices s.memory.store n s.memory.events st come.matches c.later (λ y w z e. made_unindexed g (Let x T) a s.memory.store (tuple s.indices) y w z (λ i. refl) (c.made y w z e)) new come.stores };
+        grown = record { store = c.later; events = λ e h. h };
       }
 
   input_goes : (t : Tape) (p : ℕ) (Γ : Context) (c : ℕ) (a b : Tree) (k : ℕ) (vs : List ℕ) (s : Local) → Stands game p Inputs Γ (Node (In c) a b) → Comes Inputs Γ (Node (In c) a b) k vs s → IsClear (record { place = p; tree = Node (In c) a b; before = s })
@@ -297,7 +398,7 @@ module _ (g : Setting) (variable : ℕ → Bool) (game : Tree) (fine : Game g va
       let own : AllByRecursion (CellHolds g variable s.indices n) (cells_of Γ.replications (second a)) = bound_cells g variable fine.apart Γ.replications s.indices come.matches g.interpretation.type_size s.memory.store n (second a) vs (stands_asked g variable game fine st).0.distinct (stands_variable g variable game fine st) free come.promise (λ x u v e. e) in
       let new : Holds g variable (second_below Inputs (In c) a Γ) s.indices n s.memory.events = record { cells = each_append (CellHolds g variable s.indices n) Γ.cells (cells_of Γ.replications (second a)) old.cells own; own = old.own; facts = old.facts; events = old.events } in
       record {
-        comes = record { walks = refl; promise = tt; matches = come.matches; holds = new; stores = stores_more p Inputs Γ (In c) a b s.indices s.memory.store n s.memory.events st come.matches l (λ y w z e. bound_made s.memory.store u (second a) vs y w z e) new come.stores };
+        comes = record { walks = refl; promise = tt; matches = come.matches; holds = new; stores = stores_more p Inputs Γ (In c) a b s.indices s.memory.store n s.memory.events st come.matches l (λ y w z e. made_unindexed g (In c) a s.memory.store u y w z (λ i. refl) (bound_made s.memory.store u (second a) vs y w z e)) new come.stores };
         grown = record { store = l; events = λ e h. h };
       }
 
@@ -315,7 +416,7 @@ module _ (g : Setting) (variable : ℕ → Bool) (game : Tree) (fine : Game g va
           promise = tt;
           matches = come.matches;
           holds = record { cells = old.cells; own = old.own; facts = old.facts; events = each_append (EventHolds g variable s.indices s.memory.store fs) Γ.events ((e, a) ∷ []) old.events (new, tt) };
-          stores = λ x u v i. site_later x u s.memory.store s.memory.events s.memory.store fs (λ x u v e. e) w (come.stores x u v i);
+          stores = λ x u v i. site_later x u v s.memory.store s.memory.events s.memory.store fs (λ x u v e. e) w (come.stores x u v i);
         };
         grown = record { store = λ x u v e. e; events = w };
       }
@@ -395,12 +496,12 @@ module _ (g : Setting) (variable : ℕ → Bool) (game : Tree) (fine : Game g va
   pub data GuardsShape : Tree → Type 0 where
     shape : (cells c body : Tree) → GuardsShape (Node Cons cells (Node Cons c body))
 
-  pub guards_shape : (b : Tree) → is_phrase Guards b ≡ true → GuardsShape b
-  unfolding is_phrase
+  pub guards_shape : (b : Tree) → is_oracle_phrase Guards b ≡ true → GuardsShape b
+  unfolding is_oracle_phrase
   guards_shape Empty f = absurd (both_ways _ refl f)
-  guards_shape (Node Cons cells Empty) f = absurd (both_ways _ refl (and_parts (is_phrase Cells cells) _ f).1)
+  guards_shape (Node Cons cells Empty) f = absurd (both_ways _ refl (and_parts (is_oracle_phrase Cells cells) _ f).1)
   guards_shape (Node Cons cells (Node Cons c body)) f = shape cells c body
-  guards_shape (Node Cons cells (Node h c body)) f = absurd (both_ways _ refl (and_parts (is_phrase Cells cells) _ f).1)
+  guards_shape (Node Cons cells (Node h c body)) f = absurd (both_ways _ refl (and_parts (is_oracle_phrase Cells cells) _ f).1)
   guards_shape (Node h cells b) f = absurd (both_ways _ refl f)
 
   branch_goes : (t : Tape) (p : ℕ) (Γ : Context) (a b : Tree) (k : ℕ) (vs : List ℕ) (s : Local) → GuardsShape b → Stands game p Arm Γ (Node Branch a b) → Comes Arm Γ (Node Branch a b) k vs s → IsClear (record { place = p; tree = Node Branch a b; before = s })
@@ -418,7 +519,7 @@ module _ (g : Setting) (variable : ℕ → Bool) (game : Tree) (fine : Game g va
           promise = (refl, (h.items, h.fact));
           matches = come.matches;
           holds = h.guards;
-          stores = stores_more p Arm Γ Branch us (Node Cons cells (Node Cons c body)) s.indices s.memory.store n s.memory.events st come.matches l (λ y w z e. bound_made s.memory.store u us vs y w z e) h.body come.stores;
+          stores = stores_more p Arm Γ Branch us (Node Cons cells (Node Cons c body)) s.indices s.memory.store n s.memory.events st come.matches l (λ y w z e. bound_values_below g.interpretation.parameter_value s.memory.store u us vs come.promise.fitting y w z e) h.body come.stores;
         };
         grown = record { store = l; events = λ e h. h };
       }
@@ -459,6 +560,8 @@ module _ (g : Setting) (variable : ℕ → Bool) (game : Tree) (fine : Game g va
       done_same s _ refl come.stores (inputs_hold b (second_place p (Out c) a) Γ s.indices s.memory.store s.memory.events (in_second refl st) come.matches come.holds)
   step_goes t _ _ _ _ (Rows.Row.restriction {x = x} {T = T}) p Γ a b k vs s st come clear = new_goes t p Γ x T a b k vs s st come clear
   step_goes t _ _ _ _ (Rows.Row.definition {x = x} {T = T}) p Γ a b k vs s st come clear = let_goes t p Γ x T a b k vs s st come clear
+  step_goes t _ _ _ _ (Rows.Row.key {x = x}) p Γ a b k vs s st come clear = key_goes t p Γ x a b k vs s st come clear
+  step_goes t _ _ _ _ (Rows.Row.call {x = x} {l = l}) p Γ a b k vs s st come clear = call_goes t p Γ x l a b k vs s st come clear
   step_goes t _ _ _ _ (Rows.Row.event {e = e}) p Γ a b k vs s st come clear = event_goes t p Γ e a b k vs s st come
   step_goes t _ _ _ _ Rows.Row.test p Γ a b k vs s st come clear = test_goes t p Γ a b k vs s st come
   step_goes t _ _ _ _ Rows.Row.bodies p Γ a b k vs s st come clear = bodies_goes t p Γ a b k vs s come

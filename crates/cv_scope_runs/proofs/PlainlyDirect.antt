@@ -19,20 +19,21 @@ use Rattle.cv_meaning.specs.Correspondences.{Correspondence, broken, can_match, 
 use Rattle.cv_meaning.specs.Chances.{AtMost, zero_chance}
 use Rattle.cv_meaning.specs.Advantage.{breaks, break_chance}
 use Rattle.cv_meaning.specs.Direct.{head_names, is_unbound, head_covered, noted_by, plainly_covered, IsPlainlyDirect}
-use Rattle.cv_meaning.proofs.Counts.{count_same, count_false}
-use Rattle.cv_meaning.proofs.Direct.{IsMetBy, AllMet}
+use Rattle.cv_meaning_laws.proofs.Counts.{count_same, count_false}
+use Rattle.cv_scope_runs.proofs.Covered.{IsMetBy, AllMet}
 use Rattle.cv_meaning_runs.proofs.Lists.{all_map, left_part, right_part}
 use Rattle.cv_scope.specs.declared.position.Position.{Position}
 use Rattle.cv_scope.specs.declared.position.Position.TheVariants.{Bodies, ElseBody, Guards, Guarded, Cells}
 use Rattle.cv_scope.specs.Context.{Context, first_context, second_context, item_context, rest_context}
 use Rattle.cv_scope.specs.Rules.{is_index}
 use Rattle.cv_scope.specs.Scope.{is_variable}
-use Rattle.cv_scope_runs.specs.Phrases.{Phrase, head_binds_none, binds_none, IsWellFormed, HasConstantsOf}
+use Rattle.cv_scope_runs.specs.Phrases.{Phrase, head_binds_none, binds_none, head_is_plain, is_plain, IsWellFormed, HasConstantsOf}
+use Rattle.cv_scope_runs.proofs.Plain.{game_context, game_plain}
 use Rattle.cv_scope_runs.proofs.TermsLater.{LeafReads, index, constant, cell}
 use Rattle.cv_scope_runs.proofs.Contexts.{Matches, Holds, index_none}
 use Rattle.cv_scope_runs.proofs.Rows.{position_of}
 use Rattle.cv_scope_runs.proofs.Standing.{Stands, root, in_first, in_second}
-use Rattle.cv_scope_runs.proofs.Games.{Game, no_site}
+use Rattle.cv_scope_runs.proofs.Games.{Game, no_variable}
 use Rattle.cv_scope_runs.proofs.ServeRuns.{VisitHolds, game_holds}
 use Rattle.cv_scope_runs.proofs.FactsRuns.{well_game}
 use Rattle.cv_scope_runs.proofs.Covered.{StandsForItself, event_met, met_push, none_breaks}
@@ -60,6 +61,8 @@ second_events w (Repl i n) a Γ = sym (append-nil Γ.events)
 second_events w (In c) a Γ = sym (append-nil Γ.events)
 second_events w (New x T) a Γ = sym (append-nil Γ.events)
 second_events w (Let x T) a Γ = sym (append-nil Γ.events)
+second_events w (Key x) a Γ = sym (append-nil Γ.events)
+second_events w (Call x l) a Γ = sym (append-nil Γ.events)
 second_events w (Event e) a Γ = refl
 second_events w If a Γ = sym (append-nil Γ.events)
 second_events w Branch a Γ = sym (append-nil Γ.events)
@@ -75,17 +78,22 @@ stands_covered own q game c (in_second {σ = σ} {Γ = Γ} {h = h} {a = a} {b = 
 
 -- a name that the game binds nowhere is no index and no variable
 
-heads_bind : (y : ℕ) (h : Head) → head_binds_none (λ z. z == y) h ≡ not (head_names h y)
-heads_bind y (Repl i n) = refl
-heads_bind y (New x T) = refl
-heads_bind y (Let x T) = refl
-heads_bind y (Binder x T) = refl
-heads_bind y h = refl
+heads_bind : (y : ℕ) (h : Head) → head_is_plain h ≡ true → head_binds_none (λ z. z == y) h ≡ not (head_names h y)
+heads_bind y (Repl i n) e = refl
+heads_bind y (New x T) e = refl
+heads_bind y (Let x T) e = refl
+heads_bind y (Binder x T) e = refl
+heads_bind y (Key x) e = absurd (both_ways _ refl e)
+heads_bind y (Call x l) e = absurd (both_ways _ refl e)
+heads_bind y h e = refl
 
-unbound_none : (y : ℕ) (b : Tree) → binds_none (λ z. z == y) b ≡ is_unbound b y
+unbound_none : (y : ℕ) (b : Tree) → is_plain b ≡ true → binds_none (λ z. z == y) b ≡ is_unbound b y
 unfolding binds_none is_unbound
-unbound_none y Empty = refl
-unbound_none y (Node h a b) = ap₂ ◌&&◌ (heads_bind y h) (ap₂ ◌&&◌ (unbound_none y a) (unbound_none y b))
+unbound_none y Empty e = refl
+unbound_none y (Node h a b) e =
+    let r = and_parts (head_is_plain h) _ e in
+    let s = and_parts (is_plain a) _ r.1 in
+    ap₂ ◌&&◌ (heads_bind y h r.0) (ap₂ ◌&&◌ (unbound_none y a s.0) (unbound_none y b s.1))
 
 item_replications : (w : Position) (Γ : Context) → (item_context w Γ).replications ≡ Γ.replications
 item_replications Bodies Γ = refl
@@ -116,6 +124,8 @@ second_apart w (Repl i k) a Γ y n e = index_push Γ.replications i k y e (not-t
 second_apart w (In c) a Γ y n e = e
 second_apart w (New x T) a Γ y n e = e
 second_apart w (Let x T) a Γ y n e = e
+second_apart w (Key x) a Γ y n e = e
+second_apart w (Call x l) a Γ y n e = e
 second_apart w (Event f) a Γ y n e = e
 second_apart w If a Γ y n e = e
 second_apart w Branch a Γ y n e = e
@@ -227,16 +237,16 @@ module _ (g : Setting) (q : Correspondence) where
       go None i ih = e
       go (Some a) i ih = ih a (right_part (VisitMet g q) (visits_of_move g t st a) _ i) (moved_met m t st a (left_part (VisitMet g q) (visits_of_move g t st a) _ i) e)
 
-unbound_no_variable : (game : Tree) (y : ℕ) → is_unbound game y ≡ true → is_variable game y ≡ false
-unbound_no_variable game y u = no_site (λ z. z == y) y (eq-eqb y y refl) game (unbound_none y game ∙ u) []
+unbound_no_variable : (game : Tree) → is_plain game ≡ true → (y : ℕ) → is_unbound game y ≡ true → is_variable game y ≡ false
+unbound_no_variable game e y u = no_variable (λ z. z == y) y (eq-eqb y y refl) game (unbound_none y game e ∙ u)
 
 module _ (ds : List Declaration) (g : Setting) (q : Correspondence) (a : Adversary) (game : Tree) (same : HasConstantsOf ds g) (well : IsWellFormed ds game) (direct : IsPlainlyDirect q game) where
   all_met : (t : Tape) → AllMet g q (run g Events a game t).memory.events
   unfolding run
   all_met t =
-      let fine : Game g (is_variable game) game = well_game ds g game same well in
+      let fine : Game g (is_variable game) game = well_game ds g game same (game_context ds game well) in
       run_met g q Events (a.next (coins_on t 0 a.coins)) t a.moves (start g game)
-      (all_map (VisitHolds g (is_variable game) game fine) (VisitMet g q) (visit_met g (is_variable game) game fine (unbound_no_variable game) q direct.covered) _
+      (all_map (VisitHolds g (is_variable game) game fine) (VisitMet g q) (visit_met g (is_variable game) game fine (unbound_no_variable game (game_plain ds game well)) q direct.covered) _
       (game_holds g (is_variable game) game fine Events (a.next (coins_on t 0 a.coins)) t a.moves).passes.visits)
       (λ e h. absurd h)
 

@@ -2,11 +2,11 @@
 use Rattle.std.proofs.Common.{◌≡◌, ℕ, Bool, true, false, Option, Some, None, refl, subst}
 use Rattle.std.proofs.lemmas.Bool.{both_ways}
 use Rattle.cv_syntax.specs.declared.head.Head.{Head}
-use Rattle.cv_syntax.specs.declared.head.Head.TheVariants.{Stop, Yield, Par, Repl, In, Out, Event, New, Let, If, Find, Branch, Leaf, Read, Apply, Eq, And, Or, Not, Yes, No, Cons, Binder, Name}
+use Rattle.cv_syntax.specs.declared.head.Head.TheVariants.{Stop, Yield, Par, Repl, In, Out, Event, New, Let, If, Find, Branch, Leaf, Read, Apply, Eq, And, Or, Not, Yes, No, Cons, Binder, Name, Key, Call}
 use Rattle.cv_scope.specs.declared.position.Position.{Position}
 use Rattle.cv_scope.specs.declared.position.Position.TheVariants as position
 use Rattle.cv_scope.specs.Context.{first_position, second_position}
-use Rattle.cv_scope_runs.specs.Phrases.{Phrase, Nil, Inputs, Body, Then, Else, Branches, Arm, Guards, Guarded, Pattern, Message, Indices, Binders, Cells, OneCell, Terms, Term, parts}
+use Rattle.cv_scope_runs.specs.Phrases.{Phrase, Nil, Inputs, Body, Then, Else, Branches, Arm, Guards, Guarded, Pattern, Message, Indices, Binders, Cells, OneCell, Terms, Term, oracle_parts}
 
 abbrev pub position_of : Phrase → Position
 position_of Then = position.Bodies
@@ -24,7 +24,7 @@ abbrev ArePlaced : Phrase → Head → Option (Phrase × Phrase) → Type 0
 ArePlaced σ h None = Unit {0}
 ArePlaced σ h (Some q) = (first_position (position_of σ) h ≡ position_of q.0) × (second_position (position_of σ) h ≡ position_of q.1)
 
-all_placed : (σ : Phrase) (h : Head) → ArePlaced σ h (parts σ h)
+all_placed : (σ : Phrase) (h : Head) → ArePlaced σ h (oracle_parts σ h)
 all_placed Inputs Stop = (refl, refl)
 all_placed Inputs Par = (refl, refl)
 all_placed Inputs (Repl i n) = (refl, refl)
@@ -33,6 +33,8 @@ all_placed Body Yield = (refl, refl)
 all_placed Body (Out c) = (refl, refl)
 all_placed Body (New x T) = (refl, refl)
 all_placed Body (Let x T) = (refl, refl)
+all_placed Body (Key x) = (refl, refl)
+all_placed Body (Call x l) = (refl, refl)
 all_placed Body (Event e) = (refl, refl)
 all_placed Body If = (refl, refl)
 all_placed Body (Find l) = (refl, refl)
@@ -61,7 +63,7 @@ all_placed Term Yes = (refl, refl)
 all_placed Term No = (refl, refl)
 all_placed σ h = tt
 
-pub placed : (σ τ ρ : Phrase) (h : Head) → parts σ h ≡ Some (τ, ρ) → (first_position (position_of σ) h ≡ position_of τ) × (second_position (position_of σ) h ≡ position_of ρ)
+pub placed : (σ τ ρ : Phrase) (h : Head) → oracle_parts σ h ≡ Some (τ, ρ) → (first_position (position_of σ) h ≡ position_of τ) × (second_position (position_of σ) h ≡ position_of ρ)
 placed σ τ ρ h e = subst (ArePlaced σ h) e (all_placed σ h)
 
 -- what a service walks through
@@ -86,6 +88,8 @@ pub data Row : Phrase → Head → Phrase → Phrase → Type 0 where
   output : {c : ℕ} → Row Body (Out c) Message Inputs
   restriction : {x T : ℕ} → Row Body (New x T) Nil Body
   definition : {x T : ℕ} → Row Body (Let x T) Term Body
+  key : {x : ℕ} → Row Body (Key x) Nil Body
+  call : {x l : ℕ} → Row Body (Call x l) Terms Body
   event : {e : ℕ} → Row Body (Event e) Terms Body
   test : Row Body If Term Then
   bodies : Row Then Cons Body Else
@@ -100,7 +104,7 @@ abbrev IsRow : Phrase → Head → Option (Phrase × Phrase) → Type 0
 IsRow σ h None = Unit {0}
 IsRow σ h (Some q) = walks σ ≡ true → Row σ h q.0 q.1
 
-all_rows : (σ : Phrase) (h : Head) → IsRow σ h (parts σ h)
+all_rows : (σ : Phrase) (h : Head) → IsRow σ h (oracle_parts σ h)
 all_rows Inputs Stop = λ w. stop
 all_rows Inputs Par = λ w. par
 all_rows Inputs (Repl i n) = λ w. repl
@@ -109,6 +113,8 @@ all_rows Body Yield = λ w. yield
 all_rows Body (Out c) = λ w. output
 all_rows Body (New x T) = λ w. restriction
 all_rows Body (Let x T) = λ w. definition
+all_rows Body (Key x) = λ w. key
+all_rows Body (Call x l) = λ w. call
 all_rows Body (Event e) = λ w. event
 all_rows Body If = λ w. test
 all_rows Body (Find l) = λ w. find
@@ -137,5 +143,5 @@ all_rows Term Yes = λ w. absurd (both_ways _ refl w)
 all_rows Term No = λ w. absurd (both_ways _ refl w)
 all_rows σ h = tt
 
-pub row : (σ : Phrase) (h : Head) (τ ρ : Phrase) → walks σ ≡ true → parts σ h ≡ Some (τ, ρ) → Row σ h τ ρ
+pub row : (σ : Phrase) (h : Head) (τ ρ : Phrase) → walks σ ≡ true → oracle_parts σ h ≡ Some (τ, ρ) → Row σ h τ ρ
 row σ h τ ρ w e = subst (IsRow σ h) e (all_rows σ h) w

@@ -11,15 +11,14 @@ use Rattle.cv_meaning.specs.Binders.{fits}
 use Rattle.cv_meaning.specs.Inputs.{Input, message_binders}
 use Rattle.cv_meaning.specs.Serving.{Served, Turn, Ends, First, Second, step, serve, after_turn, Visit, visits}
 use Rattle.cv_meaning.specs.Runs.{Mode, Answer, Move, Calls, Tests, Guesses, State, Taken, taken, admitted, if_fitting, called, told, tested_with, moved, run_from, start, begun, next_move, by_move, visits_of_call, visits_of_move, run_visits}
-use Rattle.cv_meaning.proofs.Direct.{each_append}
-use Rattle.cv_meaning.proofs.DirectRuns.{TakenEach, admitted_each}
+use Rattle.cv_meaning_laws.proofs.Lists.{each_append}
+use Rattle.cv_meaning_laws.proofs.Moves.{TakenEach, admitted_each}
 use Rattle.cv_meaning_runs.proofs.Lists.{all_map, all_cross, left_part, right_part}
 use Rattle.cv_scope.specs.Context.{Context, nothing_known}
 use Rattle.cv_scope.specs.Branches.{Pairs}
 use Rattle.cv_scope.proofs.Pairs.{pairs-append}
 use Rattle.cv_scope_runs.specs.Phrases.{Phrase, Inputs}
 use Rattle.cv_scope_runs.specs.Promises.{GrowsTo, VisitsGrow}
-use Rattle.cv_scope_runs.proofs.Plain.{phrase_plain}
 use Rattle.cv_scope_runs.proofs.FreshRuns.{IsClear, visits_clear}
 use Rattle.cv_scope_runs.proofs.Contexts.{Matches, Holds}
 use Rattle.cv_scope_runs.proofs.Rows.{row}
@@ -184,4 +183,4 @@ module _ (g : Setting) (variable : ℕ → Bool) (game : Tree) (fine : Game g va
   game_holds m next t n =
       run_holds m next t n (start g game)
       (record { stores = λ x u v e. cc; inputs = inputs_hold g variable game fine game 0 nothing_known [] nowhere [] root (record { named = tt; found = tt; apart = tt }) (record { cells = tt; own = tt; facts = tt; events = tt }) })
-      (visits_clear g m next t n game fine.branches (phrase_plain Inputs game fine.phrase))
+      (visits_clear g m next t n game fine.branches)

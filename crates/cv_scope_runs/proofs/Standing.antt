@@ -7,7 +7,7 @@ use Rattle.cv_syntax.specs.Tree.{Tree, Empty, Node, size, first_place, second_pl
 use Rattle.cv_scope.specs.declared.position.Position.{Position}
 use Rattle.cv_scope.specs.Context.{Context, nothing_known, first_position, second_position, first_context, second_context, context_at, known_at}
 use Rattle.cv_scope.specs.Sites.{Variable}
-use Rattle.cv_scope_runs.specs.Phrases.{Phrase, Inputs, parts}
+use Rattle.cv_scope_runs.specs.Phrases.{Phrase, Inputs, oracle_parts}
 use Rattle.cv_scope_runs.specs.Made.{made_by}
 use Rattle.cv_scope_runs.specs.Promises.{after_site, definitions_in, definitions_of, IsDefinition}
 use Rattle.cv_scope_runs.proofs.Rows.{position_of, placed}
@@ -22,8 +22,8 @@ second_below σ h a Γ = second_context (position_of σ) h a Γ
 -- the subtree stands at this place of the game, where such a phrase may stand, and this is known there
 pub data Stands (game : Tree) : ℕ → Phrase → Context → Tree → Type 0 where
   root : Stands game 0 Inputs nothing_known game
-  in_first : {p : ℕ} {σ τ ρ : Phrase} {Γ : Context} {h : Head} {a b : Tree} → parts σ h ≡ Some (τ, ρ) → Stands game p σ Γ (Node h a b) → Stands game (first_place p h) τ (first_below σ h Γ) a
-  in_second : {p : ℕ} {σ τ ρ : Phrase} {Γ : Context} {h : Head} {a b : Tree} → parts σ h ≡ Some (τ, ρ) → Stands game p σ Γ (Node h a b) → Stands game (second_place p h a) ρ (second_below σ h a Γ) b
+  in_first : {p : ℕ} {σ τ ρ : Phrase} {Γ : Context} {h : Head} {a b : Tree} → oracle_parts σ h ≡ Some (τ, ρ) → Stands game p σ Γ (Node h a b) → Stands game (first_place p h) τ (first_below σ h Γ) a
+  in_second : {p : ℕ} {σ τ ρ : Phrase} {Γ : Context} {h : Head} {a b : Tree} → oracle_parts σ h ≡ Some (τ, ρ) → Stands game p σ Γ (Node h a b) → Stands game (second_place p h a) ρ (second_below σ h a Γ) b
 
 -- contexts by places
 

@@ -1,6 +1,6 @@
 -- When each value that a construct reads has been assigned. Blanchet, TDSC 2008, section 2.
 use Rattle.std.specs.Prelude.{◌≡◌, ℕ, true, List, [], Option, Some, None, ◌⊎◌, is_some}
-use Rattle.cv_syntax.specs.declared.head.Head.TheVariants.{Leaf, Read, Apply, Let, If, Event, Out, Find}
+use Rattle.cv_syntax.specs.declared.head.Head.TheVariants.{Leaf, Read, Apply, Let, If, Event, Out, Find, Call}
 use Rattle.cv_syntax.specs.Tree.{Tree, Empty, Node, first, second}
 use Rattle.cv_meaning.specs.Interpretation.{Setting}
 use Rattle.cv_meaning.specs.Memory.{Store, Indices, Local, tuple}
@@ -61,6 +61,7 @@ abbrev pub ReadsAssigned : Setting → Tree → Local → Type 0
 ReadsAssigned g (Node (Let x T) a b) s = TermAssigned g s.indices s.memory.store a
 ReadsAssigned g (Node If a b) s = TermAssigned g s.indices s.memory.store a
 ReadsAssigned g (Node (Event e) a b) s = TermsAssigned g s.indices s.memory.store a
+ReadsAssigned g (Node (Call x l) a b) s = TermsAssigned g s.indices s.memory.store a
 ReadsAssigned g (Node (Out c) a b) s = TermsAssigned g s.indices s.memory.store (second a)
 ReadsAssigned g (Node (Find l) a b) s = BranchesAssigned g s.indices s.memory.store a
 ReadsAssigned g t s = Unit {0}

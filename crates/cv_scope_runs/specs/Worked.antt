@@ -8,8 +8,9 @@ use Rattle.cv_syntax.specs.Tree.{Tree, Empty, Node, lone, chain}
 use Rattle.cv_meaning.specs.Interpretation.{Setting, setting_of}
 use Rattle.cv_meaning.specs.Runs.{Adversary, Answer, Move, Calls}
 use Rattle.cv_meaning.specs.Correspondences.{Correspondence, correspondence_of}
-use Rattle.cv_meaning.specs.Worked.{leaf, read, input, output, event, correspondence, occurs, adversary}
-use Rattle.cv_scope.specs.Worked.{constants, repl, restriction}
+use Rattle.cv_syntax.specs.Builders.{leaf, read, input, output, event, correspondence, occurs}
+use Rattle.cv_meaning_laws.specs.Worked.{adversary}
+use Rattle.cv_scope.specs.Worked.{call, constants, key, repl, restriction, sends, starts}
 
 -- event 12(9) ==> event 11(9)
 abbrev pub begun_before : Correspondence
@@ -30,6 +31,10 @@ told_before = correspondence_of (correspondence ((9, 5) ∷ []) (occurs false 12
 -- in(3, (4:5)); event 11(30(4), 20); event 12(4); yield
 abbrev pub told : Tree
 told = input 3 [] ((4, 5) ∷ []) (event 11 (applied 4 ∷ leaf 20 ∷ []) (event 12 (leaf 4 ∷ []) (lone Yield)))
+
+-- in(3, ()); key 4; 10 <- call of site 1 under 4 with no arguments; out(6, (10))
+abbrev pub keyed : Tree
+keyed = starts (key 4 (call 10 1 (leaf 4 ∷ []) (sends 10)))
 
 -- in(3, (4:5)); event 11(4); let 4:5 = true in event 12(4); yield
 abbrev pub assigned_again : Tree

@@ -3,11 +3,8 @@ use Rattle.std.proofs.Common.{◌≡◌, ℕ, List, [], ◌++◌, refl, append_a
 use Rattle.std.proofs.lemmas.List.{append-nil}
 use Rattle.cv_pool.specs.KindTree.{NoTree}
 use Rattle.cv_syntax.specs.Tree.{Tree, Empty, Node, tree_of}
+use Rattle.cv_syntax.proofs.Trees.{tree_of-NoTree}
 use Rattle.cv_script.specs.Text.{line_text, lines_text, route_text, routes_text, entry_text, entries_text}
-
-pub no_tree : tree_of NoTree ≡ Empty
-unfolding tree_of
-no_tree = refl
 
 abbrev pub lines_parts : List (List ℕ) → Tree → List ℕ
 lines_parts names Empty = []
@@ -36,4 +33,4 @@ unfolding entries_text
 entries_open names Empty = refl
 entries_open names (Node h entry more) = refl
 
-pub ruleset text_laws = (lines_open, routes_open, entries_open, no_tree, append_assoc, append-nil)
+pub ruleset text_laws = (lines_open, routes_open, entries_open, tree_of-NoTree, append_assoc, append-nil)

@@ -1,6 +1,9 @@
 pub mod Arrangements
 pub mod Buildings
+pub mod ChildReads
+pub mod Equality
 pub mod Indexed
 pub mod Openings
 pub mod Plantings
+pub mod Trees
 pub mod Walking

@@ -76,6 +76,11 @@ queries [] = []
 queries (decl.Query n ∷ ds) = n ∷ queries ds
 queries (d ∷ ds) = queries ds
 
+-- the tree of a query
+abbrev pub query_of : Decl → Option NodeId
+query_of (decl.Query n) = Some n
+query_of d = None
+
 -- the item of a list at a place that is counted from 1
 abbrev pub from_one : List NodeId → ℕ → Option NodeId
 from_one ns zero = None

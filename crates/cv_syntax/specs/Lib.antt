@@ -1,7 +1,10 @@
+pub mod Builders
+pub mod Children
 pub mod Classes
 pub mod Declarations
 pub mod Head
 pub mod Layouts
+pub mod NameSets
 pub mod Planting
 pub mod Postorder
 pub mod Tree

@@ -37,6 +37,11 @@ abbrev pub binders : List (ℕ × ℕ) → Tree
 binders [] = Empty
 binders (b ∷ bs) = Node (Binder b.0 b.1) Empty (binders bs)
 
+-- the variables of a list of binders
+abbrev pub bound_names : Tree → List ℕ
+bound_names (Node (Binder x T) a b) = x ∷ bound_names b
+bound_names _ = []
+
 -- how many syntax nodes a tree has
 unfoldable pub size : Tree → ℕ
 size Empty = 0

@@ -1,6 +1,6 @@
-ghost use Rattle.std.specs.Prelude.{◌↔◌, All, None, ◌≡◌, ◌+◌, ◌<◌, ◌≤◌, ◌^◌, ◌++◌, ◌∷◌, [], length, take, slice_get, OnOk, OnErr};
+ghost use Rattle.std.specs.Prelude.{◌↔◌, All, None, ◌≡◌, ◌+◌, ◌<◌, ◌≤◌, ◌^◌, ◌++◌, ◌∷◌, [], length, option_and_then, take, slice_get, OnOk, OnErr};
 ghost use Rattle.std.specs.Option.{option_copied};
-ghost use Rattle.cv_syntax.specs.Classes.{DeclsView, id_of, declaration_in, class_by, class_in, result_in, args_in, equiv_in, equations, queries, from_one, name_at, IsNamed, IsNew};
+ghost use Rattle.cv_syntax.specs.Classes.{DeclsView, id_of, declaration_in, class_by, class_in, result_in, args_in, equiv_in, equations, queries, query_of, from_one, name_at, IsNamed, IsNew};
 ghost use Rattle.cv_syntax.specs.Declarations.{number};
 ghost use Rattle.cv_pool.specs.Nodes.{ChildBelow};
 ghost use Rattle.cv_syntax.specs.Tree.{tree_at};
@@ -272,4 +272,14 @@ fn name(pool: &Pool, list: Option<NodeId>, k: u32) -> Option<NameId>
         at = node.second;
     }
     None
+}
+
+/// The query at a place in a list of declarations, counted from 0, where one stands there.
+pub fn query_at(decls: &Decls, k: u32) -> Option<NodeId>
+    ensures { result ≡ option_and_then query_of (slice_get decls.now.list k) }
+{
+    match decls.get(k)? {
+        Decl::Query(query) => Some(*query),
+        Decl::Name { .. } | Decl::Equation(_) | Decl::Equiv { .. } => None,
+    }
 }

@@ -2,6 +2,7 @@
 #![tactic(auto)]
 
 mod building;
+pub mod children;
 mod decls;
 mod head;
 mod layout;
@@ -14,7 +15,7 @@ mod work;
 pub use building::{build, built_children};
 pub use cv_names::{NameError, NameId, Names};
 pub use cv_pool::{Kind, Mark, NodeId, Pool, PoolError};
-pub use decls::{Class, Decl, Decls};
+pub use decls::{Class, Decl, Decls, query_at};
 pub use head::Head;
 pub use make::Make;
 pub use open::{Opened, read_node};

@@ -32,6 +32,3 @@ pub use precedence::Precedence;
 pub use site::Site;
 pub use sort::Sort;
 pub use want::Want;
-
-#[cfg(test)]
-mod tests;

@@ -1,6 +1,6 @@
 use Rattle.std.proofs.Common.{true, ◌∙◌, mul-le-mul_right}
 use Rattle.cv_meaning.specs.Tapes.{blank, total}
-use Rattle.cv_meaning.proofs.Counts.{count_true, count_false}
+use Rattle.cv_meaning_laws.proofs.Counts.{count_true, count_false}
 use Rattle.cv_meaning_chances.proofs.Within.{count_le_off, count_same_off, count_cases, count_at_most, total_above}
 use Rattle.cv_meaning_chances.proofs.counts_of_tests.Goals as goal
 

@@ -1,4 +1,5 @@
 use Rattle.std.proofs.Common.{refl}
+use Rattle.cv_syntax.specs.Tree.{size}
 use Rattle.cv_meaning.specs.Tapes.{written, sum_below, count, total}
 use Rattle.cv_meaning.specs.Candidates.{tuples_up_to}
 use Rattle.cv_meaning_contexts.specs.Sites.{bounds_above, sites_from}
@@ -11,17 +12,17 @@ use Rattle.cv_meaning_contexts.proofs.Authentication.{authenticated}
 use Rattle.cv_meaning_contexts.proofs.worked_authentication.Goals as goal
 
 pub returns-clause-authenticated : goal.returns-clause-authenticated
-unfolding written sum_below count total tuples_up_to bounds_above sites_from put_at body_value body_values picks_at picks picked body_answer branch_answer reply body_cells
+unfolding size written sum_below count total tuples_up_to bounds_above sites_from put_at body_value body_values picks_at picks picked body_answer branch_answer reply body_cells
 returns-clause-authenticated c = authenticated
 
 pub returns-clause-other_key : goal.returns-clause-other_key
-unfolding written sum_below count total tuples_up_to bounds_above sites_from put_at body_value body_values picks_at picks picked body_answer branch_answer reply body_cells
+unfolding size written sum_below count total tuples_up_to bounds_above sites_from put_at body_value body_values picks_at picks picked body_answer branch_answer reply body_cells
 returns-clause-other_key c = λ i t m z. refl
 
 pub returns-clause-no_message : goal.returns-clause-no_message
-unfolding written sum_below count total tuples_up_to bounds_above sites_from put_at body_value body_values picks_at picks picked body_answer branch_answer reply body_cells
+unfolding size written sum_below count total tuples_up_to bounds_above sites_from put_at body_value body_values picks_at picks picked body_answer branch_answer reply body_cells
 returns-clause-no_message c = λ i t m z. refl
 
 pub returns-clause-other_side : goal.returns-clause-other_side
-unfolding written sum_below count total tuples_up_to bounds_above sites_from put_at body_value body_values picks_at picks picked body_answer branch_answer reply body_cells
+unfolding size written sum_below count total tuples_up_to bounds_above sites_from put_at body_value body_values picks_at picks picked body_answer branch_answer reply body_cells
 returns-clause-other_side c = λ i t m z. refl

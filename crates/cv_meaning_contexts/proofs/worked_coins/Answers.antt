@@ -1,4 +1,5 @@
 use Rattle.std.proofs.Common.{refl}
+use Rattle.cv_syntax.specs.Tree.{size}
 use Rattle.cv_meaning.specs.Tapes.{written, sum_below, count, total}
 use Rattle.cv_meaning.specs.Candidates.{tuples_up_to}
 use Rattle.cv_meaning_contexts.specs.Sites.{bounds_above, sites_from}
@@ -10,21 +11,21 @@ use Rattle.cv_meaning_contexts.specs.Sides.{body_cells}
 use Rattle.cv_meaning_contexts.proofs.worked_coins.Goals as goal
 
 pub returns-clause-left : goal.returns-clause-left
-unfolding written sum_below count total tuples_up_to bounds_above sites_from put_at body_value body_values picks_at picks picked body_answer branch_answer reply body_cells
+unfolding size written sum_below count total tuples_up_to bounds_above sites_from put_at body_value body_values picks_at picks picked body_answer branch_answer reply body_cells
 returns-clause-left c = λ i t. refl
 
 pub returns-clause-right : goal.returns-clause-right
-unfolding written sum_below count total tuples_up_to bounds_above sites_from put_at body_value body_values picks_at picks picked body_answer branch_answer reply body_cells
+unfolding size written sum_below count total tuples_up_to bounds_above sites_from put_at body_value body_values picks_at picks picked body_answer branch_answer reply body_cells
 returns-clause-right c = λ i t. refl
 
 pub returns-clause-left_cells : goal.returns-clause-left_cells
-unfolding written sum_below count total tuples_up_to bounds_above sites_from put_at body_value body_values picks_at picks picked body_answer branch_answer reply body_cells
+unfolding size written sum_below count total tuples_up_to bounds_above sites_from put_at body_value body_values picks_at picks picked body_answer branch_answer reply body_cells
 returns-clause-left_cells c = λ i. refl
 
 pub returns-clause-right_cells : goal.returns-clause-right_cells
-unfolding written sum_below count total tuples_up_to bounds_above sites_from put_at body_value body_values picks_at picks picked body_answer branch_answer reply body_cells
+unfolding size written sum_below count total tuples_up_to bounds_above sites_from put_at body_value body_values picks_at picks picked body_answer branch_answer reply body_cells
 returns-clause-right_cells c = λ i. refl
 
 pub returns-clause-key_size : goal.returns-clause-key_size
-unfolding written sum_below count total tuples_up_to bounds_above sites_from put_at body_value body_values picks_at picks picked body_answer branch_answer reply body_cells
+unfolding size written sum_below count total tuples_up_to bounds_above sites_from put_at body_value body_values picks_at picks picked body_answer branch_answer reply body_cells
 returns-clause-key_size c = λ i. refl

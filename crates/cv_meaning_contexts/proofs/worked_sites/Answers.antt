@@ -1,4 +1,5 @@
 use Rattle.std.proofs.Common.{refl}
+use Rattle.cv_syntax.specs.Tree.{size}
 use Rattle.cv_meaning.specs.Tapes.{written, sum_below, count, total}
 use Rattle.cv_meaning.specs.Candidates.{tuples_up_to}
 use Rattle.cv_meaning_contexts.specs.Sites.{bounds_above, sites_from}
@@ -10,5 +11,5 @@ use Rattle.cv_meaning_contexts.specs.Sides.{body_cells}
 use Rattle.cv_meaning_contexts.proofs.worked_sites.Goals as goal
 
 pub returns : goal.returns
-unfolding written sum_below count total tuples_up_to bounds_above sites_from put_at body_value body_values picks_at picks picked body_answer branch_answer reply body_cells
+unfolding size written sum_below count total tuples_up_to bounds_above sites_from put_at body_value body_values picks_at picks picked body_answer branch_answer reply body_cells
 returns c = refl

@@ -14,7 +14,7 @@ use Rattle.cv_typing.specs.Sites.{first_site, bound_sort}
 use Rattle.cv_typing.specs.Signature.{count}
 use Rattle.cv_scope.specs.Sites.{sites_from}
 use Rattle.cv_scope.specs.Standing.{at_root}
-use Rattle.cv_scope.specs.Scope.{first_fault, names_of, IsScoped}
+use Rattle.cv_scope.specs.Scope.{first_fault, is_untyped_in, names_of, IsScoped}
 use Rattle.cv_scope.specs.Worked.{constants}
 use Rattle.cv_scope.proofs.First.{scoped_where_none, none_where_scoped}
 use Rattle.cv_scope_runs.specs.Phrases.{is_phrase, binds_none}
@@ -25,7 +25,7 @@ some_none : {A : Type 0} (a : A) → ◌≡◌ {A = Option A} (Some a) None → 
 some_none a e = cc
 
 unscoped : IsScoped constants assigned_again → ⊥
-unfolding first_fault sites_from same_tree size first_site bound_sort count
+unfolding first_fault sites_from same_tree size first_site bound_sort count is_untyped_in
 unscoped s = some_none _ (none_where_scoped (names_of constants assigned_again) at_root assigned_again s)
 
 pub returns-clause-shape : goal.returns-clause-shape
@@ -52,7 +52,7 @@ unfolding plainly_covered is_substituted is_instance argument same_tree reads_on
 returns-clause-captured_shape c = record { inj = refl; others = refl; atoms = refl; covered = refl }
 
 pub returns-clause-captured_scope : goal.returns-clause-captured_scope
-unfolding first_fault sites_from same_tree size first_site bound_sort count
+unfolding first_fault sites_from same_tree size first_site bound_sort count is_untyped_in
 returns-clause-captured_scope c = scoped_where_none (names_of constants constant_captured) at_root constant_captured refl
 
 pub returns-clause-captured_phrase : goal.returns-clause-captured_phrase

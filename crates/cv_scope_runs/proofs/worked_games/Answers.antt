@@ -1,22 +1,23 @@
-use Rattle.std.proofs.Common.{[], ◌∷◌, refl}
+use Rattle.std.proofs.Common.{◌≡◌, false, [], ◌∷◌, refl}
+use Rattle.std.proofs.lemmas.Bool.{both_ways}
 use Rattle.cv_syntax.specs.Tree.{size, same_tree, reads_only, binds}
-use Rattle.cv_meaning.specs.Direct.{argument, is_substituted, is_instance, is_unbound, plainly_covered, kept, covered}
+use Rattle.cv_meaning.specs.Direct.{argument, is_substituted, is_instance, is_unbound, plainly_covered}
 use Rattle.cv_meaning.specs.Interpretation.{setting_of}
 use Rattle.cv_typing.specs.Sites.{first_site, bound_sort}
 use Rattle.cv_typing.specs.Signature.{count}
 use Rattle.cv_scope.specs.Sites.{sites_from}
 use Rattle.cv_scope.specs.Standing.{at_root}
-use Rattle.cv_scope.specs.Scope.{first_fault, names_of}
+use Rattle.cv_scope.specs.Scope.{first_fault, is_untyped_in, names_of}
 use Rattle.cv_scope.specs.Worked.{cell_found, constants, finds}
 use Rattle.cv_scope.proofs.First.{scoped_where_none}
-use Rattle.cv_scope_runs.specs.Phrases.{is_phrase, binds_none, IsWellFormed}
-use Rattle.cv_scope_runs.specs.Worked.{begun_before, sessions, told_before, told}
+use Rattle.cv_scope_runs.specs.Phrases.{Inputs, is_phrase, is_oracle_phrase, binds_none, IsWellFormed}
+use Rattle.cv_scope_runs.specs.Worked.{begun_before, keyed, sessions, told_before, told}
 use Rattle.cv_meaning.specs.Direct.{IsPlainlyDirect}
 use Rattle.cv_scope_runs.proofs.PlainlyDirect.{plainly_at_most}
 use Rattle.cv_scope_runs.proofs.worked_games.Goals as goal
 
 well : IsWellFormed [] sessions
-unfolding first_fault sites_from same_tree size first_site bound_sort count is_phrase binds_none
+unfolding first_fault sites_from same_tree size first_site bound_sort count is_untyped_in is_phrase binds_none
 well = record { scoped = scoped_where_none (names_of [] sessions) at_root sessions refl; phrase = refl; constants = refl }
 
 direct : IsPlainlyDirect begun_before sessions
@@ -29,24 +30,31 @@ returns-clause-sessions c = well
 pub returns-clause-shape : goal.returns-clause-shape
 returns-clause-shape c = direct
 
-pub returns-clause-body : goal.returns-clause-body
-unfolding covered kept is_substituted is_instance argument same_tree reads_only binds
-returns-clause-body c = refl
-
 pub returns-clause-never : goal.returns-clause-never
 returns-clause-never c = λ i a. plainly_at_most [] (setting_of [] i) begun_before a sessions refl well direct
 
 pub returns-clause-found : goal.returns-clause-found
-unfolding first_fault sites_from same_tree size first_site bound_sort count is_phrase binds_none
+unfolding first_fault sites_from same_tree size first_site bound_sort count is_untyped_in is_phrase binds_none
 returns-clause-found c = let game = finds (cell_found ∷ []) in record { scoped = scoped_where_none (names_of [] game) at_root game refl; phrase = refl; constants = refl }
 
 told_well : IsWellFormed constants told
-unfolding first_fault sites_from same_tree size first_site bound_sort count is_phrase binds_none
+unfolding first_fault sites_from same_tree size first_site bound_sort count is_untyped_in is_phrase binds_none
 told_well = record { scoped = scoped_where_none (names_of constants told) at_root told refl; phrase = refl; constants = refl }
 
 told_direct : IsPlainlyDirect told_before told
 unfolding plainly_covered is_substituted is_instance is_unbound argument same_tree reads_only
 told_direct = record { inj = refl; others = refl; atoms = refl; covered = refl }
+
+pub returns-clause-context : goal.returns-clause-context
+unfolding first_fault sites_from same_tree size first_site bound_sort count is_untyped_in is_oracle_phrase binds_none
+returns-clause-context c = record { scoped = scoped_where_none (names_of [] keyed) at_root keyed refl; phrase = refl; constants = refl }
+
+no_game : is_phrase Inputs keyed ≡ false
+unfolding is_phrase
+no_game = refl
+
+pub returns-clause-no_game : goal.returns-clause-no_game
+returns-clause-no_game c = λ w. both_ways (is_phrase Inputs keyed) no_game w.phrase
 
 pub returns-clause-terms : goal.returns-clause-terms
 returns-clause-terms c = told_well

@@ -3,9 +3,8 @@ use Rattle.std.specs.Prelude.{option_and_then, slice_get}
 use Rattle.cv_pool.specs.declared.node.NodeId.{NodeId}
 use Rattle.cv_pool.proofs.Growth.{Grows-length, Grows-trans}
 use Rattle.cv_syntax.specs.declared.decls.Decl.{Decl}
-use Rattle.cv_syntax.specs.Classes.{DeclsView}
+use Rattle.cv_syntax.specs.Classes.{DeclsView, query_of}
 use Rattle.cv_syntax.specs.Tree.{size, tree_at}
-use Rattle.cv_accept.specs.Lists.{query_of}
 use Rattle.cv_accept.proofs.QueryLists.{query-below, queries-skip, queries-take, queries-past}
 use Rattle.cv_query_direct.specs.Plain.{certificate}
 use Rattle.cv.specs.Findings.{said}

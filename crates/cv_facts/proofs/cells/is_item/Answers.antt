@@ -1,8 +1,8 @@
 use Rattle.std.proofs.Common.{rules, ap, refl, inl, inr, sym, ◌∙◌, Some}
 use Rattle.cv_syntax.specs.Tree.{tree_at}
+use Rattle.cv_syntax.proofs.Trees.{empty_at}
 use Rattle.cv_scope.specs.Context.{items}
 use Rattle.cv_scope.proofs.Trees.{same-tree, tree-same}
-use Rattle.cv_path.proofs.Going.{nothing}
 use Rattle.cv_facts.proofs.Comparing.{among_node, among_none, among_parts, among_rest}
 use Rattle.cv_facts.proofs.cells.is_item.Goals as goal
 
@@ -30,4 +30,4 @@ pub returns : goal.returns
 returns c =
     let trees = c.args.pool.now.trees in
     let t = tree_at trees (Some c.args.n) in
-    ((λ b. absurd (let z = b in cc)), (λ m. absurd (among_none t (tree_at trees c.items.at) (nothing trees c.items.at c.in_default.is) (c.items.invariant.left m))))
+    ((λ b. absurd (let z = b in cc)), (λ m. absurd (among_none t (tree_at trees c.items.at) (empty_at trees c.items.at c.in_default.is) (c.items.invariant.left m))))

@@ -1,7 +1,6 @@
 use Rattle.std.proofs.Common.{ap, subst, sym, ◌∙◌}
 use Rattle.cv_syntax.specs.Tree.{tree_at}
 use Rattle.cv_facts.specs.Cells.{ArePartsOf, IsAhead, indices_of}
-use Rattle.cv_path.proofs.Going.{nothing}
 use Rattle.cv_facts.proofs.Comparing.{apart_is, rest_is, named_apart, named_here, named_more}
 use Rattle.cv_facts.proofs.cells.name_here.Goals as goal
 
@@ -10,13 +9,12 @@ returns-in_default-ahead c =
     let trees = c.args.pool.now.trees in
     λ rs t p i. named_apart trees t c.in-Some.parts (subst (ArePartsOf trees t) c.in-Some.is p) rs (apart_is trees rs _ c.args.ahead c.in_default-ahead.is (subst (λ o. IsAhead trees rs (indices_of trees o) c.args.ahead) c.in-Some.is i))
 
-pub returns-in_default-rest : goal.returns-in_default-rest
-returns-in_default-rest c =
+pub returns-then-is_empty : goal.returns-then-is_empty
+returns-then-is_empty c =
     let trees = c.args.pool.now.trees in
-    λ rs t p i. named_here trees t c.in-Some.parts (subst (ArePartsOf trees t) c.in-Some.is p) rs (tree_at trees c.in-Rest.rest) (rest_is trees rs _ c.args.ahead c.in-Rest.rest c.in-Rest.is (subst (λ o. IsAhead trees rs (indices_of trees o) c.args.ahead) c.in-Some.is i)) (nothing trees c.in-Rest.rest c.in_default-rest.is)
+    λ rs t p i. named_here trees t c.in-Some.parts (subst (ArePartsOf trees t) c.in-Some.is p) rs (tree_at trees c.in-Rest.rest) (rest_is trees rs _ c.args.ahead c.in-Rest.rest c.in-Rest.is (subst (λ o. IsAhead trees rs (indices_of trees o) c.args.ahead) c.in-Some.is i)) (c.is_empty.ensures.empty.0 c.if-is_empty.true)
 
 pub returns : goal.returns
 returns c =
     let trees = c.args.pool.now.trees in
-    let node = c.read_node-node.result in
-    λ rs t p i. named_more trees t c.in-Some.parts (subst (ArePartsOf trees t) c.in-Some.is p) rs (tree_at trees c.in-Rest.rest) (rest_is trees rs _ c.args.ahead c.in-Rest.rest c.in-Rest.is (subst (λ o. IsAhead trees rs (indices_of trees o) c.args.ahead) c.in-Some.is i)) (λ e. let z = sym (ap (tree_at trees) c.in-Some-rest.is ∙ c.read_node-node.ensures.tree) ∙ e in cc)
+    λ rs t p i. named_more trees t c.in-Some.parts (subst (ArePartsOf trees t) c.in-Some.is p) rs (tree_at trees c.in-Rest.rest) (rest_is trees rs _ c.args.ahead c.in-Rest.rest c.in-Rest.is (subst (λ o. IsAhead trees rs (indices_of trees o) c.args.ahead) c.in-Some.is i)) (λ e. let f = c.is_empty.ensures.empty.1 e in cc)

@@ -1,8 +1,8 @@
 use Rattle.std.proofs.Common.{arith, refl, [], Some}
 use Rattle.cv_syntax.specs.Tree.{tree_at}
+use Rattle.cv_syntax.proofs.Trees.{empty_at}
 use Rattle.cv_scope.specs.Context.{nothing_known}
 use Rattle.cv_facts.specs.Cells.{indices_of}
-use Rattle.cv_path.proofs.Going.{nothing}
 use Rattle.cv_facts.proofs.Looking.{cell-found, no_cells, no_place}
 use Rattle.cv_facts.proofs.Standings.{standing-empty}
 use Rattle.cv_facts.proofs.defined.defined_here.Goals as goal
@@ -29,4 +29,4 @@ pub returns : goal.returns
 returns c =
     let trees = c.args.work.now.pool.trees in
     let known = c.down.invariant in
-    no_place (tree_at trees (Some c.args.cell)) _ _ (standing-empty c.down.search.position known.context (tree_at trees c.down.search.at) c.down.search.left (nothing trees c.down.search.at c.in_default.is)) known.same
+    no_place (tree_at trees (Some c.args.cell)) _ _ (standing-empty c.down.search.position known.context (tree_at trees c.down.search.at) c.down.search.left (empty_at trees c.down.search.at c.in_default.is)) known.same

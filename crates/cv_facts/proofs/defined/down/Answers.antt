@@ -1,7 +1,7 @@
 use Rattle.std.proofs.Common.{arith, ap, ◌∙◌, Some}
 use Rattle.cv_syntax.specs.Tree.{tree_at}
+use Rattle.cv_syntax.proofs.Walking.{size-node}
 use Rattle.cv_facts.specs.Cells.{indices_of}
-use Rattle.cv_path.proofs.Going.{size-node}
 use Rattle.cv_facts.proofs.Looking.{first-reaches, second-reaches}
 use Rattle.cv_facts.proofs.Standings.{standing-here}
 use Rattle.cv_facts.proofs.defined.down.Goals as goal

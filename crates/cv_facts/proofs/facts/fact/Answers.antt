@@ -1,6 +1,6 @@
 use Rattle.std.proofs.Common.{arith, refl, sym, ◌∙◌}
 use Rattle.cv_syntax.specs.Tree.{tree_at}
-use Rattle.cv_path.proofs.Going.{nothing}
+use Rattle.cv_syntax.proofs.Trees.{empty_at}
 use Rattle.cv_scope.specs.Context.{nothing_known}
 use Rattle.cv_facts.proofs.Standings.{nothing-tests, found-given, no_place, standing-empty}
 use Rattle.cv_facts.proofs.facts.fact.Goals as goal
@@ -25,4 +25,4 @@ pub returns : goal.returns
 returns c =
     let trees = c.args.work.now.pool.trees in
     let known = c.down.invariant in
-    no_place trees _ _ c.args.k (standing-empty c.down.walk.position known.context (tree_at trees c.down.walk.at) c.down.walk.left (nothing trees c.down.walk.at c.in_default.is)) known.same
+    no_place trees _ _ c.args.k (standing-empty c.down.walk.position known.context (tree_at trees c.down.walk.at) c.down.walk.left (empty_at trees c.down.walk.at c.in_default.is)) known.same

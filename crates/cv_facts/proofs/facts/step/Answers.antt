@@ -1,6 +1,6 @@
 use Rattle.std.proofs.Common.{arith, ap, ◌∙◌, Some}
 use Rattle.cv_syntax.specs.Tree.{tree_at}
-use Rattle.cv_path.proofs.Going.{size-node}
+use Rattle.cv_syntax.proofs.Walking.{size-node}
 use Rattle.cv_facts.proofs.Standings.{standing-here, first-leads, second-leads}
 use Rattle.cv_facts.proofs.facts.step.Goals as goal
 

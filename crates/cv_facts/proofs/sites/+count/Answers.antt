@@ -2,7 +2,9 @@ use Rattle.std.proofs.Common.{◌≡◌, ◌+◌, ◌≤◌, rules, arith, ap, s
 use Rattle.cv_syntax.specs.Head.{weight}
 use Rattle.cv_syntax.specs.Tree.{size, tree_at}
 use Rattle.cv_syntax.specs.Walks.{above}
-use Rattle.cv_path.proofs.Going.{above-below, above-some, nothing, size-empty, size-node}
+use Rattle.cv_syntax.proofs.Trees.{empty_at, size-Empty}
+use Rattle.cv_syntax.proofs.Walking.{above-some, size-node}
+use Rattle.cv_path.proofs.Going.{above-below}
 use Rattle.cv_facts.specs.Definitions.{counted_on, places_of}
 use Rattle.cv_facts.proofs.Sitings.{counted-empty, places-go}
 use Rattle.cv_facts.proofs.sites.+count.Goals as goal
@@ -37,7 +39,7 @@ chain-preserved t c =
     }
 
 pub returns-clause-place : goal.returns-clause-place
-returns-clause-place t c = omega (arith, c.chain.invariant.place, size-empty (tree_at c.args.pool.now.trees c.chain.at) (nothing c.args.pool.now.trees c.chain.at c.in_default.is))
+returns-clause-place t c = omega (arith, c.chain.invariant.place, size-Empty (tree_at c.args.pool.now.trees c.chain.at) (empty_at c.args.pool.now.trees c.chain.at c.in_default.is))
 
 pub returns-clause-seen : goal.returns-clause-seen
-returns-clause-seen t c = sym (counted-empty c.chain.seen c.args.x c.chain.here (tree_at c.args.pool.now.trees c.chain.at) (nothing c.args.pool.now.trees c.chain.at c.in_default.is)) ∙ c.chain.invariant.seen
+returns-clause-seen t c = sym (counted-empty c.chain.seen c.args.x c.chain.here (tree_at c.args.pool.now.trees c.chain.at) (empty_at c.args.pool.now.trees c.chain.at c.in_default.is)) ∙ c.chain.invariant.seen

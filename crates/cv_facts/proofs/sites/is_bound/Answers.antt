@@ -1,6 +1,6 @@
 use Rattle.std.proofs.Common.{rules, ap, sym, ◌∙◌}
 use Rattle.cv_syntax.specs.Tree.{tree_at}
-use Rattle.cv_path.proofs.Going.{nothing}
+use Rattle.cv_syntax.proofs.Trees.{empty_at}
 use Rattle.cv_facts.proofs.Sitings.{bound-empty, bound-other, binder-is, binder-differs}
 use Rattle.cv_facts.proofs.sites.is_bound.Goals as goal
 
@@ -26,4 +26,4 @@ binders-preserved c =
     }
 
 pub returns : goal.returns
-returns c = sym (bound-empty (tree_at c.args.pool.now.trees c.binders.at) c.args.x (nothing c.args.pool.now.trees c.binders.at c.in_default.is)) ∙ c.binders.invariant.same
+returns c = sym (bound-empty (tree_at c.args.pool.now.trees c.binders.at) c.args.x (empty_at c.args.pool.now.trees c.binders.at c.in_default.is)) ∙ c.binders.invariant.same

@@ -1,9 +1,9 @@
 use Rattle.std.proofs.Common.{◌≡◌, ◌+◌, ◌≤◌, ◌++◌, ◌∷◌, [], List, ap, sym, ◌∙◌, arith, length}
+use Rattle.std.proofs.lemmas.List.{nil_from_length}
 use Rattle.cv_parse_indices.specs.Sites.{tasks_at}
 use Rattle.cv_parse_indices.specs.declared.sites.Task.{Task}
 use Rattle.cv_parse_indices.specs.declared.sites.Task.TheVariants.{Look, Define}
 use Rattle.cv_parse_indices.proofs.Settling.{settles_first, settles_define, settles_look, settles_end, within_first, within_task, within_rest, within_look, look_less}
-use Rattle.cv_parse_indices.proofs.Stacking.{none_left}
 use Rattle.cv_parse_indices.proofs.sites.first_sites.Goals as goal
 
 taken : (old new : List Task) (task known : Task) → old ≡ new ++ task ∷ [] → task ≡ known → old ≡ new ++ known ∷ []
@@ -50,4 +50,4 @@ tasks-preserved c =
     }
 
 pub returns : goal.returns
-returns c = λ t e. settles_end c.args.makes.now c.tasks.at t c.tasks.tasks.items c.tasks.sites (none_left c.tasks.tasks.items (sym c.tasks.tasks.ok.0 ∙ c.in_default.ensures.cases.0)) (c.tasks.invariant.settles t e)
+returns c = λ t e. settles_end c.args.makes.now c.tasks.at t c.tasks.tasks.items c.tasks.sites (nil_from_length c.tasks.tasks.items (sym c.tasks.tasks.ok.0 ∙ c.in_default.ensures.cases.0)) (c.tasks.invariant.settles t e)

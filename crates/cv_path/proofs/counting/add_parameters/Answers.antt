@@ -1,6 +1,6 @@
 use Rattle.std.proofs.Common.{rules, ap, ◌∙◌}
 use Rattle.cv_syntax.specs.Tree.{tree_at}
-use Rattle.cv_path.proofs.Going.{nothing}
+use Rattle.cv_syntax.proofs.Trees.{empty_at}
 use Rattle.cv_path.proofs.Products.{parameters-full, parameters-go, parameters-end}
 use Rattle.cv_path.proofs.counting.add_parameters.Goals as goal
 
@@ -21,4 +21,4 @@ indices-preserved c =
     }
 
 pub returns-clause-room : goal.returns-clause-room
-returns-clause-room c = λ q. parameters-end (tree_at c.args.pool.now.trees c.indices.at) c.indices.product.items _ (nothing c.args.pool.now.trees c.indices.at c.in_default.is) c.indices.invariant.added
+returns-clause-room c = λ q. parameters-end (tree_at c.args.pool.now.trees c.indices.at) c.indices.product.items _ (empty_at c.args.pool.now.trees c.indices.at c.in_default.is) c.indices.invariant.added

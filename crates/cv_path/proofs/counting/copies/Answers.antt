@@ -1,6 +1,7 @@
 use Rattle.std.proofs.Common.{rules, arith, ap, ◌∙◌}
 use Rattle.cv_syntax.specs.Tree.{tree_at}
-use Rattle.cv_path.proofs.Going.{nothing, size-node}
+use Rattle.cv_syntax.proofs.Trees.{empty_at}
+use Rattle.cv_syntax.proofs.Walking.{size-node}
 use Rattle.cv_path.proofs.Products.{factors-here, factors-within, factors-behind, factors-full, factors-end}
 use Rattle.cv_path.proofs.counting.copies.Goals as goal
 
@@ -55,4 +56,4 @@ down-preserved c =
     }
 
 pub returns : goal.returns
-returns c = factors-end (tree_at c.args.pool.now.trees c.down.at) c.down.left c.down.parameters.items _ (nothing c.args.pool.now.trees c.down.at c.in_default.is) c.down.invariant.factors
+returns c = factors-end (tree_at c.args.pool.now.trees c.down.at) c.down.left c.down.parameters.items _ (empty_at c.args.pool.now.trees c.down.at c.in_default.is) c.down.invariant.factors

@@ -1,6 +1,8 @@
 use Rattle.std.proofs.Common.{rules, arith, ap, sym, ◌∙◌, Some}
 use Rattle.cv_syntax.specs.Tree.{tree_at}
-use Rattle.cv_path.proofs.Going.{nothing, size-node, subtree-here, subtree-within, subtree-behind, subtree-empty}
+use Rattle.cv_syntax.proofs.Trees.{empty_at}
+use Rattle.cv_syntax.proofs.Walking.{size-node}
+use Rattle.cv_path.proofs.Going.{subtree-here, subtree-within, subtree-behind, subtree-empty}
 use Rattle.cv_path.proofs.place.at.Goals as goal
 
 pub place_in-requires-clause-fits : goal.place_in-requires-clause-fits
@@ -39,4 +41,4 @@ down-preserved c =
     }
 
 pub returns-clause-tree : goal.returns-clause-tree
-returns-clause-tree c = sym (subtree-empty _ c.down.left (nothing c.args.pool.now.trees c.down.at c.in_default.is)) ∙ c.down.invariant.same
+returns-clause-tree c = sym (subtree-empty _ c.down.left (empty_at c.args.pool.now.trees c.down.at c.in_default.is)) ∙ c.down.invariant.same

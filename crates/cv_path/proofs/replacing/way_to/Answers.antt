@@ -1,9 +1,10 @@
 use Rattle.std.proofs.Common.{◌≡◌, ◌+◌, ◌<◌, Some, true, false, rules, arith, ◌∷◌, [], length, length-append, refl, ap, sym, ◌∙◌}
 use Rattle.cv_syntax.specs.Head.{weight}
 use Rattle.cv_syntax.specs.Tree.{size, tree_at}
+use Rattle.cv_syntax.proofs.Walking.{size-node, above-some}
 use Rattle.cv_meaning_runs.specs.Replacement.{replaced}
 use Rattle.cv_path.specs.Ways.{led, turned as turned-by}
-use Rattle.cv_path.proofs.Going.{size-node, replaced-here, replaced-within, replaced-behind, above-here, above-within, above-behind, above-some, above-below, live-at, turn-of, way-goes, way-live}
+use Rattle.cv_path.proofs.Going.{replaced-here, replaced-within, replaced-behind, above-here, above-within, above-behind, above-below, live-at, turn-of, way-goes, way-live}
 use Rattle.cv_path.proofs.replacing.way_to.Goals as goal
 
 pub place_in-requires-clause-fits : goal.place_in-requires-clause-fits

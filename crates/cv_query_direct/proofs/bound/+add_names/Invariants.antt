@@ -2,8 +2,8 @@ use Rattle.std.proofs.Common.{◌≡◌, ◌≤◌, ◌&&◌, ℕ, length}
 use Rattle.cv_pool.specs.Nodes.{ChildBelow}
 use Rattle.cv_syntax.specs.Tree.{tree_at}
 use Rattle.cv_syntax.specs.Walks.{above}
+use Rattle.cv_syntax.specs.NameSets.{is_outside}
 use Rattle.cv_meaning.specs.Direct.{is_unbound}
-use Rattle.cv_query_direct.specs.Variables.{is_outside}
 use Rattle.cv_query_direct.proofs.bound.+add_names.Given as goal
 
 abbrev pub decreases-add_names : goal.decreases-add_names

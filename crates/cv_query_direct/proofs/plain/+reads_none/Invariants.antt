@@ -2,7 +2,7 @@ use Rattle.std.proofs.Common.{◌≡◌, ◌≤◌, length}
 use Rattle.cv_pool.specs.Nodes.{ChildBelow}
 use Rattle.cv_syntax.specs.Tree.{reads_only, tree_at}
 use Rattle.cv_syntax.specs.Walks.{above}
-use Rattle.cv_query_direct.specs.Variables.{is_outside}
+use Rattle.cv_syntax.specs.NameSets.{is_outside}
 use Rattle.cv_query_direct.proofs.plain.+reads_none.Given as goal
 
 abbrev pub decreases-reads_none : goal.decreases-reads_none

@@ -1,6 +1,6 @@
 use Rattle.std.proofs.Common.{length, ◌∙◌}
 use Rattle.cv_syntax.specs.Tree.{tree_at}
-use Rattle.cv_typing.proofs.Walks.{child-live, node-at}
+use Rattle.cv_syntax.proofs.Trees.{child_live, node_at}
 use Rattle.cv_query_direct.proofs.PlainQueries.{one-less, no-argument-more}
 use Rattle.cv_query_direct.proofs.plain.take_away.Goals as goal
 
@@ -9,8 +9,8 @@ arguments-preserved c =
     let trees = c.args.pool.now.trees in
     let node = c.read_node-cell.result in
     record {
-      live = child-live (length trees) c.arguments.at c.in-Some.n node.second c.in-Some.is c.arguments.invariant.live c.read_node-cell.ensures.second;
-      same = λ y. one-less c.arguments.names c.remove.new.self c.leaf_name.result (tree_at trees c.arguments.at) node.head (tree_at trees node.first) (tree_at trees node.second) (node-at trees c.arguments.at c.in-Some.n node c.in-Some.is c.read_node-cell.ensures.tree) c.leaf_name.ensures c.remove.ensures.updates y ∙ c.arguments.invariant.same y;
+      live = child_live (length trees) c.arguments.at c.in-Some.n node.second c.in-Some.is c.arguments.invariant.live c.read_node-cell.ensures.second;
+      same = λ y. one-less c.arguments.names c.remove.new.self c.leaf_name.result (tree_at trees c.arguments.at) node.head (tree_at trees node.first) (tree_at trees node.second) (node_at trees c.arguments.at c.in-Some.n node c.in-Some.is c.read_node-cell.ensures.tree) c.leaf_name.ensures c.remove.ensures.updates y ∙ c.arguments.invariant.same y;
     }
 
 pub returns : goal.returns

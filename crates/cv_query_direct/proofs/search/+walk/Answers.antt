@@ -4,9 +4,10 @@ use Rattle.cv_pool.specs.Nodes.{ChildBelow}
 use Rattle.cv_query_direct.specs.declared.search.Seen.{Seen}
 use Rattle.cv_syntax.specs.Head.{weight}
 use Rattle.cv_syntax.specs.Tree.{Node, size, tree_at}
+use Rattle.cv_syntax.proofs.Trees.{tree_of-NoTree}
 use Rattle.cv_query_direct.specs.Found.{entry_trees, placed, SeenBelow, seen_by, wanted}
 use Rattle.cv_query_direct.specs.Search.{entries_of, head_entries, joined, placed_by}
-use Rattle.cv_query_direct.proofs.Searching.{no_tree, entries_step, entries_stop_first, entries_end, kept_more, placed_more, seen_more, size_open}
+use Rattle.cv_query_direct.proofs.Searching.{entries_step, entries_stop_first, entries_end, kept_more, placed_more, seen_more, size_open}
 use Rattle.cv_query_direct.proofs.search.+walk.Goals as goal
 
 pub returns-then-not-branch-2-clause-entries : goal.returns-then-not-branch-2-clause-entries
@@ -56,4 +57,4 @@ pub returns-clause-entries : goal.returns-clause-entries
 returns-clause-entries t c =
     let trees = c.args.pool.now.trees in
     sym c.path.invariant.entries
-    ∙ entries_end (wanted trees c.args.bound.now c.args.sought) (map (placed trees) c.path.search.above.items) c.path.search.place (entry_trees trees c.path.search.entries.items) (tree_at trees c.path.at) (ap (tree_at trees) c.in_default.is ∙ no_tree)
+    ∙ entries_end (wanted trees c.args.bound.now c.args.sought) (map (placed trees) c.path.search.above.items) c.path.search.place (entry_trees trees c.path.search.entries.items) (tree_at trees c.path.at) (ap (tree_at trees) c.in_default.is ∙ tree_of-NoTree)

@@ -1,9 +1,9 @@
 use Rattle.std.proofs.Common.{◌≡◌, drop, map}
 use Rattle.cv_syntax.specs.Tree.{tree_at}
+use Rattle.cv_syntax.specs.NameSets.{is_outside}
 use Rattle.cv_meaning.specs.Correspondences.{leaf_names}
 use Rattle.cv_query_direct.specs.Found.{placed}
 use Rattle.cv_query_direct.specs.Search.{first_noted}
-use Rattle.cv_query_direct.specs.Variables.{is_outside}
 use Rattle.cv_query_direct.proofs.search.first.Given as goal
 
 abbrev pub invariant-loop-seen : goal.invariant-loop-seen

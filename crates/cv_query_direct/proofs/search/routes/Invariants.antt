@@ -3,10 +3,10 @@ use Rattle.std.specs.Prelude.{All}
 use Rattle.cv_pool.specs.Nodes.{ChildBelow}
 use Rattle.cv_syntax.specs.Tree.{tree_at}
 use Rattle.cv_syntax.specs.Walks.{above}
+use Rattle.cv_syntax.specs.NameSets.{is_outside}
 use Rattle.cv_meaning.specs.Correspondences.{atoms_of, leaf_names}
 use Rattle.cv_query_direct.specs.Found.{placed, RouteBelow, route_tree}
 use Rattle.cv_query_direct.specs.Search.{joined, routes_of}
-use Rattle.cv_query_direct.specs.Variables.{is_outside}
 use Rattle.cv_query_direct.proofs.search.routes.Given as goal
 
 abbrev pub invariant-rights : goal.invariant-rights

@@ -1,6 +1,8 @@
 use Rattle.std.proofs.Common.{rules, ap, ◌∙◌}
+use Rattle.std.proofs.lemmas.Result.{on_ok_weaker}
 use Rattle.cv_syntax.specs.Tree.{tree_at}
-use Rattle.cv_query_direct.proofs.Made.{chain-goes, chain-ends, no_tree, on-ok}
+use Rattle.cv_syntax.proofs.Trees.{tree_of-NoTree}
+use Rattle.cv_query_direct.proofs.Made.{chain-goes, chain-ends}
 use Rattle.cv_query_direct.proofs.terms.+push_tree.Goals as goal
 
 pub chain-preserved : goal.chain-preserved
@@ -16,4 +18,4 @@ chain-preserved t c =
 pub returns : goal.returns
 returns t c =
     let trees = c.args.pool.now.trees in
-    on-ok c.close.result (λ e. e ∙ chain-ends (tree_at trees c.chain.at) c.chain.makes.items c.push-2.new.self.items _ c.chain.heads.items (ap (tree_at trees) c.in_default.is ∙ no_tree) c.chain.invariant.made c.in_ok-push-2.ensures.items) c.close.ensures
+    on_ok_weaker c.close.result (λ e. e ∙ chain-ends (tree_at trees c.chain.at) c.chain.makes.items c.push-2.new.self.items _ c.chain.heads.items (ap (tree_at trees) c.in_default.is ∙ tree_of-NoTree) c.chain.invariant.made c.in_ok-push-2.ensures.items) c.close.ensures

@@ -2,7 +2,7 @@ use Rattle.std.proofs.Common.{◌≡◌, length}
 use Rattle.cv_pool.specs.Nodes.{ChildBelow}
 use Rattle.cv_syntax.specs.Tree.{tree_at}
 use Rattle.cv_syntax.specs.Walks.{above}
-use Rattle.cv_query_form.specs.Held.{is_in}
+use Rattle.cv_syntax.specs.NameSets.{is_in}
 use Rattle.cv_query_form.specs.Tests.{are_distinct}
 use Rattle.cv_query_form.proofs.arguments.are_distinct.Given as goal
 

@@ -1,6 +1,6 @@
 use Rattle.std.proofs.Common.{sym, subst, refl, length, OnOk}
 use Rattle.cv_syntax.specs.declared.head.Head.{Head}
-use Rattle.cv_syntax.specs.declared.head.Head.TheVariants.{In, New, Let, Find, Branch}
+use Rattle.cv_syntax.specs.declared.head.Head.TheVariants.{In, New, Let, Find, Branch, Key, Call}
 use Rattle.cv_syntax.specs.Tree.{Tree, tree_at}
 use Rattle.cv_meaning.specs.Binders.{bound_names}
 use Rattle.cv_scope.specs.Held.{DefinesOnly, IsEntered}
@@ -43,6 +43,24 @@ returns-in-Let c =
     subst (λ (h : Head). OnOk c.define-in-Let.result (IsEntered trees numbers s c.define-in-Let.new.self c.args.position h a c.args.from c.args.to)) (sym c.in-Let.is)
     (on-ok c.define-in-Let.result _ _ (defines-entered trees numbers s c.define-in-Let.new.self c.args.position (Let c.in-Let.x c.in-Let.field-1) a c.args.from c.args.to c.requires.listed refl refl refl) c.define-in-Let.ensures)
 
+pub returns-in-Key : goal.returns-in-Key
+returns-in-Key c =
+    let trees = c.args.pool.now.trees in
+    let numbers = c.args.interned.now in
+    let s = c.args.self.now in
+    let a = tree_at trees c.args.first in
+    subst (λ (h : Head). OnOk c.define-in-Key.result (IsEntered trees numbers s c.define-in-Key.new.self c.args.position h a c.args.from c.args.to)) (sym c.in-Key.is)
+    (on-ok c.define-in-Key.result _ _ (defines-entered trees numbers s c.define-in-Key.new.self c.args.position (Key c.in-Key.x) a c.args.from c.args.to c.requires.listed refl refl refl) c.define-in-Key.ensures)
+
+pub returns-in-Call : goal.returns-in-Call
+returns-in-Call c =
+    let trees = c.args.pool.now.trees in
+    let numbers = c.args.interned.now in
+    let s = c.args.self.now in
+    let a = tree_at trees c.args.first in
+    subst (λ (h : Head). OnOk c.define-in-Call.result (IsEntered trees numbers s c.define-in-Call.new.self c.args.position h a c.args.from c.args.to)) (sym c.in-Call.is)
+    (on-ok c.define-in-Call.result _ _ (defines-entered trees numbers s c.define-in-Call.new.self c.args.position (Call c.in-Call.x c.in-Call.field-1) a c.args.from c.args.to c.requires.listed refl refl refl) c.define-in-Call.ensures)
+
 pub returns-in-In : goal.returns-in-In
 returns-in-In c =
     let trees = c.args.pool.now.trees in
@@ -67,4 +85,4 @@ returns-in_default c =
     let numbers = c.args.interned.now in
     let s = c.args.self.now in
     let a = tree_at trees c.args.first in
-    plain-entered trees numbers s c.args.position c.args.head a c.args.from c.args.to c.requires.listed (plain-head s.replications.items c.args.position c.args.head a c.args.from c.args.to c.in_default.not-Repl c.in_default.not-In c.in_default.not-New c.in_default.not-Let c.in_default.not-Find c.in_default.not-Branch c.in_default.not-Cons)
+    plain-entered trees numbers s c.args.position c.args.head a c.args.from c.args.to c.requires.listed (plain-head s.replications.items c.args.position c.args.head a c.args.from c.args.to c.in_default.not-Repl c.in_default.not-In c.in_default.not-New c.in_default.not-Let c.in_default.not-Key c.in_default.not-Call c.in_default.not-Find c.in_default.not-Branch c.in_default.not-Cons)

@@ -17,7 +17,7 @@ returns-in-In-clause-may c =
 pub returns-in_default : goal.returns-in_default
 returns-in_default c =
     let trees = c.args.pool.now.trees in
-    let none = no-named c.args.self.now.replications.items c.args.place c.args.head (tree_at trees c.args.first) c.in_default.not-New c.in_default.not-Let c.in_default.not-In c.in_default.not-Branch c.in_default.not-Find in
+    let none = no-named c.args.self.now.replications.items c.args.place c.args.head (tree_at trees c.args.first) c.in_default.not-New c.in_default.not-Let c.in_default.not-Key c.in_default.not-Call c.in_default.not-In c.in_default.not-Branch c.in_default.not-Find in
     record {
       may = sym (ap (may_stand_last c.args.self.now.passed (last_held trees c.args.self.now.last)) none);
       noted = λ t. subst (λ (l : List Site). OnlySites trees c.args.self.now c.args.self.now l) (sym none) (none-noted trees c.args.self.now c.requires.live);

@@ -1,6 +1,0 @@
-use Rattle.std.proofs.Common.{sym, ◌∙◌}
-use Rattle.cv_path.proofs.Going.{nothing}
-use Rattle.cv_facts.proofs.cells.is_index.Goals as goal
-
-pub returns-in_default : goal.returns-in_default
-returns-in_default c = let e = nothing c.args.pool.now.trees c.args.term c.in_default.is in ((λ b. absurd (let z = b in cc)), (λ f. absurd (let z = sym e ∙ f in cc)))

@@ -1,0 +1,4 @@
+pub mod Each
+pub mod Options
+pub mod Places
+pub mod Tests

@@ -1,0 +1,2 @@
+// Laws of lists, options and truth values, which several crates cite.
+#![tactic(auto)]

@@ -1,8 +1,0 @@
-use Rattle.cv_meaning.proofs.Listed.{cells_distinct, consulted_listed}
-use Rattle.cv_meaning.proofs.cells_are_complete.Goals as goal
-
-pub returns-clause-distinct : goal.returns-clause-distinct
-returns-clause-distinct c = cells_distinct
-
-pub returns-clause-listed : goal.returns-clause-listed
-returns-clause-listed c = consulted_listed

@@ -1,0 +1,19 @@
+use Rattle.std.proofs.Common.{refl}
+use Rattle.cv_syntax.specs.Tree.{size, reads_only}
+use Rattle.cv_meaning.specs.Tapes.{written, sum_below, count, total}
+use Rattle.cv_meaning.specs.Memory.{put}
+use Rattle.cv_meaning.specs.Terms.{value, values}
+use Rattle.cv_meaning.specs.Binders.{bound_to}
+use Rattle.cv_meaning.specs.Candidates.{tuples_up_to, candidates_at, candidates, chosen}
+use Rattle.cv_meaning.specs.Inputs.{inputs_of}
+use Rattle.cv_meaning.specs.Serving.{step, serve}
+use Rattle.cv_meaning.specs.Runs.{taken, moved, run_from}
+use Rattle.cv_meaning.specs.Cells.{tuples_below, at_each_copy, cells}
+use Rattle.cv_meaning.specs.Experiments.{run, guessed}
+use Rattle.cv_meaning.specs.Correspondences.{assignments, positions, ways, can_match, broken}
+use Rattle.cv_meaning.specs.Advantage.{breaks, break_chance, guess_chance}
+use Rattle.cv_meaning_laws.proofs.worked_context.Goals as goal
+
+pub returns : goal.returns
+unfolding size reads_only written sum_below count total put value values bound_to tuples_up_to candidates_at candidates chosen inputs_of step serve taken moved run_from tuples_below at_each_copy cells run guessed assignments positions ways can_match broken breaks break_chance guess_chance
+returns c = refl

@@ -1,0 +1,132 @@
+// Laws of the meaning of the calculus, and cases that are computed from its definitions.
+#![tactic(auto)]
+
+ghost use Rattle.std.specs.Prelude.{◌≡◌, ℕ, ◌-◌, [], ◌∷◌, true, false};
+ghost use Rattle.std.specs.List.{AllByRecursion, IsDistinct};
+ghost use Rattle.cv_syntax.specs.declared.head.Head.TheVariants.{Secret, SecretOnce};
+ghost use Rattle.cv_syntax.specs.Tree.{Tree, lone, chain};
+ghost use Rattle.cv_meaning.specs.Tapes.{Tape, same_cell, cells_of};
+ghost use Rattle.cv_meaning.specs.Interpretation.{Setting};
+ghost use Rattle.cv_meaning.specs.Satisfies.{Satisfies};
+ghost use Rattle.cv_meaning.specs.Runs.{Adversary, Mode, Real, Random};
+ghost use Rattle.cv_meaning.specs.Consulted.{consulted, IsListed};
+ghost use Rattle.cv_meaning.specs.Cells.{cells};
+ghost use Rattle.cv_meaning.specs.Experiments.{visits_of_run};
+ghost use Rattle.cv_meaning.specs.Correspondences.{RightEvent, correspondence_of};
+ghost use Rattle.cv_meaning.specs.Chances.{IsFraction};
+ghost use Rattle.cv_meaning.specs.Advantage.{guess_chance, advantage};
+ghost use Rattle.cv_meaning.specs.Direct.{IsPlainlyDirect, is_unbound, plainly_covered};
+ghost use Rattle.cv_syntax.specs.Builders.{leaf};
+ghost use Rattle.cv_meaning_laws.specs.Worked.{sized, adversary, colliding_game, game_after_collision, never_query, sends_twice, choosing_game, calls_copy, own_index_game, calls_once, two_events_game, authentication_query, some_query, later_game, replay_game, replays, compares, sessions_game, tests_sessions, data_file, declared_file, with_function, interpretation_of_file, context_game, context_setting, constant_query};
+
+/// No advantage is above one.
+pub fn advantage_is_a_fraction()
+    ensures { (g : Setting) (query : Tree) (a : Adversary) (game : Tree) →
+        IsFraction (advantage g query a game) }
+{}
+
+/// No cell of an experiment stands twice in its list, and each cell that the run consults on a tape is
+/// in the list. A key's cell is left to the rules of scope.
+pub fn cells_are_complete()
+    ensures distinct { (g : Setting) (m : Mode) (a : Adversary) (game : Tree) →
+        IsDistinct same_cell (cells_of (cells g m a game)) }
+    ensures listed { (g : Setting) (m : Mode) (a : Adversary) (game : Tree) (t : Tape) →
+        AllByRecursion (IsListed (cells g m a game)) (consulted g (visits_of_run g m a game t)) }
+{}
+
+/// Two nonces of size 2 are equal on 8 of 16 tapes; where their indices are asked to be equal and
+/// apart, never.
+pub fn collision_of_two()
+    ensures before { advantage (sized 2 2 2) never_query (adversary 3 sends_twice) colliding_game
+        ≡ record { good = 8; all = 16 } }
+    ensures after { advantage (sized 2 2 2) never_query (adversary 3 sends_twice) game_after_collision
+        ≡ record { good = 0; all = 16 } }
+{}
+
+/// A cell of three values chooses the second of two candidates on one value of three, and an index
+/// variable is not assigned in its own `defined` list.
+pub fn worked_finds()
+    ensures first { advantage (sized 1 2 3) never_query (adversary 1 (calls_copy 0)) choosing_game
+        ≡ record { good = 6; all = 9 } }
+    ensures second { advantage (sized 1 2 3) never_query (adversary 1 (calls_copy 1)) choosing_game
+        ≡ record { good = 3; all = 9 } }
+    ensures own { advantage (sized 1 2 2) never_query (adversary 1 calls_once) own_index_game
+        ≡ record { good = 0; all = 2 } }
+{}
+
+/// The correspondence of a query's tree. Then a right event above the left one, below it, and missing;
+/// one with another variable; and a replay, for the plain and the injective form.
+pub fn worked_correspondences()
+    ensures reading { correspondence_of some_query ≡ record {
+      inj = false;
+      event = 12;
+      variables = 1 ∷ [];
+      others = (2, 5) ∷ [];
+      atoms = RightEvent false 11 (chain (leaf 2 ∷ [])) ∷ [];
+    } }
+
+    ensures above { advantage (sized 3 1 1) (authentication_query false)
+        (adversary 2 calls_once) (two_events_game 11 12) ≡ record { good = 0; all = 3 } }
+    ensures below { advantage (sized 3 1 1) (authentication_query false)
+        (adversary 2 calls_once) (two_events_game 12 11) ≡ record { good = 0; all = 3 } }
+    ensures missing { advantage (sized 3 1 1) (authentication_query false)
+        (adversary 2 calls_once) (two_events_game 12 13) ≡ record { good = 3; all = 3 } }
+
+    ensures other { advantage (sized 3 1 1) some_query
+        (adversary 2 calls_once) (two_events_game 11 12) ≡ record { good = 0; all = 3 } }
+    ensures no_other { advantage (sized 3 1 1) some_query
+        (adversary 2 calls_once) (two_events_game 12 13) ≡ record { good = 3; all = 3 } }
+
+    ensures plain { advantage (sized 2 2 1) (authentication_query false)
+        (adversary 3 replays) replay_game ≡ record { good = 0; all = 2 } }
+    ensures injective { advantage (sized 2 2 1) (authentication_query true)
+        (adversary 3 replays) replay_game ≡ record { good = 2; all = 2 } }
+{}
+
+/// Secrecy of a nonce that was sent, and of the nonces of two sessions that were not: tests of both, two
+/// tests of one, and two tests of one where one test is answered.
+pub fn worked_secrecy()
+    ensures real { guess_chance (sized 3 1 1) (Real false 4)
+        (adversary 3 compares) (two_events_game 11 12) ≡ record { good = 9; all = 9 } }
+    ensures random { guess_chance (sized 3 1 1) (Random false 4)
+        (adversary 3 compares) (two_events_game 11 12) ≡ record { good = 3; all = 9 } }
+    ensures sent { advantage (sized 3 1 1) (lone (Secret 4))
+        (adversary 3 compares) (two_events_game 11 12) ≡ record { good = 54; all = 81 } }
+    ensures sent_once { advantage (sized 3 1 1) (lone (SecretOnce 4))
+        (adversary 3 compares) (two_events_game 11 12) ≡ record { good = 54; all = 81 } }
+
+    ensures two_sessions { guess_chance (sized 2 2 1) (Random false 4)
+        (adversary 5 (tests_sessions 1)) sessions_game ≡ record { good = 8; all = 16 } }
+    ensures tested_twice { guess_chance (sized 2 2 1) (Random false 4)
+        (adversary 5 (tests_sessions 0)) sessions_game ≡ record { good = 16; all = 16 } }
+    ensures one_test { guess_chance (sized 2 2 1) (Random true 4)
+        (adversary 5 (tests_sessions 0)) sessions_game ≡ record { good = 0; all = 16 } }
+    ensures secret { advantage (sized 2 2 1) (lone (Secret 4))
+        (adversary 5 (tests_sessions 1)) sessions_game ≡ record { good = 0; all = 256 } }
+{}
+
+/// A call is answered by the side, from the key at the call's key tuple and a cell of the call.
+pub fn worked_context()
+    ensures { advantage context_setting constant_query
+        (adversary 1 calls_once) context_game ≡ record { good = 2; all = 4 } }
+{}
+
+/// An interpretation satisfies a file with a parameter, a type, an injective function, a constant and an
+/// equation. One by which the function is not injective does not, nor one by which the equation is false.
+pub fn worked_declarations()
+    ensures satisfied { Satisfies declared_file interpretation_of_file }
+    ensures not_injective { ¬ Satisfies data_file (with_function (λ v. 0)) }
+    ensures equation_false { ¬ Satisfies declared_file (with_function (λ v. 1 - v)) }
+{}
+
+/// The plainly direct shape is met where the right event stands above the left one, also where an input
+/// stands between them, and not where it stands below.
+pub fn shapes()
+    ensures above { plainly_covered (is_unbound (two_events_game 11 12))
+        (correspondence_of (authentication_query false)) [] (two_events_game 11 12) ≡ true }
+    ensures below { plainly_covered (is_unbound (two_events_game 12 11))
+        (correspondence_of (authentication_query false)) [] (two_events_game 12 11) ≡ false }
+    ensures later { plainly_covered (is_unbound later_game)
+        (correspondence_of (authentication_query false)) [] later_game ≡ true }
+    ensures direct { IsPlainlyDirect (correspondence_of (authentication_query false)) later_game }
+{}
