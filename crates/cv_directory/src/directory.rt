@@ -6,10 +6,11 @@ ghost use Rattle.cv_directory.specs.Definitions.{Definition, bound_definitions, 
 ghost use Rattle.cv_directory.specs.Sites.{Variable, binder_sort, index_here, first_index, sites_of};
 ghost use Rattle.cv_directory.specs.Tables.{definition_in, entries_in, no_index, only, seen, with_entries};
 
-use crate::nodes::{is_other_node, rest, sort_of_binder};
+use crate::nodes::{is_other_node, sort_of_binder};
 use crate::site::Site;
 use crate::sort::Sort;
 use crate::tables::{count_in, note_count, note_first, note_number, note_other};
+use cv_syntax::children::second_of;
 use cv_syntax::{Decls, Head, NodeId, Opened, Pool, read_node};
 use std::alloc::{AllocError, Global};
 use std::collections::HashMap;
@@ -213,7 +214,7 @@ impl Directory {
                     place,
                     node,
                     false,
-                    rest(pool, opened.first),
+                    second_of(pool, opened.first),
                 )
             }
             Head::Branch => self.note_binders(alloc, pool, path, place, node, true, opened.first),

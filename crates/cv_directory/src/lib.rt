@@ -10,6 +10,6 @@ mod tables;
 
 pub use directory::Directory;
 pub use laws::{definitions_are_sites, worked_directories};
-pub use nodes::{rest, sort_of_binder};
+pub use nodes::sort_of_binder;
 pub use site::Site;
 pub use sort::Sort;

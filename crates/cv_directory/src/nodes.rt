@@ -1,11 +1,10 @@
-ghost use Rattle.std.specs.Prelude.{◌≡◌, ◌<◌, ℕ, length};
-ghost use Rattle.cv_pool.specs.Nodes.{ChildBelow};
-ghost use Rattle.cv_syntax.specs.Tree.{Node, Tree, second, tree_at};
+ghost use Rattle.std.specs.Prelude.{◌≡◌};
+ghost use Rattle.cv_syntax.specs.Tree.{Node, Tree};
 ghost use Rattle.cv_directory.specs.Definitions.{is_other, large_in};
 ghost use Rattle.cv_directory.specs.Sites.{binder_sort};
 
 use crate::sort::Sort;
-use cv_syntax::{Class, Decls, Head, NameId, NodeId, Pool, read_node};
+use cv_syntax::{Class, Decls, Head, NameId};
 
 /// The sort that a binder gives: that of an index, or of a value of a type.
 pub fn sort_of_binder(is_index: bool, name: u32) -> Sort
@@ -16,15 +15,6 @@ pub fn sort_of_binder(is_index: bool, name: u32) -> Sort
     } else {
         Sort::OfType(name)
     }
-}
-
-/// The second child of a tree.
-pub fn rest(pool: &Pool, tree: Option<NodeId>) -> Option<NodeId>
-    requires { ChildBelow (length pool.now.trees) tree }
-    ensures tree { tree_at pool.now.trees result ≡ second (tree_at pool.now.trees tree) }
-    ensures below { ChildBelow (length pool.now.trees) result }
-{
-    read_node(pool, tree?).second
 }
 
 /// Whether a type is declared as large.

@@ -33,7 +33,7 @@ returns-in-In c =
     let trees = c.args.pool.now.trees in
     let large = large_in c.args.decls.now.list in
     let other = input-other large (tree_at trees (Some c.args.node)) (tree_at trees c.args.opened.first) (tree_at trees c.args.opened.second) c.args.opened.head c.in-In.field-0 c.requires.tree c.in-In.is in
-    on-ok c.note_binders.result (λ o. o ∙ input-more large (entries_in trees c.args.self.now) c.args.path.now c.args.place (tree_at trees (Some c.args.node)) (tree_at trees c.args.opened.first) c.args.opened.head c.in-In.field-0 (tree_at trees c.rest.result) c.in-In.is c.rest.ensures.tree) (c.note_binders.ensures large other)
+    on-ok c.note_binders.result (λ o. o ∙ input-more large (entries_in trees c.args.self.now) c.args.path.now c.args.place (tree_at trees (Some c.args.node)) (tree_at trees c.args.opened.first) c.args.opened.head c.in-In.field-0 (tree_at trees c.second_of.result) c.in-In.is c.second_of.ensures.tree) (c.note_binders.ensures large other)
 
 pub returns-in-Branch : goal.returns-in-Branch
 returns-in-Branch c =
