@@ -1,7 +1,6 @@
 -- How a run over a good file ends.
-use Rattle.std.proofs.Common.{◌≡◌, ℕ, arith, refl, List, Option, Some, None, ap, sym, ◌∙◌, subst, ◌⊎◌, inl, inr}
-use Rattle.std.specs.Prelude.{IfSome, ◌≢◌}
-use Rattle.cv_lists.proofs.Options.{IfSome-weaker}
+use Rattle.std.proofs.Common.{◌≡◌, ℕ, arith, refl, List, ap, sym, ◌∙◌, subst, ◌⊎◌, inl, inr}
+use Rattle.std.specs.Prelude.{◌≢◌}
 use Rattle.cv_accept.specs.Accepted.{read_of}
 use Rattle.cv_query_form.specs.Queries.{queries_in}
 use Rattle.cv_accept.proofs.Readings.{file_is_read}

@@ -2,15 +2,15 @@
 use Rattle.std.proofs.Common.{◌≡◌, ℕ, zero, suc, ◌+◌, ◌*◌, ◌<◌, ◌≤◌, nat_lt, Bool, true, false, cond, List, [], ◌∷◌, ◌++◌, length, length-append, refl, ap, ap₂, sym, ◌∙◌, subst, arith, append-nil, append_assoc, Option, Some, None, Ok, Err, is_some}
 use Rattle.std.specs.Prelude.{slice_get}
 use Rattle.std.specs.List.{list_all}
-use Rattle.std.proofs.lemmas.Bool.{and_parts, both_ways, lt-ltb}
+use Rattle.std.proofs.lemmas.Bool.{and_parts, lt-ltb}
 use Rattle.cv_lists.proofs.Options.{some_from_is_some}
 use Rattle.cv_syntax.specs.Declarations.{Declaration}
 use Rattle.cv_syntax.specs.Tree.{Tree}
 use Rattle.cv_meaning.specs.Advantage.{advantage}
 use Rattle.cv_meaning.specs.Chances.{Chance, AtMost, zero_chance}
 use Rattle.cv_meaning.specs.Interpretation.{Interpretation, setting_of}
+use Rattle.cv_meaning_chances.specs.Fractions.{HasTapes}
 use Rattle.cv_meaning.specs.Runs.{Adversary}
-use Rattle.cv_meaning.specs.Satisfies.{Satisfies}
 use Rattle.cv_query_form.specs.Queries.{queries_in}
 use Rattle.cv_parse.specs.declared.error.ParseError.{ParseError}
 use Rattle.cv_parse.specs.declared.error.ParseError.TheVariants as parse
@@ -29,27 +29,27 @@ use Rattle.cv_bound.specs.declared.terms.Term.{Term}
 use Rattle.cv_query_direct.specs.Certificates.{step_of}
 use Rattle.cv.specs.Faults.{parse_ended, status_of as ended_by}
 use Rattle.cv_query_direct.specs.Plain.{certificate}
-use Rattle.cv.specs.Strategy.{Said, is_closed, said_then, said_of, most_steps, status_by, status_of, expected, HasFile, Judged, most_pool}
+use Rattle.cv.specs.Strategy.{HoldsUpTo, Said, is_closed, said_then, said_of, most_steps, status_by, status_of, expected, HasFile, Judged, most_pool}
 use Rattle.cv.specs.Values.{value_of}
 
 -- a query has a certificate where it is closed
 pub closed_some : (game q : Tree) → is_some (certificate game q) ≡ is_closed game q
 closed_some game q = certificate_some game q
 
--- verdicts on queries, of which each that is `Proved` is on a closed one
+-- verdicts on queries, of which each that is `Proved` is on a closed one, up to nothing
 abbrev pub AreSound : Tree → List Tree → List Verdict → Type 0
 AreSound game [] [] = Unit {0}
-AreSound game (q ∷ qs) (v ∷ vs) = ((s : List Term) → v ≡ Proved s → is_closed game q ≡ true) × AreSound game qs vs
+AreSound game (q ∷ qs) (v ∷ vs) = ((s : List Term) → v ≡ Proved s → (is_closed game q ≡ true) × (s ≡ [])) × AreSound game qs vs
 AreSound game _ _ = ⊥
 
-one_verdict : (game : Tree) (s : Said) (q : Tree) → (v : Verdict) × ((said_then s (certificate game q)).verdicts ≡ s.verdicts ++ v ∷ []) × ((x : List Term) → v ≡ Proved x → is_closed game q ≡ true)
+one_verdict : (game : Tree) (s : Said) (q : Tree) → (v : Verdict) × ((said_then s (certificate game q)).verdicts ≡ s.verdicts ++ v ∷ []) × ((x : List Term) → v ≡ Proved x → (is_closed game q ≡ true) × (x ≡ []))
 one_verdict game s q = go (certificate game q) refl
   where
-    closed : (es : List EntryTree) → certificate game q ≡ Some es → (b : Bool) → (v : Verdict) × ((cond b (record s { steps = s.steps ++ step_of (length s.verdicts + 1) es ∷ []; verdicts = s.verdicts ++ Proved [] ∷ [] }) (record s { verdicts = s.verdicts ++ NotProved ∷ []; full = true })).verdicts ≡ s.verdicts ++ v ∷ []) × ((x : List Term) → v ≡ Proved x → is_closed game q ≡ true)
-    closed es e true = (Proved [], refl, λ x h. sym (closed_some game q) ∙ ap is_some e)
+    closed : (es : List EntryTree) → certificate game q ≡ Some es → (b : Bool) → (v : Verdict) × ((cond b (record s { steps = s.steps ++ step_of (length s.verdicts + 1) es ∷ []; verdicts = s.verdicts ++ Proved [] ∷ [] }) (record s { verdicts = s.verdicts ++ NotProved ∷ []; full = true })).verdicts ≡ s.verdicts ++ v ∷ []) × ((x : List Term) → v ≡ Proved x → (is_closed game q ≡ true) × (x ≡ []))
+    closed es e true = (Proved [], refl, λ x h. (sym (closed_some game q) ∙ ap is_some e, let same : [] ≡ x = cc in sym same))
     closed es e false = (NotProved, refl, λ x h. absurd (cc))
 
-    go : (c : Option (List EntryTree)) → certificate game q ≡ c → (v : Verdict) × ((said_then s c).verdicts ≡ s.verdicts ++ v ∷ []) × ((x : List Term) → v ≡ Proved x → is_closed game q ≡ true)
+    go : (c : Option (List EntryTree)) → certificate game q ≡ c → (v : Verdict) × ((said_then s c).verdicts ≡ s.verdicts ++ v ∷ []) × ((x : List Term) → v ≡ Proved x → (is_closed game q ≡ true) × (x ≡ []))
     go None e = (NotProved, refl, λ x h. absurd (cc))
     go (Some es) e = closed es e (nat_lt (length s.steps) most_steps)
 
@@ -61,15 +61,15 @@ said_sound game s (q ∷ qs) =
     let more = said_sound game (said_then s (certificate game q)) qs in
     (one.0 ∷ more.0, more.1 ∙ (ap (λ l. l ++ more.0) one.1 ∙ append_assoc s.verdicts (one.0 ∷ []) more.0), (one.2, more.2))
 
-sound_in : (game : Tree) (qs : List Tree) (vs : List Verdict) → AreSound game qs vs → (k : ℕ) (query : Tree) (s : List Term) → slice_get qs k ≡ Some query → slice_get vs k ≡ Some (Proved s) → is_closed game query ≡ true
+sound_in : (game : Tree) (qs : List Tree) (vs : List Verdict) → AreSound game qs vs → (k : ℕ) (query : Tree) (s : List Term) → slice_get qs k ≡ Some query → slice_get vs k ≡ Some (Proved s) → (is_closed game query ≡ true) × (s ≡ [])
 sound_in game [] vs h k query s e f = absurd (cc)
 sound_in game (q ∷ qs) [] h k query s e f = absurd h
-sound_in game (q ∷ qs) (v ∷ vs) h zero query s e f = let same : q ≡ query = cc in let said : v ≡ Proved s = cc in ap (is_closed game) (sym same) ∙ h.0 s said
+sound_in game (q ∷ qs) (v ∷ vs) h zero query s e f = let same : q ≡ query = cc in let said : v ≡ Proved s = cc in let found = h.0 s said in (ap (is_closed game) (sym same) ∙ found.0, found.1)
 sound_in game (q ∷ qs) (v ∷ vs) h (suc k) query s e f = sound_in game qs vs h.1 k query s e f
 
--- where the verdict on a query is `Proved`, its advantage is at most the value of the sum
+-- where the verdict on a query is `Proved`, the query holds up to the sum
 abbrev pub IsSoundFor : Content → List Verdict → Type 0
-IsSoundFor c vs = (k : ℕ) (query : Tree) (s : List Term) → slice_get (queries_in c.declarations) k ≡ Some query → slice_get vs k ≡ Some (Proved s) → (i : Interpretation) → Satisfies c.declarations i → (a : Adversary) → AtMost (advantage (setting_of c.declarations i) query a c.game) (value_of c.declarations i [] query a s)
+IsSoundFor c vs = (k : ℕ) (query : Tree) (s : List Term) → slice_get (queries_in c.declarations) k ≡ Some query → slice_get vs k ≡ Some (Proved s) → HoldsUpTo c.declarations [] c.game query s
 
 -- what is at most zero is at most anything
 at_most_any : (p q : Chance) → AtMost p zero_chance → AtMost p q
@@ -78,9 +78,14 @@ at_most_any p q h =
     let left : p.good * q.all ≡ 0 = ap (λ n. n * q.all) none ∙ (let e : 0 * q.all ≡ 0 = omega arith in e) in
     omega (arith, left)
 
-pub sound_at : (ds : List Declaration) (game : Tree) (qs : List Tree) (vs : List Verdict) → IsWellFormed ds game → AreSound game qs vs → (k : ℕ) (query : Tree) (s : List Term) → slice_get qs k ≡ Some query → slice_get vs k ≡ Some (Proved s) → (i : Interpretation) → Satisfies ds i → (a : Adversary) → AtMost (advantage (setting_of ds i) query a game) (value_of ds i [] query a s)
+-- a sum without terms has the value zero, of one tape
+no_terms : (ds : List Declaration) (i : Interpretation) (query : Tree) (a : Adversary) (s : List Term) → s ≡ [] → HasTapes (value_of ds i [] query a s)
+no_terms ds i query a s e = subst (λ (x : List Term). HasTapes (value_of ds i [] query a x)) (sym e) (omega arith)
+
+pub sound_at : (ds : List Declaration) (game : Tree) (qs : List Tree) (vs : List Verdict) → IsWellFormed ds game → AreSound game qs vs → (k : ℕ) (query : Tree) (s : List Term) → slice_get qs k ≡ Some query → slice_get vs k ≡ Some (Proved s) → HoldsUpTo ds [] game query s
 sound_at ds game qs vs w v k query s e h i sat a =
-    at_most_any (advantage (setting_of ds i) query a game) (value_of ds i [] query a s) (no_advantage ds game query w (sound_in game qs vs v k query s e h) i a)
+    let found = sound_in game qs vs v k query s e h in
+    (no_terms ds i query a s found.1, at_most_any (advantage (setting_of ds i) query a game) (value_of ds i [] query a s) (no_advantage ds game query w found.0 i a))
 
 -- statuses
 

@@ -1,7 +1,7 @@
 -- What the plain strategy says of a file: a query is closed where each left event stands below its right
 -- events, with the arguments that the query asks for. It closes one query after another, in at most 2,000 steps.
-use Rattle.std.specs.Prelude.{◌≡◌, ℕ, ◌+◌, ◌≤◌, nat_lt, Bool, true, false, if◌then◌else◌, List, [], ◌∷◌, ◌++◌, length, map, Option, Some, None, Result, Ok, Err, slice_get, IfSome}
-use Rattle.std.specs.List.{list_all}
+use Rattle.std.specs.Prelude.{◌≡◌, ℕ, ◌+◌, ◌≤◌, ◌&&◌, nat_lt, not, Bool, true, false, if◌then◌else◌, List, [], ◌∷◌, ◌++◌, length, map, Option, Some, None, Result, Ok, Err, slice_get, IfSome}
+use Rattle.std.specs.List.{list_all, list_any, zip}
 use Rattle.cv_syntax.specs.declared.work.File.{File}
 use Rattle.cv_syntax.specs.Declarations.{Declaration, declarations}
 use Rattle.cv_pool.specs.KindTree.{KindTree}
@@ -11,6 +11,7 @@ use Rattle.cv_meaning.specs.Satisfies.{Satisfies}
 use Rattle.cv_meaning.specs.Runs.{Adversary}
 use Rattle.cv_meaning.specs.Advantage.{advantage}
 use Rattle.cv_meaning.specs.Chances.{AtMost}
+use Rattle.cv_meaning_chances.specs.Fractions.{HasTapes}
 use Rattle.cv_query_direct.specs.Plain.{certificate, is_plainly_direct}
 use Rattle.cv_query_direct.specs.Search.{EntryTree}
 use Rattle.cv_query_direct.specs.Certificates.{step_of}
@@ -77,6 +78,22 @@ status_by full false = if full then status.Limit Steps else status.Open Stuck
 abbrev pub status_of : Said → Status
 status_of s = status_by s.full s.all
 
+-- the verdict is `Proved`
+abbrev pub is_proved : Verdict → Bool
+is_proved (Proved s) = true
+is_proved NotProved = false
+
+-- a query that would be closed has no step
+abbrev pub lacks_step : Tree → Tree × Verdict → Bool
+lacks_step game p = is_closed game p.0 && not (is_proved p.1)
+
+-- The status that verdicts on the queries of a game call for: `Proved` where each of them is, `Limit` where a query that
+-- would be closed has no step, and else `Stuck`.
+abbrev pub status_for : Tree → List Tree → List Verdict → Status
+status_for game qs vs =
+    if list_all is_proved vs then status.Proved
+    else (if list_any (lacks_step game) (zip qs vs) then status.Limit Steps else status.Open Stuck)
+
 -- the status of a file, or of bytes that are refused
 abbrev pub expected : Result Content FileError → Status
 expected (Err e) = ended_by e
@@ -117,11 +134,18 @@ declared_in r = declarations r.work.pool.trees r.work.decls.list
 abbrev pub game_in : Report → File → Tree
 game_in r f = tree_at r.work.pool.trees (Some f.game.root)
 
--- The steps and the verdicts are those of the plain strategy.
+-- what the plain strategy says of a report's file
+abbrev pub said_in : Report → File → Said
+said_in r f = said_of (game_in r f) nothing_said (queries_in (declared_in r))
+
+-- The steps, the verdicts and the status are those of the plain strategy, and the status is the one that the report's own
+-- verdicts call for.
 pub record FollowsStrategy (r : Report) (f : File) : Type 0 where
   pub trail : r.trail.items ≡ map closing r.steps.items
-  pub steps : map (said_by r.work.pool.trees) r.steps.items ≡ (said_of (game_in r f) nothing_said (queries_in (declared_in r))).steps
-  pub verdicts : r.verdicts.items ≡ (said_of (game_in r f) nothing_said (queries_in (declared_in r))).verdicts
+  pub steps : map (said_by r.work.pool.trees) r.steps.items ≡ (said_in r f).steps
+  pub verdicts : r.verdicts.items ≡ (said_in r f).verdicts
+  pub status : r.status ≡ status_of (said_in r f)
+  pub told : r.status ≡ status_for (game_in r f) (queries_in (declared_in r)) r.verdicts.items
 
 -- without a file there are none
 pub record SaysNothing (r : Report) : Type 0 where
@@ -149,8 +173,15 @@ EndsWell status.Proved = Unit {0}
 EndsWell status.Memory = Unit {0}
 EndsWell s = ⊥
 
--- Where the verdict on a query is `Proved`, the advantage against it is at most the value of the sum, for
--- every interpretation that satisfies the declarations and every adversary.
+-- No adversary has a greater advantage against the query than the sum's value, and the value has tapes.
+abbrev pub HoldsUpTo : List Declaration → Contexts → Tree → Tree → List Term → Type 0
+HoldsUpTo ds cs game query s =
+    (i : Interpretation) → Satisfies ds i → (a : Adversary)
+    → HasTapes (value_of ds i cs query a s) × AtMost (advantage (setting_of ds i) query a game) (value_of ds i cs query a s)
+
+-- Where the verdict on a query is `Proved`, the query holds up to the sum.
 abbrev pub IsSound : Report → Type 0
-IsSound r = IfSome r.file (λ f. (k : ℕ) (query : Tree) (s : List Term) → slice_get (queries_in (declared_in r)) k ≡ Some query → slice_get r.verdicts.items k ≡ Some (Proved s)
-    → (i : Interpretation) → Satisfies (declared_in r) i → (a : Adversary) → AtMost (advantage (setting_of (declared_in r) i) query a (game_in r f)) (value_of (declared_in r) i (contexts_in r) query a s))
+IsSound r =
+    IfSome r.file (λ f. (k : ℕ) (query : Tree) (s : List Term)
+    → slice_get (queries_in (declared_in r)) k ≡ Some query → slice_get r.verdicts.items k ≡ Some (Proved s)
+    → HoldsUpTo (declared_in r) (contexts_in r) (game_in r f) query s)

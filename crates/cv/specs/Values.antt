@@ -7,9 +7,9 @@ use Rattle.cv_syntax.specs.Tree.{Tree, Node}
 use Rattle.cv_meaning.specs.Interpretation.{Interpretation}
 use Rattle.cv_meaning.specs.Runs.{Adversary}
 use Rattle.cv_meaning.specs.Runs as mode
+use Rattle.cv_meaning.specs.Experiments as meaning
 use Rattle.cv_meaning.specs.Chances.{Chance, zero_chance}
 use Rattle.cv_meaning_contexts.specs.Sides.{Context}
-use Rattle.cv_meaning_contexts.specs.ContextAdvantage as context
 use Rattle.cv_meaning_contexts.specs.ContextAdvantage.{context_advantage}
 use Rattle.cv_bound.specs.declared.terms.Experiment.{Experiment}
 use Rattle.cv_bound.specs.declared.terms.Experiment.TheVariants.{Events, Real, Random}
@@ -35,10 +35,10 @@ secret_of (Node (SecretOnce x) a b) = x
 secret_of q = 0
 
 -- what is counted of a context in an experiment of a query
-abbrev pub counted_of : Tree → Experiment → context.Experiment
-counted_of q Events = context.Breaks q
-counted_of q Real = context.Guesses (mode.Real (is_once q) (secret_of q))
-counted_of q Random = context.Guesses (mode.Random (is_once q) (secret_of q))
+abbrev pub counted_of : Tree → Experiment → meaning.Experiment
+counted_of q Events = meaning.Breaks q
+counted_of q Real = meaning.Guesses (mode.Real (is_once q) (secret_of q))
+counted_of q Random = meaning.Guesses (mode.Random (is_once q) (secret_of q))
 
 abbrev pub advantage_of : List Declaration → Interpretation → Tree → Adversary → Experiment → Option Context → Chance
 advantage_of ds i q a e None = zero_chance

@@ -22,9 +22,6 @@ pub use cost::{Collision, Collisions, Cost, Factors};
 pub use sum::Sum;
 pub use text::{cost_text, listed_text};
 
-#[cfg(test)]
-mod tests;
-
 /// Adding a cost to a sum adds its value, whatever the interpretation and the advantages of the contexts
 /// are, also where a type is empty. Where the fractions have a value, so where no type is empty and the
 /// advantages have tapes, what they bound is bounded by the new sum.

@@ -2,7 +2,7 @@
 use Rattle.std.proofs.Common.{◌≡◌, ℕ, ◌+◌, ◌-◌, true, List, [], ◌∷◌, ◌++◌, Option, Some, None, refl, sym, ap, subst, ◌∙◌}
 use Rattle.std.specs.List.{AllByRecursion}
 use Rattle.cv_syntax.specs.declared.head.Head.{Head}
-use Rattle.cv_syntax.specs.declared.head.Head.TheVariants.{Repl, In, Event, New, Let, If, Find, Branch, Cons, Not, Eq}
+use Rattle.cv_syntax.specs.declared.head.Head.TheVariants.{Repl, In, Event, New, Let, If, Find, Branch, Cons, Not, Eq, Key, Call}
 use Rattle.cv_syntax.specs.Head.{weight}
 use Rattle.cv_syntax.specs.Tree.{Tree, Empty, Node, first, second, size}
 use Rattle.cv_meaning.specs.Interpretation.{Setting}
@@ -124,6 +124,8 @@ module _ (P Q : Tree → Type 0) where
   second-covers w (Let x T) a Γ Δ c =
       more-facts (with_cells Γ (cell_of Γ.replications x ∷ [])) (with_cells Δ (cell_of Δ.replications x ∷ [])) (Node Eq (cell_of Γ.replications x) a) (Node Eq (cell_of Δ.replications x) a) (ap (λ rs. Node Eq (cell_of rs x) a) c.replications)
       (more-cells Γ Δ (cell_of Γ.replications x ∷ []) (cell_of Δ.replications x ∷ []) (ap (λ rs. cell_of rs x ∷ []) c.replications) c)
+  second-covers w (Key x) a Γ Δ c = more-cells Γ Δ (cell_of Γ.replications x ∷ []) (cell_of Δ.replications x ∷ []) (ap (λ rs. cell_of rs x ∷ []) c.replications) c
+  second-covers w (Call x l) a Γ Δ c = more-cells Γ Δ (cell_of Γ.replications x ∷ []) (cell_of Δ.replications x ∷ []) (ap (λ rs. cell_of rs x ∷ []) c.replications) c
   second-covers w (Event e) a Γ Δ c = record { replications = c.replications; tested = c.tested; cells = c.cells; own = c.own; facts = c.facts }
   second-covers w If a Γ Δ c = record { replications = c.replications; tested = refl; cells = c.cells; own = c.own; facts = c.facts }
   second-covers w Branch a Γ Δ c = record { replications = c.replications; tested = c.tested; cells = c.cells; own = λ o. subst (AllByRecursion Q) (ap (λ rs. cells_of rs a) (sym c.replications)) (back Q Γ.own (cells_of Γ.replications a) o); facts = c.facts }

@@ -1,5 +1,6 @@
 mod Comparing
 mod Covering
+mod Factors
 mod Looking
 mod SitesStanding
 mod Sitings

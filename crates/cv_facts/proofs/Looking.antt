@@ -5,7 +5,7 @@ use Rattle.std.proofs.lemmas.Bool.{or_cases, or_left, or_right}
 use Rattle.cv_pool.specs.declared.node.NodeId.{NodeId}
 use Rattle.cv_pool.specs.KindTree.{KindTree}
 use Rattle.cv_syntax.specs.declared.head.Head.{Head}
-use Rattle.cv_syntax.specs.declared.head.Head.TheVariants.{Repl, In, New, Let, Branch, Cons, Binder}
+use Rattle.cv_syntax.specs.declared.head.Head.TheVariants.{Repl, In, New, Let, Branch, Cons, Binder, Key, Call}
 use Rattle.cv_syntax.specs.Tree.{Tree, Empty, Node, tree_at, tree_of}
 use Rattle.cv_syntax.proofs.Trees.{tree_at-None}
 use Rattle.cv_scope.specs.declared.position.Position.{Position}
@@ -110,6 +110,8 @@ second-cells w Cons a Γ = sym (append-nil Γ.cells)
 second-cells w (In c) a Γ = refl
 second-cells w (New x T) a Γ = refl
 second-cells w (Let x T) a Γ = refl
+second-cells w (Key x) a Γ = refl
+second-cells w (Call x l) a Γ = refl
 second-cells w h a Γ = sym (append-nil Γ.cells)
 
 second-replications : (w : Position) (h : Head) (a : Tree) (Γ : Context) → (second_standing w h a Γ).replications ≡ replications_below h Γ.replications

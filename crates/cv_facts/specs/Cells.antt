@@ -3,7 +3,7 @@ use Rattle.std.specs.Prelude.{◌≡◌, ◌≢◌, ◌⊎◌, ◌↔◌, ℕ, B
 use Rattle.cv_pool.specs.KindTree.{KindTree}
 use Rattle.cv_pool.specs.Nodes.{ChildBelow}
 use Rattle.cv_syntax.specs.declared.head.Head.{Head}
-use Rattle.cv_syntax.specs.declared.head.Head.TheVariants.{In, New, Let, Leaf, Read, Cons}
+use Rattle.cv_syntax.specs.declared.head.Head.TheVariants.{In, New, Let, Leaf, Read, Cons, Key, Call}
 use Rattle.cv_syntax.specs.Tree.{Tree, Empty, Node, lone, second, tree_at}
 use Rattle.cv_scope.specs.declared.position.Position.{Position}
 use Rattle.cv_scope.specs.declared.position.Position.TheVariants.{Guards, Guarded}
@@ -24,6 +24,8 @@ defined_second w Cons a Γ = defined_rest w a Γ
 defined_second w (In c) a Γ = cells_of Γ.replications (second a)
 defined_second w (New x T) a Γ = cell_of Γ.replications x ∷ []
 defined_second w (Let x T) a Γ = cell_of Γ.replications x ∷ []
+defined_second w (Key x) a Γ = cell_of Γ.replications x ∷ []
+defined_second w (Call x l) a Γ = cell_of Γ.replications x ∷ []
 defined_second w h a Γ = []
 
 -- the indices of replications, as index terms in front of others

@@ -1,5 +1,5 @@
--- The definitions of a variable in a game: inputs and branches that bind it, `new` and `let`. A variable's site is its only
--- definition. Blanchet, TDSC 2008, section 2.
+-- The definitions of a variable in a game or context: inputs and branches that bind it, `new`, `let`, keys and calls. A
+-- variable's site is its only definition. Blanchet, TDSC 2008, section 2.
 use Rattle.std.specs.Prelude.{ℕ, if◌then◌else◌, List, [], ◌∷◌, ◌++◌, Option, Some, None}
 use Rattle.cv_syntax.specs.Tree.{Tree, Empty, Node, first_place, second_place}
 use Rattle.cv_scope.specs.Sites.{Variable}

@@ -6,9 +6,8 @@ ghost use Rattle.cv_scope.specs.Rules.{IsAmong};
 ghost use Rattle.cv_facts.specs.Cells.{AheadBelow, ArePartsOf, IsAhead, IsNamed, binds_name, indices_of};
 
 use crate::sites::is_bound;
-use cv_path::same;
 use cv_syntax::children::{is_empty, is_leaf};
-use cv_syntax::{Head, NodeId, Pool, read_node};
+use cv_syntax::{Head, NodeId, Pool, read_node, same};
 
 /// What is left of a cell's index terms behind those of the replications above.
 #[derive(Clone, Copy, Debug)]

@@ -101,6 +101,8 @@ fn defines(pool: &Pool, sought: Sought, search: Search, node: Opened) -> bool
         Head::In(_) => binds(pool, name, second_of(pool, node.first)),
         Head::New(x, _) => is_name(name, x),
         Head::Let(x, _) => is_name(name, x),
+        Head::Key(x) => is_name(name, x),
+        Head::Call(x, _) => is_name(name, x),
         _ => false,
     }
 }

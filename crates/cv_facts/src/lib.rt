@@ -11,5 +11,5 @@ mod sites;
 pub use defined::defined_here;
 pub use facts::fact;
 pub use known::Fact;
-pub use laws::facts_hold_where_they_stand;
+pub use laws::{facts_hold_where_they_stand, places_have_few_factors};
 pub use sites::site;

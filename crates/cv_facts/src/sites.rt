@@ -55,6 +55,8 @@ fn is_definition(pool: &Pool, node: Opened, x: u32) -> bool
     match node.head {
         Head::New(y, _) => x == y,
         Head::Let(y, _) => x == y,
+        Head::Key(y) => x == y,
+        Head::Call(y, _) => x == y,
         Head::In(_) => is_bound(pool, second_of(pool, node.first), x),
         Head::Branch => is_bound(pool, node.first, x),
         _ => false,

@@ -1,32 +1,35 @@
 -- The advantage of an adversary against a query. Blanchet, CSF 2007, for correspondences; Blanchet,
 -- TDSC 2008, for secrecy and for secrecy of one session.
-use Rattle.std.specs.Prelude.{ℕ, Bool, true, false}
+use Rattle.std.specs.Prelude.{ℕ, Bool, true, false, List, Contains, if◌then◌else◌}
 use Rattle.cv_syntax.specs.declared.head.Head.TheVariants.{Secret, SecretOnce}
-use Rattle.cv_syntax.specs.Tree.{Tree, Node}
-use Rattle.cv_meaning.specs.Tapes.{Tape}
+use Rattle.cv_syntax.specs.Tree.{Tree, Node, lone}
 use Rattle.cv_meaning.specs.Interpretation.{Setting}
-use Rattle.cv_meaning.specs.Runs.{Mode, Events, Real, Random, Adversary}
+use Rattle.cv_meaning.specs.Runs.{Events, Real, Random, Adversary}
 use Rattle.cv_meaning.specs.Cells.{cells}
-use Rattle.cv_meaning.specs.Experiments.{run, guessed}
-use Rattle.cv_meaning.specs.Correspondences.{Correspondence, correspondence_of, broken}
+use Rattle.cv_meaning.specs.Experiments.{Experiment, Breaks, Guesses, mode_of, holds_on}
 use Rattle.cv_meaning.specs.Chances.{Chance, chance, distance}
 
--- whether the run on a tape breaks a correspondence
-unfoldable pub breaks : Setting → Correspondence → Adversary → Tree → Tape → Bool
-breaks g q a game t = broken g q (run g Events a game t).memory.events
-
-unfoldable pub break_chance : Setting → Correspondence → Adversary → Tree → Chance
-break_chance g q a game = chance (cells g Events a game) (breaks g q a game)
-
-unfoldable pub guess_chance : Setting → Mode → Adversary → Tree → Chance
-guess_chance g m a game = chance (cells g m a game) (guessed g m a game)
+-- the chance that an experiment holds
+unfoldable pub chance_of : Setting → Experiment → Adversary → Tree → Chance
+chance_of g x a game = chance (cells g (mode_of x) a game) (holds_on g x a game)
 
 -- how well the values of a variable are told from random ones
 abbrev pub secrecy : Setting → Bool → ℕ → Adversary → Tree → Chance
-secrecy g one x a game = distance (guess_chance g (Real one x) a game) (guess_chance g (Random one x) a game)
+secrecy g one x a game = distance (chance_of g (Guesses (Real one x)) a game) (chance_of g (Guesses (Random one x)) a game)
 
 -- against the tree of a query
 abbrev pub advantage : Setting → Tree → Adversary → Tree → Chance
 advantage g (Node (Secret x) b c) a game = secrecy g false x a game
 advantage g (Node (SecretOnce x) b c) a game = secrecy g true x a game
-advantage g q a game = break_chance g (correspondence_of q) a game
+advantage g q a game = chance_of g (Breaks q) a game
+
+-- the tree of a query of secrecy
+abbrev pub secrecy_query : Bool → ℕ → Tree
+secrecy_query one x = lone (if one then SecretOnce x else Secret x)
+
+-- an experiment of one of these queries
+abbrev pub IsAsked : List Tree → Experiment → Type 0
+IsAsked qs (Breaks q) = Contains qs q
+IsAsked qs (Guesses Events) = ⊥
+IsAsked qs (Guesses (Real one x)) = Contains qs (secrecy_query one x)
+IsAsked qs (Guesses (Random one x)) = Contains qs (secrecy_query one x)

@@ -11,8 +11,8 @@ pub mod Serving
 pub mod Consulted
 pub mod Runs
 pub mod Cells
-pub mod Experiments
 pub mod Correspondences
+pub mod Experiments
 pub mod Chances
 pub mod Advantage
 pub mod Direct

@@ -10,10 +10,9 @@ use Rattle.cv_meaning.specs.Serving.{Reply, Yielded, Sent}
 use Rattle.cv_meaning.specs.Candidates.{below}
 use Rattle.cv_meaning.specs.Runs.{Move, Answer, Refused, Replied, Told, Mode, Events, Real, Random, Adversary, State, moved, next_move, by_move, run_from, start}
 use Rattle.cv_meaning.specs.Cells.{cells}
-use Rattle.cv_meaning.specs.Experiments.{coins_on, run, guesses_one, guessed}
-use Rattle.cv_meaning.specs.Correspondences.{Correspondence, correspondence_of, broken}
+use Rattle.cv_meaning.specs.Experiments.{coins_on, run, Experiment, Breaks, Guesses, mode_of, holds_in, holds_on}
 use Rattle.cv_meaning.specs.Chances.{chance, distance}
-use Rattle.cv_meaning.specs.Advantage.{breaks, break_chance, guess_chance, advantage}
+use Rattle.cv_meaning.specs.Advantage.{chance_of, secrecy, advantage}
 use Rattle.cv_meaning_laws.proofs.Counts.{same_tuple_refl, same_tuple_exact}
 use Rattle.cv_meaning_laws.proofs.Listed.{Has, has_left, has_right, has_map, has_flat_map}
 use Rattle.cv_meaning_adequacy.specs.Counted.{tapes_of}
@@ -197,26 +196,29 @@ chances_alike a plays g m game p h =
     ap (λ k. record { good = k; all = total (cells g m a game) })
     (count_alike (cells g m a game) _ _ blank (λ t i. ap p (plays_alike a plays (record { setting = g; mode = m; game = game; tape = t }) (h _ (has_map (λ t. record { setting = g; mode = m; game = game; tape = t }) (tapes_of (cells g m a game) blank) t i)))))
 
-breaks_alike : (a : Adversary) (plays : List Play) (g : Setting) (q : Correspondence) (game : Tree) → Covers a plays g Events game → break_chance g q (table_adversary (table_of a plays)) game ≡ break_chance g q a game
-unfolding break_chance breaks
-breaks_alike a plays g q game h = chances_alike a plays g Events game (λ st. broken g q st.memory.events) h
+experiments_alike : (a : Adversary) (plays : List Play) (g : Setting) (x : Experiment) (game : Tree) → Covers a plays g (mode_of x) game → chance_of g x (table_adversary (table_of a plays)) game ≡ chance_of g x a game
+unfolding chance_of holds_on
+experiments_alike a plays g x game h = chances_alike a plays g (mode_of x) game (holds_in g x) h
 
-guesses_alike : (a : Adversary) (plays : List Play) (g : Setting) (m : Mode) (game : Tree) → Covers a plays g m game → guess_chance g m (table_adversary (table_of a plays)) game ≡ guess_chance g m a game
-unfolding guess_chance guessed
-guesses_alike a plays g m game h = chances_alike a plays g m game (λ st. guesses_one st.guess) h
+plays_of_secrecy : Adversary → Setting → Bool → ℕ → Tree → List Play
+plays_of_secrecy a g one x game = plays_in a g (Real one x) game ++ plays_in a g (Random one x) game
+
+secrecy_alike : (a : Adversary) (plays : List Play) (g : Setting) (one : Bool) (x : ℕ) (game : Tree) → ((p : Play) → Has (plays_of_secrecy a g one x game) p → Has plays p) → secrecy g one x (table_adversary (table_of a plays)) game ≡ secrecy g one x a game
+unfolding plays_of_secrecy
+secrecy_alike a plays g one x game h =
+    ap₂ distance (experiments_alike a plays g (Guesses (Real one x)) game (λ p i. h p (has_left _ _ p i)))
+    (experiments_alike a plays g (Guesses (Random one x)) game (λ p i. h p (has_right (plays_in a g (Real one x) game) _ p i)))
 
 plays_against : Adversary → Setting → Tree → Tree → List Play
-plays_against a g (Node (Secret x) b c) game = plays_in a g (Real false x) game ++ plays_in a g (Random false x) game
-plays_against a g (Node (SecretOnce x) b c) game = plays_in a g (Real true x) game ++ plays_in a g (Random true x) game
+plays_against a g (Node (Secret x) b c) game = plays_of_secrecy a g false x game
+plays_against a g (Node (SecretOnce x) b c) game = plays_of_secrecy a g true x game
 plays_against a g query game = plays_in a g Events game
 
 advantages_alike : (a : Adversary) (plays : List Play) (g : Setting) (query game : Tree) → ((p : Play) → Has (plays_against a g query game) p → Has plays p) → advantage g query (table_adversary (table_of a plays)) game ≡ advantage g query a game
 unfolding plays_against
-advantages_alike a plays g (Node (Secret x) b c) game h =
-    ap₂ distance (guesses_alike a plays g (Real false x) game (λ p i. h p (has_left _ _ p i))) (guesses_alike a plays g (Random false x) game (λ p i. h p (has_right (plays_in a g (Real false x) game) _ p i)))
-advantages_alike a plays g (Node (SecretOnce x) b c) game h =
-    ap₂ distance (guesses_alike a plays g (Real true x) game (λ p i. h p (has_left _ _ p i))) (guesses_alike a plays g (Random true x) game (λ p i. h p (has_right (plays_in a g (Real true x) game) _ p i)))
-advantages_alike a plays g query game h = breaks_alike a plays g (correspondence_of query) game h
+advantages_alike a plays g (Node (Secret x) b c) game h = secrecy_alike a plays g false x game h
+advantages_alike a plays g (Node (SecretOnce x) b c) game h = secrecy_alike a plays g true x game h
+advantages_alike a plays g query game h = experiments_alike a plays g (Breaks query) game h
 
 plays_at : Adversary → Target → List Play
 plays_at a x = plays_against a x.setting x.query x.game

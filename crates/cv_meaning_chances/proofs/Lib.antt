@@ -7,3 +7,5 @@ pub mod Covers
 pub mod Renaming
 pub mod Hits
 pub mod Asking
+pub mod Totals
+pub mod LikeTests

@@ -1,3 +1,4 @@
 pub mod Tests
 pub mod Fractions
 pub mod Questions
+pub mod Choices

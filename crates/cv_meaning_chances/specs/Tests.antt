@@ -1,7 +1,7 @@
 -- Lists of cells, and what a test reads of a tape. This profile's own.
 use Rattle.std.specs.Prelude.{◌≡◌, ℕ, ◌<◌, Bool, false, ◌==◌, ◌&&◌, ◌||◌, ◌⊎◌, List, [], ◌∷◌, map, Contains}
 use Rattle.std.specs.List.{AllByRecursion, IsDistinct, list_any}
-use Rattle.cv_meaning.specs.Tapes.{Cell, Tape, same_cell, cells_of, written}
+use Rattle.cv_meaning.specs.Tapes.{Cell, Tape, same_cell, cells_of, is_in, written}
 
 -- no cell is listed twice
 abbrev pub HasDistinctCells : List (Cell × ℕ) → Type 0
@@ -39,3 +39,11 @@ hits_one_of family c v t = list_any (same_cell c) family && (t c == v)
 abbrev pub some_equal : List Cell → Tape → Bool
 some_equal [] t = false
 some_equal (c ∷ cs) t = list_any (λ d. t c == t d) cs || some_equal cs t
+
+-- the test ignores each cell that isn't listed
+abbrev pub IgnoresOthers : (Tape → Bool) → List (Cell × ℕ) → Type 0
+IgnoresOthers p cs = (c : Cell) → is_in cs c ≡ false → Ignores p c
+
+-- each listed cell has the size that it has wherever it is listed
+abbrev pub HasSizes : (Cell → ℕ) → List (Cell × ℕ) → Type 0
+HasSizes size cs = AllByRecursion (λ (c : Cell × ℕ). c.1 ≡ size c.0) cs

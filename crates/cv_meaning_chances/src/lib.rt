@@ -4,8 +4,15 @@
 ghost use Rattle.std.specs.Prelude.{◌≡◌, ℕ, suc, ◌+◌, ◌*◌, ◌≤◌, ◌<◌, ◌↔◌, Bool, true, false, not, ◌&&◌, List, [], ◌∷◌, map, length, sum_by, All, Contains, IsPermutation, ◌==◌};
 ghost use Rattle.std.specs.List.{IsDistinct, list_any};
 ghost use Rattle.cv_meaning.specs.Tapes.{Cell, Coin, Tape, same_cell, written, count, total};
+ghost use Rattle.cv_syntax.specs.Tree.{Tree};
+ghost use Rattle.cv_meaning.specs.Interpretation.{Setting};
+ghost use Rattle.cv_meaning.specs.Runs.{Adversary, Mode};
+ghost use Rattle.cv_meaning.specs.Cells.{cells};
+ghost use Rattle.cv_meaning.specs.Experiments.{Experiment, mode_of};
+ghost use Rattle.cv_meaning.specs.Advantage.{advantage, chance_of};
+ghost use Rattle.cv_meaning_chances.specs.Choices.{ChoicesHaveValues};
 ghost use Rattle.cv_meaning.specs.Chances.{Chance, chance, zero_chance, AtMost, Same, distance};
-ghost use Rattle.cv_meaning_chances.specs.Tests.{HasDistinctCells, HasValues, IsWithin, Ignores, IsCoveredFor, renamed, IsOneToOne, hits_one_of, some_equal};
+ghost use Rattle.cv_meaning_chances.specs.Tests.{HasDistinctCells, HasSizes, HasValues, IsWithin, Ignores, IgnoresOthers, IsCoveredFor, renamed, IsOneToOne, hits_one_of, some_equal};
 ghost use Rattle.cv_meaning_chances.specs.Questions.{Questions, answer, AskAlike};
 ghost use Rattle.cv_meaning_chances.specs.Fractions.{HasTapes, plus, sum_of, times, scaled, one_of, birthday_bound};
 
@@ -118,6 +125,27 @@ pub fn cells_that_matter()
     ensures { (p : Tape → Bool) (cs ds : List (Cell × ℕ)) →
         HasDistinctCells cs → HasDistinctCells ds → IsCoveredFor p cs ds → IsCoveredFor p ds cs →
         Same (chance cs p) (chance ds p) }
+{}
+
+/// Tests that are equal on each tape within both of two lists, each of which ignores the cells outside of
+/// its own list, have one chance, where a cell that both have has one size.
+pub fn like_tests()
+    ensures { (size : Cell → ℕ) (cs ds : List (Cell × ℕ)) → HasSizes size cs → HasSizes size ds →
+        (p q : Tape → Bool) → HasDistinctCells cs → HasDistinctCells ds →
+        HasValues cs → HasValues ds → IgnoresOthers p cs → IgnoresOthers q ds →
+        ((t : Tape) → IsWithin cs t → IsWithin ds t → p t ≡ q t) →
+        Same (chance cs p) (chance ds q) }
+{}
+
+/// Where each random choice of a game has a value, each listed cell has one, and so the chance of an
+/// experiment and an advantage have tapes.
+pub fn experiments_have_tapes()
+    ensures cells { (g : Setting) (m : Mode) (a : Adversary) (game : Tree) →
+        ChoicesHaveValues g game → HasValues (cells g m a game) }
+    ensures chance { (g : Setting) (x : Experiment) (a : Adversary) (game : Tree) →
+        HasValues (cells g (mode_of x) a game) → HasTapes (chance_of g x a game) }
+    ensures advantage { (g : Setting) (query : Tree) (a : Adversary) (game : Tree) →
+        ChoicesHaveValues g game → HasTapes (advantage g query a game) }
 {}
 
 /// The cells may get other names, one to one; the test then reads each cell by its new name.

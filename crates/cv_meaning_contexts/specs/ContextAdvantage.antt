@@ -1,24 +1,14 @@
 -- The advantage of a context: how far apart the two sides of its equivalence let an experiment come out.
 -- Blanchet and Pointcheval, CRYPTO 2006. Chances as pairs of counts are this profile's own.
 use Rattle.std.specs.Prelude.{List}
-use Rattle.cv_syntax.specs.Tree.{Tree}
 use Rattle.cv_syntax.specs.Declarations.{Declaration}
-use Rattle.cv_meaning.specs.Interpretation.{Interpretation, Setting, setting_with}
-use Rattle.cv_meaning.specs.Runs.{Mode, Adversary}
-use Rattle.cv_meaning.specs.Correspondences.{correspondence_of}
+use Rattle.cv_meaning.specs.Interpretation.{Interpretation, setting_with}
+use Rattle.cv_meaning.specs.Runs.{Adversary}
+use Rattle.cv_meaning.specs.Experiments.{Experiment}
 use Rattle.cv_meaning.specs.Chances.{Chance, distance}
-use Rattle.cv_meaning.specs.Advantage.{break_chance, guess_chance}
+use Rattle.cv_meaning.specs.Advantage.{chance_of}
 use Rattle.cv_meaning_contexts.specs.Groups.{Which, Left, Right}
 use Rattle.cv_meaning_contexts.specs.Sides.{Context, side_of}
-
--- what is counted: the runs that break a query, or those in a mode of secrecy that end with the guess 1
-pub data Experiment : Type 0 where
-  Breaks : (query : Tree) → Experiment
-  Guesses : Mode → Experiment
-
-abbrev pub chance_of : Setting → Experiment → Adversary → Tree → Chance
-chance_of g (Breaks q) a game = break_chance g (correspondence_of q) a game
-chance_of g (Guesses m) a game = guess_chance g m a game
 
 abbrev pub context_chance : List Declaration → Interpretation → Context → Which → Experiment → Adversary → Chance
 context_chance declarations i c which x a = chance_of (setting_with declarations i (side_of declarations i c which)) x a c.game

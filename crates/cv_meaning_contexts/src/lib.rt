@@ -11,6 +11,7 @@ ghost use Rattle.cv_meaning.specs.Side.{Arrays, CallNumber, OracleCall};
 ghost use Rattle.cv_meaning.specs.Interpretation.{Interpretation, setting_of};
 ghost use Rattle.cv_meaning.specs.Terms.{bit, is_one};
 ghost use Rattle.cv_meaning.specs.Runs.{Adversary, Real, Random};
+ghost use Rattle.cv_meaning.specs.Experiments.{Experiment, Breaks, Guesses};
 ghost use Rattle.cv_meaning.specs.Chances.{chance};
 ghost use Rattle.cv_syntax.specs.Builders.{leaf};
 ghost use Rattle.cv_meaning_laws.specs.Worked.{adversary, never_query, declared_file};
@@ -20,7 +21,7 @@ ghost use Rattle.cv_meaning_contexts.specs.Frames.{Frame};
 ghost use Rattle.cv_meaning_contexts.specs.Finds.{Oracles, Pick, picks};
 ghost use Rattle.cv_meaning_contexts.specs.Made.{WasMade, have_own_cells};
 ghost use Rattle.cv_meaning_contexts.specs.Sides.{Context, side_from, side_of};
-ghost use Rattle.cv_meaning_contexts.specs.ContextAdvantage.{Experiment, Breaks, Guesses, context_chance, context_advantage};
+ghost use Rattle.cv_meaning_contexts.specs.ContextAdvantage.{context_chance, context_advantage};
 ghost use Rattle.cv_meaning_contexts.specs.OwnCells.{IsOfCall};
 ghost use Rattle.cv_meaning_contexts.specs.Worked.{binding_again, binder_again, choosing, choosing_twice, kept_by, one_label, renewing, uneven, parity, answers, at_site, site, side_at, encrypting, encryption, chosen_after, encryption_equivalence, encrypter, was_authenticated, checked, authenticating, tag, check, call_with, bound_twice, constant_group, keeper, one_put, one_of_two_branches, two_alike, bound_or_not, itself, put, get, last_of, picking, guessing, is_key, guess_equivalence, guess_context, guesses_zero, tells_the_test, authentication_context, forges, asks, replicated_game};
 

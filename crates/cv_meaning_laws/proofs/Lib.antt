@@ -1,7 +1,9 @@
 pub mod Agreeing
+pub mod Asked
 pub mod Counts
 pub mod Declared
 pub mod Fractions
 pub mod Lists
 pub mod Listed
 pub mod Moves
+pub mod Sides

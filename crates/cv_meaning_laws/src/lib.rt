@@ -1,27 +1,35 @@
 // Laws of the meaning of the calculus, and cases that are computed from its definitions.
 #![tactic(auto)]
 
-ghost use Rattle.std.specs.Prelude.{◌≡◌, ℕ, ◌-◌, [], ◌∷◌, true, false};
+ghost use Rattle.std.specs.Prelude.{◌≡◌, ℕ, ◌-◌, Bool, List, [], ◌∷◌, true, false};
 ghost use Rattle.std.specs.List.{AllByRecursion, IsDistinct};
 ghost use Rattle.cv_syntax.specs.declared.head.Head.TheVariants.{Secret, SecretOnce};
-ghost use Rattle.cv_syntax.specs.Tree.{Tree, lone, chain};
+ghost use Rattle.cv_syntax.specs.Tree.{Tree, chain, lone, reads_only};
 ghost use Rattle.cv_meaning.specs.Tapes.{Tape, same_cell, cells_of};
+ghost use Rattle.cv_meaning.specs.Side.{Side};
 ghost use Rattle.cv_meaning.specs.Interpretation.{Setting};
+ghost use Rattle.cv_meaning.specs.Memory.{Happened, Indices, Store};
+ghost use Rattle.cv_meaning.specs.Terms.{value, values};
+ghost use Rattle.cv_meaning.specs.Candidates.{candidates};
+ghost use Rattle.cv_meaning.specs.Inputs.{inputs_of};
+ghost use Rattle.cv_meaning_laws.specs.Agreement.{AgreeOn};
 ghost use Rattle.cv_meaning.specs.Satisfies.{Satisfies};
-ghost use Rattle.cv_meaning.specs.Runs.{Adversary, Mode, Real, Random};
+ghost use Rattle.cv_meaning.specs.Runs.{Adversary, Events, Mode, Real, Random, State};
 ghost use Rattle.cv_meaning.specs.Consulted.{consulted, IsListed};
 ghost use Rattle.cv_meaning.specs.Cells.{cells};
-ghost use Rattle.cv_meaning.specs.Experiments.{visits_of_run};
-ghost use Rattle.cv_meaning.specs.Correspondences.{RightEvent, correspondence_of};
+ghost use Rattle.cv_meaning.specs.Experiments.{Experiment, Guesses, holds_in, visits_of_run};
+ghost use Rattle.cv_meaning.specs.Correspondences.{Correspondence, RightEvent, broken, correspondence_of};
 ghost use Rattle.cv_meaning.specs.Chances.{IsFraction};
-ghost use Rattle.cv_meaning.specs.Advantage.{guess_chance, advantage};
+ghost use Rattle.cv_meaning.specs.Advantage.{IsAsked, advantage, chance_of};
 ghost use Rattle.cv_meaning.specs.Direct.{IsPlainlyDirect, is_unbound, plainly_covered};
 ghost use Rattle.cv_syntax.specs.Builders.{leaf};
 ghost use Rattle.cv_meaning_laws.specs.Worked.{sized, adversary, colliding_game, game_after_collision, never_query, sends_twice, choosing_game, calls_copy, own_index_game, calls_once, two_events_game, authentication_query, some_query, later_game, replay_game, replays, compares, sessions_game, tests_sessions, data_file, declared_file, with_function, interpretation_of_file, context_game, context_setting, constant_query};
 
-/// No advantage is above one.
+/// No chance and no advantage is above one.
 pub fn advantage_is_a_fraction()
-    ensures { (g : Setting) (query : Tree) (a : Adversary) (game : Tree) →
+    ensures chance { (g : Setting) (x : Experiment) (a : Adversary) (game : Tree) →
+        IsFraction (chance_of g x a game) }
+    ensures advantage { (g : Setting) (query : Tree) (a : Adversary) (game : Tree) →
         IsFraction (advantage g query a game) }
 {}
 
@@ -32,6 +40,31 @@ pub fn cells_are_complete()
         IsDistinct same_cell (cells_of (cells g m a game)) }
     ensures listed { (g : Setting) (m : Mode) (a : Adversary) (game : Tree) (t : Tape) →
         AllByRecursion (IsListed (cells g m a game)) (consulted g (visits_of_run g m a game t)) }
+{}
+
+/// Nothing below the side looks at what answers calls: not the values of terms, the candidates of a find,
+/// the inputs of a process, and whether a list of events breaks a query or an experiment holds at the end.
+pub fn nothing_below_looks_at_the_side()
+    ensures values { (g : Setting) (s : Side) (at : Indices) (m : Store) (term : Tree) →
+        value (record g { side = s }) at m term ≡ value g at m term }
+    ensures lists { (g : Setting) (s : Side) (at : Indices) (m : Store) (terms : Tree) →
+        values (record g { side = s }) at m terms ≡ values g at m terms }
+    ensures candidates { (g : Setting) (s : Side) (at : Indices) (m : Store) (branches : Tree) →
+        candidates (record g { side = s }) at m branches ≡ candidates g at m branches }
+    ensures inputs { (g : Setting) (s : Side) (process : Tree) (place : ℕ) (at : Indices) →
+        inputs_of (record g { side = s }) process place at ≡ inputs_of g process place at }
+    ensures broken { (g : Setting) (s : Side) (q : Correspondence) (events : List Happened) →
+        broken (record g { side = s }) q events ≡ broken g q events }
+    ensures experiments { (g : Setting) (s : Side) (x : Experiment) (last : State) →
+        holds_in (record g { side = s }) x last ≡ holds_in g x last }
+{}
+
+/// The value of a term depends on the variables that it reads alone.
+pub fn terms_read_their_variables_alone()
+    ensures values { (g : Setting) (at : Indices) (on : ℕ → Bool) (m n : Store) → AgreeOn on m n →
+        (term : Tree) → reads_only on term ≡ true → value g at m term ≡ value g at n term }
+    ensures lists { (g : Setting) (at : Indices) (on : ℕ → Bool) (m n : Store) → AgreeOn on m n →
+        (terms : Tree) → reads_only on terms ≡ true → values g at m terms ≡ values g at n terms }
 {}
 
 /// Two nonces of size 2 are equal on 8 of 16 tapes; where their indices are asked to be equal and
@@ -86,23 +119,32 @@ pub fn worked_correspondences()
 /// Secrecy of a nonce that was sent, and of the nonces of two sessions that were not: tests of both, two
 /// tests of one, and two tests of one where one test is answered.
 pub fn worked_secrecy()
-    ensures real { guess_chance (sized 3 1 1) (Real false 4)
+    ensures real { chance_of (sized 3 1 1) (Guesses (Real false 4))
         (adversary 3 compares) (two_events_game 11 12) ≡ record { good = 9; all = 9 } }
-    ensures random { guess_chance (sized 3 1 1) (Random false 4)
+    ensures random { chance_of (sized 3 1 1) (Guesses (Random false 4))
         (adversary 3 compares) (two_events_game 11 12) ≡ record { good = 3; all = 9 } }
     ensures sent { advantage (sized 3 1 1) (lone (Secret 4))
         (adversary 3 compares) (two_events_game 11 12) ≡ record { good = 54; all = 81 } }
     ensures sent_once { advantage (sized 3 1 1) (lone (SecretOnce 4))
         (adversary 3 compares) (two_events_game 11 12) ≡ record { good = 54; all = 81 } }
 
-    ensures two_sessions { guess_chance (sized 2 2 1) (Random false 4)
+    ensures two_sessions { chance_of (sized 2 2 1) (Guesses (Random false 4))
         (adversary 5 (tests_sessions 1)) sessions_game ≡ record { good = 8; all = 16 } }
-    ensures tested_twice { guess_chance (sized 2 2 1) (Random false 4)
+    ensures tested_twice { chance_of (sized 2 2 1) (Guesses (Random false 4))
         (adversary 5 (tests_sessions 0)) sessions_game ≡ record { good = 16; all = 16 } }
-    ensures one_test { guess_chance (sized 2 2 1) (Random true 4)
+    ensures one_test { chance_of (sized 2 2 1) (Guesses (Random true 4))
         (adversary 5 (tests_sessions 0)) sessions_game ≡ record { good = 0; all = 16 } }
     ensures secret { advantage (sized 2 2 1) (lone (Secret 4))
         (adversary 5 (tests_sessions 1)) sessions_game ≡ record { good = 0; all = 256 } }
+{}
+
+/// A query of secrecy asks for the real and the random experiment of its variable, in its own form, and no
+/// query asks for guesses in the mode of events.
+pub fn worked_experiments()
+    ensures real { (x : ℕ) → IsAsked (lone (Secret x) ∷ []) (Guesses (Real false x)) }
+    ensures random { (x : ℕ) → IsAsked (lone (Secret x) ∷ []) (Guesses (Random false x)) }
+    ensures other_form { (x : ℕ) → ¬ IsAsked (lone (Secret x) ∷ []) (Guesses (Real true x)) }
+    ensures events { (queries : List Tree) → ¬ IsAsked queries (Guesses Events) }
 {}
 
 /// A call is answered by the side, from the key at the call's key tuple and a cell of the call.

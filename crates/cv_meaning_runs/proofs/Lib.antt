@@ -2,6 +2,7 @@ pub mod Lists
 pub mod Together
 pub mod Placed
 pub mod Copies
+pub mod Ends
 pub mod Spots
 pub mod Addresses
 pub mod Tested

@@ -13,13 +13,12 @@ use Rattle.cv_meaning.specs.Candidates.{Candidate, below, tuples_up_to, candidat
 use Rattle.cv_meaning.specs.Inputs.{Input, inputs_of, message_binders}
 use Rattle.cv_meaning.specs.Serving.{Served, Turn, Ends, First, Second, after_find, step, serve, after_turn, Visit, visits}
 use Rattle.cv_meaning.specs.Runs.{Mode, Events, Real, Random, Adversary, State, told}
-use Rattle.cv_meaning.specs.Experiments.{run, guessed}
-use Rattle.cv_meaning.specs.Correspondences.{Correspondence}
-use Rattle.cv_meaning.specs.Advantage.{breaks}
+use Rattle.cv_meaning.specs.Experiments.{Experiment, mode_of, holds_on, run}
 use Rattle.cv_meaning_runs.specs.Agreement.{AgreeAt}
 use Rattle.cv_meaning_runs.specs.Simulation.{InOrder, AreServedAlike, AreAlike, IsSimulation}
 use Rattle.cv_meaning_runs.specs.Replacement.{Part, Process, Branches, before_body, IsReplaced, here, in_continuation, in_parallel, in_list, in_find, in_branch, in_later_branch, AreLikeInputs, SameMemory, ServeAlike, IsLocalChange}
-use Rattle.cv_meaning_runs.proofs.Simulation.{in_order_append, games_alike, guesses_alike, breaks_alike}
+use Rattle.cv_meaning_runs.proofs.Simulation.{in_order_append, games_alike}
+use Rattle.cv_meaning_runs.proofs.Ends.{experiments_alike, holds_alike}
 
 agree_refl : (t : Tape) (cs : List Cell) → AgreeAt cs t t
 agree_refl t [] = tt
@@ -189,8 +188,7 @@ replaced_alike V a g m old new place game next t l = games_alike SameMemory (Are
 same_events : (x y : Memory) → SameMemory x y → x.events ≡ y.events
 same_events x y e = ap (λ (r : Memory). r.events) e
 
-pub replaced_breaks : (V : Visit → Type 0) (q : Correspondence) (a : Adversary) (g : Setting) (old new : Tree) (place : ℕ) (game next : Tree) (t : Tape) → IsLocalChange V a g Events old new place game next t → breaks g q a game t ≡ breaks g q a next t
-replaced_breaks V q a g old new place game next t l = breaks_alike SameMemory (AreLikeInputs old new place) same_events g q a game next t t (replaced_alike V a g Events old new place game next t l)
-
-pub replaced_guesses : (V : Visit → Type 0) (a : Adversary) (g : Setting) (m : Mode) (old new : Tree) (place : ℕ) (game next : Tree) (t : Tape) → IsLocalChange V a g m old new place game next t → guessed g m a game t ≡ guessed g m a next t
-replaced_guesses V a g m old new place game next t l = guesses_alike SameMemory (AreLikeInputs old new place) g g m m a game next t t (replaced_alike V a g m old new place game next t l)
+pub replaced_holds : (V : Visit → Type 0) (x : Experiment) (a : Adversary) (g : Setting) (old new : Tree) (place : ℕ) (game next : Tree) (t : Tape) → IsLocalChange V a g (mode_of x) old new place game next t → holds_on g x a game t ≡ holds_on g x a next t
+replaced_holds V x a g old new place game next t l =
+    let like : Input → Input → Type 0 = AreLikeInputs old new place in
+    holds_alike SameMemory like g g x x a game next t t (experiments_alike SameMemory like same_events g g.side x) (replaced_alike V a g (mode_of x) old new place game next t l)

@@ -1,20 +1,15 @@
 -- Two runs, move by move: where related inputs are served alike, whole runs are alike.
-use Rattle.std.proofs.Common.{◌≡◌, ℕ, zero, suc, Bool, true, false, cond, ◌&&◌, ◌==◌, List, [], ◌∷◌, ◌++◌, Option, Some, None, refl, ap, ap₂, subst, ◌∙◌, is_some}
+use Rattle.std.proofs.Common.{◌≡◌, ℕ, zero, suc, Bool, true, false, cond, ◌&&◌, ◌==◌, List, [], ◌∷◌, ◌++◌, Option, Some, None, refl, ap, ap₂, subst, is_some}
 use Rattle.std.specs.List.{AllByRecursion}
 use Rattle.cv_syntax.specs.Tree.{Tree}
-use Rattle.cv_meaning.specs.Tapes.{Tape, Cell, blank, total, same_tuple}
+use Rattle.cv_meaning.specs.Tapes.{Tape, same_tuple}
 use Rattle.cv_meaning.specs.Interpretation.{Setting}
 use Rattle.cv_meaning.specs.Memory.{Memory}
 use Rattle.cv_meaning.specs.Binders.{fits}
 use Rattle.cv_meaning.specs.Inputs.{Input, message_binders}
 use Rattle.cv_meaning.specs.Serving.{Visit}
-use Rattle.cv_meaning.specs.Runs.{Mode, Events, Adversary, Answer, Refused, Replied, Told, Move, Calls, Tests, Guesses, State, Taken, taken, behind, is_at, if_fitting, called, told, tested_with, moved, run_from, next_move, by_move, visits_of_call, visits_of_move, run_visits, start}
-use Rattle.cv_meaning.specs.Cells.{cells}
-use Rattle.cv_meaning.specs.Correspondences.{Correspondence, broken}
-use Rattle.cv_meaning.specs.Chances.{chance}
-use Rattle.cv_meaning.specs.Advantage.{breaks, break_chance, guess_chance}
-use Rattle.cv_meaning_laws.proofs.Counts.{count_same}
-use Rattle.cv_meaning.specs.Experiments.{run, guessed, guesses_one, visits_of_run, coins_on}
+use Rattle.cv_meaning.specs.Runs.{Mode, Adversary, Answer, Refused, Replied, Told, Move, Calls, Tests, Guesses, State, Taken, taken, behind, is_at, if_fitting, called, told, tested_with, moved, run_from, next_move, by_move, visits_of_call, visits_of_move, run_visits, start}
+use Rattle.cv_meaning.specs.Experiments.{run, visits_of_run, coins_on}
 use Rattle.cv_meaning_runs.specs.Simulation.{InOrder, AreAlike, IsSimulation, IsGameSimulation}
 use Rattle.cv_meaning_runs.proofs.Lists.{left_part, right_part}
 use Rattle.cv_meaning_runs.proofs.Together.{coins_same}
@@ -97,24 +92,3 @@ unfolding run visits_of_run
 games_alike K L V a g h m n x y t u s =
     subst (λ cs. AreAlike K L (run_from g m (a.next (coins_on t 0 a.coins)) t a.moves (start g x)) (run_from h n (a.next cs) u a.moves (start h y))) (coins_same t u 0 a.coins s.coins)
     (run_alike K L V g h m n t u s.steps (a.next (coins_on t 0 a.coins)) a.moves (start g x) (start h y) (record { memory = s.memory; inputs = s.begun; answers = refl; tested = refl; guess = refl }) s.visited)
-
--- tests of the end of a run, and their chances
-
-pub guesses_alike : (K : Memory → Memory → Type 0) (L : Input → Input → Type 0) (g h : Setting) (m n : Mode) (a : Adversary) (x y : Tree) (t u : Tape) → AreAlike K L (run g m a x t) (run h n a y u) → guessed g m a x t ≡ guessed h n a y u
-unfolding guessed
-guesses_alike K L g h m n a x y t u s = ap guesses_one s.guess
-
-pub breaks_alike : (K : Memory → Memory → Type 0) (L : Input → Input → Type 0) → ((x y : Memory) → K x y → x.events ≡ y.events) → (g : Setting) (q : Correspondence) (a : Adversary) (x y : Tree) (t u : Tape) → AreAlike K L (run g Events a x t) (run g Events a y u) → breaks g q a x t ≡ breaks g q a y u
-unfolding breaks
-breaks_alike K L e g q a x y t u s = ap (broken g q) (e (run g Events a x t).memory (run g Events a y u).memory s.memory)
-
-chance_alike : (cs ds : List (Cell × ℕ)) (p q : Tape → Bool) → cs ≡ ds → ((t : Tape) → p t ≡ q t) → chance cs p ≡ chance ds q
-chance_alike cs ds p q e f = (λ i. record { good = count_same cs p q blank f i; all = total cs }) ∙ ap (λ xs. chance xs q) e
-
-pub guess_chances_alike : (g h : Setting) (m n : Mode) (a : Adversary) (x y : Tree) → ((t : Tape) → guessed g m a x t ≡ guessed h n a y t) → cells g m a x ≡ cells h n a y → guess_chance g m a x ≡ guess_chance h n a y
-unfolding guess_chance
-guess_chances_alike g h m n a x y f e = chance_alike _ _ (guessed g m a x) (guessed h n a y) e f
-
-pub break_chances_alike : (g : Setting) (q : Correspondence) (a : Adversary) (x y : Tree) → ((t : Tape) → breaks g q a x t ≡ breaks g q a y t) → cells g Events a x ≡ cells g Events a y → break_chance g q a x ≡ break_chance g q a y
-unfolding break_chance
-break_chances_alike g q a x y f e = chance_alike _ _ (breaks g q a x) (breaks g q a y) e f

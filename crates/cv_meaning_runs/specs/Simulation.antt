@@ -10,7 +10,7 @@ use Rattle.cv_meaning.specs.Inputs.{Input, inputs_of, message_binders}
 use Rattle.cv_meaning.specs.Serving.{Served, Visit, visits}
 use Rattle.cv_meaning.specs.Runs.{Mode, Adversary, State, serve_input, begun, told}
 use Rattle.cv_meaning.specs.Cells.{coin_cells}
-use Rattle.cv_meaning.specs.Experiments.{visits_of_run}
+use Rattle.cv_meaning.specs.Experiments.{Experiment, holds_in, visits_of_run}
 use Rattle.cv_meaning_runs.specs.Agreement.{AgreeAt}
 
 -- lists of one length, with their elements related in order
@@ -55,3 +55,7 @@ pub record IsGameSimulation (Memories : Memory → Memory → Type 0) (Inputs : 
   pub begun : InOrder Inputs (inputs_of g x 0 []) (inputs_of h y 0 [])
   pub visited : AllByRecursion Expected (visits_of_run g m a x t)
   pub coins : AgreeAt (cells_of (coin_cells 0 a.coins)) t u
+
+-- two experiments hold alike at the ends of runs that are alike
+abbrev pub HoldAlike : (Memory → Memory → Type 0) → (Input → Input → Type 0) → Setting → Setting → Experiment → Experiment → Type 0
+HoldAlike Memories Inputs g h x y = (r s : State) → AreAlike Memories Inputs r s → holds_in g x r ≡ holds_in h y s

@@ -5,7 +5,7 @@ ghost use Rattle.std.specs.Prelude.{◌≡◌, ℕ, Bool, false, true, List, ◌
 ghost use Rattle.std.specs.List.{AllByRecursion, IsDistinct, list_any};
 ghost use Rattle.cv_syntax.specs.Tree.{Tree, subtree};
 ghost use Rattle.cv_meaning.specs.Tapes.{Tape, Cell, Test_at, cells_of, same_cell};
-ghost use Rattle.cv_meaning.specs.Side.{no_side};
+ghost use Rattle.cv_meaning.specs.Side.{Side, no_side};
 ghost use Rattle.cv_meaning.specs.Interpretation.{Setting};
 ghost use Rattle.cv_meaning.specs.Memory.{Memory, Indices, Local};
 ghost use Rattle.cv_meaning.specs.Inputs.{Input, inputs_of};
@@ -13,7 +13,6 @@ ghost use Rattle.cv_meaning.specs.Serving.{Visit, serve};
 ghost use Rattle.cv_meaning.specs.Runs.{
   Adversary,
   Answer,
-  Events,
   Mode,
   Move,
   State,
@@ -25,9 +24,8 @@ ghost use Rattle.cv_meaning.specs.Runs.{
 };
 ghost use Rattle.cv_meaning.specs.Consulted.{IsListed, consulted};
 ghost use Rattle.cv_meaning.specs.Cells.{cells};
-ghost use Rattle.cv_meaning.specs.Correspondences.{Correspondence};
-ghost use Rattle.cv_meaning.specs.Advantage.{break_chance, guess_chance};
-ghost use Rattle.cv_meaning.specs.Experiments.{run, visits_of_run};
+ghost use Rattle.cv_meaning.specs.Advantage.{chance_of};
+ghost use Rattle.cv_meaning.specs.Experiments.{Experiment, Guesses, mode_of, run, visits_of_run};
 ghost use Rattle.cv_meaning_runs.specs.Moments.{moments_of_run, visits_among, cells_of_run};
 ghost use Rattle.cv_meaning_runs.specs.Listed.{IsTestable, AreKeysListed, has_no_calls};
 ghost use Rattle.cv_meaning_runs.specs.Spots.{
@@ -43,6 +41,7 @@ ghost use Rattle.cv_meaning_runs.specs.Simulation.{
   AreServedAlike,
   AreAlike,
   HaveSameEvents,
+  HoldAlike,
   IsSimulation,
   IsGameSimulation,
 };
@@ -184,8 +183,9 @@ pub trait RunRelation {
 
 /// Where related inputs are served alike and tests tell the same, two runs show the adversary the same
 /// answers and end with the same guess, in states that are related: from related states on, and for
-/// two games that begin alike. If this is so on every tape, and the lists of cells are equal, a guess
-/// has one chance in both games, and where related memories have the same events, so has a break.
+/// two games that begin alike. There guesses hold alike, and where related memories have the same events
+/// so does each experiment, whatever answers calls. If this is so on every tape, and the lists of cells
+/// are equal, experiments that hold alike have one chance.
 pub fn simulated_runs_are_alike<R: RunRelation>()
     ensures moves { (g h : Setting) (m n : Mode) (t u : Tape) →
         IsSimulation (R.memories t) (R.inputs t) (R.expected t) g h m n t u →
@@ -196,15 +196,17 @@ pub fn simulated_runs_are_alike<R: RunRelation>()
     ensures games { (a : Adversary) (g h : Setting) (m n : Mode) (x y : Tree) (t u : Tape) →
         IsGameSimulation (R.memories t) (R.inputs t) (R.expected t) a g h m n x y t u →
         AreAlike (R.memories t) (R.inputs t) (run g m a x t) (run h n a y u) }
-    ensures guess_chances { (a : Adversary) (g h : Setting) (m n : Mode) (x y : Tree) →
-        ((t : Tape) →
-        IsGameSimulation (R.memories t) (R.inputs t) (R.expected t) a g h m n x y t t) →
-        cells g m a x ≡ cells h n a y → guess_chance g m a x ≡ guess_chance h n a y }
-    ensures break_chances { (q : Correspondence) (a : Adversary) (g : Setting) (x y : Tree) →
-        ((t : Tape) → HaveSameEvents (R.memories t)) →
-        ((t : Tape) →
-        IsGameSimulation (R.memories t) (R.inputs t) (R.expected t) a g g Events Events x y t t) →
-        cells g Events a x ≡ cells g Events a y → break_chance g q a x ≡ break_chance g q a y }
+    ensures guesses { (t : Tape) (g h : Setting) (m n : Mode) →
+        HoldAlike (R.memories t) (R.inputs t) g h (Guesses m) (Guesses n) }
+    ensures experiments { (t : Tape) → HaveSameEvents (R.memories t) →
+        (g : Setting) (s : Side) (x : Experiment) →
+        HoldAlike (R.memories t) (R.inputs t) (record g { side = s }) g x x }
+    ensures chances { (a : Adversary) (g h : Setting) (x y : Experiment) (p q : Tree) →
+        ((t : Tape) → HoldAlike (R.memories t) (R.inputs t) g h x y) →
+        ((t : Tape) → IsGameSimulation (R.memories t) (R.inputs t) (R.expected t) a g h
+        (mode_of x) (mode_of y) p q t t) →
+        cells g (mode_of x) a p ≡ cells h (mode_of y) a q →
+        chance_of g x a p ≡ chance_of h y a q }
 {}
 
 /// The subtree at a place where a service may come is replaced by another.
@@ -253,13 +255,9 @@ pub fn local_changes_keep_runs<E: Expectation>()
     ensures runs { (a : Adversary) (g : Setting) (m : Mode) (old new : Tree) (p : ℕ)
         (game next : Tree) (t : Tape) → IsLocalChange (E.visits t) a g m old new p game next t →
         AreAlike SameMemory (AreLikeInputs old new p) (run g m a game t) (run g m a next t) }
-    ensures guess_chances { (a : Adversary) (g : Setting) (m : Mode) (old new : Tree) (p : ℕ)
+    ensures chances { (x : Experiment) (a : Adversary) (g : Setting) (old new : Tree) (p : ℕ)
         (game next : Tree) →
-        ((t : Tape) → IsLocalChange (E.visits t) a g m old new p game next t) →
-        cells g m a game ≡ cells g m a next → guess_chance g m a game ≡ guess_chance g m a next }
-    ensures break_chances { (q : Correspondence) (a : Adversary) (g : Setting)
-        (old new : Tree) (p : ℕ) (game next : Tree) →
-        ((t : Tape) → IsLocalChange (E.visits t) a g Events old new p game next t) →
-        cells g Events a game ≡ cells g Events a next →
-        break_chance g q a game ≡ break_chance g q a next }
+        ((t : Tape) → IsLocalChange (E.visits t) a g (mode_of x) old new p game next t) →
+        cells g (mode_of x) a game ≡ cells g (mode_of x) a next →
+        chance_of g x a game ≡ chance_of g x a next }
 {}

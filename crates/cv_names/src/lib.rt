@@ -4,6 +4,3 @@
 mod names;
 
 pub use names::{NameError, NameId, Names};
-
-#[cfg(test)]
-mod tests;

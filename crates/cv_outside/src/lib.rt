@@ -4,8 +4,6 @@
 mod real;
 mod shelf;
 mod sink;
-#[cfg(test)]
-mod tests;
 
 pub use real::{FileShelf, OutSink};
 pub use shelf::{FetchError, MemShelf, Shelf, SureShelf};

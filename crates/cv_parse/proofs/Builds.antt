@@ -1,5 +1,5 @@
 -- What was read of a file, built in a pool.
-use Rattle.std.proofs.Common.{◌≡◌, ℕ, zero, suc, ◌+◌, ◌<◌, ◌≤◌, true, false, List, [], ◌∷◌, ◌++◌, length, length-append, map, All, slice_index_or, refl, ap, ap₂, subst, sym, ◌∙◌, arith, append_assoc, append-nil, Option, Some, None}
+use Rattle.std.proofs.Common.{◌≡◌, ℕ, ◌+◌, ◌<◌, ◌≤◌, true, false, List, [], ◌∷◌, ◌++◌, length, length-append, map, All, slice_index_or, refl, ap, ap₂, subst, sym, ◌∙◌, arith, append_assoc, append-nil, Option, Some, None}
 use Rattle.std.proofs.lemmas.List.{length-map}
 use Rattle.std.proofs.lemmas.List.Elements.{recursion_from_All, All-from_recursion}
 use Rattle.std.specs.Prelude.{flat_map, option_map}
@@ -14,7 +14,7 @@ use Rattle.cv_syntax.specs.declared.make.Make.TheVariants as make
 use Rattle.cv_syntax.specs.Declarations.{Declaration, Named, Equation, Equiv, Query, declared, declarations, number}
 use Rattle.cv_syntax.specs.Planting.{overs}
 use Rattle.cv_syntax.specs.Postorder.{postorder}
-use Rattle.cv_syntax.specs.Tree.{Tree, Empty, Node, tree_at, tree_of}
+use Rattle.cv_syntax.specs.Tree.{Tree, Empty, Node, tree_at}
 use Rattle.cv_syntax.proofs.Trees.{tree_at-None}
 use Rattle.cv_parse_grammar.specs.Filled.{filled}
 use Rattle.cv_parse_grammar.specs.Identities.{AreDistinct, ids_of}

@@ -1,5 +1,5 @@
 /// What a name is declared as, or asked to be declared as.
-#[derive(Clone, Copy, Debug, PartialEq, Eq)]
+#[derive(Clone, Copy, PartialEq, Eq)]
 pub enum Asked {
     /// A parameter, which bounds a replication.
     AParam,
@@ -18,7 +18,7 @@ pub enum Asked {
 }
 
 /// A part of a file that has names of its own.
-#[derive(Clone, Copy, Debug, PartialEq, Eq)]
+#[derive(Clone, Copy)]
 pub enum Region {
     /// An equation.
     InEquation,
@@ -31,7 +31,7 @@ pub enum Region {
 }
 
 /// What a name is used for, or what is told about names without one.
-#[derive(Clone, Copy, Debug, PartialEq, Eq)]
+#[derive(Clone, Copy)]
 pub enum Role {
     /// The name of a declaration.
     Declares(Asked),
@@ -70,7 +70,7 @@ pub enum Role {
 }
 
 /// What a type may be declared as. `Bounded` has no effect.
-#[derive(Clone, Copy, Debug, PartialEq, Eq)]
+#[derive(Clone, Copy)]
 pub enum TypeOption {
     /// `new` may choose of the type.
     Fixed,

@@ -8,10 +8,10 @@ use Rattle.cv_parse_grammar.specs.declared.role.Region.{Region}
 use Rattle.cv_parse_grammar.specs.declared.role.Region.TheVariants.{InEquation, InQuery, InEquivalence, InProcess}
 use Rattle.cv_parse_grammar.specs.declared.role.Role.{Role}
 use Rattle.cv_parse_grammar.specs.declared.role.Role.TheVariants.{Declares, Asks, BindsLocal, BindsBound, AsksBound, BindsVariable, BindsIndex, AsksIndex, Mentions, AsCall, AsBare, MentionsCell}
-use Rattle.cv_parse_grammar.specs.Names.{Uses, as_bare, as_call, binds_variable, cell_known_in as cell_known_there, declares, is_declared, is_free, is_function, is_own, is_used, is_variable, known_in as known_there, obeys, part_from, same_asked}
+use Rattle.cv_parse_grammar.specs.Names.{Uses, as_bare, as_call, binds_variable, cell_known_in as cell_known_there, declares, is_declared, is_free, is_function, is_used, is_variable, known_in as known_there, obeys, part_from, same_asked}
 use Rattle.cv_parse_names.specs.declared.table.Entry.{Entry}
 use Rattle.cv_parse_names.specs.declared.table.Scope.{Scope}
-use Rattle.cv_parse_names.specs.Table.{called, bare, cell_known_in, goes_on_as_call, goes_on_bare, is_since, known_in, name_obeys, next_of, stands_as_function, was_declared}
+use Rattle.cv_parse_names.specs.Table.{called, bare, cell_known_in, goes_on_as_call, goes_on_bare, is_since, known_in, name_obeys, next_of, stands_as_function}
 use Rattle.cv_parse_names.proofs.Entries.{IsKnown}
 
 ap3 : (f : Bool → Bool → Bool → Bool) {a b c i j k : Bool} → a ≡ i → b ≡ j → c ≡ k → f a b c ≡ f i j k

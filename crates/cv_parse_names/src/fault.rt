@@ -11,7 +11,7 @@ use cv_parse_terms::NameUse;
 use std::alloc::{AllocError, Global};
 
 /// A rule of names that a use breaks, and how many tokens are left where it stands.
-#[derive(Clone, Copy, Debug, PartialEq, Eq)]
+#[derive(Clone, Copy)]
 pub enum NameFault {
     /// The name has another use that keeps it from being declared or bound here.
     Twice(usize),

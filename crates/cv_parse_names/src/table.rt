@@ -6,7 +6,7 @@ use cv_parse_terms::NameUse;
 use std::alloc::{AllocError, Global};
 
 /// What is known of a name.
-#[derive(Clone, Copy, Debug, PartialEq, Eq)]
+#[derive(Clone, Copy)]
 pub struct Entry {
     /// A use declares it, read or not.
     pub declared_somewhere: bool,
@@ -23,7 +23,7 @@ pub struct Entry {
 }
 
 /// The part of the file that is open, and the place where its own names begin.
-#[derive(Clone, Copy, Debug, PartialEq, Eq)]
+#[derive(Clone, Copy)]
 pub struct Scope {
     pub region: Option<Region>,
     pub start: usize,

@@ -2,7 +2,7 @@ ghost use Rattle.std.specs.Prelude.{◌≡◌};
 ghost use Rattle.cv_parse_notation.specs.Marks.{mark_code};
 
 /// A reserved word or a symbol.
-#[derive(Clone, Copy, Debug, PartialEq, Eq)]
+#[derive(Clone, Copy)]
 pub enum Mark {
     Proof,
     Process,
@@ -67,7 +67,7 @@ pub enum Mark {
 }
 
 /// A token, as the grammar sees it.
-#[derive(Clone, Copy, Debug, PartialEq, Eq)]
+#[derive(Clone, Copy)]
 pub enum Sign {
     /// An identifier that isn't reserved, by the number of its text.
     Word(u32),

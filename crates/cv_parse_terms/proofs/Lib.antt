@@ -7,3 +7,5 @@ pub mod Steady
 pub mod Tails
 pub mod Begins
 pub mod Nodes
+pub mod Listing
+pub mod Passing

@@ -13,7 +13,7 @@ use cv_parse_notation::{Mark, Sign};
 use std::alloc::Global;
 
 /// What stands in a list of names.
-#[derive(Clone, Copy, Debug, PartialEq, Eq)]
+#[derive(Clone, Copy)]
 pub enum Item {
     /// Names that are used so.
     Name(Role),
@@ -22,7 +22,7 @@ pub enum Item {
 }
 
 /// What stands in a list of pairs of names.
-#[derive(Clone, Copy, Debug, PartialEq, Eq)]
+#[derive(Clone, Copy)]
 pub enum Pair {
     /// A name that is used so, with its type.
     Typed(Role),

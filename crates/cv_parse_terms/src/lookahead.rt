@@ -8,7 +8,7 @@ use cv_parse_notation::{Mark, Sign};
 use std::alloc::{AllocError, AllocFailed};
 
 /// Why a phrase isn't read. A fault carries the number of its token.
-#[derive(Clone, Copy, Debug, PartialEq, Eq)]
+#[derive(Clone, Copy)]
 pub enum ReadError {
     Syntax(u32),
     Nesting(u32),

@@ -10,7 +10,7 @@ use cv_syntax::{Head, Make};
 use std::alloc::{AllocError, Global};
 
 /// A use of a name: what for, the number of the name, and how many tokens are left where it stands.
-#[derive(Clone, Copy, Debug, PartialEq, Eq)]
+#[derive(Clone, Copy)]
 pub struct NameUse {
     pub role: Role,
     pub name: u32,

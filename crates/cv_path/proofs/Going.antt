@@ -1,6 +1,6 @@
 -- What stays on the way down to a place.
 use Rattle.std.proofs.Common.{◌≡◌, ℕ, ◌+◌, ◌-◌, ◌<◌, ◌≤◌, Bool, true, false, cond, List, [], ◌∷◌, ◌++◌, length, Option, Some, None, refl, sym, ap, ap₂, subst, ◌∙◌, arith, nat_lt, le-ltb, lt-ltb}
-use Rattle.std.specs.Prelude.{All, IfSome}
+use Rattle.std.specs.Prelude.{All}
 use Rattle.std.proofs.lemmas.List.Elements.{All-pop, All-push, All-same}
 use Rattle.cv_pool.specs.KindTree.{KindTree}
 use Rattle.cv_pool.specs.Nodes.{ChildBelow}
@@ -11,7 +11,7 @@ use Rattle.cv_syntax.proofs.Trees.{empty_at, size-Empty}
 use Rattle.cv_syntax.proofs.Walking.{size-node}
 use Rattle.cv_syntax.specs.declared.head.Head.{Head}
 use Rattle.cv_syntax.specs.Head.{weight}
-use Rattle.cv_syntax.specs.Tree.{Tree, Empty, Node, first, second, size, subtree, tree_at, tree_of}
+use Rattle.cv_syntax.specs.Tree.{Tree, Empty, Node, second, size, subtree, tree_at}
 use Rattle.cv_syntax.specs.Walks.{above}
 use Rattle.cv_meaning_runs.specs.Replacement.{replaced}
 use Rattle.cv_path.specs.declared.place.Lies.TheVariants.{Here, Within, Behind}

@@ -1,4 +1,3 @@
 pub mod Bounds
 pub mod Going
-mod Products
-mod Sames
+pub mod Products

@@ -2,7 +2,6 @@
 #![tactic(auto)]
 
 mod counting;
-mod equality;
 mod error;
 mod laws;
 mod place;
@@ -10,12 +9,8 @@ mod product;
 mod replacing;
 
 pub use counting::copies;
-pub use equality::same;
 pub use error::PathError;
 pub use laws::{places_are_below_the_size, worked_copies};
 pub use place::{Lies, at, place_in};
 pub use product::Product;
 pub use replacing::replace;
-
-#[cfg(test)]
-mod tests;

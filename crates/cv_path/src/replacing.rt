@@ -81,6 +81,7 @@ fn join(pool: &mut Pool, head: Head, first: Option<NodeId>, second: Option<NodeI
     ensures live { result.0 < length pool.new.trees }
     ensures grows { Grows pool.old pool.new }
     ensures spare { pool.old.spare ≤ pool.new.spare + 1 }
+    ensures few { length pool.new.trees ≤ length pool.old.trees + 1 }
 {
     pool.node(head.kind(), first, second)
 }
@@ -95,6 +96,7 @@ fn turned(pool: &mut Pool, turn: Turn, new: NodeId) -> NodeId
     ensures live { result.0 < length pool.new.trees }
     ensures grows { Grows pool.old pool.new }
     ensures spare { pool.old.spare ≤ pool.new.spare + 1 }
+    ensures few { length pool.new.trees ≤ length pool.old.trees + 1 }
 {
     let node = read_node(pool, turn.node);
     if turn.second {
@@ -113,6 +115,7 @@ fn rebuilt(pool: &mut Pool, way: Vec<Turn>, by: NodeId) -> NodeId
     ensures tree { tree_at pool.new.trees (Some result) ≡ led pool.old.trees way.items (tree_at pool.old.trees (Some by)) }
     ensures live { result.0 < length pool.new.trees }
     ensures grows { Grows pool.old pool.new }
+    ensures few { length pool.new.trees ≤ length pool.old.trees + length way.items }
 {
     let mut left = way;
     let mut new = by;
@@ -141,6 +144,7 @@ pub fn replace(
     ensures refused { (e : PathError) → IsErrOf result e → (e ≡ no_memory) ⊎ (refusal pool.old (tree_at pool.old.trees (Some root)) place ≡ Some e) }
     ensures kept { OnErr result (pool.new.trees ≡ pool.old.trees) }
     ensures limit { pool.new.limit ≡ pool.old.limit }
+    ensures few { OnOk result (length pool.new.trees ≤ length pool.old.trees + nodes_above (tree_at pool.old.trees (Some root)) place) }
 {
     let way = way_to(alloc, pool, root, place, by)?;
     match pool.reserve(way.len() as u32) {

@@ -10,6 +10,3 @@ mod pool;
 pub use node::{Kind, Mark, NodeId};
 pub use numbers::numbers_are_stable;
 pub use pool::{Pool, PoolError};
-
-#[cfg(test)]
-mod tests;

@@ -1,10 +1,9 @@
 -- What a text is at a node, by the texts of its children.
-use Rattle.std.proofs.Common.{◌≡◌, ℕ, ◌+◌, List, [], ◌∷◌, ◌++◌, refl, append_assoc, Option, Some, None, IsNone, is_none, true, false, ◌↔◌}
+use Rattle.std.proofs.Common.{◌≡◌, ℕ, ◌+◌, List, [], ◌++◌, refl, append_assoc, Option, Some, None, IsNone, is_none, true, false, ◌↔◌}
 use Rattle.std.proofs.lemmas.List.{append-nil}
 use Rattle.std.specs.Prelude.{codes}
 use Rattle.std.specs.Fmt.{decimal}
-use Rattle.cv_pool.specs.KindTree.{NoTree}
-use Rattle.cv_syntax.specs.Tree.{Tree, Empty, Node, tree_of}
+use Rattle.cv_syntax.specs.Tree.{Tree, Empty, Node}
 use Rattle.cv_pool.specs.declared.node.NodeId.{NodeId}
 use Rattle.cv_syntax.specs.declared.head.Head.TheVariants.{Leaf, Read, Apply, Eq, And, Or, Not, Yes, No, Par, Repl, If, Find}
 use Rattle.cv_syntax.specs.Children.{is_empty}

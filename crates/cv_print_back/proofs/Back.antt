@@ -1,7 +1,6 @@
 -- What is written is read back.
 use Rattle.std.proofs.Common.{◌≡◌, ℕ, ◌+◌, ◌-◌, ◌≤◌, Bool, true, false, ◌||◌, nat_lt, List, [], ◌∷◌, ◌++◌, drop, take, length, length-append, if◌then◌else◌, refl, ap, sym, ◌∙◌, arith, Result, Ok, Err}
 use Rattle.std.specs.Prelude.{max}
-use Rattle.std.proofs.lemmas.Bool.Decides.{nat_tests}
 use Rattle.std.proofs.lemmas.List.{append-nil, take_all}
 use Rattle.std.proofs.lemmas.Bool.{le-ltb}
 use Rattle.cv_syntax.specs.declared.decls.Decl.{Decl}

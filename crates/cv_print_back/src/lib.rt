@@ -4,6 +4,3 @@
 mod laws;
 
 pub use laws::{games_come_back, reading_games_is_exact, reading_terms_is_exact, terms_come_back};
-
-#[cfg(test)]
-mod tests;

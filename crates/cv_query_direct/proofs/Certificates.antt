@@ -75,7 +75,7 @@ test_by_direct game binders left atoms e d =
 pub no_advantage : (ds : List Declaration) (game query : Tree) → IsWellFormed ds game → is_plainly_direct game query ≡ true → (i : Interpretation) (a : Adversary) → AtMost (advantage (setting_of ds i) query a game) zero_chance
 unfolding is_plain_query
 no_advantage ds game (Node Query bs (Node Cons left atoms)) w h i a =
-    plainly_at_most ds (setting_of ds i) (correspondence_of (Node Query bs (Node Cons left atoms))) a game refl w (direct_by_test game (Node Query bs (Node Cons left atoms)) h)
+    plainly_at_most ds (setting_of ds i) (Node Query bs (Node Cons left atoms)) a game refl w (direct_by_test game (Node Query bs (Node Cons left atoms)) h)
 no_advantage ds game query w h i a = absurd (both_ways _ refl h)
 
 pub ruleset certificate_laws = (certificate_some)

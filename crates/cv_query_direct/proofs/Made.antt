@@ -1,16 +1,15 @@
 -- What is made at the end of a list of parts.
-use Rattle.std.proofs.Common.{◌≡◌, ℕ, zero, suc, ◌+◌, ◌≤◌, List, [], ◌∷◌, ◌++◌, length, drop, refl, ap, sym, ◌∙◌, arith, append_assoc, append-nil, map, Option, Some, Result, Ok, Err}
+use Rattle.std.proofs.Common.{◌≡◌, ℕ, suc, ◌+◌, ◌≤◌, List, [], ◌∷◌, ◌++◌, length, drop, refl, ap, sym, ◌∙◌, arith, append_assoc, append-nil, map, Option, Some}
 use Rattle.std.proofs.lemmas.List.{drop_all, replicate_more}
-use Rattle.std.proofs.lemmas.Result.{on_ok_weaker}
-use Rattle.std.specs.Prelude.{OnOk, replicate, flat_map, slice_get}
+use Rattle.std.specs.Prelude.{replicate, flat_map, slice_get}
 use Rattle.cv_pool.specs.declared.node.NodeId.{NodeId}
-use Rattle.cv_pool.specs.KindTree.{KindTree, NoTree}
+use Rattle.cv_pool.specs.KindTree.{KindTree}
 use Rattle.cv_syntax.specs.declared.head.Head.{Head}
 use Rattle.cv_syntax.specs.declared.head.Head.TheVariants.{Cons}
 use Rattle.cv_syntax.specs.declared.make.Make.{Make}
 use Rattle.cv_syntax.specs.declared.make.Make.TheVariants.{Nothing, Over}
 use Rattle.cv_syntax.specs.Planting.{overs}
-use Rattle.cv_syntax.specs.Tree.{Tree, Empty, Node, chain, tree_at, tree_of}
+use Rattle.cv_syntax.specs.Tree.{Tree, Empty, Node, chain, tree_at}
 use Rattle.cv_syntax.specs.Postorder.{postorder}
 use Rattle.cv_syntax.proofs.Trees.{tree_of-NoTree}
 use Rattle.cv_script.specs.Steps.{reflexive, reflexive_lines, terms_in}

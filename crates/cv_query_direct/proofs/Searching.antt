@@ -9,8 +9,8 @@ use Rattle.cv_syntax.specs.declared.head.Head.TheVariants.{Event}
 use Rattle.cv_pool.specs.declared.node.NodeId.{NodeId}
 use Rattle.cv_pool.specs.Nodes.{ChildBelow}
 use Rattle.cv_syntax.specs.Head.{weight}
-use Rattle.cv_pool.specs.KindTree.{KindTree, NoTree}
-use Rattle.cv_syntax.specs.Tree.{Tree, Empty, Node, size, tree_of, tree_at, first_place, second_place}
+use Rattle.cv_pool.specs.KindTree.{KindTree}
+use Rattle.cv_syntax.specs.Tree.{Tree, Empty, Node, size, tree_at, first_place, second_place}
 use Rattle.cv_syntax.proofs.Trees.{tree_of-NoTree, size_open}
 use Rattle.cv_meaning.specs.Correspondences.{Correspondence, Atom, RightEvent, RightTerm, atoms_of}
 use Rattle.cv_meaning.specs.Direct.{Noted, is_noted, is_unbound, atom_noted, event_covered, head_covered, noted_by, plainly_covered}

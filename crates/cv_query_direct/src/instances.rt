@@ -8,9 +8,8 @@ ghost use Rattle.cv_meaning.specs.Direct as direct;
 ghost use Rattle.cv_meaning.specs.Direct.{argument};
 ghost use Rattle.cv_query_direct.specs.Found.{term_stands, terms_stand};
 
-use cv_path::same;
 use cv_syntax::children::is_empty;
-use cv_syntax::{Head, NodeId, Opened, Pool, read_node};
+use cv_syntax::{Head, NodeId, Opened, Pool, read_node, same};
 use std::collections::HashSet;
 
 /// What stands for the variables of a query: the arguments of a left event.

@@ -1,7 +1,7 @@
 -- The tests of a query, node by node.
-use Rattle.std.proofs.Common.{◌≡◌, ℕ, zero, suc, ◌+◌, ◌<◌, ◌≤◌, Bool, true, false, ◌&&◌, ◌||◌, not, cond, List, [], ◌∷◌, length, drop, refl, ap, sym, ◌∙◌, arith, nat_eq, Option, Some, None, IsNone, is_some, ◌↔◌, ◌⊎◌, inl, inr, subst, option_and_then, All, Result, IfOk}
-use Rattle.std.specs.Prelude.{◌==◌, slice_get, option_map}
-use Rattle.std.specs.HashSet.{Updates, UpdatesBy}
+use Rattle.std.proofs.Common.{◌≡◌, ℕ, zero, suc, ◌+◌, ◌<◌, ◌≤◌, Bool, true, false, ◌&&◌, ◌||◌, not, List, [], ◌∷◌, length, drop, refl, ap, sym, ◌∙◌, arith, nat_eq, Option, Some, None, IsNone, is_some, ◌↔◌, ◌⊎◌, inl, inr, subst, option_and_then, All, Result, IfOk}
+use Rattle.std.specs.Prelude.{slice_get, option_map}
+use Rattle.std.specs.HashSet.{UpdatesBy}
 use Rattle.std.proofs.Math.Path.{fun_ext}
 use Rattle.std.proofs.lemmas.List.Elements.{All-head, All-tail}
 use Rattle.cv_pool.specs.declared.node.NodeId.{NodeId}
@@ -9,7 +9,7 @@ use Rattle.cv_pool.specs.KindTree.{KindTree}
 use Rattle.cv_syntax.specs.declared.decls.Decl.{Decl}
 use Rattle.cv_syntax.specs.declared.decls.Decl.TheVariants as decl
 use Rattle.cv_syntax.specs.declared.head.Head.{Head}
-use Rattle.cv_syntax.specs.declared.head.Head.TheVariants.{Leaf, Cons, Binder, Query, Occurs, OccursOnce, Secret, SecretOnce}
+use Rattle.cv_syntax.specs.declared.head.Head.TheVariants.{Leaf, Cons, Query, Occurs, OccursOnce, Secret, SecretOnce}
 use Rattle.cv_syntax.specs.Declarations.{declarations}
 use Rattle.cv_syntax.specs.NameSets.{NameSet, is_in, is_one_of}
 use Rattle.cv_syntax.specs.Tree.{Tree, Empty, Node, tree_at}

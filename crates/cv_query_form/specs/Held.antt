@@ -1,5 +1,5 @@
 -- What the code reads of a query, part by part.
-use Rattle.std.specs.Prelude.{ℕ, Bool, true, false, ◌&&◌, Option, Some, None, option_map}
+use Rattle.std.specs.Prelude.{ℕ, Bool, false, ◌&&◌, Option, Some, None, option_map}
 use Rattle.cv_syntax.specs.declared.head.Head.{Head}
 use Rattle.cv_syntax.specs.declared.head.Head.TheVariants.{Leaf, Cons, Query, Occurs, OccursOnce, Secret, SecretOnce}
 use Rattle.cv_syntax.specs.Tree.{Tree, Empty, Node}

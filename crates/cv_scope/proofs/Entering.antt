@@ -51,14 +51,14 @@ all-added ds k (x ∷ xs) =
 pub definitions-front : (ds : List (ℕ × ℕ)) (k : ℕ) (xs : List ℕ) → take (length ds) (with_definitions ds k xs) ≡ ds
 definitions-front ds k xs = let o = all-added ds k xs in ap (take (length ds)) o.1 ∙ front-append ds o.0
 
-module _ (trees : List KindTree) (numbers : List ℕ) (s r : State) (w : Position) (h : Head) (a : Tree) (p q : ℕ) where
+module _ (trees : List KindTree) (s r : State) (w : Position) (h : Head) (a : Tree) (p q : ℕ) where
   pub entered :
       r.replications.items ≡ replications_below h s.replications.items
       → r.defined ≡ with_definitions s.defined (length s.replications.items) (defined_by h a)
       → cells_held trees r.listed ≡ cells_held trees s.listed ++ listed_by w h a
       → take (length s.listed) r.listed ≡ s.listed
       → r.passed ≡ s.passed ++ passed_by w h p q
-      → r.last ≡ s.last → AreListed trees numbers r.listed → IsEntered trees numbers s r w h a p q
+      → r.last ≡ s.last → AreListed trees r.listed → IsEntered trees s r w h a p q
   entered er ed el fl ep eq live = record {
     held = λ i. record { replications = er i; defined = ed i; listed = el i; passed = ep i; last = Rattle.cv_scope.specs.Held.last_held trees (eq i) };
     front = record {
@@ -71,30 +71,30 @@ module _ (trees : List KindTree) (numbers : List ℕ) (s r : State) (w : Positio
     last = eq;
   }
 
-  pub defines-entered : AreListed trees numbers s.listed → replications_below h s.replications.items ≡ s.replications.items → listed_by w h a ≡ [] → passed_by w h p q ≡ [] → DefinesOnly s r (with_definitions s.defined (length s.replications.items) (defined_by h a)) → IsEntered trees numbers s r w h a p q
+  pub defines-entered : AreListed trees s.listed → replications_below h s.replications.items ≡ s.replications.items → listed_by w h a ≡ [] → passed_by w h p q ≡ [] → DefinesOnly s r (with_definitions s.defined (length s.replications.items) (defined_by h a)) → IsEntered trees s r w h a p q
   defines-entered live er el ep d =
       entered (d.replications ∙ sym er) d.defined
       (ap (cells_held trees) d.listed ∙ (sym (append-nil (cells_held trees s.listed)) ∙ ap (λ l. cells_held trees s.listed ++ l) (sym el)))
       (front-same s.listed r.listed d.listed)
       (d.passed ∙ (sym (append-nil s.passed) ∙ ap (λ l. s.passed ++ l) (sym ep)))
-      d.last (subst (AreListed trees numbers) (sym d.listed) live)
+      d.last (subst (AreListed trees) (sym d.listed) live)
 
-  pub lists-entered : replications_below h s.replications.items ≡ s.replications.items → defined_by h a ≡ [] → passed_by w h p q ≡ [] → ListsOnly trees numbers s r (listed_by w h a) → IsEntered trees numbers s r w h a p q
+  pub lists-entered : replications_below h s.replications.items ≡ s.replications.items → defined_by h a ≡ [] → passed_by w h p q ≡ [] → ListsOnly trees s r (listed_by w h a) → IsEntered trees s r w h a p q
   lists-entered er ed ep d =
       entered (d.replications ∙ sym er) (d.defined ∙ ap (with_definitions s.defined (length s.replications.items)) (sym ed)) d.listed d.front
       (d.passed ∙ (sym (append-nil s.passed) ∙ ap (λ l. s.passed ++ l) (sym ep)))
       d.last d.live
 
-  pub passes-entered : AreListed trees numbers s.listed → replications_below h s.replications.items ≡ s.replications.items → defined_by h a ≡ [] → listed_by w h a ≡ [] → passed_by w h p q ≡ (p, q) ∷ [] → r ≡ record s { passed = r.passed } → r.passed ≡ s.passed ++ (p, q) ∷ [] → IsEntered trees numbers s r w h a p q
+  pub passes-entered : AreListed trees s.listed → replications_below h s.replications.items ≡ s.replications.items → defined_by h a ≡ [] → listed_by w h a ≡ [] → passed_by w h p q ≡ (p, q) ∷ [] → r ≡ record s { passed = r.passed } → r.passed ≡ s.passed ++ (p, q) ∷ [] → IsEntered trees s r w h a p q
   passes-entered live er ed el ep e m =
       let same = ap (λ (z : State). z.listed) e in
       entered (ap (λ (z : State). z.replications.items) e ∙ sym er) (ap (λ (z : State). z.defined) e ∙ ap (with_definitions s.defined (length s.replications.items)) (sym ed))
       (ap (cells_held trees) same ∙ (sym (append-nil (cells_held trees s.listed)) ∙ ap (λ l. cells_held trees s.listed ++ l) (sym el)))
       (front-same s.listed r.listed same)
       (m ∙ ap (λ l. s.passed ++ l) (sym ep))
-      (ap (λ (z : State). z.last) e) (subst (AreListed trees numbers) (sym same) live)
+      (ap (λ (z : State). z.last) e) (subst (AreListed trees) (sym same) live)
 
-  pub replicates-entered : (i n : ℕ) → h ≡ Repl i n → AreListed trees numbers s.listed → r ≡ record s { replications = r.replications } → r.replications.items ≡ s.replications.items ++ (i, n) ∷ [] → IsEntered trees numbers s r w h a p q
+  pub replicates-entered : (i n : ℕ) → h ≡ Repl i n → AreListed trees s.listed → r ≡ record s { replications = r.replications } → r.replications.items ≡ s.replications.items ++ (i, n) ∷ [] → IsEntered trees s r w h a p q
   replicates-entered i n eh live e m =
       let same = ap (λ (z : State). z.listed) e in
       entered (m ∙ ap (λ k. replications_below k s.replications.items) (sym eh))
@@ -102,7 +102,7 @@ module _ (trees : List KindTree) (numbers : List ℕ) (s r : State) (w : Positio
       (ap (cells_held trees) same ∙ (sym (append-nil (cells_held trees s.listed)) ∙ ap (λ k. cells_held trees s.listed ++ listed_by w k a) (sym eh)))
       (front-same s.listed r.listed same)
       (ap (λ (z : State). z.passed) e ∙ (sym (append-nil s.passed) ∙ ap (λ k. s.passed ++ passed_by w k p q) (sym eh)))
-      (ap (λ (z : State). z.last) e) (subst (AreListed trees numbers) (sym same) live)
+      (ap (λ (z : State). z.last) e) (subst (AreListed trees) (sym same) live)
 
 -- a head that makes nothing known
 abbrev pub IsPlain : List (ℕ × ℕ) → Position → Head → Tree → ℕ → ℕ → Type 0
@@ -120,6 +120,6 @@ plain-head rs w Branch a p q m i k l y z f b c = absurd (b refl)
 plain-head rs w Cons a p q m i k l y z f b c = absurd (c refl)
 plain-head rs w h a p q m i k l y z f b c = (refl, refl, refl, refl)
 
-pub plain-entered : (trees : List KindTree) (numbers : List ℕ) (s : State) (w : Position) (h : Head) (a : Tree) (p q : ℕ) → AreListed trees numbers s.listed → IsPlain s.replications.items w h a p q → IsEntered trees numbers s s w h a p q
-plain-entered trees numbers s w h a p q live e =
-    defines-entered trees numbers s s w h a p q live e.0 e.2 e.3 (record { replications = refl; defined = ap (with_definitions s.defined (length s.replications.items)) (sym e.1); listed = refl; passed = refl; last = refl })
+pub plain-entered : (trees : List KindTree) (s : State) (w : Position) (h : Head) (a : Tree) (p q : ℕ) → AreListed trees s.listed → IsPlain s.replications.items w h a p q → IsEntered trees s s w h a p q
+plain-entered trees s w h a p q live e =
+    defines-entered trees s s w h a p q live e.0 e.2 e.3 (record { replications = refl; defined = ap (with_definitions s.defined (length s.replications.items)) (sym e.1); listed = refl; passed = refl; last = refl })

@@ -117,7 +117,7 @@ released trees marks s r q sites k t l v = record {
 }
 
 -- a node's own sites are noted, then those of its first part, and then what the second part knows is learned
-module _ (trees : List KindTree) (numbers : List ℕ) (s s1 s2 s3 : State) (w : Position) (h : Head) (a : Tree) (p p1 p2 : ℕ) (e1 : OnlySites trees s s1 (sites_here s.replications.items p h a)) (q1 : p1 ≡ p + weight h) (e2 : OnlySites trees s1 s2 (sites_from s1.replications.items p1 a)) (q2 : p2 ≡ p1 + size a) (e3 : IsEntered trees numbers s2 s3 w h a p1 p2) where
+module _ (trees : List KindTree) (s s1 s2 s3 : State) (w : Position) (h : Head) (a : Tree) (p p1 p2 : ℕ) (e1 : OnlySites trees s s1 (sites_here s.replications.items p h a)) (q1 : p1 ≡ p + weight h) (e2 : OnlySites trees s1 s2 (sites_from s1.replications.items p1 a)) (q2 : p2 ≡ p1 + size a) (e3 : IsEntered trees s2 s3 w h a p1 p2) where
   place-second : p2 ≡ p + weight h + size a
   place-second = q2 ∙ ap (λ n. n + size a) q1
 

@@ -4,7 +4,6 @@ use Rattle.std.specs.HashMap.{get}
 use Rattle.cv_pool.specs.KindTree.{KindTree}
 use Rattle.cv_pool.specs.Nodes.{ChildBelow}
 use Rattle.cv_pool.specs.declared.node.NodeId.{NodeId}
-use Rattle.cv_interning.specs.Numbers.{number_of}
 use Rattle.cv_syntax.specs.declared.decls.Class.TheVariants.{Fun}
 use Rattle.cv_syntax.specs.declared.decls.Decl.{Decl}
 use Rattle.cv_syntax.specs.Declarations.{Declaration, Named, declared}
@@ -21,7 +20,6 @@ use Rattle.cv_scope.specs.Rules.{Names}
 use Rattle.cv_scope.specs.declared.enter.Marks.{Marks}
 use Rattle.cv_scope.specs.declared.state.State.{State}
 use Rattle.cv_scope.specs.Seen.{Seen, behind, with_sites}
-use Rattle.cv_scope.specs.declared.listed.ListedCell.{ListedCell}
 use Rattle.cv_scope.specs.declared.lasts.LastSite.{LastSite}
 use Rattle.cv_scope.specs.declared.lasts.Lasts.{Lasts}
 use Rattle.cv_scope.specs.Sites.{Site, SiteName, Variable, Channel, Label, bound_types}
@@ -70,16 +68,13 @@ names_held n = record {
   variable = λ x. is_some ((seen n.sites).variable x) || untyped_held n x;
 }
 
--- a listed cell is live, and has the number of its tree
-abbrev pub IsListed : List KindTree → List ℕ → ListedCell → Type 0
-IsListed trees numbers c = ChildBelow (length trees) c.tree × (c.number ≡ number_of numbers c.tree)
-
-abbrev pub AreListed : List KindTree → List ℕ → List ListedCell → Type 0
-AreListed trees numbers list = All (IsListed trees numbers) list
+-- listed cells are live
+abbrev pub AreListed : List KindTree → List (Option NodeId) → Type 0
+AreListed trees cells = All (ChildBelow (length trees)) cells
 
 -- the trees of listed cells
-abbrev pub cells_held : List KindTree → List ListedCell → List Tree
-cells_held trees list = map (λ (c : ListedCell). tree_at trees c.tree) list
+abbrev pub cells_held : List KindTree → List (Option NodeId) → List Tree
+cells_held trees cells = map (tree_at trees) cells
 
 -- a number, and so many more
 abbrev pub and_more : ℕ → Option ℕ → Option ℕ
@@ -139,12 +134,12 @@ pub record DefinesOnly (s r : State) (definitions : List (ℕ × ℕ)) : Type 0 
   pub last : r.last ≡ s.last
 
 -- the same, with more cells
-pub record ListsOnly (trees : List KindTree) (numbers : List ℕ) (s r : State) (cells : List Tree) : Type 0 where
+pub record ListsOnly (trees : List KindTree) (s r : State) (cells : List Tree) : Type 0 where
   pub replications : r.replications.items ≡ s.replications.items
   pub defined : r.defined ≡ s.defined
   pub listed : cells_held trees r.listed ≡ cells_held trees s.listed ++ cells
   pub front : take (length s.listed) r.listed ≡ s.listed
-  pub live : AreListed trees numbers r.listed
+  pub live : AreListed trees r.listed
   pub passed : r.passed ≡ s.passed
   pub last : r.last ≡ s.last
 
@@ -156,10 +151,10 @@ pub record Extends (s r : State) : Type 0 where
   pub passed : take (length s.passed) r.passed ≡ s.passed
 
 -- what the second child of a node knows, the first of which is a and lies from one place up to another
-pub record IsEntered (trees : List KindTree) (numbers : List ℕ) (s r : State) (w : Position) (h : Head) (a : Tree) (from to : ℕ) : Type 0 where
+pub record IsEntered (trees : List KindTree) (s r : State) (w : Position) (h : Head) (a : Tree) (from to : ℕ) : Type 0 where
   pub held : state_held trees r ≡ behind (state_held trees s) w h a from to
   pub front : Extends s r
-  pub live : AreListed trees numbers r.listed
+  pub live : AreListed trees r.listed
   pub last : r.last ≡ s.last
 
 -- what was known in s is the front of what is known in r

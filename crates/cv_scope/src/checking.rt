@@ -10,7 +10,6 @@ use crate::names::NameKinds;
 use crate::position::Position;
 use crate::state::State;
 use crate::walk::walk;
-use cv_interning::Interned;
 use cv_syntax::{Game, Work};
 use std::alloc::Global;
 
@@ -25,13 +24,11 @@ pub fn check(alloc: Global, work: &Work, game: Game) -> Result<(), ScopeFault>
     ensures none { OnOk result (first_scope_fault (declarations work.now.pool.trees work.now.decls.list) (tree_at work.now.pool.trees (Some game.root)) ≡ None) }
     ensures found { IfErr result (IsRefusalOf (first_scope_fault (declarations work.now.pool.trees work.now.decls.list) (tree_at work.now.pool.trees (Some game.root)))) }
 {
-    let interned = Interned::of(alloc, &work.pool)?;
     let names = NameKinds::of(alloc, &work.pool, &work.decls, game.root)?;
     let mut state = State::new(alloc);
     walk(
         alloc,
         &work.pool,
-        &interned,
         &names,
         &mut state,
         Position::Anywhere,

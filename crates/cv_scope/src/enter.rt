@@ -9,10 +9,8 @@ ghost use Rattle.cv_scope.specs.Ordered.{EndBy};
 ghost use Rattle.cv_scope.specs.Seen.{with_definition, with_definitions};
 
 use crate::binders::first_binder;
-use crate::listed::ListedCell;
 use crate::position::Position;
 use crate::state::State;
-use cv_interning::Interned;
 use cv_syntax::{Head, NodeId, Pool, read_node};
 use cv_syntax::children::second_of;
 use std::alloc::AllocError;
@@ -73,37 +71,24 @@ impl State {
     }
 
     /// Lists a cell.
-    fn list_one(
-        &mut self,
-        pool: &Pool,
-        interned: &Interned,
-        cell: Option<NodeId>,
-    ) -> Result<(), AllocError>
+    fn list_one(&mut self, pool: &Pool, cell: Option<NodeId>) -> Result<(), AllocError>
         requires cell { ChildBelow (length pool.now.trees) cell }
-        requires listed { AreListed pool.now.trees interned.now self.old.listed }
-        ensures { OnOk result (ListsOnly pool.now.trees interned.now self.old self.new (tree_at pool.now.trees cell ∷ [])) }
+        requires listed { AreListed pool.now.trees self.old.listed }
+        ensures { OnOk result (ListsOnly pool.now.trees self.old self.new (tree_at pool.now.trees cell ∷ [])) }
     {
-        self.listed.add(ListedCell {
-            tree: cell,
-            number: interned.number(cell),
-        })
+        self.listed.add(cell)
     }
 
     /// Lists the cells of a list.
-    fn list_all(
-        &mut self,
-        pool: &Pool,
-        interned: &Interned,
-        list: Option<NodeId>,
-    ) -> Result<(), AllocError>
+    fn list_all(&mut self, pool: &Pool, list: Option<NodeId>) -> Result<(), AllocError>
         requires list { ChildBelow (length pool.now.trees) list }
-        requires listed { AreListed pool.now.trees interned.now self.old.listed }
-        ensures { OnOk result (ListsOnly pool.now.trees interned.now self.old self.new (items (tree_at pool.now.trees list))) }
+        requires listed { AreListed pool.now.trees self.old.listed }
+        ensures { OnOk result (ListsOnly pool.now.trees self.old self.new (items (tree_at pool.now.trees list))) }
     {
         let mut at = list;
         'cells: while let Some(k) = at {
             let cell = read_node(pool, k);
-            self.list_one(pool, interned, cell.first)?;
+            self.list_one(pool, cell.first)?;
             at = cell.second;
         }
         Ok(())
@@ -113,23 +98,22 @@ impl State {
     fn enter_rest(
         &mut self,
         pool: &Pool,
-        interned: &Interned,
         position: Position,
         item: Option<NodeId>,
         from: u32,
         to: u32,
     ) -> Result<(), AllocError>
         requires item { ChildBelow (length pool.now.trees) item }
-        requires listed { AreListed pool.now.trees interned.now self.old.listed }
+        requires listed { AreListed pool.now.trees self.old.listed }
         requires passed { EndBy from self.old.passed }
         requires range { from ≤ to }
-        ensures { OnOk result (IsEntered pool.now.trees interned.now self.old self.new position Head.Cons (tree_at pool.now.trees item) from to) }
+        ensures { OnOk result (IsEntered pool.now.trees self.old self.new position Head.Cons (tree_at pool.now.trees item) from to) }
     {
         match position {
             Position::Bodies => self.passed.add(from, to),
             Position::Branches => self.passed.add(from, to),
-            Position::Guards => self.list_all(pool, interned, item),
-            Position::Cells => self.list_one(pool, interned, item),
+            Position::Guards => self.list_all(pool, item),
+            Position::Cells => self.list_one(pool, item),
             _ => Ok(()),
         }
     }
@@ -138,7 +122,6 @@ impl State {
     pub fn enter(
         &mut self,
         pool: &Pool,
-        interned: &Interned,
         position: Position,
         head: Head,
         first: Option<NodeId>,
@@ -146,13 +129,13 @@ impl State {
         to: u32,
     ) -> Result<(), AllocError>
         requires first { ChildBelow (length pool.now.trees) first }
-        requires listed { AreListed pool.now.trees interned.now self.old.listed }
+        requires listed { AreListed pool.now.trees self.old.listed }
         requires passed { EndBy from self.old.passed }
         requires range { from ≤ to }
-        ensures { OnOk result (IsEntered pool.now.trees interned.now self.old self.new position head (tree_at pool.now.trees first) from to) }
+        ensures { OnOk result (IsEntered pool.now.trees self.old self.new position head (tree_at pool.now.trees first) from to) }
     {
         match head {
-            Head::Cons => self.enter_rest(pool, interned, position, first, from, to),
+            Head::Cons => self.enter_rest(pool, position, first, from, to),
             Head::Find(_) => self.passed.add(from, to),
             Head::Repl(i, n) => self.replicate(i, n),
             Head::New(x, _) => self.define(x),

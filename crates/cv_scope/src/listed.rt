@@ -1,4 +1,4 @@
-ghost use Rattle.std.specs.Prelude.{◌≡◌, ◌≤◌, ◌++◌, ◌∷◌, [], length, take, slice_get, OnOk};
+ghost use Rattle.std.specs.Prelude.{◌≡◌, ◌++◌, ◌∷◌, [], length, take, OnOk, None, slice_index_or};
 ghost use Rattle.cv_scope.specs.Ordered.{has_number};
 
 use cv_syntax::NodeId;
@@ -6,26 +6,19 @@ use std::alloc::{AllocError, Global};
 use std::collections::HashMap;
 use std::marker::Model;
 
-/// A cell of a `defined` list, with the number of its tree.
-#[derive(Clone, Copy, Debug)]
-pub struct ListedCell {
-    pub tree: Option<NodeId>,
-    pub number: u32,
-}
-
 /// The cells of the `defined` lists around a node.
 #[derive(Drop)]
 pub struct Listed {
-    list: Vec<ListedCell>,
+    list: Vec<Option<NodeId>>,
     places: HashMap<u32, usize>,
 }
 
 impl Model for Listed {
-    ghost use Rattle.std.specs.Prelude.{List};
-    ghost use Rattle.cv_scope.specs.declared.listed.ListedCell.{ListedCell};
+    ghost use Rattle.std.specs.Prelude.{List, Option};
+    ghost use Rattle.cv_pool.specs.declared.node.NodeId.{NodeId};
     ghost use Rattle.cv_scope.specs.Ordered.{AreNumbersPlaced};
 
-    ghost Value = { List ListedCell };
+    ghost Value = { List (Option NodeId) };
 
     ghost view = { λ l. l.list.items };
 
@@ -50,36 +43,47 @@ impl Listed {
         self.list.len()
     }
 
-    /// Whether a cell with a number is there.
-    pub fn has(&self, number: u32) -> bool
-        ensures { result ≡ has_number self.now number }
+    /// The cells.
+    pub fn cells(&self) -> &[Option<NodeId>]
+        ensures { result.now ≡ self.now }
     {
-        let Some(k) = self.places.get(&number).copied() else {
+        self.list.as_slice()
+    }
+
+    /// Whether a node is one of the cells.
+    pub fn has(&self, node: NodeId) -> bool
+        ensures { result ≡ has_number self.now node.0 }
+    {
+        let Some(k) = self.places.get(&node.0).copied() else {
             return false;
         };
         match self.at(k) {
-            Some(there) => there.number == number,
+            Some(there) => there.0 == node.0,
             None => false,
         }
     }
 
     /// The cell at a place of the list.
-    fn at(&self, k: usize) -> Option<ListedCell>
-        ensures { result ≡ slice_get self.now k }
+    fn at(&self, k: usize) -> Option<NodeId>
+        ensures { result ≡ slice_index_or self.now k None }
     {
-        self.list.get(k).copied()
+        self.list.get(k).copied().unwrap_or(None)
     }
 
     /// Adds a cell.
-    pub fn add(&mut self, cell: ListedCell) -> Result<(), AllocError>
+    pub fn add(&mut self, cell: Option<NodeId>) -> Result<(), AllocError>
         ensures { OnOk result (self.new ≡ self.old ++ cell ∷ []) }
     {
-        if self.has(cell.number) {
-            self.list.push(cell)?;
+        let Some(node) = cell else {
+            self.list.push(None)?;
+            return Ok(());
+        };
+        if self.has(node) {
+            self.list.push(Some(node))?;
             return Ok(());
         }
-        self.places.insert(cell.number, self.list.len())?;
-        self.list.push(cell)?;
+        self.places.insert(node.0, self.list.len())?;
+        self.list.push(Some(node))?;
         Ok(())
     }
 

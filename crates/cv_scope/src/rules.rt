@@ -1,5 +1,4 @@
 ghost use Rattle.std.specs.Prelude.{◌≡◌, ◌<◌, length, nat_lt, None, IfOk};
-ghost use Rattle.cv_interning.specs.Numbers.{TellsTrees};
 ghost use Rattle.cv_pool.specs.Nodes.{ChildBelow};
 ghost use Rattle.cv_syntax.specs.Tree.{first, tree_at};
 ghost use Rattle.cv_typing.specs.Signature.{count};
@@ -15,7 +14,6 @@ use crate::position::Position;
 use crate::reads::is_in_scope;
 use crate::state::State;
 use crate::terms::{carries, is_index};
-use cv_interning::Interned;
 use cv_syntax::{Head, NodeId, Opened, Pool, read_node};
 use std::alloc::{AllocError, Global};
 
@@ -94,21 +92,19 @@ pub fn node_fault(
     alloc: Global,
     state: &mut State,
     pool: &Pool,
-    interned: &Interned,
     names: &NameKinds,
     position: Position,
     place: u32,
     k: NodeId,
     node: Opened,
 ) -> Result<Option<Fault>, AllocError>
-    requires told { TellsTrees pool.now.trees interned.now }
     requires node { IsOpened pool.now.trees k node }
-    requires listed { AreListed pool.now.trees interned.now state.old.listed }
+    requires listed { AreListed pool.now.trees state.old.listed }
     requires live { HasLiveBinders (length pool.now.trees) state.old.last }
     ensures fault { IfOk result (λ fault. fault ≡ fault_seen (names_held names.now) (state_held pool.now.trees state.old) position place node.head (tree_at pool.now.trees node.first) (tree_at pool.now.trees node.second)) }
     ensures noted { IfOk result (λ fault. fault ≡ None → OnlySites pool.now.trees state.old state.new (sites_here state.old.replications.items place node.head (tree_at pool.now.trees node.first))) }
 {
-    if !is_in_scope(state, pool, interned, names, position, k, node) {
+    if !is_in_scope(state, pool, names, position, k, node) {
         return Ok(Some(Fault::Unscoped));
     }
     if !state.note_named(alloc, pool, place, node.head, node.first)? {

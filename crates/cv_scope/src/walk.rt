@@ -1,5 +1,4 @@
 ghost use Rattle.std.specs.Prelude.{◌≡◌, ◌<◌, ◌+◌, ◌^◌, None, length, IfOk, IfErr, OnOk};
-ghost use Rattle.cv_interning.specs.Numbers.{TellsTrees};
 ghost use Rattle.cv_pool.specs.Nodes.{ChildBelow};
 ghost use Rattle.cv_syntax.specs.Tree.{size, tree_at};
 ghost use Rattle.cv_scope.specs.Held.{AreListed, HasLiveBinders, OnlySites, names_held, state_held};
@@ -13,7 +12,6 @@ use crate::names::NameKinds;
 use crate::position::Position;
 use crate::rules::node_fault;
 use crate::state::State;
-use cv_interning::Interned;
 use cv_syntax::{NodeId, Pool, read_node};
 use std::alloc::Global;
 
@@ -21,7 +19,6 @@ use std::alloc::Global;
 pub fn walk(
     alloc: Global,
     pool: &Pool,
-    interned: &Interned,
     names: &NameKinds,
     state: &mut State,
     position: Position,
@@ -29,11 +26,10 @@ pub fn walk(
     tree: Option<NodeId>,
 ) -> Result<u32, ScopeFault>
     requires live { ChildBelow (length pool.now.trees) tree }
-    requires listed { AreListed pool.now.trees interned.now state.old.listed }
+    requires listed { AreListed pool.now.trees state.old.listed }
     requires binders { HasLiveBinders (length pool.now.trees) state.old.last }
     requires passed { EndBy from state.old.passed }
     requires fits { from + size (tree_at pool.now.trees tree) < 2 ^ 32 }
-    requires told { TellsTrees pool.now.trees interned.now }
     ensures scoped { OnOk result (found (names_held names.now) (state_held pool.now.trees state.old) position from (tree_at pool.now.trees tree) ≡ None) }
     ensures next { IfOk result (λ next. next ≡ from + size (tree_at pool.now.trees tree)) }
     ensures noted { OnOk result (OnlySites pool.now.trees state.old state.new (sites_from state.old.replications.items from (tree_at pool.now.trees tree))) }
@@ -45,23 +41,20 @@ pub fn walk(
     let mut at = tree;
     'tree: while let Some(k) = at {
         let node = read_node(pool, k);
-        if let Some(fault) = node_fault(
-            alloc, state, pool, interned, names, here, place, k, node,
-        )? {
+        if let Some(fault) = node_fault(alloc, state, pool, names, here, place, k, node)? {
             return Err(fault.at(place));
         }
         let first = place + node.head.weight();
         place = walk(
             alloc,
             pool,
-            interned,
             names,
             state,
             here.first(node.head),
             first,
             node.first,
         )?;
-        state.enter(pool, interned, here, node.head, node.first, first, place)?;
+        state.enter(pool, here, node.head, node.first, first, place)?;
         here = here.second(node.head);
         at = node.second;
     }

@@ -16,8 +16,8 @@ use Rattle.cv_meaning.specs.Runs.{Mode, Random, Real, Events, Adversary, State}
 use Rattle.cv_meaning.specs.Cells.{tuples_below, bounds_under, at_each_copy, cells_at, test_cells, coin_cells, cells}
 use Rattle.cv_meaning.specs.Consulted.{consulted_at, is_key}
 use Rattle.cv_meaning.specs.Experiments.{visits_of_run, coins_on}
-use Rattle.cv_meaning.proofs.Direct.{each_append}
-use Rattle.cv_meaning.proofs.Listed.{Sized, Has, has_left, has_right, has_flat_map, Within, within_has, is_in-without_repeats}
+use Rattle.cv_meaning_laws.proofs.Lists.{each_append}
+use Rattle.cv_meaning_laws.proofs.Listed.{Sized, Has, has_left, has_right, has_flat_map, Within, within_has, is_in-without_repeats}
 use Rattle.cv_meaning_runs.specs.Listed.{AreKeysListed}
 use Rattle.cv_meaning_runs.specs.Moments.{Moment, Visited, Tested, cells_of_moment, cells_of_test, moments_of_run, visits_among, cells_of_run}
 use Rattle.cv_meaning_runs.proofs.Lists.{all_map, all_both}

@@ -14,10 +14,10 @@ use Rattle.cv_meaning.specs.Candidates.{Candidate, candidates, chosen}
 use Rattle.cv_meaning.specs.Serving.{Turn, Ends, First, Second, after_find, step, serve, after_turn, Visit, visits}
 use Rattle.cv_meaning.specs.Runs.{Mode, Events, Adversary, Answer, Move, Calls, Tests, Guesses, State, Taken, admitted, called, told, tested_with, moved, run_from, start, begun, next_move, by_move, visits_of_call, visits_of_move, run_visits}
 use Rattle.cv_meaning.specs.Cells.{cells}
-use Rattle.cv_meaning.specs.Experiments.{run, coins_on}
-use Rattle.cv_meaning.specs.Correspondences.{Correspondence, broken, can_match, is_left, is_met}
+use Rattle.cv_meaning.specs.Experiments.{run, coins_on, Breaks, holds_on}
+use Rattle.cv_meaning.specs.Correspondences.{Correspondence, correspondence_of, broken, can_match, is_left, is_met}
 use Rattle.cv_meaning.specs.Chances.{AtMost, zero_chance}
-use Rattle.cv_meaning.specs.Advantage.{breaks, break_chance}
+use Rattle.cv_meaning.specs.Advantage.{chance_of}
 use Rattle.cv_meaning.specs.Direct.{head_names, is_unbound, head_covered, noted_by, plainly_covered, IsPlainlyDirect}
 use Rattle.cv_meaning_laws.proofs.Counts.{count_same, count_false}
 use Rattle.cv_scope_runs.proofs.Covered.{IsMetBy, AllMet}
@@ -250,16 +250,21 @@ module _ (ds : List Declaration) (g : Setting) (q : Correspondence) (a : Adversa
       (game_holds g (is_variable game) game fine Events (a.next (coins_on t 0 a.coins)) t a.moves).passes.visits)
       (λ e h. absurd h)
 
-  pub plainly_unbroken : (t : Tape) → breaks g q a game t ≡ false
-  unfolding breaks broken
+  pub plainly_unbroken : (t : Tape) → broken g q (run g Events a game t).memory.events ≡ false
+  unfolding broken
   plainly_unbroken t =
       let es : List Happened = (run g Events a game t).memory.events in
       ap (λ b. cond b (not (can_match g q es es [])) (list_any (λ e. is_left q e && not (is_met g q es e)) es)) direct.inj
       ∙ none_breaks g q es direct.others es (all_met t)
 
-  plainly_zero : (break_chance g q a game).good ≡ 0
-  unfolding break_chance
-  plainly_zero = count_same (cells g Events a game) _ (λ t. false) blank plainly_unbroken ∙ count_false (cells g Events a game) blank
+module _ (ds : List Declaration) (g : Setting) (query : Tree) (a : Adversary) (game : Tree) (same : HasConstantsOf ds g) (well : IsWellFormed ds game) (direct : IsPlainlyDirect (correspondence_of query) game) where
+  holds_never : (t : Tape) → holds_on g (Breaks query) a game t ≡ false
+  unfolding holds_on
+  holds_never t = plainly_unbroken ds g (correspondence_of query) a game same well direct t
 
-  pub plainly_at_most : AtMost (break_chance g q a game) zero_chance
-  plainly_at_most = let e : (break_chance g q a game).good ≡ 0 = plainly_zero in omega arith
+  plainly_zero : (chance_of g (Breaks query) a game).good ≡ 0
+  unfolding chance_of
+  plainly_zero = count_same (cells g Events a game) _ (λ t. false) blank holds_never ∙ count_false (cells g Events a game) blank
+
+  pub plainly_at_most : AtMost (chance_of g (Breaks query) a game) zero_chance
+  plainly_at_most = let e : (chance_of g (Breaks query) a game).good ≡ 0 = plainly_zero in omega arith

@@ -13,8 +13,11 @@ use Rattle.cv_meaning_laws.specs.Worked.{adversary}
 use Rattle.cv_scope.specs.Worked.{call, constants, key, repl, restriction, sends, starts}
 
 -- event 12(9) ==> event 11(9)
+abbrev pub begun_query : Tree
+begun_query = correspondence ((9, 5) ∷ []) (occurs false 12 (leaf 9 ∷ [])) (occurs false 11 (leaf 9 ∷ []) ∷ [])
+
 abbrev pub begun_before : Correspondence
-begun_before = correspondence_of (correspondence ((9, 5) ∷ []) (occurs false 12 (leaf 9 ∷ [])) (occurs false 11 (leaf 9 ∷ []) ∷ []))
+begun_before = correspondence_of begun_query
 
 -- !1<=2 in(3[1], ()); new 4:5; event 11(4[1]); out(6[1], ()); in(8[1], ()); event 12(4[1]); yield
 abbrev pub sessions : Tree
@@ -25,8 +28,11 @@ abbrev pub applied : ℕ → Tree
 applied x = Node (Apply 30) (chain (leaf x ∷ [])) Empty
 
 -- event 12(9) ==> event 11(30(9), 20)
+abbrev pub told_query : Tree
+told_query = correspondence ((9, 5) ∷ []) (occurs false 12 (leaf 9 ∷ [])) (occurs false 11 (applied 9 ∷ leaf 20 ∷ []) ∷ [])
+
 abbrev pub told_before : Correspondence
-told_before = correspondence_of (correspondence ((9, 5) ∷ []) (occurs false 12 (leaf 9 ∷ [])) (occurs false 11 (applied 9 ∷ leaf 20 ∷ []) ∷ []))
+told_before = correspondence_of told_query
 
 -- in(3, (4:5)); event 11(30(4), 20); event 12(4); yield
 abbrev pub told : Tree

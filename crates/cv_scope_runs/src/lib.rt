@@ -10,12 +10,12 @@ ghost use Rattle.cv_syntax.specs.Tree.{Node, Tree};
 ghost use Rattle.cv_meaning.specs.Tapes.{Tape, blank, same_cell};
 ghost use Rattle.cv_meaning.specs.Interpretation.{Interpretation, Setting, is_constant_of, setting_of};
 ghost use Rattle.cv_meaning.specs.Memory.{Memory};
-ghost use Rattle.cv_meaning.specs.Runs.{Adversary, Mode};
-ghost use Rattle.cv_meaning.specs.Experiments.{run, visits_of_run};
+ghost use Rattle.cv_meaning.specs.Runs.{Adversary, Events, Mode};
+ghost use Rattle.cv_meaning.specs.Experiments.{Breaks, holds_on, run, visits_of_run};
 ghost use Rattle.cv_meaning.specs.Consulted.{consulted};
-ghost use Rattle.cv_meaning.specs.Correspondences.{Correspondence, correspondence_of};
+ghost use Rattle.cv_meaning.specs.Correspondences.{Correspondence, broken, correspondence_of};
 ghost use Rattle.cv_meaning.specs.Chances.{AtMost, zero_chance};
-ghost use Rattle.cv_meaning.specs.Advantage.{advantage, breaks, break_chance};
+ghost use Rattle.cv_meaning.specs.Advantage.{advantage, chance_of};
 ghost use Rattle.cv_meaning.specs.Direct.{IsPlainlyDirect};
 ghost use Rattle.cv_meaning_runs.specs.Listed.{AreKeysListed, has_no_calls};
 ghost use Rattle.cv_meaning_runs.specs.Spots.{same_address};
@@ -24,8 +24,10 @@ ghost use Rattle.cv_scope.specs.Scope.{IsScoped};
 ghost use Rattle.cv_scope.specs.Worked.{cell_found, constants, finds};
 ghost use Rattle.cv_scope_runs.specs.Worked.{
   begun_before,
+  begun_query,
   sessions,
   told_before,
+  told_query,
   told,
   keyed,
   assigned_again,
@@ -179,10 +181,11 @@ pub fn consulted_keys_are_listed()
 pub fn plainly_direct_is_never_broken()
     ensures tapes { (ds : List Declaration) (g : Setting) (q : Correspondence) (a : Adversary)
         (game : Tree) (t : Tape) → HasConstantsOf ds g → IsWellFormed ds game →
-        IsPlainlyDirect q game → breaks g q a game t ≡ false }
-    ensures chance { (ds : List Declaration) (g : Setting) (q : Correspondence) (a : Adversary)
-        (game : Tree) → HasConstantsOf ds g → IsWellFormed ds game → IsPlainlyDirect q game →
-        AtMost (break_chance g q a game) zero_chance }
+        IsPlainlyDirect q game → broken g q (run g Events a game t).memory.events ≡ false }
+    ensures chance { (ds : List Declaration) (g : Setting) (query : Tree) (a : Adversary)
+        (game : Tree) → HasConstantsOf ds g → IsWellFormed ds game →
+        IsPlainlyDirect (correspondence_of query) game →
+        AtMost (chance_of g (Breaks query) a game) zero_chance }
     ensures query { (ds : List Declaration) (g : Setting) (binders sides : Tree) (a : Adversary)
         (game : Tree) → HasConstantsOf ds g → IsWellFormed ds game →
         IsPlainlyDirect (correspondence_of (Node Query binders sides)) game →
@@ -197,14 +200,14 @@ pub fn worked_games()
     ensures sessions { IsWellFormed [] sessions }
     ensures shape { IsPlainlyDirect begun_before sessions }
     ensures never { (i : Interpretation) (a : Adversary) →
-        AtMost (break_chance (setting_of [] i) begun_before a sessions) zero_chance }
+        AtMost (chance_of (setting_of [] i) (Breaks begun_query) a sessions) zero_chance }
     ensures found { IsWellFormed [] (finds (cell_found ∷ [])) }
     ensures terms { IsWellFormed constants told }
     ensures terms_shape { IsPlainlyDirect told_before told }
     ensures context { IsWellFormedContext [] keyed }
     ensures no_game { IsWellFormed [] keyed → ⊥ }
     ensures terms_never { (i : Interpretation) (a : Adversary) →
-        AtMost (break_chance (setting_of constants i) told_before a told) zero_chance }
+        AtMost (chance_of (setting_of constants i) (Breaks told_query) a told) zero_chance }
 {}
 
 /// Array scope is needed: a game in the grammar that assigns a variable again breaks a correspondence
@@ -215,10 +218,12 @@ pub fn scope_and_constants_are_needed()
     ensures unscoped { IsScoped constants assigned_again → ⊥ }
     ensures phrase { is_phrase Inputs assigned_again ≡ true }
     ensures unbound { binds_none (is_constant_of constants) assigned_again ≡ true }
-    ensures broken { breaks two_values begun_before (caller 1 (0 ∷ [])) assigned_again blank ≡ true }
+    ensures broken { holds_on two_values (Breaks begun_query)
+        (caller 1 (0 ∷ [])) assigned_again blank ≡ true }
     ensures captured_shape { IsPlainlyDirect begun_before constant_captured }
     ensures captured_scope { IsScoped constants constant_captured }
     ensures captured_phrase { is_phrase Inputs constant_captured ≡ true }
     ensures captured { binds_none (is_constant_of constants) constant_captured ≡ false }
-    ensures captured_broken { breaks two_values begun_before (caller 2 []) constant_captured blank ≡ true }
+    ensures captured_broken { holds_on two_values (Breaks begun_query)
+        (caller 2 []) constant_captured blank ≡ true }
 {}

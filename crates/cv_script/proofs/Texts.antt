@@ -1,8 +1,7 @@
 -- Texts of lists, by the first item and the rest.
 use Rattle.std.proofs.Common.{◌≡◌, ℕ, List, [], ◌++◌, refl, append_assoc}
 use Rattle.std.proofs.lemmas.List.{append-nil}
-use Rattle.cv_pool.specs.KindTree.{NoTree}
-use Rattle.cv_syntax.specs.Tree.{Tree, Empty, Node, tree_of}
+use Rattle.cv_syntax.specs.Tree.{Tree, Empty, Node}
 use Rattle.cv_syntax.proofs.Trees.{tree_of-NoTree}
 use Rattle.cv_script.specs.Text.{line_text, lines_text, route_text, routes_text, entry_text, entries_text}
 

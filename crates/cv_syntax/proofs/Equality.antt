@@ -1,6 +1,6 @@
 -- The tests of equal heads and trees are exact.
-use Rattle.std.proofs.Common.{◌≡◌, true, ◌==◌, refl, sym, ap, ◌∙◌, eqb-true, eq-eqb, subst}
-use Rattle.std.proofs.lemmas.Bool.{both_ways, and_parts, and_from}
+use Rattle.std.proofs.Common.{◌≡◌, true, ◌==◌, refl, sym, ap, ◌∙◌, eqb-true}
+use Rattle.std.proofs.lemmas.Bool.{both_ways, and_parts}
 use Rattle.cv_syntax.specs.declared.head.Head.{Head}
 use Rattle.cv_syntax.specs.Head.{code, decoded, decoded-code, same_head}
 use Rattle.cv_syntax.specs.Tree.{Tree, Empty, Node, same_tree}

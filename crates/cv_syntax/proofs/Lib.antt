@@ -5,5 +5,6 @@ pub mod Equality
 pub mod Indexed
 pub mod Openings
 pub mod Plantings
+pub mod Sames
 pub mod Trees
 pub mod Walking

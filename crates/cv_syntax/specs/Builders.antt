@@ -1,5 +1,5 @@
 -- Builders of trees, for worked cases.
-use Rattle.std.specs.Prelude.{ℕ, Bool, List, [], ◌∷◌, if◌then◌else◌}
+use Rattle.std.specs.Prelude.{ℕ, Bool, List, if◌then◌else◌}
 use Rattle.cv_syntax.specs.declared.head.Head.TheVariants.{In, Out, Event, Find, Branch, Leaf, Read, Cons, Query, Occurs, OccursOnce}
 use Rattle.cv_syntax.specs.Tree.{Tree, Empty, Node, lone, chain, names, binders}
 

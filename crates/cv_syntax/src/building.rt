@@ -22,6 +22,7 @@ pub fn build(pool: &mut Pool, kind: Kind, kids: &[NodeId]) -> NodeId
     ensures live { result.0 < length pool.new.trees }
     ensures grows { Grows pool.old pool.new }
     ensures spare { pool.old.spare ≤ pool.new.spare + length kids.now + 1 }
+    ensures few { length pool.new.trees ≤ length pool.old.trees + length kids.now + 1 }
 {
     let layout = Layout::of(Head::of(kind), kids.len());
     let first = first_part(pool, layout, kids);
@@ -45,6 +46,7 @@ fn first_part(pool: &mut Pool, layout: Layout, kids: &[NodeId]) -> Option<NodeId
     ensures live { ChildBelow (length pool.new.trees) result }
     ensures grows { Grows pool.old pool.new }
     ensures spare { pool.old.spare ≤ pool.new.spare + first_cost layout (length kids.now) }
+    ensures few { length pool.new.trees ≤ length pool.old.trees + first_cost layout (length kids.now) }
 {
     match layout {
         Layout::Lone => None,
@@ -73,6 +75,7 @@ fn second_part(pool: &mut Pool, layout: Layout, kids: &[NodeId]) -> Option<NodeI
     ensures live { ChildBelow (length pool.new.trees) result }
     ensures grows { Grows pool.old pool.new }
     ensures spare { pool.old.spare ≤ pool.new.spare + second_cost layout (length kids.now) }
+    ensures few { length pool.new.trees ≤ length pool.old.trees + second_cost layout (length kids.now) }
 {
     let count = kids.len();
     match layout {
@@ -107,6 +110,7 @@ fn chain(pool: &mut Pool, kids: &[NodeId]) -> Option<NodeId>
     ensures live { ChildBelow (length pool.new.trees) result }
     ensures grows { Grows pool.old pool.new }
     ensures spare { pool.old.spare ≤ pool.new.spare + length kids.now }
+    ensures few { length pool.new.trees ≤ length pool.old.trees + length kids.now }
 {
     let mut list = None;
     let mut left = kids.len();
@@ -128,6 +132,7 @@ fn join(pool: &mut Pool, kind: Kind, first: Option<NodeId>, second: Option<NodeI
     ensures live { result.0 < length pool.new.trees }
     ensures grows { Grows pool.old pool.new }
     ensures spare { pool.old.spare ≤ pool.new.spare + 1 }
+    ensures few { length pool.new.trees ≤ length pool.old.trees + 1 }
 {
     pool.node(kind, first, second)
 }

@@ -4,7 +4,7 @@ ghost use Rattle.cv_syntax.specs.Head.{code, decoded, weight};
 use cv_pool::Kind;
 
 /// What a node of a tree is, with the numbers of the names that it holds.
-#[derive(Clone, Copy, Debug, PartialEq, Eq)]
+#[derive(Clone, Copy)]
 pub enum Head {
     // Processes.
     /// The process `0`.

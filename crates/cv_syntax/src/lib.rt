@@ -3,6 +3,7 @@
 
 mod building;
 pub mod children;
+mod compare;
 mod decls;
 mod head;
 mod layout;
@@ -13,6 +14,7 @@ mod walk;
 mod work;
 
 pub use building::{build, built_children};
+pub use compare::same;
 pub use cv_names::{NameError, NameId, Names};
 pub use cv_pool::{Kind, Mark, NodeId, Pool, PoolError};
 pub use decls::{Class, Decl, Decls, query_at};
@@ -22,6 +24,3 @@ pub use open::{Opened, read_node};
 pub use planting::plant;
 pub use walk::{child, depth, size};
 pub use work::{BuildError, File, Game, Work};
-
-#[cfg(test)]
-mod tests;

@@ -1,7 +1,7 @@
 use crate::head::Head;
 
 /// A part of a tree that is made from the bottom: nothing, or a node over the two trees before it.
-#[derive(Clone, Copy, Debug, PartialEq, Eq)]
+#[derive(Clone, Copy)]
 pub enum Make {
     Nothing,
     Over(Head),

@@ -6,7 +6,7 @@ use crate::head::Head;
 use cv_pool::{NodeId, Pool};
 
 /// A node: what it is, and its children.
-#[derive(Clone, Copy, Debug)]
+#[derive(Clone, Copy)]
 pub struct Opened {
     pub head: Head,
     pub first: Option<NodeId>,

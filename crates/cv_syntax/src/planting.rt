@@ -39,6 +39,7 @@ pub fn plant(
     ensures other { (n : ℕ) → IsErrOf result (PoolError.Full n) → n ≡ overs makes.now }
     ensures kept { OnErr result (pool.new.trees ≡ pool.old.trees) }
     ensures limit { pool.new.limit ≡ pool.old.limit }
+    ensures few { length pool.new.trees ≤ length pool.old.trees + overs makes.now }
 {
     pool.reserve(overs(makes))?;
     let before = pool.mark();
@@ -61,6 +62,7 @@ fn planted(
     ensures trees { IfOk result (λ ids. map (tree_at pool.new.trees) ids.items ≡ reverse (made [] makes.now)) }
     ensures live { IfOk result (λ ids. All (ChildBelow (length pool.new.trees)) ids.items) }
     ensures grows { Grows pool.old pool.new }
+    ensures few { length pool.new.trees ≤ length pool.old.trees + overs makes.now }
 {
     let mut stack = Vec::new(alloc);
     for make in makes {
@@ -83,6 +85,7 @@ fn over(pool: &mut Pool, stack: &mut Vec<Option<NodeId>>, head: Head) -> NodeId
     ensures id { result.0 < length pool.new.trees }
     ensures grows { Grows pool.old pool.new }
     ensures spare { pool.old.spare ≤ pool.new.spare + 1 }
+    ensures few { length pool.new.trees ≤ length pool.old.trees + 1 }
 {
     let second = stack.pop().unwrap_or(None);
     let first = stack.pop().unwrap_or(None);

@@ -1,5 +1,4 @@
 use Rattle.cv_meaning_contexts.proofs.Locality.{local, once, own}
-use Rattle.cv_syntax.specs.Tree.{size}
 use Rattle.cv_meaning_contexts.proofs.answers_are_local.Goals as goal
 
 pub returns-clause-reads : goal.returns-clause-reads

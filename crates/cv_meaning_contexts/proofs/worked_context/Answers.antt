@@ -15,19 +15,19 @@ use Rattle.cv_meaning.specs.Inputs.{inputs_of}
 use Rattle.cv_meaning.specs.Serving.{step, serve}
 use Rattle.cv_meaning.specs.Runs.{taken, moved, run_from}
 use Rattle.cv_meaning.specs.Cells.{tuples_below, at_each_copy, cells}
-use Rattle.cv_meaning.specs.Experiments.{run, guessed}
+use Rattle.cv_meaning.specs.Experiments.{run, holds_on}
 use Rattle.cv_meaning.specs.Correspondences.{assignments, positions, ways, can_match, broken}
-use Rattle.cv_meaning.specs.Advantage.{breaks, break_chance, guess_chance}
+use Rattle.cv_meaning.specs.Advantage.{chance_of}
 use Rattle.cv_meaning_contexts.proofs.worked_context.Goals as goal
 
 pub returns-clause-forged : goal.returns-clause-forged
-unfolding size reads_only written sum_below count total put value values bound_to inputs_of step serve taken moved run_from tuples_below at_each_copy cells run guessed assignments positions ways can_match broken breaks break_chance guess_chance tuples_up_to bounds_above sites_from put_at body_value body_values picks_at picks picked body_answer branch_answer reply body_cells
+unfolding size reads_only written sum_below count total put value values bound_to inputs_of step serve taken moved run_from tuples_below at_each_copy cells run holds_on assignments positions ways can_match broken chance_of tuples_up_to bounds_above sites_from put_at body_value body_values picks_at picks picked body_answer branch_answer reply body_cells
 returns-clause-forged c = refl
 
 pub returns-clause-asked : goal.returns-clause-asked
-unfolding size reads_only written sum_below count total put value values bound_to inputs_of step serve taken moved run_from tuples_below at_each_copy cells run guessed assignments positions ways can_match broken breaks break_chance guess_chance tuples_up_to bounds_above sites_from put_at body_value body_values picks_at picks picked body_answer branch_answer reply body_cells
+unfolding size reads_only written sum_below count total put value values bound_to inputs_of step serve taken moved run_from tuples_below at_each_copy cells run holds_on assignments positions ways can_match broken chance_of tuples_up_to bounds_above sites_from put_at body_value body_values picks_at picks picked body_answer branch_answer reply body_cells
 returns-clause-asked c = refl
 
 pub returns-clause-asked_on_both : goal.returns-clause-asked_on_both
-unfolding size reads_only written sum_below count total put value values bound_to inputs_of step serve taken moved run_from tuples_below at_each_copy cells run guessed assignments positions ways can_match broken breaks break_chance guess_chance tuples_up_to bounds_above sites_from put_at body_value body_values picks_at picks picked body_answer branch_answer reply body_cells
+unfolding size reads_only written sum_below count total put value values bound_to inputs_of step serve taken moved run_from tuples_below at_each_copy cells run holds_on assignments positions ways can_match broken chance_of tuples_up_to bounds_above sites_from put_at body_value body_values picks_at picks picked body_answer branch_answer reply body_cells
 returns-clause-asked_on_both c = refl

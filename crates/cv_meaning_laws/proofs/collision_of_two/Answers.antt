@@ -9,15 +9,15 @@ use Rattle.cv_meaning.specs.Inputs.{inputs_of}
 use Rattle.cv_meaning.specs.Serving.{step, serve}
 use Rattle.cv_meaning.specs.Runs.{taken, moved, run_from}
 use Rattle.cv_meaning.specs.Cells.{tuples_below, at_each_copy, cells}
-use Rattle.cv_meaning.specs.Experiments.{run, guessed}
+use Rattle.cv_meaning.specs.Experiments.{run, holds_on}
 use Rattle.cv_meaning.specs.Correspondences.{assignments, positions, ways, can_match, broken}
-use Rattle.cv_meaning.specs.Advantage.{breaks, break_chance, guess_chance}
+use Rattle.cv_meaning.specs.Advantage.{chance_of}
 use Rattle.cv_meaning_laws.proofs.collision_of_two.Goals as goal
 
 pub returns-clause-before : goal.returns-clause-before
-unfolding size reads_only written sum_below count total put value values bound_to tuples_up_to candidates_at candidates chosen inputs_of step serve taken moved run_from tuples_below at_each_copy cells run guessed assignments positions ways can_match broken breaks break_chance guess_chance
+unfolding size reads_only written sum_below count total put value values bound_to tuples_up_to candidates_at candidates chosen inputs_of step serve taken moved run_from tuples_below at_each_copy cells run holds_on assignments positions ways can_match broken chance_of
 returns-clause-before c = refl
 
 pub returns-clause-after : goal.returns-clause-after
-unfolding size reads_only written sum_below count total put value values bound_to tuples_up_to candidates_at candidates chosen inputs_of step serve taken moved run_from tuples_below at_each_copy cells run guessed assignments positions ways can_match broken breaks break_chance guess_chance
+unfolding size reads_only written sum_below count total put value values bound_to tuples_up_to candidates_at candidates chosen inputs_of step serve taken moved run_from tuples_below at_each_copy cells run holds_on assignments positions ways can_match broken chance_of
 returns-clause-after c = refl

@@ -9,39 +9,39 @@ use Rattle.cv_meaning.specs.Inputs.{inputs_of}
 use Rattle.cv_meaning.specs.Serving.{step, serve}
 use Rattle.cv_meaning.specs.Runs.{taken, moved, run_from}
 use Rattle.cv_meaning.specs.Cells.{tuples_below, at_each_copy, cells}
-use Rattle.cv_meaning.specs.Experiments.{run, guessed}
+use Rattle.cv_meaning.specs.Experiments.{run, holds_on}
 use Rattle.cv_meaning.specs.Correspondences.{assignments, positions, ways, can_match, broken}
-use Rattle.cv_meaning.specs.Advantage.{breaks, break_chance, guess_chance}
+use Rattle.cv_meaning.specs.Advantage.{chance_of}
 use Rattle.cv_meaning_laws.proofs.worked_correspondences.Goals as goal
 
 pub returns-clause-reading : goal.returns-clause-reading
-unfolding size reads_only written sum_below count total put value values bound_to tuples_up_to candidates_at candidates chosen inputs_of step serve taken moved run_from tuples_below at_each_copy cells run guessed assignments positions ways can_match broken breaks break_chance guess_chance
+unfolding size reads_only written sum_below count total put value values bound_to tuples_up_to candidates_at candidates chosen inputs_of step serve taken moved run_from tuples_below at_each_copy cells run holds_on assignments positions ways can_match broken chance_of
 returns-clause-reading c = refl
 
 pub returns-clause-above : goal.returns-clause-above
-unfolding size reads_only written sum_below count total put value values bound_to tuples_up_to candidates_at candidates chosen inputs_of step serve taken moved run_from tuples_below at_each_copy cells run guessed assignments positions ways can_match broken breaks break_chance guess_chance
+unfolding size reads_only written sum_below count total put value values bound_to tuples_up_to candidates_at candidates chosen inputs_of step serve taken moved run_from tuples_below at_each_copy cells run holds_on assignments positions ways can_match broken chance_of
 returns-clause-above c = refl
 
 pub returns-clause-below : goal.returns-clause-below
-unfolding size reads_only written sum_below count total put value values bound_to tuples_up_to candidates_at candidates chosen inputs_of step serve taken moved run_from tuples_below at_each_copy cells run guessed assignments positions ways can_match broken breaks break_chance guess_chance
+unfolding size reads_only written sum_below count total put value values bound_to tuples_up_to candidates_at candidates chosen inputs_of step serve taken moved run_from tuples_below at_each_copy cells run holds_on assignments positions ways can_match broken chance_of
 returns-clause-below c = refl
 
 pub returns-clause-missing : goal.returns-clause-missing
-unfolding size reads_only written sum_below count total put value values bound_to tuples_up_to candidates_at candidates chosen inputs_of step serve taken moved run_from tuples_below at_each_copy cells run guessed assignments positions ways can_match broken breaks break_chance guess_chance
+unfolding size reads_only written sum_below count total put value values bound_to tuples_up_to candidates_at candidates chosen inputs_of step serve taken moved run_from tuples_below at_each_copy cells run holds_on assignments positions ways can_match broken chance_of
 returns-clause-missing c = refl
 
 pub returns-clause-other : goal.returns-clause-other
-unfolding size reads_only written sum_below count total put value values bound_to tuples_up_to candidates_at candidates chosen inputs_of step serve taken moved run_from tuples_below at_each_copy cells run guessed assignments positions ways can_match broken breaks break_chance guess_chance
+unfolding size reads_only written sum_below count total put value values bound_to tuples_up_to candidates_at candidates chosen inputs_of step serve taken moved run_from tuples_below at_each_copy cells run holds_on assignments positions ways can_match broken chance_of
 returns-clause-other c = refl
 
 pub returns-clause-no_other : goal.returns-clause-no_other
-unfolding size reads_only written sum_below count total put value values bound_to tuples_up_to candidates_at candidates chosen inputs_of step serve taken moved run_from tuples_below at_each_copy cells run guessed assignments positions ways can_match broken breaks break_chance guess_chance
+unfolding size reads_only written sum_below count total put value values bound_to tuples_up_to candidates_at candidates chosen inputs_of step serve taken moved run_from tuples_below at_each_copy cells run holds_on assignments positions ways can_match broken chance_of
 returns-clause-no_other c = refl
 
 pub returns-clause-plain : goal.returns-clause-plain
-unfolding size reads_only written sum_below count total put value values bound_to tuples_up_to candidates_at candidates chosen inputs_of step serve taken moved run_from tuples_below at_each_copy cells run guessed assignments positions ways can_match broken breaks break_chance guess_chance
+unfolding size reads_only written sum_below count total put value values bound_to tuples_up_to candidates_at candidates chosen inputs_of step serve taken moved run_from tuples_below at_each_copy cells run holds_on assignments positions ways can_match broken chance_of
 returns-clause-plain c = refl
 
 pub returns-clause-injective : goal.returns-clause-injective
-unfolding size reads_only written sum_below count total put value values bound_to tuples_up_to candidates_at candidates chosen inputs_of step serve taken moved run_from tuples_below at_each_copy cells run guessed assignments positions ways can_match broken breaks break_chance guess_chance
+unfolding size reads_only written sum_below count total put value values bound_to tuples_up_to candidates_at candidates chosen inputs_of step serve taken moved run_from tuples_below at_each_copy cells run holds_on assignments positions ways can_match broken chance_of
 returns-clause-injective c = refl

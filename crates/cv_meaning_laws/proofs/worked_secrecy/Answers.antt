@@ -9,39 +9,39 @@ use Rattle.cv_meaning.specs.Inputs.{inputs_of}
 use Rattle.cv_meaning.specs.Serving.{step, serve}
 use Rattle.cv_meaning.specs.Runs.{taken, moved, run_from}
 use Rattle.cv_meaning.specs.Cells.{tuples_below, at_each_copy, cells}
-use Rattle.cv_meaning.specs.Experiments.{run, guessed}
+use Rattle.cv_meaning.specs.Experiments.{run, holds_on}
 use Rattle.cv_meaning.specs.Correspondences.{assignments, positions, ways, can_match, broken}
-use Rattle.cv_meaning.specs.Advantage.{breaks, break_chance, guess_chance}
+use Rattle.cv_meaning.specs.Advantage.{chance_of}
 use Rattle.cv_meaning_laws.proofs.worked_secrecy.Goals as goal
 
 pub returns-clause-real : goal.returns-clause-real
-unfolding size reads_only written sum_below count total put value values bound_to tuples_up_to candidates_at candidates chosen inputs_of step serve taken moved run_from tuples_below at_each_copy cells run guessed assignments positions ways can_match broken breaks break_chance guess_chance
+unfolding size reads_only written sum_below count total put value values bound_to tuples_up_to candidates_at candidates chosen inputs_of step serve taken moved run_from tuples_below at_each_copy cells run holds_on assignments positions ways can_match broken chance_of
 returns-clause-real c = refl
 
 pub returns-clause-random : goal.returns-clause-random
-unfolding size reads_only written sum_below count total put value values bound_to tuples_up_to candidates_at candidates chosen inputs_of step serve taken moved run_from tuples_below at_each_copy cells run guessed assignments positions ways can_match broken breaks break_chance guess_chance
+unfolding size reads_only written sum_below count total put value values bound_to tuples_up_to candidates_at candidates chosen inputs_of step serve taken moved run_from tuples_below at_each_copy cells run holds_on assignments positions ways can_match broken chance_of
 returns-clause-random c = refl
 
 pub returns-clause-sent : goal.returns-clause-sent
-unfolding size reads_only written sum_below count total put value values bound_to tuples_up_to candidates_at candidates chosen inputs_of step serve taken moved run_from tuples_below at_each_copy cells run guessed assignments positions ways can_match broken breaks break_chance guess_chance
+unfolding size reads_only written sum_below count total put value values bound_to tuples_up_to candidates_at candidates chosen inputs_of step serve taken moved run_from tuples_below at_each_copy cells run holds_on assignments positions ways can_match broken chance_of
 returns-clause-sent c = refl
 
 pub returns-clause-sent_once : goal.returns-clause-sent_once
-unfolding size reads_only written sum_below count total put value values bound_to tuples_up_to candidates_at candidates chosen inputs_of step serve taken moved run_from tuples_below at_each_copy cells run guessed assignments positions ways can_match broken breaks break_chance guess_chance
+unfolding size reads_only written sum_below count total put value values bound_to tuples_up_to candidates_at candidates chosen inputs_of step serve taken moved run_from tuples_below at_each_copy cells run holds_on assignments positions ways can_match broken chance_of
 returns-clause-sent_once c = refl
 
 pub returns-clause-two_sessions : goal.returns-clause-two_sessions
-unfolding size reads_only written sum_below count total put value values bound_to tuples_up_to candidates_at candidates chosen inputs_of step serve taken moved run_from tuples_below at_each_copy cells run guessed assignments positions ways can_match broken breaks break_chance guess_chance
+unfolding size reads_only written sum_below count total put value values bound_to tuples_up_to candidates_at candidates chosen inputs_of step serve taken moved run_from tuples_below at_each_copy cells run holds_on assignments positions ways can_match broken chance_of
 returns-clause-two_sessions c = refl
 
 pub returns-clause-tested_twice : goal.returns-clause-tested_twice
-unfolding size reads_only written sum_below count total put value values bound_to tuples_up_to candidates_at candidates chosen inputs_of step serve taken moved run_from tuples_below at_each_copy cells run guessed assignments positions ways can_match broken breaks break_chance guess_chance
+unfolding size reads_only written sum_below count total put value values bound_to tuples_up_to candidates_at candidates chosen inputs_of step serve taken moved run_from tuples_below at_each_copy cells run holds_on assignments positions ways can_match broken chance_of
 returns-clause-tested_twice c = refl
 
 pub returns-clause-one_test : goal.returns-clause-one_test
-unfolding size reads_only written sum_below count total put value values bound_to tuples_up_to candidates_at candidates chosen inputs_of step serve taken moved run_from tuples_below at_each_copy cells run guessed assignments positions ways can_match broken breaks break_chance guess_chance
+unfolding size reads_only written sum_below count total put value values bound_to tuples_up_to candidates_at candidates chosen inputs_of step serve taken moved run_from tuples_below at_each_copy cells run holds_on assignments positions ways can_match broken chance_of
 returns-clause-one_test c = refl
 
 pub returns-clause-secret : goal.returns-clause-secret
-unfolding size reads_only written sum_below count total put value values bound_to tuples_up_to candidates_at candidates chosen inputs_of step serve taken moved run_from tuples_below at_each_copy cells run guessed assignments positions ways can_match broken breaks break_chance guess_chance
+unfolding size reads_only written sum_below count total put value values bound_to tuples_up_to candidates_at candidates chosen inputs_of step serve taken moved run_from tuples_below at_each_copy cells run holds_on assignments positions ways can_match broken chance_of
 returns-clause-secret c = refl

@@ -1,5 +1,6 @@
-use Rattle.cv_meaning.specs.Runs.{Events}
-use Rattle.cv_meaning_runs.proofs.Simulation.{run_alike, games_alike, guesses_alike, breaks_alike, guess_chances_alike, break_chances_alike}
+use Rattle.cv_meaning.specs.Experiments.{mode_of}
+use Rattle.cv_meaning_runs.proofs.Simulation.{run_alike, games_alike}
+use Rattle.cv_meaning_runs.proofs.Ends.{guesses_alike, experiments_alike, holds_alike, chances_alike}
 use Rattle.cv_meaning_runs.proofs.simulated_runs_are_alike.Goals as goal
 
 pub returns-clause-moves : goal.returns-clause-moves
@@ -8,12 +9,13 @@ returns-clause-moves r c g h m n t u s = run_alike (r.R.RunRelation.memories t) 
 pub returns-clause-games : goal.returns-clause-games
 returns-clause-games r c a g h m n x y t u = games_alike (r.R.RunRelation.memories t) (r.R.RunRelation.inputs t) (r.R.RunRelation.expected t) a g h m n x y t u
 
-pub returns-clause-guess_chances : goal.returns-clause-guess_chances
-returns-clause-guess_chances r c a g h m n x y s =
-    let all = r.R.RunRelation in
-    guess_chances_alike g h m n a x y (λ t. guesses_alike (all.memories t) (all.inputs t) g h m n a x y t t (games_alike (all.memories t) (all.inputs t) (all.expected t) a g h m n x y t t (s t)))
+pub returns-clause-guesses : goal.returns-clause-guesses
+returns-clause-guesses r c t = guesses_alike (r.R.RunRelation.memories t) (r.R.RunRelation.inputs t)
 
-pub returns-clause-break_chances : goal.returns-clause-break_chances
-returns-clause-break_chances r c q a g x y e s =
+pub returns-clause-experiments : goal.returns-clause-experiments
+returns-clause-experiments r c t = experiments_alike (r.R.RunRelation.memories t) (r.R.RunRelation.inputs t)
+
+pub returns-clause-chances : goal.returns-clause-chances
+returns-clause-chances r c a g h x y p q e s =
     let all = r.R.RunRelation in
-    break_chances_alike g q a x y (λ t. breaks_alike (all.memories t) (all.inputs t) (e t) g q a x y t t (games_alike (all.memories t) (all.inputs t) (all.expected t) a g g Events Events x y t t (s t)))
+    chances_alike g h x y a p q (λ t. holds_alike (all.memories t) (all.inputs t) g h x y a p q t t (e t) (games_alike (all.memories t) (all.inputs t) (all.expected t) a g h (mode_of x) (mode_of y) p q t t (s t)))

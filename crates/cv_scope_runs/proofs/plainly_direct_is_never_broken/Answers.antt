@@ -1,6 +1,5 @@
 use Rattle.cv_syntax.specs.declared.head.Head.TheVariants.{Query}
 use Rattle.cv_syntax.specs.Tree.{Node}
-use Rattle.cv_meaning.specs.Correspondences.{correspondence_of}
 use Rattle.cv_scope_runs.proofs.PlainlyDirect.{plainly_unbroken, plainly_at_most}
 use Rattle.cv_scope_runs.proofs.plainly_direct_is_never_broken.Goals as goal
 
@@ -11,4 +10,4 @@ pub returns-clause-chance : goal.returns-clause-chance
 returns-clause-chance c = plainly_at_most
 
 pub returns-clause-query : goal.returns-clause-query
-returns-clause-query c = λ ds g binders sides a game e w d. plainly_at_most ds g (correspondence_of (Node Query binders sides)) a game e w d
+returns-clause-query c = λ ds g binders sides a game e w d. plainly_at_most ds g (Node Query binders sides) a game e w d

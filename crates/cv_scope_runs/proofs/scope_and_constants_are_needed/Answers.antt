@@ -8,9 +8,8 @@ use Rattle.cv_meaning.specs.Binders.{bound_to}
 use Rattle.cv_meaning.specs.Inputs.{inputs_of}
 use Rattle.cv_meaning.specs.Serving.{step, serve}
 use Rattle.cv_meaning.specs.Runs.{taken, moved, run_from}
-use Rattle.cv_meaning.specs.Experiments.{run}
+use Rattle.cv_meaning.specs.Experiments.{run, holds_on}
 use Rattle.cv_meaning.specs.Correspondences.{assignments, broken}
-use Rattle.cv_meaning.specs.Advantage.{breaks}
 use Rattle.cv_directory.specs.Sites.{first_site, bound_sort}
 use Rattle.cv_typing.specs.Signature.{count}
 use Rattle.cv_scope.specs.Sites.{sites_from}
@@ -45,7 +44,7 @@ unfolding binds_none
 returns-clause-unbound c = refl
 
 pub returns-clause-broken : goal.returns-clause-broken
-unfolding breaks broken assignments run run_from moved taken serve step inputs_of bound_to value put reads_only
+unfolding holds_on broken assignments run run_from moved taken serve step inputs_of bound_to value put reads_only
 returns-clause-broken c = refl
 
 pub returns-clause-captured_shape : goal.returns-clause-captured_shape
@@ -65,5 +64,5 @@ unfolding binds_none
 returns-clause-captured c = refl
 
 pub returns-clause-captured_broken : goal.returns-clause-captured_broken
-unfolding breaks broken assignments run run_from moved taken serve step inputs_of bound_to value put reads_only
+unfolding holds_on broken assignments run run_from moved taken serve step inputs_of bound_to value put reads_only
 returns-clause-captured_broken c = refl

@@ -12,7 +12,7 @@ use Rattle.cv_scope.specs.Scope.{is_untyped_in, names_of}
 use Rattle.cv_scope.specs.Worked.{cell_found, constants, finds}
 use Rattle.cv_scope.proofs.First.{scoped_where_none}
 use Rattle.cv_scope_runs.specs.Phrases.{Inputs, is_phrase, is_oracle_phrase, binds_none, IsWellFormed}
-use Rattle.cv_scope_runs.specs.Worked.{begun_before, keyed, sessions, told_before, told}
+use Rattle.cv_scope_runs.specs.Worked.{begun_before, begun_query, keyed, sessions, told_before, told_query, told}
 use Rattle.cv_meaning.specs.Direct.{IsPlainlyDirect}
 use Rattle.cv_scope_runs.proofs.PlainlyDirect.{plainly_at_most}
 use Rattle.cv_scope_runs.proofs.worked_games.Goals as goal
@@ -32,7 +32,7 @@ pub returns-clause-shape : goal.returns-clause-shape
 returns-clause-shape c = direct
 
 pub returns-clause-never : goal.returns-clause-never
-returns-clause-never c = λ i a. plainly_at_most [] (setting_of [] i) begun_before a sessions refl well direct
+returns-clause-never c = λ i a. plainly_at_most [] (setting_of [] i) begun_query a sessions refl well direct
 
 pub returns-clause-found : goal.returns-clause-found
 unfolding first_fault sites_from same_tree size first_site bound_sort count is_untyped_in is_phrase binds_none
@@ -64,4 +64,4 @@ pub returns-clause-terms_shape : goal.returns-clause-terms_shape
 returns-clause-terms_shape c = told_direct
 
 pub returns-clause-terms_never : goal.returns-clause-terms_never
-returns-clause-terms_never c = λ i a. plainly_at_most constants (setting_of constants i) told_before a told refl told_well told_direct
+returns-clause-terms_never c = λ i a. plainly_at_most constants (setting_of constants i) told_query a told refl told_well told_direct

@@ -7,10 +7,11 @@ use Rattle.cv_accept.specs.Accepted.{Content}
 use Rattle.cv_accept.proofs.Readings.{accepted}
 use Rattle.cv_accept.proofs.QueryLists.{queries-same}
 use Rattle.cv.specs.Findings.{said}
-use Rattle.cv.specs.Strategy.{Said, closing, expected, most_pool, nothing_said, said_of, status_of}
+use Rattle.cv.specs.Strategy.{Said, closing, expected, most_pool, nothing_said, said_of, status_for, status_of}
 use Rattle.cv.specs.Causes.{Caused}
 use Rattle.cv.proofs.Causing.{judged_caused, pool_passed}
 use Rattle.cv.proofs.Growing.{content-grown, trail-live}
+use Rattle.cv.proofs.Telling.{status_told}
 use Rattle.cv.proofs.Verdicts.{AreSound, IsSoundFor, said_sound, sound_at, judged_by, judged_fault, reads_at, refuses_at}
 use Rattle.cv.proofs.decide.judge.Goals as goal
 
@@ -53,10 +54,17 @@ returns-clause-follows c =
     let same = c.in-Ok-answer.ensures.said ∙ ap (said_of game nothing_said) (sym (queries-same trees old.decls.list)) in
     let held = content-grown old c.answer.new.work c.in-Ok.file.game.root c.in-Ok-answer.ensures.grows c.answer.ensures.names c.answer.ensures.decls c.in-Ok.ensures.live c.in-Ok.ensures.below in
     let all = same ∙ ap (λ (h : Content). said_of h.game nothing_said (queries_in h.declarations)) (sym held) in
+    let now = c.answer.new.work in
+    let played : Tree = tree_at now.pool.trees (Some c.in-Ok.file.game.root) in
+    let asked = queries_in (declarations now.pool.trees now.decls.list) in
+    let verdicts = ap (λ (t : Said). t.verdicts) all in
+    let status = c.status-status.ensures ∙ ap status_of all in
     record {
       trail = c.in-Ok-trail_of.ensures ∙ ap (map closing) c.deref.ensures.value;
       steps = ap (λ (t : Said). t.steps) all;
-      verdicts = ap (λ (t : Said). t.verdicts) all;
+      verdicts = verdicts;
+      status = status;
+      told = status ∙ (status_told played asked ∙ ap (status_for played asked) (sym verdicts));
     }
 
 pub returns-clause-judged : goal.returns-clause-judged

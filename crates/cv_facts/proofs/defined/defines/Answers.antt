@@ -38,3 +38,19 @@ returns-in-Let c =
     λ Γ p h.
     same-cells t c.is_name-in-Let.result _ _ (ap (λ k. defined_second c.args.search.position k (tree_at trees c.args.node.first) Γ) c.in-Let.is)
     (among-one t Γ.replications c.in-Let.x c.name_here-name.result c.is_name-in-Let.result (c.name_here-name.ensures Γ.replications t p h.ahead) c.is_name-in-Let.ensures)
+
+pub returns-in-Key : goal.returns-in-Key
+returns-in-Key c =
+    let trees = c.args.pool.now.trees in
+    let t = tree_at trees (Some c.args.sought.term) in
+    λ Γ p h.
+    same-cells t c.is_name-in-Key.result _ _ (ap (λ k. defined_second c.args.search.position k (tree_at trees c.args.node.first) Γ) c.in-Key.is)
+    (among-one t Γ.replications c.in-Key.x c.name_here-name.result c.is_name-in-Key.result (c.name_here-name.ensures Γ.replications t p h.ahead) c.is_name-in-Key.ensures)
+
+pub returns-in-Call : goal.returns-in-Call
+returns-in-Call c =
+    let trees = c.args.pool.now.trees in
+    let t = tree_at trees (Some c.args.sought.term) in
+    λ Γ p h.
+    same-cells t c.is_name-in-Call.result _ _ (ap (λ k. defined_second c.args.search.position k (tree_at trees c.args.node.first) Γ) c.in-Call.is)
+    (among-one t Γ.replications c.in-Call.x c.name_here-name.result c.is_name-in-Call.result (c.name_here-name.ensures Γ.replications t p h.ahead) c.is_name-in-Call.ensures)

@@ -17,5 +17,6 @@ up-preserved c = record {
   live = search rules;
   grows = Grows-trans c.args.pool.now c.up.pool c.turned-new.new.pool c.up.invariant.grows c.turned-new.ensures.grows;
   spare = omega (arith, c.up.invariant.spare, c.turned-new.ensures.spare, ap length c.in-Some.ensures.items, length-append c.pop.new.self.items (c.in-Some.turn ∷ []));
+  few = omega (arith, c.up.invariant.few, c.turned-new.ensures.few, ap length c.in-Some.ensures.items, length-append c.pop.new.self.items (c.in-Some.turn ∷ []));
   nodes = way-less _ c.up.left.items c.pop.new.self.items c.in-Some.turn c.in-Some.ensures.items c.up.invariant.nodes;
 }

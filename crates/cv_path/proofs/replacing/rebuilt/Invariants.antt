@@ -1,4 +1,4 @@
-use Rattle.std.proofs.Common.{◌≡◌, ◌<◌, ◌≤◌, Some, length}
+use Rattle.std.proofs.Common.{◌≡◌, ◌+◌, ◌<◌, ◌≤◌, Some, length}
 use Rattle.std.specs.Prelude.{All}
 use Rattle.cv_pool.specs.PoolView.{Grows}
 use Rattle.cv_syntax.specs.Tree.{tree_at}
@@ -11,6 +11,7 @@ invariant-up l = record {
   live : l.new.0 < length l.pool.trees;
   grows : Grows l.fn.pool l.pool;
   spare : length l.left.items ≤ l.pool.spare;
+  few : length l.pool.trees + length l.left.items ≤ length l.fn.pool.trees + length l.fn.way.items;
   nodes : All (λ t. t.node.0 < length l.fn.pool.trees) l.left.items;
 }
 

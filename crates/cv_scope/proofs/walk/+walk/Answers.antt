@@ -31,7 +31,7 @@ walk-requires t c =
     let below = above-child c.in-Some.k.0 node.first c.read_node-node.ensures.first in
     let less : rank node.first < rank c.args.tree = omega (arith, here, below, c.tree.invariant.less) in
     let m1 = c.in_ok-fault.ensures.noted c.in_default-2.is in
-    let listed = subst (AreListed trees c.args.interned.now) (sym m1.above.listed) c.tree.invariant.listed in
+    let listed = subst (AreListed trees) (sym m1.above.listed) c.tree.invariant.listed in
     let passed = passed-first c.tree.state c.node_fault.new.state c.tree.place (c.tree.place + c.weight.result) m1.above.passed c.tree.invariant.passed (omega arith) in
     (search rules, (child_live (length trees) c.tree.at c.in-Some.k node.first c.in-Some.is c.tree.invariant.live c.read_node-node.ensures.first, (listed, (m1.live, (passed, (omega (arith, s, c.tree.invariant.sum, c.requires.fits, c.weight.ensures.weight), c.requires.told))))))
 
@@ -56,7 +56,6 @@ enter-requires-clause-passed t c =
 pub tree-preserved : goal.tree-preserved
 tree-preserved t c =
     let trees = c.args.pool.now.trees in
-    let numbers = c.args.interned.now in
     let node = c.read_node-node.result in
     let a = tree_at trees node.first in
     let s = c.tree.state in
@@ -66,7 +65,7 @@ tree-preserved t c =
     let q2 = c.in_ok-place.ensures.next in
     let m2 = c.in_ok-place.ensures.noted in
     let m3 = c.in_ok-enter.ensures in
-    let second = seen-second trees numbers s c.node_fault.new.state c.walk.new.state c.enter.new.self c.tree.here node.head a c.tree.place p1 c.in_ok-place.place m1 q1 m2 q2 m3 in
+    let second = seen-second trees s c.node_fault.new.state c.walk.new.state c.enter.new.self c.tree.here node.head a c.tree.place p1 c.in_ok-place.place m1 q1 m2 q2 m3 in
     let open_ = node_at trees c.tree.at c.in-Some.k node c.in-Some.is c.read_node-node.ensures.tree in
     let parts = found-parts (names_held c.args.names.now) (state_held trees s) c.tree.here c.tree.place (tree_at trees c.tree.at) node.head a (tree_at trees node.second) c.in_ok-fault.field-0 _ _ _ _ _ _ open_ c.in_ok-fault.ensures.fault (held-only trees s c.node_fault.new.state _ m1) c.first.ensures q1 second c.second-here.ensures (q2 ∙ ap (λ n. n + size a) q1) in
     let z = size-at trees c.tree.at c.in-Some.k node c.in-Some.is c.read_node-node.ensures.tree in
@@ -74,9 +73,9 @@ tree-preserved t c =
       live = child_live (length trees) c.tree.at c.in-Some.k node.second c.in-Some.is c.tree.invariant.live c.read_node-node.ensures.second;
       listed = m3.live;
       binders = subst (HasLiveBinders (length trees)) (sym m3.last) m2.live;
-      passed = passed-second trees numbers s c.node_fault.new.state c.walk.new.state c.enter.new.self c.tree.here node.head a c.tree.place p1 c.in_ok-place.place m1 q1 m2 q2 m3 c.tree.invariant.passed;
+      passed = passed-second trees s c.node_fault.new.state c.walk.new.state c.enter.new.self c.tree.here node.head a c.tree.place p1 c.in_ok-place.place m1 q1 m2 q2 m3 c.tree.invariant.passed;
       same = sym (parts ∙ skip-two c.tree.place c.in_ok-fault.field-0 _ _ c.in_default-2.is c.in_ok-place.ensures.scoped) ∙ c.tree.invariant.same;
-      sites = sites-second trees numbers s c.node_fault.new.state c.walk.new.state c.enter.new.self c.tree.here node.head a c.tree.place p1 c.in_ok-place.place m1 q1 m2 q2 m3 (tree_at trees c.tree.at) (tree_at trees node.second) open_ ∙ c.tree.invariant.sites;
+      sites = sites-second trees s c.node_fault.new.state c.walk.new.state c.enter.new.self c.tree.here node.head a c.tree.place p1 c.in_ok-place.place m1 q1 m2 q2 m3 (tree_at trees c.tree.at) (tree_at trees node.second) open_ ∙ c.tree.invariant.sites;
       keeps = keeps-more c.marks-marks.result c.args.state.now c.walk.new.state c.enter.new.self c.marks-marks.ensures.replications c.marks-marks.ensures.defined c.marks-marks.ensures.listed c.marks-marks.ensures.passed (keeps-same c.marks-marks.result c.args.state.now c.node_fault.new.state c.walk.new.state (keeps-same c.marks-marks.result c.args.state.now s c.node_fault.new.state c.tree.invariant.keeps m1.above) m2.above) m3.front;
       sum = omega (arith, z, c.tree.invariant.sum, q1, q2);
       less = child_above _ c.tree.at c.in-Some.k node.second c.in-Some.is c.tree.invariant.less c.read_node-node.ensures.second;

@@ -14,7 +14,7 @@ decreases-walk l = rank l.tree
 abbrev pub invariant-tree : goal.invariant-tree
 invariant-tree l = record {
   live : ChildBelow (length l.pool.trees) l.at;
-  listed : AreListed l.pool.trees l.interned l.state.listed;
+  listed : AreListed l.pool.trees l.state.listed;
   binders : HasLiveBinders (length l.pool.trees) l.state.last;
   passed : EndBy l.place l.state.passed;
   same : found (names_held l.names) (state_held l.pool.trees l.state) l.here l.place (tree_at l.pool.trees l.at) ≡ found (names_held l.names) (state_held l.pool.trees l.fn.state) l.fn.position l.fn.from (tree_at l.pool.trees l.fn.tree);

@@ -13,6 +13,7 @@ items-init c = record {
   grows = Grows-refl c.args.pool.now;
   within = omega arith;
   spare = omega arith;
+  few = omega arith;
 }
 
 pub items-preserved : goal.items-preserved
@@ -26,4 +27,5 @@ items-preserved c = record {
   grows = Grows-trans c.args.pool.now c.items.pool c.join.new.pool c.items.invariant.grows c.join.ensures.grows;
   within = omega arith;
   spare = omega arith;
+  few = omega arith;
 }

@@ -12,6 +12,7 @@ invariant-items l = record {
   grows : Grows l.fn.pool l.pool;
   within : l.left ≤ length l.kids;
   spare : l.fn.pool.spare + l.left ≤ l.pool.spare + length l.kids;
+  few : length l.pool.trees + l.left ≤ length l.fn.pool.trees + length l.kids;
 }
 
 abbrev pub decreases-items : goal.decreases-items

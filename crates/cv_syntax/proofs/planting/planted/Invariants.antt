@@ -1,4 +1,4 @@
-use Rattle.std.proofs.Common.{◌≡◌, ◌≤◌, drop, length, map, [], reverse}
+use Rattle.std.proofs.Common.{◌≡◌, ◌+◌, ◌≤◌, drop, length, map, [], reverse}
 use Rattle.std.specs.Prelude.{All}
 use Rattle.cv_pool.specs.Nodes.{ChildBelow}
 use Rattle.cv_syntax.specs.Planting.{overs}
@@ -13,4 +13,5 @@ invariant-loop-make l = record {
   live : All (ChildBelow (length l.pool.trees)) l.stack.items;
   grows : Grows l.fn.pool l.pool;
   spare : overs (drop l.make-index l.makes) ≤ l.pool.spare;
+  few : length l.pool.trees + overs (drop l.make-index l.makes) ≤ length l.fn.pool.trees + overs l.makes;
 }

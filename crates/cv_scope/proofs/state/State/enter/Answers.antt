@@ -11,78 +11,69 @@ use Rattle.cv_scope.proofs.state.State.enter.Goals as goal
 pub returns-in-Find : goal.returns-in-Find
 returns-in-Find c =
     let trees = c.args.pool.now.trees in
-    let numbers = c.args.interned.now in
     let s = c.args.self.now in
     let a = tree_at trees c.args.first in
-    subst (λ (h : Head). OnOk c.add.result (IsEntered trees numbers s (record s { passed = c.add.new.self }) c.args.position h a c.args.from c.args.to)) (sym c.in-Find.is)
-    (on-ok c.add.result _ _ (passes-entered trees numbers s (record s { passed = c.add.new.self }) c.args.position (Find c.in-Find.field-0) a c.args.from c.args.to c.requires.listed refl refl refl refl refl) c.add.ensures)
+    subst (λ (h : Head). OnOk c.add.result (IsEntered trees s (record s { passed = c.add.new.self }) c.args.position h a c.args.from c.args.to)) (sym c.in-Find.is)
+    (on-ok c.add.result _ _ (passes-entered trees s (record s { passed = c.add.new.self }) c.args.position (Find c.in-Find.field-0) a c.args.from c.args.to c.requires.listed refl refl refl refl refl) c.add.ensures)
 
 pub returns-in-Repl : goal.returns-in-Repl
 returns-in-Repl c =
     let trees = c.args.pool.now.trees in
-    let numbers = c.args.interned.now in
     let s = c.args.self.now in
     let a = tree_at trees c.args.first in
-    both-ok c.replicate.result _ _ _ (λ e m. replicates-entered trees numbers s c.replicate.new.self c.args.position c.args.head a c.args.from c.args.to c.in-Repl.i c.in-Repl.n c.in-Repl.is c.requires.listed e m) c.replicate.ensures.same c.replicate.ensures.replications
+    both-ok c.replicate.result _ _ _ (λ e m. replicates-entered trees s c.replicate.new.self c.args.position c.args.head a c.args.from c.args.to c.in-Repl.i c.in-Repl.n c.in-Repl.is c.requires.listed e m) c.replicate.ensures.same c.replicate.ensures.replications
 
 pub returns-in-New : goal.returns-in-New
 returns-in-New c =
     let trees = c.args.pool.now.trees in
-    let numbers = c.args.interned.now in
     let s = c.args.self.now in
     let a = tree_at trees c.args.first in
-    subst (λ (h : Head). OnOk c.define.result (IsEntered trees numbers s c.define.new.self c.args.position h a c.args.from c.args.to)) (sym c.in-New.is)
-    (on-ok c.define.result _ _ (defines-entered trees numbers s c.define.new.self c.args.position (New c.in-New.x c.in-New.field-1) a c.args.from c.args.to c.requires.listed refl refl refl) c.define.ensures)
+    subst (λ (h : Head). OnOk c.define.result (IsEntered trees s c.define.new.self c.args.position h a c.args.from c.args.to)) (sym c.in-New.is)
+    (on-ok c.define.result _ _ (defines-entered trees s c.define.new.self c.args.position (New c.in-New.x c.in-New.field-1) a c.args.from c.args.to c.requires.listed refl refl refl) c.define.ensures)
 
 pub returns-in-Let : goal.returns-in-Let
 returns-in-Let c =
     let trees = c.args.pool.now.trees in
-    let numbers = c.args.interned.now in
     let s = c.args.self.now in
     let a = tree_at trees c.args.first in
-    subst (λ (h : Head). OnOk c.define-in-Let.result (IsEntered trees numbers s c.define-in-Let.new.self c.args.position h a c.args.from c.args.to)) (sym c.in-Let.is)
-    (on-ok c.define-in-Let.result _ _ (defines-entered trees numbers s c.define-in-Let.new.self c.args.position (Let c.in-Let.x c.in-Let.field-1) a c.args.from c.args.to c.requires.listed refl refl refl) c.define-in-Let.ensures)
+    subst (λ (h : Head). OnOk c.define-in-Let.result (IsEntered trees s c.define-in-Let.new.self c.args.position h a c.args.from c.args.to)) (sym c.in-Let.is)
+    (on-ok c.define-in-Let.result _ _ (defines-entered trees s c.define-in-Let.new.self c.args.position (Let c.in-Let.x c.in-Let.field-1) a c.args.from c.args.to c.requires.listed refl refl refl) c.define-in-Let.ensures)
 
 pub returns-in-Key : goal.returns-in-Key
 returns-in-Key c =
     let trees = c.args.pool.now.trees in
-    let numbers = c.args.interned.now in
     let s = c.args.self.now in
     let a = tree_at trees c.args.first in
-    subst (λ (h : Head). OnOk c.define-in-Key.result (IsEntered trees numbers s c.define-in-Key.new.self c.args.position h a c.args.from c.args.to)) (sym c.in-Key.is)
-    (on-ok c.define-in-Key.result _ _ (defines-entered trees numbers s c.define-in-Key.new.self c.args.position (Key c.in-Key.x) a c.args.from c.args.to c.requires.listed refl refl refl) c.define-in-Key.ensures)
+    subst (λ (h : Head). OnOk c.define-in-Key.result (IsEntered trees s c.define-in-Key.new.self c.args.position h a c.args.from c.args.to)) (sym c.in-Key.is)
+    (on-ok c.define-in-Key.result _ _ (defines-entered trees s c.define-in-Key.new.self c.args.position (Key c.in-Key.x) a c.args.from c.args.to c.requires.listed refl refl refl) c.define-in-Key.ensures)
 
 pub returns-in-Call : goal.returns-in-Call
 returns-in-Call c =
     let trees = c.args.pool.now.trees in
-    let numbers = c.args.interned.now in
     let s = c.args.self.now in
     let a = tree_at trees c.args.first in
-    subst (λ (h : Head). OnOk c.define-in-Call.result (IsEntered trees numbers s c.define-in-Call.new.self c.args.position h a c.args.from c.args.to)) (sym c.in-Call.is)
-    (on-ok c.define-in-Call.result _ _ (defines-entered trees numbers s c.define-in-Call.new.self c.args.position (Call c.in-Call.x c.in-Call.field-1) a c.args.from c.args.to c.requires.listed refl refl refl) c.define-in-Call.ensures)
+    subst (λ (h : Head). OnOk c.define-in-Call.result (IsEntered trees s c.define-in-Call.new.self c.args.position h a c.args.from c.args.to)) (sym c.in-Call.is)
+    (on-ok c.define-in-Call.result _ _ (defines-entered trees s c.define-in-Call.new.self c.args.position (Call c.in-Call.x c.in-Call.field-1) a c.args.from c.args.to c.requires.listed refl refl refl) c.define-in-Call.ensures)
 
 pub returns-in-In : goal.returns-in-In
 returns-in-In c =
     let trees = c.args.pool.now.trees in
-    let numbers = c.args.interned.now in
     let s = c.args.self.now in
     let a = tree_at trees c.args.first in
-    subst (λ (h : Head). OnOk c.define_all.result (IsEntered trees numbers s c.define_all.new.self c.args.position h a c.args.from c.args.to)) (sym c.in-In.is)
-    (on-ok c.define_all.result _ _ (defines-entered trees numbers s c.define_all.new.self c.args.position (In c.in-In.field-0) a c.args.from c.args.to c.requires.listed refl refl refl) (subst (λ (t : Tree). OnOk c.define_all.result (DefinesOnly s c.define_all.new.self (with_definitions s.defined (length s.replications.items) (bound_names t)))) c.second_of.ensures.tree c.define_all.ensures))
+    subst (λ (h : Head). OnOk c.define_all.result (IsEntered trees s c.define_all.new.self c.args.position h a c.args.from c.args.to)) (sym c.in-In.is)
+    (on-ok c.define_all.result _ _ (defines-entered trees s c.define_all.new.self c.args.position (In c.in-In.field-0) a c.args.from c.args.to c.requires.listed refl refl refl) (subst (λ (t : Tree). OnOk c.define_all.result (DefinesOnly s c.define_all.new.self (with_definitions s.defined (length s.replications.items) (bound_names t)))) c.second_of.ensures.tree c.define_all.ensures))
 
 pub returns-in-Branch : goal.returns-in-Branch
 returns-in-Branch c =
     let trees = c.args.pool.now.trees in
-    let numbers = c.args.interned.now in
     let s = c.args.self.now in
     let a = tree_at trees c.args.first in
-    subst (λ (h : Head). OnOk c.define_all-in-Branch.result (IsEntered trees numbers s c.define_all-in-Branch.new.self c.args.position h a c.args.from c.args.to)) (sym c.in-Branch.is)
-    (on-ok c.define_all-in-Branch.result _ _ (defines-entered trees numbers s c.define_all-in-Branch.new.self c.args.position Branch a c.args.from c.args.to c.requires.listed refl refl refl) c.define_all-in-Branch.ensures)
+    subst (λ (h : Head). OnOk c.define_all-in-Branch.result (IsEntered trees s c.define_all-in-Branch.new.self c.args.position h a c.args.from c.args.to)) (sym c.in-Branch.is)
+    (on-ok c.define_all-in-Branch.result _ _ (defines-entered trees s c.define_all-in-Branch.new.self c.args.position Branch a c.args.from c.args.to c.requires.listed refl refl refl) c.define_all-in-Branch.ensures)
 
 pub returns-in_default : goal.returns-in_default
 returns-in_default c =
     let trees = c.args.pool.now.trees in
-    let numbers = c.args.interned.now in
     let s = c.args.self.now in
     let a = tree_at trees c.args.first in
-    plain-entered trees numbers s c.args.position c.args.head a c.args.from c.args.to c.requires.listed (plain-head s.replications.items c.args.position c.args.head a c.args.from c.args.to c.in_default.not-Repl c.in_default.not-In c.in_default.not-New c.in_default.not-Let c.in_default.not-Key c.in_default.not-Call c.in_default.not-Find c.in_default.not-Branch c.in_default.not-Cons)
+    plain-entered trees s c.args.position c.args.head a c.args.from c.args.to c.requires.listed (plain-head s.replications.items c.args.position c.args.head a c.args.from c.args.to c.in_default.not-Repl c.in_default.not-In c.in_default.not-New c.in_default.not-Let c.in_default.not-Key c.in_default.not-Call c.in_default.not-Find c.in_default.not-Branch c.in_default.not-Cons)

@@ -13,7 +13,7 @@ invariant-cells l = record {
   defined : l.self.defined ≡ l.fn.self.defined;
   passed : l.self.passed ≡ l.fn.self.passed;
   last : l.self.last ≡ l.fn.self.last;
-  live : AreListed l.pool.trees l.interned l.self.listed;
+  live : AreListed l.pool.trees l.self.listed;
   front : take (length l.fn.self.listed) l.self.listed ≡ l.fn.self.listed;
   long : length l.fn.self.listed ≤ length l.self.listed;
   same : cells_held l.pool.trees l.self.listed ++ items (tree_at l.pool.trees l.at) ≡ cells_held l.pool.trees l.fn.self.listed ++ items (tree_at l.pool.trees l.fn.list);

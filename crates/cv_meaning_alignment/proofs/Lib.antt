@@ -1,0 +1,2 @@
+mod Aligned
+mod Closing

@@ -1,5 +1,0 @@
--- Whether two trees are one, by the heads and the children of their nodes.
-use Rattle.cv_syntax.proofs.ChildReads.{same_tree-Empty}
-use Rattle.cv_syntax.proofs.Trees.{tree_of-NoTree, same_open}
-
-pub ruleset sames = (tree_of-NoTree, same_open, same_tree-Empty)
