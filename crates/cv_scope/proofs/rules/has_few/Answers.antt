@@ -9,18 +9,18 @@ use Rattle.cv_scope.proofs.rules.has_few.Goals as goal
 pub returns-then-items-eq-TOO_MANY : goal.returns-then-items-eq-TOO_MANY
 returns-then-items-eq-TOO_MANY c =
     let trees = c.args.pool.now.trees in
-    let node = c.read_node_at.result in
-    let step = count-step (tree_at trees c.list.at) node.head (tree_at trees node.first) (tree_at trees node.second) (node_at trees c.list.at c.in-Some.k node c.in-Some.is c.read_node_at.ensures.tree) in
+    let node = c.read_node-at.result in
+    let step = count-step (tree_at trees c.list.at) node.head (tree_at trees node.first) (tree_at trees node.second) (node_at trees c.list.at c.in-Some.k node c.in-Some.is c.read_node-at.ensures.tree) in
     let many : 9 ≤ count (tree_at trees c.args.list) = omega (arith, step, c.list.invariant.sum, c.if-items-eq-TOO_MANY.true) in
     sym (le-ltb (count (tree_at trees c.args.list)) 9 many)
 
 pub list-preserved : goal.list-preserved
 list-preserved c =
     let trees = c.args.pool.now.trees in
-    let node = c.read_node_at.result in
-    let step = count-step (tree_at trees c.list.at) node.head (tree_at trees node.first) (tree_at trees node.second) (node_at trees c.list.at c.in-Some.k node c.in-Some.is c.read_node_at.ensures.tree) in
+    let node = c.read_node-at.result in
+    let step = count-step (tree_at trees c.list.at) node.head (tree_at trees node.first) (tree_at trees node.second) (node_at trees c.list.at c.in-Some.k node c.in-Some.is c.read_node-at.ensures.tree) in
     record {
-      live = child_live _ c.list.at c.in-Some.k node.second c.in-Some.is c.list.invariant.live c.read_node_at.ensures.second;
+      live = child_live _ c.list.at c.in-Some.k node.second c.in-Some.is c.list.invariant.live c.read_node-at.ensures.second;
       few = omega (arith, c.list.invariant.few, c.if-items-eq-TOO_MANY.false);
       sum = omega (arith, step, c.list.invariant.sum);
     }

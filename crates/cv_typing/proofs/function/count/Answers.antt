@@ -8,12 +8,12 @@ use Rattle.cv_typing.proofs.function.count.Goals as goal
 pub list-preserved : goal.list-preserved
 list-preserved c =
     let trees = c.args.pool.now.trees in
-    let node = c.read_node_at.result in
-    let step = count-step (tree_at trees c.list.at) node.head (tree_at trees node.first) (tree_at trees node.second) (node_at trees c.list.at c.in-Some.k node c.in-Some.is c.read_node_at.ensures.tree) in
-    let less = above-child c.in-Some.k.0 node.second c.read_node_at.ensures.second in
+    let node = c.read_node-at.result in
+    let step = count-step (tree_at trees c.list.at) node.head (tree_at trees node.first) (tree_at trees node.second) (node_at trees c.list.at c.in-Some.k node c.in-Some.is c.read_node-at.ensures.tree) in
+    let less = above-child c.in-Some.k.0 node.second c.read_node-at.ensures.second in
     let here = above-some c.list.at c.in-Some.k c.in-Some.is in
     record {
-      live = child_live (length trees) c.list.at c.in-Some.k node.second c.in-Some.is c.list.invariant.live c.read_node_at.ensures.second;
+      live = child_live (length trees) c.list.at c.in-Some.k node.second c.in-Some.is c.list.invariant.live c.read_node-at.ensures.second;
       sum = omega (arith, step, c.list.invariant.sum);
       bound = omega (arith, less, here, c.list.invariant.bound);
     }
