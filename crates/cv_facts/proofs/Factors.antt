@@ -3,6 +3,7 @@
 use Rattle.std.proofs.Common.{◌≡◌, ℕ, ◌+◌, ◌-◌, ◌<◌, ◌≤◌, Bool, true, false, cond, List, [], ◌∷◌, ◌++◌, length, Option, Some, None, refl, sym, ap, subst, ◌∙◌, arith, nat_lt, le-ltb, ltb-true, length-append}
 use Rattle.std.specs.Prelude.{option_map, option_and_then}
 use Rattle.std.proofs.lemmas.Bool.{both_ways, and_parts}
+use Rattle.cv_first_fault.specs.Walk.{IsObeyed}
 use Rattle.cv_syntax.specs.declared.head.Head.{Head}
 use Rattle.cv_syntax.specs.declared.head.Head.TheVariants.{Repl, Branch, Leaf, Read, Apply, Eq, And, Or, Not, Yes, No, Cons, Binder, Name}
 use Rattle.cv_syntax.specs.Head.{weight}
@@ -147,7 +148,7 @@ few_behind Branch rs a b p ms l c g m = go (nat_lt p (guards b)) refl
 few_behind h rs a b p ms l c g m = m
 
 few : (names : Names) (t : Tree) (s : Standing) (σ : Phrase) → IsScopedAt names s t → is_oracle_phrase σ t ≡ true → (p : ℕ) (ns : List ℕ) → copies_at t p ≡ Some ns → length ns + length s.known.replications ≤ most_factors
-unfolding IsScopedAt
+unfolding IsObeyed
 few names Empty s σ i f p ns e = absurd (none_is ns (sym (copies-empty Empty p refl) ∙ e))
 few names (Node h a b) s σ i f p ns e =
     let q = has_parts σ h a b f in

@@ -5,8 +5,8 @@ use Rattle.cv_syntax.specs.declared.head.Head.TheVariants.{Leaf, Cons, Query, Oc
 use Rattle.cv_syntax.specs.Tree.{Tree, Empty, Node, lone, chain}
 use Rattle.cv_meaning.specs.Binders.{bound_names}
 use Rattle.cv_meaning.specs.Correspondences.{is_once}
-use Rattle.cv_typing.specs.declared.sort.Sort.TheVariants.{OfType}
-use Rattle.cv_typing.specs.Sites.{first_site}
+use Rattle.cv_directory.specs.declared.sort.Sort.TheVariants.{OfType}
+use Rattle.cv_directory.specs.Sites.{first_site}
 
 -- The arguments of a left event are distinct variables of the query.
 

@@ -5,9 +5,9 @@ use Rattle.cv_syntax.specs.Tree.{Tree, Empty, Node}
 use Rattle.cv_syntax.specs.NameSets.{is_one_of}
 use Rattle.cv_meaning.specs.Binders.{bound_names}
 use Rattle.cv_meaning.specs.Correspondences.{is_once}
-use Rattle.cv_typing.specs.declared.sort.Sort.{Sort}
-use Rattle.cv_typing.specs.declared.sort.Sort.TheVariants.{OfType}
-use Rattle.cv_typing.specs.Sites.{Variable, first_site}
+use Rattle.cv_directory.specs.declared.sort.Sort.{Sort}
+use Rattle.cv_directory.specs.declared.sort.Sort.TheVariants.{OfType}
+use Rattle.cv_directory.specs.Sites.{Variable, first_site}
 
 abbrev pub without : (ℕ → Bool) → ℕ → ℕ → Bool
 without free x y = if x == y then false else free y

@@ -1,7 +1,7 @@
 ghost use Rattle.std.specs.Prelude.{◌≡◌, ◌<◌, length, IfOk, Some};
 ghost use Rattle.cv_pool.specs.Nodes.{ChildBelow};
 ghost use Rattle.cv_syntax.specs.Tree.{tree_at};
-ghost use Rattle.cv_typing.specs.Tables.{seen};
+ghost use Rattle.cv_directory.specs.Tables.{seen};
 ghost use Rattle.cv_query_form.specs.Held.{correspondence_passes, secret_passes, valued};
 ghost use Rattle.cv_query_form.specs.Tests.{passes};
 
@@ -10,14 +10,14 @@ use crate::marks::are_marked_alike;
 use crate::secrets::has_values;
 use cv_syntax::children::variables_of;
 use cv_syntax::{Head, NodeId, Opened, Pool, read_node};
-use cv_typing::sites::Sites;
+use cv_directory::Directory;
 use std::alloc::{AllocError, Global};
 
 /// Whether a query may be asked of the game with these sites.
 pub fn may_be_asked(
     alloc: Global,
     pool: &Pool,
-    sites: &Sites,
+    sites: &Directory,
     query: NodeId,
 ) -> Result<bool, AllocError>
     requires { query.0 < length pool.now.trees }

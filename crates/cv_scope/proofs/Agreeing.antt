@@ -1,10 +1,11 @@
 -- What is found by the tables is the first fault.
 use Rattle.std.proofs.Common.{◌≡◌, ℕ, ◌+◌, ◌<◌, Bool, true, false, ◌&&◌, ◌||◌, not, cond, List, [], ◌∷◌, ◌++◌, length, refl, ap, ap₂, sym, ◌∙◌, subst, arith, Option, Some, None, append_assoc, append-nil}
+use Rattle.cv_first_fault.specs.Walk.{first_fault as walk_fault, placed}
 use Rattle.cv_syntax.specs.declared.head.Head.{Head}
 use Rattle.cv_syntax.specs.declared.head.Head.TheVariants.{Leaf, Read}
 use Rattle.cv_syntax.specs.Head.{weight}
 use Rattle.cv_syntax.specs.Tree.{Tree, Empty, Node, size}
-use Rattle.cv_typing.specs.Sites.{first_of}
+use Rattle.cv_directory.specs.Sites.{first_of}
 use Rattle.cv_scope.specs.declared.fault.Fault.{Fault}
 use Rattle.cv_scope.specs.declared.fault.Fault.TheVariants as fault
 use Rattle.cv_syntax.specs.Declarations.{Declaration}
@@ -15,7 +16,7 @@ use Rattle.cv_scope.specs.Refusals.{IsFirstRefusal, IsRefusalOf}
 use Rattle.cv_scope.specs.declared.position.Position.{Position}
 use Rattle.cv_scope.specs.declared.position.Position.TheVariants.{Anywhere, OneCell}
 use Rattle.cv_scope.specs.Rules.{Names, is_index, carries_current}
-use Rattle.cv_scope.specs.Scope.{IsFirstFault, IsScoped, IsScopedAt, first_fault, first_scope_fault, names_of, placed}
+use Rattle.cv_scope.specs.Scope.{IsFirstFault, IsScoped, IsScopedAt, first_fault, first_scope_fault, names_of}
 use Rattle.cv_scope.specs.Seen.{Seen, fault_seen, current, found, is_defined_at, is_reached, is_read_reached, is_scoped_read, is_well_replicated, may_stand_last, no_site, nothing_seen, second_seen, with_node, with_sites, with_tree}
 use Rattle.cv_scope.specs.Sites.{InOneOf, Site, channel_here, named_here, sites_from, sites_here}
 use Rattle.cv_scope.specs.Standing.{Standing, at_root, first_standing, second_standing, parts_ways, passed_second}
@@ -178,7 +179,7 @@ second-agrees names S s h a b e i m =
 -- trees
 
 pub found-first : (names : Names) (t : Tree) (S : Seen) (s : Standing) → Agrees S s → found names S s.position s.place t ≡ first_fault names s t
-unfolding found first_fault
+unfolding found walk_fault
 found-first names Empty S s m = refl
 found-first names (Node h a b) S s m =
     ap (λ o. first_of (placed s.place o) (first_of (found names (with_node S s.place h a) (first_standing s h a).position (s.place + weight h) a) (found names (second_seen S s.position s.place h a) (second_standing s h a).position (s.place + weight h + size a) b))) (node-agrees names S s h a b m)

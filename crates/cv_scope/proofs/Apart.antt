@@ -1,6 +1,7 @@
 -- The sites of a scoped tree: those of one name are alike, and an earlier one is in another branch.
 use Rattle.std.proofs.Common.{◌≡◌, ℕ, ◌+◌, ◌≤◌, ◌<◌, Bool, true, false, cond, inl, inr, List, [], ◌∷◌, ◌++◌, refl, subst, arith}
 use Rattle.std.specs.List.{AllByRecursion}
+use Rattle.cv_first_fault.specs.Walk.{IsObeyed}
 use Rattle.cv_syntax.specs.declared.head.Head.{Head}
 use Rattle.cv_syntax.specs.declared.head.Head.TheVariants.{Repl, In, Event, New, Let, If, Find, Branch, Cons, Key, Call}
 use Rattle.cv_syntax.specs.Head.{weight}
@@ -192,7 +193,7 @@ passed-before s h a p l m = go (parts_ways s.position h) m
 
 -- the sites of a scoped tree are apart from those before it, and alike to each other
 pub tree-apart : (names : Names) (s : Standing) (t : Tree) → IsBefore s → IsScopedAt names s t → Each (IsApart s.passed) s.sites (sites_from s.known.replications s.place t) × Pairs IsLike (sites_from s.known.replications s.place t)
-unfolding IsScopedAt sites_from
+unfolding IsObeyed sites_from
 tree-apart names s Empty m i = (all-true (λ e. AllByRecursion (IsApart s.passed e) []) s.sites (λ e. tt), tt)
 tree-apart names s (Node h a b) m i =
     let rs = s.known.replications in
@@ -226,7 +227,7 @@ other-name : (s : Standing) (e l : Site) → IsBefore s → s.place ≤ e.place 
 other-name s e l m p r n = past-end s.passed s.place e.place m.passed p (r n).0
 
 pub tree-branches : (names : Names) (s : Standing) (t : Tree) → IsBefore s → IsScopedAt names s t → AreInDifferentBranches s.position s.known.replications s.place t
-unfolding IsScopedAt AreInDifferentBranches
+unfolding IsObeyed AreInDifferentBranches
 tree-branches names s Empty m i = tt
 tree-branches names s (Node h a b) m i =
     let rs = s.known.replications in

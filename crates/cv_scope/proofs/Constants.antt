@@ -10,8 +10,8 @@ use Rattle.cv_pool.specs.KindTree.{KindTree}
 use Rattle.cv_syntax.specs.Declarations.{Declaration, Named, declarations, declared}
 use Rattle.cv_syntax.specs.Tree.{Tree, Empty, Node}
 use Rattle.cv_meaning.specs.Interpretation.{is_constant_of}
-use Rattle.cv_typing.specs.Sites.{SitesView, sites_of}
-use Rattle.cv_typing.specs.Tables.{seen}
+use Rattle.cv_directory.specs.Sites.{SitesView, sites_of}
+use Rattle.cv_directory.specs.Tables.{seen}
 use Rattle.cv_scope.specs.declared.names.NameKinds.{NameKinds}
 use Rattle.cv_scope.specs.Held.{constant_by, has_constant, is_here, names_held, untyped_held}
 use Rattle.cv_scope.specs.Scope.{is_untyped_here, is_untyped_in, names_of}

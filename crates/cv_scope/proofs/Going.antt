@@ -5,7 +5,7 @@ use Rattle.cv_pool.specs.KindTree.{KindTree}
 use Rattle.cv_syntax.specs.declared.head.Head.{Head}
 use Rattle.cv_syntax.specs.Head.{weight}
 use Rattle.cv_syntax.specs.Tree.{Tree, Empty, Node, size}
-use Rattle.cv_typing.specs.Sites.{first_of}
+use Rattle.cv_directory.specs.Sites.{first_of}
 use Rattle.cv_scope.specs.declared.fault.Fault.{Fault}
 use Rattle.cv_scope.specs.declared.fault.Fault.TheVariants as fault
 use Rattle.cv_scope.specs.declared.fault.ScopeFault.{ScopeFault}
@@ -15,9 +15,10 @@ use Rattle.cv_scope.specs.declared.position.Position.{Position}
 use Rattle.cv_scope.specs.declared.state.State.{State}
 use Rattle.cv_scope.specs.Context.{first_position, second_position, replications_below}
 use Rattle.cv_scope.specs.Held.{Extends, HasLiveBinders, IsEntered, IsTaken, Keeps, OnlySites, SameAbove, cells_held, last_held, state_held}
-use Rattle.cv_scope.specs.Refusals.{IsRefusalOf, refusal}
+use Rattle.cv_scope.specs.Refusals.{IsRefusalOf, named, refusal}
 use Rattle.cv_scope.specs.Rules.{Names}
-use Rattle.cv_scope.specs.Scope.{placed}
+use Rattle.cv_first_fault.specs.Walk.{placed}
+use Rattle.cv_first_fault.proofs.Steps as steps
 use Rattle.cv_scope.specs.Seen.{Seen, behind, fault_seen, found, passed_by, second_seen, with_node, with_sites, with_tree}
 use Rattle.cv_scope.specs.Sites.{Site, SiteName, sites_from, sites_here}
 use Rattle.cv_scope.specs.Ordered.{EndBy}
@@ -42,37 +43,19 @@ found-parts names S w p t h a b o S1 S2 w1 w2 p1 p2 et eo e1 f1 q1 e2 f2 q2 =
 
 -- refusals
 
-pub first-placed : (p : ℕ) (o : Option Fault) (f : Fault) (m : Option (ℕ × Fault)) → o ≡ Some f → first_of (placed p o) m ≡ Some (p, f)
-first-placed p None f m e = absurd (cc)
-first-placed p (Some g) f m e = let d : g ≡ f = cc in ap (λ x. let y : Option (ℕ × Fault) = Some (p, x) in y) d
-
-pub skip-two : (p : ℕ) (o : Option Fault) (m n : Option (ℕ × Fault)) → o ≡ None → m ≡ None → first_of (placed p o) (first_of m n) ≡ n
-skip-two p None None n e f = refl
-skip-two p None (Some x) n e f = absurd (cc)
-skip-two p (Some x) m n e f = absurd (cc)
-
-is-refusal : (p : ℕ) (f : Fault) → IsRefusalOf (Some (p, f)) (refusal p f)
-is-refusal p fault.Unscoped = refl
-is-refusal p fault.TwoSites = refl
-is-refusal p fault.Channel = refl
-is-refusal p fault.Replications = refl
+named-refusal : (p : ℕ) (f : Fault) → named (refusal p f) ≡ Some (p, f)
+named-refusal p fault.Unscoped = refl
+named-refusal p fault.TwoSites = refl
+named-refusal p fault.Channel = refl
+named-refusal p fault.Replications = refl
 
 -- the fault of the node itself is refused
 pub refused-here : (p : ℕ) (o : Option Fault) (f : Fault) (m total : Option (ℕ × Fault)) (t : ScopeFault) → o ≡ Some f → first_of (placed p o) m ≡ total → t ≡ refusal p f → IsRefusalOf total t
-refused-here p o f m total t e h i = subst (IsRefusalOf total) (sym i) (subst (λ (x : Option (ℕ × Fault)). IsRefusalOf x (refusal p f)) (sym (first-placed p o f m e) ∙ h) (is-refusal p f))
-
-first-some : (p : ℕ) (o : Option Fault) (m n : Option (ℕ × Fault)) (x : ℕ × Fault) → o ≡ None → m ≡ Some x → first_of (placed p o) (first_of m n) ≡ Some x
-first-some p None (Some y) n x e f = f
-first-some p None None n x e f = absurd (cc)
-first-some p (Some g) m n x e f = absurd (cc)
+refused-here p o f m total t e h i = steps.refused-here p o f m total (named t) e h (ap named i ∙ named-refusal p f)
 
 -- the fault of the first part is refused
 pub refused-first : (p : ℕ) (o : Option Fault) (m n total : Option (ℕ × Fault)) (t : ScopeFault) → o ≡ None → first_of (placed p o) (first_of m n) ≡ total → IsRefusalOf m t → IsRefusalOf total t
-refused-first p o m n total (refused.Unscoped q) e h i = sym h ∙ first-some p o m n (q, fault.Unscoped) e i
-refused-first p o m n total (refused.TwoSites q) e h i = sym h ∙ first-some p o m n (q, fault.TwoSites) e i
-refused-first p o m n total (refused.Channel q) e h i = sym h ∙ first-some p o m n (q, fault.Channel) e i
-refused-first p o m n total (refused.Replications q) e h i = sym h ∙ first-some p o m n (q, fault.Replications) e i
-refused-first p o m n total refused.OutOfMemory e h i = tt
+refused-first p o m n total t e h i = steps.refused-first p o m n total (named t) e h i
 
 pub no-memory : (m : Option (ℕ × Fault)) (t : ScopeFault) → t ≡ refused.OutOfMemory → IsRefusalOf m t
 no-memory m t e = subst (IsRefusalOf m) (sym e) tt

@@ -7,7 +7,7 @@ use Rattle.cv_syntax.specs.declared.head.Head.{Head}
 use Rattle.cv_syntax.specs.declared.head.Head.TheVariants.{In, New, Let, Find, Branch, Key, Call}
 use Rattle.cv_syntax.specs.Tree.{Tree, tree_at}
 use Rattle.cv_meaning.specs.Binders.{bound_names}
-use Rattle.cv_typing.proofs.Walks.{empty-none}
+use Rattle.cv_syntax.proofs.Trees.{tree_at-None}
 use Rattle.cv_scope.specs.declared.lasts.LastSite.{LastSite}
 use Rattle.cv_scope.specs.declared.lasts.Lasts.{Lasts}
 use Rattle.cv_scope.specs.declared.state.State.{State}
@@ -23,7 +23,7 @@ pub site-is : (trees : List KindTree) (rs : List (ℕ × ℕ)) (p : ℕ) (name :
 site-is trees rs p name binders s e = λ i. record { name = name; replications = e.1 i; types = bound_types (tree_at trees (e.2 i)); place = e.0 i }
 
 pub plain-site : (trees : List KindTree) (rs : List (ℕ × ℕ)) (p : ℕ) (name : SiteName) (s : LastSite) → IsSiteOf rs p None s → site_held trees name s ≡ site_of rs p name
-plain-site trees rs p name s e = site-is trees rs p name None s e ∙ ap (λ t. site_at rs p name (bound_types t)) (empty-none trees)
+plain-site trees rs p name s e = site-is trees rs p name None s e ∙ ap (λ t. site_at rs p name (bound_types t)) (tree_at-None trees)
 
 and-true : (b : Bool) → b ≡ (b && true)
 and-true true = refl

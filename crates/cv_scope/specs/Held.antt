@@ -14,7 +14,7 @@ use Rattle.cv_syntax.specs.Tree.{Tree, Empty, Node, tree_at}
 use Rattle.cv_syntax.specs.Walks.{above}
 use Rattle.cv_meaning.specs.Binders.{bound_names}
 use Rattle.cv_scope.specs.declared.binders.FirstBinder.{FirstBinder}
-use Rattle.cv_typing.specs.Tables.{seen}
+use Rattle.cv_directory.specs.Tables.{seen}
 use Rattle.cv_scope.specs.declared.names.NameKinds.{NameKinds}
 use Rattle.cv_scope.specs.Rules.{Names}
 use Rattle.cv_scope.specs.declared.enter.Marks.{Marks}

@@ -5,42 +5,39 @@ use Rattle.cv_syntax.specs.declared.head.Head.TheVariants.{Key, Call}
 use Rattle.cv_syntax.specs.Declarations.{Declaration}
 use Rattle.cv_syntax.specs.Tree.{Tree, Empty, Node}
 use Rattle.cv_meaning.specs.Interpretation.{is_constant_of}
-use Rattle.cv_typing.specs.Sites.{first_of, first_site}
+use Rattle.cv_directory.specs.Sites.{first_site}
+use Rattle.cv_first_fault.specs.Walk as walk
+use Rattle.cv_first_fault.specs.Walk.{IsObeyed, Walk}
 use Rattle.cv_scope.specs.declared.fault.Fault.{Fault}
 use Rattle.cv_scope.specs.Standing.{Standing, at_root, first_standing, second_standing}
 use Rattle.cv_scope.specs.Rules.{Names, Obeys, Breaks}
 use Rattle.cv_scope.specs.Tests.{fault_of}
 
+-- A tree inherits where it stands: what is known there, and what stands before it.
+abbrev pub scope_walk : Names → Walk Standing Fault
+scope_walk names = record {
+  fault = λ s h a b. fault_of names s h a b;
+  first = λ s h a. first_standing s h a;
+  second = λ s h a. second_standing s h a;
+  Obeys = λ s h a b. (f : Fault) → Obeys names s h a b f;
+  Breaks = λ s h a b f. Breaks names s h a b f;
+}
+
 -- every node of the tree obeys the rules
-unfoldable pub IsScopedAt : Names → Standing → Tree → Type 0
-IsScopedAt names s Empty = Unit {0}
-IsScopedAt names s (Node h a b) =
-    ((f : Fault) → Obeys names s h a b f)
-    × IsScopedAt names (first_standing s h a) a
-    × IsScopedAt names (second_standing s h a) b
+abbrev pub IsScopedAt : Names → Standing → Tree → Type 0
+IsScopedAt names s t = IsObeyed (scope_walk names) s t
 
 -- a node at q of the tree breaks the rules of a kind
-pub data Faulty (names : Names) : Standing → Tree → ℕ → Fault → Type 0 where
-  here : {s : Standing} {h : Head} {a b : Tree} {q : ℕ} {f : Fault} → s.place ≡ q → Breaks names s h a b f → Faulty names s (Node h a b) q f
-  in_first : {s : Standing} {h : Head} {a b : Tree} {q : ℕ} {f : Fault} → Faulty names (first_standing s h a) a q f → Faulty names s (Node h a b) q f
-  in_second : {s : Standing} {h : Head} {a b : Tree} {q : ℕ} {f : Fault} → Faulty names (second_standing s h a) b q f → Faulty names s (Node h a b) q f
+abbrev pub Faulty : Names → Standing → Tree → ℕ → Fault → Type 0
+Faulty names s t q f = walk.Faulty (scope_walk names) s s.place t q f
 
 -- a fault, and none at a lesser place
-pub record IsFirst (names : Names) (s : Standing) (t : Tree) (q : ℕ) (f : Fault) : Type 0 where
-  pub there : Faulty names s t q f
-  pub least : (r : ℕ) (g : Fault) → Faulty names s t r g → q ≤ r
-
-abbrev pub placed : ℕ → Option Fault → Option (ℕ × Fault)
-placed p None = None
-placed p (Some f) = Some (p, f)
+abbrev pub IsFirst : Names → Standing → Tree → ℕ → Fault → Type 0
+IsFirst names s t q f = walk.IsFirst (scope_walk names) s s.place t q f
 
 -- the place and the fault of the first node in preorder that breaks a rule
-unfoldable pub first_fault : Names → Standing → Tree → Option (ℕ × Fault)
-first_fault names s Empty = None
-first_fault names s (Node h a b) =
-    first_of (placed s.place (fault_of names s h a b))
-    (first_of (first_fault names (first_standing s h a) a)
-    (first_fault names (second_standing s h a) b))
+abbrev pub first_fault : Names → Standing → Tree → Option (ℕ × Fault)
+first_fault names s t = walk.first_fault (scope_walk names) s s.place t
 
 -- games and contexts
 

@@ -7,7 +7,7 @@ use Rattle.cv_syntax.specs.declared.head.Head.TheVariants.{In, New, Let, Branch,
 use Rattle.cv_syntax.specs.Children.{is_empty, is_leaf}
 use Rattle.cv_syntax.specs.Tree.{Tree, Empty, Node, second, same_tree, first_place, second_place}
 use Rattle.cv_meaning.specs.Binders.{bound_names}
-use Rattle.cv_typing.specs.Sites.{first_of}
+use Rattle.cv_directory.specs.Sites.{first_of}
 use Rattle.cv_typing.specs.Tables.{same_pair}
 use Rattle.cv_scope.specs.declared.fault.Fault.{Fault}
 use Rattle.cv_scope.specs.declared.fault.Fault.TheVariants.{Unscoped, TwoSites, Channel, Replications}
@@ -18,7 +18,7 @@ use Rattle.cv_scope.specs.Sites.{Site, SiteName, named_here, channel_here, sites
 use Rattle.cv_scope.specs.Standing.{parts_ways}
 use Rattle.cv_scope.specs.Rules.{Names, is_index, carries_current}
 use Rattle.cv_scope.specs.Tests.{same_name, is_in_one_of, are_alike, is_few_indices, binds_new_index}
-use Rattle.cv_scope.specs.Scope.{placed}
+use Rattle.cv_first_fault.specs.Walk.{placed}
 
 pub record Seen : Type 0 where
   pub replications : List (ℕ × ℕ)

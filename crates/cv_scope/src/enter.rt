@@ -12,7 +12,7 @@ use crate::binders::first_binder;
 use crate::position::Position;
 use crate::state::State;
 use cv_syntax::{Head, NodeId, Pool, read_node};
-use cv_typing::sites::rest;
+use cv_syntax::children::second_of;
 use std::alloc::AllocError;
 
 /// How much was known at a node.
@@ -142,7 +142,7 @@ impl State {
             Head::Let(x, _) => self.define(x),
             Head::Key(x) => self.define(x),
             Head::Call(x, _) => self.define(x),
-            Head::In(_) => self.define_all(pool, rest(pool, first)),
+            Head::In(_) => self.define_all(pool, second_of(pool, first)),
             Head::Branch => self.define_all(pool, first),
             _ => Ok(()),
         }

@@ -1,15 +1,15 @@
-ghost use Rattle.std.specs.Prelude.{◌≡◌, ◌<◌, ◌||◌, ◌==◌, ℕ, All, length, Some, IfOk, OnOk, option_and_then, slice_get};
+ghost use Rattle.std.specs.Prelude.{◌≡◌, ◌<◌, ◌^◌, ◌||◌, ◌==◌, ℕ, All, length, Some, IfOk, OnOk, option_and_then, slice_get};
 ghost use Rattle.cv_meaning.specs.Interpretation.{is_constant_of};
 ghost use Rattle.cv_pool.specs.Nodes.{ChildBelow};
 ghost use Rattle.cv_syntax.specs.Declarations.{declarations, declared};
-ghost use Rattle.cv_syntax.specs.Tree.{tree_at};
+ghost use Rattle.cv_syntax.specs.Tree.{size, tree_at};
 ghost use Rattle.cv_typing.specs.Lookups.{IsLive};
 ghost use Rattle.cv_scope.specs.Held.{constant_by, has_constant, is_here, names_held, untyped_held};
 ghost use Rattle.cv_scope.specs.Scope.{is_untyped_here, is_untyped_in, names_of};
 
 use cv_syntax::children::read_child;
 use cv_syntax::{Class, Decl, Decls, Head, NodeId, Pool, read_node};
-use cv_typing::sites::Sites;
+use cv_directory::Directory;
 use std::alloc::{AllocError, Global};
 use std::collections::HashMap;
 
@@ -17,7 +17,7 @@ use std::collections::HashMap;
 #[derive(Drop)]
 pub struct NameKinds {
     constants: HashMap<u32, bool>,
-    sites: Sites,
+    sites: Directory,
     untyped: HashMap<u32, bool>,
 }
 
@@ -45,11 +45,12 @@ impl NameKinds {
     ) -> Result<NameKinds, AllocError>
         requires live { root.0 < length pool.now.trees }
         requires declared { All (IsLive (length pool.now.trees)) decls.now.list }
+        requires fits { size (tree_at pool.now.trees (Some root)) < 2 ^ 32 }
         ensures { IfOk result (λ n. names_held n ≡ names_of (declarations pool.now.trees decls.now.list) (tree_at pool.now.trees (Some root))) }
     {
         let mut names = NameKinds {
             constants: HashMap::new(alloc),
-            sites: Sites::of(alloc, pool, root)?,
+            sites: Directory::of(alloc, pool, decls, root)?,
             untyped: HashMap::new(alloc),
         };
         names.note_constants(pool, decls)?;

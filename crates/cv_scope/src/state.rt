@@ -12,7 +12,7 @@ use crate::lasts::{LastSite, Lasts};
 use crate::listed::Listed;
 use crate::passed::Passed;
 use cv_syntax::{Head, NodeId, Pool};
-use cv_typing::sites::rest;
+use cv_syntax::children::second_of;
 use std::alloc::{AllocError, Global};
 
 /// What is known at a node of a game.
@@ -131,7 +131,7 @@ impl State {
             Head::Let(x, _) => self.note_variable(alloc, pool, place, x),
             Head::Key(x) => self.note_variable(alloc, pool, place, x),
             Head::Call(x, _) => self.note_variable(alloc, pool, place, x),
-            Head::In(_) => self.note_binders(alloc, pool, place, rest(pool, first)),
+            Head::In(_) => self.note_binders(alloc, pool, place, second_of(pool, first)),
             Head::Branch => self.note_binders(alloc, pool, place, first),
             Head::Find(l) => self.note_label(alloc, pool, place, l),
             _ => Ok(true),
@@ -155,7 +155,7 @@ impl State {
         let Head::In(c) = head else {
             return Ok(true);
         };
-        let site = self.site(alloc, place, rest(pool, first))?;
+        let site = self.site(alloc, place, second_of(pool, first))?;
         self.last.note_channel(pool, &self.passed, c, site)
     }
 }

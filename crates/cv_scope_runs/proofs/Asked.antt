@@ -1,6 +1,7 @@
 -- What array scope asks of the nodes of a tree, without the sites before it; what one node binds is distinct.
 use Rattle.std.proofs.Common.{◌≡◌, ℕ, Bool, true, false, ◌||◌, ◌==◌, List, refl, ap, arith, eqb-true}
 use Rattle.std.specs.List.{AllByRecursion}
+use Rattle.cv_first_fault.specs.Walk.{IsObeyed}
 use Rattle.cv_syntax.specs.declared.head.Head.{Head}
 use Rattle.cv_syntax.specs.declared.head.Head.TheVariants.{In, Branch, Binder}
 use Rattle.cv_syntax.specs.Declarations.{Declaration}
@@ -65,7 +66,7 @@ binds_distinct passed rs p e Branch a q = distinct passed rs p e a q
 binds_distinct passed rs p e h a q = tt
 
 scoped_asked : (names : Names) (s : Standing) (b : Tree) → IsBefore s → IsScopedAt names s b → Asked names s.position s.known b
-unfolding IsScopedAt
+unfolding IsObeyed
 scoped_asked names s Empty m i = tt
 scoped_asked names s (Node h a b) m i = (
   record {

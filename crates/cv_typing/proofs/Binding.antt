@@ -1,18 +1,18 @@
 -- The tables of the names of functions, as they are made.
 use Rattle.std.proofs.Common.{◌≡◌, ℕ, Bool, true, false, cond, List, [], ◌∷◌, ◌++◌, refl, ap, ap₂, sym, ◌∙◌, eqb-true, Option, Some, None}
-use Rattle.std.specs.Prelude.{nat_eq, ◌==◌}
+use Rattle.std.specs.Prelude.{◌==◌}
 use Rattle.std.proofs.Math.Path.{fun_ext}
 use Rattle.cv_syntax.specs.declared.head.Head.{Head}
 use Rattle.cv_syntax.specs.declared.head.Head.TheVariants.{Let, New}
 use Rattle.cv_syntax.specs.Tree.{Tree, Empty, Node, first, second}
 use Rattle.cv_typing.specs.declared.locals.Own.{Own}
 use Rattle.cv_typing.specs.declared.precedence.Precedence.TheVariants.{First}
-use Rattle.cv_typing.specs.declared.sort.Sort.{Sort}
-use Rattle.cv_typing.specs.declared.sort.Sort.TheVariants.{OfType}
+use Rattle.cv_directory.specs.declared.sort.Sort.{Sort}
+use Rattle.cv_directory.specs.declared.sort.Sort.TheVariants.{OfType}
 use Rattle.cv_typing.specs.Parts.{bound_at, local_here, local_in, nothing_above, own_sort, sort_by_bound, with_taken}
 use Rattle.cv_typing.specs.Signature.{Above}
-use Rattle.cv_typing.specs.Sites.{first_of}
-use Rattle.cv_typing.specs.Tables.{ByBound, Map, above_of, and_else, by_bound_in, with_body, with_function, with_functions, with_here}
+use Rattle.cv_directory.specs.Sites.{first_of}
+use Rattle.cv_typing.specs.Tables.{ByBound, above_of, and_else, by_bound_in, with_body, with_function, with_functions, with_here}
 use Rattle.cv_typing.specs.Wants.{bound}
 
 pub same_table : (l k : ByBound) → ((n y : ℕ) → l n y ≡ k n y) → l ≡ k
@@ -56,9 +56,6 @@ body-step above t h a b e = ap (with_body above) e ∙ fun_ext (λ y. sym (ap (�
 pub body-end : (above : Above) (t : Tree) → t ≡ Empty → with_body above t ≡ above
 unfolding local_in
 body-end above t e = ap (with_body above) e ∙ fun_ext (λ y. first-nothing (above y))
-
-pub nothing-yet : (m : Map Sort) → m.entries ≡ [] → above_of m ≡ nothing_above
-nothing-yet m e = fun_ext (λ x. ap (λ es. Rattle.std.specs.Map.lookup (nat_eq x) es) e)
 
 -- what a function binds, by the names that it takes and its body
 pub own-all : (taken named empty : Above) (f a b : Tree) → named ≡ with_body taken b → taken ≡ with_taken empty a → empty ≡ nothing_above → a ≡ first f → b ≡ second f → named ≡ (λ x. own_sort x (first f) (second f))

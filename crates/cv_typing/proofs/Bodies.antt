@@ -9,11 +9,11 @@ use Rattle.cv_typing.specs.declared.fault.Fault.TheVariants as fault
 use Rattle.cv_typing.specs.declared.fault.TypeFault.{TypeFault}
 use Rattle.cv_typing.specs.declared.fault.TypeFault.TheVariants as refused
 use Rattle.cv_typing.specs.declared.form.Form.TheVariants.{InBody}
-use Rattle.cv_typing.specs.declared.sort.Sort.{Sort}
+use Rattle.cv_directory.specs.declared.sort.Sort.{Sort}
 use Rattle.cv_typing.specs.Parts.{Part, signature_of, first_in, body_parts, first_result, in_function, more_results, names_of, results}
 use Rattle.cv_typing.specs.Refusals.{IsChecked, IsRefusalOf, parts_size}
 use Rattle.cv_typing.specs.Signature.{Above, Arrays, OfGame, OfNothing, OfSide, Signature, sort_of}
-use Rattle.cv_typing.specs.Sites.{first_of}
+use Rattle.cv_directory.specs.Sites.{first_of}
 use Rattle.cv_typing.specs.Typing.{first_fault}
 use Rattle.cv_typing.specs.Wants.{Run}
 use Rattle.cv_typing.proofs.Files.{part-refused, part-step, parts-end}

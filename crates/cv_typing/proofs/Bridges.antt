@@ -14,7 +14,7 @@ use Rattle.cv_pool.specs.Nodes.{ChildBelow}
 use Rattle.cv_typing.specs.Lookups.{callee_by, callee_in, event_args_by, event_args_in, fixed_decl, function_at, HasLiveArguments}
 use Rattle.cv_typing.specs.Signature.{declaration_of, function_by, function_in, event_by, event_in, fixed_by, is_fixed_in, names_in}
 use Rattle.cv_typing.proofs.Counts.{names-end}
-use Rattle.cv_typing.proofs.Walks.{empty-none}
+use Rattle.cv_syntax.proofs.Trees.{tree_at-None}
 
 pub declaration-same : (trees : List KindTree) (ds : List Decl) (x : ℕ) → declaration_of (declarations trees ds) x ≡ option_map (declared trees) (declaration_in ds x)
 declaration-same trees [] x = refl
@@ -44,12 +44,12 @@ pub function-same : (trees : List KindTree) (ds : List Decl) (f : ℕ) → funct
 function-same trees ds f = ap function_by (declaration-same trees ds f) ∙ function-by trees (declaration_in ds f)
 
 event-by : (trees : List KindTree) (o : Option Decl) → event_by (option_map (declared trees) o) ≡ names_in (tree_at trees (event_args_by o))
-event-by trees None = sym (names-end (tree_at trees None) (empty-none trees))
+event-by trees None = sym (names-end (tree_at trees None) (tree_at-None trees))
 event-by trees (Some (decl.Name id Event args r)) = refl
-event-by trees (Some (decl.Name id c args r)) = sym (names-end (tree_at trees None) (empty-none trees))
-event-by trees (Some (decl.Equation n)) = sym (names-end (tree_at trees None) (empty-none trees))
-event-by trees (Some (decl.Equiv id n)) = sym (names-end (tree_at trees None) (empty-none trees))
-event-by trees (Some (decl.Query n)) = sym (names-end (tree_at trees None) (empty-none trees))
+event-by trees (Some (decl.Name id c args r)) = sym (names-end (tree_at trees None) (tree_at-None trees))
+event-by trees (Some (decl.Equation n)) = sym (names-end (tree_at trees None) (tree_at-None trees))
+event-by trees (Some (decl.Equiv id n)) = sym (names-end (tree_at trees None) (tree_at-None trees))
+event-by trees (Some (decl.Query n)) = sym (names-end (tree_at trees None) (tree_at-None trees))
 
 pub event-same : (trees : List KindTree) (ds : List Decl) (e : ℕ) → event_in (declarations trees ds) e ≡ names_in (tree_at trees (event_args_in ds e))
 event-same trees ds e = ap event_by (declaration-same trees ds e) ∙ event-by trees (declaration_in ds e)

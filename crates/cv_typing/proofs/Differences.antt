@@ -3,7 +3,7 @@ use Rattle.std.proofs.Common.{◌≡◌, ℕ, Bool, true, false, ◌||◌, refl,
 use Rattle.cv_syntax.specs.declared.head.Head.{Head}
 use Rattle.cv_syntax.specs.declared.head.Head.TheVariants.{Binder}
 use Rattle.cv_syntax.specs.Tree.{Tree, Empty, Node}
-use Rattle.cv_typing.specs.declared.sort.Sort.{Sort}
+use Rattle.cv_directory.specs.declared.sort.Sort.{Sort}
 use Rattle.cv_typing.specs.Signature.{Arrays, variable_sort}
 use Rattle.cv_typing.specs.Typing.{binders_differ, differs_from}
 

@@ -8,8 +8,8 @@ use Rattle.cv_syntax.specs.declared.head.Head.TheVariants.{Binder, Branch, Let, 
 use Rattle.cv_syntax.specs.Tree.{Tree, Empty, Node}
 use Rattle.cv_typing.specs.declared.precedence.Precedence.{Precedence}
 use Rattle.cv_typing.specs.declared.precedence.Precedence.TheVariants.{First, Newest}
-use Rattle.cv_typing.specs.declared.sort.Sort.{Sort}
-use Rattle.cv_typing.specs.Sites.{first_of}
+use Rattle.cv_directory.specs.declared.sort.Sort.{Sort}
+use Rattle.cv_directory.specs.Sites.{first_of}
 use Rattle.cv_typing.specs.Signature.{Above}
 use Rattle.cv_typing.specs.Tables.{Map, above_of, restored}
 use Rattle.cv_typing.specs.Wants.{all_bound, bound, with_names}

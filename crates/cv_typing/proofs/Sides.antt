@@ -10,7 +10,7 @@ use Rattle.cv_syntax.specs.Tree.{Tree, Node, first, second}
 use Rattle.cv_pool.specs.KindTree.{KindTree}
 use Rattle.cv_typing.specs.declared.fault.Fault.{Fault}
 use Rattle.cv_typing.specs.declared.fault.TypeFault.{TypeFault}
-use Rattle.cv_typing.specs.declared.sort.Sort.{Sort}
+use Rattle.cv_directory.specs.declared.sort.Sort.{Sort}
 use Rattle.cv_typing.specs.Parts.{Part, AreTyped, first_in, body_parts, declaration_parts, equivalence_parts, file_parts, game_part, results, side_arrays}
 use Rattle.cv_typing.specs.Refusals.{IsChecked, IsRefusalOf}
 use Rattle.cv_typing.specs.Signature.{Arrays}

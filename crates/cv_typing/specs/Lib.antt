@@ -2,7 +2,6 @@ pub mod Lookups
 pub mod Parts
 pub mod Refusals
 pub mod Signature
-pub mod Sites
 pub mod Tables
 pub mod Typing
 pub mod Wants

@@ -14,7 +14,7 @@ use Rattle.cv_typing.specs.declared.function.Callee.{Callee}
 use Rattle.cv_typing.specs.declared.want.Want.{Want}
 use Rattle.cv_typing.specs.declared.want.Want.TheVariants as asked
 use Rattle.cv_typing.specs.Signature.{Signature, Function, names_in, variable_in}
-use Rattle.cv_typing.specs.Sites.{Variable}
+use Rattle.cv_directory.specs.Sites.{Variable}
 use Rattle.cv_typing.specs.Tables.{arrays_of}
 use Rattle.cv_typing.specs.Wants as wants
 

@@ -7,9 +7,9 @@ use Rattle.cv_syntax.specs.Tree.{Tree, Empty, Node, first, second, size}
 use Rattle.cv_typing.specs.declared.fault.Fault.{Fault}
 use Rattle.cv_typing.specs.declared.form.Form.TheVariants.{InProcess, InBody}
 use Rattle.cv_typing.specs.declared.precedence.Precedence.TheVariants.{First, Newest}
-use Rattle.cv_typing.specs.declared.sort.Sort.{Sort}
-use Rattle.cv_typing.specs.declared.sort.Sort.TheVariants.{OfType}
-use Rattle.cv_typing.specs.Sites.{first_of, sites_of}
+use Rattle.cv_directory.specs.declared.sort.Sort.{Sort}
+use Rattle.cv_directory.specs.declared.sort.Sort.TheVariants.{OfType}
+use Rattle.cv_directory.specs.Sites.{first_of, sites_of}
 use Rattle.cv_typing.specs.Signature.{Signature, Arrays, OfGame, OfSide, OfNothing, Above, boolean, sort_of}
 use Rattle.cv_typing.specs.Wants.{Want, Run, Of, Correspondence}
 use Rattle.cv_typing.specs.Wants.{all_bound}

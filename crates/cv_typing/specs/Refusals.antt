@@ -1,5 +1,5 @@
 -- What a refusal says.
-use Rattle.std.specs.Prelude.{◌≡◌, ℕ, ◌+◌, List, [], ◌∷◌, Option, Some, None, Result, MatchResult}
+use Rattle.std.specs.Prelude.{◌≡◌, ℕ, ◌+◌, List, [], ◌∷◌, Option, Some, None, Result, IfSome, MatchResult}
 use Rattle.cv_syntax.specs.Declarations.{Declaration}
 use Rattle.cv_syntax.specs.Tree.{size}
 use Rattle.cv_typing.specs.declared.fault.Fault.{Fault}
@@ -7,6 +7,7 @@ use Rattle.cv_typing.specs.declared.fault.Fault.TheVariants as fault
 use Rattle.cv_typing.specs.declared.fault.TypeFault.{TypeFault}
 use Rattle.cv_typing.specs.declared.fault.TypeFault.TheVariants as refused
 use Rattle.cv_typing.specs.Parts.{Part, IsFirstIn, first_in}
+use Rattle.cv_first_fault.specs.Walk as walk
 
 abbrev pub refusal : ℕ → Fault → TypeFault
 refusal p fault.WrongType = refused.WrongType p
@@ -14,21 +15,21 @@ refusal p fault.Arity = refused.Arity p
 refusal p fault.IndexAsMessage = refused.IndexAsMessage p
 refusal p fault.NotFixed = refused.NotFixed p
 
+-- the place and the fault that a refusal names; want of memory names none
+abbrev pub named : TypeFault → Option (ℕ × Fault)
+named (refused.WrongType p) = Some (p, fault.WrongType)
+named (refused.Arity p) = Some (p, fault.Arity)
+named (refused.IndexAsMessage p) = Some (p, fault.IndexAsMessage)
+named (refused.NotFixed p) = Some (p, fault.NotFixed)
+named refused.OutOfMemory = None
+
 -- The refusal names what was found. Want of memory says nothing.
 abbrev pub IsRefusalOf : Option (ℕ × Fault) → TypeFault → Type 0
-IsRefusalOf found (refused.WrongType p) = found ≡ Some (p, fault.WrongType)
-IsRefusalOf found (refused.Arity p) = found ≡ Some (p, fault.Arity)
-IsRefusalOf found (refused.IndexAsMessage p) = found ≡ Some (p, fault.IndexAsMessage)
-IsRefusalOf found (refused.NotFixed p) = found ≡ Some (p, fault.NotFixed)
-IsRefusalOf found refused.OutOfMemory = Unit {0}
+IsRefusalOf found t = walk.IsRefusalOf found (named t)
 
 -- The refusal names the first fault of parts, the first of which stands at place 0. Want of memory says nothing.
 abbrev pub IsFirstRefusal : List Declaration → List Part → TypeFault → Type 0
-IsFirstRefusal ds parts (refused.WrongType p) = IsFirstIn ds 0 parts p fault.WrongType
-IsFirstRefusal ds parts (refused.Arity p) = IsFirstIn ds 0 parts p fault.Arity
-IsFirstRefusal ds parts (refused.IndexAsMessage p) = IsFirstIn ds 0 parts p fault.IndexAsMessage
-IsFirstRefusal ds parts (refused.NotFixed p) = IsFirstIn ds 0 parts p fault.NotFixed
-IsFirstRefusal ds parts refused.OutOfMemory = Unit {0}
+IsFirstRefusal ds parts t = IfSome (named t) (λ x. IsFirstIn ds 0 parts x.0 x.1)
 
 -- how many syntax nodes parts have
 abbrev pub parts_size : List Part → ℕ

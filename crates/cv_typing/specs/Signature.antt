@@ -5,9 +5,9 @@ use Rattle.cv_syntax.specs.declared.head.Head.{Head}
 use Rattle.cv_syntax.specs.declared.head.Head.TheVariants.{Name, Leaf, Read, Apply, Eq, And, Or, Not, Yes, No, Event, Occurs, OccursOnce}
 use Rattle.cv_syntax.specs.Declarations.{Declaration, Named, Equiv}
 use Rattle.cv_syntax.specs.Tree.{Tree, Empty, Node, first}
-use Rattle.cv_typing.specs.declared.sort.Sort.{Sort}
-use Rattle.cv_typing.specs.declared.sort.Sort.TheVariants.{OfType, BelowParameter}
-use Rattle.cv_typing.specs.Sites.{SitesView, Variable, first_of}
+use Rattle.cv_directory.specs.declared.sort.Sort.{Sort}
+use Rattle.cv_directory.specs.declared.sort.Sort.TheVariants.{OfType, BelowParameter}
+use Rattle.cv_directory.specs.Sites.{SitesView, Variable, first_of}
 
 abbrev pub boolean : Sort
 boolean = OfType 0

@@ -1,63 +1,24 @@
 -- What the tables of a check hold.
-use Rattle.std.specs.Prelude.{ℕ, nat_eq, Bool, true, false, ◌&&◌, ◌==◌, if◌then◌else◌, List, [], ◌∷◌, option_map, Option, Some, None}
+use Rattle.std.specs.Prelude.{ℕ, nat_eq, Bool, true, false, ◌&&◌, ◌==◌, if◌then◌else◌, List, [], ◌∷◌, Option, Some, None}
 use Rattle.std.specs.declared.hash.FoldHasher.{FoldHasher}
 use Rattle.std.specs.declared.hash.BuildHasherDefault.{BuildHasherDefault}
 use Rattle.std.specs.HashMap.{get, HashMap}
 use Rattle.cv_syntax.specs.declared.head.Head.{Head}
 use Rattle.cv_syntax.specs.Tree.{Tree, first, second}
-use Rattle.cv_typing.specs.declared.site.Site.{Site}
-use Rattle.cv_typing.specs.declared.sites.Sites.{Sites}
-use Rattle.cv_typing.specs.declared.sort.Sort.{Sort}
-use Rattle.cv_typing.specs.declared.sort.Sort.TheVariants.{OfType, BelowParameter}
+use Rattle.cv_directory.specs.declared.sort.Sort.{Sort}
+use Rattle.cv_directory.specs.declared.sort.Sort.TheVariants.{OfType, BelowParameter}
 use Rattle.cv_typing.specs.declared.arrays.Arrays.{Arrays}
 use Rattle.cv_typing.specs.declared.arrays.Arrays.TheVariants as held
 use Rattle.cv_typing.specs.declared.locals.Locals.{Locals}
 use Rattle.cv_typing.specs.declared.locals.Own.{Own}
 use Rattle.cv_typing.specs.Signature as signature
 use Rattle.cv_typing.specs.Signature.{Above}
-use Rattle.cv_typing.specs.Sites.{SitesView, Variable, first_of, bound_sort, site_here, index_here, at_parameters, first_site, first_index}
+use Rattle.cv_directory.specs.Tables.{seen}
+use Rattle.cv_directory.specs.Sites.{first_of}
 use Rattle.cv_typing.specs.Parts.{bound_at, local_here, local_in, own_sort, sort_by_bound}
 
 abbrev pub Map : Type 0 → Type 0
 Map X = HashMap ℕ X (BuildHasherDefault FoldHasher)
-
-abbrev pub variable_of : Site → Variable
-variable_of s = record { parameters = s.parameters.items; sort = s.sort }
-
-abbrev pub sites_in : Map Site → Map ℕ → SitesView
-sites_in variables indices = record { variable = λ x. option_map variable_of (get nat_eq variables x); index = λ i. get nat_eq indices i }
-
--- the sites that a table holds
-abbrev pub seen : Sites → SitesView
-seen s = sites_in s.variables s.indices
-
--- the sorts that binders give: indices, or values of types
-abbrev pub binder_sort : Bool → ℕ → Sort
-binder_sort true = BelowParameter
-binder_sort false = OfType
-
--- one more variable, or one more index, unless it is there
-abbrev pub with_variable : SitesView → ℕ → Variable → SitesView
-with_variable s x v = record s { variable = λ y. first_of (s.variable y) (if x == y then Some v else None) }
-
-abbrev pub with_index : SitesView → ℕ → ℕ → SitesView
-with_index s i n = record s { index = λ j. first_of (s.index j) (if i == j then Some n else None) }
-
--- the variables of a list of binders
-abbrev pub with_binders : SitesView → List ℕ → Bool → Tree → SitesView
-with_binders s ps are_indices binders =
-    record s { variable = λ x. first_of (s.variable x) (at_parameters ps (bound_sort (binder_sort are_indices) x binders)) }
-
--- what a node itself defines
-abbrev pub with_node : SitesView → List ℕ → Head → Tree → SitesView
-with_node s ps h a = record {
-  variable = λ x. first_of (s.variable x) (at_parameters ps (site_here x h a));
-  index = λ i. first_of (s.index i) (index_here i h);
-}
-
--- all that a tree defines
-abbrev pub with_sites : SitesView → List ℕ → Tree → SitesView
-with_sites s ps t = record { variable = λ x. first_of (s.variable x) (first_site x ps t); index = λ i. first_of (s.index i) (first_index i t) }
 
 abbrev pub same_pair : ℕ × ℕ → ℕ × ℕ → Bool
 same_pair p q = nat_eq p.0 q.0 && nat_eq p.1 q.1

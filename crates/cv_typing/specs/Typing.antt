@@ -1,13 +1,14 @@
 -- Typing: each node of a tree gives what its position asks of it; else the first node in preorder that does not.
-use Rattle.std.specs.Prelude.{◌≡◌, ◌≤◌, ℕ, Bool, false, ◌||◌, not, if◌then◌else◌, Option, Some, None}
+use Rattle.std.specs.Prelude.{◌≡◌, ℕ, Bool, false, ◌||◌, not, if◌then◌else◌, Option, Some, None}
 use Rattle.cv_syntax.specs.declared.head.Head.{Head}
 use Rattle.cv_syntax.specs.declared.head.Head.TheVariants.{In, New, Let, Branch, Binder}
-use Rattle.cv_syntax.specs.Tree.{Tree, Empty, Node, second, first_place, second_place}
+use Rattle.cv_syntax.specs.Tree.{Tree, Empty, Node, second}
+use Rattle.cv_first_fault.specs.Walk.{Walk, IsObeyed}
+use Rattle.cv_first_fault.specs.Walk as walk
 use Rattle.cv_typing.specs.declared.fault.Fault.{Fault}
 use Rattle.cv_typing.specs.declared.fault.Fault.TheVariants.{WrongType, Arity, IndexAsMessage, NotFixed}
-use Rattle.cv_typing.specs.declared.sort.Sort.{Sort}
-use Rattle.cv_typing.specs.declared.sort.Sort.TheVariants.{OfType, BelowParameter}
-use Rattle.cv_typing.specs.Sites.{first_of}
+use Rattle.cv_directory.specs.declared.sort.Sort.{Sort}
+use Rattle.cv_directory.specs.declared.sort.Sort.TheVariants.{OfType, BelowParameter}
 use Rattle.cv_typing.specs.Signature.{Signature, Arrays, Above, same_sort, variable_sort, defined_sort, is_fixed_in, sort_by, arity_by, is_arity, count}
 use Rattle.cv_typing.specs.Wants.{Want, wants, is_wrong, is_index_sent, above_second}
 
@@ -45,33 +46,28 @@ fault_of e above w h a =
     else if is_arity (arity_by e above h) (count a) then value_fault e w (sort_by e above h a) h
     else Some Arity
 
--- every node of the tree gives what its position asks
-unfoldable pub IsTyped : Signature → Above → Want → Tree → Type 0
-IsTyped e above w Empty = Unit {0}
-IsTyped e above w (Node h a b) =
-    (fault_of e above w h a ≡ None)
-    × IsTyped e above (wants e above w h a).0 a
-    × IsTyped e (above_second w h a above) (wants e above w h a).1 b
+-- A tree inherits the names that are bound above it, and what its position asks of it.
+abbrev pub typing_walk : Signature → Walk (Above × Want) Fault
+typing_walk e = record {
+  fault = λ s h a b. fault_of e s.0 s.1 h a;
+  first = λ s h a. (s.0, (wants e s.0 s.1 h a).0);
+  second = λ s h a. (above_second s.1 h a s.0, (wants e s.0 s.1 h a).1);
+  Obeys = λ s h a b. fault_of e s.0 s.1 h a ≡ None;
+  Breaks = λ s h a b f. fault_of e s.0 s.1 h a ≡ Some f;
+}
 
-abbrev pub placed : ℕ → Option Fault → Option (ℕ × Fault)
-placed p None = None
-placed p (Some f) = Some (p, f)
+-- every node of the tree gives what its position asks
+abbrev pub IsTyped : Signature → Above → Want → Tree → Type 0
+IsTyped e above w t = IsObeyed (typing_walk e) (above, w) t
 
 -- the place and the fault of the first node in preorder that does not, in a tree that stands at a place
-unfoldable pub first_fault : Signature → Above → Want → ℕ → Tree → Option (ℕ × Fault)
-first_fault e above w p Empty = None
-first_fault e above w p (Node h a b) =
-    first_of (placed p (fault_of e above w h a))
-    (first_of (first_fault e above (wants e above w h a).0 (first_place p h) a)
-    (first_fault e (above_second w h a above) (wants e above w h a).1 (second_place p h a) b))
+abbrev pub first_fault : Signature → Above → Want → ℕ → Tree → Option (ℕ × Fault)
+first_fault e above w p t = walk.first_fault (typing_walk e) (above, w) p t
 
 -- in a tree that stands at p a node at q has the fault
-pub data Faulty (e : Signature) : Above → Want → ℕ → Tree → ℕ → Fault → Type 0 where
-  here : {above : Above} {w : Want} {p : ℕ} {h : Head} {a b : Tree} {f : Fault} → fault_of e above w h a ≡ Some f → Faulty e above w p (Node h a b) p f
-  in_first : {above : Above} {w : Want} {p q : ℕ} {h : Head} {a b : Tree} {f : Fault} → Faulty e above (wants e above w h a).0 (first_place p h) a q f → Faulty e above w p (Node h a b) q f
-  in_second : {above : Above} {w : Want} {p q : ℕ} {h : Head} {a b : Tree} {f : Fault} → Faulty e (above_second w h a above) (wants e above w h a).1 (second_place p h a) b q f → Faulty e above w p (Node h a b) q f
+abbrev pub Faulty : Signature → Above → Want → ℕ → Tree → ℕ → Fault → Type 0
+Faulty e above w p t q f = walk.Faulty (typing_walk e) (above, w) p t q f
 
 -- a fault, and none at a lesser place
-pub record IsFirst (e : Signature) (above : Above) (w : Want) (p : ℕ) (t : Tree) (q : ℕ) (f : Fault) : Type 0 where
-  pub there : Faulty e above w p t q f
-  pub least : (r : ℕ) (g : Fault) → Faulty e above w p t r g → q ≤ r
+abbrev pub IsFirst : Signature → Above → Want → ℕ → Tree → ℕ → Fault → Type 0
+IsFirst e above w p t q f = walk.IsFirst (typing_walk e) (above, w) p t q f

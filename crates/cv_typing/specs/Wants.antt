@@ -8,9 +8,9 @@ use Rattle.cv_typing.specs.declared.form.Form.{Form}
 use Rattle.cv_typing.specs.declared.form.Form.TheVariants.{InProcess, InBody}
 use Rattle.cv_typing.specs.declared.precedence.Precedence.{Precedence}
 use Rattle.cv_typing.specs.declared.precedence.Precedence.TheVariants.{First, Newest}
-use Rattle.cv_typing.specs.declared.sort.Sort.{Sort}
-use Rattle.cv_typing.specs.declared.sort.Sort.TheVariants.{OfType, BelowParameter}
-use Rattle.cv_typing.specs.Sites.{Variable, first_of}
+use Rattle.cv_directory.specs.declared.sort.Sort.{Sort}
+use Rattle.cv_directory.specs.declared.sort.Sort.TheVariants.{OfType, BelowParameter}
+use Rattle.cv_directory.specs.Sites.{Variable, first_of}
 use Rattle.cv_typing.specs.Signature.{Signature, Function, Arrays, OfGame, OfSide, OfNothing, Above, boolean, same_sort, function_in, event_in, sort_of}
 
 pub data Want : Type 0 where

@@ -1,14 +1,13 @@
 ghost use Rattle.std.specs.Prelude.{◌≡◌, ◌<◌, ◌^◌, ◌+◌, length, drop, slice_get, option_map, option_and_then, OnOk, OnSome};
 ghost use Rattle.cv_pool.specs.Nodes.{ChildBelow};
 ghost use Rattle.cv_syntax.specs.Tree.{tree_at};
-ghost use Rattle.cv_typing.specs.Sites.{Variable};
+ghost use Rattle.cv_directory.specs.Sites.{Variable};
 ghost use Rattle.cv_typing.specs.Parts.{in_function};
 ghost use Rattle.cv_typing.specs.Signature.{defined_sort, index_in, variable_in, variable_sort as sort_of_variable};
 ghost use Rattle.cv_typing.specs.Tables.{arrays_of};
 
 use crate::locals::{Locals, own_names};
-use crate::sites::Sites;
-use crate::sort::Sort;
+use cv_directory::{Directory, Sort};
 use cv_syntax::{NodeId, Pool};
 use std::alloc::{AllocError, Global};
 use std::collections::HashMap;
@@ -17,7 +16,7 @@ use std::collections::HashMap;
 #[derive(Drop)]
 pub enum Arrays {
     /// The variables of a game.
-    OfGame(Sites),
+    OfGame(Directory),
     /// On a side of an equivalence, what the function with a bound binds, and what that function binds whose body this is.
     OfSide(Locals, HashMap<u32, Sort>),
     /// Nothing, in equations and queries.

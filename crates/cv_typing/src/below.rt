@@ -13,9 +13,9 @@ ghost use Rattle.cv_typing.specs.Wants as wants;
 use crate::arrays::Arrays;
 use crate::form::Form;
 use crate::function::{event_arguments, find_function};
-use crate::sort::Sort;
 use crate::terms::sort_of_term;
 use crate::want::Want;
+use cv_directory::Sort;
 use cv_syntax::{Decls, Head, NodeId, Opened, Pool, read_node};
 use std::collections::HashMap;
 

@@ -9,9 +9,9 @@ use crate::arrays::Arrays;
 use crate::fault::TypeFault;
 use crate::form::Form;
 use crate::parts::check_declaration;
-use crate::sites::Sites;
 use crate::walk::walk;
 use crate::want::Want;
+use cv_directory::Directory;
 use cv_syntax::{Decls, File, Game, NodeId, Pool, Work};
 use std::alloc::Global;
 use std::collections::HashMap;
@@ -76,7 +76,7 @@ fn check_process(
     ensures typed { OnOk result (first_in (declarations pool.now.trees decls.now.list) from (game_part (tree_at pool.now.trees (Some root)) ∷ []) ≡ None) }
     ensures fault { IfErr result (IsRefusalOf (first_in (declarations pool.now.trees decls.now.list) from (game_part (tree_at pool.now.trees (Some root)) ∷ []))) }
 {
-    let arrays = Arrays::OfGame(Sites::of(alloc, pool, root)?);
+    let arrays = Arrays::OfGame(Directory::of(alloc, pool, decls, root)?);
     let mut above = HashMap::new(alloc);
     walk(
         alloc,

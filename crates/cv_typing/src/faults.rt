@@ -7,7 +7,8 @@ ghost use Rattle.cv_syntax.specs.Tree.{tree_at};
 ghost use Rattle.cv_typing.specs.Lookups.{HasLiveArguments, signature_in, want_of};
 ghost use Rattle.cv_typing.specs.Signature as signature;
 ghost use Rattle.cv_typing.specs.Signature.{is_arity, same_sort as same};
-ghost use Rattle.cv_typing.specs.Tables.{above_of, arrays_of, binder_sort};
+ghost use Rattle.cv_directory.specs.Sites.{binder_sort};
+ghost use Rattle.cv_typing.specs.Tables.{above_of, arrays_of};
 ghost use Rattle.cv_typing.specs.Typing as typing;
 ghost use Rattle.cv_typing.specs.Wants as wants;
 
@@ -15,10 +16,10 @@ use crate::arrays::Arrays;
 use crate::fault::Fault;
 use crate::form::Form;
 use crate::function::{count, is_fixed};
-use crate::sites::{rest, sort_of_binder};
-use crate::sort::Sort;
 use crate::terms::{arity_of_head, sort_of_head};
 use crate::want::Want;
+use cv_directory::{Sort, sort_of_binder};
+use cv_syntax::children::second_of;
 use cv_syntax::{Decls, Head, NodeId, Opened, Pool, read_node};
 use std::collections::HashMap;
 
@@ -120,7 +121,7 @@ fn site_differs(pool: &Pool, arrays: &Arrays, head: Head, first: Option<NodeId>)
     match head {
         Head::New(x, t) => differs_from(arrays.sort(x), Sort::OfType(t)),
         Head::Let(x, t) => differs_from(arrays.sort(x), Sort::OfType(t)),
-        Head::In(_) => binders_differ(pool, arrays, false, rest(pool, first)),
+        Head::In(_) => binders_differ(pool, arrays, false, second_of(pool, first)),
         Head::Branch => binders_differ(pool, arrays, true, first),
         _ => false,
     }

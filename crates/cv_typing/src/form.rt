@@ -1,4 +1,4 @@
-use crate::sort::Sort;
+use cv_directory::Sort;
 
 /// Where `new`, `let`, tests and finds stand.
 #[derive(Clone, Copy, Debug, PartialEq, Eq)]

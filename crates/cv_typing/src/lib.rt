@@ -13,9 +13,6 @@ mod laws;
 mod locals;
 mod parts;
 mod precedence;
-mod site;
-pub mod sites;
-mod sort;
 mod terms;
 mod walk;
 mod want;
@@ -29,6 +26,4 @@ pub use laws::{
 };
 pub use locals::{Locals, Own};
 pub use precedence::Precedence;
-pub use site::Site;
-pub use sort::Sort;
 pub use want::Want;

@@ -8,9 +8,8 @@ ghost use Rattle.cv_typing.specs.Wants.{bound as with_bound};
 
 use crate::above::bind_all;
 use crate::precedence::Precedence;
-use crate::sites::rest;
-use crate::sort::Sort;
-use crate::terms::first;
+use cv_directory::Sort;
+use cv_syntax::children::{first_of, second_of};
 use cv_syntax::{Head, NodeId, Pool, read_node};
 use std::alloc::{AllocError, Global};
 use std::collections::HashMap;
@@ -100,7 +99,7 @@ pub fn bind_taken(
         &mut bound,
         Precedence::Newest,
         false,
-        first(pool, taken),
+        first_of(pool, taken),
     )?;
     bind_all(
         pool,
@@ -108,7 +107,7 @@ pub fn bind_taken(
         &mut bound,
         Precedence::Newest,
         false,
-        rest(pool, taken),
+        second_of(pool, taken),
     )?;
     Ok(())
 }
@@ -123,8 +122,8 @@ pub fn own_names(
     ensures { IfOk result (λ m. above_of m ≡ λ x. own_sort x (first_child (tree_at pool.now.trees function)) (second (tree_at pool.now.trees function))) }
 {
     let mut sorts = HashMap::new(alloc);
-    bind_taken(alloc, pool, &mut sorts, first(pool, function))?;
-    note_body(pool, &mut sorts, rest(pool, function))?;
+    bind_taken(alloc, pool, &mut sorts, first_of(pool, function))?;
+    note_body(pool, &mut sorts, second_of(pool, function))?;
     Ok(sorts)
 }
 
@@ -165,7 +164,7 @@ impl Locals {
         requires { ChildBelow (length pool.now.trees) function }
         ensures { OnOk result (locals_of self.new ≡ with_function (locals_of self.old) (tree_at pool.now.trees function)) }
     {
-        let bound = bound_at(pool, first(pool, function));
+        let bound = bound_at(pool, first_of(pool, function));
         let sorts = own_names(alloc, pool, function)?;
         self.functions.push(Own { bound, sorts })?;
         Ok(())

@@ -13,11 +13,11 @@ use crate::fault::TypeFault;
 use crate::form::Form;
 use crate::locals::{Locals, bind_taken};
 use crate::precedence::Precedence;
-use crate::sites::rest;
-use crate::sort::Sort;
-use crate::terms::{first, sort_of_term};
+use crate::terms::sort_of_term;
 use crate::walk::walk;
 use crate::want::Want;
+use cv_directory::Sort;
+use cv_syntax::children::{first_of, second_of};
 use cv_syntax::{Decl, Decls, NodeId, Pool, read_node};
 use std::alloc::{AllocError, Global};
 use std::collections::HashMap;
@@ -125,7 +125,7 @@ fn arrays_of_side(alloc: Global, pool: &Pool, group: Option<NodeId>) -> Result<A
     requires { ChildBelow (length pool.now.trees) group }
     ensures { IfOk result (λ r. arrays_of r ≡ side_arrays (tree_at pool.now.trees group)) }
 {
-    let locals = Locals::of(alloc, pool, rest(pool, group))?;
+    let locals = Locals::of(alloc, pool, second_of(pool, group))?;
     Ok(Arrays::OfSide(locals, HashMap::new(alloc)))
 }
 
@@ -156,8 +156,8 @@ fn results_of(
     let mut at = functions;
     'list: while let Some(k) = at {
         let node = read_node(pool, k);
-        let above = bind_function(alloc, pool, key, first(pool, node.first))?;
-        let body = rest(pool, node.first);
+        let above = bind_function(alloc, pool, key, first_of(pool, node.first))?;
+        let body = second_of(pool, node.first);
         sorts.push(sort_of_term(pool, decls, arrays, &above, body))?;
         at = node.second;
     }
@@ -186,10 +186,10 @@ fn check_bodies(
     let mut at = functions;
     'list: while let Some(k) = at {
         let node = read_node(pool, k);
-        let mut above = bind_function(alloc, pool, key, first(pool, node.first))?;
+        let mut above = bind_function(alloc, pool, key, first_of(pool, node.first))?;
         arrays.enter(alloc, pool, node.first)?;
         let want = Want::Run(Form::InBody(result_at(sorts, n)));
-        let body = rest(pool, node.first);
+        let body = second_of(pool, node.first);
         place = walk(alloc, pool, decls, arrays, &mut above, want, place, body)?;
         n += 1;
         at = node.second;
@@ -211,8 +211,8 @@ fn check_equivalence(
     ensures { IsChecked (declarations pool.now.trees decls.now.list) from (equivalence_parts (declarations pool.now.trees decls.now.list) (tree_at pool.now.trees (Some tree))) result }
 {
     let node = read_node(pool, tree);
-    let key = first(pool, node.first);
-    let functions = rest(pool, node.first);
+    let key = first_of(pool, node.first);
+    let functions = second_of(pool, node.first);
     let mut left = arrays_of_side(alloc, pool, node.first)?;
     let mut right = arrays_of_side(alloc, pool, node.second)?;
     let none = Vec::new(alloc);
@@ -227,8 +227,8 @@ fn check_equivalence(
         key,
         functions,
     )?;
-    let other_key = first(pool, node.second);
-    let others = rest(pool, node.second);
+    let other_key = first_of(pool, node.second);
+    let others = second_of(pool, node.second);
     check_bodies(
         alloc,
         pool,

@@ -1,16 +1,17 @@
 ghost use Rattle.std.specs.Prelude.{◌≡◌, ◌<◌, List, length, option_map};
 ghost use Rattle.cv_pool.specs.Nodes.{ChildBelow};
-ghost use Rattle.cv_syntax.specs.Tree.{first as first_child, tree_at};
+ghost use Rattle.cv_syntax.specs.Tree.{tree_at};
 ghost use Rattle.cv_syntax.specs.Declarations.{declarations};
 ghost use Rattle.cv_pool.specs.KindTree.{KindTree};
 ghost use Rattle.cv_typing.specs.Lookups.{HasLiveArguments, signature_in};
 ghost use Rattle.cv_typing.specs.Signature as signature;
-ghost use Rattle.cv_typing.specs.declared.sort.Sort.TheVariants.{OfType};
+ghost use Rattle.cv_directory.specs.declared.sort.Sort.TheVariants.{OfType};
 ghost use Rattle.cv_typing.specs.Tables.{above_of, arrays_of};
 
 use crate::arrays::Arrays;
 use crate::function::{count_names, event_arguments, find_function};
-use crate::sort::Sort;
+use cv_directory::Sort;
+use cv_syntax::children::first_of;
 use cv_syntax::{Decls, Head, NodeId, Pool, read_node};
 use std::collections::HashMap;
 
@@ -43,15 +44,6 @@ fn leaf_sort(decls: &Decls, arrays: &Arrays, above: &HashMap<u32, Sort>, x: u32)
     }
 }
 
-/// The first child of a tree.
-pub fn first(pool: &Pool, tree: Option<NodeId>) -> Option<NodeId>
-    requires { ChildBelow (length pool.now.trees) tree }
-    ensures tree { tree_at pool.now.trees result ≡ first_child (tree_at pool.now.trees tree) }
-    ensures below { ChildBelow (length pool.now.trees) result }
-{
-    read_node(pool, tree?).first
-}
-
 /// The bound over which an index term ranges.
 fn bound_of_term(pool: &Pool, above: &HashMap<u32, Sort>, term: Option<NodeId>) -> Option<u32>
     requires { ChildBelow (length pool.now.trees) term }
@@ -80,7 +72,7 @@ fn read_sort(
     match arrays {
         Arrays::OfGame(sites) => sites.sort(x),
         Arrays::OfSide(locals, _) => {
-            let bound = bound_of_term(pool, above, first(pool, indices))?;
+            let bound = bound_of_term(pool, above, first_of(pool, indices))?;
             locals.sort(bound, x)
         }
         Arrays::OfNothing => above.get(&x).copied(),

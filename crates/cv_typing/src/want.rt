@@ -1,5 +1,5 @@
 use crate::form::Form;
-use crate::sort::Sort;
+use cv_directory::Sort;
 use cv_syntax::NodeId;
 
 /// What a position asks of the tree that stands there.

@@ -1,4 +1,5 @@
 use Rattle.std.proofs.Common.{◌≡◌, Option, Some, None, refl}
+use Rattle.cv_first_fault.specs.Walk.{first_fault}
 use Rattle.cv_syntax.specs.Tree.{size, same_tree, reads_only}
 use Rattle.cv_meaning.specs.Direct.{argument, is_substituted, is_instance, plainly_covered}
 use Rattle.cv_meaning.specs.Memory.{put}
@@ -9,11 +10,11 @@ use Rattle.cv_meaning.specs.Serving.{step, serve}
 use Rattle.cv_meaning.specs.Runs.{taken, moved, run_from}
 use Rattle.cv_meaning.specs.Experiments.{run, holds_on}
 use Rattle.cv_meaning.specs.Correspondences.{assignments, broken}
-use Rattle.cv_typing.specs.Sites.{first_site, bound_sort}
+use Rattle.cv_directory.specs.Sites.{first_site, bound_sort}
 use Rattle.cv_typing.specs.Signature.{count}
 use Rattle.cv_scope.specs.Sites.{sites_from}
 use Rattle.cv_scope.specs.Standing.{at_root}
-use Rattle.cv_scope.specs.Scope.{first_fault, is_untyped_in, names_of, IsScoped}
+use Rattle.cv_scope.specs.Scope.{is_untyped_in, names_of, IsScoped}
 use Rattle.cv_scope.specs.Worked.{constants}
 use Rattle.cv_scope.proofs.First.{scoped_where_none, none_where_scoped}
 use Rattle.cv_scope_runs.specs.Phrases.{is_phrase, binds_none}

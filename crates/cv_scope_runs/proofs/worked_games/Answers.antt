@@ -1,13 +1,14 @@
 use Rattle.std.proofs.Common.{◌≡◌, false, [], ◌∷◌, refl}
 use Rattle.std.proofs.lemmas.Bool.{both_ways}
+use Rattle.cv_first_fault.specs.Walk.{first_fault}
 use Rattle.cv_syntax.specs.Tree.{size, same_tree, reads_only, binds}
 use Rattle.cv_meaning.specs.Direct.{argument, is_substituted, is_instance, is_unbound, plainly_covered}
 use Rattle.cv_meaning.specs.Interpretation.{setting_of}
-use Rattle.cv_typing.specs.Sites.{first_site, bound_sort}
+use Rattle.cv_directory.specs.Sites.{first_site, bound_sort}
 use Rattle.cv_typing.specs.Signature.{count}
 use Rattle.cv_scope.specs.Sites.{sites_from}
 use Rattle.cv_scope.specs.Standing.{at_root}
-use Rattle.cv_scope.specs.Scope.{first_fault, is_untyped_in, names_of}
+use Rattle.cv_scope.specs.Scope.{is_untyped_in, names_of}
 use Rattle.cv_scope.specs.Worked.{cell_found, constants, finds}
 use Rattle.cv_scope.proofs.First.{scoped_where_none}
 use Rattle.cv_scope_runs.specs.Phrases.{Inputs, is_phrase, is_oracle_phrase, binds_none, IsWellFormed}

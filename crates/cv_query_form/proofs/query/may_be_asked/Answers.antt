@@ -1,7 +1,7 @@
 use Rattle.std.proofs.Common.{◌≡◌, ◌&&◌, ◌∙◌, Some, refl}
 use Rattle.cv_syntax.specs.Tree.{tree_at}
 use Rattle.cv_syntax.specs.Children.{is_empty}
-use Rattle.cv_typing.specs.Tables.{seen}
+use Rattle.cv_directory.specs.Tables.{seen}
 use Rattle.cv_query_form.specs.Held.{correspondence_passes, valued}
 use Rattle.cv_query_form.specs.Tests.{passes}
 use Rattle.cv_query_form.proofs.Parts.{and-here, and-nowhere, none-empty, ok-same, passes-other, passes-query, passes-secret}

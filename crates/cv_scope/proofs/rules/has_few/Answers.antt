@@ -3,14 +3,14 @@ use Rattle.std.proofs.lemmas.Bool.{le-ltb, lt-ltb}
 use Rattle.cv_syntax.specs.Tree.{tree_at}
 use Rattle.cv_typing.specs.Signature.{count}
 use Rattle.cv_typing.proofs.Counts.{count-end, count-step}
-use Rattle.cv_typing.proofs.Walks.{child-live, empty-at, node-at}
+use Rattle.cv_syntax.proofs.Trees.{child_live, empty_at, node_at}
 use Rattle.cv_scope.proofs.rules.has_few.Goals as goal
 
 pub returns-then-items-eq-TOO_MANY : goal.returns-then-items-eq-TOO_MANY
 returns-then-items-eq-TOO_MANY c =
     let trees = c.args.pool.now.trees in
     let node = c.read_node-at.result in
-    let step = count-step (tree_at trees c.list.at) node.head (tree_at trees node.first) (tree_at trees node.second) (node-at trees c.list.at c.in-Some.k node c.in-Some.is c.read_node-at.ensures.tree) in
+    let step = count-step (tree_at trees c.list.at) node.head (tree_at trees node.first) (tree_at trees node.second) (node_at trees c.list.at c.in-Some.k node c.in-Some.is c.read_node-at.ensures.tree) in
     let many : 9 ≤ count (tree_at trees c.args.list) = omega (arith, step, c.list.invariant.sum, c.if-items-eq-TOO_MANY.true) in
     sym (le-ltb (count (tree_at trees c.args.list)) 9 many)
 
@@ -18,15 +18,15 @@ pub list-preserved : goal.list-preserved
 list-preserved c =
     let trees = c.args.pool.now.trees in
     let node = c.read_node-at.result in
-    let step = count-step (tree_at trees c.list.at) node.head (tree_at trees node.first) (tree_at trees node.second) (node-at trees c.list.at c.in-Some.k node c.in-Some.is c.read_node-at.ensures.tree) in
+    let step = count-step (tree_at trees c.list.at) node.head (tree_at trees node.first) (tree_at trees node.second) (node_at trees c.list.at c.in-Some.k node c.in-Some.is c.read_node-at.ensures.tree) in
     record {
-      live = child-live _ c.list.at c.in-Some.k node.second c.in-Some.is c.list.invariant.live c.read_node-at.ensures.second;
+      live = child_live _ c.list.at c.in-Some.k node.second c.in-Some.is c.list.invariant.live c.read_node-at.ensures.second;
       few = omega (arith, c.list.invariant.few, c.if-items-eq-TOO_MANY.false);
       sum = omega (arith, step, c.list.invariant.sum);
     }
 
 pub returns : goal.returns
 returns c =
-    let end = count-end (tree_at c.args.pool.now.trees c.list.at) (empty-at c.args.pool.now.trees c.list.at c.in_default.is) in
+    let end = count-end (tree_at c.args.pool.now.trees c.list.at) (empty_at c.args.pool.now.trees c.list.at c.in_default.is) in
     let few : count (tree_at c.args.pool.now.trees c.args.list) < 9 = omega (arith, end, c.list.invariant.sum, c.list.invariant.few) in
     sym (lt-ltb (count (tree_at c.args.pool.now.trees c.args.list)) 9 few)

@@ -4,16 +4,17 @@ use Rattle.cv_syntax.specs.Head.{weight}
 use Rattle.cv_syntax.specs.Tree.{size, tree_at}
 use Rattle.cv_syntax.specs.Walks.{above as rank}
 use Rattle.cv_syntax.proofs.Walking.{above-child, above-some, size-at, size-end}
-use Rattle.cv_typing.proofs.Walks.{child-above, child-live, empty-at, node-at}
+use Rattle.cv_syntax.proofs.Trees.{child_above, child_live, empty_at, node_at}
 use Rattle.cv_scope.specs.Held.{AreListed, HasLiveBinders, last_held, names_held, state_held}
-use Rattle.cv_scope.proofs.Going.{found-end, found-parts, held-only, keeps-more, keeps-same, passed-first, passed-second, refused-first, refused-here, released, seen-second, sites-end, sites-second, skip-two}
+use Rattle.cv_first_fault.proofs.Steps.{skip-two}
+use Rattle.cv_scope.proofs.Going.{found-end, found-parts, held-only, keeps-more, keeps-same, passed-first, passed-second, refused-first, refused-here, released, seen-second, sites-end, sites-second}
 use Rattle.cv_scope.proofs.walk.+walk.Goals as goal
 
 pub returns-in-Some-2-clause-fault : goal.returns-in-Some-2-clause-fault
 returns-in-Some-2-clause-fault t c =
     let trees = c.args.pool.now.trees in
     let node = c.read_node-node.result in
-    let parts = found-parts (names_held c.args.names.now) (state_held trees c.tree.state) c.tree.here c.tree.place (tree_at trees c.tree.at) node.head (tree_at trees node.first) (tree_at trees node.second) c.in_ok-fault.field-0 _ _ _ _ _ _ (node-at trees c.tree.at c.in-Some.k node c.in-Some.is c.read_node-node.ensures.tree) c.in_ok-fault.ensures.fault refl refl refl refl refl refl in
+    let parts = found-parts (names_held c.args.names.now) (state_held trees c.tree.state) c.tree.here c.tree.place (tree_at trees c.tree.at) node.head (tree_at trees node.first) (tree_at trees node.second) c.in_ok-fault.field-0 _ _ _ _ _ _ (node_at trees c.tree.at c.in-Some.k node c.in-Some.is c.read_node-node.ensures.tree) c.in_ok-fault.ensures.fault refl refl refl refl refl refl in
     refused-here c.tree.place c.in_ok-fault.field-0 c.in-Some-2.fault _ _ c.at.result c.in-Some-2.is (sym parts ∙ c.tree.invariant.same) c.at.ensures
 
 pub overflow_add-first : goal.overflow_add-first
@@ -32,7 +33,7 @@ walk-requires t c =
     let m1 = c.in_ok-fault.ensures.noted c.in_default-2.is in
     let listed = subst (AreListed trees) (sym m1.above.listed) c.tree.invariant.listed in
     let passed = passed-first c.tree.state c.node_fault.new.state c.tree.place (c.tree.place + c.weight.result) m1.above.passed c.tree.invariant.passed (omega arith) in
-    (search rules, (child-live (length trees) c.tree.at c.in-Some.k node.first c.in-Some.is c.tree.invariant.live c.read_node-node.ensures.first, (listed, (m1.live, (passed, (omega (arith, s, c.tree.invariant.sum, c.requires.fits, c.weight.ensures.weight), c.requires.told))))))
+    (search rules, (child_live (length trees) c.tree.at c.in-Some.k node.first c.in-Some.is c.tree.invariant.live c.read_node-node.ensures.first, (listed, (m1.live, (passed, (omega (arith, s, c.tree.invariant.sum, c.requires.fits, c.weight.ensures.weight), c.requires.told))))))
 
 pub returns-in_err-place-clause-fault : goal.returns-in_err-place-clause-fault
 returns-in_err-place-clause-fault t c =
@@ -43,7 +44,7 @@ returns-in_err-place-clause-fault t c =
     let p1 = c.tree.place + c.weight.result in
     let q1 : p1 ≡ c.tree.place + weight node.head = ap (λ n. c.tree.place + n) c.weight.ensures.weight in
     let m1 = c.in_ok-fault.ensures.noted c.in_default-2.is in
-    let parts = found-parts (names_held c.args.names.now) (state_held trees s) c.tree.here c.tree.place (tree_at trees c.tree.at) node.head a (tree_at trees node.second) c.in_ok-fault.field-0 _ _ _ _ _ _ (node-at trees c.tree.at c.in-Some.k node c.in-Some.is c.read_node-node.ensures.tree) c.in_ok-fault.ensures.fault (held-only trees s c.node_fault.new.state _ m1) c.first.ensures q1 refl refl refl in
+    let parts = found-parts (names_held c.args.names.now) (state_held trees s) c.tree.here c.tree.place (tree_at trees c.tree.at) node.head a (tree_at trees node.second) c.in_ok-fault.field-0 _ _ _ _ _ _ (node_at trees c.tree.at c.in-Some.k node c.in-Some.is c.read_node-node.ensures.tree) c.in_ok-fault.ensures.fault (held-only trees s c.node_fault.new.state _ m1) c.first.ensures q1 refl refl refl in
     let p = err_from_is_err_and c.from_residual-in_err-place.result c.from_residual-in_err-place.ensures.1 in
     rw (p.1, p.2) (refused-first c.tree.place c.in_ok-fault.field-0 _ _ _ c.in_err-place.field-0.0 c.in_default-2.is (sym parts ∙ c.tree.invariant.same) c.in_err-place.ensures.fault)
 
@@ -65,11 +66,11 @@ tree-preserved t c =
     let m2 = c.in_ok-place.ensures.noted in
     let m3 = c.in_ok-enter.ensures in
     let second = seen-second trees s c.node_fault.new.state c.walk.new.state c.enter.new.self c.tree.here node.head a c.tree.place p1 c.in_ok-place.place m1 q1 m2 q2 m3 in
-    let open_ = node-at trees c.tree.at c.in-Some.k node c.in-Some.is c.read_node-node.ensures.tree in
+    let open_ = node_at trees c.tree.at c.in-Some.k node c.in-Some.is c.read_node-node.ensures.tree in
     let parts = found-parts (names_held c.args.names.now) (state_held trees s) c.tree.here c.tree.place (tree_at trees c.tree.at) node.head a (tree_at trees node.second) c.in_ok-fault.field-0 _ _ _ _ _ _ open_ c.in_ok-fault.ensures.fault (held-only trees s c.node_fault.new.state _ m1) c.first.ensures q1 second c.second-here.ensures (q2 ∙ ap (λ n. n + size a) q1) in
     let z = size-at trees c.tree.at c.in-Some.k node c.in-Some.is c.read_node-node.ensures.tree in
     record {
-      live = child-live (length trees) c.tree.at c.in-Some.k node.second c.in-Some.is c.tree.invariant.live c.read_node-node.ensures.second;
+      live = child_live (length trees) c.tree.at c.in-Some.k node.second c.in-Some.is c.tree.invariant.live c.read_node-node.ensures.second;
       listed = m3.live;
       binders = subst (HasLiveBinders (length trees)) (sym m3.last) m2.live;
       passed = passed-second trees s c.node_fault.new.state c.walk.new.state c.enter.new.self c.tree.here node.head a c.tree.place p1 c.in_ok-place.place m1 q1 m2 q2 m3 c.tree.invariant.passed;
@@ -77,11 +78,11 @@ tree-preserved t c =
       sites = sites-second trees s c.node_fault.new.state c.walk.new.state c.enter.new.self c.tree.here node.head a c.tree.place p1 c.in_ok-place.place m1 q1 m2 q2 m3 (tree_at trees c.tree.at) (tree_at trees node.second) open_ ∙ c.tree.invariant.sites;
       keeps = keeps-more c.marks-marks.result c.args.state.now c.walk.new.state c.enter.new.self c.marks-marks.ensures.replications c.marks-marks.ensures.defined c.marks-marks.ensures.listed c.marks-marks.ensures.passed (keeps-same c.marks-marks.result c.args.state.now c.node_fault.new.state c.walk.new.state (keeps-same c.marks-marks.result c.args.state.now s c.node_fault.new.state c.tree.invariant.keeps m1.above) m2.above) m3.front;
       sum = omega (arith, z, c.tree.invariant.sum, q1, q2);
-      less = child-above _ c.tree.at c.in-Some.k node.second c.in-Some.is c.tree.invariant.less c.read_node-node.ensures.second;
+      less = child_above _ c.tree.at c.in-Some.k node.second c.in-Some.is c.tree.invariant.less c.read_node-node.ensures.second;
     }
 
 pub returns-clause-scoped : goal.returns-clause-scoped
-returns-clause-scoped t c = sym c.tree.invariant.same ∙ found-end _ _ _ _ _ (empty-at c.args.pool.now.trees c.tree.at c.in_default.is)
+returns-clause-scoped t c = sym c.tree.invariant.same ∙ found-end _ _ _ _ _ (empty_at c.args.pool.now.trees c.tree.at c.in_default.is)
 
 pub returns-clause-next : goal.returns-clause-next
 returns-clause-next t c = omega (arith, c.tree.invariant.sum, size-end c.args.pool.now.trees c.tree.at c.in_default.is)
@@ -89,4 +90,4 @@ returns-clause-next t c = omega (arith, c.tree.invariant.sum, size-end c.args.po
 pub returns-clause-noted : goal.returns-clause-noted
 returns-clause-noted t c =
     let trees = c.args.pool.now.trees in
-    released trees c.marks-marks.result c.args.state.now c.tree.state c.release.new.self _ c.tree.invariant.keeps c.release.ensures (sym (sites-end (last_held trees c.tree.state.last) c.tree.state.replications.items c.tree.place (tree_at trees c.tree.at) (empty-at trees c.tree.at c.in_default.is)) ∙ c.tree.invariant.sites) c.tree.invariant.binders
+    released trees c.marks-marks.result c.args.state.now c.tree.state c.release.new.self _ c.tree.invariant.keeps c.release.ensures (sym (sites-end (last_held trees c.tree.state.last) c.tree.state.replications.items c.tree.place (tree_at trees c.tree.at) (empty_at trees c.tree.at c.in_default.is)) ∙ c.tree.invariant.sites) c.tree.invariant.binders

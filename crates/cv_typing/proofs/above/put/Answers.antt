@@ -1,4 +1,4 @@
-use Rattle.std.proofs.Common.{ap, sym, ◌∙◌}
+use Rattle.std.proofs.Common.{◌∙◌}
 use Rattle.cv_typing.specs.Tables.{above_of}
 use Rattle.cv_typing.proofs.Removals.{bound-back, inserted}
 use Rattle.cv_typing.proofs.above.put.Goals as goal

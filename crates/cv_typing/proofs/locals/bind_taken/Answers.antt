@@ -1,7 +1,6 @@
 use Rattle.std.proofs.Common.{ap, ap₂, ◌∙◌}
-use Rattle.cv_syntax.specs.Tree.{tree_at}
 use Rattle.cv_typing.specs.declared.precedence.Precedence.TheVariants.{Newest}
-use Rattle.cv_typing.specs.declared.sort.Sort.TheVariants.{OfType}
+use Rattle.cv_directory.specs.declared.sort.Sort.TheVariants.{OfType}
 use Rattle.cv_typing.specs.Signature.{Above}
 use Rattle.cv_typing.specs.Wants.{all_bound}
 use Rattle.cv_typing.proofs.locals.bind_taken.Goals as goal
@@ -9,4 +8,4 @@ use Rattle.cv_typing.proofs.locals.bind_taken.Goals as goal
 pub returns : goal.returns
 returns c =
     c.in_ok-bind_all-2.ensures.names
-    ∙ ap₂ (λ (f : Above) t. all_bound Newest f OfType t) (c.in_ok-bind_all.ensures.names ∙ ap (all_bound Newest _ OfType) c.first.ensures.tree) c.rest.ensures.tree
+    ∙ ap₂ (λ (f : Above) t. all_bound Newest f OfType t) (c.in_ok-bind_all.ensures.names ∙ ap (all_bound Newest _ OfType) c.first_of.ensures.tree) c.second_of.ensures.tree

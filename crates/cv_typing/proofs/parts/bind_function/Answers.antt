@@ -1,7 +1,7 @@
 use Rattle.std.proofs.Common.{ap, ◌∙◌}
 use Rattle.cv_syntax.specs.Tree.{tree_at}
 use Rattle.cv_typing.specs.declared.precedence.Precedence.TheVariants.{Newest}
-use Rattle.cv_typing.specs.declared.sort.Sort.TheVariants.{OfType}
+use Rattle.cv_directory.specs.declared.sort.Sort.TheVariants.{OfType}
 use Rattle.cv_typing.specs.Parts.{with_taken}
 use Rattle.cv_typing.specs.Signature.{Above}
 use Rattle.cv_typing.specs.Wants.{all_bound}

@@ -4,7 +4,7 @@ use Rattle.cv_typing.specs.Lookups.{signature_in}
 use Rattle.cv_typing.specs.Parts.{names_of}
 use Rattle.cv_typing.specs.Signature.{Above, sort_of}
 use Rattle.cv_typing.proofs.Bodies.{results-push, results-start, results-whole}
-use Rattle.cv_typing.proofs.Walks.{child-live, empty-at, node-at}
+use Rattle.cv_syntax.proofs.Trees.{child_live, empty_at, node_at}
 use Rattle.cv_typing.proofs.parts.results_of.Goals as goal
 
 pub list-init : goal.list-init
@@ -19,11 +19,11 @@ list-preserved c =
     let node = c.read_node-node.result in
     let e = signature_in trees c.args.decls.now.list c.args.arrays.now in
     let key = tree_at trees c.args.key in
-    let sort = c.sort_of_term.ensures ∙ ap₂ (λ (f : Above) (t : Tree). sort_of e f t) (c.in_ok-above.ensures ∙ ap (names_of key) c.first.ensures.tree) c.rest-body.ensures.tree in
+    let sort = c.sort_of_term.ensures ∙ ap₂ (λ (f : Above) (t : Tree). sort_of e f t) (c.in_ok-above.ensures ∙ ap (names_of key) c.first_of.ensures.tree) c.second_of-body.ensures.tree in
     record {
-      live = child-live (length trees) c.list.at c.in-Some.k node.second c.in-Some.is c.list.invariant.live c.read_node-node.ensures.second;
-      same = results-push e key (tree_at trees c.list.at) node.head (tree_at trees node.first) (tree_at trees node.second) c.list.sorts.items c.push.new.self.items _ c.sort_of_term.result (node-at trees c.list.at c.in-Some.k node c.in-Some.is c.read_node-node.ensures.tree) c.in_ok-push.ensures.items sort c.list.invariant.same;
+      live = child_live (length trees) c.list.at c.in-Some.k node.second c.in-Some.is c.list.invariant.live c.read_node-node.ensures.second;
+      same = results-push e key (tree_at trees c.list.at) node.head (tree_at trees node.first) (tree_at trees node.second) c.list.sorts.items c.push.new.self.items _ c.sort_of_term.result (node_at trees c.list.at c.in-Some.k node c.in-Some.is c.read_node-node.ensures.tree) c.in_ok-push.ensures.items sort c.list.invariant.same;
     }
 
 pub returns : goal.returns
-returns c = results-whole (signature_in c.args.pool.now.trees c.args.decls.now.list c.args.arrays.now) (tree_at c.args.pool.now.trees c.args.key) (tree_at c.args.pool.now.trees c.list.at) c.list.sorts.items _ (empty-at c.args.pool.now.trees c.list.at c.in_default.is) c.list.invariant.same
+returns c = results-whole (signature_in c.args.pool.now.trees c.args.decls.now.list c.args.arrays.now) (tree_at c.args.pool.now.trees c.args.key) (tree_at c.args.pool.now.trees c.list.at) c.list.sorts.items _ (empty_at c.args.pool.now.trees c.list.at c.in_default.is) c.list.invariant.same

@@ -1,8 +1,8 @@
 use Rattle.std.proofs.Common.{ap, sym, ◌∙◌}
 use Rattle.cv_typing.specs.Signature as signature
 use Rattle.cv_typing.specs.Tables.{above_of}
-use Rattle.cv_typing.proofs.Walks.{empty-at}
+use Rattle.cv_syntax.proofs.Trees.{empty_at}
 use Rattle.cv_typing.proofs.terms.bound_of_term.Goals as goal
 
 pub returns-in_err-term : goal.returns-in_err-term
-returns-in_err-term c = c.from_residual.ensures ∙ sym (ap (signature.bound_of_term (above_of c.args.above.now)) (empty-at c.args.pool.now.trees c.args.term c.in_err-term.was))
+returns-in_err-term c = c.from_residual.ensures ∙ sym (ap (signature.bound_of_term (above_of c.args.above.now)) (empty_at c.args.pool.now.trees c.args.term c.in_err-term.was))

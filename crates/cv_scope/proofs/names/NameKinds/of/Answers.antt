@@ -15,4 +15,4 @@ returns c =
     (λ x. c.in_ok-note_untyped.ensures.untyped x ∙ ap (λ m. is_some (get nat_eq m x) || is_untyped_in x game) c.in_ok-note_constants.ensures.untyped)
     (λ x. ap (λ es. is_some (Rattle.std.specs.Map.lookup (nat_eq x) es)) c.new-2.ensures.empty)
     (c.in_ok-note_untyped.ensures.sites ∙ c.in_ok-note_constants.ensures.sites)
-    c.in_ok-of.ensures
+    c.in_ok-of.ensures.sites

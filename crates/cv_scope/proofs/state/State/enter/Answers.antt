@@ -61,7 +61,7 @@ returns-in-In c =
     let s = c.args.self.now in
     let a = tree_at trees c.args.first in
     subst (λ (h : Head). OnOk c.define_all.result (IsEntered trees s c.define_all.new.self c.args.position h a c.args.from c.args.to)) (sym c.in-In.is)
-    (on-ok c.define_all.result _ _ (defines-entered trees s c.define_all.new.self c.args.position (In c.in-In.field-0) a c.args.from c.args.to c.requires.listed refl refl refl) (subst (λ (t : Tree). OnOk c.define_all.result (DefinesOnly s c.define_all.new.self (with_definitions s.defined (length s.replications.items) (bound_names t)))) c.rest.ensures.tree c.define_all.ensures))
+    (on-ok c.define_all.result _ _ (defines-entered trees s c.define_all.new.self c.args.position (In c.in-In.field-0) a c.args.from c.args.to c.requires.listed refl refl refl) (subst (λ (t : Tree). OnOk c.define_all.result (DefinesOnly s c.define_all.new.self (with_definitions s.defined (length s.replications.items) (bound_names t)))) c.second_of.ensures.tree c.define_all.ensures))
 
 pub returns-in-Branch : goal.returns-in-Branch
 returns-in-Branch c =

@@ -1,5 +1,5 @@
 use Rattle.std.proofs.Common.{◌++◌, append-nil, ap, sym, ◌∙◌}
-use Rattle.cv_typing.proofs.Walks.{empty-at}
+use Rattle.cv_syntax.proofs.Trees.{empty_at}
 use Rattle.cv_scope.specs.Context.{items}
 use Rattle.cv_scope.specs.Held.{cells_held}
 use Rattle.cv_scope.proofs.state.State.list_all.Goals as goal
@@ -12,7 +12,7 @@ returns c =
     record {
       replications = i.replications;
       defined = i.defined;
-      listed = sym (append-nil cells) ∙ (sym (ap (λ t. cells ++ items t) (empty-at trees c.cells.at c.in_default.is)) ∙ i.same);
+      listed = sym (append-nil cells) ∙ (sym (ap (λ t. cells ++ items t) (empty_at trees c.cells.at c.in_default.is)) ∙ i.same);
       front = i.front;
       live = i.live;
       passed = i.passed;

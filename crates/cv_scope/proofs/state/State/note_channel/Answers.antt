@@ -20,12 +20,12 @@ pub returns-clause-may : goal.returns-clause-may
 returns-clause-may c =
     let trees = c.args.pool.now.trees in
     let rs = c.args.self.now.replications.items in
-    let same = site-is trees rs c.args.place (Channel c.in-In.c) c.rest.result c.in_ok-site.site c.in_ok-site.ensures ∙ ap (λ t. site_at rs c.args.place (Channel c.in-In.c) (bound_types t)) c.rest.ensures.tree in
+    let same = site-is trees rs c.args.place (Channel c.in-In.c) c.second_of.result c.in_ok-site.site c.in_ok-site.ensures ∙ ap (λ t. site_at rs c.args.place (Channel c.in-In.c) (bound_types t)) c.second_of.ensures.tree in
     subst (λ (h : Head). IfOk c.note_channel.result (λ y. y ≡ may_stand_last c.args.self.now.passed (last_held trees c.args.self.now.last) (channel_here rs c.args.place h (tree_at trees c.args.first)))) (sym c.in-In.is) (one-may c.args.self.now.passed (last_held trees c.args.self.now.last (Channel c.in-In.c)) _ _ c.note_channel.result same c.note_channel.ensures.may)
 
 pub returns-clause-noted : goal.returns-clause-noted
 returns-clause-noted c =
     let trees = c.args.pool.now.trees in
     let rs = c.args.self.now.replications.items in
-    let same = site-is trees rs c.args.place (Channel c.in-In.c) c.rest.result c.in_ok-site.site c.in_ok-site.ensures ∙ ap (λ t. site_at rs c.args.place (Channel c.in-In.c) (bound_types t)) c.rest.ensures.tree in
+    let same = site-is trees rs c.args.place (Channel c.in-In.c) c.second_of.result c.in_ok-site.site c.in_ok-site.ensures ∙ ap (λ t. site_at rs c.args.place (Channel c.in-In.c) (bound_types t)) c.second_of.ensures.tree in
     subst (λ (h : Head). OnOk c.note_channel.result (OnlySites trees c.args.self.now (record c.args.self.now { last = c.note_channel.new.self }) (channel_here rs c.args.place h (tree_at trees c.args.first)))) (sym c.in-In.is) (one-noted trees c.args.self.now c.note_channel.new.self _ _ c.note_channel.result same c.note_channel.ensures.noted c.note_channel.ensures.live)

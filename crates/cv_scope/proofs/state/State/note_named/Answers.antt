@@ -12,7 +12,7 @@ returns-in-In-clause-may c =
     let trees = c.args.pool.now.trees in
     let s = c.args.self.now in
     subst (λ (h : Head). IfOk c.note_binders.result (λ y. y ≡ may_stand_last s.passed (last_held trees s.last) (named_here s.replications.items c.args.place h (tree_at trees c.args.first)))) (sym c.in-In.is)
-    (subst (λ (t : Tree). IfOk c.note_binders.result (λ y. y ≡ may_stand_last s.passed (last_held trees s.last) (variable_sites s.replications.items c.args.place t))) c.rest.ensures.tree c.note_binders.ensures.may)
+    (subst (λ (t : Tree). IfOk c.note_binders.result (λ y. y ≡ may_stand_last s.passed (last_held trees s.last) (variable_sites s.replications.items c.args.place t))) c.second_of.ensures.tree c.note_binders.ensures.may)
 
 pub returns-in_default : goal.returns-in_default
 returns-in_default c =

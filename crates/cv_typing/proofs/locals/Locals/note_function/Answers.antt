@@ -8,4 +8,4 @@ pub returns : goal.returns
 returns c =
     ap by_bound_in c.in_ok-push.ensures.items
     ∙ (own-last c.args.self.now.functions.items _
-    ∙ ap₂ (and_else (by_bound_in c.args.self.now.functions.items)) (c.bound_at-bound.ensures ∙ ap bound_at c.first.ensures.tree) c.in_ok-sorts.ensures)
+    ∙ ap₂ (and_else (by_bound_in c.args.self.now.functions.items)) (c.bound_at-bound.ensures ∙ ap bound_at c.first_of.ensures.tree) c.in_ok-sorts.ensures)

@@ -1,0 +1,4 @@
+pub mod Definitions
+pub mod Sites
+pub mod Tables
+pub mod Worked
