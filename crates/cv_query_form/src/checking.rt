@@ -9,8 +9,8 @@ ghost use Rattle.cv_query_form.specs.Tests.{first_refused as first_refused_of};
 
 use crate::fault::QueryFault;
 use crate::query::may_be_asked;
-use cv_syntax::{Game, Work, query_at};
 use cv_directory::Directory;
+use cv_syntax::{Game, Work, query_at};
 use std::alloc::{AllocError, Global};
 
 /// Whether each query of a file may be asked of its game; or the first that may not.

@@ -8,9 +8,9 @@ ghost use Rattle.cv_query_form.specs.Tests.{passes};
 use crate::arguments::is_left_event;
 use crate::marks::are_marked_alike;
 use crate::secrets::has_values;
+use cv_directory::Directory;
 use cv_syntax::children::variables_of;
 use cv_syntax::{Head, NodeId, Opened, Pool, read_node};
-use cv_directory::Directory;
 use std::alloc::{AllocError, Global};
 
 /// Whether a query may be asked of the game with these sites.

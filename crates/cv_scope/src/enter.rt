@@ -11,8 +11,8 @@ ghost use Rattle.cv_scope.specs.Seen.{with_definition, with_definitions};
 use crate::binders::first_binder;
 use crate::position::Position;
 use crate::state::State;
-use cv_syntax::{Head, NodeId, Pool, read_node};
 use cv_syntax::children::second_of;
+use cv_syntax::{Head, NodeId, Pool, read_node};
 use std::alloc::AllocError;
 
 /// How much was known at a node.

@@ -7,9 +7,9 @@ ghost use Rattle.cv_typing.specs.Lookups.{IsLive};
 ghost use Rattle.cv_scope.specs.Held.{constant_by, has_constant, is_here, names_held, untyped_held};
 ghost use Rattle.cv_scope.specs.Scope.{is_untyped_here, is_untyped_in, names_of};
 
+use cv_directory::Directory;
 use cv_syntax::children::read_child;
 use cv_syntax::{Class, Decl, Decls, Head, NodeId, Pool, read_node};
-use cv_directory::Directory;
 use std::alloc::{AllocError, Global};
 use std::collections::HashMap;
 

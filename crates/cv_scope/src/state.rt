@@ -11,8 +11,8 @@ use crate::defined::Defined;
 use crate::lasts::{LastSite, Lasts};
 use crate::listed::Listed;
 use crate::passed::Passed;
-use cv_syntax::{Head, NodeId, Pool};
 use cv_syntax::children::second_of;
+use cv_syntax::{Head, NodeId, Pool};
 use std::alloc::{AllocError, Global};
 
 /// What is known at a node of a game.

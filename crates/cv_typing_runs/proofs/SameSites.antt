@@ -259,10 +259,10 @@ module _ (F : ℕ → Option Variable) where
       let here : AllByRecursion Agrees (sites_here rs s.place h a) = all_append (named_here rs s.place h a) (channel_here rs s.place h a) named (channels_agree rs s.place h a) in
       let same : sites_here s.known.replications s.place h a ≡ sites_here rs s.place h a = ap (λ qs. sites_here qs s.place h a) r in
       let first = sites_agree names w.0.0 (first_standing s h a) rs a (first_same s.position h s.known ∙ r) w.2 o.1
-          (subst (λ l. AllByRecursion Agrees (s.sites ++ l)) (sym same) (all_append s.sites (sites_here rs s.place h a) A here))
-          (λ x. subst (λ l. Before (parameters_of rs) (s.sites ++ l) a x) (sym same) (before_first σ rs s.sites s.place h a b e x (B x))) in
+      (subst (λ l. AllByRecursion Agrees (s.sites ++ l)) (sym same) (all_append s.sites (sites_here rs s.place h a) A here))
+      (λ x. subst (λ l. Before (parameters_of rs) (s.sites ++ l) a x) (sym same) (before_first σ rs s.sites s.place h a b e x (B x))) in
       let both : (sites_here s.known.replications s.place h a ++ sites_from s.known.replications (first_place s.place h) a) ≡ (sites_here rs s.place h a ++ sites_from rs (first_place s.place h) a) = ap (λ qs. sites_here qs s.place h a ++ sites_from qs (first_place s.place h) a) r in
       let second = sites_agree names w.0.1 (second_standing s h a) (replications_below h rs) b (second_same s.position h a s.known ∙ ap (replications_below h) r) w.3 o.2
-          (subst (λ l. AllByRecursion Agrees (s.sites ++ l)) (sym both) (all_append s.sites _ A (all_append (sites_here rs s.place h a) (sites_from rs (first_place s.place h) a) here first)))
-          (λ x. subst (λ l. Before (parameters_of (replications_below h rs)) (s.sites ++ l) b x) (sym both) (subst (λ ps. Before ps (s.sites ++ (sites_here rs s.place h a ++ sites_from rs (first_place s.place h) a)) b x) (sym (below_parameters h rs)) (before_second σ rs s.sites s.place h a b e x (B x)))) in
+      (subst (λ l. AllByRecursion Agrees (s.sites ++ l)) (sym both) (all_append s.sites _ A (all_append (sites_here rs s.place h a) (sites_from rs (first_place s.place h) a) here first)))
+      (λ x. subst (λ l. Before (parameters_of (replications_below h rs)) (s.sites ++ l) b x) (sym both) (subst (λ ps. Before ps (s.sites ++ (sites_here rs s.place h a ++ sites_from rs (first_place s.place h) a)) b x) (sym (below_parameters h rs)) (before_second σ rs s.sites s.place h a b e x (B x)))) in
       all_append (sites_here rs s.place h a) _ here (all_append (sites_from rs (first_place s.place h) a) (sites_from (replications_below h rs) (second_place s.place h a) b) first second)

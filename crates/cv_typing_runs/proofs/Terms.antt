@@ -134,9 +134,9 @@ module _ (ds : List Declaration) (game : Tree) (given : HasArguments ds) (consta
     arity_from None u q = first_of (option_map (λ (v : Variable). length v.parameters) u) (option_map (λ (f : Function). length f.arguments) q)
 
     arity_same : (o : Option Sort) → above x ≡ o → leaf_arity names above x ≡ arity_from o (first_site x [] game) (function_in ds x)
-    arity_same o e = ap (λ y. elim y [ | Some S ↦ None | None ↦ first_of (option_map (λ (v : Variable). length v.parameters) (first_site x [] game)) (option_map (λ (f : Function). length f.arguments) (function_in ds x)) ]) e ∙ go o
+    arity_same o e = ap (λ y. elim y [ Some S ↦ None | None ↦ first_of (option_map (λ (v : Variable). length v.parameters) (first_site x [] game)) (option_map (λ (f : Function). length f.arguments) (function_in ds x)) ]) e ∙ go o
       where
-        go : (o : Option Sort) → elim o [ | Some S ↦ None | None ↦ first_of (option_map (λ (v : Variable). length v.parameters) (first_site x [] game)) (option_map (λ (f : Function). length f.arguments) (function_in ds x)) ] ≡ arity_from o (first_site x [] game) (function_in ds x)
+        go : (o : Option Sort) → elim o [ Some S ↦ None | None ↦ first_of (option_map (λ (v : Variable). length v.parameters) (first_site x [] game)) (option_map (λ (f : Function). length f.arguments) (function_in ds x)) ] ≡ arity_from o (first_site x [] game) (function_in ds x)
         go (Some S) = refl
         go None = refl
 

@@ -164,9 +164,10 @@ module _ (ds : List Declaration) (game : Tree) (given : HasArguments ds) (consta
       means Inputs (bound First above i (BelowParameter n)) (rs ++ (i, n) ∷ []) (second_place p (Repl i n) a) b (below_more above rs i n m) r.1 h.2 k.2 (all_right (sites_from rs (first_place p (Repl i n)) a) _ A)
   means Inputs above rs p (Node (In x) a b) m q h k A =
       let r = and_parts (is_phrase Pattern a) (is_phrase Body b) q in
-      let g = faultless e above (Run InProcess) (In x) a h.0 in
-      (are_variables rs p OfType (second a) (input_binders Inputs x a b q) (all_left (variable_sites rs p (second a)) (channel_here rs p (In x) a) (all_left (sites_here rs p (In x) a) _ A)) g.site,
-      means Body above rs (second_place p (In x) a) b m r.1 h.2 k.2 (all_right (sites_from rs (first_place p (In x)) a) _ (all_right (sites_here rs p (In x) a) _ A)))
+      let g = faultless e above (Run InProcess) (In x) a h.0 in (
+        are_variables rs p OfType (second a) (input_binders Inputs x a b q) (all_left (variable_sites rs p (second a)) (channel_here rs p (In x) a) (all_left (sites_here rs p (In x) a) _ A)) g.site,
+        means Body above rs (second_place p (In x) a) b m r.1 h.2 k.2 (all_right (sites_from rs (first_place p (In x)) a) _ (all_right (sites_here rs p (In x) a) _ A)),
+      )
   means Body above rs p (Node Yield a b) m q h k A = tt
   means Body above rs p (Node (Out x) a b) m q h k A =
       let r = and_parts (is_phrase MessagePhrase a) (is_phrase Inputs b) q in

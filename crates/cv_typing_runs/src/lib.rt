@@ -40,5 +40,5 @@ pub fn typed_games_have_typed_runs()
         HasKnownNames ds (has_site game) [] game → HasDeclaredSorts ds game →
         (i : Interpretation) → Satisfies ds i → (m : Mode) (a : Adversary) →
         All (λ t. IsTypedStore (context_of ds game) i (run (setting_of ds i) m a game t).memory.store)
-            (tapes_of (cells (setting_of ds i) m a game) blank) }
+        (tapes_of (cells (setting_of ds i) m a game) blank) }
 {}
