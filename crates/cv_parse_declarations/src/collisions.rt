@@ -21,7 +21,7 @@ use cv_syntax::{Head, Make};
 use std::alloc::{AllocError, Global};
 
 /// What names the functions and groups of a collision, and their key.
-#[derive(Clone, Copy, Debug, PartialEq, Eq)]
+#[derive(Clone, Copy)]
 struct Collision {
     name: u32,
     key: (u32, u32),
