@@ -160,7 +160,9 @@ listed-node trees t (Some c ∷ cells) h = elim (or_cases (nat_eq t.0 c.0) (has_
 pub any-here : (p : Tree → Bool) (trees : List KindTree) (cells : Cells) (i : ℕ) → i < length cells → list_any p (cells_held trees (drop i cells)) ≡ (p (tree_at trees (get_or cells i None)) || list_any p (cells_held trees (drop (i + 1) cells)))
 any-here p trees [] i l = absurd (omega arith)
 any-here p trees (c ∷ cells) zero l = refl
-any-here p trees (c ∷ cells) (suc i) l = any-here p trees cells i (omega arith)
+any-here p trees (c ∷ cells) (suc i) l =
+    let e : suc (i + 1) ≡ suc i + 1 = omega arith in
+    any-here p trees cells i (omega arith) ∙ ap (λ n. p (tree_at trees (get_or cells i None)) || list_any p (cells_held trees (drop n (c ∷ cells)))) e
 
 pub any-none : (p : Tree → Bool) (trees : List KindTree) (cells : Cells) (i : ℕ) → length cells ≤ i → list_any p (cells_held trees (drop i cells)) ≡ false
 any-none p trees [] zero l = refl

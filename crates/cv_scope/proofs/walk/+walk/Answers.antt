@@ -33,7 +33,7 @@ walk-requires t c =
     let m1 = c.in_ok-fault.ensures.noted c.in_default-2.is in
     let listed = subst (AreListed trees) (sym m1.above.listed) c.tree.invariant.listed in
     let passed = passed-first c.tree.state c.node_fault.new.state c.tree.place (c.tree.place + c.weight.result) m1.above.passed c.tree.invariant.passed (omega arith) in
-    (search rules, (child_live (length trees) c.tree.at c.in-Some.k node.first c.in-Some.is c.tree.invariant.live c.read_node-node.ensures.first, (listed, (m1.live, (passed, (omega (arith, s, c.tree.invariant.sum, c.requires.fits, c.weight.ensures.weight), c.requires.told))))))
+    (search rules, (child_live (length trees) c.tree.at c.in-Some.k node.first c.in-Some.is c.tree.invariant.live c.read_node-node.ensures.first, (listed, (m1.live, (passed, omega (arith, s, c.tree.invariant.sum, c.requires.fits, c.weight.ensures.weight))))))
 
 pub returns-in_err-place-clause-fault : goal.returns-in_err-place-clause-fault
 returns-in_err-place-clause-fault t c =
