@@ -4,10 +4,10 @@ use Rattle.cv_pool.specs.Nodes.{ChildBelow}
 use Rattle.cv_query_direct.specs.declared.search.Seen.{Seen}
 use Rattle.cv_syntax.specs.Head.{weight}
 use Rattle.cv_syntax.specs.Tree.{Node, size, tree_at}
-use Rattle.cv_syntax.proofs.Trees.{tree_of-NoTree}
+use Rattle.cv_syntax.proofs.Trees.{tree_of-NoTree, size_open}
 use Rattle.cv_query_direct.specs.Found.{entry_trees, placed, SeenBelow, seen_by, wanted}
 use Rattle.cv_query_direct.specs.Search.{entries_of, head_entries, joined, placed_by}
-use Rattle.cv_query_direct.proofs.Searching.{entries_step, entries_stop_first, entries_end, kept_more, placed_more, seen_more, size_open}
+use Rattle.cv_query_direct.proofs.Searching.{entries_step, entries_stop_first, entries_end, kept_more, placed_more, seen_more}
 use Rattle.cv_query_direct.proofs.search.+walk.Goals as goal
 
 pub returns-then-not-branch-2-clause-entries : goal.returns-then-not-branch-2-clause-entries
