@@ -1,6 +1,7 @@
 -- What stays of a work while its pool grows.
-use Rattle.std.proofs.Common.{◌≡◌, ℕ, zero, suc, ◌<◌, List, [], ◌∷◌, ◌++◌, length, map, refl, ap, ap₂, sym, ◌∙◌, subst, arith, Some}
+use Rattle.std.proofs.Common.{◌≡◌, ℕ, zero, suc, ◌<◌, List, [], ◌∷◌, ◌++◌, length, map, take, refl, ap, ap₂, sym, ◌∙◌, subst, arith, Some}
 use Rattle.std.proofs.lemmas.Grind.{common_steps}
+use Rattle.std.proofs.lemmas.List.{take_all}
 use Rattle.std.specs.Prelude.{All}
 use Rattle.cv_pool.specs.declared.node.NodeId.{NodeId}
 use Rattle.cv_pool.specs.PoolView.{PoolView, Grows}
@@ -45,15 +46,18 @@ queries-grown : (old new : PoolView) (ns : List NodeId) → Grows old new → Al
 queries-grown old new [] g a = refl
 queries-grown old new (n ∷ ns) g a = ap₂ (λ t ts. t ∷ ts) (root-grown old new n g (a zero n (omega arith))) (queries-grown old new ns g (λ k d l. a (suc k) d (omega arith)))
 
--- what a work holds stays
-pub content-grown : (old new : Work) (root : NodeId) → Grows old.pool new.pool → new.names ≡ old.names → new.decls ≡ old.decls → root.0 < length old.pool.trees → All (IsBelow (length old.pool.trees)) old.decls.list → content_at new root ≡ content_at old root
-content-grown old new root g n d l a =
-    ap (λ (ns : List (List ℕ)). content_in ns new.pool.trees new.decls.list root) n
+-- what a work holds stays, where all its names are its own
+pub content-grown : (old new : Work) (root : NodeId) → Grows old.pool new.pool → new.names ≡ old.names → new.decls ≡ old.decls → old.decls.own ≡ length old.names → root.0 < length old.pool.trees → All (IsBelow (length old.pool.trees)) old.decls.list → content_at new root ≡ content_in old.names old.pool.trees old.decls.list root
+content-grown old new root g n d own l a =
+    ap (λ (ns : List (List ℕ)). content_in ns new.pool.trees new.decls.list root) (all-own old.names new.names new.decls.own n (ap (λ (v : DeclsView). v.own) d ∙ own))
     ∙ (ap (λ (ds : List Decl). content_in old.names new.pool.trees ds root) (ap (λ (v : DeclsView). v.list) d)
     ∙ ap₂ (λ (ds : List Declaration) (t : Tree). held old.names ds t) (declarations-grown old.pool new.pool old.decls.list g a) (root-grown old.pool new.pool root g l))
   where
     held : List (List ℕ) → List Declaration → Tree → Content
     held ns ds t = record { names = ns; declarations = ds; game = t }
+
+    all-own : (ns ms : List (List ℕ)) (k : ℕ) → ms ≡ ns → k ≡ length ns → take k ms ≡ ns
+    all-own ns ms k e f = ap (take k) e ∙ take_all k ns (omega arith)
 
 -- one step more
 pub steps-more : (n : ℕ) (ss ts : List Step) (s : Step) → ts ≡ ss ++ s ∷ [] → All (IsStepBelow n) ss → s.0.0 < n → All (IsStepBelow n) ts

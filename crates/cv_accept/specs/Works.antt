@@ -1,5 +1,5 @@
 -- What a work holds.
-use Rattle.std.specs.Prelude.{◌≡◌, ℕ, ◌≤◌, List, Some, Result, Ok, Err}
+use Rattle.std.specs.Prelude.{◌≡◌, ℕ, ◌≤◌, List, Some, Result, Ok, Err, take}
 use Rattle.cv_pool.specs.declared.node.NodeId.{NodeId}
 use Rattle.cv_pool.specs.KindTree.{KindTree}
 use Rattle.cv_syntax.specs.declared.decls.Decl.{Decl}
@@ -19,8 +19,9 @@ use Rattle.cv_accept.specs.Accepted.{Content, Refuses, read_of}
 abbrev pub content_in : List (List ℕ) → List KindTree → List Decl → NodeId → Content
 content_in names trees list root = record { names = names; declarations = declarations trees list; game = tree_at trees (Some root) }
 
+-- the same of a work, of whose names the first are the file's own
 abbrev pub content_at : Work → NodeId → Content
-content_at w root = content_in w.names w.pool.trees w.decls.list root
+content_at w root = content_in (take w.decls.own w.names) w.pool.trees w.decls.list root
 
 -- what was read is what the bytes hold, and an error is the one that they are refused for
 abbrev pub ReadsIn : (limit : ℕ) → List ℕ → List (List ℕ) → List KindTree → List Decl → Result File FileError → Type 0

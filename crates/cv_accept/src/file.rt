@@ -25,6 +25,9 @@ fn fill(alloc: Global, work: &mut Work, bytes: &[u8]) -> Result<File, FileError>
     ensures live { IfOk result (λ f. f.game.root.0 < length work.new.pool.trees) }
     ensures fits { IfOk result (λ f. size (tree_at work.new.pool.trees (Some f.game.root)) ≤ 50000) }
     ensures below { OnOk result (All (IsBelow (length work.new.pool.trees)) work.new.decls.list) }
+    ensures script { IfOk result (λ f. f.script ≡ None) }
+    ensures own { OnOk result (work.new.decls.own ≡ length work.new.names) }
+    ensures limit { work.new.pool.limit ≡ work.old.pool.limit }
 {
     let tokens = tokens(alloc, bytes)?;
     let file = file(alloc, work, &tokens)?;
@@ -40,7 +43,8 @@ fn fill(alloc: Global, work: &mut Work, bytes: &[u8]) -> Result<File, FileError>
     Ok(file)
 }
 
-/// Reads a file into an empty work, which is empty again where no file is read. A file has at most a
+/// Reads a file into an empty work, and sets how many names are its own. Where no file is read the work is
+/// empty again and has as many own names as before; the pool may have more spare room. A file has at most a
 /// mebibyte.
 pub fn read(alloc: Global, work: &mut Work, bytes: &[u8]) -> Result<File, FileError>
     requires names { work.old.names ≡ [] }
@@ -52,10 +56,13 @@ pub fn read(alloc: Global, work: &mut Work, bytes: &[u8]) -> Result<File, FileEr
     ensures live { IfOk result (λ f. f.game.root.0 < length work.new.pool.trees) }
     ensures fits { IfOk result (λ f. size (tree_at work.new.pool.trees (Some f.game.root)) ≤ 50000) }
     ensures below { OnOk result (All (IsBelow (length work.new.pool.trees)) work.new.decls.list) }
+    ensures script { IfOk result (λ f. f.script ≡ None) }
+    ensures own { OnOk result (work.new.decls.own ≡ length work.new.names) }
     ensures names { OnErr result (work.new.names ≡ []) }
     ensures decls { OnErr result (work.new.decls.list ≡ []) }
-    ensures own { OnErr result (work.new.decls.own ≡ work.old.decls.own) }
+    ensures same_own { OnErr result (work.new.decls.own ≡ work.old.decls.own) }
     ensures trees { OnErr result (work.new.pool.trees ≡ []) }
+    ensures limit { work.new.pool.limit ≡ work.old.pool.limit }
 {
     let before = work.pool.mark();
     let own = work.decls.own();

@@ -1,10 +1,17 @@
 -- Sizes of trees, over their parts in postorder. This profile's own.
-use Rattle.std.specs.Prelude.{ℕ, ◌+◌, max, List, [], ◌∷◌}
+use Rattle.std.specs.Prelude.{◌≡◌, ℕ, ◌+◌, max, List, [], ◌∷◌}
 use Rattle.cv_syntax.specs.declared.head.Head.{Head}
 use Rattle.cv_syntax.specs.declared.make.Make.{Make}
 use Rattle.cv_syntax.specs.declared.make.Make.TheVariants.{Nothing, Over}
 use Rattle.cv_syntax.specs.Head.{weight}
+use Rattle.cv_syntax.specs.Tree.{Tree, depth as tree_depth, size}
+use Rattle.cv_parse_indices.specs.declared.measuring.Extent.{Extent}
 use Rattle.cv_parse.specs.Weights.{capped}
+
+-- The sizes of a tree, each as a report carries it.
+pub record IsExtent (t : Tree) (extent : Extent) : Type 0 where
+  pub nodes : extent.nodes ≡ capped (size t)
+  pub depth : extent.depth ≡ capped (tree_depth t)
 
 -- how many syntax nodes parts make
 abbrev pub part_size : Make → ℕ

@@ -31,6 +31,7 @@ fn planted(
     ensures few { OnOk result (length makes.now < 4294967294) }
     ensures room { OnOk result (length pool.old.trees + asked_for (weight_in makes.now) ≤ pool.old.limit) }
     ensures crowds { IfErr result (λ e. Crowds pool.old.limit (length pool.old.trees) (asked_for (weight_in makes.now)) e) }
+    ensures limit { pool.new.limit ≡ pool.old.limit }
 {
     if makes.len() as u64 >= TOO_MANY {
         return Err(ParseError::Build(BuildError::OutOfMemory));
@@ -49,7 +50,8 @@ fn declare(decls: &mut Decls, heard: &[Heard], roots: &[Option<NodeId>]) -> Resu
     requires rooted { length heard.now ≤ length roots.now }
     requires named { AllByRecursion IsNameable heard.now }
     requires distinct { AreDistinct (0 ∷ flat_map names_by heard.now) }
-    ensures { OnOk result (decls.new.list ≡ bool_decl ∷ all_decls heard.now roots.now) }
+    ensures list { OnOk result (decls.new.list ≡ bool_decl ∷ all_decls heard.now roots.now) }
+    ensures own { decls.new.own ≡ decls.old.own }
 {
     decls.add(Decl::Name {
         id: NameId(0),
@@ -78,6 +80,8 @@ pub fn build(
     ensures below { OnOk result (All (IsBelow (length pool.new.trees)) decls.new.list) }
     ensures room { OnOk result (length pool.old.trees + asked_for (weight_in makes.now) ≤ pool.old.limit) }
     ensures crowds { IfErr result (λ e. Crowds pool.old.limit (length pool.old.trees) (asked_for (weight_in makes.now)) e) }
+    ensures own { decls.new.own ≡ decls.old.own }
+    ensures limit { pool.new.limit ≡ pool.old.limit }
 {
     let made = planted(alloc, pool, makes)?;
     let heard: &[Heard] = &reading.heard;

@@ -44,7 +44,8 @@ pub fn declare_all(
     requires rooted { length heard.now ≤ length roots.now }
     requires named { AllByRecursion IsNameable heard.now }
     requires distinct { AreDistinct (flat_map names_of decls.old.list ++ flat_map names_by heard.now) }
-    ensures { OnOk result (decls.new.list ≡ decls.old.list ++ all_decls heard.now roots.now) }
+    ensures list { OnOk result (decls.new.list ≡ decls.old.list ++ all_decls heard.now roots.now) }
+    ensures own { decls.new.own ≡ decls.old.own }
 {
     'heard: for k in 0..heard.len() {
         decls.add(decl_of(heard[k], roots[k]))?;

@@ -1,62 +1,22 @@
-ghost use Rattle.std.specs.Prelude.{◌≡◌, ◌+◌, ◌<◌, ◌≤◌, ◌^◌, ◌++◌, [], None, Some, Ok, length, All, OnErr, IfErr, IfOk, OnOk};
+ghost use Rattle.std.specs.Prelude.{◌≡◌, ◌+◌, ◌<◌, ◌≤◌, ◌^◌, ◌++◌, [], Some, length, All, OnErr, IfOk, OnOk};
 ghost use Rattle.cv_parse_grammar.specs.Filled.{filled};
-ghost use Rattle.cv_parse_grammar.specs.Names.{name_fault as fault_of};
-ghost use Rattle.cv_parse_terms.specs.Gives.{uses_of};
 ghost use Rattle.cv_parse_terminals.specs.Signs.{signs_of};
 ghost use Rattle.cv_syntax.specs.Postorder.{postorder};
 ghost use Rattle.cv_syntax.specs.Tree.{Tree, tree_at, size};
-ghost use Rattle.cv_parse.specs.Building.{Misnames};
 ghost use Rattle.cv_parse.specs.Declaring.{IsBelow};
-ghost use Rattle.cv_parse.specs.Parsed.{Parses, ParsesIn, Refuses, range_of, sized};
+ghost use Rattle.cv_parse.specs.Parsed.{Parses, ParsesIn, range_of};
 
 use crate::building::build;
 use crate::error::ParseError;
+use crate::measuring::check_size;
+use crate::naming::check_names;
 use cv_lex::Tokens;
-use cv_parse_declarations::{Reading, read};
+use cv_parse_declarations::read;
 use cv_parse_indices::{fill, measure};
-use cv_parse_names::{NameFault, name_fault};
 use cv_parse_notation::Sign;
 use cv_parse_terminals::signs;
-use cv_parse_terms::NameUse;
-use cv_syntax::{BuildError, Decls, File, Game, Make, NodeId, Pool, Work};
+use cv_syntax::{Decls, File, Game, Make, Pool, Work};
 use std::alloc::{AllocError, Global};
-
-/// The most syntax nodes of a game, and of a path in it.
-const MOST_NODES: u32 = 50_000;
-
-const MOST_DEPTH: u32 = 200;
-
-/// Checks the names of so many tokens.
-fn check_names(alloc: Global, uses: &[NameUse], count: usize) -> Result<(), ParseError>
-    requires few { count < 2 ^ 32 }
-    ensures named { OnOk result (fault_of (uses_of uses.now) ≡ None) }
-    ensures misnamed { IfErr result (λ e. Misnames count (uses_of uses.now) e) }
-{
-    match name_fault(alloc, uses)? {
-        None => Ok(()),
-        Some(NameFault::Twice(left)) => Err(ParseError::NameTwice(
-            count.saturating_sub(left) as u32,
-        )),
-        Some(NameFault::Unknown(left)) => {
-            Err(ParseError::NameUnknown(count.saturating_sub(left) as u32))
-        }
-    }
-}
-
-/// Checks that a game is no larger than a game may be.
-fn check_size(alloc: Global, process: &[Make]) -> Result<(), ParseError>
-    ensures small { (t : Tree) → process.now ≡ postorder t → OnOk result (sized (filled t) ≡ Ok tt) }
-    ensures large { (t : Tree) → process.now ≡ postorder t → IfErr result (λ e. Refuses e (sized (filled t))) }
-{
-    let found = measure(alloc, process)?;
-    if found.nodes > MOST_NODES {
-        return Err(ParseError::Build(BuildError::Nodes { count: found.nodes }));
-    }
-    if found.depth > MOST_DEPTH {
-        return Err(ParseError::Build(BuildError::Depth { depth: found.depth }));
-    }
-    Ok(())
-}
 
 /// The parts of all trees of a file: those of its declarations, and behind them those of its game.
 fn all_parts(alloc: Global, trees: &[Make], process: &[Make]) -> Result<Vec<Make>, AllocError>
@@ -94,10 +54,13 @@ fn parse(
     ensures live { IfOk result (λ f. f.game.root.0 < length pool.new.trees) }
     ensures fits { IfOk result (λ f. size (tree_at pool.new.trees (Some f.game.root)) ≤ 50000) }
     ensures below { OnOk result (All (IsBelow (length pool.new.trees)) decls.new.list) }
+    ensures own { decls.new.own ≡ decls.old.own }
+    ensures limit { pool.new.limit ≡ pool.old.limit }
 {
     let reading = read(alloc, signs)?;
     check_names(alloc, &reading.uses, signs.len())?;
-    check_size(alloc, &reading.process)?;
+    let extent = measure(alloc, &reading.process)?;
+    check_size(extent)?;
     let makes = all_parts(alloc, &reading.trees, &reading.process)?;
     let root = build(alloc, pool, decls, &reading, &makes)?;
     Ok(File {
@@ -117,6 +80,9 @@ fn fill_work(alloc: Global, work: &mut Work, tokens: &Tokens) -> Result<File, Pa
     ensures live { IfOk result (λ f. f.game.root.0 < length work.new.pool.trees) }
     ensures fits { IfOk result (λ f. size (tree_at work.new.pool.trees (Some f.game.root)) ≤ 50000) }
     ensures below { OnOk result (All (IsBelow (length work.new.pool.trees)) work.new.decls.list) }
+    ensures own { OnOk result (work.new.decls.own ≡ length work.new.names) }
+    ensures same_own { OnErr result (work.new.decls.own ≡ work.old.decls.own) }
+    ensures limit { work.new.pool.limit ≡ work.old.pool.limit }
 {
     let signs = signs(alloc, &mut work.names, tokens)?;
     let file = parse(alloc, &mut work.pool, &mut work.decls, &signs)?;
@@ -124,7 +90,8 @@ fn fill_work(alloc: Global, work: &mut Work, tokens: &Tokens) -> Result<File, Pa
     Ok(file)
 }
 
-/// Reads a file from its tokens into an empty work, which is empty again where no file is read.
+/// Reads a file from its tokens into an empty work, and sets how many names are its own. Where no file is read
+/// the work is empty again and has as many own names as before; the pool may have more spare room.
 pub fn file(alloc: Global, work: &mut Work, tokens: &Tokens) -> Result<File, ParseError>
     requires names { work.old.names ≡ [] }
     requires decls { work.old.decls.list ≡ [] }
@@ -135,9 +102,12 @@ pub fn file(alloc: Global, work: &mut Work, tokens: &Tokens) -> Result<File, Par
     ensures live { IfOk result (λ f. f.game.root.0 < length work.new.pool.trees) }
     ensures fits { IfOk result (λ f. size (tree_at work.new.pool.trees (Some f.game.root)) ≤ 50000) }
     ensures below { OnOk result (All (IsBelow (length work.new.pool.trees)) work.new.decls.list) }
+    ensures own { OnOk result (work.new.decls.own ≡ length work.new.names) }
     ensures no_names { OnErr result (work.new.names ≡ []) }
     ensures no_decls { OnErr result (work.new.decls.list ≡ []) }
+    ensures same_own { OnErr result (work.new.decls.own ≡ work.old.decls.own) }
     ensures no_trees { OnErr result (work.new.pool.trees ≡ []) }
+    ensures limit { work.new.pool.limit ≡ work.old.pool.limit }
 {
     let before = work.pool.mark();
     match fill_work(alloc, work, tokens) {

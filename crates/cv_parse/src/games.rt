@@ -5,8 +5,9 @@ ghost use Rattle.cv_syntax.specs.Tree.{size, tree_at};
 ghost use Rattle.cv_parse.specs.Games.{ReadsGame, game_of, game_read};
 
 use crate::ParseError;
+use crate::measuring::{check_size, measure};
 use crate::naming::{check_names, note_declared};
-use crate::planting::{check_size, plant_one};
+use crate::planting::plant_one;
 use crate::reading::read_game;
 use cv_lex::Tokens;
 use cv_parse_notation::Sign;
@@ -33,7 +34,8 @@ fn game_in(
     note_declared(decls, &mut trail.uses)?;
     read_game(alloc, signs, &mut trail)?;
     check_names(alloc, &trail.uses, signs.len())?;
-    check_size(alloc, &trail.makes)?;
+    let extent = measure(alloc, &trail.makes)?;
+    check_size(extent)?;
     let root = plant_one(alloc, pool, &trail.makes)?;
     Ok(Game { root })
 }

@@ -1,18 +1,36 @@
-ghost use Rattle.std.specs.Prelude.{◌≡◌, reverse, IfOk, OnOk};
+ghost use Rattle.std.specs.Prelude.{◌≡◌, reverse, Ok, IfErr, IfOk, OnOk};
 ghost use Rattle.cv_syntax.specs.Postorder.{postorder};
 ghost use Rattle.cv_syntax.specs.Tree.{Tree, depth as tree_depth, size};
 ghost use Rattle.cv_parse.specs.Weights.{capped};
-ghost use Rattle.cv_parse.specs.Measures.{depths_behind, depths_over, part_size as size_in};
+ghost use Rattle.cv_parse.specs.Measures.{IsExtent, depths_behind, depths_over, part_size as size_in};
+ghost use Rattle.cv_parse.specs.Parsed.{Refuses, sized};
 
-use cv_syntax::{Head, Make};
+use crate::ParseError;
+use cv_parse_indices::Extent;
+use cv_syntax::{BuildError, Head, Make};
 use std::alloc::{AllocError, Global};
 
-/// How many syntax nodes a tree has, and how many its longest path has. A number above 4,294,967,295 is that
-/// number instead.
-#[derive(Clone, Copy, Debug, PartialEq, Eq)]
-pub struct Extent {
-    pub nodes: u32,
-    pub depth: u32,
+/// The most syntax nodes of a game, and of a path in it.
+const MOST_NODES: u32 = 50_000;
+
+const MOST_DEPTH: u32 = 200;
+
+/// Checks that a game of an extent is no larger than a game may be.
+pub fn check_size(extent: Extent) -> Result<(), ParseError>
+    ensures small { (t : Tree) → IsExtent t extent → OnOk result (sized t ≡ Ok tt) }
+    ensures large { (t : Tree) → IsExtent t extent → IfErr result (λ e. Refuses e (sized t)) }
+{
+    if extent.nodes > MOST_NODES {
+        return Err(ParseError::Build(BuildError::Nodes {
+            count: extent.nodes,
+        }));
+    }
+    if extent.depth > MOST_DEPTH {
+        return Err(ParseError::Build(BuildError::Depth {
+            depth: extent.depth,
+        }));
+    }
+    Ok(())
 }
 
 /// How many syntax nodes a part makes.

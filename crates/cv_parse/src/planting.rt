@@ -1,38 +1,16 @@
-ghost use Rattle.std.specs.Prelude.{◌≡◌, ◌+◌, ◌<◌, ◌≤◌, ◌^◌, length, Some, Ok, IfErr, IfOk, OnErr, OnOk};
+ghost use Rattle.std.specs.Prelude.{◌≡◌, ◌+◌, ◌<◌, ◌≤◌, ◌^◌, length, Some, IfErr, IfOk, OnErr, OnOk};
 ghost use Rattle.cv_pool.specs.PoolView.{Grows};
 ghost use Rattle.cv_syntax.specs.Postorder.{postorder};
 ghost use Rattle.cv_syntax.specs.Tree.{Tree, tree_at};
 ghost use Rattle.cv_parse.specs.Building.{Crowds};
-ghost use Rattle.cv_parse.specs.Parsed.{Refuses, sized};
 ghost use Rattle.cv_parse.specs.Games.{nodes_of};
 
 use crate::ParseError;
-use crate::measuring::measure;
 use cv_syntax::{BuildError, Make, NodeId, Pool, plant};
 use std::alloc::Global;
 
-/// The most syntax nodes of a game, and of a path in it.
-const MOST_NODES: u32 = 50_000;
-
-const MOST_DEPTH: u32 = 200;
-
 /// How many parts of a tree are too many to be counted.
 const TOO_MANY: u64 = 4_294_967_296;
-
-/// Checks that a game is no larger than a game may be.
-pub fn check_size(alloc: Global, makes: &[Make]) -> Result<(), ParseError>
-    ensures small { (t : Tree) → makes.now ≡ postorder t → OnOk result (sized t ≡ Ok tt) }
-    ensures large { (t : Tree) → makes.now ≡ postorder t → IfErr result (λ e. Refuses e (sized t)) }
-{
-    let found = measure(alloc, makes)?;
-    if found.nodes > MOST_NODES {
-        return Err(ParseError::Build(BuildError::Nodes { count: found.nodes }));
-    }
-    if found.depth > MOST_DEPTH {
-        return Err(ParseError::Build(BuildError::Depth { depth: found.depth }));
-    }
-    Ok(())
-}
 
 /// Makes a tree in the pool. Parts that are too many to be counted are want of memory.
 pub fn plant_one(alloc: Global, pool: &mut Pool, makes: &[Make]) -> Result<NodeId, ParseError>

@@ -1,3 +1,5 @@
+pub mod Blocks
+pub mod Braced
 pub mod Yielding
 pub mod Shaping
 pub mod Rows

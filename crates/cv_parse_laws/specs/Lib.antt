@@ -1,3 +1,4 @@
+pub mod Blocks
 pub mod Yields
 pub mod Shapes
 pub mod Words

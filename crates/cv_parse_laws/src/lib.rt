@@ -1,5 +1,5 @@
 // The game of a file is well formed and written: it is in the grammar of processes, it binds no constant, and it
-// is read back from its text.
+// is read back from its text. Its names stand outside its proof block.
 #![tactic(auto)]
 
 ghost use Rattle.std.specs.Prelude.{◌≡◌, ℕ, Bool, IsTrue, List, Ok, Option, true};
@@ -19,7 +19,9 @@ ghost use Rattle.cv_parse_laws.specs.Shapes.{IsFree, IsOfSort, IsShaped};
 ghost use Rattle.cv_parse_laws.specs.Yields.{AllUsed, Yields};
 ghost use Rattle.std.specs.List.{AllByRecursion};
 ghost use Rattle.cv_lex.specs.Lexis.{Token};
-ghost use Rattle.cv_parse_terminals.specs.Signs.{signs_of};
+ghost use Rattle.cv_lex.specs.View.{AreTokens};
+ghost use Rattle.cv_parse_terminals.specs.Signs.{signs_in, signs_of};
+ghost use Rattle.cv_parse_laws.specs.Blocks.{around};
 ghost use Rattle.cv_print_terminals.specs.Written.{IsWritten, is_name};
 ghost use Rattle.cv_parse_laws.specs.Words.{AreNamed, HasWords, WordsOfSort};
 
@@ -88,4 +90,11 @@ pub fn filling_keeps_words()
 pub fn games_of_files_are_written()
     ensures { (limit : ℕ) (tokens : List Token) (p : Parsed) →
         parsed limit (signs_of tokens).signs ≡ Ok p → IsWritten Inputs p.game }
+{}
+
+/// The names of a file are those of its tokens outside its proof block, in order.
+pub fn names_stand_outside_the_block()
+    ensures { (limit : ℕ) (tokens : List Token) (p : Parsed) → AreTokens tokens →
+        parsed limit (signs_of tokens).signs ≡ Ok p →
+        (signs_of tokens).names ≡ (signs_in (around p.script tokens)).names }
 {}

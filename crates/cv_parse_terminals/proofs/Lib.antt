@@ -1,4 +1,6 @@
+pub mod FileTokens
 pub mod Naming
+pub mod Outside
 pub mod Table
 pub mod Telling
 pub mod Walk

@@ -16,7 +16,9 @@ use Rattle.cv_parse_notation.specs.declared.sign.Sign.TheVariants as sign
 use Rattle.cv_names.specs.Texts.{NoRepeat}
 use Rattle.cv_parse_terminals.specs.declared.pass.Counts.{Counts}
 use Rattle.cv_parse_terminals.specs.Spelling.{mark_of_text}
-use Rattle.cv_parse_terminals.specs.Signs.{Step, Signed, no_counts, join, step_before, unnamed_name, is_unnamed, first_text, token_step, text_step, word_step, signs_from, signs_of, place_of, Tells, TellInOrder, NumberBelow}
+use Rattle.cv_parse_terminals.specs.Signs.{Step, Signed, no_counts, join, step_before, unnamed_name, is_unnamed, first_text, token_step, text_step, word_step, signs_from, signs_in, signs_of, place_of, Tells, TellInOrder, NumberBelow}
+use Rattle.cv_parse_terminals.specs.Braces.{file_tokens}
+use Rattle.cv_parse_terminals.proofs.FileTokens.{are_read, length-read_from}
 use Rattle.cv_parse_terminals.proofs.Table.{only}
 use Rattle.cv_parse_terminals.proofs.Naming.{text_test, with_name-keeps, with_name-has, with_name-apart}
 use Rattle.cv_parse_terminals.proofs.Walk.{no_end_yet}
@@ -135,8 +137,11 @@ tell_from names counts (t ∷ ts) inner (suc k) h =
     let later = tell_from s.names s.counts ts (λ j g. inner (suc j) (omega arith)) k below in
     (later.0, ap (λ l. slice_get (join l rest).signs (suc k)) says.alone ∙ later.1, later.2)
 
-pub tell_all : (ts : List Token) → AreTokens ts → TellInOrder (signs_of ts).names ts (signs_of ts).signs
-tell_all ts are = tell_from (codes "bool" ∷ []) no_counts ts (λ k h. no_end_yet ts are k h (token_at ts k).kind refl)
+tell_in : (ts : List Token) → AreTokens ts → TellInOrder (signs_in ts).names ts (signs_in ts).signs
+tell_in ts are = tell_from (codes "bool" ∷ []) no_counts ts (λ k h. no_end_yet ts are k h (token_at ts k).kind refl)
+
+pub tell_all : (ts : List Token) → AreTokens ts → TellInOrder (signs_of ts).names (file_tokens ts) (signs_of ts).signs
+tell_all ts are = tell_in (file_tokens ts) (are_read ts are)
 
 -- one name is none twice
 alone_apart : (text : List ℕ) → NoRepeat (text ∷ [])
@@ -145,10 +150,10 @@ alone_apart text zero (suc j) t a b = absurd (cc)
 alone_apart text (suc i) j t a b = absurd (cc)
 
 pub names_apart : (ts : List Token) → NoRepeat (signs_of ts).names
-names_apart ts = (grown (codes "bool" ∷ []) no_counts ts).apart (alone_apart (codes "bool"))
+names_apart ts = (grown (codes "bool" ∷ []) no_counts (file_tokens ts)).apart (alone_apart (codes "bool"))
 
 pub bool_first : (ts : List Token) → slice_get (signs_of ts).names 0 ≡ Some (codes "bool")
-bool_first ts = (grown (codes "bool" ∷ []) no_counts ts).keeps 0 (codes "bool") refl
+bool_first ts = (grown (codes "bool" ∷ []) no_counts (file_tokens ts)).keeps 0 (codes "bool") refl
 
 -- so many signs as tokens, but for the end token
 count_from : (names : List (List ℕ)) (counts : Counts) (front : List Token) (end : ℕ) → All (λ t. IsToken t.kind t.text) front → length (signs_from names counts (front ++ end_token end ∷ [])).signs ≡ length front
@@ -162,11 +167,14 @@ count_from names counts (t ∷ front) end each =
     let rest : Signed = signs_from s.names s.counts behind in
     ap (λ l. length (join l rest).signs) says.alone ∙ ap suc (count_from s.names s.counts front end (All-tail (λ t. IsToken t.kind t.text) t front each))
 
-pub count_all : (ts : List Token) → AreTokens ts → length (signs_of ts).signs + 1 ≡ length ts
-count_all ts are =
-    let front : length (signs_of ts).signs ≡ length are.front = ap (λ l. length (signs_of l).signs) are.all ∙ count_from (codes "bool" ∷ []) no_counts are.front are.end are.each in
+count_in : (ts : List Token) → AreTokens ts → length (signs_in ts).signs + 1 ≡ length ts
+count_in ts are =
+    let front : length (signs_in ts).signs ≡ length are.front = ap (λ l. length (signs_in l).signs) are.all ∙ count_from (codes "bool" ∷ []) no_counts are.front are.end are.each in
     let all : length ts ≡ length are.front + 1 = ap length are.all ∙ length_push are.front (end_token are.end) in
     omega arith
+
+pub count_all : (ts : List Token) → AreTokens ts → length (signs_of ts).signs + 1 ≡ length ts
+count_all ts are = count_in (file_tokens ts) (are_read ts are) ∙ length-read_from 0 ts
 
 -- what a sign tells is among the names
 below_told : (names : List (List ℕ)) (t : Token) (s : Sign) → Tells names t s → NumberBelow (length names) s
@@ -176,10 +184,13 @@ below_told names t (sign.Find n) h = tt
 below_told names t (sign.Unnamed n) h = slice_get_within names n (unnamed_name h.1.0) h.1.2
 below_told names t (sign.Mark m) h = tt
 
+below_in : (ts : List Token) → AreTokens ts → All (NumberBelow (length (signs_in ts).names)) (signs_in ts).signs
+below_in ts are k d h =
+    let count = count_in ts are in
+    let told = tell_in ts are k (omega arith) in
+    let here : slice_get (signs_in ts).signs k ≡ Some (get_or (signs_in ts).signs k d) = slice_get-get_or (signs_in ts).signs k d h in
+    let same : told.0 ≡ get_or (signs_in ts).signs k d = cc (here, told.1) in
+    subst (NumberBelow (length (signs_in ts).names)) same (below_told (signs_in ts).names (token_at ts k) told.0 told.2)
+
 pub numbers_below : (ts : List Token) → AreTokens ts → All (NumberBelow (length (signs_of ts).names)) (signs_of ts).signs
-numbers_below ts are k d h =
-    let count = count_all ts are in
-    let told = tell_all ts are k (omega arith) in
-    let here : slice_get (signs_of ts).signs k ≡ Some (get_or (signs_of ts).signs k d) = slice_get-get_or (signs_of ts).signs k d h in
-    let same : told.0 ≡ get_or (signs_of ts).signs k d = cc (here, told.1) in
-    subst (NumberBelow (length (signs_of ts).names)) same (below_told (signs_of ts).names (token_at ts k) told.0 told.2)
+numbers_below ts are = below_in (file_tokens ts) (are_read ts are)

@@ -1,2 +1,4 @@
+pub mod Braces
 pub mod Signs
 pub mod Spelling
+pub mod Worked

@@ -10,6 +10,7 @@ use Rattle.cv_parse_notation.specs.declared.sign.Mark.{Mark}
 use Rattle.cv_parse_notation.specs.declared.sign.Sign.{Sign}
 use Rattle.cv_parse_notation.specs.declared.sign.Sign.TheVariants as sign
 use Rattle.cv_parse_terminals.specs.declared.pass.Counts.{Counts}
+use Rattle.cv_parse_terminals.specs.Braces.{file_tokens}
 use Rattle.cv_parse_terminals.specs.Spelling.{spelling, mark_of_text}
 
 -- the place of a text among names, or their number where it isn't there
@@ -102,9 +103,13 @@ unfoldable pub signs_from : List (List ℕ) → Counts → List Token → Signed
 signs_from names counts [] = record { signs = []; names = names }
 signs_from names counts (t ∷ ts) = go_on (λ n c. signs_from n c ts) (step_before names counts t.kind t.text (first_text ts))
 
--- the signs of a text's tokens; the name `bool` is number 0
+-- the signs of tokens as they stand; the name `bool` is number 0
+abbrev pub signs_in : List Token → Signed
+signs_in ts = signs_from (codes "bool" ∷ []) no_counts ts
+
+-- the signs of a file's tokens
 abbrev pub signs_of : List Token → Signed
-signs_of ts = signs_from (codes "bool" ∷ []) no_counts ts
+signs_of ts = signs_in (file_tokens ts)
 
 -- a sign says what its token says; a number stands for the text at its place among the names
 abbrev pub Tells : List (List ℕ) → Token → Sign → Type 0

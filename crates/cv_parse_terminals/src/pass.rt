@@ -1,12 +1,15 @@
 // One pass over the tokens, which makes their signs and collects the names.
 
-ghost use Rattle.std.specs.Prelude.{◌≡◌, ◌≢◌, ◌+◌, ◌<◌, ◌^◌, [], ◌∷◌, List, All, Some, length, take, drop, slice_get, codes, IfOk, OnErr};
+ghost use Rattle.std.specs.Prelude.{◌≡◌, ◌≢◌, ◌+◌, ◌<◌, ◌^◌, false, [], ◌∷◌, List, All, Some, length, take, drop, slice_get, codes, IfOk, OnErr};
 ghost use Rattle.cv_lex.specs.Lexis.{Token};
 ghost use Rattle.cv_lex.specs.View.{AreTokens};
 ghost use Rattle.cv_names.specs.Texts.{NoRepeat};
-ghost use Rattle.cv_parse_terminals.specs.Signs.{place_of, with_name, step_before, token_step, text_step, unnamed_step, no_counts, signs_from, signs_of, TellInOrder, NumberBelow};
+ghost use Rattle.cv_parse_terminals.specs.Braces.{file_tokens, opens, outside};
+ghost use Rattle.cv_parse_terminals.specs.Signs.{place_of, with_name, step_before, token_step, text_step, unnamed_step, no_counts, signs_from, signs_in, signs_of, TellInOrder, NumberBelow};
 ghost use Rattle.cv_parse_terminals.specs.Spelling.{mark_of_text};
+ghost use Rattle.cv_parse_terminals.specs.Worked.{small, small_names};
 
+use crate::braces::{open_behind, read_token};
 use crate::marks::spelled;
 use cv_lex::{TokenKind, Tokens};
 use cv_parse_notation::Sign;
@@ -136,6 +139,30 @@ fn signs_in_order(
     Ok(signs)
 }
 
+// The signs of the tokens of a file as they are read, all but the end token.
+fn read_signs(alloc: Global, names: &mut Names, tokens: &Tokens) -> Result<Vec<Sign>, AllocError>
+    requires few { length names.old + length tokens.now < 2 ^ 32 }
+    ensures signs { IfOk result (λ v. (signs_from names.old no_counts (file_tokens tokens.now)).signs ≡ v.items) }
+    ensures names { IfOk result (λ _. (signs_from names.old no_counts (file_tokens tokens.now)).names ≡ names.new) }
+    ensures count { IfOk result (λ v. length v.items + 1 ≡ length tokens.now) }
+{
+    let count = tokens.len() - 1;
+    let mut signs = Vec::with_capacity(alloc, count as usize)?;
+    let mut counts = Counts {
+        finds: 0,
+        unnamed: 0,
+    };
+    let mut depth = 0;
+    for k in 0..count {
+        let (kind, text) = read_token(tokens, k, depth);
+        depth = open_behind(depth, tokens.text(k));
+        let (_, next) = read_token(tokens, k + 1, depth);
+        let sign = sign_before(alloc, names, &mut counts, kind, text, next)?;
+        signs.push(sign)?;
+    }
+    Ok(signs)
+}
+
 // The signs of a file's tokens, where the name `bool` is number 0.
 fn file_signs(alloc: Global, names: &mut Names, tokens: &Tokens) -> Result<Vec<Sign>, AllocError>
     requires empty { names.old ≡ [] }
@@ -146,10 +173,10 @@ fn file_signs(alloc: Global, names: &mut Names, tokens: &Tokens) -> Result<Vec<S
 {
     let _tokens = tokens.len();
     number_of(names, "bool")?;
-    signs_in_order(alloc, names, tokens, 0)
+    read_signs(alloc, names, tokens)
 }
 
-/// The signs of tokens, one for each but the end token. Takes time linear in the text.
+/// The signs of a file's tokens, one for each but the end token. Takes time linear in the text.
 pub fn signs(alloc: Global, names: &mut Names, tokens: &Tokens) -> Result<Vec<Sign>, AllocError>
     requires empty { names.old ≡ [] }
     requires few { length tokens.now < 200000000 }
@@ -188,11 +215,19 @@ pub fn more_signs(
     outcome
 }
 
-/// Each sign says what its token says, and each name has one number.
+/// Each sign says what its token says, as it is read, and each name has one number.
 pub fn signs_tell_tokens()
-    ensures tell { (ts : List Token) → AreTokens ts → TellInOrder (signs_of ts).names ts (signs_of ts).signs }
+    ensures tell { (ts : List Token) → AreTokens ts → TellInOrder (signs_of ts).names (file_tokens ts) (signs_of ts).signs }
     ensures count { (ts : List Token) → AreTokens ts → length (signs_of ts).signs + 1 ≡ length ts }
     ensures below { (ts : List Token) → AreTokens ts → All (NumberBelow (length (signs_of ts).names)) (signs_of ts).signs }
     ensures distinct { (ts : List Token) → NoRepeat (signs_of ts).names }
     ensures bool_first { (ts : List Token) → slice_get (signs_of ts).names 0 ≡ Some (codes "bool") }
+{}
+
+/// The names of a file are those of its tokens outside braces, in order: what stands between the braces of a
+/// proof block adds none. Without a brace all tokens are read as they stand.
+pub fn file_names_stand_outside_braces()
+    ensures names { (ts : List Token) → AreTokens ts → (signs_of ts).names ≡ (signs_in (outside ts)).names }
+    ensures plain { (ts : List Token) → All (λ t. opens t.text ≡ false) ts → signs_of ts ≡ signs_in ts }
+    ensures small { (signs_of small).names ≡ small_names }
 {}

@@ -12,7 +12,9 @@ use Rattle.cv_lex.specs.View.{AreTokens}
 use Rattle.cv_parse_notation.specs.declared.sign.Mark.{Mark}
 use Rattle.cv_parse_notation.specs.declared.sign.Mark.TheVariants as mark
 use Rattle.cv_parse_terminals.specs.Spelling.{spelling, mark_of_text}
-use Rattle.cv_parse_terminals.specs.Signs.{Step, no_counts, with_name, is_unnamed, word_step, text_step, token_step, unnamed_step, step_before, unnamed_name, first_text, signs_from, signs_of}
+use Rattle.cv_parse_terminals.specs.Signs.{Step, no_counts, with_name, is_unnamed, word_step, text_step, token_step, unnamed_step, step_before, unnamed_name, first_text, signs_from, signs_in, signs_of}
+use Rattle.cv_parse_terminals.specs.Braces.{file_tokens}
+use Rattle.cv_parse_terminals.proofs.FileTokens.{are_read}
 use Rattle.cv_parse_terminals.proofs.Naming.{text_test, with_name-from}
 use Rattle.cv_parse_terminals.proofs.Table.{found}
 use Rattle.cv_parse_terminals.proofs.Telling.{names_apart, bool_first}
@@ -118,9 +120,12 @@ proper_first : Proper (codes "bool" ∷ [])
 proper_first zero text h = inl (cc)
 proper_first (suc x) text h = absurd (cc)
 
+proper_in : (ts : List Token) → AreTokens ts → Proper (signs_in ts).names
+proper_in ts are = subst (λ l. Proper (signs_in l).names) (sym are.all) (proper_from (codes "bool" ∷ []) no_counts are.front are.end are.each proper_first)
+
 pub names_of_file : (ts : List Token) → AreTokens ts → AreNames (signs_of ts).names
 names_of_file ts are =
-    let p : Proper (signs_of ts).names = subst (λ l. Proper (signs_of l).names) (sym are.all) (proper_from (codes "bool" ∷ []) no_counts are.front are.end are.each proper_first) in
+    let p : Proper (signs_of ts).names = proper_in (file_tokens ts) (are_read ts are) in
     record {
       bool_first = bool_first ts;
       each = λ x text h. elim (p (suc x) text h) [

@@ -29,7 +29,7 @@ returns-clause-sound c =
     let f = accepted most_pool c.args.bytes.now _ (reads_at _ c.args.bytes.now _ c.requires.limit c.in-Ok.ensures.reads) in
     let same = c.in-Ok-answer.ensures.said ∙ ap (said_of game nothing_said) (sym (queries-same trees old.decls.list)) in
     let sound = said_sound game nothing_said (queries_in ds) in
-    let held = content-grown old c.answer.new.work c.in-Ok.file.game.root c.in-Ok-answer.ensures.grows c.answer.ensures.names c.answer.ensures.decls c.in-Ok.ensures.live c.in-Ok.ensures.below in
+    let held = content-grown old c.answer.new.work c.in-Ok.file.game.root c.in-Ok-answer.ensures.grows c.answer.ensures.names c.answer.ensures.decls c.in-Ok.ensures.own c.in-Ok.ensures.live c.in-Ok.ensures.below in
     let vs = c.in-Ok-answer.found.verdicts.items in
     subst (λ (h : Content). IsSoundFor h vs) (sym held)
     (sound_at ds game (queries_in ds) vs f.well_formed (subst (AreSound game (queries_in ds)) (sym (ap (λ (t : Said). t.verdicts) same ∙ sound.1)) sound.2))
@@ -49,7 +49,7 @@ returns-clause-answers c = λ told given.
     let trees = old.pool.trees in
     let game : Tree = tree_at trees (Some c.in-Ok.file.game.root) in
     let same = c.in-Ok-answer.ensures.said ∙ ap (said_of game nothing_said) (sym (queries-same trees old.decls.list)) in
-    let held = content-grown old c.answer.new.work c.in-Ok.file.game.root c.in-Ok-answer.ensures.grows c.answer.ensures.names c.answer.ensures.decls c.in-Ok.ensures.live c.in-Ok.ensures.below in
+    let held = content-grown old c.answer.new.work c.in-Ok.file.game.root c.in-Ok-answer.ensures.grows c.answer.ensures.names c.answer.ensures.decls c.in-Ok.ensures.own c.in-Ok.ensures.live c.in-Ok.ensures.below in
     let all = same ∙ ap (λ (h : Content). said_of h.game nothing_said (queries_in h.declarations)) (sym held) in
     let now = c.answer.new.work in
     let played : Tree = tree_at now.pool.trees (Some c.in-Ok.file.game.root) in
@@ -73,7 +73,7 @@ returns-clause-answers c = λ told given.
 pub returns-clause-cause : goal.returns-clause-cause
 returns-clause-cause c = λ o given.
     let old = c.read.new.work in
-    let held = content-grown old c.answer.new.work c.in-Ok.file.game.root c.in-Ok-answer.ensures.grows c.answer.ensures.names c.answer.ensures.decls c.in-Ok.ensures.live c.in-Ok.ensures.below in
+    let held = content-grown old c.answer.new.work c.in-Ok.file.game.root c.in-Ok-answer.ensures.grows c.answer.ensures.names c.answer.ensures.decls c.in-Ok.ensures.own c.in-Ok.ensures.live c.in-Ok.ensures.below in
     let reading = reads_at _ c.args.bytes.now _ c.requires.limit c.in-Ok.ensures.reads in
     let answers = returns-clause-answers c o.told given in
     verdict_cause o _ c.in-Ok.file c.args.bytes.now given refl answers.follows (reading ∙ ap Ok (sym held))

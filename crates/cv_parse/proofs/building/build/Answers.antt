@@ -46,7 +46,7 @@ returns-clause-built c = λ b.
     let m = c.args.makes.now in
     let e = ap (map (tree_at c.planted.new.pool.trees)) c.deref-roots.ensures.value ∙ c.in_ok-made.ensures.back (all_trees b.file) (parts_are r m b) in
     record {
-      declared = decls_same r m b c.planted.new.pool.trees c.deref-heard.result.now c.deref-roots.result.now _ c.deref-heard.ensures.value e c.in_ok-declare.ensures;
+      declared = decls_same r m b c.planted.new.pool.trees c.deref-heard.result.now c.deref-roots.result.now _ c.deref-heard.ensures.value e c.in_ok-declare.ensures.list;
       game = last_game r m b c.planted.new.pool.trees c.deref-roots.result.now _ _ _ e (ap length c.deref-heard.ensures.value) c.in-Some.is;
     }
 
@@ -68,4 +68,4 @@ returns-clause-below c =
     let m = c.args.makes.now in
     let e = ap (map (tree_at c.planted.new.pool.trees)) c.deref-roots.ensures.value ∙ c.in_ok-made.ensures.back (all_trees b.file) (parts_are r m b) in
     let a : All (ChildBelow (length c.planted.new.pool.trees)) c.deref-roots.result.now = subst (All (ChildBelow (length c.planted.new.pool.trees))) (sym c.deref-roots.ensures.value) c.in_ok-made.ensures.live in
-    decls_below r m b c.planted.new.pool.trees (length c.planted.new.pool.trees) c.deref-heard.result.now c.deref-roots.result.now _ c.deref-heard.ensures.value e a c.in_ok-declare.ensures
+    decls_below r m b c.planted.new.pool.trees (length c.planted.new.pool.trees) c.deref-heard.result.now c.deref-roots.result.now _ c.deref-heard.ensures.value e a c.in_ok-declare.ensures.list

@@ -4,6 +4,7 @@ use Rattle.cv_syntax.specs.Tree.{size}
 use Rattle.cv_parse_grammar.specs.Filled.{filled}
 use Rattle.cv_parse_grammar.specs.Names.{name_fault}
 use Rattle.cv_parse_terms.specs.Gives.{uses_of}
+use Rattle.cv_parse.specs.Measures.{IsExtent}
 use Rattle.cv_parse.specs.Parsed.{range_of}
 use Rattle.cv_parse.proofs.Parsings.{builds, few_nodes, names_refuse_at, parses, passed_on, read_refuses, room_refuses, size_refuses}
 use Rattle.cv_parse.proofs.files.parse.Goals as goal
@@ -26,7 +27,9 @@ returns-in_err-check_size-clause-parses c =
     let r = c.in_ok-reading.reading in
     let d = c.in_ok-reading.ensures in
     let n = sym (ap (λ us. name_fault (uses_of us)) c.deref.ensures.value) ∙ c.in_ok-check_names.ensures.named in
-    passed_on limit signs _ _ _ _ c.from_residual-in_err-check_size.ensures.1 (size_refuses limit signs r d n _ (c.in_err-check_size.ensures.large d.value.game (c.deref-2.ensures.value ∙ d.hears.process)))
+    let p = c.deref-2.ensures.value ∙ d.hears.process in
+    let x : IsExtent (filled d.value.game) c.in_ok-extent.extent = record { nodes = c.in_ok-extent.ensures.nodes d.value.game p; depth = c.in_ok-extent.ensures.depth d.value.game p } in
+    passed_on limit signs _ _ _ _ c.from_residual-in_err-check_size.ensures.1 (size_refuses limit signs r d n _ (c.in_err-check_size.ensures.large (filled d.value.game) x))
 
 pub build-requires-clause-builds : goal.build-requires-clause-builds
 build-requires-clause-builds c =
@@ -35,7 +38,8 @@ build-requires-clause-builds c =
     let r = c.in_ok-reading.reading in
     let d = c.in_ok-reading.ensures in
     let n = sym (ap (λ us. name_fault (uses_of us)) c.deref.ensures.value) ∙ c.in_ok-check_names.ensures.named in
-    let s = c.in_ok-check_size.ensures.small d.value.game (c.deref-2.ensures.value ∙ d.hears.process) in
+    let p = c.deref-2.ensures.value ∙ d.hears.process in
+    let s = c.in_ok-check_size.ensures.small (filled d.value.game) (record { nodes = c.in_ok-extent.ensures.nodes d.value.game p; depth = c.in_ok-extent.ensures.depth d.value.game p }) in
     let m = c.deref-5.ensures.value ∙ (c.in_ok-makes.ensures d.value.game (c.deref-4.ensures.value ∙ d.hears.process) ∙ ap (λ l. l ++ postorder (filled d.value.game)) c.deref-3.ensures.value) in
     builds limit signs r d n _ m
 
@@ -46,7 +50,8 @@ returns-in_err-root-clause-parses c =
     let r = c.in_ok-reading.reading in
     let d = c.in_ok-reading.ensures in
     let n = sym (ap (λ us. name_fault (uses_of us)) c.deref.ensures.value) ∙ c.in_ok-check_names.ensures.named in
-    let s = c.in_ok-check_size.ensures.small d.value.game (c.deref-2.ensures.value ∙ d.hears.process) in
+    let p = c.deref-2.ensures.value ∙ d.hears.process in
+    let s = c.in_ok-check_size.ensures.small (filled d.value.game) (record { nodes = c.in_ok-extent.ensures.nodes d.value.game p; depth = c.in_ok-extent.ensures.depth d.value.game p }) in
     let m = c.deref-5.ensures.value ∙ (c.in_ok-makes.ensures d.value.game (c.deref-4.ensures.value ∙ d.hears.process) ∙ ap (λ l. l ++ postorder (filled d.value.game)) c.deref-3.ensures.value) in
     passed_on limit signs _ _ _ _ c.from_residual-in_err-root.ensures.1 (room_refuses limit signs r d n s _ m (length c.args.pool.now.trees) (ap length c.requires.trees) _ c.in_err-root.ensures.crowds)
 
@@ -57,7 +62,8 @@ returns-clause-parses c =
     let r = c.in_ok-reading.reading in
     let d = c.in_ok-reading.ensures in
     let n = sym (ap (λ us. name_fault (uses_of us)) c.deref.ensures.value) ∙ c.in_ok-check_names.ensures.named in
-    let s = c.in_ok-check_size.ensures.small d.value.game (c.deref-2.ensures.value ∙ d.hears.process) in
+    let p = c.deref-2.ensures.value ∙ d.hears.process in
+    let s = c.in_ok-check_size.ensures.small (filled d.value.game) (record { nodes = c.in_ok-extent.ensures.nodes d.value.game p; depth = c.in_ok-extent.ensures.depth d.value.game p }) in
     let m = c.deref-5.ensures.value ∙ (c.in_ok-makes.ensures d.value.game (c.deref-4.ensures.value ∙ d.hears.process) ∙ ap (λ l. l ++ postorder (filled d.value.game)) c.deref-3.ensures.value) in
     parses limit signs r d n s _ m (length c.args.pool.now.trees) c.in_ok-root.ensures.room c.build.new.pool.trees c.build.new.decls.list _ (c.in_ok-root.ensures.built (builds limit signs r d n _ m)) (c.range.ensures ∙ ap (range_of (length signs)) d.hears.script)
 
@@ -68,7 +74,8 @@ returns-clause-fits c =
     let r = c.in_ok-reading.reading in
     let d = c.in_ok-reading.ensures in
     let n = sym (ap (λ us. name_fault (uses_of us)) c.deref.ensures.value) ∙ c.in_ok-check_names.ensures.named in
-    let s = c.in_ok-check_size.ensures.small d.value.game (c.deref-2.ensures.value ∙ d.hears.process) in
+    let p = c.deref-2.ensures.value ∙ d.hears.process in
+    let s = c.in_ok-check_size.ensures.small (filled d.value.game) (record { nodes = c.in_ok-extent.ensures.nodes d.value.game p; depth = c.in_ok-extent.ensures.depth d.value.game p }) in
     let m = c.deref-5.ensures.value ∙ (c.in_ok-makes.ensures d.value.game (c.deref-4.ensures.value ∙ d.hears.process) ∙ ap (λ l. l ++ postorder (filled d.value.game)) c.deref-3.ensures.value) in
     let b = c.in_ok-root.ensures.built (builds limit signs r d n _ m) in
     subst (λ t. size t ≤ 50000) (sym b.game) (few_nodes (filled d.value.game) s)

@@ -20,7 +20,8 @@ returns-in_err-check_size-clause-reads c =
     let noted = c.in_ok-note_declared.ensures ∙ ap (λ us. uses_of us ++ declared_before c.args.decls.now.list) c.new-trail.ensures.uses in
     let d = c.in_ok-read_game.ensures.gives in
     let named = ap (λ us. name_fault (uses_of us)) (sym c.deref.ensures.value) ∙ c.in_ok-check_names.ensures.named in
-    passed_on _ _ _ _ c.from_residual-in_err-check_size.ensures.1 (size_refuses c.args.pool.now.limit (length c.args.pool.now.trees) c.args.decls.now.list c.args.signs.now _ _ noted d named _ (c.in_err-check_size.ensures.large d.game (c.deref-2.ensures.value ∙ only_parts _ _ _ c.new-trail.ensures.makes d.parts)))
+    let parts = only_parts _ _ _ c.new-trail.ensures.makes d.parts in
+    passed_on _ _ _ _ c.from_residual-in_err-check_size.ensures.1 (size_refuses c.args.pool.now.limit (length c.args.pool.now.trees) c.args.decls.now.list c.args.signs.now _ _ noted d named _ (c.in_err-check_size.ensures.large d.game (record { nodes = c.in_ok-extent.ensures.nodes d.game (c.deref-2.ensures.value ∙ parts); depth = c.in_ok-extent.ensures.depth d.game (c.deref-2.ensures.value ∙ parts) })))
 
 pub returns-in_err-root-clause-reads : goal.returns-in_err-root-clause-reads
 returns-in_err-root-clause-reads c =
@@ -28,7 +29,7 @@ returns-in_err-root-clause-reads c =
     let d = c.in_ok-read_game.ensures.gives in
     let named = ap (λ us. name_fault (uses_of us)) (sym c.deref.ensures.value) ∙ c.in_ok-check_names.ensures.named in
     let parts = only_parts _ _ _ c.new-trail.ensures.makes d.parts in
-    let small = c.in_ok-check_size.ensures.small d.game (c.deref-2.ensures.value ∙ parts) in
+    let small = c.in_ok-check_size.ensures.small d.game (record { nodes = c.in_ok-extent.ensures.nodes d.game (c.deref-2.ensures.value ∙ parts); depth = c.in_ok-extent.ensures.depth d.game (c.deref-2.ensures.value ∙ parts) }) in
     passed_on _ _ _ _ c.from_residual-in_err-root.ensures.1 (room_refuses c.args.pool.now.limit (length c.args.pool.now.trees) c.args.decls.now.list c.args.signs.now _ _ noted d named small _ (c.in_err-root.ensures.crowds d.game (c.deref-3.ensures.value ∙ parts)))
 
 pub returns-clause-reads : goal.returns-clause-reads
@@ -37,5 +38,5 @@ returns-clause-reads c =
     let d = c.in_ok-read_game.ensures.gives in
     let named = ap (λ us. name_fault (uses_of us)) (sym c.deref.ensures.value) ∙ c.in_ok-check_names.ensures.named in
     let parts = only_parts _ _ _ c.new-trail.ensures.makes d.parts in
-    let small = c.in_ok-check_size.ensures.small d.game (c.deref-2.ensures.value ∙ parts) in
+    let small = c.in_ok-check_size.ensures.small d.game (record { nodes = c.in_ok-extent.ensures.nodes d.game (c.deref-2.ensures.value ∙ parts); depth = c.in_ok-extent.ensures.depth d.game (c.deref-2.ensures.value ∙ parts) }) in
     game_reads c.args.pool.now.limit (length c.args.pool.now.trees) c.args.decls.now.list c.args.signs.now _ _ noted d named small _ (c.in_ok-root.ensures.room d.game (c.deref-3.ensures.value ∙ parts)) (c.in_ok-root.ensures.tree d.game (c.deref-3.ensures.value ∙ parts))
