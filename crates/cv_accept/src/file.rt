@@ -6,6 +6,7 @@ ghost use Rattle.cv_accept.specs.Works.{Reads};
 use crate::equivalences::has_equivalence;
 use crate::error::FileError;
 use crate::scoping::check_game;
+use cv_directory::Directory;
 use cv_lex::tokens;
 use cv_parse::file;
 use cv_query_form::check as check_queries;
@@ -34,12 +35,13 @@ fn fill(alloc: Global, work: &mut Work, bytes: &[u8]) -> Result<File, FileError>
     if file.script.is_some() {
         return Err(FileError::Unbuilt);
     }
-    let nodes = check_types(alloc, work, &file)?;
-    check_game(alloc, work, file.game, nodes)?;
+    let directory = Directory::of(alloc, &work.pool, &work.decls, file.game.root)?;
+    let (nodes, directory) = check_types(alloc, work, &file, directory)?;
+    let directory = check_game(alloc, work, file.game, nodes, directory)?;
     if has_equivalence(&work.decls) {
         return Err(FileError::Unbuilt);
     }
-    check_queries(alloc, work, file.game)?;
+    check_queries(alloc, work, file.game, &directory)?;
     Ok(file)
 }
 

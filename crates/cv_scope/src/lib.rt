@@ -19,7 +19,7 @@ mod terms;
 mod walk;
 mod worked;
 
-pub use checking::check;
+pub use checking::{check, check_with};
 pub use fault::{Fault, ScopeFault};
 pub use laws::{
     game_faults_are_first, nodes_are_decided, scoped_sites_are_apart, tree_faults_are_first,

@@ -2,7 +2,9 @@ ghost use Rattle.std.specs.Prelude.{◌≡◌, ◌<◌, ◌^◌, ◌||◌, ◌==
 ghost use Rattle.cv_meaning.specs.Interpretation.{is_constant_of};
 ghost use Rattle.cv_pool.specs.Nodes.{ChildBelow};
 ghost use Rattle.cv_syntax.specs.Declarations.{declarations, declared};
-ghost use Rattle.cv_syntax.specs.Tree.{size, tree_at};
+ghost use Rattle.cv_syntax.specs.Tree.{tree_at};
+ghost use Rattle.cv_directory.specs.Sites.{sites_of};
+ghost use Rattle.cv_directory.specs.Tables.{seen};
 ghost use Rattle.cv_typing.specs.Lookups.{IsLive};
 ghost use Rattle.cv_scope.specs.Held.{constant_by, has_constant, is_here, names_held, untyped_held};
 ghost use Rattle.cv_scope.specs.Scope.{is_untyped_here, is_untyped_in, names_of};
@@ -22,6 +24,17 @@ pub struct NameKinds {
 }
 
 impl NameKinds {
+    /// The directory of the game.
+    pub fn into_directory(self) -> Directory
+        ensures { result ≡ self.sites }
+    {
+        let NameKinds {
+            sites,
+            ..
+        } = self;
+        sites
+    }
+
     /// Whether a name is a constant.
     pub fn is_constant(&self, x: u32) -> bool
         ensures { result ≡ (names_held self.now).constant x }
@@ -36,21 +49,25 @@ impl NameKinds {
         self.sites.sort(x).is_some() || self.untyped.contains_key(&x)
     }
 
-    /// The constants of declarations, and the variables of a game.
+    /// The constants of declarations, and the variables of a game with this directory.
     pub fn of(
         alloc: Global,
         pool: &Pool,
         decls: &Decls,
         root: NodeId,
+        sites: Directory,
     ) -> Result<NameKinds, AllocError>
         requires live { root.0 < length pool.now.trees }
         requires declared { All (IsLive (length pool.now.trees)) decls.now.list }
-        requires fits { size (tree_at pool.now.trees (Some root)) < 2 ^ 32 }
-        ensures { IfOk result (λ n. names_held n ≡ names_of (declarations pool.now.trees decls.now.list) (tree_at pool.now.trees (Some root))) }
+        requires sites { seen sites ≡ sites_of (tree_at pool.now.trees (Some root)) }
+        ensures names { IfOk result (λ n. names_held n
+            ≡ names_of (declarations pool.now.trees decls.now.list)
+            (tree_at pool.now.trees (Some root))) }
+        ensures sites { IfOk result (λ n. n.sites ≡ sites) }
     {
         let mut names = NameKinds {
             constants: HashMap::new(alloc),
-            sites: Directory::of(alloc, pool, decls, root)?,
+            sites,
             untyped: HashMap::new(alloc),
         };
         names.note_constants(pool, decls)?;

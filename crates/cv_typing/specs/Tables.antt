@@ -13,6 +13,7 @@ use Rattle.cv_typing.specs.declared.locals.Locals.{Locals}
 use Rattle.cv_typing.specs.declared.locals.Own.{Own}
 use Rattle.cv_typing.specs.Signature as signature
 use Rattle.cv_typing.specs.Signature.{Above}
+use Rattle.cv_directory.specs.declared.directory.Directory.{Directory}
 use Rattle.cv_directory.specs.Tables.{seen}
 use Rattle.cv_directory.specs.Sites.{first_of}
 use Rattle.cv_typing.specs.Parts.{bound_at, local_here, local_in, own_sort, sort_by_bound}
@@ -52,6 +53,12 @@ by_bound_in (f ∷ fs) m x = if f.bound == m then first_of (above_of f.sorts x) 
 
 abbrev pub locals_of : Locals → ByBound
 locals_of l = by_bound_in l.functions.items
+
+-- the directory, where it holds the variables of a game
+abbrev pub directory_in : Arrays → Option Directory
+directory_in (held.OfGame d) = Some d
+directory_in (held.OfSide locals own) = None
+directory_in held.OfNothing = None
 
 abbrev pub arrays_of : Arrays → signature.Arrays
 arrays_of (held.OfGame s) = signature.OfGame (seen s)

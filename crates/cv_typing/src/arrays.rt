@@ -4,7 +4,7 @@ ghost use Rattle.cv_syntax.specs.Tree.{tree_at};
 ghost use Rattle.cv_directory.specs.Sites.{Variable};
 ghost use Rattle.cv_typing.specs.Parts.{in_function};
 ghost use Rattle.cv_typing.specs.Signature.{defined_sort, index_in, variable_in, variable_sort as sort_of_variable};
-ghost use Rattle.cv_typing.specs.Tables.{arrays_of};
+ghost use Rattle.cv_typing.specs.Tables.{arrays_of, directory_in};
 
 use crate::locals::{Locals, own_names};
 use cv_directory::{Directory, Sort};
@@ -24,6 +24,17 @@ pub enum Arrays {
 }
 
 impl Arrays {
+    /// The directory of a game, where these are its variables.
+    pub fn into_directory(self) -> Option<Directory>
+        ensures { result ≡ directory_in self }
+    {
+        match self {
+            Arrays::OfGame(sites) => Some(sites),
+            Arrays::OfSide(_locals, _own) => None,
+            Arrays::OfNothing => None,
+        }
+    }
+
     /// On a side, goes to the body of a function.
     pub fn enter(
         &mut self,

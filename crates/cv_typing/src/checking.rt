@@ -1,6 +1,8 @@
 ghost use Rattle.std.specs.Prelude.{◌≡◌, ◌<◌, ◌+◌, ◌^◌, ◌∷◌, [], All, None, length, IfErr, IfOk, OnOk, Some};
 ghost use Rattle.cv_syntax.specs.Declarations.{declarations};
 ghost use Rattle.cv_syntax.specs.Tree.{size, tree_at};
+ghost use Rattle.cv_directory.specs.Sites.{sites_of};
+ghost use Rattle.cv_directory.specs.Tables.{seen};
 ghost use Rattle.cv_typing.specs.Lookups.{HasLiveArguments, IsLive};
 ghost use Rattle.cv_typing.specs.Parts.{IsTypedFile, IsTypedGame, file_parts, first_in, game_part};
 ghost use Rattle.cv_typing.specs.Refusals.{IsFirstRefusal, IsRefusalOf, parts_size};
@@ -24,30 +26,48 @@ pub fn check_game(alloc: Global, work: &Work, game: Game) -> Result<(), TypeFaul
     ensures typed { OnOk result (IsTypedGame (declarations work.now.pool.trees work.now.decls.list) (tree_at work.now.pool.trees (Some game.root))) }
     ensures fault { IfErr result (IsFirstRefusal (declarations work.now.pool.trees work.now.decls.list) (game_part (tree_at work.now.pool.trees (Some game.root)) ∷ [])) }
 {
-    check_process(alloc, &work.pool, &work.decls, 0, game.root)
+    let directory = Directory::of(alloc, &work.pool, &work.decls, game.root)?;
+    check_process(alloc, &work.pool, &work.decls, 0, game.root, directory)?;
+    Ok(())
 }
 
 /// Whether a file is typed, or its first fault: in its equations, equivalences and queries in order, or in its process.
-/// Of a typed file it gives the number of the process's first node in the preorder of the file.
-pub fn check(alloc: Global, work: &Work, file: &File) -> Result<u32, TypeFault>
+/// Of a typed file it gives the number of the process's first node in the preorder of the file, and its directory back.
+pub fn check(
+    alloc: Global,
+    work: &Work,
+    file: &File,
+    directory: Directory,
+) -> Result<(u32, Directory), TypeFault>
     requires live { file.now.game.root.0 < length work.now.pool.trees }
     requires declared { All (IsLive (length work.now.pool.trees)) work.now.decls.list }
+    requires sites { seen directory
+        ≡ sites_of (tree_at work.now.pool.trees (Some file.now.game.root)) }
     requires fits { parts_size (file_parts (declarations work.now.pool.trees work.now.decls.list) (tree_at work.now.pool.trees (Some file.now.game.root))) < 2 ^ 32 }
-    ensures place { IfOk result (λ place. place + size (tree_at work.now.pool.trees (Some file.now.game.root)) ≡ parts_size (file_parts (declarations work.now.pool.trees work.now.decls.list) (tree_at work.now.pool.trees (Some file.now.game.root)))) }
+    ensures place { IfOk result (λ found. found.0 + size (tree_at work.now.pool.trees (Some file.now.game.root)) ≡ parts_size (file_parts (declarations work.now.pool.trees work.now.decls.list) (tree_at work.now.pool.trees (Some file.now.game.root)))) }
+    ensures directory { IfOk result (λ found. found.1 ≡ directory) }
     ensures none { OnOk result (first_in (declarations work.now.pool.trees work.now.decls.list) 0 (file_parts (declarations work.now.pool.trees work.now.decls.list) (tree_at work.now.pool.trees (Some file.now.game.root))) ≡ None) }
     ensures found { IfErr result (IsRefusalOf (first_in (declarations work.now.pool.trees work.now.decls.list) 0 (file_parts (declarations work.now.pool.trees work.now.decls.list) (tree_at work.now.pool.trees (Some file.now.game.root))))) }
     ensures typed { OnOk result (IsTypedFile (declarations work.now.pool.trees work.now.decls.list) (tree_at work.now.pool.trees (Some file.now.game.root))) }
     ensures fault { IfErr result (IsFirstRefusal (declarations work.now.pool.trees work.now.decls.list) (file_parts (declarations work.now.pool.trees work.now.decls.list) (tree_at work.now.pool.trees (Some file.now.game.root)))) }
 {
-    check_parts(alloc, &work.pool, &work.decls, file.game.root)
+    check_parts(alloc, &work.pool, &work.decls, file.game.root, directory)
 }
 
 /// The place of a process behind declarations, where all are typed, or their first fault.
-fn check_parts(alloc: Global, pool: &Pool, decls: &Decls, root: NodeId) -> Result<u32, TypeFault>
+fn check_parts(
+    alloc: Global,
+    pool: &Pool,
+    decls: &Decls,
+    root: NodeId,
+    directory: Directory,
+) -> Result<(u32, Directory), TypeFault>
     requires live { root.0 < length pool.now.trees }
     requires declared { All (IsLive (length pool.now.trees)) decls.now.list }
+    requires sites { seen directory ≡ sites_of (tree_at pool.now.trees (Some root)) }
     requires fits { parts_size (file_parts (declarations pool.now.trees decls.now.list) (tree_at pool.now.trees (Some root))) < 2 ^ 32 }
-    ensures place { IfOk result (λ place. place + size (tree_at pool.now.trees (Some root)) ≡ parts_size (file_parts (declarations pool.now.trees decls.now.list) (tree_at pool.now.trees (Some root)))) }
+    ensures place { IfOk result (λ found. found.0 + size (tree_at pool.now.trees (Some root)) ≡ parts_size (file_parts (declarations pool.now.trees decls.now.list) (tree_at pool.now.trees (Some root)))) }
+    ensures directory { IfOk result (λ found. found.1 ≡ directory) }
     ensures typed { OnOk result (first_in (declarations pool.now.trees decls.now.list) 0 (file_parts (declarations pool.now.trees decls.now.list) (tree_at pool.now.trees (Some root))) ≡ None) }
     ensures fault { IfErr result (IsRefusalOf (first_in (declarations pool.now.trees decls.now.list) 0 (file_parts (declarations pool.now.trees decls.now.list) (tree_at pool.now.trees (Some root))))) }
 {
@@ -58,25 +78,28 @@ fn check_parts(alloc: Global, pool: &Pool, decls: &Decls, root: NodeId) -> Resul
         };
         place = check_declaration(alloc, pool, decls, place, *decl)?;
     }
-    check_process(alloc, pool, decls, place, root)?;
-    Ok(place)
+    let directory = check_process(alloc, pool, decls, place, root, directory)?;
+    Ok((place, directory))
 }
 
-/// Whether a process that stands at a place is typed, or its first fault.
+/// Whether a process that stands at a place is typed, or its first fault. It gives the directory of the process back.
 fn check_process(
     alloc: Global,
     pool: &Pool,
     decls: &Decls,
     from: u32,
     root: NodeId,
-) -> Result<(), TypeFault>
+    directory: Directory,
+) -> Result<Directory, TypeFault>
     requires live { root.0 < length pool.now.trees }
     requires arguments { HasLiveArguments (length pool.now.trees) decls.now.list }
+    requires sites { seen directory ≡ sites_of (tree_at pool.now.trees (Some root)) }
     requires fits { from + size (tree_at pool.now.trees (Some root)) < 2 ^ 32 }
+    ensures directory { IfOk result (λ d. d ≡ directory) }
     ensures typed { OnOk result (first_in (declarations pool.now.trees decls.now.list) from (game_part (tree_at pool.now.trees (Some root)) ∷ []) ≡ None) }
     ensures fault { IfErr result (IsRefusalOf (first_in (declarations pool.now.trees decls.now.list) from (game_part (tree_at pool.now.trees (Some root)) ∷ []))) }
 {
-    let arrays = Arrays::OfGame(Directory::of(alloc, pool, decls, root)?);
+    let arrays = Arrays::OfGame(directory);
     let mut above = HashMap::new(alloc);
     walk(
         alloc,
@@ -88,5 +111,8 @@ fn check_process(
         from,
         Some(root),
     )?;
-    Ok(())
+    match arrays.into_directory() {
+        Some(directory) => Ok(directory),
+        None => unreachable!(),
+    }
 }

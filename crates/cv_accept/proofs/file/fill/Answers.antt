@@ -33,16 +33,16 @@ check_game-requires-clause-fits c =
     let few = few_terms c.args.work.now.pool.limit _ _ c.requires.limit c.in_ok-file.ensures.parses in
     omega (arith, few, c.in_ok-nodes.ensures.place)
 
-pub returns-in_err-check_game-clause-reads : goal.returns-in_err-check_game-clause-reads
-returns-in_err-check_game-clause-reads c =
+pub returns-in_err-directory-2-clause-reads : goal.returns-in_err-directory-2-clause-reads
+returns-in_err-directory-2-clause-reads c =
     let trees = c.file.new.work.pool.trees in
     let list = c.file.new.work.decls.list in
     let p = held_in trees list c.in_ok-file.file in
     let read = read_of c.args.work.now.pool.limit c.args.bytes.now in
     let typed = by_types c.args.work.now.pool.limit c.args.bytes.now _ p c.in_ok-tokens.ensures.ok c.in_ok-file.ensures.parses (sym c.is_some.ensures ∙ c.if-is_some.false) c.in_ok-nodes.ensures.none in
     let begins = process_begins p.declarations p.game c.in_ok-nodes.nodes c.in_ok-nodes.ensures.place in
-    let found = subst (λ n. IsRefusalOf (behind n (first_scope_fault p.declarations p.game)) c.in_err-check_game.field-0.0) begins c.in_err-check_game.ensures.found in
-    reads_on c.args.work.now.pool.limit c.args.bytes.now _ _ _ _ _ c.from_residual-in_err-check_game.ensures.1 (scope_refuses read _ p _ typed found)
+    let found = subst (λ n. IsRefusalOf (behind n (first_scope_fault p.declarations p.game)) c.in_err-directory-2.field-0.0) begins c.in_err-directory-2.ensures.found in
+    reads_on c.args.work.now.pool.limit c.args.bytes.now _ _ _ _ _ c.from_residual-in_err-directory-2.ensures.1 (scope_refuses read _ p _ typed found)
 
 pub returns-then-has_equivalence-clause-reads : goal.returns-then-has_equivalence-clause-reads
 returns-then-has_equivalence-clause-reads c =
@@ -51,7 +51,7 @@ returns-then-has_equivalence-clause-reads c =
     let p = held_in trees list c.in_ok-file.file in
     let read = read_of c.args.work.now.pool.limit c.args.bytes.now in
     let typed = by_types c.args.work.now.pool.limit c.args.bytes.now _ p c.in_ok-tokens.ensures.ok c.in_ok-file.ensures.parses (sym c.is_some.ensures ∙ c.if-is_some.false) c.in_ok-nodes.ensures.none in
-    let scoped = by_scope read _ p typed (none_behind _ (first_scope_fault p.declarations p.game) c.in_ok-check_game.ensures.none) in
+    let scoped = by_scope read _ p typed (none_behind _ (first_scope_fault p.declarations p.game) c.in_ok-directory-2.ensures.none) in
     equivalence_refuses read _ p scoped (sym (c.has_equivalence.ensures ∙ equivalence_same trees list) ∙ c.if-has_equivalence.true)
 
 pub returns-in_err-check-clause-reads : goal.returns-in_err-check-clause-reads
@@ -61,7 +61,7 @@ returns-in_err-check-clause-reads c =
     let p = held_in trees list c.in_ok-file.file in
     let read = read_of c.args.work.now.pool.limit c.args.bytes.now in
     let typed = by_types c.args.work.now.pool.limit c.args.bytes.now _ p c.in_ok-tokens.ensures.ok c.in_ok-file.ensures.parses (sym c.is_some.ensures ∙ c.if-is_some.false) c.in_ok-nodes.ensures.none in
-    let scoped = by_scope read _ p typed (none_behind _ (first_scope_fault p.declarations p.game) c.in_ok-check_game.ensures.none) in
+    let scoped = by_scope read _ p typed (none_behind _ (first_scope_fault p.declarations p.game) c.in_ok-directory-2.ensures.none) in
     let plain = by_equivalences read _ p scoped (sym (c.has_equivalence.ensures ∙ equivalence_same trees list) ∙ c.if-has_equivalence.false) in
     reads_on c.args.work.now.pool.limit c.args.bytes.now _ _ _ _ _ c.from_residual-in_err-check.ensures.1 (query_refuses read _ p _ plain c.in_err-check.ensures.found)
 
@@ -72,6 +72,6 @@ returns-clause-reads c =
     let p = held_in trees list c.in_ok-file.file in
     let read = read_of c.args.work.now.pool.limit c.args.bytes.now in
     let typed = by_types c.args.work.now.pool.limit c.args.bytes.now _ p c.in_ok-tokens.ensures.ok c.in_ok-file.ensures.parses (sym c.is_some.ensures ∙ c.if-is_some.false) c.in_ok-nodes.ensures.none in
-    let scoped = by_scope read _ p typed (none_behind _ (first_scope_fault p.declarations p.game) c.in_ok-check_game.ensures.none) in
+    let scoped = by_scope read _ p typed (none_behind _ (first_scope_fault p.declarations p.game) c.in_ok-directory-2.ensures.none) in
     let plain = by_equivalences read _ p scoped (sym (c.has_equivalence.ensures ∙ equivalence_same trees list) ∙ c.if-has_equivalence.false) in
     all_reads read _ _ _ _ c.in_ok-file.file plain c.in_ok-check.ensures.none (sym c.in_ok-file.ensures.names)

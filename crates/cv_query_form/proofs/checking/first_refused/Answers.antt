@@ -26,7 +26,7 @@ returns-then-not-branch c =
     let list = c.args.work.now.decls.list in
     let game = tree_at trees (Some c.args.game.root) in
     let query = tree_at trees (Some c.in-Some.query) in
-    refused-here game query (queries_in (declarations trees (drop (c.decls.k + 1) list))) (queries_in (declarations trees (drop c.decls.k list))) c.decls.number (first_refused game (queries_in (declarations trees list))) (queries-take trees list c.decls.k c.in-Some.query (sym c.query_at.ensures ∙ c.in-Some.is)) (asked-same (seen c.in_ok-sites.sites) game query c.in_ok-may_be_asked.field-0 _ c.in_ok-sites.ensures.sites c.in_ok-may_be_asked.ensures c.if-not-branch.true) c.decls.invariant.same
+    refused-here game query (queries_in (declarations trees (drop (c.decls.k + 1) list))) (queries_in (declarations trees (drop c.decls.k list))) c.decls.number (first_refused game (queries_in (declarations trees list))) (queries-take trees list c.decls.k c.in-Some.query (sym c.query_at.ensures ∙ c.in-Some.is)) (asked-same (seen c.args.directory.now) game query c.in_ok-may_be_asked.field-0 _ c.requires.sites c.in_ok-may_be_asked.ensures c.if-not-branch.true) c.decls.invariant.same
 
 pub decls-preserved : goal.decls-preserved
 decls-preserved c =
@@ -36,7 +36,7 @@ decls-preserved c =
     let query = tree_at trees (Some c.in-Some.query) in
     record {
       few = omega arith;
-      same = refused-later game query (queries_in (declarations trees (drop (c.decls.k + 1) list))) (queries_in (declarations trees (drop c.decls.k list))) c.decls.number (first_refused game (queries_in (declarations trees list))) (queries-take trees list c.decls.k c.in-Some.query (sym c.query_at.ensures ∙ c.in-Some.is)) (asked-same (seen c.in_ok-sites.sites) game query c.in_ok-may_be_asked.field-0 _ c.in_ok-sites.ensures.sites c.in_ok-may_be_asked.ensures c.if-not-branch.false) c.decls.invariant.same;
+      same = refused-later game query (queries_in (declarations trees (drop (c.decls.k + 1) list))) (queries_in (declarations trees (drop c.decls.k list))) c.decls.number (first_refused game (queries_in (declarations trees list))) (queries-take trees list c.decls.k c.in-Some.query (sym c.query_at.ensures ∙ c.in-Some.is)) (asked-same (seen c.args.directory.now) game query c.in_ok-may_be_asked.field-0 _ c.requires.sites c.in_ok-may_be_asked.ensures c.if-not-branch.false) c.decls.invariant.same;
     }
 
 pub returns : goal.returns

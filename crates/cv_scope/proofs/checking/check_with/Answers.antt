@@ -5,7 +5,7 @@ use Rattle.cv_syntax.specs.Tree.{tree_at}
 use Rattle.cv_scope.specs.Held.{names_held, state_held}
 use Rattle.cv_scope.specs.Ordered.{EndBy}
 use Rattle.cv_scope.proofs.Agreeing.{game-refusal, no-game-fault, refused-game, scoped-game}
-use Rattle.cv_scope.proofs.checking.check.Goals as goal
+use Rattle.cv_scope.proofs.checking.check_with.Goals as goal
 
 pub walk-requires-clause-binders : goal.walk-requires-clause-binders
 walk-requires-clause-binders c = c.new-state.ensures.live (length c.args.work.now.pool.trees)
@@ -17,20 +17,20 @@ pub returns-in_err-walk-clause-fault : goal.returns-in_err-walk-clause-fault
 returns-in_err-walk-clause-fault c =
     let trees = c.args.work.now.pool.trees in
     let p = err_from_is_err_and c.from_residual-in_err-walk.result c.from_residual-in_err-walk.ensures.1 in
-    rw (p.1, p.2) (refused-game (declarations trees c.args.work.now.decls.list) (tree_at trees (Some c.args.game.root)) (names_held c.in_ok-names.names) (state_held trees c.new-state.result) c.in_err-walk.field-0.0 c.in_ok-names.ensures (c.new-state.ensures.held trees) c.in_err-walk.ensures.fault)
+    rw (p.1, p.2) (refused-game (declarations trees c.args.work.now.decls.list) (tree_at trees (Some c.args.game.root)) (names_held c.in_ok-names.names) (state_held trees c.new-state.result) c.in_err-walk.field-0.0 c.in_ok-names.ensures.names (c.new-state.ensures.held trees) c.in_err-walk.ensures.fault)
 
 pub returns-clause-scoped : goal.returns-clause-scoped
 returns-clause-scoped c =
     let trees = c.args.work.now.pool.trees in
-    scoped-game (declarations trees c.args.work.now.decls.list) (tree_at trees (Some c.args.game.root)) (names_held c.in_ok-names.names) (state_held trees c.new-state.result) c.in_ok-names.ensures (c.new-state.ensures.held trees) c.in_ok-walk.ensures.scoped
+    scoped-game (declarations trees c.args.work.now.decls.list) (tree_at trees (Some c.args.game.root)) (names_held c.in_ok-names.names) (state_held trees c.new-state.result) c.in_ok-names.ensures.names (c.new-state.ensures.held trees) c.in_ok-walk.ensures.scoped
 
 pub returns-in_err-walk-clause-found : goal.returns-in_err-walk-clause-found
 returns-in_err-walk-clause-found c =
     let trees = c.args.work.now.pool.trees in
     let p = err_from_is_err_and c.from_residual-in_err-walk.result c.from_residual-in_err-walk.ensures.1 in
-    rw (p.1, p.2) (game-refusal (declarations trees c.args.work.now.decls.list) (tree_at trees (Some c.args.game.root)) (names_held c.in_ok-names.names) (state_held trees c.new-state.result) c.in_err-walk.field-0.0 c.in_ok-names.ensures (c.new-state.ensures.held trees) c.in_err-walk.ensures.fault)
+    rw (p.1, p.2) (game-refusal (declarations trees c.args.work.now.decls.list) (tree_at trees (Some c.args.game.root)) (names_held c.in_ok-names.names) (state_held trees c.new-state.result) c.in_err-walk.field-0.0 c.in_ok-names.ensures.names (c.new-state.ensures.held trees) c.in_err-walk.ensures.fault)
 
 pub returns-clause-none : goal.returns-clause-none
 returns-clause-none c =
     let trees = c.args.work.now.pool.trees in
-    no-game-fault (declarations trees c.args.work.now.decls.list) (tree_at trees (Some c.args.game.root)) (names_held c.in_ok-names.names) (state_held trees c.new-state.result) c.in_ok-names.ensures (c.new-state.ensures.held trees) c.in_ok-walk.ensures.scoped
+    no-game-fault (declarations trees c.args.work.now.decls.list) (tree_at trees (Some c.args.game.root)) (names_held c.in_ok-names.names) (state_held trees c.new-state.result) c.in_ok-names.ensures.names (c.new-state.ensures.held trees) c.in_ok-walk.ensures.scoped
