@@ -4,6 +4,7 @@ use Rattle.std.specs.List.{AllByRecursion}
 use Rattle.cv_syntax.specs.declared.head.Head.{Head}
 use Rattle.cv_syntax.specs.declared.head.Head.TheVariants.{Repl, In, Event, New, Let, If, Find, Branch, Cons, Not, Eq, Key, Call}
 use Rattle.cv_syntax.specs.Head.{weight}
+use Rattle.cv_syntax.specs.Layouts.{IsSyntax}
 use Rattle.cv_syntax.specs.Tree.{Tree, Empty, Node, first, second, size}
 use Rattle.cv_meaning.specs.Interpretation.{Setting}
 use Rattle.cv_meaning.specs.Binders.{bound_to}
@@ -11,17 +12,19 @@ use Rattle.cv_meaning.specs.Memory.{Memory, Indices, Local, Store, tuple}
 use Rattle.cv_meaning.specs.Terms.{value}
 use Rattle.cv_meaning.specs.Candidates.{is_assigned}
 use Rattle.cv_meaning.specs.Serving.{Visit}
+use Rattle.cv_meaning_runs.specs.Placed.{VisitHas}
 use Rattle.cv_scope.specs.declared.position.Position.{Position}
 use Rattle.cv_scope.specs.declared.position.Position.TheVariants.{Anywhere, Bodies, ElseBody, Guards, Guarded, Cells}
 use Rattle.cv_scope.specs.Context.{Context, cell_of, cells_of, context_at, first_context, first_position, items, known_at, nothing_known, second_context, second_position, with_cells, with_fact}
-use Rattle.cv_scope_runs.specs.Promises.{GrowsTo, BranchHolds, BranchesHold, CandidatesHold, ContextHolds, FindHolds, PlaceHolds}
+use Rattle.cv_scope_runs.specs.Promises.{AreIndicesOf, GrowsTo, BranchHolds, BranchesHold, CandidatesHold, ContextHolds, FindHolds, PlaceHolds}
 use Rattle.cv_path.specs.declared.place.Lies.{Lies}
 use Rattle.cv_path.specs.declared.place.Lies.TheVariants.{Here, Within, Behind}
 use Rattle.cv_path.specs.Places.{LiesAt}
 use Rattle.cv_path.proofs.Bounds.{lies-somewhere}
 use Rattle.cv_path.proofs.Going.{choice-here, choice-within, choice-behind, less-within, less-behind}
 use Rattle.cv_facts.specs.Standing.{with_held, with_failed, first_standing, second_standing, standing_at, stands_at}
-use Rattle.cv_facts.specs.Promises.{BranchStands, BranchesStand, CandidatesStand, FindStands, StandsIn, PlaceStands}
+use Rattle.cv_facts.specs.Promises.{BranchStands, BranchesStand, CandidatesStand, FindPlaces, FindStands, OwnTermsStand, StandsIn, PlaceStands}
+use Rattle.cv_facts.proofs.Placing.{StandsSomewhere, somewhere-places}
 use Rattle.cv_facts.proofs.Standings.{standing-here, standing-within, standing-behind}
 
 module _ {A : Type 0} (P : A → Type 0) where
@@ -38,21 +41,25 @@ module _ {A : Type 0} (P : A → Type 0) where
   both (x ∷ xs) ys a b = (a.0, both xs ys a.1 b)
 
 module _ (w : Position) (Γ : Context) (h : Head) (a b : Tree) (p q : ℕ) where
-  known-here : LiesAt h a p Here → context_at w Γ (Node h a b) p ≡ Some Γ
+  pub known-here : LiesAt h a p Here → context_at w Γ (Node h a b) p ≡ Some Γ
   unfolding context_at
   known-here l = choice-here h a p (Some Γ) (context_at (first_position w h) (first_context w h Γ) a (p - weight h)) (context_at (second_position w h) (second_context w h a Γ) b (p - (weight h + size a))) l
 
-  known-within : LiesAt h a p (Within q) → context_at w Γ (Node h a b) p ≡ context_at (first_position w h) (first_context w h Γ) a q
+  pub known-within : LiesAt h a p (Within q) → context_at w Γ (Node h a b) p ≡ context_at (first_position w h) (first_context w h Γ) a q
   unfolding context_at
   known-within l =
       choice-within h a p (Some Γ) (context_at (first_position w h) (first_context w h Γ) a (p - weight h)) (context_at (second_position w h) (second_context w h a Γ) b (p - (weight h + size a))) q l
       ∙ ap (context_at (first_position w h) (first_context w h Γ) a) (less-within h a p q l)
 
-  known-behind : LiesAt h a p (Behind q) → context_at w Γ (Node h a b) p ≡ context_at (second_position w h) (second_context w h a Γ) b q
+  pub known-behind : LiesAt h a p (Behind q) → context_at w Γ (Node h a b) p ≡ context_at (second_position w h) (second_context w h a Γ) b q
   unfolding context_at
   known-behind l =
       choice-behind h a p (Some Γ) (context_at (first_position w h) (first_context w h Γ) a (p - weight h)) (context_at (second_position w h) (second_context w h a Γ) b (p - (weight h + size a))) q l
       ∙ ap (context_at (second_position w h) (second_context w h a Γ) b) (less-behind h a p q l)
+
+pub known-empty : (w : Position) (Γ : Context) (p : ℕ) → context_at w Γ Empty p ≡ None
+unfolding context_at
+known-empty w Γ p = refl
 
 module _ (P Q : Tree → Type 0) where
   -- what is true of what is known is true of what stands above
@@ -148,35 +155,36 @@ module _ (P Q : Tree → Type 0) where
       go f g (Within q, l) = λ Θ e. let r = f q Θ (sym (known-within w Γ h a b p q l) ∙ e) in (r.0, standing-within w Δ (Node h a b) h a b p q refl l ∙ r.1, r.2)
       go f g (Behind q, l) = λ Θ e. let r = g q Θ (sym (known-behind w Γ h a b p q l) ∙ e) in (r.0, standing-behind w Δ (Node h a b) h a b p q refl l ∙ r.1, r.2)
 
+pub stands-in : (g : Setting) (Γ Δ : Context) (at : Indices) (y : Memory) → Covers (λ f. value g at y.store f ≡ 1) (λ c. is_assigned g at y.store y.store c ≡ true) Γ Δ → ContextHolds g Γ at y → StandsIn g Δ at y
+stands-in g Γ Δ at y c h = record { indices = subst (AreIndicesOf g at) (sym c.replications) h.indices; cells = c.cells h.cells; facts = c.facts h.facts }
+
 -- what is known at a visited place holds, so what stands above it does
-place-stands : (g : Setting) (game : Tree) (v : Visit) → PlaceHolds g game v → PlaceStands g game v
-place-stands g game v holds = λ s. stands (holds s)
+place-stands : (g : Setting) (game : Tree) (v : Visit) → VisitHas (StandsSomewhere game) v → PlaceHolds g game v → PlaceStands g game v
+place-stands g game v somewhere holds = λ s. stands s (holds s)
   where
     at : Indices
     at = v.before.indices
 
-    stands : (Γ : Context) × (known_at game v.place ≡ Some Γ) × ((y : Memory) → GrowsTo v.before.memory y → ContextHolds g Γ at y) → (Δ : Context) × (stands_at game v.place ≡ Some Δ) × ((y : Memory) → GrowsTo v.before.memory y → StandsIn g Δ at y)
-    stands k =
+    stands : IsSyntax v.tree → (Γ : Context) × (known_at game v.place ≡ Some Γ) × ((y : Memory) → GrowsTo v.before.memory y → ContextHolds g Γ at y)
+        → (Δ : Context) × (stands_at game v.place ≡ Some Δ) × OwnTermsStand game Δ v.place v.tree × ((y : Memory) → GrowsTo v.before.memory y → StandsIn g Δ at y)
+    stands s k =
         let first = covers-at (λ f. Unit {0}) (λ c. Unit {0}) Anywhere nothing_known nothing_known game v.place (same-covers (λ f. Unit {0}) (λ c. Unit {0}) nothing_known) k.0 k.1 in (
           first.0,
           first.1,
+          (somewhere-places game v.place v.tree first.0 s somewhere first.1).0,
           λ y grown.
               let P = λ (f : Tree). value g at y.store f ≡ 1 in
               let Q = λ (c : Tree). is_assigned g at y.store y.store c ≡ true in
               let r = covers-at P Q Anywhere nothing_known nothing_known game v.place (same-covers P Q nothing_known) k.0 k.1 in
               let same : r.0 ≡ first.0 = let z = sym r.1 ∙ first.1 in cc in
-              let h = k.2 y grown in
-              subst (λ (Δ : Context). StandsIn g Δ at y) same (record { cells = r.2.cells h.cells; facts = r.2.facts h.facts }),
+              subst (λ (Δ : Context). StandsIn g Δ at y) same (stands-in g k.0 r.0 at y r.2 (k.2 y grown)),
         )
 
-pub places-stand : (g : Setting) (game : Tree) (vs : List Visit) → AllByRecursion (PlaceHolds g game) vs → AllByRecursion (PlaceStands g game) vs
-places-stand g game [] a = tt
-places-stand g game (v ∷ vs) a = (place-stands g game v a.0, places-stand g game vs a.1)
+pub places-stand : (g : Setting) (game : Tree) (vs : List Visit) → AllByRecursion (VisitHas (StandsSomewhere game)) vs → AllByRecursion (PlaceHolds g game) vs → AllByRecursion (PlaceStands g game) vs
+places-stand g game [] s a = tt
+places-stand g game (v ∷ vs) s a = (place-stands g game v s.0 a.0, places-stand g game vs s.1 a.1)
 
 -- what is known in the branches of a visited `find` holds, so what stands there does
-
-pub stands-in : (g : Setting) (Γ Δ : Context) (at : Indices) (y : Memory) → Covers (λ f. value g at y.store f ≡ 1) (λ c. is_assigned g at y.store y.store c ≡ true) Γ Δ → ContextHolds g Γ at y → StandsIn g Δ at y
-stands-in g Γ Δ at y c h = record { cells = c.cells h.cells; facts = c.facts h.facts }
 
 module _ (g : Setting) (game : Tree) (p : ℕ) (Γ Δ : Context) (known : known_at game p ≡ Some Γ) (stands : stands_at game p ≡ Some Δ) where
   covered : (P Q : Tree → Type 0) → Covers P Q Γ Δ
@@ -211,14 +219,15 @@ module _ (g : Setting) (game : Tree) (p : ℕ) (Γ Δ : Context) (known : known_
   find-stands s (Node (Find l) a b) h = branches-stand s.indices s.memory a h
   find-stands s (Node k a b) h = tt
 
-candidates-stand : (g : Setting) (game : Tree) (v : Visit) → PlaceHolds g game v → CandidatesHold g game v → CandidatesStand g game v
-candidates-stand g game v place holds = λ s. stands (place s)
+candidates-stand : (g : Setting) (game : Tree) (v : Visit) → VisitHas (StandsSomewhere game) v → PlaceHolds g game v → CandidatesHold g game v → CandidatesStand g game v
+candidates-stand g game v somewhere place holds = λ s. stands s (place s)
   where
-    stands : (Γ : Context) × (known_at game v.place ≡ Some Γ) × ((y : Memory) → GrowsTo v.before.memory y → ContextHolds g Γ v.before.indices y) → (Δ : Context) × (stands_at game v.place ≡ Some Δ) × FindStands g Δ v.before v.tree
-    stands k =
+    stands : IsSyntax v.tree → (Γ : Context) × (known_at game v.place ≡ Some Γ) × ((y : Memory) → GrowsTo v.before.memory y → ContextHolds g Γ v.before.indices y)
+        → (Δ : Context) × (stands_at game v.place ≡ Some Δ) × FindPlaces game Δ v.place v.tree × FindStands g Δ v.before v.tree
+    stands s k =
         let first = covers-at (λ f. Unit {0}) (λ c. Unit {0}) Anywhere nothing_known nothing_known game v.place (same-covers (λ f. Unit {0}) (λ c. Unit {0}) nothing_known) k.0 k.1 in
-        (first.0, first.1, find-stands g game v.place k.0 first.0 k.1 first.1 v.before v.tree (holds k.0 k.1))
+        (first.0, first.1, (somewhere-places game v.place v.tree first.0 s somewhere first.1).1, find-stands g game v.place k.0 first.0 k.1 first.1 v.before v.tree (holds k.0 k.1))
 
-pub all-candidates-stand : (g : Setting) (game : Tree) (vs : List Visit) → AllByRecursion (PlaceHolds g game) vs → AllByRecursion (CandidatesHold g game) vs → AllByRecursion (CandidatesStand g game) vs
-all-candidates-stand g game [] a b = tt
-all-candidates-stand g game (v ∷ vs) a b = (candidates-stand g game v a.0 b.0, all-candidates-stand g game vs a.1 b.1)
+pub all-candidates-stand : (g : Setting) (game : Tree) (vs : List Visit) → AllByRecursion (VisitHas (StandsSomewhere game)) vs → AllByRecursion (PlaceHolds g game) vs → AllByRecursion (CandidatesHold g game) vs → AllByRecursion (CandidatesStand g game) vs
+all-candidates-stand g game [] s a b = tt
+all-candidates-stand g game (v ∷ vs) s a b = (candidates-stand g game v s.0 a.0 b.0, all-candidates-stand g game vs s.1 a.1 b.1)

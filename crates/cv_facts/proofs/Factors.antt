@@ -1,14 +1,13 @@
 -- A place of a well-formed game or context has at most 16 factors: at most eight replications stand above it, and where it lies
 -- in a branch's list or condition, the branch has at most eight indices.
-use Rattle.std.proofs.Common.{◌≡◌, ℕ, ◌+◌, ◌-◌, ◌<◌, ◌≤◌, Bool, true, false, cond, List, [], ◌∷◌, ◌++◌, length, Option, Some, None, refl, sym, ap, subst, ◌∙◌, arith, nat_lt, le-ltb, ltb-true, length-append}
+use Rattle.std.proofs.Common.{◌≡◌, ℕ, ◌+◌, ◌<◌, ◌≤◌, Bool, true, false, cond, List, [], ◌∷◌, ◌++◌, length, Option, Some, None, refl, sym, ap, subst, ◌∙◌, arith, nat_lt, le-ltb, ltb-true, length-append}
 use Rattle.std.specs.Prelude.{option_map, option_and_then}
 use Rattle.std.proofs.lemmas.Bool.{both_ways, and_parts}
 use Rattle.cv_first_fault.specs.Walk.{IsObeyed}
 use Rattle.cv_syntax.specs.declared.head.Head.{Head}
-use Rattle.cv_syntax.specs.declared.head.Head.TheVariants.{Repl, Branch, Leaf, Read, Apply, Eq, And, Or, Not, Yes, No, Cons, Binder, Name}
-use Rattle.cv_syntax.specs.Head.{weight}
+use Rattle.cv_syntax.specs.declared.head.Head.TheVariants.{Repl, Branch, Cons, Binder}
 use Rattle.cv_syntax.specs.Declarations.{Declaration}
-use Rattle.cv_syntax.specs.Tree.{Tree, Empty, Node, first, second, size}
+use Rattle.cv_syntax.specs.Tree.{Tree, Empty, Node, size}
 use Rattle.cv_typing.specs.Signature.{count}
 use Rattle.cv_scope.specs.declared.fault.Fault.TheVariants as fault
 use Rattle.cv_scope.specs.Context.{replications_below}
@@ -16,7 +15,7 @@ use Rattle.cv_scope.specs.Rules.{Names, IsFewIndices, Obeys}
 use Rattle.cv_scope.specs.Scope.{IsScopedAt, names_of}
 use Rattle.cv_scope.specs.Standing.{Standing, at_root, first_standing, second_standing}
 use Rattle.cv_scope.proofs.Apart.{first-replications, second-replications}
-use Rattle.cv_scope_runs.specs.Phrases.{Phrase, Nil, Inputs, Body, Then, Else, Branches, Arm, Guards, Guarded, Pattern, Message, Indices, Binders, Cells, OneCell, Terms, Term, oracle_parts, is_oracle_phrase, IsWellFormedContext}
+use Rattle.cv_scope_runs.specs.Phrases.{Phrase, Inputs, Guards, Cells, Term, oracle_parts, is_oracle_phrase, IsWellFormedContext}
 use Rattle.cv_scope_runs.proofs.Rows.{walks}
 use Rattle.cv_scope_runs.proofs.Games.{has_parts, phrase_parts}
 use Rattle.cv_path.specs.declared.place.Lies.{Lies}
@@ -24,80 +23,29 @@ use Rattle.cv_path.specs.declared.place.Lies.TheVariants.{Here, Within, Behind}
 use Rattle.cv_path.specs.Places.{LiesAt}
 use Rattle.cv_path.specs.Copies.{added, copies_at, few_copies_at, guards, if_few, most_factors, parameters}
 use Rattle.cv_path.proofs.Bounds.{lies-somewhere}
+use Rattle.cv_facts.proofs.Flat.{None-Some, Some-injective, arm-parts, flat-parts}
 use Rattle.cv_path.proofs.Products.{copies-empty, copies-here, copies-within, copies-behind}
 
-some_is : {A : Type 0} (a b : A) → ◌≡◌ {A = Option A} (Some a) (Some b) → a ≡ b
-some_is a b e = cc
-
-none_is : {A : Type 0} (a : A) → ◌≡◌ {A = Option A} None (Some a) → ⊥
-none_is a e = cc
-
 mapped : (f : List ℕ → List ℕ) (o : Option (List ℕ)) (ns : List ℕ) → option_map f o ≡ Some ns → (ms : List ℕ) × (o ≡ Some ms) × (ns ≡ f ms)
-mapped f None ns e = absurd (none_is ns e)
-mapped f (Some ms) ns e = (ms, refl, sym (some_is (f ms) ns e))
-
--- terms, cells and lists hold no replication and no branch
-
-abbrev IsFlat : Phrase → Head → Option (Phrase × Phrase) → Type 0
-IsFlat σ h None = Unit {0}
-IsFlat σ h (Some q) = walks σ ≡ false → (walks q.0 ≡ false) × (walks q.1 ≡ false) × ((a b : Tree) (p : ℕ) → added h a b p ≡ [])
-
-walked : (σ : Phrase) (h : Head) (o : Option (Phrase × Phrase)) → walks σ ≡ true → IsFlat σ h o
-walked σ h None w = tt
-walked σ h (Some q) w = λ f. absurd (both_ways (walks σ) f w)
-
-all_flat : (σ : Phrase) (h : Head) → IsFlat σ h (oracle_parts σ h)
-all_flat Inputs h = walked Inputs h (oracle_parts Inputs h) refl
-all_flat Body h = walked Body h (oracle_parts Body h) refl
-all_flat Then h = walked Then h (oracle_parts Then h) refl
-all_flat Else h = walked Else h (oracle_parts Else h) refl
-all_flat Branches h = walked Branches h (oracle_parts Branches h) refl
-all_flat Arm h = walked Arm h (oracle_parts Arm h) refl
-all_flat Guards h = walked Guards h (oracle_parts Guards h) refl
-all_flat Guarded h = walked Guarded h (oracle_parts Guarded h) refl
-all_flat Pattern Cons = λ w. (refl, refl, λ a b p. refl)
-all_flat Message Cons = λ w. (refl, refl, λ a b p. refl)
-all_flat Indices (Name i) = λ w. (refl, refl, λ a b p. refl)
-all_flat Binders (Binder x T) = λ w. (refl, refl, λ a b p. refl)
-all_flat Cells Cons = λ w. (refl, refl, λ a b p. refl)
-all_flat OneCell (Leaf x) = λ w. (refl, refl, λ a b p. refl)
-all_flat OneCell (Read x) = λ w. (refl, refl, λ a b p. refl)
-all_flat Terms Cons = λ w. (refl, refl, λ a b p. refl)
-all_flat Term (Leaf x) = λ w. (refl, refl, λ a b p. refl)
-all_flat Term (Read x) = λ w. (refl, refl, λ a b p. refl)
-all_flat Term (Apply f) = λ w. (refl, refl, λ a b p. refl)
-all_flat Term Eq = λ w. (refl, refl, λ a b p. refl)
-all_flat Term And = λ w. (refl, refl, λ a b p. refl)
-all_flat Term Or = λ w. (refl, refl, λ a b p. refl)
-all_flat Term Not = λ w. (refl, refl, λ a b p. refl)
-all_flat Term Yes = λ w. (refl, refl, λ a b p. refl)
-all_flat Term No = λ w. (refl, refl, λ a b p. refl)
-all_flat σ h = tt
-
-flat_parts : (σ τ ρ : Phrase) (h : Head) → walks σ ≡ false → oracle_parts σ h ≡ Some (τ, ρ) → (walks τ ≡ false) × (walks ρ ≡ false) × ((a b : Tree) (p : ℕ) → added h a b p ≡ [])
-flat_parts σ τ ρ h w e = subst (IsFlat σ h) e (all_flat σ h) w
+mapped f None ns e = absurd (None-Some ns e)
+mapped f (Some ms) ns e = (ms, refl, sym (Some-injective (f ms) ns e))
 
 no_factors : (t : Tree) (σ : Phrase) → walks σ ≡ false → is_oracle_phrase σ t ≡ true → (p : ℕ) (ns : List ℕ) → copies_at t p ≡ Some ns → ns ≡ []
-no_factors Empty σ w f p ns e = absurd (none_is ns (sym (copies-empty Empty p refl) ∙ e))
+no_factors Empty σ w f p ns e = absurd (None-Some ns (sym (copies-empty Empty p refl) ∙ e))
 no_factors (Node h a b) σ w f p ns e =
     let q = has_parts σ h a b f in
-    let r = flat_parts σ q.0.0 q.0.1 h w q.1 in
+    let r = flat-parts σ q.0.0 q.0.1 h w q.1 in
     let s = phrase_parts σ q.0.0 q.0.1 h a b q.1 f in
-    go (no_factors a q.0.0 r.0 s.0) (no_factors b q.0.1 r.1 s.1) r.2 (lies-somewhere h a p)
+    go (no_factors a q.0.0 r.first s.0) (no_factors b q.0.1 r.second s.1) r.added (lies-somewhere h a p)
   where
     go : ((p : ℕ) (ns : List ℕ) → copies_at a p ≡ Some ns → ns ≡ []) → ((p : ℕ) (ns : List ℕ) → copies_at b p ≡ Some ns → ns ≡ []) → ((a b : Tree) (p : ℕ) → added h a b p ≡ []) → (l : Lies) × LiesAt h a p l → ns ≡ []
-    go i j n (Here, l) = some_is ns [] (sym e ∙ copies-here (Node h a b) h a b p 0 refl l)
+    go i j n (Here, l) = Some-injective ns [] (sym e ∙ copies-here (Node h a b) h a b p 0 refl l)
     go i j n (Within k, l) = i k ns (sym (copies-within (Node h a b) h a b p k refl l) ∙ e)
     go i j n (Behind k, l) =
         let m = mapped (λ ms. added h a b k ++ ms) (copies_at b k) ns (sym (copies-behind (Node h a b) h a b p k refl l) ∙ e) in
         m.2 ∙ (ap (λ ms. ms ++ m.0) (n a b k) ∙ j k m.0 m.1)
 
 -- a branch's list and condition
-
-arm_parts : (σ : Phrase) (q : Phrase × Phrase) → oracle_parts σ Branch ≡ Some q → q.1 ≡ Guards
-arm_parts Arm q e = ap (λ (r : Phrase × Phrase). r.1) (sym (some_is (Binders, Guards) q e))
-arm_parts Nil q e = absurd (none_is q e)
-arm_parts σ q e = absurd (none_is q e)
 
 guards_flat : (b : Tree) → is_oracle_phrase Guards b ≡ true → (p : ℕ) (ns : List ℕ) → p < guards b → copies_at b p ≡ Some ns → ns ≡ []
 unfolding is_oracle_phrase
@@ -149,7 +97,7 @@ few_behind h rs a b p ms l c g m = m
 
 few : (names : Names) (t : Tree) (s : Standing) (σ : Phrase) → IsScopedAt names s t → is_oracle_phrase σ t ≡ true → (p : ℕ) (ns : List ℕ) → copies_at t p ≡ Some ns → length ns + length s.known.replications ≤ most_factors
 unfolding IsObeyed
-few names Empty s σ i f p ns e = absurd (none_is ns (sym (copies-empty Empty p refl) ∙ e))
+few names Empty s σ i f p ns e = absurd (None-Some ns (sym (copies-empty Empty p refl) ∙ e))
 few names (Node h a b) s σ i f p ns e =
     let q = has_parts σ h a b f in
     let x = phrase_parts σ q.0.0 q.0.1 h a b q.1 f in
@@ -160,13 +108,13 @@ few names (Node h a b) s σ i f p ns e =
         → ((p : ℕ) (ns : List ℕ) → copies_at a p ≡ Some ns → length ns + length (first_standing s h a).known.replications ≤ most_factors)
         → ((p : ℕ) (ns : List ℕ) → copies_at b p ≡ Some ns → length ns + length (second_standing s h a).known.replications ≤ most_factors)
         → (l : Lies) × LiesAt h a p l → length ns + length s.known.replications ≤ most_factors
-    go q r g o j k (Here, l) = few_here s.known.replications ns o.0 (some_is ns [] (sym e ∙ copies-here (Node h a b) h a b p 0 refl l))
+    go q r g o j k (Here, l) = few_here s.known.replications ns o.0 (Some-injective ns [] (sym e ∙ copies-here (Node h a b) h a b p 0 refl l))
     go q r g o j k (Within m, l) = subst (λ rs. length ns + length rs ≤ most_factors) (first-replications s.position h s.known) (j m ns (sym (copies-within (Node h a b) h a b p m refl l) ∙ e))
     go q r g o j k (Behind m, l) =
         let c = mapped (λ ms. added h a b m ++ ms) (copies_at b m) ns (sym (copies-behind (Node h a b) h a b p m refl l) ∙ e) in
         let below : length c.0 + length (replications_below h s.known.replications) ≤ most_factors = subst (λ rs. length c.0 + length rs ≤ most_factors) (second-replications s.position h a s.known) (k m c.0 c.1) in
         subst (λ l. length l + length s.known.replications ≤ most_factors) (sym c.2)
-        (few_behind h s.known.replications a b m c.0 o.0 o.1 (λ is short. guards_flat b (subst (λ ρ. is_oracle_phrase ρ b ≡ true) (arm_parts σ q (subst (λ x. oracle_parts σ x ≡ Some q) is r)) g) m c.0 short c.1) below)
+        (few_behind h s.known.replications a b m c.0 o.0 o.1 (λ is short. guards_flat b (subst (λ ρ. is_oracle_phrase ρ b ≡ true) (arm-parts σ q (subst (λ x. oracle_parts σ x ≡ Some q) is r)) g) m c.0 short c.1) below)
 
 pub few_factors : (ds : List Declaration) (game : Tree) (p : ℕ) (ns : List ℕ) → IsWellFormedContext ds game → copies_at game p ≡ Some ns → length ns ≤ most_factors
 few_factors ds game p ns w e = let l = few (names_of ds game) game at_root Inputs w.scoped w.phrase p ns e in omega (arith, l)

@@ -1,7 +1,12 @@
 mod Comparing
+mod Conditions
+mod Continuing
 mod Covering
+mod Entries
 mod Factors
+mod Flat
 mod Looking
+mod Placing
 mod SitesStanding
 mod Sitings
 mod Standings

@@ -1,28 +1,25 @@
 -- What a search for a cell holds on the way down.
 use Rattle.std.proofs.Common.{◌≡◌, ℕ, true, false, Bool, List, [], ◌∷◌, ◌++◌, append-nil, Option, Some, None, inl, inr, refl, sym, ap, subst, ◌∙◌, eq-eqb, eqb-true}
-use Rattle.std.specs.Prelude.{◌⊎◌, ◌↔◌, ◌==◌, IfSome, IsTrue}
+use Rattle.std.specs.Prelude.{◌⊎◌, ◌↔◌, ◌==◌, ◌||◌, IsTrue}
 use Rattle.std.proofs.lemmas.Bool.{or_cases, or_left, or_right}
 use Rattle.cv_pool.specs.declared.node.NodeId.{NodeId}
 use Rattle.cv_pool.specs.KindTree.{KindTree}
 use Rattle.cv_syntax.specs.declared.head.Head.{Head}
 use Rattle.cv_syntax.specs.declared.head.Head.TheVariants.{Repl, In, New, Let, Branch, Cons, Binder, Key, Call}
-use Rattle.cv_syntax.specs.Tree.{Tree, Empty, Node, tree_at, tree_of}
+use Rattle.cv_syntax.specs.Tree.{Tree, Empty, Node, tree_at}
 use Rattle.cv_syntax.proofs.Trees.{tree_at-None}
 use Rattle.cv_scope.specs.declared.position.Position.{Position}
 use Rattle.cv_scope.specs.declared.position.Position.TheVariants.{Bodies, ElseBody, Guards, Guarded}
 use Rattle.cv_scope.specs.Context.{Context, cell_of, cells_of, first_position, replications_below, second_position}
 use Rattle.cv_scope.specs.Rules.{IsAmong}
 use Rattle.cv_scope_runs.specs.Made.{is_bound}
-use Rattle.cv_path.specs.declared.place.Lies.{Lies}
-use Rattle.cv_path.specs.declared.place.Lies.TheVariants.{Here, Within, Behind}
+use Rattle.cv_path.specs.declared.place.Lies.TheVariants.{Within, Behind}
 use Rattle.cv_path.specs.Places.{LiesAt}
-use Rattle.cv_path.proofs.Bounds.{lies-somewhere}
 use Rattle.cv_facts.specs.declared.cells.Ahead.{Ahead}
-use Rattle.cv_facts.specs.declared.defined.Search.{Search}
 use Rattle.cv_facts.specs.Cells.{IsAhead, IsNamed, binds_name, defined_second}
-use Rattle.cv_facts.specs.Looks.{Reaches, own_behind}
+use Rattle.cv_facts.specs.Looks.{IsDefinedAt, Reaches, own_behind}
 use Rattle.cv_facts.specs.Standing.{with_held, with_failed, first_standing, second_standing, standing_at}
-use Rattle.cv_facts.proofs.Standings.{standing-empty, standing-here, standing-within, standing-behind}
+use Rattle.cv_facts.proofs.Standings.{first-replications, second-replications, standing-empty, standing-within, standing-behind}
 
 -- members of lists
 
@@ -83,13 +80,13 @@ failed-cells : (Γ : Context) (t : Tree) → (with_failed Γ t).cells ≡ Γ.cel
 failed-cells Γ Empty = refl
 failed-cells Γ (Node h a b) = refl
 
-held-own : (Γ : Context) (t : Tree) → ((with_held Γ t).own ≡ Γ.own) × ((with_held Γ t).replications ≡ Γ.replications)
-held-own Γ Empty = (refl, refl)
-held-own Γ (Node h a b) = (refl, refl)
+held-own : (Γ : Context) (t : Tree) → (with_held Γ t).own ≡ Γ.own
+held-own Γ Empty = refl
+held-own Γ (Node h a b) = refl
 
-failed-own : (Γ : Context) (t : Tree) → ((with_failed Γ t).own ≡ Γ.own) × ((with_failed Γ t).replications ≡ Γ.replications)
-failed-own Γ Empty = (refl, refl)
-failed-own Γ (Node h a b) = (refl, refl)
+failed-own : (Γ : Context) (t : Tree) → (with_failed Γ t).own ≡ Γ.own
+failed-own Γ Empty = refl
+failed-own Γ (Node h a b) = refl
 
 first-cells : (w : Position) (h : Head) (Γ : Context) → (first_standing w h Γ).cells ≡ Γ.cells
 first-cells Bodies Cons Γ = held-cells Γ Γ.tested
@@ -97,11 +94,11 @@ first-cells ElseBody Cons Γ = failed-cells Γ Γ.tested
 first-cells w Cons Γ = refl
 first-cells w h Γ = refl
 
-first-own : (w : Position) (h : Head) (Γ : Context) → ((first_standing w h Γ).own ≡ Γ.own) × ((first_standing w h Γ).replications ≡ Γ.replications)
+first-own : (w : Position) (h : Head) (Γ : Context) → (first_standing w h Γ).own ≡ Γ.own
 first-own Bodies Cons Γ = held-own Γ Γ.tested
 first-own ElseBody Cons Γ = failed-own Γ Γ.tested
-first-own w Cons Γ = (refl, refl)
-first-own w h Γ = (refl, refl)
+first-own w Cons Γ = refl
+first-own w h Γ = refl
 
 second-cells : (w : Position) (h : Head) (a : Tree) (Γ : Context) → (second_standing w h a Γ).cells ≡ Γ.cells ++ defined_second w h a Γ
 second-cells Guards Cons a Γ = refl
@@ -114,24 +111,6 @@ second-cells w (Key x) a Γ = refl
 second-cells w (Call x l) a Γ = refl
 second-cells w h a Γ = sym (append-nil Γ.cells)
 
-second-replications : (w : Position) (h : Head) (a : Tree) (Γ : Context) → (second_standing w h a Γ).replications ≡ replications_below h Γ.replications
-second-replications Guarded Cons a Γ = (held-own (record Γ { cells = Γ.cells ++ Γ.own; own = [] }) a).1
-second-replications Guards Cons a Γ = refl
-second-replications w Cons a Γ = refl
-second-replications w h a Γ = refl
-
-pub cells-stay : (t : Tree) (w : Position) (Γ Δ : Context) (u : Tree) (p : ℕ) → standing_at w Γ u p ≡ Some Δ → IsAmong t Γ.cells → IsAmong t Δ.cells
-cells-stay t w Γ Δ Empty p e m = absurd (clash (sym (standing-empty w Γ Empty p refl) ∙ e))
-  where
-    clash : None ≡ Some Δ → ⊥
-    clash x = cc
-cells-stay t w Γ Δ (Node h a b) p e m = go (λ q. cells-stay t (first_position w h) (first_standing w h Γ) Δ a q) (λ q. cells-stay t (second_position w h) (second_standing w h a Γ) Δ b q) (lies-somewhere h a p)
-  where
-    go : ((q : ℕ) → standing_at (first_position w h) (first_standing w h Γ) a q ≡ Some Δ → IsAmong t (first_standing w h Γ).cells → IsAmong t Δ.cells) → ((q : ℕ) → standing_at (second_position w h) (second_standing w h a Γ) b q ≡ Some Δ → IsAmong t (second_standing w h a Γ).cells → IsAmong t Δ.cells) → (l : Lies) × LiesAt h a p l → IsAmong t Δ.cells
-    go f g (Here, l) = let same : Γ ≡ Δ = (let z = sym (standing-here w Γ (Node h a b) h a b p 0 refl l) ∙ e in cc) in subst (λ (x : Context). IsAmong t x.cells) same m
-    go f g (Within q, l) = f q (sym (standing-within w Γ (Node h a b) h a b p q refl l) ∙ e) (subst (IsAmong t) (sym (first-cells w h Γ)) m)
-    go f g (Behind q, l) = g q (sym (standing-behind w Γ (Node h a b) h a b p q refl l) ∙ e) (subst (IsAmong t) (sym (second-cells w h a Γ)) (among-append t Γ.cells (defined_second w h a Γ) (inl m)))
-
 -- the indices of a branch on the way down
 
 pub no_cells : (trees : List KindTree) (rs : List (ℕ × ℕ)) → [] ≡ cells_of rs (tree_at trees None)
@@ -139,7 +118,7 @@ no_cells trees rs = ap (cells_of rs) (sym (tree_at-None trees))
 
 second-own : (trees : List KindTree) (w : Position) (h : Head) (a : Option NodeId) (Γ : Context) (own : Option NodeId) → Γ.own ≡ cells_of Γ.replications (tree_at trees own)
     → (second_standing w h (tree_at trees a) Γ).own ≡ cells_of (second_standing w h (tree_at trees a) Γ).replications (tree_at trees (own_behind w h a own))
-second-own trees Guarded Cons a Γ own e = (held-own (record Γ { cells = Γ.cells ++ Γ.own; own = [] }) (tree_at trees a)).0 ∙ no_cells trees (second_standing Guarded Cons (tree_at trees a) Γ).replications
+second-own trees Guarded Cons a Γ own e = held-own (record Γ { cells = Γ.cells ++ Γ.own; own = [] }) (tree_at trees a) ∙ no_cells trees (second_standing Guarded Cons (tree_at trees a) Γ).replications
 second-own trees Guards Cons a Γ own e = e
 second-own trees w Cons a Γ own e = e
 second-own trees w Branch a Γ own e = refl
@@ -157,8 +136,8 @@ module _ (trees : List KindTree) (t indices : Tree) where
   first-reaches w v Γ u h a b own ahead p q e l f o r = record {
     context = first_standing w h Γ;
     holds = record {
-      own = (first-own w h Γ).0 ∙ (o ∙ ap (λ rs. cells_of rs (tree_at trees own)) (sym (first-own w h Γ).1));
-      ahead = subst (λ rs. IsAhead trees rs indices ahead) (sym (first-own w h Γ).1) r;
+      own = first-own w h Γ ∙ (o ∙ ap (λ rs. cells_of rs (tree_at trees own)) (sym (first-replications w h Γ)));
+      ahead = subst (λ rs. IsAhead trees rs indices ahead) (sym (first-replications w h Γ)) r;
     };
     kept = λ m. subst (IsAmong t) (sym (first-cells w h Γ)) (elim m [ inl k ↦ k | inr k ↦ absurd (let z = k in cc) ]);
     new = λ m. inl (subst (IsAmong t) (first-cells w h Γ) m);
@@ -183,18 +162,18 @@ module _ (trees : List KindTree) (t indices : Tree) where
         place = ap (λ x. standing_at x (second_standing w h (tree_at trees a) Γ) (tree_at trees b) q) f ∙ sym (standing-behind w Γ u h (tree_at trees a) (tree_at trees b) p q e l);
       }
 
-  -- the cell is found
-  pub cell-found : (o there : Option Context) (Γ : Context) (next : Search) (found : Bool) → found ≡ true → there ≡ o → Reaches trees t indices there Γ next found → IfSome o (λ Δ. IsTrue true ↔ IsAmong t Δ.cells)
-  cell-found None there Γ next found f e r = tt
-  cell-found (Some Δ) there Γ next found f e r = ((λ k. cells-stay t next.position r.context Δ (tree_at trees next.at) next.left (r.place ∙ e) (r.kept (inr f))), (λ m. refl))
+-- the walk has ended at the place, or there is no such place
+pub defined-here : (t : Tree) (o there : Option Context) (Γ : Context) (b : Bool) → there ≡ Some Γ → there ≡ o → IsTrue b ↔ IsAmong t Γ.cells → IsTrue b ↔ IsDefinedAt o t
+defined-here t o there Γ b e f i = subst (λ u. IsTrue b ↔ IsDefinedAt u t) (sym e ∙ f) i
 
-pub cell-missing : (t : Tree) (o there : Option Context) (Γ : Context) → there ≡ Some Γ → there ≡ o → (IsAmong t Γ.cells → ⊥) → IfSome o (λ Δ. IsTrue false ↔ IsAmong t Δ.cells)
-cell-missing t o there Γ e f n = subst (λ u. IfSome u (λ Δ. IsTrue false ↔ IsAmong t Δ.cells)) (sym e ∙ f) ((λ k. absurd (let z = k in cc)), (λ m. absurd (n m)))
+pub no_place : (t : Tree) (o there : Option Context) → there ≡ None → there ≡ o → IsTrue false ↔ IsDefinedAt o t
+no_place t o there e f = subst (λ u. IsTrue false ↔ IsDefinedAt u t) (sym e ∙ f) ((λ k. absurd (let z = k in cc)), (λ m. absurd m))
 
-pub no_place : (t : Tree) (o there : Option Context) → there ≡ None → there ≡ o → IfSome o (λ Δ. IsTrue false ↔ IsAmong t Δ.cells)
-no_place t o there e f = subst (λ u. IfSome u (λ Δ. IsTrue false ↔ IsAmong t Δ.cells)) (sym e ∙ f) tt
-
-pub not_found : (t : Tree) (cs ds : List Tree) (found : Bool) → (IsAmong t ds → IsAmong t cs ⊎ IsTrue found) → found ≡ false → (IsAmong t cs → ⊥) → IsAmong t ds → ⊥
-not_found t cs ds found new f n m = elim (new m) [ inl k ↦ n k | inr k ↦ let z = sym f ∙ k in cc ]
+-- one step more
+pub defined-below : (t : Tree) (cs ds : List Tree) (b found : Bool) → (IsAmong t cs ⊎ IsTrue found → IsAmong t ds) → (IsAmong t ds → IsAmong t cs ⊎ IsTrue found) → IsTrue b ↔ IsAmong t cs → IsTrue (b || found) ↔ IsAmong t ds
+defined-below t cs ds b found kept new i = (
+  (λ k. elim (or_cases b found k) [ inl j ↦ kept (inl (i.0 j)) | inr j ↦ kept (inr j) ]),
+  (λ m. elim (new m) [ inl j ↦ or_left b found (i.1 j) | inr j ↦ or_right b found j ]),
+)
 
 pub ruleset looking = (standing-empty)

@@ -1,16 +1,21 @@
 -- Definitions that are counted.
-use Rattle.std.proofs.Common.{◌≡◌, ℕ, ◌+◌, Bool, true, false, cond, List, [], ◌∷◌, ◌++◌, Some, refl, sym, ap, ap₂, ◌∙◌}
+use Rattle.std.proofs.Common.{◌≡◌, ℕ, ◌+◌, Bool, true, false, cond, List, [], ◌∷◌, ◌++◌, Some, None, refl, sym, ap, ap₂, ◌∙◌}
 use Rattle.std.specs.Prelude.{◌||◌, ◌==◌}
 use Rattle.std.proofs.Common.{eq-eqb, ne_eqb}
 use Rattle.cv_syntax.specs.declared.head.Head.{Head}
 use Rattle.cv_syntax.specs.declared.head.Head.TheVariants.{Binder}
 use Rattle.cv_syntax.specs.Head.{weight}
-use Rattle.cv_syntax.specs.Tree.{Tree, Empty, Node, size}
+use Rattle.cv_syntax.specs.Tree.{Tree, Empty, Node, first_place, second_place, size}
+use Rattle.cv_scope.specs.declared.position.Position.{Position}
+use Rattle.cv_scope.specs.declared.position.Position.TheVariants.{Anywhere}
+use Rattle.cv_scope.specs.Context.{Context, first_position, nothing_known, second_position}
 use Rattle.cv_scope.specs.Sites.{Variable}
 use Rattle.cv_scope_runs.specs.Made.{is_bound, made_by}
 use Rattle.cv_facts.specs.declared.sites.Seen.{Seen}
 use Rattle.cv_facts.specs.declared.sites.Seen.TheVariants.{Nothing, Once, Often}
-use Rattle.cv_facts.specs.Definitions.{counted_on, only, places_of, seen_then}
+use Rattle.cv_facts.specs.Definitions.{counted_on, only, places, places_of, seen_then}
+use Rattle.cv_facts.specs.Promises.{behind_site, sites_in, sites_of}
+use Rattle.cv_facts.specs.Standing.{first_standing, second_standing}
 
 pub bound-empty : (t : Tree) (y : ℕ) → t ≡ Empty → is_bound t y ≡ false
 unfolding is_bound
@@ -77,5 +82,33 @@ only-once (q ∷ (r ∷ ps)) p e = absurd (clash (sym (often ps) ∙ e))
   where
     clash : Often ≡ Once p → ⊥
     clash x = cc
+
+pub not-once : (ps : List ℕ) → ((p : ℕ) → counted_on Nothing ps ≡ Once p → ⊥) → only ps ≡ None
+not-once [] n = refl
+not-once (p ∷ []) n = absurd (n p refl)
+not-once (p ∷ (q ∷ ps)) n = refl
+
+-- the places of the sites
+
+module _ (x : ℕ) where
+  places-append : (ss rs : List (ℕ × Context)) → places (ss ++ rs) ≡ places ss ++ places rs
+  places-append [] rs = refl
+  places-append (s ∷ ss) rs = ap (λ l. s.0 ∷ l) (places-append ss rs)
+
+  places-where : (b : Bool) (p : ℕ) (Γ : Context) → places (cond b ((p, Γ) ∷ []) []) ≡ cond b (p ∷ []) []
+  places-where true p Γ = refl
+  places-where false p Γ = refl
+
+  places-in : (w : Position) (Γ : Context) (p : ℕ) (t : Tree) → places (sites_in x w Γ p t) ≡ places_of x p t
+  unfolding sites_in places_of
+  places-in w Γ p Empty = refl
+  places-in w Γ p (Node h a b) =
+      places-append (cond (made_by h a (Variable x)) ((p, behind_site h a b Γ) ∷ []) []) _
+      ∙ ap₂ (λ k l. k ++ l) (places-where (made_by h a (Variable x)) p (behind_site h a b Γ))
+      (places-append (sites_in x (first_position w h) (first_standing w h Γ) (first_place p h) a) _
+      ∙ ap₂ (λ k l. k ++ l) (places-in (first_position w h) (first_standing w h Γ) (first_place p h) a) (places-in (second_position w h) (second_standing w h a Γ) (second_place p h a) b))
+
+pub places-sites : (game : Tree) (x : ℕ) → places (sites_of game x) ≡ places_of x 0 game
+places-sites game x = places-in x Anywhere nothing_known 0 game
 
 pub ruleset sitings = (bound-empty)

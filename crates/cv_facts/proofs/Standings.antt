@@ -1,26 +1,28 @@
--- What stands above a place grows on the way down.
-use Rattle.std.proofs.Common.{◌≡◌, ℕ, ◌+◌, ◌-◌, ◌<◌, List, [], ◌∷◌, ◌++◌, length, append_assoc, append-nil, take, Option, Some, None, refl, sym, ap, ap₂, subst, ◌∙◌, arith, true}
-use Rattle.std.specs.Prelude.{◌↔◌, IfSome, IsNone, is_some, option_map, slice_get}
+-- What stands above a place grows on the way down, and so do the facts there.
+use Rattle.std.proofs.Common.{◌≡◌, ℕ, ◌+◌, ◌-◌, ◌<◌, ◌≤◌, List, [], ◌∷◌, ◌++◌, length, length-append, append_assoc, append-nil, take, map, Bool, true, false, nat_lt, ltb-true, ltb-false, Option, Some, None, refl, sym, ap, ap₂, subst, ◌∙◌, arith}
+use Rattle.std.specs.Prelude.{◌↔◌, IsNone, option_and_then, option_map, slice_get}
+use Rattle.std.proofs.lemmas.List.{map-append}
+use Rattle.std.proofs.Math.Seq.{take-append_seam}
 use Rattle.cv_pool.specs.declared.node.NodeId.{NodeId}
 use Rattle.cv_pool.specs.KindTree.{KindTree}
+use Rattle.cv_pool.specs.Nodes.{ChildBelow}
 use Rattle.cv_syntax.specs.declared.head.Head.{Head}
-use Rattle.cv_syntax.specs.declared.head.Head.TheVariants.{Repl, Let, If, Branch, Cons, Not, Eq}
+use Rattle.cv_syntax.specs.declared.head.Head.TheVariants.{Repl, Let, If, Branch, Cons, Eq}
 use Rattle.cv_syntax.specs.Head.{weight}
 use Rattle.cv_syntax.specs.Tree.{Tree, Empty, Node, size, tree_at, tree_of}
 use Rattle.cv_scope.specs.declared.position.Position.{Position}
-use Rattle.cv_scope.specs.declared.position.Position.TheVariants.{Bodies, ElseBody, Guards, Guarded}
-use Rattle.cv_scope.specs.Context.{Context, nothing_known, cell_of, first_position, second_position}
+use Rattle.cv_scope.specs.declared.position.Position.TheVariants.{Anywhere, Bodies, ElseBody, Guards, Guarded}
+use Rattle.cv_scope.specs.Context.{Context, nothing_known, cell_of, first_position, replications_below, second_position}
 use Rattle.cv_path.specs.declared.place.Lies.{Lies}
 use Rattle.cv_path.specs.declared.place.Lies.TheVariants.{Here, Within, Behind}
 use Rattle.cv_path.specs.Places.{LiesAt}
 use Rattle.cv_path.proofs.Bounds.{lies-somewhere}
 use Rattle.cv_path.proofs.Going.{choice-here, choice-within, choice-behind, less-within, less-behind}
 use Rattle.cv_facts.specs.declared.known.Fact.{Fact}
-use Rattle.cv_facts.specs.declared.known.Fact.TheVariants.{Holds, Fails}
-use Rattle.cv_facts.specs.declared.facts.Walk.{Walk}
-use Rattle.cv_facts.specs.Facts.{IsFact, equation_of, term_of}
-use Rattle.cv_facts.specs.Standing.{with_held, with_failed, rest_standing, first_standing, second_standing, standing_at}
-use Rattle.cv_facts.specs.Walks.{given_first, given_second, tested_behind, terms_of, Tests, LeadsTo}
+use Rattle.cv_facts.specs.declared.known.Fact.TheVariants as fact
+use Rattle.cv_facts.specs.Facts.{AreFactsOf, FactAt, Defines, Holds, Fails, about, facts_at, facts_from, first_facts, second_facts, term_of, fact_of}
+use Rattle.cv_facts.specs.Standing.{with_held, with_failed, first_standing, second_standing, standing_at, stands_at}
+use Rattle.cv_facts.specs.Walks.{above_behind, given_first, given_second, node_of, tested_behind, given_facts, Counts, IsLive, LeadsTo, Tests}
 
 module _ (w : Position) (Γ : Context) (t : Tree) (h : Head) (a b : Tree) (p q : ℕ) (e : t ≡ Node h a b) where
   pub standing-here : LiesAt h a p Here → standing_at w Γ t p ≡ Some Γ
@@ -43,9 +45,65 @@ module _ (w : Position) (Γ : Context) (t : Tree) (h : Head) (a b : Tree) (p q :
       ∙ (choice-behind h a p (Some Γ) (standing_at (first_position w h) (first_standing w h Γ) a (p - weight h)) (standing_at (second_position w h) (second_standing w h a Γ) b (p - (weight h + size a))) q l
       ∙ ap (standing_at (second_position w h) (second_standing w h a Γ) b) (less-behind h a p q l))
 
+  pub facts-here : LiesAt h a p Here → facts_from w Γ t p ≡ Some []
+  unfolding facts_from
+  facts-here l =
+      ap (λ u. facts_from w Γ u p) e
+      ∙ choice-here h a p (Some []) (option_map (λ fs. first_facts w h Γ ++ fs) (facts_from (first_position w h) (first_standing w h Γ) a (p - weight h))) (option_map (λ fs. second_facts w h a b Γ ++ fs) (facts_from (second_position w h) (second_standing w h a Γ) b (p - (weight h + size a)))) l
+
+  pub facts-within : LiesAt h a p (Within q) → facts_from w Γ t p ≡ option_map (λ fs. first_facts w h Γ ++ fs) (facts_from (first_position w h) (first_standing w h Γ) a q)
+  unfolding facts_from
+  facts-within l =
+      ap (λ u. facts_from w Γ u p) e
+      ∙ (choice-within h a p (Some []) (option_map (λ fs. first_facts w h Γ ++ fs) (facts_from (first_position w h) (first_standing w h Γ) a (p - weight h))) (option_map (λ fs. second_facts w h a b Γ ++ fs) (facts_from (second_position w h) (second_standing w h a Γ) b (p - (weight h + size a)))) q l
+      ∙ ap (λ n. option_map (λ fs. first_facts w h Γ ++ fs) (facts_from (first_position w h) (first_standing w h Γ) a n)) (less-within h a p q l))
+
+  pub facts-behind : LiesAt h a p (Behind q) → facts_from w Γ t p ≡ option_map (λ fs. second_facts w h a b Γ ++ fs) (facts_from (second_position w h) (second_standing w h a Γ) b q)
+  unfolding facts_from
+  facts-behind l =
+      ap (λ u. facts_from w Γ u p) e
+      ∙ (choice-behind h a p (Some []) (option_map (λ fs. first_facts w h Γ ++ fs) (facts_from (first_position w h) (first_standing w h Γ) a (p - weight h))) (option_map (λ fs. second_facts w h a b Γ ++ fs) (facts_from (second_position w h) (second_standing w h a Γ) b (p - (weight h + size a)))) q l
+      ∙ ap (λ n. option_map (λ fs. second_facts w h a b Γ ++ fs) (facts_from (second_position w h) (second_standing w h a Γ) b n)) (less-behind h a p q l))
+
 pub standing-empty : (w : Position) (Γ : Context) (t : Tree) (p : ℕ) → t ≡ Empty → standing_at w Γ t p ≡ None
 unfolding standing_at
 standing-empty w Γ t p e = ap (λ u. standing_at w Γ u p) e
+
+pub facts-empty : (w : Position) (Γ : Context) (t : Tree) (p : ℕ) → t ≡ Empty → facts_from w Γ t p ≡ None
+unfolding facts_from
+facts-empty w Γ t p e = ap (λ u. facts_from w Γ u p) e
+
+-- the replications on the way down
+
+held-replications : (Γ : Context) (t : Tree) → (with_held Γ t).replications ≡ Γ.replications
+held-replications Γ Empty = refl
+held-replications Γ (Node h a b) = refl
+
+failed-replications : (Γ : Context) (t : Tree) → (with_failed Γ t).replications ≡ Γ.replications
+failed-replications Γ Empty = refl
+failed-replications Γ (Node h a b) = refl
+
+pub first-replications : (w : Position) (h : Head) (Γ : Context) → (first_standing w h Γ).replications ≡ Γ.replications
+first-replications Bodies Cons Γ = held-replications Γ Γ.tested
+first-replications ElseBody Cons Γ = failed-replications Γ Γ.tested
+first-replications w Cons Γ = refl
+first-replications w h Γ = refl
+
+pub second-replications : (w : Position) (h : Head) (a : Tree) (Γ : Context) → (second_standing w h a Γ).replications ≡ replications_below h Γ.replications
+second-replications Guarded Cons a Γ = held-replications (record Γ { cells = Γ.cells ++ Γ.own; own = [] }) a
+second-replications Guards Cons a Γ = refl
+second-replications w Cons a Γ = refl
+second-replications w h a Γ = refl
+
+above-length : (h : Head) (rs : List (ℕ × ℕ)) (k : ℕ) → k ≡ length rs → above_behind h k ≡ length (replications_below h rs)
+above-length (Repl i n) rs k e = let m : length (rs ++ (i, n) ∷ []) ≡ length rs + 1 = length-append rs ((i, n) ∷ []) in omega arith
+above-length h rs k e = e
+
+pub above-grows : (h : Head) (k : ℕ) → above_behind h k ≤ k + weight h
+above-grows (Repl i n) k = omega arith
+above-grows h k = omega arith
+
+-- what an answer tells is what the node gives
 
 module _ (trees : List KindTree) where
   none_at : tree_at trees None ≡ Empty
@@ -58,186 +116,277 @@ module _ (trees : List KindTree) where
       clash : IsNone (Some n) → ⊥
       clash x = cc
 
-  held : (Γ : Context) (rs : List (ℕ × ℕ)) (o : Option NodeId) → (IsNone o ↔ (tree_at trees o ≡ Empty)) → (with_held Γ (tree_at trees o)).facts ≡ Γ.facts ++ terms_of trees rs (option_map Holds o)
-  held Γ rs None i = ap (λ t. (with_held Γ t).facts) none_at ∙ sym (append-nil Γ.facts)
-  held Γ rs (Some n) i = go (tree_at trees (Some n)) refl
+  about-fact : (kind : Tree → FactAt) (make : NodeId → Fact) → ((n : NodeId) → fact_of trees (make n) ≡ kind (tree_at trees (Some n))) → (o : Option NodeId) → (IsNone o ↔ (tree_at trees o ≡ Empty)) → given_facts trees (option_map make o) ≡ about kind (tree_at trees o)
+  about-fact kind make m None i = sym (ap (about kind) none_at)
+  about-fact kind make m (Some n) i = go (tree_at trees (Some n)) refl
     where
-      go : (t : Tree) → tree_at trees (Some n) ≡ t → (with_held Γ (tree_at trees (Some n))).facts ≡ Γ.facts ++ tree_at trees (Some n) ∷ []
+      go : (t : Tree) → tree_at trees (Some n) ≡ t → fact_of trees (make n) ∷ [] ≡ about kind (tree_at trees (Some n))
       go Empty e = absent n i e
-      go (Node h a b) e = ap (λ t. (with_held Γ t).facts) e ∙ ap (λ t. Γ.facts ++ t ∷ []) (sym e)
+      go (Node h a b) e = ap (λ f. f ∷ []) (m n ∙ ap kind e) ∙ sym (ap (about kind) e)
 
-  failed : (Γ : Context) (rs : List (ℕ × ℕ)) (o : Option NodeId) → (IsNone o ↔ (tree_at trees o ≡ Empty)) → (with_failed Γ (tree_at trees o)).facts ≡ Γ.facts ++ terms_of trees rs (option_map Fails o)
-  failed Γ rs None i = ap (λ t. (with_failed Γ t).facts) none_at ∙ sym (append-nil Γ.facts)
-  failed Γ rs (Some n) i = go (tree_at trees (Some n)) refl
-    where
-      go : (t : Tree) → tree_at trees (Some n) ≡ t → (with_failed Γ (tree_at trees (Some n))).facts ≡ Γ.facts ++ Node Not (tree_at trees (Some n)) Empty ∷ []
-      go Empty e = absent n i e
-      go (Node h a b) e = ap (λ t. (with_failed Γ t).facts) e ∙ ap (λ t. Γ.facts ++ Node Not t Empty ∷ []) (sym e)
+  first-given : (w : Position) (h : Head) (Γ : Context) (o : Option NodeId) (k : ℕ) → Tests trees Γ o k → given_facts trees (given_first w h o) ≡ first_facts w h Γ
+  first-given Bodies Cons Γ o k i = about-fact Holds fact.Holds (λ n. refl) o i.none ∙ ap (about Holds) (sym i.tree)
+  first-given ElseBody Cons Γ o k i = about-fact Fails fact.Fails (λ n. refl) o i.none ∙ ap (about Fails) (sym i.tree)
+  first-given w Cons Γ o k i = refl
+  first-given w h Γ o k i = refl
 
-  first-facts : (w : Position) (h : Head) (Γ : Context) (o : Option NodeId) → Tests trees Γ o → (first_standing w h Γ).facts ≡ Γ.facts ++ terms_of trees Γ.replications (given_first w h o)
-  first-facts Bodies Cons Γ o i = ap (λ t. (with_held Γ t).facts) i.tree ∙ held Γ Γ.replications o i.none
-  first-facts ElseBody Cons Γ o i = ap (λ t. (with_failed Γ t).facts) i.tree ∙ failed Γ Γ.replications o i.none
-  first-facts w Cons Γ o i = sym (append-nil Γ.facts)
-  first-facts w h Γ o i = sym (append-nil Γ.facts)
+  second-given : (w : Position) (n : NodeId) (h : Head) (a : Option NodeId) (b : Tree) (Γ : Context) (k : ℕ) → tree_at trees (Some n) ≡ Node h (tree_at trees a) b → (IsNone a ↔ (tree_at trees a ≡ Empty)) → k ≡ length Γ.replications
+      → given_facts trees (given_second w k n h a) ≡ second_facts w h (tree_at trees a) b Γ
+  second-given Guarded n Cons a b Γ k e i l = about-fact Holds fact.Holds (λ m. refl) a i
+  second-given w n Cons a b Γ k e i l = refl
+  second-given w n (Let x T) a b Γ k e i l = ap₂ (λ m t. Defines m t ∷ []) l e
+  second-given w n h a b Γ k e i l = refl
 
-  second-facts : (w : Position) (n : NodeId) (h : Head) (b : Tree) (Γ : Context) (o : Option NodeId) → tree_at trees (Some n) ≡ Node h (tree_at trees o) b → (IsNone o ↔ (tree_at trees o ≡ Empty))
-      → (second_standing w h (tree_at trees o) Γ).facts ≡ Γ.facts ++ terms_of trees Γ.replications (given_second w n h o)
-  second-facts Guarded n Cons b Γ o e i = held (record Γ { cells = Γ.cells ++ Γ.own; own = [] }) Γ.replications o i
-  second-facts w n Cons b Γ o e i = sym (append-nil Γ.facts)
-  second-facts w n (Let x T) b Γ o e i = ap (λ t. Γ.facts ++ t ∷ []) (sym (ap (equation_of Γ.replications) e))
-  second-facts w n h b Γ o e i = sym (append-nil Γ.facts)
-
-  first-tests : (w : Position) (h : Head) (Γ : Context) (o : Option NodeId) → Tests trees Γ o → Tests trees (first_standing w h Γ) o
-  first-tests Bodies Cons Γ o i = record { tree = held-tested Γ.tested ∙ i.tree; none = i.none }
+  first-tests : (w : Position) (h : Head) (Γ : Context) (o : Option NodeId) (k : ℕ) → Tests trees Γ o k → Tests trees (first_standing w h Γ) o k
+  first-tests w h Γ o k i = record { tree = first-tested w h ∙ i.tree; none = i.none; number = i.number ∙ ap length (sym (first-replications w h Γ)) }
     where
       held-tested : (t : Tree) → (with_held Γ t).tested ≡ Γ.tested
       held-tested Empty = refl
       held-tested (Node h a b) = refl
-  first-tests ElseBody Cons Γ o i = record { tree = failed-tested Γ.tested ∙ i.tree; none = i.none }
-    where
+
       failed-tested : (t : Tree) → (with_failed Γ t).tested ≡ Γ.tested
       failed-tested Empty = refl
       failed-tested (Node h a b) = refl
-  first-tests w Cons Γ o i = i
-  first-tests w h Γ o i = i
 
-  second-tests : (w : Position) (h : Head) (Γ : Context) (a : Option NodeId) (o : Option NodeId) → Tests trees Γ o → (IsNone a ↔ (tree_at trees a ≡ Empty)) → Tests trees (second_standing w h (tree_at trees a) Γ) (tested_behind h a o)
-  second-tests Guarded Cons Γ a o i j = record { tree = held-tested (tree_at trees a) ∙ i.tree; none = i.none }
+      first-tested : (w : Position) (h : Head) → (first_standing w h Γ).tested ≡ Γ.tested
+      first-tested Bodies Cons = held-tested Γ.tested
+      first-tested ElseBody Cons = failed-tested Γ.tested
+      first-tested w Cons = refl
+      first-tested w h = refl
+
+  second-tests : (w : Position) (h : Head) (Γ : Context) (a o : Option NodeId) (k : ℕ) → Tests trees Γ o k → (IsNone a ↔ (tree_at trees a ≡ Empty)) → Tests trees (second_standing w h (tree_at trees a) Γ) (tested_behind h a o) (above_behind h k)
+  second-tests w h Γ a o k i j = record { tree = (tested w h).0; none = (tested w h).1; number = above-length h Γ.replications k i.number ∙ ap length (sym (second-replications w h (tree_at trees a) Γ)) }
     where
       held-tested : (t : Tree) → (with_held (record Γ { cells = Γ.cells ++ Γ.own; own = [] }) t).tested ≡ Γ.tested
       held-tested Empty = refl
       held-tested (Node h b c) = refl
-  second-tests Guards Cons Γ a o i j = record { tree = i.tree; none = i.none }
-  second-tests w Cons Γ a o i j = i
-  second-tests w If Γ a o i j = record { tree = refl; none = j }
-  second-tests w Branch Γ a o i j = record { tree = i.tree; none = i.none }
-  second-tests w h Γ a o i j = record { tree = i.tree; none = i.none }
 
--- what stands above a node stands above the places of the node
-pub record Extends (Γ Δ : Context) : Type 0 where
-  pub below : List (ℕ × ℕ)
-  pub replications : Δ.replications ≡ Γ.replications ++ below
-  pub later : List Tree
-  pub facts : Δ.facts ≡ Γ.facts ++ later
+      tested : (w : Position) (h : Head) → ((second_standing w h (tree_at trees a) Γ).tested ≡ tree_at trees (tested_behind h a o)) × (IsNone (tested_behind h a o) ↔ (tree_at trees (tested_behind h a o) ≡ Empty))
+      tested Guarded Cons = (held-tested (tree_at trees a) ∙ i.tree, i.none)
+      tested Guards Cons = (i.tree, i.none)
+      tested w Cons = (i.tree, i.none)
+      tested w If = (refl, j)
+      tested w Branch = (i.tree, i.none)
+      tested w h = (i.tree, i.none)
 
-same-extends : (Γ Δ : Context) → Δ.replications ≡ Γ.replications → Δ.facts ≡ Γ.facts → Extends Γ Δ
-same-extends Γ Δ e f = record { below = []; replications = e ∙ sym (append-nil Γ.replications); later = []; facts = f ∙ sym (append-nil Γ.facts) }
-
-pub extends-refl : (Γ : Context) → Extends Γ Γ
-extends-refl Γ = same-extends Γ Γ refl refl
-
-pub extends-trans : (Γ Δ Θ : Context) → Extends Γ Δ → Extends Δ Θ → Extends Γ Θ
-extends-trans Γ Δ Θ i j = record {
-  below = i.below ++ j.below;
-  replications = j.replications ∙ (ap (λ l. l ++ j.below) i.replications ∙ append_assoc Γ.replications i.below j.below);
-  later = i.later ++ j.later;
-  facts = j.facts ∙ (ap (λ l. l ++ j.later) i.facts ∙ append_assoc Γ.facts i.later j.later);
-}
-
-fact-extends : (Γ : Context) (t : Tree) → Extends Γ (record Γ { facts = Γ.facts ++ t ∷ [] })
-fact-extends Γ t = record { below = []; replications = sym (append-nil Γ.replications); later = t ∷ []; facts = refl }
-
-held-extends : (Γ : Context) (t : Tree) → Extends Γ (with_held Γ t)
-held-extends Γ Empty = extends-refl Γ
-held-extends Γ (Node h a b) = fact-extends Γ (Node h a b)
-
-failed-extends : (Γ : Context) (t : Tree) → Extends Γ (with_failed Γ t)
-failed-extends Γ Empty = extends-refl Γ
-failed-extends Γ (Node h a b) = fact-extends Γ (Node Not (Node h a b) Empty)
-
-first-extends : (w : Position) (h : Head) (Γ : Context) → Extends Γ (first_standing w h Γ)
-first-extends Bodies Cons Γ = held-extends Γ Γ.tested
-first-extends ElseBody Cons Γ = failed-extends Γ Γ.tested
-first-extends w Cons Γ = extends-refl Γ
-first-extends w h Γ = extends-refl Γ
-
-second-extends : (w : Position) (h : Head) (a : Tree) (Γ : Context) → Extends Γ (second_standing w h a Γ)
-second-extends Guarded Cons a Γ =
-    extends-trans Γ (record Γ { cells = Γ.cells ++ Γ.own; own = [] }) (with_held (record Γ { cells = Γ.cells ++ Γ.own; own = [] }) a) (same-extends Γ (record Γ { cells = Γ.cells ++ Γ.own; own = [] }) refl refl)
-    (held-extends (record Γ { cells = Γ.cells ++ Γ.own; own = [] }) a)
-second-extends Guards Cons a Γ = same-extends Γ (rest_standing Guards a Γ) refl refl
-second-extends w Cons a Γ = extends-refl Γ
-second-extends w (Repl i n) a Γ = record { below = (i, n) ∷ []; replications = refl; later = []; facts = sym (append-nil Γ.facts) }
-second-extends w (Let x T) a Γ = record { below = []; replications = sym (append-nil Γ.replications); later = Node Eq (cell_of Γ.replications x) a ∷ []; facts = refl }
-second-extends w h a Γ = same-extends Γ (second_standing w h a Γ) refl refl
-
-pub place-extends : (w : Position) (Γ Δ : Context) (t : Tree) (p : ℕ) → standing_at w Γ t p ≡ Some Δ → Extends Γ Δ
-place-extends w Γ Δ Empty p e = absurd (clash (sym (standing-empty w Γ Empty p refl) ∙ e))
-  where
-    clash : None ≡ Some Δ → ⊥
-    clash x = cc
-place-extends w Γ Δ (Node h a b) p e = go (λ q. place-extends (first_position w h) (first_standing w h Γ) Δ a q) (λ q. place-extends (second_position w h) (second_standing w h a Γ) Δ b q) (lies-somewhere h a p)
-  where
-    same : Γ ≡ Δ → Extends Γ Δ
-    same x = subst (Extends Γ) x (extends-refl Γ)
-
-    go : ((q : ℕ) → standing_at (first_position w h) (first_standing w h Γ) a q ≡ Some Δ → Extends (first_standing w h Γ) Δ) → ((q : ℕ) → standing_at (second_position w h) (second_standing w h a Γ) b q ≡ Some Δ → Extends (second_standing w h a Γ) Δ) → (l : Lies) × LiesAt h a p l → Extends Γ Δ
-    go f g (Here, l) = same (let z = sym (standing-here w Γ (Node h a b) h a b p 0 refl l) ∙ e in cc)
-    go f g (Within q, l) = extends-trans Γ (first_standing w h Γ) Δ (first-extends w h Γ) (f q (sym (standing-within w Γ (Node h a b) h a b p q refl l) ∙ e))
-    go f g (Behind q, l) = extends-trans Γ (second_standing w h a Γ) Δ (second-extends w h a Γ) (g q (sym (standing-behind w Γ (Node h a b) h a b p q refl l) ∙ e))
-
-take-front : {A : Type 0} (xs ys : List A) → take (length xs) (xs ++ ys) ≡ xs
-take-front [] ys = refl
-take-front (x ∷ xs) ys = ap (λ l. x ∷ l) (take-front xs ys)
-
-get-behind : {A : Type 0} (xs ys : List A) (x : A) → slice_get (xs ++ (x ∷ ys)) (length xs) ≡ Some x
-get-behind [] ys x = refl
-get-behind (y ∷ xs) ys x = get-behind xs ys x
-
-module _ (trees : List KindTree) where
-  pub nothing-tests : Tests trees nothing_known None
-  nothing-tests = record { tree = sym (none_at trees); none = ((λ e. none_at trees), (λ e. refl)) }
+  pub nothing-tests : Tests trees nothing_known None 0
+  nothing-tests = record { tree = sym none_at; none = ((λ e. none_at), (λ e. refl)); number = refl }
 
   -- the way leads to the first child
-  pub first-leads : (w v : Position) (Γ : Context) (t : Tree) (h : Head) (a b : Option NodeId) (p q : ℕ) (tested : Option NodeId) (given : Option Fact)
+  pub first-leads : (w v : Position) (Γ : Context) (t : Tree) (h : Head) (a b : Option NodeId) (p q : ℕ) (tested : Option NodeId) (k : ℕ) (given : Option Fact)
       → t ≡ Node h (tree_at trees a) (tree_at trees b) → LiesAt h (tree_at trees a) p (Within q) → v ≡ first_position w h → given ≡ given_first w h tested
-      → Tests trees Γ tested → LeadsTo trees (standing_at w Γ t p) Γ (record { at = a; left = q; position = v; tested = tested }) given
-  first-leads w v Γ t h a b p q tested given e l f g i =
-      let x = first-extends w h Γ in
-      record {
-        context = first_standing w h Γ;
-        tests = first-tests trees w h Γ tested i;
-        below = x.below;
-        replications = x.replications;
-        facts = first-facts trees w h Γ tested i ∙ ap (λ o. Γ.facts ++ terms_of trees Γ.replications o) (sym g);
-        place = ap (λ u. standing_at u (first_standing w h Γ) (tree_at trees a) q) f ∙ sym (standing-within w Γ t h (tree_at trees a) (tree_at trees b) p q e l);
-      }
+      → Tests trees Γ tested k → LeadsTo trees (facts_from w Γ t p) (record { at = a; left = q; position = v; tested = tested; above = k }) given
+  first-leads w v Γ t h a b p q tested k given e l f g i = record {
+    context = first_standing w h Γ;
+    tests = first-tests w h Γ tested k i;
+    place =
+        facts-within w Γ t h (tree_at trees a) (tree_at trees b) p q e l
+        ∙ ap₂ (λ (gs : List FactAt) (u : Position). option_map (λ fs. gs ++ fs) (facts_from u (first_standing w h Γ) (tree_at trees a) q)) (sym (ap (given_facts trees) g ∙ first-given w h Γ tested k i)) (sym f);
+  }
 
   -- or to the second
-  pub second-leads : (w v : Position) (Γ : Context) (t : Tree) (n : NodeId) (h : Head) (a b : Option NodeId) (p q : ℕ) (tested next : Option NodeId) (given : Option Fact)
-      → t ≡ tree_at trees (Some n) → tree_at trees (Some n) ≡ Node h (tree_at trees a) (tree_at trees b) → (IsNone a ↔ (tree_at trees a ≡ Empty)) → LiesAt h (tree_at trees a) p (Behind q) → v ≡ second_position w h → given ≡ given_second w n h a → next ≡ tested_behind h a tested
-      → Tests trees Γ tested → LeadsTo trees (standing_at w Γ t p) Γ (record { at = b; left = q; position = v; tested = next }) given
-  second-leads w v Γ t n h a b p q tested next given d e j l f g k i =
-      let x = second-extends w h (tree_at trees a) Γ in
-      record {
-        context = second_standing w h (tree_at trees a) Γ;
-        tests = subst (Tests trees (second_standing w h (tree_at trees a) Γ)) (sym k) (second-tests trees w h Γ a tested i j);
-        below = x.below;
-        replications = x.replications;
-        facts = second-facts trees w n h (tree_at trees b) Γ a e j ∙ ap (λ o. Γ.facts ++ terms_of trees Γ.replications o) (sym g);
-        place = ap (λ u. standing_at u (second_standing w h (tree_at trees a) Γ) (tree_at trees b) q) f ∙ sym (standing-behind w Γ t h (tree_at trees a) (tree_at trees b) p q (d ∙ e) l);
-      }
+  pub second-leads : (w v : Position) (Γ : Context) (t : Tree) (n : NodeId) (h : Head) (a b : Option NodeId) (p q : ℕ) (tested next : Option NodeId) (k m : ℕ) (given : Option Fact)
+      → t ≡ tree_at trees (Some n) → tree_at trees (Some n) ≡ Node h (tree_at trees a) (tree_at trees b) → (IsNone a ↔ (tree_at trees a ≡ Empty)) → LiesAt h (tree_at trees a) p (Behind q)
+      → v ≡ second_position w h → given ≡ given_second w k n h a → next ≡ tested_behind h a tested → m ≡ above_behind h k
+      → Tests trees Γ tested k → LeadsTo trees (facts_from w Γ t p) (record { at = b; left = q; position = v; tested = next; above = m }) given
+  second-leads w v Γ t n h a b p q tested next k m given d e j l f g x y i = record {
+    context = second_standing w h (tree_at trees a) Γ;
+    tests = subst (λ o. Tests trees (second_standing w h (tree_at trees a) Γ) o m) (sym x) (subst (Tests trees (second_standing w h (tree_at trees a) Γ) (tested_behind h a tested)) (sym y) (second-tests w h Γ a tested k i j));
+    place =
+        facts-behind w Γ t h (tree_at trees a) (tree_at trees b) p q (d ∙ e) l
+        ∙ ap₂ (λ (gs : List FactAt) (u : Position). option_map (λ fs. gs ++ fs) (facts_from u (second_standing w h (tree_at trees a) Γ) (tree_at trees b) q))
+        (sym (ap (given_facts trees) g ∙ second-given w n h a (tree_at trees b) Γ k e j i.number)) (sym f);
+  }
 
-  -- the fact is found
-  pub found : (o there : Option Context) (Γ : Context) (walk : Walk) (given : Option Fact) (f : Fact) (k : ℕ) → given ≡ Some f → length Γ.facts + 1 ≡ k → there ≡ o → LeadsTo trees there Γ walk given → IfSome o (λ Δ. IsFact trees Δ k given)
-  found None there Γ walk given f k g n e x = tt
-  found (Some Δ) there Γ walk given f k g n e x =
-      let y = place-extends walk.position x.context Δ (tree_at trees walk.at) walk.left (x.place ∙ e) in
-      let rs : take (length Γ.replications) Δ.replications ≡ Γ.replications = ap (take (length Γ.replications)) (y.replications ∙ (ap (λ l. l ++ y.below) x.replications ∙ append_assoc Γ.replications x.below y.below)) ∙ take-front Γ.replications (x.below ++ y.below) in
-      let at : k - 1 ≡ length Γ.facts = omega arith in
-      let fs : Δ.facts ≡ Γ.facts ++ (term_of trees Γ.replications f ∷ y.later) = y.facts ∙ (ap (λ l. l ++ y.later) (x.facts ∙ ap (λ u. Γ.facts ++ terms_of trees Γ.replications u) g) ∙ append_assoc Γ.facts (term_of trees Γ.replications f ∷ []) y.later) in
-      subst (IsFact trees Δ k) (sym g) ((length Γ.replications, ap₂ slice_get fs at ∙ (get-behind Γ.facts y.later (term_of trees Γ.replications f) ∙ ap (λ r. Some (term_of trees r f)) (sym rs))))
+-- the node of a fact is live
 
-  pub found-given : (o there : Option Context) (Γ : Context) (walk : Walk) (given : Option Fact) (k : ℕ) → is_some given ≡ true → length Γ.facts + 1 ≡ k → there ≡ o → LeadsTo trees there Γ walk given → IfSome o (λ Δ. IsFact trees Δ k given)
-  found-given o there Γ walk None k g n e x = absurd cc
-  found-given o there Γ walk (Some f) k g n e x = found o there Γ walk (Some f) f k refl n e x
+live-about : (n : ℕ) (make : NodeId → Fact) → ((m : NodeId) → node_of (make m) ≡ m.0) → (o : Option NodeId) → ChildBelow n o → IsLive n (option_map make o)
+live-about n make e None l = tt
+live-about n make e (Some m) l = subst (λ i. i < n) (sym (e m)) l
 
-  -- there are no more
-  pub ended : (o there : Option Context) (Γ : Context) (k : ℕ) → there ≡ Some Γ → there ≡ o → length Γ.facts < k → IfSome o (λ Δ. IsFact trees Δ k None)
-  ended o there Γ k e f l = subst (λ u. IfSome u (λ Δ. IsFact trees Δ k None)) (sym e ∙ f) l
+pub first-live : (n : ℕ) (w : Position) (h : Head) (o : Option NodeId) (given : Option Fact) → given ≡ given_first w h o → ChildBelow n o → IsLive n given
+first-live n w h o given e l = subst (IsLive n) (sym e) (go w h)
+  where
+    go : (w : Position) (h : Head) → IsLive n (given_first w h o)
+    go Bodies Cons = live-about n fact.Holds (λ m. refl) o l
+    go ElseBody Cons = live-about n fact.Fails (λ m. refl) o l
+    go w Cons = tt
+    go w h = tt
 
-  -- there is no such place
-  pub no_place : (o there : Option Context) (k : ℕ) → there ≡ None → there ≡ o → IfSome o (λ Δ. IsFact trees Δ k None)
-  no_place o there k e f = subst (λ u. IfSome u (λ Δ. IsFact trees Δ k None)) (sym e ∙ f) tt
+child-live : (n m : ℕ) (o : Option NodeId) → ChildBelow m o → m < n → ChildBelow n o
+child-live n m None l k = tt
+child-live n m (Some i) l k = let j : i.0 < m = l in omega arith
+
+pub second-live : (n : ℕ) (w : Position) (above : ℕ) (m : NodeId) (h : Head) (a : Option NodeId) (given : Option Fact) → given ≡ given_second w above m h a → ChildBelow m.0 a → m.0 < n → IsLive n given
+second-live n w above m h a given e l k = subst (IsLive n) (sym e) (go w h)
+  where
+    go : (w : Position) (h : Head) → IsLive n (given_second w above m h a)
+    go Guarded Cons = live-about n fact.Holds (λ i. refl) a (child-live n m.0 a l k)
+    go w Cons = tt
+    go w (Let x T) = k
+    go w h = tt
+
+pub tested-live : (n m : ℕ) (h : Head) (a o next : Option NodeId) → next ≡ tested_behind h a o → ChildBelow m a → m < n → ChildBelow n o → ChildBelow n next
+tested-live n m h a o next e l k j = subst (ChildBelow n) (sym e) (go h)
+  where
+    go : (h : Head) → ChildBelow n (tested_behind h a o)
+    go If = child-live n m a l k
+    go h = j
+
+-- counting
+
+pub none-passed : (trees : List KindTree) (k : ℕ) → Counts trees k [] (record { left = k; fact = None })
+none-passed trees k = record { left = let e : k ≡ k - 0 = omega arith in e; fact = refl }
+
+-- one step of the walk behind others
+
+pub passed-append : (passed given : List FactAt) (o : Option (List FactAt)) → option_map (λ fs. passed ++ fs) (option_map (λ fs. given ++ fs) o) ≡ option_map (λ fs. (passed ++ given) ++ fs) o
+passed-append passed given None = refl
+passed-append passed given (Some fs) = ap Some (sym (append_assoc passed given fs))
+
+pub passed-nil : (o : Option (List FactAt)) → option_map (λ fs. [] ++ fs) o ≡ o
+passed-nil None = refl
+passed-nil (Some fs) = refl
+
+-- there is no such place
+pub no_place : (k : ℕ) (passed : List FactAt) (there o : Option (List FactAt)) → there ≡ None → option_map (λ fs. passed ++ fs) there ≡ o → ◌≡◌ {A = Option FactAt} None (option_and_then (λ fs. slice_get fs (k - 1)) o)
+no_place k passed there o e f = ap (option_and_then (λ fs. slice_get fs (k - 1))) (sym (ap (option_map (λ fs. passed ++ fs)) e) ∙ f)
+
+-- the terms of the facts
+
+-- replications stand in front of those below
+pub record Extends (rs ss : List (ℕ × ℕ)) : Type 0 where
+  pub below : List (ℕ × ℕ)
+  pub replications : ss ≡ rs ++ below
+
+extends-refl : (rs ss : List (ℕ × ℕ)) → ss ≡ rs → Extends rs ss
+extends-refl rs ss e = record { below = []; replications = e ∙ sym (append-nil rs) }
+
+extends-trans : (rs ss ts : List (ℕ × ℕ)) → Extends rs ss → Extends ss ts → Extends rs ts
+extends-trans rs ss ts i j = record { below = i.below ++ j.below; replications = j.replications ∙ (ap (λ l. l ++ j.below) i.replications ∙ append_assoc rs i.below j.below) }
+
+below-extends : (h : Head) (rs : List (ℕ × ℕ)) → Extends rs (replications_below h rs)
+below-extends (Repl i n) rs = record { below = (i, n) ∷ []; replications = refl }
+below-extends h rs = extends-refl rs rs refl
+
+first-extends : (w : Position) (h : Head) (Γ : Context) → Extends Γ.replications (first_standing w h Γ).replications
+first-extends w h Γ = extends-refl Γ.replications (first_standing w h Γ).replications (first-replications w h Γ)
+
+second-extends : (w : Position) (h : Head) (a : Tree) (Γ : Context) → Extends Γ.replications (second_standing w h a Γ).replications
+second-extends w h a Γ = subst (Extends Γ.replications) (sym (second-replications w h a Γ)) (below-extends h Γ.replications)
+
+no_context : (Δ : Context) → None ≡ Some Δ → ⊥
+no_context Δ x = cc
+
+place-extends : (w : Position) (Γ Δ : Context) (t : Tree) (p : ℕ) → standing_at w Γ t p ≡ Some Δ → Extends Γ.replications Δ.replications
+place-extends w Γ Δ Empty p e = absurd (no_context Δ (sym (standing-empty w Γ Empty p refl) ∙ e))
+place-extends w Γ Δ (Node h a b) p e = go (λ q. place-extends (first_position w h) (first_standing w h Γ) Δ a q) (λ q. place-extends (second_position w h) (second_standing w h a Γ) Δ b q) (lies-somewhere h a p)
+  where
+    same : Γ ≡ Δ → Extends Γ.replications Δ.replications
+    same x = extends-refl Γ.replications Δ.replications (ap (λ (Θ : Context). Θ.replications) (sym x))
+
+    go : ((q : ℕ) → standing_at (first_position w h) (first_standing w h Γ) a q ≡ Some Δ → Extends (first_standing w h Γ).replications Δ.replications) → ((q : ℕ) → standing_at (second_position w h) (second_standing w h a Γ) b q ≡ Some Δ → Extends (second_standing w h a Γ).replications Δ.replications)
+        → (l : Lies) × LiesAt h a p l → Extends Γ.replications Δ.replications
+    go f g (Here, l) = same (let z = sym (standing-here w Γ (Node h a b) h a b p 0 refl l) ∙ e in cc)
+    go f g (Within q, l) = extends-trans Γ.replications (first_standing w h Γ).replications Δ.replications (first-extends w h Γ) (f q (sym (standing-within w Γ (Node h a b) h a b p q refl l) ∙ e))
+    go f g (Behind q, l) = extends-trans Γ.replications (second_standing w h a Γ).replications Δ.replications (second-extends w h a Γ) (g q (sym (standing-behind w Γ (Node h a b) h a b p q refl l) ∙ e))
+
+-- what a node gives is a term that stands below it
+
+held-terms : (rs : List (ℕ × ℕ)) (Γ : Context) (t : Tree) → (with_held Γ t).facts ≡ Γ.facts ++ map (term_of rs) (about Holds t)
+held-terms rs Γ Empty = sym (append-nil Γ.facts)
+held-terms rs Γ (Node h a b) = refl
+
+failed-terms : (rs : List (ℕ × ℕ)) (Γ : Context) (t : Tree) → (with_failed Γ t).facts ≡ Γ.facts ++ map (term_of rs) (about Fails t)
+failed-terms rs Γ Empty = sym (append-nil Γ.facts)
+failed-terms rs Γ (Node h a b) = refl
+
+first-terms : (rs : List (ℕ × ℕ)) (w : Position) (h : Head) (Γ : Context) → (first_standing w h Γ).facts ≡ Γ.facts ++ map (term_of rs) (first_facts w h Γ)
+first-terms rs Bodies Cons Γ = held-terms rs Γ Γ.tested
+first-terms rs ElseBody Cons Γ = failed-terms rs Γ Γ.tested
+first-terms rs w Cons Γ = sym (append-nil Γ.facts)
+first-terms rs w h Γ = sym (append-nil Γ.facts)
+
+second-terms : (rs : List (ℕ × ℕ)) (w : Position) (h : Head) (a b : Tree) (Γ : Context) → take (length Γ.replications) rs ≡ Γ.replications → (second_standing w h a Γ).facts ≡ Γ.facts ++ map (term_of rs) (second_facts w h a b Γ)
+second-terms rs Guarded Cons a b Γ e = held-terms rs (record Γ { cells = Γ.cells ++ Γ.own; own = [] }) a
+second-terms rs w Cons a b Γ e = sym (append-nil Γ.facts)
+second-terms rs w (Let x T) a b Γ e = ap (λ l. Γ.facts ++ Node Eq (cell_of l x) a ∷ []) (sym e)
+second-terms rs w h a b Γ e = sym (append-nil Γ.facts)
+
+-- the facts behind others are those that stand there
+abbrev Follow : List Tree → Option Context → Option (List FactAt) → Type 0
+Follow ts None None = Unit {0}
+Follow ts (Some Δ) (Some fs) = Δ.facts ≡ ts ++ map (term_of Δ.replications) fs
+Follow ts _ _ = ⊥
+
+follow-more : (ts us : List Tree) (given : List FactAt) (o : Option Context) (fs : Option (List FactAt)) → ((Δ : Context) → o ≡ Some Δ → us ≡ ts ++ map (term_of Δ.replications) given) → Follow us o fs → Follow ts o (option_map (λ gs. given ++ gs) fs)
+follow-more ts us given None None e f = tt
+follow-more ts us given None (Some fs) e f = absurd f
+follow-more ts us given (Some Δ) None e f = absurd f
+follow-more ts us given (Some Δ) (Some fs) e f =
+    let t = term_of Δ.replications in
+    f ∙ (ap (λ l. l ++ map t fs) (e Δ refl) ∙ (append_assoc ts (map t given) (map t fs) ∙ ap (λ l. ts ++ l) (sym (map-append t given fs))))
+
+follow : (w : Position) (Γ : Context) (t : Tree) (p : ℕ) → Follow Γ.facts (standing_at w Γ t p) (facts_from w Γ t p)
+follow w Γ Empty p = subst (λ o. Follow Γ.facts o (facts_from w Γ Empty p)) (sym (standing-empty w Γ Empty p refl)) (subst (Follow Γ.facts None) (sym (facts-empty w Γ Empty p refl)) tt)
+follow w Γ (Node h a b) p = go (follow (first_position w h) (first_standing w h Γ) a) (follow (second_position w h) (second_standing w h a Γ) b) (lies-somewhere h a p)
+  where
+    moved : (o u : Option Context) (fs gs : Option (List FactAt)) → o ≡ u → fs ≡ gs → Follow Γ.facts u gs → Follow Γ.facts o fs
+    moved o u fs gs e f x = subst (λ v. Follow Γ.facts v fs) (sym e) (subst (Follow Γ.facts u) (sym f) x)
+
+    front : (q : ℕ) (Δ : Context) → standing_at (second_position w h) (second_standing w h a Γ) b q ≡ Some Δ → take (length Γ.replications) Δ.replications ≡ Γ.replications
+    front q Δ e =
+        let x = extends-trans Γ.replications (second_standing w h a Γ).replications Δ.replications (second-extends w h a Γ) (place-extends (second_position w h) (second_standing w h a Γ) Δ b q e) in
+        ap (take (length Γ.replications)) x.replications ∙ take-append_seam Γ.replications x.below
+
+    go : ((q : ℕ) → Follow (first_standing w h Γ).facts (standing_at (first_position w h) (first_standing w h Γ) a q) (facts_from (first_position w h) (first_standing w h Γ) a q))
+        → ((q : ℕ) → Follow (second_standing w h a Γ).facts (standing_at (second_position w h) (second_standing w h a Γ) b q) (facts_from (second_position w h) (second_standing w h a Γ) b q))
+        → (l : Lies) × LiesAt h a p l → Follow Γ.facts (standing_at w Γ (Node h a b) p) (facts_from w Γ (Node h a b) p)
+    go f g (Here, l) = moved _ (Some Γ) _ (Some []) (standing-here w Γ (Node h a b) h a b p 0 refl l) (facts-here w Γ (Node h a b) h a b p 0 refl l) (sym (append-nil Γ.facts))
+    go f g (Within q, l) =
+        moved _ _ _ _ (standing-within w Γ (Node h a b) h a b p q refl l) (facts-within w Γ (Node h a b) h a b p q refl l)
+        (follow-more Γ.facts (first_standing w h Γ).facts (first_facts w h Γ) (standing_at (first_position w h) (first_standing w h Γ) a q) (facts_from (first_position w h) (first_standing w h Γ) a q) (λ Δ e. first-terms Δ.replications w h Γ) (f q))
+    go f g (Behind q, l) =
+        moved _ _ _ _ (standing-behind w Γ (Node h a b) h a b p q refl l) (facts-behind w Γ (Node h a b) h a b p q refl l)
+        (follow-more Γ.facts (second_standing w h a Γ).facts (second_facts w h a b Γ) (standing_at (second_position w h) (second_standing w h a Γ) b q) (facts_from (second_position w h) (second_standing w h a Γ) b q) (λ Δ e. second-terms Δ.replications w h a b Γ (front q Δ e)) (g q))
+
+pub are_facts : (game : Tree) (p : ℕ) → AreFactsOf (stands_at game p) (facts_at game p)
+are_facts game p = go (stands_at game p) (facts_at game p) (follow Anywhere nothing_known game p)
+  where
+    go : (o : Option Context) (fs : Option (List FactAt)) → Follow [] o fs → AreFactsOf o fs
+    go None None f = tt
+    go None (Some fs) f = absurd f
+    go (Some Δ) None f = absurd f
+    go (Some Δ) (Some fs) f = f
+
+-- a place stands exactly below the size
+
+pub stands-below : (w : Position) (Γ : Context) (t : Tree) (p : ℕ) → p < size t → (Δ : Context) × (standing_at w Γ t p ≡ Some Δ)
+unfolding size
+stands-below w Γ Empty p l = absurd (omega (arith, l))
+stands-below w Γ (Node h a b) p l = go (stands-below (first_position w h) (first_standing w h Γ) a) (stands-below (second_position w h) (second_standing w h a Γ) b) (lies-somewhere h a p)
+  where
+    go : ((q : ℕ) → q < size a → (Δ : Context) × (standing_at (first_position w h) (first_standing w h Γ) a q ≡ Some Δ)) → ((q : ℕ) → q < size b → (Δ : Context) × (standing_at (second_position w h) (second_standing w h a Γ) b q ≡ Some Δ))
+        → (k : Lies) × LiesAt h a p k → (Δ : Context) × (standing_at w Γ (Node h a b) p ≡ Some Δ)
+    go f g (Here, k) = (Γ, standing-here w Γ (Node h a b) h a b p 0 refl k)
+    go f g (Within q, k) = let r = f q k.1 in (r.0, standing-within w Γ (Node h a b) h a b p q refl k ∙ r.1)
+    go f g (Behind q, k) = let m : weight h + size a + q ≡ p = k in let r = g q (omega arith) in (r.0, standing-behind w Γ (Node h a b) h a b p q refl k ∙ r.1)
+
+stands-past : (w : Position) (Γ : Context) (t : Tree) (p : ℕ) → size t ≤ p → standing_at w Γ t p ≡ None
+unfolding size
+stands-past w Γ Empty p l = standing-empty w Γ Empty p refl
+stands-past w Γ (Node h a b) p l = go (stands-past (second_position w h) (second_standing w h a Γ) b) (lies-somewhere h a p)
+  where
+    go : ((q : ℕ) → size b ≤ q → standing_at (second_position w h) (second_standing w h a Γ) b q ≡ None) → (k : Lies) × LiesAt h a p k → standing_at w Γ (Node h a b) p ≡ None
+    go g (Here, k) = absurd (omega (arith, k, l))
+    go g (Within q, k) = let m : weight h + q ≡ p = k.0 in let n : q < size a = k.1 in absurd (omega (arith, l))
+    go g (Behind q, k) = let m : weight h + size a + q ≡ p = k in standing-behind w Γ (Node h a b) h a b p q refl k ∙ g q (omega arith)
+
+pub stands-where : (game : Tree) (p : ℕ) → (stands_at game p ≡ None) ↔ (size game ≤ p)
+stands-where game p = ((λ e. missing e (nat_lt p (size game)) refl), stands-past Anywhere nothing_known game p)
+  where
+    missing : stands_at game p ≡ None → (b : Bool) → nat_lt p (size game) ≡ b → size game ≤ p
+    missing e true l = absurd (let r = stands-below Anywhere nothing_known game p (ltb-true p (size game) l) in no_context r.0 (sym e ∙ r.1))
+    missing e false l = ltb-false p (size game) l
 
 pub ruleset standings = (standing-empty)

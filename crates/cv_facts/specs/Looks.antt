@@ -30,6 +30,11 @@ pub record Holds (trees : List KindTree) (indices : Tree) (Γ : Context) (search
   pub own : Γ.own ≡ cells_of Γ.replications (tree_at trees search.own)
   pub ahead : IsAhead trees Γ.replications indices search.ahead
 
+-- the cell is directly defined at a place of the game
+abbrev pub IsDefinedAt : Option Context → Tree → Type 0
+IsDefinedAt None t = ⊥
+IsDefinedAt (Some Γ) t = IsAmong t Γ.cells
+
 -- What stands at the node of the first search stands at that of the second, with one cell more where it was found.
 pub record Reaches (trees : List KindTree) (term indices : Tree) (there : Option Context) (Γ : Context) (next : Search) (found : Bool) : Type 0 where
   pub context : Context

@@ -1,10 +1,10 @@
 -- What stands above a visited place holds there. This profile's own; Blanchet, TDSC 2008, for facts at a place of a game.
-use Rattle.std.specs.Prelude.{◌≡◌, ℕ, true, if◌then◌else◌, List, [], ◌∷◌, ◌++◌, Some}
+use Rattle.std.specs.Prelude.{◌≡◌, ◌≤◌, ◌<◌, ◌+◌, ℕ, true, if◌then◌else◌, List, [], ◌∷◌, ◌++◌, Some}
 use Rattle.std.specs.List.{AllByRecursion}
 use Rattle.cv_syntax.specs.declared.head.Head.{Head}
-use Rattle.cv_syntax.specs.declared.head.Head.TheVariants.{Branch, Cons, Find}
+use Rattle.cv_syntax.specs.declared.head.Head.TheVariants.{Par, Branch, Cons, Find}
 use Rattle.cv_syntax.specs.Layouts.{IsSyntax}
-use Rattle.cv_syntax.specs.Tree.{Tree, Empty, Node, first, first_place, second, second_place}
+use Rattle.cv_syntax.specs.Tree.{Tree, Empty, Node, first, first_place, second, second_place, size}
 use Rattle.cv_meaning.specs.Interpretation.{Setting}
 use Rattle.cv_meaning.specs.Binders.{bound_to, fits}
 use Rattle.cv_meaning.specs.Memory.{Memory, Indices, Local, Store, tuple}
@@ -16,18 +16,30 @@ use Rattle.cv_scope.specs.declared.position.Position.TheVariants as position
 use Rattle.cv_scope.specs.Context.{Context, first_position, nothing_known, second_position}
 use Rattle.cv_scope.specs.Sites.{Variable}
 use Rattle.cv_scope_runs.specs.Made.{made_by}
-use Rattle.cv_scope_runs.specs.Promises.{GrowsTo}
+use Rattle.cv_scope_runs.specs.Promises.{AreIndicesOf, GrowsTo}
 use Rattle.cv_facts.specs.Standing.{first_standing, second_standing, stands_at}
 
--- the cells that are directly defined are assigned, and the facts true
+-- the indices are those of the replications, the cells that are directly defined are assigned, and the facts true
 pub record StandsIn (g : Setting) (Γ : Context) (at : Indices) (x : Memory) : Type 0 where
+  pub indices : AreIndicesOf g at Γ.replications
   pub cells : AllByRecursion (λ c. is_assigned g at x.store x.store c ≡ true) Γ.cells
   pub facts : AllByRecursion (λ f. value g at x.store f ≡ 1) Γ.facts
 
--- then and later, at a visited place
+-- a place of the terms of a construct itself, which are its first child: a `find` and a parallel composition have none
+abbrev pub IsOwnTerm : ℕ → Tree → ℕ → Type 0
+IsOwnTerm p Empty q = ⊥
+IsOwnTerm p (Node (Find l) a b) q = ⊥
+IsOwnTerm p (Node Par a b) q = ⊥
+IsOwnTerm p (Node h a b) q = (first_place p h ≤ q) × (q < second_place p h a)
+
+-- what stands at the construct stands at those places
+abbrev pub OwnTermsStand : Tree → Context → ℕ → Tree → Type 0
+OwnTermsStand game Γ p t = (q : ℕ) → IsOwnTerm p t q → stands_at game q ≡ Some Γ
+
+-- then and later, at a visited place and at the places of the construct's own terms
 abbrev pub PlaceStands : Setting → Tree → Visit → Type 0
 PlaceStands g game v =
-    IsSyntax v.tree → (Γ : Context) × (stands_at game v.place ≡ Some Γ) × ((y : Memory) → GrowsTo v.before.memory y → StandsIn g Γ v.before.indices y)
+    IsSyntax v.tree → (Γ : Context) × (stands_at game v.place ≡ Some Γ) × OwnTermsStand game Γ v.place v.tree × ((y : Memory) → GrowsTo v.before.memory y → StandsIn g Γ v.before.indices y)
 
 -- what stands in a branch's list, in its condition and in its body
 abbrev pub in_list : Context → Tree → Context
@@ -38,6 +50,21 @@ in_condition Γ us cells = second_standing position.Guards Cons cells (in_list �
 
 abbrev pub in_body : Context → (us cells c : Tree) → Context
 in_body Γ us cells c = second_standing position.Guarded Cons c (in_condition Γ us cells)
+
+-- these stand in the branch behind its indices, at the places of its list and of its condition, and at that of its body
+pub record BranchPlaces (game : Tree) (Γ : Context) (p : ℕ) (us rest : Tree) : Type 0 where
+  pub list : (q : ℕ) → q < size (first rest) → stands_at game (p + q) ≡ Some (in_list Γ us)
+  pub condition : (q : ℕ) → q < size (first (second rest)) → stands_at game (p + size (first rest) + q) ≡ Some (in_condition Γ us (first rest))
+  pub body : stands_at game (p + size (first rest) + size (first (second rest))) ≡ Some (in_body Γ us (first rest) (first (second rest)))
+
+abbrev pub BranchesPlaces : Tree → Context → ℕ → Tree → Type 0
+BranchesPlaces game Γ p Empty = Unit {0}
+BranchesPlaces game Γ p (Node h branch more) =
+    BranchPlaces game Γ (second_place (first_place p h) Branch (first branch)) (first branch) (second branch) × BranchesPlaces game Γ (second_place p h branch) more
+
+abbrev pub FindPlaces : Tree → Context → ℕ → Tree → Type 0
+FindPlaces game Γ p (Node (Find l) a b) = BranchesPlaces game Γ (first_place p (Find l)) a
+FindPlaces game Γ p t = Unit {0}
 
 -- with a tuple of a branch in the second store: what stands in the list is so there, in the condition where the cells of the
 -- list are assigned, and in the body where the branch is a candidate, taken or not
@@ -56,9 +83,9 @@ abbrev pub FindStands : Setting → Context → Local → Tree → Type 0
 FindStands g Γ s (Node (Find l) a b) = BranchesStand g Γ s.indices s.memory a
 FindStands g Γ s t = Unit {0}
 
--- at each tuple of each branch of a visited `find`
+-- at each tuple of each branch of a visited `find`, and at the branch's places
 abbrev pub CandidatesStand : Setting → Tree → Visit → Type 0
-CandidatesStand g game v = IsSyntax v.tree → (Γ : Context) × (stands_at game v.place ≡ Some Γ) × FindStands g Γ v.before v.tree
+CandidatesStand g game v = IsSyntax v.tree → (Γ : Context) × (stands_at game v.place ≡ Some Γ) × FindPlaces game Γ v.place v.tree × FindStands g Γ v.before v.tree
 
 -- what stands behind a definition; behind a branch, that is in its body
 abbrev pub behind_site : Head → Tree → Tree → Context → Context

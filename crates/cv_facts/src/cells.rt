@@ -10,7 +10,7 @@ use cv_syntax::children::{is_empty, is_leaf};
 use cv_syntax::{Head, NodeId, Pool, read_node, same};
 
 /// What is left of a cell's index terms behind those of the replications above.
-#[derive(Clone, Copy, Debug)]
+#[derive(Clone, Copy)]
 pub(crate) enum Ahead {
     /// These are left.
     Rest(Option<NodeId>),
@@ -19,7 +19,7 @@ pub(crate) enum Ahead {
 }
 
 /// The variable of a cell, and its index terms.
-#[derive(Clone, Copy, Debug)]
+#[derive(Clone, Copy)]
 pub(crate) struct Cell {
     pub(crate) name: u32,
     pub(crate) indices: Option<NodeId>,

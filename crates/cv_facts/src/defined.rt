@@ -4,7 +4,7 @@ ghost use Rattle.cv_syntax.specs.Tree.{Tree, size, tree_at};
 ghost use Rattle.cv_scope.specs.Context.{Context, replications_below};
 ghost use Rattle.cv_scope.specs.Rules.{IsAmong};
 ghost use Rattle.cv_facts.specs.Cells.{AheadBelow, ArePartsOf, IsAhead, defined_second, indices_of};
-ghost use Rattle.cv_facts.specs.Looks.{Holds, Looks, own_behind};
+ghost use Rattle.cv_facts.specs.Looks.{Holds, IsDefinedAt, Looks, own_behind};
 ghost use Rattle.cv_facts.specs.Standing.{stands_at};
 
 use crate::cells::{Ahead, Cell, binds, is_item, name_here, parts, pass};
@@ -15,7 +15,7 @@ use cv_syntax::{Game, Head, NodeId, Opened, Pool, Work, read_node};
 
 /// A node on the way to a place: what is left of the place and of the index terms that are looked for, and the indices of the
 /// branch around.
-#[derive(Clone, Copy, Debug)]
+#[derive(Clone, Copy)]
 struct Search {
     at: Option<NodeId>,
     left: u32,
@@ -25,7 +25,7 @@ struct Search {
 }
 
 /// What is looked for: a term, and its parts where it is a cell.
-#[derive(Clone, Copy, Debug)]
+#[derive(Clone, Copy)]
 struct Sought {
     term: NodeId,
     parts: Option<Cell>,
@@ -148,13 +148,14 @@ fn down(pool: &Pool, sought: Sought, search: Search, n: NodeId) -> Option<(Searc
     }
 }
 
-/// Whether a cell is directly defined at a place of a game.
+/// Whether a cell is directly defined at a place of a game. At a place that the game hasn't, none is.
 #[tactic(auto, using(crate::proofs::Looking::looking))]
 pub fn defined_here(work: &Work, game: Game, place: u32, cell: NodeId) -> bool
     requires live { game.root.0 < length work.now.pool.trees }
     requires fits { size (tree_at work.now.pool.trees (Some game.root)) < 2 ^ 32 }
     requires cell { cell.0 < length work.now.pool.trees }
-    ensures { IfSome (stands_at (tree_at work.now.pool.trees (Some game.root)) place) (λ Γ. IsTrue result ↔ IsAmong (tree_at work.now.pool.trees (Some cell)) Γ.cells) }
+    ensures { IsTrue result ↔ IsDefinedAt (stands_at (tree_at work.now.pool.trees (Some game.root)) place)
+        (tree_at work.now.pool.trees (Some cell)) }
 {
     let sought = Sought {
         term: cell,
@@ -167,13 +168,12 @@ pub fn defined_here(work: &Work, game: Game, place: u32, cell: NodeId) -> bool
         own: None,
         ahead: all_ahead(&work.pool, sought.parts),
     };
+    let mut defined = false;
     'down: while let Some(n) = search.at {
         let Some((next, found)) = down(&work.pool, sought, search, n) else {
-            return false;
+            return defined;
         };
-        if found {
-            return true;
-        }
+        defined = defined || found;
         search = next;
     }
     false

@@ -6,10 +6,15 @@ mod defined;
 mod facts;
 mod known;
 mod laws;
+mod processes;
 mod sites;
 
 pub use defined::defined_here;
 pub use facts::fact;
 pub use known::Fact;
-pub use laws::{facts_hold_where_they_stand, places_have_few_factors};
+pub use laws::{
+    facts_hold_where_they_stand, facts_stand_in_the_game, places_have_few_factors,
+    sites_stand_in_the_game,
+};
+pub use processes::behind;
 pub use sites::site;

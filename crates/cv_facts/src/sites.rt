@@ -3,13 +3,14 @@ ghost use Rattle.cv_pool.specs.Nodes.{ChildBelow};
 ghost use Rattle.cv_syntax.specs.Tree.{size, tree_at};
 ghost use Rattle.cv_scope.specs.Sites.{Variable};
 ghost use Rattle.cv_scope_runs.specs.Made.{is_bound, made_by};
-ghost use Rattle.cv_facts.specs.Definitions.{counted_on, only, places_of, seen_then};
+ghost use Rattle.cv_facts.specs.Definitions.{counted_on, only, places, places_of, seen_then};
+ghost use Rattle.cv_facts.specs.Promises.{sites_of};
 
 use cv_syntax::children::second_of;
 use cv_syntax::{Game, Head, NameId, NodeId, Opened, Pool, Work, read_node};
 
 /// How many definitions were seen, with the place of the only one.
-#[derive(Clone, Copy, Debug, PartialEq, Eq)]
+#[derive(Clone, Copy)]
 enum Seen {
     Nothing,
     Once(u32),
@@ -86,7 +87,7 @@ fn count(pool: &Pool, x: u32, tree: Option<NodeId>, place: u32, seen: &mut Seen)
 pub fn site(work: &Work, game: Game, x: NameId) -> Option<u32>
     requires live { game.root.0 < length work.now.pool.trees }
     requires fits { size (tree_at work.now.pool.trees (Some game.root)) < 2 ^ 32 }
-    ensures { result ≡ only (places_of x.0 0 (tree_at work.now.pool.trees (Some game.root))) }
+    ensures { result ≡ only (places (sites_of (tree_at work.now.pool.trees (Some game.root)) x.0)) }
 {
     let mut seen = Seen::Nothing;
     let _ = count(&work.pool, x.0, Some(game.root), 0, &mut seen);

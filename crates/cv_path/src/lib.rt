@@ -11,6 +11,6 @@ mod replacing;
 pub use counting::copies;
 pub use error::PathError;
 pub use laws::{places_are_below_the_size, worked_copies};
-pub use place::{Lies, at, place_in};
+pub use place::{Lies, at, place_in, size_below};
 pub use product::Product;
 pub use replacing::replace;

@@ -20,7 +20,7 @@ pub enum Lies {
 }
 
 /// How many syntax nodes a child has.
-pub(crate) fn size_below(pool: &Pool, child: Option<NodeId>) -> u32
+pub fn size_below(pool: &Pool, child: Option<NodeId>) -> u32
     requires live { ChildBelow (length pool.now.trees) child }
     requires fits { tree.size (tree_at pool.now.trees child) < 2 ^ 32 }
     ensures { result ≡ tree.size (tree_at pool.now.trees child) }

@@ -1,9 +1,8 @@
-use Rattle.std.proofs.Common.{arith, refl, [], Some}
+use Rattle.std.proofs.Common.{arith, rules, refl, [], Some}
 use Rattle.cv_syntax.specs.Tree.{tree_at}
 use Rattle.cv_syntax.proofs.Trees.{empty_at}
 use Rattle.cv_scope.specs.Context.{nothing_known}
-use Rattle.cv_facts.specs.Cells.{indices_of}
-use Rattle.cv_facts.proofs.Looking.{cell-found, no_cells, no_place}
+use Rattle.cv_facts.proofs.Looking.{no_cells, no_place}
 use Rattle.cv_facts.proofs.Standings.{standing-empty}
 use Rattle.cv_facts.proofs.defined.defined_here.Goals as goal
 
@@ -15,15 +14,9 @@ down-init c = record {
   within = omega arith;
   context = nothing_known;
   holds = record { own = no_cells c.args.work.now.pool.trees []; ahead = c.all_ahead.ensures.all };
-  missing = λ m. m;
+  defined = search rules;
   same = refl;
 }
-
-pub returns-then-found : goal.returns-then-found
-returns-then-found c =
-    let trees = c.args.work.now.pool.trees in
-    let known = c.down.invariant in
-    cell-found trees (tree_at trees (Some c.args.cell)) (indices_of trees c.parts.result) _ _ known.context c.in-Some-down.next c.in-Some-down.found c.if-found.true known.same (c.in-Some-down.ensures.looks known.context c.parts.ensures.parts known.holds)
 
 pub returns : goal.returns
 returns c =

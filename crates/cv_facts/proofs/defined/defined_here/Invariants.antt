@@ -1,4 +1,5 @@
 use Rattle.std.proofs.Common.{◌≡◌, ◌+◌, ◌≤◌, Some, length}
+use Rattle.std.specs.Prelude.{◌↔◌, IsTrue}
 use Rattle.cv_pool.specs.Nodes.{ChildBelow}
 use Rattle.cv_syntax.specs.Tree.{size, tree_at}
 use Rattle.cv_syntax.specs.Walks.{above}
@@ -17,7 +18,7 @@ invariant-down l = record {
   within : size (tree_at l.work.pool.trees l.search.at) ≤ size (tree_at l.work.pool.trees (Some l.fn.game.root));
   context : Context;
   holds : Holds l.work.pool.trees (indices_of l.work.pool.trees l.sought.parts) context l.search;
-  missing : IsAmong (tree_at l.work.pool.trees (Some l.fn.cell)) context.cells → ⊥;
+  defined : IsTrue l.defined ↔ IsAmong (tree_at l.work.pool.trees (Some l.fn.cell)) context.cells;
   same : standing_at l.search.position context (tree_at l.work.pool.trees l.search.at) l.search.left ≡ stands_at (tree_at l.work.pool.trees (Some l.fn.game.root)) l.fn.place;
 }
 

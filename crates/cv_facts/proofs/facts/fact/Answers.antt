@@ -1,28 +1,44 @@
-use Rattle.std.proofs.Common.{arith, refl, sym, ◌∙◌}
-use Rattle.cv_syntax.specs.Tree.{tree_at}
+use Rattle.std.proofs.Common.{◌≡◌, arith, rules, sym, ap, ◌∙◌, [], ◌++◌, Some}
+use Rattle.std.specs.Prelude.{option_map}
+use Rattle.cv_syntax.specs.Tree.{size, tree_at}
 use Rattle.cv_syntax.proofs.Trees.{empty_at}
 use Rattle.cv_scope.specs.Context.{nothing_known}
-use Rattle.cv_facts.proofs.Standings.{nothing-tests, found-given, no_place, standing-empty}
+use Rattle.cv_facts.specs.Walks.{given_facts}
+use Rattle.cv_facts.proofs.Standings.{facts-empty, passed-append, no_place, none-passed, nothing-tests, passed-nil}
 use Rattle.cv_facts.proofs.facts.fact.Goals as goal
 
 pub down-init : goal.down-init
 down-init c = record {
   live = omega arith;
+  tested = tt;
   within = omega arith;
   context = nothing_known;
   tests = nothing-tests c.args.work.now.pool.trees;
-  facts = omega arith;
-  some = c.requires.from_one;
-  same = refl;
+  passed = [];
+  counts = none-passed c.args.work.now.pool.trees c.args.k;
+  kept = tt;
+  same = passed-nil _;
 }
 
-pub returns-then-more-eq1 : goal.returns-then-more-eq1
-returns-then-more-eq1 c =
+pub down-preserved : goal.down-preserved
+down-preserved c =
+    let trees = c.args.work.now.pool.trees in
     let known = c.down.invariant in
-    found-given c.args.work.now.pool.trees _ _ known.context c.in-Some-step.next c.in-Some-step.given c.args.k (sym c.is_some.ensures ∙ c.if-is_some.true) (omega (arith, known.facts, c.if-more-eq1.true)) known.same (c.in-Some-step.ensures.goes known.context known.tests)
+    let next = c.in-Some-step.ensures.goes known.context known.tests in
+    record {
+      live = search rules;
+      tested = c.in-Some-step.ensures.tested;
+      within = let e : size (tree_at trees c.down.walk.at) ≡ size (tree_at trees (Some c.in-Some.n)) = ap (λ o. size (tree_at trees o)) c.in-Some.is in omega (arith, c.in-Some-step.ensures.fits, known.within, e);
+      context = next.context;
+      tests = next.tests;
+      passed = known.passed ++ given_facts trees c.in-Some-step.given;
+      counts = c.count_behind-count.ensures.counts trees c.args.k known.passed c.requires.from_one known.counts;
+      kept = c.count_behind-count.ensures.live _ known.kept c.in-Some-step.ensures.live;
+      same = sym (passed-append known.passed (given_facts trees c.in-Some-step.given) _) ∙ (ap (option_map (λ fs. known.passed ++ fs)) (sym next.place) ∙ known.same);
+    }
 
 pub returns : goal.returns
 returns c =
     let trees = c.args.work.now.pool.trees in
     let known = c.down.invariant in
-    no_place trees _ _ c.args.k (standing-empty c.down.walk.position known.context (tree_at trees c.down.walk.at) c.down.walk.left (empty_at trees c.down.walk.at c.in_default.is)) known.same
+    record { fact = no_place c.args.k known.passed _ _ (facts-empty c.down.walk.position known.context (tree_at trees c.down.walk.at) c.down.walk.left (empty_at trees c.down.walk.at c.in_default.is)) known.same; live = tt }

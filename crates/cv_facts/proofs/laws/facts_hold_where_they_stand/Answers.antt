@@ -1,18 +1,28 @@
+use Rattle.std.proofs.Common.{List}
+use Rattle.cv_syntax.specs.Declarations.{Declaration}
+use Rattle.cv_syntax.specs.Tree.{Tree}
+use Rattle.cv_scope.specs.Context.{nothing_known}
+use Rattle.cv_scope_runs.specs.Phrases.{Inputs, IsWellFormedContext}
 use Rattle.cv_meaning.specs.Experiments.{run, visits_of_run, coins_on}
+use Rattle.cv_meaning_runs.proofs.Placed.{visits_have}
 use Rattle.cv_scope_runs.proofs.FactsRuns.{all_candidates_hold, all_cells_hold, all_places_hold, last_cells_hold}
 use Rattle.cv_facts.proofs.Covering.{all-candidates-stand, places-stand}
+use Rattle.cv_facts.proofs.Placing.{StandsSomewhere, game-stands, somewhere-passed}
 use Rattle.cv_facts.proofs.SitesStanding.{sites-stand, visits-stand}
 use Rattle.cv_facts.proofs.laws.facts_hold_where_they_stand.Goals as goal
 
+root : (ds : List Declaration) (game : Tree) → IsWellFormedContext ds game → StandsSomewhere game 0 game
+root ds game w = (Inputs, nothing_known, game-stands game w.phrase)
+
 pub returns-clause-places : goal.returns-clause-places
 unfolding visits_of_run
-returns-clause-places c = λ ds g m a game t e w. places-stand g game _ (all_places_hold ds g m (a.next (coins_on t 0 a.coins)) t a.moves game e w)
+returns-clause-places c = λ ds g m a game t e w. places-stand g game _ (visits_have (StandsSomewhere game) g m a game t (somewhere-passed game) (root ds game w)) (all_places_hold ds g m (a.next (coins_on t 0 a.coins)) t a.moves game e w)
 
 pub returns-clause-candidates : goal.returns-clause-candidates
 unfolding visits_of_run
 returns-clause-candidates c = λ ds g m a game t e w.
     let next = a.next (coins_on t 0 a.coins) in
-    all-candidates-stand g game _ (all_places_hold ds g m next t a.moves game e w) (all_candidates_hold ds g m next t a.moves game e w)
+    all-candidates-stand g game _ (visits_have (StandsSomewhere game) g m a game t (somewhere-passed game) (root ds game w)) (all_places_hold ds g m next t a.moves game e w) (all_candidates_hold ds g m next t a.moves game e w)
 
 pub returns-clause-sites : goal.returns-clause-sites
 unfolding visits_of_run

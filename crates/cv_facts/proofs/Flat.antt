@@ -1,0 +1,150 @@
+-- Phrases of the grammar that hold no process: terms, cells and lists. Above no place of theirs does anything more stand.
+use Rattle.std.proofs.Common.{◌≡◌, ℕ, Bool, true, false, [], Option, Some, None, refl, sym, ap, subst}
+use Rattle.std.proofs.lemmas.Bool.{both_ways}
+use Rattle.cv_syntax.specs.declared.head.Head.{Head}
+use Rattle.cv_syntax.specs.declared.head.Head.TheVariants.{Par, Find, Branch, Leaf, Read, Apply, Eq, And, Or, Not, Yes, No, Cons, Binder, Name}
+use Rattle.cv_syntax.specs.Tree.{Tree}
+use Rattle.cv_scope.specs.Context.{Context}
+use Rattle.cv_scope_runs.specs.Phrases.{Phrase, Nil, Inputs, Body, Then, Else, Branches, Arm, Guards, Guarded, Pattern, Message, Indices, Binders, Cells, OneCell, Terms, Term, oracle_parts}
+use Rattle.cv_scope_runs.proofs.Rows.{Row, stop, par, repl, input, yield, output, restriction, definition, key, call, event, test, bodies, last_body, find, branches, branch, guards, guarded, position_of, row, walks}
+use Rattle.cv_path.specs.Copies.{added}
+use Rattle.cv_facts.specs.Definitions.{can_define}
+use Rattle.cv_facts.specs.Standing.{first_standing, second_standing}
+
+pub Some-injective : {A : Type 0} (a b : A) → ◌≡◌ {A = Option A} (Some a) (Some b) → a ≡ b
+Some-injective a b e = cc
+
+pub None-Some : {A : Type 0} (a : A) → ◌≡◌ {A = Option A} None (Some a) → ⊥
+None-Some a e = cc
+
+-- the children are flat too, and nothing more stands above their places, or is multiplied there
+pub record Flat (σ τ ρ : Phrase) (h : Head) : Type 0 where
+  pub first : walks τ ≡ false
+  pub second : walks ρ ≡ false
+  pub added : (a b : Tree) (p : ℕ) → added h a b p ≡ []
+  pub stands_first : (Γ : Context) → first_standing (position_of σ) h Γ ≡ Γ
+  pub stands_second : (a : Tree) (Γ : Context) → second_standing (position_of σ) h a Γ ≡ Γ
+  pub defines : can_define h ≡ false
+
+abbrev IsFlat : Phrase → Head → Option (Phrase × Phrase) → Type 0
+IsFlat σ h None = Unit {0}
+IsFlat σ h (Some q) = walks σ ≡ false → Flat σ q.0 q.1 h
+
+walked : (σ : Phrase) (h : Head) (o : Option (Phrase × Phrase)) → walks σ ≡ true → IsFlat σ h o
+walked σ h None w = tt
+walked σ h (Some q) w = λ f. absurd (both_ways (walks σ) f w)
+
+all-flat : (σ : Phrase) (h : Head) → IsFlat σ h (oracle_parts σ h)
+all-flat Inputs h = walked Inputs h (oracle_parts Inputs h) refl
+all-flat Body h = walked Body h (oracle_parts Body h) refl
+all-flat Then h = walked Then h (oracle_parts Then h) refl
+all-flat Else h = walked Else h (oracle_parts Else h) refl
+all-flat Branches h = walked Branches h (oracle_parts Branches h) refl
+all-flat Arm h = walked Arm h (oracle_parts Arm h) refl
+all-flat Guards h = walked Guards h (oracle_parts Guards h) refl
+all-flat Guarded h = walked Guarded h (oracle_parts Guarded h) refl
+all-flat Pattern Cons = λ w. record { first = refl; second = refl; added = λ a b p. refl; stands_first = λ Γ. refl; stands_second = λ a Γ. refl; defines = refl }
+all-flat Message Cons = λ w. record { first = refl; second = refl; added = λ a b p. refl; stands_first = λ Γ. refl; stands_second = λ a Γ. refl; defines = refl }
+all-flat Indices (Name i) = λ w. record { first = refl; second = refl; added = λ a b p. refl; stands_first = λ Γ. refl; stands_second = λ a Γ. refl; defines = refl }
+all-flat Binders (Binder x T) = λ w. record { first = refl; second = refl; added = λ a b p. refl; stands_first = λ Γ. refl; stands_second = λ a Γ. refl; defines = refl }
+all-flat Cells Cons = λ w. record { first = refl; second = refl; added = λ a b p. refl; stands_first = λ Γ. refl; stands_second = λ a Γ. refl; defines = refl }
+all-flat OneCell (Leaf x) = λ w. record { first = refl; second = refl; added = λ a b p. refl; stands_first = λ Γ. refl; stands_second = λ a Γ. refl; defines = refl }
+all-flat OneCell (Read x) = λ w. record { first = refl; second = refl; added = λ a b p. refl; stands_first = λ Γ. refl; stands_second = λ a Γ. refl; defines = refl }
+all-flat Terms Cons = λ w. record { first = refl; second = refl; added = λ a b p. refl; stands_first = λ Γ. refl; stands_second = λ a Γ. refl; defines = refl }
+all-flat Term (Leaf x) = λ w. record { first = refl; second = refl; added = λ a b p. refl; stands_first = λ Γ. refl; stands_second = λ a Γ. refl; defines = refl }
+all-flat Term (Read x) = λ w. record { first = refl; second = refl; added = λ a b p. refl; stands_first = λ Γ. refl; stands_second = λ a Γ. refl; defines = refl }
+all-flat Term (Apply f) = λ w. record { first = refl; second = refl; added = λ a b p. refl; stands_first = λ Γ. refl; stands_second = λ a Γ. refl; defines = refl }
+all-flat Term Eq = λ w. record { first = refl; second = refl; added = λ a b p. refl; stands_first = λ Γ. refl; stands_second = λ a Γ. refl; defines = refl }
+all-flat Term And = λ w. record { first = refl; second = refl; added = λ a b p. refl; stands_first = λ Γ. refl; stands_second = λ a Γ. refl; defines = refl }
+all-flat Term Or = λ w. record { first = refl; second = refl; added = λ a b p. refl; stands_first = λ Γ. refl; stands_second = λ a Γ. refl; defines = refl }
+all-flat Term Not = λ w. record { first = refl; second = refl; added = λ a b p. refl; stands_first = λ Γ. refl; stands_second = λ a Γ. refl; defines = refl }
+all-flat Term Yes = λ w. record { first = refl; second = refl; added = λ a b p. refl; stands_first = λ Γ. refl; stands_second = λ a Γ. refl; defines = refl }
+all-flat Term No = λ w. record { first = refl; second = refl; added = λ a b p. refl; stands_first = λ Γ. refl; stands_second = λ a Γ. refl; defines = refl }
+all-flat σ h = tt
+
+pub flat-parts : (σ τ ρ : Phrase) (h : Head) → walks σ ≡ false → oracle_parts σ h ≡ Some (τ, ρ) → Flat σ τ ρ h
+flat-parts σ τ ρ h w e = subst (IsFlat σ h) e (all-flat σ h) w
+
+-- the children of a branch, of a `find` and of what else defines variables
+
+pub arm-parts : (σ : Phrase) (q : Phrase × Phrase) → oracle_parts σ Branch ≡ Some q → q.1 ≡ Guards
+arm-parts Arm q e = ap (λ (r : Phrase × Phrase). r.1) (sym (Some-injective (Binders, Guards) q e))
+arm-parts Nil q e = absurd (None-Some q e)
+arm-parts σ q e = absurd (None-Some q e)
+
+pub find-parts : (σ : Phrase) (l : ℕ) (q : Phrase × Phrase) → oracle_parts σ (Find l) ≡ Some q → q.0 ≡ Branches
+find-parts Body l q e = ap (λ (r : Phrase × Phrase). r.0) (sym (Some-injective (Branches, Body) q e))
+find-parts Nil l q e = absurd (None-Some q e)
+find-parts σ l q e = absurd (None-Some q e)
+
+-- definitions but for branches
+abbrev pub continues : Head → Bool
+continues Branch = false
+continues h = can_define h
+
+continued-row : (σ τ ρ : Phrase) (h : Head) → Row σ h τ ρ → continues h ≡ true → ρ ≡ Body
+continued-row σ τ ρ h stop c = absurd (both_ways _ refl c)
+continued-row σ τ ρ h par c = absurd (both_ways _ refl c)
+continued-row σ τ ρ h repl c = absurd (both_ways _ refl c)
+continued-row σ τ ρ h input c = refl
+continued-row σ τ ρ h yield c = absurd (both_ways _ refl c)
+continued-row σ τ ρ h output c = absurd (both_ways _ refl c)
+continued-row σ τ ρ h restriction c = refl
+continued-row σ τ ρ h definition c = refl
+continued-row σ τ ρ h key c = refl
+continued-row σ τ ρ h call c = refl
+continued-row σ τ ρ h event c = absurd (both_ways _ refl c)
+continued-row σ τ ρ h test c = absurd (both_ways _ refl c)
+continued-row σ τ ρ h bodies c = absurd (both_ways _ refl c)
+continued-row σ τ ρ h last_body c = absurd (both_ways _ refl c)
+continued-row σ τ ρ h find c = absurd (both_ways _ refl c)
+continued-row σ τ ρ h branches c = absurd (both_ways _ refl c)
+continued-row σ τ ρ h branch c = absurd (both_ways _ refl c)
+continued-row σ τ ρ h guards c = absurd (both_ways _ refl c)
+continued-row σ τ ρ h guarded c = absurd (both_ways _ refl c)
+
+continues-defines : (h : Head) → continues h ≡ true → can_define h ≡ true
+continues-defines Branch e = absurd (both_ways _ refl e)
+continues-defines h e = e
+
+pub continued-parts : (σ τ ρ : Phrase) (h : Head) → continues h ≡ true → oracle_parts σ h ≡ Some (τ, ρ) → ρ ≡ Body
+continued-parts σ τ ρ h c e = go (walks σ) refl
+  where
+    go : (b : Bool) → walks σ ≡ b → ρ ≡ Body
+    go true w = continued-row σ τ ρ h (row σ h τ ρ w e) c
+    go false w = absurd (both_ways (can_define h) (flat-parts σ τ ρ h w e).defines (continues-defines h c))
+
+-- the first child of a construct holds its own terms
+abbrev pub has_terms : Head → Bool
+has_terms Cons = false
+has_terms Par = false
+has_terms (Find l) = false
+has_terms h = true
+
+terms-row : (σ τ ρ : Phrase) (h : Head) → Row σ h τ ρ → has_terms h ≡ true → walks τ ≡ false
+terms-row σ τ ρ h stop c = refl
+terms-row σ τ ρ h par c = absurd (both_ways _ refl c)
+terms-row σ τ ρ h repl c = refl
+terms-row σ τ ρ h input c = refl
+terms-row σ τ ρ h yield c = refl
+terms-row σ τ ρ h output c = refl
+terms-row σ τ ρ h restriction c = refl
+terms-row σ τ ρ h definition c = refl
+terms-row σ τ ρ h key c = refl
+terms-row σ τ ρ h call c = refl
+terms-row σ τ ρ h event c = refl
+terms-row σ τ ρ h test c = refl
+terms-row σ τ ρ h bodies c = absurd (both_ways _ refl c)
+terms-row σ τ ρ h last_body c = absurd (both_ways _ refl c)
+terms-row σ τ ρ h find c = absurd (both_ways _ refl c)
+terms-row σ τ ρ h branches c = absurd (both_ways _ refl c)
+terms-row σ τ ρ h branch c = refl
+terms-row σ τ ρ h guards c = absurd (both_ways _ refl c)
+terms-row σ τ ρ h guarded c = absurd (both_ways _ refl c)
+
+pub terms-parts : (σ τ ρ : Phrase) (h : Head) → has_terms h ≡ true → oracle_parts σ h ≡ Some (τ, ρ) → walks τ ≡ false
+terms-parts σ τ ρ h c e = go (walks σ) refl
+  where
+    go : (b : Bool) → walks σ ≡ b → walks τ ≡ false
+    go true w = terms-row σ τ ρ h (row σ h τ ρ w e) c
+    go false w = (flat-parts σ τ ρ h w e).first
