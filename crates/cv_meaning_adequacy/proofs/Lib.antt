@@ -10,4 +10,5 @@ pub mod TypedRuns
 pub mod Counting
 pub mod TypedTapes
 pub mod Worked
+pub mod WorkedSides
 pub mod Reading

@@ -14,7 +14,7 @@ use Rattle.cv_meaning.specs.Terms.{or_zero, found_in, bit, leaf_value_from, valu
 use Rattle.cv_meaning.specs.Binders.{fits_types}
 use Rattle.cv_meaning.specs.Satisfies.{Satisfies, DeclarationHolds, IsTotal}
 use Rattle.cv_meaning_laws.proofs.Listed.{Has}
-use Rattle.cv_meaning_adequacy.specs.Typed.{Sort, OfType, BelowParameter, boolean, size_of, Variable, Context, Scope, parameter_in, IsFunction, NameHasSort, HasSort, HaveSorts, IsModel, IsDeclared, AreIndicesOf, IsTypedStore}
+use Rattle.cv_meaning_adequacy.specs.Typed.{Sort, OfType, BelowParameter, boolean, size_of, Variable, Context, Scope, parameter_in, IsFunction, NameHasSort, HasSort, HaveSorts, IsModel, IsDeclared, AreIndicesOf, IsTypedStore, AreOf}
 use Rattle.cv_meaning_adequacy.proofs.Lists.{contains_has}
 
 -- what the interpretation satisfies
@@ -27,7 +27,7 @@ all_has P (y ∷ xs) h x (inr i) = all_has P xs h.1 x i
 holds_in : (ds : List Declaration) (i : Interpretation) → Satisfies ds i → (d : Declaration) → Has ds d → DeclarationHolds (setting_of ds i) d
 holds_in ds i s d h = all_has (DeclarationHolds (setting_of ds i)) ds s.each d h
 
-pub some_value : (c : Context) (i : Interpretation) → Satisfies c.declarations i → (S : Sort) → IsDeclared c S → 1 ≤ size_of i S
+pub some_value : (c : Context) (i : Interpretation) → Satisfies c.declarations i → (S : Sort) → IsDeclared c.declarations S → 1 ≤ size_of i S
 some_value c i s (OfType T) (inl e) = let two : i.type_size T ≡ 2 = ap i.type_size e ∙ s.bool in omega arith
 some_value c i s (OfType T) (inr d) = holds_in c.declarations i s (Named T (class.TypeName d.0 d.1) d.2 d.3) (contains_has _ _ d.4)
 some_value c i s (BelowParameter n) d = holds_in c.declarations i s (Named n class.Param d.0 d.1) (contains_has _ _ d.2)
@@ -36,11 +36,6 @@ function_total : (c : Context) (i : Interpretation) → Satisfies c.declarations
 function_total c i s f Ts T d = (holds_in c.declarations i s (Named f (class.Fun d.0) (names Ts) (Some T)) (contains_has _ _ d.1)).0
 
 -- lists of values
-
-abbrev pub AreOf : Interpretation → List Sort → List ℕ → Type 0
-AreOf i [] [] = Unit {0}
-AreOf i (S ∷ Ss) (v ∷ vs) = (v < size_of i S) × AreOf i Ss vs
-AreOf i _ _ = ⊥
 
 arguments_fit : (i : Interpretation) (Ts vs : List ℕ) → AreOf i (map OfType Ts) vs → fits_types i.type_size (names Ts) vs ≡ true
 arguments_fit i [] [] h = refl
@@ -54,8 +49,8 @@ read_below : (n : ℕ) (o : Option ℕ) → 1 ≤ n → ((v : ℕ) → o ≡ Som
 read_below n None h k = h
 read_below n (Some v) h k = k v refl
 
-read_typed : (c : Context) (i : Interpretation) (side : Side) → IsModel c i side → (m : Store) → IsTypedStore c i m → (x : ℕ) (V : Variable) (u : List ℕ) → c.variables x ≡ Some V → or_zero (m x u) < size_of i V.sort
-read_typed c i side w m h x V u e = read_below (size_of i V.sort) (m x u) (some_value c i w.satisfies V.sort (w.variables x V e)) (λ v k. (h x V u v e k).1)
+read_typed : (c : Context) (i : Interpretation) → IsModel c i → (m : Store) → IsTypedStore c i m → (x : ℕ) (V : Variable) (u : List ℕ) → c.variables x ≡ Some V → or_zero (m x u) < size_of i V.sort
+read_typed c i w m h x V u e = read_below (size_of i V.sort) (m x u) (some_value c i w.satisfies V.sort (w.variables x V e)) (λ v k. (h x V u v e k).1)
 
 -- an index of the scope has a value below its parameter
 index_typed : (i : Interpretation) (ps : Scope) (at : Indices) → AreIndicesOf i ps at → (x : ℕ) → MatchOption (parameter_in ps x) (found_in at x ≡ None) (λ n. (v : ℕ) × (found_in at x ≡ Some v) × (v < i.parameter_value n))
@@ -74,7 +69,7 @@ index_typed i (p ∷ ps) [] h x = absurd h
 of_sort : (i : Interpretation) (S R : Sort) (v : ℕ) → S ≡ R → v < size_of i R → v < size_of i S
 of_sort i S R v e h = subst (λ z. v < size_of i z) (sym e) h
 
-module _ (c : Context) (i : Interpretation) (side : Side) (w : IsModel c i side) where
+module _ (c : Context) (i : Interpretation) (side : Side) (w : IsModel c i) where
   abbrev g : Setting
   g = setting_with c.declarations i side
 
@@ -83,7 +78,7 @@ module _ (c : Context) (i : Interpretation) (side : Side) (w : IsModel c i side)
     where
       go : (b : Bool) → MatchBool b ((T : ℕ) × IsFunction c x [] T × (S ≡ OfType T)) (c.variables x ≡ Some (record { indices = []; sort = S })) → cond b (i.table x []) (or_zero (m x [])) < size_of i S
       go true d = of_sort i S (OfType d.0) _ d.2 (function_total c i w.satisfies x [] d.0 d.1 [] refl)
-      go false e = read_typed c i side w m h x _ [] e
+      go false e = read_typed c i w m h x _ [] e
 
   leaf_typed : (ps : Scope) (at : Indices) (m : Store) → AreIndicesOf i ps at → IsTypedStore c i m → (x : ℕ) (S : Sort) → MatchOption (parameter_in ps x) (NameHasSort c x S) (λ n. S ≡ BelowParameter n) → leaf_value_from g m x (found_in at x) < size_of i S
   leaf_typed ps at m a h x S k = go (parameter_in ps x) k (index_typed i ps at a x)
@@ -106,7 +101,7 @@ module _ (c : Context) (i : Interpretation) (side : Side) (w : IsModel c i side)
       pub typed_value : (a : Tree) (S : Sort) → HasSort c ps a S → value g at m a < size_of i S
       typed_value Empty S k = absurd k
       typed_value (Node (Leaf x) a b) S k = leaf_typed ps at m a_at h x S k
-      typed_value (Node (Read x) a b) S k = of_sort i S k.0.sort _ k.2 (read_typed c i side w m h x k.0 _ k.1)
+      typed_value (Node (Read x) a b) S k = of_sort i S k.0.sort _ k.2 (read_typed c i w m h x k.0 _ k.1)
       typed_value (Node (Apply f) a b) S k =
           of_sort i S (OfType k.1) _ k.3 (function_total c i w.satisfies f k.0 k.1 k.2 _ (arguments_fit i k.0 _ (typed_values a (map OfType k.0) k.4)))
       typed_value (Node Eq a b) S k = bit_typed S _ k.0

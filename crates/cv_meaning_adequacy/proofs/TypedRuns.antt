@@ -5,13 +5,13 @@ use Rattle.std.specs.List.{AllByRecursion}
 use Rattle.cv_syntax.specs.declared.head.Head.TheVariants.{Par, Repl, In, Out, Event, New, Let, If, Find, Branch, Cons, Binder, Key, Call}
 use Rattle.cv_syntax.specs.Tree.{Tree, Empty, Node, first, second}
 use Rattle.cv_meaning.specs.Tapes.{Tape, Find_at, same_tuple}
-use Rattle.cv_meaning.specs.Side.{Side}
+use Rattle.cv_meaning.specs.Side.{Side, no_side}
 use Rattle.cv_meaning.specs.Interpretation.{Interpretation, Setting, setting_with}
-use Rattle.cv_meaning.specs.Memory.{Store, put, Indices, tuple, Local}
+use Rattle.cv_meaning.specs.Memory.{Store, put, Indices, tuple, Memory, Local, with_store}
 use Rattle.cv_meaning.specs.Binders.{fits, bound_to}
 use Rattle.cv_meaning.specs.Candidates.{Candidate, below, candidates, chosen}
 use Rattle.cv_meaning.specs.Inputs.{Input, inputs_of, message_binders}
-use Rattle.cv_meaning.specs.Serving.{Served, after_find, step, serve, after_turn}
+use Rattle.cv_meaning.specs.Serving.{Served, after_find, step, serve, after_turn, oracle_call}
 use Rattle.cv_meaning.specs.Runs.{Mode, Move, Calls, Tests, Guesses, State, Adversary, Taken, taken, called, told, tested_with, moved, admitted, if_fitting, start}
 use Rattle.cv_meaning.specs.Experiments.{run, coins_on}
 use Rattle.cv_meaning_laws.proofs.Counts.{same_tuple_exact}
@@ -19,10 +19,10 @@ use Rattle.cv_meaning_laws.proofs.Lists.{each_append}
 use Rattle.cv_meaning_laws.proofs.Moves.{TakenEach, admitted_each, run_keeps}
 use Rattle.cv_meaning_laws.proofs.Listed.{Has, each_flat_map_in}
 use Rattle.cv_meaning_adequacy.specs.Finds.{branch_at, AreIndices, IsCandidateOf}
-use Rattle.cv_meaning_adequacy.specs.Typed.{Sort, OfType, BelowParameter, size_of, Variable, Context, Scope, parameters, AreVariables, AreBranches, IsTyped, IsModel, AreBelowParameters, AreIndicesOf, IsTypedStore, IsTypedTape}
+use Rattle.cv_meaning_adequacy.specs.Typed.{Sort, OfType, BelowParameter, size_of, Variable, Context, Scope, parameters, AreVariables, AreBranches, IsTyped, IsModel, AreBelowParameters, AreIndicesOf, IsTypedStore, IsTypedTape, AreTypedArrays, KeepsSorts, HasNoOracles}
 use Rattle.cv_meaning_adequacy.proofs.Lists.{below_has, stands_has}
 use Rattle.cv_meaning_adequacy.proofs.Finding.{has_candidate}
-use Rattle.cv_meaning_adequacy.proofs.Sorted.{some_value, typed_value}
+use Rattle.cv_meaning_adequacy.proofs.Sorted.{some_value, typed_value, typed_values}
 
 -- indices
 
@@ -121,11 +121,16 @@ message_bound : (i : Interpretation) (o : Tree) → IsInput o → (vs : List ℕ
 message_bound i (Node (In x) a b) w vs h = message_given i (second a) vs h
 message_bound i _ w vs h = absurd w
 
+-- what a run remembers: values of the sorts of variables, and of what the side assigned
+pub record IsTypedMemory (c : Context) (i : Interpretation) (m : Memory) : Type 0 where
+  pub store : IsTypedStore c i m.store
+  pub arrays : AreTypedArrays c i m.arrays
+
 pub record IsServedTyped (c : Context) (i : Interpretation) (r : Served) : Type 0 where
-  pub store : IsTypedStore c i r.last.memory.store
+  pub memory : IsTypedMemory c i r.last.memory
   pub opened : AllByRecursion (IsTypedInput c i) r.opened
 
-module _ (c : Context) (i : Interpretation) (side : Side) (w : IsModel c i side) where
+module _ (c : Context) (i : Interpretation) (side : Side) (w : IsModel c i) where
   abbrev g : Setting
   g = setting_with c.declarations i side
 
@@ -141,11 +146,18 @@ module _ (c : Context) (i : Interpretation) (side : Side) (w : IsModel c i side)
 
   -- the service of an input
 
-  module _ (t : Tape) (tape : IsTypedTape c i t) where
-    abbrev Serves : Tree → Type 0
-    Serves b = (p k : ℕ) (vs : List ℕ) (s : Local) (ps : Scope) → AreIndicesOf i ps s.indices → IsTyped c ps b → Bound i b k vs → IsTypedStore c i s.memory.store → IsServedTyped c i (serve g t b p k vs s)
+  module _ (t : Tape) (tape : IsTypedTape c i t) (keeps : KeepsSorts c i side t) where
+    abbrev IsKept : Memory → Type 0
+    IsKept m = IsTypedMemory c i m
 
-    find_typed : (a b : Tree) (pa pb : ℕ) → Serves a → Serves b → AreBranches a → (s : Local) (ps : Scope) → AreIndicesOf i ps s.indices → IsTyped c ps a → IsTyped c ps b → IsTypedStore c i s.memory.store → (o : Option Candidate) → ((r : Candidate) → o ≡ Some r → IsCandidateOf g s.indices s.memory.store a r)
+    abbrev Serves : Tree → Type 0
+    Serves b = (p k : ℕ) (vs : List ℕ) (s : Local) (ps : Scope) → AreIndicesOf i ps s.indices → IsTyped c ps b → Bound i b k vs → IsKept s.memory → IsServedTyped c i (serve g t b p k vs s)
+
+    -- a store with further values of their sorts
+    kept : (s : Local) (m : Store) → IsKept s.memory → IsTypedStore c i m → IsKept (with_store s m).memory
+    kept s m h k = record { store = k; arrays = h.arrays }
+
+    find_typed : (a b : Tree) (pa pb : ℕ) → Serves a → Serves b → AreBranches a → (s : Local) (ps : Scope) → AreIndicesOf i ps s.indices → IsTyped c ps a → IsTyped c ps b → IsKept s.memory → (o : Option Candidate) → ((r : Candidate) → o ≡ Some r → IsCandidateOf g s.indices s.memory.store a r)
         → IsServedTyped c i (after_turn (λ r. r) (serve g t a pa) (serve g t b pb) (after_find s o))
     find_typed a b pa pb ih_a ih_b bs s ps at ka kb h None r = ih_b pb 0 [] s ps at kb (none_bound i b 0) h
     find_typed a b pa pb ih_a ih_b bs s ps at ka kb h (Some x) r =
@@ -154,43 +166,45 @@ module _ (c : Context) (i : Interpretation) (side : Side) (w : IsModel c i side)
 
     serve_typed : (b : Tree) → Serves b
     unfolding serve step IsTyped
-    serve_typed Empty p k vs s ps at d v h = record { store = h; opened = tt }
+    serve_typed Empty p k vs s ps at d v h = record { memory = h; opened = tt }
     serve_typed (Node (In x) a b) p k vs s ps at d v h =
-        serve_typed b _ 0 [] _ ps at d.1 (none_bound i b 0) (bound_typed c i ps (tuple s.indices) (indices_below i ps s.indices at) OfType (second a) vs d.0 v s.memory.store h)
-    serve_typed (Node (Event e) a b) p k vs s ps at d v h = serve_typed b _ 0 [] _ ps at d.1 (none_bound i b 0) h
+        serve_typed b _ 0 [] _ ps at d.1 (none_bound i b 0) (kept s _ h (bound_typed c i ps (tuple s.indices) (indices_below i ps s.indices at) OfType (second a) vs d.0 v s.memory.store h.store))
+    serve_typed (Node (Event e) a b) p k vs s ps at d v h = serve_typed b _ 0 [] _ ps at d.1 (none_bound i b 0) (record { store = h.store; arrays = h.arrays })
     serve_typed (Node (New x T) a b) p k vs s ps at d v h =
-        serve_typed b _ 0 [] _ ps at d.1 (none_bound i b 0) (put_typed c i s.memory.store h x _ _ _ d.0 (indices_below i ps s.indices at) (tape x _ _ d.0))
+        serve_typed b _ 0 [] _ ps at d.1 (none_bound i b 0) (kept s _ h (put_typed c i s.memory.store h.store x _ _ _ d.0 (indices_below i ps s.indices at) (tape x _ _ d.0)))
     serve_typed (Node (Let x T) a b) p k vs s ps at d v h =
         serve_typed b _ 0 [] _ ps at d.2 (none_bound i b 0)
-        (put_typed c i s.memory.store h x _ _ _ d.0 (indices_below i ps s.indices at) (typed_value c i side w ps s.indices s.memory.store at h a (OfType T) d.1))
+        (kept s _ h (put_typed c i s.memory.store h.store x _ _ _ d.0 (indices_below i ps s.indices at) (typed_value c i side w ps s.indices s.memory.store at h.store a (OfType T) d.1)))
     serve_typed (Node (Key x) a b) p k vs s ps at d v h =
-        serve_typed b _ 0 [] _ ps at d.1 (none_bound i b 0) (put_typed c i s.memory.store h x _ _ _ d.0.1 (indices_below i ps s.indices at) (some_value c i w.satisfies d.0.0 (w.variables x _ d.0.1)))
+        serve_typed b _ 0 [] _ ps at d.1 (none_bound i b 0) (kept s _ h (put_typed c i s.memory.store h.store x _ _ _ d.0.1 (indices_below i ps s.indices at) (some_value c i w.satisfies d.0.0 (w.variables x _ d.0.1))))
     serve_typed (Node (Call x l) a b) p k vs s ps at d v h =
-        serve_typed b _ 0 [] _ ps at d.2 (none_bound i b 0) (put_typed c i s.memory.store h x _ _ _ d.0.2 (indices_below i ps s.indices at) (w.results t s.memory.arrays _ d.0.0 d.0.1))
+        let O = d.0.0 in
+        let r = keeps s.memory.arrays (oracle_call g s l a) O h.arrays d.0.1 (typed_values c i side w ps s.indices s.memory.store at h.store (second a) O.arguments d.0.3) in
+        serve_typed b _ 0 [] _ ps at d.2 (none_bound i b 0) (record { store = put_typed c i s.memory.store h.store x _ _ _ d.0.2 (indices_below i ps s.indices at) r.value; arrays = r.arrays })
     serve_typed (Node If a b) p k vs s ps at d v h = serve_typed b _ _ [] s ps at d.1 (none_bound i b _) h
     serve_typed (Node (Find l) a b) p k vs s ps at d v h =
         find_typed a b _ _ (serve_typed a) (serve_typed b) d.0 s ps at d.1 d.2 h (chosen (candidates g s.indices s.memory.store a) (t (Find_at l (tuple s.indices))))
         (λ r e. has_candidate g s.indices s.memory.store a r (chosen_among _ _ r e))
     serve_typed (Node Branch a b) p k vs s ps at d v h =
-        serve_typed b _ 2 [] _ ps at d.3 (none_bound i b 2) (bound_typed c i ps (tuple s.indices) (indices_below i ps s.indices at) BelowParameter a vs d.0 v s.memory.store h)
+        serve_typed b _ 2 [] _ ps at d.3 (none_bound i b 2) (kept s _ h (bound_typed c i ps (tuple s.indices) (indices_below i ps s.indices at) BelowParameter a vs d.0 v s.memory.store h.store))
     serve_typed (Node Cons a b) p zero vs s ps at d v h = serve_typed a _ 0 vs s ps at d.0 v h
     serve_typed (Node Cons a b) p (suc k) vs s ps at d v h = serve_typed b _ k vs s ps at d.1 v h
-    serve_typed (Node (Out x) a b) p k vs s ps at d v h = record { store = h; opened = inputs_typed b _ s.indices ps at d.1 }
-    serve_typed (Node o a b) p k vs s ps at d v h = record { store = h; opened = tt }
+    serve_typed (Node (Out x) a b) p k vs s ps at d v h = record { memory = h; opened = inputs_typed b _ s.indices ps at d.1 }
+    serve_typed (Node o a b) p k vs s ps at d v h = record { memory = h; opened = tt }
 
     -- runs
 
     record IsTypedState (st : State) : Type 0 where
-      store : IsTypedStore c i st.memory.store
+      memory : IsKept st.memory
       inputs : AllByRecursion (IsTypedInput c i) st.inputs
 
     called_typed : (st : State) (vs : List ℕ) → IsTypedState st → (o : Option Taken) → ((k : Taken) → o ≡ Some k → TakenEach (IsTypedInput c i) k) → ((k : Taken) → o ≡ Some k → fits i.type_size (message_binders k.input) vs ≡ true)
         → IsTypedState (called g t st vs o)
-    called_typed st vs h None e f = record { store = h.store; inputs = h.inputs }
+    called_typed st vs h None e f = record { memory = h.memory; inputs = h.inputs }
     called_typed st vs h (Some k) e f =
         let x = (e k refl).input in
-        let r = serve_typed k.input.tree k.input.place 0 vs (record { indices = k.input.indices; memory = st.memory }) x.scope x.indices x.typed (message_bound i k.input.tree x.is_input vs (f k refl)) h.store in
-        record { store = r.store; inputs = each_append (IsTypedInput c i) k.others _ (e k refl).others r.opened }
+        let r = serve_typed k.input.tree k.input.place 0 vs (record { indices = k.input.indices; memory = st.memory }) x.scope x.indices x.typed (message_bound i k.input.tree x.is_input vs (f k refl)) h.memory in
+        record { memory = r.memory; inputs = each_append (IsTypedInput c i) k.others _ (e k refl).others r.opened }
 
     admitted_fits : (ch : ℕ) (u vs : List ℕ) (is : List Input) (k : Taken) → admitted g ch u vs is ≡ Some k → fits i.type_size (message_binders k.input) vs ≡ true
     admitted_fits ch u vs is k e = go (taken ch u is) e
@@ -204,19 +218,24 @@ module _ (c : Context) (i : Interpretation) (side : Side) (w : IsModel c i side)
             fitting false f e = cc
 
     tested_typed : (st : State) → IsTypedState st → (o : Option ℕ) → IsTypedState (tested_with st o)
-    tested_typed st h None = record { store = h.store; inputs = h.inputs }
-    tested_typed st h (Some v) = record { store = h.store; inputs = h.inputs }
+    tested_typed st h None = record { memory = h.memory; inputs = h.inputs }
+    tested_typed st h (Some v) = record { memory = h.memory; inputs = h.inputs }
 
     moved_typed : (m : Mode) (st : State) (a : Move) → IsTypedState st → IsTypedState (moved g m t st a)
     unfolding moved
     moved_typed m st (Calls ch u vs) h =
         called_typed st vs h (admitted g ch u vs st.inputs) (admitted_each (IsTypedInput c i) g ch u vs st.inputs h.inputs) (admitted_fits ch u vs st.inputs)
     moved_typed m st (Tests u) h = tested_typed st h (told m t st u)
-    moved_typed m st (Guesses b) h = record { store = h.store; inputs = h.inputs }
+    moved_typed m st (Guesses b) h = record { memory = h.memory; inputs = h.inputs }
 
-pub run_typed : (c : Context) (i : Interpretation) (side : Side) → IsModel c i side → (game : Tree) → IsTyped c [] game → (m : Mode) (a : Adversary) (t : Tape) → IsTypedTape c i t → IsTypedStore c i (run (setting_with c.declarations i side) m a game t).memory.store
+pub run_typed : (c : Context) (i : Interpretation) (side : Side) → IsModel c i → (game : Tree) → IsTyped c [] game → (m : Mode) (a : Adversary) (t : Tape) → IsTypedTape c i t → KeepsSorts c i side t
+    → IsTypedStore c i (run (setting_with c.declarations i side) m a game t).memory.store
 unfolding run
-run_typed c i side w game k m a t tape =
+run_typed c i side w game k m a t tape keeps =
     let g = setting_with c.declarations i side in
-    (run_keeps (IsTypedState c i side w t tape) g m (a.next (coins_on t 0 a.coins)) t (moved_typed c i side w t tape m) a.moves (start g game)
-    (record { store = λ x V u v e d. cc; inputs = inputs_typed c i side w game 0 [] [] tt k })).store
+    (run_keeps (IsTypedState c i side w t tape keeps) g m (a.next (coins_on t 0 a.coins)) t (moved_typed c i side w t tape keeps m) a.moves (start g game)
+    (record { memory = record { store = λ x V u v e d. cc; arrays = λ x key number O S v e d o. cc }; inputs = inputs_typed c i side w game 0 [] [] tt k })).memory.store
+
+-- a game calls no oracle
+pub games_keep : (c : Context) (i : Interpretation) (t : Tape) → HasNoOracles c → KeepsSorts c i no_side t
+games_keep c i t n arrays call O w e h = let o = n call.number.site in absurd (cc)

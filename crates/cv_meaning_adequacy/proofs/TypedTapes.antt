@@ -46,7 +46,7 @@ coins_other k [] x n u h = h
 coins_other k (m ∷ ns) x n u (inl e) = other_cell x n u (Coin k, m) refl e
 coins_other k (m ∷ ns) x n u (inr i) = coins_other (suc k) ns x n u i
 
-module _ (c : Context) (i : Interpretation) (side : Side) (w : IsModel c i side) where
+module _ (c : Context) (i : Interpretation) (side : Side) (w : IsModel c i) where
   abbrev g : Setting
   g = setting_with c.declarations i side
 

@@ -36,31 +36,26 @@ pub restrictions_typed : HasTypedRestrictions worked_context colliding_game
 unfolding HasTypedRestrictions
 restrictions_typed = assumption (tt, nonce_sort)
 
-sorts_declared : (x : ℕ) (V : Variable) → worked_variables x ≡ Some V → IsDeclared worked_context V.sort
+sorts_declared : (x : ℕ) (V : Variable) → worked_variables x ≡ Some V → IsDeclared worked_context.declarations V.sort
 sorts_declared x V e = go (x == 4) (x == 9) (x == 10) e
   where
-    nonce : IsDeclared worked_context (OfType 5)
+    nonce : IsDeclared worked_context.declarations (OfType 5)
     nonce = inr (false, false, Empty, None, has_contains worked_context.declarations _ (inr (inl refl)))
 
-    index : IsDeclared worked_context (BelowParameter 2)
+    index : IsDeclared worked_context.declarations (BelowParameter 2)
     index = (Empty, None, has_contains worked_context.declarations _ (inl refl))
 
-    is : (W : Variable) → Some W ≡ Some V → IsDeclared worked_context W.sort → IsDeclared worked_context V.sort
-    is W e h = let same : W ≡ V = cc in subst (λ (Z : Variable). IsDeclared worked_context Z.sort) same h
+    is : (W : Variable) → Some W ≡ Some V → IsDeclared worked_context.declarations W.sort → IsDeclared worked_context.declarations V.sort
+    is W e h = let same : W ≡ V = cc in subst (λ (Z : Variable). IsDeclared worked_context.declarations Z.sort) same h
 
-    go : (a b d : Bool) → cond a (Some nonces) (cond b (Some found_indices) (cond d (Some found_indices) None)) ≡ Some V → IsDeclared worked_context V.sort
+    go : (a b d : Bool) → cond a (Some nonces) (cond b (Some found_indices) (cond d (Some found_indices) None)) ≡ Some V → IsDeclared worked_context.declarations V.sort
     go true b d e = is nonces e nonce
     go false true d e = is found_indices e index
     go false false true e = is found_indices e index
     go false false false e = cc
 
-pub model : IsModel worked_context interpretation_of_file no_side
-model =
-    record {
-      satisfies = record { choices = omega arith; bool = refl; each = (omega arith, (omega arith, tt)) };
-      variables = sorts_declared;
-      results = λ t arrays call S e. cc;
-    }
+pub model : IsModel worked_context interpretation_of_file
+model = record { satisfies = record { choices = omega arith; bool = refl; each = (omega arith, (omega arith, tt)) }; variables = sorts_declared }
 
 pub leaves : LeavesRestrictions no_side
 leaves number x n u h = contains_has [] _ h

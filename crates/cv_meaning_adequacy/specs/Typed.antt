@@ -6,7 +6,7 @@ use Rattle.cv_syntax.specs.declared.head.Head.TheVariants.{Par, Repl, In, Out, E
 use Rattle.cv_syntax.specs.Declarations.{Declaration, Named}
 use Rattle.cv_syntax.specs.Tree.{Tree, Empty, Node, first, second, names}
 use Rattle.cv_meaning.specs.Tapes.{Tape, New_at}
-use Rattle.cv_meaning.specs.Side.{Side, CallNumber, Arrays, OracleCall}
+use Rattle.cv_meaning.specs.Side.{Side, CallNumber, Arrays, OracleCall, OracleAnswer}
 use Rattle.cv_meaning.specs.Interpretation.{Interpretation, is_constant_of}
 use Rattle.cv_meaning.specs.Memory.{Store, Indices}
 use Rattle.cv_meaning.specs.Satisfies.{Satisfies}
@@ -28,11 +28,17 @@ pub record Variable : Type 0 where
   pub indices : List ℕ
   pub sort : Sort
 
--- what a game may name: declarations, variables, and the sorts of the results of its calls, by site
+-- the sorts of the arguments of a call, behind its key, of what the side assigns at it, by name, and of its result
+pub record Oracle : Type 0 where
+  pub arguments : List Sort
+  pub assigned : ℕ → Option Sort
+  pub result : Sort
+
+-- what a game may name: declarations, variables, and the oracles that it calls, by site
 pub record Context : Type 0 where
   pub declarations : List Declaration
   pub variables : ℕ → Option Variable
-  pub results : ℕ → Option Sort
+  pub oracles : ℕ → Option Oracle
 
 -- the replication indices above a construct with their parameters, outermost first
 abbrev pub Scope : Type 0
@@ -117,7 +123,7 @@ IsTyped c ps (Node Branch a b) =
     AreVariables c ps BelowParameter a × HaveSomeSorts c ps (first b) × HasSort c ps (first (second b)) boolean × IsTyped c ps b
 IsTyped c ps (Node (Key x) a b) = ((S : Sort) × IsVariable c ps x S) × IsTyped c ps b
 IsTyped c ps (Node (Call x l) a b) =
-    ((S : Sort) × (c.results l ≡ Some S) × IsVariable c ps x S) × HaveSomeSorts c ps a × IsTyped c ps b
+    ((O : Oracle) × (c.oracles l ≡ Some O) × IsVariable c ps x O.result × HaveSorts c ps (second a) O.arguments) × HaveSomeSorts c ps a × IsTyped c ps b
 IsTyped c ps (Node Cons a b) = IsTyped c ps a × IsTyped c ps b
 IsTyped c ps _ = Unit {0}
 
@@ -130,21 +136,46 @@ HasTypedRestrictions c (Node h a b) = HasTypedRestrictions c a × HasTypedRestri
 
 -- values
 
--- a type or a parameter of the declarations, or `bool`
-abbrev pub IsDeclared : Context → Sort → Type 0
-IsDeclared c (OfType T) =
+-- a type or a parameter that is declared, or `bool`
+abbrev pub IsDeclared : List Declaration → Sort → Type 0
+IsDeclared ds (OfType T) =
     (T ≡ 0)
-    ⊎ ((fixed large : Bool) × (arguments : Tree) × (result : Option ℕ) × Contains c.declarations (Named T (class.TypeName fixed large) arguments result))
-IsDeclared c (BelowParameter n) =
-    (arguments : Tree) × (result : Option ℕ) × Contains c.declarations (Named n class.Param arguments result)
+    ⊎ ((fixed large : Bool) × (arguments : Tree) × (result : Option ℕ) × Contains ds (Named T (class.TypeName fixed large) arguments result))
+IsDeclared ds (BelowParameter n) =
+    (arguments : Tree) × (result : Option ℕ) × Contains ds (Named n class.Param arguments result)
 
--- the interpretation satisfies the declarations, the sorts of variables are declared, and the results of
--- calls are values of their sorts
-pub record IsModel (c : Context) (i : Interpretation) (side : Side) : Type 0 where
+-- the interpretation satisfies the declarations, and the sorts of variables are declared
+pub record IsModel (c : Context) (i : Interpretation) : Type 0 where
   pub satisfies : Satisfies c.declarations i
-  pub variables : (x : ℕ) (v : Variable) → c.variables x ≡ Some v → IsDeclared c v.sort
-  pub results : (t : Tape) (arrays : Arrays) (call : OracleCall) (S : Sort) → c.results call.number.site ≡ Some S →
-      (side.reply t arrays call).value < size_of i S
+  pub variables : (x : ℕ) (v : Variable) → c.variables x ≡ Some v → IsDeclared c.declarations v.sort
+
+-- each value is of the sort in its place
+abbrev pub AreOf : Interpretation → List Sort → List ℕ → Type 0
+AreOf i [] [] = Unit {0}
+AreOf i (S ∷ Ss) (v ∷ vs) = (v < size_of i S) × AreOf i Ss vs
+AreOf i _ _ = ⊥
+
+-- what a side has assigned at a call has values of its sorts
+abbrev pub AreTypedArrays : Context → Interpretation → Arrays → Type 0
+AreTypedArrays c i arrays =
+    (x : ℕ) (key : List ℕ) (number : CallNumber) (O : Oracle) (S : Sort) (v : ℕ) → c.oracles number.site ≡ Some O → O.assigned x ≡ Some S →
+    arrays x key number ≡ Some v → v < size_of i S
+
+-- an answer with a value of a sort, and with such arrays
+pub record IsAnswer (c : Context) (i : Interpretation) (S : Sort) (r : OracleAnswer) : Type 0 where
+  pub value : r.value < size_of i S
+  pub arrays : AreTypedArrays c i r.arrays
+
+-- On a tape a call with arguments of their sorts, and with such arrays, is answered by a value of the sort of its
+-- result, and with such arrays.
+abbrev pub KeepsSorts : Context → Interpretation → Side → Tape → Type 0
+KeepsSorts c i side t =
+    (arrays : Arrays) (call : OracleCall) (O : Oracle) → AreTypedArrays c i arrays → c.oracles call.number.site ≡ Some O →
+    AreOf i O.arguments call.arguments → IsAnswer c i O.result (side.reply t arrays call)
+
+-- of a game, which calls no oracle
+abbrev pub HasNoOracles : Context → Type 0
+HasNoOracles c = (site : ℕ) → c.oracles site ≡ None
 
 -- a number below its parameter for each index
 abbrev pub AreBelowParameters : Interpretation → List ℕ → List ℕ → Type 0

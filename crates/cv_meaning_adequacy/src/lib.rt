@@ -3,7 +3,7 @@
 
 ghost use Rattle.std.specs.Prelude.{◌≡◌, ◌≢◌, ℕ, ◌+◌, ◌*◌, ◌<◌, ◌≤◌, ◌↔◌, Bool, true, false, [], List, length, count_by, All, AllPairs, Contains};
 ghost use Rattle.cv_syntax.specs.Tree.{Tree};
-ghost use Rattle.cv_meaning.specs.Tapes.{Cell, Tape, count, total, blank};
+ghost use Rattle.cv_meaning.specs.Tapes.{Cell, Key_at, Tape, count, total, blank};
 ghost use Rattle.cv_meaning.specs.Side.{Side, no_side};
 ghost use Rattle.cv_meaning.specs.Interpretation.{Interpretation, Setting, setting_with};
 ghost use Rattle.cv_meaning.specs.Memory.{Store, Indices, Happened};
@@ -18,9 +18,9 @@ ghost use Rattle.cv_meaning_adequacy.specs.Broken.{IsKept, IsBroken};
 ghost use Rattle.cv_meaning_adequacy.specs.Queries.{IsOnTheRightAlone};
 ghost use Rattle.cv_meaning_adequacy.specs.Finds.{IsCandidateOf, IsBefore, times_chosen};
 ghost use Rattle.cv_meaning_adequacy.specs.Tables.{Table, table_adversary, Play, run_of, Target, advantage_at};
-ghost use Rattle.cv_meaning_adequacy.specs.Typed.{Context, Scope, Sort, size_of, HasSort, IsTyped, IsModel, AreIndicesOf, IsTypedStore, IsTypedTape, HasTypedRestrictions, LeavesRestrictions};
+ghost use Rattle.cv_meaning_adequacy.specs.Typed.{Context, Scope, Sort, size_of, HasSort, IsTyped, IsModel, KeepsSorts, HasNoOracles, AreIndicesOf, IsTypedStore, IsTypedTape, HasTypedRestrictions, LeavesRestrictions};
 ghost use Rattle.cv_meaning_adequacy.specs.Counted.{tapes_of};
-ghost use Rattle.cv_meaning_adequacy.specs.WorkedTyping.{worked_context};
+ghost use Rattle.cv_meaning_adequacy.specs.WorkedTyping.{worked_context, answering_context, answered_game, echo, key_teller, predecessor, counter};
 
 /// The test that a list of events breaks a correspondence says what keeping and breaking one mean, in
 /// the plain form and in the injective one. The variables whose values may be chosen are those that the
@@ -74,18 +74,22 @@ pub fn counts_are_of_tapes()
 {}
 
 /// In a store whose variables have values of their sorts, a typed term has a value of its sort. A run
-/// of a typed game, on a tape whose restrictions have values of their types, ends in such a store. The
-/// tapes that an experiment counts are such, where each restriction has the type of its variable.
+/// of a typed game or context, on a tape whose restrictions have values of their types, ends in such a
+/// store, where the side keeps sorts on that tape: in a game it does on each tape. The tapes that an
+/// experiment counts are such, where each restriction has the type of its variable.
 pub fn typed_variables_have_values()
-    ensures terms { (c : Context) (i : Interpretation) (side : Side) → IsModel c i side →
+    ensures terms { (c : Context) (i : Interpretation) (side : Side) → IsModel c i →
         (ps : Scope) (at : Indices) (m : Store) → AreIndicesOf i ps at → IsTypedStore c i m →
         (a : Tree) (S : Sort) → HasSort c ps a S →
         value (setting_with c.declarations i side) at m a < size_of i S }
-    ensures runs { (c : Context) (i : Interpretation) (side : Side) → IsModel c i side →
+    ensures runs { (c : Context) (i : Interpretation) (side : Side) → IsModel c i →
         (game : Tree) → IsTyped c [] game →
         (m : Mode) (a : Adversary) (t : Tape) → IsTypedTape c i t →
+        KeepsSorts c i side t →
         IsTypedStore c i (run (setting_with c.declarations i side) m a game t).memory.store }
-    ensures tapes { (c : Context) (i : Interpretation) (side : Side) → IsModel c i side →
+    ensures games { (c : Context) (i : Interpretation) (t : Tape) → HasNoOracles c →
+        KeepsSorts c i no_side t }
+    ensures tapes { (c : Context) (i : Interpretation) (side : Side) → IsModel c i →
         LeavesRestrictions side → (game : Tree) → HasTypedRestrictions c game →
         (m : Mode) (a : Adversary) →
         All (IsTypedTape c i) (tapes_of (cells (setting_with c.declarations i side) m a game) blank) }
@@ -96,7 +100,22 @@ pub fn typed_variables_have_values()
 pub fn worked_typing()
     ensures typed { IsTyped worked_context [] colliding_game }
     ensures restrictions { HasTypedRestrictions worked_context colliding_game }
-    ensures model { IsModel worked_context interpretation_of_file no_side }
+    ensures model { IsModel worked_context interpretation_of_file }
     ensures leaves { LeavesRestrictions no_side }
     ensures no_boolean { ¬ IsTyped worked_context [] (finder (nonce_at 9)) }
+{}
+
+/// A side that answers its argument keeps sorts, and so does one that answers what it has assigned, on each
+/// tape; one that answers its key does on the tapes whose keys are values of the result's type. One that
+/// answers a larger number doesn't. A context that calls them is typed.
+pub fn sides_keep_sorts()
+    ensures typed { IsTyped answering_context [] answered_game }
+    ensures model { IsModel answering_context interpretation_of_file }
+    ensures argument { (t : Tape) → KeepsSorts answering_context interpretation_of_file echo t }
+    ensures arrays { (t : Tape) →
+        KeepsSorts answering_context interpretation_of_file predecessor t }
+    ensures key { (t : Tape) → ((key : List ℕ) → t (Key_at key) < 2) →
+        KeepsSorts answering_context interpretation_of_file key_teller t }
+    ensures no_larger { (t : Tape) →
+        ¬ KeepsSorts answering_context interpretation_of_file counter t }
 {}

@@ -1,5 +1,5 @@
 use Rattle.cv_meaning_adequacy.proofs.Sorted.{typed_value}
-use Rattle.cv_meaning_adequacy.proofs.TypedRuns.{run_typed}
+use Rattle.cv_meaning_adequacy.proofs.TypedRuns.{games_keep, run_typed}
 use Rattle.cv_meaning_adequacy.proofs.TypedTapes.{tapes_typed}
 use Rattle.cv_meaning_adequacy.proofs.typed_variables_have_values.Goals as goal
 
@@ -8,6 +8,9 @@ returns-clause-terms c = typed_value
 
 pub returns-clause-runs : goal.returns-clause-runs
 returns-clause-runs c = run_typed
+
+pub returns-clause-games : goal.returns-clause-games
+returns-clause-games c = games_keep
 
 pub returns-clause-tapes : goal.returns-clause-tapes
 returns-clause-tapes c = tapes_typed

@@ -1,0 +1,98 @@
+-- The types and parameters that the game of a file names are declared.
+use Rattle.std.proofs.Common.{◌≡◌, ℕ, List, [], ◌∷◌, ◌++◌, flat_map, Option, Ok, inl, refl, sym, subst}
+use Rattle.std.specs.List.{AllByRecursion}
+use Rattle.cv_syntax.specs.Declarations.{Declaration, Named, Equation, Equiv, Query}
+use Rattle.cv_syntax.specs.Tree.{Tree}
+use Rattle.cv_parse_notation.specs.declared.sign.Sign.{Sign}
+use Rattle.cv_parse_grammar.specs.declared.role.Role.{Role}
+use Rattle.cv_parse_grammar.specs.Files.{levels}
+use Rattle.cv_parse_grammar.specs.Filled.{first_site}
+use Rattle.cv_parse_grammar.specs.Names.{Uses}
+use Rattle.cv_parse_grammar.specs.Rules.{File, file, heads, rule}
+use Rattle.cv_parse_grammar.specs.Whole.{IsRead, built_in}
+use Rattle.cv_parse_grammar.proofs.Identities.{declared_names, ids_are_distinct}
+use Rattle.cv_parse.specs.Parsed.{Parsed, bool_type, parsed}
+use Rattle.cv_parse.proofs.Exactness.{said_is_saying}
+use Rattle.cv_typing.specs.Signature.{names_in}
+use Rattle.cv_meaning.specs.Interpretation.{Interpretation}
+use Rattle.cv_meaning.specs.Runs.{Adversary, Mode}
+use Rattle.cv_meaning.specs.Satisfies.{Satisfies}
+use Rattle.cv_scope.specs.Scope.{IsScoped}
+use Rattle.cv_typing.specs.Parts.{AreTyped, IsTypedFile, IsTypedPart, Part, declaration_parts, game_part}
+use Rattle.cv_typing_runs.specs.Games.{HasArguments, HasConstants, HasDeclaredSorts, HasNamedFunctionsAndCells, HasTypedRuns}
+use Rattle.cv_typing_runs.proofs.Games.{known, typed_runs as runs}
+use Rattle.cv_parse_laws.proofs.Games.{well_formed}
+use Rattle.cv_parse_laws.specs.Yields.{AllUsed}
+use Rattle.cv_parse_laws.proofs.Naming.{all_used}
+use Rattle.cv_parse_laws.proofs.Yielding.{forms_tell}
+use Rattle.cv_parse_sorts.proofs.Constants.{constants_are}
+use Rattle.cv_parse_sorts.proofs.Declared.{Used, all_asked}
+use Rattle.cv_parse_sorts.proofs.DeclaredKinds.{OfKind, of_declarations}
+use Rattle.cv_parse_sorts.proofs.Filling.{filled_is}
+use Rattle.cv_parse_sorts.proofs.Rows.{Asked, OfSort, of_file, rows}
+use Rattle.cv_meaning_laws.proofs.Listed.{Has, has_right}
+
+arguments_of : (W : Role → ℕ → Type 0) (ds : List Declaration) → AllByRecursion (OfKind W) ds → HasArguments ds
+unfolding HasArguments
+arguments_of W [] k = tt
+arguments_of W (Named x c a r ∷ ds) k = (k.0.1, arguments_of W ds k.1)
+arguments_of W (Equation t ∷ ds) k = arguments_of W ds k.1
+arguments_of W (Equiv x t ∷ ds) k = arguments_of W ds k.1
+arguments_of W (Query t ∷ ds) k = arguments_of W ds k.1
+
+with_bool : (ds : List Declaration) → HasArguments ds → HasArguments (bool_type ∷ ds)
+unfolding HasArguments names_in
+with_bool ds h = (refl, h)
+
+module _ (ts : List Sign) (ds : List Declaration) (s : Option (ℕ × ℕ)) (g : Tree) (w : IsRead ts ds s g) where
+  abbrev said : File
+  said = record { decls = ds; script = s; game = w.text }
+
+  abbrev All : Uses
+  All = built_in ∷ w.uses
+
+  -- each use is one
+  all_there : AllUsed (Used All) w.uses
+  all_there = all_used (λ u. Used All u.role u.name) w.uses (λ before u behind e. (u, subst (λ l. Has (built_in ∷ l) u) (sym e) (has_right (built_in ∷ before) (u ∷ behind) u (inl refl)), refl, refl))
+
+  pub kinds : AllByRecursion (OfKind (Used All)) ds
+  kinds = (of_declarations (Used All)).gives said (forms_tell (Used All) (λ z t. Unit {0}) heads rule (λ z t y. tt) file levels ts said w.uses [] w.spelled all_there)
+
+  pub read_arguments : HasArguments (bool_type ∷ ds)
+  read_arguments = with_bool ds (arguments_of (Used All) ds kinds)
+
+  pub read_constants : HasConstants (bool_type ∷ ds)
+  read_constants = constants_are (Used All) bool_type ds (ids_are_distinct ts ds s g w) (λ x. refl) kinds
+
+  pub read_sorts : HasDeclaredSorts (bool_type ∷ ds) g
+  read_sorts =
+      let asked = all_asked w.uses ds w.named (declared_names levels ts said w.uses w.spelled) kinds in
+      let y = forms_tell (Asked (bool_type ∷ ds)) (OfSort (bool_type ∷ ds)) heads rule (rows (bool_type ∷ ds)) file levels ts said w.uses [] w.spelled asked in
+      subst (HasDeclaredSorts (bool_type ∷ ds)) w.stands_for (filled_is (bool_type ∷ ds) (λ x. first_site x 0 w.text) [] w.text ((of_file (bool_type ∷ ds)).gives said y).sorts)
+
+pub sorts_declared : (limit : ℕ) (signs : List Sign) (p : Parsed) → parsed limit signs ≡ Ok p → HasDeclaredSorts p.declarations p.game
+sorts_declared limit signs p e =
+    let w = said_is_saying limit signs p e in
+    subst (λ ds. HasDeclaredSorts ds p.game) (sym w.declared) (read_sorts signs w.decls w.script p.game w.read)
+
+pub arguments_named : (limit : ℕ) (signs : List Sign) (p : Parsed) → parsed limit signs ≡ Ok p → HasArguments p.declarations
+arguments_named limit signs p e =
+    let w = said_is_saying limit signs p e in
+    subst HasArguments (sym w.declared) (read_arguments signs w.decls w.script p.game w.read)
+
+pub constants_declared : (limit : ℕ) (signs : List Sign) (p : Parsed) → parsed limit signs ≡ Ok p → HasConstants p.declarations
+constants_declared limit signs p e =
+    let w = said_is_saying limit signs p e in
+    subst HasConstants (sym w.declared) (read_constants signs w.decls w.script p.game w.read)
+
+-- the game is the last part of a file
+last_typed : (ds : List Declaration) (parts : List Part) (part : Part) → AreTyped ds (parts ++ part ∷ []) → IsTypedPart ds part
+unfolding AreTyped
+last_typed ds [] part h = h.0
+last_typed ds (p ∷ parts) part h = last_typed ds parts part h.1
+
+pub typed_runs : (limit : ℕ) (signs : List Sign) (p : Parsed) → parsed limit signs ≡ Ok p → IsTypedFile p.declarations p.game → IsScoped p.declarations p.game → HasNamedFunctionsAndCells p.declarations p.game → (i : Interpretation) → Satisfies p.declarations i → (m : Mode) (a : Adversary)
+    → HasTypedRuns p.declarations p.game i m a
+typed_runs limit signs p e t s k i w m a =
+    let f = well_formed limit signs p e s in
+    runs p.declarations p.game (arguments_named limit signs p e) f (last_typed p.declarations (flat_map (declaration_parts p.declarations) p.declarations) (game_part p.game) t) (known p.declarations p.game (constants_declared limit signs p e) f k) (sorts_declared limit signs p e) i w m a

@@ -1,0 +1,43 @@
+// The types and parameters that the game of a file names are declared.
+#![tactic(auto)]
+
+ghost use Rattle.std.specs.Prelude.{◌≡◌, ℕ, List, Ok};
+ghost use Rattle.cv_parse_notation.specs.declared.sign.Sign.{Sign};
+ghost use Rattle.cv_parse.specs.Parsed.{Parsed, parsed};
+ghost use Rattle.cv_meaning.specs.Interpretation.{Interpretation};
+ghost use Rattle.cv_meaning.specs.Runs.{Adversary, Mode};
+ghost use Rattle.cv_meaning.specs.Satisfies.{Satisfies};
+ghost use Rattle.cv_scope.specs.Scope.{IsScoped};
+ghost use Rattle.cv_typing.specs.Parts.{IsTypedFile};
+ghost use Rattle.cv_typing_runs.specs.Games.{HasArguments, HasConstants, HasDeclaredSorts, HasNamedFunctionsAndCells, HasTypedRuns};
+
+/// The types that `new`, `let` and the binders of inputs name in the game of a file are declared as types or
+/// `bool`, and the parameters of its replications and branches as parameters, by the rules of names.
+pub fn games_name_declared_sorts()
+    ensures { (limit : ℕ) (signs : List Sign) (p : Parsed) →
+        parsed limit signs ≡ Ok p → HasDeclaredSorts p.declarations p.game }
+{}
+
+/// The arguments of what a file declares are lists of names of types.
+pub fn declarations_have_arguments()
+    ensures { (limit : ℕ) (signs : List Sign) (p : Parsed) →
+        parsed limit signs ≡ Ok p → HasArguments p.declarations }
+{}
+
+/// What the declarations of a file name as a constant is a function for typing, too.
+pub fn constants_are_functions()
+    ensures { (limit : ℕ) (signs : List Sign) (p : Parsed) →
+        parsed limit signs ≡ Ok p → HasConstants p.declarations }
+{}
+
+/// So in each run of the game of a file that is typed and in array scope, where what is applied is a function and
+/// the cells of `defined` lists are of variables, variables hold values of their types, at indices below their
+/// parameters: in each interpretation that satisfies the declarations, in each mode, against each adversary, on
+/// each tape that an experiment counts.
+pub fn games_of_files_have_typed_runs()
+    ensures { (limit : ℕ) (signs : List Sign) (p : Parsed) → parsed limit signs ≡ Ok p →
+        IsTypedFile p.declarations p.game → IsScoped p.declarations p.game →
+        HasNamedFunctionsAndCells p.declarations p.game →
+        (i : Interpretation) → Satisfies p.declarations i → (m : Mode) (a : Adversary) →
+        HasTypedRuns p.declarations p.game i m a }
+{}

@@ -1,0 +1,9 @@
+pub mod Declared
+pub mod Games
+pub mod InScope
+pub mod Known
+pub mod Models
+pub mod SameSites
+pub mod Terms
+pub mod Typing
+pub mod Worked
