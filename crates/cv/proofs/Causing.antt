@@ -8,14 +8,15 @@ use Rattle.cv_lex.specs.Lexis.{Token, tokens_of}
 use Rattle.cv_parse_terminals.specs.Signs.{signs_of}
 use Rattle.cv_parse_notation.specs.declared.sign.Sign.{Sign}
 use Rattle.cv_parse_grammar.specs.Names as names
+use Rattle.cv_parse_depth.specs.Files.{IsDeadAtEveryDepth, IsNestedTooDeep}
 use Rattle.cv_syntax.specs.declared.work.BuildError.{BuildError}
 use Rattle.cv_syntax.specs.declared.work.BuildError.TheVariants as build
 use Rattle.cv_syntax.specs.Tree.{Tree}
 use Rattle.cv_parse.specs.declared.error.ParseError.{ParseError}
 use Rattle.cv_parse.specs.declared.error.ParseError.TheVariants as parse
 use Rattle.cv_parse.specs.Parsed.{Parsed, parsed}
-use Rattle.cv_parse.specs.Says.{HasDepth, HasNodes, HasWeight, IsDead, IsLarge, IsMisnamedAt}
-use Rattle.cv_parse.proofs.Exactness.{dead_token, deep_game, deep_token, heavy_trees, large_game, said_is_saying, twice_named, unknown_name}
+use Rattle.cv_parse.specs.Says.{HasDepth, HasNodes, HasWeight, IsLarge, IsMisnamedAt}
+use Rattle.cv_parse.proofs.Exactness.{deep_game, heavy_trees, large_game, said_is_saying, twice_named, unknown_name}
 use Rattle.cv_syntax.specs.Declarations.{Declaration}
 use Rattle.cv_typing.specs.declared.fault.Fault.{Fault}
 use Rattle.cv_typing.specs.declared.fault.Fault.TheVariants as type
@@ -46,13 +47,14 @@ use Rattle.cv_report.specs.declared.report.Status.TheVariants as status
 use Rattle.cv_report.specs.declared.report.Verdict.TheVariants.{Proved, NotProved}
 use Rattle.cv_report.specs.declared.report.Which.TheVariants.{Steps}
 use Rattle.cv_syntax.specs.declared.work.File.{File}
-use Rattle.cv.specs.Causes.{ComesFrom, HasEquivalence, HasManyClosed, HasProofBlock, HasQueryFault, HasQueryWithoutStep, HasScopeFault, HasTypeFault, IsTooDeep, OfTokens, Outside, closed_count}
+use Rattle.cv.specs.Causes.{ComesFrom, HasEquivalence, HasManyClosed, HasProofBlock, HasQueryFault, HasQueryWithoutStep, HasScopeFault, HasTypeFault, OfTokens, Outside, closed_count}
 use Rattle.cv.specs.Causes as cause
 use Rattle.cv.specs.Faults.{parse_ended, status_of as ended_by}
 use Rattle.cv.specs.Words.{AreTold}
 use Rattle.cv_query_direct.specs.Plain.{certificate}
 use Rattle.cv.specs.Strategy.{FollowsStrategy, Said, declared_in, game_in, is_closed, is_proved, lacks_step, left_open, most_pool, most_steps, nothing_said, said_of, said_then}
 use Rattle.cv.proofs.Telling.{full_told}
+use Rattle.cv.proofs.Unread.{dead_anywhere, nested_at}
 use Rattle.cv.proofs.Verdicts.{closed_some}
 
 -- bytes that are refused
@@ -243,9 +245,6 @@ told bytes x Holds h e =
     let t = by_tokens most_pool (tokens_of bytes) x e in
     record { tokens = t.0; lexed = t.1; holds = h (signs_of t.0).signs t.2 }
 
-deep_at : (signs : List Sign) (token : ℕ) → parsed most_pool signs ≡ Err (parse.Nesting token) → IsTooDeep signs token
-deep_at signs token e = let d = deep_token most_pool signs token e in record { left = d.0; at = d.1; deep = d.2 }
-
 -- steps that ran out
 
 not_closed : (game q : Tree) (qs : List Tree) → is_closed game q ≡ false → closed_count game (q ∷ qs) ≡ closed_count game qs
@@ -296,8 +295,8 @@ refusal_cause o r bytes a x e = go x e
     in_told P p = where_told o.told bytes P a p
 
     parsing : (x : ParseError) → read_of most_pool bytes ≡ Err (fault.Parse x) → ComesFrom o r (parse_ended x)
-    parsing (parse.Syntax k) e = cause.syntax (in_told _ (told bytes (parse.Syntax k) (λ signs. IsDead signs k) (λ signs i. dead_token most_pool signs k i) e))
-    parsing (parse.Nesting k) e = cause.nesting (in_told _ (told bytes (parse.Nesting k) (λ signs. IsTooDeep signs k) (λ signs i. deep_at signs k i) e))
+    parsing (parse.Syntax k) e = cause.syntax (in_told _ (told bytes (parse.Syntax k) (λ signs. IsDeadAtEveryDepth signs k) (λ signs i. dead_anywhere most_pool signs k i) e))
+    parsing (parse.Nesting k) e = cause.nesting (in_told _ (told bytes (parse.Nesting k) (λ signs. IsNestedTooDeep signs k) (λ signs i. nested_at most_pool signs k i) e))
     parsing (parse.NameTwice k) e = cause.name_twice (in_told _ (told bytes (parse.NameTwice k) (λ signs. IsMisnamedAt signs names.NameTwice k) (λ signs i. twice_named most_pool signs k i) e))
     parsing (parse.NameUnknown k) e = cause.name_unknown (in_told _ (told bytes (parse.NameUnknown k) (λ signs. IsMisnamedAt signs names.NameUnknown k) (λ signs i. unknown_name most_pool signs k i) e))
     parsing (parse.Build (build.Full n)) e =

@@ -3,5 +3,6 @@ pub mod Endings
 pub mod Growing
 pub mod Sayings
 pub mod Telling
+mod Unread
 pub mod Verdicts
 pub mod Writing

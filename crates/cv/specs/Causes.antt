@@ -1,5 +1,5 @@
 -- What each answer comes from.
-use Rattle.std.specs.Prelude.{◌≡◌, ℕ, suc, ◌+◌, ◌-◌, ◌<◌, ◌⊎◌, Bool, false, true, if◌then◌else◌, List, [], ◌∷◌, length, Option, None, Ok, Err, IfSome, IsNone, is_some}
+use Rattle.std.specs.Prelude.{◌≡◌, ℕ, suc, ◌+◌, ◌<◌, ◌⊎◌, Bool, false, true, if◌then◌else◌, List, [], ◌∷◌, length, Option, None, Ok, Err, IfSome, IsNone, is_some}
 use Rattle.std.specs.List.{list_all, list_any, zip}
 use Rattle.cv_outside.specs.Causes.{Rose}
 use Rattle.cv_outside.specs.Told.{Files}
@@ -7,12 +7,11 @@ use Rattle.cv_lex.specs.declared.LexError.{LexError}
 use Rattle.cv_lex.specs.Lexis.{Token, tokens_of}
 use Rattle.cv_parse_terminals.specs.Signs.{signs_of}
 use Rattle.cv_parse_notation.specs.declared.sign.Sign.{Sign}
-use Rattle.cv_parse_notation.specs.Reads as fault
-use Rattle.cv_parse_grammar.specs.Files.{levels, read_whole}
 use Rattle.cv_parse_grammar.specs.Names as names
+use Rattle.cv_parse_depth.specs.Files.{IsDeadAtEveryDepth, IsNestedTooDeep}
 use Rattle.cv_parse.specs.declared.error.ParseError.TheVariants.{Syntax, Nesting, NameTwice, NameUnknown}
 use Rattle.cv_parse.specs.Parsed.{Parsed}
-use Rattle.cv_parse.specs.Says.{HasDepth, HasNodes, HasWeight, IsDead, IsLarge, IsMisnamedAt, Says}
+use Rattle.cv_parse.specs.Says.{HasDepth, HasNodes, HasWeight, IsLarge, IsMisnamedAt, Says}
 use Rattle.cv_typing.specs.declared.fault.TypeFault.{TypeFault}
 use Rattle.cv_typing.specs.Parts.{IsTypedFile, file_parts}
 use Rattle.cv_typing.specs.Refusals.{IsFirstRefusal}
@@ -40,12 +39,6 @@ pub record OfTokens (bytes : List ℕ) (Holds : List Sign → Type 0) : Type 0 w
   pub tokens : List Token
   pub lexed : tokens_of bytes ≡ Ok tokens
   pub holds : Holds (signs_of tokens).signs
-
--- Reading goes one level too deep at this token.
-pub record IsTooDeep (signs : List Sign) (token : ℕ) : Type 0 where
-  pub left : ℕ
-  pub at : token ≡ length signs - left
-  pub deep : read_whole levels signs ≡ Err (fault.Nesting left)
 
 -- how many queries are closed in a game
 unfoldable pub closed_count : Tree → List Tree → ℕ
@@ -131,8 +124,8 @@ pub data ComesFrom (o : Outside) (r : Report) : Status → Type 0 where
   read : Rose o.before o.after → ComesFrom o r status.Read
   long : IfSome o.told (λ bytes. most_bytes < length bytes) → ComesFrom o r (status.Limit FileLimit)
   no_tokens : {e : LexError} → IfSome o.told (λ bytes. tokens_of bytes ≡ Err e) → ComesFrom o r (status.FileRefused (Lex e))
-  syntax : {token : ℕ} → OfTold o (λ signs. IsDead signs token) → ComesFrom o r (status.FileRefused (Parse (Syntax token)))
-  nesting : {token : ℕ} → OfTold o (λ signs. IsTooDeep signs token) → ComesFrom o r (status.FileRefused (Parse (Nesting token)))
+  syntax : {token : ℕ} → OfTold o (λ signs. IsDeadAtEveryDepth signs token) → ComesFrom o r (status.FileRefused (Parse (Syntax token)))
+  nesting : {token : ℕ} → OfTold o (λ signs. IsNestedTooDeep signs token) → ComesFrom o r (status.FileRefused (Parse (Nesting token)))
   name_twice : {token : ℕ} → OfTold o (λ signs. IsMisnamedAt signs names.NameTwice token) → ComesFrom o r (status.FileRefused (Parse (NameTwice token)))
   name_unknown : {token : ℕ} → OfTold o (λ signs. IsMisnamedAt signs names.NameUnknown token) → ComesFrom o r (status.FileRefused (Parse (NameUnknown token)))
   types : {e : TypeFault} → OfTold o (λ signs. HasTypeFault signs e) → ComesFrom o r (status.FileRefused (Types e))

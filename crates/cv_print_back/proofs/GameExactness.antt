@@ -8,7 +8,7 @@ use Rattle.cv_parse_notation.specs.declared.sign.Sign.{Sign}
 use Rattle.cv_parse_notation.specs.Fits.{fits}
 use Rattle.cv_parse_notation.specs.Reads.{Fault, Found, Read}
 use Rattle.cv_parse_notation.specs.Reads as fault
-use Rattle.cv_parse_notation.proofs.Whole.{syntax_is_final, whole_complete, whole_sound}
+use Rattle.cv_parse_notation.proofs.Whole.{whole_complete, whole_sound}
 use Rattle.cv_parse_grammar.specs.declared.role.Role.{Role}
 use Rattle.cv_parse_grammar.specs.Files.{levels}
 use Rattle.cv_parse_grammar.specs.Names.{NameFault, Uses, name_fault}
@@ -16,12 +16,14 @@ use Rattle.cv_parse_grammar.specs.Names as names
 use Rattle.cv_parse_grammar.specs.Rules.{heads, rule, tails}
 use Rattle.cv_parse_grammar.proofs.Fitting.{all_fit}
 use Rattle.cv_parse_grammar.proofs.Names.{fault_is_first, named_has_none, no_fault}
+use Rattle.cv_parse_depth.proofs.Fitting.{all_firm, process_fine}
+use Rattle.cv_parse_depth.proofs.Laws.{whole_dead, whole_nesting}
 use Rattle.cv_parse.specs.declared.error.ParseError.{ParseError}
 use Rattle.cv_parse.specs.declared.error.ParseError.TheVariants.{Syntax, Nesting, NameTwice, NameUnknown, Build}
 use Rattle.cv_parse.specs.Parsed.{most_depth, most_nodes, sized}
 use Rattle.cv_parse.specs.Weights.{capped}
 use Rattle.cv_parse.specs.Games.{declared_before, game_of, nodes_of, of_reading, process, read_process, sized_first, unless}
-use Rattle.cv_print_back.specs.GameSays.{HasDepth, HasNodes, IsDeadGame, IsGameText, IsLargeGame, IsMisnamedGame, IsNamedGame, SaysGame, Takes}
+use Rattle.cv_print_back.specs.GameSays.{HasDepth, HasNodes, IsDeadGame, IsGameText, IsLargeGame, IsMisnamedGame, IsNamedGame, IsNestedGame, SaysGame, Takes}
 
 process_fits : fits heads tails process ≡ true
 process_fits = refl
@@ -72,7 +74,7 @@ are_limited limit live t r i =
 abbrev Means : (limit live : ℕ) → List Decl → List Sign → Result Tree ParseError → Type 0
 Means limit live ds signs (Ok t) = SaysGame limit live ds signs t
 Means limit live ds signs (Err (Syntax token)) = IsDeadGame signs token
-Means limit live ds signs (Err (Nesting token)) = Unit {0}
+Means limit live ds signs (Err (Nesting token)) = IsNestedGame signs token
 Means limit live ds signs (Err (NameTwice token)) = IsMisnamedGame ds signs names.NameTwice token
 Means limit live ds signs (Err (NameUnknown token)) = IsMisnamedGame ds signs names.NameUnknown token
 Means limit live ds signs (Err (Build (build.Nodes n))) = IsLargeGame ds signs (HasNodes n)
@@ -99,8 +101,8 @@ module _ (limit live : ℕ) (ds : List Decl) (signs : List Sign) where
 
   of_read : (r : Read Role Tree) → read_process signs ≡ r → Means limit live ds signs (of_reading limit live (length signs) (declared_before ds) r)
   of_read (Ok x) e = of_names x (game_sound signs x e) (name_fault (declared_before ds ++ x.uses)) refl
-  of_read (Err (fault.Syntax left)) e = record { left = left; at = refl; dead = syntax_is_final heads tails rule all_fit process process_fits refl levels signs left e }
-  of_read (Err (fault.Nesting left)) e = tt
+  of_read (Err (fault.Syntax left)) e = record { left = left; at = refl; dead = λ n. whole_dead heads tails rule all_firm process process_fine levels n signs left e }
+  of_read (Err (fault.Nesting left)) e = record { left = left; at = refl; deep = whole_nesting heads tails rule all_firm process process_fine levels signs left e }
 
   pub game_means : (r : Result Tree ParseError) → game_of limit live ds signs ≡ r → Means limit live ds signs r
   unfolding game_of

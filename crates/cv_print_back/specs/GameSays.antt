@@ -9,6 +9,9 @@ use Rattle.cv_parse_grammar.specs.Files.{levels}
 use Rattle.cv_parse_grammar.specs.Names.{AreNamed, IsNameFault, NameFault, Uses}
 use Rattle.cv_parse_grammar.specs.Rules.{heads, rule}
 use Rattle.cv_parse_grammar.specs.Terms.{term}
+use Rattle.cv_parse_depth.specs.Before.{IsBefore}
+use Rattle.cv_parse_depth.specs.Depth.{IsTooDeep}
+use Rattle.cv_parse_depth.specs.Files.{most_levels}
 use Rattle.cv_parse.specs.Parsed.{most_depth, most_nodes}
 use Rattle.cv_parse.specs.Weights.{capped}
 use Rattle.cv_parse.specs.Games.{declared_before, nodes_of, process}
@@ -31,11 +34,17 @@ pub record SaysGame (limit live : ℕ) (ds : List Decl) (signs : List Sign) (t :
   pub shallow : depth t ≤ most_depth
   pub room : live + nodes_of t ≤ limit
 
--- No game's text begins with the tokens through this one.
+-- No game's text begins with the tokens through this one, however deep it may be.
 pub record IsDeadGame (signs : List Sign) (token : ℕ) : Type 0 where
   pub left : ℕ
   pub at : token ≡ length signs - left
-  pub dead : Dead (IsWhole heads rule process levels) signs left
+  pub dead : (n : ℕ) → Dead (IsWhole heads rule process n) signs left
+
+-- At this token of a game's text one bracket or syntax node more is open than may be, and at no token before it is that so.
+pub record IsNestedGame (signs : List Sign) (token : ℕ) : Type 0 where
+  pub left : ℕ
+  pub at : token ≡ length signs - left
+  pub deep : IsTooDeep heads rule process most_levels signs left
 
 -- The tokens spell a game, and the name of this token is the first that breaks its rule.
 pub record IsMisnamedGame (ds : List Decl) (signs : List Sign) (fault : (left : ℕ) → NameFault) (token : ℕ) : Type 0 where
@@ -75,6 +84,18 @@ pub record SaysTerm (limit live from : ℕ) (signs : List Sign) (t : Tree) (next
   pub text : IsTermText signs t rest
   pub at : next ≡ from + length signs - length rest
   pub room : live + nodes_of t ≤ limit
+
+-- No tokens that begin with those through this one spell a term, however deep it may be, in front of what may stand behind it.
+pub record IsDeadTerm (from : ℕ) (signs : List Sign) (token : ℕ) : Type 0 where
+  pub left : ℕ
+  pub at : token ≡ from + length signs - left
+  pub dead : (n : ℕ) → Dead (IsBefore goes_on heads rule term n) signs left
+
+-- At this token of a term one bracket or syntax node more is open than may be, and at no token before it is that so.
+pub record IsNestedTerm (from : ℕ) (signs : List Sign) (token : ℕ) : Type 0 where
+  pub left : ℕ
+  pub at : token ≡ from + length signs - left
+  pub deep : IsTooDeep heads rule term most_levels signs left
 
 -- The tokens spell a term that takes so many nodes, for which the pool has no room.
 pub record IsLargeTerm (limit live : ℕ) (signs : List Sign) (need : ℕ) : Type 0 where

@@ -6,24 +6,26 @@ ghost use Rattle.cv_parse_notation.specs.Spells.{next_is};
 ghost use Rattle.cv_parse_grammar.specs.Files.{levels};
 ghost use Rattle.cv_parse_grammar.specs.Names as names;
 ghost use Rattle.cv_syntax.specs.declared.work.BuildError.TheVariants.{Depth, Full, Nodes, OutOfMemory};
-ghost use Rattle.cv_parse.specs.declared.error.ParseError.TheVariants.{Build, NameTwice, NameUnknown, Syntax};
+ghost use Rattle.cv_parse.specs.declared.error.ParseError.TheVariants.{Build, NameTwice, NameUnknown, Nesting, Syntax};
 ghost use Rattle.cv_scope_runs.specs.Phrases.{Term};
 ghost use Rattle.cv_print_terminals.specs.Levels.{term_levels};
 ghost use Rattle.cv_print_terminals.specs.Signs.{term_signs};
 ghost use Rattle.cv_print_terminals.specs.Written.{IsWritten};
 ghost use Rattle.cv_parse.specs.Games.{game_of, nodes_of};
-ghost use Rattle.cv_print_back.specs.GameSays.{HasDepth, HasNodes, IsDeadGame, IsLargeGame, IsLargeTerm, IsMisnamedGame, SaysGame, SaysTerm, Takes};
+ghost use Rattle.cv_print_back.specs.GameSays.{HasDepth, HasNodes, IsDeadGame, IsDeadTerm, IsLargeGame, IsLargeTerm, IsMisnamedGame, IsNestedGame, IsNestedTerm, SaysGame, SaysTerm, Takes};
 ghost use Rattle.cv_parse.specs.Terms.{goes_on, term_of};
 ghost use Rattle.cv_print_back.specs.Texts.{IsGameBack, IsProperGame, IsProperTerm, IsTermBack};
 
 /// What is computed of a game's tokens is what they say, and each refusal has its cause: a token that no game
-/// goes through, the first name that breaks its rule, or a game that is too large, too deep or too much for the
-/// pool. A refusal for want of memory alone is never computed.
+/// goes through, the first token that stands too deep, the first name that breaks its rule, or a game that is too
+/// large, too deep or too much for the pool. A refusal for want of memory alone is never computed.
 pub fn reading_games_is_exact()
     ensures says { (limit live : ℕ) (ds : List Decl) (signs : List Sign) (t : Tree) →
         game_of limit live ds signs ≡ Ok t ↔ SaysGame limit live ds signs t }
     ensures syntax { (limit live : ℕ) (ds : List Decl) (signs : List Sign) (token : ℕ) →
         game_of limit live ds signs ≡ Err (Syntax token) → IsDeadGame signs token }
+    ensures nesting { (limit live : ℕ) (ds : List Decl) (signs : List Sign) (token : ℕ) →
+        game_of limit live ds signs ≡ Err (Nesting token) → IsNestedGame signs token }
     ensures twice { (limit live : ℕ) (ds : List Decl) (signs : List Sign) (token : ℕ) →
         game_of limit live ds signs ≡ Err (NameTwice token) → IsMisnamedGame ds signs names.NameTwice token }
     ensures unknown { (limit live : ℕ) (ds : List Decl) (signs : List Sign) (token : ℕ) →
@@ -38,11 +40,15 @@ pub fn reading_games_is_exact()
         game_of limit live ds signs ≢ Err (Build OutOfMemory) }
 {}
 
-/// What is computed of a term's tokens is what they say, and it is refused for want of room only where they spell a term
-/// for which the pool has none. A refusal for want of memory alone is never computed.
+/// What is computed of a term's tokens is what they say, and it is refused for a token that no term goes through, for the
+/// first token that stands too deep, and for want of room only where they spell a term for which the pool has none. A refusal for want of memory alone is never computed.
 pub fn reading_terms_is_exact()
     ensures says { (limit live from : ℕ) (signs : List Sign) (t : Tree) (next : ℕ) →
         term_of limit live from signs ≡ Ok (t, next) ↔ SaysTerm limit live from signs t next }
+    ensures syntax { (limit live from : ℕ) (signs : List Sign) (token : ℕ) →
+        term_of limit live from signs ≡ Err (Syntax token) → IsDeadTerm from signs token }
+    ensures nesting { (limit live from : ℕ) (signs : List Sign) (token : ℕ) →
+        term_of limit live from signs ≡ Err (Nesting token) → IsNestedTerm from signs token }
     ensures full { (limit live from : ℕ) (signs : List Sign) (need : ℕ) →
         term_of limit live from signs ≡ Err (Build (Full need)) → IsLargeTerm limit live signs need }
     ensures memory { (limit live from : ℕ) (signs : List Sign) →

@@ -7,6 +7,9 @@ returns-clause-says c = λ limit live ds signs t. (game_means limit live ds sign
 pub returns-clause-syntax : goal.returns-clause-syntax
 returns-clause-syntax c = λ limit live ds signs token e. game_means limit live ds signs _ e
 
+pub returns-clause-nesting : goal.returns-clause-nesting
+returns-clause-nesting c = λ limit live ds signs token e. game_means limit live ds signs _ e
+
 pub returns-clause-twice : goal.returns-clause-twice
 returns-clause-twice c = λ limit live ds signs token e. game_means limit live ds signs _ e
 

@@ -1,0 +1,3 @@
+pub mod Before
+pub mod Depth
+pub mod Files
