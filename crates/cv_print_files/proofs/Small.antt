@@ -5,6 +5,7 @@ use Rattle.cv_lex.specs.declared.LexError.{LexError}
 use Rattle.cv_lex.proofs.Exact.{computed}
 use Rattle.cv_syntax.specs.Tree.{depth, size, tree_of}
 use Rattle.cv_parse_notation.specs.Reads.{read_sort}
+use Rattle.cv_parse_terminals.specs.Braces.{read_from}
 use Rattle.cv_parse_terminals.specs.Signs.{signs_from, signs_of}
 use Rattle.cv_parse_terminals.specs.Spelling.{mark_of_text}
 use Rattle.cv_parse_grammar.specs.Filled.{first_site, filled_at}
@@ -28,11 +29,11 @@ unfolding lexed
 lexed_to = refl
 
 named : small_names ≡ (signs_of small_tokens).names
-unfolding lexed signs_from mark_of_text
+unfolding lexed read_from signs_from mark_of_text
 named = refl
 
 read : parsed 10000 (signs_of small_tokens).signs ≡ Ok small_content
-unfolding lexed signs_from mark_of_text parsed read_sort first_site filled_at first_broken part_from own_from size depth tree_of tree_weight
+unfolding lexed read_from signs_from mark_of_text parsed read_sort first_site filled_at first_broken part_from own_from size depth tree_of tree_weight
 read = refl
 
 pub file : IsFileText 10000 small_file small_names small_content

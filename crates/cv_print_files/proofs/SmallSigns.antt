@@ -24,7 +24,9 @@ use Rattle.cv_parse_notation.specs.declared.sign.Mark.{Mark}
 use Rattle.cv_parse_notation.specs.declared.sign.Sign.{Sign}
 use Rattle.cv_parse_notation.specs.declared.sign.Sign.TheVariants as sign
 use Rattle.cv_parse_terminals.specs.Spelling.{mark_of_text}
-use Rattle.cv_parse_terminals.specs.Signs.{NumberBelow, Step, first_text, is_unnamed, no_counts, one_find, place_of, with_name, signs_from, signs_of, step_before, text_step, token_step, unnamed_step, word_step}
+use Rattle.cv_parse_terminals.specs.Braces.{file_tokens}
+use Rattle.cv_parse_terminals.proofs.FileTokens.{are_read, length-read_from}
+use Rattle.cv_parse_terminals.specs.Signs.{NumberBelow, Step, first_text, is_unnamed, no_counts, one_find, place_of, with_name, signs_from, signs_in, signs_of, step_before, text_step, token_step, unnamed_step, word_step}
 use Rattle.cv_parse_terminals.proofs.Telling.{bool_first, numbers_below}
 use Rattle.cv_parse_grammar.specs.Filled.{first_site}
 use Rattle.cv_parse_grammar.specs.Files.{levels}
@@ -154,10 +156,12 @@ each_small count n h (s ∷ signs) b f = (small_sign count n h s (All-head (Numb
 pub signs_small : (bs : List ℕ) (ts : List Token) → Lexed 0 bs (Ok ts) → length bs < 2 ^ 64 → AreSmall (length (signs_of ts).names) (signs_of ts).signs
 signs_small bs ts w h =
     let q = tokens_of_text bs ts w in
-    let labels : AllByRecursion (LabelFits (length q.are.front)) (signs_of ts).signs = subst (λ l. AllByRecursion (LabelFits (length q.are.front)) (signs_of l).signs) (sym q.are.all) (labels_from (length q.are.front) (codes "bool" ∷ []) (record { signs = []; names = []; counts = no_counts }) q.are.front q.are.end q.are.each (omega arith)) in
-    let long : length ts ≡ length q.are.front + 1 = ap length q.are.all ∙ length_push q.are.front (end_token q.are.end) in
+    let r : AreTokens (file_tokens ts) = are_read ts q.are in
+    let labels : AllByRecursion (LabelFits (length r.front)) (signs_of ts).signs = subst (λ l. AllByRecursion (LabelFits (length r.front)) (signs_in l).signs) (sym r.all) (labels_from (length r.front) (codes "bool" ∷ []) (record { signs = []; names = []; counts = no_counts }) r.front r.end r.each (omega arith)) in
+    let long : length (file_tokens ts) ≡ length r.front + 1 = ap length r.all ∙ length_push r.front (end_token r.end) in
+    let same = length-read_from 0 ts in
     let few = q.few in
-    each_small (length (signs_of ts).names) (length q.are.front) (omega arith) (signs_of ts).signs (numbers_below ts q.are) labels
+    each_small (length (signs_of ts).names) (length r.front) (omega (arith, long, same, few, h)) (signs_of ts).signs (numbers_below ts q.are) labels
 
 -- the game of what was read
 pub game_numbers : (bs : List ℕ) (ts : List Token) (ds : List Declaration) (s : Option (ℕ × ℕ)) (g : Tree) → Lexed 0 bs (Ok ts) → length bs < 2 ^ 64 → IsRead (signs_of ts).signs ds s g → is_named (length (signs_of ts).names) g ≡ true
