@@ -1,8 +1,8 @@
 -- What each answer about bytes comes from.
-use Rattle.std.proofs.Common.{◌≡◌, ℕ, suc, ◌+◌, ◌<◌, ◌≤◌, nat_lt, Bool, true, false, if◌then◌else◌, List, [], ◌∷◌, ◌++◌, length, length-append, refl, ap, sym, ◌∙◌, subst, arith, Option, Some, None, is_some, Result, Ok, Err, ◌⊎◌, inl, inr}
+use Rattle.std.proofs.Common.{◌≡◌, ℕ, suc, ◌+◌, ◌<◌, ◌≤◌, nat_lt, Bool, true, false, if◌then◌else◌, List, [], ◌∷◌, ◌++◌, length, length-append, map, refl, ap, sym, ◌∙◌, subst, arith, Option, Some, None, is_some, Result, Ok, Err, ◌⊎◌, inl, inr}
 use Rattle.std.proofs.lemmas.Bool.Decides.{nat_tests}
 use Rattle.std.specs.List.{list_all, list_any, zip}
-use Rattle.std.specs.Prelude.{IfSome}
+use Rattle.std.specs.Prelude.{IfSome, IsNone, IsSomeAnd}
 use Rattle.cv_lex.specs.declared.LexError.{LexError}
 use Rattle.cv_lex.specs.Lexis.{Token, tokens_of}
 use Rattle.cv_parse_terminals.specs.Signs.{signs_of}
@@ -47,13 +47,13 @@ use Rattle.cv_report.specs.declared.report.Status.TheVariants as status
 use Rattle.cv_report.specs.declared.report.Verdict.TheVariants.{Proved, NotProved}
 use Rattle.cv_report.specs.declared.report.Which.TheVariants.{Steps}
 use Rattle.cv_syntax.specs.declared.work.File.{File}
-use Rattle.cv.specs.Causes.{ComesFrom, HasEquivalence, HasManyClosed, HasProofBlock, HasQueryFault, HasQueryWithoutStep, HasScopeFault, HasTypeFault, OfTokens, Outside, closed_count}
+use Rattle.cv.specs.Causes.{ComesFrom, HasEquivalence, HasManyClosed, HasProofBlock, HasQueryFault, HasQueryWithoutStep, HasScopeFault, HasTypeFault, LacksRoom, OfTokens, Outside, closed_count}
 use Rattle.cv.specs.Causes as cause
 use Rattle.cv.specs.Faults.{parse_ended, status_of as ended_by}
 use Rattle.cv.specs.Words.{AreTold}
 use Rattle.cv_query_direct.specs.Plain.{certificate}
-use Rattle.cv.specs.Strategy.{FollowsStrategy, Said, declared_in, game_in, is_closed, is_proved, lacks_step, left_open, most_pool, most_steps, nothing_said, said_of, said_then}
-use Rattle.cv.proofs.Telling.{full_told}
+use Rattle.cv.specs.Strategy.{EndsAt, FollowsStrategy, Said, declared_in, game_in, is_closed, is_proved, lacks_step, left_open, most_pool, most_steps, nodes_in, nothing_said, open_verdict, said_in, said_of, said_then}
+use Rattle.cv.proofs.Telling.{crowded_lacks, whole_told}
 use Rattle.cv.proofs.Unread.{dead_anywhere, nested_at}
 use Rattle.cv.proofs.Verdicts.{closed_some}
 
@@ -288,8 +288,8 @@ where_told None bytes P a p = tt
 where_told (Some b) bytes P a p = subst P (sym a) p
 
 -- the cause of a refusal
-pub refusal_cause : (o : Outside) (r : Report) (bytes : List ℕ) → AreTold o.told bytes → (x : FileError) → Refuses x (read_of most_pool bytes) → ComesFrom o r (ended_by x)
-refusal_cause o r bytes a x e = go x e
+pub refusal_cause : (o : Outside) (r : Report) (bytes : List ℕ) → AreTold o.told bytes → r.file ≡ None → (x : FileError) → Refuses x (read_of most_pool bytes) → ComesFrom o r (ended_by x)
+refusal_cause o r bytes a none x e = go x e
   where
     in_told : (P : List ℕ → Type 0) → P bytes → IfSome o.told P
     in_told P p = where_told o.told bytes P a p
@@ -301,7 +301,7 @@ refusal_cause o r bytes a x e = go x e
     parsing (parse.NameUnknown k) e = cause.name_unknown (in_told _ (told bytes (parse.NameUnknown k) (λ signs. IsMisnamedAt signs names.NameUnknown k) (λ signs i. unknown_name most_pool signs k i) e))
     parsing (parse.Build (build.Full n)) e =
         let large = told bytes (parse.Build (build.Full n)) (λ signs. IsLarge signs (HasWeight most_pool n)) (λ signs i. heavy_trees most_pool signs n i) e in
-        cause.pool large.holds.large.0 (in_told _ large)
+        cause.pool (subst (λ (f : Option File). IsNone f) (sym none) refl) large.holds.large.0 (in_told _ large)
     parsing (parse.Build (build.Nodes n)) e = cause.nodes (in_told _ (told bytes (parse.Build (build.Nodes n)) (λ signs. IsLarge signs (HasNodes n)) (λ signs i. large_game most_pool signs n i) e))
     parsing (parse.Build (build.Depth n)) e = cause.deep (in_told _ (told bytes (parse.Build (build.Depth n)) (λ signs. IsLarge signs (HasDepth n)) (λ signs i. deep_game most_pool signs n i) e))
     parsing (parse.Build build.OutOfMemory) e = cause.memory
@@ -321,14 +321,33 @@ many_closed bytes c e f = record { content = c; file = read_is_file most_pool by
 
 -- the cause of what is said of a file that is read
 pub verdict_cause : (o : Outside) (r : Report) (f : File) (bytes : List ℕ) → AreTold o.told bytes → r.file ≡ Some f → FollowsStrategy r f → read_of most_pool bytes ≡ Ok (content_at r.work f.game.root) → ComesFrom o r r.status
-verdict_cause o r f bytes a s h e = subst (ComesFrom o r) (sym h.told) (go (list_all is_proved r.verdicts.items) refl (list_any (lacks_step (game_in r f)) (zip (queries_in (declared_in r)) r.verdicts.items)) refl)
+verdict_cause o r f bytes a s h e = go h.course.left h.course.split h.course.ends h.verdicts
   where
+    game : Tree
+    game = game_in r f
+
+    asked : List Tree
+    asked = queries_in (declared_in r)
+
     there : (has : Bool) → HasQueryWithoutStep r f has → IfSome r.file (λ (g : File). HasQueryWithoutStep r g has)
     there has l = subst (λ (x : Option File). IfSome x (λ (g : File). HasQueryWithoutStep r g has)) (sym s) l
 
-    go : (p : Bool) → list_all is_proved r.verdicts.items ≡ p → (l : Bool) → HasQueryWithoutStep r f l → ComesFrom o r (if p then status.Proved else (if l then status.Limit Steps else status.Open Stuck))
-    go true i l j = cause.all_proved i
-    go false i true j =
-        let full = full_told (game_in r f) (queries_in (declared_in r)) ∙ ap (λ vs. list_any (lacks_step (game_in r f)) (zip (queries_in (declared_in r)) vs)) (sym h.verdicts) ∙ j in
-        cause.steps (there true j) (where_told o.told bytes HasManyClosed a (many_closed bytes (content_at r.work f.game.root) e full))
-    go false i false j = cause.stuck i (there false j)
+    whole : (said_of game nothing_said asked).full ≡ list_any (lacks_step game) (zip asked r.verdicts.items) → (p : Bool) → list_all is_proved r.verdicts.items ≡ p → (l : Bool) → HasQueryWithoutStep r f l → ComesFrom o r (if p then status.Proved else (if l then status.Limit Steps else status.Open Stuck))
+    whole full true i l j = cause.all_proved i
+    whole full false i true j = cause.steps (there true j) (where_told o.told bytes HasManyClosed a (many_closed bytes (content_at r.work f.game.root) e (full ∙ j)))
+    whole full false i false j = cause.stuck i (there false j)
+
+    go : (left : List Tree) → asked ≡ h.course.answered ++ left → EndsAt (nodes_in r f) game (said_in r f h.course.answered) left r.status → r.verdicts.items ≡ (said_in r f h.course.answered).verdicts ++ map open_verdict left → ComesFrom o r r.status
+    go [] i t v =
+        let told = whole_told game asked h.course.answered r.status r.verdicts.items i t v in
+        subst (ComesFrom o r) (sym told.0) (whole told.1 (list_all is_proved r.verdicts.items) refl (list_any (lacks_step game) (zip asked r.verdicts.items)) refl)
+    go (q ∷ left) i t v =
+        let room : LacksRoom r f t.0 = record {
+          answered = h.course.answered;
+          query = q;
+          left = left;
+          split = i;
+          crowded = t.2;
+          lacks = crowded_lacks (nodes_in r f) game h.course.answered left q t.0 asked r.verdicts.items t.2 i v;
+        } in
+        subst (ComesFrom o r) (sym t.1) (cause.room (subst (λ (x : Option File). IsSomeAnd x (λ (g : File). LacksRoom r g t.0)) (sym s) room))

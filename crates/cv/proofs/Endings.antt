@@ -1,5 +1,5 @@
 -- How runs end.
-use Rattle.std.proofs.Common.{◌≡◌, ℕ, ◌<◌, ◌≤◌, arith, refl, Bool, true, false, List, length, Option, Some, None, Result, Ok, Err, ap, sym, ◌∙◌, subst, ◌⊎◌, inl, inr}
+use Rattle.std.proofs.Common.{◌≡◌, ℕ, ◌<◌, ◌≤◌, arith, refl, Bool, true, false, List, [], ◌∷◌, length, Option, Some, None, Result, Ok, Err, ap, sym, ◌∙◌, subst, ◌⊎◌, inl, inr}
 use Rattle.std.specs.Prelude.{IfSome, IsNone, IsSome, MatchOption, slice_get, ◌≢◌}
 use Rattle.cv_outside.specs.Causes.{NoFault, Rose}
 use Rattle.cv_outside.specs.Told.{Files, bytes_of}
@@ -14,6 +14,7 @@ use Rattle.cv_accept.specs.declared.error.FileError.{FileError}
 use Rattle.cv_accept.specs.declared.error.FileError.TheVariants as fault
 use Rattle.cv_accept.specs.Accepted.{Content, IsFile, Refuses, read_of}
 use Rattle.cv_accept.specs.Works.{content_at}
+use Rattle.cv_parse.specs.Nodes.{file_nodes}
 use Rattle.cv_query_form.specs.Queries.{queries_in}
 use Rattle.cv_accept.proofs.Readings.{file_is_read}
 use Rattle.cv_report.specs.declared.report.Status.{Status}
@@ -26,32 +27,32 @@ use Rattle.cv.specs.Causes.{ComesFrom, Outside}
 use Rattle.cv.specs.Causes as cause
 use Rattle.cv.specs.Faults.{status_of as ended_by}
 use Rattle.cv.specs.Fetched.{fetch_ended}
-use Rattle.cv.specs.Strategy.{EndsWell, FollowsStrategy, HasFile, HoldsUpTo, IsGood, IsSound, Judged, Said, SaysNothing, SpeaksOfFile, contexts_in, declared_in, expected, game_in, most_bytes, most_pool, nothing_said, said_of, status_by, status_of}
+use Rattle.cv.specs.Strategy.{Course, EndsAt, EndsWell, FollowsStrategy, HasFile, HoldsUpTo, IsExpected, IsGood, IsSound, Judged, SaysNothing, SpeaksOfFile, contexts_in, declared_in, game_in, most_bytes, most_pool, nothing_said, said_of, status_by}
 use Rattle.cv.specs.Words.{AreTold, bytes_named, bytes_under}
 use Rattle.cv.proofs.Causing.{where_told}
+use Rattle.cv.proofs.Courses.{course_fits}
 use Rattle.cv.proofs.Verdicts.{all_closed, judged_fault}
 
--- what is expected of a good file
-good_proved : (bytes : List ℕ) → IsGood bytes → expected (read_of most_pool bytes) ≡ status.Proved
-good_proved bytes g = ap expected (file_is_read most_pool bytes g.content g.file) ∙ all_closed g.content.game nothing_said (queries_in g.content.declarations) g.closed (omega (arith, g.few)) refl refl
+-- a good file is proved
+good_proved : (s : Status) (bytes : List ℕ) → IsGood bytes → IsExpected (read_of most_pool bytes) s → s ≡ status.Proved
+good_proved s bytes g h =
+    let course = subst (λ r. IsExpected r s) (file_is_read most_pool bytes g.content g.file) h in
+    course_fits (file_nodes g.content.declarations g.content.game) g.content.game (queries_in g.content.declarations) s course g.fits
+    ∙ all_closed g.content.game nothing_said (queries_in g.content.declarations) g.closed (omega (arith, g.few)) refl refl
 
-judged_well : (s : Status) (bytes : List ℕ) → Judged s bytes → expected (read_of most_pool bytes) ≡ status.Proved → EndsWell s
+judged_well : (s : Status) (bytes : List ℕ) → Judged s bytes → (IsExpected (read_of most_pool bytes) s → s ≡ status.Proved) → EndsWell s
 judged_well status.Proved bytes j e = tt
 judged_well status.Memory bytes j e = tt
-judged_well (status.FileRefused fault) bytes j e = absurd (let h = j ∙ e in cc)
-judged_well (status.Limit (Nodes count)) bytes j e = absurd (let h = j ∙ e in cc)
-judged_well (status.Limit (Depth depth)) bytes j e = absurd (let h = j ∙ e in cc)
-judged_well (status.Limit (Pool need)) bytes j e = absurd (let h = j ∙ e in cc)
-judged_well (status.Limit File) bytes j e = absurd (let h = j ∙ e in cc)
-judged_well (status.Limit Steps) bytes j e = absurd (let h = j ∙ e in cc)
-judged_well (status.Open cause) bytes j e = absurd (let h = j ∙ e in cc)
-judged_well status.Words bytes j e = absurd (let h = j ∙ e in cc)
-judged_well status.Read bytes j e = absurd (let h = j ∙ e in cc)
-judged_well status.Write bytes j e = absurd (let h = j ∙ e in cc)
-judged_well status.Unbuilt bytes j e = absurd (let h = j ∙ e in cc)
+judged_well (status.FileRefused fault) bytes j e = absurd (let h = e j in cc)
+judged_well (status.Limit w) bytes j e = absurd (let h = e j in cc)
+judged_well (status.Open cause) bytes j e = absurd (let h = e j in cc)
+judged_well status.Words bytes j e = absurd (let h = e j in cc)
+judged_well status.Read bytes j e = absurd (let h = e j in cc)
+judged_well status.Write bytes j e = absurd (let h = e j in cc)
+judged_well status.Unbuilt bytes j e = absurd (let h = e j in cc)
 
 pub ends_well : (s r : Status) (bytes : List ℕ) → IsComplete bytes r → IsGood bytes → (s ≡ r) ⊎ (s ≡ status.Write) → s ≢ status.Write → EndsWell s
-ends_well s r bytes c g (inl e) n = subst EndsWell (sym e) (judged_well r bytes (c.short g.short) (good_proved bytes g))
+ends_well s r bytes c g (inl e) n = subst EndsWell (sym e) (judged_well r bytes (c.short g.short) (good_proved r bytes g))
 ends_well s r bytes c g (inr e) n = absurd (n e)
 
 -- what is said of told bytes
@@ -59,45 +60,50 @@ pub judged_complete : (told : Option (List ℕ)) (bytes : List ℕ) (s : Status)
 judged_complete told bytes s a l j = where_told told bytes (λ (b : List ℕ). IsComplete b s) a (record { short = λ k. j; long = λ k. absurd (let m : most_bytes < length bytes = k in omega arith) })
 
 -- what is read speaks of a file, unless memory ran out
-expected_speaks : (r : Result Content FileError) → (expected r ≡ status.Memory) ⊎ SpeaksOfFile (expected r)
-expected_speaks (Ok c) = of_said (said_of c.game nothing_said (queries_in c.declarations))
+
+course_speaks : (taken : ℕ) (game : Tree) (qs : List Tree) (s : Status) → Course taken game qs s → SpeaksOfFile s
+course_speaks taken game qs s c = go c.left c.ends
   where
-    by_tests : (full all : Bool) → (status_by full all ≡ status.Memory) ⊎ SpeaksOfFile (status_by full all)
-    by_tests true true = inr tt
-    by_tests true false = inr tt
-    by_tests false true = inr tt
-    by_tests false false = inr tt
+    by_tests : (full all : Bool) → SpeaksOfFile (status_by full all)
+    by_tests true true = tt
+    by_tests true false = tt
+    by_tests false true = tt
+    by_tests false false = tt
 
-    of_said : (s : Said) → (status_of s ≡ status.Memory) ⊎ SpeaksOfFile (status_of s)
-    of_said s = by_tests s.full s.all
-expected_speaks (Err (fault.Lex x)) = inr tt
-expected_speaks (Err (fault.Parse (parse.Syntax k))) = inr tt
-expected_speaks (Err (fault.Parse (parse.Nesting k))) = inr tt
-expected_speaks (Err (fault.Parse (parse.NameTwice k))) = inr tt
-expected_speaks (Err (fault.Parse (parse.NameUnknown k))) = inr tt
-expected_speaks (Err (fault.Parse (parse.Build (build.Full n)))) = inr tt
-expected_speaks (Err (fault.Parse (parse.Build (build.Nodes n)))) = inr tt
-expected_speaks (Err (fault.Parse (parse.Build (build.Depth n)))) = inr tt
-expected_speaks (Err (fault.Parse (parse.Build build.OutOfMemory))) = inl refl
-expected_speaks (Err (fault.Types x)) = inr tt
-expected_speaks (Err (fault.Scope x)) = inr tt
-expected_speaks (Err (fault.Query k)) = inr tt
-expected_speaks (Err fault.Unbuilt) = inr tt
-expected_speaks (Err fault.OutOfMemory) = inl refl
+    go : (left : List Tree) → EndsAt taken game (said_of game nothing_said c.answered) left s → SpeaksOfFile s
+    go [] h = subst SpeaksOfFile (sym h) (by_tests (said_of game nothing_said c.answered).full (said_of game nothing_said c.answered).all)
+    go (q ∷ left) h = subst SpeaksOfFile (sym h.1) tt
 
-by_expected : (s : Status) (bytes : List ℕ) → s ≡ expected (read_of most_pool bytes) → (s ≡ status.Memory) ⊎ SpeaksOfFile s
-by_expected s bytes e = subst (λ x. (x ≡ status.Memory) ⊎ SpeaksOfFile x) (sym e) (expected_speaks (read_of most_pool bytes))
+refusal_speaks : (x : FileError) → (ended_by x ≡ status.Memory) ⊎ SpeaksOfFile (ended_by x)
+refusal_speaks (fault.Lex x) = inr tt
+refusal_speaks (fault.Parse (parse.Syntax k)) = inr tt
+refusal_speaks (fault.Parse (parse.Nesting k)) = inr tt
+refusal_speaks (fault.Parse (parse.NameTwice k)) = inr tt
+refusal_speaks (fault.Parse (parse.NameUnknown k)) = inr tt
+refusal_speaks (fault.Parse (parse.Build (build.Full n))) = inr tt
+refusal_speaks (fault.Parse (parse.Build (build.Nodes n))) = inr tt
+refusal_speaks (fault.Parse (parse.Build (build.Depth n))) = inr tt
+refusal_speaks (fault.Parse (parse.Build build.OutOfMemory)) = inl refl
+refusal_speaks (fault.Types x) = inr tt
+refusal_speaks (fault.Scope x) = inr tt
+refusal_speaks (fault.Query k) = inr tt
+refusal_speaks fault.Unbuilt = inr tt
+refusal_speaks fault.OutOfMemory = inl refl
+
+expected_speaks : (s : Status) (r : Result Content FileError) → IsExpected r s → (s ≡ status.Memory) ⊎ SpeaksOfFile s
+expected_speaks s (Ok c) h = inr (course_speaks (file_nodes c.declarations c.game) c.game (queries_in c.declarations) s h)
+expected_speaks s (Err x) h = subst (λ y. (y ≡ status.Memory) ⊎ SpeaksOfFile y) (sym h) (refusal_speaks x)
 
 pub judged_speaks : (s : Status) (bytes : List ℕ) → Judged s bytes → (s ≡ status.Memory) ⊎ SpeaksOfFile s
 judged_speaks status.Memory bytes j = inl refl
-judged_speaks status.Proved bytes j = by_expected status.Proved bytes j
-judged_speaks (status.Open c) bytes j = by_expected (status.Open c) bytes j
-judged_speaks (status.FileRefused f) bytes j = by_expected (status.FileRefused f) bytes j
-judged_speaks status.Words bytes j = by_expected status.Words bytes j
-judged_speaks status.Read bytes j = by_expected status.Read bytes j
-judged_speaks status.Write bytes j = by_expected status.Write bytes j
-judged_speaks (status.Limit w) bytes j = by_expected (status.Limit w) bytes j
-judged_speaks status.Unbuilt bytes j = by_expected status.Unbuilt bytes j
+judged_speaks status.Proved bytes j = expected_speaks status.Proved (read_of most_pool bytes) j
+judged_speaks (status.Open c) bytes j = expected_speaks (status.Open c) (read_of most_pool bytes) j
+judged_speaks (status.FileRefused f) bytes j = expected_speaks (status.FileRefused f) (read_of most_pool bytes) j
+judged_speaks status.Words bytes j = expected_speaks status.Words (read_of most_pool bytes) j
+judged_speaks status.Read bytes j = expected_speaks status.Read (read_of most_pool bytes) j
+judged_speaks status.Write bytes j = expected_speaks status.Write (read_of most_pool bytes) j
+judged_speaks (status.Limit w) bytes j = expected_speaks (status.Limit w) (read_of most_pool bytes) j
+judged_speaks status.Unbuilt bytes j = expected_speaks status.Unbuilt (read_of most_pool bytes) j
 
 -- neither Words nor Write
 pub speaks_never : (s : Status) → (s ≡ status.Memory) ⊎ SpeaksOfFile s → (s ≢ status.Words) × (s ≢ status.Write)
@@ -113,7 +119,8 @@ pub answers_without : (told : Option (List ℕ)) (r : Report) → r.file ≡ Non
 answers_without told r e n h j = record {
   file = subst (λ (o : Option SourceFile). IfSome o (λ f. IfSome told (λ bytes. IsFile most_pool bytes (content_at r.work f.game.root)))) (sym e) tt;
   follows = subst (λ (o : Option SourceFile). MatchOption o (SaysNothing r) (FollowsStrategy r)) (sym e) n;
-  given = (λ s. absurd (let t = subst (λ (o : Option SourceFile). IsSome o) e s in cc), λ s. absurd (h s));
+  given = λ s. absurd (h s);
+  only = λ s. absurd (let t = subst (λ (o : Option SourceFile). IsSome o) e s in cc);
   judged = j;
 }
 

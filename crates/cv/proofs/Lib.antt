@@ -1,4 +1,5 @@
 pub mod Causing
+pub mod Courses
 pub mod Endings
 pub mod Growing
 pub mod Sayings

@@ -1,5 +1,5 @@
 -- What is said of a file, by what the strategy finds.
-use Rattle.std.proofs.Common.{◌≡◌, ℕ, zero, suc, ◌+◌, ◌*◌, ◌<◌, ◌≤◌, nat_lt, Bool, true, false, cond, List, [], ◌∷◌, ◌++◌, length, length-append, refl, ap, ap₂, sym, ◌∙◌, subst, arith, append-nil, append_assoc, Option, Some, None, Ok, Err, is_some}
+use Rattle.std.proofs.Common.{◌≡◌, ℕ, zero, suc, ◌+◌, ◌*◌, ◌<◌, ◌≤◌, nat_lt, Bool, true, false, cond, List, [], ◌∷◌, ◌++◌, length, length-append, map, refl, ap, ap₂, sym, ◌∙◌, subst, arith, append-nil, append_assoc, Option, Some, None, Ok, Err, is_some}
 use Rattle.std.specs.Prelude.{slice_get}
 use Rattle.std.specs.List.{list_all}
 use Rattle.std.proofs.lemmas.Bool.{and_parts, lt-ltb}
@@ -12,9 +12,7 @@ use Rattle.cv_meaning.specs.Interpretation.{Interpretation, setting_of}
 use Rattle.cv_meaning_chances.specs.Fractions.{HasTapes}
 use Rattle.cv_meaning.specs.Runs.{Adversary}
 use Rattle.cv_query_form.specs.Queries.{queries_in}
-use Rattle.cv_parse.specs.declared.error.ParseError.{ParseError}
-use Rattle.cv_parse.specs.declared.error.ParseError.TheVariants as parse
-use Rattle.cv_syntax.specs.declared.work.BuildError.TheVariants as build
+use Rattle.cv_parse.specs.Nodes.{file_nodes}
 use Rattle.cv_accept.specs.declared.error.FileError.{FileError}
 use Rattle.cv_accept.specs.declared.error.FileError.TheVariants as fault
 use Rattle.cv_accept.specs.Accepted.{Content, Refuses, read_of}
@@ -27,9 +25,10 @@ use Rattle.cv_report.specs.declared.report.Verdict.{Verdict}
 use Rattle.cv_report.specs.declared.report.Verdict.TheVariants.{Proved, NotProved}
 use Rattle.cv_bound.specs.declared.terms.Term.{Term}
 use Rattle.cv_query_direct.specs.Certificates.{step_of}
-use Rattle.cv.specs.Faults.{parse_ended, status_of as ended_by}
+use Rattle.cv.specs.Faults.{status_of as ended_by}
 use Rattle.cv_query_direct.specs.Plain.{certificate}
-use Rattle.cv.specs.Strategy.{HoldsUpTo, Said, is_closed, said_then, said_of, most_steps, status_by, status_of, expected, HasFile, Judged, most_pool}
+use Rattle.cv.specs.Findings.{ended}
+use Rattle.cv.specs.Strategy.{Course, HoldsUpTo, IsExpected, Judged, MayHaveFile, Said, is_closed, most_pool, most_steps, open_verdict, said_of, said_then, status_by, status_of}
 use Rattle.cv.specs.Values.{value_of}
 
 -- a query has a certificate where it is closed
@@ -87,29 +86,42 @@ sound_at ds game qs vs w v k query s e h i sat a =
     let found = sound_in game qs vs v k query s e h in
     (no_terms ds i query a s found.1, at_most_any (advantage (setting_of ds i) query a game) (value_of ds i [] query a s) (no_advantage ds game query w found.0 i a))
 
+-- queries that are left are open
+open_sound : (game : Tree) (qs : List Tree) → AreSound game qs (map open_verdict qs)
+open_sound game [] = tt
+open_sound game (q ∷ qs) = (λ s e. absurd (cc), open_sound game qs)
+
+pub sound-append : (game : Tree) (a b : List Tree) (vs : List Verdict) → AreSound game a vs → AreSound game (a ++ b) (vs ++ map open_verdict b)
+sound-append game [] b [] h = open_sound game b
+sound-append game [] b (v ∷ vs) h = absurd h
+sound-append game (q ∷ a) b [] h = absurd h
+sound-append game (q ∷ a) b (v ∷ vs) h = (h.0, sound-append game a b vs h.1)
+
 -- statuses
 
-pub has_file : (full all : Bool) → HasFile (status_by full all)
-has_file true true = tt
-has_file true false = tt
-has_file false true = tt
-has_file false false = tt
+pub may_have_file : (need : Option ℕ) (full all : Bool) → MayHaveFile (ended need full all)
+may_have_file (Some n) full all = tt
+may_have_file None true true = tt
+may_have_file None true false = tt
+may_have_file None false true = tt
+may_have_file None false false = tt
 
-pub judged_by : (full all : Bool) (s : Status) (bytes : List ℕ) → s ≡ status_by full all → expected (read_of most_pool bytes) ≡ status_by full all → Judged s bytes
-judged_by true true s bytes e f = subst (λ x. Judged x bytes) (sym e) (sym f)
-judged_by true false s bytes e f = subst (λ x. Judged x bytes) (sym e) (sym f)
-judged_by false true s bytes e f = subst (λ x. Judged x bytes) (sym e) (sym f)
-judged_by false false s bytes e f = subst (λ x. Judged x bytes) (sym e) (sym f)
+judged_as : (s : Status) (bytes : List ℕ) → IsExpected (read_of most_pool bytes) s → Judged s bytes
+judged_as status.Memory bytes h = tt
+judged_as status.Proved bytes h = h
+judged_as (status.Open c) bytes h = h
+judged_as (status.FileRefused f) bytes h = h
+judged_as status.Words bytes h = h
+judged_as status.Read bytes h = h
+judged_as status.Write bytes h = h
+judged_as (status.Limit w) bytes h = h
+judged_as status.Unbuilt bytes h = h
 
-judged_limit : (x : ParseError) (bytes : List ℕ) → read_of most_pool bytes ≡ Err (fault.Parse x) → Judged (parse_ended x) bytes
-judged_limit (parse.Syntax k) bytes e = sym (ap expected e)
-judged_limit (parse.Nesting k) bytes e = sym (ap expected e)
-judged_limit (parse.NameTwice k) bytes e = sym (ap expected e)
-judged_limit (parse.NameUnknown k) bytes e = sym (ap expected e)
-judged_limit (parse.Build (build.Full n)) bytes e = sym (ap expected e)
-judged_limit (parse.Build (build.Nodes n)) bytes e = sym (ap expected e)
-judged_limit (parse.Build (build.Depth n)) bytes e = sym (ap expected e)
-judged_limit (parse.Build build.OutOfMemory) bytes e = tt
+pub judged_course : (s : Status) (bytes : List ℕ) (c : Content) → read_of most_pool bytes ≡ Ok c → Course (file_nodes c.declarations c.game) c.game (queries_in c.declarations) s → Judged s bytes
+judged_course s bytes c e h = judged_as s bytes (subst (λ r. IsExpected r s) (sym e) h)
+
+judged_refusal : (x : FileError) (bytes : List ℕ) → read_of most_pool bytes ≡ Err x → Judged (ended_by x) bytes
+judged_refusal x bytes e = judged_as (ended_by x) bytes (subst (λ r. IsExpected r (ended_by x)) (sym e) refl)
 
 -- under the pool's own limit
 pub reads_at : (n : ℕ) (bytes : List ℕ) (c : Content) → n ≡ most_pool → read_of n bytes ≡ Ok c → read_of most_pool bytes ≡ Ok c
@@ -119,12 +131,12 @@ pub refuses_at : (n : ℕ) (bytes : List ℕ) (x : FileError) → n ≡ most_poo
 refuses_at n bytes x e h = subst (λ m. Refuses x (read_of m bytes)) e h
 
 pub judged_fault : (x : FileError) (bytes : List ℕ) → Refuses x (read_of most_pool bytes) → Judged (ended_by x) bytes
-judged_fault (fault.Lex x) bytes e = sym (ap expected e)
-judged_fault (fault.Parse x) bytes e = judged_limit x bytes e
-judged_fault (fault.Types x) bytes e = sym (ap expected e)
-judged_fault (fault.Scope x) bytes e = sym (ap expected e)
-judged_fault (fault.Query k) bytes e = sym (ap expected e)
-judged_fault fault.Unbuilt bytes e = sym (ap expected e)
+judged_fault (fault.Lex x) bytes e = judged_refusal (fault.Lex x) bytes e
+judged_fault (fault.Parse x) bytes e = judged_refusal (fault.Parse x) bytes e
+judged_fault (fault.Types x) bytes e = judged_refusal (fault.Types x) bytes e
+judged_fault (fault.Scope x) bytes e = judged_refusal (fault.Scope x) bytes e
+judged_fault (fault.Query k) bytes e = judged_refusal (fault.Query k) bytes e
+judged_fault fault.Unbuilt bytes e = judged_refusal fault.Unbuilt bytes e
 judged_fault fault.OutOfMemory bytes e = tt
 
 -- queries that are all closed, and for which there are steps

@@ -1,5 +1,5 @@
 -- What a report says of the told bytes of a file.
-use Rattle.std.specs.Prelude.{◌≡◌, ℕ, ◌<◌, ◌≤◌, ◌⊎◌, ◌↔◌, List, [], length, Option, None, IfSome, IsSome, MatchOption}
+use Rattle.std.specs.Prelude.{◌≡◌, ℕ, ◌<◌, ◌≤◌, ◌⊎◌, List, [], length, Option, None, IfSome, IsSome, MatchOption}
 use Rattle.cv_accept.specs.Accepted.{IsFile}
 use Rattle.cv_accept.specs.Works.{content_at}
 use Rattle.cv_report.specs.declared.report.Command.{Command}
@@ -7,14 +7,15 @@ use Rattle.cv_report.specs.declared.report.Report.{Report}
 use Rattle.cv_report.specs.declared.report.Status.{Status}
 use Rattle.cv_report.specs.declared.report.Status.TheVariants as status
 use Rattle.cv_report.specs.declared.report.Which.TheVariants.{File}
-use Rattle.cv.specs.Strategy.{FollowsStrategy, HasFile, Judged, SaysNothing, SpeaksOfFile, most_bytes, most_pool}
+use Rattle.cv.specs.Strategy.{FollowsStrategy, HasFile, Judged, MayHaveFile, SaysNothing, SpeaksOfFile, most_bytes, most_pool}
 
 -- A report's file is what the told bytes are, and its steps, verdicts and status are those of the plain strategy. Without a
 -- file there are none. A status that speaks of a file is the one that the bytes call for.
 pub record Answers (told : Option (List ℕ)) (r : Report) : Type 0 where
   pub file : IfSome r.file (λ f. IfSome told (λ bytes. IsFile most_pool bytes (content_at r.work f.game.root)))
   pub follows : MatchOption r.file (SaysNothing r) (FollowsStrategy r)
-  pub given : IsSome r.file ↔ HasFile r.status
+  pub given : HasFile r.status → IsSome r.file
+  pub only : IsSome r.file → MayHaveFile r.status
   pub judged : SpeaksOfFile r.status → IfSome told (Judged r.status)
 
 -- What bytes call for is said, unless memory ran out.

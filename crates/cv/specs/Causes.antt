@@ -1,5 +1,5 @@
 -- What each answer comes from.
-use Rattle.std.specs.Prelude.{◌≡◌, ℕ, suc, ◌+◌, ◌<◌, ◌⊎◌, Bool, false, true, if◌then◌else◌, List, [], ◌∷◌, length, Option, None, Ok, Err, IfSome, IsNone, is_some}
+use Rattle.std.specs.Prelude.{◌≡◌, ℕ, suc, ◌+◌, ◌<◌, ◌⊎◌, Bool, false, true, if◌then◌else◌, List, [], ◌∷◌, ◌++◌, length, Option, None, Ok, Err, IfSome, IsNone, IsSomeAnd, is_some}
 use Rattle.std.specs.List.{list_all, list_any, zip}
 use Rattle.cv_outside.specs.Causes.{Rose}
 use Rattle.cv_outside.specs.Told.{Files}
@@ -31,7 +31,7 @@ use Rattle.cv_report.specs.declared.report.Report.{Report}
 use Rattle.cv_report.specs.declared.report.Status.{Status}
 use Rattle.cv_report.specs.declared.report.Status.TheVariants as status
 use Rattle.cv_report.specs.declared.report.Which.TheVariants.{Depth, Nodes, Pool, Steps, File as FileLimit}
-use Rattle.cv.specs.Strategy.{declared_in, game_in, is_closed, is_proved, lacks_step, most_bytes, most_pool, most_steps}
+use Rattle.cv.specs.Strategy.{IsCrowded, declared_in, game_in, is_closed, is_proved, lacks_step, most_bytes, most_pool, most_steps, nodes_in, said_in}
 use Rattle.cv.specs.Words.{bytes_named}
 
 -- The bytes have tokens, of which this holds.
@@ -101,6 +101,15 @@ abbrev pub HasQueryWithoutStep : Report → File → Bool → Type 0
 HasQueryWithoutStep r f has =
     list_any (lacks_step (game_in r f)) (zip (queries_in (declared_in r)) r.verdicts.items) ≡ has
 
+-- The pool has no room for the step of a query that would be closed.
+pub record LacksRoom (r : Report) (f : File) (need : ℕ) : Type 0 where
+  pub answered : List Tree
+  pub query : Tree
+  pub left : List Tree
+  pub split : queries_in (declared_in r) ≡ answered ++ query ∷ left
+  pub crowded : IsCrowded (nodes_in r f) (game_in r f) (said_in r f answered) query need
+  pub lacks : HasQueryWithoutStep r f true
+
 -- what is known of the outside: the file that the words name, its told bytes, and the faults of the shelf, before and after
 pub record Outside : Type 0 where
   pub name : Option (List ℕ)
@@ -134,5 +143,6 @@ pub data ComesFrom (o : Outside) (r : Report) : Status → Type 0 where
   unbuilt : OfTold o (λ signs. HasProofBlock signs ⊎ HasEquivalence signs) → ComesFrom o r status.Unbuilt
   nodes : {count : ℕ} → OfTold o (λ signs. IsLarge signs (HasNodes count)) → ComesFrom o r (status.Limit (Nodes count))
   deep : {depth : ℕ} → OfTold o (λ signs. IsLarge signs (HasDepth depth)) → ComesFrom o r (status.Limit (Depth depth))
-  pool : {need : ℕ} → most_pool < need → OfTold o (λ signs. IsLarge signs (HasWeight most_pool need)) → ComesFrom o r (status.Limit (Pool need))
+  pool : {need : ℕ} → IsNone r.file → most_pool < need → OfTold o (λ signs. IsLarge signs (HasWeight most_pool need)) → ComesFrom o r (status.Limit (Pool need))
+  room : {need : ℕ} → IsSomeAnd r.file (λ f. LacksRoom r f need) → ComesFrom o r (status.Limit (Pool need))
   memory : ComesFrom o r status.Memory

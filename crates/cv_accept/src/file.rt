@@ -1,5 +1,7 @@
 ghost use Rattle.std.specs.Prelude.{◌≡◌, ◌+◌, ◌<◌, ◌≤◌, ◌^◌, [], ℕ, Some, None, All, length, IfOk, OnOk, OnErr};
+ghost use Rattle.cv_syntax.specs.Declarations.{declarations};
 ghost use Rattle.cv_parse.specs.Declaring.{IsBelow};
+ghost use Rattle.cv_parse.specs.Nodes.{file_nodes};
 ghost use Rattle.cv_syntax.specs.Tree.{size, tree_at};
 ghost use Rattle.cv_accept.specs.Works.{Reads};
 
@@ -25,10 +27,11 @@ fn fill(alloc: Global, work: &mut Work, bytes: &[u8]) -> Result<File, FileError>
     ensures reads { Reads work.old.pool.limit bytes.now work.new result }
     ensures live { IfOk result (λ f. f.game.root.0 < length work.new.pool.trees) }
     ensures fits { IfOk result (λ f. size (tree_at work.new.pool.trees (Some f.game.root)) ≤ 50000) }
+    ensures nodes { IfOk result (λ f. length work.new.pool.trees ≤ file_nodes (declarations work.new.pool.trees work.new.decls.list) (tree_at work.new.pool.trees (Some f.game.root))) }
+    ensures limit { work.new.pool.limit ≡ work.old.pool.limit }
     ensures below { OnOk result (All (IsBelow (length work.new.pool.trees)) work.new.decls.list) }
     ensures script { IfOk result (λ f. f.script ≡ None) }
     ensures own { OnOk result (work.new.decls.own ≡ length work.new.names) }
-    ensures limit { work.new.pool.limit ≡ work.old.pool.limit }
 {
     let tokens = tokens(alloc, bytes)?;
     let file = file(alloc, work, &tokens)?;
@@ -57,6 +60,8 @@ pub fn read(alloc: Global, work: &mut Work, bytes: &[u8]) -> Result<File, FileEr
     ensures reads { Reads work.old.pool.limit bytes.now work.new result }
     ensures live { IfOk result (λ f. f.game.root.0 < length work.new.pool.trees) }
     ensures fits { IfOk result (λ f. size (tree_at work.new.pool.trees (Some f.game.root)) ≤ 50000) }
+    ensures nodes { IfOk result (λ f. length work.new.pool.trees ≤ file_nodes (declarations work.new.pool.trees work.new.decls.list) (tree_at work.new.pool.trees (Some f.game.root))) }
+    ensures limit { work.new.pool.limit ≡ work.old.pool.limit }
     ensures below { OnOk result (All (IsBelow (length work.new.pool.trees)) work.new.decls.list) }
     ensures script { IfOk result (λ f. f.script ≡ None) }
     ensures own { OnOk result (work.new.decls.own ≡ length work.new.names) }
@@ -64,7 +69,6 @@ pub fn read(alloc: Global, work: &mut Work, bytes: &[u8]) -> Result<File, FileEr
     ensures decls { OnErr result (work.new.decls.list ≡ []) }
     ensures same_own { OnErr result (work.new.decls.own ≡ work.old.decls.own) }
     ensures trees { OnErr result (work.new.pool.trees ≡ []) }
-    ensures limit { work.new.pool.limit ≡ work.old.pool.limit }
 {
     let before = work.pool.mark();
     let own = work.decls.own();

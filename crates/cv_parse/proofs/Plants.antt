@@ -1,26 +1,32 @@
 -- The nodes that a tree takes in a pool.
-use Rattle.std.proofs.Common.{◌≡◌, ℕ, zero, suc, ◌+◌, ◌<◌, ◌≤◌, List, [], ◌∷◌, ◌++◌, append_assoc, length, length-append, map, take, Bool, true, false, nat_lt, Result, Ok, Err, refl, ap, sym, ◌∙◌, append-nil, arith, Some, subst}
+use Rattle.std.proofs.Common.{◌≡◌, ℕ, zero, suc, ◌+◌, ◌<◌, ◌≤◌, List, [], ◌∷◌, ◌++◌, append_assoc, length, length-append, map, take, Bool, true, false, nat_lt, Result, Ok, Err, refl, ap, ap₂, sym, ◌∙◌, append-nil, arith, Some, subst}
 use Rattle.std.proofs.lemmas.List.{length-map}
 use Rattle.std.proofs.lemmas.Bool.Decides.{nat_tests}
-use Rattle.std.specs.Prelude.{IfErr, IsErrAnd, IsErrOf, slice_get}
+use Rattle.std.specs.Prelude.{IfErr, IsErrAnd, IsErrOf, flat_map, slice_get}
 use Rattle.cv_pool.specs.declared.node.NodeId.{NodeId}
 use Rattle.cv_pool.specs.declared.pool.PoolError.{PoolError}
 use Rattle.cv_pool.specs.declared.pool.PoolError.TheVariants as pool
 use Rattle.cv_syntax.specs.declared.decls.Decl.{Decl}
 use Rattle.cv_syntax.specs.declared.work.BuildError.TheVariants as build
+use Rattle.cv_syntax.specs.Declarations.{Declaration}
 use Rattle.cv_syntax.specs.declared.make.Make.{Make}
 use Rattle.cv_syntax.specs.declared.make.Make.TheVariants as make
 use Rattle.cv_syntax.specs.Planting.{overs}
 use Rattle.cv_syntax.specs.Postorder.{postorder}
 use Rattle.cv_syntax.specs.Tree.{Tree, Empty, Node}
+use Rattle.cv_parse_declarations.specs.Declares.{parts_of, tree_in}
+use Rattle.cv_parse_declarations.specs.declared.file.Reading.{Reading}
+use Rattle.cv_parse_grammar.specs.Filled.{filled}
 use Rattle.cv_parse_grammar.specs.Names.{Uses}
 use Rattle.cv_parse.specs.declared.error.ParseError.{ParseError}
 use Rattle.cv_parse.specs.declared.error.ParseError.TheVariants.{Build}
-use Rattle.cv_parse.specs.Building.{Crowds}
+use Rattle.cv_parse.specs.Building.{Builds, Crowds}
 use Rattle.cv_parse.specs.Faults.{of_pool}
 use Rattle.cv_parse.specs.Games.{declared_before, declared_by, nodes_of}
+use Rattle.cv_parse.specs.Nodes.{declared_nodes, file_nodes}
+use Rattle.cv_parse.specs.Parsed.{bool_type}
 
-overs-both : (a b : List Make) → overs (a ++ b) ≡ overs a + overs b
+pub overs-both : (a b : List Make) → overs (a ++ b) ≡ overs a + overs b
 overs-both [] b = omega arith
 overs-both (make.Nothing ∷ a) b = overs-both a b
 overs-both (make.Over h ∷ a) b = let e = overs-both a b in omega arith
@@ -38,6 +44,20 @@ overs-tree (Node h a b) =
 -- the parts of a tree make so many nodes
 pub overs-of : (ms : List Make) (t : Tree) → ms ≡ postorder t → overs ms ≡ nodes_of t
 overs-of ms t e = ap overs e ∙ overs-tree t
+
+-- the parts of the trees of declarations make so many nodes
+pub overs-declared : (ds : List Declaration) → overs (flat_map parts_of ds) ≡ declared_nodes ds
+overs-declared [] = refl
+overs-declared (d ∷ ds) = overs-both (parts_of d) (flat_map parts_of ds) ∙ ap₂ (λ m n. m + n) (overs-tree (tree_in d)) (overs-declared ds)
+
+-- so many nodes are built
+pub built-nodes : (r : Reading) (makes : List Make) (b : Builds r makes) → overs makes ≡ file_nodes (bool_type ∷ b.file.decls) (filled b.file.game)
+unfolding nodes_of
+built-nodes r makes b =
+    let e = ap overs b.parts ∙ overs-both r.trees.items (postorder (filled b.file.game)) in
+    let f = ap overs b.hears.trees ∙ overs-declared b.file.decls in
+    let g = overs-tree (filled b.file.game) in
+    omega arith
 
 -- one tree is the last one
 pub one_root : {A : Type 0} (f : A → Tree) (t : Tree) (roots s : List A) (x : A) → map f roots ≡ t ∷ [] → roots ≡ s ++ x ∷ [] → f x ≡ t

@@ -6,5 +6,6 @@ pub mod Says
 pub mod Weights
 pub mod Games
 pub mod Measures
+pub mod Nodes
 pub mod Stages
 pub mod Terms

@@ -2,6 +2,7 @@ ghost use Rattle.std.specs.Prelude.{◌≡◌, ◌+◌, ◌<◌, ◌≤◌, ◌^
 ghost use Rattle.std.specs.List.{AllByRecursion};
 ghost use Rattle.cv_pool.specs.Nodes.{ChildBelow};
 ghost use Rattle.cv_parse_grammar.specs.Identities.{AreDistinct};
+ghost use Rattle.cv_syntax.specs.Planting.{overs};
 ghost use Rattle.cv_syntax.specs.Postorder.{postorder};
 ghost use Rattle.cv_syntax.specs.Tree.{Tree, size, tree_at};
 ghost use Rattle.cv_parse.specs.Building.{Builds, Crowds, IsBuilt};
@@ -29,9 +30,10 @@ fn planted(
     ensures back { (ts : List Tree) → makes.now ≡ flat_map postorder ts → IfOk result (λ ids. map (tree_at pool.new.trees) ids.items ≡ ts) }
     ensures live { IfOk result (λ ids. All (ChildBelow (length pool.new.trees)) ids.items) }
     ensures few { OnOk result (length makes.now < 4294967294) }
+    ensures nodes { length pool.new.trees ≤ length pool.old.trees + overs makes.now }
+    ensures limit { pool.new.limit ≡ pool.old.limit }
     ensures room { OnOk result (length pool.old.trees + asked_for (weight_in makes.now) ≤ pool.old.limit) }
     ensures crowds { IfErr result (λ e. Crowds pool.old.limit (length pool.old.trees) (asked_for (weight_in makes.now)) e) }
-    ensures limit { pool.new.limit ≡ pool.old.limit }
 {
     if makes.len() as u64 >= TOO_MANY {
         return Err(ParseError::Build(BuildError::OutOfMemory));
@@ -78,10 +80,11 @@ pub fn build(
     ensures built { (b : Builds reading.now makes.now) → IfOk result (λ root. IsBuilt b.file pool.new.trees decls.new.list root) }
     ensures live { IfOk result (λ root. root.0 < length pool.new.trees) }
     ensures below { OnOk result (All (IsBelow (length pool.new.trees)) decls.new.list) }
+    ensures nodes { length pool.new.trees ≤ length pool.old.trees + overs makes.now }
+    ensures limit { pool.new.limit ≡ pool.old.limit }
     ensures room { OnOk result (length pool.old.trees + asked_for (weight_in makes.now) ≤ pool.old.limit) }
     ensures crowds { IfErr result (λ e. Crowds pool.old.limit (length pool.old.trees) (asked_for (weight_in makes.now)) e) }
     ensures own { decls.new.own ≡ decls.old.own }
-    ensures limit { pool.new.limit ≡ pool.old.limit }
 {
     let made = planted(alloc, pool, makes)?;
     let heard: &[Heard] = &reading.heard;

@@ -3,7 +3,9 @@ ghost use Rattle.cv_parse_grammar.specs.Filled.{filled};
 ghost use Rattle.cv_parse_terminals.specs.Signs.{signs_of};
 ghost use Rattle.cv_syntax.specs.Postorder.{postorder};
 ghost use Rattle.cv_syntax.specs.Tree.{Tree, tree_at, size};
+ghost use Rattle.cv_syntax.specs.Declarations.{declarations};
 ghost use Rattle.cv_parse.specs.Declaring.{IsBelow};
+ghost use Rattle.cv_parse.specs.Nodes.{file_nodes};
 ghost use Rattle.cv_parse.specs.Parsed.{Parses, ParsesIn, range_of};
 
 use crate::building::build;
@@ -53,9 +55,10 @@ fn parse(
     ensures parses { ParsesIn pool.old.limit signs.now pool.new.trees decls.new.list result }
     ensures live { IfOk result (λ f. f.game.root.0 < length pool.new.trees) }
     ensures fits { IfOk result (λ f. size (tree_at pool.new.trees (Some f.game.root)) ≤ 50000) }
+    ensures nodes { IfOk result (λ f. length pool.new.trees ≤ file_nodes (declarations pool.new.trees decls.new.list) (tree_at pool.new.trees (Some f.game.root))) }
+    ensures limit { pool.new.limit ≡ pool.old.limit }
     ensures below { OnOk result (All (IsBelow (length pool.new.trees)) decls.new.list) }
     ensures own { decls.new.own ≡ decls.old.own }
-    ensures limit { pool.new.limit ≡ pool.old.limit }
 {
     let reading = read(alloc, signs)?;
     check_names(alloc, &reading.uses, signs.len())?;
@@ -79,10 +82,11 @@ fn fill_work(alloc: Global, work: &mut Work, tokens: &Tokens) -> Result<File, Pa
     ensures names { OnOk result (work.new.names ≡ (signs_of tokens.now).names) }
     ensures live { IfOk result (λ f. f.game.root.0 < length work.new.pool.trees) }
     ensures fits { IfOk result (λ f. size (tree_at work.new.pool.trees (Some f.game.root)) ≤ 50000) }
+    ensures nodes { IfOk result (λ f. length work.new.pool.trees ≤ file_nodes (declarations work.new.pool.trees work.new.decls.list) (tree_at work.new.pool.trees (Some f.game.root))) }
+    ensures limit { work.new.pool.limit ≡ work.old.pool.limit }
     ensures below { OnOk result (All (IsBelow (length work.new.pool.trees)) work.new.decls.list) }
     ensures own { OnOk result (work.new.decls.own ≡ length work.new.names) }
     ensures same_own { OnErr result (work.new.decls.own ≡ work.old.decls.own) }
-    ensures limit { work.new.pool.limit ≡ work.old.pool.limit }
 {
     let signs = signs(alloc, &mut work.names, tokens)?;
     let file = parse(alloc, &mut work.pool, &mut work.decls, &signs)?;
@@ -101,13 +105,14 @@ pub fn file(alloc: Global, work: &mut Work, tokens: &Tokens) -> Result<File, Par
     ensures names { OnOk result (work.new.names ≡ (signs_of tokens.now).names) }
     ensures live { IfOk result (λ f. f.game.root.0 < length work.new.pool.trees) }
     ensures fits { IfOk result (λ f. size (tree_at work.new.pool.trees (Some f.game.root)) ≤ 50000) }
+    ensures nodes { IfOk result (λ f. length work.new.pool.trees ≤ file_nodes (declarations work.new.pool.trees work.new.decls.list) (tree_at work.new.pool.trees (Some f.game.root))) }
+    ensures limit { work.new.pool.limit ≡ work.old.pool.limit }
     ensures below { OnOk result (All (IsBelow (length work.new.pool.trees)) work.new.decls.list) }
     ensures own { OnOk result (work.new.decls.own ≡ length work.new.names) }
     ensures no_names { OnErr result (work.new.names ≡ []) }
     ensures no_decls { OnErr result (work.new.decls.list ≡ []) }
     ensures same_own { OnErr result (work.new.decls.own ≡ work.old.decls.own) }
     ensures no_trees { OnErr result (work.new.pool.trees ≡ []) }
-    ensures limit { work.new.pool.limit ≡ work.old.pool.limit }
 {
     let before = work.pool.mark();
     match fill_work(alloc, work, tokens) {

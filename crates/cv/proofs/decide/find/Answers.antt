@@ -1,25 +1,45 @@
-use Rattle.std.proofs.Common.{◌++◌, ◌∷◌, [], ◌+◌, ◌<◌, ap, sym, ◌∙◌, subst, arith, length, Some}
+use Rattle.std.proofs.Common.{◌≡◌, ℕ, ◌++◌, ◌∷◌, [], ◌+◌, ◌<◌, ap, sym, ◌∙◌, refl, subst, arith, length, Option, Some, None, Err}
+use Rattle.std.proofs.lemmas.List.{length-map}
 use Rattle.std.specs.Prelude.{IfSome, option_map}
+use Rattle.cv_pool.specs.declared.pool.PoolError.{PoolError}
+use Rattle.cv_pool.specs.declared.pool.PoolError.TheVariants as pool
 use Rattle.cv_syntax.specs.Tree.{tree_at}
 use Rattle.cv_script.specs.declared.steps.Step.{Step}
 use Rattle.cv_report.specs.declared.report.Verdict.TheVariants.{Proved}
-use Rattle.cv.proofs.Growing.{steps-below, steps-more}
-use Rattle.cv.proofs.Sayings.{closed_says, left_says}
+use Rattle.cv.specs.Faults.{need_of}
+use Rattle.cv.specs.Findings.{said}
+use Rattle.cv.specs.Strategy.{said_by}
+use Rattle.cv.proofs.Growing.{nodes-more, steps-below, steps-more}
+use Rattle.cv.proofs.Sayings.{closed_says, no_room}
 use Rattle.cv.proofs.decide.find.Goals as goal
 
-pub returns-in_default-clause-said : goal.returns-in_default-clause-said
-returns-in_default-clause-said c =
-    left_says c.args.pool.now c.success.new.pool c.args.found.now c.push.new.self.items _ _ c.in_ok-step.ensures.grows c.requires.live
-    (sym (ap (option_map (λ (s : Step). tree_at c.success.new.pool.trees (Some s.0))) c.in_default.is) ∙ c.in_ok-step.ensures.step) c.in_ok-push.ensures.items
+-- a pool that has no room
+full_by : (e : PoolError) (n : ℕ) → need_of e ≡ Some n → e ≡ pool.Full n
+full_by (pool.Full m) n h = let same : m ≡ n = cc in ap (λ k. pool.Full k) same
+full_by pool.OutOfMemory n h = absurd (cc)
 
-pub returns-clause-said : goal.returns-clause-said
-returns-clause-said c =
-    closed_says c.args.pool.now c.success.new.pool c.args.found.now c.push-2.new.self.items c.push-3.new.self.items c.in-Some.step _ _ c.in_ok-step.ensures.grows c.requires.live
-    (sym (ap (option_map (λ (s : Step). tree_at c.success.new.pool.trees (Some s.0))) c.in-Some.is) ∙ c.in_ok-step.ensures.step) (omega arith) (omega arith) c.in_ok-push-2.ensures.items
-    (c.in_ok-push-3.ensures.items ∙ ap (λ s. c.args.found.now.verdicts.items ++ Proved s ∷ []) c.new.ensures)
+pub returns-in_ok-push-in-Ok-Some-2-clause-said : goal.returns-in_ok-push-in-Ok-Some-2-clause-said
+returns-in_ok-push-in-Ok-Some-2-clause-said c =
+    let done = rw c.in-Ok-Some.field-0-is at c.in-Ok-Some.ensures in
+    closed_says c.args.pool.now c.success.new.pool c.args.found.now c.push.new.self.items c.push-in-Ok-Some.new.self.items c.in-Ok-Some.step _ _ done.grows c.requires.live
+    done.step (omega arith) (omega arith) c.in_ok-push-in-Ok-Some.ensures.items
+    (c.in_ok-push-in-Ok-Some-2.ensures.items ∙ ap (λ s. c.args.found.now.verdicts.items ++ Proved s ∷ []) c.new.ensures)
 
-pub returns-clause-live : goal.returns-clause-live
-returns-clause-live c =
-    steps-more (length c.success.new.pool.trees) c.args.found.now.steps.items c.push-2.new.self.items c.in-Some.step c.in_ok-push-2.ensures.items
-    (steps-below c.args.pool.now c.success.new.pool c.args.found.now.steps.items c.in_ok-step.ensures.grows c.requires.live)
-    (subst (λ o. IfSome o (λ (s : Step). s.0.0 < length c.success.new.pool.trees)) c.in-Some.is c.in_ok-step.ensures.live)
+pub returns-in_ok-push-in-Ok-Some-2-clause-live : goal.returns-in_ok-push-in-Ok-Some-2-clause-live
+returns-in_ok-push-in-Ok-Some-2-clause-live c =
+    let done = rw c.in-Ok-Some.field-0-is at c.in-Ok-Some.ensures in
+    steps-more (length c.success.new.pool.trees) c.args.found.now.steps.items c.push.new.self.items c.in-Ok-Some.step c.in_ok-push-in-Ok-Some.ensures.items
+    (steps-below c.args.pool.now c.success.new.pool c.args.found.now.steps.items done.grows c.requires.live) done.live
+
+pub returns-in_ok-push-in-Ok-Some-2-clause-nodes : goal.returns-in_ok-push-in-Ok-Some-2-clause-nodes
+returns-in_ok-push-in-Ok-Some-2-clause-nodes c =
+    let done = rw c.in-Ok-Some.field-0-is at c.in-Ok-Some.ensures in
+    nodes-more c.args.pool.now c.success.new.pool c.args.found.now.steps.items c.push.new.self.items c.in-Ok-Some.step _ done.grows c.requires.live
+    c.in_ok-push-in-Ok-Some.ensures.items done.step done.few
+
+pub returns-in-Some-clause-said : goal.returns-in-Some-clause-said
+returns-in-Some-clause-said c =
+    let full = full_by c.in-Err.fault c.in-Some.need (sym c.need_of.ensures ∙ c.in-Some.is) in
+    let counted = length-map c.args.found.now.steps.items (said_by c.args.pool.now.trees) in
+    no_room c.args.pool.now.limit (length c.args.pool.now.trees) _ _ _ _ _ c.in-Some.need (ap (λ ts. said ts c.args.found.now) (sym c.in-Err.ensures.kept)) (omega arith) (omega arith)
+    (c.in-Err.ensures.full c.in-Some.need (ap (λ x. Err x) full))

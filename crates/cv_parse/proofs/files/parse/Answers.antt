@@ -1,4 +1,4 @@
-use Rattle.std.proofs.Common.{◌++◌, ◌≤◌, ap, sym, ◌∙◌, length, subst}
+use Rattle.std.proofs.Common.{◌++◌, ◌≤◌, ap, ap₂, arith, sym, ◌∙◌, length, subst}
 use Rattle.cv_syntax.specs.Postorder.{postorder}
 use Rattle.cv_syntax.specs.Tree.{size}
 use Rattle.cv_parse_grammar.specs.Filled.{filled}
@@ -6,6 +6,8 @@ use Rattle.cv_parse_grammar.specs.Names.{name_fault}
 use Rattle.cv_parse_terms.specs.Gives.{uses_of}
 use Rattle.cv_parse.specs.Measures.{IsExtent}
 use Rattle.cv_parse.specs.Parsed.{range_of}
+use Rattle.cv_parse.specs.Nodes.{file_nodes}
+use Rattle.cv_parse.proofs.Plants.{built-nodes}
 use Rattle.cv_parse.proofs.Parsings.{builds, few_nodes, names_refuse_at, parses, passed_on, read_refuses, room_refuses, size_refuses}
 use Rattle.cv_parse.proofs.files.parse.Goals as goal
 
@@ -79,3 +81,18 @@ returns-clause-fits c =
     let m = c.deref-5.ensures.value ∙ (c.in_ok-makes.ensures d.value.game (c.deref-4.ensures.value ∙ d.hears.process) ∙ ap (λ l. l ++ postorder (filled d.value.game)) c.deref-3.ensures.value) in
     let b = c.in_ok-root.ensures.built (builds limit signs r d n _ m) in
     subst (λ t. size t ≤ 50000) (sym b.game) (few_nodes (filled d.value.game) s)
+
+pub returns-clause-nodes : goal.returns-clause-nodes
+returns-clause-nodes c =
+    let limit = c.args.pool.now.limit in
+    let signs = c.args.signs.now in
+    let r = c.in_ok-reading.reading in
+    let d = c.in_ok-reading.ensures in
+    let n = sym (ap (λ us. name_fault (uses_of us)) c.deref.ensures.value) ∙ c.in_ok-check_names.ensures.named in
+    let m = c.deref-5.ensures.value ∙ (c.in_ok-makes.ensures d.value.game (c.deref-4.ensures.value ∙ d.hears.process) ∙ ap (λ l. l ++ postorder (filled d.value.game)) c.deref-3.ensures.value) in
+    let made = builds limit signs r d n _ m in
+    let b = c.in_ok-root.ensures.built made in
+    let few = built-nodes r _ made ∙ sym (ap₂ file_nodes b.declared b.game) in
+    let none = ap length c.requires.trees in
+    let made = c.build.ensures.nodes in
+    omega arith
