@@ -1,0 +1,8 @@
+use Rattle.std.proofs.Common.{◌≡◌, ◌++◌}
+use Rattle.std.specs.Prelude.{replicate}
+use Rattle.cv_syntax.specs.declared.head.Head.TheVariants.{Cons}
+use Rattle.cv_syntax.specs.declared.make.Make.TheVariants.{Over}
+use Rattle.cv_parse_tables.proofs.trees.close_all.Given as goal
+
+abbrev pub invariant-cells : goal.invariant-cells
+invariant-cells l = l.makes.items ≡ l.fn.makes.items ++ replicate l.counter (Over Cons)

@@ -1,0 +1,3 @@
+pub mod Trees
+pub mod Table
+pub mod Worked
