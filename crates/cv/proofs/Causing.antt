@@ -9,7 +9,6 @@ use Rattle.cv_parse_terminals.specs.Signs.{signs_of}
 use Rattle.cv_parse_notation.specs.declared.sign.Sign.{Sign}
 use Rattle.cv_parse_grammar.specs.Names as names
 use Rattle.cv_parse_depth.specs.Files.{IsDeadAtEveryDepth, IsNestedTooDeep}
-use Rattle.cv_syntax.specs.declared.work.BuildError.{BuildError}
 use Rattle.cv_syntax.specs.declared.work.BuildError.TheVariants as build
 use Rattle.cv_syntax.specs.Tree.{Tree}
 use Rattle.cv_parse.specs.declared.error.ParseError.{ParseError}

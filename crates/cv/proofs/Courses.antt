@@ -1,5 +1,5 @@
 -- How far the strategy goes.
-use Rattle.std.proofs.Common.{◌≡◌, ℕ, ◌+◌, ◌<◌, ◌≤◌, nat_lt, Bool, true, false, cond, List, [], ◌∷◌, ◌++◌, length, map, refl, ap, ap₂, sym, ◌∙◌, subst, arith, append-nil, Option, Some, None}
+use Rattle.std.proofs.Common.{◌≡◌, ℕ, ◌+◌, ◌<◌, ◌≤◌, nat_lt, Bool, true, false, cond, List, [], ◌∷◌, ◌++◌, length, map, ap, sym, ◌∙◌, subst, arith, append-nil, Option, Some, None}
 use Rattle.std.proofs.lemmas.List.{length-map}
 use Rattle.std.proofs.lemmas.Bool.{lt-ltb}
 use Rattle.cv_lists.proofs.Options.{option_map-Some}
@@ -16,7 +16,7 @@ use Rattle.cv_report.specs.declared.report.Status.{Status}
 use Rattle.cv_report.specs.declared.report.Verdict.TheVariants.{Proved, NotProved}
 use Rattle.cv.specs.declared.decide.Findings.{Findings}
 use Rattle.cv.specs.Findings.{IsFound, ended}
-use Rattle.cv.specs.Strategy.{Course, EndsAt, FollowsStrategy, IsCrowded, Said, closing, declared_in, game_in, most_pool, most_steps, nodes_in, nothing_said, open_verdict, said_by, said_of, said_then, status_of, steps_nodes}
+use Rattle.cv.specs.Strategy.{Course, EndsAt, FollowsStrategy, IsCrowded, Said, closing, declared_in, game_in, most_pool, most_steps, nodes_in, nothing_said, said_by, said_of, said_then, status_of, steps_nodes}
 use Rattle.cv.proofs.Growing.{steps-nodes-append}
 use Rattle.cv.proofs.Sayings.{said-append}
 use Rattle.cv.proofs.Telling.{course_told}

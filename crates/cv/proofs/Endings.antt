@@ -1,5 +1,5 @@
 -- How runs end.
-use Rattle.std.proofs.Common.{◌≡◌, ℕ, ◌<◌, ◌≤◌, arith, refl, Bool, true, false, List, [], ◌∷◌, length, Option, Some, None, Result, Ok, Err, ap, sym, ◌∙◌, subst, ◌⊎◌, inl, inr}
+use Rattle.std.proofs.Common.{◌≡◌, ℕ, ◌<◌, ◌≤◌, arith, refl, Bool, true, false, List, [], ◌∷◌, length, Option, Some, None, Result, Ok, Err, sym, ◌∙◌, subst, ◌⊎◌, inl, inr}
 use Rattle.std.specs.Prelude.{IfSome, IsNone, IsSome, MatchOption, slice_get, ◌≢◌}
 use Rattle.cv_outside.specs.Causes.{NoFault, Rose}
 use Rattle.cv_outside.specs.Told.{Files, bytes_of}
@@ -19,7 +19,6 @@ use Rattle.cv_query_form.specs.Queries.{queries_in}
 use Rattle.cv_accept.proofs.Readings.{file_is_read}
 use Rattle.cv_report.specs.declared.report.Status.{Status}
 use Rattle.cv_report.specs.declared.report.Status.TheVariants as status
-use Rattle.cv_report.specs.declared.report.Which.TheVariants.{File, Nodes, Depth, Steps, Pool}
 use Rattle.cv_report.specs.declared.report.Report.{Report}
 use Rattle.cv_report.specs.declared.report.Verdict.TheVariants.{Proved}
 use Rattle.cv.specs.Answers.{Answers, IsComplete}

@@ -176,9 +176,10 @@ crowded_lacks taken game answered left q need qs vs h s v =
 pub whole_told : (game : Tree) (qs answered : List Tree) (end : Status) (vs : List Verdict) → qs ≡ answered ++ [] → end ≡ status_of (said_of game nothing_said answered) → vs ≡ (said_of game nothing_said answered).verdicts ++ [] → (end ≡ status_for Steps game qs vs) × ((said_of game nothing_said qs).full ≡ list_any (lacks_step game) (zip qs vs))
 whole_told game qs answered end vs s h v =
     let queries : qs ≡ answered = s ∙ append-nil answered in
-    let verdicts : vs ≡ (said_of game nothing_said answered).verdicts = v ∙ append-nil (said_of game nothing_said answered).verdicts in
-    (h ∙ (status_told game answered ∙ ap₂ (status_for Steps game) (sym queries) (sym verdicts)),
-     ap (λ us. (said_of game nothing_said us).full) queries ∙ (full_told game answered ∙ ap₂ (λ us ws. list_any (lacks_step game) (zip us ws)) (sym queries) (sym verdicts)))
+    let verdicts : vs ≡ (said_of game nothing_said answered).verdicts = v ∙ append-nil (said_of game nothing_said answered).verdicts in (
+      h ∙ (status_told game answered ∙ ap₂ (status_for Steps game) (sym queries) (sym verdicts)),
+      ap (λ us. (said_of game nothing_said us).full) queries ∙ (full_told game answered ∙ ap₂ (λ us ws. list_any (lacks_step game) (zip us ws)) (sym queries) (sym verdicts)),
+    )
 
 by_steps : (w : Which) (p l : Bool) → (l ≡ true → w ≡ Steps) → (if p then status.Proved else (if l then status.Limit Steps else status.Open Stuck)) ≡ (if p then status.Proved else (if l then status.Limit w else status.Open Stuck))
 by_steps w true l h = refl
@@ -207,6 +208,9 @@ course_told taken game qs end c n vs e f = go c.left c.split c.ends f
         ap (λ b. if b then Pool 0 else Steps) (le-ltb n most_steps (omega arith))
         in
         (0, whole.0 ∙ by_steps (passed_by n 0) (list_all is_proved vs) (list_any (lacks_step game) (zip qs vs)) many)
-    go (q ∷ left) s h f = (h.0, h.1 ∙ by_room h.0 (list_all is_proved vs) (list_any (lacks_step game) (zip qs vs)) (nat_lt n most_steps)
-        (ap (list_all is_proved) f ∙ not_all (said_of game nothing_said c.answered).verdicts (map open_verdict left))
-        (crowded_lacks taken game c.answered left q h.0 qs vs h.2 s f) (let l = h.2.few in lt-ltb n most_steps (omega arith)))
+    go (q ∷ left) s h f = (
+      h.0,
+      h.1 ∙ by_room h.0 (list_all is_proved vs) (list_any (lacks_step game) (zip qs vs)) (nat_lt n most_steps)
+          (ap (list_all is_proved) f ∙ not_all (said_of game nothing_said c.answered).verdicts (map open_verdict left))
+          (crowded_lacks taken game c.answered left q h.0 qs vs h.2 s f) (let l = h.2.few in lt-ltb n most_steps (omega arith)),
+    )

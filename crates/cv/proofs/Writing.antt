@@ -1,6 +1,6 @@
 -- How a run ends whose report isn't written to its end.
-use Rattle.std.proofs.Common.{◌≡◌, ℕ, List, Option, Some, None, ◌++◌, refl, sym, ◌∙◌, subst, append-nil, ◌⊎◌, inl, inr}
-use Rattle.std.specs.Prelude.{◌≢◌, IsNone, take}
+use Rattle.std.proofs.Common.{◌≡◌, ℕ, List, Option, Some, None, refl, sym, ◌∙◌, subst, append-nil, ◌⊎◌, inl, inr}
+use Rattle.std.specs.Prelude.{◌≢◌}
 use Rattle.cv_report.specs.Writing.{TakesFront}
 use Rattle.cv_report.specs.declared.report.Report.{Report}
 use Rattle.cv_report.specs.declared.report.Status.{Status}

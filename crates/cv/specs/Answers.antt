@@ -1,5 +1,5 @@
 -- What a report says of the told bytes of a file.
-use Rattle.std.specs.Prelude.{◌≡◌, ℕ, ◌<◌, ◌≤◌, ◌⊎◌, List, [], length, Option, None, IfSome, IsSome, MatchOption}
+use Rattle.std.specs.Prelude.{◌≡◌, ℕ, ◌<◌, ◌≤◌, ◌⊎◌, List, length, Option, None, IfSome, IsSome, MatchOption}
 use Rattle.cv_accept.specs.Accepted.{IsFile}
 use Rattle.cv_accept.specs.Works.{content_at}
 use Rattle.cv_report.specs.declared.report.Command.{Command}

@@ -1,9 +1,8 @@
-use Rattle.std.proofs.Common.{◌≡◌, ℕ, List, Option, Some, None, ap, sym, ◌∙◌, subst, inl, inr, refl}
-use Rattle.std.specs.Prelude.{IfSome, IsNone, map, string_bytes}
-use Rattle.cv_report.specs.declared.report.Status.TheVariants as status
+use Rattle.std.proofs.Common.{ℕ, List, Option, ap, sym, ◌∙◌, subst, inl, refl}
+use Rattle.std.specs.Prelude.{IfSome, IsNone}
 use Rattle.cv.specs.Answers.{Answers, IsComplete}
 use Rattle.cv.specs.Causes.{ComesFrom, outside_of}
-use Rattle.cv.specs.Words.{AsksOnly, SaysOfWords, bytes_named, command_of, file_named}
+use Rattle.cv.specs.Words.{AsksOnly, bytes_named, command_of}
 use Rattle.cv.proofs.Endings.{words_answers, words_cause, words_complete}
 use Rattle.cv.proofs.top.decide.Goals as goal
 
