@@ -26,8 +26,11 @@ fn fill(alloc: Global, work: &mut Work, bytes: &[u8]) -> Result<File, FileError>
     requires few { length bytes.now ≤ 1048576 }
     ensures reads { Reads work.old.pool.limit bytes.now work.new result }
     ensures live { IfOk result (λ f. f.game.root.0 < length work.new.pool.trees) }
-    ensures fits { IfOk result (λ f. size (tree_at work.new.pool.trees (Some f.game.root)) ≤ 50000) }
-    ensures nodes { IfOk result (λ f. length work.new.pool.trees ≤ file_nodes (declarations work.new.pool.trees work.new.decls.list) (tree_at work.new.pool.trees (Some f.game.root))) }
+    ensures fits { IfOk result (λ f. size (tree_at work.new.pool.trees (Some f.game.root))
+        ≤ 50000) }
+    ensures nodes { IfOk result (λ f. length work.new.pool.trees
+        ≤ file_nodes (declarations work.new.pool.trees work.new.decls.list)
+        (tree_at work.new.pool.trees (Some f.game.root))) }
     ensures limit { work.new.pool.limit ≡ work.old.pool.limit }
     ensures below { OnOk result (All (IsBelow (length work.new.pool.trees)) work.new.decls.list) }
     ensures script { IfOk result (λ f. f.script ≡ None) }
@@ -59,8 +62,11 @@ pub fn read(alloc: Global, work: &mut Work, bytes: &[u8]) -> Result<File, FileEr
     requires few { length bytes.now ≤ 1048576 }
     ensures reads { Reads work.old.pool.limit bytes.now work.new result }
     ensures live { IfOk result (λ f. f.game.root.0 < length work.new.pool.trees) }
-    ensures fits { IfOk result (λ f. size (tree_at work.new.pool.trees (Some f.game.root)) ≤ 50000) }
-    ensures nodes { IfOk result (λ f. length work.new.pool.trees ≤ file_nodes (declarations work.new.pool.trees work.new.decls.list) (tree_at work.new.pool.trees (Some f.game.root))) }
+    ensures fits { IfOk result (λ f. size (tree_at work.new.pool.trees (Some f.game.root))
+        ≤ 50000) }
+    ensures nodes { IfOk result (λ f. length work.new.pool.trees
+        ≤ file_nodes (declarations work.new.pool.trees work.new.decls.list)
+        (tree_at work.new.pool.trees (Some f.game.root))) }
     ensures limit { work.new.pool.limit ≡ work.old.pool.limit }
     ensures below { OnOk result (All (IsBelow (length work.new.pool.trees)) work.new.decls.list) }
     ensures script { IfOk result (λ f. f.script ≡ None) }

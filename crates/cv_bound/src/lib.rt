@@ -96,7 +96,8 @@ pub fn worked_sums()
     ensures secrecy { sum_text names (added (added [] (Cost.Advantage 1 (name 0)) true)
         (Cost.Collisions (birthday ∷ guesses 3 ∷ guesses 2 ∷ [])) true)
         ≡ codes "Adv(uf, C1, real) + Adv(uf, C1, random) + 2*NB^2/(2|message|) + 10*1/|message|" }
-    ensures added { cost_text names (Cost.Collisions (guesses 1 ∷ guesses 1 ∷ [])) ≡ codes "2*1/|message|" }
+    ensures added { cost_text names (Cost.Collisions (guesses 1 ∷ guesses 1 ∷ []))
+        ≡ codes "2*1/|message|" }
     ensures listed { listed_text names (Cost.Collisions (guesses 1 ∷ guesses 1 ∷ []))
         ≡ codes "1/|message| + 1/|message|" }
     ensures value { (a : Advantages) →

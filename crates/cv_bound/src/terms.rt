@@ -200,7 +200,8 @@ fn advantage_terms(
     equiv: NameId,
     secrecy: bool,
 ) -> Result<Vec<Term>, AllocError>
-    ensures { IfOk result (λ terms. terms.items ≡ sums.terms_of (Cost.Advantage step equiv) secrecy) }
+    ensures { IfOk result (λ terms. terms.items
+        ≡ sums.terms_of (Cost.Advantage step equiv) secrecy) }
 {
     let in_experiment = |experiment| Term::Advantage {
         step,

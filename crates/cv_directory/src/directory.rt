@@ -35,7 +35,8 @@ impl Directory {
     ) -> Result<Directory, AllocError>
         requires live { root.0 < length pool.now.trees }
         requires fits { size (tree_at pool.now.trees (Some root)) < 2 ^ 32 }
-        ensures entries { IfOk result (λ d. entries_in pool.now.trees d ≡ entries_of (large_in decls.now.list) (tree_at pool.now.trees (Some root))) }
+        ensures entries { IfOk result (λ d. entries_in pool.now.trees d
+            ≡ entries_of (large_in decls.now.list) (tree_at pool.now.trees (Some root))) }
         ensures sites { IfOk result (λ d. seen d ≡ sites_of (tree_at pool.now.trees (Some root))) }
     {
         let mut directory = Directory {
@@ -59,7 +60,8 @@ impl Directory {
 
     /// How many indices a variable has.
     pub fn arity(&self, x: u32) -> Option<usize>
-        ensures { result ≡ option_map (λ (v : Variable). length v.parameters) ((seen self.now).variable x) }
+        ensures { result ≡ option_map (λ (v : Variable). length v.parameters)
+            ((seen self.now).variable x) }
     {
         let site = self.variables.get(&x)?;
         Some(site.replications.len())
@@ -67,7 +69,8 @@ impl Directory {
 
     /// The parameter of an index of a variable, counted from 0.
     pub fn parameter(&self, x: u32, k: usize) -> Option<u32>
-        ensures parameter { result ≡ option_and_then (λ (v : Variable). slice_get v.parameters k) ((seen self.now).variable x) }
+        ensures parameter { result ≡ option_and_then
+            (λ (v : Variable). slice_get v.parameters k) ((seen self.now).variable x) }
         ensures bound { OnSome result (k + 1 < 2 ^ 64) }
     {
         let site = self.variables.get(&x)?;
@@ -79,7 +82,9 @@ impl Directory {
 
     /// The index and the parameter of a replication above the first definition of a variable, counted from 0.
     pub fn replication(&self, x: u32, k: usize) -> Option<(u32, u32)>
-        ensures { (trees : List KindTree) → result ≡ option_and_then (λ (d : Definition). slice_get d.replications k) ((entries_in trees self.now).first x) }
+        ensures { (trees : List KindTree)
+            → result ≡ option_and_then (λ (d : Definition). slice_get d.replications k)
+            ((entries_in trees self.now).first x) }
     {
         let site = self.variables.get(&x)?;
         site.replications.get(k).copied()
@@ -87,7 +92,9 @@ impl Directory {
 
     /// The place of the first definition of a variable.
     pub fn place(&self, x: u32) -> Option<u32>
-        ensures { (trees : List KindTree) → result ≡ option_map (λ (d : Definition). d.place) ((entries_in trees self.now).first x) }
+        ensures { (trees : List KindTree)
+            → result ≡ option_map (λ (d : Definition). d.place)
+            ((entries_in trees self.now).first x) }
     {
         let site = self.variables.get(&x)?;
         Some(site.place)
@@ -95,7 +102,9 @@ impl Directory {
 
     /// The node of the first definition of a variable.
     pub fn node(&self, x: u32) -> Option<NodeId>
-        ensures { (trees : List KindTree) → option_map (λ k. tree_at trees (Some k)) result ≡ option_map (λ (d : Definition). d.tree) ((entries_in trees self.now).first x) }
+        ensures { (trees : List KindTree)
+            → option_map (λ k. tree_at trees (Some k)) result ≡ option_map
+            (λ (d : Definition). d.tree) ((entries_in trees self.now).first x) }
     {
         let site = self.variables.get(&x)?;
         Some(site.node)
@@ -181,7 +190,9 @@ impl Directory {
         opened: Opened,
     ) -> Result<(), AllocError>
         requires first { ChildBelow (length pool.now.trees) opened.first }
-        requires tree { tree_at pool.now.trees (Some node) ≡ Node opened.head (tree_at pool.now.trees opened.first) (tree_at pool.now.trees opened.second) }
+        requires tree { tree_at pool.now.trees (Some node)
+            ≡ Node opened.head (tree_at pool.now.trees opened.first)
+            (tree_at pool.now.trees opened.second) }
         ensures { OnOk result (entries_in pool.now.trees self.new ≡ with_entries (large_in decls.now.list) (entries_in pool.now.trees self.old)
             (λ y. definitions_at path.now place (tree_at pool.now.trees (Some node)) y opened.head (tree_at pool.now.trees opened.first)) (λ i. index_here i opened.head)) }
     {

@@ -26,7 +26,8 @@ pub fn note_other(
     x: u32,
     place: u32,
 ) -> Result<(), AllocError>
-    ensures { OnOk result (numbers others.new ≡ if is_other then noted (numbers others.old) x place else numbers others.old) }
+    ensures { OnOk result (numbers others.new
+        ≡ if is_other then noted (numbers others.old) x place else numbers others.old) }
 {
     if is_other {
         return note_number(others, x, place);

@@ -58,7 +58,9 @@ pub(crate) fn parts(pool: &Pool, n: NodeId) -> Option<Cell>
 #[tactic(auto, using(crate::proofs::Comparing::comparing))]
 pub(crate) fn pass(pool: &Pool, ahead: Ahead, i: u32) -> Ahead
     requires { AheadBelow (length pool.now.trees) ahead }
-    ensures left { (rs : List (ℕ × ℕ)) (n : ℕ) (indices : Tree) → IsAhead pool.now.trees rs indices ahead → IsAhead pool.now.trees (rs ++ (i, n) ∷ []) indices result }
+    ensures left { (rs : List (ℕ × ℕ)) (n : ℕ) (indices : Tree)
+        → IsAhead pool.now.trees rs indices ahead
+        → IsAhead pool.now.trees (rs ++ (i, n) ∷ []) indices result }
     ensures live { AheadBelow (length pool.now.trees) result }
 {
     let Ahead::Rest(rest) = ahead else {
@@ -81,7 +83,8 @@ pub(crate) fn pass(pool: &Pool, ahead: Ahead, i: u32) -> Ahead
 #[tactic(auto, using(crate::proofs::Comparing::comparing))]
 pub(crate) fn name_here(pool: &Pool, cell: Option<Cell>, ahead: Ahead) -> Option<u32>
     requires { AheadBelow (length pool.now.trees) ahead }
-    ensures { (rs : List (ℕ × ℕ)) (t : Tree) → ArePartsOf pool.now.trees t cell → IsAhead pool.now.trees rs (indices_of pool.now.trees cell) ahead → IsNamed t rs result }
+    ensures { (rs : List (ℕ × ℕ)) (t : Tree) → ArePartsOf pool.now.trees t cell
+        → IsAhead pool.now.trees rs (indices_of pool.now.trees cell) ahead → IsNamed t rs result }
 {
     let Some(parts) = cell else {
         return None;
@@ -100,7 +103,8 @@ pub(crate) fn name_here(pool: &Pool, cell: Option<Cell>, ahead: Ahead) -> Option
 pub(crate) fn is_item(pool: &Pool, n: NodeId, list: Option<NodeId>) -> bool
     requires node { n.0 < length pool.now.trees }
     requires list { ChildBelow (length pool.now.trees) list }
-    ensures { IsTrue result ↔ IsAmong (tree_at pool.now.trees (Some n)) (items (tree_at pool.now.trees list)) }
+    ensures { IsTrue result ↔ IsAmong (tree_at pool.now.trees (Some n))
+        (items (tree_at pool.now.trees list)) }
 {
     let mut at = list;
     'items: while let Some(k) = at {

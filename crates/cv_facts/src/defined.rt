@@ -73,7 +73,8 @@ fn own_behind(position: Position, node: Opened, own: Option<NodeId>) -> Option<N
 #[tactic(auto, using(crate::proofs::Looking::looking))]
 fn ahead_behind(pool: &Pool, head: Head, ahead: Ahead) -> Ahead
     requires { AheadBelow (length pool.now.trees) ahead }
-    ensures left { (rs : List (ℕ × ℕ)) (indices : Tree) → IsAhead pool.now.trees rs indices ahead → IsAhead pool.now.trees (replications_below head rs) indices result }
+    ensures left { (rs : List (ℕ × ℕ)) (indices : Tree) → IsAhead pool.now.trees rs indices ahead
+        → IsAhead pool.now.trees (replications_below head rs) indices result }
     ensures live { AheadBelow (length pool.now.trees) result }
 {
     match head {
@@ -89,7 +90,10 @@ fn defines(pool: &Pool, sought: Sought, search: Search, node: Opened) -> bool
     requires first { ChildBelow (length pool.now.trees) node.first }
     requires own { ChildBelow (length pool.now.trees) search.own }
     requires ahead { AheadBelow (length pool.now.trees) search.ahead }
-    ensures { (Γ : Context) → ArePartsOf pool.now.trees (tree_at pool.now.trees (Some sought.term)) sought.parts → Holds pool.now.trees (indices_of pool.now.trees sought.parts) Γ search → IsTrue result ↔ IsAmong (tree_at pool.now.trees (Some sought.term)) (defined_second search.position node.head (tree_at pool.now.trees node.first) Γ) }
+    ensures { (Γ : Context) → ArePartsOf pool.now.trees (tree_at pool.now.trees (Some sought.term))
+        sought.parts → Holds pool.now.trees (indices_of pool.now.trees sought.parts) Γ search
+        → IsTrue result ↔ IsAmong (tree_at pool.now.trees (Some sought.term))
+        (defined_second search.position node.head (tree_at pool.now.trees node.first) Γ) }
 {
     let name = name_here(pool, sought.parts, search.ahead);
     match node.head {
@@ -116,9 +120,11 @@ fn down(pool: &Pool, sought: Sought, search: Search, n: NodeId) -> Option<(Searc
     requires term { sought.term.0 < length pool.now.trees }
     requires own { ChildBelow (length pool.now.trees) search.own }
     requires ahead { AheadBelow (length pool.now.trees) search.ahead }
-    ensures looks { Looks pool.now.trees (tree_at pool.now.trees (Some sought.term)) sought.parts search result }
+    ensures looks { Looks pool.now.trees (tree_at pool.now.trees (Some sought.term)) sought.parts
+        search result }
     ensures below { IfSome result (λ next. ChildBelow n.0 next.0.at) }
-    ensures fits { IfSome result (λ next. size (tree_at pool.now.trees next.0.at) ≤ size (tree_at pool.now.trees (Some n))) }
+    ensures fits { IfSome result (λ next. size (tree_at pool.now.trees next.0.at)
+        ≤ size (tree_at pool.now.trees (Some n))) }
     ensures own { IfSome result (λ next. ChildBelow (length pool.now.trees) next.0.own) }
     ensures ahead { IfSome result (λ next. AheadBelow (length pool.now.trees) next.0.ahead) }
 {

@@ -19,8 +19,10 @@ ghost use Rattle.cv_facts.specs.Standing.{stands_at};
 /// below the size. In a well-formed game or context no condition is missing, so that the facts are all that
 /// array scope knows at the place.
 pub fn facts_stand_in_the_game()
-    ensures terms { (game : Tree) (place : ℕ) → AreFactsOf (stands_at game place) (facts_at game place) }
-    ensures places { (game : Tree) (place : ℕ) → (stands_at game place ≡ None) ↔ (size game ≤ place) }
+    ensures terms { (game : Tree) (place : ℕ)
+        → AreFactsOf (stands_at game place) (facts_at game place) }
+    ensures places { (game : Tree) (place : ℕ)
+        → (stands_at game place ≡ None) ↔ (size game ≤ place) }
     ensures all { (ds : List Declaration) (game : Tree) (place : ℕ) → IsWellFormedContext ds game →
         terms_of (stands_at game place) ≡ terms_of (known_at game place) }
 {}

@@ -70,7 +70,8 @@ fn count(pool: &Pool, x: u32, tree: Option<NodeId>, place: u32, seen: &mut Seen)
     requires live { ChildBelow (length pool.now.trees) tree }
     requires fits { place + size (tree_at pool.now.trees tree) < 2 ^ 32 }
     ensures place { result ≡ place + size (tree_at pool.now.trees tree) }
-    ensures seen { seen.new ≡ counted_on seen.old (places_of x place (tree_at pool.now.trees tree)) }
+    ensures seen { seen.new ≡ counted_on seen.old
+        (places_of x place (tree_at pool.now.trees tree)) }
 {
     let mut at = tree;
     let mut here = place;

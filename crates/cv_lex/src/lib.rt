@@ -71,5 +71,6 @@ pub fn tokens(alloc: Global, bytes: &[u8]) -> Result<Tokens, LexError>
 /// The tokens that are computed are those of the lexis, and no others are.
 pub fn lexis_is_computed()
     ensures is { (bs : List ℕ) → Lexed 0 bs (tokens_of bs) }
-    ensures only { (bs : List ℕ) (r : Result (List Token) LexError) → Lexed 0 bs r → tokens_of bs ≡ r }
+    ensures only { (bs : List ℕ) (r : Result (List Token) LexError) → Lexed 0 bs r
+        → tokens_of bs ≡ r }
 {}

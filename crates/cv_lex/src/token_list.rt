@@ -54,7 +54,8 @@ impl Tokens {
     pub fn push(&mut self, kind: TokenKind, text: &str, offset: u32) -> Result<(), AllocError>
         requires token { IsToken kind text.now }
         requires room { length self.old < 4294967295 }
-        ensures ok { OnOk result (self.new ≡ with_token self.old (record { kind = kind; text = text.now; offset = offset })) }
+        ensures ok { OnOk result (self.new
+            ≡ with_token self.old (record { kind = kind; text = text.now; offset = offset })) }
         ensures err { OnErr result (self.new ≡ self.old) }
     {
         let start = self.buffer.len();

@@ -90,7 +90,8 @@ impl Names {
         requires { length self.old + 1 < 2 ^ 32 }
         ensures id { IfOk result (λ id. id.0 ≡ length self.old) }
         ensures ok { OnOk result (self.new ≡ self.old ++ text.now ∷ []) }
-        ensures twice { (id : NameId) → IsErrOf result (NameError.Twice id) ↔ slice_get self.old id.0 ≡ Some text.now }
+        ensures twice { (id : NameId) → IsErrOf result (NameError.Twice id)
+            ↔ slice_get self.old id.0 ≡ Some text.now }
         ensures err { OnErr result (self.new ≡ self.old) }
     {
         if let Some(id) = self.find(text) {

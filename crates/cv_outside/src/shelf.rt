@@ -43,12 +43,14 @@ pub trait Shelf {
         ensures limit { IfOk result (λ v. length v.items ≤ limit) }
 
         ensures later { faults self.old ≤ faults self.new }
-        ensures failed { IsErrOf result FetchError.Failed → Rose (faults self.old) (faults self.new) }
+        ensures failed { IsErrOf result FetchError.Failed
+            → Rose (faults self.old) (faults self.new) }
 
         // A told file is too long exactly where it exceeds the limit and no fault came.
         ensures long_only { IsErrOf result FetchError.Long
             → IfSome (told self.old) (λ files. limit < length (bytes_of files name.now)) }
-        ensures long_uncounted { IsErrOf result FetchError.Long → faults self.new ≡ faults self.old }
+        ensures long_uncounted { IsErrOf result FetchError.Long
+            → faults self.new ≡ faults self.old }
         ensures long { IfSome (told self.old) (λ files. limit < length (bytes_of files name.now)
             → ¬ Rose (faults self.old) (faults self.new) → result ≢ Err FetchError.OutOfMemory
             → IsErrOf result FetchError.Long) };
@@ -149,7 +151,8 @@ impl Shelf for MemShelf {
         ensures later { faults_of self.old ≤ faults_of self.new }
         ensures counted { IsErrOf result FetchError.Failed
             → faults_of self.new ≡ next_count (faults_of self.old) }
-        ensures uncounted { result ≢ Err FetchError.Failed → faults_of self.new ≡ faults_of self.old }
+        ensures uncounted { result ≢ Err FetchError.Failed
+            → faults_of self.new ≡ faults_of self.old }
     {
         self.calls = self.calls.saturating_add(1);
         note(alloc, &mut self.asked, name)?;

@@ -27,13 +27,16 @@ fn planted(
     pool: &mut Pool,
     makes: &[Make],
 ) -> Result<Vec<Option<NodeId>>, ParseError>
-    ensures back { (ts : List Tree) → makes.now ≡ flat_map postorder ts → IfOk result (λ ids. map (tree_at pool.new.trees) ids.items ≡ ts) }
+    ensures back { (ts : List Tree) → makes.now ≡ flat_map postorder ts
+        → IfOk result (λ ids. map (tree_at pool.new.trees) ids.items ≡ ts) }
     ensures live { IfOk result (λ ids. All (ChildBelow (length pool.new.trees)) ids.items) }
     ensures few { OnOk result (length makes.now < 4294967294) }
     ensures nodes { length pool.new.trees ≤ length pool.old.trees + overs makes.now }
     ensures limit { pool.new.limit ≡ pool.old.limit }
-    ensures room { OnOk result (length pool.old.trees + asked_for (weight_in makes.now) ≤ pool.old.limit) }
-    ensures crowds { IfErr result (λ e. Crowds pool.old.limit (length pool.old.trees) (asked_for (weight_in makes.now)) e) }
+    ensures room { OnOk result (length pool.old.trees + asked_for (weight_in makes.now)
+        ≤ pool.old.limit) }
+    ensures crowds { IfErr result (λ e. Crowds pool.old.limit (length pool.old.trees)
+        (asked_for (weight_in makes.now)) e) }
 {
     if makes.len() as u64 >= TOO_MANY {
         return Err(ParseError::Build(BuildError::OutOfMemory));
@@ -77,13 +80,16 @@ pub fn build(
 ) -> Result<NodeId, ParseError>
     requires empty { decls.old.list ≡ [] }
     requires builds { Builds reading.now makes.now }
-    ensures built { (b : Builds reading.now makes.now) → IfOk result (λ root. IsBuilt b.file pool.new.trees decls.new.list root) }
+    ensures built { (b : Builds reading.now makes.now)
+        → IfOk result (λ root. IsBuilt b.file pool.new.trees decls.new.list root) }
     ensures live { IfOk result (λ root. root.0 < length pool.new.trees) }
     ensures below { OnOk result (All (IsBelow (length pool.new.trees)) decls.new.list) }
     ensures nodes { length pool.new.trees ≤ length pool.old.trees + overs makes.now }
     ensures limit { pool.new.limit ≡ pool.old.limit }
-    ensures room { OnOk result (length pool.old.trees + asked_for (weight_in makes.now) ≤ pool.old.limit) }
-    ensures crowds { IfErr result (λ e. Crowds pool.old.limit (length pool.old.trees) (asked_for (weight_in makes.now)) e) }
+    ensures room { OnOk result (length pool.old.trees + asked_for (weight_in makes.now)
+        ≤ pool.old.limit) }
+    ensures crowds { IfErr result (λ e. Crowds pool.old.limit (length pool.old.trees)
+        (asked_for (weight_in makes.now)) e) }
     ensures own { decls.new.own ≡ decls.old.own }
 {
     let made = planted(alloc, pool, makes)?;

@@ -43,7 +43,8 @@ pub fn declare_all(
     requires few { length decls.old.list + length heard.now < 2 ^ 32 }
     requires rooted { length heard.now ≤ length roots.now }
     requires named { AllByRecursion IsNameable heard.now }
-    requires distinct { AreDistinct (flat_map names_of decls.old.list ++ flat_map names_by heard.now) }
+    requires distinct { AreDistinct
+        (flat_map names_of decls.old.list ++ flat_map names_by heard.now) }
     ensures list { OnOk result (decls.new.list ≡ decls.old.list ++ all_decls heard.now roots.now) }
     ensures own { decls.new.own ≡ decls.old.own }
 {

@@ -22,7 +22,8 @@ use std::alloc::{AllocError, Global};
 
 /// The parts of all trees of a file: those of its declarations, and behind them those of its game.
 fn all_parts(alloc: Global, trees: &[Make], process: &[Make]) -> Result<Vec<Make>, AllocError>
-    ensures { (t : Tree) → process.now ≡ postorder t → IfOk result (λ makes. makes.items ≡ trees.now ++ postorder (filled t)) }
+    ensures { (t : Tree) → process.now ≡ postorder t
+        → IfOk result (λ makes. makes.items ≡ trees.now ++ postorder (filled t)) }
 {
     let game = fill(alloc, process)?;
     let mut makes = Vec::from_slice(alloc, trees)?;
@@ -55,7 +56,9 @@ fn parse(
     ensures parses { ParsesIn pool.old.limit signs.now pool.new.trees decls.new.list result }
     ensures live { IfOk result (λ f. f.game.root.0 < length pool.new.trees) }
     ensures fits { IfOk result (λ f. size (tree_at pool.new.trees (Some f.game.root)) ≤ 50000) }
-    ensures nodes { IfOk result (λ f. length pool.new.trees ≤ file_nodes (declarations pool.new.trees decls.new.list) (tree_at pool.new.trees (Some f.game.root))) }
+    ensures nodes { IfOk result (λ f. length pool.new.trees
+        ≤ file_nodes (declarations pool.new.trees decls.new.list)
+        (tree_at pool.new.trees (Some f.game.root))) }
     ensures limit { pool.new.limit ≡ pool.old.limit }
     ensures below { OnOk result (All (IsBelow (length pool.new.trees)) decls.new.list) }
     ensures own { decls.new.own ≡ decls.old.own }
@@ -81,8 +84,11 @@ fn fill_work(alloc: Global, work: &mut Work, tokens: &Tokens) -> Result<File, Pa
     ensures parses { Parses work.old.pool.limit (signs_of tokens.now).signs work.new result }
     ensures names { OnOk result (work.new.names ≡ (signs_of tokens.now).names) }
     ensures live { IfOk result (λ f. f.game.root.0 < length work.new.pool.trees) }
-    ensures fits { IfOk result (λ f. size (tree_at work.new.pool.trees (Some f.game.root)) ≤ 50000) }
-    ensures nodes { IfOk result (λ f. length work.new.pool.trees ≤ file_nodes (declarations work.new.pool.trees work.new.decls.list) (tree_at work.new.pool.trees (Some f.game.root))) }
+    ensures fits { IfOk result (λ f. size (tree_at work.new.pool.trees (Some f.game.root))
+        ≤ 50000) }
+    ensures nodes { IfOk result (λ f. length work.new.pool.trees
+        ≤ file_nodes (declarations work.new.pool.trees work.new.decls.list)
+        (tree_at work.new.pool.trees (Some f.game.root))) }
     ensures limit { work.new.pool.limit ≡ work.old.pool.limit }
     ensures below { OnOk result (All (IsBelow (length work.new.pool.trees)) work.new.decls.list) }
     ensures own { OnOk result (work.new.decls.own ≡ length work.new.names) }
@@ -104,8 +110,11 @@ pub fn file(alloc: Global, work: &mut Work, tokens: &Tokens) -> Result<File, Par
     ensures parses { Parses work.old.pool.limit (signs_of tokens.now).signs work.new result }
     ensures names { OnOk result (work.new.names ≡ (signs_of tokens.now).names) }
     ensures live { IfOk result (λ f. f.game.root.0 < length work.new.pool.trees) }
-    ensures fits { IfOk result (λ f. size (tree_at work.new.pool.trees (Some f.game.root)) ≤ 50000) }
-    ensures nodes { IfOk result (λ f. length work.new.pool.trees ≤ file_nodes (declarations work.new.pool.trees work.new.decls.list) (tree_at work.new.pool.trees (Some f.game.root))) }
+    ensures fits { IfOk result (λ f. size (tree_at work.new.pool.trees (Some f.game.root))
+        ≤ 50000) }
+    ensures nodes { IfOk result (λ f. length work.new.pool.trees
+        ≤ file_nodes (declarations work.new.pool.trees work.new.decls.list)
+        (tree_at work.new.pool.trees (Some f.game.root))) }
     ensures limit { work.new.pool.limit ≡ work.old.pool.limit }
     ensures below { OnOk result (All (IsBelow (length work.new.pool.trees)) work.new.decls.list) }
     ensures own { OnOk result (work.new.decls.own ≡ length work.new.names) }

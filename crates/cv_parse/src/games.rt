@@ -24,7 +24,8 @@ fn game_in(
     signs: &[Sign],
 ) -> Result<Game, ParseError>
     requires few { length signs.now < 2 ^ 32 }
-    ensures reads { ReadsGame (game_of pool.old.limit (length pool.old.trees) decls.now.list signs.now) pool.new.trees result }
+    ensures reads { ReadsGame (game_of pool.old.limit (length pool.old.trees) decls.now.list
+        signs.now) pool.new.trees result }
     ensures live { IfOk result (λ g. g.root.0 < length pool.new.trees) }
     ensures fits { IfOk result (λ g. size (tree_at pool.new.trees (Some g.root)) ≤ 50000) }
     ensures grows { Grows pool.old pool.new }
@@ -44,10 +45,12 @@ fn game_in(
 /// class; where no game is read they are taken back.
 pub fn game(alloc: Global, work: &mut Work, tokens: &Tokens) -> Result<Game, ParseError>
     requires few { length work.old.names + length tokens.now < 2 ^ 32 }
-    ensures reads { ReadsGame (game_read work.old.pool.limit (length work.old.pool.trees) work.old.names work.old.decls.list tokens.now) work.new.pool.trees result }
+    ensures reads { ReadsGame (game_read work.old.pool.limit (length work.old.pool.trees)
+        work.old.names work.old.decls.list tokens.now) work.new.pool.trees result }
     ensures live { IfOk result (λ g. g.root.0 < length work.new.pool.trees) }
     ensures fits { IfOk result (λ g. size (tree_at work.new.pool.trees (Some g.root)) ≤ 50000) }
-    ensures names { OnOk result (work.new.names ≡ (signs_from work.old.names no_counts tokens.now).names) }
+    ensures names { OnOk result (work.new.names
+        ≡ (signs_from work.old.names no_counts tokens.now).names) }
     ensures decls { work.new.decls ≡ work.old.decls }
     ensures grows { Grows work.old.pool work.new.pool }
     ensures same_names { OnErr result (work.new.names ≡ work.old.names) }

@@ -55,7 +55,8 @@ fn put_over(depths: &mut Vec<u32>, head: Head) -> Result<(), AllocError>
 
 /// Puts a part over the trees of which the depths are there.
 fn put(depths: &mut Vec<u32>, make: Make) -> Result<(), AllocError>
-    ensures { OnOk result (reverse depths.new.items ≡ depths_behind make (reverse depths.old.items)) }
+    ensures { OnOk result (reverse depths.new.items
+        ≡ depths_behind make (reverse depths.old.items)) }
 {
     match make {
         Make::Nothing => depths.push(0)?,
@@ -66,8 +67,10 @@ fn put(depths: &mut Vec<u32>, make: Make) -> Result<(), AllocError>
 
 /// The sizes of a tree, by its parts.
 pub fn measure(alloc: Global, makes: &[Make]) -> Result<Extent, AllocError>
-    ensures nodes { (t : Tree) → makes.now ≡ postorder t → IfOk result (λ m. m.nodes ≡ capped (size t)) }
-    ensures depth { (t : Tree) → makes.now ≡ postorder t → IfOk result (λ m. m.depth ≡ capped (tree_depth t)) }
+    ensures nodes { (t : Tree) → makes.now ≡ postorder t
+        → IfOk result (λ m. m.nodes ≡ capped (size t)) }
+    ensures depth { (t : Tree) → makes.now ≡ postorder t
+        → IfOk result (λ m. m.depth ≡ capped (tree_depth t)) }
 {
     let mut depths = Vec::new(alloc);
     let mut nodes: u32 = 0;

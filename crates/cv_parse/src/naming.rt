@@ -54,7 +54,8 @@ fn use_by(decl: Decl) -> Option<NameUse>
 /// The use of a name that the declaration at a place is.
 fn use_at(decls: &Decls, k: u32) -> Option<NameUse>
     requires { k < length decls.now.list }
-    ensures { (d : DeclView) → slice_get decls.now.list k ≡ Some d → perhaps_use result ≡ declared_by d }
+    ensures { (d : DeclView) → slice_get decls.now.list k ≡ Some d
+        → perhaps_use result ≡ declared_by d }
 {
     use_by(*decls.get(k)?)
 }
@@ -71,7 +72,8 @@ fn note_use(uses: &mut Vec<NameUse>, this: Option<NameUse>) -> Result<(), AllocE
 
 /// Notes what is declared, as if it stood before the text.
 pub fn note_declared(decls: &Decls, uses: &mut Vec<NameUse>) -> Result<(), AllocError>
-    ensures { OnOk result (uses_of uses.new.items ≡ uses_of uses.old.items ++ declared_before decls.now.list) }
+    ensures { OnOk result (uses_of uses.new.items
+        ≡ uses_of uses.old.items ++ declared_before decls.now.list) }
 {
     'declared: for k in 0..decls.len() {
         note_use(uses, use_at(decls, k))?;

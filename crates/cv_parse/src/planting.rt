@@ -14,10 +14,13 @@ const TOO_MANY: u64 = 4_294_967_296;
 
 /// Makes a tree in the pool. Parts that are too many to be counted are want of memory.
 pub fn plant_one(alloc: Global, pool: &mut Pool, makes: &[Make]) -> Result<NodeId, ParseError>
-    ensures tree { (t : Tree) → makes.now ≡ postorder t → IfOk result (λ root. tree_at pool.new.trees (Some root) ≡ t) }
+    ensures tree { (t : Tree) → makes.now ≡ postorder t
+        → IfOk result (λ root. tree_at pool.new.trees (Some root) ≡ t) }
     ensures live { IfOk result (λ root. root.0 < length pool.new.trees) }
-    ensures room { (t : Tree) → makes.now ≡ postorder t → OnOk result (length pool.old.trees + nodes_of t ≤ pool.old.limit) }
-    ensures crowds { (t : Tree) → makes.now ≡ postorder t → IfErr result (λ e. Crowds pool.old.limit (length pool.old.trees) (nodes_of t) e) }
+    ensures room { (t : Tree) → makes.now ≡ postorder t
+        → OnOk result (length pool.old.trees + nodes_of t ≤ pool.old.limit) }
+    ensures crowds { (t : Tree) → makes.now ≡ postorder t
+        → IfErr result (λ e. Crowds pool.old.limit (length pool.old.trees) (nodes_of t) e) }
     ensures grows { Grows pool.old pool.new }
     ensures kept { OnErr result (pool.new.trees ≡ pool.old.trees) }
 {

@@ -26,7 +26,8 @@ fn process(
 ) -> Result<usize, ReadError>
     requires at { at ≤ length signs.now }
     requires few { length signs.now < 2 ^ 32 }
-    ensures makes { Makes postorder signs.now trail.old trail.new result (read_in depth process_form (drop at signs.now)) }
+    ensures makes { Makes postorder signs.now trail.old trail.new result
+        (read_in depth process_form (drop at signs.now)) }
 {
     note(signs, at, &mut trail.uses, Role::Enters(Region::InProcess))?;
     let place = inputs(alloc, signs, at, trail, depth)?;

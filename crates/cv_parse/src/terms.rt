@@ -34,7 +34,8 @@ fn term_in(
     from: u32,
 ) -> Result<(NodeId, u32), ParseError>
     requires few { from + length signs.now < 2 ^ 32 }
-    ensures reads { ReadsTerm (term_of pool.old.limit (length pool.old.trees) from signs.now) pool.new.trees result }
+    ensures reads { ReadsTerm (term_of pool.old.limit (length pool.old.trees) from signs.now)
+        pool.new.trees result }
     ensures live { IfOk result (λ x. x.0.0 < length pool.new.trees) }
     ensures behind { IfOk result (λ x. from ≤ x.1) }
     ensures within { IfOk result (λ x. x.1 ≤ from + length signs.now) }
@@ -93,11 +94,13 @@ pub fn term(
 ) -> Result<(NodeId, u32), ParseError>
     requires from { from < length tokens.now }
     requires few { length work.old.names + length tokens.now < 2 ^ 32 }
-    ensures reads { ReadsTerm (term_read work.old.pool.limit (length work.old.pool.trees) work.old.names tokens.now from) work.new.pool.trees result }
+    ensures reads { ReadsTerm (term_read work.old.pool.limit (length work.old.pool.trees)
+        work.old.names tokens.now from) work.new.pool.trees result }
     ensures live { IfOk result (λ x. x.0.0 < length work.new.pool.trees) }
     ensures behind { IfOk result (λ x. from ≤ x.1) }
     ensures within { IfOk result (λ x. x.1 < length tokens.now) }
-    ensures names { IfOk result (λ x. work.new.names ≡ names_behind work.old.names tokens.now from x.1) }
+    ensures names { IfOk result (λ x. work.new.names
+        ≡ names_behind work.old.names tokens.now from x.1) }
     ensures decls { work.new.decls ≡ work.old.decls }
     ensures grows { Grows work.old.pool work.new.pool }
     ensures same_names { OnErr result (work.new.names ≡ work.old.names) }

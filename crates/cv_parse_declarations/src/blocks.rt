@@ -88,7 +88,8 @@ fn proof_block(
 ) -> Result<((usize, usize), usize), ReadError>
     requires at { at ≤ length signs.now }
     requires few { length signs.now < 2 ^ 32 }
-    ensures gives { Gives signs.now uses.old.items uses.new.items result (read_in depth block_form (drop at signs.now)) }
+    ensures gives { Gives signs.now uses.old.items uses.new.items result
+        (read_in depth block_form (drop at signs.now)) }
 {
     let place = open(signs, at, depth, Mark::OpenBrace)?;
     let first = note(signs, place, uses, Role::Nothing)?;
@@ -108,7 +109,8 @@ fn proof(
 ) -> Result<((usize, usize), usize), ReadError>
     requires at { at ≤ length signs.now }
     requires few { length signs.now < 2 ^ 32 }
-    ensures gives { Gives signs.now uses.old.items uses.new.items result (read_in depth (Proof ▸ block_form) (drop at signs.now)) }
+    ensures gives { Gives signs.now uses.old.items uses.new.items result
+        (read_in depth (Proof ▸ block_form) (drop at signs.now)) }
 {
     let place = expect(signs, at, Mark::Proof)?;
     proof_block(signs, place, uses, depth)
@@ -124,7 +126,8 @@ pub fn maybe_proof(
 ) -> Result<(Option<(usize, usize)>, usize), ReadError>
     requires at { at ≤ length signs.now }
     requires few { length signs.now < 2 ^ 32 }
-    ensures gives { Gives signs.now uses.old.items uses.new.items result (read_in depth (may false (Proof ▸ block_form)) (drop at signs.now)) }
+    ensures gives { Gives signs.now uses.old.items uses.new.items result
+        (read_in depth (may false (Proof ▸ block_form)) (drop at signs.now)) }
 {
     if is_at(signs, at, Mark::Proof) {
         let (block, place) = proof(signs, at, uses, depth)?;

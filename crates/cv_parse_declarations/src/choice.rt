@@ -39,7 +39,8 @@ fn last_decl(
 ) -> Result<usize, ReadError>
     requires at { at ≤ length signs.now }
     requires few { length signs.now < 2 ^ 32 }
-    ensures declares { Declares signs.now trail.old trail.new heard.old.items heard.new.items result (read_in depth ending (drop at signs.now)) }
+    ensures declares { Declares signs.now trail.old trail.new heard.old.items heard.new.items
+        result (read_in depth ending (drop at signs.now)) }
 {
     if is_at(signs, at, Mark::EquationWord) {
         return equation_decl(alloc, signs, at, trail, heard, depth);
@@ -65,7 +66,8 @@ fn next_decl(
 ) -> Result<usize, ReadError>
     requires at { at ≤ length signs.now }
     requires few { length signs.now < 2 ^ 32 }
-    ensures declares { Declares signs.now trail.old trail.new heard.old.items heard.new.items result (read_in depth middle (drop at signs.now)) }
+    ensures declares { Declares signs.now trail.old trail.new heard.old.items heard.new.items
+        result (read_in depth middle (drop at signs.now)) }
 {
     if is_at(signs, at, Mark::TypeWord) {
         return type_decl(alloc, signs, at, trail, heard, depth);
@@ -94,7 +96,8 @@ fn decl(
 ) -> Result<usize, ReadError>
     requires at { at ≤ length signs.now }
     requires few { length signs.now < 2 ^ 32 }
-    ensures declares { Declares signs.now trail.old trail.new heard.old.items heard.new.items result (read_in depth declaration_form (drop at signs.now)) }
+    ensures declares { Declares signs.now trail.old trail.new heard.old.items heard.new.items
+        result (read_in depth declaration_form (drop at signs.now)) }
 {
     if is_at(signs, at, Mark::Param) {
         return param_decl(alloc, signs, at, trail, heard, depth);
@@ -138,7 +141,8 @@ pub fn decls(
 ) -> Result<usize, ReadError>
     requires at { at ≤ length signs.now }
     requires few { length signs.now < 2 ^ 32 }
-    ensures declare { DeclareAll signs.now trail.old trail.new heard.old.items heard.new.items result (read_in depth (many false declaration_form) (drop at signs.now)) }
+    ensures declare { DeclareAll signs.now trail.old trail.new heard.old.items heard.new.items
+        result (read_in depth (many false declaration_form) (drop at signs.now)) }
 {
     let mut place = at;
     'decls: while begins_decl(signs, place) {

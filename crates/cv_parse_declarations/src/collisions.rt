@@ -37,7 +37,8 @@ fn collision_name(
 ) -> Result<(u32, usize), ReadError>
     requires at { at ≤ length signs.now }
     requires few { length signs.now < 2 ^ 32 }
-    ensures gives { Gives signs.now uses.old.items uses.new.items result (read_in depth collision_name_form (drop at signs.now)) }
+    ensures gives { Gives signs.now uses.old.items uses.new.items result
+        (read_in depth collision_name_form (drop at signs.now)) }
 {
     let role = Role::Declares(Asked::AnEquivalence);
     if is_at(signs, at, Mark::Collision) {
@@ -58,7 +59,8 @@ fn some_variables(
 ) -> Result<(Vec<(u32, u32)>, usize), ReadError>
     requires at { at ≤ length signs.now }
     requires few { length signs.now < 2 ^ 32 }
-    ensures gives { GivesBinders signs.now uses.old.items uses.new.items result (read_in depth (Forall ▸ (vars_form BindsLocal ◂ Semicolon)) (drop at signs.now)) }
+    ensures gives { GivesBinders signs.now uses.old.items uses.new.items result
+        (read_in depth (Forall ▸ (vars_form BindsLocal ◂ Semicolon)) (drop at signs.now)) }
 {
     let place = expect(signs, at, Mark::Forall)?;
     let kind = Pair::Typed(Role::BindsLocal);
@@ -78,7 +80,8 @@ fn variables(
 ) -> Result<(Vec<(u32, u32)>, usize), ReadError>
     requires at { at ≤ length signs.now }
     requires few { length signs.now < 2 ^ 32 }
-    ensures gives { GivesBinders signs.now uses.old.items uses.new.items result (read_in depth forall_form (drop at signs.now)) }
+    ensures gives { GivesBinders signs.now uses.old.items uses.new.items result
+        (read_in depth forall_form (drop at signs.now)) }
 {
     if is_at(signs, at, Mark::Forall) {
         return some_variables(alloc, signs, at, uses, depth);
@@ -93,7 +96,8 @@ fn make_before(
     collision: Collision,
     args: &[(u32, u32)],
 ) -> Result<(), AllocError>
-    ensures { OnOk result (makes.new.items ≡ makes.old.items ++ parts_before collision.name collision.key args.now) }
+    ensures { OnOk result (makes.new.items
+        ≡ makes.old.items ++ parts_before collision.name collision.key args.now) }
 {
     make_binders(alloc, makes, &[collision.key])?;
     makes.push(Make::Nothing)?;
@@ -126,7 +130,8 @@ fn side(
 ) -> Result<usize, ReadError>
     requires at { at ≤ length signs.now }
     requires few { length signs.now < 2 ^ 32 }
-    ensures makes { Makes (parts_of_side collision.name collision.key args.now) signs.now trail.old trail.new result (read_in depth term_form (drop at signs.now)) }
+    ensures makes { Makes (parts_of_side collision.name collision.key args.now) signs.now trail.old
+        trail.new result (read_in depth term_form (drop at signs.now)) }
 {
     make_before(alloc, &mut trail.makes, collision, args)?;
     let place = term(signs, at, trail, depth)?;
@@ -146,7 +151,9 @@ fn terms(
 ) -> Result<(u32, usize), ReadError>
     requires at { at ≤ length signs.now }
     requires few { length signs.now < 2 ^ 32 }
-    ensures makes { MakesTerms collision.name collision.key signs.now trail.old trail.new result (read_in depth (forall_form & (term_form & (probability_form & (term_form ◂ Dot)))) (drop at signs.now)) }
+    ensures makes { MakesTerms collision.name collision.key signs.now trail.old trail.new result
+        (read_in depth (forall_form & (term_form & (probability_form & (term_form ◂ Dot))))
+        (drop at signs.now)) }
 {
     let (args, place) = variables(alloc, signs, at, &mut trail.uses, depth)?;
     let place = side(alloc, signs, place, trail, collision, &args, depth)?;
@@ -168,7 +175,8 @@ pub fn collision_decl(
 ) -> Result<usize, ReadError>
     requires at { at ≤ length signs.now }
     requires few { length signs.now < 2 ^ 32 }
-    ensures declares { Declares signs.now trail.old trail.new heard.old.items heard.new.items result (read_in depth collision_form (drop at signs.now)) }
+    ensures declares { Declares signs.now trail.old trail.new heard.old.items heard.new.items
+        result (read_in depth collision_form (drop at signs.now)) }
 {
     let (name, place) = collision_name(signs, at, &mut trail.uses, depth)?;
     note(

@@ -26,7 +26,8 @@ fn some_vars(
 ) -> Result<usize, ReadError>
     requires at { at ≤ length signs.now }
     requires few { length signs.now < 2 ^ 32 }
-    ensures makes { Makes postorder signs.now trail.old trail.new result (read_in depth (Forall ▸ (vars_form BindsLocal ◂ Semicolon)) (drop at signs.now)) }
+    ensures makes { Makes postorder signs.now trail.old trail.new result
+        (read_in depth (Forall ▸ (vars_form BindsLocal ◂ Semicolon)) (drop at signs.now)) }
 {
     let place = expect(signs, at, Mark::Forall)?;
     let place = vars(alloc, signs, place, trail, Role::BindsLocal, depth)?;
@@ -45,7 +46,8 @@ fn forall_vars(
 ) -> Result<usize, ReadError>
     requires at { at ≤ length signs.now }
     requires few { length signs.now < 2 ^ 32 }
-    ensures makes { Makes postorder signs.now trail.old trail.new result (read_in depth forall_form (drop at signs.now)) }
+    ensures makes { Makes postorder signs.now trail.old trail.new result
+        (read_in depth forall_form (drop at signs.now)) }
 {
     if is_at(signs, at, Mark::Forall) {
         return some_vars(alloc, signs, at, trail, depth);
@@ -66,7 +68,8 @@ pub fn equation_decl(
 ) -> Result<usize, ReadError>
     requires at { at ≤ length signs.now }
     requires few { length signs.now < 2 ^ 32 }
-    ensures declares { Declares signs.now trail.old trail.new heard.old.items heard.new.items result (read_in depth equation_form (drop at signs.now)) }
+    ensures declares { Declares signs.now trail.old trail.new heard.old.items heard.new.items
+        result (read_in depth equation_form (drop at signs.now)) }
 {
     let place = expect(signs, at, Mark::EquationWord)?;
     note(

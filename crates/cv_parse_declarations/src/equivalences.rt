@@ -27,7 +27,8 @@ fn bracketed_name(
 ) -> Result<(u32, usize), ReadError>
     requires at { at ≤ length signs.now }
     requires few { length signs.now < 2 ^ 32 }
-    ensures gives { Gives signs.now uses.old.items uses.new.items result (read_in depth (bracket (word_form (Asks AProbability))) (drop at signs.now)) }
+    ensures gives { Gives signs.now uses.old.items uses.new.items result
+        (read_in depth (bracket (word_form (Asks AProbability))) (drop at signs.now)) }
 {
     let place = open(signs, at, depth, Mark::Open)?;
     let (name, place) = word(signs, place, uses, Role::Asks(Asked::AProbability))?;
@@ -45,7 +46,8 @@ pub fn probability(
 ) -> Result<(u32, usize), ReadError>
     requires at { at ≤ length signs.now }
     requires few { length signs.now < 2 ^ 32 }
-    ensures gives { Gives signs.now uses.old.items uses.new.items result (read_in depth probability_form (drop at signs.now)) }
+    ensures gives { Gives signs.now uses.old.items uses.new.items result
+        (read_in depth probability_form (drop at signs.now)) }
 {
     let place = expect(signs, at, Mark::AtMost)?;
     let (name, place) = bracketed_name(signs, place, uses, depth)?;
@@ -64,7 +66,9 @@ fn sides(
 ) -> Result<(u32, usize), ReadError>
     requires at { at ≤ length signs.now }
     requires few { length signs.now < 2 ^ 32 }
-    ensures makes { MakesSides signs.now trail.old trail.new result (read_in depth (group_form LeftFunction & (probability_form & group_form RightFunction)) (drop at signs.now)) }
+    ensures makes { MakesSides signs.now trail.old trail.new result
+        (read_in depth (group_form LeftFunction & (probability_form & group_form RightFunction))
+        (drop at signs.now)) }
 {
     let place = group(alloc, signs, at, trail, Side::Left, depth)?;
     let (bound, place) = probability(signs, place, &mut trail.uses, depth)?;
@@ -84,7 +88,8 @@ pub fn equiv_decl(
 ) -> Result<usize, ReadError>
     requires at { at ≤ length signs.now }
     requires few { length signs.now < 2 ^ 32 }
-    ensures declares { Declares signs.now trail.old trail.new heard.old.items heard.new.items result (read_in depth equiv_form (drop at signs.now)) }
+    ensures declares { Declares signs.now trail.old trail.new heard.old.items heard.new.items
+        result (read_in depth equiv_form (drop at signs.now)) }
 {
     let place = expect(signs, at, Mark::Equiv)?;
     let role = Role::Declares(Asked::AnEquivalence);

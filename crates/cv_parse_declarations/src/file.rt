@@ -53,7 +53,8 @@ fn process(
 ) -> Result<usize, ReadError>
     requires at { at ≤ length signs.now }
     requires few { length signs.now < 2 ^ 32 }
-    ensures makes { Makes postorder signs.now trail.old trail.new result (read_in depth (Process ▸ inside InProcess inputs_form) (drop at signs.now)) }
+    ensures makes { Makes postorder signs.now trail.old trail.new result
+        (read_in depth (Process ▸ inside InProcess inputs_form) (drop at signs.now)) }
 {
     let place = expect(signs, at, Mark::Process)?;
     note(

@@ -19,7 +19,8 @@ use std::alloc::Global;
 fn data_word(signs: &[Sign], at: usize, depth: u32) -> Result<usize, ReadError>
     requires at { at ≤ length signs.now }
     requires few { length signs.now < 2 ^ 32 }
-    ensures passes { Passes signs.now result (read_in depth (either (sign Data) (sign Compos)) (drop at signs.now)) }
+    ensures passes { Passes signs.now result
+        (read_in depth (either (sign Data) (sign Compos)) (drop at signs.now)) }
 {
     if is_at(signs, at, Mark::Data) {
         let end = expect(signs, at, Mark::Data)?;
@@ -34,7 +35,8 @@ fn data_word(signs: &[Sign], at: usize, depth: u32) -> Result<usize, ReadError>
 fn data_in_brackets(signs: &[Sign], at: usize, depth: u32) -> Result<usize, ReadError>
     requires at { at ≤ length signs.now }
     requires few { length signs.now < 2 ^ 32 }
-    ensures passes { Passes signs.now result (read_in depth (square (either (sign Data) (sign Compos))) (drop at signs.now)) }
+    ensures passes { Passes signs.now result
+        (read_in depth (square (either (sign Data) (sign Compos))) (drop at signs.now)) }
 {
     let place = open(signs, at, depth, Mark::OpenSquare)?;
     let place = data_word(signs, place, depth)?;
@@ -68,7 +70,8 @@ pub fn fun_decl(
 ) -> Result<usize, ReadError>
     requires at { at ≤ length signs.now }
     requires few { length signs.now < 2 ^ 32 }
-    ensures declares { Declares signs.now trail.old trail.new heard.old.items heard.new.items result (read_in depth fun_form (drop at signs.now)) }
+    ensures declares { Declares signs.now trail.old trail.new heard.old.items heard.new.items
+        result (read_in depth fun_form (drop at signs.now)) }
 {
     let place = expect(signs, at, Mark::Fun)?;
     let role = Role::Declares(Asked::AFunction);

@@ -28,8 +28,10 @@ fn hear_names(
     class: Class,
     sort: Option<u32>,
 ) -> Result<(), AllocError>
-    ensures heard { OnOk result (heard.new.items ≡ heard.old.items ++ map (λ x. Named x class sort) names.now) }
-    ensures makes { OnOk result (makes.new.items ≡ makes.old.items ++ replicate (length names.now) Nothing) }
+    ensures heard { OnOk result (heard.new.items ≡ heard.old.items ++ map
+        (λ x. Named x class sort) names.now) }
+    ensures makes { OnOk result (makes.new.items
+        ≡ makes.old.items ++ replicate (length names.now) Nothing) }
 {
     'names: for name in names {
         heard.push(Heard::Named(*name, class, sort))?;
@@ -52,7 +54,9 @@ fn names_decl(
     requires at { at ≤ length signs.now }
     requires few { length signs.now < 2 ^ 32 }
     requires named { is_of_name kind.2 ≡ true }
-    ensures declares { Declares signs.now trail.old trail.new heard.old.items heard.new.items result (read_in depth (made (map (named kind.2)) (kind.0 ▸ ids (declares kind.1) ◂ Dot)) (drop at signs.now)) }
+    ensures declares { Declares signs.now trail.old trail.new heard.old.items heard.new.items
+        result (read_in depth (made (map (named kind.2)) (kind.0 ▸ ids (declares kind.1) ◂ Dot))
+        (drop at signs.now)) }
 {
     let place = expect(signs, at, kind.0)?;
     let item = Item::Name(Role::Declares(kind.1));
@@ -73,7 +77,8 @@ pub fn param_decl(
 ) -> Result<usize, ReadError>
     requires at { at ≤ length signs.now }
     requires few { length signs.now < 2 ^ 32 }
-    ensures declares { Declares signs.now trail.old trail.new heard.old.items heard.new.items result (read_in depth param_form (drop at signs.now)) }
+    ensures declares { Declares signs.now trail.old trail.new heard.old.items heard.new.items
+        result (read_in depth param_form (drop at signs.now)) }
 {
     let kind = (Mark::Param, Asked::AParam, Class::Param);
     names_decl(alloc, signs, at, trail, heard, kind, depth)
@@ -90,7 +95,8 @@ pub fn channel_decl(
 ) -> Result<usize, ReadError>
     requires at { at ≤ length signs.now }
     requires few { length signs.now < 2 ^ 32 }
-    ensures declares { Declares signs.now trail.old trail.new heard.old.items heard.new.items result (read_in depth channel_form (drop at signs.now)) }
+    ensures declares { Declares signs.now trail.old trail.new heard.old.items heard.new.items
+        result (read_in depth channel_form (drop at signs.now)) }
 {
     let kind = (Mark::Channel, Asked::AChannel, Class::Channel);
     names_decl(alloc, signs, at, trail, heard, kind, depth)
@@ -107,7 +113,8 @@ pub fn proba_decl(
 ) -> Result<usize, ReadError>
     requires at { at ≤ length signs.now }
     requires few { length signs.now < 2 ^ 32 }
-    ensures declares { Declares signs.now trail.old trail.new heard.old.items heard.new.items result (read_in depth proba_form (drop at signs.now)) }
+    ensures declares { Declares signs.now trail.old trail.new heard.old.items heard.new.items
+        result (read_in depth proba_form (drop at signs.now)) }
 {
     let place = expect(signs, at, Mark::Proba)?;
     let role = Role::Declares(Asked::AProbability);
@@ -130,7 +137,8 @@ pub fn const_decl(
 ) -> Result<usize, ReadError>
     requires at { at ≤ length signs.now }
     requires few { length signs.now < 2 ^ 32 }
-    ensures declares { Declares signs.now trail.old trail.new heard.old.items heard.new.items result (read_in depth const_form (drop at signs.now)) }
+    ensures declares { Declares signs.now trail.old trail.new heard.old.items heard.new.items
+        result (read_in depth const_form (drop at signs.now)) }
 {
     let place = expect(signs, at, Mark::ConstWord)?;
     let kind = Item::Name(Role::Declares(Asked::AFunction));
@@ -154,7 +162,8 @@ pub fn type_list(
 ) -> Result<usize, ReadError>
     requires at { at ≤ length signs.now }
     requires few { length signs.now < 2 ^ 32 }
-    ensures makes { Makes postorder signs.now trail.old trail.new result (read_in depth type_list_form (drop at signs.now)) }
+    ensures makes { Makes postorder signs.now trail.old trail.new result
+        (read_in depth type_list_form (drop at signs.now)) }
 {
     let place = open(signs, at, depth, Mark::Open)?;
     let place = name_list(alloc, signs, place, trail, Item::TypeName, depth)?;
@@ -172,7 +181,8 @@ fn maybe_type_list(
 ) -> Result<usize, ReadError>
     requires at { at ≤ length signs.now }
     requires few { length signs.now < 2 ^ 32 }
-    ensures makes { Makes postorder signs.now trail.old trail.new result (read_in depth (listed type_list_form) (drop at signs.now)) }
+    ensures makes { Makes postorder signs.now trail.old trail.new result
+        (read_in depth (listed type_list_form) (drop at signs.now)) }
 {
     if is_at(signs, at, Mark::Open) {
         return type_list(alloc, signs, at, trail, depth);
@@ -193,7 +203,8 @@ pub fn event_decl(
 ) -> Result<usize, ReadError>
     requires at { at ≤ length signs.now }
     requires few { length signs.now < 2 ^ 32 }
-    ensures declares { Declares signs.now trail.old trail.new heard.old.items heard.new.items result (read_in depth event_form (drop at signs.now)) }
+    ensures declares { Declares signs.now trail.old trail.new heard.old.items heard.new.items
+        result (read_in depth event_form (drop at signs.now)) }
 {
     let place = expect(signs, at, Mark::EventWord)?;
     let role = Role::Declares(Asked::AnEvent);

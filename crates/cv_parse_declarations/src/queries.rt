@@ -33,7 +33,8 @@ fn maybe_arguments(
 ) -> Result<usize, ReadError>
     requires at { at ≤ length signs.now }
     requires few { length signs.now < 2 ^ 32 }
-    ensures makes { Makes postorder signs.now trail.old trail.new result (read_in depth (listed arguments_form) (drop at signs.now)) }
+    ensures makes { Makes postorder signs.now trail.old trail.new result
+        (read_in depth (listed arguments_form) (drop at signs.now)) }
 {
     if is_at(signs, at, Mark::Open) {
         return arguments(signs, at, trail, depth);
@@ -52,7 +53,8 @@ fn happens(
 ) -> Result<(u32, usize), ReadError>
     requires at { at ≤ length signs.now }
     requires few { length signs.now < 2 ^ 32 }
-    ensures makes { MakesWith postorder signs.now trail.old trail.new result (read_in depth happens_form (drop at signs.now)) }
+    ensures makes { MakesWith postorder signs.now trail.old trail.new result
+        (read_in depth happens_form (drop at signs.now)) }
 {
     let place = expect(signs, at, Mark::EventWord)?;
     let role = Role::Asks(Asked::AnEvent);
@@ -71,7 +73,9 @@ fn shared_event(
 ) -> Result<usize, ReadError>
     requires at { at ≤ length signs.now }
     requires few { length signs.now < 2 ^ 32 }
-    ensures makes { Makes postorder signs.now trail.old trail.new result (read_in depth (made (λ (e, l). Node (Occurs e) l Empty) happens_form) (drop at signs.now)) }
+    ensures makes { Makes postorder signs.now trail.old trail.new result
+        (read_in depth (made (λ (e, l). Node (Occurs e) l Empty) happens_form)
+        (drop at signs.now)) }
 {
     let (name, place) = happens(signs, at, trail, depth)?;
     trail.makes.push(Make::Nothing)?;
@@ -84,7 +88,9 @@ fn shared_event(
 fn own_event(signs: &[Sign], at: usize, trail: &mut Trail, depth: u32) -> Result<usize, ReadError>
     requires at { at ≤ length signs.now }
     requires few { length signs.now < 2 ^ 32 }
-    ensures makes { Makes postorder signs.now trail.old trail.new result (read_in depth (made (λ (e, l). Node (OccursOnce e) l Empty) (Inj ▸ happens_form)) (drop at signs.now)) }
+    ensures makes { Makes postorder signs.now trail.old trail.new result
+        (read_in depth (made (λ (e, l). Node (OccursOnce e) l Empty) (Inj ▸ happens_form))
+        (drop at signs.now)) }
 {
     let place = expect(signs, at, Mark::Inj)?;
     let (name, place) = happens(signs, place, trail, depth)?;
@@ -98,7 +104,8 @@ fn own_event(signs: &[Sign], at: usize, trail: &mut Trail, depth: u32) -> Result
 fn event(signs: &[Sign], at: usize, trail: &mut Trail, depth: u32) -> Result<usize, ReadError>
     requires at { at ≤ length signs.now }
     requires few { length signs.now < 2 ^ 32 }
-    ensures makes { Makes postorder signs.now trail.old trail.new result (read_in depth event_form (drop at signs.now)) }
+    ensures makes { Makes postorder signs.now trail.old trail.new result
+        (read_in depth event_form (drop at signs.now)) }
 {
     if is_at(signs, at, Mark::Inj) {
         return own_event(signs, at, trail, depth);
@@ -119,7 +126,8 @@ fn begins_event(signs: &[Sign], at: usize) -> bool
 fn atom(signs: &[Sign], at: usize, trail: &mut Trail, depth: u32) -> Result<usize, ReadError>
     requires at { at ≤ length signs.now }
     requires few { length signs.now < 2 ^ 32 }
-    ensures makes { Makes postorder signs.now trail.old trail.new result (read_in depth (either event_form equality_form) (drop at signs.now)) }
+    ensures makes { Makes postorder signs.now trail.old trail.new result
+        (read_in depth (either event_form equality_form) (drop at signs.now)) }
 {
     if begins_event(signs, at) {
         return event(signs, at, trail, depth);
@@ -132,7 +140,8 @@ fn atom(signs: &[Sign], at: usize, trail: &mut Trail, depth: u32) -> Result<usiz
 fn next_atom(signs: &[Sign], at: usize, trail: &mut Trail, depth: u32) -> Result<usize, ReadError>
     requires at { at ≤ length signs.now }
     requires few { length signs.now < 2 ^ 32 }
-    ensures makes { Makes postorder signs.now trail.old trail.new result (read_in depth (Both ▸ either event_form equality_form) (drop at signs.now)) }
+    ensures makes { Makes postorder signs.now trail.old trail.new result
+        (read_in depth (Both ▸ either event_form equality_form) (drop at signs.now)) }
 {
     let place = expect(signs, at, Mark::Both)?;
     atom(signs, place, trail, depth)
@@ -148,7 +157,8 @@ fn atom_row(
 ) -> Result<(usize, usize), ReadError>
     requires at { at ≤ length signs.now }
     requires few { length signs.now < 2 ^ 32 }
-    ensures makes { MakesRow signs.now trail.old trail.new result (read_in depth (row Both (either event_form equality_form)) (drop at signs.now)) }
+    ensures makes { MakesRow signs.now trail.old trail.new result
+        (read_in depth (row Both (either event_form equality_form)) (drop at signs.now)) }
 {
     let mut place = atom(signs, at, trail, depth)?;
     let mut count = 1;
@@ -169,7 +179,8 @@ fn implied(
 ) -> Result<(usize, usize), ReadError>
     requires at { at ≤ length signs.now }
     requires few { length signs.now < 2 ^ 32 }
-    ensures makes { MakesRow signs.now trail.old trail.new result (read_in depth (Implies ▸ row Both (either event_form equality_form)) (drop at signs.now)) }
+    ensures makes { MakesRow signs.now trail.old trail.new result
+        (read_in depth (Implies ▸ row Both (either event_form equality_form)) (drop at signs.now)) }
 {
     let place = expect(signs, at, Mark::Implies)?;
     atom_row(signs, place, trail, depth)
@@ -186,7 +197,8 @@ fn some_query_vars(
 ) -> Result<usize, ReadError>
     requires at { at ≤ length signs.now }
     requires few { length signs.now < 2 ^ 32 }
-    ensures makes { Makes postorder signs.now trail.old trail.new result (read_in depth (vars_form BindsLocal ◂ Semicolon) (drop at signs.now)) }
+    ensures makes { Makes postorder signs.now trail.old trail.new result
+        (read_in depth (vars_form BindsLocal ◂ Semicolon) (drop at signs.now)) }
 {
     let place = vars(alloc, signs, at, trail, Role::BindsLocal, depth)?;
     let end = expect(signs, place, Mark::Semicolon)?;
@@ -204,7 +216,8 @@ fn query_vars(
 ) -> Result<usize, ReadError>
     requires at { at ≤ length signs.now }
     requires few { length signs.now < 2 ^ 32 }
-    ensures makes { Makes postorder signs.now trail.old trail.new result (read_in depth (listed (vars_form BindsLocal ◂ Semicolon)) (drop at signs.now)) }
+    ensures makes { Makes postorder signs.now trail.old trail.new result
+        (read_in depth (listed (vars_form BindsLocal ◂ Semicolon)) (drop at signs.now)) }
 {
     if is_word_at(signs, at) {
         return some_query_vars(alloc, signs, at, trail, depth);
@@ -224,7 +237,8 @@ fn correspondence(
 ) -> Result<usize, ReadError>
     requires at { at ≤ length signs.now }
     requires few { length signs.now < 2 ^ 32 }
-    ensures makes { Makes postorder signs.now trail.old trail.new result (read_in depth correspondence_form (drop at signs.now)) }
+    ensures makes { Makes postorder signs.now trail.old trail.new result
+        (read_in depth correspondence_form (drop at signs.now)) }
 {
     let place = query_vars(alloc, signs, at, trail, depth)?;
     let place = event(signs, place, trail, depth)?;
@@ -240,7 +254,9 @@ fn correspondence(
 fn secret(signs: &[Sign], at: usize, trail: &mut Trail, depth: u32) -> Result<usize, ReadError>
     requires at { at ≤ length signs.now }
     requires few { length signs.now < 2 ^ 32 }
-    ensures makes { Makes postorder signs.now trail.old trail.new result (read_in depth (made (λ x. lone (SecretHead x)) (Secret ▸ word_form Unchecked)) (drop at signs.now)) }
+    ensures makes { Makes postorder signs.now trail.old trail.new result
+        (read_in depth (made (λ x. lone (SecretHead x)) (Secret ▸ word_form Unchecked))
+        (drop at signs.now)) }
 {
     let place = expect(signs, at, Mark::Secret)?;
     let (name, place) = word(signs, place, &mut trail.uses, Role::Unchecked)?;
@@ -253,7 +269,9 @@ fn secret(signs: &[Sign], at: usize, trail: &mut Trail, depth: u32) -> Result<us
 fn secret_once(signs: &[Sign], at: usize, trail: &mut Trail, depth: u32) -> Result<usize, ReadError>
     requires at { at ≤ length signs.now }
     requires few { length signs.now < 2 ^ 32 }
-    ensures makes { Makes postorder signs.now trail.old trail.new result (read_in depth (made (λ x. lone (SecretOnceHead x)) (SecretOnce ▸ word_form Unchecked)) (drop at signs.now)) }
+    ensures makes { Makes postorder signs.now trail.old trail.new result
+        (read_in depth (made (λ x. lone (SecretOnceHead x)) (SecretOnce ▸ word_form Unchecked))
+        (drop at signs.now)) }
 {
     let place = expect(signs, at, Mark::SecretOnce)?;
     let (name, place) = word(signs, place, &mut trail.uses, Role::Unchecked)?;
@@ -274,7 +292,8 @@ fn begins_secrecy(signs: &[Sign], at: usize) -> bool
 fn secrecy(signs: &[Sign], at: usize, trail: &mut Trail, depth: u32) -> Result<usize, ReadError>
     requires at { at ≤ length signs.now }
     requires few { length signs.now < 2 ^ 32 }
-    ensures makes { Makes postorder signs.now trail.old trail.new result (read_in depth secrecy_form (drop at signs.now)) }
+    ensures makes { Makes postorder signs.now trail.old trail.new result
+        (read_in depth secrecy_form (drop at signs.now)) }
 {
     if is_at(signs, at, Mark::Secret) {
         return secret(signs, at, trail, depth);
@@ -293,7 +312,8 @@ fn query(
 ) -> Result<usize, ReadError>
     requires at { at ≤ length signs.now }
     requires few { length signs.now < 2 ^ 32 }
-    ensures makes { Makes postorder signs.now trail.old trail.new result (read_in depth (either secrecy_form correspondence_form) (drop at signs.now)) }
+    ensures makes { Makes postorder signs.now trail.old trail.new result
+        (read_in depth (either secrecy_form correspondence_form) (drop at signs.now)) }
 {
     if begins_secrecy(signs, at) {
         return secrecy(signs, at, trail, depth);
@@ -313,7 +333,8 @@ pub fn query_decl(
 ) -> Result<usize, ReadError>
     requires at { at ≤ length signs.now }
     requires few { length signs.now < 2 ^ 32 }
-    ensures declares { Declares signs.now trail.old trail.new heard.old.items heard.new.items result (read_in depth query_form (drop at signs.now)) }
+    ensures declares { Declares signs.now trail.old trail.new heard.old.items heard.new.items
+        result (read_in depth query_form (drop at signs.now)) }
 {
     let place = expect(signs, at, Mark::QueryWord)?;
     note(signs, place, &mut trail.uses, Role::Enters(Region::InQuery))?;

@@ -38,7 +38,8 @@ fn type_option(signs: &[Sign], at: usize, depth: u32) -> Result<(TypeOption, usi
 fn next_option(signs: &[Sign], at: usize, depth: u32) -> Result<(TypeOption, usize), ReadError>
     requires at { at ≤ length signs.now }
     requires few { length signs.now < 2 ^ 32 }
-    ensures gives { Gives signs.now [] [] result (read_in depth (Comma ▸ option_form) (drop at signs.now)) }
+    ensures gives { Gives signs.now [] [] result
+        (read_in depth (Comma ▸ option_form) (drop at signs.now)) }
 {
     let place = expect(signs, at, Mark::Comma)?;
     type_option(signs, place, depth)
@@ -54,7 +55,8 @@ fn option_row(
 ) -> Result<(Vec<TypeOption>, usize), ReadError>
     requires at { at ≤ length signs.now }
     requires few { length signs.now < 2 ^ 32 }
-    ensures gives { GivesList signs.now [] [] result (read_in depth (row Comma option_form) (drop at signs.now)) }
+    ensures gives { GivesList signs.now [] [] result
+        (read_in depth (row Comma option_form) (drop at signs.now)) }
 {
     let mut options = Vec::new(alloc);
     let (option, mut place) = type_option(signs, at, depth)?;
@@ -77,7 +79,8 @@ fn some_options(
 ) -> Result<(Vec<TypeOption>, usize), ReadError>
     requires at { at ≤ length signs.now }
     requires few { length signs.now < 2 ^ 32 }
-    ensures gives { GivesPlainList signs.now result (read_in depth (square (row Comma option_form)) (drop at signs.now)) }
+    ensures gives { GivesPlainList signs.now result
+        (read_in depth (square (row Comma option_form)) (drop at signs.now)) }
 {
     let place = open(signs, at, depth, Mark::OpenSquare)?;
     let (options, place) = option_row(alloc, signs, place, depth)?;
@@ -95,7 +98,8 @@ fn type_options(
 ) -> Result<(Vec<TypeOption>, usize), ReadError>
     requires at { at ≤ length signs.now }
     requires few { length signs.now < 2 ^ 32 }
-    ensures gives { GivesPlainList signs.now result (read_in depth options_form (drop at signs.now)) }
+    ensures gives { GivesPlainList signs.now result
+        (read_in depth options_form (drop at signs.now)) }
 {
     if is_at(signs, at, Mark::OpenSquare) {
         return some_options(alloc, signs, at, depth);
@@ -149,7 +153,8 @@ pub fn type_decl(
 ) -> Result<usize, ReadError>
     requires at { at ≤ length signs.now }
     requires few { length signs.now < 2 ^ 32 }
-    ensures declares { Declares signs.now trail.old trail.new heard.old.items heard.new.items result (read_in depth type_form (drop at signs.now)) }
+    ensures declares { Declares signs.now trail.old trail.new heard.old.items heard.new.items
+        result (read_in depth type_form (drop at signs.now)) }
 {
     let place = expect(signs, at, Mark::TypeWord)?;
     let (name, place) = word(signs, place, &mut trail.uses, Role::Declares(Asked::AType))?;

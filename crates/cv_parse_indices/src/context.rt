@@ -55,7 +55,8 @@ pub fn second_place(place: Place, head: Head) -> Place
 
 /// The context of the next tree. Where none is left, that is the whole process.
 pub fn next_context(stack: &mut Vec<Context>) -> Context
-    ensures { (names : List ℕ) → Descends (length names) (reverse stack.old.items) → Popped names stack.old.items stack.new.items result }
+    ensures { (names : List ℕ) → Descends (length names) (reverse stack.old.items)
+        → Popped names stack.old.items stack.new.items result }
 {
     stack.pop().unwrap_or(Context {
         level: 0,

@@ -12,7 +12,8 @@ use std::alloc::{AllocError, Global};
 
 /// The parts of the game that a process stands for.
 pub fn fill(alloc: Global, makes: &[Make]) -> Result<Vec<Make>, AllocError>
-    ensures { (t : Tree) → makes.now ≡ postorder t → IfOk result (λ parts. parts.items ≡ postorder (filled t)) }
+    ensures { (t : Tree) → makes.now ≡ postorder t
+        → IfOk result (λ parts. parts.items ≡ postorder (filled t)) }
 {
     let sites = first_sites(alloc, makes)?;
     let mut current = Current::new(alloc);

@@ -31,8 +31,10 @@ struct Weight {
 /// How many syntax nodes the game of a process has, and how many its longest path has. A number above
 /// 4,294,967,295 is that number instead.
 pub fn measure(alloc: Global, makes: &[Make]) -> Result<Extent, AllocError>
-    ensures nodes { (t : Tree) → makes.now ≡ postorder t → IfOk result (λ m. m.nodes ≡ min (size (filled t)) 4294967295) }
-    ensures depth { (t : Tree) → makes.now ≡ postorder t → IfOk result (λ m. m.depth ≡ min (tree_depth (filled t)) 4294967295) }
+    ensures nodes { (t : Tree) → makes.now ≡ postorder t
+        → IfOk result (λ m. m.nodes ≡ min (size (filled t)) 4294967295) }
+    ensures depth { (t : Tree) → makes.now ≡ postorder t
+        → IfOk result (λ m. m.depth ≡ min (tree_depth (filled t)) 4294967295) }
 {
     let sites = first_sites(alloc, makes)?;
     let mut current = Current::new(alloc);
@@ -60,8 +62,11 @@ pub fn measure(alloc: Global, makes: &[Make]) -> Result<Extent, AllocError>
 /// What one part of the text weighs in the game.
 fn weigh(sites: &HashMap<u32, usize>, current: &Current, context: Context, make: Make) -> Weight
     requires { context.level ≤ length current.now }
-    ensures nodes { result.nodes ≡ min (nodes_at (numbers_of sites.now) (take context.level current.now) context.place make) (2 ^ 64 - 1) }
-    ensures depth { result.depth ≡ depth_at (numbers_of sites.now) (take context.level current.now) context.place make }
+    ensures nodes { result.nodes ≡ min
+        (nodes_at (numbers_of sites.now) (take context.level current.now) context.place make)
+        (2 ^ 64 - 1) }
+    ensures depth { result.depth ≡ depth_at (numbers_of sites.now) (take context.level current.now)
+        context.place make }
 {
     match (context.place, make) {
         (Place::Dropped, _) | (_, Make::Nothing) => Weight { nodes: 0, depth: 0 },
@@ -79,8 +84,10 @@ fn weigh(sites: &HashMap<u32, usize>, current: &Current, context: Context, make:
 /// What a bare name weighs: one node, and one for each index that it gets.
 fn weigh_name(sites: &HashMap<u32, usize>, current: &Current, level: usize, name: u32) -> Weight
     requires { level ≤ length current.now }
-    ensures nodes { result.nodes ≡ min (size (bare (numbers_of sites.now) (take level current.now) name)) (2 ^ 64 - 1) }
-    ensures depth { result.depth ≡ tree_depth (bare (numbers_of sites.now) (take level current.now) name) }
+    ensures nodes { result.nodes ≡ min
+        (size (bare (numbers_of sites.now) (take level current.now) name)) (2 ^ 64 - 1) }
+    ensures depth { result.depth ≡ tree_depth
+        (bare (numbers_of sites.now) (take level current.now) name) }
 {
     let count = index_count(sites, current, level, name);
     Weight {

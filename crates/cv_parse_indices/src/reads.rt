@@ -9,7 +9,8 @@ use std::collections::HashMap;
 pub fn index_count(sites: &HashMap<u32, usize>, current: &Current, level: usize, name: u32) -> usize
     requires { level ≤ length current.now }
     ensures within { result ≤ level }
-    ensures read { bare (numbers_of sites.now) (take level current.now) name ≡ read_at name (take result current.now) }
+    ensures read { bare (numbers_of sites.now) (take level current.now) name
+        ≡ read_at name (take result current.now) }
 {
     if current.holds(level, name) {
         return 0;

@@ -20,7 +20,8 @@ enum Task {
 
 /// How many replications stand above the first definition of each variable.
 pub fn first_sites(alloc: Global, makes: &[Make]) -> Result<HashMap<u32, usize>, AllocError>
-    ensures { (t : Tree) → makes.now ≡ postorder t → IfOk result (λ sites. numbers_of sites ≡ λ x. first_site x 0 t) }
+    ensures { (t : Tree) → makes.now ≡ postorder t
+        → IfOk result (λ sites. numbers_of sites ≡ λ x. first_site x 0 t) }
 {
     let mut sites = HashMap::new(alloc);
     let mut tasks = Vec::new(alloc);

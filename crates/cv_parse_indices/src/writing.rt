@@ -22,7 +22,9 @@ pub fn write_part(
     make: Make,
 ) -> Result<(), AllocError>
     requires { context.level ≤ length current.now }
-    ensures { OnOk result (parts.new.items ≡ parts.old.items ++ written (numbers_of sites.now) (take context.level current.now) context.place make) }
+    ensures { OnOk result (parts.new.items
+        ≡ parts.old.items ++ written (numbers_of sites.now) (take context.level current.now)
+        context.place make) }
 {
     match (context.place, make) {
         (Place::Dropped, _) => Ok(()),
@@ -41,7 +43,8 @@ pub fn write_part(
 /// Writes a read at these indices.
 #[tactic(auto, unfolding(crate::specs::Backward::backward), using(crate::proofs::Rows::writes))]
 fn write_read(parts: &mut Vec<Make>, name: u32, indices: &[u32]) -> Result<(), AllocError>
-    ensures { OnOk result (parts.new.items ≡ parts.old.items ++ backward (read_at name indices.now)) }
+    ensures { OnOk result (parts.new.items
+        ≡ parts.old.items ++ backward (read_at name indices.now)) }
 {
     if indices.is_empty() {
         return write_leaf(parts, name);
@@ -53,7 +56,8 @@ fn write_read(parts: &mut Vec<Make>, name: u32, indices: &[u32]) -> Result<(), A
 
 /// Writes a list of indices.
 fn write_indices(parts: &mut Vec<Make>, indices: &[u32]) -> Result<(), AllocError>
-    ensures { OnOk result (parts.new.items ≡ parts.old.items ++ backward (chain (map (λ i. lone (Leaf i)) indices.now))) }
+    ensures { OnOk result (parts.new.items
+        ≡ parts.old.items ++ backward (chain (map (λ i. lone (Leaf i)) indices.now))) }
 {
     'cells: for _ in indices {
         parts.push(Make::Over(Head::Cons))?;

@@ -80,7 +80,8 @@ fn first_fault(mut table: Vec<Entry>, uses: &[NameUse]) -> Option<NameFault>
 
 /// The fault of the first use of a name that breaks its rule, where there is one.
 pub fn name_fault(alloc: Global, uses: &[NameUse]) -> Result<Option<NameFault>, AllocError>
-    ensures { IfOk result (λ fault. option_map fault_in fault ≡ first_name_fault (uses_of uses.now)) }
+    ensures { IfOk result (λ fault. option_map fault_in fault
+        ≡ first_name_fault (uses_of uses.now)) }
 {
     let table = survey(alloc, uses)?;
     Ok(first_fault(table, uses))

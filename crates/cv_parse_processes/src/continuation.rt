@@ -26,7 +26,8 @@ pub fn variable(
 ) -> Result<((u32, u32), usize), ReadError>
     requires at { at ≤ length signs.now }
     requires few { length signs.now < 2 ^ 32 }
-    ensures gives { Gives signs.now uses.old.items uses.new.items result (read_in depth (typed_form (variables_of runs)) (drop at signs.now)) }
+    ensures gives { Gives signs.now uses.old.items uses.new.items result
+        (read_in depth (typed_form (variables_of runs)) (drop at signs.now)) }
 {
     match runs {
         Continuation::Process => typed(signs, at, uses, Role::BindsVariable, depth),
@@ -45,7 +46,9 @@ pub fn branch_indices(
 ) -> Result<usize, ReadError>
     requires at { at ≤ length signs.now }
     requires few { length signs.now < 2 ^ 32 }
-    ensures makes { Makes postorder signs.now trail.old trail.new result (read_in depth (listed (indices_form (variables_of runs) (bounds_of runs))) (drop at signs.now)) }
+    ensures makes { Makes postorder signs.now trail.old trail.new result
+        (read_in depth (listed (indices_form (variables_of runs) (bounds_of runs)))
+        (drop at signs.now)) }
 {
     match runs {
         Continuation::Process => {

@@ -31,7 +31,8 @@ fn copies(
 ) -> Result<((u32, u32), usize), ReadError>
     requires at { at ≤ length signs.now }
     requires few { length signs.now < 2 ^ 32 }
-    ensures gives { Gives signs.now uses.old.items uses.new.items result (read_in depth copies_form (drop at signs.now)) }
+    ensures gives { Gives signs.now uses.old.items uses.new.items result
+        (read_in depth copies_form (drop at signs.now)) }
 {
     let place = expect(signs, at, Mark::Bang)?;
     let (index, place) = word(signs, place, uses, Role::BindsLocal)?;
@@ -50,7 +51,8 @@ fn maybe_copies(
 ) -> Result<(Option<(u32, u32)>, usize), ReadError>
     requires at { at ≤ length signs.now }
     requires few { length signs.now < 2 ^ 32 }
-    ensures gives { Gives signs.now uses.old.items uses.new.items result (read_in depth (may false copies_form) (drop at signs.now)) }
+    ensures gives { Gives signs.now uses.old.items uses.new.items result
+        (read_in depth (may false copies_form) (drop at signs.now)) }
 {
     if is_at(signs, at, Mark::Bang) {
         let (copied, place) = copies(signs, at, uses, depth)?;
@@ -79,7 +81,8 @@ fn one_choice(
 ) -> Result<((u32, u32), usize), ReadError>
     requires at { at ≤ length signs.now }
     requires few { length signs.now < 2 ^ 32 }
-    ensures gives { Gives signs.now uses.old.items uses.new.items result (read_in depth (New ▸ typed_form BindsLocal ◂ Semicolon) (drop at signs.now)) }
+    ensures gives { Gives signs.now uses.old.items uses.new.items result
+        (read_in depth (New ▸ typed_form BindsLocal ◂ Semicolon) (drop at signs.now)) }
 {
     let place = expect(signs, at, Mark::New)?;
     let (variable, place) = typed(signs, place, uses, Role::BindsLocal, depth)?;
@@ -98,7 +101,8 @@ fn choice_row(
 ) -> Result<(Vec<(u32, u32)>, usize), ReadError>
     requires at { at ≤ length signs.now }
     requires few { length signs.now < 2 ^ 32 }
-    ensures gives { GivesList signs.now uses.old.items uses.new.items result (read_in depth (many false (New ▸ typed_form BindsLocal ◂ Semicolon)) (drop at signs.now)) }
+    ensures gives { GivesList signs.now uses.old.items uses.new.items result
+        (read_in depth (many false (New ▸ typed_form BindsLocal ◂ Semicolon)) (drop at signs.now)) }
 {
     let mut choices = Vec::new(alloc);
     let mut place = at;
@@ -121,7 +125,8 @@ fn choices(
 ) -> Result<usize, ReadError>
     requires at { at ≤ length signs.now }
     requires few { length signs.now < 2 ^ 32 }
-    ensures makes { Makes parts_of_binders signs.now trail.old trail.new result (read_in depth (many false (New ▸ typed_form BindsLocal ◂ Semicolon)) (drop at signs.now)) }
+    ensures makes { Makes parts_of_binders signs.now trail.old trail.new result
+        (read_in depth (many false (New ▸ typed_form BindsLocal ◂ Semicolon)) (drop at signs.now)) }
 {
     let (row, place) = choice_row(alloc, signs, at, &mut trail.uses, depth)?;
     make_binders(alloc, &mut trail.makes, &row)?;
@@ -139,7 +144,8 @@ fn arrow_body(
 ) -> Result<usize, ReadError>
     requires at { at ≤ length signs.now }
     requires few { length signs.now < 2 ^ 32 }
-    ensures makes { Makes postorder signs.now trail.old trail.new result (read_in depth (Arrow ▸ body_form) (drop at signs.now)) }
+    ensures makes { Makes postorder signs.now trail.old trail.new result
+        (read_in depth (Arrow ▸ body_form) (drop at signs.now)) }
 {
     let place = expect(signs, at, Mark::Arrow)?;
     body(alloc, signs, place, trail, depth)
@@ -156,7 +162,8 @@ fn left_function(
 ) -> Result<usize, ReadError>
     requires at { at ≤ length signs.now }
     requires few { length signs.now < 2 ^ 32 }
-    ensures makes { Makes postorder signs.now trail.old trail.new result (read_in depth left_form (drop at signs.now)) }
+    ensures makes { Makes postorder signs.now trail.old trail.new result
+        (read_in depth left_form (drop at signs.now)) }
 {
     let (name, place) = word(signs, at, &mut trail.uses, Role::BindsLocal)?;
     let place = expect(signs, place, Mark::Colon)?;
@@ -180,7 +187,8 @@ pub fn inner_left_function(
 ) -> Result<usize, ReadError>
     requires at { at ≤ length signs.now }
     requires few { length signs.now < 2 ^ 32 }
-    ensures makes { Makes postorder signs.now trail.old trail.new result (below depth LeftFunction (drop at signs.now)) }
+    ensures makes { Makes postorder signs.now trail.old trail.new result
+        (below depth LeftFunction (drop at signs.now)) }
 {
     if depth > 0 {
         return left_function(alloc, signs, at, trail, depth - 1);
@@ -212,7 +220,8 @@ fn arguments_and_body(
 ) -> Result<usize, ReadError>
     requires at { at ≤ length signs.now }
     requires few { length signs.now < 2 ^ 32 }
-    ensures makes { Makes (parts_around bounds count) signs.now trail.old trail.new result (read_in depth arguments_form (drop at signs.now)) }
+    ensures makes { Makes (parts_around bounds count) signs.now trail.old trail.new result
+        (read_in depth arguments_form (drop at signs.now)) }
 {
     let place = var_list(alloc, signs, at, trail, Role::BindsLocal, depth)?;
     trail.makes.push(Make::Over(bounds))?;
@@ -244,7 +253,8 @@ fn new_before(
     requires at { at ≤ length signs.now }
     requires few { length signs.now < 2 ^ 32 }
     requires room { count + depth < 2 ^ 32 }
-    ensures makes { Makes (parts_around bounds count) signs.now trail.old trail.new result (read_in depth new_form (drop at signs.now)) }
+    ensures makes { Makes (parts_around bounds count) signs.now trail.old trail.new result
+        (read_in depth new_form (drop at signs.now)) }
 {
     let place = open(signs, at, depth, Mark::New)?;
     let ((x, t), place) = typed(signs, place, &mut trail.uses, Role::BindsLocal, depth)?;
@@ -269,7 +279,8 @@ fn right_rest(
     requires at { at ≤ length signs.now }
     requires few { length signs.now < 2 ^ 32 }
     requires room { count + depth < 2 ^ 32 }
-    ensures makes { Makes (parts_around bounds count) signs.now trail.old trail.new result (read_in depth rest_form (drop at signs.now)) }
+    ensures makes { Makes (parts_around bounds count) signs.now trail.old trail.new result
+        (read_in depth rest_form (drop at signs.now)) }
 {
     if is_at(signs, at, Mark::New) {
         return new_before(alloc, signs, at, trail, bounds, count, depth);
@@ -292,7 +303,8 @@ fn inner_rest(
     requires at { at ≤ length signs.now }
     requires few { length signs.now < 2 ^ 32 }
     requires room { count + depth ≤ 2 ^ 32 }
-    ensures makes { Makes (parts_around bounds count) signs.now trail.old trail.new result (below depth RightRest (drop at signs.now)) }
+    ensures makes { Makes (parts_around bounds count) signs.now trail.old trail.new result
+        (below depth RightRest (drop at signs.now)) }
 {
     if depth > 0 {
         return right_rest(alloc, signs, at, trail, bounds, count, depth - 1);
@@ -311,7 +323,8 @@ fn right_function(
 ) -> Result<usize, ReadError>
     requires at { at ≤ length signs.now }
     requires few { length signs.now < 2 ^ 32 }
-    ensures makes { Makes postorder signs.now trail.old trail.new result (read_in depth right_form (drop at signs.now)) }
+    ensures makes { Makes postorder signs.now trail.old trail.new result
+        (read_in depth right_form (drop at signs.now)) }
 {
     let (name, place) = word(signs, at, &mut trail.uses, Role::BindsLocal)?;
     let place = expect(signs, place, Mark::Colon)?;
@@ -333,7 +346,8 @@ pub fn inner_right_function(
 ) -> Result<usize, ReadError>
     requires at { at ≤ length signs.now }
     requires few { length signs.now < 2 ^ 32 }
-    ensures makes { Makes postorder signs.now trail.old trail.new result (below depth RightFunction (drop at signs.now)) }
+    ensures makes { Makes postorder signs.now trail.old trail.new result
+        (below depth RightFunction (drop at signs.now)) }
 {
     if depth > 0 {
         return right_function(alloc, signs, at, trail, depth - 1);

@@ -37,7 +37,8 @@ fn inner_function(
 ) -> Result<usize, ReadError>
     requires at { at ≤ length signs.now }
     requires few { length signs.now < 2 ^ 32 }
-    ensures makes { Makes postorder signs.now trail.old trail.new result (below depth (functions_of side) (drop at signs.now)) }
+    ensures makes { Makes postorder signs.now trail.old trail.new result
+        (below depth (functions_of side) (drop at signs.now)) }
 {
     match side {
         Side::Left => inner_left_function(alloc, signs, at, trail, depth),
@@ -57,7 +58,8 @@ fn next_function(
 ) -> Result<usize, ReadError>
     requires at { at ≤ length signs.now }
     requires few { length signs.now < 2 ^ 32 }
-    ensures makes { Makes postorder signs.now trail.old trail.new result (read_in depth (Bar ▸ deeper (functions_of side)) (drop at signs.now)) }
+    ensures makes { Makes postorder signs.now trail.old trail.new result
+        (read_in depth (Bar ▸ deeper (functions_of side)) (drop at signs.now)) }
 {
     let place = expect(signs, at, Mark::Bar)?;
     inner_function(alloc, signs, place, trail, side, depth)
@@ -75,7 +77,8 @@ fn function_row(
 ) -> Result<(usize, usize), ReadError>
     requires at { at ≤ length signs.now }
     requires few { length signs.now < 2 ^ 32 }
-    ensures makes { MakesRow signs.now trail.old trail.new result (read_in depth (row Bar (deeper (functions_of side))) (drop at signs.now)) }
+    ensures makes { MakesRow signs.now trail.old trail.new result
+        (read_in depth (row Bar (deeper (functions_of side))) (drop at signs.now)) }
 {
     let mut place = inner_function(alloc, signs, at, trail, side, depth)?;
     let mut count = 1;
@@ -98,7 +101,8 @@ fn function_list(
 ) -> Result<usize, ReadError>
     requires at { at ≤ length signs.now }
     requires few { length signs.now < 2 ^ 32 }
-    ensures makes { Makes postorder signs.now trail.old trail.new result (read_in depth (made chain (row Bar (deeper (functions_of side)))) (drop at signs.now)) }
+    ensures makes { Makes postorder signs.now trail.old trail.new result
+        (read_in depth (made chain (row Bar (deeper (functions_of side)))) (drop at signs.now)) }
 {
     let (count, place) = function_row(alloc, signs, at, trail, side, depth)?;
     close_chain(&mut trail.makes, count)?;
@@ -117,7 +121,8 @@ fn functions(
 ) -> Result<usize, ReadError>
     requires at { at ≤ length signs.now }
     requires few { length signs.now < 2 ^ 32 }
-    ensures makes { Makes postorder signs.now trail.old trail.new result (read_in depth (functions_form (functions_of side)) (drop at signs.now)) }
+    ensures makes { Makes postorder signs.now trail.old trail.new result
+        (read_in depth (functions_form (functions_of side)) (drop at signs.now)) }
 {
     let place = open(signs, at, depth, Mark::Open)?;
     let place = function_list(alloc, signs, place, trail, side, depth)?;
@@ -136,7 +141,9 @@ fn keyed_functions(
 ) -> Result<usize, ReadError>
     requires at { at ≤ length signs.now }
     requires few { length signs.now < 2 ^ 32 }
-    ensures makes { Makes parts_of_keyed signs.now trail.old trail.new result (read_in depth (New ▸ (typed_form BindsLocal & (Semicolon ▸ functions_form (functions_of side)))) (drop at signs.now)) }
+    ensures makes { Makes parts_of_keyed signs.now trail.old trail.new result
+        (read_in depth (New ▸ (typed_form BindsLocal &
+        (Semicolon ▸ functions_form (functions_of side)))) (drop at signs.now)) }
 {
     let place = expect(signs, at, Mark::New)?;
     let (key, place) = typed(signs, place, &mut trail.uses, Role::BindsLocal, depth)?;
@@ -158,7 +165,8 @@ pub fn group(
 ) -> Result<usize, ReadError>
     requires at { at ≤ length signs.now }
     requires few { length signs.now < 2 ^ 32 }
-    ensures makes { Makes postorder signs.now trail.old trail.new result (read_in depth (group_form (functions_of side)) (drop at signs.now)) }
+    ensures makes { Makes postorder signs.now trail.old trail.new result
+        (read_in depth (group_form (functions_of side)) (drop at signs.now)) }
 {
     let place = expect(signs, at, Mark::Bang)?;
     let (index, place) = word(signs, place, &mut trail.uses, Role::BindsLocal)?;

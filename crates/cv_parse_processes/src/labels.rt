@@ -23,7 +23,8 @@ fn label(signs: &[Sign], at: usize, depth: u32) -> Result<(u64, usize), ReadErro
 pub fn find_label(signs: &[Sign], at: usize, depth: u32) -> Result<(Option<u64>, usize), ReadError>
     requires at { at ≤ length signs.now }
     requires few { length signs.now < 2 ^ 32 }
-    ensures gives { GivesPlain signs.now result (read_in depth (may false (At ▸ number)) (drop at signs.now)) }
+    ensures gives { GivesPlain signs.now result
+        (read_in depth (may false (At ▸ number)) (drop at signs.now)) }
 {
     if is_at(signs, at, Mark::At) {
         let (value, place) = label(signs, at, depth)?;

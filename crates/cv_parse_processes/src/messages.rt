@@ -26,7 +26,8 @@ fn channel_indices(
 ) -> Result<usize, ReadError>
     requires at { at ≤ length signs.now }
     requires few { length signs.now < 2 ^ 32 }
-    ensures makes { Makes postorder signs.now trail.old trail.new result (read_in depth indices_form (drop at signs.now)) }
+    ensures makes { Makes postorder signs.now trail.old trail.new result
+        (read_in depth indices_form (drop at signs.now)) }
 {
     let place = open(signs, at, depth, Mark::OpenSquare)?;
     let place = name_list(
@@ -51,7 +52,8 @@ pub fn inner_indices(
 ) -> Result<usize, ReadError>
     requires at { at ≤ length signs.now }
     requires few { length signs.now < 2 ^ 32 }
-    ensures makes { Makes postorder signs.now trail.old trail.new result (below depth Indices (drop at signs.now)) }
+    ensures makes { Makes postorder signs.now trail.old trail.new result
+        (below depth Indices (drop at signs.now)) }
 {
     let less = descend(signs, at, depth, Mark::OpenSquare)?;
     channel_indices(alloc, signs, at, trail, less)
@@ -68,7 +70,8 @@ fn maybe_indices(
 ) -> Result<usize, ReadError>
     requires at { at ≤ length signs.now }
     requires few { length signs.now < 2 ^ 32 }
-    ensures makes { Makes postorder signs.now trail.old trail.new result (read_in depth (listed (deeper Indices)) (drop at signs.now)) }
+    ensures makes { Makes postorder signs.now trail.old trail.new result
+        (read_in depth (listed (deeper Indices)) (drop at signs.now)) }
 {
     if is_at(signs, at, Mark::OpenSquare) {
         return inner_indices(alloc, signs, at, trail, depth);
@@ -88,7 +91,8 @@ pub fn channel(
 ) -> Result<(u32, usize), ReadError>
     requires at { at ≤ length signs.now }
     requires few { length signs.now < 2 ^ 32 }
-    ensures makes { MakesWith postorder signs.now trail.old trail.new result (read_in depth channel_form (drop at signs.now)) }
+    ensures makes { MakesWith postorder signs.now trail.old trail.new result
+        (read_in depth channel_form (drop at signs.now)) }
 {
     let (name, place) = word(signs, at, &mut trail.uses, Role::Asks(Asked::AChannel))?;
     let place = maybe_indices(alloc, signs, place, trail, depth)?;
@@ -106,7 +110,8 @@ pub fn inner_variables(
 ) -> Result<usize, ReadError>
     requires at { at ≤ length signs.now }
     requires few { length signs.now < 2 ^ 32 }
-    ensures makes { Makes postorder signs.now trail.old trail.new result (below depth Variables (drop at signs.now)) }
+    ensures makes { Makes postorder signs.now trail.old trail.new result
+        (below depth Variables (drop at signs.now)) }
 {
     let less = descend(signs, at, depth, Mark::Open)?;
     var_list(alloc, signs, at, trail, Role::BindsVariable, less)
@@ -123,7 +128,8 @@ fn received(
 ) -> Result<usize, ReadError>
     requires at { at ≤ length signs.now }
     requires few { length signs.now < 2 ^ 32 }
-    ensures makes { Makes postorder signs.now trail.old trail.new result (read_in depth received_form (drop at signs.now)) }
+    ensures makes { Makes postorder signs.now trail.old trail.new result
+        (read_in depth received_form (drop at signs.now)) }
 {
     if is_at(signs, at, Mark::Open) {
         return inner_variables(alloc, signs, at, trail, depth);
@@ -142,7 +148,8 @@ fn then_received(
 ) -> Result<usize, ReadError>
     requires at { at ≤ length signs.now }
     requires few { length signs.now < 2 ^ 32 }
-    ensures makes { Makes postorder signs.now trail.old trail.new result (read_in depth (Comma ▸ received_form) (drop at signs.now)) }
+    ensures makes { Makes postorder signs.now trail.old trail.new result
+        (read_in depth (Comma ▸ received_form) (drop at signs.now)) }
 {
     let place = expect(signs, at, Mark::Comma)?;
     received(alloc, signs, place, trail, depth)
@@ -159,7 +166,8 @@ fn bound_over(
 ) -> Result<(u32, usize), ReadError>
     requires at { at ≤ length signs.now }
     requires few { length signs.now < 2 ^ 32 }
-    ensures makes { MakesOver signs.now trail.old trail.new result (read_in depth (made over (channel_form & (Comma ▸ received_form))) (drop at signs.now)) }
+    ensures makes { MakesOver signs.now trail.old trail.new result
+        (read_in depth (made over (channel_form & (Comma ▸ received_form))) (drop at signs.now)) }
 {
     let (name, place) = channel(alloc, signs, at, trail, depth)?;
     let place = then_received(alloc, signs, place, trail, depth)?;
@@ -177,7 +185,8 @@ fn pattern(
 ) -> Result<(u32, usize), ReadError>
     requires at { at ≤ length signs.now }
     requires few { length signs.now < 2 ^ 32 }
-    ensures makes { MakesOver signs.now trail.old trail.new result (read_in depth pattern_form (drop at signs.now)) }
+    ensures makes { MakesOver signs.now trail.old trail.new result
+        (read_in depth pattern_form (drop at signs.now)) }
 {
     let place = open(signs, at, depth, Mark::Open)?;
     let (name, place) = bound_over(alloc, signs, place, trail, depth)?;
@@ -196,7 +205,8 @@ pub fn inner_pattern(
 ) -> Result<(u32, usize), ReadError>
     requires at { at ≤ length signs.now }
     requires few { length signs.now < 2 ^ 32 }
-    ensures makes { MakesOver signs.now trail.old trail.new result (below depth Pattern (drop at signs.now)) }
+    ensures makes { MakesOver signs.now trail.old trail.new result
+        (below depth Pattern (drop at signs.now)) }
 {
     let less = descend(signs, at, depth, Mark::Open)?;
     pattern(alloc, signs, at, trail, less)
@@ -207,7 +217,8 @@ pub fn inner_pattern(
 fn payload(signs: &[Sign], at: usize, trail: &mut Trail, depth: u32) -> Result<usize, ReadError>
     requires at { at ≤ length signs.now }
     requires few { length signs.now < 2 ^ 32 }
-    ensures makes { Makes postorder signs.now trail.old trail.new result (read_in depth payload_form (drop at signs.now)) }
+    ensures makes { Makes postorder signs.now trail.old trail.new result
+        (read_in depth payload_form (drop at signs.now)) }
 {
     let place = open(signs, at, depth, Mark::Open)?;
     let place = maybe_terms(signs, place, trail, depth)?;
@@ -224,7 +235,8 @@ pub fn inner_payload(
 ) -> Result<usize, ReadError>
     requires at { at ≤ length signs.now }
     requires few { length signs.now < 2 ^ 32 }
-    ensures makes { Makes postorder signs.now trail.old trail.new result (below depth Payload (drop at signs.now)) }
+    ensures makes { Makes postorder signs.now trail.old trail.new result
+        (below depth Payload (drop at signs.now)) }
 {
     let less = descend(signs, at, depth, Mark::Open)?;
     payload(signs, at, trail, less)
@@ -235,7 +247,8 @@ pub fn inner_payload(
 fn sent(signs: &[Sign], at: usize, trail: &mut Trail, depth: u32) -> Result<usize, ReadError>
     requires at { at ≤ length signs.now }
     requires few { length signs.now < 2 ^ 32 }
-    ensures makes { Makes postorder signs.now trail.old trail.new result (read_in depth sent_form (drop at signs.now)) }
+    ensures makes { Makes postorder signs.now trail.old trail.new result
+        (read_in depth sent_form (drop at signs.now)) }
 {
     if is_at(signs, at, Mark::Open) {
         return inner_payload(signs, at, trail, depth);
@@ -248,7 +261,8 @@ fn sent(signs: &[Sign], at: usize, trail: &mut Trail, depth: u32) -> Result<usiz
 fn then_sent(signs: &[Sign], at: usize, trail: &mut Trail, depth: u32) -> Result<usize, ReadError>
     requires at { at ≤ length signs.now }
     requires few { length signs.now < 2 ^ 32 }
-    ensures makes { Makes postorder signs.now trail.old trail.new result (read_in depth (Comma ▸ sent_form) (drop at signs.now)) }
+    ensures makes { Makes postorder signs.now trail.old trail.new result
+        (read_in depth (Comma ▸ sent_form) (drop at signs.now)) }
 {
     let place = expect(signs, at, Mark::Comma)?;
     sent(signs, place, trail, depth)
@@ -265,7 +279,8 @@ fn sent_over(
 ) -> Result<(u32, usize), ReadError>
     requires at { at ≤ length signs.now }
     requires few { length signs.now < 2 ^ 32 }
-    ensures makes { MakesOver signs.now trail.old trail.new result (read_in depth (made over (channel_form & (Comma ▸ sent_form))) (drop at signs.now)) }
+    ensures makes { MakesOver signs.now trail.old trail.new result
+        (read_in depth (made over (channel_form & (Comma ▸ sent_form))) (drop at signs.now)) }
 {
     let (name, place) = channel(alloc, signs, at, trail, depth)?;
     let place = then_sent(signs, place, trail, depth)?;
@@ -283,7 +298,8 @@ fn sending(
 ) -> Result<(u32, usize), ReadError>
     requires at { at ≤ length signs.now }
     requires few { length signs.now < 2 ^ 32 }
-    ensures makes { MakesOver signs.now trail.old trail.new result (read_in depth sending_form (drop at signs.now)) }
+    ensures makes { MakesOver signs.now trail.old trail.new result
+        (read_in depth sending_form (drop at signs.now)) }
 {
     let place = open(signs, at, depth, Mark::Open)?;
     let (name, place) = sent_over(alloc, signs, place, trail, depth)?;
@@ -302,7 +318,8 @@ pub fn inner_sending(
 ) -> Result<(u32, usize), ReadError>
     requires at { at ≤ length signs.now }
     requires few { length signs.now < 2 ^ 32 }
-    ensures makes { MakesOver signs.now trail.old trail.new result (below depth Sending (drop at signs.now)) }
+    ensures makes { MakesOver signs.now trail.old trail.new result
+        (below depth Sending (drop at signs.now)) }
 {
     let less = descend(signs, at, depth, Mark::Open)?;
     sending(alloc, signs, at, trail, less)

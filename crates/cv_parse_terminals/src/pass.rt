@@ -41,7 +41,9 @@ fn number_of(names: &mut Names, text: &str) -> Result<u32, AllocError>
 fn text_sign(names: &mut Names, counts: &mut Counts, text: &str) -> Result<Sign, AllocError>
     requires names { length names.old + 1 < 2 ^ 32 }
     requires finds { counts.old.finds + 1 < 2 ^ 64 }
-    ensures step { IfOk result (λ s. text_step names.old counts.old text.now (mark_of_text text.now) ≡ record { signs = s ∷ []; names = names.new; counts = counts.new }) }
+    ensures step { IfOk result (λ s. text_step names.old counts.old text.now
+        (mark_of_text text.now) ≡ record
+        { signs = s ∷ []; names = names.new; counts = counts.new }) }
     ensures err { OnErr result (names.new ≡ names.old) }
 {
     if let Some(mark) = spelled(text) {
@@ -64,7 +66,8 @@ fn token_sign(
     requires names { length names.old + 1 < 2 ^ 32 }
     requires finds { counts.old.finds + 1 < 2 ^ 64 }
     requires inner { kind ≢ TokenKind.End }
-    ensures step { IfOk result (λ s. token_step names.old counts.old kind text.now ≡ record { signs = s ∷ []; names = names.new; counts = counts.new }) }
+    ensures step { IfOk result (λ s. token_step names.old counts.old kind text.now
+        ≡ record { signs = s ∷ []; names = names.new; counts = counts.new }) }
     ensures err { OnErr result (names.new ≡ names.old) }
 {
     match kind {
@@ -78,7 +81,8 @@ fn token_sign(
 fn unnamed_sign(alloc: Global, names: &mut Names, counts: &mut Counts) -> Result<Sign, AllocError>
     requires names { length names.old + 1 < 2 ^ 32 }
     requires unnamed { counts.old.unnamed + 1 < 2 ^ 64 }
-    ensures step { IfOk result (λ s. unnamed_step names.old counts.old ≡ record { signs = s ∷ []; names = names.new; counts = counts.new }) }
+    ensures step { IfOk result (λ s. unnamed_step names.old counts.old
+        ≡ record { signs = s ∷ []; names = names.new; counts = counts.new }) }
     ensures err { OnErr result (names.new ≡ names.old) }
 {
     counts.unnamed += 1;
@@ -100,7 +104,8 @@ fn sign_before(
     requires finds { counts.old.finds + 1 < 2 ^ 64 }
     requires unnamed { counts.old.unnamed + 1 < 2 ^ 64 }
     requires inner { kind ≢ TokenKind.End }
-    ensures step { IfOk result (λ s. step_before names.old counts.old kind text.now next.now ≡ record { signs = s ∷ []; names = names.new; counts = counts.new }) }
+    ensures step { IfOk result (λ s. step_before names.old counts.old kind text.now next.now
+        ≡ record { signs = s ∷ []; names = names.new; counts = counts.new }) }
     ensures err { OnErr result (names.new ≡ names.old) }
 {
     if text == "collision" && next == "new" {
@@ -119,8 +124,10 @@ fn signs_in_order(
 ) -> Result<Vec<Sign>, AllocError>
     requires from { from < length tokens.now }
     requires few { length names.old + length tokens.now < 2 ^ 32 }
-    ensures signs { IfOk result (λ v. (signs_from names.old no_counts (drop from tokens.now)).signs ≡ v.items) }
-    ensures names { IfOk result (λ _. (signs_from names.old no_counts (drop from tokens.now)).names ≡ names.new) }
+    ensures signs { IfOk result (λ v. (signs_from names.old no_counts (drop from tokens.now)).signs
+        ≡ v.items) }
+    ensures names { IfOk result (λ _. (signs_from names.old no_counts (drop from tokens.now)).names
+        ≡ names.new) }
     ensures count { IfOk result (λ v. from + length v.items + 1 ≡ length tokens.now) }
     ensures kept { take (length names.old) names.new ≡ names.old }
 {
@@ -142,8 +149,10 @@ fn signs_in_order(
 // The signs of the tokens of a file as they are read, all but the end token.
 fn read_signs(alloc: Global, names: &mut Names, tokens: &Tokens) -> Result<Vec<Sign>, AllocError>
     requires few { length names.old + length tokens.now < 2 ^ 32 }
-    ensures signs { IfOk result (λ v. (signs_from names.old no_counts (file_tokens tokens.now)).signs ≡ v.items) }
-    ensures names { IfOk result (λ _. (signs_from names.old no_counts (file_tokens tokens.now)).names ≡ names.new) }
+    ensures signs { IfOk result (λ v.
+        (signs_from names.old no_counts (file_tokens tokens.now)).signs ≡ v.items) }
+    ensures names { IfOk result (λ _.
+        (signs_from names.old no_counts (file_tokens tokens.now)).names ≡ names.new) }
     ensures count { IfOk result (λ v. length v.items + 1 ≡ length tokens.now) }
 {
     let count = tokens.len() - 1;
@@ -201,8 +210,10 @@ pub fn more_signs(
 ) -> Result<Vec<Sign>, AllocError>
     requires from { from < length tokens.now }
     requires few { length names.old + length tokens.now < 2 ^ 32 }
-    ensures signs { IfOk result (λ v. (signs_from names.old no_counts (drop from tokens.now)).signs ≡ v.items) }
-    ensures names { IfOk result (λ _. (signs_from names.old no_counts (drop from tokens.now)).names ≡ names.new) }
+    ensures signs { IfOk result (λ v. (signs_from names.old no_counts (drop from tokens.now)).signs
+        ≡ v.items) }
+    ensures names { IfOk result (λ _. (signs_from names.old no_counts (drop from tokens.now)).names
+        ≡ names.new) }
     ensures count { IfOk result (λ v. from + length v.items + 1 ≡ length tokens.now) }
     ensures kept { take (length names.old) names.new ≡ names.old }
     ensures err { OnErr result (names.new ≡ names.old) }
@@ -217,9 +228,11 @@ pub fn more_signs(
 
 /// Each sign says what its token says, as it is read, and each name has one number.
 pub fn signs_tell_tokens()
-    ensures tell { (ts : List Token) → AreTokens ts → TellInOrder (signs_of ts).names (file_tokens ts) (signs_of ts).signs }
+    ensures tell { (ts : List Token) → AreTokens ts
+        → TellInOrder (signs_of ts).names (file_tokens ts) (signs_of ts).signs }
     ensures count { (ts : List Token) → AreTokens ts → length (signs_of ts).signs + 1 ≡ length ts }
-    ensures below { (ts : List Token) → AreTokens ts → All (NumberBelow (length (signs_of ts).names)) (signs_of ts).signs }
+    ensures below { (ts : List Token) → AreTokens ts
+        → All (NumberBelow (length (signs_of ts).names)) (signs_of ts).signs }
     ensures distinct { (ts : List Token) → NoRepeat (signs_of ts).names }
     ensures bool_first { (ts : List Token) → slice_get (signs_of ts).names 0 ≡ Some (codes "bool") }
 {}
@@ -227,7 +240,9 @@ pub fn signs_tell_tokens()
 /// The names of a file are those of its tokens outside braces, in order: what stands between the braces of a
 /// proof block adds none. Without a brace all tokens are read as they stand.
 pub fn file_names_stand_outside_braces()
-    ensures names { (ts : List Token) → AreTokens ts → (signs_of ts).names ≡ (signs_in (outside ts)).names }
-    ensures plain { (ts : List Token) → All (λ t. opens t.text ≡ false) ts → signs_of ts ≡ signs_in ts }
+    ensures names { (ts : List Token) → AreTokens ts
+        → (signs_of ts).names ≡ (signs_in (outside ts)).names }
+    ensures plain { (ts : List Token) → All (λ t. opens t.text ≡ false) ts
+        → signs_of ts ≡ signs_in ts }
     ensures small { (signs_of small).names ≡ small_names }
 {}

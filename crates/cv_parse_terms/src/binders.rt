@@ -64,7 +64,8 @@ pub fn name_list(
 ) -> Result<usize, ReadError>
     requires at { at ≤ length signs.now }
     requires few { length signs.now < 2 ^ 32 }
-    ensures makes { Makes postorder signs.now trail.old trail.new result (read_in depth (made names (row Comma (item_form kind))) (drop at signs.now)) }
+    ensures makes { Makes postorder signs.now trail.old trail.new result
+        (read_in depth (made names (row Comma (item_form kind))) (drop at signs.now)) }
 {
     let (xs, place) = item_row(alloc, signs, at, &mut trail.uses, kind, depth)?;
     make_names(alloc, &mut trail.makes, &xs)?;
@@ -83,7 +84,8 @@ fn pair_list(
 ) -> Result<usize, ReadError>
     requires at { at ≤ length signs.now }
     requires few { length signs.now < 2 ^ 32 }
-    ensures makes { Makes postorder signs.now trail.old trail.new result (read_in depth (made binders (row Comma (pair_form kind))) (drop at signs.now)) }
+    ensures makes { Makes postorder signs.now trail.old trail.new result
+        (read_in depth (made binders (row Comma (pair_form kind))) (drop at signs.now)) }
 {
     let (row, place) = pair_row(alloc, signs, at, &mut trail.uses, kind, depth)?;
     make_binders(alloc, &mut trail.makes, &row)?;
@@ -101,7 +103,8 @@ pub fn vars(
 ) -> Result<usize, ReadError>
     requires at { at ≤ length signs.now }
     requires few { length signs.now < 2 ^ 32 }
-    ensures makes { Makes postorder signs.now trail.old trail.new result (read_in depth (vars_form role) (drop at signs.now)) }
+    ensures makes { Makes postorder signs.now trail.old trail.new result
+        (read_in depth (vars_form role) (drop at signs.now)) }
 {
     pair_list(alloc, signs, at, trail, Pair::Typed(role), depth)
 }
@@ -118,7 +121,8 @@ pub fn indices(
 ) -> Result<usize, ReadError>
     requires at { at ≤ length signs.now }
     requires few { length signs.now < 2 ^ 32 }
-    ensures makes { Makes postorder signs.now trail.old trail.new result (read_in depth (indices_form index bound) (drop at signs.now)) }
+    ensures makes { Makes postorder signs.now trail.old trail.new result
+        (read_in depth (indices_form index bound) (drop at signs.now)) }
 {
     pair_list(alloc, signs, at, trail, Pair::Within(index, bound), depth)
 }
@@ -135,7 +139,8 @@ pub fn one_binder(
 ) -> Result<usize, ReadError>
     requires at { at ≤ length signs.now }
     requires few { length signs.now < 2 ^ 32 }
-    ensures makes { Makes postorder signs.now trail.old trail.new result (read_in depth (made (λ b. binders (b ∷ [])) (typed_form role)) (drop at signs.now)) }
+    ensures makes { Makes postorder signs.now trail.old trail.new result
+        (read_in depth (made (λ b. binders (b ∷ [])) (typed_form role)) (drop at signs.now)) }
 {
     let (variable, place) = typed(signs, at, &mut trail.uses, role, depth)?;
     make_binders(alloc, &mut trail.makes, &[variable])?;
@@ -154,7 +159,8 @@ pub fn maybe_vars(
 ) -> Result<usize, ReadError>
     requires at { at ≤ length signs.now }
     requires few { length signs.now < 2 ^ 32 }
-    ensures makes { Makes postorder signs.now trail.old trail.new result (read_in depth (listed (vars_form role)) (drop at signs.now)) }
+    ensures makes { Makes postorder signs.now trail.old trail.new result
+        (read_in depth (listed (vars_form role)) (drop at signs.now)) }
 {
     if is_word_at(signs, at) {
         return vars(alloc, signs, at, trail, role, depth);
@@ -176,7 +182,8 @@ pub fn maybe_indices(
 ) -> Result<usize, ReadError>
     requires at { at ≤ length signs.now }
     requires few { length signs.now < 2 ^ 32 }
-    ensures makes { Makes postorder signs.now trail.old trail.new result (read_in depth (listed (indices_form index bound)) (drop at signs.now)) }
+    ensures makes { Makes postorder signs.now trail.old trail.new result
+        (read_in depth (listed (indices_form index bound)) (drop at signs.now)) }
 {
     if is_word_at(signs, at) {
         return indices(alloc, signs, at, trail, index, bound, depth);
@@ -197,7 +204,8 @@ pub fn var_list(
 ) -> Result<usize, ReadError>
     requires at { at ≤ length signs.now }
     requires few { length signs.now < 2 ^ 32 }
-    ensures makes { Makes postorder signs.now trail.old trail.new result (read_in depth (var_list_form role) (drop at signs.now)) }
+    ensures makes { Makes postorder signs.now trail.old trail.new result
+        (read_in depth (var_list_form role) (drop at signs.now)) }
 {
     let place = open(signs, at, depth, Mark::Open)?;
     let place = maybe_vars(alloc, signs, place, trail, role, depth)?;

@@ -27,7 +27,8 @@ fn cell_indices(
 ) -> Result<usize, ReadError>
     requires at { at ≤ length signs.now }
     requires few { length signs.now < 2 ^ 32 }
-    ensures makes { Makes (parts_of_cell x) signs.now trail.old trail.new result (read_in depth (may false (deeper Subscript)) (drop at signs.now)) }
+    ensures makes { Makes (parts_of_cell x) signs.now trail.old trail.new result
+        (read_in depth (may false (deeper Subscript)) (drop at signs.now)) }
 {
     if is_at(signs, at, Mark::OpenSquare) {
         let place = inner_subscript(signs, at, trail, depth)?;
@@ -44,7 +45,8 @@ fn cell_indices(
 fn cell(signs: &[Sign], at: usize, trail: &mut Trail, depth: u32) -> Result<usize, ReadError>
     requires at { at ≤ length signs.now }
     requires few { length signs.now < 2 ^ 32 }
-    ensures makes { Makes postorder signs.now trail.old trail.new result (read_in depth cell_form (drop at signs.now)) }
+    ensures makes { Makes postorder signs.now trail.old trail.new result
+        (read_in depth cell_form (drop at signs.now)) }
 {
     if depth == 0 {
         return Err(shallow(signs, at, is_word_at(signs, at)));
@@ -58,7 +60,8 @@ fn cell(signs: &[Sign], at: usize, trail: &mut Trail, depth: u32) -> Result<usiz
 fn inner_cell(signs: &[Sign], at: usize, trail: &mut Trail, depth: u32) -> Result<usize, ReadError>
     requires at { at ≤ length signs.now }
     requires few { length signs.now < 2 ^ 32 }
-    ensures makes { Makes postorder signs.now trail.old trail.new result (below depth OneCell (drop at signs.now)) }
+    ensures makes { Makes postorder signs.now trail.old trail.new result
+        (below depth OneCell (drop at signs.now)) }
 {
     if depth > 0 {
         return cell(signs, at, trail, depth - 1);
@@ -71,7 +74,8 @@ fn inner_cell(signs: &[Sign], at: usize, trail: &mut Trail, depth: u32) -> Resul
 fn next_cell(signs: &[Sign], at: usize, trail: &mut Trail, depth: u32) -> Result<usize, ReadError>
     requires at { at ≤ length signs.now }
     requires few { length signs.now < 2 ^ 32 }
-    ensures makes { Makes postorder signs.now trail.old trail.new result (read_in depth (Comma ▸ deeper OneCell) (drop at signs.now)) }
+    ensures makes { Makes postorder signs.now trail.old trail.new result
+        (read_in depth (Comma ▸ deeper OneCell) (drop at signs.now)) }
 {
     let place = expect(signs, at, Mark::Comma)?;
     inner_cell(signs, place, trail, depth)
@@ -87,7 +91,8 @@ fn cell_row(
 ) -> Result<(usize, usize), ReadError>
     requires at { at ≤ length signs.now }
     requires few { length signs.now < 2 ^ 32 }
-    ensures makes { MakesRow signs.now trail.old trail.new result (read_in depth (row Comma (deeper OneCell)) (drop at signs.now)) }
+    ensures makes { MakesRow signs.now trail.old trail.new result
+        (read_in depth (row Comma (deeper OneCell)) (drop at signs.now)) }
 {
     let mut place = inner_cell(signs, at, trail, depth)?;
     let mut count = 1;
@@ -103,7 +108,8 @@ fn cell_row(
 fn cell_list(signs: &[Sign], at: usize, trail: &mut Trail, depth: u32) -> Result<usize, ReadError>
     requires at { at ≤ length signs.now }
     requires few { length signs.now < 2 ^ 32 }
-    ensures makes { Makes postorder signs.now trail.old trail.new result (read_in depth (made chain (row Comma (deeper OneCell))) (drop at signs.now)) }
+    ensures makes { Makes postorder signs.now trail.old trail.new result
+        (read_in depth (made chain (row Comma (deeper OneCell))) (drop at signs.now)) }
 {
     let (count, place) = cell_row(signs, at, trail, depth)?;
     close_chain(&mut trail.makes, count)?;
@@ -115,7 +121,8 @@ fn cell_list(signs: &[Sign], at: usize, trail: &mut Trail, depth: u32) -> Result
 fn cells(signs: &[Sign], at: usize, trail: &mut Trail, depth: u32) -> Result<usize, ReadError>
     requires at { at ≤ length signs.now }
     requires few { length signs.now < 2 ^ 32 }
-    ensures makes { Makes postorder signs.now trail.old trail.new result (read_in depth cells_form (drop at signs.now)) }
+    ensures makes { Makes postorder signs.now trail.old trail.new result
+        (read_in depth cells_form (drop at signs.now)) }
 {
     let place = open(signs, at, depth, Mark::Open)?;
     let place = cell_list(signs, place, trail, depth)?;
@@ -132,7 +139,8 @@ pub fn inner_cells(
 ) -> Result<usize, ReadError>
     requires at { at ≤ length signs.now }
     requires few { length signs.now < 2 ^ 32 }
-    ensures makes { Makes postorder signs.now trail.old trail.new result (below depth Cells (drop at signs.now)) }
+    ensures makes { Makes postorder signs.now trail.old trail.new result
+        (below depth Cells (drop at signs.now)) }
 {
     let less = descend(signs, at, depth, Mark::Open)?;
     cells(signs, at, trail, less)
@@ -143,7 +151,8 @@ pub fn inner_cells(
 fn holding(signs: &[Sign], at: usize, trail: &mut Trail, depth: u32) -> Result<usize, ReadError>
     requires at { at ≤ length signs.now }
     requires few { length signs.now < 2 ^ 32 }
-    ensures makes { Makes postorder signs.now trail.old trail.new result (read_in depth (Both ▸ deeper Term) (drop at signs.now)) }
+    ensures makes { Makes postorder signs.now trail.old trail.new result
+        (read_in depth (Both ▸ deeper Term) (drop at signs.now)) }
 {
     let place = expect(signs, at, Mark::Both)?;
     inner_term(signs, place, trail, depth)
@@ -159,7 +168,8 @@ fn maybe_holding(
 ) -> Result<usize, ReadError>
     requires at { at ≤ length signs.now }
     requires few { length signs.now < 2 ^ 32 }
-    ensures makes { Makes postorder signs.now trail.old trail.new result (read_in depth (made (or_else yes) (may false (Both ▸ deeper Term))) (drop at signs.now)) }
+    ensures makes { Makes postorder signs.now trail.old trail.new result
+        (read_in depth (made (or_else yes) (may false (Both ▸ deeper Term))) (drop at signs.now)) }
 {
     if is_at(signs, at, Mark::Both) {
         return holding(signs, at, trail, depth);
@@ -178,7 +188,8 @@ fn defined_condition(
 ) -> Result<usize, ReadError>
     requires at { at ≤ length signs.now }
     requires few { length signs.now < 2 ^ 32 }
-    ensures makes { Makes parts_of_both signs.now trail.old trail.new result (read_in depth defined_form (drop at signs.now)) }
+    ensures makes { Makes parts_of_both signs.now trail.old trail.new result
+        (read_in depth defined_form (drop at signs.now)) }
 {
     let place = expect(signs, at, Mark::Defined)?;
     let place = inner_cells(signs, place, trail, depth)?;
@@ -195,7 +206,8 @@ fn plain_condition(
 ) -> Result<usize, ReadError>
     requires at { at ≤ length signs.now }
     requires few { length signs.now < 2 ^ 32 }
-    ensures makes { Makes parts_of_both signs.now trail.old trail.new result (read_in depth plain_form (drop at signs.now)) }
+    ensures makes { Makes parts_of_both signs.now trail.old trail.new result
+        (read_in depth plain_form (drop at signs.now)) }
 {
     trail.makes.push(Make::Nothing)?;
     inner_term(signs, at, trail, depth)
@@ -211,7 +223,8 @@ pub fn condition(
 ) -> Result<usize, ReadError>
     requires at { at ≤ length signs.now }
     requires few { length signs.now < 2 ^ 32 }
-    ensures makes { Makes parts_of_both signs.now trail.old trail.new result (read_in depth condition_form (drop at signs.now)) }
+    ensures makes { Makes parts_of_both signs.now trail.old trail.new result
+        (read_in depth condition_form (drop at signs.now)) }
 {
     if is_at(signs, at, Mark::Defined) {
         return defined_condition(signs, at, trail, depth);

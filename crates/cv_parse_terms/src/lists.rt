@@ -40,7 +40,8 @@ pub fn type_name(
 ) -> Result<(u32, usize), ReadError>
     requires at { at ≤ length signs.now }
     requires few { length signs.now < 2 ^ 32 }
-    ensures gives { Gives signs.now uses.old.items uses.new.items result (read_in depth type_form (drop at signs.now)) }
+    ensures gives { Gives signs.now uses.old.items uses.new.items result
+        (read_in depth type_form (drop at signs.now)) }
 {
     if is_at(signs, at, Mark::Bool) {
         let place = expect(signs, at, Mark::Bool)?;
@@ -60,7 +61,8 @@ pub fn typed(
 ) -> Result<((u32, u32), usize), ReadError>
     requires at { at ≤ length signs.now }
     requires few { length signs.now < 2 ^ 32 }
-    ensures gives { Gives signs.now uses.old.items uses.new.items result (read_in depth (typed_form role) (drop at signs.now)) }
+    ensures gives { Gives signs.now uses.old.items uses.new.items result
+        (read_in depth (typed_form role) (drop at signs.now)) }
 {
     let (x, place) = word(signs, at, uses, role)?;
     let place = expect(signs, place, Mark::Colon)?;
@@ -79,7 +81,8 @@ fn one_item(
 ) -> Result<(u32, usize), ReadError>
     requires at { at ≤ length signs.now }
     requires few { length signs.now < 2 ^ 32 }
-    ensures gives { Gives signs.now uses.old.items uses.new.items result (read_in depth (item_form kind) (drop at signs.now)) }
+    ensures gives { Gives signs.now uses.old.items uses.new.items result
+        (read_in depth (item_form kind) (drop at signs.now)) }
 {
     match kind {
         Item::Name(role) => word(signs, at, uses, role),
@@ -98,7 +101,8 @@ fn next_item(
 ) -> Result<(u32, usize), ReadError>
     requires at { at ≤ length signs.now }
     requires few { length signs.now < 2 ^ 32 }
-    ensures gives { Gives signs.now uses.old.items uses.new.items result (read_in depth (Comma ▸ item_form kind) (drop at signs.now)) }
+    ensures gives { Gives signs.now uses.old.items uses.new.items result
+        (read_in depth (Comma ▸ item_form kind) (drop at signs.now)) }
 {
     let place = expect(signs, at, Mark::Comma)?;
     one_item(signs, place, uses, kind, depth)
@@ -116,7 +120,8 @@ pub fn item_row(
 ) -> Result<(Vec<u32>, usize), ReadError>
     requires at { at ≤ length signs.now }
     requires few { length signs.now < 2 ^ 32 }
-    ensures gives { GivesList signs.now uses.old.items uses.new.items result (read_in depth (row Comma (item_form kind)) (drop at signs.now)) }
+    ensures gives { GivesList signs.now uses.old.items uses.new.items result
+        (read_in depth (row Comma (item_form kind)) (drop at signs.now)) }
 {
     let mut names = Vec::new(alloc);
     let (name, mut place) = one_item(signs, at, uses, kind, depth)?;
@@ -141,7 +146,8 @@ fn bounded(
 ) -> Result<((u32, u32), usize), ReadError>
     requires at { at ≤ length signs.now }
     requires few { length signs.now < 2 ^ 32 }
-    ensures gives { Gives signs.now uses.old.items uses.new.items result (read_in depth (word_form index & (AtMost ▸ word_form bound)) (drop at signs.now)) }
+    ensures gives { Gives signs.now uses.old.items uses.new.items result
+        (read_in depth (word_form index & (AtMost ▸ word_form bound)) (drop at signs.now)) }
 {
     let (u, place) = word(signs, at, uses, index)?;
     let place = expect(signs, place, Mark::AtMost)?;
@@ -160,7 +166,8 @@ fn one_pair(
 ) -> Result<((u32, u32), usize), ReadError>
     requires at { at ≤ length signs.now }
     requires few { length signs.now < 2 ^ 32 }
-    ensures gives { Gives signs.now uses.old.items uses.new.items result (read_in depth (pair_form kind) (drop at signs.now)) }
+    ensures gives { Gives signs.now uses.old.items uses.new.items result
+        (read_in depth (pair_form kind) (drop at signs.now)) }
 {
     match kind {
         Pair::Typed(role) => typed(signs, at, uses, role, depth),
@@ -179,7 +186,8 @@ fn next_pair(
 ) -> Result<((u32, u32), usize), ReadError>
     requires at { at ≤ length signs.now }
     requires few { length signs.now < 2 ^ 32 }
-    ensures gives { Gives signs.now uses.old.items uses.new.items result (read_in depth (Comma ▸ pair_form kind) (drop at signs.now)) }
+    ensures gives { Gives signs.now uses.old.items uses.new.items result
+        (read_in depth (Comma ▸ pair_form kind) (drop at signs.now)) }
 {
     let place = expect(signs, at, Mark::Comma)?;
     one_pair(signs, place, uses, kind, depth)
@@ -197,7 +205,8 @@ pub fn pair_row(
 ) -> Result<(Vec<(u32, u32)>, usize), ReadError>
     requires at { at ≤ length signs.now }
     requires few { length signs.now < 2 ^ 32 }
-    ensures gives { GivesList signs.now uses.old.items uses.new.items result (read_in depth (row Comma (pair_form kind)) (drop at signs.now)) }
+    ensures gives { GivesList signs.now uses.old.items uses.new.items result
+        (read_in depth (row Comma (pair_form kind)) (drop at signs.now)) }
 {
     let mut pairs = Vec::new(alloc);
     let (first, mut place) = one_pair(signs, at, uses, kind, depth)?;

@@ -49,7 +49,8 @@ pub fn is_at(signs: &[Sign], at: usize, mark: Mark) -> bool
 pub fn expect(signs: &[Sign], at: usize, mark: Mark) -> Result<usize, ReadError>
     requires at { at ≤ length signs.now }
     requires few { length signs.now < 2 ^ 32 }
-    ensures read { IfOk result (λ end. (end ≡ at + 1) × (end ≤ length signs.now) × IsSign signs.now mark at) }
+    ensures read { IfOk result (λ end. (end ≡ at + 1) × (end ≤ length signs.now)
+        × IsSign signs.now mark at) }
     ensures fails { IfErr result (λ e. Fails signs.now e (read_sign mark (drop at signs.now))) }
 {
     if is_at(signs, at, mark) {
@@ -169,7 +170,8 @@ pub fn open(signs: &[Sign], at: usize, depth: u32, mark: Mark) -> Result<usize, 
     requires at { at ≤ length signs.now }
     requires few { length signs.now < 2 ^ 32 }
     ensures opens { IfOk result (λ end. Opens signs.now mark depth at end) }
-    ensures fails { IfErr result (λ e. Fails signs.now e (read_opening mark depth (drop at signs.now))) }
+    ensures fails { IfErr result (λ e. Fails signs.now e
+        (read_opening mark depth (drop at signs.now))) }
 {
     if depth > 0 {
         return expect(signs, at, mark);

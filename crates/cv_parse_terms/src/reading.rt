@@ -35,7 +35,8 @@ pub fn begins_term(signs: &[Sign], at: usize) -> bool
 fn truth(signs: &[Sign], at: usize, trail: &mut Trail, depth: u32) -> Result<usize, ReadError>
     requires at { at ≤ length signs.now }
     requires few { length signs.now < 2 ^ 32 }
-    ensures makes { Makes postorder signs.now trail.old trail.new result (read_in depth truth_form (drop at signs.now)) }
+    ensures makes { Makes postorder signs.now trail.old trail.new result
+        (read_in depth truth_form (drop at signs.now)) }
 {
     let place = open(signs, at, depth, Mark::True)?;
     leaf(&mut trail.makes, Head::Yes)?;
@@ -47,7 +48,8 @@ fn truth(signs: &[Sign], at: usize, trail: &mut Trail, depth: u32) -> Result<usi
 fn falsehood(signs: &[Sign], at: usize, trail: &mut Trail, depth: u32) -> Result<usize, ReadError>
     requires at { at ≤ length signs.now }
     requires few { length signs.now < 2 ^ 32 }
-    ensures makes { Makes postorder signs.now trail.old trail.new result (read_in depth falsehood_form (drop at signs.now)) }
+    ensures makes { Makes postorder signs.now trail.old trail.new result
+        (read_in depth falsehood_form (drop at signs.now)) }
 {
     let place = open(signs, at, depth, Mark::False)?;
     leaf(&mut trail.makes, Head::No)?;
@@ -66,7 +68,8 @@ fn going_on(
 ) -> Result<usize, ReadError>
     requires at { at ≤ length signs.now }
     requires few { length signs.now < 2 ^ 32 }
-    ensures makes { Makes (parts_behind x) signs.now trail.old trail.new result (read_in depth going_on_form (drop at signs.now)) }
+    ensures makes { Makes (parts_behind x) signs.now trail.old trail.new result
+        (read_in depth going_on_form (drop at signs.now)) }
 {
     if is_at(signs, at, Mark::Open) {
         note(signs, at, &mut trail.uses, Role::AsCall)?;
@@ -94,7 +97,8 @@ fn mention(signs: &[Sign], at: usize, trail: &mut Trail, depth: u32) -> Result<u
     requires at { at ≤ length signs.now }
     requires few { length signs.now < 2 ^ 32 }
     requires word { next_is is_word (drop at signs.now) ≡ true }
-    ensures makes { Makes postorder signs.now trail.old trail.new result (read_in depth mention_form (drop at signs.now)) }
+    ensures makes { Makes postorder signs.now trail.old trail.new result
+        (read_in depth mention_form (drop at signs.now)) }
 {
     if depth == 0 {
         return Err(ReadError::Nesting(at as u32));
@@ -109,7 +113,8 @@ fn mention(signs: &[Sign], at: usize, trail: &mut Trail, depth: u32) -> Result<u
 fn negation(signs: &[Sign], at: usize, trail: &mut Trail, depth: u32) -> Result<usize, ReadError>
     requires at { at ≤ length signs.now }
     requires few { length signs.now < 2 ^ 32 }
-    ensures makes { Makes postorder signs.now trail.old trail.new result (read_in depth negation_form (drop at signs.now)) }
+    ensures makes { Makes postorder signs.now trail.old trail.new result
+        (read_in depth negation_form (drop at signs.now)) }
 {
     let place = open(signs, at, depth, Mark::Not)?;
     let less = descend(signs, place, depth, Mark::Open)?;
@@ -125,7 +130,8 @@ fn negation(signs: &[Sign], at: usize, trail: &mut Trail, depth: u32) -> Result<
 fn parentheses(signs: &[Sign], at: usize, trail: &mut Trail, depth: u32) -> Result<usize, ReadError>
     requires at { at ≤ length signs.now }
     requires few { length signs.now < 2 ^ 32 }
-    ensures makes { Makes postorder signs.now trail.old trail.new result (read_in depth parentheses_form (drop at signs.now)) }
+    ensures makes { Makes postorder signs.now trail.old trail.new result
+        (read_in depth parentheses_form (drop at signs.now)) }
 {
     let place = open(signs, at, depth, Mark::Open)?;
     let place = inner_term(signs, place, trail, depth)?;
@@ -138,7 +144,8 @@ fn parentheses(signs: &[Sign], at: usize, trail: &mut Trail, depth: u32) -> Resu
 fn primary(signs: &[Sign], at: usize, trail: &mut Trail, depth: u32) -> Result<usize, ReadError>
     requires at { at ≤ length signs.now }
     requires few { length signs.now < 2 ^ 32 }
-    ensures makes { Makes postorder signs.now trail.old trail.new result (read_in depth primary_form (drop at signs.now)) }
+    ensures makes { Makes postorder signs.now trail.old trail.new result
+        (read_in depth primary_form (drop at signs.now)) }
 {
     if is_word_at(signs, at) {
         return mention(signs, at, trail, depth);
@@ -166,7 +173,8 @@ fn inner_primary(
 ) -> Result<usize, ReadError>
     requires at { at ≤ length signs.now }
     requires few { length signs.now < 2 ^ 32 }
-    ensures makes { Makes postorder signs.now trail.old trail.new result (below depth Primary (drop at signs.now)) }
+    ensures makes { Makes postorder signs.now trail.old trail.new result
+        (below depth Primary (drop at signs.now)) }
 {
     if depth > 0 {
         return primary(signs, at, trail, depth - 1);
@@ -180,7 +188,8 @@ fn inner_primary(
 fn unequal(signs: &[Sign], at: usize, trail: &mut Trail, depth: u32) -> Result<usize, ReadError>
     requires at { at ≤ length signs.now }
     requires few { length signs.now < 2 ^ 32 }
-    ensures makes { Makes postorder signs.now trail.old trail.new result (read_in depth unequal_form (drop at signs.now)) }
+    ensures makes { Makes postorder signs.now trail.old trail.new result
+        (read_in depth unequal_form (drop at signs.now)) }
 {
     let place = open(signs, at, depth, Mark::Differ)?;
     inner_primary(signs, place, trail, depth)
@@ -202,7 +211,8 @@ fn close_differing(makes: &mut Vec<Make>) -> Result<(), AllocError>
 fn unequal_to(signs: &[Sign], at: usize, trail: &mut Trail, depth: u32) -> Result<usize, ReadError>
     requires at { at ≤ length signs.now }
     requires few { length signs.now < 2 ^ 32 }
-    ensures tail { MakesTail applied signs.now trail.old trail.new result (read_in depth unequal_to_form (drop at signs.now)) }
+    ensures tail { MakesTail applied signs.now trail.old trail.new result
+        (read_in depth unequal_to_form (drop at signs.now)) }
 {
     let less = descend(signs, at, depth, Mark::Differ)?;
     let place = unequal(signs, at, trail, less)?;
@@ -216,7 +226,8 @@ fn unequal_to(signs: &[Sign], at: usize, trail: &mut Trail, depth: u32) -> Resul
 fn equal_to(signs: &[Sign], at: usize, trail: &mut Trail, depth: u32) -> Result<usize, ReadError>
     requires at { at ≤ length signs.now }
     requires few { length signs.now < 2 ^ 32 }
-    ensures tail { MakesTail applied signs.now trail.old trail.new result (read_in depth equal_to_form (drop at signs.now)) }
+    ensures tail { MakesTail applied signs.now trail.old trail.new result
+        (read_in depth equal_to_form (drop at signs.now)) }
 {
     let place = open(signs, at, depth, Mark::Equal)?;
     let place = inner_primary(signs, place, trail, depth)?;
@@ -230,7 +241,8 @@ fn equal_to(signs: &[Sign], at: usize, trail: &mut Trail, depth: u32) -> Result<
 fn maybe_equal(signs: &[Sign], at: usize, trail: &mut Trail, depth: u32) -> Result<usize, ReadError>
     requires at { at ≤ length signs.now }
     requires few { length signs.now < 2 ^ 32 }
-    ensures tail { MakesTail perhaps signs.now trail.old trail.new result (read_in depth (may false (either equal_to_form unequal_to_form)) (drop at signs.now)) }
+    ensures tail { MakesTail perhaps signs.now trail.old trail.new result
+        (read_in depth (may false (either equal_to_form unequal_to_form)) (drop at signs.now)) }
 {
     if is_at(signs, at, Mark::Equal) {
         return equal_to(signs, at, trail, depth);
@@ -252,7 +264,8 @@ pub fn equality(
 ) -> Result<usize, ReadError>
     requires at { at ≤ length signs.now }
     requires few { length signs.now < 2 ^ 32 }
-    ensures makes { Makes postorder signs.now trail.old trail.new result (read_in depth equality_form (drop at signs.now)) }
+    ensures makes { Makes postorder signs.now trail.old trail.new result
+        (read_in depth equality_form (drop at signs.now)) }
 {
     let place = primary(signs, at, trail, depth)?;
     maybe_equal(signs, place, trail, depth)
@@ -264,7 +277,8 @@ pub fn equality(
 fn conjoined(signs: &[Sign], at: usize, trail: &mut Trail, depth: u32) -> Result<usize, ReadError>
     requires at { at ≤ length signs.now }
     requires few { length signs.now < 2 ^ 32 }
-    ensures tail { MakesTail applied signs.now trail.old trail.new result (read_in depth conjoined_form (drop at signs.now)) }
+    ensures tail { MakesTail applied signs.now trail.old trail.new result
+        (read_in depth conjoined_form (drop at signs.now)) }
 {
     let place = open(signs, at, depth, Mark::Both)?;
     let place = inner_conjunction(signs, place, trail, depth)?;
@@ -278,7 +292,8 @@ fn conjoined(signs: &[Sign], at: usize, trail: &mut Trail, depth: u32) -> Result
 fn conjunction(signs: &[Sign], at: usize, trail: &mut Trail, depth: u32) -> Result<usize, ReadError>
     requires at { at ≤ length signs.now }
     requires few { length signs.now < 2 ^ 32 }
-    ensures makes { Makes postorder signs.now trail.old trail.new result (read_in depth conjunction_form (drop at signs.now)) }
+    ensures makes { Makes postorder signs.now trail.old trail.new result
+        (read_in depth conjunction_form (drop at signs.now)) }
 {
     let place = equality(signs, at, trail, depth)?;
     if is_at(signs, place, Mark::Both) {
@@ -298,7 +313,8 @@ fn inner_conjunction(
 ) -> Result<usize, ReadError>
     requires at { at ≤ length signs.now }
     requires few { length signs.now < 2 ^ 32 }
-    ensures makes { Makes postorder signs.now trail.old trail.new result (below depth Conjunction (drop at signs.now)) }
+    ensures makes { Makes postorder signs.now trail.old trail.new result
+        (below depth Conjunction (drop at signs.now)) }
 {
     if depth > 0 {
         return conjunction(signs, at, trail, depth - 1);
@@ -312,7 +328,8 @@ fn inner_conjunction(
 fn disjoined(signs: &[Sign], at: usize, trail: &mut Trail, depth: u32) -> Result<usize, ReadError>
     requires at { at ≤ length signs.now }
     requires few { length signs.now < 2 ^ 32 }
-    ensures tail { MakesTail applied signs.now trail.old trail.new result (read_in depth disjoined_form (drop at signs.now)) }
+    ensures tail { MakesTail applied signs.now trail.old trail.new result
+        (read_in depth disjoined_form (drop at signs.now)) }
 {
     let place = open(signs, at, depth, Mark::Either)?;
     let place = inner_term(signs, place, trail, depth)?;
@@ -326,7 +343,8 @@ fn disjoined(signs: &[Sign], at: usize, trail: &mut Trail, depth: u32) -> Result
 pub fn term(signs: &[Sign], at: usize, trail: &mut Trail, depth: u32) -> Result<usize, ReadError>
     requires at { at ≤ length signs.now }
     requires few { length signs.now < 2 ^ 32 }
-    ensures makes { Makes postorder signs.now trail.old trail.new result (read_in depth term_form (drop at signs.now)) }
+    ensures makes { Makes postorder signs.now trail.old trail.new result
+        (read_in depth term_form (drop at signs.now)) }
 {
     let place = conjunction(signs, at, trail, depth)?;
     if is_at(signs, place, Mark::Either) {
@@ -346,7 +364,8 @@ pub fn inner_term(
 ) -> Result<usize, ReadError>
     requires at { at ≤ length signs.now }
     requires few { length signs.now < 2 ^ 32 }
-    ensures makes { Makes postorder signs.now trail.old trail.new result (below depth Term (drop at signs.now)) }
+    ensures makes { Makes postorder signs.now trail.old trail.new result
+        (below depth Term (drop at signs.now)) }
 {
     if depth > 0 {
         return term(signs, at, trail, depth - 1);
@@ -360,7 +379,8 @@ pub fn inner_term(
 fn next_term(signs: &[Sign], at: usize, trail: &mut Trail, depth: u32) -> Result<usize, ReadError>
     requires at { at ≤ length signs.now }
     requires few { length signs.now < 2 ^ 32 }
-    ensures makes { Makes postorder signs.now trail.old trail.new result (read_in depth (Comma ▸ deeper Term) (drop at signs.now)) }
+    ensures makes { Makes postorder signs.now trail.old trail.new result
+        (read_in depth (Comma ▸ deeper Term) (drop at signs.now)) }
 {
     let place = expect(signs, at, Mark::Comma)?;
     inner_term(signs, place, trail, depth)
@@ -377,7 +397,8 @@ fn term_row(
 ) -> Result<(usize, usize), ReadError>
     requires at { at ≤ length signs.now }
     requires few { length signs.now < 2 ^ 32 }
-    ensures makes { MakesRow signs.now trail.old trail.new result (read_in depth (row Comma (deeper Term)) (drop at signs.now)) }
+    ensures makes { MakesRow signs.now trail.old trail.new result
+        (read_in depth (row Comma (deeper Term)) (drop at signs.now)) }
 {
     let mut place = inner_term(signs, at, trail, depth)?;
     let mut count = 1;
@@ -394,7 +415,8 @@ fn term_row(
 pub fn terms(signs: &[Sign], at: usize, trail: &mut Trail, depth: u32) -> Result<usize, ReadError>
     requires at { at ≤ length signs.now }
     requires few { length signs.now < 2 ^ 32 }
-    ensures makes { Makes postorder signs.now trail.old trail.new result (read_in depth terms_form (drop at signs.now)) }
+    ensures makes { Makes postorder signs.now trail.old trail.new result
+        (read_in depth terms_form (drop at signs.now)) }
 {
     let (count, place) = term_row(signs, at, trail, depth)?;
     close_chain(&mut trail.makes, count)?;
@@ -412,7 +434,8 @@ pub fn arguments(
 ) -> Result<usize, ReadError>
     requires at { at ≤ length signs.now }
     requires few { length signs.now < 2 ^ 32 }
-    ensures makes { Makes postorder signs.now trail.old trail.new result (read_in depth arguments_form (drop at signs.now)) }
+    ensures makes { Makes postorder signs.now trail.old trail.new result
+        (read_in depth arguments_form (drop at signs.now)) }
 {
     let place = open(signs, at, depth, Mark::Open)?;
     let place = terms(signs, place, trail, depth)?;
@@ -430,7 +453,8 @@ pub fn inner_arguments(
 ) -> Result<usize, ReadError>
     requires at { at ≤ length signs.now }
     requires few { length signs.now < 2 ^ 32 }
-    ensures makes { Makes postorder signs.now trail.old trail.new result (below depth Arguments (drop at signs.now)) }
+    ensures makes { Makes postorder signs.now trail.old trail.new result
+        (below depth Arguments (drop at signs.now)) }
 {
     let less = descend(signs, at, depth, Mark::Open)?;
     arguments(signs, at, trail, less)
@@ -442,7 +466,8 @@ pub fn inner_arguments(
 fn subscript(signs: &[Sign], at: usize, trail: &mut Trail, depth: u32) -> Result<usize, ReadError>
     requires at { at ≤ length signs.now }
     requires few { length signs.now < 2 ^ 32 }
-    ensures makes { Makes postorder signs.now trail.old trail.new result (read_in depth subscript_form (drop at signs.now)) }
+    ensures makes { Makes postorder signs.now trail.old trail.new result
+        (read_in depth subscript_form (drop at signs.now)) }
 {
     let place = open(signs, at, depth, Mark::OpenSquare)?;
     let place = terms(signs, place, trail, depth)?;
@@ -460,7 +485,8 @@ pub fn inner_subscript(
 ) -> Result<usize, ReadError>
     requires at { at ≤ length signs.now }
     requires few { length signs.now < 2 ^ 32 }
-    ensures makes { Makes postorder signs.now trail.old trail.new result (below depth Subscript (drop at signs.now)) }
+    ensures makes { Makes postorder signs.now trail.old trail.new result
+        (below depth Subscript (drop at signs.now)) }
 {
     let less = descend(signs, at, depth, Mark::OpenSquare)?;
     subscript(signs, at, trail, less)
@@ -476,7 +502,8 @@ pub fn one_term(
 ) -> Result<usize, ReadError>
     requires at { at ≤ length signs.now }
     requires few { length signs.now < 2 ^ 32 }
-    ensures makes { Makes postorder signs.now trail.old trail.new result (read_in depth (made (λ t. chain (t ∷ [])) (deeper Term)) (drop at signs.now)) }
+    ensures makes { Makes postorder signs.now trail.old trail.new result
+        (read_in depth (made (λ t. chain (t ∷ [])) (deeper Term)) (drop at signs.now)) }
 {
     let place = inner_term(signs, at, trail, depth)?;
     close_chain(&mut trail.makes, 1)?;
@@ -493,7 +520,8 @@ pub fn maybe_terms(
 ) -> Result<usize, ReadError>
     requires at { at ≤ length signs.now }
     requires few { length signs.now < 2 ^ 32 }
-    ensures makes { Makes postorder signs.now trail.old trail.new result (read_in depth (listed terms_form) (drop at signs.now)) }
+    ensures makes { Makes postorder signs.now trail.old trail.new result
+        (read_in depth (listed terms_form) (drop at signs.now)) }
 {
     if begins_term(signs, at) {
         return terms(signs, at, trail, depth);

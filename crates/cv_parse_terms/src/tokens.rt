@@ -19,7 +19,8 @@ fn note_use(
     name: u32,
 ) -> Result<(), AllocError>
     requires at { at ≤ length signs.now }
-    ensures noted { OnOk result (uses_of uses.new.items ≡ uses_of uses.old.items ++ used role name (drop at signs.now)) }
+    ensures noted { OnOk result (uses_of uses.new.items
+        ≡ uses_of uses.old.items ++ used role name (drop at signs.now)) }
 {
     let left = signs.len() - at;
     uses.push(NameUse { role, name, left })?;
@@ -36,7 +37,8 @@ pub fn word(
 ) -> Result<(u32, usize), ReadError>
     requires at { at ≤ length signs.now }
     requires few { length signs.now < 2 ^ 32 }
-    ensures gives { Gives signs.now uses.old.items uses.new.items result (read_word role (drop at signs.now)) }
+    ensures gives { Gives signs.now uses.old.items uses.new.items result
+        (read_word role (drop at signs.now)) }
 {
     let Some(name) = word_at(signs, at) else {
         return Err(ReadError::Syntax(at as u32));
@@ -55,7 +57,8 @@ pub fn unnamed(
 ) -> Result<(u32, usize), ReadError>
     requires at { at ≤ length signs.now }
     requires few { length signs.now < 2 ^ 32 }
-    ensures gives { Gives signs.now uses.old.items uses.new.items result (read_unnamed role (drop at signs.now)) }
+    ensures gives { Gives signs.now uses.old.items uses.new.items result
+        (read_unnamed role (drop at signs.now)) }
 {
     let Some(name) = unnamed_at(signs, at) else {
         return Err(ReadError::Syntax(at as u32));
@@ -73,7 +76,8 @@ pub fn note(
     role: Role,
 ) -> Result<usize, AllocError>
     requires at { at ≤ length signs.now }
-    ensures gives { IfOk result (λ left. IsRead signs.now uses.old.items uses.new.items (read_note role (drop at signs.now)) left at) }
+    ensures gives { IfOk result (λ left. IsRead signs.now uses.old.items uses.new.items
+        (read_note role (drop at signs.now)) left at) }
 {
     note_use(signs, at, uses, role, 0)?;
     Ok(signs.len() - at)

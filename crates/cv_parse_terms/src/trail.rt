@@ -51,7 +51,8 @@ pub fn leaf(makes: &mut Vec<Make>, head: Head) -> Result<(), AllocError>
 /// Makes a list of so many trees, which were made before.
 #[tactic(auto, using(crate::proofs::Made::makes))]
 pub fn close_chain(makes: &mut Vec<Make>, count: usize) -> Result<(), AllocError>
-    ensures { OnOk result (makes.new.items ≡ makes.old.items ++ Nothing ∷ replicate count (Over Cons)) }
+    ensures { OnOk result (makes.new.items
+        ≡ makes.old.items ++ Nothing ∷ replicate count (Over Cons)) }
 {
     makes.push(Make::Nothing)?;
     'cells: for _ in 0..count {

@@ -29,8 +29,10 @@ fn add_parameter(product: &mut ArrayVec<u32, 16>, head: Head) -> bool
 fn add_parameters(pool: &Pool, product: &mut ArrayVec<u32, 16>, indices: Option<NodeId>) -> bool
     requires live { ChildBelow (length pool.now.trees) indices }
     requires few { length product.old.items ≤ most_factors }
-    ensures room { result ≡ true → product.new.items ≡ product.old.items ++ parameters (tree_at pool.now.trees indices) }
-    ensures full { result ≡ false → most_factors < length (product.old.items ++ parameters (tree_at pool.now.trees indices)) }
+    ensures room { result ≡ true → product.new.items
+        ≡ product.old.items ++ parameters (tree_at pool.now.trees indices) }
+    ensures full { result ≡ false → most_factors
+        < length (product.old.items ++ parameters (tree_at pool.now.trees indices)) }
     ensures few { length product.new.items ≤ most_factors }
 {
     let mut at = indices;
@@ -62,8 +64,12 @@ fn add(pool: &Pool, product: &mut ArrayVec<u32, 16>, node: Opened, place: u32) -
     requires second { ChildBelow (length pool.now.trees) node.second }
     requires fits { tree.size (tree_at pool.now.trees node.second) < 2 ^ 32 }
     requires few { length product.old.items ≤ most_factors }
-    ensures room { result ≡ true → product.new.items ≡ product.old.items ++ added node.head (tree_at pool.now.trees node.first) (tree_at pool.now.trees node.second) place }
-    ensures full { result ≡ false → most_factors < length (product.old.items ++ added node.head (tree_at pool.now.trees node.first) (tree_at pool.now.trees node.second) place) }
+    ensures room { result ≡ true → product.new.items
+        ≡ product.old.items ++ added node.head (tree_at pool.now.trees node.first)
+        (tree_at pool.now.trees node.second) place }
+    ensures full { result ≡ false → most_factors
+        < length (product.old.items ++ added node.head (tree_at pool.now.trees node.first)
+        (tree_at pool.now.trees node.second) place) }
     ensures few { length product.new.items ≤ most_factors }
 {
     match node.head {
@@ -82,7 +88,8 @@ fn add(pool: &Pool, product: &mut ArrayVec<u32, 16>, node: Opened, place: u32) -
 pub fn copies(pool: &Pool, root: NodeId, place: u32) -> Option<Product>
     requires live { root.0 < length pool.now.trees }
     requires fits { tree.size (tree_at pool.now.trees (Some root)) < 2 ^ 32 }
-    ensures { option_map (λ p. p.parameters.items) result ≡ few_copies_at (tree_at pool.now.trees (Some root)) place }
+    ensures { option_map (λ p. p.parameters.items) result
+        ≡ few_copies_at (tree_at pool.now.trees (Some root)) place }
 {
     let mut parameters = ArrayVec::new();
     let mut at = Some(root);

@@ -53,7 +53,8 @@ pub fn place_in(pool: &Pool, node: Opened, place: u32) -> Lies
 pub fn at(pool: &Pool, root: NodeId, place: u32) -> Option<NodeId>
     requires live { root.0 < length pool.now.trees }
     requires fits { tree.size (tree_at pool.now.trees (Some root)) < 2 ^ 32 }
-    ensures tree { option_map (λ n. tree_at pool.now.trees (Some n)) result ≡ subtree (tree_at pool.now.trees (Some root)) place }
+    ensures tree { option_map (λ n. tree_at pool.now.trees (Some n)) result
+        ≡ subtree (tree_at pool.now.trees (Some root)) place }
     ensures live { ChildBelow (root.0 + 1) result }
 {
     let mut at = Some(root);

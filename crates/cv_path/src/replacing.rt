@@ -22,7 +22,8 @@ pub(crate) struct Turn {
 
 /// Adds a node to a way.
 fn push(way: &mut Vec<Turn>, node: NodeId, second: bool) -> Result<(), PathError>
-    ensures ok { OnOk result (way.new.items ≡ way.old.items ++ record { node = node; second = second } ∷ []) }
+    ensures ok { OnOk result (way.new.items
+        ≡ way.old.items ++ record { node = node; second = second } ∷ []) }
     ensures err { IfErr result (λ e. e ≡ no_memory) }
 {
     match way.push(Turn { node, second }) {
@@ -42,12 +43,17 @@ fn way_to(
 ) -> Result<Vec<Turn>, PathError>
     requires live { root.0 < length pool.now.trees }
     requires fits { size (tree_at pool.now.trees (Some root)) < 2 ^ 32 }
-    ensures leads { IfOk result (λ way. led pool.now.trees way.items (tree_at pool.now.trees (Some by)) ≡ replaced (tree_at pool.now.trees (Some root)) place (tree_at pool.now.trees (Some by))) }
+    ensures leads { IfOk result (λ way. led pool.now.trees way.items
+        (tree_at pool.now.trees (Some by))
+        ≡ replaced (tree_at pool.now.trees (Some root)) place (tree_at pool.now.trees (Some by))) }
     ensures few { IfOk result (λ way. length way.items ≤ root.0) }
-    ensures long { IfOk result (λ way. length way.items ≡ nodes_above (tree_at pool.now.trees (Some root)) place) }
+    ensures long { IfOk result (λ way. length way.items
+        ≡ nodes_above (tree_at pool.now.trees (Some root)) place) }
     ensures live { IfOk result (λ way. All (λ t. t.node.0 < length pool.now.trees) way.items) }
     ensures place { OnOk result (place < size (tree_at pool.now.trees (Some root))) }
-    ensures refused { (e : PathError) → IsErrOf result e → (e ≡ no_memory) ⊎ ((e ≡ PathError.NoSuchPlace) × (size (tree_at pool.now.trees (Some root)) ≤ place)) }
+    ensures refused { (e : PathError) → IsErrOf result e
+        → (e ≡ no_memory) ⊎ ((e ≡ PathError.NoSuchPlace)
+        × (size (tree_at pool.now.trees (Some root)) ≤ place)) }
 {
     let mut way = Vec::new(alloc);
     let mut at = Some(root);
@@ -77,7 +83,8 @@ fn join(pool: &mut Pool, head: Head, first: Option<NodeId>, second: Option<NodeI
     requires spare { 0 < pool.old.spare }
     requires first { ChildBelow (length pool.old.trees) first }
     requires second { ChildBelow (length pool.old.trees) second }
-    ensures tree { tree_at pool.new.trees (Some result) ≡ Node head (tree_at pool.old.trees first) (tree_at pool.old.trees second) }
+    ensures tree { tree_at pool.new.trees (Some result)
+        ≡ Node head (tree_at pool.old.trees first) (tree_at pool.old.trees second) }
     ensures live { result.0 < length pool.new.trees }
     ensures grows { Grows pool.old pool.new }
     ensures spare { pool.old.spare ≤ pool.new.spare + 1 }
@@ -92,7 +99,9 @@ fn turned(pool: &mut Pool, turn: Turn, new: NodeId) -> NodeId
     requires spare { 0 < pool.old.spare }
     requires node { turn.node.0 < length pool.old.trees }
     requires new { new.0 < length pool.old.trees }
-    ensures tree { tree_at pool.new.trees (Some result) ≡ turned turn.second (tree_at pool.old.trees (Some turn.node)) (tree_at pool.old.trees (Some new)) }
+    ensures tree { tree_at pool.new.trees (Some result)
+        ≡ turned turn.second (tree_at pool.old.trees (Some turn.node))
+        (tree_at pool.old.trees (Some new)) }
     ensures live { result.0 < length pool.new.trees }
     ensures grows { Grows pool.old pool.new }
     ensures spare { pool.old.spare ≤ pool.new.spare + 1 }
@@ -112,7 +121,8 @@ fn rebuilt(pool: &mut Pool, way: Vec<Turn>, by: NodeId) -> NodeId
     requires spare { length way.items ≤ pool.old.spare }
     requires way { All (λ t. t.node.0 < length pool.old.trees) way.items }
     requires by { by.0 < length pool.old.trees }
-    ensures tree { tree_at pool.new.trees (Some result) ≡ led pool.old.trees way.items (tree_at pool.old.trees (Some by)) }
+    ensures tree { tree_at pool.new.trees (Some result)
+        ≡ led pool.old.trees way.items (tree_at pool.old.trees (Some by)) }
     ensures live { result.0 < length pool.new.trees }
     ensures grows { Grows pool.old pool.new }
     ensures few { length pool.new.trees ≤ length pool.old.trees + length way.items }
@@ -137,14 +147,18 @@ pub fn replace(
     requires live { root.0 < length pool.old.trees }
     requires by { by.0 < length pool.old.trees }
     requires fits { size (tree_at pool.old.trees (Some root)) < 2 ^ 32 }
-    ensures tree { IfOk result (λ n. tree_at pool.new.trees (Some n) ≡ replaced (tree_at pool.old.trees (Some root)) place (tree_at pool.old.trees (Some by))) }
+    ensures tree { IfOk result (λ n. tree_at pool.new.trees (Some n)
+        ≡ replaced (tree_at pool.old.trees (Some root)) place (tree_at pool.old.trees (Some by))) }
     ensures live { IfOk result (λ n. n.0 < length pool.new.trees) }
     ensures grows { OnOk result (Grows pool.old pool.new) }
-    ensures accepted { OnOk result (refusal pool.old (tree_at pool.old.trees (Some root)) place ≡ None) }
-    ensures refused { (e : PathError) → IsErrOf result e → (e ≡ no_memory) ⊎ (refusal pool.old (tree_at pool.old.trees (Some root)) place ≡ Some e) }
+    ensures accepted { OnOk result (refusal pool.old (tree_at pool.old.trees (Some root)) place
+        ≡ None) }
+    ensures refused { (e : PathError) → IsErrOf result e
+        → (e ≡ no_memory) ⊎ (refusal pool.old (tree_at pool.old.trees (Some root)) place ≡ Some e) }
     ensures kept { OnErr result (pool.new.trees ≡ pool.old.trees) }
     ensures limit { pool.new.limit ≡ pool.old.limit }
-    ensures few { OnOk result (length pool.new.trees ≤ length pool.old.trees + nodes_above (tree_at pool.old.trees (Some root)) place) }
+    ensures few { OnOk result (length pool.new.trees
+        ≤ length pool.old.trees + nodes_above (tree_at pool.old.trees (Some root)) place) }
 {
     let way = way_to(alloc, pool, root, place, by)?;
     match pool.reserve(way.len() as u32) {

@@ -74,7 +74,8 @@ impl Pool {
         ensures kept { self.new.trees ≡ self.old.trees }
         ensures limit { self.new.limit ≡ self.old.limit }
         ensures spare { self.old.spare ≤ self.new.spare }
-        ensures full { IsErrOf result (PoolError.Full need) ↔ (self.old.limit < length self.old.trees + need) }
+        ensures full { IsErrOf result (PoolError.Full need)
+            ↔ (self.old.limit < length self.old.trees + need) }
         ensures other { (n : ℕ) → IsErrOf result (PoolError.Full n) → n ≡ need }
         ensures err { OnErr result (self.new ≡ self.old) }
     {
@@ -111,13 +112,16 @@ impl Pool {
         requires first { ChildBelow (length self.old.trees) first }
         requires second { ChildBelow (length self.old.trees) second }
         ensures live { result.0 < length self.new.trees }
-        ensures tree { at self.new.trees result.0 ≡ Fork kind (child self.old.trees first) (child self.old.trees second) }
+        ensures tree { at self.new.trees result.0
+            ≡ Fork kind (child self.old.trees first) (child self.old.trees second) }
         ensures grows { Grows self.old self.new }
         ensures spare { self.old.spare ≤ self.new.spare + 1 }
         ensures few { length self.new.trees ≤ length self.old.trees + 1 }
 
         // No second node comes for a tree that has one.
-        ensures added { (self.new ≡ self.old) ⊎ Adds self.old self.new (Fork kind (child self.old.trees first) (child self.old.trees second)) }
+        ensures added { (self.new ≡ self.old)
+            ⊎ Adds self.old self.new (Fork kind (child self.old.trees first)
+            (child self.old.trees second)) }
         ensures distinct { AreDistinct self.new.trees }
     {
         let entry = Entry {
@@ -136,7 +140,8 @@ impl Pool {
     fn add(&mut self, entry: Entry) -> NodeId
         requires spare { 0 < self.old.spare }
         requires below { EntryBelow (length self.old.trees) entry }
-        requires new { (n : ℕ) → n < length self.old.trees → at self.old.trees n ≢ tree_of self.old.trees entry }
+        requires new { (n : ℕ) → n < length self.old.trees
+            → at self.old.trees n ≢ tree_of self.old.trees entry }
         ensures number { result.0 ≡ length self.old.trees }
         ensures adds { Adds self.old self.new (tree_of self.old.trees entry) }
     {

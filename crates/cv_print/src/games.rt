@@ -23,7 +23,8 @@ pub fn game_text(
     root: NodeId,
 ) -> Result<Vec<u8>, AllocError>
     requires { root.0 < length pool.now.trees }
-    ensures { IfOk result (λ v. v.items ≡ game_text names.now (tree_at pool.now.trees (Some root))) }
+    ensures { IfOk result (λ v. v.items
+        ≡ game_text names.now (tree_at pool.now.trees (Some root))) }
 {
     let mut out = Vec::new(alloc);
     push_game(&mut out, pool, names, root)?;

@@ -15,7 +15,8 @@ pub fn term_text(
     term: NodeId,
 ) -> Result<Vec<u8>, AllocError>
     requires { term.0 < length pool.now.trees }
-    ensures { IfOk result (λ v. v.items ≡ term_text names.now (tree_at pool.now.trees (Some term))) }
+    ensures { IfOk result (λ v. v.items
+        ≡ term_text names.now (tree_at pool.now.trees (Some term))) }
 {
     let mut out = Vec::new(alloc);
     push_term(&mut out, pool, names, term)?;

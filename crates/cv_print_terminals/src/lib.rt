@@ -45,8 +45,10 @@ pub fn processes_are_read_back()
 
 /// So no two written terms have the same signs, and no two written games.
 pub fn printing_is_injective()
-    ensures terms { (s t : Tree) → IsWritten Term s → IsWritten Term t → term_signs s ≡ term_signs t → s ≡ t }
-    ensures games { (s t : Tree) → IsWritten Inputs s → IsWritten Inputs t → game_signs s ≡ game_signs t → s ≡ t }
+    ensures terms { (s t : Tree) → IsWritten Term s → IsWritten Term t
+        → term_signs s ≡ term_signs t → s ≡ t }
+    ensures games { (s t : Tree) → IsWritten Inputs s → IsWritten Inputs t
+        → game_signs s ≡ game_signs t → s ≡ t }
 {}
 
 /// A small game is written and has the signs of its text. It is read back with as many levels as are counted,
@@ -55,6 +57,7 @@ pub fn a_small_game()
     ensures written { IsWritten Inputs small }
     ensures signs { game_signs small ≡ small_signs }
     ensures levels { levels_of small ≡ 9 }
-    ensures read { read_sort heads rule 10 InputsRow small_signs ≡ found small (game_uses small 0) [] }
+    ensures read { read_sort heads rule 10 InputsRow small_signs
+        ≡ found small (game_uses small 0) [] }
     ensures fewer { read_sort heads rule 9 InputsRow small_signs ≡ Err (Nesting 29) }
 {}

@@ -27,7 +27,8 @@ fn bound_by(head: Head) -> Option<u32>
 /// Adds the name that a node binds itself.
 #[tactic(auto, using(crate::proofs::Matching::instance_laws))]
 fn add_name(names: &mut HashSet<u32>, head: Head) -> Result<(), AllocError>
-    ensures { IfOk result (λ u. (y : ℕ) → is_outside names.new y ≡ (not (head_names head y) && is_outside names.old y)) }
+    ensures { IfOk result (λ u. (y : ℕ)
+        → is_outside names.new y ≡ (not (head_names head y) && is_outside names.old y)) }
 {
     let Some(x) = bound_by(head) else {
         return Ok(());
@@ -40,7 +41,9 @@ fn add_name(names: &mut HashSet<u32>, head: Head) -> Result<(), AllocError>
 #[tactic(auto, using(crate::proofs::Matching::instance_laws))]
 fn add_names(pool: &Pool, names: &mut HashSet<u32>, tree: Option<NodeId>) -> Result<(), AllocError>
     requires { ChildBelow (length pool.now.trees) tree }
-    ensures { IfOk result (λ u. (y : ℕ) → is_outside names.new y ≡ (is_unbound (tree_at pool.now.trees tree) y && is_outside names.old y)) }
+    ensures { IfOk result (λ u. (y : ℕ)
+        → is_outside names.new y ≡ (is_unbound (tree_at pool.now.trees tree) y && is_outside
+        names.old y)) }
 {
     let mut at = tree;
     'chain: while let Some(n) = at {

@@ -23,7 +23,9 @@ fn parts(
     requires query { query.0 < length pool.now.trees }
     requires game { game.0 < length pool.now.trees }
     requires fits { size (tree_at pool.now.trees (Some game)) < 2 ^ 32 }
-    ensures { IfOk result (λ o. option_map (λ ms. ms.items) o ≡ option_map postorder (step_by number (tree_at pool.now.trees (Some game)) (tree_at pool.now.trees (Some query)))) }
+    ensures { IfOk result (λ o. option_map (λ ms. ms.items) o
+        ≡ option_map postorder (step_by number (tree_at pool.now.trees (Some game))
+        (tree_at pool.now.trees (Some query)))) }
 {
     let Some(entries) = direct(alloc, pool, query, game)? else {
         return Ok(None);
@@ -36,14 +38,18 @@ fn parts(
 /// Makes a step of its parts. Parts that are too many to be counted are want of memory.
 #[tactic(auto, using(crate::proofs::Made::making))]
 fn planted(alloc: Global, pool: &mut Pool, makes: &[Make]) -> Result<Step, PoolError>
-    ensures step { (t : Tree) → makes.now ≡ postorder t → IfOk result (λ s. tree_at pool.new.trees (Some s.0) ≡ t) }
+    ensures step { (t : Tree) → makes.now ≡ postorder t
+        → IfOk result (λ s. tree_at pool.new.trees (Some s.0) ≡ t) }
     ensures live { IfOk result (λ s. s.0.0 < length pool.new.trees) }
     ensures grows { OnOk result (Grows pool.old pool.new) }
     ensures few { OnOk result (length pool.new.trees ≤ length pool.old.trees + overs makes.now) }
     ensures room { OnOk result (length pool.old.trees + overs makes.now ≤ pool.old.limit) }
     ensures need { (n : ℕ) → IsErrOf result (PoolError.Full n) → n ≡ overs makes.now }
-    ensures full { length makes.now < 4294967296 → (IsErrOf result (PoolError.Full (overs makes.now)) ↔ (pool.old.limit < length pool.old.trees + overs makes.now)) }
-    ensures over { (n : ℕ) → IsErrOf result (PoolError.Full n) → pool.old.limit < length pool.old.trees + n }
+    ensures full { length makes.now < 4294967296
+        → (IsErrOf result (PoolError.Full (overs makes.now))
+        ↔ (pool.old.limit < length pool.old.trees + overs makes.now)) }
+    ensures over { (n : ℕ) → IsErrOf result (PoolError.Full n)
+        → pool.old.limit < length pool.old.trees + n }
     ensures kept { OnErr result (pool.new.trees ≡ pool.old.trees) }
     ensures limit { pool.new.limit ≡ pool.old.limit }
 {

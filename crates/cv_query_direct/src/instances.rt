@@ -46,7 +46,9 @@ pub(crate) fn is_argument(
     requires variables { ChildBelow (length pool.now.trees) variables }
     requires arguments { ChildBelow (length pool.now.trees) arguments }
     requires term { ChildBelow (length pool.now.trees) term }
-    ensures { result ≡ direct.is_argument (argument (leaf_names (tree_at pool.now.trees variables)) (tree_at pool.now.trees arguments) variable) (tree_at pool.now.trees term) }
+    ensures { result ≡ direct.is_argument
+        (argument (leaf_names (tree_at pool.now.trees variables))
+        (tree_at pool.now.trees arguments) variable) (tree_at pool.now.trees term) }
 {
     let mut xs = variables;
     let mut ms = arguments;
@@ -110,7 +112,9 @@ fn stands_for(
     requires variables { ChildBelow (length pool.now.trees) bindings.variables }
     requires arguments { ChildBelow (length pool.now.trees) bindings.arguments }
     requires tree { ChildBelow (length pool.now.trees) tree }
-    ensures { result ≡ direct.stands_for (is_outside bound.now) (leaf_names (tree_at pool.now.trees bindings.variables)) (tree_at pool.now.trees bindings.arguments) name (tree_at pool.now.trees tree) }
+    ensures { result ≡ direct.stands_for (is_outside bound.now)
+        (leaf_names (tree_at pool.now.trees bindings.variables))
+        (tree_at pool.now.trees bindings.arguments) name (tree_at pool.now.trees tree) }
 {
     if is_one_of(pool, bindings.variables, name) {
         return is_argument(pool, bindings.variables, bindings.arguments, name, tree);
@@ -132,7 +136,8 @@ fn is_substituted(
     requires arguments { ChildBelow (length pool.now.trees) bindings.arguments }
     requires term { ChildBelow (length pool.now.trees) term }
     requires tree { ChildBelow (length pool.now.trees) tree }
-    ensures { result ≡ term_stands pool.now.trees bound.now bindings (tree_at pool.now.trees term) (tree_at pool.now.trees tree) }
+    ensures { result ≡ term_stands pool.now.trees bound.now bindings (tree_at pool.now.trees term)
+        (tree_at pool.now.trees tree) }
 {
     let Some(t) = term else {
         return false;
@@ -174,7 +179,10 @@ fn are_both(
     requires second { ChildBelow (length pool.now.trees) wanted.second }
     requires left { ChildBelow (length pool.now.trees) there.first }
     requires right { ChildBelow (length pool.now.trees) there.second }
-    ensures { result ≡ (term_stands pool.now.trees bound.now bindings (tree_at pool.now.trees wanted.first) (tree_at pool.now.trees there.first) && term_stands pool.now.trees bound.now bindings (tree_at pool.now.trees wanted.second) (tree_at pool.now.trees there.second)) }
+    ensures { result ≡ (term_stands pool.now.trees bound.now bindings
+        (tree_at pool.now.trees wanted.first) (tree_at pool.now.trees there.first) && term_stands
+        pool.now.trees bound.now bindings (tree_at pool.now.trees wanted.second)
+        (tree_at pool.now.trees there.second)) }
 {
     is_substituted(pool, bound, bindings, wanted.first, there.first)
         && is_substituted(pool, bound, bindings, wanted.second, there.second)
@@ -194,7 +202,8 @@ pub(crate) fn is_instance(
     requires arguments { ChildBelow (length pool.now.trees) bindings.arguments }
     requires list { ChildBelow (length pool.now.trees) list }
     requires terms { ChildBelow (length pool.now.trees) terms }
-    ensures { result ≡ terms_stand pool.now.trees bound.now bindings (tree_at pool.now.trees list) (tree_at pool.now.trees terms) }
+    ensures { result ≡ terms_stand pool.now.trees bound.now bindings (tree_at pool.now.trees list)
+        (tree_at pool.now.trees terms) }
 {
     let mut ys = list;
     let mut ms = terms;

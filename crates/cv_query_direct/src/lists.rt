@@ -21,7 +21,8 @@ pub(crate) fn push_leaf(makes: &mut Vec<Make>, head: Head) -> Result<(), AllocEr
 /// Makes a list of so many trees, which were made before.
 #[tactic(auto, using(crate::proofs::Made::making))]
 pub(crate) fn close_list(makes: &mut Vec<Make>, count: usize) -> Result<(), AllocError>
-    ensures { OnOk result (makes.new.items ≡ makes.old.items ++ Nothing ∷ replicate count (Over Cons)) }
+    ensures { OnOk result (makes.new.items
+        ≡ makes.old.items ++ Nothing ∷ replicate count (Over Cons)) }
 {
     makes.push(Make::Nothing)?;
     'cells: for _ in 0..count {

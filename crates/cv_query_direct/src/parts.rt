@@ -16,7 +16,8 @@ use std::alloc::AllocError;
 #[tactic(auto, unfolding(cv_syntax::specs::Postorder::postorder), using(crate::proofs::Made::making))]
 fn push_line(makes: &mut Vec<Make>, pool: &Pool, term: Option<NodeId>) -> Result<(), AllocError>
     requires { ChildBelow (length pool.now.trees) term }
-    ensures { OnOk result (makes.new.items ≡ makes.old.items ++ postorder (reflexive (tree_at pool.now.trees term))) }
+    ensures { OnOk result (makes.new.items
+        ≡ makes.old.items ++ postorder (reflexive (tree_at pool.now.trees term))) }
 {
     push_tree(makes, pool, term)?;
     push_tree(makes, pool, term)?;
@@ -30,7 +31,8 @@ fn push_line(makes: &mut Vec<Make>, pool: &Pool, term: Option<NodeId>) -> Result
 #[tactic(auto, using(crate::proofs::Made::making))]
 fn push_lines(makes: &mut Vec<Make>, pool: &Pool, terms: Option<NodeId>) -> Result<(), AllocError>
     requires { ChildBelow (length pool.now.trees) terms }
-    ensures { OnOk result (makes.new.items ≡ makes.old.items ++ postorder (reflexive_lines (tree_at pool.now.trees terms))) }
+    ensures { OnOk result (makes.new.items
+        ≡ makes.old.items ++ postorder (reflexive_lines (tree_at pool.now.trees terms))) }
 {
     let mut count: usize = 0;
     let mut at = terms;
@@ -47,7 +49,8 @@ fn push_lines(makes: &mut Vec<Make>, pool: &Pool, terms: Option<NodeId>) -> Resu
 #[tactic(auto, unfolding(cv_syntax::specs::Postorder::postorder), using(crate::proofs::Made::making))]
 fn push_route(makes: &mut Vec<Make>, pool: &Pool, route: Route) -> Result<(), AllocError>
     requires { RouteBelow (length pool.now.trees) route }
-    ensures { OnOk result (makes.new.items ≡ makes.old.items ++ postorder (route_of (route_tree pool.now.trees route))) }
+    ensures { OnOk result (makes.new.items
+        ≡ makes.old.items ++ postorder (route_of (route_tree pool.now.trees route))) }
 {
     push_leaf(makes, Head::Number(u64::from(route.place)))?;
     push_lines(makes, pool, route.arguments)?;
@@ -59,7 +62,9 @@ fn push_route(makes: &mut Vec<Make>, pool: &Pool, route: Route) -> Result<(), Al
 #[tactic(auto, using(crate::proofs::Made::making))]
 fn push_routes(makes: &mut Vec<Make>, pool: &Pool, routes: &[Route]) -> Result<(), AllocError>
     requires { All (RouteBelow (length pool.now.trees)) routes.now }
-    ensures { OnOk result (makes.new.items ≡ makes.old.items ++ postorder (chain (map route_of (map (route_tree pool.now.trees) routes.now)))) }
+    ensures { OnOk result (makes.new.items
+        ≡ makes.old.items ++ postorder (chain
+        (map route_of (map (route_tree pool.now.trees) routes.now)))) }
 {
     'routes: for k in 0..routes.len() {
         push_route(makes, pool, routes[k])?;
@@ -71,7 +76,8 @@ fn push_routes(makes: &mut Vec<Make>, pool: &Pool, routes: &[Route]) -> Result<(
 #[tactic(auto, unfolding(cv_syntax::specs::Postorder::postorder), using(crate::proofs::Made::making))]
 fn push_entry(makes: &mut Vec<Make>, pool: &Pool, entry: &Entry) -> Result<(), AllocError>
     requires { RoutesBelow (length pool.now.trees) entry.now }
-    ensures { OnOk result (makes.new.items ≡ makes.old.items ++ postorder (entry_of (entry_tree pool.now.trees entry.now))) }
+    ensures { OnOk result (makes.new.items
+        ≡ makes.old.items ++ postorder (entry_of (entry_tree pool.now.trees entry.now))) }
 {
     push_leaf(makes, Head::Number(u64::from(entry.place)))?;
     makes.push(Make::Nothing)?;
@@ -85,7 +91,9 @@ fn push_entry(makes: &mut Vec<Make>, pool: &Pool, entry: &Entry) -> Result<(), A
 #[tactic(auto, using(crate::proofs::Made::making))]
 fn push_entries(makes: &mut Vec<Make>, pool: &Pool, entries: &[Entry]) -> Result<(), AllocError>
     requires { All (RoutesBelow (length pool.now.trees)) entries.now }
-    ensures { OnOk result (makes.new.items ≡ makes.old.items ++ postorder (chain (map entry_of (entry_trees pool.now.trees entries.now)))) }
+    ensures { OnOk result (makes.new.items
+        ≡ makes.old.items ++ postorder (chain
+        (map entry_of (entry_trees pool.now.trees entries.now)))) }
 {
     'entries: for k in 0..entries.len() {
         push_entry(makes, pool, &entries[k])?;
@@ -102,7 +110,8 @@ pub(crate) fn push_step(
     entries: &[Entry],
 ) -> Result<(), AllocError>
     requires { All (RoutesBelow (length pool.now.trees)) entries.now }
-    ensures { OnOk result (makes.new.items ≡ makes.old.items ++ postorder (step_of query (entry_trees pool.now.trees entries.now))) }
+    ensures { OnOk result (makes.new.items
+        ≡ makes.old.items ++ postorder (step_of query (entry_trees pool.now.trees entries.now))) }
 {
     push_leaf(makes, Head::Number(u64::from(query)))?;
     push_entries(makes, pool, entries)?;

@@ -64,9 +64,13 @@ pub fn direct(
     requires query { query.0 < length pool.now.trees }
     requires game { game.0 < length pool.now.trees }
     requires fits { size (tree_at pool.now.trees (Some game)) < 2 ^ 32 }
-    ensures closed { IfOk result (λ o. is_some o ≡ is_plainly_direct (tree_at pool.now.trees (Some game)) (tree_at pool.now.trees (Some query))) }
-    ensures entries { IfOk result (λ o. option_map (λ es. entry_trees pool.now.trees es.items) o ≡ certificate (tree_at pool.now.trees (Some game)) (tree_at pool.now.trees (Some query))) }
-    ensures live { IfOk result (λ o. IfSome o (λ es. All (RoutesBelow (length pool.now.trees)) es.items)) }
+    ensures closed { IfOk result (λ o. is_some o
+        ≡ is_plainly_direct (tree_at pool.now.trees (Some game))
+        (tree_at pool.now.trees (Some query))) }
+    ensures entries { IfOk result (λ o. option_map (λ es. entry_trees pool.now.trees es.items) o
+        ≡ certificate (tree_at pool.now.trees (Some game)) (tree_at pool.now.trees (Some query))) }
+    ensures live { IfOk result (λ o. IfSome o
+        (λ es. All (RoutesBelow (length pool.now.trees)) es.items)) }
 {
     if !is_plain_query(alloc, pool, query)? {
         return Ok(None);
@@ -85,8 +89,12 @@ fn entries_in(
     requires query { query.0 < length pool.now.trees }
     requires game { game.0 < length pool.now.trees }
     requires fits { size (tree_at pool.now.trees (Some game)) < 2 ^ 32 }
-    ensures entries { IfOk result (λ o. option_map (λ es. entry_trees pool.now.trees es.items) o ≡ entries_of (wanted_of (tree_at pool.now.trees (Some game)) (correspondence_of (tree_at pool.now.trees (Some query)))) [] 0 (tree_at pool.now.trees (Some game))) }
-    ensures live { IfOk result (λ o. IfSome o (λ es. All (RoutesBelow (length pool.now.trees)) es.items)) }
+    ensures entries { IfOk result (λ o. option_map (λ es. entry_trees pool.now.trees es.items) o
+        ≡ entries_of (wanted_of (tree_at pool.now.trees (Some game))
+        (correspondence_of (tree_at pool.now.trees (Some query)))) [] 0
+        (tree_at pool.now.trees (Some game))) }
+    ensures live { IfOk result (λ o. IfSome o
+        (λ es. All (RoutesBelow (length pool.now.trees)) es.items)) }
 {
     let bound = names_bound_in(alloc, pool, Some(game))?;
     let sought = sought_by(pool, query);
@@ -105,8 +113,10 @@ fn entries_in(
 fn sought_by(pool: &Pool, query: NodeId) -> Sought
     requires { query.0 < length pool.now.trees }
     ensures event { result.event ≡ (correspondence_of (tree_at pool.now.trees (Some query))).event }
-    ensures named { leaf_names (tree_at pool.now.trees result.variables) ≡ (correspondence_of (tree_at pool.now.trees (Some query))).variables }
-    ensures atoms { atoms_of (tree_at pool.now.trees result.rights) ≡ (correspondence_of (tree_at pool.now.trees (Some query))).atoms }
+    ensures named { leaf_names (tree_at pool.now.trees result.variables)
+        ≡ (correspondence_of (tree_at pool.now.trees (Some query))).variables }
+    ensures atoms { atoms_of (tree_at pool.now.trees result.rights)
+        ≡ (correspondence_of (tree_at pool.now.trees (Some query))).atoms }
     ensures variables { ChildBelow (length pool.now.trees) result.variables }
     ensures rights { ChildBelow (length pool.now.trees) result.rights }
 {
@@ -154,10 +164,18 @@ fn walk(
     requires above { All (SeenBelow (length pool.now.trees)) search.old.above.items }
     requires entries { All (RoutesBelow (length pool.now.trees)) search.old.entries.items }
     requires fits { search.old.place + size (tree_at pool.now.trees tree) < 2 ^ 32 }
-    ensures place { IfOk result (λ closed. closed ≡ true → search.new.place ≡ search.old.place + size (tree_at pool.now.trees tree)) }
-    ensures above { IfOk result (λ closed. closed ≡ true → search.new.above.items ≡ search.old.above.items) }
-    ensures entries { IfOk result (λ closed. joined (Some (entry_trees pool.now.trees search.old.entries.items)) (entries_of (wanted pool.now.trees bound.now sought) (map (placed pool.now.trees) search.old.above.items) search.old.place (tree_at pool.now.trees tree)) ≡ (if closed then Some (entry_trees pool.now.trees search.new.entries.items) else None)) }
-    ensures live { OnOk result (All (RoutesBelow (length pool.now.trees)) search.new.entries.items) }
+    ensures place { IfOk result (λ closed. closed ≡ true
+        → search.new.place ≡ search.old.place + size (tree_at pool.now.trees tree)) }
+    ensures above { IfOk result (λ closed. closed ≡ true
+        → search.new.above.items ≡ search.old.above.items) }
+    ensures entries { IfOk result (λ closed. joined
+        (Some (entry_trees pool.now.trees search.old.entries.items))
+        (entries_of (wanted pool.now.trees bound.now sought)
+        (map (placed pool.now.trees) search.old.above.items) search.old.place
+        (tree_at pool.now.trees tree)) ≡ (if closed then Some
+        (entry_trees pool.now.trees search.new.entries.items) else None)) }
+    ensures live { OnOk result (All (RoutesBelow (length pool.now.trees))
+        search.new.entries.items) }
 {
     let depth = search.above.len();
     let mut at = tree;
@@ -195,8 +213,14 @@ fn enter(
     requires first { ChildBelow (length pool.now.trees) node.first }
     ensures place { search.new.place ≡ search.old.place }
     ensures above { search.new.above ≡ search.old.above }
-    ensures entries { IfOk result (λ closed. joined (Some (entry_trees pool.now.trees search.old.entries.items)) (head_entries (wanted pool.now.trees bound.now sought) (map (placed pool.now.trees) search.old.above.items) search.old.place node.head (tree_at pool.now.trees node.first)) ≡ (if closed then Some (entry_trees pool.now.trees search.new.entries.items) else None)) }
-    ensures live { OnOk result (All (RoutesBelow (length pool.now.trees)) search.new.entries.items) }
+    ensures entries { IfOk result (λ closed. joined
+        (Some (entry_trees pool.now.trees search.old.entries.items))
+        (head_entries (wanted pool.now.trees bound.now sought)
+        (map (placed pool.now.trees) search.old.above.items) search.old.place node.head
+        (tree_at pool.now.trees node.first))
+        ≡ (if closed then Some (entry_trees pool.now.trees search.new.entries.items) else None)) }
+    ensures live { OnOk result (All (RoutesBelow (length pool.now.trees))
+        search.new.entries.items) }
 {
     let Head::Event(event) = node.head else {
         return Ok(true);
@@ -219,7 +243,8 @@ fn enter(
 fn note(search: &mut Search, place: u32, node: Opened) -> Result<(), AllocError>
     ensures place { search.new.place ≡ search.old.place }
     ensures entries { search.new.entries ≡ search.old.entries }
-    ensures above { OnOk result (search.new.above.items ≡ search.old.above.items ++ seen_by place node.head node.first) }
+    ensures above { OnOk result (search.new.above.items
+        ≡ search.old.above.items ++ seen_by place node.head node.first) }
 {
     if let Head::Event(event) = node.head {
         search.above.push(Seen {
@@ -245,8 +270,13 @@ fn routes(
     requires rights { ChildBelow (length pool.now.trees) sought.rights }
     requires arguments { ChildBelow (length pool.now.trees) arguments }
     requires above { All (SeenBelow (length pool.now.trees)) above.now }
-    ensures routes { IfOk result (λ o. option_map (λ rs. map (route_tree pool.now.trees) rs.items) o ≡ routes_of (is_outside bound.now) (leaf_names (tree_at pool.now.trees sought.variables)) (map (placed pool.now.trees) above.now) (tree_at pool.now.trees arguments) (atoms_of (tree_at pool.now.trees sought.rights))) }
-    ensures live { IfOk result (λ o. IfSome o (λ rs. All (RouteBelow (length pool.now.trees)) rs.items)) }
+    ensures routes { IfOk result (λ o. option_map
+        (λ rs. map (route_tree pool.now.trees) rs.items) o
+        ≡ routes_of (is_outside bound.now) (leaf_names (tree_at pool.now.trees sought.variables))
+        (map (placed pool.now.trees) above.now) (tree_at pool.now.trees arguments)
+        (atoms_of (tree_at pool.now.trees sought.rights))) }
+    ensures live { IfOk result (λ o. IfSome o
+        (λ rs. All (RouteBelow (length pool.now.trees)) rs.items)) }
 {
     let bindings = Bindings {
         variables: sought.variables,
@@ -278,7 +308,10 @@ fn right_route(
     requires arguments { ChildBelow (length pool.now.trees) bindings.arguments }
     requires right { ChildBelow (length pool.now.trees) right }
     requires above { All (SeenBelow (length pool.now.trees)) above.now }
-    ensures route { option_map (route_tree pool.now.trees) result ≡ route (is_outside bound.now) (leaf_names (tree_at pool.now.trees bindings.variables)) (map (placed pool.now.trees) above.now) (tree_at pool.now.trees bindings.arguments) (atom_of (tree_at pool.now.trees right)) }
+    ensures route { option_map (route_tree pool.now.trees) result
+        ≡ route (is_outside bound.now) (leaf_names (tree_at pool.now.trees bindings.variables))
+        (map (placed pool.now.trees) above.now) (tree_at pool.now.trees bindings.arguments)
+        (atom_of (tree_at pool.now.trees right)) }
     ensures live { IfSome result (RouteBelow (length pool.now.trees)) }
 {
     let Some(n) = right else {
@@ -306,7 +339,11 @@ fn first(
     requires arguments { ChildBelow (length pool.now.trees) bindings.arguments }
     requires terms { ChildBelow (length pool.now.trees) terms }
     requires above { All (SeenBelow (length pool.now.trees)) above.now }
-    ensures route { option_map (route_tree pool.now.trees) result ≡ first_noted (is_outside bound.now) (leaf_names (tree_at pool.now.trees bindings.variables)) (map (placed pool.now.trees) above.now) (tree_at pool.now.trees bindings.arguments) event (tree_at pool.now.trees terms) }
+    ensures route { option_map (route_tree pool.now.trees) result
+        ≡ first_noted (is_outside bound.now)
+        (leaf_names (tree_at pool.now.trees bindings.variables))
+        (map (placed pool.now.trees) above.now) (tree_at pool.now.trees bindings.arguments) event
+        (tree_at pool.now.trees terms) }
     ensures live { IfSome result (RouteBelow (length pool.now.trees)) }
 {
     for seen in above {

@@ -27,7 +27,8 @@ pub(crate) fn push_tree(
     tree: Option<NodeId>,
 ) -> Result<(), AllocError>
     requires { ChildBelow (length pool.now.trees) tree }
-    ensures { OnOk result (makes.new.items ≡ makes.old.items ++ postorder (tree_at pool.now.trees tree)) }
+    ensures { OnOk result (makes.new.items
+        ≡ makes.old.items ++ postorder (tree_at pool.now.trees tree)) }
 {
     let mut heads = Vec::new(*makes.allocator());
     let mut at = tree;

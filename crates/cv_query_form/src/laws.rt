@@ -7,6 +7,8 @@ ghost use Rattle.cv_query_form.specs.Tests.{first_refused, may_be_asked};
 /// computed is that of the first query that may not.
 pub fn queries_are_decided()
     ensures query { (game query : Tree) → (may_be_asked game query ≡ true) ↔ MayBeAsked game query }
-    ensures all { (game : Tree) (queries : List Tree) → (first_refused game queries ≡ None) ↔ AreAsked game queries }
-    ensures first { (game : Tree) (queries : List Tree) (k : ℕ) → (first_refused game queries ≡ Some k) ↔ IsFirstRefused game queries k }
+    ensures all { (game : Tree) (queries : List Tree)
+        → (first_refused game queries ≡ None) ↔ AreAsked game queries }
+    ensures first { (game : Tree) (queries : List Tree) (k : ℕ)
+        → (first_refused game queries ≡ Some k) ↔ IsFirstRefused game queries k }
 {}

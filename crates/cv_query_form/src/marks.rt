@@ -38,7 +38,8 @@ fn some_is_marked(pool: &Pool, atoms: Option<NodeId>) -> bool
 pub fn are_marked_alike(pool: &Pool, left: Option<NodeId>, atoms: Option<NodeId>) -> bool
     requires left { ChildBelow (length pool.now.trees) left }
     requires atoms { ChildBelow (length pool.now.trees) atoms }
-    ensures { result ≡ test.are_marked_alike (tree_at pool.now.trees left) (tree_at pool.now.trees atoms) }
+    ensures { result ≡ test.are_marked_alike (tree_at pool.now.trees left)
+        (tree_at pool.now.trees atoms) }
 {
     is_marked(pool, left) == some_is_marked(pool, atoms)
 }

@@ -21,7 +21,8 @@ pub fn may_be_asked(
     query: NodeId,
 ) -> Result<bool, AllocError>
     requires { query.0 < length pool.now.trees }
-    ensures { IfOk result (λ yes. yes ≡ passes (valued (seen sites.now)) (tree_at pool.now.trees (Some query))) }
+    ensures { IfOk result (λ yes. yes
+        ≡ passes (valued (seen sites.now)) (tree_at pool.now.trees (Some query))) }
 {
     let node = read_node(pool, query);
     match node.head {
@@ -42,7 +43,8 @@ fn correspondence_may_be_asked(
 ) -> Result<bool, AllocError>
     requires binders { ChildBelow (length pool.now.trees) binders }
     requires events { ChildBelow (length pool.now.trees) events }
-    ensures { IfOk result (λ yes. yes ≡ correspondence_passes (tree_at pool.now.trees binders) (tree_at pool.now.trees events)) }
+    ensures { IfOk result (λ yes. yes
+        ≡ correspondence_passes (tree_at pool.now.trees binders) (tree_at pool.now.trees events)) }
 {
     let Some(k) = events else {
         return Ok(false);

@@ -9,14 +9,18 @@ ghost use Rattle.cv_query_form.specs.Worked.{applied, asks, begins_before, game,
 pub fn worked_correspondences()
     ensures distinct { may_be_asked game (begins_before false false two_variables) ≡ true }
     ensures no_argument { may_be_asked game (asks (occurs false 11 []) (lone No ∷ [])) ≡ true }
-    ensures repeated { may_be_asked game (begins_before false false (leaf 21 ∷ leaf 22 ∷ leaf 21 ∷ [])) ≡ false }
+    ensures repeated { may_be_asked game
+        (begins_before false false (leaf 21 ∷ leaf 22 ∷ leaf 21 ∷ [])) ≡ false }
     ensures constant { may_be_asked game (begins_before false false (leaf 20 ∷ [])) ≡ false }
     ensures applied { may_be_asked game (begins_before false false (applied ∷ [])) ≡ false }
     ensures both { may_be_asked game (begins_before true true two_variables) ≡ true }
     ensures left_alone { may_be_asked game (begins_before true false two_variables) ≡ false }
     ensures right_alone { may_be_asked game (begins_before false true two_variables) ≡ false }
-    ensures some_marked { may_be_asked game (asks (occurs true 11 two_variables) (occurs false 12 [] ∷ Node Eq (leaf 21) (leaf 22) ∷ occurs true 12 [] ∷ [])) ≡ true }
-    ensures term_alone { may_be_asked game (asks (occurs true 11 two_variables) (Node Eq (leaf 21) (leaf 22) ∷ [])) ≡ false }
+    ensures some_marked { may_be_asked game
+        (asks (occurs true 11 two_variables)
+        (occurs false 12 [] ∷ Node Eq (leaf 21) (leaf 22) ∷ occurs true 12 [] ∷ [])) ≡ true }
+    ensures term_alone { may_be_asked game
+        (asks (occurs true 11 two_variables) (Node Eq (leaf 21) (leaf 22) ∷ [])) ≡ false }
 {}
 
 /// Worked queries of secrecy, and the first of several that may not be asked.
@@ -28,7 +32,8 @@ pub fn worked_secrets()
     ensures unknown { may_be_asked game (secret_once 20) ≡ false }
     ensures no_query { may_be_asked game (lone Yield) ≡ false }
     ensures none { first_refused game [] ≡ None }
-    ensures all { first_refused game (secret 4 ∷ begins_before true true two_variables ∷ []) ≡ None }
+    ensures all { first_refused game (secret 4 ∷ begins_before true true two_variables ∷ [])
+        ≡ None }
     ensures first { first_refused game (secret 4 ∷ secret 9 ∷ secret 20 ∷ []) ≡ Some 2 }
     ensures second { first_refused game (secret 9 ∷ secret 4 ∷ []) ≡ Some 1 }
 {}

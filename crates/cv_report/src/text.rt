@@ -33,7 +33,8 @@ fn push_next(
     next: Option<Game>,
 ) -> Result<(), AllocError>
     requires { IfSome next (λ g. g.root.0 < length pool.now.trees) }
-    ensures { OnOk result (out.new.items ≡ out.old.items ++ next_text names.now pool.now.trees number next) }
+    ensures { OnOk result (out.new.items
+        ≡ out.old.items ++ next_text names.now pool.now.trees number next) }
 {
     let Some(game) = next else {
         return Ok(());
@@ -54,7 +55,8 @@ fn push_entry(
     entry: &Entry,
 ) -> Result<(), AllocError>
     requires { EntryLive (length pool.now.trees) entry.now }
-    ensures { OnOk result (out.new.items ≡ out.old.items ++ entry_text names.now pool.now.trees number game entry.now) }
+    ensures { OnOk result (out.new.items
+        ≡ out.old.items ++ entry_text names.now pool.now.trees number game entry.now) }
 {
     out.extend_from_slice(b"step ")?;
     push_decimal(out, number)?;
@@ -85,7 +87,8 @@ fn push_trail(
     trail: &[Entry],
 ) -> Result<(), AllocError>
     requires { All (EntryLive (length pool.now.trees)) trail.now }
-    ensures { OnOk result (out.new.items ≡ out.old.items ++ trail_text names.now pool.now.trees 1 2 trail.now) }
+    ensures { OnOk result (out.new.items
+        ≡ out.old.items ++ trail_text names.now pool.now.trees 1 2 trail.now) }
 {
     let mut game = 2;
     'trail: for k in 0..trail.len() {
@@ -117,7 +120,8 @@ fn push_verdict(
     number: u64,
     verdict: &Verdict,
 ) -> Result<(), AllocError>
-    ensures { OnOk result (out.new.items ≡ out.old.items ++ verdict_text names.now number verdict.now) }
+    ensures { OnOk result (out.new.items
+        ≡ out.old.items ++ verdict_text names.now number verdict.now) }
 {
     out.extend_from_slice(b"query ")?;
     push_decimal(out, number)?;
@@ -127,7 +131,8 @@ fn push_verdict(
 /// Appends verdicts with the numbers of their queries.
 #[tactic(auto, using(crate::proofs::Texts::texts))]
 fn push_verdicts(out: &mut Vec<u8>, names: &Names, verdicts: &[Verdict]) -> Result<(), AllocError>
-    ensures { OnOk result (out.new.items ≡ out.old.items ++ verdicts_text names.now 1 verdicts.now) }
+    ensures { OnOk result (out.new.items
+        ≡ out.old.items ++ verdicts_text names.now 1 verdicts.now) }
 {
     'verdicts: for k in 0..verdicts.len() {
         push_verdict(out, names, k as u64 + 1, &verdicts[k])?;

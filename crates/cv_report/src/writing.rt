@@ -41,7 +41,8 @@ impl From<PutError> for WriteError {
 /// on with its rest.
 pub fn write<K: Sink>(alloc: Global, sink: &mut K, report: &Report) -> Result<(), WriteError>
     requires { IsLive report.now }
-    ensures all { OnOk result (TakesAll (K.taken sink.old) (K.taken sink.new) (text_of report.now)) }
+    ensures all { OnOk result (TakesAll (K.taken sink.old) (K.taken sink.new)
+        (text_of report.now)) }
     ensures front { TakesFront (K.taken sink.old) (K.taken sink.new) (text_of report.now) }
     ensures failed { result ≡ Err WriteError.Failed → Rose (K.faults sink.old) (K.faults sink.new) }
     ensures untouched { result ≡ Err WriteError.OutOfMemory → K.taken sink.new ≡ K.taken sink.old }

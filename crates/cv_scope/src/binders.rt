@@ -45,7 +45,8 @@ pub fn are_same(left: &[(u32, u32)], right: &[(u32, u32)]) -> bool
 pub fn have_same_types(pool: &Pool, left: Option<NodeId>, right: Option<NodeId>) -> bool
     requires left { ChildBelow (length pool.now.trees) left }
     requires right { ChildBelow (length pool.now.trees) right }
-    ensures { result ≡ same_numbers (bound_types (tree_at pool.now.trees left)) (bound_types (tree_at pool.now.trees right)) }
+    ensures { result ≡ same_numbers (bound_types (tree_at pool.now.trees left))
+        (bound_types (tree_at pool.now.trees right)) }
 {
     let mut left_at = left;
     let mut right_at = right;

@@ -52,7 +52,8 @@ impl State {
 
     /// Defines a variable under the current replications.
     fn define(&mut self, x: u32) -> Result<(), AllocError>
-        ensures { OnOk result (DefinesOnly self.old self.new (with_definition self.old.defined (x, length self.old.replications.items))) }
+        ensures { OnOk result (DefinesOnly self.old self.new
+            (with_definition self.old.defined (x, length self.old.replications.items))) }
     {
         self.defined.add(x, self.replications.len())
     }
@@ -60,7 +61,9 @@ impl State {
     /// Defines the variables of a list of binders.
     fn define_all(&mut self, pool: &Pool, list: Option<NodeId>) -> Result<(), AllocError>
         requires { ChildBelow (length pool.now.trees) list }
-        ensures { OnOk result (DefinesOnly self.old self.new (with_definitions self.old.defined (length self.old.replications.items) (bound_names (tree_at pool.now.trees list)))) }
+        ensures { OnOk result (DefinesOnly self.old self.new
+            (with_definitions self.old.defined (length self.old.replications.items)
+            (bound_names (tree_at pool.now.trees list)))) }
     {
         let mut at = list;
         'binders: while let Some(binder) = first_binder(pool, at) {
@@ -74,7 +77,8 @@ impl State {
     fn list_one(&mut self, pool: &Pool, cell: Option<NodeId>) -> Result<(), AllocError>
         requires cell { ChildBelow (length pool.now.trees) cell }
         requires listed { AreListed pool.now.trees self.old.listed }
-        ensures { OnOk result (ListsOnly pool.now.trees self.old self.new (tree_at pool.now.trees cell ∷ [])) }
+        ensures { OnOk result (ListsOnly pool.now.trees self.old self.new
+            (tree_at pool.now.trees cell ∷ [])) }
     {
         self.listed.add(cell)
     }
@@ -83,7 +87,8 @@ impl State {
     fn list_all(&mut self, pool: &Pool, list: Option<NodeId>) -> Result<(), AllocError>
         requires list { ChildBelow (length pool.now.trees) list }
         requires listed { AreListed pool.now.trees self.old.listed }
-        ensures { OnOk result (ListsOnly pool.now.trees self.old self.new (items (tree_at pool.now.trees list))) }
+        ensures { OnOk result (ListsOnly pool.now.trees self.old self.new
+            (items (tree_at pool.now.trees list))) }
     {
         let mut at = list;
         'cells: while let Some(k) = at {
@@ -107,7 +112,8 @@ impl State {
         requires listed { AreListed pool.now.trees self.old.listed }
         requires passed { EndBy from self.old.passed }
         requires range { from ≤ to }
-        ensures { OnOk result (IsEntered pool.now.trees self.old self.new position Head.Cons (tree_at pool.now.trees item) from to) }
+        ensures { OnOk result (IsEntered pool.now.trees self.old self.new position Head.Cons
+            (tree_at pool.now.trees item) from to) }
     {
         match position {
             Position::Bodies => self.passed.add(from, to),
@@ -132,7 +138,8 @@ impl State {
         requires listed { AreListed pool.now.trees self.old.listed }
         requires passed { EndBy from self.old.passed }
         requires range { from ≤ to }
-        ensures { OnOk result (IsEntered pool.now.trees self.old self.new position head (tree_at pool.now.trees first) from to) }
+        ensures { OnOk result (IsEntered pool.now.trees self.old self.new position head
+            (tree_at pool.now.trees first) from to) }
     {
         match head {
             Head::Cons => self.enter_rest(pool, position, first, from, to),
@@ -150,8 +157,10 @@ impl State {
 
     /// Goes below a replication.
     fn replicate(&mut self, i: u32, n: u32) -> Result<(), AllocError>
-        ensures same { OnOk result (self.new ≡ record self.old { replications = self.new.replications }) }
-        ensures replications { OnOk result (self.new.replications.items ≡ self.old.replications.items ++ (i, n) ∷ []) }
+        ensures same { OnOk result (self.new
+            ≡ record self.old { replications = self.new.replications }) }
+        ensures replications { OnOk result
+            (self.new.replications.items ≡ self.old.replications.items ++ (i, n) ∷ []) }
     {
         self.replications.push((i, n))?;
         Ok(())

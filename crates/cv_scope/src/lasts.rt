@@ -33,7 +33,9 @@ pub struct Lasts {
 fn may_follow(pool: &Pool, passed: &Passed, site: &LastSite, last: Option<&LastSite>) -> bool
     requires site { ChildBelow (length pool.now.trees) site.now.binders }
     requires last { IsLiveSite (length pool.now.trees) (option_copied last) }
-    ensures { (name : SiteName) → result ≡ may_follow_last passed.now (site_held pool.now.trees name site.now) (option_map (site_held pool.now.trees name) (option_copied last.entry)) }
+    ensures { (name : SiteName) → result
+        ≡ may_follow_last passed.now (site_held pool.now.trees name site.now)
+        (option_map (site_held pool.now.trees name) (option_copied last.entry)) }
 {
     match last {
         Some(last) => {
@@ -68,8 +70,12 @@ impl Lasts {
     ) -> Result<bool, AllocError>
         requires site { ChildBelow (length pool.now.trees) site.binders }
         requires live { HasLiveBinders (length pool.now.trees) self.old }
-        ensures may { IfOk result (λ yes. yes ≡ may_follow_last passed.now (site_held pool.now.trees (Variable x) site) (last_held pool.now.trees self.old (Variable x))) }
-        ensures noted { OnOk result (last_held pool.now.trees self.new ≡ with_site (last_held pool.now.trees self.old) (site_held pool.now.trees (Variable x) site)) }
+        ensures may { IfOk result (λ yes. yes
+            ≡ may_follow_last passed.now (site_held pool.now.trees (Variable x) site)
+            (last_held pool.now.trees self.old (Variable x))) }
+        ensures noted { OnOk result (last_held pool.now.trees self.new
+            ≡ with_site (last_held pool.now.trees self.old)
+            (site_held pool.now.trees (Variable x) site)) }
         ensures live { OnOk result (HasLiveBinders (length pool.now.trees) self.new) }
     {
         let may = may_follow(pool, passed, &site, self.variables.get(&x));
@@ -87,8 +93,12 @@ impl Lasts {
     ) -> Result<bool, AllocError>
         requires site { ChildBelow (length pool.now.trees) site.binders }
         requires live { HasLiveBinders (length pool.now.trees) self.old }
-        ensures may { IfOk result (λ yes. yes ≡ may_follow_last passed.now (site_held pool.now.trees (Channel c) site) (last_held pool.now.trees self.old (Channel c))) }
-        ensures noted { OnOk result (last_held pool.now.trees self.new ≡ with_site (last_held pool.now.trees self.old) (site_held pool.now.trees (Channel c) site)) }
+        ensures may { IfOk result (λ yes. yes
+            ≡ may_follow_last passed.now (site_held pool.now.trees (Channel c) site)
+            (last_held pool.now.trees self.old (Channel c))) }
+        ensures noted { OnOk result (last_held pool.now.trees self.new
+            ≡ with_site (last_held pool.now.trees self.old)
+            (site_held pool.now.trees (Channel c) site)) }
         ensures live { OnOk result (HasLiveBinders (length pool.now.trees) self.new) }
     {
         let may = may_follow(pool, passed, &site, self.channels.get(&c));
@@ -106,8 +116,12 @@ impl Lasts {
     ) -> Result<bool, AllocError>
         requires site { ChildBelow (length pool.now.trees) site.binders }
         requires live { HasLiveBinders (length pool.now.trees) self.old }
-        ensures may { IfOk result (λ yes. yes ≡ may_follow_last passed.now (site_held pool.now.trees (Label l) site) (last_held pool.now.trees self.old (Label l))) }
-        ensures noted { OnOk result (last_held pool.now.trees self.new ≡ with_site (last_held pool.now.trees self.old) (site_held pool.now.trees (Label l) site)) }
+        ensures may { IfOk result (λ yes. yes
+            ≡ may_follow_last passed.now (site_held pool.now.trees (Label l) site)
+            (last_held pool.now.trees self.old (Label l))) }
+        ensures noted { OnOk result (last_held pool.now.trees self.new
+            ≡ with_site (last_held pool.now.trees self.old)
+            (site_held pool.now.trees (Label l) site)) }
         ensures live { OnOk result (HasLiveBinders (length pool.now.trees) self.new) }
     {
         let may = may_follow(pool, passed, &site, self.labels.get(&l));

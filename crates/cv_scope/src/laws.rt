@@ -19,14 +19,16 @@ pub fn nodes_are_decided()
 
 /// A tree has no first fault exactly where it is scoped, and what is computed is the first fault in preorder.
 pub fn tree_faults_are_first()
-    ensures scoped { (names : Names) (s : Standing) (t : Tree) → (first_fault names s t ≡ None) ↔ IsScopedAt names s t }
+    ensures scoped { (names : Names) (s : Standing) (t : Tree)
+        → (first_fault names s t ≡ None) ↔ IsScopedAt names s t }
     ensures first { (names : Names) (s : Standing) (t : Tree) (q : ℕ) (f : Fault) →
         first_fault names s t ≡ Some (q, f) → IsFirst names s t q f }
 {}
 
 /// The same for a game.
 pub fn game_faults_are_first()
-    ensures scoped { (ds : List Declaration) (game : Tree) → (first_scope_fault ds game ≡ None) ↔ IsScoped ds game }
+    ensures scoped { (ds : List Declaration) (game : Tree)
+        → (first_scope_fault ds game ≡ None) ↔ IsScoped ds game }
     ensures first { (ds : List Declaration) (game : Tree) (q : ℕ) (f : Fault) →
         first_scope_fault ds game ≡ Some (q, f) → IsFirstFault ds game q f }
 {}
@@ -34,5 +36,6 @@ pub fn game_faults_are_first()
 /// In a scoped game the sites of one name are alike, and stand in different branches of one `if` or `find`.
 pub fn scoped_sites_are_apart()
     ensures alike { (ds : List Declaration) (game : Tree) → IsScoped ds game → AreSitesAlike game }
-    ensures branches { (ds : List Declaration) (game : Tree) → IsScoped ds game → IsApartByBranches game }
+    ensures branches { (ds : List Declaration) (game : Tree) → IsScoped ds game
+        → IsApartByBranches game }
 {}

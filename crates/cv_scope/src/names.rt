@@ -28,10 +28,7 @@ impl NameKinds {
     pub fn into_directory(self) -> Directory
         ensures { result ≡ self.sites }
     {
-        let NameKinds {
-            sites,
-            ..
-        } = self;
+        let NameKinds { sites, .. } = self;
         sites
     }
 
@@ -78,7 +75,9 @@ impl NameKinds {
     /// Notes the constants of declarations.
     fn note_constants(&mut self, pool: &Pool, decls: &Decls) -> Result<(), AllocError>
         requires { All (IsLive (length pool.now.trees)) decls.now.list }
-        ensures constants { OnOk result ((x : ℕ) → (names_held self.new).constant x ≡ ((names_held self.old).constant x || has_constant pool.now.trees decls.now.list x)) }
+        ensures constants { OnOk result
+            ((x : ℕ) → (names_held self.new).constant x
+            ≡ ((names_held self.old).constant x || has_constant pool.now.trees decls.now.list x)) }
         ensures sites { OnOk result (self.new.sites ≡ self.old.sites) }
         ensures untyped { OnOk result (self.new.untyped ≡ self.old.untyped) }
     {
@@ -90,7 +89,9 @@ impl NameKinds {
 
     /// Notes a constant, where there is one.
     fn note(&mut self, constant: Option<u32>) -> Result<(), AllocError>
-        ensures constant { OnOk result ((x : ℕ) → (names_held self.new).constant x ≡ ((names_held self.old).constant x || is_here constant x)) }
+        ensures constant { OnOk result ((x : ℕ)
+            → (names_held self.new).constant x
+            ≡ ((names_held self.old).constant x || is_here constant x)) }
         ensures sites { OnOk result (self.new.sites ≡ self.old.sites) }
         ensures untyped { OnOk result (self.new.untyped ≡ self.old.untyped) }
     {
@@ -103,7 +104,9 @@ impl NameKinds {
     /// Notes the keys and the results of calls of a tree.
     fn note_untyped(&mut self, pool: &Pool, tree: Option<NodeId>) -> Result<(), AllocError>
         requires { ChildBelow (length pool.now.trees) tree }
-        ensures untyped { OnOk result ((x : ℕ) → untyped_held self.new x ≡ (untyped_held self.old x || is_untyped_in x (tree_at pool.now.trees tree))) }
+        ensures untyped { OnOk result ((x : ℕ)
+            → untyped_held self.new x ≡ (untyped_held self.old x || is_untyped_in x
+            (tree_at pool.now.trees tree))) }
         ensures constants { OnOk result (self.new.constants ≡ self.old.constants) }
         ensures sites { OnOk result (self.new.sites ≡ self.old.sites) }
     {
@@ -119,7 +122,8 @@ impl NameKinds {
 
     /// Notes the variable that a node defines with no type, if there is one.
     fn note_untyped_here(&mut self, head: Head) -> Result<(), AllocError>
-        ensures untyped { OnOk result ((x : ℕ) → untyped_held self.new x ≡ (untyped_held self.old x || is_untyped_here x head)) }
+        ensures untyped { OnOk result ((x : ℕ)
+            → untyped_held self.new x ≡ (untyped_held self.old x || is_untyped_here x head)) }
         ensures constants { OnOk result (self.new.constants ≡ self.old.constants) }
         ensures sites { OnOk result (self.new.sites ≡ self.old.sites) }
     {
@@ -132,7 +136,8 @@ impl NameKinds {
 
     /// Notes a variable with no type.
     fn note_untyped_name(&mut self, x: u32) -> Result<(), AllocError>
-        ensures untyped { OnOk result ((y : ℕ) → untyped_held self.new y ≡ (untyped_held self.old y || (x == y))) }
+        ensures untyped { OnOk result ((y : ℕ)
+            → untyped_held self.new y ≡ (untyped_held self.old y || (x == y))) }
         ensures constants { OnOk result (self.new.constants ≡ self.old.constants) }
         ensures sites { OnOk result (self.new.sites ≡ self.old.sites) }
     {
@@ -144,7 +149,8 @@ impl NameKinds {
 /// The constant that the declaration at a place declares.
 fn constant_at(pool: &Pool, decls: &Decls, k: u32) -> Option<u32>
     requires { All (IsLive (length pool.now.trees)) decls.now.list }
-    ensures { result ≡ option_and_then (λ d. constant_by (declared pool.now.trees d)) (slice_get decls.now.list k) }
+    ensures { result ≡ option_and_then
+        (λ d. constant_by (declared pool.now.trees d)) (slice_get decls.now.list k) }
 {
     match decls.get(k) {
         Some(decl) => constant_of(pool, decl),

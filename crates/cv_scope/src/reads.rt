@@ -14,7 +14,8 @@ use cv_syntax::{Head, NodeId, Opened, Pool, same};
 /// Whether a node is a cell that a definition above assigns.
 fn reads_definition(state: &State, pool: &Pool, k: NodeId, node: Opened) -> bool
     requires { IsOpened pool.now.trees k node }
-    ensures { result ≡ is_defined_by (state_held pool.now.trees state.now) node.head (tree_at pool.now.trees node.first) (tree_at pool.now.trees node.second) }
+    ensures { result ≡ is_defined_by (state_held pool.now.trees state.now) node.head
+        (tree_at pool.now.trees node.first) (tree_at pool.now.trees node.second) }
 {
     if node.second.is_some() {
         return false;
@@ -38,7 +39,8 @@ fn reads_definition(state: &State, pool: &Pool, k: NodeId, node: Opened) -> bool
 fn is_one_of(pool: &Pool, k: NodeId, cells: &[Option<NodeId>]) -> bool
     requires live { k.0 < length pool.now.trees }
     requires listed { AreListed pool.now.trees cells.now }
-    ensures { result ≡ list_any (same_tree (tree_at pool.now.trees (Some k))) (cells_held pool.now.trees cells.now) }
+    ensures { result ≡ list_any (same_tree (tree_at pool.now.trees (Some k)))
+        (cells_held pool.now.trees cells.now) }
 {
     for cell in cells {
         if same(pool, Some(k), *cell) {
@@ -53,7 +55,8 @@ fn is_one_of(pool: &Pool, k: NodeId, cells: &[Option<NodeId>]) -> bool
 fn is_listed(state: &State, pool: &Pool, k: NodeId) -> bool
     requires live { k.0 < length pool.now.trees }
     requires listed { AreListed pool.now.trees state.now.listed }
-    ensures { result ≡ list_any (same_tree (tree_at pool.now.trees (Some k))) (cells_held pool.now.trees state.now.listed) }
+    ensures { result ≡ list_any (same_tree (tree_at pool.now.trees (Some k)))
+        (cells_held pool.now.trees state.now.listed) }
 {
     state.listed.has(k) || is_one_of(pool, k, state.listed.cells())
 }
@@ -62,7 +65,8 @@ fn is_listed(state: &State, pool: &Pool, k: NodeId) -> bool
 fn is_reached(state: &State, pool: &Pool, k: NodeId, node: Opened) -> bool
     requires node { IsOpened pool.now.trees k node }
     requires listed { AreListed pool.now.trees state.now.listed }
-    ensures { result ≡ is_reached_by (state_held pool.now.trees state.now) node.head (tree_at pool.now.trees node.first) (tree_at pool.now.trees node.second) }
+    ensures { result ≡ is_reached_by (state_held pool.now.trees state.now) node.head
+        (tree_at pool.now.trees node.first) (tree_at pool.now.trees node.second) }
 {
     reads_definition(state, pool, k, node) || is_listed(state, pool, k)
 }
@@ -78,7 +82,9 @@ pub fn is_in_scope(
 ) -> bool
     requires node { IsOpened pool.now.trees k node }
     requires listed { AreListed pool.now.trees state.now.listed }
-    ensures { result ≡ is_scoped_read (names_held names.now) position (state_held pool.now.trees state.now) node.head (tree_at pool.now.trees node.first) (tree_at pool.now.trees node.second) }
+    ensures { result ≡ is_scoped_read (names_held names.now) position
+        (state_held pool.now.trees state.now) node.head (tree_at pool.now.trees node.first)
+        (tree_at pool.now.trees node.second) }
 {
     if matches!(position, Position::OneCell) {
         return true;

@@ -40,7 +40,8 @@ fn has_few(pool: &Pool, list: Option<NodeId>) -> bool
 /// Whether an input or an output carries exactly the current indices.
 fn carries_current(state: &State, pool: &Pool, head: Head, first: Option<NodeId>) -> bool
     requires { ChildBelow (length pool.now.trees) first }
-    ensures { result ≡ are_current state.now.replications.items head (tree_at pool.now.trees first) }
+    ensures { result ≡ are_current state.now.replications.items head
+        (tree_at pool.now.trees first) }
 {
     match head {
         Head::In(_) => carries(pool, state.replications.as_slice(), front(pool, first)),
@@ -80,7 +81,8 @@ fn is_well_replicated(
     first: Option<NodeId>,
 ) -> bool
     requires { ChildBelow (length pool.now.trees) first }
-    ensures { result ≡ are_well_replicated (names_held names.now) state.now.replications.items head (tree_at pool.now.trees first) }
+    ensures { result ≡ are_well_replicated (names_held names.now) state.now.replications.items head
+        (tree_at pool.now.trees first) }
 {
     state.replications.len() < TOO_MANY
         && (!matches!(head, Head::Branch) || has_few(pool, first))
@@ -101,8 +103,13 @@ pub fn node_fault(
     requires node { IsOpened pool.now.trees k node }
     requires listed { AreListed pool.now.trees state.old.listed }
     requires live { HasLiveBinders (length pool.now.trees) state.old.last }
-    ensures fault { IfOk result (λ fault. fault ≡ fault_seen (names_held names.now) (state_held pool.now.trees state.old) position place node.head (tree_at pool.now.trees node.first) (tree_at pool.now.trees node.second)) }
-    ensures noted { IfOk result (λ fault. fault ≡ None → OnlySites pool.now.trees state.old state.new (sites_here state.old.replications.items place node.head (tree_at pool.now.trees node.first))) }
+    ensures fault { IfOk result (λ fault. fault
+        ≡ fault_seen (names_held names.now) (state_held pool.now.trees state.old) position place
+        node.head (tree_at pool.now.trees node.first) (tree_at pool.now.trees node.second)) }
+    ensures noted { IfOk result (λ fault. fault ≡ None
+        → OnlySites pool.now.trees state.old state.new
+        (sites_here state.old.replications.items place node.head
+        (tree_at pool.now.trees node.first))) }
 {
     if !is_in_scope(state, pool, names, position, k, node) {
         return Ok(Some(Fault::Unscoped));

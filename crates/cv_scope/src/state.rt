@@ -66,8 +66,11 @@ impl State {
         x: u32,
     ) -> Result<bool, AllocError>
         requires live { HasLiveBinders (length pool.now.trees) self.old.last }
-        ensures may { IfOk result (λ yes. yes ≡ may_stand_last self.old.passed (state_held pool.now.trees self.old).last (site_of self.old.replications.items place (Variable x) ∷ [])) }
-        ensures noted { OnOk result (OnlySites pool.now.trees self.old self.new (site_of self.old.replications.items place (Variable x) ∷ [])) }
+        ensures may { IfOk result (λ yes. yes
+            ≡ may_stand_last self.old.passed (state_held pool.now.trees self.old).last
+            (site_of self.old.replications.items place (Variable x) ∷ [])) }
+        ensures noted { OnOk result (OnlySites pool.now.trees self.old self.new
+            (site_of self.old.replications.items place (Variable x) ∷ [])) }
     {
         let site = self.site(alloc, place, None)?;
         self.last.note_variable(pool, &self.passed, x, site)
@@ -82,8 +85,11 @@ impl State {
         l: u64,
     ) -> Result<bool, AllocError>
         requires live { HasLiveBinders (length pool.now.trees) self.old.last }
-        ensures may { IfOk result (λ yes. yes ≡ may_stand_last self.old.passed (state_held pool.now.trees self.old).last (site_of self.old.replications.items place (Label l) ∷ [])) }
-        ensures noted { OnOk result (OnlySites pool.now.trees self.old self.new (site_of self.old.replications.items place (Label l) ∷ [])) }
+        ensures may { IfOk result (λ yes. yes
+            ≡ may_stand_last self.old.passed (state_held pool.now.trees self.old).last
+            (site_of self.old.replications.items place (Label l) ∷ [])) }
+        ensures noted { OnOk result (OnlySites pool.now.trees self.old self.new
+            (site_of self.old.replications.items place (Label l) ∷ [])) }
     {
         let site = self.site(alloc, place, None)?;
         self.last.note_label(pool, &self.passed, l, site)
@@ -99,8 +105,12 @@ impl State {
     ) -> Result<bool, AllocError>
         requires list { ChildBelow (length pool.now.trees) list }
         requires live { HasLiveBinders (length pool.now.trees) self.old.last }
-        ensures may { IfOk result (λ yes. yes ≡ may_stand_last self.old.passed (state_held pool.now.trees self.old).last (variable_sites self.old.replications.items place (tree_at pool.now.trees list))) }
-        ensures noted { IfOk result (λ yes. yes ≡ true → OnlySites pool.now.trees self.old self.new (variable_sites self.old.replications.items place (tree_at pool.now.trees list))) }
+        ensures may { IfOk result (λ yes. yes
+            ≡ may_stand_last self.old.passed (state_held pool.now.trees self.old).last
+            (variable_sites self.old.replications.items place (tree_at pool.now.trees list))) }
+        ensures noted { IfOk result (λ yes. yes ≡ true
+            → OnlySites pool.now.trees self.old self.new
+            (variable_sites self.old.replications.items place (tree_at pool.now.trees list))) }
     {
         let mut at = list;
         'binders: while let Some(binder) = first_binder(pool, at) {
@@ -123,8 +133,12 @@ impl State {
     ) -> Result<bool, AllocError>
         requires first { ChildBelow (length pool.now.trees) first }
         requires live { HasLiveBinders (length pool.now.trees) self.old.last }
-        ensures may { IfOk result (λ yes. yes ≡ may_stand_last self.old.passed (state_held pool.now.trees self.old).last (named_here self.old.replications.items place head (tree_at pool.now.trees first))) }
-        ensures noted { IfOk result (λ yes. yes ≡ true → OnlySites pool.now.trees self.old self.new (named_here self.old.replications.items place head (tree_at pool.now.trees first))) }
+        ensures may { IfOk result (λ yes. yes
+            ≡ may_stand_last self.old.passed (state_held pool.now.trees self.old).last
+            (named_here self.old.replications.items place head (tree_at pool.now.trees first))) }
+        ensures noted { IfOk result (λ yes. yes ≡ true
+            → OnlySites pool.now.trees self.old self.new
+            (named_here self.old.replications.items place head (tree_at pool.now.trees first))) }
     {
         match head {
             Head::New(x, _) => self.note_variable(alloc, pool, place, x),
@@ -149,8 +163,11 @@ impl State {
     ) -> Result<bool, AllocError>
         requires first { ChildBelow (length pool.now.trees) first }
         requires live { HasLiveBinders (length pool.now.trees) self.old.last }
-        ensures may { IfOk result (λ yes. yes ≡ may_stand_last self.old.passed (state_held pool.now.trees self.old).last (channel_here self.old.replications.items place head (tree_at pool.now.trees first))) }
-        ensures noted { OnOk result (OnlySites pool.now.trees self.old self.new (channel_here self.old.replications.items place head (tree_at pool.now.trees first))) }
+        ensures may { IfOk result (λ yes. yes
+            ≡ may_stand_last self.old.passed (state_held pool.now.trees self.old).last
+            (channel_here self.old.replications.items place head (tree_at pool.now.trees first))) }
+        ensures noted { OnOk result (OnlySites pool.now.trees self.old self.new
+            (channel_here self.old.replications.items place head (tree_at pool.now.trees first))) }
     {
         let Head::In(c) = head else {
             return Ok(true);

@@ -30,10 +30,14 @@ pub fn walk(
     requires binders { HasLiveBinders (length pool.now.trees) state.old.last }
     requires passed { EndBy from state.old.passed }
     requires fits { from + size (tree_at pool.now.trees tree) < 2 ^ 32 }
-    ensures scoped { OnOk result (found (names_held names.now) (state_held pool.now.trees state.old) position from (tree_at pool.now.trees tree) ≡ None) }
+    ensures scoped { OnOk result (found (names_held names.now)
+        (state_held pool.now.trees state.old) position from (tree_at pool.now.trees tree) ≡ None) }
     ensures next { IfOk result (λ next. next ≡ from + size (tree_at pool.now.trees tree)) }
-    ensures noted { OnOk result (OnlySites pool.now.trees state.old state.new (sites_from state.old.replications.items from (tree_at pool.now.trees tree))) }
-    ensures fault { IfErr result (IsRefusalOf (found (names_held names.now) (state_held pool.now.trees state.old) position from (tree_at pool.now.trees tree))) }
+    ensures noted { OnOk result (OnlySites pool.now.trees state.old state.new
+        (sites_from state.old.replications.items from (tree_at pool.now.trees tree))) }
+    ensures fault { IfErr result (IsRefusalOf
+        (found (names_held names.now) (state_held pool.now.trees state.old) position from
+        (tree_at pool.now.trees tree))) }
 {
     let marks = state.marks();
     let mut place = from;

@@ -22,7 +22,8 @@ fn push_route(
     route: Option<NodeId>,
 ) -> Result<(), AllocError>
     requires { ChildBelow (length pool.now.trees) route }
-    ensures { OnOk result (out.new.items ≡ out.old.items ++ route_text names.now (tree_at pool.now.trees route)) }
+    ensures { OnOk result (out.new.items
+        ≡ out.old.items ++ route_text names.now (tree_at pool.now.trees route)) }
 {
     let Some(n) = route else {
         return Ok(());
@@ -46,7 +47,8 @@ fn push_routes(
     routes: Option<NodeId>,
 ) -> Result<(), AllocError>
     requires { ChildBelow (length pool.now.trees) routes }
-    ensures { OnOk result (out.new.items ≡ out.old.items ++ routes_text names.now (tree_at pool.now.trees routes)) }
+    ensures { OnOk result (out.new.items
+        ≡ out.old.items ++ routes_text names.now (tree_at pool.now.trees routes)) }
 {
     let mut at = routes;
     'routes: while let Some(n) = at {
@@ -66,7 +68,8 @@ fn push_entry(
     entry: Option<NodeId>,
 ) -> Result<(), AllocError>
     requires { ChildBelow (length pool.now.trees) entry }
-    ensures { OnOk result (out.new.items ≡ out.old.items ++ entry_text names.now (tree_at pool.now.trees entry)) }
+    ensures { OnOk result (out.new.items
+        ≡ out.old.items ++ entry_text names.now (tree_at pool.now.trees entry)) }
 {
     let Some(n) = entry else {
         return Ok(());
@@ -99,7 +102,8 @@ fn push_entries(
     entries: Option<NodeId>,
 ) -> Result<(), AllocError>
     requires { ChildBelow (length pool.now.trees) entries }
-    ensures { OnOk result (out.new.items ≡ out.old.items ++ entries_text names.now (tree_at pool.now.trees entries)) }
+    ensures { OnOk result (out.new.items
+        ≡ out.old.items ++ entries_text names.now (tree_at pool.now.trees entries)) }
 {
     let mut at = entries;
     'entries: while let Some(n) = at {
@@ -119,7 +123,8 @@ pub(crate) fn push_certificate(
     certificate: Option<NodeId>,
 ) -> Result<(), AllocError>
     requires { ChildBelow (length pool.now.trees) certificate }
-    ensures { OnOk result (out.new.items ≡ out.old.items ++ certificate_text names.now (tree_at pool.now.trees certificate)) }
+    ensures { OnOk result (out.new.items
+        ≡ out.old.items ++ certificate_text names.now (tree_at pool.now.trees certificate)) }
 {
     let Some(n) = certificate else {
         return Ok(());

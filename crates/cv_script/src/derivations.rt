@@ -20,7 +20,8 @@ pub(crate) fn push_number(
     tree: Option<NodeId>,
 ) -> Result<(), AllocError>
     requires { ChildBelow (length pool.now.trees) tree }
-    ensures { OnOk result (out.new.items ≡ out.old.items ++ number_text (tree_at pool.now.trees tree)) }
+    ensures { OnOk result (out.new.items
+        ≡ out.old.items ++ number_text (tree_at pool.now.trees tree)) }
 {
     let Some(n) = tree else {
         return Ok(());
@@ -40,7 +41,8 @@ fn push_term_at(
     term: Option<NodeId>,
 ) -> Result<(), AllocError>
     requires { ChildBelow (length pool.now.trees) term }
-    ensures { OnOk result (out.new.items ≡ out.old.items ++ term_text names.now (tree_at pool.now.trees term)) }
+    ensures { OnOk result (out.new.items
+        ≡ out.old.items ++ term_text names.now (tree_at pool.now.trees term)) }
 {
     match term {
         Some(n) => push_term(out, pool, names, n),
@@ -52,7 +54,8 @@ fn push_term_at(
 #[tactic(auto, using(crate::proofs::Texts::text_laws))]
 fn push_reason(out: &mut Vec<u8>, pool: &Pool, reason: Option<NodeId>) -> Result<(), AllocError>
     requires { ChildBelow (length pool.now.trees) reason }
-    ensures { OnOk result (out.new.items ≡ out.old.items ++ reason_text (tree_at pool.now.trees reason)) }
+    ensures { OnOk result (out.new.items
+        ≡ out.old.items ++ reason_text (tree_at pool.now.trees reason)) }
 {
     let Some(n) = reason else {
         return Ok(());
@@ -72,7 +75,8 @@ fn push_line(
     line: Option<NodeId>,
 ) -> Result<(), AllocError>
     requires { ChildBelow (length pool.now.trees) line }
-    ensures { OnOk result (out.new.items ≡ out.old.items ++ line_text names.now (tree_at pool.now.trees line)) }
+    ensures { OnOk result (out.new.items
+        ≡ out.old.items ++ line_text names.now (tree_at pool.now.trees line)) }
 {
     let Some(n) = line else {
         return Ok(());
@@ -96,7 +100,8 @@ fn push_lines(
     lines: Option<NodeId>,
 ) -> Result<(), AllocError>
     requires { ChildBelow (length pool.now.trees) lines }
-    ensures { OnOk result (out.new.items ≡ out.old.items ++ lines_text names.now (tree_at pool.now.trees lines)) }
+    ensures { OnOk result (out.new.items
+        ≡ out.old.items ++ lines_text names.now (tree_at pool.now.trees lines)) }
 {
     let mut at = lines;
     'lines: while let Some(n) = at {
@@ -115,7 +120,8 @@ pub(crate) fn push_derivation(
     derivation: Derivation,
 ) -> Result<(), AllocError>
     requires { ChildBelow (length pool.now.trees) derivation.0 }
-    ensures { OnOk result (out.new.items ≡ out.old.items ++ derivation_text names.now (tree_at pool.now.trees derivation.0)) }
+    ensures { OnOk result (out.new.items
+        ≡ out.old.items ++ derivation_text names.now (tree_at pool.now.trees derivation.0)) }
 {
     out.extend_from_slice(b"{ ")?;
     push_lines(out, pool, names, derivation.0)?;

@@ -19,7 +19,8 @@ pub fn step_text(
     step: Step,
 ) -> Result<Vec<u8>, AllocError>
     requires { step.0.0 < length pool.now.trees }
-    ensures { IfOk result (λ v. v.items ≡ text.step_text names.now (tree_at pool.now.trees (Some step.0))) }
+    ensures { IfOk result (λ v. v.items
+        ≡ text.step_text names.now (tree_at pool.now.trees (Some step.0))) }
 {
     let mut out = Vec::new(alloc);
     push_step(&mut out, pool, names, step)?;
@@ -35,7 +36,8 @@ pub fn push_step(
     step: Step,
 ) -> Result<(), AllocError>
     requires { step.0.0 < length pool.now.trees }
-    ensures { OnOk result (out.new.items ≡ out.old.items ++ text.step_text names.now (tree_at pool.now.trees (Some step.0))) }
+    ensures { OnOk result (out.new.items
+        ≡ out.old.items ++ text.step_text names.now (tree_at pool.now.trees (Some step.0))) }
 {
     let node = read_node(pool, step.0);
     let Head::SuccessStep = node.head else {

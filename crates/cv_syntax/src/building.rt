@@ -17,7 +17,8 @@ use cv_pool::{Kind, NodeId, Pool};
 pub fn build(pool: &mut Pool, kind: Kind, kids: &[NodeId]) -> NodeId
     requires spare { length kids.now + 1 ≤ pool.old.spare }
     requires kids { All (λ n. n.0 < length pool.old.trees) kids.now }
-    ensures tree { tree_at pool.new.trees (Some result) ≡ arranged (decoded kind) (trees_of pool.old.trees kids.now) }
+    ensures tree { tree_at pool.new.trees (Some result)
+        ≡ arranged (decoded kind) (trees_of pool.old.trees kids.now) }
     ensures kind { kind_of (at pool.new.trees result.0) ≡ kind }
     ensures live { result.0 < length pool.new.trees }
     ensures grows { Grows pool.old pool.new }
@@ -33,7 +34,8 @@ pub fn build(pool: &mut Pool, kind: Kind, kids: &[NodeId]) -> NodeId
 /// The children of a tree that is built are those that it is built of.
 #[tactic(auto, using(crate::proofs::Arrangements::children_arranged))]
 pub fn built_children()
-    ensures { (h : Head) (kids : List Tree) → All IsSyntax kids → tree.children (arranged h kids) ≡ kids }
+    ensures { (h : Head) (kids : List Tree) → All IsSyntax kids
+        → tree.children (arranged h kids) ≡ kids }
 {}
 
 /// The first child of a node of this layout.
@@ -42,11 +44,13 @@ fn first_part(pool: &mut Pool, layout: Layout, kids: &[NodeId]) -> Option<NodeId
     requires laid { IsLaidOut layout (length kids.now) }
     requires spare { first_cost layout (length kids.now) ≤ pool.old.spare }
     requires kids { All (λ n. n.0 < length pool.old.trees) kids.now }
-    ensures tree { tree_at pool.new.trees result ≡ first_part layout (trees_of pool.old.trees kids.now) }
+    ensures tree { tree_at pool.new.trees result
+        ≡ first_part layout (trees_of pool.old.trees kids.now) }
     ensures live { ChildBelow (length pool.new.trees) result }
     ensures grows { Grows pool.old pool.new }
     ensures spare { pool.old.spare ≤ pool.new.spare + first_cost layout (length kids.now) }
-    ensures few { length pool.new.trees ≤ length pool.old.trees + first_cost layout (length kids.now) }
+    ensures few { length pool.new.trees
+        ≤ length pool.old.trees + first_cost layout (length kids.now) }
 {
     match layout {
         Layout::Lone => None,
@@ -71,11 +75,13 @@ fn second_part(pool: &mut Pool, layout: Layout, kids: &[NodeId]) -> Option<NodeI
     requires laid { IsLaidOut layout (length kids.now) }
     requires spare { second_cost layout (length kids.now) ≤ pool.old.spare }
     requires kids { All (λ n. n.0 < length pool.old.trees) kids.now }
-    ensures tree { tree_at pool.new.trees result ≡ second_part layout (trees_of pool.old.trees kids.now) }
+    ensures tree { tree_at pool.new.trees result
+        ≡ second_part layout (trees_of pool.old.trees kids.now) }
     ensures live { ChildBelow (length pool.new.trees) result }
     ensures grows { Grows pool.old pool.new }
     ensures spare { pool.old.spare ≤ pool.new.spare + second_cost layout (length kids.now) }
-    ensures few { length pool.new.trees ≤ length pool.old.trees + second_cost layout (length kids.now) }
+    ensures few { length pool.new.trees
+        ≤ length pool.old.trees + second_cost layout (length kids.now) }
 {
     let count = kids.len();
     match layout {
@@ -127,7 +133,8 @@ fn join(pool: &mut Pool, kind: Kind, first: Option<NodeId>, second: Option<NodeI
     requires spare { 0 < pool.old.spare }
     requires first { ChildBelow (length pool.old.trees) first }
     requires second { ChildBelow (length pool.old.trees) second }
-    ensures tree { tree_at pool.new.trees (Some result) ≡ Node (decoded kind) (tree_at pool.old.trees first) (tree_at pool.old.trees second) }
+    ensures tree { tree_at pool.new.trees (Some result)
+        ≡ Node (decoded kind) (tree_at pool.old.trees first) (tree_at pool.old.trees second) }
     ensures kind { kind_of (at pool.new.trees result.0) ≡ kind }
     ensures live { result.0 < length pool.new.trees }
     ensures grows { Grows pool.old pool.new }

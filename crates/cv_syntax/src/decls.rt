@@ -112,7 +112,8 @@ impl Decls {
         requires few { length self.old.list + 1 < 2 ^ 32 }
         requires new { IsNew self.old.list decl }
         requires named { IsNamed decl }
-        ensures ok { OnOk result (self.new ≡ record self.old { list = self.old.list ++ decl ∷ [] }) }
+        ensures ok { OnOk result (self.new
+            ≡ record self.old { list = self.old.list ++ decl ∷ [] }) }
         ensures err { OnErr result (self.new ≡ self.old) }
     {
         let place = self.list.len() as u32;

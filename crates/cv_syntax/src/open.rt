@@ -17,7 +17,9 @@ pub struct Opened {
 #[tactic(auto, using(crate::proofs::Openings::openings))]
 pub fn read_node(pool: &Pool, n: NodeId) -> Opened
     requires { n.0 < length pool.now.trees }
-    ensures tree { tree_at pool.now.trees (Some n) ≡ Node result.head (tree_at pool.now.trees result.first) (tree_at pool.now.trees result.second) }
+    ensures tree { tree_at pool.now.trees (Some n)
+        ≡ Node result.head (tree_at pool.now.trees result.first)
+        (tree_at pool.now.trees result.second) }
     ensures first { ChildBelow n.0 result.first }
     ensures second { ChildBelow n.0 result.second }
     ensures no_first { IsNone result.first ↔ (tree_at pool.now.trees result.first ≡ Empty) }

@@ -31,11 +31,14 @@ pub fn plant(
     makes: &[Make],
 ) -> Result<Vec<Option<NodeId>>, PoolError>
     requires { overs makes.now < 2 ^ 32 }
-    ensures trees { IfOk result (λ ids. map (tree_at pool.new.trees) ids.items ≡ reverse (made [] makes.now)) }
-    ensures back { (ts : List Tree) → makes.now ≡ flat_map postorder ts → IfOk result (λ ids. map (tree_at pool.new.trees) ids.items ≡ ts) }
+    ensures trees { IfOk result (λ ids. map (tree_at pool.new.trees) ids.items
+        ≡ reverse (made [] makes.now)) }
+    ensures back { (ts : List Tree) → makes.now ≡ flat_map postorder ts
+        → IfOk result (λ ids. map (tree_at pool.new.trees) ids.items ≡ ts) }
     ensures live { IfOk result (λ ids. All (ChildBelow (length pool.new.trees)) ids.items) }
     ensures grows { OnOk result (Grows pool.old pool.new) }
-    ensures full { IsErrOf result (PoolError.Full (overs makes.now)) ↔ (pool.old.limit < length pool.old.trees + overs makes.now) }
+    ensures full { IsErrOf result (PoolError.Full (overs makes.now))
+        ↔ (pool.old.limit < length pool.old.trees + overs makes.now) }
     ensures other { (n : ℕ) → IsErrOf result (PoolError.Full n) → n ≡ overs makes.now }
     ensures kept { OnErr result (pool.new.trees ≡ pool.old.trees) }
     ensures limit { pool.new.limit ≡ pool.old.limit }
@@ -59,7 +62,8 @@ fn planted(
     makes: &[Make],
 ) -> Result<Vec<Option<NodeId>>, AllocError>
     requires { overs makes.now ≤ pool.old.spare }
-    ensures trees { IfOk result (λ ids. map (tree_at pool.new.trees) ids.items ≡ reverse (made [] makes.now)) }
+    ensures trees { IfOk result (λ ids. map (tree_at pool.new.trees) ids.items
+        ≡ reverse (made [] makes.now)) }
     ensures live { IfOk result (λ ids. All (ChildBelow (length pool.new.trees)) ids.items) }
     ensures grows { Grows pool.old pool.new }
     ensures few { length pool.new.trees ≤ length pool.old.trees + overs makes.now }
@@ -80,7 +84,9 @@ fn planted(
 fn over(pool: &mut Pool, stack: &mut Vec<Option<NodeId>>, head: Head) -> NodeId
     requires spare { 0 < pool.old.spare }
     requires live { All (ChildBelow (length pool.old.trees)) stack.old.items }
-    ensures trees { joined head (reverse (map (tree_at pool.old.trees) stack.old.items)) ≡ tree_at pool.new.trees (Some result) ∷ reverse (map (tree_at pool.new.trees) stack.new.items) }
+    ensures trees { joined head (reverse (map (tree_at pool.old.trees) stack.old.items))
+        ≡ tree_at pool.new.trees (Some result) ∷ reverse
+        (map (tree_at pool.new.trees) stack.new.items) }
     ensures live { All (ChildBelow (length pool.new.trees)) stack.new.items }
     ensures id { result.0 < length pool.new.trees }
     ensures grows { Grows pool.old pool.new }

@@ -54,7 +54,8 @@ pub fn depth(pool: &Pool, n: NodeId) -> u32
 #[tactic(auto, using(crate::proofs::Walking::walking))]
 pub fn child(pool: &Pool, n: NodeId, k: u32) -> Option<NodeId>
     requires { n.0 < length pool.now.trees }
-    ensures child { option_map (λ c. tree_at pool.now.trees (Some c)) result ≡ slice_get (tree.children (tree_at pool.now.trees (Some n))) k }
+    ensures child { option_map (λ c. tree_at pool.now.trees (Some c)) result
+        ≡ slice_get (tree.children (tree_at pool.now.trees (Some n))) k }
     ensures below { ChildBelow n.0 result }
 {
     let node = read_node(pool, n);
@@ -71,7 +72,8 @@ pub fn child(pool: &Pool, n: NodeId, k: u32) -> Option<NodeId>
 #[tactic(auto, using(crate::proofs::Walking::walking))]
 fn top(pool: &Pool, start: Option<NodeId>, place: u32) -> Result<NodeId, u32>
     requires { ChildBelow (length pool.now.trees) start }
-    ensures { Reaches pool.now.trees (tree.tops (tree_at pool.now.trees start)) (above start) place result }
+    ensures { Reaches pool.now.trees (tree.tops (tree_at pool.now.trees start)) (above start) place
+        result }
 {
     let mut left = place;
     let mut at = start;

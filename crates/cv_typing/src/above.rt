@@ -19,8 +19,10 @@ fn put(
     x: u32,
     sort: Sort,
 ) -> Result<(), AllocError>
-    ensures names { OnOk result (above_of above.new ≡ with_bound Newest (above_of above.old) x sort) }
-    ensures back { OnOk result (restored (above_of above.new) bound.new.items ≡ restored (above_of above.old) bound.old.items) }
+    ensures names { OnOk result (above_of above.new
+        ≡ with_bound Newest (above_of above.old) x sort) }
+    ensures back { OnOk result (restored (above_of above.new) bound.new.items
+        ≡ restored (above_of above.old) bound.old.items) }
 {
     let before = above.get(&x).copied();
     above.insert(x, sort)?;
@@ -36,8 +38,10 @@ fn bind(
     x: u32,
     sort: Sort,
 ) -> Result<(), AllocError>
-    ensures names { OnOk result (above_of above.new ≡ with_bound precedence (above_of above.old) x sort) }
-    ensures back { OnOk result (restored (above_of above.new) bound.new.items ≡ restored (above_of above.old) bound.old.items) }
+    ensures names { OnOk result (above_of above.new
+        ≡ with_bound precedence (above_of above.old) x sort) }
+    ensures back { OnOk result (restored (above_of above.new) bound.new.items
+        ≡ restored (above_of above.old) bound.old.items) }
 {
     match precedence {
         Precedence::Newest => put(above, bound, x, sort),
@@ -60,8 +64,11 @@ pub fn bind_all(
     list: Option<NodeId>,
 ) -> Result<(), AllocError>
     requires { ChildBelow (length pool.now.trees) list }
-    ensures names { OnOk result (above_of above.new ≡ all_bound precedence (above_of above.old) (binder_sort are_indices) (tree_at pool.now.trees list)) }
-    ensures back { OnOk result (restored (above_of above.new) bound.new.items ≡ restored (above_of above.old) bound.old.items) }
+    ensures names { OnOk result (above_of above.new
+        ≡ all_bound precedence (above_of above.old) (binder_sort are_indices)
+        (tree_at pool.now.trees list)) }
+    ensures back { OnOk result (restored (above_of above.new) bound.new.items
+        ≡ restored (above_of above.old) bound.old.items) }
 {
     let mut at = list;
     'list: while let Some(k) = at {
@@ -83,8 +90,10 @@ fn bind_node(
     first: Option<NodeId>,
 ) -> Result<(), AllocError>
     requires { ChildBelow (length pool.now.trees) first }
-    ensures names { OnOk result (above_of above.new ≡ with_names head (tree_at pool.now.trees first) (above_of above.old)) }
-    ensures back { OnOk result (restored (above_of above.new) bound.new.items ≡ restored (above_of above.old) bound.old.items) }
+    ensures names { OnOk result (above_of above.new
+        ≡ with_names head (tree_at pool.now.trees first) (above_of above.old)) }
+    ensures back { OnOk result (restored (above_of above.new) bound.new.items
+        ≡ restored (above_of above.old) bound.old.items) }
 {
     match head {
         Head::Repl(i, n) => bind(above, bound, Precedence::First, i, Sort::BelowParameter(n)),
@@ -105,8 +114,10 @@ pub fn bind_names(
     first: Option<NodeId>,
 ) -> Result<Vec<(u32, Option<Sort>)>, AllocError>
     requires { ChildBelow (length pool.now.trees) first }
-    ensures names { OnOk result (above_of above.new ≡ with_names head (tree_at pool.now.trees first) (above_of above.old)) }
-    ensures back { IfOk result (λ bound. restored (above_of above.new) bound.items ≡ above_of above.old) }
+    ensures names { OnOk result (above_of above.new
+        ≡ with_names head (tree_at pool.now.trees first) (above_of above.old)) }
+    ensures back { IfOk result (λ bound. restored (above_of above.new) bound.items
+        ≡ above_of above.old) }
 {
     let mut bound = Vec::new(alloc);
     bind_node(pool, above, &mut bound, head, first)?;

@@ -43,7 +43,8 @@ impl Arrays {
         function: Option<NodeId>,
     ) -> Result<(), AllocError>
         requires { ChildBelow (length pool.now.trees) function }
-        ensures { OnOk result (arrays_of self.new ≡ in_function (arrays_of self.old) (tree_at pool.now.trees function)) }
+        ensures { OnOk result (arrays_of self.new
+            ≡ in_function (arrays_of self.old) (tree_at pool.now.trees function)) }
     {
         if let Arrays::OfSide(_, own) = self {
             *own = own_names(alloc, pool, function)?;
@@ -75,7 +76,8 @@ impl Arrays {
 
     /// How many indices a game's variable has.
     pub fn arity(&self, x: u32) -> Option<usize>
-        ensures { result ≡ option_map (λ (v : Variable). length v.parameters) (variable_in (arrays_of self.now) x) }
+        ensures { result ≡ option_map (λ (v : Variable). length v.parameters)
+            (variable_in (arrays_of self.now) x) }
     {
         match self {
             Arrays::OfGame(sites) => sites.arity(x),
@@ -87,7 +89,8 @@ impl Arrays {
     /// The parameter of an index of a game's variable, counted from 0.
     pub fn parameter(&self, x: u32, k: usize) -> Option<u32>
         ensures bound { OnSome result (k + 1 < 2 ^ 64) }
-        ensures parameter { result ≡ option_and_then (λ (v : Variable). slice_get v.parameters k) (variable_in (arrays_of self.now) x) }
+        ensures parameter { result ≡ option_and_then
+            (λ (v : Variable). slice_get v.parameters k) (variable_in (arrays_of self.now) x) }
     {
         match self {
             Arrays::OfGame(sites) => sites.parameter(x, k),

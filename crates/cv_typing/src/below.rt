@@ -21,7 +21,8 @@ use std::collections::HashMap;
 
 /// A term of a sort, or any term where it isn't known.
 fn like(sort: Option<Sort>) -> Want
-    ensures wants { (trees : List KindTree) (arrays : Arrays) → want_of trees arrays result ≡ wants.like sort }
+    ensures wants { (trees : List KindTree) (arrays : Arrays)
+        → want_of trees arrays result ≡ wants.like sort }
     ensures live { (n : ℕ) → IsLiveWant n result }
 {
     match sort {
@@ -32,7 +33,8 @@ fn like(sort: Option<Sort>) -> Want
 
 /// What a name asks of its indices.
 fn wants_indices(arrays: &Arrays, x: u32) -> Want
-    ensures wants { (trees : List KindTree) → want_of trees arrays.now result ≡ wants.wants_indices (arrays_of arrays.now) x }
+    ensures wants { (trees : List KindTree)
+        → want_of trees arrays.now result ≡ wants.wants_indices (arrays_of arrays.now) x }
     ensures live { (n : ℕ) → IsLiveWant n result }
 {
     match arrays {
@@ -47,7 +49,9 @@ fn wants_indices(arrays: &Arrays, x: u32) -> Want
 
 /// What a function asks of its arguments.
 fn wants_arguments(decls: &Decls, f: u32) -> Want
-    ensures wants { (trees : List KindTree) (arrays : Arrays) → want_of trees arrays result ≡ wants.wants_arguments (function_in (declarations trees decls.now.list) f) }
+    ensures wants { (trees : List KindTree) (arrays : Arrays)
+        → want_of trees arrays result ≡ wants.wants_arguments
+        (function_in (declarations trees decls.now.list) f) }
     ensures live { (n : ℕ) → HasLiveArguments n decls.now.list → IsLiveWant n result }
 {
     match find_function(decls, f) {
@@ -58,7 +62,9 @@ fn wants_arguments(decls: &Decls, f: u32) -> Want
 
 /// What an event asks of its arguments.
 fn wants_of_event(decls: &Decls, e: u32) -> Want
-    ensures wants { (trees : List KindTree) (arrays : Arrays) → want_of trees arrays result ≡ wants.Messages (event_in (declarations trees decls.now.list) e) }
+    ensures wants { (trees : List KindTree) (arrays : Arrays)
+        → want_of trees arrays result ≡ wants.Messages
+        (event_in (declarations trees decls.now.list) e) }
     ensures live { (n : ℕ) → HasLiveArguments n decls.now.list → IsLiveWant n result }
 {
     Want::Messages(event_arguments(decls, e))
@@ -74,8 +80,11 @@ fn term_wants(
     first: Option<NodeId>,
 ) -> Option<(Want, Want)>
     requires { ChildBelow (length pool.now.trees) first }
-    ensures wants { option_map (both_wants pool.now.trees arrays.now) result ≡ wants.term_wants (signature_in pool.now.trees decls.now.list arrays.now) (above_of above.now) head (tree_at pool.now.trees first) }
-    ensures live { HasLiveArguments (length pool.now.trees) decls.now.list → IfSome result (AreLiveWants (length pool.now.trees)) }
+    ensures wants { option_map (both_wants pool.now.trees arrays.now) result
+        ≡ wants.term_wants (signature_in pool.now.trees decls.now.list arrays.now)
+        (above_of above.now) head (tree_at pool.now.trees first) }
+    ensures live { HasLiveArguments (length pool.now.trees) decls.now.list
+        → IfSome result (AreLiveWants (length pool.now.trees)) }
 {
     match head {
         Head::Read(x) => Some((wants_indices(arrays, x), Want::NoTerms)),
@@ -93,7 +102,9 @@ fn term_wants(
 
 /// What a process or a body asks of its parts.
 fn run_wants(decls: &Decls, form: Form, head: Head) -> (Want, Want)
-    ensures wants { (trees : List KindTree) (arrays : Arrays) → both_wants trees arrays result ≡ wants.run_wants (declarations trees decls.now.list) form head }
+    ensures wants { (trees : List KindTree) (arrays : Arrays)
+        → both_wants trees arrays result
+        ≡ wants.run_wants (declarations trees decls.now.list) form head }
     ensures live { (n : ℕ) → HasLiveArguments n decls.now.list → AreLiveWants n result }
 {
     match head {
@@ -113,7 +124,8 @@ fn run_wants(decls: &Decls, form: Form, head: Head) -> (Want, Want)
 
 /// What branches ask of their parts.
 fn branch_wants(form: Form, head: Head) -> (Want, Want)
-    ensures wants { (trees : List KindTree) (arrays : Arrays) → both_wants trees arrays result ≡ wants.branch_wants form head }
+    ensures wants { (trees : List KindTree) (arrays : Arrays)
+        → both_wants trees arrays result ≡ wants.branch_wants form head }
     ensures live { (n : ℕ) → AreLiveWants n result }
 {
     match head {
@@ -125,7 +137,8 @@ fn branch_wants(form: Form, head: Head) -> (Want, Want)
 
 /// What a correspondence asks of its parts.
 fn query_wants(head: Head) -> (Want, Want)
-    ensures wants { (trees : List KindTree) (arrays : Arrays) → both_wants trees arrays result ≡ wants.query_wants head }
+    ensures wants { (trees : List KindTree) (arrays : Arrays)
+        → both_wants trees arrays result ≡ wants.query_wants head }
     ensures live { (n : ℕ) → AreLiveWants n result }
 {
     match head {
@@ -136,7 +149,9 @@ fn query_wants(head: Head) -> (Want, Want)
 
 /// What the events of a correspondence ask of their parts.
 fn atom_wants(decls: &Decls, head: Head) -> (Want, Want)
-    ensures wants { (trees : List KindTree) (arrays : Arrays) → both_wants trees arrays result ≡ wants.atom_wants (declarations trees decls.now.list) head }
+    ensures wants { (trees : List KindTree) (arrays : Arrays)
+        → both_wants trees arrays result
+        ≡ wants.atom_wants (declarations trees decls.now.list) head }
     ensures live { (n : ℕ) → HasLiveArguments n decls.now.list → AreLiveWants n result }
 {
     match head {
@@ -150,7 +165,9 @@ fn atom_wants(decls: &Decls, head: Head) -> (Want, Want)
 /// What a list of values of types asks of its first item and of the others.
 fn messages_wants(pool: &Pool, types: Option<NodeId>) -> (Want, Want)
     requires { ChildBelow (length pool.now.trees) types }
-    ensures wants { (arrays : Arrays) → both_wants pool.now.trees arrays result ≡ wants.list_wants (wants.Messages (names_in (tree_at pool.now.trees types))) }
+    ensures wants { (arrays : Arrays)
+        → both_wants pool.now.trees arrays result
+        ≡ wants.list_wants (wants.Messages (names_in (tree_at pool.now.trees types))) }
     ensures live { AreLiveWants (length pool.now.trees) result }
 {
     let Some(k) = types else {
@@ -165,7 +182,9 @@ fn messages_wants(pool: &Pool, types: Option<NodeId>) -> (Want, Want)
 
 /// What a list of indices of parameters asks of its first item and of the others.
 fn indices_wants(arrays: &Arrays, x: u32, k: usize) -> (Want, Want)
-    ensures wants { (trees : List KindTree) → both_wants trees arrays.now result ≡ wants.list_wants (want_of trees arrays.now (Indices x k)) }
+    ensures wants { (trees : List KindTree)
+        → both_wants trees arrays.now result
+        ≡ wants.list_wants (want_of trees arrays.now (Indices x k)) }
     ensures live { (n : ℕ) → AreLiveWants n result }
 {
     match arrays.parameter(x, k) {
@@ -177,7 +196,8 @@ fn indices_wants(arrays: &Arrays, x: u32, k: usize) -> (Want, Want)
 /// What a list asks of its first item and of the others.
 fn list_wants(pool: &Pool, arrays: &Arrays, want: Want) -> (Want, Want)
     requires { IsLiveWant (length pool.now.trees) want }
-    ensures wants { both_wants pool.now.trees arrays.now result ≡ wants.list_wants (want_of pool.now.trees arrays.now want) }
+    ensures wants { both_wants pool.now.trees arrays.now result
+        ≡ wants.list_wants (want_of pool.now.trees arrays.now want) }
     ensures live { AreLiveWants (length pool.now.trees) result }
 {
     match want {
@@ -197,7 +217,9 @@ fn list_wants(pool: &Pool, arrays: &Arrays, want: Want) -> (Want, Want)
 fn place_wants(pool: &Pool, decls: &Decls, arrays: &Arrays, want: Want, head: Head) -> (Want, Want)
     requires live { IsLiveWant (length pool.now.trees) want }
     requires arguments { HasLiveArguments (length pool.now.trees) decls.now.list }
-    ensures wants { both_wants pool.now.trees arrays.now result ≡ wants.place_wants (declarations pool.now.trees decls.now.list) (want_of pool.now.trees arrays.now want) head }
+    ensures wants { both_wants pool.now.trees arrays.now result
+        ≡ wants.place_wants (declarations pool.now.trees decls.now.list)
+        (want_of pool.now.trees arrays.now want) head }
     ensures live { AreLiveWants (length pool.now.trees) result }
 {
     match want {
@@ -224,7 +246,9 @@ pub fn wants_below(
     requires first { ChildBelow (length pool.now.trees) node.first }
     requires live { IsLiveWant (length pool.now.trees) want }
     requires arguments { HasLiveArguments (length pool.now.trees) decls.now.list }
-    ensures wants { both_wants pool.now.trees arrays.now result ≡ wants.wants (signature_in pool.now.trees decls.now.list arrays.now) (above_of above.now) (want_of pool.now.trees arrays.now want) node.head (tree_at pool.now.trees node.first) }
+    ensures wants { both_wants pool.now.trees arrays.now result
+        ≡ wants.wants (signature_in pool.now.trees decls.now.list arrays.now) (above_of above.now)
+        (want_of pool.now.trees arrays.now want) node.head (tree_at pool.now.trees node.first) }
     ensures live { AreLiveWants (length pool.now.trees) result }
 {
     match term_wants(pool, decls, arrays, above, node.head, node.first) {
@@ -235,7 +259,8 @@ pub fn wants_below(
 
 /// Whether a node binds names for its second child.
 pub fn binds(want: Want, head: Head) -> bool
-    ensures { (trees : List KindTree) (arrays : Arrays) → result ≡ wants.binds (want_of trees arrays want) head }
+    ensures { (trees : List KindTree) (arrays : Arrays)
+        → result ≡ wants.binds (want_of trees arrays want) head }
 {
     match head {
         Head::Repl(_, _) => true,
@@ -248,7 +273,8 @@ pub fn binds(want: Want, head: Head) -> bool
 
 /// Whether a body of an equivalence stands at a position, or a branch of one.
 fn is_in_body(want: Want) -> bool
-    ensures { (trees : List KindTree) (arrays : Arrays) → result ≡ wants.is_in_body (want_of trees arrays want) }
+    ensures { (trees : List KindTree) (arrays : Arrays)
+        → result ≡ wants.is_in_body (want_of trees arrays want) }
 {
     match want {
         Want::Run(Form::InBody(_)) => true,

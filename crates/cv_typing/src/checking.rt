@@ -23,8 +23,11 @@ pub fn check_game(alloc: Global, work: &Work, game: Game) -> Result<(), TypeFaul
     requires live { game.root.0 < length work.now.pool.trees }
     requires declared { All (IsLive (length work.now.pool.trees)) work.now.decls.list }
     requires fits { size (tree_at work.now.pool.trees (Some game.root)) < 2 ^ 32 }
-    ensures typed { OnOk result (IsTypedGame (declarations work.now.pool.trees work.now.decls.list) (tree_at work.now.pool.trees (Some game.root))) }
-    ensures fault { IfErr result (IsFirstRefusal (declarations work.now.pool.trees work.now.decls.list) (game_part (tree_at work.now.pool.trees (Some game.root)) ∷ [])) }
+    ensures typed { OnOk result (IsTypedGame (declarations work.now.pool.trees work.now.decls.list)
+        (tree_at work.now.pool.trees (Some game.root))) }
+    ensures fault { IfErr result (IsFirstRefusal
+        (declarations work.now.pool.trees work.now.decls.list)
+        (game_part (tree_at work.now.pool.trees (Some game.root)) ∷ [])) }
 {
     let directory = Directory::of(alloc, &work.pool, &work.decls, game.root)?;
     check_process(alloc, &work.pool, &work.decls, 0, game.root, directory)?;
@@ -43,13 +46,26 @@ pub fn check(
     requires declared { All (IsLive (length work.now.pool.trees)) work.now.decls.list }
     requires sites { seen directory
         ≡ sites_of (tree_at work.now.pool.trees (Some file.now.game.root)) }
-    requires fits { parts_size (file_parts (declarations work.now.pool.trees work.now.decls.list) (tree_at work.now.pool.trees (Some file.now.game.root))) < 2 ^ 32 }
-    ensures place { IfOk result (λ found. found.0 + size (tree_at work.now.pool.trees (Some file.now.game.root)) ≡ parts_size (file_parts (declarations work.now.pool.trees work.now.decls.list) (tree_at work.now.pool.trees (Some file.now.game.root)))) }
+    requires fits { parts_size (file_parts (declarations work.now.pool.trees work.now.decls.list)
+        (tree_at work.now.pool.trees (Some file.now.game.root))) < 2 ^ 32 }
+    ensures place { IfOk result (λ found. found.0 + size
+        (tree_at work.now.pool.trees (Some file.now.game.root))
+        ≡ parts_size (file_parts (declarations work.now.pool.trees work.now.decls.list)
+        (tree_at work.now.pool.trees (Some file.now.game.root)))) }
     ensures directory { IfOk result (λ found. found.1 ≡ directory) }
-    ensures none { OnOk result (first_in (declarations work.now.pool.trees work.now.decls.list) 0 (file_parts (declarations work.now.pool.trees work.now.decls.list) (tree_at work.now.pool.trees (Some file.now.game.root))) ≡ None) }
-    ensures found { IfErr result (IsRefusalOf (first_in (declarations work.now.pool.trees work.now.decls.list) 0 (file_parts (declarations work.now.pool.trees work.now.decls.list) (tree_at work.now.pool.trees (Some file.now.game.root))))) }
-    ensures typed { OnOk result (IsTypedFile (declarations work.now.pool.trees work.now.decls.list) (tree_at work.now.pool.trees (Some file.now.game.root))) }
-    ensures fault { IfErr result (IsFirstRefusal (declarations work.now.pool.trees work.now.decls.list) (file_parts (declarations work.now.pool.trees work.now.decls.list) (tree_at work.now.pool.trees (Some file.now.game.root)))) }
+    ensures none { OnOk result (first_in (declarations work.now.pool.trees work.now.decls.list) 0
+        (file_parts (declarations work.now.pool.trees work.now.decls.list)
+        (tree_at work.now.pool.trees (Some file.now.game.root))) ≡ None) }
+    ensures found { IfErr result (IsRefusalOf
+        (first_in (declarations work.now.pool.trees work.now.decls.list) 0
+        (file_parts (declarations work.now.pool.trees work.now.decls.list)
+        (tree_at work.now.pool.trees (Some file.now.game.root))))) }
+    ensures typed { OnOk result (IsTypedFile (declarations work.now.pool.trees work.now.decls.list)
+        (tree_at work.now.pool.trees (Some file.now.game.root))) }
+    ensures fault { IfErr result (IsFirstRefusal
+        (declarations work.now.pool.trees work.now.decls.list)
+        (file_parts (declarations work.now.pool.trees work.now.decls.list)
+        (tree_at work.now.pool.trees (Some file.now.game.root)))) }
 {
     check_parts(alloc, &work.pool, &work.decls, file.game.root, directory)
 }
@@ -65,11 +81,19 @@ fn check_parts(
     requires live { root.0 < length pool.now.trees }
     requires declared { All (IsLive (length pool.now.trees)) decls.now.list }
     requires sites { seen directory ≡ sites_of (tree_at pool.now.trees (Some root)) }
-    requires fits { parts_size (file_parts (declarations pool.now.trees decls.now.list) (tree_at pool.now.trees (Some root))) < 2 ^ 32 }
-    ensures place { IfOk result (λ found. found.0 + size (tree_at pool.now.trees (Some root)) ≡ parts_size (file_parts (declarations pool.now.trees decls.now.list) (tree_at pool.now.trees (Some root)))) }
+    requires fits { parts_size (file_parts (declarations pool.now.trees decls.now.list)
+        (tree_at pool.now.trees (Some root))) < 2 ^ 32 }
+    ensures place { IfOk result (λ found. found.0 + size (tree_at pool.now.trees (Some root))
+        ≡ parts_size (file_parts (declarations pool.now.trees decls.now.list)
+        (tree_at pool.now.trees (Some root)))) }
     ensures directory { IfOk result (λ found. found.1 ≡ directory) }
-    ensures typed { OnOk result (first_in (declarations pool.now.trees decls.now.list) 0 (file_parts (declarations pool.now.trees decls.now.list) (tree_at pool.now.trees (Some root))) ≡ None) }
-    ensures fault { IfErr result (IsRefusalOf (first_in (declarations pool.now.trees decls.now.list) 0 (file_parts (declarations pool.now.trees decls.now.list) (tree_at pool.now.trees (Some root))))) }
+    ensures typed { OnOk result (first_in (declarations pool.now.trees decls.now.list) 0
+        (file_parts (declarations pool.now.trees decls.now.list)
+        (tree_at pool.now.trees (Some root))) ≡ None) }
+    ensures fault { IfErr result (IsRefusalOf
+        (first_in (declarations pool.now.trees decls.now.list) 0
+        (file_parts (declarations pool.now.trees decls.now.list)
+        (tree_at pool.now.trees (Some root))))) }
 {
     let mut place = 0;
     'decls: for k in 0..decls.len() {
@@ -96,8 +120,11 @@ fn check_process(
     requires sites { seen directory ≡ sites_of (tree_at pool.now.trees (Some root)) }
     requires fits { from + size (tree_at pool.now.trees (Some root)) < 2 ^ 32 }
     ensures directory { IfOk result (λ d. d ≡ directory) }
-    ensures typed { OnOk result (first_in (declarations pool.now.trees decls.now.list) from (game_part (tree_at pool.now.trees (Some root)) ∷ []) ≡ None) }
-    ensures fault { IfErr result (IsRefusalOf (first_in (declarations pool.now.trees decls.now.list) from (game_part (tree_at pool.now.trees (Some root)) ∷ []))) }
+    ensures typed { OnOk result (first_in (declarations pool.now.trees decls.now.list) from
+        (game_part (tree_at pool.now.trees (Some root)) ∷ []) ≡ None) }
+    ensures fault { IfErr result (IsRefusalOf
+        (first_in (declarations pool.now.trees decls.now.list) from
+        (game_part (tree_at pool.now.trees (Some root)) ∷ []))) }
 {
     let arrays = Arrays::OfGame(directory);
     let mut above = HashMap::new(alloc);

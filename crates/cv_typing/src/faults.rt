@@ -64,7 +64,8 @@ fn is_of_other_type(t: u32, sort: Sort) -> bool
 
 /// Whether a term is of another sort than is asked.
 fn is_other_sort(want: Want, sort: Sort) -> bool
-    ensures { (trees : List KindTree) (arrays : Arrays) → result ≡ wants.is_other_sort (want_of trees arrays want) sort }
+    ensures { (trees : List KindTree) (arrays : Arrays)
+        → result ≡ wants.is_other_sort (want_of trees arrays want) sort }
 {
     match want {
         Want::Run(form) => is_other_result(form, sort),
@@ -79,7 +80,8 @@ fn is_other_sort(want: Want, sort: Sort) -> bool
 
 /// Whether a value is asked that is sent or given to a function, an event or a variable.
 fn is_message(want: Want) -> bool
-    ensures { (trees : List KindTree) (arrays : Arrays) → result ≡ wants.is_message (want_of trees arrays want) }
+    ensures { (trees : List KindTree) (arrays : Arrays)
+        → result ≡ wants.is_message (want_of trees arrays want) }
 {
     matches!(want, Want::AnyMessage | Want::Message(_))
 }
@@ -97,7 +99,8 @@ fn differs_from(known: Option<Sort>, sort: Sort) -> bool
 /// Whether a binder of a list gives its variable another sort than its first site.
 fn binders_differ(pool: &Pool, arrays: &Arrays, are_indices: bool, list: Option<NodeId>) -> bool
     requires { ChildBelow (length pool.now.trees) list }
-    ensures { result ≡ typing.binders_differ (arrays_of arrays.now) (binder_sort are_indices) (tree_at pool.now.trees list) }
+    ensures { result ≡ typing.binders_differ (arrays_of arrays.now) (binder_sort are_indices)
+        (tree_at pool.now.trees list) }
 {
     let mut at = list;
     'list: while let Some(k) = at {
@@ -116,7 +119,8 @@ fn binders_differ(pool: &Pool, arrays: &Arrays, are_indices: bool, list: Option<
 /// another sort than its function.
 fn site_differs(pool: &Pool, arrays: &Arrays, head: Head, first: Option<NodeId>) -> bool
     requires { ChildBelow (length pool.now.trees) first }
-    ensures { result ≡ typing.site_differs (arrays_of arrays.now) head (tree_at pool.now.trees first) }
+    ensures { result ≡ typing.site_differs (arrays_of arrays.now) head
+        (tree_at pool.now.trees first) }
 {
     match head {
         Head::New(x, t) => differs_from(arrays.sort(x), Sort::OfType(t)),
@@ -129,7 +133,8 @@ fn site_differs(pool: &Pool, arrays: &Arrays, head: Head, first: Option<NodeId>)
 
 /// Whether a node is a `new` of a type that isn't fixed.
 fn is_unfixed(decls: &Decls, head: Head) -> bool
-    ensures { (trees : List KindTree) (arrays : Arrays) → result ≡ typing.is_unfixed (signature_in trees decls.now.list arrays) head }
+    ensures { (trees : List KindTree) (arrays : Arrays)
+        → result ≡ typing.is_unfixed (signature_in trees decls.now.list arrays) head }
 {
     match head {
         Head::New(_, t) => !is_fixed(decls, t),
@@ -139,7 +144,8 @@ fn is_unfixed(decls: &Decls, head: Head) -> bool
 
 /// Whether a term is of another sort than is asked. A term of unknown sort is not.
 fn is_wrong(want: Want, sort: Option<Sort>) -> bool
-    ensures { (trees : List KindTree) (arrays : Arrays) → result ≡ wants.is_wrong (want_of trees arrays want) sort }
+    ensures { (trees : List KindTree) (arrays : Arrays)
+        → result ≡ wants.is_wrong (want_of trees arrays want) sort }
 {
     match sort {
         Some(sort) => is_other_sort(want, sort),
@@ -149,7 +155,8 @@ fn is_wrong(want: Want, sort: Option<Sort>) -> bool
 
 /// Whether a term is an index where a value is sent.
 fn is_index_sent(want: Want, sort: Option<Sort>) -> bool
-    ensures { (trees : List KindTree) (arrays : Arrays) → result ≡ wants.is_index_sent (want_of trees arrays want) sort }
+    ensures { (trees : List KindTree) (arrays : Arrays)
+        → result ≡ wants.is_index_sent (want_of trees arrays want) sort }
 {
     match sort {
         Some(sort) => is_message(want) && is_index(sort),
@@ -170,7 +177,9 @@ fn has_arity(pool: &Pool, wanted: Option<usize>, list: Option<NodeId>) -> bool
 
 /// Whether an index stands where a value is sent, or a `new` is of a type that isn't fixed.
 fn value_fault(decls: &Decls, want: Want, sort: Option<Sort>, head: Head) -> Option<Fault>
-    ensures { (trees : List KindTree) (arrays : Arrays) → result ≡ typing.value_fault (signature_in trees decls.now.list arrays) (want_of trees arrays want) sort head }
+    ensures { (trees : List KindTree) (arrays : Arrays)
+        → result ≡ typing.value_fault (signature_in trees decls.now.list arrays)
+        (want_of trees arrays want) sort head }
 {
     if is_index_sent(want, sort) {
         return Some(Fault::IndexAsMessage);
@@ -192,7 +201,9 @@ pub fn own_fault(
 ) -> Option<Fault>
     requires first { ChildBelow (length pool.now.trees) node.first }
     requires arguments { HasLiveArguments (length pool.now.trees) decls.now.list }
-    ensures { result ≡ typing.fault_of (signature_in pool.now.trees decls.now.list arrays.now) (above_of above.now) (want_of pool.now.trees arrays.now want) node.head (tree_at pool.now.trees node.first) }
+    ensures { result ≡ typing.fault_of (signature_in pool.now.trees decls.now.list arrays.now)
+        (above_of above.now) (want_of pool.now.trees arrays.now want) node.head
+        (tree_at pool.now.trees node.first) }
 {
     let sort = sort_of_head(pool, decls, arrays, above, node.head, node.first);
     if is_wrong(want, sort) || site_differs(pool, arrays, node.head, node.first) {

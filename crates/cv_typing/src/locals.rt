@@ -70,7 +70,8 @@ fn note_body(
     body: Option<NodeId>,
 ) -> Result<(), AllocError>
     requires { ChildBelow (length pool.now.trees) body }
-    ensures { OnOk result (above_of sorts.new ≡ with_body (above_of sorts.old) (tree_at pool.now.trees body)) }
+    ensures { OnOk result (above_of sorts.new
+        ≡ with_body (above_of sorts.old) (tree_at pool.now.trees body)) }
 {
     let mut at = body;
     'body: while let Some(k) = at {
@@ -90,7 +91,8 @@ pub fn bind_taken(
     taken: Option<NodeId>,
 ) -> Result<(), AllocError>
     requires { ChildBelow (length pool.now.trees) taken }
-    ensures { OnOk result (above_of above.new ≡ with_taken (above_of above.old) (tree_at pool.now.trees taken)) }
+    ensures { OnOk result (above_of above.new
+        ≡ with_taken (above_of above.old) (tree_at pool.now.trees taken)) }
 {
     let mut bound = Vec::new(alloc);
     bind_all(
@@ -119,7 +121,9 @@ pub fn own_names(
     function: Option<NodeId>,
 ) -> Result<HashMap<u32, Sort>, AllocError>
     requires { ChildBelow (length pool.now.trees) function }
-    ensures { IfOk result (λ m. above_of m ≡ λ x. own_sort x (first_child (tree_at pool.now.trees function)) (second (tree_at pool.now.trees function))) }
+    ensures { IfOk result (λ m. above_of m
+        ≡ λ x. own_sort x (first_child (tree_at pool.now.trees function))
+        (second (tree_at pool.now.trees function))) }
 {
     let mut sorts = HashMap::new(alloc);
     bind_taken(alloc, pool, &mut sorts, first_of(pool, function))?;
@@ -131,7 +135,8 @@ impl Locals {
     /// The names of the functions of a list.
     pub fn of(alloc: Global, pool: &Pool, functions: Option<NodeId>) -> Result<Locals, AllocError>
         requires { ChildBelow (length pool.now.trees) functions }
-        ensures { IfOk result (λ l. locals_of l ≡ sort_by_bound (tree_at pool.now.trees functions)) }
+        ensures { IfOk result (λ l. locals_of l
+            ≡ sort_by_bound (tree_at pool.now.trees functions)) }
     {
         let mut locals = Locals {
             functions: Vec::new(alloc),
@@ -162,7 +167,8 @@ impl Locals {
         function: Option<NodeId>,
     ) -> Result<(), AllocError>
         requires { ChildBelow (length pool.now.trees) function }
-        ensures { OnOk result (locals_of self.new ≡ with_function (locals_of self.old) (tree_at pool.now.trees function)) }
+        ensures { OnOk result (locals_of self.new
+            ≡ with_function (locals_of self.old) (tree_at pool.now.trees function)) }
     {
         let bound = bound_at(pool, first_of(pool, function));
         let sorts = own_names(alloc, pool, function)?;
@@ -178,7 +184,8 @@ impl Locals {
         list: Option<NodeId>,
     ) -> Result<(), AllocError>
         requires { ChildBelow (length pool.now.trees) list }
-        ensures { OnOk result (locals_of self.new ≡ with_functions (locals_of self.old) (tree_at pool.now.trees list)) }
+        ensures { OnOk result (locals_of self.new
+            ≡ with_functions (locals_of self.old) (tree_at pool.now.trees list)) }
     {
         let mut at = list;
         'list: while let Some(k) = at {

@@ -53,7 +53,8 @@ fn bind_function(
 ) -> Result<HashMap<u32, Sort>, AllocError>
     requires key { ChildBelow (length pool.now.trees) key }
     requires taken { ChildBelow (length pool.now.trees) taken }
-    ensures { IfOk result (λ m. above_of m ≡ names_of (tree_at pool.now.trees key) (tree_at pool.now.trees taken)) }
+    ensures { IfOk result (λ m. above_of m
+        ≡ names_of (tree_at pool.now.trees key) (tree_at pool.now.trees taken)) }
 {
     let mut above = HashMap::new(alloc);
     let mut bound = Vec::new(alloc);
@@ -72,8 +73,10 @@ fn check_equation(
 ) -> Result<u32, TypeFault>
     requires live { tree.0 < length pool.now.trees }
     requires arguments { HasLiveArguments (length pool.now.trees) decls.now.list }
-    requires fits { from + parts_size (equation_part (tree_at pool.now.trees (Some tree)) ∷ []) < 2 ^ 32 }
-    ensures { IsChecked (declarations pool.now.trees decls.now.list) from (equation_part (tree_at pool.now.trees (Some tree)) ∷ []) result }
+    requires fits { from + parts_size (equation_part (tree_at pool.now.trees (Some tree)) ∷ [])
+        < 2 ^ 32 }
+    ensures { IsChecked (declarations pool.now.trees decls.now.list) from
+        (equation_part (tree_at pool.now.trees (Some tree)) ∷ []) result }
 {
     let node = read_node(pool, tree);
     let mut above = bind_locals(alloc, pool, node.first)?;
@@ -101,8 +104,10 @@ fn check_query(
 ) -> Result<u32, TypeFault>
     requires live { tree.0 < length pool.now.trees }
     requires arguments { HasLiveArguments (length pool.now.trees) decls.now.list }
-    requires fits { from + parts_size (query_part (tree_at pool.now.trees (Some tree)) ∷ []) < 2 ^ 32 }
-    ensures { IsChecked (declarations pool.now.trees decls.now.list) from (query_part (tree_at pool.now.trees (Some tree)) ∷ []) result }
+    requires fits { from + parts_size (query_part (tree_at pool.now.trees (Some tree)) ∷ [])
+        < 2 ^ 32 }
+    ensures { IsChecked (declarations pool.now.trees decls.now.list) from
+        (query_part (tree_at pool.now.trees (Some tree)) ∷ []) result }
 {
     let node = read_node(pool, tree);
     let mut above = bind_locals(alloc, pool, node.first)?;
@@ -150,7 +155,9 @@ fn results_of(
 ) -> Result<Vec<Option<Sort>>, AllocError>
     requires key { ChildBelow (length pool.now.trees) key }
     requires functions { ChildBelow (length pool.now.trees) functions }
-    ensures { IfOk result (λ v. v.items ≡ results (signature_in pool.now.trees decls.now.list arrays.now) (tree_at pool.now.trees key) (tree_at pool.now.trees functions)) }
+    ensures { IfOk result (λ v. v.items
+        ≡ results (signature_in pool.now.trees decls.now.list arrays.now)
+        (tree_at pool.now.trees key) (tree_at pool.now.trees functions)) }
 {
     let mut sorts = Vec::new(alloc);
     let mut at = functions;
@@ -178,8 +185,12 @@ fn check_bodies(
     requires key { ChildBelow (length pool.now.trees) key }
     requires functions { ChildBelow (length pool.now.trees) functions }
     requires arguments { HasLiveArguments (length pool.now.trees) decls.now.list }
-    requires fits { from + parts_size (body_parts (arrays_of arrays.old) (tree_at pool.now.trees key) sorts.now (tree_at pool.now.trees functions)) < 2 ^ 32 }
-    ensures { IsChecked (declarations pool.now.trees decls.now.list) from (body_parts (arrays_of arrays.old) (tree_at pool.now.trees key) sorts.now (tree_at pool.now.trees functions)) result }
+    requires fits { from + parts_size
+        (body_parts (arrays_of arrays.old) (tree_at pool.now.trees key) sorts.now
+        (tree_at pool.now.trees functions)) < 2 ^ 32 }
+    ensures { IsChecked (declarations pool.now.trees decls.now.list) from
+        (body_parts (arrays_of arrays.old) (tree_at pool.now.trees key) sorts.now
+        (tree_at pool.now.trees functions)) result }
 {
     let mut place = from;
     let mut n = 0;
@@ -207,8 +218,12 @@ fn check_equivalence(
 ) -> Result<u32, TypeFault>
     requires live { tree.0 < length pool.now.trees }
     requires arguments { HasLiveArguments (length pool.now.trees) decls.now.list }
-    requires fits { from + parts_size (equivalence_parts (declarations pool.now.trees decls.now.list) (tree_at pool.now.trees (Some tree))) < 2 ^ 32 }
-    ensures { IsChecked (declarations pool.now.trees decls.now.list) from (equivalence_parts (declarations pool.now.trees decls.now.list) (tree_at pool.now.trees (Some tree))) result }
+    requires fits { from + parts_size
+        (equivalence_parts (declarations pool.now.trees decls.now.list)
+        (tree_at pool.now.trees (Some tree))) < 2 ^ 32 }
+    ensures { IsChecked (declarations pool.now.trees decls.now.list) from
+        (equivalence_parts (declarations pool.now.trees decls.now.list)
+        (tree_at pool.now.trees (Some tree))) result }
 {
     let node = read_node(pool, tree);
     let key = first_of(pool, node.first);
@@ -251,8 +266,12 @@ pub fn check_declaration(
 ) -> Result<u32, TypeFault>
     requires live { IsLive (length pool.now.trees) decl }
     requires arguments { HasLiveArguments (length pool.now.trees) decls.now.list }
-    requires fits { from + parts_size (declaration_parts (declarations pool.now.trees decls.now.list) (declared pool.now.trees decl)) < 2 ^ 32 }
-    ensures { IsChecked (declarations pool.now.trees decls.now.list) from (declaration_parts (declarations pool.now.trees decls.now.list) (declared pool.now.trees decl)) result }
+    requires fits { from + parts_size
+        (declaration_parts (declarations pool.now.trees decls.now.list)
+        (declared pool.now.trees decl)) < 2 ^ 32 }
+    ensures { IsChecked (declarations pool.now.trees decls.now.list) from
+        (declaration_parts (declarations pool.now.trees decls.now.list)
+        (declared pool.now.trees decl)) result }
 {
     match decl {
         Decl::Name { .. } => Ok(from),

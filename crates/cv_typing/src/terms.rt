@@ -17,7 +17,9 @@ use std::collections::HashMap;
 
 /// The sort of what a function gives.
 fn function_sort(decls: &Decls, f: u32) -> Option<Sort>
-    ensures { (trees : List KindTree) → result ≡ option_map (λ (f : signature.Function). OfType f.result) (signature.function_in (declarations trees decls.now.list) f) }
+    ensures { (trees : List KindTree)
+        → result ≡ option_map (λ (f : signature.Function). OfType f.result)
+        (signature.function_in (declarations trees decls.now.list) f) }
 {
     match find_function(decls, f) {
         Some(function) => Some(Sort::OfType(function.result)),
@@ -27,7 +29,9 @@ fn function_sort(decls: &Decls, f: u32) -> Option<Sort>
 
 /// The sort of a name that stands bare.
 fn leaf_sort(decls: &Decls, arrays: &Arrays, above: &HashMap<u32, Sort>, x: u32) -> Option<Sort>
-    ensures { (trees : List KindTree) → result ≡ signature.leaf_sort (signature_in trees decls.now.list arrays.now) (above_of above.now) x }
+    ensures { (trees : List KindTree)
+        → result ≡ signature.leaf_sort (signature_in trees decls.now.list arrays.now)
+        (above_of above.now) x }
 {
     if let Some(sort) = above.get(&x) {
         return Some(*sort);
@@ -67,7 +71,8 @@ fn read_sort(
     indices: Option<NodeId>,
 ) -> Option<Sort>
     requires { ChildBelow (length pool.now.trees) indices }
-    ensures { result ≡ signature.read_sort (arrays_of arrays.now) (above_of above.now) x (tree_at pool.now.trees indices) }
+    ensures { result ≡ signature.read_sort (arrays_of arrays.now) (above_of above.now) x
+        (tree_at pool.now.trees indices) }
 {
     match arrays {
         Arrays::OfGame(sites) => sites.sort(x),
@@ -89,7 +94,8 @@ pub fn sort_of_head(
     child: Option<NodeId>,
 ) -> Option<Sort>
     requires { ChildBelow (length pool.now.trees) child }
-    ensures { result ≡ signature.sort_by (signature_in pool.now.trees decls.now.list arrays.now) (above_of above.now) head (tree_at pool.now.trees child) }
+    ensures { result ≡ signature.sort_by (signature_in pool.now.trees decls.now.list arrays.now)
+        (above_of above.now) head (tree_at pool.now.trees child) }
 {
     match head {
         Head::Leaf(x) => leaf_sort(decls, arrays, above, x),
@@ -111,7 +117,8 @@ pub fn sort_of_term(
     term: Option<NodeId>,
 ) -> Option<Sort>
     requires { ChildBelow (length pool.now.trees) term }
-    ensures { result ≡ signature.sort_of (signature_in pool.now.trees decls.now.list arrays.now) (above_of above.now) (tree_at pool.now.trees term) }
+    ensures { result ≡ signature.sort_of (signature_in pool.now.trees decls.now.list arrays.now)
+        (above_of above.now) (tree_at pool.now.trees term) }
 {
     let node = read_node(pool, term?);
     sort_of_head(pool, decls, arrays, above, node.head, node.first)
@@ -126,7 +133,8 @@ fn leaf_arity(
     x: u32,
 ) -> Option<usize>
     requires { HasLiveArguments (length pool.now.trees) decls.now.list }
-    ensures { result ≡ signature.leaf_arity (signature_in pool.now.trees decls.now.list arrays.now) (above_of above.now) x }
+    ensures { result ≡ signature.leaf_arity (signature_in pool.now.trees decls.now.list arrays.now)
+        (above_of above.now) x }
 {
     if above.contains_key(&x) {
         return None;
@@ -140,7 +148,8 @@ fn leaf_arity(
 /// How many arguments a function takes.
 fn function_arity(pool: &Pool, decls: &Decls, f: u32) -> Option<usize>
     requires { HasLiveArguments (length pool.now.trees) decls.now.list }
-    ensures { result ≡ option_map (λ (f : signature.Function). length f.arguments) (signature.function_in (declarations pool.now.trees decls.now.list) f) }
+    ensures { result ≡ option_map (λ (f : signature.Function). length f.arguments)
+        (signature.function_in (declarations pool.now.trees decls.now.list) f) }
 {
     match find_function(decls, f) {
         Some(function) => Some(count_names(pool, function.arguments)),
@@ -165,7 +174,8 @@ pub fn arity_of_head(
     head: Head,
 ) -> Option<usize>
     requires { HasLiveArguments (length pool.now.trees) decls.now.list }
-    ensures { result ≡ signature.arity_by (signature_in pool.now.trees decls.now.list arrays.now) (above_of above.now) head }
+    ensures { result ≡ signature.arity_by (signature_in pool.now.trees decls.now.list arrays.now)
+        (above_of above.now) head }
 {
     match head {
         Head::Leaf(x) => leaf_arity(pool, decls, arrays, above, x),

@@ -32,10 +32,14 @@ pub fn walk(
     requires want { IsLiveWant (length pool.now.trees) asked }
     requires arguments { HasLiveArguments (length pool.now.trees) decls.now.list }
     requires fits { from + size (tree_at pool.now.trees tree) < 2 ^ 32 }
-    ensures typed { OnOk result (first_fault (signature_in pool.now.trees decls.now.list arrays.now) (above_of above.old) (want_of pool.now.trees arrays.now asked) from (tree_at pool.now.trees tree) ≡ None) }
+    ensures typed { OnOk result (first_fault
+        (signature_in pool.now.trees decls.now.list arrays.now) (above_of above.old)
+        (want_of pool.now.trees arrays.now asked) from (tree_at pool.now.trees tree) ≡ None) }
     ensures next { IfOk result (λ next. next ≡ from + size (tree_at pool.now.trees tree)) }
     ensures kept { OnOk result (above_of above.new ≡ above_of above.old) }
-    ensures fault { IfErr result (IsRefusalOf (first_fault (signature_in pool.now.trees decls.now.list arrays.now) (above_of above.old) (want_of pool.now.trees arrays.now asked) from (tree_at pool.now.trees tree))) }
+    ensures fault { IfErr result (IsRefusalOf
+        (first_fault (signature_in pool.now.trees decls.now.list arrays.now) (above_of above.old)
+        (want_of pool.now.trees arrays.now asked) from (tree_at pool.now.trees tree))) }
 {
     let mut place = from;
     let mut want = asked;
