@@ -3,7 +3,7 @@ use Rattle.std.specs.Prelude.{◌≡◌, ℕ, ◌+◌, ◌*◌, ◌/◌, ◌%◌
 use Rattle.std.proofs.Common.{ap, arith}
 use Rattle.cv_pool.specs.declared.node.Kind.{Kind}
 use Rattle.cv_syntax.specs.declared.head.Head.{Head}
-use Rattle.cv_syntax.specs.declared.head.Head.TheVariants.{Stop, Yield, Par, Repl, In, Out, Event, New, Let, If, Find, Branch, Leaf, Read, Apply, Eq, And, Or, Not, Yes, No, Cons, Binder, Name, Number, Forall, Query, Occurs, OccursOnce, Secret, SecretOnce, Equivalence, Bound, Single, Oracle, RenameStep, RewriteStep, PruneStep, PickStep, MergeStep, SplitStep, LetStep, NewStep, UnletStep, UnnewStep, MoveStep, ArrayRenameStep, AddCellStep, DropCellStep, BirthdayStep, GuessStep, FreshStep, CryptoStep, SuccessStep, SimplifyStep, ThenPart, ElsePart, BranchPart, Line, Defined, Cases, Primed, ByFact, ByHere, ByOf, BySite, ByEquation, ByRefl, BySym, ByTrans, ByCong, ByMp, ByAnd, ByLeft, ByRight, ByContra, ByExfalso, ByData, ByGiven, ByAgain, ByBool, ByOtherFact, ByOtherHere, BySame, ByDistinct, EventsCertificate, SecretCertificate, NeverEntry, WithEntry, AboveRoute, CellRoute, HoldsRoute, Pair, Key, Call}
+use Rattle.cv_syntax.specs.declared.head.Head.TheVariants.{Stop, Yield, Par, Repl, In, Out, Event, New, Let, If, Find, Branch, Leaf, Read, Apply, Eq, And, Or, Not, Yes, No, Cons, Binder, Name, Number, Forall, Query, Occurs, OccursOnce, Secret, SecretOnce, Equivalence, Bound, Single, Oracle, RenameStep, RewriteStep, PruneStep, PickStep, MergeStep, SplitStep, LetStep, NewStep, UnletStep, UnnewStep, MoveStep, ArrayRenameStep, CodefStep, BirthdayStep, GuessStep, FreshStep, CryptoStep, SuccessStep, SimplifyStep, ThenPart, ElsePart, AddPart, DropPart, Line, Defined, Cases, Primed, ByFact, ByHere, ByOf, BySite, ByEquation, ByRefl, BySym, ByTrans, ByCong, ByMp, ByAnd, ByLeft, ByRight, ByContra, ByExfalso, ByData, ByGiven, ByAgain, ByBool, ByOtherFact, ByOtherHere, BySame, ByDistinct, EventsCertificate, SecretCertificate, AtEntry, NeverEntry, WithEntry, AboveRoute, CellRoute, HoldsRoute, DistinctPart, Pair, SecretPair, Key, Call}
 
 -- a tag and two numbers below 2 ^ 32
 abbrev pub kind_of : ℕ → ℕ → ℕ → Kind
@@ -50,29 +50,29 @@ code (Equivalence x) = kind_of 31 x 0
 code (Bound x y) = kind_of 32 x y
 code (Single x) = kind_of 33 x 0
 code (Oracle x) = kind_of 34 x 0
-code (RenameStep x y) = kind_of 35 x y
+code RenameStep = kind_of 35 0 0
 code RewriteStep = kind_of 36 0 0
 code PruneStep = kind_of 37 0 0
 code PickStep = kind_of 38 0 0
 code MergeStep = kind_of 39 0 0
 code SplitStep = kind_of 40 0 0
-code (LetStep x y) = kind_of 41 x y
-code (NewStep x y) = kind_of 42 x y
-code (UnletStep x) = kind_of 43 x 0
-code (UnnewStep x) = kind_of 44 x 0
+code LetStep = kind_of 41 0 0
+code NewStep = kind_of 42 0 0
+code UnletStep = kind_of 43 0 0
+code UnnewStep = kind_of 44 0 0
 code MoveStep = kind_of 45 0 0
-code (ArrayRenameStep x) = kind_of 46 x 0
-code AddCellStep = kind_of 47 0 0
-code DropCellStep = kind_of 48 0 0
-code (BirthdayStep x) = kind_of 49 x 0
-code (GuessStep x) = kind_of 50 x 0
-code FreshStep = kind_of 51 0 0
-code (CryptoStep x y) = kind_of 52 x y
-code SuccessStep = kind_of 53 0 0
-code SimplifyStep = kind_of 54 0 0
-code ThenPart = kind_of 55 0 0
-code ElsePart = kind_of 56 0 0
-code BranchPart = kind_of 57 0 0
+code ArrayRenameStep = kind_of 46 0 0
+code CodefStep = kind_of 47 0 0
+code BirthdayStep = kind_of 48 0 0
+code GuessStep = kind_of 49 0 0
+code FreshStep = kind_of 50 0 0
+code CryptoStep = kind_of 51 0 0
+code SuccessStep = kind_of 52 0 0
+code SimplifyStep = kind_of 53 0 0
+code ThenPart = kind_of 54 0 0
+code ElsePart = kind_of 55 0 0
+code AddPart = kind_of 56 0 0
+code DropPart = kind_of 57 0 0
 code Line = kind_of 58 0 0
 code Defined = kind_of 59 0 0
 code Cases = kind_of 60 0 0
@@ -102,19 +102,22 @@ code BySame = kind_of 83 0 0
 code ByDistinct = kind_of 84 0 0
 code EventsCertificate = kind_of 85 0 0
 code SecretCertificate = kind_of 86 0 0
-code NeverEntry = kind_of 87 0 0
-code WithEntry = kind_of 88 0 0
-code AboveRoute = kind_of 89 0 0
-code CellRoute = kind_of 90 0 0
-code HoldsRoute = kind_of 91 0 0
-code Pair = kind_of 92 0 0
-code (Key x) = kind_of 93 x 0
-code (Call x y) = kind_of 94 x y
+code AtEntry = kind_of 87 0 0
+code NeverEntry = kind_of 88 0 0
+code WithEntry = kind_of 89 0 0
+code AboveRoute = kind_of 90 0 0
+code CellRoute = kind_of 91 0 0
+code HoldsRoute = kind_of 92 0 0
+code DistinctPart = kind_of 93 0 0
+code Pair = kind_of 94 0 0
+code SecretPair = kind_of 95 0 0
+code (Key x) = kind_of 96 x 0
+code (Call x y) = kind_of 97 x y
 
 -- the head of a kind
 abbrev pub decoded : Kind → Head
 decoded k =
-    if nat_lt 93 k.tag then Call k.a k.b else
+    if nat_lt 96 k.tag then Call k.a k.b else
     if k.tag == 0 then Stop else if k.tag == 1 then Yield else if k.tag == 2 then Par else if k.tag == 3 then Repl k.a k.b else if k.tag == 4 then In k.a else
     if k.tag == 5 then Out k.a else if k.tag == 6 then Event k.a else if k.tag == 7 then New k.a k.b else if k.tag == 8 then Let k.a k.b else if k.tag == 9 then If else
     if k.tag == 10 then Find (k.a + 2 ^ 32 * k.b) else if k.tag == 11 then Branch else if k.tag == 12 then Leaf k.a else if k.tag == 13 then Read k.a else if k.tag == 14 then Apply k.a else
@@ -122,18 +125,19 @@ decoded k =
     if k.tag == 20 then No else if k.tag == 21 then Cons else if k.tag == 22 then Binder k.a k.b else if k.tag == 23 then Name k.a else if k.tag == 24 then Number (k.a + 2 ^ 32 * k.b) else
     if k.tag == 25 then Forall else if k.tag == 26 then Query else if k.tag == 27 then Occurs k.a else if k.tag == 28 then OccursOnce k.a else if k.tag == 29 then Secret k.a else
     if k.tag == 30 then SecretOnce k.a else if k.tag == 31 then Equivalence k.a else if k.tag == 32 then Bound k.a k.b else if k.tag == 33 then Single k.a else if k.tag == 34 then Oracle k.a else
-    if k.tag == 35 then RenameStep k.a k.b else if k.tag == 36 then RewriteStep else if k.tag == 37 then PruneStep else if k.tag == 38 then PickStep else if k.tag == 39 then MergeStep else
-    if k.tag == 40 then SplitStep else if k.tag == 41 then LetStep k.a k.b else if k.tag == 42 then NewStep k.a k.b else if k.tag == 43 then UnletStep k.a else if k.tag == 44 then UnnewStep k.a else
-    if k.tag == 45 then MoveStep else if k.tag == 46 then ArrayRenameStep k.a else if k.tag == 47 then AddCellStep else if k.tag == 48 then DropCellStep else if k.tag == 49 then BirthdayStep k.a else
-    if k.tag == 50 then GuessStep k.a else if k.tag == 51 then FreshStep else if k.tag == 52 then CryptoStep k.a k.b else if k.tag == 53 then SuccessStep else if k.tag == 54 then SimplifyStep else
-    if k.tag == 55 then ThenPart else if k.tag == 56 then ElsePart else if k.tag == 57 then BranchPart else if k.tag == 58 then Line else if k.tag == 59 then Defined else
+    if k.tag == 35 then RenameStep else if k.tag == 36 then RewriteStep else if k.tag == 37 then PruneStep else if k.tag == 38 then PickStep else if k.tag == 39 then MergeStep else
+    if k.tag == 40 then SplitStep else if k.tag == 41 then LetStep else if k.tag == 42 then NewStep else if k.tag == 43 then UnletStep else if k.tag == 44 then UnnewStep else
+    if k.tag == 45 then MoveStep else if k.tag == 46 then ArrayRenameStep else if k.tag == 47 then CodefStep else if k.tag == 48 then BirthdayStep else if k.tag == 49 then GuessStep else
+    if k.tag == 50 then FreshStep else if k.tag == 51 then CryptoStep else if k.tag == 52 then SuccessStep else if k.tag == 53 then SimplifyStep else if k.tag == 54 then ThenPart else
+    if k.tag == 55 then ElsePart else if k.tag == 56 then AddPart else if k.tag == 57 then DropPart else if k.tag == 58 then Line else if k.tag == 59 then Defined else
     if k.tag == 60 then Cases else if k.tag == 61 then Primed k.a else if k.tag == 62 then ByFact else if k.tag == 63 then ByHere else if k.tag == 64 then ByOf else
     if k.tag == 65 then BySite else if k.tag == 66 then ByEquation else if k.tag == 67 then ByRefl else if k.tag == 68 then BySym else if k.tag == 69 then ByTrans else
     if k.tag == 70 then ByCong else if k.tag == 71 then ByMp else if k.tag == 72 then ByAnd else if k.tag == 73 then ByLeft else if k.tag == 74 then ByRight else
     if k.tag == 75 then ByContra else if k.tag == 76 then ByExfalso else if k.tag == 77 then ByData else if k.tag == 78 then ByGiven else if k.tag == 79 then ByAgain else
     if k.tag == 80 then ByBool else if k.tag == 81 then ByOtherFact else if k.tag == 82 then ByOtherHere else if k.tag == 83 then BySame else if k.tag == 84 then ByDistinct else
-    if k.tag == 85 then EventsCertificate else if k.tag == 86 then SecretCertificate else if k.tag == 87 then NeverEntry else if k.tag == 88 then WithEntry else if k.tag == 89 then AboveRoute else
-    if k.tag == 90 then CellRoute else if k.tag == 91 then HoldsRoute else if k.tag == 92 then Pair else Key k.a
+    if k.tag == 85 then EventsCertificate else if k.tag == 86 then SecretCertificate else if k.tag == 87 then AtEntry else if k.tag == 88 then NeverEntry else if k.tag == 89 then WithEntry else
+    if k.tag == 90 then AboveRoute else if k.tag == 91 then CellRoute else if k.tag == 92 then HoldsRoute else if k.tag == 93 then DistinctPart else if k.tag == 94 then Pair else
+    if k.tag == 95 then SecretPair else Key k.a
 
 pub decoded-code : (h : Head) → decoded (code h) ≡ h
 decoded-code Stop = refl
@@ -171,29 +175,29 @@ decoded-code (Equivalence x) = refl
 decoded-code (Bound x y) = refl
 decoded-code (Single x) = refl
 decoded-code (Oracle x) = refl
-decoded-code (RenameStep x y) = refl
+decoded-code RenameStep = refl
 decoded-code RewriteStep = refl
 decoded-code PruneStep = refl
 decoded-code PickStep = refl
 decoded-code MergeStep = refl
 decoded-code SplitStep = refl
-decoded-code (LetStep x y) = refl
-decoded-code (NewStep x y) = refl
-decoded-code (UnletStep x) = refl
-decoded-code (UnnewStep x) = refl
+decoded-code LetStep = refl
+decoded-code NewStep = refl
+decoded-code UnletStep = refl
+decoded-code UnnewStep = refl
 decoded-code MoveStep = refl
-decoded-code (ArrayRenameStep x) = refl
-decoded-code AddCellStep = refl
-decoded-code DropCellStep = refl
-decoded-code (BirthdayStep x) = refl
-decoded-code (GuessStep x) = refl
+decoded-code ArrayRenameStep = refl
+decoded-code CodefStep = refl
+decoded-code BirthdayStep = refl
+decoded-code GuessStep = refl
 decoded-code FreshStep = refl
-decoded-code (CryptoStep x y) = refl
+decoded-code CryptoStep = refl
 decoded-code SuccessStep = refl
 decoded-code SimplifyStep = refl
 decoded-code ThenPart = refl
 decoded-code ElsePart = refl
-decoded-code BranchPart = refl
+decoded-code AddPart = refl
+decoded-code DropPart = refl
 decoded-code Line = refl
 decoded-code Defined = refl
 decoded-code Cases = refl
@@ -223,12 +227,15 @@ decoded-code BySame = refl
 decoded-code ByDistinct = refl
 decoded-code EventsCertificate = refl
 decoded-code SecretCertificate = refl
+decoded-code AtEntry = refl
 decoded-code NeverEntry = refl
 decoded-code WithEntry = refl
 decoded-code AboveRoute = refl
 decoded-code CellRoute = refl
 decoded-code HoldsRoute = refl
+decoded-code DistinctPart = refl
 decoded-code Pair = refl
+decoded-code SecretPair = refl
 decoded-code (Key x) = refl
 decoded-code (Call x y) = refl
 
