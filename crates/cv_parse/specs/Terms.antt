@@ -52,7 +52,7 @@ term_read limit live names tokens from = term_of limit live from (signed_from na
 
 -- how many names there are at least, by the number in a sign
 abbrev pub names_by : Sign → ℕ
-names_by (sign.Word x) = suc x
+names_by (sign.Word x w) = suc x
 names_by (sign.Unnamed x) = suc x
 names_by (sign.Number v) = 0
 names_by (sign.Find k) = 0

@@ -57,7 +57,7 @@ fn names_by(sign: Sign) -> u64
     ensures { result ≡ names_of sign }
 {
     match sign {
-        Sign::Word(number) | Sign::Unnamed(number) => number as u64 + 1,
+        Sign::Word(number, _) | Sign::Unnamed(number) => number as u64 + 1,
         Sign::Number(_) | Sign::Find(_) | Sign::Mark(_) => 0,
     }
 }

@@ -22,7 +22,7 @@ use Rattle.cv_parse_declarations.specs.Blocks.{IsPassed, PassesTree, piece}
 -- how a piece begins
 
 apart : (k : Kind) → is_mark mark.OpenBrace k ≡ true → is_mark mark.CloseBrace k ≡ false
-apart AWord h = refl
+apart (AWord w) h = refl
 apart ANumber h = refl
 apart Zero h = refl
 apart AFind h = refl

@@ -4,7 +4,7 @@ use Rattle.std.proofs.lemmas.Bool.{not-true}
 use Rattle.cv_lists.proofs.Tests.{and_first, and_second}
 use Rattle.cv_syntax.specs.Tree.{Tree}
 use Rattle.cv_parse_notation.specs.declared.sign.Sign.{Sign}
-use Rattle.cv_parse_notation.specs.Form.{Form, sign, word, number, nought, find_word, unnamed, other, note, both, may, many, either, made, level, deeper}
+use Rattle.cv_parse_notation.specs.Form.{Form, sign, script_word, word, number, nought, find_word, unnamed, other, note, both, may, many, either, made, level, deeper}
 use Rattle.cv_parse_notation.specs.Spells.{Kind, starts, next_is, may_vanish, Use}
 use Rattle.cv_parse_notation.specs.Reads.{Nesting, Syntax, Found, Read, Reader, ◌>>=◌, found, pick, no_syntax, no_level, nothing, joined, one_more, mapped, read_many, reads, too_deep, read_sort}
 use Rattle.cv_parse_notation.specs.Fits.{fits, fitting, goes_on}
@@ -46,6 +46,7 @@ agrees_level false true false false p q ts h e a l u = same (sym (u refl))
 module _ {R σ : Type 0} (h : σ → Kind → Bool) (few more : Bool) (r q : σ → Reader R Tree) (room : IsTrue few → IsTrue more) (a : (s : σ) (ts : List Sign) → Agrees (r s ts) (q s ts)) (l : (s : σ) → Takes (q s)) (n : (s : σ) (ts : List Sign) → next_is (h s) ts ≡ false → q s ts ≡ Err (Syntax (length ts))) where
   agrees : {A : Type 0} (f : Form R σ A) → has_firm_levels f ≡ true → (ts : List Sign) → Agrees (reads h few r f ts) (reads h more q f ts)
   agrees (sign m) w ts = same refl
+  agrees (script_word c) w ts = same refl
   agrees (word c) w ts = same refl
   agrees number w ts = same refl
   agrees nought w ts = same refl

@@ -2,11 +2,14 @@
 use Rattle.std.proofs.Common.{◌≡◌, ◌⊎◌, ℕ, zero, suc, ◌<◌, ◌≤◌, Bool, true, false, ◌&&◌, ◌||◌, not, inl, inr, List, [], ◌∷◌, length, refl, ap, ap₂, sym, ◌∙◌, arith, subst}
 use Rattle.std.proofs.lemmas.Bool.{not-true}
 use Rattle.cv_syntax.specs.Tree.{Tree}
-use Rattle.cv_parse_notation.specs.Marks.{mark_of}
+use Rattle.cv_parse_notation.specs.Marks.{every_mark}
+use Rattle.cv_parse_notation.specs.ScriptWords.{every_word}
+use Rattle.cv_parse_notation.specs.declared.script.ScriptWord.{ScriptWord}
+use Rattle.cv_parse_notation.specs.declared.sign.Mark.{Mark}
 use Rattle.cv_parse_notation.specs.declared.sign.Sign.{Sign}
-use Rattle.cv_parse_notation.specs.Fits.{all_kinds, all_marks, apart}
-use Rattle.cv_parse_notation.specs.Form.{Form, sign, word, number, nought, find_word, unnamed, other, note, both, may, many, either, made, level, deeper}
-use Rattle.cv_parse_notation.specs.Spells.{Kind, AWord, ANumber, Zero, AFind, AnUnnamed, AMark, kind_of, is_mark, is_word, is_number, is_zero, is_find, is_unnamed, is_other, may_vanish, starts, starts_both, next_is, Use, Spells, IsSort}
+use Rattle.cv_parse_notation.specs.Fits.{all_kinds, all_marks, all_words, apart}
+use Rattle.cv_parse_notation.specs.Form.{Form, sign, script_word, word, number, nought, find_word, unnamed, other, note, both, may, many, either, made, level, deeper}
+use Rattle.cv_parse_notation.specs.Spells.{Kind, AWord, ANumber, Zero, AFind, AnUnnamed, AMark, kind_of, is_mark, is_script_word, is_word, is_number, is_zero, is_find, is_unnamed, is_other, may_vanish, starts, starts_both, next_is, Use, Spells, IsSort}
 use Rattle.cv_parse_notation.proofs.Complete.{front, within_next}
 use Rattle.cv_parse_notation.proofs.Lengths.{lengths}
 use Rattle.cv_parse_notation.proofs.Sorts.{begins, parts, shorter}
@@ -15,12 +18,16 @@ use Rattle.cv_parse_depth.proofs.Agreement.{IsFirm}
 
 -- kinds that are apart
 
-marks_same : (n : ℕ) (p q : Kind → Bool) → ((k : Kind) → p k ≡ q k) → all_marks n p ≡ all_marks n q
-marks_same zero p q e = refl
-marks_same (suc n) p q e = ap₂ ◌&&◌ (e (AMark (mark_of n))) (marks_same n p q e)
+marks_same : (ms : List Mark) (p q : Kind → Bool) → ((k : Kind) → p k ≡ q k) → all_marks ms p ≡ all_marks ms q
+marks_same [] p q e = refl
+marks_same (m ∷ ms) p q e = ap₂ ◌&&◌ (e (AMark m)) (marks_same ms p q e)
+
+words_same : (ws : List ScriptWord) (p q : Kind → Bool) → ((k : Kind) → p k ≡ q k) → all_words ws p ≡ all_words ws q
+words_same [] p q e = refl
+words_same (w ∷ ws) p q e = ap₂ ◌&&◌ (e (AWord w)) (words_same ws p q e)
 
 kinds_same : (p q : Kind → Bool) → ((k : Kind) → p k ≡ q k) → all_kinds p ≡ all_kinds q
-kinds_same p q e = ap₂ ◌&&◌ (e AWord) (ap₂ ◌&&◌ (e ANumber) (ap₂ ◌&&◌ (e Zero) (ap₂ ◌&&◌ (e AFind) (ap₂ ◌&&◌ (e AnUnnamed) (marks_same 60 p q e)))))
+kinds_same p q e = ap₂ ◌&&◌ (words_same every_word p q e) (ap₂ ◌&&◌ (e ANumber) (ap₂ ◌&&◌ (e Zero) (ap₂ ◌&&◌ (e AFind) (ap₂ ◌&&◌ (e AnUnnamed) (marks_same every_mark p q e)))))
 
 not_both : (a b : Bool) → not (a && not (not b)) ≡ not (a && b)
 not_both true true = refl
@@ -93,6 +100,7 @@ module _ {R σ : Type 0} (h : σ → Kind → Bool) (sorts : σ → List Sign �
 
   pub stands_begins : {A : Type 0} (f : Form R σ A) (own : ℕ) (ts rest : List Sign) → Stands h sorts below depth own f ts rest → Begins (starts h f) ts rest
   stands_begins (sign m) own ts rest d = begins_here (is_mark m) depth own ts rest d
+  stands_begins (script_word w) own ts rest d = begins_here (is_script_word w) depth own ts rest d
   stands_begins (word r) own ts rest d = begins_here is_word depth own ts rest d
   stands_begins number own ts rest d = begins_here is_number depth own ts rest d
   stands_begins nought own ts rest d = begins_here is_zero depth own ts rest d

@@ -3,13 +3,14 @@ use Rattle.std.proofs.Common.{◌≡◌, ℕ, zero, suc, ◌<◌, ◌≤◌, Boo
 use Rattle.std.proofs.lemmas.Bool.{not-true}
 use Rattle.cv_lists.proofs.Tests.{and_first, and_second}
 use Rattle.cv_syntax.specs.Tree.{Tree}
+use Rattle.cv_parse_notation.specs.declared.script.ScriptWord.{ScriptWord}
 use Rattle.cv_parse_notation.specs.declared.sign.Mark.{Mark}
 use Rattle.cv_parse_notation.specs.declared.sign.Sign.{Sign}
 use Rattle.cv_parse_notation.specs.declared.sign.Sign.TheVariants as token
 use Rattle.cv_parse_notation.specs.Fits.{apart, fits, goes_on}
-use Rattle.cv_parse_notation.specs.Form.{Form, sign, word, number, nought, find_word, unnamed, other, note, both, may, many, either, made, level, deeper}
-use Rattle.cv_parse_notation.specs.Spells.{Kind, kind_of, is_mark, is_word, is_number, is_zero, is_find, is_unnamed, is_other, is_steady, may_vanish, starts, next_is, Use, Spells, IsSort}
-use Rattle.cv_parse_notation.specs.Reads.{Nesting, Found, Read, Reader, ◌>>=◌, found, pick, no_syntax, no_level, read_sign, read_word, read_number, read_nought, read_find, read_unnamed, read_other, nothing, joined, one_more, mapped, read_many}
+use Rattle.cv_parse_notation.specs.Form.{Form, sign, script_word, word, number, nought, find_word, unnamed, other, note, both, may, many, either, made, level, deeper}
+use Rattle.cv_parse_notation.specs.Spells.{Kind, kind_of, is_mark, is_script_word, is_word, is_number, is_zero, is_find, is_unnamed, is_other, is_steady, may_vanish, starts, next_is, Use, Spells, IsSort}
+use Rattle.cv_parse_notation.specs.Reads.{Nesting, Found, Read, Reader, ◌>>=◌, found, pick, no_syntax, no_level, read_sign, read_script_word, read_word, read_number, read_nought, read_find, read_unnamed, read_other, nothing, joined, one_more, mapped, read_many}
 use Rattle.cv_parse_notation.proofs.Lengths.{lengths, toll}
 use Rattle.cv_parse_notation.proofs.Sorts.{begins, parts, shorter}
 use Rattle.cv_parse_depth.specs.Depth.{InTurn, here, later, IsNext, Stands, StandsBelow, StandsIn}
@@ -83,6 +84,14 @@ past_sign R m (t ∷ ts) e = go (is_mark m (kind_of t)) e
     go true i = omega arith
     go false i = absurd (cc)
 
+past_script_word : (R : Type 0) (w : ScriptWord) (ts : List Sign) → next_is (is_script_word w) ts ≡ true → left_in (read_script_word {R = R} w ts) < length ts
+past_script_word R w [] e = absurd (cc)
+past_script_word R w (t ∷ ts) e = go (is_script_word w (kind_of t)) e
+  where
+    go : (b : Bool) → b ≡ true → left_in {R = R} {A = Unit {0}} (pick b (λ us. found tt [] ts) no_syntax (t ∷ ts)) < length (t ∷ ts)
+    go true i = omega arith
+    go false i = absurd (cc)
+
 past_other : (R : Type 0) (ts : List Sign) → next_is is_other ts ≡ true → left_in (read_other {R = R} ts) < length ts
 past_other R [] e = absurd (cc)
 past_other R (t ∷ ts) e = go (is_other (kind_of t)) e
@@ -93,7 +102,7 @@ past_other R (t ∷ ts) e = go (is_other (kind_of t)) e
 
 past_word : {R : Type 0} (r : R) (ts : List Sign) → next_is is_word ts ≡ true → left_in (read_word r ts) < length ts
 past_word r [] e = absurd (cc)
-past_word r (token.Word x ∷ ts) e = omega arith
+past_word r (token.Word x w ∷ ts) e = omega arith
 past_word r (token.Number zero ∷ ts) e = absurd (cc)
 past_word r (token.Number (suc v) ∷ ts) e = absurd (cc)
 past_word r (t ∷ ts) e = absurd (cc)
@@ -161,6 +170,7 @@ module _ {R σ : Type 0} (h t : σ → Kind → Bool) (rule : σ → Form R σ T
 
   pub meets : {A : Type 0} (f : Form R σ A) → IsFine h t f → (own : ℕ) → own ≤ bound → (ts rest : List Sign) → Stands h (IsSort h rule n) (StandsBelow h rule n depth) depth own f ts rest → Meets bound depth rest (reads_at h rule bound f ts)
   meets (sign q) v own l ts rest d = token_meets (is_mark q) (read_sign q) (past_sign R q) bound depth own ts rest l d
+  meets (script_word q) v own l ts rest d = token_meets (is_script_word q) (read_script_word q) (past_script_word R q) bound depth own ts rest l d
   meets (word q) v own l ts rest d = token_meets is_word (read_word q) (past_word q) bound depth own ts rest l d
   meets number v own l ts rest d = token_meets is_number read_number (past_number R) bound depth own ts rest l d
   meets nought v own l ts rest d = token_meets is_zero read_nought (past_nought R) bound depth own ts rest l d

@@ -3,12 +3,13 @@ use Rattle.std.proofs.Common.{◌≡◌, ℕ, zero, suc, ◌≤◌, Bool, true, 
 use Rattle.std.proofs.lemmas.Bool.{not-true}
 use Rattle.cv_lists.proofs.Tests.{and_first, and_second, or_first, or_second}
 use Rattle.cv_syntax.specs.Tree.{Tree}
+use Rattle.cv_parse_notation.specs.declared.script.ScriptWord.{ScriptWord}
 use Rattle.cv_parse_notation.specs.declared.sign.Mark.{Mark}
 use Rattle.cv_parse_notation.specs.declared.sign.Sign.{Sign}
 use Rattle.cv_parse_notation.specs.declared.sign.Sign.TheVariants as token
-use Rattle.cv_parse_notation.specs.Form.{Form, sign, word, number, nought, find_word, unnamed, other, note, both, may, many, either, made, level, deeper}
-use Rattle.cv_parse_notation.specs.Spells.{Kind, kind_of, is_mark, is_other, starts, starts_both, next_is, used, may_vanish}
-use Rattle.cv_parse_notation.specs.Reads.{Syntax, Nesting, Found, Read, Reader, ◌>>=◌, found, pick, no_syntax, no_level, read_sign, read_word, read_number, read_nought, read_find, read_unnamed, read_other, nothing, joined, one_more, mapped, read_many, reads}
+use Rattle.cv_parse_notation.specs.Form.{Form, sign, script_word, word, number, nought, find_word, unnamed, other, note, both, may, many, either, made, level, deeper}
+use Rattle.cv_parse_notation.specs.Spells.{Kind, kind_of, is_mark, is_script_word, is_other, starts, starts_both, next_is, used, may_vanish}
+use Rattle.cv_parse_notation.specs.Reads.{Syntax, Nesting, Found, Read, Reader, ◌>>=◌, found, pick, no_syntax, no_level, read_sign, read_script_word, read_word, read_number, read_nought, read_find, read_unnamed, read_other, nothing, joined, one_more, mapped, read_many, reads}
 
 -- how many tokens are left where reading ends or fails
 abbrev pub left_in : {R A : Type 0} → Read R A → ℕ
@@ -41,12 +42,16 @@ takes_sign : (R : Type 0) (m : Mark) → Takes (read_sign {R = R} m)
 takes_sign R m [] = omega arith
 takes_sign R m (t ∷ ts) = takes_pick {R = R} (is_mark m (kind_of t)) (λ us. found tt [] ts) no_syntax (t ∷ ts) (omega arith) (omega arith)
 
+takes_script_word : (R : Type 0) (w : ScriptWord) → Takes (read_script_word {R = R} w)
+takes_script_word R w [] = omega arith
+takes_script_word R w (t ∷ ts) = takes_pick {R = R} (is_script_word w (kind_of t)) (λ us. found tt [] ts) no_syntax (t ∷ ts) (omega arith) (omega arith)
+
 takes_other : (R : Type 0) → Takes (read_other {R = R})
 takes_other R [] = omega arith
 takes_other R (t ∷ ts) = takes_pick {R = R} (is_other (kind_of t)) (λ us. found tt [] ts) no_syntax (t ∷ ts) (omega arith) (omega arith)
 
 takes_word : {R : Type 0} (r : R) → Takes (read_word r)
-takes_word r (token.Word x ∷ ts) = omega arith
+takes_word r (token.Word x w ∷ ts) = omega arith
 takes_word r ts = omega arith
 
 takes_unnamed : {R : Type 0} (r : R) → Takes (read_unnamed r)
@@ -73,6 +78,7 @@ takes_level false false p ts l = omega arith
 module _ {R σ : Type 0} (h : σ → Kind → Bool) (room : Bool) (r : σ → Reader R Tree) (l : (s : σ) → Takes (r s)) where
   pub takes : {A : Type 0} (f : Form R σ A) → Takes (reads h room r f)
   takes (sign m) = takes_sign R m
+  takes (script_word w) = takes_script_word R w
   takes (word q) = takes_word q
   takes number = takes_number R
   takes nought = takes_nought R
@@ -141,6 +147,10 @@ unbegun_sign : {R : Type 0} (m : Mark) (ts : List Sign) → next_is (is_mark m) 
 unbegun_sign m [] e = refl
 unbegun_sign m (t ∷ ts) e = passes (is_mark m (kind_of t)) (λ us. found tt [] ts) no_syntax (t ∷ ts) e
 
+unbegun_script_word : {R : Type 0} (w : ScriptWord) (ts : List Sign) → next_is (is_script_word w) ts ≡ false → read_script_word {R = R} w ts ≡ Err (Syntax (length ts))
+unbegun_script_word w [] e = refl
+unbegun_script_word w (t ∷ ts) e = passes (is_script_word w (kind_of t)) (λ us. found tt [] ts) no_syntax (t ∷ ts) e
+
 unbegun_other : {R : Type 0} (ts : List Sign) → next_is is_other ts ≡ false → read_other {R = R} ts ≡ Err (Syntax (length ts))
 unbegun_other [] e = refl
 unbegun_other (t ∷ ts) e = passes (is_other (kind_of t)) (λ us. found tt [] ts) no_syntax (t ∷ ts) e
@@ -191,8 +201,9 @@ other_vanishes false w r ts e u = u
 module _ {R σ : Type 0} (h : σ → Kind → Bool) (room : Bool) (r : σ → Reader R Tree) (n : (s : σ) (ts : List Sign) → next_is (h s) ts ≡ false → r s ts ≡ Err (Syntax (length ts))) where
   pub unbegun : {A : Type 0} (f : Form R σ A) → has_firm_levels f ≡ true → (ts : List Sign) → next_is (starts h f) ts ≡ false → Unbegun (may_vanish f) (reads h room r f ts) ts
   unbegun (sign m) w ts e = unbegun_sign m ts e
+  unbegun (script_word v) w ts e = unbegun_script_word v ts e
   unbegun (word q) w [] e = refl
-  unbegun (word q) w (token.Word x ∷ ts) e = absurd (cc)
+  unbegun (word q) w (token.Word x v ∷ ts) e = absurd (cc)
   unbegun (word q) w (t ∷ ts) e = refl
   unbegun number w [] e = refl
   unbegun number w (token.Number zero ∷ ts) e = absurd (cc)

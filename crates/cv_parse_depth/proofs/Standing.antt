@@ -2,12 +2,13 @@
 use Rattle.std.proofs.Common.{◌≡◌, ◌⊎◌, ℕ, zero, suc, ◌-◌, ◌≤◌, Bool, true, false, ◌&&◌, ◌||◌, not, inl, inr, List, [], ◌∷◌, length, refl, ap, sym, ◌∙◌, arith, subst, Option, Some, None, Ok, Err}
 use Rattle.cv_lists.proofs.Tests.{and_first, and_second}
 use Rattle.cv_syntax.specs.Tree.{Tree}
+use Rattle.cv_parse_notation.specs.declared.script.ScriptWord.{ScriptWord}
 use Rattle.cv_parse_notation.specs.declared.sign.Mark.{Mark}
 use Rattle.cv_parse_notation.specs.declared.sign.Sign.{Sign}
 use Rattle.cv_parse_notation.specs.declared.sign.Sign.TheVariants as token
-use Rattle.cv_parse_notation.specs.Form.{Form, sign, word, number, nought, find_word, unnamed, other, note, both, may, many, either, made, level, deeper}
-use Rattle.cv_parse_notation.specs.Spells.{Kind, kind_of, is_mark, is_other, may_vanish, starts, starts_both, next_is, Use, Spells, IsSort}
-use Rattle.cv_parse_notation.specs.Reads.{Fault, Nesting, Found, Read, Reader, ◌>>=◌, found, pick, no_syntax, no_level, read_sign, read_word, read_number, read_nought, read_find, read_unnamed, read_other, nothing, joined, one_more, mapped, read_many, read_sort}
+use Rattle.cv_parse_notation.specs.Form.{Form, sign, script_word, word, number, nought, find_word, unnamed, other, note, both, may, many, either, made, level, deeper}
+use Rattle.cv_parse_notation.specs.Spells.{Kind, kind_of, is_mark, is_script_word, is_other, may_vanish, starts, starts_both, next_is, Use, Spells, IsSort}
+use Rattle.cv_parse_notation.specs.Reads.{Fault, Nesting, Found, Read, Reader, ◌>>=◌, found, pick, no_syntax, no_level, read_sign, read_script_word, read_word, read_number, read_nought, read_find, read_unnamed, read_other, nothing, joined, one_more, mapped, read_many, read_sort}
 use Rattle.cv_parse_notation.proofs.Sorts.{read_is_spelled, shorter}
 use Rattle.cv_parse_notation.proofs.Sound.{bind_ok, pick_ok, sound}
 use Rattle.cv_parse_depth.specs.Depth.{here, later, Stands, StandsBelow}
@@ -34,6 +35,14 @@ no_sign R m (t ∷ ts) k e = go (pick_err (is_mark m (kind_of t)) (λ us. found 
     go (inl i) = let j = i.1 in cc
     go (inr i) = let j = i.1 in cc
 
+no_script_word : (R : Type 0) (w : ScriptWord) (ts : List Sign) (k : ℕ) → read_script_word {R = R} w ts ≡ Err (Nesting k) → ⊥
+no_script_word R w [] k e = cc
+no_script_word R w (t ∷ ts) k e = go (pick_err (is_script_word w (kind_of t)) (λ us. found tt [] ts) no_syntax (t ∷ ts) (Nesting k) e)
+  where
+    go : ((is_script_word w (kind_of t) ≡ true) × (found {R = R} {A = Unit {0}} tt [] ts ≡ Err (Nesting k))) ⊎ ((is_script_word w (kind_of t) ≡ false) × (no_syntax {R = R} {A = Unit {0}} (t ∷ ts) ≡ Err (Nesting k))) → ⊥
+    go (inl i) = let j = i.1 in cc
+    go (inr i) = let j = i.1 in cc
+
 no_other : (R : Type 0) (ts : List Sign) (k : ℕ) → read_other {R = R} ts ≡ Err (Nesting k) → ⊥
 no_other R [] k e = cc
 no_other R (t ∷ ts) k e = go (pick_err (is_other (kind_of t)) (λ us. found tt [] ts) no_syntax (t ∷ ts) (Nesting k) e)
@@ -43,7 +52,7 @@ no_other R (t ∷ ts) k e = go (pick_err (is_other (kind_of t)) (λ us. found tt
     go (inr i) = let j = i.1 in cc
 
 no_word : {R : Type 0} (r : R) (ts : List Sign) (k : ℕ) → read_word r ts ≡ Err (Nesting k) → ⊥
-no_word r (token.Word x ∷ ts) k e = cc
+no_word r (token.Word x w ∷ ts) k e = cc
 no_word r ts k e = cc
 
 no_unnamed : {R : Type 0} (r : R) (ts : List Sign) (k : ℕ) → read_unnamed r ts ≡ Err (Nesting k) → ⊥
@@ -126,6 +135,7 @@ module _ {R σ : Type 0} (h t : σ → Kind → Bool) (rule : σ → Form R σ T
   -- the first token of a phrase whose first token is its own, in an open level
   first_stands : {A : Type 0} (n : ℕ) (f : Form R σ A) → IsFine h t f → begins_itself f ≡ true → (ts : List Sign) → next_is (starts h f) ts ≡ true → Stands h (IsSort h rule n) (StandsBelow h rule n 1) 1 1 f ts ts
   first_stands n (sign m) v i ts e = record { place = refl; fits = e; levels = refl }
+  first_stands n (script_word q) v i ts e = record { place = refl; fits = e; levels = refl }
   first_stands n (word r) v i ts e = record { place = refl; fits = e; levels = refl }
   first_stands n number v i ts e = record { place = refl; fits = e; levels = refl }
   first_stands n nought v i ts e = record { place = refl; fits = e; levels = refl }
@@ -163,6 +173,7 @@ module _ {R σ : Type 0} (h t : σ → Kind → Bool) (rule : σ → Form R σ T
   -- with no level left no phrase is read that has a token in a level
   unread : {A : Type 0} (f : Form R σ A) → has_level f ≡ true → (ts : List Sign) (x : Found R A) → reads_at h rule 0 f ts ≡ Ok x → ⊥
   unread (sign m) i ts x e = cc
+  unread (script_word q) i ts x e = cc
   unread (word r) i ts x e = cc
   unread number i ts x e = cc
   unread nought i ts x e = cc
@@ -227,6 +238,7 @@ module _ {R σ : Type 0} (h t : σ → Kind → Bool) (rule : σ → Form R σ T
 
     deep_in : {A : Type 0} (f : Form R σ A) → IsFine h t f → (has_room bound ≡ true) ⊎ ((bound ≡ 0) × (is_guarded f ≡ true)) → (own : ℕ) → (ts : List Sign) (k : ℕ) → reads_at h rule bound f ts ≡ Err (Nesting k) → StandsAt h rule n (suc bound) own f ts k
     deep_in (sign m) v y own ts k e = absurd (no_sign R m ts k e)
+    deep_in (script_word q) v y own ts k e = absurd (no_script_word R q ts k e)
     deep_in (word r) v y own ts k e = absurd (no_word r ts k e)
     deep_in number v y own ts k e = absurd (no_number R ts k e)
     deep_in nought v y own ts k e = absurd (no_nought R ts k e)

@@ -4,7 +4,7 @@ use Rattle.cv_lists.proofs.Tests.{and_second}
 use Rattle.cv_syntax.specs.Tree.{Tree}
 use Rattle.cv_parse_notation.specs.declared.sign.Sign.{Sign}
 use Rattle.cv_parse_notation.specs.Fits.{apart, fits, goes_on}
-use Rattle.cv_parse_notation.specs.Form.{Form, sign, word, number, nought, find_word, unnamed, other, note, both, may, many, either, made, level, deeper}
+use Rattle.cv_parse_notation.specs.Form.{Form, sign, script_word, word, number, nought, find_word, unnamed, other, note, both, may, many, either, made, level, deeper}
 use Rattle.cv_parse_notation.specs.Spells.{Kind, may_vanish, starts, next_is, Use, Spells, IsSort}
 use Rattle.cv_parse_notation.specs.Reads.{Read, found}
 use Rattle.cv_parse_notation.proofs.Sorts.{begins, shorter}
@@ -69,6 +69,7 @@ module _ {R σ : Type 0} (h t : σ → Kind → Bool) (rule : σ → Form R σ T
 
     same_depth : {A : Type 0} (f : Form R σ A) → IsFine h t f → (own : ℕ) → own ≤ 1 → (ts rest : List Sign) → Stands h (IsSort h rule n) (StandsBelow h rule n d) d own f ts rest → Stands h (IsSort h rule m) (StandsBelow h rule m e) e own f ts rest → d ≡ e
     same_depth (sign q) v own l ts rest x y = same_levels _ own ts rest x y
+    same_depth (script_word q) v own l ts rest x y = same_levels _ own ts rest x y
     same_depth (word q) v own l ts rest x y = same_levels _ own ts rest x y
     same_depth number v own l ts rest x y = same_levels _ own ts rest x y
     same_depth nought v own l ts rest x y = same_levels _ own ts rest x y

@@ -2,8 +2,8 @@
 use Rattle.std.specs.Prelude.{◌≡◌, ℕ, zero, suc, ◌<◌, ◌≤◌, Bool, true, false, List, length, ◌⊎◌}
 use Rattle.cv_syntax.specs.Tree.{Tree}
 use Rattle.cv_parse_notation.specs.declared.sign.Sign.{Sign}
-use Rattle.cv_parse_notation.specs.Form.{Form, sign, word, number, nought, find_word, unnamed, other, note, both, may, many, either, made, level, deeper}
-use Rattle.cv_parse_notation.specs.Spells.{Kind, is_mark, is_word, is_number, is_zero, is_find, is_unnamed, is_other, starts, next_is, Use, Spells, IsSort}
+use Rattle.cv_parse_notation.specs.Form.{Form, sign, script_word, word, number, nought, find_word, unnamed, other, note, both, may, many, either, made, level, deeper}
+use Rattle.cv_parse_notation.specs.Spells.{Kind, is_mark, is_script_word, is_word, is_number, is_zero, is_find, is_unnamed, is_other, starts, next_is, Use, Spells, IsSort}
 
 -- the next token is the first of the rest and of this kind, and so many levels are open there
 pub record IsNext (kind : Kind → Bool) (depth own : ℕ) (tokens rest : List Sign) : Type 0 where
@@ -29,6 +29,7 @@ pub data InTurn {R A : Type 0} (P : List Sign → A → List (Use R) → List Si
 -- level of the form itself is open, and 0 elsewhere.
 abbrev pub Stands : {R σ A : Type 0} → (σ → Kind → Bool) → (sorts : σ → List Sign → Tree → List (Use R) → List Sign → Type 0) → (below : σ → List Sign → List Sign → Type 0) → (depth own : ℕ) → Form R σ A → (tokens rest : List Sign) → Type 0
 Stands h sorts below depth own (sign m) ts rest = IsNext (is_mark m) depth own ts rest
+Stands h sorts below depth own (script_word w) ts rest = IsNext (is_script_word w) depth own ts rest
 Stands h sorts below depth own (word r) ts rest = IsNext is_word depth own ts rest
 Stands h sorts below depth own number ts rest = IsNext is_number depth own ts rest
 Stands h sorts below depth own nought ts rest = IsNext is_zero depth own ts rest

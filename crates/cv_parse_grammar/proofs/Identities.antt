@@ -10,7 +10,7 @@ use Rattle.cv_syntax.specs.Declarations.{Declaration, Named, Equation, Equiv, Qu
 use Rattle.cv_parse_notation.specs.declared.sign.Mark.{Mark}
 use Rattle.cv_parse_notation.specs.declared.sign.Mark.TheVariants as mark
 use Rattle.cv_parse_notation.specs.declared.sign.Sign.{Sign}
-use Rattle.cv_parse_notation.specs.Form.{sign, word, number, nought, find_word, unnamed, other, note, both, may, many, either, made, level, deeper, ◌&◌, ◌▸◌, ◌◂◌}
+use Rattle.cv_parse_notation.specs.Form.{sign, script_word, word, number, nought, find_word, unnamed, other, note, both, may, many, either, made, level, deeper, ◌&◌, ◌▸◌, ◌◂◌}
 use Rattle.cv_parse_notation.specs.Spells.{Each, IsSort, Kind, Perhaps, Relation, Spells, Use, no_sort, starts, used}
 use Rattle.cv_parse_grammar.specs.declared.role.Asked.{Asked}
 use Rattle.cv_parse_grammar.specs.declared.role.Asked.TheVariants.{AParam, AChannel, AFunction, AnEvent, AProbability, AnEquivalence, AType}
@@ -73,6 +73,7 @@ module _ (room : Bool) (below : Sort → Relation Role Tree) (low : (s : Sort) �
   says_nothing : {A : Type 0} (f : Phrase A) → quiet f ≡ true → Quiet (Spells heads room below f)
   unfolding quiet
   says_nothing (sign m) h ts a us rest d = ap declared_in d.uses
+  says_nothing (script_word w) h ts a us rest d = ap declared_in d.uses
   says_nothing (word r) h ts a us rest d = ap declared_in d.uses ∙ quiet_use r a ts h
   says_nothing number h ts a us rest d = ap declared_in d.uses
   says_nothing nought h ts a us rest d = ap declared_in d.uses

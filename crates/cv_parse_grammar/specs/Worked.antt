@@ -1,8 +1,14 @@
 -- Worked files, as lists of tokens: the names are numbered as they come, from 1.
 use Rattle.std.specs.Prelude.{ℕ, zero, suc, List, [], ◌∷◌}
 use Rattle.cv_parse_notation.specs.declared.sign.Sign.{Sign}
-use Rattle.cv_parse_notation.specs.declared.sign.Sign.TheVariants.{Word, Number, Find, Unnamed, Mark}
+use Rattle.cv_parse_notation.specs.declared.script.ScriptWord.TheVariants.{Plain}
+use Rattle.cv_parse_notation.specs.declared.sign.Sign.TheVariants as token
+use Rattle.cv_parse_notation.specs.declared.sign.Sign.TheVariants.{Number, Find, Unnamed, Mark}
 use Rattle.cv_parse_notation.specs.declared.sign.Mark.TheVariants.{Proof, Process, Param, Channel, Proba, TypeWord, Fixed, Large, Bounded, ConstWord, Fun, Compos, EventWord, EquationWord, Forall, New, Equiv, QueryWord, Secret, Inj, Let, In, If, Then, Else, Orfind, Suchthat, Yield, Out, Defined, Not, True, False, Bool, Open, Close, OpenSquare, CloseSquare, OpenBrace, CloseBrace, Comma, Semicolon, Colon, Dot, Bar, Bang, At, Equal, Differ, AtMost, Gives, Implies, Arrow, Both, Either}
+
+-- a name that is no word of a script
+abbrev Word : ℕ → Sign
+Word x = token.Word x Plain
 
 -- every kind of declaration without a term of its own, an equation and a query of secrecy:
 -- param N. channel c, d. proba P. type T [fixed, large, bounded]. const k: T. fun f(T, bool): T [compos]. event e(T). equation forall x: T; f(x, true) = x. query secret v. process 0

@@ -8,7 +8,7 @@ use Rattle.cv_syntax.specs.Tree.{Tree}
 use Rattle.cv_parse_notation.specs.declared.sign.Mark.TheVariants as mark
 use Rattle.cv_parse_notation.specs.declared.sign.Sign.{Sign}
 use Rattle.cv_parse_notation.specs.declared.sign.Sign.TheVariants as token
-use Rattle.cv_parse_notation.specs.Form.{sign, word, number, nought, find_word, unnamed, other, note, both, may, many, either, made, level, deeper, ◌&◌, ◌▸◌}
+use Rattle.cv_parse_notation.specs.Form.{sign, script_word, word, number, nought, find_word, unnamed, other, note, both, may, many, either, made, level, deeper, ◌&◌, ◌▸◌}
 use Rattle.cv_parse_notation.specs.Marks.{same_mark}
 use Rattle.cv_parse_notation.specs.Spells.{Each, IsSort, Kind, Perhaps, Relation, Spells, Use, no_sort, starts}
 use Rattle.cv_parse_grammar.specs.declared.role.Role.{Role}
@@ -108,6 +108,7 @@ not_other false b e = refl
 module _ (room : Bool) (below : Sort → Relation Role Tree) (low : (s : Sort) → is_bare_sort s ≡ true → Passes (below s)) where
   passes : {A : Type 0} (f : Phrase A) → is_bare f ≡ true → Passes (Spells heads room below f)
   passes (sign m) e ts ss x us rest d a = token_passes ts ss _ rest d.tokens (not_true (same_mark m mark.OpenBrace) e) a
+  passes (script_word w) e ts ss x us rest d a = token_passes ts ss _ rest d.tokens refl a
   passes (word r) e ts ss x us rest d a = token_passes ts ss _ rest d.tokens refl a
   passes number e ts ss x us rest d a = token_passes ts ss _ rest d.tokens (number_plain mark.OpenBrace x) a
   passes nought e ts ss x us rest d a = token_passes ts ss _ rest d.tokens refl a

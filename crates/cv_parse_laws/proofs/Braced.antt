@@ -73,7 +73,7 @@ number_alike text v is = record {
 }
 
 told_alike : (names : List (List ℕ)) (t : Token) (s : Sign) → IsToken t.kind t.text → Tells names t s → IsAlike t.text s
-told_alike names t (sign.Word n) is h = record { opens = no_mark_alike t.text mark.OpenBrace h.1; closes = no_mark_alike t.text mark.CloseBrace h.1 }
+told_alike names t (sign.Word n w) is h = record { opens = no_mark_alike t.text mark.OpenBrace h.1; closes = no_mark_alike t.text mark.CloseBrace h.1 }
 told_alike names t (sign.Number v) is h = number_alike t.text v (subst (λ k. IsToken k t.text) h is)
 told_alike names t (sign.Find n) is h = subst (λ w. IsAlike w (sign.Find n)) (sym h) (record { opens = refl; closes = refl })
 told_alike names t (sign.Unnamed n) is h = subst (λ w. IsAlike w (sign.Unnamed n)) (sym h.0) (record { opens = refl; closes = refl })

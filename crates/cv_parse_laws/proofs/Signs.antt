@@ -6,6 +6,7 @@ use Rattle.std.proofs.lemmas.Slice.Eq.{bytes_eq-Decides}
 use Rattle.cv_lex.specs.declared.TokenKind.{TokenKind}
 use Rattle.cv_lex.specs.declared.TokenKind.TheVariants as kind
 use Rattle.cv_lex.specs.Lexis.{Token}
+use Rattle.cv_parse_notation.specs.declared.script.ScriptWord.TheVariants.{Plain}
 use Rattle.cv_parse_notation.specs.declared.sign.Mark.{Mark}
 use Rattle.cv_parse_notation.specs.declared.sign.Mark.TheVariants as mark
 use Rattle.cv_parse_notation.specs.declared.sign.Sign.{Sign}
@@ -54,7 +55,7 @@ record Right (s : Step) : Type 0 where
 
 right_word : (names : List (List ℕ)) (counts : _) (text : List ℕ) → BoolFirst names → mark_of_text text ≡ None → Right (word_step names counts text)
 right_word names counts text f e =
-    elim (bytes_eq text (codes "find")) as (λ b. Right (if b then (record { signs = sign.Find (suc counts.finds) ∷ []; names = names; counts = one_find counts }) else (record { signs = sign.Word (place_of names text) ∷ []; names = with_name names text; counts = counts }))) [
+    elim (bytes_eq text (codes "find")) as (λ b. Right (if b then (record { signs = sign.Find (suc counts.finds) ∷ []; names = names; counts = one_find counts }) else (record { signs = sign.Word (place_of names text) Plain ∷ []; names = with_name names text; counts = counts }))) [
       | true ↦ record { named = (tt, tt); first = f }
       | false ↦ let p = placed names text f (no_bool text e) in record { named = (p.place, tt); first = p.first }
     ]

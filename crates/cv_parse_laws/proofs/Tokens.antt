@@ -3,7 +3,7 @@ use Rattle.std.proofs.Common.{◌≡◌, ℕ, zero, suc, Bool, true, false, List
 use Rattle.std.specs.List.{AllByRecursion}
 use Rattle.cv_syntax.specs.Tree.{Tree}
 use Rattle.cv_parse_notation.specs.declared.sign.Sign.{Sign}
-use Rattle.cv_parse_notation.specs.Form.{Form, sign, word, number, nought, find_word, unnamed, other, note, both, may, many, either, made, level, deeper}
+use Rattle.cv_parse_notation.specs.Form.{Form, sign, script_word, word, number, nought, find_word, unnamed, other, note, both, may, many, either, made, level, deeper}
 use Rattle.cv_parse_notation.specs.Spells.{Each, IsSort, Kind, Perhaps, Relation, Spells, Use, no_sort, starts}
 use Rattle.cv_parse_notation.specs.Whole.{SpellsWith}
 use Rattle.cv_parse_laws.specs.Yields.{IfThere, Yields}
@@ -33,6 +33,7 @@ module _ {R σ : Type 0} (P : σ → Tree → Type 0) where
     module _ (room : Bool) (below : σ → Relation R Tree) (low : (s : σ) → Tells (below s) (P s)) where
       spelled : {A : Type 0} (f : Form R σ A) → Tells (Spells h room below f) (Yields Names P f)
       spelled (sign m) ts a us rest d w = (tt, (subst AreNamed d.tokens w).1)
+      spelled (script_word v) ts a us rest d w = (tt, (subst AreNamed d.tokens w).1)
       spelled (word r) ts a us rest d w = subst AreNamed d.tokens w
       spelled number ts a us rest d w = (tt, (subst AreNamed d.tokens w).1)
       spelled nought ts a us rest d w = (tt, (subst AreNamed d.tokens w).1)

@@ -11,7 +11,7 @@ use Rattle.cv_print_terminals.specs.Written.{has_items, is_name, is_written}
 
 -- the name of a sign, where it has one, isn't `bool`
 abbrev pub IsNamed : Sign → Type 0
-IsNamed (token.Word x) = is_name x ≡ true
+IsNamed (token.Word x w) = is_name x ≡ true
 IsNamed (token.Unnamed x) = is_name x ≡ true
 IsNamed s = Unit {0}
 

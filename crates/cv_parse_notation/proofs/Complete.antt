@@ -1,36 +1,42 @@
 -- What is spelled is read, where the next token always tells how a phrase goes on.
-use Rattle.std.proofs.Common.{◌≡◌, ℕ, zero, suc, ◌<◌, ◌≤◌, Bool, true, false, ◌&&◌, ◌||◌, not, ◌⊎◌, inl, inr, IsTrue, List, [], ◌∷◌, length, refl, ap, sym, ◌∙◌, arith, subst, Option, Some, None}
+use Rattle.std.proofs.Common.{◌≡◌, ℕ, zero, suc, ◌<◌, ◌≤◌, Bool, true, false, ◌&&◌, ◌||◌, not, ◌⊎◌, inl, inr, IsTrue, List, [], ◌∷◌, length, refl, ap, sym, ◌∙◌, arith, subst, Option, Some, None, slice_index_or}
 use Rattle.std.proofs.lemmas.Bool.Decides.{nat_tests}
 use Rattle.std.proofs.lemmas.Bool.{not-false, false_from_ne_true, not-true}
 use Rattle.cv_lists.proofs.Tests.{or_first, or_second, and_first, and_second}
 use Rattle.cv_syntax.specs.Tree.{Tree}
+use Rattle.cv_parse_notation.specs.declared.script.ScriptWord.{ScriptWord}
+use Rattle.cv_parse_notation.specs.declared.script.ScriptWord.TheVariants.{Plain}
 use Rattle.cv_parse_notation.specs.declared.sign.Mark.{Mark}
+use Rattle.cv_parse_notation.specs.declared.sign.Mark.TheVariants.{Proof}
 use Rattle.cv_parse_notation.specs.declared.sign.Sign.{Sign}
 use Rattle.cv_parse_notation.specs.declared.sign.Sign.TheVariants as token
-use Rattle.cv_parse_notation.specs.Marks.{mark_code, mark_of, mark_of_code, mark_code_below, same_mark}
-use Rattle.cv_parse_notation.specs.Form.{Form, sign, word, number, nought, find_word, unnamed, other, note, both, may, many, either, made, level, deeper}
-use Rattle.cv_parse_notation.specs.Spells.{Kind, AWord, ANumber, Zero, AFind, AnUnnamed, AMark, kind_of, number_kind, is_mark, is_word, is_zero, is_find, is_unnamed, is_other, is_number, starts, starts_both, next_is, may_vanish, Use, used, IsToken, Follow, Perhaps, Each, Spells}
-use Rattle.cv_parse_notation.specs.Reads.{Read, Reader, ◌>>=◌, found, pick, no_syntax, no_level, read_sign, read_word, read_number, read_nought, read_find, read_unnamed, read_other, nothing, joined, one_more, mapped, read_many, reads}
-use Rattle.cv_parse_notation.specs.Fits.{goes_on, all_marks, all_kinds, apart, within, fits}
+use Rattle.cv_parse_notation.specs.Marks.{mark_code, every_mark, mark_of_code, mark_code_below, same_mark}
+use Rattle.cv_parse_notation.specs.ScriptWords.{word_code, every_word, word_of_code, word_code_below, same_word}
+use Rattle.cv_parse_notation.specs.Form.{Form, sign, script_word, word, number, nought, find_word, unnamed, other, note, both, may, many, either, made, level, deeper}
+use Rattle.cv_parse_notation.specs.Spells.{Kind, AWord, ANumber, Zero, AFind, AnUnnamed, AMark, kind_of, number_kind, is_mark, is_script_word, is_word, is_zero, is_find, is_unnamed, is_other, is_number, starts, starts_both, next_is, may_vanish, Use, used, IsToken, IsWord, IsScriptWord, Follow, Perhaps, Each, Spells}
+use Rattle.cv_parse_notation.specs.Reads.{Read, Reader, ◌>>=◌, found, pick, no_syntax, no_level, read_sign, read_script_word, read_word, read_number, read_nought, read_find, read_unnamed, read_other, nothing, joined, one_more, mapped, read_many, reads}
+use Rattle.cv_parse_notation.specs.Fits.{goes_on, all_marks, all_words, all_kinds, apart, within, fits}
 use Rattle.cv_parse_notation.proofs.Lengths.{toll, lengths}
 
-marks_in : (n : ℕ) (p : Kind → Bool) → all_marks n p ≡ true → (c : ℕ) → c < n → p (AMark (mark_of c)) ≡ true
-marks_in zero p h c l = absurd (omega arith)
-marks_in (suc n) p h c l =
-    elim (same_or_less c n l) [ inl e ↦ subst (λ k. p (AMark (mark_of k)) ≡ true) (sym e) (and_first (p (AMark (mark_of n))) (all_marks n p) h) | inr e ↦ marks_in n p (and_second (p (AMark (mark_of n))) (all_marks n p) h) c e ]
-  where
-    same_or_less : (c n : ℕ) → c < suc n → (c ≡ n) ⊎ (c < n)
-    same_or_less c n l = grind arith
+marks_in : (ms : List Mark) (p : Kind → Bool) → all_marks ms p ≡ true → (c : ℕ) (d : Mark) → c < length ms → p (AMark (slice_index_or ms c d)) ≡ true
+marks_in [] p h c d l = absurd (omega arith)
+marks_in (m ∷ ms) p h zero d l = and_first (p (AMark m)) (all_marks ms p) h
+marks_in (m ∷ ms) p h (suc c) d l = marks_in ms p (and_second (p (AMark m)) (all_marks ms p) h) c d (omega arith)
+
+words_in : (ws : List ScriptWord) (p : Kind → Bool) → all_words ws p ≡ true → (c : ℕ) (d : ScriptWord) → c < length ws → p (AWord (slice_index_or ws c d)) ≡ true
+words_in [] p h c d l = absurd (omega arith)
+words_in (w ∷ ws) p h zero d l = and_first (p (AWord w)) (all_words ws p) h
+words_in (w ∷ ws) p h (suc c) d l = words_in ws p (and_second (p (AWord w)) (all_words ws p) h) c d (omega arith)
 
 kind_in : (p : Kind → Bool) → all_kinds p ≡ true → (k : Kind) → p k ≡ true
-kind_in p h AWord = and_first _ _ h
-kind_in p h ANumber = and_first _ _ (and_second (p AWord) _ h)
-kind_in p h Zero = and_first _ _ (and_second (p ANumber) _ (and_second (p AWord) _ h))
-kind_in p h AFind = and_first _ _ (and_second (p Zero) _ (and_second (p ANumber) _ (and_second (p AWord) _ h)))
-kind_in p h AnUnnamed = and_first _ _ (and_second (p AFind) _ (and_second (p Zero) _ (and_second (p ANumber) _ (and_second (p AWord) _ h))))
+kind_in p h (AWord w) = subst (λ j. p (AWord j) ≡ true) (word_of_code w) (words_in every_word p (and_first _ _ h) (word_code w) Plain (word_code_below w))
+kind_in p h ANumber = and_first _ _ (and_second (all_words every_word p) _ h)
+kind_in p h Zero = and_first _ _ (and_second (p ANumber) _ (and_second (all_words every_word p) _ h))
+kind_in p h AFind = and_first _ _ (and_second (p Zero) _ (and_second (p ANumber) _ (and_second (all_words every_word p) _ h)))
+kind_in p h AnUnnamed = and_first _ _ (and_second (p AFind) _ (and_second (p Zero) _ (and_second (p ANumber) _ (and_second (all_words every_word p) _ h))))
 kind_in p h (AMark m) =
-    let i = and_second (p AnUnnamed) _ (and_second (p AFind) _ (and_second (p Zero) _ (and_second (p ANumber) _ (and_second (p AWord) _ h)))) in
-    subst (λ j. p (AMark j) ≡ true) (mark_of_code m) (marks_in 60 p i (mark_code m) (mark_code_below m))
+    let i = and_second (p AnUnnamed) _ (and_second (p AFind) _ (and_second (p Zero) _ (and_second (p ANumber) _ (and_second (all_words every_word p) _ h)))) in
+    subst (λ j. p (AMark j) ≡ true) (mark_of_code m) (marks_in every_mark p i (mark_code m) Proof (mark_code_below m))
 
 nand : (a b : Bool) → not (a && b) ≡ true → a ≡ true → b ≡ false
 nand true true h e = absurd (cc)
@@ -85,6 +91,9 @@ no_and false p ts e h = absurd (cc)
 same_self : (m : Mark) → same_mark m m ≡ true
 same_self m = grind (arith, nat_tests)
 
+script_self : (w : ScriptWord) → same_word w w ≡ true
+script_self w = grind (arith, nat_tests)
+
 number_self : (v : ℕ) → is_number (number_kind v) ≡ true
 number_self zero = refl
 number_self (suc v) = refl
@@ -95,6 +104,12 @@ Front p v ts rest = (next_is p ts ≡ true) ⊎ ((ts ≡ rest) × (v ≡ true))
 
 token_front : {R : Type 0} (p : Kind → Bool) (t : Sign) (u us : List (Use R)) (ts rest : List Sign) → p (kind_of t) ≡ true → IsToken t u ts us rest → next_is p ts ≡ true
 token_front p t u us ts rest e d = subst (λ xs. next_is p xs ≡ true) (sym d.tokens) e
+
+word_front : {R : Type 0} (x : ℕ) (u us : List (Use R)) (ts rest : List Sign) → IsWord x u ts us rest → next_is is_word ts ≡ true
+word_front x u us ts rest d = subst (λ xs. next_is is_word xs ≡ true) (sym d.tokens) refl
+
+script_word_front : {R : Type 0} (w : ScriptWord) (us : List (Use R)) (ts rest : List Sign) → IsScriptWord w ts us rest → next_is (is_script_word w) ts ≡ true
+script_word_front w us ts rest d = subst (λ xs. next_is (is_script_word w) xs ≡ true) (sym d.tokens) (script_self w)
 
 perhaps_front : {R A : Type 0} (P : List Sign → A → List (Use R) → List Sign → Type 0) (near : Bool) (k : Kind → Bool) (v : Bool) → ((ts : List Sign) (a : A) (us : List (Use R)) (rest : List Sign) → P ts a us rest → Front k v ts rest) → (ts : List Sign) (o : Option A) (us : List (Use R)) (rest : List Sign) → Perhaps P near k ts o us rest → Front k true ts rest
 perhaps_front P near k v s ts None us rest d = inr (d.0.tokens, refl)
@@ -143,7 +158,8 @@ either_second p q v w ts rest (inr e) = inr (e.0, or_true v w e.1)
 module _ {R σ : Type 0} (h : σ → Kind → Bool) (room : Bool) (below : σ → List Sign → Tree → List (Use R) → List Sign → Type 0) (begins : (s : σ) (ts : List Sign) (t : Tree) (us : List (Use R)) (rest : List Sign) → below s ts t us rest → next_is (h s) ts ≡ true) where
   pub front : {A : Type 0} (f : Form R σ A) (ts : List Sign) (a : A) (us : List (Use R)) (rest : List Sign) → Spells h room below f ts a us rest → Front (starts h f) (may_vanish f) ts rest
   front (sign m) ts a us rest d = inl (token_front (is_mark m) (token.Mark m) [] us ts rest (same_self m) d)
-  front (word r) ts a us rest d = inl (token_front is_word (token.Word a) (used r a ts) us ts rest refl d)
+  front (script_word w) ts a us rest d = inl (script_word_front w us ts rest d)
+  front (word r) ts a us rest d = inl (word_front a (used r a ts) us ts rest d)
   front number ts a us rest d = inl (token_front is_number (token.Number a) [] us ts rest (number_self a) d)
   front nought ts a us rest d = inl (token_front is_zero (token.Number 0) [] us ts rest refl d)
   front find_word ts a us rest d = inl (token_front is_find (token.Find a) [] us ts rest refl d)
@@ -184,6 +200,10 @@ passed false p q ts y e h = h
 sign_complete : {R : Type 0} (m : Mark) → Complete {R = R} {A = Unit {0}} (λ ts a us rest. IsToken (token.Mark m) [] ts us rest) (λ k. false) (read_sign m)
 sign_complete m ts a us rest d n =
     ap (read_sign m) d.tokens ∙ (picked (same_mark m m) (λ vs. found tt [] rest) no_syntax (token.Mark m ∷ rest) (found tt [] rest) (same_self m) refl ∙ ap (λ u. found a u rest) (sym d.uses))
+
+script_word_complete : {R : Type 0} (w : ScriptWord) → Complete {R = R} {A = Unit {0}} (λ ts a us rest. IsScriptWord w ts us rest) (λ k. false) (read_script_word w)
+script_word_complete w ts a us rest d n =
+    ap (read_script_word w) d.tokens ∙ (picked (same_word w w) (λ vs. found tt [] rest) no_syntax (token.Word d.text w ∷ rest) (found tt [] rest) (script_self w) refl ∙ ap (λ u. found a u rest) (sym d.uses))
 
 pub stops : (near : Bool) (k : Kind → Bool) (ts rest : List Sign) → ts ≡ rest → (IsTrue near → next_is k ts ≡ false) → next_is (λ x. not near && k x) rest ≡ false → next_is k ts ≡ false
 stops true k ts rest e s n = s refl
@@ -233,6 +253,7 @@ either_complete p q P Q k t u c e b ts a us rest (inr d) n = passed (next_is k t
 module _ {R σ : Type 0} (h g : σ → Kind → Bool) (room : Bool) (below : σ → List Sign → Tree → List (Use R) → List Sign → Type 0) (shorter : (s : σ) (ts : List Sign) (t : Tree) (us : List (Use R)) (rest : List Sign) → below s ts t us rest → length rest < length ts) (begins : (s : σ) (ts : List Sign) (t : Tree) (us : List (Use R)) (rest : List Sign) → below s ts t us rest → next_is (h s) ts ≡ true) (r : σ → Reader R Tree) (s : (q : σ) → Complete (below q) (g q) (r q)) where
   pub complete : {A : Type 0} (f : Form R σ A) → fits h g f ≡ true → (ts : List Sign) (a : A) (us : List (Use R)) (rest : List Sign) → Spells h room below f ts a us rest → next_is (goes_on h g f) rest ≡ false → reads h room r f ts ≡ found a us rest
   complete (sign m) w ts a us rest d n = sign_complete m ts a us rest d (none rest)
+  complete (script_word v) w ts a us rest d n = script_word_complete v ts a us rest d (none rest)
   complete (word q) w ts a us rest d n = ap (λ xs. read_word q xs) d.tokens ∙ (ap (λ xs. found a (used q a xs) rest) (sym d.tokens) ∙ ap (λ u. found a u rest) (sym d.uses))
   complete number w ts a us rest d n = ap read_number d.tokens ∙ ap (λ u. found a u rest) (sym d.uses)
   complete nought w ts a us rest d n = ap read_nought d.tokens ∙ ap (λ u. found a u rest) (sym d.uses)

@@ -1,9 +1,10 @@
 -- A phrase takes tokens from the front.
 use Rattle.std.proofs.Common.{◌≡◌, ℕ, zero, suc, ◌+◌, ◌<◌, ◌≤◌, Bool, true, false, ◌&&◌, ◌||◌, inl, inr, List, [], ◌∷◌, length, ap, arith, Option, Some, None}
 use Rattle.cv_syntax.specs.Tree.{Tree}
+use Rattle.cv_parse_notation.specs.declared.script.ScriptWord.{ScriptWord}
 use Rattle.cv_parse_notation.specs.declared.sign.Sign.{Sign}
-use Rattle.cv_parse_notation.specs.Form.{Form, sign, word, number, nought, find_word, unnamed, other, note, both, may, many, either, made, level, deeper}
-use Rattle.cv_parse_notation.specs.Spells.{Kind, starts, may_vanish, Use, IsToken, IsNothing, Perhaps, Each, Spells, IsSort, no_sort}
+use Rattle.cv_parse_notation.specs.Form.{Form, sign, script_word, word, number, nought, find_word, unnamed, other, note, both, may, many, either, made, level, deeper}
+use Rattle.cv_parse_notation.specs.Spells.{Kind, starts, may_vanish, Use, IsToken, IsWord, IsScriptWord, IsNothing, Perhaps, Each, Spells, IsSort, no_sort}
 
 -- the least number of tokens
 abbrev pub toll : Bool → ℕ
@@ -29,6 +30,12 @@ toll_second false b m n h = h
 token_length : {R : Type 0} {t : Sign} {u us : List (Use R)} {ts rest : List Sign} → IsToken t u ts us rest → length rest + 1 ≤ length ts
 token_length d = let e = ap length d.tokens in omega arith
 
+word_length : {R : Type 0} {x : ℕ} {u us : List (Use R)} {ts rest : List Sign} → IsWord x u ts us rest → length rest + 1 ≤ length ts
+word_length d = let e = ap length d.tokens in omega arith
+
+script_word_length : {R : Type 0} {w : ScriptWord} {us : List (Use R)} {ts rest : List Sign} → IsScriptWord w ts us rest → length rest + 1 ≤ length ts
+script_word_length d = let e = ap length d.tokens in omega arith
+
 nothing_length : {R : Type 0} {u us : List (Use R)} {ts rest : List Sign} → IsNothing u ts us rest → length rest + 0 ≤ length ts
 nothing_length d = let e = ap length d.tokens in omega arith
 
@@ -43,7 +50,8 @@ each_length P near k s ts (a ∷ l) us rest d = omega (arith, s ts a d.front d.m
 module _ {R σ : Type 0} (h : σ → Kind → Bool) (room : Bool) (below : σ → List Sign → Tree → List (Use R) → List Sign → Type 0) (shorter : (s : σ) (ts : List Sign) (t : Tree) (us : List (Use R)) (rest : List Sign) → below s ts t us rest → length rest < length ts) where
   pub lengths : {A : Type 0} (f : Form R σ A) (ts : List Sign) (a : A) (us : List (Use R)) (rest : List Sign) → Spells h room below f ts a us rest → length rest + toll (may_vanish f) ≤ length ts
   lengths (sign m) ts a us rest d = token_length d
-  lengths (word r) ts a us rest d = token_length d
+  lengths (script_word w) ts a us rest d = script_word_length d
+  lengths (word r) ts a us rest d = word_length d
   lengths number ts a us rest d = token_length d
   lengths nought ts a us rest d = token_length d
   lengths find_word ts a us rest d = token_length d

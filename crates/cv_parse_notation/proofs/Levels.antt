@@ -2,7 +2,7 @@
 use Rattle.std.proofs.Common.{ℕ, zero, suc, Bool, true, false, IsTrue, List, [], ◌∷◌, Option, Some, None, refl, inl, inr}
 use Rattle.cv_syntax.specs.Tree.{Tree}
 use Rattle.cv_parse_notation.specs.declared.sign.Sign.{Sign}
-use Rattle.cv_parse_notation.specs.Form.{Form, sign, word, number, nought, find_word, unnamed, other, note, both, may, many, either, made, level, deeper}
+use Rattle.cv_parse_notation.specs.Form.{Form, sign, script_word, word, number, nought, find_word, unnamed, other, note, both, may, many, either, made, level, deeper}
 use Rattle.cv_parse_notation.specs.Spells.{Kind, starts, Use, Perhaps, Each, Spells, IsSort, no_sort}
 use Rattle.cv_parse_notation.specs.Whole.{SpellsWith}
 
@@ -17,6 +17,7 @@ each_more P Q near k up ts (a ∷ l) us rest d = record { mid = d.mid; front = d
 module _ {R σ : Type 0} (h : σ → Kind → Bool) (few more : Bool) (P Q : σ → List Sign → Tree → List (Use R) → List Sign → Type 0) (room : IsTrue few → IsTrue more) (up : (s : σ) (ts : List Sign) (t : Tree) (us : List (Use R)) (rest : List Sign) → P s ts t us rest → Q s ts t us rest) where
   spells_more : {A : Type 0} (f : Form R σ A) (ts : List Sign) (a : A) (us : List (Use R)) (rest : List Sign) → Spells h few P f ts a us rest → Spells h more Q f ts a us rest
   spells_more (sign m) ts a us rest d = d
+  spells_more (script_word w) ts a us rest d = d
   spells_more (word r) ts a us rest d = d
   spells_more number ts a us rest d = d
   spells_more nought ts a us rest d = d

@@ -5,9 +5,9 @@ use Rattle.cv_lists.proofs.Tests.{and_first, and_second}
 use Rattle.cv_syntax.specs.Tree.{Tree}
 use Rattle.cv_parse_notation.specs.declared.sign.Sign.{Sign}
 use Rattle.cv_parse_notation.specs.declared.sign.Sign.TheVariants as token
-use Rattle.cv_parse_notation.specs.Form.{Form, sign, word, number, nought, find_word, unnamed, other, note, both, may, many, either, made, level, deeper}
-use Rattle.cv_parse_notation.specs.Spells.{Kind, kind_of, is_mark, is_other, starts, next_is, used, may_vanish, is_steady, IsSort, no_sort}
-use Rattle.cv_parse_notation.specs.Reads.{Syntax, Found, Read, Reader, ◌>>=◌, found, pick, no_syntax, no_level, read_sign, read_word, read_number, read_nought, read_find, read_unnamed, read_other, nothing, joined, one_more, mapped, read_many, reads, too_deep, read_sort}
+use Rattle.cv_parse_notation.specs.Form.{Form, sign, script_word, word, number, nought, find_word, unnamed, other, note, both, may, many, either, made, level, deeper}
+use Rattle.cv_parse_notation.specs.Spells.{Kind, kind_of, is_mark, is_script_word, is_other, starts, next_is, used, may_vanish, is_steady, IsSort, no_sort}
+use Rattle.cv_parse_notation.specs.Reads.{Syntax, Found, Read, Reader, ◌>>=◌, found, pick, no_syntax, no_level, read_sign, read_script_word, read_word, read_number, read_nought, read_find, read_unnamed, read_other, nothing, joined, one_more, mapped, read_many, reads, too_deep, read_sort}
 use Rattle.cv_parse_notation.specs.Local.{SameFirst, again, LocalAt}
 use Rattle.cv_parse_notation.specs.Fits.{fitting}
 use Rattle.cv_parse_notation.proofs.Lengths.{toll, lengths}
@@ -64,7 +64,7 @@ sign_takes true t p h = taken (λ ts. (record { value = tt; uses = []; rest = ts
 sign_takes false t p h = refused h
 
 word_takes : {R : Type 0} (r : R) (t : Sign) → Takes (read_word r) t
-word_takes r (token.Word x) = taken (λ ts. (record { value = x; uses = used r x (token.Word x ∷ ts); rest = ts }, refl, refl))
+word_takes r (token.Word x w) = taken (λ ts. (record { value = x; uses = used r x (token.Word x w ∷ ts); rest = ts }, refl, refl))
 word_takes r t = refused (λ ts. refl)
 
 unnamed_takes : {R : Type 0} (r : R) (t : Sign) → Takes (read_unnamed r) t
@@ -214,6 +214,7 @@ level_local false k p l ts = pick_local k no_level no_syntax ts (next_is k ts) r
 module _ {R σ : Type 0} (h : σ → Kind → Bool) (room : Bool) (r : σ → Reader R Tree) (b : (q : σ) → Local (r q)) (takes : (A : Type 0) (f : Form R σ A) → is_steady f ≡ true → may_vanish f ≡ false → (ts : List Sign) (x : Found R A) → reads h room r f ts ≡ Ok x → length x.rest < length ts) where
   pub local : {A : Type 0} (f : Form R σ A) → is_steady f ≡ true → Local (reads h room r f)
   local (sign m) w = one_local (read_sign m) refl (λ t. sign_takes (is_mark m (kind_of t)) t (read_sign m) (λ ts. refl))
+  local (script_word v) w = one_local (read_script_word v) refl (λ t. sign_takes (is_script_word v (kind_of t)) t (read_script_word v) (λ ts. refl))
   local (word q) w = one_local (read_word q) refl (word_takes q)
   local number w = one_local read_number refl number_takes
   local nought w = one_local read_nought refl nought_takes

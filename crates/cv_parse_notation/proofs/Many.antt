@@ -1,7 +1,7 @@
 -- Reading many: how many tokens there are bounds the turns, so one turn can be taken off.
-use Rattle.std.proofs.Common.{◌≡◌, ℕ, zero, suc, ◌<◌, ◌≤◌, Bool, true, false, List, [], ◌∷◌, ◌++◌, length, refl, ap, sym, ◌∙◌, arith, Ok, Err}
+use Rattle.std.proofs.Common.{◌≡◌, ℕ, zero, suc, ◌<◌, ◌≤◌, Bool, true, false, List, [], ◌∷◌, length, refl, ap, sym, ◌∙◌, arith, Ok, Err}
 use Rattle.cv_parse_notation.specs.declared.sign.Sign.{Sign}
-use Rattle.cv_parse_notation.specs.Spells.{Kind, next_is, Use}
+use Rattle.cv_parse_notation.specs.Spells.{Kind, next_is}
 use Rattle.cv_parse_notation.specs.Reads.{Fault, Found, Read, Reader, ◌>>=◌, found, pick, nothing, one_more, read_many}
 
 -- readers of many, each of which takes a token

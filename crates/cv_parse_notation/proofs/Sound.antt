@@ -4,14 +4,16 @@ use Rattle.std.proofs.lemmas.Bool.Decides.{nat_tests}
 use Rattle.std.proofs.lemmas.Bool.{not-true}
 use Rattle.cv_lists.proofs.Tests.{and_first, and_second}
 use Rattle.cv_syntax.specs.Tree.{Tree}
+use Rattle.cv_parse_notation.specs.declared.script.ScriptWord.{ScriptWord}
 use Rattle.cv_parse_notation.specs.declared.sign.Mark.{Mark}
 use Rattle.cv_parse_notation.specs.declared.sign.Sign.{Sign}
 use Rattle.cv_parse_notation.specs.declared.sign.Sign.TheVariants as token
 use Rattle.cv_parse_notation.specs.Marks.{mark_code, mark_of, mark_of_code, same_mark}
-use Rattle.cv_parse_notation.specs.Form.{Form, sign, word, number, nought, find_word, unnamed, other, note, both, may, many, either, made, level, deeper}
-use Rattle.cv_parse_notation.specs.Spells.{Kind, kind_of, is_other, starts, next_is, Use, used, IsToken, IsNothing, Follow, Perhaps, Each, Spells, IsSort, no_sort, may_vanish, is_steady}
+use Rattle.cv_parse_notation.specs.ScriptWords.{word_code, word_of, word_of_code, same_word}
+use Rattle.cv_parse_notation.specs.Form.{Form, sign, script_word, word, number, nought, find_word, unnamed, other, note, both, may, many, either, made, level, deeper}
+use Rattle.cv_parse_notation.specs.Spells.{Kind, kind_of, is_other, starts, next_is, Use, used, IsToken, IsWord, IsScriptWord, IsNothing, Follow, Perhaps, Each, Spells, IsSort, no_sort, may_vanish, is_steady}
 use Rattle.cv_parse_notation.proofs.Lengths.{toll, lengths, sort_lengths}
-use Rattle.cv_parse_notation.specs.Reads.{Found, Read, Reader, ◌>>=◌, found, pick, no_syntax, no_level, read_sign, read_word, read_number, read_nought, read_find, read_unnamed, read_other, nothing, joined, one_more, mapped, read_many, reads, too_deep, read_sort}
+use Rattle.cv_parse_notation.specs.Reads.{Found, Read, Reader, ◌>>=◌, found, pick, no_syntax, no_level, read_sign, read_script_word, read_word, read_number, read_nought, read_find, read_unnamed, read_other, nothing, joined, one_more, mapped, read_many, reads, too_deep, read_sort}
 
 pub bind_ok : {R A B : Type 0} (r : Read R A) (f : Found R A → Read R B) (y : Found R B) → (r >>= f) ≡ Ok y → (x : Found R A) × (r ≡ Ok x) × (f x ≡ Ok y)
 bind_ok (Ok x) f y h = (x, refl, h)
@@ -26,6 +28,9 @@ pick_ok false p q ts y h = inr (refl, h)
 
 pub same_mark_eq : (k m : Mark) → same_mark k m ≡ true → k ≡ m
 same_mark_eq k m h = let e : mark_code k ≡ mark_code m = grind (arith, nat_tests) in sym (mark_of_code k) ∙ (ap mark_of e ∙ mark_of_code m)
+
+pub same_word_eq : (v w : ScriptWord) → same_word v w ≡ true → v ≡ w
+same_word_eq v w h = let e : word_code v ≡ word_code w = grind (arith, nat_tests) in sym (word_of_code v) ∙ (ap word_of e ∙ word_of_code w)
 
 -- a reader's answer is in a relation
 abbrev pub Lies : {R A : Type 0} → (List Sign → A → List (Use R) → List Sign → Type 0) → List Sign → Found R A → Type 0
@@ -42,7 +47,7 @@ sign_is m ts a us rest = IsToken (token.Mark m) [] ts us rest
 
 sign_sound : {R : Type 0} (m : Mark) (ts : List Sign) (x : Found R (Unit {0})) → read_sign m ts ≡ Ok x → IsToken (token.Mark m) [] ts x.uses x.rest
 sign_sound m [] x h = absurd (cc)
-sign_sound m (token.Word n ∷ ts) x h = absurd (cc)
+sign_sound m (token.Word n w ∷ ts) x h = absurd (cc)
 sign_sound m (token.Number zero ∷ ts) x h = absurd (cc)
 sign_sound m (token.Number (suc n) ∷ ts) x h = absurd (cc)
 sign_sound m (token.Find n ∷ ts) x h = absurd (cc)
@@ -53,9 +58,22 @@ sign_sound {R} m (token.Mark k ∷ ts) x h = elim (pick_ok (same_mark k m) (λ u
   | inr e ↦ absurd (cc)
 ]
 
-word_sound : {R : Type 0} (r : R) (ts : List Sign) (x : Found R ℕ) → read_word r ts ≡ Ok x → IsToken (token.Word x.value) (used r x.value ts) ts x.uses x.rest
-word_sound r (token.Word n ∷ ts) x h =
-    lies (λ us a vs rest. IsToken (token.Word a) (used r a us) us vs rest) (token.Word n ∷ ts) (record { value = n; uses = used r n (token.Word n ∷ ts); rest = ts }) x h (record { tokens = refl; uses = refl })
+script_word_sound : {R : Type 0} (w : ScriptWord) (ts : List Sign) (x : Found R (Unit {0})) → read_script_word w ts ≡ Ok x → IsScriptWord w ts x.uses x.rest
+script_word_sound w [] x h = absurd (cc)
+script_word_sound w (token.Number zero ∷ ts) x h = absurd (cc)
+script_word_sound w (token.Number (suc n) ∷ ts) x h = absurd (cc)
+script_word_sound w (token.Find n ∷ ts) x h = absurd (cc)
+script_word_sound w (token.Unnamed n ∷ ts) x h = absurd (cc)
+script_word_sound w (token.Mark k ∷ ts) x h = absurd (cc)
+script_word_sound {R} w (token.Word n v ∷ ts) x h = elim (pick_ok (same_word v w) (λ us. found tt [] ts) no_syntax (token.Word n v ∷ ts) x h) [
+  | inl e ↦
+      lies (λ us a vs rest. IsScriptWord w us vs rest) (token.Word n v ∷ ts) (record { value = tt; uses = []; rest = ts }) x e.1 (record { text = n; tokens = ap (λ j. token.Word n j ∷ ts) (same_word_eq v w e.0); uses = refl })
+  | inr e ↦ absurd (cc)
+]
+
+word_sound : {R : Type 0} (r : R) (ts : List Sign) (x : Found R ℕ) → read_word r ts ≡ Ok x → IsWord x.value (used r x.value ts) ts x.uses x.rest
+word_sound r (token.Word n w ∷ ts) x h =
+    lies (λ us a vs rest. IsWord a (used r a us) us vs rest) (token.Word n w ∷ ts) (record { value = n; uses = used r n (token.Word n w ∷ ts); rest = ts }) x h (record { script = w; tokens = refl; uses = refl })
 word_sound r ts x h = absurd (cc)
 
 unnamed_sound : {R : Type 0} (r : R) (ts : List Sign) (x : Found R ℕ) → read_unnamed r ts ≡ Ok x → IsToken (token.Unnamed x.value) (used r x.value ts) ts x.uses x.rest
@@ -126,6 +144,7 @@ level_ok false b p ts x h = absurd (no_ok b ts x h)
 module _ {R σ : Type 0} (h : σ → Kind → Bool) (room : Bool) (below : σ → List Sign → Tree → List (Use R) → List Sign → Type 0) (shorter : (s : σ) (ts : List Sign) (t : Tree) (us : List (Use R)) (rest : List Sign) → below s ts t us rest → length rest < length ts) (r : σ → Reader R Tree) (s : (q : σ) → Sound (r q) (below q)) where
   pub sound : {A : Type 0} (f : Form R σ A) → is_steady f ≡ true → (ts : List Sign) (x : Found R A) → reads h room r f ts ≡ Ok x → Spells h room below f ts x.value x.uses x.rest
   sound (sign m) w ts x e = sign_sound m ts x e
+  sound (script_word v) w ts x e = script_word_sound v ts x e
   sound (word q) w ts x e = word_sound q ts x e
   sound number w ts x e = number_sound ts x e
   sound nought w ts x e = nought_sound ts x e

@@ -1,7 +1,10 @@
 -- Whether the next token always tells how a phrase goes on.
-use Rattle.std.specs.Prelude.{ℕ, zero, suc, Bool, true, false, ◌&&◌, ◌||◌, not}
+use Rattle.std.specs.Prelude.{Bool, true, false, ◌&&◌, ◌||◌, not, List, [], ◌∷◌}
 use Rattle.cv_syntax.specs.Tree.{Tree}
-use Rattle.cv_parse_notation.specs.Marks.{mark_of}
+use Rattle.cv_parse_notation.specs.declared.script.ScriptWord.{ScriptWord}
+use Rattle.cv_parse_notation.specs.declared.sign.Mark.{Mark}
+use Rattle.cv_parse_notation.specs.Marks.{every_mark}
+use Rattle.cv_parse_notation.specs.ScriptWords.{every_word}
 use Rattle.cv_parse_notation.specs.Form.{Form, both, may, many, either, made, level, deeper}
 use Rattle.cv_parse_notation.specs.Spells.{Kind, AWord, ANumber, Zero, AFind, AnUnnamed, AMark, starts, may_vanish, is_steady}
 
@@ -16,12 +19,16 @@ goes_on h t (level f) k = goes_on h t f k
 goes_on h t (deeper s) k = t s k
 goes_on h t _ k = false
 
-abbrev pub all_marks : ℕ → (Kind → Bool) → Bool
-all_marks zero p = true
-all_marks (suc n) p = p (AMark (mark_of n)) && all_marks n p
+abbrev pub all_marks : List Mark → (Kind → Bool) → Bool
+all_marks [] p = true
+all_marks (m ∷ ms) p = p (AMark m) && all_marks ms p
+
+abbrev pub all_words : List ScriptWord → (Kind → Bool) → Bool
+all_words [] p = true
+all_words (w ∷ ws) p = p (AWord w) && all_words ws p
 
 abbrev pub all_kinds : (Kind → Bool) → Bool
-all_kinds p = p AWord && (p ANumber && (p Zero && (p AFind && (p AnUnnamed && all_marks 60 p))))
+all_kinds p = all_words every_word p && (p ANumber && (p Zero && (p AFind && (p AnUnnamed && all_marks every_mark p))))
 
 -- no kind of token is in both
 abbrev pub apart : (Kind → Bool) → (Kind → Bool) → Bool

@@ -1,12 +1,15 @@
 -- The notation of the grammar: what may stand on the right of a production.
 use Rattle.std.specs.Prelude.{ℕ, Bool, List, Option}
 use Rattle.cv_syntax.specs.Tree.{Tree}
+use Rattle.cv_parse_notation.specs.declared.script.ScriptWord.{ScriptWord}
 use Rattle.cv_parse_notation.specs.declared.sign.Mark.{Mark}
 
 -- A phrase of each form has a value. R are the uses of names, σ the sorts of phrases one level down.
 pub data Form (R σ : Type 0) : Type 0 → Type 1 where
   -- this word or symbol
   sign : Mark → Form R σ (Unit {0})
+  -- this word of a script
+  script_word : ScriptWord → Form R σ (Unit {0})
   -- an identifier, and what it is used for
   word : R → Form R σ ℕ
   number : Form R σ ℕ

@@ -1,5 +1,5 @@
 -- Codes of marks, by which marks are compared.
-use Rattle.std.specs.Prelude.{◌≡◌, ℕ, Bool, ◌==◌, if◌then◌else◌, ◌<◌, refl}
+use Rattle.std.specs.Prelude.{◌≡◌, ℕ, Bool, ◌==◌, ◌<◌, List, [], ◌∷◌, slice_index_or, refl}
 use Rattle.std.proofs.Common.{lit<}
 use Rattle.cv_parse_notation.specs.declared.sign.Mark.{Mark}
 use Rattle.cv_parse_notation.specs.declared.sign.Mark.TheVariants as mark
@@ -66,8 +66,18 @@ mark_code mark.Arrow = 57
 mark_code mark.Both = 58
 mark_code mark.Either = 59
 
+-- all of them, by their codes
+abbrev pub every_mark : List Mark
+every_mark =
+    mark.Proof ∷ mark.Process ∷ mark.Param ∷ mark.Channel ∷ mark.Proba ∷ mark.TypeWord ∷ mark.Fixed ∷ mark.Large ∷ mark.Bounded ∷ mark.ConstWord ∷
+    mark.Fun ∷ mark.Data ∷ mark.Compos ∷ mark.EventWord ∷ mark.EquationWord ∷ mark.Forall ∷ mark.Collision ∷ mark.New ∷ mark.Equiv ∷ mark.QueryWord ∷
+    mark.Secret ∷ mark.SecretOnce ∷ mark.Inj ∷ mark.Let ∷ mark.In ∷ mark.If ∷ mark.Then ∷ mark.Else ∷ mark.Orfind ∷ mark.Suchthat ∷
+    mark.Yield ∷ mark.Out ∷ mark.Defined ∷ mark.Not ∷ mark.True ∷ mark.False ∷ mark.Bool ∷ mark.Cases ∷ mark.Open ∷ mark.Close ∷
+    mark.OpenSquare ∷ mark.CloseSquare ∷ mark.OpenBrace ∷ mark.CloseBrace ∷ mark.Comma ∷ mark.Semicolon ∷ mark.Colon ∷ mark.Dot ∷ mark.Bar ∷ mark.Bang ∷
+    mark.At ∷ mark.Prime ∷ mark.Equal ∷ mark.Differ ∷ mark.AtMost ∷ mark.Gives ∷ mark.Implies ∷ mark.Arrow ∷ mark.Both ∷ mark.Either ∷ []
+
 abbrev pub mark_of : ℕ → Mark
-mark_of n = if n == 0 then mark.Proof else if n == 1 then mark.Process else if n == 2 then mark.Param else if n == 3 then mark.Channel else if n == 4 then mark.Proba else if n == 5 then mark.TypeWord else if n == 6 then mark.Fixed else if n == 7 then mark.Large else if n == 8 then mark.Bounded else if n == 9 then mark.ConstWord else if n == 10 then mark.Fun else if n == 11 then mark.Data else if n == 12 then mark.Compos else if n == 13 then mark.EventWord else if n == 14 then mark.EquationWord else if n == 15 then mark.Forall else if n == 16 then mark.Collision else if n == 17 then mark.New else if n == 18 then mark.Equiv else if n == 19 then mark.QueryWord else if n == 20 then mark.Secret else if n == 21 then mark.SecretOnce else if n == 22 then mark.Inj else if n == 23 then mark.Let else if n == 24 then mark.In else if n == 25 then mark.If else if n == 26 then mark.Then else if n == 27 then mark.Else else if n == 28 then mark.Orfind else if n == 29 then mark.Suchthat else if n == 30 then mark.Yield else if n == 31 then mark.Out else if n == 32 then mark.Defined else if n == 33 then mark.Not else if n == 34 then mark.True else if n == 35 then mark.False else if n == 36 then mark.Bool else if n == 37 then mark.Cases else if n == 38 then mark.Open else if n == 39 then mark.Close else if n == 40 then mark.OpenSquare else if n == 41 then mark.CloseSquare else if n == 42 then mark.OpenBrace else if n == 43 then mark.CloseBrace else if n == 44 then mark.Comma else if n == 45 then mark.Semicolon else if n == 46 then mark.Colon else if n == 47 then mark.Dot else if n == 48 then mark.Bar else if n == 49 then mark.Bang else if n == 50 then mark.At else if n == 51 then mark.Prime else if n == 52 then mark.Equal else if n == 53 then mark.Differ else if n == 54 then mark.AtMost else if n == 55 then mark.Gives else if n == 56 then mark.Implies else if n == 57 then mark.Arrow else if n == 58 then mark.Both else mark.Either
+mark_of n = slice_index_or every_mark n mark.Proof
 
 pub mark_of_code : (m : Mark) → mark_of (mark_code m) ≡ m
 mark_of_code mark.Proof = refl

@@ -1,11 +1,12 @@
 -- Reading from left to right by the next token: a value, the uses of names and the tokens behind it, or the first fault.
 use Rattle.std.specs.Prelude.{ℕ, zero, suc, Bool, true, false, List, [], ◌∷◌, ◌++◌, length, Some, None, Result, Ok, Err}
 use Rattle.cv_syntax.specs.Tree.{Tree}
+use Rattle.cv_parse_notation.specs.declared.script.ScriptWord.{ScriptWord}
 use Rattle.cv_parse_notation.specs.declared.sign.Mark.{Mark}
 use Rattle.cv_parse_notation.specs.declared.sign.Sign.{Sign}
 use Rattle.cv_parse_notation.specs.declared.sign.Sign.TheVariants as token
-use Rattle.cv_parse_notation.specs.Form.{Form, sign, word, number, nought, find_word, unnamed, other, note, both, may, many, either, made, level, deeper}
-use Rattle.cv_parse_notation.specs.Spells.{Kind, kind_of, is_mark, is_other, starts, next_is, Use, used}
+use Rattle.cv_parse_notation.specs.Form.{Form, sign, script_word, word, number, nought, find_word, unnamed, other, note, both, may, many, either, made, level, deeper}
+use Rattle.cv_parse_notation.specs.Spells.{Kind, kind_of, is_mark, is_script_word, is_other, starts, next_is, Use, used}
 
 -- a fault, and how many tokens are left at the one that it names
 pub data Fault : Type 0 where
@@ -45,8 +46,12 @@ abbrev pub read_sign : {R : Type 0} → Mark → Reader R (Unit {0})
 read_sign m [] = Err (Syntax 0)
 read_sign m (t ∷ ts) = pick (is_mark m (kind_of t)) (λ us. found tt [] ts) no_syntax (t ∷ ts)
 
+abbrev pub read_script_word : {R : Type 0} → ScriptWord → Reader R (Unit {0})
+read_script_word w [] = Err (Syntax 0)
+read_script_word w (t ∷ ts) = pick (is_script_word w (kind_of t)) (λ us. found tt [] ts) no_syntax (t ∷ ts)
+
 abbrev pub read_word : {R : Type 0} → R → Reader R ℕ
-read_word r (token.Word x ∷ ts) = found x (used r x (token.Word x ∷ ts)) ts
+read_word r (token.Word x w ∷ ts) = found x (used r x (token.Word x w ∷ ts)) ts
 read_word r ts = Err (Syntax (length ts))
 
 abbrev pub read_number : {R : Type 0} → Reader R ℕ
@@ -88,6 +93,7 @@ read_many begins p (suc n) ts = pick (next_is begins ts) (λ us. p us >>= λ x. 
 
 abbrev pub reads : {R σ A : Type 0} → (σ → Kind → Bool) → Bool → (σ → Reader R Tree) → Form R σ A → Reader R A
 reads h room below (sign m) ts = read_sign m ts
+reads h room below (script_word w) ts = read_script_word w ts
 reads h room below (word r) ts = read_word r ts
 reads h room below number ts = read_number ts
 reads h room below nought ts = read_nought ts

@@ -1,16 +1,19 @@
 -- What the forms mean: which tokens spell a phrase with a value, and which uses of names it has.
 use Rattle.std.specs.Prelude.{◌≡◌, ℕ, zero, suc, Bool, true, false, ◌==◌, ◌&&◌, ◌||◌, not, IsTrue, List, [], ◌∷◌, ◌++◌, length, Option, Some, None, ◌⊎◌}
 use Rattle.cv_syntax.specs.Tree.{Tree}
+use Rattle.cv_parse_notation.specs.declared.script.ScriptWord.{ScriptWord}
 use Rattle.cv_parse_notation.specs.declared.sign.Mark.{Mark}
 use Rattle.cv_parse_notation.specs.declared.sign.Sign.{Sign}
 use Rattle.cv_parse_notation.specs.declared.sign.Sign.TheVariants as token
 use Rattle.cv_parse_notation.specs.declared.sign.Mark.TheVariants as mark
 use Rattle.cv_parse_notation.specs.Marks.{same_mark}
-use Rattle.cv_parse_notation.specs.Form.{Form, sign, word, number, nought, find_word, unnamed, other, note, both, may, many, either, made, level, deeper}
+use Rattle.cv_parse_notation.specs.ScriptWords.{same_word}
+use Rattle.cv_parse_notation.specs.Form.{Form, sign, script_word, word, number, nought, find_word, unnamed, other, note, both, may, many, either, made, level, deeper}
 
 -- the kinds of tokens that a grammar tells apart
 pub data Kind : Type 0 where
-  AWord ANumber Zero AFind AnUnnamed : Kind
+  AWord : ScriptWord → Kind
+  ANumber Zero AFind AnUnnamed : Kind
   AMark : Mark → Kind
 
 abbrev pub number_kind : ℕ → Kind
@@ -18,14 +21,14 @@ number_kind zero = Zero
 number_kind (suc n) = ANumber
 
 abbrev pub kind_of : Sign → Kind
-kind_of (token.Word x) = AWord
+kind_of (token.Word x w) = AWord w
 kind_of (token.Number v) = number_kind v
 kind_of (token.Find k) = AFind
 kind_of (token.Unnamed x) = AnUnnamed
 kind_of (token.Mark m) = AMark m
 
 abbrev pub kind_code : Kind → ℕ
-kind_code AWord = 0
+kind_code (AWord w) = 0
 kind_code ANumber = 1
 kind_code Zero = 2
 kind_code AFind = 3
@@ -35,6 +38,10 @@ kind_code (AMark m) = 5
 abbrev pub is_mark : Mark → Kind → Bool
 is_mark m (AMark k) = same_mark k m
 is_mark m k = false
+
+abbrev pub is_script_word : ScriptWord → Kind → Bool
+is_script_word w (AWord v) = same_word v w
+is_script_word w k = false
 
 abbrev pub is_word : Kind → Bool
 is_word k = kind_code k == 0
@@ -57,6 +64,7 @@ is_other k = not (is_mark mark.OpenBrace k || is_mark mark.CloseBrace k)
 -- a phrase of the form may have no token
 abbrev pub may_vanish : {R σ A : Type 0} → Form R σ A → Bool
 may_vanish (sign m) = false
+may_vanish (script_word w) = false
 may_vanish (word r) = false
 may_vanish number = false
 may_vanish nought = false
@@ -80,6 +88,7 @@ starts_both false p q k = p k
 -- a phrase of the form may begin with a token of the kind, where the sorts do so
 abbrev pub starts : {R σ A : Type 0} → (σ → Kind → Bool) → Form R σ A → Kind → Bool
 starts h (sign m) k = is_mark m k
+starts h (script_word w) k = is_script_word w k
 starts h (word r) k = is_word k
 starts h number k = is_number k
 starts h nought k = is_zero k
@@ -117,6 +126,18 @@ pub record IsToken {R : Type 0} (t : Sign) (u : List (Use R)) (ts : List Sign) (
   pub tokens : ts ≡ t ∷ rest
   pub uses : us ≡ u
 
+-- an identifier, whichever word of a script it is
+pub record IsWord {R : Type 0} (x : ℕ) (u : List (Use R)) (ts : List Sign) (us : List (Use R)) (rest : List Sign) : Type 0 where
+  pub script : ScriptWord
+  pub tokens : ts ≡ token.Word x script ∷ rest
+  pub uses : us ≡ u
+
+-- this word of a script, whichever number its text has
+pub record IsScriptWord {R : Type 0} (w : ScriptWord) (ts : List Sign) (us : List (Use R)) (rest : List Sign) : Type 0 where
+  pub text : ℕ
+  pub tokens : ts ≡ token.Word text w ∷ rest
+  pub uses : us ≡ []
+
 pub record IsNothing {R : Type 0} (u : List (Use R)) (ts : List Sign) (us : List (Use R)) (rest : List Sign) : Type 0 where
   pub tokens : ts ≡ rest
   pub uses : us ≡ u
@@ -141,7 +162,8 @@ Each P near begins ts (a ∷ l) us rest = Follow P (λ mid b back end. Each P ne
 -- What spells a phrase: h says how the sorts begin, room whether a level is left, and below what spells a sort one level down.
 abbrev pub Spells : {R σ A : Type 0} → (σ → Kind → Bool) → Bool → (σ → Relation R Tree) → Form R σ A → Relation R A
 Spells h room below (sign m) ts a us rest = IsToken (token.Mark m) [] ts us rest
-Spells h room below (word r) ts a us rest = IsToken (token.Word a) (used r a ts) ts us rest
+Spells h room below (script_word w) ts a us rest = IsScriptWord w ts us rest
+Spells h room below (word r) ts a us rest = IsWord a (used r a ts) ts us rest
 Spells h room below number ts a us rest = IsToken (token.Number a) [] ts us rest
 Spells h room below nought ts a us rest = IsToken (token.Number 0) [] ts us rest
 Spells h room below find_word ts a us rest = IsToken (token.Find a) [] ts us rest

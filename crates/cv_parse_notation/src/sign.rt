@@ -1,6 +1,8 @@
 ghost use Rattle.std.specs.Prelude.{◌≡◌};
 ghost use Rattle.cv_parse_notation.specs.Marks.{mark_code};
 
+use crate::script::ScriptWord;
+
 /// A reserved word or a symbol.
 #[derive(Clone, Copy)]
 pub enum Mark {
@@ -69,8 +71,9 @@ pub enum Mark {
 /// A token, as the grammar sees it.
 #[derive(Clone, Copy)]
 pub enum Sign {
-    /// An identifier that isn't reserved, by the number of its text.
-    Word(u32),
+    /// An identifier that isn't reserved: the number of its text, and the word of a script that it
+    /// is, where one is asked.
+    Word(u32, ScriptWord),
     Number(u64),
     /// The word `find`, with its number among these words.
     Find(u64),

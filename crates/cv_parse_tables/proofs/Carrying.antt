@@ -2,7 +2,7 @@
 use Rattle.std.proofs.Common.{◌≡◌, ℕ, zero, suc, Bool, true, false, List, [], ◌∷◌, length, ◌&&◌, ◌||◌, refl, ap, ap₂, ◌∙◌, Ok, Err, Some, None}
 use Rattle.cv_syntax.specs.Tree.{Tree}
 use Rattle.cv_parse_notation.specs.declared.sign.Sign.{Sign}
-use Rattle.cv_parse_notation.specs.Form.{Form, sign, word, number, nought, find_word, unnamed, other, note, both, may, many, either, made, level, deeper}
+use Rattle.cv_parse_notation.specs.Form.{Form, sign, script_word, word, number, nought, find_word, unnamed, other, note, both, may, many, either, made, level, deeper}
 use Rattle.cv_parse_notation.specs.Spells.{Kind, may_vanish, starts, starts_both, next_is}
 use Rattle.cv_parse_notation.specs.Reads.{Read, Reader, Found, ◌>>=◌, pick, nothing, no_level, no_syntax, joined, mapped, one_more, read_many, reads, read_sort, too_deep}
 use Rattle.cv_parse_grammar.specs.declared.role.Role.{Role}
@@ -17,6 +17,7 @@ use Rattle.cv_parse_tables.specs.Table.{Table, TableSort, OfFiles, carried, oute
 
 pub carried-vanishes : {A : Type 0} (f : Form Role Sort A) → may_vanish (carried f) ≡ may_vanish f
 carried-vanishes (sign m) = refl
+carried-vanishes (script_word w) = refl
 carried-vanishes (word r) = refl
 carried-vanishes number = refl
 carried-vanishes nought = refl
@@ -40,6 +41,7 @@ both-same false true p q p' q' k h i j = absurd (cc)
 
 pub carried-starts : (table : Table) (n : ℕ) {A : Type 0} (f : Form Role Sort A) (k : Kind) → starts (fronts table n) (carried f) k ≡ starts heads f k
 carried-starts table n (sign m) k = refl
+carried-starts table n (script_word w) k = refl
 carried-starts table n (word r) k = refl
 carried-starts table n number k = refl
 carried-starts table n nought k = refl
@@ -79,6 +81,7 @@ many-same k l p q h i (suc n) ts =
 
 carried-reads : (table : Table) (room : Bool) (one : TableSort → Reader Role Tree) (two : Sort → Reader Role Tree) → ((s : Sort) (ts : List Sign) → one (OfFiles s) ts ≡ two s ts) → {A : Type 0} (f : Form Role Sort A) (ts : List Sign) → reads (table_heads table) room one (carried f) ts ≡ reads heads room two f ts
 carried-reads table room one two h (sign m) ts = refl
+carried-reads table room one two h (script_word w) ts = refl
 carried-reads table room one two h (word r) ts = refl
 carried-reads table room one two h number ts = refl
 carried-reads table room one two h nought ts = refl
@@ -120,5 +123,7 @@ outer-vanishes outer.Term = refl
 outer-vanishes outer.Terms = refl
 outer-vanishes outer.InnerTerm = refl
 outer-vanishes outer.InnerSubscript = refl
+outer-vanishes outer.Cell = refl
+outer-vanishes outer.InnerCell = refl
 
 pub ruleset carrying = (carried-starts, outer-vanishes)

@@ -8,15 +8,16 @@ use Rattle.cv_syntax.specs.declared.head.Head.{Head}
 use Rattle.cv_syntax.specs.declared.head.Head.TheVariants.{Cons}
 use Rattle.cv_syntax.specs.declared.make.Make.{Make}
 use Rattle.cv_syntax.specs.declared.make.Make.TheVariants.{Nothing, Over}
+use Rattle.cv_parse_notation.specs.declared.script.ScriptWord.{ScriptWord}
 use Rattle.cv_parse_notation.specs.declared.sign.Sign.{Sign}
 use Rattle.cv_parse_notation.specs.declared.sign.Mark.{Mark}
-use Rattle.cv_parse_notation.specs.Spells.{Use, next_is, starts}
-use Rattle.cv_parse_notation.specs.Reads.{Syntax, Read, Reader, Found, ◌>>=◌, found, pick, nothing, joined, mapped, one_more, read_many, read_sign, read_sort}
+use Rattle.cv_parse_notation.specs.Spells.{Use, kind_of, next_is, starts}
+use Rattle.cv_parse_notation.specs.Reads.{Syntax, Read, Reader, Found, ◌>>=◌, found, pick, nothing, joined, mapped, one_more, read_many, read_sign, read_script_word, read_sort}
 use Rattle.cv_parse_grammar.specs.declared.role.Role.{Role}
 use Rattle.cv_parse_terms.specs.declared.lookahead.ReadError.{ReadError}
 use Rattle.cv_parse_terms.specs.declared.lookahead.ReadError.TheVariants as error
 use Rattle.cv_parse_terms.specs.declared.trail.Trail.{Trail}
-use Rattle.cv_parse_terms.specs.Gives.{uses_of, Fails, IsRead, IsRow, IsMade, IsSign, Makes, MakesRow, Shallow, read_in}
+use Rattle.cv_parse_terms.specs.Gives.{uses_of, Fails, IsRead, IsPlain, IsRow, IsMade, IsSign, Makes, MakesRow, Shallow, read_in}
 use Rattle.cv_parse_terms.proofs.Places.{fails_bind}
 use Rattle.cv_parse_terms.proofs.Passing.{passed_makes}
 use Rattle.cv_parse_terms.proofs.Rows.{prefixed}
@@ -26,13 +27,13 @@ use Rattle.cv_parse_tables.specs.declared.piece.Piece.{Piece}
 use Rattle.cv_parse_tables.specs.declared.piece.Piece.TheVariants as node
 use Rattle.cv_parse_tables.specs.declared.piece.Piece.TheVariants.{Chain}
 use Rattle.cv_parse_tables.specs.Trees.{single, over, perhaps, all_of, both_of, single_parts, over_parts}
-use Rattle.cv_parse_tables.specs.Table.{Table, TreesForm, Row, Nowhere, rows_of, form, row_form, piece_form, table_heads, fronts, table_rule, row_phrase, table_below, table_reads, maybe_form, many_form, carried, outer_form, never, one_of, Chooses}
+use Rattle.cv_parse_tables.specs.Table.{Table, TreesForm, Row, Nowhere, rows_of, form, row_form, piece_form, table_heads, fronts, table_rule, row_phrase, table_below, table_reads, maybe_form, many_form, blank, carried, outer_form, never, one_of, Chooses}
 use Rattle.cv_parse_tables.specs.declared.piece.Outer.{Outer}
 use Rattle.cv_parse_grammar.specs.Phrases.{Sort}
 use Rattle.cv_parse_notation.specs.Form.{Form, made}
 use Rattle.cv_parse_tables.proofs.Carrying.{outer-reads}
 use Rattle.cv_parse_tables.proofs.Parts.{single-made, over-made}
-use Rattle.cv_parse_tables.proofs.Rows.{drop-at, form-at, form-none, one-more}
+use Rattle.cv_parse_tables.proofs.Rows.{drop-at, form-at, form-none, nowhere, one-more}
 
 -- the same reading
 pub makes-same : (all : List Sign) (u v : Trail) (result : Result (ℕ × ℕ) ReadError) (r s : Read Role (List Tree)) → r ≡ s → MakesRow all u v result s → MakesRow all u v result r
@@ -62,6 +63,10 @@ token-row f all u w r a p d m = record {
 -- a word or symbol, of which nothing is kept
 pub sign-row : (all : List Sign) (t : Trail) (m : Mark) (at p : ℕ) → (p ≡ at + 1) × (p ≤ length all) × IsSign all m at → IsRow all t t (read_sign m (drop at all) >>= mapped (λ _. [])) 0 p
 sign-row all t m at p s = nothing-row all t _ p s.1 (ap (λ r. r >>= mapped (λ _. [])) s.2 ∙ ap (λ k. found [] [] (drop k all)) (sym s.0))
+
+-- a word of a script, of which nothing is kept
+pub script-word-row : (all : List Sign) (t : Trail) (w : ScriptWord) (ts : List Sign) (p : ℕ) → IsPlain all (read_script_word w ts) tt p → IsRow all t t (read_script_word w ts >>= mapped (λ _. [])) 0 p
+script-word-row all t w ts p d = nothing-row all t _ p d.within (ap (λ r. r >>= mapped (λ _. [])) d.is)
 
 -- one tree
 pub tree-row : (all : List Sign) (u v : Trail) (r : Read Role Tree) (p : ℕ) → IsMade postorder all u v r p → IsRow all u v (r >>= mapped (λ t. t ∷ [])) 1 p
@@ -224,6 +229,14 @@ some-makes table n f all ts u v result h m =
 pub none-row : (table : Table) (n : ℕ) (f : TreesForm) (all : List Sign) (t : Trail) (at : ℕ) → at ≤ length all → next_is (starts (table_heads table) f) (drop at all) ≡ false → IsRow all t t (table_reads table n (maybe_form false f) (drop at all)) 0 at
 none-row table n f all t at l h = nothing-row all t _ at l (ap (λ x. x >>= mapped perhaps) (pick-second (next_is (starts (table_heads table) f) (drop at all)) (λ us. table_reads table n f us >>= mapped Some) (nothing None) (drop at all) h))
 
+-- the empty phrase
+none-begins : (table : Table) (ts : List Sign) → next_is (starts (table_heads table) never) ts ≡ false
+none-begins table [] = refl
+none-begins table (t ∷ ts) = nowhere table 8 (kind_of t)
+
+pub blank-row : (table : Table) (n : ℕ) (all : List Sign) (t : Trail) (at : ℕ) → at ≤ length all → IsRow all t t (table_reads table n blank (drop at all)) 0 at
+blank-row table n all t at l = none-row table n never all t at l (none-begins table (drop at all))
+
 -- a repeated part, with so many turns left
 abbrev pub turns-read : Table → ℕ → TreesForm → ℕ → List Sign → Read Role (List Tree)
 turns-read table n f turns ts = read_many (starts (table_heads table) f) (table_reads table n f) turns ts >>= mapped all_of
@@ -267,4 +280,4 @@ sort-makes rows n r all at u v w count p d i m = subst (λ x. Makes postorder al
 pub sort-fails : (rows : List (Bor (List Piece))) (n r : ℕ) (all : List Sign) (at : ℕ) (u w : Trail) (e : ReadError) (result : Result ℕ ReadError) → IsErrAnd result (λ x. x ≡ e) → Fails all e (table_reads (rows_of rows) n (form (rows_of rows) (length rows) r) (drop at all)) → Makes postorder all u w result (read_sort (table_heads (rows_of rows)) (table_rule (rows_of rows)) n (Row r) (drop at all))
 sort-fails rows n r all at u w e result i h = passed_makes postorder all u w result e _ i (fails-same all e _ _ (sort-is rows n r (drop at all)) (fails_bind all e _ (mapped single) h))
 
-pub ruleset readers = (fails_bind, tree-row, outer-row, outer-fails, sign-row, none-row, some-makes, room, no_room)
+pub ruleset readers = (fails_bind, tree-row, outer-row, outer-fails, sign-row, script-word-row, blank-row, none-row, some-makes, room, no_room)

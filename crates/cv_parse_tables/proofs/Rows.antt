@@ -89,3 +89,5 @@ pub start-skip : (h : TableSort → Kind → Bool) (row : ℕ → TreesForm) (r 
 start-skip h row r e k l i = ap (λ f. starts h f k) (one-more row r e l) ∙ or-false (starts h (row r) k) (starts h (one_of row (r + 1) (e - (r + 1))) k) i
 
 pub ruleset placed = (next_at)
+
+pub ruleset empty = (nowhere)

@@ -4,12 +4,12 @@ use Rattle.std.specs.Borrow.{Bor}
 use Rattle.cv_syntax.specs.Tree.{Tree, chain, lone}
 use Rattle.cv_syntax.specs.declared.head.Head.TheVariants as head
 use Rattle.cv_parse_notation.specs.declared.sign.Sign.{Sign}
-use Rattle.cv_parse_notation.specs.Form.{Form, sign, word, number, nought, find_word, unnamed, other, note, both, may, many, either, made, level, deeper}
+use Rattle.cv_parse_notation.specs.Form.{Form, sign, script_word, word, number, nought, find_word, unnamed, other, note, both, may, many, either, made, level, deeper}
 use Rattle.cv_parse_notation.specs.Spells.{Kind, starts}
 use Rattle.cv_parse_notation.specs.Reads.{Reader, ◌>>=◌, mapped, reads, read_sort, read_word, read_number, too_deep}
 use Rattle.cv_parse_grammar.specs.declared.role.Role.{Role}
-use Rattle.cv_parse_grammar.specs.Phrases.{Sort, Term, Subscript}
-use Rattle.cv_parse_grammar.specs.Terms.{term, terms}
+use Rattle.cv_parse_grammar.specs.Phrases.{Sort, Term, Subscript, OneCell}
+use Rattle.cv_parse_grammar.specs.Terms.{term, terms, cell}
 use Rattle.cv_parse_grammar.specs.Rules.{rule, heads}
 use Rattle.cv_parse_terms.specs.Gives.{positive, read_note}
 use Rattle.cv_parse_tables.specs.Trees.{single, over, perhaps, all_of, both_of}
@@ -34,6 +34,7 @@ pub data TableSort : Type 0 where
 -- a phrase of files in a table
 abbrev pub carried : {A : Type 0} → Form Role Sort A → Form Role TableSort A
 carried (sign m) = sign m
+carried (script_word w) = script_word w
 carried (word r) = word r
 carried number = number
 carried nought = nought
@@ -55,6 +56,8 @@ outer_form outer.Term = term
 outer_form outer.Terms = terms
 outer_form outer.InnerTerm = deeper Term
 outer_form outer.InnerSubscript = deeper Subscript
+outer_form outer.Cell = cell
+outer_form outer.InnerCell = deeper OneCell
 
 -- a phrase that makes trees
 abbrev pub TreesForm : Type 1
@@ -90,6 +93,8 @@ one_of row r (suc n) = either (row r) (one_of row (r + 1) n)
 -- a piece, where the rows that it speaks of mean phrases
 abbrev pub piece_form : (ℕ → TreesForm) → Piece → TreesForm
 piece_form row (piece.Sign m) = made (λ _. []) (sign m)
+piece_form row (piece.ScriptWord w) = made (λ _. []) (script_word w)
+piece_form row piece.Blank = blank
 piece_form row (piece.Word r) = made named (word r)
 piece_form row piece.Number = made counted number
 piece_form row (piece.Phrase p) = made (λ t. t ∷ []) (carried (outer_form p))

@@ -1,11 +1,11 @@
 ghost use Rattle.std.specs.Prelude.{◌≡◌, ◌≤◌, ◌^◌, length, drop};
-ghost use Rattle.cv_parse_notation.specs.Spells.{kind_of, is_mark, is_word, is_number, may_vanish as vanishes, starts, next_is};
+ghost use Rattle.cv_parse_notation.specs.Spells.{kind_of, is_mark, is_script_word as is_word_of_script, is_word, is_number, may_vanish as vanishes, starts, next_is};
 ghost use Rattle.cv_parse_grammar.specs.Phrases.{Term};
 ghost use Rattle.cv_parse_grammar.specs.Rules.{heads};
 ghost use Rattle.cv_parse_tables.specs.Table.{outer_form, one_of, rows_of, form, row_form, piece_form, fronts};
 
 use crate::piece::{Outer, Piece};
-use cv_parse_notation::{Mark, Sign};
+use cv_parse_notation::{Mark, ScriptWord, Sign};
 
 /// Whether a token is this word or symbol.
 fn is_sign(sign: Sign, mark: Mark) -> bool
@@ -13,7 +13,17 @@ fn is_sign(sign: Sign, mark: Mark) -> bool
 {
     match sign {
         Sign::Mark(m) => m.code() == mark.code(),
-        Sign::Word(_) | Sign::Number(_) | Sign::Find(_) | Sign::Unnamed(_) => false,
+        Sign::Word(_, _) | Sign::Number(_) | Sign::Find(_) | Sign::Unnamed(_) => false,
+    }
+}
+
+/// Whether a token is this word of a script.
+fn is_script_word(sign: Sign, word: ScriptWord) -> bool
+    ensures { result ≡ is_word_of_script word (kind_of sign) }
+{
+    match sign {
+        Sign::Word(_, w) => w.code() == word.code(),
+        Sign::Number(_) | Sign::Find(_) | Sign::Unnamed(_) | Sign::Mark(_) => false,
     }
 }
 
@@ -22,7 +32,7 @@ fn is_name(sign: Sign) -> bool
     ensures { result ≡ is_word (kind_of sign) }
 {
     match sign {
-        Sign::Word(_) => true,
+        Sign::Word(_, _) => true,
         Sign::Number(_) | Sign::Find(_) | Sign::Unnamed(_) | Sign::Mark(_) => false,
     }
 }
@@ -33,7 +43,7 @@ fn is_numeral(sign: Sign) -> bool
 {
     match sign {
         Sign::Number(_) => true,
-        Sign::Word(_) | Sign::Find(_) | Sign::Unnamed(_) | Sign::Mark(_) => false,
+        Sign::Word(_, _) | Sign::Find(_) | Sign::Unnamed(_) | Sign::Mark(_) => false,
     }
 }
 
@@ -57,6 +67,7 @@ fn begins_outer(phrase: Outer, sign: Sign) -> bool
     match phrase {
         Outer::Term | Outer::Terms | Outer::InnerTerm => begins_term(sign),
         Outer::InnerSubscript => is_sign(sign, Mark::OpenSquare),
+        Outer::Cell | Outer::InnerCell => is_name(sign),
     }
 }
 
@@ -68,9 +79,13 @@ fn piece_vanishes(rows: &[&[Piece]], bound: usize, piece: Piece) -> bool
     ensures { result ≡ vanishes (piece_form (form (rows_of rows.now) bound) piece) }
 {
     match piece {
-        Piece::Sign(_) | Piece::Word(_) | Piece::Number | Piece::Phrase(_) | Piece::Deeper(_) =>
-            false,
-        Piece::Note(_) | Piece::May(_, _) | Piece::Many(_, _) => true,
+        Piece::Sign(_)
+        | Piece::ScriptWord(_)
+        | Piece::Word(_)
+        | Piece::Number
+        | Piece::Phrase(_)
+        | Piece::Deeper(_) => false,
+        Piece::Blank | Piece::Note(_) | Piece::May(_, _) | Piece::Many(_, _) => true,
         Piece::Either(r, s) => {
             may_vanish(rows, bound, r as usize) || may_vanish(rows, bound, s as usize)
         }
@@ -124,7 +139,7 @@ pub fn may_vanish(rows: &[&[Piece]], bound: usize, row: usize) -> bool
 
 /// Whether a piece may begin with a token, where so many phrases may stand at one another's front.
 #[cycle(fronts)]
-#[tactic(auto, using(crate::proofs::Carrying::carrying))]
+#[tactic(auto, using(crate::proofs::Carrying::carrying, crate::proofs::Rows::empty))]
 fn piece_begins(rows: &[&[Piece]], bound: usize, piece: Piece, hops: u32, sign: Sign) -> bool
     requires bound { bound ≤ length rows.now }
     requires table { length rows.now ≤ 65536 }
@@ -133,9 +148,10 @@ fn piece_begins(rows: &[&[Piece]], bound: usize, piece: Piece, hops: u32, sign: 
 {
     match piece {
         Piece::Sign(mark) => is_sign(sign, mark),
+        Piece::ScriptWord(word) => is_script_word(sign, word),
         Piece::Word(_) => is_name(sign),
         Piece::Number => is_numeral(sign),
-        Piece::Note(_) => false,
+        Piece::Blank | Piece::Note(_) => false,
         Piece::Phrase(phrase) => begins_outer(phrase, sign),
         Piece::Deeper(r) => { hops > 0 && begins(rows, rows.len(), r as usize, hops - 1, sign) }
         Piece::May(_, r)

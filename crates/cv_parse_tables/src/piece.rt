@@ -1,5 +1,5 @@
 use cv_parse_grammar::Role;
-use cv_parse_notation::Mark;
+use cv_parse_notation::{Mark, ScriptWord};
 use cv_syntax::Head;
 
 /// A phrase of files that may stand in a row.
@@ -13,6 +13,10 @@ pub enum Outer {
     InnerTerm,
     /// Terms in square brackets one level down, as a list.
     InnerSubscript,
+    /// A cell: a name, with terms in square brackets where they are there.
+    Cell,
+    /// A cell one level down.
+    InnerCell,
 }
 
 /// A piece of a row of a table. Rows go by their numbers, and speak of rows with smaller numbers;
@@ -21,6 +25,10 @@ pub enum Outer {
 pub enum Piece {
     /// A word or symbol, of which nothing is kept.
     Sign(Mark),
+    /// This word of a script, of which nothing is kept.
+    ScriptWord(ScriptWord),
+    /// No token: the blank that is printed between two tokens.
+    Blank,
     /// A name, which is used so.
     Word(Role),
     /// A number.

@@ -12,8 +12,8 @@ use crate::trees::{close_all, close_over};
 use cv_parse_grammar::Role;
 use cv_parse_notation::Sign;
 use cv_parse_terms::{
-    ReadError, Trail, close_chain, expect, inner_subscript, inner_term, leaf, note, number,
-    shallow, term, terms, word,
+    ReadError, Trail, cell, close_chain, expect, inner_cell, inner_subscript, inner_term, leaf,
+    note, number, script_word, shallow, term, terms, word,
 };
 use cv_syntax::Head;
 
@@ -118,6 +118,8 @@ fn outer(
         Outer::Terms => terms(signs, at, trail, depth),
         Outer::InnerTerm => inner_term(signs, at, trail, depth),
         Outer::InnerSubscript => inner_subscript(signs, at, trail, depth),
+        Outer::Cell => cell(signs, at, trail, depth),
+        Outer::InnerCell => inner_cell(signs, at, trail, depth),
     }
 }
 
@@ -274,6 +276,11 @@ fn read_piece(
             let place = expect(signs, at, mark)?;
             Ok((0, place))
         }
+        Piece::ScriptWord(word) => {
+            let place = script_word(signs, at, word)?;
+            Ok((0, place))
+        }
+        Piece::Blank => Ok((0, at)),
         Piece::Word(role) => name(signs, at, trail, role),
         Piece::Number => numeral(signs, at, trail),
         Piece::Note(role) => told(signs, at, trail, role),

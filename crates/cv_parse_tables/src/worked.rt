@@ -8,7 +8,7 @@ ghost use Rattle.cv_parse_tables.specs.Worked.{blocks, read_block, nested, nesti
 use crate::piece::{Outer, Piece};
 use crate::reading::phrase;
 use cv_parse_grammar::Role;
-use cv_parse_notation::{Mark, Sign};
+use cv_parse_notation::{Mark, ScriptWord, Sign};
 use cv_parse_terms::{ReadError, Trail};
 use cv_syntax::Head;
 
@@ -26,19 +26,21 @@ const CONDITION: u16 = 5;
 
 const TEST: u16 = 6;
 
-const NEW: u16 = 7;
+const PRUNING: u16 = 7;
 
-const LINE: u16 = 10;
+const NEW: u16 = 8;
 
-const LINES: u16 = 11;
+const LINE: u16 = 12;
 
-const BRACES: u16 = 12;
+const LINES: u16 = 13;
 
-const BLOCK: u16 = 13;
+const BRACES: u16 = 14;
 
-/// A small grammar: a block has lines `new x, y;`, `let x = n;`, and `if n` or `if M` with a block of
-/// its own.
-const ROWS: [&[Piece]; 14] = [
+const BLOCK: u16 = 15;
+
+/// A small grammar: a block has lines `new x, y;`, `let x = n;`, `if n` or `if M` with a block of its
+/// own, and `prune x[M];`.
+const ROWS: [&[Piece]; 16] = [
     &[Piece::Sign(Mark::Comma), Piece::Word(Role::Nothing)],
     &[Piece::Word(Role::Nothing), Piece::Many(false, MORE)],
     &[Piece::Sign(Mark::New), Piece::Chain(NAMES)],
@@ -55,10 +57,16 @@ const ROWS: [&[Piece]; 14] = [
         Piece::Either(COUNT, CONDITION),
         Piece::Deeper(BLOCK),
     ],
+    &[
+        Piece::ScriptWord(ScriptWord::Prune),
+        Piece::Blank,
+        Piece::Phrase(Outer::Cell),
+    ],
     &[Piece::Over(Head::SplitStep, CHOICE)],
     &[Piece::Over(Head::MoveStep, BINDING)],
     &[Piece::Over(Head::Cases, TEST)],
-    &[Piece::OneOf(NEW, 3), Piece::Sign(Mark::Semicolon)],
+    &[Piece::Over(Head::PruneStep, PRUNING)],
+    &[Piece::OneOf(NEW, 4), Piece::Sign(Mark::Semicolon)],
     &[Piece::Many(false, LINE)],
     &[
         Piece::Sign(Mark::OpenBrace),

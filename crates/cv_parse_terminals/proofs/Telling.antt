@@ -10,6 +10,7 @@ use Rattle.cv_lex.specs.declared.TokenKind.TheVariants as kind
 use Rattle.cv_lex.specs.Lexis.{Token, IsToken, end_token}
 use Rattle.cv_lex.specs.View.{token_at, AreTokens}
 use Rattle.cv_lex.proofs.Pieces.{token_not_end}
+use Rattle.cv_parse_notation.specs.declared.script.ScriptWord.TheVariants.{Plain}
 use Rattle.cv_parse_notation.specs.declared.sign.Mark.{Mark}
 use Rattle.cv_parse_notation.specs.declared.sign.Sign.{Sign}
 use Rattle.cv_parse_notation.specs.declared.sign.Sign.TheVariants as sign
@@ -91,7 +92,7 @@ says_word : (names : List (List ℕ)) (counts : Counts) (t : Token) → mark_of_
 says_word names counts t no_mark =
     elim (text_test t.text (codes "find")) [
       | inl a ↦ rw a.0 (record { one = sign.Find (suc counts.finds); alone = refl; tells = a.1 })
-      | inr b ↦ rw b (record { one = sign.Word (place_of names t.text); alone = refl; tells = (with_name-has names t.text, no_mark) })
+      | inr b ↦ rw b (record { one = sign.Word (place_of names t.text) Plain; alone = refl; tells = (with_name-has names t.text, no_mark, refl) })
     ]
 
 says_text : (names : List (List ℕ)) (counts : Counts) (t : Token) (m : Option Mark) → mark_of_text t.text ≡ m → Says t (text_step names counts t.text m)
@@ -114,7 +115,7 @@ says_before names counts t next inner =
 
 -- with more names a sign says the same
 tells_more : (names more : List (List ℕ)) (t : Token) (s : Sign) → Keeps names more → Tells names t s → Tells more t s
-tells_more names more t (sign.Word n) keeps h = (keeps n t.text h.0, h.1)
+tells_more names more t (sign.Word n w) keeps h = (keeps n t.text h.0, h.1, h.2)
 tells_more names more t (sign.Number v) keeps h = h
 tells_more names more t (sign.Find n) keeps h = h
 tells_more names more t (sign.Unnamed n) keeps h = (h.0, (h.1.0, h.1.1, keeps n (unnamed_name h.1.0) h.1.2))
@@ -178,7 +179,7 @@ count_all ts are = count_in (file_tokens ts) (are_read ts are) ∙ length-read_f
 
 -- what a sign tells is among the names
 below_told : (names : List (List ℕ)) (t : Token) (s : Sign) → Tells names t s → NumberBelow (length names) s
-below_told names t (sign.Word n) h = slice_get_within names n t.text h.0
+below_told names t (sign.Word n w) h = slice_get_within names n t.text h.0
 below_told names t (sign.Number v) h = tt
 below_told names t (sign.Find n) h = tt
 below_told names t (sign.Unnamed n) h = slice_get_within names n (unnamed_name h.1.0) h.1.2

@@ -9,6 +9,7 @@ use Rattle.cv_lex.specs.Lexis.{Token, IsToken, end_token}
 use Rattle.cv_lex.specs.View.{token_at, AreTokens}
 use Rattle.cv_lex.proofs.Places.{last_token, inner_token}
 use Rattle.cv_lex.proofs.Pieces.{token_not_end}
+use Rattle.cv_parse_notation.specs.declared.script.ScriptWord.TheVariants.{Plain}
 use Rattle.cv_parse_notation.specs.declared.sign.Mark.{Mark}
 use Rattle.cv_parse_notation.specs.declared.sign.Sign.{Sign}
 use Rattle.cv_parse_notation.specs.declared.sign.Sign.TheVariants as sign
@@ -26,7 +27,7 @@ pub record IsSmall (names : List (List ℕ)) (counts : Counts) (s : Step) : Type
 
 small_word : (names : List (List ℕ)) (counts : Counts) (text : List ℕ) → IsSmall names counts (word_step names counts text)
 small_word names counts text =
-    elim (bytes_eq text (codes "find")) as (λ b. IsSmall names counts (if b then (record { signs = sign.Find (suc counts.finds) ∷ []; names = names; counts = one_find counts }) else (record { signs = sign.Word (place_of names text) ∷ []; names = with_name names text; counts = counts }))) [
+    elim (bytes_eq text (codes "find")) as (λ b. IsSmall names counts (if b then (record { signs = sign.Find (suc counts.finds) ∷ []; names = names; counts = one_find counts }) else (record { signs = sign.Word (place_of names text) Plain ∷ []; names = with_name names text; counts = counts }))) [
       | true ↦ record { names_more = omega arith; names_behind = ([], sym (append-nil names)); finds_more = omega arith; unnamed_more = omega arith }
       | false ↦ record { names_more = length-with_name names text; names_behind = with_name-behind names text; finds_more = omega arith; unnamed_more = omega arith }
     ]

@@ -6,6 +6,7 @@ use Rattle.cv_lex.specs.declared.TokenKind.{TokenKind}
 use Rattle.cv_lex.specs.declared.TokenKind.TheVariants as kind
 use Rattle.cv_lex.specs.Lexis.{Token}
 use Rattle.cv_lex.specs.View.{token_at}
+use Rattle.cv_parse_notation.specs.declared.script.ScriptWord.TheVariants.{Plain}
 use Rattle.cv_parse_notation.specs.declared.sign.Mark.{Mark}
 use Rattle.cv_parse_notation.specs.declared.sign.Sign.{Sign}
 use Rattle.cv_parse_notation.specs.declared.sign.Sign.TheVariants as sign
@@ -46,7 +47,7 @@ abbrev pub word_step : List (List ℕ) → Counts → List ℕ → Step
 word_step names counts text =
     if bytes_eq text (codes "find")
     then (record { signs = sign.Find (suc counts.finds) ∷ []; names = names; counts = one_find counts })
-    else (record { signs = sign.Word (place_of names text) ∷ []; names = with_name names text; counts = counts })
+    else (record { signs = sign.Word (place_of names text) Plain ∷ []; names = with_name names text; counts = counts })
 
 -- an identifier or a symbol, by the mark that is written so
 abbrev pub text_step : List (List ℕ) → Counts → List ℕ → Option Mark → Step
@@ -111,9 +112,9 @@ signs_in ts = signs_from (codes "bool" ∷ []) no_counts ts
 abbrev pub signs_of : List Token → Signed
 signs_of ts = signs_in (file_tokens ts)
 
--- a sign says what its token says; a number stands for the text at its place among the names
+-- A sign says what its token says; a number stands for the text at its place among the names. No name is a word of a script.
 abbrev pub Tells : List (List ℕ) → Token → Sign → Type 0
-Tells names t (sign.Word n) = (slice_get names n ≡ Some t.text) × (mark_of_text t.text ≡ None)
+Tells names t (sign.Word n w) = (slice_get names n ≡ Some t.text) × (mark_of_text t.text ≡ None) × (w ≡ Plain)
 Tells names t (sign.Number value) = t.kind ≡ kind.Number value
 Tells names t (sign.Find n) = t.text ≡ codes "find"
 Tells names t (sign.Unnamed n) = (t.text ≡ codes "collision") × ((k : ℕ) × (1 ≤ k) × (slice_get names n ≡ Some (unnamed_name k)))
@@ -125,7 +126,7 @@ TellInOrder names ts signs = (k : ℕ) → k + 1 < length ts → (s : Sign) × (
 
 -- the number of a name, where a sign has one, is below this bound
 abbrev pub NumberBelow : ℕ → Sign → Type 0
-NumberBelow bound (sign.Word n) = n < bound
+NumberBelow bound (sign.Word n w) = n < bound
 NumberBelow bound (sign.Unnamed n) = n < bound
 NumberBelow bound (sign.Number value) = Unit {0}
 NumberBelow bound (sign.Find n) = Unit {0}

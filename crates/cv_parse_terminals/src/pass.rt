@@ -12,15 +12,15 @@ ghost use Rattle.cv_parse_terminals.specs.Worked.{small, small_names};
 use crate::braces::{open_behind, read_token};
 use crate::marks::spelled;
 use cv_lex::{TokenKind, Tokens};
-use cv_parse_notation::Sign;
+use cv_parse_notation::{ScriptWord, Sign};
 use cv_syntax::{NameError, Names};
 use std::alloc::{AllocError, Global};
 
 // How many words of two kinds were read: `find`, and `collision` before `new`.
 #[derive(Clone, Copy)]
-struct Counts {
-    finds: u64,
-    unnamed: u64,
+pub struct Counts {
+    pub finds: u64,
+    pub unnamed: u64,
 }
 
 // The number of a text among the names, to which it is added where it isn't there yet.
@@ -53,7 +53,7 @@ fn text_sign(names: &mut Names, counts: &mut Counts, text: &str) -> Result<Sign,
         counts.finds += 1;
         return Ok(Sign::Find(counts.finds));
     }
-    Ok(Sign::Word(number_of(names, text)?))
+    Ok(Sign::Word(number_of(names, text)?, ScriptWord::Plain))
 }
 
 // The sign of a token.
@@ -92,7 +92,7 @@ fn unnamed_sign(alloc: Global, names: &mut Names, counts: &mut Counts) -> Result
 }
 
 // The sign of a token before the next one's text.
-fn sign_before(
+pub fn sign_before(
     alloc: Global,
     names: &mut Names,
     counts: &mut Counts,

@@ -3,7 +3,7 @@ use Rattle.std.proofs.Common.{◌≡◌, ℕ, List, [], drop, ap, sym, ◌∙◌
 use Rattle.cv_syntax.specs.declared.make.Make.{Make}
 use Rattle.cv_parse_notation.specs.declared.sign.Sign.{Sign}
 use Rattle.cv_parse_notation.specs.declared.sign.Mark.{Mark}
-use Rattle.cv_parse_notation.specs.Form.{◌&◌, ◌▸◌, ◌◂◌}
+use Rattle.cv_parse_notation.specs.Form.{◌&◌, ◌▸◌}
 use Rattle.cv_parse_notation.specs.Reads.{Read, ◌>>=◌, found, joined, read_sign}
 use Rattle.cv_parse_grammar.specs.declared.role.Role.{Role}
 use Rattle.cv_parse_grammar.specs.Phrases.{Phrase}

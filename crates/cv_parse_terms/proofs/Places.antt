@@ -1,12 +1,13 @@
 -- Places in the list of tokens, and readers one after another.
 use Rattle.std.proofs.Common.{◌≡◌, ℕ, zero, suc, ◌+◌, ◌-◌, ◌<◌, ◌≤◌, Bool, true, false, List, [], ◌∷◌, ◌++◌, length, drop, refl, ap, sym, ◌∙◌, arith, subst, get_or, length-drop, append-nil, not, ◌||◌, ◌⊎◌, inl, inr, Err, Option, Some, None, is_some}
 use Rattle.std.proofs.lemmas.List.{map-append}
+use Rattle.cv_parse_notation.specs.declared.script.ScriptWord.{ScriptWord}
 use Rattle.cv_parse_notation.specs.declared.sign.Sign.{Sign}
 use Rattle.cv_parse_notation.specs.declared.sign.Sign.TheVariants as token
 use Rattle.cv_parse_notation.specs.declared.sign.Mark.{Mark}
 use Rattle.cv_parse_notation.specs.declared.sign.Mark.TheVariants as mark
-use Rattle.cv_parse_notation.specs.Spells.{Kind, kind_of, next_is, is_mark, is_word, is_zero, is_find, is_unnamed, used}
-use Rattle.cv_parse_notation.specs.Reads.{Read, Found, Syntax, ◌>>=◌, found, pick, no_syntax, read_sign, read_word, read_number, read_nought, read_find, read_unnamed, read_other}
+use Rattle.cv_parse_notation.specs.Spells.{Kind, kind_of, next_is, is_mark, is_script_word, is_word, is_zero, is_find, is_unnamed, used}
+use Rattle.cv_parse_notation.specs.Reads.{Read, Found, Syntax, ◌>>=◌, found, pick, no_syntax, read_sign, read_script_word, read_word, read_number, read_nought, read_find, read_unnamed, read_other}
 use Rattle.cv_parse_terms.specs.declared.lookahead.ReadError.{ReadError}
 use Rattle.cv_parse_terms.specs.declared.lookahead.ReadError.TheVariants as error
 use Rattle.cv_parse_grammar.specs.declared.role.Role.{Role}
@@ -100,12 +101,12 @@ use_noted r at all x us vs n l e = ap uses_of e ∙ (map-append use_of us (recor
 
 word_read : (r : Role) (ts : List Sign) (x : ℕ) → next_value word_in ts ≡ Some x → read_word r ts ≡ found x (used r x ts) (drop 1 ts)
 word_read r [] x h = absurd (cc)
-word_read r (token.Word y ∷ ts) x h = let e : y ≡ x = cc in ap (λ z. found z (used r z (token.Word y ∷ ts)) ts) e
+word_read r (token.Word y w ∷ ts) x h = let e : y ≡ x = cc in ap (λ z. found z (used r z (token.Word y w ∷ ts)) ts) e
 word_read r (t ∷ ts) x h = absurd (cc)
 
 word_fails : (r : Role) (ts : List Sign) → next_value word_in ts ≡ None → read_word r ts ≡ Err (Syntax (length ts))
 word_fails r [] h = refl
-word_fails r (token.Word y ∷ ts) h = absurd (cc)
+word_fails r (token.Word y w ∷ ts) h = absurd (cc)
 word_fails r (t ∷ ts) h = refl
 
 pub word_gives : (r : Role) (at : ℕ) (all : List Sign) (x : ℕ) (us vs : List NameUse) → next_value word_in (drop at all) ≡ Some x → uses_of vs ≡ uses_of us ++ used r x (drop at all) → IsRead all us vs (read_word r (drop at all)) x (at + 1)
@@ -118,6 +119,25 @@ word_gives r at all x us vs h e = record {
 
 pub word_stops : (r : Role) (at : ℕ) (all : List Sign) → at ≤ length all → next_value word_in (drop at all) ≡ None → Fails all (error.Syntax at) (read_word r (drop at all))
 word_stops r at all l h = fault_at at all (read_word r (drop at all)) l (word_fails r (drop at all) h)
+
+-- a word of a script
+
+script_word_read : (w : ScriptWord) (ts : List Sign) → next_is (is_script_word w) ts ≡ true → read_script_word {R = Role} w ts ≡ found tt [] (drop 1 ts)
+script_word_read w [] h = absurd (cc)
+script_word_read w (t ∷ ts) h = ap (λ b. pick b (λ us. found tt [] ts) no_syntax (t ∷ ts)) h
+
+script_word_fails : (w : ScriptWord) (ts : List Sign) → next_is (is_script_word w) ts ≡ false → read_script_word {R = Role} w ts ≡ Err (Syntax (length ts))
+script_word_fails w [] h = refl
+script_word_fails w (t ∷ ts) h = ap (λ b. pick b (λ us. found tt [] ts) no_syntax (t ∷ ts)) h
+
+pub script_word_gives : (w : ScriptWord) (at : ℕ) (all : List Sign) → next_is (is_script_word w) (drop at all) ≡ true → IsPlain all (read_script_word w (drop at all)) tt (at + 1)
+script_word_gives w at all h = record {
+  is = script_word_read w (drop at all) h ∙ ap (λ ts. found tt [] ts) (drop_one at all);
+  within = let i = in_range (is_script_word w) at all h in omega arith;
+}
+
+pub script_word_stops : (w : ScriptWord) (at : ℕ) (all : List Sign) → at ≤ length all → next_is (is_script_word w) (drop at all) ≡ false → Fails all (error.Syntax at) (read_script_word w (drop at all))
+script_word_stops w at all l h = fault_at at all (read_script_word w (drop at all)) l (script_word_fails w (drop at all) h)
 
 -- the word `collision` before `new`
 
@@ -283,4 +303,4 @@ plain_read us d = record { uses = []; is = d.is; noted = sym (append-nil (uses_o
 pub ruleset places = (past_end, sign_gives, sign_stops, value_next, no_value_past, word_gives, word_stops, fails_bind, fails_after_sign, read_after_sign, fails_behind)
 
 -- for the readers of single tokens
-pub ruleset tokens = (past_end, value_next, no_value_past, word_stands, find_stands, unnamed_stands, use_noted, word_gives, word_stops, unnamed_gives, unnamed_stops, note_gives, number_gives, number_stops, find_gives, find_stops, zero_gives, zero_stops, other_gives, other_past, brace_opens, brace_closes)
+pub ruleset tokens = (past_end, value_next, no_value_past, word_stands, find_stands, unnamed_stands, use_noted, word_gives, word_stops, script_word_gives, script_word_stops, unnamed_gives, unnamed_stops, note_gives, number_gives, number_stops, find_gives, find_stops, zero_gives, zero_stops, other_gives, other_past, brace_opens, brace_closes)

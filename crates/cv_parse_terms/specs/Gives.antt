@@ -27,7 +27,7 @@ uses_of us = map use_of us
 
 -- the value of a token, where it is of the kind
 abbrev pub word_in : Sign → Option ℕ
-word_in (token.Word x) = Some x
+word_in (token.Word x w) = Some x
 word_in t = None
 
 abbrev pub number_in : Sign → Option ℕ

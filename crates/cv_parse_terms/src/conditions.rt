@@ -42,7 +42,7 @@ fn cell_indices(
 
 /// A cell of `defined`.
 #[tactic(auto, using(crate::proofs::Places::places, crate::proofs::Levels::levels))]
-fn cell(signs: &[Sign], at: usize, trail: &mut Trail, depth: u32) -> Result<usize, ReadError>
+pub fn cell(signs: &[Sign], at: usize, trail: &mut Trail, depth: u32) -> Result<usize, ReadError>
     requires at { at ≤ length signs.now }
     requires few { length signs.now < 2 ^ 32 }
     ensures makes { Makes postorder signs.now trail.old trail.new result
@@ -57,7 +57,12 @@ fn cell(signs: &[Sign], at: usize, trail: &mut Trail, depth: u32) -> Result<usiz
 
 /// A cell of `defined`, one level down.
 #[tactic(auto, using(crate::proofs::Places::places, crate::proofs::Levels::levels))]
-fn inner_cell(signs: &[Sign], at: usize, trail: &mut Trail, depth: u32) -> Result<usize, ReadError>
+pub fn inner_cell(
+    signs: &[Sign],
+    at: usize,
+    trail: &mut Trail,
+    depth: u32,
+) -> Result<usize, ReadError>
     requires at { at ≤ length signs.now }
     requires few { length signs.now < 2 ^ 32 }
     ensures makes { Makes postorder signs.now trail.old trail.new result

@@ -13,15 +13,15 @@ mod trail;
 pub use binders::{
     indices, make_binders, maybe_indices, maybe_vars, name_list, one_binder, var_list, vars,
 };
-pub use conditions::{condition, inner_cells};
+pub use conditions::{cell, condition, inner_cell, inner_cells};
 pub use lists::{Item, Pair, item_row, pair_row, type_name, typed};
 pub use lookahead::{
-    ReadError, descend, expect, is_at, is_find_at, is_unnamed_at, is_word_at, is_zero_at, open,
-    shallow,
+    ReadError, descend, expect, is_at, is_find_at, is_script_word_at, is_unnamed_at, is_word_at,
+    is_zero_at, open, shallow,
 };
 pub use reading::{
     arguments, begins_term, equality, inner_arguments, inner_subscript, inner_term, maybe_terms,
     one_term, term, terms,
 };
-pub use tokens::{find_word, note, number, other, unnamed, word, zero};
+pub use tokens::{find_word, note, number, other, script_word, unnamed, word, zero};
 pub use trail::{NameUse, Trail, close_chain, leaf, make_spine};

@@ -1,10 +1,10 @@
 ghost use Rattle.std.specs.Prelude.{◌≡◌, ◌+◌, ◌<◌, ◌≤◌, ◌^◌, ℕ, length, drop, IfOk, IfErr, OnErr, [], true, false};
-ghost use Rattle.cv_parse_notation.specs.Spells.{next_is, is_mark, is_word, is_zero, is_find, is_unnamed, kind_of};
+ghost use Rattle.cv_parse_notation.specs.Spells.{next_is, is_mark, is_script_word, is_word, is_zero, is_find, is_unnamed, kind_of};
 ghost use Rattle.cv_parse_notation.specs.Reads.{read_sign};
 ghost use Rattle.cv_parse_terms.specs.Gives.{Fails, IsSign, Opens, Shallow, read_opening, read_too_deep, next_value, word_in as word_of, find_in as find_of, unnamed_in as unnamed_of};
 ghost use Rattle.cv_parse_terms.specs.declared.lookahead.ReadError.TheVariants.{OutOfMemory};
 
-use cv_parse_notation::{Mark, Sign};
+use cv_parse_notation::{Mark, ScriptWord, Sign};
 use std::alloc::{AllocError, AllocFailed};
 
 /// Why a phrase isn't read. A fault carries the number of its token.
@@ -44,6 +44,19 @@ pub fn is_at(signs: &[Sign], at: usize, mark: Mark) -> bool
     false
 }
 
+/// Whether this word of a script stands at a place.
+#[tactic(auto, using(crate::proofs::Places::tokens, crate::proofs::Places::places))]
+pub fn is_script_word_at(signs: &[Sign], at: usize, word: ScriptWord) -> bool
+    ensures { result ≡ next_is (is_script_word word) (drop at signs.now) }
+{
+    if at < signs.len() {
+        if let Sign::Word(_, w) = signs[at] {
+            return w.code() == word.code();
+        }
+    }
+    false
+}
+
 /// The place behind a word or symbol.
 #[tactic(auto, using(crate::proofs::Places::tokens, crate::proofs::Places::places))]
 pub fn expect(signs: &[Sign], at: usize, mark: Mark) -> Result<usize, ReadError>
@@ -64,7 +77,7 @@ fn word_in(sign: Sign) -> Option<u32>
     ensures { result ≡ word_of sign }
 {
     match sign {
-        Sign::Word(name) => Some(name),
+        Sign::Word(name, _) => Some(name),
         Sign::Number(_) | Sign::Find(_) | Sign::Unnamed(_) | Sign::Mark(_) => None,
     }
 }
@@ -86,7 +99,7 @@ fn find_in(sign: Sign) -> Option<u64>
 {
     match sign {
         Sign::Find(count) => Some(count),
-        Sign::Word(_) | Sign::Number(_) | Sign::Unnamed(_) | Sign::Mark(_) => None,
+        Sign::Word(_, _) | Sign::Number(_) | Sign::Unnamed(_) | Sign::Mark(_) => None,
     }
 }
 
@@ -107,7 +120,7 @@ fn unnamed_in(sign: Sign) -> Option<u32>
 {
     match sign {
         Sign::Unnamed(name) => Some(name),
-        Sign::Word(_) | Sign::Number(_) | Sign::Find(_) | Sign::Mark(_) => None,
+        Sign::Word(_, _) | Sign::Number(_) | Sign::Find(_) | Sign::Mark(_) => None,
     }
 }
 
@@ -152,7 +165,7 @@ fn is_nought(sign: Sign) -> bool
 {
     match sign {
         Sign::Number(value) => value == 0,
-        Sign::Word(_) | Sign::Find(_) | Sign::Unnamed(_) | Sign::Mark(_) => false,
+        Sign::Word(_, _) | Sign::Find(_) | Sign::Unnamed(_) | Sign::Mark(_) => false,
     }
 }
 

@@ -1,12 +1,14 @@
 ghost use Rattle.std.specs.Prelude.{◌≡◌, ◌++◌, ◌+◌, ◌<◌, ◌≤◌, ◌^◌, ℕ, length, drop, OnOk, IfOk};
 ghost use Rattle.cv_parse_notation.specs.Spells.{used};
-ghost use Rattle.cv_parse_notation.specs.Reads.{read_word, read_number, read_nought, read_find, read_unnamed, read_other};
+ghost use Rattle.cv_parse_notation.specs.Reads.{read_word, read_script_word, read_number, read_nought, read_find, read_unnamed, read_other};
 ghost use Rattle.cv_parse_terms.specs.Gives.{Gives, uses_of, GivesPlain, IsRead, Passes, next_value, read_note, number_in as number_of};
 
-use crate::lookahead::{ReadError, find_at, is_at, is_zero_at, unnamed_at, word_at};
+use crate::lookahead::{
+    ReadError, find_at, is_at, is_script_word_at, is_zero_at, unnamed_at, word_at,
+};
 use crate::trail::NameUse;
 use cv_parse_grammar::Role;
-use cv_parse_notation::{Mark, Sign};
+use cv_parse_notation::{Mark, ScriptWord, Sign};
 use std::alloc::AllocError;
 
 /// Notes a use of a name at a place.
@@ -45,6 +47,19 @@ pub fn word(
     };
     note_use(signs, at, uses, role, name)?;
     Ok((name, at + 1))
+}
+
+/// The place behind this word of a script.
+#[tactic(auto, using(crate::proofs::Places::tokens))]
+pub fn script_word(signs: &[Sign], at: usize, word: ScriptWord) -> Result<usize, ReadError>
+    requires at { at ≤ length signs.now }
+    requires few { length signs.now < 2 ^ 32 }
+    ensures passes { Passes signs.now result (read_script_word word (drop at signs.now)) }
+{
+    if is_script_word_at(signs, at, word) {
+        return Ok(at + 1);
+    }
+    Err(ReadError::Syntax(at as u32))
 }
 
 /// The word `collision` before `new`, whose name is used so.
@@ -89,7 +104,7 @@ fn number_in(sign: Sign) -> Option<u64>
 {
     match sign {
         Sign::Number(value) => Some(value),
-        Sign::Word(_) | Sign::Find(_) | Sign::Unnamed(_) | Sign::Mark(_) => None,
+        Sign::Word(_, _) | Sign::Find(_) | Sign::Unnamed(_) | Sign::Mark(_) => None,
     }
 }
 

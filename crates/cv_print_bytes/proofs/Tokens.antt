@@ -12,6 +12,7 @@ use Rattle.cv_lex.specs.declared.TokenKind.{TokenKind}
 use Rattle.cv_lex.specs.declared.TokenKind.TheVariants as kind
 use Rattle.cv_lex.specs.declared.scan.Piece.TheVariants.{Lexeme}
 use Rattle.cv_lex.specs.Lexis.{has_front, piece, IsToken, a_comment, a_symbol, comment_end, longest, symbols}
+use Rattle.cv_parse_notation.specs.declared.script.ScriptWord.TheVariants.{Plain}
 use Rattle.cv_parse_notation.specs.declared.sign.Mark.{Mark}
 use Rattle.cv_parse_notation.specs.declared.sign.Mark.TheVariants as mark
 use Rattle.cv_parse_notation.specs.declared.sign.Sign.TheVariants as sign
@@ -47,10 +48,10 @@ find_means names = record { step = λ counts next. ap (text_step names counts (c
 differs : (a b : List ℕ) → a ≢ b → bytes_eq a b ≡ false
 differs a b n = false_from_ne_true (bytes_eq a b) (λ t. n ((bytes_eq-Decides a b).0 t))
 
-known_word : (names : List (List ℕ)) (counts : _) (text : List ℕ) (n : ℕ) → bytes_eq text (codes "find") ≡ false → n ≡ place_of names text → with_name names text ≡ names → word_step names counts text ≡ record { signs = sign.Word n ∷ []; names = names; counts = counts }
+known_word : (names : List (List ℕ)) (counts : _) (text : List ℕ) (n : ℕ) → bytes_eq text (codes "find") ≡ false → n ≡ place_of names text → with_name names text ≡ names → word_step names counts text ≡ record { signs = sign.Word n Plain ∷ []; names = names; counts = counts }
 known_word names counts text n e place old =
-    ap (λ b. if b then (record { signs = sign.Find (suc counts.finds) ∷ []; names = names; counts = one_find counts }) else (record { signs = sign.Word (place_of names text) ∷ []; names = with_name names text; counts = counts })) e
-    ∙ (λ i. record { signs = sign.Word (sym place i) ∷ []; names = old i; counts = counts })
+    ap (λ b. if b then (record { signs = sign.Find (suc counts.finds) ∷ []; names = names; counts = one_find counts }) else (record { signs = sign.Word (place_of names text) Plain ∷ []; names = with_name names text; counts = counts })) e
+    ∙ (λ i. record { signs = sign.Word (sym place i) Plain ∷ []; names = old i; counts = counts })
 
 name_means : (names : List (List ℕ)) → AreNames names → (x : ℕ) (text : List ℕ) → slice_get names x ≡ Some text → Means names kind.Ident text (name_sign x)
 name_means names are zero text h =

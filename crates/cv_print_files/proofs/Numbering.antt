@@ -6,7 +6,7 @@ use Rattle.cv_syntax.specs.Tree.{Tree}
 use Rattle.cv_parse_notation.specs.declared.sign.Mark.{Mark}
 use Rattle.cv_parse_notation.specs.declared.sign.Sign.{Sign}
 use Rattle.cv_parse_notation.specs.declared.sign.Sign.TheVariants as token
-use Rattle.cv_parse_notation.specs.Form.{sign, word, number, nought, find_word, unnamed, other, note, both, may, many, either, made, level, deeper, ◌▸◌, ◌◂◌}
+use Rattle.cv_parse_notation.specs.Form.{sign, script_word, word, number, nought, find_word, unnamed, other, note, both, may, many, either, made, level, deeper, ◌▸◌, ◌◂◌}
 use Rattle.cv_parse_notation.specs.Spells.{Each, IsSort, Kind, Perhaps, Relation, Spells, Use, no_sort, starts}
 use Rattle.cv_parse_notation.specs.Whole.{SpellsWith}
 use Rattle.cv_parse_grammar.specs.declared.role.Role.{Role}
@@ -21,7 +21,7 @@ fits_label l = nat_lt l (2 ^ 64)
 module _ (count : ℕ) where
   -- a name is below the count, and a number fits
   abbrev pub IsSmall : Sign → Type 0
-  IsSmall (token.Word x) = nat_lt x count ≡ true
+  IsSmall (token.Word x w) = nat_lt x count ≡ true
   IsSmall (token.Unnamed x) = nat_lt x count ≡ true
   IsSmall (token.Number v) = fits_label v ≡ true
   IsSmall (token.Find k) = fits_label k ≡ true
@@ -63,6 +63,7 @@ module _ (count : ℕ) where
     module _ (room : Bool) (below : Sort → Relation Role Tree) (low : (s : Sort) → Tells (below s) (P s)) where
       spelled : {A : Type 0} (f : Phrase A) → Tells (Spells heads room below f) (Holds P f)
       spelled (sign m) ts a us rest d w = (tt, (subst AreSmall d.tokens w).1)
+      spelled (script_word v) ts a us rest d w = (tt, (subst AreSmall d.tokens w).1)
       spelled (word r) ts a us rest d w = subst AreSmall d.tokens w
       spelled number ts a us rest d w = subst AreSmall d.tokens w
       spelled nought ts a us rest d w = (tt, (subst AreSmall d.tokens w).1)

@@ -2,7 +2,7 @@
 use Rattle.std.proofs.Common.{◌≡◌, ℕ, Bool, true, false, ◌&&◌, List, [], ◌∷◌, Option, Some, None, inl, inr, refl}
 use Rattle.std.proofs.lemmas.Bool.{and_parts}
 use Rattle.cv_syntax.specs.Tree.{Tree}
-use Rattle.cv_parse_notation.specs.Form.{sign, word, number, nought, find_word, unnamed, other, note, both, may, many, either, made, level, deeper}
+use Rattle.cv_parse_notation.specs.Form.{sign, script_word, word, number, nought, find_word, unnamed, other, note, both, may, many, either, made, level, deeper}
 use Rattle.cv_parse_grammar.specs.declared.role.Role.{Role}
 use Rattle.cv_parse_grammar.specs.Names.{Uses}
 use Rattle.cv_parse_grammar.specs.Phrases.{Phrase, Sort}
@@ -56,6 +56,7 @@ module _ (q : Role → Bool) (low : Sort → Bool) (Q : Uses → Uses → Type 0
   pub quiet_says : {A : Type 0} (f : Phrase A) → is_quiet q low f ≡ true → (a : A) (us vs : Uses) → Says QuietAt f a us vs → Q us vs
   unfolding is_quiet
   quiet_says (sign m) e a us vs y = keeps.none us vs y
+  quiet_says (script_word w) e a us vs y = keeps.none us vs y
   quiet_says (word r) e a us vs y = keeps.one r a us vs e y
   quiet_says number e a us vs y = keeps.none us vs y
   quiet_says nought e a us vs y = keeps.none us vs y

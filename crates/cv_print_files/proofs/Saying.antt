@@ -3,7 +3,7 @@ use Rattle.std.proofs.Common.{◌≡◌, ◌⊎◌, ℕ, zero, suc, Bool, true, 
 use Rattle.cv_syntax.specs.Tree.{Tree}
 use Rattle.cv_parse_notation.specs.declared.sign.Mark.{Mark}
 use Rattle.cv_parse_notation.specs.declared.sign.Sign.{Sign}
-use Rattle.cv_parse_notation.specs.Form.{sign, word, number, nought, find_word, unnamed, other, note, both, may, many, either, made, level, deeper, ◌▸◌, ◌◂◌}
+use Rattle.cv_parse_notation.specs.Form.{sign, script_word, word, number, nought, find_word, unnamed, other, note, both, may, many, either, made, level, deeper, ◌▸◌, ◌◂◌}
 use Rattle.cv_parse_notation.specs.Spells.{Each, IsSort, Kind, Perhaps, Relation, Spells, no_sort, starts}
 use Rattle.cv_parse_notation.specs.Whole.{SpellsWith}
 use Rattle.cv_parse_grammar.specs.declared.role.Role.{Role}
@@ -64,6 +64,7 @@ module _ (P : Sort → Run Tree) where
   module _ (room : Bool) (below : Sort → Relation Role Tree) (low : (s : Sort) → Tells (below s) (P s)) where
     spelled : {A : Type 0} (f : Phrase A) → Tells (Spells heads room below f) (Says P f)
     spelled (sign m) ts a us rest d vs = ap (λ l. l ++ vs) d.uses
+    spelled (script_word w) ts a us rest d vs = ap (λ l. l ++ vs) d.uses
     spelled (word r) ts a us rest d vs = (_, ap (λ l. l ++ vs) d.uses)
     spelled number ts a us rest d vs = ap (λ l. l ++ vs) d.uses
     spelled nought ts a us rest d vs = ap (λ l. l ++ vs) d.uses

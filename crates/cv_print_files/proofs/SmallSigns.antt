@@ -20,6 +20,7 @@ use Rattle.cv_lex.specs.View.{AreTokens}
 use Rattle.cv_lex.proofs.Pieces.{lexeme}
 use Rattle.cv_syntax.specs.Declarations.{Declaration}
 use Rattle.cv_syntax.specs.Tree.{Tree}
+use Rattle.cv_parse_notation.specs.declared.script.ScriptWord.TheVariants.{Plain}
 use Rattle.cv_parse_notation.specs.declared.sign.Mark.{Mark}
 use Rattle.cv_parse_notation.specs.declared.sign.Sign.{Sign}
 use Rattle.cv_parse_notation.specs.declared.sign.Sign.TheVariants as sign
@@ -82,7 +83,7 @@ record Counted (n finds : ℕ) (s : Step) : Type 0 where
 
 counted_word : (n : ℕ) (names : List (List ℕ)) (at : Step) (text : List ℕ) → suc at.counts.finds ≤ n → Counted n at.counts.finds (word_step names at.counts text)
 counted_word n names at text h =
-    elim (bytes_eq text (codes "find")) as (λ b. Counted n at.counts.finds (if b then (record { signs = sign.Find (suc at.counts.finds) ∷ []; names = names; counts = one_find at.counts }) else (record { signs = sign.Word (place_of names text) ∷ []; names = with_name names text; counts = at.counts }))) [
+    elim (bytes_eq text (codes "find")) as (λ b. Counted n at.counts.finds (if b then (record { signs = sign.Find (suc at.counts.finds) ∷ []; names = names; counts = one_find at.counts }) else (record { signs = sign.Word (place_of names text) Plain ∷ []; names = with_name names text; counts = at.counts }))) [
       | true ↦ record { fit = (h, tt); few = omega arith }
       | false ↦ record { fit = (tt, tt); few = omega arith }
     ]
@@ -143,7 +144,7 @@ tokens_of_text bs ts w = tokens_in 0 bs (Ok ts) w ts refl
 -- the signs of a text that isn't too long are small
 
 small_sign : (count n : ℕ) → n < 2 ^ 64 → (s : Sign) → NumberBelow count s → LabelFits n s → IsSmall count s
-small_sign count n h (sign.Word x) b f = lt-ltb x count b
+small_sign count n h (sign.Word x w) b f = lt-ltb x count b
 small_sign count n h (sign.Unnamed x) b f = lt-ltb x count b
 small_sign count n h (sign.Number v) b f = f
 small_sign count n h (sign.Find k) b f = lt-ltb k (2 ^ 64) (omega arith)

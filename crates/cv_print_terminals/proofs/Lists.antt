@@ -160,7 +160,7 @@ channel_is {n = n} c (Node h a b) w = pair a_word free (turned (is_there (down (
 abbrev pub CellAt : ℕ → Tree → Type 0
 CellAt n t = (stop : Kind → Bool) → Spelled n cell (cell_told t) t stop
 
-cell_is : (t : Tree) → IsWritten OneCell t → (n : ℕ) → term_levels t ≤ n → CellAt n t
+pub cell_is : (t : Tree) → IsWritten OneCell t → (n : ℕ) → term_levels t ≤ n → CellAt n t
 unfolding is_phrase term_levels
 cell_is (Node (Leaf zero) a b) w n l stop = absurd (both_ways _ refl (parted OneCell Nil Nil (Leaf zero) a b refl w).here)
 cell_is (Node (Leaf (suc x)) a b) w n l stop =

@@ -10,11 +10,11 @@ use Rattle.cv_print_terminals.proofs.Pieces.{finds_behind, numbered_append}
 pub record Plain (l : List Sign) : Type 0 where
   pub same : (k : ℕ) → numbered k l ≡ l
 
-nothing : Plain []
+pub nothing : Plain []
 unfolding numbered
 nothing = record { same = λ k. refl }
 
-symbol : {m : Mark} → Plain (one m)
+pub symbol : {m : Mark} → Plain (one m)
 unfolding numbered
 symbol = record { same = λ k. refl }
 
@@ -24,7 +24,7 @@ name zero = record { same = λ k. refl }
 name (suc x) = record { same = λ k. refl }
 
 infixr 30 ◌and◌
-◌and◌ : {l m : List Sign} → Plain l → Plain m → Plain (l ++ m)
+pub ◌and◌ : {l m : List Sign} → Plain l → Plain m → Plain (l ++ m)
 ◌and◌ {l = l} {m = m} p q = record { same = λ k. numbered_append k l m ∙ (ap (λ x. x ++ numbered (finds_behind k l) m) (p.same k) ∙ ap (λ x. l ++ x) (q.same (finds_behind k l))) }
 
 mutual
@@ -42,6 +42,6 @@ mutual
   of_term (Node No a b) = symbol
   of_term t = nothing
 
-  of_terms : {l : List Sign} → Plain l → (t : Tree) → Plain (terms_signs l t)
+  pub of_terms : {l : List Sign} → Plain l → (t : Tree) → Plain (terms_signs l t)
   of_terms p Empty = nothing
   of_terms p (Node h a b) = p and of_term a and of_terms symbol b

@@ -18,11 +18,11 @@ use Rattle.cv_print_terminals.proofs.Pieces.{signs_append}
 pub record Shows (ps : List Piece) (l : List Sign) : Type 0 where
   pub same : signs_in ps ≡ l
 
-nothing : Shows [] []
+pub nothing : Shows [] []
 unfolding signs_in
 nothing = record { same = refl }
 
-symbol : {m : Mark} → Shows (shown m) (one m)
+pub symbol : {m : Mark} → Shows (shown m) (one m)
 unfolding signs_in
 symbol = record { same = refl }
 
@@ -41,7 +41,7 @@ type_name (suc T) = name
 
 -- one list behind another
 infixr 30 ◌and◌
-◌and◌ : {ps qs : List Piece} {l m : List Sign} → Shows ps l → Shows qs m → Shows (ps ++ qs) (l ++ m)
+pub ◌and◌ : {ps qs : List Piece} {l m : List Sign} → Shows ps l → Shows qs m → Shows (ps ++ qs) (l ++ m)
 ◌and◌ {ps = ps} {qs = qs} {l = l} p q = record { same = signs_append ps qs ∙ (ap (λ x. x ++ signs_in qs) p.same ∙ ap (λ x. l ++ x) q.same) }
 
 told_before : {ps : List Piece} {l : List Sign} {r : Role} {x : ℕ} → Shows ps l → Shows (Told r x ∷ ps) l
@@ -91,11 +91,11 @@ mutual
   of_term (Node No a b) = symbol
   of_term t = nothing
 
-  of_terms : {ps : List Piece} {l : List Sign} → Shows ps l → (t : Tree) → Shows (terms_told ps t) (terms_signs l t)
+  pub of_terms : {ps : List Piece} {l : List Sign} → Shows ps l → (t : Tree) → Shows (terms_told ps t) (terms_signs l t)
   of_terms p Empty = nothing
   of_terms p (Node h a b) = p and of_term a and of_terms symbol b
 
-of_cell : (t : Tree) → Shows (cell_told t) (term_signs t)
+pub of_cell : (t : Tree) → Shows (cell_told t) (term_signs t)
 unfolding term_told term_signs
 of_cell (Node (Leaf x) a b) = name
 of_cell (Node (Read x) a b) = name and symbol and of_terms nothing a and symbol

@@ -2,6 +2,7 @@
 use Rattle.std.proofs.Common.{◌≡◌, ℕ, suc, ◌+◌, Bool, true, false, List, [], ◌∷◌, ◌++◌, length, Some, None, inl, inr, refl, ap, sym, subst, ◌∙◌, arith}
 use Rattle.std.proofs.lemmas.List.{append_assoc, length-append}
 use Rattle.cv_syntax.specs.Tree.{Tree}
+use Rattle.cv_parse_notation.specs.declared.script.ScriptWord.TheVariants.{Plain}
 use Rattle.cv_parse_notation.specs.declared.sign.Mark.{Mark}
 use Rattle.cv_parse_notation.specs.declared.sign.Mark.TheVariants as mark
 use Rattle.cv_parse_notation.specs.declared.sign.Sign.{Sign}
@@ -39,7 +40,7 @@ pub by_mark : {stop last : Kind → Bool} {m : Mark} {qs : List Piece} → stop 
 unfolding signs_in numbered
 by_mark h = record { blocks = λ k rest e. h }
 
-pub by_word : {stop last : Kind → Bool} {x : ℕ} {qs : List Piece} → stop AWord ≡ false → Blocks stop (Shown (token.Word x) ∷ qs) last
+pub by_word : {stop last : Kind → Bool} {x : ℕ} {qs : List Piece} → stop (AWord Plain) ≡ false → Blocks stop (Shown (token.Word x Plain) ∷ qs) last
 unfolding signs_in numbered
 by_word h = record { blocks = λ k rest e. h }
 
@@ -69,7 +70,7 @@ module _ {n : ℕ} {stop : Kind → Bool} where
 
   pub a_word : {r : Role} {x : ℕ} → Spelled n (word r) (told.word r (suc x)) (suc x) stop
   unfolding signs_in uses_in numbered
-  a_word {r = r} {x = x} = record { spells = λ k rest e. record { tokens = refl; uses = one_more r (suc x) (length rest) } }
+  a_word {r = r} {x = x} = record { spells = λ k rest e. record { script = Plain; tokens = refl; uses = one_more r (suc x) (length rest) } }
 
   pub a_number : {x : ℕ} → Spelled n number (Shown (token.Number x) ∷ []) x stop
   unfolding signs_in uses_in numbered

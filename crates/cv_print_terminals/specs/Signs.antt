@@ -3,6 +3,7 @@ use Rattle.std.specs.Prelude.{ℕ, zero, suc, List, [], ◌∷◌, ◌++◌}
 use Rattle.cv_syntax.specs.Tree.{Tree, Empty, Node, first, second}
 use Rattle.cv_syntax.specs.declared.head.Head.{Head}
 use Rattle.cv_syntax.specs.declared.head.Head.TheVariants.{Stop, Yield, Par, Repl, In, Out, Event, New, Let, If, Find, Leaf, Read, Apply, Eq, And, Or, Not, Yes, No, Binder, Name}
+use Rattle.cv_parse_notation.specs.declared.script.ScriptWord.TheVariants.{Plain}
 use Rattle.cv_parse_notation.specs.declared.sign.Mark.{Mark}
 use Rattle.cv_parse_notation.specs.declared.sign.Mark.TheVariants as mark
 use Rattle.cv_parse_notation.specs.declared.sign.Sign.{Sign}
@@ -17,10 +18,10 @@ xs ⁀ ys = xs ++ ys
 abbrev pub one : Mark → List Sign
 one m = token.Mark m ∷ []
 
--- a name, by its number; that of `bool` is 0
+-- a name, by its number; that of `bool` is 0. A name is no word of a script.
 abbrev pub name_sign : ℕ → Sign
 name_sign zero = token.Mark mark.Bool
-name_sign (suc x) = token.Word (suc x)
+name_sign (suc x) = token.Word (suc x) Plain
 
 abbrev pub named : ℕ → List Sign
 named x = name_sign x ∷ []

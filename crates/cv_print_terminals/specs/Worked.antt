@@ -2,9 +2,15 @@
 use Rattle.std.specs.Prelude.{ℕ, List, [], ◌∷◌, ◌++◌}
 use Rattle.cv_syntax.specs.Tree.{Tree, Empty, Node, binders, chain, lone, names}
 use Rattle.cv_syntax.specs.declared.head.Head.TheVariants.{Stop, Yield, Repl, In, Out, Event, If, Find, Branch, Leaf, Read, Eq, Cons}
+use Rattle.cv_parse_notation.specs.declared.script.ScriptWord.TheVariants.{Plain}
 use Rattle.cv_parse_notation.specs.declared.sign.Mark.TheVariants as mark
 use Rattle.cv_parse_notation.specs.declared.sign.Sign.{Sign}
-use Rattle.cv_parse_notation.specs.declared.sign.Sign.TheVariants.{Word, Number, Find as FindWord, Mark}
+use Rattle.cv_parse_notation.specs.declared.sign.Sign.TheVariants as token
+use Rattle.cv_parse_notation.specs.declared.sign.Sign.TheVariants.{Number, Find as FindWord, Mark}
+
+-- a name that is no word of a script
+abbrev Word : ℕ → Sign
+Word x = token.Word x Plain
 
 -- x[i]
 abbrev pub at : ℕ → ℕ → Tree
