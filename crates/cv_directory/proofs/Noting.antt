@@ -1,92 +1,144 @@
--- The tables of a directory, as they are filled.
-use Rattle.std.proofs.Common.{◌≡◌, ℕ, ◌+◌, min, Bool, true, false, cond, List, [], refl, ap, sym, ◌∙◌, nat_eq, eqb-true, Option, Some, None, is_some, Result, Ok, Err, OnOk}
+-- The entries of a directory, as they are written.
+use Rattle.std.proofs.Common.{◌≡◌, ℕ, zero, suc, ◌+◌, ◌<◌, min, Bool, true, false, cond, ◌||◌, List, [], ◌∷◌, ◌++◌, length, get_or, set, refl, ap, sym, ◌∙◌, eqb-true, eq-eqb, Option, Some, None, Result, Ok, Err, OnOk}
 use Rattle.std.specs.declared.alloc.AllocError.{AllocError}
-use Rattle.std.specs.Prelude.{◌==◌, option_map, unwrap_or}
-use Rattle.std.specs.HashMap.{Updates, get}
+use Rattle.std.specs.Prelude.{◌==◌, option_map}
 use Rattle.std.proofs.Math.Path.{fun_ext}
+use Rattle.std.proofs.lemmas.List.{get_or_default, get_or-set_other, get_or-set_same}
 use Rattle.cv_pool.specs.KindTree.{KindTree}
 use Rattle.cv_directory.specs.declared.directory.Directory.{Directory}
+use Rattle.cv_directory.specs.declared.site.Entry.{Entry}
 use Rattle.cv_directory.specs.declared.site.Site.{Site}
-use Rattle.cv_directory.specs.Definitions.{Definition, Entries, first_in, most, variable_by}
-use Rattle.cv_directory.specs.Sites.{SitesView, Variable, first_index, first_of, first_site, sites_of}
-use Rattle.cv_directory.specs.Tables.{Map, count_of, counted, definition_of, entries_in, firsts, no_entries, noted, numbers, seen, seen_site}
-use Rattle.cv_directory.specs.Definitions.{definitions_of, entries_of}
+use Rattle.cv_directory.specs.Definitions.{Definition, Entries, entries_of, most, variable_by}
+use Rattle.cv_directory.specs.Sites.{first_index, first_of, first_site, is_untyped_here, is_untyped_in, sites_of}
+use Rattle.cv_directory.specs.Tables.{counted, counts, definition_of, entries_in, entry_at, firsts, indices, no_entries, noted, nothing, others, seen, seen_site, untyped_of}
 use Rattle.cv_directory.proofs.Entries.{first-nothing, first-site}
-use Rattle.cv_syntax.specs.Tree.{Tree}
+use Rattle.cv_syntax.specs.declared.head.Head.{Head}
+use Rattle.cv_syntax.specs.declared.head.Head.TheVariants.{Key, Call}
+use Rattle.cv_syntax.specs.Tree.{Tree, Empty, Node}
 
-module _ {A : Type 0} where
-  -- a name that is new
-  pub noted-new : (f g : ℕ → Option A) (x : ℕ) (a : A) → ((y : ℕ) → g y ≡ cond (x == y) (Some a) (f y)) → is_some (f x) ≡ false → g ≡ noted f x a
-  noted-new f g x a u n = fun_ext (λ y. u y ∙ cases y (x == y) refl)
+-- an entry for a name further on
+pub entry-added : (es : List Entry) (y : ℕ) → entry_at (es ++ nothing ∷ []) y ≡ entry_at es y
+entry-added [] zero = refl
+entry-added [] (suc y) = refl
+entry-added (e ∷ es) zero = refl
+entry-added (e ∷ es) (suc y) = entry-added es y
+
+-- a table that is written, for one name
+module _ (old mid : List Entry) (x : ℕ) (e : Entry) (l : x < length mid) (same : (y : ℕ) → entry_at mid y ≡ entry_at old y) where
+  here : (y : ℕ) → (x == y) ≡ true → entry_at (set mid x e) y ≡ e
+  here y h = ap (entry_at (set mid x e)) (sym (eqb-true x y h)) ∙ get_or-set_same mid x e nothing l
+
+  there : (y : ℕ) → (x == y) ≡ false → entry_at (set mid x e) y ≡ entry_at old y
+  there y h = get_or-set_other mid x y e nothing (λ i. let j = eq-eqb x y (sym i) in absurd (cc)) ∙ same y
+
+  -- something is noted
+  pub note-written : {A : Type 0} (f : Entry → Option A) (a : A) → f e ≡ first_of (f (entry_at mid x)) (Some a) → (λ y. f (entry_at (set mid x e) y)) ≡ noted (λ y. f (entry_at old y)) x a
+  note-written f a h = fun_ext (λ y. cases y (x == y) refl)
     where
-      none : (o : Option A) → is_some o ≡ false → first_of o (Some a) ≡ Some a
-      none None e = refl
-      none (Some b) e = absurd (cc)
+      cases : (y : ℕ) (c : Bool) → (x == y) ≡ c → f (entry_at (set mid x e) y) ≡ first_of (f (entry_at old y)) (cond c (Some a) None)
+      cases y true g = ap f (here y g) ∙ (h ∙ (ap (λ i. first_of (f i) (Some a)) (same x) ∙ ap (λ z. first_of (f (entry_at old z)) (Some a)) (eqb-true x y g)))
+      cases y false g = ap f (there y g) ∙ sym (first-nothing (f (entry_at old y)))
 
-      cases : (y : ℕ) (c : Bool) → (x == y) ≡ c → cond c (Some a) (f y) ≡ first_of (f y) (cond c (Some a) None)
-      cases y true e = sym (ap (λ z. first_of (f z) (Some a)) (sym (eqb-true x y e)) ∙ none (f x) n)
-      cases y false e = sym (first-nothing (f y))
-
-  -- a name that is there
-  pub noted-old : (f : ℕ → Option A) (x : ℕ) (a : A) → is_some (f x) ≡ true → f ≡ noted f x a
-  noted-old f x a n = fun_ext (λ y. cases y (x == y) refl)
+  -- nothing is noted
+  pub same-written : {A : Type 0} (f : Entry → A) → f e ≡ f (entry_at mid x) → ◌≡◌ {A = ℕ → A} (λ y. f (entry_at (set mid x e) y)) (λ y. f (entry_at old y))
+  same-written f h = fun_ext (λ y. cases y (x == y) refl)
     where
-      keeps : (o : Option A) → is_some o ≡ true → o ≡ first_of o (Some a)
-      keeps None e = absurd (cc)
-      keeps (Some b) e = refl
+      cases : (y : ℕ) (c : Bool) → (x == y) ≡ c → f (entry_at (set mid x e) y) ≡ f (entry_at old y)
+      cases y true g = ap f (here y g) ∙ (h ∙ (ap f (same x) ∙ ap (λ z. f (entry_at old z)) (eqb-true x y g)))
+      cases y false g = ap f (there y g)
 
-      cases : (y : ℕ) (c : Bool) → (x == y) ≡ c → f y ≡ first_of (f y) (cond c (Some a) None)
-      cases y true e = ap f (sym (eqb-true x y e)) ∙ (keeps (f x) n ∙ ap (λ z. first_of (f z) (Some a)) (eqb-true x y e))
-      cases y false e = sym (first-nothing (f y))
+  pub count-written : e.count ≡ min ((entry_at mid x).count + 1) most → counts (set mid x e) ≡ counted (counts old) x
+  count-written h = fun_ext (λ y. cases y (x == y) refl)
+    where
+      cases : (y : ℕ) (c : Bool) → (x == y) ≡ c → counts (set mid x e) y ≡ cond c (min (counts old y + 1) most) (counts old y)
+      cases y true g = ap (λ (i : Entry). i.count) (here y g) ∙ (h ∙ (ap (λ (i : Entry). min (i.count + 1) most) (same x) ∙ ap (λ z. min (counts old z + 1) most) (eqb-true x y g)))
+      cases y false g = ap (λ (i : Entry). i.count) (there y g)
 
-map-some : {A B : Type 0} (v : A → B) (o : Option A) → is_some (option_map v o) ≡ is_some o
-map-some v None = refl
-map-some v (Some a) = refl
+pub entries-are : (trees : List KindTree) (d : Directory) (e : Entries) → firsts trees d.entries.items ≡ e.first → counts d.entries.items ≡ e.count → others d.entries.items ≡ e.other → indices d.entries.items ≡ e.index → entries_in trees d ≡ e
+entries-are trees d e f c o j = λ k. record { first = f k; count = c k; other = o k; index = j k }
 
-pub first-new : (trees : List KindTree) (m n : Map Site) (x : ℕ) (s : Site) → Updates nat_eq m n x (Some s) → is_some (get nat_eq m x) ≡ false → firsts trees n ≡ noted (firsts trees m) x (definition_of trees s)
-first-new trees m n x s u e = noted-new (firsts trees m) (firsts trees n) x (definition_of trees s) (λ y. ap (option_map (definition_of trees)) (u.0 y) ∙ cases (x == y) (get nat_eq m y)) (map-some (definition_of trees) (get nat_eq m x) ∙ e)
+-- a table with one definition more
+pub definition-noted : (trees : List KindTree) (m n : Directory) (mid : List Entry) (x : ℕ) (e f : Entry) (d : Definition) (b : Bool) → x < length mid → ((y : ℕ) → entry_at mid y ≡ entry_at m.entries.items y)
+    → n.entries.items ≡ set mid x e → f ≡ get_or mid x f
+    → option_map (definition_of trees) e.site ≡ first_of (option_map (definition_of trees) f.site) (Some d) → e.count ≡ min (f.count + 1) most → e.other ≡ cond b (first_of f.other (Some d.place)) f.other → e.index ≡ f.index
+    → (let r : Entries = record { first = noted (entries_in trees m).first x d; count = counted (entries_in trees m).count x; other = cond b (noted (entries_in trees m).other x d.place) (entries_in trees m).other; index = (entries_in trees m).index } in entries_in trees n ≡ r)
+definition-noted trees m n mid x e f d b l same w g h1 h2 h3 h4 =
+    let at : f ≡ entry_at mid x = g ∙ get_or_default mid x f nothing l in
+    entries-are trees n _
+    (ap (firsts trees) w ∙ note-written m.entries.items mid x e l same (λ (i : Entry). option_map (definition_of trees) i.site) d (h1 ∙ ap (λ (i : Entry). first_of (option_map (definition_of trees) i.site) (Some d)) at))
+    (ap counts w ∙ count-written m.entries.items mid x e l same (h2 ∙ ap (λ (i : Entry). min (i.count + 1) most) at))
+    (ap others w ∙ other b (h3 ∙ ap (λ (i : Entry). cond b (first_of i.other (Some d.place)) i.other) at))
+    (ap indices w ∙ same-written m.entries.items mid x e l same (λ (i : Entry). i.index) (h4 ∙ ap (λ (i : Entry). i.index) at))
   where
-    cases : (c : Bool) (o : Option Site) → option_map (definition_of trees) (cond c (Some s) o) ≡ cond c (Some (definition_of trees s)) (option_map (definition_of trees) o)
-    cases true o = refl
-    cases false o = refl
+    other : (b : Bool) → e.other ≡ cond b (first_of (entry_at mid x).other (Some d.place)) (entry_at mid x).other → others (set mid x e) ≡ cond b (noted (others m.entries.items) x d.place) (others m.entries.items)
+    other true h = note-written m.entries.items mid x e l same (λ (i : Entry). i.other) d.place h
+    other false h = same-written m.entries.items mid x e l same (λ (i : Entry). i.other) h
 
-pub first-old : (trees : List KindTree) (m : Map Site) (x : ℕ) (d : Definition) → is_some (get nat_eq m x) ≡ true → firsts trees m ≡ noted (firsts trees m) x d
-first-old trees m x d e = noted-old (firsts trees m) x d (map-some (definition_of trees) (get nat_eq m x) ∙ e)
-
-pub count-more : (m n : Map ℕ) (x now : ℕ) → Updates nat_eq m n x (Some now) → now ≡ min (count_of m x + 1) most → count_of n ≡ counted (count_of m) x
-count-more m n x now u e = fun_ext (λ y. ap (λ o. unwrap_or o 0) (u.0 y) ∙ cases y (x == y) refl)
-  where
-    cases : (y : ℕ) (c : Bool) → (x == y) ≡ c → unwrap_or (cond c (Some now) (get nat_eq m y)) 0 ≡ cond c (min (count_of m y + 1) most) (count_of m y)
-    cases y true h = e ∙ ap (λ z. min (count_of m z + 1) most) (eqb-true x y h)
-    cases y false h = refl
+-- a table with one index more
+pub index-noted : (trees : List KindTree) (m n : Directory) (mid : List Entry) (x : ℕ) (e f : Entry) (p : ℕ) → x < length mid → ((y : ℕ) → entry_at mid y ≡ entry_at m.entries.items y)
+    → n.entries.items ≡ set mid x e → f ≡ get_or mid x f
+    → e.site ≡ f.site → e.count ≡ f.count → e.other ≡ f.other → e.index ≡ first_of f.index (Some p)
+    → (let r : Entries = record (entries_in trees m) { index = noted (entries_in trees m).index x p } in entries_in trees n ≡ r)
+index-noted trees m n mid x e f p l same w g h1 h2 h3 h4 =
+    let at : f ≡ entry_at mid x = g ∙ get_or_default mid x f nothing l in
+    entries-are trees n _
+    (ap (firsts trees) w ∙ same-written m.entries.items mid x e l same (λ (i : Entry). option_map (definition_of trees) i.site) (ap (option_map (definition_of trees)) (h1 ∙ ap (λ (i : Entry). i.site) at)))
+    (ap counts w ∙ same-written m.entries.items mid x e l same (λ (i : Entry). i.count) (h2 ∙ ap (λ (i : Entry). i.count) at))
+    (ap others w ∙ same-written m.entries.items mid x e l same (λ (i : Entry). i.other) (h3 ∙ ap (λ (i : Entry). i.other) at))
+    (ap indices w ∙ note-written m.entries.items mid x e l same (λ (i : Entry). i.index) p (h4 ∙ ap (λ (i : Entry). first_of i.index (Some p)) at))
 
 -- what is known where it went well
 pub on-ok : {P Q : Type 0} (r : Result (Unit {0}) AllocError) → (P → Q) → OnOk r P → OnOk r Q
 on-ok (Ok u) f h = f h
 on-ok (Err e) f h = h
 
-pub entries-are : (trees : List KindTree) (d : Directory) (e : Entries) → firsts trees d.variables ≡ e.first → count_of d.counts ≡ e.count → numbers d.others ≡ e.other → numbers d.indices ≡ e.index → entries_in trees d ≡ e
-entries-are trees d e f c o j = λ k. record { first = f k; count = c k; other = o k; index = j k }
-
--- empty tables
-pub nothing-yet : (trees : List KindTree) (d : Directory) → d.variables.entries ≡ [] → d.counts.entries ≡ [] → d.others.entries ≡ [] → d.indices.entries ≡ [] → entries_in trees d ≡ no_entries
-nothing-yet trees d v c o i = λ k. record {
-  first = λ x. option_map (definition_of trees) (Rattle.std.specs.Map.lookup (nat_eq x) (v k));
-  count = λ x. unwrap_or (Rattle.std.specs.Map.lookup (nat_eq x) (c k)) 0;
-  other = λ x. Rattle.std.specs.Map.lookup (nat_eq x) (o k);
-  index = λ x. Rattle.std.specs.Map.lookup (nat_eq x) (i k);
+-- an empty table
+pub nothing-yet : (trees : List KindTree) (d : Directory) → d.entries.items ≡ [] → entries_in trees d ≡ no_entries
+nothing-yet trees d e = λ k. record {
+  first = λ x. firsts trees (e k) x;
+  count = λ x. counts (e k) x;
+  other = λ x. others (e k) x;
+  index = λ x. indices (e k) x;
 }
 
 -- what a directory says of variables and indices alone
-pub seen-sites : (trees : List KindTree) (d : Directory) (large : ℕ → Bool) (game : Tree) → entries_in trees d ≡ entries_of large game → seen d ≡ sites_of game
-seen-sites trees d large game e = λ k. record { variable = fun_ext variable k; index = fun_ext index k }
+pub seen-sites : (trees : List KindTree) (d : Directory) (large : ℕ → Bool) (game : Tree) → entries_in trees d ≡ entries_of large game → ((x : ℕ) → untyped_of d.untyped x ≡ is_untyped_in x game) → seen d ≡ sites_of game
+seen-sites trees d large game e u = λ k. record { variable = fun_ext variable k; index = fun_ext index k; untyped = fun_ext u k }
   where
     same : (o : Option Site) → option_map seen_site o ≡ option_map variable_by (option_map (definition_of trees) o)
     same None = refl
     same (Some s) = refl
 
     variable : (x : ℕ) → (seen d).variable x ≡ first_site x [] game
-    variable x = same (get nat_eq d.variables x) ∙ (ap (λ (r : Entries). option_map variable_by (r.first x)) e ∙ first-site x [] 0 game)
+    variable x = same (entry_at d.entries.items x).site ∙ (ap (λ (r : Entries). option_map variable_by (r.first x)) e ∙ first-site x [] 0 game)
 
     index : (i : ℕ) → (seen d).index i ≡ first_index i game
     index i = ap (λ (r : Entries). r.index i) e
+
+-- keys and results of calls
+
+or-assoc : (a b c : Bool) → ((a || b) || c) ≡ (a || (b || c))
+or-assoc true b c = refl
+or-assoc false b c = refl
+
+or-false : (a : Bool) → a ≡ (a || false)
+or-false true = refl
+or-false false = refl
+
+pub no-untyped : (x : ℕ) (h : Head) (b : Bool) → ((y : ℕ) → h ≡ Key y → ⊥) → ((y l : ℕ) → h ≡ Call y l → ⊥) → b ≡ (b || is_untyped_here x h)
+no-untyped x (Key y) b k c = absurd (k y refl)
+no-untyped x (Call y l) b k c = absurd (c y l refl)
+no-untyped x h b k c = or-false b
+
+-- one node more
+pub untyped-step : (x : ℕ) (t : Tree) (h : Head) (a b : Tree) (u v w : Bool) → t ≡ Node h a b → v ≡ (u || is_untyped_here x h) → w ≡ (v || is_untyped_in x a) → (w || is_untyped_in x b) ≡ (u || is_untyped_in x t)
+unfolding is_untyped_in
+untyped-step x t h a b u v w e f g =
+    ap (λ c. c || is_untyped_in x b) (g ∙ ap (λ c. c || is_untyped_in x a) f)
+    ∙ (or-assoc (u || is_untyped_here x h) (is_untyped_in x a) (is_untyped_in x b)
+    ∙ (or-assoc u (is_untyped_here x h) (is_untyped_in x a || is_untyped_in x b)
+    ∙ ap (λ r. u || is_untyped_in x r) (sym e)))
+
+pub untyped-end : (x : ℕ) (t : Tree) (u : Bool) → t ≡ Empty → u ≡ (u || is_untyped_in x t)
+unfolding is_untyped_in
+untyped-end x t u e = or-false u ∙ ap (λ r. u || is_untyped_in x r) (sym e)

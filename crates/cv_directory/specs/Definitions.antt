@@ -9,7 +9,7 @@ use Rattle.cv_syntax.specs.declared.head.Head.TheVariants.{Repl, In, New, Let, B
 use Rattle.cv_syntax.specs.Tree.{Tree, Empty, Node, second, first_place, second_place}
 use Rattle.cv_directory.specs.declared.sort.Sort.{Sort}
 use Rattle.cv_directory.specs.declared.sort.Sort.TheVariants.{OfType, BelowParameter}
-use Rattle.cv_directory.specs.Sites.{Variable, first_of, first_index}
+use Rattle.cv_directory.specs.Sites.{Variable, first_index}
 
 -- A definition: the replications above it by index and parameter, outermost first, the sort of the variable's values,
 -- the place of the node that defines it, and the tree there.

@@ -1,7 +1,7 @@
 -- The sites of a game's variables, and the parameters of its indices.
-use Rattle.std.specs.Prelude.{ℕ, Bool, true, false, ◌==◌, if◌then◌else◌, List, [], ◌∷◌, ◌++◌, Option, Some, None}
+use Rattle.std.specs.Prelude.{ℕ, Bool, true, false, ◌||◌, ◌==◌, if◌then◌else◌, List, [], ◌∷◌, ◌++◌, Option, Some, None}
 use Rattle.cv_syntax.specs.declared.head.Head.{Head}
-use Rattle.cv_syntax.specs.declared.head.Head.TheVariants.{Repl, In, New, Let, Branch, Binder}
+use Rattle.cv_syntax.specs.declared.head.Head.TheVariants.{Repl, In, New, Let, Branch, Binder, Key, Call}
 use Rattle.cv_syntax.specs.Tree.{Tree, Empty, Node, second}
 pub use Rattle.cv_first_fault.specs.Walk.{first_of}
 use Rattle.cv_directory.specs.declared.sort.Sort.{Sort}
@@ -55,13 +55,27 @@ unfoldable pub first_index : ℕ → Tree → Option ℕ
 first_index i Empty = None
 first_index i (Node h a b) = first_of (index_here i h) (first_of (first_index i a) (first_index i b))
 
+-- the node defines the variable with no type: as a key, or as the result of a call
+abbrev pub is_untyped_here : ℕ → Head → Bool
+is_untyped_here x (Key y) = y == x
+is_untyped_here x (Call y l) = y == x
+is_untyped_here x h = false
+
+-- so does a node of the tree
+unfoldable pub is_untyped_in : ℕ → Tree → Bool
+is_untyped_in x Empty = false
+is_untyped_in x (Node h a b) = is_untyped_here x h || (is_untyped_in x a || is_untyped_in x b)
+
 -- what a game's definitions say of names
 pub record SitesView : Type 0 where
   pub variable : ℕ → Option Variable
   pub index : ℕ → Option ℕ
-
-abbrev pub no_sites : SitesView
-no_sites = record { variable = λ x. None; index = λ i. None }
+  -- which are variables with no type
+  pub untyped : ℕ → Bool
 
 abbrev pub sites_of : Tree → SitesView
-sites_of t = record { variable = λ x. first_site x [] t; index = λ i. first_index i t }
+sites_of t = record {
+  variable = λ x. first_site x [] t;
+  index = λ i. first_index i t;
+  untyped = λ x. is_untyped_in x t;
+}

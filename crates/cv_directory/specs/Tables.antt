@@ -1,5 +1,5 @@
 -- What the tables of a directory hold.
-use Rattle.std.specs.Prelude.{ℕ, zero, suc, ◌+◌, min, nat_eq, Bool, ◌==◌, if◌then◌else◌, List, [], ◌∷◌, length, map, unwrap_or, option_map, Option, Some, None}
+use Rattle.std.specs.Prelude.{ℕ, zero, suc, ◌+◌, min, nat_eq, Bool, ◌==◌, if◌then◌else◌, List, [], ◌∷◌, length, map, slice_index_or, is_some, option_map, Option, Some, None}
 use Rattle.std.specs.declared.hash.FoldHasher.{FoldHasher}
 use Rattle.std.specs.declared.hash.BuildHasherDefault.{BuildHasherDefault}
 use Rattle.std.specs.HashMap.{get, HashMap}
@@ -7,6 +7,7 @@ use Rattle.cv_pool.specs.KindTree.{KindTree}
 use Rattle.cv_pool.specs.declared.node.NodeId.{NodeId}
 use Rattle.cv_syntax.specs.Tree.{tree_at}
 use Rattle.cv_directory.specs.declared.directory.Directory.{Directory}
+use Rattle.cv_directory.specs.declared.site.Entry.{Entry}
 use Rattle.cv_directory.specs.declared.site.Site.{Site}
 use Rattle.cv_directory.specs.declared.sort.Sort.{Sort}
 use Rattle.cv_directory.specs.Definitions.{Definition, Entries, definition_at, first_in, first_other, most}
@@ -21,14 +22,29 @@ definition_in trees rs p node S = definition_at rs p (tree_at trees (Some node))
 abbrev pub definition_of : List KindTree → Site → Definition
 definition_of trees s = definition_in trees s.replications.items s.place s.node s.sort
 
-abbrev pub firsts : List KindTree → Map Site → ℕ → Option Definition
-firsts trees m x = option_map (definition_of trees) (get nat_eq m x)
+-- what a table has of a name
 
-abbrev pub numbers : Map ℕ → ℕ → Option ℕ
-numbers m x = get nat_eq m x
+abbrev pub nothing : Entry
+nothing = record { site = None; count = 0; other = None; index = None }
 
-abbrev pub count_of : Map ℕ → ℕ → ℕ
-count_of m x = unwrap_or (get nat_eq m x) 0
+abbrev pub entry_at : List Entry → ℕ → Entry
+entry_at es x = slice_index_or es x nothing
+
+abbrev pub firsts : List KindTree → List Entry → ℕ → Option Definition
+firsts trees es x = option_map (definition_of trees) (entry_at es x).site
+
+abbrev pub counts : List Entry → ℕ → ℕ
+counts es x = (entry_at es x).count
+
+abbrev pub others : List Entry → ℕ → Option ℕ
+others es x = (entry_at es x).other
+
+abbrev pub indices : List Entry → ℕ → Option ℕ
+indices es i = (entry_at es i).index
+
+-- the variables with no type
+abbrev pub untyped_of : Map Bool → ℕ → Bool
+untyped_of m x = is_some (get nat_eq m x)
 
 -- something more of a name, unless there is something
 abbrev pub noted : {A : Type 0} → (ℕ → Option A) → ℕ → A → ℕ → Option A
@@ -40,10 +56,10 @@ counted f x y = if x == y then min (f y + 1) most else f y
 -- what a directory says, in a pool with these trees
 abbrev pub entries_in : List KindTree → Directory → Entries
 entries_in trees d = record {
-  first = firsts trees d.variables;
-  count = count_of d.counts;
-  other = numbers d.others;
-  index = numbers d.indices;
+  first = firsts trees d.entries.items;
+  count = counts d.entries.items;
+  other = others d.entries.items;
+  index = indices d.entries.items;
 }
 
 -- of variables and indices alone, without what stands in the pool
@@ -51,7 +67,11 @@ abbrev pub seen_site : Site → Variable
 seen_site s = record { parameters = map (λ (r : ℕ × ℕ). r.1) s.replications.items; sort = s.sort }
 
 abbrev pub seen : Directory → SitesView
-seen d = record { variable = λ x. option_map seen_site (get nat_eq d.variables x); index = numbers d.indices }
+seen d = record {
+  variable = λ x. option_map seen_site (entry_at d.entries.items x).site;
+  index = indices d.entries.items;
+  untyped = untyped_of d.untyped;
+}
 
 -- as they are gathered
 

@@ -13,3 +13,16 @@ pub struct Site {
     /// The node that defines it.
     pub node: NodeId,
 }
+
+/// What a directory has of a name.
+#[derive(Drop)]
+pub struct Entry {
+    /// The first definition of the variable.
+    pub site: Option<Site>,
+    /// How many definitions there are, up to the greatest number of 32 bits.
+    pub count: u32,
+    /// The place of the first definition that is no `new` of a large type.
+    pub other: Option<u32>,
+    /// The parameter of the index.
+    pub index: Option<u32>,
+}

@@ -1,47 +1,56 @@
-ghost use Rattle.std.specs.Prelude.{◌≡◌, ◌+◌, min, if◌then◌else◌, List, OnOk};
+ghost use Rattle.std.specs.Prelude.{◌≡◌, ◌+◌, ◌<◌, min, if◌then◌else◌, ℕ, List, Some, length, option_map, OnOk};
 ghost use Rattle.cv_pool.specs.KindTree.{KindTree};
 ghost use Rattle.cv_directory.specs.Definitions.{most};
-ghost use Rattle.cv_directory.specs.Tables.{count_of, counted, definition_in, firsts, noted, numbers};
+ghost use Rattle.cv_directory.specs.Sites.{first_of};
+ghost use Rattle.cv_directory.specs.Tables.{definition_in, definition_of, entry_at, nothing};
 
-use crate::site::Site;
+use crate::site::{Entry, Site};
 use crate::sort::Sort;
 use cv_syntax::NodeId;
 use std::alloc::{AllocError, Global};
-use std::collections::HashMap;
 
-/// Notes a number of a name, unless the name has one.
-pub fn note_number(table: &mut HashMap<u32, u32>, x: u32, n: u32) -> Result<(), AllocError>
-    ensures { OnOk result (numbers table.new ≡ noted (numbers table.old) x n) }
+/// Nothing of a name.
+fn nothing() -> Entry
+    ensures { result ≡ nothing }
 {
-    if !table.contains_key(&x) {
-        table.insert(x, n)?;
+    Entry {
+        site: None,
+        count: 0,
+        other: None,
+        index: None,
+    }
+}
+
+/// Makes the table reach a name.
+pub fn reach(entries: &mut Vec<Entry>, x: u32) -> Result<(), AllocError>
+    ensures reached { OnOk result (x < length entries.new.items) }
+    ensures same { OnOk result ((y : ℕ)
+        → entry_at entries.new.items y ≡ entry_at entries.old.items y) }
+{
+    'names: while entries.len() <= x as usize {
+        entries.push(nothing())?;
     }
     Ok(())
 }
 
-/// Notes the place of a definition that is no `new` of a large type, unless the variable has one.
-pub fn note_other(
-    others: &mut HashMap<u32, u32>,
-    is_other: bool,
-    x: u32,
-    place: u32,
-) -> Result<(), AllocError>
-    ensures { OnOk result (numbers others.new
-        ≡ if is_other then noted (numbers others.old) x place else numbers others.old) }
+/// A number, unless there is one.
+fn or_number(first: Option<u32>, n: u32) -> Option<u32>
+    ensures { result ≡ first_of first (Some n) }
+{
+    match first {
+        Some(m) => Some(m),
+        None => Some(n),
+    }
+}
+
+/// The place of a definition that is no `new` of a large type, unless there is one.
+fn or_other(first: Option<u32>, is_other: bool, place: u32) -> Option<u32>
+    ensures { result ≡ if is_other then first_of first (Some place) else first }
 {
     if is_other {
-        return note_number(others, x, place);
-    }
-    Ok(())
-}
-
-/// How often a name has been counted.
-pub fn count_in(counts: &HashMap<u32, u32>, x: u32) -> u32
-    ensures { result ≡ count_of counts.now x }
-{
-    match counts.get(&x) {
-        Some(n) => *n,
-        None => 0,
+        or_number(first, place)
+    } else {
+        first
     }
 }
 
@@ -52,38 +61,46 @@ fn one_more(n: u32) -> u32
     if n < u32::MAX { n + 1 } else { n }
 }
 
-/// Counts a name once more.
-pub fn note_count(counts: &mut HashMap<u32, u32>, x: u32) -> Result<(), AllocError>
-    ensures { OnOk result (count_of counts.new ≡ counted (count_of counts.old) x) }
+/// Notes the parameter of an index, unless there is one.
+pub fn note_parameter(entry: &mut Entry, n: u32)
+    ensures site { entry.new.site ≡ entry.old.site }
+    ensures count { entry.new.count ≡ entry.old.count }
+    ensures other { entry.new.other ≡ entry.old.other }
+    ensures index { entry.new.index ≡ first_of entry.old.index (Some n) }
 {
-    let now = one_more(count_in(counts, x));
-    counts.insert(x, now)?;
-    Ok(())
+    entry.index = or_number(entry.index, n);
 }
 
-/// Notes a definition, unless the variable has one.
-pub fn note_first(
-    variables: &mut HashMap<u32, Site>,
+/// Notes a definition: the first one, one more, and the first that is no `new` of a large type.
+pub fn note_definition(
+    entry: &mut Entry,
     alloc: Global,
     path: &[(u32, u32)],
     place: u32,
     node: NodeId,
-    x: u32,
+    is_other: bool,
     sort: Sort,
 ) -> Result<(), AllocError>
-    ensures { (trees : List KindTree) →
-        OnOk result (firsts trees variables.new ≡ noted (firsts trees variables.old) x (definition_in trees path.now place node sort)) }
+    ensures first { (trees : List KindTree) → OnOk result
+        (option_map (definition_of trees) entry.new.site
+        ≡ first_of (option_map (definition_of trees) entry.old.site)
+        (Some (definition_in trees path.now place node sort))) }
+    ensures count { OnOk result (entry.new.count ≡ min (entry.old.count + 1) most) }
+    ensures other { OnOk result (entry.new.other
+        ≡ if is_other then first_of entry.old.other (Some place) else entry.old.other) }
+    ensures index { OnOk result (entry.new.index ≡ entry.old.index) }
 {
-    if variables.contains_key(&x) {
+    entry.count = one_more(entry.count);
+    entry.other = or_other(entry.other, is_other, place);
+    if entry.site.is_some() {
         return Ok(());
     }
     let replications = Vec::from_slice(alloc, path)?;
-    let site = Site {
+    entry.site = Some(Site {
         replications,
         sort,
         place,
         node,
-    };
-    variables.insert(x, site)?;
+    });
     Ok(())
 }

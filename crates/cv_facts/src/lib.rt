@@ -17,4 +17,4 @@ pub use laws::{
     sites_stand_in_the_game,
 };
 pub use processes::behind;
-pub use sites::site;
+pub use sites::{is_definition, site};

@@ -49,7 +49,7 @@ pub(crate) fn is_bound(pool: &Pool, list: Option<NodeId>, x: u32) -> bool
 }
 
 /// Whether a construct defines a variable.
-fn is_definition(pool: &Pool, node: Opened, x: u32) -> bool
+pub fn is_definition(pool: &Pool, node: Opened, x: u32) -> bool
     requires { ChildBelow (length pool.now.trees) node.first }
     ensures { result ≡ made_by node.head (tree_at pool.now.trees node.first) (Variable x) }
 {

@@ -13,8 +13,8 @@ use Rattle.cv_meaning.specs.Interpretation.{is_constant_of}
 use Rattle.cv_directory.specs.Sites.{SitesView, sites_of}
 use Rattle.cv_directory.specs.Tables.{seen}
 use Rattle.cv_scope.specs.declared.names.NameKinds.{NameKinds}
-use Rattle.cv_scope.specs.Held.{constant_by, has_constant, is_here, names_held, untyped_held}
-use Rattle.cv_scope.specs.Scope.{is_untyped_here, is_untyped_in, names_of}
+use Rattle.cv_scope.specs.Held.{constant_by, has_constant, is_here, names_held}
+use Rattle.cv_scope.specs.Scope.{names_of}
 
 or-assoc : (a b c : Bool) → ((a || b) || c) ≡ (a || (b || c))
 or-assoc true b c = refl
@@ -43,34 +43,10 @@ pub has-is : (trees : List KindTree) (ds : List Decl) (x : ℕ) → has_constant
 has-is trees [] x = refl
 has-is trees (d ∷ ds) x = ap (λ b. is_here (constant_by (declared trees d)) x || b) (has-is trees ds x) ∙ sym (one-is (declared trees d) (declarations trees ds) x)
 
--- keys and results of calls
-
-or-false : (a : Bool) → a ≡ (a || false)
-or-false true = refl
-or-false false = refl
-
-pub no-untyped : (x : ℕ) (h : Head) (b : Bool) → ((y : ℕ) → h ≡ Key y → ⊥) → ((y l : ℕ) → h ≡ Call y l → ⊥) → b ≡ (b || is_untyped_here x h)
-no-untyped x (Key y) b k c = absurd (k y refl)
-no-untyped x (Call y l) b k c = absurd (c y l refl)
-no-untyped x h b k c = or-false b
-
--- one node more
-pub untyped-step : (x : ℕ) (t : Tree) (h : Head) (a b : Tree) (u v w : Bool) → t ≡ Node h a b → v ≡ (u || is_untyped_here x h) → w ≡ (v || is_untyped_in x a) → (w || is_untyped_in x b) ≡ (u || is_untyped_in x t)
-unfolding is_untyped_in
-untyped-step x t h a b u v w e f g =
-    ap (λ c. c || is_untyped_in x b) (g ∙ ap (λ c. c || is_untyped_in x a) f)
-    ∙ (or-assoc (u || is_untyped_here x h) (is_untyped_in x a) (is_untyped_in x b)
-    ∙ (or-assoc u (is_untyped_here x h) (is_untyped_in x a || is_untyped_in x b)
-    ∙ ap (λ r. u || is_untyped_in x r) (sym e)))
-
-pub untyped-end : (x : ℕ) (t : Tree) (u : Bool) → t ≡ Empty → u ≡ (u || is_untyped_in x t)
-unfolding is_untyped_in
-untyped-end x t u e = or-false u ∙ ap (λ r. u || is_untyped_in x r) (sym e)
-
 -- what the tables of the code hold
 pub names-are : (trees : List KindTree) (ds : List Decl) (t : Tree) (n m : NameKinds) → ((x : ℕ) → (names_held m).constant x ≡ ((names_held n).constant x || has_constant trees ds x)) → ((x : ℕ) → (names_held n).constant x ≡ false)
-    → ((x : ℕ) → untyped_held m x ≡ (untyped_held n x || is_untyped_in x t)) → ((x : ℕ) → untyped_held n x ≡ false) → m.sites ≡ n.sites → seen n.sites ≡ sites_of t → names_held m ≡ names_of (declarations trees ds) t
-names-are trees ds t n m c z u y e s =
+    → m.sites ≡ n.sites → seen n.sites ≡ sites_of t → names_held m ≡ names_of (declarations trees ds) t
+names-are trees ds t n m c z e s =
     let constants = fun_ext (λ x. c x ∙ (ap (λ b. b || has_constant trees ds x) (z x) ∙ has-is trees ds x)) in
-    let variables = fun_ext (λ x. ap₂ ◌||◌ (ap (λ (v : SitesView). is_some (v.variable x)) (ap seen e ∙ s)) (u x ∙ ap (λ b. b || is_untyped_in x t) (y x))) in
+    let variables = fun_ext (λ x. ap (λ (v : SitesView). is_some (v.variable x) || v.untyped x) (ap seen e ∙ s)) in
     λ i. record { constant = constants i; variable = variables i }

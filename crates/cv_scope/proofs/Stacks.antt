@@ -2,11 +2,12 @@
 use Rattle.std.proofs.Common.{◌≡◌, ℕ, zero, suc, ◌-◌, ◌≤◌, ◌<◌, Bool, true, false, not, ◌&&◌, ◌||◌, ◌⊎◌, inl, inr, List, [], ◌∷◌, ◌++◌, length, take, get_or, refl, ap, sym, ◌∙◌, arith, subst, Option, Some, None, nat_eq, nat_lt, eqb-true, leb, ap₂}
 use Rattle.std.specs.Prelude.{slice_get}
 use Rattle.std.specs.List.{AllByRecursion}
-use Rattle.std.specs.HashMap.{get, Updates}
 use Rattle.std.proofs.lemmas.Bool.{and_parts, and_from, or_cases, or_left, or_right, both_ways, eq-eqb, not_from_true, lt-ltb, le-ltb, or_from, and_left, and_right, leb-true, leb-false}
 use Rattle.std.specs.List.Sorted.{IsNonDecreasingBy}
 use Rattle.cv_typing.specs.Tables.{same_pair}
-use Rattle.cv_scope.specs.Ordered.{MapFrom, IsPlaced, EndBy, Rise}
+use Rattle.cv_scope.specs.Ordered.{IsPlaced, EndBy, Rise}
+use Rattle.cv_scope.specs.declared.places.Places.{Places}
+use Rattle.cv_scope.specs.Places.{place_of}
 use Rattle.cv_scope.specs.Seen.{is_defined}
 use Rattle.cv_scope.specs.Tests.{is_in_one_of}
 
@@ -35,7 +36,7 @@ at-defined [] k d h = absurd (cc)
 at-defined (e ∷ ds) zero d h = let s : e ≡ d = cc in or_left (same_pair d e) _ (same-pair d e (sym s))
 at-defined (e ∷ ds) (suc k) d h = or_right (same_pair d e) _ (at-defined ds k d h)
 
-pub has-some : (ds : List (ℕ × ℕ)) (m : MapFrom (ℕ × ℕ) ℕ) (d : ℕ × ℕ) (k : ℕ) (e : ℕ × ℕ) (b : Bool) → IsPlaced ds m → get same_pair m d ≡ Some k → slice_get ds k ≡ Some e → b ≡ same_pair e d → b ≡ is_defined ds d
+pub has-some : (ds : List (ℕ × ℕ)) (m : Places) (d : ℕ × ℕ) (k : ℕ) (e : ℕ × ℕ) (b : Bool) → IsPlaced ds m → place_of m d ≡ Some k → slice_get ds k ≡ Some e → b ≡ same_pair e d → b ≡ is_defined ds d
 has-some ds m d k e true i g s h = sym (at-defined ds k d (s ∙ ap (λ (x : ℕ × ℕ). Some x) (pair-same e d (sym h))))
 has-some ds m d k e false i g s h = go (is_defined ds d) refl
   where
@@ -43,7 +44,7 @@ has-some ds m d k e false i g s h = go (is_defined ds d) refl
     go false f = refl
     go true f =
         let r = defined-at ds d f in
-        let j : get same_pair m d ≡ Some r.0 = i r.0 d r.1 in
+        let j : place_of m d ≡ Some r.0 = i r.0 d r.1 in
         let same : r.0 ≡ k = cc in
         let there : slice_get ds k ≡ Some d = subst (λ n. slice_get ds n ≡ Some d) same r.1 in
         let z : e ≡ d = cc in
@@ -56,14 +57,14 @@ not-defined ds d n = go (is_defined ds d) refl
     go false f = refl
     go true f = absurd (n (defined-at ds d f))
 
-pub has-past : (ds : List (ℕ × ℕ)) (m : MapFrom (ℕ × ℕ) ℕ) (d : ℕ × ℕ) (k : ℕ) → IsPlaced ds m → get same_pair m d ≡ Some k → slice_get ds k ≡ None → false ≡ is_defined ds d
-has-past ds m d k i g s = not-defined ds d (λ r. let j : get same_pair m d ≡ Some r.0 = i r.0 d r.1 in let same : r.0 ≡ k = cc in let there : slice_get ds k ≡ Some d = subst (λ n. slice_get ds n ≡ Some d) same r.1 in absurd (cc))
+pub has-past : (ds : List (ℕ × ℕ)) (m : Places) (d : ℕ × ℕ) (k : ℕ) → IsPlaced ds m → place_of m d ≡ Some k → slice_get ds k ≡ None → false ≡ is_defined ds d
+has-past ds m d k i g s = not-defined ds d (λ r. let j : place_of m d ≡ Some r.0 = i r.0 d r.1 in let same : r.0 ≡ k = cc in let there : slice_get ds k ≡ Some d = subst (λ n. slice_get ds n ≡ Some d) same r.1 in absurd (cc))
 
-pub has-none : (ds : List (ℕ × ℕ)) (m : MapFrom (ℕ × ℕ) ℕ) (d : ℕ × ℕ) → IsPlaced ds m → get same_pair m d ≡ None → false ≡ is_defined ds d
-has-none ds m d i g = not-defined ds d (λ r. let j : get same_pair m d ≡ Some r.0 = i r.0 d r.1 in absurd (cc))
+pub has-none : (ds : List (ℕ × ℕ)) (m : Places) (d : ℕ × ℕ) → IsPlaced ds m → place_of m d ≡ None → false ≡ is_defined ds d
+has-none ds m d i g = not-defined ds d (λ r. let j : place_of m d ≡ Some r.0 = i r.0 d r.1 in absurd (cc))
 
-pub placed-insert : (ds : List (ℕ × ℕ)) (m n : MapFrom (ℕ × ℕ) ℕ) (d : ℕ × ℕ) (w : Option ℕ) → IsPlaced ds m → is_defined ds d ≡ false → Updates same_pair m n d w → IsPlaced ds n
-placed-insert ds m n d w i a u = λ k e s. u.2 e (other e k s) ∙ i k e s
+pub placed-insert : (ds : List (ℕ × ℕ)) (m n : Places) (d : ℕ × ℕ) → IsPlaced ds m → is_defined ds d ≡ false → ((e : ℕ × ℕ) → same_pair d e ≡ false → place_of n e ≡ place_of m e) → IsPlaced ds n
+placed-insert ds m n d i a u = λ k e s. u e (other e k s) ∙ i k e s
   where
     other : (e : ℕ × ℕ) (k : ℕ) → slice_get ds k ≡ Some e → same_pair d e ≡ false
     other e k s = go (same_pair d e) refl
@@ -78,10 +79,10 @@ before-or-last [] d (suc k) e s = absurd (cc)
 before-or-last (c ∷ ds) d zero e s = inl s
 before-or-last (c ∷ ds) d (suc k) e s = elim (before-or-last ds d k e s) [ inl a ↦ inl a | inr b ↦ inr (ap suc b.0, b.1) ]
 
-pub placed-push : (ds es : List (ℕ × ℕ)) (m : MapFrom (ℕ × ℕ) ℕ) (d : ℕ × ℕ) → IsPlaced ds m → get same_pair m d ≡ Some (length ds) → es ≡ ds ++ d ∷ [] → IsPlaced es m
+pub placed-push : (ds es : List (ℕ × ℕ)) (m : Places) (d : ℕ × ℕ) → IsPlaced ds m → place_of m d ≡ Some (length ds) → es ≡ ds ++ d ∷ [] → IsPlaced es m
 placed-push ds es m d i g e = subst (λ l. IsPlaced l m) (sym e) (λ k x s. elim (before-or-last ds d k x s) [
   | inl a ↦ i k x a
-  | inr b ↦ subst (λ (y : ℕ × ℕ). get same_pair m y ≡ Some k) b.1 (g ∙ ap (λ (n : ℕ). Some n) (sym b.0))
+  | inr b ↦ subst (λ (y : ℕ × ℕ). place_of m y ≡ Some k) b.1 (g ∙ ap (λ (n : ℕ). Some n) (sym b.0))
 ])
 
 get-take : (n : ℕ) (ds : List (ℕ × ℕ)) (k : ℕ) (d : ℕ × ℕ) → slice_get (take n ds) k ≡ Some d → slice_get ds k ≡ Some d
@@ -90,7 +91,7 @@ get-take (suc n) [] k d h = absurd (cc)
 get-take (suc n) (c ∷ ds) zero d h = h
 get-take (suc n) (c ∷ ds) (suc k) d h = get-take n ds k d h
 
-pub placed-take : (n : ℕ) (ds : List (ℕ × ℕ)) (m : MapFrom (ℕ × ℕ) ℕ) → IsPlaced ds m → IsPlaced (take n ds) m
+pub placed-take : (n : ℕ) (ds : List (ℕ × ℕ)) (m : Places) → IsPlaced ds m → IsPlaced (take n ds) m
 placed-take n ds m i = λ k d s. i k d (get-take n ds k d s)
 
 -- ranges

@@ -1,5 +1,5 @@
 -- What the tables of the code hold.
-use Rattle.std.specs.Prelude.{Bool, false, ◌||◌, ◌==◌, All, IsNone, ◌↔◌, ◌+◌, ◌≡◌, ◌<◌, ℕ, length, map, take, ◌++◌, List, [], ◌∷◌, nat_eq, option_map, Option, Some, None, is_some}
+use Rattle.std.specs.Prelude.{Bool, false, ◌||◌, ◌==◌, All, IsNone, ◌↔◌, ◌+◌, ◌≡◌, ◌<◌, ℕ, length, map, take, ◌++◌, List, [], ◌∷◌, nat_eq, slice_index_or, option_map, Option, Some, None, is_some}
 use Rattle.std.specs.HashMap.{get}
 use Rattle.cv_pool.specs.KindTree.{KindTree}
 use Rattle.cv_pool.specs.Nodes.{ChildBelow}
@@ -29,10 +29,14 @@ use Rattle.cv_scope.specs.Sites.{Site, SiteName, Variable, Channel, Label, bound
 abbrev pub site_held : List KindTree → SiteName → LastSite → Site
 site_held trees name s = record { name = name; replications = s.replications.items; types = bound_types (tree_at trees s.binders); place = s.place }
 
+-- the last site of a name, in a row of them
+abbrev pub last_at : List (Option LastSite) → ℕ → Option LastSite
+last_at ss x = slice_index_or ss x None
+
 -- the last sites that a table holds
 abbrev pub last_held : List KindTree → Lasts → SiteName → Option Site
-last_held trees l (Variable x) = option_map (site_held trees (Variable x)) (get nat_eq l.variables x)
-last_held trees l (Channel c) = option_map (site_held trees (Channel c)) (get nat_eq l.channels c)
+last_held trees l (Variable x) = option_map (site_held trees (Variable x)) (last_at l.variables.items x)
+last_held trees l (Channel c) = option_map (site_held trees (Channel c)) (last_at l.channels.items c)
 last_held trees l (Label n) = option_map (site_held trees (Label n)) (get nat_eq l.labels n)
 
 -- each site has live binders
@@ -43,8 +47,8 @@ IsLiveSite n (Some s) = ChildBelow n s.binders
 
 abbrev pub HasLiveBinders : ℕ → Lasts → Type 0
 HasLiveBinders n l =
-    ((x : ℕ) → IsLiveSite n (get nat_eq l.variables x))
-    × ((c : ℕ) → IsLiveSite n (get nat_eq l.channels c))
+    ((x : ℕ) → IsLiveSite n (last_at l.variables.items x))
+    × ((c : ℕ) → IsLiveSite n (last_at l.channels.items c))
     × ((m : ℕ) → IsLiveSite n (get nat_eq l.labels m))
 
 -- binders
@@ -57,15 +61,11 @@ IsFirstBinder trees list (Some b) =
     × ChildBelow (length trees) b.rest
     × (above b.rest < above list)
 
--- which names are variables with no type
-abbrev pub untyped_held : NameKinds → ℕ → Bool
-untyped_held n x = is_some (get nat_eq n.untyped x)
-
 -- which names are constants and variables
 abbrev pub names_held : NameKinds → Names
 names_held n = record {
   constant = λ x. is_some (get nat_eq n.constants x);
-  variable = λ x. is_some ((seen n.sites).variable x) || untyped_held n x;
+  variable = λ x. is_some ((seen n.sites).variable x) || (seen n.sites).untyped x;
 }
 
 -- listed cells are live

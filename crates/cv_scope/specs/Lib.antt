@@ -9,4 +9,5 @@ pub mod Worked
 pub mod Seen
 pub mod Held
 pub mod Ordered
+pub mod Places
 pub mod Branches

@@ -5,14 +5,15 @@ use Rattle.std.specs.declared.hash.FoldHasher.{FoldHasher}
 use Rattle.std.specs.declared.hash.BuildHasherDefault.{BuildHasherDefault}
 use Rattle.std.specs.HashMap.{get, HashMap}
 use Rattle.cv_pool.specs.declared.node.NodeId.{NodeId}
-use Rattle.cv_typing.specs.Tables.{same_pair}
+use Rattle.cv_scope.specs.declared.places.Places.{Places}
+use Rattle.cv_scope.specs.Places.{place_of}
 
 abbrev pub MapFrom : Type 0 → Type 0 → Type 0
 MapFrom K X = HashMap K X (BuildHasherDefault FoldHasher)
 
 -- each pair of a list has its place in a table; a pair that no longer is in the list may have one too
-abbrev pub IsPlaced : List (ℕ × ℕ) → MapFrom (ℕ × ℕ) ℕ → Type 0
-IsPlaced ds places = (k : ℕ) (d : ℕ × ℕ) → slice_get ds k ≡ Some d → get same_pair places d ≡ Some k
+abbrev pub IsPlaced : List (ℕ × ℕ) → Places → Type 0
+IsPlaced ds places = (k : ℕ) (d : ℕ × ℕ) → slice_get ds k ≡ Some d → place_of places d ≡ Some k
 
 -- a cell is the node with this number
 abbrev pub is_node : ℕ → Option NodeId → Bool

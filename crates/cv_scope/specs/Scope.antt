@@ -6,6 +6,8 @@ use Rattle.cv_syntax.specs.Declarations.{Declaration}
 use Rattle.cv_syntax.specs.Tree.{Tree, Empty, Node}
 use Rattle.cv_meaning.specs.Interpretation.{is_constant_of}
 use Rattle.cv_directory.specs.Sites.{first_site}
+unfoldable pub use Rattle.cv_directory.specs.Sites.{is_untyped_in}
+pub use Rattle.cv_directory.specs.Sites.{is_untyped_here}
 use Rattle.cv_first_fault.specs.Walk as walk
 use Rattle.cv_first_fault.specs.Walk.{IsObeyed, Walk}
 use Rattle.cv_scope.specs.declared.fault.Fault.{Fault}
@@ -40,17 +42,6 @@ abbrev pub first_fault : Names → Standing → Tree → Option (ℕ × Fault)
 first_fault names s t = walk.first_fault (scope_walk names) s s.place t
 
 -- games and contexts
-
--- the node defines the variable with no type: as a key, or as the result of a call
-abbrev pub is_untyped_here : ℕ → Head → Bool
-is_untyped_here x (Key y) = y == x
-is_untyped_here x (Call y l) = y == x
-is_untyped_here x h = false
-
--- so does a node of the tree
-unfoldable pub is_untyped_in : ℕ → Tree → Bool
-is_untyped_in x Empty = false
-is_untyped_in x (Node h a b) = is_untyped_here x h || (is_untyped_in x a || is_untyped_in x b)
 
 abbrev pub is_variable : Tree → ℕ → Bool
 is_variable game x = is_some (first_site x [] game) || is_untyped_in x game

@@ -1,15 +1,15 @@
 ghost use Rattle.std.specs.Prelude.{◌≡◌, ◌≤◌, [], length, take, slice_get, OnOk};
 ghost use Rattle.cv_scope.specs.Seen.{is_defined, with_definition};
 
+use crate::places::Places;
 use std::alloc::{AllocError, Global};
-use std::collections::HashMap;
 use std::marker::Model;
 
 /// The variables that are defined above a node, each with the number of replications above its definition.
 #[derive(Drop)]
 pub struct Defined {
     list: Vec<(u32, usize)>,
-    places: HashMap<(u32, usize), usize>,
+    places: Places,
 }
 
 impl Model for Defined {
@@ -30,7 +30,7 @@ impl Defined {
     {
         Defined {
             list: Vec::new(alloc),
-            places: HashMap::new(alloc),
+            places: Places::new(alloc),
         }
     }
 
@@ -45,7 +45,7 @@ impl Defined {
     pub fn has(&self, variable: u32, indices: usize) -> bool
         ensures { result ≡ is_defined self.now (variable, indices) }
     {
-        let Some(k) = self.places.get(&(variable, indices)).copied() else {
+        let Some(k) = self.places.get(variable, indices) else {
             return false;
         };
         match self.at(k) {
@@ -68,7 +68,7 @@ impl Defined {
         if self.has(variable, indices) {
             return Ok(());
         }
-        self.places.insert((variable, indices), self.list.len())?;
+        self.places.insert(variable, indices, self.list.len())?;
         self.list.push((variable, indices))?;
         Ok(())
     }

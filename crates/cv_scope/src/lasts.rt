@@ -1,9 +1,9 @@
-ghost use Rattle.std.specs.Prelude.{◌≡◌, ◌<◌, ℕ, List, length, IfOk, OnOk, option_map};
+ghost use Rattle.std.specs.Prelude.{◌≡◌, ◌<◌, ◌==◌, if◌then◌else◌, ℕ, List, Some, length, IfOk, OnOk, option_map};
 ghost use Rattle.std.specs.Option.{option_copied};
 ghost use Rattle.cv_pool.specs.KindTree.{KindTree};
 ghost use Rattle.cv_pool.specs.Nodes.{ChildBelow};
 ghost use Rattle.cv_syntax.specs.Tree.{tree_at};
-ghost use Rattle.cv_scope.specs.Held.{HasLiveBinders, IsLiveSite, last_held, site_held};
+ghost use Rattle.cv_scope.specs.Held.{HasLiveBinders, IsLiveSite, last_at, last_held, site_held};
 ghost use Rattle.cv_scope.specs.Seen.{may_follow_last, no_site, with_site};
 ghost use Rattle.cv_scope.specs.Sites.{SiteName, Variable, Channel, Label, bound_types, site_of};
 
@@ -21,11 +21,11 @@ pub struct LastSite {
     pub binders: Option<NodeId>,
 }
 
-/// The last site of each name.
+/// The last site of each name. Variables and channels are numbered in the order of their appearance.
 #[derive(Drop)]
 pub struct Lasts {
-    variables: HashMap<u32, LastSite>,
-    channels: HashMap<u32, LastSite>,
+    variables: Vec<Option<LastSite>>,
+    channels: Vec<Option<LastSite>>,
     labels: HashMap<u64, LastSite>,
 }
 
@@ -47,6 +47,37 @@ fn may_follow(pool: &Pool, passed: &Passed, site: &LastSite, last: Option<&LastS
     }
 }
 
+/// The last site of a name.
+fn last_of(sites: &[Option<LastSite>], x: u32) -> Option<&LastSite>
+    ensures { option_copied result ≡ last_at sites.now x }
+{
+    match sites.get(x as usize) {
+        Some(site) => site.as_ref(),
+        None => None,
+    }
+}
+
+/// Makes a table reach a name.
+fn reach(sites: &mut Vec<Option<LastSite>>, x: u32) -> Result<(), AllocError>
+    ensures reached { OnOk result (x < length sites.new.items) }
+    ensures same { OnOk result ((y : ℕ) → last_at sites.new.items y ≡ last_at sites.old.items y) }
+{
+    'names: while sites.len() <= x as usize {
+        sites.push(None)?;
+    }
+    Ok(())
+}
+
+/// Puts down a site as the last of its name.
+fn put(sites: &mut Vec<Option<LastSite>>, x: u32, site: LastSite) -> Result<(), AllocError>
+    ensures { OnOk result ((y : ℕ) → last_at sites.new.items y
+        ≡ if x == y then Some site else last_at sites.old.items y) }
+{
+    reach(sites, x)?;
+    sites[x as usize] = Some(site);
+    Ok(())
+}
+
 impl Lasts {
     /// No site.
     pub fn new(alloc: Global) -> Lasts
@@ -54,8 +85,8 @@ impl Lasts {
         ensures live { (n : ℕ) → HasLiveBinders n result }
     {
         Lasts {
-            variables: HashMap::new(alloc),
-            channels: HashMap::new(alloc),
+            variables: Vec::new(alloc),
+            channels: Vec::new(alloc),
             labels: HashMap::new(alloc),
         }
     }
@@ -78,8 +109,8 @@ impl Lasts {
             (site_held pool.now.trees (Variable x) site)) }
         ensures live { OnOk result (HasLiveBinders (length pool.now.trees) self.new) }
     {
-        let may = may_follow(pool, passed, &site, self.variables.get(&x));
-        self.variables.insert(x, site)?;
+        let may = may_follow(pool, passed, &site, last_of(self.variables.as_slice(), x));
+        put(&mut self.variables, x, site)?;
         Ok(may)
     }
 
@@ -101,8 +132,8 @@ impl Lasts {
             (site_held pool.now.trees (Channel c) site)) }
         ensures live { OnOk result (HasLiveBinders (length pool.now.trees) self.new) }
     {
-        let may = may_follow(pool, passed, &site, self.channels.get(&c));
-        self.channels.insert(c, site)?;
+        let may = may_follow(pool, passed, &site, last_of(self.channels.as_slice(), c));
+        put(&mut self.channels, c, site)?;
         Ok(may)
     }
 

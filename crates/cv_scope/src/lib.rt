@@ -11,6 +11,7 @@ mod laws;
 mod listed;
 mod names;
 mod passed;
+mod places;
 mod position;
 mod reads;
 mod rules;
@@ -24,6 +25,7 @@ pub use fault::{Fault, ScopeFault};
 pub use laws::{
     game_faults_are_first, nodes_are_decided, scoped_sites_are_apart, tree_faults_are_first,
 };
+pub use names::NameKinds;
 pub use position::Position;
 pub use worked::{
     worked_channels, worked_lists, worked_oracles, worked_reads, worked_replications, worked_sites,

@@ -6,12 +6,12 @@ ghost use Rattle.cv_syntax.specs.Tree.{tree_at};
 ghost use Rattle.cv_directory.specs.Sites.{sites_of};
 ghost use Rattle.cv_directory.specs.Tables.{seen};
 ghost use Rattle.cv_typing.specs.Lookups.{IsLive};
-ghost use Rattle.cv_scope.specs.Held.{constant_by, has_constant, is_here, names_held, untyped_held};
-ghost use Rattle.cv_scope.specs.Scope.{is_untyped_here, is_untyped_in, names_of};
+ghost use Rattle.cv_scope.specs.Held.{constant_by, has_constant, is_here, names_held};
+ghost use Rattle.cv_scope.specs.Scope.{names_of};
 
 use cv_directory::Directory;
 use cv_syntax::children::read_child;
-use cv_syntax::{Class, Decl, Decls, Head, NodeId, Pool, read_node};
+use cv_syntax::{Class, Decl, Decls, NodeId, Pool};
 use std::alloc::{AllocError, Global};
 use std::collections::HashMap;
 
@@ -20,7 +20,6 @@ use std::collections::HashMap;
 pub struct NameKinds {
     constants: HashMap<u32, bool>,
     sites: Directory,
-    untyped: HashMap<u32, bool>,
 }
 
 impl NameKinds {
@@ -43,7 +42,7 @@ impl NameKinds {
     pub fn is_variable(&self, x: u32) -> bool
         ensures { result ≡ (names_held self.now).variable x }
     {
-        self.sites.sort(x).is_some() || self.untyped.contains_key(&x)
+        self.sites.sort(x).is_some() || self.sites.is_untyped(x)
     }
 
     /// The constants of declarations, and the variables of a game with this directory.
@@ -65,10 +64,8 @@ impl NameKinds {
         let mut names = NameKinds {
             constants: HashMap::new(alloc),
             sites,
-            untyped: HashMap::new(alloc),
         };
         names.note_constants(pool, decls)?;
-        names.note_untyped(pool, Some(root))?;
         Ok(names)
     }
 
@@ -79,7 +76,6 @@ impl NameKinds {
             ((x : ℕ) → (names_held self.new).constant x
             ≡ ((names_held self.old).constant x || has_constant pool.now.trees decls.now.list x)) }
         ensures sites { OnOk result (self.new.sites ≡ self.old.sites) }
-        ensures untyped { OnOk result (self.new.untyped ≡ self.old.untyped) }
     {
         for k in 0..decls.len() {
             self.note(constant_at(pool, decls, k))?;
@@ -93,55 +89,10 @@ impl NameKinds {
             → (names_held self.new).constant x
             ≡ ((names_held self.old).constant x || is_here constant x)) }
         ensures sites { OnOk result (self.new.sites ≡ self.old.sites) }
-        ensures untyped { OnOk result (self.new.untyped ≡ self.old.untyped) }
     {
         if let Some(x) = constant {
             self.constants.insert(x, true)?;
         }
-        Ok(())
-    }
-
-    /// Notes the keys and the results of calls of a tree.
-    fn note_untyped(&mut self, pool: &Pool, tree: Option<NodeId>) -> Result<(), AllocError>
-        requires { ChildBelow (length pool.now.trees) tree }
-        ensures untyped { OnOk result ((x : ℕ)
-            → untyped_held self.new x ≡ (untyped_held self.old x || is_untyped_in x
-            (tree_at pool.now.trees tree))) }
-        ensures constants { OnOk result (self.new.constants ≡ self.old.constants) }
-        ensures sites { OnOk result (self.new.sites ≡ self.old.sites) }
-    {
-        let mut at = tree;
-        'tree: while let Some(k) = at {
-            let node = read_node(pool, k);
-            self.note_untyped_here(node.head)?;
-            self.note_untyped(pool, node.first)?;
-            at = node.second;
-        }
-        Ok(())
-    }
-
-    /// Notes the variable that a node defines with no type, if there is one.
-    fn note_untyped_here(&mut self, head: Head) -> Result<(), AllocError>
-        ensures untyped { OnOk result ((x : ℕ)
-            → untyped_held self.new x ≡ (untyped_held self.old x || is_untyped_here x head)) }
-        ensures constants { OnOk result (self.new.constants ≡ self.old.constants) }
-        ensures sites { OnOk result (self.new.sites ≡ self.old.sites) }
-    {
-        match head {
-            Head::Key(x) => self.note_untyped_name(x),
-            Head::Call(x, _) => self.note_untyped_name(x),
-            _ => Ok(()),
-        }
-    }
-
-    /// Notes a variable with no type.
-    fn note_untyped_name(&mut self, x: u32) -> Result<(), AllocError>
-        ensures untyped { OnOk result ((y : ℕ)
-            → untyped_held self.new y ≡ (untyped_held self.old y || (x == y))) }
-        ensures constants { OnOk result (self.new.constants ≡ self.old.constants) }
-        ensures sites { OnOk result (self.new.sites ≡ self.old.sites) }
-    {
-        self.untyped.insert(x, true)?;
         Ok(())
     }
 }

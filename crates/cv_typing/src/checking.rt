@@ -107,7 +107,7 @@ fn check_parts(
 }
 
 /// Whether a process that stands at a place is typed, or its first fault. It gives the directory of the process back.
-fn check_process(
+pub fn check_process(
     alloc: Global,
     pool: &Pool,
     decls: &Decls,

@@ -1,5 +1,5 @@
-ghost use Rattle.std.specs.Prelude.{◌≡◌};
-ghost use Rattle.cv_typing.specs.Refusals.{refusal};
+ghost use Rattle.std.specs.Prelude.{◌≡◌, is_some, not};
+ghost use Rattle.cv_typing.specs.Refusals.{named, refusal};
 
 use std::alloc::AllocError;
 
@@ -39,6 +39,15 @@ impl From<AllocError> for TypeFault {
 
     fn from(_: AllocError) -> TypeFault {
         TypeFault::OutOfMemory
+    }
+}
+
+impl TypeFault {
+    /// Whether the refusal names no fault.
+    pub fn is_want_of_memory(self) -> bool
+        ensures { result ≡ not (is_some (named self)) }
+    {
+        matches!(self, TypeFault::OutOfMemory)
     }
 }
 

@@ -2,6 +2,7 @@
 #![tactic(auto)]
 
 mod above;
+mod alone;
 mod arrays;
 mod below;
 mod checking;
@@ -17,6 +18,7 @@ mod terms;
 mod walk;
 mod want;
 
+pub use alone::{is_typed_game, is_typed_term};
 pub use arrays::Arrays;
 pub use checking::{check, check_game};
 pub use fault::{Fault, TypeFault};
@@ -26,4 +28,5 @@ pub use laws::{
 };
 pub use locals::{Locals, Own};
 pub use precedence::Precedence;
+pub use terms::{function_sort, sort_of_term};
 pub use want::Want;

@@ -16,7 +16,7 @@ use cv_syntax::{Decls, Head, NodeId, Pool, read_node};
 use std::collections::HashMap;
 
 /// The sort of what a function gives.
-fn function_sort(decls: &Decls, f: u32) -> Option<Sort>
+pub fn function_sort(decls: &Decls, f: u32) -> Option<Sort>
     ensures { (trees : List KindTree)
         → result ≡ option_map (λ (f : signature.Function). OfType f.result)
         (signature.function_in (declarations trees decls.now.list) f) }

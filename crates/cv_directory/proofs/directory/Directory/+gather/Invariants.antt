@@ -1,10 +1,10 @@
-use Rattle.std.proofs.Common.{◌≡◌, ◌+◌, ◌≤◌, length, take}
+use Rattle.std.proofs.Common.{◌≡◌, ℕ, ◌||◌, ◌+◌, ◌≤◌, length, take}
 use Rattle.cv_pool.specs.Nodes.{ChildBelow}
 use Rattle.cv_syntax.specs.Tree.{size, tree_at}
 use Rattle.cv_syntax.specs.Walks.{above}
 use Rattle.cv_directory.specs.Definitions.{definitions_from, large_in}
-use Rattle.cv_directory.specs.Sites.{first_index}
-use Rattle.cv_directory.specs.Tables.{entries_in, with_entries}
+use Rattle.cv_directory.specs.Sites.{first_index, is_untyped_in}
+use Rattle.cv_directory.specs.Tables.{entries_in, untyped_of, with_entries}
 use Rattle.cv_directory.proofs.directory.Directory.+gather.Given as goal
 
 abbrev pub decreases-gather : goal.decreases-gather
@@ -15,6 +15,7 @@ invariant-tree l = record {
   live : ChildBelow (length l.pool.trees) l.at;
   same : with_entries (large_in l.decls.list) (entries_in l.pool.trees l.self) (λ x. definitions_from l.path.items l.place x (tree_at l.pool.trees l.at)) (λ i. first_index i (tree_at l.pool.trees l.at))
       ≡ with_entries (large_in l.decls.list) (entries_in l.pool.trees l.fn.self) (λ x. definitions_from l.fn.path.items l.fn.from x (tree_at l.pool.trees l.fn.tree)) (λ i. first_index i (tree_at l.pool.trees l.fn.tree));
+  untyped : (x : ℕ) → (untyped_of l.self.untyped x || is_untyped_in x (tree_at l.pool.trees l.at)) ≡ (untyped_of l.fn.self.untyped x || is_untyped_in x (tree_at l.pool.trees l.fn.tree));
   sum : l.place + size (tree_at l.pool.trees l.at) ≡ l.fn.from + size (tree_at l.pool.trees l.fn.tree);
   front : take l.above l.path.items ≡ l.fn.path.items;
   long : l.above ≤ length l.path.items;

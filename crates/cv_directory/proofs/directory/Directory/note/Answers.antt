@@ -1,11 +1,11 @@
 use Rattle.std.proofs.Common.{refl, ◌∙◌}
-use Rattle.cv_directory.specs.Definitions.{Entries}
+use Rattle.std.specs.Vec.{with_item}
 use Rattle.cv_directory.specs.Tables.{definition_in, entries_in}
 use Rattle.cv_directory.proofs.Entries.{one-more}
-use Rattle.cv_directory.proofs.Noting.{entries-are, on-ok}
+use Rattle.cv_directory.proofs.Noting.{definition-noted}
 use Rattle.cv_directory.proofs.directory.Directory.note.Goals as goal
 
-pub returns : goal.returns
-returns c = λ trees large h. on-ok c.note_other.result (λ o.
-    entries-are trees (record { variables = c.note_first.new.variables; counts = c.note_count.new.counts; others = c.note_other.new.others; indices = c.args.self.now.indices }) _ (c.in_ok-note_first.ensures trees) c.in_ok-note_count.ensures o refl
-    ∙ one-more large (entries_in trees c.args.self.now) c.args.x (definition_in trees c.args.path.now c.args.place c.args.node c.args.sort) c.args.is_other_here h) c.note_other.ensures
+pub returns-clause-entries : goal.returns-clause-entries
+returns-clause-entries c = λ trees large h.
+    definition-noted trees c.args.self.now (record { entries = with_item c.reach.new.entries c.args.x c.note_definition.new.entry; untyped = c.args.self.now.untyped }) c.reach.new.entries.items c.args.x c.note_definition.new.entry c.index_mut.result.now (definition_in trees c.args.path.now c.args.place c.args.node c.args.sort) c.args.is_other_here c.in_ok-reach.ensures.reached c.in_ok-reach.ensures.same refl c.index_mut.ensures.value (c.in_ok-note_definition.ensures.first trees) c.in_ok-note_definition.ensures.count c.in_ok-note_definition.ensures.other c.in_ok-note_definition.ensures.index
+    ∙ one-more large (entries_in trees c.args.self.now) c.args.x (definition_in trees c.args.path.now c.args.place c.args.node c.args.sort) c.args.is_other_here h

@@ -15,9 +15,10 @@ list-preserved-in_ok-note c =
     record {
       live = child_live (length trees) c.list.at c.in-Some.k node.second c.in-Some.is c.list.invariant.live c.read_node-binder.ensures.second;
       same = λ large h.
-          ap (λ e. with_entries large e (λ y. bound_definitions c.args.path.now c.args.place here (binder_sort c.args.are_indices) y (tree_at trees node.second)) no_index) (c.in_ok-note.ensures trees large h)
+          ap (λ e. with_entries large e (λ y. bound_definitions c.args.path.now c.args.place here (binder_sort c.args.are_indices) y (tree_at trees node.second)) no_index) (c.in_ok-note.ensures.entries trees large h)
           ∙ (binders-step large (entries_in trees c.list.self) c.args.path.now c.args.place here (binder_sort c.args.are_indices) (tree_at trees c.list.at) node.head (tree_at trees node.first) (tree_at trees node.second) c.in-Binder.x c.in-Binder.t c.sort_of_binder-sort.result (node_at trees c.list.at c.in-Some.k node c.in-Some.is c.read_node-binder.ensures.tree) c.in-Binder.is c.sort_of_binder-sort.ensures
           ∙ c.list.invariant.same large h);
+      untyped = c.in_ok-note.ensures.untyped ∙ c.list.invariant.untyped;
     }
 
 pub list-preserved : goal.list-preserved
@@ -29,9 +30,10 @@ list-preserved c =
       same = λ large h.
           binders-skip large (entries_in trees c.list.self) c.args.path.now c.args.place (tree_at trees (Some c.args.node)) (binder_sort c.args.are_indices) (tree_at trees c.list.at) node.head (tree_at trees node.first) (tree_at trees node.second) (node_at trees c.list.at c.in-Some.k node c.in-Some.is c.read_node-binder.ensures.tree) c.in_default-head.not-Binder
           ∙ c.list.invariant.same large h;
+      untyped = c.list.invariant.untyped;
     }
 
-pub returns : goal.returns
-returns c = λ large h.
+pub returns-clause-entries : goal.returns-clause-entries
+returns-clause-entries c = λ large h.
     let trees = c.args.pool.now.trees in
     sym (binders-end large (entries_in trees c.list.self) c.args.path.now c.args.place (tree_at trees (Some c.args.node)) (binder_sort c.args.are_indices) (tree_at trees c.list.at) (empty_at trees c.list.at c.in_default.is)) ∙ c.list.invariant.same large h

@@ -13,6 +13,7 @@ invariant-list l = record {
   same : (large : ℕ → Bool) → true ≡ is_other large (tree_at l.pool.trees (Some l.node)) →
       with_entries large (entries_in l.pool.trees l.self) (λ y. bound_definitions l.path l.place (tree_at l.pool.trees (Some l.node)) (binder_sort l.are_indices) y (tree_at l.pool.trees l.at)) no_index
       ≡ with_entries large (entries_in l.pool.trees l.fn.self) (λ y. bound_definitions l.path l.place (tree_at l.pool.trees (Some l.node)) (binder_sort l.are_indices) y (tree_at l.pool.trees l.fn.list)) no_index;
+  untyped : l.self.untyped ≡ l.fn.self.untyped;
 }
 
 abbrev pub decreases-list : goal.decreases-list
