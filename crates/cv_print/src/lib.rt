@@ -9,4 +9,4 @@ mod words;
 
 pub use games::{game_text, push_game};
 pub use terms::{push_term, push_terms, term_text};
-pub use words::push_decimal;
+pub use words::{push_decimal, push_name};

@@ -16,8 +16,8 @@ pub fn push_decimal(out: &mut Vec<u8>, n: u64) -> Result<(), AllocError>
     out.extend_from_slice(text.as_bytes())
 }
 
-/// Appends a name.
-pub(crate) fn push_name(out: &mut Vec<u8>, names: &Names, x: u32) -> Result<(), AllocError>
+/// Appends a name. A number past the names has no text.
+pub fn push_name(out: &mut Vec<u8>, names: &Names, x: u32) -> Result<(), AllocError>
     ensures { OnOk result (out.new.items ≡ out.old.items ++ name_text names.now x) }
 {
     match names.get(NameId(x)) {

@@ -82,8 +82,8 @@ fn push_entry(makes: &mut Vec<Make>, pool: &Pool, entry: &Entry) -> Result<(), A
     push_leaf(makes, Head::Number(u64::from(entry.place)))?;
     makes.push(Make::Nothing)?;
     push_routes(makes, pool, &entry.routes)?;
-    makes.push(Make::Over(Head::Cons))?;
     makes.push(Make::Over(Head::WithEntry))?;
+    makes.push(Make::Over(Head::AtEntry))?;
     Ok(())
 }
 

@@ -1,2 +1,4 @@
+pub mod Rows
 pub mod Steps
 pub mod Text
+pub mod Views

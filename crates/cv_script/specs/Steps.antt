@@ -1,7 +1,7 @@
 -- The trees of steps, certificates and derivations. This profile's own. A certificate says of each left event of a
 -- correspondence why the right events hold; correspondences are those of Blanchet, CSF 2007.
 use Rattle.std.specs.Prelude.{ℕ, List, [], ◌∷◌, map}
-use Rattle.cv_syntax.specs.declared.head.Head.TheVariants.{Cons, Eq, Number, Line, ByRefl, AboveRoute, WithEntry, EventsCertificate, SuccessStep}
+use Rattle.cv_syntax.specs.declared.head.Head.TheVariants.{Eq, Number, Line, ByRefl, AboveRoute, AtEntry, WithEntry, EventsCertificate, SuccessStep}
 use Rattle.cv_syntax.specs.Tree.{Tree, Empty, Node, chain, lone}
 
 abbrev pub number : ℕ → Tree
@@ -25,7 +25,7 @@ above_route place derivation = Node AboveRoute (number place) derivation
 
 -- at the left event's node at a place, with terms for the variables on the right alone, the right events have these routes
 abbrev pub with_entry : ℕ → (terms routes : Tree) → Tree
-with_entry place terms routes = Node WithEntry (number place) (Node Cons terms routes)
+with_entry place terms routes = Node AtEntry (number place) (Node WithEntry terms routes)
 
 abbrev pub events_certificate : (entries : Tree) → Tree
 events_certificate entries = Node EventsCertificate entries Empty

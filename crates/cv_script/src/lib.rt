@@ -1,10 +1,10 @@
-// Steps of a proof, with their certificates and derivations, and their text.
+// Steps of a proof, with their certificates and derivations: their table, their text, and views of their items.
 #![tactic(auto)]
 
-mod certificates;
-mod derivations;
+mod rows;
 mod steps;
+mod views;
 
-pub use certificates::Certificate;
-pub use derivations::Derivation;
-pub use steps::{Step, push_step, step_text};
+pub use rows::{BUILT_SCRIPT, SCRIPT, STEP, script_rows};
+pub use steps::{Certificate, Derivation, Step, push_step, step_text};
+pub use views::{Part, StepView, view};

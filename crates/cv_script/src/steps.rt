@@ -2,14 +2,25 @@ ghost use Rattle.std.specs.Prelude.{◌≡◌, ◌<◌, ◌++◌, OnOk, IfOk, So
 ghost use Rattle.cv_syntax.specs.Tree.{tree_at};
 ghost use Rattle.cv_script.specs.Text as text;
 
-use crate::certificates::push_certificate;
-use crate::derivations::push_number;
-use cv_syntax::{Head, Names, NodeId, Pool, read_node};
+use crate::rows::{STEP, script_rows};
+use cv_print_tables::push_phrase;
+use cv_syntax::{Names, NodeId, Pool};
 use std::alloc::{AllocError, Global};
+
+/// A derivation: the node of its first line, or of none, stands for a list of lines.
+#[derive(Clone, Copy, Debug, PartialEq, Eq)]
+pub struct Derivation(pub Option<NodeId>);
+
+/// A certificate: why a query holds in a game.
+#[derive(Clone, Copy, Debug, PartialEq, Eq)]
+pub struct Certificate(pub NodeId);
 
 /// A step of a proof.
 #[derive(Clone, Copy, Debug, PartialEq, Eq)]
 pub struct Step(pub NodeId);
+
+/// How many levels of derivations a text has at most.
+const LEVELS: u32 = 200;
 
 /// The text of a step, without the semicolon behind it. It fails for want of memory alone.
 pub fn step_text(
@@ -28,7 +39,7 @@ pub fn step_text(
 }
 
 /// Appends the text of a step. It fails for want of memory alone.
-#[tactic(auto, using(crate::proofs::Texts::text_laws))]
+#[tactic(auto, unfolding(crate::specs::Text::step_text))]
 pub fn push_step(
     out: &mut Vec<u8>,
     pool: &Pool,
@@ -39,11 +50,13 @@ pub fn push_step(
     ensures { OnOk result (out.new.items
         ≡ out.old.items ++ text.step_text names.now (tree_at pool.now.trees (Some step.0))) }
 {
-    let node = read_node(pool, step.0);
-    let Head::SuccessStep = node.head else {
-        return Ok(());
-    };
-    out.extend_from_slice(b"success ")?;
-    push_number(out, pool, node.first)?;
-    push_certificate(out, pool, names, node.second)
+    push_phrase(
+        out,
+        pool,
+        names,
+        script_rows(),
+        STEP as usize,
+        Some(step.0),
+        LEVELS,
+    )
 }

@@ -1,0 +1,106 @@
+-- A step by its items.
+use Rattle.std.specs.Prelude.{ℕ, Bool, true, false, List, Option, Some, None}
+use Rattle.cv_pool.specs.KindTree.{KindTree}
+use Rattle.cv_syntax.specs.declared.head.Head.TheVariants as head
+use Rattle.cv_syntax.specs.Tree.{Tree, Empty, Node, first, second, tree_at}
+use Rattle.cv_script.specs.declared.views.Part.{Part}
+use Rattle.cv_script.specs.declared.views.Part.TheVariants as part
+use Rattle.cv_script.specs.declared.views.StepView.{StepView}
+use Rattle.cv_script.specs.declared.views.StepView.TheVariants as view
+
+-- the items of a step, in the order of its text
+pub data StepItems : Type 0 where
+  Rename : (x to : ℕ) → StepItems
+  Rewrite : (place : ℕ) → (term by : Tree) → StepItems
+  Prune : (place : ℕ) → Part → (by : Tree) → StepItems
+  Pick : (place : ℕ) → (terms at_body at_find : Tree) → StepItems
+  Merge : (place : ℕ) → StepItems
+  Split : (place : ℕ) → (cond : Tree) → StepItems
+  Let : (place x ty : ℕ) → (term : Tree) → StepItems
+  Unlet : (x : ℕ) → StepItems
+  New : (place x ty : ℕ) → StepItems
+  Unnew : (x : ℕ) → StepItems
+  Move : (place : ℕ) → StepItems
+  ArrayRename : (x : ℕ) → (to : Tree) → StepItems
+  Codef : (place : ℕ) → (add : Bool) → (to from : Tree) → StepItems
+  Birthday : (x : ℕ) → (at : Tree) → StepItems
+  Guess : (x : ℕ) → (at : Tree) → StepItems
+  Fresh : (place : ℕ) → StepItems
+  Crypto : (equiv x : ℕ) → StepItems
+  Success : (query : ℕ) → (by : Tree) → StepItems
+  Simplify : StepItems
+
+-- a tree that is a name, a number, a tree with a node, a part of a `prune` and one of a `codef`
+
+abbrev pub name_in : Tree → Option ℕ
+name_in (Node (head.Name x) a b) = Some x
+name_in t = None
+
+abbrev pub number_in : Tree → Option ℕ
+number_in (Node (head.Number v) a b) = Some v
+number_in t = None
+
+abbrev pub tree_in : Tree → Option Tree
+tree_in Empty = None
+tree_in (Node h a b) = Some (Node h a b)
+
+abbrev pub part_in : Tree → Option Part
+part_in (Node head.ThenPart a b) = Some part.Then
+part_in (Node head.ElsePart a b) = Some part.Else
+part_in (Node (head.Number v) a b) = Some (part.Branch v)
+part_in t = None
+
+abbrev pub adds_in : Tree → Option Bool
+adds_in (Node head.AddPart a b) = Some true
+adds_in (Node head.DropPart a b) = Some false
+adds_in t = None
+
+infixl 10 ◌>>=◌
+abbrev pub ◌>>=◌ : {A B : Type 0} → Option A → (A → Option B) → Option B
+(Some a) >>= f = f a
+None >>= f = None
+
+-- the items of a step's tree; another tree has none
+abbrev pub viewed : Tree → Option StepItems
+viewed (Node head.RenameStep a b) = name_in a >>= λ x. name_in b >>= λ to. Some (Rename x to)
+viewed (Node head.RewriteStep a b) = number_in a >>= λ p. tree_in (first b) >>= λ m. Some (Rewrite p m (second b))
+viewed (Node head.PruneStep a b) = number_in a >>= λ p. part_in (first b) >>= λ part. Some (Prune p part (second b))
+viewed (Node head.PickStep a b) = number_in a >>= λ p. Some (Pick p (first b) (first (second b)) (second (second b)))
+viewed (Node head.MergeStep a b) = number_in a >>= λ p. Some (Merge p)
+viewed (Node head.SplitStep a b) = number_in a >>= λ p. tree_in b >>= λ m. Some (Split p m)
+viewed (Node head.LetStep a b) = number_in a >>= λ p. name_in (first b) >>= λ x. name_in (first (second b)) >>= λ T. tree_in (second (second b)) >>= λ m. Some (Let p x T m)
+viewed (Node head.UnletStep a b) = name_in a >>= λ x. Some (Unlet x)
+viewed (Node head.NewStep a b) = number_in a >>= λ p. name_in (first b) >>= λ x. name_in (second b) >>= λ T. Some (New p x T)
+viewed (Node head.UnnewStep a b) = name_in a >>= λ x. Some (Unnew x)
+viewed (Node head.MoveStep a b) = number_in a >>= λ p. Some (Move p)
+viewed (Node head.ArrayRenameStep a b) = name_in a >>= λ x. Some (ArrayRename x b)
+viewed (Node head.CodefStep a b) = number_in a >>= λ p. adds_in (first b) >>= λ add. tree_in (first (second b)) >>= λ y. tree_in (second (second b)) >>= λ x. Some (Codef p add y x)
+viewed (Node head.BirthdayStep a b) = name_in a >>= λ x. Some (Birthday x b)
+viewed (Node head.GuessStep a b) = name_in a >>= λ x. Some (Guess x b)
+viewed (Node head.FreshStep a b) = number_in a >>= λ p. Some (Fresh p)
+viewed (Node head.CryptoStep a b) = name_in a >>= λ e. name_in b >>= λ x. Some (Crypto e x)
+viewed (Node head.SuccessStep a b) = number_in a >>= λ k. Some (Success k b)
+viewed (Node head.SimplifyStep a b) = Some Simplify
+viewed t = None
+
+-- the items that a view tells
+abbrev pub told : List KindTree → StepView → StepItems
+told trees (view.Rename x to) = Rename x.0 to.0
+told trees (view.Rewrite p m by) = Rewrite p (tree_at trees (Some m)) (tree_at trees by)
+told trees (view.Prune p part by) = Prune p part (tree_at trees by)
+told trees (view.Pick p ms d e) = Pick p (tree_at trees ms) (tree_at trees d) (tree_at trees e)
+told trees (view.Merge p) = Merge p
+told trees (view.Split p m) = Split p (tree_at trees (Some m))
+told trees (view.Let p x T m) = Let p x.0 T.0 (tree_at trees (Some m))
+told trees (view.Unlet x) = Unlet x.0
+told trees (view.New p x T) = New p x.0 T.0
+told trees (view.Unnew x) = Unnew x.0
+told trees (view.Move p) = Move p
+told trees (view.ArrayRename x xs) = ArrayRename x.0 (tree_at trees xs)
+told trees (view.Codef p add y x) = Codef p add (tree_at trees (Some y)) (tree_at trees (Some x))
+told trees (view.Birthday x ps) = Birthday x.0 (tree_at trees ps)
+told trees (view.Guess x ps) = Guess x.0 (tree_at trees ps)
+told trees (view.Fresh p) = Fresh p
+told trees (view.Crypto e x) = Crypto e.0 x.0
+told trees (view.Success k by) = Success k (tree_at trees by)
+told trees view.Simplify = Simplify
