@@ -1,0 +1,162 @@
+-- From the stages of reading a script to what its tokens say.
+use Rattle.std.proofs.Common.{◌≡◌, ℕ, ◌+◌, ◌-◌, ◌<◌, ◌≤◌, Bool, true, false, nat_lt, if◌then◌else◌, List, [], ◌∷◌, ◌++◌, append-nil, drop, map, length, length-drop, length-append, refl, ap, subst, sym, ◌∙◌, arith, Option, None, Result, Ok, Err, Some}
+use Rattle.std.specs.Prelude.{IfErr, IfOk, OnOk}
+use Rattle.std.proofs.lemmas.Bool.Decides.{nat_tests}
+use Rattle.std.proofs.lemmas.List.{length-map}
+use Rattle.std.specs.declared.vec.Vec.{Vec}
+use Rattle.std.specs.declared.alloc.Global.{Global}
+use Rattle.cv_pool.specs.declared.node.NodeId.{NodeId}
+use Rattle.cv_pool.specs.KindTree.{KindTree}
+use Rattle.cv_lex.specs.Lexis.{Token}
+use Rattle.cv_lex.specs.View.{token_at}
+use Rattle.cv_syntax.specs.declared.work.BuildError.TheVariants as build
+use Rattle.cv_syntax.specs.declared.make.Make.{Make}
+use Rattle.cv_syntax.specs.declared.make.Make.TheVariants as make
+use Rattle.cv_syntax.proofs.Trees.{tree_at-None}
+use Rattle.cv_syntax.specs.Planting.{overs}
+use Rattle.cv_syntax.specs.Postorder.{postorder}
+use Rattle.cv_syntax.specs.Tree.{Tree, tree_at}
+use Rattle.cv_parse_terminals.specs.ScriptSigns.{between, script_signs}
+use Rattle.cv_parse_terminals.proofs.ScriptWalk.{between-cons, between-nil}
+use Rattle.cv_parse_notation.specs.declared.sign.Sign.{Sign}
+use Rattle.cv_parse_notation.specs.Reads.{read_sort}
+use Rattle.cv_parse_notation.specs.Spells.{next_is, starts}
+use Rattle.cv_parse_terms.specs.declared.lookahead.ReadError.{ReadError}
+use Rattle.cv_parse_terms.specs.declared.lookahead.ReadError.TheVariants as reading
+use Rattle.cv_parse_terms.specs.declared.trail.Trail.{Trail}
+use Rattle.cv_parse_terms.specs.Gives.{Fails, IsMade, Makes}
+use Rattle.std.specs.Borrow.{Bor}
+use Rattle.cv_parse_tables.specs.declared.piece.Piece.{Piece}
+use Rattle.cv_parse_tables.specs.Table.{Row, form, row_phrase, rows_of, table_heads, table_rule}
+use Rattle.cv_script.specs.Rows.{script_rows, step_row}
+use Rattle.cv_script.specs.declared.steps.Step.{Step}
+use Rattle.cv_parse_script.specs.declared.error.ScriptError.{ScriptError}
+use Rattle.cv_parse_script.specs.declared.error.ScriptError.TheVariants.{Script, Unbuilt, Build}
+use Rattle.cv_parse_script.specs.Scripts.{ReadsScript, Refuses, begins_step, ended, items, nodes_of, of_read, read_row, roomed, script_of, stopped, token_begins_step, trees_of}
+use Rattle.cv_parse_script.specs.Stages.{Crowds, IsScript, shifted}
+
+-- reading stopped at a place
+
+by_begin : (b : Bool) (token : ℕ) (r : Result (List Tree) ScriptError) → r ≡ Err (if b then Unbuilt token else Script token) → Refuses (if b then Unbuilt token else Script token) r
+by_begin true token r e = e
+by_begin false token r e = e
+
+pub stops : (row limit live from : ℕ) (signs : List Sign) (old new : Trail) (end : ℕ) → IsMade postorder signs old new (read_row row signs) end → end < length signs → (e : ScriptError) → e ≡ stopped (from + end) (drop end signs) → Refuses e (script_of row limit live from signs)
+unfolding script_of
+stops row limit live from signs old new end d l e i =
+    subst (λ z. Refuses z (script_of row limit live from signs)) (sym i) (by_begin (next_is begins_step (drop end signs)) (from + end) (script_of row limit live from signs) read)
+  where
+    more : (rest : List Sign) → 0 < length rest → ended limit live (from + length signs) d.value rest ≡ Err (stopped (from + length signs - length rest) rest)
+    more [] h = absurd (omega arith)
+    more (s ∷ rest) h = refl
+
+    left : length (drop end signs) ≡ length signs - end
+    left = length-drop end signs
+
+    read : script_of row limit live from signs ≡ Err (stopped (from + end) (drop end signs))
+    read = ap (of_read limit live (from + length signs)) d.read.is ∙ (more (drop end signs) (omega (arith, left, l)) ∙ ap (λ n. Err (stopped n (drop end signs))) (omega (arith, left, l)))
+
+-- a fault of the table
+pub faults : (row limit live from : ℕ) (signs : List Sign) (fault : ReadError) → from + length signs < 4294967296 → Fails signs fault (read_row row signs) → (e : ScriptError) → e ≡ shifted from fault → Refuses e (script_of row limit live from signs)
+unfolding script_of
+faults row limit live from signs (reading.Syntax k) few h e i = subst (λ z. Refuses z (script_of row limit live from signs)) (sym i) (ap (of_read limit live (from + length signs)) h.1 ∙ ap (λ n. Err (Script n)) (let w = h.0 in omega arith))
+faults row limit live from signs (reading.Nesting k) few h e i = subst (λ z. Refuses z (script_of row limit live from signs)) (sym i) (ap (of_read limit live (from + length signs)) h.1 ∙ ap (λ n. Err (Script n)) (let w = h.0 in omega arith))
+faults row limit live from signs reading.OutOfMemory few h e i = subst (λ z. Refuses z (script_of row limit live from signs)) (sym i) tt
+
+-- the whole was read
+pub ends : (row : ℕ) (signs : List Sign) (old new : Trail) (end : ℕ) → IsMade postorder signs old new (read_row row signs) end → length signs ≤ end → IsScript row signs old new
+ends row signs old new end d l = record {
+  value = d.value;
+  uses = d.read.uses;
+  is = d.read.is ∙ ap (λ r. Ok (record { value = d.value; uses = d.read.uses; rest = r })) (empty (drop end signs) (let n = length-drop end signs in omega (arith, n, l)));
+  parts = d.makes;
+}
+  where
+    empty : (rest : List Sign) → length rest ≡ 0 → rest ≡ []
+    empty [] h = refl
+    empty (s ∷ rest) h = absurd (omega arith)
+
+-- the steps of a list
+
+pub trees-push : (trees : List KindTree) (steps : List Step) (s : Step) (t : Tree) (rest : List Tree) → tree_at trees (Some s.0) ≡ t → trees_of trees (steps ++ s ∷ []) ++ rest ≡ trees_of trees steps ++ t ∷ rest
+trees-push trees [] s t rest e = ap (λ u. u ∷ rest) e
+trees-push trees (x ∷ steps) s t rest e = ap (λ l. tree_at trees (Some x.0) ∷ l) (trees-push trees steps s t rest e)
+
+-- no item is left
+pub finished : (trees : List KindTree) (steps : List Step) (at : Option NodeId) (l : List Tree) → ((n : NodeId) → at ≡ Some n → ⊥) → trees_of trees steps ++ items (tree_at trees at) ≡ l → trees_of trees steps ≡ l
+finished trees steps None l none e = sym (append-nil (trees_of trees steps)) ∙ (ap (λ t. trees_of trees steps ++ items t) (sym (tree_at-None trees)) ∙ e)
+finished trees steps (Some n) l none e = absurd (none n refl)
+
+-- the parts of one tree make it alone
+pub one_root : {A : Type 0} (f : A → Tree) (t : Tree) (roots s : List A) (x : A) → map f roots ≡ t ∷ [] → roots ≡ s ++ x ∷ [] → f x ≡ t
+one_root f t roots [] x e g = let h : f x ∷ [] ≡ t ∷ [] = ap (map f) (sym g) ∙ e in cc
+one_root f t roots (z ∷ s) x e g =
+    absurd (let l = ap length (ap (map f) (sym g) ∙ e) in let m = length-map ((z ∷ s) ++ x ∷ []) f in let n = length-append s (x ∷ []) in omega arith)
+
+pub few_overs : (ms : List Make) → overs ms ≤ length ms
+few_overs [] = omega arith
+few_overs (make.Nothing ∷ ms) = omega (arith, few_overs ms)
+few_overs (make.Over h ∷ ms) = omega (arith, few_overs ms)
+
+-- the room of a pool
+
+first_of : {A : Type 0} (a b : A) (c : Bool) → c ≡ true → (if c then a else b) ≡ a
+first_of a b true e = refl
+first_of a b false e = absurd (cc)
+
+second_of : {A : Type 0} (a b : A) (c : Bool) → c ≡ false → (if c then a else b) ≡ b
+second_of a b false e = refl
+second_of a b true e = absurd (cc)
+
+full : (limit live : ℕ) (t : Tree) → limit < live + nodes_of t → roomed limit live t ≡ Err (Build (build.Full (nodes_of t)))
+full limit live t l = first_of {A = Result (List Tree) ScriptError} (Err (Build (build.Full (nodes_of t)))) (Ok (items t)) (nat_lt limit (live + nodes_of t)) (grind (arith, nat_tests))
+
+room : (limit live : ℕ) (t : Tree) → live + nodes_of t ≤ limit → roomed limit live t ≡ Ok (items t)
+room limit live t l = second_of {A = Result (List Tree) ScriptError} (Err (Build (build.Full (nodes_of t)))) (Ok (items t)) (nat_lt limit (live + nodes_of t)) (grind (arith, nat_tests))
+
+module _ (row limit live from : ℕ) (signs : List Sign) (old new : Trail) (d : IsScript row signs old new) where
+  by_read : script_of row limit live from signs ≡ roomed limit live d.value
+  unfolding script_of
+  by_read = ap (of_read limit live (from + length signs)) d.is
+
+  crowd_refuses : (e : ScriptError) → Crowds limit live (nodes_of d.value) e → Refuses e (script_of row limit live from signs)
+  crowd_refuses (Script k) h = by_read ∙ (full limit live d.value h.1 ∙ ap Err (sym h.0))
+  crowd_refuses (Unbuilt k) h = by_read ∙ (full limit live d.value h.1 ∙ ap Err (sym h.0))
+  crowd_refuses (Build (build.Full n)) h = by_read ∙ (full limit live d.value h.1 ∙ ap Err (sym h.0))
+  crowd_refuses (Build (build.Nodes n)) h = by_read ∙ (full limit live d.value h.1 ∙ ap Err (sym h.0))
+  crowd_refuses (Build (build.Depth n)) h = by_read ∙ (full limit live d.value h.1 ∙ ap Err (sym h.0))
+  crowd_refuses (Build build.OutOfMemory) h = tt
+
+  -- what is planted is what is read
+  pub plants : (trees : List KindTree) (r : Result (Vec Step Global) ScriptError) → IfOk r (λ v. trees_of trees v.items ≡ items d.value) → OnOk r (live + nodes_of d.value ≤ limit) → IfErr r (λ e. Crowds limit live (nodes_of d.value) e) → ReadsScript (script_of row limit live from signs) trees r
+  plants trees (Ok steps) s r c = by_read ∙ (room limit live d.value r ∙ ap Ok (sym s))
+  plants trees (Err e) s r c = crowd_refuses e c
+
+-- the parts are those of one tree
+pub only_parts : (new old parts : List Make) → old ≡ [] → new ≡ old ++ parts → new ≡ parts
+only_parts new old parts e h = h ∙ ap (λ l. l ++ parts) e
+
+-- the program's rows
+
+pub begins_there : (rows : List (Bor (List Piece))) → rows_of rows ≡ script_rows → (signs : List Sign) → next_is (starts (table_heads (rows_of rows)) (form (rows_of rows) (length rows) step_row)) signs ≡ next_is begins_step signs
+begins_there rows e signs =
+    ap (λ n. next_is (starts (table_heads (rows_of rows)) (form (rows_of rows) n step_row)) signs) (sym (length-map rows (λ r. r.now)))
+    ∙ ap (λ table. next_is (starts (table_heads table) (row_phrase table step_row)) signs) e
+
+pub reads_there : (rows : List (Bor (List Piece))) → rows_of rows ≡ script_rows → (row : ℕ) (signs : List Sign) (old new : Trail) (r : Result ℕ ReadError) → Makes postorder signs old new r (read_sort (table_heads (rows_of rows)) (table_rule (rows_of rows)) 200 (Row row) signs) → Makes postorder signs old new r (read_row row signs)
+reads_there rows e row signs old new r d = subst (λ table. Makes postorder signs old new r (read_sort (table_heads table) (table_rule table) 200 (Row row) signs)) e d
+
+-- the first token of a script
+
+drop_none : (signs : List Sign) → drop 0 signs ≡ signs
+drop_none [] = refl
+drop_none (s ∷ signs) = refl
+
+pub first_begins : (ts : List Token) (k : ℕ) → k + 1 < length ts → (names : List (List ℕ)) → names ≡ [] → (signs slice : List Sign) → (script_signs names (between k (k + 1) ts)).signs ≡ signs → slice ≡ signs → next_is begins_step (drop 0 slice) ≡ token_begins_step (token_at ts k)
+first_begins ts k l names n signs slice e s =
+    ap (next_is begins_step) (drop_none slice ∙ (s ∙ sym e))
+    ∙ (ap (λ ns. next_is begins_step (script_signs ns (between k (k + 1) ts)).signs) n
+    ∙ ap (λ us. next_is begins_step (script_signs [] us).signs) alone)
+  where
+    alone : between k (k + 1) ts ≡ token_at ts k ∷ []
+    alone = between-cons ts k (k + 1) (omega arith) l ∙ ap (λ us. token_at ts k ∷ us) (between-nil ts (k + 1) (k + 1) (omega arith))

@@ -1,0 +1,9 @@
+use Rattle.std.proofs.Common.{length, ◌∙◌}
+use Rattle.cv_parse_script.proofs.Steps.{only_parts, plants}
+use Rattle.cv_parse_script.proofs.scripts.script_in.Goals as goal
+
+pub returns-clause-reads : goal.returns-clause-reads
+returns-clause-reads c =
+    let d = c.in_ok-read.ensures in
+    let parts = c.deref.ensures.value ∙ only_parts _ _ _ c.new-trail.ensures.makes d.parts in
+    plants c.args.row c.args.pool.now.limit (length c.args.pool.now.trees) c.args.from c.args.signs.now _ _ d c.plant_steps.new.pool.trees c.plant_steps.result (c.plant_steps.ensures.steps d.value parts) (c.plant_steps.ensures.room d.value parts) (c.plant_steps.ensures.crowds d.value parts)
