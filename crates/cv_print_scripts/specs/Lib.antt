@@ -1,0 +1,4 @@
+pub mod Known
+pub mod Parted
+pub mod Texts
+pub mod Worked
