@@ -1,2 +1,2 @@
-mod Aligned
-mod Closing
+pub mod Aligned
+pub mod Closing

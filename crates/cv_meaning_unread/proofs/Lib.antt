@@ -1,0 +1,5 @@
+pub mod Unread
+pub mod Alike
+pub mod CellSizes
+pub mod Chances
+pub mod PutIn

@@ -1,0 +1,64 @@
+-- So each choice and test has a value in each game of a sequence.
+use Rattle.std.proofs.Common.{◌≡◌, ℕ, ◌<◌, ◌≤◌, true, not, None, subst, arith}
+use Rattle.std.proofs.lemmas.Bool.{and_parts}
+use Rattle.cv_syntax.specs.Tree.{Tree}
+use Rattle.cv_meaning.specs.Interpretation.{Interpretation, setting_of}
+use Rattle.cv_meaning.specs.Runs.{Mode}
+use Rattle.cv_meaning.specs.Satisfies.{Satisfies}
+use Rattle.cv_meaning_adequacy.specs.Typed as meaning
+use Rattle.cv_meaning_adequacy.proofs.Sorted.{some_value}
+use Rattle.cv_meaning_runs.specs.Replacement.{Process}
+use Rattle.cv_scope_runs.specs.Phrases.{Inputs, is_phrase}
+use Rattle.cv_steps.specs.Scenes.{Scene, is_output_at, is_chosen, is_new, is_queried, first_reading, has_place, is_type, part_at}
+use Rattle.cv_steps.specs.Steps.{Step, Split, Let, New, Unnew, Cost, Zero}
+use Rattle.cv_steps.specs.Changes.{changed, divided, after_let, after_new, dropped, only}
+use Rattle.cv_steps.specs.Terms.{is_bool_at}
+use Rattle.cv_steps.specs.Judged.{Accepted, judged}
+use Rattle.cv_steps_laws.proofs.Flat.{term_still}
+use Rattle.cv_steps_laws.proofs.Gone.{dropped_game}
+use Rattle.cv_steps_laws.proofs.Keeping.{accepted, leads_same, placed, term_phrase, unless_leads, unless_at_leads}
+use Rattle.cv_steps_laws.proofs.Sorts.{type_declared}
+use Rattle.cv_steps_laws.proofs.Unnamed.{unlisted_unread}
+use Rattle.cv_sequences.specs.Values.{HasValuesIn}
+use Rattle.cv_sequences.proofs.Values.{still_values, values_replaced, values_dropped}
+
+module _ (s : Scene) (i : Interpretation) (sat : Satisfies s.declarations i) (m : Mode) where
+  abbrev Valued : Tree → Type 0
+  Valued t = HasValuesIn (setting_of s.declarations i) m t
+
+  type_value : (T : ℕ) → is_type s T ≡ true → 0 < i.type_size T
+  type_value T e =
+      let v : 1 ≤ i.type_size T = some_value (record { declarations = s.declarations; variables = λ x. None; oracles = λ l. None }) i sat (meaning.OfType T) (type_declared s.declarations T e) in
+      omega arith
+
+  changed_values : (p : ℕ) (change : Tree → Tree) → is_phrase Inputs s.game ≡ true → is_output_at s p ≡ true → (Valued (part_at s.game p) → Valued (change (part_at s.game p))) → Valued s.game → Valued (changed s.game p change)
+  changed_values p change w o k d = values_replaced (setting_of s.declarations i) m (part_at s.game p) (change (part_at s.game p)) p k Process 0 s.game (changed s.game p change) (placed s.game p change w o) d
+
+  pub next_values : (step : Step) (next : Tree) (cost : Cost) → is_phrase Inputs s.game ≡ true → Valued s.game → judged s step ≡ Accepted next cost → Valued next
+  unfolding HasValuesIn
+  next_values (Split p t) next cost w d e =
+      let r = accepted s (Split p t) next cost e in
+      let o = unless_leads (is_output_at s p) 1 0 _ next cost r.row in
+      let q = unless_leads (is_bool_at s p t) 2 0 _ next cost o.1 in
+      let v = still_values (setting_of s.declarations i) m t (term_still t (term_phrase s p t (and_parts (has_place s p) _ r.stands).1)) in
+      subst Valued (leads_same _ next Zero cost q.1) (changed_values p (divided t) w o.0 (λ x. (tt, v, (tt, x, (tt, x, tt)))) d)
+  next_values (Let p x T t) next cost w d e =
+      let r = accepted s (Let p x T t) next cost e in
+      let o = unless_leads (is_output_at s p) 1 0 _ next cost r.row in
+      let q = unless_leads (is_new s x) 2 0 _ next cost o.1 in
+      let k = and_parts (is_type s T) _ (and_parts (has_place s p) _ r.stands).1 in
+      let v = still_values (setting_of s.declarations i) m t (term_still t (term_phrase s p t k.1)) in
+      subst Valued (leads_same _ next Zero cost q.1) (changed_values p (after_let x T t) w o.0 (λ y. (type_value T k.0, v, y)) d)
+  next_values (New p x T) next cost w d e =
+      let r = accepted s (New p x T) next cost e in
+      let o = unless_leads (is_output_at s p) 1 0 _ next cost r.row in
+      let q = unless_leads (is_new s x) 2 0 _ next cost o.1 in
+      let k = and_parts (has_place s p) _ r.stands in
+      subst Valued (leads_same _ next Zero cost q.1) (changed_values p (after_new x T) w o.0 (λ y. (type_value T k.1, tt, y)) d)
+  next_values (Unnew x) next cost w d e =
+      let r = accepted s (Unnew x) next cost e in
+      let a = unless_leads (is_chosen s x) 1 0 _ next cost r.row in
+      let q = unless_leads (not (is_queried s x)) 2 0 _ next cost a.1 in
+      let o = unless_at_leads 2 (first_reading x 0 s.game) _ next cost q.1 in
+      subst Valued (leads_same _ next Zero cost o.1)
+      (values_dropped (setting_of s.declarations i) m (only x) Process s.game (dropped (only x) s.game) (dropped_game (only x) s.game w (unlisted_unread x 0 s.game o.0)) d)

@@ -1,0 +1,31 @@
+-- How steps change games. This profile's own.
+use Rattle.std.specs.Prelude.{ℕ, Bool, ◌==◌, if◌then◌else◌}
+use Rattle.cv_syntax.specs.declared.head.Head.TheVariants.{New, Let}
+use Rattle.cv_syntax.specs.Tree.{Tree, Empty, Node}
+use Rattle.cv_meaning_runs.specs.Replacement.{if_tree, replaced}
+use Rattle.cv_meaning_unread.specs.Dropping.{defines}
+use Rattle.cv_steps.specs.Scenes.{part_at}
+
+-- the tree with what stands at a place changed
+abbrev pub changed : Tree → ℕ → (Tree → Tree) → Tree
+changed t p change = replaced t p (change (part_at t p))
+
+-- `if` the condition holds `then` the process, `else` the same
+abbrev pub divided : Tree → Tree → Tree
+divided condition process = if_tree condition process process
+
+-- `let` and `new` before a process
+abbrev pub after_let : (x type : ℕ) → (term process : Tree) → Tree
+after_let x T m process = Node (Let x T) m process
+
+abbrev pub after_new : (x type : ℕ) → (process : Tree) → Tree
+after_new x T process = Node (New x T) Empty process
+
+-- the tree without the `new` and `let` of these variables
+unfoldable pub dropped : (ℕ → Bool) → Tree → Tree
+dropped xs Empty = Empty
+dropped xs (Node h a b) = if defines xs h then dropped xs b else Node h (dropped xs a) (dropped xs b)
+
+-- this variable alone
+abbrev pub only : ℕ → ℕ → Bool
+only x y = y == x

@@ -1,0 +1,38 @@
+-- What is said of a step in a game: its conditions in their order, and the limits of the next game. This profile's own.
+use Rattle.std.specs.Prelude.{ℕ, Bool, ◌&&◌, ◌||◌, nat_lt, if◌then◌else◌}
+use Rattle.cv_syntax.specs.Tree.{Tree, size, depth}
+use Rattle.cv_steps.specs.Scenes.{Scene, has_place, names, is_type}
+use Rattle.cv_steps.specs.Steps.{Step, Split, Let, New, Unnew, Cost}
+use Rattle.cv_steps.specs.Terms.{is_term_at, is_game}
+use Rattle.cv_steps.specs.Rows.{Row, Fails, Leads, row_of}
+
+pub data Judgement : Type 0 where
+  Refused : (condition place : ℕ) → Judgement
+  TooLarge : (nodes : ℕ) → Judgement
+  TooDeep : (depth : ℕ) → Judgement
+  Accepted : (next : Tree) → Cost → Judgement
+
+-- condition 0: what the step speaks of is there
+abbrev pub stands : Scene → Step → Bool
+stands s (Split p m) = has_place s p && is_term_at s p m
+stands s (Let p x T m) = has_place s p && (is_type s T && is_term_at s p m)
+stands s (New p x T) = has_place s p && is_type s T
+stands s (Unnew x) = s.known x || names x s.game
+
+-- the limits of a game
+abbrev pub most_nodes : ℕ
+most_nodes = 50000
+
+abbrev pub most_depth : ℕ
+most_depth = 200
+
+-- condition 9 is that of the next game
+abbrev pub judged_row : Scene → Row → Judgement
+judged_row s (Fails condition place) = Refused condition place
+judged_row s (Leads next cost) =
+    if nat_lt most_nodes (size next) then TooLarge (size next)
+    else if nat_lt most_depth (depth next) then TooDeep (depth next)
+    else if is_game s.declarations next then Accepted next cost else Refused 9 0
+
+abbrev pub judged : Scene → Step → Judgement
+judged s step = if stands s step then judged_row s (row_of s step) else Refused 0 0

@@ -1,0 +1,42 @@
+-- The rows of steps: the first condition that fails, with its place, or the next game and the cost. This profile's own.
+use Rattle.std.specs.Prelude.{ℕ, Bool, not, if◌then◌else◌, Option, Some, None}
+use Rattle.cv_syntax.specs.Tree.{Tree}
+use Rattle.cv_steps.specs.Scenes.{Scene, is_output_at, is_new, is_queried, is_chosen, first_reading}
+use Rattle.cv_steps.specs.Steps.{Step, Split, Let, New, Unnew, Cost, Zero}
+use Rattle.cv_steps.specs.Changes.{changed, divided, after_let, after_new, dropped, only}
+use Rattle.cv_steps.specs.Terms.{is_bool_at}
+
+pub data Row : Type 0 where
+  Fails : (condition place : ℕ) → Row
+  Leads : (next : Tree) → Cost → Row
+
+-- the rest of a row, unless this condition fails
+abbrev pub unless : Bool → (condition place : ℕ) → Row → Row
+unless holds condition place rest = if holds then rest else Fails condition place
+
+-- the same, where a condition fails at a place, if there is one
+abbrev pub unless_at : (condition : ℕ) → Option ℕ → Row → Row
+unless_at condition None rest = rest
+unless_at condition (Some place) rest = Fails condition place
+
+abbrev pub split_row : Scene → (place : ℕ) → (condition : Tree) → Row
+split_row s p m = unless (is_output_at s p) 1 0 (unless (is_bool_at s p m) 2 0 (Leads (changed s.game p (divided m)) Zero))
+
+abbrev pub let_row : Scene → (place x type : ℕ) → (term : Tree) → Row
+let_row s p x T m = unless (is_output_at s p) 1 0 (unless (is_new s x) 2 0 (Leads (changed s.game p (after_let x T m)) Zero))
+
+abbrev pub new_row : Scene → (place x type : ℕ) → Row
+new_row s p x T = unless (is_output_at s p) 1 0 (unless (is_new s x) 2 0 (Leads (changed s.game p (after_new x T)) Zero))
+
+-- a query stands before all places
+abbrev pub unnew_row : Scene → (x : ℕ) → Row
+unnew_row s x =
+    unless (is_chosen s x) 1 0
+    (unless (not (is_queried s x)) 2 0
+    (unless_at 2 (first_reading x 0 s.game) (Leads (dropped (only x) s.game) Zero)))
+
+abbrev pub row_of : Scene → Step → Row
+row_of s (Split p m) = split_row s p m
+row_of s (Let p x T m) = let_row s p x T m
+row_of s (New p x T) = new_row s p x T
+row_of s (Unnew x) = unnew_row s x

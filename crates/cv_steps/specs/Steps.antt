@@ -1,0 +1,14 @@
+-- Steps of proofs, as trees and names say them. This profile's own.
+use Rattle.std.specs.Prelude.{ℕ}
+use Rattle.cv_syntax.specs.Tree.{Tree}
+
+-- a place is a preorder number
+pub data Step : Type 0 where
+  Split : (place : ℕ) → (condition : Tree) → Step
+  Let : (place x type : ℕ) → (term : Tree) → Step
+  New : (place x type : ℕ) → Step
+  Unnew : (x : ℕ) → Step
+
+-- what a step may change the chance of an experiment by: those above by nothing
+pub data Cost : Type 0 where
+  Zero : Cost

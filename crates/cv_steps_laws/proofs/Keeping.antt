@@ -1,0 +1,232 @@
+-- Steps keep chances.
+use Rattle.std.proofs.Common.{[], ◌∷◌, ◌≡◌, ℕ, Bool, true, false, cond, not, nat_lt, List, Option, Some, None, is_some, refl, sym, ap, subst, ◌∙◌, eq-eqb}
+use Rattle.std.proofs.lemmas.Bool.{both_ways, and_parts, not-true}
+use Rattle.cv_syntax.specs.declared.head.Head.{Head}
+use Rattle.cv_syntax.specs.declared.head.Head.TheVariants as head
+use Rattle.cv_syntax.specs.Declarations.{Declaration}
+use Rattle.cv_syntax.specs.Tree.{Tree, Empty, Node, size, depth, subtree}
+use Rattle.cv_meaning.specs.Side.{no_side}
+use Rattle.cv_meaning.specs.Interpretation.{is_constant_of, setting_of}
+use Rattle.cv_meaning_runs.specs.Agreement.{IsLocal}
+use Rattle.cv_meaning_runs.specs.Replacement.{Process, IsReplaced, is_output}
+use Rattle.cv_meaning_runs.proofs.Places.{replaced_where}
+use Rattle.cv_meaning_unread.specs.Dropping.{defines, is_still}
+use Rattle.cv_meaning_unread.proofs.Chances.{chance_without, split_chance}
+use Rattle.cv_meaning_unread.proofs.PutIn.{put_in}
+use Rattle.cv_typing.specs.Parts.{IsTypedGame, first_in, game_part}
+use Rattle.cv_typing.proofs.First.{game_alone, parts_typed_where_none}
+use Rattle.cv_scope.specs.Scope.{names_of}
+use Rattle.cv_scope.specs.Standing.{at_root}
+use Rattle.cv_scope.proofs.First.{scoped_where_none}
+use Rattle.cv_scope_runs.specs.Phrases.{Inputs, Term, IsWellFormed, is_phrase, binds_none}
+use Rattle.cv_typing_runs.specs.Games.{HasConstants, HasDeclaredSorts, HasKnownNames, HasNamedFunctionsAndCells}
+use Rattle.cv_typing_runs.proofs.Games.{known}
+use Rattle.cv_steps.specs.Scenes.{Scene, KnowsQueries, is_chosen, is_new, is_output_at, is_queried, first_reading, has_place, is_type, names, or_empty, part_at}
+use Rattle.cv_steps.specs.Steps.{Step, Split, Let, New, Unnew, Cost, Zero}
+use Rattle.cv_steps.specs.Changes.{changed, divided, after_let, after_new, dropped, only}
+use Rattle.cv_steps.specs.Terms.{is_term_at, is_bool_at, is_there, names_anywhere, has_site, has_index, is_game}
+use Rattle.cv_steps.specs.Rows.{Row, Fails, Leads, unless, unless_at, split_row, let_row, new_row, unnew_row, row_of}
+use Rattle.cv_steps.specs.Judged.{Refused, TooLarge, TooDeep, Accepted, most_nodes, most_depth, stands, judged_row, judged}
+use Rattle.cv_steps.specs.Chances.{KeepsChances}
+use Rattle.cv_steps_laws.proofs.Flat.{term_still}
+use Rattle.cv_steps_laws.proofs.Gone.{dropped_game}
+use Rattle.cv_steps_laws.proofs.Comes.{output_comes}
+use Rattle.cv_steps_laws.proofs.Sorts.{there_named, type_declared, term_declared, declared_replaced, declared_dropped}
+use Rattle.cv_steps_laws.proofs.Unnamed.{unnamed_unread, unnamed_undrawn, unlisted_unread, dropped_undrawn, dropped_phrase, game_testable, game_no_calls, asked_untested}
+
+-- rows
+
+pub leads_same : (x y : Tree) (c d : Cost) → Leads x c ≡ Leads y d → x ≡ y
+leads_same x y c d e = cc
+
+pub unless_leads : (v : Bool) (condition place : ℕ) (rest : Row) (next : Tree) (cost : Cost) → unless v condition place rest ≡ Leads next cost → (v ≡ true) × (rest ≡ Leads next cost)
+unless_leads true condition place rest next cost e = (refl, e)
+unless_leads false condition place rest next cost e = absurd (cc)
+
+pub unless_at_leads : (condition : ℕ) (o : Option ℕ) (rest : Row) (next : Tree) (cost : Cost) → unless_at condition o rest ≡ Leads next cost → (o ≡ None) × (rest ≡ Leads next cost)
+unless_at_leads condition None rest next cost e = (refl, e)
+unless_at_leads condition (Some p) rest next cost e = absurd (cc)
+
+-- an output process at a place, and the game with another one there
+
+stands_there : (game : Tree) (p : ℕ) → is_output (part_at game p) ≡ true → subtree game p ≡ Some (part_at game p)
+stands_there game p e = go (subtree game p) refl e
+  where
+    go : (o : Option Tree) → subtree game p ≡ o → is_output (or_empty o) ≡ true → o ≡ Some (or_empty o)
+    go None f e = absurd (both_ways false refl e)
+    go (Some b) f e = refl
+
+pub placed : (game : Tree) (p : ℕ) (change : Tree → Tree) → is_phrase Inputs game ≡ true → is_output (part_at game p) ≡ true → IsReplaced (part_at game p) (change (part_at game p)) p Process 0 game (changed game p change)
+placed game p change e o =
+    let old : Tree = part_at game p in
+    let s : subtree game p ≡ Some old = stands_there game p o in
+    replaced_where old (change old) game p (output_comes game p old e s o) s
+
+local : IsLocal no_side
+local t u arrays call e = refl
+
+-- steps
+
+pub splits : (s : Scene) (p : ℕ) (m next : Tree) (cost : Cost) → IsWellFormed s.declarations s.game → is_phrase Term m ≡ true → split_row s p m ≡ Leads next cost → KeepsChances s.declarations s.game next
+splits s p m next cost w t e =
+    let r = unless_leads (is_output_at s p) 1 0 _ next cost e in
+    let q = unless_leads (is_bool_at s p m) 2 0 _ next cost r.1 in
+    subst (KeepsChances s.declarations s.game) (leads_same _ next Zero cost q.1)
+    (λ i sat x asked a. split_chance (setting_of s.declarations i) x a m (part_at s.game p) p s.game (changed s.game p (divided m)) r.0 (term_still m t) (placed s.game p (divided m) w.phrase r.0))
+
+unqueried : (s : Scene) (x : ℕ) → KnowsQueries s → s.known x ≡ false → is_queried s x ≡ false
+unqueried s x k e = go (is_queried s x) refl
+  where
+    go : (v : Bool) → is_queried s x ≡ v → v ≡ false
+    go true f = absurd (both_ways _ e (k x f))
+    go false f = refl
+
+-- a definition of a new name before an output process
+before : (s : Scene) (p : ℕ) (h : Head) (a : Tree) (x : ℕ) → IsWellFormed s.declarations s.game → KnowsQueries s → defines (only x) h ≡ true → is_still a ≡ true → is_output_at s p ≡ true → is_new s x ≡ true → KeepsChances s.declarations s.game (changed s.game p (Node h a))
+before s p h a x w k d f o n i sat e asked adversary =
+    let q = and_parts (not (s.known x)) _ n in
+    let unnamed : names x s.game ≡ false = not-true _ q.1 in
+    let next : Tree = changed s.game p (Node h a) in
+    sym (chance_without (setting_of s.declarations i) e adversary (only x) next s.game local (game_testable _ s.game w.phrase) (game_no_calls s.game w.phrase) (unnamed_undrawn x s.game unnamed)
+    (put_in (only x) h a (part_at s.game p) p Process 0 s.game next d f o (unnamed_unread x s.game unnamed) (placed s.game p (Node h a) w.phrase o))
+    (asked_untested s x e asked (unqueried s x k (not-true _ q.0))))
+
+pub assigns : (s : Scene) (p x T : ℕ) (m next : Tree) (cost : Cost) → IsWellFormed s.declarations s.game → KnowsQueries s → is_phrase Term m ≡ true → let_row s p x T m ≡ Leads next cost → KeepsChances s.declarations s.game next
+assigns s p x T m next cost w k t e =
+    let r = unless_leads (is_output_at s p) 1 0 _ next cost e in
+    let q = unless_leads (is_new s x) 2 0 _ next cost r.1 in
+    subst (KeepsChances s.declarations s.game) (leads_same _ next Zero cost q.1) (before s p (head.Let x T) m x w k (eq-eqb x x refl) (term_still m t) r.0 q.0)
+
+pub chooses : (s : Scene) (p x T : ℕ) (next : Tree) (cost : Cost) → IsWellFormed s.declarations s.game → KnowsQueries s → new_row s p x T ≡ Leads next cost → KeepsChances s.declarations s.game next
+chooses s p x T next cost w k e =
+    let r = unless_leads (is_output_at s p) 1 0 _ next cost e in
+    let q = unless_leads (is_new s x) 2 0 _ next cost r.1 in
+    subst (KeepsChances s.declarations s.game) (leads_same _ next Zero cost q.1) (before s p (head.New x T) Empty x w k (eq-eqb x x refl) refl r.0 q.0)
+
+pub drops : (s : Scene) (x : ℕ) (next : Tree) (cost : Cost) → IsWellFormed s.declarations s.game → unnew_row s x ≡ Leads next cost → KeepsChances s.declarations s.game next
+drops s x next cost w e =
+    let r = unless_leads (is_chosen s x) 1 0 _ next cost e in
+    let q = unless_leads (not (is_queried s x)) 2 0 _ next cost r.1 in
+    let o = unless_at_leads 2 (first_reading x 0 s.game) _ next cost q.1 in
+    let less : Tree = dropped (only x) s.game in
+    let phrase : is_phrase Inputs less ≡ true = dropped_phrase (only x) Inputs s.game w.phrase in
+    subst (KeepsChances s.declarations s.game) (leads_same _ next Zero cost o.1)
+    (λ i sat z asked a. chance_without (setting_of s.declarations i) z a (only x) s.game less local (game_testable _ less phrase) (game_no_calls less phrase) (dropped_undrawn (only x) s.game)
+    (dropped_game (only x) s.game w.phrase (unlisted_unread x 0 s.game o.0)) (asked_untested s x z asked (not-true _ q.0)))
+
+-- accepted steps
+
+pub record IsAccepted (s : Scene) (step : Step) (next : Tree) (cost : Cost) : Type 0 where
+  pub stands : stands s step ≡ true
+  pub row : row_of s step ≡ Leads next cost
+  pub small : nat_lt most_nodes (size next) ≡ false
+  pub low : nat_lt most_depth (depth next) ≡ false
+  pub game : is_game s.declarations next ≡ true
+
+pub accepted : (s : Scene) (step : Step) (next : Tree) (cost : Cost) → judged s step ≡ Accepted next cost → IsAccepted s step next cost
+accepted s step next cost e = go (stands s step) refl (row_of s step) refl e
+  where
+    limits : (n : Tree) (c : Cost) (v w z : Bool) → nat_lt most_nodes (size n) ≡ v → nat_lt most_depth (depth n) ≡ w → is_game s.declarations n ≡ z → row_of s step ≡ Leads n c → stands s step ≡ true
+        → cond v (TooLarge (size n)) (cond w (TooDeep (depth n)) (cond z (Accepted n c) (Refused 9 0))) ≡ Accepted next cost → IsAccepted s step next cost
+    limits n c true w z f g h r i e = absurd (cc)
+    limits n c false true z f g h r i e = absurd (cc)
+    limits n c false false false f g h r i e = absurd (cc)
+    limits n c false false true f g h r i e =
+        let j : n ≡ next = cc in
+        let k : c ≡ cost = cc in
+        record { stands = i; row = r ∙ (λ l. Leads (j l) (k l)); small = ap (λ t. nat_lt most_nodes (size t)) (sym j) ∙ f; low = ap (λ t. nat_lt most_depth (depth t)) (sym j) ∙ g; game = ap (is_game s.declarations) (sym j) ∙ h }
+
+    go : (v : Bool) → stands s step ≡ v → (r : Row) → row_of s step ≡ r → cond v (judged_row s r) (Refused 0 0) ≡ Accepted next cost → IsAccepted s step next cost
+    go false i r f e = absurd (cc)
+    go true i (Fails c p) f e = absurd (cc)
+    go true i (Leads n c) f e = limits n c (nat_lt most_nodes (size n)) (nat_lt most_depth (depth n)) (is_game s.declarations n) refl refl refl f i e
+
+-- the term of a step is one
+pub term_phrase : (s : Scene) (p : ℕ) (m : Tree) → is_term_at s p m ≡ true → is_phrase Term m ≡ true
+term_phrase s p m e = (and_parts (is_phrase Term m) _ e).0
+
+pub steps_keep : (s : Scene) (step : Step) (next : Tree) (cost : Cost) → IsWellFormed s.declarations s.game → KnowsQueries s → judged s step ≡ Accepted next cost → KeepsChances s.declarations s.game next
+steps_keep s (Split p m) next cost w k e =
+    let r = accepted s (Split p m) next cost e in
+    splits s p m next cost w (term_phrase s p m (and_parts (has_place s p) _ r.stands).1) r.row
+steps_keep s (Let p x T m) next cost w k e =
+    let r = accepted s (Let p x T m) next cost e in
+    assigns s p x T m next cost w k (term_phrase s p m (and_parts (is_type s T) _ (and_parts (has_place s p) _ r.stands).1).1) r.row
+steps_keep s (New p x T) next cost w k e = chooses s p x T next cost w k (accepted s (New p x T) next cost e).row
+steps_keep s (Unnew x) next cost w k e = drops s x next cost w (accepted s (Unnew x) next cost e).row
+
+-- next games
+
+none_of : {A : Type 0} (o : Option A) → not (is_some o) ≡ true → o ≡ None
+none_of None e = refl
+none_of (Some a) e = absurd (both_ways false refl e)
+
+record IsGame (ds : List Declaration) (game : Tree) : Type 0 where
+  formed : IsWellFormed ds game
+  typed : IsTypedGame ds game
+  named : HasNamedFunctionsAndCells ds game
+
+game_formed : (ds : List Declaration) (game : Tree) → is_game ds game ≡ true → IsGame ds game
+game_formed ds game e =
+    let p = and_parts (is_phrase Inputs game) _ e in
+    let q = and_parts (binds_none (is_constant_of ds) game) _ p.1 in
+    let r = and_parts (is_there (names_anywhere ds game) Inputs game) _ q.1 in
+    let t = and_parts (not (is_some (first_in ds 0 (game_part game ∷ [])))) _ r.1 in
+    record {
+      formed = record { scoped = scoped_where_none (names_of ds game) at_root game (none_of _ t.1); phrase = p.0; constants = q.0 };
+      typed = game_alone ds (game_part game) (parts_typed_where_none ds 0 (game_part game ∷ []) (none_of _ t.0));
+      named = there_named ds (has_site game) (has_index game) Inputs game r.0;
+    }
+
+pub next_formed : (s : Scene) (step : Step) (next : Tree) (cost : Cost) → judged s step ≡ Accepted next cost → IsWellFormed s.declarations next
+next_formed s step next cost e = (game_formed s.declarations next (accepted s step next cost e).game).formed
+
+pub next_typed : (s : Scene) (step : Step) (next : Tree) (cost : Cost) → judged s step ≡ Accepted next cost → IsTypedGame s.declarations next
+next_typed s step next cost e = (game_formed s.declarations next (accepted s step next cost e).game).typed
+
+pub next_named : (s : Scene) (step : Step) (next : Tree) (cost : Cost) → judged s step ≡ Accepted next cost → HasNamedFunctionsAndCells s.declarations next
+next_named s step next cost e = (game_formed s.declarations next (accepted s step next cost e).game).named
+
+pub next_known : (s : Scene) (step : Step) (next : Tree) (cost : Cost) → HasConstants s.declarations → judged s step ≡ Accepted next cost → HasKnownNames s.declarations next
+next_known s step next cost c e = known s.declarations next c (next_formed s step next cost e) (next_named s step next cost e)
+
+-- types and parameters
+
+output_at : (s : Scene) (p : ℕ) (rest : Row) (next : Tree) (cost : Cost) → unless (is_output_at s p) 1 0 rest ≡ Leads next cost → is_output_at s p ≡ true
+output_at s p rest next cost e = (unless_leads (is_output_at s p) 1 0 rest next cost e).0
+
+-- a game with what stands at a place changed
+declared_there : (s : Scene) (p : ℕ) (change : Tree → Tree) → is_phrase Inputs s.game ≡ true → is_output_at s p ≡ true → (HasDeclaredSorts s.declarations (part_at s.game p) → HasDeclaredSorts s.declarations (change (part_at s.game p))) → HasDeclaredSorts s.declarations s.game → HasDeclaredSorts s.declarations (changed s.game p change)
+declared_there s p change w o k d = declared_replaced s.declarations (part_at s.game p) (change (part_at s.game p)) p k Process 0 s.game (changed s.game p change) (placed s.game p change w o) d
+
+pub next_declared : (s : Scene) (step : Step) (next : Tree) (cost : Cost) → is_phrase Inputs s.game ≡ true → HasDeclaredSorts s.declarations s.game → judged s step ≡ Accepted next cost → HasDeclaredSorts s.declarations next
+unfolding HasDeclaredSorts
+next_declared s (Split p m) next cost w d e =
+    let r = accepted s (Split p m) next cost e in
+    let o = unless_leads (is_output_at s p) 1 0 _ next cost r.row in
+    let q = unless_leads (is_bool_at s p m) 2 0 _ next cost o.1 in
+    let t = term_declared s.declarations m (term_phrase s p m (and_parts (has_place s p) _ r.stands).1) in
+    subst (HasDeclaredSorts s.declarations) (leads_same _ next Zero cost q.1) (declared_there s p (divided m) w o.0 (λ x. (tt, t, (tt, x, (tt, x, tt)))) d)
+next_declared s (Let p x T m) next cost w d e =
+    let r = accepted s (Let p x T m) next cost e in
+    let o = unless_leads (is_output_at s p) 1 0 _ next cost r.row in
+    let q = unless_leads (is_new s x) 2 0 _ next cost o.1 in
+    let i = and_parts (is_type s T) _ (and_parts (has_place s p) _ r.stands).1 in
+    let t = term_declared s.declarations m (term_phrase s p m i.1) in
+    subst (HasDeclaredSorts s.declarations) (leads_same _ next Zero cost q.1) (declared_there s p (after_let x T m) w o.0 (λ y. (type_declared s.declarations T i.0, t, y)) d)
+next_declared s (New p x T) next cost w d e =
+    let r = accepted s (New p x T) next cost e in
+    let o = unless_leads (is_output_at s p) 1 0 _ next cost r.row in
+    let q = unless_leads (is_new s x) 2 0 _ next cost o.1 in
+    let i = and_parts (has_place s p) _ r.stands in
+    subst (HasDeclaredSorts s.declarations) (leads_same _ next Zero cost q.1) (declared_there s p (after_new x T) w o.0 (λ y. (type_declared s.declarations T i.1, tt, y)) d)
+next_declared s (Unnew x) next cost w d e =
+    let r = accepted s (Unnew x) next cost e in
+    let a = unless_leads (is_chosen s x) 1 0 _ next cost r.row in
+    let q = unless_leads (not (is_queried s x)) 2 0 _ next cost a.1 in
+    let o = unless_at_leads 2 (first_reading x 0 s.game) _ next cost q.1 in
+    subst (HasDeclaredSorts s.declarations) (leads_same _ next Zero cost o.1)
+    (declared_dropped s.declarations (only x) Process s.game (dropped (only x) s.game) (dropped_game (only x) s.game w (unlisted_unread x 0 s.game o.0)) d)
+
+pub formed : (ds : List Declaration) (game : Tree) → is_game ds game ≡ true → IsWellFormed ds game
+formed ds game e = (game_formed ds game e).formed

@@ -1,0 +1,100 @@
+// Laws of steps: each step that is accepted keeps the chance of every experiment for which a query asks.
+#![tactic(auto)]
+
+ghost use Rattle.std.specs.Prelude.{◌≡◌, ℕ, Bool, true};
+ghost use Rattle.std.specs.List.{AllByRecursion};
+ghost use Rattle.cv_syntax.specs.Tree.{Tree};
+ghost use Rattle.cv_meaning_runs.specs.Replacement.{IsReplaced, Process, is_output};
+ghost use Rattle.cv_meaning_unread.specs.Dropping.{IsDropped, reads_none};
+ghost use Rattle.cv_typing.specs.Parts.{IsTypedGame};
+ghost use Rattle.cv_scope_runs.specs.Phrases.{Inputs, IsWellFormed, Term, is_phrase};
+ghost use Rattle.cv_typing_runs.specs.Games.{
+  HasConstants,
+  HasDeclaredSorts,
+  HasKnownNames,
+  HasNamedFunctionsAndCells,
+};
+ghost use Rattle.cv_steps.specs.Scenes.{KnowsQueries, Scene, part_at};
+ghost use Rattle.cv_steps.specs.Steps.{Cost, Step, Unnew, Zero};
+ghost use Rattle.cv_steps.specs.Changes.{changed, dropped};
+ghost use Rattle.cv_steps.specs.Rows.{Leads, let_row, new_row, split_row, unnew_row};
+ghost use Rattle.cv_steps.specs.Judged.{Accepted, Refused, judged};
+ghost use Rattle.cv_steps.specs.Chances.{KeepsChances};
+ghost use Rattle.cv_steps_laws.specs.Worked.{asked, cases, more, plain};
+
+/// A process may be divided by a condition, whatever the condition says.
+pub fn splitting_keeps_chances()
+    ensures { (s : Scene) (place : ℕ) (condition next : Tree) (cost : Cost) →
+        IsWellFormed s.declarations s.game → is_phrase Term condition ≡ true →
+        split_row s place condition ≡ Leads next cost →
+        KeepsChances s.declarations s.game next }
+{}
+
+/// A new variable may be assigned before a process.
+pub fn assigning_keeps_chances()
+    ensures { (s : Scene) (place x T : ℕ) (term next : Tree) (cost : Cost) →
+        IsWellFormed s.declarations s.game → KnowsQueries s → is_phrase Term term ≡ true →
+        let_row s place x T term ≡ Leads next cost → KeepsChances s.declarations s.game next }
+{}
+
+/// A new variable may be chosen before a process.
+pub fn choosing_keeps_chances()
+    ensures { (s : Scene) (place x T : ℕ) (next : Tree) (cost : Cost) →
+        IsWellFormed s.declarations s.game → KnowsQueries s →
+        new_row s place x T ≡ Leads next cost → KeepsChances s.declarations s.game next }
+{}
+
+/// A variable that is chosen, read nowhere and asked for by no query may go.
+pub fn unread_choices_may_go()
+    ensures { (s : Scene) (x : ℕ) (next : Tree) (cost : Cost) →
+        IsWellFormed s.declarations s.game → unnew_row s x ≡ Leads next cost →
+        KeepsChances s.declarations s.game next }
+{}
+
+/// Each step that is accepted in a well-formed game keeps chances.
+pub fn accepted_steps_keep_chances()
+    ensures { (s : Scene) (step : Step) (next : Tree) (cost : Cost) →
+        IsWellFormed s.declarations s.game → KnowsQueries s →
+        judged s step ≡ Accepted next cost → KeepsChances s.declarations s.game next }
+{}
+
+/// An accepted step leads to a game with all that the laws of runs ask for: it is well-formed and typed, its
+/// names are known, and where the types and parameters of the game are declared, so are those of the next.
+pub fn accepted_steps_lead_to_games()
+    ensures well_formed { (s : Scene) (step : Step) (next : Tree) (cost : Cost) →
+        judged s step ≡ Accepted next cost → IsWellFormed s.declarations next }
+    ensures typed { (s : Scene) (step : Step) (next : Tree) (cost : Cost) →
+        judged s step ≡ Accepted next cost → IsTypedGame s.declarations next }
+    ensures cells { (s : Scene) (step : Step) (next : Tree) (cost : Cost) →
+        judged s step ≡ Accepted next cost → HasNamedFunctionsAndCells s.declarations next }
+    ensures names { (s : Scene) (step : Step) (next : Tree) (cost : Cost) →
+        HasConstants s.declarations → judged s step ≡ Accepted next cost →
+        HasKnownNames s.declarations next }
+    ensures sorts { (s : Scene) (step : Step) (next : Tree) (cost : Cost) →
+        is_phrase Inputs s.game ≡ true → HasDeclaredSorts s.declarations s.game →
+        judged s step ≡ Accepted next cost → HasDeclaredSorts s.declarations next }
+{}
+
+/// In a well-formed game a service may come to each output process, so it can be changed by its place; and a
+/// well-formed game without definitions of variables that it reads nowhere serves as the game does
+/// (`unread_definitions_may_go`), and is in the grammar.
+pub fn changes_of_games()
+    ensures placed { (game : Tree) (place : ℕ) (change : Tree → Tree) →
+        is_phrase Inputs game ≡ true → is_output (part_at game place) ≡ true →
+        IsReplaced (part_at game place) (change (part_at game place)) place Process 0
+        game (changed game place change) }
+    ensures dropped { (xs : ℕ → Bool) (game : Tree) → is_phrase Inputs game ≡ true →
+        reads_none xs game ≡ true → IsDropped xs Process game (dropped xs game) }
+    ensures phrase { (xs : ℕ → Bool) (game : Tree) → is_phrase Inputs game ≡ true →
+        is_phrase Inputs (dropped xs game) ≡ true }
+{}
+
+/// What is said of steps in a small game, which is well-formed: each is accepted somewhere, and each of its
+/// conditions fails somewhere. A nonce that a query asks for is not dropped, and one that was put there is.
+pub fn worked_steps()
+    ensures game { IsWellFormed plain.declarations plain.game }
+    ensures cases { AllByRecursion (λ c. judged plain c.0 ≡ c.1) cases }
+    ensures asked { judged asked (Unnew 4) ≡ Refused 2 0 }
+    ensures knows { KnowsQueries asked }
+    ensures back { judged more (Unnew 11) ≡ Accepted plain.game Zero }
+{}
