@@ -1,0 +1,17 @@
+use Rattle.std.proofs.Common.{◌≡◌, ◌+◌, ◌≤◌, Some}
+use Rattle.cv_pool.specs.Nodes.{ChildBelow}
+use Rattle.cv_syntax.specs.Tree.{size, tree_at}
+use Rattle.cv_syntax.specs.Walks.{above}
+use Rattle.cv_path.specs.Places.{nodes_above}
+use Rattle.cv_draw.proofs.drawing.count_above.Given as goal
+
+abbrev pub invariant-down : goal.invariant-down
+invariant-down l = record {
+  live : ChildBelow (l.fn.root.0 + 1) l.at;
+  within : size (tree_at l.pool.trees l.at) ≤ size (tree_at l.pool.trees (Some l.fn.root));
+  counted : l.count + nodes_above (tree_at l.pool.trees l.at) l.left ≡ nodes_above (tree_at l.pool.trees (Some l.fn.root)) l.fn.place;
+  few : l.count + above l.at ≤ l.fn.root.0 + 1;
+}
+
+abbrev pub decreases-down : goal.decreases-down
+decreases-down l = above l.at

@@ -1,0 +1,78 @@
+ghost use Rattle.std.specs.Prelude.{◌≡◌, ◌<◌, ◌^◌, Some, length};
+ghost use Rattle.cv_pool.specs.Nodes.{ChildBelow};
+ghost use Rattle.cv_syntax.specs.Tree as tree;
+ghost use Rattle.cv_syntax.specs.Tree.{tree_at};
+ghost use Rattle.cv_draw.specs.Changes.{TermIsLive, change_of, nodes_of};
+
+use cv_syntax::{NodeId, Pool, depth, size};
+
+/// How a step changes what stands at a place.
+#[derive(Clone, Copy)]
+pub enum Change {
+    /// An `if` with this condition, and the part as both of its bodies.
+    Divided {
+        condition: NodeId,
+    },
+    /// A `let` before the part.
+    AfterLet {
+        name: u32,
+        of_type: u32,
+        term: NodeId,
+    },
+    /// A `new` before the part.
+    AfterNew {
+        name: u32,
+        of_type: u32,
+    },
+}
+
+/// How many syntax nodes a tree has, and how many its longest path.
+#[derive(Clone, Copy)]
+pub struct Extent {
+    pub nodes: u32,
+    pub depth: u32,
+}
+
+impl Change {
+    /// How many nodes of the pool a change makes at most.
+    pub(crate) fn nodes(self) -> u32
+        ensures { result ≡ nodes_of self }
+    {
+        match self {
+            Change::Divided { .. } => 3,
+            Change::AfterLet { .. } => 1,
+            Change::AfterNew { .. } => 1,
+        }
+    }
+
+    /// How large a changed part is.
+    #[tactic(auto, using(crate::proofs::Extents::extents))]
+    pub(crate) fn extent(self, pool: &Pool, part: NodeId) -> Extent
+        requires live { part.0 < length pool.now.trees }
+        requires term { TermIsLive (length pool.now.trees) self }
+        requires fits { tree.size (change_of pool.now.trees self
+            (tree_at pool.now.trees (Some part))) < 2 ^ 32 }
+        ensures nodes { result.nodes ≡ tree.size (change_of pool.now.trees self
+            (tree_at pool.now.trees (Some part))) }
+        ensures depth { result.depth ≡ tree.depth (change_of pool.now.trees self
+            (tree_at pool.now.trees (Some part))) }
+    {
+        match self {
+            Change::Divided { condition } => {
+                let bodies = 2 * size(pool, part);
+                Extent {
+                    nodes: 1 + size(pool, condition) + bodies,
+                    depth: 1 + depth(pool, condition).max(depth(pool, part)),
+                }
+            }
+            Change::AfterLet { term, .. } => Extent {
+                nodes: 1 + size(pool, term) + size(pool, part),
+                depth: 1 + depth(pool, term).max(depth(pool, part)),
+            },
+            Change::AfterNew { .. } => Extent {
+                nodes: 1 + size(pool, part),
+                depth: 1 + depth(pool, part),
+            },
+        }
+    }
+}

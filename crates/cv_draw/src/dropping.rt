@@ -1,0 +1,170 @@
+ghost use Rattle.std.specs.Prelude.{◌≡◌, ◌+◌, ◌<◌, ◌≤◌, ◌^◌, ◌++◌, ◌↔◌, ℕ, IfOk, IsErrOf, OnErr, OnOk, Some, length, map, reverse};
+ghost use Rattle.cv_pool.specs.Nodes.{ChildBelow};
+ghost use Rattle.cv_pool.specs.PoolView.{Grows};
+ghost use Rattle.cv_syntax.specs.Planting.{overs};
+ghost use Rattle.cv_syntax.specs.Postorder.{postorder};
+ghost use Rattle.cv_syntax.specs.Tree as tree;
+ghost use Rattle.cv_syntax.specs.Tree.{Tree, tree_at};
+ghost use Rattle.cv_meaning_unread.specs.Dropping.{defines};
+ghost use Rattle.cv_steps.specs.Changes.{dropped, only};
+ghost use Rattle.cv_draw.specs.Dropping.{nodes_without};
+ghost use Rattle.cv_syntax.specs.declared.make.Make.TheVariants as make;
+
+use crate::change::Extent;
+use cv_pool::PoolError;
+use cv_syntax::{Head, Make, NodeId, Pool, plant, read_node};
+use std::alloc::{AllocError, Global};
+
+/// Whether a node defines a variable by `new` or `let`.
+fn defines(x: u32, head: Head) -> bool
+    ensures { result ≡ defines (only x) head }
+{
+    match head {
+        Head::New(y, _) => y == x,
+        Head::Let(y, _) => y == x,
+        _ => false,
+    }
+}
+
+/// How many syntax nodes a tree has without the definitions of a variable.
+fn size_without(pool: &Pool, x: u32, start: Option<NodeId>) -> u32
+    requires live { ChildBelow (length pool.now.trees) start }
+    requires fits { tree.size (tree_at pool.now.trees start) < 2 ^ 32 }
+    ensures { result ≡ tree.size (dropped (only x) (tree_at pool.now.trees start)) }
+{
+    let mut total = 0;
+    let mut at = start;
+    'chain: while let Some(k) = at {
+        let node = read_node(pool, k);
+        if !defines(x, node.head) {
+            total += node.head.weight();
+            total += size_without(pool, x, node.first);
+        }
+        at = node.second;
+    }
+    total
+}
+
+/// How many syntax nodes the longest path of a tree has without the definitions of a variable.
+fn depth_without(pool: &Pool, x: u32, start: Option<NodeId>) -> u32
+    requires live { ChildBelow (length pool.now.trees) start }
+    requires fits { tree.size (tree_at pool.now.trees start) < 2 ^ 32 }
+    ensures { result ≡ tree.depth (dropped (only x) (tree_at pool.now.trees start)) }
+{
+    let mut above = 0;
+    let mut deepest = 0;
+    let mut at = start;
+    'chain: while let Some(k) = at {
+        let node = read_node(pool, k);
+        if !defines(x, node.head) {
+            above += node.head.weight();
+            deepest = deepest.max(above + depth_without(pool, x, node.first));
+        }
+        at = node.second;
+    }
+    deepest
+}
+
+/// How large a game is without the definitions of a variable.
+pub fn measure_without(pool: &Pool, root: NodeId, x: u32) -> Extent
+    requires live { root.0 < length pool.now.trees }
+    requires fits { tree.size (tree_at pool.now.trees (Some root)) < 2 ^ 32 }
+    ensures nodes { result.nodes
+        ≡ tree.size (dropped (only x) (tree_at pool.now.trees (Some root))) }
+    ensures depth { result.depth
+        ≡ tree.depth (dropped (only x) (tree_at pool.now.trees (Some root))) }
+{
+    Extent {
+        nodes: size_without(pool, x, Some(root)),
+        depth: depth_without(pool, x, Some(root)),
+    }
+}
+
+/// Makes nodes over what was listed, the newest head first.
+fn close(makes: &mut Vec<Make>, heads: Vec<Head>) -> Result<(), AllocError>
+    ensures { OnOk result (makes.new.items
+        ≡ makes.old.items ++ map make.Over (reverse heads.items)) }
+{
+    let mut left = heads;
+    'up: while let Some(head) = left.pop() {
+        makes.push(Make::Over(head))?;
+    }
+    Ok(())
+}
+
+/// Lists a tree without the definitions of a variable, each node behind its children.
+fn list(
+    alloc: Global,
+    pool: &Pool,
+    makes: &mut Vec<Make>,
+    x: u32,
+    start: Option<NodeId>,
+) -> Result<(), AllocError>
+    requires live { ChildBelow (length pool.now.trees) start }
+    ensures { OnOk result (makes.new.items
+        ≡ makes.old.items ++ postorder (dropped (only x) (tree_at pool.now.trees start))) }
+{
+    let mut heads = Vec::new(alloc);
+    let mut at = start;
+    'chain: while let Some(k) = at {
+        let node = read_node(pool, k);
+        if !defines(x, node.head) {
+            list(alloc, pool, makes, x, node.first)?;
+            heads.push(node.head)?;
+        }
+        at = node.second;
+    }
+    makes.push(Make::Nothing)?;
+    close(makes, heads)
+}
+
+/// Makes a listed tree.
+fn planted(alloc: Global, pool: &mut Pool, makes: &[Make]) -> Result<Option<NodeId>, PoolError>
+    requires { overs makes.now < 2 ^ 32 }
+    ensures tree { (t : Tree) → makes.now ≡ postorder t
+        → IfOk result (λ n. tree_at pool.new.trees n ≡ t) }
+    ensures live { IfOk result (λ n. ChildBelow (length pool.new.trees) n) }
+    ensures grows { OnOk result (Grows pool.old pool.new) }
+    ensures full { IsErrOf result (PoolError.Full (overs makes.now))
+        ↔ (pool.old.limit < length pool.old.trees + overs makes.now) }
+    ensures other { (n : ℕ) → IsErrOf result (PoolError.Full n) → n ≡ overs makes.now }
+    ensures kept { OnErr result (pool.new.trees ≡ pool.old.trees) }
+    ensures limit { pool.new.limit ≡ pool.old.limit }
+    ensures few { length pool.new.trees ≤ length pool.old.trees + overs makes.now }
+{
+    let mut roots = plant(alloc, pool, makes)?;
+    Ok(roots.pop().unwrap_or(None))
+}
+
+/// Makes the game without the definitions of a variable. The pool is asked for room for all of its nodes at once,
+/// also for those that are there.
+pub fn drop_variable(
+    alloc: Global,
+    pool: &mut Pool,
+    root: NodeId,
+    x: u32,
+) -> Result<Option<NodeId>, PoolError>
+    requires live { root.0 < length pool.old.trees }
+    requires fits { nodes_without x (tree_at pool.old.trees (Some root)) < 2 ^ 32 }
+    ensures tree { IfOk result (λ n. tree_at pool.new.trees n
+        ≡ dropped (only x) (tree_at pool.old.trees (Some root))) }
+    ensures live { IfOk result (λ n. ChildBelow (length pool.new.trees) n) }
+    ensures grows { OnOk result (Grows pool.old pool.new) }
+    ensures full { IsErrOf result (PoolError.Full
+        (nodes_without x (tree_at pool.old.trees (Some root)))) → pool.old.limit
+        < length pool.old.trees + nodes_without x (tree_at pool.old.trees (Some root)) }
+    ensures other { (n : ℕ) → IsErrOf result (PoolError.Full n)
+        → n ≡ nodes_without x (tree_at pool.old.trees (Some root)) }
+    ensures accepted { OnOk result (length pool.old.trees
+        + nodes_without x (tree_at pool.old.trees (Some root)) ≤ pool.old.limit) }
+    ensures kept { OnErr result (pool.new.trees ≡ pool.old.trees) }
+    ensures limit { pool.new.limit ≡ pool.old.limit }
+    ensures few { length pool.new.trees ≤ length pool.old.trees
+        + nodes_without x (tree_at pool.old.trees (Some root)) }
+{
+    let mut makes = Vec::new(alloc);
+    match list(alloc, pool, &mut makes, x, Some(root)) {
+        Ok(()) => planted(alloc, pool, &makes),
+        Err(AllocError) => Err(PoolError::OutOfMemory),
+    }
+}

@@ -1,0 +1,278 @@
+ghost use Rattle.std.specs.Prelude.{◌≡◌, ◌<◌, ◌^◌, ◌&&◌, All, IfOk, Some, length, ℕ};
+ghost use Rattle.cv_directory.specs.Sites.{sites_of};
+ghost use Rattle.cv_syntax.specs.Tree.{Tree, size, tree_at};
+ghost use Rattle.cv_typing.specs.Lookups.{IsLive};
+ghost use Rattle.cv_typing.specs.Signature.{OfGame};
+ghost use Rattle.cv_typing.specs.Tables.{arrays_of};
+ghost use Rattle.cv_steps.specs.Judged as judged;
+ghost use Rattle.cv_steps.specs.Rows.{let_row, new_row, row_of, split_row, unnew_row};
+ghost use Rattle.cv_steps.specs.Scenes as scenes;
+ghost use Rattle.cv_steps.specs.Terms as terms;
+ghost use Rattle.cv_rule.specs.Kept.{scene_of};
+ghost use Rattle.cv_rule.specs.Stated.{IsLiveRule, failing, failure_of, step_of};
+
+use crate::naming::{is_new, is_queried, is_type, names};
+use crate::places::{has_place, is_output_at};
+use crate::sites::{first_reading, is_chosen};
+use crate::terms::{is_bool_at, is_term_at};
+use cv_syntax::{NodeId, Work};
+use cv_typing::Arrays;
+use std::alloc::{AllocError, Global};
+
+/// A step of these kinds, by the nodes of its terms.
+#[derive(Clone, Copy, Debug)]
+pub enum Rule {
+    Split {
+        place: u32,
+        condition: NodeId,
+    },
+    Let {
+        place: u32,
+        name: u32,
+        of_type: u32,
+        term: NodeId,
+    },
+    New {
+        place: u32,
+        name: u32,
+        of_type: u32,
+    },
+    Unnew {
+        name: u32,
+    },
+}
+
+/// The number of a condition that fails, and the place where it does; 0, where it names none.
+#[derive(Clone, Copy, Debug, PartialEq, Eq)]
+pub struct Failure {
+    pub condition: u32,
+    pub place: u32,
+}
+
+/// Whether a game has a place, and a tree is a term there.
+fn stands_at(
+    alloc: Global,
+    work: &Work,
+    game: NodeId,
+    arrays: &Arrays,
+    place: u32,
+    term: NodeId,
+) -> Result<bool, AllocError>
+    requires live { game.0 < length work.now.pool.trees }
+    requires fits { size (tree_at work.now.pool.trees (Some game)) < 2 ^ 32 }
+    requires declared { All (IsLive (length work.now.pool.trees)) work.now.decls.list }
+    requires arrays { arrays_of arrays.now
+        ≡ OfGame (sites_of (tree_at work.now.pool.trees (Some game))) }
+    requires term { term.0 < length work.now.pool.trees }
+    requires short { size (tree_at work.now.pool.trees (Some term)) < 2 ^ 32 }
+    ensures { IfOk result (λ b. b
+        ≡ (scenes.has_place (scene_of work.now.pool work.now.decls game) place
+        && terms.is_term_at (scene_of work.now.pool work.now.decls game) place
+        (tree_at work.now.pool.trees (Some term)))) }
+{
+    if !has_place(work, game, place) {
+        return Ok(false);
+    }
+    is_term_at(alloc, work, game, arrays, place, term)
+}
+
+/// Whether the type of a `let` is one, and its term stands at its place.
+fn let_stands(
+    alloc: Global,
+    work: &Work,
+    game: NodeId,
+    arrays: &Arrays,
+    place: u32,
+    of_type: u32,
+    term: NodeId,
+) -> Result<bool, AllocError>
+    requires live { game.0 < length work.now.pool.trees }
+    requires fits { size (tree_at work.now.pool.trees (Some game)) < 2 ^ 32 }
+    requires declared { All (IsLive (length work.now.pool.trees)) work.now.decls.list }
+    requires arrays { arrays_of arrays.now
+        ≡ OfGame (sites_of (tree_at work.now.pool.trees (Some game))) }
+    requires term { term.0 < length work.now.pool.trees }
+    requires short { size (tree_at work.now.pool.trees (Some term)) < 2 ^ 32 }
+    ensures { IfOk result (λ b. b
+        ≡ (scenes.has_place (scene_of work.now.pool work.now.decls game) place
+        && (scenes.is_type (scene_of work.now.pool work.now.decls game) of_type
+        && terms.is_term_at (scene_of work.now.pool work.now.decls game) place
+        (tree_at work.now.pool.trees (Some term))))) }
+{
+    if !is_type(work, game, of_type) {
+        return Ok(false);
+    }
+    stands_at(alloc, work, game, arrays, place, term)
+}
+
+/// Whether what a step speaks of is there.
+pub fn stands(
+    alloc: Global,
+    work: &Work,
+    game: NodeId,
+    arrays: &Arrays,
+    rule: Rule,
+) -> Result<bool, AllocError>
+    requires live { game.0 < length work.now.pool.trees }
+    requires fits { size (tree_at work.now.pool.trees (Some game)) < 2 ^ 32 }
+    requires declared { All (IsLive (length work.now.pool.trees)) work.now.decls.list }
+    requires arrays { arrays_of arrays.now
+        ≡ OfGame (sites_of (tree_at work.now.pool.trees (Some game))) }
+    requires rule { IsLiveRule work.now.pool.trees rule }
+    ensures { IfOk result (λ b. b ≡ judged.stands (scene_of work.now.pool work.now.decls game)
+        (step_of work.now.pool.trees rule)) }
+{
+    match rule {
+        Rule::Split { place, condition } => stands_at(alloc, work, game, arrays, place, condition),
+        Rule::Let {
+            place,
+            of_type,
+            term,
+            ..
+        } => let_stands(alloc, work, game, arrays, place, of_type, term),
+        Rule::New { place, of_type, .. } => {
+            Ok(has_place(work, game, place) && is_type(work, game, of_type))
+        }
+        Rule::Unnew { name } => {
+            Ok(name < work.decls.own() || names(&work.pool, name, Some(game)))
+        }
+    }
+}
+
+/// The first condition of `split` that fails.
+fn split_conditions(
+    alloc: Global,
+    work: &Work,
+    game: NodeId,
+    arrays: &Arrays,
+    place: u32,
+    condition: NodeId,
+) -> Result<Option<Failure>, AllocError>
+    requires live { game.0 < length work.now.pool.trees }
+    requires fits { size (tree_at work.now.pool.trees (Some game)) < 2 ^ 32 }
+    requires arrays { arrays_of arrays.now
+        ≡ OfGame (sites_of (tree_at work.now.pool.trees (Some game))) }
+    requires term { condition.0 < length work.now.pool.trees }
+    ensures { IfOk result (λ f. f
+        ≡ failing (split_row (scene_of work.now.pool work.now.decls game) place
+        (tree_at work.now.pool.trees (Some condition)))) }
+{
+    if !is_output_at(work, game, place) {
+        return Ok(Some(Failure {
+            condition: 1,
+            place: 0,
+        }));
+    }
+    if !is_bool_at(alloc, work, game, arrays, place, condition)? {
+        return Ok(Some(Failure {
+            condition: 2,
+            place: 0,
+        }));
+    }
+    Ok(None)
+}
+
+/// The first condition of `let` and of `new` that fails.
+fn definition_conditions(work: &Work, game: NodeId, place: u32, x: u32) -> Option<Failure>
+    requires live { game.0 < length work.now.pool.trees }
+    requires fits { size (tree_at work.now.pool.trees (Some game)) < 2 ^ 32 }
+    ensures of_let { (t : ℕ) (m : Tree) → result
+        ≡ failing (let_row (scene_of work.now.pool work.now.decls game) place x t m) }
+    ensures of_new { (t : ℕ) → result
+        ≡ failing (new_row (scene_of work.now.pool work.now.decls game) place x t) }
+{
+    if !is_output_at(work, game, place) {
+        return Some(Failure {
+            condition: 1,
+            place: 0,
+        });
+    }
+    if !is_new(work, game, x) {
+        return Some(Failure {
+            condition: 2,
+            place: 0,
+        });
+    }
+    None
+}
+
+/// The first condition of `unnew` that fails.
+fn unnew_conditions(work: &Work, game: NodeId, x: u32) -> Option<Failure>
+    requires live { game.0 < length work.now.pool.trees }
+    requires fits { size (tree_at work.now.pool.trees (Some game)) < 2 ^ 32 }
+    requires declared { All (IsLive (length work.now.pool.trees)) work.now.decls.list }
+    ensures { result ≡ failing (unnew_row (scene_of work.now.pool work.now.decls game) x) }
+{
+    if !is_chosen(work, game, x) {
+        return Some(Failure {
+            condition: 1,
+            place: 0,
+        });
+    }
+    if is_queried(work, game, x) {
+        return Some(Failure {
+            condition: 2,
+            place: 0,
+        });
+    }
+    match first_reading(&work.pool, game, x) {
+        Some(place) => Some(Failure {
+            condition: 2,
+            place,
+        }),
+        None => None,
+    }
+}
+
+/// The first condition of a step's row that fails.
+pub fn unmet(
+    alloc: Global,
+    work: &Work,
+    game: NodeId,
+    arrays: &Arrays,
+    rule: Rule,
+) -> Result<Option<Failure>, AllocError>
+    requires live { game.0 < length work.now.pool.trees }
+    requires fits { size (tree_at work.now.pool.trees (Some game)) < 2 ^ 32 }
+    requires declared { All (IsLive (length work.now.pool.trees)) work.now.decls.list }
+    requires arrays { arrays_of arrays.now
+        ≡ OfGame (sites_of (tree_at work.now.pool.trees (Some game))) }
+    requires rule { IsLiveRule work.now.pool.trees rule }
+    ensures { IfOk result (λ f. f ≡ failing (row_of
+        (scene_of work.now.pool work.now.decls game) (step_of work.now.pool.trees rule))) }
+{
+    match rule {
+        Rule::Split { place, condition } => {
+            split_conditions(alloc, work, game, arrays, place, condition)
+        }
+        Rule::Let { place, name, .. } => Ok(definition_conditions(work, game, place, name)),
+        Rule::New { place, name, .. } => Ok(definition_conditions(work, game, place, name)),
+        Rule::Unnew { name } => Ok(unnew_conditions(work, game, name)),
+    }
+}
+
+/// The first condition of a step that fails in a game with these arrays: 0, where what it speaks of isn't there.
+pub fn conditions(
+    alloc: Global,
+    work: &Work,
+    game: NodeId,
+    arrays: &Arrays,
+    rule: Rule,
+) -> Result<Option<Failure>, AllocError>
+    requires live { game.0 < length work.now.pool.trees }
+    requires fits { size (tree_at work.now.pool.trees (Some game)) < 2 ^ 32 }
+    requires declared { All (IsLive (length work.now.pool.trees)) work.now.decls.list }
+    requires arrays { arrays_of arrays.now
+        ≡ OfGame (sites_of (tree_at work.now.pool.trees (Some game))) }
+    requires rule { IsLiveRule work.now.pool.trees rule }
+    ensures { IfOk result (λ f. f ≡ failure_of (scene_of work.now.pool work.now.decls game)
+        (step_of work.now.pool.trees rule)) }
+{
+    if !stands(alloc, work, game, arrays, rule)? {
+        return Ok(Some(Failure {
+            condition: 0,
+            place: 0,
+        }));
+    }
+    unmet(alloc, work, game, arrays, rule)
+}
