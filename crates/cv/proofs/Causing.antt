@@ -6,6 +6,7 @@ use Rattle.std.specs.Prelude.{IfSome, IsNone, IsSomeAnd}
 use Rattle.cv_lex.specs.declared.LexError.{LexError}
 use Rattle.cv_lex.specs.Lexis.{Token, tokens_of}
 use Rattle.cv_parse_terminals.specs.Signs.{signs_of}
+use Rattle.cv_parse_script.specs.Scripts.{token_begins_step}
 use Rattle.cv_parse_notation.specs.declared.sign.Sign.{Sign}
 use Rattle.cv_parse_grammar.specs.Names as names
 use Rattle.cv_parse_depth.specs.Files.{IsDeadAtEveryDepth, IsNestedTooDeep}
@@ -33,7 +34,7 @@ use Rattle.cv_query_form.specs.Queries.{queries_in}
 use Rattle.cv_query_form.proofs.First.{finds-first as first_refused_is_first}
 use Rattle.cv_accept.specs.declared.error.FileError.{FileError}
 use Rattle.cv_accept.specs.declared.error.FileError.TheVariants as fault
-use Rattle.cv_accept.specs.Accepted.{Content, Refuses, has_equivalence, of_equivalences, of_parsed, of_queries, of_scopes, of_script, of_tokens, of_types, query_fault, read_of, scope_fault, type_fault}
+use Rattle.cv_accept.specs.Accepted.{Content, Refuses, block_fault, first_of_block, has_equivalence, of_equivalences, of_parsed, of_queries, of_scopes, of_script, of_tokens, of_types, query_fault, read_of, scope_fault, type_fault}
 use Rattle.cv_accept.specs.Places.{nodes_before}
 use Rattle.cv_accept.specs.Works.{content_at}
 use Rattle.cv_accept.proofs.Places.{behind_none, behind_some}
@@ -46,7 +47,7 @@ use Rattle.cv_report.specs.declared.report.Status.TheVariants as status
 use Rattle.cv_report.specs.declared.report.Verdict.TheVariants.{Proved, NotProved}
 use Rattle.cv_report.specs.declared.report.Which.TheVariants.{Steps}
 use Rattle.cv_syntax.specs.declared.work.File.{File}
-use Rattle.cv.specs.Causes.{ComesFrom, HasEquivalence, HasManyClosed, HasProofBlock, HasQueryFault, HasQueryWithoutStep, HasScopeFault, HasTypeFault, LacksRoom, OfTokens, Outside, closed_count}
+use Rattle.cv.specs.Causes.{ComesFrom, HasEquivalence, HasManyClosed, HasForeignStep, HasQueryFault, HasQueryWithoutStep, HasScopeFault, HasStep, HasTypeFault, LacksRoom, OfTokens, Outside, closed_count}
 use Rattle.cv.specs.Causes as cause
 use Rattle.cv.specs.Faults.{parse_ended, status_of as ended_by}
 use Rattle.cv.specs.Words.{AreTold}
@@ -62,57 +63,67 @@ use Rattle.cv.proofs.Verdicts.{closed_some}
 abbrev rank : FileError → ℕ
 rank (fault.Lex e) = 0
 rank (fault.Parse e) = 1
-rank (fault.Types e) = 2
-rank (fault.Scope e) = 3
-rank (fault.Query k) = 4
-rank fault.Unbuilt = 5
-rank fault.OutOfMemory = 6
+rank (fault.Script k) = 2
+rank (fault.Types e) = 3
+rank (fault.Scope e) = 4
+rank (fault.Query k) = 5
+rank fault.Unbuilt = 6
+rank fault.OutOfMemory = 7
 
-queries_rank : (names : List (List ℕ)) (p : Parsed) (o : Option ℕ) (x : FileError) → of_queries names p o ≡ Err x → 4 ≤ rank x
+queries_rank : (names : List (List ℕ)) (p : Parsed) (o : Option ℕ) (x : FileError) → of_queries names p o ≡ Err x → 5 ≤ rank x
 queries_rank names p None x e = absurd (cc)
-queries_rank names p (Some k) x e = let s : fault.Query k ≡ x = cc in subst (λ y. 4 ≤ rank y) s (omega arith)
+queries_rank names p (Some k) x e = let s : fault.Query k ≡ x = cc in subst (λ y. 5 ≤ rank y) s (omega arith)
 
-equivalences_rank : (names : List (List ℕ)) (p : Parsed) (b : Bool) (x : FileError) → of_equivalences names p b ≡ Err x → 4 ≤ rank x
+equivalences_rank : (names : List (List ℕ)) (p : Parsed) (b : Bool) (x : FileError) → of_equivalences names p b ≡ Err x → 5 ≤ rank x
 equivalences_rank names p false x e = queries_rank names p (query_fault p) x e
-equivalences_rank names p true x e = let s : fault.Unbuilt ≡ x = cc in subst (λ y. 4 ≤ rank y) s (omega arith)
+equivalences_rank names p true x e = let s : fault.Unbuilt ≡ x = cc in subst (λ y. 5 ≤ rank y) s (omega arith)
 
-scopes_rank : (names : List (List ℕ)) (p : Parsed) (o : Option (ℕ × ScopeRules)) (x : FileError) → of_scopes names p o ≡ Err x → 3 ≤ rank x
+scopes_rank : (names : List (List ℕ)) (p : Parsed) (o : Option (ℕ × ScopeRules)) (x : FileError) → of_scopes names p o ≡ Err x → 4 ≤ rank x
 scopes_rank names p None x e = let r = equivalences_rank names p (has_equivalence p.declarations) x e in omega arith
-scopes_rank names p (Some y) x e = let s : fault.Scope (scope_refusal y.0 y.1) ≡ x = cc in subst (λ y. 3 ≤ rank y) s (omega arith)
+scopes_rank names p (Some y) x e = let s : fault.Scope (scope_refusal y.0 y.1) ≡ x = cc in subst (λ y. 4 ≤ rank y) s (omega arith)
 
-types_rank : (names : List (List ℕ)) (p : Parsed) (o : Option (ℕ × Fault)) (x : FileError) → of_types names p o ≡ Err x → 2 ≤ rank x
+types_rank : (names : List (List ℕ)) (p : Parsed) (o : Option (ℕ × Fault)) (x : FileError) → of_types names p o ≡ Err x → 3 ≤ rank x
 types_rank names p None x e = let r = scopes_rank names p (scope_fault p) x e in omega arith
-types_rank names p (Some y) x e = let s : fault.Types (refusal y.0 y.1) ≡ x = cc in subst (λ y. 2 ≤ rank y) s (omega arith)
+types_rank names p (Some y) x e = let s : fault.Types (refusal y.0 y.1) ≡ x = cc in subst (λ y. 3 ≤ rank y) s (omega arith)
 
-script_rank : (names : List (List ℕ)) (p : Parsed) (s : Option (ℕ × ℕ)) (x : FileError) → of_script names p s ≡ Err x → 2 ≤ rank x
-script_rank names p None x e = types_rank names p (type_fault p) x e
-script_rank names p (Some y) x e = let s : fault.Unbuilt ≡ x = cc in subst (λ y. 2 ≤ rank y) s (omega arith)
+block_rank : (token : ℕ) (b : Bool) → 2 ≤ rank (block_fault token b)
+block_rank token true = omega arith
+block_rank token false = omega arith
 
-by_parsed : (names : List (List ℕ)) (r : Result Parsed ParseError) (x : ParseError) → of_parsed names r ≡ Err (fault.Parse x) → r ≡ Err x
-by_parsed names (Ok p) x e = absurd (let r = script_rank names p p.script (fault.Parse x) e in omega arith)
-by_parsed names (Err y) x e = let s : y ≡ x = cc in ap (λ z. let r : Result Parsed ParseError = Err z in r) s
+script_rank : (names : List (List ℕ)) (p : Parsed) (o : Option (ℕ × Token)) (x : FileError) → of_script names p o ≡ Err x → 2 ≤ rank x
+script_rank names p None x e = let r = types_rank names p (type_fault p) x e in omega arith
+script_rank names p (Some (n, t)) x e = let s : block_fault n (token_begins_step t) ≡ x = cc in subst (λ y. 2 ≤ rank y) s (block_rank n (token_begins_step t))
 
-no_lexis : (names : List (List ℕ)) (r : Result Parsed ParseError) (x : LexError) → of_parsed names r ≡ Err (fault.Lex x) → ⊥
-no_lexis names (Ok p) x e = let r = script_rank names p p.script (fault.Lex x) e in omega arith
-no_lexis names (Err y) x e = cc
+by_parsed : (ts : List Token) (r : Result Parsed ParseError) (x : ParseError) → of_parsed ts r ≡ Err (fault.Parse x) → r ≡ Err x
+by_parsed ts (Ok p) x e = absurd (let r = script_rank (signs_of ts).names p (first_of_block ts p.script) (fault.Parse x) e in omega arith)
+by_parsed ts (Err y) x e = let s : y ≡ x = cc in ap (λ z. let r : Result Parsed ParseError = Err z in r) s
+
+no_lexis : (ts : List Token) (r : Result Parsed ParseError) (x : LexError) → of_parsed ts r ≡ Err (fault.Lex x) → ⊥
+no_lexis ts (Ok p) x e = let r = script_rank (signs_of ts).names p (first_of_block ts p.script) (fault.Lex x) e in omega arith
+no_lexis ts (Err y) x e = cc
 
 -- what a refusal by a later stage passed
 
-past_script : (names : List (List ℕ)) (p : Parsed) (s : Option (ℕ × ℕ)) (x : FileError) → rank x ≤ 4 → of_script names p s ≡ Err x → (s ≡ None) × (of_types names p (type_fault p) ≡ Err x)
-past_script names p None x r e = (refl, e)
-past_script names p (Some y) x r e = absurd (let s : fault.Unbuilt ≡ x = cc in let i = subst (λ y. 5 ≤ rank y) s (omega arith) in omega arith)
+-- the fault of a block is neither of types, of scope nor of queries
+block_only : (token : ℕ) (b : Bool) (x : FileError) → 3 ≤ rank x → rank x ≤ 5 → block_fault token b ≡ x → ⊥
+block_only token true x l m e = let i = subst (λ y. 6 ≤ rank y) e (omega arith) in omega arith
+block_only token false x l m e = let i = subst (λ y. rank y ≤ 2) e (omega arith) in omega arith
 
-past_types : (names : List (List ℕ)) (p : Parsed) (o : Option (ℕ × Fault)) (x : FileError) → 3 ≤ rank x → of_types names p o ≡ Err x → (o ≡ None) × (of_scopes names p (scope_fault p) ≡ Err x)
+past_script : (names : List (List ℕ)) (p : Parsed) (o : Option (ℕ × Token)) (x : FileError) → 3 ≤ rank x → rank x ≤ 5 → of_script names p o ≡ Err x → (o ≡ None) × (of_types names p (type_fault p) ≡ Err x)
+past_script names p None x l m e = (refl, e)
+past_script names p (Some (n, t)) x l m e = absurd (block_only n (token_begins_step t) x l m (cc))
+
+past_types : (names : List (List ℕ)) (p : Parsed) (o : Option (ℕ × Fault)) (x : FileError) → 4 ≤ rank x → of_types names p o ≡ Err x → (o ≡ None) × (of_scopes names p (scope_fault p) ≡ Err x)
 past_types names p None x r e = (refl, e)
-past_types names p (Some y) x r e = absurd (let s : fault.Types (refusal y.0 y.1) ≡ x = cc in let i = subst (λ y. rank y ≤ 2) s (omega arith) in omega arith)
+past_types names p (Some y) x r e = absurd (let s : fault.Types (refusal y.0 y.1) ≡ x = cc in let i = subst (λ y. rank y ≤ 3) s (omega arith) in omega arith)
 
-past_scopes : (names : List (List ℕ)) (p : Parsed) (o : Option (ℕ × ScopeRules)) (x : FileError) → 4 ≤ rank x → of_scopes names p o ≡ Err x → (o ≡ None) × (of_equivalences names p (has_equivalence p.declarations) ≡ Err x)
+past_scopes : (names : List (List ℕ)) (p : Parsed) (o : Option (ℕ × ScopeRules)) (x : FileError) → 5 ≤ rank x → of_scopes names p o ≡ Err x → (o ≡ None) × (of_equivalences names p (has_equivalence p.declarations) ≡ Err x)
 past_scopes names p None x r e = (refl, e)
-past_scopes names p (Some y) x r e = absurd (let s : fault.Scope (scope_refusal y.0 y.1) ≡ x = cc in let i = subst (λ y. rank y ≤ 3) s (omega arith) in omega arith)
+past_scopes names p (Some y) x r e = absurd (let s : fault.Scope (scope_refusal y.0 y.1) ≡ x = cc in let i = subst (λ y. rank y ≤ 4) s (omega arith) in omega arith)
 
-past_equivalences : (names : List (List ℕ)) (p : Parsed) (b : Bool) (x : FileError) → rank x ≤ 4 → of_equivalences names p b ≡ Err x → (b ≡ false) × (of_queries names p (query_fault p) ≡ Err x)
+past_equivalences : (names : List (List ℕ)) (p : Parsed) (b : Bool) (x : FileError) → rank x ≤ 5 → of_equivalences names p b ≡ Err x → (b ≡ false) × (of_queries names p (query_fault p) ≡ Err x)
 past_equivalences names p false x r e = (refl, e)
-past_equivalences names p true x r e = absurd (let s : fault.Unbuilt ≡ x = cc in let i = subst (λ y. 5 ≤ rank y) s (omega arith) in omega arith)
+past_equivalences names p true x r e = absurd (let s : fault.Unbuilt ≡ x = cc in let i = subst (λ y. 6 ≤ rank y) s (omega arith) in omega arith)
 
 -- types
 
@@ -126,14 +137,14 @@ refused_as ds parts q type.Arity h = h
 refused_as ds parts q type.IndexAsMessage h = h
 refused_as ds parts q type.NotFixed h = h
 
-type_cause : (names : List (List ℕ)) (signs : List Sign) (p : Parsed) (x : TypeFault) → parsed most_pool signs ≡ Ok p → of_script names p p.script ≡ Err (fault.Types x) → HasTypeFault signs x
-type_cause names signs p x e i =
-    let s = past_script names p p.script (fault.Types x) (omega arith) i in
+type_cause : (names : List (List ℕ)) (ts : List Token) (p : Parsed) (x : TypeFault) → parsed most_pool (signs_of ts).signs ≡ Ok p → of_script names p (first_of_block ts p.script) ≡ Err (fault.Types x) → HasTypeFault ts x
+type_cause names ts p x e i =
+    let s = past_script names p (first_of_block ts p.script) (fault.Types x) (omega arith) (omega arith) i in
     let t = by_types names p (type_fault p) x s.1 in
     record {
       said = p;
-      says = said_is_saying most_pool signs p e;
-      no_script = s.0;
+      says = said_is_saying most_pool (signs_of ts).signs p e;
+      no_step = s.0;
       first = subst (IsFirstRefusal p.declarations (file_parts p.declarations p.game)) t.3 (refused_as p.declarations (file_parts p.declarations p.game) t.0 t.1 (finds_first_in p.declarations 0 (file_parts p.declarations p.game) t.0 t.1 t.2));
     }
 
@@ -143,16 +154,16 @@ by_scopes : (names : List (List ℕ)) (p : Parsed) (o : Option (ℕ × ScopeRule
 by_scopes names p None x e = absurd (let r = equivalences_rank names p (has_equivalence p.declarations) (fault.Scope x) e in omega arith)
 by_scopes names p (Some (q, f)) x e = (q, f, refl, cc)
 
-scope_cause : (names : List (List ℕ)) (signs : List Sign) (p : Parsed) (x : ScopeFault) → parsed most_pool signs ≡ Ok p → of_script names p p.script ≡ Err (fault.Scope x) → HasScopeFault signs x
-scope_cause names signs p x e i =
-    let s = past_script names p p.script (fault.Scope x) (omega arith) i in
+scope_cause : (names : List (List ℕ)) (ts : List Token) (p : Parsed) (x : ScopeFault) → parsed most_pool (signs_of ts).signs ≡ Ok p → of_script names p (first_of_block ts p.script) ≡ Err (fault.Scope x) → HasScopeFault ts x
+scope_cause names ts p x e i =
+    let s = past_script names p (first_of_block ts p.script) (fault.Scope x) (omega arith) (omega arith) i in
     let t = past_types names p (type_fault p) (fault.Scope x) (omega arith) s.1 in
     let u = by_scopes names p (scope_fault p) x t.1 in
     let v = behind_some (nodes_before p.declarations) (first_scope_fault p.declarations p.game) u.0 u.1 u.2 in
     record {
       said = p;
-      says = said_is_saying most_pool signs p e;
-      no_script = s.0;
+      says = said_is_saying most_pool (signs_of ts).signs p e;
+      no_step = s.0;
       typed = parts_typed_where_none p.declarations 0 (file_parts p.declarations p.game) t.0;
       node = v.0;
       rules = u.1;
@@ -166,16 +177,16 @@ by_queries : (names : List (List ℕ)) (p : Parsed) (o : Option ℕ) (k : ℕ) �
 by_queries names p None k e = absurd (cc)
 by_queries names p (Some j) k e = let s : j ≡ k = cc in ap (λ n. let o : Option ℕ = Some n in o) s
 
-query_cause : (names : List (List ℕ)) (signs : List Sign) (p : Parsed) (k : ℕ) → parsed most_pool signs ≡ Ok p → of_script names p p.script ≡ Err (fault.Query k) → HasQueryFault signs k
-query_cause names signs p k e i =
-    let s = past_script names p p.script (fault.Query k) (omega arith) i in
+query_cause : (names : List (List ℕ)) (ts : List Token) (p : Parsed) (k : ℕ) → parsed most_pool (signs_of ts).signs ≡ Ok p → of_script names p (first_of_block ts p.script) ≡ Err (fault.Query k) → HasQueryFault ts k
+query_cause names ts p k e i =
+    let s = past_script names p (first_of_block ts p.script) (fault.Query k) (omega arith) (omega arith) i in
     let t = past_types names p (type_fault p) (fault.Query k) (omega arith) s.1 in
     let u = past_scopes names p (scope_fault p) (fault.Query k) (omega arith) t.1 in
     let v = past_equivalences names p (has_equivalence p.declarations) (fault.Query k) (omega arith) u.1 in
     record {
       said = p;
-      says = said_is_saying most_pool signs p e;
-      no_script = s.0;
+      says = said_is_saying most_pool (signs_of ts).signs p e;
+      no_step = s.0;
       typed = parts_typed_where_none p.declarations 0 (file_parts p.declarations p.game) t.0;
       scoped = scoped_where_none (names_of p.declarations p.game) at_root p.game (behind_none (nodes_before p.declarations) (first_scope_fault p.declarations p.game) u.0);
       no_equivalence = v.0;
@@ -188,57 +199,76 @@ queries_are_built : (names : List (List ℕ)) (p : Parsed) (o : Option ℕ) → 
 queries_are_built names p None e = cc
 queries_are_built names p (Some k) e = cc
 
-unbuilt_cause : (names : List (List ℕ)) (signs : List Sign) (p : Parsed) → parsed most_pool signs ≡ Ok p → of_script names p p.script ≡ Err fault.Unbuilt → HasProofBlock signs ⊎ HasEquivalence signs
-unbuilt_cause names signs p e i = go p.script refl i
+-- a block whose first token begins a step, or no step
+
+by_block : (token : ℕ) (b : Bool) → block_fault token b ≡ fault.Unbuilt → b ≡ true
+by_block token true e = refl
+by_block token false e = absurd (cc)
+
+by_foreign : (token k : ℕ) (b : Bool) → block_fault token b ≡ fault.Script k → (token ≡ k) × (b ≡ false)
+by_foreign token k true e = absurd (cc)
+by_foreign token k false e = (cc, refl)
+
+script_cause : (names : List (List ℕ)) (ts : List Token) (p : Parsed) (k : ℕ) → parsed most_pool (signs_of ts).signs ≡ Ok p → of_script names p (first_of_block ts p.script) ≡ Err (fault.Script k) → HasForeignStep ts k
+script_cause names ts p k e i = go (first_of_block ts p.script) refl i
   where
-    with_equivalence : p.script ≡ None → (type_fault p ≡ None) → (scope_fault p ≡ None) → (b : Bool) → has_equivalence p.declarations ≡ b → of_equivalences names p b ≡ Err fault.Unbuilt → HasProofBlock signs ⊎ HasEquivalence signs
+    go : (o : Option (ℕ × Token)) → first_of_block ts p.script ≡ o → of_script names p o ≡ Err (fault.Script k) → HasForeignStep ts k
+    go None n j = absurd (let r = types_rank names p (type_fault p) (fault.Script k) j in omega arith)
+    go (Some (token, first)) n j =
+        let f = by_foreign token k (token_begins_step first) (cc) in
+        record { said = p; says = said_is_saying most_pool (signs_of ts).signs p e; first = first; there = n ∙ ap (λ m. Some (m, first)) f.0; no_step = f.1 }
+
+unbuilt_cause : (names : List (List ℕ)) (ts : List Token) (p : Parsed) → parsed most_pool (signs_of ts).signs ≡ Ok p → of_script names p (first_of_block ts p.script) ≡ Err fault.Unbuilt → HasStep ts ⊎ HasEquivalence ts
+unbuilt_cause names ts p e i = go (first_of_block ts p.script) refl i
+  where
+    with_equivalence : first_of_block ts p.script ≡ None → (type_fault p ≡ None) → (scope_fault p ≡ None) → (b : Bool) → has_equivalence p.declarations ≡ b → of_equivalences names p b ≡ Err fault.Unbuilt → HasStep ts ⊎ HasEquivalence ts
     with_equivalence n t s true h j = inr (record {
       said = p;
-      says = said_is_saying most_pool signs p e;
-      no_script = n;
+      says = said_is_saying most_pool (signs_of ts).signs p e;
+      no_step = n;
       typed = parts_typed_where_none p.declarations 0 (file_parts p.declarations p.game) t;
       scoped = scoped_where_none (names_of p.declarations p.game) at_root p.game (behind_none (nodes_before p.declarations) (first_scope_fault p.declarations p.game) s);
       equivalence = h;
     })
     with_equivalence n t s false h j = absurd (queries_are_built names p (query_fault p) j)
 
-    go : (s : Option (ℕ × ℕ)) → p.script ≡ s → of_script names p s ≡ Err fault.Unbuilt → HasProofBlock signs ⊎ HasEquivalence signs
+    go : (o : Option (ℕ × Token)) → first_of_block ts p.script ≡ o → of_script names p o ≡ Err fault.Unbuilt → HasStep ts ⊎ HasEquivalence ts
     go None n j =
         let t = past_types names p (type_fault p) fault.Unbuilt (omega arith) j in
         let u = past_scopes names p (scope_fault p) fault.Unbuilt (omega arith) t.1 in
         with_equivalence n t.0 u.0 (has_equivalence p.declarations) refl u.1
-    go (Some s) n j = inl (record { said = p; says = said_is_saying most_pool signs p e; script = ap is_some n })
+    go (Some (token, first)) n j = inl (record { said = p; says = said_is_saying most_pool (signs_of ts).signs p e; token = token; first = first; there = n; step = by_block token (token_begins_step first) (cc) })
 
 -- a refusal of what tokens say comes from the tokens of the bytes
 
-abbrev of_file : (x : FileError) (Holds : List Sign → Type 0) → 2 ≤ rank x → Type 0
-of_file x Holds r = (names : List (List ℕ)) (signs : List Sign) (p : Parsed) → parsed most_pool signs ≡ Ok p → of_script names p p.script ≡ Err x → Holds signs
+abbrev of_file : (x : FileError) (Holds : List Token → Type 0) → 2 ≤ rank x → Type 0
+of_file x Holds r = (names : List (List ℕ)) (ts : List Token) (p : Parsed) → parsed most_pool (signs_of ts).signs ≡ Ok p → of_script names p (first_of_block ts p.script) ≡ Err x → Holds ts
 
-by_said : (names : List (List ℕ)) (signs : List Sign) (x : FileError) (Holds : List Sign → Type 0) (l : 2 ≤ rank x) → of_file x Holds l → (r : Result Parsed ParseError) → parsed most_pool signs ≡ r → of_parsed names r ≡ Err x → Holds signs
-by_said names signs x Holds l h (Ok p) e i = h names signs p e i
-by_said names signs x Holds l h (Err y) e i = absurd (let s : fault.Parse y ≡ x = cc in let j = subst (λ y. rank y ≤ 1) s (omega arith) in omega arith)
+by_said : (ts : List Token) (x : FileError) (Holds : List Token → Type 0) (l : 2 ≤ rank x) → of_file x Holds l → (r : Result Parsed ParseError) → parsed most_pool (signs_of ts).signs ≡ r → of_parsed ts r ≡ Err x → Holds ts
+by_said ts x Holds l h (Ok p) e i = h (signs_of ts).names ts p e i
+by_said ts x Holds l h (Err y) e i = absurd (let s : fault.Parse y ≡ x = cc in let j = subst (λ y. rank y ≤ 1) s (omega arith) in omega arith)
 
-by_bytes : (bytes : List ℕ) (x : FileError) (Holds : List Sign → Type 0) (l : 2 ≤ rank x) → of_file x Holds l → (r : Result (List Token) LexError) → tokens_of bytes ≡ r → of_tokens most_pool r ≡ Err x → OfTokens bytes Holds
-by_bytes bytes x Holds l h (Ok ts) e i = record { tokens = ts; lexed = e; holds = by_said (signs_of ts).names (signs_of ts).signs x Holds l h (parsed most_pool (signs_of ts).signs) refl i }
+by_bytes : (bytes : List ℕ) (x : FileError) (Holds : List Token → Type 0) (l : 2 ≤ rank x) → of_file x Holds l → (r : Result (List Token) LexError) → tokens_of bytes ≡ r → of_tokens most_pool r ≡ Err x → OfTokens bytes Holds
+by_bytes bytes x Holds l h (Ok ts) e i = record { tokens = ts; lexed = e; holds = by_said ts x Holds l h (parsed most_pool (signs_of ts).signs) refl i }
 by_bytes bytes x Holds l h (Err y) e i = absurd (let s : fault.Lex y ≡ x = cc in let j = subst (λ y. rank y ≤ 0) s (omega arith) in omega arith)
 
-refused_later : (bytes : List ℕ) (x : FileError) (Holds : List Sign → Type 0) (l : 2 ≤ rank x) → of_file x Holds l → read_of most_pool bytes ≡ Err x → OfTokens bytes Holds
+refused_later : (bytes : List ℕ) (x : FileError) (Holds : List Token → Type 0) (l : 2 ≤ rank x) → of_file x Holds l → read_of most_pool bytes ≡ Err x → OfTokens bytes Holds
 unfolding read_of
 refused_later bytes x Holds l h e = by_bytes bytes x Holds l h (tokens_of bytes) refl e
 
 by_tokens : (limit : ℕ) (r : Result (List Token) LexError) (x : ParseError) → of_tokens limit r ≡ Err (fault.Parse x) → (ts : List Token) × (r ≡ Ok ts) × (parsed limit (signs_of ts).signs ≡ Err x)
-by_tokens limit (Ok ts) x e = (ts, refl, by_parsed (signs_of ts).names (parsed limit (signs_of ts).signs) x e)
+by_tokens limit (Ok ts) x e = (ts, refl, by_parsed ts (parsed limit (signs_of ts).signs) x e)
 by_tokens limit (Err y) x e = absurd (cc)
 
 by_lexis : (limit : ℕ) (r : Result (List Token) LexError) (x : LexError) → of_tokens limit r ≡ Err (fault.Lex x) → r ≡ Err x
-by_lexis limit (Ok ts) x e = absurd (no_lexis (signs_of ts).names (parsed limit (signs_of ts).signs) x e)
+by_lexis limit (Ok ts) x e = absurd (no_lexis ts (parsed limit (signs_of ts).signs) x e)
 by_lexis limit (Err y) x e = let s : y ≡ x = cc in ap (λ z. let r : Result (List Token) LexError = Err z in r) s
 
 lexis_of : (bytes : List ℕ) (x : LexError) → read_of most_pool bytes ≡ Err (fault.Lex x) → tokens_of bytes ≡ Err x
 unfolding read_of
 lexis_of bytes x e = by_lexis most_pool (tokens_of bytes) x e
 
-told : (bytes : List ℕ) (x : ParseError) (Holds : List Sign → Type 0) → ((signs : List Sign) → parsed most_pool signs ≡ Err x → Holds signs) → read_of most_pool bytes ≡ Err (fault.Parse x) → OfTokens bytes Holds
+told : (bytes : List ℕ) (x : ParseError) (Holds : List Sign → Type 0) → ((signs : List Sign) → parsed most_pool signs ≡ Err x → Holds signs) → read_of most_pool bytes ≡ Err (fault.Parse x) → OfTokens bytes (λ ts. Holds (signs_of ts).signs)
 unfolding read_of
 told bytes x Holds h e =
     let t = by_tokens most_pool (tokens_of bytes) x e in
@@ -308,10 +338,11 @@ refusal_cause o r bytes a none x e = go x e
     go : (x : FileError) → Refuses x (read_of most_pool bytes) → ComesFrom o r (ended_by x)
     go (fault.Lex x) e = cause.no_tokens (in_told (λ (bs : List ℕ). tokens_of bs ≡ Err x) (lexis_of bytes x e))
     go (fault.Parse x) e = parsing x e
-    go (fault.Types x) e = cause.types (in_told _ (refused_later bytes (fault.Types x) (λ signs. HasTypeFault signs x) (omega arith) (λ names signs p i j. type_cause names signs p x i j) e))
-    go (fault.Scope x) e = cause.scope (in_told _ (refused_later bytes (fault.Scope x) (λ signs. HasScopeFault signs x) (omega arith) (λ names signs p i j. scope_cause names signs p x i j) e))
-    go (fault.Query k) e = cause.query (in_told _ (refused_later bytes (fault.Query k) (λ signs. HasQueryFault signs k) (omega arith) (λ names signs p i j. query_cause names signs p k i j) e))
-    go fault.Unbuilt e = cause.unbuilt (in_told _ (refused_later bytes fault.Unbuilt (λ signs. HasProofBlock signs ⊎ HasEquivalence signs) (omega arith) (λ names signs p i j. unbuilt_cause names signs p i j) e))
+    go (fault.Script k) e = cause.script (in_told _ (refused_later bytes (fault.Script k) (λ ts. HasForeignStep ts k) (omega arith) (λ names ts p i j. script_cause names ts p k i j) e))
+    go (fault.Types x) e = cause.types (in_told _ (refused_later bytes (fault.Types x) (λ ts. HasTypeFault ts x) (omega arith) (λ names ts p i j. type_cause names ts p x i j) e))
+    go (fault.Scope x) e = cause.scope (in_told _ (refused_later bytes (fault.Scope x) (λ ts. HasScopeFault ts x) (omega arith) (λ names ts p i j. scope_cause names ts p x i j) e))
+    go (fault.Query k) e = cause.query (in_told _ (refused_later bytes (fault.Query k) (λ ts. HasQueryFault ts k) (omega arith) (λ names ts p i j. query_cause names ts p k i j) e))
+    go fault.Unbuilt e = cause.unbuilt (in_told _ (refused_later bytes fault.Unbuilt (λ ts. HasStep ts ⊎ HasEquivalence ts) (omega arith) (λ names ts p i j. unbuilt_cause names ts p i j) e))
     go fault.OutOfMemory e = cause.memory
 
 -- more queries are closed than there may be steps

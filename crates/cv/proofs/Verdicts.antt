@@ -133,6 +133,7 @@ refuses_at n bytes x e h = subst (λ m. Refuses x (read_of m bytes)) e h
 pub judged_fault : (x : FileError) (bytes : List ℕ) → Refuses x (read_of most_pool bytes) → Judged (ended_by x) bytes
 judged_fault (fault.Lex x) bytes e = judged_refusal (fault.Lex x) bytes e
 judged_fault (fault.Parse x) bytes e = judged_refusal (fault.Parse x) bytes e
+judged_fault (fault.Script k) bytes e = judged_refusal (fault.Script k) bytes e
 judged_fault (fault.Types x) bytes e = judged_refusal (fault.Types x) bytes e
 judged_fault (fault.Scope x) bytes e = judged_refusal (fault.Scope x) bytes e
 judged_fault (fault.Query k) bytes e = judged_refusal (fault.Query k) bytes e

@@ -1,11 +1,12 @@
 -- What each answer comes from.
-use Rattle.std.specs.Prelude.{◌≡◌, ℕ, suc, ◌+◌, ◌<◌, ◌⊎◌, Bool, false, true, if◌then◌else◌, List, [], ◌∷◌, ◌++◌, length, Option, None, Ok, Err, IfSome, IsNone, IsSomeAnd, is_some}
+use Rattle.std.specs.Prelude.{◌≡◌, ℕ, suc, ◌+◌, ◌<◌, ◌⊎◌, Bool, false, true, if◌then◌else◌, List, [], ◌∷◌, ◌++◌, length, Option, Some, None, Ok, Err, IfSome, IsNone, IsSomeAnd}
 use Rattle.std.specs.List.{list_all, list_any, zip}
 use Rattle.cv_outside.specs.Causes.{Rose}
 use Rattle.cv_outside.specs.Told.{Files}
 use Rattle.cv_lex.specs.declared.LexError.{LexError}
 use Rattle.cv_lex.specs.Lexis.{Token, tokens_of}
 use Rattle.cv_parse_terminals.specs.Signs.{signs_of}
+use Rattle.cv_parse_script.specs.Scripts.{token_begins_step}
 use Rattle.cv_parse_notation.specs.declared.sign.Sign.{Sign}
 use Rattle.cv_parse_grammar.specs.Names as names
 use Rattle.cv_parse_depth.specs.Files.{IsDeadAtEveryDepth, IsNestedTooDeep}
@@ -23,9 +24,9 @@ use Rattle.cv_query_form.specs.Queries.{queries_in}
 use Rattle.cv_query_form.specs.Rules.{IsFirstRefused}
 use Rattle.cv_syntax.specs.Tree.{Tree}
 use Rattle.cv_syntax.specs.declared.work.File.{File}
-use Rattle.cv_accept.specs.Accepted.{Content, IsFile, has_equivalence}
+use Rattle.cv_accept.specs.Accepted.{Content, IsFile, first_of_block, has_equivalence}
 use Rattle.cv_accept.specs.Places.{nodes_before}
-use Rattle.cv_report.specs.declared.report.FileFault.TheVariants.{Lex, Parse, Types, Scope, Query}
+use Rattle.cv_report.specs.declared.report.FileFault.TheVariants.{Lex, Parse, Script, Types, Scope, Query}
 use Rattle.cv_report.specs.declared.report.Cause.TheVariants.{Stuck}
 use Rattle.cv_report.specs.declared.report.Report.{Report}
 use Rattle.cv_report.specs.declared.report.Status.{Status}
@@ -35,57 +36,68 @@ use Rattle.cv.specs.Strategy.{IsCrowded, declared_in, game_in, is_closed, is_pro
 use Rattle.cv.specs.Words.{bytes_named}
 
 -- The bytes have tokens, of which this holds.
-pub record OfTokens (bytes : List ℕ) (Holds : List Sign → Type 0) : Type 0 where
+pub record OfTokens (bytes : List ℕ) (Holds : List Token → Type 0) : Type 0 where
   pub tokens : List Token
   pub lexed : tokens_of bytes ≡ Ok tokens
-  pub holds : Holds (signs_of tokens).signs
+  pub holds : Holds tokens
 
 -- how many queries are closed in a game
 unfoldable pub closed_count : Tree → List Tree → ℕ
 closed_count game [] = 0
 closed_count game (q ∷ qs) = if is_closed game q then suc (closed_count game qs) else closed_count game qs
 
--- The tokens are those of a file without a proof block, and this is the first fault of its terms.
-pub record HasTypeFault (signs : List Sign) (e : TypeFault) : Type 0 where
+-- The tokens are those of a file whose proof block begins with this one, with which no step begins.
+pub record HasForeignStep (tokens : List Token) (token : ℕ) : Type 0 where
   pub said : Parsed
-  pub says : Says most_pool signs said
-  pub no_script : said.script ≡ None
+  pub says : Says most_pool (signs_of tokens).signs said
+  pub first : Token
+  pub there : first_of_block tokens said.script ≡ Some (token, first)
+  pub no_step : token_begins_step first ≡ false
+
+-- The tokens are those of a file whose proof block has no token, or is missing, and this is the first fault of its terms.
+pub record HasTypeFault (tokens : List Token) (e : TypeFault) : Type 0 where
+  pub said : Parsed
+  pub says : Says most_pool (signs_of tokens).signs said
+  pub no_step : first_of_block tokens said.script ≡ None
   pub first : IsFirstRefusal said.declarations (file_parts said.declarations said.game) e
 
--- The tokens are those of a typed file without a proof block, and this names the first node of its game that breaks a rule of
--- array scope, by its place in the file.
-pub record HasScopeFault (signs : List Sign) (e : ScopeFault) : Type 0 where
+-- The tokens are those of a typed file without a step, and this names the first node of its game that breaks a rule of array
+-- scope, by its place in the file.
+pub record HasScopeFault (tokens : List Token) (e : ScopeFault) : Type 0 where
   pub said : Parsed
-  pub says : Says most_pool signs said
-  pub no_script : said.script ≡ None
+  pub says : Says most_pool (signs_of tokens).signs said
+  pub no_step : first_of_block tokens said.script ≡ None
   pub typed : IsTypedFile said.declarations said.game
   pub node : ℕ
   pub rules : Fault
   pub refused : e ≡ refusal (nodes_before said.declarations + node) rules
   pub first : IsFirstFault said.declarations said.game node rules
 
--- The tokens are those of a typed and scoped file without a proof block or an equivalence, and the k-th of its queries
--- is the first that may not be asked.
-pub record HasQueryFault (signs : List Sign) (k : ℕ) : Type 0 where
+-- The tokens are those of a typed and scoped file without a step or an equivalence, and the k-th of its queries is the first
+-- that may not be asked.
+pub record HasQueryFault (tokens : List Token) (k : ℕ) : Type 0 where
   pub said : Parsed
-  pub says : Says most_pool signs said
-  pub no_script : said.script ≡ None
+  pub says : Says most_pool (signs_of tokens).signs said
+  pub no_step : first_of_block tokens said.script ≡ None
   pub typed : IsTypedFile said.declarations said.game
   pub scoped : IsScoped said.declarations said.game
   pub no_equivalence : has_equivalence said.declarations ≡ false
   pub first : IsFirstRefused said.game (queries_in said.declarations) k
 
--- The tokens are those of a file with a proof block.
-pub record HasProofBlock (signs : List Sign) : Type 0 where
+-- The tokens are those of a file whose proof block begins with the first word of a step.
+pub record HasStep (tokens : List Token) : Type 0 where
   pub said : Parsed
-  pub says : Says most_pool signs said
-  pub script : is_some said.script ≡ true
+  pub says : Says most_pool (signs_of tokens).signs said
+  pub token : ℕ
+  pub first : Token
+  pub there : first_of_block tokens said.script ≡ Some (token, first)
+  pub step : token_begins_step first ≡ true
 
--- The tokens are those of a typed and scoped file without a proof block that declares an equivalence.
-pub record HasEquivalence (signs : List Sign) : Type 0 where
+-- The tokens are those of a typed and scoped file without a step that declares an equivalence.
+pub record HasEquivalence (tokens : List Token) : Type 0 where
   pub said : Parsed
-  pub says : Says most_pool signs said
-  pub no_script : said.script ≡ None
+  pub says : Says most_pool (signs_of tokens).signs said
+  pub no_step : first_of_block tokens said.script ≡ None
   pub typed : IsTypedFile said.declarations said.game
   pub scoped : IsScoped said.declarations said.game
   pub equivalence : has_equivalence said.declarations ≡ true
@@ -120,9 +132,13 @@ pub record Outside : Type 0 where
 abbrev pub outside_of : Option Files → Option (List ℕ) → ℕ → ℕ → Outside
 outside_of files name before after = record { name = name; told = bytes_named files name; before = before; after = after }
 
--- where bytes are told, they have tokens of which this holds
-abbrev pub OfTold : Outside → (List Sign → Type 0) → Type 0
+-- where bytes are told, they have tokens of which this holds, or tokens with signs of which this holds
+
+abbrev pub OfTold : Outside → (List Token → Type 0) → Type 0
 OfTold o Holds = IfSome o.told (λ bytes. OfTokens bytes Holds)
+
+abbrev pub OfSigns : Outside → (List Sign → Type 0) → Type 0
+OfSigns o Holds = OfTold o (λ tokens. Holds (signs_of tokens).signs)
 
 -- The table of causes: what each answer comes from. What is said of bytes is said of told ones.
 pub data ComesFrom (o : Outside) (r : Report) : Status → Type 0 where
@@ -133,16 +149,17 @@ pub data ComesFrom (o : Outside) (r : Report) : Status → Type 0 where
   read : Rose o.before o.after → ComesFrom o r status.Read
   long : IfSome o.told (λ bytes. most_bytes < length bytes) → ComesFrom o r (status.Limit FileLimit)
   no_tokens : {e : LexError} → IfSome o.told (λ bytes. tokens_of bytes ≡ Err e) → ComesFrom o r (status.FileRefused (Lex e))
-  syntax : {token : ℕ} → OfTold o (λ signs. IsDeadAtEveryDepth signs token) → ComesFrom o r (status.FileRefused (Parse (Syntax token)))
-  nesting : {token : ℕ} → OfTold o (λ signs. IsNestedTooDeep signs token) → ComesFrom o r (status.FileRefused (Parse (Nesting token)))
-  name_twice : {token : ℕ} → OfTold o (λ signs. IsMisnamedAt signs names.NameTwice token) → ComesFrom o r (status.FileRefused (Parse (NameTwice token)))
-  name_unknown : {token : ℕ} → OfTold o (λ signs. IsMisnamedAt signs names.NameUnknown token) → ComesFrom o r (status.FileRefused (Parse (NameUnknown token)))
-  types : {e : TypeFault} → OfTold o (λ signs. HasTypeFault signs e) → ComesFrom o r (status.FileRefused (Types e))
-  scope : {e : ScopeFault} → OfTold o (λ signs. HasScopeFault signs e) → ComesFrom o r (status.FileRefused (Scope e))
-  query : {k : ℕ} → OfTold o (λ signs. HasQueryFault signs k) → ComesFrom o r (status.FileRefused (Query k))
-  unbuilt : OfTold o (λ signs. HasProofBlock signs ⊎ HasEquivalence signs) → ComesFrom o r status.Unbuilt
-  nodes : {count : ℕ} → OfTold o (λ signs. IsLarge signs (HasNodes count)) → ComesFrom o r (status.Limit (Nodes count))
-  deep : {depth : ℕ} → OfTold o (λ signs. IsLarge signs (HasDepth depth)) → ComesFrom o r (status.Limit (Depth depth))
-  pool : {need : ℕ} → IsNone r.file → most_pool < need → OfTold o (λ signs. IsLarge signs (HasWeight most_pool need)) → ComesFrom o r (status.Limit (Pool need))
+  syntax : {token : ℕ} → OfSigns o (λ signs. IsDeadAtEveryDepth signs token) → ComesFrom o r (status.FileRefused (Parse (Syntax token)))
+  nesting : {token : ℕ} → OfSigns o (λ signs. IsNestedTooDeep signs token) → ComesFrom o r (status.FileRefused (Parse (Nesting token)))
+  name_twice : {token : ℕ} → OfSigns o (λ signs. IsMisnamedAt signs names.NameTwice token) → ComesFrom o r (status.FileRefused (Parse (NameTwice token)))
+  name_unknown : {token : ℕ} → OfSigns o (λ signs. IsMisnamedAt signs names.NameUnknown token) → ComesFrom o r (status.FileRefused (Parse (NameUnknown token)))
+  script : {token : ℕ} → OfTold o (λ tokens. HasForeignStep tokens token) → ComesFrom o r (status.FileRefused (Script token))
+  types : {e : TypeFault} → OfTold o (λ tokens. HasTypeFault tokens e) → ComesFrom o r (status.FileRefused (Types e))
+  scope : {e : ScopeFault} → OfTold o (λ tokens. HasScopeFault tokens e) → ComesFrom o r (status.FileRefused (Scope e))
+  query : {k : ℕ} → OfTold o (λ tokens. HasQueryFault tokens k) → ComesFrom o r (status.FileRefused (Query k))
+  unbuilt : OfTold o (λ tokens. HasStep tokens ⊎ HasEquivalence tokens) → ComesFrom o r status.Unbuilt
+  nodes : {count : ℕ} → OfSigns o (λ signs. IsLarge signs (HasNodes count)) → ComesFrom o r (status.Limit (Nodes count))
+  deep : {depth : ℕ} → OfSigns o (λ signs. IsLarge signs (HasDepth depth)) → ComesFrom o r (status.Limit (Depth depth))
+  pool : {need : ℕ} → IsNone r.file → most_pool < need → OfSigns o (λ signs. IsLarge signs (HasWeight most_pool need)) → ComesFrom o r (status.Limit (Pool need))
   room : {need : ℕ} → IsSomeAnd r.file (λ f. LacksRoom r f need) → ComesFrom o r (status.Limit (Pool need))
   memory : ComesFrom o r status.Memory

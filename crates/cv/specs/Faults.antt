@@ -7,7 +7,7 @@ use Rattle.cv_parse.specs.declared.error.ParseError.TheVariants as parse
 use Rattle.cv_syntax.specs.declared.work.BuildError.TheVariants as build
 use Rattle.cv_accept.specs.declared.error.FileError.{FileError}
 use Rattle.cv_accept.specs.declared.error.FileError.TheVariants as fault
-use Rattle.cv_report.specs.declared.report.FileFault.TheVariants.{Lex, Parse, Types, Scope, Query}
+use Rattle.cv_report.specs.declared.report.FileFault.TheVariants.{Lex, Parse, Script, Types, Scope, Query}
 use Rattle.cv_report.specs.declared.report.Status.{Status}
 use Rattle.cv_report.specs.declared.report.Status.TheVariants as status
 use Rattle.cv_report.specs.declared.report.Which.TheVariants.{Depth, Nodes, Pool}
@@ -23,6 +23,7 @@ parse_ended e = status.FileRefused (Parse e)
 abbrev pub status_of : FileError → Status
 status_of (fault.Lex e) = status.FileRefused (Lex e)
 status_of (fault.Parse e) = parse_ended e
+status_of (fault.Script token) = status.FileRefused (Script token)
 status_of (fault.Types e) = status.FileRefused (Types e)
 status_of (fault.Scope e) = status.FileRefused (Scope e)
 status_of (fault.Query k) = status.FileRefused (Query k)

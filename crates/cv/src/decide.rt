@@ -253,6 +253,7 @@ fn status_of(fault: FileError) -> Status
     match fault {
         FileError::Lex(fault) => Status::FileRefused(FileFault::Lex(fault)),
         FileError::Parse(fault) => parse_ended(fault),
+        FileError::Script(token) => Status::FileRefused(FileFault::Script(token)),
         FileError::Types(fault) => Status::FileRefused(FileFault::Types(fault)),
         FileError::Scope(fault) => Status::FileRefused(FileFault::Scope(fault)),
         FileError::Query(k) => Status::FileRefused(FileFault::Query(k)),

@@ -3,4 +3,5 @@ pub mod Lengths
 pub mod Places
 pub mod QueryLists
 pub mod Readings
+pub mod Tokens
 pub mod Weights

@@ -1,12 +1,13 @@
 -- From bytes to what they hold, or what they are refused for.
-use Rattle.std.proofs.Common.{◌≡◌, ℕ, zero, suc, ◌<◌, drop, is_some, slice_get, ◌+◌, ◌≤◌, true, false, Bool, ◌&&◌, if◌then◌else◌, List, [], ◌∷◌, length, refl, ap, subst, sym, ◌∙◌, arith, Option, Some, None, Result, Ok, Err, All}
+use Rattle.std.proofs.Common.{◌≡◌, ℕ, zero, suc, ◌<◌, drop, slice_get, ◌+◌, ◌≤◌, true, false, Bool, ◌&&◌, if◌then◌else◌, List, [], ◌∷◌, length, refl, ap, subst, sym, ◌∙◌, arith, Option, Some, None, Result, Ok, Err, All}
 use Rattle.std.specs.List.{list_all}
-use Rattle.std.specs.Prelude.{IfOk, IsErrAnd}
+use Rattle.std.specs.Prelude.{IfOk, IfErr, IfSome, IsErrAnd}
 use Rattle.std.specs.declared.alloc.AllocError.{AllocError}
 use Rattle.std.proofs.lemmas.List.Elements.{All-head, All-tail}
 use Rattle.cv_lex.specs.declared.LexError.{LexError}
 use Rattle.cv_lex.specs.declared.LexError.TheVariants as lex
 use Rattle.cv_lex.specs.Lexis.{Token, Lexed, tokens_of, Fails}
+use Rattle.cv_lex.specs.View.{AreTokens, token_at}
 use Rattle.cv_lex.proofs.Exact.{computed, said}
 use Rattle.cv_pool.specs.KindTree.{KindTree}
 use Rattle.cv_syntax.specs.declared.decls.Decl.{Decl}
@@ -16,10 +17,13 @@ use Rattle.cv_syntax.specs.declared.work.File.{File}
 use Rattle.cv_syntax.specs.Declarations.{Declaration, declarations}
 use Rattle.cv_syntax.specs.Tree.{Tree}
 use Rattle.cv_parse_terminals.specs.Signs.{signs_of}
+use Rattle.cv_parse_terminals.proofs.ScriptWalk.{between-cons, between-nil}
+use Rattle.cv_parse_terminals.proofs.Telling.{count_all}
+use Rattle.cv_parse_script.specs.Scripts.{token_begins_step}
 use Rattle.cv_parse.specs.declared.error.ParseError.{ParseError}
 use Rattle.cv_parse.specs.declared.error.ParseError.TheVariants as parse
 use Rattle.cv_parse.specs.Declaring.{IsBelow}
-use Rattle.cv_parse.specs.Parsed.{Parsed, held_in, parsed}
+use Rattle.cv_parse.specs.Parsed.{Parsed, held_in, parsed, range_of}
 use Rattle.cv_parse.specs.Parsed as parsing
 use Rattle.cv_parse.proofs.Exactness.{said_is_saying, says_is_said}
 use Rattle.cv_typing.specs.declared.fault.Fault.{Fault}
@@ -42,15 +46,15 @@ use Rattle.cv_query_form.specs.Refusals.{IsRefusalOf as IsQueryRefusal}
 use Rattle.cv_query_form.proofs.First.{asked-where-none, none-where-asked}
 use Rattle.cv_parse_laws.proofs.Games.{well_formed}
 use Rattle.cv_accept.specs.declared.error.FileError.{FileError}
-use Rattle.cv_accept.specs.declared.error.FileError.TheVariants.{Unbuilt}
-use Rattle.cv_accept.specs.Accepted.{Content, IsFile, Refuses, content_of, has_equivalence, of_equivalences, of_parsed, of_queries, of_scopes, of_script, of_tokens, of_types, query_fault, read_of, scope_fault, type_fault}
-use Rattle.cv_accept.specs.Faults.{of_lex, of_parse, of_query, of_scope, of_type}
+use Rattle.cv_accept.specs.declared.error.FileError.TheVariants.{Lex, Parse, Script, Types, Scope, Query, Unbuilt, OutOfMemory}
+use Rattle.cv_accept.specs.Accepted.{Content, IsFile, Refuses, block_fault, content_of, first_numbered, first_of_block, has_equivalence, of_equivalences, of_parsed, of_queries, of_scopes, of_script, of_tokens, of_types, query_fault, read_of, scope_fault, type_fault}
+use Rattle.cv_accept.specs.Faults.{IsBlockFault, of_lex, of_parse, of_query, of_scope, of_type}
 use Rattle.cv_accept.specs.Places.{nodes_before}
 use Rattle.cv_accept.proofs.Places.{behind_none, none_behind}
 use Rattle.cv_accept.specs.Works.{IsAccepted, ReadsIn, content_in}
 
 -- what tokens make of bytes
-by_tokens : (limit : ℕ) (bs : List ℕ) (ts : List Token) → tokens_of bs ≡ Ok ts → read_of limit bs ≡ of_parsed (signs_of ts).names (parsed limit (signs_of ts).signs)
+by_tokens : (limit : ℕ) (bs : List ℕ) (ts : List Token) → tokens_of bs ≡ Ok ts → read_of limit bs ≡ of_parsed ts (parsed limit (signs_of ts).signs)
 unfolding read_of
 by_tokens limit bs ts e = ap (of_tokens limit) e
 
@@ -64,41 +68,83 @@ lexis_refuses limit bs (lex.NumberWide k) f = ap (of_tokens limit) f
 
 -- no file
 pub grammar_refuses : (limit : ℕ) (bs : List ℕ) (ts : List Token) (e : ParseError) → tokens_of bs ≡ Ok ts → parsing.Refuses e (parsed limit (signs_of ts).signs) → Refuses (of_parse e) (read_of limit bs)
-grammar_refuses limit bs ts (parse.Syntax k) t h = by_tokens limit bs ts t ∙ ap (of_parsed (signs_of ts).names) h
-grammar_refuses limit bs ts (parse.Nesting k) t h = by_tokens limit bs ts t ∙ ap (of_parsed (signs_of ts).names) h
-grammar_refuses limit bs ts (parse.NameTwice k) t h = by_tokens limit bs ts t ∙ ap (of_parsed (signs_of ts).names) h
-grammar_refuses limit bs ts (parse.NameUnknown k) t h = by_tokens limit bs ts t ∙ ap (of_parsed (signs_of ts).names) h
-grammar_refuses limit bs ts (parse.Build (build.Full n)) t h = by_tokens limit bs ts t ∙ ap (of_parsed (signs_of ts).names) h
-grammar_refuses limit bs ts (parse.Build (build.Nodes n)) t h = by_tokens limit bs ts t ∙ ap (of_parsed (signs_of ts).names) h
-grammar_refuses limit bs ts (parse.Build (build.Depth n)) t h = by_tokens limit bs ts t ∙ ap (of_parsed (signs_of ts).names) h
+grammar_refuses limit bs ts (parse.Syntax k) t h = by_tokens limit bs ts t ∙ ap (of_parsed ts) h
+grammar_refuses limit bs ts (parse.Nesting k) t h = by_tokens limit bs ts t ∙ ap (of_parsed ts) h
+grammar_refuses limit bs ts (parse.NameTwice k) t h = by_tokens limit bs ts t ∙ ap (of_parsed ts) h
+grammar_refuses limit bs ts (parse.NameUnknown k) t h = by_tokens limit bs ts t ∙ ap (of_parsed ts) h
+grammar_refuses limit bs ts (parse.Build (build.Full n)) t h = by_tokens limit bs ts t ∙ ap (of_parsed ts) h
+grammar_refuses limit bs ts (parse.Build (build.Nodes n)) t h = by_tokens limit bs ts t ∙ ap (of_parsed ts) h
+grammar_refuses limit bs ts (parse.Build (build.Depth n)) t h = by_tokens limit bs ts t ∙ ap (of_parsed ts) h
 grammar_refuses limit bs ts (parse.Build build.OutOfMemory) t h = tt
 
--- a proof block
-pub script_refuses : (limit : ℕ) (bs : List ℕ) (ts : List Token) (p : Parsed) → tokens_of bs ≡ Ok ts → parsed limit (signs_of ts).signs ≡ Ok p → is_some p.script ≡ true → read_of limit bs ≡ Err Unbuilt
-script_refuses limit bs ts p t h b = by_tokens limit bs ts t ∙ (ap (of_parsed (signs_of ts).names) h ∙ some_script p.script b)
+-- the last brace of a proof block has a token
+pub block_within : (limit : ℕ) (ts : List Token) (p : Parsed) → AreTokens ts → parsed limit (signs_of ts).signs ≡ Ok p → IfSome p.script (λ (b : ℕ × ℕ). b.1 < length ts)
+block_within limit ts p are e =
+    let w = said_is_saying limit (signs_of ts).signs p e in
+    subst (λ (s : Option (ℕ × ℕ)). IfSome s (λ (b : ℕ × ℕ). b.1 < length ts)) (sym w.range) (below w.script)
   where
-    some_script : (s : Option (ℕ × ℕ)) → is_some s ≡ true → of_script (signs_of ts).names p s ≡ Err Unbuilt
-    some_script (Some x) e = refl
-    some_script None e = absurd (cc)
+    below : (s : Option (ℕ × ℕ)) → IfSome (range_of (length (signs_of ts).signs) s) (λ (b : ℕ × ℕ). b.1 < length ts)
+    below None = tt
+    below (Some block) = let c = count_all ts are in omega arith
 
--- without one
-by_script : (limit : ℕ) (bs : List ℕ) (ts : List Token) (p : Parsed) → tokens_of bs ≡ Ok ts → parsed limit (signs_of ts).signs ≡ Ok p → is_some p.script ≡ false → read_of limit bs ≡ of_types (signs_of ts).names p (type_fault p)
-by_script limit bs ts p t h b = by_tokens limit bs ts t ∙ (ap (of_parsed (signs_of ts).names) h ∙ no_script p.script b)
+-- the first token of a block, and a block without one
+pub first_there : (ts : List Token) (from to : ℕ) → from < to → to < length ts → first_of_block ts (Some (from, to)) ≡ Some (from, token_at ts from)
+first_there ts from to l m = ap (first_numbered from) (between-cons ts from to l m)
+
+pub none_there : (ts : List Token) (from to : ℕ) → to ≤ from → first_of_block ts (Some (from, to)) ≡ None
+none_there ts from to l = ap (first_numbered from) (between-nil ts from to l)
+
+-- why a block is refused whose first token is known
+pub refused_there : (ts : List Token) (from to : ℕ) → from < to → to < length ts → (b : Bool) → b ≡ token_begins_step (token_at ts from) → IsBlockFault (first_of_block ts (Some (from, to))) (block_fault from b)
+refused_there ts from to l m b e = subst (λ (o : Option (ℕ × Token)). IsBlockFault o (block_fault from b)) (sym (first_there ts from to l m)) (go b e)
   where
-    no_script : (s : Option (ℕ × ℕ)) → is_some s ≡ false → of_script (signs_of ts).names p s ≡ of_types (signs_of ts).names p (type_fault p)
-    no_script None e = refl
-    no_script (Some x) e = absurd (cc)
+    go : (b : Bool) → b ≡ token_begins_step (token_at ts from) → IsBlockFault (Some (from, token_at ts from)) (block_fault from b)
+    go true e = ap (block_fault from) e
+    go false e = ap (block_fault from) e
+
+-- want of memory, passed on
+pub block_memory : {A : Type 0} (first : Option (ℕ × Token)) (r : Result A FileError) → IsErrAnd r (λ x. x ≡ OutOfMemory) → IfErr r (IsBlockFault first)
+block_memory first (Ok a) i = absurd i
+block_memory first (Err x) i = subst (IsBlockFault first) (sym i) tt
+
+-- a proof block
+by_parsing : (limit : ℕ) (bs : List ℕ) (ts : List Token) (p : Parsed) → tokens_of bs ≡ Ok ts → parsed limit (signs_of ts).signs ≡ Ok p → read_of limit bs ≡ of_script (signs_of ts).names p (first_of_block ts p.script)
+by_parsing limit bs ts p t h = by_tokens limit bs ts t ∙ ap (of_parsed ts) h
+
+pub script_refuses : (limit : ℕ) (bs : List ℕ) (ts : List Token) (p : Parsed) (e : FileError) → tokens_of bs ≡ Ok ts → parsed limit (signs_of ts).signs ≡ Ok p → IsBlockFault (first_of_block ts p.script) e → Refuses e (read_of limit bs)
+script_refuses limit bs ts p e t h f = subst (Refuses e) (sym (by_parsing limit bs ts p t h)) (refuse (first_of_block ts p.script) e f)
+  where
+    refuse : (o : Option (ℕ × Token)) (e : FileError) → IsBlockFault o e → Refuses e (of_script (signs_of ts).names p o)
+    refuse o OutOfMemory f = tt
+    refuse None (Lex x) f = absurd f
+    refuse None (Parse x) f = absurd f
+    refuse None (Script x) f = absurd f
+    refuse None (Types x) f = absurd f
+    refuse None (Scope x) f = absurd f
+    refuse None (Query x) f = absurd f
+    refuse None Unbuilt f = absurd f
+    refuse (Some (n, u)) (Lex x) f = ap Err (sym f)
+    refuse (Some (n, u)) (Parse x) f = ap Err (sym f)
+    refuse (Some (n, u)) (Script x) f = ap Err (sym f)
+    refuse (Some (n, u)) (Types x) f = ap Err (sym f)
+    refuse (Some (n, u)) (Scope x) f = ap Err (sym f)
+    refuse (Some (n, u)) (Query x) f = ap Err (sym f)
+    refuse (Some (n, u)) Unbuilt f = ap Err (sym f)
+
+-- without a step
+by_script : (limit : ℕ) (bs : List ℕ) (ts : List Token) (p : Parsed) → tokens_of bs ≡ Ok ts → parsed limit (signs_of ts).signs ≡ Ok p → first_of_block ts p.script ≡ None → read_of limit bs ≡ of_types (signs_of ts).names p (type_fault p)
+by_script limit bs ts p t h n = by_parsing limit bs ts p t h ∙ ap (of_script (signs_of ts).names p) n
 
 -- types
 
-pub types_refuse : (limit : ℕ) (bs : List ℕ) (ts : List Token) (p : Parsed) (e : TypeFault) → tokens_of bs ≡ Ok ts → parsed limit (signs_of ts).signs ≡ Ok p → is_some p.script ≡ false → IsRefusalOf (type_fault p) e → Refuses (of_type e) (read_of limit bs)
+pub types_refuse : (limit : ℕ) (bs : List ℕ) (ts : List Token) (p : Parsed) (e : TypeFault) → tokens_of bs ≡ Ok ts → parsed limit (signs_of ts).signs ≡ Ok p → first_of_block ts p.script ≡ None → IsRefusalOf (type_fault p) e → Refuses (of_type e) (read_of limit bs)
 types_refuse limit bs ts p (type.WrongType n) t h b r = by_script limit bs ts p t h b ∙ ap (of_types (signs_of ts).names p) r
 types_refuse limit bs ts p (type.Arity n) t h b r = by_script limit bs ts p t h b ∙ ap (of_types (signs_of ts).names p) r
 types_refuse limit bs ts p (type.IndexAsMessage n) t h b r = by_script limit bs ts p t h b ∙ ap (of_types (signs_of ts).names p) r
 types_refuse limit bs ts p (type.NotFixed n) t h b r = by_script limit bs ts p t h b ∙ ap (of_types (signs_of ts).names p) r
 types_refuse limit bs ts p type.OutOfMemory t h b r = tt
 
-pub by_types : (limit : ℕ) (bs : List ℕ) (ts : List Token) (p : Parsed) → tokens_of bs ≡ Ok ts → parsed limit (signs_of ts).signs ≡ Ok p → is_some p.script ≡ false → type_fault p ≡ None → read_of limit bs ≡ of_scopes (signs_of ts).names p (scope_fault p)
+pub by_types : (limit : ℕ) (bs : List ℕ) (ts : List Token) (p : Parsed) → tokens_of bs ≡ Ok ts → parsed limit (signs_of ts).signs ≡ Ok p → first_of_block ts p.script ≡ None → type_fault p ≡ None → read_of limit bs ≡ of_scopes (signs_of ts).names p (scope_fault p)
 by_types limit bs ts p t h b n = by_script limit bs ts p t h b ∙ ap (of_types (signs_of ts).names p) n
 
 -- scope, of a file that is read as far as this
@@ -161,20 +207,20 @@ from_types : (names : List (List ℕ)) (p : Parsed) (f : Content) (o : Option (�
 from_types names p f None i e = from_scopes names p f i (scope_fault p) refl e
 from_types names p f (Some x) i e = absurd (cc)
 
-from_script : (names : List (List ℕ)) (p : Parsed) (f : Content) (s : Option (ℕ × ℕ)) → of_script names p s ≡ Ok f → (s ≡ None) × (of_types names p (type_fault p) ≡ Ok f)
+from_script : (names : List (List ℕ)) (p : Parsed) (f : Content) (s : Option (ℕ × Token)) → of_script names p s ≡ Ok f → (s ≡ None) × (of_types names p (type_fault p) ≡ Ok f)
 from_script names p f None e = (refl, e)
 from_script names p f (Some x) e = absurd (cc)
 
-from_parsed : (limit : ℕ) (bs : List ℕ) (ts : List Token) (f : Content) (r : Result Parsed ParseError) → Lexed 0 bs (Ok ts) → parsed limit (signs_of ts).signs ≡ r → of_parsed (signs_of ts).names r ≡ Ok f → IsFile limit bs f
+from_parsed : (limit : ℕ) (bs : List ℕ) (ts : List Token) (f : Content) (r : Result Parsed ParseError) → Lexed 0 bs (Ok ts) → parsed limit (signs_of ts).signs ≡ r → of_parsed ts r ≡ Ok f → IsFile limit bs f
 from_parsed limit bs ts f (Ok p) l e i =
-    let s = from_script (signs_of ts).names p f p.script i in
+    let s = from_script (signs_of ts).names p f (first_of_block ts p.script) i in
     let b = from_types (signs_of ts).names p f (type_fault p) refl s.1 in
     record {
       tokens = ts;
       said = p;
       lexed = l;
       says = said_is_saying limit (signs_of ts).signs p e;
-      no_script = s.0;
+      no_step = s.0;
       typed = parts_typed_where_none p.declarations 0 (file_parts p.declarations p.game) b.types;
       scoped = scoped_where_none (names_of p.declarations p.game) at_root p.game (behind_none (nodes_before p.declarations) (first_scope_fault p.declarations p.game) b.scope);
       no_equivalence = b.equivalences;
@@ -195,8 +241,8 @@ pub file_is_read : (limit : ℕ) (bs : List ℕ) (f : Content) → IsFile limit 
 unfolding read_of
 file_is_read limit bs f w =
     ap (of_tokens limit) (said bs (Ok w.tokens) w.lexed)
-    ∙ (ap (of_parsed (signs_of w.tokens).names) (says_is_said limit (signs_of w.tokens).signs w.said w.says)
-    ∙ (ap (of_script (signs_of w.tokens).names w.said) w.no_script
+    ∙ (ap (of_parsed w.tokens) (says_is_said limit (signs_of w.tokens).signs w.said w.says)
+    ∙ (ap (of_script (signs_of w.tokens).names w.said) w.no_step
     ∙ (ap (of_types (signs_of w.tokens).names w.said) (none_where_parts_typed w.said.declarations 0 (file_parts w.said.declarations w.said.game) w.typed)
     ∙ (ap (of_scopes (signs_of w.tokens).names w.said) (none_behind (nodes_before w.said.declarations) (first_scope_fault w.said.declarations w.said.game) (none_where_scoped (names_of w.said.declarations w.said.game) at_root w.said.game w.scoped))
     ∙ (ap (of_equivalences (signs_of w.tokens).names w.said) w.no_equivalence

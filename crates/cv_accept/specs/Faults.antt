@@ -1,7 +1,10 @@
 -- How the faults of the stages are answered.
+use Rattle.std.specs.Prelude.{◌≡◌, ℕ, Option, None, Some}
 use Rattle.cv_lex.specs.declared.LexError.{LexError}
 use Rattle.cv_lex.specs.declared.LexError.TheVariants as lex
+use Rattle.cv_lex.specs.Lexis.{Token}
 use Rattle.cv_syntax.specs.declared.work.BuildError.TheVariants as build
+use Rattle.cv_parse_script.specs.Scripts.{token_begins_step}
 use Rattle.cv_parse.specs.declared.error.ParseError.{ParseError}
 use Rattle.cv_parse.specs.declared.error.ParseError.TheVariants as parse
 use Rattle.cv_typing.specs.declared.fault.TypeFault.{TypeFault}
@@ -10,6 +13,7 @@ use Rattle.cv_scope.specs.declared.fault.ScopeFault.{ScopeFault}
 use Rattle.cv_scope.specs.declared.fault.ScopeFault.TheVariants as scope
 use Rattle.cv_query_form.specs.declared.fault.QueryFault.{QueryFault}
 use Rattle.cv_query_form.specs.declared.fault.QueryFault.TheVariants as query
+use Rattle.cv_accept.specs.Accepted.{block_fault}
 use Rattle.cv_accept.specs.declared.error.FileError.{FileError}
 use Rattle.cv_accept.specs.declared.error.FileError.TheVariants.{Lex, Parse, Types, Scope, Query, OutOfMemory}
 
@@ -32,3 +36,9 @@ of_query query.OutOfMemory = OutOfMemory
 abbrev pub of_parse : ParseError → FileError
 of_parse (parse.Build build.OutOfMemory) = OutOfMemory
 of_parse e = Parse e
+
+-- memory ran out, or the block whose first token is this, with its number, is refused so
+abbrev pub IsBlockFault : Option (ℕ × Token) → FileError → Type 0
+IsBlockFault first OutOfMemory = Unit {0}
+IsBlockFault None e = ⊥
+IsBlockFault (Some (token, t)) e = e ≡ block_fault token (token_begins_step t)

@@ -13,13 +13,15 @@ pub enum FileError {
     Lex(LexError),
     /// Their tokens are no file.
     Parse(ParseError),
+    /// They are a file whose proof block begins with this token, with which no step begins.
+    Script(u32),
     /// They are a file whose terms aren't typed.
     Types(TypeFault),
     /// They are a file whose game breaks a rule of array scope.
     Scope(ScopeFault),
     /// They are a file whose query of this number, counted from 1, may not be asked.
     Query(u32),
-    /// They are a file with a part that isn't read yet: a proof block or an equivalence.
+    /// They are a file with a part that isn't checked yet: a proof block with a step, or an equivalence.
     Unbuilt,
     OutOfMemory,
 }

@@ -18,7 +18,7 @@ use Rattle.cv_typing.specs.declared.fault.TypeFault.TheVariants as type
 use Rattle.cv_scope.specs.declared.fault.ScopeFault.{ScopeFault}
 use Rattle.cv_scope.specs.declared.fault.ScopeFault.TheVariants as scope
 use Rattle.cv_report.specs.declared.report.FileFault.{FileFault}
-use Rattle.cv_report.specs.declared.report.FileFault.TheVariants.{Lex, Parse, Types, Scope, Query}
+use Rattle.cv_report.specs.declared.report.FileFault.TheVariants.{Lex, Parse, Script, Types, Scope, Query}
 use Rattle.cv_report.specs.declared.report.Report.{Report}
 use Rattle.cv_report.specs.declared.report.Status.{Status}
 use Rattle.cv_report.specs.declared.report.Status.TheVariants as status
@@ -78,6 +78,9 @@ grammar_text (parse.NameTwice token) = refused_text (codes "name twice at token 
 grammar_text (parse.NameUnknown token) = refused_text (codes "name unknown at token ") token
 grammar_text (parse.Build fault) = codes "end 6 memory\n"
 
+abbrev pub script_text : ℕ → List ℕ
+script_text token = refused_text (codes "script at token ") token
+
 abbrev pub types_text : TypeFault → List ℕ
 types_text (type.WrongType node) = refused_text (codes "type at node ") node
 types_text (type.Arity node) = refused_text (codes "arity at node ") node
@@ -98,6 +101,7 @@ query_text k = refused_text (codes "query ") k
 abbrev pub fault_text : FileFault → List ℕ
 fault_text (Lex e) = lexis_text e
 fault_text (Parse e) = grammar_text e
+fault_text (Script token) = script_text token
 fault_text (Types e) = types_text e
 fault_text (Scope e) = scope_text e
 fault_text (Query k) = query_text k

@@ -48,6 +48,8 @@ pub enum FileFault {
     Lex(LexError),
     /// Their tokens are not those of a file, by the grammar or the rules of names.
     Parse(ParseError),
+    /// No step begins with this token, which is the first of the file's proof block.
+    Script(u32),
     /// The terms of the file aren't typed.
     Types(TypeFault),
     /// The game of the file breaks a rule of array scope.
@@ -83,7 +85,7 @@ pub enum Status {
     Write,
     Memory,
     Limit(Which),
-    /// The file has a part that isn't read yet: a proof block or an equivalence.
+    /// The file has a part that isn't checked yet: a proof block with a step, or an equivalence.
     Unbuilt,
 }
 

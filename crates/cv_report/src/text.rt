@@ -1,6 +1,6 @@
 // The text of a report.
 ghost use Rattle.std.specs.Prelude.{◌≡◌, ◌+◌, ◌<◌, ◌^◌, ◌++◌, [], All, length, IfOk, OnOk, IfSome};
-ghost use Rattle.cv_report.specs.Text.{EntryLive, IsLive, cost_text, end_text, entry_text, fault_text, games_after, grammar_text, lexis_text, next_text, query_text, refused_text, said_text, scope_text, text_of, trail_text, types_text, verdict_text, verdicts_text};
+ghost use Rattle.cv_report.specs.Text.{EntryLive, IsLive, cost_text, end_text, entry_text, fault_text, games_after, grammar_text, lexis_text, next_text, query_text, refused_text, said_text, scope_text, script_text, text_of, trail_text, types_text, verdict_text, verdicts_text};
 
 use crate::report::{Entry, FileFault, Report, Status, Verdict, Which};
 use cv_bound::{Cost, listed_text};
@@ -175,6 +175,13 @@ fn push_grammar(out: &mut Vec<u8>, fault: ParseError) -> Result<(), AllocError>
     }
 }
 
+/// Appends the end line of a file whose proof block begins with a token that begins no step.
+fn push_script(out: &mut Vec<u8>, token: u32) -> Result<(), AllocError>
+    ensures { OnOk result (out.new.items ≡ out.old.items ++ script_text token) }
+{
+    push_refused(out, b"script at token ", token)
+}
+
 /// Appends the end line of a file that isn't typed.
 fn push_types(out: &mut Vec<u8>, fault: TypeFault) -> Result<(), AllocError>
     ensures { OnOk result (out.new.items ≡ out.old.items ++ types_text fault) }
@@ -215,6 +222,7 @@ fn push_fault(out: &mut Vec<u8>, fault: FileFault) -> Result<(), AllocError>
     match fault {
         FileFault::Lex(fault) => push_lexis(out, fault),
         FileFault::Parse(fault) => push_grammar(out, fault),
+        FileFault::Script(token) => push_script(out, token),
         FileFault::Types(fault) => push_types(out, fault),
         FileFault::Scope(fault) => push_scope(out, fault),
         FileFault::Query(k) => push_query(out, k),
