@@ -11,7 +11,7 @@ use Rattle.cv_path.specs.Places.{LiesAt, nodes_above}
 use Rattle.cv_path.specs.Ways.{turned}
 use Rattle.cv_path.proofs.Bounds.{no_subtree}
 use Rattle.cv_path.proofs.Going.{replaced-here, replaced-within, replaced-behind}
-use Rattle.cv_steps.specs.Changes.{divided, after_let, after_new}
+use Rattle.cv_steps.specs.Changes.{split_process, after_let, after_new}
 
 pub below_or_not : (m n : ℕ) → (m < n) ⊎ (n ≤ m)
 below_or_not m n = go (ltb m n) refl
@@ -20,13 +20,13 @@ below_or_not m n = go (ltb m n) refl
     go true e = inl (ltb-true m n e)
     go false e = inr (ltb-false m n e)
 
-pub size-divided : (m p : Tree) → size (divided m p) ≡ 1 + size m + 2 * size p
+pub size-split_process : (m p : Tree) → size (split_process m p) ≡ 1 + size m + 2 * size p
 unfolding size
-size-divided m p = omega arith
+size-split_process m p = omega arith
 
-pub depth-divided : (m p : Tree) → depth (divided m p) ≡ 1 + max (depth m) (depth p)
+pub depth-split_process : (m p : Tree) → depth (split_process m p) ≡ 1 + max (depth m) (depth p)
 unfolding depth
-depth-divided m p = omega arith
+depth-split_process m p = omega arith
 
 pub size-let : (x T : ℕ) (m p : Tree) → size (after_let x T m p) ≡ 1 + size m + size p
 unfolding size
@@ -101,4 +101,4 @@ pub depth-Empty : (t : Tree) → t ≡ Empty → depth t ≡ 0
 unfolding depth
 depth-Empty t e = ap depth e
 
-pub ruleset extents = (size-divided, depth-divided, size-let, depth-let, size-new, depth-new, depth-le-size, size-node, size-Empty, empty_at)
+pub ruleset extents = (size-split_process, depth-split_process, size-let, depth-let, size-new, depth-new, depth-le-size, size-node, size-Empty, empty_at)

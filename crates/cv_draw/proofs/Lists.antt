@@ -1,5 +1,5 @@
 -- Trees without the definitions of a variable, as lists of their nodes behind their children.
-use Rattle.std.proofs.Common.{◌≡◌, ℕ, ◌+◌, ◌<◌, ◌≤◌, Bool, true, false, cond, ◌⊎◌, inl, inr, max, List, [], ◌∷◌, ◌++◌, length, map, reverse, Option, Some, None, refl, sym, ap, ◌∙◌, arith, append_assoc, append-nil, length-append, Result, Ok, Err}
+use Rattle.std.proofs.Common.{◌≡◌, ℕ, ◌+◌, ◌*◌, ◌<◌, ◌≤◌, Bool, true, false, cond, ◌⊎◌, inl, inr, max, min, List, [], ◌∷◌, ◌++◌, length, map, reverse, Option, Some, None, refl, sym, ap, ◌∙◌, arith, append_assoc, append-nil, length-append, Result, Ok, Err}
 use Rattle.std.specs.Prelude.{flat_map, unwrap_or, IsSome, OnOk}
 use Rattle.std.specs.Option.{option_to_list}
 use Rattle.std.proofs.lemmas.List.{reverse-append}
@@ -12,7 +12,7 @@ use Rattle.cv_syntax.specs.Planting.{overs}
 use Rattle.cv_syntax.specs.Postorder.{postorder}
 use Rattle.cv_syntax.specs.Tree.{Tree, Empty, Node, size, depth}
 use Rattle.cv_meaning_unread.specs.Dropping.{defines}
-use Rattle.cv_steps.specs.Changes.{dropped, only}
+use Rattle.cv_steps.specs.Changes.{without, only}
 use Rattle.cv_syntax.proofs.Trees.{size-Empty}
 use Rattle.cv_syntax.proofs.Walking.{size-node, depth-node}
 use Rattle.cv_draw.proofs.Extents.{below_or_not, depth-Empty}
@@ -22,24 +22,24 @@ use Rattle.cv_draw.specs.Dropping.{nodes_without}
 -- what stays at a node
 
 module _ (x : ℕ) (t : Tree) (h : Head) (a b : Tree) (e : t ≡ Node h a b) where
-  pub dropped-gone : defines (only x) h ≡ true → dropped (only x) t ≡ dropped (only x) b
-  unfolding dropped
-  dropped-gone d = ap (dropped (only x)) e ∙ ap (λ v. cond v (dropped (only x) b) (Node h (dropped (only x) a) (dropped (only x) b))) d
+  pub without-gone : defines (only x) h ≡ true → without (only x) t ≡ without (only x) b
+  unfolding without
+  without-gone d = ap (without (only x)) e ∙ ap (λ v. cond v (without (only x) b) (Node h (without (only x) a) (without (only x) b))) d
 
-  pub dropped-stays : defines (only x) h ≡ false → dropped (only x) t ≡ Node h (dropped (only x) a) (dropped (only x) b)
-  unfolding dropped
-  dropped-stays d = ap (dropped (only x)) e ∙ ap (λ v. cond v (dropped (only x) b) (Node h (dropped (only x) a) (dropped (only x) b))) d
+  pub without-stays : defines (only x) h ≡ false → without (only x) t ≡ Node h (without (only x) a) (without (only x) b)
+  unfolding without
+  without-stays d = ap (without (only x)) e ∙ ap (λ v. cond v (without (only x) b) (Node h (without (only x) a) (without (only x) b))) d
 
-pub dropped-Empty : (x : ℕ) (t : Tree) → t ≡ Empty → dropped (only x) t ≡ Empty
-unfolding dropped
-dropped-Empty x t e = ap (dropped (only x)) e
+pub without-Empty : (x : ℕ) (t : Tree) → t ≡ Empty → without (only x) t ≡ Empty
+unfolding without
+without-Empty x t e = ap (without (only x)) e
 
-pub size-dropped : (x : ℕ) (t : Tree) → size (dropped (only x) t) ≤ size t
-unfolding size dropped
-size-dropped x Empty = omega arith
-size-dropped x (Node h a b) = go (defines (only x) h) (size-dropped x a) (size-dropped x b)
+pub size-without : (x : ℕ) (t : Tree) → size (without (only x) t) ≤ size t
+unfolding size without
+size-without x Empty = omega arith
+size-without x (Node h a b) = go (defines (only x) h) (size-without x a) (size-without x b)
   where
-    go : (v : Bool) → size (dropped (only x) a) ≤ size a → size (dropped (only x) b) ≤ size b → size (cond v (dropped (only x) b) (Node h (dropped (only x) a) (dropped (only x) b))) ≤ weight h + size a + size b
+    go : (v : Bool) → size (without (only x) a) ≤ size a → size (without (only x) b) ≤ size b → size (cond v (without (only x) b) (Node h (without (only x) a) (without (only x) b))) ≤ weight h + size a + size b
     go true k l = omega arith
     go false k l = omega arith
 
@@ -50,17 +50,24 @@ overs-append [] ys = omega arith
 overs-append (make.Nothing ∷ xs) ys = overs-append xs ys
 overs-append (make.Over h ∷ xs) ys = omega (arith, overs-append xs ys)
 
-pub overs-without : (x : ℕ) (t : Tree) → overs (postorder (dropped (only x) t)) ≡ nodes_without x t
-unfolding postorder dropped nodes_without
+pub overs-without : (x : ℕ) (t : Tree) → overs (postorder (without (only x) t)) ≡ nodes_without x t
+unfolding postorder without nodes_without
 overs-without x Empty = refl
 overs-without x (Node h a b) = go (defines (only x) h) (overs-without x a) (overs-without x b)
   where
-    go : (v : Bool) → overs (postorder (dropped (only x) a)) ≡ nodes_without x a → overs (postorder (dropped (only x) b)) ≡ nodes_without x b → overs (postorder (cond v (dropped (only x) b) (Node h (dropped (only x) a) (dropped (only x) b)))) ≡ cond v (nodes_without x b) (nodes_without x a + nodes_without x b + 1)
+    go : (v : Bool) → overs (postorder (without (only x) a)) ≡ nodes_without x a → overs (postorder (without (only x) b)) ≡ nodes_without x b → overs (postorder (cond v (without (only x) b) (Node h (without (only x) a) (without (only x) b)))) ≡ cond v (nodes_without x b) (nodes_without x a + nodes_without x b + 1)
     go true k l = l
     go false k l =
-        let c : Tree = dropped (only x) a in
-        let d : Tree = dropped (only x) b in
+        let c : Tree = without (only x) a in
+        let d : Tree = without (only x) b in
         omega (arith, k, l, overs-append (postorder c) (postorder d ++ make.Over h ∷ []), overs-append (postorder d) (make.Over h ∷ []))
+
+-- a listed tree has an entry for each of its nodes, and one more for nothing
+pub entries : (t : Tree) → length (postorder t) ≡ 2 * overs (postorder t) + 1
+unfolding postorder
+entries Empty = refl
+entries (Node h a b) =
+    omega (arith, entries a, entries b, length-append (postorder a) (postorder b ++ make.Over h ∷ []), length-append (postorder b) (make.Over h ∷ []), overs-append (postorder a) (postorder b ++ make.Over h ∷ []), overs-append (postorder b) (make.Over h ∷ []))
 
 -- what is left to be listed, where the heads above are still to come
 abbrev pub Listed : List Make → List Make → List Head → List Make → Type 0
@@ -101,43 +108,47 @@ pub on-ok : {T E : Type 0} {P Q : Type 0} (r : Result T E) → (P → Q) → OnO
 on-ok (Ok u) f p = f p
 on-ok (Err e) f p = p
 
+-- a pool that is asked for as many nodes as it can count
+pub asked_most : (n need total limit live : ℕ) → need ≡ min total 4294967295 → 4294967295 ≤ total → limit < 4294967295 → n ≡ 4294967295 → (n ≡ need) × (limit < live + n)
+asked_most n need total limit live e l m f = (omega arith, omega arith)
+
 pub one-list : (t : Tree) (ms : List Make) → ms ≡ postorder t → ms ≡ flat_map postorder (t ∷ [])
 one-list t ms e = e ∙ sym (append-nil (postorder t))
 
 module _ (x : ℕ) (t : Tree) (h : Head) (a b : Tree) (e : t ≡ Node h a b) where
-  pub size-gone : defines (only x) h ≡ true → size (dropped (only x) t) ≡ size (dropped (only x) b)
-  size-gone d = ap size (dropped-gone x t h a b e d)
+  pub size-gone : defines (only x) h ≡ true → size (without (only x) t) ≡ size (without (only x) b)
+  size-gone d = ap size (without-gone x t h a b e d)
 
-  pub size-stays : defines (only x) h ≡ false → size (dropped (only x) t) ≡ weight h + size (dropped (only x) a) + size (dropped (only x) b)
-  size-stays d = size-node (dropped (only x) t) h (dropped (only x) a) (dropped (only x) b) (dropped-stays x t h a b e d)
+  pub size-stays : defines (only x) h ≡ false → size (without (only x) t) ≡ weight h + size (without (only x) a) + size (without (only x) b)
+  size-stays d = size-node (without (only x) t) h (without (only x) a) (without (only x) b) (without-stays x t h a b e d)
 
-  pub depth-of-gone : defines (only x) h ≡ true → depth (dropped (only x) t) ≡ depth (dropped (only x) b)
-  depth-of-gone d = ap depth (dropped-gone x t h a b e d)
+  pub depth-of-gone : defines (only x) h ≡ true → depth (without (only x) t) ≡ depth (without (only x) b)
+  depth-of-gone d = ap depth (without-gone x t h a b e d)
 
-  pub depth-stays : defines (only x) h ≡ false → depth (dropped (only x) t) ≡ weight h + max (depth (dropped (only x) a)) (depth (dropped (only x) b))
-  depth-stays d = depth-node (dropped (only x) t) h (dropped (only x) a) (dropped (only x) b) (dropped-stays x t h a b e d)
+  pub depth-stays : defines (only x) h ≡ false → depth (without (only x) t) ≡ weight h + max (depth (without (only x) a)) (depth (without (only x) b))
+  depth-stays d = depth-node (without (only x) t) h (without (only x) a) (without (only x) b) (without-stays x t h a b e d)
 
   -- what is left to list
-  pub listed-gone : (makes goal : List Make) (heads : List Head) → defines (only x) h ≡ true → Listed makes (postorder (dropped (only x) t)) heads goal → Listed makes (postorder (dropped (only x) b)) heads goal
-  listed-gone makes goal heads d l = ap (λ u. makes ++ (postorder u ++ map make.Over (reverse heads))) (sym (dropped-gone x t h a b e d)) ∙ l
+  pub listed-gone : (makes goal : List Make) (heads : List Head) → defines (only x) h ≡ true → Listed makes (postorder (without (only x) t)) heads goal → Listed makes (postorder (without (only x) b)) heads goal
+  listed-gone makes goal heads d l = ap (λ u. makes ++ (postorder u ++ map make.Over (reverse heads))) (sym (without-gone x t h a b e d)) ∙ l
 
-  pub listed-stays : (makes more goal : List Make) (heads higher : List Head) → defines (only x) h ≡ false → Listed makes (postorder (dropped (only x) t)) heads goal
-      → more ≡ makes ++ postorder (dropped (only x) a) → higher ≡ heads ++ h ∷ [] → Listed more (postorder (dropped (only x) b)) higher goal
+  pub listed-stays : (makes more goal : List Make) (heads higher : List Head) → defines (only x) h ≡ false → Listed makes (postorder (without (only x) t)) heads goal
+      → more ≡ makes ++ postorder (without (only x) a) → higher ≡ heads ++ h ∷ [] → Listed more (postorder (without (only x) b)) higher goal
   listed-stays makes more goal heads higher d l f g =
-      listed-node makes more goal heads higher h (dropped (only x) a) (dropped (only x) b) (ap (λ u. makes ++ (postorder u ++ map make.Over (reverse heads))) (sym (dropped-stays x t h a b e d)) ∙ l) f g
+      listed-node makes more goal heads higher h (without (only x) a) (without (only x) b) (ap (λ u. makes ++ (postorder u ++ map make.Over (reverse heads))) (sym (without-stays x t h a b e d)) ∙ l) f g
       (ap reverse g ∙ reverse-append heads (h ∷ []))
 
-pub size-ends : (x : ℕ) (t : Tree) → t ≡ Empty → size (dropped (only x) t) ≡ 0
-size-ends x t e = size-Empty (dropped (only x) t) (dropped-Empty x t e)
+pub size-ends : (x : ℕ) (t : Tree) → t ≡ Empty → size (without (only x) t) ≡ 0
+size-ends x t e = size-Empty (without (only x) t) (without-Empty x t e)
 
-pub depth-ends : (x : ℕ) (t : Tree) → t ≡ Empty → depth (dropped (only x) t) ≡ 0
-depth-ends x t e = depth-Empty (dropped (only x) t) (dropped-Empty x t e)
+pub depth-ends : (x : ℕ) (t : Tree) → t ≡ Empty → depth (without (only x) t) ≡ 0
+depth-ends x t e = depth-Empty (without (only x) t) (without-Empty x t e)
 
-pub listed-ends : (x : ℕ) (t : Tree) (makes more all goal : List Make) (heads : List Head) → t ≡ Empty → Listed makes (postorder (dropped (only x) t)) heads goal → more ≡ makes ++ make.Nothing ∷ [] → all ≡ more ++ map make.Over (reverse heads) → all ≡ goal
+pub listed-ends : (x : ℕ) (t : Tree) (makes more all goal : List Make) (heads : List Head) → t ≡ Empty → Listed makes (postorder (without (only x) t)) heads goal → more ≡ makes ++ make.Nothing ∷ [] → all ≡ more ++ map make.Over (reverse heads) → all ≡ goal
 unfolding postorder
 listed-ends x t makes more all goal heads e l f g =
     g ∙ ap (λ m. m ++ map make.Over (reverse heads)) f ∙ append_assoc makes (make.Nothing ∷ []) (map make.Over (reverse heads))
-    ∙ ap (λ u. makes ++ (postorder u ++ map make.Over (reverse heads))) (sym (dropped-Empty x t e)) ∙ l
+    ∙ ap (λ u. makes ++ (postorder u ++ map make.Over (reverse heads))) (sym (without-Empty x t e)) ∙ l
 
 pub closed-node : (makes more goal : List Make) (heads lower : List Head) (h : Head) → makes ++ map make.Over (reverse heads) ≡ goal → heads ≡ lower ++ h ∷ [] → more ≡ makes ++ make.Over h ∷ [] → more ++ map make.Over (reverse lower) ≡ goal
 closed-node makes more goal heads lower h l e f =

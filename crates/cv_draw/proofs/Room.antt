@@ -13,7 +13,7 @@ use Rattle.cv_syntax.specs.declared.head.Head.TheVariants.{If, Cons}
 use Rattle.cv_syntax.specs.Tree.{Tree, Empty, Node, size, subtree, tree_at}
 use Rattle.cv_syntax.proofs.Buildings.{child-grown}
 use Rattle.cv_syntax.proofs.Trees.{tree_at-None}
-use Rattle.cv_steps.specs.Changes.{changed, divided}
+use Rattle.cv_steps.specs.Changes.{change_at, split_process}
 use Rattle.cv_steps.specs.Scenes.{or_empty, part_at}
 use Rattle.cv_path.specs.Places.{nodes_above}
 use Rattle.cv_path.specs.Refusals as path
@@ -63,10 +63,10 @@ some-found f o s n e m = sym e ∙ ap (option_map f) m
 
 -- the part changed
 
-pub divided-made : (p q r s : PoolView) (old condition last bodies result : NodeId) → Grows p q → Grows q r → old.0 < length p.trees → condition.0 < length p.trees
+pub split_process-made : (p q r s : PoolView) (old condition last bodies result : NodeId) → Grows p q → Grows q r → old.0 < length p.trees → condition.0 < length p.trees
     → tree_at q.trees (Some last) ≡ Node Cons (tree_at p.trees (Some old)) (tree_at p.trees None) → tree_at r.trees (Some bodies) ≡ Node Cons (tree_at q.trees (Some old)) (tree_at q.trees (Some last))
-    → tree_at s.trees (Some result) ≡ Node If (tree_at r.trees (Some condition)) (tree_at r.trees (Some bodies)) → tree_at s.trees (Some result) ≡ divided (tree_at p.trees (Some condition)) (tree_at p.trees (Some old))
-divided-made p q r s old condition last bodies result g h l m e f i =
+    → tree_at s.trees (Some result) ≡ Node If (tree_at r.trees (Some condition)) (tree_at r.trees (Some bodies)) → tree_at s.trees (Some result) ≡ split_process (tree_at p.trees (Some condition)) (tree_at p.trees (Some old))
+split_process-made p q r s old condition last bodies result g h l m e f i =
     i
     ∙ ap₂ (λ a b. Node If a b) (child-grown p r (Some condition) (Grows-trans p q r g h) m)
     (f ∙ ap₂ (λ a b. Node Cons a b) (child-grown p q (Some old) g l) (e ∙ ap (λ b. Node Cons (tree_at p.trees (Some old)) b) (tree_at-None p.trees)))
@@ -74,7 +74,7 @@ divided-made p q r s old condition last bodies result g h l m e f i =
 pub new-made : (trees : List KindTree) (t b : Tree) (h : Head) → t ≡ Node h (tree_at trees None) b → t ≡ Node h Empty b
 new-made trees t b h e = e ∙ ap (λ a. Node h a b) (tree_at-None trees)
 
-pub measured : (t : Tree) (p : ℕ) (part : Tree) (change : Tree → Tree) → subtree t p ≡ Some part → size (changed t p change) + size part ≡ size t + size (change part)
+pub measured : (t : Tree) (p : ℕ) (part : Tree) (change : Tree → Tree) → subtree t p ≡ Some part → size (change_at t p change) + size part ≡ size t + size (change part)
 measured t p part change e = size-replaced t p (change (part_at t p)) part e ∙ ap (λ u. size t + size (change u)) (ap or_empty e)
 
 pub only-left : {A B : Type 0} → A ⊎ B → (B → ⊥) → A

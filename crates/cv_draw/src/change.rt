@@ -10,7 +10,7 @@ use cv_syntax::{NodeId, Pool, depth, size};
 #[derive(Clone, Copy)]
 pub enum Change {
     /// An `if` with this condition, and the part as both of its bodies.
-    Divided {
+    Split {
         condition: NodeId,
     },
     /// A `let` before the part.
@@ -39,7 +39,7 @@ impl Change {
         ensures { result ≡ nodes_of self }
     {
         match self {
-            Change::Divided { .. } => 3,
+            Change::Split { .. } => 3,
             Change::AfterLet { .. } => 1,
             Change::AfterNew { .. } => 1,
         }
@@ -58,7 +58,7 @@ impl Change {
             (tree_at pool.now.trees (Some part))) }
     {
         match self {
-            Change::Divided { condition } => {
+            Change::Split { condition } => {
                 let bodies = 2 * size(pool, part);
                 Extent {
                     nodes: 1 + size(pool, condition) + bodies,

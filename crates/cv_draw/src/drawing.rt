@@ -5,7 +5,7 @@ ghost use Rattle.cv_syntax.specs.Tree as tree;
 ghost use Rattle.cv_syntax.specs.Tree.{Node, tree_at};
 ghost use Rattle.cv_path.specs.Places.{nodes_above};
 ghost use Rattle.cv_path.specs.Refusals.{no_memory, no_room};
-ghost use Rattle.cv_steps.specs.Changes.{changed};
+ghost use Rattle.cv_steps.specs.Changes.{change_at};
 ghost use Rattle.cv_draw.specs.Changes.{TermIsLive, change_of, need_of, nodes_of, refusal};
 
 use crate::change::Change;
@@ -84,7 +84,7 @@ fn part(pool: &mut Pool, old: NodeId, change: Change) -> NodeId
     ensures few { length pool.new.trees ≤ length pool.old.trees + nodes_of change }
 {
     match change {
-        Change::Divided { condition } => {
+        Change::Split { condition } => {
             let last = join(pool, Head::Cons, Some(old), None);
             let bodies = join(pool, Head::Cons, Some(old), Some(last));
             join(pool, Head::If, Some(condition), Some(bodies))
@@ -113,7 +113,7 @@ pub fn draw(
     requires fits { tree.size (tree_at pool.old.trees (Some root)) < 2 ^ 32 }
     requires room { root.0 + 4 < 2 ^ 32 }
     ensures tree { IfOk result (λ n. tree_at pool.new.trees (Some n)
-        ≡ changed (tree_at pool.old.trees (Some root)) place (change_of pool.old.trees change)) }
+        ≡ change_at (tree_at pool.old.trees (Some root)) place (change_of pool.old.trees change)) }
     ensures live { IfOk result (λ n. n.0 < length pool.new.trees) }
     ensures grows { Grows pool.old pool.new }
     ensures accepted { OnOk result

@@ -6,8 +6,8 @@ ghost use Rattle.cv_syntax.specs.Postorder.{postorder};
 ghost use Rattle.cv_syntax.specs.Tree as tree;
 ghost use Rattle.cv_syntax.specs.Tree.{Tree, tree_at};
 ghost use Rattle.cv_meaning_unread.specs.Dropping.{defines};
-ghost use Rattle.cv_steps.specs.Changes.{dropped, only};
-ghost use Rattle.cv_draw.specs.Dropping.{nodes_without};
+ghost use Rattle.cv_steps.specs.Changes.{without, only};
+ghost use Rattle.cv_draw.specs.Dropping.{need_without};
 ghost use Rattle.cv_syntax.specs.declared.make.Make.TheVariants as make;
 
 use crate::change::Extent;
@@ -30,7 +30,7 @@ fn defines(x: u32, head: Head) -> bool
 fn size_without(pool: &Pool, x: u32, start: Option<NodeId>) -> u32
     requires live { ChildBelow (length pool.now.trees) start }
     requires fits { tree.size (tree_at pool.now.trees start) < 2 ^ 32 }
-    ensures { result ≡ tree.size (dropped (only x) (tree_at pool.now.trees start)) }
+    ensures { result ≡ tree.size (without (only x) (tree_at pool.now.trees start)) }
 {
     let mut total = 0;
     let mut at = start;
@@ -49,7 +49,7 @@ fn size_without(pool: &Pool, x: u32, start: Option<NodeId>) -> u32
 fn depth_without(pool: &Pool, x: u32, start: Option<NodeId>) -> u32
     requires live { ChildBelow (length pool.now.trees) start }
     requires fits { tree.size (tree_at pool.now.trees start) < 2 ^ 32 }
-    ensures { result ≡ tree.depth (dropped (only x) (tree_at pool.now.trees start)) }
+    ensures { result ≡ tree.depth (without (only x) (tree_at pool.now.trees start)) }
 {
     let mut above = 0;
     let mut deepest = 0;
@@ -70,9 +70,9 @@ pub fn measure_without(pool: &Pool, root: NodeId, x: u32) -> Extent
     requires live { root.0 < length pool.now.trees }
     requires fits { tree.size (tree_at pool.now.trees (Some root)) < 2 ^ 32 }
     ensures nodes { result.nodes
-        ≡ tree.size (dropped (only x) (tree_at pool.now.trees (Some root))) }
+        ≡ tree.size (without (only x) (tree_at pool.now.trees (Some root))) }
     ensures depth { result.depth
-        ≡ tree.depth (dropped (only x) (tree_at pool.now.trees (Some root))) }
+        ≡ tree.depth (without (only x) (tree_at pool.now.trees (Some root))) }
 {
     Extent {
         nodes: size_without(pool, x, Some(root)),
@@ -102,7 +102,7 @@ fn list(
 ) -> Result<(), AllocError>
     requires live { ChildBelow (length pool.now.trees) start }
     ensures { OnOk result (makes.new.items
-        ≡ makes.old.items ++ postorder (dropped (only x) (tree_at pool.now.trees start))) }
+        ≡ makes.old.items ++ postorder (without (only x) (tree_at pool.now.trees start))) }
 {
     let mut heads = Vec::new(alloc);
     let mut at = start;
@@ -137,7 +137,7 @@ fn planted(alloc: Global, pool: &mut Pool, makes: &[Make]) -> Result<Option<Node
 }
 
 /// Makes the game without the definitions of a variable. The pool is asked for room for all of its nodes at once,
-/// also for those that are there.
+/// also for those that are there; more than a pool can have are never made.
 pub fn drop_variable(
     alloc: Global,
     pool: &mut Pool,
@@ -145,26 +145,31 @@ pub fn drop_variable(
     x: u32,
 ) -> Result<Option<NodeId>, PoolError>
     requires live { root.0 < length pool.old.trees }
-    requires fits { nodes_without x (tree_at pool.old.trees (Some root)) < 2 ^ 32 }
+    requires limit { pool.old.limit < 4294967295 }
     ensures tree { IfOk result (λ n. tree_at pool.new.trees n
-        ≡ dropped (only x) (tree_at pool.old.trees (Some root))) }
+        ≡ without (only x) (tree_at pool.old.trees (Some root))) }
     ensures live { IfOk result (λ n. ChildBelow (length pool.new.trees) n) }
     ensures grows { OnOk result (Grows pool.old pool.new) }
-    ensures full { IsErrOf result (PoolError.Full
-        (nodes_without x (tree_at pool.old.trees (Some root)))) → pool.old.limit
-        < length pool.old.trees + nodes_without x (tree_at pool.old.trees (Some root)) }
-    ensures other { (n : ℕ) → IsErrOf result (PoolError.Full n)
-        → n ≡ nodes_without x (tree_at pool.old.trees (Some root)) }
+    ensures full { (n : ℕ) → IsErrOf result (PoolError.Full n)
+        → (n ≡ need_without x (tree_at pool.old.trees (Some root)))
+        × (pool.old.limit < length pool.old.trees + n) }
     ensures accepted { OnOk result (length pool.old.trees
-        + nodes_without x (tree_at pool.old.trees (Some root)) ≤ pool.old.limit) }
+        + need_without x (tree_at pool.old.trees (Some root)) ≤ pool.old.limit) }
     ensures kept { OnErr result (pool.new.trees ≡ pool.old.trees) }
     ensures limit { pool.new.limit ≡ pool.old.limit }
     ensures few { length pool.new.trees ≤ length pool.old.trees
-        + nodes_without x (tree_at pool.old.trees (Some root)) }
+        + need_without x (tree_at pool.old.trees (Some root)) }
 {
     let mut makes = Vec::new(alloc);
     match list(alloc, pool, &mut makes, x, Some(root)) {
-        Ok(()) => planted(alloc, pool, &makes),
+        Ok(()) => {
+            if makes.len() / 2 >= 4_294_967_295 {
+                return Err(PoolError::Full {
+                    need: 4_294_967_295,
+                });
+            }
+            planted(alloc, pool, &makes)
+        }
         Err(AllocError) => Err(PoolError::OutOfMemory),
     }
 }

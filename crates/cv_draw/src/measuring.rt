@@ -3,7 +3,7 @@ ghost use Rattle.cv_pool.specs.Nodes.{ChildBelow};
 ghost use Rattle.cv_syntax.specs.Tree as tree;
 ghost use Rattle.cv_syntax.specs.Tree.{Tree, tree_at};
 ghost use Rattle.cv_meaning_runs.specs.Replacement.{replaced};
-ghost use Rattle.cv_steps.specs.Changes.{changed};
+ghost use Rattle.cv_steps.specs.Changes.{change_at};
 ghost use Rattle.cv_steps.specs.Scenes.{part_at};
 ghost use Rattle.cv_draw.specs.Changes.{TermIsLive, change_of};
 
@@ -64,9 +64,9 @@ pub fn measure(pool: &Pool, root: NodeId, place: u32, change: Change) -> Option<
     requires fits { tree.size (tree_at pool.now.trees (Some root))
         + tree.size (change_of pool.now.trees change
         (part_at (tree_at pool.now.trees (Some root)) place)) < 2 ^ 32 }
-    ensures nodes { IfSome result (λ e. e.nodes ≡ tree.size (changed
+    ensures nodes { IfSome result (λ e. e.nodes ≡ tree.size (change_at
         (tree_at pool.now.trees (Some root)) place (change_of pool.now.trees change))) }
-    ensures depth { IfSome result (λ e. e.depth ≡ tree.depth (changed
+    ensures depth { IfSome result (λ e. e.depth ≡ tree.depth (change_at
         (tree_at pool.now.trees (Some root)) place (change_of pool.now.trees change))) }
     ensures none { IsNone result → tree.size (tree_at pool.now.trees (Some root)) ≤ place }
 {

@@ -1,25 +1,26 @@
 -- From the stages of reading a script to what its tokens say.
 use Rattle.std.proofs.Common.{◌≡◌, ℕ, ◌+◌, ◌-◌, ◌<◌, ◌≤◌, Bool, true, false, nat_lt, if◌then◌else◌, List, [], ◌∷◌, ◌++◌, append-nil, drop, map, length, length-drop, length-append, refl, ap, subst, sym, ◌∙◌, arith, Option, None, Result, Ok, Err, Some}
-use Rattle.std.specs.Prelude.{IfErr, IfOk, OnOk}
+use Rattle.std.specs.Prelude.{All, IfErr, IfOk, OnOk}
+use Rattle.std.proofs.lemmas.List.Elements.{All-cons, All-nil}
 use Rattle.std.proofs.lemmas.Bool.Decides.{nat_tests}
 use Rattle.std.proofs.lemmas.List.{length-map}
 use Rattle.std.specs.declared.vec.Vec.{Vec}
 use Rattle.std.specs.declared.alloc.Global.{Global}
 use Rattle.cv_pool.specs.declared.node.NodeId.{NodeId}
 use Rattle.cv_pool.specs.KindTree.{KindTree}
-use Rattle.cv_lex.specs.Lexis.{Token}
-use Rattle.cv_lex.specs.View.{token_at}
 use Rattle.cv_syntax.specs.declared.work.BuildError.TheVariants as build
 use Rattle.cv_syntax.specs.declared.make.Make.{Make}
 use Rattle.cv_syntax.specs.declared.make.Make.TheVariants as make
 use Rattle.cv_syntax.proofs.Trees.{tree_at-None}
 use Rattle.cv_syntax.specs.Planting.{overs}
 use Rattle.cv_syntax.specs.Postorder.{postorder}
-use Rattle.cv_syntax.specs.Tree.{Tree, tree_at}
-use Rattle.cv_parse_terminals.specs.ScriptSigns.{between, script_signs}
-use Rattle.cv_parse_terminals.proofs.ScriptWalk.{between-cons, between-nil}
+use Rattle.cv_syntax.specs.declared.head.Head.{Head}
+use Rattle.cv_syntax.specs.declared.head.Head.TheVariants.{Cons}
+use Rattle.cv_syntax.specs.Head.{weight}
+use Rattle.cv_syntax.specs.Tree.{Tree, Empty, Node, size, tree_at}
+use Rattle.cv_parse_grammar.specs.declared.role.Role.{Role}
 use Rattle.cv_parse_notation.specs.declared.sign.Sign.{Sign}
-use Rattle.cv_parse_notation.specs.Reads.{read_sort}
+use Rattle.cv_parse_notation.specs.Reads.{Read, read_sort}
 use Rattle.cv_parse_notation.specs.Spells.{next_is, starts}
 use Rattle.cv_parse_terms.specs.declared.lookahead.ReadError.{ReadError}
 use Rattle.cv_parse_terms.specs.declared.lookahead.ReadError.TheVariants as reading
@@ -32,8 +33,9 @@ use Rattle.cv_script.specs.Rows.{script_rows, step_row}
 use Rattle.cv_script.specs.declared.steps.Step.{Step}
 use Rattle.cv_parse_script.specs.declared.error.ScriptError.{ScriptError}
 use Rattle.cv_parse_script.specs.declared.error.ScriptError.TheVariants.{Script, Unbuilt, Build}
-use Rattle.cv_parse_script.specs.Scripts.{ReadsScript, Refuses, begins_step, ended, items, nodes_of, of_read, read_row, roomed, script_of, stopped, token_begins_step, trees_of}
-use Rattle.cv_parse_script.specs.Stages.{Crowds, IsScript, shifted}
+use Rattle.cv_parse_script.specs.Scripts.{ReadsScript, Refuses, begins_step, to_end, items, nodes_of, of_read, read_row, with_room, script_of, stop_at, trees_of}
+use Rattle.cv_parse_script.specs.Stages.{Crowds, IsScript, at_token}
+use Rattle.cv_parse_script.specs.Trees.{in_room, of_whole, script_nodes, script_tree, whole}
 
 -- reading stopped at a place
 
@@ -41,23 +43,23 @@ by_begin : (b : Bool) (token : ℕ) (r : Result (List Tree) ScriptError) → r �
 by_begin true token r e = e
 by_begin false token r e = e
 
-pub stops : (row limit live from : ℕ) (signs : List Sign) (old new : Trail) (end : ℕ) → IsMade postorder signs old new (read_row row signs) end → end < length signs → (e : ScriptError) → e ≡ stopped (from + end) (drop end signs) → Refuses e (script_of row limit live from signs)
+pub stops : (row limit live from : ℕ) (signs : List Sign) (old new : Trail) (end : ℕ) → IsMade postorder signs old new (read_row row signs) end → end < length signs → (e : ScriptError) → e ≡ stop_at (from + end) (drop end signs) → Refuses e (script_of row limit live from signs)
 unfolding script_of
 stops row limit live from signs old new end d l e i =
     subst (λ z. Refuses z (script_of row limit live from signs)) (sym i) (by_begin (next_is begins_step (drop end signs)) (from + end) (script_of row limit live from signs) read)
   where
-    more : (rest : List Sign) → 0 < length rest → ended limit live (from + length signs) d.value rest ≡ Err (stopped (from + length signs - length rest) rest)
+    more : (rest : List Sign) → 0 < length rest → to_end limit live (from + length signs) d.value rest ≡ Err (stop_at (from + length signs - length rest) rest)
     more [] h = absurd (omega arith)
     more (s ∷ rest) h = refl
 
     left : length (drop end signs) ≡ length signs - end
     left = length-drop end signs
 
-    read : script_of row limit live from signs ≡ Err (stopped (from + end) (drop end signs))
-    read = ap (of_read limit live (from + length signs)) d.read.is ∙ (more (drop end signs) (omega (arith, left, l)) ∙ ap (λ n. Err (stopped n (drop end signs))) (omega (arith, left, l)))
+    read : script_of row limit live from signs ≡ Err (stop_at (from + end) (drop end signs))
+    read = ap (of_read limit live (from + length signs)) d.read.is ∙ (more (drop end signs) (omega (arith, left, l)) ∙ ap (λ n. Err (stop_at n (drop end signs))) (omega (arith, left, l)))
 
 -- a fault of the table
-pub faults : (row limit live from : ℕ) (signs : List Sign) (fault : ReadError) → from + length signs < 4294967296 → Fails signs fault (read_row row signs) → (e : ScriptError) → e ≡ shifted from fault → Refuses e (script_of row limit live from signs)
+pub faults : (row limit live from : ℕ) (signs : List Sign) (fault : ReadError) → from + length signs < 4294967296 → Fails signs fault (read_row row signs) → (e : ScriptError) → e ≡ at_token from fault → Refuses e (script_of row limit live from signs)
 unfolding script_of
 faults row limit live from signs (reading.Syntax k) few h e i = subst (λ z. Refuses z (script_of row limit live from signs)) (sym i) (ap (of_read limit live (from + length signs)) h.1 ∙ ap (λ n. Err (Script n)) (let w = h.0 in omega arith))
 faults row limit live from signs (reading.Nesting k) few h e i = subst (λ z. Refuses z (script_of row limit live from signs)) (sym i) (ap (of_read limit live (from + length signs)) h.1 ∙ ap (λ n. Err (Script n)) (let w = h.0 in omega arith))
@@ -108,14 +110,14 @@ second_of : {A : Type 0} (a b : A) (c : Bool) → c ≡ false → (if c then a e
 second_of a b false e = refl
 second_of a b true e = absurd (cc)
 
-full : (limit live : ℕ) (t : Tree) → limit < live + nodes_of t → roomed limit live t ≡ Err (Build (build.Full (nodes_of t)))
+full : (limit live : ℕ) (t : Tree) → limit < live + nodes_of t → with_room limit live t ≡ Err (Build (build.Full (nodes_of t)))
 full limit live t l = first_of {A = Result (List Tree) ScriptError} (Err (Build (build.Full (nodes_of t)))) (Ok (items t)) (nat_lt limit (live + nodes_of t)) (grind (arith, nat_tests))
 
-room : (limit live : ℕ) (t : Tree) → live + nodes_of t ≤ limit → roomed limit live t ≡ Ok (items t)
+room : (limit live : ℕ) (t : Tree) → live + nodes_of t ≤ limit → with_room limit live t ≡ Ok (items t)
 room limit live t l = second_of {A = Result (List Tree) ScriptError} (Err (Build (build.Full (nodes_of t)))) (Ok (items t)) (nat_lt limit (live + nodes_of t)) (grind (arith, nat_tests))
 
 module _ (row limit live from : ℕ) (signs : List Sign) (old new : Trail) (d : IsScript row signs old new) where
-  by_read : script_of row limit live from signs ≡ roomed limit live d.value
+  by_read : script_of row limit live from signs ≡ with_room limit live d.value
   unfolding script_of
   by_read = ap (of_read limit live (from + length signs)) d.is
 
@@ -132,6 +134,67 @@ module _ (row limit live from : ℕ) (signs : List Sign) (old new : Trail) (d : 
   plants trees (Ok steps) s r c = by_read ∙ (room limit live d.value r ∙ ap Ok (sym s))
   plants trees (Err e) s r c = crowd_refuses e c
 
+-- how many nodes the steps of a planted script take, and how large each is
+
+overs-append : (xs ys : List Make) → overs (xs ++ ys) ≡ overs xs + overs ys
+overs-append [] ys = omega arith
+overs-append (make.Nothing ∷ xs) ys = overs-append xs ys
+overs-append (make.Over h ∷ xs) ys = omega (arith, overs-append xs ys)
+
+nodes_cons : (h : Head) (a b : Tree) → nodes_of (Node h a b) ≡ nodes_of a + nodes_of b + 1
+unfolding postorder
+nodes_cons h a b = omega (arith, overs-append (postorder a) (postorder b ++ make.Over h ∷ []), overs-append (postorder b) (make.Over h ∷ []))
+
+nodes_none : nodes_of Empty ≡ 0
+unfolding postorder
+nodes_none = refl
+
+weight_one : (h : Head) → weight h ≤ 1
+weight_one Cons = omega arith
+weight_one h = omega arith
+
+size_nodes : (t : Tree) → size t ≤ nodes_of t
+unfolding size
+size_nodes Empty = omega arith
+size_nodes (Node h a b) = omega (arith, weight_one h, nodes_cons h a b, size_nodes a, size_nodes b)
+
+pub items_nodes : (t : Tree) → script_nodes (items t) ≡ nodes_of t
+items_nodes Empty = sym nodes_none
+items_nodes (Node h a b) = omega (arith, items_nodes b, nodes_cons h a b)
+
+item_small : (trees : List KindTree) (steps : List Step) (t : Tree) (most : ℕ) → trees_of trees steps ≡ items t → nodes_of t ≤ most → All (λ s. size (tree_at trees (Some s.0)) ≤ most) steps
+item_small trees [] t most e l = All-nil (λ s. size (tree_at trees (Some s.0)) ≤ most)
+item_small trees (s ∷ steps) Empty most e l = absurd (cc)
+item_small trees (s ∷ steps) (Node h a b) most e l =
+    let f : tree_at trees (Some s.0) ≡ a = cc in
+    let g : trees_of trees steps ≡ items b = cc in
+    All-cons (λ s. size (tree_at trees (Some s.0)) ≤ most) s steps (omega (arith, ap size f, size_nodes a, nodes_cons h a b, l)) (item_small trees steps b most g (omega (arith, nodes_cons h a b, l)))
+
+pub few_planted : (trees : List KindTree) (t : Tree) (live limit : ℕ) (r : Result (Vec Step Global) ScriptError) → IfOk r (λ v. trees_of trees v.items ≡ items t) → OnOk r (length trees ≤ live + nodes_of t) → IfOk r (λ v. length trees ≤ live + script_nodes (trees_of trees v.items))
+few_planted trees t live limit (Ok v) e l = omega (arith, ap script_nodes e, items_nodes t, l)
+few_planted trees t live limit (Err x) e l = e
+
+pub room_planted : (trees : List KindTree) (t : Tree) (live limit : ℕ) (r : Result (Vec Step Global) ScriptError) → OnOk r (length trees ≤ live + nodes_of t) → OnOk r (live + nodes_of t ≤ limit) → OnOk r (length trees ≤ limit)
+room_planted trees t live limit (Ok v) l m = omega arith
+room_planted trees t live limit (Err x) l m = l
+
+pub small_planted : (trees : List KindTree) (t : Tree) (live limit : ℕ) (r : Result (Vec Step Global) ScriptError) → IfOk r (λ v. trees_of trees v.items ≡ items t) → OnOk r (live + nodes_of t ≤ limit) → IfOk r (λ v. All (λ s. size (tree_at trees (Some s.0)) ≤ limit) v.items)
+small_planted trees t live limit (Ok v) e m = item_small trees v.items t limit e (omega arith)
+small_planted trees t live limit (Err x) e m = e
+
+-- what is read is the tree of the script, where there is room for it
+pub read_in_room : (row limit live from : ℕ) (signs : List Sign) → script_of row limit live from signs ≡ in_room limit live (script_tree row from signs)
+unfolding script_of
+read_in_room row limit live from signs = by_read (read_row row signs)
+  where
+    by_rest : (end : ℕ) (t : Tree) (rest : List Sign) → to_end limit live end t rest ≡ in_room limit live (whole end t rest)
+    by_rest end t [] = refl
+    by_rest end t (s ∷ rest) = refl
+
+    by_read : (r : Read Role Tree) → of_read limit live (from + length signs) r ≡ in_room limit live (of_whole (from + length signs) r)
+    by_read (Ok x) = by_rest (from + length signs) x.value x.rest
+    by_read (Err f) = refl
+
 -- the parts are those of one tree
 pub only_parts : (new old parts : List Make) → old ≡ [] → new ≡ old ++ parts → new ≡ parts
 only_parts new old parts e h = h ∙ ap (λ l. l ++ parts) e
@@ -145,18 +208,3 @@ begins_there rows e signs =
 
 pub reads_there : (rows : List (Bor (List Piece))) → rows_of rows ≡ script_rows → (row : ℕ) (signs : List Sign) (old new : Trail) (r : Result ℕ ReadError) → Makes postorder signs old new r (read_sort (table_heads (rows_of rows)) (table_rule (rows_of rows)) 200 (Row row) signs) → Makes postorder signs old new r (read_row row signs)
 reads_there rows e row signs old new r d = subst (λ table. Makes postorder signs old new r (read_sort (table_heads table) (table_rule table) 200 (Row row) signs)) e d
-
--- the first token of a script
-
-drop_none : (signs : List Sign) → drop 0 signs ≡ signs
-drop_none [] = refl
-drop_none (s ∷ signs) = refl
-
-pub first_begins : (ts : List Token) (k : ℕ) → k + 1 < length ts → (names : List (List ℕ)) → names ≡ [] → (signs slice : List Sign) → (script_signs names (between k (k + 1) ts)).signs ≡ signs → slice ≡ signs → next_is begins_step (drop 0 slice) ≡ token_begins_step (token_at ts k)
-first_begins ts k l names n signs slice e s =
-    ap (next_is begins_step) (drop_none slice ∙ (s ∙ sym e))
-    ∙ (ap (λ ns. next_is begins_step (script_signs ns (between k (k + 1) ts)).signs) n
-    ∙ ap (λ us. next_is begins_step (script_signs [] us).signs) alone)
-  where
-    alone : between k (k + 1) ts ≡ token_at ts k ∷ []
-    alone = between-cons ts k (k + 1) (omega arith) l ∙ ap (λ us. token_at ts k ∷ us) (between-nil ts (k + 1) (k + 1) (omega arith))

@@ -32,13 +32,9 @@ read_row row signs = read_sort (table_heads script_rows) (table_rule script_rows
 abbrev pub begins_step : Kind → Bool
 begins_step k = starts (table_heads script_rows) (row_phrase script_rows step_row) k
 
--- a step begins with the token, as it reads alone
-abbrev pub token_begins_step : Token → Bool
-token_begins_step t = next_is begins_step (script_signs [] (t ∷ [])).signs
-
 -- Reading stopped before a token with which no step begins that is read: another step begins there, or none.
-abbrev pub stopped : (token : ℕ) → List Sign → ScriptError
-stopped token rest = if next_is begins_step rest then Unbuilt token else Script token
+abbrev pub stop_at : (token : ℕ) → List Sign → ScriptError
+stop_at token rest = if next_is begins_step rest then Unbuilt token else Script token
 
 -- the token at which so many are left before the end
 abbrev pub of_fault : (end : ℕ) → Fault → ScriptError
@@ -55,16 +51,16 @@ abbrev pub nodes_of : Tree → ℕ
 nodes_of t = overs (postorder t)
 
 -- the steps, where a pool with so many nodes and this limit has room for them
-abbrev pub roomed : (limit live : ℕ) → Tree → Result (List Tree) ScriptError
-roomed limit live t = if nat_lt limit (live + nodes_of t) then Err (Build (Full (nodes_of t))) else Ok (items t)
+abbrev pub with_room : (limit live : ℕ) → Tree → Result (List Tree) ScriptError
+with_room limit live t = if nat_lt limit (live + nodes_of t) then Err (Build (Full (nodes_of t))) else Ok (items t)
 
 -- a script that ends with its tokens
-abbrev pub ended : (limit live end : ℕ) → Tree → List Sign → Result (List Tree) ScriptError
-ended limit live end t [] = roomed limit live t
-ended limit live end t (s ∷ rest) = Err (stopped (end - length (s ∷ rest)) (s ∷ rest))
+abbrev pub to_end : (limit live end : ℕ) → Tree → List Sign → Result (List Tree) ScriptError
+to_end limit live end t [] = with_room limit live t
+to_end limit live end t (s ∷ rest) = Err (stop_at (end - length (s ∷ rest)) (s ∷ rest))
 
 abbrev pub of_read : (limit live end : ℕ) → Read Role Tree → Result (List Tree) ScriptError
-of_read limit live end (Ok x) = ended limit live end x.value x.rest
+of_read limit live end (Ok x) = to_end limit live end x.value x.rest
 of_read limit live end (Err f) = Err (of_fault end f)
 
 -- The table first, then the room. No name is refused.

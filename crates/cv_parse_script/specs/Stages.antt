@@ -16,10 +16,10 @@ use Rattle.cv_parse_script.specs.declared.error.ScriptError.TheVariants.{Script,
 use Rattle.cv_parse_script.specs.Scripts.{Refuses, read_row, script_of}
 
 -- a fault of signs that begin at a token
-abbrev pub shifted : (from : ℕ) → ReadError → ScriptError
-shifted from (reading.Syntax k) = Script (min (from + k) 4294967295)
-shifted from (reading.Nesting k) = Script (min (from + k) 4294967295)
-shifted from reading.OutOfMemory = Build OutOfMemory
+abbrev pub at_token : (from : ℕ) → ReadError → ScriptError
+at_token from (reading.Syntax k) = Script (min (from + k) 4294967295)
+at_token from (reading.Nesting k) = Script (min (from + k) 4294967295)
+at_token from reading.OutOfMemory = Build OutOfMemory
 
 abbrev pub of_pool : PoolError → ScriptError
 of_pool (pool.Full need) = Build (Full need)

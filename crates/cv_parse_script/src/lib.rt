@@ -7,4 +7,4 @@ mod reading;
 mod scripts;
 
 pub use error::ScriptError;
-pub use scripts::{begins_step, script, whole_script};
+pub use scripts::{script, whole_script};

@@ -44,6 +44,8 @@ pub fn plant_steps(alloc: Global, pool: &mut Pool, makes: &[Make]) -> Result<Vec
         → OnOk result (length pool.old.trees + nodes_of t ≤ pool.old.limit) }
     ensures crowds { (t : Tree) → makes.now ≡ postorder t
         → IfErr result (λ e. Crowds pool.old.limit (length pool.old.trees) (nodes_of t) e) }
+    ensures few { (t : Tree) → makes.now ≡ postorder t
+        → OnOk result (length pool.new.trees ≤ length pool.old.trees + nodes_of t) }
     ensures grows { Grows pool.old pool.new }
     ensures kept { OnErr result (pool.new.trees ≡ pool.old.trees) }
 {

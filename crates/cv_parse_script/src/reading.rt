@@ -2,8 +2,8 @@ ghost use Rattle.std.specs.Prelude.{◌≡◌, ◌+◌, ◌<◌, ◌≤◌, ◌^
 ghost use Rattle.cv_parse_notation.specs.Spells.{next_is};
 ghost use Rattle.cv_parse_terms.specs.Gives.{Makes};
 ghost use Rattle.cv_syntax.specs.Postorder.{postorder};
-ghost use Rattle.cv_parse_script.specs.Scripts.{begins_step, read_row, stopped as stopped_before};
-ghost use Rattle.cv_parse_script.specs.Stages.{GivesScript, shifted as shifted_by};
+ghost use Rattle.cv_parse_script.specs.Scripts.{begins_step, read_row, stop_at as stopped_before};
+ghost use Rattle.cv_parse_script.specs.Stages.{GivesScript, at_token as shifted_by};
 
 use crate::ScriptError;
 use cv_parse_notation::Sign;
@@ -19,7 +19,7 @@ const DEPTH: u32 = 200;
 const HOPS: u32 = 8;
 
 /// A fault of signs that begin at a token.
-fn shifted(fault: ReadError, from: u32) -> ScriptError
+fn at_token(fault: ReadError, from: u32) -> ScriptError
     ensures { result ≡ shifted_by from fault }
 {
     match fault {
@@ -31,7 +31,7 @@ fn shifted(fault: ReadError, from: u32) -> ScriptError
 }
 
 /// Whether a step begins at a place.
-pub fn begins(signs: &[Sign], at: usize) -> bool
+fn begins(signs: &[Sign], at: usize) -> bool
     ensures { result ≡ next_is begins_step (drop at signs.now) }
 {
     let rows = script_rows();
@@ -47,7 +47,7 @@ fn read_phrase(signs: &[Sign], row: u16, trail: &mut Trail) -> Result<usize, Rea
 }
 
 /// Why reading stopped at a place where no step begins that is read.
-fn stopped(signs: &[Sign], at: usize, from: u32) -> ScriptError
+fn stop_at(signs: &[Sign], at: usize, from: u32) -> ScriptError
     requires at { at ≤ length signs.now }
     requires few { from + length signs.now < 2 ^ 32 }
     ensures { result ≡ stopped_before (from + at) (drop at signs.now) }
@@ -68,10 +68,10 @@ pub fn read(signs: &[Sign], row: u16, from: u32, trail: &mut Trail) -> Result<()
     match read_phrase(signs, row, trail) {
         Ok(end) => {
             if end < signs.len() {
-                return Err(stopped(signs, end, from));
+                return Err(stop_at(signs, end, from));
             }
             Ok(())
         }
-        Err(fault) => Err(shifted(fault, from)),
+        Err(fault) => Err(at_token(fault, from)),
     }
 }

@@ -1,31 +1,21 @@
-ghost use Rattle.std.specs.Prelude.{◌≡◌, ◌+◌, ◌<◌, ◌≤◌, ◌^◌, All, length, IfOk, OnErr, OnOk};
-ghost use Rattle.cv_lex.specs.View.{token_at};
+ghost use Rattle.std.specs.Prelude.{◌≡◌, ◌+◌, ◌<◌, ◌≤◌, ◌^◌, All, Some, length, IfOk, OnErr, OnOk};
 ghost use Rattle.cv_pool.specs.PoolView.{Grows};
 ghost use Rattle.cv_parse_terminals.specs.ScriptSigns.{between, script_signs as signs_of_script};
 ghost use Rattle.cv_script.specs.Rows.{built_script_row, script_row};
-ghost use Rattle.cv_parse_script.specs.Scripts.{ReadsScript, script_of as script_by, script_read, token_begins_step};
+ghost use Rattle.cv_parse_script.specs.Scripts.{ReadsScript, script_of as script_by, script_read, trees_of};
+ghost use Rattle.cv_parse_script.specs.Trees.{script_nodes};
+ghost use Rattle.cv_syntax.specs.Tree.{size, tree_at};
 
 use crate::ScriptError;
 use crate::planting::plant_steps;
-use crate::reading::{begins, read};
+use crate::reading::read;
 use cv_lex::Tokens;
 use cv_parse_notation::Sign;
 use cv_parse_terminals::script_signs;
 use cv_parse_terms::Trail;
 use cv_script::{BUILT_SCRIPT, SCRIPT, Step};
-use cv_syntax::{Names, Pool, Work};
-use std::alloc::{AllocError, Global};
-
-/// Whether a step begins with the token at a place, which isn't the last.
-pub fn begins_step(alloc: Global, tokens: &Tokens, at: u32) -> Result<bool, AllocError>
-    requires at { at + 1 < length tokens.now }
-    requires few { length tokens.now < 2 ^ 32 }
-    ensures { IfOk result (λ b. b ≡ token_begins_step (token_at tokens.now at)) }
-{
-    let mut names = Names::new(alloc);
-    let signs = script_signs(alloc, &mut names, tokens, at, at + 1)?;
-    Ok(begins(&signs, 0))
-}
+use cv_syntax::{Pool, Work};
+use std::alloc::Global;
 
 /// Reads a script from signs that begin at a token, by a row of the table, into a pool.
 fn script_in(
@@ -39,6 +29,11 @@ fn script_in(
     ensures reads { ReadsScript (script_by row pool.old.limit (length pool.old.trees) from
         signs.now) pool.new.trees result }
     ensures live { IfOk result (λ v. All (λ s. s.0.0 < length pool.new.trees) v.items) }
+    ensures few { IfOk result (λ v. length pool.new.trees
+        ≤ length pool.old.trees + script_nodes (trees_of pool.new.trees v.items)) }
+    ensures room { OnOk result (length pool.new.trees ≤ pool.old.limit) }
+    ensures small { IfOk result (λ v. All (λ s. size (tree_at pool.new.trees (Some s.0))
+        ≤ pool.old.limit) v.items) }
     ensures grows { Grows pool.old pool.new }
     ensures kept { OnErr result (pool.new.trees ≡ pool.old.trees) }
 {
@@ -61,6 +56,11 @@ fn script_of(
     ensures reads { ReadsScript (script_read row work.old.pool.limit (length work.old.pool.trees)
         work.old.names tokens.now range.0 range.1) work.new.pool.trees result }
     ensures live { IfOk result (λ v. All (λ s. s.0.0 < length work.new.pool.trees) v.items) }
+    ensures few { IfOk result (λ v. length work.new.pool.trees
+        ≤ length work.old.pool.trees + script_nodes (trees_of work.new.pool.trees v.items)) }
+    ensures room { OnOk result (length work.new.pool.trees ≤ work.old.pool.limit) }
+    ensures small { IfOk result (λ v. All (λ s. size (tree_at work.new.pool.trees (Some s.0))
+        ≤ work.old.pool.limit) v.items) }
     ensures names { OnOk result (work.new.names
         ≡ (signs_of_script work.old.names (between range.0 range.1 tokens.now)).names) }
     ensures decls { work.new.decls ≡ work.old.decls }
@@ -93,6 +93,11 @@ pub fn script(
         (length work.old.pool.trees) work.old.names tokens.now range.0 range.1)
         work.new.pool.trees result }
     ensures live { IfOk result (λ v. All (λ s. s.0.0 < length work.new.pool.trees) v.items) }
+    ensures few { IfOk result (λ v. length work.new.pool.trees
+        ≤ length work.old.pool.trees + script_nodes (trees_of work.new.pool.trees v.items)) }
+    ensures room { OnOk result (length work.new.pool.trees ≤ work.old.pool.limit) }
+    ensures small { IfOk result (λ v. All (λ s. size (tree_at work.new.pool.trees (Some s.0))
+        ≤ work.old.pool.limit) v.items) }
     ensures names { OnOk result (work.new.names
         ≡ (signs_of_script work.old.names (between range.0 range.1 tokens.now)).names) }
     ensures decls { work.new.decls ≡ work.old.decls }
@@ -117,6 +122,11 @@ pub fn whole_script(
         (length work.old.pool.trees) work.old.names tokens.now range.0 range.1)
         work.new.pool.trees result }
     ensures live { IfOk result (λ v. All (λ s. s.0.0 < length work.new.pool.trees) v.items) }
+    ensures few { IfOk result (λ v. length work.new.pool.trees
+        ≤ length work.old.pool.trees + script_nodes (trees_of work.new.pool.trees v.items)) }
+    ensures room { OnOk result (length work.new.pool.trees ≤ work.old.pool.limit) }
+    ensures small { IfOk result (λ v. All (λ s. size (tree_at work.new.pool.trees (Some s.0))
+        ≤ work.old.pool.limit) v.items) }
     ensures names { OnOk result (work.new.names
         ≡ (signs_of_script work.old.names (between range.0 range.1 tokens.now)).names) }
     ensures decls { work.new.decls ≡ work.old.decls }

@@ -1,5 +1,5 @@
 -- The small step, its names, its text and its signs.
-use Rattle.std.proofs.Common.{◌≡◌, ℕ, zero, suc, true, false, List, [], ◌∷◌, length, Some, inl, refl, sym, ◌∙◌, subst, codes}
+use Rattle.std.proofs.Common.{◌≡◌, ℕ, zero, suc, true, false, List, [], ◌∷◌, length, Some, inl, inr, refl, sym, ◌∙◌, subst, codes}
 use Rattle.std.specs.Prelude.{slice_get}
 use Rattle.std.proofs.lemmas.Slice.Eq.{bytes_eq-Decides}
 use Rattle.cv_parse_terminals.specs.ScriptSpelling.{word_with}
@@ -54,7 +54,7 @@ made_so =
         front = small ∷ [];
         back = [];
         parts = refl;
-        first = inl (record {
+        first = inr (inr (inr (inr (inl (record {
           front = small ∷ [];
           back = [];
           parts = refl;
@@ -110,7 +110,7 @@ made_so =
             ),
           );
           second = refl;
-        });
+        })))));
         second = refl;
       },
     )

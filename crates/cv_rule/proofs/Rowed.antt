@@ -16,7 +16,7 @@ use Rattle.cv_scope.specs.Rules.{is_index}
 use Rattle.cv_steps.specs.Rows.{Row, unless, unless_at}
 use Rattle.cv_steps.specs.Terms.{Names, has_site, indices_above, is_function, names_anywhere, replications_by}
 use Rattle.cv_rule.specs.declared.rules.Failure.{Failure}
-use Rattle.cv_rule.specs.Kept.{names_there, variable_held}
+use Rattle.cv_rule.specs.Kept.{names_there, has_variable}
 use Rattle.cv_rule.specs.Stated.{failed, failing}
 use Rattle.cv_rule.proofs.Above.{index-above}
 
@@ -71,7 +71,7 @@ denied a b e = ap not e
 -- what a term and a whole game may read
 
 module _ (ds : List Declaration) (arrays : Arrays) (above : Map Sort) (game : Tree) (e : arrays_of arrays ≡ OfGame (sites_of game)) where
-  sites : variable_held arrays ≡ has_site game
+  sites : has_variable arrays ≡ has_site game
   sites = ap (λ (A : signature.Arrays). λ (x : ℕ). is_some (variable_in A x)) e
 
   abbrev known : (variable index : ℕ → Bool) → Names

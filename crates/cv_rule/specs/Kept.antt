@@ -33,14 +33,14 @@ is_type_class c = false
 
 -- what is there to read: the variables of a game, and the indices above a place or of the whole game
 
-abbrev pub variable_held : Arrays → ℕ → Bool
-variable_held arrays x = is_some (variable_in (arrays_of arrays) x)
+abbrev pub has_variable : Arrays → ℕ → Bool
+has_variable arrays x = is_some (variable_in (arrays_of arrays) x)
 
-abbrev pub index_held : Map Sort → Arrays → (everywhere : Bool) → ℕ → Bool
-index_held above arrays everywhere i = is_some (above_of above i) || (everywhere && is_some (index_in (arrays_of arrays) i))
+abbrev pub has_index_name : Map Sort → Arrays → (everywhere : Bool) → ℕ → Bool
+has_index_name above arrays everywhere i = is_some (above_of above i) || (everywhere && is_some (index_in (arrays_of arrays) i))
 
 abbrev pub names_there : List Declaration → Map Sort → Arrays → (everywhere : Bool) → Names
-names_there ds above arrays everywhere = record { function = is_function ds; variable = variable_held arrays; index = index_held above arrays everywhere }
+names_there ds above arrays everywhere = record { function = is_function ds; variable = has_variable arrays; index = has_index_name above arrays everywhere }
 
 -- the names above the continuation of a node: an index that is there stays
 abbrev pub above_behind : Head → Above → Above

@@ -3,7 +3,7 @@ use Rattle.std.specs.Prelude.{ℕ, ◌<◌, ◌^◌, if◌then◌else◌, List, 
 use Rattle.cv_pool.specs.declared.node.NodeId.{NodeId}
 use Rattle.cv_pool.specs.KindTree.{KindTree}
 use Rattle.cv_syntax.specs.Tree.{size, tree_at}
-use Rattle.cv_steps.specs.Judged.{stands}
+use Rattle.cv_steps.specs.Judgements.{stands}
 use Rattle.cv_steps.specs.Rows.{Row, Fails, Leads, row_of}
 use Rattle.cv_steps.specs.Scenes.{Scene}
 use Rattle.cv_steps.specs.Steps as step

@@ -15,7 +15,7 @@ ghost use Rattle.cv_scope.specs.Refusals.{named};
 ghost use Rattle.cv_scope.specs.Scope.{first_scope_fault};
 ghost use Rattle.cv_scope_runs.specs.Phrases as grammar;
 ghost use Rattle.cv_steps.specs.Terms as terms;
-ghost use Rattle.cv_rule.specs.Kept.{index_held, names_there, variable_held};
+ghost use Rattle.cv_rule.specs.Kept.{has_index_name, names_there, has_variable};
 ghost use Rattle.cv_rule.specs.Phrases.{phrase_of};
 
 use crate::phrases::{Phrase, is_phrase, parts};
@@ -63,7 +63,7 @@ fn binds_none(pool: &Pool, names: &NameKinds, tree: Option<NodeId>) -> bool
 
 /// Whether a name is an index: one of those above, or anywhere also one of the whole game's.
 fn is_index(arrays: &Arrays, above: &HashMap<u32, Sort>, everywhere: bool, i: u32) -> bool
-    ensures { result ≡ index_held above.now arrays.now everywhere i }
+    ensures { result ≡ has_index_name above.now arrays.now everywhere i }
 {
     above.contains_key(&i) || (everywhere && arrays.index(i).is_some())
 }
@@ -71,7 +71,7 @@ fn is_index(arrays: &Arrays, above: &HashMap<u32, Sort>, everywhere: bool, i: u3
 /// Whether a name is a variable of the game.
 #[tactic(auto, using(crate::proofs::Whole::wholes))]
 fn is_variable(arrays: &Arrays, x: u32) -> bool
-    ensures { result ≡ variable_held arrays.now x }
+    ensures { result ≡ has_variable arrays.now x }
 {
     arrays.arity(x).is_some()
 }
@@ -93,9 +93,9 @@ fn is_name_there(
     x: u32,
 ) -> bool
     ensures { (trees : List KindTree)
-        → result ≡ (index_held above.now arrays.now everywhere x
+        → result ≡ (has_index_name above.now arrays.now everywhere x
         || (is_some (function_in (declarations trees decls.now.list) x)
-        || variable_held arrays.now x)) }
+        || has_variable arrays.now x)) }
 {
     if is_index(arrays, above, everywhere, x) {
         return true;

@@ -4,7 +4,7 @@ ghost use Rattle.cv_syntax.specs.Tree.{Tree, size, tree_at};
 ghost use Rattle.cv_typing.specs.Lookups.{IsLive};
 ghost use Rattle.cv_typing.specs.Signature.{OfGame};
 ghost use Rattle.cv_typing.specs.Tables.{arrays_of};
-ghost use Rattle.cv_steps.specs.Judged as judged;
+ghost use Rattle.cv_steps.specs.Judgements as judgement_of;
 ghost use Rattle.cv_steps.specs.Rows.{let_row, new_row, row_of, split_row, unnew_row};
 ghost use Rattle.cv_steps.specs.Scenes as scenes;
 ghost use Rattle.cv_steps.specs.Terms as terms;
@@ -119,7 +119,7 @@ pub fn stands(
     requires arrays { arrays_of arrays.now
         ≡ OfGame (sites_of (tree_at work.now.pool.trees (Some game))) }
     requires rule { IsLiveRule work.now.pool.trees rule }
-    ensures { IfOk result (λ b. b ≡ judged.stands (scene_of work.now.pool work.now.decls game)
+    ensures { IfOk result (λ b. b ≡ judgement_of.stands (scene_of work.now.pool work.now.decls game)
         (step_of work.now.pool.trees rule)) }
 {
     match rule {

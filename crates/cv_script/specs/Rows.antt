@@ -152,16 +152,16 @@ script_rows =
     (Says word.Crypto ∷ Blank ∷ Word role.Nothing ∷ Blank ∷ Word role.Nothing ∷ []) ∷  -- 126 crypto
     (Says word.Success ∷ Blank ∷ Number ∷ Blank ∷ OneOf 108 2 ∷ []) ∷  -- 127 success
     (Says word.Simplify ∷ []) ∷  -- 128 simplify
-    (Over head.RenameStep 110 ∷ []) ∷  -- 129 a rename
-    (Over head.RewriteStep 111 ∷ []) ∷  -- 130 a rewrite
-    (Over head.PruneStep 112 ∷ []) ∷  -- 131 a prune
-    (Over head.PickStep 113 ∷ []) ∷  -- 132 a pick
-    (Over head.MergeStep 114 ∷ []) ∷  -- 133 a merge
-    (Over head.SplitStep 115 ∷ []) ∷  -- 134 a split
-    (Over head.LetStep 116 ∷ []) ∷  -- 135 a let
-    (Over head.UnletStep 117 ∷ []) ∷  -- 136 a unlet
-    (Over head.NewStep 118 ∷ []) ∷  -- 137 a new
-    (Over head.UnnewStep 119 ∷ []) ∷  -- 138 a unnew
+    (Over head.SplitStep 115 ∷ []) ∷  -- 129 a split
+    (Over head.LetStep 116 ∷ []) ∷  -- 130 a let
+    (Over head.NewStep 118 ∷ []) ∷  -- 131 a new
+    (Over head.UnnewStep 119 ∷ []) ∷  -- 132 a unnew
+    (Over head.RenameStep 110 ∷ []) ∷  -- 133 a rename
+    (Over head.RewriteStep 111 ∷ []) ∷  -- 134 a rewrite
+    (Over head.PruneStep 112 ∷ []) ∷  -- 135 a prune
+    (Over head.PickStep 113 ∷ []) ∷  -- 136 a pick
+    (Over head.MergeStep 114 ∷ []) ∷  -- 137 a merge
+    (Over head.UnletStep 117 ∷ []) ∷  -- 138 a unlet
     (Over head.MoveStep 120 ∷ []) ∷  -- 139 a move
     (Over head.ArrayRenameStep 121 ∷ []) ∷  -- 140 a array rename
     (Over head.CodefStep 122 ∷ []) ∷  -- 141 a codef
@@ -175,7 +175,7 @@ script_rows =
     (OneOf 129 19 ∷ Sign mark.Semicolon ∷ []) ∷  -- 149 step item
     (Many false 149 ∷ []) ∷  -- 150 steps
     (Chain 150 ∷ []) ∷  -- 151 script
-    (OneOf 129 0 ∷ Sign mark.Semicolon ∷ []) ∷  -- 152 built item
+    (OneOf 129 4 ∷ Sign mark.Semicolon ∷ []) ∷  -- 152 built item
     (Many false 152 ∷ []) ∷  -- 153 built steps
     (Chain 153 ∷ []) ∷  -- 154 built script
     []

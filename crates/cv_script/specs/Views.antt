@@ -61,46 +61,46 @@ abbrev pub ◌>>=◌ : {A B : Type 0} → Option A → (A → Option B) → Opti
 None >>= f = None
 
 -- the items of a step's tree; another tree has none
-abbrev pub viewed : Tree → Option StepItems
-viewed (Node head.RenameStep a b) = name_in a >>= λ x. name_in b >>= λ to. Some (Rename x to)
-viewed (Node head.RewriteStep a b) = number_in a >>= λ p. tree_in (first b) >>= λ m. Some (Rewrite p m (second b))
-viewed (Node head.PruneStep a b) = number_in a >>= λ p. part_in (first b) >>= λ part. Some (Prune p part (second b))
-viewed (Node head.PickStep a b) = number_in a >>= λ p. Some (Pick p (first b) (first (second b)) (second (second b)))
-viewed (Node head.MergeStep a b) = number_in a >>= λ p. Some (Merge p)
-viewed (Node head.SplitStep a b) = number_in a >>= λ p. tree_in b >>= λ m. Some (Split p m)
-viewed (Node head.LetStep a b) = number_in a >>= λ p. name_in (first b) >>= λ x. name_in (first (second b)) >>= λ T. tree_in (second (second b)) >>= λ m. Some (Let p x T m)
-viewed (Node head.UnletStep a b) = name_in a >>= λ x. Some (Unlet x)
-viewed (Node head.NewStep a b) = number_in a >>= λ p. name_in (first b) >>= λ x. name_in (second b) >>= λ T. Some (New p x T)
-viewed (Node head.UnnewStep a b) = name_in a >>= λ x. Some (Unnew x)
-viewed (Node head.MoveStep a b) = number_in a >>= λ p. Some (Move p)
-viewed (Node head.ArrayRenameStep a b) = name_in a >>= λ x. Some (ArrayRename x b)
-viewed (Node head.CodefStep a b) = number_in a >>= λ p. adds_in (first b) >>= λ add. tree_in (first (second b)) >>= λ y. tree_in (second (second b)) >>= λ x. Some (Codef p add y x)
-viewed (Node head.BirthdayStep a b) = name_in a >>= λ x. Some (Birthday x b)
-viewed (Node head.GuessStep a b) = name_in a >>= λ x. Some (Guess x b)
-viewed (Node head.FreshStep a b) = number_in a >>= λ p. Some (Fresh p)
-viewed (Node head.CryptoStep a b) = name_in a >>= λ e. name_in b >>= λ x. Some (Crypto e x)
-viewed (Node head.SuccessStep a b) = number_in a >>= λ k. Some (Success k b)
-viewed (Node head.SimplifyStep a b) = Some Simplify
-viewed t = None
+abbrev pub items_of_step : Tree → Option StepItems
+items_of_step (Node head.RenameStep a b) = name_in a >>= λ x. name_in b >>= λ to. Some (Rename x to)
+items_of_step (Node head.RewriteStep a b) = number_in a >>= λ p. tree_in (first b) >>= λ m. Some (Rewrite p m (second b))
+items_of_step (Node head.PruneStep a b) = number_in a >>= λ p. part_in (first b) >>= λ part. Some (Prune p part (second b))
+items_of_step (Node head.PickStep a b) = number_in a >>= λ p. Some (Pick p (first b) (first (second b)) (second (second b)))
+items_of_step (Node head.MergeStep a b) = number_in a >>= λ p. Some (Merge p)
+items_of_step (Node head.SplitStep a b) = number_in a >>= λ p. tree_in b >>= λ m. Some (Split p m)
+items_of_step (Node head.LetStep a b) = number_in a >>= λ p. name_in (first b) >>= λ x. name_in (first (second b)) >>= λ T. tree_in (second (second b)) >>= λ m. Some (Let p x T m)
+items_of_step (Node head.UnletStep a b) = name_in a >>= λ x. Some (Unlet x)
+items_of_step (Node head.NewStep a b) = number_in a >>= λ p. name_in (first b) >>= λ x. name_in (second b) >>= λ T. Some (New p x T)
+items_of_step (Node head.UnnewStep a b) = name_in a >>= λ x. Some (Unnew x)
+items_of_step (Node head.MoveStep a b) = number_in a >>= λ p. Some (Move p)
+items_of_step (Node head.ArrayRenameStep a b) = name_in a >>= λ x. Some (ArrayRename x b)
+items_of_step (Node head.CodefStep a b) = number_in a >>= λ p. adds_in (first b) >>= λ add. tree_in (first (second b)) >>= λ y. tree_in (second (second b)) >>= λ x. Some (Codef p add y x)
+items_of_step (Node head.BirthdayStep a b) = name_in a >>= λ x. Some (Birthday x b)
+items_of_step (Node head.GuessStep a b) = name_in a >>= λ x. Some (Guess x b)
+items_of_step (Node head.FreshStep a b) = number_in a >>= λ p. Some (Fresh p)
+items_of_step (Node head.CryptoStep a b) = name_in a >>= λ e. name_in b >>= λ x. Some (Crypto e x)
+items_of_step (Node head.SuccessStep a b) = number_in a >>= λ k. Some (Success k b)
+items_of_step (Node head.SimplifyStep a b) = Some Simplify
+items_of_step t = None
 
 -- the items that a view tells
-abbrev pub told : List KindTree → StepView → StepItems
-told trees (view.Rename x to) = Rename x.0 to.0
-told trees (view.Rewrite p m by) = Rewrite p (tree_at trees (Some m)) (tree_at trees by)
-told trees (view.Prune p part by) = Prune p part (tree_at trees by)
-told trees (view.Pick p ms d e) = Pick p (tree_at trees ms) (tree_at trees d) (tree_at trees e)
-told trees (view.Merge p) = Merge p
-told trees (view.Split p m) = Split p (tree_at trees (Some m))
-told trees (view.Let p x T m) = Let p x.0 T.0 (tree_at trees (Some m))
-told trees (view.Unlet x) = Unlet x.0
-told trees (view.New p x T) = New p x.0 T.0
-told trees (view.Unnew x) = Unnew x.0
-told trees (view.Move p) = Move p
-told trees (view.ArrayRename x xs) = ArrayRename x.0 (tree_at trees xs)
-told trees (view.Codef p add y x) = Codef p add (tree_at trees (Some y)) (tree_at trees (Some x))
-told trees (view.Birthday x ps) = Birthday x.0 (tree_at trees ps)
-told trees (view.Guess x ps) = Guess x.0 (tree_at trees ps)
-told trees (view.Fresh p) = Fresh p
-told trees (view.Crypto e x) = Crypto e.0 x.0
-told trees (view.Success k by) = Success k (tree_at trees by)
-told trees view.Simplify = Simplify
+abbrev pub items_of_view : List KindTree → StepView → StepItems
+items_of_view trees (view.Rename x to) = Rename x.0 to.0
+items_of_view trees (view.Rewrite p m by) = Rewrite p (tree_at trees (Some m)) (tree_at trees by)
+items_of_view trees (view.Prune p part by) = Prune p part (tree_at trees by)
+items_of_view trees (view.Pick p ms d e) = Pick p (tree_at trees ms) (tree_at trees d) (tree_at trees e)
+items_of_view trees (view.Merge p) = Merge p
+items_of_view trees (view.Split p m) = Split p (tree_at trees (Some m))
+items_of_view trees (view.Let p x T m) = Let p x.0 T.0 (tree_at trees (Some m))
+items_of_view trees (view.Unlet x) = Unlet x.0
+items_of_view trees (view.New p x T) = New p x.0 T.0
+items_of_view trees (view.Unnew x) = Unnew x.0
+items_of_view trees (view.Move p) = Move p
+items_of_view trees (view.ArrayRename x xs) = ArrayRename x.0 (tree_at trees xs)
+items_of_view trees (view.Codef p add y x) = Codef p add (tree_at trees (Some y)) (tree_at trees (Some x))
+items_of_view trees (view.Birthday x ps) = Birthday x.0 (tree_at trees ps)
+items_of_view trees (view.Guess x ps) = Guess x.0 (tree_at trees ps)
+items_of_view trees (view.Fresh p) = Fresh p
+items_of_view trees (view.Crypto e x) = Crypto e.0 x.0
+items_of_view trees (view.Success k by) = Success k (tree_at trees by)
+items_of_view trees view.Simplify = Simplify

@@ -208,7 +208,7 @@ const SUCCESS: u16 = 127;
 
 const SIMPLIFY: u16 = 128;
 
-const A_RENAME: u16 = 129;
+const FIRST_STEP: u16 = 129;
 /// The row of a step.
 pub const STEP: u16 = 148;
 
@@ -224,7 +224,7 @@ const BUILT_STEPS: u16 = 153;
 /// The row of a script whose steps have a rule.
 pub const BUILT_SCRIPT: u16 = 154;
 /// How many of the steps, from the first one on, have a rule.
-const BUILT: u16 = 0;
+const BUILT: u16 = 4;
 
 static ROWS: [&[Piece]; 155] = [
     &[Sign(Mark::Bool)],
@@ -565,16 +565,16 @@ static ROWS: [&[Piece]; 155] = [
         OneOf(A_EVENTS, 2),
     ],
     &[Says(ScriptWord::Simplify)],
+    &[Over(Head::SplitStep, SPLIT)],
+    &[Over(Head::LetStep, LET)],
+    &[Over(Head::NewStep, NEW)],
+    &[Over(Head::UnnewStep, UNNEW)],
     &[Over(Head::RenameStep, RENAME)],
     &[Over(Head::RewriteStep, REWRITE)],
     &[Over(Head::PruneStep, PRUNE)],
     &[Over(Head::PickStep, PICK)],
     &[Over(Head::MergeStep, MERGE)],
-    &[Over(Head::SplitStep, SPLIT)],
-    &[Over(Head::LetStep, LET)],
     &[Over(Head::UnletStep, UNLET)],
-    &[Over(Head::NewStep, NEW)],
-    &[Over(Head::UnnewStep, UNNEW)],
     &[Over(Head::MoveStep, MOVE)],
     &[Over(Head::ArrayRenameStep, ARRAY_RENAME)],
     &[Over(Head::CodefStep, CODEF)],
@@ -584,11 +584,11 @@ static ROWS: [&[Piece]; 155] = [
     &[Over(Head::CryptoStep, CRYPTO)],
     &[Over(Head::SuccessStep, SUCCESS)],
     &[Over(Head::SimplifyStep, SIMPLIFY)],
-    &[OneOf(A_RENAME, 19)],
-    &[OneOf(A_RENAME, 19), Sign(Mark::Semicolon)],
+    &[OneOf(FIRST_STEP, 19)],
+    &[OneOf(FIRST_STEP, 19), Sign(Mark::Semicolon)],
     &[Many(false, STEP_ITEM)],
     &[Chain(STEPS)],
-    &[OneOf(A_RENAME, BUILT), Sign(Mark::Semicolon)],
+    &[OneOf(FIRST_STEP, BUILT), Sign(Mark::Semicolon)],
     &[Many(false, BUILT_ITEM)],
     &[Chain(BUILT_STEPS)],
 ];

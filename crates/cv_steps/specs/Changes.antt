@@ -7,12 +7,12 @@ use Rattle.cv_meaning_unread.specs.Dropping.{defines}
 use Rattle.cv_steps.specs.Scenes.{part_at}
 
 -- the tree with what stands at a place changed
-abbrev pub changed : Tree → ℕ → (Tree → Tree) → Tree
-changed t p change = replaced t p (change (part_at t p))
+abbrev pub change_at : Tree → ℕ → (Tree → Tree) → Tree
+change_at t p change = replaced t p (change (part_at t p))
 
 -- `if` the condition holds `then` the process, `else` the same
-abbrev pub divided : Tree → Tree → Tree
-divided condition process = if_tree condition process process
+abbrev pub split_process : Tree → Tree → Tree
+split_process condition process = if_tree condition process process
 
 -- `let` and `new` before a process
 abbrev pub after_let : (x type : ℕ) → (term process : Tree) → Tree
@@ -22,9 +22,9 @@ abbrev pub after_new : (x type : ℕ) → (process : Tree) → Tree
 after_new x T process = Node (New x T) Empty process
 
 -- the tree without the `new` and `let` of these variables
-unfoldable pub dropped : (ℕ → Bool) → Tree → Tree
-dropped xs Empty = Empty
-dropped xs (Node h a b) = if defines xs h then dropped xs b else Node h (dropped xs a) (dropped xs b)
+unfoldable pub without : (ℕ → Bool) → Tree → Tree
+without xs Empty = Empty
+without xs (Node h a b) = if defines xs h then without xs b else Node h (without xs a) (without xs b)
 
 -- this variable alone
 abbrev pub only : ℕ → ℕ → Bool

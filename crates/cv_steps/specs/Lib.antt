@@ -3,5 +3,7 @@ pub mod Steps
 pub mod Changes
 pub mod Terms
 pub mod Rows
-pub mod Judged
+pub mod Judgements
 pub mod Chances
+pub mod Sequences
+pub mod Costs

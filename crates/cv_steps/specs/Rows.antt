@@ -3,7 +3,7 @@ use Rattle.std.specs.Prelude.{ℕ, Bool, not, if◌then◌else◌, Option, Some,
 use Rattle.cv_syntax.specs.Tree.{Tree}
 use Rattle.cv_steps.specs.Scenes.{Scene, is_output_at, is_new, is_queried, is_chosen, first_reading}
 use Rattle.cv_steps.specs.Steps.{Step, Split, Let, New, Unnew, Cost, Zero}
-use Rattle.cv_steps.specs.Changes.{changed, divided, after_let, after_new, dropped, only}
+use Rattle.cv_steps.specs.Changes.{change_at, split_process, after_let, after_new, without, only}
 use Rattle.cv_steps.specs.Terms.{is_bool_at}
 
 pub data Row : Type 0 where
@@ -20,20 +20,20 @@ unless_at condition None rest = rest
 unless_at condition (Some place) rest = Fails condition place
 
 abbrev pub split_row : Scene → (place : ℕ) → (condition : Tree) → Row
-split_row s p m = unless (is_output_at s p) 1 0 (unless (is_bool_at s p m) 2 0 (Leads (changed s.game p (divided m)) Zero))
+split_row s p m = unless (is_output_at s p) 1 0 (unless (is_bool_at s p m) 2 0 (Leads (change_at s.game p (split_process m)) Zero))
 
 abbrev pub let_row : Scene → (place x type : ℕ) → (term : Tree) → Row
-let_row s p x T m = unless (is_output_at s p) 1 0 (unless (is_new s x) 2 0 (Leads (changed s.game p (after_let x T m)) Zero))
+let_row s p x T m = unless (is_output_at s p) 1 0 (unless (is_new s x) 2 0 (Leads (change_at s.game p (after_let x T m)) Zero))
 
 abbrev pub new_row : Scene → (place x type : ℕ) → Row
-new_row s p x T = unless (is_output_at s p) 1 0 (unless (is_new s x) 2 0 (Leads (changed s.game p (after_new x T)) Zero))
+new_row s p x T = unless (is_output_at s p) 1 0 (unless (is_new s x) 2 0 (Leads (change_at s.game p (after_new x T)) Zero))
 
 -- a query stands before all places
 abbrev pub unnew_row : Scene → (x : ℕ) → Row
 unnew_row s x =
     unless (is_chosen s x) 1 0
     (unless (not (is_queried s x)) 2 0
-    (unless_at 2 (first_reading x 0 s.game) (Leads (dropped (only x) s.game) Zero)))
+    (unless_at 2 (first_reading x 0 s.game) (Leads (without (only x) s.game) Zero)))
 
 abbrev pub row_of : Scene → Step → Row
 row_of s (Split p m) = split_row s p m

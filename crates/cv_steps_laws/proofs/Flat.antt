@@ -11,7 +11,7 @@ use Rattle.cv_meaning_runs.specs.Replacement.{is_output}
 use Rattle.cv_scope_runs.specs.Phrases.{Phrase, Nil, Inputs, Body, Then, Else, Branches, Arm, Guards, Guarded, Pattern, Message, Indices, Binders, Cells, OneCell, Terms, Term, parts, both_are, is_phrase}
 use Rattle.cv_meaning_unread.specs.Dropping.{defines, head_is_still, is_still}
 use Rattle.cv_typing_runs.specs.Games.{NamesDeclared}
-use Rattle.cv_steps.specs.Changes.{dropped}
+use Rattle.cv_steps.specs.Changes.{without}
 
 abbrev pub Opened : Phrase → Head → Tree → Tree → Type 0
 Opened σ h a b = (q : Phrase × Phrase) × (parts σ h ≡ Some q) × (is_phrase q.0 a ≡ true) × (is_phrase q.1 b ≡ true)
@@ -84,13 +84,13 @@ rows_flat Term Yes e = record { first = refl; second = refl; output = λ a b. re
 rows_flat Term No e = record { first = refl; second = refl; output = λ a b. refl; defined = λ xs. refl }
 rows_flat σ h e = tt
 
-pub flat_dropped : (xs : ℕ → Bool) (σ : Phrase) (t : Tree) → is_flat σ ≡ true → is_phrase σ t ≡ true → dropped xs t ≡ t
-unfolding dropped
+pub flat_dropped : (xs : ℕ → Bool) (σ : Phrase) (t : Tree) → is_flat σ ≡ true → is_phrase σ t ≡ true → without xs t ≡ t
+unfolding without
 flat_dropped xs σ Empty f e = refl
 flat_dropped xs σ (Node h a b) f e =
     let o = open_phrase σ h a b e in
     let r : AreFlat h o.0 = subst (IfFlat h) o.1 (rows_flat σ h f) in
-    (λ i. cond (r.defined xs i) (dropped xs b) (Node h (dropped xs a) (dropped xs b)))
+    (λ i. cond (r.defined xs i) (without xs b) (Node h (without xs a) (without xs b)))
     ∙ ap₂ (Node h) (flat_dropped xs o.0.0 a r.first o.2) (flat_dropped xs o.0.1 b r.second o.3)
 
 -- no subtree there is an output process

@@ -9,13 +9,13 @@ use Rattle.cv_meaning_runs.specs.Replacement.{Part, Process, is_output}
 use Rattle.cv_scope_runs.specs.Phrases.{Phrase, Nil, Inputs, Body, Then, Else, Branches, Arm, Pattern, Message, Binders, Cells, Terms, Term, is_phrase}
 use Rattle.cv_meaning_unread.specs.Dropping.{defines, reads_none, IsDropped, same, gone, kept, in_parallel, in_list, in_find, in_branch}
 use Rattle.cv_meaning_unread.proofs.Unread.{first_reads, second_reads}
-use Rattle.cv_steps.specs.Changes.{dropped}
+use Rattle.cv_steps.specs.Changes.{without}
 use Rattle.cv_steps_laws.proofs.Flat.{guarded_of, guards_of, flat_dropped, term_still, nil_still}
 
 module _ (xs : ℕ → Bool) where
   -- an output process without some definitions is one
-  body_output : (t : Tree) → is_phrase Body t ≡ true → is_output (dropped xs t) ≡ true
-  unfolding dropped is_phrase
+  body_output : (t : Tree) → is_phrase Body t ≡ true → is_output (without xs t) ≡ true
+  unfolding without is_phrase
   body_output (Node Yield a b) e = refl
   body_output (Node (Out c) a b) e = refl
   body_output (Node (Event x) a b) e = refl
@@ -23,29 +23,29 @@ module _ (xs : ℕ → Bool) where
   body_output (Node (Find l) a b) e = refl
   body_output (Node (New x T) a b) e = go (xs x) (body_output b (and_parts (is_phrase Nil a) _ e).1)
     where
-      go : (v : Bool) → is_output (dropped xs b) ≡ true → is_output (cond v (dropped xs b) (Node (New x T) (dropped xs a) (dropped xs b))) ≡ true
+      go : (v : Bool) → is_output (without xs b) ≡ true → is_output (cond v (without xs b) (Node (New x T) (without xs a) (without xs b))) ≡ true
       go true k = k
       go false k = refl
   body_output (Node (Let x T) a b) e = go (xs x) (body_output b (and_parts (is_phrase Term a) _ e).1)
     where
-      go : (v : Bool) → is_output (dropped xs b) ≡ true → is_output (cond v (dropped xs b) (Node (Let x T) (dropped xs a) (dropped xs b))) ≡ true
+      go : (v : Bool) → is_output (without xs b) ≡ true → is_output (cond v (without xs b) (Node (Let x T) (without xs a) (without xs b))) ≡ true
       go true k = k
       go false k = refl
   body_output t e = absurd (both_ways false refl e)
 
-  flat : {part : Part} (σ : Phrase) (t : Tree) → dropped xs t ≡ t → reads_none xs t ≡ true → IsDropped xs part t (dropped xs t)
+  flat : {part : Part} (σ : Phrase) (t : Tree) → without xs t ≡ t → reads_none xs t ≡ true → IsDropped xs part t (without xs t)
   flat {part = part} σ t e r = subst (IsDropped xs part t) (sym e) (same r)
 
   -- a construct that stays
-  keep : (h : Head) (a b : Tree) → reads_none xs a ≡ true → dropped xs a ≡ a → IsDropped xs Process b (dropped xs b) → IsDropped xs Process (Node h a b) (Node h (dropped xs a) (dropped xs b))
-  keep h a b r e z = subst (λ c. IsDropped xs Process (Node h a b) (Node h c (dropped xs b))) (sym e) (kept r z)
+  keep : (h : Head) (a b : Tree) → reads_none xs a ≡ true → without xs a ≡ a → IsDropped xs Process b (without xs b) → IsDropped xs Process (Node h a b) (Node h (without xs a) (without xs b))
+  keep h a b r e z = subst (λ c. IsDropped xs Process (Node h a b) (Node h c (without xs b))) (sym e) (kept r z)
 
   -- one that goes, or stays
-  perhaps : (h : Head) (a b : Tree) → (defines xs h ≡ true → IsDropped xs Process (Node h a b) (dropped xs b)) → IsDropped xs Process (Node h a b) (Node h (dropped xs a) (dropped xs b)) → IsDropped xs Process (Node h a b) (dropped xs (Node h a b))
-  unfolding dropped
+  perhaps : (h : Head) (a b : Tree) → (defines xs h ≡ true → IsDropped xs Process (Node h a b) (without xs b)) → IsDropped xs Process (Node h a b) (Node h (without xs a) (without xs b)) → IsDropped xs Process (Node h a b) (without xs (Node h a b))
+  unfolding without
   perhaps h a b k l = go (defines xs h) refl
     where
-      go : (v : Bool) → defines xs h ≡ v → IsDropped xs Process (Node h a b) (cond v (dropped xs b) (Node h (dropped xs a) (dropped xs b)))
+      go : (v : Bool) → defines xs h ≡ v → IsDropped xs Process (Node h a b) (cond v (without xs b) (Node h (without xs a) (without xs b)))
       go true e = k e
       go false e = l
 
@@ -57,8 +57,8 @@ module _ (xs : ℕ → Bool) where
   As Branches t u = IsDropped xs runs.Branches t u
   As σ t u = Unit {0}
 
-  pub dropped_as : (σ : Phrase) (t : Tree) → is_phrase σ t ≡ true → reads_none xs t ≡ true → As σ t (dropped xs t)
-  unfolding dropped is_phrase
+  pub dropped_as : (σ : Phrase) (t : Tree) → is_phrase σ t ≡ true → reads_none xs t ≡ true → As σ t (without xs t)
+  unfolding without is_phrase
   dropped_as Inputs (Node Stop a b) e r =
       let p = and_parts (is_phrase Nil a) _ e in
       keep Stop a b (first_reads xs Stop a b r) (flat_dropped xs Nil a refl p.0) (flat Nil b (flat_dropped xs Nil b refl p.1) (second_reads xs Stop a b r))
@@ -116,14 +116,14 @@ module _ (xs : ℕ → Bool) where
       let r1 : reads_none xs arm ≡ true = first_reads xs Cons arm more r in
       let r2 : reads_none xs guards ≡ true = second_reads xs Branch bs guards r1 in
       let r3 : reads_none xs guarded ≡ true = second_reads xs Cons ds guarded r2 in
-      let z : IsDropped xs runs.Branches (Node Cons arm more) (Node Cons (Node Branch bs (Node Cons ds (Node Cons m (dropped xs b)))) (dropped xs more)) =
+      let z : IsDropped xs runs.Branches (Node Cons arm more) (Node Cons (Node Branch bs (Node Cons ds (Node Cons m (without xs b)))) (without xs more)) =
       in_branch (first_reads xs Branch bs guards r1) (first_reads xs Cons ds guarded r2) (first_reads xs Cons m b r3) (dropped_as Body b v.1 (second_reads xs Cons m b r3)) (dropped_as Branches more p.1 (second_reads xs Cons arm more r)) in
       subst (λ (t : Tree). IsDropped xs runs.Branches (Node Cons arm more) t)
-      (λ i. Node Cons (Node Branch (sym (flat_dropped xs Binders bs refl q.0) i) (Node Cons (sym (flat_dropped xs Cells ds refl w.0) i) (Node Cons (sym (flat_dropped xs Term m refl v.0) i) (dropped xs b)))) (dropped xs more)) z
+      (λ i. Node Cons (Node Branch (sym (flat_dropped xs Binders bs refl q.0) i) (Node Cons (sym (flat_dropped xs Cells ds refl w.0) i) (Node Cons (sym (flat_dropped xs Term m refl v.0) i) (without xs b)))) (without xs more)) z
   dropped_as Branches (Node Cons (Node Branch bs (Node Cons ds rest)) more) e r = absurd (both_ways false refl (guarded_of bs ds rest more e))
   dropped_as Branches (Node Cons (Node Branch bs rest) more) e r = absurd (both_ways false refl (guards_of bs rest more e))
   dropped_as Branches t e r = absurd (both_ways false refl e)
   dropped_as σ t e r = tt
 
-  pub dropped_game : (t : Tree) → is_phrase Inputs t ≡ true → reads_none xs t ≡ true → IsDropped xs Process t (dropped xs t)
+  pub dropped_game : (t : Tree) → is_phrase Inputs t ≡ true → reads_none xs t ≡ true → IsDropped xs Process t (without xs t)
   dropped_game t e r = dropped_as Inputs t e r

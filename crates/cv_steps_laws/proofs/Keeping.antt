@@ -23,10 +23,10 @@ use Rattle.cv_typing_runs.specs.Games.{HasConstants, HasDeclaredSorts, HasKnownN
 use Rattle.cv_typing_runs.proofs.Games.{known}
 use Rattle.cv_steps.specs.Scenes.{Scene, KnowsQueries, is_chosen, is_new, is_output_at, is_queried, first_reading, has_place, is_type, names, or_empty, part_at}
 use Rattle.cv_steps.specs.Steps.{Step, Split, Let, New, Unnew, Cost, Zero}
-use Rattle.cv_steps.specs.Changes.{changed, divided, after_let, after_new, dropped, only}
+use Rattle.cv_steps.specs.Changes.{change_at, split_process, after_let, after_new, without, only}
 use Rattle.cv_steps.specs.Terms.{is_term_at, is_bool_at, is_there, names_anywhere, has_site, has_index, is_game}
 use Rattle.cv_steps.specs.Rows.{Row, Fails, Leads, unless, unless_at, split_row, let_row, new_row, unnew_row, row_of}
-use Rattle.cv_steps.specs.Judged.{Refused, TooLarge, TooDeep, Accepted, most_nodes, most_depth, stands, judged_row, judged}
+use Rattle.cv_steps.specs.Judgements.{Refused, TooLarge, TooDeep, Accepted, most_nodes, most_depth, stands, judgement_of_row, judgement_of}
 use Rattle.cv_steps.specs.Chances.{KeepsChances}
 use Rattle.cv_steps_laws.proofs.Flat.{term_still}
 use Rattle.cv_steps_laws.proofs.Gone.{dropped_game}
@@ -56,7 +56,7 @@ stands_there game p e = go (subtree game p) refl e
     go None f e = absurd (both_ways false refl e)
     go (Some b) f e = refl
 
-pub placed : (game : Tree) (p : ℕ) (change : Tree → Tree) → is_phrase Inputs game ≡ true → is_output (part_at game p) ≡ true → IsReplaced (part_at game p) (change (part_at game p)) p Process 0 game (changed game p change)
+pub placed : (game : Tree) (p : ℕ) (change : Tree → Tree) → is_phrase Inputs game ≡ true → is_output (part_at game p) ≡ true → IsReplaced (part_at game p) (change (part_at game p)) p Process 0 game (change_at game p change)
 placed game p change e o =
     let old : Tree = part_at game p in
     let s : subtree game p ≡ Some old = stands_there game p o in
@@ -72,7 +72,7 @@ splits s p m next cost w t e =
     let r = unless_leads (is_output_at s p) 1 0 _ next cost e in
     let q = unless_leads (is_bool_at s p m) 2 0 _ next cost r.1 in
     subst (KeepsChances s.declarations s.game) (leads_same _ next Zero cost q.1)
-    (λ i sat x asked a. split_chance (setting_of s.declarations i) x a m (part_at s.game p) p s.game (changed s.game p (divided m)) r.0 (term_still m t) (placed s.game p (divided m) w.phrase r.0))
+    (λ i sat x asked a. split_chance (setting_of s.declarations i) x a m (part_at s.game p) p s.game (change_at s.game p (split_process m)) r.0 (term_still m t) (placed s.game p (split_process m) w.phrase r.0))
 
 unqueried : (s : Scene) (x : ℕ) → KnowsQueries s → s.known x ≡ false → is_queried s x ≡ false
 unqueried s x k e = go (is_queried s x) refl
@@ -82,11 +82,11 @@ unqueried s x k e = go (is_queried s x) refl
     go false f = refl
 
 -- a definition of a new name before an output process
-before : (s : Scene) (p : ℕ) (h : Head) (a : Tree) (x : ℕ) → IsWellFormed s.declarations s.game → KnowsQueries s → defines (only x) h ≡ true → is_still a ≡ true → is_output_at s p ≡ true → is_new s x ≡ true → KeepsChances s.declarations s.game (changed s.game p (Node h a))
+before : (s : Scene) (p : ℕ) (h : Head) (a : Tree) (x : ℕ) → IsWellFormed s.declarations s.game → KnowsQueries s → defines (only x) h ≡ true → is_still a ≡ true → is_output_at s p ≡ true → is_new s x ≡ true → KeepsChances s.declarations s.game (change_at s.game p (Node h a))
 before s p h a x w k d f o n i sat e asked adversary =
     let q = and_parts (not (s.known x)) _ n in
     let unnamed : names x s.game ≡ false = not-true _ q.1 in
-    let next : Tree = changed s.game p (Node h a) in
+    let next : Tree = change_at s.game p (Node h a) in
     sym (chance_without (setting_of s.declarations i) e adversary (only x) next s.game local (game_testable _ s.game w.phrase) (game_no_calls s.game w.phrase) (unnamed_undrawn x s.game unnamed)
     (put_in (only x) h a (part_at s.game p) p Process 0 s.game next d f o (unnamed_unread x s.game unnamed) (placed s.game p (Node h a) w.phrase o))
     (asked_untested s x e asked (unqueried s x k (not-true _ q.0))))
@@ -108,7 +108,7 @@ drops s x next cost w e =
     let r = unless_leads (is_chosen s x) 1 0 _ next cost e in
     let q = unless_leads (not (is_queried s x)) 2 0 _ next cost r.1 in
     let o = unless_at_leads 2 (first_reading x 0 s.game) _ next cost q.1 in
-    let less : Tree = dropped (only x) s.game in
+    let less : Tree = without (only x) s.game in
     let phrase : is_phrase Inputs less ≡ true = dropped_phrase (only x) Inputs s.game w.phrase in
     subst (KeepsChances s.declarations s.game) (leads_same _ next Zero cost o.1)
     (λ i sat z asked a. chance_without (setting_of s.declarations i) z a (only x) s.game less local (game_testable _ less phrase) (game_no_calls less phrase) (dropped_undrawn (only x) s.game)
@@ -123,7 +123,7 @@ pub record IsAccepted (s : Scene) (step : Step) (next : Tree) (cost : Cost) : Ty
   pub low : nat_lt most_depth (depth next) ≡ false
   pub game : is_game s.declarations next ≡ true
 
-pub accepted : (s : Scene) (step : Step) (next : Tree) (cost : Cost) → judged s step ≡ Accepted next cost → IsAccepted s step next cost
+pub accepted : (s : Scene) (step : Step) (next : Tree) (cost : Cost) → judgement_of s step ≡ Accepted next cost → IsAccepted s step next cost
 accepted s step next cost e = go (stands s step) refl (row_of s step) refl e
   where
     limits : (n : Tree) (c : Cost) (v w z : Bool) → nat_lt most_nodes (size n) ≡ v → nat_lt most_depth (depth n) ≡ w → is_game s.declarations n ≡ z → row_of s step ≡ Leads n c → stands s step ≡ true
@@ -136,7 +136,7 @@ accepted s step next cost e = go (stands s step) refl (row_of s step) refl e
         let k : c ≡ cost = cc in
         record { stands = i; row = r ∙ (λ l. Leads (j l) (k l)); small = ap (λ t. nat_lt most_nodes (size t)) (sym j) ∙ f; low = ap (λ t. nat_lt most_depth (depth t)) (sym j) ∙ g; game = ap (is_game s.declarations) (sym j) ∙ h }
 
-    go : (v : Bool) → stands s step ≡ v → (r : Row) → row_of s step ≡ r → cond v (judged_row s r) (Refused 0 0) ≡ Accepted next cost → IsAccepted s step next cost
+    go : (v : Bool) → stands s step ≡ v → (r : Row) → row_of s step ≡ r → cond v (judgement_of_row s r) (Refused 0 0) ≡ Accepted next cost → IsAccepted s step next cost
     go false i r f e = absurd (cc)
     go true i (Fails c p) f e = absurd (cc)
     go true i (Leads n c) f e = limits n c (nat_lt most_nodes (size n)) (nat_lt most_depth (depth n)) (is_game s.declarations n) refl refl refl f i e
@@ -145,7 +145,7 @@ accepted s step next cost e = go (stands s step) refl (row_of s step) refl e
 pub term_phrase : (s : Scene) (p : ℕ) (m : Tree) → is_term_at s p m ≡ true → is_phrase Term m ≡ true
 term_phrase s p m e = (and_parts (is_phrase Term m) _ e).0
 
-pub steps_keep : (s : Scene) (step : Step) (next : Tree) (cost : Cost) → IsWellFormed s.declarations s.game → KnowsQueries s → judged s step ≡ Accepted next cost → KeepsChances s.declarations s.game next
+pub steps_keep : (s : Scene) (step : Step) (next : Tree) (cost : Cost) → IsWellFormed s.declarations s.game → KnowsQueries s → judgement_of s step ≡ Accepted next cost → KeepsChances s.declarations s.game next
 steps_keep s (Split p m) next cost w k e =
     let r = accepted s (Split p m) next cost e in
     splits s p m next cost w (term_phrase s p m (and_parts (has_place s p) _ r.stands).1) r.row
@@ -178,16 +178,16 @@ game_formed ds game e =
       named = there_named ds (has_site game) (has_index game) Inputs game r.0;
     }
 
-pub next_formed : (s : Scene) (step : Step) (next : Tree) (cost : Cost) → judged s step ≡ Accepted next cost → IsWellFormed s.declarations next
+pub next_formed : (s : Scene) (step : Step) (next : Tree) (cost : Cost) → judgement_of s step ≡ Accepted next cost → IsWellFormed s.declarations next
 next_formed s step next cost e = (game_formed s.declarations next (accepted s step next cost e).game).formed
 
-pub next_typed : (s : Scene) (step : Step) (next : Tree) (cost : Cost) → judged s step ≡ Accepted next cost → IsTypedGame s.declarations next
+pub next_typed : (s : Scene) (step : Step) (next : Tree) (cost : Cost) → judgement_of s step ≡ Accepted next cost → IsTypedGame s.declarations next
 next_typed s step next cost e = (game_formed s.declarations next (accepted s step next cost e).game).typed
 
-pub next_named : (s : Scene) (step : Step) (next : Tree) (cost : Cost) → judged s step ≡ Accepted next cost → HasNamedFunctionsAndCells s.declarations next
+pub next_named : (s : Scene) (step : Step) (next : Tree) (cost : Cost) → judgement_of s step ≡ Accepted next cost → HasNamedFunctionsAndCells s.declarations next
 next_named s step next cost e = (game_formed s.declarations next (accepted s step next cost e).game).named
 
-pub next_known : (s : Scene) (step : Step) (next : Tree) (cost : Cost) → HasConstants s.declarations → judged s step ≡ Accepted next cost → HasKnownNames s.declarations next
+pub next_known : (s : Scene) (step : Step) (next : Tree) (cost : Cost) → HasConstants s.declarations → judgement_of s step ≡ Accepted next cost → HasKnownNames s.declarations next
 next_known s step next cost c e = known s.declarations next c (next_formed s step next cost e) (next_named s step next cost e)
 
 -- types and parameters
@@ -196,17 +196,17 @@ output_at : (s : Scene) (p : ℕ) (rest : Row) (next : Tree) (cost : Cost) → u
 output_at s p rest next cost e = (unless_leads (is_output_at s p) 1 0 rest next cost e).0
 
 -- a game with what stands at a place changed
-declared_there : (s : Scene) (p : ℕ) (change : Tree → Tree) → is_phrase Inputs s.game ≡ true → is_output_at s p ≡ true → (HasDeclaredSorts s.declarations (part_at s.game p) → HasDeclaredSorts s.declarations (change (part_at s.game p))) → HasDeclaredSorts s.declarations s.game → HasDeclaredSorts s.declarations (changed s.game p change)
-declared_there s p change w o k d = declared_replaced s.declarations (part_at s.game p) (change (part_at s.game p)) p k Process 0 s.game (changed s.game p change) (placed s.game p change w o) d
+declared_there : (s : Scene) (p : ℕ) (change : Tree → Tree) → is_phrase Inputs s.game ≡ true → is_output_at s p ≡ true → (HasDeclaredSorts s.declarations (part_at s.game p) → HasDeclaredSorts s.declarations (change (part_at s.game p))) → HasDeclaredSorts s.declarations s.game → HasDeclaredSorts s.declarations (change_at s.game p change)
+declared_there s p change w o k d = declared_replaced s.declarations (part_at s.game p) (change (part_at s.game p)) p k Process 0 s.game (change_at s.game p change) (placed s.game p change w o) d
 
-pub next_declared : (s : Scene) (step : Step) (next : Tree) (cost : Cost) → is_phrase Inputs s.game ≡ true → HasDeclaredSorts s.declarations s.game → judged s step ≡ Accepted next cost → HasDeclaredSorts s.declarations next
+pub next_declared : (s : Scene) (step : Step) (next : Tree) (cost : Cost) → is_phrase Inputs s.game ≡ true → HasDeclaredSorts s.declarations s.game → judgement_of s step ≡ Accepted next cost → HasDeclaredSorts s.declarations next
 unfolding HasDeclaredSorts
 next_declared s (Split p m) next cost w d e =
     let r = accepted s (Split p m) next cost e in
     let o = unless_leads (is_output_at s p) 1 0 _ next cost r.row in
     let q = unless_leads (is_bool_at s p m) 2 0 _ next cost o.1 in
     let t = term_declared s.declarations m (term_phrase s p m (and_parts (has_place s p) _ r.stands).1) in
-    subst (HasDeclaredSorts s.declarations) (leads_same _ next Zero cost q.1) (declared_there s p (divided m) w o.0 (λ x. (tt, t, (tt, x, (tt, x, tt)))) d)
+    subst (HasDeclaredSorts s.declarations) (leads_same _ next Zero cost q.1) (declared_there s p (split_process m) w o.0 (λ x. (tt, t, (tt, x, (tt, x, tt)))) d)
 next_declared s (Let p x T m) next cost w d e =
     let r = accepted s (Let p x T m) next cost e in
     let o = unless_leads (is_output_at s p) 1 0 _ next cost r.row in
@@ -226,7 +226,7 @@ next_declared s (Unnew x) next cost w d e =
     let q = unless_leads (not (is_queried s x)) 2 0 _ next cost a.1 in
     let o = unless_at_leads 2 (first_reading x 0 s.game) _ next cost q.1 in
     subst (HasDeclaredSorts s.declarations) (leads_same _ next Zero cost o.1)
-    (declared_dropped s.declarations (only x) Process s.game (dropped (only x) s.game) (dropped_game (only x) s.game w (unlisted_unread x 0 s.game o.0)) d)
+    (declared_dropped s.declarations (only x) Process s.game (without (only x) s.game) (dropped_game (only x) s.game w (unlisted_unread x 0 s.game o.0)) d)
 
 pub formed : (ds : List Declaration) (game : Tree) → is_game ds game ≡ true → IsWellFormed ds game
 formed ds game e = (game_formed ds game e).formed

@@ -16,7 +16,7 @@ use Rattle.cv_directory.specs.Sites.{first_of}
 use Rattle.cv_scope_runs.specs.Phrases.{Phrase, Inputs, Body, Nil, Term, parts, both_are, is_phrase, head_is_plain}
 use Rattle.cv_scope_runs.proofs.Plain.{phrase_plain, plain_no_calls}
 use Rattle.cv_steps.specs.Scenes.{Scene, head_names, names, head_reads, first_reading, asks_for, is_queried}
-use Rattle.cv_steps.specs.Changes.{dropped, only}
+use Rattle.cv_steps.specs.Changes.{without, only}
 use Rattle.cv_steps_laws.proofs.Flat.{open_phrase}
 
 not_false : (b : Bool) → b ≡ false → not b ≡ true
@@ -74,12 +74,12 @@ head_kept : (xs : ℕ → Bool) (h : Head) → defines xs h ≡ false → head_d
 head_kept xs (New y T) e = ap not e
 head_kept xs h e = refl
 
-pub dropped_undrawn : (xs : ℕ → Bool) (t : Tree) → draws_none xs (dropped xs t) ≡ true
-unfolding dropped draws_none
+pub dropped_undrawn : (xs : ℕ → Bool) (t : Tree) → draws_none xs (without xs t) ≡ true
+unfolding without draws_none
 dropped_undrawn xs Empty = refl
 dropped_undrawn xs (Node h a b) = go (defines xs h) refl (dropped_undrawn xs a) (dropped_undrawn xs b)
   where
-    go : (v : Bool) → defines xs h ≡ v → draws_none xs (dropped xs a) ≡ true → draws_none xs (dropped xs b) ≡ true → draws_none xs (cond v (dropped xs b) (Node h (dropped xs a) (dropped xs b))) ≡ true
+    go : (v : Bool) → defines xs h ≡ v → draws_none xs (without xs a) ≡ true → draws_none xs (without xs b) ≡ true → draws_none xs (cond v (without xs b) (Node h (without xs a) (without xs b))) ≡ true
     go true e k l = l
     go false e k l = ap₂ ◌&&◌ (head_kept xs h e) (ap₂ ◌&&◌ k l)
 
@@ -92,16 +92,16 @@ same_second xs σ (New x T) q e f = absurd (cc)
 same_second xs σ (Let x T) q e f = absurd (cc)
 same_second xs σ h q e f = absurd (both_ways false refl e)
 
-pub dropped_phrase : (xs : ℕ → Bool) (σ : Phrase) (t : Tree) → is_phrase σ t ≡ true → is_phrase σ (dropped xs t) ≡ true
-unfolding dropped is_phrase
+pub dropped_phrase : (xs : ℕ → Bool) (σ : Phrase) (t : Tree) → is_phrase σ t ≡ true → is_phrase σ (without xs t) ≡ true
+unfolding without is_phrase
 dropped_phrase xs σ Empty e = e
 dropped_phrase xs σ (Node h a b) e =
     let o = open_phrase σ h a b e in
     go (defines xs h) refl o.0 o.1 (dropped_phrase xs o.0.0 a o.2) (dropped_phrase xs o.0.1 b o.3)
   where
-    go : (v : Bool) → defines xs h ≡ v → (q : Phrase × Phrase) → parts σ h ≡ Some q → is_phrase q.0 (dropped xs a) ≡ true → is_phrase q.1 (dropped xs b) ≡ true → is_phrase σ (cond v (dropped xs b) (Node h (dropped xs a) (dropped xs b))) ≡ true
-    go true d q f k l = subst (λ τ. is_phrase τ (dropped xs b) ≡ true) (same_second xs σ h q d f) l
-    go false d q f k l = ap (λ o. both_are o (λ τ. is_phrase τ (dropped xs a)) (λ ρ. is_phrase ρ (dropped xs b))) f ∙ ap₂ ◌&&◌ k l
+    go : (v : Bool) → defines xs h ≡ v → (q : Phrase × Phrase) → parts σ h ≡ Some q → is_phrase q.0 (without xs a) ≡ true → is_phrase q.1 (without xs b) ≡ true → is_phrase σ (cond v (without xs b) (Node h (without xs a) (without xs b))) ≡ true
+    go true d q f k l = subst (λ τ. is_phrase τ (without xs b) ≡ true) (same_second xs σ h q d f) l
+    go false d q f k l = ap (λ o. both_are o (λ τ. is_phrase τ (without xs a)) (λ ρ. is_phrase ρ (without xs b))) f ∙ ap₂ ◌&&◌ k l
 
 -- games can be tested, and have no calls
 

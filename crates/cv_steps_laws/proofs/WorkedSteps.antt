@@ -19,112 +19,112 @@ use Rattle.cv_scope_runs.specs.Made.{is_bound}
 use Rattle.cv_scope_runs.specs.Phrases.{is_phrase, binds_none, IsWellFormed}
 use Rattle.cv_steps.specs.Scenes.{KnowsQueries, names, first_reading, has_news_alone, has_some_new}
 use Rattle.cv_steps.specs.Steps.{Split, Let, New, Unnew, Zero}
-use Rattle.cv_steps.specs.Changes.{dropped}
+use Rattle.cv_steps.specs.Changes.{without}
 use Rattle.cv_steps.specs.Terms.{is_there, is_game}
-use Rattle.cv_steps.specs.Judged.{Refused, Accepted, judged}
+use Rattle.cv_steps.specs.Judgements.{Refused, Accepted, judgement_of}
 use Rattle.cv_steps_laws.specs.Worked.{asked, cases, draws, draws_more, equal, more, plain, receives, sends}
 use Rattle.cv_steps_laws.proofs.Keeping.{formed}
 
-case_0 : judged plain (Split 1 (lone Yes)) ≡ Accepted (receives (if_tree (lone Yes) draws draws)) Zero
-unfolding first_fault first_in size depth subtree same_tree replaced first_index first_site bound_sort binders_differ count queries_in context_at sites_from is_bound is_phrase binds_none names first_reading has_news_alone has_some_new dropped is_there
+case_0 : judgement_of plain (Split 1 (lone Yes)) ≡ Accepted (receives (if_tree (lone Yes) draws draws)) Zero
+unfolding first_fault first_in size depth subtree same_tree replaced first_index first_site bound_sort binders_differ count queries_in context_at sites_from is_bound is_phrase binds_none names first_reading has_news_alone has_some_new without is_there
 case_0 = refl
 
-case_1 : judged plain (Split 2 equal) ≡ Accepted (receives (Node (head.New 4 5) Empty (if_tree equal sends sends))) Zero
-unfolding first_fault first_in size depth subtree same_tree replaced first_index first_site bound_sort binders_differ count queries_in context_at sites_from is_bound is_phrase binds_none names first_reading has_news_alone has_some_new dropped is_there
+case_1 : judgement_of plain (Split 2 equal) ≡ Accepted (receives (Node (head.New 4 5) Empty (if_tree equal sends sends))) Zero
+unfolding first_fault first_in size depth subtree same_tree replaced first_index first_site bound_sort binders_differ count queries_in context_at sites_from is_bound is_phrase binds_none names first_reading has_news_alone has_some_new without is_there
 case_1 = refl
 
-case_2 : judged plain (Split 0 (lone Yes)) ≡ Refused 1 0
-unfolding first_fault first_in size depth subtree same_tree replaced first_index first_site bound_sort binders_differ count queries_in context_at sites_from is_bound is_phrase binds_none names first_reading has_news_alone has_some_new dropped is_there
+case_2 : judgement_of plain (Split 0 (lone Yes)) ≡ Refused 1 0
+unfolding first_fault first_in size depth subtree same_tree replaced first_index first_site bound_sort binders_differ count queries_in context_at sites_from is_bound is_phrase binds_none names first_reading has_news_alone has_some_new without is_there
 case_2 = refl
 
-case_3 : judged plain (Split 3 (lone Yes)) ≡ Refused 1 0
-unfolding first_fault first_in size depth subtree same_tree replaced first_index first_site bound_sort binders_differ count queries_in context_at sites_from is_bound is_phrase binds_none names first_reading has_news_alone has_some_new dropped is_there
+case_3 : judgement_of plain (Split 3 (lone Yes)) ≡ Refused 1 0
+unfolding first_fault first_in size depth subtree same_tree replaced first_index first_site bound_sort binders_differ count queries_in context_at sites_from is_bound is_phrase binds_none names first_reading has_news_alone has_some_new without is_there
 case_3 = refl
 
-case_4 : judged plain (Split 5 (lone Yes)) ≡ Refused 0 0
-unfolding first_fault first_in size depth subtree same_tree replaced first_index first_site bound_sort binders_differ count queries_in context_at sites_from is_bound is_phrase binds_none names first_reading has_news_alone has_some_new dropped is_there
+case_4 : judgement_of plain (Split 5 (lone Yes)) ≡ Refused 0 0
+unfolding first_fault first_in size depth subtree same_tree replaced first_index first_site bound_sort binders_differ count queries_in context_at sites_from is_bound is_phrase binds_none names first_reading has_news_alone has_some_new without is_there
 case_4 = refl
 
-case_5 : judged plain (Split 1 (leaf 40)) ≡ Refused 0 0
-unfolding first_fault first_in size depth subtree same_tree replaced first_index first_site bound_sort binders_differ count queries_in context_at sites_from is_bound is_phrase binds_none names first_reading has_news_alone has_some_new dropped is_there
+case_5 : judgement_of plain (Split 1 (leaf 40)) ≡ Refused 0 0
+unfolding first_fault first_in size depth subtree same_tree replaced first_index first_site bound_sort binders_differ count queries_in context_at sites_from is_bound is_phrase binds_none names first_reading has_news_alone has_some_new without is_there
 case_5 = refl
 
-case_6 : judged plain (Split 2 (leaf 4)) ≡ Refused 2 0
-unfolding first_fault first_in size depth subtree same_tree replaced first_index first_site bound_sort binders_differ count queries_in context_at sites_from is_bound is_phrase binds_none names first_reading has_news_alone has_some_new dropped is_there
+case_6 : judgement_of plain (Split 2 (leaf 4)) ≡ Refused 2 0
+unfolding first_fault first_in size depth subtree same_tree replaced first_index first_site bound_sort binders_differ count queries_in context_at sites_from is_bound is_phrase binds_none names first_reading has_news_alone has_some_new without is_there
 case_6 = refl
 
-case_7 : judged plain (Split 1 equal) ≡ Refused 9 0
-unfolding first_fault first_in size depth subtree same_tree replaced first_index first_site bound_sort binders_differ count queries_in context_at sites_from is_bound is_phrase binds_none names first_reading has_news_alone has_some_new dropped is_there
+case_7 : judgement_of plain (Split 1 equal) ≡ Refused 9 0
+unfolding first_fault first_in size depth subtree same_tree replaced first_index first_site bound_sort binders_differ count queries_in context_at sites_from is_bound is_phrase binds_none names first_reading has_news_alone has_some_new without is_there
 case_7 = refl
 
-case_8 : judged plain (Let 2 11 5 (leaf 4)) ≡ Accepted (receives (Node (head.New 4 5) Empty (Node (head.Let 11 5) (leaf 4) sends))) Zero
-unfolding first_fault first_in size depth subtree same_tree replaced first_index first_site bound_sort binders_differ count queries_in context_at sites_from is_bound is_phrase binds_none names first_reading has_news_alone has_some_new dropped is_there
+case_8 : judgement_of plain (Let 2 11 5 (leaf 4)) ≡ Accepted (receives (Node (head.New 4 5) Empty (Node (head.Let 11 5) (leaf 4) sends))) Zero
+unfolding first_fault first_in size depth subtree same_tree replaced first_index first_site bound_sort binders_differ count queries_in context_at sites_from is_bound is_phrase binds_none names first_reading has_news_alone has_some_new without is_there
 case_8 = refl
 
-case_9 : judged plain (Let 2 4 5 (leaf 4)) ≡ Refused 2 0
-unfolding first_fault first_in size depth subtree same_tree replaced first_index first_site bound_sort binders_differ count queries_in context_at sites_from is_bound is_phrase binds_none names first_reading has_news_alone has_some_new dropped is_there
+case_9 : judgement_of plain (Let 2 4 5 (leaf 4)) ≡ Refused 2 0
+unfolding first_fault first_in size depth subtree same_tree replaced first_index first_site bound_sort binders_differ count queries_in context_at sites_from is_bound is_phrase binds_none names first_reading has_news_alone has_some_new without is_there
 case_9 = refl
 
-case_10 : judged plain (Let 2 9 5 (leaf 4)) ≡ Refused 2 0
-unfolding first_fault first_in size depth subtree same_tree replaced first_index first_site bound_sort binders_differ count queries_in context_at sites_from is_bound is_phrase binds_none names first_reading has_news_alone has_some_new dropped is_there
+case_10 : judgement_of plain (Let 2 9 5 (leaf 4)) ≡ Refused 2 0
+unfolding first_fault first_in size depth subtree same_tree replaced first_index first_site bound_sort binders_differ count queries_in context_at sites_from is_bound is_phrase binds_none names first_reading has_news_alone has_some_new without is_there
 case_10 = refl
 
-case_11 : judged plain (Let 2 11 6 (leaf 4)) ≡ Refused 0 0
-unfolding first_fault first_in size depth subtree same_tree replaced first_index first_site bound_sort binders_differ count queries_in context_at sites_from is_bound is_phrase binds_none names first_reading has_news_alone has_some_new dropped is_there
+case_11 : judgement_of plain (Let 2 11 6 (leaf 4)) ≡ Refused 0 0
+unfolding first_fault first_in size depth subtree same_tree replaced first_index first_site bound_sort binders_differ count queries_in context_at sites_from is_bound is_phrase binds_none names first_reading has_news_alone has_some_new without is_there
 case_11 = refl
 
-case_12 : judged plain (Let 2 11 0 (leaf 4)) ≡ Refused 9 0
-unfolding first_fault first_in size depth subtree same_tree replaced first_index first_site bound_sort binders_differ count queries_in context_at sites_from is_bound is_phrase binds_none names first_reading has_news_alone has_some_new dropped is_there
+case_12 : judgement_of plain (Let 2 11 0 (leaf 4)) ≡ Refused 9 0
+unfolding first_fault first_in size depth subtree same_tree replaced first_index first_site bound_sort binders_differ count queries_in context_at sites_from is_bound is_phrase binds_none names first_reading has_news_alone has_some_new without is_there
 case_12 = refl
 
-case_13 : judged plain (Let 1 11 5 (leaf 4)) ≡ Refused 9 0
-unfolding first_fault first_in size depth subtree same_tree replaced first_index first_site bound_sort binders_differ count queries_in context_at sites_from is_bound is_phrase binds_none names first_reading has_news_alone has_some_new dropped is_there
+case_13 : judgement_of plain (Let 1 11 5 (leaf 4)) ≡ Refused 9 0
+unfolding first_fault first_in size depth subtree same_tree replaced first_index first_site bound_sort binders_differ count queries_in context_at sites_from is_bound is_phrase binds_none names first_reading has_news_alone has_some_new without is_there
 case_13 = refl
 
-case_14 : judged plain (New 2 11 5) ≡ Accepted (receives draws_more) Zero
-unfolding first_fault first_in size depth subtree same_tree replaced first_index first_site bound_sort binders_differ count queries_in context_at sites_from is_bound is_phrase binds_none names first_reading has_news_alone has_some_new dropped is_there
+case_14 : judgement_of plain (New 2 11 5) ≡ Accepted (receives draws_more) Zero
+unfolding first_fault first_in size depth subtree same_tree replaced first_index first_site bound_sort binders_differ count queries_in context_at sites_from is_bound is_phrase binds_none names first_reading has_news_alone has_some_new without is_there
 case_14 = refl
 
-case_15 : judged plain (New 4 11 5) ≡ Refused 1 0
-unfolding first_fault first_in size depth subtree same_tree replaced first_index first_site bound_sort binders_differ count queries_in context_at sites_from is_bound is_phrase binds_none names first_reading has_news_alone has_some_new dropped is_there
+case_15 : judgement_of plain (New 4 11 5) ≡ Refused 1 0
+unfolding first_fault first_in size depth subtree same_tree replaced first_index first_site bound_sort binders_differ count queries_in context_at sites_from is_bound is_phrase binds_none names first_reading has_news_alone has_some_new without is_there
 case_15 = refl
 
-case_16 : judged plain (New 2 9 5) ≡ Refused 2 0
-unfolding first_fault first_in size depth subtree same_tree replaced first_index first_site bound_sort binders_differ count queries_in context_at sites_from is_bound is_phrase binds_none names first_reading has_news_alone has_some_new dropped is_there
+case_16 : judgement_of plain (New 2 9 5) ≡ Refused 2 0
+unfolding first_fault first_in size depth subtree same_tree replaced first_index first_site bound_sort binders_differ count queries_in context_at sites_from is_bound is_phrase binds_none names first_reading has_news_alone has_some_new without is_there
 case_16 = refl
 
-case_17 : judged plain (New 2 11 3) ≡ Refused 0 0
-unfolding first_fault first_in size depth subtree same_tree replaced first_index first_site bound_sort binders_differ count queries_in context_at sites_from is_bound is_phrase binds_none names first_reading has_news_alone has_some_new dropped is_there
+case_17 : judgement_of plain (New 2 11 3) ≡ Refused 0 0
+unfolding first_fault first_in size depth subtree same_tree replaced first_index first_site bound_sort binders_differ count queries_in context_at sites_from is_bound is_phrase binds_none names first_reading has_news_alone has_some_new without is_there
 case_17 = refl
 
-case_18 : judged plain (Unnew 4) ≡ Refused 2 3
-unfolding first_fault first_in size depth subtree same_tree replaced first_index first_site bound_sort binders_differ count queries_in context_at sites_from is_bound is_phrase binds_none names first_reading has_news_alone has_some_new dropped is_there
+case_18 : judgement_of plain (Unnew 4) ≡ Refused 2 3
+unfolding first_fault first_in size depth subtree same_tree replaced first_index first_site bound_sort binders_differ count queries_in context_at sites_from is_bound is_phrase binds_none names first_reading has_news_alone has_some_new without is_there
 case_18 = refl
 
-case_19 : judged plain (Unnew 9) ≡ Refused 1 0
-unfolding first_fault first_in size depth subtree same_tree replaced first_index first_site bound_sort binders_differ count queries_in context_at sites_from is_bound is_phrase binds_none names first_reading has_news_alone has_some_new dropped is_there
+case_19 : judgement_of plain (Unnew 9) ≡ Refused 1 0
+unfolding first_fault first_in size depth subtree same_tree replaced first_index first_site bound_sort binders_differ count queries_in context_at sites_from is_bound is_phrase binds_none names first_reading has_news_alone has_some_new without is_there
 case_19 = refl
 
-case_20 : judged plain (Unnew 40) ≡ Refused 0 0
-unfolding first_fault first_in size depth subtree same_tree replaced first_index first_site bound_sort binders_differ count queries_in context_at sites_from is_bound is_phrase binds_none names first_reading has_news_alone has_some_new dropped is_there
+case_20 : judgement_of plain (Unnew 40) ≡ Refused 0 0
+unfolding first_fault first_in size depth subtree same_tree replaced first_index first_site bound_sort binders_differ count queries_in context_at sites_from is_bound is_phrase binds_none names first_reading has_news_alone has_some_new without is_there
 case_20 = refl
 
-pub each : AllByRecursion (λ c. judged plain c.0 ≡ c.1) cases
+pub each : AllByRecursion (λ c. judgement_of plain c.0 ≡ c.1) cases
 each = (case_0, (case_1, (case_2, (case_3, (case_4, (case_5, (case_6, (case_7, (case_8, (case_9, (case_10, (case_11, (case_12, (case_13, (case_14, (case_15, (case_16, (case_17, (case_18, (case_19, (case_20, tt)))))))))))))))))))))
 
 game_passes : is_game plain.declarations plain.game ≡ true
-unfolding first_fault first_in size depth subtree same_tree replaced first_index first_site bound_sort binders_differ count queries_in context_at sites_from is_bound is_phrase binds_none names first_reading has_news_alone has_some_new dropped is_there
+unfolding first_fault first_in size depth subtree same_tree replaced first_index first_site bound_sort binders_differ count queries_in context_at sites_from is_bound is_phrase binds_none names first_reading has_news_alone has_some_new without is_there
 game_passes = refl
 
 pub game : IsWellFormed plain.declarations plain.game
 game = formed plain.declarations plain.game game_passes
 
-pub not_dropped : judged asked (Unnew 4) ≡ Refused 2 0
-unfolding first_fault first_in size depth subtree same_tree replaced first_index first_site bound_sort binders_differ count queries_in context_at sites_from is_bound is_phrase binds_none names first_reading has_news_alone has_some_new dropped is_there
+pub not_dropped : judgement_of asked (Unnew 4) ≡ Refused 2 0
+unfolding first_fault first_in size depth subtree same_tree replaced first_index first_site bound_sort binders_differ count queries_in context_at sites_from is_bound is_phrase binds_none names first_reading has_news_alone has_some_new without is_there
 not_dropped = refl
 
-pub back : judged more (Unnew 11) ≡ Accepted plain.game Zero
-unfolding first_fault first_in size depth subtree same_tree replaced first_index first_site bound_sort binders_differ count queries_in context_at sites_from is_bound is_phrase binds_none names first_reading has_news_alone has_some_new dropped is_there
+pub back : judgement_of more (Unnew 11) ≡ Accepted plain.game Zero
+unfolding first_fault first_in size depth subtree same_tree replaced first_index first_site bound_sort binders_differ count queries_in context_at sites_from is_bound is_phrase binds_none names first_reading has_news_alone has_some_new without is_there
 back = refl
 
 pub knows : KnowsQueries asked

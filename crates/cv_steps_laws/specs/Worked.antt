@@ -10,7 +10,7 @@ use Rattle.cv_syntax.specs.Tree.{Tree, Empty, Node, lone}
 use Rattle.cv_meaning_runs.specs.Replacement.{if_tree}
 use Rattle.cv_steps.specs.Scenes.{Scene}
 use Rattle.cv_steps.specs.Steps.{Step, Split, Let, New, Unnew, Zero}
-use Rattle.cv_steps.specs.Judged.{Judgement, Refused, Accepted}
+use Rattle.cv_steps.specs.Judgements.{Judgement, Refused, Accepted}
 
 -- type 0 [fixed]. type 5 [fixed].
 abbrev pub types : List Declaration

@@ -16,9 +16,9 @@ ghost use Rattle.cv_typing_runs.specs.Games.{
 };
 ghost use Rattle.cv_steps.specs.Scenes.{KnowsQueries, Scene, part_at};
 ghost use Rattle.cv_steps.specs.Steps.{Cost, Step, Unnew, Zero};
-ghost use Rattle.cv_steps.specs.Changes.{changed, dropped};
+ghost use Rattle.cv_steps.specs.Changes.{change_at, without};
 ghost use Rattle.cv_steps.specs.Rows.{Leads, let_row, new_row, split_row, unnew_row};
-ghost use Rattle.cv_steps.specs.Judged.{Accepted, Refused, judged};
+ghost use Rattle.cv_steps.specs.Judgements.{Accepted, Refused, judgement_of};
 ghost use Rattle.cv_steps.specs.Chances.{KeepsChances};
 ghost use Rattle.cv_steps_laws.specs.Worked.{asked, cases, more, plain};
 
@@ -55,24 +55,24 @@ pub fn unread_choices_may_go()
 pub fn accepted_steps_keep_chances()
     ensures { (s : Scene) (step : Step) (next : Tree) (cost : Cost) →
         IsWellFormed s.declarations s.game → KnowsQueries s →
-        judged s step ≡ Accepted next cost → KeepsChances s.declarations s.game next }
+        judgement_of s step ≡ Accepted next cost → KeepsChances s.declarations s.game next }
 {}
 
 /// An accepted step leads to a game with all that the laws of runs ask for: it is well-formed and typed, its
 /// names are known, and where the types and parameters of the game are declared, so are those of the next.
 pub fn accepted_steps_lead_to_games()
     ensures well_formed { (s : Scene) (step : Step) (next : Tree) (cost : Cost) →
-        judged s step ≡ Accepted next cost → IsWellFormed s.declarations next }
+        judgement_of s step ≡ Accepted next cost → IsWellFormed s.declarations next }
     ensures typed { (s : Scene) (step : Step) (next : Tree) (cost : Cost) →
-        judged s step ≡ Accepted next cost → IsTypedGame s.declarations next }
+        judgement_of s step ≡ Accepted next cost → IsTypedGame s.declarations next }
     ensures cells { (s : Scene) (step : Step) (next : Tree) (cost : Cost) →
-        judged s step ≡ Accepted next cost → HasNamedFunctionsAndCells s.declarations next }
+        judgement_of s step ≡ Accepted next cost → HasNamedFunctionsAndCells s.declarations next }
     ensures names { (s : Scene) (step : Step) (next : Tree) (cost : Cost) →
-        HasConstants s.declarations → judged s step ≡ Accepted next cost →
+        HasConstants s.declarations → judgement_of s step ≡ Accepted next cost →
         HasKnownNames s.declarations next }
     ensures sorts { (s : Scene) (step : Step) (next : Tree) (cost : Cost) →
         is_phrase Inputs s.game ≡ true → HasDeclaredSorts s.declarations s.game →
-        judged s step ≡ Accepted next cost → HasDeclaredSorts s.declarations next }
+        judgement_of s step ≡ Accepted next cost → HasDeclaredSorts s.declarations next }
 {}
 
 /// In a well-formed game a service may come to each output process, so it can be changed by its place; and a
@@ -82,19 +82,19 @@ pub fn changes_of_games()
     ensures placed { (game : Tree) (place : ℕ) (change : Tree → Tree) →
         is_phrase Inputs game ≡ true → is_output (part_at game place) ≡ true →
         IsReplaced (part_at game place) (change (part_at game place)) place Process 0
-        game (changed game place change) }
-    ensures dropped { (xs : ℕ → Bool) (game : Tree) → is_phrase Inputs game ≡ true →
-        reads_none xs game ≡ true → IsDropped xs Process game (dropped xs game) }
+        game (change_at game place change) }
+    ensures without { (xs : ℕ → Bool) (game : Tree) → is_phrase Inputs game ≡ true →
+        reads_none xs game ≡ true → IsDropped xs Process game (without xs game) }
     ensures phrase { (xs : ℕ → Bool) (game : Tree) → is_phrase Inputs game ≡ true →
-        is_phrase Inputs (dropped xs game) ≡ true }
+        is_phrase Inputs (without xs game) ≡ true }
 {}
 
 /// What is said of steps in a small game, which is well-formed: each is accepted somewhere, and each of its
 /// conditions fails somewhere. A nonce that a query asks for is not dropped, and one that was put there is.
 pub fn worked_steps()
     ensures game { IsWellFormed plain.declarations plain.game }
-    ensures cases { AllByRecursion (λ c. judged plain c.0 ≡ c.1) cases }
-    ensures asked { judged asked (Unnew 4) ≡ Refused 2 0 }
+    ensures cases { AllByRecursion (λ c. judgement_of plain c.0 ≡ c.1) cases }
+    ensures asked { judgement_of asked (Unnew 4) ≡ Refused 2 0 }
     ensures knows { KnowsQueries asked }
-    ensures back { judged more (Unnew 11) ≡ Accepted plain.game Zero }
+    ensures back { judgement_of more (Unnew 11) ≡ Accepted plain.game Zero }
 {}

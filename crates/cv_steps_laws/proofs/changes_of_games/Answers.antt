@@ -7,8 +7,8 @@ use Rattle.cv_steps_laws.proofs.changes_of_games.Goals as goal
 pub returns-clause-placed : goal.returns-clause-placed
 returns-clause-placed c = placed
 
-pub returns-clause-dropped : goal.returns-clause-dropped
-returns-clause-dropped c = dropped_game
+pub returns-clause-without : goal.returns-clause-without
+returns-clause-without c = dropped_game
 
 pub returns-clause-phrase : goal.returns-clause-phrase
 returns-clause-phrase c xs game e = dropped_phrase xs Inputs game e

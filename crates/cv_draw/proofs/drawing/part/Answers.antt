@@ -1,14 +1,14 @@
 use Rattle.std.proofs.Common.{ap, sym, subst, ◌∙◌, Some, length}
 use Rattle.cv_syntax.specs.Tree.{tree_at}
 use Rattle.cv_draw.specs.Changes.{TermIsLive, change_of}
-use Rattle.cv_draw.proofs.Room.{divided-made, new-made}
+use Rattle.cv_draw.proofs.Room.{split_process-made, new-made}
 use Rattle.cv_draw.proofs.drawing.part.Goals as goal
 
-pub returns-in-Divided-clause-tree : goal.returns-in-Divided-clause-tree
-returns-in-Divided-clause-tree c =
-    let live = subst (TermIsLive (length c.args.pool.now.trees)) c.in-Divided.is c.requires.term in
-    divided-made c.args.pool.now c.join-last.new.pool c.join-bodies.new.pool c.join.new.pool c.args.old c.in-Divided.condition c.join-last.result c.join-bodies.result c.join.result c.join-last.ensures.grows c.join-bodies.ensures.grows c.requires.live live c.join-last.ensures.tree c.join-bodies.ensures.tree c.join.ensures.tree
-    ∙ ap (λ ch. change_of c.args.pool.now.trees ch (tree_at c.args.pool.now.trees (Some c.args.old))) (sym c.in-Divided.is)
+pub returns-in-Split-clause-tree : goal.returns-in-Split-clause-tree
+returns-in-Split-clause-tree c =
+    let live = subst (TermIsLive (length c.args.pool.now.trees)) c.in-Split.is c.requires.term in
+    split_process-made c.args.pool.now c.join-last.new.pool c.join-bodies.new.pool c.join.new.pool c.args.old c.in-Split.condition c.join-last.result c.join-bodies.result c.join.result c.join-last.ensures.grows c.join-bodies.ensures.grows c.requires.live live c.join-last.ensures.tree c.join-bodies.ensures.tree c.join.ensures.tree
+    ∙ ap (λ ch. change_of c.args.pool.now.trees ch (tree_at c.args.pool.now.trees (Some c.args.old))) (sym c.in-Split.is)
 
 pub returns-in-AfterNew-clause-tree : goal.returns-in-AfterNew-clause-tree
 returns-in-AfterNew-clause-tree c =

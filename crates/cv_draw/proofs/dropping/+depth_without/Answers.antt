@@ -4,8 +4,8 @@ use Rattle.cv_syntax.specs.Walks.{above}
 use Rattle.cv_syntax.proofs.Trees.{child_live, empty_at}
 use Rattle.cv_syntax.proofs.Walking.{above-child, above-some, depth-le-size, size-node}
 use Rattle.cv_meaning_unread.specs.Dropping.{defines}
-use Rattle.cv_steps.specs.Changes.{dropped, only}
-use Rattle.cv_draw.proofs.Lists.{size-dropped, depth-ends, depth-of-gone, depth-stays}
+use Rattle.cv_steps.specs.Changes.{without, only}
+use Rattle.cv_draw.proofs.Lists.{size-without, depth-ends, depth-of-gone, depth-stays}
 use Rattle.cv_draw.proofs.dropping.+depth_without.Goals as goal
 
 pub overflow_add-above : goal.overflow_add-above
@@ -14,7 +14,7 @@ overflow_add-above t c =
     let node = c.read_node-node.result in
     let e = ap (tree_at trees) c.in-Some.is ∙ c.read_node-node.ensures.tree in
     let d : defines (only c.args.x) node.head ≡ false = search rules in
-    omega (arith, c.chain.invariant.deepest, depth-stays c.args.x (tree_at trees c.chain.at) node.head (tree_at trees node.first) (tree_at trees node.second) e d, size-dropped c.args.x (tree_at trees c.args.start), depth-le-size (dropped (only c.args.x) (tree_at trees c.args.start)))
+    omega (arith, c.chain.invariant.deepest, depth-stays c.args.x (tree_at trees c.chain.at) node.head (tree_at trees node.first) (tree_at trees node.second) e d, size-without c.args.x (tree_at trees c.args.start), depth-le-size (without (only c.args.x) (tree_at trees c.args.start)))
 
 pub depth_without-requires : goal.depth_without-requires
 depth_without-requires t c =
@@ -30,7 +30,7 @@ overflow_add-above-then-not-defines t c =
     let node = c.read_node-node.result in
     let e = ap (tree_at trees) c.in-Some.is ∙ c.read_node-node.ensures.tree in
     let d : defines (only c.args.x) node.head ≡ false = search rules in
-    omega (arith, c.depth_without.ensures, c.chain.invariant.deepest, depth-stays c.args.x (tree_at trees c.chain.at) node.head (tree_at trees node.first) (tree_at trees node.second) e d, size-dropped c.args.x (tree_at trees c.args.start), depth-le-size (dropped (only c.args.x) (tree_at trees c.args.start)))
+    omega (arith, c.depth_without.ensures, c.chain.invariant.deepest, depth-stays c.args.x (tree_at trees c.chain.at) node.head (tree_at trees node.first) (tree_at trees node.second) e d, size-without c.args.x (tree_at trees c.args.start), depth-le-size (without (only c.args.x) (tree_at trees c.args.start)))
 
 pub chain-preserved-then-not-defines : goal.chain-preserved-then-not-defines
 chain-preserved-then-not-defines t c =

@@ -3,7 +3,7 @@ use Rattle.cv_pool.specs.Nodes.{ChildBelow}
 use Rattle.cv_syntax.specs.Tree as tree
 use Rattle.cv_syntax.specs.Tree.{tree_at}
 use Rattle.cv_syntax.specs.Walks.{above}
-use Rattle.cv_steps.specs.Changes.{dropped, only}
+use Rattle.cv_steps.specs.Changes.{without, only}
 use Rattle.cv_draw.proofs.dropping.+depth_without.Given as goal
 
 abbrev pub decreases-depth_without : goal.decreases-depth_without
@@ -17,6 +17,6 @@ invariant-chain l = record {
   below : above l.at ≤ above l.fn.start;
   live : ChildBelow (length l.pool.trees) l.at;
   small : tree.size (tree_at l.pool.trees l.at) ≤ tree.size (tree_at l.pool.trees l.fn.start);
-  deepest : max l.deepest (l.above + tree.depth (dropped (only l.x) (tree_at l.pool.trees l.at))) ≡ tree.depth (dropped (only l.x) (tree_at l.pool.trees l.fn.start));
+  deepest : max l.deepest (l.above + tree.depth (without (only l.x) (tree_at l.pool.trees l.at))) ≡ tree.depth (without (only l.x) (tree_at l.pool.trees l.fn.start));
   over : l.above ≤ l.deepest;
 }

@@ -3,7 +3,7 @@ use Rattle.cv_pool.specs.Nodes.{ChildBelow}
 use Rattle.cv_syntax.specs.Postorder.{postorder}
 use Rattle.cv_syntax.specs.Tree.{tree_at}
 use Rattle.cv_syntax.specs.Walks.{above}
-use Rattle.cv_steps.specs.Changes.{dropped, only}
+use Rattle.cv_steps.specs.Changes.{without, only}
 use Rattle.cv_draw.proofs.Lists.{Listed}
 use Rattle.cv_draw.proofs.dropping.+list.Given as goal
 
@@ -17,5 +17,5 @@ abbrev pub invariant-chain : goal.invariant-chain
 invariant-chain l = record {
   below : above l.at ≤ above l.fn.start;
   live : ChildBelow (length l.pool.trees) l.at;
-  listed : Listed l.makes.items (postorder (dropped (only l.x) (tree_at l.pool.trees l.at))) l.heads.items (l.fn.makes.items ++ postorder (dropped (only l.x) (tree_at l.pool.trees l.fn.start)));
+  listed : Listed l.makes.items (postorder (without (only l.x) (tree_at l.pool.trees l.at))) l.heads.items (l.fn.makes.items ++ postorder (without (only l.x) (tree_at l.pool.trees l.fn.start)));
 }

@@ -5,7 +5,7 @@ use Rattle.cv_syntax.proofs.Trees.{child_live, empty_at}
 use Rattle.cv_syntax.proofs.Walking.{above-child, above-some, size-node}
 use Rattle.cv_meaning_unread.specs.Dropping.{defines}
 use Rattle.cv_steps.specs.Changes.{only}
-use Rattle.cv_draw.proofs.Lists.{size-dropped, size-ends, size-gone, size-stays}
+use Rattle.cv_draw.proofs.Lists.{size-without, size-ends, size-gone, size-stays}
 use Rattle.cv_draw.proofs.dropping.+size_without.Goals as goal
 
 pub overflow_add-total : goal.overflow_add-total
@@ -14,7 +14,7 @@ overflow_add-total t c =
     let node = c.read_node-node.result in
     let e = ap (tree_at trees) c.in-Some.is ∙ c.read_node-node.ensures.tree in
     let d : defines (only c.args.x) node.head ≡ false = search rules in
-    omega (arith, c.chain.invariant.total, size-stays c.args.x (tree_at trees c.chain.at) node.head (tree_at trees node.first) (tree_at trees node.second) e d, size-dropped c.args.x (tree_at trees c.args.start))
+    omega (arith, c.chain.invariant.total, size-stays c.args.x (tree_at trees c.chain.at) node.head (tree_at trees node.first) (tree_at trees node.second) e d, size-without c.args.x (tree_at trees c.args.start))
 
 pub size_without-total-requires : goal.size_without-total-requires
 size_without-total-requires t c =
@@ -30,7 +30,7 @@ overflow_add-total-then-not-defines t c =
     let node = c.read_node-node.result in
     let e = ap (tree_at trees) c.in-Some.is ∙ c.read_node-node.ensures.tree in
     let d : defines (only c.args.x) node.head ≡ false = search rules in
-    omega (arith, c.size_without-total.ensures, c.chain.invariant.total, size-stays c.args.x (tree_at trees c.chain.at) node.head (tree_at trees node.first) (tree_at trees node.second) e d, size-dropped c.args.x (tree_at trees c.args.start))
+    omega (arith, c.size_without-total.ensures, c.chain.invariant.total, size-stays c.args.x (tree_at trees c.chain.at) node.head (tree_at trees node.first) (tree_at trees node.second) e d, size-without c.args.x (tree_at trees c.args.start))
 
 pub chain-preserved-then-not-defines : goal.chain-preserved-then-not-defines
 chain-preserved-then-not-defines t c =

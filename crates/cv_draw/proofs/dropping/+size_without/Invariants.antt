@@ -3,7 +3,7 @@ use Rattle.cv_pool.specs.Nodes.{ChildBelow}
 use Rattle.cv_syntax.specs.Tree as tree
 use Rattle.cv_syntax.specs.Tree.{tree_at}
 use Rattle.cv_syntax.specs.Walks.{above}
-use Rattle.cv_steps.specs.Changes.{dropped, only}
+use Rattle.cv_steps.specs.Changes.{without, only}
 use Rattle.cv_draw.proofs.dropping.+size_without.Given as goal
 
 abbrev pub decreases-size_without : goal.decreases-size_without
@@ -17,5 +17,5 @@ invariant-chain l = record {
   below : above l.at ≤ above l.fn.start;
   live : ChildBelow (length l.pool.trees) l.at;
   small : tree.size (tree_at l.pool.trees l.at) ≤ tree.size (tree_at l.pool.trees l.fn.start);
-  total : l.total + tree.size (dropped (only l.x) (tree_at l.pool.trees l.at)) ≡ tree.size (dropped (only l.x) (tree_at l.pool.trees l.fn.start));
+  total : l.total + tree.size (without (only l.x) (tree_at l.pool.trees l.at)) ≡ tree.size (without (only l.x) (tree_at l.pool.trees l.fn.start));
 }

@@ -27,12 +27,12 @@ abbrev pub most_depth : ℕ
 most_depth = 200
 
 -- condition 9 is that of the next game
-abbrev pub judged_row : Scene → Row → Judgement
-judged_row s (Fails condition place) = Refused condition place
-judged_row s (Leads next cost) =
+abbrev pub judgement_of_row : Scene → Row → Judgement
+judgement_of_row s (Fails condition place) = Refused condition place
+judgement_of_row s (Leads next cost) =
     if nat_lt most_nodes (size next) then TooLarge (size next)
     else if nat_lt most_depth (depth next) then TooDeep (depth next)
     else if is_game s.declarations next then Accepted next cost else Refused 9 0
 
-abbrev pub judged : Scene → Step → Judgement
-judged s step = if stands s step then judged_row s (row_of s step) else Refused 0 0
+abbrev pub judgement_of : Scene → Step → Judgement
+judgement_of s step = if stands s step then judgement_of_row s (row_of s step) else Refused 0 0
