@@ -12,14 +12,14 @@ use Rattle.cv_parse_notation.specs.Whole.{Dead, SpellsWith, reads_with}
 use Rattle.cv_parse_notation.proofs.Complete.{complete}
 use Rattle.cv_parse_notation.proofs.Locality.{Local, local, sort_local, takes_more}
 use Rattle.cv_parse_notation.proofs.Sorts.{begins, read_is_spelled, shorter, spelled_is_read}
-use Rattle.cv_parse_notation.proofs.Sound.{sound}
+use Rattle.cv_parse_notation.proofs.Sound.{same_found, sound}
 use Rattle.cv_parse_grammar.specs.declared.role.Role.{Role}
 use Rattle.cv_parse_grammar.specs.Files.{levels}
 use Rattle.cv_parse_grammar.specs.Phrases.{Sort}
 use Rattle.cv_parse_grammar.specs.Rules.{rule}
 use Rattle.cv_parse_tables.specs.Table.{Nowhere, OfFiles, Row, TableSort, carried, table_heads, table_rule}
 use Rattle.cv_script.specs.Rows.{script_row, script_rows}
-use Rattle.cv_parse_script.specs.Scripts.{begins_step, ended, items, nodes_of, of_read, read_row, roomed, script_of, stopped}
+use Rattle.cv_parse_script.specs.Scripts.{begins_step, to_end, items, nodes_of, of_read, read_row, with_room, script_of, stop_at}
 use Rattle.cv_parse_script.specs.declared.error.ScriptError.{ScriptError}
 use Rattle.cv_parse_script.specs.declared.error.ScriptError.TheVariants.{Build, Script, Unbuilt}
 use Rattle.cv_parse_script_laws.specs.Scripts.{IsScript, IsSomeScript, Takes, script_form}
@@ -59,13 +59,13 @@ script_deep : sorts_pass is_deep script_form ≡ true
 unfolding sorts_pass
 script_deep = refl
 
-closed : (s : TableSort) → is_deep s ≡ true → sorts_pass is_deep (table_rule script_rows s) ≡ true
+pub closed : (s : TableSort) → is_deep s ≡ true → sorts_pass is_deep (table_rule script_rows s) ≡ true
 unfolding sorts_pass
 closed (Row r) e = subst (λ m. sorts_pass is_deep (table_rule script_rows (Row m)) ≡ true) (sym (eqb-true r line_row e)) line_deep
 closed (OfFiles s) e = carried_deep (rule s)
 closed Nowhere e = refl
 
-agree : (s : TableSort) → is_deep s ≡ true → table_rule script_rows s ≡ deep_rule s
+pub agree : (s : TableSort) → is_deep s ≡ true → table_rule script_rows s ≡ deep_rule s
 agree s e = sym (ap (λ b. when_deep b s) e)
 
 -- the table's forms, and those of the phrases that are asked for
@@ -89,6 +89,10 @@ deep_sound signs x e = from_deep signs x.value x.uses x.rest (sound (table_heads
 deep_complete : (signs : List Sign) (t : Tree) (us : List (Use Role)) → IsScript signs t us → reads_deep signs ≡ found t us []
 deep_complete signs t us d = complete (table_heads script_rows) deep_tails true (IsSort (table_heads script_rows) deep_rule levels) (shorter (table_heads script_rows) deep_tails deep_rule all_fit levels) (begins (table_heads script_rows) deep_tails deep_rule all_fit levels) (read_sort (table_heads script_rows) deep_rule levels) (spelled_is_read (table_heads script_rows) deep_tails deep_rule all_fit levels) script_form script_fits signs t us [] (to_deep signs t us [] d) refl
 
+-- tokens spell one script at most
+pub one_script : (signs : List Sign) (s t : Tree) (us vs : List (Use Role)) → IsScript signs s us → IsScript signs t vs → s ≡ t
+one_script signs s t us vs d e = ap (λ (x : Found Role Tree). x.value) (same_found (record { value = s; uses = us; rest = [] }) (record { value = t; uses = vs; rest = [] }) (sym (deep_complete signs s us d) ∙ deep_complete signs t vs e))
+
 deep_local : Local reads_deep
 deep_local = local (table_heads script_rows) true (read_sort (table_heads script_rows) deep_rule levels) (sort_local (table_heads script_rows) deep_tails deep_rule all_fit levels) (takes_more (table_heads script_rows) deep_tails deep_rule all_fit levels) script_form script_steady
 
@@ -102,15 +106,15 @@ second_of : {A : Type 0} (a b : A) (c : Bool) → c ≡ false → (if c then a e
 second_of a b false e = refl
 second_of a b true e = absurd (cc)
 
-crowded : (limit live : ℕ) (t : Tree) → limit < live + nodes_of t → roomed limit live t ≡ Err (Build (Full (nodes_of t)))
+crowded : (limit live : ℕ) (t : Tree) → limit < live + nodes_of t → with_room limit live t ≡ Err (Build (Full (nodes_of t)))
 crowded limit live t l = first_of {A = Result (List Tree) ScriptError} (Err (Build (Full (nodes_of t)))) (Ok (items t)) (nat_lt limit (live + nodes_of t)) (grind (arith, nat_tests))
 
-roomy : (limit live : ℕ) (t : Tree) → live + nodes_of t ≤ limit → roomed limit live t ≡ Ok (items t)
+roomy : (limit live : ℕ) (t : Tree) → live + nodes_of t ≤ limit → with_room limit live t ≡ Ok (items t)
 roomy limit live t l = second_of {A = Result (List Tree) ScriptError} (Err (Build (Full (nodes_of t)))) (Ok (items t)) (nat_lt limit (live + nodes_of t)) (grind (arith, nat_tests))
 
-either_way : (limit live : ℕ) (t : Tree) → ((live + nodes_of t ≤ limit) × (roomed limit live t ≡ Ok (items t))) ⊎ (roomed limit live t ≡ Err (Build (Full (nodes_of t))))
+either_way : (limit live : ℕ) (t : Tree) → ((live + nodes_of t ≤ limit) × (with_room limit live t ≡ Ok (items t))) ⊎ (with_room limit live t ≡ Err (Build (Full (nodes_of t))))
 either_way limit live t = by_test (nat_lt limit (live + nodes_of t)) refl where
-  by_test : (b : Bool) → nat_lt limit (live + nodes_of t) ≡ b → ((live + nodes_of t ≤ limit) × (roomed limit live t ≡ Ok (items t))) ⊎ (roomed limit live t ≡ Err (Build (Full (nodes_of t))))
+  by_test : (b : Bool) → nat_lt limit (live + nodes_of t) ≡ b → ((live + nodes_of t ≤ limit) × (with_room limit live t ≡ Ok (items t))) ⊎ (with_room limit live t ≡ Err (Build (Full (nodes_of t))))
   by_test true i = inr (let l : limit < live + nodes_of t = grind (arith, nat_tests) in crowded limit live t l)
   by_test false i = inl (let l : live + nodes_of t ≤ limit = grind (arith, nat_tests) in (l, roomy limit live t l))
 
@@ -121,7 +125,7 @@ read_whole limit live end signs steps (Err f) i e = absurd (cc)
 read_whole limit live end signs steps (Ok x) i e = by_rest x.rest refl where
   by_rest : (l : List Sign) → x.rest ≡ l → Takes limit live signs steps
   by_rest [] j =
-      let k : roomed limit live x.value ≡ Ok steps = ap (ended limit live end x.value) (sym j) ∙ e in
+      let k : with_room limit live x.value ≡ Ok steps = ap (to_end limit live end x.value) (sym j) ∙ e in
       elim (either_way limit live x.value) as (λ _. Takes limit live signs steps) [
         | inl w ↦ record {
           script = x.value;
@@ -132,13 +136,13 @@ read_whole limit live end signs steps (Ok x) i e = by_rest x.rest refl where
         }
         | inr w ↦ absurd (let m = sym k ∙ w in cc)
       ]
-  by_rest (s ∷ l) j = absurd (let k = ap (ended limit live end x.value) (sym j) ∙ e in cc)
+  by_rest (s ∷ l) j = absurd (let k = ap (to_end limit live end x.value) (sym j) ∙ e in cc)
 
 pub accepts : (limit live from : ℕ) (signs : List Sign) (steps : List Tree) → script_of script_row limit live from signs ≡ Ok steps → Takes limit live signs steps
 unfolding script_of
 accepts limit live from signs steps e = read_whole limit live (from + length signs) signs steps (reads_deep signs) refl (ap (of_read limit live (from + length signs)) (sym (row_reads signs)) ∙ e)
 
-by_read : (limit live from : ℕ) (signs : List Sign) (t : Tree) (us : List (Use Role)) → IsScript signs t us → script_of script_row limit live from signs ≡ roomed limit live t
+by_read : (limit live from : ℕ) (signs : List Sign) (t : Tree) (us : List (Use Role)) → IsScript signs t us → script_of script_row limit live from signs ≡ with_room limit live t
 unfolding script_of
 by_read limit live from signs t us d = ap (of_read limit live (from + length signs)) (row_reads signs ∙ deep_complete signs t us d)
 
@@ -175,14 +179,14 @@ not_read limit live end token e (Err (Nesting k)) i n = sym (subst (λ z. Names 
 not_read limit live end token e (Ok x) i n = by_rest x.rest refl where
   by_rest : (l : List Sign) → x.rest ≡ l → NotRead end token (Ok x)
   by_rest [] j =
-      let k : roomed limit live x.value ≡ Err e = ap (ended limit live end x.value) (sym j) ∙ i in
+      let k : with_room limit live x.value ≡ Err e = ap (to_end limit live end x.value) (sym j) ∙ i in
       elim (either_way limit live x.value) as (λ _. NotRead end token (Ok x)) [
         | inl w ↦ absurd (let m = sym k ∙ w.1 in cc)
         | inr w ↦ absurd (subst (λ z. Names z token) (is_err e (Build (Full (nodes_of x.value))) (sym k ∙ w)) n)
       ]
   by_rest (s ∷ l) j =
-      let k : (let r : Result (List Tree) ScriptError = Err (stopped (end - length (s ∷ l)) (s ∷ l)) in r) ≡ Err e = ap (ended limit live end x.value) (sym j) ∙ i in
-      let m = stopped_names (next_is begins_step (s ∷ l)) (end - length (s ∷ l)) token e (is_err (stopped (end - length (s ∷ l)) (s ∷ l)) e k) n in
+      let k : (let r : Result (List Tree) ScriptError = Err (stop_at (end - length (s ∷ l)) (s ∷ l)) in r) ≡ Err e = ap (to_end limit live end x.value) (sym j) ∙ i in
+      let m = stopped_names (next_is begins_step (s ∷ l)) (end - length (s ∷ l)) token e (is_err (stop_at (end - length (s ∷ l)) (s ∷ l)) e k) n in
       (let o = ap length j in omega (arith, o), m ∙ ap (λ z. end - length z) (sym j))
 
 dead : (from token : ℕ) (signs : List Sign) (r : Read Role Tree) → NotRead (from + length signs) token r → LocalAt reads_deep signs r → Dead IsSomeScript signs (from + length signs - token)

@@ -16,7 +16,7 @@ use Rattle.cv_print_back.proofs.Back.{game_comes_back}
 use Rattle.cv_print_files.specs.Back.{ComesBack, Declares, IsFileText, IsFlat, IsShallow, NamesObey}
 use Rattle.cv_print_files.proofs.Flat.{game_flat}
 use Rattle.cv_print_files.proofs.GameNames.{no_fault_back}
-use Rattle.cv_print_files.proofs.SmallSigns.{game_numbers, tokens_of_text}
+use Rattle.cv_print_numbers.proofs.SmallSigns.{game_numbers, tokens_of_text}
 
 pub names_obey : (limit : ℕ) (signs : List Sign) (p : Parsed) (trees : List KindTree) (ds : List Decl) → Says limit signs p → Declares trees ds p → NamesObey ds p.game
 names_obey limit signs p trees ds w d = no_fault_back limit signs p trees ds (says_is_said limit signs p w) d

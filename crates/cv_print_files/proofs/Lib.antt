@@ -4,8 +4,6 @@ pub mod Files
 pub mod Flat
 pub mod GameNames
 pub mod ListTales
-pub mod NumberRows
-pub mod Numbering
 pub mod Passing
 pub mod PrintNames
 pub mod ProcessTales
@@ -13,7 +11,6 @@ pub mod Quiet
 pub mod Rows
 pub mod Saying
 pub mod Small
-pub mod SmallSigns
 pub mod Tales
 pub mod TermTales
 pub mod TextNames

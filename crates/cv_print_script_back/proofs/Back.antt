@@ -1,14 +1,14 @@
 -- What is spelled to the end, with the levels of a script, is read.
-use Rattle.std.proofs.Common.{◌≡◌, ℕ, suc, ◌+◌, ◌≤◌, List}
+use Rattle.std.proofs.Common.{ℕ, suc, ◌+◌, ◌≤◌, List}
 use Rattle.cv_syntax.specs.Tree.{Tree}
 use Rattle.cv_parse_notation.specs.Spells.{IsSort}
 use Rattle.cv_parse_terminals.specs.ScriptSigns.{script_signs}
 use Rattle.cv_parse_grammar.specs.Files.{levels}
 use Rattle.cv_parse_script.specs.Scripts.{items, nodes_of}
-use Rattle.cv_parse_script_laws.proofs.Deciding.{takes}
+use Rattle.cv_parse_script_laws.proofs.Deciding.{one_script, takes}
 use Rattle.cv_script.specs.Rows.{script_row, script_rows}
 use Rattle.cv_print_steps.specs.Shown.{Words}
-use Rattle.cv_print_scripts.specs.Texts.{IsReadAs, words_among}
+use Rattle.cv_print_scripts.specs.Texts.{IsReadAs, IsUnambiguous, words_among}
 use Rattle.cv_print_script_back.specs.Back.{ComesBack}
 
 pub comes_back : (limit live from : ℕ) (names : List (List ℕ)) (text : List ℕ) (needs : Words → ℕ) (t : Tree) → IsReadAs names text script_rows script_row needs t → ((words : Words) → needs words ≤ suc levels) → live + nodes_of t ≤ limit → ComesBack limit live from names text (items t)
@@ -16,3 +16,8 @@ unfolding IsSort
 comes_back limit live from names text needs t r fits room =
     let s = r.spelled (suc levels) (fits (words_among (script_signs names r.tokens).names)) in
     record { tokens = r.tokens; lexed = r.lexed; read = takes limit live from (script_signs names r.tokens).signs t s.0 s.1 room }
+
+-- signs spell one script at most
+pub unambiguous : IsUnambiguous script_rows script_row (suc levels)
+unfolding IsSort
+unambiguous ss s t us vs d e = one_script ss s t us vs d e

@@ -1,6 +1,6 @@
 use Rattle.std.proofs.Common.{refl}
 use Rattle.cv_parse_script.specs.declared.error.ScriptError.TheVariants.{Script, Unbuilt}
-use Rattle.cv_parse_script_laws.proofs.Deciding.{accepts, fills, refuses, takes}
+use Rattle.cv_parse_script_laws.proofs.Deciding.{accepts, fills, one_script, refuses, takes}
 use Rattle.cv_parse_script_laws.proofs.laws.scripts_are_decided.Goals as goal
 
 pub returns-clause-accepted : goal.returns-clause-accepted
@@ -8,6 +8,9 @@ returns-clause-accepted c = accepts
 
 pub returns-clause-taken : goal.returns-clause-taken
 returns-clause-taken c = takes
+
+pub returns-clause-unique : goal.returns-clause-unique
+returns-clause-unique c = one_script
 
 pub returns-clause-full : goal.returns-clause-full
 returns-clause-full c = fills

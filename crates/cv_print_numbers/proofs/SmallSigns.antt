@@ -34,8 +34,8 @@ use Rattle.cv_parse_grammar.specs.Files.{levels}
 use Rattle.cv_parse_grammar.specs.Rules.{File, file}
 use Rattle.cv_parse_grammar.specs.Whole.{IsRead}
 use Rattle.cv_print_bytes.specs.Known.{is_named}
-use Rattle.cv_print_files.proofs.Numbering.{AreSmall, IsSmall, fits_label, forms_tell}
-use Rattle.cv_print_files.proofs.NumberRows.{HasNumbers, SmallOf, filled_small, of_file, rows}
+use Rattle.cv_print_numbers.proofs.Numbering.{AreSmall, IsSmall, fits_label, forms_tell}
+use Rattle.cv_print_numbers.proofs.NumberRows.{HasNumbers, SmallOf, filled_small, of_file, rows}
 
 -- a number of the lexis fits 64 bits
 
@@ -66,7 +66,7 @@ decided_fits false false true d bs v m e = absurd (cc)
 decided_fits false false false true bs v m e = number_is (prefix_len is_ascii_digit bs) (value_of (take (prefix_len is_ascii_digit bs) bs)) v m e
 decided_fits false false false false bs v m e = absurd (symbol_is (longest symbols bs) v m e)
 
-number_fits : (v : ℕ) (text : List ℕ) → IsToken (kind.Number v) text → fits_label v ≡ true
+pub number_fits : (v : ℕ) (text : List ℕ) → IsToken (kind.Number v) text → fits_label v ≡ true
 number_fits v [] e = absurd (cc)
 number_fits v (b ∷ bs) e = decided_fits (is_blank b) (opens_comment (b ∷ bs)) (is_ascii_alphabetic b) (is_ascii_digit b) (b ∷ bs) v (length (b ∷ bs)) e
 

@@ -18,7 +18,7 @@ use Rattle.cv_parse_grammar.specs.Processes.{stops, yields, name_of, channel, ch
 use Rattle.cv_parse_grammar.specs.Rules.{file, rule}
 use Rattle.cv_parse_laws.specs.Yields.{IfThere}
 use Rattle.cv_print_bytes.specs.Known.{head_is_named, is_named}
-use Rattle.cv_print_files.proofs.Numbering.{Gives, Holds, a_find, a_number, a_word, anything, before, behind, below, fits_label, follow, leveled, one_of, perhaps, several, turned}
+use Rattle.cv_print_numbers.proofs.Numbering.{Gives, Holds, a_find, a_number, a_word, anything, before, behind, below, fits_label, follow, leveled, one_of, perhaps, several, turned}
 
 module _ (count : ℕ) (some : nat_lt 0 count ≡ true) where
   -- the names of a tree are below the count, and its labels fit

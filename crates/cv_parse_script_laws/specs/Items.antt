@@ -1,0 +1,22 @@
+-- Which steps have items, and which of them have a rule.
+use Rattle.std.specs.Prelude.{◌≡◌, Bool, true, false, Some}
+use Rattle.cv_syntax.specs.Tree.{Tree}
+use Rattle.cv_script.specs.Views.{StepItems, Split, Let, New, Unnew, items_of_step}
+
+-- the steps that have a rule
+abbrev pub is_built : StepItems → Bool
+is_built (Split p m) = true
+is_built (Let p x T m) = true
+is_built (New p x T) = true
+is_built (Unnew x) = true
+is_built i = false
+
+-- all steps
+abbrev pub is_any : StepItems → Bool
+is_any i = true
+
+-- the tree has the items of a step, which pass a test
+pub record HasItems (test : StepItems → Bool) (t : Tree) : Type 0 where
+  pub items : StepItems
+  pub are : items_of_step t ≡ Some items
+  pub pass : test items ≡ true

@@ -1,0 +1,3 @@
+pub mod NumberRows
+pub mod Numbering
+pub mod SmallSigns

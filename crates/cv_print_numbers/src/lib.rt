@@ -1,0 +1,2 @@
+// Laws of the numbers in what is read: names are below their count, and labels fit.
+#![tactic(auto)]
