@@ -1,0 +1,4 @@
+pub mod Steps
+pub mod Rules
+pub mod Sequences
+pub mod Proofs

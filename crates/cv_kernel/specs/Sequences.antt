@@ -1,0 +1,85 @@
+-- What a sequence of games holds, and what a step does to it.
+use Rattle.std.specs.Prelude.{◌≡◌, ℕ, suc, ◌+◌, ◌<◌, ◌≤◌, false, List, length, Option, Some, None, IfSome, IsSome, Result, Ok, Err}
+use Rattle.cv_pool.specs.KindTree.{KindTree}
+use Rattle.cv_pool.specs.PoolView.{PoolView}
+use Rattle.cv_syntax.specs.Classes.{DeclsView}
+use Rattle.cv_syntax.specs.declared.work.BuildError.TheVariants as build
+use Rattle.cv_syntax.specs.Tree.{Tree, size, tree_at}
+use Rattle.cv_directory.specs.Sites.{sites_of}
+use Rattle.cv_typing.specs.Signature.{OfGame}
+use Rattle.cv_typing.specs.Tables.{arrays_of}
+use Rattle.cv_bound.specs.Sums.{AllFit, added}
+use Rattle.cv_rule.specs.Kept.{scene_of}
+use Rattle.cv_steps.specs.Costs.{cost_of}
+use Rattle.cv_steps.specs.Judgements.{Judgement, Refused, TooLarge, TooDeep, Accepted, judgement_of, most_nodes}
+use Rattle.cv_steps.specs.Steps.{Step, Cost}
+use Rattle.cv_kernel.specs.Rules.{HasNoRoom, need_of}
+use Rattle.cv_kernel.specs.Steps.{judgement_by, step_in}
+use Rattle.cv_kernel.specs.declared.error.PushError.{PushError}
+use Rattle.cv_kernel.specs.declared.error.PushError.TheVariants as push
+use Rattle.cv_kernel.specs.declared.error.RuleError.{RuleError}
+use Rattle.cv_kernel.specs.declared.error.RuleError.TheVariants as rule
+use Rattle.cv_kernel.specs.declared.sequence.Sequence.{Sequence}
+
+abbrev pub push_fault : RuleError → PushError
+push_fault (rule.Refused f) = push.Refused f
+push_fault (rule.Build e) = push.Build e
+
+abbrev pub game_in : List KindTree → Sequence → Tree
+game_in trees s = tree_at trees (Some s.game.root)
+
+-- The last game is a live one within the limits, and what there is to read in it was looked up there.
+pub record Stands (trees : List KindTree) (s : Sequence) : Type 0 where
+  pub live : s.game.root.0 < length trees
+  pub small : size (game_in trees s) ≤ most_nodes
+  pub arrays : IfSome s.arrays (λ a. arrays_of a ≡ OfGame (sites_of (game_in trees s)))
+  pub fits : AllFit s.sum
+  pub few : s.steps ≤ 2000
+
+abbrev pub IsReady : List KindTree → Sequence → Type 0
+IsReady trees s = IsSome s.arrays
+
+-- the same game, with what led to it
+pub record Same (old new : Sequence) : Type 0 where
+  pub game : new.game ≡ old.game
+  pub steps : new.steps ≡ old.steps
+  pub cost : new.cost ≡ old.cost
+  pub sum : new.sum ≡ old.sum
+
+-- how many nodes a step may add
+
+abbrev pub needed_by : Tree → Option Step → ℕ
+needed_by game None = 0
+needed_by game (Some step) = need_of game step
+
+abbrev pub needed : (game step : Tree) → ℕ
+needed game step = needed_by game (step_in step)
+
+-- the step was accepted: the sequence has its next game, its cost, and the sum with it
+pub record IsTaken (limit live : ℕ) (need : ℕ) (j : Judgement) (trees : List KindTree) (old new : Sequence) : Type 0 where
+  pub cost : Cost
+  pub accepted : j ≡ Accepted (game_in trees new) cost
+  pub steps : new.steps ≡ suc old.steps
+  pub costs : new.cost ≡ Some (cost_of cost)
+  pub sum : new.sum ≡ added old.sum (cost_of cost) false
+  pub room : live + need ≤ limit
+
+-- Each answer is what is said of the step; memory may run out anywhere.
+abbrev pub IsPushAnswer : (limit live need : ℕ) → Judgement → List KindTree → (old new : Sequence) → Result (Unit {0}) PushError → Type 0
+IsPushAnswer limit live need j trees old new (Ok u) = IsTaken limit live need j trees old new
+IsPushAnswer limit live need j trees old new (Err (push.Refused f)) = j ≡ Refused f.condition f.place
+IsPushAnswer limit live need j trees old new (Err push.Steps) = ⊥
+IsPushAnswer limit live need j trees old new (Err (push.Build (build.Nodes count))) = j ≡ TooLarge count
+IsPushAnswer limit live need j trees old new (Err (push.Build (build.Depth depth))) = j ≡ TooDeep depth
+IsPushAnswer limit live need j trees old new (Err (push.Build (build.Full asked))) = HasNoRoom limit live need j asked
+IsPushAnswer limit live need j trees old new (Err (push.Build build.OutOfMemory)) = Unit {0}
+
+abbrev pub IsAdvanced : PoolView → DeclsView → List KindTree → (old new : Sequence) → Step → Result (Unit {0}) PushError → Type 0
+IsAdvanced pool decls trees old new step r =
+    IsPushAnswer pool.limit (length pool.trees) (need_of (game_in pool.trees old) step) (judgement_of (scene_of pool decls old.game.root) step) trees old new r
+
+-- as many steps were taken as a proof may have, or the step was answered
+abbrev pub IsPushed : PoolView → DeclsView → List KindTree → (old new : Sequence) → (step : Tree) → Result (Unit {0}) PushError → Type 0
+IsPushed pool decls trees old new step (Err push.Steps) = 2000 ≤ old.steps
+IsPushed pool decls trees old new step r =
+    (old.steps < 2000) × IsPushAnswer pool.limit (length pool.trees) (needed (game_in pool.trees old) step) (judgement_by (scene_of pool decls old.game.root) (step_in step)) trees old new r

@@ -1,0 +1,215 @@
+ghost use Rattle.std.specs.Prelude.{◌≡◌, ◌+◌, ◌<◌, ◌≤◌, ◌^◌, All, IfErr, IfOk, None, OnErr, OnOk, Some, length, take, true};
+ghost use Rattle.cv_pool.specs.PoolView.{Grows};
+ghost use Rattle.cv_syntax.specs.Declarations.{declarations};
+ghost use Rattle.cv_syntax.specs.Tree as tree;
+ghost use Rattle.cv_syntax.specs.Tree.{tree_at};
+ghost use Rattle.cv_directory.specs.Sites.{sites_of};
+ghost use Rattle.cv_typing.specs.Lookups.{IsLive};
+ghost use Rattle.cv_typing.specs.Signature.{OfGame};
+ghost use Rattle.cv_typing.specs.Tables.{arrays_of};
+ghost use Rattle.cv_steps.specs.Judgements.{judgement_of};
+ghost use Rattle.cv_steps.specs.Terms as terms;
+ghost use Rattle.cv_rule.specs.Kept.{scene_of};
+ghost use Rattle.cv_rule.specs.Stated.{failed, failure_of, step_of};
+ghost use Rattle.cv_kernel.specs.Rules.{IsAnswer, IsNoGame, IsShortRule, limit_fault, need_of, next_of};
+ghost use Rattle.cv_bound.specs.declared.cost.Cost.TheVariants.{Zero};
+
+use crate::drawing::{draw_next, extent_of};
+use crate::error::RuleError;
+use cv_bound::Cost;
+use cv_draw::Extent;
+use cv_rule::{Failure, Rule, conditions, is_game};
+use cv_syntax::{BuildError, Game, Mark, NodeId, Pool, Work};
+use cv_typing::Arrays;
+use std::alloc::Global;
+
+/// The most syntax nodes of a game.
+const MOST_NODES: u32 = 50_000;
+
+/// The most syntax nodes on a path of a game.
+const MOST_DEPTH: u32 = 200;
+
+/// The game that a step leads to, with what there is to read in it, and what the step costs.
+#[derive(Drop)]
+pub struct Next {
+    pub game: Game,
+    pub arrays: Arrays,
+    pub cost: Cost,
+}
+
+/// A step that fails a condition at no place.
+fn refused(condition: u32) -> RuleError
+    ensures { result ≡ RuleError.Refused (failed condition 0) }
+{
+    RuleError::Refused(Failure {
+        condition,
+        place: 0,
+    })
+}
+
+/// Whether a game of this size is within the limits.
+fn check_limits(extent: Extent) -> Result<(), BuildError>
+    ensures within { OnOk result (limit_fault extent.nodes extent.depth ≡ None) }
+    ensures over { IfErr result (λ e. limit_fault extent.nodes extent.depth ≡ Some e) }
+{
+    if extent.nodes > MOST_NODES {
+        return Err(BuildError::Nodes {
+            count: extent.nodes,
+        });
+    }
+    if extent.depth > MOST_DEPTH {
+        return Err(BuildError::Depth {
+            depth: extent.depth,
+        });
+    }
+    Ok(())
+}
+
+/// The game at a node, where it is one.
+fn game_at(alloc: Global, work: &Work, root: NodeId) -> Result<Next, RuleError>
+    requires live { root.0 < length work.now.pool.trees }
+    requires declared { All (IsLive (length work.now.pool.trees)) work.now.decls.list }
+    requires fits { tree.size (tree_at work.now.pool.trees (Some root)) < 2 ^ 32 }
+    ensures root { IfOk result (λ next. next.game.root ≡ root) }
+    ensures cost { IfOk result (λ next. next.cost ≡ Zero) }
+    ensures game { OnOk result (terms.is_game
+        (declarations work.now.pool.trees work.now.decls.list)
+        (tree_at work.now.pool.trees (Some root)) ≡ true) }
+    ensures arrays { IfOk result (λ next. arrays_of next.arrays
+        ≡ OfGame (sites_of (tree_at work.now.pool.trees (Some root)))) }
+    ensures none { IfErr result (IsNoGame (terms.is_game
+        (declarations work.now.pool.trees work.now.decls.list)
+        (tree_at work.now.pool.trees (Some root)))) }
+{
+    let game = Game { root };
+    match is_game(alloc, work, game)? {
+        Some(arrays) => Ok(Next {
+            game,
+            arrays,
+            cost: Cost::Zero,
+        }),
+        None => Err(refused(9)),
+    }
+}
+
+/// Makes the next game of a step whose conditions hold.
+fn make(alloc: Global, work: &mut Work, game: NodeId, rule: Rule) -> Result<Next, RuleError>
+    requires live { game.0 < length work.old.pool.trees }
+    requires small { tree.size (tree_at work.old.pool.trees (Some game)) ≤ 50000 }
+    requires declared { All (IsLive (length work.old.pool.trees)) work.old.decls.list }
+    requires rule { IsShortRule work.old.pool.trees rule }
+    requires few { length work.old.pool.trees + 4 < 2 ^ 32 }
+    requires limit { work.old.pool.limit < 4294967295 }
+    requires met { failure_of (scene_of work.old.pool work.old.decls game)
+        (step_of work.old.pool.trees rule) ≡ None }
+    ensures answer { IsAnswer work.old.pool.limit (length work.old.pool.trees)
+        (need_of (tree_at work.old.pool.trees (Some game)) (step_of work.old.pool.trees rule))
+        (judgement_of (scene_of work.old.pool work.old.decls game)
+        (step_of work.old.pool.trees rule)) work.new.pool.trees result }
+    ensures live { IfOk result (λ next. next.game.root.0 < length work.new.pool.trees) }
+    ensures arrays { IfOk result (λ next. arrays_of next.arrays ≡ OfGame
+        (sites_of (tree_at work.new.pool.trees (Some next.game.root)))) }
+    ensures grows { Grows work.old.pool work.new.pool }
+    ensures few { OnOk result (length work.new.pool.trees ≤ length work.old.pool.trees + need_of
+        (tree_at work.old.pool.trees (Some game)) (step_of work.old.pool.trees rule)) }
+    ensures names { work.new.names ≡ work.old.names }
+    ensures decls { work.new.decls ≡ work.old.decls }
+{
+    let Some(extent) = extent_of(&work.pool, game, rule) else {
+        return Err(refused(0));
+    };
+    check_limits(extent)?;
+    let Some(root) = draw_next(alloc, &mut work.pool, game, rule)? else {
+        return Err(refused(9));
+    };
+    game_at(alloc, work, root)
+}
+
+/// Answers a step; where it isn't accepted, nodes may stay behind.
+pub fn attempt(
+    alloc: Global,
+    work: &mut Work,
+    game: NodeId,
+    arrays: &Arrays,
+    rule: Rule,
+) -> Result<Next, RuleError>
+    requires live { game.0 < length work.old.pool.trees }
+    requires small { tree.size (tree_at work.old.pool.trees (Some game)) ≤ 50000 }
+    requires declared { All (IsLive (length work.old.pool.trees)) work.old.decls.list }
+    requires arrays { arrays_of arrays.now
+        ≡ OfGame (sites_of (tree_at work.old.pool.trees (Some game))) }
+    requires rule { IsShortRule work.old.pool.trees rule }
+    requires few { length work.old.pool.trees + 4 < 2 ^ 32 }
+    requires limit { work.old.pool.limit < 4294967295 }
+    ensures answer { IsAnswer work.old.pool.limit (length work.old.pool.trees)
+        (need_of (tree_at work.old.pool.trees (Some game)) (step_of work.old.pool.trees rule))
+        (judgement_of (scene_of work.old.pool work.old.decls game)
+        (step_of work.old.pool.trees rule)) work.new.pool.trees result }
+    ensures live { IfOk result (λ next. next.game.root.0 < length work.new.pool.trees) }
+    ensures arrays { IfOk result (λ next. arrays_of next.arrays ≡ OfGame
+        (sites_of (tree_at work.new.pool.trees (Some next.game.root)))) }
+    ensures grows { Grows work.old.pool work.new.pool }
+    ensures few { OnOk result (length work.new.pool.trees ≤ length work.old.pool.trees + need_of
+        (tree_at work.old.pool.trees (Some game)) (step_of work.old.pool.trees rule)) }
+    ensures names { work.new.names ≡ work.old.names }
+    ensures decls { work.new.decls ≡ work.old.decls }
+{
+    if let Some(failure) = conditions(alloc, work, game, arrays, rule)? {
+        return Err(RuleError::Refused(failure));
+    }
+    make(alloc, work, game, rule)
+}
+
+/// An outcome, after which the pool is as it was before where it is a refusal. Nodes are given back here alone.
+pub fn settle<T: Drop, E: Copy>(
+    pool: &mut Pool,
+    before: Mark,
+    outcome: Result<T, E>,
+) -> Result<T, E>
+    requires { before.0 ≤ length pool.old.trees }
+    ensures same { result ≡ outcome }
+    ensures ok { OnOk result (pool.new ≡ pool.old) }
+    ensures back { OnErr result (pool.new.trees ≡ take before.0 pool.old.trees) }
+    ensures limit { pool.new.limit ≡ pool.old.limit }
+{
+    if outcome.is_err() {
+        pool.release(before);
+    }
+    outcome
+}
+
+/// Applies a step in a game. Its conditions are tested first, then the limits of the next game, then the pool is
+/// asked for room, and last the next game is tested. Where the step isn't accepted the pool is as it was.
+pub fn apply(
+    alloc: Global,
+    work: &mut Work,
+    game: NodeId,
+    arrays: &Arrays,
+    rule: Rule,
+) -> Result<Next, RuleError>
+    requires live { game.0 < length work.old.pool.trees }
+    requires small { tree.size (tree_at work.old.pool.trees (Some game)) ≤ 50000 }
+    requires declared { All (IsLive (length work.old.pool.trees)) work.old.decls.list }
+    requires arrays { arrays_of arrays.now
+        ≡ OfGame (sites_of (tree_at work.old.pool.trees (Some game))) }
+    requires rule { IsShortRule work.old.pool.trees rule }
+    requires few { length work.old.pool.trees + 4 < 2 ^ 32 }
+    requires limit { work.old.pool.limit < 4294967295 }
+    ensures answer { IsAnswer work.old.pool.limit (length work.old.pool.trees)
+        (need_of (tree_at work.old.pool.trees (Some game)) (step_of work.old.pool.trees rule))
+        (judgement_of (scene_of work.old.pool work.old.decls game)
+        (step_of work.old.pool.trees rule)) work.new.pool.trees result }
+    ensures live { IfOk result (λ next. next.game.root.0 < length work.new.pool.trees) }
+    ensures arrays { IfOk result (λ next. arrays_of next.arrays ≡ OfGame
+        (sites_of (tree_at work.new.pool.trees (Some next.game.root)))) }
+    ensures grows { Grows work.old.pool work.new.pool }
+    ensures few { OnOk result (length work.new.pool.trees ≤ length work.old.pool.trees + need_of
+        (tree_at work.old.pool.trees (Some game)) (step_of work.old.pool.trees rule)) }
+    ensures kept { OnErr result (work.new.pool.trees ≡ work.old.pool.trees) }
+    ensures names { work.new.names ≡ work.old.names }
+    ensures decls { work.new.decls ≡ work.old.decls }
+{
+    let before = work.pool.mark();
+    let outcome = attempt(alloc, work, game, arrays, rule);
+    settle(&mut work.pool, before, outcome)
+}

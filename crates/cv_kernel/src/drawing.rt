@@ -1,0 +1,192 @@
+ghost use Rattle.std.specs.Prelude.{◌≡◌, ◌+◌, ◌<◌, ◌≤◌, ◌^◌, IfErr, IfOk, IfSome, IsNone, OnErr, OnOk, Some, length};
+ghost use Rattle.cv_pool.specs.Nodes.{ChildBelow};
+ghost use Rattle.cv_pool.specs.PoolView.{Grows};
+ghost use Rattle.cv_syntax.specs.Tree as tree;
+ghost use Rattle.cv_syntax.specs.Tree.{tree_at};
+ghost use Rattle.cv_path.specs.declared.error.PathError.{PathError};
+ghost use Rattle.cv_steps.specs.Changes.{change_at, only, without};
+ghost use Rattle.cv_rule.specs.Stated.{step_of};
+ghost use Rattle.cv_draw.specs.Changes as changes;
+ghost use Rattle.cv_draw.specs.Changes.{TermIsLive};
+ghost use Rattle.cv_draw.specs.Dropping.{need_without};
+ghost use Rattle.cv_kernel.specs.Rules.{HasNoPlace, IsDrawFault, IsShortRule, need_of, next_of, of_path, of_pool};
+
+use crate::error::RuleError;
+use cv_draw::{Change, Extent, draw, drop_variable, measure, measure_without};
+use cv_path::PathError;
+use cv_pool::PoolError;
+use cv_rule::{Failure, Rule};
+use cv_syntax::{BuildError, NodeId, Pool};
+use std::alloc::Global;
+
+/// How large the next game of a step is. There is no answer where the game has no such place.
+pub fn extent_of(pool: &Pool, game: NodeId, rule: Rule) -> Option<Extent>
+    requires live { game.0 < length pool.now.trees }
+    requires small { tree.size (tree_at pool.now.trees (Some game)) ≤ 50000 }
+    requires rule { IsShortRule pool.now.trees rule }
+    ensures nodes { IfSome result (λ e. e.nodes ≡ tree.size
+        (next_of (tree_at pool.now.trees (Some game)) (step_of pool.now.trees rule))) }
+    ensures depth { IfSome result (λ e. e.depth ≡ tree.depth
+        (next_of (tree_at pool.now.trees (Some game)) (step_of pool.now.trees rule))) }
+    ensures none { IsNone result → HasNoPlace (tree_at pool.now.trees (Some game))
+        (step_of pool.now.trees rule) }
+{
+    match rule {
+        Rule::Split { place, condition } => {
+            measure(pool, game, place, Change::Split { condition })
+        }
+        Rule::Let {
+            place,
+            name,
+            of_type,
+            term,
+        } => measure(
+            pool,
+            game,
+            place,
+            Change::AfterLet {
+                name,
+                of_type,
+                term,
+            },
+        ),
+        Rule::New {
+            place,
+            name,
+            of_type,
+        } => measure(pool, game, place, Change::AfterNew { name, of_type }),
+        Rule::Unnew { name } => Some(measure_without(pool, game, name)),
+    }
+}
+
+/// How a pool without room ends a step.
+fn no_room(fault: PoolError) -> RuleError
+    ensures { result ≡ of_pool fault }
+{
+    match fault {
+        PoolError::Full { need } => RuleError::Build(BuildError::Full { need }),
+        PoolError::OutOfMemory => RuleError::Build(BuildError::OutOfMemory),
+    }
+}
+
+/// How a drawing that isn't made ends a step.
+fn no_drawing(fault: PathError) -> RuleError
+    ensures { result ≡ of_path fault }
+{
+    match fault {
+        PathError::NoSuchPlace => RuleError::Refused(Failure {
+            condition: 0,
+            place: 0,
+        }),
+        PathError::Build(fault) => RuleError::Build(fault),
+    }
+}
+
+/// Makes the game with what stands at a place changed.
+fn draw_at(
+    alloc: Global,
+    pool: &mut Pool,
+    game: NodeId,
+    place: u32,
+    change: Change,
+) -> Result<Option<NodeId>, RuleError>
+    requires live { game.0 < length pool.old.trees }
+    requires term { TermIsLive (length pool.old.trees) change }
+    requires fits { tree.size (tree_at pool.old.trees (Some game)) < 2 ^ 32 }
+    requires few { length pool.old.trees + 4 < 2 ^ 32 }
+    ensures tree { IfOk result (λ n. tree_at pool.new.trees n ≡ change_at
+        (tree_at pool.old.trees (Some game)) place (changes.change_of pool.old.trees change)) }
+    ensures live { IfOk result (λ n. ChildBelow (length pool.new.trees) n) }
+    ensures grows { Grows pool.old pool.new }
+    ensures few { OnOk result (length pool.new.trees ≤ length pool.old.trees
+        + changes.need_of (tree_at pool.old.trees (Some game)) place change) }
+    ensures room { OnOk result (length pool.old.trees
+        + changes.need_of (tree_at pool.old.trees (Some game)) place change ≤ pool.old.limit) }
+    ensures fault { IfErr result (IsDrawFault pool.old.limit (length pool.old.trees)
+        (tree.size (tree_at pool.old.trees (Some game)) ≤ place)
+        (changes.need_of (tree_at pool.old.trees (Some game)) place change)) }
+{
+    match draw(alloc, pool, game, place, change) {
+        Ok(next) => Ok(Some(next)),
+        Err(fault) => Err(no_drawing(fault)),
+    }
+}
+
+/// Makes the game without the definitions of a variable.
+fn draw_without(
+    alloc: Global,
+    pool: &mut Pool,
+    game: NodeId,
+    x: u32,
+) -> Result<Option<NodeId>, RuleError>
+    requires live { game.0 < length pool.old.trees }
+    requires limit { pool.old.limit < 4294967295 }
+    ensures tree { IfOk result (λ n. tree_at pool.new.trees n
+        ≡ without (only x) (tree_at pool.old.trees (Some game))) }
+    ensures live { IfOk result (λ n. ChildBelow (length pool.new.trees) n) }
+    ensures grows { Grows pool.old pool.new }
+    ensures few { OnOk result (length pool.new.trees ≤ length pool.old.trees
+        + need_without x (tree_at pool.old.trees (Some game))) }
+    ensures room { OnOk result (length pool.old.trees
+        + need_without x (tree_at pool.old.trees (Some game)) ≤ pool.old.limit) }
+    ensures fault { IfErr result (IsDrawFault pool.old.limit (length pool.old.trees) ⊥
+        (need_without x (tree_at pool.old.trees (Some game)))) }
+{
+    match drop_variable(alloc, pool, game, x) {
+        Ok(next) => Ok(next),
+        Err(fault) => Err(no_room(fault)),
+    }
+}
+
+/// Makes the next game of a step.
+pub fn draw_next(
+    alloc: Global,
+    pool: &mut Pool,
+    game: NodeId,
+    rule: Rule,
+) -> Result<Option<NodeId>, RuleError>
+    requires live { game.0 < length pool.old.trees }
+    requires small { tree.size (tree_at pool.old.trees (Some game)) ≤ 50000 }
+    requires rule { IsShortRule pool.old.trees rule }
+    requires few { length pool.old.trees + 4 < 2 ^ 32 }
+    requires limit { pool.old.limit < 4294967295 }
+    ensures tree { IfOk result (λ n. tree_at pool.new.trees n ≡ next_of
+        (tree_at pool.old.trees (Some game)) (step_of pool.old.trees rule)) }
+    ensures live { IfOk result (λ n. ChildBelow (length pool.new.trees) n) }
+    ensures grows { Grows pool.old pool.new }
+    ensures few { OnOk result (length pool.new.trees ≤ length pool.old.trees
+        + need_of (tree_at pool.old.trees (Some game)) (step_of pool.old.trees rule)) }
+    ensures room { OnOk result (length pool.old.trees + need_of
+        (tree_at pool.old.trees (Some game)) (step_of pool.old.trees rule) ≤ pool.old.limit) }
+    ensures fault { IfErr result (IsDrawFault pool.old.limit (length pool.old.trees)
+        (HasNoPlace (tree_at pool.old.trees (Some game)) (step_of pool.old.trees rule))
+        (need_of (tree_at pool.old.trees (Some game)) (step_of pool.old.trees rule))) }
+{
+    match rule {
+        Rule::Split { place, condition } => {
+            draw_at(alloc, pool, game, place, Change::Split { condition })
+        }
+        Rule::Let {
+            place,
+            name,
+            of_type,
+            term,
+        } => draw_at(
+            alloc,
+            pool,
+            game,
+            place,
+            Change::AfterLet {
+                name,
+                of_type,
+                term,
+            },
+        ),
+        Rule::New {
+            place,
+            name,
+            of_type,
+        } => draw_at(alloc, pool, game, place, Change::AfterNew { name, of_type }),
+        Rule::Unnew { name } => draw_without(alloc, pool, game, name),
+    }
+}

@@ -1,0 +1,13 @@
+// The machine through which every step of a proof passes: what a step leads to, and sequences of games.
+#![tactic(auto)]
+
+mod applying;
+mod drawing;
+mod error;
+mod reading;
+mod sequence;
+
+pub use applying::{Next, apply};
+pub use error::{PushError, RuleError};
+pub use reading::rule_of;
+pub use sequence::Sequence;

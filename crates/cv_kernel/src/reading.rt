@@ -1,0 +1,42 @@
+ghost use Rattle.std.specs.Prelude.{◌≡◌, List, option_map};
+ghost use Rattle.cv_pool.specs.KindTree.{KindTree};
+ghost use Rattle.cv_rule.specs.Stated.{step_of};
+ghost use Rattle.cv_script.specs.Views.{items_of_view};
+ghost use Rattle.cv_kernel.specs.Steps.{narrow, narrow_place, step_of_items};
+
+use cv_rule::Rule;
+use cv_script::StepView;
+
+/// A place as the rules take it. No game has a place whose number has more than 32 bits, so the greatest
+/// number stands for all of these.
+fn place_of(number: u64) -> u32
+    ensures { result ≡ narrow_place number }
+{
+    number.min(4_294_967_295) as u32
+}
+
+/// The rule of a step by its items, where it has one.
+pub fn rule_of(view: StepView) -> Option<Rule>
+    ensures { (trees : List KindTree) → option_map (step_of trees) result
+        ≡ option_map narrow (step_of_items (items_of_view trees view)) }
+{
+    match view {
+        StepView::Split { place, cond } => Some(Rule::Split {
+            place: place_of(place),
+            condition: cond,
+        }),
+        StepView::Let { place, x, ty, term } => Some(Rule::Let {
+            place: place_of(place),
+            name: x.0,
+            of_type: ty.0,
+            term,
+        }),
+        StepView::New { place, x, ty } => Some(Rule::New {
+            place: place_of(place),
+            name: x.0,
+            of_type: ty.0,
+        }),
+        StepView::Unnew { x } => Some(Rule::Unnew { name: x.0 }),
+        _ => None,
+    }
+}

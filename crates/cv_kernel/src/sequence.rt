@@ -1,0 +1,174 @@
+ghost use Rattle.std.specs.Prelude.{◌≡◌, ◌+◌, ◌<◌, ◌≤◌, ◌^◌, [], All, IfSome, None, OnErr, OnOk, Some, length, option_map};
+ghost use Rattle.cv_pool.specs.PoolView.{Grows};
+ghost use Rattle.cv_syntax.specs.Tree as tree;
+ghost use Rattle.cv_syntax.specs.Tree.{tree_at};
+ghost use Rattle.cv_typing.specs.Lookups.{IsLive};
+ghost use Rattle.cv_bound.specs.Sums.{AllFit};
+ghost use Rattle.cv_steps.specs.Steps.{Step as StepTree};
+ghost use Rattle.cv_rule.specs.Stated.{step_of};
+ghost use Rattle.cv_kernel.specs.Rules.{IsShortRule, need_of};
+ghost use Rattle.cv_kernel.specs.Sequences.{IsAdvanced, IsPushed, IsReady, Same, Stands, needed};
+ghost use Rattle.cv_kernel.specs.Steps.{narrow, step_in};
+
+use crate::applying::{attempt, settle};
+use crate::error::PushError;
+use crate::reading::rule_of;
+use cv_bound::{Cost, Sum};
+use cv_directory::Directory;
+use cv_rule::{Failure, Rule};
+use cv_script::{Step, view};
+use cv_syntax::{Game, Pool, Work};
+use cv_typing::Arrays;
+use std::alloc::{AllocError, Global};
+
+/// The most steps of a proof.
+const MOST_STEPS: u32 = 2_000;
+
+/// The rule of a step, where it has one.
+fn rule_in(pool: &Pool, step: Step) -> Option<Rule>
+    requires live { step.0.0 < length pool.now.trees }
+    requires short { tree.size (tree_at pool.now.trees (Some step.0)) < 2 ^ 31 }
+    ensures rule { option_map (step_of pool.now.trees) result
+        ≡ option_map narrow (step_in (tree_at pool.now.trees (Some step.0))) }
+    ensures short { IfSome result (IsShortRule pool.now.trees) }
+{
+    rule_of(view(pool, step)?)
+}
+
+/// A sequence of games, by its last: each accepted step leads to the next.
+#[derive(Drop)]
+pub struct Sequence {
+    game: Game,
+    /// What there is to read in the game, once a step was tried in it.
+    arrays: Option<Arrays>,
+    steps: u32,
+    cost: Option<Cost>,
+    sum: Sum,
+}
+
+impl Sequence {
+    /// The sequence of a first game. Takes no memory.
+    pub fn start(alloc: Global, game: Game) -> Sequence
+        ensures game { result.game ≡ game }
+        ensures arrays { result.arrays ≡ None }
+        ensures steps { result.steps ≡ 0 }
+        ensures cost { result.cost ≡ None }
+        ensures sum { result.sum ≡ [] }
+    {
+        Sequence {
+            game,
+            arrays: None,
+            steps: 0,
+            cost: None,
+            sum: Sum::new(alloc),
+        }
+    }
+
+    /// The last game.
+    pub fn game(&self) -> Game
+        ensures { result ≡ self.now.game }
+    {
+        self.game
+    }
+
+    /// How many steps were accepted.
+    pub fn steps(&self) -> u32
+        ensures { result ≡ self.now.steps }
+    {
+        self.steps
+    }
+
+    /// The cost of the last accepted step, where there is one. Takes no memory.
+    pub fn cost(&self) -> Option<&Cost>
+        ensures { option_map (λ c. c.now) result ≡ self.now.cost }
+    {
+        self.cost.as_ref()
+    }
+
+    /// The sum of the costs: by no more does an adversary tell the last game from the first, where events are asked for.
+    pub fn sum(&self) -> &Sum
+        ensures { result.now ≡ self.now.sum }
+    {
+        &self.sum
+    }
+
+    /// Looks up what there is to read in the game.
+    fn prepare(&mut self, alloc: Global, work: &Work) -> Result<(), AllocError>
+        requires stands { Stands work.now.pool.trees self.old }
+        ensures ready { OnOk result (IsReady work.now.pool.trees self.new) }
+        ensures stands { Stands work.now.pool.trees self.new }
+        ensures same { Same self.old self.new }
+    {
+        if self.arrays.is_some() {
+            return Ok(());
+        }
+        let directory = Directory::of(alloc, &work.pool, &work.decls, self.game.root)?;
+        self.arrays = Some(Arrays::OfGame(directory));
+        Ok(())
+    }
+
+    /// Goes to the next game of a step; where there is none, nodes may stay behind.
+    fn advance(&mut self, alloc: Global, work: &mut Work, rule: Rule) -> Result<(), PushError>
+        requires ready { IsReady work.old.pool.trees self.old }
+        requires stands { Stands work.old.pool.trees self.old }
+        requires declared { All (IsLive (length work.old.pool.trees)) work.old.decls.list }
+        requires rule { IsShortRule work.old.pool.trees rule }
+        requires few { length work.old.pool.trees + 4 < 2 ^ 32 }
+        requires limit { work.old.pool.limit < 4294967295 }
+        requires steps { self.old.steps < 2000 }
+        ensures advanced { IsAdvanced work.old.pool work.old.decls work.new.pool.trees self.old
+            self.new (step_of work.old.pool.trees rule) result }
+        ensures stands { OnOk result (Stands work.new.pool.trees self.new) }
+        ensures same { OnErr result (self.new ≡ self.old) }
+        ensures grows { Grows work.old.pool work.new.pool }
+        ensures few { OnOk result (length work.new.pool.trees ≤ length work.old.pool.trees + need_of
+            (tree_at work.old.pool.trees (Some self.old.game.root))
+            (step_of work.old.pool.trees rule)) }
+        ensures names { work.new.names ≡ work.old.names }
+        ensures decls { work.new.decls ≡ work.old.decls }
+    {
+        let arrays = self.arrays.as_ref().unwrap();
+        let next = attempt(alloc, work, self.game.root, arrays, rule)?;
+        self.sum.add(&next.cost, false)?;
+        self.game = next.game;
+        self.arrays = Some(next.arrays);
+        self.cost = Some(next.cost);
+        self.steps += 1;
+        Ok(())
+    }
+
+    /// Takes a step in the last game. After a refusal the sequence and the pool's contents are as they were.
+    pub fn push(&mut self, alloc: Global, work: &mut Work, step: Step) -> Result<(), PushError>
+        requires stands { Stands work.old.pool.trees self.old }
+        requires declared { All (IsLive (length work.old.pool.trees)) work.old.decls.list }
+        requires live { step.0.0 < length work.old.pool.trees }
+        requires short { tree.size (tree_at work.old.pool.trees (Some step.0)) < 2 ^ 31 }
+        requires few { length work.old.pool.trees + 4 < 2 ^ 32 }
+        requires limit { work.old.pool.limit < 4294967295 }
+        ensures pushed { IsPushed work.old.pool work.old.decls work.new.pool.trees self.old self.new
+            (tree_at work.old.pool.trees (Some step.0)) result }
+        ensures stands { Stands work.new.pool.trees self.new }
+        ensures same { OnErr result (Same self.old self.new) }
+        ensures grows { Grows work.old.pool work.new.pool }
+        ensures few { OnOk result (length work.new.pool.trees ≤ length work.old.pool.trees + needed
+            (tree_at work.old.pool.trees (Some self.old.game.root))
+            (tree_at work.old.pool.trees (Some step.0))) }
+        ensures kept { OnErr result (work.new.pool.trees ≡ work.old.pool.trees) }
+        ensures names { work.new.names ≡ work.old.names }
+        ensures decls { work.new.decls ≡ work.old.decls }
+    {
+        if self.steps >= MOST_STEPS {
+            return Err(PushError::Steps);
+        }
+        let Some(rule) = rule_in(&work.pool, step) else {
+            return Err(PushError::Refused(Failure {
+                condition: 0,
+                place: 0,
+            }));
+        };
+        self.prepare(alloc, work)?;
+        let before = work.pool.mark();
+        let outcome = self.advance(alloc, work, rule);
+        settle(&mut work.pool, before, outcome)
+    }
+}
