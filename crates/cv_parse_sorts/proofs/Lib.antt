@@ -5,3 +5,7 @@ pub mod Filling
 pub mod Forms
 pub mod Games
 pub mod Rows
+mod Queries
+mod SmallNames
+mod UsedNames
+pub mod Known

@@ -1,7 +1,12 @@
-// The types and parameters that the game of a file names are declared.
+// The types and parameters that the game of a file names are declared, and it knows the names of its queries.
 #![tactic(auto)]
 
-ghost use Rattle.std.specs.Prelude.{◌≡◌, ℕ, List, Ok};
+ghost use Rattle.std.specs.Prelude.{◌≡◌, ℕ, List, Ok, length, nat_lt};
+ghost use Rattle.cv_lex.specs.Lexis.{Token};
+ghost use Rattle.cv_parse_terminals.specs.Signs.{signs_of};
+ghost use Rattle.cv_parse.specs.Says.{Says};
+ghost use Rattle.cv_steps.specs.Scenes.{KnowsQueries};
+ghost use Rattle.cv_steps.specs.Sequences.{scene};
 ghost use Rattle.cv_parse_notation.specs.declared.sign.Sign.{Sign};
 ghost use Rattle.cv_parse.specs.Parsed.{Parsed, parsed};
 ghost use Rattle.cv_meaning.specs.Interpretation.{Interpretation};
@@ -40,4 +45,11 @@ pub fn games_of_files_have_typed_runs()
         HasNamedFunctionsAndCells p.declarations p.game →
         (i : Interpretation) → Satisfies p.declarations i → (m : Mode) (a : Adversary) →
         HasTypedRuns p.declarations p.game i m a }
+{}
+
+/// A file has the names for whose secrecy its queries ask, by their numbers.
+pub fn files_know_their_queries()
+    ensures { (limit : ℕ) (tokens : List Token) (said : Parsed) →
+        Says limit (signs_of tokens).signs said → KnowsQueries
+        (scene said.declarations (λ x. nat_lt x (length (signs_of tokens).names)) said.game) }
 {}

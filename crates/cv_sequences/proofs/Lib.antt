@@ -1,3 +1,5 @@
 pub mod Values
 pub mod Steps
 pub mod Sums
+pub mod Asked
+pub mod Choices

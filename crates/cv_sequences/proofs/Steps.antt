@@ -11,9 +11,9 @@ use Rattle.cv_meaning_runs.specs.Replacement.{Process}
 use Rattle.cv_scope_runs.specs.Phrases.{Inputs, is_phrase}
 use Rattle.cv_steps.specs.Scenes.{Scene, is_output_at, is_chosen, is_new, is_queried, first_reading, has_place, is_type, part_at}
 use Rattle.cv_steps.specs.Steps.{Step, Split, Let, New, Unnew, Cost, Zero}
-use Rattle.cv_steps.specs.Changes.{changed, divided, after_let, after_new, dropped, only}
+use Rattle.cv_steps.specs.Changes.{change_at, split_process, after_let, after_new, without, only}
 use Rattle.cv_steps.specs.Terms.{is_bool_at}
-use Rattle.cv_steps.specs.Judged.{Accepted, judged}
+use Rattle.cv_steps.specs.Judgements.{Accepted, judgement_of}
 use Rattle.cv_steps_laws.proofs.Flat.{term_still}
 use Rattle.cv_steps_laws.proofs.Gone.{dropped_game}
 use Rattle.cv_steps_laws.proofs.Keeping.{accepted, leads_same, placed, term_phrase, unless_leads, unless_at_leads}
@@ -31,17 +31,17 @@ module _ (s : Scene) (i : Interpretation) (sat : Satisfies s.declarations i) (m 
       let v : 1 ≤ i.type_size T = some_value (record { declarations = s.declarations; variables = λ x. None; oracles = λ l. None }) i sat (meaning.OfType T) (type_declared s.declarations T e) in
       omega arith
 
-  changed_values : (p : ℕ) (change : Tree → Tree) → is_phrase Inputs s.game ≡ true → is_output_at s p ≡ true → (Valued (part_at s.game p) → Valued (change (part_at s.game p))) → Valued s.game → Valued (changed s.game p change)
-  changed_values p change w o k d = values_replaced (setting_of s.declarations i) m (part_at s.game p) (change (part_at s.game p)) p k Process 0 s.game (changed s.game p change) (placed s.game p change w o) d
+  changed_values : (p : ℕ) (change : Tree → Tree) → is_phrase Inputs s.game ≡ true → is_output_at s p ≡ true → (Valued (part_at s.game p) → Valued (change (part_at s.game p))) → Valued s.game → Valued (change_at s.game p change)
+  changed_values p change w o k d = values_replaced (setting_of s.declarations i) m (part_at s.game p) (change (part_at s.game p)) p k Process 0 s.game (change_at s.game p change) (placed s.game p change w o) d
 
-  pub next_values : (step : Step) (next : Tree) (cost : Cost) → is_phrase Inputs s.game ≡ true → Valued s.game → judged s step ≡ Accepted next cost → Valued next
+  pub next_values : (step : Step) (next : Tree) (cost : Cost) → is_phrase Inputs s.game ≡ true → Valued s.game → judgement_of s step ≡ Accepted next cost → Valued next
   unfolding HasValuesIn
   next_values (Split p t) next cost w d e =
       let r = accepted s (Split p t) next cost e in
       let o = unless_leads (is_output_at s p) 1 0 _ next cost r.row in
       let q = unless_leads (is_bool_at s p t) 2 0 _ next cost o.1 in
       let v = still_values (setting_of s.declarations i) m t (term_still t (term_phrase s p t (and_parts (has_place s p) _ r.stands).1)) in
-      subst Valued (leads_same _ next Zero cost q.1) (changed_values p (divided t) w o.0 (λ x. (tt, v, (tt, x, (tt, x, tt)))) d)
+      subst Valued (leads_same _ next Zero cost q.1) (changed_values p (split_process t) w o.0 (λ x. (tt, v, (tt, x, (tt, x, tt)))) d)
   next_values (Let p x T t) next cost w d e =
       let r = accepted s (Let p x T t) next cost e in
       let o = unless_leads (is_output_at s p) 1 0 _ next cost r.row in
@@ -61,4 +61,4 @@ module _ (s : Scene) (i : Interpretation) (sat : Satisfies s.declarations i) (m 
       let q = unless_leads (not (is_queried s x)) 2 0 _ next cost a.1 in
       let o = unless_at_leads 2 (first_reading x 0 s.game) _ next cost q.1 in
       subst Valued (leads_same _ next Zero cost o.1)
-      (values_dropped (setting_of s.declarations i) m (only x) Process s.game (dropped (only x) s.game) (dropped_game (only x) s.game w (unlisted_unread x 0 s.game o.0)) d)
+      (values_dropped (setting_of s.declarations i) m (only x) Process s.game (without (only x) s.game) (dropped_game (only x) s.game w (unlisted_unread x 0 s.game o.0)) d)

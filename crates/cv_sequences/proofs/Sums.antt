@@ -15,9 +15,10 @@ use Rattle.cv_bound.specs.Values.{Advantages, sum_value}
 use Rattle.cv_query_form.specs.Queries.{queries_in}
 use Rattle.cv_scope_runs.specs.Phrases.{IsWellFormed}
 use Rattle.cv_steps.specs.Scenes.{KnowsQueries}
-use Rattle.cv_steps.specs.Steps.{Cost, Step, Zero}
+use Rattle.cv_steps.specs.Sequences.{IsSequence, Passage, push, scene, start}
+use Rattle.cv_steps.specs.Steps.{Cost, Zero}
 use Rattle.cv_steps_laws.proofs.Keeping.{next_formed, steps_keep}
-use Rattle.cv_sequences.specs.Sequences.{IsSequence, start, push, added_up, scene}
+use Rattle.cv_sequences.specs.Sequences.{added_up, costs_of}
 use Rattle.cv_sequences.specs.Values.{HasValuesIn}
 use Rattle.cv_sequences.proofs.Values.{tapes}
 use Rattle.cv_sequences.proofs.Steps.{next_values}
@@ -38,26 +39,26 @@ no_terms sum [] = refl
 no_terms sum (Zero ∷ cs) = no_terms sum cs
 
 module _ (ds : List Declaration) (known : ℕ → Bool) (first : Tree) (w : IsWellFormed ds first) where
-  pub games_formed : (steps : List Step) (last : Tree) (costs : List Cost) → IsSequence ds known first steps last costs → IsWellFormed ds last
-  games_formed steps last costs start = w
-  games_formed steps last costs (push before game spent step next cost s e) = next_formed (scene ds known game) step last cost e
+  pub games_formed : (passages : List Passage) (last : Tree) → IsSequence ds known first passages last → IsWellFormed ds last
+  games_formed passages last start = w
+  games_formed passages last (push before game p s e) = next_formed (scene ds known game) p.step p.next p.cost e
 
   module _ (k : KnowsQueries (scene ds known first)) (i : Interpretation) (sat : Satisfies ds i) (x : Experiment) (asked : IsAsked (queries_in ds) x) (v : HasValuesIn (setting_of ds i) (mode_of x) first) where
-    games_valued : (steps : List Step) (last : Tree) (costs : List Cost) → IsSequence ds known first steps last costs → HasValuesIn (setting_of ds i) (mode_of x) last
-    games_valued steps last costs start = v
-    games_valued steps last costs (push before game spent step next cost s e) =
-        next_values (scene ds known game) i sat (mode_of x) step last cost (games_formed before game spent s).phrase (games_valued before game spent s) e
+    games_valued : (passages : List Passage) (last : Tree) → IsSequence ds known first passages last → HasValuesIn (setting_of ds i) (mode_of x) last
+    games_valued passages last start = v
+    games_valued passages last (push before game p s e) =
+        next_values (scene ds known game) i sat (mode_of x) p.step p.next p.cost (games_formed before game s).phrase (games_valued before game s) e
 
     module _ (a : Adversary) where
       abbrev chance_in : Tree → Chance
       chance_in game = chance_of (setting_of ds i) x a game
 
-      alike : (steps : List Step) (last : Tree) (costs : List Cost) → IsSequence ds known first steps last costs → Same (chance_in first) (chance_in last)
-      alike steps last costs start = refl
-      alike steps last costs (push before game spent step next cost s e) =
-          same_trans (chance_in first) (chance_in game) (chance_in last) (tapes (setting_of ds i) x a game (games_valued before game spent s)) (alike before game spent s)
-          (steps_keep (scene ds known game) step last cost (games_formed before game spent s) k e i sat x asked a)
+      alike : (passages : List Passage) (last : Tree) → IsSequence ds known first passages last → Same (chance_in first) (chance_in last)
+      alike passages last start = refl
+      alike passages last (push before game p s e) =
+          same_trans (chance_in first) (chance_in game) (chance_in p.next) (tapes (setting_of ds i) x a game (games_valued before game s)) (alike before game s)
+          (steps_keep (scene ds known game) p.step p.next p.cost (games_formed before game s) k e i sat x asked a)
 
-      pub within : (advantages : Advantages) (steps : List Step) (last : Tree) (costs : List Cost) → IsSequence ds known first steps last costs → AtMost (distance (chance_in first) (chance_in last)) (sum_value i advantages (added_up [] costs false))
-      within advantages steps last costs s =
-          subst (λ ts. AtMost (distance (chance_in first) (chance_in last)) (sum_value i advantages ts)) (sym (no_terms [] costs)) (apart (chance_in first) (chance_in last) (alike steps last costs s))
+      pub within : (advantages : Advantages) (passages : List Passage) (last : Tree) → IsSequence ds known first passages last → AtMost (distance (chance_in first) (chance_in last)) (sum_value i advantages (added_up [] (costs_of passages) false))
+      within advantages passages last s =
+          subst (λ ts. AtMost (distance (chance_in first) (chance_in last)) (sum_value i advantages ts)) (sym (no_terms [] (costs_of passages))) (apart (chance_in first) (chance_in last) (alike passages last s))

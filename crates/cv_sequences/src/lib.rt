@@ -1,7 +1,7 @@
 // The law of sequences of games.
 #![tactic(auto)]
 
-ghost use Rattle.std.specs.Prelude.{◌≡◌, ℕ, Bool, false, List, []};
+ghost use Rattle.std.specs.Prelude.{◌≡◌, ℕ, Bool, false, true, List, []};
 ghost use Rattle.cv_syntax.specs.Declarations.{Declaration};
 ghost use Rattle.cv_syntax.specs.Tree.{Tree};
 ghost use Rattle.cv_meaning.specs.Interpretation.{Interpretation, setting_of};
@@ -12,24 +12,38 @@ ghost use Rattle.cv_meaning.specs.Chances.{AtMost, distance};
 ghost use Rattle.cv_meaning.specs.Advantage.{IsAsked, chance_of};
 ghost use Rattle.cv_bound.specs.Values.{Advantages, sum_value};
 ghost use Rattle.cv_query_form.specs.Queries.{queries_in};
-ghost use Rattle.cv_scope_runs.specs.Phrases.{IsWellFormed};
+ghost use Rattle.cv_query_form.specs.Rules.{AreAsked};
+ghost use Rattle.cv_scope_runs.specs.Phrases.{Inputs, IsWellFormed, is_phrase};
+ghost use Rattle.cv_typing.specs.Parts.{IsTypedFile};
+ghost use Rattle.cv_typing_runs.specs.Games.{HasDeclaredSorts};
 ghost use Rattle.cv_steps.specs.Scenes.{KnowsQueries};
-ghost use Rattle.cv_steps.specs.Steps.{Cost, Step};
-ghost use Rattle.cv_sequences.specs.Sequences.{IsSequence, added_up, scene};
+ghost use Rattle.cv_steps.specs.Sequences.{IsSequence, Passage, scene};
+ghost use Rattle.cv_sequences.specs.Sequences.{added_up, costs_of};
 ghost use Rattle.cv_sequences.specs.Values.{HasValuesIn};
 
 /// Each game of a sequence is well-formed where the first is. Where its choices have values, no adversary tells the
 /// last game from the first, in an experiment for which a query asks, by more than the sum of the costs.
 pub fn sequences_are_within_their_sums()
-    ensures games { (ds : List Declaration) (known : ℕ → Bool) (first : Tree) (steps : List Step)
-        (last : Tree) (costs : List Cost) → IsWellFormed ds first →
-        IsSequence ds known first steps last costs → IsWellFormed ds last }
-    ensures sums { (ds : List Declaration) (known : ℕ → Bool) (first : Tree) (steps : List Step)
-        (last : Tree) (costs : List Cost) → IsWellFormed ds first →
-        KnowsQueries (scene ds known first) → IsSequence ds known first steps last costs →
+    ensures games { (ds : List Declaration) (known : ℕ → Bool) (first : Tree)
+        (passages : List Passage) (last : Tree) → IsWellFormed ds first →
+        IsSequence ds known first passages last → IsWellFormed ds last }
+    ensures sums { (ds : List Declaration) (known : ℕ → Bool) (first : Tree)
+        (passages : List Passage) (last : Tree) → IsWellFormed ds first →
+        KnowsQueries (scene ds known first) → IsSequence ds known first passages last →
         (i : Interpretation) → Satisfies ds i → (x : Experiment) → IsAsked (queries_in ds) x →
         HasValuesIn (setting_of ds i) (mode_of x) first →
         (a : Adversary) (advantages : Advantages) →
         AtMost (distance (chance_of (setting_of ds i) x a first)
-        (chance_of (setting_of ds i) x a last)) (sum_value i advantages (added_up [] costs false)) }
+        (chance_of (setting_of ds i) x a last))
+        (sum_value i advantages (added_up [] (costs_of passages) false)) }
+{}
+
+/// In a game of the grammar that is typed with its file, whose types and parameters are declared, and whose queries
+/// may be asked, each choice has a value, and so has each test that an asked experiment makes: no query asks for
+/// the secrecy of an index variable.
+pub fn declared_games_have_values()
+    ensures { (ds : List Declaration) (game : Tree) → is_phrase Inputs game ≡ true →
+        IsTypedFile ds game → HasDeclaredSorts ds game → AreAsked game (queries_in ds) →
+        (i : Interpretation) → Satisfies ds i → (x : Experiment) → IsAsked (queries_in ds) x →
+        HasValuesIn (setting_of ds i) (mode_of x) game }
 {}
