@@ -1,7 +1,7 @@
+pub mod Blocks
 pub mod EquivalenceLists
 pub mod Lengths
 pub mod Places
-pub mod QueryLists
 pub mod Readings
 pub mod Tokens
 pub mod Weights

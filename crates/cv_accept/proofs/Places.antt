@@ -1,5 +1,5 @@
 -- The scope of a game by its place in the file.
-use Rattle.std.proofs.Common.{◌≡◌, ℕ, ◌+◌, ◌<◌, ◌≤◌, List, [], ◌∷◌, Option, Some, None, flat_map, refl, ap, ◌∙◌, arith}
+use Rattle.std.proofs.Common.{◌≡◌, ℕ, ◌+◌, ◌<◌, ◌≤◌, List, [], ◌∷◌, Option, Some, None, flat_map, refl, ap, arith}
 use Rattle.cv_syntax.specs.Declarations.{Declaration}
 use Rattle.cv_syntax.specs.Tree.{Tree, size}
 use Rattle.cv_typing.specs.Parts.{declaration_parts, file_parts, game_part}
@@ -9,7 +9,7 @@ use Rattle.cv_scope.specs.declared.fault.Fault.TheVariants as rules
 use Rattle.cv_scope.specs.declared.fault.ScopeFault.{ScopeFault}
 use Rattle.cv_scope.specs.declared.fault.ScopeFault.TheVariants.{Unscoped, TwoSites, Channel, Replications, OutOfMemory}
 use Rattle.cv_scope.specs.Refusals.{IsRefusalOf}
-use Rattle.cv_scope.specs.Scope.{IsFirst, first_scope_fault, names_of}
+use Rattle.cv_scope.specs.Scope.{first_scope_fault, names_of}
 use Rattle.cv_scope.specs.Standing.{at_root}
 use Rattle.cv_scope.proofs.First.{earlier, finds_first}
 use Rattle.cv_accept.specs.Places.{HasPlace, behind, nodes_before, refused_behind}

@@ -1,29 +1,21 @@
 -- From bytes to what they hold, or what they are refused for.
-use Rattle.std.proofs.Common.{◌≡◌, ℕ, zero, suc, ◌<◌, drop, slice_get, ◌+◌, ◌≤◌, true, false, Bool, ◌&&◌, if◌then◌else◌, List, [], ◌∷◌, length, refl, ap, subst, sym, ◌∙◌, arith, Option, Some, None, Result, Ok, Err, All}
-use Rattle.std.specs.List.{list_all}
-use Rattle.std.specs.Prelude.{IfOk, IfErr, IfSome, IsErrAnd}
-use Rattle.std.specs.declared.alloc.AllocError.{AllocError}
-use Rattle.std.proofs.lemmas.List.Elements.{All-head, All-tail}
+use Rattle.std.proofs.Common.{◌≡◌, ℕ, suc, ◌<◌, ◌+◌, ◌≤◌, true, false, Bool, List, length, refl, ap, subst, sym, ◌∙◌, arith, Option, Some, None, Result, Ok, Err}
+use Rattle.std.specs.Prelude.{IfSome, IsErrAnd}
 use Rattle.cv_lex.specs.declared.LexError.{LexError}
 use Rattle.cv_lex.specs.declared.LexError.TheVariants as lex
 use Rattle.cv_lex.specs.Lexis.{Token, Lexed, tokens_of, Fails}
-use Rattle.cv_lex.specs.View.{AreTokens, token_at}
+use Rattle.cv_lex.specs.View.{AreTokens}
 use Rattle.cv_lex.proofs.Exact.{computed, said}
 use Rattle.cv_pool.specs.KindTree.{KindTree}
-use Rattle.cv_syntax.specs.declared.decls.Decl.{Decl}
-use Rattle.cv_syntax.specs.declared.decls.Decl.TheVariants as decl
 use Rattle.cv_syntax.specs.declared.work.BuildError.TheVariants as build
-use Rattle.cv_syntax.specs.declared.work.File.{File}
-use Rattle.cv_syntax.specs.Declarations.{Declaration, declarations}
 use Rattle.cv_syntax.specs.Tree.{Tree}
 use Rattle.cv_parse_terminals.specs.Signs.{signs_of}
-use Rattle.cv_parse_terminals.proofs.ScriptWalk.{between-cons, between-nil}
 use Rattle.cv_parse_terminals.proofs.Telling.{count_all}
-use Rattle.cv_parse_script.specs.Scripts.{token_begins_step}
+use Rattle.cv_parse_script.specs.declared.error.ScriptError.{ScriptError}
+use Rattle.cv_parse.specs.Nodes.{file_nodes}
 use Rattle.cv_parse.specs.declared.error.ParseError.{ParseError}
 use Rattle.cv_parse.specs.declared.error.ParseError.TheVariants as parse
-use Rattle.cv_parse.specs.Declaring.{IsBelow}
-use Rattle.cv_parse.specs.Parsed.{Parsed, held_in, parsed, range_of}
+use Rattle.cv_parse.specs.Parsed.{Parsed, parsed, range_of}
 use Rattle.cv_parse.specs.Parsed as parsing
 use Rattle.cv_parse.proofs.Exactness.{said_is_saying, says_is_said}
 use Rattle.cv_typing.specs.declared.fault.Fault.{Fault}
@@ -46,12 +38,14 @@ use Rattle.cv_query_form.specs.Refusals.{IsRefusalOf as IsQueryRefusal}
 use Rattle.cv_query_form.proofs.First.{asked-where-none, none-where-asked}
 use Rattle.cv_parse_laws.proofs.Games.{well_formed}
 use Rattle.cv_accept.specs.declared.error.FileError.{FileError}
-use Rattle.cv_accept.specs.declared.error.FileError.TheVariants.{Lex, Parse, Script, Types, Scope, Query, Unbuilt, OutOfMemory}
-use Rattle.cv_accept.specs.Accepted.{Content, IsFile, Refuses, block_fault, content_of, first_numbered, first_of_block, has_equivalence, of_equivalences, of_parsed, of_queries, of_scopes, of_script, of_tokens, of_types, query_fault, read_of, scope_fault, type_fault}
-use Rattle.cv_accept.specs.Faults.{IsBlockFault, of_lex, of_parse, of_query, of_scope, of_type}
+use Rattle.cv_accept.specs.declared.error.FileError.TheVariants.{Lex, Parse, Script, Types, Scope, Query, Room, Unbuilt, OutOfMemory}
+use Rattle.cv_accept.specs.Accepted.{Content, IsFile, IsFull, Refuses, block_of, content_of, has_equivalence, of_block, of_equivalences, of_parsed, of_queries, of_scopes, of_script, of_tokens, of_types, query_fault, read_of, scope_fault, type_fault}
+use Rattle.cv_accept.specs.Faults.{IsBlock, of_lex, of_parse, of_query, of_scope, of_type}
 use Rattle.cv_accept.specs.Places.{nodes_before}
 use Rattle.cv_accept.proofs.Places.{behind_none, none_behind}
-use Rattle.cv_accept.specs.Works.{IsAccepted, ReadsIn, content_in}
+use Rattle.cv_syntax.specs.declared.work.Work.{Work}
+use Rattle.cv_accept.specs.declared.file.Accepted.{Accepted}
+use Rattle.cv_accept.specs.Works.{IsAccepted, Reads, content_at}
 
 -- what tokens make of bytes
 by_tokens : (limit : ℕ) (bs : List ℕ) (ts : List Token) → tokens_of bs ≡ Ok ts → read_of limit bs ≡ of_parsed ts (parsed limit (signs_of ts).signs)
@@ -59,7 +53,7 @@ unfolding read_of
 by_tokens limit bs ts e = ap (of_tokens limit) e
 
 -- no tokens
-pub lexis_refuses : (limit : ℕ) (bs : List ℕ) (e : LexError) → Fails e (tokens_of bs) → Refuses (of_lex e) (read_of limit bs)
+pub lexis_refuses : (limit : ℕ) (bs : List ℕ) (e : LexError) → Fails e (tokens_of bs) → Refuses limit bs (of_lex e)
 unfolding read_of
 lexis_refuses limit bs lex.OutOfMemory f = tt
 lexis_refuses limit bs (lex.Char k) f = ap (of_tokens limit) f
@@ -67,7 +61,7 @@ lexis_refuses limit bs (lex.CommentOpen k) f = ap (of_tokens limit) f
 lexis_refuses limit bs (lex.NumberWide k) f = ap (of_tokens limit) f
 
 -- no file
-pub grammar_refuses : (limit : ℕ) (bs : List ℕ) (ts : List Token) (e : ParseError) → tokens_of bs ≡ Ok ts → parsing.Refuses e (parsed limit (signs_of ts).signs) → Refuses (of_parse e) (read_of limit bs)
+pub grammar_refuses : (limit : ℕ) (bs : List ℕ) (ts : List Token) (e : ParseError) → tokens_of bs ≡ Ok ts → parsing.Refuses e (parsed limit (signs_of ts).signs) → Refuses limit bs (of_parse e)
 grammar_refuses limit bs ts (parse.Syntax k) t h = by_tokens limit bs ts t ∙ ap (of_parsed ts) h
 grammar_refuses limit bs ts (parse.Nesting k) t h = by_tokens limit bs ts t ∙ ap (of_parsed ts) h
 grammar_refuses limit bs ts (parse.NameTwice k) t h = by_tokens limit bs ts t ∙ ap (of_parsed ts) h
@@ -87,140 +81,122 @@ block_within limit ts p are e =
     below None = tt
     below (Some block) = let c = count_all ts are in omega arith
 
--- the first token of a block, and a block without one
-pub first_there : (ts : List Token) (from to : ℕ) → from < to → to < length ts → first_of_block ts (Some (from, to)) ≡ Some (from, token_at ts from)
-first_there ts from to l m = ap (first_numbered from) (between-cons ts from to l m)
-
-pub none_there : (ts : List Token) (from to : ℕ) → to ≤ from → first_of_block ts (Some (from, to)) ≡ None
-none_there ts from to l = ap (first_numbered from) (between-nil ts from to l)
-
--- why a block is refused whose first token is known
-pub refused_there : (ts : List Token) (from to : ℕ) → from < to → to < length ts → (b : Bool) → b ≡ token_begins_step (token_at ts from) → IsBlockFault (first_of_block ts (Some (from, to))) (block_fault from b)
-refused_there ts from to l m b e = subst (λ (o : Option (ℕ × Token)). IsBlockFault o (block_fault from b)) (sym (first_there ts from to l m)) (go b e)
-  where
-    go : (b : Bool) → b ≡ token_begins_step (token_at ts from) → IsBlockFault (Some (from, token_at ts from)) (block_fault from b)
-    go true e = ap (block_fault from) e
-    go false e = ap (block_fault from) e
-
--- want of memory, passed on
-pub block_memory : {A : Type 0} (first : Option (ℕ × Token)) (r : Result A FileError) → IsErrAnd r (λ x. x ≡ OutOfMemory) → IfErr r (IsBlockFault first)
-block_memory first (Ok a) i = absurd i
-block_memory first (Err x) i = subst (IsBlockFault first) (sym i) tt
-
 -- a proof block
-by_parsing : (limit : ℕ) (bs : List ℕ) (ts : List Token) (p : Parsed) → tokens_of bs ≡ Ok ts → parsed limit (signs_of ts).signs ≡ Ok p → read_of limit bs ≡ of_script (signs_of ts).names p (first_of_block ts p.script)
+
+by_parsing : (limit : ℕ) (bs : List ℕ) (ts : List Token) (p : Parsed) → tokens_of bs ≡ Ok ts → parsed limit (signs_of ts).signs ≡ Ok p → read_of limit bs ≡ of_script ts p (block_of ts p)
 by_parsing limit bs ts p t h = by_tokens limit bs ts t ∙ ap (of_parsed ts) h
 
-pub script_refuses : (limit : ℕ) (bs : List ℕ) (ts : List Token) (p : Parsed) (e : FileError) → tokens_of bs ≡ Ok ts → parsed limit (signs_of ts).signs ≡ Ok p → IsBlockFault (first_of_block ts p.script) e → Refuses e (read_of limit bs)
-script_refuses limit bs ts p e t h f = subst (Refuses e) (sym (by_parsing limit bs ts p t h)) (refuse (first_of_block ts p.script) e f)
-  where
-    refuse : (o : Option (ℕ × Token)) (e : FileError) → IsBlockFault o e → Refuses e (of_script (signs_of ts).names p o)
-    refuse o OutOfMemory f = tt
-    refuse None (Lex x) f = absurd f
-    refuse None (Parse x) f = absurd f
-    refuse None (Script x) f = absurd f
-    refuse None (Types x) f = absurd f
-    refuse None (Scope x) f = absurd f
-    refuse None (Query x) f = absurd f
-    refuse None Unbuilt f = absurd f
-    refuse (Some (n, u)) (Lex x) f = ap Err (sym f)
-    refuse (Some (n, u)) (Parse x) f = ap Err (sym f)
-    refuse (Some (n, u)) (Script x) f = ap Err (sym f)
-    refuse (Some (n, u)) (Types x) f = ap Err (sym f)
-    refuse (Some (n, u)) (Scope x) f = ap Err (sym f)
-    refuse (Some (n, u)) (Query x) f = ap Err (sym f)
-    refuse (Some (n, u)) Unbuilt f = ap Err (sym f)
+module _ (limit live : ℕ) (bs : List ℕ) (ts : List Token) (p : Parsed) (t : tokens_of bs ≡ Ok ts) (h : parsed limit (signs_of ts).signs ≡ Ok p) where
+  by_error : (x : ScriptError) → block_of ts p ≡ Err x → read_of limit bs ≡ Err (of_block x)
+  by_error x e = by_parsing limit bs ts p t h ∙ ap (of_script ts p) e
 
--- without a step
-by_script : (limit : ℕ) (bs : List ℕ) (ts : List Token) (p : Parsed) → tokens_of bs ≡ Ok ts → parsed limit (signs_of ts).signs ≡ Ok p → first_of_block ts p.script ≡ None → read_of limit bs ≡ of_types (signs_of ts).names p (type_fault p)
-by_script limit bs ts p t h n = by_parsing limit bs ts p t h ∙ ap (of_script (signs_of ts).names p) n
+  -- a block that isn't read
+  pub block_refuses : (trees : List KindTree) (e : FileError) → live ≤ file_nodes p.declarations p.game → IsBlock limit live (block_of ts p) trees (Err e) → Refuses limit bs e
+  block_refuses trees OutOfMemory l w = tt
+  block_refuses trees (Room need) l w = record {
+    tokens = ts;
+    said = p;
+    lexed = t;
+    says = said_is_saying limit (signs_of ts).signs p h;
+    script = w.0;
+    block = w.1;
+    asked = w.2;
+    over = (let m : limit < live + need = w.3 in omega arith);
+  }
+  block_refuses trees (Lex x) l w = by_error w.0 w.1 ∙ ap Err (sym w.2)
+  block_refuses trees (Parse x) l w = by_error w.0 w.1 ∙ ap Err (sym w.2)
+  block_refuses trees (Script x) l w = by_error w.0 w.1 ∙ ap Err (sym w.2)
+  block_refuses trees (Types x) l w = by_error w.0 w.1 ∙ ap Err (sym w.2)
+  block_refuses trees (Scope x) l w = by_error w.0 w.1 ∙ ap Err (sym w.2)
+  block_refuses trees (Query x) l w = by_error w.0 w.1 ∙ ap Err (sym w.2)
+  block_refuses trees Unbuilt l w = by_error w.0 w.1 ∙ ap Err (sym w.2)
 
--- types
+  -- a block that is read
+  pub by_block : (block : Option Tree) → block_of ts p ≡ Ok block → read_of limit bs ≡ of_types (content_of ts p block) p (type_fault p)
+  by_block block b = by_parsing limit bs ts p t h ∙ ap (of_script ts p) b
 
-pub types_refuse : (limit : ℕ) (bs : List ℕ) (ts : List Token) (p : Parsed) (e : TypeFault) → tokens_of bs ≡ Ok ts → parsed limit (signs_of ts).signs ≡ Ok p → first_of_block ts p.script ≡ None → IsRefusalOf (type_fault p) e → Refuses (of_type e) (read_of limit bs)
-types_refuse limit bs ts p (type.WrongType n) t h b r = by_script limit bs ts p t h b ∙ ap (of_types (signs_of ts).names p) r
-types_refuse limit bs ts p (type.Arity n) t h b r = by_script limit bs ts p t h b ∙ ap (of_types (signs_of ts).names p) r
-types_refuse limit bs ts p (type.IndexAsMessage n) t h b r = by_script limit bs ts p t h b ∙ ap (of_types (signs_of ts).names p) r
-types_refuse limit bs ts p (type.NotFixed n) t h b r = by_script limit bs ts p t h b ∙ ap (of_types (signs_of ts).names p) r
-types_refuse limit bs ts p type.OutOfMemory t h b r = tt
+-- what is left of a file whose block is read, with what it holds
+module _ (limit : ℕ) (bs : List ℕ) (f : Content) (p : Parsed) where
+  pub types_refuse : (e : TypeFault) → read_of limit bs ≡ of_types f p (type_fault p) → IsRefusalOf (type_fault p) e → Refuses limit bs (of_type e)
+  types_refuse (type.WrongType n) b r = b ∙ ap (of_types f p) r
+  types_refuse (type.Arity n) b r = b ∙ ap (of_types f p) r
+  types_refuse (type.IndexAsMessage n) b r = b ∙ ap (of_types f p) r
+  types_refuse (type.NotFixed n) b r = b ∙ ap (of_types f p) r
+  types_refuse type.OutOfMemory b r = tt
 
-pub by_types : (limit : ℕ) (bs : List ℕ) (ts : List Token) (p : Parsed) → tokens_of bs ≡ Ok ts → parsed limit (signs_of ts).signs ≡ Ok p → first_of_block ts p.script ≡ None → type_fault p ≡ None → read_of limit bs ≡ of_scopes (signs_of ts).names p (scope_fault p)
-by_types limit bs ts p t h b n = by_script limit bs ts p t h b ∙ ap (of_types (signs_of ts).names p) n
+  pub by_types : read_of limit bs ≡ of_types f p (type_fault p) → type_fault p ≡ None → read_of limit bs ≡ of_scopes f p (scope_fault p)
+  by_types b n = b ∙ ap (of_types f p) n
 
--- scope, of a file that is read as far as this
+  pub scope_refuses : (e : ScopeFault) → read_of limit bs ≡ of_scopes f p (scope_fault p) → IsRefusal (scope_fault p) e → Refuses limit bs (of_scope e)
+  scope_refuses (scope.Unscoped n) h r = h ∙ ap (of_scopes f p) r
+  scope_refuses (scope.TwoSites n) h r = h ∙ ap (of_scopes f p) r
+  scope_refuses (scope.Channel n) h r = h ∙ ap (of_scopes f p) r
+  scope_refuses (scope.Replications n) h r = h ∙ ap (of_scopes f p) r
+  scope_refuses scope.OutOfMemory h r = tt
 
-pub scope_refuses : (r : Result Content FileError) (names : List (List ℕ)) (p : Parsed) (e : ScopeFault) → r ≡ of_scopes names p (scope_fault p) → IsRefusal (scope_fault p) e → Refuses (of_scope e) r
-scope_refuses r names p (scope.Unscoped n) h f = h ∙ ap (of_scopes names p) f
-scope_refuses r names p (scope.TwoSites n) h f = h ∙ ap (of_scopes names p) f
-scope_refuses r names p (scope.Channel n) h f = h ∙ ap (of_scopes names p) f
-scope_refuses r names p (scope.Replications n) h f = h ∙ ap (of_scopes names p) f
-scope_refuses r names p scope.OutOfMemory h f = tt
+  pub by_scope : read_of limit bs ≡ of_scopes f p (scope_fault p) → scope_fault p ≡ None → read_of limit bs ≡ of_equivalences f p (has_equivalence p.declarations)
+  by_scope h n = h ∙ ap (of_scopes f p) n
 
-pub by_scope : (r : Result Content FileError) (names : List (List ℕ)) (p : Parsed) → r ≡ of_scopes names p (scope_fault p) → scope_fault p ≡ None → r ≡ of_equivalences names p (has_equivalence p.declarations)
-by_scope r names p h n = h ∙ ap (of_scopes names p) n
+  pub equivalence_refuses : read_of limit bs ≡ of_equivalences f p (has_equivalence p.declarations) → has_equivalence p.declarations ≡ true → Refuses limit bs Unbuilt
+  equivalence_refuses h e = h ∙ ap (of_equivalences f p) e
 
--- equivalences
+  pub by_equivalences : read_of limit bs ≡ of_equivalences f p (has_equivalence p.declarations) → has_equivalence p.declarations ≡ false → read_of limit bs ≡ of_queries f (query_fault p)
+  by_equivalences h e = h ∙ ap (of_equivalences f p) e
 
-pub equivalence_refuses : (r : Result Content FileError) (names : List (List ℕ)) (p : Parsed) → r ≡ of_equivalences names p (has_equivalence p.declarations) → has_equivalence p.declarations ≡ true → r ≡ Err Unbuilt
-equivalence_refuses r names p h e = h ∙ ap (of_equivalences names p) e
+  pub query_refuses : (e : QueryFault) → read_of limit bs ≡ of_queries f (query_fault p) → IsQueryRefusal (query_fault p) e → Refuses limit bs (of_query e)
+  query_refuses (query.Query k) h r = h ∙ ap (of_queries f) r
+  query_refuses query.OutOfMemory h r = tt
 
-pub by_equivalences : (r : Result Content FileError) (names : List (List ℕ)) (p : Parsed) → r ≡ of_equivalences names p (has_equivalence p.declarations) → has_equivalence p.declarations ≡ false → r ≡ of_queries names p (query_fault p)
-by_equivalences r names p h e = h ∙ ap (of_equivalences names p) e
-
--- queries
-
-pub query_refuses : (r : Result Content FileError) (names : List (List ℕ)) (p : Parsed) (e : QueryFault) → r ≡ of_queries names p (query_fault p) → IsQueryRefusal (query_fault p) e → Refuses (of_query e) r
-query_refuses r names p (query.Query k) h f = h ∙ ap (of_queries names p) f
-query_refuses r names p query.OutOfMemory h f = tt
-
-pub all_reads : (r : Result Content FileError) (names held : List (List ℕ)) (trees : List KindTree) (list : List Decl) (f : File) → r ≡ of_queries names (held_in trees list f) (query_fault (held_in trees list f)) → query_fault (held_in trees list f) ≡ None → names ≡ held → r ≡ Ok (content_in held trees list f.game.root)
-all_reads r names held trees list f h q n = h ∙ (ap (of_queries names (held_in trees list f)) q ∙ ap (λ ns. Ok (content_of ns (held_in trees list f))) n)
+  pub all_reads : (w : Work) (a : Accepted) → read_of limit bs ≡ of_queries f (query_fault p) → query_fault p ≡ None → f ≡ content_at w a.file.game.root a.script → Reads limit bs w (Ok a)
+  all_reads w a h q n = h ∙ (ap (of_queries f) q ∙ ap Ok n)
 
 -- an error that was passed on
-pub reads_on : (limit : ℕ) (bs : List ℕ) (names : List (List ℕ)) (trees : List KindTree) (list : List Decl) (r : Result File FileError) (e : FileError) → IsErrAnd r (λ x. x ≡ e) → Refuses e (read_of limit bs) → ReadsIn limit bs names trees list r
-reads_on limit bs names trees list (Ok f) e i h = absurd i
-reads_on limit bs names trees list (Err x) e i h = subst (λ y. Refuses y (read_of limit bs)) (sym i) h
+pub reads_on : (limit : ℕ) (bs : List ℕ) (w : Work) (r : Result Accepted FileError) (e : FileError) → IsErrAnd r (λ x. x ≡ e) → Refuses limit bs e → Reads limit bs w r
+reads_on limit bs w (Ok f) e i h = absurd i
+reads_on limit bs w (Err x) e i h = subst (Refuses limit bs) (sym i) h
 
 -- what is known of a file that is accepted
 
 -- what an accepted file passed
-record Passed (names : List (List ℕ)) (p : Parsed) (f : Content) : Type 0 where
+record Passed (c : Content) (p : Parsed) (f : Content) : Type 0 where
   types : type_fault p ≡ None
   scope : scope_fault p ≡ None
   equivalences : has_equivalence p.declarations ≡ false
   queries : query_fault p ≡ None
-  content : content_of names p ≡ f
+  content : c ≡ f
 
-from_queries : (names : List (List ℕ)) (p : Parsed) (f : Content) → type_fault p ≡ None → scope_fault p ≡ None → has_equivalence p.declarations ≡ false → (o : Option ℕ) → query_fault p ≡ o → of_queries names p o ≡ Ok f → Passed names p f
-from_queries names p f t s q None i e = record { types = t; scope = s; equivalences = q; queries = i; content = cc }
-from_queries names p f t s q (Some k) i e = absurd (cc)
+module _ (c : Content) (p : Parsed) (f : Content) where
+  from_queries : type_fault p ≡ None → scope_fault p ≡ None → has_equivalence p.declarations ≡ false → (o : Option ℕ) → query_fault p ≡ o → of_queries c o ≡ Ok f → Passed c p f
+  from_queries t s q None i e = record { types = t; scope = s; equivalences = q; queries = i; content = cc }
+  from_queries t s q (Some k) i e = absurd (cc)
 
-from_equivalences : (names : List (List ℕ)) (p : Parsed) (f : Content) → type_fault p ≡ None → scope_fault p ≡ None → (b : Bool) → has_equivalence p.declarations ≡ b → of_equivalences names p b ≡ Ok f → Passed names p f
-from_equivalences names p f t s false i e = from_queries names p f t s i (query_fault p) refl e
-from_equivalences names p f t s true i e = absurd (cc)
+  from_equivalences : type_fault p ≡ None → scope_fault p ≡ None → (b : Bool) → has_equivalence p.declarations ≡ b → of_equivalences c p b ≡ Ok f → Passed c p f
+  from_equivalences t s false i e = from_queries t s i (query_fault p) refl e
+  from_equivalences t s true i e = absurd (cc)
 
-from_scopes : (names : List (List ℕ)) (p : Parsed) (f : Content) → type_fault p ≡ None → (o : Option (ℕ × ScopeRules)) → scope_fault p ≡ o → of_scopes names p o ≡ Ok f → Passed names p f
-from_scopes names p f t None i e = from_equivalences names p f t i (has_equivalence p.declarations) refl e
-from_scopes names p f t (Some x) i e = absurd (cc)
+  from_scopes : type_fault p ≡ None → (o : Option (ℕ × ScopeRules)) → scope_fault p ≡ o → of_scopes c p o ≡ Ok f → Passed c p f
+  from_scopes t None i e = from_equivalences t i (has_equivalence p.declarations) refl e
+  from_scopes t (Some x) i e = absurd (cc)
 
-from_types : (names : List (List ℕ)) (p : Parsed) (f : Content) (o : Option (ℕ × Fault)) → type_fault p ≡ o → of_types names p o ≡ Ok f → Passed names p f
-from_types names p f None i e = from_scopes names p f i (scope_fault p) refl e
-from_types names p f (Some x) i e = absurd (cc)
+  from_types : (o : Option (ℕ × Fault)) → type_fault p ≡ o → of_types c p o ≡ Ok f → Passed c p f
+  from_types None i e = from_scopes i (scope_fault p) refl e
+  from_types (Some x) i e = absurd (cc)
 
-from_script : (names : List (List ℕ)) (p : Parsed) (f : Content) (s : Option (ℕ × Token)) → of_script names p s ≡ Ok f → (s ≡ None) × (of_types names p (type_fault p) ≡ Ok f)
-from_script names p f None e = (refl, e)
-from_script names p f (Some x) e = absurd (cc)
+from_script : (ts : List Token) (p : Parsed) (f : Content) (r : Result (Option Tree) ScriptError) → of_script ts p r ≡ Ok f → (block : Option Tree) × (r ≡ Ok block) × (of_types (content_of ts p block) p (type_fault p) ≡ Ok f)
+from_script ts p f (Ok block) e = (block, refl, e)
+from_script ts p f (Err x) e = absurd (cc)
 
 from_parsed : (limit : ℕ) (bs : List ℕ) (ts : List Token) (f : Content) (r : Result Parsed ParseError) → Lexed 0 bs (Ok ts) → parsed limit (signs_of ts).signs ≡ r → of_parsed ts r ≡ Ok f → IsFile limit bs f
 from_parsed limit bs ts f (Ok p) l e i =
-    let s = from_script (signs_of ts).names p f (first_of_block ts p.script) i in
-    let b = from_types (signs_of ts).names p f (type_fault p) refl s.1 in
+    let s = from_script ts p f (block_of ts p) i in
+    let b = from_types (content_of ts p s.0) p f (type_fault p) refl s.2 in
     record {
       tokens = ts;
       said = p;
       lexed = l;
       says = said_is_saying limit (signs_of ts).signs p e;
-      no_step = s.0;
+      script = s.0;
+      block = s.1;
       typed = parts_typed_where_none p.declarations 0 (file_parts p.declarations p.game) b.types;
       scoped = scoped_where_none (names_of p.declarations p.game) at_root p.game (behind_none (nodes_before p.declarations) (first_scope_fault p.declarations p.game) b.scope);
       no_equivalence = b.equivalences;
@@ -240,14 +216,21 @@ read_is_file limit bs f e = from_tokens limit bs f (tokens_of bs) (computed (suc
 pub file_is_read : (limit : ℕ) (bs : List ℕ) (f : Content) → IsFile limit bs f → read_of limit bs ≡ Ok f
 unfolding read_of
 file_is_read limit bs f w =
+    let c = content_of w.tokens w.said w.script in
     ap (of_tokens limit) (said bs (Ok w.tokens) w.lexed)
     ∙ (ap (of_parsed w.tokens) (says_is_said limit (signs_of w.tokens).signs w.said w.says)
-    ∙ (ap (of_script (signs_of w.tokens).names w.said) w.no_step
-    ∙ (ap (of_types (signs_of w.tokens).names w.said) (none_where_parts_typed w.said.declarations 0 (file_parts w.said.declarations w.said.game) w.typed)
-    ∙ (ap (of_scopes (signs_of w.tokens).names w.said) (none_behind (nodes_before w.said.declarations) (first_scope_fault w.said.declarations w.said.game) (none_where_scoped (names_of w.said.declarations w.said.game) at_root w.said.game w.scoped))
-    ∙ (ap (of_equivalences (signs_of w.tokens).names w.said) w.no_equivalence
-    ∙ (ap (of_queries (signs_of w.tokens).names w.said) (none-where-asked w.said.game (queries_in w.said.declarations) w.asked)
+    ∙ (ap (of_script w.tokens w.said) w.block
+    ∙ (ap (of_types c w.said) (none_where_parts_typed w.said.declarations 0 (file_parts w.said.declarations w.said.game) w.typed)
+    ∙ (ap (of_scopes c w.said) (none_behind (nodes_before w.said.declarations) (first_scope_fault w.said.declarations w.said.game) (none_where_scoped (names_of w.said.declarations w.said.game) at_root w.said.game w.scoped))
+    ∙ (ap (of_equivalences c w.said) w.no_equivalence
+    ∙ (ap (of_queries c) (none-where-asked w.said.game (queries_in w.said.declarations) w.asked)
     ∙ ap Ok (sym w.content)))))))
+
+-- a file for whose proof block a pool may have no room
+pub full_content : (limit : ℕ) (bs : List ℕ) (need : ℕ) (f : Content) (w : IsFull limit bs need) → read_of limit bs ≡ Ok f → f ≡ content_of w.tokens w.said (Some w.script)
+full_content limit bs need f w e =
+    let b = by_block limit 0 bs w.tokens w.said w.lexed (says_is_said limit (signs_of w.tokens).signs w.said w.says) (Some w.script) w.block in
+    sym (from_types (content_of w.tokens w.said (Some w.script)) w.said f (type_fault w.said) refl (sym b ∙ e)).content
 
 pub accepted : (limit : ℕ) (bs : List ℕ) (f : Content) → read_of limit bs ≡ Ok f → IsAccepted f
 accepted limit bs f e =

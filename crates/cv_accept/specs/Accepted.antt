@@ -1,14 +1,19 @@
 -- Files: what they hold, and which bytes are one.
-use Rattle.std.specs.Prelude.{◌≡◌, ℕ, Bool, true, false, List, [], ◌∷◌, Option, Some, None, Result, Ok, Err}
+use Rattle.std.specs.Prelude.{◌≡◌, ℕ, ◌+◌, ◌<◌, min, Bool, true, false, List, length, Option, Some, None, option_map, Result, Ok, Err}
 use Rattle.std.specs.List.{list_any}
 use Rattle.cv_lex.specs.Lexis.{Token, Lexed, tokens_of}
 use Rattle.cv_lex.specs.declared.LexError.{LexError}
-use Rattle.cv_parse_terminals.specs.ScriptSigns.{between}
+use Rattle.cv_parse_terminals.specs.ScriptSigns.{between, script_signs}
 use Rattle.cv_parse_terminals.specs.Signs.{signs_of}
-use Rattle.cv_parse_script.specs.Scripts.{token_begins_step}
+use Rattle.cv_parse_script.specs.declared.error.ScriptError.{ScriptError}
+use Rattle.cv_parse_script.specs.declared.error.ScriptError.TheVariants as script
+use Rattle.cv_parse_script.specs.Scripts.{items, nodes_of}
+use Rattle.cv_parse_script.specs.Trees.{tree_read}
+use Rattle.cv_script.specs.Rows.{built_script_row}
 use Rattle.cv_syntax.specs.Declarations.{Declaration, Equiv}
 use Rattle.cv_syntax.specs.Tree.{Tree}
 use Rattle.cv_parse.specs.declared.error.ParseError.{ParseError}
+use Rattle.cv_parse.specs.Nodes.{file_nodes}
 use Rattle.cv_parse.specs.Parsed.{Parsed, parsed}
 use Rattle.cv_parse.specs.Says.{Says}
 use Rattle.cv_typing.specs.declared.fault.Fault.{Fault}
@@ -21,14 +26,17 @@ use Rattle.cv_query_form.specs.Queries.{queries_in}
 use Rattle.cv_query_form.specs.Rules.{AreAsked}
 use Rattle.cv_query_form.specs.Tests.{first_refused}
 use Rattle.cv_accept.specs.declared.error.FileError.{FileError}
-use Rattle.cv_accept.specs.declared.error.FileError.TheVariants.{Lex, Parse, Script, Types, Scope, Query, Unbuilt, OutOfMemory}
+use Rattle.cv_accept.specs.declared.error.FileError.TheVariants.{Lex, Parse, Script, Types, Scope, Query, Room, Unbuilt, OutOfMemory}
 use Rattle.cv_accept.specs.Places.{behind, nodes_before}
 
--- what a file holds: its names, what it declares, and its game
+-- what a file holds: its names, behind them those of its proof block, what it declares, its game, and the steps of the block,
+-- where it has one
 pub record Content : Type 0 where
   pub names : List (List ℕ)
+  pub own : ℕ  -- how many names are the file's
   pub declarations : List Declaration
   pub game : Tree
+  pub script : Option (List Tree)
 
 -- a declaration of an equivalence, as which a collision is read
 abbrev pub is_equivalence : Declaration → Bool
@@ -38,33 +46,61 @@ is_equivalence d = false
 abbrev pub has_equivalence : List Declaration → Bool
 has_equivalence ds = list_any is_equivalence ds
 
-abbrev pub content_of : List (List ℕ) → Parsed → Content
-content_of names p = record { names = names; declarations = p.declarations; game = p.game }
+-- proof blocks: a block is given by the number of its first token and that of its last brace, and has no token where the brace
+-- doesn't stand behind
 
--- the first of tokens that are counted from a number on, with its number
-abbrev pub first_numbered : ℕ → List Token → Option (ℕ × Token)
-first_numbered n [] = None
-first_numbered n (t ∷ ts) = Some (n, t)
+abbrev pub there : Result Tree ScriptError → Result (Option Tree) ScriptError
+there (Ok t) = Ok (Some t)
+there (Err e) = Err e
 
--- The first token of a proof block, with its number. A block is given by the number of its first token and that of its last
--- brace; there may be none, or one without a token.
-abbrev pub first_of_block : List Token → Option (ℕ × ℕ) → Option (ℕ × Token)
-first_of_block ts None = None
-first_of_block ts (Some block) = first_numbered block.0 (between block.0 block.1 ts)
+-- the tree of a block behind these names, where there is one
+abbrev pub block_by : List Token → List (List ℕ) → Option (ℕ × ℕ) → Result (Option Tree) ScriptError
+block_by ts names None = Ok None
+block_by ts names (Some b) = there (tree_read built_script_row names ts (min b.0 b.1) b.1)
 
--- These bytes are a file that holds this, in a pool with such a limit: typed, in scope, with queries that may be asked, and
--- without a step of a proof or an equivalence.
+-- the names with those of a block behind them
+abbrev pub names_by : List Token → List (List ℕ) → Option (ℕ × ℕ) → List (List ℕ)
+names_by ts names None = names
+names_by ts names (Some b) = (script_signs names (between (min b.0 b.1) b.1 ts)).names
+
+-- the tree of the proof block of a file, whatever room there is
+abbrev pub block_of : List Token → Parsed → Result (Option Tree) ScriptError
+block_of ts p = block_by ts (signs_of ts).names p.script
+
+abbrev pub content_of : List Token → Parsed → Option Tree → Content
+content_of ts p block = record {
+  names = names_by ts (signs_of ts).names p.script;
+  own = length (signs_of ts).names;
+  declarations = p.declarations;
+  game = p.game;
+  script = option_map items block;
+}
+
+-- These bytes are a file that holds this, in a pool with such a limit: with a proof block whose steps have rules, if it has
+-- one, typed, in scope, with queries that may be asked, and without an equivalence.
 pub record IsFile (limit : ℕ) (bytes : List ℕ) (f : Content) : Type 0 where
   pub tokens : List Token
   pub said : Parsed
   pub lexed : Lexed 0 bytes (Ok tokens)
   pub says : Says limit (signs_of tokens).signs said
-  pub no_step : first_of_block tokens said.script ≡ None
+  pub script : Option Tree
+  pub block : block_of tokens said ≡ Ok script
   pub typed : IsTypedFile said.declarations said.game
   pub scoped : IsScoped said.declarations said.game
   pub no_equivalence : has_equivalence said.declarations ≡ false
   pub asked : AreAsked said.game (queries_in said.declarations)
-  pub content : f ≡ content_of (signs_of tokens).names said
+  pub content : f ≡ content_of tokens said script
+
+-- The proof block of a file has steps for whose nodes a pool with all nodes of the file has no room.
+pub record IsFull (limit : ℕ) (bytes : List ℕ) (need : ℕ) : Type 0 where
+  pub tokens : List Token
+  pub said : Parsed
+  pub lexed : tokens_of bytes ≡ Ok tokens
+  pub says : Says limit (signs_of tokens).signs said
+  pub script : Tree
+  pub block : block_of tokens said ≡ Ok (Some script)
+  pub asked : need ≡ nodes_of script
+  pub over : limit < file_nodes said.declarations said.game + need
 
 -- the same, computed, with what bytes are refused for
 
@@ -76,39 +112,39 @@ scope_fault p = behind (nodes_before p.declarations) (first_scope_fault p.declar
 abbrev pub query_fault : Parsed → Option ℕ
 query_fault p = first_refused p.game (queries_in p.declarations)
 
-abbrev pub of_queries : List (List ℕ) → Parsed → Option ℕ → Result Content FileError
-of_queries names p None = Ok (content_of names p)
-of_queries names p (Some k) = Err (Query k)
+abbrev pub of_queries : Content → Option ℕ → Result Content FileError
+of_queries f None = Ok f
+of_queries f (Some k) = Err (Query k)
 
 -- no equivalence is checked yet
-abbrev pub of_equivalences : List (List ℕ) → Parsed → Bool → Result Content FileError
-of_equivalences names p false = of_queries names p (query_fault p)
-of_equivalences names p true = Err Unbuilt
+abbrev pub of_equivalences : Content → Parsed → Bool → Result Content FileError
+of_equivalences f p false = of_queries f (query_fault p)
+of_equivalences f p true = Err Unbuilt
 
-abbrev pub of_scopes : List (List ℕ) → Parsed → Option (ℕ × ScopeRules) → Result Content FileError
-of_scopes names p None = of_equivalences names p (has_equivalence p.declarations)
-of_scopes names p (Some (place, fault)) = Err (Scope (scope_refusal place fault))
+abbrev pub of_scopes : Content → Parsed → Option (ℕ × ScopeRules) → Result Content FileError
+of_scopes f p None = of_equivalences f p (has_equivalence p.declarations)
+of_scopes f p (Some (place, fault)) = Err (Scope (scope_refusal place fault))
 
-abbrev pub of_types : List (List ℕ) → Parsed → Option (ℕ × Fault) → Result Content FileError
-of_types names p None = of_scopes names p (scope_fault p)
-of_types names p (Some (place, fault)) = Err (Types (refusal place fault))
+abbrev pub of_types : Content → Parsed → Option (ℕ × Fault) → Result Content FileError
+of_types f p None = of_scopes f p (scope_fault p)
+of_types f p (Some (place, fault)) = Err (Types (refusal place fault))
 
 -- the first fault of the terms of a file
 abbrev pub type_fault : Parsed → Option (ℕ × Fault)
 type_fault p = first_in p.declarations 0 (file_parts p.declarations p.game)
 
--- why a proof block is refused whose first token has this number, where a step begins with it, and where none does: no step
--- has its rule built yet
-abbrev pub block_fault : ℕ → Bool → FileError
-block_fault token true = Unbuilt
-block_fault token false = Script token
+-- why a file is refused whose proof block is no script; reading its tree asks for no room
+abbrev pub of_block : ScriptError → FileError
+of_block (script.Script token) = Script token
+of_block (script.Unbuilt token) = Unbuilt
+of_block (script.Build e) = OutOfMemory
 
-abbrev pub of_script : List (List ℕ) → Parsed → Option (ℕ × Token) → Result Content FileError
-of_script names p None = of_types names p (type_fault p)
-of_script names p (Some (token, t)) = Err (block_fault token (token_begins_step t))
+abbrev pub of_script : List Token → Parsed → Result (Option Tree) ScriptError → Result Content FileError
+of_script ts p (Ok block) = of_types (content_of ts p block) p (type_fault p)
+of_script ts p (Err e) = Err (of_block e)
 
 abbrev pub of_parsed : List Token → Result Parsed ParseError → Result Content FileError
-of_parsed ts (Ok p) = of_script (signs_of ts).names p (first_of_block ts p.script)
+of_parsed ts (Ok p) = of_script ts p (block_of ts p)
 of_parsed ts (Err e) = Err (Parse e)
 
 abbrev pub of_tokens : ℕ → Result (List Token) LexError → Result Content FileError
@@ -119,7 +155,8 @@ of_tokens limit (Err e) = Err (Lex e)
 unfoldable pub read_of : (limit : ℕ) → List ℕ → Result Content FileError
 read_of limit bytes = of_tokens limit (tokens_of bytes)
 
--- memory may run out anywhere; every other error is the one that is meant
-abbrev pub Refuses : FileError → Result Content FileError → Type 0
-Refuses OutOfMemory r = Unit {0}
-Refuses e r = r ≡ Err e
+-- Memory may run out anywhere, and a pool may have no room for a proof block; every other error is the one that is meant.
+abbrev pub Refuses : (limit : ℕ) → List ℕ → FileError → Type 0
+Refuses limit bytes OutOfMemory = Unit {0}
+Refuses limit bytes (Room need) = IsFull limit bytes need
+Refuses limit bytes e = read_of limit bytes ≡ Err e

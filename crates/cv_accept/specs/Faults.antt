@@ -1,10 +1,16 @@
 -- How the faults of the stages are answered.
-use Rattle.std.specs.Prelude.{◌≡◌, ℕ, Option, None, Some}
+use Rattle.std.specs.Prelude.{◌≡◌, ℕ, ◌+◌, ◌<◌, List, Option, Some, option_map, Result, Ok, Err}
+use Rattle.std.specs.declared.vec.Vec.{Vec}
+use Rattle.std.specs.declared.alloc.Global.{Global}
+use Rattle.cv_pool.specs.KindTree.{KindTree}
+use Rattle.cv_syntax.specs.Tree.{Tree}
 use Rattle.cv_lex.specs.declared.LexError.{LexError}
 use Rattle.cv_lex.specs.declared.LexError.TheVariants as lex
-use Rattle.cv_lex.specs.Lexis.{Token}
 use Rattle.cv_syntax.specs.declared.work.BuildError.TheVariants as build
-use Rattle.cv_parse_script.specs.Scripts.{token_begins_step}
+use Rattle.cv_parse_script.specs.declared.error.ScriptError.{ScriptError}
+use Rattle.cv_parse_script.specs.declared.error.ScriptError.TheVariants as script
+use Rattle.cv_parse_script.specs.Scripts.{items, nodes_of}
+use Rattle.cv_script.specs.declared.steps.Step.{Step}
 use Rattle.cv_parse.specs.declared.error.ParseError.{ParseError}
 use Rattle.cv_parse.specs.declared.error.ParseError.TheVariants as parse
 use Rattle.cv_typing.specs.declared.fault.TypeFault.{TypeFault}
@@ -13,9 +19,10 @@ use Rattle.cv_scope.specs.declared.fault.ScopeFault.{ScopeFault}
 use Rattle.cv_scope.specs.declared.fault.ScopeFault.TheVariants as scope
 use Rattle.cv_query_form.specs.declared.fault.QueryFault.{QueryFault}
 use Rattle.cv_query_form.specs.declared.fault.QueryFault.TheVariants as query
-use Rattle.cv_accept.specs.Accepted.{block_fault}
+use Rattle.cv_accept.specs.Accepted.{of_block}
+use Rattle.cv_accept.specs.Works.{script_in}
 use Rattle.cv_accept.specs.declared.error.FileError.{FileError}
-use Rattle.cv_accept.specs.declared.error.FileError.TheVariants.{Lex, Parse, Types, Scope, Query, OutOfMemory}
+use Rattle.cv_accept.specs.declared.error.FileError.TheVariants.{Lex, Parse, Script, Types, Scope, Query, Room, Unbuilt, OutOfMemory}
 
 abbrev pub of_lex : LexError → FileError
 of_lex lex.OutOfMemory = OutOfMemory
@@ -37,8 +44,16 @@ abbrev pub of_parse : ParseError → FileError
 of_parse (parse.Build build.OutOfMemory) = OutOfMemory
 of_parse e = Parse e
 
--- memory ran out, or the block whose first token is this, with its number, is refused so
-abbrev pub IsBlockFault : Option (ℕ × Token) → FileError → Type 0
-IsBlockFault first OutOfMemory = Unit {0}
-IsBlockFault None e = ⊥
-IsBlockFault (Some (token, t)) e = e ≡ block_fault token (token_begins_step t)
+-- why a file is refused whose proof block isn't read into a pool
+abbrev pub of_script : ScriptError → FileError
+of_script (script.Script token) = Script token
+of_script (script.Unbuilt token) = Unbuilt
+of_script (script.Build (build.Full need)) = Room need
+of_script (script.Build e) = OutOfMemory
+
+-- A block was read, with its names, or is refused so; a pool with so many nodes may have no room for it.
+abbrev pub IsBlock : (limit live : ℕ) → Result (Option Tree) ScriptError → List KindTree → Result (Option (Vec Step Global)) FileError → Type 0
+IsBlock limit live r trees (Ok v) = (block : Option Tree) × (r ≡ Ok block) × (script_in trees v ≡ option_map items block)
+IsBlock limit live r trees (Err OutOfMemory) = Unit {0}
+IsBlock limit live r trees (Err (Room need)) = (block : Tree) × (r ≡ Ok (Some block)) × (need ≡ nodes_of block) × (limit < live + need)
+IsBlock limit live r trees (Err e) = (x : ScriptError) × (r ≡ Err x) × (e ≡ of_block x)

@@ -1,35 +1,62 @@
 -- What a work holds.
-use Rattle.std.specs.Prelude.{◌≡◌, ℕ, ◌≤◌, List, Some, Result, Ok, Err, take}
+use Rattle.std.specs.Prelude.{◌≡◌, ℕ, ◌+◌, ◌<◌, ◌≤◌, All, List, length, Option, Some, None, option_map, Result, Ok, Err}
+use Rattle.std.specs.declared.vec.Vec.{Vec}
+use Rattle.std.specs.declared.alloc.Global.{Global}
 use Rattle.cv_pool.specs.declared.node.NodeId.{NodeId}
 use Rattle.cv_pool.specs.KindTree.{KindTree}
 use Rattle.cv_syntax.specs.declared.decls.Decl.{Decl}
-use Rattle.cv_syntax.specs.declared.work.File.{File}
 use Rattle.cv_syntax.specs.declared.work.Work.{Work}
 use Rattle.cv_syntax.specs.Declarations.{declarations}
-use Rattle.cv_syntax.specs.Tree.{depth, size, tree_at}
+use Rattle.cv_syntax.specs.Tree.{Tree, depth, size, tree_at}
+use Rattle.cv_parse.specs.Nodes.{file_nodes}
 use Rattle.cv_parse.specs.Parsed.{most_depth, most_nodes}
+use Rattle.cv_parse_script.specs.Scripts.{trees_of}
+use Rattle.cv_parse_script.specs.Trees.{script_nodes}
+use Rattle.cv_script.specs.declared.steps.Step.{Step}
 use Rattle.cv_typing.specs.Parts.{IsTypedFile}
 use Rattle.cv_scope_runs.specs.Phrases.{IsWellFormed}
 use Rattle.cv_query_form.specs.Queries.{queries_in}
 use Rattle.cv_query_form.specs.Rules.{AreAsked}
 use Rattle.cv_accept.specs.declared.error.FileError.{FileError}
+use Rattle.cv_accept.specs.declared.file.Accepted.{Accepted}
 use Rattle.cv_accept.specs.Accepted.{Content, Refuses, read_of}
 
--- names and declarations, with the game at a node
-abbrev pub content_in : List (List ℕ) → List KindTree → List Decl → NodeId → Content
-content_in names trees list root = record { names = names; declarations = declarations trees list; game = tree_at trees (Some root) }
+-- the trees of the steps of a proof block
+abbrev pub script_in : List KindTree → Option (Vec Step Global) → Option (List Tree)
+script_in trees script = option_map (λ v. trees_of trees v.items) script
 
--- the same of a work, of whose names the first are the file's own
-abbrev pub content_at : Work → NodeId → Content
-content_at w root = content_in (take w.decls.own w.names) w.pool.trees w.decls.list root
+-- names, of which the first are the file's own, declarations and steps, with the game at a node
+abbrev pub content_in : List (List ℕ) → (own : ℕ) → List KindTree → List Decl → NodeId → Option (Vec Step Global) → Content
+content_in names own trees list root script = record {
+  names = names;
+  own = own;
+  declarations = declarations trees list;
+  game = tree_at trees (Some root);
+  script = script_in trees script;
+}
+
+abbrev pub content_at : Work → NodeId → Option (Vec Step Global) → Content
+content_at w root script = content_in w.names w.decls.own w.pool.trees w.decls.list root script
 
 -- what was read is what the bytes hold, and an error is the one that they are refused for
-abbrev pub ReadsIn : (limit : ℕ) → List ℕ → List (List ℕ) → List KindTree → List Decl → Result File FileError → Type 0
-ReadsIn limit bytes names trees list (Ok f) = read_of limit bytes ≡ Ok (content_in names trees list f.game.root)
-ReadsIn limit bytes names trees list (Err e) = Refuses e (read_of limit bytes)
+abbrev pub Reads : (limit : ℕ) → List ℕ → Work → Result Accepted FileError → Type 0
+Reads limit bytes w (Ok f) = read_of limit bytes ≡ Ok (content_at w f.file.game.root f.script)
+Reads limit bytes w (Err e) = Refuses limit bytes e
 
-abbrev pub Reads : (limit : ℕ) → List ℕ → Work → Result File FileError → Type 0
-Reads limit bytes w r = ReadsIn limit bytes w.names w.pool.trees w.decls.list r
+-- how many nodes the steps of a proof block take
+abbrev pub block_nodes : Option (List Tree) → ℕ
+block_nodes None = 0
+block_nodes (Some ts) = script_nodes ts
+
+-- how many nodes a file takes with its steps
+abbrev pub content_nodes : Content → ℕ
+content_nodes f = file_nodes f.declarations f.game + block_nodes f.script
+
+-- The steps of a proof block are live, and no larger than a pool may be; the pool is within its limit.
+pub record HasSteps (limit : ℕ) (trees : List KindTree) (steps : List Step) : Type 0 where
+  pub few : length trees ≤ limit
+  pub live : All (λ s. s.0.0 < length trees) steps
+  pub small : All (λ s. size (tree_at trees (Some s.0)) ≤ limit) steps
 
 -- a file's game is no larger than a game may be and well formed, the file is typed, and its queries may be asked
 pub record IsAccepted (f : Content) : Type 0 where

@@ -1,5 +1,6 @@
 use cv_lex::LexError;
 use cv_parse::ParseError;
+use cv_parse_script::ScriptError;
 use cv_query_form::QueryFault;
 use cv_scope::ScopeFault;
 use cv_syntax::BuildError;
@@ -13,7 +14,7 @@ pub enum FileError {
     Lex(LexError),
     /// Their tokens are no file.
     Parse(ParseError),
-    /// They are a file whose proof block begins with this token, with which no step begins.
+    /// They are a file whose proof block is no script: none goes through this token.
     Script(u32),
     /// They are a file whose terms aren't typed.
     Types(TypeFault),
@@ -21,7 +22,9 @@ pub enum FileError {
     Scope(ScopeFault),
     /// They are a file whose query of this number, counted from 1, may not be asked.
     Query(u32),
-    /// They are a file with a part that isn't checked yet: a proof block with a step, or an equivalence.
+    /// The pool has no room for so many nodes more, those of the steps of the file's proof block.
+    Room { need: u32 },
+    /// They are a file with a part that isn't checked yet: a step that has no rule, or an equivalence.
     Unbuilt,
     OutOfMemory,
 }
@@ -61,6 +64,22 @@ impl From<ParseError> for FileError {
         match fault {
             ParseError::Build(BuildError::OutOfMemory) => FileError::OutOfMemory,
             other => FileError::Parse(other),
+        }
+    }
+}
+
+impl From<ScriptError> for FileError {
+    ghost use Rattle.cv_accept.specs.Faults.{of_script};
+    ghost use Rattle.std.specs.Prelude.{◌≡◌};
+
+    ghost from_gives = { λ fault e. e ≡ of_script fault };
+
+    fn from(fault: ScriptError) -> FileError {
+        match fault {
+            ScriptError::Script(token) => FileError::Script(token),
+            ScriptError::Unbuilt(_) => FileError::Unbuilt,
+            ScriptError::Build(BuildError::Full { need }) => FileError::Room { need },
+            ScriptError::Build(_) => FileError::OutOfMemory,
         }
     }
 }

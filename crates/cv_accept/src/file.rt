@@ -1,11 +1,10 @@
-ghost use Rattle.std.specs.Prelude.{◌≡◌, ◌+◌, ◌<◌, ◌≤◌, ◌^◌, [], ℕ, Some, None, All, length, IfErr, IfOk, IfSome, OnOk, OnErr};
-ghost use Rattle.cv_syntax.specs.Declarations.{declarations};
+ghost use Rattle.std.specs.Prelude.{◌≡◌, ◌+◌, ◌<◌, ◌≤◌, ◌^◌, [], ℕ, Some, All, length, IfOk, IfSome, OnOk, OnErr};
+ghost use Rattle.cv_pool.specs.PoolView.{Grows};
 ghost use Rattle.cv_parse.specs.Declaring.{IsBelow};
-ghost use Rattle.cv_parse.specs.Nodes.{file_nodes};
 ghost use Rattle.cv_syntax.specs.Tree.{size, tree_at};
-ghost use Rattle.cv_accept.specs.Accepted.{first_of_block};
-ghost use Rattle.cv_accept.specs.Faults.{IsBlockFault};
-ghost use Rattle.cv_accept.specs.Works.{Reads};
+ghost use Rattle.cv_accept.specs.Accepted.{block_by, names_by};
+ghost use Rattle.cv_accept.specs.Faults.{IsBlock};
+ghost use Rattle.cv_accept.specs.Works.{HasSteps, Reads, block_nodes, content_at, content_nodes, script_in};
 
 use crate::equivalences::has_equivalence;
 use crate::error::FileError;
@@ -13,64 +12,92 @@ use crate::scoping::check_game;
 use cv_directory::Directory;
 use cv_lex::{Tokens, tokens};
 use cv_parse::file;
-use cv_parse_script::begins_step;
+use cv_parse_script::script;
 use cv_query_form::check as check_queries;
+use cv_script::Step;
 use cv_syntax::{File, Work};
 use cv_typing::check as check_types;
 use std::alloc::Global;
 
-/// Whether a proof block between two tokens has none, or why it is refused: no step has its rule built yet.
-fn check_steps(alloc: Global, tokens: &Tokens, from: u32, to: u32) -> Result<(), FileError>
-    requires within { to < length tokens.now }
-    requires few { length tokens.now < 2 ^ 32 }
-    ensures none { OnOk result (first_of_block tokens.now (Some (from, to)) ≡ None) }
-    ensures found { IfErr result (IsBlockFault (first_of_block tokens.now (Some (from, to)))) }
-{
-    if from >= to {
-        return Ok(());
-    }
-    if begins_step(alloc, tokens, from)? {
-        return Err(FileError::Unbuilt);
-    }
-    Err(FileError::Script(from))
+/// An accepted file, with the steps of its proof block, where it has one.
+#[derive(Drop)]
+pub struct Accepted {
+    pub file: File,
+    pub script: Option<Vec<Step>>,
 }
 
-/// The same of the proof block of a file, which may have none.
-fn check_block(alloc: Global, tokens: &Tokens, block: Option<(u32, u32)>) -> Result<(), FileError>
+/// Reads the proof block of a file, and puts its names behind the others.
+fn read_steps(
+    alloc: Global,
+    work: &mut Work,
+    tokens: &Tokens,
+    range: (u32, u32),
+) -> Result<Option<Vec<Step>>, FileError>
+    requires within { range.1 < length tokens.now }
+    requires few { length work.old.names + length tokens.now < 2 ^ 32 }
+    ensures reads { IsBlock work.old.pool.limit (length work.old.pool.trees)
+        (block_by tokens.now work.old.names (Some range)) work.new.pool.trees result }
+    ensures names { OnOk result (work.new.names
+        ≡ names_by tokens.now work.old.names (Some range)) }
+    ensures steps { IfOk result (λ v. IfSome v (λ s.
+        HasSteps work.new.pool.limit work.new.pool.trees s.items)) }
+    ensures few { IfOk result (λ v. length work.new.pool.trees
+        ≤ length work.old.pool.trees + block_nodes (script_in work.new.pool.trees v)) }
+    ensures grows { Grows work.old.pool work.new.pool }
+    ensures decls { work.new.decls ≡ work.old.decls }
+{
+    let from = range.0.min(range.1);
+    let steps = script(alloc, work, tokens, (from, range.1))?;
+    Ok(Some(steps))
+}
+
+/// The same, where there is a proof block.
+fn read_block(
+    alloc: Global,
+    work: &mut Work,
+    tokens: &Tokens,
+    block: Option<(u32, u32)>,
+) -> Result<Option<Vec<Step>>, FileError>
     requires within { IfSome block (λ b. b.1 < length tokens.now) }
-    requires few { length tokens.now < 2 ^ 32 }
-    ensures none { OnOk result (first_of_block tokens.now block ≡ None) }
-    ensures found { IfErr result (IsBlockFault (first_of_block tokens.now block)) }
+    requires few { length work.old.names + length tokens.now < 2 ^ 32 }
+    ensures reads { IsBlock work.old.pool.limit (length work.old.pool.trees)
+        (block_by tokens.now work.old.names block) work.new.pool.trees result }
+    ensures names { OnOk result (work.new.names ≡ names_by tokens.now work.old.names block) }
+    ensures steps { IfOk result (λ v. IfSome v (λ s.
+        HasSteps work.new.pool.limit work.new.pool.trees s.items)) }
+    ensures few { IfOk result (λ v. length work.new.pool.trees
+        ≤ length work.old.pool.trees + block_nodes (script_in work.new.pool.trees v)) }
+    ensures grows { Grows work.old.pool work.new.pool }
+    ensures decls { work.new.decls ≡ work.old.decls }
 {
     match block {
-        None => Ok(()),
-        Some(range) => check_steps(alloc, tokens, range.0, range.1),
+        None => Ok(None),
+        Some(range) => read_steps(alloc, work, tokens, range),
     }
 }
 
 /// Fills an empty work with what bytes hold, where they are a file.
 #[tactic(auto, using(crate::proofs::Lengths::lengths))]
-fn fill(alloc: Global, work: &mut Work, bytes: &[u8]) -> Result<File, FileError>
+fn fill(alloc: Global, work: &mut Work, bytes: &[u8]) -> Result<Accepted, FileError>
     requires names { work.old.names ≡ [] }
     requires decls { work.old.decls.list ≡ [] }
     requires trees { work.old.pool.trees ≡ [] }
     requires limit { work.old.pool.limit < 4294967295 }
     requires few { length bytes.now ≤ 1048576 }
     ensures reads { Reads work.old.pool.limit bytes.now work.new result }
-    ensures live { IfOk result (λ f. f.game.root.0 < length work.new.pool.trees) }
-    ensures fits { IfOk result (λ f. size (tree_at work.new.pool.trees (Some f.game.root))
+    ensures live { IfOk result (λ f. f.file.game.root.0 < length work.new.pool.trees) }
+    ensures fits { IfOk result (λ f. size (tree_at work.new.pool.trees (Some f.file.game.root))
         ≤ 50000) }
     ensures nodes { IfOk result (λ f. length work.new.pool.trees
-        ≤ file_nodes (declarations work.new.pool.trees work.new.decls.list)
-        (tree_at work.new.pool.trees (Some f.game.root))) }
+        ≤ content_nodes (content_at work.new f.file.game.root f.script)) }
+    ensures steps { IfOk result (λ f. IfSome f.script (λ s.
+        HasSteps work.new.pool.limit work.new.pool.trees s.items)) }
     ensures limit { work.new.pool.limit ≡ work.old.pool.limit }
     ensures below { OnOk result (All (IsBelow (length work.new.pool.trees)) work.new.decls.list) }
-    ensures script { IfOk result (λ f. f.script ≡ None) }
-    ensures own { OnOk result (work.new.decls.own ≡ length work.new.names) }
 {
     let tokens = tokens(alloc, bytes)?;
     let file = file(alloc, work, &tokens)?;
-    check_block(alloc, &tokens, file.script)?;
+    let script = read_block(alloc, work, &tokens, file.script)?;
     let directory = Directory::of(alloc, &work.pool, &work.decls, file.game.root)?;
     let (nodes, directory) = check_types(alloc, work, &file, directory)?;
     let directory = check_game(alloc, work, file.game, nodes, directory)?;
@@ -78,32 +105,28 @@ fn fill(alloc: Global, work: &mut Work, bytes: &[u8]) -> Result<File, FileError>
         return Err(FileError::Unbuilt);
     }
     check_queries(alloc, work, file.game, &directory)?;
-    Ok(File {
-        game: file.game,
-        script: None,
-    })
+    Ok(Accepted { file, script })
 }
 
 /// Reads a file into an empty work, and sets how many names are its own. Where no file is read the work is
 /// empty again and has as many own names as before; the pool may have more spare room. A file has at most a
 /// mebibyte.
-pub fn read(alloc: Global, work: &mut Work, bytes: &[u8]) -> Result<File, FileError>
+pub fn read(alloc: Global, work: &mut Work, bytes: &[u8]) -> Result<Accepted, FileError>
     requires names { work.old.names ≡ [] }
     requires decls { work.old.decls.list ≡ [] }
     requires trees { work.old.pool.trees ≡ [] }
     requires limit { work.old.pool.limit < 4294967295 }
     requires few { length bytes.now ≤ 1048576 }
     ensures reads { Reads work.old.pool.limit bytes.now work.new result }
-    ensures live { IfOk result (λ f. f.game.root.0 < length work.new.pool.trees) }
-    ensures fits { IfOk result (λ f. size (tree_at work.new.pool.trees (Some f.game.root))
+    ensures live { IfOk result (λ f. f.file.game.root.0 < length work.new.pool.trees) }
+    ensures fits { IfOk result (λ f. size (tree_at work.new.pool.trees (Some f.file.game.root))
         ≤ 50000) }
     ensures nodes { IfOk result (λ f. length work.new.pool.trees
-        ≤ file_nodes (declarations work.new.pool.trees work.new.decls.list)
-        (tree_at work.new.pool.trees (Some f.game.root))) }
+        ≤ content_nodes (content_at work.new f.file.game.root f.script)) }
+    ensures steps { IfOk result (λ f. IfSome f.script (λ s.
+        HasSteps work.new.pool.limit work.new.pool.trees s.items)) }
     ensures limit { work.new.pool.limit ≡ work.old.pool.limit }
     ensures below { OnOk result (All (IsBelow (length work.new.pool.trees)) work.new.decls.list) }
-    ensures script { IfOk result (λ f. f.script ≡ None) }
-    ensures own { OnOk result (work.new.decls.own ≡ length work.new.names) }
     ensures names { OnErr result (work.new.names ≡ []) }
     ensures decls { OnErr result (work.new.decls.list ≡ []) }
     ensures same_own { OnErr result (work.new.decls.own ≡ work.old.decls.own) }

@@ -8,5 +8,5 @@ mod laws;
 mod scoping;
 
 pub use error::FileError;
-pub use file::read;
+pub use file::{Accepted, read};
 pub use laws::{accepted_is_well_formed, file_is_computed};

@@ -17,6 +17,8 @@ use Rattle.cv_typing.specs.declared.fault.TypeFault.{TypeFault}
 use Rattle.cv_typing.specs.declared.fault.TypeFault.TheVariants as type
 use Rattle.cv_scope.specs.declared.fault.ScopeFault.{ScopeFault}
 use Rattle.cv_scope.specs.declared.fault.ScopeFault.TheVariants as scope
+use Rattle.cv_report.specs.declared.report.Cause.{Cause}
+use Rattle.cv_report.specs.declared.report.Cause.TheVariants.{Stuck, StepRefused, NoClose}
 use Rattle.cv_report.specs.declared.report.FileFault.{FileFault}
 use Rattle.cv_report.specs.declared.report.FileFault.TheVariants.{Lex, Parse, Script, Types, Scope, Query}
 use Rattle.cv_report.specs.declared.report.Report.{Report}
@@ -106,9 +108,35 @@ fault_text (Types e) = types_text e
 fault_text (Scope e) = scope_text e
 fault_text (Query k) = query_text k
 
+-- a number behind what it numbers
+unfoldable pub numbered_text : List ℕ → ℕ → List ℕ
+numbered_text what k = what ++ decimal k
+
+-- the place at which a condition fails
+unfoldable pub place_text : ℕ → List ℕ
+place_text place = numbered_text (codes " at ") place ++ codes "\n"
+
+-- the condition that fails, with the place
+unfoldable pub condition_text : (condition place : ℕ) → List ℕ
+condition_text condition place = numbered_text (codes " condition ") condition ++ place_text place
+
+-- the end line of a script with a step that fails a condition at a place
+abbrev pub step_refused_text : (step condition place : ℕ) → List ℕ
+step_refused_text step condition place = numbered_text (codes "end 1 open: step ") step ++ condition_text condition place
+
+-- the end line of a script that closes the k-th query by no step
+abbrev pub no_close_text : ℕ → List ℕ
+no_close_text k = numbered_text (codes "end 1 open: no close of query ") k ++ codes "\n"
+
+-- the end lines of runs that leave a query open
+abbrev pub open_text : Cause → List ℕ
+open_text Stuck = codes "end 1 open: stuck\n"
+open_text (StepRefused step condition place) = step_refused_text step condition place
+open_text (NoClose k) = no_close_text k
+
 abbrev pub end_text : Status → List ℕ
 end_text status.Proved = codes "end 0 proved\n"
-end_text (status.Open cause) = codes "end 1 open: stuck\n"
+end_text (status.Open cause) = open_text cause
 end_text (status.FileRefused fault) = fault_text fault
 end_text status.Words = codes "end 3 words\n"
 end_text status.Read = codes "end 4 read\n"

@@ -39,6 +39,14 @@ pub enum Verdict {
 pub enum Cause {
     /// The strategy has no step.
     Stuck,
+    /// A step of the script, counted from 1, fails this condition at this place.
+    StepRefused {
+        step: u32,
+        condition: u32,
+        place: u32,
+    },
+    /// Every step of the script was accepted, and this query, counted from 1, is closed by none.
+    NoClose(u32),
 }
 
 /// Why bytes are no file.
@@ -116,6 +124,8 @@ pub struct Report {
     /// The file, where it was accepted.
     pub file: Option<File>,
     pub command: Command,
+    /// The steps of the file's proof block, where it has one.
+    pub script: Option<Vec<Step>>,
     /// The accepted steps, in order.
     pub steps: Vec<Step>,
     /// The same steps, each with its cost and the game that it leads to.

@@ -1,8 +1,8 @@
 // The text of a report.
 ghost use Rattle.std.specs.Prelude.{◌≡◌, ◌+◌, ◌<◌, ◌^◌, ◌++◌, [], All, length, IfOk, OnOk, IfSome};
-ghost use Rattle.cv_report.specs.Text.{EntryLive, IsLive, cost_text, end_text, entry_text, fault_text, games_after, grammar_text, lexis_text, next_text, query_text, refused_text, said_text, scope_text, script_text, text_of, trail_text, types_text, verdict_text, verdicts_text};
+ghost use Rattle.cv_report.specs.Text.{EntryLive, IsLive, condition_text, cost_text, end_text, entry_text, fault_text, games_after, grammar_text, lexis_text, next_text, no_close_text, numbered_text, open_text, place_text, query_text, refused_text, said_text, scope_text, script_text, step_refused_text, text_of, trail_text, types_text, verdict_text, verdicts_text};
 
-use crate::report::{Entry, FileFault, Report, Status, Verdict, Which};
+use crate::report::{Cause, Entry, FileFault, Report, Status, Verdict, Which};
 use cv_bound::{Cost, listed_text};
 use cv_lex::LexError;
 use cv_parse::ParseError;
@@ -229,13 +229,77 @@ fn push_fault(out: &mut Vec<u8>, fault: FileFault) -> Result<(), AllocError>
     }
 }
 
+/// Appends a number behind what it numbers.
+#[tactic(auto, unfolding(crate::specs::Text::numbered_text))]
+fn push_numbered(out: &mut Vec<u8>, what: &[u8], number: u32) -> Result<(), AllocError>
+    ensures { OnOk result (out.new.items ≡ out.old.items ++ numbered_text what.now number) }
+{
+    out.extend_from_slice(what)?;
+    push_decimal(out, number as u64)
+}
+
+/// Appends the place at which a condition fails.
+#[tactic(auto, unfolding(crate::specs::Text::place_text))]
+fn push_place(out: &mut Vec<u8>, place: u32) -> Result<(), AllocError>
+    ensures { OnOk result (out.new.items ≡ out.old.items ++ place_text place) }
+{
+    push_numbered(out, b" at ", place)?;
+    out.extend_from_slice(b"\n")
+}
+
+/// Appends the condition that fails, with the place.
+#[tactic(auto, unfolding(crate::specs::Text::condition_text))]
+fn push_condition(out: &mut Vec<u8>, condition: u32, place: u32) -> Result<(), AllocError>
+    ensures { OnOk result (out.new.items ≡ out.old.items ++ condition_text condition place) }
+{
+    push_numbered(out, b" condition ", condition)?;
+    push_place(out, place)
+}
+
+/// Appends the end line of a script with a step that fails a condition at a place.
+fn push_step_refused(
+    out: &mut Vec<u8>,
+    step: u32,
+    condition: u32,
+    place: u32,
+) -> Result<(), AllocError>
+    ensures { OnOk result (out.new.items
+        ≡ out.old.items ++ step_refused_text step condition place) }
+{
+    push_numbered(out, b"end 1 open: step ", step)?;
+    push_condition(out, condition, place)
+}
+
+/// Appends the end line of a script that closes a query by no step.
+fn push_no_close(out: &mut Vec<u8>, k: u32) -> Result<(), AllocError>
+    ensures { OnOk result (out.new.items ≡ out.old.items ++ no_close_text k) }
+{
+    push_numbered(out, b"end 1 open: no close of query ", k)?;
+    out.extend_from_slice(b"\n")
+}
+
+/// Appends the end line of a run that leaves a query open.
+fn push_open(out: &mut Vec<u8>, cause: Cause) -> Result<(), AllocError>
+    ensures { OnOk result (out.new.items ≡ out.old.items ++ open_text cause) }
+{
+    match cause {
+        Cause::Stuck => out.extend_from_slice(b"end 1 open: stuck\n"),
+        Cause::StepRefused {
+            step,
+            condition,
+            place,
+        } => { push_step_refused(out, step, condition, place) }
+        Cause::NoClose(k) => push_no_close(out, k),
+    }
+}
+
 /// Appends the end line.
 fn push_end(out: &mut Vec<u8>, status: Status) -> Result<(), AllocError>
     ensures { OnOk result (out.new.items ≡ out.old.items ++ end_text status) }
 {
     match status {
         Status::Proved => out.extend_from_slice(b"end 0 proved\n"),
-        Status::Open(_) => out.extend_from_slice(b"end 1 open: stuck\n"),
+        Status::Open(cause) => push_open(out, cause),
         Status::FileRefused(fault) => push_fault(out, fault),
         Status::Words => out.extend_from_slice(b"end 3 words\n"),
         Status::Read => out.extend_from_slice(b"end 4 read\n"),

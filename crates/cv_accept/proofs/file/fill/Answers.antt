@@ -1,81 +1,214 @@
-use Rattle.std.proofs.Common.{ap, arith, subst, sym, ◌+◌, ◌<◌, ◌∙◌, None, Some}
+use Rattle.std.proofs.Common.{ap, arith, subst, sym, ◌≤◌, ◌∙◌, length, Ok, Err, All}
 use Rattle.cv_parse_terminals.specs.Signs.{signs_of}
-use Rattle.cv_syntax.specs.Declarations.{declarations}
-use Rattle.cv_syntax.specs.Tree.{size, tree_at}
+use Rattle.cv_syntax.specs.Tree.{size}
+use Rattle.cv_parse.specs.Declaring.{IsBelow}
+use Rattle.cv_parse.specs.Nodes.{file_nodes}
 use Rattle.cv_parse.specs.Parsed.{held_in}
 use Rattle.cv_scope.specs.Refusals.{IsRefusalOf}
 use Rattle.cv_scope.specs.Scope.{first_scope_fault}
-use Rattle.cv_accept.specs.Accepted.{read_of}
+use Rattle.cv_accept.specs.Accepted.{content_of}
 use Rattle.cv_accept.specs.Places.{behind}
+use Rattle.cv_accept.proofs.Blocks.{below-grown, block_as, content_same, few_names, held-grown, root-grown}
 use Rattle.cv_accept.proofs.EquivalenceLists.{equivalence_same}
+use Rattle.cv_accept.proofs.Lengths.{few_tokens}
 use Rattle.cv_accept.proofs.Places.{none_behind, process_begins}
-use Rattle.cv_accept.proofs.Readings.{all_reads, block_within, by_equivalences, by_scope, by_types, equivalence_refuses, grammar_refuses, lexis_refuses, query_refuses, reads_on, scope_refuses, script_refuses, types_refuse}
+use Rattle.cv_accept.proofs.Readings.{all_reads, block_refuses, block_within, by_block, by_equivalences, by_scope, by_types, equivalence_refuses, grammar_refuses, lexis_refuses, query_refuses, reads_on, scope_refuses, types_refuse}
 use Rattle.cv_accept.proofs.Tokens.{are_tokens}
 use Rattle.cv_accept.proofs.Weights.{few_terms}
 use Rattle.cv_accept.proofs.file.fill.Goals as goal
 
 pub returns-in_err-tokens-clause-reads : goal.returns-in_err-tokens-clause-reads
-returns-in_err-tokens-clause-reads c = reads_on c.args.work.now.pool.limit c.args.bytes.now _ _ _ _ _ c.from_residual.ensures.1 (lexis_refuses c.args.work.now.pool.limit c.args.bytes.now _ c.in_err-tokens.ensures.err)
+returns-in_err-tokens-clause-reads c = reads_on c.args.work.now.pool.limit c.args.bytes.now c.args.work.now _ _ c.from_residual.ensures.1 (lexis_refuses c.args.work.now.pool.limit c.args.bytes.now _ c.in_err-tokens.ensures.err)
 
 pub returns-in_err-file-clause-reads : goal.returns-in_err-file-clause-reads
-returns-in_err-file-clause-reads c = reads_on c.args.work.now.pool.limit c.args.bytes.now _ _ _ _ _ c.from_residual-in_err-file.ensures.1 (grammar_refuses c.args.work.now.pool.limit c.args.bytes.now _ _ c.in_ok-tokens.ensures.ok c.in_err-file.ensures.parses)
+returns-in_err-file-clause-reads c = reads_on c.args.work.now.pool.limit c.args.bytes.now c.file.new.work _ _ c.from_residual-in_err-file.ensures.1 (grammar_refuses c.args.work.now.pool.limit c.args.bytes.now _ _ c.in_ok-tokens.ensures.ok c.in_err-file.ensures.parses)
 
-pub check_block-requires-clause-within : goal.check_block-requires-clause-within
-check_block-requires-clause-within c = block_within c.args.work.now.pool.limit _ _ (are_tokens c.args.bytes.now _ c.in_ok-tokens.ensures.ok) c.in_ok-file.ensures.parses
+pub read_block-requires-clause-within : goal.read_block-requires-clause-within
+read_block-requires-clause-within c = block_within c.args.work.now.pool.limit _ _ (are_tokens c.args.bytes.now _ c.in_ok-tokens.ensures.ok) c.in_ok-file.ensures.parses
 
-pub returns-in_err-check_block-clause-reads : goal.returns-in_err-check_block-clause-reads
-returns-in_err-check_block-clause-reads c = reads_on c.args.work.now.pool.limit c.args.bytes.now _ _ _ _ _ c.from_residual-in_err-check_block.ensures.1 (script_refuses c.args.work.now.pool.limit c.args.bytes.now _ _ _ c.in_ok-tokens.ensures.ok c.in_ok-file.ensures.parses c.in_err-check_block.ensures.found)
+pub read_block-requires-clause-few : goal.read_block-requires-clause-few
+read_block-requires-clause-few c =
+    let few = few_names c.in_ok-tokens.tokens in
+    let tokens = few_tokens c.args.bytes.now c.in_ok-tokens.tokens c.in_ok-tokens.ensures.ok in
+    let same = ap length c.in_ok-file.ensures.names in
+    omega (arith, few, tokens, same, c.requires.few)
+
+pub returns-in_err-script-clause-reads : goal.returns-in_err-script-clause-reads
+returns-in_err-script-clause-reads c =
+    let limit = c.args.work.now.pool.limit in
+    let f = c.in_ok-file.file in
+    let ts = c.in_ok-tokens.tokens in
+    let old = c.file.new.work in
+    let trees = c.read_block.new.work.pool.trees in
+    let block = block_as old.pool.limit limit (length old.pool.trees) ts old.names (signs_of ts).names f.script trees (Err c.in_err-script.field-0.0) c.file.ensures.limit c.in_ok-file.ensures.names c.in_err-script.ensures.reads in
+    reads_on limit c.args.bytes.now c.read_block.new.work _ _ c.from_residual-in_err-script.ensures.1 (block_refuses limit (length old.pool.trees) c.args.bytes.now ts (held_in old.pool.trees old.decls.list f) c.in_ok-tokens.ensures.ok c.in_ok-file.ensures.parses trees c.in_err-script.field-0.0 c.in_ok-file.ensures.nodes block)
+
+pub check-requires-clause-declared : goal.check-requires-clause-declared
+check-requires-clause-declared c =
+    let old = c.file.new.work in
+    let new = c.read_block.new.work in
+    below-grown old.pool new.pool new.decls.list c.read_block.ensures.grows (subst (λ ds. All (IsBelow (length old.pool.trees)) ds.list) (sym c.read_block.ensures.decls) c.in_ok-file.ensures.below)
+
+pub check_game-requires-clause-declared : goal.check_game-requires-clause-declared
+check_game-requires-clause-declared c =
+    let old = c.file.new.work in
+    let new = c.read_block.new.work in
+    below-grown old.pool new.pool new.decls.list c.read_block.ensures.grows (subst (λ ds. All (IsBelow (length old.pool.trees)) ds.list) (sym c.read_block.ensures.decls) c.in_ok-file.ensures.below)
+
+pub check-requires-2-clause-declared : goal.check-requires-2-clause-declared
+check-requires-2-clause-declared c =
+    let old = c.file.new.work in
+    let new = c.read_block.new.work in
+    below-grown old.pool new.pool new.decls.list c.read_block.ensures.grows (subst (λ ds. All (IsBelow (length old.pool.trees)) ds.list) (sym c.read_block.ensures.decls) c.in_ok-file.ensures.below)
+
+pub returns-clause-below : goal.returns-clause-below
+returns-clause-below c =
+    let old = c.file.new.work in
+    let new = c.read_block.new.work in
+    below-grown old.pool new.pool new.decls.list c.read_block.ensures.grows (subst (λ ds. All (IsBelow (length old.pool.trees)) ds.list) (sym c.read_block.ensures.decls) c.in_ok-file.ensures.below)
 
 pub check-requires-clause-fits : goal.check-requires-clause-fits
-check-requires-clause-fits c = few_terms c.args.work.now.pool.limit _ _ c.requires.limit c.in_ok-file.ensures.parses
-
-pub returns-in_err-nodes-clause-reads : goal.returns-in_err-nodes-clause-reads
-returns-in_err-nodes-clause-reads c = reads_on c.args.work.now.pool.limit c.args.bytes.now _ _ _ _ _ c.from_residual-in_err-nodes.ensures.1 (types_refuse c.args.work.now.pool.limit c.args.bytes.now _ _ _ c.in_ok-tokens.ensures.ok c.in_ok-file.ensures.parses c.in_ok-check_block.ensures.none c.in_err-nodes.ensures.found)
+check-requires-clause-fits c =
+    let limit = c.args.work.now.pool.limit in
+    let bs = c.args.bytes.now in
+    let ts = c.in_ok-tokens.tokens in
+    let f = c.in_ok-file.file in
+    let old = c.file.new.work in
+    let new = c.read_block.new.work in
+    let p = held_in new.pool.trees new.decls.list f in
+    let same = ap (λ ds. held_in new.pool.trees ds.list f) c.read_block.ensures.decls ∙ held-grown old.pool new.pool old.decls.list f c.read_block.ensures.grows c.in_ok-file.ensures.below c.in_ok-file.ensures.live in
+    let parses = c.in_ok-file.ensures.parses ∙ ap Ok (sym same) in
+    few_terms limit (signs_of ts).signs p c.requires.limit parses
 
 pub check_game-requires-clause-fits : goal.check_game-requires-clause-fits
 check_game-requires-clause-fits c =
-    let few = few_terms c.args.work.now.pool.limit _ _ c.requires.limit c.in_ok-file.ensures.parses in
+    let limit = c.args.work.now.pool.limit in
+    let bs = c.args.bytes.now in
+    let ts = c.in_ok-tokens.tokens in
+    let f = c.in_ok-file.file in
+    let old = c.file.new.work in
+    let new = c.read_block.new.work in
+    let p = held_in new.pool.trees new.decls.list f in
+    let same = ap (λ ds. held_in new.pool.trees ds.list f) c.read_block.ensures.decls ∙ held-grown old.pool new.pool old.decls.list f c.read_block.ensures.grows c.in_ok-file.ensures.below c.in_ok-file.ensures.live in
+    let parses = c.in_ok-file.ensures.parses ∙ ap Ok (sym same) in
+    let few = few_terms limit (signs_of ts).signs p c.requires.limit parses in
     omega (arith, few, c.in_ok-nodes.ensures.place)
+
+pub returns-in_err-nodes-clause-reads : goal.returns-in_err-nodes-clause-reads
+returns-in_err-nodes-clause-reads c =
+    let limit = c.args.work.now.pool.limit in
+    let bs = c.args.bytes.now in
+    let ts = c.in_ok-tokens.tokens in
+    let f = c.in_ok-file.file in
+    let old = c.file.new.work in
+    let new = c.read_block.new.work in
+    let p = held_in new.pool.trees new.decls.list f in
+    let same = ap (λ ds. held_in new.pool.trees ds.list f) c.read_block.ensures.decls ∙ held-grown old.pool new.pool old.decls.list f c.read_block.ensures.grows c.in_ok-file.ensures.below c.in_ok-file.ensures.live in
+    let parses = c.in_ok-file.ensures.parses ∙ ap Ok (sym same) in
+    let block = block_as old.pool.limit limit (length old.pool.trees) ts old.names (signs_of ts).names f.script new.pool.trees (Ok c.in_ok-script.script) c.file.ensures.limit c.in_ok-file.ensures.names c.in_ok-script.ensures.reads in
+    let content = content_of ts p block.0 in
+    let read = by_block limit (length old.pool.trees) bs ts p c.in_ok-tokens.ensures.ok parses block.0 block.1 in
+    reads_on limit bs new _ _ c.from_residual-in_err-nodes.ensures.1 (types_refuse limit bs content p _ read c.in_err-nodes.ensures.found)
 
 pub returns-in_err-directory-2-clause-reads : goal.returns-in_err-directory-2-clause-reads
 returns-in_err-directory-2-clause-reads c =
-    let trees = c.file.new.work.pool.trees in
-    let list = c.file.new.work.decls.list in
-    let p = held_in trees list c.in_ok-file.file in
-    let read = read_of c.args.work.now.pool.limit c.args.bytes.now in
-    let typed = by_types c.args.work.now.pool.limit c.args.bytes.now _ p c.in_ok-tokens.ensures.ok c.in_ok-file.ensures.parses c.in_ok-check_block.ensures.none c.in_ok-nodes.ensures.none in
+    let limit = c.args.work.now.pool.limit in
+    let bs = c.args.bytes.now in
+    let ts = c.in_ok-tokens.tokens in
+    let f = c.in_ok-file.file in
+    let old = c.file.new.work in
+    let new = c.read_block.new.work in
+    let p = held_in new.pool.trees new.decls.list f in
+    let same = ap (λ ds. held_in new.pool.trees ds.list f) c.read_block.ensures.decls ∙ held-grown old.pool new.pool old.decls.list f c.read_block.ensures.grows c.in_ok-file.ensures.below c.in_ok-file.ensures.live in
+    let parses = c.in_ok-file.ensures.parses ∙ ap Ok (sym same) in
+    let block = block_as old.pool.limit limit (length old.pool.trees) ts old.names (signs_of ts).names f.script new.pool.trees (Ok c.in_ok-script.script) c.file.ensures.limit c.in_ok-file.ensures.names c.in_ok-script.ensures.reads in
+    let content = content_of ts p block.0 in
+    let read = by_block limit (length old.pool.trees) bs ts p c.in_ok-tokens.ensures.ok parses block.0 block.1 in
+    let typed = by_types limit bs content p read c.in_ok-nodes.ensures.none in
     let begins = process_begins p.declarations p.game c.in_ok-nodes.nodes c.in_ok-nodes.ensures.place in
     let found = subst (λ n. IsRefusalOf (behind n (first_scope_fault p.declarations p.game)) c.in_err-directory-2.field-0.0) begins c.in_err-directory-2.ensures.found in
-    reads_on c.args.work.now.pool.limit c.args.bytes.now _ _ _ _ _ c.from_residual-in_err-directory-2.ensures.1 (scope_refuses read _ p _ typed found)
+    reads_on limit bs new _ _ c.from_residual-in_err-directory-2.ensures.1 (scope_refuses limit bs content p _ typed found)
 
 pub returns-then-has_equivalence-clause-reads : goal.returns-then-has_equivalence-clause-reads
 returns-then-has_equivalence-clause-reads c =
-    let trees = c.file.new.work.pool.trees in
-    let list = c.file.new.work.decls.list in
-    let p = held_in trees list c.in_ok-file.file in
-    let read = read_of c.args.work.now.pool.limit c.args.bytes.now in
-    let typed = by_types c.args.work.now.pool.limit c.args.bytes.now _ p c.in_ok-tokens.ensures.ok c.in_ok-file.ensures.parses c.in_ok-check_block.ensures.none c.in_ok-nodes.ensures.none in
-    let scoped = by_scope read _ p typed (none_behind _ (first_scope_fault p.declarations p.game) c.in_ok-directory-2.ensures.none) in
-    equivalence_refuses read _ p scoped (sym (c.has_equivalence.ensures ∙ equivalence_same trees list) ∙ c.if-has_equivalence.true)
+    let limit = c.args.work.now.pool.limit in
+    let bs = c.args.bytes.now in
+    let ts = c.in_ok-tokens.tokens in
+    let f = c.in_ok-file.file in
+    let old = c.file.new.work in
+    let new = c.read_block.new.work in
+    let p = held_in new.pool.trees new.decls.list f in
+    let same = ap (λ ds. held_in new.pool.trees ds.list f) c.read_block.ensures.decls ∙ held-grown old.pool new.pool old.decls.list f c.read_block.ensures.grows c.in_ok-file.ensures.below c.in_ok-file.ensures.live in
+    let parses = c.in_ok-file.ensures.parses ∙ ap Ok (sym same) in
+    let block = block_as old.pool.limit limit (length old.pool.trees) ts old.names (signs_of ts).names f.script new.pool.trees (Ok c.in_ok-script.script) c.file.ensures.limit c.in_ok-file.ensures.names c.in_ok-script.ensures.reads in
+    let content = content_of ts p block.0 in
+    let read = by_block limit (length old.pool.trees) bs ts p c.in_ok-tokens.ensures.ok parses block.0 block.1 in
+    let typed = by_types limit bs content p read c.in_ok-nodes.ensures.none in
+    let scoped = by_scope limit bs content p typed (none_behind _ (first_scope_fault p.declarations p.game) c.in_ok-directory-2.ensures.none) in
+    let equal = sym (c.has_equivalence.ensures ∙ equivalence_same new.pool.trees new.decls.list) in
+    equivalence_refuses limit bs content p scoped (equal ∙ c.if-has_equivalence.true)
 
 pub returns-in_err-check-clause-reads : goal.returns-in_err-check-clause-reads
 returns-in_err-check-clause-reads c =
-    let trees = c.file.new.work.pool.trees in
-    let list = c.file.new.work.decls.list in
-    let p = held_in trees list c.in_ok-file.file in
-    let read = read_of c.args.work.now.pool.limit c.args.bytes.now in
-    let typed = by_types c.args.work.now.pool.limit c.args.bytes.now _ p c.in_ok-tokens.ensures.ok c.in_ok-file.ensures.parses c.in_ok-check_block.ensures.none c.in_ok-nodes.ensures.none in
-    let scoped = by_scope read _ p typed (none_behind _ (first_scope_fault p.declarations p.game) c.in_ok-directory-2.ensures.none) in
-    let plain = by_equivalences read _ p scoped (sym (c.has_equivalence.ensures ∙ equivalence_same trees list) ∙ c.if-has_equivalence.false) in
-    reads_on c.args.work.now.pool.limit c.args.bytes.now _ _ _ _ _ c.from_residual-in_err-check.ensures.1 (query_refuses read _ p _ plain c.in_err-check.ensures.found)
+    let limit = c.args.work.now.pool.limit in
+    let bs = c.args.bytes.now in
+    let ts = c.in_ok-tokens.tokens in
+    let f = c.in_ok-file.file in
+    let old = c.file.new.work in
+    let new = c.read_block.new.work in
+    let p = held_in new.pool.trees new.decls.list f in
+    let same = ap (λ ds. held_in new.pool.trees ds.list f) c.read_block.ensures.decls ∙ held-grown old.pool new.pool old.decls.list f c.read_block.ensures.grows c.in_ok-file.ensures.below c.in_ok-file.ensures.live in
+    let parses = c.in_ok-file.ensures.parses ∙ ap Ok (sym same) in
+    let block = block_as old.pool.limit limit (length old.pool.trees) ts old.names (signs_of ts).names f.script new.pool.trees (Ok c.in_ok-script.script) c.file.ensures.limit c.in_ok-file.ensures.names c.in_ok-script.ensures.reads in
+    let content = content_of ts p block.0 in
+    let read = by_block limit (length old.pool.trees) bs ts p c.in_ok-tokens.ensures.ok parses block.0 block.1 in
+    let typed = by_types limit bs content p read c.in_ok-nodes.ensures.none in
+    let scoped = by_scope limit bs content p typed (none_behind _ (first_scope_fault p.declarations p.game) c.in_ok-directory-2.ensures.none) in
+    let equal = sym (c.has_equivalence.ensures ∙ equivalence_same new.pool.trees new.decls.list) in
+    let plain = by_equivalences limit bs content p scoped (equal ∙ c.if-has_equivalence.false) in
+    reads_on limit bs new _ _ c.from_residual-in_err-check.ensures.1 (query_refuses limit bs content p _ plain c.in_err-check.ensures.found)
 
 pub returns-clause-reads : goal.returns-clause-reads
 returns-clause-reads c =
-    let trees = c.file.new.work.pool.trees in
-    let list = c.file.new.work.decls.list in
-    let p = held_in trees list c.in_ok-file.file in
-    let read = read_of c.args.work.now.pool.limit c.args.bytes.now in
-    let typed = by_types c.args.work.now.pool.limit c.args.bytes.now _ p c.in_ok-tokens.ensures.ok c.in_ok-file.ensures.parses c.in_ok-check_block.ensures.none c.in_ok-nodes.ensures.none in
-    let scoped = by_scope read _ p typed (none_behind _ (first_scope_fault p.declarations p.game) c.in_ok-directory-2.ensures.none) in
-    let plain = by_equivalences read _ p scoped (sym (c.has_equivalence.ensures ∙ equivalence_same trees list) ∙ c.if-has_equivalence.false) in
-    all_reads read _ _ _ _ c.in_ok-file.file plain c.in_ok-check.ensures.none (sym c.in_ok-file.ensures.names)
+    let limit = c.args.work.now.pool.limit in
+    let bs = c.args.bytes.now in
+    let ts = c.in_ok-tokens.tokens in
+    let f = c.in_ok-file.file in
+    let old = c.file.new.work in
+    let new = c.read_block.new.work in
+    let p = held_in new.pool.trees new.decls.list f in
+    let same = ap (λ ds. held_in new.pool.trees ds.list f) c.read_block.ensures.decls ∙ held-grown old.pool new.pool old.decls.list f c.read_block.ensures.grows c.in_ok-file.ensures.below c.in_ok-file.ensures.live in
+    let parses = c.in_ok-file.ensures.parses ∙ ap Ok (sym same) in
+    let block = block_as old.pool.limit limit (length old.pool.trees) ts old.names (signs_of ts).names f.script new.pool.trees (Ok c.in_ok-script.script) c.file.ensures.limit c.in_ok-file.ensures.names c.in_ok-script.ensures.reads in
+    let content = content_of ts p block.0 in
+    let read = by_block limit (length old.pool.trees) bs ts p c.in_ok-tokens.ensures.ok parses block.0 block.1 in
+    let typed = by_types limit bs content p read c.in_ok-nodes.ensures.none in
+    let scoped = by_scope limit bs content p typed (none_behind _ (first_scope_fault p.declarations p.game) c.in_ok-directory-2.ensures.none) in
+    let equal = sym (c.has_equivalence.ensures ∙ equivalence_same new.pool.trees new.decls.list) in
+    let plain = by_equivalences limit bs content p scoped (equal ∙ c.if-has_equivalence.false) in
+    let own = ap (λ ds. ds.own) c.read_block.ensures.decls ∙ c.in_ok-file.ensures.own in
+    let is = content_same ts new f c.in_ok-script.script old.names block.0 c.in_ok-file.ensures.names c.in_ok-script.ensures.names own block.2 in
+    all_reads limit bs content p new (record { file = f; script = c.in_ok-script.script }) plain c.in_ok-check.ensures.none is
+
+pub returns-clause-fits : goal.returns-clause-fits
+returns-clause-fits c =
+    let old = c.file.new.work in
+    let new = c.read_block.new.work in
+    let f = c.in_ok-file.file in
+    let same = root-grown old.pool new.pool f.game.root c.read_block.ensures.grows c.in_ok-file.ensures.live in
+    subst (λ t. size t ≤ 50000) (sym same) c.in_ok-file.ensures.fits
+
+pub returns-clause-nodes : goal.returns-clause-nodes
+returns-clause-nodes c =
+    let limit = c.args.work.now.pool.limit in
+    let bs = c.args.bytes.now in
+    let ts = c.in_ok-tokens.tokens in
+    let f = c.in_ok-file.file in
+    let old = c.file.new.work in
+    let new = c.read_block.new.work in
+    let p = held_in new.pool.trees new.decls.list f in
+    let same = ap (λ ds. held_in new.pool.trees ds.list f) c.read_block.ensures.decls ∙ held-grown old.pool new.pool old.decls.list f c.read_block.ensures.grows c.in_ok-file.ensures.below c.in_ok-file.ensures.live in
+    let parses = c.in_ok-file.ensures.parses ∙ ap Ok (sym same) in
+    let few = c.in_ok-script.ensures.few in
+    let nodes = subst (λ q. length old.pool.trees ≤ file_nodes q.declarations q.game) (sym same) c.in_ok-file.ensures.nodes in
+    omega (arith, few, nodes)
