@@ -1,12 +1,14 @@
 -- What each answer about bytes comes from.
-use Rattle.std.proofs.Common.{◌≡◌, ℕ, suc, ◌+◌, ◌<◌, ◌≤◌, nat_lt, Bool, true, false, if◌then◌else◌, List, [], ◌∷◌, ◌++◌, length, length-append, map, refl, ap, sym, ◌∙◌, subst, arith, Option, Some, None, is_some, Result, Ok, Err, ◌⊎◌, inl, inr}
+use Rattle.std.proofs.Common.{◌≡◌, ℕ, suc, ◌+◌, ◌<◌, ◌≤◌, nat_lt, Bool, true, false, if◌then◌else◌, List, [], ◌∷◌, ◌++◌, append-nil, length, length-append, map, refl, ap, sym, ◌∙◌, subst, arith, Option, Some, None, is_some, Result, Ok, Err, ◌⊎◌, inl, inr}
 use Rattle.std.proofs.lemmas.Bool.Decides.{nat_tests}
+use Rattle.std.proofs.lemmas.List.{length-map}
 use Rattle.std.specs.List.{list_all, list_any, zip}
 use Rattle.std.specs.Prelude.{IfSome, IsNone, IsSomeAnd}
 use Rattle.cv_lex.specs.declared.LexError.{LexError}
 use Rattle.cv_lex.specs.Lexis.{Token, tokens_of}
 use Rattle.cv_parse_terminals.specs.Signs.{signs_of}
-use Rattle.cv_parse_script.specs.Scripts.{token_begins_step}
+use Rattle.cv_parse_script.specs.declared.error.ScriptError.{ScriptError}
+use Rattle.cv_parse_script.specs.declared.error.ScriptError.TheVariants as script
 use Rattle.cv_parse_notation.specs.declared.sign.Sign.{Sign}
 use Rattle.cv_parse_grammar.specs.Names as names
 use Rattle.cv_parse_depth.specs.Files.{IsDeadAtEveryDepth, IsNestedTooDeep}
@@ -34,9 +36,9 @@ use Rattle.cv_query_form.specs.Queries.{queries_in}
 use Rattle.cv_query_form.proofs.First.{finds-first as first_refused_is_first}
 use Rattle.cv_accept.specs.declared.error.FileError.{FileError}
 use Rattle.cv_accept.specs.declared.error.FileError.TheVariants as fault
-use Rattle.cv_accept.specs.Accepted.{Content, Refuses, block_fault, first_of_block, has_equivalence, of_equivalences, of_parsed, of_queries, of_scopes, of_script, of_tokens, of_types, query_fault, read_of, scope_fault, type_fault}
+use Rattle.cv_accept.specs.Accepted.{Content, IsFull, Refuses, block_of, content_of, has_equivalence, of_block, of_equivalences, of_parsed, of_queries, of_scopes, of_script, of_tokens, of_types, query_fault, read_of, scope_fault, type_fault}
 use Rattle.cv_accept.specs.Places.{nodes_before}
-use Rattle.cv_accept.specs.Works.{content_at}
+use Rattle.cv_accept.specs.Works.{script_in}
 use Rattle.cv_accept.proofs.Places.{behind_none, behind_some}
 use Rattle.cv_accept.proofs.Readings.{read_is_file}
 use Rattle.cv_query_direct.specs.Search.{EntryTree}
@@ -47,15 +49,19 @@ use Rattle.cv_report.specs.declared.report.Status.TheVariants as status
 use Rattle.cv_report.specs.declared.report.Verdict.TheVariants.{Proved, NotProved}
 use Rattle.cv_report.specs.declared.report.Which.TheVariants.{Steps}
 use Rattle.cv_syntax.specs.declared.work.File.{File}
-use Rattle.cv.specs.Causes.{ComesFrom, HasEquivalence, HasManyClosed, HasForeignStep, HasQueryFault, HasQueryWithoutStep, HasScopeFault, HasStep, HasTypeFault, LacksRoom, OfTokens, Outside, closed_count}
+use Rattle.cv.specs.Causes.{ComesFrom, HasEquivalence, HasManyClosed, HasNoScript, HasOpenQuery, HasQueryFault, HasQueryWithoutStep, HasScopeFault, HasStep, HasStop, HasTypeFault, LacksRoom, OfTokens, Outside, closed_count}
 use Rattle.cv.specs.Causes as cause
 use Rattle.cv.specs.Faults.{parse_ended, status_of as ended_by}
 use Rattle.cv.specs.Words.{AreTold}
 use Rattle.cv_query_direct.specs.Plain.{certificate}
-use Rattle.cv.specs.Strategy.{EndsAt, FollowsStrategy, Said, declared_in, game_in, is_closed, is_proved, lacks_step, left_open, most_pool, most_steps, nodes_in, nothing_said, open_verdict, said_in, said_of, said_then}
-use Rattle.cv.proofs.Telling.{crowded_lacks, whole_told}
+use Rattle.cv_plain.specs.Strategy.{EndsAt, Said, is_closed, is_proved, lacks_step, left_open, most_pool, most_steps, nothing_said, open_verdict, said_of, said_then}
+use Rattle.cv.specs.Scripts.{EndsScript, entry_in, entry_of, known_to, unclosed}
+use Rattle.cv.specs.Strategy.{FollowsScript, FollowsStrategy, declared_in, file_in, game_in, nodes_in, said_in, steps_in}
+use Rattle.cv_kernel.specs.Proofs.{nodes_along}
+use Rattle.cv_steps.specs.Sequences.{scene}
+use Rattle.cv_plain.proofs.Telling.{crowded_lacks, whole_told}
 use Rattle.cv.proofs.Unread.{dead_anywhere, nested_at}
-use Rattle.cv.proofs.Verdicts.{closed_some}
+use Rattle.cv_plain.proofs.Verdicts.{closed_some}
 
 -- bytes that are refused
 
@@ -69,67 +75,95 @@ rank (fault.Scope e) = 4
 rank (fault.Query k) = 5
 rank fault.Unbuilt = 6
 rank fault.OutOfMemory = 7
+rank (fault.Room need) = 8
 
-queries_rank : (names : List (List ℕ)) (p : Parsed) (o : Option ℕ) (x : FileError) → of_queries names p o ≡ Err x → 5 ≤ rank x
-queries_rank names p None x e = absurd (cc)
-queries_rank names p (Some k) x e = let s : fault.Query k ≡ x = cc in subst (λ y. 5 ≤ rank y) s (omega arith)
+module _ (c : Content) (p : Parsed) where
+  queries_rank : (o : Option ℕ) (x : FileError) → of_queries c o ≡ Err x → 5 ≤ rank x
+  queries_rank None x e = absurd (cc)
+  queries_rank (Some k) x e = let s : fault.Query k ≡ x = cc in subst (λ y. 5 ≤ rank y) s (omega arith)
 
-equivalences_rank : (names : List (List ℕ)) (p : Parsed) (b : Bool) (x : FileError) → of_equivalences names p b ≡ Err x → 5 ≤ rank x
-equivalences_rank names p false x e = queries_rank names p (query_fault p) x e
-equivalences_rank names p true x e = let s : fault.Unbuilt ≡ x = cc in subst (λ y. 5 ≤ rank y) s (omega arith)
+  equivalences_rank : (b : Bool) (x : FileError) → of_equivalences c p b ≡ Err x → 5 ≤ rank x
+  equivalences_rank false x e = queries_rank (query_fault p) x e
+  equivalences_rank true x e = let s : fault.Unbuilt ≡ x = cc in subst (λ y. 5 ≤ rank y) s (omega arith)
 
-scopes_rank : (names : List (List ℕ)) (p : Parsed) (o : Option (ℕ × ScopeRules)) (x : FileError) → of_scopes names p o ≡ Err x → 4 ≤ rank x
-scopes_rank names p None x e = let r = equivalences_rank names p (has_equivalence p.declarations) x e in omega arith
-scopes_rank names p (Some y) x e = let s : fault.Scope (scope_refusal y.0 y.1) ≡ x = cc in subst (λ y. 4 ≤ rank y) s (omega arith)
+  scopes_rank : (o : Option (ℕ × ScopeRules)) (x : FileError) → of_scopes c p o ≡ Err x → 4 ≤ rank x
+  scopes_rank None x e = let r = equivalences_rank (has_equivalence p.declarations) x e in omega arith
+  scopes_rank (Some y) x e = let s : fault.Scope (scope_refusal y.0 y.1) ≡ x = cc in subst (λ y. 4 ≤ rank y) s (omega arith)
 
-types_rank : (names : List (List ℕ)) (p : Parsed) (o : Option (ℕ × Fault)) (x : FileError) → of_types names p o ≡ Err x → 3 ≤ rank x
-types_rank names p None x e = let r = scopes_rank names p (scope_fault p) x e in omega arith
-types_rank names p (Some y) x e = let s : fault.Types (refusal y.0 y.1) ≡ x = cc in subst (λ y. 3 ≤ rank y) s (omega arith)
+  types_rank : (o : Option (ℕ × Fault)) (x : FileError) → of_types c p o ≡ Err x → 3 ≤ rank x
+  types_rank None x e = let r = scopes_rank (scope_fault p) x e in omega arith
+  types_rank (Some y) x e = let s : fault.Types (refusal y.0 y.1) ≡ x = cc in subst (λ y. 3 ≤ rank y) s (omega arith)
 
-block_rank : (token : ℕ) (b : Bool) → 2 ≤ rank (block_fault token b)
-block_rank token true = omega arith
-block_rank token false = omega arith
+  -- what a refusal by a later stage passed
 
-script_rank : (names : List (List ℕ)) (p : Parsed) (o : Option (ℕ × Token)) (x : FileError) → of_script names p o ≡ Err x → 2 ≤ rank x
-script_rank names p None x e = let r = types_rank names p (type_fault p) x e in omega arith
-script_rank names p (Some (n, t)) x e = let s : block_fault n (token_begins_step t) ≡ x = cc in subst (λ y. 2 ≤ rank y) s (block_rank n (token_begins_step t))
+  past_types : (o : Option (ℕ × Fault)) (x : FileError) → 4 ≤ rank x → of_types c p o ≡ Err x → (o ≡ None) × (of_scopes c p (scope_fault p) ≡ Err x)
+  past_types None x r e = (refl, e)
+  past_types (Some y) x r e = absurd (let s : fault.Types (refusal y.0 y.1) ≡ x = cc in let i = subst (λ y. rank y ≤ 3) s (omega arith) in omega arith)
+
+  past_scopes : (o : Option (ℕ × ScopeRules)) (x : FileError) → 5 ≤ rank x → of_scopes c p o ≡ Err x → (o ≡ None) × (of_equivalences c p (has_equivalence p.declarations) ≡ Err x)
+  past_scopes None x r e = (refl, e)
+  past_scopes (Some y) x r e = absurd (let s : fault.Scope (scope_refusal y.0 y.1) ≡ x = cc in let i = subst (λ y. rank y ≤ 4) s (omega arith) in omega arith)
+
+  past_equivalences : (b : Bool) (x : FileError) → rank x ≤ 5 → of_equivalences c p b ≡ Err x → (b ≡ false) × (of_queries c (query_fault p) ≡ Err x)
+  past_equivalences false x r e = (refl, e)
+  past_equivalences true x r e = absurd (let s : fault.Unbuilt ≡ x = cc in let i = subst (λ y. 6 ≤ rank y) s (omega arith) in omega arith)
+
+  by_types : (o : Option (ℕ × Fault)) (x : TypeFault) → of_types c p o ≡ Err (fault.Types x) → (q : ℕ) × (f : Fault) × (o ≡ Some (q, f)) × (refusal q f ≡ x)
+  by_types None x e = absurd (let r = scopes_rank (scope_fault p) (fault.Types x) e in omega arith)
+  by_types (Some (q, f)) x e = (q, f, refl, cc)
+
+  by_scopes : (o : Option (ℕ × ScopeRules)) (x : ScopeFault) → of_scopes c p o ≡ Err (fault.Scope x) → (q : ℕ) × (f : ScopeRules) × (o ≡ Some (q, f)) × (scope_refusal q f ≡ x)
+  by_scopes None x e = absurd (let r = equivalences_rank (has_equivalence p.declarations) (fault.Scope x) e in omega arith)
+  by_scopes (Some (q, f)) x e = (q, f, refl, cc)
+
+  by_queries : (o : Option ℕ) (k : ℕ) → of_queries c o ≡ Err (fault.Query k) → o ≡ Some k
+  by_queries None k e = absurd (cc)
+  by_queries (Some j) k e = let s : j ≡ k = cc in ap (λ n. let o : Option ℕ = Some n in o) s
+
+  queries_are_built : (o : Option ℕ) → of_queries c o ≡ Err fault.Unbuilt → ⊥
+  queries_are_built None e = cc
+  queries_are_built (Some k) e = cc
+
+-- proof blocks
+
+block_rank : (e : ScriptError) → 2 ≤ rank (of_block e)
+block_rank (script.Script k) = omega arith
+block_rank (script.Unbuilt k) = omega arith
+block_rank (script.Build b) = omega arith
+
+script_rank : (ts : List Token) (p : Parsed) (r : Result (Option Tree) ScriptError) (x : FileError) → of_script ts p r ≡ Err x → 2 ≤ rank x
+script_rank ts p (Ok b) x e = let r = types_rank (content_of ts p b) p (type_fault p) x e in omega arith
+script_rank ts p (Err y) x e = let s : of_block y ≡ x = cc in subst (λ z. 2 ≤ rank z) s (block_rank y)
+
+-- the fault of a block is neither of types, of scope nor of queries
+block_only : (y : ScriptError) (x : FileError) → 3 ≤ rank x → rank x ≤ 5 → of_block y ≡ x → ⊥
+block_only (script.Script k) x l m e = let i = subst (λ y. rank y ≤ 2) e (omega arith) in omega arith
+block_only (script.Unbuilt k) x l m e = let i = subst (λ y. 6 ≤ rank y) e (omega arith) in omega arith
+block_only (script.Build b) x l m e = let i = subst (λ y. 6 ≤ rank y) e (omega arith) in omega arith
+
+past_script : (ts : List Token) (p : Parsed) (r : Result (Option Tree) ScriptError) (x : FileError) → 3 ≤ rank x → rank x ≤ 5 → of_script ts p r ≡ Err x → (block : Option Tree) × (r ≡ Ok block) × (of_types (content_of ts p block) p (type_fault p) ≡ Err x)
+past_script ts p (Ok b) x l m e = (b, refl, e)
+past_script ts p (Err y) x l m e = absurd (block_only y x l m (cc))
+
+by_script : (y : ScriptError) (k : ℕ) → of_block y ≡ fault.Script k → y ≡ script.Script k
+by_script (script.Script j) k e = let s : j ≡ k = cc in ap script.Script s
+by_script (script.Unbuilt j) k e = absurd (cc)
+by_script (script.Build b) k e = absurd (cc)
+
+by_unbuilt : (y : ScriptError) → of_block y ≡ fault.Unbuilt → (token : ℕ) × (y ≡ script.Unbuilt token)
+by_unbuilt (script.Script j) e = absurd (cc)
+by_unbuilt (script.Unbuilt j) e = (j, refl)
+by_unbuilt (script.Build b) e = absurd (cc)
 
 by_parsed : (ts : List Token) (r : Result Parsed ParseError) (x : ParseError) → of_parsed ts r ≡ Err (fault.Parse x) → r ≡ Err x
-by_parsed ts (Ok p) x e = absurd (let r = script_rank (signs_of ts).names p (first_of_block ts p.script) (fault.Parse x) e in omega arith)
+by_parsed ts (Ok p) x e = absurd (let r = script_rank ts p (block_of ts p) (fault.Parse x) e in omega arith)
 by_parsed ts (Err y) x e = let s : y ≡ x = cc in ap (λ z. let r : Result Parsed ParseError = Err z in r) s
 
 no_lexis : (ts : List Token) (r : Result Parsed ParseError) (x : LexError) → of_parsed ts r ≡ Err (fault.Lex x) → ⊥
-no_lexis ts (Ok p) x e = let r = script_rank (signs_of ts).names p (first_of_block ts p.script) (fault.Lex x) e in omega arith
+no_lexis ts (Ok p) x e = let r = script_rank ts p (block_of ts p) (fault.Lex x) e in omega arith
 no_lexis ts (Err y) x e = cc
 
--- what a refusal by a later stage passed
-
--- the fault of a block is neither of types, of scope nor of queries
-block_only : (token : ℕ) (b : Bool) (x : FileError) → 3 ≤ rank x → rank x ≤ 5 → block_fault token b ≡ x → ⊥
-block_only token true x l m e = let i = subst (λ y. 6 ≤ rank y) e (omega arith) in omega arith
-block_only token false x l m e = let i = subst (λ y. rank y ≤ 2) e (omega arith) in omega arith
-
-past_script : (names : List (List ℕ)) (p : Parsed) (o : Option (ℕ × Token)) (x : FileError) → 3 ≤ rank x → rank x ≤ 5 → of_script names p o ≡ Err x → (o ≡ None) × (of_types names p (type_fault p) ≡ Err x)
-past_script names p None x l m e = (refl, e)
-past_script names p (Some (n, t)) x l m e = absurd (block_only n (token_begins_step t) x l m (cc))
-
-past_types : (names : List (List ℕ)) (p : Parsed) (o : Option (ℕ × Fault)) (x : FileError) → 4 ≤ rank x → of_types names p o ≡ Err x → (o ≡ None) × (of_scopes names p (scope_fault p) ≡ Err x)
-past_types names p None x r e = (refl, e)
-past_types names p (Some y) x r e = absurd (let s : fault.Types (refusal y.0 y.1) ≡ x = cc in let i = subst (λ y. rank y ≤ 3) s (omega arith) in omega arith)
-
-past_scopes : (names : List (List ℕ)) (p : Parsed) (o : Option (ℕ × ScopeRules)) (x : FileError) → 5 ≤ rank x → of_scopes names p o ≡ Err x → (o ≡ None) × (of_equivalences names p (has_equivalence p.declarations) ≡ Err x)
-past_scopes names p None x r e = (refl, e)
-past_scopes names p (Some y) x r e = absurd (let s : fault.Scope (scope_refusal y.0 y.1) ≡ x = cc in let i = subst (λ y. rank y ≤ 4) s (omega arith) in omega arith)
-
-past_equivalences : (names : List (List ℕ)) (p : Parsed) (b : Bool) (x : FileError) → rank x ≤ 5 → of_equivalences names p b ≡ Err x → (b ≡ false) × (of_queries names p (query_fault p) ≡ Err x)
-past_equivalences names p false x r e = (refl, e)
-past_equivalences names p true x r e = absurd (let s : fault.Unbuilt ≡ x = cc in let i = subst (λ y. 6 ≤ rank y) s (omega arith) in omega arith)
-
--- types
-
-by_types : (names : List (List ℕ)) (p : Parsed) (o : Option (ℕ × Fault)) (x : TypeFault) → of_types names p o ≡ Err (fault.Types x) → (q : ℕ) × (f : Fault) × (o ≡ Some (q, f)) × (refusal q f ≡ x)
-by_types names p None x e = absurd (let r = scopes_rank names p (scope_fault p) (fault.Types x) e in omega arith)
-by_types names p (Some (q, f)) x e = (q, f, refl, cc)
+-- what a refusal comes from
 
 refused_as : (ds : List Declaration) (parts : List Part) (q : ℕ) (f : Fault) → IsFirstIn ds 0 parts q f → IsFirstRefusal ds parts (refusal q f)
 refused_as ds parts q type.WrongType h = h
@@ -137,115 +171,94 @@ refused_as ds parts q type.Arity h = h
 refused_as ds parts q type.IndexAsMessage h = h
 refused_as ds parts q type.NotFixed h = h
 
-type_cause : (names : List (List ℕ)) (ts : List Token) (p : Parsed) (x : TypeFault) → parsed most_pool (signs_of ts).signs ≡ Ok p → of_script names p (first_of_block ts p.script) ≡ Err (fault.Types x) → HasTypeFault ts x
-type_cause names ts p x e i =
-    let s = past_script names p (first_of_block ts p.script) (fault.Types x) (omega arith) (omega arith) i in
-    let t = by_types names p (type_fault p) x s.1 in
-    record {
-      said = p;
-      says = said_is_saying most_pool (signs_of ts).signs p e;
-      no_step = s.0;
-      first = subst (IsFirstRefusal p.declarations (file_parts p.declarations p.game)) t.3 (refused_as p.declarations (file_parts p.declarations p.game) t.0 t.1 (finds_first_in p.declarations 0 (file_parts p.declarations p.game) t.0 t.1 t.2));
-    }
+module _ (ts : List Token) (p : Parsed) (e : parsed most_pool (signs_of ts).signs ≡ Ok p) where
+  type_cause : (x : TypeFault) → of_script ts p (block_of ts p) ≡ Err (fault.Types x) → HasTypeFault ts x
+  type_cause x i =
+      let s = past_script ts p (block_of ts p) (fault.Types x) (omega arith) (omega arith) i in
+      let t = by_types (content_of ts p s.0) p (type_fault p) x s.2 in
+      record {
+        said = p;
+        says = said_is_saying most_pool (signs_of ts).signs p e;
+        script = s.0;
+        block = s.1;
+        first = subst (IsFirstRefusal p.declarations (file_parts p.declarations p.game)) t.3 (refused_as p.declarations (file_parts p.declarations p.game) t.0 t.1 (finds_first_in p.declarations 0 (file_parts p.declarations p.game) t.0 t.1 t.2));
+      }
 
--- scope
+  scope_cause : (x : ScopeFault) → of_script ts p (block_of ts p) ≡ Err (fault.Scope x) → HasScopeFault ts x
+  scope_cause x i =
+      let s = past_script ts p (block_of ts p) (fault.Scope x) (omega arith) (omega arith) i in
+      let c = content_of ts p s.0 in
+      let t = past_types c p (type_fault p) (fault.Scope x) (omega arith) s.2 in
+      let u = by_scopes c p (scope_fault p) x t.1 in
+      let v = behind_some (nodes_before p.declarations) (first_scope_fault p.declarations p.game) u.0 u.1 u.2 in
+      record {
+        said = p;
+        says = said_is_saying most_pool (signs_of ts).signs p e;
+        script = s.0;
+        block = s.1;
+        typed = parts_typed_where_none p.declarations 0 (file_parts p.declarations p.game) t.0;
+        node = v.0;
+        rules = u.1;
+        refused = sym u.3 ∙ ap (λ n. scope_refusal n u.1) v.2;
+        first = finds_first (names_of p.declarations p.game) at_root p.game v.0 u.1 v.1;
+      }
 
-by_scopes : (names : List (List ℕ)) (p : Parsed) (o : Option (ℕ × ScopeRules)) (x : ScopeFault) → of_scopes names p o ≡ Err (fault.Scope x) → (q : ℕ) × (f : ScopeRules) × (o ≡ Some (q, f)) × (scope_refusal q f ≡ x)
-by_scopes names p None x e = absurd (let r = equivalences_rank names p (has_equivalence p.declarations) (fault.Scope x) e in omega arith)
-by_scopes names p (Some (q, f)) x e = (q, f, refl, cc)
+  query_cause : (k : ℕ) → of_script ts p (block_of ts p) ≡ Err (fault.Query k) → HasQueryFault ts k
+  query_cause k i =
+      let s = past_script ts p (block_of ts p) (fault.Query k) (omega arith) (omega arith) i in
+      let c = content_of ts p s.0 in
+      let t = past_types c p (type_fault p) (fault.Query k) (omega arith) s.2 in
+      let u = past_scopes c p (scope_fault p) (fault.Query k) (omega arith) t.1 in
+      let v = past_equivalences c p (has_equivalence p.declarations) (fault.Query k) (omega arith) u.1 in
+      record {
+        said = p;
+        says = said_is_saying most_pool (signs_of ts).signs p e;
+        script = s.0;
+        block = s.1;
+        typed = parts_typed_where_none p.declarations 0 (file_parts p.declarations p.game) t.0;
+        scoped = scoped_where_none (names_of p.declarations p.game) at_root p.game (behind_none (nodes_before p.declarations) (first_scope_fault p.declarations p.game) u.0);
+        no_equivalence = v.0;
+        first = first_refused_is_first p.game (queries_in p.declarations) k (by_queries c p (query_fault p) k v.1);
+      }
 
-scope_cause : (names : List (List ℕ)) (ts : List Token) (p : Parsed) (x : ScopeFault) → parsed most_pool (signs_of ts).signs ≡ Ok p → of_script names p (first_of_block ts p.script) ≡ Err (fault.Scope x) → HasScopeFault ts x
-scope_cause names ts p x e i =
-    let s = past_script names p (first_of_block ts p.script) (fault.Scope x) (omega arith) (omega arith) i in
-    let t = past_types names p (type_fault p) (fault.Scope x) (omega arith) s.1 in
-    let u = by_scopes names p (scope_fault p) x t.1 in
-    let v = behind_some (nodes_before p.declarations) (first_scope_fault p.declarations p.game) u.0 u.1 u.2 in
-    record {
-      said = p;
-      says = said_is_saying most_pool (signs_of ts).signs p e;
-      no_step = s.0;
-      typed = parts_typed_where_none p.declarations 0 (file_parts p.declarations p.game) t.0;
-      node = v.0;
-      rules = u.1;
-      refused = sym u.3 ∙ ap (λ n. scope_refusal n u.1) v.2;
-      first = finds_first (names_of p.declarations p.game) at_root p.game v.0 u.1 v.1;
-    }
+  script_cause : (k : ℕ) → of_script ts p (block_of ts p) ≡ Err (fault.Script k) → HasNoScript ts k
+  script_cause k i = go (block_of ts p) refl i
+    where
+      go : (r : Result (Option Tree) ScriptError) → block_of ts p ≡ r → of_script ts p r ≡ Err (fault.Script k) → HasNoScript ts k
+      go (Ok b) n j = absurd (let r = types_rank (content_of ts p b) p (type_fault p) (fault.Script k) j in omega arith)
+      go (Err y) n j = record { said = p; says = said_is_saying most_pool (signs_of ts).signs p e; refused = n ∙ ap Err (by_script y k (cc)) }
 
--- queries
+  unbuilt_cause : of_script ts p (block_of ts p) ≡ Err fault.Unbuilt → HasStep ts ⊎ HasEquivalence ts
+  unbuilt_cause i = go (block_of ts p) refl i
+    where
+      with_equivalence : (b : Option Tree) → block_of ts p ≡ Ok b → (type_fault p ≡ None) → (scope_fault p ≡ None) → (v : Bool) → has_equivalence p.declarations ≡ v → of_equivalences (content_of ts p b) p v ≡ Err fault.Unbuilt → HasStep ts ⊎ HasEquivalence ts
+      with_equivalence b n t s true h j = inr (record {
+        said = p;
+        says = said_is_saying most_pool (signs_of ts).signs p e;
+        script = b;
+        block = n;
+        typed = parts_typed_where_none p.declarations 0 (file_parts p.declarations p.game) t;
+        scoped = scoped_where_none (names_of p.declarations p.game) at_root p.game (behind_none (nodes_before p.declarations) (first_scope_fault p.declarations p.game) s);
+        equivalence = h;
+      })
+      with_equivalence b n t s false h j = absurd (queries_are_built (content_of ts p b) p (query_fault p) j)
 
-by_queries : (names : List (List ℕ)) (p : Parsed) (o : Option ℕ) (k : ℕ) → of_queries names p o ≡ Err (fault.Query k) → o ≡ Some k
-by_queries names p None k e = absurd (cc)
-by_queries names p (Some j) k e = let s : j ≡ k = cc in ap (λ n. let o : Option ℕ = Some n in o) s
-
-query_cause : (names : List (List ℕ)) (ts : List Token) (p : Parsed) (k : ℕ) → parsed most_pool (signs_of ts).signs ≡ Ok p → of_script names p (first_of_block ts p.script) ≡ Err (fault.Query k) → HasQueryFault ts k
-query_cause names ts p k e i =
-    let s = past_script names p (first_of_block ts p.script) (fault.Query k) (omega arith) (omega arith) i in
-    let t = past_types names p (type_fault p) (fault.Query k) (omega arith) s.1 in
-    let u = past_scopes names p (scope_fault p) (fault.Query k) (omega arith) t.1 in
-    let v = past_equivalences names p (has_equivalence p.declarations) (fault.Query k) (omega arith) u.1 in
-    record {
-      said = p;
-      says = said_is_saying most_pool (signs_of ts).signs p e;
-      no_step = s.0;
-      typed = parts_typed_where_none p.declarations 0 (file_parts p.declarations p.game) t.0;
-      scoped = scoped_where_none (names_of p.declarations p.game) at_root p.game (behind_none (nodes_before p.declarations) (first_scope_fault p.declarations p.game) u.0);
-      no_equivalence = v.0;
-      first = first_refused_is_first p.game (queries_in p.declarations) k (by_queries names p (query_fault p) k v.1);
-    }
-
--- parts that aren't read yet
-
-queries_are_built : (names : List (List ℕ)) (p : Parsed) (o : Option ℕ) → of_queries names p o ≡ Err fault.Unbuilt → ⊥
-queries_are_built names p None e = cc
-queries_are_built names p (Some k) e = cc
-
--- a block whose first token begins a step, or no step
-
-by_block : (token : ℕ) (b : Bool) → block_fault token b ≡ fault.Unbuilt → b ≡ true
-by_block token true e = refl
-by_block token false e = absurd (cc)
-
-by_foreign : (token k : ℕ) (b : Bool) → block_fault token b ≡ fault.Script k → (token ≡ k) × (b ≡ false)
-by_foreign token k true e = absurd (cc)
-by_foreign token k false e = (cc, refl)
-
-script_cause : (names : List (List ℕ)) (ts : List Token) (p : Parsed) (k : ℕ) → parsed most_pool (signs_of ts).signs ≡ Ok p → of_script names p (first_of_block ts p.script) ≡ Err (fault.Script k) → HasForeignStep ts k
-script_cause names ts p k e i = go (first_of_block ts p.script) refl i
-  where
-    go : (o : Option (ℕ × Token)) → first_of_block ts p.script ≡ o → of_script names p o ≡ Err (fault.Script k) → HasForeignStep ts k
-    go None n j = absurd (let r = types_rank names p (type_fault p) (fault.Script k) j in omega arith)
-    go (Some (token, first)) n j =
-        let f = by_foreign token k (token_begins_step first) (cc) in
-        record { said = p; says = said_is_saying most_pool (signs_of ts).signs p e; first = first; there = n ∙ ap (λ m. Some (m, first)) f.0; no_step = f.1 }
-
-unbuilt_cause : (names : List (List ℕ)) (ts : List Token) (p : Parsed) → parsed most_pool (signs_of ts).signs ≡ Ok p → of_script names p (first_of_block ts p.script) ≡ Err fault.Unbuilt → HasStep ts ⊎ HasEquivalence ts
-unbuilt_cause names ts p e i = go (first_of_block ts p.script) refl i
-  where
-    with_equivalence : first_of_block ts p.script ≡ None → (type_fault p ≡ None) → (scope_fault p ≡ None) → (b : Bool) → has_equivalence p.declarations ≡ b → of_equivalences names p b ≡ Err fault.Unbuilt → HasStep ts ⊎ HasEquivalence ts
-    with_equivalence n t s true h j = inr (record {
-      said = p;
-      says = said_is_saying most_pool (signs_of ts).signs p e;
-      no_step = n;
-      typed = parts_typed_where_none p.declarations 0 (file_parts p.declarations p.game) t;
-      scoped = scoped_where_none (names_of p.declarations p.game) at_root p.game (behind_none (nodes_before p.declarations) (first_scope_fault p.declarations p.game) s);
-      equivalence = h;
-    })
-    with_equivalence n t s false h j = absurd (queries_are_built names p (query_fault p) j)
-
-    go : (o : Option (ℕ × Token)) → first_of_block ts p.script ≡ o → of_script names p o ≡ Err fault.Unbuilt → HasStep ts ⊎ HasEquivalence ts
-    go None n j =
-        let t = past_types names p (type_fault p) fault.Unbuilt (omega arith) j in
-        let u = past_scopes names p (scope_fault p) fault.Unbuilt (omega arith) t.1 in
-        with_equivalence n t.0 u.0 (has_equivalence p.declarations) refl u.1
-    go (Some (token, first)) n j = inl (record { said = p; says = said_is_saying most_pool (signs_of ts).signs p e; token = token; first = first; there = n; step = by_block token (token_begins_step first) (cc) })
+      go : (r : Result (Option Tree) ScriptError) → block_of ts p ≡ r → of_script ts p r ≡ Err fault.Unbuilt → HasStep ts ⊎ HasEquivalence ts
+      go (Ok b) n j =
+          let t = past_types (content_of ts p b) p (type_fault p) fault.Unbuilt (omega arith) j in
+          let u = past_scopes (content_of ts p b) p (scope_fault p) fault.Unbuilt (omega arith) t.1 in
+          with_equivalence b n t.0 u.0 (has_equivalence p.declarations) refl u.1
+      go (Err y) n j =
+          let f = by_unbuilt y (cc) in
+          inl (record { said = p; says = said_is_saying most_pool (signs_of ts).signs p e; token = f.0; refused = n ∙ ap Err f.1 })
 
 -- a refusal of what tokens say comes from the tokens of the bytes
 
 abbrev of_file : (x : FileError) (Holds : List Token → Type 0) → 2 ≤ rank x → Type 0
-of_file x Holds r = (names : List (List ℕ)) (ts : List Token) (p : Parsed) → parsed most_pool (signs_of ts).signs ≡ Ok p → of_script names p (first_of_block ts p.script) ≡ Err x → Holds ts
+of_file x Holds r = (ts : List Token) (p : Parsed) → parsed most_pool (signs_of ts).signs ≡ Ok p → of_script ts p (block_of ts p) ≡ Err x → Holds ts
 
 by_said : (ts : List Token) (x : FileError) (Holds : List Token → Type 0) (l : 2 ≤ rank x) → of_file x Holds l → (r : Result Parsed ParseError) → parsed most_pool (signs_of ts).signs ≡ r → of_parsed ts r ≡ Err x → Holds ts
-by_said ts x Holds l h (Ok p) e i = h (signs_of ts).names ts p e i
+by_said ts x Holds l h (Ok p) e i = h ts p e i
 by_said ts x Holds l h (Err y) e i = absurd (let s : fault.Parse y ≡ x = cc in let j = subst (λ y. rank y ≤ 1) s (omega arith) in omega arith)
 
 by_bytes : (bytes : List ℕ) (x : FileError) (Holds : List Token → Type 0) (l : 2 ≤ rank x) → of_file x Holds l → (r : Result (List Token) LexError) → tokens_of bytes ≡ r → of_tokens most_pool r ≡ Err x → OfTokens bytes Holds
@@ -317,7 +330,7 @@ where_told None bytes P a p = tt
 where_told (Some b) bytes P a p = subst P (sym a) p
 
 -- the cause of a refusal
-pub refusal_cause : (o : Outside) (r : Report) (bytes : List ℕ) → AreTold o.told bytes → r.file ≡ None → (x : FileError) → Refuses x (read_of most_pool bytes) → ComesFrom o r (ended_by x)
+pub refusal_cause : (o : Outside) (r : Report) (bytes : List ℕ) → AreTold o.told bytes → r.file ≡ None → (x : FileError) → Refuses most_pool bytes x → ComesFrom o r (ended_by x)
 refusal_cause o r bytes a none x e = go x e
   where
     in_told : (P : List ℕ → Type 0) → P bytes → IfSome o.told P
@@ -335,23 +348,24 @@ refusal_cause o r bytes a none x e = go x e
     parsing (parse.Build (build.Depth n)) e = cause.deep (in_told _ (told bytes (parse.Build (build.Depth n)) (λ signs. IsLarge signs (HasDepth n)) (λ signs i. deep_game most_pool signs n i) e))
     parsing (parse.Build build.OutOfMemory) e = cause.memory
 
-    go : (x : FileError) → Refuses x (read_of most_pool bytes) → ComesFrom o r (ended_by x)
+    go : (x : FileError) → Refuses most_pool bytes x → ComesFrom o r (ended_by x)
     go (fault.Lex x) e = cause.no_tokens (in_told (λ (bs : List ℕ). tokens_of bs ≡ Err x) (lexis_of bytes x e))
     go (fault.Parse x) e = parsing x e
-    go (fault.Script k) e = cause.script (in_told _ (refused_later bytes (fault.Script k) (λ ts. HasForeignStep ts k) (omega arith) (λ names ts p i j. script_cause names ts p k i j) e))
-    go (fault.Types x) e = cause.types (in_told _ (refused_later bytes (fault.Types x) (λ ts. HasTypeFault ts x) (omega arith) (λ names ts p i j. type_cause names ts p x i j) e))
-    go (fault.Scope x) e = cause.scope (in_told _ (refused_later bytes (fault.Scope x) (λ ts. HasScopeFault ts x) (omega arith) (λ names ts p i j. scope_cause names ts p x i j) e))
-    go (fault.Query k) e = cause.query (in_told _ (refused_later bytes (fault.Query k) (λ ts. HasQueryFault ts k) (omega arith) (λ names ts p i j. query_cause names ts p k i j) e))
-    go fault.Unbuilt e = cause.unbuilt (in_told _ (refused_later bytes fault.Unbuilt (λ ts. HasStep ts ⊎ HasEquivalence ts) (omega arith) (λ names ts p i j. unbuilt_cause names ts p i j) e))
+    go (fault.Script k) e = cause.script (in_told _ (refused_later bytes (fault.Script k) (λ ts. HasNoScript ts k) (omega arith) (λ ts p i j. script_cause ts p i k j) e))
+    go (fault.Types x) e = cause.types (in_told _ (refused_later bytes (fault.Types x) (λ ts. HasTypeFault ts x) (omega arith) (λ ts p i j. type_cause ts p i x j) e))
+    go (fault.Scope x) e = cause.scope (in_told _ (refused_later bytes (fault.Scope x) (λ ts. HasScopeFault ts x) (omega arith) (λ ts p i j. scope_cause ts p i x j) e))
+    go (fault.Query k) e = cause.query (in_told _ (refused_later bytes (fault.Query k) (λ ts. HasQueryFault ts k) (omega arith) (λ ts p i j. query_cause ts p i k j) e))
+    go (fault.Room need) e = cause.script_room (subst (λ (f : Option File). IsNone f) (sym none) refl) (in_told (λ bs. IsFull most_pool bs need) e)
+    go fault.Unbuilt e = cause.unbuilt (in_told _ (refused_later bytes fault.Unbuilt (λ ts. HasStep ts ⊎ HasEquivalence ts) (omega arith) (λ ts p i j. unbuilt_cause ts p i j) e))
     go fault.OutOfMemory e = cause.memory
 
 -- more queries are closed than there may be steps
-many_closed : (bytes : List ℕ) (c : Content) → read_of most_pool bytes ≡ Ok c → (said_of c.game nothing_said (queries_in c.declarations)).full ≡ true → HasManyClosed bytes
-many_closed bytes c e f = record { content = c; file = read_is_file most_pool bytes c e; many = (let m = full_many c.game nothing_said (queries_in c.declarations) refl f in omega arith) }
+many_closed : (bytes : List ℕ) (c : Content) → read_of most_pool bytes ≡ Ok c → c.script ≡ None → (said_of c.game nothing_said (queries_in c.declarations)).full ≡ true → HasManyClosed bytes
+many_closed bytes c e n f = record { content = c; file = read_is_file most_pool bytes c e; plain = n; many = (let m = full_many c.game nothing_said (queries_in c.declarations) refl f in omega arith) }
 
--- the cause of what is said of a file that is read
-pub verdict_cause : (o : Outside) (r : Report) (f : File) (bytes : List ℕ) → AreTold o.told bytes → r.file ≡ Some f → FollowsStrategy r f → read_of most_pool bytes ≡ Ok (content_at r.work f.game.root) → ComesFrom o r r.status
-verdict_cause o r f bytes a s h e = go h.course.left h.course.split h.course.ends h.verdicts
+-- the cause of what is said of a file without a proof block
+pub verdict_cause : (o : Outside) (r : Report) (f : File) (bytes : List ℕ) → AreTold o.told bytes → r.file ≡ Some f → r.script ≡ None → FollowsStrategy r f → read_of most_pool bytes ≡ Ok (file_in r f) → ComesFrom o r r.status
+verdict_cause o r f bytes a s n h e = go h.course.left h.course.split h.course.ends h.verdicts
   where
     game : Tree
     game = game_in r f
@@ -364,8 +378,8 @@ verdict_cause o r f bytes a s h e = go h.course.left h.course.split h.course.end
 
     whole : (said_of game nothing_said asked).full ≡ list_any (lacks_step game) (zip asked r.verdicts.items) → (p : Bool) → list_all is_proved r.verdicts.items ≡ p → (l : Bool) → HasQueryWithoutStep r f l → ComesFrom o r (if p then status.Proved else (if l then status.Limit Steps else status.Open Stuck))
     whole full true i l j = cause.all_proved i
-    whole full false i true j = cause.steps (there true j) (where_told o.told bytes HasManyClosed a (many_closed bytes (content_at r.work f.game.root) e (full ∙ j)))
-    whole full false i false j = cause.stuck i (there false j)
+    whole full false i true j = cause.steps (there true j) (where_told o.told bytes HasManyClosed a (many_closed bytes (file_in r f) e (ap (script_in r.work.pool.trees) n) (full ∙ j)))
+    whole full false i false j = cause.stuck n i (there false j)
 
     go : (left : List Tree) → asked ≡ h.course.answered ++ left → EndsAt (nodes_in r f) game (said_in r f h.course.answered) left r.status → r.verdicts.items ≡ (said_in r f h.course.answered).verdicts ++ map open_verdict left → ComesFrom o r r.status
     go [] i t v =
@@ -381,3 +395,46 @@ verdict_cause o r f bytes a s h e = go h.course.left h.course.split h.course.end
           lacks = crowded_lacks (nodes_in r f) game h.course.answered left q t.0 asked r.verdicts.items t.2 i v;
         } in
         subst (ComesFrom o r) (sym t.1) (cause.room (subst (λ (x : Option File). IsSomeAnd x (λ (g : File). LacksRoom r g t.0)) (sym s) room))
+
+-- the cause of what is said of a file with a proof block
+pub script_cause_of : (o : Outside) (r : Report) (f : File) (steps : List Tree) → r.file ≡ Some f → steps_in r ≡ Some steps → FollowsScript r f steps → ComesFrom o r r.status
+script_cause_of o r f steps s t w = go w.walk.left w.walk.split w.walk.ends
+  where
+    there : (Holds : File → Type 0) → Holds f → IsSomeAnd r.file Holds
+    there Holds h = subst (λ (x : Option File). IsSomeAnd x Holds) (sym s) h
+
+    count : length r.steps.items ≡ length w.walk.proof
+    count = ap length w.steps ∙ (length-map r.trail.items (λ e. e.step) ∙ (sym (length-map r.trail.items (entry_in r.work.pool.trees)) ∙ (ap length w.trail ∙ length-map w.walk.proof entry_of)))
+
+    closed : (qs : List Tree) → queries_in (declared_in r) ≡ qs → steps ≡ map (λ t. t.step) w.walk.proof ++ [] → r.status ≡ unclosed qs → ComesFrom o r r.status
+    closed [] q i e =
+        subst (ComesFrom o r) (sym e) (cause.all_proved (ap (list_all is_proved) (w.verdicts ∙ ap (map open_verdict) q)))
+    closed (x ∷ qs) q i e =
+        let asked : HasOpenQuery r f 1 = record {
+          steps = steps;
+          there = t;
+          proof = w.walk.proof;
+          all = i ∙ append-nil (map (λ t. t.step) w.walk.proof);
+          last = w.walk.last;
+          leads = w.walk.leads;
+          first = refl;
+          some = (let l = ap length q in omega arith);
+        } in
+        subst (ComesFrom o r) (sym e) (cause.no_close (there (λ (g : File). HasOpenQuery r g 1) asked))
+
+    go : (left : List Tree) → steps ≡ map (λ t. t.step) w.walk.proof ++ left → EndsScript (nodes_in r f + nodes_along (game_in r f) w.walk.proof) (length w.walk.proof) (scene (declared_in r) (known_to r.work.decls.own) w.walk.last) (queries_in (declared_in r)) left r.status → ComesFrom o r r.status
+    go [] i e = closed (queries_in (declared_in r)) refl i e
+    go (next ∷ left) i e =
+        let stop : HasStop r f r.status = record {
+          steps = steps;
+          there = t;
+          proof = w.walk.proof;
+          next = next;
+          left = left;
+          split = i;
+          last = w.walk.last;
+          leads = w.walk.leads;
+          count = count;
+          stops = e;
+        } in
+        cause.stops (there (λ (g : File). HasStop r g r.status) stop)

@@ -1,5 +1,5 @@
 -- How runs end.
-use Rattle.std.proofs.Common.{◌≡◌, ℕ, ◌<◌, ◌≤◌, arith, refl, Bool, true, false, List, [], ◌∷◌, length, Option, Some, None, Result, Ok, Err, sym, ◌∙◌, subst, ◌⊎◌, inl, inr}
+use Rattle.std.proofs.Common.{◌≡◌, ℕ, ◌+◌, ◌<◌, ◌≤◌, arith, refl, ap, Bool, true, false, List, [], ◌∷◌, ◌++◌, length, map, take, Option, Some, None, Result, Ok, Err, sym, ◌∙◌, subst, ◌⊎◌, inl, inr}
 use Rattle.std.specs.Prelude.{IfSome, IsNone, IsSome, MatchOption, slice_get, ◌≢◌}
 use Rattle.cv_outside.specs.Causes.{NoFault, Rose}
 use Rattle.cv_outside.specs.Told.{Files, bytes_of}
@@ -7,16 +7,23 @@ use Rattle.cv_outside.specs.declared.shelf.FetchError.{FetchError}
 use Rattle.cv_outside.specs.declared.shelf.FetchError.TheVariants as fetch
 use Rattle.cv_syntax.specs.declared.work.BuildError.TheVariants as build
 use Rattle.cv_syntax.specs.declared.work.File.{File as SourceFile}
-use Rattle.cv_syntax.specs.Tree.{Tree}
+use Rattle.cv_syntax.specs.Tree.{Tree, tree_at}
 use Rattle.cv_bound.specs.declared.terms.Term.{Term}
 use Rattle.cv_parse.specs.declared.error.ParseError.TheVariants as parse
 use Rattle.cv_accept.specs.declared.error.FileError.{FileError}
 use Rattle.cv_accept.specs.declared.error.FileError.TheVariants as fault
-use Rattle.cv_accept.specs.Accepted.{Content, IsFile, Refuses, read_of}
-use Rattle.cv_accept.specs.Works.{content_at}
-use Rattle.cv_parse.specs.Nodes.{file_nodes}
+use Rattle.cv_accept.specs.Accepted.{Content, IsFile, IsFull, Refuses, read_of}
+use Rattle.cv_accept.specs.Works.{content_nodes}
 use Rattle.cv_query_form.specs.Queries.{queries_in}
-use Rattle.cv_accept.proofs.Readings.{file_is_read}
+use Rattle.cv_accept.proofs.Readings.{file_is_read, full_content}
+use Rattle.cv_parse_script.proofs.Steps.{items_nodes}
+use Rattle.std.proofs.lemmas.List.{length-map}
+use Rattle.cv_kernel.specs.Proofs.{nodes_along}
+use Rattle.cv_steps.specs.Scenes.{Scene}
+use Rattle.cv_steps.specs.Sequences.{scene}
+use Rattle.cv_report.specs.declared.report.Which.TheVariants.{Depth, File, Nodes, Pool, Steps}
+use Rattle.cv.specs.Scripts.{EndsScript, Follows, Stops, known_to, no_room, refused, too_deep, too_large, too_many, unclosed}
+use Rattle.cv.proofs.Walking.{Goes, chain_of, goes_on, never_stops}
 use Rattle.cv_report.specs.declared.report.Status.{Status}
 use Rattle.cv_report.specs.declared.report.Status.TheVariants as status
 use Rattle.cv_report.specs.declared.report.Report.{Report}
@@ -26,32 +33,75 @@ use Rattle.cv.specs.Causes.{ComesFrom, Outside}
 use Rattle.cv.specs.Causes as cause
 use Rattle.cv.specs.Faults.{status_of as ended_by}
 use Rattle.cv.specs.Fetched.{fetch_ended}
-use Rattle.cv.specs.Strategy.{Course, EndsAt, EndsWell, FollowsStrategy, HasFile, HoldsUpTo, IsExpected, IsGood, IsSound, Judged, SaysNothing, SpeaksOfFile, contexts_in, declared_in, game_in, most_bytes, most_pool, nothing_said, said_of, status_by}
+use Rattle.cv.specs.Games.{HasCloseGames, IsWithin, summed}
+use Rattle.cv_report.specs.declared.report.Entry.{Entry}
+use Rattle.cv_syntax.specs.declared.work.Game.{Game}
+use Rattle.cv_plain.specs.Strategy.{Course, EndsAt, most_pool, most_steps, nothing_said, said_of, status_by}
+use Rattle.cv.specs.Strategy.{AcceptsAll, EndsBy, EndsWell, HasFile, HoldsUpTo, IsExpected, IsGood, IsSound, Judged, Proceeds, SaysNothing, SpeaksOfFile, Succeeds, contexts_in, declared_in, file_in, game_in, most_bytes, steps_in}
 use Rattle.cv.specs.Words.{AreTold, bytes_named, bytes_under}
 use Rattle.cv.proofs.Causing.{where_told}
-use Rattle.cv.proofs.Courses.{course_fits}
-use Rattle.cv.proofs.Verdicts.{all_closed, judged_fault}
+use Rattle.cv_plain.proofs.Courses.{course_fits}
+use Rattle.cv_plain.proofs.Verdicts.{all_closed}
+use Rattle.cv.proofs.Verdicts.{judged_fault}
 
 -- a good file is proved
-good_proved : (s : Status) (bytes : List ℕ) → IsGood bytes → IsExpected (read_of most_pool bytes) s → s ≡ status.Proved
-good_proved s bytes g h =
-    let course = subst (λ r. IsExpected r s) (file_is_read most_pool bytes g.content g.file) h in
-    course_fits (file_nodes g.content.declarations g.content.game) g.content.game (queries_in g.content.declarations) s course g.fits
-    ∙ all_closed g.content.game nothing_said (queries_in g.content.declarations) g.closed (omega (arith, g.few)) refl refl
 
-judged_well : (s : Status) (bytes : List ℕ) → Judged s bytes → (IsExpected (read_of most_pool bytes) s → s ≡ status.Proved) → EndsWell s
-judged_well status.Proved bytes j e = tt
-judged_well status.Memory bytes j e = tt
-judged_well (status.FileRefused fault) bytes j e = absurd (let h = e j in cc)
-judged_well (status.Limit w) bytes j e = absurd (let h = e j in cc)
-judged_well (status.Open cause) bytes j e = absurd (let h = e j in cc)
-judged_well status.Words bytes j e = absurd (let h = e j in cc)
-judged_well status.Read bytes j e = absurd (let h = e j in cc)
-judged_well status.Write bytes j e = absurd (let h = e j in cc)
-judged_well status.Unbuilt bytes j e = absurd (let h = e j in cc)
+script_proved : (s : Status) (f : Content) (steps : List Tree) → AcceptsAll f steps → Follows (content_nodes f) f.declarations f.own f.game steps (queries_in f.declarations) s → s ≡ status.Proved
+script_proved s f steps g w = go w.left w.split w.ends
+  where
+    go : (left : List Tree) → steps ≡ map (λ t. t.step) w.proof ++ left → EndsScript (content_nodes f + nodes_along f.game w.proof) (length w.proof) (scene f.declarations (known_to f.own) w.last) (queries_in f.declarations) left s → s ≡ status.Proved
+    go [] i e = e ∙ ap unclosed g.none
+    go (next ∷ left) i e =
+        let c = chain_of f.declarations (known_to f.own) f.game w.proof w.last w.leads in
+        let d = chain_of f.declarations (known_to f.own) f.game g.proof g.last g.leads in
+        let on = goes_on f.declarations (known_to f.own) f.game w.proof g.proof next left c.0 d.0 (sym i ∙ g.all) in
+        let here = subst (λ t. Goes f.declarations (known_to f.own) t w.proof g.proof next f.game) c.1 on in
+        let few : length g.proof ≤ most_steps = (let l = g.few in let m = ap length g.all ∙ length-map g.proof (λ t. t.step) in omega arith) in
+        absurd (never_stops f.declarations f.own (content_nodes f) f.game w.last w.proof g.proof next s here few g.fits e)
+
+file_proved : (s : Status) (f : Content) (script : Option (List Tree)) → f.script ≡ script → Succeeds f script → EndsBy f script s → s ≡ status.Proved
+file_proved s f None e g h =
+    course_fits (content_nodes f) f.game (queries_in f.declarations) s h g.fits
+    ∙ all_closed f.game nothing_said (queries_in f.declarations) g.closed (omega (arith, g.few)) refl refl
+file_proved s f (Some steps) e g h = script_proved s f steps g h
+
+good_proved : (s : Status) (bytes : List ℕ) → IsGood bytes → IsExpected (read_of most_pool bytes) s → s ≡ status.Proved
+good_proved s bytes g h = file_proved s g.content g.content.script refl g.succeeds (subst (λ r. IsExpected r s) (file_is_read most_pool bytes g.content g.file) h)
+
+-- a pool has room for the proof block of a good file
+
+fits_in : (f : Content) (script : Option (List Tree)) → Succeeds f script → content_nodes f ≤ most_pool
+fits_in f None g = let l = g.fits in omega arith
+fits_in f (Some steps) g = let l = g.fits in omega arith
+
+good_room : (bytes : List ℕ) (need : ℕ) → IsGood bytes → IsFull most_pool bytes need → ⊥
+good_room bytes need g w =
+    let same = full_content most_pool bytes need g.content w (file_is_read most_pool bytes g.content g.file) in
+    let nodes = ap content_nodes same in
+    let l = fits_in g.content g.content.script g.succeeds in
+    let o = w.over in
+    let a = w.asked in
+    let n = items_nodes w.script in
+    omega arith
+
+judged_well : (s : Status) (bytes : List ℕ) → IsGood bytes → Judged s bytes → (IsExpected (read_of most_pool bytes) s → s ≡ status.Proved) → EndsWell s
+judged_well status.Proved bytes g j e = tt
+judged_well status.Memory bytes g j e = tt
+judged_well (status.FileRefused fault) bytes g j e = absurd (let h = e j in cc)
+judged_well (status.Limit (Pool need)) bytes g (inl j) e = absurd (let h = e j in cc)
+judged_well (status.Limit (Pool need)) bytes g (inr j) e = absurd (good_room bytes need g j)
+judged_well (status.Limit (Nodes n)) bytes g j e = absurd (let h = e j in cc)
+judged_well (status.Limit (Depth n)) bytes g j e = absurd (let h = e j in cc)
+judged_well (status.Limit Steps) bytes g j e = absurd (let h = e j in cc)
+judged_well (status.Limit File) bytes g j e = absurd (let h = e j in cc)
+judged_well (status.Open cause) bytes g j e = absurd (let h = e j in cc)
+judged_well status.Words bytes g j e = absurd (let h = e j in cc)
+judged_well status.Read bytes g j e = absurd (let h = e j in cc)
+judged_well status.Write bytes g j e = absurd (let h = e j in cc)
+judged_well status.Unbuilt bytes g j e = absurd (let h = e j in cc)
 
 pub ends_well : (s r : Status) (bytes : List ℕ) → IsComplete bytes r → IsGood bytes → (s ≡ r) ⊎ (s ≡ status.Write) → s ≢ status.Write → EndsWell s
-ends_well s r bytes c g (inl e) n = subst EndsWell (sym e) (judged_well r bytes (c.short g.short) (good_proved r bytes g))
+ends_well s r bytes c g (inl e) n = subst EndsWell (sym e) (judged_well r bytes g (c.short g.short) (good_proved r bytes g))
 ends_well s r bytes c g (inr e) n = absurd (n e)
 
 -- what is said of told bytes
@@ -73,6 +123,27 @@ course_speaks taken game qs s c = go c.left c.ends
     go [] h = subst SpeaksOfFile (sym h) (by_tests (said_of game nothing_said c.answered).full (said_of game nothing_said c.answered).all)
     go (q ∷ left) h = subst SpeaksOfFile (sym h.1) tt
 
+-- a script stops by a status that speaks of its file
+
+stop_speaks : (taken count : ℕ) (sc : Scene) (step : Tree) (s : Status) → Stops taken count sc step s → SpeaksOfFile s
+stop_speaks taken count sc step s (too_many l) = tt
+stop_speaks taken count sc step s (refused c p l e) = tt
+stop_speaks taken count sc step s (too_large n l e) = tt
+stop_speaks taken count sc step s (too_deep n l e) = tt
+stop_speaks taken count sc step s (no_room n l e) = tt
+
+unclosed_speaks : (qs : List Tree) → SpeaksOfFile (unclosed qs)
+unclosed_speaks [] = tt
+unclosed_speaks (q ∷ qs) = tt
+
+ends_speak : (f : Content) (script : Option (List Tree)) (s : Status) → EndsBy f script s → SpeaksOfFile s
+ends_speak f None s h = course_speaks (content_nodes f) f.game (queries_in f.declarations) s h
+ends_speak f (Some steps) s h = go h.left h.ends
+  where
+    go : (left : List Tree) → EndsScript (content_nodes f + nodes_along f.game h.proof) (length h.proof) (scene f.declarations (known_to f.own) h.last) (queries_in f.declarations) left s → SpeaksOfFile s
+    go [] e = subst SpeaksOfFile (sym e) (unclosed_speaks (queries_in f.declarations))
+    go (next ∷ left) e = stop_speaks _ _ _ next s e
+
 refusal_speaks : (x : FileError) → (ended_by x ≡ status.Memory) ⊎ SpeaksOfFile (ended_by x)
 refusal_speaks (fault.Lex x) = inr tt
 refusal_speaks (fault.Parse (parse.Syntax k)) = inr tt
@@ -87,11 +158,12 @@ refusal_speaks (fault.Script k) = inr tt
 refusal_speaks (fault.Types x) = inr tt
 refusal_speaks (fault.Scope x) = inr tt
 refusal_speaks (fault.Query k) = inr tt
+refusal_speaks (fault.Room need) = inr tt
 refusal_speaks fault.Unbuilt = inr tt
 refusal_speaks fault.OutOfMemory = inl refl
 
 expected_speaks : (s : Status) (r : Result Content FileError) → IsExpected r s → (s ≡ status.Memory) ⊎ SpeaksOfFile s
-expected_speaks s (Ok c) h = inr (course_speaks (file_nodes c.declarations c.game) c.game (queries_in c.declarations) s h)
+expected_speaks s (Ok c) h = inr (ends_speak c c.script s h)
 expected_speaks s (Err x) h = subst (λ y. (y ≡ status.Memory) ⊎ SpeaksOfFile y) (sym h) (refusal_speaks x)
 
 pub judged_speaks : (s : Status) (bytes : List ℕ) → Judged s bytes → (s ≡ status.Memory) ⊎ SpeaksOfFile s
@@ -102,7 +174,12 @@ judged_speaks (status.FileRefused f) bytes j = expected_speaks (status.FileRefus
 judged_speaks status.Words bytes j = expected_speaks status.Words (read_of most_pool bytes) j
 judged_speaks status.Read bytes j = expected_speaks status.Read (read_of most_pool bytes) j
 judged_speaks status.Write bytes j = expected_speaks status.Write (read_of most_pool bytes) j
-judged_speaks (status.Limit w) bytes j = expected_speaks (status.Limit w) (read_of most_pool bytes) j
+judged_speaks (status.Limit (Pool need)) bytes (inl j) = expected_speaks (status.Limit (Pool need)) (read_of most_pool bytes) j
+judged_speaks (status.Limit (Pool need)) bytes (inr j) = inr tt
+judged_speaks (status.Limit (Nodes n)) bytes j = expected_speaks (status.Limit (Nodes n)) (read_of most_pool bytes) j
+judged_speaks (status.Limit (Depth n)) bytes j = expected_speaks (status.Limit (Depth n)) (read_of most_pool bytes) j
+judged_speaks (status.Limit Steps) bytes j = expected_speaks (status.Limit Steps) (read_of most_pool bytes) j
+judged_speaks (status.Limit File) bytes j = expected_speaks (status.Limit File) (read_of most_pool bytes) j
 judged_speaks status.Unbuilt bytes j = expected_speaks status.Unbuilt (read_of most_pool bytes) j
 
 -- neither Words nor Write
@@ -115,10 +192,13 @@ speaks_never s (inr h) = (λ e. subst SpeaksOfFile e h, λ e. subst SpeaksOfFile
 pub sound_without : (r : Report) → r.file ≡ None → IsSound r
 sound_without r e = subst (λ (o : Option SourceFile). IfSome o (λ f. (k : ℕ) (query : Tree) (s : List Term) → slice_get (queries_in (declared_in r)) k ≡ Some query → slice_get r.verdicts.items k ≡ Some (Proved s) → HoldsUpTo (declared_in r) (contexts_in r) (game_in r f) query s)) (sym e) tt
 
+pub close_without : (r : Report) → r.file ≡ None → HasCloseGames r
+close_without r e = subst (λ (o : Option SourceFile). IfSome o (λ f. (k : ℕ) (x : Entry) (g : Game) → slice_get r.trail.items k ≡ Some x → x.next ≡ Some g → IsWithin (declared_in r) (game_in r f) (tree_at r.work.pool.trees (Some g.root)) (summed [] (map (λ x. x.cost) (take (k + 1) r.trail.items))))) (sym e) tt
+
 pub answers_without : (told : Option (List ℕ)) (r : Report) → r.file ≡ None → SaysNothing r → (HasFile r.status → ⊥) → (SpeaksOfFile r.status → IfSome told (Judged r.status)) → Answers told r
 answers_without told r e n h j = record {
-  file = subst (λ (o : Option SourceFile). IfSome o (λ f. IfSome told (λ bytes. IsFile most_pool bytes (content_at r.work f.game.root)))) (sym e) tt;
-  follows = subst (λ (o : Option SourceFile). MatchOption o (SaysNothing r) (FollowsStrategy r)) (sym e) n;
+  file = subst (λ (o : Option SourceFile). IfSome o (λ f. IfSome told (λ bytes. IsFile most_pool bytes (file_in r f)))) (sym e) tt;
+  follows = subst (λ (o : Option SourceFile). MatchOption o (SaysNothing r) (λ f. Proceeds r f (steps_in r))) (sym e) n;
   given = λ s. absurd (h s);
   only = λ s. absurd (let t = subst (λ (o : Option SourceFile). IsSome o) e s in cc);
   judged = j;
@@ -130,7 +210,7 @@ memory_answers told r e n s = answers_without told r e n (λ h. subst HasFile s 
 pub memory_cause : (o : Outside) (r : Report) → r.status ≡ status.Memory → ComesFrom o r r.status
 memory_cause o r s = subst (ComesFrom o r) (sym s) cause.memory
 
-pub ruleset without_file = (sound_without, memory_answers, memory_cause)
+pub ruleset without_file = (sound_without, close_without, memory_answers, memory_cause)
 
 -- bytes that are refused
 
@@ -148,10 +228,11 @@ refusal_has_none (fault.Script k) h = h
 refusal_has_none (fault.Types x) h = h
 refusal_has_none (fault.Scope x) h = h
 refusal_has_none (fault.Query k) h = h
+refusal_has_none (fault.Room need) h = h
 refusal_has_none fault.Unbuilt h = h
 refusal_has_none fault.OutOfMemory h = h
 
-pub refusal_answers : (told : Option (List ℕ)) (r : Report) (bytes : List ℕ) (x : FileError) → AreTold told bytes → Refuses x (read_of most_pool bytes) → r.status ≡ ended_by x → r.file ≡ None → SaysNothing r → Answers told r
+pub refusal_answers : (told : Option (List ℕ)) (r : Report) (bytes : List ℕ) (x : FileError) → AreTold told bytes → Refuses most_pool bytes x → r.status ≡ ended_by x → r.file ≡ None → SaysNothing r → Answers told r
 refusal_answers told r bytes x a f s e n =
     answers_without told r e n (λ h. refusal_has_none x (subst HasFile s h))
     (λ h. where_told told bytes (Judged r.status) a (subst (λ y. Judged y bytes) (sym s) (judged_fault x bytes f)))

@@ -1,98 +1,39 @@
 -- What stays of a work while its pool grows.
-use Rattle.std.proofs.Common.{◌≡◌, ℕ, zero, suc, ◌+◌, ◌<◌, ◌≤◌, List, [], ◌∷◌, ◌++◌, length, map, take, refl, ap, ap₂, sym, ◌∙◌, subst, arith, Option, Some, None}
-use Rattle.std.proofs.lemmas.Grind.{common_steps}
-use Rattle.std.proofs.lemmas.List.{map-append, take_all}
-use Rattle.std.specs.Prelude.{All}
+use Rattle.std.proofs.Common.{◌≡◌, ℕ, zero, suc, ◌<◌, List, [], ◌∷◌, length, refl, ap, ap₂, ◌∙◌, arith, Option, Some, None}
+use Rattle.std.specs.Prelude.{All, IfSome}
+use Rattle.std.specs.declared.vec.Vec.{Vec}
+use Rattle.std.specs.declared.alloc.Global.{Global}
 use Rattle.cv_pool.specs.declared.node.NodeId.{NodeId}
 use Rattle.cv_pool.specs.PoolView.{PoolView, Grows}
-use Rattle.cv_pool.proofs.Growth.{Grows-length}
-use Rattle.cv_syntax.proofs.Buildings.{child-grown}
-use Rattle.cv_syntax.specs.declared.decls.Decl.{Decl}
-use Rattle.cv_syntax.specs.declared.decls.Decl.TheVariants as decl
-use Rattle.cv_syntax.specs.Declarations.{Declaration, Named, Equation, Equiv, Query, declared, declarations, number}
+use Rattle.cv_syntax.specs.Declarations.{Declaration, declarations}
 use Rattle.cv_syntax.specs.Classes.{DeclsView}
 use Rattle.cv_syntax.specs.Tree.{Tree, tree_at}
 use Rattle.cv_syntax.specs.declared.work.Work.{Work}
 use Rattle.cv_parse.specs.Declaring.{IsBelow}
-use Rattle.cv_parse.specs.Games.{nodes_of}
-use Rattle.cv_parse.proofs.Plants.{overs-tree}
-use Rattle.cv_query_direct.specs.Certificates.{nodes_asked}
+use Rattle.cv_parse_script.specs.Scripts.{trees_of}
 use Rattle.cv_script.specs.declared.steps.Step.{Step}
-use Rattle.cv_report.specs.declared.report.Entry.{Entry}
-use Rattle.cv_report.specs.Text.{EntryLive}
 use Rattle.cv_accept.specs.Accepted.{Content}
-use Rattle.cv_accept.specs.Works.{content_at, content_in}
-use Rattle.cv.specs.Findings.{IsStepBelow}
-use Rattle.cv.specs.Strategy.{closing, said_by, steps_nodes}
+use Rattle.cv_accept.specs.Works.{content_at, content_in, script_in}
+use Rattle.cv_accept.proofs.Blocks.{declarations-grown, root-grown}
 
-pub root-grown : (old new : PoolView) (n : NodeId) → Grows old new → n.0 < length old.trees → tree_at new.trees (Some n) ≡ tree_at old.trees (Some n)
-root-grown old new n g l = child-grown old new (Some n) g l
+-- the steps of a proof block stay
 
-pub steps-grown : (old new : PoolView) (ss : List Step) → Grows old new → All (IsStepBelow (length old.trees)) ss → map (said_by new.trees) ss ≡ map (said_by old.trees) ss
+pub steps-grown : (old new : PoolView) (ss : List Step) → Grows old new → All (λ s. s.0.0 < length old.trees) ss → trees_of new.trees ss ≡ trees_of old.trees ss
 steps-grown old new [] g a = refl
 steps-grown old new (s ∷ ss) g a = ap₂ (λ t ts. t ∷ ts) (root-grown old new s.0 g (a zero s (omega arith))) (steps-grown old new ss g (λ k d l. a (suc k) d (omega arith)))
 
-pub steps-below : (old new : PoolView) (ss : List Step) → Grows old new → All (IsStepBelow (length old.trees)) ss → All (IsStepBelow (length new.trees)) ss
-steps-below old new ss g a = λ k d l. let h = a k d l in let m = Grows-length old new g in omega arith
+pub script-grown : (old new : PoolView) (script : Option (Vec Step Global)) → Grows old new → IfSome script (λ v. All (λ s. s.0.0 < length old.trees) v.items) → script_in new.trees script ≡ script_in old.trees script
+script-grown old new None g a = refl
+script-grown old new (Some v) g a = ap Some (steps-grown old new v.items g a)
 
-decl-grown : (old new : PoolView) (d : Decl) → Grows old new → IsBelow (length old.trees) d → declared new.trees d ≡ declared old.trees d
-decl-grown old new (decl.Name id class args result) g b = ap (λ t. Named id.0 class t (number result)) (child-grown old new args g b)
-decl-grown old new (decl.Equation n) g b = ap Equation (root-grown old new n g b)
-decl-grown old new (decl.Equiv id n) g b = ap (Equiv id.0) (root-grown old new n g b)
-decl-grown old new (decl.Query n) g b = ap Query (root-grown old new n g b)
-
-pub declarations-grown : (old new : PoolView) (ds : List Decl) → Grows old new → All (IsBelow (length old.trees)) ds → declarations new.trees ds ≡ declarations old.trees ds
-declarations-grown old new [] g a = refl
-declarations-grown old new (d ∷ ds) g a = ap₂ (λ t ts. t ∷ ts) (decl-grown old new d g (a zero d (omega arith))) (declarations-grown old new ds g (λ k e l. a (suc k) e (omega arith)))
-
-queries-grown : (old new : PoolView) (ns : List NodeId) → Grows old new → All (λ (n : NodeId). n.0 < length old.trees) ns → map (λ (n : NodeId). tree_at new.trees (Some n)) ns ≡ map (λ (n : NodeId). tree_at old.trees (Some n)) ns
-queries-grown old new [] g a = refl
-queries-grown old new (n ∷ ns) g a = ap₂ (λ t ts. t ∷ ts) (root-grown old new n g (a zero n (omega arith))) (queries-grown old new ns g (λ k d l. a (suc k) d (omega arith)))
-
--- what a work holds stays, where all its names are its own
-pub content-grown : (old new : Work) (root : NodeId) → Grows old.pool new.pool → new.names ≡ old.names → new.decls ≡ old.decls → old.decls.own ≡ length old.names → root.0 < length old.pool.trees → All (IsBelow (length old.pool.trees)) old.decls.list → content_at new root ≡ content_in old.names old.pool.trees old.decls.list root
-content-grown old new root g n d own l a =
-    ap (λ (ns : List (List ℕ)). content_in ns new.pool.trees new.decls.list root) (all-own old.names new.names new.decls.own n (ap (λ (v : DeclsView). v.own) d ∙ own))
-    ∙ (ap (λ (ds : List Decl). content_in old.names new.pool.trees ds root) (ap (λ (v : DeclsView). v.list) d)
-    ∙ ap₂ (λ (ds : List Declaration) (t : Tree). held old.names ds t) (declarations-grown old.pool new.pool old.decls.list g a) (root-grown old.pool new.pool root g l))
+-- what a work holds stays
+pub content-grown : (old new : Work) (root : NodeId) (script : Option (Vec Step Global)) → Grows old.pool new.pool → new.names ≡ old.names → new.decls ≡ old.decls → root.0 < length old.pool.trees → All (IsBelow (length old.pool.trees)) old.decls.list
+    → IfSome script (λ v. All (λ s. s.0.0 < length old.pool.trees) v.items) → content_at new root script ≡ content_at old root script
+content-grown old new root script g n d l a s =
+    ap (λ (ns : List (List ℕ)). content_in ns new.decls.own new.pool.trees new.decls.list root script) n
+    ∙ (ap (λ (v : DeclsView). content_in old.names v.own new.pool.trees v.list root script) d
+    ∙ (ap (λ (ds : List Declaration). held old.names old.decls.own ds (tree_at new.pool.trees (Some root)) (script_in new.pool.trees script)) (declarations-grown old.pool new.pool old.decls.list g a)
+    ∙ ap₂ (λ (t : Tree) (o : Option (List Tree)). held old.names old.decls.own (declarations old.pool.trees old.decls.list) t o) (root-grown old.pool new.pool root g l) (script-grown old.pool new.pool script g s)))
   where
-    held : List (List ℕ) → List Declaration → Tree → Content
-    held ns ds t = record { names = ns; declarations = ds; game = t }
-
-    all-own : (ns ms : List (List ℕ)) (k : ℕ) → ms ≡ ns → k ≡ length ns → take k ms ≡ ns
-    all-own ns ms k e f = ap (take k) e ∙ take_all k ns (omega arith)
-
--- one step more
-pub steps-more : (n : ℕ) (ss ts : List Step) (s : Step) → ts ≡ ss ++ s ∷ [] → All (IsStepBelow n) ss → s.0.0 < n → All (IsStepBelow n) ts
-steps-more n ss ts s e a l = grind (arith, common_steps)
-
--- the nodes of a trail
-pub trail-live : (n : ℕ) (ss : List Step) (trail : List Entry) → trail ≡ map closing ss → All (IsStepBelow n) ss → All (EntryLive n) trail
-trail-live n ss trail e a = subst (All (EntryLive n)) (sym e) (go ss a)
-  where
-    go : (xs : List Step) → All (IsStepBelow n) xs → All (EntryLive n) (map closing xs)
-    go [] b k d l = absurd (omega arith)
-    go (x ∷ xs) b zero d l = (b zero x (omega arith), tt)
-    go (x ∷ xs) b (suc k) d l = go xs (λ j c m. b (suc j) c (omega arith)) k d (omega arith)
-
--- how many nodes steps take
-
-pub steps-nodes-append : (a b : List Tree) → steps_nodes (a ++ b) ≡ steps_nodes a + steps_nodes b
-steps-nodes-append [] b = omega arith
-steps-nodes-append (t ∷ a) b = let e = steps-nodes-append a b in omega arith
-
-pub nodes-more : (old new : PoolView) (ss ts : List Step) (s : Step) (o : Option Tree) → Grows old new → All (IsStepBelow (length old.trees)) ss → ts ≡ ss ++ s ∷ [] → Some (tree_at new.trees (Some s.0)) ≡ o → length new.trees ≤ length old.trees + nodes_asked o → length new.trees + steps_nodes (map (said_by old.trees) ss) ≤ length old.trees + steps_nodes (map (said_by new.trees) ts)
-nodes-more old new ss ts s o g a e i l =
-    let one : length new.trees ≤ length old.trees + nodes_asked (Some (tree_at new.trees (Some s.0))) = subst (λ x. length new.trees ≤ length old.trees + nodes_asked x) (sym i) l in
-    let asked = overs-tree (tree_at new.trees (Some s.0)) in
-    let all : map (said_by new.trees) ts ≡ map (said_by old.trees) ss ++ tree_at new.trees (Some s.0) ∷ [] =
-    ap (map (said_by new.trees)) e ∙ (map-append (said_by new.trees) ss (s ∷ []) ∙ ap (λ us. us ++ tree_at new.trees (Some s.0) ∷ []) (steps-grown old new ss g a))
-    in
-    let sum : steps_nodes (map (said_by new.trees) ts) ≡ steps_nodes (map (said_by old.trees) ss) + (nodes_of (tree_at new.trees (Some s.0)) + 0) = ap steps_nodes all ∙ steps-nodes-append (map (said_by old.trees) ss) (tree_at new.trees (Some s.0) ∷ []) in
-    omega arith
-
-pub nodes-same : (old new : PoolView) (ss : List Step) (o : Option Tree) → Grows old new → All (IsStepBelow (length old.trees)) ss → None ≡ o → length new.trees ≤ length old.trees + nodes_asked o → length new.trees + steps_nodes (map (said_by old.trees) ss) ≤ length old.trees + steps_nodes (map (said_by new.trees) ss)
-nodes-same old new ss o g a i l =
-    let none : length new.trees ≤ length old.trees + nodes_asked None = subst (λ x. length new.trees ≤ length old.trees + nodes_asked x) (sym i) l in
-    let same = ap steps_nodes (steps-grown old new ss g a) in
-    omega arith
+    held : List (List ℕ) → ℕ → List Declaration → Tree → Option (List Tree) → Content
+    held ns own ds t o = record { names = ns; own = own; declarations = ds; game = t; script = o }

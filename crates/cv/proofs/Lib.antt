@@ -1,9 +1,11 @@
 pub mod Causing
 pub mod Courses
 pub mod Endings
+pub mod Faithful
+pub mod Following
 pub mod Growing
-pub mod Sayings
-pub mod Telling
-mod Unread
+pub mod Running
+pub mod Unread
 pub mod Verdicts
+pub mod Walking
 pub mod Writing

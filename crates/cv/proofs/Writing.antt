@@ -11,7 +11,8 @@ use Rattle.cv.specs.Causes as cause
 use Rattle.cv.specs.Strategy.{IsSound}
 use Rattle.cv.specs.Words.{SaysOfWords}
 use Rattle.cv.specs.Written.{unwritten}
-use Rattle.cv.proofs.Endings.{memory_answers, sound_without}
+use Rattle.cv.specs.Games.{HasCloseGames}
+use Rattle.cv.proofs.Endings.{close_without, memory_answers, sound_without}
 
 pub unwritten_either : (s : Status) → (unwritten s ≡ s) ⊎ (unwritten s ≡ status.Write)
 unwritten_either status.Memory = inl refl
@@ -53,6 +54,10 @@ pub ruleset unwritten_laws = (unwritten_either, unwritten_memory, unwritten_ends
 pub kept_sound : (old new : Report) → (new ≡ old) ⊎ SaysMemory old.command new → IsSound old → IsSound new
 kept_sound old new (inl e) h = subst IsSound (sym e) h
 kept_sound old new (inr m) h = sound_without new m.file
+
+pub kept_close : (old new : Report) → (new ≡ old) ⊎ SaysMemory old.command new → HasCloseGames old → HasCloseGames new
+kept_close old new (inl e) h = subst HasCloseGames (sym e) h
+kept_close old new (inr m) h = close_without new m.file
 
 pub kept_words : (words : List (List ℕ)) (old new : Report) → (new ≡ old) ⊎ SaysMemory old.command new → SaysOfWords words old → SaysOfWords words new
 kept_words words old new (inl e) h = subst (SaysOfWords words) (sym e) h

@@ -1,19 +1,19 @@
 -- What a report says of the told bytes of a file.
 use Rattle.std.specs.Prelude.{◌≡◌, ℕ, ◌<◌, ◌≤◌, ◌⊎◌, List, length, Option, None, IfSome, IsSome, MatchOption}
 use Rattle.cv_accept.specs.Accepted.{IsFile}
-use Rattle.cv_accept.specs.Works.{content_at}
 use Rattle.cv_report.specs.declared.report.Command.{Command}
 use Rattle.cv_report.specs.declared.report.Report.{Report}
 use Rattle.cv_report.specs.declared.report.Status.{Status}
 use Rattle.cv_report.specs.declared.report.Status.TheVariants as status
 use Rattle.cv_report.specs.declared.report.Which.TheVariants.{File}
-use Rattle.cv.specs.Strategy.{FollowsStrategy, HasFile, Judged, MayHaveFile, SaysNothing, SpeaksOfFile, most_bytes, most_pool}
+use Rattle.cv_plain.specs.Strategy.{most_pool}
+use Rattle.cv.specs.Strategy.{HasFile, Judged, MayHaveFile, Proceeds, SaysNothing, SpeaksOfFile, file_in, most_bytes, steps_in}
 
--- A report's file is what the told bytes are, and its steps, verdicts and status are those of the plain strategy. Without a
--- file there are none. A status that speaks of a file is the one that the bytes call for.
+-- A report's file is what the told bytes are, and its steps, verdicts and status are those of its proof block, or of the plain
+-- strategy where it has none. Without a file there are none. A status that speaks of a file is one that the bytes call for.
 pub record Answers (told : Option (List ℕ)) (r : Report) : Type 0 where
-  pub file : IfSome r.file (λ f. IfSome told (λ bytes. IsFile most_pool bytes (content_at r.work f.game.root)))
-  pub follows : MatchOption r.file (SaysNothing r) (FollowsStrategy r)
+  pub file : IfSome r.file (λ f. IfSome told (λ bytes. IsFile most_pool bytes (file_in r f)))
+  pub follows : MatchOption r.file (SaysNothing r) (λ f. Proceeds r f (steps_in r))
   pub given : HasFile r.status → IsSome r.file
   pub only : IsSome r.file → MayHaveFile r.status
   pub judged : SpeaksOfFile r.status → IfSome told (Judged r.status)

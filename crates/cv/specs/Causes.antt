@@ -1,12 +1,13 @@
 -- What each answer comes from.
-use Rattle.std.specs.Prelude.{◌≡◌, ℕ, suc, ◌+◌, ◌<◌, ◌⊎◌, Bool, false, true, if◌then◌else◌, List, [], ◌∷◌, ◌++◌, length, Option, Some, None, Ok, Err, IfSome, IsNone, IsSomeAnd}
+use Rattle.std.specs.Prelude.{◌≡◌, ℕ, suc, ◌+◌, ◌<◌, ◌⊎◌, Bool, false, true, map, if◌then◌else◌, List, [], ◌∷◌, ◌++◌, length, Option, Some, None, Ok, Err, IfSome, IsNone, IsSomeAnd}
 use Rattle.std.specs.List.{list_all, list_any, zip}
 use Rattle.cv_outside.specs.Causes.{Rose}
 use Rattle.cv_outside.specs.Told.{Files}
 use Rattle.cv_lex.specs.declared.LexError.{LexError}
 use Rattle.cv_lex.specs.Lexis.{Token, tokens_of}
 use Rattle.cv_parse_terminals.specs.Signs.{signs_of}
-use Rattle.cv_parse_script.specs.Scripts.{token_begins_step}
+use Rattle.cv_parse_script.specs.declared.error.ScriptError.TheVariants as block
+use Rattle.cv_kernel.specs.Proofs.{IsProof, Transition, nodes_along}
 use Rattle.cv_parse_notation.specs.declared.sign.Sign.{Sign}
 use Rattle.cv_parse_grammar.specs.Names as names
 use Rattle.cv_parse_depth.specs.Files.{IsDeadAtEveryDepth, IsNestedTooDeep}
@@ -24,15 +25,18 @@ use Rattle.cv_query_form.specs.Queries.{queries_in}
 use Rattle.cv_query_form.specs.Rules.{IsFirstRefused}
 use Rattle.cv_syntax.specs.Tree.{Tree}
 use Rattle.cv_syntax.specs.declared.work.File.{File}
-use Rattle.cv_accept.specs.Accepted.{Content, IsFile, first_of_block, has_equivalence}
+use Rattle.cv_accept.specs.Accepted.{Content, IsFile, IsFull, block_of, has_equivalence}
 use Rattle.cv_accept.specs.Places.{nodes_before}
 use Rattle.cv_report.specs.declared.report.FileFault.TheVariants.{Lex, Parse, Script, Types, Scope, Query}
-use Rattle.cv_report.specs.declared.report.Cause.TheVariants.{Stuck}
+use Rattle.cv_report.specs.declared.report.Cause.TheVariants.{NoClose, Stuck}
 use Rattle.cv_report.specs.declared.report.Report.{Report}
 use Rattle.cv_report.specs.declared.report.Status.{Status}
 use Rattle.cv_report.specs.declared.report.Status.TheVariants as status
 use Rattle.cv_report.specs.declared.report.Which.TheVariants.{Depth, Nodes, Pool, Steps, File as FileLimit}
-use Rattle.cv.specs.Strategy.{IsCrowded, declared_in, game_in, is_closed, is_proved, lacks_step, most_bytes, most_pool, most_steps, nodes_in, said_in}
+use Rattle.cv_plain.specs.Strategy.{IsCrowded, is_closed, is_proved, lacks_step, most_pool, most_steps}
+use Rattle.cv_steps.specs.Sequences.{scene}
+use Rattle.cv.specs.Scripts.{Stops, known_to}
+use Rattle.cv.specs.Strategy.{declared_in, game_in, most_bytes, nodes_in, said_in, steps_in}
 use Rattle.cv.specs.Words.{bytes_named}
 
 -- The bytes have tokens, of which this holds.
@@ -46,66 +50,68 @@ unfoldable pub closed_count : Tree → List Tree → ℕ
 closed_count game [] = 0
 closed_count game (q ∷ qs) = if is_closed game q then suc (closed_count game qs) else closed_count game qs
 
--- The tokens are those of a file whose proof block begins with this one, with which no step begins.
-pub record HasForeignStep (tokens : List Token) (token : ℕ) : Type 0 where
+-- The tokens are those of a file whose proof block is no script of steps that have a rule: no such script goes through
+-- this token, and no step begins with it.
+pub record HasNoScript (tokens : List Token) (token : ℕ) : Type 0 where
   pub said : Parsed
   pub says : Says most_pool (signs_of tokens).signs said
-  pub first : Token
-  pub there : first_of_block tokens said.script ≡ Some (token, first)
-  pub no_step : token_begins_step first ≡ false
+  pub refused : block_of tokens said ≡ Err (block.Script token)
 
--- The tokens are those of a file whose proof block has no token, or is missing, and this is the first fault of its terms.
+-- The tokens are those of a file, whose proof block is a script if it has one, and this is the first fault of its terms.
 pub record HasTypeFault (tokens : List Token) (e : TypeFault) : Type 0 where
   pub said : Parsed
   pub says : Says most_pool (signs_of tokens).signs said
-  pub no_step : first_of_block tokens said.script ≡ None
+  pub script : Option Tree
+  pub block : block_of tokens said ≡ Ok script
   pub first : IsFirstRefusal said.declarations (file_parts said.declarations said.game) e
 
--- The tokens are those of a typed file without a step, and this names the first node of its game that breaks a rule of array
+-- The tokens are those of such a file that is typed, and this names the first node of its game that breaks a rule of array
 -- scope, by its place in the file.
 pub record HasScopeFault (tokens : List Token) (e : ScopeFault) : Type 0 where
   pub said : Parsed
   pub says : Says most_pool (signs_of tokens).signs said
-  pub no_step : first_of_block tokens said.script ≡ None
+  pub script : Option Tree
+  pub block : block_of tokens said ≡ Ok script
   pub typed : IsTypedFile said.declarations said.game
   pub node : ℕ
   pub rules : Fault
   pub refused : e ≡ refusal (nodes_before said.declarations + node) rules
   pub first : IsFirstFault said.declarations said.game node rules
 
--- The tokens are those of a typed and scoped file without a step or an equivalence, and the k-th of its queries is the first
--- that may not be asked.
+-- The tokens are those of such a file that is typed and scoped, without an equivalence, and the k-th of its queries is the
+-- first that may not be asked.
 pub record HasQueryFault (tokens : List Token) (k : ℕ) : Type 0 where
   pub said : Parsed
   pub says : Says most_pool (signs_of tokens).signs said
-  pub no_step : first_of_block tokens said.script ≡ None
+  pub script : Option Tree
+  pub block : block_of tokens said ≡ Ok script
   pub typed : IsTypedFile said.declarations said.game
   pub scoped : IsScoped said.declarations said.game
   pub no_equivalence : has_equivalence said.declarations ≡ false
   pub first : IsFirstRefused said.game (queries_in said.declarations) k
 
--- The tokens are those of a file whose proof block begins with the first word of a step.
+-- The tokens are those of a file whose proof block has a step that has no rule, behind steps that have one.
 pub record HasStep (tokens : List Token) : Type 0 where
   pub said : Parsed
   pub says : Says most_pool (signs_of tokens).signs said
   pub token : ℕ
-  pub first : Token
-  pub there : first_of_block tokens said.script ≡ Some (token, first)
-  pub step : token_begins_step first ≡ true
+  pub refused : block_of tokens said ≡ Err (block.Unbuilt token)
 
--- The tokens are those of a typed and scoped file without a step that declares an equivalence.
+-- The tokens are those of a typed and scoped file, whose proof block is a script if it has one, that declares an equivalence.
 pub record HasEquivalence (tokens : List Token) : Type 0 where
   pub said : Parsed
   pub says : Says most_pool (signs_of tokens).signs said
-  pub no_step : first_of_block tokens said.script ≡ None
+  pub script : Option Tree
+  pub block : block_of tokens said ≡ Ok script
   pub typed : IsTypedFile said.declarations said.game
   pub scoped : IsScoped said.declarations said.game
   pub equivalence : has_equivalence said.declarations ≡ true
 
--- A file has more queries that are closed than there may be steps.
+-- A file without a proof block has more queries that are closed than there may be steps.
 pub record HasManyClosed (bytes : List ℕ) : Type 0 where
   pub content : Content
   pub file : IsFile most_pool bytes content
+  pub plain : content.script ≡ None
   pub many : most_steps < closed_count content.game (queries_in content.declarations)
 
 -- whether a query that would be closed has no step
@@ -121,6 +127,30 @@ pub record LacksRoom (r : Report) (f : File) (need : ℕ) : Type 0 where
   pub split : queries_in (declared_in r) ≡ answered ++ query ∷ left
   pub crowded : IsCrowded (nodes_in r f) (game_in r f) (said_in r f answered) query need
   pub lacks : HasQueryWithoutStep r f true
+
+-- The steps of a report are the front of the proof block of its file, each accepted in turn; the next one stops the run so.
+pub record HasStop (r : Report) (f : File) (s : Status) : Type 0 where
+  pub steps : List Tree
+  pub there : steps_in r ≡ Some steps
+  pub proof : List Transition
+  pub next : Tree
+  pub left : List Tree
+  pub split : steps ≡ map (λ t. t.step) proof ++ next ∷ left
+  pub last : Tree
+  pub leads : IsProof (declared_in r) (known_to r.work.decls.own) (game_in r f) proof last
+  pub count : length r.steps.items ≡ length proof
+  pub stops : Stops (nodes_in r f + nodes_along (game_in r f) proof) (length proof) (scene (declared_in r) (known_to r.work.decls.own) last) next s
+
+-- All steps of the proof block are accepted in turn, and this is the first query, which none of them closes.
+pub record HasOpenQuery (r : Report) (f : File) (q : ℕ) : Type 0 where
+  pub steps : List Tree
+  pub there : steps_in r ≡ Some steps
+  pub proof : List Transition
+  pub all : steps ≡ map (λ t. t.step) proof
+  pub last : Tree
+  pub leads : IsProof (declared_in r) (known_to r.work.decls.own) (game_in r f) proof last
+  pub first : q ≡ 1
+  pub some : 0 < length (queries_in (declared_in r))
 
 -- what is known of the outside: the file that the words name, its told bytes, and the faults of the shelf, before and after
 pub record Outside : Type 0 where
@@ -143,7 +173,9 @@ OfSigns o Holds = OfTold o (λ tokens. Holds (signs_of tokens).signs)
 -- The table of causes: what each answer comes from. What is said of bytes is said of told ones.
 pub data ComesFrom (o : Outside) (r : Report) : Status → Type 0 where
   all_proved : list_all is_proved r.verdicts.items ≡ true → ComesFrom o r status.Proved
-  stuck : list_all is_proved r.verdicts.items ≡ false → IfSome r.file (λ f. HasQueryWithoutStep r f false) → ComesFrom o r (status.Open Stuck)
+  stuck : r.script ≡ None → list_all is_proved r.verdicts.items ≡ false → IfSome r.file (λ f. HasQueryWithoutStep r f false) → ComesFrom o r (status.Open Stuck)
+  stops : {s : Status} → IsSomeAnd r.file (λ f. HasStop r f s) → ComesFrom o r s
+  no_close : {q : ℕ} → IsSomeAnd r.file (λ f. HasOpenQuery r f q) → ComesFrom o r (status.Open (NoClose q))
   steps : IfSome r.file (λ f. HasQueryWithoutStep r f true) → IfSome o.told HasManyClosed → ComesFrom o r (status.Limit Steps)
   words : IsNone o.name → ComesFrom o r status.Words
   read : Rose o.before o.after → ComesFrom o r status.Read
@@ -153,7 +185,7 @@ pub data ComesFrom (o : Outside) (r : Report) : Status → Type 0 where
   nesting : {token : ℕ} → OfSigns o (λ signs. IsNestedTooDeep signs token) → ComesFrom o r (status.FileRefused (Parse (Nesting token)))
   name_twice : {token : ℕ} → OfSigns o (λ signs. IsMisnamedAt signs names.NameTwice token) → ComesFrom o r (status.FileRefused (Parse (NameTwice token)))
   name_unknown : {token : ℕ} → OfSigns o (λ signs. IsMisnamedAt signs names.NameUnknown token) → ComesFrom o r (status.FileRefused (Parse (NameUnknown token)))
-  script : {token : ℕ} → OfTold o (λ tokens. HasForeignStep tokens token) → ComesFrom o r (status.FileRefused (Script token))
+  script : {token : ℕ} → OfTold o (λ tokens. HasNoScript tokens token) → ComesFrom o r (status.FileRefused (Script token))
   types : {e : TypeFault} → OfTold o (λ tokens. HasTypeFault tokens e) → ComesFrom o r (status.FileRefused (Types e))
   scope : {e : ScopeFault} → OfTold o (λ tokens. HasScopeFault tokens e) → ComesFrom o r (status.FileRefused (Scope e))
   query : {k : ℕ} → OfTold o (λ tokens. HasQueryFault tokens k) → ComesFrom o r (status.FileRefused (Query k))
@@ -161,5 +193,6 @@ pub data ComesFrom (o : Outside) (r : Report) : Status → Type 0 where
   nodes : {count : ℕ} → OfSigns o (λ signs. IsLarge signs (HasNodes count)) → ComesFrom o r (status.Limit (Nodes count))
   deep : {depth : ℕ} → OfSigns o (λ signs. IsLarge signs (HasDepth depth)) → ComesFrom o r (status.Limit (Depth depth))
   pool : {need : ℕ} → IsNone r.file → most_pool < need → OfSigns o (λ signs. IsLarge signs (HasWeight most_pool need)) → ComesFrom o r (status.Limit (Pool need))
+  script_room : {need : ℕ} → IsNone r.file → IfSome o.told (λ bytes. IsFull most_pool bytes need) → ComesFrom o r (status.Limit (Pool need))
   room : {need : ℕ} → IsSomeAnd r.file (λ f. LacksRoom r f need) → ComesFrom o r (status.Limit (Pool need))
   memory : ComesFrom o r status.Memory

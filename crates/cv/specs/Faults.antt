@@ -1,7 +1,4 @@
--- How a run ends where bytes are refused, or a pool has no room.
-use Rattle.std.specs.Prelude.{ℕ, Option, Some, None}
-use Rattle.cv_pool.specs.declared.pool.PoolError.{PoolError}
-use Rattle.cv_pool.specs.declared.pool.PoolError.TheVariants as pool
+-- How a run ends where bytes are refused.
 use Rattle.cv_parse.specs.declared.error.ParseError.{ParseError}
 use Rattle.cv_parse.specs.declared.error.ParseError.TheVariants as parse
 use Rattle.cv_syntax.specs.declared.work.BuildError.TheVariants as build
@@ -27,10 +24,6 @@ status_of (fault.Script token) = status.FileRefused (Script token)
 status_of (fault.Types e) = status.FileRefused (Types e)
 status_of (fault.Scope e) = status.FileRefused (Scope e)
 status_of (fault.Query k) = status.FileRefused (Query k)
+status_of (fault.Room need) = status.Limit (Pool need)
 status_of fault.Unbuilt = status.Unbuilt
 status_of fault.OutOfMemory = status.Memory
-
--- for how many nodes more a pool has no room
-abbrev pub need_of : PoolError → Option ℕ
-need_of (pool.Full need) = Some need
-need_of pool.OutOfMemory = None

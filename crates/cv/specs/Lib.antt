@@ -2,8 +2,11 @@ pub mod Answers
 pub mod Causes
 pub mod Faults
 pub mod Fetched
-pub mod Findings
+pub mod Games
+pub mod Runs
+pub mod Scripts
 pub mod Strategy
 pub mod Values
+pub mod Walks
 pub mod Words
 pub mod Written

@@ -1,268 +1,53 @@
-ghost use Rattle.std.specs.Prelude.{◌≡◌, ◌+◌, ◌<◌, ◌≤◌, ◌^◌, ◌++◌, [], ℕ, List, Option, All, None, Some, drop, map, length, IfOk, OnOk};
-ghost use Rattle.cv_syntax.specs.Classes.{queries};
-ghost use Rattle.cv_syntax.specs.Tree.{tree_at, size};
+ghost use Rattle.std.specs.Prelude.{◌≡◌, ◌<◌, ◌≤◌, [], ℕ, All, IfSome, List, Option, Some, length};
+ghost use Rattle.cv_syntax.specs.Declarations.{declarations};
+ghost use Rattle.cv_syntax.specs.Tree.{size, tree_at};
 ghost use Rattle.cv_parse.specs.Declaring.{IsBelow};
+ghost use Rattle.cv_scope_runs.specs.Phrases.{IsWellFormed};
+ghost use Rattle.cv_accept.specs.Works.{HasSteps, content_at, content_nodes};
+ghost use Rattle.cv_plain.specs.Strategy.{most_pool};
+ghost use Rattle.cv_report.specs.Text.{IsLive};
 ghost use Rattle.cv.specs.Answers.{Answers};
 ghost use Rattle.cv.specs.Causes.{ComesFrom, Outside};
+ghost use Rattle.cv.specs.Games.{HasCloseGames};
+ghost use Rattle.cv.specs.Runs.{Runs};
+ghost use Rattle.cv.specs.Strategy.{IsSound, Judged};
 ghost use Rattle.cv.specs.Words.{AreTold};
-ghost use Rattle.cv.specs.Faults.{need_of, parse_ended, status_of as ended_by};
-ghost use Rattle.cv_pool.specs.PoolView.{Grows};
-ghost use Rattle.cv_report.specs.Text.{IsLive};
-ghost use Rattle.cv_report.specs.declared.report.Verdict.TheVariants.{NotProved};
-ghost use Rattle.cv.specs.Findings.{IsFound, IsStepBelow, SaysOf, ended, said, taken};
-ghost use Rattle.cv_query_direct.specs.Plain.{certificate};
-ghost use Rattle.cv.specs.Strategy.{closing, most_pool, said_then, Judged, IsSound, SaysNothing};
 
-use cv_accept::{FileError, read};
-use cv_bound::{Cost, Sum};
-use cv_parse::ParseError;
-use cv_query_direct::{direct, success};
-use cv_report::{Cause, Command, Entry, FileFault, Report, Status, Verdict, Which};
-use cv_script::Step;
-use cv_syntax::{BuildError, Decls, NodeId, Pool, PoolError, Work, query_at};
-use std::alloc::{AllocError, Global};
+use crate::follow::run_script;
+use crate::plain::run_plain;
+use crate::refusal::{refused, status_of};
+use cv_accept::{Accepted, read};
+use cv_report::{Command, Report};
+use cv_syntax::Work;
+use std::alloc::Global;
 
 /// How many moves a proof has where the words don't say.
 pub const MOVES: u32 = 32;
 
-/// How many steps a proof may have.
-const MOST_STEPS: usize = 2_000;
-
-/// What is said of the queries of a game so far.
-#[derive(Drop)]
-pub struct Findings {
-    steps: Vec<Step>,
-    verdicts: Vec<Verdict>,
-    /// Whether each query is closed.
-    all: bool,
-    /// Whether a query would be closed, and no step was left for it.
-    full: bool,
-    /// For how many nodes more the pool had no room, where it had none for a step.
-    need: Option<u32>,
-}
-
-impl Findings {
-    /// How a run ends that has found this.
-    fn status(&self) -> Status
-        ensures { result ≡ ended self.now.need self.now.full self.now.all }
-    {
-        if let Some(need) = self.need {
-            return Status::Limit(Which::Pool { need });
-        }
-        if self.full {
-            return Status::Limit(Which::Steps);
-        }
-        if self.all {
-            return Status::Proved;
-        }
-        Status::Open(Cause::Stuck)
-    }
-}
-
-/// Says of one query more, for which no step is left, whether it would be closed.
-#[tactic(auto, using(crate::proofs::Sayings::sayings))]
-fn pass_over(
-    alloc: Global,
-    pool: &Pool,
-    game: NodeId,
-    query: NodeId,
-    found: &mut Findings,
-) -> Result<(), AllocError>
-    requires game { game.0 < length pool.now.trees }
-    requires query { query.0 < length pool.now.trees }
-    requires fits { size (tree_at pool.now.trees (Some game)) < 2 ^ 32 }
-    requires full { 2000 ≤ length found.old.steps.items }
-    ensures said { OnOk result (said pool.now.trees found.new
-        ≡ said_then (said pool.now.trees found.old)
-        (certificate (tree_at pool.now.trees (Some game)) (tree_at pool.now.trees (Some query)))) }
-    ensures more { OnOk result
-        (length found.new.verdicts.items ≡ length found.old.verdicts.items + 1) }
-    ensures steps { found.new.steps ≡ found.old.steps }
-    ensures need { found.new.need ≡ found.old.need }
-{
-    match direct(alloc, pool, query, game)? {
-        Some(_) => found.full = true,
-        None => found.all = false,
-    }
-    found.verdicts.push(Verdict::NotProved)?;
-    Ok(())
-}
-
-/// For how many nodes more a pool has no room. Want of memory is no want of room.
-fn need_of(fault: PoolError) -> Option<u32>
-    ensures { result ≡ need_of fault }
-{
-    match fault {
-        PoolError::Full { need } => Some(need),
-        PoolError::OutOfMemory => None,
-    }
-}
-
-/// Says of one query more whether it is closed by the events above, and closes it where a step is left. Where the pool
-/// has no room for the step, it answers for how many nodes, and nothing is said.
-#[tactic(auto, using(crate::proofs::Sayings::sayings))]
-fn find(
-    alloc: Global,
-    pool: &mut Pool,
-    game: NodeId,
-    query: NodeId,
-    found: &mut Findings,
-) -> Result<Option<u32>, AllocError>
-    requires game { game.0 < length pool.old.trees }
-    requires query { query.0 < length pool.old.trees }
-    requires fits { size (tree_at pool.old.trees (Some game)) < 2 ^ 32 }
-    requires few { length found.old.verdicts.items + 1 < 2 ^ 32 }
-    requires live { All (IsStepBelow (length pool.old.trees)) found.old.steps.items }
-    ensures said { IfOk result (λ need. SaysOf pool.old.limit (length pool.old.trees)
-        (tree_at pool.old.trees (Some game)) (tree_at pool.old.trees (Some query))
-        (said pool.old.trees found.old) (said pool.new.trees found.new) need) }
-    ensures more { OnOk result
-        (length found.new.verdicts.items ≤ length found.old.verdicts.items + 1) }
-    ensures live { OnOk result (All (IsStepBelow (length pool.new.trees)) found.new.steps.items) }
-    ensures need { found.new.need ≡ found.old.need }
-    ensures grows { OnOk result (Grows pool.old pool.new) }
-    ensures nodes { OnOk result (length pool.new.trees + taken pool.old.trees found.old
-        ≤ length pool.old.trees + taken pool.new.trees found.new) }
-{
-    if found.steps.len() >= MOST_STEPS {
-        pass_over(alloc, pool, game, query, found)?;
-        return Ok(None);
-    }
-    let number = found.verdicts.len() as u32 + 1;
-    match success(alloc, pool, query, number, game) {
-        Ok(Some(step)) => {
-            found.steps.push(step)?;
-            found.verdicts.push(Verdict::Proved(Sum::new(alloc)))?;
-            Ok(None)
-        }
-        Ok(None) => {
-            found.all = false;
-            found.verdicts.push(Verdict::NotProved)?;
-            Ok(None)
-        }
-        Err(fault) => match need_of(fault) {
-            Some(need) => Ok(Some(need)),
-            None => Err(AllocError),
-        },
-    }
-}
-
-/// Leaves the queries from a declaration on open, since the pool has no room for so many nodes more.
-#[tactic(auto, using(crate::proofs::Sayings::sayings))]
-fn leave(found: Findings, decls: &Decls, from: u32, need: u32) -> Result<Findings, AllocError>
-    ensures steps { IfOk result (λ f. f.steps ≡ found.steps) }
-    ensures verdicts { IfOk result (λ f. f.verdicts.items ≡ found.verdicts.items
-        ++ map (λ n. NotProved) (queries (drop from decls.now.list))) }
-    ensures need { IfOk result (λ f. f.need ≡ Some need) }
-{
-    let mut found = found;
-    'decls: for k in from..decls.len() {
-        if query_at(decls, k).is_some() {
-            found.verdicts.push(Verdict::NotProved)?;
-        }
-    }
-    found.need = Some(need);
-    Ok(found)
-}
-
-/// The plain strategy: a step for each query that is closed by the events above, in order, as long as the pool has room.
-#[tactic(auto, using(crate::proofs::Sayings::sayings))]
-fn answer(alloc: Global, work: &mut Work, game: NodeId) -> Result<Findings, AllocError>
-    requires game { game.0 < length work.old.pool.trees }
-    requires fits { size (tree_at work.old.pool.trees (Some game)) < 2 ^ 32 }
-    requires below { All (IsBelow (length work.old.pool.trees)) work.old.decls.list }
-    requires limit { work.old.pool.limit ≡ most_pool }
-    ensures found { IfOk result (λ f. IsFound (length work.old.pool.trees)
-        (tree_at work.old.pool.trees (Some game))
-        (map (λ n. tree_at work.old.pool.trees (Some n)) (queries work.old.decls.list))
-        work.new.pool.trees f) }
-    ensures live { IfOk result (λ f. All (IsStepBelow (length work.new.pool.trees)) f.steps.items) }
-    ensures grows { OnOk result (Grows work.old.pool work.new.pool) }
-    ensures names { work.new.names ≡ work.old.names }
-    ensures decls { work.new.decls ≡ work.old.decls }
-{
-    let mut found = Findings {
-        steps: Vec::new(alloc),
-        verdicts: Vec::new(alloc),
-        all: true,
-        full: false,
-        need: None,
-    };
-    'decls: for k in 0..work.decls.len() {
-        let Some(query) = query_at(&work.decls, k) else {
-            continue;
-        };
-        if let Some(need) = find(alloc, &mut work.pool, game, query, &mut found)? {
-            return leave(found, &work.decls, k, need);
-        }
-    }
-    Ok(found)
-}
-
-/// The trail of steps that close queries.
-#[tactic(auto, using(crate::proofs::Sayings::sayings))]
-fn trail_of(alloc: Global, steps: &[Step]) -> Result<Vec<Entry>, AllocError>
-    ensures { IfOk result (λ trail. trail.items ≡ map closing steps.now) }
-{
-    let mut trail = Vec::new(alloc);
-    for step in steps {
-        trail.push(Entry {
-            step: *step,
-            cost: Cost::Zero,
-            next: None,
-        })?;
-    }
-    Ok(trail)
-}
-
-/// A report on a run that ended before a file was accepted.
-pub fn refused(alloc: Global, work: Work, command: Command, status: Status) -> Report
-    ensures status { result.status ≡ status }
+/// A run over an accepted file.
+fn run_accepted(alloc: Global, work: Work, command: Command, accepted: Accepted) -> Report
+    requires game { accepted.file.game.root.0 < length work.pool.trees }
+    requires small { size (tree_at work.pool.trees (Some accepted.file.game.root)) ≤ 50000 }
+    requires below { All (IsBelow (length work.pool.trees)) work.decls.list }
+    requires limit { work.pool.limit ≡ most_pool }
+    requires nodes { length work.pool.trees
+        ≤ content_nodes (content_at work accepted.file.game.root accepted.script) }
+    requires steps { IfSome accepted.script (λ s.
+        HasSteps work.pool.limit work.pool.trees s.items) }
+    requires formed { IsWellFormed (declarations work.pool.trees work.decls.list)
+        (tree_at work.pool.trees (Some accepted.file.game.root)) }
+    ensures run { Runs (content_at work accepted.file.game.root accepted.script) accepted.file
+        result }
     ensures command { result.command ≡ command }
-    ensures file { result.file ≡ None }
-    ensures nothing { SaysNothing result }
 {
-    Report {
-        work,
-        file: None,
-        command,
-        steps: Vec::new(alloc),
-        trail: Vec::new(alloc),
-        verdicts: Vec::new(alloc),
-        status,
+    let Accepted { file, script } = accepted;
+    match script {
+        None => run_plain(alloc, work, command, file),
+        Some(steps) => run_script(alloc, work, command, file, steps),
     }
 }
 
-/// How tokens that are no file end a run.
-fn parse_ended(fault: ParseError) -> Status
-    ensures { result ≡ parse_ended fault }
-{
-    match fault {
-        ParseError::Build(BuildError::Nodes { count }) => Status::Limit(Which::Nodes { count }),
-        ParseError::Build(BuildError::Depth { depth }) => Status::Limit(Which::Depth { depth }),
-        ParseError::Build(BuildError::Full { need }) => Status::Limit(Which::Pool { need }),
-        ParseError::Build(BuildError::OutOfMemory) => Status::Memory,
-        other => Status::FileRefused(FileFault::Parse(other)),
-    }
-}
-
-/// How a refusal of bytes ends a run.
-fn status_of(fault: FileError) -> Status
-    ensures { result ≡ ended_by fault }
-{
-    match fault {
-        FileError::Lex(fault) => Status::FileRefused(FileFault::Lex(fault)),
-        FileError::Parse(fault) => parse_ended(fault),
-        FileError::Script(token) => Status::FileRefused(FileFault::Script(token)),
-        FileError::Types(fault) => Status::FileRefused(FileFault::Types(fault)),
-        FileError::Scope(fault) => Status::FileRefused(FileFault::Scope(fault)),
-        FileError::Query(k) => Status::FileRefused(FileFault::Query(k)),
-        FileError::Unbuilt => Status::Unbuilt,
-        FileError::OutOfMemory => Status::Memory,
-    }
-}
-
-/// Reads the bytes of a file into an empty work, and applies the strategy.
+/// Reads the bytes of a file into an empty work, and follows its proof block, or applies the strategy.
 #[tactic(auto, using(crate::proofs::Endings::without_file))]
 pub fn judge(alloc: Global, work: Work, bytes: &[u8]) -> Report
     requires names { work.names ≡ [] }
@@ -271,6 +56,7 @@ pub fn judge(alloc: Global, work: Work, bytes: &[u8]) -> Report
     requires limit { work.pool.limit ≡ most_pool }
     requires few { length bytes.now ≤ 1048576 }
     ensures sound { IsSound result }
+    ensures games { HasCloseGames result }
     ensures command { result.command ≡ Command.Prove 32 }
     ensures live { IsLive result }
     ensures answers { (told : Option (List ℕ)) → AreTold told bytes.now → Answers told result }
@@ -279,29 +65,8 @@ pub fn judge(alloc: Global, work: Work, bytes: &[u8]) -> Report
 {
     let command = Command::Prove { moves: MOVES };
     let mut work = work;
-    let file = match read(alloc, &mut work, bytes) {
-        Ok(file) => file,
-        Err(fault) => return refused(alloc, work, command, status_of(fault)),
-    };
-    let Ok(found) = answer(alloc, &mut work, file.game.root) else {
-        return refused(alloc, work, command, Status::Memory);
-    };
-    let Ok(trail) = trail_of(alloc, &found.steps) else {
-        return refused(alloc, work, command, Status::Memory);
-    };
-    let status = found.status();
-    let Findings {
-        steps,
-        verdicts,
-        ..
-    } = found;
-    Report {
-        work,
-        file: Some(file),
-        command,
-        steps,
-        trail,
-        verdicts,
-        status,
+    match read(alloc, &mut work, bytes) {
+        Ok(accepted) => run_accepted(alloc, work, command, accepted),
+        Err(fault) => refused(alloc, work, command, status_of(fault)),
     }
 }

@@ -5,11 +5,13 @@ ghost use Rattle.cv_report.specs.Writing.{TakesAll, TakesFront};
 ghost use Rattle.cv.specs.Answers.{Answers, IsComplete, SaysMemory};
 ghost use Rattle.cv.specs.Causes.{ComesFrom, outside_of};
 ghost use Rattle.cv.specs.Fetched.{fetch_ended};
+ghost use Rattle.cv.specs.Games.{HasCloseGames};
 ghost use Rattle.cv.specs.Strategy.{EndsWell, IsGood, IsSound};
 ghost use Rattle.cv.specs.Words.{AsksOnly, SaysOfWords, bytes_named, file_given};
 ghost use Rattle.cv.specs.Written.{EndsBy, IsWritten, unwritten as unwritten_status};
 
-use crate::decide::{MOVES, judge, refused};
+use crate::decide::{MOVES, judge};
+use crate::refusal::refused;
 use crate::words::named;
 use cv_outside::{FetchError, Shelf, Sink};
 use cv_report::{Command, Report, Status, Which, WriteError, write as write_report};
@@ -43,6 +45,7 @@ fn status_of(fault: FetchError) -> Status
 /// All but the writing, where the words name a file.
 fn prove<F: Shelf>(alloc: Global, name: &str, shelf: &mut F) -> Report
     ensures sound { IsSound result }
+    ensures games { HasCloseGames result }
     ensures command { result.command ≡ Command.Prove 32 }
     ensures live { IsLive result }
     ensures never { (result.status ≢ Status.Words) × (result.status ≢ Status.Write) }
@@ -69,6 +72,7 @@ fn prove<F: Shelf>(alloc: Global, name: &str, shelf: &mut F) -> Report
 /// All but the writing.
 fn decide<F: Shelf>(alloc: Global, words: &[String], shelf: &mut F) -> Report
     ensures sound { IsSound result }
+    ensures games { HasCloseGames result }
     ensures words { SaysOfWords (map string_bytes words.now) result }
     ensures live { IsLive result }
     ensures never { result.status ≢ Status.Write }
@@ -144,12 +148,14 @@ pub fn run<F: Shelf, K: Sink>(
 ) -> Outcome
     // What is called proved holds, for all meanings that satisfy the declarations, and all adversaries.
     ensures headline { IsSound result.report }
+    // No adversary tells a game of the report from the first by more than the costs of the steps between.
+    ensures games { HasCloseGames result.report }
     // The command is the one that the words give. The file that they name is asked for alone, at most once.
     ensures words { SaysOfWords (map string_bytes words.now) result.report }
     ensures asked { AsksOnly (file_given words.now) (F.asked shelf.old) (F.asked shelf.new) }
 
     // The report's file is the reading of the bytes under that name, where the shelf tells them. Its steps,
-    // verdicts and status are those of the plain strategy, whatever the shelf.
+    // verdicts and status are those of its proof block, or of the plain strategy, whatever the shelf.
     ensures answers { Answers (bytes_named (F.told shelf.old) (file_given words.now))
         result.report }
     // Each answer has its cause.
@@ -159,7 +165,8 @@ pub fn run<F: Shelf, K: Sink>(
     ensures complete { NoFault (F.faults shelf.old) (F.faults shelf.new)
         → IfSome (bytes_named (F.told shelf.old) (file_given words.now))
         (λ bytes. IsComplete bytes result.report.status) }
-    // A file within the limits whose queries are all closed by the events above is proved.
+    // A file within the limits whose queries are all closed by the events above is proved; so is one without a
+    // query, each step of whose proof block is accepted.
     ensures good { NoFault (F.faults shelf.old) (F.faults shelf.new)
         → NoFault (K.faults sink.old) (K.faults sink.new)
         → IfSome (bytes_named (F.told shelf.old) (file_given words.now))

@@ -2,11 +2,14 @@ use Rattle.std.specs.Prelude.{map, string_bytes}
 use Rattle.cv_lists.proofs.Options.{IfSome-weaker}
 use Rattle.cv.specs.Words.{bytes_named, file_named}
 use Rattle.cv.proofs.Endings.{ends_well}
-use Rattle.cv.proofs.Writing.{by_sink, ends_either, kept_answers, kept_cause, kept_complete, kept_sound, kept_words}
+use Rattle.cv.proofs.Writing.{by_sink, ends_either, kept_answers, kept_cause, kept_close, kept_complete, kept_sound, kept_words}
 use Rattle.cv.proofs.top.run.Goals as goal
 
 pub returns-clause-headline : goal.returns-clause-headline
 returns-clause-headline g c = kept_sound _ _ c.write.ensures.kept c.decide-report.ensures.sound
+
+pub returns-clause-games : goal.returns-clause-games
+returns-clause-games g c = kept_close _ _ c.write.ensures.kept c.decide-report.ensures.games
 
 pub returns-clause-words : goal.returns-clause-words
 returns-clause-words g c = kept_words _ _ _ c.write.ensures.kept c.decide-report.ensures.words

@@ -1,0 +1,175 @@
+-- The games of a report are close to the first.
+use Rattle.std.proofs.Common.{◌≡◌, ℕ, zero, suc, ◌+◌, ◌<◌, ◌≤◌, Bool, false, List, [], ◌∷◌, ◌++◌, length, map, take, refl, ap, ap₂, sym, ◌∙◌, subst, arith, Option, Some, None, Ok, ◌⊎◌, inl, inr}
+use Rattle.std.proofs.lemmas.List.{map-append}
+use Rattle.std.specs.Prelude.{IfSome, slice_get, option_map}
+use Rattle.cv_pool.specs.KindTree.{KindTree}
+use Rattle.cv_syntax.specs.declared.work.File.{File}
+use Rattle.cv_syntax.specs.declared.work.Game.{Game}
+use Rattle.cv_syntax.specs.Declarations.{Declaration}
+use Rattle.cv_syntax.specs.Tree.{Tree, tree_at}
+use Rattle.cv_accept.specs.Accepted.{Content, read_of}
+use Rattle.cv_accept.proofs.Readings.{accepted, read_is_file}
+use Rattle.cv_bound.specs.declared.cost.Cost.{Cost as SumCost}
+use Rattle.cv_bound.specs.declared.terms.Term.{Term}
+use Rattle.cv_bound.specs.Sums.{added}
+use Rattle.cv_bound.specs.Values.{sum_value}
+use Rattle.cv_meaning.specs.Advantage.{chance_of}
+use Rattle.cv_meaning.specs.Chances.{AtMost, distance}
+use Rattle.cv_meaning.specs.Interpretation.{setting_of}
+use Rattle.cv_kernel.specs.Proofs.{IsProof, Transition, push, start}
+use Rattle.cv_kernel.specs.Steps.{judgement_by, step_in}
+use Rattle.cv_parse.proofs.Exactness.{says_is_said}
+use Rattle.cv_parse_terminals.specs.Signs.{signs_of}
+use Rattle.cv_parse_sorts.proofs.Games.{sorts_declared}
+use Rattle.cv_parse_sorts.proofs.Known.{queries_known}
+use Rattle.cv_plain.specs.Strategy.{closing, most_pool}
+use Rattle.cv_query_form.specs.Queries.{queries_in}
+use Rattle.cv_query_form.specs.Rules.{AreAsked}
+use Rattle.cv_report.specs.declared.report.Entry.{Entry}
+use Rattle.cv_report.specs.declared.report.Report.{Report}
+use Rattle.cv_scope_runs.specs.Phrases.{IsWellFormed}
+use Rattle.cv_script.specs.declared.steps.Step.{Step}
+use Rattle.cv_sequences.specs.Sequences.{added_up, costs_of}
+use Rattle.cv_sequences.proofs.Asked.{choices_valued}
+use Rattle.cv_sequences.proofs.Sums.{within}
+use Rattle.cv_steps.specs.Costs.{cost_of}
+use Rattle.cv_steps.specs.Judgements.{Accepted}
+use Rattle.cv_steps.specs.Scenes.{KnowsQueries}
+use Rattle.cv_steps.specs.Sequences as steps
+use Rattle.cv_steps.specs.Sequences.{IsSequence, Passage, scene}
+use Rattle.cv_steps.specs.Steps.{Cost, Step as StepTree}
+use Rattle.cv_typing.specs.Parts.{IsTypedFile}
+use Rattle.cv_typing_runs.specs.Games.{HasDeclaredSorts}
+use Rattle.cv.specs.Games.{HasCloseGames, IsWithin, summed}
+use Rattle.cv.specs.Runs.{Runs}
+use Rattle.cv.specs.Scripts.{entry_in, entry_of, known_to}
+use Rattle.cv.specs.Strategy.{FollowsScript, Proceeds, declared_in, file_in, game_in, steps_in}
+
+-- the front of a proof
+
+module _ (ds : List Declaration) (known : ℕ → Bool) (first : Tree) where
+  -- what stands behind others, or among them
+  at_last : (before : List Transition) (t u : Transition) (k : ℕ) → slice_get (before ++ t ∷ []) k ≡ Some u → ((k ≡ length before) × (u ≡ t)) ⊎ ((k < length before) × (slice_get before k ≡ Some u))
+  at_last [] t u zero e = inl (refl, cc)
+  at_last [] t u (suc k) e = absurd (cc)
+  at_last (b ∷ before) t u zero e = inr (omega arith, e)
+  at_last (b ∷ before) t u (suc k) e = elim (at_last before t u k e) as (λ _. ((suc k ≡ length (b ∷ before)) × (u ≡ t)) ⊎ ((suc k < length (b ∷ before)) × (slice_get (b ∷ before) (suc k) ≡ Some u))) [
+    | inl h ↦ inl (ap suc h.0, h.1)
+    | inr h ↦ inr (omega (arith, h.0), h.1)
+  ]
+
+  take_front : {A : Type 0} (xs : List A) (x : A) (k : ℕ) → k ≤ length xs → take k (xs ++ x ∷ []) ≡ take k xs
+  take_front xs x zero l = refl
+  take_front [] x (suc k) l = absurd (omega arith)
+  take_front (y ∷ xs) x (suc k) l = ap (λ ys. y ∷ ys) (take_front xs x k (omega arith))
+
+  take_whole : {A : Type 0} (xs : List A) (x : A) (k : ℕ) → k ≡ length xs → take (k + 1) (xs ++ x ∷ []) ≡ xs ++ x ∷ []
+  take_whole [] x zero e = refl
+  take_whole [] x (suc k) e = absurd (omega arith)
+  take_whole (y ∷ xs) x zero e = absurd (omega arith)
+  take_whole (y ∷ xs) x (suc k) e = let n : suc k + 1 ≡ suc (k + 1) = omega arith in ap (λ m. take m (y ∷ (xs ++ x ∷ []))) n ∙ ap (λ ys. y ∷ ys) (take_whole xs x k (omega arith))
+
+  pub front : (ts : List Transition) (last : Tree) → IsProof ds known first ts last → (k : ℕ) (u : Transition) → slice_get ts k ≡ Some u → IsProof ds known first (take (k + 1) ts) u.next
+  front ts last start k u e = absurd (cc)
+  front ts last (push before game t p i) k u e = elim (at_last before t u k e) as (λ _. IsProof ds known first (take (k + 1) (before ++ t ∷ [])) u.next) [
+    | inl h ↦ subst (λ x. IsProof ds known first (take (k + 1) (before ++ t ∷ [])) x.next) (sym h.1) (subst (λ xs. IsProof ds known first xs t.next) (sym (take_whole before t k h.0)) (push before game t p i))
+    | inr h ↦ subst (λ xs. IsProof ds known first xs u.next) (sym (take_front before t (k + 1) (omega (arith, h.0)))) (front before game p k u h.1)
+  ]
+
+  -- a proof is a sequence of games, with the same costs
+
+  accepted_step : (game : Tree) (o : Option StepTree) (next : Tree) (c : Cost) → judgement_by (scene ds known game) o ≡ Accepted next c → (x : StepTree) × (o ≡ Some x)
+  accepted_step game None next c e = absurd (cc)
+  accepted_step game (Some x) next c e = (x, refl)
+
+  pub record HasPassages (ts : List Transition) (last : Tree) : Type 0 where
+    pub passages : List Passage
+    pub sequence : IsSequence ds known first passages last
+    pub costs : map cost_of (costs_of passages) ≡ map (λ t. t.cost) ts
+
+  pub passages_of : (ts : List Transition) (last : Tree) → IsProof ds known first ts last → HasPassages ts last
+  passages_of ts last start = record { passages = []; sequence = steps.start; costs = refl }
+  passages_of ts last (push before game t p i) =
+      let h = passages_of before game p in
+      let x = accepted_step game (step_in t.step) t.next i.cost i.accepted in
+      let one : Passage = record { step = x.0; cost = i.cost; next = t.next } in
+      record {
+        passages = h.passages ++ one ∷ [];
+        sequence = steps.push h.passages game one h.sequence (ap (judgement_by (scene ds known game)) (sym x.1) ∙ i.accepted);
+        costs = ap (map cost_of) (map-append (λ q. q.cost) h.passages (one ∷ []))
+            ∙ (map-append cost_of (costs_of h.passages) (i.cost ∷ []) ∙ (ap₂ (λ cs c. cs ++ c ∷ []) h.costs (sym i.costs) ∙ sym (map-append (λ q. q.cost) before (t ∷ []))));
+      }
+
+  summed_up : (sum : List Term) (cs : List Cost) → added_up sum cs false ≡ summed sum (map cost_of cs)
+  unfolding added_up summed
+  summed_up sum [] = refl
+  summed_up sum (c ∷ cs) = summed_up (added sum (cost_of c) false) cs
+
+  -- so no adversary tells its games
+  module _ (w : IsWellFormed ds first) (k : KnowsQueries (scene ds known first)) (typed : IsTypedFile ds first) (sorts : HasDeclaredSorts ds first) (asked : AreAsked first (queries_in ds)) where
+    pub close : (ts : List Transition) (last : Tree) → IsProof ds known first ts last → IsWithin ds first last (summed [] (map (λ t. t.cost) ts))
+    close ts last p = λ i sat x q a advantages.
+        let h = passages_of ts last p in
+        subst (λ s. AtMost (distance (chance_of (setting_of ds i) x a first) (chance_of (setting_of ds i) x a last)) (sum_value i advantages s))
+        (summed_up [] (costs_of h.passages) ∙ ap (summed []) h.costs)
+        (within ds known first w k i sat x q (choices_valued ds first w.phrase typed sorts asked i sat x q) a advantages h.passages last h.sequence)
+
+-- the trail of a report
+
+-- what stands in one list stands in the other, where they say the same
+matched : (trees : List KindTree) (es : List Entry) (ts : List Transition) (k : ℕ) (e : Entry) → map (entry_in trees) es ≡ map entry_of ts → slice_get es k ≡ Some e → (t : Transition) × (slice_get ts k ≡ Some t) × (entry_in trees e ≡ entry_of t)
+matched trees [] ts k e m h = absurd (cc)
+matched trees (x ∷ es) [] k e m h = absurd (cc)
+matched trees (x ∷ es) (t ∷ ts) zero e m h = let f : x ≡ e = cc in (t, refl, ap (entry_in trees) (sym f) ∙ (cc))
+matched trees (x ∷ es) (t ∷ ts) (suc k) e m h = matched trees es ts k e (cc) h
+
+same_costs : (trees : List KindTree) (es : List Entry) (ts : List Transition) (n : ℕ) → map (entry_in trees) es ≡ map entry_of ts → map (λ x. x.cost) (take n es) ≡ map (λ t. t.cost) (take n ts)
+same_costs trees es ts zero m = refl
+same_costs trees [] [] (suc n) m = refl
+same_costs trees [] (t ∷ ts) (suc n) m = absurd (cc)
+same_costs trees (x ∷ es) [] (suc n) m = absurd (cc)
+same_costs trees (x ∷ es) (t ∷ ts) (suc n) m =
+    let f : entry_in trees x ≡ entry_of t = cc in
+    ap₂ (λ c cs. c ∷ cs) (ap (λ (y : Tree × SumCost × Option Tree). y.1) f) (same_costs trees es ts n (cc))
+
+next_tree : (trees : List KindTree) (e : Entry) (t : Transition) (g : Game) → entry_in trees e ≡ entry_of t → e.next ≡ Some g → t.next ≡ tree_at trees (Some g.root)
+next_tree trees e t g m n = let f = sym (ap (λ (y : Tree × SumCost × Option Tree). y.2) m) ∙ ap (option_map (λ h. tree_at trees (Some h.root))) n in cc
+
+none_next : (ss : List Step) (k : ℕ) (e : Entry) (g : Game) → slice_get (map closing ss) k ≡ Some e → e.next ≡ Some g → ⊥
+none_next [] k e g h n = cc
+none_next (s ∷ ss) zero e g h n = let f : closing s ≡ e = cc in let m = ap (λ x. x.next) f ∙ n in cc
+none_next (s ∷ ss) (suc k) e g h n = none_next ss k e g h n
+
+module _ (c : Content) (f : File) (r : Report) (bytes : List ℕ) (reads : read_of most_pool bytes ≡ Ok c) where
+  -- what a file has that the law asks for
+  knows : KnowsQueries (scene c.declarations (known_to c.own) c.game)
+  knows =
+      let w = read_is_file most_pool bytes c reads in
+      subst (λ d. KnowsQueries (scene d.declarations (known_to d.own) d.game)) (sym w.content) (queries_known most_pool w.tokens w.said w.says)
+
+  sorted : HasDeclaredSorts c.declarations c.game
+  sorted =
+      let w = read_is_file most_pool bytes c reads in
+      subst (λ d. HasDeclaredSorts d.declarations d.game) (sym w.content) (sorts_declared most_pool (signs_of w.tokens).signs w.said (says_is_said most_pool (signs_of w.tokens).signs w.said w.says))
+
+  close_content : (ts : List Transition) (last : Tree) → IsProof c.declarations (known_to c.own) c.game ts last → IsWithin c.declarations c.game last (summed [] (map (λ t. t.cost) ts))
+  close_content ts last p =
+      let a = accepted most_pool bytes c reads in
+      close c.declarations (known_to c.own) c.game a.well_formed knows a.typed sorted a.asked ts last p
+
+  script_close : (steps : List Tree) → file_in r f ≡ c → FollowsScript r f steps → (k : ℕ) (e : Entry) (g : Game) → slice_get r.trail.items k ≡ Some e → e.next ≡ Some g → IsWithin (declared_in r) (game_in r f) (tree_at r.work.pool.trees (Some g.root)) (summed [] (map (λ x. x.cost) (take (k + 1) r.trail.items)))
+  script_close steps held w k e g h n =
+      let trees = r.work.pool.trees in
+      let m = matched trees r.trail.items w.walk.proof k e w.trail h in
+      let p = front (declared_in r) (known_to r.work.decls.own) (game_in r f) w.walk.proof w.walk.last w.walk.leads k m.0 m.1 in
+      let here = subst (λ d. (ts : List Transition) (last : Tree) → IsProof d.declarations (known_to d.own) d.game ts last → IsWithin d.declarations d.game last (summed [] (map (λ t. t.cost) ts))) (sym held) close_content in
+      subst (λ cs. IsWithin (declared_in r) (game_in r f) (tree_at trees (Some g.root)) (summed [] cs)) (sym (same_costs trees r.trail.items w.walk.proof (k + 1) w.trail))
+      (subst (λ t. IsWithin (declared_in r) (game_in r f) t (summed [] (map (λ x. x.cost) (take (k + 1) w.walk.proof)))) (next_tree trees e m.0 g m.2 n) (here (take (k + 1) w.walk.proof) m.0.next p))
+
+  by_script : (o : Option (List Tree)) → file_in r f ≡ c → Proceeds r f o → (k : ℕ) (e : Entry) (g : Game) → slice_get r.trail.items k ≡ Some e → e.next ≡ Some g → IsWithin (declared_in r) (game_in r f) (tree_at r.work.pool.trees (Some g.root)) (summed [] (map (λ x. x.cost) (take (k + 1) r.trail.items)))
+  by_script None held p k e g h n = absurd (none_next r.steps.items k e g (ap (λ es. slice_get es k) (sym p.trail) ∙ h) n)
+  by_script (Some steps) held p k e g h n = script_close steps held p k e g h n
+
+  pub run_close : Runs c f r → HasCloseGames r
+  run_close (inl s) = subst (λ (o : Option File). IfSome o (λ q. (k : ℕ) (e : Entry) (g : Game) → slice_get r.trail.items k ≡ Some e → e.next ≡ Some g → IsWithin (declared_in r) (game_in r q) (tree_at r.work.pool.trees (Some g.root)) (summed [] (map (λ x. x.cost) (take (k + 1) r.trail.items))))) (sym s.file) tt
+  run_close (inr h) = subst (λ (o : Option File). IfSome o (λ q. (k : ℕ) (e : Entry) (g : Game) → slice_get r.trail.items k ≡ Some e → e.next ≡ Some g → IsWithin (declared_in r) (game_in r q) (tree_at r.work.pool.trees (Some g.root)) (summed [] (map (λ x. x.cost) (take (k + 1) r.trail.items))))) (sym h.file) (by_script (steps_in r) h.content h.proceeds)

@@ -1,0 +1,64 @@
+-- What a run over an accepted file answers.
+use Rattle.std.proofs.Common.{◌≡◌, ◌<◌, ℕ, List, length, refl, ap, sym, ◌∙◌, subst, Option, Some, None, Ok, inl, inr}
+use Rattle.std.specs.Prelude.{All, IfSome, IsSome, MatchOption}
+use Rattle.std.proofs.lemmas.List.Elements.{All-nil}
+use Rattle.std.specs.declared.vec.Vec.{Vec}
+use Rattle.std.specs.declared.alloc.Global.{Global}
+use Rattle.cv_syntax.specs.declared.work.File.{File}
+use Rattle.cv_syntax.specs.Tree.{Tree}
+use Rattle.cv_script.specs.declared.steps.Step.{Step}
+use Rattle.cv_accept.specs.Accepted.{Content, IsFile, read_of}
+use Rattle.cv_accept.specs.Works.{script_in}
+use Rattle.cv_accept.proofs.Readings.{read_is_file}
+use Rattle.cv_plain.specs.Strategy.{most_pool}
+use Rattle.cv_report.specs.declared.report.Report.{Report}
+use Rattle.cv_report.specs.declared.report.Status.{Status}
+use Rattle.cv_report.specs.Text.{EntryLive, IsLive}
+use Rattle.cv.specs.Answers.{Answers}
+use Rattle.cv.specs.Causes.{ComesFrom, Outside}
+use Rattle.cv.specs.Runs.{IsSoundFor, Runs}
+use Rattle.cv.specs.Strategy.{EndsBy, IsSound, Judged, Proceeds, SaysNothing, file_in, steps_in}
+use Rattle.cv.specs.Words.{AreTold}
+use Rattle.cv.proofs.Causing.{script_cause_of, verdict_cause, where_told}
+use Rattle.cv.proofs.Endings.{memory_answers, memory_cause, sound_without}
+use Rattle.cv.proofs.Verdicts.{judged_file}
+
+module _ (c : Content) (f : File) (r : Report) where
+  ends : (o : Option (List Tree)) → Proceeds r f o → EndsBy (file_in r f) o r.status
+  ends None p = p.course
+  ends (Some s) p = p.walk
+
+  pub run_sound : Runs c f r → IsSound r
+  run_sound (inl s) = sound_without r s.file
+  run_sound (inr h) = subst (λ (o : Option File). IfSome o (λ g. IsSoundFor (file_in r g) r.verdicts.items)) (sym h.file) (subst (λ (d : Content). IsSoundFor d r.verdicts.items) (sym h.content) h.sound)
+
+  pub run_live : Runs c f r → IsLive r
+  run_live (inl s) = record {
+    file = subst (λ (o : Option File). IfSome o (λ g. g.game.root.0 < length r.work.pool.trees)) (sym s.file) tt;
+    trail = subst (All (EntryLive (length r.work.pool.trees))) (sym s.nothing.trail) (All-nil (EntryLive (length r.work.pool.trees)));
+  }
+  run_live (inr h) = h.live
+
+  module _ (bytes : List ℕ) (reads : read_of most_pool bytes ≡ Ok c) where
+    pub run_judged : Runs c f r → Judged r.status bytes
+    run_judged (inl s) = subst (λ (t : Status). Judged t bytes) (sym s.status) tt
+    run_judged (inr h) = judged_file r.status bytes c reads (subst (λ (d : Content). EndsBy d d.script r.status) h.content (ends (steps_in r) h.proceeds))
+
+    pub run_answers : (told : Option (List ℕ)) → AreTold told bytes → Runs c f r → Answers told r
+    run_answers told a (inl s) = memory_answers told r s.file s.nothing s.status
+    run_answers told a (inr h) = record {
+      file = subst (λ (o : Option File). IfSome o (λ g. IfSome told (λ b. IsFile most_pool b (file_in r g)))) (sym h.file)
+          (where_told told bytes (λ b. IsFile most_pool b (file_in r f)) a (read_is_file most_pool bytes (file_in r f) (reads ∙ ap Ok (sym h.content))));
+      follows = subst (λ (o : Option File). MatchOption o (SaysNothing r) (λ g. Proceeds r g (steps_in r))) (sym h.file) h.proceeds;
+      given = λ s. subst (λ (o : Option File). IsSome o) (sym h.file) refl;
+      only = λ s. h.status;
+      judged = λ s. where_told told bytes (Judged r.status) a (run_judged (inr h));
+    }
+
+    pub run_cause : (o : Outside) → AreTold o.told bytes → Runs c f r → ComesFrom o r r.status
+    run_cause o a (inl s) = memory_cause o r s.status
+    run_cause o a (inr h) = go r.script refl
+      where
+        go : (v : Option (Vec Step Global)) → r.script ≡ v → ComesFrom o r r.status
+        go None e = verdict_cause o r f bytes a h.file e (subst (λ (x : Option (List Tree)). Proceeds r f x) (ap (script_in r.work.pool.trees) e) h.proceeds) (reads ∙ ap Ok (sym h.content))
+        go (Some v) e = script_cause_of o r f _ h.file (ap (script_in r.work.pool.trees) e) (subst (λ (x : Option (List Tree)). Proceeds r f x) (ap (script_in r.work.pool.trees) e) h.proceeds)

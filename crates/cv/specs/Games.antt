@@ -1,0 +1,37 @@
+-- What the games of a report have in common: no adversary tells one from the first by more than the costs of the steps
+-- between them. Sequences of games are those of Blanchet, TDSC 2008.
+use Rattle.std.specs.Prelude.{◌≡◌, ℕ, ◌+◌, false, List, [], ◌∷◌, map, take, Some, IfSome, slice_get}
+use Rattle.cv_bound.specs.declared.cost.Cost.{Cost}
+use Rattle.cv_bound.specs.declared.terms.Term.{Term}
+use Rattle.cv_bound.specs.Sums.{added}
+use Rattle.cv_bound.specs.Values.{Advantages, sum_value}
+use Rattle.cv_meaning.specs.Advantage.{IsAsked, chance_of}
+use Rattle.cv_meaning.specs.Chances.{AtMost, distance}
+use Rattle.cv_meaning.specs.Experiments.{Experiment}
+use Rattle.cv_meaning.specs.Interpretation.{Interpretation, setting_of}
+use Rattle.cv_meaning.specs.Runs.{Adversary}
+use Rattle.cv_meaning.specs.Satisfies.{Satisfies}
+use Rattle.cv_query_form.specs.Queries.{queries_in}
+use Rattle.cv_report.specs.declared.report.Entry.{Entry}
+use Rattle.cv_report.specs.declared.report.Report.{Report}
+use Rattle.cv_syntax.specs.declared.work.Game.{Game}
+use Rattle.cv_syntax.specs.Declarations.{Declaration}
+use Rattle.cv_syntax.specs.Tree.{Tree, tree_at}
+use Rattle.cv.specs.Strategy.{declared_in, game_in}
+
+-- a sum with these costs more, one after another
+unfoldable pub summed : List Term → List Cost → List Term
+summed sum [] = sum
+summed sum (c ∷ cs) = summed (added sum c false) cs
+
+-- In each experiment for which a query of the file asks, no adversary tells the games by more than the sum.
+abbrev pub IsWithin : List Declaration → (first next : Tree) → List Term → Type 0
+IsWithin ds first next sum =
+    (i : Interpretation) → Satisfies ds i → (x : Experiment) → IsAsked (queries_in ds) x → (a : Adversary) (advantages : Advantages)
+    → AtMost (distance (chance_of (setting_of ds i) x a first) (chance_of (setting_of ds i) x a next)) (sum_value i advantages sum)
+
+-- So it is with the game of the file and that of each entry of the trail, by the costs of the entries through it.
+abbrev pub HasCloseGames : Report → Type 0
+HasCloseGames r =
+    IfSome r.file (λ f. (k : ℕ) (e : Entry) (g : Game) → slice_get r.trail.items k ≡ Some e → e.next ≡ Some g
+    → IsWithin (declared_in r) (game_in r f) (tree_at r.work.pool.trees (Some g.root)) (summed [] (map (λ e. e.cost) (take (k + 1) r.trail.items))))

@@ -1,0 +1,35 @@
+-- What a run over an accepted file leaves.
+use Rattle.std.specs.Prelude.{◌≡◌, ℕ, ◌⊎◌, List, [], Some, None, slice_get}
+use Rattle.cv_syntax.specs.declared.work.File.{File}
+use Rattle.cv_syntax.specs.Tree.{Tree}
+use Rattle.cv_bound.specs.declared.terms.Term.{Term}
+use Rattle.cv_accept.specs.Accepted.{Content}
+use Rattle.cv_query_form.specs.Queries.{queries_in}
+use Rattle.cv_report.specs.declared.report.Report.{Report}
+use Rattle.cv_report.specs.declared.report.Status.TheVariants as status
+use Rattle.cv_report.specs.declared.report.Verdict.{Verdict}
+use Rattle.cv_report.specs.declared.report.Verdict.TheVariants.{Proved}
+use Rattle.cv_report.specs.Text.{IsLive}
+use Rattle.cv.specs.Strategy.{HoldsUpTo, MayHaveFile, Proceeds, SaysNothing, file_in, steps_in}
+
+-- where the verdict on a query is `Proved`, the query holds up to the sum
+abbrev pub IsSoundFor : Content → List Verdict → Type 0
+IsSoundFor c vs = (k : ℕ) (query : Tree) (s : List Term) → slice_get (queries_in c.declarations) k ≡ Some query → slice_get vs k ≡ Some (Proved s) → HoldsUpTo c.declarations [] c.game query s
+
+-- The report has the file, which holds the same as before, with what comes of its queries or of its proof block.
+pub record HasRun (c : Content) (f : File) (r : Report) : Type 0 where
+  pub file : r.file ≡ Some f
+  pub content : file_in r f ≡ c
+  pub proceeds : Proceeds r f (steps_in r)
+  pub sound : IsSoundFor c r.verdicts.items
+  pub status : MayHaveFile r.status
+  pub live : IsLive r
+
+-- memory ran out, and nothing is said
+pub record IsSpent (r : Report) : Type 0 where
+  pub file : r.file ≡ None
+  pub nothing : SaysNothing r
+  pub status : r.status ≡ status.Memory
+
+abbrev pub Runs : Content → File → Report → Type 0
+Runs c f r = IsSpent r ⊎ HasRun c f r

@@ -1,0 +1,53 @@
+-- How far a script was followed.
+use Rattle.std.specs.Prelude.{◌≡◌, ℕ, ◌+◌, ◌≤◌, All, List, [], ◌∷◌, ◌++◌, length, map, Option, Some, None}
+use Rattle.cv_script.specs.declared.steps.Step.{Step}
+use Rattle.cv_kernel.specs.declared.error.PushError.{PushError}
+use Rattle.cv_kernel.specs.declared.error.PushError.TheVariants as push
+use Rattle.cv_kernel.specs.declared.sequence.Sequence.{Sequence}
+use Rattle.cv_kernel.specs.Proofs.{IsProof, Transition, nodes_along}
+use Rattle.cv_kernel.specs.Sequences as kernel
+use Rattle.cv_pool.specs.KindTree.{KindTree}
+use Rattle.cv_report.specs.declared.report.Cause.TheVariants.{StepRefused}
+use Rattle.cv_report.specs.declared.report.Entry.{Entry}
+use Rattle.cv_report.specs.declared.report.Status.{Status}
+use Rattle.cv_report.specs.declared.report.Status.TheVariants as status
+use Rattle.cv_report.specs.declared.report.Which.TheVariants.{Depth, Nodes, Pool, Steps}
+use Rattle.cv_report.specs.Text.{EntryLive}
+use Rattle.cv_syntax.specs.declared.work.BuildError.TheVariants as build
+use Rattle.cv_syntax.specs.Declarations.{Declaration}
+use Rattle.cv_syntax.specs.Tree.{Tree}
+use Rattle.cv.specs.declared.follow.Walk.{Walk}
+use Rattle.cv.specs.Scripts.{Follows, entry_in, entry_of, known_to}
+
+-- how a run ends whose next step isn't accepted, behind so many; want of memory is no end of these
+abbrev pub stop_of : PushError → (count : ℕ) → Option Status
+stop_of (push.Refused f) count = Some (status.Open (StepRefused (count + 1) f.condition f.place))
+stop_of push.Steps count = Some (status.Limit Steps)
+stop_of (push.Build (build.Nodes nodes)) count = Some (status.Limit (Nodes nodes))
+stop_of (push.Build (build.Depth depth)) count = Some (status.Limit (Depth depth))
+stop_of (push.Build (build.Full need)) count = Some (status.Limit (Pool need))
+stop_of (push.Build build.OutOfMemory) count = None
+
+-- The steps in front were accepted: the sequence and the trail have what they lead to, in a pool that had so many nodes before.
+pub record HasFollowed (before : ℕ) (ds : List Declaration) (own : ℕ) (first : Tree) (front : List Tree) (trees : List KindTree) (s : Sequence) (trail : List Entry) : Type 0 where
+  pub proof : List Transition
+  pub steps : front ≡ map (λ t. t.step) proof
+  pub leads : IsProof ds (known_to own) first proof (kernel.game_in trees s)
+  pub entries : map (entry_in trees) trail ≡ map entry_of proof
+  pub count : s.steps ≡ length proof
+  pub nodes : length trees ≤ before + nodes_along first proof
+  pub live : All (EntryLive (length trees)) trail
+
+-- the script was followed as far as this
+pub record IsWalk (before : ℕ) (ds : List Declaration) (own : ℕ) (first : Tree) (steps queries : List Tree) (trees : List KindTree) (w : Walk) : Type 0 where
+  pub follows : Follows before ds own first steps queries w.status
+  pub trail : map (entry_in trees) w.trail.items ≡ map entry_of follows.proof
+  pub live : All (EntryLive (length trees)) w.trail.items
+
+-- the entry of the step that a sequence took last
+pub record IsNoted (s : Sequence) (step : Step) (before after : List Entry) : Type 0 where
+  pub entry : Entry
+  pub put : after ≡ before ++ entry ∷ []
+  pub taken : entry.step ≡ step
+  pub cost : s.cost ≡ Some entry.cost
+  pub next : entry.next ≡ Some s.game

@@ -1,0 +1,193 @@
+ghost use Rattle.std.specs.Prelude.{◌≡◌, ◌+◌, ◌<◌, ◌≤◌, ◌^◌, All, IfOk, List, OnOk, None, Some, length, map};
+ghost use Rattle.cv_pool.specs.KindTree.{KindTree};
+ghost use Rattle.cv_pool.specs.PoolView.{Grows};
+ghost use Rattle.cv_syntax.specs.Classes.{queries};
+ghost use Rattle.cv_syntax.specs.Declarations.{declarations};
+ghost use Rattle.cv_syntax.specs.Tree.{size, tree_at};
+ghost use Rattle.cv_parse.specs.Declaring.{IsBelow};
+ghost use Rattle.cv_parse_script.specs.Scripts.{trees_of};
+ghost use Rattle.cv_accept.specs.Works.{HasSteps, content_at, content_nodes};
+ghost use Rattle.cv_report.specs.declared.report.Verdict.TheVariants.{NotProved};
+ghost use Rattle.cv_plain.specs.Strategy.{most_pool};
+ghost use Rattle.cv_kernel.specs.Sequences.{Stands};
+ghost use Rattle.cv.specs.Scripts.{unclosed};
+ghost use Rattle.cv.specs.Runs.{Runs};
+ghost use Rattle.cv.specs.Walks.{IsNoted, IsWalk, stop_of};
+
+use crate::refusal::refused;
+use cv_kernel::{PushError, Sequence};
+use cv_report::{Cause, Command, Entry, Report, Status, Verdict, Which};
+use cv_script::Step;
+use cv_syntax::{BuildError, Decls, File, Game, Work, query_at};
+use std::alloc::{AllocError, Global};
+
+/// How far a script was followed: the accepted steps, each with its cost and the game that it leads to, and how
+/// the run ends.
+#[derive(Drop)]
+pub struct Walk {
+    pub trail: Vec<Entry>,
+    pub status: Status,
+}
+
+/// How a run ends whose next step isn't accepted, behind so many. Want of memory is no end of these.
+fn stop_of(fault: PushError, count: u32) -> Option<Status>
+    requires { count < 2 ^ 31 }
+    ensures { result ≡ stop_of fault count }
+{
+    match fault {
+        PushError::Refused(failure) => Some(Status::Open(Cause::StepRefused {
+            step: count + 1,
+            condition: failure.condition,
+            place: failure.place,
+        })),
+        PushError::Steps => Some(Status::Limit(Which::Steps)),
+        PushError::Build(BuildError::Nodes { count }) => Some(Status::Limit(Which::Nodes {
+            count,
+        })),
+        PushError::Build(BuildError::Depth { depth }) => Some(Status::Limit(Which::Depth {
+            depth,
+        })),
+        PushError::Build(BuildError::Full { need }) => Some(Status::Limit(Which::Pool { need })),
+        PushError::Build(BuildError::OutOfMemory) => None,
+    }
+}
+
+/// How a run ends whose script was followed to its end: no step of it closes a query.
+fn end_of(decls: &Decls) -> Status
+    ensures { (trees : List KindTree) → result
+        ≡ unclosed (map (λ n. tree_at trees (Some n)) (queries decls.now.list)) }
+{
+    'decls: for k in 0..decls.len() {
+        if query_at(decls, k).is_some() {
+            return Status::Open(Cause::NoClose(1));
+        }
+    }
+    Status::Proved
+}
+
+/// Puts an accepted step on the trail, with its cost and the game that it leads to.
+fn note(
+    alloc: Global,
+    sequence: &Sequence,
+    step: Step,
+    trail: &mut Vec<Entry>,
+) -> Result<(), AllocError>
+    ensures { OnOk result (IsNoted sequence.now step trail.old.items trail.new.items) }
+{
+    let cost = match sequence.cost() {
+        Some(cost) => cost.copy(alloc)?,
+        None => return Err(AllocError),
+    };
+    trail.push(Entry {
+        step,
+        cost,
+        next: Some(sequence.game()),
+    })?;
+    Ok(())
+}
+
+/// Follows a script from a game on, as long as its steps are accepted.
+pub fn follow(
+    alloc: Global,
+    work: &mut Work,
+    game: Game,
+    script: &[Step],
+) -> Result<Walk, AllocError>
+    requires game { game.root.0 < length work.old.pool.trees }
+    requires small { size (tree_at work.old.pool.trees (Some game.root)) ≤ 50000 }
+    requires below { All (IsBelow (length work.old.pool.trees)) work.old.decls.list }
+    requires steps { HasSteps work.old.pool.limit work.old.pool.trees script.now }
+    requires limit { work.old.pool.limit ≡ most_pool }
+    ensures walk { IfOk result (λ w. IsWalk (length work.old.pool.trees)
+        (declarations work.old.pool.trees work.old.decls.list) work.old.decls.own
+        (tree_at work.old.pool.trees (Some game.root)) (trees_of work.old.pool.trees script.now)
+        (map (λ n. tree_at work.old.pool.trees (Some n)) (queries work.old.decls.list))
+        work.new.pool.trees w) }
+    ensures grows { OnOk result (Grows work.old.pool work.new.pool) }
+    ensures names { work.new.names ≡ work.old.names }
+    ensures decls { work.new.decls ≡ work.old.decls }
+{
+    let mut sequence = Sequence::start(alloc, game);
+    let mut trail = Vec::new(alloc);
+    'steps: for step in script {
+        match sequence.push(alloc, work, *step) {
+            Ok(()) => note(alloc, &sequence, *step, &mut trail)?,
+            Err(fault) => {
+                let Some(status) = stop_of(fault, sequence.steps()) else {
+                    return Err(AllocError);
+                };
+                return Ok(Walk { trail, status });
+            }
+        }
+    }
+    Ok(Walk {
+        trail,
+        status: end_of(&work.decls),
+    })
+}
+
+/// No query is closed.
+fn open_verdicts(alloc: Global, decls: &Decls) -> Result<Vec<Verdict>, AllocError>
+    ensures { IfOk result (λ v. v.items ≡ map (λ n. NotProved) (queries decls.now.list)) }
+{
+    let mut verdicts = Vec::new(alloc);
+    'decls: for k in 0..decls.len() {
+        if query_at(decls, k).is_some() {
+            verdicts.push(Verdict::NotProved)?;
+        }
+    }
+    Ok(verdicts)
+}
+
+/// The steps of a trail.
+#[tactic(auto, using(crate::proofs::Following::following))]
+fn steps_of(alloc: Global, trail: &[Entry]) -> Result<Vec<Step>, AllocError>
+    ensures { IfOk result (λ v. v.items ≡ map (λ e. e.step) trail.now) }
+{
+    let mut steps = Vec::new(alloc);
+    for entry in trail {
+        steps.push(entry.step)?;
+    }
+    Ok(steps)
+}
+
+/// A run over a file with a proof block: its steps are followed.
+pub fn run_script(
+    alloc: Global,
+    work: Work,
+    command: Command,
+    file: File,
+    script: Vec<Step>,
+) -> Report
+    requires game { file.game.root.0 < length work.pool.trees }
+    requires small { size (tree_at work.pool.trees (Some file.game.root)) ≤ 50000 }
+    requires below { All (IsBelow (length work.pool.trees)) work.decls.list }
+    requires limit { work.pool.limit ≡ most_pool }
+    requires nodes { length work.pool.trees
+        ≤ content_nodes (content_at work file.game.root (Some script)) }
+    requires steps { HasSteps work.pool.limit work.pool.trees script.items }
+    ensures run { Runs (content_at work file.game.root (Some script)) file result }
+    ensures command { result.command ≡ command }
+{
+    let mut work = work;
+    let Ok(walk) = follow(alloc, &mut work, file.game, &script) else {
+        return refused(alloc, work, command, Status::Memory);
+    };
+    let Ok(verdicts) = open_verdicts(alloc, &work.decls) else {
+        return refused(alloc, work, command, Status::Memory);
+    };
+    let Ok(steps) = steps_of(alloc, &walk.trail) else {
+        return refused(alloc, work, command, Status::Memory);
+    };
+    let Walk { trail, status } = walk;
+    Report {
+        work,
+        file: Some(file),
+        command,
+        script: Some(script),
+        steps,
+        trail,
+        verdicts,
+        status,
+    }
+}
