@@ -1,0 +1,6 @@
+pub mod Leaves
+pub mod Walks
+pub mod Replications
+pub mod Bound
+pub mod Reached
+pub mod Targets

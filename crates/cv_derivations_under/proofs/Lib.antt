@@ -1,0 +1,4 @@
+pub mod Sites
+pub mod Stores
+pub mod Terms
+pub mod Between

@@ -1,0 +1,5 @@
+mod Ending
+mod Forms
+mod Fronts
+mod Saying
+mod Unders

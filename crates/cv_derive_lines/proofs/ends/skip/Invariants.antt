@@ -1,0 +1,15 @@
+use Rattle.std.proofs.Common.{◌≡◌, length, drop}
+use Rattle.cv_pool.specs.Nodes.{ChildBelow}
+use Rattle.cv_syntax.specs.Tree.{tree_at}
+use Rattle.cv_syntax.specs.Walks.{above}
+use Rattle.cv_derivations.specs.Lines.{lines_of, statements}
+use Rattle.cv_derive_lines.proofs.ends.skip.Given as goal
+
+abbrev pub invariant-lines : goal.invariant-lines
+invariant-lines l = record {
+  live : ChildBelow (length l.pool.trees) l.at;
+  same : drop l.left (statements (lines_of (tree_at l.pool.trees l.at))) ≡ drop l.fn.k (statements (lines_of (tree_at l.pool.trees l.fn.lines)));
+}
+
+abbrev pub decreases-lines : goal.decreases-lines
+decreases-lines l = above l.at
