@@ -20,13 +20,13 @@ use Rattle.cv_parse_script_laws.proofs.Texts.{nowhere}
 
 -- a script of steps
 
-abbrev item : TreesForm → TreesForm
+abbrev pub item : TreesForm → TreesForm
 item f = made both_of (both f (made both_of (both (made (λ _. []) (sign mark.Semicolon)) blank)))
 
-abbrev items : TreesForm → TreesForm
+abbrev pub items : TreesForm → TreesForm
 items f = made both_of (both (many_form false (item f)) blank)
 
-abbrev script : TreesForm → Form Role TableSort Tree
+abbrev pub script : TreesForm → Form Role TableSort Tree
 script f = made single (made both_of (both (made (λ ts. chain ts ∷ []) (items f)) blank))
 
 module _ (low : TableSort → Relation Role Tree) (none : (ts : List Sign) (t : Tree) (us : Uses) (rest : List Sign) → low Nowhere ts t us rest → ⊥) where
@@ -61,13 +61,13 @@ module _ (low : TableSort → Relation Role Tree) (none : (ts : List Sign) (t : 
         let m = c.first in
         (d.0, (b.0, record { mid = c.mid; front = c.front; back = c.back; first = (m.0, all_items ts m.0 c.front c.mid m.1, m.2); second = c.second; uses = c.uses }, b.2), d.2)
 
-abbrev step_rows : ℕ → TreesForm
+abbrev pub step_rows : ℕ → TreesForm
 step_rows r = form script_rows 149 r
 
-built_is : table_rule script_rows (Row built_script_row) ≡ script (one_of step_rows 129 4)
+pub built_is : table_rule script_rows (Row built_script_row) ≡ script (one_of step_rows 129 4)
 built_is = refl
 
-script_is : table_rule script_rows (Row script_row) ≡ script (one_of step_rows 129 19)
+pub script_is : table_rule script_rows (Row script_row) ≡ script (one_of step_rows 129 19)
 script_is = refl
 
 pub whole : (limit live from : ℕ) (signs : List Sign) (steps : List Tree) → script_of built_script_row limit live from signs ≡ Ok steps → script_of script_row limit live from signs ≡ Ok steps

@@ -4,5 +4,6 @@ pub mod Deciding
 pub mod Fitting
 pub mod Made
 pub mod Reading
+pub mod Refusals
 pub mod Steps
 pub mod Texts

@@ -55,3 +55,13 @@ pub fn built_scripts_are_scripts()
         script_of built_script_row limit live from signs ≡ Ok steps →
         script_of script_row limit live from signs ≡ Ok steps }
 {}
+
+/// A token that is refused of a script of built steps is refused of a script of any steps, so no script goes through it.
+pub fn built_refusals_are_refusals()
+    ensures refused { (limit live from : ℕ) (signs : List Sign) (token : ℕ) →
+        script_of built_script_row limit live from signs ≡ Err (Script token) →
+        script_of script_row limit live from signs ≡ Err (Script token) }
+    ensures dead { (limit live from : ℕ) (signs : List Sign) (token : ℕ) →
+        script_of built_script_row limit live from signs ≡ Err (Script token)
+        → Dead IsSomeScript signs (from + length signs - token) }
+{}
