@@ -1,5 +1,5 @@
 -- What each answer about bytes comes from.
-use Rattle.std.proofs.Common.{◌≡◌, ℕ, suc, ◌+◌, ◌<◌, ◌≤◌, nat_lt, Bool, true, false, if◌then◌else◌, List, [], ◌∷◌, ◌++◌, append-nil, length, length-append, map, refl, ap, sym, ◌∙◌, subst, arith, Option, Some, None, is_some, Result, Ok, Err, ◌⊎◌, inl, inr}
+use Rattle.std.proofs.Common.{◌≡◌, ℕ, suc, ◌+◌, ◌-◌, ◌<◌, ◌≤◌, min, nat_lt, Bool, true, false, if◌then◌else◌, List, [], ◌∷◌, ◌++◌, append-nil, length, length-append, map, refl, ap, sym, ◌∙◌, subst, arith, Option, Some, None, is_some, Result, Ok, Err, ◌⊎◌, inl, inr}
 use Rattle.std.proofs.lemmas.Bool.Decides.{nat_tests}
 use Rattle.std.proofs.lemmas.List.{length-map}
 use Rattle.std.specs.List.{list_all, list_any, zip}
@@ -8,6 +8,12 @@ use Rattle.cv_lex.specs.declared.LexError.{LexError}
 use Rattle.cv_lex.specs.Lexis.{Token, tokens_of}
 use Rattle.cv_parse_terminals.specs.Signs.{signs_of}
 use Rattle.cv_parse_script.specs.declared.error.ScriptError.{ScriptError}
+use Rattle.cv_parse_script.specs.Trees.{in_room, tree_read}
+use Rattle.cv_parse_script.proofs.Steps.{read_in_room}
+use Rattle.cv_parse_script_laws.specs.Scripts.{IsSomeScript}
+use Rattle.cv_parse_script_laws.proofs.Refusals.{dead_end}
+use Rattle.cv_parse_notation.specs.Whole.{Dead}
+use Rattle.cv_script.specs.Rows.{built_script_row}
 use Rattle.cv_parse_script.specs.declared.error.ScriptError.TheVariants as script
 use Rattle.cv_parse_notation.specs.declared.sign.Sign.{Sign}
 use Rattle.cv_parse_grammar.specs.Names as names
@@ -36,7 +42,7 @@ use Rattle.cv_query_form.specs.Queries.{queries_in}
 use Rattle.cv_query_form.proofs.First.{finds-first as first_refused_is_first}
 use Rattle.cv_accept.specs.declared.error.FileError.{FileError}
 use Rattle.cv_accept.specs.declared.error.FileError.TheVariants as fault
-use Rattle.cv_accept.specs.Accepted.{Content, IsFull, Refuses, block_of, content_of, has_equivalence, of_block, of_equivalences, of_parsed, of_queries, of_scopes, of_script, of_tokens, of_types, query_fault, read_of, scope_fault, type_fault}
+use Rattle.cv_accept.specs.Accepted.{Content, IsFull, Refuses, block_by, block_of, content_of, has_equivalence, of_block, of_equivalences, of_parsed, of_queries, of_scopes, of_script, of_tokens, of_types, query_fault, read_of, scope_fault, there, type_fault}
 use Rattle.cv_accept.specs.Places.{nodes_before}
 use Rattle.cv_accept.specs.Works.{script_in}
 use Rattle.cv_accept.proofs.Places.{behind_none, behind_some}
@@ -49,7 +55,7 @@ use Rattle.cv_report.specs.declared.report.Status.TheVariants as status
 use Rattle.cv_report.specs.declared.report.Verdict.TheVariants.{Proved, NotProved}
 use Rattle.cv_report.specs.declared.report.Which.TheVariants.{Steps}
 use Rattle.cv_syntax.specs.declared.work.File.{File}
-use Rattle.cv.specs.Causes.{ComesFrom, HasEquivalence, HasManyClosed, HasNoScript, HasOpenQuery, HasQueryFault, HasQueryWithoutStep, HasScopeFault, HasStep, HasStop, HasTypeFault, LacksRoom, OfTokens, Outside, closed_count}
+use Rattle.cv.specs.Causes.{ComesFrom, HasEquivalence, HasManyClosed, HasNoScript, HasOpenQuery, HasQueryFault, HasQueryWithoutStep, HasScopeFault, HasStep, HasStop, HasTypeFault, LacksRoom, OfTokens, Outside, block_signs, closed_count}
 use Rattle.cv.specs.Causes as cause
 use Rattle.cv.specs.Faults.{parse_ended, status_of as ended_by}
 use Rattle.cv.specs.Words.{AreTold}
@@ -125,6 +131,20 @@ module _ (c : Content) (p : Parsed) where
   queries_are_built (Some k) e = cc
 
 -- proof blocks
+
+-- through a token at which a block is refused goes no script
+
+no_script : (k : ℕ) (r : Result Tree ScriptError) → there r ≡ Err (script.Script k) → r ≡ Err (script.Script k)
+no_script k (Ok t) e = absurd (cc)
+no_script k (Err y) e = ap (λ z. let r : Result Tree ScriptError = Err z in r) (cc)
+
+dead_block : (ts : List Token) (k : ℕ) (o : Option (ℕ × ℕ)) → block_by ts (signs_of ts).names o ≡ Err (script.Script k) → (range : ℕ × ℕ) × (o ≡ Some range) × Dead IsSomeScript (block_signs ts range) (min range.0 range.1 + length (block_signs ts range) - k)
+dead_block ts k None e = absurd (cc)
+dead_block ts k (Some range) e =
+    let first = min range.0 range.1 in
+    let signs = block_signs ts range in
+    let h = no_script k (tree_read built_script_row (signs_of ts).names ts first range.1) e in
+    (range, refl, dead_end 0 0 first signs k (read_in_room built_script_row 0 0 first signs ∙ ap (in_room 0 0) h))
 
 block_rank : (e : ScriptError) → 2 ≤ rank (of_block e)
 block_rank (script.Script k) = omega arith
@@ -226,7 +246,14 @@ module _ (ts : List Token) (p : Parsed) (e : parsed most_pool (signs_of ts).sign
     where
       go : (r : Result (Option Tree) ScriptError) → block_of ts p ≡ r → of_script ts p r ≡ Err (fault.Script k) → HasNoScript ts k
       go (Ok b) n j = absurd (let r = types_rank (content_of ts p b) p (type_fault p) (fault.Script k) j in omega arith)
-      go (Err y) n j = record { said = p; says = said_is_saying most_pool (signs_of ts).signs p e; refused = n ∙ ap Err (by_script y k (cc)) }
+      go (Err y) n j = let b = dead_block ts k p.script (n ∙ ap Err (by_script y k (cc))) in record {
+        said = p;
+        says = said_is_saying most_pool (signs_of ts).signs p e;
+        refused = n ∙ ap Err (by_script y k (cc));
+        range = b.0;
+        there = b.1;
+        dead = b.2;
+      }
 
   unbuilt_cause : of_script ts p (block_of ts p) ≡ Err fault.Unbuilt → HasStep ts ⊎ HasEquivalence ts
   unbuilt_cause i = go (block_of ts p) refl i

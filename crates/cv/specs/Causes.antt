@@ -1,11 +1,14 @@
 -- What each answer comes from.
-use Rattle.std.specs.Prelude.{◌≡◌, ℕ, suc, ◌+◌, ◌<◌, ◌⊎◌, Bool, false, true, map, if◌then◌else◌, List, [], ◌∷◌, ◌++◌, length, Option, Some, None, Ok, Err, IfSome, IsNone, IsSomeAnd}
+use Rattle.std.specs.Prelude.{◌≡◌, ℕ, suc, ◌+◌, ◌-◌, ◌<◌, min, ◌⊎◌, Bool, false, true, map, if◌then◌else◌, List, [], ◌∷◌, ◌++◌, length, Option, Some, None, Ok, Err, IfSome, IsNone, IsSomeAnd}
 use Rattle.std.specs.List.{list_all, list_any, zip}
 use Rattle.cv_outside.specs.Causes.{Rose}
 use Rattle.cv_outside.specs.Told.{Files}
 use Rattle.cv_lex.specs.declared.LexError.{LexError}
 use Rattle.cv_lex.specs.Lexis.{Token, tokens_of}
+use Rattle.cv_parse_terminals.specs.ScriptSigns.{between, script_signs}
 use Rattle.cv_parse_terminals.specs.Signs.{signs_of}
+use Rattle.cv_parse_script_laws.specs.Scripts.{IsSomeScript}
+use Rattle.cv_parse_notation.specs.Whole.{Dead}
 use Rattle.cv_parse_script.specs.declared.error.ScriptError.TheVariants as block
 use Rattle.cv_kernel.specs.Proofs.{IsProof, Transition, nodes_along}
 use Rattle.cv_parse_notation.specs.declared.sign.Sign.{Sign}
@@ -50,12 +53,19 @@ unfoldable pub closed_count : Tree → List Tree → ℕ
 closed_count game [] = 0
 closed_count game (q ∷ qs) = if is_closed game q then suc (closed_count game qs) else closed_count game qs
 
--- The tokens are those of a file whose proof block is no script of steps that have a rule: no such script goes through
--- this token, and no step begins with it.
+-- the signs of a proof block
+abbrev pub block_signs : List Token → ℕ × ℕ → List Sign
+block_signs tokens range = (script_signs (signs_of tokens).names (between (min range.0 range.1) range.1 tokens)).signs
+
+-- The tokens are those of a file with a proof block that is refused at this token: no script goes through it, whatever its
+-- steps are.
 pub record HasNoScript (tokens : List Token) (token : ℕ) : Type 0 where
   pub said : Parsed
   pub says : Says most_pool (signs_of tokens).signs said
   pub refused : block_of tokens said ≡ Err (block.Script token)
+  pub range : ℕ × ℕ
+  pub there : said.script ≡ Some range
+  pub dead : Dead IsSomeScript (block_signs tokens range) (min range.0 range.1 + length (block_signs tokens range) - token)
 
 -- The tokens are those of a file, whose proof block is a script if it has one, and this is the first fault of its terms.
 pub record HasTypeFault (tokens : List Token) (e : TypeFault) : Type 0 where
