@@ -37,7 +37,7 @@ use Rattle.cv_parse_script.specs.Scripts as scripts
 use Rattle.cv_parse_script.specs.Trees.{in_room, of_whole, tree_read, whole}
 use Rattle.cv_parse_script.proofs.Steps.{read_in_room}
 use Rattle.cv_script.specs.declared.steps.Step.{Step}
-use Rattle.cv_script.specs.Rows.{built_script_row}
+use Rattle.cv_script_rows.specs.Rows.{built_script_row}
 use Rattle.cv_accept.specs.declared.error.FileError.{FileError}
 use Rattle.cv_syntax.specs.declared.work.Work.{Work}
 use Rattle.cv_accept.specs.Accepted.{Content, block_by, content_of, names_by, of_block, there}

@@ -9,7 +9,7 @@ use Rattle.cv_parse_script.specs.declared.error.ScriptError.{ScriptError}
 use Rattle.cv_parse_script.specs.declared.error.ScriptError.TheVariants as script
 use Rattle.cv_parse_script.specs.Scripts.{items, nodes_of}
 use Rattle.cv_parse_script.specs.Trees.{tree_read}
-use Rattle.cv_script.specs.Rows.{built_script_row}
+use Rattle.cv_script_rows.specs.Rows.{built_script_row}
 use Rattle.cv_syntax.specs.Declarations.{Declaration, Equiv}
 use Rattle.cv_syntax.specs.Tree.{Tree}
 use Rattle.cv_parse.specs.declared.error.ParseError.{ParseError}

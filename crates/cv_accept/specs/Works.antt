@@ -10,11 +10,11 @@ use Rattle.cv_syntax.specs.Declarations.{declarations}
 use Rattle.cv_syntax.specs.Tree.{Tree, depth, size, tree_at}
 use Rattle.cv_parse.specs.Nodes.{file_nodes}
 use Rattle.cv_parse.specs.Parsed.{most_depth, most_nodes}
-use Rattle.cv_parse_script.specs.Scripts.{trees_of}
+use Rattle.cv_parse_script.specs.Scripts.{nodes_of, trees_of}
 use Rattle.cv_parse_script.specs.Trees.{script_nodes}
 use Rattle.cv_script.specs.declared.steps.Step.{Step}
 use Rattle.cv_typing.specs.Parts.{IsTypedFile}
-use Rattle.cv_scope_runs.specs.Phrases.{IsWellFormed}
+use Rattle.cv_scope.specs.Phrases.{IsWellFormed}
 use Rattle.cv_query_form.specs.Queries.{queries_in}
 use Rattle.cv_query_form.specs.Rules.{AreAsked}
 use Rattle.cv_accept.specs.declared.error.FileError.{FileError}
@@ -52,11 +52,11 @@ block_nodes (Some ts) = script_nodes ts
 abbrev pub content_nodes : Content → ℕ
 content_nodes f = file_nodes f.declarations f.game + block_nodes f.script
 
--- The steps of a proof block are live, and no larger than a pool may be; the pool is within its limit.
+-- The steps of a proof block are live, with no more nodes than a pool may have; the pool is within its limit.
 pub record HasSteps (limit : ℕ) (trees : List KindTree) (steps : List Step) : Type 0 where
   pub few : length trees ≤ limit
   pub live : All (λ s. s.0.0 < length trees) steps
-  pub small : All (λ s. size (tree_at trees (Some s.0)) ≤ limit) steps
+  pub small : All (λ s. nodes_of (tree_at trees (Some s.0)) ≤ limit) steps
 
 -- a file's game is no larger than a game may be and well formed, the file is typed, and its queries may be asked
 pub record IsAccepted (f : Content) : Type 0 where

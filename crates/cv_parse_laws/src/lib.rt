@@ -14,7 +14,7 @@ ghost use Rattle.cv_parse_grammar.specs.Rules.{heads, rule};
 ghost use Rattle.cv_meaning.specs.Interpretation.{is_constant_of};
 ghost use Rattle.cv_parse.specs.Parsed.{Parsed, parsed};
 ghost use Rattle.cv_scope.specs.Scope.{IsScoped};
-ghost use Rattle.cv_scope_runs.specs.Phrases.{Phrase, Inputs, IsWellFormed, is_phrase, binds_none};
+ghost use Rattle.cv_scope.specs.Phrases.{Phrase, Inputs, IsWellFormed, is_phrase, binds_none};
 ghost use Rattle.cv_parse_laws.specs.Shapes.{IsFree, IsOfSort, IsShaped};
 ghost use Rattle.cv_parse_laws.specs.Yields.{AllUsed, Yields};
 ghost use Rattle.std.specs.List.{AllByRecursion};

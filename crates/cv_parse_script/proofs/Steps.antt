@@ -15,9 +15,7 @@ use Rattle.cv_syntax.proofs.Trees.{tree_at-None}
 use Rattle.cv_syntax.specs.Planting.{overs}
 use Rattle.cv_syntax.specs.Postorder.{postorder}
 use Rattle.cv_syntax.specs.declared.head.Head.{Head}
-use Rattle.cv_syntax.specs.declared.head.Head.TheVariants.{Cons}
-use Rattle.cv_syntax.specs.Head.{weight}
-use Rattle.cv_syntax.specs.Tree.{Tree, Empty, Node, size, tree_at}
+use Rattle.cv_syntax.specs.Tree.{Tree, Empty, Node, tree_at}
 use Rattle.cv_parse_grammar.specs.declared.role.Role.{Role}
 use Rattle.cv_parse_notation.specs.declared.sign.Sign.{Sign}
 use Rattle.cv_parse_notation.specs.Reads.{Read, read_sort}
@@ -29,7 +27,7 @@ use Rattle.cv_parse_terms.specs.Gives.{Fails, IsMade, Makes}
 use Rattle.std.specs.Borrow.{Bor}
 use Rattle.cv_parse_tables.specs.declared.piece.Piece.{Piece}
 use Rattle.cv_parse_tables.specs.Table.{Row, form, row_phrase, rows_of, table_heads, table_rule}
-use Rattle.cv_script.specs.Rows.{script_rows, step_row}
+use Rattle.cv_script_rows.specs.Rows.{script_rows, step_row}
 use Rattle.cv_script.specs.declared.steps.Step.{Step}
 use Rattle.cv_parse_script.specs.declared.error.ScriptError.{ScriptError}
 use Rattle.cv_parse_script.specs.declared.error.ScriptError.TheVariants.{Script, Unbuilt, Build}
@@ -149,26 +147,17 @@ nodes_none : nodes_of Empty ≡ 0
 unfolding postorder
 nodes_none = refl
 
-weight_one : (h : Head) → weight h ≤ 1
-weight_one Cons = omega arith
-weight_one h = omega arith
-
-size_nodes : (t : Tree) → size t ≤ nodes_of t
-unfolding size
-size_nodes Empty = omega arith
-size_nodes (Node h a b) = omega (arith, weight_one h, nodes_cons h a b, size_nodes a, size_nodes b)
-
 pub items_nodes : (t : Tree) → script_nodes (items t) ≡ nodes_of t
 items_nodes Empty = sym nodes_none
 items_nodes (Node h a b) = omega (arith, items_nodes b, nodes_cons h a b)
 
-item_small : (trees : List KindTree) (steps : List Step) (t : Tree) (most : ℕ) → trees_of trees steps ≡ items t → nodes_of t ≤ most → All (λ s. size (tree_at trees (Some s.0)) ≤ most) steps
-item_small trees [] t most e l = All-nil (λ s. size (tree_at trees (Some s.0)) ≤ most)
+item_small : (trees : List KindTree) (steps : List Step) (t : Tree) (most : ℕ) → trees_of trees steps ≡ items t → nodes_of t ≤ most → All (λ s. nodes_of (tree_at trees (Some s.0)) ≤ most) steps
+item_small trees [] t most e l = All-nil (λ s. nodes_of (tree_at trees (Some s.0)) ≤ most)
 item_small trees (s ∷ steps) Empty most e l = absurd (cc)
 item_small trees (s ∷ steps) (Node h a b) most e l =
     let f : tree_at trees (Some s.0) ≡ a = cc in
     let g : trees_of trees steps ≡ items b = cc in
-    All-cons (λ s. size (tree_at trees (Some s.0)) ≤ most) s steps (omega (arith, ap size f, size_nodes a, nodes_cons h a b, l)) (item_small trees steps b most g (omega (arith, nodes_cons h a b, l)))
+    All-cons (λ s. nodes_of (tree_at trees (Some s.0)) ≤ most) s steps (omega (arith, ap nodes_of f, nodes_cons h a b, l)) (item_small trees steps b most g (omega (arith, nodes_cons h a b, l)))
 
 pub few_planted : (trees : List KindTree) (t : Tree) (live limit : ℕ) (r : Result (Vec Step Global) ScriptError) → IfOk r (λ v. trees_of trees v.items ≡ items t) → OnOk r (length trees ≤ live + nodes_of t) → IfOk r (λ v. length trees ≤ live + script_nodes (trees_of trees v.items))
 few_planted trees t live limit (Ok v) e l = omega (arith, ap script_nodes e, items_nodes t, l)
@@ -178,7 +167,7 @@ pub room_planted : (trees : List KindTree) (t : Tree) (live limit : ℕ) (r : Re
 room_planted trees t live limit (Ok v) l m = omega arith
 room_planted trees t live limit (Err x) l m = l
 
-pub small_planted : (trees : List KindTree) (t : Tree) (live limit : ℕ) (r : Result (Vec Step Global) ScriptError) → IfOk r (λ v. trees_of trees v.items ≡ items t) → OnOk r (live + nodes_of t ≤ limit) → IfOk r (λ v. All (λ s. size (tree_at trees (Some s.0)) ≤ limit) v.items)
+pub small_planted : (trees : List KindTree) (t : Tree) (live limit : ℕ) (r : Result (Vec Step Global) ScriptError) → IfOk r (λ v. trees_of trees v.items ≡ items t) → OnOk r (live + nodes_of t ≤ limit) → IfOk r (λ v. All (λ s. nodes_of (tree_at trees (Some s.0)) ≤ limit) v.items)
 small_planted trees t live limit (Ok v) e m = item_small trees v.items t limit e (omega arith)
 small_planted trees t live limit (Err x) e m = e
 

@@ -16,7 +16,7 @@ use Rattle.cv_parse_notation.specs.Spells.{Kind, next_is, starts}
 use Rattle.cv_parse_grammar.specs.declared.role.Role.{Role}
 use Rattle.cv_parse_tables.specs.Table.{Row, row_phrase, table_heads, table_rule}
 use Rattle.cv_script.specs.declared.steps.Step.{Step}
-use Rattle.cv_script.specs.Rows.{script_rows, step_row}
+use Rattle.cv_script_rows.specs.Rows.{script_rows, step_row}
 use Rattle.cv_parse_script.specs.declared.error.ScriptError.{ScriptError}
 use Rattle.cv_parse_script.specs.declared.error.ScriptError.TheVariants.{Script, Unbuilt, Build}
 

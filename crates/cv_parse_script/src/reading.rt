@@ -9,7 +9,7 @@ use crate::ScriptError;
 use cv_parse_notation::Sign;
 use cv_parse_tables::{begins_at, phrase};
 use cv_parse_terms::{ReadError, Trail};
-use cv_script::{STEP, script_rows};
+use cv_script_rows::{STEP, script_rows};
 use cv_syntax::BuildError;
 
 /// How deep brackets and syntax nodes may stand.

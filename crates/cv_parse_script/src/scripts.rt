@@ -1,10 +1,10 @@
 ghost use Rattle.std.specs.Prelude.{◌≡◌, ◌+◌, ◌<◌, ◌≤◌, ◌^◌, All, Some, length, IfOk, OnErr, OnOk};
 ghost use Rattle.cv_pool.specs.PoolView.{Grows};
 ghost use Rattle.cv_parse_terminals.specs.ScriptSigns.{between, script_signs as signs_of_script};
-ghost use Rattle.cv_script.specs.Rows.{built_script_row, script_row};
-ghost use Rattle.cv_parse_script.specs.Scripts.{ReadsScript, script_of as script_by, script_read, trees_of};
+ghost use Rattle.cv_script_rows.specs.Rows.{built_script_row, script_row};
+ghost use Rattle.cv_parse_script.specs.Scripts.{ReadsScript, nodes_of, script_of as script_by, script_read, trees_of};
 ghost use Rattle.cv_parse_script.specs.Trees.{script_nodes};
-ghost use Rattle.cv_syntax.specs.Tree.{size, tree_at};
+ghost use Rattle.cv_syntax.specs.Tree.{tree_at};
 
 use crate::ScriptError;
 use crate::planting::plant_steps;
@@ -13,7 +13,8 @@ use cv_lex::Tokens;
 use cv_parse_notation::Sign;
 use cv_parse_terminals::script_signs;
 use cv_parse_terms::Trail;
-use cv_script::{BUILT_SCRIPT, SCRIPT, Step};
+use cv_script::Step;
+use cv_script_rows::{BUILT_SCRIPT, SCRIPT};
 use cv_syntax::{Pool, Work};
 use std::alloc::Global;
 
@@ -32,7 +33,7 @@ fn script_in(
     ensures few { IfOk result (λ v. length pool.new.trees
         ≤ length pool.old.trees + script_nodes (trees_of pool.new.trees v.items)) }
     ensures room { OnOk result (length pool.new.trees ≤ pool.old.limit) }
-    ensures small { IfOk result (λ v. All (λ s. size (tree_at pool.new.trees (Some s.0))
+    ensures small { IfOk result (λ v. All (λ s. nodes_of (tree_at pool.new.trees (Some s.0))
         ≤ pool.old.limit) v.items) }
     ensures grows { Grows pool.old pool.new }
     ensures kept { OnErr result (pool.new.trees ≡ pool.old.trees) }
@@ -59,7 +60,7 @@ fn script_of(
     ensures few { IfOk result (λ v. length work.new.pool.trees
         ≤ length work.old.pool.trees + script_nodes (trees_of work.new.pool.trees v.items)) }
     ensures room { OnOk result (length work.new.pool.trees ≤ work.old.pool.limit) }
-    ensures small { IfOk result (λ v. All (λ s. size (tree_at work.new.pool.trees (Some s.0))
+    ensures small { IfOk result (λ v. All (λ s. nodes_of (tree_at work.new.pool.trees (Some s.0))
         ≤ work.old.pool.limit) v.items) }
     ensures names { OnOk result (work.new.names
         ≡ (signs_of_script work.old.names (between range.0 range.1 tokens.now)).names) }
@@ -96,7 +97,7 @@ pub fn script(
     ensures few { IfOk result (λ v. length work.new.pool.trees
         ≤ length work.old.pool.trees + script_nodes (trees_of work.new.pool.trees v.items)) }
     ensures room { OnOk result (length work.new.pool.trees ≤ work.old.pool.limit) }
-    ensures small { IfOk result (λ v. All (λ s. size (tree_at work.new.pool.trees (Some s.0))
+    ensures small { IfOk result (λ v. All (λ s. nodes_of (tree_at work.new.pool.trees (Some s.0))
         ≤ work.old.pool.limit) v.items) }
     ensures names { OnOk result (work.new.names
         ≡ (signs_of_script work.old.names (between range.0 range.1 tokens.now)).names) }
@@ -125,7 +126,7 @@ pub fn whole_script(
     ensures few { IfOk result (λ v. length work.new.pool.trees
         ≤ length work.old.pool.trees + script_nodes (trees_of work.new.pool.trees v.items)) }
     ensures room { OnOk result (length work.new.pool.trees ≤ work.old.pool.limit) }
-    ensures small { IfOk result (λ v. All (λ s. size (tree_at work.new.pool.trees (Some s.0))
+    ensures small { IfOk result (λ v. All (λ s. nodes_of (tree_at work.new.pool.trees (Some s.0))
         ≤ work.old.pool.limit) v.items) }
     ensures names { OnOk result (work.new.names
         ≡ (signs_of_script work.old.names (between range.0 range.1 tokens.now)).names) }

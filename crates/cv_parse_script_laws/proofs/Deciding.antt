@@ -18,7 +18,7 @@ use Rattle.cv_parse_grammar.specs.Files.{levels}
 use Rattle.cv_parse_grammar.specs.Phrases.{Sort}
 use Rattle.cv_parse_grammar.specs.Rules.{rule}
 use Rattle.cv_parse_tables.specs.Table.{Nowhere, OfFiles, Row, TableSort, carried, table_heads, table_rule}
-use Rattle.cv_script.specs.Rows.{script_row, script_rows}
+use Rattle.cv_script_rows.specs.Rows.{script_row, script_rows}
 use Rattle.cv_parse_script.specs.Scripts.{begins_step, to_end, items, nodes_of, of_read, read_row, with_room, script_of, stop_at}
 use Rattle.cv_parse_script.specs.declared.error.ScriptError.{ScriptError}
 use Rattle.cv_parse_script.specs.declared.error.ScriptError.TheVariants.{Build, Script, Unbuilt}

@@ -9,7 +9,7 @@ use Rattle.cv_parse_grammar.specs.declared.role.Role.{Role}
 use Rattle.cv_parse_grammar.specs.Phrases.{Sort, Term, Conjunction, Primary, Unequal, Arguments, Subscript, Parentheses, Inputs, Input, Output, Pattern, Sending, Payload, Variables, Indices, ProcessBranch, Cells, OneCell, Body, BodyBranch, LeftFunction, RightFunction, RightRest, Braces}
 use Rattle.cv_parse_grammar.specs.Rules.{tails}
 use Rattle.cv_parse_tables.specs.Table.{Nowhere, OfFiles, Row, TableSort, table_heads, table_rule}
-use Rattle.cv_script.specs.Rows.{script_rows}
+use Rattle.cv_script_rows.specs.Rows.{script_rows}
 use Rattle.cv_parse_script_laws.specs.Scripts.{script_form}
 
 -- the one row that stands one level down: a line of a derivation

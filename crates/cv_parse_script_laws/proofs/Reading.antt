@@ -13,7 +13,7 @@ use Rattle.cv_parse_grammar.specs.declared.role.Role.{Role}
 use Rattle.cv_parse_grammar.specs.Files.{levels}
 use Rattle.cv_parse_grammar.specs.Names.{Uses}
 use Rattle.cv_parse_tables.specs.Table.{Row, table_heads, table_rule}
-use Rattle.cv_script.specs.Rows.{script_rows}
+use Rattle.cv_script_rows.specs.Rows.{script_rows}
 use Rattle.cv_parse_script.specs.Scripts.{items as items_of, nodes_of, of_read, read_row, script_of, to_end, with_room}
 use Rattle.cv_parse_script.specs.declared.error.ScriptError.{ScriptError}
 use Rattle.cv_parse_script.specs.declared.error.ScriptError.TheVariants.{Build}

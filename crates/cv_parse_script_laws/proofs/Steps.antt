@@ -15,7 +15,7 @@ use Rattle.cv_parse_script.specs.Scripts.{items as items_of, script_of}
 use Rattle.cv_parse_script_laws.proofs.Agreement.{sorts_pass}
 use Rattle.cv_parse_script_laws.proofs.Fitting.{deep_rule}
 use Rattle.cv_print_steps.specs.Trees.{Behind, JustOne, Makes}
-use Rattle.cv_script.specs.Rows.{built_script_row, script_row, script_rows}
+use Rattle.cv_script_rows.specs.Rows.{built_script_row, script_row, script_rows}
 use Rattle.cv_script.specs.Views.{ArrayRename, Birthday, Codef, Crypto, Fresh, Guess, Let, Merge, Move, New, Pick, Prune, Rename, Rewrite, Simplify, Split, StepItems, Success, Unlet, Unnew, adds_in, items_of_step, name_in, number_in, part_in, tree_in, ◌>>=◌}
 use Rattle.cv_script.specs.declared.views.Part.{Part}
 use Rattle.cv_script.specs.declared.views.Part.TheVariants as part
@@ -190,30 +190,30 @@ news l d =
 unnews : (l : List Tree) → Made 119 l → HasItems is_built (over head.UnnewStep l)
 unnews l d = let x = last (skip (skip d)) in with_one is_built head.UnnewStep x (has (Unnew x.first.0) (bound (λ y. Some (Unnew y)) (name_is x.first) refl) refl)
 
+rewrites : (l : List Tree) → Made 111 l → HasItems is_built (over head.RewriteStep l)
+rewrites l d =
+    let p = take (skip (skip d)) in
+    let m = take (skip (skip (skip p.second))) in
+    let by = taken (braces 111 refl) (skip (skip (skip m.second))) in
+    with_first is_built head.RewriteStep p (subst (λ z. HasItems is_built (Node head.RewriteStep p.tree (single z))) (sym (m.is ∙ ap (λ z. m.tree ∷ z) by.is)) (
+    has (Rewrite p.first.0 m.tree (single (by.tree ∷ by.rest))) (bound (λ v. tree_in m.tree >>= λ t. Some (Rewrite v t (single (by.tree ∷ by.rest)))) (number_is p.first) (bound (λ t. Some (Rewrite p.first.0 t (single (by.tree ∷ by.rest)))) m.first refl)) refl
+    ))
+
+prunes : (l : List Tree) → Made 112 l → HasItems is_built (over head.PruneStep l)
+prunes l d =
+    let p = take (skip (skip d)) in
+    let k = taken parts (skip p.second) in
+    let by = taken (braces 112 refl) (skip (skip (skip k.second))) in
+    with_first is_built head.PruneStep p (subst (λ z. HasItems is_built (Node head.PruneStep p.tree (single z))) (sym (k.is ∙ ap (λ z. k.tree ∷ z) by.is)) (
+    has (Prune p.first.0 k.first.0 (single (by.tree ∷ by.rest))) (bound (λ v. part_in k.tree >>= λ q. Some (Prune v q (single (by.tree ∷ by.rest)))) (number_is p.first) (bound (λ q. Some (Prune p.first.0 q (single (by.tree ∷ by.rest)))) k.first.1 refl)) refl
+    ))
+
 renames : (l : List Tree) → Made 110 l → HasItems is_any (over head.RenameStep l)
 renames l d =
     let x = take (skip (skip d)) in
     let y = last (skip (skip (skip x.second))) in
     with_first is_any head.RenameStep x (subst (λ z. HasItems is_any (Node head.RenameStep x.tree (single z))) (sym y.is) (
     has (Rename x.first.0 y.first.0) (bound (λ v. name_in y.tree >>= λ w. Some (Rename v w)) (name_is x.first) (bound (λ w. Some (Rename x.first.0 w)) (name_is y.first) refl)) refl
-    ))
-
-rewrites : (l : List Tree) → Made 111 l → HasItems is_any (over head.RewriteStep l)
-rewrites l d =
-    let p = take (skip (skip d)) in
-    let m = take (skip (skip (skip p.second))) in
-    let by = taken (braces 111 refl) (skip (skip (skip m.second))) in
-    with_first is_any head.RewriteStep p (subst (λ z. HasItems is_any (Node head.RewriteStep p.tree (single z))) (sym (m.is ∙ ap (λ z. m.tree ∷ z) by.is)) (
-    has (Rewrite p.first.0 m.tree (single (by.tree ∷ by.rest))) (bound (λ v. tree_in m.tree >>= λ t. Some (Rewrite v t (single (by.tree ∷ by.rest)))) (number_is p.first) (bound (λ t. Some (Rewrite p.first.0 t (single (by.tree ∷ by.rest)))) m.first refl)) refl
-    ))
-
-prunes : (l : List Tree) → Made 112 l → HasItems is_any (over head.PruneStep l)
-prunes l d =
-    let p = take (skip (skip d)) in
-    let k = taken parts (skip p.second) in
-    let by = taken (braces 112 refl) (skip (skip (skip k.second))) in
-    with_first is_any head.PruneStep p (subst (λ z. HasItems is_any (Node head.PruneStep p.tree (single z))) (sym (k.is ∙ ap (λ z. k.tree ∷ z) by.is)) (
-    has (Prune p.first.0 k.first.0 (single (by.tree ∷ by.rest))) (bound (λ v. part_in k.tree >>= λ q. Some (Prune v q (single (by.tree ∷ by.rest)))) (number_is p.first) (bound (λ q. Some (Prune p.first.0 q (single (by.tree ∷ by.rest)))) k.first.1 refl)) refl
     ))
 
 picks : (l : List Tree) → Made 113 l → HasItems is_any (over head.PickStep l)
@@ -296,21 +296,21 @@ any_items d = record { items = d.items; are = d.are; pass = refl }
 any_step : (ts : List Tree) → IsStep is_built ts → IsStep is_any ts
 any_step ts x = record { tree = x.tree; is = x.is; first = any_items x.first }
 
-built_step : (ts : List Tree) → OneOf 152 129 4 ts → IsStep is_built ts
+built_step : (ts : List Tree) → OneOf 152 129 6 ts → IsStep is_built ts
 built_step ts (inl d) = a_step is_built head.SplitStep 129 115 refl splits ts (row 152 129 refl ts d)
 built_step ts (inr (inl d)) = a_step is_built head.LetStep 130 116 refl lets ts (row 152 130 refl ts d)
 built_step ts (inr (inr (inl d))) = a_step is_built head.NewStep 131 118 refl news ts (row 152 131 refl ts d)
 built_step ts (inr (inr (inr (inl d)))) = a_step is_built head.UnnewStep 132 119 refl unnews ts (row 152 132 refl ts d)
-built_step ts (inr (inr (inr (inr d)))) = absurd d
+built_step ts (inr (inr (inr (inr (inl d))))) = a_step is_built head.RewriteStep 133 111 refl rewrites ts (row 152 133 refl ts d)
+built_step ts (inr (inr (inr (inr (inr (inl d)))))) = a_step is_built head.PruneStep 134 112 refl prunes ts (row 152 134 refl ts d)
+built_step ts (inr (inr (inr (inr (inr (inr d)))))) = absurd d
 
-later_step : (ts : List Tree) → OneOf 149 133 15 ts → IsStep is_any ts
-later_step ts (inl d) = a_step is_any head.RenameStep 133 110 refl renames ts (row 149 133 refl ts d)
-later_step ts (inr (inl d)) = a_step is_any head.RewriteStep 134 111 refl rewrites ts (row 149 134 refl ts d)
-later_step ts (inr (inr (inl d))) = a_step is_any head.PruneStep 135 112 refl prunes ts (row 149 135 refl ts d)
-later_step ts (inr (inr (inr (inl d)))) = a_step is_any head.PickStep 136 113 refl picks ts (row 149 136 refl ts d)
-later_step ts (inr (inr (inr (inr (inl d))))) = a_step is_any head.MergeStep 137 114 refl merges ts (row 149 137 refl ts d)
-later_step ts (inr (inr (inr (inr (inr (inl d)))))) = a_step is_any head.UnletStep 138 117 refl unlets ts (row 149 138 refl ts d)
-later_step ts (inr (inr (inr (inr (inr (inr d)))))) = last_step ts d
+later_step : (ts : List Tree) → OneOf 149 135 13 ts → IsStep is_any ts
+later_step ts (inl d) = a_step is_any head.RenameStep 135 110 refl renames ts (row 149 135 refl ts d)
+later_step ts (inr (inl d)) = a_step is_any head.PickStep 136 113 refl picks ts (row 149 136 refl ts d)
+later_step ts (inr (inr (inl d))) = a_step is_any head.MergeStep 137 114 refl merges ts (row 149 137 refl ts d)
+later_step ts (inr (inr (inr (inl d)))) = a_step is_any head.UnletStep 138 117 refl unlets ts (row 149 138 refl ts d)
+later_step ts (inr (inr (inr (inr d)))) = last_step ts d
   where
     last_step : (ts : List Tree) → OneOf 149 139 9 ts → IsStep is_any ts
     last_step ts (inl d) = a_step is_any head.MoveStep 139 120 refl moves ts (row 149 139 refl ts d)
@@ -329,7 +329,9 @@ step ts (inl d) = any_step ts (a_step is_built head.SplitStep 129 115 refl split
 step ts (inr (inl d)) = any_step ts (a_step is_built head.LetStep 130 116 refl lets ts (row 149 130 refl ts d))
 step ts (inr (inr (inl d))) = any_step ts (a_step is_built head.NewStep 131 118 refl news ts (row 149 131 refl ts d))
 step ts (inr (inr (inr (inl d)))) = any_step ts (a_step is_built head.UnnewStep 132 119 refl unnews ts (row 149 132 refl ts d))
-step ts (inr (inr (inr (inr d)))) = later_step ts d
+step ts (inr (inr (inr (inr (inl d))))) = any_step ts (a_step is_built head.RewriteStep 133 111 refl rewrites ts (row 149 133 refl ts d))
+step ts (inr (inr (inr (inr (inr (inl d)))))) = any_step ts (a_step is_built head.PruneStep 134 112 refl prunes ts (row 149 134 refl ts d))
+step ts (inr (inr (inr (inr (inr (inr d)))))) = later_step ts d
 
 -- scripts
 
@@ -377,4 +379,4 @@ unfolding sorts_pass
 have_rules limit live from signs steps e =
     let r = row_is_read built_script_row refl refl limit live from signs steps e in
     let m = made_so built_script_row refl signs r.script r.uses r.spelled in
-    subst (AllByRecursion (HasItems is_built)) (sym (r.items ∙ ap items_of (sym m.1))) (script_items is_built 154 153 152 (λ ts d. with_end is_built (OneOf 152 129 4) built_step ts (row 153 152 refl ts d)) m.0 m.2 (λ l d. row 154 153 refl l d))
+    subst (AllByRecursion (HasItems is_built)) (sym (r.items ∙ ap items_of (sym m.1))) (script_items is_built 154 153 152 (λ ts d. with_end is_built (OneOf 152 129 6) built_step ts (row 153 152 refl ts d)) m.0 m.2 (λ l d. row 154 153 refl l d))

@@ -8,7 +8,7 @@ use Rattle.cv_parse_notation.specs.Whole.{IsWhole, SpellsWith}
 use Rattle.cv_parse_grammar.specs.declared.role.Role.{Role}
 use Rattle.cv_parse_grammar.specs.Files.{levels}
 use Rattle.cv_parse_tables.specs.Table.{Row, TableSort, table_heads, table_rule}
-use Rattle.cv_script.specs.Rows.{script_row, script_rows}
+use Rattle.cv_script_rows.specs.Rows.{script_row, script_rows}
 use Rattle.cv_parse_script.specs.Scripts.{items as items_of, nodes_of}
 
 -- the form of a script

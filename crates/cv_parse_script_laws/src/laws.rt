@@ -5,7 +5,7 @@ ghost use Rattle.cv_parse_notation.specs.declared.sign.Sign.{Sign};
 ghost use Rattle.cv_parse_notation.specs.Spells.{Use};
 ghost use Rattle.cv_parse_notation.specs.Whole.{Dead};
 ghost use Rattle.cv_parse_grammar.specs.declared.role.Role.{Role};
-ghost use Rattle.cv_script.specs.Rows.{script_row, built_script_row};
+ghost use Rattle.cv_script_rows.specs.Rows.{script_row, built_script_row};
 ghost use Rattle.cv_parse_script.specs.Scripts.{items, nodes_of, script_of};
 ghost use Rattle.cv_parse_script.specs.declared.error.ScriptError.TheVariants.{Build, Script, Unbuilt};
 ghost use Rattle.cv_parse_script_laws.specs.Scripts.{IsScript, IsSomeScript, Takes};

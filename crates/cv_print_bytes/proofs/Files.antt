@@ -1,9 +1,9 @@
--- The names of a file are `bool` and identifiers.
-use Rattle.std.proofs.Common.{◌≡◌, ℕ, zero, suc, ◌<◌, ◌⊎◌, inl, inr, true, false, ◌==◌, max, if◌then◌else◌, List, [], ◌∷◌, ◌++◌, length, Option, Some, None, refl, ap, sym, ◌∙◌, subst, arith, codes, decimal}
+-- The names of a file are `bool` and identifiers, and those behind a script too.
+use Rattle.std.proofs.Common.{◌≡◌, ℕ, zero, suc, ◌<◌, ◌-◌, ◌⊎◌, inl, inr, true, false, ◌==◌, max, if◌then◌else◌, List, [], ◌∷◌, ◌++◌, length, drop, Option, Some, None, refl, ap, sym, ◌∙◌, subst, arith, codes, decimal}
 use Rattle.std.specs.Prelude.{All, slice_get}
 use Rattle.std.specs.Str.{bytes_eq}
 use Rattle.std.proofs.lemmas.Bool.{and_parts, cases_eq, cond_both, eqb-true}
-use Rattle.std.proofs.lemmas.List.Elements.{All-head, All-tail}
+use Rattle.std.proofs.lemmas.List.Elements.{All-drop, All-head, All-push, All-tail, All-take, All-weaker}
 use Rattle.std.proofs.lemmas.Slice.Eq.{bytes_eq-Decides}
 use Rattle.cv_lex.specs.declared.TokenKind.{TokenKind}
 use Rattle.cv_lex.specs.declared.TokenKind.TheVariants as kind
@@ -11,13 +11,15 @@ use Rattle.cv_lex.specs.Lexis.{Token, IsToken, has_front, symbols, longest, end_
 use Rattle.cv_lex.specs.View.{AreTokens}
 use Rattle.cv_parse_notation.specs.declared.sign.Mark.{Mark}
 use Rattle.cv_parse_notation.specs.declared.sign.Mark.TheVariants as mark
+use Rattle.cv_names.specs.Texts.{NoRepeat}
+use Rattle.cv_parse_terminals.specs.ScriptSigns.{between, script_signs}
 use Rattle.cv_parse_terminals.specs.Spelling.{spelling, mark_of_text}
-use Rattle.cv_parse_terminals.specs.Signs.{Step, no_counts, with_name, is_unnamed, word_step, text_step, token_step, unnamed_step, step_before, unnamed_name, first_text, signs_from, signs_in, signs_of}
+use Rattle.cv_parse_terminals.specs.Signs.{Step, no_counts, with_name, is_unnamed, word_step, text_step, token_step, unnamed_step, step_before, unnamed_name, first_text, signs_from, signs_of}
 use Rattle.cv_parse_terminals.specs.Braces.{file_tokens}
 use Rattle.cv_parse_terminals.proofs.FileTokens.{are_read}
 use Rattle.cv_parse_terminals.proofs.Naming.{text_test, with_name-from}
 use Rattle.cv_parse_terminals.proofs.Table.{found}
-use Rattle.cv_parse_terminals.proofs.Telling.{names_apart, bool_first}
+use Rattle.cv_parse_terminals.proofs.Telling.{grown}
 use Rattle.cv_print_bytes.specs.Known.{AreNames, IsName}
 use Rattle.cv_print_bytes.proofs.Bytes.{collision_token, symbol_length}
 
@@ -88,9 +90,17 @@ proper_text : (names : List (List ℕ)) (counts : _) (text : List ℕ) (m : Opti
 proper_text names counts text (Some m) e is p = p
 proper_text names counts text None e is p = proper_word names counts text (is refl) e p
 
-proper_token : (names : List (List ℕ)) (counts : _) (k : TokenKind) (text : List ℕ) → IsToken k text → Proper names → Proper (token_step names counts k text).names
-proper_token names counts kind.Ident text is p = proper_text names counts text (mark_of_text text) refl (λ _. is) p
-proper_token names counts kind.Symbol text is p = proper_text names counts text (mark_of_text text) refl (λ none. absurd (symbol_marked text is none)) p
+-- a token of the lexis, or the end token
+abbrev IsRead : TokenKind → List ℕ → Type 0
+IsRead k text = (k ≡ kind.End) ⊎ IsToken k text
+
+token_is : (k : TokenKind) (text : List ℕ) → (k ≡ kind.End → ⊥) → IsRead k text → IsToken k text
+token_is k text inner (inl end) = absurd (inner end)
+token_is k text inner (inr is) = is
+
+proper_token : (names : List (List ℕ)) (counts : _) (k : TokenKind) (text : List ℕ) → IsRead k text → Proper names → Proper (token_step names counts k text).names
+proper_token names counts kind.Ident text is p = proper_text names counts text (mark_of_text text) refl (λ _. token_is kind.Ident text (λ e. cc) is) p
+proper_token names counts kind.Symbol text is p = proper_text names counts text (mark_of_text text) refl (λ none. absurd (symbol_marked text (token_is kind.Symbol text (λ e. cc) is) none)) p
 proper_token names counts (kind.Number v) text is p = p
 proper_token names counts kind.End text is p = p
 
@@ -101,36 +111,57 @@ no_mark rest = refl
 unnamed_is : (n : ℕ) → IsName (unnamed_name n)
 unnamed_is n = record { token = collision_token n; no_mark = no_mark (decimal n); not_find = λ e. cc }
 
-proper_before : (names : List (List ℕ)) (counts : _) (k : TokenKind) (text next : List ℕ) → IsToken k text → Proper names → Proper (step_before names counts k text next).names
+proper_before : (names : List (List ℕ)) (counts : _) (k : TokenKind) (text next : List ℕ) → IsRead k text → Proper names → Proper (step_before names counts k text next).names
 proper_before names counts k text next is p =
     elim (is_unnamed text next) as (λ b. Proper (if b then unnamed_step names counts else token_step names counts k text).names) [
       | true ↦ proper_more names (unnamed_name (suc counts.unnamed)) (unnamed_is (suc counts.unnamed)) p
       | false ↦ proper_token names counts k text is p
     ]
 
-proper_from : (names : List (List ℕ)) (counts : _) (front : List Token) (end : ℕ) → All (λ t. IsToken t.kind t.text) front → Proper names → Proper (signs_from names counts (front ++ end_token end ∷ [])).names
+proper_from : (names : List (List ℕ)) (counts : _) (ts : List Token) → All (λ t. IsRead t.kind t.text) ts → Proper names → Proper (signs_from names counts ts).names
 unfolding signs_from
-proper_from names counts [] end each p = p
-proper_from names counts (t ∷ front) end each p =
-    let behind : List Token = front ++ end_token end ∷ [] in
-    let s : Step = step_before names counts t.kind t.text (first_text behind) in
-    proper_from s.names s.counts front end (All-tail (λ t. IsToken t.kind t.text) t front each) (proper_before names counts t.kind t.text (first_text behind) (All-head (λ t. IsToken t.kind t.text) t front each) p)
+proper_from names counts [] each p = p
+proper_from names counts (t ∷ ts) each p =
+    let s : Step = step_before names counts t.kind t.text (first_text ts) in
+    proper_from s.names s.counts ts (All-tail (λ t. IsRead t.kind t.text) t ts each) (proper_before names counts t.kind t.text (first_text ts) (All-head (λ t. IsRead t.kind t.text) t ts each) p)
 
-proper_first : Proper (codes "bool" ∷ [])
-proper_first zero text h = inl (cc)
-proper_first (suc x) text h = absurd (cc)
+-- the names behind tokens can stand in a text where those before them can
 
-proper_in : (ts : List Token) → AreTokens ts → Proper (signs_in ts).names
-proper_in ts are = subst (λ l. Proper (signs_in l).names) (sym are.all) (proper_from (codes "bool" ∷ []) no_counts are.front are.end are.each proper_first)
+proper_names : (names : List (List ℕ)) → AreNames names → Proper names
+proper_names names known zero text h = let first = known.bool_first in inl (cc)
+proper_names names known (suc x) text h = inr (known.each x text h)
 
-pub names_of_file : (ts : List Token) → AreTokens ts → AreNames (signs_of ts).names
-names_of_file ts are =
-    let p : Proper (signs_of ts).names = proper_in (file_tokens ts) (are_read ts are) in
+names_behind : (names : List (List ℕ)) (counts : _) (ts : List Token) → All (λ t. IsRead t.kind t.text) ts → AreNames names → AreNames (signs_from names counts ts).names
+names_behind names counts ts each known =
+    let more = grown names counts ts in
+    let first = more.keeps zero (codes "bool") known.bool_first in
+    let apart = more.apart known.apart in
+    let p : Proper (signs_from names counts ts).names = proper_from names counts ts each (proper_names names known) in
     record {
-      bool_first = bool_first ts;
+      bool_first = first;
       each = λ x text h. elim (p (suc x) text h) [
-        | inl bool ↦ absurd (let e : suc x ≡ zero = names_apart ts (suc x) zero (codes "bool") (h ∙ ap (λ t. Some t) bool) (bool_first ts) in cc)
+        | inl bool ↦ absurd (let e : suc x ≡ zero = apart (suc x) zero (codes "bool") (h ∙ ap (λ t. Some t) bool) first in cc)
         | inr is ↦ is
       ];
-      apart = names_apart ts;
+      apart = apart;
     }
+
+all_read : (ts : List Token) → AreTokens ts → All (λ t. IsRead t.kind t.text) ts
+all_read ts are = subst (All (λ t. IsRead t.kind t.text)) (sym are.all) (All-push (λ t. IsRead t.kind t.text) are.front (end_token are.end) (All-weaker (λ t. IsToken t.kind t.text) (λ t. IsRead t.kind t.text) (λ t is. inr is) are.front are.each) (inl refl))
+
+-- those of a file stand behind `bool` alone
+
+bool_apart : NoRepeat (codes "bool" ∷ [])
+bool_apart zero zero text a b = refl
+bool_apart zero (suc j) text a b = absurd (cc)
+bool_apart (suc i) j text a b = absurd (cc)
+
+bool_alone : AreNames (codes "bool" ∷ [])
+bool_alone = record { bool_first = refl; each = λ x text h. absurd (cc); apart = bool_apart }
+
+pub names_of_file : (ts : List Token) → AreTokens ts → AreNames (signs_of ts).names
+names_of_file ts are = names_behind (codes "bool" ∷ []) no_counts (file_tokens ts) (all_read (file_tokens ts) (are_read ts are)) bool_alone
+
+-- and those of a script behind the names before it
+pub names_of_script : (names : List (List ℕ)) (ts : List Token) (from to : ℕ) → AreTokens ts → AreNames names → AreNames (script_signs names (between from to ts)).names
+names_of_script names ts from to are known = names_behind names no_counts (between from to ts) (All-take (λ t. IsRead t.kind t.text) (to - from) (drop from ts) (All-drop (λ t. IsRead t.kind t.text) from ts (all_read ts are))) known

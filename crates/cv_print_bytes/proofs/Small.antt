@@ -2,7 +2,7 @@
 use Rattle.std.proofs.Common.{◌≡◌, ℕ, zero, suc, true, List, length, Some, refl, sym, ◌∙◌, subst, codes}
 use Rattle.std.specs.Prelude.{slice_get}
 use Rattle.std.specs.Fmt.{digits}
-use Rattle.cv_scope_runs.specs.Phrases.{Inputs, is_phrase}
+use Rattle.cv_scope.specs.Phrases.{Inputs, is_phrase}
 use Rattle.cv_print.specs.Games.{game_text, process_text}
 use Rattle.cv_print.specs.Terms.{entries_text, term_text}
 use Rattle.cv_print_terminals.specs.Signs.{entries_signs, game_signs, numbered, process_signs, term_signs}

@@ -5,9 +5,10 @@ ghost use Rattle.std.specs.Prelude.{◌≡◌, ◌≤◌, ℕ, suc, true, List, 
 ghost use Rattle.cv_syntax.specs.Tree.{Tree};
 ghost use Rattle.cv_lex.specs.Lexis.{Token};
 ghost use Rattle.cv_lex.specs.View.{AreTokens};
+ghost use Rattle.cv_parse_terminals.specs.ScriptSigns.{between, script_signs};
 ghost use Rattle.cv_parse_terminals.specs.Signs.{signs_of};
 ghost use Rattle.cv_parse_grammar.specs.Phrases.{Inputs as InputsRow, Term as TermRow};
-ghost use Rattle.cv_scope_runs.specs.Phrases.{Inputs, Term, is_phrase};
+ghost use Rattle.cv_scope.specs.Phrases.{Inputs, Term, is_phrase};
 ghost use Rattle.cv_print.specs.Games.{game_text};
 ghost use Rattle.cv_print.specs.Terms.{term_text};
 ghost use Rattle.cv_print_terminals.specs.Levels.{levels_of, term_levels};
@@ -48,6 +49,12 @@ pub fn printing_is_injective()
 /// The names of a file, as its tokens give them, can stand for the names of a text.
 pub fn names_of_files()
     ensures { (ts : List Token) → AreTokens ts → AreNames (signs_of ts).names }
+{}
+
+/// So can the names behind a script, wherever it stands among the tokens, if those before it can.
+pub fn names_of_scripts()
+    ensures { (names : List (List ℕ)) (ts : List Token) (from to : ℕ) → AreTokens ts → AreNames names →
+        AreNames (script_signs names (between from to ts)).names }
 {}
 
 /// A small game has known names, and its text is as expected and has its signs.

@@ -6,7 +6,7 @@ use Rattle.cv_parse_terminals.specs.ScriptSigns.{script_signs}
 use Rattle.cv_parse_grammar.specs.Files.{levels}
 use Rattle.cv_parse_script.specs.Scripts.{items, nodes_of}
 use Rattle.cv_parse_script_laws.proofs.Deciding.{one_script, takes}
-use Rattle.cv_script.specs.Rows.{script_row, script_rows}
+use Rattle.cv_script_rows.specs.Rows.{script_row, script_rows}
 use Rattle.cv_print_steps.specs.Shown.{Words}
 use Rattle.cv_print_scripts.specs.Texts.{IsReadAs, IsUnambiguous, words_among}
 use Rattle.cv_print_script_back.specs.Back.{ComesBack}

@@ -10,7 +10,7 @@ use Rattle.cv_parse_grammar.specs.Names.{Uses}
 use Rattle.cv_parse_script_laws.proofs.Fitting.{deep_rule, line_row, when_deep}
 use Rattle.cv_parse_tables.specs.Table.{Row, row_phrase, table_heads, table_rule}
 use Rattle.cv_print_steps.specs.Trees.{IsTree, Makes}
-use Rattle.cv_script.specs.Rows.{script_rows}
+use Rattle.cv_script_rows.specs.Rows.{script_rows}
 use Rattle.cv_parse_script_laws.proofs.Made.{RowMade, of_row}
 use Rattle.cv_parse_script_laws.proofs.Texts.{nowhere}
 use Rattle.cv_print_script_back.proofs.Files.{AreGood, IsGood, IsText, text_is_known}

@@ -14,13 +14,14 @@ use Rattle.cv_parse_tables.specs.Trees.{all_of, single}
 use Rattle.cv_parse_script.specs.Scripts.{items as items_of, nodes_of, script_of, script_read}
 use Rattle.cv_parse_script_laws.proofs.Agreement.{sorts_pass}
 use Rattle.cv_print_bytes.specs.Known.{AreNames}
+use Rattle.cv_print_bytes.proofs.Files.{names_of_script}
 use Rattle.cv_print_scripts.specs.Known.{is_known}
 use Rattle.cv_print_scripts.specs.Texts.{FitsIn}
 use Rattle.cv_print_script_back.specs.Back.{ComesBack}
 use Rattle.cv_print_script_back.proofs.Back.{comes_back}
 use Rattle.cv_print_scripts.proofs.Texts.{step_is_read}
 use Rattle.cv_print_steps.specs.Trees.{Behind, IsTree, JustOne, Makes}
-use Rattle.cv_script.specs.Rows.{script_row, script_rows, step_row}
+use Rattle.cv_script_rows.specs.Rows.{script_row, script_rows, step_row}
 use Rattle.cv_script.specs.Text.{step_text, text_levels}
 use Rattle.cv_parse_script_laws.proofs.Made.{AtRow, OneMade, row_at, row_from}
 use Rattle.cv_parse_script_laws.proofs.Reading.{row_is_read}
@@ -131,9 +132,12 @@ module _ (count : ℕ) (some : nat_lt 0 count ≡ true) where
 
 -- by tokens
 
-module _ (names : List (List ℕ)) (tokens : List Token) (from to : ℕ) (are : AreTokens tokens) (within : to < length tokens) (few : length tokens < 2 ^ 64) (known : AreNames (script_signs names (between from to tokens)).names) where
+module _ (names : List (List ℕ)) (tokens : List Token) (from to : ℕ) (are : AreTokens tokens) (within : to < length tokens) (few : length tokens < 2 ^ 64) (proper : AreNames names) where
   abbrev behind : List (List ℕ)
   behind = (script_signs names (between from to tokens)).names
+
+  known : AreNames behind
+  known = names_of_script names tokens from to are proper
 
   some_names : nat_lt 0 (length behind) ≡ true
   some_names = lt-ltb 0 (length behind) (slice_get_within behind 0 (codes "bool") known.bool_first)

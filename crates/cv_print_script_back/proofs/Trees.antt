@@ -14,7 +14,7 @@ use Rattle.cv_parse_tables.specs.Trees.{all_of, over, single}
 use Rattle.cv_print_scripts.specs.Known.{head_is_known, is_known}
 use Rattle.cv_print_steps.specs.Trees.{IsOuter, IsTree, JustOne, Makes, OneMakes, PieceMakes, PiecesMake, RowMakes, which}
 use Rattle.cv_print_terminals.specs.Written.{is_name}
-use Rattle.cv_script.specs.Rows.{script_rows}
+use Rattle.cv_script_rows.specs.Rows.{script_rows}
 use Rattle.cv_parse_script_laws.proofs.Made.{OneMade, PieceMade, PiecesMade, RowMade, choice}
 use Rattle.cv_print_script_back.proofs.Files.{IsText}
 

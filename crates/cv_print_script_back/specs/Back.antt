@@ -4,7 +4,7 @@ use Rattle.cv_lex.specs.Lexis.{Token, tokens_of}
 use Rattle.cv_syntax.specs.Tree.{Tree}
 use Rattle.cv_parse_terminals.specs.ScriptSigns.{script_signs}
 use Rattle.cv_parse_script.specs.Scripts.{script_of}
-use Rattle.cv_script.specs.Rows.{script_row}
+use Rattle.cv_script_rows.specs.Rows.{script_row}
 
 -- behind these names, in a pool with so many nodes and this limit, the text is a script of these steps
 pub record ComesBack (limit live from : ℕ) (names : List (List ℕ)) (text : List ℕ) (steps : List Tree) : Type 0 where

@@ -7,7 +7,7 @@ use Rattle.cv_print_scripts.specs.Known.{is_known}
 use Rattle.cv_print_scripts.specs.Texts.{FitsIn}
 use Rattle.cv_print_script_back.specs.Back.{ComesBack}
 use Rattle.cv_print_steps.specs.Trees.{IsTree}
-use Rattle.cv_script.specs.Rows.{script_rows, step_row}
+use Rattle.cv_script_rows.specs.Rows.{script_rows, step_row}
 use Rattle.cv_script.specs.Text.{step_text, text_levels}
 
 -- a tree of the table of scripts, in as many levels as a text has, whose names are below so many and whose numbers fit 64 bits

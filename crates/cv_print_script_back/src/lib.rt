@@ -10,7 +10,7 @@ ghost use Rattle.cv_print_scripts.specs.Known.{is_known};
 ghost use Rattle.cv_print_scripts.specs.Texts.{FitsIn, IsUnambiguous};
 ghost use Rattle.cv_print_steps.specs.Trees.{IsTree};
 ghost use Rattle.cv_print_tables.specs.Prints.{tree_text};
-ghost use Rattle.cv_script.specs.Rows.{script_row, script_rows, step_row};
+ghost use Rattle.cv_script_rows.specs.Rows.{script_row, script_rows, step_row};
 ghost use Rattle.cv_print_script_back.specs.Back.{ComesBack};
 ghost use Rattle.std.specs.List.{AllByRecursion};
 ghost use Rattle.cv_lex.specs.Lexis.{Token};
@@ -54,11 +54,11 @@ pub fn texts_of_scripts_differ()
 {}
 
 /// Each step of a script that was read is a tree of the table, in no more levels than a text has, and its names are
-/// among those behind the script, where these are proper names.
+/// among those behind the script, where those before it are proper names.
 pub fn read_steps_are_trees()
     ensures { (limit live from to : ℕ) (names : List (List ℕ)) (tokens : List Token)
         (steps : List Tree) → AreTokens tokens → to < length tokens → length tokens < 2 ^ 64 →
-        AreNames (script_signs names (between from to tokens)).names →
+        AreNames names →
         script_read script_row limit live names tokens from to ≡ Ok steps →
         AllByRecursion
         (IsKnownStep (length (script_signs names (between from to tokens)).names)) steps }
@@ -69,7 +69,7 @@ pub fn read_steps_are_trees()
 pub fn read_steps_come_back()
     ensures { (limit live from to : ℕ) (names : List (List ℕ)) (tokens : List Token)
         (steps : List Tree) → AreTokens tokens → to < length tokens → length tokens < 2 ^ 64 →
-        AreNames (script_signs names (between from to tokens)).names →
+        AreNames names →
         script_read script_row limit live names tokens from to ≡ Ok steps →
         AllByRecursion (IsReadBack (script_signs names (between from to tokens)).names) steps }
 {}

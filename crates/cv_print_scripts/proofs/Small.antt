@@ -9,7 +9,7 @@ use Rattle.cv_print_bytes.specs.Known.{AreNames, IsName}
 use Rattle.cv_print_steps.specs.Shown.{row_signs, tree_shown}
 use Rattle.cv_print_steps.specs.Trees.{IsTree}
 use Rattle.cv_print_tables.specs.Prints.{single_items, tree_text}
-use Rattle.cv_script.specs.Rows.{script_rows, step_row}
+use Rattle.cv_script_rows.specs.Rows.{script_rows, step_row}
 use Rattle.cv_syntax.specs.Tree.{lone}
 use Rattle.cv_syntax.specs.declared.head.Head.TheVariants.{Name}
 use Rattle.cv_print_scripts.specs.Known.{is_known}
@@ -54,7 +54,7 @@ made_so =
         front = small ∷ [];
         back = [];
         parts = refl;
-        first = inr (inr (inr (inr (inl (record {
+        first = inr (inr (inr (inr (inr (inr (inl (record {
           front = small ∷ [];
           back = [];
           parts = refl;
@@ -110,7 +110,7 @@ made_so =
             ),
           );
           second = refl;
-        })))));
+        })))))));
         second = refl;
       },
     )

@@ -17,7 +17,7 @@ use Rattle.cv_print_steps.specs.Shown.{Words, row_levels, row_signs}
 use Rattle.cv_print_steps.specs.Trees.{IsTree}
 use Rattle.cv_print_steps.proofs.Rows.{tree_single}
 use Rattle.cv_print_terminals.specs.Signs.{one}
-use Rattle.cv_script.specs.Rows.{script_row, script_rows, step_row}
+use Rattle.cv_script_rows.specs.Rows.{script_row, script_rows, step_row}
 use Rattle.cv_print_tables.specs.Prints.{tree_text}
 use Rattle.cv_print_bytes.specs.Known.{AreNames}
 use Rattle.cv_syntax.specs.Tree.{Tree, chain, first}

@@ -7,7 +7,7 @@ ghost use Rattle.cv_parse_notation.specs.declared.sign.Mark.TheVariants.{Semicol
 ghost use Rattle.cv_parse_tables.specs.Table.{Table};
 ghost use Rattle.cv_print_tables.specs.Prints.{tree_text};
 ghost use Rattle.cv_print_terminals.specs.Signs.{one};
-ghost use Rattle.cv_script.specs.Rows.{script_row, script_rows, step_row};
+ghost use Rattle.cv_script_rows.specs.Rows.{script_row, script_rows, step_row};
 ghost use Rattle.cv_print_bytes.specs.Known.{AreNames};
 ghost use Rattle.cv_print_steps.specs.Apart.{is_single, tells_apart};
 ghost use Rattle.cv_print_steps.specs.Shown.{row_levels, row_signs};

@@ -7,7 +7,7 @@ ghost use Rattle.cv_parse_notation.specs.declared.sign.Sign.{Sign};
 ghost use Rattle.cv_parse_notation.specs.Spells.{IsSort, next_is};
 ghost use Rattle.cv_parse_grammar.specs.Names.{Uses};
 ghost use Rattle.cv_parse_tables.specs.Table.{Row, Table, table_heads, table_rule};
-ghost use Rattle.cv_script.specs.Rows.{script_row, script_rows, step_row};
+ghost use Rattle.cv_script_rows.specs.Rows.{script_row, script_rows, step_row};
 ghost use Rattle.cv_print_terminals.specs.Written.{opens};
 ghost use Rattle.cv_print_steps.specs.Apart.{is_single, tells_apart};
 ghost use Rattle.cv_print_steps.specs.Shown.{AreWords, Words, row_levels, row_signs, spoken};

@@ -1,6 +1,7 @@
 -- A step by its items.
-use Rattle.std.specs.Prelude.{ℕ, Bool, true, false, List, Option, Some, None}
+use Rattle.std.specs.Prelude.{ℕ, ◌<◌, Bool, true, false, List, Option, Some, None}
 use Rattle.cv_pool.specs.KindTree.{KindTree}
+use Rattle.cv_pool.specs.Nodes.{ChildBelow}
 use Rattle.cv_syntax.specs.declared.head.Head.TheVariants as head
 use Rattle.cv_syntax.specs.Tree.{Tree, Empty, Node, first, second, tree_at}
 use Rattle.cv_script.specs.declared.views.Part.{Part}
@@ -104,3 +105,17 @@ items_of_view trees (view.Fresh p) = Fresh p
 items_of_view trees (view.Crypto e x) = Crypto e.0 x.0
 items_of_view trees (view.Success k by) = Success k (tree_at trees by)
 items_of_view trees view.Simplify = Simplify
+
+-- the nodes that a view tells are live
+abbrev pub AreLive : ℕ → StepView → Type 0
+AreLive n (view.Rewrite p m by) = (m.0 < n) × ChildBelow n by
+AreLive n (view.Prune p part by) = ChildBelow n by
+AreLive n (view.Pick p ms d e) = ChildBelow n ms × ChildBelow n d × ChildBelow n e
+AreLive n (view.Split p m) = m.0 < n
+AreLive n (view.Let p x T m) = m.0 < n
+AreLive n (view.ArrayRename x xs) = ChildBelow n xs
+AreLive n (view.Codef p add y x) = (y.0 < n) × (x.0 < n)
+AreLive n (view.Birthday x ps) = ChildBelow n ps
+AreLive n (view.Guess x ps) = ChildBelow n ps
+AreLive n (view.Success k by) = ChildBelow n by
+AreLive n v = Unit {0}

@@ -1,9 +1,9 @@
 // Steps by their items: what no other crate reads off a step's nodes.
-ghost use Rattle.std.specs.Prelude.{◌≡◌, ◌<◌, Some, length, option_map};
+ghost use Rattle.std.specs.Prelude.{◌≡◌, ◌<◌, IfSome, Some, length, option_map};
 ghost use Rattle.cv_pool.specs.Nodes.{ChildBelow};
 ghost use Rattle.cv_syntax.specs.declared.head.Head.TheVariants.{ArrayRenameStep, BirthdayStep, CodefStep, CryptoStep, FreshStep, GuessStep, LetStep, MergeStep, MoveStep, NewStep, PickStep, PruneStep, RenameStep, RewriteStep, SplitStep, SuccessStep, UnletStep, UnnewStep};
 ghost use Rattle.cv_syntax.specs.Tree.{Empty, Node, tree_at};
-ghost use Rattle.cv_script.specs.Views.{adds_in, name_in, number_in, part_in, items_of_view, tree_in, items_of_step};
+ghost use Rattle.cv_script.specs.Views.{AreLive, adds_in, name_in, number_in, part_in, items_of_view, tree_in, items_of_step};
 
 use crate::steps::Step;
 use cv_syntax::children::{first_of, is_empty, second_of};
@@ -118,8 +118,9 @@ fn name(pool: &Pool, tree: Option<NodeId>) -> Option<NameId>
 #[tactic(auto, using(crate::proofs::Items::item_laws))]
 fn node_of(pool: &Pool, tree: Option<NodeId>) -> Option<NodeId>
     requires { ChildBelow (length pool.now.trees) tree }
-    ensures { option_map (λ n. tree_at pool.now.trees (Some n)) result
+    ensures tree { option_map (λ n. tree_at pool.now.trees (Some n)) result
         ≡ tree_in (tree_at pool.now.trees tree) }
+    ensures live { ChildBelow (length pool.now.trees) result }
 {
     if is_empty(pool, tree) { None } else { tree }
 }
@@ -168,8 +169,9 @@ fn adds(pool: &Pool, tree: Option<NodeId>) -> Option<bool>
 fn rename(pool: &Pool, first: Option<NodeId>, second: Option<NodeId>) -> Option<StepView>
     requires first { ChildBelow (length pool.now.trees) first }
     requires second { ChildBelow (length pool.now.trees) second }
-    ensures { option_map (items_of_view pool.now.trees) result
+    ensures items { option_map (items_of_view pool.now.trees) result
         ≡ items_of_step (Node RenameStep (tree_at pool.now.trees first) (tree_at pool.now.trees second)) }
+    ensures live { IfSome result (AreLive (length pool.now.trees)) }
 {
     Some(StepView::Rename {
         x: name(pool, first)?,
@@ -182,8 +184,9 @@ fn rename(pool: &Pool, first: Option<NodeId>, second: Option<NodeId>) -> Option<
 fn rewrite(pool: &Pool, first: Option<NodeId>, second: Option<NodeId>) -> Option<StepView>
     requires first { ChildBelow (length pool.now.trees) first }
     requires second { ChildBelow (length pool.now.trees) second }
-    ensures { option_map (items_of_view pool.now.trees) result
+    ensures items { option_map (items_of_view pool.now.trees) result
         ≡ items_of_step (Node RewriteStep (tree_at pool.now.trees first) (tree_at pool.now.trees second)) }
+    ensures live { IfSome result (AreLive (length pool.now.trees)) }
 {
     Some(StepView::Rewrite {
         place: number(pool, first)?,
@@ -197,8 +200,9 @@ fn rewrite(pool: &Pool, first: Option<NodeId>, second: Option<NodeId>) -> Option
 fn prune(pool: &Pool, first: Option<NodeId>, second: Option<NodeId>) -> Option<StepView>
     requires first { ChildBelow (length pool.now.trees) first }
     requires second { ChildBelow (length pool.now.trees) second }
-    ensures { option_map (items_of_view pool.now.trees) result
+    ensures items { option_map (items_of_view pool.now.trees) result
         ≡ items_of_step (Node PruneStep (tree_at pool.now.trees first) (tree_at pool.now.trees second)) }
+    ensures live { IfSome result (AreLive (length pool.now.trees)) }
 {
     Some(StepView::Prune {
         place: number(pool, first)?,
@@ -212,8 +216,9 @@ fn prune(pool: &Pool, first: Option<NodeId>, second: Option<NodeId>) -> Option<S
 fn pick(pool: &Pool, first: Option<NodeId>, second: Option<NodeId>) -> Option<StepView>
     requires first { ChildBelow (length pool.now.trees) first }
     requires second { ChildBelow (length pool.now.trees) second }
-    ensures { option_map (items_of_view pool.now.trees) result
+    ensures items { option_map (items_of_view pool.now.trees) result
         ≡ items_of_step (Node PickStep (tree_at pool.now.trees first) (tree_at pool.now.trees second)) }
+    ensures live { IfSome result (AreLive (length pool.now.trees)) }
 {
     let rest = second_of(pool, second);
     Some(StepView::Pick {
@@ -228,8 +233,9 @@ fn pick(pool: &Pool, first: Option<NodeId>, second: Option<NodeId>) -> Option<St
 #[tactic(auto, using(crate::proofs::Items::item_laws))]
 fn merge(pool: &Pool, first: Option<NodeId>) -> Option<StepView>
     requires first { ChildBelow (length pool.now.trees) first }
-    ensures { option_map (items_of_view pool.now.trees) result
+    ensures items { option_map (items_of_view pool.now.trees) result
         ≡ items_of_step (Node MergeStep (tree_at pool.now.trees first) Empty) }
+    ensures live { IfSome result (AreLive (length pool.now.trees)) }
 {
     Some(StepView::Merge {
         place: number(pool, first)?,
@@ -241,8 +247,9 @@ fn merge(pool: &Pool, first: Option<NodeId>) -> Option<StepView>
 fn split(pool: &Pool, first: Option<NodeId>, second: Option<NodeId>) -> Option<StepView>
     requires first { ChildBelow (length pool.now.trees) first }
     requires second { ChildBelow (length pool.now.trees) second }
-    ensures { option_map (items_of_view pool.now.trees) result
+    ensures items { option_map (items_of_view pool.now.trees) result
         ≡ items_of_step (Node SplitStep (tree_at pool.now.trees first) (tree_at pool.now.trees second)) }
+    ensures live { IfSome result (AreLive (length pool.now.trees)) }
 {
     Some(StepView::Split {
         place: number(pool, first)?,
@@ -255,8 +262,9 @@ fn split(pool: &Pool, first: Option<NodeId>, second: Option<NodeId>) -> Option<S
 fn assign(pool: &Pool, first: Option<NodeId>, second: Option<NodeId>) -> Option<StepView>
     requires first { ChildBelow (length pool.now.trees) first }
     requires second { ChildBelow (length pool.now.trees) second }
-    ensures { option_map (items_of_view pool.now.trees) result
+    ensures items { option_map (items_of_view pool.now.trees) result
         ≡ items_of_step (Node LetStep (tree_at pool.now.trees first) (tree_at pool.now.trees second)) }
+    ensures live { IfSome result (AreLive (length pool.now.trees)) }
 {
     let rest = second_of(pool, second);
     Some(StepView::Let {
@@ -271,8 +279,9 @@ fn assign(pool: &Pool, first: Option<NodeId>, second: Option<NodeId>) -> Option<
 #[tactic(auto, using(crate::proofs::Items::item_laws))]
 fn unlet(pool: &Pool, first: Option<NodeId>) -> Option<StepView>
     requires first { ChildBelow (length pool.now.trees) first }
-    ensures { option_map (items_of_view pool.now.trees) result
+    ensures items { option_map (items_of_view pool.now.trees) result
         ≡ items_of_step (Node UnletStep (tree_at pool.now.trees first) Empty) }
+    ensures live { IfSome result (AreLive (length pool.now.trees)) }
 {
     Some(StepView::Unlet {
         x: name(pool, first)?,
@@ -284,8 +293,9 @@ fn unlet(pool: &Pool, first: Option<NodeId>) -> Option<StepView>
 fn create(pool: &Pool, first: Option<NodeId>, second: Option<NodeId>) -> Option<StepView>
     requires first { ChildBelow (length pool.now.trees) first }
     requires second { ChildBelow (length pool.now.trees) second }
-    ensures { option_map (items_of_view pool.now.trees) result
+    ensures items { option_map (items_of_view pool.now.trees) result
         ≡ items_of_step (Node NewStep (tree_at pool.now.trees first) (tree_at pool.now.trees second)) }
+    ensures live { IfSome result (AreLive (length pool.now.trees)) }
 {
     Some(StepView::New {
         place: number(pool, first)?,
@@ -298,8 +308,9 @@ fn create(pool: &Pool, first: Option<NodeId>, second: Option<NodeId>) -> Option<
 #[tactic(auto, using(crate::proofs::Items::item_laws))]
 fn unnew(pool: &Pool, first: Option<NodeId>) -> Option<StepView>
     requires first { ChildBelow (length pool.now.trees) first }
-    ensures { option_map (items_of_view pool.now.trees) result
+    ensures items { option_map (items_of_view pool.now.trees) result
         ≡ items_of_step (Node UnnewStep (tree_at pool.now.trees first) Empty) }
+    ensures live { IfSome result (AreLive (length pool.now.trees)) }
 {
     Some(StepView::Unnew {
         x: name(pool, first)?,
@@ -310,8 +321,9 @@ fn unnew(pool: &Pool, first: Option<NodeId>) -> Option<StepView>
 #[tactic(auto, using(crate::proofs::Items::item_laws))]
 fn move_down(pool: &Pool, first: Option<NodeId>) -> Option<StepView>
     requires first { ChildBelow (length pool.now.trees) first }
-    ensures { option_map (items_of_view pool.now.trees) result
+    ensures items { option_map (items_of_view pool.now.trees) result
         ≡ items_of_step (Node MoveStep (tree_at pool.now.trees first) Empty) }
+    ensures live { IfSome result (AreLive (length pool.now.trees)) }
 {
     Some(StepView::Move {
         place: number(pool, first)?,
@@ -323,8 +335,9 @@ fn move_down(pool: &Pool, first: Option<NodeId>) -> Option<StepView>
 fn array_rename(pool: &Pool, first: Option<NodeId>, second: Option<NodeId>) -> Option<StepView>
     requires first { ChildBelow (length pool.now.trees) first }
     requires second { ChildBelow (length pool.now.trees) second }
-    ensures { option_map (items_of_view pool.now.trees) result
+    ensures items { option_map (items_of_view pool.now.trees) result
         ≡ items_of_step (Node ArrayRenameStep (tree_at pool.now.trees first) (tree_at pool.now.trees second)) }
+    ensures live { IfSome result (AreLive (length pool.now.trees)) }
 {
     Some(StepView::ArrayRename {
         x: name(pool, first)?,
@@ -337,8 +350,9 @@ fn array_rename(pool: &Pool, first: Option<NodeId>, second: Option<NodeId>) -> O
 fn codef(pool: &Pool, first: Option<NodeId>, second: Option<NodeId>) -> Option<StepView>
     requires first { ChildBelow (length pool.now.trees) first }
     requires second { ChildBelow (length pool.now.trees) second }
-    ensures { option_map (items_of_view pool.now.trees) result
+    ensures items { option_map (items_of_view pool.now.trees) result
         ≡ items_of_step (Node CodefStep (tree_at pool.now.trees first) (tree_at pool.now.trees second)) }
+    ensures live { IfSome result (AreLive (length pool.now.trees)) }
 {
     let rest = second_of(pool, second);
     Some(StepView::Codef {
@@ -354,8 +368,9 @@ fn codef(pool: &Pool, first: Option<NodeId>, second: Option<NodeId>) -> Option<S
 fn birthday(pool: &Pool, first: Option<NodeId>, second: Option<NodeId>) -> Option<StepView>
     requires first { ChildBelow (length pool.now.trees) first }
     requires second { ChildBelow (length pool.now.trees) second }
-    ensures { option_map (items_of_view pool.now.trees) result
+    ensures items { option_map (items_of_view pool.now.trees) result
         ≡ items_of_step (Node BirthdayStep (tree_at pool.now.trees first) (tree_at pool.now.trees second)) }
+    ensures live { IfSome result (AreLive (length pool.now.trees)) }
 {
     Some(StepView::Birthday {
         x: name(pool, first)?,
@@ -368,8 +383,9 @@ fn birthday(pool: &Pool, first: Option<NodeId>, second: Option<NodeId>) -> Optio
 fn guess(pool: &Pool, first: Option<NodeId>, second: Option<NodeId>) -> Option<StepView>
     requires first { ChildBelow (length pool.now.trees) first }
     requires second { ChildBelow (length pool.now.trees) second }
-    ensures { option_map (items_of_view pool.now.trees) result
+    ensures items { option_map (items_of_view pool.now.trees) result
         ≡ items_of_step (Node GuessStep (tree_at pool.now.trees first) (tree_at pool.now.trees second)) }
+    ensures live { IfSome result (AreLive (length pool.now.trees)) }
 {
     Some(StepView::Guess {
         x: name(pool, first)?,
@@ -381,8 +397,9 @@ fn guess(pool: &Pool, first: Option<NodeId>, second: Option<NodeId>) -> Option<S
 #[tactic(auto, using(crate::proofs::Items::item_laws))]
 fn fresh(pool: &Pool, first: Option<NodeId>) -> Option<StepView>
     requires first { ChildBelow (length pool.now.trees) first }
-    ensures { option_map (items_of_view pool.now.trees) result
+    ensures items { option_map (items_of_view pool.now.trees) result
         ≡ items_of_step (Node FreshStep (tree_at pool.now.trees first) Empty) }
+    ensures live { IfSome result (AreLive (length pool.now.trees)) }
 {
     Some(StepView::Fresh {
         place: number(pool, first)?,
@@ -394,8 +411,9 @@ fn fresh(pool: &Pool, first: Option<NodeId>) -> Option<StepView>
 fn crypto(pool: &Pool, first: Option<NodeId>, second: Option<NodeId>) -> Option<StepView>
     requires first { ChildBelow (length pool.now.trees) first }
     requires second { ChildBelow (length pool.now.trees) second }
-    ensures { option_map (items_of_view pool.now.trees) result
+    ensures items { option_map (items_of_view pool.now.trees) result
         ≡ items_of_step (Node CryptoStep (tree_at pool.now.trees first) (tree_at pool.now.trees second)) }
+    ensures live { IfSome result (AreLive (length pool.now.trees)) }
 {
     Some(StepView::Crypto {
         equiv: name(pool, first)?,
@@ -408,8 +426,9 @@ fn crypto(pool: &Pool, first: Option<NodeId>, second: Option<NodeId>) -> Option<
 fn success(pool: &Pool, first: Option<NodeId>, second: Option<NodeId>) -> Option<StepView>
     requires first { ChildBelow (length pool.now.trees) first }
     requires second { ChildBelow (length pool.now.trees) second }
-    ensures { option_map (items_of_view pool.now.trees) result
+    ensures items { option_map (items_of_view pool.now.trees) result
         ≡ items_of_step (Node SuccessStep (tree_at pool.now.trees first) (tree_at pool.now.trees second)) }
+    ensures live { IfSome result (AreLive (length pool.now.trees)) }
 {
     Some(StepView::Success {
         query: number(pool, first)?,
@@ -421,8 +440,9 @@ fn success(pool: &Pool, first: Option<NodeId>, second: Option<NodeId>) -> Option
 #[tactic(auto, using(crate::proofs::Items::item_laws))]
 pub fn view(pool: &Pool, step: Step) -> Option<StepView>
     requires { step.0.0 < length pool.now.trees }
-    ensures { option_map (items_of_view pool.now.trees) result
+    ensures items { option_map (items_of_view pool.now.trees) result
         ≡ items_of_step (tree_at pool.now.trees (Some step.0)) }
+    ensures live { IfSome result (AreLive (length pool.now.trees)) }
 {
     let node = read_node(pool, step.0);
     let (first, second) = (node.first, node.second);

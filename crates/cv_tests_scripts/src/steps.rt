@@ -145,11 +145,11 @@ fn steps_that_have_a_rule(rt: HostRuntime) -> Result<(), Fail> {
     let found = tokens_in(
         &rt,
         alloc,
-        "split 0 x = y; let 1 z: bool = true; new 2 w: T; unnew w;",
+        "split 0 x = y; let 1 z: bool = true; new 2 w: T; unnew w; rewrite 3 to x by { x = y by fact 1; }; prune 4 else by {};",
     )?;
     let end = found.len() - 1;
     let steps = script(alloc, &mut work, &found, (0, end))?;
-    assert_eq!(rt; steps.len(), 4);
+    assert_eq!(rt; steps.len(), 6);
     let step = steps[1];
     assert!(rt; step.0.0 < work.pool.live());
     let text = step_text(alloc, &work.pool, &work.names, step)?;

@@ -1,6 +1,6 @@
 use Rattle.std.proofs.Common.{refl, suc}
 use Rattle.cv_parse_grammar.specs.Files.{levels}
-use Rattle.cv_script.specs.Rows.{script_row, script_rows}
+use Rattle.cv_script_rows.specs.Rows.{script_row, script_rows}
 use Rattle.cv_print_scripts.proofs.Texts.{one_row, one_step}
 use Rattle.cv_print_script_back.proofs.Back.{unambiguous}
 use Rattle.cv_print_script_back.proofs.texts_of_scripts_differ.Goals as goal

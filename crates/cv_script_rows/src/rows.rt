@@ -1,7 +1,7 @@
 // The table of scripts: the rows from which steps are read and printed.
 ghost use Rattle.std.specs.Prelude.{◌≡◌};
 ghost use Rattle.cv_parse_tables.specs.Table.{rows_of};
-ghost use Rattle.cv_script.specs.Rows as specs_rows;
+ghost use Rattle.cv_script_rows.specs.Rows as specs_rows;
 
 use cv_parse_grammar::Role;
 use cv_parse_notation::{Mark, ScriptWord};
@@ -224,7 +224,7 @@ const BUILT_STEPS: u16 = 153;
 /// The row of a script whose steps have a rule.
 pub const BUILT_SCRIPT: u16 = 154;
 /// How many of the steps, from the first one on, have a rule.
-const BUILT: u16 = 4;
+const BUILT: u16 = 6;
 
 static ROWS: [&[Piece]; 155] = [
     &[Sign(Mark::Bool)],
@@ -569,9 +569,9 @@ static ROWS: [&[Piece]; 155] = [
     &[Over(Head::LetStep, LET)],
     &[Over(Head::NewStep, NEW)],
     &[Over(Head::UnnewStep, UNNEW)],
-    &[Over(Head::RenameStep, RENAME)],
     &[Over(Head::RewriteStep, REWRITE)],
     &[Over(Head::PruneStep, PRUNE)],
+    &[Over(Head::RenameStep, RENAME)],
     &[Over(Head::PickStep, PICK)],
     &[Over(Head::MergeStep, MERGE)],
     &[Over(Head::UnletStep, UNLET)],

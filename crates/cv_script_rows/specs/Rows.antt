@@ -156,9 +156,9 @@ script_rows =
     (Over head.LetStep 116 ∷ []) ∷  -- 130 a let
     (Over head.NewStep 118 ∷ []) ∷  -- 131 a new
     (Over head.UnnewStep 119 ∷ []) ∷  -- 132 a unnew
-    (Over head.RenameStep 110 ∷ []) ∷  -- 133 a rename
-    (Over head.RewriteStep 111 ∷ []) ∷  -- 134 a rewrite
-    (Over head.PruneStep 112 ∷ []) ∷  -- 135 a prune
+    (Over head.RewriteStep 111 ∷ []) ∷  -- 133 a rewrite
+    (Over head.PruneStep 112 ∷ []) ∷  -- 134 a prune
+    (Over head.RenameStep 110 ∷ []) ∷  -- 135 a rename
     (Over head.PickStep 113 ∷ []) ∷  -- 136 a pick
     (Over head.MergeStep 114 ∷ []) ∷  -- 137 a merge
     (Over head.UnletStep 117 ∷ []) ∷  -- 138 a unlet
@@ -175,7 +175,7 @@ script_rows =
     (OneOf 129 19 ∷ Sign mark.Semicolon ∷ []) ∷  -- 149 step item
     (Many false 149 ∷ []) ∷  -- 150 steps
     (Chain 150 ∷ []) ∷  -- 151 script
-    (OneOf 129 4 ∷ Sign mark.Semicolon ∷ []) ∷  -- 152 built item
+    (OneOf 129 6 ∷ Sign mark.Semicolon ∷ []) ∷  -- 152 built item
     (Many false 152 ∷ []) ∷  -- 153 built steps
     (Chain 153 ∷ []) ∷  -- 154 built script
     []
