@@ -10,12 +10,12 @@ use Rattle.cv_typing.specs.Signature.{names_in}
 use Rattle.cv_typing.specs.Signature as typing
 use Rattle.cv_typing.specs.Typing.{binders_differ}
 use Rattle.cv_scope.specs.Context.{context_at}
-use Rattle.cv_scope_runs.specs.Made.{is_bound}
-use Rattle.cv_scope_runs.specs.Phrases.{is_phrase}
-use Rattle.cv_facts.specs.Promises.{sites_in}
-use Rattle.cv_facts.specs.Standing.{standing_at}
-use Rattle.cv_steps.specs.Terms.{is_there}
-use Rattle.cv_derivations.specs.Derivations.{first_bad, first_bad_line}
+use Rattle.cv_scope.specs.Made.{is_bound}
+use Rattle.cv_scope.specs.Phrases.{is_phrase}
+use Rattle.cv_scope.specs.Behind.{sites_in}
+use Rattle.cv_scope.specs.Above.{standing_at}
+use Rattle.cv_scenes.specs.Terms.{is_there}
+use Rattle.cv_scenes.specs.Derivations.{first_bad, first_bad_line}
 use Rattle.cv_derivations.specs.Ends.{ends_with}
 use Rattle.cv_derivations.specs.Given.{with_given}
 use Rattle.cv_derivations.specs.Lines.{lines_of, statements}

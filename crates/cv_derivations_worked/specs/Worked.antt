@@ -8,8 +8,8 @@ use Rattle.cv_syntax.specs.declared.head.Head.TheVariants.{And, Apply, ByAgain, 
 use Rattle.cv_syntax.specs.Builders.{branch, find, input, leaf, output, read}
 use Rattle.cv_syntax.specs.Declarations.{Declaration, Named, Equation}
 use Rattle.cv_syntax.specs.Tree.{Tree, Empty, Node, binders, chain, lone, names}
-use Rattle.cv_steps.specs.Scenes.{Scene}
-use Rattle.cv_derivations.specs.Sights.{Sight, sight_at}
+use Rattle.cv_scenes.specs.Scenes.{Scene}
+use Rattle.cv_scenes.specs.Sights.{Sight, sight_at}
 use Rattle.cv_derivations.specs.Truths.{no, yes}
 
 abbrev pub eq : Tree → Tree → Tree

@@ -3,7 +3,7 @@ use Rattle.std.specs.Prelude.{ℕ, Bool, true, false, ◌||◌, ◌==◌, if◌t
 use Rattle.cv_syntax.specs.declared.head.Head.{Head}
 use Rattle.cv_syntax.specs.declared.head.Head.TheVariants.{Repl, In, New, Let, Branch, Binder, Key, Call}
 use Rattle.cv_syntax.specs.Tree.{Tree, Empty, Node, second}
-pub use Rattle.cv_first_fault.specs.Walk.{first_of}
+pub use Rattle.cv_lists.specs.Options.{first_of}
 use Rattle.cv_directory.specs.declared.sort.Sort.{Sort}
 use Rattle.cv_directory.specs.declared.sort.Sort.TheVariants.{OfType, BelowParameter}
 

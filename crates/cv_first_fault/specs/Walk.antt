@@ -3,10 +3,7 @@ use Rattle.std.specs.Prelude.{◌≡◌, ◌≤◌, ℕ, Option, Some, None}
 use Rattle.std.specs.Option.{IfSome}
 use Rattle.cv_syntax.specs.declared.head.Head.{Head}
 use Rattle.cv_syntax.specs.Tree.{Tree, Empty, Node, first_place, second_place}
-
-abbrev pub first_of : {A : Type 0} → Option A → Option A → Option A
-first_of (Some a) b = Some a
-first_of None b = b
+pub use Rattle.cv_lists.specs.Options.{first_of}
 
 -- A walk: states that are inherited, and kinds of fault.
 pub record Walk (State Fault : Type 0) : Type 1 where

@@ -83,7 +83,7 @@ module _ (g : Setting) (V : Visit → Type 0) (game next : Tree) (z : IsReworded
 
 -- tests that are equal on each tape that is counted have one chance
 
-count_alike : (p q : Tape → Bool) (ts : List Tape) → All (λ t. p t ≡ q t) ts → count_by p ts ≡ count_by q ts
+pub count_alike : (p q : Tape → Bool) (ts : List Tape) → All (λ t. p t ≡ q t) ts → count_by p ts ≡ count_by q ts
 count_alike p q [] e = refl
 count_alike p q (t ∷ ts) e =
     sum_by-cons (λ u. cond (p u) 1 0) t ts

@@ -46,7 +46,7 @@ size_each : {A : Type 0} (f : A → List (Cell × ℕ)) (d : Cell) → ((x : A) 
 size_each f d e [] = refl
 size_each f d e (x ∷ xs) = size_append (f x) (flat_map f xs) d ∙ ap₂ or_else (e x) (size_each f d e xs)
 
-is_in_size : (cs : List (Cell × ℕ)) (d : Cell) → size_in cs d ≡ None → is_in cs d ≡ false
+pub is_in_size : (cs : List (Cell × ℕ)) (d : Cell) → size_in cs d ≡ None → is_in cs d ≡ false
 is_in_size [] d e = refl
 is_in_size (c ∷ cs) d e = go (same_cell c.0 d) e (is_in_size cs d)
   where
@@ -65,7 +65,7 @@ size_filter e d f (c ∷ cs) = go (same_cell c.0 e) refl (size_filter e d f cs)
     go true h k = k ∙ ap (λ b. cond b (Some c.1) (size_in cs d)) (sym (ap (λ z. same_cell z d) (same_cell_exact c.0 e h) ∙ f))
     go false h k = ap (cond (same_cell c.0 d) (Some c.1)) k
 
-size_once : (cs : List (Cell × ℕ)) (d : Cell) → size_in (without_repeats cs) d ≡ size_in cs d
+pub size_once : (cs : List (Cell × ℕ)) (d : Cell) → size_in (without_repeats cs) d ≡ size_in cs d
 size_once [] d = refl
 size_once (c ∷ cs) d = go (same_cell c.0 d) refl (size_once cs d)
   where

@@ -1,5 +1,5 @@
 -- What stays on the way down to a place.
-use Rattle.std.proofs.Common.{◌≡◌, ℕ, ◌+◌, ◌-◌, ◌<◌, ◌≤◌, Bool, true, false, cond, List, [], ◌∷◌, ◌++◌, length, Option, Some, None, refl, sym, ap, ap₂, subst, ◌∙◌, arith, nat_lt, le-ltb, lt-ltb}
+use Rattle.std.proofs.Common.{◌≡◌, ℕ, ◌+◌, ◌-◌, ◌<◌, ◌≤◌, Bool, true, false, cond, List, [], ◌∷◌, ◌++◌, length, Option, Some, None, refl, sym, ap, ap₂, subst, unwrap_or, ◌∙◌, arith, nat_lt, le-ltb, lt-ltb}
 use Rattle.std.specs.Prelude.{All}
 use Rattle.std.proofs.lemmas.List.Elements.{All-pop, All-push, All-same}
 use Rattle.cv_pool.specs.KindTree.{KindTree}
@@ -117,11 +117,19 @@ pub turned-first : (t : Tree) (h : Head) (a b new : Tree) (s : Bool) → t ≡ N
 turned-first t h a b new s e f = sym (ap₂ (λ v u. turned v u new) f e)
 
 -- one node more is made
-pub way-back : (old now new : PoolView) (ws vs : List Turn) (t : Turn) (n r : NodeId) (goal : Tree) → ws ≡ vs ++ t ∷ [] → Grows old now → All (λ (u : Turn). u.node.0 < length old.trees) ws → tree_at new.trees (Some r) ≡ turned t.second (tree_at now.trees (Some t.node)) (tree_at now.trees (Some n)) → led old.trees ws (tree_at now.trees (Some n)) ≡ goal → led old.trees vs (tree_at new.trees (Some r)) ≡ goal
+pub way-back : (old now new : PoolView) (ws vs : List Turn) (t : Turn) (n : Option NodeId) (r : NodeId) (goal : Tree) → ws ≡ vs ++ t ∷ [] → Grows old now → All (λ (u : Turn). u.node.0 < length old.trees) ws → tree_at new.trees (Some r) ≡ turned t.second (tree_at now.trees (Some t.node)) (tree_at now.trees n) → led old.trees ws (tree_at now.trees n) ≡ goal → led old.trees vs (tree_at new.trees (Some r)) ≡ goal
 way-back old now new ws vs t n r goal e g a m i =
     let live : t.node.0 < length old.trees = way-last (length old.trees) ws vs t e a in
-    ap (led old.trees vs) (m ∙ ap (λ u. turned t.second u (tree_at now.trees (Some n))) (child-grown old now (Some t.node) g live))
-    ∙ (sym (led-last old.trees vs t (tree_at now.trees (Some n))) ∙ (ap (λ l. led old.trees l (tree_at now.trees (Some n))) (sym e) ∙ i))
+    ap (led old.trees vs) (m ∙ ap (λ u. turned t.second u (tree_at now.trees n)) (child-grown old now (Some t.node) g live))
+    ∙ (sym (led-last old.trees vs t (tree_at now.trees n)) ∙ (ap (λ l. led old.trees l (tree_at now.trees n)) (sym e) ∙ i))
+
+-- a node that is there
+pub taken : (f : Option NodeId → Tree) (o : Option NodeId) (n r : NodeId) → (o ≡ None → Some n ≡ None) → r ≡ unwrap_or o n → f (Some r) ≡ f o
+taken f None n r k e = absurd (clash (k refl))
+  where
+    clash : Some n ≡ None → ⊥
+    clash g = cc
+taken f (Some m) n r k e = ap (λ i. f (Some i)) e
 
 pub ruleset going = (size-node, size-Empty, empty_at)
 

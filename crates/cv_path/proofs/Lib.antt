@@ -1,3 +1,4 @@
+pub mod Binders
 pub mod Bounds
 pub mod Going
 pub mod Products

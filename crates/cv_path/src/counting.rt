@@ -48,7 +48,7 @@ fn add_parameters(pool: &Pool, product: &mut ArrayVec<u32, 16>, indices: Option<
 
 /// How many syntax nodes stand in the list and in the condition of a branch, behind its indices.
 #[tactic(auto, using(crate::proofs::Products::counting))]
-fn guards(pool: &Pool, behind: Option<NodeId>) -> u32
+pub fn guards(pool: &Pool, behind: Option<NodeId>) -> u32
     requires live { ChildBelow (length pool.now.trees) behind }
     requires fits { tree.size (tree_at pool.now.trees behind) < 2 ^ 32 }
     ensures { result ≡ guards (tree_at pool.now.trees behind) }

@@ -14,7 +14,7 @@ pub enum PathError {
 }
 
 /// How a pool without room ends a replacement.
-pub(crate) fn no_room(fault: PoolError) -> PathError
+pub fn no_room(fault: PoolError) -> PathError
     ensures { result ≡ no_room fault }
 {
     match fault {

@@ -1,7 +1,7 @@
 ghost use Rattle.std.specs.Prelude.{◌≡◌, ◌+◌, ◌<◌, ◌≤◌, ◌^◌, ◌⊎◌, ◌++◌, ◌∷◌, [], All, IfErr, IfOk, IsErrOf, None, OnErr, OnOk, Some, length};
 ghost use Rattle.cv_pool.specs.Nodes.{ChildBelow};
 ghost use Rattle.cv_pool.specs.PoolView.{Grows};
-ghost use Rattle.cv_syntax.specs.Tree.{Node, size, tree_at};
+ghost use Rattle.cv_syntax.specs.Tree.{Node, Tree, size, subtree, tree_at};
 ghost use Rattle.cv_meaning_runs.specs.Replacement.{replaced};
 ghost use Rattle.cv_path.specs.Places.{nodes_above};
 ghost use Rattle.cv_path.specs.Refusals.{no_memory, refusal};
@@ -15,13 +15,20 @@ use std::alloc::Global;
 
 /// A node above a place, and whether the way goes on through its second child.
 #[derive(Clone, Copy, Debug)]
-pub(crate) struct Turn {
-    pub(crate) node: NodeId,
-    pub(crate) second: bool,
+pub struct Turn {
+    pub node: NodeId,
+    pub second: bool,
+}
+
+/// The nodes above a place, from the root on, and the node that stands there.
+#[derive(Drop)]
+pub struct Way {
+    pub turns: Vec<Turn>,
+    pub end: NodeId,
 }
 
 /// Adds a node to a way.
-fn push(way: &mut Vec<Turn>, node: NodeId, second: bool) -> Result<(), PathError>
+pub fn push(way: &mut Vec<Turn>, node: NodeId, second: bool) -> Result<(), PathError>
     ensures ok { OnOk result (way.new.items
         ≡ way.old.items ++ record { node = node; second = second } ∷ []) }
     ensures err { IfErr result (λ e. e ≡ no_memory) }
@@ -32,43 +39,39 @@ fn push(way: &mut Vec<Turn>, node: NodeId, second: bool) -> Result<(), PathError
     }
 }
 
-/// The way down to a place, where the node `by` is to stand.
+/// The way down to a place.
 #[tactic(auto, using(crate::proofs::Going::going))]
-fn way_to(
-    alloc: Global,
-    pool: &Pool,
-    root: NodeId,
-    place: u32,
-    by: NodeId,
-) -> Result<Vec<Turn>, PathError>
+pub fn way_to(alloc: Global, pool: &Pool, root: NodeId, place: u32) -> Result<Way, PathError>
     requires live { root.0 < length pool.now.trees }
     requires fits { size (tree_at pool.now.trees (Some root)) < 2 ^ 32 }
-    ensures leads { IfOk result (λ way. led pool.now.trees way.items
-        (tree_at pool.now.trees (Some by))
-        ≡ replaced (tree_at pool.now.trees (Some root)) place (tree_at pool.now.trees (Some by))) }
-    ensures few { IfOk result (λ way. length way.items ≤ root.0) }
-    ensures long { IfOk result (λ way. length way.items
+    ensures leads { (new : Tree) → IfOk result (λ way. led pool.now.trees way.turns.items new
+        ≡ replaced (tree_at pool.now.trees (Some root)) place new) }
+    ensures end { IfOk result (λ way. subtree (tree_at pool.now.trees (Some root)) place
+        ≡ Some (tree_at pool.now.trees (Some way.end))) }
+    ensures few { IfOk result (λ way. length way.turns.items + way.end.0 ≤ root.0) }
+    ensures long { IfOk result (λ way. length way.turns.items
         ≡ nodes_above (tree_at pool.now.trees (Some root)) place) }
-    ensures live { IfOk result (λ way. All (λ t. t.node.0 < length pool.now.trees) way.items) }
+    ensures live { IfOk result (λ way. All (λ t. t.node.0 < length pool.now.trees)
+        way.turns.items) }
     ensures place { OnOk result (place < size (tree_at pool.now.trees (Some root))) }
     ensures refused { (e : PathError) → IsErrOf result e
         → (e ≡ no_memory) ⊎ ((e ≡ PathError.NoSuchPlace)
         × (size (tree_at pool.now.trees (Some root)) ≤ place)) }
 {
-    let mut way = Vec::new(alloc);
+    let mut turns = Vec::new(alloc);
     let mut at = Some(root);
     let mut left = place;
     'down: while let Some(n) = at {
         let node = read_node(pool, n);
         match place_in(pool, node, left) {
-            Lies::Here => return Ok(way),
+            Lies::Here => return Ok(Way { turns, end: n }),
             Lies::Within(rest) => {
-                push(&mut way, n, false)?;
+                push(&mut turns, n, false)?;
                 at = node.first;
                 left = rest;
             }
             Lies::Behind(rest) => {
-                push(&mut way, n, true)?;
+                push(&mut turns, n, true)?;
                 at = node.second;
                 left = rest;
             }
@@ -95,13 +98,13 @@ fn join(pool: &mut Pool, head: Head, first: Option<NodeId>, second: Option<NodeI
 
 /// A node of a way once more, with another child.
 #[tactic(auto, using(cv_pool::proofs::Growth::growth, crate::proofs::Going::turning))]
-fn turned(pool: &mut Pool, turn: Turn, new: NodeId) -> NodeId
+fn turned(pool: &mut Pool, turn: Turn, new: Option<NodeId>) -> NodeId
     requires spare { 0 < pool.old.spare }
     requires node { turn.node.0 < length pool.old.trees }
-    requires new { new.0 < length pool.old.trees }
+    requires new { ChildBelow (length pool.old.trees) new }
     ensures tree { tree_at pool.new.trees (Some result)
         ≡ turned turn.second (tree_at pool.old.trees (Some turn.node))
-        (tree_at pool.old.trees (Some new)) }
+        (tree_at pool.old.trees new) }
     ensures live { result.0 < length pool.new.trees }
     ensures grows { Grows pool.old pool.new }
     ensures spare { pool.old.spare ≤ pool.new.spare + 1 }
@@ -109,28 +112,29 @@ fn turned(pool: &mut Pool, turn: Turn, new: NodeId) -> NodeId
 {
     let node = read_node(pool, turn.node);
     if turn.second {
-        join(pool, node.head, node.first, Some(new))
+        join(pool, node.head, node.first, new)
     } else {
-        join(pool, node.head, Some(new), node.second)
+        join(pool, node.head, new, node.second)
     }
 }
 
-/// The nodes of a way once more, with another node at its end.
+/// The nodes of a way once more, with another node, or none, at its end.
 #[tactic(auto, using(cv_pool::proofs::Growth::growth))]
-fn rebuilt(pool: &mut Pool, way: Vec<Turn>, by: NodeId) -> NodeId
+pub fn rebuilt(pool: &mut Pool, way: Vec<Turn>, by: Option<NodeId>) -> Option<NodeId>
     requires spare { length way.items ≤ pool.old.spare }
     requires way { All (λ t. t.node.0 < length pool.old.trees) way.items }
-    requires by { by.0 < length pool.old.trees }
-    ensures tree { tree_at pool.new.trees (Some result)
-        ≡ led pool.old.trees way.items (tree_at pool.old.trees (Some by)) }
-    ensures live { result.0 < length pool.new.trees }
+    requires by { ChildBelow (length pool.old.trees) by }
+    ensures tree { tree_at pool.new.trees result
+        ≡ led pool.old.trees way.items (tree_at pool.old.trees by) }
+    ensures live { ChildBelow (length pool.new.trees) result }
+    ensures none { result ≡ None → by ≡ None }
     ensures grows { Grows pool.old pool.new }
     ensures few { length pool.new.trees ≤ length pool.old.trees + length way.items }
 {
     let mut left = way;
     let mut new = by;
     'up: while let Some(turn) = left.pop() {
-        new = turned(pool, turn, new);
+        new = Some(turned(pool, turn, new));
     }
     new
 }
@@ -160,9 +164,9 @@ pub fn replace(
     ensures few { OnOk result (length pool.new.trees
         ≤ length pool.old.trees + nodes_above (tree_at pool.old.trees (Some root)) place) }
 {
-    let way = way_to(alloc, pool, root, place, by)?;
-    match pool.reserve(way.len() as u32) {
-        Ok(()) => Ok(rebuilt(pool, way, by)),
+    let way = way_to(alloc, pool, root, place)?;
+    match pool.reserve(way.turns.len() as u32) {
+        Ok(()) => Ok(rebuilt(pool, way.turns, Some(by)).unwrap_or(by)),
         Err(fault) => Err(no_room(fault)),
     }
 }

@@ -11,3 +11,7 @@ pub mod Held
 pub mod Ordered
 pub mod Places
 pub mod Branches
+pub mod Phrases
+pub mod Made
+pub mod Behind
+pub mod Above

@@ -17,7 +17,7 @@ use Rattle.cv_scope.specs.Scope.{IsScopedAt, IsScoped, names_of}
 use Rattle.cv_scope.specs.Standing.{Standing, at_root, first_standing, second_standing}
 use Rattle.cv_scope.specs.Branches.{Pairs}
 use Rattle.cv_scope.proofs.Apart.{IsApart, IsBefore, before-first, before-second, past-end, stand-apart}
-use Rattle.cv_scope_runs.specs.Made.{is_bound}
+use Rattle.cv_scope.specs.Made.{is_bound}
 
 -- the variables of a list of binders are distinct
 abbrev pub AreDistinct : Tree → Type 0

@@ -18,8 +18,8 @@ use Rattle.cv_scope.specs.Sites.{SiteName, Variable, Label}
 use Rattle.cv_scope.specs.Branches.{Pairs, IsApartByBranches}
 use Rattle.cv_scope.proofs.Pairs.{pairs-append}
 use Rattle.cv_scope.proofs.Apart.{game-branches}
-use Rattle.cv_scope_runs.specs.Phrases.{is_plain, IsWellFormed, IsWellFormedContext}
-use Rattle.cv_scope_runs.specs.Made.{is_bound, is_own_at, is_own_of, made_at, MakeApart, AssignsNew, OwnUnassigned}
+use Rattle.cv_scope.specs.Phrases.{is_plain, IsWellFormed, IsWellFormedContext}
+use Rattle.cv_scope.specs.Made.{is_bound, is_own_at, is_own_of, made_at, MakeApart, AssignsNew, OwnUnassigned}
 use Rattle.cv_scope_runs.proofs.Plain.{game_context, game_plain, VisitPlain, visits_plain}
 use Rattle.cv_scope_runs.proofs.OnceRuns.{Has, made_has}
 use Rattle.cv_scope_runs.proofs.OnceGames.{MakesName, names_at, made_once}

@@ -21,9 +21,9 @@ use Rattle.cv_scope.specs.Branches.{Pairs}
 use Rattle.cv_scope.proofs.Apart.{game-branches}
 use Rattle.cv_scope.specs.declared.position.Position.TheVariants.{Anywhere}
 use Rattle.cv_scope.specs.Context.{nothing_known}
-use Rattle.cv_scope_runs.specs.Phrases.{Phrase, Inputs, Body, Branches, Arm, Message, Binders, Cells, is_oracle_phrase, binds_none, IsWellFormedContext, HasConstantsOf}
+use Rattle.cv_scope.specs.Phrases.{Phrase, Inputs, Body, Branches, Arm, Message, Binders, Cells, is_oracle_phrase, binds_none, IsWellFormedContext, HasConstantsOf}
 use Rattle.cv_scope_runs.specs.Reads.{IsKept, TermsAssigned, ReadsAssigned, VisitReadsAssigned, BranchAssigned, BranchesAssigned}
-use Rattle.cv_scope_runs.specs.Made.{is_bound}
+use Rattle.cv_scope.specs.Made.{is_bound}
 use Rattle.cv_scope_runs.specs.Indexed.{HasValuesBelow, StateHasValuesBelow, VisitHasValuesBelow, head_indexes, is_index_below}
 use Rattle.cv_scope_runs.specs.Promises.{GrowsToEnd, VisitsGrow, ContextHolds, HoldsFrom, PlaceHolds, InputHolds, in_list, in_condition, in_body, TuplesHold, BranchesHold, FindHolds, CandidatesHold, after_site, IsDefinition, HoldsAt, CellsHold, OneDefinitionHolds, VisitCellsHold}
 use Rattle.cv_scope_runs.proofs.Asked.{Asked, AreDistinct, game_asked}

@@ -16,7 +16,7 @@ use Rattle.cv_meaning_laws.proofs.Lists.{each_append}
 use Rattle.cv_scope.specs.Sites.{SiteName, Variable}
 use Rattle.cv_scope.specs.Branches.{Pairs, IsApartByBranches}
 use Rattle.cv_meaning_runs.proofs.Lists.{all_both, left_part}
-use Rattle.cv_scope_runs.specs.Made.{is_bound, made_at}
+use Rattle.cv_scope.specs.Made.{is_bound, made_at}
 use Rattle.cv_scope_runs.proofs.OnceRuns.{Has, VisitsApart, nothing_twice}
 use Rattle.cv_scope_runs.proofs.OnceGames.{MakesName, names_single, names_at, or_left, or_right}
 

@@ -13,8 +13,8 @@ use Rattle.cv_scope.specs.Context.{Context, nothing_known}
 use Rattle.cv_scope.specs.Sites.{Variable}
 use Rattle.cv_scope.specs.Scope.{is_untyped_here, is_untyped_in, is_variable}
 use Rattle.cv_scope.specs.Branches.{IsApartByBranches}
-use Rattle.cv_scope_runs.specs.Phrases.{Phrase, Inputs, oracle_parts, both_are, is_oracle_phrase, head_binds_none, binds_none}
-use Rattle.cv_scope_runs.specs.Made.{is_bound, made_by}
+use Rattle.cv_scope.specs.Phrases.{Phrase, Inputs, oracle_parts, both_are, is_oracle_phrase, head_binds_none, binds_none}
+use Rattle.cv_scope.specs.Made.{is_bound, made_by}
 use Rattle.cv_scope_runs.proofs.Asked.{Asked}
 use Rattle.cv_scope_runs.proofs.OnceGames.{or_left, or_right}
 use Rattle.cv_scope_runs.proofs.Rows.{position_of, placed}

@@ -26,8 +26,8 @@ use Rattle.cv_scope.specs.Context.{Context, replications_below}
 use Rattle.cv_scope.specs.Scope.{is_untyped_in, is_variable}
 use Rattle.cv_scope.specs.Sites.{Variable}
 use Rattle.cv_scope.proofs.Apart.{first-replications, second-replications}
-use Rattle.cv_scope_runs.specs.Phrases.{Phrase, Nil, Inputs, oracle_parts, is_oracle_phrase, IsWellFormedContext, HasConstantsOf}
-use Rattle.cv_scope_runs.specs.Made.{made_by}
+use Rattle.cv_scope.specs.Phrases.{Phrase, Nil, Inputs, oracle_parts, is_oracle_phrase, IsWellFormedContext, HasConstantsOf}
+use Rattle.cv_scope.specs.Made.{made_by}
 use Rattle.cv_scope_runs.specs.Keys.{HasOwnCells, calls_read_keys, has_keys_alone, head_keys, head_reads_key, is_key_of, reads_key}
 use Rattle.cv_scope_runs.specs.Promises.{AreIndicesOf, after_site}
 use Rattle.cv_scope_runs.specs.Reads.{LeafAssigned, TermsAssigned, VisitReadsAssigned}

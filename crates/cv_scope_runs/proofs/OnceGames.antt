@@ -13,7 +13,7 @@ use Rattle.cv_scope.specs.Context.{first_position, second_position, replications
 use Rattle.cv_scope.specs.Sites.{Site, SiteName, Variable, Channel, Label, sites_here, sites_from, channel_here, variable_sites}
 use Rattle.cv_scope.specs.Branches.{Pairs, Each, HasOtherName, AreInDifferentBranches, IsApartByBranches}
 use Rattle.cv_scope.proofs.Pairs.{pairs-weaker}
-use Rattle.cv_scope_runs.specs.Made.{is_bound, made_by, made_at, MakeApart}
+use Rattle.cv_scope.specs.Made.{is_bound, made_by, made_at, MakeApart}
 use Rattle.cv_scope_runs.proofs.OnceRuns.{Has, Single, first_apart, makes_at, made_has, VisitsApart, nothing_twice}
 
 pub or_left : (a b : Bool) → a ≡ true → (a || b) ≡ true

@@ -13,7 +13,7 @@ use Rattle.cv_meaning.specs.Runs.{Mode, Answer, Move, run_visits, start}
 use Rattle.cv_meaning.specs.Experiments.{visits_of_run}
 use Rattle.cv_meaning_runs.specs.Listed.{head_is_no_call, has_no_calls}
 use Rattle.cv_meaning_runs.proofs.Placed.{visits_have}
-use Rattle.cv_scope_runs.specs.Phrases.{Phrase, Nil, Inputs, Body, parts, both_are, is_phrase, oracle_parts, is_oracle_phrase, head_is_plain, is_plain, IsWellFormed, IsWellFormedContext}
+use Rattle.cv_scope.specs.Phrases.{Phrase, Nil, Inputs, Body, parts, both_are, is_phrase, oracle_parts, is_oracle_phrase, head_is_plain, is_plain, IsWellFormed, IsWellFormedContext}
 
 no_key : (σ : Phrase) (x : ℕ) → parts σ (Key x) ≡ None
 no_key Nil x = refl

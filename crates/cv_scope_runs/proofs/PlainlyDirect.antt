@@ -27,7 +27,7 @@ use Rattle.cv_scope.specs.declared.position.Position.TheVariants.{Bodies, ElseBo
 use Rattle.cv_scope.specs.Context.{Context, first_context, second_context, item_context, rest_context}
 use Rattle.cv_scope.specs.Rules.{is_index}
 use Rattle.cv_scope.specs.Scope.{is_variable}
-use Rattle.cv_scope_runs.specs.Phrases.{Phrase, head_binds_none, binds_none, head_is_plain, is_plain, IsWellFormed, HasConstantsOf}
+use Rattle.cv_scope.specs.Phrases.{Phrase, head_binds_none, binds_none, head_is_plain, is_plain, IsWellFormed, HasConstantsOf}
 use Rattle.cv_scope_runs.proofs.Plain.{game_context, game_plain}
 use Rattle.cv_scope_runs.proofs.TermsLater.{LeafReads, index, constant, cell}
 use Rattle.cv_scope_runs.proofs.Contexts.{Matches, Holds, index_none}

@@ -6,7 +6,7 @@ use Rattle.cv_syntax.specs.declared.head.Head.TheVariants.{Stop, Yield, Par, Rep
 use Rattle.cv_scope.specs.declared.position.Position.{Position}
 use Rattle.cv_scope.specs.declared.position.Position.TheVariants as position
 use Rattle.cv_scope.specs.Context.{first_position, second_position}
-use Rattle.cv_scope_runs.specs.Phrases.{Phrase, Nil, Inputs, Body, Then, Else, Branches, Arm, Guards, Guarded, Pattern, Message, Indices, Binders, Cells, OneCell, Terms, Term, oracle_parts}
+use Rattle.cv_scope.specs.Phrases.{Phrase, Nil, Inputs, Body, Then, Else, Branches, Arm, Guards, Guarded, Pattern, Message, Indices, Binders, Cells, OneCell, Terms, Term, oracle_parts}
 
 abbrev pub position_of : Phrase → Position
 position_of Then = position.Bodies

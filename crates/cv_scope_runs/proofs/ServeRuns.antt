@@ -17,7 +17,7 @@ use Rattle.cv_meaning_runs.proofs.Lists.{all_map, all_cross, left_part, right_pa
 use Rattle.cv_scope.specs.Context.{Context, nothing_known}
 use Rattle.cv_scope.specs.Branches.{Pairs}
 use Rattle.cv_scope.proofs.Pairs.{pairs-append}
-use Rattle.cv_scope_runs.specs.Phrases.{Phrase, Inputs}
+use Rattle.cv_scope.specs.Phrases.{Phrase, Inputs}
 use Rattle.cv_scope_runs.specs.Promises.{GrowsTo, VisitsGrow}
 use Rattle.cv_scope_runs.proofs.FreshRuns.{IsClear, visits_clear}
 use Rattle.cv_scope_runs.proofs.Contexts.{Matches, Holds}

@@ -7,8 +7,8 @@ use Rattle.cv_syntax.specs.Tree.{Tree, Empty, Node, size, first_place, second_pl
 use Rattle.cv_scope.specs.declared.position.Position.{Position}
 use Rattle.cv_scope.specs.Context.{Context, nothing_known, first_position, second_position, first_context, second_context, context_at, known_at}
 use Rattle.cv_scope.specs.Sites.{Variable}
-use Rattle.cv_scope_runs.specs.Phrases.{Phrase, Inputs, oracle_parts}
-use Rattle.cv_scope_runs.specs.Made.{made_by}
+use Rattle.cv_scope.specs.Phrases.{Phrase, Inputs, oracle_parts}
+use Rattle.cv_scope.specs.Made.{made_by}
 use Rattle.cv_scope_runs.specs.Promises.{after_site, definitions_in, definitions_of, IsDefinition}
 use Rattle.cv_scope_runs.proofs.Rows.{position_of, placed}
 

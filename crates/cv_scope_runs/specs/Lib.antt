@@ -1,6 +1,4 @@
-pub mod Phrases
 pub mod Reads
-pub mod Made
 pub mod Indexed
 pub mod Keys
 pub mod Promises

@@ -17,7 +17,7 @@ use Rattle.cv_scope.specs.declared.position.Position.TheVariants as position
 use Rattle.cv_scope.specs.declared.position.Position.{Position}
 use Rattle.cv_scope.specs.Context.{Context, nothing_known, cells_of, first_position, second_position, first_context, second_context, known_at}
 use Rattle.cv_scope.specs.Sites.{Variable}
-use Rattle.cv_scope_runs.specs.Made.{made_by}
+use Rattle.cv_scope.specs.Made.{made_by}
 use Rattle.cv_scope_runs.specs.Reads.{IsKept}
 
 abbrev pub IsRecorded : Happened → List Happened → Type 0

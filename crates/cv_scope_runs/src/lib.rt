@@ -35,7 +35,7 @@ ghost use Rattle.cv_scope_runs.specs.Worked.{
   two_values,
   caller,
 };
-ghost use Rattle.cv_scope_runs.specs.Phrases.{
+ghost use Rattle.cv_scope.specs.Phrases.{
   Inputs,
   is_phrase,
   is_plain,
@@ -51,7 +51,7 @@ ghost use Rattle.cv_scope_runs.specs.Indexed.{
 };
 ghost use Rattle.cv_scope_runs.specs.Keys.{HasOwnCells, calls_read_keys};
 ghost use Rattle.cv_scope_runs.specs.Reads.{VisitReadsAssigned};
-ghost use Rattle.cv_scope_runs.specs.Made.{MakeApart, AssignsNew, OwnUnassigned};
+ghost use Rattle.cv_scope.specs.Made.{MakeApart, AssignsNew, OwnUnassigned};
 ghost use Rattle.cv_scope_runs.specs.Promises.{
   VisitsGrow,
   GrowsToEnd,

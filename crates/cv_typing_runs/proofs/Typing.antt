@@ -11,7 +11,7 @@ use Rattle.cv_meaning.specs.Interpretation.{is_constant_of}
 use Rattle.cv_meaning_adequacy.specs.Typed as meaning
 use Rattle.cv_meaning_adequacy.specs.Typed.{AreBranches, AreVariables, HasSort, HaveSomeSorts, HasTypedRestrictions, IsVariable, Scope, parameter_in, IsTyped as MeansTyped}
 use Rattle.cv_scope.specs.Sites.{channel_here, sites_from, sites_here, variable_sites}
-use Rattle.cv_scope_runs.specs.Phrases.{Phrase, Arm, Binders, Body, Branches as BranchesPhrase, Cells, Else, Guarded as GuardedPhrase, Guards, Indices, Inputs, Message as MessagePhrase, Nil, OneCell, Pattern, Term, Terms, Then, binds_none, is_phrase}
+use Rattle.cv_scope.specs.Phrases.{Phrase, Arm, Binders, Body, Branches as BranchesPhrase, Cells, Else, Guarded as GuardedPhrase, Guards, Indices, Inputs, Message as MessagePhrase, Nil, OneCell, Pattern, Term, Terms, Then, binds_none, is_phrase}
 use Rattle.cv_typing.specs.declared.form.Form.TheVariants.{InProcess}
 use Rattle.cv_typing.specs.declared.precedence.Precedence.TheVariants.{First}
 use Rattle.cv_directory.specs.declared.sort.Sort.{Sort}

@@ -12,7 +12,7 @@ use Rattle.cv_scope.specs.Sites.{sites_from}
 use Rattle.cv_scope.specs.Standing.{at_root}
 use Rattle.cv_scope.specs.Scope.{is_untyped_in, names_of}
 use Rattle.cv_scope.proofs.First.{scoped_where_none}
-use Rattle.cv_scope_runs.specs.Phrases.{is_phrase, binds_none, IsWellFormed}
+use Rattle.cv_scope.specs.Phrases.{is_phrase, binds_none, IsWellFormed}
 use Rattle.cv_meaning_adequacy.specs.Typed.{BelowParameter, HasSort, HaveSorts, IsDeclared, IsTyped, OfType}
 use Rattle.cv_meaning_adequacy.proofs.Lists.{has_contains}
 use Rattle.cv_typing_runs.specs.Games.{AreDeclared, HasArguments, HasDeclaredSorts, HasKnownNames, are_known, context_of, HasConstants, HasNamedFunctionsAndCells, are_named}

@@ -17,7 +17,7 @@ use Rattle.cv_scope.specs.Standing.{at_root}
 use Rattle.cv_scope.specs.Scope.{is_untyped_in, names_of, IsScoped}
 use Rattle.cv_scope.specs.Worked.{constants}
 use Rattle.cv_scope.proofs.First.{scoped_where_none, none_where_scoped}
-use Rattle.cv_scope_runs.specs.Phrases.{is_phrase, binds_none}
+use Rattle.cv_scope.specs.Phrases.{is_phrase, binds_none}
 use Rattle.cv_scope_runs.specs.Worked.{assigned_again, constant_captured}
 use Rattle.cv_scope_runs.proofs.scope_and_constants_are_needed.Goals as goal
 

@@ -11,7 +11,7 @@ use Rattle.cv_scope.specs.Standing.{at_root}
 use Rattle.cv_scope.specs.Scope.{is_untyped_in, names_of}
 use Rattle.cv_scope.specs.Worked.{cell_found, constants, finds}
 use Rattle.cv_scope.proofs.First.{scoped_where_none}
-use Rattle.cv_scope_runs.specs.Phrases.{Inputs, is_phrase, is_oracle_phrase, binds_none, IsWellFormed}
+use Rattle.cv_scope.specs.Phrases.{Inputs, is_phrase, is_oracle_phrase, binds_none, IsWellFormed}
 use Rattle.cv_scope_runs.specs.Worked.{begun_before, begun_query, keyed, sessions, told_before, told_query, told}
 use Rattle.cv_meaning.specs.Direct.{IsPlainlyDirect}
 use Rattle.cv_scope_runs.proofs.PlainlyDirect.{plainly_at_most}

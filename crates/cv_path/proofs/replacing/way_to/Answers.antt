@@ -4,7 +4,7 @@ use Rattle.cv_syntax.specs.Tree.{size, tree_at}
 use Rattle.cv_syntax.proofs.Walking.{size-node, above-some}
 use Rattle.cv_meaning_runs.specs.Replacement.{replaced}
 use Rattle.cv_path.specs.Ways.{led, turned as turned-by}
-use Rattle.cv_path.proofs.Going.{replaced-here, replaced-within, replaced-behind, above-here, above-within, above-behind, above-below, live-at, turn-of, way-goes, way-live}
+use Rattle.cv_path.proofs.Going.{subtree-here, subtree-within, subtree-behind, replaced-here, replaced-within, replaced-behind, above-here, above-within, above-behind, above-below, live-at, turn-of, way-goes, way-live}
 use Rattle.cv_path.proofs.replacing.way_to.Goals as goal
 
 pub place_in-requires-clause-fits : goal.place_in-requires-clause-fits
@@ -18,7 +18,18 @@ returns-in-Here-clause-leads c =
     let trees = c.args.pool.now.trees in
     let node = c.read_node-node.result in
     let e = ap (tree_at trees) c.in-Some.is ∙ c.read_node-node.ensures.tree in
-    ap (led trees c.down.way.items) (sym (replaced-here (tree_at trees c.down.at) node.head (tree_at trees node.first) (tree_at trees node.second) c.down.left 0 e (tree_at trees (Some c.args.by)) c.in-Here.ensures)) ∙ c.down.invariant.leads
+    λ new.
+    ap (led trees c.down.turns.items) (sym (replaced-here (tree_at trees c.down.at) node.head (tree_at trees node.first) (tree_at trees node.second) c.down.left 0 e new c.in-Here.ensures)) ∙ c.down.invariant.leads new
+
+pub returns-in-Here-clause-end : goal.returns-in-Here-clause-end
+returns-in-Here-clause-end c =
+    let trees = c.args.pool.now.trees in
+    let node = c.read_node-node.result in
+    let e = ap (tree_at trees) c.in-Some.is ∙ c.read_node-node.ensures.tree in
+    sym c.down.invariant.end ∙ (subtree-here (tree_at trees c.down.at) node.head (tree_at trees node.first) (tree_at trees node.second) c.down.left 0 e c.in-Here.ensures ∙ ap (λ o. Some (tree_at trees o)) c.in-Some.is)
+
+pub returns-in-Here-clause-few : goal.returns-in-Here-clause-few
+returns-in-Here-clause-few c = omega (arith, c.down.invariant.few, above-some c.down.at c.in-Some.n c.in-Some.is)
 
 pub returns-in-Here-clause-long : goal.returns-in-Here-clause-long
 returns-in-Here-clause-long c =
@@ -42,17 +53,17 @@ down-preserved-in-Within c =
     let t = tree_at trees c.down.at in
     let a = tree_at trees node.first in
     let b = tree_at trees node.second in
-    let new = tree_at trees (Some c.args.by) in
     let e = ap (tree_at trees) c.in-Some.is ∙ c.read_node-node.ensures.tree in
     let n : size t ≡ weight node.head + size a + size b = size-node t node.head a b e in
     let turned = turn-of c.in-Some.n false in
     record {
       live = search rules;
       within = omega arith;
-      leads = way-goes trees c.down.way.items c.push.new.way.items turned false (replaced a c.in-Within.rest new) (replaced t c.down.left new) _ c.in_ok-push-in-Within.ensures.ok refl (ap (λ u. turned-by false u (replaced a c.in-Within.rest new)) (sym (ap (tree_at trees) c.in-Some.is)) ∙ replaced-within t node.head a b c.down.left c.in-Within.rest e new c.in-Within.ensures) c.down.invariant.leads;
-      long = omega (arith, c.down.invariant.long, ap length c.in_ok-push-in-Within.ensures.ok, length-append c.down.way.items (turned ∷ []), above-within t node.head a b c.down.left c.in-Within.rest e c.in-Within.ensures);
-      few = let p = ap length c.in_ok-push-in-Within.ensures.ok in let q = length-append c.down.way.items (turned ∷ []) in omega (arith, p, q, c.down.invariant.few, above-some c.down.at c.in-Some.n c.in-Some.is, above-below node.first c.in-Some.n.0 c.read_node-node.ensures.first);
-      nodes = way-live (length trees) c.down.way.items c.push.new.way.items turned c.in_ok-push-in-Within.ensures.ok (live-at (length trees) c.args.root.0 c.down.at c.in-Some.n c.in-Some.is c.down.invariant.live c.requires.live) c.down.invariant.nodes;
+      leads = λ new. way-goes trees c.down.turns.items c.push.new.way.items turned false (replaced a c.in-Within.rest new) (replaced t c.down.left new) _ c.in_ok-push-in-Within.ensures.ok refl (ap (λ u. turned-by false u (replaced a c.in-Within.rest new)) (sym (ap (tree_at trees) c.in-Some.is)) ∙ replaced-within t node.head a b c.down.left c.in-Within.rest e new c.in-Within.ensures) (c.down.invariant.leads new);
+      end = sym (subtree-within t node.head a b c.down.left c.in-Within.rest e c.in-Within.ensures) ∙ c.down.invariant.end;
+      long = omega (arith, c.down.invariant.long, ap length c.in_ok-push-in-Within.ensures.ok, length-append c.down.turns.items (turned ∷ []), above-within t node.head a b c.down.left c.in-Within.rest e c.in-Within.ensures);
+      few = let p = ap length c.in_ok-push-in-Within.ensures.ok in let q = length-append c.down.turns.items (turned ∷ []) in omega (arith, p, q, c.down.invariant.few, above-some c.down.at c.in-Some.n c.in-Some.is, above-below node.first c.in-Some.n.0 c.read_node-node.ensures.first);
+      nodes = way-live (length trees) c.down.turns.items c.push.new.way.items turned c.in_ok-push-in-Within.ensures.ok (live-at (length trees) c.args.root.0 c.down.at c.in-Some.n c.in-Some.is c.down.invariant.live c.requires.live) c.down.invariant.nodes;
       there = λ m. c.down.invariant.there (omega (arith, m, c.in-Within.ensures.0, c.in-Within.ensures.1));
       not_there = λ m. c.down.invariant.not_there (omega (arith, m, c.in-Within.ensures.0, c.in-Within.ensures.1));
     }
@@ -64,17 +75,17 @@ down-preserved c =
     let t = tree_at trees c.down.at in
     let a = tree_at trees node.first in
     let b = tree_at trees node.second in
-    let new = tree_at trees (Some c.args.by) in
     let e = ap (tree_at trees) c.in-Some.is ∙ c.read_node-node.ensures.tree in
     let n : size t ≡ weight node.head + size a + size b = size-node t node.head a b e in
     let turned = turn-of c.in-Some.n true in
     record {
       live = search rules;
       within = omega arith;
-      leads = way-goes trees c.down.way.items c.push-in-Behind.new.way.items turned true (replaced b c.in-Behind.rest new) (replaced t c.down.left new) _ c.in_ok-push-in-Behind.ensures.ok refl (ap (λ u. turned-by true u (replaced b c.in-Behind.rest new)) (sym (ap (tree_at trees) c.in-Some.is)) ∙ replaced-behind t node.head a b c.down.left c.in-Behind.rest e new c.in-Behind.ensures) c.down.invariant.leads;
-      long = omega (arith, c.down.invariant.long, ap length c.in_ok-push-in-Behind.ensures.ok, length-append c.down.way.items (turned ∷ []), above-behind t node.head a b c.down.left c.in-Behind.rest e c.in-Behind.ensures);
-      few = let p = ap length c.in_ok-push-in-Behind.ensures.ok in let q = length-append c.down.way.items (turned ∷ []) in omega (arith, p, q, c.down.invariant.few, above-some c.down.at c.in-Some.n c.in-Some.is, above-below node.second c.in-Some.n.0 c.read_node-node.ensures.second);
-      nodes = way-live (length trees) c.down.way.items c.push-in-Behind.new.way.items turned c.in_ok-push-in-Behind.ensures.ok (live-at (length trees) c.args.root.0 c.down.at c.in-Some.n c.in-Some.is c.down.invariant.live c.requires.live) c.down.invariant.nodes;
+      leads = λ new. way-goes trees c.down.turns.items c.push-in-Behind.new.way.items turned true (replaced b c.in-Behind.rest new) (replaced t c.down.left new) _ c.in_ok-push-in-Behind.ensures.ok refl (ap (λ u. turned-by true u (replaced b c.in-Behind.rest new)) (sym (ap (tree_at trees) c.in-Some.is)) ∙ replaced-behind t node.head a b c.down.left c.in-Behind.rest e new c.in-Behind.ensures) (c.down.invariant.leads new);
+      end = sym (subtree-behind t node.head a b c.down.left c.in-Behind.rest e c.in-Behind.ensures) ∙ c.down.invariant.end;
+      long = omega (arith, c.down.invariant.long, ap length c.in_ok-push-in-Behind.ensures.ok, length-append c.down.turns.items (turned ∷ []), above-behind t node.head a b c.down.left c.in-Behind.rest e c.in-Behind.ensures);
+      few = let p = ap length c.in_ok-push-in-Behind.ensures.ok in let q = length-append c.down.turns.items (turned ∷ []) in omega (arith, p, q, c.down.invariant.few, above-some c.down.at c.in-Some.n c.in-Some.is, above-below node.second c.in-Some.n.0 c.read_node-node.ensures.second);
+      nodes = way-live (length trees) c.down.turns.items c.push-in-Behind.new.way.items turned c.in_ok-push-in-Behind.ensures.ok (live-at (length trees) c.args.root.0 c.down.at c.in-Some.n c.in-Some.is c.down.invariant.live c.requires.live) c.down.invariant.nodes;
       there = λ m. c.down.invariant.there (omega (arith, m, c.in-Behind.ensures));
       not_there = λ m. c.down.invariant.not_there (omega (arith, m, c.in-Behind.ensures));
     }

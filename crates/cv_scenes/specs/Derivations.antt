@@ -7,8 +7,8 @@ use Rattle.cv_directory.specs.Sites.{first_of}
 use Rattle.cv_derivations.specs.Ends.{ends_in, ends_with}
 use Rattle.cv_derivations.specs.Inferences.{Visible}
 use Rattle.cv_derivations.specs.Lines.{Lines, End, By, Cases, Statement, Holds, count, lines_of, statements}
-use Rattle.cv_derivations.specs.Reasons.{is_right}
-use Rattle.cv_derivations.specs.Sights.{Sight, is_condition}
+use Rattle.cv_scenes.specs.Reasons.{is_right}
+use Rattle.cv_scenes.specs.Sights.{Sight, is_condition}
 
 -- with one line more
 abbrev pub with_line : Visible → ℕ → Statement → Visible

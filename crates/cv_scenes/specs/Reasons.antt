@@ -12,11 +12,11 @@ use Rattle.cv_directory.specs.declared.sort.Sort.TheVariants.{OfType}
 use Rattle.cv_typing.specs.Signature.{declaration_of}
 use Rattle.cv_scope.specs.Context.{items}
 use Rattle.cv_scope.specs.Rules.{is_index}
-use Rattle.cv_steps.specs.Terms.{replications_at}
+use Rattle.cv_scenes.specs.Terms.{replications_at}
 use Rattle.cv_derivations.specs.Given.{with_given}
 use Rattle.cv_derivations.specs.Inferences.{Visible, are_equal_by, cited_cell, equations_of, is_both, is_left, is_refuted, is_reflexive, is_replaced_by, is_right_side, is_symmetric, is_transitive, number_of, cited_term}
 use Rattle.cv_derivations.specs.Lines.{Statement, Holds, IsDefined}
-use Rattle.cv_derivations.specs.Sights.{Sight, from_one, is_term_of, is_typed, site_cells, site_facts}
+use Rattle.cv_scenes.specs.Sights.{Sight, from_one, is_term_of, is_typed, site_cells, site_facts}
 use Rattle.cv_derivations.specs.Truths.{is_truth, no}
 
 -- there is a tree, and this is it
