@@ -11,20 +11,20 @@ use Rattle.cv_meaning.specs.Memory.{Indices, Store}
 use Rattle.cv_meaning.specs.Satisfies.{Satisfies}
 use Rattle.cv_meaning.specs.Terms.{bit, is_one, value}
 use Rattle.cv_meaning_adequacy.specs.Typed.{HasSort}
-use Rattle.cv_scope_runs.specs.Phrases.{IsWellFormed}
+use Rattle.cv_scope.specs.Phrases.{IsWellFormed}
 use Rattle.cv_directory.specs.Sites.{first_of}
 use Rattle.cv_first_fault.proofs.First.{none_first}
 use Rattle.cv_typing.specs.Signature as typing
 use Rattle.cv_typing.specs.Signature.{sort_of}
 use Rattle.cv_typing_runs.specs.Games.{HasArguments, sort_of_meaning}
-use Rattle.cv_steps.specs.Terms.{above_at, is_term_at, signature_in}
-use Rattle.cv_derivations.specs.Derivations.{first_bad, first_bad_line, is_right_split, nothing_visible, unless, with_line}
+use Rattle.cv_scenes.specs.Terms.{above_at, is_term_at, signature_in}
+use Rattle.cv_scenes.specs.Derivations.{first_bad, first_bad_line, is_right_split, nothing_visible, unless, with_line}
 use Rattle.cv_derivations.specs.Ends.{ends_in, same_statement}
 use Rattle.cv_derivations.specs.Inferences.{Visible, number_of, cited_term}
 use Rattle.cv_derivations.specs.Lines.{Lines, End, By, Cases, Statement, Holds, IsDefined, count, lines_of, statements}
-use Rattle.cv_derivations.specs.Reasons.{is_reason, is_right}
-use Rattle.cv_derivations.specs.Sights.{Sight, is_condition, is_typed}
-use Rattle.cv_derivations_laws.specs.Truth.{HasClosedEquations, IsReached, IsTrue}
+use Rattle.cv_scenes.specs.Reasons.{is_reason, is_right}
+use Rattle.cv_scenes.specs.Sights.{Sight, is_condition, is_typed}
+use Rattle.cv_derivations_under.specs.Truth.{HasClosedEquations, IsReached, IsTrue}
 use Rattle.cv_derivations_laws.proofs.Data.{by-data}
 use Rattle.cv_derivations_laws.proofs.Reasons as reasons
 use Rattle.cv_derivations_laws.proofs.Truths.{IsBit}

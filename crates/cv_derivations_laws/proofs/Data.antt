@@ -18,19 +18,19 @@ use Rattle.cv_meaning.specs.Binders.{fits_types}
 use Rattle.cv_meaning_adequacy.specs.Typed as meaning
 use Rattle.cv_meaning_adequacy.specs.Typed.{HasSort, Scope, boolean}
 use Rattle.cv_scope.specs.Context.{items}
-use Rattle.cv_scope_runs.specs.Phrases.{IsWellFormed, Nil, Term, Terms, is_phrase}
+use Rattle.cv_scope.specs.Phrases.{IsWellFormed, Nil, Term, Terms, is_phrase}
 use Rattle.cv_typing.specs.Signature.{Above, Function, Signature, count, declaration_of, function_by, function_in, is_arity, names_in}
 use Rattle.cv_typing.specs.Typing.{IsTyped}
 use Rattle.cv_typing.specs.Wants.{AnyTerm, Message, Messages, Want, wants, wants_arguments}
 use Rattle.cv_typing_runs.specs.Games.{HasArguments, sort_of_meaning}
 use Rattle.cv_typing_runs.proofs.Known.{AreKnown}
 use Rattle.cv_typing_runs.proofs.Terms.{AllSorted, asked_sort, faultless, message_sort, sorted}
-use Rattle.cv_steps.specs.Terms.{above_at, has_site, is_term_at, replications_at, signature_in}
+use Rattle.cv_scenes.specs.Terms.{above_at, has_site, is_term_at, replications_at, signature_in}
 use Rattle.cv_derivations_under.proofs.Terms.{above_matches, term_known, term_typed}
 use Rattle.cv_derivations.specs.Inferences.{equations_of}
-use Rattle.cv_derivations.specs.Reasons.{is_data_by, is_injective}
-use Rattle.cv_derivations.specs.Sights.{Sight}
-use Rattle.cv_derivations_laws.specs.Truth.{HasClosedEquations, IsReached}
+use Rattle.cv_scenes.specs.Reasons.{is_data_by, is_injective}
+use Rattle.cv_scenes.specs.Sights.{Sight}
+use Rattle.cv_derivations_under.specs.Truth.{HasClosedEquations, IsReached}
 use Rattle.cv_derivations_laws.proofs.Reasons as reasons
 use Rattle.cv_derivations_laws.proofs.Truths.{IsBit, bit-true, nought-one}
 

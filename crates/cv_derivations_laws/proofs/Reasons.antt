@@ -20,21 +20,21 @@ use Rattle.cv_meaning_adequacy.specs.Typed as meaning
 use Rattle.cv_meaning_adequacy.specs.Typed.{HasSort, Scope, boolean}
 use Rattle.cv_meaning_adequacy.proofs.Lists.{or_cases}
 use Rattle.cv_scope.specs.Context.{items}
-use Rattle.cv_scope_runs.specs.Phrases.{IsWellFormed, OneCell, Term, is_phrase}
+use Rattle.cv_scope.specs.Phrases.{IsWellFormed, OneCell, Term, is_phrase}
 use Rattle.cv_directory.specs.declared.sort.Sort.{Sort}
 use Rattle.cv_directory.specs.declared.sort.Sort.TheVariants.{BelowParameter, OfType}
 use Rattle.cv_typing.specs.Signature.{same_sort, sort_of}
 use Rattle.cv_typing_runs.specs.Games.{HasArguments, context_of, sort_of_meaning}
 use Rattle.cv_typing_runs.proofs.Terms.{same_sorts}
-use Rattle.cv_steps.specs.Terms.{above_at, is_sort, is_term_at, replications_at, signature_in}
+use Rattle.cv_scenes.specs.Terms.{above_at, is_sort, is_term_at, replications_at, signature_in}
 use Rattle.cv_derivations_under.proofs.Terms.{term_sorted}
 use Rattle.cv_derivations.specs.Given.{with_given}
 use Rattle.cv_derivations.specs.Inferences.{Visible, are_equal_by, cell_in, cited_cell, is_both, is_left, is_refuted, is_reflexive, is_replaced_by, is_right_side, is_symmetric, is_transitive, number_of, cited_term, term_in}
 use Rattle.cv_derivations.specs.Lines.{Statement, Holds, IsDefined}
-use Rattle.cv_derivations.specs.Reasons.{are_congruent_by, are_of_types, arguments, equations_in, is_congruent, is_instance, is_reason_of_cell, is_tree}
-use Rattle.cv_derivations.specs.Sights.{Sight, from_one, is_cell_at, is_term_of, is_typed, site_cells, site_facts}
+use Rattle.cv_scenes.specs.Reasons.{are_congruent_by, are_of_types, arguments, equations_in, is_congruent, is_instance, is_reason_of_cell, is_tree}
+use Rattle.cv_scenes.specs.Sights.{Sight, from_one, is_cell_at, is_term_of, is_typed, site_cells, site_facts}
 use Rattle.cv_derivations.specs.Truths.{is_truth, no}
-use Rattle.cv_derivations_laws.specs.Truth.{AreAssigned, AreTrue, HasClosedEquations, IfEquation, IsClosedEquation, IsReached, IsTrue, is_name_of}
+use Rattle.cv_derivations_under.specs.Truth.{AreAssigned, AreTrue, HasClosedEquations, IfEquation, IsClosedEquation, IsReached, IsTrue, is_name_of}
 use Rattle.cv_derivations_laws.proofs.Substitution.{names_of, put-value}
 use Rattle.cv_derivations_laws.proofs.Truths.{IsBit, below-two, bit-true, equal-true, nought-one, true-equal, truth-holds}
 

@@ -6,7 +6,7 @@ use Rattle.cv_meaning.specs.Interpretation.{Setting}
 use Rattle.cv_meaning.specs.Memory.{Indices, Store, tuple}
 use Rattle.cv_meaning.specs.Terms.{bit, found_in, is_one, leaf_value, leaf_value_from, or_zero, value, values}
 use Rattle.cv_derivations.specs.Given.{term_for, or_node, with_given}
-use Rattle.cv_derivations_laws.specs.Truth.{AreOver, IsOver}
+use Rattle.cv_derivations_under.specs.Truth.{AreOver, IsOver}
 
 -- the names of indices
 abbrev pub names_of : Indices → List ℕ

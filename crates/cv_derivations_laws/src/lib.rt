@@ -7,12 +7,12 @@ ghost use Rattle.cv_syntax.specs.Tree.{Tree};
 ghost use Rattle.cv_meaning.specs.Interpretation.{Interpretation, setting_of};
 ghost use Rattle.cv_meaning.specs.Memory.{Indices, Store};
 ghost use Rattle.cv_meaning.specs.Satisfies.{Satisfies};
-ghost use Rattle.cv_scope_runs.specs.Phrases.{IsWellFormed};
+ghost use Rattle.cv_scope.specs.Phrases.{IsWellFormed};
 ghost use Rattle.cv_typing_runs.specs.Games.{HasArguments};
-ghost use Rattle.cv_derivations.specs.Derivations.{first_bad_line};
+ghost use Rattle.cv_scenes.specs.Derivations.{first_bad_line};
 ghost use Rattle.cv_derivations.specs.Lines.{lines_of, statements};
-ghost use Rattle.cv_derivations.specs.Sights.{Sight};
-ghost use Rattle.cv_derivations_laws.specs.Truth.{HasClosedEquations, IsReached, IsTrue};
+ghost use Rattle.cv_scenes.specs.Sights.{Sight};
+ghost use Rattle.cv_derivations_under.specs.Truth.{HasClosedEquations, IsReached, IsTrue};
 
 /// Where each line of a derivation is right, each line outside blocks is true at a copy at which its place
 /// is reached: a term is 1, and a cell is assigned. Terms have their values in the second store; cells are

@@ -14,10 +14,10 @@ use Rattle.cv_directory.specs.Sites as directory
 use Rattle.cv_scope.specs.Context.{cell_of, index_terms, items}
 use Rattle.cv_scope.specs.Rules.{is_index}
 use Rattle.cv_scope.specs.Scope.{is_variable}
-use Rattle.cv_scope_runs.specs.Phrases.{Cells, Nil, OneCell, Term, Terms, is_phrase}
+use Rattle.cv_scope.specs.Phrases.{Cells, Nil, OneCell, Term, Terms, is_phrase}
 use Rattle.cv_scope_runs.proofs.OnceGames.{or_left, or_right}
 use Rattle.cv_typing_runs.specs.Games.{are_variable_cells, context_of, has_site, is_variable_cell, variable_of_meaning}
-use Rattle.cv_derivations_laws.specs.Truth.{AreOver}
+use Rattle.cv_derivations_under.specs.Truth.{AreOver}
 use Rattle.cv_derivations_reached.specs.Fine.{IsFineCell, IsFineTerm, IsNamed}
 
 index-there : (rs : Scope) (x n : ℕ) → parameter_in rs x ≡ Some n → is_index rs x ≡ true

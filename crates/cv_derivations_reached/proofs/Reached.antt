@@ -23,9 +23,9 @@ use Rattle.cv_scope.specs.Rules.{is_index}
 use Rattle.cv_scope.specs.Scope.{is_variable}
 use Rattle.cv_scope.specs.Scope as scope
 use Rattle.cv_scope.specs.Standing.{at_root}
-use Rattle.cv_scope_runs.specs.Phrases.{Nil, OneCell, is_phrase}
+use Rattle.cv_scope.specs.Phrases.{Nil, OneCell, is_phrase}
 use Rattle.cv_meaning_laws.proofs.Lists.{each_append}
-use Rattle.cv_scope_runs.specs.Made.{OwnUnassigned, is_bound, is_own_of}
+use Rattle.cv_scope.specs.Made.{OwnUnassigned, is_bound, is_own_of}
 use Rattle.cv_scope_runs.specs.Promises.{AreIndicesOf, GrowsTo}
 use Rattle.cv_scope_runs.specs.Reads.{IsKept}
 use Rattle.cv_scope_runs.proofs.OnceGames.{or_left, or_right}
@@ -35,19 +35,20 @@ use Rattle.cv_typing_runs.proofs.Games.{typed}
 use Rattle.cv_typing_runs.proofs.Models.{is_model}
 use Rattle.cv_typing_runs.proofs.Terms.{nil_empty}
 use Rattle.cv_facts.specs.Definitions.{IsBehind, behind_at}
-use Rattle.cv_facts.specs.Promises.{BranchesPlaces, BranchesStand, CandidatesStand, PlaceStands, SitesStand, StandsIn, VisitSitesStand, in_body, in_condition, sites_of}
-use Rattle.cv_facts.specs.Standing.{stands_at}
-use Rattle.cv_steps.specs.Scenes.{Scene}
-use Rattle.cv_steps.specs.Terms.{replications_at, replications_by}
+use Rattle.cv_scope.specs.Behind.{in_body, in_condition, sites_of}
+use Rattle.cv_facts.specs.Promises.{BranchesPlaces, BranchesStand, CandidatesStand, PlaceStands, SitesStand, StandsIn, VisitSitesStand}
+use Rattle.cv_scope.specs.Above.{stands_at}
+use Rattle.cv_scenes.specs.Scenes.{Scene}
+use Rattle.cv_scenes.specs.Terms.{replications_at, replications_by}
 use Rattle.cv_derivations.specs.Given.{term_for, or_node, with_given}
-use Rattle.cv_derivations.specs.Sights.{Sight, at_site, cells_by, facts_by, only_site, sight_at, site_of}
+use Rattle.cv_scenes.specs.Sights.{Sight, at_site, cells_by, facts_by, only_site, sight_at, site_of}
 use Rattle.cv_derivations_under.specs.Reached.{BranchSitesStand, CandidateSitesStand, CellsBetween, HasTypes, PlaceCellsBetween, SiteCellsBetween, SitesStandNow}
 use Rattle.cv_derivations_under.proofs.Sites.{bound_keeps}
-use Rattle.cv_derivations_laws.specs.Truth.{AreAssigned, AreTrue, IsReached, is_name_of}
+use Rattle.cv_derivations_under.specs.Truth.{AreAssigned, AreTrue, IsReached, is_name_of}
 use Rattle.cv_derivations_laws.proofs.Blocks.{derivation-holds}
 use Rattle.cv_derivations_laws.proofs.Substitution.{names_of, put-value, put-values}
 use Rattle.cv_derivations_reached.specs.Fine.{IsFine, IsFineCell, IsFineTerm, IsNamed}
-use Rattle.cv_derivations_reached.specs.Holding.{HoldAt, HoldAtCandidates, HoldAtConditions, HoldAtFind, HoldAtTests, HoldAtVisit, HoldInBodies, HoldInConditions, IsReady}
+use Rattle.cv_derivations_under.specs.Holding.{HoldAt, HoldAtCandidates, HoldAtConditions, HoldAtFind, HoldAtTests, HoldAtVisit, HoldInBodies, HoldInConditions, IsReady}
 use Rattle.cv_derivations_reached.proofs.Bound.{IsGood, candidate-typed, find-good, first-good, rest-good}
 use Rattle.cv_derivations_reached.proofs.Replications.{Each, above, each-above, no-constants, no-variables, same-replications}
 use Rattle.cv_derivations_reached.proofs.Walks.{sites-fine}

@@ -17,8 +17,8 @@ use Rattle.cv_scope.specs.Context.{Context, context_at, first_context, first_pos
 use Rattle.cv_scope.specs.Rules.{BindsNewIndex, Names}
 use Rattle.cv_scope.specs.Scope.{IsScopedAt}
 use Rattle.cv_scope.specs.Standing as scope
-use Rattle.cv_scope_runs.specs.Phrases.{binds_none, head_binds_none}
-use Rattle.cv_facts.specs.Standing.{first_standing, second_standing, standing_at, stands_at, with_failed, with_held}
+use Rattle.cv_scope.specs.Phrases.{binds_none, head_binds_none}
+use Rattle.cv_scope.specs.Above.{first_standing, second_standing, standing_at, stands_at, with_failed, with_held}
 
 held-same : (Γ : Context) (t : Tree) → (with_held Γ t).replications ≡ Γ.replications
 held-same Γ Empty = refl

@@ -11,14 +11,15 @@ use Rattle.cv_meaning.specs.Candidates.{is_candidate}
 use Rattle.cv_meaning.specs.Memory.{Indices, Memory, Store, tuple}
 use Rattle.cv_meaning.specs.Serving.{Visit}
 use Rattle.cv_meaning.specs.Terms.{value}
-use Rattle.cv_steps.specs.Scenes.{Scene}
-use Rattle.cv_derivations.specs.Derivations.{Derives}
+use Rattle.cv_scenes.specs.Scenes.{Scene}
+use Rattle.cv_scenes.specs.Derivations.{Derives}
 use Rattle.cv_derivations.specs.Ends.{is_end, same_statement, same_statements}
 use Rattle.cv_derivations.specs.Lines.{Statement, Holds, IsDefined, lines_of, statements}
-use Rattle.cv_derivations.specs.Sights.{sight_at}
-use Rattle.cv_derivations_laws.specs.Truth.{IsTrue}
-use Rattle.cv_derivations_reached.specs.Holding.{HoldAt, HoldAtCandidates, HoldAtFind, HoldAtVisit, HoldInBodies}
-use Rattle.cv_derivations_reached.specs.Unreached.{DerivesFalse, FindHasNone, HasNoCandidate, HasNoneAt, IsElsewhere, falsity}
+use Rattle.cv_scenes.specs.Sights.{sight_at}
+use Rattle.cv_derivations_under.specs.Truth.{IsTrue}
+use Rattle.cv_derivations_under.specs.Holding.{HoldAt, HoldAtCandidates, HoldAtFind, HoldAtVisit, HoldInBodies}
+use Rattle.cv_derivations_under.specs.Unreached.{DerivesFalse, FindHasNone, HasNoCandidate, HasNoneAt, IsElsewhere}
+use Rattle.cv_derivations.specs.Targets.{falsity}
 
 module _ (P : Statement → Type 0) where
   dropped : (k : ℕ) (ts : List Statement) → AllByRecursion P ts → AllByRecursion P (drop k ts)

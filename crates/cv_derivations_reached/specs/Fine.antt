@@ -8,7 +8,7 @@ use Rattle.cv_meaning.specs.Interpretation.{is_constant_of}
 use Rattle.cv_scope.specs.Context.{Context}
 use Rattle.cv_scope.specs.Rules.{is_index}
 use Rattle.cv_scope.specs.Scope.{is_variable}
-use Rattle.cv_derivations_laws.specs.Truth.{AreOver, IsOver}
+use Rattle.cv_derivations_under.specs.Truth.{AreOver, IsOver}
 
 -- a bare name is that of a replication above, a constant or a variable of the game
 abbrev pub IsNamed : List Declaration → Tree → List (ℕ × ℕ) → ℕ → Type 0

@@ -1,3 +1,1 @@
 pub mod Fine
-pub mod Holding
-pub mod Unreached

@@ -1,8 +1,9 @@
 // Derivations hold at the places that a run visits.
 #![tactic(auto)]
 
-ghost use Rattle.std.specs.Prelude.{ℕ};
+ghost use Rattle.std.specs.Prelude.{ℕ, List};
 ghost use Rattle.std.specs.List.{All, AllByRecursion};
+ghost use Rattle.cv_syntax.specs.Declarations.{Declaration};
 ghost use Rattle.cv_syntax.specs.Tree.{Tree};
 ghost use Rattle.cv_meaning.specs.Tapes.{blank};
 ghost use Rattle.cv_meaning.specs.Interpretation.{Interpretation, setting_of};
@@ -12,13 +13,14 @@ ghost use Rattle.cv_meaning.specs.Runs.{Adversary, Mode};
 ghost use Rattle.cv_meaning.specs.Experiments.{visits_of_run};
 ghost use Rattle.cv_meaning.specs.Satisfies.{Satisfies};
 ghost use Rattle.cv_meaning_adequacy.specs.Counted.{tapes_of};
-ghost use Rattle.cv_steps.specs.Scenes.{Scene};
-ghost use Rattle.cv_derivations.specs.Derivations.{Derives};
+ghost use Rattle.cv_scenes.specs.Scenes.{Scene};
+ghost use Rattle.cv_scenes.specs.Derivations.{Derives};
 ghost use Rattle.cv_derivations.specs.Lines.{lines_of, statements};
-ghost use Rattle.cv_derivations.specs.Sights.{sight_at};
-ghost use Rattle.cv_derivations_laws.specs.Truth.{IsTrue};
-ghost use Rattle.cv_derivations_reached.specs.Holding.{HoldAt, HoldAtConditions, HoldAtFind, HoldAtVisit, IsReady};
-ghost use Rattle.cv_derivations_reached.specs.Unreached.{DerivesFalse, HasNoneAt, IsElsewhere};
+ghost use Rattle.cv_scenes.specs.Sights.{sight_at};
+ghost use Rattle.cv_derivations_under.specs.Truth.{IsTrue};
+ghost use Rattle.cv_derivations_under.specs.Holding.{HoldAt, HoldAtConditions, HoldAtFind, HoldAtVisit, IsReady};
+ghost use Rattle.cv_derivations_under.specs.Soundness.{DerivationsHold, DerivedBodiesAreUnreached};
+ghost use Rattle.cv_derivations_under.specs.Unreached.{DerivesFalse, HasNoneAt, IsElsewhere};
 
 use cv_derivations_under::{
     cells_stand_between_stores, sites_stand_at_candidates, stores_are_typed_at_each_visit,
@@ -81,4 +83,14 @@ pub fn bodies_that_derive_false_are_unreached()
         (tapes_of (cells (setting_of s.declarations i) m a s.game) blank) }
 {
     derivations_hold_at_visits();
+}
+
+/// So derivations are sound, as the laws of steps take it, for the games of each file.
+pub fn derivations_are_sound()
+    ensures hold { (ds : List Declaration) → DerivationsHold ds }
+    ensures unreached { (ds : List Declaration) → DerivedBodiesAreUnreached ds }
+{
+    derivations_hold_at_visits();
+    targets_hold();
+    bodies_that_derive_false_are_unreached();
 }

@@ -9,7 +9,7 @@ use Rattle.cv_syntax.specs.Tree.{Tree, Empty, Node}
 use Rattle.cv_meaning_adequacy.specs.Typed.{HasSort, Scope, parameter_in}
 use Rattle.cv_meaning_adequacy.proofs.Lists.{or_cases}
 use Rattle.cv_scope.specs.Rules.{is_index}
-use Rattle.cv_scope_runs.specs.Phrases.{IsWellFormed, Phrase, Nil, Term, Terms, is_phrase}
+use Rattle.cv_scope.specs.Phrases.{IsWellFormed, Phrase, Nil, Term, Terms, is_phrase}
 use Rattle.cv_directory.specs.declared.sort.Sort.{Sort}
 use Rattle.cv_directory.specs.declared.sort.Sort.TheVariants.{BelowParameter}
 use Rattle.cv_directory.specs.Sites.{first_of}
@@ -22,8 +22,8 @@ use Rattle.cv_typing.proofs.First.{typed_where_none}
 use Rattle.cv_typing_runs.specs.Games.{HasArguments, context_of, sort_of_meaning}
 use Rattle.cv_typing_runs.proofs.Known.{AreKnown, IsKnown}
 use Rattle.cv_typing_runs.proofs.Terms.{sorted}
-use Rattle.cv_steps.specs.Scenes.{Scene}
-use Rattle.cv_steps.specs.Terms.{Names, above_at, has_site, head_is_there, indices_above, is_there, is_term_at, names_at, replications_at, signature_in}
+use Rattle.cv_scenes.specs.Scenes.{Scene}
+use Rattle.cv_scenes.specs.Terms.{Names, above_at, has_site, head_is_there, indices_above, is_there, is_term_at, names_at, replications_at, signature_in}
 
 -- the indices in scope
 

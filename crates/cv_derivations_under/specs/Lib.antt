@@ -1,1 +1,5 @@
 pub mod Reached
+pub mod Truth
+pub mod Holding
+pub mod Unreached
+pub mod Soundness

@@ -16,8 +16,9 @@ use Rattle.cv_scope.specs.Context.{Context}
 use Rattle.cv_typing_runs.specs.Games.{context_of}
 use Rattle.cv_scope_runs.specs.Promises.{AreIndicesOf}
 use Rattle.cv_scope_runs.specs.Reads.{IsKept}
-use Rattle.cv_facts.specs.Promises.{StandsIn, sites_of}
-use Rattle.cv_facts.specs.Standing.{stands_at}
+use Rattle.cv_scope.specs.Behind.{sites_of}
+use Rattle.cv_facts.specs.Promises.{StandsIn}
+use Rattle.cv_scope.specs.Above.{stands_at}
 
 -- Of a variable with one definition, what stands behind it holds at the tuple of each assigned cell, in this memory.
 abbrev pub SitesStandNow : Setting → Tree → Memory → Type 0

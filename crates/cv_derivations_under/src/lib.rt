@@ -13,13 +13,13 @@ ghost use Rattle.cv_meaning.specs.Experiments.{visits_of_run};
 ghost use Rattle.cv_meaning.specs.Satisfies.{Satisfies};
 ghost use Rattle.cv_meaning_adequacy.specs.Counted.{tapes_of};
 ghost use Rattle.cv_meaning_adequacy.specs.Typed.{HasSort};
-ghost use Rattle.cv_scope_runs.specs.Phrases.{HasConstantsOf, IsWellFormed, IsWellFormedContext};
+ghost use Rattle.cv_scope.specs.Phrases.{HasConstantsOf, IsWellFormed, IsWellFormedContext};
 ghost use Rattle.cv_directory.specs.declared.sort.Sort.{Sort};
 ghost use Rattle.cv_typing.specs.Parts.{IsTypedGame};
 ghost use Rattle.cv_typing.specs.Signature.{sort_of};
 ghost use Rattle.cv_typing_runs.specs.Games.{HasArguments, HasDeclaredSorts, HasKnownNames, context_of, sort_of_meaning};
-ghost use Rattle.cv_steps.specs.Scenes.{Scene};
-ghost use Rattle.cv_steps.specs.Terms.{above_at, is_term_at, replications_at, signature_in};
+ghost use Rattle.cv_scenes.specs.Scenes.{Scene};
+ghost use Rattle.cv_scenes.specs.Terms.{above_at, is_term_at, replications_at, signature_in};
 ghost use Rattle.cv_derivations_under.specs.Reached.{
   CandidateSitesStand,
   HasTypes,

@@ -1,6 +1,6 @@
 -- The constants of a file are functions without arguments, and each name has one declaration.
 use Rattle.std.proofs.Common.{◌≡◌, ℕ, Bool, true, false, cond, ◌==◌, List, [], ◌∷◌, ◌++◌, ◌⊎◌, inl, inr, Option, Some, None, is_some, refl, ap, sym, subst, ◌∙◌, eqb-true, eq-eqb}
-use Rattle.std.proofs.lemmas.Bool.{both_ways, or_parts}
+use Rattle.std.proofs.lemmas.Bool.{both_ways, or_left, or_parts, or_right}
 use Rattle.std.specs.List.{AllByRecursion}
 use Rattle.cv_syntax.specs.declared.decls.Class.{Class}
 use Rattle.cv_syntax.specs.declared.decls.Class.TheVariants as class
@@ -13,7 +13,7 @@ use Rattle.cv_meaning_laws.proofs.Listed.{Has}
 use Rattle.cv_meaning_adequacy.proofs.Lists.{or_cases}
 use Rattle.cv_typing.specs.Signature.{declaration_of, function_by}
 use Rattle.cv_typing_runs.specs.Games.{HasConstants}
-use Rattle.cv_parse_sorts.proofs.DeclaredKinds.{HasResult, OfKind}
+use Rattle.cv_parse_sorts.proofs.DeclaredKinds.{OfKind}
 
 -- the only declaration of a name is its first
 
@@ -91,16 +91,29 @@ constant_at (Equation t ∷ ds) x e = later (Equation t) ds x (constant_at ds x 
 constant_at (Equiv y t ∷ ds) x e = later (Equiv y t) ds x (constant_at ds x e)
 constant_at (Query t ∷ ds) x e = later (Query t) ds x (constant_at ds x e)
 
-result_of : (W : Role → ℕ → Type 0) (ds : List Declaration) → AllByRecursion (OfKind W) ds → (x : ℕ) (c : Class) (a : Tree) (r : Option ℕ) → Has ds (Named x c a r) → HasResult c r
-result_of W [] k x c a r h = absurd h
-result_of W (d ∷ ds) k x c a r (inl e) = (subst (OfKind W) (sym e) k.0).2
-result_of W (d ∷ ds) k x c a r (inr h) = result_of W ds k.1 x c a r h
+pub is_constant : (ds : List Declaration) (x : ℕ) (data_like : Bool) (result : Option ℕ) → Has ds (Named x (class.Fun data_like) Empty result) → is_constant_of ds x ≡ true
+is_constant [] x k r h = absurd h
+is_constant (Named y c a q ∷ ds) x k r (inl e) = subst (λ d. is_constant_of (d ∷ ds) x ≡ true) e (or_left (x == x) (is_constant_of ds x) (eq-eqb x x refl))
+is_constant (Named y (class.Fun d) Empty q ∷ ds) x k r (inr h) = or_right (y == x) (is_constant_of ds x) (is_constant ds x k r h)
+is_constant (Named y (class.Fun d) (Node g a b) q ∷ ds) x k r (inr h) = is_constant ds x k r h
+is_constant (Named y c a q ∷ ds) x k r (inr h) = is_constant ds x k r h
+is_constant (Equation t ∷ ds) x k r (inl e) = absurd (no_name (Equation t) x (class.Fun k) Empty r refl e)
+is_constant (Equation t ∷ ds) x k r (inr h) = is_constant ds x k r h
+is_constant (Equiv y t ∷ ds) x k r (inl e) = absurd (no_name (Equiv y t) x (class.Fun k) Empty r refl e)
+is_constant (Equiv y t ∷ ds) x k r (inr h) = is_constant ds x k r h
+is_constant (Query t ∷ ds) x k r (inl e) = absurd (no_name (Query t) x (class.Fun k) Empty r refl e)
+is_constant (Query t ∷ ds) x k r (inr h) = is_constant ds x k r h
+
+pub kind_of : (W : Role → ℕ → Type 0) (ds : List Declaration) → AllByRecursion (OfKind W) ds → (d : Declaration) → Has ds d → OfKind W d
+kind_of W [] k d h = absurd h
+kind_of W (e ∷ ds) k d (inl i) = subst (OfKind W) (sym i) k.0
+kind_of W (e ∷ ds) k d (inr h) = kind_of W ds k.1 d h
 
 pub constants_are : (W : Role → ℕ → Type 0) (b : Declaration) (ds : List Declaration) → AreDistinct (ids_of (b ∷ ds)) → ((x : ℕ) → is_constant_of (b ∷ ds) x ≡ is_constant_of ds x) → AllByRecursion (OfKind W) ds → HasConstants (b ∷ ds)
 constants_are W b ds d same k x e =
     let c = constant_at ds x (sym (same x) ∙ e) in
     let o = only_declaration (b ∷ ds) d x (class.Fun c.0) Empty c.1 (inr c.2) in
-    ap (λ z. is_some (function_by z)) o ∙ go c.1 (result_of W ds k x (class.Fun c.0) Empty c.1 c.2)
+    ap (λ z. is_some (function_by z)) o ∙ go c.1 (kind_of W ds k (Named x (class.Fun c.0) Empty c.1) c.2).2
   where
     go : (r : Option ℕ) → is_some r ≡ true → is_some (function_by (Some (Named x (class.Fun (constant_at ds x (sym (same x) ∙ e)).0) Empty r))) ≡ true
     go (Some T) i = refl

@@ -154,6 +154,19 @@ module _ (uses : Uses) (ds : List Declaration) (w : AreNamed (built_in ∷ uses)
   param_kind class.Param e = refl
   param_kind c e = absurd (cc)
 
+  fun_kind : (c : Class) → asked_of c ≡ Some AFunction → (data_like : Bool) × (c ≡ class.Fun data_like)
+  fun_kind (class.Fun data_like) e = (data_like, refl)
+  fun_kind c e = absurd (cc)
+
+  -- a name that is used as one of a function
+  pub function_declared : (x : ℕ) → is_used (declares_as AFunction) x All ≡ true → (data_like : Bool) × (arguments : Tree) × (result : Option ℕ) × Has ds (Named x (class.Fun data_like) arguments result)
+  function_declared x k = go (is_declared_as AFunction x (used_as All AFunction x k))
+    where
+      go : ((AType ≡ AFunction) × (x ≡ 0)) ⊎ ((AnEquivalence ≡ AFunction) ⊎ IsOfKind AFunction x) → (data_like : Bool) × (arguments : Tree) × (result : Option ℕ) × Has ds (Named x (class.Fun data_like) arguments result)
+      go (inl e) = let d = e.0 in absurd (cc)
+      go (inr (inl e)) = absurd (cc)
+      go (inr (inr (c, arguments, r, h, e))) = let k = fun_kind c e in (k.0, arguments, r, subst (λ z. Has ds (Named x z arguments r)) k.1 h)
+
   pub type_declared : (T : ℕ) → Used All (Declares AType) T → IsDeclared (bool_type ∷ ds) (OfType T)
   type_declared T u = go (is_declared_as AType T u)
     where

@@ -1,5 +1,5 @@
 -- The types and parameters that the game of a file names are declared.
-use Rattle.std.proofs.Common.{◌≡◌, ℕ, List, [], ◌∷◌, ◌++◌, flat_map, Option, Ok, inl, refl, sym, subst}
+use Rattle.std.proofs.Common.{◌≡◌, ℕ, List, [], ◌∷◌, Option, Ok, inl, refl, sym, subst}
 use Rattle.std.specs.List.{AllByRecursion}
 use Rattle.cv_syntax.specs.Declarations.{Declaration, Named, Equation, Equiv, Query}
 use Rattle.cv_syntax.specs.Tree.{Tree}
@@ -14,14 +14,7 @@ use Rattle.cv_parse_grammar.proofs.Identities.{declared_names, ids_are_distinct}
 use Rattle.cv_parse.specs.Parsed.{Parsed, bool_type, parsed}
 use Rattle.cv_parse.proofs.Exactness.{said_is_saying}
 use Rattle.cv_typing.specs.Signature.{names_in}
-use Rattle.cv_meaning.specs.Interpretation.{Interpretation}
-use Rattle.cv_meaning.specs.Runs.{Adversary, Mode}
-use Rattle.cv_meaning.specs.Satisfies.{Satisfies}
-use Rattle.cv_scope.specs.Scope.{IsScoped}
-use Rattle.cv_typing.specs.Parts.{AreTyped, IsTypedFile, IsTypedPart, Part, declaration_parts, game_part}
-use Rattle.cv_typing_runs.specs.Games.{HasArguments, HasConstants, HasDeclaredSorts, HasNamedFunctionsAndCells, HasTypedRuns}
-use Rattle.cv_typing_runs.proofs.Games.{known, typed_runs as runs}
-use Rattle.cv_parse_laws.proofs.Games.{well_formed}
+use Rattle.cv_typing_runs.specs.Games.{HasArguments, HasConstants, HasDeclaredSorts}
 use Rattle.cv_parse_laws.specs.Yields.{AllUsed}
 use Rattle.cv_parse_laws.proofs.Naming.{all_used}
 use Rattle.cv_parse_laws.proofs.Yielding.{forms_tell}
@@ -84,15 +77,3 @@ pub constants_declared : (limit : ℕ) (signs : List Sign) (p : Parsed) → pars
 constants_declared limit signs p e =
     let w = said_is_saying limit signs p e in
     subst HasConstants (sym w.declared) (read_constants signs w.decls w.script p.game w.read)
-
--- the game is the last part of a file
-last_typed : (ds : List Declaration) (parts : List Part) (part : Part) → AreTyped ds (parts ++ part ∷ []) → IsTypedPart ds part
-unfolding AreTyped
-last_typed ds [] part h = h.0
-last_typed ds (p ∷ parts) part h = last_typed ds parts part h.1
-
-pub typed_runs : (limit : ℕ) (signs : List Sign) (p : Parsed) → parsed limit signs ≡ Ok p → IsTypedFile p.declarations p.game → IsScoped p.declarations p.game → HasNamedFunctionsAndCells p.declarations p.game → (i : Interpretation) → Satisfies p.declarations i → (m : Mode) (a : Adversary)
-    → HasTypedRuns p.declarations p.game i m a
-typed_runs limit signs p e t s k i w m a =
-    let f = well_formed limit signs p e s in
-    runs p.declarations p.game (arguments_named limit signs p e) f (last_typed p.declarations (flat_map (declaration_parts p.declarations) p.declarations) (game_part p.game) t) (known p.declarations p.game (constants_declared limit signs p e) f k) (sorts_declared limit signs p e) i w m a

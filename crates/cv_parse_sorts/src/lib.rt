@@ -5,7 +5,7 @@ ghost use Rattle.std.specs.Prelude.{◌≡◌, ℕ, List, Ok, length, nat_lt};
 ghost use Rattle.cv_lex.specs.Lexis.{Token};
 ghost use Rattle.cv_parse_terminals.specs.Signs.{signs_of};
 ghost use Rattle.cv_parse.specs.Says.{Says};
-ghost use Rattle.cv_steps.specs.Scenes.{KnowsQueries};
+ghost use Rattle.cv_scenes.specs.Scenes.{KnowsQueries};
 ghost use Rattle.cv_steps.specs.Sequences.{scene};
 ghost use Rattle.cv_parse_notation.specs.declared.sign.Sign.{Sign};
 ghost use Rattle.cv_parse.specs.Parsed.{Parsed, parsed};
@@ -14,6 +14,7 @@ ghost use Rattle.cv_meaning.specs.Runs.{Adversary, Mode};
 ghost use Rattle.cv_meaning.specs.Satisfies.{Satisfies};
 ghost use Rattle.cv_scope.specs.Scope.{IsScoped};
 ghost use Rattle.cv_typing.specs.Parts.{IsTypedFile};
+ghost use Rattle.cv_derivations_under.specs.Truth.{HasClosedEquations};
 ghost use Rattle.cv_typing_runs.specs.Games.{HasArguments, HasConstants, HasDeclaredSorts, HasNamedFunctionsAndCells, HasTypedRuns};
 
 /// The types that `new`, `let` and the binders of inputs name in the game of a file are declared as types or
@@ -35,14 +36,26 @@ pub fn constants_are_functions()
         parsed limit signs ≡ Ok p → HasConstants p.declarations }
 {}
 
-/// So in each run of the game of a file that is typed and in array scope, where what is applied is a function and
-/// the cells of `defined` lists are of variables, variables hold values of their types, at indices below their
-/// parameters: in each interpretation that satisfies the declarations, in each mode, against each adversary, on
-/// each tape that an experiment counts.
+/// An equation of a file that is typed says something of functions, of constants and of its own variables
+/// alone.
+pub fn files_have_closed_equations()
+    ensures { (limit : ℕ) (signs : List Sign) (p : Parsed) → parsed limit signs ≡ Ok p →
+        IsTypedFile p.declarations p.game → HasClosedEquations p.declarations }
+{}
+
+/// What the game of a file applies is a function of its declarations, and each cell of its `defined` lists is of
+/// a variable that has a site in the game, by the rules of names.
+pub fn games_name_functions_and_cells()
+    ensures { (limit : ℕ) (signs : List Sign) (p : Parsed) →
+        parsed limit signs ≡ Ok p → HasNamedFunctionsAndCells p.declarations p.game }
+{}
+
+/// So in each run of the game of a file that is typed and in array scope, variables hold values of their types, at
+/// indices below their parameters: in each interpretation that satisfies the declarations, in each mode, against
+/// each adversary, on each tape that an experiment counts.
 pub fn games_of_files_have_typed_runs()
     ensures { (limit : ℕ) (signs : List Sign) (p : Parsed) → parsed limit signs ≡ Ok p →
         IsTypedFile p.declarations p.game → IsScoped p.declarations p.game →
-        HasNamedFunctionsAndCells p.declarations p.game →
         (i : Interpretation) → Satisfies p.declarations i → (m : Mode) (a : Adversary) →
         HasTypedRuns p.declarations p.game i m a }
 {}

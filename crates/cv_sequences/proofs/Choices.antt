@@ -13,7 +13,7 @@ use Rattle.cv_meaning.specs.Satisfies.{Satisfies}
 use Rattle.cv_meaning_adequacy.specs.Typed as meaning
 use Rattle.cv_meaning_adequacy.specs.Typed.{IsDeclared}
 use Rattle.cv_meaning_adequacy.proofs.Sorted.{some_value}
-use Rattle.cv_scope_runs.specs.Phrases.{Phrase, Arm, Binders, Body, Branches as BranchesPhrase, Cells, Else, Guarded as GuardedPhrase, Guards, Indices as IndicesPhrase, Inputs, Message as MessagePhrase, Nil, OneCell, Pattern, Term, Terms, Then, is_phrase}
+use Rattle.cv_scope.specs.Phrases.{Phrase, Arm, Binders, Body, Branches as BranchesPhrase, Cells, Else, Guarded as GuardedPhrase, Guards, Indices as IndicesPhrase, Inputs, Message as MessagePhrase, Nil, OneCell, Pattern, Term, Terms, Then, is_phrase}
 use Rattle.cv_directory.specs.declared.sort.Sort.{Sort}
 use Rattle.cv_directory.specs.declared.sort.Sort.TheVariants.{BelowParameter, OfType}
 use Rattle.cv_directory.specs.Sites.{Variable, sites_of}
@@ -24,7 +24,7 @@ use Rattle.cv_typing_runs.specs.Games.{AreDeclared, HasDeclaredSorts, sort_of_me
 use Rattle.cv_typing_runs.proofs.SameSites.{input_binders}
 use Rattle.cv_typing_runs.proofs.Terms.{faultless, same_sorts}
 use Rattle.cv_query_form.specs.Rules.{HasValues}
-use Rattle.cv_steps_laws.proofs.Flat.{nil_still, term_still}
+use Rattle.cv_steps.proofs.Flat.{nil_still, term_still}
 use Rattle.cv_sequences.specs.Values.{HasValuesIn, is_tested}
 use Rattle.cv_sequences.proofs.Values.{still_values}
 

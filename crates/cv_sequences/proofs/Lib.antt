@@ -1,3 +1,4 @@
+pub mod Accepted
 pub mod Values
 pub mod Steps
 pub mod Sums

@@ -8,19 +8,23 @@ use Rattle.cv_meaning.specs.Satisfies.{Satisfies}
 use Rattle.cv_meaning_adequacy.specs.Typed as meaning
 use Rattle.cv_meaning_adequacy.proofs.Sorted.{some_value}
 use Rattle.cv_meaning_runs.specs.Replacement.{Process}
-use Rattle.cv_scope_runs.specs.Phrases.{Inputs, is_phrase}
-use Rattle.cv_steps.specs.Scenes.{Scene, is_output_at, is_chosen, is_new, is_queried, first_reading, has_place, is_type, part_at}
-use Rattle.cv_steps.specs.Steps.{Step, Split, Let, New, Unnew, Cost, Zero}
+use Rattle.cv_scope.specs.Phrases.{Inputs, is_phrase}
+use Rattle.cv_scenes.specs.Scenes.{Scene, is_output_at, is_chosen, is_new, is_queried, first_reading, has_place, is_type, part_at}
+use Rattle.cv_steps.specs.Steps.{Step, Split, Let, New, Unnew, Rewrite, Prune, Cost, Zero}
 use Rattle.cv_steps.specs.Changes.{change_at, split_process, after_let, after_new, without, only}
-use Rattle.cv_steps.specs.Terms.{is_bool_at}
+use Rattle.cv_scenes.specs.Terms.{is_bool_at}
 use Rattle.cv_steps.specs.Judgements.{Accepted, judgement_of}
-use Rattle.cv_steps_laws.proofs.Flat.{term_still}
+use Rattle.cv_steps.proofs.Flat.{term_still}
 use Rattle.cv_steps_laws.proofs.Gone.{dropped_game}
-use Rattle.cv_steps_laws.proofs.Keeping.{accepted, leads_same, placed, term_phrase, unless_leads, unless_at_leads}
+use Rattle.cv_steps.proofs.Pruned.{left_keeps, prune_leads, pruned_output}
+use Rattle.cv_steps.proofs.Rewritten.{rewrite_leads}
+use Rattle.cv_steps.proofs.Rows.{leads_same, unless_leads, unless_at_leads}
+use Rattle.cv_steps.proofs.Comes.{placed}
+use Rattle.cv_steps_laws.proofs.Keeping.{accepted, term_phrase}
 use Rattle.cv_steps_laws.proofs.Sorts.{type_declared}
 use Rattle.cv_steps_laws.proofs.Unnamed.{unlisted_unread}
 use Rattle.cv_sequences.specs.Values.{HasValuesIn}
-use Rattle.cv_sequences.proofs.Values.{still_values, values_replaced, values_dropped}
+use Rattle.cv_sequences.proofs.Values.{still_values, values_put, values_replaced, values_dropped}
 
 module _ (s : Scene) (i : Interpretation) (sat : Satisfies s.declarations i) (m : Mode) where
   abbrev Valued : Tree → Type 0
@@ -62,3 +66,14 @@ module _ (s : Scene) (i : Interpretation) (sat : Satisfies s.declarations i) (m 
       let o = unless_at_leads 2 (first_reading x 0 s.game) _ next cost q.1 in
       subst Valued (leads_same _ next Zero cost o.1)
       (values_dropped (setting_of s.declarations i) m (only x) Process s.game (without (only x) s.game) (dropped_game (only x) s.game w (unlisted_unread x 0 s.game o.0)) d)
+  next_values (Rewrite p t by) next cost w d e =
+      let r = accepted s (Rewrite p t by) next cost e in
+      let z = rewrite_leads s p t by next cost r.row in
+      let v = still_values (setting_of s.declarations i) m t (term_still t (term_phrase s p t (and_parts (has_place s p) _ r.stands).1)) in
+      subst Valued z.leads (values_put (setting_of s.declarations i) m t v s.game p d)
+  next_values (Prune p part by) next cost w d e =
+      let r = accepted s (Prune p part by) next cost e in
+      let z = prune_leads s p part by next cost r.row in
+      subst Valued z.leads
+      (changed_values p (λ old. z.gone.left) w (pruned_output p (part_at s.game p) part z.gone z.stands)
+      (left_keeps Valued (λ h x y k. (k.1, k.2)) (λ h x y n k l. (k.0, k.1, l)) (λ l x y n k j. (k.0, j, k.2)) p (part_at s.game p) part z.gone z.stands) d)

@@ -13,11 +13,14 @@ use Rattle.cv_bound.specs.declared.terms.Term.{Term}
 use Rattle.cv_bound.specs.Sums.{with_terms}
 use Rattle.cv_bound.specs.Values.{Advantages, sum_value}
 use Rattle.cv_query_form.specs.Queries.{queries_in}
-use Rattle.cv_scope_runs.specs.Phrases.{IsWellFormed}
-use Rattle.cv_steps.specs.Scenes.{KnowsQueries}
+use Rattle.cv_typing_runs.specs.Games.{HasConstants}
+use Rattle.cv_derivations_under.specs.Holding.{IsReady}
+use Rattle.cv_derivations_under.specs.Soundness.{DerivationsHold, DerivedBodiesAreUnreached}
+use Rattle.cv_scenes.specs.Scenes.{KnowsQueries}
 use Rattle.cv_steps.specs.Sequences.{IsSequence, Passage, push, scene, start}
 use Rattle.cv_steps.specs.Steps.{Cost, Zero}
-use Rattle.cv_steps_laws.proofs.Keeping.{next_formed, steps_keep}
+use Rattle.cv_steps_laws.proofs.Keeping.{next_declared, next_formed, next_known, next_named, next_typed}
+use Rattle.cv_sequences.proofs.Accepted.{steps_keep}
 use Rattle.cv_sequences.specs.Sequences.{added_up, costs_of}
 use Rattle.cv_sequences.specs.Values.{HasValuesIn}
 use Rattle.cv_sequences.proofs.Values.{tapes}
@@ -38,16 +41,26 @@ unfolding added_up with_terms
 no_terms sum [] = refl
 no_terms sum (Zero ∷ cs) = no_terms sum cs
 
-module _ (ds : List Declaration) (known : ℕ → Bool) (first : Tree) (w : IsWellFormed ds first) where
-  pub games_formed : (passages : List Passage) (last : Tree) → IsSequence ds known first passages last → IsWellFormed ds last
-  games_formed passages last start = w
-  games_formed passages last (push before game p s e) = next_formed (scene ds known game) p.step p.next p.cost e
+module _ (ds : List Declaration) (known : ℕ → Bool) (first : Tree) (w : IsReady ds first) (constants : HasConstants ds) where
+  pub games_ready : (passages : List Passage) (last : Tree) → IsSequence ds known first passages last → IsReady ds last
+  games_ready passages last start = w
+  games_ready passages last (push before game p s e) =
+      let ready = games_ready before game s in
+      record {
+        arguments = w.arguments;
+        equations = w.equations;
+        formed = next_formed (scene ds known game) p.step p.next p.cost e;
+        typed = next_typed (scene ds known game) p.step p.next p.cost e;
+        names = next_known (scene ds known game) p.step p.next p.cost constants e;
+        cells = next_named (scene ds known game) p.step p.next p.cost e;
+        sorts = next_declared (scene ds known game) p.step p.next p.cost ready.formed.phrase ready.sorts e;
+      }
 
-  module _ (k : KnowsQueries (scene ds known first)) (i : Interpretation) (sat : Satisfies ds i) (x : Experiment) (asked : IsAsked (queries_in ds) x) (v : HasValuesIn (setting_of ds i) (mode_of x) first) where
+  module _ (holds : DerivationsHold ds) (unreached : DerivedBodiesAreUnreached ds) (k : KnowsQueries (scene ds known first)) (i : Interpretation) (sat : Satisfies ds i) (x : Experiment) (asked : IsAsked (queries_in ds) x) (v : HasValuesIn (setting_of ds i) (mode_of x) first) where
     games_valued : (passages : List Passage) (last : Tree) → IsSequence ds known first passages last → HasValuesIn (setting_of ds i) (mode_of x) last
     games_valued passages last start = v
     games_valued passages last (push before game p s e) =
-        next_values (scene ds known game) i sat (mode_of x) p.step p.next p.cost (games_formed before game s).phrase (games_valued before game s) e
+        next_values (scene ds known game) i sat (mode_of x) p.step p.next p.cost (games_ready before game s).formed.phrase (games_valued before game s) e
 
     module _ (a : Adversary) where
       abbrev chance_in : Tree → Chance
@@ -57,7 +70,7 @@ module _ (ds : List Declaration) (known : ℕ → Bool) (first : Tree) (w : IsWe
       alike passages last start = refl
       alike passages last (push before game p s e) =
           same_trans (chance_in first) (chance_in game) (chance_in p.next) (tapes (setting_of ds i) x a game (games_valued before game s)) (alike before game s)
-          (steps_keep (scene ds known game) p.step p.next p.cost (games_formed before game s) k e i sat x asked a)
+          (steps_keep (scene ds known game) p.step p.next p.cost (games_ready before game s) holds unreached k e i sat x asked a)
 
       pub within : (advantages : Advantages) (passages : List Passage) (last : Tree) → IsSequence ds known first passages last → AtMost (distance (chance_in first) (chance_in last)) (sum_value i advantages (added_up [] (costs_of passages) false))
       within advantages passages last s =

@@ -1,9 +1,10 @@
 -- Choices and tests have values in the next game, where they have in the game.
-use Rattle.std.proofs.Common.{◌≡◌, ℕ, suc, ◌<◌, ◌≤◌, Bool, true, false, List, [], ◌∷◌, ◌==◌, arith, refl, ◌∙◌}
+use Rattle.std.proofs.Common.{◌≡◌, ℕ, suc, ◌+◌, ◌-◌, ◌<◌, ◌≤◌, Bool, true, false, cond, nat_lt, List, [], ◌∷◌, ◌==◌, arith, refl, ◌∙◌}
 use Rattle.std.proofs.lemmas.Bool.{both_ways, and_parts}
 use Rattle.cv_syntax.specs.declared.head.Head.{Head}
 use Rattle.cv_syntax.specs.declared.head.Head.TheVariants.{New, Let, Find, Binder, Key, Call}
-use Rattle.cv_syntax.specs.Tree.{Tree, Empty, Node}
+use Rattle.cv_syntax.specs.Head.{weight}
+use Rattle.cv_syntax.specs.Tree.{Tree, Empty, Node, size}
 use Rattle.cv_meaning.specs.Tapes.{Cell}
 use Rattle.cv_meaning.specs.Interpretation.{Setting}
 use Rattle.cv_meaning.specs.Runs.{Mode, Events, Real, Random, Adversary}
@@ -16,7 +17,7 @@ use Rattle.cv_meaning_chances.specs.Tests.{HasValues}
 use Rattle.cv_meaning_chances.specs.Fractions.{HasTapes}
 use Rattle.cv_meaning_chances.proofs.Totals.{once_values, chance_has_tapes}
 use Rattle.cv_meaning_runs.specs.Replacement as at
-use Rattle.cv_meaning_runs.specs.Replacement.{Part, Process, IsReplaced}
+use Rattle.cv_meaning_runs.specs.Replacement.{Part, Process, IsReplaced, replaced}
 use Rattle.cv_meaning_unread.specs.Dropping.{IsDropped, is_still, head_is_still, same, gone, kept, in_parallel, in_list, in_find, in_branch, in_later_branch}
 use Rattle.cv_sequences.specs.Values.{is_tested, ConstructHasValues, HasValuesIn}
 
@@ -97,6 +98,18 @@ module _ (g : Setting) (m : Mode) where
   values_replaced old new place k part p b c (at.in_find {a = x} {c = y} z) d = (d.0, values_replaced old new place k at.Branches _ x y z d.1, d.2)
   values_replaced old new place k part p b c (at.in_branch {b = x} {c = y} z) d = (d.0, (d.1.0, d.1.1, (d.1.2.0, d.1.2.1, (d.1.2.2.0, d.1.2.2.1, values_replaced old new place k Process _ x y z d.1.2.2.2))), d.2)
   values_replaced old new place k part p b c (at.in_later_branch {b = x} {c = y} z) d = (d.0, d.1, values_replaced old new place k at.Branches _ x y z d.2)
+
+  -- a tree in the place of another, wherever
+  pub values_put : (new : Tree) → HasValuesIn g m new → (t : Tree) (p : ℕ) → HasValuesIn g m t → HasValuesIn g m (replaced t p new)
+  unfolding HasValuesIn replaced
+  values_put new k Empty p d = tt
+  values_put new k (Node h a b) p d = go (nat_lt p (weight h)) (nat_lt p (weight h + size a)) (values_put new k a (p - weight h) d.1) (values_put new k b (p - (weight h + size a)) d.2)
+    where
+      go : (v w : Bool) → HasValuesIn g m (replaced a (p - weight h) new) → HasValuesIn g m (replaced b (p - (weight h + size a)) new)
+          → HasValuesIn g m (cond v new (cond w (Node h (replaced a (p - weight h) new) b) (Node h a (replaced b (p - (weight h + size a)) new))))
+      go true w x y = k
+      go false true x y = (d.0, x, d.2)
+      go false false x y = (d.0, d.1, y)
 
   pub values_dropped : (xs : ℕ → Bool) (part : Part) (b c : Tree) → IsDropped xs part b c → HasValuesIn g m b → HasValuesIn g m c
   unfolding HasValuesIn

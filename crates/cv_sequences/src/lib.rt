@@ -1,4 +1,4 @@
-// The law of sequences of games.
+// The laws of accepted steps and of sequences of games.
 #![tactic(auto)]
 
 ghost use Rattle.std.specs.Prelude.{◌≡◌, ℕ, Bool, false, true, List, []};
@@ -13,22 +13,37 @@ ghost use Rattle.cv_meaning.specs.Advantage.{IsAsked, chance_of};
 ghost use Rattle.cv_bound.specs.Values.{Advantages, sum_value};
 ghost use Rattle.cv_query_form.specs.Queries.{queries_in};
 ghost use Rattle.cv_query_form.specs.Rules.{AreAsked};
-ghost use Rattle.cv_scope_runs.specs.Phrases.{Inputs, IsWellFormed, is_phrase};
+ghost use Rattle.cv_scope.specs.Phrases.{Inputs, is_phrase};
 ghost use Rattle.cv_typing.specs.Parts.{IsTypedFile};
-ghost use Rattle.cv_typing_runs.specs.Games.{HasDeclaredSorts};
-ghost use Rattle.cv_steps.specs.Scenes.{KnowsQueries};
+ghost use Rattle.cv_typing_runs.specs.Games.{HasConstants, HasDeclaredSorts};
+ghost use Rattle.cv_scenes.specs.Scenes.{KnowsQueries, Scene};
+ghost use Rattle.cv_derivations_under.specs.Holding.{IsReady};
+ghost use Rattle.cv_derivations_under.specs.Soundness.{DerivationsHold, DerivedBodiesAreUnreached};
+ghost use Rattle.cv_steps.specs.Steps.{Cost, Step};
+ghost use Rattle.cv_steps.specs.Judgements.{Accepted, judgement_of};
+ghost use Rattle.cv_steps.specs.Chances.{KeepsChances};
 ghost use Rattle.cv_steps.specs.Sequences.{IsSequence, Passage, scene};
 ghost use Rattle.cv_sequences.specs.Sequences.{added_up, costs_of};
 ghost use Rattle.cv_sequences.specs.Values.{HasValuesIn};
 
-/// Each game of a sequence is well-formed where the first is. Where its choices have values, no adversary tells the
-/// last game from the first, in an experiment for which a query asks, by more than the sum of the costs.
+/// Each step that is accepted in a game keeps chances, where derivations are sound.
+pub fn accepted_steps_keep_chances()
+    ensures { (s : Scene) (step : Step) (next : Tree) (cost : Cost) →
+        IsReady s.declarations s.game → DerivationsHold s.declarations →
+        DerivedBodiesAreUnreached s.declarations → KnowsQueries s →
+        judgement_of s step ≡ Accepted next cost → KeepsChances s.declarations s.game next }
+{}
+
+/// Each game of a sequence has all that the laws of runs ask for, where the first has it. Where derivations are sound
+/// and the choices of the first game have values, no adversary tells the last game from the first, in an experiment for
+/// which a query asks, by more than the sum of the costs.
 pub fn sequences_are_within_their_sums()
     ensures games { (ds : List Declaration) (known : ℕ → Bool) (first : Tree)
-        (passages : List Passage) (last : Tree) → IsWellFormed ds first →
-        IsSequence ds known first passages last → IsWellFormed ds last }
+        (passages : List Passage) (last : Tree) → IsReady ds first → HasConstants ds →
+        IsSequence ds known first passages last → IsReady ds last }
     ensures sums { (ds : List Declaration) (known : ℕ → Bool) (first : Tree)
-        (passages : List Passage) (last : Tree) → IsWellFormed ds first →
+        (passages : List Passage) (last : Tree) → IsReady ds first → HasConstants ds →
+        DerivationsHold ds → DerivedBodiesAreUnreached ds →
         KnowsQueries (scene ds known first) → IsSequence ds known first passages last →
         (i : Interpretation) → Satisfies ds i → (x : Experiment) → IsAsked (queries_in ds) x →
         HasValuesIn (setting_of ds i) (mode_of x) first →

@@ -1,10 +1,11 @@
 -- How steps change games. This profile's own.
-use Rattle.std.specs.Prelude.{ℕ, Bool, ◌==◌, if◌then◌else◌}
+use Rattle.std.specs.Prelude.{ℕ, Bool, ◌==◌, if◌then◌else◌, Option, Some, None}
 use Rattle.cv_syntax.specs.declared.head.Head.TheVariants.{New, Let}
 use Rattle.cv_syntax.specs.Tree.{Tree, Empty, Node}
 use Rattle.cv_meaning_runs.specs.Replacement.{if_tree, replaced}
 use Rattle.cv_meaning_unread.specs.Dropping.{defines}
-use Rattle.cv_steps.specs.Scenes.{part_at}
+use Rattle.cv_scenes.specs.Pruning.{Part, Pruned, pruned}
+use Rattle.cv_scenes.specs.Scenes.{part_at}
 
 -- the tree with what stands at a place changed
 abbrev pub change_at : Tree → ℕ → (Tree → Tree) → Tree
@@ -29,3 +30,12 @@ without xs (Node h a b) = if defines xs h then without xs b else Node h (without
 -- this variable alone
 abbrev pub only : ℕ → ℕ → Bool
 only x y = y == x
+
+-- what is left of the construct at a place without a body of it; a construct without that body stays
+
+abbrev pub left_or : Tree → Option Pruned → Tree
+left_or t None = t
+left_or t (Some b) = b.left
+
+abbrev pub without_body : (place : ℕ) → Part → Tree → Tree
+without_body p part t = left_or t (pruned p t part)

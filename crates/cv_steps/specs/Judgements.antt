@@ -1,9 +1,9 @@
 -- What is said of a step in a game: its conditions in their order, and the limits of the next game. This profile's own.
 use Rattle.std.specs.Prelude.{ℕ, Bool, ◌&&◌, ◌||◌, nat_lt, if◌then◌else◌}
 use Rattle.cv_syntax.specs.Tree.{Tree, size, depth}
-use Rattle.cv_steps.specs.Scenes.{Scene, has_place, names, is_type}
-use Rattle.cv_steps.specs.Steps.{Step, Split, Let, New, Unnew, Cost}
-use Rattle.cv_steps.specs.Terms.{is_term_at, is_game}
+use Rattle.cv_scenes.specs.Scenes.{Scene, has_place, names, is_type}
+use Rattle.cv_steps.specs.Steps.{Step, Split, Let, New, Unnew, Rewrite, Prune, Cost}
+use Rattle.cv_scenes.specs.Terms.{is_term_at, is_game}
 use Rattle.cv_steps.specs.Rows.{Row, Fails, Leads, row_of}
 
 pub data Judgement : Type 0 where
@@ -18,6 +18,8 @@ stands s (Split p m) = has_place s p && is_term_at s p m
 stands s (Let p x T m) = has_place s p && (is_type s T && is_term_at s p m)
 stands s (New p x T) = has_place s p && is_type s T
 stands s (Unnew x) = s.known x || names x s.game
+stands s (Rewrite p m by) = has_place s p && is_term_at s p m
+stands s (Prune p part by) = has_place s p
 
 -- the limits of a game
 abbrev pub most_nodes : ℕ

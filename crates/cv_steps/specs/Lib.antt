@@ -1,7 +1,6 @@
-pub mod Scenes
 pub mod Steps
 pub mod Changes
-pub mod Terms
+pub mod Rewriting
 pub mod Rows
 pub mod Judgements
 pub mod Chances

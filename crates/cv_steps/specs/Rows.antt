@@ -1,10 +1,16 @@
 -- The rows of steps: the first condition that fails, with its place, or the next game and the cost. This profile's own.
 use Rattle.std.specs.Prelude.{ℕ, Bool, not, if◌then◌else◌, Option, Some, None}
 use Rattle.cv_syntax.specs.Tree.{Tree}
-use Rattle.cv_steps.specs.Scenes.{Scene, is_output_at, is_new, is_queried, is_chosen, first_reading}
-use Rattle.cv_steps.specs.Steps.{Step, Split, Let, New, Unnew, Cost, Zero}
+use Rattle.cv_derivations.specs.Ends.{ends_with}
+use Rattle.cv_scenes.specs.Scenes.{Scene, is_output_at, is_new, is_queried, is_chosen, first_reading, part_at}
+use Rattle.cv_scenes.specs.Sights.{sight_at}
+use Rattle.cv_scenes.specs.Derivations.{first_bad_line}
+use Rattle.cv_scenes.specs.Pruning.{Part, Pruned, pruned}
+use Rattle.cv_steps.specs.Steps.{Step, Split, Let, New, Unnew, Rewrite, Prune, Cost, Zero}
+use Rattle.cv_derivations.specs.Targets.{equality, falsity}
+use Rattle.cv_steps.specs.Rewriting.{has_sort_of, is_rewritable_at, sort_at}
 use Rattle.cv_steps.specs.Changes.{change_at, split_process, after_let, after_new, without, only}
-use Rattle.cv_steps.specs.Terms.{is_bool_at}
+use Rattle.cv_scenes.specs.Terms.{is_bool_at}
 
 pub data Row : Type 0 where
   Fails : (condition place : ℕ) → Row
@@ -35,8 +41,30 @@ unnew_row s x =
     (unless (not (is_queried s x)) 2 0
     (unless_at 2 (first_reading x 0 s.game) (Leads (without (only x) s.game) Zero)))
 
+-- a derivation at a place, each line of which is right and which ends with the targets, and else the rest fails: at the number of
+-- a line by one condition, and by the next where only its end is another
+abbrev pub unless_derived : Scene → (place : ℕ) → (by targets : Tree) → (condition end : ℕ) → Row → Row
+unless_derived s p by targets condition end rest =
+    unless_at condition (first_bad_line (sight_at s p) by) (unless (ends_with by targets) end 0 rest)
+
+abbrev pub rewrite_row : Scene → (place : ℕ) → (term by : Tree) → Row
+rewrite_row s p m by =
+    unless (is_rewritable_at s p) 1 p
+    (unless (has_sort_of (sort_at s p (part_at s.game p)) (sort_at s p m)) 2 0
+    (unless_derived s p by (equality (part_at s.game p) m) 3 4
+    (Leads (change_at s.game p (λ old. m)) Zero)))
+
+abbrev pub prune_row_by : Scene → (place : ℕ) → (by : Tree) → Option Pruned → Row
+prune_row_by s p by None = Fails 1 0
+prune_row_by s p by (Some b) = unless_derived s b.body by falsity 2 3 (Leads (change_at s.game p (λ old. b.left)) Zero)
+
+abbrev pub prune_row : Scene → (place : ℕ) → Part → (by : Tree) → Row
+prune_row s p part by = prune_row_by s p by (pruned p (part_at s.game p) part)
+
 abbrev pub row_of : Scene → Step → Row
 row_of s (Split p m) = split_row s p m
 row_of s (Let p x T m) = let_row s p x T m
 row_of s (New p x T) = new_row s p x T
 row_of s (Unnew x) = unnew_row s x
+row_of s (Rewrite p m by) = rewrite_row s p m by
+row_of s (Prune p part by) = prune_row s p part by

@@ -6,11 +6,11 @@ use Rattle.cv_syntax.specs.declared.head.Head.TheVariants.{Stop, Yield, Par, Rep
 use Rattle.cv_syntax.specs.Tree.{Tree, Empty, Node}
 use Rattle.cv_meaning_runs.specs.Replacement as runs
 use Rattle.cv_meaning_runs.specs.Replacement.{Part, Process, is_output}
-use Rattle.cv_scope_runs.specs.Phrases.{Phrase, Nil, Inputs, Body, Then, Else, Branches, Arm, Pattern, Message, Binders, Cells, Terms, Term, is_phrase}
+use Rattle.cv_scope.specs.Phrases.{Phrase, Nil, Inputs, Body, Then, Else, Branches, Arm, Pattern, Message, Binders, Cells, Terms, Term, is_phrase}
 use Rattle.cv_meaning_unread.specs.Dropping.{defines, reads_none, IsDropped, same, gone, kept, in_parallel, in_list, in_find, in_branch}
 use Rattle.cv_meaning_unread.proofs.Unread.{first_reads, second_reads}
 use Rattle.cv_steps.specs.Changes.{without}
-use Rattle.cv_steps_laws.proofs.Flat.{guarded_of, guards_of, flat_dropped, term_still, nil_still}
+use Rattle.cv_steps.proofs.Flat.{guarded_of, guards_of, flat_dropped, term_still, nil_still}
 
 module _ (xs : ℕ → Bool) where
   -- an output process without some definitions is one

@@ -4,12 +4,9 @@ use Rattle.std.proofs.lemmas.Bool.{both_ways, and_parts, not-true}
 use Rattle.cv_syntax.specs.declared.head.Head.{Head}
 use Rattle.cv_syntax.specs.declared.head.Head.TheVariants as head
 use Rattle.cv_syntax.specs.Declarations.{Declaration}
-use Rattle.cv_syntax.specs.Tree.{Tree, Empty, Node, size, depth, subtree}
-use Rattle.cv_meaning.specs.Side.{no_side}
+use Rattle.cv_syntax.specs.Tree.{Tree, Empty, Node, size, depth}
 use Rattle.cv_meaning.specs.Interpretation.{is_constant_of, setting_of}
-use Rattle.cv_meaning_runs.specs.Agreement.{IsLocal}
-use Rattle.cv_meaning_runs.specs.Replacement.{Process, IsReplaced, is_output}
-use Rattle.cv_meaning_runs.proofs.Places.{replaced_where}
+use Rattle.cv_meaning_runs.specs.Replacement.{Process}
 use Rattle.cv_meaning_unread.specs.Dropping.{defines, is_still}
 use Rattle.cv_meaning_unread.proofs.Chances.{chance_without, split_chance}
 use Rattle.cv_meaning_unread.proofs.PutIn.{put_in}
@@ -18,52 +15,25 @@ use Rattle.cv_typing.proofs.First.{game_alone, parts_typed_where_none}
 use Rattle.cv_scope.specs.Scope.{names_of}
 use Rattle.cv_scope.specs.Standing.{at_root}
 use Rattle.cv_scope.proofs.First.{scoped_where_none}
-use Rattle.cv_scope_runs.specs.Phrases.{Inputs, Term, IsWellFormed, is_phrase, binds_none}
+use Rattle.cv_scope.specs.Phrases.{Inputs, Term, IsWellFormed, is_phrase, binds_none}
 use Rattle.cv_typing_runs.specs.Games.{HasConstants, HasDeclaredSorts, HasKnownNames, HasNamedFunctionsAndCells}
 use Rattle.cv_typing_runs.proofs.Games.{known}
-use Rattle.cv_steps.specs.Scenes.{Scene, KnowsQueries, is_chosen, is_new, is_output_at, is_queried, first_reading, has_place, is_type, names, or_empty, part_at}
-use Rattle.cv_steps.specs.Steps.{Step, Split, Let, New, Unnew, Cost, Zero}
+use Rattle.cv_scenes.specs.Scenes.{Scene, KnowsQueries, is_chosen, is_new, is_output_at, is_queried, first_reading, has_place, is_type, names, part_at}
+use Rattle.cv_steps.specs.Steps.{Step, Split, Let, New, Unnew, Rewrite, Prune, Cost, Zero}
 use Rattle.cv_steps.specs.Changes.{change_at, split_process, after_let, after_new, without, only}
-use Rattle.cv_steps.specs.Terms.{is_term_at, is_bool_at, is_there, names_anywhere, has_site, has_index, is_game}
-use Rattle.cv_steps.specs.Rows.{Row, Fails, Leads, unless, unless_at, split_row, let_row, new_row, unnew_row, row_of}
+use Rattle.cv_scenes.specs.Terms.{is_term_at, is_bool_at, is_there, names_anywhere, has_site, has_index, is_game}
+use Rattle.cv_steps.specs.Rows.{Row, Fails, Leads, unless, split_row, let_row, new_row, unnew_row, row_of}
 use Rattle.cv_steps.specs.Judgements.{Refused, TooLarge, TooDeep, Accepted, most_nodes, most_depth, stands, judgement_of_row, judgement_of}
 use Rattle.cv_steps.specs.Chances.{KeepsChances}
-use Rattle.cv_steps_laws.proofs.Flat.{term_still}
+use Rattle.cv_steps.proofs.Flat.{term_still}
+use Rattle.cv_steps.proofs.Pruned.{prune_leads, pruned_output}
+use Rattle.cv_steps.proofs.Rewritten.{rewrite_leads}
+use Rattle.cv_steps.proofs.Rows.{leads_same, unless_leads, unless_at_leads}
+use Rattle.cv_steps.proofs.Testable.{game_no_calls, game_testable, local}
 use Rattle.cv_steps_laws.proofs.Gone.{dropped_game}
-use Rattle.cv_steps_laws.proofs.Comes.{output_comes}
-use Rattle.cv_steps_laws.proofs.Sorts.{there_named, type_declared, term_declared, declared_replaced, declared_dropped}
-use Rattle.cv_steps_laws.proofs.Unnamed.{unnamed_unread, unnamed_undrawn, unlisted_unread, dropped_undrawn, dropped_phrase, game_testable, game_no_calls, asked_untested}
-
--- rows
-
-pub leads_same : (x y : Tree) (c d : Cost) → Leads x c ≡ Leads y d → x ≡ y
-leads_same x y c d e = cc
-
-pub unless_leads : (v : Bool) (condition place : ℕ) (rest : Row) (next : Tree) (cost : Cost) → unless v condition place rest ≡ Leads next cost → (v ≡ true) × (rest ≡ Leads next cost)
-unless_leads true condition place rest next cost e = (refl, e)
-unless_leads false condition place rest next cost e = absurd (cc)
-
-pub unless_at_leads : (condition : ℕ) (o : Option ℕ) (rest : Row) (next : Tree) (cost : Cost) → unless_at condition o rest ≡ Leads next cost → (o ≡ None) × (rest ≡ Leads next cost)
-unless_at_leads condition None rest next cost e = (refl, e)
-unless_at_leads condition (Some p) rest next cost e = absurd (cc)
-
--- an output process at a place, and the game with another one there
-
-stands_there : (game : Tree) (p : ℕ) → is_output (part_at game p) ≡ true → subtree game p ≡ Some (part_at game p)
-stands_there game p e = go (subtree game p) refl e
-  where
-    go : (o : Option Tree) → subtree game p ≡ o → is_output (or_empty o) ≡ true → o ≡ Some (or_empty o)
-    go None f e = absurd (both_ways false refl e)
-    go (Some b) f e = refl
-
-pub placed : (game : Tree) (p : ℕ) (change : Tree → Tree) → is_phrase Inputs game ≡ true → is_output (part_at game p) ≡ true → IsReplaced (part_at game p) (change (part_at game p)) p Process 0 game (change_at game p change)
-placed game p change e o =
-    let old : Tree = part_at game p in
-    let s : subtree game p ≡ Some old = stands_there game p o in
-    replaced_where old (change old) game p (output_comes game p old e s o) s
-
-local : IsLocal no_side
-local t u arrays call e = refl
+use Rattle.cv_steps.proofs.Comes.{placed}
+use Rattle.cv_steps_laws.proofs.Sorts.{there_named, type_declared, term_declared, declared_replaced, declared_dropped, declared_rewritten, left_declared}
+use Rattle.cv_steps_laws.proofs.Unnamed.{unnamed_unread, unnamed_undrawn, unlisted_unread, dropped_undrawn, dropped_phrase, asked_untested}
 
 -- steps
 
@@ -145,16 +115,6 @@ accepted s step next cost e = go (stands s step) refl (row_of s step) refl e
 pub term_phrase : (s : Scene) (p : ℕ) (m : Tree) → is_term_at s p m ≡ true → is_phrase Term m ≡ true
 term_phrase s p m e = (and_parts (is_phrase Term m) _ e).0
 
-pub steps_keep : (s : Scene) (step : Step) (next : Tree) (cost : Cost) → IsWellFormed s.declarations s.game → KnowsQueries s → judgement_of s step ≡ Accepted next cost → KeepsChances s.declarations s.game next
-steps_keep s (Split p m) next cost w k e =
-    let r = accepted s (Split p m) next cost e in
-    splits s p m next cost w (term_phrase s p m (and_parts (has_place s p) _ r.stands).1) r.row
-steps_keep s (Let p x T m) next cost w k e =
-    let r = accepted s (Let p x T m) next cost e in
-    assigns s p x T m next cost w k (term_phrase s p m (and_parts (is_type s T) _ (and_parts (has_place s p) _ r.stands).1).1) r.row
-steps_keep s (New p x T) next cost w k e = chooses s p x T next cost w k (accepted s (New p x T) next cost e).row
-steps_keep s (Unnew x) next cost w k e = drops s x next cost w (accepted s (Unnew x) next cost e).row
-
 -- next games
 
 none_of : {A : Type 0} (o : Option A) → not (is_some o) ≡ true → o ≡ None
@@ -227,6 +187,16 @@ next_declared s (Unnew x) next cost w d e =
     let o = unless_at_leads 2 (first_reading x 0 s.game) _ next cost q.1 in
     subst (HasDeclaredSorts s.declarations) (leads_same _ next Zero cost o.1)
     (declared_dropped s.declarations (only x) Process s.game (without (only x) s.game) (dropped_game (only x) s.game w (unlisted_unread x 0 s.game o.0)) d)
+next_declared s (Rewrite p m by) next cost w d e =
+    let r = accepted s (Rewrite p m by) next cost e in
+    let z = rewrite_leads s p m by next cost r.row in
+    let t = term_declared s.declarations m (term_phrase s p m (and_parts (has_place s p) _ r.stands).1) in
+    subst (HasDeclaredSorts s.declarations) z.leads (declared_rewritten s.declarations m t Inputs s.game p z.stands d)
+next_declared s (Prune p part by) next cost w d e =
+    let r = accepted s (Prune p part by) next cost e in
+    let z = prune_leads s p part by next cost r.row in
+    subst (HasDeclaredSorts s.declarations) z.leads
+    (declared_there s p (λ old. z.gone.left) w (pruned_output p (part_at s.game p) part z.gone z.stands) (left_declared s.declarations p (part_at s.game p) part z.gone z.stands) d)
 
 pub formed : (ds : List Declaration) (game : Tree) → is_game ds game ≡ true → IsWellFormed ds game
 formed ds game e = (game_formed ds game e).formed

@@ -1,25 +1,31 @@
 -- What the laws of runs ask of a game beside typing and scope: that its names are known, and its types and parameters declared.
-use Rattle.std.proofs.Common.{◌≡◌, ℕ, ◌==◌, ◌&&◌, Bool, true, false, cond, List, [], ◌∷◌, Contains, inr, Option, Some, None, is_some, refl, sym, ap, ap₂, subst, ◌∙◌, eqb-true}
+use Rattle.std.proofs.Common.{◌≡◌, ℕ, ◌+◌, ◌-◌, ◌==◌, ◌&&◌, Bool, true, false, cond, List, [], ◌∷◌, Contains, inr, Option, Some, None, is_some, refl, sym, ap, ap₂, subst, ◌∙◌, eqb-true}
 use Rattle.std.proofs.lemmas.Bool.{both_ways, and_parts}
 use Rattle.std.proofs.lemmas.List.Elements.{Contains-append_left, Contains-append_right, Contains-push}
 use Rattle.cv_syntax.specs.declared.decls.Class.TheVariants as class
 use Rattle.cv_syntax.specs.declared.head.Head.{Head}
-use Rattle.cv_syntax.specs.declared.head.Head.TheVariants.{Leaf, Read, Apply, Cons, Key, Call}
+use Rattle.cv_syntax.specs.declared.head.Head.TheVariants.{In, Branch, Leaf, Read, Apply, Cons, Key, Call}
 use Rattle.cv_syntax.specs.Declarations.{Declaration, Named, Equation, Equiv, Query}
-use Rattle.cv_syntax.specs.Tree.{Tree, Empty, Node}
+use Rattle.cv_syntax.specs.Head.{weight}
+use Rattle.cv_syntax.specs.Tree.{Tree, Empty, Node, size}
 use Rattle.cv_meaning_adequacy.specs.Typed as meaning
 use Rattle.cv_meaning_adequacy.specs.Typed.{IsDeclared}
 use Rattle.cv_meaning_runs.specs.Replacement as at
-use Rattle.cv_meaning_runs.specs.Replacement.{Part, Process, IsReplaced, if_tree}
+use Rattle.cv_meaning_runs.specs.Replacement.{Part, Process, IsReplaced, replaced}
 use Rattle.cv_meaning_unread.specs.Dropping.{IsDropped, same, gone, kept, in_parallel, in_list, in_find, in_branch, in_later_branch}
 use Rattle.cv_scope.specs.Context.{first_position, second_position}
-use Rattle.cv_scope_runs.specs.Phrases.{Phrase, Body, Guards, Cells, OneCell, Term, parts, oracle_parts, both_are, is_phrase}
+use Rattle.cv_scope.specs.Phrases.{Phrase, Inputs, Arm, Body, Guards, Cells, OneCell, Term, parts, oracle_parts, both_are, is_phrase}
 use Rattle.cv_scope_runs.proofs.Rows.{position_of, placed}
 use Rattle.cv_typing.specs.Signature.{function_in, declaration_of}
-use Rattle.cv_typing_runs.specs.Games.{HasDeclaredSorts, is_variable_cell, are_variable_cells, is_named, are_named}
-use Rattle.cv_steps.specs.Scenes.{is_type_by}
-use Rattle.cv_steps.specs.Terms.{Names, is_function, head_is_there, is_there}
-use Rattle.cv_steps_laws.proofs.Flat.{AreStill, IfStill, is_of_terms, open_phrase, rows_still}
+use Rattle.cv_typing_runs.specs.Games.{HasDeclaredSorts, NamesDeclared, is_variable_cell, are_variable_cells, is_named, are_named}
+use Rattle.cv_scenes.specs.Scenes.{is_type_by}
+use Rattle.cv_scenes.specs.Terms.{Names, is_function, head_is_there, is_there}
+use Rattle.cv_scenes.specs.Pruning as pruning
+use Rattle.cv_scenes.specs.Pruning.{Pruned, pruned}
+use Rattle.cv_steps.specs.Rewriting.{has_term_at, parts_of}
+use Rattle.cv_steps.proofs.Places.{Found, IsInFirst, IsInSecond, bare, found, here, in_first, in_second, is_bare, nothing_there}
+use Rattle.cv_steps.proofs.Pruned.{left_keeps}
+use Rattle.cv_steps.proofs.Flat.{AreStill, IfStill, is_of_terms, open_phrase, rows_still}
 
 -- names
 
@@ -142,3 +148,35 @@ declared_dropped ds xs part b c (in_list {a = a} {b = x} {c = e} {d = y} w z) d 
 declared_dropped ds xs part b c (in_find {a = a} {b = x} {c = e} {d = y} w z) d = (tt, declared_dropped ds xs at.Branches a e w d.1, declared_dropped ds xs Process x y z d.2)
 declared_dropped ds xs part b c (in_branch {b = x} {c = y} {more = more} {rest = rest} e f h w z) d = (tt, (d.1.0, d.1.1, (tt, d.1.2.1, (tt, d.1.2.2.1, declared_dropped ds xs Process x y w d.1.2.2.2))), declared_dropped ds xs at.Branches more rest z d.2)
 declared_dropped ds xs part b c (in_later_branch {b = x} {c = y} e z) d = (tt, d.1, declared_dropped ds xs at.Branches x y z d.2)
+
+-- what is left of a construct
+
+pub left_declared : (ds : List Declaration) (p : ℕ) (t : Tree) (part : pruning.Part) (b : Pruned) → pruned p t part ≡ Some b → HasDeclaredSorts ds t → HasDeclaredSorts ds b.left
+unfolding HasDeclaredSorts
+left_declared ds p t part b e d = left_keeps (HasDeclaredSorts ds) (λ h x y k. (k.1, k.2)) (λ h x y z k l. (k.0, k.1, l)) (λ l x y z k n. (tt, n, k.2)) p t part b e d
+
+-- a term in the place of another
+
+no_pattern : (σ : Phrase) (c : ℕ) → is_bare (parts_of σ (In c)).0 ≡ true
+no_pattern Inputs c = refl
+no_pattern σ c = refl
+
+no_binders : (σ : Phrase) → is_bare (parts_of σ Branch).0 ≡ true
+no_binders Arm = refl
+no_binders σ = refl
+
+head_declared : (ds : List Declaration) (m : Tree) (σ : Phrase) (h : Head) (a : Tree) (q : ℕ) → has_term_at (parts_of σ h).0 a q ≡ true → NamesDeclared ds h a → NamesDeclared ds h (replaced a q m)
+head_declared ds m σ (In c) a q e d = absurd (bare (parts_of σ (In c)).0 a q (no_pattern σ c) e)
+head_declared ds m σ Branch a q e d = absurd (bare (parts_of σ Branch).0 a q (no_binders σ) e)
+head_declared ds m σ h a q e d = d
+
+pub declared_rewritten : (ds : List Declaration) (m : Tree) → HasDeclaredSorts ds m → (σ : Phrase) (t : Tree) (q : ℕ) → has_term_at σ t q ≡ true → HasDeclaredSorts ds t → HasDeclaredSorts ds (replaced t q m)
+unfolding HasDeclaredSorts
+declared_rewritten ds m k σ Empty q e d = absurd (nothing_there σ q e)
+declared_rewritten ds m k σ (Node h a b) q e d =
+    go (found m σ h a b q e) (λ f. declared_rewritten ds m k (parts_of σ h).0 a (q - weight h) f.term d.1) (λ f. declared_rewritten ds m k (parts_of σ h).1 b (q - (weight h + size a)) f.term d.2)
+  where
+    go : Found m σ h a b q → (IsInFirst m σ h a b q → HasDeclaredSorts ds (replaced a (q - weight h) m)) → (IsInSecond m σ h a b q → HasDeclaredSorts ds (replaced b (q - (weight h + size a)) m)) → HasDeclaredSorts ds (replaced (Node h a b) q m)
+    go (here f) x y = subst (HasDeclaredSorts ds) (sym f.next) k
+    go (in_first f) x y = subst (HasDeclaredSorts ds) (sym f.next) (head_declared ds m σ h a (q - weight h) f.term d.0, x f, d.2)
+    go (in_second f) x y = subst (HasDeclaredSorts ds) (sym f.next) (d.0, d.1, y f)

@@ -1,23 +1,21 @@
 -- What follows of a game that doesn't name a variable, and of queries that don't ask for it.
 use Rattle.std.proofs.Common.{◌≡◌, ℕ, ◌==◌, ◌&&◌, ◌||◌, Bool, true, false, cond, not, List, [], ◌∷◌, Contains, ◌⊎◌, inl, inr, Option, Some, None, refl, sym, ap, ap₂, subst, ◌∙◌, arith, eqb-true, eq-eqb}
 use Rattle.std.specs.List.{list_any}
-use Rattle.std.proofs.lemmas.Bool.{both_ways, and_parts, or_parts, or_left, or_right}
+use Rattle.std.proofs.lemmas.Bool.{both_ways, or_parts, or_left, or_right}
 use Rattle.std.proofs.lemmas.List.Elements.{Contains-append_cases, Contains-push_cases}
 use Rattle.cv_syntax.specs.declared.head.Head.{Head}
-use Rattle.cv_syntax.specs.declared.head.Head.TheVariants.{New, Let, In, Repl, Key, Call, Leaf, Read}
+use Rattle.cv_syntax.specs.declared.head.Head.TheVariants.{New, Let, Leaf, Read}
 use Rattle.cv_syntax.specs.Tree.{Tree, Empty, Node, head_reads_only, reads_only, first_place, second_place}
-use Rattle.cv_meaning.specs.Runs.{Mode, Events, Real, Random}
+use Rattle.cv_meaning.specs.Runs.{Events, Real, Random}
 use Rattle.cv_meaning.specs.Experiments.{Experiment, Breaks, Guesses, mode_of}
 use Rattle.cv_meaning.specs.Advantage.{IsAsked, secrecy_query}
-use Rattle.cv_meaning_runs.specs.Listed.{head_is_testable, is_testable, IsTestable, has_no_calls}
 use Rattle.cv_meaning_unread.specs.Dropping.{defines, reads_none, head_draws_none, draws_none, IsUntested}
 use Rattle.cv_query_form.specs.Queries.{queries_in}
 use Rattle.cv_directory.specs.Sites.{first_of}
-use Rattle.cv_scope_runs.specs.Phrases.{Phrase, Inputs, Body, Nil, Term, parts, both_are, is_phrase, head_is_plain}
-use Rattle.cv_scope_runs.proofs.Plain.{phrase_plain, plain_no_calls}
-use Rattle.cv_steps.specs.Scenes.{Scene, head_names, names, head_reads, first_reading, asks_for, is_queried}
+use Rattle.cv_scope.specs.Phrases.{Phrase, Body, Nil, Term, parts, both_are, is_phrase}
+use Rattle.cv_scenes.specs.Scenes.{Scene, head_names, names, head_reads, first_reading, asks_for, is_queried}
 use Rattle.cv_steps.specs.Changes.{without, only}
-use Rattle.cv_steps_laws.proofs.Flat.{open_phrase}
+use Rattle.cv_steps.proofs.Flat.{open_phrase}
 
 not_false : (b : Bool) → b ≡ false → not b ≡ true
 not_false b e = ap not e
@@ -102,32 +100,6 @@ dropped_phrase xs σ (Node h a b) e =
     go : (v : Bool) → defines xs h ≡ v → (q : Phrase × Phrase) → parts σ h ≡ Some q → is_phrase q.0 (without xs a) ≡ true → is_phrase q.1 (without xs b) ≡ true → is_phrase σ (cond v (without xs b) (Node h (without xs a) (without xs b))) ≡ true
     go true d q f k l = subst (λ τ. is_phrase τ (without xs b) ≡ true) (same_second xs σ h q d f) l
     go false d q f k l = ap (λ o. both_are o (λ τ. is_phrase τ (without xs a)) (λ ρ. is_phrase ρ (without xs b))) f ∙ ap₂ ◌&&◌ k l
-
--- games can be tested, and have no calls
-
-head_testable : (x : ℕ) (σ : Phrase) (h : Head) (a b : Tree) → is_phrase σ (Node h a b) ≡ true → head_is_plain h ≡ true → head_is_testable x h a ≡ true
-unfolding is_phrase
-head_testable x σ (Key y) a b e f = absurd (both_ways false refl f)
-head_testable x σ (Call y l) a b e f = absurd (both_ways false refl f)
-head_testable x Inputs (In c) (Node (Repl i n) d g) b e f = absurd (both_ways false refl e)
-head_testable x σ (In c) (Node (Repl i n) d g) b e f = absurd (both_ways false refl e)
-head_testable x σ (In c) a b e f = refl
-head_testable x σ h a b e f = refl
-
-testable : (x : ℕ) (σ : Phrase) (t : Tree) → is_phrase σ t ≡ true → is_testable x t ≡ true
-testable x σ Empty e = refl
-testable x σ (Node h a b) e =
-    let o = open_phrase σ h a b e in
-    let plain = (and_parts (head_is_plain h) _ (phrase_plain σ (Node h a b) e)).0 in
-    ap₂ ◌&&◌ (head_testable x σ h a b e plain) (ap₂ ◌&&◌ (testable x o.0.0 a o.2) (testable x o.0.1 b o.3))
-
-pub game_testable : (m : Mode) (game : Tree) → is_phrase Inputs game ≡ true → IsTestable m game
-game_testable Events game e = tt
-game_testable (Real one x) game e = tt
-game_testable (Random one x) game e = testable x Inputs game e
-
-pub game_no_calls : (game : Tree) → is_phrase Inputs game ≡ true → has_no_calls game ≡ true
-game_no_calls game e = plain_no_calls game (phrase_plain Inputs game e)
 
 -- queries
 

@@ -15,12 +15,12 @@ use Rattle.cv_typing.specs.Signature.{count}
 use Rattle.cv_query_form.specs.Queries.{queries_in}
 use Rattle.cv_scope.specs.Context.{context_at}
 use Rattle.cv_scope.specs.Sites.{sites_from}
-use Rattle.cv_scope_runs.specs.Made.{is_bound}
-use Rattle.cv_scope_runs.specs.Phrases.{is_phrase, binds_none, IsWellFormed}
-use Rattle.cv_steps.specs.Scenes.{KnowsQueries, names, first_reading, has_news_alone, has_some_new}
+use Rattle.cv_scope.specs.Made.{is_bound}
+use Rattle.cv_scope.specs.Phrases.{is_phrase, binds_none, IsWellFormed}
+use Rattle.cv_scenes.specs.Scenes.{KnowsQueries, names, first_reading, has_news_alone, has_some_new}
 use Rattle.cv_steps.specs.Steps.{Split, Let, New, Unnew, Zero}
 use Rattle.cv_steps.specs.Changes.{without}
-use Rattle.cv_steps.specs.Terms.{is_there, is_game}
+use Rattle.cv_scenes.specs.Terms.{is_there, is_game}
 use Rattle.cv_steps.specs.Judgements.{Refused, Accepted, judgement_of}
 use Rattle.cv_steps_laws.specs.Worked.{asked, cases, draws, draws_more, equal, more, plain, receives, sends}
 use Rattle.cv_steps_laws.proofs.Keeping.{formed}

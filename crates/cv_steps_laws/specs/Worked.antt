@@ -8,7 +8,7 @@ use Rattle.cv_syntax.specs.Builders.{input, leaf, output}
 use Rattle.cv_syntax.specs.Declarations.{Declaration, Named, Query}
 use Rattle.cv_syntax.specs.Tree.{Tree, Empty, Node, lone}
 use Rattle.cv_meaning_runs.specs.Replacement.{if_tree}
-use Rattle.cv_steps.specs.Scenes.{Scene}
+use Rattle.cv_scenes.specs.Scenes.{Scene}
 use Rattle.cv_steps.specs.Steps.{Step, Split, Let, New, Unnew, Zero}
 use Rattle.cv_steps.specs.Judgements.{Judgement, Refused, Accepted}
 

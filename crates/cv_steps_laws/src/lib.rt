@@ -7,14 +7,14 @@ ghost use Rattle.cv_syntax.specs.Tree.{Tree};
 ghost use Rattle.cv_meaning_runs.specs.Replacement.{IsReplaced, Process, is_output};
 ghost use Rattle.cv_meaning_unread.specs.Dropping.{IsDropped, reads_none};
 ghost use Rattle.cv_typing.specs.Parts.{IsTypedGame};
-ghost use Rattle.cv_scope_runs.specs.Phrases.{Inputs, IsWellFormed, Term, is_phrase};
+ghost use Rattle.cv_scope.specs.Phrases.{Inputs, IsWellFormed, Term, is_phrase};
 ghost use Rattle.cv_typing_runs.specs.Games.{
   HasConstants,
   HasDeclaredSorts,
   HasKnownNames,
   HasNamedFunctionsAndCells,
 };
-ghost use Rattle.cv_steps.specs.Scenes.{KnowsQueries, Scene, part_at};
+ghost use Rattle.cv_scenes.specs.Scenes.{KnowsQueries, Scene, part_at};
 ghost use Rattle.cv_steps.specs.Steps.{Cost, Step, Unnew, Zero};
 ghost use Rattle.cv_steps.specs.Changes.{change_at, without};
 ghost use Rattle.cv_steps.specs.Rows.{Leads, let_row, new_row, split_row, unnew_row};
@@ -49,13 +49,6 @@ pub fn unread_choices_may_go()
     ensures { (s : Scene) (x : ℕ) (next : Tree) (cost : Cost) →
         IsWellFormed s.declarations s.game → unnew_row s x ≡ Leads next cost →
         KeepsChances s.declarations s.game next }
-{}
-
-/// Each step that is accepted in a well-formed game keeps chances.
-pub fn accepted_steps_keep_chances()
-    ensures { (s : Scene) (step : Step) (next : Tree) (cost : Cost) →
-        IsWellFormed s.declarations s.game → KnowsQueries s →
-        judgement_of s step ≡ Accepted next cost → KeepsChances s.declarations s.game next }
 {}
 
 /// An accepted step leads to a game with all that the laws of runs ask for: it is well-formed and typed, its

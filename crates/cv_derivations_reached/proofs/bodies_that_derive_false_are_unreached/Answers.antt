@@ -3,8 +3,8 @@ use Rattle.std.proofs.lemmas.List.Elements.{All-weaker}
 use Rattle.cv_meaning.specs.Interpretation.{setting_of}
 use Rattle.cv_meaning.specs.Experiments.{visits_of_run}
 use Rattle.cv_meaning_runs.proofs.Lists.{all_map}
-use Rattle.cv_derivations_reached.specs.Holding.{HoldAtFind, HoldAtVisit}
-use Rattle.cv_derivations_reached.specs.Unreached.{HasNoneAt, IsElsewhere}
+use Rattle.cv_derivations_under.specs.Holding.{HoldAtFind, HoldAtVisit}
+use Rattle.cv_derivations_under.specs.Unreached.{HasNoneAt, IsElsewhere}
 use Rattle.cv_derivations_reached.proofs.Targets.{elsewhere, none-at}
 use Rattle.cv_derivations_reached.proofs.bodies_that_derive_false_are_unreached.Goals as goal
 

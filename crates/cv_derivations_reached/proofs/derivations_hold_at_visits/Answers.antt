@@ -5,7 +5,7 @@ use Rattle.cv_meaning.specs.Interpretation.{setting_of}
 use Rattle.cv_meaning.specs.Experiments.{visits_of_run}
 use Rattle.cv_meaning_runs.proofs.Placed.{visits_subtrees}
 use Rattle.cv_derivations_under.specs.Reached.{HasTypes}
-use Rattle.cv_derivations_reached.specs.Holding.{HoldAtConditions, HoldAtFind, HoldAtVisit}
+use Rattle.cv_derivations_under.specs.Holding.{HoldAtConditions, HoldAtFind, HoldAtVisit}
 use Rattle.cv_derivations_reached.proofs.Reached.{all-tests-hold, finds-hold, visits-hold}
 use Rattle.cv_derivations_reached.proofs.derivations_hold_at_visits.Goals as goal
 

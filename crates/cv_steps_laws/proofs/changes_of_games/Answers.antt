@@ -1,6 +1,6 @@
-use Rattle.cv_scope_runs.specs.Phrases.{Inputs}
+use Rattle.cv_scope.specs.Phrases.{Inputs}
 use Rattle.cv_steps_laws.proofs.Gone.{dropped_game}
-use Rattle.cv_steps_laws.proofs.Keeping.{placed}
+use Rattle.cv_steps.proofs.Comes.{placed}
 use Rattle.cv_steps_laws.proofs.Unnamed.{dropped_phrase}
 use Rattle.cv_steps_laws.proofs.changes_of_games.Goals as goal
 

@@ -1,21 +1,17 @@
 -- Bodies that no copy reaches: those at which `false` is derived. This profile's own.
 use Rattle.std.specs.Prelude.{◌≡◌, ℕ, ◌+◌, true, false, List}
-use Rattle.cv_syntax.specs.declared.head.Head.TheVariants.{Branch, Cons, Find, Line}
+use Rattle.cv_syntax.specs.declared.head.Head.TheVariants.{Branch, Cons, Find}
 use Rattle.cv_syntax.specs.Layouts.{IsSyntax}
-use Rattle.cv_syntax.specs.Tree.{Tree, Empty, Node, first, first_place, second, second_place, size}
+use Rattle.cv_syntax.specs.Tree.{Tree, Node, first, first_place, second, second_place, size}
 use Rattle.cv_meaning.specs.Interpretation.{Interpretation, setting_of}
 use Rattle.cv_meaning.specs.Binders.{bound_to, fits}
 use Rattle.cv_meaning.specs.Candidates.{is_candidate}
 use Rattle.cv_meaning.specs.Memory.{Indices, Local, Memory, tuple}
 use Rattle.cv_meaning.specs.Serving.{Visit}
-use Rattle.cv_steps.specs.Scenes.{Scene}
-use Rattle.cv_derivations.specs.Derivations.{Derives}
-use Rattle.cv_derivations.specs.Sights.{sight_at}
-use Rattle.cv_derivations.specs.Truths.{no}
-
--- the line `false`, as a target
-abbrev pub falsity : Tree
-falsity = Node Cons (Node Line no Empty) Empty
+use Rattle.cv_scenes.specs.Scenes.{Scene}
+use Rattle.cv_scenes.specs.Derivations.{Derives}
+use Rattle.cv_scenes.specs.Sights.{sight_at}
+use Rattle.cv_derivations.specs.Targets.{falsity}
 
 abbrev pub DerivesFalse : Scene → ℕ → Tree → Type 0
 DerivesFalse s q by = Derives (sight_at s q) by falsity

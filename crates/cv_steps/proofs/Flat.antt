@@ -8,7 +8,7 @@ use Rattle.cv_syntax.specs.Declarations.{Declaration}
 use Rattle.cv_syntax.specs.Head.{weight}
 use Rattle.cv_syntax.specs.Tree.{Tree, Empty, Node, size, subtree}
 use Rattle.cv_meaning_runs.specs.Replacement.{is_output}
-use Rattle.cv_scope_runs.specs.Phrases.{Phrase, Nil, Inputs, Body, Then, Else, Branches, Arm, Guards, Guarded, Pattern, Message, Indices, Binders, Cells, OneCell, Terms, Term, parts, both_are, is_phrase}
+use Rattle.cv_scope.specs.Phrases.{Phrase, Nil, Inputs, Body, Then, Else, Branches, Arm, Guards, Guarded, Pattern, Message, Indices, Binders, Cells, OneCell, Terms, Term, parts, both_are, is_phrase}
 use Rattle.cv_meaning_unread.specs.Dropping.{defines, head_is_still, is_still}
 use Rattle.cv_typing_runs.specs.Games.{NamesDeclared}
 use Rattle.cv_steps.specs.Changes.{without}
@@ -109,12 +109,16 @@ flat_output σ (Node h a c) p b f e s o =
     go false true z n k l = k z
     go false false z n k l = l z
 
--- terms draw and define nothing, and name no types
+-- terms and cells draw and define nothing, and name no types
 
 abbrev pub is_of_terms : Phrase → Bool
 is_of_terms Term = true
 is_of_terms Terms = true
 is_of_terms Nil = true
+is_of_terms Message = true
+is_of_terms Indices = true
+is_of_terms Cells = true
+is_of_terms OneCell = true
 is_of_terms σ = false
 
 -- a node there, and its children
@@ -132,6 +136,15 @@ pub rows_still : (σ : Phrase) (h : Head) → is_of_terms σ ≡ true → IfStil
 rows_still Nil h e = tt
 rows_still Terms Cons e = record { first = refl; second = refl; still = refl; unsorted = λ ds a. tt }
 rows_still Terms h e = tt
+rows_still Message Cons e = record { first = refl; second = refl; still = refl; unsorted = λ ds a. tt }
+rows_still Message h e = tt
+rows_still Indices (Name i) e = record { first = refl; second = refl; still = refl; unsorted = λ ds a. tt }
+rows_still Indices h e = tt
+rows_still Cells Cons e = record { first = refl; second = refl; still = refl; unsorted = λ ds a. tt }
+rows_still Cells h e = tt
+rows_still OneCell (Leaf x) e = record { first = refl; second = refl; still = refl; unsorted = λ ds a. tt }
+rows_still OneCell (Read x) e = record { first = refl; second = refl; still = refl; unsorted = λ ds a. tt }
+rows_still OneCell h e = tt
 rows_still Term (Leaf x) e = record { first = refl; second = refl; still = refl; unsorted = λ ds a. tt }
 rows_still Term (Read x) e = record { first = refl; second = refl; still = refl; unsorted = λ ds a. tt }
 rows_still Term (Apply f) e = record { first = refl; second = refl; still = refl; unsorted = λ ds a. tt }
@@ -144,7 +157,7 @@ rows_still Term No e = record { first = refl; second = refl; still = refl; unsor
 rows_still Term h e = tt
 rows_still σ h e = absurd (both_ways false refl e)
 
-terms_still : (σ : Phrase) (t : Tree) → is_of_terms σ ≡ true → is_phrase σ t ≡ true → is_still t ≡ true
+pub terms_still : (σ : Phrase) (t : Tree) → is_of_terms σ ≡ true → is_phrase σ t ≡ true → is_still t ≡ true
 terms_still σ Empty f e = refl
 terms_still σ (Node h a b) f e =
     let o = open_phrase σ h a b e in

@@ -1,14 +1,17 @@
 -- In a well-formed game a service may come to each output process.
-use Rattle.std.proofs.Common.{◌≡◌, ℕ, ◌+◌, ◌-◌, ◌<◌, ◌≤◌, Bool, true, false, cond, ◌⊎◌, inl, inr, Some, refl, sym, ap, ap₂, ◌∙◌, arith, nat_lt, ltb, ltb-true, ltb-false, le-ltb, lt-ltb}
+use Rattle.std.proofs.Common.{◌≡◌, ℕ, ◌+◌, ◌-◌, ◌<◌, ◌≤◌, Bool, true, false, cond, ◌⊎◌, inl, inr, Option, Some, None, refl, sym, ap, ap₂, ◌∙◌, arith, nat_lt, ltb, ltb-true, ltb-false, le-ltb, lt-ltb}
 use Rattle.std.proofs.lemmas.Bool.{both_ways, and_parts}
 use Rattle.cv_syntax.specs.declared.head.Head.{Head}
 use Rattle.cv_syntax.specs.declared.head.Head.TheVariants.{Stop, Yield, Par, Repl, In, Out, Event, New, Let, If, Find, Branch, Cons}
 use Rattle.cv_syntax.specs.Head.{weight}
 use Rattle.cv_syntax.specs.Tree.{Tree, Empty, Node, size, subtree}
 use Rattle.cv_meaning_runs.specs.Replacement as runs
-use Rattle.cv_meaning_runs.specs.Replacement.{Part, Process, in_first, before_body, may_come, is_output}
-use Rattle.cv_scope_runs.specs.Phrases.{Phrase, Nil, Inputs, Body, Then, Else, Branches, Arm, Pattern, Message, Binders, Cells, Terms, Term, is_phrase}
-use Rattle.cv_steps_laws.proofs.Flat.{is_flat, flat_output, guarded_of, guards_of}
+use Rattle.cv_meaning_runs.specs.Replacement.{Process, IsReplaced, in_first, before_body, may_come, is_output}
+use Rattle.cv_meaning_runs.proofs.Places.{replaced_where}
+use Rattle.cv_scope.specs.Phrases.{Phrase, Nil, Inputs, Body, Then, Else, Branches, Arm, Pattern, Message, Binders, Cells, Terms, Term, is_phrase}
+use Rattle.cv_scenes.specs.Scenes.{or_empty, part_at}
+use Rattle.cv_steps.specs.Changes.{change_at}
+use Rattle.cv_steps.proofs.Flat.{is_flat, flat_output, guarded_of, guards_of}
 
 subtree_second : (h : Head) (a b : Tree) (p q : ℕ) → weight h + size a + q ≡ p → subtree (Node h a b) p ≡ subtree b q
 unfolding subtree
@@ -184,3 +187,18 @@ module _ (old : Tree) (o : is_output old ≡ true) where
 
 pub output_comes : (game : Tree) (p : ℕ) (old : Tree) → is_phrase Inputs game ≡ true → subtree game p ≡ Some old → is_output old ≡ true → may_come Process game p ≡ true
 output_comes game p old e s o = comes old o Inputs game e p s
+
+-- an output process at a place, and the game with another one there
+
+stands_there : (game : Tree) (p : ℕ) → is_output (part_at game p) ≡ true → subtree game p ≡ Some (part_at game p)
+stands_there game p e = go (subtree game p) refl e
+  where
+    go : (o : Option Tree) → subtree game p ≡ o → is_output (or_empty o) ≡ true → o ≡ Some (or_empty o)
+    go None f e = absurd (both_ways false refl e)
+    go (Some b) f e = refl
+
+pub placed : (game : Tree) (p : ℕ) (change : Tree → Tree) → is_phrase Inputs game ≡ true → is_output (part_at game p) ≡ true → IsReplaced (part_at game p) (change (part_at game p)) p Process 0 game (change_at game p change)
+placed game p change e o =
+    let old : Tree = part_at game p in
+    let s : subtree game p ≡ Some old = stands_there game p o in
+    replaced_where old (change old) game p (output_comes game p old e s o) s

@@ -10,15 +10,15 @@ use Rattle.cv_meaning.specs.Binders.{bound_to, fits}
 use Rattle.cv_meaning.specs.Candidates.{are_assigned, is_candidate}
 use Rattle.cv_meaning.specs.Memory.{Indices, Local, Memory, Store, tuple}
 use Rattle.cv_meaning.specs.Serving.{Visit}
-use Rattle.cv_scope_runs.specs.Phrases.{IsWellFormed}
+use Rattle.cv_scope.specs.Phrases.{IsWellFormed}
 use Rattle.cv_typing.specs.Parts.{IsTypedGame}
 use Rattle.cv_typing_runs.specs.Games.{HasArguments, HasDeclaredSorts, HasKnownNames, HasNamedFunctionsAndCells}
 use Rattle.cv_facts.specs.Promises.{IsOwnTerm}
-use Rattle.cv_steps.specs.Scenes.{Scene}
-use Rattle.cv_derivations.specs.Derivations.{first_bad_line}
+use Rattle.cv_scenes.specs.Scenes.{Scene}
+use Rattle.cv_scenes.specs.Derivations.{first_bad_line}
 use Rattle.cv_derivations.specs.Lines.{lines_of, statements}
-use Rattle.cv_derivations.specs.Sights.{sight_at}
-use Rattle.cv_derivations_laws.specs.Truth.{HasClosedEquations, IsTrue}
+use Rattle.cv_scenes.specs.Sights.{sight_at}
+use Rattle.cv_derivations_under.specs.Truth.{HasClosedEquations, IsTrue}
 
 -- what is asked of a game, and of the declarations of its file
 pub record IsReady (ds : List Declaration) (game : Tree) : Type 0 where

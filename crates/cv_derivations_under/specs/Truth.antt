@@ -10,9 +10,9 @@ use Rattle.cv_meaning.specs.Terms.{found_in, value}
 use Rattle.cv_meaning.specs.Candidates.{is_assigned}
 use Rattle.cv_meaning_adequacy.specs.Typed.{HasSort, Sort, size_of}
 use Rattle.cv_typing_runs.specs.Games.{context_of}
-use Rattle.cv_steps.specs.Terms.{replications_at}
+use Rattle.cv_scenes.specs.Terms.{replications_at}
 use Rattle.cv_derivations.specs.Lines.{Statement, Holds, IsDefined}
-use Rattle.cv_derivations.specs.Sights.{Sight, is_cell_at, site_cells, site_facts}
+use Rattle.cv_scenes.specs.Sights.{Sight, is_cell_at, site_cells, site_facts}
 
 -- a term is 1 in the second store; a cell is assigned in the first one, where its indices have their values in the second
 abbrev pub IsTrue : Setting → Indices → (m n : Store) → Statement → Type 0

@@ -1,0 +1,27 @@
+-- Each step that is accepted keeps chances.
+use Rattle.std.proofs.Common.{◌≡◌}
+use Rattle.std.proofs.lemmas.Bool.{and_parts}
+use Rattle.cv_syntax.specs.Tree.{Tree}
+use Rattle.cv_derivations_under.specs.Holding.{IsReady}
+use Rattle.cv_derivations_under.specs.Soundness.{DerivationsHold, DerivedBodiesAreUnreached}
+use Rattle.cv_scenes.specs.Scenes.{KnowsQueries, Scene, has_place, is_type}
+use Rattle.cv_steps.specs.Steps.{Cost, Let, New, Prune, Rewrite, Split, Step, Unnew}
+use Rattle.cv_steps.specs.Judgements.{Accepted, judgement_of}
+use Rattle.cv_steps.specs.Chances.{KeepsChances}
+use Rattle.cv_steps_laws.proofs.Keeping.{accepted, assigns, chooses, drops, splits, term_phrase}
+use Rattle.cv_steps_pruning.proofs.Keeping.{prunes}
+use Rattle.cv_steps_rewriting.proofs.Keeping.{rewrites}
+
+pub steps_keep : (s : Scene) (step : Step) (next : Tree) (cost : Cost) → IsReady s.declarations s.game → DerivationsHold s.declarations → DerivedBodiesAreUnreached s.declarations → KnowsQueries s → judgement_of s step ≡ Accepted next cost → KeepsChances s.declarations s.game next
+steps_keep s (Split p m) next cost w d u k e =
+    let r = accepted s (Split p m) next cost e in
+    splits s p m next cost w.formed (term_phrase s p m (and_parts (has_place s p) _ r.stands).1) r.row
+steps_keep s (Let p x T m) next cost w d u k e =
+    let r = accepted s (Let p x T m) next cost e in
+    assigns s p x T m next cost w.formed k (term_phrase s p m (and_parts (is_type s T) _ (and_parts (has_place s p) _ r.stands).1).1) r.row
+steps_keep s (New p x T) next cost w d u k e = chooses s p x T next cost w.formed k (accepted s (New p x T) next cost e).row
+steps_keep s (Unnew x) next cost w d u k e = drops s x next cost w.formed (accepted s (Unnew x) next cost e).row
+steps_keep s (Rewrite p m by) next cost w d u k e =
+    let r = accepted s (Rewrite p m by) next cost e in
+    rewrites s p m by next cost w d (and_parts (has_place s p) _ r.stands).1 r.row
+steps_keep s (Prune p part by) next cost w d u k e = prunes s p part by next cost w u (accepted s (Prune p part by) next cost e).row

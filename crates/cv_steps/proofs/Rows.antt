@@ -1,0 +1,16 @@
+-- What follows of a row that leads to a game: no condition of it fails.
+use Rattle.std.proofs.Common.{◌≡◌, ℕ, Bool, true, false, Option, Some, None, refl}
+use Rattle.cv_syntax.specs.Tree.{Tree}
+use Rattle.cv_steps.specs.Steps.{Cost}
+use Rattle.cv_steps.specs.Rows.{Row, Leads, unless, unless_at}
+
+pub leads_same : (x y : Tree) (c d : Cost) → Leads x c ≡ Leads y d → x ≡ y
+leads_same x y c d e = cc
+
+pub unless_leads : (v : Bool) (condition place : ℕ) (rest : Row) (next : Tree) (cost : Cost) → unless v condition place rest ≡ Leads next cost → (v ≡ true) × (rest ≡ Leads next cost)
+unless_leads true condition place rest next cost e = (refl, e)
+unless_leads false condition place rest next cost e = absurd (cc)
+
+pub unless_at_leads : (condition : ℕ) (o : Option ℕ) (rest : Row) (next : Tree) (cost : Cost) → unless_at condition o rest ≡ Leads next cost → (o ≡ None) × (rest ≡ Leads next cost)
+unless_at_leads condition None rest next cost e = (refl, e)
+unless_at_leads condition (Some p) rest next cost e = absurd (cc)

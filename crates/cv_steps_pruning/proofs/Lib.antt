@@ -1,0 +1,8 @@
+pub mod Tuples
+pub mod Candidates
+pub mod Serving
+pub mod Phrases
+pub mod Inclusion
+pub mod Sizes
+pub mod Chances
+pub mod Keeping

@@ -1,0 +1,4 @@
+pub mod Values
+pub mod Branches
+pub mod Reworded
+pub mod Keeping
