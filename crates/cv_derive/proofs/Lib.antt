@@ -1,2 +1,9 @@
-mod Listing
+mod Descending
+mod Judging
+mod Only
+mod Patterns
+mod Plain
+mod Reasoning
+mod Replications
 mod Seeing
+mod Telling

@@ -5,11 +5,11 @@ use Rattle.std.proofs.Math.Path.{fun_ext}
 use Rattle.cv_syntax.specs.declared.head.Head.TheVariants.{Not}
 use Rattle.cv_syntax.specs.Tree.{Tree, Empty, Node}
 use Rattle.cv_directory.specs.Sites.{first_of}
-use Rattle.cv_derivations.specs.Derivations.{first_bad, first_bad_line, is_right_split, nothing_visible, unless, with_line}
+use Rattle.cv_scenes.specs.Derivations.{first_bad, first_bad_line, is_right_split, nothing_visible, unless, with_line}
 use Rattle.cv_derivations.specs.Inferences.{Visible}
 use Rattle.cv_derivations.specs.Lines.{Lines, End, By, Cases, Statement, Holds, count, lines_of}
-use Rattle.cv_derivations.specs.Reasons.{is_right}
-use Rattle.cv_derivations.specs.Sights.{Sight}
+use Rattle.cv_scenes.specs.Reasons.{is_right}
+use Rattle.cv_scenes.specs.Sights.{Sight}
 use Rattle.cv_derive_lines.specs.Views.{cited_from}
 use Rattle.cv_derive.specs.Searching.{first_bad_in}
 

@@ -1,1 +1,8 @@
+pub mod Cells
+pub mod Following
 pub mod Searching
+pub mod Seen
+pub mod Sites
+pub mod Standing
+pub mod Verdicts
+pub mod Walks

@@ -3,10 +3,10 @@ use Rattle.std.specs.Prelude.{ℕ, ◌+◌, Option, None}
 use Rattle.cv_syntax.specs.declared.head.Head.TheVariants.{Not}
 use Rattle.cv_syntax.specs.Tree.{Tree, Empty, Node}
 use Rattle.cv_directory.specs.Sites.{first_of}
-use Rattle.cv_derivations.specs.Derivations.{is_right_split, unless}
+use Rattle.cv_scenes.specs.Derivations.{is_right_split, unless}
 use Rattle.cv_derivations.specs.Lines.{Lines, End, By, Cases, count}
-use Rattle.cv_derivations.specs.Reasons.{is_right}
-use Rattle.cv_derivations.specs.Sights.{Sight}
+use Rattle.cv_scenes.specs.Reasons.{is_right}
+use Rattle.cv_scenes.specs.Sights.{Sight}
 use Rattle.cv_derive_lines.specs.Views.{cited_from}
 
 -- of lines that are part of all lines, where the first of them has the number n

@@ -1,8 +1,14 @@
-// Derivations at a place of a game: which line is the first that isn't right.
+// Derivations at a place of a game: which line is the first that isn't right, and whether the last ones are the targets.
 #![tactic(auto)]
 
-mod arguments;
+mod cells;
+mod checking;
+mod defined;
+mod facts;
 mod laws;
+mod reasons;
+mod sight;
+mod sites;
 
-pub use arguments::{are_equal_by, is_equal_by, is_only_equal_by};
+pub use checking::{DeriveFault, check};
 pub use laws::searched_lines_are_visible;

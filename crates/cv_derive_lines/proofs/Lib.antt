@@ -1,5 +1,5 @@
 mod Ending
-mod Forms
-mod Fronts
+pub mod Forms
+pub mod Fronts
 mod Saying
-mod Unders
+pub mod Unders

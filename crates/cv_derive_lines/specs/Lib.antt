@@ -1,2 +1,4 @@
+pub mod Lasts
 pub mod Sides
+pub mod Under
 pub mod Views

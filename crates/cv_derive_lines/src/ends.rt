@@ -1,8 +1,9 @@
-ghost use Rattle.std.specs.Prelude.{◌≡◌, ◌<◌, ◌^◌, drop, length};
+ghost use Rattle.std.specs.Prelude.{◌≡◌, ◌<◌, ◌^◌, IfSome, drop, length, option_map};
 ghost use Rattle.cv_pool.specs.Nodes.{ChildBelow};
 ghost use Rattle.cv_syntax.specs.Tree.{tree_at};
 ghost use Rattle.cv_derivations.specs.Ends as ends;
 ghost use Rattle.cv_derivations.specs.Lines.{Holds, lines_of, statements};
+ghost use Rattle.cv_derive_lines.specs.Lasts.{last_of};
 ghost use Rattle.cv_derive_lines.specs.Views.{IsClaimBelow, statement_of};
 
 use crate::lines::{Claim, claim_of, line_of};
@@ -124,4 +125,21 @@ pub fn ends_in(pool: &Pool, lines: Option<NodeId>, term: Option<NodeId>) -> bool
         at = node.second;
     }
     false
+}
+
+/// What the last line outside blocks says.
+pub fn last_claim(pool: &Pool, lines: Option<NodeId>) -> Option<Claim>
+    requires { ChildBelow (length pool.now.trees) lines }
+    ensures claim { option_map (statement_of pool.now.trees) result
+        ≡ last_of (statements (lines_of (tree_at pool.now.trees lines))) }
+    ensures live { IfSome result (IsClaimBelow (length pool.now.trees)) }
+{
+    let mut last = None;
+    let mut at = lines;
+    'lines: while let Some(n) = at {
+        let node = read_node(pool, n);
+        last = Some(claim_of(line_of(pool, node.first)));
+        at = node.second;
+    }
+    last
 }

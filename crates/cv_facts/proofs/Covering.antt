@@ -22,7 +22,7 @@ use Rattle.cv_path.specs.declared.place.Lies.TheVariants.{Here, Within, Behind}
 use Rattle.cv_path.specs.Places.{LiesAt}
 use Rattle.cv_path.proofs.Bounds.{lies-somewhere}
 use Rattle.cv_path.proofs.Going.{choice-here, choice-within, choice-behind, less-within, less-behind}
-use Rattle.cv_facts.specs.Standing.{with_held, with_failed, first_standing, second_standing, standing_at, stands_at}
+use Rattle.cv_scope.specs.Above.{with_held, with_failed, first_standing, second_standing, standing_at, stands_at}
 use Rattle.cv_facts.specs.Promises.{BranchStands, BranchesStand, CandidatesStand, FindPlaces, FindStands, OwnTermsStand, StandsIn, PlaceStands}
 use Rattle.cv_facts.proofs.Placing.{StandsSomewhere, somewhere-places}
 use Rattle.cv_facts.proofs.Standings.{standing-here, standing-within, standing-behind}

@@ -26,12 +26,12 @@ use Rattle.cv_scope.specs.Standing as scope
 use Rattle.cv_scope.specs.Standing.{Standing, at_root}
 use Rattle.cv_scope.proofs.Apart as apart
 use Rattle.cv_scope.proofs.Apart.{IsApart, IsBefore, before-first, before-second, past-end, stand-apart}
-use Rattle.cv_scope_runs.specs.Made.{is_bound, made_by}
-use Rattle.cv_scope_runs.specs.Phrases as phrase
-use Rattle.cv_scope_runs.specs.Phrases.{Phrase, Inputs, Body, Arm, Pattern, Binders, Indices, Nil, is_phrase, parts, both_are, IsWellFormed}
+use Rattle.cv_scope.specs.Made.{is_bound, made_by}
+use Rattle.cv_scope.specs.Phrases as phrase
+use Rattle.cv_scope.specs.Phrases.{Phrase, Inputs, Body, Arm, Pattern, Binders, Indices, Nil, is_phrase, parts, both_are, IsWellFormed}
 use Rattle.cv_facts.specs.Definitions.{site_entry, definition_entry}
-use Rattle.cv_facts.specs.Promises.{behind_site, in_condition, sites_in, sites_of}
-use Rattle.cv_facts.specs.Standing.{first_standing, second_standing}
+use Rattle.cv_scope.specs.Behind.{behind_site, in_condition, sites_in, sites_of}
+use Rattle.cv_scope.specs.Above.{first_standing, second_standing}
 use Rattle.cv_facts.proofs.Flat.{None-Some, Some-injective}
 use Rattle.cv_facts.proofs.Standings.{first-replications, second-replications}
 

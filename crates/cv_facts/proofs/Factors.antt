@@ -15,7 +15,7 @@ use Rattle.cv_scope.specs.Rules.{Names, IsFewIndices, Obeys}
 use Rattle.cv_scope.specs.Scope.{IsScopedAt, names_of}
 use Rattle.cv_scope.specs.Standing.{Standing, at_root, first_standing, second_standing}
 use Rattle.cv_scope.proofs.Apart.{first-replications, second-replications}
-use Rattle.cv_scope_runs.specs.Phrases.{Phrase, Inputs, Guards, Cells, Term, oracle_parts, is_oracle_phrase, IsWellFormedContext}
+use Rattle.cv_scope.specs.Phrases.{Phrase, Inputs, Guards, Cells, Term, oracle_parts, is_oracle_phrase, IsWellFormedContext}
 use Rattle.cv_scope_runs.proofs.Rows.{walks}
 use Rattle.cv_scope_runs.proofs.Games.{has_parts, phrase_parts}
 use Rattle.cv_path.specs.declared.place.Lies.{Lies}

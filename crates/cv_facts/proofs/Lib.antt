@@ -1,12 +1,10 @@
-mod Comparing
 mod Conditions
-mod Continuing
-mod Covering
-mod Entries
+pub mod Continuing
+pub mod Covering
+pub mod Entries
 mod Factors
 mod Flat
-mod Looking
 mod Placing
 mod SitesStanding
 mod Sitings
-mod Standings
+pub mod Standings

@@ -1,44 +1,19 @@
 -- Definitions that are counted.
 use Rattle.std.proofs.Common.{◌≡◌, ℕ, ◌+◌, Bool, true, false, cond, List, [], ◌∷◌, ◌++◌, Some, None, refl, sym, ap, ap₂, ◌∙◌}
-use Rattle.std.specs.Prelude.{◌||◌, ◌==◌}
-use Rattle.std.proofs.Common.{eq-eqb, ne_eqb}
+use Rattle.std.specs.Prelude.{◌==◌}
 use Rattle.cv_syntax.specs.declared.head.Head.{Head}
-use Rattle.cv_syntax.specs.declared.head.Head.TheVariants.{Binder}
 use Rattle.cv_syntax.specs.Head.{weight}
 use Rattle.cv_syntax.specs.Tree.{Tree, Empty, Node, first_place, second_place, size}
 use Rattle.cv_scope.specs.declared.position.Position.{Position}
 use Rattle.cv_scope.specs.declared.position.Position.TheVariants.{Anywhere}
 use Rattle.cv_scope.specs.Context.{Context, first_position, nothing_known, second_position}
 use Rattle.cv_scope.specs.Sites.{Variable}
-use Rattle.cv_scope_runs.specs.Made.{is_bound, made_by}
+use Rattle.cv_scope.specs.Made.{made_by}
 use Rattle.cv_facts.specs.declared.sites.Seen.{Seen}
 use Rattle.cv_facts.specs.declared.sites.Seen.TheVariants.{Nothing, Once, Often}
 use Rattle.cv_facts.specs.Definitions.{counted_on, only, places, places_of, seen_then}
-use Rattle.cv_facts.specs.Promises.{behind_site, sites_in, sites_of}
-use Rattle.cv_facts.specs.Standing.{first_standing, second_standing}
-
-pub bound-empty : (t : Tree) (y : ℕ) → t ≡ Empty → is_bound t y ≡ false
-unfolding is_bound
-bound-empty t y e = ap (λ u. is_bound u y) e
-
-pub bound-binder : (t : Tree) (h : Head) (a b : Tree) (x T y : ℕ) → t ≡ Node h a b → h ≡ Binder x T → is_bound t y ≡ ((y == x) || is_bound b y)
-unfolding is_bound
-bound-binder t h a b x T y e f = ap (λ u. is_bound u y) (e ∙ ap (λ k. Node k a b) f)
-
-pub bound-other : (t : Tree) (h : Head) (a b : Tree) (y : ℕ) → t ≡ Node h a b → ((x T : ℕ) → h ≡ Binder x T → ⊥) → is_bound t y ≡ false
-unfolding is_bound
-bound-other t h a b y e n = ap (λ u. is_bound u y) e ∙ go h n
-  where
-    go : (k : Head) → ((x T : ℕ) → k ≡ Binder x T → ⊥) → is_bound (Node k a b) y ≡ false
-    go (Binder x T) m = absurd (m x T refl)
-    go k m = refl
-
--- the variable is the binder's, or it isn't
-pub binder-is : (t : Tree) (h : Head) (a b : Tree) (x T y : ℕ) → t ≡ Node h a b → h ≡ Binder x T → y ≡ x → is_bound t y ≡ true
-binder-is t h a b x T y e f g = bound-binder t h a b x T y e f ∙ ap (λ v. v || is_bound b y) (eq-eqb y x g)
-
-pub binder-differs : (t : Tree) (h : Head) (a b : Tree) (x T y : ℕ) → t ≡ Node h a b → h ≡ Binder x T → (y ≡ x → ⊥) → is_bound t y ≡ is_bound b y
-binder-differs t h a b x T y e f g = bound-binder t h a b x T y e f ∙ ap (λ v. v || is_bound b y) (ne_eqb y x g)
+use Rattle.cv_scope.specs.Behind.{behind_site, sites_in, sites_of}
+use Rattle.cv_scope.specs.Above.{first_standing, second_standing}
 
 pub counted-append : (s : Seen) (ps qs : List ℕ) → counted_on s (ps ++ qs) ≡ counted_on (counted_on s ps) qs
 counted-append s [] qs = refl
@@ -110,5 +85,3 @@ module _ (x : ℕ) where
 
 pub places-sites : (game : Tree) (x : ℕ) → places (sites_of game x) ≡ places_of x 0 game
 places-sites game x = places-in x Anywhere nothing_known 0 game
-
-pub ruleset sitings = (bound-empty)

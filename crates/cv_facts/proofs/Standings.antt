@@ -21,7 +21,7 @@ use Rattle.cv_path.proofs.Going.{choice-here, choice-within, choice-behind, less
 use Rattle.cv_facts.specs.declared.known.Fact.{Fact}
 use Rattle.cv_facts.specs.declared.known.Fact.TheVariants as fact
 use Rattle.cv_facts.specs.Facts.{AreFactsOf, FactAt, Defines, Holds, Fails, about, facts_at, facts_from, first_facts, second_facts, term_of, fact_of}
-use Rattle.cv_facts.specs.Standing.{with_held, with_failed, first_standing, second_standing, standing_at, stands_at}
+use Rattle.cv_scope.specs.Above.{with_held, with_failed, first_standing, second_standing, standing_at, stands_at}
 use Rattle.cv_facts.specs.Walks.{above_behind, given_first, given_second, node_of, tested_behind, given_facts, Counts, IsLive, LeadsTo, Tests}
 
 module _ (w : Position) (Γ : Context) (t : Tree) (h : Head) (a b : Tree) (p q : ℕ) (e : t ≡ Node h a b) where
@@ -95,7 +95,7 @@ second-replications Guards Cons a Γ = refl
 second-replications w Cons a Γ = refl
 second-replications w h a Γ = refl
 
-above-length : (h : Head) (rs : List (ℕ × ℕ)) (k : ℕ) → k ≡ length rs → above_behind h k ≡ length (replications_below h rs)
+pub above-length : (h : Head) (rs : List (ℕ × ℕ)) (k : ℕ) → k ≡ length rs → above_behind h k ≡ length (replications_below h rs)
 above-length (Repl i n) rs k e = let m : length (rs ++ (i, n) ∷ []) ≡ length rs + 1 = length-append rs ((i, n) ∷ []) in omega arith
 above-length h rs k e = e
 
@@ -278,7 +278,7 @@ second-extends w h a Γ = subst (Extends Γ.replications) (sym (second-replicati
 no_context : (Δ : Context) → None ≡ Some Δ → ⊥
 no_context Δ x = cc
 
-place-extends : (w : Position) (Γ Δ : Context) (t : Tree) (p : ℕ) → standing_at w Γ t p ≡ Some Δ → Extends Γ.replications Δ.replications
+pub place-extends : (w : Position) (Γ Δ : Context) (t : Tree) (p : ℕ) → standing_at w Γ t p ≡ Some Δ → Extends Γ.replications Δ.replications
 place-extends w Γ Δ Empty p e = absurd (no_context Δ (sym (standing-empty w Γ Empty p refl) ∙ e))
 place-extends w Γ Δ (Node h a b) p e = go (λ q. place-extends (first_position w h) (first_standing w h Γ) Δ a q) (λ q. place-extends (second_position w h) (second_standing w h a Γ) Δ b q) (lies-somewhere h a p)
   where

@@ -7,10 +7,10 @@ use Rattle.cv_syntax.specs.Tree.{Tree, Empty, Node, first_place, second_place, s
 use Rattle.cv_directory.specs.Definitions as directory
 use Rattle.cv_scope.specs.Context.{Context}
 use Rattle.cv_scope.specs.Sites.{Variable}
-use Rattle.cv_scope_runs.specs.Made.{made_by}
+use Rattle.cv_scope.specs.Made.{made_by}
 use Rattle.cv_facts.specs.declared.sites.Seen.{Seen}
 use Rattle.cv_facts.specs.declared.sites.Seen.TheVariants.{Nothing, Once, Often}
-use Rattle.cv_facts.specs.Standing.{stands_at}
+use Rattle.cv_scope.specs.Above.{stands_at}
 
 -- the places of the definitions in a tree that stands at a place, in preorder
 unfoldable pub places_of : ℕ → ℕ → Tree → List ℕ

@@ -11,7 +11,7 @@ use Rattle.cv_scope.specs.declared.position.Position.TheVariants.{Anywhere, Bodi
 use Rattle.cv_scope.specs.Context.{Context, cell_of, first_position, nothing_known, second_position}
 use Rattle.cv_facts.specs.declared.known.Fact.{Fact}
 use Rattle.cv_facts.specs.declared.known.Fact.TheVariants as fact
-use Rattle.cv_facts.specs.Standing.{first_standing, second_standing}
+use Rattle.cv_scope.specs.Above.{first_standing, second_standing}
 
 -- the equation of a `let` with so many replications above it, a condition that holds, or one that doesn't
 pub data FactAt : Type 0 where

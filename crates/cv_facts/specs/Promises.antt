@@ -1,8 +1,7 @@
 -- What stands above a visited place holds there. This profile's own; Blanchet, TDSC 2008, for facts at a place of a game.
-use Rattle.std.specs.Prelude.{◌≡◌, ◌≤◌, ◌<◌, ◌+◌, ℕ, true, if◌then◌else◌, List, [], ◌∷◌, ◌++◌, Some}
+use Rattle.std.specs.Prelude.{◌≡◌, ◌≤◌, ◌<◌, ◌+◌, ℕ, true, List, [], ◌∷◌, Some}
 use Rattle.std.specs.List.{AllByRecursion}
-use Rattle.cv_syntax.specs.declared.head.Head.{Head}
-use Rattle.cv_syntax.specs.declared.head.Head.TheVariants.{Par, Branch, Cons, Find}
+use Rattle.cv_syntax.specs.declared.head.Head.TheVariants.{Par, Branch, Find}
 use Rattle.cv_syntax.specs.Layouts.{IsSyntax}
 use Rattle.cv_syntax.specs.Tree.{Tree, Empty, Node, first, first_place, second, second_place, size}
 use Rattle.cv_meaning.specs.Interpretation.{Setting}
@@ -11,13 +10,10 @@ use Rattle.cv_meaning.specs.Memory.{Memory, Indices, Local, Store, tuple}
 use Rattle.cv_meaning.specs.Terms.{value}
 use Rattle.cv_meaning.specs.Candidates.{are_assigned, is_assigned, is_candidate}
 use Rattle.cv_meaning.specs.Serving.{Visit}
-use Rattle.cv_scope.specs.declared.position.Position.{Position}
-use Rattle.cv_scope.specs.declared.position.Position.TheVariants as position
-use Rattle.cv_scope.specs.Context.{Context, first_position, nothing_known, second_position}
-use Rattle.cv_scope.specs.Sites.{Variable}
-use Rattle.cv_scope_runs.specs.Made.{made_by}
+use Rattle.cv_scope.specs.Context.{Context}
 use Rattle.cv_scope_runs.specs.Promises.{AreIndicesOf, GrowsTo}
-use Rattle.cv_facts.specs.Standing.{first_standing, second_standing, stands_at}
+use Rattle.cv_scope.specs.Above.{stands_at}
+use Rattle.cv_scope.specs.Behind.{in_body, in_condition, in_list, sites_of}
 
 -- the indices are those of the replications, the cells that are directly defined are assigned, and the facts true
 pub record StandsIn (g : Setting) (Γ : Context) (at : Indices) (x : Memory) : Type 0 where
@@ -40,16 +36,6 @@ OwnTermsStand game Γ p t = (q : ℕ) → IsOwnTerm p t q → stands_at game q �
 abbrev pub PlaceStands : Setting → Tree → Visit → Type 0
 PlaceStands g game v =
     IsSyntax v.tree → (Γ : Context) × (stands_at game v.place ≡ Some Γ) × OwnTermsStand game Γ v.place v.tree × ((y : Memory) → GrowsTo v.before.memory y → StandsIn g Γ v.before.indices y)
-
--- what stands in a branch's list, in its condition and in its body
-abbrev pub in_list : Context → Tree → Context
-in_list Γ us = second_standing position.Anywhere Branch us Γ
-
-abbrev pub in_condition : Context → (us cells : Tree) → Context
-in_condition Γ us cells = second_standing position.Guards Cons cells (in_list Γ us)
-
-abbrev pub in_body : Context → (us cells c : Tree) → Context
-in_body Γ us cells c = second_standing position.Guarded Cons c (in_condition Γ us cells)
 
 -- these stand in the branch behind its indices, at the places of its list and of its condition, and at that of its body
 pub record BranchPlaces (game : Tree) (Γ : Context) (p : ℕ) (us rest : Tree) : Type 0 where
@@ -86,21 +72,6 @@ FindStands g Γ s t = Unit {0}
 -- at each tuple of each branch of a visited `find`, and at the branch's places
 abbrev pub CandidatesStand : Setting → Tree → Visit → Type 0
 CandidatesStand g game v = IsSyntax v.tree → (Γ : Context) × (stands_at game v.place ≡ Some Γ) × FindPlaces game Γ v.place v.tree × FindStands g Γ v.before v.tree
-
--- what stands behind a definition; behind a branch, that is in its body
-abbrev pub behind_site : Head → Tree → Tree → Context → Context
-behind_site Branch us (Node h cells (Node k c body)) Γ = in_body Γ us cells c
-behind_site h a b Γ = second_standing position.Anywhere h a Γ
-
--- the definitions of a variable: their places, and what stands behind each
-unfoldable pub sites_in : ℕ → Position → Context → ℕ → Tree → List (ℕ × Context)
-sites_in x w Γ p Empty = []
-sites_in x w Γ p (Node h a b) =
-    (if made_by h a (Variable x) then (p, behind_site h a b Γ) ∷ [] else [])
-    ++ (sites_in x (first_position w h) (first_standing w h Γ) (first_place p h) a ++ sites_in x (second_position w h) (second_standing w h a Γ) (second_place p h a) b)
-
-abbrev pub sites_of : Tree → ℕ → List (ℕ × Context)
-sites_of game x = sites_in x position.Anywhere nothing_known 0 game
 
 -- Of a variable with one definition, what stands behind it holds at the tuple of each assigned cell, then and later.
 abbrev pub SitesStand : Setting → Tree → Memory → Type 0

@@ -71,7 +71,7 @@ fn tested_behind(node: Opened, tested: Option<NodeId>) -> Option<NodeId>
 }
 
 /// The number of replications above the second child of a node.
-fn above_behind(head: Head, above: u32) -> u32
+pub fn above_behind(head: Head, above: u32) -> u32
     requires { above + weight head < 2 ^ 32 }
     ensures { result ≡ above_behind head above }
 {

@@ -1,20 +1,17 @@
-// What a derivation may cite at a place of a game: its facts, the cells that are defined there, and the sites of variables.
+// What a derivation may cite at a place of a game: its facts, and the sites of variables.
 #![tactic(auto)]
 
-mod cells;
-mod defined;
 mod facts;
 mod known;
 mod laws;
 mod processes;
 mod sites;
 
-pub use defined::defined_here;
-pub use facts::fact;
+pub use facts::{above_behind, fact};
 pub use known::Fact;
 pub use laws::{
     facts_hold_where_they_stand, facts_stand_in_the_game, places_have_few_factors,
     sites_stand_in_the_game,
 };
 pub use processes::behind;
-pub use sites::{is_definition, site};
+pub use sites::site;

@@ -1,13 +1,11 @@
 ghost use Rattle.std.specs.Prelude.{◌≡◌, ◌+◌, ◌<◌, ◌^◌, if◌then◌else◌, Some, length};
 ghost use Rattle.cv_pool.specs.Nodes.{ChildBelow};
 ghost use Rattle.cv_syntax.specs.Tree.{size, tree_at};
-ghost use Rattle.cv_scope.specs.Sites.{Variable};
-ghost use Rattle.cv_scope_runs.specs.Made.{is_bound, made_by};
 ghost use Rattle.cv_facts.specs.Definitions.{counted_on, only, places, places_of, seen_then};
-ghost use Rattle.cv_facts.specs.Promises.{sites_of};
+ghost use Rattle.cv_scope.specs.Behind.{sites_of};
 
-use cv_syntax::children::second_of;
-use cv_syntax::{Game, Head, NameId, NodeId, Opened, Pool, Work, read_node};
+use cv_path::is_definition;
+use cv_syntax::{Game, NameId, NodeId, Pool, Work, read_node};
 
 /// How many definitions were seen, with the place of the only one.
 #[derive(Clone, Copy)]
@@ -28,44 +26,7 @@ fn seen_then(seen: Seen, is_one: bool, place: u32) -> Seen
     }
 }
 
-/// Whether a list of binders binds a variable.
-#[tactic(auto, using(crate::proofs::Sitings::sitings))]
-pub(crate) fn is_bound(pool: &Pool, list: Option<NodeId>, x: u32) -> bool
-    requires { ChildBelow (length pool.now.trees) list }
-    ensures { result ≡ is_bound (tree_at pool.now.trees list) x }
-{
-    let mut at = list;
-    'binders: while let Some(n) = at {
-        let node = read_node(pool, n);
-        let Head::Binder(y, _) = node.head else {
-            return false;
-        };
-        if x == y {
-            return true;
-        }
-        at = node.second;
-    }
-    false
-}
-
-/// Whether a construct defines a variable.
-pub fn is_definition(pool: &Pool, node: Opened, x: u32) -> bool
-    requires { ChildBelow (length pool.now.trees) node.first }
-    ensures { result ≡ made_by node.head (tree_at pool.now.trees node.first) (Variable x) }
-{
-    match node.head {
-        Head::New(y, _) => x == y,
-        Head::Let(y, _) => x == y,
-        Head::Key(y) => x == y,
-        Head::Call(y, _) => x == y,
-        Head::In(_) => is_bound(pool, second_of(pool, node.first), x),
-        Head::Branch => is_bound(pool, node.first, x),
-        _ => false,
-    }
-}
-
 /// Counts the definitions of a variable in a tree that stands at a place, and gives the place behind it.
-#[tactic(auto, using(crate::proofs::Sitings::sitings))]
 fn count(pool: &Pool, x: u32, tree: Option<NodeId>, place: u32, seen: &mut Seen) -> u32
     requires live { ChildBelow (length pool.now.trees) tree }
     requires fits { place + size (tree_at pool.now.trees tree) < 2 ^ 32 }

@@ -1,0 +1,24 @@
+-- Where no name is given a term, a tree stays as it is.
+use Rattle.std.proofs.Common.{◌≡◌, ℕ, List, [], ◌∷◌, None, map, take, refl, ap, ap₂, ◌∙◌}
+use Rattle.cv_syntax.specs.declared.head.Head.{Head}
+use Rattle.cv_syntax.specs.declared.head.Head.TheVariants.{Leaf}
+use Rattle.cv_syntax.specs.Tree.{Tree, Empty, Node}
+use Rattle.cv_derivations.specs.Given.{given_for, or_node, with_given}
+use Rattle.cv_derive_lines.specs.Under.{under}
+
+none-given : (terms : Tree) (h : Head) → given_for [] terms h ≡ None
+none-given terms (Leaf x) = refl
+none-given terms h = refl
+
+plain : (terms t : Tree) → with_given [] terms t ≡ t
+unfolding with_given
+plain terms Empty = refl
+plain terms (Node h a b) = ap (λ o. or_node o h (with_given [] terms a) (with_given [] terms b)) (none-given terms h) ∙ ap₂ (λ x y. Node h x y) (plain terms a) (plain terms b)
+
+all-plain : (terms : Tree) (ts : List Tree) → map (under [] terms) ts ≡ ts
+all-plain terms [] = refl
+all-plain terms (t ∷ ts) = ap₂ (λ x xs. x ∷ xs) (plain terms t) (all-plain terms ts)
+
+-- the first no names are none
+pub none-under : (names rs : List (ℕ × ℕ)) (terms : Tree) (ts : List Tree) → names ≡ take 0 rs → map (under names terms) ts ≡ ts
+none-under names rs terms ts e = ap (λ ns. map (under ns terms) ts) e ∙ all-plain terms ts

@@ -1,0 +1,22 @@
+use Rattle.std.proofs.Common.{◌≡◌, ◌+◌, ◌≤◌, length}
+use Rattle.cv_pool.specs.Nodes.{ChildBelow}
+use Rattle.cv_syntax.specs.Tree.{tree_at}
+use Rattle.cv_syntax.specs.Walks.{above}
+use Rattle.cv_derivations.specs.Lines.{count, lines_of}
+use Rattle.cv_derive.specs.Searching.{first_bad_in}
+use Rattle.cv_derive.specs.Seen.{assumed_of, sight_of, trees_of}
+use Rattle.cv_derive.proofs.checking.+first_bad.Given as goal
+
+abbrev pub decreases-first_bad : goal.decreases-first_bad
+decreases-first_bad l = above l.lines
+
+abbrev pub invariant-lines : goal.invariant-lines
+invariant-lines l = record {
+  live : ChildBelow (length (trees_of l.s)) l.at;
+  less : above l.at ≤ above l.fn.lines;
+  fits : l.n + count (lines_of (tree_at (trees_of l.s) l.at)) ≤ l.fn.start + count (lines_of (tree_at (trees_of l.s) l.fn.lines));
+  same : first_bad_in (lines_of (tree_at (trees_of l.s) l.s.lines)) (sight_of l.s) (assumed_of (trees_of l.s) l.fn.assumed) l.n (lines_of (tree_at (trees_of l.s) l.at)) ≡ first_bad_in (lines_of (tree_at (trees_of l.s) l.s.lines)) (sight_of l.s) (assumed_of (trees_of l.s) l.fn.assumed) l.fn.start (lines_of (tree_at (trees_of l.s) l.fn.lines));
+}
+
+abbrev pub decreases-lines : goal.decreases-lines
+decreases-lines l = above l.at

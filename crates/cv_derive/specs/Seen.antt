@@ -1,0 +1,65 @@
+-- A place of a game as the code has it, with the lines of a derivation there.
+use Rattle.std.specs.Prelude.{◌≡◌, ℕ, ◌+◌, ◌<◌, ◌^◌, All, IfSome, List, length, Some}
+use Rattle.cv_pool.specs.KindTree.{KindTree}
+use Rattle.cv_pool.specs.Nodes.{ChildBelow}
+use Rattle.cv_syntax.specs.declared.head.Head.TheVariants.{Not}
+use Rattle.cv_syntax.specs.Declarations.{declarations}
+use Rattle.cv_syntax.specs.Tree.{Tree, Empty, Node, size, tree_at}
+use Rattle.cv_directory.specs.Definitions.{entries_of, large_in}
+use Rattle.cv_directory.specs.Sites.{sites_of}
+use Rattle.cv_directory.specs.Tables.{entries_in}
+use Rattle.cv_typing.specs.Lookups.{IsLive}
+use Rattle.cv_typing.specs.Signature.{OfGame}
+use Rattle.cv_typing.specs.Tables.{above_of, arrays_of, directory_in}
+use Rattle.cv_scope.specs.Phrases.{IsWellFormed}
+use Rattle.cv_scenes.specs.Sights as spec
+use Rattle.cv_scenes.specs.Terms.{above_at, replications_at}
+use Rattle.cv_rule_scenes.specs.Kept.{scene_of}
+use Rattle.cv_derivations.specs.Inferences.{Visible}
+use Rattle.cv_derivations.specs.Lines.{count, lines_of}
+use Rattle.cv_derive_lines.specs.Views.{cited_from}
+use Rattle.cv_derive_terms.specs.Typed.{IsSightOf}
+use Rattle.cv_derive.specs.declared.sight.Assumed.{Assumed}
+use Rattle.cv_derive.specs.declared.sight.Assumed.TheVariants as assumed
+use Rattle.cv_derive.specs.declared.sight.Sight.{Sight}
+
+abbrev pub trees_of : Sight → List KindTree
+trees_of s = s.work.now.pool.trees
+
+abbrev pub game_of : Sight → Tree
+game_of s = tree_at (trees_of s) (Some s.game.root)
+
+abbrev pub sight_of : Sight → spec.Sight
+sight_of s = spec.sight_at (scene_of s.work.now.pool s.work.now.decls s.game.root) s.place
+
+-- the lines that the line of a number may cite
+abbrev pub visible_of : Sight → ℕ → Visible
+visible_of s n = cited_from (lines_of (tree_at (trees_of s) s.lines)) 1 n
+
+-- what is assumed
+abbrev pub assumed_of : List KindTree → Assumed → Tree
+assumed_of trees assumed.Nothing = Empty
+assumed_of trees (assumed.Holds c) = tree_at trees c
+assumed_of trees (assumed.Fails c) = Node Not (tree_at trees c) Empty
+
+abbrev pub IsAssumedBelow : ℕ → Assumed → Type 0
+IsAssumedBelow n assumed.Nothing = Unit {0}
+IsAssumedBelow n (assumed.Holds c) = ChildBelow n c
+IsAssumedBelow n (assumed.Fails c) = ChildBelow n c
+
+-- so the tests of terms see it
+abbrev pub IsSeenBy : Sight → spec.Sight → Type 0
+IsSeenBy s t = IsSightOf (trees_of s) s.work.now.decls.list s.arrays.now s.above.now t
+
+-- what there is to read is what stands at the place of the game, which is well-formed
+pub record Sees (s : Sight) : Type 0 where
+  pub live : s.game.root.0 < length (trees_of s)
+  pub fits : size (game_of s) < 2 ^ 32
+  pub lines : ChildBelow (length (trees_of s)) s.lines
+  pub few : 1 + count (lines_of (tree_at (trees_of s) s.lines)) < 2 ^ 32
+  pub declared : All (IsLive (length (trees_of s))) s.work.now.decls.list
+  pub formed : IsWellFormed (declarations (trees_of s) s.work.now.decls.list) (game_of s)
+  pub arrays : arrays_of s.arrays.now ≡ OfGame (sites_of (game_of s))
+  pub entries : IfSome (directory_in s.arrays.now) (λ d. entries_in (trees_of s) d ≡ entries_of (large_in s.work.now.decls.list) (game_of s))
+  pub above : above_of s.above.now ≡ above_at (sight_of s).scene s.place
+  pub replications : s.replications.now ≡ replications_at (sight_of s).scene s.place

@@ -1,0 +1,184 @@
+ghost use Rattle.std.specs.Prelude.{◌≡◌, ◌+◌, ◌<◌, ◌^◌, ◌↔◌, ℕ, All, Err, IfSome, IsOk, None, Some, false, length};
+ghost use Rattle.cv_pool.specs.Nodes.{ChildBelow};
+ghost use Rattle.cv_syntax.specs.Declarations.{declarations};
+ghost use Rattle.cv_syntax.specs.Tree.{size, tree_at};
+ghost use Rattle.cv_directory.specs.Definitions.{entries_of, large_in};
+ghost use Rattle.cv_directory.specs.Sites.{sites_of};
+ghost use Rattle.cv_directory.specs.Tables.{entries_in};
+ghost use Rattle.cv_typing.specs.Lookups.{IsLive};
+ghost use Rattle.cv_typing.specs.Signature.{OfGame};
+ghost use Rattle.cv_typing.specs.Tables.{above_of, arrays_of, directory_in};
+ghost use Rattle.cv_scope.specs.Phrases.{IsWellFormed};
+ghost use Rattle.cv_scenes.specs.Derivations as derivations;
+ghost use Rattle.cv_scenes.specs.Derivations.{Derives, first_bad_line};
+ghost use Rattle.cv_scenes.specs.Sights.{is_condition, sight_at};
+ghost use Rattle.cv_scenes.specs.Terms.{above_at, replications_at};
+ghost use Rattle.cv_rule_scenes.specs.Kept.{scene_of};
+ghost use Rattle.cv_derivations.specs.Ends.{ends_with as ends_so};
+ghost use Rattle.cv_derivations.specs.Lines as derived;
+ghost use Rattle.cv_derivations.specs.Lines.{lines_of, statements};
+ghost use Rattle.cv_derive.specs.Searching.{first_bad_in};
+ghost use Rattle.cv_derive.specs.Seen.{IsAssumedBelow, Sees, assumed_of, sight_of, trees_of};
+ghost use Rattle.cv_derive.specs.Verdicts.{verdict_of};
+ghost use Rattle.cv_derive.specs.declared.checking.DeriveFault.TheVariants.{LineBad, Targets};
+
+use crate::reasons::is_right;
+use crate::sight::{Assumed, Sight};
+use cv_derive_lines::{Line, count, ends_in, ends_with, line_of};
+use cv_derive_terms::is_condition;
+use cv_directory::Sort;
+use cv_syntax::{Game, NodeId, Work, read_node};
+use cv_typing::Arrays;
+use std::collections::HashMap;
+
+/// Why a derivation doesn't derive the targets.
+#[derive(Clone, Copy, Debug, PartialEq, Eq)]
+pub enum DeriveFault {
+    /// The line of this number is the first that isn't right. Lines count from 1, those inside blocks too.
+    LineBad(u32),
+    /// Each line is right, and the last ones aren't the targets.
+    Targets,
+}
+
+/// Whether a term is a truth value at the place.
+fn is_condition_here(s: &Sight, term: Option<NodeId>) -> bool
+    requires sees { Sees s.now }
+    requires term { ChildBelow (length (trees_of s.now)) term }
+    ensures { result ≡ is_condition (sight_of s.now) (tree_at (trees_of s.now) term) }
+{
+    is_condition(s.work, s.arrays, s.above, term)
+}
+
+/// Whether a conclusion by cases is right: the condition is a truth value, and both blocks end with the conclusion.
+fn is_right_split(
+    s: &Sight,
+    condition: Option<NodeId>,
+    first: Option<NodeId>,
+    second: Option<NodeId>,
+    conclusion: Option<NodeId>,
+) -> bool
+    requires sees { Sees s.now }
+    requires condition { ChildBelow (length (trees_of s.now)) condition }
+    requires first { ChildBelow (length (trees_of s.now)) first }
+    requires second { ChildBelow (length (trees_of s.now)) second }
+    requires conclusion { ChildBelow (length (trees_of s.now)) conclusion }
+    ensures { result ≡ derivations.is_right_split (sight_of s.now)
+        (tree_at (trees_of s.now) condition)
+        (lines_of (tree_at (trees_of s.now) first)) (lines_of (tree_at (trees_of s.now) second))
+        (tree_at (trees_of s.now) conclusion) }
+{
+    let pool = &s.work.pool;
+    is_condition_here(s, condition)
+        && ends_in(pool, first, conclusion)
+        && ends_in(pool, second, conclusion)
+}
+
+/// The number of the first of these lines that isn't right, where the first of them has a number.
+fn first_bad(s: &Sight, assumed: Assumed, start: u32, lines: Option<NodeId>) -> Option<u32>
+    requires sees { Sees s.now }
+    requires assumed { IsAssumedBelow (length (trees_of s.now)) assumed }
+    requires live { ChildBelow (length (trees_of s.now)) lines }
+    requires fits { start + derived.count (lines_of (tree_at (trees_of s.now) lines)) < 2 ^ 32 }
+    ensures { result ≡ first_bad_in (lines_of (tree_at (trees_of s.now) s.now.lines))
+        (sight_of s.now) (assumed_of (trees_of s.now) assumed) start (lines_of (tree_at (trees_of s.now) lines)) }
+{
+    let pool = &s.work.pool;
+    let mut n = start;
+    let mut at = lines;
+    'lines: while let Some(k) = at {
+        let node = read_node(pool, k);
+        match line_of(pool, node.first) {
+            Line::By { claim, reason } => {
+                if !is_right(s, assumed, n, claim, reason) {
+                    return Some(n);
+                }
+                n += 1;
+            }
+            Line::Cases {
+                condition,
+                first,
+                second,
+                conclusion,
+            } => {
+                let middle = n + count(pool, first);
+                let end = middle + count(pool, second);
+                if let Some(bad) = first_bad(s, Assumed::Holds(condition), n, first) {
+                    return Some(bad);
+                }
+                if let Some(bad) = first_bad(s, Assumed::Fails(condition), middle, second) {
+                    return Some(bad);
+                }
+                if !is_right_split(s, condition, first, second, conclusion) {
+                    return Some(end);
+                }
+                n = end + 1;
+            }
+        }
+        at = node.second;
+    }
+    None
+}
+
+/// Checks that a derivation at a place of a game derives the targets: each line is right, and the last lines outside blocks are
+/// the targets. It takes no memory.
+pub fn check(
+    work: &Work,
+    game: Game,
+    arrays: &Arrays,
+    above: &HashMap<u32, Sort>,
+    replications: &[(u32, u32)],
+    place: u32,
+    by: Option<NodeId>,
+    targets: Option<NodeId>,
+) -> Result<(), DeriveFault>
+    requires live { game.root.0 < length work.now.pool.trees }
+    requires fits { size (tree_at work.now.pool.trees (Some game.root)) < 2 ^ 32 }
+    requires lines { ChildBelow (length work.now.pool.trees) by }
+    requires targets { ChildBelow (length work.now.pool.trees) targets }
+    requires few { 1 + derived.count (lines_of (tree_at work.now.pool.trees by)) < 2 ^ 32 }
+    requires few_targets { length (statements (lines_of (tree_at work.now.pool.trees targets)))
+        < 2 ^ 32 }
+    requires declared { All (IsLive (length work.now.pool.trees)) work.now.decls.list }
+    requires formed { IsWellFormed (declarations work.now.pool.trees work.now.decls.list)
+        (tree_at work.now.pool.trees (Some game.root)) }
+    requires arrays { arrays_of arrays.now
+        ≡ OfGame (sites_of (tree_at work.now.pool.trees (Some game.root))) }
+    requires entries { IfSome (directory_in arrays.now) (λ d. entries_in work.now.pool.trees d
+        ≡ entries_of (large_in work.now.decls.list)
+        (tree_at work.now.pool.trees (Some game.root))) }
+    requires above { above_of above.now
+        ≡ above_at (scene_of work.now.pool work.now.decls game.root) place }
+    requires replications { replications.now
+        ≡ replications_at (scene_of work.now.pool work.now.decls game.root) place }
+    ensures verdict { result ≡ verdict_of
+        (sight_at (scene_of work.now.pool work.now.decls game.root) place)
+        (tree_at work.now.pool.trees by) (tree_at work.now.pool.trees targets) }
+    ensures right { IsOk result ↔ Derives
+        (sight_at (scene_of work.now.pool work.now.decls game.root) place)
+        (tree_at work.now.pool.trees by) (tree_at work.now.pool.trees targets) }
+    ensures line { (n : ℕ) → (result ≡ Err (LineBad n)) ↔ (first_bad_line
+        (sight_at (scene_of work.now.pool work.now.decls game.root) place)
+        (tree_at work.now.pool.trees by) ≡ Some n) }
+    ensures targets { (result ≡ Err Targets) ↔ ((first_bad_line
+        (sight_at (scene_of work.now.pool work.now.decls game.root) place)
+        (tree_at work.now.pool.trees by) ≡ None)
+        × (ends_so (tree_at work.now.pool.trees by) (tree_at work.now.pool.trees targets)
+        ≡ false)) }
+{
+    let sight = Sight {
+        work,
+        game,
+        arrays,
+        above,
+        replications,
+        place,
+        lines: by,
+    };
+    if let Some(n) = first_bad(&sight, Assumed::Nothing, 1, by) {
+        return Err(DeriveFault::LineBad(n));
+    }
+    if !ends_with(&work.pool, by, targets) {
+        return Err(DeriveFault::Targets);
+    }
+    Ok(())
+}

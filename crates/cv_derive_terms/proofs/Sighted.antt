@@ -1,0 +1,71 @@
+-- Terms and cells of a sight, by what the code tests.
+use Rattle.std.proofs.Common.{◌≡◌, ℕ, Bool, true, false, not, ◌&&◌, List, refl, sym, ap, ◌∙◌}
+use Rattle.std.specs.Prelude.{is_some}
+use Rattle.cv_pool.specs.KindTree.{KindTree}
+use Rattle.cv_syntax.specs.declared.decls.Decl.{Decl}
+use Rattle.cv_syntax.specs.Declarations.{declarations}
+use Rattle.cv_syntax.specs.Tree.{Tree}
+use Rattle.cv_directory.specs.declared.sort.Sort.{Sort}
+use Rattle.cv_typing.specs.declared.arrays.Arrays.{Arrays}
+use Rattle.cv_typing.specs.Lookups.{signature_in}
+use Rattle.cv_typing.specs.Signature.{Signature, sort_of}
+use Rattle.cv_typing.specs.Tables.{Map, above_of}
+use Rattle.cv_typing.specs.Wants.{AnyTerm}
+use Rattle.cv_scope.specs.Phrases.{Phrase, OneCell, Term, is_phrase}
+use Rattle.cv_scenes.specs.Sights.{Sight, is_cell_at, is_term_of}
+use Rattle.cv_scenes.specs.Terms.{above_at, is_sort, is_term_at, names_at}
+use Rattle.cv_scenes.specs.Terms as terms
+use Rattle.cv_derive_terms.specs.Typed.{IsSightOf, is_known_cell, is_typed_tree, names_of}
+use Rattle.cv_derive_terms.proofs.Known.{names-at}
+use Rattle.cv_derive_terms.proofs.Phrased.{both, cell-same, term-same}
+
+module _ (trees : List KindTree) (ds : List Decl) (variables : Arrays) (indices : Map Sort) (s : Sight) (i : IsSightOf trees ds variables indices s) (t : Tree) where
+  abbrev typed : Bool
+  typed = is_typed_tree (names_of (declarations trees ds) variables indices) (signature_in trees ds variables) (above_of indices) AnyTerm t
+
+  abbrev typed_there : Bool
+  typed_there = is_typed_tree (names_at s.scene s.place) (terms.signature_in s.scene) (above_at s.scene s.place) AnyTerm t
+
+  same-signature : signature_in trees ds variables ≡ terms.signature_in s.scene
+  same-signature = λ j. record { declarations = sym i.declared j; arrays = i.sites j }
+
+  moved : typed ≡ typed_there
+  moved = λ j. is_typed_tree (names-at trees ds variables indices s i j) (same-signature j) (i.bound j) AnyTerm t
+
+  abbrev tested : Phrase → Bool
+  tested σ = both (names_at s.scene s.place) (terms.signature_in s.scene) (above_at s.scene s.place) σ AnyTerm 0 t
+
+  -- terms
+
+  pub no-term : (p : Bool) → p ≡ is_phrase Term t → p ≡ false → false ≡ is_term_at s.scene s.place t
+  no-term p e f = ap (λ c. c && tested Term) (sym f ∙ e)
+
+  pub term-at : (p b : Bool) → p ≡ is_phrase Term t → p ≡ true → b ≡ typed → b ≡ is_term_at s.scene s.place t
+  term-at p b e f g = g ∙ (moved ∙ (sym (term-same (names_at s.scene s.place) (terms.signature_in s.scene) (above_at s.scene s.place) AnyTerm t (sym e ∙ f)) ∙ ap (λ c. c && tested Term) (sym f ∙ e)))
+
+  -- cells
+
+  abbrev known_cell : Bool
+  known_cell = is_known_cell (names_of (declarations trees ds) variables indices).variable t
+
+  cell-parts : is_phrase OneCell t ≡ true → (known_cell && typed) ≡ is_cell_at s.scene s.place t
+  cell-parts e =
+      (λ j. is_known_cell (names-at trees ds variables indices s i j).variable t && moved j)
+      ∙ (sym (cell-same (names_at s.scene s.place) (terms.signature_in s.scene) (above_at s.scene s.place) AnyTerm t e) ∙ ap (λ c. c && tested OneCell) (sym e))
+
+  pub no-cell : (p : Bool) → p ≡ is_phrase OneCell t → p ≡ false → false ≡ is_cell_at s.scene s.place t
+  no-cell p e f = ap (λ c. c && tested OneCell) (sym f ∙ e)
+
+  pub unknown-cell : (p k : Bool) → p ≡ is_phrase OneCell t → p ≡ true → k ≡ known_cell → k ≡ false → false ≡ is_cell_at s.scene s.place t
+  unknown-cell p k e f g h = ap (λ c. c && typed) (sym h ∙ g) ∙ cell-parts (sym e ∙ f)
+
+  pub cell-at : (p k b : Bool) → p ≡ is_phrase OneCell t → p ≡ true → k ≡ known_cell → k ≡ true → b ≡ typed → b ≡ is_cell_at s.scene s.place t
+  cell-at p k b e f g h j = j ∙ (ap (λ c. c && typed) (sym h ∙ g) ∙ cell-parts (sym e ∙ f))
+
+  -- sorts
+
+  pub no-term-of : (S : Sort) (b : Bool) → b ≡ is_term_at s.scene s.place t → b ≡ false → false ≡ is_term_of s S t
+  no-term-of S b e f = ap (λ c. c && is_sort (sort_of (terms.signature_in s.scene) (above_at s.scene s.place) t) S) (sym f ∙ e)
+
+  pub term-of : (S : Sort) (b d : Bool) → b ≡ is_term_at s.scene s.place t → b ≡ true → d ≡ is_sort (sort_of (signature_in trees ds variables) (above_of indices) t) S → d ≡ is_term_of s S t
+  term-of S b d e f g = g ∙ ((λ j. is_sort (sort_of (same-signature j) (i.bound j) t) S) ∙ ap (λ c. c && is_sort (sort_of (terms.signature_in s.scene) (above_at s.scene s.place) t) S) (sym f ∙ e))

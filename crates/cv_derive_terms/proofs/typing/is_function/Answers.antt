@@ -1,0 +1,10 @@
+use Rattle.std.proofs.Common.{ap, ◌∙◌}
+use Rattle.std.specs.Prelude.{is_some}
+use Rattle.cv_syntax.specs.Declarations.{declarations}
+use Rattle.cv_directory.specs.declared.sort.Sort.TheVariants.{OfType}
+use Rattle.cv_typing.specs.Signature.{Function, function_in}
+use Rattle.cv_derive_terms.proofs.Known.{some-mapped}
+use Rattle.cv_derive_terms.proofs.typing.is_function.Goals as goal
+
+pub returns : goal.returns
+returns c = λ trees. c.is_some.ensures ∙ (ap is_some (c.function_sort.ensures trees) ∙ some-mapped (λ (f : Function). OfType f.result) (function_in (declarations trees c.args.decls.now.list) c.args.f))

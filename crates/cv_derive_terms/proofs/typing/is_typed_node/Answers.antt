@@ -1,0 +1,21 @@
+use Rattle.std.proofs.Common.{not, ap, ◌∙◌}
+use Rattle.std.specs.Prelude.{is_some}
+use Rattle.cv_syntax.specs.Declarations.{declarations}
+use Rattle.cv_syntax.specs.Tree.{tree_at}
+use Rattle.cv_typing.specs.Lookups.{signature_in, want_of}
+use Rattle.cv_typing.specs.Tables.{above_of}
+use Rattle.cv_typing.specs.Typing.{fault_of}
+use Rattle.cv_derive_terms.specs.Typed.{is_known_head, names_of}
+use Rattle.cv_derive_terms.proofs.Typed.{no-fault, not-first, then-second}
+use Rattle.cv_derive_terms.proofs.typing.is_typed_node.Goals as goal
+
+pub returns-then-not-is_known_head : goal.returns-then-not-is_known_head
+returns-then-not-is_known_head c =
+    let trees = c.args.pool.now.trees in
+    not-first (is_known_head (names_of (declarations trees c.args.decls.now.list) c.args.arrays.now c.args.above.now) c.args.node.head) (not (is_some (fault_of (signature_in trees c.args.decls.now.list c.args.arrays.now) (above_of c.args.above.now) (want_of trees c.args.arrays.now c.args.want) c.args.node.head (tree_at trees c.args.node.first)))) c.is_known_head.result (c.is_known_head.ensures trees) c.if-not-is_known_head.true
+
+pub returns : goal.returns
+returns c =
+    let trees = c.args.pool.now.trees in
+    let found = fault_of (signature_in trees c.args.decls.now.list c.args.arrays.now) (above_of c.args.above.now) (want_of trees c.args.arrays.now c.args.want) c.args.node.head (tree_at trees c.args.node.first) in
+    then-second (is_known_head (names_of (declarations trees c.args.decls.now.list) c.args.arrays.now c.args.above.now) c.args.node.head) (not (is_some found)) c.is_known_head.result c.is_none.result (c.is_known_head.ensures trees) c.if-not-is_known_head.false (no-fault c.own_fault.result found c.is_none.result c.is_none.ensures c.own_fault.ensures)

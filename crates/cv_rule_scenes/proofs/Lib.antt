@@ -1,0 +1,5 @@
+pub mod Above
+pub mod Tested
+pub mod Tests
+pub mod There
+pub mod Whole

@@ -1,0 +1,139 @@
+-- What walks over trees test, node by node.
+use Rattle.std.proofs.Common.{◌≡◌, ℕ, Bool, true, false, not, ◌&&◌, cond, List, ◌∷◌, Option, Some, None, refl, sym, ap, ◌∙◌}
+use Rattle.std.specs.Prelude.{◌||◌, option_map}
+use Rattle.std.specs.List.{list_any}
+use Rattle.cv_syntax.specs.declared.head.Head.{Head}
+use Rattle.cv_pool.specs.KindTree.{KindTree}
+use Rattle.cv_syntax.specs.declared.decls.Class.{Class}
+use Rattle.cv_syntax.specs.declared.decls.Class.TheVariants as class
+use Rattle.cv_syntax.specs.declared.decls.Decl.{Decl}
+use Rattle.cv_syntax.specs.declared.decls.Decl.TheVariants as decl
+use Rattle.cv_syntax.specs.Classes.{class_by, class_in, declaration_in}
+use Rattle.cv_syntax.specs.Declarations.{declarations, declared}
+use Rattle.cv_syntax.specs.Tree.{Tree, Empty, Node, first_place, second_place}
+use Rattle.cv_directory.specs.Sites.{first_of}
+use Rattle.cv_scope.specs.Sites.{Variable}
+use Rattle.cv_scope.specs.Made.{made_by}
+use Rattle.cv_scope.specs.Phrases.{binds_none, head_binds_none}
+use Rattle.cv_scenes.specs.Scenes.{asks_for, first_reading, has_news_alone, has_some_new, head_names, head_reads, is_new_head, is_type_by, names}
+use Rattle.cv_typing.specs.Signature.{declaration_of}
+use Rattle.cv_typing.proofs.Bridges.{declaration-same}
+use Rattle.cv_rule_scenes.specs.Kept.{is_type_class}
+
+-- a test of a node, of its first child and of its second
+
+pub some-here : (v p q r a : Bool) → v ≡ (p || (q || r)) → a ≡ p → a ≡ true → v ≡ true
+some-here v true q r a e f g = e
+some-here v false q r a e f g = absurd (cc)
+
+pub some-first : (v p q r a : Bool) → v ≡ (p || (q || r)) → a ≡ q → a ≡ true → v ≡ true
+some-first v true q r a e f g = e
+some-first v false true r a e f g = e
+some-first v false false r a e f g = absurd (cc)
+
+pub some-rest : (v p q r a b : Bool) → v ≡ (p || (q || r)) → a ≡ p → a ≡ false → b ≡ q → b ≡ false → v ≡ r
+some-rest v true q r a b e f g h i = absurd (cc)
+some-rest v false true r a b e f g h i = absurd (cc)
+some-rest v false false r a b e f g h i = e
+
+pub all-here : (v p q r a : Bool) → v ≡ (p && (q && r)) → a ≡ p → a ≡ false → v ≡ false
+all-here v true q r a e f g = absurd (cc)
+all-here v false q r a e f g = e
+
+pub all-first : (v p q r a : Bool) → v ≡ (p && (q && r)) → a ≡ q → a ≡ false → v ≡ false
+all-first v false q r a e f g = e
+all-first v true true r a e f g = absurd (cc)
+all-first v true false r a e f g = e
+
+pub all-rest : (v p q r a b : Bool) → v ≡ (p && (q && r)) → a ≡ p → a ≡ true → b ≡ q → b ≡ true → v ≡ r
+all-rest v false q r a b e f g h i = absurd (cc)
+all-rest v true false r a b e f g h i = absurd (cc)
+all-rest v true true r a b e f g h i = e
+
+-- names
+
+pub names-node : (x : ℕ) (t : Tree) (h : Head) (a b : Tree) → t ≡ Node h a b → names x t ≡ (head_names x h || (names x a || names x b))
+unfolding names
+names-node x t h a b e = ap (names x) e
+
+pub names-end : (x : ℕ) (t : Tree) → t ≡ Empty → names x t ≡ false
+unfolding names
+names-end x t e = ap (names x) e
+
+-- sites
+
+pub drawn-node : (x : ℕ) (t : Tree) (h : Head) (a b : Tree) → t ≡ Node h a b → has_some_new x t ≡ ((is_new_head h && made_by h a (Variable x)) || (has_some_new x a || has_some_new x b))
+unfolding has_some_new
+drawn-node x t h a b e = ap (has_some_new x) e
+
+pub drawn-end : (x : ℕ) (t : Tree) → t ≡ Empty → has_some_new x t ≡ false
+unfolding has_some_new
+drawn-end x t e = ap (has_some_new x) e
+
+pub only-node : (x : ℕ) (t : Tree) (h : Head) (a b : Tree) → t ≡ Node h a b → has_news_alone x t ≡ ((is_new_head h || not (made_by h a (Variable x))) && (has_news_alone x a && has_news_alone x b))
+unfolding has_news_alone
+only-node x t h a b e = ap (has_news_alone x) e
+
+pub only-end : (x : ℕ) (t : Tree) → t ≡ Empty → has_news_alone x t ≡ true
+unfolding has_news_alone
+only-end x t e = ap (has_news_alone x) e
+
+-- readings
+
+pub reading-node : (x p : ℕ) (t : Tree) (h : Head) (a b : Tree) → t ≡ Node h a b → first_reading x p t ≡ cond (head_reads x h) (Some p) (first_of (first_reading x (first_place p h) a) (first_reading x (second_place p h a) b))
+unfolding first_reading
+reading-node x p t h a b e = ap (first_reading x p) e
+
+pub reading-end : (x p : ℕ) (t : Tree) → t ≡ Empty → first_reading x p t ≡ None
+unfolding first_reading
+reading-end x p t e = ap (first_reading x p) e
+
+-- a reading here, in the first child, or none in either
+pub reads-here : {A : Type 0} (v o : Option A) (p : A) (b c : Bool) → v ≡ cond c (Some p) o → b ≡ c → b ≡ true → v ≡ Some p
+reads-here v o p b true e f g = e
+reads-here v o p b false e f g = absurd (cc)
+
+pub reads-first : {A : Type 0} (v o q : Option A) (p r : A) (b c : Bool) → v ≡ cond c (Some p) (first_of o q) → b ≡ c → b ≡ false → o ≡ Some r → v ≡ Some r
+reads-first v o q p r b true e f g h = absurd (cc)
+reads-first v o q p r b false e f g h = e ∙ ap (λ s. first_of s q) h
+
+pub reads-rest : {A : Type 0} (v o q : Option A) (p : A) (b c : Bool) → v ≡ cond c (Some p) (first_of o q) → b ≡ c → b ≡ false → o ≡ None → v ≡ q
+reads-rest v o q p b true e f g h = absurd (cc)
+reads-rest v o q p b false e f g h = e ∙ ap (λ s. first_of s q) h
+
+-- whole games
+
+pub binds-node : (xs : ℕ → Bool) (t : Tree) (h : Head) (a b : Tree) → t ≡ Node h a b → binds_none xs t ≡ (head_binds_none xs h && (binds_none xs a && binds_none xs b))
+unfolding binds_none
+binds-node xs t h a b e = ap (binds_none xs) e
+
+pub binds-end : (xs : ℕ → Bool) (t : Tree) → t ≡ Empty → binds_none xs t ≡ true
+unfolding binds_none
+binds-end xs t e = ap (binds_none xs) e
+
+-- queries
+
+pub asked-here : (x : ℕ) (q : Tree) (qs all : List Tree) (d : Bool) → all ≡ q ∷ qs → d ≡ asks_for x q → d ≡ true → list_any (asks_for x) all ≡ true
+asked-here x q qs all d e f g = ap (list_any (asks_for x)) e ∙ ap (λ b. b || list_any (asks_for x) qs) (sym f ∙ g)
+
+pub asked-later : (x : ℕ) (q : Tree) (qs all : List Tree) (d : Bool) → all ≡ q ∷ qs → d ≡ asks_for x q → d ≡ false → list_any (asks_for x) all ≡ list_any (asks_for x) qs
+asked-later x q qs all d e f g = ap (list_any (asks_for x)) e ∙ ap (λ b. b || list_any (asks_for x) qs) (sym f ∙ g)
+
+-- declarations
+
+type-by : (trees : List KindTree) (o : Option Decl) → is_type_class (class_by o) ≡ is_type_by (option_map (declared trees) o)
+type-by trees None = refl
+type-by trees (Some (decl.Name id (class.TypeName fixed large) args r)) = refl
+type-by trees (Some (decl.Name id class.Param args r)) = refl
+type-by trees (Some (decl.Name id class.Channel args r)) = refl
+type-by trees (Some (decl.Name id (class.Fun d) args r)) = refl
+type-by trees (Some (decl.Name id class.Event args r)) = refl
+type-by trees (Some (decl.Name id class.Proba args r)) = refl
+type-by trees (Some (decl.Name id class.Equiv args r)) = refl
+type-by trees (Some (decl.Name id class.Free args r)) = refl
+type-by trees (Some (decl.Equation n)) = refl
+type-by trees (Some (decl.Equiv id n)) = refl
+type-by trees (Some (decl.Query n)) = refl
+
+pub type-same : (trees : List KindTree) (ds : List Decl) (T : ℕ) (k : Class) → k ≡ class_in ds T → is_type_class k ≡ is_type_by (declaration_of (declarations trees ds) T)
+type-same trees ds T k e = ap is_type_class e ∙ (type-by trees (declaration_in ds T) ∙ ap is_type_by (sym (declaration-same trees ds T)))
