@@ -1,24 +1,10 @@
--- How large trees are with a part changed, and how many nodes stand above it.
-use Rattle.std.proofs.Common.{◌≡◌, ℕ, ◌+◌, ◌-◌, ◌*◌, ◌≤◌, ◌<◌, max, Bool, true, false, cond, ◌⊎◌, inl, inr, Some, None, refl, sym, ap, ◌∙◌, arith, nat_lt, ltb, ltb-true, ltb-false}
-use Rattle.cv_syntax.specs.declared.head.Head.{Head}
-use Rattle.cv_syntax.specs.Head.{weight}
-use Rattle.cv_syntax.specs.Tree.{Tree, Empty, Node, size, depth, subtree}
-use Rattle.cv_syntax.proofs.Walking.{depth-node, depth-le-size, size-node}
+-- How large changed parts are, and how many nodes stand above a place.
+use Rattle.std.proofs.Common.{◌≡◌, ℕ, ◌+◌, ◌*◌, max, ap, arith}
+use Rattle.cv_syntax.specs.Tree.{Tree, Empty, Node, size, depth}
+use Rattle.cv_syntax.proofs.Walking.{depth-le-size, size-node}
 use Rattle.cv_syntax.proofs.Trees.{empty_at, size-Empty}
-use Rattle.cv_meaning_runs.specs.Replacement.{replaced}
-use Rattle.cv_path.specs.declared.place.Lies.TheVariants.{Here, Within, Behind}
-use Rattle.cv_path.specs.Places.{LiesAt, nodes_above}
-use Rattle.cv_path.specs.Ways.{turned}
-use Rattle.cv_path.proofs.Bounds.{no_subtree}
-use Rattle.cv_path.proofs.Going.{replaced-here, replaced-within, replaced-behind}
+use Rattle.cv_path.specs.Places.{nodes_above}
 use Rattle.cv_steps.specs.Changes.{split_process, after_let, after_new}
-
-pub below_or_not : (m n : ℕ) → (m < n) ⊎ (n ≤ m)
-below_or_not m n = go (ltb m n) refl
-  where
-    go : (v : Bool) → ltb m n ≡ v → (m < n) ⊎ (n ≤ m)
-    go true e = inl (ltb-true m n e)
-    go false e = inr (ltb-false m n e)
 
 pub size-split_process : (m p : Tree) → size (split_process m p) ≡ 1 + size m + 2 * size p
 unfolding size
@@ -44,61 +30,8 @@ pub depth-new : (x T : ℕ) (p : Tree) → depth (after_new x T p) ≡ 1 + depth
 unfolding depth
 depth-new x T p = omega arith
 
--- a tree with another part has the nodes of the new part in place of those of the old one
-pub size-replaced : (t : Tree) (p : ℕ) (new part : Tree) → subtree t p ≡ Some part → size (replaced t p new) + size part ≡ size t + size new
-unfolding size replaced subtree
-size-replaced Empty p new part s = absurd (cc)
-size-replaced (Node h a b) p new part s = go (nat_lt p (weight h)) (nat_lt p (weight h + size a)) s (size-replaced a (p - weight h) new part) (size-replaced b (p - (weight h + size a)) new part)
-  where
-    go : (v w : Bool) → cond v (Some (Node h a b)) (cond w (subtree a (p - weight h)) (subtree b (p - (weight h + size a)))) ≡ Some part
-        → (subtree a (p - weight h) ≡ Some part → size (replaced a (p - weight h) new) + size part ≡ size a + size new)
-        → (subtree b (p - (weight h + size a)) ≡ Some part → size (replaced b (p - (weight h + size a)) new) + size part ≡ size b + size new)
-        → size (cond v new (cond w (Node h (replaced a (p - weight h) new) b) (Node h a (replaced b (p - (weight h + size a)) new)))) + size part ≡ weight h + size a + size b + size new
-    go true w e f g = let k : Node h a b ≡ part = cc in omega (arith, ap size k)
-    go false true e f g = omega (arith, f e)
-    go false false e f g = omega (arith, g e)
-
--- the part is no larger than the tree
-pub size-part : (t : Tree) (p : ℕ) (part : Tree) → subtree t p ≡ Some part → size part ≤ size t
-size-part t p part s = omega (arith, size-replaced t p Empty part s, size-Empty Empty refl)
-
-pub no-part : (t : Tree) (p : ℕ) → subtree t p ≡ None → size t ≤ p
-no-part t p e = (no_subtree t p).0 e
-
-pub some-part : (t : Tree) (p : ℕ) (part : Tree) → subtree t p ≡ Some part → p < size t
-some-part t p part e = go (below_or_not p (size t))
-  where
-    clash : Some part ≡ None → ⊥
-    clash f = cc
-
-    go : (p < size t) ⊎ (size t ≤ p) → p < size t
-    go (inl l) = l
-    go (inr l) = absurd (clash (sym e ∙ (no_subtree t p).1 l))
-
-module _ (t : Tree) (h : Head) (a b : Tree) (p q : ℕ) (new : Tree) (e : t ≡ Node h a b) where
-  pub depth-here : LiesAt h a p Here → depth (replaced t p new) ≡ depth new
-  depth-here l = ap depth (replaced-here t h a b p q e new l)
-
-  pub depth-within : LiesAt h a p (Within q) → depth (replaced t p new) ≡ weight h + max (depth (replaced a q new)) (depth b)
-  depth-within l =
-      depth-node (replaced t p new) h (replaced a q new) b
-      (sym (replaced-within t h a b p q e new l) ∙ ap (λ u. turned false u (replaced a q new)) e)
-
-  pub depth-behind : LiesAt h a p (Behind q) → depth (replaced t p new) ≡ weight h + max (depth a) (depth (replaced b q new))
-  depth-behind l =
-      depth-node (replaced t p new) h a (replaced b q new)
-      (sym (replaced-behind t h a b p q e new l) ∙ ap (λ u. turned true u (replaced b q new)) e)
-
-pub depth-gone : (t : Tree) (p : ℕ) (new : Tree) → t ≡ Empty → depth (replaced t p new) ≡ 0
-unfolding depth replaced
-depth-gone t p new e = ap (λ u. depth (replaced u p new)) e
-
 pub above-gone : (t : Tree) (p : ℕ) → t ≡ Empty → nodes_above t p ≡ 0
 unfolding nodes_above
 above-gone t p e = ap (λ u. nodes_above u p) e
-
-pub depth-Empty : (t : Tree) → t ≡ Empty → depth t ≡ 0
-unfolding depth
-depth-Empty t e = ap depth e
 
 pub ruleset extents = (size-split_process, depth-split_process, size-let, depth-let, size-new, depth-new, depth-le-size, size-node, size-Empty, empty_at)

@@ -15,7 +15,7 @@ use Rattle.cv_meaning_unread.specs.Dropping.{defines}
 use Rattle.cv_steps.specs.Changes.{without, only}
 use Rattle.cv_syntax.proofs.Trees.{size-Empty}
 use Rattle.cv_syntax.proofs.Walking.{size-node, depth-node}
-use Rattle.cv_draw.proofs.Extents.{below_or_not, depth-Empty}
+use Rattle.cv_draw_extents.proofs.Extents.{below_or_not, depth-Empty}
 use Rattle.cv_draw.proofs.Room.{no-error}
 use Rattle.cv_draw.specs.Dropping.{nodes_without}
 

@@ -13,8 +13,8 @@ use Rattle.cv_syntax.specs.declared.head.Head.TheVariants.{If, Cons}
 use Rattle.cv_syntax.specs.Tree.{Tree, Empty, Node, size, subtree, tree_at}
 use Rattle.cv_syntax.proofs.Buildings.{child-grown}
 use Rattle.cv_syntax.proofs.Trees.{tree_at-None}
-use Rattle.cv_steps.specs.Changes.{change_at, split_process}
-use Rattle.cv_steps.specs.Scenes.{or_empty, part_at}
+use Rattle.cv_steps.specs.Changes.{split_process}
+use Rattle.cv_scenes.specs.Scenes.{or_empty, part_at}
 use Rattle.cv_path.specs.Places.{nodes_above}
 use Rattle.cv_path.specs.Refusals as path
 use Rattle.cv_path.specs.Refusals.{no_memory, no_room}
@@ -22,7 +22,7 @@ use Rattle.cv_path.specs.declared.error.PathError.{PathError}
 use Rattle.cv_path.specs.declared.error.PathError.TheVariants.{NoSuchPlace, Build}
 use Rattle.cv_draw.specs.declared.change.Change.{Change}
 use Rattle.cv_draw.specs.Changes.{need_of, nodes_of, refusal}
-use Rattle.cv_draw.proofs.Extents.{no-part, size-replaced}
+use Rattle.cv_draw_extents.proofs.Extents.{no-part}
 
 module _ (p : PoolView) (t : Tree) (place : ℕ) (ch : Change) where
   pub no-place : subtree t place ≡ None → refusal p t place ch ≡ Some NoSuchPlace
@@ -74,8 +74,8 @@ split_process-made p q r s old condition last bodies result g h l m e f i =
 pub new-made : (trees : List KindTree) (t b : Tree) (h : Head) → t ≡ Node h (tree_at trees None) b → t ≡ Node h Empty b
 new-made trees t b h e = e ∙ ap (λ a. Node h a b) (tree_at-None trees)
 
-pub measured : (t : Tree) (p : ℕ) (part : Tree) (change : Tree → Tree) → subtree t p ≡ Some part → size (change_at t p change) + size part ≡ size t + size (change part)
-measured t p part change e = size-replaced t p (change (part_at t p)) part e ∙ ap (λ u. size t + size (change u)) (ap or_empty e)
+pub part-found : (t : Tree) (p : ℕ) (part : Tree) → subtree t p ≡ Some part → part_at t p ≡ part
+part-found t p part e = ap or_empty e
 
 pub only-left : {A B : Type 0} → A ⊎ B → (B → ⊥) → A
 only-left (inl a) f = a

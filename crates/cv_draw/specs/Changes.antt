@@ -9,22 +9,25 @@ use Rattle.cv_path.specs.declared.error.PathError.{PathError}
 use Rattle.cv_path.specs.declared.error.PathError.TheVariants.{NoSuchPlace, Build}
 use Rattle.cv_steps.specs.Changes.{split_process, after_let, after_new}
 use Rattle.cv_draw.specs.declared.change.Change.{Change}
-use Rattle.cv_draw.specs.declared.change.Change.TheVariants.{Split, AfterLet, AfterNew}
+use Rattle.cv_draw.specs.declared.change.Change.TheVariants.{Split, AfterLet, AfterNew, Replace}
 
 -- a change, with the term that stands in the pool
 abbrev pub change_of : List KindTree → Change → Tree → Tree
 change_of trees (Split m) = split_process (tree_at trees (Some m))
 change_of trees (AfterLet x T m) = after_let x T (tree_at trees (Some m))
 change_of trees (AfterNew x T) = after_new x T
+change_of trees (Replace m) = λ old. tree_at trees (Some m)
 
 abbrev pub TermIsLive : ℕ → Change → Type 0
 TermIsLive n (Split m) = m.0 < n
 TermIsLive n (AfterLet x T m) = m.0 < n
 TermIsLive n (AfterNew x T) = Unit {0}
+TermIsLive n (Replace m) = m.0 < n
 
 -- how many nodes it makes of the part
 abbrev pub nodes_of : Change → ℕ
 nodes_of (Split m) = 3
+nodes_of (Replace m) = 0
 nodes_of c = 1
 
 -- how many it makes, those above the place among them

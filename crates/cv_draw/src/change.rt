@@ -4,6 +4,7 @@ ghost use Rattle.cv_syntax.specs.Tree as tree;
 ghost use Rattle.cv_syntax.specs.Tree.{tree_at};
 ghost use Rattle.cv_draw.specs.Changes.{TermIsLive, change_of, nodes_of};
 
+use cv_draw_extents::Extent;
 use cv_syntax::{NodeId, Pool, depth, size};
 
 /// How a step changes what stands at a place.
@@ -24,13 +25,10 @@ pub enum Change {
         name: u32,
         of_type: u32,
     },
-}
-
-/// How many syntax nodes a tree has, and how many its longest path.
-#[derive(Clone, Copy)]
-pub struct Extent {
-    pub nodes: u32,
-    pub depth: u32,
+    /// This node in place of the part.
+    Replace {
+        by: NodeId,
+    },
 }
 
 impl Change {
@@ -42,6 +40,7 @@ impl Change {
             Change::Split { .. } => 3,
             Change::AfterLet { .. } => 1,
             Change::AfterNew { .. } => 1,
+            Change::Replace { .. } => 0,
         }
     }
 
@@ -72,6 +71,10 @@ impl Change {
             Change::AfterNew { .. } => Extent {
                 nodes: 1 + size(pool, part),
                 depth: 1 + depth(pool, part),
+            },
+            Change::Replace { by } => Extent {
+                nodes: size(pool, by),
+                depth: depth(pool, by),
             },
         }
     }

@@ -95,6 +95,7 @@ fn part(pool: &mut Pool, old: NodeId, change: Change) -> NodeId
             term,
         } => join(pool, Head::Let(name, of_type), Some(term), Some(old)),
         Change::AfterNew { name, of_type } => join(pool, Head::New(name, of_type), None, Some(old)),
+        Change::Replace { by } => by,
     }
 }
 

@@ -10,7 +10,7 @@ ghost use Rattle.cv_steps.specs.Changes.{without, only};
 ghost use Rattle.cv_draw.specs.Dropping.{need_without};
 ghost use Rattle.cv_syntax.specs.declared.make.Make.TheVariants as make;
 
-use crate::change::Extent;
+use cv_draw_extents::Extent;
 use cv_pool::PoolError;
 use cv_syntax::{Head, Make, NodeId, Pool, plant, read_node};
 use std::alloc::{AllocError, Global};

@@ -6,7 +6,8 @@ mod drawing;
 mod dropping;
 mod measuring;
 
-pub use change::{Change, Extent};
+pub use change::Change;
+pub use cv_draw_extents::Extent;
 pub use drawing::draw;
 pub use dropping::{drop_variable, measure_without};
 pub use measuring::measure;

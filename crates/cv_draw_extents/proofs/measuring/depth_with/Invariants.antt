@@ -4,7 +4,7 @@ use Rattle.cv_syntax.specs.Tree as tree
 use Rattle.cv_syntax.specs.Tree.{Tree, tree_at}
 use Rattle.cv_syntax.specs.Walks.{above}
 use Rattle.cv_meaning_runs.specs.Replacement.{replaced}
-use Rattle.cv_draw.proofs.measuring.depth_with.Given as goal
+use Rattle.cv_draw_extents.proofs.measuring.depth_with.Given as goal
 
 abbrev pub invariant-down : goal.invariant-down
 invariant-down l = record {

@@ -2,8 +2,8 @@ use Rattle.std.proofs.Common.{rules, arith, ap, ◌∙◌, ◌≡◌, ◌+◌, m
 use Rattle.cv_syntax.specs.Tree.{tree_at}
 use Rattle.cv_syntax.proofs.Trees.{empty_at}
 use Rattle.cv_syntax.proofs.Walking.{depth-le-size, size-node}
-use Rattle.cv_draw.proofs.Extents.{depth-here, depth-within, depth-behind, depth-gone}
-use Rattle.cv_draw.proofs.measuring.depth_with.Goals as goal
+use Rattle.cv_draw_extents.proofs.Extents.{depth-here, depth-within, depth-behind, depth-gone}
+use Rattle.cv_draw_extents.proofs.measuring.depth_with.Goals as goal
 
 pub place_in-requires-clause-fits : goal.place_in-requires-clause-fits
 place_in-requires-clause-fits c =

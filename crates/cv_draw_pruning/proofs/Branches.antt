@@ -1,0 +1,112 @@
+-- Lists of branches, item by item.
+use Rattle.std.proofs.Common.{◌≡◌, ℕ, zero, suc, ◌+◌, ◌-◌, ◌≤◌, max, true, List, Option, Some, None, refl, sym, ap, ◌∙◌, arith}
+use Rattle.std.specs.Prelude.{option_map}
+use Rattle.cv_syntax.specs.declared.head.Head.TheVariants.{Branch, Cons}
+use Rattle.cv_syntax.specs.declared.head.Head.{Head}
+use Rattle.cv_path.specs.Ways.{turned}
+use Rattle.cv_syntax.specs.Tree.{Tree, Empty, Node, first, second, size, depth}
+use Rattle.cv_syntax.proofs.Walking.{size-node, depth-node}
+use Rattle.cv_path.specs.Copies.{guards}
+use Rattle.cv_scenes.specs.Pruning.{branch_body, without_branch}
+use Rattle.cv_draw_pruning.specs.Lefts.{before_body, cell_of, items}
+
+abbrev as-node : Option (Tree × Tree) → Tree
+as-node None = Empty
+as-node (Some p) = Node Cons p.0 p.1
+
+some-pair : (x y b m : Tree) → cell_of (Node Cons x y) ≡ Some (b, m) → Node Cons x y ≡ Node Cons b m
+some-pair x y b m e = ap as-node e
+
+pub cell-is : (t b m : Tree) → cell_of t ≡ Some (b, m) → t ≡ Node Cons b m
+cell-is Empty b m e = absurd (cc)
+cell-is (Node Cons x y) b m e = some-pair x y b m e
+cell-is (Node h x y) b m e = absurd (cc)
+
+-- without a cell there is no branch
+pub no-cell : (p : ℕ) (t : Tree) (k : ℕ) → cell_of t ≡ None → branch_body p t k ≡ None
+no-cell p Empty k e = refl
+no-cell p (Node Cons x y) k e = absurd (cc)
+no-cell p (Node h x y) k e = refl
+
+pub no-number : (p : ℕ) (t : Tree) → branch_body p t 0 ≡ None
+no-number p Empty = refl
+no-number p (Node Cons Empty y) = refl
+no-number p (Node Cons (Node Branch us rest) y) = refl
+no-number p (Node Cons (Node h us rest) y) = refl
+no-number p (Node h x y) = refl
+
+pub guards-few : (t : Tree) → guards t ≤ size t
+unfolding size
+guards-few Empty = omega arith
+guards-few (Node h a Empty) = omega arith
+guards-few (Node h a (Node g x y)) = omega arith
+
+-- the first branch
+pub here-body : (p : ℕ) (b m : Tree) → branch_body p (Node Cons b m) 1 ≡ option_map (λ n. p + n) (before_body b)
+here-body p Empty m = refl
+here-body p (Node Branch us rest) m = ap Some (omega arith)
+here-body p (Node h us rest) m = refl
+
+-- a later one
+pub later-body : (p : ℕ) (b m : Tree) (k : ℕ) → branch_body p (Node Cons b m) (suc (suc k)) ≡ branch_body (p + size b) m (suc k)
+later-body p Empty m k = let e : p + 0 + size Empty ≡ p + size Empty = omega arith in ap (λ q. branch_body q m (suc k)) e
+later-body p (Node Branch us rest) m k = let e : p + 0 + size (Node Branch us rest) ≡ p + size (Node Branch us rest) = omega arith in ap (λ q. branch_body q m (suc k)) e
+later-body p (Node h us rest) m k = let e : p + 0 + size (Node h us rest) ≡ p + size (Node h us rest) = omega arith in ap (λ q. branch_body q m (suc k)) e
+
+pub step-body : (p : ℕ) (t b m : Tree) (k : ℕ) → t ≡ Node Cons b m → 2 ≤ k → branch_body p t k ≡ branch_body (p + size b) m (k - 1)
+step-body p t b m zero e l = absurd (omega (arith, l))
+step-body p t b m (suc zero) e l = absurd (omega (arith, l))
+step-body p t b m (suc (suc k)) e l =
+    let f : suc k ≡ suc (suc k) - 1 = omega arith in
+    ap (λ u. branch_body p u (suc (suc k))) e ∙ (later-body p b m k ∙ ap (branch_body (p + size b) m) f)
+
+-- the list without it
+
+pub here-without : (t : Tree) (h : Head) (b m : Tree) → t ≡ Node h b m → without_branch t 1 ≡ m
+here-without t h b m e = ap (λ u. without_branch u 1) e
+
+pub step-without : (t : Tree) (h : Head) (b m : Tree) (k : ℕ) → t ≡ Node h b m → 2 ≤ k → without_branch t k ≡ Node h b (without_branch m (k - 1))
+step-without t h b m zero e l = absurd (omega (arith, l))
+step-without t h b m (suc zero) e l = absurd (omega (arith, l))
+step-without t h b m (suc (suc k)) e l =
+    let f : suc k ≡ suc (suc k) - 1 = omega arith in
+    ap (λ u. without_branch u (suc (suc k))) e ∙ ap (λ n. Node h b (without_branch m n)) f
+
+pub turned-without : (t : Tree) (h : Head) (b m : Tree) (k : ℕ) → t ≡ Node h b m → 2 ≤ k → turned true t (without_branch m (k - 1)) ≡ without_branch t k
+turned-without t h b m k e l = ap (λ u. turned true u (without_branch m (k - 1))) e ∙ sym (step-without t h b m k e l)
+
+pub items-step : (t : Tree) (h : Head) (b m : Tree) → t ≡ Node h b m → items t ≡ suc (items m)
+items-step t h b m e = ap items e
+
+pub items-none : (t : Tree) → t ≡ Empty → items t ≡ 0
+items-none t e = ap items e
+
+pub step-size : (t b m : Tree) (k : ℕ) → t ≡ Node Cons b m → 2 ≤ k → size (without_branch t k) ≡ size b + size (without_branch m (k - 1))
+step-size t b m k e l = omega (arith, size-node (without_branch t k) Cons b (without_branch m (k - 1)) (step-without t Cons b m k e l))
+
+pub step-depth : (t b m : Tree) (k : ℕ) → t ≡ Node Cons b m → 2 ≤ k → depth (without_branch t k) ≡ max (depth b) (depth (without_branch m (k - 1)))
+step-depth t b m k e l = omega (arith, depth-node (without_branch t k) Cons b (without_branch m (k - 1)) (step-without t Cons b m k e l))
+
+pub cell-size : (t b m : Tree) → t ≡ Node Cons b m → size t ≡ size b + size m
+cell-size t b m e = omega (arith, size-node t Cons b m e)
+
+-- a branch of this number is there
+pub enough-items : (p : ℕ) (t : Tree) (k x : ℕ) → branch_body p t k ≡ Some x → k ≤ items t
+enough-items p t zero x e = omega arith
+enough-items p Empty (suc k) x e = absurd (cc)
+enough-items p (Node Cons b m) (suc zero) x e = omega arith
+enough-items p (Node Cons b m) (suc (suc k)) x e = let r = enough-items (p + size b) m (suc k) x (sym (later-body p b m k) ∙ e) in omega (arith, r)
+enough-items p (Node h b m) (suc k) x e = absurd (cc)
+
+-- what a first item is
+
+pub found-cell : {A : Type 0} (f : A → Tree × Tree) (o : Option A) (x : A) (t : Tree) → option_map f o ≡ cell_of t → o ≡ Some x → t ≡ Node Cons (f x).0 (f x).1
+found-cell f o x t e i = cell-is t (f x).0 (f x).1 (sym e ∙ ap (option_map f) i)
+
+pub no-found : {A : Type 0} (f : A → Tree × Tree) (o : Option A) (t : Tree) → option_map f o ≡ cell_of t → o ≡ None → cell_of t ≡ None
+no-found f o t e i = sym e ∙ ap (option_map f) i
+
+-- places behind a front
+
+pub shifted : (p n s r : ℕ) (m : Tree) (k : ℕ) → r ≡ s → branch_body (p + n + s) m k ≡ branch_body (p + (n + r)) m k
+shifted p n s r m k e = let f : p + n + s ≡ p + (n + r) = omega (arith, e) in ap (λ q. branch_body q m k) f

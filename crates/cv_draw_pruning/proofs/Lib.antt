@@ -1,0 +1,3 @@
+pub mod Branches
+pub mod Constructs
+pub mod Games
