@@ -13,7 +13,7 @@ use Rattle.cv_parse_script.proofs.Steps.{read_in_room}
 use Rattle.cv_parse_script_laws.specs.Scripts.{IsSomeScript}
 use Rattle.cv_parse_script_laws.proofs.Refusals.{dead_end}
 use Rattle.cv_parse_notation.specs.Whole.{Dead}
-use Rattle.cv_script.specs.Rows.{built_script_row}
+use Rattle.cv_script_rows.specs.Rows.{built_script_row}
 use Rattle.cv_parse_script.specs.declared.error.ScriptError.TheVariants as script
 use Rattle.cv_parse_notation.specs.declared.sign.Sign.{Sign}
 use Rattle.cv_parse_grammar.specs.Names as names

@@ -19,7 +19,7 @@ use Rattle.cv_accept.proofs.Readings.{file_is_read, full_content}
 use Rattle.cv_parse_script.proofs.Steps.{items_nodes}
 use Rattle.std.proofs.lemmas.List.{length-map}
 use Rattle.cv_kernel.specs.Proofs.{nodes_along}
-use Rattle.cv_steps.specs.Scenes.{Scene}
+use Rattle.cv_scenes.specs.Scenes.{Scene}
 use Rattle.cv_steps.specs.Sequences.{scene}
 use Rattle.cv_report.specs.declared.report.Which.TheVariants.{Depth, File, Nodes, Pool, Steps}
 use Rattle.cv.specs.Scripts.{EndsScript, Follows, Stops, known_to, no_room, refused, too_deep, too_large, too_many, unclosed}

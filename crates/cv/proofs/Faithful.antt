@@ -20,29 +20,31 @@ use Rattle.cv_kernel.specs.Proofs.{IsProof, Transition, push, start}
 use Rattle.cv_kernel.specs.Steps.{judgement_by, step_in}
 use Rattle.cv_parse.proofs.Exactness.{says_is_said}
 use Rattle.cv_parse_terminals.specs.Signs.{signs_of}
-use Rattle.cv_parse_sorts.proofs.Games.{sorts_declared}
+use Rattle.cv_parse_sorts.proofs.Games.{constants_declared}
 use Rattle.cv_parse_sorts.proofs.Known.{queries_known}
 use Rattle.cv_plain.specs.Strategy.{closing, most_pool}
 use Rattle.cv_query_form.specs.Queries.{queries_in}
 use Rattle.cv_query_form.specs.Rules.{AreAsked}
 use Rattle.cv_report.specs.declared.report.Entry.{Entry}
 use Rattle.cv_report.specs.declared.report.Report.{Report}
-use Rattle.cv_scope_runs.specs.Phrases.{IsWellFormed}
 use Rattle.cv_script.specs.declared.steps.Step.{Step}
 use Rattle.cv_sequences.specs.Sequences.{added_up, costs_of}
 use Rattle.cv_sequences.proofs.Asked.{choices_valued}
 use Rattle.cv_sequences.proofs.Sums.{within}
 use Rattle.cv_steps.specs.Costs.{cost_of}
 use Rattle.cv_steps.specs.Judgements.{Accepted}
-use Rattle.cv_steps.specs.Scenes.{KnowsQueries}
+use Rattle.cv_scenes.specs.Scenes.{KnowsQueries}
 use Rattle.cv_steps.specs.Sequences as steps
 use Rattle.cv_steps.specs.Sequences.{IsSequence, Passage, scene}
 use Rattle.cv_steps.specs.Steps.{Cost, Step as StepTree}
 use Rattle.cv_typing.specs.Parts.{IsTypedFile}
-use Rattle.cv_typing_runs.specs.Games.{HasDeclaredSorts}
+use Rattle.cv_typing_runs.specs.Games.{HasConstants}
+use Rattle.cv_derivations_under.specs.Holding.{IsReady}
+use Rattle.cv_derivations_under.specs.Soundness.{DerivationsHold, DerivedBodiesAreUnreached}
 use Rattle.cv.specs.Games.{HasCloseGames, IsWithin, summed}
 use Rattle.cv.specs.Runs.{Runs}
 use Rattle.cv.specs.Scripts.{entry_in, entry_of, known_to}
+use Rattle.cv.proofs.Ready.{game_ready}
 use Rattle.cv.specs.Strategy.{FollowsScript, Proceeds, declared_in, file_in, game_in, steps_in}
 
 -- the front of a proof
@@ -106,13 +108,13 @@ module _ (ds : List Declaration) (known : ℕ → Bool) (first : Tree) where
   summed_up sum (c ∷ cs) = summed_up (added sum (cost_of c) false) cs
 
   -- so no adversary tells its games
-  module _ (w : IsWellFormed ds first) (k : KnowsQueries (scene ds known first)) (typed : IsTypedFile ds first) (sorts : HasDeclaredSorts ds first) (asked : AreAsked first (queries_in ds)) where
+  module _ (w : IsReady ds first) (constants : HasConstants ds) (holds : DerivationsHold ds) (unreached : DerivedBodiesAreUnreached ds) (k : KnowsQueries (scene ds known first)) (typed : IsTypedFile ds first) (asked : AreAsked first (queries_in ds)) where
     pub close : (ts : List Transition) (last : Tree) → IsProof ds known first ts last → IsWithin ds first last (summed [] (map (λ t. t.cost) ts))
     close ts last p = λ i sat x q a advantages.
         let h = passages_of ts last p in
         subst (λ s. AtMost (distance (chance_of (setting_of ds i) x a first) (chance_of (setting_of ds i) x a last)) (sum_value i advantages s))
         (summed_up [] (costs_of h.passages) ∙ ap (summed []) h.costs)
-        (within ds known first w k i sat x q (choices_valued ds first w.phrase typed sorts asked i sat x q) a advantages h.passages last h.sequence)
+        (within ds known first w constants holds unreached k i sat x q (choices_valued ds first w.formed.phrase typed w.sorts asked i sat x q) a advantages h.passages last h.sequence)
 
 -- the trail of a report
 
@@ -140,22 +142,27 @@ none_next [] k e g h n = cc
 none_next (s ∷ ss) zero e g h n = let f : closing s ≡ e = cc in let m = ap (λ x. x.next) f ∙ n in cc
 none_next (s ∷ ss) (suc k) e g h n = none_next ss k e g h n
 
-module _ (c : Content) (f : File) (r : Report) (bytes : List ℕ) (reads : read_of most_pool bytes ≡ Ok c) where
+module _ (holds : (ds : List Declaration) → DerivationsHold ds) (unreached : (ds : List Declaration) → DerivedBodiesAreUnreached ds) (c : Content) (f : File) (r : Report) (bytes : List ℕ) (reads : read_of most_pool bytes ≡ Ok c) where
   -- what a file has that the law asks for
   knows : KnowsQueries (scene c.declarations (known_to c.own) c.game)
   knows =
       let w = read_is_file most_pool bytes c reads in
       subst (λ d. KnowsQueries (scene d.declarations (known_to d.own) d.game)) (sym w.content) (queries_known most_pool w.tokens w.said w.says)
 
-  sorted : HasDeclaredSorts c.declarations c.game
-  sorted =
+  ready : IsReady c.declarations c.game
+  ready =
       let w = read_is_file most_pool bytes c reads in
-      subst (λ d. HasDeclaredSorts d.declarations d.game) (sym w.content) (sorts_declared most_pool (signs_of w.tokens).signs w.said (says_is_said most_pool (signs_of w.tokens).signs w.said w.says))
+      subst (λ d. IsReady d.declarations d.game) (sym w.content) (game_ready most_pool (signs_of w.tokens).signs w.said (says_is_said most_pool (signs_of w.tokens).signs w.said w.says) w.typed w.scoped)
+
+  constants : HasConstants c.declarations
+  constants =
+      let w = read_is_file most_pool bytes c reads in
+      subst (λ d. HasConstants d.declarations) (sym w.content) (constants_declared most_pool (signs_of w.tokens).signs w.said (says_is_said most_pool (signs_of w.tokens).signs w.said w.says))
 
   close_content : (ts : List Transition) (last : Tree) → IsProof c.declarations (known_to c.own) c.game ts last → IsWithin c.declarations c.game last (summed [] (map (λ t. t.cost) ts))
   close_content ts last p =
       let a = accepted most_pool bytes c reads in
-      close c.declarations (known_to c.own) c.game a.well_formed knows a.typed sorted a.asked ts last p
+      close c.declarations (known_to c.own) c.game ready constants (holds c.declarations) (unreached c.declarations) knows a.typed a.asked ts last p
 
   script_close : (steps : List Tree) → file_in r f ≡ c → FollowsScript r f steps → (k : ℕ) (e : Entry) (g : Game) → slice_get r.trail.items k ≡ Some e → e.next ≡ Some g → IsWithin (declared_in r) (game_in r f) (tree_at r.work.pool.trees (Some g.root)) (summed [] (map (λ x. x.cost) (take (k + 1) r.trail.items)))
   script_close steps held w k e g h n =

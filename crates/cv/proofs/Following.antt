@@ -44,7 +44,7 @@ use Rattle.cv_report.specs.declared.report.Entry.{Entry}
 use Rattle.cv_report.specs.declared.report.Status.{Status}
 use Rattle.cv_report.specs.Text.{EntryLive}
 use Rattle.cv_script.specs.declared.steps.Step.{Step}
-use Rattle.cv_steps.specs.Scenes.{Scene}
+use Rattle.cv_scenes.specs.Scenes.{Scene}
 use Rattle.cv_steps.specs.Sequences.{scene}
 use Rattle.cv_steps.specs.Judgements.{Judgement}
 use Rattle.cv.specs.Scripts.{EndsScript, Follows, Stops, entry_in, entry_of, known_to, no_room, refused, too_deep, too_large, too_many, unclosed}

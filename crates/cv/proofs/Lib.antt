@@ -9,3 +9,4 @@ pub mod Unread
 pub mod Verdicts
 pub mod Walking
 pub mod Writing
+pub mod Ready

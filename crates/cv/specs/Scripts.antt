@@ -14,7 +14,7 @@ use Rattle.cv_report.specs.declared.report.Status.{Status}
 use Rattle.cv_report.specs.declared.report.Status.TheVariants as status
 use Rattle.cv_report.specs.declared.report.Which.TheVariants.{Depth, Nodes, Pool, Steps}
 use Rattle.cv_steps.specs.Judgements.{Refused, TooDeep, TooLarge}
-use Rattle.cv_steps.specs.Scenes.{Scene}
+use Rattle.cv_scenes.specs.Scenes.{Scene}
 use Rattle.cv_steps.specs.Sequences.{scene}
 use Rattle.cv_syntax.specs.Declarations.{Declaration}
 use Rattle.cv_syntax.specs.Tree.{Tree, tree_at}

@@ -2,7 +2,7 @@ ghost use Rattle.std.specs.Prelude.{◌≡◌, ◌<◌, ◌≤◌, [], ℕ, All,
 ghost use Rattle.cv_syntax.specs.Declarations.{declarations};
 ghost use Rattle.cv_syntax.specs.Tree.{size, tree_at};
 ghost use Rattle.cv_parse.specs.Declaring.{IsBelow};
-ghost use Rattle.cv_scope_runs.specs.Phrases.{IsWellFormed};
+ghost use Rattle.cv_scope.specs.Phrases.{IsWellFormed};
 ghost use Rattle.cv_accept.specs.Works.{HasSteps, content_at, content_nodes};
 ghost use Rattle.cv_plain.specs.Strategy.{most_pool};
 ghost use Rattle.cv_report.specs.Text.{IsLive};
@@ -17,6 +17,7 @@ use crate::follow::run_script;
 use crate::plain::run_plain;
 use crate::refusal::{refused, status_of};
 use cv_accept::{Accepted, read};
+use cv_derivations_reached::derivations_are_sound;
 use cv_report::{Command, Report};
 use cv_syntax::Work;
 use std::alloc::Global;
@@ -63,6 +64,7 @@ pub fn judge(alloc: Global, work: Work, bytes: &[u8]) -> Report
     ensures cause { (o : Outside) → AreTold o.told bytes.now → ComesFrom o result result.status }
     ensures judged { Judged result.status bytes.now }
 {
+    derivations_are_sound();
     let command = Command::Prove { moves: MOVES };
     let mut work = work;
     match read(alloc, &mut work, bytes) {

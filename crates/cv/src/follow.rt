@@ -5,6 +5,7 @@ ghost use Rattle.cv_syntax.specs.Classes.{queries};
 ghost use Rattle.cv_syntax.specs.Declarations.{declarations};
 ghost use Rattle.cv_syntax.specs.Tree.{size, tree_at};
 ghost use Rattle.cv_parse.specs.Declaring.{IsBelow};
+ghost use Rattle.cv_scope.specs.Phrases.{IsWellFormed};
 ghost use Rattle.cv_parse_script.specs.Scripts.{trees_of};
 ghost use Rattle.cv_accept.specs.Works.{HasSteps, content_at, content_nodes};
 ghost use Rattle.cv_report.specs.declared.report.Verdict.TheVariants.{NotProved};
@@ -95,6 +96,8 @@ pub fn follow(
 ) -> Result<Walk, AllocError>
     requires game { game.root.0 < length work.old.pool.trees }
     requires small { size (tree_at work.old.pool.trees (Some game.root)) ≤ 50000 }
+    requires formed { IsWellFormed (declarations work.old.pool.trees work.old.decls.list)
+        (tree_at work.old.pool.trees (Some game.root)) }
     requires below { All (IsBelow (length work.old.pool.trees)) work.old.decls.list }
     requires steps { HasSteps work.old.pool.limit work.old.pool.trees script.now }
     requires limit { work.old.pool.limit ≡ most_pool }
@@ -161,6 +164,8 @@ pub fn run_script(
 ) -> Report
     requires game { file.game.root.0 < length work.pool.trees }
     requires small { size (tree_at work.pool.trees (Some file.game.root)) ≤ 50000 }
+    requires formed { IsWellFormed (declarations work.pool.trees work.decls.list)
+        (tree_at work.pool.trees (Some file.game.root)) }
     requires below { All (IsBelow (length work.pool.trees)) work.decls.list }
     requires limit { work.pool.limit ≡ most_pool }
     requires nodes { length work.pool.trees

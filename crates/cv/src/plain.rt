@@ -1,7 +1,7 @@
 ghost use Rattle.std.specs.Prelude.{◌≡◌, ◌<◌, ◌≤◌, ◌^◌, All, None, Some, length};
 ghost use Rattle.cv_syntax.specs.Tree.{size, tree_at};
 ghost use Rattle.cv_parse.specs.Declaring.{IsBelow};
-ghost use Rattle.cv_scope_runs.specs.Phrases.{IsWellFormed};
+ghost use Rattle.cv_scope.specs.Phrases.{IsWellFormed};
 ghost use Rattle.cv_syntax.specs.Declarations.{declarations};
 ghost use Rattle.cv_accept.specs.Works.{content_at, content_nodes};
 ghost use Rattle.cv_plain.specs.Strategy.{most_pool};

@@ -12,15 +12,23 @@ use Rattle.cv_bound.specs.declared.cost.Cost.TheVariants as bound
 use Rattle.cv_rule.specs.declared.rules.Failure.{Failure}
 use Rattle.cv_rule.specs.Stated.{failed, failing, failure_of}
 use Rattle.cv_steps.specs.Judgements.{Judgement, Refused, TooLarge, TooDeep, Accepted, judgement_of, judgement_of_row, stands}
-use Rattle.cv_steps.specs.Rows.{Row, Fails, Leads, row_of, unless, unless_at}
-use Rattle.cv_steps.specs.Scenes.{Scene, first_reading, is_chosen, is_new, is_output_at, is_queried, is_type}
-use Rattle.cv_steps.specs.Steps.{Step, Split, Let, New, Unnew, Zero}
-use Rattle.cv_steps.specs.Terms.{is_bool_at, is_game, is_term_at}
-use Rattle.cv_scope_runs.specs.Phrases.{is_phrase}
+use Rattle.cv_steps.specs.Changes.{change_at, left_or}
+use Rattle.cv_steps.specs.Rewriting.{has_sort_of, is_rewritable_at, sort_at}
+use Rattle.cv_steps.specs.Rows.{Row, Fails, Leads, prune_row, prune_row_by, row_of, unless, unless_at, unless_derived}
+use Rattle.cv_derivations.specs.Ends.{ends_with}
+use Rattle.cv_derivations.specs.Targets.{equality, falsity}
+use Rattle.cv_scenes.specs.Derivations.{first_bad_line}
+use Rattle.cv_scenes.specs.Pruning.{Part, Pruned, pruned}
+use Rattle.cv_scenes.specs.Sights.{sight_at}
+use Rattle.cv_meaning_runs.specs.Replacement.{replaced}
+use Rattle.cv_scenes.specs.Scenes.{Scene, first_reading, is_chosen, is_new, is_output_at, is_queried, is_type, part_at}
+use Rattle.cv_steps.specs.Steps.{Step, Split, Let, New, Unnew, Rewrite, Prune, Zero}
+use Rattle.cv_scenes.specs.Terms.{is_bool_at, is_game, is_term_at}
+use Rattle.cv_scope.specs.Phrases.{is_phrase}
 use Rattle.cv_kernel.specs.declared.applying.Next.{Next}
 use Rattle.cv_kernel.specs.declared.error.RuleError.{RuleError}
 use Rattle.cv_kernel.specs.declared.error.RuleError.TheVariants as rule
-use Rattle.cv_kernel.specs.Rules.{HasNoPlace, IsAnswer, IsDrawFault, IsDrawn, IsNoGame, limit_fault, next_of}
+use Rattle.cv_kernel.specs.Rules.{HasNoPlace, IsAnswer, IsOutside, IsDrawFault, IsDrawn, IsNoGame, limit_fault, next_of}
 
 -- rows of which no condition fails
 
@@ -31,6 +39,15 @@ holds false condition place row e = absurd (cc)
 holds_at : (condition : ℕ) (o : Option ℕ) (row : Row) → failing (unless_at condition o row) ≡ None → unless_at condition o row ≡ row
 holds_at condition None row e = refl
 holds_at condition (Some place) row e = absurd (cc)
+
+derived : (s : Scene) (p : ℕ) (by targets : Tree) (condition end : ℕ) (rest : Row) → failing (unless_derived s p by targets condition end rest) ≡ None → unless_derived s p by targets condition end rest ≡ rest
+derived s p by targets condition end rest e =
+    let a = holds_at condition (first_bad_line (sight_at s p) by) (unless (ends_with by targets) end 0 rest) e in
+    a ∙ (holds (ends_with by targets) end 0 rest (ap failing (sym a) ∙ e)).0
+
+leads_pruned : (s : Scene) (p : ℕ) (by : Tree) (o : Option Pruned) → failing (prune_row_by s p by o) ≡ None → prune_row_by s p by o ≡ Leads (replaced s.game p (left_or (part_at s.game p) o)) Zero
+leads_pruned s p by None e = absurd (cc)
+leads_pruned s p by (Some b) e = derived s b.body by falsity 2 3 (Leads (change_at s.game p (λ old. b.left)) Zero) e
 
 leads : (s : Scene) (x : Step) → failing (row_of s x) ≡ None → row_of s x ≡ Leads (next_of s.game x) Zero
 leads s (Split p m) e =
@@ -46,6 +63,11 @@ leads s (Unnew y) e =
     let a = holds (is_chosen s y) 1 0 _ e in
     let b = holds (not (is_queried s y)) 2 0 _ a.1 in
     a.0 ∙ (b.0 ∙ holds_at 2 (first_reading y 0 s.game) _ b.1)
+leads s (Rewrite p m by) e =
+    let a = holds (is_rewritable_at s p) 1 p _ e in
+    let b = holds (has_sort_of (sort_at s p (part_at s.game p)) (sort_at s p m)) 2 0 _ a.1 in
+    a.0 ∙ (b.0 ∙ derived s p by (equality (part_at s.game p) m) 3 4 (Leads (change_at s.game p (λ old. m)) Zero) b.1)
+leads s (Prune p part by) e = leads_pruned s p by (pruned p (part_at s.game p) part) e
 
 -- the judgement of a row, where the step stands
 stood : (s : Scene) (row : Row) (b : Bool) → (if b then failing row else Some (failed 0 0)) ≡ None → (b ≡ true) × (failing row ≡ None)
@@ -138,14 +160,36 @@ answer_through limit live need j trees (Err x) e i h = subst (λ y. IsAnswer lim
 placeless : (p n : ℕ) → n ≤ p → nat_lt p n ≡ false
 placeless p n l = grind (arith, nat_tests)
 
-no_stand : (s : Scene) (x : Step) → HasNoPlace s.game x → stands s x ≡ false
+no_stand : (s : Scene) (x : Step) → IsOutside s.game x → stands s x ≡ false
 no_stand s (Split p m) h = ap (λ b. b && is_term_at s p m) (placeless p (size s.game) h)
 no_stand s (Let p y T m) h = ap (λ b. b && (is_type s T && is_term_at s p m)) (placeless p (size s.game) h)
 no_stand s (New p y T) h = ap (λ b. b && is_type s T) (placeless p (size s.game) h)
 no_stand s (Unnew y) h = absurd h
+no_stand s (Rewrite p m by) h = ap (λ b. b && is_term_at s p m) (placeless p (size s.game) h)
+no_stand s (Prune p part by) h = placeless p (size s.game) h
 
-pub no_place : (s : Scene) (x : Step) → HasNoPlace s.game x → judgement_of s x ≡ Refused 0 0
+pub no_place : (s : Scene) (x : Step) → IsOutside s.game x → judgement_of s x ≡ Refused 0 0
 no_place s x h = ap (λ b. if b then judgement_of_row s (row_of s x) else Refused 0 0) (no_stand s x h)
+
+-- a step whose conditions hold has its place, and the body that goes
+
+outside_fails : (s : Scene) (x : Step) → IsOutside s.game x → failure_of s x ≡ Some (failed 0 0)
+outside_fails s x h = ap (λ b. if b then failing (row_of s x) else Some (failed 0 0)) (no_stand s x h)
+
+outside_met : (s : Scene) (x : Step) → failure_of s x ≡ None → IsOutside s.game x → ⊥
+outside_met s x e h = let f = sym (outside_fails s x h) ∙ e in cc
+
+no_body : (s : Scene) (p : ℕ) (part : Part) (by : Tree) (b : Bool) → pruned p (part_at s.game p) part ≡ None → (if b then failing (prune_row s p part by) else Some (failed 0 0)) ≡ None → ⊥
+no_body s p part by true e f = let g = sym (ap (λ o. failing (prune_row_by s p by o)) e) ∙ f in cc
+no_body s p part by false e f = absurd (cc)
+
+pub placed : (s : Scene) (x : Step) → failure_of s x ≡ None → HasNoPlace s.game x → ⊥
+placed s (Split p m) e h = outside_met s (Split p m) e h
+placed s (Let p y T m) e h = outside_met s (Let p y T m) e h
+placed s (New p y T) e h = outside_met s (New p y T) e h
+placed s (Unnew y) e h = h
+placed s (Rewrite p m by) e h = outside_met s (Rewrite p m by) e h
+placed s (Prune p part by) e h = no_body s p part by (stands s (Prune p part by)) h e
 
 -- no tree is no game
 pub empty_game : (s : Scene) (t : Tree) → t ≡ Empty → is_game s.declarations t ≡ false

@@ -1,3 +1,6 @@
+mod Nodes
+mod Pruned
+mod Settled
 pub mod Answers
 pub mod Fits
 pub mod Pushes

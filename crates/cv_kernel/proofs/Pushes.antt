@@ -1,16 +1,18 @@
 -- Steps that a sequence takes.
-use Rattle.std.proofs.Common.{◌≡◌, ◌≢◌, ℕ, zero, suc, ◌+◌, ◌<◌, ◌≤◌, ◌^◌, ◌⊎◌, inl, inr, min, Bool, true, false, nat_lt, if◌then◌else◌, List, [], ◌∷◌, length, Option, Some, None, Result, Ok, Err, refl, sym, ap, ap₂, ◌∙◌, subst, arith}
+use Rattle.std.proofs.Common.{◌≡◌, ℕ, zero, suc, ◌+◌, ◌<◌, ◌≤◌, ◌^◌, ◌⊎◌, inl, inr, Bool, true, false, nat_lt, if◌then◌else◌, List, [], ◌∷◌, length, Option, Some, None, Result, Ok, Err, refl, sym, ap, ap₂, ◌∙◌, subst, arith}
 use Rattle.std.proofs.lemmas.Bool.Decides.{nat_tests}
 use Rattle.std.specs.Prelude.{All, IfSome, IsErrAnd, OnOk, option_map, slice_index_or}
 use Rattle.cv_pool.specs.declared.node.NodeId.{NodeId}
-use Rattle.cv_pool.specs.KindTree.{KindTree, NoTree}
+use Rattle.cv_pool.specs.KindTree.{KindTree}
+use Rattle.cv_pool.specs.Nodes.{ChildBelow}
 use Rattle.cv_pool.specs.PoolView.{PoolView, Grows}
+use Rattle.cv_derivations.specs.Lines.{count, lines_of}
 use Rattle.cv_pool.proofs.Growth.{ChildBelow-more, Grows-length}
 use Rattle.cv_syntax.specs.declared.decls.Decl.{Decl}
 use Rattle.cv_syntax.specs.declared.decls.Decl.TheVariants as decl
 use Rattle.cv_syntax.specs.declared.work.BuildError.TheVariants as build
 use Rattle.cv_syntax.specs.Declarations.{Named, Equation, Equiv, Query, declared, declarations, number}
-use Rattle.cv_syntax.specs.Tree.{Tree, Empty, depth, size, tree_at, tree_of}
+use Rattle.cv_syntax.specs.Tree.{Tree, depth, size, tree_at}
 use Rattle.cv_syntax.proofs.Buildings.{child-grown}
 use Rattle.cv_typing.specs.Lookups.{IsLive}
 use Rattle.cv_bound.specs.declared.cost.Cost.{Cost as SumCost}
@@ -22,65 +24,67 @@ use Rattle.cv_rule.specs.Stated.{step_of}
 use Rattle.cv_steps.specs.Costs.{cost_of}
 use Rattle.cv_steps.specs.Judgements.{Judgement, Refused, TooLarge, TooDeep, Accepted, judgement_of, judgement_of_row, stands}
 use Rattle.cv_steps.specs.Rows.{Row, Fails, Leads, row_of}
-use Rattle.cv_steps.specs.Scenes.{Scene}
-use Rattle.cv_steps.specs.Steps.{Step, Split, Let, New, Unnew, Cost, Zero}
-use Rattle.cv_steps.specs.Terms.{is_game}
+use Rattle.cv_scenes.specs.Scenes.{Scene}
+use Rattle.cv_steps.specs.Steps.{Step, Split, Let, New, Unnew, Rewrite, Prune, Cost, Zero}
+use Rattle.cv_scenes.specs.Terms.{is_game}
 use Rattle.cv_kernel.specs.declared.error.PushError.{PushError}
 use Rattle.cv_kernel.specs.declared.error.PushError.TheVariants as push
 use Rattle.cv_kernel.specs.declared.error.RuleError.{RuleError}
 use Rattle.cv_kernel.specs.declared.error.RuleError.TheVariants as rule
 use Rattle.cv_kernel.specs.declared.sequence.Sequence.{Sequence}
-use Rattle.cv_kernel.specs.Rules.{IsAnswer, IsDrawn, IsShortRule, need_of}
+use Rattle.cv_kernel.specs.Rules.{HasLiveNodes, IsAnswer, IsDrawn, IsOutside, IsShortDerivation, IsShortRule, IsShortTerm, need_of}
 use Rattle.cv_kernel.specs.Sequences.{IsAdvanced, IsPushAnswer, IsPushed, Same, game_in, needed, needed_by, push_fault}
-use Rattle.cv_rule.specs.Kept.{scene_of}
+use Rattle.cv_rule_scenes.specs.Kept.{scene_of}
 use Rattle.cv_syntax.specs.Classes.{DeclsView}
-use Rattle.cv_kernel.specs.Steps.{judgement_by, narrow, narrow_place, step_in}
-use Rattle.cv_draw.proofs.Extents.{below_or_not}
+use Rattle.cv_kernel.specs.Steps.{judgement_by, narrow, narrow_place, nodes_of, step_in}
+use Rattle.cv_draw_extents.proofs.Extents.{below_or_not}
 use Rattle.cv_kernel.proofs.Answers.{no_place}
-use Rattle.cv_kernel.proofs.Steps.{HasTerm, IsPart, has_term}
-
--- a tree that is there is that of a live node
-
-past : (trees : List KindTree) (n : ℕ) → length trees ≤ n → slice_index_or trees n NoTree ≡ NoTree
-past [] zero l = refl
-past [] (suc n) l = refl
-past (t ∷ trees) zero l = absurd (omega arith)
-past (t ∷ trees) (suc n) l = past trees n (omega arith)
-
-none_there : tree_of NoTree ≡ Empty
-unfolding tree_of
-none_there = refl
-
-pub live_where : (trees : List KindTree) (n : NodeId) → tree_at trees (Some n) ≢ Empty → n.0 < length trees
-live_where trees n e = elim (below_or_not n.0 (length trees)) as (λ _. n.0 < length trees) [
-  | inl l ↦ l
-  | inr l ↦ absurd (e (ap tree_of (past trees n.0 l) ∙ none_there))
-]
+use Rattle.cv_kernel.proofs.Nodes.{lines-nodes, size-nodes}
+use Rattle.cv_kernel.proofs.Steps.{HasTerm, has_term}
 
 -- the rule of a step has its term
 
-short_term : (trees : List KindTree) (t : Tree) (m : NodeId) (n : Tree) → IsPart t n → tree_at trees (Some m) ≡ n → size t < 2 ^ 31 → (m.0 < length trees) × (size (tree_at trees (Some m)) < 2 ^ 31)
-short_term trees t m n p e l = (live_where trees m (λ f. p.there (sym e ∙ f)), let s = p.small in let g = ap size e in omega arith)
+short_term : (trees : List KindTree) (t : Tree) (m : NodeId) (n : Tree) → nodes_of n ≤ nodes_of t → tree_at trees (Some m) ≡ n → nodes_of t < 2 ^ 31 → m.0 < length trees → IsShortTerm trees m
+short_term trees t m n p e l v = (v, let g = ap size e in omega (arith, size-nodes n))
 
-short_by : (trees : List KindTree) (t : Tree) (r : Rule) (x : Step) → HasTerm t x → step_of trees r ≡ narrow x → size t < 2 ^ 31 → IsShortRule trees r
-short_by trees t (code.Split p m) (Split q n) h e l = short_term trees t m n h (cc) l
-short_by trees t (code.Let p y T m) (Let q z U n) h e l = short_term trees t m n h (cc) l
-short_by trees t (code.New p y T) x h e l = tt
-short_by trees t (code.Unnew y) x h e l = tt
-short_by trees t (code.Split p m) (Let q z U n) h e l = absurd (cc)
-short_by trees t (code.Split p m) (New q z U) h e l = absurd (cc)
-short_by trees t (code.Split p m) (Unnew z) h e l = absurd (cc)
-short_by trees t (code.Let p y T m) (Split q n) h e l = absurd (cc)
-short_by trees t (code.Let p y T m) (New q z U) h e l = absurd (cc)
-short_by trees t (code.Let p y T m) (Unnew z) h e l = absurd (cc)
+short_derivation : (trees : List KindTree) (t : Tree) (by : Option NodeId) (n : Tree) → nodes_of n ≤ nodes_of t → tree_at trees by ≡ n → nodes_of t < 2 ^ 31 → ChildBelow (length trees) by → IsShortDerivation trees by
+short_derivation trees t by n p e l v = (v, let g = ap (λ u. count (lines_of u)) e in omega (arith, lines-nodes n))
 
-short_some : (trees : List KindTree) (t : Tree) (r : Option Rule) (o : Option Step) → IfSome o (HasTerm t) → option_map (step_of trees) r ≡ option_map narrow o → size t < 2 ^ 31 → IfSome r (IsShortRule trees)
-short_some trees t None o h e l = tt
-short_some trees t (Some r) None h e l = absurd (cc)
-short_some trees t (Some r) (Some x) h e l = short_by trees t r x h (cc) l
+short_by : (trees : List KindTree) (t : Tree) (r : Rule) (x : Step) → HasTerm t x → step_of trees r ≡ narrow x → nodes_of t < 2 ^ 31 → HasLiveNodes (length trees) r → IsShortRule trees r
+short_by trees t (code.Split p m) (Split q n) h e l v = short_term trees t m n h (cc) l v
+short_by trees t (code.Let p y T m) (Let q z U n) h e l v = short_term trees t m n h (cc) l v
+short_by trees t (code.New p y T) x h e l v = tt
+short_by trees t (code.Unnew y) x h e l v = tt
+short_by trees t (code.Rewrite p m by) (Rewrite q n d) h e l v = (short_term trees t m n h.0 (cc) l v.0, short_derivation trees t by d h.1 (cc) l v.1)
+short_by trees t (code.Prune p body by) (Prune q part d) h e l v = short_derivation trees t by d h (cc) l v
+short_by trees t (code.Split p m) (Let q z U n) h e l v = absurd (cc)
+short_by trees t (code.Split p m) (New q z U) h e l v = absurd (cc)
+short_by trees t (code.Split p m) (Unnew z) h e l v = absurd (cc)
+short_by trees t (code.Split p m) (Rewrite q n d) h e l v = absurd (cc)
+short_by trees t (code.Split p m) (Prune q part d) h e l v = absurd (cc)
+short_by trees t (code.Let p y T m) (Split q n) h e l v = absurd (cc)
+short_by trees t (code.Let p y T m) (New q z U) h e l v = absurd (cc)
+short_by trees t (code.Let p y T m) (Unnew z) h e l v = absurd (cc)
+short_by trees t (code.Let p y T m) (Rewrite q n d) h e l v = absurd (cc)
+short_by trees t (code.Let p y T m) (Prune q part d) h e l v = absurd (cc)
+short_by trees t (code.Rewrite p m by) (Split q n) h e l v = absurd (cc)
+short_by trees t (code.Rewrite p m by) (Let q z U n) h e l v = absurd (cc)
+short_by trees t (code.Rewrite p m by) (New q z U) h e l v = absurd (cc)
+short_by trees t (code.Rewrite p m by) (Unnew z) h e l v = absurd (cc)
+short_by trees t (code.Rewrite p m by) (Prune q part d) h e l v = absurd (cc)
+short_by trees t (code.Prune p body by) (Split q n) h e l v = absurd (cc)
+short_by trees t (code.Prune p body by) (Let q z U n) h e l v = absurd (cc)
+short_by trees t (code.Prune p body by) (New q z U) h e l v = absurd (cc)
+short_by trees t (code.Prune p body by) (Unnew z) h e l v = absurd (cc)
+short_by trees t (code.Prune p body by) (Rewrite q n d) h e l v = absurd (cc)
 
-pub short_rule : (trees : List KindTree) (t : Tree) (r : Option Rule) → option_map (step_of trees) r ≡ option_map narrow (step_in t) → size t < 2 ^ 31 → IfSome r (IsShortRule trees)
-short_rule trees t r e l = short_some trees t r (step_in t) (has_term t) e l
+short_some : (trees : List KindTree) (t : Tree) (r : Option Rule) (o : Option Step) → IfSome o (HasTerm t) → option_map (step_of trees) r ≡ option_map narrow o → nodes_of t < 2 ^ 31 → IfSome r (HasLiveNodes (length trees)) → IfSome r (IsShortRule trees)
+short_some trees t None o h e l v = tt
+short_some trees t (Some r) None h e l v = absurd (cc)
+short_some trees t (Some r) (Some x) h e l v = short_by trees t r x h (cc) l v
+
+pub short_rule : (trees : List KindTree) (t : Tree) (r : Option Rule) → option_map (step_of trees) r ≡ option_map narrow (step_in t) → nodes_of t < 2 ^ 31 → IfSome r (HasLiveNodes (length trees)) → IfSome r (IsShortRule trees)
+short_rule trees t r e l v = short_some trees t r (step_in t) (has_term t) e l v
 
 -- the step of a rule that is there, and of none
 pub step_there : (trees : List KindTree) (r : Rule) (o : Option Step) → Some (step_of trees r) ≡ option_map narrow o → (x : Step) × (o ≡ Some x) × (step_of trees r ≡ narrow x)
@@ -94,29 +98,47 @@ no_step (Some x) e = absurd (cc)
 -- a place of more than 32 bits
 
 module _ (s : Scene) (small : size s.game ≤ 50000) where
-  narrow_same : (x : Step) → (narrow x ≡ x) ⊎ ((judgement_of s x ≡ Refused 0 0) × (judgement_of s (narrow x) ≡ Refused 0 0))
-  narrow_same (Split p m) = elim (below_or_not p 4294967296) as (λ _. (narrow (Split p m) ≡ Split p m) ⊎ ((judgement_of s (Split p m) ≡ Refused 0 0) × (judgement_of s (narrow (Split p m)) ≡ Refused 0 0))) [
-    | inl l ↦ inl (ap (λ q. Split q m) (let e : min p 4294967295 ≡ p = omega arith in e))
-    | inr l ↦ inr (no_place s (Split p m) (omega arith), no_place s (Split (narrow_place p) m) (omega arith))
+  -- the step as it is, and with that number, speaks of no place of the game
+  abbrev IsNarrow : Step → Type 0
+  IsNarrow x = (narrow x ≡ x) ⊎ ((judgement_of s x ≡ Refused 0 0) × (judgement_of s (narrow x) ≡ Refused 0 0))
+
+  placeless : (x : Step) → IsOutside s.game x → IsOutside s.game (narrow x) → IsNarrow x
+  placeless x h k = inr (no_place s x h, no_place s (narrow x) k)
+
+  same_place : (p : ℕ) → p < 4294967296 → narrow_place p ≡ p
+  same_place p l = omega arith
+
+  narrow_same : (x : Step) → IsNarrow x
+  narrow_same (Split p m) = elim (below_or_not p 4294967296) as (λ _. IsNarrow (Split p m)) [
+    | inl l ↦ inl (ap (λ q. Split q m) (same_place p l))
+    | inr l ↦ placeless (Split p m) (omega arith) (omega arith)
   ]
-  narrow_same (Let p y T m) = elim (below_or_not p 4294967296) as (λ _. (narrow (Let p y T m) ≡ Let p y T m) ⊎ ((judgement_of s (Let p y T m) ≡ Refused 0 0) × (judgement_of s (narrow (Let p y T m)) ≡ Refused 0 0))) [
-    | inl l ↦ inl (ap (λ q. Let q y T m) (let e : min p 4294967295 ≡ p = omega arith in e))
-    | inr l ↦ inr (no_place s (Let p y T m) (omega arith), no_place s (Let (narrow_place p) y T m) (omega arith))
+  narrow_same (Let p y T m) = elim (below_or_not p 4294967296) as (λ _. IsNarrow (Let p y T m)) [
+    | inl l ↦ inl (ap (λ q. Let q y T m) (same_place p l))
+    | inr l ↦ placeless (Let p y T m) (omega arith) (omega arith)
   ]
-  narrow_same (New p y T) = elim (below_or_not p 4294967296) as (λ _. (narrow (New p y T) ≡ New p y T) ⊎ ((judgement_of s (New p y T) ≡ Refused 0 0) × (judgement_of s (narrow (New p y T)) ≡ Refused 0 0))) [
-    | inl l ↦ inl (ap (λ q. New q y T) (let e : min p 4294967295 ≡ p = omega arith in e))
-    | inr l ↦ inr (no_place s (New p y T) (omega arith), no_place s (New (narrow_place p) y T) (omega arith))
+  narrow_same (New p y T) = elim (below_or_not p 4294967296) as (λ _. IsNarrow (New p y T)) [
+    | inl l ↦ inl (ap (λ q. New q y T) (same_place p l))
+    | inr l ↦ placeless (New p y T) (omega arith) (omega arith)
   ]
   narrow_same (Unnew y) = inl refl
+  narrow_same (Rewrite p m by) = elim (below_or_not p 4294967296) as (λ _. IsNarrow (Rewrite p m by)) [
+    | inl l ↦ inl (ap (λ q. Rewrite q m by) (same_place p l))
+    | inr l ↦ placeless (Rewrite p m by) (omega arith) (omega arith)
+  ]
+  narrow_same (Prune p part by) = elim (below_or_not p 4294967296) as (λ _. IsNarrow (Prune p part by)) [
+    | inl l ↦ inl (ap (λ q. Prune q part by) (same_place p l))
+    | inr l ↦ placeless (Prune p part by) (omega arith) (omega arith)
+  ]
 
   module _ (limit live : ℕ) (trees : List KindTree) (old new : Sequence) where
     both_refused : (j k : Judgement) (m n : ℕ) (r : Result (Unit {0}) PushError) → j ≡ Refused 0 0 → k ≡ Refused 0 0 → IsPushAnswer limit live m j trees old new r → IsPushAnswer limit live n k trees old new r
     both_refused j k m n (Ok u) e f h = absurd (let g = sym e ∙ h.accepted in cc)
     both_refused j k m n (Err (push.Refused y)) e f h = f ∙ (sym e ∙ h)
     both_refused j k m n (Err push.Steps) e f h = absurd h
-    both_refused j k m n (Err (push.Build (build.Nodes c))) e f h = absurd (let g = sym e ∙ h in cc)
-    both_refused j k m n (Err (push.Build (build.Depth c))) e f h = absurd (let g = sym e ∙ h in cc)
-    both_refused j k m n (Err (push.Build (build.Full c))) e f h = absurd (let g : 0 ≡ 9 = subst IsDrawn e h.drawn in cc)
+    both_refused j k m n (Err (push.Build (build.Nodes d))) e f h = absurd (let g = sym e ∙ h in cc)
+    both_refused j k m n (Err (push.Build (build.Depth d))) e f h = absurd (let g = sym e ∙ h in cc)
+    both_refused j k m n (Err (push.Build (build.Full d))) e f h = absurd (let g : 0 ≡ 9 = subst IsDrawn e h.drawn in cc)
     both_refused j k m n (Err (push.Build build.OutOfMemory)) e f h = tt
 
     -- the answer is that of the step, whatever its place

@@ -4,20 +4,25 @@ use Rattle.cv_pool.specs.declared.node.NodeId.{NodeId}
 use Rattle.cv_pool.specs.declared.pool.PoolError.{PoolError}
 use Rattle.cv_pool.specs.declared.pool.PoolError.TheVariants as pool
 use Rattle.cv_pool.specs.KindTree.{KindTree}
+use Rattle.cv_pool.specs.Nodes.{ChildBelow}
 use Rattle.cv_syntax.specs.declared.work.BuildError.{BuildError}
 use Rattle.cv_syntax.specs.declared.work.BuildError.TheVariants as build
 use Rattle.cv_syntax.specs.Tree.{Tree, size, tree_at}
 use Rattle.cv_path.specs.Places.{nodes_above}
 use Rattle.cv_path.specs.declared.error.PathError.{PathError}
 use Rattle.cv_path.specs.declared.error.PathError.TheVariants as path
-use Rattle.cv_steps.specs.Steps.{Step, Split, Let, New, Unnew, Cost}
-use Rattle.cv_steps.specs.Changes.{change_at, split_process, after_let, after_new, without, only}
+use Rattle.cv_derivations.specs.Lines.{count, lines_of}
+use Rattle.cv_scenes.specs.Pruning.{pruned}
+use Rattle.cv_scenes.specs.Scenes.{part_at}
+use Rattle.cv_steps.specs.Steps.{Step, Split, Let, New, Unnew, Rewrite, Prune, Cost}
+use Rattle.cv_steps.specs.Changes.{change_at, split_process, after_let, after_new, without, without_body, only}
 use Rattle.cv_steps.specs.Costs.{cost_of}
 use Rattle.cv_steps.specs.Judgements.{Judgement, Refused, TooLarge, TooDeep, Accepted, most_depth, most_nodes}
 use Rattle.cv_rule.specs.declared.rules.Rule.{Rule}
 use Rattle.cv_rule.specs.declared.rules.Rule.TheVariants as code
 use Rattle.cv_rule.specs.Stated.{failed}
 use Rattle.cv_draw.specs.Dropping.{need_without}
+use Rattle.cv_draw_pruning.specs.Bodies as pruning
 use Rattle.cv_kernel.specs.declared.applying.Next.{Next}
 use Rattle.cv_kernel.specs.declared.error.RuleError.{RuleError}
 use Rattle.cv_kernel.specs.declared.error.RuleError.TheVariants as rule
@@ -28,6 +33,8 @@ next_of game (Split p m) = change_at game p (split_process m)
 next_of game (Let p x T m) = change_at game p (after_let x T m)
 next_of game (New p x T) = change_at game p (after_new x T)
 next_of game (Unnew x) = without (only x) game
+next_of game (Rewrite p m by) = change_at game p (λ old. m)
+next_of game (Prune p part by) = change_at game p (without_body p part)
 
 -- for how many nodes the pool is asked then
 abbrev pub need_of : Tree → Step → ℕ
@@ -35,6 +42,8 @@ need_of game (Split p m) = nodes_above game p + 3
 need_of game (Let p x T m) = nodes_above game p + 1
 need_of game (New p x T) = nodes_above game p + 1
 need_of game (Unnew x) = need_without x game
+need_of game (Rewrite p m by) = nodes_above game p
+need_of game (Prune p part by) = pruning.need_of game p part
 
 -- The next game is drawn: its limits hold, and it is one or it isn't.
 abbrev pub IsDrawn : Judgement → Type 0
@@ -66,22 +75,42 @@ IsAnswer limit live need j trees (Err (rule.Build build.OutOfMemory)) = Unit {0}
 
 -- what the stages of a step answer
 
--- the term of a step is live, and not so large that a game with it couldn't be measured
+-- the nodes of a step are live
+abbrev pub HasLiveNodes : ℕ → Rule → Type 0
+HasLiveNodes n (code.Split p m) = m.0 < n
+HasLiveNodes n (code.Let p x T m) = m.0 < n
+HasLiveNodes n (code.Rewrite p m by) = (m.0 < n) × ChildBelow n by
+HasLiveNodes n (code.Prune p body by) = ChildBelow n by
+HasLiveNodes n rule = Unit {0}
+
+-- and its term isn't so large that a game with it couldn't be measured, nor has its derivation more lines than can be counted
 
 abbrev pub IsShortTerm : List KindTree → NodeId → Type 0
 IsShortTerm trees m = (m.0 < length trees) × (size (tree_at trees (Some m)) < 2 ^ 31)
 
+abbrev pub IsShortDerivation : List KindTree → Option NodeId → Type 0
+IsShortDerivation trees by = ChildBelow (length trees) by × (1 + count (lines_of (tree_at trees by)) < 2 ^ 32)
+
 abbrev pub IsShortRule : List KindTree → Rule → Type 0
 IsShortRule trees (code.Split p m) = IsShortTerm trees m
 IsShortRule trees (code.Let p x T m) = IsShortTerm trees m
+IsShortRule trees (code.Rewrite p m by) = IsShortTerm trees m × IsShortDerivation trees by
+IsShortRule trees (code.Prune p body by) = IsShortDerivation trees by
 IsShortRule trees rule = Unit {0}
 
 -- the step's place is none of the game
+abbrev pub IsOutside : Tree → Step → Type 0
+IsOutside game (Split p m) = size game ≤ p
+IsOutside game (Let p x T m) = size game ≤ p
+IsOutside game (New p x T) = size game ≤ p
+IsOutside game (Unnew x) = ⊥
+IsOutside game (Rewrite p m by) = size game ≤ p
+IsOutside game (Prune p part by) = size game ≤ p
+
+-- what the step changes is nowhere in the game
 abbrev pub HasNoPlace : Tree → Step → Type 0
-HasNoPlace game (Split p m) = size game ≤ p
-HasNoPlace game (Let p x T m) = size game ≤ p
-HasNoPlace game (New p x T) = size game ≤ p
-HasNoPlace game (Unnew x) = ⊥
+HasNoPlace game (Prune p part by) = pruned p (part_at game p) part ≡ None
+HasNoPlace game step = IsOutside game step
 
 -- a game of this size and depth passes this limit
 abbrev pub limit_fault : (nodes depth : ℕ) → Option BuildError

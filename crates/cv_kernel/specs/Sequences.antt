@@ -5,11 +5,11 @@ use Rattle.cv_pool.specs.PoolView.{PoolView}
 use Rattle.cv_syntax.specs.Classes.{DeclsView}
 use Rattle.cv_syntax.specs.declared.work.BuildError.TheVariants as build
 use Rattle.cv_syntax.specs.Tree.{Tree, size, tree_at}
-use Rattle.cv_directory.specs.Sites.{sites_of}
-use Rattle.cv_typing.specs.Signature.{OfGame}
-use Rattle.cv_typing.specs.Tables.{arrays_of}
+use Rattle.cv_syntax.specs.Declarations.{declarations}
+use Rattle.cv_scope.specs.Phrases.{IsWellFormed}
 use Rattle.cv_bound.specs.Sums.{AllFit, added}
-use Rattle.cv_rule.specs.Kept.{scene_of}
+use Rattle.cv_rule_scenes.specs.Kept.{scene_of}
+use Rattle.cv_rule.specs.Prepared.{IsPrepared}
 use Rattle.cv_steps.specs.Costs.{cost_of}
 use Rattle.cv_steps.specs.Judgements.{Judgement, Refused, TooLarge, TooDeep, Accepted, judgement_of, most_nodes}
 use Rattle.cv_steps.specs.Steps.{Step, Cost}
@@ -28,11 +28,12 @@ push_fault (rule.Build e) = push.Build e
 abbrev pub game_in : List KindTree → Sequence → Tree
 game_in trees s = tree_at trees (Some s.game.root)
 
--- The last game is a live one within the limits, and what there is to read in it was looked up there.
-pub record Stands (trees : List KindTree) (s : Sequence) : Type 0 where
+-- The last game is a live one within the limits and well-formed, and what there is to read in it was looked up there.
+pub record Stands (trees : List KindTree) (decls : DeclsView) (s : Sequence) : Type 0 where
   pub live : s.game.root.0 < length trees
   pub small : size (game_in trees s) ≤ most_nodes
-  pub arrays : IfSome s.arrays (λ a. arrays_of a ≡ OfGame (sites_of (game_in trees s)))
+  pub formed : IsWellFormed (declarations trees decls.list) (game_in trees s)
+  pub arrays : IfSome s.arrays (IsPrepared trees decls s.game.root)
   pub fits : AllFit s.sum
   pub few : s.steps ≤ 2000
 

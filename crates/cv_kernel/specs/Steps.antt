@@ -1,11 +1,22 @@
 -- What is said of the tree of a step in a game.
 use Rattle.std.specs.Prelude.{ℕ, min, Option, Some, None, option_and_then}
+use Rattle.cv_syntax.specs.Planting.{overs}
+use Rattle.cv_syntax.specs.Postorder.{postorder}
 use Rattle.cv_syntax.specs.Tree.{Tree}
+use Rattle.cv_script.specs.declared.views.Part.{Part as Written}
+use Rattle.cv_script.specs.declared.views.Part.TheVariants as written
 use Rattle.cv_script.specs.Views.{StepItems, items_of_step}
 use Rattle.cv_script.specs.Views as items
-use Rattle.cv_steps.specs.Scenes.{Scene}
-use Rattle.cv_steps.specs.Steps.{Step, Split, Let, New, Unnew}
+use Rattle.cv_scenes.specs.Scenes.{Scene}
+use Rattle.cv_scenes.specs.Pruning.{Part, Then, Else, Branch}
+use Rattle.cv_steps.specs.Steps.{Step, Split, Let, New, Unnew, Rewrite, Prune}
 use Rattle.cv_steps.specs.Judgements.{Judgement, Refused, judgement_of}
+
+-- the body that a text names
+abbrev pub part_of : Written → Part
+part_of written.Then = Then
+part_of written.Else = Else
+part_of (written.Branch k) = Branch k
 
 -- the step of these items; the others have no rule yet
 abbrev pub step_of_items : StepItems → Option Step
@@ -13,6 +24,8 @@ step_of_items (items.Split p m) = Some (Split p m)
 step_of_items (items.Let p x T m) = Some (Let p x T m)
 step_of_items (items.New p x T) = Some (New p x T)
 step_of_items (items.Unnew x) = Some (Unnew x)
+step_of_items (items.Rewrite p m by) = Some (Rewrite p m by)
+step_of_items (items.Prune p part by) = Some (Prune p (part_of part) by)
 step_of_items other = None
 
 -- the step that a tree is
@@ -37,3 +50,9 @@ narrow (Split p m) = Split (narrow_place p) m
 narrow (Let p x T m) = Let (narrow_place p) x T m
 narrow (New p x T) = New (narrow_place p) x T
 narrow (Unnew x) = Unnew x
+narrow (Rewrite p m by) = Rewrite (narrow_place p) m by
+narrow (Prune p part by) = Prune (narrow_place p) part by
+
+-- how many nodes a tree has, lists among them
+abbrev pub nodes_of : Tree → ℕ
+nodes_of t = overs (postorder t)

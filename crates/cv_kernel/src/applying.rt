@@ -3,13 +3,12 @@ ghost use Rattle.cv_pool.specs.PoolView.{Grows};
 ghost use Rattle.cv_syntax.specs.Declarations.{declarations};
 ghost use Rattle.cv_syntax.specs.Tree as tree;
 ghost use Rattle.cv_syntax.specs.Tree.{tree_at};
-ghost use Rattle.cv_directory.specs.Sites.{sites_of};
 ghost use Rattle.cv_typing.specs.Lookups.{IsLive};
-ghost use Rattle.cv_typing.specs.Signature.{OfGame};
-ghost use Rattle.cv_typing.specs.Tables.{arrays_of};
+ghost use Rattle.cv_scope.specs.Phrases.{IsWellFormed};
 ghost use Rattle.cv_steps.specs.Judgements.{judgement_of};
-ghost use Rattle.cv_steps.specs.Terms as terms;
-ghost use Rattle.cv_rule.specs.Kept.{scene_of};
+ghost use Rattle.cv_scenes.specs.Terms as terms;
+ghost use Rattle.cv_rule_scenes.specs.Kept.{scene_of};
+ghost use Rattle.cv_rule.specs.Prepared.{IsPrepared};
 ghost use Rattle.cv_rule.specs.Stated.{failed, failure_of, step_of};
 ghost use Rattle.cv_kernel.specs.Rules.{IsAnswer, IsNoGame, IsShortRule, limit_fault, need_of, next_of};
 ghost use Rattle.cv_bound.specs.declared.cost.Cost.TheVariants.{Zero};
@@ -18,7 +17,8 @@ use crate::drawing::{draw_next, extent_of};
 use crate::error::RuleError;
 use cv_bound::Cost;
 use cv_draw::Extent;
-use cv_rule::{Failure, Rule, conditions, is_game};
+use cv_rule::{Failure, Rule, conditions};
+use cv_rule_scenes::is_game;
 use cv_syntax::{BuildError, Game, Mark, NodeId, Pool, Work};
 use cv_typing::Arrays;
 use std::alloc::Global;
@@ -75,8 +75,8 @@ fn game_at(alloc: Global, work: &Work, root: NodeId) -> Result<Next, RuleError>
     ensures game { OnOk result (terms.is_game
         (declarations work.now.pool.trees work.now.decls.list)
         (tree_at work.now.pool.trees (Some root)) ≡ true) }
-    ensures arrays { IfOk result (λ next. arrays_of next.arrays
-        ≡ OfGame (sites_of (tree_at work.now.pool.trees (Some root)))) }
+    ensures prepared { IfOk result (λ next. IsPrepared work.now.pool.trees work.now.decls root
+        next.arrays) }
     ensures none { IfErr result (IsNoGame (terms.is_game
         (declarations work.now.pool.trees work.now.decls.list)
         (tree_at work.now.pool.trees (Some root)))) }
@@ -96,6 +96,8 @@ fn game_at(alloc: Global, work: &Work, root: NodeId) -> Result<Next, RuleError>
 fn make(alloc: Global, work: &mut Work, game: NodeId, rule: Rule) -> Result<Next, RuleError>
     requires live { game.0 < length work.old.pool.trees }
     requires small { tree.size (tree_at work.old.pool.trees (Some game)) ≤ 50000 }
+    requires formed { IsWellFormed (declarations work.old.pool.trees work.old.decls.list)
+        (tree_at work.old.pool.trees (Some game)) }
     requires declared { All (IsLive (length work.old.pool.trees)) work.old.decls.list }
     requires rule { IsShortRule work.old.pool.trees rule }
     requires few { length work.old.pool.trees + 4 < 2 ^ 32 }
@@ -106,9 +108,8 @@ fn make(alloc: Global, work: &mut Work, game: NodeId, rule: Rule) -> Result<Next
         (need_of (tree_at work.old.pool.trees (Some game)) (step_of work.old.pool.trees rule))
         (judgement_of (scene_of work.old.pool work.old.decls game)
         (step_of work.old.pool.trees rule)) work.new.pool.trees result }
-    ensures live { IfOk result (λ next. next.game.root.0 < length work.new.pool.trees) }
-    ensures arrays { IfOk result (λ next. arrays_of next.arrays ≡ OfGame
-        (sites_of (tree_at work.new.pool.trees (Some next.game.root)))) }
+    ensures prepared { IfOk result (λ next. IsPrepared work.new.pool.trees work.new.decls
+        next.game.root next.arrays) }
     ensures grows { Grows work.old.pool work.new.pool }
     ensures few { OnOk result (length work.new.pool.trees ≤ length work.old.pool.trees + need_of
         (tree_at work.old.pool.trees (Some game)) (step_of work.old.pool.trees rule)) }
@@ -133,11 +134,9 @@ pub fn attempt(
     arrays: &Arrays,
     rule: Rule,
 ) -> Result<Next, RuleError>
-    requires live { game.0 < length work.old.pool.trees }
+    requires prepared { IsPrepared work.old.pool.trees work.old.decls game arrays.now }
     requires small { tree.size (tree_at work.old.pool.trees (Some game)) ≤ 50000 }
     requires declared { All (IsLive (length work.old.pool.trees)) work.old.decls.list }
-    requires arrays { arrays_of arrays.now
-        ≡ OfGame (sites_of (tree_at work.old.pool.trees (Some game))) }
     requires rule { IsShortRule work.old.pool.trees rule }
     requires few { length work.old.pool.trees + 4 < 2 ^ 32 }
     requires limit { work.old.pool.limit < 4294967295 }
@@ -145,9 +144,8 @@ pub fn attempt(
         (need_of (tree_at work.old.pool.trees (Some game)) (step_of work.old.pool.trees rule))
         (judgement_of (scene_of work.old.pool work.old.decls game)
         (step_of work.old.pool.trees rule)) work.new.pool.trees result }
-    ensures live { IfOk result (λ next. next.game.root.0 < length work.new.pool.trees) }
-    ensures arrays { IfOk result (λ next. arrays_of next.arrays ≡ OfGame
-        (sites_of (tree_at work.new.pool.trees (Some next.game.root)))) }
+    ensures prepared { IfOk result (λ next. IsPrepared work.new.pool.trees work.new.decls
+        next.game.root next.arrays) }
     ensures grows { Grows work.old.pool work.new.pool }
     ensures few { OnOk result (length work.new.pool.trees ≤ length work.old.pool.trees + need_of
         (tree_at work.old.pool.trees (Some game)) (step_of work.old.pool.trees rule)) }
@@ -187,11 +185,9 @@ pub fn apply(
     arrays: &Arrays,
     rule: Rule,
 ) -> Result<Next, RuleError>
-    requires live { game.0 < length work.old.pool.trees }
+    requires prepared { IsPrepared work.old.pool.trees work.old.decls game arrays.now }
     requires small { tree.size (tree_at work.old.pool.trees (Some game)) ≤ 50000 }
     requires declared { All (IsLive (length work.old.pool.trees)) work.old.decls.list }
-    requires arrays { arrays_of arrays.now
-        ≡ OfGame (sites_of (tree_at work.old.pool.trees (Some game))) }
     requires rule { IsShortRule work.old.pool.trees rule }
     requires few { length work.old.pool.trees + 4 < 2 ^ 32 }
     requires limit { work.old.pool.limit < 4294967295 }
@@ -199,9 +195,8 @@ pub fn apply(
         (need_of (tree_at work.old.pool.trees (Some game)) (step_of work.old.pool.trees rule))
         (judgement_of (scene_of work.old.pool work.old.decls game)
         (step_of work.old.pool.trees rule)) work.new.pool.trees result }
-    ensures live { IfOk result (λ next. next.game.root.0 < length work.new.pool.trees) }
-    ensures arrays { IfOk result (λ next. arrays_of next.arrays ≡ OfGame
-        (sites_of (tree_at work.new.pool.trees (Some next.game.root)))) }
+    ensures prepared { IfOk result (λ next. IsPrepared work.new.pool.trees work.new.decls
+        next.game.root next.arrays) }
     ensures grows { Grows work.old.pool work.new.pool }
     ensures few { OnOk result (length work.new.pool.trees ≤ length work.old.pool.trees + need_of
         (tree_at work.old.pool.trees (Some game)) (step_of work.old.pool.trees rule)) }

@@ -1,18 +1,23 @@
-ghost use Rattle.std.specs.Prelude.{◌≡◌, ◌+◌, ◌<◌, ◌≤◌, ◌^◌, IfErr, IfOk, IfSome, IsNone, OnErr, OnOk, Some, length};
+ghost use Rattle.std.specs.Prelude.{◌≡◌, ◌+◌, ◌<◌, ◌≤◌, ◌^◌, IfErr, IfOk, IfSome, IsNone, None, OnErr, OnOk, Some, length};
 ghost use Rattle.cv_pool.specs.Nodes.{ChildBelow};
 ghost use Rattle.cv_pool.specs.PoolView.{Grows};
 ghost use Rattle.cv_syntax.specs.Tree as tree;
 ghost use Rattle.cv_syntax.specs.Tree.{tree_at};
 ghost use Rattle.cv_path.specs.declared.error.PathError.{PathError};
-ghost use Rattle.cv_steps.specs.Changes.{change_at, only, without};
+ghost use Rattle.cv_scenes.specs.Pruning.{pruned};
+ghost use Rattle.cv_scenes.specs.Scenes.{part_at};
+ghost use Rattle.cv_steps.specs.Changes.{change_at, only, without, without_body};
 ghost use Rattle.cv_rule.specs.Stated.{step_of};
 ghost use Rattle.cv_draw.specs.Changes as changes;
 ghost use Rattle.cv_draw.specs.Changes.{TermIsLive};
 ghost use Rattle.cv_draw.specs.Dropping.{need_without};
+ghost use Rattle.cv_draw_pruning.specs.Bodies as pruning;
+ghost use Rattle.cv_draw_pruning.specs.Bodies.{part_of};
 ghost use Rattle.cv_kernel.specs.Rules.{HasNoPlace, IsDrawFault, IsShortRule, need_of, next_of, of_path, of_pool};
 
 use crate::error::RuleError;
 use cv_draw::{Change, Extent, draw, drop_variable, measure, measure_without};
+use cv_draw_pruning::{Body, draw_without_body, measure_without_body};
 use cv_path::PathError;
 use cv_pool::PoolError;
 use cv_rule::{Failure, Rule};
@@ -56,6 +61,10 @@ pub fn extent_of(pool: &Pool, game: NodeId, rule: Rule) -> Option<Extent>
             of_type,
         } => measure(pool, game, place, Change::AfterNew { name, of_type }),
         Rule::Unnew { name } => Some(measure_without(pool, game, name)),
+        Rule::Rewrite { place, term, .. } => {
+            measure(pool, game, place, Change::Replace { by: term })
+        }
+        Rule::Prune { place, body, .. } => measure_without_body(pool, game, place, body),
     }
 }
 
@@ -138,6 +147,35 @@ fn draw_without(
     }
 }
 
+/// Makes the game without a body of the construct at a place.
+fn draw_pruned(
+    alloc: Global,
+    pool: &mut Pool,
+    game: NodeId,
+    place: u32,
+    body: Body,
+) -> Result<Option<NodeId>, RuleError>
+    requires live { game.0 < length pool.old.trees }
+    requires fits { tree.size (tree_at pool.old.trees (Some game)) < 2 ^ 32 }
+    ensures tree { IfOk result (λ n. tree_at pool.new.trees n ≡ change_at
+        (tree_at pool.old.trees (Some game)) place (without_body place (part_of body))) }
+    ensures live { IfOk result (λ n. ChildBelow (length pool.new.trees) n) }
+    ensures grows { Grows pool.old pool.new }
+    ensures few { OnOk result (length pool.new.trees ≤ length pool.old.trees
+        + pruning.need_of (tree_at pool.old.trees (Some game)) place (part_of body)) }
+    ensures room { OnOk result (length pool.old.trees
+        + pruning.need_of (tree_at pool.old.trees (Some game)) place (part_of body)
+        ≤ pool.old.limit) }
+    ensures fault { IfErr result (IsDrawFault pool.old.limit (length pool.old.trees)
+        (pruned place (part_at (tree_at pool.old.trees (Some game)) place) (part_of body) ≡ None)
+        (pruning.need_of (tree_at pool.old.trees (Some game)) place (part_of body))) }
+{
+    match draw_without_body(alloc, pool, game, place, body) {
+        Ok(next) => Ok(next),
+        Err(fault) => Err(no_drawing(fault)),
+    }
+}
+
 /// Makes the next game of a step.
 pub fn draw_next(
     alloc: Global,
@@ -188,5 +226,9 @@ pub fn draw_next(
             of_type,
         } => draw_at(alloc, pool, game, place, Change::AfterNew { name, of_type }),
         Rule::Unnew { name } => draw_without(alloc, pool, game, name),
+        Rule::Rewrite { place, term, .. } => {
+            draw_at(alloc, pool, game, place, Change::Replace { by: term })
+        }
+        Rule::Prune { place, body, .. } => draw_pruned(alloc, pool, game, place, body),
     }
 }

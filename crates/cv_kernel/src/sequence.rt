@@ -1,6 +1,5 @@
 ghost use Rattle.std.specs.Prelude.{◌≡◌, ◌+◌, ◌<◌, ◌≤◌, ◌^◌, [], All, IfSome, None, OnErr, OnOk, Some, length, option_map};
 ghost use Rattle.cv_pool.specs.PoolView.{Grows};
-ghost use Rattle.cv_syntax.specs.Tree as tree;
 ghost use Rattle.cv_syntax.specs.Tree.{tree_at};
 ghost use Rattle.cv_typing.specs.Lookups.{IsLive};
 ghost use Rattle.cv_bound.specs.Sums.{AllFit};
@@ -8,7 +7,7 @@ ghost use Rattle.cv_steps.specs.Steps.{Step as StepTree};
 ghost use Rattle.cv_rule.specs.Stated.{step_of};
 ghost use Rattle.cv_kernel.specs.Rules.{IsShortRule, need_of};
 ghost use Rattle.cv_kernel.specs.Sequences.{IsAdvanced, IsPushed, IsReady, Same, Stands, needed};
-ghost use Rattle.cv_kernel.specs.Steps.{narrow, step_in};
+ghost use Rattle.cv_kernel.specs.Steps.{narrow, nodes_of, step_in};
 
 use crate::applying::{attempt, settle};
 use crate::error::PushError;
@@ -27,7 +26,7 @@ const MOST_STEPS: u32 = 2_000;
 /// The rule of a step, where it has one.
 fn rule_in(pool: &Pool, step: Step) -> Option<Rule>
     requires live { step.0.0 < length pool.now.trees }
-    requires short { tree.size (tree_at pool.now.trees (Some step.0)) < 2 ^ 31 }
+    requires short { nodes_of (tree_at pool.now.trees (Some step.0)) < 2 ^ 31 }
     ensures rule { option_map (step_of pool.now.trees) result
         ≡ option_map narrow (step_in (tree_at pool.now.trees (Some step.0))) }
     ensures short { IfSome result (IsShortRule pool.now.trees) }
@@ -94,9 +93,9 @@ impl Sequence {
 
     /// Looks up what there is to read in the game.
     fn prepare(&mut self, alloc: Global, work: &Work) -> Result<(), AllocError>
-        requires stands { Stands work.now.pool.trees self.old }
+        requires stands { Stands work.now.pool.trees work.now.decls self.old }
         ensures ready { OnOk result (IsReady work.now.pool.trees self.new) }
-        ensures stands { Stands work.now.pool.trees self.new }
+        ensures stands { Stands work.now.pool.trees work.now.decls self.new }
         ensures same { Same self.old self.new }
     {
         if self.arrays.is_some() {
@@ -110,7 +109,7 @@ impl Sequence {
     /// Goes to the next game of a step; where there is none, nodes may stay behind.
     fn advance(&mut self, alloc: Global, work: &mut Work, rule: Rule) -> Result<(), PushError>
         requires ready { IsReady work.old.pool.trees self.old }
-        requires stands { Stands work.old.pool.trees self.old }
+        requires stands { Stands work.old.pool.trees work.old.decls self.old }
         requires declared { All (IsLive (length work.old.pool.trees)) work.old.decls.list }
         requires rule { IsShortRule work.old.pool.trees rule }
         requires few { length work.old.pool.trees + 4 < 2 ^ 32 }
@@ -118,7 +117,7 @@ impl Sequence {
         requires steps { self.old.steps < 2000 }
         ensures advanced { IsAdvanced work.old.pool work.old.decls work.new.pool.trees self.old
             self.new (step_of work.old.pool.trees rule) result }
-        ensures stands { OnOk result (Stands work.new.pool.trees self.new) }
+        ensures stands { OnOk result (Stands work.new.pool.trees work.new.decls self.new) }
         ensures same { OnErr result (self.new ≡ self.old) }
         ensures grows { Grows work.old.pool work.new.pool }
         ensures few { OnOk result (length work.new.pool.trees ≤ length work.old.pool.trees + need_of
@@ -139,15 +138,15 @@ impl Sequence {
 
     /// Takes a step in the last game. After a refusal the sequence and the pool's contents are as they were.
     pub fn push(&mut self, alloc: Global, work: &mut Work, step: Step) -> Result<(), PushError>
-        requires stands { Stands work.old.pool.trees self.old }
+        requires stands { Stands work.old.pool.trees work.old.decls self.old }
         requires declared { All (IsLive (length work.old.pool.trees)) work.old.decls.list }
         requires live { step.0.0 < length work.old.pool.trees }
-        requires short { tree.size (tree_at work.old.pool.trees (Some step.0)) < 2 ^ 31 }
+        requires short { nodes_of (tree_at work.old.pool.trees (Some step.0)) < 2 ^ 31 }
         requires few { length work.old.pool.trees + 4 < 2 ^ 32 }
         requires limit { work.old.pool.limit < 4294967295 }
         ensures pushed { IsPushed work.old.pool work.old.decls work.new.pool.trees self.old self.new
             (tree_at work.old.pool.trees (Some step.0)) result }
-        ensures stands { Stands work.new.pool.trees self.new }
+        ensures stands { Stands work.new.pool.trees work.new.decls self.new }
         ensures same { OnErr result (Same self.old self.new) }
         ensures grows { Grows work.old.pool work.new.pool }
         ensures few { OnOk result (length work.new.pool.trees ≤ length work.old.pool.trees + needed

@@ -1,6 +1,4 @@
-pub mod Above
-pub mod Grammar
+pub mod Parts
 pub mod Rowed
-pub mod Tested
-pub mod There
-pub mod Whole
+pub mod Endings
+pub mod Terms

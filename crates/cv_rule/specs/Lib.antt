@@ -1,3 +1,2 @@
-pub mod Kept
-pub mod Phrases
+pub mod Prepared
 pub mod Stated

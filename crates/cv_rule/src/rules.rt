@@ -1,20 +1,24 @@
-ghost use Rattle.std.specs.Prelude.{◌≡◌, ◌<◌, ◌^◌, ◌&&◌, All, IfOk, Some, length, ℕ};
-ghost use Rattle.cv_directory.specs.Sites.{sites_of};
+ghost use Rattle.std.specs.Prelude.{◌≡◌, ◌<◌, ◌^◌, ◌&&◌, All, IfOk, Some, length, option_map, ℕ};
 ghost use Rattle.cv_syntax.specs.Tree.{Tree, size, tree_at};
 ghost use Rattle.cv_typing.specs.Lookups.{IsLive};
-ghost use Rattle.cv_typing.specs.Signature.{OfGame};
-ghost use Rattle.cv_typing.specs.Tables.{arrays_of};
 ghost use Rattle.cv_steps.specs.Judgements as judgement_of;
-ghost use Rattle.cv_steps.specs.Rows.{let_row, new_row, row_of, split_row, unnew_row};
-ghost use Rattle.cv_steps.specs.Scenes as scenes;
-ghost use Rattle.cv_steps.specs.Terms as terms;
-ghost use Rattle.cv_rule.specs.Kept.{scene_of};
-ghost use Rattle.cv_rule.specs.Stated.{IsLiveRule, failing, failure_of, step_of};
+ghost use Rattle.cv_steps.specs.Rows.{let_row, new_row, prune_row, rewrite_row, row_of, split_row, unnew_row};
+ghost use Rattle.cv_draw_pruning.specs.Bodies.{part_of};
+ghost use Rattle.cv_scenes.specs.Pruning.{pruned};
+ghost use Rattle.cv_scenes.specs.Scenes as scenes;
+ghost use Rattle.cv_scenes.specs.Terms as terms;
+ghost use Rattle.cv_rule_scenes.specs.Kept.{scene_of};
+ghost use Rattle.cv_rule.specs.Prepared.{IsPrepared};
+ghost use Rattle.cv_rule.specs.Stated.{IsLiveDerivation, IsLiveRule, failing, failure_of, step_of};
 
-use crate::naming::{is_new, is_queried, is_type, names};
-use crate::places::{has_place, is_output_at};
-use crate::sites::{first_reading, is_chosen};
-use crate::terms::{is_bool_at, is_term_at};
+use crate::lines::bad_line;
+use crate::rewriting::{has_sort_of, has_term_at, is_value, sort_at};
+use crate::targets::{ends_with_equality, ends_with_falsity};
+use cv_draw_pruning::{Body, body_to_prune};
+use cv_rule_scenes::{
+    first_reading, has_place, is_bool_at, is_chosen, is_new, is_output_at, is_queried, is_term_at,
+    is_type, names, part_at,
+};
 use cv_syntax::{NodeId, Work};
 use cv_typing::Arrays;
 use std::alloc::{AllocError, Global};
@@ -40,6 +44,16 @@ pub enum Rule {
     Unnew {
         name: u32,
     },
+    Rewrite {
+        place: u32,
+        term: NodeId,
+        by: Option<NodeId>,
+    },
+    Prune {
+        place: u32,
+        body: Body,
+        by: Option<NodeId>,
+    },
 }
 
 /// The number of a condition that fails, and the place where it does; 0, where it names none.
@@ -58,11 +72,8 @@ fn stands_at(
     place: u32,
     term: NodeId,
 ) -> Result<bool, AllocError>
-    requires live { game.0 < length work.now.pool.trees }
-    requires fits { size (tree_at work.now.pool.trees (Some game)) < 2 ^ 32 }
+    requires prepared { IsPrepared work.now.pool.trees work.now.decls game arrays.now }
     requires declared { All (IsLive (length work.now.pool.trees)) work.now.decls.list }
-    requires arrays { arrays_of arrays.now
-        ≡ OfGame (sites_of (tree_at work.now.pool.trees (Some game))) }
     requires term { term.0 < length work.now.pool.trees }
     requires short { size (tree_at work.now.pool.trees (Some term)) < 2 ^ 32 }
     ensures { IfOk result (λ b. b
@@ -86,11 +97,8 @@ fn let_stands(
     of_type: u32,
     term: NodeId,
 ) -> Result<bool, AllocError>
-    requires live { game.0 < length work.now.pool.trees }
-    requires fits { size (tree_at work.now.pool.trees (Some game)) < 2 ^ 32 }
+    requires prepared { IsPrepared work.now.pool.trees work.now.decls game arrays.now }
     requires declared { All (IsLive (length work.now.pool.trees)) work.now.decls.list }
-    requires arrays { arrays_of arrays.now
-        ≡ OfGame (sites_of (tree_at work.now.pool.trees (Some game))) }
     requires term { term.0 < length work.now.pool.trees }
     requires short { size (tree_at work.now.pool.trees (Some term)) < 2 ^ 32 }
     ensures { IfOk result (λ b. b
@@ -113,11 +121,8 @@ pub fn stands(
     arrays: &Arrays,
     rule: Rule,
 ) -> Result<bool, AllocError>
-    requires live { game.0 < length work.now.pool.trees }
-    requires fits { size (tree_at work.now.pool.trees (Some game)) < 2 ^ 32 }
+    requires prepared { IsPrepared work.now.pool.trees work.now.decls game arrays.now }
     requires declared { All (IsLive (length work.now.pool.trees)) work.now.decls.list }
-    requires arrays { arrays_of arrays.now
-        ≡ OfGame (sites_of (tree_at work.now.pool.trees (Some game))) }
     requires rule { IsLiveRule work.now.pool.trees rule }
     ensures { IfOk result (λ b. b ≡ judgement_of.stands (scene_of work.now.pool work.now.decls game)
         (step_of work.now.pool.trees rule)) }
@@ -136,6 +141,8 @@ pub fn stands(
         Rule::Unnew { name } => {
             Ok(name < work.decls.own() || names(&work.pool, name, Some(game)))
         }
+        Rule::Rewrite { place, term, .. } => stands_at(alloc, work, game, arrays, place, term),
+        Rule::Prune { place, .. } => Ok(has_place(work, game, place)),
     }
 }
 
@@ -148,10 +155,7 @@ fn split_conditions(
     place: u32,
     condition: NodeId,
 ) -> Result<Option<Failure>, AllocError>
-    requires live { game.0 < length work.now.pool.trees }
-    requires fits { size (tree_at work.now.pool.trees (Some game)) < 2 ^ 32 }
-    requires arrays { arrays_of arrays.now
-        ≡ OfGame (sites_of (tree_at work.now.pool.trees (Some game))) }
+    requires prepared { IsPrepared work.now.pool.trees work.now.decls game arrays.now }
     requires term { condition.0 < length work.now.pool.trees }
     ensures { IfOk result (λ f. f
         ≡ failing (split_row (scene_of work.now.pool work.now.decls game) place
@@ -224,6 +228,104 @@ fn unnew_conditions(work: &Work, game: NodeId, x: u32) -> Option<Failure>
     }
 }
 
+/// The first condition of `rewrite` that fails.
+fn rewrite_conditions(
+    alloc: Global,
+    work: &Work,
+    game: NodeId,
+    arrays: &Arrays,
+    place: u32,
+    term: NodeId,
+    by: Option<NodeId>,
+) -> Result<Option<Failure>, AllocError>
+    requires prepared { IsPrepared work.now.pool.trees work.now.decls game arrays.now }
+    requires declared { All (IsLive (length work.now.pool.trees)) work.now.decls.list }
+    requires term { term.0 < length work.now.pool.trees }
+    requires by { IsLiveDerivation work.now.pool.trees by }
+    ensures { IfOk result (λ f. f
+        ≡ failing (rewrite_row (scene_of work.now.pool work.now.decls game) place
+        (tree_at work.now.pool.trees (Some term)) (tree_at work.now.pool.trees by))) }
+{
+    let old = part_at(&work.pool, game, place);
+    let sort = sort_at(alloc, work, game, arrays, place, old)?;
+    if !has_term_at(&work.pool, game, place) || !is_value(sort) {
+        return Ok(Some(Failure {
+            condition: 1,
+            place,
+        }));
+    }
+    if !has_sort_of(sort, sort_at(alloc, work, game, arrays, place, Some(term))?) {
+        return Ok(Some(Failure {
+            condition: 2,
+            place: 0,
+        }));
+    }
+    if let Some(line) = bad_line(alloc, work, game, arrays, place, by)? {
+        return Ok(Some(Failure {
+            condition: 3,
+            place: line,
+        }));
+    }
+    if !ends_with_equality(&work.pool, by, old, Some(term)) {
+        return Ok(Some(Failure {
+            condition: 4,
+            place: 0,
+        }));
+    }
+    Ok(None)
+}
+
+/// The place of a body of the construct at a place of a game, if it has such a body.
+fn place_to_prune(work: &Work, game: NodeId, place: u32, body: Body) -> Option<u32>
+    requires live { game.0 < length work.now.pool.trees }
+    requires fits { size (tree_at work.now.pool.trees (Some game)) < 2 ^ 32 }
+    ensures { result ≡ option_map (λ b. b.body) (pruned place
+        (scenes.part_at (tree_at work.now.pool.trees (Some game)) place) (part_of body)) }
+{
+    match part_at(&work.pool, game, place) {
+        Some(construct) => body_to_prune(&work.pool, construct, place, body),
+        None => None,
+    }
+}
+
+/// The first condition of `prune` that fails.
+fn prune_conditions(
+    alloc: Global,
+    work: &Work,
+    game: NodeId,
+    arrays: &Arrays,
+    place: u32,
+    body: Body,
+    by: Option<NodeId>,
+) -> Result<Option<Failure>, AllocError>
+    requires prepared { IsPrepared work.now.pool.trees work.now.decls game arrays.now }
+    requires declared { All (IsLive (length work.now.pool.trees)) work.now.decls.list }
+    requires by { IsLiveDerivation work.now.pool.trees by }
+    ensures { IfOk result (λ f. f
+        ≡ failing (prune_row (scene_of work.now.pool work.now.decls game) place (part_of body)
+        (tree_at work.now.pool.trees by))) }
+{
+    let Some(at) = place_to_prune(work, game, place, body) else {
+        return Ok(Some(Failure {
+            condition: 1,
+            place: 0,
+        }));
+    };
+    if let Some(line) = bad_line(alloc, work, game, arrays, at, by)? {
+        return Ok(Some(Failure {
+            condition: 2,
+            place: line,
+        }));
+    }
+    if !ends_with_falsity(&work.pool, by) {
+        return Ok(Some(Failure {
+            condition: 3,
+            place: 0,
+        }));
+    }
+    Ok(None)
+}
+
 /// The first condition of a step's row that fails.
 pub fn unmet(
     alloc: Global,
@@ -232,11 +334,8 @@ pub fn unmet(
     arrays: &Arrays,
     rule: Rule,
 ) -> Result<Option<Failure>, AllocError>
-    requires live { game.0 < length work.now.pool.trees }
-    requires fits { size (tree_at work.now.pool.trees (Some game)) < 2 ^ 32 }
+    requires prepared { IsPrepared work.now.pool.trees work.now.decls game arrays.now }
     requires declared { All (IsLive (length work.now.pool.trees)) work.now.decls.list }
-    requires arrays { arrays_of arrays.now
-        ≡ OfGame (sites_of (tree_at work.now.pool.trees (Some game))) }
     requires rule { IsLiveRule work.now.pool.trees rule }
     ensures { IfOk result (λ f. f ≡ failing (row_of
         (scene_of work.now.pool work.now.decls game) (step_of work.now.pool.trees rule))) }
@@ -248,6 +347,12 @@ pub fn unmet(
         Rule::Let { place, name, .. } => Ok(definition_conditions(work, game, place, name)),
         Rule::New { place, name, .. } => Ok(definition_conditions(work, game, place, name)),
         Rule::Unnew { name } => Ok(unnew_conditions(work, game, name)),
+        Rule::Rewrite { place, term, by } => {
+            rewrite_conditions(alloc, work, game, arrays, place, term, by)
+        }
+        Rule::Prune { place, body, by } => {
+            prune_conditions(alloc, work, game, arrays, place, body, by)
+        }
     }
 }
 
@@ -259,11 +364,8 @@ pub fn conditions(
     arrays: &Arrays,
     rule: Rule,
 ) -> Result<Option<Failure>, AllocError>
-    requires live { game.0 < length work.now.pool.trees }
-    requires fits { size (tree_at work.now.pool.trees (Some game)) < 2 ^ 32 }
+    requires prepared { IsPrepared work.now.pool.trees work.now.decls game arrays.now }
     requires declared { All (IsLive (length work.now.pool.trees)) work.now.decls.list }
-    requires arrays { arrays_of arrays.now
-        ≡ OfGame (sites_of (tree_at work.now.pool.trees (Some game))) }
     requires rule { IsLiveRule work.now.pool.trees rule }
     ensures { IfOk result (λ f. f ≡ failure_of (scene_of work.now.pool work.now.decls game)
         (step_of work.now.pool.trees rule)) }

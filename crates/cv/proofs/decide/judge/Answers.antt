@@ -28,7 +28,7 @@ pub returns-in-Ok-clause-sound : goal.returns-in-Ok-clause-sound
 returns-in-Ok-clause-sound c = run_sound _ c.in-Ok.accepted.file _ c.run_accepted.ensures.run
 
 pub returns-in-Ok-clause-games : goal.returns-in-Ok-clause-games
-returns-in-Ok-clause-games c = run_close _ c.in-Ok.accepted.file _ c.args.bytes.now (reads_at _ c.args.bytes.now _ c.requires.limit c.in-Ok.ensures.reads) c.run_accepted.ensures.run
+returns-in-Ok-clause-games c = run_close c.derivations_are_sound.ensures.hold c.derivations_are_sound.ensures.unreached _ c.in-Ok.accepted.file _ c.args.bytes.now (reads_at _ c.args.bytes.now _ c.requires.limit c.in-Ok.ensures.reads) c.run_accepted.ensures.run
 
 pub returns-in-Ok-clause-live : goal.returns-in-Ok-clause-live
 returns-in-Ok-clause-live c = run_live _ c.in-Ok.accepted.file _ c.run_accepted.ensures.run

@@ -6,6 +6,7 @@ use Rattle.cv_syntax.specs.Declarations.{declarations}
 use Rattle.cv_syntax.specs.Tree.{size, tree_at}
 use Rattle.cv_syntax.specs.declared.work.Game.{Game}
 use Rattle.cv_parse_script.specs.Scripts.{trees_of}
+use Rattle.cv_scope.specs.Phrases.{IsWellFormed}
 use Rattle.cv_bound.specs.Sums.{AllFit}
 use Rattle.cv.specs.Scripts.{unclosed}
 use Rattle.cv.specs.Walks.{stop_of}
@@ -26,6 +27,7 @@ steps-init c =
       stands = record {
         live = subst (λ (g : Game). g.root.0 < length trees) (sym c.start-sequence.ensures.game) here;
         small = subst (λ t. size t ≤ 50000) (sym same) c.requires.small;
+        formed = subst (IsWellFormed (declarations trees work.decls.list)) (sym same) c.requires.formed;
         arrays = on_none _ _ c.start-sequence.ensures.arrays;
         fits = subst AllFit (sym c.start-sequence.ensures.sum) tt;
         few = (let n = c.start-sequence.ensures.steps in omega arith);

@@ -11,7 +11,7 @@ use Rattle.cv.proofs.follow.follow.Given as goal
 abbrev pub invariant-steps : goal.invariant-steps
 invariant-steps l = record {
   followed : HasFollowed (length l.fn.work.pool.trees) (declarations l.fn.work.pool.trees l.fn.work.decls.list) l.fn.work.decls.own (tree_at l.fn.work.pool.trees (Some l.fn.game.root)) (trees_of l.fn.work.pool.trees (take l.step-index l.script)) l.work.pool.trees l.sequence l.trail.items;
-  stands : Stands l.work.pool.trees l.sequence;
+  stands : Stands l.work.pool.trees l.work.decls l.sequence;
   grows : Grows l.fn.work.pool l.work.pool;
   room : length l.work.pool.trees ≤ most_pool;
   names : l.work.names ≡ l.fn.work.names;

@@ -1,11 +1,11 @@
 use Rattle.std.proofs.Common.{ap, length, subst, sym, ◌∙◌, Err}
 use Rattle.cv_syntax.specs.Tree.{tree_at}
 use Rattle.cv_syntax.proofs.Trees.{tree_at-None}
-use Rattle.cv_rule.specs.Kept.{scene_of}
+use Rattle.cv_rule_scenes.specs.Kept.{scene_of}
 use Rattle.cv_rule.specs.Stated.{step_of}
 use Rattle.cv_steps.specs.Judgements.{judgement_of}
 use Rattle.cv_kernel.specs.Rules.{IsAnswer, need_of, next_of}
-use Rattle.cv_kernel.proofs.Answers.{answer_through, draw_answer, empty_game, game_answer, no_place, over_answer, refused}
+use Rattle.cv_kernel.proofs.Answers.{answer_through, draw_answer, empty_game, game_answer, over_answer, placed, refused}
 use Rattle.cv_kernel.proofs.Pushes.{declarations-grown}
 use Rattle.cv_kernel.proofs.applying.make.Goals as goal
 
@@ -24,7 +24,7 @@ returns-in_err-root-clause-answer c =
     let s = scene_of pool c.args.work.now.decls c.args.game in
     let x = step_of pool.trees c.args.rule in
     answer_through pool.limit (length pool.trees) (need_of s.game x) (judgement_of s x) trees _ _ c.from_residual-in_err-root.ensures.1
-    (draw_answer s x c.requires.met c.in-Some.extent.nodes c.in-Some.extent.depth c.in-Some.ensures.nodes c.in-Some.ensures.depth c.in_ok-check_limits.ensures.within pool.limit (length pool.trees) (need_of s.game x) trees c.in_err-root.field-0.0 (no_place s x) c.in_err-root.ensures.fault)
+    (draw_answer s x c.requires.met c.in-Some.extent.nodes c.in-Some.extent.depth c.in-Some.ensures.nodes c.in-Some.ensures.depth c.in_ok-check_limits.ensures.within pool.limit (length pool.trees) (need_of s.game x) trees c.in_err-root.field-0.0 (λ h. absurd (placed s x c.requires.met h)) c.in_err-root.ensures.fault)
 
 pub returns-in_default-2-clause-answer : goal.returns-in_default-2-clause-answer
 returns-in_default-2-clause-answer c =

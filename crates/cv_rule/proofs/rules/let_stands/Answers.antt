@@ -1,9 +1,9 @@
 use Rattle.std.proofs.Common.{Some}
 use Rattle.cv_syntax.specs.Tree.{tree_at}
-use Rattle.cv_steps.specs.Scenes.{has_place, is_type}
-use Rattle.cv_steps.specs.Terms.{is_term_at}
-use Rattle.cv_rule.specs.Kept.{scene_of}
-use Rattle.cv_rule.proofs.Rowed.{not-middle, ok-same, then-around}
+use Rattle.cv_scenes.specs.Scenes.{has_place, is_type}
+use Rattle.cv_scenes.specs.Terms.{is_term_at}
+use Rattle.cv_rule_scenes.specs.Kept.{scene_of}
+use Rattle.cv_rule_scenes.proofs.Tests.{not-middle, ok-same, then-around}
 use Rattle.cv_rule.proofs.rules.let_stands.Goals as goal
 
 pub returns-then-not-is_type : goal.returns-then-not-is_type

@@ -2,10 +2,10 @@ use Rattle.std.proofs.Common.{Some, None, refl}
 use Rattle.cv_syntax.specs.Tree.{tree_at}
 use Rattle.cv_steps.specs.Changes.{change_at, split_process}
 use Rattle.cv_steps.specs.Rows.{Leads, unless}
-use Rattle.cv_steps.specs.Scenes.{is_output_at}
+use Rattle.cv_scenes.specs.Scenes.{is_output_at}
 use Rattle.cv_steps.specs.Steps.{Zero}
-use Rattle.cv_steps.specs.Terms.{is_bool_at}
-use Rattle.cv_rule.specs.Kept.{scene_of}
+use Rattle.cv_scenes.specs.Terms.{is_bool_at}
+use Rattle.cv_rule_scenes.specs.Kept.{scene_of}
 use Rattle.cv_rule.proofs.Rowed.{fails-here, goes-on}
 use Rattle.cv_rule.proofs.rules.split_conditions.Goals as goal
 

@@ -1,9 +1,9 @@
 use Rattle.std.proofs.Common.{Some}
 use Rattle.cv_syntax.specs.Tree.{tree_at}
-use Rattle.cv_steps.specs.Scenes.{has_place}
-use Rattle.cv_steps.specs.Terms.{is_term_at}
-use Rattle.cv_rule.specs.Kept.{scene_of}
-use Rattle.cv_rule.proofs.Rowed.{not-first, ok-same, then-second}
+use Rattle.cv_scenes.specs.Scenes.{has_place}
+use Rattle.cv_scenes.specs.Terms.{is_term_at}
+use Rattle.cv_rule_scenes.specs.Kept.{scene_of}
+use Rattle.cv_rule_scenes.proofs.Tests.{not-first, ok-same, then-second}
 use Rattle.cv_rule.proofs.rules.stands_at.Goals as goal
 
 pub returns-then-not-has_place : goal.returns-then-not-has_place

@@ -1,6 +1,6 @@
 use Rattle.std.proofs.Common.{arith, subst, sym}
 use Rattle.cv_bound.specs.Sums.{AllFit}
-use Rattle.cv_rule.specs.Kept.{scene_of}
+use Rattle.cv_rule_scenes.specs.Kept.{scene_of}
 use Rattle.cv_rule.specs.Stated.{step_of}
 use Rattle.cv_kernel.proofs.Pushes.{accepted_small, fits_on}
 use Rattle.cv_kernel.proofs.sequence.Sequence.advance.Goals as goal
@@ -15,9 +15,10 @@ returns-clause-stands c =
     let w = c.in_ok-next.ensures.answer in
     let pool = c.args.work.now.pool in
     record {
-      live = c.in_ok-next.ensures.live;
+      live = c.in_ok-next.ensures.prepared.live;
       small = accepted_small (scene_of pool c.args.work.now.decls c.args.self.now.game.root) (step_of pool.trees c.args.rule) _ w.cost w.accepted;
-      arrays = c.in_ok-next.ensures.arrays;
+      formed = c.in_ok-next.ensures.prepared.formed;
+      arrays = c.in_ok-next.ensures.prepared;
       fits = subst AllFit (sym c.in_ok-add.ensures.ok) (fits_on c.args.self.now.sum c.in_ok-next.next.cost w.cost w.costs c.requires.stands.fits);
       few = omega (arith, c.requires.steps);
     }

@@ -1,0 +1,69 @@
+-- The way down to a term.
+use Rattle.std.proofs.Common.{◌≡◌, ℕ, ◌+◌, ◌-◌, false, Option, Some, None, refl, sym, ap, ap₂, ◌∙◌}
+use Rattle.cv_syntax.specs.declared.head.Head.{Head}
+use Rattle.cv_syntax.specs.declared.head.Head.TheVariants.{Read}
+use Rattle.cv_syntax.specs.Head.{weight}
+use Rattle.cv_syntax.specs.Tree.{Tree, Empty, Node, size}
+use Rattle.cv_path.specs.declared.place.Lies.TheVariants.{Here, Within, Behind}
+use Rattle.cv_path.specs.Places.{LiesAt}
+use Rattle.cv_path.proofs.Going.{choice-behind, choice-here, choice-within, less-behind, less-within}
+use Rattle.cv_scope.specs.Phrases as grammar
+use Rattle.cv_steps.specs.Rewriting.{by_parts, has_term_at, is_term, parts_of}
+
+-- a read, and another node
+
+pub read-parts : (σ : grammar.Phrase) (h : Head) (x : ℕ) → h ≡ Read x → parts_of σ h ≡ (grammar.Nil, grammar.Nil)
+read-parts σ h x e = ap (parts_of σ) e
+
+some-same : (p q : grammar.Phrase × grammar.Phrase) → Some p ≡ Some q → p ≡ q
+some-same p q e = cc
+
+none-some : (q : grammar.Phrase × grammar.Phrase) → None ≡ Some q → ⊥
+none-some q e = absurd (cc)
+
+some-none : (q : grammar.Phrase × grammar.Phrase) → Some q ≡ None → ⊥
+some-none q e = absurd (cc)
+
+pub other-parts : (σ : grammar.Phrase) (h : Head) (p : grammar.Phrase × grammar.Phrase) → ((x : ℕ) → h ≡ Read x → ⊥) → grammar.parts σ h ≡ Some p → parts_of σ h ≡ p
+other-parts σ (Read x) p n e = absurd (n x refl)
+other-parts σ h p n e = given h n (grammar.parts σ h) e
+  where
+    given : (k : Head) → ((x : ℕ) → k ≡ Read x → ⊥) → (o : Option (grammar.Phrase × grammar.Phrase)) → o ≡ Some p → by_parts k o ≡ p
+    given (Read x) m o f = absurd (m x refl)
+    given k m None f = absurd (none-some p f)
+    given k m (Some q) f = some-same q p f
+
+pub no-parts : (σ : grammar.Phrase) (h : Head) → ((x : ℕ) → h ≡ Read x → ⊥) → grammar.parts σ h ≡ None → parts_of σ h ≡ (grammar.Nil, grammar.Nil)
+no-parts σ h n e = given h n (grammar.parts σ h) e
+  where
+    given : (k : Head) → ((x : ℕ) → k ≡ Read x → ⊥) → (o : Option (grammar.Phrase × grammar.Phrase)) → o ≡ None → by_parts k o ≡ (grammar.Nil, grammar.Nil)
+    given (Read x) m o f = absurd (m x refl)
+    given k m None f = refl
+    given k m (Some q) f = absurd (some-none q f)
+
+-- one step down
+
+module _ (σ : grammar.Phrase) (t : Tree) (h : Head) (a b : Tree) (p q : ℕ) (e : t ≡ Node h a b) where
+  pub term-here : LiesAt h a p Here → has_term_at σ t p ≡ is_term σ
+  unfolding has_term_at
+  term-here l =
+      ap (λ u. has_term_at σ u p) e
+      ∙ choice-here h a p (is_term σ) (has_term_at (parts_of σ h).0 a (p - weight h)) (has_term_at (parts_of σ h).1 b (p - (weight h + size a))) l
+
+  pub term-within : (τ : grammar.Phrase) → τ ≡ (parts_of σ h).0 → LiesAt h a p (Within q) → has_term_at σ t p ≡ has_term_at τ a q
+  unfolding has_term_at
+  term-within τ f l =
+      ap (λ u. has_term_at σ u p) e
+      ∙ (choice-within h a p (is_term σ) (has_term_at (parts_of σ h).0 a (p - weight h)) (has_term_at (parts_of σ h).1 b (p - (weight h + size a))) q l
+      ∙ ap₂ (λ ρ n. has_term_at ρ a n) (sym f) (less-within h a p q l))
+
+  pub term-behind : (τ : grammar.Phrase) → τ ≡ (parts_of σ h).1 → LiesAt h a p (Behind q) → has_term_at σ t p ≡ has_term_at τ b q
+  unfolding has_term_at
+  term-behind τ f l =
+      ap (λ u. has_term_at σ u p) e
+      ∙ (choice-behind h a p (is_term σ) (has_term_at (parts_of σ h).0 a (p - weight h)) (has_term_at (parts_of σ h).1 b (p - (weight h + size a))) q l
+      ∙ ap₂ (λ ρ n. has_term_at ρ b n) (sym f) (less-behind h a p q l))
+
+pub no-term : (σ : grammar.Phrase) (t : Tree) (p : ℕ) → t ≡ Empty → has_term_at σ t p ≡ false
+unfolding has_term_at
+no-term σ t p e = ap (λ u. has_term_at σ u p) e

@@ -1,0 +1,133 @@
+ghost use Rattle.std.specs.Prelude.{◌≡◌, ◌<◌, ◌^◌, IfOk, Some, length};
+ghost use Rattle.cv_pool.specs.Nodes.{ChildBelow};
+ghost use Rattle.cv_directory.specs.Sites.{sites_of};
+ghost use Rattle.cv_syntax.specs.Tree.{size, tree_at};
+ghost use Rattle.cv_typing.specs.Signature as signature;
+ghost use Rattle.cv_typing.specs.Signature.{OfGame};
+ghost use Rattle.cv_typing.specs.Tables.{arrays_of};
+ghost use Rattle.cv_scope.specs.Phrases as grammar;
+ghost use Rattle.cv_scenes.specs.Terms as terms;
+ghost use Rattle.cv_steps.specs.Rewriting as rewriting;
+ghost use Rattle.cv_rule_phrases.specs.Phrases.{both, phrase_of};
+ghost use Rattle.cv_rule_scenes.specs.Kept.{scene_of};
+
+use cv_directory::Sort;
+use cv_path::{Lies, place_in};
+use cv_rule_phrases::{Phrase, parts};
+use cv_rule_scenes::indices_at;
+use cv_syntax::{Head, NodeId, Pool, Work, read_node};
+use cv_typing::{Arrays, sort_of_term};
+use std::alloc::{AllocError, Global};
+
+/// What the children of a node are; the indices of a read are passed over.
+fn parts_within(phrase: Phrase, head: Head) -> (Phrase, Phrase)
+    ensures { both result ≡ rewriting.parts_of (phrase_of phrase) head }
+{
+    match head {
+        Head::Read(_) => (Phrase::Nil, Phrase::Nil),
+        _ => match parts(phrase, head) {
+            Some(both) => both,
+            None => (Phrase::Nil, Phrase::Nil),
+        },
+    }
+}
+
+/// Whether what stands there is a term.
+fn is_term(phrase: Phrase) -> bool
+    ensures { result ≡ rewriting.is_term (phrase_of phrase) }
+{
+    match phrase {
+        Phrase::Term => true,
+        _ => false,
+    }
+}
+
+/// Whether at a place of a game stands a term that is no index and no cell.
+#[tactic(auto, using(cv_path::proofs::Going::going))]
+pub(crate) fn has_term_at(pool: &Pool, game: NodeId, place: u32) -> bool
+    requires live { game.0 < length pool.now.trees }
+    requires fits { size (tree_at pool.now.trees (Some game)) < 2 ^ 32 }
+    ensures { result ≡ rewriting.has_term_at grammar.Inputs (tree_at pool.now.trees (Some game))
+        place }
+{
+    let mut phrase = Phrase::Inputs;
+    let mut at = Some(game);
+    let mut left = place;
+    'down: while let Some(k) = at {
+        let node = read_node(pool, k);
+        let (first, second) = parts_within(phrase, node.head);
+        match place_in(pool, node, left) {
+            Lies::Here => return is_term(phrase),
+            Lies::Within(rest) => {
+                phrase = first;
+                at = node.first;
+                left = rest;
+            }
+            Lies::Behind(rest) => {
+                phrase = second;
+                at = node.second;
+                left = rest;
+            }
+        }
+    }
+    false
+}
+
+/// The sort of a term at a place of a game.
+pub(crate) fn sort_at(
+    alloc: Global,
+    work: &Work,
+    game: NodeId,
+    arrays: &Arrays,
+    place: u32,
+    term: Option<NodeId>,
+) -> Result<Option<Sort>, AllocError>
+    requires live { game.0 < length work.now.pool.trees }
+    requires fits { size (tree_at work.now.pool.trees (Some game)) < 2 ^ 32 }
+    requires arrays { arrays_of arrays.now
+        ≡ OfGame (sites_of (tree_at work.now.pool.trees (Some game))) }
+    requires term { ChildBelow (length work.now.pool.trees) term }
+    ensures { IfOk result (λ sort. sort
+        ≡ rewriting.sort_at (scene_of work.now.pool work.now.decls game) place
+        (tree_at work.now.pool.trees term)) }
+{
+    let above = indices_at(alloc, work, game, place)?;
+    Ok(sort_of_term(&work.pool, &work.decls, arrays, &above, term))
+}
+
+/// Whether a sort is that of the values of a type.
+pub(crate) fn is_value(sort: Option<Sort>) -> bool
+    ensures { result ≡ rewriting.is_value sort }
+{
+    match sort {
+        Some(Sort::OfType(_)) => true,
+        _ => false,
+    }
+}
+
+/// Whether a term is of a sort.
+fn is_sort(sort: Option<Sort>, wanted: Sort) -> bool
+    ensures { result ≡ terms.is_sort sort wanted }
+{
+    match sort {
+        Some(Sort::OfType(t)) => match wanted {
+            Sort::OfType(u) => t == u,
+            Sort::BelowParameter(_) => false,
+        },
+        Some(Sort::BelowParameter(n)) => match wanted {
+            Sort::OfType(_) => false,
+            Sort::BelowParameter(m) => n == m,
+        },
+        None => false,
+    }
+}
+
+/// Whether a term of the second sort may take the place of one of the first.
+pub(crate) fn has_sort_of(old: Option<Sort>, new: Option<Sort>) -> bool
+    ensures { result ≡ rewriting.has_sort_of old new }
+{
+    match old {
+        Some(sort) => is_sort(new, sort),
+        None => false,
+    }
+}
