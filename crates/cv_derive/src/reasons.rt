@@ -114,32 +114,36 @@ fn follows(s: &Sight, n: u32, term: Option<NodeId>, reason: Opened) -> bool
         (tree_at (trees_of s.now) reason.first) (tree_at (trees_of s.now) reason.second) }
 {
     let pool = &s.work.pool;
-    let line = cited_term(pool, s.lines, n, reason.first);
     match reason.head {
         Head::ByRefl => is_reflexive(pool, term),
-        Head::BySym => is_symmetric(pool, line, term),
-        Head::ByTrans => {
-            let next = cited_term(pool, s.lines, n, reason.second);
-            is_transitive(pool, line, next, term)
-        }
-        Head::ByMp => {
-            let next = cited_term(pool, s.lines, n, reason.second);
-            is_replaced_by(pool, line, next, term)
-        }
-        Head::ByAnd => {
-            let next = cited_term(pool, s.lines, n, reason.second);
-            is_both(pool, line, next, term)
-        }
-        Head::ByLeft => is_left(pool, line, term),
-        Head::ByRight => is_right_side(pool, line, term),
-        Head::ByContra => {
-            let next = cited_term(pool, s.lines, n, reason.second);
-            is_refuted(pool, line, next, term)
-        }
-        Head::ByExfalso => is_alone(pool, Head::No, line),
-        Head::ByAgain => same(pool, term, line),
         Head::ByBool => is_truth(pool, term),
-        _ => false,
+        _ => {
+            let line = cited_term(pool, s.lines, n, reason.first);
+            match reason.head {
+                Head::BySym => is_symmetric(pool, line, term),
+                Head::ByTrans => {
+                    let next = cited_term(pool, s.lines, n, reason.second);
+                    is_transitive(pool, line, next, term)
+                }
+                Head::ByMp => {
+                    let next = cited_term(pool, s.lines, n, reason.second);
+                    is_replaced_by(pool, line, next, term)
+                }
+                Head::ByAnd => {
+                    let next = cited_term(pool, s.lines, n, reason.second);
+                    is_both(pool, line, next, term)
+                }
+                Head::ByLeft => is_left(pool, line, term),
+                Head::ByRight => is_right_side(pool, line, term),
+                Head::ByContra => {
+                    let next = cited_term(pool, s.lines, n, reason.second);
+                    is_refuted(pool, line, next, term)
+                }
+                Head::ByExfalso => is_alone(pool, Head::No, line),
+                Head::ByAgain => same(pool, term, line),
+                _ => false,
+            }
+        }
     }
 }
 
