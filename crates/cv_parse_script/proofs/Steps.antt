@@ -26,7 +26,7 @@ use Rattle.cv_parse_terms.specs.declared.trail.Trail.{Trail}
 use Rattle.cv_parse_terms.specs.Gives.{Fails, IsMade, Makes}
 use Rattle.std.specs.Borrow.{Bor}
 use Rattle.cv_parse_tables.specs.declared.piece.Piece.{Piece}
-use Rattle.cv_parse_tables.specs.Table.{Row, form, row_phrase, rows_of, table_heads, table_rule}
+use Rattle.cv_parse_tables.specs.Table.{Row, form, rows_of, table_heads, table_rule}
 use Rattle.cv_script_rows.specs.Rows.{script_rows, step_row}
 use Rattle.cv_script.specs.declared.steps.Step.{Step}
 use Rattle.cv_parse_script.specs.declared.error.ScriptError.{ScriptError}
@@ -190,10 +190,8 @@ only_parts new old parts e h = h ∙ ap (λ l. l ++ parts) e
 
 -- the program's rows
 
-pub begins_there : (rows : List (Bor (List Piece))) → rows_of rows ≡ script_rows → (signs : List Sign) → next_is (starts (table_heads (rows_of rows)) (form (rows_of rows) (length rows) step_row)) signs ≡ next_is begins_step signs
-begins_there rows e signs =
-    ap (λ n. next_is (starts (table_heads (rows_of rows)) (form (rows_of rows) n step_row)) signs) (sym (length-map rows (λ r. r.now)))
-    ∙ ap (λ table. next_is (starts (table_heads table) (row_phrase table step_row)) signs) e
+pub begins_there : (rows : List (Bor (List Piece))) → rows_of rows ≡ script_rows → (signs : List Sign) → next_is (starts (table_heads (rows_of rows)) (form (rows_of rows) (length script_rows) step_row)) signs ≡ next_is begins_step signs
+begins_there rows e signs = ap (λ table. next_is (starts (table_heads table) (form table (length script_rows) step_row)) signs) e
 
 pub reads_there : (rows : List (Bor (List Piece))) → rows_of rows ≡ script_rows → (row : ℕ) (signs : List Sign) (old new : Trail) (r : Result ℕ ReadError) → Makes postorder signs old new r (read_sort (table_heads (rows_of rows)) (table_rule (rows_of rows)) 200 (Row row) signs) → Makes postorder signs old new r (read_row row signs)
 reads_there rows e row signs old new r d = subst (λ table. Makes postorder signs old new r (read_sort (table_heads table) (table_rule table) 200 (Row row) signs)) e d

@@ -35,7 +35,7 @@ fn begins(signs: &[Sign], at: usize) -> bool
     ensures { result ≡ next_is begins_step (drop at signs.now) }
 {
     let rows = script_rows();
-    begins_at(rows, rows.len(), STEP as usize, HOPS, signs, at)
+    begins_at(&rows, rows.len(), STEP as usize, HOPS, signs, at)
 }
 
 /// Reads a phrase of a row of the table.
@@ -43,7 +43,7 @@ fn read_phrase(signs: &[Sign], row: u16, trail: &mut Trail) -> Result<usize, Rea
     requires few { length signs.now < 2 ^ 32 }
     ensures { Makes postorder signs.now trail.old trail.new result (read_row row signs.now) }
 {
-    phrase(script_rows(), row as usize, signs, 0, trail, DEPTH)
+    phrase(&script_rows(), row as usize, signs, 0, trail, DEPTH)
 }
 
 /// Why reading stopped at a place where no step begins that is read.

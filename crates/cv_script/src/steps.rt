@@ -54,7 +54,7 @@ pub fn push_step(
         out,
         pool,
         names,
-        script_rows(),
+        &script_rows(),
         STEP as usize,
         Some(step.0),
         LEVELS,

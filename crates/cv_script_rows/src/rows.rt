@@ -225,8 +225,11 @@ const BUILT_STEPS: u16 = 153;
 pub const BUILT_SCRIPT: u16 = 154;
 /// How many of the steps, from the first one on, have a rule.
 const BUILT: u16 = 6;
+/// How many rows the table has.
+const ROWS: usize = 155;
 
-static ROWS: [&[Piece]; 155] = [
+/// Lists of names, numbers, terms and lines.
+static LIST_ROWS: [&[Piece]; 21] = [
     &[Sign(Mark::Bool)],
     &[Over(Head::Name(0), BOOL_WORD)],
     &[Word(Role::Nothing)],
@@ -257,6 +260,10 @@ static ROWS: [&[Piece]; 155] = [
     ],
     &[Blank, Number],
     &[Many(false, CITED)],
+];
+
+/// Reasons.
+static REASON_ROWS: [&[Piece]; 46] = [
     &[Says(ScriptWord::Fact), Blank, Number],
     &[Says(ScriptWord::Here)],
     &[Says(ScriptWord::Of), Blank, Number],
@@ -319,6 +326,10 @@ static ROWS: [&[Piece]; 155] = [
     &[Over(Head::ByOtherHere, OTHER_HERE)],
     &[Over(Head::BySame, SAME)],
     &[Over(Head::ByDistinct, DISTINCT_REASON)],
+];
+
+/// Lines of derivations.
+static LINE_ROWS: [&[Piece]; 7] = [
     &[
         Sign(Mark::Defined),
         Level(INNER_CELL),
@@ -351,6 +362,10 @@ static ROWS: [&[Piece]; 155] = [
     &[Over(Head::Cases, CASES_LINE)],
     &[Over(Head::Line, TERM_LINE)],
     &[OneOf(A_DEFINED_LINE, 3)],
+];
+
+/// Parts of steps, and certificates.
+static CERTIFICATE_ROWS: [&[Piece]; 36] = [
     &[Sign(Mark::Then)],
     &[Sign(Mark::Else)],
     &[Says(ScriptWord::Add)],
@@ -428,6 +443,10 @@ static ROWS: [&[Piece]; 155] = [
     &[Sign(Mark::Secret), Chain(SECRET_PARTS)],
     &[Over(Head::EventsCertificate, EVENTS)],
     &[Over(Head::SecretCertificate, SECRET)],
+];
+
+/// Steps and scripts.
+static STEP_ROWS: [&[Piece]; 45] = [
     &[
         Says(ScriptWord::Rename),
         Blank,
@@ -594,8 +613,15 @@ static ROWS: [&[Piece]; 155] = [
 ];
 
 /// The rows of the table of scripts.
-pub fn script_rows() -> &'static [&'static [Piece]]
-    ensures { rows_of result.now ≡ specs_rows.script_rows }
+pub fn script_rows() -> [&'static [Piece]; ROWS]
+    ensures { rows_of result ≡ specs_rows.script_rows }
 {
-    &ROWS
+    let none: &[Piece] = &[];
+    let mut rows = [none; ROWS];
+    rows[..FACT as usize].copy_from_slice(&LIST_ROWS);
+    rows[FACT as usize..DEFINED_LINE as usize].copy_from_slice(&REASON_ROWS);
+    rows[DEFINED_LINE as usize..THEN_WORD as usize].copy_from_slice(&LINE_ROWS);
+    rows[THEN_WORD as usize..RENAME as usize].copy_from_slice(&CERTIFICATE_ROWS);
+    rows[RENAME as usize..].copy_from_slice(&STEP_ROWS);
+    rows
 }
