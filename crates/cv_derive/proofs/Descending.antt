@@ -21,8 +21,8 @@ use Rattle.cv_scenes.specs.Sights.{cells_by}
 use Rattle.cv_scenes.specs.Terms.{replications_by}
 use Rattle.cv_facts.specs.Walks.{above_behind}
 use Rattle.cv_facts.proofs.Standings.{above-length, first-replications, place-extends, second-replications, standing-behind, standing-within}
-use Rattle.cv_derive_lines.specs.Under.{under}
-use Rattle.cv_derive.specs.Cells.{defined_second, is_among_under, own_behind}
+use Rattle.cv_derive_substitution.specs.Under.{under}
+use Rattle.cv_derive_cells.specs.Cells.{defined_second, is_among_under, own_behind}
 use Rattle.cv_derive.specs.Walks.{Knows, Reaches}
 
 -- the cells on the way down

@@ -16,8 +16,9 @@ use Rattle.cv_derivations.specs.Lines.{Lines, End, By, Cases, Statement, count, 
 use Rattle.cv_derive_lines.specs.declared.lines.Claim.{Claim}
 use Rattle.cv_derive_lines.specs.declared.lines.Line.{Line}
 use Rattle.cv_derive_lines.specs.declared.lines.Line.TheVariants as line
-use Rattle.cv_derive_lines.specs.Views.{cited_from, front, in_front, statement_of}
+use Rattle.cv_derive_lines.specs.Views.{front, in_front, statement_of}
 use Rattle.cv_derive_lines.proofs.Fronts.{line-at, no-lines}
+use Rattle.cv_derive_citing.specs.Citing.{cited_from}
 use Rattle.cv_derive.specs.Searching.{first_bad_in}
 use Rattle.cv_derive.specs.Verdicts.{verdict_by, verdict_of}
 use Rattle.cv_derive.specs.declared.checking.DeriveFault.{DeriveFault}

@@ -1,8 +1,8 @@
 -- The only definition of a variable, as a directory tells it.
-use Rattle.std.proofs.Common.{◌≡◌, ℕ, zero, suc, ◌+◌, ◌≤◌, min, List, [], ◌∷◌, ◌++◌, length, map, take, Bool, Option, Some, None, refl, sym, ap, subst, ◌∙◌, arith}
-use Rattle.std.specs.Prelude.{option_and_then, option_map, slice_get}
+use Rattle.std.proofs.Common.{◌≡◌, ℕ, ◌≤◌, min, List, [], ◌∷◌, length, map, Bool, true, false, Option, Some, None, refl, sym, ap, subst, ◌∙◌, arith, eqb-true}
+use Rattle.std.specs.Prelude.{◌==◌, if◌then◌else◌, option_and_then, option_map, slice_get}
 use Rattle.std.specs.List.{AllByRecursion}
-use Rattle.std.proofs.lemmas.List.{take_all}
+use Rattle.std.proofs.lemmas.Bool.{eqb-false}
 use Rattle.cv_syntax.specs.Declarations.{Declaration}
 use Rattle.cv_syntax.specs.Tree.{Tree}
 use Rattle.cv_directory.specs.Definitions.{Definition, Entries, entries_of, most}
@@ -15,7 +15,8 @@ use Rattle.cv_scenes.specs.Sights.{only_site, variable_of}
 use Rattle.cv_facts.specs.Definitions.{IsBehind, behind_at, definition_entry, site_entry}
 use Rattle.cv_facts.proofs.Continuing.{all-behind}
 use Rattle.cv_facts.proofs.Entries.{count-sites, first-sites}
-use Rattle.cv_derive.specs.Sites.{IsSite, replications_by, site_in}
+use Rattle.cv_derive_cells.specs.Only.{only_place, replications_by}
+use Rattle.cv_derive.specs.Sites.{IsSite, site_in}
 use Rattle.cv_derive.specs.declared.sites.Site.{Site}
 use Rattle.cv_derive.proofs.Replications.{few-replications}
 
@@ -48,10 +49,10 @@ more-sites (s ∷ []) n = absurd (n refl)
 more-sites (s ∷ (t ∷ sites)) n = refl
 
 module _ (ds : List Declaration) (large : ℕ → Bool) (game : Tree) (x : ℕ) (e : Entries) (w : IsWellFormed ds game) (same : e ≡ entries_of large game) (n : ℕ) (count : n ≡ e.count x) where
-  pub not-only : (n ≡ 1 → ⊥) → only_site (sites_of game x) ≡ None
+  not-only : (n ≡ 1 → ⊥) → only_site (sites_of game x) ≡ None
   not-only m = more-sites (sites_of game x) (λ k. m (count ∙ (ap (λ (y : Entries). y.count x) same ∙ (count-sites ds large game x w ∙ k))))
 
-  pub is-only : n ≡ 1 → Only game (only_site (sites_of game x)) (e.first x)
+  is-only : n ≡ 1 → Only game (only_site (sites_of game x)) (e.first x)
   is-only m =
       only-one game (sites_of game x) (e.first x) (sym (count-sites ds large game x w) ∙ (sym (ap (λ (y : Entries). y.count x) same) ∙ (sym count ∙ m)))
       (ap (λ (y : Entries). option_map definition_entry (y.first x)) same ∙ first-sites ds large game x w) (all-behind game x (game_context ds game w).phrase)
@@ -60,7 +61,7 @@ stands-behind : (game : Tree) (o : Option ℕ) (q : ℕ) (Γ : Context) → opti
 stands-behind game o q Γ e f = ap (option_and_then (stands_at game)) f ∙ e
 
 module _ (game : Tree) (there : Option Context) (o : Option Definition) (k : Only game there o) where
-  pub place-there : None ≡ option_map (λ (d : Definition). d.place) o → ⊥
+  place-there : None ≡ option_map (λ (d : Definition). d.place) o → ⊥
   place-there e = let z : None ≡ Some k.definition.place = e ∙ ap (option_map (λ (d : Definition). d.place)) k.first in cc
 
   module _ (p : ℕ) (e : Some p ≡ option_map (λ (d : Definition). d.place) o) where
@@ -82,28 +83,22 @@ module _ (game : Tree) (there : Option Context) (o : Option Definition) (k : Onl
           let few : length (replications_by o) ≤ 8 = subst (λ rs. length rs ≤ 8) (sym rows) (few-replications ds game q k.context w.scoped stands) in
           subst (λ u. IsSite game u (Some s)) (sym k.there) (ap (stands_at game) i ∙ stands, sym (r few ∙ rows))
 
--- of a definition the replications, one by one
+-- by the place that a directory tells
 
-none-past : {A : Type 0} (xs : List A) (k : ℕ) → None ≡ slice_get xs k → length xs ≤ k
-none-past [] k e = omega arith
-none-past (x ∷ xs) zero e = absurd (let z = e in cc)
-none-past (x ∷ xs) (suc k) e = let l = none-past xs k e in omega arith
+module _ (ds : List Declaration) (large : ℕ → Bool) (game : Tree) (x : ℕ) (e : Entries) (w : IsWellFormed ds game) (same : e ≡ entries_of large game) where
+  unplaced-at : (c : Bool) → (e.count x == 1) ≡ c → None ≡ (if c then option_map (λ (d : Definition). d.place) (e.first x) else None) → only_site (sites_of game x) ≡ None
+  unplaced-at true i p = absurd (place-there game (only_site (sites_of game x)) (e.first x) (is-only ds large game x e w same (e.count x) refl (eqb-true (e.count x) 1 i)) p)
+  unplaced-at false i p = not-only ds large game x e w same (e.count x) refl (eqb-false (e.count x) 1 i)
 
-some-next : {A : Type 0} (xs : List A) (k : ℕ) (x : A) → Some x ≡ slice_get xs k → take (k + 1) xs ≡ take k xs ++ x ∷ []
-some-next [] k x e = absurd (let z = e in cc)
-some-next (y ∷ xs) zero x e = let z : x ≡ y = cc in ap (λ u. u ∷ []) (sym z)
-some-next (y ∷ xs) (suc k) x e = let n : suc k + 1 ≡ suc (k + 1) = omega arith in ap (λ j. take j (y ∷ xs)) n ∙ ap (λ l. y ∷ l) (some-next xs k x e)
+  pub unplaced : None ≡ only_place e x → only_site (sites_of game x) ≡ None
+  unplaced p = unplaced-at (e.count x == 1) refl p
 
-abbrev pub row : Option Definition → ℕ → Option (ℕ × ℕ)
-row o k = option_and_then (λ (d : Definition). slice_get d.replications k) o
+  placed-at : (c : Bool) → (e.count x == 1) ≡ c → (q : ℕ) → Some q ≡ (if c then option_map (λ (d : Definition). d.place) (e.first x) else None) → Only game (only_site (sites_of game x)) (e.first x) × (Some q ≡ option_map (λ (d : Definition). d.place) (e.first x))
+  placed-at true i q p = (is-only ds large game x e w same (e.count x) refl (eqb-true (e.count x) 1 i), p)
+  placed-at false i q p = absurd (let z = p in cc)
 
-pub no-row : (o : Option Definition) (k : ℕ) → None ≡ row o k → take k (replications_by o) ≡ replications_by o
-no-row None k e = take_all k [] (omega arith)
-no-row (Some d) k e = take_all k d.replications (none-past d.replications k e)
-
-pub next-row : (o : Option Definition) (k : ℕ) (r : ℕ × ℕ) → Some r ≡ row o k → take (k + 1) (replications_by o) ≡ take k (replications_by o) ++ r ∷ []
-next-row None k r e = absurd (let z = e in cc)
-next-row (Some d) k r e = some-next d.replications k r e
+  pub placed : (q : ℕ) → Some q ≡ only_place e x → Only game (only_site (sites_of game x)) (e.first x) × (Some q ≡ option_map (λ (d : Definition). d.place) (e.first x))
+  placed q p = placed-at (e.count x == 1) refl q p
 
 -- the site of a cell is that of its variable
 

@@ -4,7 +4,7 @@ use Rattle.cv_syntax.specs.declared.head.Head.{Head}
 use Rattle.cv_syntax.specs.declared.head.Head.TheVariants.{Leaf}
 use Rattle.cv_syntax.specs.Tree.{Tree, Empty, Node}
 use Rattle.cv_derivations.specs.Given.{given_for, or_node, with_given}
-use Rattle.cv_derive_lines.specs.Under.{under}
+use Rattle.cv_derive_substitution.specs.Under.{under}
 
 none-given : (terms : Tree) (h : Head) → given_for [] terms h ≡ None
 none-given terms (Leaf x) = refl

@@ -1,5 +1,5 @@
 -- What is found from the first line on is what may be cited.
-use Rattle.std.proofs.Common.{◌≡◌, ℕ, ◌+◌, ◌<◌, ◌≤◌, Bool, true, false, Option, Some, None, refl, sym, ap, ap₂, ◌∙◌, arith, lt-ltb, le-ltb, eq-eqb, ne_eqb, subst}
+use Rattle.std.proofs.Common.{◌≡◌, ℕ, ◌+◌, ◌<◌, ◌≤◌, Bool, true, false, Option, Some, None, refl, sym, ap, ap₂, ◌∙◌, arith, lt-ltb, le-ltb, eq-eqb, ne_eqb}
 use Rattle.std.specs.Prelude.{◌==◌, nat_lt, if◌then◌else◌}
 use Rattle.std.proofs.Math.Path.{fun_ext}
 use Rattle.cv_syntax.specs.declared.head.Head.TheVariants.{Not}
@@ -10,7 +10,7 @@ use Rattle.cv_derivations.specs.Inferences.{Visible}
 use Rattle.cv_derivations.specs.Lines.{Lines, End, By, Cases, Statement, Holds, count, lines_of}
 use Rattle.cv_scenes.specs.Reasons.{is_right}
 use Rattle.cv_scenes.specs.Sights.{Sight}
-use Rattle.cv_derive_lines.specs.Views.{cited_from}
+use Rattle.cv_derive_citing.specs.Citing.{cited_from}
 use Rattle.cv_derive.specs.Searching.{first_bad_in}
 
 -- options

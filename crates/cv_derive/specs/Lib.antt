@@ -1,4 +1,3 @@
-pub mod Cells
 pub mod Following
 pub mod Searching
 pub mod Seen

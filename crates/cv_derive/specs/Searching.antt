@@ -7,7 +7,7 @@ use Rattle.cv_scenes.specs.Derivations.{is_right_split, unless}
 use Rattle.cv_derivations.specs.Lines.{Lines, End, By, Cases, count}
 use Rattle.cv_scenes.specs.Reasons.{is_right}
 use Rattle.cv_scenes.specs.Sights.{Sight}
-use Rattle.cv_derive_lines.specs.Views.{cited_from}
+use Rattle.cv_derive_citing.specs.Citing.{cited_from}
 
 -- of lines that are part of all lines, where the first of them has the number n
 unfoldable pub first_bad_in : (all : Lines) → Sight → (assumed : Tree) → (n : ℕ) → Lines → Option ℕ

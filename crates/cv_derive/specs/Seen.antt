@@ -17,7 +17,9 @@ use Rattle.cv_scenes.specs.Terms.{above_at, replications_at}
 use Rattle.cv_rule_scenes.specs.Kept.{scene_of}
 use Rattle.cv_derivations.specs.Inferences.{Visible}
 use Rattle.cv_derivations.specs.Lines.{count, lines_of}
-use Rattle.cv_derive_lines.specs.Views.{cited_from}
+use Rattle.cv_derive_citing.specs.declared.citing.Citing.{Citing}
+use Rattle.cv_derive_citing.specs.Bookmarks.{visible_to}
+use Rattle.cv_derive_citing.specs.Citing.{cited_from}
 use Rattle.cv_derive_terms.specs.Typed.{IsSightOf}
 use Rattle.cv_derive.specs.declared.sight.Assumed.{Assumed}
 use Rattle.cv_derive.specs.declared.sight.Assumed.TheVariants as assumed
@@ -35,6 +37,9 @@ sight_of s = spec.sight_at (scene_of s.work.now.pool s.work.now.decls s.game.roo
 -- the lines that the line of a number may cite
 abbrev pub visible_of : Sight → ℕ → Visible
 visible_of s n = cited_from (lines_of (tree_at (trees_of s) s.lines)) 1 n
+
+abbrev pub visible_by : Sight → Citing → Visible
+visible_by s c = visible_to (trees_of s) c
 
 -- what is assumed
 abbrev pub assumed_of : List KindTree → Assumed → Tree

@@ -1,17 +1,11 @@
 -- The site of the variable of a cell, as the code has it.
-use Rattle.std.specs.Prelude.{◌≡◌, ℕ, List, [], Option, Some, None, option_and_then}
+use Rattle.std.specs.Prelude.{◌≡◌, Option, Some, None, option_and_then}
 use Rattle.cv_syntax.specs.Tree.{Tree}
-use Rattle.cv_directory.specs.Definitions.{Definition}
 use Rattle.cv_scope.specs.Above.{stands_at}
 use Rattle.cv_scope.specs.Behind.{sites_of}
 use Rattle.cv_scope.specs.Context.{Context}
 use Rattle.cv_scenes.specs.Sights.{only_site, variable_of}
 use Rattle.cv_derive.specs.declared.sites.Site.{Site}
-
--- the replications above a definition
-abbrev pub replications_by : Option Definition → List (ℕ × ℕ)
-replications_by None = []
-replications_by (Some d) = d.replications
 
 -- what stands behind the only definition of the variable of a cell
 abbrev pub site_in : (game cell : Tree) → Option Context

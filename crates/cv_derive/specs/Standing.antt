@@ -3,7 +3,7 @@ use Rattle.std.specs.Prelude.{ℕ, List, map}
 use Rattle.cv_syntax.specs.Tree.{Tree}
 use Rattle.cv_scope.specs.Above.{stands_at}
 use Rattle.cv_scenes.specs.Sights.{cells_by, facts_by}
-use Rattle.cv_derive_lines.specs.Under.{under}
+use Rattle.cv_derive_substitution.specs.Under.{under}
 
 abbrev pub facts_under : (game : Tree) → (place : ℕ) → List (ℕ × ℕ) → (terms : Tree) → List Tree
 facts_under game p names terms = map (under names terms) (facts_by (stands_at game p))

@@ -17,14 +17,18 @@ ghost use Rattle.cv_rule_scenes.specs.Kept.{scene_of};
 ghost use Rattle.cv_derivations.specs.Ends.{ends_with as ends_so};
 ghost use Rattle.cv_derivations.specs.Lines as derived;
 ghost use Rattle.cv_derivations.specs.Lines.{lines_of, statements};
+ghost use Rattle.cv_scenes.specs.Reasons as reasons;
+ghost use Rattle.cv_derive_lines.specs.Views.{IsClaimBelow, statement_of};
+ghost use Rattle.cv_derive_citing.specs.Bookmarks.{AreLines, Serves};
 ghost use Rattle.cv_derive.specs.Searching.{first_bad_in};
-ghost use Rattle.cv_derive.specs.Seen.{IsAssumedBelow, Sees, assumed_of, sight_of, trees_of};
+ghost use Rattle.cv_derive.specs.Seen.{IsAssumedBelow, Sees, assumed_of, sight_of, trees_of, visible_of};
 ghost use Rattle.cv_derive.specs.Verdicts.{verdict_of};
 ghost use Rattle.cv_derive.specs.declared.checking.DeriveFault.TheVariants.{LineBad, Targets};
 
 use crate::reasons::is_right;
 use crate::sight::{Assumed, Sight};
-use cv_derive_lines::{Line, count, ends_in, ends_with, line_of};
+use cv_derive_citing::{Bookmarks, Citing};
+use cv_derive_lines::{Claim, Line, count, ends_in, ends_with, line_of};
 use cv_derive_terms::is_condition;
 use cv_directory::Sort;
 use cv_syntax::{Game, NodeId, Work, read_node};
@@ -73,25 +77,63 @@ fn is_right_split(
         && ends_in(pool, second, conclusion)
 }
 
-/// The number of the first of these lines that isn't right, where the first of them has a number.
-fn first_bad(s: &Sight, assumed: Assumed, start: u32, lines: Option<NodeId>) -> Option<u32>
+/// Whether the line of a number is right, by what it says and its reason.
+fn is_right_line(
+    s: &Sight,
+    bookmarks: &Bookmarks,
+    assumed: Assumed,
+    number: u32,
+    claim: Claim,
+    reason: Option<NodeId>,
+) -> bool
+    requires sees { Sees s.now }
+    requires kept { AreLines (trees_of s.now) (lines_of (tree_at (trees_of s.now) s.now.lines))
+        number bookmarks.now }
+    requires assumed { IsAssumedBelow (length (trees_of s.now)) assumed }
+    requires claim { IsClaimBelow (length (trees_of s.now)) claim }
+    requires reason { ChildBelow (length (trees_of s.now)) reason }
+    ensures { result ≡ reasons.is_right (sight_of s.now) (assumed_of (trees_of s.now) assumed)
+        (visible_of s.now number) (statement_of (trees_of s.now) claim)
+        (tree_at (trees_of s.now) reason) }
+{
+    let citing = Citing {
+        lines: s.lines,
+        bookmarks,
+        number,
+    };
+    is_right(s, assumed, &citing, claim, reason)
+}
+
+/// The number of the first of these lines that isn't right, where the first of them has a number. The lines around that are
+/// kept serve them.
+fn first_bad(
+    s: &Sight,
+    around: &Bookmarks,
+    assumed: Assumed,
+    start: u32,
+    lines: Option<NodeId>,
+) -> Option<u32>
     requires sees { Sees s.now }
     requires assumed { IsAssumedBelow (length (trees_of s.now)) assumed }
     requires live { ChildBelow (length (trees_of s.now)) lines }
-    requires fits { start + derived.count (lines_of (tree_at (trees_of s.now) lines)) < 2 ^ 32 }
+    requires serves { Serves (trees_of s.now) (lines_of (tree_at (trees_of s.now) s.now.lines))
+        around.now start (lines_of (tree_at (trees_of s.now) lines)) }
     ensures { result ≡ first_bad_in (lines_of (tree_at (trees_of s.now) s.now.lines))
-        (sight_of s.now) (assumed_of (trees_of s.now) assumed) start (lines_of (tree_at (trees_of s.now) lines)) }
+        (sight_of s.now) (assumed_of (trees_of s.now) assumed) start
+        (lines_of (tree_at (trees_of s.now) lines)) }
 {
     let pool = &s.work.pool;
+    let mut kept = around.inside();
     let mut n = start;
     let mut at = lines;
     'lines: while let Some(k) = at {
         let node = read_node(pool, k);
         match line_of(pool, node.first) {
             Line::By { claim, reason } => {
-                if !is_right(s, assumed, n, claim, reason) {
+                if !is_right_line(s, &kept, assumed, n, claim, reason) {
                     return Some(n);
                 }
+                kept.keep(n, claim, node.second);
                 n += 1;
             }
             Line::Cases {
@@ -102,15 +144,16 @@ fn first_bad(s: &Sight, assumed: Assumed, start: u32, lines: Option<NodeId>) -> 
             } => {
                 let middle = n + count(pool, first);
                 let end = middle + count(pool, second);
-                if let Some(bad) = first_bad(s, Assumed::Holds(condition), n, first) {
+                if let Some(bad) = first_bad(s, &kept, Assumed::Holds(condition), n, first) {
                     return Some(bad);
                 }
-                if let Some(bad) = first_bad(s, Assumed::Fails(condition), middle, second) {
+                if let Some(bad) = first_bad(s, &kept, Assumed::Fails(condition), middle, second) {
                     return Some(bad);
                 }
                 if !is_right_split(s, condition, first, second, conclusion) {
                     return Some(end);
                 }
+                kept.keep(end, Claim::Holds(conclusion), node.second);
                 n = end + 1;
             }
         }
@@ -174,7 +217,7 @@ pub fn check(
         place,
         lines: by,
     };
-    if let Some(n) = first_bad(&sight, Assumed::Nothing, 1, by) {
+    if let Some(n) = first_bad(&sight, &Bookmarks::new(), Assumed::Nothing, 1, by) {
         return Err(DeriveFault::LineBad(n));
     }
     if !ends_with(&work.pool, by, targets) {

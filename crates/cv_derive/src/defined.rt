@@ -3,19 +3,17 @@ ghost use Rattle.std.specs.List.{list_any};
 ghost use Rattle.cv_pool.specs.Nodes.{ChildBelow};
 ghost use Rattle.cv_syntax.specs.Tree.{same_tree, size, tree_at};
 ghost use Rattle.cv_scope.specs.Above.{stands_at};
-ghost use Rattle.cv_scope.specs.Context.{Context, cells_of, items};
+ghost use Rattle.cv_scope.specs.Context.{Context, cells_of};
 ghost use Rattle.cv_scenes.specs.Terms.{replications_by};
-ghost use Rattle.cv_derive.specs.Cells.{defined_second, is_among_under, own_behind};
+ghost use Rattle.cv_derive_cells.specs.Cells.{defined_second, is_among_under};
 ghost use Rattle.cv_derive.specs.Standing.{cells_under};
 ghost use Rattle.cv_derive.specs.Walks.{Descends};
 
-use crate::cells::{front, is_cell_under};
-use cv_derive_lines::same_under;
+use cv_derive_cells::{defines, front, own_behind};
 use cv_facts::above_behind;
 use cv_path::{Lies, place_in};
 use cv_scope::Position;
-use cv_syntax::children::second_of;
-use cv_syntax::{Game, Head, NodeId, Opened, Pool, Work, read_node};
+use cv_syntax::{Game, NodeId, Opened, Pool, Work, read_node};
 
 /// A node on the way to a place, with the place that is left below it, the indices of the branch around, the number of
 /// replications above, and whether the cell that is looked for is defined above.
@@ -29,79 +27,8 @@ struct Walk {
     found: bool,
 }
 
-/// Whether a cell is an item of a list, with terms for names.
-#[tactic(auto, using(crate::proofs::Patterns::patterns))]
-fn is_item_under(
-    pool: &Pool,
-    cell: Option<NodeId>,
-    list: Option<NodeId>,
-    names: &[(u32, u32)],
-    terms: Option<NodeId>,
-) -> bool
-    requires cell { ChildBelow (length pool.now.trees) cell }
-    requires list { ChildBelow (length pool.now.trees) list }
-    requires terms { ChildBelow (length pool.now.trees) terms }
-    ensures { result ≡ is_among_under names.now (tree_at pool.now.trees terms)
-        (tree_at pool.now.trees cell) (items (tree_at pool.now.trees list)) }
-{
-    let mut at = list;
-    'items: while let Some(n) = at {
-        let node = read_node(pool, n);
-        if same_under(pool, cell, node.first, names, terms) {
-            return true;
-        }
-        at = node.second;
-    }
-    false
-}
-
-/// Whether a cell is that of a variable of a list of binders below replications, with terms for names.
-#[tactic(auto, using(crate::proofs::Patterns::patterns))]
-fn is_bound_under(
-    pool: &Pool,
-    cell: Option<NodeId>,
-    list: Option<NodeId>,
-    replications: &[(u32, u32)],
-    names: &[(u32, u32)],
-    terms: Option<NodeId>,
-) -> bool
-    requires cell { ChildBelow (length pool.now.trees) cell }
-    requires list { ChildBelow (length pool.now.trees) list }
-    requires terms { ChildBelow (length pool.now.trees) terms }
-    ensures { result ≡ is_among_under names.now (tree_at pool.now.trees terms)
-        (tree_at pool.now.trees cell) (cells_of replications.now (tree_at pool.now.trees list)) }
-{
-    let mut at = list;
-    'binders: while let Some(n) = at {
-        let node = read_node(pool, n);
-        let Head::Binder(x, _) = node.head else {
-            return false;
-        };
-        if is_cell_under(pool, cell, x, replications, names, terms) {
-            return true;
-        }
-        at = node.second;
-    }
-    false
-}
-
-/// The indices of the branch whose list or condition a second child is.
-fn own_behind(position: Position, node: Opened, own: Option<NodeId>) -> Option<NodeId>
-    ensures { result ≡ own_behind position node.head node.first own }
-{
-    match node.head {
-        Head::Cons => match position {
-            Position::Guarded => None,
-            _ => own,
-        },
-        Head::Branch => node.first,
-        Head::Repl(_, _) => None,
-        _ => own,
-    }
-}
-
 /// Whether a cell is defined above, or a node below replications defines it for its second child, with terms for names.
-fn defines(
+fn is_found(
     pool: &Pool,
     cell: Option<NodeId>,
     walk: Walk,
@@ -123,22 +50,16 @@ fn defines(
     if walk.found {
         return true;
     }
-    match node.head {
-        Head::Cons => match walk.position {
-            Position::Guards => is_item_under(pool, cell, node.first, names, terms),
-            Position::Guarded => is_bound_under(pool, cell, walk.own, replications, names, terms),
-            _ => false,
-        },
-        Head::In(_) => {
-            let bound = second_of(pool, node.first);
-            is_bound_under(pool, cell, bound, replications, names, terms)
-        }
-        Head::New(x, _) => is_cell_under(pool, cell, x, replications, names, terms),
-        Head::Let(x, _) => is_cell_under(pool, cell, x, replications, names, terms),
-        Head::Key(x) => is_cell_under(pool, cell, x, replications, names, terms),
-        Head::Call(x, _) => is_cell_under(pool, cell, x, replications, names, terms),
-        _ => false,
-    }
+    defines(
+        pool,
+        cell,
+        walk.position,
+        walk.own,
+        node,
+        replications,
+        names,
+        terms,
+    )
 }
 
 /// One step down, where the place is not the walk's own node. The replications are those above
@@ -185,7 +106,7 @@ fn down(
                 position: walk.position.second(node.head),
                 own: own_behind(walk.position, node, walk.own),
                 above: above_behind(node.head, walk.above),
-                found: defines(pool, cell, walk, node, current, names, terms),
+                found: is_found(pool, cell, walk, node, current, names, terms),
             })
         }
     }

@@ -8,11 +8,12 @@ ghost use Rattle.cv_scenes.specs.Sights.{from_one};
 ghost use Rattle.cv_scenes.specs.Terms.{replications_by};
 ghost use Rattle.cv_facts.specs.Facts.{equation_of, fact_of, term_of};
 ghost use Rattle.cv_facts.specs.Walks.{node_of};
-ghost use Rattle.cv_derive_lines.specs.Under.{under};
+ghost use Rattle.cv_derive_substitution.specs.Under.{under};
 ghost use Rattle.cv_derive.specs.Standing.{facts_under};
 
-use crate::cells::{front, is_cell_under};
-use cv_derive_lines::{same_under, sides};
+use cv_derive_cells::{front, is_cell_under};
+use cv_derive_inferences::sides;
+use cv_derive_substitution::same_under;
 use cv_facts::{Fact, fact};
 use cv_syntax::children::is_empty;
 use cv_syntax::{Game, Head, NodeId, Pool, Work, read_node};

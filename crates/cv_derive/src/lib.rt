@@ -1,7 +1,6 @@
 // Derivations at a place of a game: which line is the first that isn't right, and whether the last ones are the targets.
 #![tactic(auto)]
 
-mod cells;
 mod checking;
 mod defined;
 mod facts;

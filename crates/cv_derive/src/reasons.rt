@@ -8,19 +8,24 @@ ghost use Rattle.cv_scenes.specs.Sights.{from_one, site_cells, site_facts};
 ghost use Rattle.cv_derivations.specs.Inferences as inferences;
 ghost use Rattle.cv_derivations.specs.Inferences.{number_of};
 ghost use Rattle.cv_derive_lines.specs.Views.{IsClaimBelow, statement_of};
+ghost use Rattle.cv_derive_citing.specs.Bookmarks.{CanCite};
 ghost use Rattle.cv_derive.specs.Following.{follows_by};
-ghost use Rattle.cv_derive.specs.Seen.{IsAssumedBelow, Sees, assumed_of, sight_of, trees_of, visible_of};
+ghost use Rattle.cv_derive.specs.Seen.{IsAssumedBelow, Sees, assumed_of, sight_of, trees_of, visible_by};
 
-use crate::cells::front;
 use crate::defined::is_defined_under;
 use crate::facts::is_fact_under;
 use crate::sight::{Assumed, Sight};
 use crate::sites::{is_site_cell, is_site_fact};
-use cv_derive_lines::{
-    Claim, cited_cell, cited_term, is_alone, is_both, is_left, is_over, is_reflexive, is_refuted,
-    is_replaced_by, is_right_side, is_symmetric, is_transitive, is_truth, number,
+use cv_derive_cells::front;
+use cv_derive_citing::{Citing, cited_cell, cited_term, number};
+use cv_derive_data::is_injective;
+use cv_derive_inferences::{
+    is_alone, is_both, is_left, is_over, is_reflexive, is_refuted, is_replaced_by, is_right_side,
+    is_symmetric, is_transitive,
 };
-use cv_derive_terms::{is_congruent, is_injective, is_instance, is_typed_claim};
+use cv_derive_lines::Claim;
+use cv_derive_terms::{is_congruent, is_instance, is_typed_claim};
+use cv_derive_truths::is_truth;
 use cv_syntax::children::{is_empty, read_child};
 use cv_syntax::{Head, NodeId, Opened, Pool, same};
 use cv_typing::Arrays;
@@ -41,20 +46,21 @@ fn is_fact(s: &Sight, k: Option<NodeId>, term: Option<NodeId>) -> bool
 /// Whether a term is the fact of a number at the site of a cited cell.
 fn is_fact_there(
     s: &Sight,
-    n: u32,
+    citing: &Citing,
     line: Option<NodeId>,
     k: Option<NodeId>,
     term: Option<NodeId>,
 ) -> bool
     requires sees { Sees s.now }
+    requires citing { CanCite (trees_of s.now) citing.now }
     requires line { ChildBelow (length (trees_of s.now)) line }
     requires number { ChildBelow (length (trees_of s.now)) k }
     requires term { ChildBelow (length (trees_of s.now)) term }
     ensures { result ≡ is_tree (from_one (site_facts (sight_of s.now)
-        (inferences.cited_cell (visible_of s.now n) (tree_at (trees_of s.now) line)))
+        (inferences.cited_cell (visible_by s.now citing.now) (tree_at (trees_of s.now) line)))
         (number_of (tree_at (trees_of s.now) k))) (tree_at (trees_of s.now) term) }
 {
-    let cell = cited_cell(&s.work.pool, s.lines, n, line);
+    let cell = cited_cell(&s.work.pool, citing, line);
     let k = number(&s.work.pool, k);
     match s.arrays {
         Arrays::OfGame(directory) => is_site_fact(s.work, s.game, directory, cell, k, term),
@@ -74,15 +80,16 @@ fn is_here(s: &Sight, cell: Option<NodeId>) -> bool
 }
 
 /// Whether a cell is directly defined at the site of a cited cell.
-fn is_there(s: &Sight, n: u32, line: Option<NodeId>, cell: Option<NodeId>) -> bool
+fn is_there(s: &Sight, citing: &Citing, line: Option<NodeId>, cell: Option<NodeId>) -> bool
     requires sees { Sees s.now }
+    requires citing { CanCite (trees_of s.now) citing.now }
     requires line { ChildBelow (length (trees_of s.now)) line }
     requires cell { ChildBelow (length (trees_of s.now)) cell }
     ensures { result ≡ list_any (same_tree (tree_at (trees_of s.now) cell))
         (site_cells (sight_of s.now)
-        (inferences.cited_cell (visible_of s.now n) (tree_at (trees_of s.now) line))) }
+        (inferences.cited_cell (visible_by s.now citing.now) (tree_at (trees_of s.now) line))) }
 {
-    let other = cited_cell(&s.work.pool, s.lines, n, line);
+    let other = cited_cell(&s.work.pool, citing, line);
     match s.arrays {
         Arrays::OfGame(directory) => is_site_cell(s.work, s.game, directory, other, cell),
         Arrays::OfSide(_, _) => false,
@@ -105,38 +112,40 @@ fn is_assumed(pool: &Pool, assumed: Assumed, term: Option<NodeId>) -> bool
 }
 
 /// Whether a term follows from cited lines by their terms alone.
-fn follows(s: &Sight, n: u32, term: Option<NodeId>, reason: Opened) -> bool
+fn follows(s: &Sight, citing: &Citing, term: Option<NodeId>, reason: Opened) -> bool
     requires sees { Sees s.now }
+    requires citing { CanCite (trees_of s.now) citing.now }
     requires term { ChildBelow (length (trees_of s.now)) term }
     requires first { ChildBelow (length (trees_of s.now)) reason.first }
     requires second { ChildBelow (length (trees_of s.now)) reason.second }
-    ensures { result ≡ follows_by (visible_of s.now n) (tree_at (trees_of s.now) term) reason.head
-        (tree_at (trees_of s.now) reason.first) (tree_at (trees_of s.now) reason.second) }
+    ensures { result ≡ follows_by (visible_by s.now citing.now)
+        (tree_at (trees_of s.now) term) reason.head (tree_at (trees_of s.now) reason.first)
+        (tree_at (trees_of s.now) reason.second) }
 {
     let pool = &s.work.pool;
     match reason.head {
         Head::ByRefl => is_reflexive(pool, term),
         Head::ByBool => is_truth(pool, term),
         _ => {
-            let line = cited_term(pool, s.lines, n, reason.first);
+            let line = cited_term(pool, citing, reason.first);
             match reason.head {
                 Head::BySym => is_symmetric(pool, line, term),
                 Head::ByTrans => {
-                    let next = cited_term(pool, s.lines, n, reason.second);
+                    let next = cited_term(pool, citing, reason.second);
                     is_transitive(pool, line, next, term)
                 }
                 Head::ByMp => {
-                    let next = cited_term(pool, s.lines, n, reason.second);
+                    let next = cited_term(pool, citing, reason.second);
                     is_replaced_by(pool, line, next, term)
                 }
                 Head::ByAnd => {
-                    let next = cited_term(pool, s.lines, n, reason.second);
+                    let next = cited_term(pool, citing, reason.second);
                     is_both(pool, line, next, term)
                 }
                 Head::ByLeft => is_left(pool, line, term),
                 Head::ByRight => is_right_side(pool, line, term),
                 Head::ByContra => {
-                    let next = cited_term(pool, s.lines, n, reason.second);
+                    let next = cited_term(pool, citing, reason.second);
                     is_refuted(pool, line, next, term)
                 }
                 Head::ByExfalso => is_alone(pool, Head::No, line),
@@ -151,16 +160,18 @@ fn follows(s: &Sight, n: u32, term: Option<NodeId>, reason: Opened) -> bool
 fn is_reason(
     s: &Sight,
     assumed: Assumed,
-    n: u32,
+    citing: &Citing,
     term: Option<NodeId>,
     reason: Option<NodeId>,
 ) -> bool
     requires sees { Sees s.now }
+    requires citing { CanCite (trees_of s.now) citing.now }
     requires assumed { IsAssumedBelow (length (trees_of s.now)) assumed }
     requires term { ChildBelow (length (trees_of s.now)) term }
     requires reason { ChildBelow (length (trees_of s.now)) reason }
     ensures { result ≡ reasons.is_reason (sight_of s.now) (assumed_of (trees_of s.now) assumed)
-        (visible_of s.now n) (tree_at (trees_of s.now) term) (tree_at (trees_of s.now) reason) }
+        (visible_by s.now citing.now) (tree_at (trees_of s.now) term)
+        (tree_at (trees_of s.now) reason) }
 {
     let pool = &s.work.pool;
     let Some(node) = read_child(pool, reason) else {
@@ -168,21 +179,27 @@ fn is_reason(
     };
     match node.head {
         Head::ByFact => is_fact(s, node.first, term),
-        Head::BySite => is_fact_there(s, n, node.first, node.second, term),
+        Head::BySite => is_fact_there(s, citing, node.first, node.second, term),
         Head::ByEquation => is_instance(s.work, s.arrays, s.above, node.first, node.second, term),
-        Head::ByCong => is_congruent(pool, s.above, s.lines, n, node.first, term),
+        Head::ByCong => is_congruent(pool, s.above, citing, node.first, term),
         Head::ByData => is_injective(s.work, term),
         Head::ByGiven => is_assumed(pool, assumed, term),
-        _ => follows(s, n, term, node),
+        _ => follows(s, citing, term, node),
     }
 }
 
 /// Whether a reason is one for a cell.
-fn is_reason_of_cell(s: &Sight, n: u32, cell: Option<NodeId>, reason: Option<NodeId>) -> bool
+fn is_reason_of_cell(
+    s: &Sight,
+    citing: &Citing,
+    cell: Option<NodeId>,
+    reason: Option<NodeId>,
+) -> bool
     requires sees { Sees s.now }
+    requires citing { CanCite (trees_of s.now) citing.now }
     requires cell { ChildBelow (length (trees_of s.now)) cell }
     requires reason { ChildBelow (length (trees_of s.now)) reason }
-    ensures { result ≡ reasons.is_reason_of_cell (sight_of s.now) (visible_of s.now n)
+    ensures { result ≡ reasons.is_reason_of_cell (sight_of s.now) (visible_by s.now citing.now)
         (tree_at (trees_of s.now) cell) (tree_at (trees_of s.now) reason) }
 {
     let pool = &s.work.pool;
@@ -191,40 +208,41 @@ fn is_reason_of_cell(s: &Sight, n: u32, cell: Option<NodeId>, reason: Option<Nod
     };
     match node.head {
         Head::ByHere => is_here(s, cell),
-        Head::ByOf => is_there(s, n, node.first, cell),
+        Head::ByOf => is_there(s, citing, node.first, cell),
         Head::ByExfalso => {
-            let line = cited_term(pool, s.lines, n, node.first);
+            let line = cited_term(pool, citing, node.first);
             is_alone(pool, Head::No, line)
         }
         Head::ByAgain => {
-            let line = cited_cell(pool, s.lines, n, node.first);
+            let line = cited_cell(pool, citing, node.first);
             same(pool, cell, line)
         }
         _ => false,
     }
 }
 
-/// Whether a line of this number is right: what it says is typed, and the reason is one for it.
+/// Whether a line is right: what it says is typed, and the reason is one for it.
 pub(crate) fn is_right(
     s: &Sight,
     assumed: Assumed,
-    n: u32,
+    citing: &Citing,
     claim: Claim,
     reason: Option<NodeId>,
 ) -> bool
     requires sees { Sees s.now }
+    requires citing { CanCite (trees_of s.now) citing.now }
     requires assumed { IsAssumedBelow (length (trees_of s.now)) assumed }
     requires claim { IsClaimBelow (length (trees_of s.now)) claim }
     requires reason { ChildBelow (length (trees_of s.now)) reason }
     ensures { result ≡ reasons.is_right (sight_of s.now) (assumed_of (trees_of s.now) assumed)
-        (visible_of s.now n) (statement_of (trees_of s.now) claim)
+        (visible_by s.now citing.now) (statement_of (trees_of s.now) claim)
         (tree_at (trees_of s.now) reason) }
 {
     if !is_typed_claim(s.work, s.arrays, s.above, claim) {
         return false;
     }
     match claim {
-        Claim::Holds(term) => is_reason(s, assumed, n, term, reason),
-        Claim::IsDefined(cell) => is_reason_of_cell(s, n, cell, reason),
+        Claim::Holds(term) => is_reason(s, assumed, citing, term, reason),
+        Claim::IsDefined(cell) => is_reason_of_cell(s, citing, cell, reason),
     }
 }

@@ -1,6 +1,5 @@
-ghost use Rattle.std.specs.Prelude.{◌≡◌, ◌<◌, ◌≤◌, ◌^◌, ℕ, List, Some, length};
+ghost use Rattle.std.specs.Prelude.{◌≡◌, ◌<◌, ◌^◌, Some, length};
 ghost use Rattle.std.specs.List.{list_any};
-ghost use Rattle.cv_pool.specs.KindTree.{KindTree};
 ghost use Rattle.cv_pool.specs.Nodes.{ChildBelow};
 ghost use Rattle.cv_syntax.specs.Declarations.{declarations};
 ghost use Rattle.cv_syntax.specs.Tree.{same_tree, size, tree_at};
@@ -9,51 +8,23 @@ ghost use Rattle.cv_directory.specs.Tables.{entries_in};
 ghost use Rattle.cv_scope.specs.Context.{Context};
 ghost use Rattle.cv_scope.specs.Phrases.{IsWellFormed};
 ghost use Rattle.cv_scenes.specs.Reasons.{is_tree};
-ghost use Rattle.cv_scenes.specs.Sights.{at_site, from_one, variable_of};
-ghost use Rattle.cv_derive.specs.Sites.{IsSite, replications_by, site_in};
+ghost use Rattle.cv_scenes.specs.Sights.{at_site, from_one};
+ghost use Rattle.cv_derive.specs.Sites.{IsSite, site_in};
 
 use crate::defined::is_defined_under;
 use crate::facts::is_fact_under;
 use arrayvec::ArrayVec;
+use cv_derive_cells::{only_definition, replications_of, variable};
 use cv_directory::Directory;
 use cv_facts::behind;
-use cv_syntax::children::{first_of, read_child};
-use cv_syntax::{Game, Head, NodeId, Pool, Work};
+use cv_syntax::children::first_of;
+use cv_syntax::{Game, NodeId, Work};
 
 /// The place of the process behind the only definition of a variable, and the replications above it.
 #[derive(Drop)]
 struct Site {
     place: u32,
     replications: ArrayVec<(u32, u32), 8>,
-}
-
-/// The variable of a cell.
-fn variable(pool: &Pool, cell: Option<NodeId>) -> Option<u32>
-    requires { ChildBelow (length pool.now.trees) cell }
-    ensures { result ≡ variable_of (tree_at pool.now.trees cell) }
-{
-    let node = read_child(pool, cell)?;
-    match node.head {
-        Head::Leaf(x) => Some(x),
-        Head::Read(x) => Some(x),
-        _ => None,
-    }
-}
-
-/// The replications above the first definition of a variable, where there are at most eight.
-fn replications_of(directory: &Directory, x: u32) -> ArrayVec<(u32, u32), 8>
-    ensures { (trees : List KindTree)
-        → length (replications_by ((entries_in trees directory.now).first x)) ≤ 8
-        → result.items ≡ replications_by ((entries_in trees directory.now).first x) }
-{
-    let mut found = ArrayVec::new();
-    'indices: for k in 0..8 {
-        let Some(replication) = directory.replication(x, k) else {
-            return found;
-        };
-        found.push(replication);
-    }
-    found
 }
 
 /// The site of the variable of a cell, where there is one definition of it.
@@ -70,10 +41,9 @@ fn site_of(work: &Work, game: Game, directory: &Directory, cell: Option<NodeId>)
         (tree_at work.now.pool.trees cell)) result }
 {
     let x = variable(&work.pool, cell)?;
-    if directory.count(x) != 1 {
+    let Some(definition) = only_definition(directory, x) else {
         return None;
-    }
-    let definition = directory.place(x)?;
+    };
     let place = behind(work, game, definition)?;
     Some(Site {
         place,

@@ -12,7 +12,7 @@ use Rattle.cv_derive_lines.specs.declared.lines.Line.{Line}
 use Rattle.cv_derive_lines.specs.declared.lines.Line.TheVariants as line
 use Rattle.cv_derive_lines.specs.declared.lines.Claim.{Claim}
 use Rattle.cv_derive_lines.specs.declared.lines.Claim.TheVariants as claim
-use Rattle.cv_derive_lines.specs.Views.{AreBelow, cited_from, front, in_front}
+use Rattle.cv_derive_lines.specs.Views.{AreBelow, front, in_front}
 
 pub no-lines : (t : Tree) → t ≡ Empty → lines_of t ≡ End
 unfolding lines_of
@@ -71,13 +71,6 @@ module _ (trees : List KindTree) (at : Option NodeId) (k : NodeId) (o : Opened) 
   unfolding count
   count-cases c d b u i = count-at ∙ ap (λ K. count (in_front trees K (lines_of (tree_at trees o.second)))) i
 
-  pub cited-at : (s n l : ℕ) → cited_from (lines_of (tree_at trees at)) s n l ≡ cited_from (in_front trees L (lines_of (tree_at trees o.second))) s n l
-  cited-at s n l = ap (λ ls. cited_from ls s n l) (line-at trees at k o L e f g)
-
 pub count-none : (t : Tree) → t ≡ Empty → count (lines_of t) ≡ 0
 unfolding count
 count-none t e = ap count (no-lines t e)
-
-pub cited-none : (t : Tree) (s n l : ℕ) → t ≡ Empty → cited_from (lines_of t) s n l ≡ None
-unfolding cited_from
-cited-none t s n l e = ap (λ ls. cited_from ls s n l) (no-lines t e)

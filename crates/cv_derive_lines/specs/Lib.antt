@@ -1,4 +1,2 @@
 pub mod Lasts
-pub mod Sides
-pub mod Under
 pub mod Views

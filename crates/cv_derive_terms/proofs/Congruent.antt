@@ -1,8 +1,8 @@
 -- Congruence, by the heads and the arguments of two terms.
-use Rattle.std.proofs.Common.{◌≡◌, ℕ, Bool, true, false, ◌&&◌, List, [], ◌∷◌, Option, Some, None, refl, sym, ap, ap₂, ◌∙◌}
+use Rattle.std.proofs.Common.{◌≡◌, ℕ, Bool, true, false, ◌&&◌, [], Some, None, refl, sym, ap, ap₂, ◌∙◌}
 use Rattle.std.specs.Prelude.{if◌then◌else◌}
 use Rattle.cv_syntax.specs.declared.head.Head.{Head}
-use Rattle.cv_syntax.specs.declared.head.Head.TheVariants.{Eq, And, Or, Not, Leaf, Read, Apply}
+use Rattle.cv_syntax.specs.declared.head.Head.TheVariants.{Eq, Leaf}
 use Rattle.cv_syntax.specs.Children.{is_empty}
 use Rattle.cv_syntax.specs.Head.{same_head}
 use Rattle.cv_syntax.specs.Tree.{Tree, Empty, Node}
@@ -12,9 +12,9 @@ use Rattle.cv_scope.specs.Rules.{is_index}
 use Rattle.cv_scenes.specs.Reasons.{are_congruent_by, arguments, is_congruent}
 use Rattle.cv_scenes.specs.Sights.{Sight}
 use Rattle.cv_scenes.specs.Terms.{replications_at}
-use Rattle.cv_derivations.specs.Inferences.{Visible, are_equal_by}
-use Rattle.cv_derive_lines.specs.Sides.{sides_of}
-use Rattle.cv_derive_lines.proofs.Forms.{tested}
+use Rattle.cv_derivations.specs.Inferences.{Visible}
+use Rattle.cv_derive_inferences.specs.Sides.{sides_of}
+use Rattle.cv_derive_inferences.proofs.Forms.{tested}
 use Rattle.cv_derive_terms.proofs.Listing.{no-more}
 
 module _ (s : Sight) (v : Visible) (ls : Tree) where

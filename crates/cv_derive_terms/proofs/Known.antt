@@ -12,7 +12,7 @@ use Rattle.cv_typing.specs.declared.arrays.Arrays.{Arrays}
 use Rattle.cv_typing.specs.declared.precedence.Precedence.TheVariants.{First}
 use Rattle.cv_typing.specs.Parts.{nothing_above}
 use Rattle.cv_typing.specs.Signature.{Above, variable_in}
-use Rattle.cv_typing.specs.Tables.{Map, above_of, arrays_of}
+use Rattle.cv_typing.specs.Tables.{Map, above_of}
 use Rattle.cv_typing.specs.Wants.{bound}
 use Rattle.cv_scope.specs.Rules.{is_index}
 use Rattle.cv_scenes.specs.Sights.{Sight}

@@ -1,6 +1,5 @@
 mod Congruent
 mod Equations
-mod Injective
 pub mod Known
 mod Listing
 pub mod Phrased

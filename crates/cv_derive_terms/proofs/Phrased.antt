@@ -1,5 +1,5 @@
 -- In a phrase of terms all names are there, and it is typed, exactly where each node is so by itself.
-use Rattle.std.proofs.Common.{◌≡◌, ℕ, ◌+◌, Bool, true, false, not, ◌&&◌, Option, Some, None, refl, sym, ap, ap₂, ◌∙◌}
+use Rattle.std.proofs.Common.{◌≡◌, ℕ, ◌+◌, Bool, true, false, not, ◌&&◌, Option, Some, None, refl, ap, ap₂, ◌∙◌}
 use Rattle.std.specs.Prelude.{◌||◌, is_some}
 use Rattle.std.proofs.lemmas.Bool.{and_parts}
 use Rattle.cv_syntax.specs.declared.head.Head.{Head}
@@ -7,7 +7,6 @@ use Rattle.cv_syntax.specs.declared.head.Head.TheVariants as head
 use Rattle.cv_syntax.specs.Head.{weight}
 use Rattle.cv_syntax.specs.Tree.{Tree, Empty, Node, size}
 use Rattle.cv_first_fault.specs.Walk.{first_of, placed}
-use Rattle.cv_typing.specs.declared.fault.Fault.{Fault}
 use Rattle.cv_typing.specs.Signature.{Signature, Above}
 use Rattle.cv_typing.specs.Typing.{fault_of, first_fault}
 use Rattle.cv_typing.specs.Wants.{Want, above_second, wants}

@@ -1,6 +1,5 @@
 -- Terms and cells of a sight, by what the code tests.
-use Rattle.std.proofs.Common.{◌≡◌, ℕ, Bool, true, false, not, ◌&&◌, List, refl, sym, ap, ◌∙◌}
-use Rattle.std.specs.Prelude.{is_some}
+use Rattle.std.proofs.Common.{◌≡◌, Bool, true, false, ◌&&◌, List, sym, ap, ◌∙◌}
 use Rattle.cv_pool.specs.KindTree.{KindTree}
 use Rattle.cv_syntax.specs.declared.decls.Decl.{Decl}
 use Rattle.cv_syntax.specs.Declarations.{declarations}
@@ -8,7 +7,7 @@ use Rattle.cv_syntax.specs.Tree.{Tree}
 use Rattle.cv_directory.specs.declared.sort.Sort.{Sort}
 use Rattle.cv_typing.specs.declared.arrays.Arrays.{Arrays}
 use Rattle.cv_typing.specs.Lookups.{signature_in}
-use Rattle.cv_typing.specs.Signature.{Signature, sort_of}
+use Rattle.cv_typing.specs.Signature.{sort_of}
 use Rattle.cv_typing.specs.Tables.{Map, above_of}
 use Rattle.cv_typing.specs.Wants.{AnyTerm}
 use Rattle.cv_scope.specs.Phrases.{Phrase, OneCell, Term, is_phrase}

@@ -1,55 +1,51 @@
-ghost use Rattle.std.specs.Prelude.{◌≡◌, ◌+◌, ◌<◌, ◌∷◌, ◌^◌, [], length};
+ghost use Rattle.std.specs.Prelude.{◌≡◌, ◌<◌, ◌∷◌, [], length};
 ghost use Rattle.cv_pool.specs.Nodes.{ChildBelow};
 ghost use Rattle.cv_syntax.specs.declared.head.Head.TheVariants.{Eq};
 ghost use Rattle.cv_syntax.specs.Tree.{Node, same_tree, tree_at};
 ghost use Rattle.cv_scope.specs.Context.{items};
 ghost use Rattle.cv_derivations.specs.Inferences as inferences;
-ghost use Rattle.cv_derivations.specs.Lines.{count, lines_of};
-ghost use Rattle.cv_derive_lines.specs.Views.{cited_from};
+ghost use Rattle.cv_derive_citing.specs.Bookmarks.{CanCite, visible_to};
 
-use cv_derive_lines::{cited_term, is_over};
+use cv_derive_citing::{Citing, cited_term};
+use cv_derive_inferences::is_over;
 use cv_syntax::children::is_empty;
 use cv_syntax::{Head, NodeId, Pool, read_node};
 
-/// Whether the line that the line of number n cites says that two terms are equal.
+/// Whether the line that is cited says that two terms are equal.
 pub fn is_equal_by(
     pool: &Pool,
-    lines: Option<NodeId>,
-    n: u32,
+    citing: &Citing,
     cited_claim: Option<NodeId>,
     left: Option<NodeId>,
     right: Option<NodeId>,
 ) -> bool
-    requires live { ChildBelow (length pool.now.trees) lines }
-    requires fits { 1 + count (lines_of (tree_at pool.now.trees lines)) < 2 ^ 32 }
+    requires citing { CanCite pool.now.trees citing.now }
     requires cited_claim { ChildBelow (length pool.now.trees) cited_claim }
     requires left { ChildBelow (length pool.now.trees) left }
     requires right { ChildBelow (length pool.now.trees) right }
     ensures { result ≡ same_tree (inferences.cited_term
-        (cited_from (lines_of (tree_at pool.now.trees lines)) 1 n)
+        (visible_to pool.now.trees citing.now)
         (tree_at pool.now.trees cited_claim))
         (Node Eq (tree_at pool.now.trees left) (tree_at pool.now.trees right)) }
 {
-    let line = cited_term(pool, lines, n, cited_claim);
+    let line = cited_term(pool, citing, cited_claim);
     is_over(pool, Head::Eq, left, right, line)
 }
 
-/// Whether lines that the line of number n cites say that the items of two lists are equal, one by one.
+/// Whether lines that are cited say that the items of two lists are equal, one by one.
 pub fn are_equal_by(
     pool: &Pool,
-    lines: Option<NodeId>,
-    n: u32,
+    citing: &Citing,
     cited_claim: Option<NodeId>,
     left: Option<NodeId>,
     right: Option<NodeId>,
 ) -> bool
-    requires live { ChildBelow (length pool.now.trees) lines }
-    requires fits { 1 + count (lines_of (tree_at pool.now.trees lines)) < 2 ^ 32 }
+    requires citing { CanCite pool.now.trees citing.now }
     requires cited_claim { ChildBelow (length pool.now.trees) cited_claim }
     requires left { ChildBelow (length pool.now.trees) left }
     requires right { ChildBelow (length pool.now.trees) right }
     ensures { result ≡ inferences.are_equal_by
-        (cited_from (lines_of (tree_at pool.now.trees lines)) 1 n)
+        (visible_to pool.now.trees citing.now)
         (items (tree_at pool.now.trees cited_claim)) (items (tree_at pool.now.trees left))
         (items (tree_at pool.now.trees right)) }
 {
@@ -66,7 +62,7 @@ pub fn are_equal_by(
             return false;
         };
         let there = read_node(pool, k);
-        if !is_equal_by(pool, lines, n, line.first, here.first, there.first) {
+        if !is_equal_by(pool, citing, line.first, here.first, there.first) {
             return false;
         }
         at = line.second;
@@ -82,19 +78,17 @@ pub fn are_equal_by(
 /// Whether the only line of a list says that two terms are equal.
 pub fn is_only_equal_by(
     pool: &Pool,
-    lines: Option<NodeId>,
-    n: u32,
+    citing: &Citing,
     cited_claim: Option<NodeId>,
     left: Option<NodeId>,
     right: Option<NodeId>,
 ) -> bool
-    requires live { ChildBelow (length pool.now.trees) lines }
-    requires fits { 1 + count (lines_of (tree_at pool.now.trees lines)) < 2 ^ 32 }
+    requires citing { CanCite pool.now.trees citing.now }
     requires cited_claim { ChildBelow (length pool.now.trees) cited_claim }
     requires left { ChildBelow (length pool.now.trees) left }
     requires right { ChildBelow (length pool.now.trees) right }
     ensures { result ≡ inferences.are_equal_by
-        (cited_from (lines_of (tree_at pool.now.trees lines)) 1 n)
+        (visible_to pool.now.trees citing.now)
         (items (tree_at pool.now.trees cited_claim)) (tree_at pool.now.trees left ∷ [])
         (tree_at pool.now.trees right ∷ []) }
 {
@@ -102,7 +96,7 @@ pub fn is_only_equal_by(
         return false;
     };
     let line = read_node(pool, l);
-    if !is_equal_by(pool, lines, n, line.first, left, right) {
+    if !is_equal_by(pool, citing, line.first, left, right) {
         return false;
     }
     is_empty(pool, line.second)

@@ -1,18 +1,18 @@
-ghost use Rattle.std.specs.Prelude.{◌≡◌, ◌+◌, ◌<◌, ◌∷◌, ◌^◌, [], length};
+ghost use Rattle.std.specs.Prelude.{◌≡◌, ◌<◌, ◌∷◌, [], length};
 ghost use Rattle.cv_pool.specs.Nodes.{ChildBelow};
 ghost use Rattle.cv_syntax.specs.Head.{same_head};
 ghost use Rattle.cv_syntax.specs.Tree.{tree_at};
 ghost use Rattle.cv_typing.specs.Tables.{above_of};
 ghost use Rattle.cv_scope.specs.Context.{items};
 ghost use Rattle.cv_derivations.specs.Inferences as inferences;
-ghost use Rattle.cv_derivations.specs.Lines.{count, lines_of};
-ghost use Rattle.cv_derive_lines.specs.Views.{cited_from};
+ghost use Rattle.cv_derive_citing.specs.Bookmarks.{CanCite, visible_to};
 ghost use Rattle.cv_scenes.specs.Reasons as reasons;
 ghost use Rattle.cv_scenes.specs.Sights.{Sight};
 ghost use Rattle.cv_scenes.specs.Terms.{above_at};
 
 use crate::arguments::{are_equal_by, is_equal_by, is_only_equal_by};
-use cv_derive_lines::sides;
+use cv_derive_citing::Citing;
+use cv_derive_inferences::sides;
 use cv_directory::Sort;
 use cv_syntax::children::{is_empty, read_child};
 use cv_syntax::{Head, NodeId, Opened, Pool, read_node};
@@ -21,21 +21,19 @@ use std::collections::HashMap;
 /// Whether two lines of a list say that the children of two nodes are equal.
 fn are_both_equal_by(
     pool: &Pool,
-    lines: Option<NodeId>,
-    n: u32,
+    citing: &Citing,
     cited_claims: Option<NodeId>,
     left: Opened,
     right: Opened,
 ) -> bool
-    requires live { ChildBelow (length pool.now.trees) lines }
-    requires fits { 1 + count (lines_of (tree_at pool.now.trees lines)) < 2 ^ 32 }
+    requires citing { CanCite pool.now.trees citing.now }
     requires cited_claims { ChildBelow (length pool.now.trees) cited_claims }
     requires first_left { ChildBelow (length pool.now.trees) left.first }
     requires second_left { ChildBelow (length pool.now.trees) left.second }
     requires first_right { ChildBelow (length pool.now.trees) right.first }
     requires second_right { ChildBelow (length pool.now.trees) right.second }
     ensures { result ≡ inferences.are_equal_by
-        (cited_from (lines_of (tree_at pool.now.trees lines)) 1 n)
+        (visible_to pool.now.trees citing.now)
         (items (tree_at pool.now.trees cited_claims))
         (tree_at pool.now.trees left.first ∷ tree_at pool.now.trees left.second ∷ [])
         (tree_at pool.now.trees right.first ∷ tree_at pool.now.trees right.second ∷ []) }
@@ -44,24 +42,22 @@ fn are_both_equal_by(
         return false;
     };
     let line = read_node(pool, l);
-    if !is_equal_by(pool, lines, n, line.first, left.first, right.first) {
+    if !is_equal_by(pool, citing, line.first, left.first, right.first) {
         return false;
     }
-    is_only_equal_by(pool, lines, n, line.second, left.second, right.second)
+    is_only_equal_by(pool, citing, line.second, left.second, right.second)
 }
 
-/// Whether lines that the line of number n cites say that the arguments of two nodes with one head are equal.
+/// Whether lines that are cited say that the arguments of two nodes with one head are equal.
 fn are_arguments_equal_by(
     pool: &Pool,
     above: &HashMap<u32, Sort>,
-    lines: Option<NodeId>,
-    n: u32,
+    citing: &Citing,
     cited_claims: Option<NodeId>,
     left: Opened,
     right: Opened,
 ) -> bool
-    requires live { ChildBelow (length pool.now.trees) lines }
-    requires fits { 1 + count (lines_of (tree_at pool.now.trees lines)) < 2 ^ 32 }
+    requires citing { CanCite pool.now.trees citing.now }
     requires cited_claims { ChildBelow (length pool.now.trees) cited_claims }
     requires first_left { ChildBelow (length pool.now.trees) left.first }
     requires second_left { ChildBelow (length pool.now.trees) left.second }
@@ -69,7 +65,7 @@ fn are_arguments_equal_by(
     requires second_right { ChildBelow (length pool.now.trees) right.second }
     ensures { (s : Sight) → above_of above.now ≡ above_at s.scene s.place
         → result ≡ reasons.are_congruent_by
-        (cited_from (lines_of (tree_at pool.now.trees lines)) 1 n)
+        (visible_to pool.now.trees citing.now)
         (items (tree_at pool.now.trees cited_claims))
         (reasons.arguments s left.head (tree_at pool.now.trees left.first)
         (tree_at pool.now.trees left.second))
@@ -78,7 +74,7 @@ fn are_arguments_equal_by(
 {
     match left.head {
         Head::Apply(_) | Head::Read(_) => {
-            are_equal_by(pool, lines, n, cited_claims, left.first, right.first)
+            are_equal_by(pool, citing, cited_claims, left.first, right.first)
         }
         Head::Leaf(x) => {
             if above.contains_key(&x) {
@@ -87,9 +83,9 @@ fn are_arguments_equal_by(
             is_empty(pool, cited_claims)
         }
         Head::Eq | Head::And | Head::Or => {
-            are_both_equal_by(pool, lines, n, cited_claims, left, right)
+            are_both_equal_by(pool, citing, cited_claims, left, right)
         }
-        Head::Not => is_only_equal_by(pool, lines, n, cited_claims, left.first, right.first),
+        Head::Not => is_only_equal_by(pool, citing, cited_claims, left.first, right.first),
         _ => false,
     }
 }
@@ -105,18 +101,16 @@ fn have_same_head(left: Head, right: Head) -> bool
 pub fn is_congruent(
     pool: &Pool,
     above: &HashMap<u32, Sort>,
-    lines: Option<NodeId>,
-    n: u32,
+    citing: &Citing,
     cited_claims: Option<NodeId>,
     term: Option<NodeId>,
 ) -> bool
-    requires live { ChildBelow (length pool.now.trees) lines }
-    requires fits { 1 + count (lines_of (tree_at pool.now.trees lines)) < 2 ^ 32 }
+    requires citing { CanCite pool.now.trees citing.now }
     requires cited_claims { ChildBelow (length pool.now.trees) cited_claims }
     requires term { ChildBelow (length pool.now.trees) term }
     ensures { (s : Sight) → above_of above.now ≡ above_at s.scene s.place
         → result ≡ reasons.is_congruent s
-        (cited_from (lines_of (tree_at pool.now.trees lines)) 1 n)
+        (visible_to pool.now.trees citing.now)
         (tree_at pool.now.trees cited_claims) (tree_at pool.now.trees term) }
 {
     let Some((left, right)) = sides(pool, Head::Eq, term) else {
@@ -131,5 +125,5 @@ pub fn is_congruent(
     if !have_same_head(m.head, k.head) {
         return false;
     }
-    are_arguments_equal_by(pool, above, lines, n, cited_claims, m, k)
+    are_arguments_equal_by(pool, above, citing, cited_claims, m, k)
 }

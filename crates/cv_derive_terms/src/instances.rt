@@ -9,7 +9,8 @@ ghost use Rattle.cv_scenes.specs.Sights.{Sight, from_one};
 ghost use Rattle.cv_derive_terms.specs.Typed.{IsSightOf};
 
 use crate::typing::is_term_of;
-use cv_derive_lines::{number, same_instance};
+use cv_derive_citing::number;
+use cv_derive_substitution::same_instance;
 use cv_directory::Sort;
 use cv_syntax::children::is_empty;
 use cv_syntax::{Head, NodeId, Work, read_node};

@@ -3,12 +3,10 @@
 
 mod arguments;
 mod congruence;
-mod data;
 mod instances;
 mod typing;
 
 pub use arguments::{are_equal_by, is_equal_by, is_only_equal_by};
 pub use congruence::is_congruent;
-pub use data::is_injective;
 pub use instances::is_instance;
 pub use typing::{is_condition, is_term, is_term_of, is_typed_claim};

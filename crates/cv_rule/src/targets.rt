@@ -4,7 +4,8 @@ ghost use Rattle.cv_syntax.specs.Tree.{tree_at};
 ghost use Rattle.cv_derivations.specs.Ends as ends;
 ghost use Rattle.cv_derivations.specs.Targets.{equality, falsity};
 
-use cv_derive_lines::{Claim, is_alone, is_over, last_claim};
+use cv_derive_inferences::{is_alone, is_over};
+use cv_derive_lines::{Claim, last_claim};
 use cv_syntax::{Head, NodeId, Pool};
 
 /// Whether a derivation ends with the line that two terms are equal.

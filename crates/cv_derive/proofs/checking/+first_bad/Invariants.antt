@@ -1,8 +1,9 @@
-use Rattle.std.proofs.Common.{◌≡◌, ◌+◌, ◌≤◌, length}
+use Rattle.std.proofs.Common.{◌≡◌, ◌≤◌, length}
 use Rattle.cv_pool.specs.Nodes.{ChildBelow}
 use Rattle.cv_syntax.specs.Tree.{tree_at}
 use Rattle.cv_syntax.specs.Walks.{above}
-use Rattle.cv_derivations.specs.Lines.{count, lines_of}
+use Rattle.cv_derivations.specs.Lines.{lines_of}
+use Rattle.cv_derive_citing.specs.Bookmarks.{Serves}
 use Rattle.cv_derive.specs.Searching.{first_bad_in}
 use Rattle.cv_derive.specs.Seen.{assumed_of, sight_of, trees_of}
 use Rattle.cv_derive.proofs.checking.+first_bad.Given as goal
@@ -14,7 +15,7 @@ abbrev pub invariant-lines : goal.invariant-lines
 invariant-lines l = record {
   live : ChildBelow (length (trees_of l.s)) l.at;
   less : above l.at ≤ above l.fn.lines;
-  fits : l.n + count (lines_of (tree_at (trees_of l.s) l.at)) ≤ l.fn.start + count (lines_of (tree_at (trees_of l.s) l.fn.lines));
+  serves : Serves (trees_of l.s) (lines_of (tree_at (trees_of l.s) l.s.lines)) l.kept l.n (lines_of (tree_at (trees_of l.s) l.at));
   same : first_bad_in (lines_of (tree_at (trees_of l.s) l.s.lines)) (sight_of l.s) (assumed_of (trees_of l.s) l.fn.assumed) l.n (lines_of (tree_at (trees_of l.s) l.at)) ≡ first_bad_in (lines_of (tree_at (trees_of l.s) l.s.lines)) (sight_of l.s) (assumed_of (trees_of l.s) l.fn.assumed) l.fn.start (lines_of (tree_at (trees_of l.s) l.fn.lines));
 }
 

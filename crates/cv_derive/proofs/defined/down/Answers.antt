@@ -41,7 +41,7 @@ returns-in-Behind-clause-descends c =
     let trees = c.args.pool.now.trees in
     let node = c.read_node-node.result in
     let walk = c.args.walk in
-    λ Γ i. second-reaches trees c.args.replications.now c.args.names.now (tree_at trees c.args.terms) (tree_at trees c.args.cell) walk.position c.second.result Γ (tree_at trees walk.at) node.head node.first node.second walk.own c.own_behind.result walk.at walk.above c.above_behind.result walk.left c.in-Behind.rest c.front-current.result.now walk.found c.defines.result (ap (tree_at trees) c.requires.at ∙ c.read_node-node.ensures.tree) c.in-Behind.ensures c.second.ensures c.own_behind.ensures c.above_behind.ensures i.own i.number c.front-current.ensures c.defines.ensures
+    λ Γ i. second-reaches trees c.args.replications.now c.args.names.now (tree_at trees c.args.terms) (tree_at trees c.args.cell) walk.position c.second.result Γ (tree_at trees walk.at) node.head node.first node.second walk.own c.own_behind.result walk.at walk.above c.above_behind.result walk.left c.in-Behind.rest c.front-current.result.now walk.found c.is_found.result (ap (tree_at trees) c.requires.at ∙ c.read_node-node.ensures.tree) c.in-Behind.ensures c.second.ensures c.own_behind.ensures c.above_behind.ensures i.own i.number c.front-current.ensures c.is_found.ensures
 
 pub returns-in-Behind-clause-fits : goal.returns-in-Behind-clause-fits
 returns-in-Behind-clause-fits c =

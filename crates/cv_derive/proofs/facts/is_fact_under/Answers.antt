@@ -4,7 +4,7 @@ use Rattle.cv_syntax.specs.Tree.{tree_at}
 use Rattle.cv_scope.specs.Above.{stands_at}
 use Rattle.cv_facts.specs.Facts.{fact_of, facts_at}
 use Rattle.cv_facts.proofs.Standings.{are_facts}
-use Rattle.cv_derive_lines.specs.Under.{under}
+use Rattle.cv_derive_substitution.specs.Under.{under}
 use Rattle.cv_derive.specs.Standing.{facts_under}
 use Rattle.cv_derive.proofs.Telling.{fact-missing, fact-there, no-fact}
 use Rattle.cv_derive.proofs.facts.is_fact_under.Goals as goal

@@ -4,8 +4,7 @@ use Rattle.cv_syntax.specs.Tree.{tree_at}
 use Rattle.cv_syntax.specs.Walks.{above}
 use Rattle.cv_scope.specs.Context.{items}
 use Rattle.cv_derivations.specs.Inferences.{are_equal_by}
-use Rattle.cv_derivations.specs.Lines.{lines_of}
-use Rattle.cv_derive_lines.specs.Views.{cited_from}
+use Rattle.cv_derive_citing.specs.Bookmarks.{visible_to}
 use Rattle.cv_derive_terms.proofs.arguments.are_equal_by.Given as goal
 
 abbrev pub invariant-lines : goal.invariant-lines
@@ -13,7 +12,7 @@ invariant-lines l = record {
   live : ChildBelow (length l.pool.trees) l.at;
   first : ChildBelow (length l.pool.trees) l.first;
   second : ChildBelow (length l.pool.trees) l.second;
-  same : are_equal_by (cited_from (lines_of (tree_at l.pool.trees l.fn.lines)) 1 l.fn.n) (items (tree_at l.pool.trees l.at)) (items (tree_at l.pool.trees l.first)) (items (tree_at l.pool.trees l.second)) ≡ are_equal_by (cited_from (lines_of (tree_at l.pool.trees l.fn.lines)) 1 l.fn.n) (items (tree_at l.pool.trees l.fn.cited_claim)) (items (tree_at l.pool.trees l.fn.left)) (items (tree_at l.pool.trees l.fn.right));
+  same : are_equal_by (visible_to l.pool.trees l.citing) (items (tree_at l.pool.trees l.at)) (items (tree_at l.pool.trees l.first)) (items (tree_at l.pool.trees l.second)) ≡ are_equal_by (visible_to l.pool.trees l.citing) (items (tree_at l.pool.trees l.fn.cited_claim)) (items (tree_at l.pool.trees l.fn.left)) (items (tree_at l.pool.trees l.fn.right));
 }
 
 abbrev pub decreases-lines : goal.decreases-lines

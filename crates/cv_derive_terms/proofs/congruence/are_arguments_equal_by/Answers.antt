@@ -1,7 +1,6 @@
-use Rattle.std.proofs.Common.{sym, ◌∙◌}
+use Rattle.std.proofs.Common.{◌∙◌}
 use Rattle.cv_syntax.specs.Tree.{tree_at}
-use Rattle.cv_derivations.specs.Lines.{lines_of}
-use Rattle.cv_derive_lines.specs.Views.{cited_from}
+use Rattle.cv_derive_citing.specs.Bookmarks.{visible_to}
 use Rattle.cv_derive_terms.proofs.Congruent.{of-index, of-variable}
 use Rattle.cv_derive_terms.proofs.Known.{index-at}
 use Rattle.cv_derive_terms.proofs.congruence.are_arguments_equal_by.Goals as goal
@@ -9,9 +8,9 @@ use Rattle.cv_derive_terms.proofs.congruence.are_arguments_equal_by.Goals as goa
 pub returns-then-contains_key : goal.returns-then-contains_key
 returns-then-contains_key c = λ s e.
     let trees = c.args.pool.now.trees in
-    of-index s (cited_from (lines_of (tree_at trees c.args.lines)) 1 c.args.n) (tree_at trees c.args.cited_claims) c.args.left.head (tree_at trees c.args.left.first) (tree_at trees c.args.left.second) (tree_at trees c.args.right.first) (tree_at trees c.args.right.second) c.in-Leaf.x c.contains_key.result c.in-Leaf.is (c.contains_key.ensures ∙ index-at c.args.above.now s e c.in-Leaf.x) c.if-contains_key.true
+    of-index s (visible_to trees c.args.citing.now) (tree_at trees c.args.cited_claims) c.args.left.head (tree_at trees c.args.left.first) (tree_at trees c.args.left.second) (tree_at trees c.args.right.first) (tree_at trees c.args.right.second) c.in-Leaf.x c.contains_key.result c.in-Leaf.is (c.contains_key.ensures ∙ index-at c.args.above.now s e c.in-Leaf.x) c.if-contains_key.true
 
 pub returns-else-contains_key : goal.returns-else-contains_key
 returns-else-contains_key c = λ s e.
     let trees = c.args.pool.now.trees in
-    of-variable s (cited_from (lines_of (tree_at trees c.args.lines)) 1 c.args.n) (tree_at trees c.args.cited_claims) c.args.left.head (tree_at trees c.args.left.first) (tree_at trees c.args.left.second) (tree_at trees c.args.right.first) (tree_at trees c.args.right.second) c.in-Leaf.x c.contains_key.result c.is_empty.result c.in-Leaf.is (c.contains_key.ensures ∙ index-at c.args.above.now s e c.in-Leaf.x) c.if-contains_key.false c.is_empty.ensures.test
+    of-variable s (visible_to trees c.args.citing.now) (tree_at trees c.args.cited_claims) c.args.left.head (tree_at trees c.args.left.first) (tree_at trees c.args.left.second) (tree_at trees c.args.right.first) (tree_at trees c.args.right.second) c.in-Leaf.x c.contains_key.result c.is_empty.result c.in-Leaf.is (c.contains_key.ensures ∙ index-at c.args.above.now s e c.in-Leaf.x) c.if-contains_key.false c.is_empty.ensures.test

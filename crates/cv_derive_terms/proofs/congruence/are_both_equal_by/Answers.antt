@@ -1,24 +1,23 @@
 use Rattle.std.proofs.Common.{◌∙◌}
 use Rattle.cv_syntax.specs.Tree.{tree_at}
 use Rattle.cv_syntax.proofs.Trees.{empty_at, node_at}
-use Rattle.cv_derivations.specs.Lines.{lines_of}
-use Rattle.cv_derive_lines.specs.Views.{cited_from}
+use Rattle.cv_derive_citing.specs.Bookmarks.{visible_to}
 use Rattle.cv_derive_terms.proofs.Listing.{two-differ, two-further, two-none}
 use Rattle.cv_derive_terms.proofs.congruence.are_both_equal_by.Goals as goal
 
 pub returns-in_default : goal.returns-in_default
 returns-in_default c =
     let trees = c.args.pool.now.trees in
-    two-none (cited_from (lines_of (tree_at trees c.args.lines)) 1 c.args.n) (tree_at trees c.args.cited_claims) (tree_at trees c.args.left.first) (tree_at trees c.args.right.first) (tree_at trees c.args.left.second) (tree_at trees c.args.right.second) (empty_at trees c.args.cited_claims c.in_default.is)
+    two-none (visible_to trees c.args.citing.now) (tree_at trees c.args.cited_claims) (tree_at trees c.args.left.first) (tree_at trees c.args.right.first) (tree_at trees c.args.left.second) (tree_at trees c.args.right.second) (empty_at trees c.args.cited_claims c.in_default.is)
 
 pub returns-then-not-is_equal_by : goal.returns-then-not-is_equal_by
 returns-then-not-is_equal_by c =
     let trees = c.args.pool.now.trees in
     let line = c.read_node-line.result in
-    two-differ (cited_from (lines_of (tree_at trees c.args.lines)) 1 c.args.n) (tree_at trees c.args.cited_claims) (tree_at trees c.args.left.first) (tree_at trees c.args.right.first) (tree_at trees c.args.left.second) (tree_at trees c.args.right.second) line.head (tree_at trees line.first) (tree_at trees line.second) (node_at trees c.args.cited_claims c.in-Some.l line c.in-Some.is c.read_node-line.ensures.tree) c.is_equal_by.result c.is_equal_by.ensures c.if-not-is_equal_by.true
+    two-differ (visible_to trees c.args.citing.now) (tree_at trees c.args.cited_claims) (tree_at trees c.args.left.first) (tree_at trees c.args.right.first) (tree_at trees c.args.left.second) (tree_at trees c.args.right.second) line.head (tree_at trees line.first) (tree_at trees line.second) (node_at trees c.args.cited_claims c.in-Some.l line c.in-Some.is c.read_node-line.ensures.tree) c.is_equal_by.result c.is_equal_by.ensures c.if-not-is_equal_by.true
 
 pub returns : goal.returns
 returns c =
     let trees = c.args.pool.now.trees in
     let line = c.read_node-line.result in
-    c.is_only_equal_by.ensures ∙ two-further (cited_from (lines_of (tree_at trees c.args.lines)) 1 c.args.n) (tree_at trees c.args.cited_claims) (tree_at trees c.args.left.first) (tree_at trees c.args.right.first) (tree_at trees c.args.left.second) (tree_at trees c.args.right.second) line.head (tree_at trees line.first) (tree_at trees line.second) (node_at trees c.args.cited_claims c.in-Some.l line c.in-Some.is c.read_node-line.ensures.tree) c.is_equal_by.result c.is_equal_by.ensures c.if-not-is_equal_by.false
+    c.is_only_equal_by.ensures ∙ two-further (visible_to trees c.args.citing.now) (tree_at trees c.args.cited_claims) (tree_at trees c.args.left.first) (tree_at trees c.args.right.first) (tree_at trees c.args.left.second) (tree_at trees c.args.right.second) line.head (tree_at trees line.first) (tree_at trees line.second) (node_at trees c.args.cited_claims c.in-Some.l line c.in-Some.is c.read_node-line.ensures.tree) c.is_equal_by.result c.is_equal_by.ensures c.if-not-is_equal_by.false

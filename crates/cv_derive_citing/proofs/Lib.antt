@@ -1,0 +1,4 @@
+mod Fronts
+mod Looking
+mod Saying
+pub mod Serving

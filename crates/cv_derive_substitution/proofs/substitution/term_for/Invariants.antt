@@ -1,0 +1,12 @@
+use Rattle.std.proofs.Common.{◌≡◌, length, drop}
+use Rattle.cv_pool.specs.Nodes.{ChildBelow}
+use Rattle.cv_syntax.specs.Tree.{tree_at}
+use Rattle.cv_derivations.specs.Given.{term_for}
+use Rattle.cv_derive_substitution.specs.Under.{names_of}
+use Rattle.cv_derive_substitution.proofs.substitution.term_for.Given as goal
+
+abbrev pub invariant-names : goal.invariant-names
+invariant-names l = record {
+  live : ChildBelow (length l.pool.trees) l.at;
+  rest : term_for (names_of (drop l.k l.names)) (tree_at l.pool.trees l.at) l.x ≡ term_for (names_of l.names) (tree_at l.pool.trees l.fn.terms) l.x;
+}
