@@ -10,6 +10,14 @@ use Rattle.cv_path.specs.Copies.{guards}
 use Rattle.cv_scenes.specs.Pruning.{branch_body, without_branch}
 use Rattle.cv_draw_pruning.specs.Lefts.{before_body, cell_of, items}
 
+-- what a test of heads leaves out, proved once for all heads
+
+pub none-some : {A : Type 0} (x : A) → None ≡ Some x → ⊥
+none-some x e = absurd (cc)
+
+plus-nothing : (p n : ℕ) → p + 0 + n ≡ p + n
+plus-nothing p n = omega arith
+
 abbrev as-node : Option (Tree × Tree) → Tree
 as-node None = Empty
 as-node (Some p) = Node Cons p.0 p.1
@@ -18,9 +26,9 @@ some-pair : (x y b m : Tree) → cell_of (Node Cons x y) ≡ Some (b, m) → Nod
 some-pair x y b m e = ap as-node e
 
 pub cell-is : (t b m : Tree) → cell_of t ≡ Some (b, m) → t ≡ Node Cons b m
-cell-is Empty b m e = absurd (cc)
+cell-is Empty b m e = absurd (none-some (b, m) e)
 cell-is (Node Cons x y) b m e = some-pair x y b m e
-cell-is (Node h x y) b m e = absurd (cc)
+cell-is (Node h x y) b m e = absurd (none-some (b, m) e)
 
 -- without a cell there is no branch
 pub no-cell : (p : ℕ) (t : Tree) (k : ℕ) → cell_of t ≡ None → branch_body p t k ≡ None
@@ -49,9 +57,9 @@ here-body p (Node h us rest) m = refl
 
 -- a later one
 pub later-body : (p : ℕ) (b m : Tree) (k : ℕ) → branch_body p (Node Cons b m) (suc (suc k)) ≡ branch_body (p + size b) m (suc k)
-later-body p Empty m k = let e : p + 0 + size Empty ≡ p + size Empty = omega arith in ap (λ q. branch_body q m (suc k)) e
-later-body p (Node Branch us rest) m k = let e : p + 0 + size (Node Branch us rest) ≡ p + size (Node Branch us rest) = omega arith in ap (λ q. branch_body q m (suc k)) e
-later-body p (Node h us rest) m k = let e : p + 0 + size (Node h us rest) ≡ p + size (Node h us rest) = omega arith in ap (λ q. branch_body q m (suc k)) e
+later-body p Empty m k = ap (λ q. branch_body q m (suc k)) (plus-nothing p (size Empty))
+later-body p (Node Branch us rest) m k = ap (λ q. branch_body q m (suc k)) (plus-nothing p (size (Node Branch us rest)))
+later-body p (Node h us rest) m k = ap (λ q. branch_body q m (suc k)) (plus-nothing p (size (Node h us rest)))
 
 pub step-body : (p : ℕ) (t b m : Tree) (k : ℕ) → t ≡ Node Cons b m → 2 ≤ k → branch_body p t k ≡ branch_body (p + size b) m (k - 1)
 step-body p t b m zero e l = absurd (omega (arith, l))
@@ -93,10 +101,10 @@ cell-size t b m e = omega (arith, size-node t Cons b m e)
 -- a branch of this number is there
 pub enough-items : (p : ℕ) (t : Tree) (k x : ℕ) → branch_body p t k ≡ Some x → k ≤ items t
 enough-items p t zero x e = omega arith
-enough-items p Empty (suc k) x e = absurd (cc)
+enough-items p Empty (suc k) x e = absurd (none-some x e)
 enough-items p (Node Cons b m) (suc zero) x e = omega arith
 enough-items p (Node Cons b m) (suc (suc k)) x e = let r = enough-items (p + size b) m (suc k) x (sym (later-body p b m k) ∙ e) in omega (arith, r)
-enough-items p (Node h b m) (suc k) x e = absurd (cc)
+enough-items p (Node h b m) (suc k) x e = absurd (none-some x e)
 
 -- what a first item is
 

@@ -10,7 +10,10 @@ use Rattle.cv_scenes.specs.Pruning.{Part, Then, Else, Pruned, pruned, branch_bod
 use Rattle.cv_scenes.specs.Pruning as part
 use Rattle.cv_draw_pruning.specs.Bodies.{nodes_of, nodes_unless_empty}
 use Rattle.cv_draw_pruning.specs.Lefts.{bodies_of, cell_of, is_find, left_of}
-use Rattle.cv_draw_pruning.proofs.Branches.{later-body, no-number}
+use Rattle.cv_draw_pruning.proofs.Branches.{later-body, no-number, none-some}
+
+false-true : false ≡ true → ⊥
+false-true e = absurd (cc)
 
 -- an `if`
 
@@ -63,7 +66,7 @@ rest-left (Some b) t = refl
 
 pub find-body : (p : ℕ) (h : Head) (branches e : Tree) (k : ℕ) → is_find h ≡ true → option_map (λ b. b.body) (pruned p (Node h branches e) (part.Branch k)) ≡ branch_body (p + 1) branches k
 find-body p (Find l) branches e k f = rest-body (branch_body (p + 1) branches k) (find_of l (without_branch branches k) e)
-find-body p h branches e k f = absurd (cc)
+find-body p h branches e k f = absurd (false-true f)
 
 pub no-find : (p : ℕ) (h : Head) (branches e : Tree) (k : ℕ) → is_find h ≡ false → pruned p (Node h branches e) (part.Branch k) ≡ None
 no-find p (Find l) branches e k f = absurd (cc)
@@ -83,11 +86,11 @@ pub find-left : (p : ℕ) (h : Head) (branches e : Tree) (k : ℕ) → is_find h
 find-left p (Find l) branches e k f =
     rest-left (branch_body (p + 1) branches k) (find_of l (without_branch branches k) e)
     ∙ ap (λ t. option_map (λ b. t) (branch_body (p + 1) branches k)) (find-with l (without_branch branches k) e)
-find-left p h branches e k f = absurd (cc)
+find-left p h branches e k f = absurd (false-true f)
 
 pub find-nodes : (h : Head) (branches e : Tree) (k : ℕ) → is_find h ≡ true → nodes_of (Node h branches e) (part.Branch k) ≡ nodes_unless_empty (without_branch branches k) k
 find-nodes (Find l) branches e k f = refl
-find-nodes h branches e k f = absurd (cc)
+find-nodes h branches e k f = absurd (false-true f)
 
 pub if-nodes : (t : Tree) → nodes_of t Then ≡ 0
 if-nodes Empty = refl
@@ -140,15 +143,15 @@ size-second (Some p) = size p.1
 pub bodies-small : (h : Head) (c list : Tree) (x : Tree × Tree) → Some x ≡ bodies_of (Node h c list) → (weight h ≡ 1) × (size x.0 + size x.1 ≤ size list)
 unfolding size
 bodies-small If c (Node Cons t (Node Cons e n)) x f = (refl, omega (arith, ap size-first f, ap size-second f))
-bodies-small If c (Node Cons t (Node h e n)) x f = absurd (cc)
-bodies-small If c (Node Cons t Empty) x f = absurd (cc)
-bodies-small If c (Node h t r) x f = absurd (cc)
-bodies-small If c Empty x f = absurd (cc)
-bodies-small h c list x f = absurd (cc)
+bodies-small If c (Node Cons t (Node h e n)) x f = absurd (none-some x (sym f))
+bodies-small If c (Node Cons t Empty) x f = absurd (none-some x (sym f))
+bodies-small If c (Node h t r) x f = absurd (none-some x (sym f))
+bodies-small If c Empty x f = absurd (none-some x (sym f))
+bodies-small h c list x f = absurd (none-some x (sym f))
 
 pub find-weight : (h : Head) → is_find h ≡ true → weight h ≡ 1
 find-weight (Find l) f = refl
-find-weight h f = absurd (cc)
+find-weight h f = absurd (false-true f)
 
 -- a `find` stays where branches do
 
@@ -167,14 +170,8 @@ branches-stay p (Node h b m) (suc zero) x e n w = n refl
 branches-stay p (Node h b m) (suc (suc k)) x e n w = cc
 
 pub is-number : (p : ℕ) (t : Tree) (k x : ℕ) → branch_body p t k ≡ Some x → 1 ≤ k
-is-number p t zero x e = absurd (clash (sym (no-number p t) ∙ e))
-  where
-    clash : None ≡ Some x → ⊥
-    clash g = cc
+is-number p t zero x e = absurd (none-some x (sym (no-number p t) ∙ e))
 is-number p t (suc k) x e = omega arith
 
 pub not-empty : (t : Tree) → is_empty t ≡ false → t ≡ Empty → ⊥
-not-empty t e f = clash (sym (ap is_empty f) ∙ e)
-  where
-    clash : true ≡ false → ⊥
-    clash g = cc
+not-empty t e f = false-true (sym (sym (ap is_empty f) ∙ e))

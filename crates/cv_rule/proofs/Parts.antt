@@ -1,5 +1,5 @@
 -- What stands at a place of a tree ends within the tree.
-use Rattle.std.proofs.Common.{◌≡◌, ℕ, ◌+◌, ◌-◌, ◌<◌, ◌≤◌, Bool, true, false, nat_lt, if◌then◌else◌, Option, Some, None, refl, ap, arith}
+use Rattle.std.proofs.Common.{◌≡◌, ℕ, ◌+◌, ◌-◌, ◌<◌, ◌≤◌, Bool, true, false, nat_lt, if◌then◌else◌, Option, Some, None, refl, ap, arith, lit≤}
 use Rattle.std.proofs.lemmas.Bool.Decides.{nat_tests}
 use Rattle.cv_syntax.specs.declared.head.Head.{Head}
 use Rattle.cv_syntax.specs.declared.head.Head.TheVariants.{Cons}
@@ -8,8 +8,8 @@ use Rattle.cv_syntax.specs.Tree.{Tree, Empty, Node, size, subtree}
 use Rattle.cv_scenes.specs.Scenes.{or_empty, part_at}
 
 weight-one : (h : Head) → weight h ≤ 1
-weight-one Cons = omega arith
-weight-one h = omega arith
+weight-one Cons = lit≤ tt
+weight-one h = lit≤ tt
 
 module _ (h : Head) (a b : Tree) (p : ℕ) (part : Tree) where
   at-node : p < weight h → Node h a b ≡ part → p + size part ≤ size (Node h a b)

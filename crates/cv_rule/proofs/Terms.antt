@@ -1,5 +1,5 @@
 -- The way down to a term.
-use Rattle.std.proofs.Common.{◌≡◌, ℕ, ◌+◌, ◌-◌, false, Option, Some, None, refl, sym, ap, ap₂, ◌∙◌}
+use Rattle.std.proofs.Common.{◌≡◌, ℕ, ◌+◌, ◌-◌, false, Some, None, refl, sym, ap, ap₂, ◌∙◌}
 use Rattle.cv_syntax.specs.declared.head.Head.{Head}
 use Rattle.cv_syntax.specs.declared.head.Head.TheVariants.{Read}
 use Rattle.cv_syntax.specs.Head.{weight}
@@ -15,31 +15,19 @@ use Rattle.cv_steps.specs.Rewriting.{by_parts, has_term_at, is_term, parts_of}
 pub read-parts : (σ : grammar.Phrase) (h : Head) (x : ℕ) → h ≡ Read x → parts_of σ h ≡ (grammar.Nil, grammar.Nil)
 read-parts σ h x e = ap (parts_of σ) e
 
-some-same : (p q : grammar.Phrase × grammar.Phrase) → Some p ≡ Some q → p ≡ q
-some-same p q e = cc
+still-parts : (h : Head) (p : grammar.Phrase × grammar.Phrase) → ((x : ℕ) → h ≡ Read x → ⊥) → by_parts h (Some p) ≡ p
+still-parts (Read x) p n = absurd (n x refl)
+still-parts h p n = refl
 
-none-some : (q : grammar.Phrase × grammar.Phrase) → None ≡ Some q → ⊥
-none-some q e = absurd (cc)
-
-some-none : (q : grammar.Phrase × grammar.Phrase) → Some q ≡ None → ⊥
-some-none q e = absurd (cc)
+still-none : (h : Head) → ((x : ℕ) → h ≡ Read x → ⊥) → by_parts h None ≡ (grammar.Nil, grammar.Nil)
+still-none (Read x) n = absurd (n x refl)
+still-none h n = refl
 
 pub other-parts : (σ : grammar.Phrase) (h : Head) (p : grammar.Phrase × grammar.Phrase) → ((x : ℕ) → h ≡ Read x → ⊥) → grammar.parts σ h ≡ Some p → parts_of σ h ≡ p
-other-parts σ (Read x) p n e = absurd (n x refl)
-other-parts σ h p n e = given h n (grammar.parts σ h) e
-  where
-    given : (k : Head) → ((x : ℕ) → k ≡ Read x → ⊥) → (o : Option (grammar.Phrase × grammar.Phrase)) → o ≡ Some p → by_parts k o ≡ p
-    given (Read x) m o f = absurd (m x refl)
-    given k m None f = absurd (none-some p f)
-    given k m (Some q) f = some-same q p f
+other-parts σ h p n e = ap (by_parts h) e ∙ still-parts h p n
 
 pub no-parts : (σ : grammar.Phrase) (h : Head) → ((x : ℕ) → h ≡ Read x → ⊥) → grammar.parts σ h ≡ None → parts_of σ h ≡ (grammar.Nil, grammar.Nil)
-no-parts σ h n e = given h n (grammar.parts σ h) e
-  where
-    given : (k : Head) → ((x : ℕ) → k ≡ Read x → ⊥) → (o : Option (grammar.Phrase × grammar.Phrase)) → o ≡ None → by_parts k o ≡ (grammar.Nil, grammar.Nil)
-    given (Read x) m o f = absurd (m x refl)
-    given k m None f = refl
-    given k m (Some q) f = absurd (some-none q f)
+no-parts σ h n e = ap (by_parts h) e ∙ still-none h n
 
 -- one step down
 

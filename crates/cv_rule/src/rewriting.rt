@@ -1,4 +1,4 @@
-ghost use Rattle.std.specs.Prelude.{◌≡◌, ◌<◌, ◌^◌, IfOk, Some, length};
+ghost use Rattle.std.specs.Prelude.{◌≡◌, ◌<◌, ◌^◌, ◌&&◌, IfOk, Some, length};
 ghost use Rattle.cv_pool.specs.Nodes.{ChildBelow};
 ghost use Rattle.cv_directory.specs.Sites.{sites_of};
 ghost use Rattle.cv_syntax.specs.Tree.{size, tree_at};
@@ -44,7 +44,7 @@ fn is_term(phrase: Phrase) -> bool
 
 /// Whether at a place of a game stands a term that is no index and no cell.
 #[tactic(auto, using(cv_path::proofs::Going::going))]
-pub(crate) fn has_term_at(pool: &Pool, game: NodeId, place: u32) -> bool
+fn has_term_at(pool: &Pool, game: NodeId, place: u32) -> bool
     requires live { game.0 < length pool.now.trees }
     requires fits { size (tree_at pool.now.trees (Some game)) < 2 ^ 32 }
     ensures { result ≡ rewriting.has_term_at grammar.Inputs (tree_at pool.now.trees (Some game))
@@ -96,13 +96,23 @@ pub(crate) fn sort_at(
 }
 
 /// Whether a sort is that of the values of a type.
-pub(crate) fn is_value(sort: Option<Sort>) -> bool
+fn is_value(sort: Option<Sort>) -> bool
     ensures { result ≡ rewriting.is_value sort }
 {
     match sort {
         Some(Sort::OfType(_)) => true,
         _ => false,
     }
+}
+
+/// Whether at a place of a game stands a term of this sort that may be rewritten.
+pub(crate) fn is_rewritable(pool: &Pool, game: NodeId, place: u32, sort: Option<Sort>) -> bool
+    requires live { game.0 < length pool.now.trees }
+    requires fits { size (tree_at pool.now.trees (Some game)) < 2 ^ 32 }
+    ensures { result ≡ (rewriting.has_term_at grammar.Inputs
+        (tree_at pool.now.trees (Some game)) place && rewriting.is_value sort) }
+{
+    has_term_at(pool, game, place) && is_value(sort)
 }
 
 /// Whether a term is of a sort.

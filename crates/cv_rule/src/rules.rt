@@ -12,7 +12,7 @@ ghost use Rattle.cv_rule.specs.Prepared.{IsPrepared};
 ghost use Rattle.cv_rule.specs.Stated.{IsLiveDerivation, IsLiveRule, failing, failure_of, step_of};
 
 use crate::lines::bad_line;
-use crate::rewriting::{has_sort_of, has_term_at, is_value, sort_at};
+use crate::rewriting::{has_sort_of, is_rewritable, sort_at};
 use crate::targets::{ends_with_equality, ends_with_falsity};
 use cv_draw_pruning::{Body, body_to_prune};
 use cv_rule_scenes::{
@@ -248,13 +248,14 @@ fn rewrite_conditions(
 {
     let old = part_at(&work.pool, game, place);
     let sort = sort_at(alloc, work, game, arrays, place, old)?;
-    if !has_term_at(&work.pool, game, place) || !is_value(sort) {
+    if !is_rewritable(&work.pool, game, place, sort) {
         return Ok(Some(Failure {
             condition: 1,
             place,
         }));
     }
-    if !has_sort_of(sort, sort_at(alloc, work, game, arrays, place, Some(term))?) {
+    let new = sort_at(alloc, work, game, arrays, place, Some(term))?;
+    if !has_sort_of(sort, new) {
         return Ok(Some(Failure {
             condition: 2,
             place: 0,

@@ -1,4 +1,4 @@
-use Rattle.std.proofs.Common.{◌≡◌, ◌<◌, ◌^◌, List, length, None, sym, subst, arith}
+use Rattle.std.proofs.Common.{◌<◌, ◌^◌, List, length, None, sym, subst, arith}
 use Rattle.cv_pool.specs.KindTree.{KindTree}
 use Rattle.cv_syntax.specs.Tree.{Empty, tree_at}
 use Rattle.cv_syntax.proofs.Trees.{tree_at-None}

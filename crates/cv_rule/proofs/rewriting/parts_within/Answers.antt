@@ -1,5 +1,5 @@
-use Rattle.std.proofs.Common.{ap, sym, ◌∙◌}
-use Rattle.cv_rule_phrases.specs.Phrases.{both, parts_of, phrase_of}
+use Rattle.std.proofs.Common.{sym}
+use Rattle.cv_rule_phrases.specs.Phrases.{both, phrase_of}
 use Rattle.cv_rule.proofs.Terms.{no-parts, other-parts, read-parts}
 use Rattle.cv_rule.proofs.rewriting.parts_within.Goals as goal
 

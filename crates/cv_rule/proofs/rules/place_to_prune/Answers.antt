@@ -1,4 +1,4 @@
-use Rattle.std.proofs.Common.{arith, ◌≡◌, ◌∙◌, ◌+◌, ◌<◌, ◌^◌, Some, None, sym, ap, subst}
+use Rattle.std.proofs.Common.{arith, ◌∙◌, ◌+◌, ◌<◌, ◌^◌, Some, sym, ap, subst}
 use Rattle.std.specs.Prelude.{option_map}
 use Rattle.cv_syntax.specs.Tree.{size, tree_at}
 use Rattle.cv_syntax.proofs.Trees.{tree_at-None}
