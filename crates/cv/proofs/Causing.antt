@@ -38,11 +38,16 @@ use Rattle.cv_scope.specs.Refusals.{refusal as scope_refusal}
 use Rattle.cv_scope.specs.Scope.{first_scope_fault, names_of}
 use Rattle.cv_scope.specs.Standing.{at_root}
 use Rattle.cv_scope.proofs.First.{finds_first, scoped_where_none}
+use Rattle.cv_meaning.specs.Interpretation.{is_constant_of}
+use Rattle.cv_group.specs.declared.fault.GroupFault.{GroupFault}
+use Rattle.cv_group.specs.Refusals.{refused_by}
+use Rattle.cv_group_rules.specs.Faults.{GroupRule, equivalences_in}
+use Rattle.cv_group_rules.proofs.Deciding.{accepted-more as all_accepted, first-refused as first_group_refused}
 use Rattle.cv_query_form.specs.Queries.{queries_in}
 use Rattle.cv_query_form.proofs.First.{finds-first as first_refused_is_first}
 use Rattle.cv_accept.specs.declared.error.FileError.{FileError}
 use Rattle.cv_accept.specs.declared.error.FileError.TheVariants as fault
-use Rattle.cv_accept.specs.Accepted.{Content, IsFull, Refuses, block_by, block_of, content_of, has_equivalence, of_block, of_equivalences, of_parsed, of_queries, of_scopes, of_script, of_tokens, of_types, query_fault, read_of, scope_fault, there, type_fault}
+use Rattle.cv_accept.specs.Accepted.{Content, IsFull, Refuses, block_by, block_of, content_of, group_fault, of_block, of_groups, of_parsed, of_queries, of_scopes, of_script, of_tokens, of_types, query_fault, read_of, scope_fault, there, type_fault}
 use Rattle.cv_accept.specs.Places.{nodes_before}
 use Rattle.cv_accept.specs.Works.{script_in}
 use Rattle.cv_accept.proofs.Places.{behind_none, behind_some}
@@ -55,7 +60,7 @@ use Rattle.cv_report.specs.declared.report.Status.TheVariants as status
 use Rattle.cv_report.specs.declared.report.Verdict.TheVariants.{Proved, NotProved}
 use Rattle.cv_report.specs.declared.report.Which.TheVariants.{Steps}
 use Rattle.cv_syntax.specs.declared.work.File.{File}
-use Rattle.cv.specs.Causes.{ComesFrom, HasEquivalence, HasManyClosed, HasNoScript, HasOpenQuery, HasQueryFault, HasQueryWithoutStep, HasScopeFault, HasStep, HasStop, HasTypeFault, LacksRoom, OfTokens, Outside, block_signs, closed_count}
+use Rattle.cv.specs.Causes.{ComesFrom, HasGroupFault, HasManyClosed, HasNoScript, HasOpenQuery, HasQueryFault, HasQueryWithoutStep, HasScopeFault, HasStep, HasStop, HasTypeFault, LacksRoom, OfTokens, Outside, block_signs, closed_count}
 use Rattle.cv.specs.Causes as cause
 use Rattle.cv.specs.Faults.{parse_ended, status_of as ended_by}
 use Rattle.cv.specs.Words.{AreTold}
@@ -78,22 +83,23 @@ rank (fault.Parse e) = 1
 rank (fault.Script k) = 2
 rank (fault.Types e) = 3
 rank (fault.Scope e) = 4
-rank (fault.Query k) = 5
-rank fault.Unbuilt = 6
-rank fault.OutOfMemory = 7
-rank (fault.Room need) = 8
+rank (fault.Group k e) = 5
+rank (fault.Query k) = 6
+rank fault.Unbuilt = 7
+rank fault.OutOfMemory = 8
+rank (fault.Room need) = 9
 
 module _ (c : Content) (p : Parsed) where
-  queries_rank : (o : Option ℕ) (x : FileError) → of_queries c o ≡ Err x → 5 ≤ rank x
+  queries_rank : (o : Option ℕ) (x : FileError) → of_queries c o ≡ Err x → 6 ≤ rank x
   queries_rank None x e = absurd (cc)
-  queries_rank (Some k) x e = let s : fault.Query k ≡ x = cc in subst (λ y. 5 ≤ rank y) s (omega arith)
+  queries_rank (Some k) x e = let s : fault.Query k ≡ x = cc in subst (λ y. 6 ≤ rank y) s (omega arith)
 
-  equivalences_rank : (b : Bool) (x : FileError) → of_equivalences c p b ≡ Err x → 5 ≤ rank x
-  equivalences_rank false x e = queries_rank (query_fault p) x e
-  equivalences_rank true x e = let s : fault.Unbuilt ≡ x = cc in subst (λ y. 5 ≤ rank y) s (omega arith)
+  groups_rank : (o : Option (ℕ × GroupRule)) (x : FileError) → of_groups c p o ≡ Err x → 5 ≤ rank x
+  groups_rank None x e = let r = queries_rank (query_fault p) x e in omega arith
+  groups_rank (Some y) x e = let s : fault.Group y.0 (refused_by y.1) ≡ x = cc in subst (λ y. 5 ≤ rank y) s (omega arith)
 
   scopes_rank : (o : Option (ℕ × ScopeRules)) (x : FileError) → of_scopes c p o ≡ Err x → 4 ≤ rank x
-  scopes_rank None x e = let r = equivalences_rank (has_equivalence p.declarations) x e in omega arith
+  scopes_rank None x e = let r = groups_rank (group_fault p) x e in omega arith
   scopes_rank (Some y) x e = let s : fault.Scope (scope_refusal y.0 y.1) ≡ x = cc in subst (λ y. 4 ≤ rank y) s (omega arith)
 
   types_rank : (o : Option (ℕ × Fault)) (x : FileError) → of_types c p o ≡ Err x → 3 ≤ rank x
@@ -106,21 +112,25 @@ module _ (c : Content) (p : Parsed) where
   past_types None x r e = (refl, e)
   past_types (Some y) x r e = absurd (let s : fault.Types (refusal y.0 y.1) ≡ x = cc in let i = subst (λ y. rank y ≤ 3) s (omega arith) in omega arith)
 
-  past_scopes : (o : Option (ℕ × ScopeRules)) (x : FileError) → 5 ≤ rank x → of_scopes c p o ≡ Err x → (o ≡ None) × (of_equivalences c p (has_equivalence p.declarations) ≡ Err x)
+  past_scopes : (o : Option (ℕ × ScopeRules)) (x : FileError) → 5 ≤ rank x → of_scopes c p o ≡ Err x → (o ≡ None) × (of_groups c p (group_fault p) ≡ Err x)
   past_scopes None x r e = (refl, e)
   past_scopes (Some y) x r e = absurd (let s : fault.Scope (scope_refusal y.0 y.1) ≡ x = cc in let i = subst (λ y. rank y ≤ 4) s (omega arith) in omega arith)
 
-  past_equivalences : (b : Bool) (x : FileError) → rank x ≤ 5 → of_equivalences c p b ≡ Err x → (b ≡ false) × (of_queries c (query_fault p) ≡ Err x)
-  past_equivalences false x r e = (refl, e)
-  past_equivalences true x r e = absurd (let s : fault.Unbuilt ≡ x = cc in let i = subst (λ y. 6 ≤ rank y) s (omega arith) in omega arith)
+  past_groups : (o : Option (ℕ × GroupRule)) (x : FileError) → 6 ≤ rank x → of_groups c p o ≡ Err x → (o ≡ None) × (of_queries c (query_fault p) ≡ Err x)
+  past_groups None x r e = (refl, e)
+  past_groups (Some y) x r e = absurd (let s : fault.Group y.0 (refused_by y.1) ≡ x = cc in let i = subst (λ y. rank y ≤ 5) s (omega arith) in omega arith)
 
   by_types : (o : Option (ℕ × Fault)) (x : TypeFault) → of_types c p o ≡ Err (fault.Types x) → (q : ℕ) × (f : Fault) × (o ≡ Some (q, f)) × (refusal q f ≡ x)
   by_types None x e = absurd (let r = scopes_rank (scope_fault p) (fault.Types x) e in omega arith)
   by_types (Some (q, f)) x e = (q, f, refl, cc)
 
   by_scopes : (o : Option (ℕ × ScopeRules)) (x : ScopeFault) → of_scopes c p o ≡ Err (fault.Scope x) → (q : ℕ) × (f : ScopeRules) × (o ≡ Some (q, f)) × (scope_refusal q f ≡ x)
-  by_scopes None x e = absurd (let r = equivalences_rank (has_equivalence p.declarations) (fault.Scope x) e in omega arith)
+  by_scopes None x e = absurd (let r = groups_rank (group_fault p) (fault.Scope x) e in omega arith)
   by_scopes (Some (q, f)) x e = (q, f, refl, cc)
+
+  by_groups : (o : Option (ℕ × GroupRule)) (k : ℕ) (x : GroupFault) → of_groups c p o ≡ Err (fault.Group k x) → (rule : GroupRule) × (o ≡ Some (k, rule)) × (refused_by rule ≡ x)
+  by_groups None k x e = absurd (let r = queries_rank (query_fault p) (fault.Group k x) e in omega arith)
+  by_groups (Some (j, rule)) k x e = let s : j ≡ k = cc in (rule, ap (λ n. let o : Option (ℕ × GroupRule) = Some (n, rule) in o) s, cc)
 
   by_queries : (o : Option ℕ) (k : ℕ) → of_queries c o ≡ Err (fault.Query k) → o ≡ Some k
   by_queries None k e = absurd (cc)
@@ -156,12 +166,12 @@ script_rank ts p (Ok b) x e = let r = types_rank (content_of ts p b) p (type_fau
 script_rank ts p (Err y) x e = let s : of_block y ≡ x = cc in subst (λ z. 2 ≤ rank z) s (block_rank y)
 
 -- the fault of a block is neither of types, of scope nor of queries
-block_only : (y : ScriptError) (x : FileError) → 3 ≤ rank x → rank x ≤ 5 → of_block y ≡ x → ⊥
+block_only : (y : ScriptError) (x : FileError) → 3 ≤ rank x → rank x ≤ 6 → of_block y ≡ x → ⊥
 block_only (script.Script k) x l m e = let i = subst (λ y. rank y ≤ 2) e (omega arith) in omega arith
-block_only (script.Unbuilt k) x l m e = let i = subst (λ y. 6 ≤ rank y) e (omega arith) in omega arith
-block_only (script.Build b) x l m e = let i = subst (λ y. 6 ≤ rank y) e (omega arith) in omega arith
+block_only (script.Unbuilt k) x l m e = let i = subst (λ y. 7 ≤ rank y) e (omega arith) in omega arith
+block_only (script.Build b) x l m e = let i = subst (λ y. 7 ≤ rank y) e (omega arith) in omega arith
 
-past_script : (ts : List Token) (p : Parsed) (r : Result (Option Tree) ScriptError) (x : FileError) → 3 ≤ rank x → rank x ≤ 5 → of_script ts p r ≡ Err x → (block : Option Tree) × (r ≡ Ok block) × (of_types (content_of ts p block) p (type_fault p) ≡ Err x)
+past_script : (ts : List Token) (p : Parsed) (r : Result (Option Tree) ScriptError) (x : FileError) → 3 ≤ rank x → rank x ≤ 6 → of_script ts p r ≡ Err x → (block : Option Tree) × (r ≡ Ok block) × (of_types (content_of ts p block) p (type_fault p) ≡ Err x)
 past_script ts p (Ok b) x l m e = (b, refl, e)
 past_script ts p (Err y) x l m e = absurd (block_only y x l m (cc))
 
@@ -223,13 +233,13 @@ module _ (ts : List Token) (p : Parsed) (e : parsed most_pool (signs_of ts).sign
         first = finds_first (names_of p.declarations p.game) at_root p.game v.0 u.1 v.1;
       }
 
-  query_cause : (k : ℕ) → of_script ts p (block_of ts p) ≡ Err (fault.Query k) → HasQueryFault ts k
-  query_cause k i =
-      let s = past_script ts p (block_of ts p) (fault.Query k) (omega arith) (omega arith) i in
+  group_cause : (k : ℕ) (x : GroupFault) → of_script ts p (block_of ts p) ≡ Err (fault.Group k x) → HasGroupFault ts k x
+  group_cause k x i =
+      let s = past_script ts p (block_of ts p) (fault.Group k x) (omega arith) (omega arith) i in
       let c = content_of ts p s.0 in
-      let t = past_types c p (type_fault p) (fault.Query k) (omega arith) s.2 in
-      let u = past_scopes c p (scope_fault p) (fault.Query k) (omega arith) t.1 in
-      let v = past_equivalences c p (has_equivalence p.declarations) (fault.Query k) (omega arith) u.1 in
+      let t = past_types c p (type_fault p) (fault.Group k x) (omega arith) s.2 in
+      let u = past_scopes c p (scope_fault p) (fault.Group k x) (omega arith) t.1 in
+      let v = by_groups c p (group_fault p) k x u.1 in
       record {
         said = p;
         says = said_is_saying most_pool (signs_of ts).signs p e;
@@ -237,7 +247,26 @@ module _ (ts : List Token) (p : Parsed) (e : parsed most_pool (signs_of ts).sign
         block = s.1;
         typed = parts_typed_where_none p.declarations 0 (file_parts p.declarations p.game) t.0;
         scoped = scoped_where_none (names_of p.declarations p.game) at_root p.game (behind_none (nodes_before p.declarations) (first_scope_fault p.declarations p.game) u.0);
-        no_equivalence = v.0;
+        rule = v.0;
+        refused = sym v.2;
+        first = first_group_refused (is_constant_of p.declarations) (equivalences_in p.declarations) k v.0 v.1;
+      }
+
+  query_cause : (k : ℕ) → of_script ts p (block_of ts p) ≡ Err (fault.Query k) → HasQueryFault ts k
+  query_cause k i =
+      let s = past_script ts p (block_of ts p) (fault.Query k) (omega arith) (omega arith) i in
+      let c = content_of ts p s.0 in
+      let t = past_types c p (type_fault p) (fault.Query k) (omega arith) s.2 in
+      let u = past_scopes c p (scope_fault p) (fault.Query k) (omega arith) t.1 in
+      let v = past_groups c p (group_fault p) (fault.Query k) (omega arith) u.1 in
+      record {
+        said = p;
+        says = said_is_saying most_pool (signs_of ts).signs p e;
+        script = s.0;
+        block = s.1;
+        typed = parts_typed_where_none p.declarations 0 (file_parts p.declarations p.game) t.0;
+        scoped = scoped_where_none (names_of p.declarations p.game) at_root p.game (behind_none (nodes_before p.declarations) (first_scope_fault p.declarations p.game) u.0);
+        groups = all_accepted (is_constant_of p.declarations) (equivalences_in p.declarations) v.0;
         first = first_refused_is_first p.game (queries_in p.declarations) k (by_queries c p (query_fault p) k v.1);
       }
 
@@ -255,29 +284,18 @@ module _ (ts : List Token) (p : Parsed) (e : parsed most_pool (signs_of ts).sign
         dead = b.2;
       }
 
-  unbuilt_cause : of_script ts p (block_of ts p) ≡ Err fault.Unbuilt → HasStep ts ⊎ HasEquivalence ts
+  unbuilt_cause : of_script ts p (block_of ts p) ≡ Err fault.Unbuilt → HasStep ts
   unbuilt_cause i = go (block_of ts p) refl i
     where
-      with_equivalence : (b : Option Tree) → block_of ts p ≡ Ok b → (type_fault p ≡ None) → (scope_fault p ≡ None) → (v : Bool) → has_equivalence p.declarations ≡ v → of_equivalences (content_of ts p b) p v ≡ Err fault.Unbuilt → HasStep ts ⊎ HasEquivalence ts
-      with_equivalence b n t s true h j = inr (record {
-        said = p;
-        says = said_is_saying most_pool (signs_of ts).signs p e;
-        script = b;
-        block = n;
-        typed = parts_typed_where_none p.declarations 0 (file_parts p.declarations p.game) t;
-        scoped = scoped_where_none (names_of p.declarations p.game) at_root p.game (behind_none (nodes_before p.declarations) (first_scope_fault p.declarations p.game) s);
-        equivalence = h;
-      })
-      with_equivalence b n t s false h j = absurd (queries_are_built (content_of ts p b) p (query_fault p) j)
-
-      go : (r : Result (Option Tree) ScriptError) → block_of ts p ≡ r → of_script ts p r ≡ Err fault.Unbuilt → HasStep ts ⊎ HasEquivalence ts
+      go : (r : Result (Option Tree) ScriptError) → block_of ts p ≡ r → of_script ts p r ≡ Err fault.Unbuilt → HasStep ts
       go (Ok b) n j =
           let t = past_types (content_of ts p b) p (type_fault p) fault.Unbuilt (omega arith) j in
           let u = past_scopes (content_of ts p b) p (scope_fault p) fault.Unbuilt (omega arith) t.1 in
-          with_equivalence b n t.0 u.0 (has_equivalence p.declarations) refl u.1
+          let v = past_groups (content_of ts p b) p (group_fault p) fault.Unbuilt (omega arith) u.1 in
+          absurd (queries_are_built (content_of ts p b) p (query_fault p) v.1)
       go (Err y) n j =
           let f = by_unbuilt y (cc) in
-          inl (record { said = p; says = said_is_saying most_pool (signs_of ts).signs p e; token = f.0; refused = n ∙ ap Err f.1 })
+          record { said = p; says = said_is_saying most_pool (signs_of ts).signs p e; token = f.0; refused = n ∙ ap Err f.1 }
 
 -- a refusal of what tokens say comes from the tokens of the bytes
 
@@ -381,9 +399,10 @@ refusal_cause o r bytes a none x e = go x e
     go (fault.Script k) e = cause.script (in_told _ (refused_later bytes (fault.Script k) (λ ts. HasNoScript ts k) (omega arith) (λ ts p i j. script_cause ts p i k j) e))
     go (fault.Types x) e = cause.types (in_told _ (refused_later bytes (fault.Types x) (λ ts. HasTypeFault ts x) (omega arith) (λ ts p i j. type_cause ts p i x j) e))
     go (fault.Scope x) e = cause.scope (in_told _ (refused_later bytes (fault.Scope x) (λ ts. HasScopeFault ts x) (omega arith) (λ ts p i j. scope_cause ts p i x j) e))
+    go (fault.Group k x) e = cause.group (in_told _ (refused_later bytes (fault.Group k x) (λ ts. HasGroupFault ts k x) (omega arith) (λ ts p i j. group_cause ts p i k x j) e))
     go (fault.Query k) e = cause.query (in_told _ (refused_later bytes (fault.Query k) (λ ts. HasQueryFault ts k) (omega arith) (λ ts p i j. query_cause ts p i k j) e))
     go (fault.Room need) e = cause.script_room (subst (λ (f : Option File). IsNone f) (sym none) refl) (in_told (λ bs. IsFull most_pool bs need) e)
-    go fault.Unbuilt e = cause.unbuilt (in_told _ (refused_later bytes fault.Unbuilt (λ ts. HasStep ts ⊎ HasEquivalence ts) (omega arith) (λ ts p i j. unbuilt_cause ts p i j) e))
+    go fault.Unbuilt e = cause.unbuilt (in_told _ (refused_later bytes fault.Unbuilt (λ ts. HasStep ts) (omega arith) (λ ts p i j. unbuilt_cause ts p i j) e))
     go fault.OutOfMemory e = cause.memory
 
 -- more queries are closed than there may be steps

@@ -86,6 +86,7 @@ judged_fault (fault.Parse x) bytes e = judged_refusal (fault.Parse x) bytes e
 judged_fault (fault.Script k) bytes e = judged_refusal (fault.Script k) bytes e
 judged_fault (fault.Types x) bytes e = judged_refusal (fault.Types x) bytes e
 judged_fault (fault.Scope x) bytes e = judged_refusal (fault.Scope x) bytes e
+judged_fault (fault.Group k x) bytes e = judged_refusal (fault.Group k x) bytes e
 judged_fault (fault.Query k) bytes e = judged_refusal (fault.Query k) bytes e
 judged_fault (fault.Room need) bytes e = inr e
 judged_fault fault.Unbuilt bytes e = judged_refusal fault.Unbuilt bytes e

@@ -1,5 +1,5 @@
 -- What each answer comes from.
-use Rattle.std.specs.Prelude.{◌≡◌, ℕ, suc, ◌+◌, ◌-◌, ◌<◌, min, ◌⊎◌, Bool, false, true, map, if◌then◌else◌, List, [], ◌∷◌, ◌++◌, length, Option, Some, None, Ok, Err, IfSome, IsNone, IsSomeAnd}
+use Rattle.std.specs.Prelude.{◌≡◌, ℕ, suc, ◌+◌, ◌-◌, ◌<◌, min, Bool, false, true, map, if◌then◌else◌, List, [], ◌∷◌, ◌++◌, length, Option, Some, None, Ok, Err, IfSome, IsNone, IsSomeAnd}
 use Rattle.std.specs.List.{list_all, list_any, zip}
 use Rattle.cv_outside.specs.Causes.{Rose}
 use Rattle.cv_outside.specs.Told.{Files}
@@ -24,13 +24,17 @@ use Rattle.cv_scope.specs.declared.fault.ScopeFault.{ScopeFault}
 use Rattle.cv_scope.specs.declared.fault.Fault.{Fault}
 use Rattle.cv_scope.specs.Refusals.{refusal}
 use Rattle.cv_scope.specs.Scope.{IsFirstFault, IsScoped}
+use Rattle.cv_meaning.specs.Interpretation.{is_constant_of}
+use Rattle.cv_group.specs.declared.fault.GroupFault.{GroupFault}
+use Rattle.cv_group.specs.Refusals.{refused_by}
+use Rattle.cv_group_rules.specs.Faults.{AreAccepted, GroupRule, IsFirstGroupFault, equivalences_in}
 use Rattle.cv_query_form.specs.Queries.{queries_in}
 use Rattle.cv_query_form.specs.Rules.{IsFirstRefused}
 use Rattle.cv_syntax.specs.Tree.{Tree}
 use Rattle.cv_syntax.specs.declared.work.File.{File}
-use Rattle.cv_accept.specs.Accepted.{Content, IsFile, IsFull, block_of, has_equivalence}
+use Rattle.cv_accept.specs.Accepted.{Content, IsFile, IsFull, block_of}
 use Rattle.cv_accept.specs.Places.{nodes_before}
-use Rattle.cv_report.specs.declared.report.FileFault.TheVariants.{Lex, Parse, Script, Types, Scope, Query}
+use Rattle.cv_report.specs.declared.report.FileFault.TheVariants.{Lex, Parse, Script, Types, Scope, Group, Query}
 use Rattle.cv_report.specs.declared.report.Cause.TheVariants.{NoClose, Stuck}
 use Rattle.cv_report.specs.declared.report.Report.{Report}
 use Rattle.cv_report.specs.declared.report.Status.{Status}
@@ -88,8 +92,21 @@ pub record HasScopeFault (tokens : List Token) (e : ScopeFault) : Type 0 where
   pub refused : e ≡ refusal (nodes_before said.declarations + node) rules
   pub first : IsFirstFault said.declarations said.game node rules
 
--- The tokens are those of such a file that is typed and scoped, without an equivalence, and the k-th of its queries is the
--- first that may not be asked.
+-- The tokens are those of such a file that is typed and scoped, the k-th of its equivalences is the first that is not accepted,
+-- and this is the first rule that it breaks. A collision is an equivalence.
+pub record HasGroupFault (tokens : List Token) (k : ℕ) (e : GroupFault) : Type 0 where
+  pub said : Parsed
+  pub says : Says most_pool (signs_of tokens).signs said
+  pub script : Option Tree
+  pub block : block_of tokens said ≡ Ok script
+  pub typed : IsTypedFile said.declarations said.game
+  pub scoped : IsScoped said.declarations said.game
+  pub rule : GroupRule
+  pub refused : e ≡ refused_by rule
+  pub first : IsFirstGroupFault (is_constant_of said.declarations) (equivalences_in said.declarations) k rule
+
+-- The tokens are those of such a file that is typed and scoped, whose equivalences are accepted, and the k-th of its queries is
+-- the first that may not be asked.
 pub record HasQueryFault (tokens : List Token) (k : ℕ) : Type 0 where
   pub said : Parsed
   pub says : Says most_pool (signs_of tokens).signs said
@@ -97,7 +114,7 @@ pub record HasQueryFault (tokens : List Token) (k : ℕ) : Type 0 where
   pub block : block_of tokens said ≡ Ok script
   pub typed : IsTypedFile said.declarations said.game
   pub scoped : IsScoped said.declarations said.game
-  pub no_equivalence : has_equivalence said.declarations ≡ false
+  pub groups : AreAccepted (is_constant_of said.declarations) (equivalences_in said.declarations)
   pub first : IsFirstRefused said.game (queries_in said.declarations) k
 
 -- The tokens are those of a file whose proof block has a step that has no rule, behind steps that have one.
@@ -106,16 +123,6 @@ pub record HasStep (tokens : List Token) : Type 0 where
   pub says : Says most_pool (signs_of tokens).signs said
   pub token : ℕ
   pub refused : block_of tokens said ≡ Err (block.Unbuilt token)
-
--- The tokens are those of a typed and scoped file, whose proof block is a script if it has one, that declares an equivalence.
-pub record HasEquivalence (tokens : List Token) : Type 0 where
-  pub said : Parsed
-  pub says : Says most_pool (signs_of tokens).signs said
-  pub script : Option Tree
-  pub block : block_of tokens said ≡ Ok script
-  pub typed : IsTypedFile said.declarations said.game
-  pub scoped : IsScoped said.declarations said.game
-  pub equivalence : has_equivalence said.declarations ≡ true
 
 -- A file without a proof block has more queries that are closed than there may be steps.
 pub record HasManyClosed (bytes : List ℕ) : Type 0 where
@@ -198,8 +205,9 @@ pub data ComesFrom (o : Outside) (r : Report) : Status → Type 0 where
   script : {token : ℕ} → OfTold o (λ tokens. HasNoScript tokens token) → ComesFrom o r (status.FileRefused (Script token))
   types : {e : TypeFault} → OfTold o (λ tokens. HasTypeFault tokens e) → ComesFrom o r (status.FileRefused (Types e))
   scope : {e : ScopeFault} → OfTold o (λ tokens. HasScopeFault tokens e) → ComesFrom o r (status.FileRefused (Scope e))
+  group : {k : ℕ} {e : GroupFault} → OfTold o (λ tokens. HasGroupFault tokens k e) → ComesFrom o r (status.FileRefused (Group k e))
   query : {k : ℕ} → OfTold o (λ tokens. HasQueryFault tokens k) → ComesFrom o r (status.FileRefused (Query k))
-  unbuilt : OfTold o (λ tokens. HasStep tokens ⊎ HasEquivalence tokens) → ComesFrom o r status.Unbuilt
+  unbuilt : OfTold o HasStep → ComesFrom o r status.Unbuilt
   nodes : {count : ℕ} → OfSigns o (λ signs. IsLarge signs (HasNodes count)) → ComesFrom o r (status.Limit (Nodes count))
   deep : {depth : ℕ} → OfSigns o (λ signs. IsLarge signs (HasDepth depth)) → ComesFrom o r (status.Limit (Depth depth))
   pool : {need : ℕ} → IsNone r.file → most_pool < need → OfSigns o (λ signs. IsLarge signs (HasWeight most_pool need)) → ComesFrom o r (status.Limit (Pool need))

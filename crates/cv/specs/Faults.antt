@@ -4,7 +4,7 @@ use Rattle.cv_parse.specs.declared.error.ParseError.TheVariants as parse
 use Rattle.cv_syntax.specs.declared.work.BuildError.TheVariants as build
 use Rattle.cv_accept.specs.declared.error.FileError.{FileError}
 use Rattle.cv_accept.specs.declared.error.FileError.TheVariants as fault
-use Rattle.cv_report.specs.declared.report.FileFault.TheVariants.{Lex, Parse, Script, Types, Scope, Query}
+use Rattle.cv_report.specs.declared.report.FileFault.TheVariants.{Lex, Parse, Script, Types, Scope, Group, Query}
 use Rattle.cv_report.specs.declared.report.Status.{Status}
 use Rattle.cv_report.specs.declared.report.Status.TheVariants as status
 use Rattle.cv_report.specs.declared.report.Which.TheVariants.{Depth, Nodes, Pool}
@@ -23,6 +23,7 @@ status_of (fault.Parse e) = parse_ended e
 status_of (fault.Script token) = status.FileRefused (Script token)
 status_of (fault.Types e) = status.FileRefused (Types e)
 status_of (fault.Scope e) = status.FileRefused (Scope e)
+status_of (fault.Group k e) = status.FileRefused (Group k e)
 status_of (fault.Query k) = status.FileRefused (Query k)
 status_of (fault.Room need) = status.Limit (Pool need)
 status_of fault.Unbuilt = status.Unbuilt

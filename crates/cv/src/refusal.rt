@@ -50,6 +50,9 @@ pub fn status_of(fault: FileError) -> Status
         FileError::Script(token) => Status::FileRefused(FileFault::Script(token)),
         FileError::Types(fault) => Status::FileRefused(FileFault::Types(fault)),
         FileError::Scope(fault) => Status::FileRefused(FileFault::Scope(fault)),
+        FileError::Group { equiv, fault } => {
+            Status::FileRefused(FileFault::Group { equiv, fault })
+        }
         FileError::Query(k) => Status::FileRefused(FileFault::Query(k)),
         FileError::Room { need } => Status::Limit(Which::Pool { need }),
         FileError::Unbuilt => Status::Unbuilt,

@@ -1,5 +1,4 @@
 pub mod Blocks
-pub mod EquivalenceLists
 pub mod Lengths
 pub mod Places
 pub mod Readings

@@ -31,6 +31,12 @@ use Rattle.cv_scope.specs.Refusals.{IsRefusalOf as IsRefusal}
 use Rattle.cv_scope.specs.Scope.{first_scope_fault, names_of}
 use Rattle.cv_scope.specs.Standing.{at_root}
 use Rattle.cv_scope.proofs.First.{none_where_scoped, scoped_where_none}
+use Rattle.cv_meaning.specs.Interpretation.{is_constant_of}
+use Rattle.cv_group.specs.declared.fault.GroupFault.{GroupFault}
+use Rattle.cv_group.specs.declared.fault.GroupFault.TheVariants as group
+use Rattle.cv_group.specs.Refusals.{IsRefusalAt}
+use Rattle.cv_group_rules.specs.Faults.{GroupRule, equivalences_in}
+use Rattle.cv_group_rules.proofs.Deciding.{accepted-more as all-accepted, none-where-all as none-refused}
 use Rattle.cv_query_form.specs.declared.fault.QueryFault.{QueryFault}
 use Rattle.cv_query_form.specs.declared.fault.QueryFault.TheVariants as query
 use Rattle.cv_query_form.specs.Queries.{queries_in}
@@ -38,9 +44,9 @@ use Rattle.cv_query_form.specs.Refusals.{IsRefusalOf as IsQueryRefusal}
 use Rattle.cv_query_form.proofs.First.{asked-where-none, none-where-asked}
 use Rattle.cv_parse_laws.proofs.Games.{well_formed}
 use Rattle.cv_accept.specs.declared.error.FileError.{FileError}
-use Rattle.cv_accept.specs.declared.error.FileError.TheVariants.{Lex, Parse, Script, Types, Scope, Query, Room, Unbuilt, OutOfMemory}
-use Rattle.cv_accept.specs.Accepted.{Content, IsFile, IsFull, Refuses, block_of, content_of, has_equivalence, of_block, of_equivalences, of_parsed, of_queries, of_scopes, of_script, of_tokens, of_types, query_fault, read_of, scope_fault, type_fault}
-use Rattle.cv_accept.specs.Faults.{IsBlock, of_lex, of_parse, of_query, of_scope, of_type}
+use Rattle.cv_accept.specs.declared.error.FileError.TheVariants.{Lex, Parse, Script, Types, Scope, Group, Query, Room, Unbuilt, OutOfMemory}
+use Rattle.cv_accept.specs.Accepted.{Content, IsFile, IsFull, Refuses, block_of, content_of, group_fault, of_block, of_groups, of_parsed, of_queries, of_scopes, of_script, of_tokens, of_types, query_fault, read_of, scope_fault, type_fault}
+use Rattle.cv_accept.specs.Faults.{IsBlock, of_lex, of_parse, of_group, of_query, of_scope, of_type}
 use Rattle.cv_accept.specs.Places.{nodes_before}
 use Rattle.cv_accept.proofs.Places.{behind_none, none_behind}
 use Rattle.cv_syntax.specs.declared.work.Work.{Work}
@@ -108,6 +114,7 @@ module _ (limit live : ℕ) (bs : List ℕ) (ts : List Token) (p : Parsed) (t : 
   block_refuses trees (Script x) l w = by_error w.0 w.1 ∙ ap Err (sym w.2)
   block_refuses trees (Types x) l w = by_error w.0 w.1 ∙ ap Err (sym w.2)
   block_refuses trees (Scope x) l w = by_error w.0 w.1 ∙ ap Err (sym w.2)
+  block_refuses trees (Group k x) l w = by_error w.0 w.1 ∙ ap Err (sym w.2)
   block_refuses trees (Query x) l w = by_error w.0 w.1 ∙ ap Err (sym w.2)
   block_refuses trees Unbuilt l w = by_error w.0 w.1 ∙ ap Err (sym w.2)
 
@@ -134,14 +141,19 @@ module _ (limit : ℕ) (bs : List ℕ) (f : Content) (p : Parsed) where
   scope_refuses (scope.Replications n) h r = h ∙ ap (of_scopes f p) r
   scope_refuses scope.OutOfMemory h r = tt
 
-  pub by_scope : read_of limit bs ≡ of_scopes f p (scope_fault p) → scope_fault p ≡ None → read_of limit bs ≡ of_equivalences f p (has_equivalence p.declarations)
+  pub by_scope : read_of limit bs ≡ of_scopes f p (scope_fault p) → scope_fault p ≡ None → read_of limit bs ≡ of_groups f p (group_fault p)
   by_scope h n = h ∙ ap (of_scopes f p) n
 
-  pub equivalence_refuses : read_of limit bs ≡ of_equivalences f p (has_equivalence p.declarations) → has_equivalence p.declarations ≡ true → Refuses limit bs Unbuilt
-  equivalence_refuses h e = h ∙ ap (of_equivalences f p) e
+  pub group_refuses : (k : ℕ) (e : GroupFault) → read_of limit bs ≡ of_groups f p (group_fault p) → IsRefusalAt (group_fault p) k e → Refuses limit bs (of_group k e)
+  group_refuses k group.LeftNotTerm h r = h ∙ ap (of_groups f p) r
+  group_refuses k group.TwoIndices h r = h ∙ ap (of_groups f p) r
+  group_refuses k group.ShapeDiffers h r = h ∙ ap (of_groups f p) r
+  group_refuses k group.FreeName h r = h ∙ ap (of_groups f p) r
+  group_refuses k group.Unread h r = h ∙ ap (of_groups f p) r
+  group_refuses k group.OutOfMemory h r = tt
 
-  pub by_equivalences : read_of limit bs ≡ of_equivalences f p (has_equivalence p.declarations) → has_equivalence p.declarations ≡ false → read_of limit bs ≡ of_queries f (query_fault p)
-  by_equivalences h e = h ∙ ap (of_equivalences f p) e
+  pub by_groups : read_of limit bs ≡ of_groups f p (group_fault p) → group_fault p ≡ None → read_of limit bs ≡ of_queries f (query_fault p)
+  by_groups h n = h ∙ ap (of_groups f p) n
 
   pub query_refuses : (e : QueryFault) → read_of limit bs ≡ of_queries f (query_fault p) → IsQueryRefusal (query_fault p) e → Refuses limit bs (of_query e)
   query_refuses (query.Query k) h r = h ∙ ap (of_queries f) r
@@ -161,21 +173,21 @@ reads_on limit bs w (Err x) e i h = subst (Refuses limit bs) (sym i) h
 record Passed (c : Content) (p : Parsed) (f : Content) : Type 0 where
   types : type_fault p ≡ None
   scope : scope_fault p ≡ None
-  equivalences : has_equivalence p.declarations ≡ false
+  groups : group_fault p ≡ None
   queries : query_fault p ≡ None
   content : c ≡ f
 
 module _ (c : Content) (p : Parsed) (f : Content) where
-  from_queries : type_fault p ≡ None → scope_fault p ≡ None → has_equivalence p.declarations ≡ false → (o : Option ℕ) → query_fault p ≡ o → of_queries c o ≡ Ok f → Passed c p f
-  from_queries t s q None i e = record { types = t; scope = s; equivalences = q; queries = i; content = cc }
+  from_queries : type_fault p ≡ None → scope_fault p ≡ None → group_fault p ≡ None → (o : Option ℕ) → query_fault p ≡ o → of_queries c o ≡ Ok f → Passed c p f
+  from_queries t s q None i e = record { types = t; scope = s; groups = q; queries = i; content = cc }
   from_queries t s q (Some k) i e = absurd (cc)
 
-  from_equivalences : type_fault p ≡ None → scope_fault p ≡ None → (b : Bool) → has_equivalence p.declarations ≡ b → of_equivalences c p b ≡ Ok f → Passed c p f
-  from_equivalences t s false i e = from_queries t s i (query_fault p) refl e
-  from_equivalences t s true i e = absurd (cc)
+  from_groups : type_fault p ≡ None → scope_fault p ≡ None → (o : Option (ℕ × GroupRule)) → group_fault p ≡ o → of_groups c p o ≡ Ok f → Passed c p f
+  from_groups t s None i e = from_queries t s i (query_fault p) refl e
+  from_groups t s (Some x) i e = absurd (cc)
 
   from_scopes : type_fault p ≡ None → (o : Option (ℕ × ScopeRules)) → scope_fault p ≡ o → of_scopes c p o ≡ Ok f → Passed c p f
-  from_scopes t None i e = from_equivalences t i (has_equivalence p.declarations) refl e
+  from_scopes t None i e = from_groups t i (group_fault p) refl e
   from_scopes t (Some x) i e = absurd (cc)
 
   from_types : (o : Option (ℕ × Fault)) → type_fault p ≡ o → of_types c p o ≡ Ok f → Passed c p f
@@ -199,7 +211,7 @@ from_parsed limit bs ts f (Ok p) l e i =
       block = s.1;
       typed = parts_typed_where_none p.declarations 0 (file_parts p.declarations p.game) b.types;
       scoped = scoped_where_none (names_of p.declarations p.game) at_root p.game (behind_none (nodes_before p.declarations) (first_scope_fault p.declarations p.game) b.scope);
-      no_equivalence = b.equivalences;
+      groups = all-accepted (is_constant_of p.declarations) (equivalences_in p.declarations) b.groups;
       asked = asked-where-none p.game (queries_in p.declarations) b.queries;
       content = sym b.content;
     }
@@ -222,7 +234,7 @@ file_is_read limit bs f w =
     ∙ (ap (of_script w.tokens w.said) w.block
     ∙ (ap (of_types c w.said) (none_where_parts_typed w.said.declarations 0 (file_parts w.said.declarations w.said.game) w.typed)
     ∙ (ap (of_scopes c w.said) (none_behind (nodes_before w.said.declarations) (first_scope_fault w.said.declarations w.said.game) (none_where_scoped (names_of w.said.declarations w.said.game) at_root w.said.game w.scoped))
-    ∙ (ap (of_equivalences c w.said) w.no_equivalence
+    ∙ (ap (of_groups c w.said) (none-refused (is_constant_of w.said.declarations) (equivalences_in w.said.declarations) w.groups)
     ∙ (ap (of_queries c) (none-where-asked w.said.game (queries_in w.said.declarations) w.asked)
     ∙ ap Ok (sym w.content)))))))
 

@@ -1,6 +1,5 @@
 -- Files: what they hold, and which bytes are one.
-use Rattle.std.specs.Prelude.{◌≡◌, ℕ, ◌+◌, ◌<◌, min, Bool, true, false, List, length, Option, Some, None, option_map, Result, Ok, Err}
-use Rattle.std.specs.List.{list_any}
+use Rattle.std.specs.Prelude.{◌≡◌, ℕ, ◌+◌, ◌<◌, min, List, length, Option, Some, None, option_map, Result, Ok, Err}
 use Rattle.cv_lex.specs.Lexis.{Token, Lexed, tokens_of}
 use Rattle.cv_lex.specs.declared.LexError.{LexError}
 use Rattle.cv_parse_terminals.specs.ScriptSigns.{between, script_signs}
@@ -10,7 +9,7 @@ use Rattle.cv_parse_script.specs.declared.error.ScriptError.TheVariants as scrip
 use Rattle.cv_parse_script.specs.Scripts.{items, nodes_of}
 use Rattle.cv_parse_script.specs.Trees.{tree_read}
 use Rattle.cv_script_rows.specs.Rows.{built_script_row}
-use Rattle.cv_syntax.specs.Declarations.{Declaration, Equiv}
+use Rattle.cv_syntax.specs.Declarations.{Declaration}
 use Rattle.cv_syntax.specs.Tree.{Tree}
 use Rattle.cv_parse.specs.declared.error.ParseError.{ParseError}
 use Rattle.cv_parse.specs.Nodes.{file_nodes}
@@ -22,11 +21,14 @@ use Rattle.cv_typing.specs.Refusals.{refusal}
 use Rattle.cv_scope.specs.declared.fault.Fault.{Fault as ScopeRules}
 use Rattle.cv_scope.specs.Refusals.{refusal as scope_refusal}
 use Rattle.cv_scope.specs.Scope.{IsScoped, first_scope_fault}
+use Rattle.cv_meaning.specs.Interpretation.{is_constant_of}
+use Rattle.cv_group.specs.Refusals.{refused_by}
+use Rattle.cv_group_rules.specs.Faults.{AreAccepted, GroupRule, equivalences_in, first_group_fault}
 use Rattle.cv_query_form.specs.Queries.{queries_in}
 use Rattle.cv_query_form.specs.Rules.{AreAsked}
 use Rattle.cv_query_form.specs.Tests.{first_refused}
 use Rattle.cv_accept.specs.declared.error.FileError.{FileError}
-use Rattle.cv_accept.specs.declared.error.FileError.TheVariants.{Lex, Parse, Script, Types, Scope, Query, Room, Unbuilt, OutOfMemory}
+use Rattle.cv_accept.specs.declared.error.FileError.TheVariants.{Lex, Parse, Script, Types, Scope, Group, Query, Room, Unbuilt, OutOfMemory}
 use Rattle.cv_accept.specs.Places.{behind, nodes_before}
 
 -- what a file holds: its names, behind them those of its proof block, what it declares, its game, and the steps of the block,
@@ -37,14 +39,6 @@ pub record Content : Type 0 where
   pub declarations : List Declaration
   pub game : Tree
   pub script : Option (List Tree)
-
--- a declaration of an equivalence, as which a collision is read
-abbrev pub is_equivalence : Declaration → Bool
-is_equivalence (Equiv id t) = true
-is_equivalence d = false
-
-abbrev pub has_equivalence : List Declaration → Bool
-has_equivalence ds = list_any is_equivalence ds
 
 -- proof blocks: a block is given by the number of its first token and that of its last brace, and has no token where the brace
 -- doesn't stand behind
@@ -77,7 +71,7 @@ content_of ts p block = record {
 }
 
 -- These bytes are a file that holds this, in a pool with such a limit: with a proof block whose steps have rules, if it has
--- one, typed, in scope, with queries that may be asked, and without an equivalence.
+-- one, typed, in scope, with equivalences that are accepted and queries that may be asked.
 pub record IsFile (limit : ℕ) (bytes : List ℕ) (f : Content) : Type 0 where
   pub tokens : List Token
   pub said : Parsed
@@ -87,7 +81,7 @@ pub record IsFile (limit : ℕ) (bytes : List ℕ) (f : Content) : Type 0 where
   pub block : block_of tokens said ≡ Ok script
   pub typed : IsTypedFile said.declarations said.game
   pub scoped : IsScoped said.declarations said.game
-  pub no_equivalence : has_equivalence said.declarations ≡ false
+  pub groups : AreAccepted (is_constant_of said.declarations) (equivalences_in said.declarations)
   pub asked : AreAsked said.game (queries_in said.declarations)
   pub content : f ≡ content_of tokens said script
 
@@ -112,17 +106,20 @@ scope_fault p = behind (nodes_before p.declarations) (first_scope_fault p.declar
 abbrev pub query_fault : Parsed → Option ℕ
 query_fault p = first_refused p.game (queries_in p.declarations)
 
+-- the number of the first equivalence that is not accepted, with the first rule that it breaks
+abbrev pub group_fault : Parsed → Option (ℕ × GroupRule)
+group_fault p = first_group_fault (is_constant_of p.declarations) (equivalences_in p.declarations)
+
 abbrev pub of_queries : Content → Option ℕ → Result Content FileError
 of_queries f None = Ok f
 of_queries f (Some k) = Err (Query k)
 
--- no equivalence is checked yet
-abbrev pub of_equivalences : Content → Parsed → Bool → Result Content FileError
-of_equivalences f p false = of_queries f (query_fault p)
-of_equivalences f p true = Err Unbuilt
+abbrev pub of_groups : Content → Parsed → Option (ℕ × GroupRule) → Result Content FileError
+of_groups f p None = of_queries f (query_fault p)
+of_groups f p (Some (k, rule)) = Err (Group k (refused_by rule))
 
 abbrev pub of_scopes : Content → Parsed → Option (ℕ × ScopeRules) → Result Content FileError
-of_scopes f p None = of_equivalences f p (has_equivalence p.declarations)
+of_scopes f p None = of_groups f p (group_fault p)
 of_scopes f p (Some (place, fault)) = Err (Scope (scope_refusal place fault))
 
 abbrev pub of_types : Content → Parsed → Option (ℕ × Fault) → Result Content FileError

@@ -17,12 +17,14 @@ use Rattle.cv_typing.specs.declared.fault.TypeFault.{TypeFault}
 use Rattle.cv_typing.specs.declared.fault.TypeFault.TheVariants as type
 use Rattle.cv_scope.specs.declared.fault.ScopeFault.{ScopeFault}
 use Rattle.cv_scope.specs.declared.fault.ScopeFault.TheVariants as scope
+use Rattle.cv_group.specs.declared.fault.GroupFault.{GroupFault}
+use Rattle.cv_group.specs.declared.fault.GroupFault.TheVariants as group
 use Rattle.cv_query_form.specs.declared.fault.QueryFault.{QueryFault}
 use Rattle.cv_query_form.specs.declared.fault.QueryFault.TheVariants as query
 use Rattle.cv_accept.specs.Accepted.{of_block}
 use Rattle.cv_accept.specs.Works.{script_in}
 use Rattle.cv_accept.specs.declared.error.FileError.{FileError}
-use Rattle.cv_accept.specs.declared.error.FileError.TheVariants.{Lex, Parse, Script, Types, Scope, Query, Room, Unbuilt, OutOfMemory}
+use Rattle.cv_accept.specs.declared.error.FileError.TheVariants.{Lex, Parse, Script, Types, Scope, Group, Query, Room, Unbuilt, OutOfMemory}
 
 abbrev pub of_lex : LexError → FileError
 of_lex lex.OutOfMemory = OutOfMemory
@@ -35,6 +37,10 @@ of_type e = Types e
 abbrev pub of_scope : ScopeFault → FileError
 of_scope scope.OutOfMemory = OutOfMemory
 of_scope e = Scope e
+
+abbrev pub of_group : (equiv : ℕ) → GroupFault → FileError
+of_group k group.OutOfMemory = OutOfMemory
+of_group k e = Group k e
 
 abbrev pub of_query : QueryFault → FileError
 of_query (query.Query k) = Query k

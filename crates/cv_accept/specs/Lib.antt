@@ -1,5 +1,4 @@
 pub mod Accepted
 pub mod Faults
-pub mod Lists
 pub mod Places
 pub mod Works

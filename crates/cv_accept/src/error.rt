@@ -1,3 +1,4 @@
+use cv_group::{EquivFault, GroupFault};
 use cv_lex::LexError;
 use cv_parse::ParseError;
 use cv_parse_script::ScriptError;
@@ -20,11 +21,13 @@ pub enum FileError {
     Types(TypeFault),
     /// They are a file whose game breaks a rule of array scope.
     Scope(ScopeFault),
+    /// They are a file whose equivalence of this number, counted from 1, is not accepted.
+    Group { equiv: u32, fault: GroupFault },
     /// They are a file whose query of this number, counted from 1, may not be asked.
     Query(u32),
     /// The pool has no room for so many nodes more, those of the steps of the file's proof block.
     Room { need: u32 },
-    /// They are a file with a part that isn't checked yet: a step that has no rule, or an equivalence.
+    /// They are a file with a part that isn't checked yet: a step that has no rule.
     Unbuilt,
     OutOfMemory,
 }
@@ -108,6 +111,23 @@ impl From<ScopeFault> for FileError {
         match fault {
             ScopeFault::OutOfMemory => FileError::OutOfMemory,
             other => FileError::Scope(other),
+        }
+    }
+}
+
+impl From<EquivFault> for FileError {
+    ghost use Rattle.cv_accept.specs.Faults.{of_group};
+    ghost use Rattle.std.specs.Prelude.{◌≡◌};
+
+    ghost from_gives = { λ refused e. e ≡ of_group refused.equiv refused.fault };
+
+    fn from(refused: EquivFault) -> FileError {
+        match refused.fault {
+            GroupFault::OutOfMemory => FileError::OutOfMemory,
+            fault => FileError::Group {
+                equiv: refused.equiv,
+                fault,
+            },
         }
     }
 }

@@ -6,10 +6,10 @@ ghost use Rattle.cv_accept.specs.Accepted.{block_by, names_by};
 ghost use Rattle.cv_accept.specs.Faults.{IsBlock};
 ghost use Rattle.cv_accept.specs.Works.{HasSteps, Reads, block_nodes, content_at, content_nodes, script_in};
 
-use crate::equivalences::has_equivalence;
 use crate::error::FileError;
 use crate::scoping::check_game;
 use cv_directory::Directory;
+use cv_group::check_all;
 use cv_lex::{Tokens, tokens};
 use cv_parse::file;
 use cv_parse_script::script;
@@ -101,9 +101,7 @@ fn fill(alloc: Global, work: &mut Work, bytes: &[u8]) -> Result<Accepted, FileEr
     let directory = Directory::of(alloc, &work.pool, &work.decls, file.game.root)?;
     let (nodes, directory) = check_types(alloc, work, &file, directory)?;
     let directory = check_game(alloc, work, file.game, nodes, directory)?;
-    if has_equivalence(&work.decls) {
-        return Err(FileError::Unbuilt);
-    }
+    check_all(alloc, work)?;
     check_queries(alloc, work, file.game, &directory)?;
     Ok(Accepted { file, script })
 }

@@ -1,7 +1,6 @@
 // Files: which bytes are one, and what is checked of them.
 #![tactic(auto)]
 
-mod equivalences;
 mod error;
 mod file;
 mod laws;

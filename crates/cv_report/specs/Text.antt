@@ -15,12 +15,14 @@ use Rattle.cv_parse.specs.declared.error.ParseError.{ParseError}
 use Rattle.cv_parse.specs.declared.error.ParseError.TheVariants as parse
 use Rattle.cv_typing.specs.declared.fault.TypeFault.{TypeFault}
 use Rattle.cv_typing.specs.declared.fault.TypeFault.TheVariants as type
+use Rattle.cv_group.specs.declared.fault.GroupFault.{GroupFault}
+use Rattle.cv_group.specs.declared.fault.GroupFault.TheVariants as group
 use Rattle.cv_scope.specs.declared.fault.ScopeFault.{ScopeFault}
 use Rattle.cv_scope.specs.declared.fault.ScopeFault.TheVariants as scope
 use Rattle.cv_report.specs.declared.report.Cause.{Cause}
 use Rattle.cv_report.specs.declared.report.Cause.TheVariants.{Stuck, StepRefused, NoClose}
 use Rattle.cv_report.specs.declared.report.FileFault.{FileFault}
-use Rattle.cv_report.specs.declared.report.FileFault.TheVariants.{Lex, Parse, Script, Types, Scope, Query}
+use Rattle.cv_report.specs.declared.report.FileFault.TheVariants.{Lex, Parse, Script, Types, Scope, Group, Query}
 use Rattle.cv_report.specs.declared.report.Report.{Report}
 use Rattle.cv_report.specs.declared.report.Status.{Status}
 use Rattle.cv_report.specs.declared.report.Status.TheVariants as status
@@ -63,7 +65,7 @@ unfoldable pub verdicts_text : List (List ℕ) → ℕ → List Verdict → List
 verdicts_text names k [] = []
 verdicts_text names k (v ∷ vs) = verdict_text names k v ++ verdicts_text names (k + 1) vs
 
--- the end line of a file that is refused: what is wrong, and at which byte, token or node, or in which query
+-- the end line of a file that is refused: what is wrong, and at which byte, token or node, or in which equivalence or query
 abbrev pub refused_text : List ℕ → ℕ → List ℕ
 refused_text what place = codes "end 2 file refused: " ++ what ++ decimal place ++ codes "\n"
 
@@ -97,6 +99,14 @@ scope_text (scope.Channel node) = refused_text (codes "channel at node ") node
 scope_text (scope.Replications node) = refused_text (codes "replications at node ") node
 scope_text scope.OutOfMemory = codes "end 6 memory\n"
 
+abbrev pub group_text : (equiv : ℕ) → GroupFault → List ℕ
+group_text k group.LeftNotTerm = refused_text (codes "left not term in equivalence ") k
+group_text k group.TwoIndices = refused_text (codes "two indices in equivalence ") k
+group_text k group.ShapeDiffers = refused_text (codes "shape differs in equivalence ") k
+group_text k group.FreeName = refused_text (codes "free name in equivalence ") k
+group_text k group.Unread = refused_text (codes "unread name in equivalence ") k
+group_text k group.OutOfMemory = codes "end 6 memory\n"
+
 abbrev pub query_text : ℕ → List ℕ
 query_text k = refused_text (codes "query ") k
 
@@ -106,6 +116,7 @@ fault_text (Parse e) = grammar_text e
 fault_text (Script token) = script_text token
 fault_text (Types e) = types_text e
 fault_text (Scope e) = scope_text e
+fault_text (Group k fault) = group_text k fault
 fault_text (Query k) = query_text k
 
 -- a number behind what it numbers

@@ -2,6 +2,7 @@ ghost use Rattle.std.specs.Prelude.{◌≡◌};
 ghost use Rattle.cv_report.specs.Codes.{code_of};
 
 use cv_bound::{Cost, Sum};
+use cv_group::GroupFault;
 use cv_lex::LexError;
 use cv_parse::ParseError;
 use cv_scope::ScopeFault;
@@ -62,6 +63,8 @@ pub enum FileFault {
     Types(TypeFault),
     /// The game of the file breaks a rule of array scope.
     Scope(ScopeFault),
+    /// The equivalence of this number, counted from 1, breaks this rule first. A collision is an equivalence.
+    Group { equiv: u32, fault: GroupFault },
     /// The query of this number, counted from 1, may not be asked.
     Query(u32),
 }
@@ -93,7 +96,7 @@ pub enum Status {
     Write,
     Memory,
     Limit(Which),
-    /// The file has a part that isn't checked yet: a proof block with a step, or an equivalence.
+    /// The file has a step that isn't checked yet.
     Unbuilt,
 }
 

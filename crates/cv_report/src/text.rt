@@ -1,9 +1,10 @@
 // The text of a report.
 ghost use Rattle.std.specs.Prelude.{◌≡◌, ◌+◌, ◌<◌, ◌^◌, ◌++◌, [], All, length, IfOk, OnOk, IfSome};
-ghost use Rattle.cv_report.specs.Text.{EntryLive, IsLive, condition_text, cost_text, end_text, entry_text, fault_text, games_after, grammar_text, lexis_text, next_text, no_close_text, numbered_text, open_text, place_text, query_text, refused_text, said_text, scope_text, script_text, step_refused_text, text_of, trail_text, types_text, verdict_text, verdicts_text};
+ghost use Rattle.cv_report.specs.Text.{EntryLive, IsLive, condition_text, cost_text, end_text, entry_text, fault_text, games_after, grammar_text, group_text, lexis_text, next_text, no_close_text, numbered_text, open_text, place_text, query_text, refused_text, said_text, scope_text, script_text, step_refused_text, text_of, trail_text, types_text, verdict_text, verdicts_text};
 
 use crate::report::{Cause, Entry, FileFault, Report, Status, Verdict, Which};
 use cv_bound::{Cost, listed_text};
+use cv_group::GroupFault;
 use cv_lex::LexError;
 use cv_parse::ParseError;
 use cv_print::{push_decimal, push_game};
@@ -208,6 +209,20 @@ fn push_scope(out: &mut Vec<u8>, fault: ScopeFault) -> Result<(), AllocError>
     }
 }
 
+/// Appends the end line of a file with an equivalence that is not accepted.
+fn push_group(out: &mut Vec<u8>, equiv: u32, fault: GroupFault) -> Result<(), AllocError>
+    ensures { OnOk result (out.new.items ≡ out.old.items ++ group_text equiv fault) }
+{
+    match fault {
+        GroupFault::LeftNotTerm => push_refused(out, b"left not term in equivalence ", equiv),
+        GroupFault::TwoIndices => push_refused(out, b"two indices in equivalence ", equiv),
+        GroupFault::ShapeDiffers => push_refused(out, b"shape differs in equivalence ", equiv),
+        GroupFault::FreeName => push_refused(out, b"free name in equivalence ", equiv),
+        GroupFault::Unread => push_refused(out, b"unread name in equivalence ", equiv),
+        GroupFault::OutOfMemory => out.extend_from_slice(b"end 6 memory\n"),
+    }
+}
+
 /// Appends the end line of a file with a query that may not be asked.
 fn push_query(out: &mut Vec<u8>, k: u32) -> Result<(), AllocError>
     ensures { OnOk result (out.new.items ≡ out.old.items ++ query_text k) }
@@ -225,6 +240,7 @@ fn push_fault(out: &mut Vec<u8>, fault: FileFault) -> Result<(), AllocError>
         FileFault::Script(token) => push_script(out, token),
         FileFault::Types(fault) => push_types(out, fault),
         FileFault::Scope(fault) => push_scope(out, fault),
+        FileFault::Group { equiv, fault } => push_group(out, equiv, fault),
         FileFault::Query(k) => push_query(out, k),
     }
 }

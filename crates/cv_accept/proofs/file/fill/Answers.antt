@@ -9,10 +9,9 @@ use Rattle.cv_scope.specs.Scope.{first_scope_fault}
 use Rattle.cv_accept.specs.Accepted.{content_of}
 use Rattle.cv_accept.specs.Places.{behind}
 use Rattle.cv_accept.proofs.Blocks.{below-grown, block_as, content_same, few_names, held-grown, root-grown}
-use Rattle.cv_accept.proofs.EquivalenceLists.{equivalence_same}
 use Rattle.cv_accept.proofs.Lengths.{few_tokens}
 use Rattle.cv_accept.proofs.Places.{none_behind, process_begins}
-use Rattle.cv_accept.proofs.Readings.{all_reads, block_refuses, block_within, by_block, by_equivalences, by_scope, by_types, equivalence_refuses, grammar_refuses, lexis_refuses, query_refuses, reads_on, scope_refuses, types_refuse}
+use Rattle.cv_accept.proofs.Readings.{all_reads, block_refuses, block_within, by_block, by_groups, by_scope, by_types, grammar_refuses, group_refuses, lexis_refuses, query_refuses, reads_on, scope_refuses, types_refuse}
 use Rattle.cv_accept.proofs.Tokens.{are_tokens}
 use Rattle.cv_accept.proofs.Weights.{few_terms}
 use Rattle.cv_accept.proofs.file.fill.Goals as goal
@@ -51,6 +50,12 @@ check-requires-clause-declared c =
 
 pub check_game-requires-clause-declared : goal.check_game-requires-clause-declared
 check_game-requires-clause-declared c =
+    let old = c.file.new.work in
+    let new = c.read_block.new.work in
+    below-grown old.pool new.pool new.decls.list c.read_block.ensures.grows (subst (λ ds. All (IsBelow (length old.pool.trees)) ds.list) (sym c.read_block.ensures.decls) c.in_ok-file.ensures.below)
+
+pub check_all-requires : goal.check_all-requires
+check_all-requires c =
     let old = c.file.new.work in
     let new = c.read_block.new.work in
     below-grown old.pool new.pool new.decls.list c.read_block.ensures.grows (subst (λ ds. All (IsBelow (length old.pool.trees)) ds.list) (sym c.read_block.ensures.decls) c.in_ok-file.ensures.below)
@@ -129,8 +134,8 @@ returns-in_err-directory-2-clause-reads c =
     let found = subst (λ n. IsRefusalOf (behind n (first_scope_fault p.declarations p.game)) c.in_err-directory-2.field-0.0) begins c.in_err-directory-2.ensures.found in
     reads_on limit bs new _ _ c.from_residual-in_err-directory-2.ensures.1 (scope_refuses limit bs content p _ typed found)
 
-pub returns-then-has_equivalence-clause-reads : goal.returns-then-has_equivalence-clause-reads
-returns-then-has_equivalence-clause-reads c =
+pub returns-in_err-check_all-clause-reads : goal.returns-in_err-check_all-clause-reads
+returns-in_err-check_all-clause-reads c =
     let limit = c.args.work.now.pool.limit in
     let bs = c.args.bytes.now in
     let ts = c.in_ok-tokens.tokens in
@@ -145,8 +150,7 @@ returns-then-has_equivalence-clause-reads c =
     let read = by_block limit (length old.pool.trees) bs ts p c.in_ok-tokens.ensures.ok parses block.0 block.1 in
     let typed = by_types limit bs content p read c.in_ok-nodes.ensures.none in
     let scoped = by_scope limit bs content p typed (none_behind _ (first_scope_fault p.declarations p.game) c.in_ok-directory-2.ensures.none) in
-    let equal = sym (c.has_equivalence.ensures ∙ equivalence_same new.pool.trees new.decls.list) in
-    equivalence_refuses limit bs content p scoped (equal ∙ c.if-has_equivalence.true)
+    reads_on limit bs new _ _ c.from_residual-in_err-check_all.ensures.1 (group_refuses limit bs content p _ _ scoped c.in_err-check_all.ensures.fault)
 
 pub returns-in_err-check-clause-reads : goal.returns-in_err-check-clause-reads
 returns-in_err-check-clause-reads c =
@@ -164,8 +168,7 @@ returns-in_err-check-clause-reads c =
     let read = by_block limit (length old.pool.trees) bs ts p c.in_ok-tokens.ensures.ok parses block.0 block.1 in
     let typed = by_types limit bs content p read c.in_ok-nodes.ensures.none in
     let scoped = by_scope limit bs content p typed (none_behind _ (first_scope_fault p.declarations p.game) c.in_ok-directory-2.ensures.none) in
-    let equal = sym (c.has_equivalence.ensures ∙ equivalence_same new.pool.trees new.decls.list) in
-    let plain = by_equivalences limit bs content p scoped (equal ∙ c.if-has_equivalence.false) in
+    let plain = by_groups limit bs content p scoped c.in_ok-check_all.ensures.none in
     reads_on limit bs new _ _ c.from_residual-in_err-check.ensures.1 (query_refuses limit bs content p _ plain c.in_err-check.ensures.found)
 
 pub returns-clause-reads : goal.returns-clause-reads
@@ -184,8 +187,7 @@ returns-clause-reads c =
     let read = by_block limit (length old.pool.trees) bs ts p c.in_ok-tokens.ensures.ok parses block.0 block.1 in
     let typed = by_types limit bs content p read c.in_ok-nodes.ensures.none in
     let scoped = by_scope limit bs content p typed (none_behind _ (first_scope_fault p.declarations p.game) c.in_ok-directory-2.ensures.none) in
-    let equal = sym (c.has_equivalence.ensures ∙ equivalence_same new.pool.trees new.decls.list) in
-    let plain = by_equivalences limit bs content p scoped (equal ∙ c.if-has_equivalence.false) in
+    let plain = by_groups limit bs content p scoped c.in_ok-check_all.ensures.none in
     let own = ap (λ ds. ds.own) c.read_block.ensures.decls ∙ c.in_ok-file.ensures.own in
     let is = content_same ts new f c.in_ok-script.script old.names block.0 c.in_ok-file.ensures.names c.in_ok-script.ensures.names own block.2 in
     all_reads limit bs content p new (record { file = f; script = c.in_ok-script.script }) plain c.in_ok-check.ensures.none is

@@ -1,0 +1,15 @@
+use Rattle.std.proofs.Common.{◌≡◌, ℕ, ◌||◌, length}
+use Rattle.cv_pool.specs.Nodes.{ChildBelow}
+use Rattle.cv_syntax.specs.Tree.{bound_names, tree_at}
+use Rattle.cv_syntax.specs.Walks.{above}
+use Rattle.cv_syntax.specs.NameSets.{is_in, is_one_of}
+use Rattle.cv_group.proofs.names.note_binders.Given as goal
+
+abbrev pub invariant-binders : goal.invariant-binders
+invariant-binders l = record {
+  live : ChildBelow (length l.pool.trees) l.at;
+  same : (x : ℕ) → (is_in l.names x || is_one_of (bound_names (tree_at l.pool.trees l.at)) x) ≡ (is_in l.fn.names x || is_one_of (bound_names (tree_at l.pool.trees l.fn.binders)) x);
+}
+
+abbrev pub decreases-binders : goal.decreases-binders
+decreases-binders l = above l.at

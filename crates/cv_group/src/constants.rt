@@ -1,0 +1,50 @@
+ghost use Rattle.std.specs.Prelude.{◌≡◌, All, length, IfOk, IfSome};
+ghost use Rattle.std.specs.Option.{option_copied};
+ghost use Rattle.cv_syntax.specs.Declarations.{declarations};
+ghost use Rattle.cv_syntax.specs.NameSets.{is_in};
+ghost use Rattle.cv_meaning.specs.Interpretation.{is_constant_of};
+ghost use Rattle.cv_typing.specs.Lookups.{IsLive};
+ghost use Rattle.cv_group.specs.Held.{constant_in};
+
+use cv_syntax::children::is_empty;
+use cv_syntax::{Class, Decl, Decls, Pool};
+use std::alloc::{AllocError, Global};
+use std::collections::HashSet;
+
+/// The name of a constant's declaration.
+fn constant(pool: &Pool, decl: Option<&Decl>) -> Option<u32>
+    requires { IfSome (option_copied decl) (IsLive (length pool.now.trees)) }
+    ensures { result ≡ constant_in pool.now.trees (option_copied decl.entry) }
+{
+    match decl {
+        Some(
+            Decl::Name {
+                id,
+                class: Class::Fun { .. },
+                args,
+                ..
+            },
+        ) => if is_empty(pool, *args) {
+            Some(id.0)
+        } else {
+            None
+        },
+        _ => None,
+    }
+}
+
+/// The constants that a file declares.
+pub fn constants_of(alloc: Global, pool: &Pool, decls: &Decls) -> Result<HashSet<u32>, AllocError>
+    requires { All (IsLive (length pool.now.trees)) decls.now.list }
+    ensures { IfOk result (λ s. is_in s
+        ≡ is_constant_of (declarations pool.now.trees decls.now.list)) }
+{
+    let mut constants = HashSet::new(alloc);
+    'decls: for k in 0..decls.len() {
+        let Some(x) = constant(pool, decls.get(k)) else {
+            continue;
+        };
+        constants.insert(x)?;
+    }
+    Ok(constants)
+}
