@@ -1,0 +1,2 @@
+// The context of a game for an equivalence and a key. Definitions alone, in `specs/`.
+#![tactic(auto)]

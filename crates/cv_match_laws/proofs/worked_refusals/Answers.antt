@@ -1,0 +1,20 @@
+use Rattle.std.proofs.Common.{refl}
+use Rattle.cv_syntax.specs.Tree.{same_tree, size}
+use Rattle.cv_derivations.specs.Given.{with_given}
+use Rattle.cv_directory.specs.Sites.{bound_sort, first_site}
+use Rattle.cv_typing.specs.Signature.{names_in}
+use Rattle.cv_query_form.specs.Queries.{queries_in}
+use Rattle.cv_scope.specs.Made.{is_bound}
+use Rattle.cv_scenes.specs.Scenes.{first_reading}
+use Rattle.cv_match_instances.specs.Instances.{standing_for}
+use Rattle.cv_match_instances.specs.Sites.{sites_in}
+use Rattle.cv_match_instances.specs.Refusals.{definitions_in, first_in_arguments, first_in_condition, first_use, uses}
+use Rattle.cv_match_laws.proofs.worked_refusals.Goals as goal
+
+pub returns-clause-keyless : goal.returns-clause-keyless
+unfolding size same_tree with_given bound_sort first_site names_in standing_for sites_in first_reading definitions_in first_in_arguments first_in_condition first_use uses is_bound queries_in
+returns-clause-keyless c = refl
+
+pub returns-clause-argument : goal.returns-clause-argument
+unfolding size same_tree with_given bound_sort first_site names_in standing_for sites_in first_reading definitions_in first_in_arguments first_in_condition first_use uses is_bound queries_in
+returns-clause-argument c = refl

@@ -1,0 +1,112 @@
+-- Instances, part by part.
+use Rattle.std.proofs.Common.{◌≡◌, ℕ, Bool, true, false, List, [], ◌∷◌, Option, Some, None, refl, ap, ap₂, sym, ◌∙◌, eqb-true}
+use Rattle.std.specs.Prelude.{map, reverse, ◌++◌, ◌&&◌, ◌||◌, ◌==◌, if◌then◌else◌}
+use Rattle.std.specs.List.{list_any}
+use Rattle.std.proofs.lemmas.List.Folds.{list_any-append}
+use Rattle.std.proofs.lemmas.List.{map-append, reverse-append}
+use Rattle.cv_syntax.specs.declared.head.Head.{Head}
+use Rattle.cv_syntax.specs.declared.head.Head.TheVariants.{Leaf}
+use Rattle.cv_syntax.specs.Tree.{Tree, Empty, Node, chain, same_tree}
+use Rattle.cv_syntax.proofs.Trees.{same_open, tree_of-NoTree}
+use Rattle.cv_meaning_contexts.specs.Groups.{Function, Group}
+use Rattle.cv_derivations.specs.Given as given
+use Rattle.cv_derivations.specs.Given.{or_node, with_given}
+use Rattle.cv_meaning.specs.Correspondences.{typed_names}
+use Rattle.cv_scenes.specs.Scenes.{or_empty}
+use Rattle.cv_scenes.specs.Sights.{variable_of}
+use Rattle.cv_match_instances.specs.Instances.{Matching, are_of_types, guess, is_argument_of, is_coin_of, is_instance, is_read_of, names_of, standing_for, term_for, terms_of}
+use Rattle.cv_match_instances.specs.Refusals.{is_among}
+use Rattle.cv_match_patterns.specs.Searches.{filled_by, filled_part, given_by, is_name, is_typed, is_whole}
+
+pub filled-empty : (g : Group) (f : Function) (m : Tree) → filled_part g f m Empty ≡ Empty
+unfolding filled_part with_given
+filled-empty g f m = refl
+
+-- names and terms in one order
+
+reverse-cons : {A : Type 0} (x : A) (xs : List A) → reverse (x ∷ xs) ≡ reverse xs ++ x ∷ []
+reverse-cons x xs = reverse-append (x ∷ []) xs
+
+reversed-map : {A B : Type 0} (f : A → B) (xs : List A) → reverse (map f xs) ≡ map f (reverse xs)
+reversed-map f [] = refl
+reversed-map f (x ∷ xs) = reverse-cons (f x) (map f xs) ∙ (ap (λ ys. ys ++ f x ∷ []) (reversed-map f xs) ∙ (sym (map-append f (reverse xs) (x ∷ [])) ∙ ap (map f) (sym (reverse-cons x xs))))
+
+any-reversed : {A : Type 0} (p : A → Bool) (xs : List A) → list_any p (reverse xs) ≡ list_any p xs
+any-reversed p [] = refl
+any-reversed p (x ∷ xs) = ap (list_any p) (reverse-cons x xs) ∙ (list_any-append p (reverse xs) (x ∷ []) ∙ (ap (λ b. b || (p x || false)) (any-reversed p xs) ∙ swap (p x) (list_any p xs)))
+  where
+    swap : (a b : Bool) → (b || (a || false)) ≡ (a || b)
+    swap true true = refl
+    swap true false = refl
+    swap false true = refl
+    swap false false = refl
+
+-- of equal names each stands for one term
+by-names : (body m : Tree) (x : ℕ) (xs : List (ℕ × ℕ)) → given.term_for (map (λ (y : ℕ × ℕ). y.0) xs) (chain (map (term_for body m) xs)) x ≡ (if is_among xs x then Some (term_for body m (x, 0)) else None)
+by-names body m x [] = refl
+by-names body m x (y ∷ ys) = here (y.0 == x) refl (given.term_for (map (λ (z : ℕ × ℕ). z.0) ys) (chain (map (term_for body m) ys)) x) (is_among ys x) (by-names body m x ys)
+  where
+    here : (b : Bool) → (y.0 == x) ≡ b → (o : Option Tree) (c : Bool) → o ≡ (if c then Some (term_for body m (x, 0)) else None) → (if b then Some (term_for body m y) else o) ≡ (if b || c then Some (term_for body m (x, 0)) else None)
+    here true e o c f = ap (λ n. Some (or_empty (standing_for n body m))) (eqb-true y.0 x e)
+    here false e o c f = f
+
+all-terms : (g : Group) (f : Function) (m : Tree) → reverse ((guess g f m).key ∷ (guess g f m).coins ++ (guess g f m).arguments) ≡ map (term_for f.body m) (reverse (g.key ∷ f.coins ++ f.arguments))
+all-terms g f m = ap (λ ts. reverse (term_for f.body m g.key ∷ ts)) (sym (map-append (term_for f.body m) f.coins f.arguments)) ∙ reversed-map (term_for f.body m) (g.key ∷ f.coins ++ f.arguments)
+
+any-name : (g : Group) (f : Function) (x : ℕ) → is_among (reverse (g.key ∷ f.coins ++ f.arguments)) x ≡ is_name g f x
+any-name g f x = any-reversed (λ (y : ℕ × ℕ). y.0 == x) (g.key ∷ f.coins ++ f.arguments) ∙ ap (λ b. (g.key.0 == x) || b) (list_any-append (λ (y : ℕ × ℕ). y.0 == x) f.coins f.arguments)
+
+given-name : (g : Group) (f : Function) (m : Tree) (x : ℕ) → given.term_for (names_of g f) (terms_of (guess g f m)) x ≡ (if is_name g f x then Some (given_by f m x) else None)
+given-name g f m x =
+    ap₂ (λ ns ts. given.term_for ns ts x) (reversed-map (λ (y : ℕ × ℕ). y.0) (g.key ∷ f.coins ++ f.arguments)) (ap chain (all-terms g f m))
+    ∙ (by-names f.body m x (reverse (g.key ∷ f.coins ++ f.arguments))
+    ∙ ap (λ b. if b then Some (given_by f m x) else None) (any-name g f x))
+
+given-head : (g : Group) (f : Function) (m : Tree) (h : Head) → given.given_for (names_of g f) (terms_of (guess g f m)) h ≡ filled_by g f m h
+given-head g f m (Leaf x) = given-name g f m x
+given-head g f m h = refl
+
+pub filled-node : (g : Group) (f : Function) (m : Tree) (h : Head) (a b : Tree) → filled_part g f m (Node h a b) ≡ or_node (filled_by g f m h) h (filled_part g f m a) (filled_part g f m b)
+unfolding filled_part with_given
+filled-node g f m h a b = ap (λ o. or_node o h (filled_part g f m a) (filled_part g f m b)) (given-head g f m h)
+
+pub ruleset parts = (tree_of-NoTree, same_open, filled-empty, filled-node)
+
+pub ruleset lists = (tree_of-NoTree)
+
+-- the whole body
+pub whole-part : (g : Group) (f : Function) (m : Tree) → same_tree (filled_part g f m f.body) m ≡ is_whole g f m
+unfolding filled_part is_whole
+whole-part g f m = refl
+
+pub instance-parts : (M : Matching) (f : Function) (m : Tree) → (is_whole M.group f m && is_typed M f m) ≡ is_instance M f (guess M.group f m) m
+unfolding is_whole is_typed
+instance-parts M f m = refl
+
+-- the terms of names, in the order of their tests
+pub typed-parts : (M : Matching) (f : Function) (m key coins arguments : Tree) (k : ℕ × ℕ) → k ≡ M.group.key → key ≡ given_by f m k.0 → typed_names coins ≡ f.coins → typed_names arguments ≡ f.arguments → (is_read_of M.key (variable_of key) && (are_of_types (is_coin_of M) (typed_names coins) (map (term_for f.body m) (typed_names coins)) && are_of_types (is_argument_of M) (typed_names arguments) (map (term_for f.body m) (typed_names arguments)))) ≡ is_typed M f m
+unfolding is_typed
+typed-parts M f m key coins arguments k p q r s =
+    ap₂ (λ x y. x && y) (ap (λ t. is_read_of M.key (variable_of t)) (q ∙ ap (λ (l : ℕ × ℕ). given_by f m l.0) p))
+    (ap₂ (λ x y. x && y) (ap (λ xs. are_of_types (is_coin_of M) xs (map (term_for f.body m) xs)) r) (ap (λ xs. are_of_types (is_argument_of M) xs (map (term_for f.body m) xs)) s))
+
+-- tests one after another
+pub test-last : (p q r a b c v : Bool) → p ≡ a → p ≡ true → q ≡ b → q ≡ true → r ≡ c → (a && (b && c)) ≡ v → r ≡ v
+test-last p q r true true c v e f g h i j = i ∙ j
+test-last p q r true false c v e f g h i j = absurd (cc)
+test-last p q r false b c v e f g h i j = absurd (cc)
+
+pub test-second : (p q a b c v : Bool) → p ≡ a → p ≡ true → q ≡ b → q ≡ false → (a && (b && c)) ≡ v → q ≡ v
+test-second p q true true c v e f g h j = absurd (cc)
+test-second p q true false c v e f g h j = g ∙ j
+test-second p q false b c v e f g h j = absurd (cc)
+
+pub test-first : (p a b v : Bool) → p ≡ a → p ≡ false → (a && b) ≡ v → p ≡ v
+test-first p true b v e f j = absurd (cc)
+test-first p false b v e f j = e ∙ j
+
+pub both-last : (p q a b v : Bool) → p ≡ a → p ≡ true → q ≡ b → (a && b) ≡ v → q ≡ v
+both-last p q true b v e f g j = g ∙ j
+both-last p q false b v e f g j = absurd (cc)
+
+pub ruleset whole = (tree_of-NoTree)

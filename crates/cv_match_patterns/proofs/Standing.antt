@@ -1,0 +1,32 @@
+-- Terms that stand for names, node by node.
+use Rattle.std.proofs.Common.{◌≡◌, ℕ, Bool, true, false, Option, Some, None, refl}
+use Rattle.std.specs.Prelude.{◌==◌, if◌then◌else◌}
+use Rattle.cv_syntax.specs.declared.head.Head.{Head}
+use Rattle.cv_syntax.specs.declared.head.Head.TheVariants.{Leaf}
+use Rattle.cv_syntax.specs.Tree.{Tree, Empty, Node, first, second}
+use Rattle.cv_syntax.proofs.Trees.{tree_of-NoTree}
+use Rattle.cv_directory.specs.Sites.{first_of}
+use Rattle.cv_match_instances.specs.Instances.{standing_for, standing_here}
+use Rattle.cv_match_patterns.specs.Searches.{stands_in}
+
+abbrev pub here_or : Bool → Tree → Option Tree → Option Tree
+here_or true m o = Some m
+here_or false m o = o
+
+pub standing-empty : (x : ℕ) (m : Tree) → standing_for x Empty m ≡ None
+unfolding standing_for
+standing-empty x m = refl
+
+here-leaf : (x : ℕ) (h : Head) (m : Tree) (o : Option Tree) → first_of (standing_here x h m) o ≡ here_or (stands_in x h) m o
+here-leaf x (Leaf y) m o = by-test (y == x)
+  where
+    by-test : (b : Bool) → first_of (if b then Some m else None) o ≡ here_or b m o
+    by-test true = refl
+    by-test false = refl
+here-leaf x h m o = refl
+
+pub standing-node : (x : ℕ) (h : Head) (a b m : Tree) → standing_for x (Node h a b) m ≡ here_or (stands_in x h) m (first_of (standing_for x a (first m)) (standing_for x b (second m)))
+unfolding standing_for
+standing-node x h a b m = here-leaf x h m (first_of (standing_for x a (first m)) (standing_for x b (second m)))
+
+pub ruleset standing = (tree_of-NoTree, standing-empty, standing-node)

@@ -1,0 +1,63 @@
+-- What the code has of what is looked for in a game, and of the terms that stand for the names of a function.
+use Rattle.std.specs.Prelude.{◌≡◌, ◌<◌, ◌^◌, ℕ, Bool, false, ◌&&◌, ◌||◌, ◌==◌, if◌then◌else◌, length, Option, Some, None}
+use Rattle.cv_pool.specs.Nodes.{ChildBelow}
+use Rattle.cv_pool.specs.PoolView.{PoolView}
+use Rattle.cv_syntax.specs.Classes.{DeclsView}
+use Rattle.cv_syntax.specs.declared.head.Head.{Head}
+use Rattle.cv_syntax.specs.declared.head.Head.TheVariants.{Leaf}
+use Rattle.cv_syntax.specs.Tree.{Tree, same_tree, size, tree_at}
+use Rattle.cv_directory.specs.Sites.{sites_of}
+use Rattle.cv_typing.specs.Parts.{nothing_above}
+use Rattle.cv_typing.specs.Signature.{OfGame}
+use Rattle.cv_typing.specs.Tables.{above_of, arrays_of}
+use Rattle.cv_meaning_contexts.specs.Groups.{Function, Group, group_of}
+use Rattle.cv_derivations.specs.Given.{with_given}
+use Rattle.cv_scenes.specs.Sights.{variable_of}
+use Rattle.cv_rule_scenes.specs.Kept.{scene_of}
+use Rattle.cv_match_instances.specs.Instances.{Matching, are_of_types, filled, guess, is_argument_of, is_coin_of, is_read_of, names_of, term_for, terms_of}
+use Rattle.cv_match_instances.specs.Refusals.{is_among}
+use Rattle.cv_match_patterns.specs.declared.search.Search.{Search}
+
+-- what is looked for
+abbrev pub matching_by : PoolView → DeclsView → Search → Matching
+matching_by pool decls s = record { scene = scene_of pool decls s.game; group = group_of (tree_at pool.trees s.side); key = s.key }
+
+-- The game and the side stand in the pool, and the tables say what the game does.
+pub record IsReady (pool : PoolView) (s : Search) : Type 0 where
+  pub game : s.game.0 < length pool.trees
+  pub fits : size (tree_at pool.trees (Some s.game)) < 2 ^ 32
+  pub side : ChildBelow (length pool.trees) s.side
+  pub arrays : arrays_of s.arrays ≡ OfGame (sites_of (tree_at pool.trees (Some s.game)))
+  pub above : above_of s.above ≡ nothing_above
+
+-- the node of a body is this name
+abbrev pub stands_in : ℕ → Head → Bool
+stands_in x (Leaf y) = y == x
+stands_in x h = false
+
+-- a name of a function: that of the key, of a coin or of an argument
+abbrev pub is_name : Group → Function → ℕ → Bool
+is_name g f x = (g.key.0 == x) || (is_among f.coins x || is_among f.arguments x)
+
+-- the term that stands for a name of a function
+abbrev pub given_by : Function → Tree → ℕ → Tree
+given_by f m x = term_for f.body m (x, 0)
+
+-- the term that stands for a node of a body, where it is a name of the function
+abbrev pub filled_by : Group → Function → Tree → Head → Option Tree
+filled_by g f m (Leaf x) = if is_name g f x then Some (given_by f m x) else None
+filled_by g f m h = None
+
+-- a part of a body with these terms
+unfoldable pub filled_part : Group → Function → Tree → (body : Tree) → Tree
+filled_part g f m body = with_given (names_of g f) (terms_of (guess g f m)) body
+
+-- a term is the body of a function, with what stands where the body first has its names
+unfoldable pub is_whole : Group → Function → Tree → Bool
+is_whole g f m = same_tree (filled g f (guess g f m)) m
+
+-- each of these terms may stand for its name
+unfoldable pub is_typed : Matching → Function → Tree → Bool
+is_typed M f m =
+    is_read_of M.key (variable_of (guess M.group f m).key)
+    && (are_of_types (is_coin_of M) f.coins (guess M.group f m).coins && are_of_types (is_argument_of M) f.arguments (guess M.group f m).arguments)
