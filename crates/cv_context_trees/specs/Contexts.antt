@@ -53,11 +53,11 @@ context_in M coins answer w rs s Empty = Empty
 context_in M coins answer w rs s (Node h a b) = elim (call_at M (Node h a b)) [
   | Some c ↦ cell_of rs (answer s)
   | None ↦
-    let inside : List Site = if is_guard w then [] else sites_in M (first_position w h) rs 0 a in
-    after_calls answer s (if is_statement h then inside else [])
+      let inside : List Site = if is_guard w then [] else sites_in M (first_position w h) rs 0 a in
+      after_calls answer s (if is_statement h then inside else [])
       (in_context M coins h
-        (if is_guard w then a else context_in M coins answer (first_position w h) rs s a)
-        (context_in M coins answer (second_position w h) (replications_below h rs) (s + length inside) b))
+      (if is_guard w then a else context_in M coins answer (first_position w h) rs s a)
+      (context_in M coins answer (second_position w h) (replications_below h rs) (s + length inside) b))
 ]
 
 -- the context of the game; the function of each site is given by its position

@@ -56,8 +56,8 @@ first_use M w p Empty = None
 first_use M w p (Node h a b) = elim (call_at M (Node h a b)) [
   | Some c ↦ None
   | None ↦
-    if head_reads M.key h then Some p
-    else first_of (if is_guard w then None else first_use M (first_position w h) (first_place p h) a) (first_use M (second_position w h) (second_place p h a) b)
+      if head_reads M.key h then Some p
+      else first_of (if is_guard w then None else first_use M (first_position w h) (first_place p h) a) (first_use M (second_position w h) (second_place p h a) b)
 ]
 
 abbrev pub is_condition : Position → Bool
@@ -69,8 +69,8 @@ unfoldable pub first_in_condition : ℕ → Position → (place : ℕ) → Tree 
 first_in_condition x w p Empty = None
 first_in_condition x w p (Node h a b) =
     first_of
-      (if is_condition w then first_reading x (first_place p h) a else first_in_condition x (first_position w h) (first_place p h) a)
-      (first_in_condition x (second_position w h) (second_place p h a) b)
+    (if is_condition w then first_reading x (first_place p h) a else first_in_condition x (first_position w h) (first_place p h) a)
+    (first_in_condition x (second_position w h) (second_place p h a) b)
 
 abbrev pub is_among : List (ℕ × ℕ) → ℕ → Bool
 is_among xs y = list_any (λ (x : ℕ × ℕ). x.0 == y) xs
@@ -131,8 +131,8 @@ at_place refusal (Some p) = Some (refusal p)
 abbrev pub first_refusal : Matching → Option Refusal
 first_refusal M =
     if has_key M then
-      first_of (at_place Use (first_use M Anywhere 0 M.scene.game))
-      (first_of (at_place InCondition (first_in_condition M.key Anywhere 0 M.scene.game))
-      (first_of (at_place CoinUse (first_coin_use M (sites_of M)))
-      (at_place KeyInArgument (first_argument_use M (sites_of M)))))
+    first_of (at_place Use (first_use M Anywhere 0 M.scene.game))
+    (first_of (at_place InCondition (first_in_condition M.key Anywhere 0 M.scene.game))
+    (first_of (at_place CoinUse (first_coin_use M (sites_of M)))
+    (at_place KeyInArgument (first_argument_use M (sites_of M)))))
     else Some NotOneSite

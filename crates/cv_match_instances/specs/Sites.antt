@@ -25,8 +25,8 @@ sites_in M w rs p Empty = []
 sites_in M w rs p (Node h a b) = elim (call_at M (Node h a b)) [
   | Some c ↦ record { place = p; term = Node h a b; replications = rs; call = c } ∷ []
   | None ↦
-    (if is_guard w then [] else sites_in M (first_position w h) rs (first_place p h) a)
-    ++ sites_in M (second_position w h) (replications_below h rs) (second_place p h a) b
+      (if is_guard w then [] else sites_in M (first_position w h) rs (first_place p h) a)
+      ++ sites_in M (second_position w h) (replications_below h rs) (second_place p h a) b
 ]
 
 -- those of the game, in preorder
