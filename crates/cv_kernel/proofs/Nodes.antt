@@ -1,5 +1,5 @@
 -- All nodes of a tree are at least its syntax nodes, and at least the lines of a derivation.
-use Rattle.std.proofs.Common.{◌≡◌, ◌+◌, ◌≤◌, List, [], ◌∷◌, ◌++◌, refl, arith}
+use Rattle.std.proofs.Common.{◌≡◌, ℕ, ◌+◌, ◌≤◌, List, [], ◌∷◌, ◌++◌, arith, lit≤}
 use Rattle.cv_syntax.specs.declared.head.Head.{Head}
 use Rattle.cv_syntax.specs.declared.head.Head.TheVariants as head
 use Rattle.cv_syntax.specs.declared.make.Make.{Make}
@@ -21,8 +21,8 @@ unfolding postorder
 nodes-node h a b = omega (arith, overs-append (postorder a) (postorder b ++ make.Over h ∷ []), overs-append (postorder b) (make.Over h ∷ []))
 
 weight-one : (h : Head) → weight h ≤ 1
-weight-one head.Cons = omega arith
-weight-one h = omega arith
+weight-one head.Cons = lit≤ tt
+weight-one h = lit≤ tt
 
 pub size-nodes : (t : Tree) → size t ≤ nodes_of t
 unfolding size
@@ -37,14 +37,13 @@ pub second-nodes : (t : Tree) → nodes_of (second t) ≤ nodes_of t
 second-nodes Empty = omega arith
 second-nodes (Node h a b) = omega (arith, nodes-node h a b)
 
+-- one line, and those behind it
+one-line : (c : Head) (u rest : Tree) (n : ℕ) → n ≤ nodes_of rest → 1 + n ≤ nodes_of (Node c u rest)
+one-line c u rest n l = omega (arith, nodes-node c u rest)
+
 pub lines-nodes : (t : Tree) → count (lines_of t) ≤ nodes_of t
 unfolding lines_of count
 lines-nodes Empty = omega arith
-lines-nodes (Node c Empty rest) = omega (arith, nodes-node c Empty rest, lines-nodes rest)
-lines-nodes (Node c (Node head.Line t r) rest) = omega (arith, nodes-node c (Node head.Line t r) rest, lines-nodes rest)
-lines-nodes (Node c (Node head.Defined t r) rest) = omega (arith, nodes-node c (Node head.Defined t r) rest, lines-nodes rest)
-lines-nodes (Node c (Node head.Cases t Empty) rest) = omega (arith, nodes-node c (Node head.Cases t Empty) rest, lines-nodes rest)
-lines-nodes (Node c (Node head.Cases t (Node d a Empty)) rest) = omega (arith, nodes-node c (Node head.Cases t (Node d a Empty)) rest, lines-nodes rest)
 lines-nodes (Node c (Node head.Cases t (Node d a (Node e b u))) rest) =
     omega (
       arith,
@@ -56,4 +55,4 @@ lines-nodes (Node c (Node head.Cases t (Node d a (Node e b u))) rest) =
       lines-nodes b,
       lines-nodes rest,
     )
-lines-nodes (Node c (Node h t r) rest) = omega (arith, nodes-node c (Node h t r) rest, lines-nodes rest)
+lines-nodes (Node c u rest) = one-line c u rest (count (lines_of rest)) (lines-nodes rest)
