@@ -1,0 +1,12 @@
+pub mod Stores
+pub mod Wider
+pub mod Terms
+pub mod Keys
+pub mod Tests
+pub mod Matching
+pub mod Enough
+pub mod Roles
+pub mod Stages
+pub mod Bodies
+pub mod Calls
+pub mod Served

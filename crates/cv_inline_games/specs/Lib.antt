@@ -1,0 +1,3 @@
+pub mod NextGame
+pub mod Draws
+pub mod Worked
