@@ -1,0 +1,4 @@
+pub mod Terms
+pub mod Calls
+pub mod Numbers
+pub mod Uses

@@ -1,0 +1,3 @@
+pub mod Reductions
+pub mod Cells
+pub mod Apt

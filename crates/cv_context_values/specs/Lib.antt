@@ -1,0 +1,2 @@
+pub mod LeftTerms
+pub mod Standing
