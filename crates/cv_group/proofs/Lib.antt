@@ -1,6 +1,2 @@
 pub mod Steps
-pub mod Sets
-pub mod Taking
-pub mod Scans
 pub mod Lists
-pub mod Walks

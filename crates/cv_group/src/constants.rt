@@ -4,7 +4,7 @@ ghost use Rattle.cv_syntax.specs.Declarations.{declarations};
 ghost use Rattle.cv_syntax.specs.NameSets.{is_in};
 ghost use Rattle.cv_meaning.specs.Interpretation.{is_constant_of};
 ghost use Rattle.cv_typing.specs.Lookups.{IsLive};
-ghost use Rattle.cv_group.specs.Held.{constant_in};
+ghost use Rattle.cv_group.specs.Tables.{constant_in};
 
 use cv_syntax::children::is_empty;
 use cv_syntax::{Class, Decl, Decls, Pool};

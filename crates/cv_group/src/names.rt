@@ -3,9 +3,11 @@ ghost use Rattle.cv_pool.specs.Nodes.{ChildBelow};
 ghost use Rattle.cv_syntax.specs.NameSets.{is_in, is_one_of};
 ghost use Rattle.cv_syntax.specs.Tree.{bound_names, tree_at};
 ghost use Rattle.cv_group_rules.specs.Rules.{binds_name, defines, defines_here, names_of as names_in, takes};
-ghost use Rattle.cv_group.specs.Held.{function_names, is_paired};
+ghost use Rattle.cv_group.specs.Tables.{function_names};
+ghost use Rattle.cv_group_bodies.specs.Levels.{is_paired};
 
-use crate::shapes::bound_at;
+use cv_group_bodies::pair_name;
+use cv_group_shapes::bound_at;
 use cv_syntax::children::{first_of, second_of};
 use cv_syntax::{Head, NodeId, Pool, read_node};
 use std::alloc::{AllocError, Global};
@@ -30,15 +32,6 @@ pub fn note_binders(
         names.insert(x)?;
         at = cell.second;
     }
-    Ok(())
-}
-
-/// Pairs a name with a bound.
-pub fn pair_name(names: &mut HashSet<(u32, u32)>, bound: u32, x: u32) -> Result<(), AllocError>
-    ensures { OnOk result ((n y : ℕ) → is_paired names.new n y
-        ≡ (is_paired names.old n y || ((bound == n) && (x == y)))) }
-{
-    names.insert((bound, x))?;
     Ok(())
 }
 

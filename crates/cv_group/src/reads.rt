@@ -2,7 +2,7 @@ ghost use Rattle.std.specs.Prelude.{◌≡◌, ◌||◌, ℕ, true, length, IfOk
 ghost use Rattle.cv_pool.specs.Nodes.{ChildBelow};
 ghost use Rattle.cv_syntax.specs.NameSets.{is_in};
 ghost use Rattle.cv_syntax.specs.Tree.{bound_names, second, tree_at};
-ghost use Rattle.cv_group.specs.Held.{are_taken, without_all};
+ghost use Rattle.cv_group_shapes.specs.Shapes.{are_taken, without_all};
 ghost use Rattle.cv_group_rules.specs.Rules as rule;
 ghost use Rattle.cv_group_rules.specs.Rules.{each_function, taken_names};
 

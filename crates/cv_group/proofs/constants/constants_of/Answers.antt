@@ -1,12 +1,12 @@
 use Rattle.std.proofs.Common.{◌||◌, length, drop, ap, sym, ◌∙◌, arith, Some, None}
-use Rattle.cv_group.proofs.Sets as set
+use Rattle.cv_group_bodies.proofs.Sets as set
 use Rattle.cv_group.proofs.Lists as list
 use Rattle.std.specs.Prelude.{◌==◌}
 use Rattle.cv_syntax.specs.NameSets.{is_in}
 use Rattle.cv_syntax.specs.Declarations.{declarations}
 use Rattle.cv_meaning.specs.Interpretation.{is_constant_of}
 use Rattle.std.proofs.Math.Path.{fun_ext}
-use Rattle.cv_group.specs.Held.{constant_in}
+use Rattle.cv_group.specs.Tables.{constant_in}
 use Rattle.cv_group.proofs.constants.constants_of.Goals as goal
 
 pub constant-requires : goal.constant-requires

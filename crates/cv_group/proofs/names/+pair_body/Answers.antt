@@ -3,7 +3,7 @@ use Rattle.cv_syntax.specs.Tree.{tree_at}
 use Rattle.cv_syntax.proofs.Trees.{child_above, child_live, empty_at, node_at}
 use Rattle.cv_group_rules.specs.Rules as rule
 use Rattle.cv_group.proofs.Steps as step
-use Rattle.cv_group.proofs.Sets as set
+use Rattle.cv_group_bodies.proofs.Sets as set
 use Rattle.std.specs.Prelude.{◌==◌}
 use Rattle.cv_group.proofs.names.+pair_body.Goals as goal
 

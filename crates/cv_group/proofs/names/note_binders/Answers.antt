@@ -1,7 +1,7 @@
 use Rattle.std.proofs.Common.{ap, ◌∙◌}
 use Rattle.cv_syntax.proofs.ChildReads.{bound_names-None}
 use Rattle.cv_syntax.specs.NameSets.{is_one_of}
-use Rattle.cv_group.proofs.Sets as set
+use Rattle.cv_group_bodies.proofs.Sets as set
 use Rattle.cv_group.proofs.names.note_binders.Goals as goal
 
 pub returns : goal.returns

@@ -3,7 +3,7 @@ use Rattle.cv_syntax.specs.Tree.{bound_names, tree_at}
 use Rattle.cv_syntax.proofs.Trees.{child_live, node_at}
 use Rattle.cv_syntax.proofs.ChildReads.{bound_names-Binder, bound_names-None, bound_names_other}
 use Rattle.cv_syntax.specs.NameSets.{is_one_of}
-use Rattle.cv_group.proofs.Sets as set
+use Rattle.cv_group_bodies.proofs.Sets as set
 use Rattle.std.specs.Prelude.{◌==◌}
 use Rattle.cv_group.proofs.names.pair_binders.Goals as goal
 

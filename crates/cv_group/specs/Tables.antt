@@ -1,0 +1,46 @@
+-- What a check finds of constants, of what functions bind, and of the sides of an equivalence.
+use Rattle.std.specs.Prelude.{ℕ, Bool, ◌&&◌, ◌||◌, ◌==◌, List, Option, Some, None, if◌then◌else◌}
+use Rattle.cv_syntax.specs.declared.decls.Class.TheVariants as class
+use Rattle.cv_syntax.specs.declared.decls.Decl.{Decl}
+use Rattle.cv_syntax.specs.declared.decls.Decl.TheVariants as decl
+use Rattle.cv_syntax.specs.NameSets.{is_one_of}
+use Rattle.cv_syntax.specs.Tree.{Tree, bound_names, first, second, tree_at}
+use Rattle.cv_syntax.specs.Children.{is_empty}
+use Rattle.cv_pool.specs.KindTree.{KindTree}
+use Rattle.cv_meaning_contexts.specs.Groups.{bound_of}
+use Rattle.cv_group_shapes.specs.Shapes.{sides_agree}
+use Rattle.cv_group_rules.specs.Rules as rule
+use Rattle.cv_group_rules.specs.Rules.{takes}
+use Rattle.cv_group_rules.specs.Faults.{GroupRule, LeftIsTerm, OneIndex, SameShape, BoundNames, ReadNames, or_else}
+use Rattle.cv_pool.specs.declared.node.NodeId.{NodeId}
+
+-- the name of a constant's declaration
+abbrev pub constant_in : List KindTree → Option Decl → Option ℕ
+constant_in trees (Some (decl.Name id (class.Fun d) args result)) = if is_empty (tree_at trees args) then Some id.0 else None
+constant_in trees d = None
+
+-- what the body of a function may name, by constants and by what the functions of its side bind
+abbrev pub around_by : (ℕ → Bool) → (ℕ → ℕ → Bool) → (key f : Tree) → rule.Around
+around_by constants names key f = record {
+  outside = λ x. constants x || (is_one_of (bound_names key) x || takes (first f) x);
+  bound = bound_of (first f);
+  names = names;
+}
+
+-- what a function binds, with its bound
+abbrev pub function_names : Tree → ℕ → ℕ → Bool
+function_names f n x = (bound_of (first f) == n) && rule.binds_name f x
+
+-- the tree of an equivalence
+abbrev pub equiv_of : Decl → Option NodeId
+equiv_of (decl.Equiv id n) = Some n
+equiv_of d = None
+
+-- the first rule that two sides break
+abbrev pub sides_fault : (constants : ℕ → Bool) → (left right : Tree) → Option GroupRule
+sides_fault constants s t =
+    or_else (rule.each_function (λ f. rule.is_term (second f)) (second s)) LeftIsTerm
+    (or_else (rule.have_one_index t) OneIndex
+    (or_else (sides_agree s t) SameShape
+    (or_else (rule.side_is_bound constants (first s) (second s) && rule.side_is_bound constants (first t) (second t)) BoundNames
+    (or_else (rule.each_function (λ f. rule.are_read (rule.reads (second f)) (rule.taken_names (first s) f)) (second s)) ReadNames None))))

@@ -1,0 +1,4 @@
+pub mod Steps
+pub mod Sets
+pub mod Scans
+pub mod Walks

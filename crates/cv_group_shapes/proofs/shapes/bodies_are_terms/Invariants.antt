@@ -1,0 +1,15 @@
+use Rattle.std.proofs.Common.{◌≡◌, length}
+use Rattle.cv_pool.specs.Nodes.{ChildBelow}
+use Rattle.cv_syntax.specs.Tree.{second, tree_at}
+use Rattle.cv_syntax.specs.Walks.{above}
+use Rattle.cv_group_rules.specs.Rules as rule
+use Rattle.cv_group_shapes.proofs.shapes.bodies_are_terms.Given as goal
+
+abbrev pub invariant-list : goal.invariant-list
+invariant-list l = record {
+  live : ChildBelow (length l.pool.trees) l.at;
+  same : rule.each_function (λ f. rule.is_term (second f)) (tree_at l.pool.trees l.at) ≡ rule.each_function (λ f. rule.is_term (second f)) (tree_at l.pool.trees l.fn.functions);
+}
+
+abbrev pub decreases-list : goal.decreases-list
+decreases-list l = above l.at
