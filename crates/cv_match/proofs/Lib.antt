@@ -1,3 +1,4 @@
-pub mod Walked
-pub mod Calling
-pub mod Counting
+pub mod Rows
+pub mod Serving
+pub mod Fitting
+pub mod Refusing

@@ -1,2 +1,2 @@
-pub mod Calls
-pub mod Counted
+pub mod Fitting
+pub mod Matched

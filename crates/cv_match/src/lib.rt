@@ -1,18 +1,11 @@
-// The sites of an equivalence in a game, and why a game has none that serve. It is proved and not run: no step asks for it yet.
+// The sites of an equivalence in a game, or why it has none that serve. It is proved and not run: no step asks for it yet.
 #![tactic(auto)]
 
-mod calls;
-mod definitions;
-mod gathering;
-mod key;
-mod numbers;
-mod reading;
-mod site;
+mod arguments;
+mod cells;
+mod coins;
+mod fault;
+mod matching;
 
-pub use calls::call_at;
-pub use definitions::{Definitions, define};
-pub use gathering::sites;
-pub use key::has_key;
-pub use numbers::uses;
-pub use reading::{argument_use, condition_use, outside_use};
-pub use site::Site;
+pub use fault::MatchFault;
+pub use matching::{Match, matches};

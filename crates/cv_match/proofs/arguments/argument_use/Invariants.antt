@@ -1,0 +1,10 @@
+use Rattle.std.proofs.Common.{◌≡◌, drop, map}
+use Rattle.cv_match_instances.specs.Refusals.{first_argument_use}
+use Rattle.cv_match_patterns.specs.Searches.{matching_by}
+use Rattle.cv_match_sites.specs.Calls.{site_in}
+use Rattle.cv_match.proofs.arguments.argument_use.Given as goal
+
+abbrev pub invariant-loop-site : goal.invariant-loop-site
+invariant-loop-site l =
+    let M = matching_by l.work.pool l.work.decls l.search in
+    first_argument_use M (map (site_in l.work.pool.trees M) (drop l.site-index l.sites)) ≡ first_argument_use M (map (site_in l.work.pool.trees M) l.sites)

@@ -1,0 +1,141 @@
+ghost use Rattle.std.specs.Prelude.{◌≡◌, ◌<◌, ◌^◌, All, IfErr, IfOk, None, OnOk, Some, length, map};
+ghost use Rattle.cv_syntax.specs.Classes.{equiv_in};
+ghost use Rattle.cv_syntax.specs.Tree.{size, tree_at};
+ghost use Rattle.cv_typing.specs.Lookups.{IsLive};
+ghost use Rattle.cv_match_instances.specs.Refusals.{first_refusal};
+ghost use Rattle.cv_match_instances.specs.Sites.{sites_of};
+ghost use Rattle.cv_match_patterns.specs.Searches.{IsReady, matching_by};
+ghost use Rattle.cv_match_sites.specs.Calls.{IsLiveSite, site_in};
+ghost use Rattle.cv_match.specs.Fitting.{IsSmallSite};
+ghost use Rattle.cv_match.specs.Matched.{IsFault, key_refusal, matching_of, site_refusal};
+
+use crate::arguments::argument_use;
+use crate::coins::coin_use;
+use crate::fault::MatchFault;
+use cv_directory::Directory;
+use cv_match_patterns::Search;
+use cv_match_sites::{Site, condition_use, has_key, outside_use, sites};
+use cv_scope::Position;
+use cv_syntax::children::first_of;
+use cv_syntax::{Game, NameId, Work};
+use cv_typing::Arrays;
+use std::alloc::{AllocError, Global};
+use std::collections::HashMap;
+
+/// The sites of an equivalence in a game where a variable stands for its key: the instances of its left side, in preorder.
+#[derive(Drop)]
+pub struct Match {
+    pub equiv: NameId,
+    pub x: NameId,
+    pub sites: Vec<Site>,
+}
+
+/// What is looked for in a game for an equivalence and a key.
+fn search_for(
+    alloc: Global,
+    work: &Work,
+    game: Game,
+    equiv: NameId,
+    x: NameId,
+) -> Result<Search, AllocError>
+    requires live { game.root.0 < length work.now.pool.trees }
+    requires fits { size (tree_at work.now.pool.trees (Some game.root)) < 2 ^ 32 }
+    requires declared { All (IsLive (length work.now.pool.trees)) work.now.decls.list }
+    ensures ready { IfOk result (IsReady work.now.pool) }
+    ensures matching { IfOk result (λ s. matching_by work.now.pool work.now.decls s
+        ≡ matching_of work.now.pool work.now.decls game.root equiv.0 x.0) }
+{
+    let directory = Directory::of(alloc, &work.pool, &work.decls, game.root)?;
+    Ok(Search {
+        game: game.root,
+        side: first_of(&work.pool, work.decls.equiv(equiv)),
+        key: x.0,
+        arrays: Arrays::OfGame(directory),
+        above: HashMap::new(alloc),
+    })
+}
+
+/// Whether the key has one definition, a `new` of its type, and is read in instances alone.
+fn check_key(alloc: Global, work: &Work, search: &Search) -> Result<(), MatchFault>
+    requires ready { IsReady work.now.pool search.now }
+    requires declared { All (IsLive (length work.now.pool.trees)) work.now.decls.list }
+    ensures none { OnOk result
+        (key_refusal (matching_by work.now.pool work.now.decls search.now) ≡ None) }
+    ensures fault { IfErr result
+        (IsFault (key_refusal (matching_by work.now.pool work.now.decls search.now))) }
+{
+    if !has_key(alloc, work, search)? {
+        return Err(MatchFault::NotOneSite);
+    }
+    let game = Some(search.game);
+    if let Err(place) = outside_use(work, search, false, Position::Anywhere, 0, game) {
+        return Err(MatchFault::Use(place));
+    }
+    let x = search.key;
+    if let Err(place) = condition_use(&work.pool, x, false, Position::Anywhere, 0, game) {
+        return Err(MatchFault::InCondition(place));
+    }
+    Ok(())
+}
+
+/// Whether the coins of sites are their own, and the arguments don't read the key.
+fn check_sites(
+    alloc: Global,
+    work: &Work,
+    search: &Search,
+    sites: &[Site],
+) -> Result<(), MatchFault>
+    requires ready { IsReady work.now.pool search.now }
+    requires declared { All (IsLive (length work.now.pool.trees)) work.now.decls.list }
+    requires live { All (IsLiveSite (length work.now.pool.trees)) sites.now }
+    requires small { All (IsSmallSite work.now.pool.trees) sites.now }
+    ensures none { OnOk result
+        (site_refusal (matching_by work.now.pool work.now.decls search.now)
+        (map (site_in work.now.pool.trees
+        (matching_by work.now.pool work.now.decls search.now)) sites.now) ≡ None) }
+    ensures fault { IfErr result
+        (IsFault (site_refusal (matching_by work.now.pool work.now.decls search.now)
+        (map (site_in work.now.pool.trees
+        (matching_by work.now.pool work.now.decls search.now)) sites.now))) }
+{
+    if let Some(place) = coin_use(alloc, work, search, sites)? {
+        return Err(MatchFault::CoinUse(place));
+    }
+    if let Some(place) = argument_use(work, search, sites) {
+        return Err(MatchFault::KeyInArgument(place));
+    }
+    Ok(())
+}
+
+/// The sites of an equivalence's left side in a game, where a variable of the game stands for the key; or the first reason why
+/// it has none that serve.
+pub fn matches(
+    alloc: Global,
+    work: &Work,
+    game: Game,
+    equiv: NameId,
+    x: NameId,
+) -> Result<Match, MatchFault>
+    requires live { game.root.0 < length work.now.pool.trees }
+    requires fits { size (tree_at work.now.pool.trees (Some game.root)) < 2 ^ 32 }
+    requires declared { All (IsLive (length work.now.pool.trees)) work.now.decls.list }
+    requires short { size (tree_at work.now.pool.trees
+        (equiv_in work.now.decls.list equiv.0)) < 2 ^ 32 }
+    ensures none { OnOk result (first_refusal
+        (matching_of work.now.pool work.now.decls game.root equiv.0 x.0) ≡ None) }
+    ensures sites { IfOk result (λ found. map (site_in work.now.pool.trees
+        (matching_of work.now.pool work.now.decls game.root equiv.0 x.0)) found.sites.items
+        ≡ sites_of (matching_of work.now.pool work.now.decls game.root equiv.0 x.0)) }
+    ensures live { IfOk result (λ found.
+        All (IsLiveSite (length work.now.pool.trees)) found.sites.items) }
+    ensures equiv { IfOk result (λ found. found.equiv ≡ equiv) }
+    ensures key { IfOk result (λ found. found.x ≡ x) }
+    ensures fault { IfErr result (IsFault (first_refusal
+        (matching_of work.now.pool work.now.decls game.root equiv.0 x.0))) }
+{
+    let search = search_for(alloc, work, game, equiv, x)?;
+    check_key(alloc, work, &search)?;
+    let sites = sites(alloc, work, &search)?;
+    check_sites(alloc, work, &search, sites.as_slice())?;
+    Ok(Match { equiv, x, sites })
+}
