@@ -30,7 +30,6 @@ pub reads-end : (t : Tree) → t ≡ Empty → (x : ℕ) → reads t x ≡ false
 unfolding reads
 reads-end t e x = ap (λ s. reads s x) e
 
-
 -- an equivalence, by its sides
 pub group-sides : (constants : ℕ → Bool) (t : Tree) (h : Head) (a b : Tree) → t ≡ Node h a b → group_fault constants t ≡ sides_fault constants a b
 unfolding group_fault
