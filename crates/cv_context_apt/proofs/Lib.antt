@@ -1,4 +1,8 @@
 pub mod Terms
-pub mod Calls
 pub mod Numbers
-pub mod Uses
+pub mod Sites
+pub mod Outside
+pub mod Plain
+pub mod Arguments
+pub mod Own
+pub mod Statements

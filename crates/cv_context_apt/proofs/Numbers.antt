@@ -21,8 +21,8 @@ use Rattle.cv_scope.specs.declared.position.Position.TheVariants as position
 use Rattle.cv_match_instances.specs.Instances.{Call as Found, call_at}
 use Rattle.cv_match_instances.specs.Sites.{Site, is_guard, sites_in}
 use Rattle.cv_context_trees.specs.Contexts.{after_calls, context_in, in_context, is_statement}
-use Rattle.cv_context_served.specs.Reductions.{Reduction, is_coin, matching, oracles, sites, in_game}
-use Rattle.cv_context_served.specs.Apt.{has_value, inside}
+use Rattle.cv_context_values.specs.Reductions.{Reduction, is_coin, matching, oracles, sites, in_game}
+use Rattle.cv_context_values.specs.Apt.{has_value, inside}
 use Rattle.cv_context_served.proofs.Finds.{context}
 use Rattle.cv_context_served.proofs.Terms.{count_sites}
 

@@ -1,35 +1,28 @@
 // Laws of instances in games, by which games without a refusal are apt.
 #![tactic(auto)]
 
-ghost use Rattle.std.specs.Prelude.{◌≡◌, ◌+◌, ◌<◌, ◌≤◌, ◌==◌, ℕ, List, None, Some, false, slice_get, true};
+ghost use Rattle.std.specs.Prelude.{◌≡◌, ℕ, List, None, Some, false, slice_get, true};
 ghost use Rattle.cv_syntax.specs.Declarations.{Declaration};
-ghost use Rattle.cv_syntax.specs.Tree.{Tree};
+ghost use Rattle.cv_syntax.specs.Tree.{Tree, first};
 ghost use Rattle.cv_meaning.specs.Interpretation.{Interpretation};
 ghost use Rattle.cv_meaning.specs.Side.{CallNumber};
 ghost use Rattle.cv_meaning_contexts.specs.Bodies.{function_called};
 ghost use Rattle.cv_meaning_contexts.specs.Groups.{function_at};
-ghost use Rattle.cv_scope.specs.Phrases.{Inputs, Term, is_phrase};
-ghost use Rattle.cv_scope.specs.declared.position.Position.{Position};
-ghost use Rattle.cv_derivations.specs.Given.{term_for, with_given};
-ghost use Rattle.cv_match_instances.specs.Refusals.{uses};
-ghost use Rattle.cv_match_instances.specs.Instances.{Call, Matching, call_at};
-ghost use Rattle.cv_context_values.specs.LeftTerms.{HasLeftTerms, reads_no_array};
-ghost use Rattle.cv_match_instances.specs.Sites.{Site, sites_in};
-ghost use Rattle.cv_context_served.specs.Apt.{has_value};
-ghost use Rattle.cv_context_served.specs.Reductions.{Reduction, matching, oracles, sites};
-ghost use Rattle.cv_context_apt.specs.Calls.{IsCallAt};
-ghost use Rattle.cv_context_apt.specs.Uses.{IsUsedAt, uses_in, uses_outside};
+ghost use Rattle.cv_scope.specs.Phrases.{Inputs, Message, Term, Terms, is_phrase};
+ghost use Rattle.cv_scope.specs.declared.position.Position.TheVariants.{Anywhere};
+ghost use Rattle.cv_match_instances.specs.Instances.{Matching, call_at};
+ghost use Rattle.cv_match_instances.specs.Refusals.{first_coin_use, uses};
+ghost use Rattle.cv_match_instances.specs.Sites.{Site};
+ghost use Rattle.cv_context_values.specs.LeftTerms.{HasLeftTerms};
+ghost use Rattle.cv_context_values.specs.Apt.{AreTermsApt, IsSiteApt, has_value};
+ghost use Rattle.cv_context_values.specs.Reductions.{Reduction, is_coin, matching, oracles, sites};
+ghost use Rattle.cv_context_sites.specs.Uses.{uses_outside};
+ghost use Rattle.cv_context_apt.specs.Statements.{AreTermsOf, HasOwnSites};
 
 /// Only terms are instances of left functions.
 pub fn instances_are_terms()
     ensures { (ds : List Declaration) (M : Matching) (t : Tree) → HasLeftTerms ds M.group →
         has_value t ≡ false → call_at M t ≡ None }
-{}
-
-/// What is found at a node is an instance of a function of the group, which stands at the position that is told.
-pub fn calls_are_of_instances()
-    ensures { (ds : List Declaration) (M : Matching) (t : Tree) (c : Call) →
-        HasLeftTerms ds M.group → call_at M t ≡ Some c → IsCallAt ds M t c }
 {}
 
 /// The context of a game in the grammar has a call for each site, by its number; so the left side answers it by
@@ -42,22 +35,33 @@ pub fn each_site_calls_its_function()
         n.site ≡ number → function_called (oracles r i) n ≡ Some s.call.function }
 {}
 
-/// A tree uses a variable outside its sites, or in the term of one of them. So a variable that it uses only as
-/// often as the body at a site has a name, for which a term with the variable stands there, is used at this
-/// site alone; and there what stands for another name that the body reads doesn't use it.
-pub fn coins_are_used_at_their_site()
-    ensures apart { (M : Matching) (w : Position) (rs : List (ℕ × ℕ)) (p x : ℕ) (t : Tree) →
-        uses x t ≡ uses_outside M w x t + uses_in x (sites_in M w rs p t) }
-    ensures there { (M : Matching) (w : Position) (rs : List (ℕ × ℕ)) (p : ℕ) (t : Tree)
-        (x z number : ℕ) (s : Site) (names : List ℕ) (terms given body : Tree) →
-        slice_get (sites_in M w rs p t) number ≡ Some s → with_given names terms body ≡ s.term →
-        term_for names terms z ≡ Some given → 0 < uses x given → is_phrase Term body ≡ true →
-        reads_no_array body ≡ true → uses x t ≡ uses z body →
-        (uses_outside M w x t ≡ 0) × IsUsedAt x number (sites_in M w rs p t)
-        × (uses x s.term ≡ uses z body) }
-    ensures alone { (names : List ℕ) (terms given other body : Tree) (x y z : ℕ) →
-        term_for names terms z ≡ Some given → 0 < uses y given → (x == z) ≡ false →
-        term_for names terms x ≡ Some other → is_phrase Term body ≡ true →
-        reads_no_array body ≡ true → 0 < uses x body →
-        uses y (with_given names terms body) ≤ uses z body → uses y other ≡ 0 }
+/// Where coins are their sites' own, a game uses the variable of a coin in sites alone, and the key is no coin.
+pub fn coins_are_used_in_sites_alone()
+    ensures outside { (r : Reduction) (y : ℕ) →
+        HasLeftTerms r.scene.declarations (matching r).group →
+        first_coin_use (matching r) (sites r) ≡ None → is_coin r y ≡ true →
+        uses_outside (matching r) Anywhere y r.scene.game ≡ 0 }
+    ensures key { (r : Reduction) → HasLeftTerms r.scene.declarations (matching r).group →
+        first_coin_use (matching r) (sites r) ≡ None → is_coin r r.key ≡ false }
+{}
+
+/// In a game whose coins are their sites' own and where no argument reads the key, each site is apt below its
+/// replications, if the key is not used in the indices of its own read there.
+pub fn sites_are_apt()
+    ensures { (r : Reduction) (s : Site) (number : ℕ) → HasOwnSites r →
+        slice_get (sites r) number ≡ Some s → uses r.key (first s.call.instance.key) ≡ 0 →
+        IsSiteApt r s.replications number s }
+{}
+
+/// So are the terms of each statement of such a game.
+pub fn statements_are_apt()
+    ensures term { (r : Reduction) (rs : List (ℕ × ℕ)) (number place : ℕ) (t : Tree) →
+        HasOwnSites r → AreTermsOf r rs number place t → is_phrase Term t ≡ true →
+        AreTermsApt r rs number t }
+    ensures terms { (r : Reduction) (rs : List (ℕ × ℕ)) (number place : ℕ) (t : Tree) →
+        HasOwnSites r → AreTermsOf r rs number place t → is_phrase Terms t ≡ true →
+        AreTermsApt r rs number t }
+    ensures message { (r : Reduction) (rs : List (ℕ × ℕ)) (number place : ℕ) (t : Tree) →
+        HasOwnSites r → AreTermsOf r rs number place t → is_phrase Message t ≡ true →
+        AreTermsApt r rs number t }
 {}

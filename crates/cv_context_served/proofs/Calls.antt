@@ -32,8 +32,8 @@ use Rattle.cv_context_trees.specs.Contexts.{after_calls}
 use Rattle.cv_context_values.specs.LeftTerms.{IsLeftFunction, reads_no_array}
 use Rattle.cv_context_values.specs.Standing.{AreAsMany, AreDrawn}
 use Rattle.cv_context_values.proofs.Answers.{answered}
-use Rattle.cv_context_served.specs.Reductions.{Reduction, in_context, in_game, is_plain, matching, oracles, sites}
-use Rattle.cv_context_served.specs.Apt.{AreCoinsApt, AreSitesApt, IsAptGame, IsCoinApt, IsSiteApt}
+use Rattle.cv_context_values.specs.Reductions.{Reduction, in_context, in_game, is_plain, matching, oracles, sites}
+use Rattle.cv_context_values.specs.Apt.{AreCoinsApt, AreSitesApt, IsAptGame, IsCoinApt, IsSiteApt}
 use Rattle.cv_context_served.proofs.Kept.{KeptStores, answers_are, coin_not_plain, key_not_plain, put_answer, where_there}
 use Rattle.cv_context_served.proofs.Terms.{AreAnswered, cell_value, terms_values}
 

@@ -20,8 +20,8 @@ use Rattle.cv_scope.specs.declared.position.Position.TheVariants as position
 use Rattle.cv_match_instances.specs.Instances.{Call}
 use Rattle.cv_match_instances.specs.Sites.{is_guard}
 use Rattle.cv_context_trees.specs.Contexts.{after_calls, context_in, in_context, is_statement}
-use Rattle.cv_context_served.specs.Reductions.{Reduction, is_coin, is_plain, matching}
-use Rattle.cv_context_served.specs.Apt.{AreBindersPlain, IsApt, IsAptGame, are_cells_apt, has_value, inside, is_cell_apt}
+use Rattle.cv_context_values.specs.Reductions.{Reduction, is_coin, is_plain, matching}
+use Rattle.cv_context_values.specs.Apt.{AreBindersPlain, IsApt, IsAptGame, are_cells_apt, has_value, inside, is_cell_apt}
 use Rattle.cv_context_served.proofs.Kept.{KeptStores, put_bound, where_there}
 
 -- the tree in the context

@@ -25,9 +25,9 @@ use Rattle.cv_match_instances.specs.Sites.{Site, sites_in}
 use Rattle.cv_directory.specs.Sites.{first_of}
 use Rattle.cv_scenes.specs.Sights.{variable_of}
 use Rattle.cv_context_trees.specs.Contexts.{after_calls, in_context as tree_in_context, is_coin_variable}
-use Rattle.cv_context_served.specs.Reductions.{Reduction, in_context, in_game, is_answer, is_coin, is_plain, matching, sites}
-use Rattle.cv_context_served.specs.Cells.{at_left, coin_by, coin_from, made_by}
-use Rattle.cv_context_served.specs.Apt.{AreBindersPlain, AreTermsApt, IsApt, IsAptGame, inside}
+use Rattle.cv_context_values.specs.Reductions.{Reduction, in_context, in_game, is_answer, is_coin, is_plain, matching, sites}
+use Rattle.cv_context_values.specs.Cells.{at_left, coin_by, coin_from, made_by}
+use Rattle.cv_context_values.specs.Apt.{AreBindersPlain, AreTermsApt, IsApt, IsAptGame, inside}
 use Rattle.cv_context_served.proofs.Kept.{Kept, KeptStores, put_bound, put_coin, put_key, put_plain}
 use Rattle.cv_context_served.proofs.Terms.{AreAnswered, message_sites, message_values, term_sites, term_value, terms_sites, terms_value}
 use Rattle.cv_context_served.proofs.Calls.{calls_served}

@@ -21,8 +21,8 @@ use Rattle.cv_scope_runs.proofs.Contexts.{IsFound, Matches}
 use Rattle.cv_match_instances.specs.Instances.{Call, Matching, call_at}
 use Rattle.cv_match_instances.specs.Sites.{Site, is_guard, sites_in}
 use Rattle.cv_context_trees.specs.Contexts.{context_in}
-use Rattle.cv_context_served.specs.Reductions.{Reduction, is_coin, is_plain, matching, sites}
-use Rattle.cv_context_served.specs.Apt.{IsAptGame, reads_outside}
+use Rattle.cv_context_values.specs.Reductions.{Reduction, is_coin, is_plain, matching, sites}
+use Rattle.cv_context_values.specs.Apt.{IsAptGame, reads_outside}
 use Rattle.cv_context_served.proofs.Kept.{answer_not_plain, answers_are}
 
 -- the current tuple

@@ -13,7 +13,7 @@ use Rattle.cv_match_instances.specs.Instances.{Call, Matching, call_at}
 use Rattle.cv_match_instances.specs.Refusals.{uses}
 use Rattle.cv_match_instances.specs.Sites.{Site, is_guard, sites_in}
 use Rattle.cv_context_values.specs.LeftTerms.{reads_no_array}
-use Rattle.cv_context_apt.specs.Uses.{IsUsedAt, uses_in, uses_outside}
+use Rattle.cv_context_sites.specs.Uses.{IsUsedAt, uses_in, uses_outside}
 
 uses_in_both : (x : ℕ) (xs ys : List Site) → uses_in x (xs ++ ys) ≡ uses_in x xs + uses_in x ys
 uses_in_both x [] ys = omega arith
@@ -147,7 +147,7 @@ module _ (xs : List ℕ) (ts : Tree) (z y : ℕ) (given : Tree) (found : term_fo
 
 -- sums over sites
 
-one_site : (x : ℕ) (ss : List Site) (k : ℕ) (s : Site) → slice_get ss k ≡ Some s → uses x s.term ≤ uses_in x ss
+pub one_site : (x : ℕ) (ss : List Site) (k : ℕ) (s : Site) → slice_get ss k ≡ Some s → uses x s.term ≤ uses_in x ss
 one_site x [] k s e = absurd (none e)
   where
     none : ◌≡◌ {A = Option Site} None (Some s) → ⊥

@@ -1,5 +1,5 @@
-use Rattle.cv_context_apt.proofs.Uses.{filled_alone, used_there, uses_apart}
-use Rattle.cv_context_apt.proofs.coins_are_used_at_their_site.Goals as goal
+use Rattle.cv_context_sites.proofs.Uses.{filled_alone, used_there, uses_apart}
+use Rattle.cv_context_sites.proofs.coins_are_used_at_their_site.Goals as goal
 
 pub returns-clause-apart : goal.returns-clause-apart
 returns-clause-apart c = uses_apart

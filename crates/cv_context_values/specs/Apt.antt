@@ -20,8 +20,8 @@ use Rattle.cv_scope.specs.declared.position.Position.{Position}
 use Rattle.cv_scope.specs.declared.position.Position.TheVariants as position
 use Rattle.cv_context_values.specs.LeftTerms.{IsLeftFunction}
 use Rattle.cv_context_values.specs.Standing.{AreAsMany}
-use Rattle.cv_context_served.specs.Reductions.{Reduction, is_answer, is_coin, is_plain, matching, oracles, sites}
-use Rattle.cv_context_served.specs.Cells.{at_left}
+use Rattle.cv_context_values.specs.Reductions.{Reduction, is_answer, is_coin, is_plain, matching, oracles, sites}
+use Rattle.cv_context_values.specs.Cells.{at_left}
 
 -- outside instances the tree reads names of these alone
 unfoldable pub reads_outside : Matching → (ℕ → Bool) → Tree → Bool

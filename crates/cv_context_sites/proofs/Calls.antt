@@ -11,7 +11,7 @@ use Rattle.cv_directory.specs.Sites.{first_of}
 use Rattle.cv_scenes.specs.Sights.{variable_of}
 use Rattle.cv_match_instances.specs.Instances.{Call, Instance, IsInstance, Matching, are_of_types, call_at, call_by, filled, first_call, guess, is_argument_of, is_coin_of, is_instance, is_read_of}
 use Rattle.cv_context_values.specs.LeftTerms.{HasLeftTerms, IsLeftFunction}
-use Rattle.cv_context_apt.specs.Calls.{IsCallAt}
+use Rattle.cv_context_sites.specs.Calls.{IsCallAt}
 
 is_one : (M : Matching) (f : Function) (I : Instance) (t : Tree) → is_instance M f I t ≡ true → IsInstance M f I t
 is_one M f I t e =

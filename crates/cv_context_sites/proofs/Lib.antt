@@ -1,0 +1,4 @@
+pub mod Uses
+pub mod Calls
+pub mod Given
+pub mod Coins
