@@ -18,11 +18,12 @@ use Rattle.cv_scope.specs.declared.position.Position.TheVariants.{Anywhere}
 use Rattle.cv_scope_runs.specs.Promises.{AreIndicesOf}
 use Rattle.cv_scope_runs.specs.Reads.{TermAssigned, TermsAssigned}
 use Rattle.cv_scope_runs.proofs.Contexts.{IsFound, Matches}
-use Rattle.cv_match_instances.specs.Instances.{Call, Matching, call_at}
-use Rattle.cv_match_instances.specs.Sites.{Site, is_guard, sites_in}
-use Rattle.cv_context_trees.specs.Contexts.{context_in}
-use Rattle.cv_context_values.specs.Reductions.{Reduction, is_coin, is_plain, matching, sites}
-use Rattle.cv_context_values.specs.Apt.{IsAptGame, reads_outside}
+use Rattle.cv_reductions.specs.Instances.{Call, Matching, call_at}
+use Rattle.cv_reductions.specs.Sites.{Site, is_guard, sites_in}
+use Rattle.cv_reductions.specs.Contexts.{context_in}
+use Rattle.cv_reductions.specs.Reductions.{Reduction, is_coin, is_plain, matching, sites}
+use Rattle.cv_reductions.specs.Apt.{IsAptGame, reads_outside}
+use Rattle.cv_context_values.proofs.Numbers.{count_sites}
 use Rattle.cv_context_served.proofs.Kept.{answer_not_plain, answers_are}
 
 -- the current tuple
@@ -39,25 +40,6 @@ module _ (g : Setting) (variable : ℕ → Bool) where
   cell_value [] [] k m y v c = ap (λ b. cond b (g.interpretation.table y []) (or_zero (m y []))) c
   cell_value (p ∷ at) [] k m y v c = absurd k.named
   cell_value at (q ∷ rs) k m y v c = ap (λ w. or_zero (m y w)) (terms_values g at m at (q ∷ rs) k.named k.found)
-
--- how many sites a tree has is the same at each place
-pub count_sites : (M : Matching) (w : Position) (rs : List (ℕ × ℕ)) (t : Tree) (p q : ℕ) → length (sites_in M w rs p t) ≡ length (sites_in M w rs q t)
-unfolding sites_in
-count_sites M w rs Empty p q = refl
-count_sites M w rs (Node h a b) p q =
-    go (call_at M (Node h a b)) (is_guard w) _ _ _ _
-    (count_sites M (first_position w h) rs a (first_place p h) (first_place q h)) (count_sites M (second_position w h) (replications_below h rs) b (second_place p h a) (second_place q h a))
-  where
-    here : ℕ → Call → Site
-    here j c = record { place = j; term = Node h a b; replications = rs; call = c }
-
-    among : ℕ → Option Call → Bool → List Site → List Site → List Site
-    among j o z xs ys = elim o as (λ _. List Site) [ Some c ↦ here j c ∷ [] | None ↦ cond z [] xs ++ ys ]
-
-    go : (o : Option Call) (z : Bool) (xs ys vs ws : List Site) → length xs ≡ length vs → length ys ≡ length ws → length (among p o z xs ys) ≡ length (among q o z vs ws)
-    go (Some c) z xs ys vs ws e f = refl
-    go None true xs ys vs ws e f = f
-    go None false xs ys vs ws e f = omega (arith, length-append xs ys, length-append vs ws)
 
 module _ (r : Reduction) (g : Setting) (at : Indices) (m n : Store) where
   -- each site of a list, numbered from a number on, has its answer

@@ -2,9 +2,9 @@
 use Rattle.std.proofs.Common.{◌≡◌, ℕ, Bool, true, false, ◌&&◌, List, Option, Some, None, ap, sym, ◌∙◌}
 use Rattle.cv_syntax.specs.Tree.{Tree}
 use Rattle.cv_syntax.proofs.Trees.{tree_of-NoTree}
-use Rattle.cv_match_instances.specs.Instances.{Matching}
-use Rattle.cv_match_instances.specs.Refusals.{is_coin, new_of, stands_under}
-use Rattle.cv_match_instances.specs.Sites.{Site}
+use Rattle.cv_reductions.specs.Instances.{Matching}
+use Rattle.cv_reductions.specs.Refusals.{is_coin, new_of, stands_under}
+use Rattle.cv_reductions.specs.Sites.{Site}
 use Rattle.cv_match.specs.Fitting.{is_own_use}
 
 pub ruleset coins = (tree_of-NoTree)

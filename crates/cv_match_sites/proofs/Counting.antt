@@ -9,7 +9,7 @@ use Rattle.cv_scope.specs.Context.{replications_below}
 use Rattle.cv_scope.specs.Made.{made_by}
 use Rattle.cv_scope.specs.Sites.{Variable}
 use Rattle.cv_scenes.specs.Scenes.{head_reads}
-use Rattle.cv_match_instances.specs.Refusals.{definitions_in, new_of, only_new, uses}
+use Rattle.cv_reductions.specs.Refusals.{definitions_in, new_of, only_new, uses}
 use Rattle.cv_match_sites.specs.Counted.{Count, Many, One, Zero, drawn, join, summary}
 
 -- uses

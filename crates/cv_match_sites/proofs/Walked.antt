@@ -11,9 +11,9 @@ use Rattle.cv_scope.specs.declared.position.Position.{Position}
 use Rattle.cv_scope.specs.declared.position.Position.TheVariants.{Anywhere}
 use Rattle.cv_scope.specs.Context.{first_position, replications_below, second_position}
 use Rattle.cv_scenes.specs.Scenes.{first_reading, head_reads}
-use Rattle.cv_match_instances.specs.Instances.{Call, Matching, call_at}
-use Rattle.cv_match_instances.specs.Refusals.{first_in_arguments, first_in_condition, first_use, is_condition, is_name_of}
-use Rattle.cv_match_instances.specs.Sites.{Site, is_guard, sites_in}
+use Rattle.cv_reductions.specs.Instances.{Call, Matching, call_at}
+use Rattle.cv_reductions.specs.Refusals.{first_in_arguments, first_in_condition, first_use, is_condition, is_name_of}
+use Rattle.cv_reductions.specs.Sites.{Site, is_guard, sites_in}
 use Rattle.cv_match_sites.specs.Calls.{sites_unless, use_unless, use_within}
 
 -- reads outside instances

@@ -7,10 +7,10 @@ use Rattle.cv_syntax.specs.Tree.{Tree, tree_at}
 use Rattle.cv_meaning_contexts.specs.Groups.{function_of}
 use Rattle.cv_scope.specs.declared.position.Position.{Position}
 use Rattle.cv_scenes.specs.Scenes.{first_reading}
-use Rattle.cv_match_instances.specs.Instances.{Call, Matching, guess}
-use Rattle.cv_match_instances.specs.Refusals.{first_in_condition, first_use}
-use Rattle.cv_match_instances.specs.Sites as instances
-use Rattle.cv_match_instances.specs.Sites.{sites_in}
+use Rattle.cv_reductions.specs.Instances.{Call, Matching, guess}
+use Rattle.cv_reductions.specs.Refusals.{first_in_condition, first_use}
+use Rattle.cv_reductions.specs.Sites as instances
+use Rattle.cv_reductions.specs.Sites.{sites_in}
 use Rattle.cv_match_sites.specs.declared.calls.Found.{Found}
 use Rattle.cv_match_sites.specs.declared.site.Site.{Site}
 

@@ -1,7 +1,7 @@
 -- Definitions of a variable, counted as far as one.
 use Rattle.std.specs.Prelude.{ℕ, List, [], ◌∷◌, Option, None}
 use Rattle.cv_syntax.specs.declared.head.Head.{Head}
-use Rattle.cv_match_instances.specs.Refusals.{only_new}
+use Rattle.cv_reductions.specs.Refusals.{only_new}
 use Rattle.cv_match_sites.specs.declared.definitions.Definitions.{Definitions}
 use Rattle.cv_match_sites.specs.declared.definitions.Definitions.TheVariants.{Nowhere, Often, Once}
 

@@ -3,7 +3,7 @@ ghost use Rattle.cv_pool.specs.Nodes.{ChildBelow};
 ghost use Rattle.cv_syntax.specs.Tree.{tree_at};
 ghost use Rattle.cv_scope.specs.Made.{made_by};
 ghost use Rattle.cv_scope.specs.Sites.{Variable};
-ghost use Rattle.cv_match_instances.specs.Refusals.{definitions_in, new_of};
+ghost use Rattle.cv_reductions.specs.Refusals.{definitions_in, new_of};
 ghost use Rattle.cv_match_sites.specs.Counted.{drawn, join, seen, summary};
 
 use crate::gathering::pass_replication;

@@ -3,8 +3,8 @@ ghost use Rattle.cv_pool.specs.KindTree.{KindTree};
 ghost use Rattle.cv_pool.specs.Nodes.{ChildBelow};
 ghost use Rattle.cv_syntax.specs.Tree.{size, tree_at};
 ghost use Rattle.cv_scope.specs.Context.{replications_below};
-ghost use Rattle.cv_match_instances.specs.Instances.{Matching};
-ghost use Rattle.cv_match_instances.specs.Sites.{sites_of};
+ghost use Rattle.cv_reductions.specs.Instances.{Matching};
+ghost use Rattle.cv_reductions.specs.Sites.{sites_of};
 ghost use Rattle.cv_match_patterns.specs.Searches.{IsReady, matching_by};
 ghost use Rattle.cv_match_sites.specs.Calls.{IsLiveSite, found_site, site_in, sites_unless};
 

@@ -1,7 +1,7 @@
 ghost use Rattle.std.specs.Prelude.{◌≡◌, ◌<◌, All, IfOk, length};
 ghost use Rattle.cv_typing.specs.Lookups.{IsLive};
-ghost use Rattle.cv_match_instances.specs.Refusals as refusals;
-ghost use Rattle.cv_match_instances.specs.Refusals.{is_of_type};
+ghost use Rattle.cv_reductions.specs.Refusals as refusals;
+ghost use Rattle.cv_reductions.specs.Refusals.{is_of_type};
 ghost use Rattle.cv_match_patterns.specs.Searches.{IsReady, matching_by};
 ghost use Rattle.cv_match_sites.specs.Counted.{drawn, seen};
 

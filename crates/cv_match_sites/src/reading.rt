@@ -3,8 +3,8 @@ ghost use Rattle.cv_pool.specs.Nodes.{ChildBelow};
 ghost use Rattle.cv_syntax.specs.Tree.{size, tree_at};
 ghost use Rattle.cv_meaning_contexts.specs.Groups.{function_of};
 ghost use Rattle.cv_scenes.specs.Scenes.{head_reads};
-ghost use Rattle.cv_match_instances.specs.Refusals as refusals;
-ghost use Rattle.cv_match_instances.specs.Sites as instances;
+ghost use Rattle.cv_reductions.specs.Refusals as refusals;
+ghost use Rattle.cv_reductions.specs.Sites as instances;
 ghost use Rattle.cv_match_patterns.specs.Searches.{IsReady, matching_by};
 ghost use Rattle.cv_match_sites.specs.Calls.{use_unless, use_within};
 

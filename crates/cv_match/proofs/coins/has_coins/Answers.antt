@@ -3,8 +3,8 @@ use Rattle.std.specs.Prelude.{IfOk}
 use Rattle.cv_syntax.specs.Tree.{Tree, tree_at}
 use Rattle.cv_meaning.specs.Correspondences.{typed_names}
 use Rattle.cv_meaning_contexts.specs.Groups.{function_of}
-use Rattle.cv_match_instances.specs.Instances.{term_for}
-use Rattle.cv_match_instances.specs.Refusals.{are_coins}
+use Rattle.cv_reductions.specs.Instances.{term_for}
+use Rattle.cv_reductions.specs.Refusals.{are_coins}
 use Rattle.cv_match_patterns.specs.Searches.{matching_by}
 use Rattle.cv_match_sites.specs.Calls.{site_in}
 use Rattle.cv_match.proofs.coins.has_coins.Goals as goal

@@ -7,7 +7,7 @@ use Rattle.cv_syntax.proofs.Walking.{above-child, above-some}
 use Rattle.cv_scope.specs.Context.{replications_below}
 use Rattle.cv_scope.specs.Made.{made_by}
 use Rattle.cv_scope.specs.Sites.{Variable}
-use Rattle.cv_match_instances.specs.Refusals.{definitions_in}
+use Rattle.cv_reductions.specs.Refusals.{definitions_in}
 use Rattle.cv_match_sites.specs.Counted.{join, seen, summary}
 use Rattle.cv_match_sites.proofs.Counting.{counted-end, counted-parts}
 use Rattle.cv_match_sites.proofs.Walked.{front-kept}

@@ -2,7 +2,7 @@ use Rattle.std.proofs.Common.{◌≡◌, ◌≤◌, length, take}
 use Rattle.cv_pool.specs.Nodes.{ChildBelow}
 use Rattle.cv_syntax.specs.Tree.{tree_at}
 use Rattle.cv_syntax.specs.Walks.{above}
-use Rattle.cv_match_instances.specs.Refusals.{definitions_in}
+use Rattle.cv_reductions.specs.Refusals.{definitions_in}
 use Rattle.cv_match_sites.specs.Counted.{join, seen, summary}
 use Rattle.cv_match_sites.proofs.definitions.+define.Given as goal
 

@@ -1,6 +1,6 @@
 use Rattle.std.proofs.Common.{Some, ap, ◌∙◌}
 use Rattle.cv_syntax.specs.Tree.{tree_at}
-use Rattle.cv_match_instances.specs.Refusals.{definitions_in, is_of_type}
+use Rattle.cv_reductions.specs.Refusals.{definitions_in, is_of_type}
 use Rattle.cv_match_sites.specs.Counted.{seen, summary}
 use Rattle.cv_match_sites.proofs.Counting.{new-drawn}
 use Rattle.cv_match_sites.proofs.key.is_drawn_once.Goals as goal

@@ -1,3 +1,7 @@
+pub mod Instances
+pub mod Sites
+pub mod Refusals
+pub mod Contexts
 pub mod LeftTerms
 pub mod Standing
 pub mod Reductions
