@@ -1,0 +1,17 @@
+// The law of the answers' names in contexts: numbers above all names of file and game.
+#![tactic(auto)]
+
+ghost use Rattle.std.specs.Prelude.{ℕ, List, nat_lt};
+ghost use Rattle.cv_syntax.specs.Declarations.{Declaration};
+ghost use Rattle.cv_syntax.specs.Tree.{Tree};
+ghost use Rattle.cv_scenes.specs.Scenes.{KnowsQueries};
+ghost use Rattle.cv_reductions.specs.Contexts.{AreAnswers};
+ghost use Rattle.cv_context_answers.specs.Answers.{KnowsConstants, answer_above, file_scene};
+
+/// The numbers from the least one above all names of a file and of a game serve as answers, however many sites there
+/// are, where the file has its constants and the names for whose secrecy its queries ask.
+pub fn answers_above_are_answers()
+    ensures { (ds : List Declaration) (own : ℕ) (game : Tree) (sites : ℕ) →
+        KnowsQueries (file_scene ds own game) → KnowsConstants (file_scene ds own game) →
+        AreAnswers (file_scene ds own game) sites (answer_above own game) }
+{}
