@@ -1,3 +1,4 @@
+mod Defining
 mod Descending
 mod Judging
 mod Only

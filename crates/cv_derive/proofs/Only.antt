@@ -4,7 +4,7 @@ use Rattle.std.specs.Prelude.{◌==◌, if◌then◌else◌, option_and_then, op
 use Rattle.std.specs.List.{AllByRecursion}
 use Rattle.std.proofs.lemmas.Bool.{eqb-false}
 use Rattle.cv_syntax.specs.Declarations.{Declaration}
-use Rattle.cv_syntax.specs.Tree.{Tree}
+use Rattle.cv_syntax.specs.Tree.{Tree, subtree}
 use Rattle.cv_directory.specs.Definitions.{Definition, Entries, entries_of, most}
 use Rattle.cv_scope.specs.Above.{stands_at}
 use Rattle.cv_scope.specs.Behind.{sites_of}
@@ -18,6 +18,7 @@ use Rattle.cv_facts.proofs.Entries.{count-sites, first-sites}
 use Rattle.cv_derive_cells.specs.Only.{only_place, replications_by}
 use Rattle.cv_derive.specs.Sites.{IsSite, site_in}
 use Rattle.cv_derive.specs.declared.sites.Site.{Site}
+use Rattle.cv_derive.proofs.Defining.{Behind, behind-definition, definition-placed}
 use Rattle.cv_derive.proofs.Replications.{few-replications}
 
 -- what the first definition is where it is the only one
@@ -60,16 +61,30 @@ module _ (ds : List Declaration) (large : ℕ → Bool) (game : Tree) (x : ℕ) 
 stands-behind : (game : Tree) (o : Option ℕ) (q : ℕ) (Γ : Context) → option_and_then (stands_at game) o ≡ Some Γ → Some q ≡ o → stands_at game q ≡ Some Γ
 stands-behind game o q Γ e f = ap (option_and_then (stands_at game)) f ∙ e
 
+stood : (game : Tree) (Γ : Context) (o : Option ℕ) → option_and_then (stands_at game) o ≡ Some Γ → (q : ℕ) × (o ≡ Some q)
+stood game Γ None e = absurd (let z : None ≡ Some Γ = e in cc)
+stood game Γ (Some q) e = (q, refl)
+
 module _ (game : Tree) (there : Option Context) (o : Option Definition) (k : Only game there o) where
   place-there : None ≡ option_map (λ (d : Definition). d.place) o → ⊥
   place-there e = let z : None ≡ Some k.definition.place = e ∙ ap (option_map (λ (d : Definition). d.place)) k.first in cc
+
+  pub root-there : None ≡ option_map (λ (d : Definition). d.tree) o → ⊥
+  root-there e = let z : None ≡ Some k.definition.tree = e ∙ ap (option_map (λ (d : Definition). d.tree)) k.first in cc
 
   module _ (p : ℕ) (e : Some p ≡ option_map (λ (d : Definition). d.place) o) where
     place-same : p ≡ k.definition.place
     place-same = let z : Some p ≡ Some k.definition.place = e ∙ ap (option_map (λ (d : Definition). d.place)) k.first in cc
 
-    pub behind-there : None ≡ behind_at game p → ⊥
-    behind-there f = let z : None ≡ Some k.context = ap (option_and_then (stands_at game)) (f ∙ ap (behind_at game) place-same) ∙ k.behind in cc
+    -- the process stands behind the definition as it does behind the tree of the definition's node
+    module _ (placed : (d : Definition) → o ≡ Some d → subtree game d.place ≡ Some d.tree) (t : Tree) (r : Some t ≡ option_map (λ (d : Definition). d.tree) o) where
+      tree-same : t ≡ k.definition.tree
+      tree-same = let z : Some t ≡ Some k.definition.tree = r ∙ ap (option_map (λ (d : Definition). d.tree)) k.first in cc
+
+      pub behind-root : Behind game p t
+      behind-root =
+          let s = stood game k.context (behind_at game k.definition.place) k.behind in
+          subst (λ u. Behind game p u) (sym tree-same) (subst (λ q. Behind game q k.definition.tree) (sym place-same) (behind-definition game k.definition.place k.definition.tree s.0 (placed k.definition k.first) s.1))
 
     module _ (q : ℕ) (f : Some q ≡ behind_at game p) where
       stands : stands_at game q ≡ Some k.context
@@ -96,6 +111,10 @@ module _ (ds : List Declaration) (large : ℕ → Bool) (game : Tree) (x : ℕ) 
   placed-at : (c : Bool) → (e.count x == 1) ≡ c → (q : ℕ) → Some q ≡ (if c then option_map (λ (d : Definition). d.place) (e.first x) else None) → Only game (only_site (sites_of game x)) (e.first x) × (Some q ≡ option_map (λ (d : Definition). d.place) (e.first x))
   placed-at true i q p = (is-only ds large game x e w same (e.count x) refl (eqb-true (e.count x) 1 i), p)
   placed-at false i q p = absurd (let z = p in cc)
+
+  -- and the definition stands there
+  pub rooted : (d : Definition) → e.first x ≡ Some d → subtree game d.place ≡ Some d.tree
+  rooted d f = definition-placed game x d (sym (ap (λ (y : Entries). y.first x) same) ∙ f)
 
   pub placed : (q : ℕ) → Some q ≡ only_place e x → Only game (only_site (sites_of game x)) (e.first x) × (Some q ≡ option_map (λ (d : Definition). d.place) (e.first x))
   placed q p = placed-at (e.count x == 1) refl q p

@@ -20,6 +20,7 @@ use Rattle.cv_derivations.specs.Lines.{count, lines_of}
 use Rattle.cv_derive_citing.specs.declared.citing.Citing.{Citing}
 use Rattle.cv_derive_citing.specs.Bookmarks.{visible_to}
 use Rattle.cv_derive_citing.specs.Citing.{cited_from}
+use Rattle.cv_derive_sizes.specs.Sizes.{AreSizes}
 use Rattle.cv_derive_terms.specs.Typed.{IsSightOf}
 use Rattle.cv_derive.specs.declared.sight.Assumed.{Assumed}
 use Rattle.cv_derive.specs.declared.sight.Assumed.TheVariants as assumed
@@ -68,3 +69,4 @@ pub record Sees (s : Sight) : Type 0 where
   pub entries : IfSome (directory_in s.arrays.now) (λ d. entries_in (trees_of s) d ≡ entries_of (large_in s.work.now.decls.list) (game_of s))
   pub above : above_of s.above.now ≡ above_at (sight_of s).scene s.place
   pub replications : s.replications.now ≡ replications_at (sight_of s).scene s.place
+  pub sizes : AreSizes (trees_of s) s.sizes.now

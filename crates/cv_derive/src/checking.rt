@@ -29,6 +29,7 @@ use crate::reasons::is_right;
 use crate::sight::{Assumed, Sight};
 use cv_derive_citing::{Bookmarks, Citing};
 use cv_derive_lines::{Claim, Line, count, ends_in, ends_with, line_of};
+use cv_derive_sizes::Sizes;
 use cv_derive_terms::is_condition;
 use cv_directory::Sort;
 use cv_syntax::{Game, NodeId, Work, read_node};
@@ -208,12 +209,14 @@ pub fn check(
         × (ends_so (tree_at work.now.pool.trees by) (tree_at work.now.pool.trees targets)
         ≡ false)) }
 {
+    let sizes = Sizes::of(&work.pool, game.root);
     let sight = Sight {
         work,
         game,
         arrays,
         above,
         replications,
+        sizes: &sizes,
         place,
         lines: by,
     };

@@ -6,12 +6,14 @@ ghost use Rattle.cv_scope.specs.Above.{stands_at};
 ghost use Rattle.cv_scope.specs.Context.{Context, cells_of};
 ghost use Rattle.cv_scenes.specs.Terms.{replications_by};
 ghost use Rattle.cv_derive_cells.specs.Cells.{defined_second, is_among_under};
+ghost use Rattle.cv_derive_sizes.specs.Sizes.{AreSizes};
 ghost use Rattle.cv_derive.specs.Standing.{cells_under};
 ghost use Rattle.cv_derive.specs.Walks.{Descends};
 
 use cv_derive_cells::{defines, front, own_behind};
+use cv_derive_sizes::{Sizes, place_in};
 use cv_facts::above_behind;
-use cv_path::{Lies, place_in};
+use cv_path::Lies;
 use cv_scope::Position;
 use cv_syntax::{Game, NodeId, Opened, Pool, Work, read_node};
 
@@ -66,6 +68,7 @@ fn is_found(
 /// the place.
 fn down(
     pool: &Pool,
+    sizes: &Sizes,
     cell: Option<NodeId>,
     walk: Walk,
     n: NodeId,
@@ -73,6 +76,7 @@ fn down(
     names: &[(u32, u32)],
     terms: Option<NodeId>,
 ) -> Option<Walk>
+    requires sizes { AreSizes pool.now.trees sizes.now }
     requires at { walk.at ≡ Some n }
     requires live { n.0 < length pool.now.trees }
     requires fits { walk.above + size (tree_at pool.now.trees (Some n)) < 2 ^ 32 }
@@ -88,7 +92,7 @@ fn down(
     ensures own { IfSome result (λ next. ChildBelow (length pool.now.trees) next.own) }
 {
     let node = read_node(pool, n);
-    match place_in(pool, node, walk.left) {
+    match place_in(pool, sizes, node, walk.left) {
         Lies::Here => None,
         Lies::Within(rest) => Some(Walk {
             at: node.first,
@@ -116,6 +120,7 @@ fn down(
 /// At a place that the game hasn't, none is.
 pub(crate) fn is_defined_under(
     work: &Work,
+    sizes: &Sizes,
     game: Game,
     place: u32,
     replications: &[(u32, u32)],
@@ -125,6 +130,7 @@ pub(crate) fn is_defined_under(
 ) -> bool
     requires live { game.root.0 < length work.now.pool.trees }
     requires fits { size (tree_at work.now.pool.trees (Some game.root)) < 2 ^ 32 }
+    requires sizes { AreSizes work.now.pool.trees sizes.now }
     requires replications { replications_by
         (stands_at (tree_at work.now.pool.trees (Some game.root)) place) ≡ replications.now }
     requires terms { ChildBelow (length work.now.pool.trees) terms }
@@ -142,7 +148,7 @@ pub(crate) fn is_defined_under(
         found: false,
     };
     'down: while let Some(n) = walk.at {
-        let Some(next) = down(&work.pool, cell, walk, n, replications, names, terms) else {
+        let Some(next) = down(&work.pool, sizes, cell, walk, n, replications, names, terms) else {
             return walk.found;
         };
         walk = next;

@@ -9,12 +9,15 @@ ghost use Rattle.cv_scenes.specs.Terms.{replications_by};
 ghost use Rattle.cv_facts.specs.Facts.{equation_of, fact_of, term_of};
 ghost use Rattle.cv_facts.specs.Walks.{node_of};
 ghost use Rattle.cv_derive_substitution.specs.Under.{under};
+ghost use Rattle.cv_derive_sizes.specs.Sizes.{AreSizes};
 ghost use Rattle.cv_derive.specs.Standing.{facts_under};
 
+use crate::known::fact;
 use cv_derive_cells::{front, is_cell_under};
 use cv_derive_inferences::sides;
+use cv_derive_sizes::Sizes;
 use cv_derive_substitution::same_under;
-use cv_facts::{Fact, fact};
+use cv_facts::Fact;
 use cv_syntax::children::is_empty;
 use cv_syntax::{Game, Head, NodeId, Pool, Work, read_node};
 
@@ -103,6 +106,7 @@ fn says(
 /// place.
 pub(crate) fn is_fact_under(
     work: &Work,
+    sizes: &Sizes,
     game: Game,
     place: u32,
     replications: &[(u32, u32)],
@@ -113,6 +117,7 @@ pub(crate) fn is_fact_under(
 ) -> bool
     requires live { game.root.0 < length work.now.pool.trees }
     requires fits { size (tree_at work.now.pool.trees (Some game.root)) < 2 ^ 32 }
+    requires sizes { AreSizes work.now.pool.trees sizes.now }
     requires replications { replications_by
         (stands_at (tree_at work.now.pool.trees (Some game.root)) place) ≡ replications.now }
     requires terms { ChildBelow (length work.now.pool.trees) terms }
@@ -124,7 +129,7 @@ pub(crate) fn is_fact_under(
     if k == 0 {
         return false;
     }
-    match fact(work, game, place, k) {
+    match fact(&work.pool, sizes, game, place, k) {
         Some(known) => says(&work.pool, term, known, replications, names, terms),
         None => false,
     }

@@ -40,7 +40,17 @@ fn is_fact(s: &Sight, k: Option<NodeId>, term: Option<NodeId>) -> bool
 {
     let k = number(&s.work.pool, k);
     let none = front(s.replications, 0);
-    is_fact_under(s.work, s.game, s.place, s.replications, none, None, k, term)
+    is_fact_under(
+        s.work,
+        s.sizes,
+        s.game,
+        s.place,
+        s.replications,
+        none,
+        None,
+        k,
+        term,
+    )
 }
 
 /// Whether a term is the fact of a number at the site of a cited cell.
@@ -63,7 +73,9 @@ fn is_fact_there(
     let cell = cited_cell(&s.work.pool, citing, line);
     let k = number(&s.work.pool, k);
     match s.arrays {
-        Arrays::OfGame(directory) => is_site_fact(s.work, s.game, directory, cell, k, term),
+        Arrays::OfGame(directory) => is_site_fact(
+            s.work, s.sizes, s.game, directory, cell, k, term,
+        ),
         Arrays::OfSide(_, _) => false,
         Arrays::OfNothing => false,
     }
@@ -76,7 +88,16 @@ fn is_here(s: &Sight, cell: Option<NodeId>) -> bool
     ensures { result ≡ list_any (same_tree (tree_at (trees_of s.now) cell)) (sight_of s.now).cells }
 {
     let none = front(s.replications, 0);
-    is_defined_under(s.work, s.game, s.place, s.replications, none, None, cell)
+    is_defined_under(
+        s.work,
+        s.sizes,
+        s.game,
+        s.place,
+        s.replications,
+        none,
+        None,
+        cell,
+    )
 }
 
 /// Whether a cell is directly defined at the site of a cited cell.
@@ -91,7 +112,7 @@ fn is_there(s: &Sight, citing: &Citing, line: Option<NodeId>, cell: Option<NodeI
 {
     let other = cited_cell(&s.work.pool, citing, line);
     match s.arrays {
-        Arrays::OfGame(directory) => is_site_cell(s.work, s.game, directory, other, cell),
+        Arrays::OfGame(directory) => is_site_cell(s.work, s.sizes, s.game, directory, other, cell),
         Arrays::OfSide(_, _) => false,
         Arrays::OfNothing => false,
     }

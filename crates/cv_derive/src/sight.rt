@@ -1,3 +1,4 @@
+use cv_derive_sizes::Sizes;
 use cv_directory::Sort;
 use cv_syntax::{Game, NodeId, Work};
 use cv_typing::Arrays;
@@ -11,6 +12,7 @@ pub(crate) struct Sight<'a> {
     pub(crate) arrays: &'a Arrays,
     pub(crate) above: &'a HashMap<u32, Sort>,
     pub(crate) replications: &'a [(u32, u32)],
+    pub(crate) sizes: &'a Sizes,
     pub(crate) place: u32,
     pub(crate) lines: Option<NodeId>,
 }

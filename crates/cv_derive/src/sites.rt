@@ -9,12 +9,14 @@ ghost use Rattle.cv_scope.specs.Context.{Context};
 ghost use Rattle.cv_scope.specs.Phrases.{IsWellFormed};
 ghost use Rattle.cv_scenes.specs.Reasons.{is_tree};
 ghost use Rattle.cv_scenes.specs.Sights.{at_site, from_one};
+ghost use Rattle.cv_derive_sizes.specs.Sizes.{AreSizes};
 ghost use Rattle.cv_derive.specs.Sites.{IsSite, site_in};
 
 use crate::defined::is_defined_under;
 use crate::facts::is_fact_under;
 use arrayvec::ArrayVec;
 use cv_derive_cells::{only_definition, replications_of, variable};
+use cv_derive_sizes::Sizes;
 use cv_directory::Directory;
 use cv_facts::behind;
 use cv_syntax::children::first_of;
@@ -27,7 +29,8 @@ struct Site {
     replications: ArrayVec<(u32, u32), 8>,
 }
 
-/// The site of the variable of a cell, where there is one definition of it.
+/// The site of the variable of a cell, where there is one definition of it. The process is looked for from the definition's own
+/// node on, so that nothing before it is counted.
 fn site_of(work: &Work, game: Game, directory: &Directory, cell: Option<NodeId>) -> Option<Site>
     requires live { game.root.0 < length work.now.pool.trees }
     requires fits { size (tree_at work.now.pool.trees (Some game.root)) < 2 ^ 32 }
@@ -44,9 +47,10 @@ fn site_of(work: &Work, game: Game, directory: &Directory, cell: Option<NodeId>)
     let Some(definition) = only_definition(directory, x) else {
         return None;
     };
-    let place = behind(work, game, definition)?;
+    let root = directory.node(x)?;
+    let within = behind(work, Game { root }, 0)?;
     Some(Site {
-        place,
+        place: definition + within,
         replications: replications_of(directory, x),
     })
 }
@@ -54,6 +58,7 @@ fn site_of(work: &Work, game: Game, directory: &Directory, cell: Option<NodeId>)
 /// Whether a term is the fact of this number at the site of a cell's variable, with the cell's index terms for the indices.
 pub(crate) fn is_site_fact(
     work: &Work,
+    sizes: &Sizes,
     game: Game,
     directory: &Directory,
     cell: Option<NodeId>,
@@ -62,6 +67,7 @@ pub(crate) fn is_site_fact(
 ) -> bool
     requires live { game.root.0 < length work.now.pool.trees }
     requires fits { size (tree_at work.now.pool.trees (Some game.root)) < 2 ^ 32 }
+    requires sizes { AreSizes work.now.pool.trees sizes.now }
     requires formed { IsWellFormed (declarations work.now.pool.trees work.now.decls.list)
         (tree_at work.now.pool.trees (Some game.root)) }
     requires entries { entries_in work.now.pool.trees directory.now
@@ -78,12 +84,15 @@ pub(crate) fn is_site_fact(
     };
     let indices = site.replications.as_slice();
     let terms = first_of(&work.pool, cell);
-    is_fact_under(work, game, site.place, indices, indices, terms, k, term)
+    is_fact_under(
+        work, sizes, game, site.place, indices, indices, terms, k, term,
+    )
 }
 
 /// Whether a cell is directly defined at the site of another cell's variable, with that cell's index terms for the indices.
 pub(crate) fn is_site_cell(
     work: &Work,
+    sizes: &Sizes,
     game: Game,
     directory: &Directory,
     cell: Option<NodeId>,
@@ -91,6 +100,7 @@ pub(crate) fn is_site_cell(
 ) -> bool
     requires live { game.root.0 < length work.now.pool.trees }
     requires fits { size (tree_at work.now.pool.trees (Some game.root)) < 2 ^ 32 }
+    requires sizes { AreSizes work.now.pool.trees sizes.now }
     requires formed { IsWellFormed (declarations work.now.pool.trees work.now.decls.list)
         (tree_at work.now.pool.trees (Some game.root)) }
     requires entries { entries_in work.now.pool.trees directory.now
@@ -107,5 +117,7 @@ pub(crate) fn is_site_cell(
     };
     let indices = site.replications.as_slice();
     let terms = first_of(&work.pool, cell);
-    is_defined_under(work, game, site.place, indices, indices, terms, defined)
+    is_defined_under(
+        work, sizes, game, site.place, indices, indices, terms, defined,
+    )
 }

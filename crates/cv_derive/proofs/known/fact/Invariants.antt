@@ -1,0 +1,26 @@
+use Rattle.std.proofs.Common.{◌≡◌, ◌+◌, ◌≤◌, ◌++◌, List, Some, length}
+use Rattle.std.specs.Prelude.{option_map}
+use Rattle.cv_pool.specs.Nodes.{ChildBelow}
+use Rattle.cv_syntax.specs.Tree.{size, tree_at}
+use Rattle.cv_syntax.specs.Walks.{above}
+use Rattle.cv_scope.specs.Context.{Context}
+use Rattle.cv_facts.specs.Facts.{FactAt, facts_at, facts_from}
+use Rattle.cv_facts.specs.Walks.{IsLive, Tests}
+use Rattle.cv_derive.specs.Leading.{Counts}
+use Rattle.cv_derive.proofs.known.fact.Given as goal
+
+abbrev pub invariant-down : goal.invariant-down
+invariant-down l = record {
+  live : ChildBelow (l.fn.game.root.0 + 1) l.walk.at;
+  tested : ChildBelow (length l.pool.trees) l.walk.tested;
+  within : l.walk.above + size (tree_at l.pool.trees l.walk.at) ≤ size (tree_at l.pool.trees (Some l.fn.game.root));
+  context : Context;
+  tests : Tests l.pool.trees context l.walk.tested l.walk.above;
+  passed : List FactAt;
+  counts : Counts l.pool.trees l.fn.k passed l.count;
+  kept : IsLive (length l.pool.trees) l.count.fact;
+  same : option_map (λ fs. passed ++ fs) (facts_from l.walk.position context (tree_at l.pool.trees l.walk.at) l.walk.left) ≡ facts_at (tree_at l.pool.trees (Some l.fn.game.root)) l.fn.place;
+}
+
+abbrev pub decreases-down : goal.decreases-down
+decreases-down l = above l.walk.at
