@@ -1,0 +1,3 @@
+pub mod News
+pub mod Replications
+pub mod Typed
