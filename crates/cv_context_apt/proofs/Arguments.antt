@@ -18,7 +18,7 @@ pub both_none : (o u : Option ℕ) → first_of o u ≡ None → (o ≡ None) ×
 both_none None u e = (refl, e)
 both_none (Some x) u e = absurd (no_place x e)
 
-unread_unused : (x p : ℕ) (t : Tree) → first_reading x p t ≡ None → uses x t ≡ 0
+pub unread_unused : (x p : ℕ) (t : Tree) → first_reading x p t ≡ None → uses x t ≡ 0
 unfolding first_reading uses
 unread_unused x p Empty e = refl
 unread_unused x p (Node h a b) e = go (head_reads x h) e (λ f. unread_unused x (first_place p h) a f) (λ f. unread_unused x (second_place p h a) b f)
@@ -32,7 +32,7 @@ unfolding is_phrase uses
 nil_unused x Empty e = refl
 nil_unused x (Node h a b) e = absurd (both_ways false refl e)
 
-either : (a b : ℕ) → 0 < a + b → (0 < a) ⊎ (0 < b)
+pub either : (a b : ℕ) → 0 < a + b → (0 < a) ⊎ (0 < b)
 either zero b l = inr (omega arith)
 either (suc a) b l = inl (omega arith)
 

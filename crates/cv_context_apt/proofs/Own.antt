@@ -1,6 +1,6 @@
 -- In a game without a refusal coins and answers are used nowhere else, so what stands for arguments reads plain names alone.
-use Rattle.std.proofs.Common.{◌≡◌, ℕ, zero, suc, ◌+◌, ◌<◌, Bool, true, false, cond, ◌&&◌, ◌||◌, not, ◌==◌, List, [], ◌∷◌, ◌++◌, length, Option, Some, None, refl, sym, ap, ap₂, subst, ◌∙◌, eq-eqb, eqb-true, arith}
-use Rattle.std.proofs.lemmas.Bool.{both_ways, and_parts, eqb-false}
+use Rattle.std.proofs.Common.{◌≡◌, ℕ, zero, suc, ◌+◌, ◌<◌, Bool, true, false, cond, ◌&&◌, ◌||◌, not, ◌==◌, List, [], ◌∷◌, ◌++◌, length, Option, Some, None, is_some, refl, sym, ap, ap₂, subst, ◌∙◌, eq-eqb, eqb-true, arith}
+use Rattle.std.proofs.lemmas.Bool.{both_ways, and_parts, eqb-false, not-true}
 use Rattle.std.specs.List.{AllByRecursion, list_any}
 use Rattle.std.specs.Prelude.{nat_eq, slice_get}
 use Rattle.cv_syntax.specs.Tree.{Tree, Empty, Node, chain, first, reads_only, same_tree}
@@ -15,12 +15,12 @@ use Rattle.cv_reductions.specs.Refusals.{are_coins, first_argument_use, first_co
 use Rattle.cv_reductions.specs.Sites.{Site}
 use Rattle.cv_reductions.specs.Contexts.{AreAnswers}
 use Rattle.cv_reductions.specs.LeftTerms.{HasLeftTerms}
-use Rattle.cv_reductions.specs.Reductions.{Reduction, is_coin, is_plain, matching, sites}
+use Rattle.cv_reductions.specs.Reductions.{Reduction, is_answer, is_coin, is_plain, matching, sites}
 use Rattle.cv_reductions.specs.Apt.{IsSiteApt}
 use Rattle.cv_context_sites.specs.Uses.{IsUsedAt, uses_outside}
-use Rattle.cv_context_names.proofs.Plain.{not_plain}
+use Rattle.cv_context_names.proofs.Plain.{not_plain, one_below}
 use Rattle.cv_context_sites.proofs.Coins.{alone, given_at, not_key, site_call, site_given, there}
-use Rattle.cv_context_sites.proofs.Given.{firsts, look_at}
+use Rattle.cv_context_sites.proofs.Given.{firsts, look_at, read_uses}
 use Rattle.cv_context_sites.proofs.Uses.{filled_uses, one_site, uses_apart}
 use Rattle.cv_context_apt.proofs.Arguments.{argument_free, both_none}
 use Rattle.cv_context_apt.proofs.Outside.{head_plain, unnamed_unused}
@@ -78,7 +78,7 @@ zero_if zero f = refl
 zero_if (suc n) f = absurd (f (omega arith))
 
 -- a tree that uses plain names alone reads them alone
-unused_unread : (on : ℕ → Bool) (t : Tree) → ((x : ℕ) → on x ≡ false → uses x t ≡ 0) → reads_only on t ≡ true
+pub unused_unread : (on : ℕ → Bool) (t : Tree) → ((x : ℕ) → on x ≡ false → uses x t ≡ 0) → reads_only on t ≡ true
 unfolding uses reads_only
 unused_unread on Empty f = refl
 unused_unread on (Node h a b) f =
@@ -110,6 +110,24 @@ free_arguments M [] k s f e = absurd (no_item s e)
 free_arguments M (c ∷ ss) zero s f e = let same : c ≡ s = cc in subst (λ (d : Site). first_in_arguments M.key d.call.function.arguments d.call.function.body d.place d.term ≡ None) same (both_none (first_in_arguments M.key c.call.function.arguments c.call.function.body c.place c.term) (first_argument_use M ss) f).0
 free_arguments M (c ∷ ss) (suc k) s f e = free_arguments M ss k s (both_none (first_in_arguments M.key c.call.function.arguments c.call.function.body c.place c.term) (first_argument_use M ss) f).1 e
 
+-- what is tested of a coin's variable
+
+record IsTested (r : Reduction) (y : ℕ) (s : Site) (z : ℕ) : Type 0 where
+  chosen : is_some (new_of r.scene.game y) ≡ true
+  unasked : is_queried r.scene y ≡ false
+  count : uses y r.scene.game ≡ uses z s.call.function.body
+
+tested : (r : Reduction) (y : ℕ) (s : Site) (z : ℕ) (m : Tree) → refusals.is_coin (matching r) s z m (Some y) ≡ true → IsTested r y s z
+tested r y s z m h =
+    let p = and_parts (stands_under s.replications (new_of r.scene.game y)) _ h in
+    let w = and_parts (same_tree m (cell_of s.replications y)) _ p.1 in
+    let u = and_parts (not (is_queried r.scene y)) _ w.1 in
+    record { chosen = stands (new_of r.scene.game y) p.0; unasked = not-true (is_queried r.scene y) u.0; count = eqb-true (uses y r.scene.game) (uses z s.call.function.body) u.1 }
+  where
+    stands : (o : Option (ℕ × List (ℕ × ℕ))) → stands_under s.replications o ≡ true → is_some o ≡ true
+    stands None e = e
+    stands (Some d) e = refl
+
 -- the site of a coin's variable
 
 record CoinSite (r : Reduction) (y : ℕ) : Type 0 where
@@ -122,6 +140,8 @@ record CoinSite (r : Reduction) (y : ℕ) : Type 0 where
   coin_at : slice_get site.call.function.coins index ≡ Some coin
   term_at : slice_get site.call.instance.coins index ≡ Some term
   variable : variable_of term ≡ Some y
+  chosen : is_some (new_of r.scene.game y) ≡ true
+  unasked : is_queried r.scene y ≡ false
   count : uses y r.scene.game ≡ uses coin.0 site.call.function.body
 
 module _ (r : Reduction) (left : HasLeftTerms r.scene.declarations (matching r).group) (coins : first_coin_use (matching r) (sites r) ≡ None) where
@@ -131,6 +151,7 @@ module _ (r : Reduction) (left : HasLeftTerms r.scene.declarations (matching r).
       let g : FoundAt Tree (λ m. is_read_of y (variable_of m)) f.item.call.instance.coins = found_at Tree (λ m. is_read_of y (variable_of m)) f.item.call.instance.coins f.holds in
       let n = name_at (is_coin_of (matching r)) f.item.call.function.coins f.item.call.instance.coins (site_call r left f.index f.item f.at).instance.coins g.index g.item g.at in
       let v : variable_of g.item ≡ Some y = read_is y (variable_of g.item) g.holds in
+      let test : IsTested r y f.item n.name.0 = tested r y f.item n.name.0 g.item (subst (λ o. refusals.is_coin (matching r) f.item n.name.0 g.item o ≡ true) v (own_at (matching r) f.item f.item.call.function.coins f.item.call.instance.coins (own_coins (matching r) (sites r) f.index f.item coins f.at) g.index n.name g.item n.at g.at)) in
       record {
         number = f.index;
         site = f.item;
@@ -141,18 +162,19 @@ module _ (r : Reduction) (left : HasLeftTerms r.scene.declarations (matching r).
         coin_at = n.at;
         term_at = g.at;
         variable = v;
-        count = counted f.item n.name.0 g.item (Some y) (subst (λ o. refusals.is_coin (matching r) f.item n.name.0 g.item o ≡ true) v (own_at (matching r) f.item f.item.call.function.coins f.item.call.instance.coins (own_coins (matching r) (sites r) f.index f.item coins f.at) g.index n.name g.item n.at g.at));
+        chosen = test.chosen;
+        unasked = test.unasked;
+        count = test.count;
       }
-    where
-      counted : (s : Site) (z : ℕ) (m : Tree) (o : Option ℕ) → refusals.is_coin (matching r) s z m (Some y) ≡ true → uses y r.scene.game ≡ uses z s.call.function.body
-      counted s z m o h =
-          let p = and_parts (stands_under s.replications (new_of r.scene.game y)) _ h in
-          let w = and_parts (same_tree m (cell_of s.replications y)) _ p.1 in
-          let u = and_parts (not (is_queried r.scene y)) _ w.1 in
-          eqb-true (uses y r.scene.game) (uses z s.call.function.body) u.1
 
   coin_there : (y : ℕ) (c : CoinSite r y) → (uses_outside (matching r) Anywhere y r.scene.game ≡ 0) × IsUsedAt y c.number (sites r) × (uses y c.site.term ≡ uses c.coin.0 c.site.call.function.body)
   coin_there y c = there r left c.number c.index c.site c.coin c.term y c.at c.coin_at c.term_at c.variable c.count
+
+  pub coin_chosen : (y : ℕ) → is_coin r y ≡ true → is_some (new_of r.scene.game y) ≡ true
+  coin_chosen y e = (coin_site y e).chosen
+
+  pub coin_unasked : (y : ℕ) → is_coin r y ≡ true → is_queried r.scene y ≡ false
+  coin_unasked y e = (coin_site y e).unasked
 
   pub unused_outside : (y : ℕ) → is_coin r y ≡ true → uses_outside (matching r) Anywhere y r.scene.game ≡ 0
   unused_outside y e = (coin_there y (coin_site y e)).0
@@ -242,3 +264,22 @@ module _ (r : Reduction) (left : HasLeftTerms r.scene.declarations (matching r).
 
     pub site_without_refusal : IsWellFormed r.scene.declarations r.scene.game → first_argument_use (matching r) (sites r) ≡ None → AreAnswers r.scene (length (sites r)) r.answer → uses r.key (first s.call.instance.key) ≡ 0 → IsSiteApt r s.replications k s
     site_without_refusal formed free answers none = site_apt r left formed k s at coins (indices_plain none answers) (arguments_plain free answers)
+
+  get_some : (ss : List Site) (k : ℕ) → k < length ss → (s : Site) × (slice_get ss k ≡ Some s)
+  get_some [] k l = absurd (omega arith)
+  get_some (s ∷ ss) zero l = (s, refl)
+  get_some (s ∷ ss) (suc k) l = get_some ss k (omega arith)
+
+  -- each site reads the key, so no answer is the key
+  pub key_no_answer : AreAnswers r.scene (length (sites r)) r.answer → is_answer r r.key ≡ false
+  key_no_answer answers = go (is_answer r r.key) refl
+    where
+      go : (b : Bool) → is_answer r r.key ≡ b → b ≡ false
+      go false e = refl
+      go true e =
+          let q = one_below (λ k. r.answer k == r.key) (length (sites r)) e in
+          let g = get_some (sites r) q.number q.less in
+          let c = site_call r left q.number g.0 g.1 in
+          let none : uses (r.answer q.number) g.0.call.instance.key ≡ 0 = of_answers q.number g.0 g.1 (matching r).group.key.0 g.0.call.instance.key (key_stands q.number g.0 g.1) answers q.number q.less in
+          let some : 0 < uses (r.answer q.number) g.0.call.instance.key = subst (λ x. 0 < uses x g.0.call.instance.key) (sym (eqb-true (r.answer q.number) r.key q.holds)) (read_uses r.key g.0.call.instance.key c.instance.key) in
+          absurd (omega arith)

@@ -5,6 +5,7 @@ use Rattle.std.specs.List.{list_any}
 use Rattle.std.specs.Prelude.{slice_get}
 use Rattle.cv_syntax.specs.declared.head.Head.{Head}
 use Rattle.cv_syntax.specs.declared.head.Head.TheVariants.{Binder, Branch, Call, In, Key, Let, New}
+use Rattle.cv_syntax.specs.Declarations.{Declaration}
 use Rattle.cv_syntax.specs.Tree.{Tree, Empty, Node, chain, first, reads_only, same_tree, second}
 use Rattle.cv_syntax.proofs.Equality.{same_tree_exact}
 use Rattle.cv_meaning.specs.Interpretation.{is_constant_of}
@@ -87,6 +88,14 @@ module _ (c : ℕ → Bool) (y : ℕ) (constant : c y ≡ true) where
       ap F (made_none h a p.0 q.0)
       ∙ ap₂ ◌++◌ (none_defined rs a q.0) (none_defined (replications_below h rs) b q.1)
 
+-- so what has a `new` is none
+pub chosen_no_constant : (ds : List Declaration) (t : Tree) (x : ℕ) (d : ℕ × List (ℕ × ℕ)) → binds_none (is_constant_of ds) t ≡ true → new_of t x ≡ Some d → is_constant_of ds x ≡ false
+chosen_no_constant ds t x d free e = go (is_constant_of ds x) refl
+  where
+    go : (b : Bool) → is_constant_of ds x ≡ b → b ≡ false
+    go false f = refl
+    go true f = absurd (no_item d (ap only_new (sym (none_defined (is_constant_of ds) x f [] t free)) ∙ e))
+
 -- what the test of coins says
 
 pub own_coins : (M : Matching) (ss : List Site) (k : ℕ) (s : Site) → first_coin_use M ss ≡ None → slice_get ss k ≡ Some s → are_coins M s s.call.function.coins s.call.instance.coins ≡ true
@@ -140,11 +149,11 @@ module _ (r : Reduction) (left : HasLeftTerms r.scene.declarations (matching r).
       same y = eq-eqb y y refl
 
       free : (y : ℕ) → stands_under s.replications (new_of r.scene.game y) ≡ true → is_constant_of r.scene.declarations y ≡ false
-      free y d = go (is_constant_of r.scene.declarations y) refl
+      free y d = go (new_of r.scene.game y) refl d
         where
-          go : (b : Bool) → is_constant_of r.scene.declarations y ≡ b → b ≡ false
-          go false e = refl
-          go true e = absurd (both_ways _ (ap (λ ds. stands_under s.replications (only_new ds)) (none_defined (is_constant_of r.scene.declarations) y e [] r.scene.game formed.constants)) d)
+          go : (o : Option (ℕ × List (ℕ × ℕ))) → new_of r.scene.game y ≡ o → stands_under s.replications o ≡ true → is_constant_of r.scene.declarations y ≡ false
+          go None i e = absurd (both_ways false refl e)
+          go (Some d) i e = chosen_no_constant r.scene.declarations r.scene.game y d formed.constants i
 
   pub site_apt : first_coin_use (matching r) (sites r) ≡ None → reads_only (is_plain r) (first s.call.instance.key) ≡ true → reads_only (is_plain r) (chain s.call.instance.arguments) ≡ true → IsSiteApt r s.replications number s
   site_apt coins key arguments =
