@@ -1,0 +1,6 @@
+pub mod Children
+pub mod Small
+pub mod Keys
+pub mod Cells
+pub mod Games
+pub mod Whole
