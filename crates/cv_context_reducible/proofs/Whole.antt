@@ -18,6 +18,7 @@ use Rattle.cv_scope.specs.declared.position.Position.TheVariants.{Anywhere}
 use Rattle.cv_scenes.specs.Scenes.{asks_for, is_queried}
 use Rattle.cv_reductions.specs.Instances.{Matching}
 use Rattle.cv_reductions.specs.Refusals.{CoinUse, InCondition, KeyInArgument, NotOneSite, Refusal, Use, at_place, first_argument_use, first_coin_use, first_in_condition, first_refusal, first_use, has_key, is_of_type, new_of}
+use Rattle.cv_reductions.specs.LeftTerms.{HasLeftTerms}
 use Rattle.cv_reductions.specs.Reductions.{Reduction, is_coin, is_plain, matching, sites}
 use Rattle.cv_reductions.specs.Sites.{sites_of}
 use Rattle.cv_reductions.specs.Apt.{IsAptGame, IsTestApt}
@@ -26,6 +27,7 @@ use Rattle.cv_context_names.proofs.Plain.{not_plain}
 use Rattle.cv_context_indices.proofs.News.{value_sort}
 use Rattle.cv_context_indices.proofs.Replications.{all_new}
 use Rattle.cv_context_indices.proofs.Typed.{game_free, variable_there}
+use Rattle.cv_context_terms.proofs.Bodies.{left_terms}
 use Rattle.cv_context_apt.specs.Statements.{HasOwnSites}
 use Rattle.cv_context_apt.proofs.Own.{coin_chosen, coin_unasked, key_no_answer, key_no_coin, unused_outside}
 use Rattle.cv_context_apt.proofs.Sites.{chosen_no_constant}
@@ -98,6 +100,9 @@ asks_own true x = eq-eqb x x refl
 asks_own false x = eq-eqb x x refl
 
 module _ (r : Reduction) (h : IsReducible r) where
+  left : HasLeftTerms r.scene.declarations (matching r).group
+  left = left_terms r.scene.declarations r.equivalence h.form h.accepted
+
   allowed : IsAllowed (matching r)
   allowed = is_allowed (matching r) h.allowed
 
@@ -108,13 +113,13 @@ module _ (r : Reduction) (h : IsReducible r) where
   key_unasked = not-true (is_queried r.scene r.key) (and_parts (is_of_type (matching r).group.key.1 (new_of r.scene.game r.key)) _ allowed.key).1
 
   coin_new : (y : ℕ) → is_coin r y ≡ true → HasNew r.scene.game y
-  coin_new y e = of_some r.scene.game y (coin_chosen r h.left allowed.coins y e)
+  coin_new y e = of_some r.scene.game y (coin_chosen r left allowed.coins y e)
 
   there : (x : ℕ) → HasNew r.scene.game x → is_variable r.scene.game x ≡ true
   there x n = variable_there r.scene.game x n.definition.0 (value_sort r.scene.game x n.definition h.formed.phrase n.is)
 
   own : HasOwnSites r
-  own = record { left = h.left; formed = h.formed; coins = allowed.coins; arguments = allowed.arguments; answers = h.answers }
+  own = record { left = left; formed = h.formed; coins = allowed.coins; arguments = allowed.arguments; answers = h.answers }
 
   pub apt_game : IsAptGame r
   apt_game =
@@ -127,22 +132,22 @@ module _ (r : Reduction) (h : IsReducible r) where
           names = record { key = only_by_new r.key game key_new.definition key_new.is; coins = λ y e. let n = coin_new y e in only_by_new y game n.definition n.is; answers = h.answers.unnamed };
           key = allowed.uses;
           conditions = allowed.conditions;
-          coins = λ y e. unused_outside r h.left allowed.coins y e;
+          coins = λ y e. unused_outside r left allowed.coins y e;
           sites = λ k s e. let z : 0 + k ≡ k = omega arith in ap (slice_get (sites r)) z ∙ e;
           indices = game_free ds game r.key key_new.definition.0 (value_sort game r.key key_new.definition h.formed.phrase key_new.is) h.formed.phrase h.names news h.typed;
           news = news;
           constants = h.formed.constants;
         });
-        terms = λ t e. only_terms ds (matching r) t h.left e;
+        terms = λ t e. only_terms ds (matching r) t left e;
         answers = h.answers.apart;
         free_answers = h.answers.no_constant;
         key_constant = chosen_no_constant ds game r.key key_new.definition h.formed.constants key_new.is;
-        key_coin = key_no_coin r h.left allowed.coins;
-        key_answer = key_no_answer r h.left allowed.coins h.answers;
+        key_coin = key_no_coin r left allowed.coins;
+        key_answer = key_no_answer r left allowed.coins h.answers;
       }
 
   unasked : (x : ℕ) → is_plain r x ≡ false → is_queried r.scene x ≡ false
-  unasked = not_plain r (λ x. is_queried r.scene x ≡ false) key_unasked (coin_unasked r h.left allowed.coins) h.answers.unasked
+  unasked = not_plain r (λ x. is_queried r.scene x ≡ false) key_unasked (coin_unasked r left allowed.coins) h.answers.unasked
 
   asked_plain : (one : Bool) (x : ℕ) → Contains (queries_in r.scene.declarations) (secrecy_query one x) → is_plain r x ≡ true
   asked_plain one x a = go (is_plain r x) refl
