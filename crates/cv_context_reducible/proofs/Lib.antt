@@ -4,3 +4,4 @@ pub mod Keys
 pub mod Cells
 pub mod Games
 pub mod Whole
+pub mod Worked

@@ -62,10 +62,10 @@ is_allowed M e = go (has_key M) refl e
         (first_of (at_place CoinUse (first_coin_use M (sites_of M))) (at_place KeyInArgument (first_argument_use M (sites_of M)))))
 
     go : (b : Bool) → has_key M ≡ b → cond b (
-      first_of (at_place Use (first_use M Anywhere 0 M.scene.game))
-      (first_of (at_place InCondition (first_in_condition M.key Anywhere 0 M.scene.game))
-      (first_of (at_place CoinUse (first_coin_use M (sites_of M))) (at_place KeyInArgument (first_argument_use M (sites_of M)))))
-    ) (Some NotOneSite) ≡ None → IsAllowed M
+        first_of (at_place Use (first_use M Anywhere 0 M.scene.game))
+        (first_of (at_place InCondition (first_in_condition M.key Anywhere 0 M.scene.game))
+        (first_of (at_place CoinUse (first_coin_use M (sites_of M))) (at_place KeyInArgument (first_argument_use M (sites_of M)))))
+        ) (Some NotOneSite) ≡ None → IsAllowed M
     go false k f = absurd (cc)
     go true k f =
         let a = neither (at_place Use (first_use M Anywhere 0 M.scene.game)) _ f in

@@ -1,1 +1,2 @@
 pub mod Reducible
+pub mod Worked

@@ -7,6 +7,7 @@ ghost use Rattle.cv_query_form.specs.Queries.{queries_in};
 ghost use Rattle.cv_reductions.specs.Reductions.{Reduction};
 ghost use Rattle.cv_reductions.specs.Apt.{IsAptGame, IsTestApt};
 ghost use Rattle.cv_context_reducible.specs.Reducible.{IsReducible};
+ghost use Rattle.cv_context_reducible.specs.Worked.{authenticating};
 
 /// A game that nothing refuses for an equivalence and a key is apt, node by node: so its context is served as the
 /// game is.
@@ -19,4 +20,9 @@ pub fn a_game_without_a_refusal_is_apt()
 pub fn asked_experiments_test_no_key()
     ensures { (r : Reduction) (x : Experiment) → IsReducible r →
         IsAsked (queries_in r.scene.declarations) x → IsTestApt r (mode_of x) }
+{}
+
+/// A small protocol in which messages are sent with tags meets the premises for authentication.
+pub fn worked_reduction()
+    ensures { IsReducible authenticating }
 {}

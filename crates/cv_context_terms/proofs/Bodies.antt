@@ -1,19 +1,19 @@
 -- The left bodies of an accepted equivalence are terms, which name what their functions bind.
-use Rattle.std.proofs.Common.{◌≡◌, ℕ, ◌<◌, Bool, true, false, ◌&&◌, ◌||◌, not, List, [], ◌∷◌, ◌++◌, ◌⊎◌, inl, inr, Option, Some, None, refl, sym, ap, subst, ◌∙◌}
+use Rattle.std.proofs.Common.{◌≡◌, ℕ, ◌<◌, Bool, true, false, ◌&&◌, ◌||◌, not, List, [], ◌∷◌, ◌++◌, inl, inr, Option, Some, None, refl, sym, ap, subst, ◌∙◌}
 use Rattle.std.proofs.lemmas.Bool.{both_ways, and_from, and_parts, or_left, or_right}
 use Rattle.std.specs.List.{AllByRecursion, IsDistinct}
 use Rattle.std.specs.Prelude.{nat_eq, reverse}
 use Rattle.cv_syntax.specs.declared.head.Head.TheVariants.{And, Apply, Cons, Eq, Leaf, No, Not, Or, Read, Yes}
 use Rattle.cv_syntax.specs.Declarations.{Declaration}
 use Rattle.cv_syntax.specs.NameSets.{is_one_of}
-use Rattle.cv_syntax.specs.Tree.{Tree, Empty, Node, bound_names, first, reads_only, second}
+use Rattle.cv_syntax.specs.Tree.{Tree, Empty, Node, bound_names, reads_only, second}
 use Rattle.cv_meaning.specs.Correspondences.{typed_names}
 use Rattle.cv_meaning.specs.Interpretation.{is_constant_of}
 use Rattle.cv_meaning_adequacy.proofs.Lists.{or_cases}
 use Rattle.cv_meaning_contexts.specs.Groups.{Group, Left, function_of, functions_of, key_of, side_group}
 use Rattle.cv_scope.specs.Phrases.{Nil, Term, Terms, is_phrase}
 use Rattle.cv_group_rules.specs.Faults.{BoundNames, IsAccepted, LeftIsTerm, ReadNames}
-use Rattle.cv_group_rules.specs.Rules.{Around, are_read, around, each_function, functions_in, index_in, is_asked, is_asked_at, is_bound, is_one_binder, is_term, key_in, reads, side_is_bound, takes, taken_names}
+use Rattle.cv_group_rules.specs.Rules.{Around, are_read, around, each_function, functions_in, index_in, is_asked, is_asked_at, is_bound, is_one_binder, is_term, key_in, reads, side_is_bound, taken_names}
 use Rattle.cv_reductions.specs.Instances.{names_of}
 use Rattle.cv_reductions.specs.Refusals.{uses}
 use Rattle.cv_reductions.specs.LeftTerms.{HasLeftTerms, IsLeftFunction, is_name_or_constant, reads_no_array}

@@ -1,5 +1,5 @@
 -- The names of a function in the order of their bindings, and the newest first.
-use Rattle.std.proofs.Common.{◌≡◌, ℕ, ◌+◌, ◌<◌, Bool, true, false, cond, ◌&&◌, ◌||◌, not, ◌==◌, List, [], ◌∷◌, ◌++◌, map, ◌⊎◌, inl, inr, refl, ap, ap₂, subst, ◌∙◌, arith}
+use Rattle.std.proofs.Common.{◌≡◌, ℕ, ◌+◌, ◌<◌, Bool, true, false, cond, ◌&&◌, ◌||◌, not, ◌==◌, List, [], ◌∷◌, ◌++◌, map, ◌⊎◌, inl, inr, refl, ap, ap₂, ◌∙◌, arith}
 use Rattle.std.proofs.lemmas.Bool.{both_ways, and_parts, not-true, or_left, or_parts, or_right}
 use Rattle.std.proofs.lemmas.List.{map-append}
 use Rattle.std.specs.List.{AllByRecursion, IsDistinct, list_any}
@@ -10,7 +10,7 @@ use Rattle.cv_syntax.specs.NameSets.{is_one_of}
 use Rattle.cv_syntax.specs.Tree.{Tree, Empty, Node, bound_names, first, second}
 use Rattle.cv_meaning.specs.Correspondences.{typed_names}
 use Rattle.cv_meaning_adequacy.proofs.Lists.{or_cases}
-use Rattle.cv_meaning_contexts.specs.Groups.{Function, function_of, key_of}
+use Rattle.cv_meaning_contexts.specs.Groups.{function_of, key_of}
 use Rattle.cv_group_rules.specs.Rules.{are_read, is_one_binder, reads, taken_names}
 use Rattle.cv_reductions.specs.Refusals.{uses}
 
