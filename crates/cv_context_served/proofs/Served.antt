@@ -53,7 +53,7 @@ no_coin n (s ∷ ss) y e =
     let p = or_false (list_any (λ m. is_read_of y (variable_of m)) s.call.instance.coins) (is_coin_variable ss y) e in
     ap (λ o. first_of o (coin_from (suc n) ss y)) (no_coin_by n s.call.function.coins s.call.instance.coins y p.0) ∙ no_coin (suc n) ss y p.1
 
-own_cell : (r : Reduction) (y : ℕ) (w : List ℕ) → (y == r.key) ≡ false → is_coin r y ≡ false → at_left r (New_at y w) ≡ New_at y w
+pub own_cell : (r : Reduction) (y : ℕ) (w : List ℕ) → (y == r.key) ≡ false → is_coin r y ≡ false → at_left r (New_at y w) ≡ New_at y w
 own_cell r y w e f = ap (λ b. cond b (Key_at w) (made_by r y w (coin_from 0 (sites r) y))) e ∙ ap (made_by r y w) (no_coin 0 (sites r) y f)
 
 -- lists of inputs
