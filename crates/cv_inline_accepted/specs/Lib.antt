@@ -1,0 +1,2 @@
+pub mod RightBodies
+pub mod Drawn
