@@ -1,1 +1,3 @@
 pub mod CallTexts
+pub mod Fine
+pub mod Follows
