@@ -1,0 +1,4 @@
+pub mod Fresh
+pub mod Texts
+pub mod Names
+pub mod Covered
