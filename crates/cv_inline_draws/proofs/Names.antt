@@ -93,7 +93,7 @@ module _ (d : DrawnNames) (a : AreApart d) where
   pub name_new : (r : Role) → is_drawn_for d r ≡ true → is_new d (name_for same_role roles d.names r) ≡ true
   name_new r i = among same_role roles d.names r roles_many i
 
-  pub index_drawn : (s q o b j m k : ℕ) → has_indices d s q o b j m ≡ true → j ≤ k → k < j + m → is_drawn_for d (Index s q o b k) ≡ true
+  index_drawn : (s q o b j m k : ℕ) → has_indices d s q o b j m ≡ true → j ≤ k → k < j + m → is_drawn_for d (Index s q o b k) ≡ true
   index_drawn s q o b j zero k e p l = absurd (omega arith)
   index_drawn s q o b j (suc m) k e p l =
       let f = and_parts (is_drawn_for d (Index s q o b j)) _ e in go (j == k) refl f.0 (λ z. index_drawn s q o b (suc j) m k f.1 z (omega arith))
@@ -101,6 +101,9 @@ module _ (d : DrawnNames) (a : AreApart d) where
       go : (c : Bool) → (j == k) ≡ c → is_drawn_for d (Index s q o b j) ≡ true → (suc j ≤ k → is_drawn_for d (Index s q o b k) ≡ true) → is_drawn_for d (Index s q o b k) ≡ true
       go true g h r = subst (λ z. is_drawn_for d (Index s q o b z) ≡ true) (eqb-true j k g) h
       go false g h r = r (let z : j ≡ k → ⊥ = λ z. both_ways _ g (eq-eqb j k z) in omega arith)
+
+  pub index_among : (s q o b m k : ℕ) → has_indices d s q o b 0 m ≡ true → k < m → is_drawn_for d (Index s q o b k) ≡ true
+  index_among s q o b m k e l = index_drawn s q o b 0 m k e (omega arith) (omega arith)
 
   pub label_again : (s q : ℕ) → has_find d s q ≡ true → find_in d ((drawn_in d).label s q) ≡ Some (s, q)
   label_again s q i =

@@ -1,5 +1,4 @@
-use Rattle.std.proofs.Common.{arith}
-use Rattle.cv_inline_draws.proofs.Names.{index_drawn, label_again, name_again, name_new, new_above, other_label, other_role}
+use Rattle.cv_inline_draws.proofs.Names.{index_among, label_again, name_again, name_new, new_above, other_label, other_role}
 use Rattle.cv_inline_draws.proofs.drawn_names_are_told_apart.Goals as goal
 
 pub returns-clause-roles : goal.returns-clause-roles
@@ -9,7 +8,7 @@ pub returns-clause-drawn : goal.returns-clause-drawn
 returns-clause-drawn c = name_new
 
 pub returns-clause-indices : goal.returns-clause-indices
-returns-clause-indices c d a s q o b count k e p = index_drawn d a s q o b 0 count k e (omega arith) (omega arith)
+returns-clause-indices c = index_among
 
 pub returns-clause-finds : goal.returns-clause-finds
 returns-clause-finds c = label_again
