@@ -4,3 +4,5 @@ pub mod Terms
 pub mod Next
 pub mod Sizes
 pub mod Chances
+pub mod Sites
+pub mod Laid

@@ -1,12 +1,13 @@
 -- A context and the right bodies of its calls as the grammar has them: what stands in a term defines nothing, and a name has one type
 -- wherever a game, or a function, defines it. This profile's own.
-use Rattle.std.specs.Prelude.{◌≡◌, ℕ, suc, Bool, true, false, ◌&&◌, ◌==◌, List, length, Some}
+use Rattle.std.specs.Prelude.{◌≡◌, ℕ, suc, Bool, true, false, ◌&&◌, ◌==◌, if◌then◌else◌, List, [], length, Option, Some, None}
 use Rattle.std.specs.List.{AllByRecursion}
 use Rattle.cv_syntax.specs.declared.head.Head.{Head}
 use Rattle.cv_syntax.specs.declared.head.Head.TheVariants.{In, Out, Event, New, Let, If, Find, Branch, Leaf, Read, Apply, Eq, And, Or, Not, Yes, No, Cons, Binder, Key, Call}
 use Rattle.cv_syntax.specs.Tree.{Tree, Empty, Node, first_place, second, second_place}
 use Rattle.cv_meaning.specs.Side.{CallNumber, no_side}
 use Rattle.cv_meaning_contexts.specs.Groups.{Function}
+use Rattle.cv_meaning_contexts.specs.Sites.{first_of}
 use Rattle.cv_meaning_contexts.specs.Bodies.{body_place, function_called}
 use Rattle.cv_inline_bodies.specs.Roles.{Plain, Gone}
 use Rattle.cv_inline_bodies.specs.Inlined.{Caller}
@@ -48,6 +49,39 @@ unfoldable pub IsTypedBy : (type : ℕ → ℕ) → Tree → Type 0
 IsTypedBy type Empty = Unit {0}
 IsTypedBy type (Node (New z U) a b) = (U ≡ type z) × IsTypedBy type a × IsTypedBy type b
 IsTypedBy type (Node h a b) = IsTypedBy type a × IsTypedBy type b
+
+-- the type with which a body first chooses a name
+unfoldable pub new_type : (name : ℕ) → Tree → Option ℕ
+new_type z Empty = None
+new_type z (Node (New x U) a b) = if x == z then Some U else first_of (new_type z a) (new_type z b)
+new_type z (Node h a b) = first_of (new_type z a) (new_type z b)
+
+abbrev pub type_or_none : Option ℕ → ℕ
+type_or_none None = 0
+type_or_none (Some U) = U
+
+abbrev pub type_in : Tree → (name : ℕ) → ℕ
+type_in body z = type_or_none (new_type z body)
+
+-- right bodies, and the branches of a `find`
+unfoldable mutual
+  pub is_right_text : Tree → Bool
+  is_right_text (Node (New z U) a b) = is_right_text b
+  is_right_text (Node (Let z U) a b) = is_term a && is_right_text b
+  is_right_text (Node If a (Node Cons b (Node Cons e f))) = is_term a && (is_right_text b && is_right_text e)
+  is_right_text (Node (Find l) a b) = are_right_texts a && is_right_text b
+  is_right_text m = is_term m
+
+  pub are_right_texts : Tree → Bool
+  are_right_texts Empty = true
+  are_right_texts (Node Cons (Node Branch (Node (Binder u n) x y) (Node Cons cells (Node Cons m body))) more) = is_term cells && (is_term m && (is_right_text body && are_right_texts more))
+  are_right_texts t = false
+
+-- a right function: it chooses nothing besides its body, and there each name with one type
+pub record IsRightFunction (f : Function) : Type 0 where
+  pub coins : f.coins ≡ []
+  pub body : is_right_text f.body ≡ true
+  pub typed : IsTypedBy (type_in f.body) f.body
 
 module _ (T : Text) where
   -- a context, and terms in it; the key and what takes an answer are gone in the next game

@@ -2,7 +2,7 @@ use Rattle.std.proofs.Common.{ap}
 use Rattle.cv_inline_draws.specs.DrawnNames.{find_in}
 use Rattle.cv_inline_draws.proofs.Names.{label_again}
 use Rattle.cv_inline_cells.specs.Cells.{names_in}
-use Rattle.cv_inline_cells.specs.Named.{text_of}
+use Rattle.cv_inline_cells.specs.Named.{names_of, text_of}
 use Rattle.cv_inline_cells.proofs.Swaps.{coins_alike, find_stays, like_tapes, made_swapped, picked_swapped}
 use Rattle.cv_inline_cells.proofs.swapped_tapes_are_alike.Goals as goal
 
@@ -22,4 +22,4 @@ pub returns-clause-coins : goal.returns-clause-coins
 returns-clause-coins c T find t a = coins_alike T find t 0 a.coins
 
 pub returns-clause-named : goal.returns-clause-named
-returns-clause-named c n t s q w h = ap t (picked_swapped (names_in (text_of n t t) (find_in n.names)) q w s (label_again n.names n.apart s q h))
+returns-clause-named c n t s q w h = ap t (picked_swapped (names_in (text_of n t t) (find_in (names_of n))) q w s (label_again (names_of n) n.apart s q h))
