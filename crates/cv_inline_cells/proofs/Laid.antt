@@ -8,7 +8,7 @@ use Rattle.cv_meaning.specs.Tapes.{Tape, blank}
 use Rattle.cv_syntax.specs.Declarations.{Declaration}
 use Rattle.cv_meaning.specs.Side.{CallNumber, no_side}
 use Rattle.cv_meaning.specs.Interpretation.{Interpretation, Setting, setting_of}
-use Rattle.cv_meaning.specs.Runs.{Adversary}
+use Rattle.cv_meaning.specs.Runs.{Adversary, Events}
 use Rattle.cv_meaning.specs.Experiments.{Experiment, mode_of}
 use Rattle.cv_meaning.specs.Chances.{Same}
 use Rattle.cv_meaning.specs.Advantage.{chance_of}
@@ -27,7 +27,11 @@ use Rattle.cv_inline_runs.specs.Texts.{Text, oracles_in}
 use Rattle.cv_inline_cells.specs.Layout.{AreRightBranches, IsCallText, IsContextText, IsLaidOut, IsRightFunction, IsRightText, IsTypedBy, IsTypedFunction, are_right_texts, is_right_text, is_term}
 use Rattle.cv_inline_cells.specs.Named.{NamedContext, arity_in, indices_of, named_on_tape, names_of, text_of, type_called, types_of}
 use Rattle.cv_inline_cells.proofs.Chances.{chances_of_context}
+use Rattle.cv_inline_cells.proofs.Sizes.{keys_are_terms}
 use Rattle.cv_inline_cells.proofs.Sites.{IsCalled, each_called}
+
+no_adversary : Adversary
+no_adversary = record { coins = []; coins_have_values = tt; moves = 0; next = λ coins answers. None }
 
 module _ (c : NamedContext) where
   abbrev T : Text
@@ -141,18 +145,18 @@ module _ (c : NamedContext) where
       calls_text [] f e g = tt
       calls_text (k ∷ ks) f e g = (call_text k (f k (inl refl)) e.0 g.0, calls_text ks (λ x h. f x (inr h)) e.1 g.1)
 
-      pub laid_out : c.g.side ≡ no_side → AllByRecursion (λ (k : Calling). is_term k.caller.key ≡ true) (callings_of c.context) → IsContextText T game c.context.game → IsLaidOut T (types_of c game) c.context.game
-      laid_out side keys text = record {
+      pub laid_out : c.g.side ≡ no_side → IsContextText T game c.context.game → IsLaidOut T (types_of c game) c.context.game
+      laid_out side text = record {
         game = side;
         text = text;
-        calls = calls_text cs (λ k h. h) keys (calls_covered (side_group Right c.context.equivalence) (callings_of c.context) c.names c.labels c.game_role);
+        calls = calls_text cs (λ k h. h) (keys_are_terms T (λ l. None) (types_of c game) Events no_adversary c.context.game text (side_group Right c.context.equivalence) 0 c.context.functions) (calls_covered (side_group Right c.context.equivalence) (callings_of c.context) c.names c.labels c.game_role);
         functions = typed_function;
       }
 
 pub chances_of_named : (c : NamedContext) (game : ℕ → ℕ) (x : Experiment) (a : Adversary) (declarations : List Declaration) (i : Interpretation) → c.g ≡ setting_of declarations i
-    → AllByRecursion IsRightFunction (side_group Right c.context.equivalence).functions → AllByRecursion (λ (k : Calling). is_term k.caller.key ≡ true) (callings_of c.context)
+    → AllByRecursion IsRightFunction (side_group Right c.context.equivalence).functions
     → IsContextText (text_of c blank blank) game c.context.game → ((t : Tape) → IsTextOf (named_on_tape c t) (mode_of x) a c.context.game)
     → Same (context_chance declarations i c.context Right x a) (chance_of (setting_of declarations i) x a (next_of c.context c.key (drawn_in (names_of c))))
-chances_of_named c game x a declarations i e right keys text texts =
+chances_of_named c game x a declarations i e right text texts =
     chances_of_context (text_of c blank blank) (find_in (names_of c)) (types_of c game) x a declarations i c.context c.key (drawn_in (names_of c)) e refl
-    (ap (λ g. sites_of g c.context.game c.context.functions) e) (laid_out c right game (ap (λ (g : Setting). g.side) e) keys text) texts
+    (ap (λ g. sites_of g c.context.game c.context.functions) e) (laid_out c right game (ap (λ (g : Setting). g.side) e) text) texts

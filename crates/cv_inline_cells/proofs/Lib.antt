@@ -6,3 +6,4 @@ pub mod Sizes
 pub mod Chances
 pub mod Sites
 pub mod Laid
+pub mod OneSender

@@ -4,7 +4,7 @@ use Rattle.std.proofs.lemmas.Bool.{both_ways, and_parts}
 use Rattle.std.specs.List.{AllByRecursion}
 use Rattle.cv_syntax.specs.declared.head.Head.{Head}
 use Rattle.cv_syntax.specs.declared.head.Head.TheVariants.{Repl, In, Out, Event, New, Let, If, Find, Branch, Leaf, Read, Binder, Key, Call}
-use Rattle.cv_syntax.specs.Tree.{Tree, Empty, Node, first_place, second_place}
+use Rattle.cv_syntax.specs.Tree.{Tree, Empty, Node, first, first_place, second_place}
 use Rattle.cv_meaning.specs.Tapes.{Cell, New_at, Find_at, Test_at, Key_at, Made_at, Picked_at, Coin, is_in, same_cell}
 use Rattle.cv_meaning.specs.Side.{CallNumber}
 use Rattle.cv_meaning.specs.Interpretation.{Interpretation, Setting}
@@ -13,16 +13,17 @@ use Rattle.cv_meaning.specs.Cells.{at_each_copy, bounds_under, cells, cells_at, 
 use Rattle.cv_meaning_laws.proofs.Lists.{each_append, each_flat_map}
 use Rattle.cv_meaning_laws.proofs.Listed.{Has, each_flat_map_in, has_flat_map, has_left, is_in-without_repeats}
 use Rattle.cv_meaning_runs.specs.Listed.{IsTestable, has_no_calls, head_is_no_call, head_is_testable, is_testable}
-use Rattle.cv_meaning_contexts.specs.Groups.{Function}
+use Rattle.cv_meaning_contexts.specs.Groups.{Function, Group, function_at}
+use Rattle.cv_meaning_contexts.specs.Sites.{first_of, is_call}
 use Rattle.cv_meaning_contexts.specs.Sides.{body_cells, cells_here, chosen_cell, function_cells}
 use Rattle.cv_meaning_contexts.specs.Bodies.{function_called}
 use Rattle.cv_inline_bodies.specs.Roles.{Role, Plain, Replication, Gone, TheKeyName, Variable, Index}
 use Rattle.cv_inline_games.specs.Draws.{same_role}
-use Rattle.cv_inline_games.specs.NextGame.{next_in}
+use Rattle.cv_inline_games.specs.NextGame.{Calling, call_of, calling, callings_from, next_in, replications_under}
 use Rattle.cv_inline_runs.specs.Texts.{Text, oracles_in}
 use Rattle.cv_inline_runs.specs.Contexts.{context_setting}
 use Rattle.cv_inline_cells.specs.Cells.{RightNames, at_right, find_for, is_that_find, names_in, new_for}
-use Rattle.cv_inline_cells.specs.Layout.{IsContextText, IsLaidOut, IsPattern, IsTypedBy, IsTypedFunction, Types}
+use Rattle.cv_inline_cells.specs.Layout.{IsContextText, IsLaidOut, IsPattern, IsTypedBy, IsTypedFunction, Types, is_term, is_term_head}
 use Rattle.cv_inline_cells.proofs.Nodes.{EachNode, NodeFact, each_copy, each_weaker, has_copy, node_with, term_bounds, term_each}
 use Rattle.cv_inline_cells.proofs.Terms.{IsTerm}
 use Rattle.cv_inline_cells.proofs.Next.{HoldsInNext, is_other, next_each, other_term}
@@ -156,7 +157,7 @@ module _ (T : Text) (find : ℕ → Option (ℕ × ℕ)) (types : Types) (m : Mo
   ContextFact bounds (Let x U) t = U ≡ types.game x
   ContextFact bounds (Binder x U) t = U ≡ types.game x
   ContextFact bounds (Key x) t = T.role x ≡ Gone
-  ContextFact bounds (Call x l) t = T.role x ≡ Gone
+  ContextFact bounds (Call x l) t = (T.role x ≡ Gone) × (is_term t ≡ true)
   ContextFact bounds (In x) (Node (Repl j k) y z) = ⊥
   ContextFact bounds h t = Unit {0}
 
@@ -188,7 +189,7 @@ module _ (T : Text) (find : ℕ → Option (ℕ × ℕ)) (types : Types) (m : Mo
   unfolding IsContextText EachNode
   context_facts bounds Empty e = tt
   context_facts bounds (Node (Key x) t b) e = (e.0, term_facts bounds t e.1, context_facts bounds b e.2)
-  context_facts bounds (Node (Call x l) t b) e = (e.0, term_facts bounds t e.1, context_facts bounds b e.3)
+  context_facts bounds (Node (Call x l) t b) e = ((e.0, e.1), term_facts bounds t e.1, context_facts bounds b e.3)
   context_facts bounds (Node (New x U) t b) e = ((e.0, e.1), context_facts bounds t e.2, context_facts bounds b e.3)
   context_facts bounds (Node (Let x U) t b) e = (e.0, term_facts bounds t e.1, context_facts bounds b e.2)
   context_facts bounds (Node If t b) e = (tt, term_facts bounds t e.0, context_facts bounds b e.1)
@@ -200,6 +201,48 @@ module _ (T : Text) (find : ℕ → Option (ℕ × ℕ)) (types : Types) (m : Mo
   context_facts bounds (Node (Read x) t b) e = (tt, term_facts bounds t e.0, term_facts bounds b e.1)
   context_facts bounds (Node (Binder y U) t b) e = absurd e
   context_facts bounds (Node h t b) e = (other_fact bounds h t refl, context_facts (bounds_under c bounds h) t e.0, context_facts (bounds_under c bounds h) b e.1)
+
+  -- each call has terms for its key and its arguments
+
+  call_at : (l : ℕ) (h : Head) (t : Tree) (bounds : List ℕ) → is_call l h ≡ true → ContextFact bounds h t → is_term t ≡ true
+  call_at l (Call x k) t bounds e f = f.1
+  call_at l h t bounds e f = absurd (both_ways false refl e)
+
+  call_terms : (l : ℕ) (t : Tree) (rs : List (ℕ × ℕ)) (bounds : List ℕ) → EachNode c ContextFact bounds t → (k : List (ℕ × ℕ) × Tree) → call_of rs l t ≡ Some k → is_term k.1 ≡ true
+  unfolding EachNode call_of
+  call_terms l Empty rs bounds f k e = absurd (cc)
+  call_terms l (Node h t b) rs bounds f k e =
+      go (is_call l h) refl e (λ q. call_terms l t (replications_under h rs) (bounds_under c bounds h) f.1 k q) (λ q. call_terms l b (replications_under h rs) (bounds_under c bounds h) f.2 k q)
+    where
+      either : (q r : Option (List (ℕ × ℕ) × Tree)) → first_of q r ≡ Some k → (q ≡ Some k → is_term k.1 ≡ true) → (r ≡ Some k → is_term k.1 ≡ true) → is_term k.1 ≡ true
+      either None r e f g = g e
+      either (Some x) r e f g = f e
+
+      go : (z : Bool) → is_call l h ≡ z → cond z (Some (rs, t)) (first_of (call_of (replications_under h rs) l t) (call_of (replications_under h rs) l b)) ≡ Some k
+          → (call_of (replications_under h rs) l t ≡ Some k → is_term k.1 ≡ true) → (call_of (replications_under h rs) l b ≡ Some k → is_term k.1 ≡ true) → is_term k.1 ≡ true
+      go true z e x y = let q : (rs, t) ≡ k = cc in subst (λ (p : List (ℕ × ℕ) × Tree). is_term p.1 ≡ true) q (call_at l h t bounds z f.0)
+      go false z e x y = either (call_of (replications_under h rs) l t) (call_of (replications_under h rs) l b) e x y
+
+  first_term : (t : Tree) → is_term t ≡ true → is_term (first t) ≡ true
+  unfolding is_term
+  first_term Empty e = refl
+  first_term (Node h x y) e = (and_parts (is_term x) _ (and_parts (is_term_head h) _ e).1).0
+
+  calling_key : (context : Tree) → IsContextText T types.game context → (l : ℕ) (o : Option Function) (k : Option (List (ℕ × ℕ) × Tree)) → call_of [] l context ≡ k → AllByRecursion (λ (x : Calling). is_term x.caller.key ≡ true) (calling l o k)
+  calling_key context f l None k e = tt
+  calling_key context f l (Some fn) None e = tt
+  calling_key context f l (Some fn) (Some k) e = (first_term (first k.1) (first_term k.1 (call_terms l context [] [] (context_facts [] context f) k e)), tt)
+
+  each_calling : (P : Calling → Type 0) (xs ys : List Calling) → AllByRecursion P xs → AllByRecursion P ys → AllByRecursion P (xs ++ ys)
+  each_calling P [] ys x y = y
+  each_calling P (z ∷ xs) ys x y = (x.0, each_calling P xs ys x.1 y)
+
+  pub keys_are_terms : (context : Tree) → IsContextText T types.game context → (group : Group) (l : ℕ) (fs : List ℕ) → AllByRecursion (λ (x : Calling). is_term x.caller.key ≡ true) (callings_from group context l fs)
+  unfolding callings_from
+  keys_are_terms context f group l [] = tt
+  keys_are_terms context f group l (p ∷ fs) =
+      each_calling (λ (x : Calling). is_term x.caller.key ≡ true) (calling l (function_at group p) (call_of [] l context)) (callings_from group context (suc l) fs)
+      (calling_key context f l (function_at group p) (call_of [] l context) refl) (keys_are_terms context f group (suc l) fs)
 
   -- the cells of a call
 
@@ -279,7 +322,7 @@ module _ (T : Text) (find : ℕ → Option (ℕ × ℕ)) (types : Types) (m : Mo
 
     context_node_tested : (x : ℕ) → T.role x ≡ Plain → (bounds : List ℕ) (h : Head) (t : Tree) → ContextFact bounds h t → IsTested x bounds h t
     context_node_tested x p bounds (Key y) t e = gone_apart x y p e
-    context_node_tested x p bounds (Call y l) t e = gone_apart x y p e
+    context_node_tested x p bounds (Call y l) t e = gone_apart x y p e.0
     context_node_tested x p bounds (In y) (Node (Repl j k) u v) e = absurd e
     context_node_tested x p bounds (In y) t e = refl
     context_node_tested x p bounds h t e = refl

@@ -3,7 +3,7 @@
 use Rattle.std.specs.Prelude.{◌≡◌, ℕ, suc, Bool, true, false, ◌&&◌, ◌==◌, if◌then◌else◌, List, [], length, Option, Some, None}
 use Rattle.std.specs.List.{AllByRecursion}
 use Rattle.cv_syntax.specs.declared.head.Head.{Head}
-use Rattle.cv_syntax.specs.declared.head.Head.TheVariants.{In, Out, Event, New, Let, If, Find, Branch, Leaf, Read, Apply, Eq, And, Or, Not, Yes, No, Cons, Binder, Key, Call}
+use Rattle.cv_syntax.specs.declared.head.Head.TheVariants.{In, Out, Event, New, Let, If, Find, Branch, Leaf, Read, Apply, Eq, And, Or, Not, Yes, No, Cons, Binder, Name, Key, Call}
 use Rattle.cv_syntax.specs.Tree.{Tree, Empty, Node, first_place, second, second_place}
 use Rattle.cv_meaning.specs.Side.{CallNumber, no_side}
 use Rattle.cv_meaning_contexts.specs.Groups.{Function}
@@ -19,7 +19,7 @@ pub record Types : Type 0 where
   pub game : ℕ → ℕ
   pub at_site : (site name : ℕ) → ℕ
 
--- terms, and lists of terms
+-- terms, and lists of terms and of names
 
 abbrev pub is_term_head : Head → Bool
 is_term_head (Leaf x) = true
@@ -32,6 +32,7 @@ is_term_head Not = true
 is_term_head Yes = true
 is_term_head No = true
 is_term_head Cons = true
+is_term_head (Name x) = true
 is_term_head h = false
 
 unfoldable pub is_term : Tree → Bool

@@ -1,3 +1,4 @@
 pub mod Cells
 pub mod Layout
 pub mod Named
+pub mod Worked

@@ -19,16 +19,19 @@ ghost use Rattle.cv_meaning_runs.specs.Agreement.{AgreeAt};
 ghost use Rattle.cv_meaning_contexts.specs.Groups.{Right, side_group};
 ghost use Rattle.cv_meaning_contexts.specs.Sites.{sites_of};
 ghost use Rattle.cv_meaning_contexts.specs.Sides.{Context};
+ghost use Rattle.cv_meaning_contexts.specs.Worked.{parity};
 ghost use Rattle.cv_meaning_contexts.specs.ContextAdvantage.{context_chance};
 ghost use Rattle.cv_inline_bodies.specs.Inlined.{Drawn};
 ghost use Rattle.cv_inline_bodies.specs.Roles.{Gone};
-ghost use Rattle.cv_inline_games.specs.NextGame.{Calling, callings_of, inlined_calls_of, next_in, next_of};
+ghost use Rattle.cv_inline_games.specs.NextGame.{inlined_calls_of, next_in, next_of};
 ghost use Rattle.cv_inline_draws.specs.DrawnNames.{drawn_in, find_in, has_find};
+ghost use Rattle.cv_inline_games.specs.Worked.{one_sender};
 ghost use Rattle.cv_inline_runs.specs.Texts.{Text};
 ghost use Rattle.cv_inline_runs.specs.Contexts.{AreLikeTapes, IsTextOf, context_setting};
 ghost use Rattle.cv_inline_cells.specs.Cells.{RightNames, at_right, on_tape};
-ghost use Rattle.cv_inline_cells.specs.Layout.{IsContextText, IsLaidOut, IsRightFunction, Types, is_term};
+ghost use Rattle.cv_inline_cells.specs.Layout.{IsContextText, IsLaidOut, IsRightFunction, Types};
 ghost use Rattle.cv_inline_cells.specs.Named.{NamedContext, named_on_tape, names_of, text_of, types_of};
+ghost use Rattle.cv_inline_cells.specs.Worked.{drawn_numbers, type_there};
 
 /// The cells of the key and of calls are swapped with those of the drawn names, each with one other.
 pub fn right_cells_are_swapped()
@@ -83,15 +86,22 @@ pub fn swapped_tapes_are_alike()
 pub fn contexts_with_drawn_names_are_laid_out()
     ensures laid_out { (c : NamedContext) (game : ℕ → ℕ) → c.g.side ≡ no_side →
         AllByRecursion IsRightFunction (side_group Right c.context.equivalence).functions →
-        AllByRecursion (λ (k : Calling). is_term k.caller.key ≡ true) (callings_of c.context) →
         IsContextText (text_of c blank blank) game c.context.game →
         IsLaidOut (text_of c blank blank) (types_of c game) c.context.game }
     ensures chances { (c : NamedContext) (game : ℕ → ℕ) (x : Experiment) (a : Adversary)
         (ds : List Declaration) (i : Interpretation) → c.g ≡ setting_of ds i →
         AllByRecursion IsRightFunction (side_group Right c.context.equivalence).functions →
-        AllByRecursion (λ (k : Calling). is_term k.caller.key ≡ true) (callings_of c.context) →
         IsContextText (text_of c blank blank) game c.context.game →
         ((t : Tape) → IsTextOf (named_on_tape c t) (mode_of x) a c.context.game) →
         Same (context_chance ds i c.context Right x a)
         (chance_of (setting_of ds i) x a (next_of c.context c.key (drawn_in (names_of c)))) }
+{}
+
+/// A context with one sender and one receiver, whose names are drawn, is of the grammar with its right functions. So
+/// nothing that is asked of texts is out of reach.
+pub fn one_sender_is_of_the_grammar()
+    ensures { (c : NamedContext) × (c.g ≡ setting_of [] parity) × (c.context ≡ one_sender)
+        × (c.names ≡ drawn_numbers)
+        × AllByRecursion IsRightFunction (side_group Right one_sender.equivalence).functions
+        × IsContextText (text_of c blank blank) type_there one_sender.game }
 {}
