@@ -1,0 +1,5 @@
+pub mod Drawing
+pub mod LabelLists
+pub mod Numbers
+pub mod Texts
+pub mod Tries

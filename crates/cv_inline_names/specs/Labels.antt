@@ -1,0 +1,8 @@
+-- The label of a node. This profile's own.
+use Rattle.std.specs.Prelude.{ℕ, List, [], ◌∷◌}
+use Rattle.cv_syntax.specs.declared.head.Head.{Head}
+use Rattle.cv_syntax.specs.declared.head.Head.TheVariants.{Find}
+
+abbrev pub label_of : Head → List ℕ
+label_of (Find l) = l ∷ []
+label_of h = []
