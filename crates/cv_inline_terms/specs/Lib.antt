@@ -1,0 +1,4 @@
+pub mod Stacks
+pub mod Callers
+pub mod Drawings
+pub mod Scopes

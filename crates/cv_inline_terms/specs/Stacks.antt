@@ -1,0 +1,16 @@
+-- What a list of parts has made so far. This profile's own.
+use Rattle.std.specs.Prelude.{ℕ, List, [], ◌∷◌}
+use Rattle.cv_syntax.specs.declared.head.Head.TheVariants.{Cons}
+use Rattle.cv_syntax.specs.declared.make.Make.{Make}
+use Rattle.cv_syntax.specs.Postorder.{made}
+use Rattle.cv_syntax.specs.Tree.{Tree, Empty, Node}
+use Rattle.cv_inline_bodies.specs.Inlined.{read_at}
+
+-- the trees, the newest first
+abbrev pub stack : List Make → List Tree
+stack parts = made [] parts
+
+-- the list of indices, as they are read here
+unfoldable pub tuple_at : Tree → List ℕ → Tree
+tuple_at here [] = Empty
+tuple_at here (u ∷ us) = Node Cons (read_at u here) (tuple_at here us)
