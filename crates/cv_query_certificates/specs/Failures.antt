@@ -1,0 +1,71 @@
+-- Which condition of a certificate fails first, and where: each is tested at all entries before the next one is. That a query is
+-- closed only once is the sequence's test. This profile's own.
+use Rattle.std.specs.Prelude.{ℕ, Bool, not, List, [], ◌∷◌, Option, None, Some, is_some, option_map}
+use Rattle.std.specs.List.{list_all}
+use Rattle.cv_lists.specs.Options.{first_of}
+use Rattle.cv_syntax.specs.declared.head.Head.TheVariants.{AtEntry, EventsCertificate}
+use Rattle.cv_syntax.specs.Tree.{Tree, Empty, Node, first}
+use Rattle.cv_meaning.specs.Correspondences.{Correspondence, correspondence_of}
+use Rattle.cv_derivations.specs.Ends.{ends_with}
+use Rattle.cv_scenes.specs.Derivations.{first_bad_line, unless}
+use Rattle.cv_scenes.specs.Scenes.{Scene}
+use Rattle.cv_scenes.specs.Sights.{sight_at}
+use Rattle.cv_query_certificates.specs.Claims.{Claim, entry_claims}
+use Rattle.cv_query_certificates.specs.EventNodes.{place_in}
+use Rattle.cv_query_certificates.specs.Forms.{has_form, left_places}
+
+pub record Failure : Type 0 where
+  pub condition : ℕ
+  pub place : ℕ
+
+abbrev pub failure : (condition : ℕ) → Option ℕ → Option Failure
+failure n p = option_map (λ place. record { condition = n; place = place }) p
+
+-- the place of the first part that isn't the entry that is due, or for which there is none: a part too many has its own place
+abbrev pub surplus_entry : (parts : Tree) → Option ℕ
+surplus_entry (Node h (Node AtEntry n e) more) = Some (place_in n)
+surplus_entry parts = None
+
+abbrev pub first_unformed : Scene → Correspondence → List ℕ → (parts : Tree) → Option ℕ
+first_unformed s q [] parts = surplus_entry parts
+first_unformed s q (p ∷ ps) Empty = Some p
+first_unformed s q (p ∷ ps) (Node h entry more) = first_of (unless (has_form s q p entry) p) (first_unformed s q ps more)
+
+-- the first entry one of whose claims fails a test
+abbrev pub first_failing : (Scene → (place : ℕ) → Claim → Bool) → Scene → Correspondence → List ℕ → (parts : Tree) → Option ℕ
+first_failing test s q (p ∷ ps) (Node h entry more) =
+    first_of (unless (list_all (test s p) (entry_claims s q p entry)) p) (first_failing test s q ps more)
+first_failing test s q ps parts = None
+
+abbrev pub is_right : Scene → (place : ℕ) → Claim → Bool
+is_right s p c = not (is_some (first_bad_line (sight_at s p) c.by))
+
+abbrev pub has_end : Scene → (place : ℕ) → Claim → Bool
+has_end s p c = ends_with c.by c.targets
+
+-- without `inj` no pair is needed: the place of the first part behind the entries
+abbrev pub first_surplus : List ℕ → (parts : Tree) → Option ℕ
+first_surplus ps Empty = None
+first_surplus [] (Node h part more) = Some (place_in (first part))
+first_surplus (p ∷ ps) (Node h part more) = first_surplus ps more
+
+abbrev pub parts_failure : Scene → Correspondence → List ℕ → (parts : Tree) → Option Failure
+parts_failure s q ps parts =
+    first_of (failure 2 (first_unformed s q ps parts))
+    (first_of (failure 3 (first_failing is_right s q ps parts))
+    (first_of (failure 4 (first_failing has_end s q ps parts))
+    (failure 5 (first_surplus ps parts))))
+
+-- the first of the places, or 0
+abbrev pub least_place : List ℕ → ℕ
+least_place [] = 0
+least_place (p ∷ ps) = p
+
+abbrev pub certificate_failure : Scene → Correspondence → (certificate : Tree) → Option Failure
+certificate_failure s q (Node EventsCertificate parts e) = parts_failure s q (left_places s q) parts
+certificate_failure s q certificate = Some (record { condition = 2; place = least_place (left_places s q) })
+
+-- of a certificate that has a rule
+abbrev pub first_failure : Scene → (query : Option Tree) → (certificate : Tree) → Option Failure
+first_failure s None certificate = Some (record { condition = 1; place = 0 })
+first_failure s (Some query) certificate = certificate_failure s (correspondence_of query) certificate

@@ -1,0 +1,6 @@
+pub mod EventNodes
+pub mod Claims
+pub mod Forms
+pub mod Accepted
+pub mod Failures
+pub mod Worked

@@ -1,0 +1,33 @@
+// Certificates of correspondences without `inj`: which are accepted, and which condition fails first.
+#![tactic(auto)]
+
+ghost use Rattle.std.specs.Prelude.{◌≡◌, ◌↔◌, ◌∷◌, [], true, false, Some, None};
+ghost use Rattle.std.specs.List.{AllByRecursion};
+ghost use Rattle.cv_syntax.specs.Tree.{Tree};
+ghost use Rattle.cv_scenes.specs.Scenes.{Scene};
+ghost use Rattle.cv_query_certificates.specs.Accepted.{IsAccepted, is_built};
+ghost use Rattle.cv_query_certificates.specs.Failures.{first_failure};
+ghost use Rattle.cv_query_certificates.specs.Worked.{begun, begun_once, cell_cases, cell_entry, direct, direct_cases, direct_entry, distinct, events, is_true, never, one_site, two_sites, two_sites_cases};
+
+/// A certificate that has a rule is accepted exactly where no condition of it fails.
+pub fn accepted_exactly_where_nothing_fails()
+    ensures { (s : Scene) (query certificate : Tree) → is_built query certificate ≡ true →
+        (IsAccepted s query certificate ↔ (first_failure s (Some query) certificate ≡ None)) }
+{}
+
+/// Which condition fails first of certificates for small games: the event above, a cell of a variable with one
+/// definition, witnesses and terms are accepted; `never` that ends with `true`, and a cell of a variable with two
+/// definitions, are not.
+pub fn worked_certificates()
+    ensures direct { AllByRecursion (λ c. first_failure direct c.0 c.1 ≡ c.2) direct_cases }
+    ensures cells { AllByRecursion (λ c. first_failure one_site c.0 c.1 ≡ c.2) cell_cases }
+    ensures two_sites { AllByRecursion (λ c. first_failure two_sites c.0 c.1 ≡ c.2) two_sites_cases }
+    ensures above { IsAccepted direct begun (events (direct_entry ∷ [])) }
+    ensures cell { IsAccepted one_site begun (events (cell_entry 26 ∷ [])) }
+    ensures other { IsAccepted two_sites begun (events (cell_entry 35 ∷ [])) → ⊥ }
+    ensures never { IsAccepted direct begun (events (never 4 (is_true ∷ []) ∷ [])) → ⊥ }
+    ensures injective { is_built begun_once (events (direct_entry ∷ [])) ≡ false }
+    ensures distinct { is_built begun (events (direct_entry ∷ distinct 4 ∷ [])) ≡ false }
+{
+    accepted_exactly_where_nothing_fails();
+}
