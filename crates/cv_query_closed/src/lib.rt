@@ -1,0 +1,2 @@
+// Queries whose right sides name what they may. Definitions alone, in `specs/`.
+#![tactic(auto)]
