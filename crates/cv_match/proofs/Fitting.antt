@@ -19,8 +19,8 @@ use Rattle.cv_scope.specs.Context.{first_position, replications_below, second_po
 use Rattle.cv_reductions.specs.Instances.{Call, Instance, Matching, call_at, call_by, first_call, instance_of}
 use Rattle.cv_reductions.specs.Sites as instances
 use Rattle.cv_reductions.specs.Sites.{is_guard, sites_in, sites_of}
-use Rattle.cv_match_sites.specs.declared.site.Site.{Site}
-use Rattle.cv_match_sites.specs.Calls.{site_in}
+use Rattle.cv_match_patterns.specs.declared.site.Site.{Site}
+use Rattle.cv_match_patterns.specs.Sites.{site_in}
 use Rattle.cv_match.specs.Fitting.{IsSmallSite}
 
 second-small : (t : Tree) → size (second t) ≤ size t

@@ -1,4 +1,4 @@
-pub mod Rows
+pub mod Walked
 pub mod Serving
 pub mod Fitting
 pub mod Refusing

@@ -8,7 +8,7 @@ use Rattle.cv_meaning_contexts.specs.Groups.{function_of}
 use Rattle.cv_reductions.specs.Instances.{Matching}
 use Rattle.cv_reductions.specs.Refusals.{are_coins, first_in_arguments, uses}
 use Rattle.cv_reductions.specs.Sites as instances
-use Rattle.cv_match_sites.specs.declared.site.Site.{Site}
+use Rattle.cv_match_patterns.specs.declared.site.Site.{Site}
 
 -- the places of its term and the size of its function's body fit in 32 bits
 pub record IsSmallSite (trees : List KindTree) (s : Site) : Type 0 where

@@ -2,10 +2,12 @@
 #![tactic(auto)]
 
 mod arguments;
-mod cells;
 mod coins;
 mod fault;
+mod gathering;
+mod key;
 mod matching;
+mod reading;
 
 pub use fault::MatchFault;
 pub use matching::{Match, matches};

@@ -5,18 +5,22 @@ ghost use Rattle.cv_typing.specs.Lookups.{IsLive};
 ghost use Rattle.cv_reductions.specs.Refusals.{first_refusal};
 ghost use Rattle.cv_reductions.specs.Sites.{sites_of};
 ghost use Rattle.cv_match_patterns.specs.Searches.{IsReady, matching_by};
-ghost use Rattle.cv_match_sites.specs.Calls.{IsLiveSite, site_in};
+ghost use Rattle.cv_match_patterns.specs.Sites.{HasInstance, IsLiveSite, site_in};
+ghost use Rattle.cv_match_uses.specs.Tallies.{IsTableOf};
 ghost use Rattle.cv_match.specs.Fitting.{IsSmallSite};
 ghost use Rattle.cv_match.specs.Matched.{IsFault, key_refusal, matching_of, site_refusal};
 
 use crate::arguments::argument_use;
 use crate::coins::coin_use;
 use crate::fault::MatchFault;
+use crate::gathering::sites;
+use crate::key::has_key;
+use crate::reading::outside_use;
 use cv_directory::Directory;
-use cv_match_patterns::Search;
-use cv_match_sites::{Site, condition_use, has_key, outside_use, sites};
+use cv_match_patterns::{Heads, Search, Site};
+use cv_match_uses::{UseTable, condition_use};
 use cv_scope::Position;
-use cv_syntax::children::first_of;
+use cv_syntax::children::{first_of, second_of};
 use cv_syntax::{Game, NameId, Work};
 use cv_typing::Arrays;
 use std::alloc::{AllocError, Global};
@@ -46,25 +50,29 @@ fn search_for(
         ≡ matching_of work.now.pool work.now.decls game.root equiv.0 x.0) }
 {
     let directory = Directory::of(alloc, &work.pool, &work.decls, game.root)?;
+    let side = first_of(&work.pool, work.decls.equiv(equiv));
+    let heads = Heads::of(alloc, &work.pool, second_of(&work.pool, side))?;
     Ok(Search {
         game: game.root,
-        side: first_of(&work.pool, work.decls.equiv(equiv)),
+        side,
         key: x.0,
         arrays: Arrays::OfGame(directory),
+        heads,
         above: HashMap::new(alloc),
     })
 }
 
 /// Whether the key has one definition, a `new` of its type, and is read in instances alone.
-fn check_key(alloc: Global, work: &Work, search: &Search) -> Result<(), MatchFault>
+fn check_key(work: &Work, search: &Search, table: &UseTable) -> Result<(), MatchFault>
     requires ready { IsReady work.now.pool search.now }
+    requires table { IsTableOf (tree_at work.now.pool.trees (Some search.now.game)) table.now }
     requires declared { All (IsLive (length work.now.pool.trees)) work.now.decls.list }
     ensures none { OnOk result
         (key_refusal (matching_by work.now.pool work.now.decls search.now) ≡ None) }
     ensures fault { IfErr result
         (IsFault (key_refusal (matching_by work.now.pool work.now.decls search.now))) }
 {
-    if !has_key(alloc, work, search)? {
+    if !has_key(work, search, table) {
         return Err(MatchFault::NotOneSite);
     }
     let game = Some(search.game);
@@ -80,12 +88,13 @@ fn check_key(alloc: Global, work: &Work, search: &Search) -> Result<(), MatchFau
 
 /// Whether the coins of sites are their own, and the arguments don't read the key.
 fn check_sites(
-    alloc: Global,
     work: &Work,
     search: &Search,
+    table: &UseTable,
     sites: &[Site],
 ) -> Result<(), MatchFault>
     requires ready { IsReady work.now.pool search.now }
+    requires table { IsTableOf (tree_at work.now.pool.trees (Some search.now.game)) table.now }
     requires declared { All (IsLive (length work.now.pool.trees)) work.now.decls.list }
     requires live { All (IsLiveSite (length work.now.pool.trees)) sites.now }
     requires small { All (IsSmallSite work.now.pool.trees) sites.now }
@@ -98,7 +107,7 @@ fn check_sites(
         (map (site_in work.now.pool.trees
         (matching_by work.now.pool work.now.decls search.now)) sites.now))) }
 {
-    if let Some(place) = coin_use(alloc, work, search, sites)? {
+    if let Some(place) = coin_use(work, search, table, sites) {
         return Err(MatchFault::CoinUse(place));
     }
     if let Some(place) = argument_use(work, search, sites) {
@@ -128,14 +137,17 @@ pub fn matches(
         ≡ sites_of (matching_of work.now.pool work.now.decls game.root equiv.0 x.0)) }
     ensures live { IfOk result (λ found.
         All (IsLiveSite (length work.now.pool.trees)) found.sites.items) }
+    ensures instances { IfOk result (λ found. All (HasInstance work.now.pool.trees
+        (matching_of work.now.pool work.now.decls game.root equiv.0 x.0)) found.sites.items) }
     ensures equiv { IfOk result (λ found. found.equiv ≡ equiv) }
     ensures key { IfOk result (λ found. found.x ≡ x) }
     ensures fault { IfErr result (IsFault (first_refusal
         (matching_of work.now.pool work.now.decls game.root equiv.0 x.0))) }
 {
     let search = search_for(alloc, work, game, equiv, x)?;
-    check_key(alloc, work, &search)?;
+    let table = UseTable::of(alloc, &work.pool, game.root)?;
+    check_key(work, &search, &table)?;
     let sites = sites(alloc, work, &search)?;
-    check_sites(alloc, work, &search, sites.as_slice())?;
+    check_sites(work, &search, &table, sites.as_slice())?;
     Ok(Match { equiv, x, sites })
 }

@@ -1,3 +1,6 @@
 pub mod Listed
 pub mod Standing
 pub mod Parts
+pub mod Rows
+pub mod Calling
+pub mod Begun

@@ -1,20 +1,21 @@
 -- Instances, part by part.
-use Rattle.std.proofs.Common.{◌≡◌, ℕ, Bool, true, false, List, [], ◌∷◌, Option, Some, None, refl, ap, ap₂, sym, ◌∙◌, eqb-true}
+use Rattle.std.proofs.Common.{◌≡◌, ℕ, Bool, true, false, List, [], ◌∷◌, Option, Some, None, refl, ap, ap₂, append-nil, append_assoc, sym, ◌∙◌, eqb-true}
 use Rattle.std.specs.Prelude.{map, reverse, ◌++◌, ◌&&◌, ◌||◌, ◌==◌, if◌then◌else◌}
 use Rattle.std.specs.List.{list_any}
 use Rattle.std.proofs.lemmas.List.Folds.{list_any-append}
 use Rattle.std.proofs.lemmas.List.{map-append, reverse-append}
 use Rattle.cv_syntax.specs.declared.head.Head.{Head}
-use Rattle.cv_syntax.specs.declared.head.Head.TheVariants.{Leaf}
+use Rattle.cv_syntax.specs.declared.head.Head.TheVariants.{Binder, Leaf}
+use Rattle.cv_syntax.specs.Head.{same_head}
 use Rattle.cv_syntax.specs.Tree.{Tree, Empty, Node, chain, same_tree}
-use Rattle.cv_syntax.proofs.Trees.{same_open, tree_of-NoTree}
+use Rattle.cv_syntax.proofs.Trees.{tree_of-NoTree}
 use Rattle.cv_meaning_contexts.specs.Groups.{Function, Group}
 use Rattle.cv_derivations.specs.Given as given
 use Rattle.cv_derivations.specs.Given.{or_node, with_given}
 use Rattle.cv_meaning.specs.Correspondences.{typed_names}
 use Rattle.cv_scenes.specs.Scenes.{or_empty}
 use Rattle.cv_scenes.specs.Sights.{variable_of}
-use Rattle.cv_reductions.specs.Instances.{Matching, are_of_types, guess, is_argument_of, is_coin_of, is_instance, is_read_of, names_of, standing_for, term_for, terms_of}
+use Rattle.cv_reductions.specs.Instances.{Instance, Matching, are_of_types, guess, is_argument_of, is_coin_of, is_instance, is_read_of, names_of, standing_for, term_for, terms_of}
 use Rattle.cv_reductions.specs.Refusals.{is_among}
 use Rattle.cv_match_patterns.specs.Searches.{filled_by, filled_part, given_by, is_name, is_typed, is_whole}
 
@@ -70,7 +71,91 @@ pub filled-node : (g : Group) (f : Function) (m : Tree) (h : Head) (a b : Tree) 
 unfolding filled_part with_given
 filled-node g f m h a b = ap (λ o. or_node o h (filled_part g f m a) (filled_part g f m b)) (given-head g f m h)
 
-pub ruleset parts = (tree_of-NoTree, same_open, filled-empty, filled-node)
+-- node by node
+module _ (g : Group) (f : Function) (m t u : Tree) where
+  pub filled-end : t ≡ Empty → same_tree Empty u ≡ same_tree (filled_part g f m t) u
+  filled-end e = sym (ap (λ b. same_tree b u) (ap (filled_part g f m) e ∙ filled-empty g f m))
+
+  module _ (h : Head) (a b : Tree) (e : t ≡ Node h a b) where
+    node : filled_part g f m t ≡ or_node (filled_by g f m h) h (filled_part g f m a) (filled_part g f m b)
+    node = ap (filled_part g f m) e ∙ filled-node g f m h a b
+
+    pub filled-put : (s : Tree) → Some s ≡ filled_by g f m h → same_tree s u ≡ same_tree (filled_part g f m t) u
+    filled-put s i = sym (ap (λ r. same_tree r u) (node ∙ ap (λ o. or_node o h (filled_part g f m a) (filled_part g f m b)) (sym i)))
+
+    module _ (n : None ≡ filled_by g f m h) where
+      open_node : filled_part g f m t ≡ Node h (filled_part g f m a) (filled_part g f m b)
+      open_node = node ∙ ap (λ o. or_node o h (filled_part g f m a) (filled_part g f m b)) (sym n)
+
+      pub filled-short : u ≡ Empty → false ≡ same_tree (filled_part g f m t) u
+      unfolding same_tree
+      filled-short i = sym (ap₂ same_tree open_node i)
+
+      module _ (k : Head) (c d : Tree) (i : u ≡ Node k c d) (v : Bool) (j : v ≡ same_head h k) where
+        both : same_tree (filled_part g f m t) u ≡ (v && (same_tree (filled_part g f m a) c && same_tree (filled_part g f m b) d))
+        unfolding same_tree
+        both = ap₂ same_tree open_node i ∙ ap (λ w. w && (same_tree (filled_part g f m a) c && same_tree (filled_part g f m b) d)) (sym j)
+
+        pub filled-other : v ≡ false → false ≡ same_tree (filled_part g f m t) u
+        filled-other x = sym (both ∙ ap (λ w. w && (same_tree (filled_part g f m a) c && same_tree (filled_part g f m b) d)) x)
+
+        module _ (x : v ≡ true) (w : Bool) (l : w ≡ same_tree (filled_part g f m a) c) where
+          rest : same_tree (filled_part g f m t) u ≡ (w && same_tree (filled_part g f m b) d)
+          rest = both ∙ ap₂ (λ p q. p && (q && same_tree (filled_part g f m b) d)) x (sym l)
+
+          pub filled-first : w ≡ false → false ≡ same_tree (filled_part g f m t) u
+          filled-first y = sym (rest ∙ ap (λ q. q && same_tree (filled_part g f m b) d) y)
+
+          pub filled-rest : w ≡ true → same_tree (filled_part g f m b) d ≡ same_tree (filled_part g f m t) u
+          filled-rest y = sym (rest ∙ ap (λ q. q && same_tree (filled_part g f m b) d) y)
+
+-- terms for a list of binders, one after another
+module _ (may_be : ℕ → Tree → Bool) (term_of : ℕ × ℕ → Tree) (t : Tree) where
+  abbrev all_typed : Tree → Bool
+  all_typed u = are_of_types may_be (typed_names u) (map term_of (typed_names u))
+
+  pub typed-end : t ≡ Empty → true ≡ all_typed t
+  typed-end e = sym (ap all_typed e)
+
+  module _ (h : Head) (a b : Tree) (e : t ≡ Node h a b) where
+    pub typed-other : ((x T : ℕ) → h ≡ Binder x T → ⊥) → true ≡ all_typed t
+    typed-other n = sym (ap all_typed e ∙ step h n)
+      where
+        step : (h : Head) → ((x T : ℕ) → h ≡ Binder x T → ⊥) → all_typed (Node h a b) ≡ true
+        step (Binder x T) n = absurd (n x T refl)
+        step h n = refl
+
+    module _ (x T : ℕ) (i : h ≡ Binder x T) (v : Bool) (j : v ≡ may_be T (term_of (x, T))) where
+      first_typed : all_typed t ≡ (v && all_typed b)
+      first_typed = ap all_typed e ∙ (ap (λ k. all_typed (Node k a b)) i ∙ ap (λ w. w && all_typed b) (sym j))
+
+      pub typed-wrong : v ≡ false → false ≡ all_typed t
+      typed-wrong y = sym (first_typed ∙ ap (λ w. w && all_typed b) y)
+
+      pub typed-right : v ≡ true → all_typed b ≡ all_typed t
+      typed-right y = sym (first_typed ∙ ap (λ w. w && all_typed b) y)
+
+-- the terms of a list of binders, gathered
+module _ (term_of : ℕ × ℕ → Tree) (t : Tree) (done all : List Tree) (same : done ++ map term_of (typed_names t) ≡ all) where
+  pub terms-end : t ≡ Empty → done ≡ all
+  terms-end e = sym (append-nil done) ∙ (ap (λ u. done ++ map term_of (typed_names u)) (sym e) ∙ same)
+
+  module _ (h : Head) (a b : Tree) (e : t ≡ Node h a b) where
+    pub terms-other : ((x T : ℕ) → h ≡ Binder x T → ⊥) → done ≡ all
+    terms-other n = sym (append-nil done) ∙ (ap (λ xs. done ++ map term_of xs) (sym (step h n) ∙ ap typed_names (sym e)) ∙ same)
+      where
+        step : (h : Head) → ((x T : ℕ) → h ≡ Binder x T → ⊥) → typed_names (Node h a b) ≡ []
+        step (Binder x T) n = absurd (n x T refl)
+        step h n = refl
+
+    pub terms-more : (x T : ℕ) → h ≡ Binder x T → (more : List Tree) → more ≡ done ++ term_of (x, T) ∷ [] → more ++ map term_of (typed_names b) ≡ all
+    terms-more x T i more f =
+        ap (λ xs. xs ++ map term_of (typed_names b)) f
+        ∙ (append_assoc done (term_of (x, T) ∷ []) (map term_of (typed_names b))
+        ∙ (ap (λ u. done ++ map term_of (typed_names u)) (sym (e ∙ ap (λ k. Node k a b) i)) ∙ same))
+
+pub same-instance : (k l : Tree) (cs ds xs ys : List Tree) → k ≡ l → cs ≡ ds → xs ≡ ys → (let I : Instance = record { key = k; coins = cs; arguments = xs } in I) ≡ record { key = l; coins = ds; arguments = ys }
+same-instance k l cs ds xs ys e f g = λ i. record { key = e i; coins = f i; arguments = g i }
 
 pub ruleset lists = (tree_of-NoTree)
 

@@ -1,5 +1,5 @@
 -- Terms that stand for names, node by node.
-use Rattle.std.proofs.Common.{◌≡◌, ℕ, Bool, true, false, Option, Some, None, refl}
+use Rattle.std.proofs.Common.{◌≡◌, ℕ, Bool, true, false, Option, Some, None, refl, ap, sym, ◌∙◌}
 use Rattle.std.specs.Prelude.{◌==◌, if◌then◌else◌}
 use Rattle.cv_syntax.specs.declared.head.Head.{Head}
 use Rattle.cv_syntax.specs.declared.head.Head.TheVariants.{Leaf}
@@ -29,4 +29,26 @@ pub standing-node : (x : ℕ) (h : Head) (a b m : Tree) → standing_for x (Node
 unfolding standing_for
 standing-node x h a b m = here-leaf x h m (first_of (standing_for x a (first m)) (standing_for x b (second m)))
 
-pub ruleset standing = (tree_of-NoTree, standing-empty, standing-node)
+-- node by node
+module _ (x : ℕ) (t m : Tree) where
+  pub standing-end : t ≡ Empty → None ≡ standing_for x t m
+  standing-end e = sym (ap (λ u. standing_for x u m) e ∙ standing-empty x m)
+
+  module _ (h : Head) (a b : Tree) (e : t ≡ Node h a b) (v : Bool) (f : v ≡ stands_in x h) where
+    whole : standing_for x t m ≡ here_or v m (first_of (standing_for x a (first m)) (standing_for x b (second m)))
+    whole = ap (λ u. standing_for x u m) e ∙ (standing-node x h a b m ∙ ap (λ w. here_or w m (first_of (standing_for x a (first m)) (standing_for x b (second m)))) (sym f))
+
+    pub standing-here : v ≡ true → Some m ≡ standing_for x t m
+    standing-here i = sym (whole ∙ ap (λ w. here_or w m (first_of (standing_for x a (first m)) (standing_for x b (second m)))) i)
+
+    module _ (i : v ≡ false) where
+      parts : standing_for x t m ≡ first_of (standing_for x a (first m)) (standing_for x b (second m))
+      parts = whole ∙ ap (λ w. here_or w m (first_of (standing_for x a (first m)) (standing_for x b (second m)))) i
+
+      pub standing-first : (s : Tree) → Some s ≡ standing_for x a (first m) → Some s ≡ standing_for x t m
+      standing-first s j = sym (parts ∙ ap (λ o. first_of o (standing_for x b (second m))) (sym j))
+
+      pub standing-rest : None ≡ standing_for x a (first m) → standing_for x b (second m) ≡ standing_for x t m
+      standing-rest j = sym (parts ∙ ap (λ o. first_of o (standing_for x b (second m))) (sym j))
+
+pub ruleset standing = (tree_of-NoTree)

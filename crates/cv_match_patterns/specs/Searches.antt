@@ -16,6 +16,7 @@ use Rattle.cv_scenes.specs.Sights.{variable_of}
 use Rattle.cv_rule_scenes.specs.Kept.{scene_of}
 use Rattle.cv_reductions.specs.Instances.{Matching, are_of_types, filled, guess, is_argument_of, is_coin_of, is_read_of, names_of, term_for, terms_of}
 use Rattle.cv_reductions.specs.Refusals.{is_among}
+use Rattle.cv_match_patterns.specs.Begun.{AreHeadsOf}
 use Rattle.cv_match_patterns.specs.declared.search.Search.{Search}
 
 -- what is looked for
@@ -29,6 +30,7 @@ pub record IsReady (pool : PoolView) (s : Search) : Type 0 where
   pub side : ChildBelow (length pool.trees) s.side
   pub arrays : arrays_of s.arrays ≡ OfGame (sites_of (tree_at pool.trees (Some s.game)))
   pub above : above_of s.above ≡ nothing_above
+  pub heads : AreHeadsOf (group_of (tree_at pool.trees s.side)).functions s.heads
 
 -- the node of a body is this name
 abbrev pub stands_in : ℕ → Head → Bool

@@ -34,17 +34,20 @@ fn standing(pool: &Pool, x: u32, body: Option<NodeId>, term: Option<NodeId>) -> 
         ≡ standing_for x (tree_at pool.now.trees body) (tree_at pool.now.trees term) }
     ensures live { IfSome result (λ p. ChildBelow (length pool.now.trees) p.tree) }
 {
-    let Some(n) = body else {
-        return None;
-    };
-    let node = read_node(pool, n);
-    if is_leaf_of(node.head, x) {
-        return Some(Part { tree: term });
+    let mut at = body;
+    let mut there = term;
+    'body: while let Some(n) = at {
+        let node = read_node(pool, n);
+        if is_leaf_of(node.head, x) {
+            return Some(Part { tree: there });
+        }
+        if let Some(part) = standing(pool, x, node.first, first_of(pool, there)) {
+            return Some(part);
+        }
+        at = node.second;
+        there = second_of(pool, there);
     }
-    if let Some(part) = standing(pool, x, node.first, first_of(pool, term)) {
-        return Some(part);
-    }
-    standing(pool, x, node.second, second_of(pool, term))
+    None
 }
 
 /// The term that stands for a name of a function, where a term is to be its instance.

@@ -10,6 +10,7 @@ ghost use Rattle.cv_reductions.specs.Instances as instances;
 ghost use Rattle.cv_reductions.specs.Instances.{are_of_types, guess, is_argument_of, is_coin_of, is_read_of};
 ghost use Rattle.cv_match_patterns.specs.Searches.{IsReady, filled_part, is_typed, is_whole, matching_by};
 
+use crate::cells::is_head;
 use crate::filling::{put, term_of};
 use crate::names::{arguments_of, body_of, coins_of, key_of, variable_of};
 use crate::search::Search;
@@ -18,7 +19,6 @@ use cv_syntax::{Head, NodeId, Pool, Work, read_node, same};
 use cv_typing::sort_of_term;
 
 /// Whether a part of a term is that part of a function's body, with what stands for names. Nothing is built.
-#[tactic(auto, using(crate::proofs::Parts::parts))]
 fn is_filled(
     pool: &Pool,
     side: Option<NodeId>,
@@ -36,20 +36,27 @@ fn is_filled(
         (function_of (tree_at pool.now.trees f)) (tree_at pool.now.trees whole)
         (tree_at pool.now.trees body)) (tree_at pool.now.trees term) }
 {
-    let Some(n) = body else {
-        return same(pool, None, term);
-    };
-    let node = read_node(pool, n);
-    if let Some(part) = put(pool, side, f, whole, node.head) {
-        return same(pool, part.tree, term);
+    let mut at = body;
+    let mut there = term;
+    'body: while let Some(n) = at {
+        let node = read_node(pool, n);
+        if let Some(part) = put(pool, side, f, whole, node.head) {
+            return same(pool, part.tree, there);
+        }
+        let Some(m) = there else {
+            return false;
+        };
+        let other = read_node(pool, m);
+        if !is_head(node.head, other.head) {
+            return false;
+        }
+        if !is_filled(pool, side, f, whole, node.first, other.first) {
+            return false;
+        }
+        at = node.second;
+        there = other.second;
     }
-    let Some(m) = term else {
-        return false;
-    };
-    let there = read_node(pool, m);
-    node.head.kind() == there.head.kind()
-        && (is_filled(pool, side, f, whole, node.first, there.first)
-            && is_filled(pool, side, f, whole, node.second, there.second))
+    same(pool, None, there)
 }
 
 /// Whether a sort is that of the values of a type.
@@ -116,17 +123,18 @@ fn are_coins(
         (map (instances.term_for (function_of (tree_at work.now.pool.trees f)).body
         (tree_at work.now.pool.trees term)) (typed_names (tree_at work.now.pool.trees list))) }
 {
-    let Some(n) = list else {
-        return true;
-    };
-    let node = read_node(&work.pool, n);
-    match node.head {
-        Head::Binder(x, t) => {
-            is_coin(work, search, t, term_of(&work.pool, f, term, x))
-                && are_coins(work, search, f, term, node.second)
+    let mut at = list;
+    'list: while let Some(n) = at {
+        let node = read_node(&work.pool, n);
+        let Head::Binder(x, t) = node.head else {
+            return true;
+        };
+        if !is_coin(work, search, t, term_of(&work.pool, f, term, x)) {
+            return false;
         }
-        _ => true,
+        at = node.second;
     }
+    true
 }
 
 /// Whether each argument of a list has a term that may stand for it.
@@ -148,17 +156,18 @@ fn are_arguments(
         (map (instances.term_for (function_of (tree_at work.now.pool.trees f)).body
         (tree_at work.now.pool.trees term)) (typed_names (tree_at work.now.pool.trees list))) }
 {
-    let Some(n) = list else {
-        return true;
-    };
-    let node = read_node(&work.pool, n);
-    match node.head {
-        Head::Binder(x, t) => {
-            is_argument(work, search, t, term_of(&work.pool, f, term, x))
-                && are_arguments(work, search, f, term, node.second)
+    let mut at = list;
+    'list: while let Some(n) = at {
+        let node = read_node(&work.pool, n);
+        let Head::Binder(x, t) = node.head else {
+            return true;
+        };
+        if !is_argument(work, search, t, term_of(&work.pool, f, term, x)) {
+            return false;
         }
-        _ => true,
+        at = node.second;
     }
+    true
 }
 
 /// Whether a term is a function's body, with what stands for its names.

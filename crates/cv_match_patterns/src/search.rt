@@ -1,3 +1,4 @@
+use crate::heads::Heads;
 use cv_directory::Sort;
 use cv_syntax::NodeId;
 use cv_typing::Arrays;
@@ -13,6 +14,8 @@ pub struct Search {
     pub key: u32,
     /// The variables of the game.
     pub arrays: Arrays,
+    /// What the bodies of the functions begin with.
+    pub heads: Heads,
     /// Nothing: a term is typed at no place.
     pub above: HashMap<u32, Sort>,
 }

@@ -1,12 +1,11 @@
-use Rattle.std.proofs.Common.{◌≡◌, Some, map, subst}
-use Rattle.std.specs.Prelude.{IfOk}
+use Rattle.std.proofs.Common.{Some, ap, map, ◌∙◌}
 use Rattle.cv_syntax.specs.Tree.{Tree, tree_at}
 use Rattle.cv_meaning.specs.Correspondences.{typed_names}
 use Rattle.cv_meaning_contexts.specs.Groups.{function_of}
 use Rattle.cv_reductions.specs.Instances.{term_for}
 use Rattle.cv_reductions.specs.Refusals.{are_coins}
 use Rattle.cv_match_patterns.specs.Searches.{matching_by}
-use Rattle.cv_match_sites.specs.Calls.{site_in}
+use Rattle.cv_match_patterns.specs.Sites.{site_in}
 use Rattle.cv_match.proofs.coins.has_coins.Goals as goal
 
 pub returns : goal.returns
@@ -14,4 +13,4 @@ returns c =
     let trees = c.args.work.now.pool.trees in
     let M = matching_by c.args.work.now.pool c.args.work.now.decls c.args.search.now in
     let s = c.args.site.now in
-    subst (λ (t : Tree). IfOk c.are_coins.result (λ yes. yes ≡ are_coins M (site_in trees M s) (typed_names t) (map (term_for (function_of (tree_at trees s.pattern)).body (tree_at trees (Some s.term))) (typed_names t)))) c.coins_of.ensures.tree c.are_coins.ensures
+    c.are_coins.ensures ∙ ap (λ (t : Tree). are_coins M (site_in trees M s) (typed_names t) (map (term_for (function_of (tree_at trees s.pattern)).body (tree_at trees (Some s.term))) (typed_names t))) c.coins_of.ensures.tree

@@ -2,7 +2,7 @@ use Rattle.std.proofs.Common.{sym, ◌∙◌}
 use Rattle.cv_syntax.specs.Tree.{tree_at}
 use Rattle.cv_scenes.specs.Sights.{variable_of}
 use Rattle.cv_match_patterns.specs.Searches.{matching_by}
-use Rattle.cv_match_sites.specs.Calls.{site_in}
+use Rattle.cv_match_patterns.specs.Sites.{site_in}
 use Rattle.cv_match.proofs.Serving.{coin-elsewhere, coin-none, coin-own}
 use Rattle.cv_match.proofs.coins.is_coin.Goals as goal
 
@@ -12,14 +12,14 @@ returns-in_default c =
     let M = matching_by c.args.work.now.pool c.args.work.now.decls c.args.search.now in
     coin-none M (site_in trees M c.args.site.now) c.args.coin (tree_at trees c.args.term) (variable_of (tree_at trees c.args.term)) (sym c.variable_of.ensures ∙ c.in_default.is)
 
-pub returns-then-not-branch : goal.returns-then-not-branch
-returns-then-not-branch c =
+pub returns-then-not-is_drawn_below : goal.returns-then-not-is_drawn_below
+returns-then-not-is_drawn_below c =
     let trees = c.args.work.now.pool.trees in
     let M = matching_by c.args.work.now.pool c.args.work.now.decls c.args.search.now in
-    coin-elsewhere M (site_in trees M c.args.site.now) c.args.coin (tree_at trees c.args.term) (variable_of (tree_at trees c.args.term)) c.in-Some.x (sym c.variable_of.ensures ∙ c.in-Some.is) _ c.as_slice.ensures.value c.in_ok-is_drawn_below.field-0 c.in_ok-is_drawn_below.ensures c.if-not-branch.true
+    coin-elsewhere M (site_in trees M c.args.site.now) c.args.coin (tree_at trees c.args.term) (variable_of (tree_at trees c.args.term)) c.in-Some.x (sym c.variable_of.ensures ∙ c.in-Some.is) _ c.as_slice.ensures.value c.is_drawn_below.result c.is_drawn_below.ensures c.if-not-is_drawn_below.true
 
 pub returns : goal.returns
 returns c =
     let trees = c.args.work.now.pool.trees in
     let M = matching_by c.args.work.now.pool c.args.work.now.decls c.args.search.now in
-    coin-own M (site_in trees M c.args.site.now) c.args.coin (tree_at trees c.args.term) (variable_of (tree_at trees c.args.term)) c.in-Some.x (sym c.variable_of.ensures ∙ c.in-Some.is) _ c.as_slice.ensures.value c.in_ok-is_drawn_below.field-0 c.in_ok-is_drawn_below.ensures c.if-not-branch.false c.is_own_use.result c.is_own_use.ensures
+    coin-own M (site_in trees M c.args.site.now) c.args.coin (tree_at trees c.args.term) (variable_of (tree_at trees c.args.term)) c.in-Some.x (sym c.variable_of.ensures ∙ c.in-Some.is) _ c.as_slice.ensures.value c.is_drawn_below.result c.is_drawn_below.ensures c.if-not-is_drawn_below.false c.is_own_use.result c.is_own_use.ensures

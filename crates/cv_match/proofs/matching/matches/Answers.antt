@@ -4,8 +4,9 @@ use Rattle.cv_syntax.specs.Tree.{tree_at}
 use Rattle.cv_reductions.specs.Instances.{Matching}
 use Rattle.cv_reductions.specs.Refusals.{first_refusal}
 use Rattle.cv_match_patterns.specs.Searches.{matching_by}
-use Rattle.cv_match_sites.specs.declared.site.Site.{Site}
-use Rattle.cv_match_sites.specs.Calls.{site_in}
+use Rattle.cv_match_patterns.specs.declared.site.Site.{Site}
+use Rattle.cv_match_patterns.specs.Sites.{HasInstance, site_in}
+use Rattle.cv_match_uses.specs.Tallies.{IsTableOf}
 use Rattle.cv_match.specs.Fitting.{IsSmallSite}
 use Rattle.cv_match.specs.Matched.{matching_of}
 use Rattle.cv_match.proofs.Fitting.{sites-small}
@@ -38,3 +39,15 @@ returns-clause-none c =
     let N = matching_of c.args.work.now.pool c.args.work.now.decls c.args.game.root c.args.equiv.0 c.args.x.0 in
     let f = ap (map (site_in c.args.work.now.pool.trees M)) c.as_slice.ensures.value ∙ c.in_ok-sites.ensures.sites in
     no-refusal M N c.in_ok-search.ensures.matching _ c.in_ok-check_key.ensures.none f c.in_ok-check_sites.ensures.none
+
+pub check_key-requires-clause-table : goal.check_key-requires-clause-table
+check_key-requires-clause-table c =
+    subst (λ t. IsTableOf t c.in_ok-table.table) (sym (ap (λ (m : Matching). m.scene.game) c.in_ok-search.ensures.matching)) c.in_ok-table.ensures
+
+pub check_sites-requires-clause-table : goal.check_sites-requires-clause-table
+check_sites-requires-clause-table c =
+    subst (λ t. IsTableOf t c.in_ok-table.table) (sym (ap (λ (m : Matching). m.scene.game) c.in_ok-search.ensures.matching)) c.in_ok-table.ensures
+
+pub returns-clause-instances : goal.returns-clause-instances
+returns-clause-instances c =
+    subst (λ (m : Matching). All (HasInstance c.args.work.now.pool.trees m) c.in_ok-sites.sites.items) c.in_ok-search.ensures.matching c.in_ok-sites.ensures.instances

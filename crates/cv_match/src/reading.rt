@@ -1,0 +1,129 @@
+ghost use Rattle.std.specs.Prelude.{◌≡◌, ◌+◌, ◌<◌, ◌^◌, IfErr, IfOk, None, OnOk, Some, length};
+ghost use Rattle.cv_pool.specs.Nodes.{ChildBelow};
+ghost use Rattle.cv_syntax.specs.Tree.{size, tree_at};
+ghost use Rattle.cv_meaning_contexts.specs.Groups.{function_of};
+ghost use Rattle.cv_reductions.specs.Refusals as refusals;
+ghost use Rattle.cv_reductions.specs.Sites as instances;
+ghost use Rattle.cv_match_patterns.specs.Searches.{IsReady, matching_by};
+ghost use Rattle.cv_match.specs.Walks.{use_unless};
+
+use cv_match_patterns::{Search, is_argument_name, is_call};
+use cv_match_uses::{is_reading, reading_at};
+use cv_path::size_below;
+use cv_scope::Position;
+use cv_syntax::{Head, NodeId, Pool, Work, read_node};
+
+/// Whether the first child there is a `defined` list or a condition.
+pub(crate) fn is_guard(position: Position) -> bool
+    ensures { result ≡ instances.is_guard position }
+{
+    match position {
+        Position::Guards | Position::Guarded => true,
+        _ => false,
+    }
+}
+
+/// The place behind a part of a game that doesn't read the key outside instances, lists and conditions; or the first place that
+/// does.
+pub fn outside_use(
+    work: &Work,
+    search: &Search,
+    skip: bool,
+    position: Position,
+    from: u32,
+    tree: Option<NodeId>,
+) -> Result<u32, u32>
+    requires ready { IsReady work.now.pool search.now }
+    requires live { ChildBelow (length work.now.pool.trees) tree }
+    requires fits { from + size (tree_at work.now.pool.trees tree) < 2 ^ 32 }
+    ensures none { OnOk result (use_unless skip
+        (matching_by work.now.pool work.now.decls search.now) position from
+        (tree_at work.now.pool.trees tree) ≡ None) }
+    ensures next { IfOk result (λ next. next ≡ from + size (tree_at work.now.pool.trees tree)) }
+    ensures found { IfErr result (λ p. use_unless skip
+        (matching_by work.now.pool work.now.decls search.now) position from
+        (tree_at work.now.pool.trees tree) ≡ Some p) }
+{
+    if skip {
+        return Ok(from + size_below(&work.pool, tree));
+    }
+    let mut place = from;
+    let mut here = position;
+    let mut at = tree;
+    'tree: while let Some(k) = at {
+        let node = read_node(&work.pool, k);
+        if is_call(work, search, k) {
+            return Ok(place + size_below(&work.pool, at));
+        }
+        if is_reading(search.key, node.head) {
+            return Err(place);
+        }
+        let first = place + node.head.weight();
+        match outside_use(
+            work,
+            search,
+            is_guard(here),
+            here.first(node.head),
+            first,
+            node.first,
+        ) {
+            Ok(next) => place = next,
+            Err(found) => return Err(found),
+        }
+        here = here.second(node.head);
+        at = node.second;
+    }
+    Ok(place)
+}
+
+/// Whether a node of a body is the name of an argument.
+fn is_argument(pool: &Pool, f: Option<NodeId>, head: Head) -> bool
+    requires { ChildBelow (length pool.now.trees) f }
+    ensures { result ≡ refusals.is_name_of
+        (function_of (tree_at pool.now.trees f)).arguments head }
+{
+    match head {
+        Head::Leaf(y) => is_argument_name(pool, f, y),
+        _ => false,
+    }
+}
+
+/// The first place of a term where it reads a variable in what stands for an argument.
+pub fn argument_use(
+    pool: &Pool,
+    x: u32,
+    f: Option<NodeId>,
+    body: Option<NodeId>,
+    from: u32,
+    term: Option<NodeId>,
+) -> Option<u32>
+    requires function { ChildBelow (length pool.now.trees) f }
+    requires body { ChildBelow (length pool.now.trees) body }
+    requires live { ChildBelow (length pool.now.trees) term }
+    requires fits { from + size (tree_at pool.now.trees term) < 2 ^ 32 }
+    ensures { result ≡ refusals.first_in_arguments x
+        (function_of (tree_at pool.now.trees f)).arguments (tree_at pool.now.trees body) from
+        (tree_at pool.now.trees term) }
+{
+    let mut place = from;
+    let mut at = body;
+    let mut there = term;
+    'body: while let Some(n) = at {
+        let Some(k) = there else {
+            return None;
+        };
+        let node = read_node(pool, n);
+        let other = read_node(pool, k);
+        if is_argument(pool, f, node.head) {
+            return reading_at(pool, x, place, there);
+        }
+        let first = place + other.head.weight();
+        if let Some(found) = argument_use(pool, x, f, node.first, first, other.first) {
+            return Some(found);
+        }
+        place = first + size_below(pool, other.first);
+        at = node.second;
+        there = other.second;
+    }
+    None
+}

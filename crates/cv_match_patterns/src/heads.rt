@@ -1,0 +1,91 @@
+ghost use Rattle.std.specs.Prelude.{◌≡◌, ◌||◌, IfOk, OnOk, length};
+ghost use Rattle.cv_pool.specs.Nodes.{ChildBelow};
+ghost use Rattle.cv_syntax.specs.Tree.{tree_at};
+ghost use Rattle.cv_syntax.specs.declared.head.Head as heading;
+ghost use Rattle.cv_meaning_contexts.specs.Groups.{function_of, functions_of};
+ghost use Rattle.cv_match_patterns.specs.Begun as heads;
+ghost use Rattle.cv_match_patterns.specs.Begun.{AreHeadsOf, begins, may_begin};
+
+use crate::names::body_of;
+use cv_pool::Kind;
+use cv_syntax::{Head, NodeId, Pool, read_node};
+use std::alloc::{AllocError, Global};
+
+/// What the bodies of functions begin with, for a test before any body is compared with a term.
+#[derive(Drop)]
+pub struct Heads {
+    kinds: Vec<Kind>,
+    /// Some body is a name or nothing.
+    any: bool,
+}
+
+/// Whether a list has a kind.
+fn has_kind(kinds: &[Kind], kind: Kind) -> bool
+    ensures { result ≡ heads.has_kind kind kinds.now }
+{
+    for other in kinds {
+        if *other == kind {
+            return true;
+        }
+    }
+    false
+}
+
+/// The kind of a body's node, unless the body is a name or nothing.
+#[tactic(auto, using(crate::proofs::Parts::lists))]
+fn kind_of(pool: &Pool, body: Option<NodeId>) -> Option<Kind>
+    requires { ChildBelow (length pool.now.trees) body }
+    ensures { result ≡ heads.kind_of (tree_at pool.now.trees body) }
+{
+    let head = read_node(pool, body?).head;
+    match head {
+        Head::Leaf(_) => None,
+        _ => Some(head.kind()),
+    }
+}
+
+impl Heads {
+    /// Notes what the body of a function begins with.
+    fn note(&mut self, pool: &Pool, f: Option<NodeId>) -> Result<(), AllocError>
+        requires { ChildBelow (length pool.now.trees) f }
+        ensures { OnOk result ((k : heading.Head) → may_begin self.new k
+            ≡ (may_begin self.old k || begins k (function_of (tree_at pool.now.trees f)))) }
+    {
+        match kind_of(pool, body_of(pool, f)) {
+            Some(kind) => {
+                self.kinds.push(kind)?;
+                Ok(())
+            }
+            None => {
+                self.any = true;
+                Ok(())
+            }
+        }
+    }
+
+    /// What the bodies of a list of functions begin with.
+    pub fn of(alloc: Global, pool: &Pool, functions: Option<NodeId>) -> Result<Heads, AllocError>
+        requires { ChildBelow (length pool.now.trees) functions }
+        ensures { IfOk result
+            (AreHeadsOf (functions_of (tree_at pool.now.trees functions))) }
+    {
+        let mut heads = Heads {
+            kinds: Vec::new(alloc),
+            any: false,
+        };
+        let mut at = functions;
+        'functions: while let Some(n) = at {
+            let node = read_node(pool, n);
+            heads.note(pool, node.first)?;
+            at = node.second;
+        }
+        Ok(heads)
+    }
+
+    /// Whether a term with a head may be an instance of one of the functions.
+    pub(crate) fn may_begin(&self, head: Head) -> bool
+        ensures { result ≡ may_begin self.now head }
+    {
+        self.any || has_kind(self.kinds.as_slice(), head.kind())
+    }
+}
