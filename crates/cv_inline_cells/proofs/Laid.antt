@@ -46,11 +46,11 @@ module _ (c : NamedContext) where
   abbrev d : DrawnNames
   d = names_of c
 
-  called : (k : Calling) → Has cs k → IsCalled c.g (side_group Right c.context.equivalence) c.context.game 0 c.context.functions k
-  called k h = each_called c.g (side_group Right c.context.equivalence) c.context.game 0 c.context.functions k h
+  is_called : (k : Calling) → Has cs k → IsCalled c.g (side_group Right c.context.equivalence) c.context.game 0 c.context.functions k
+  is_called k h = each_called c.g (side_group Right c.context.equivalence) c.context.game 0 c.context.functions k h
 
   arity : (k : Calling) → Has cs k → arity_in cs k.caller.number ≡ length k.caller.replications
-  arity k h = ap indices_of (called k h).found
+  arity k h = ap indices_of (is_called k h).found
 
   -- names
 
@@ -64,10 +64,10 @@ module _ (c : NamedContext) where
   arities [] f = tt
   arities (k ∷ ks) f = (arity k (f k (inl refl)), arities ks (λ e h. f e (inr h)))
 
-  opened : (n q k u b : ℕ) (x y rest more : Tree) (ts : List Caller) → HaveArities ts → AllByRecursion (λ s. AreIndicesDrawn d n q s k (Node Cons (Node Branch (Node (Binder u b) x y) rest) more)) ts → AreOpened n q k ts b
+  open_branches : (n q k u b : ℕ) (x y rest more : Tree) (ts : List Caller) → HaveArities ts → AllByRecursion (λ s. AreIndicesDrawn d n q s k (Node Cons (Node Branch (Node (Binder u b) x y) rest) more)) ts → AreOpened n q k ts b
   unfolding AreIndicesDrawn
-  opened n q k u b x y rest more [] a e = tt
-  opened n q k u b x y rest more (s ∷ ts) a e = ((λ f. subst (λ j. has_indices d n q s.number k 0 j ≡ true) (sym a.0) (e.0.0 f)), opened n q k u b x y rest more ts a.1 e.1)
+  open_branches n q k u b x y rest more [] a e = tt
+  open_branches n q k u b x y rest more (s ∷ ts) a e = ((λ f. subst (λ j. has_indices d n q s.number k 0 j ≡ true) (sym a.0) (e.0.0 f)), open_branches n q k u b x y rest more ts a.1 e.1)
 
   later_indices : (n q k u b : ℕ) (x y rest more : Tree) (ts : List Caller) → AllByRecursion (λ s. AreIndicesDrawn d n q s k (Node Cons (Node Branch (Node (Binder u b) x y) rest) more)) ts → AllByRecursion (λ s. AreIndicesDrawn d n q s (suc k) more) ts
   unfolding AreIndicesDrawn
@@ -97,7 +97,7 @@ module _ (c : NamedContext) where
           let s = and_parts (is_term m) _ p.1 in
           let v = and_parts (is_right_text body) _ s.1 in
           let w : ℕ = second_place r Cons (Node Branch (Node (Binder u b) x y) (Node Cons cells (Node Cons m body))) in (
-            opened n q k u b x y (Node Cons cells (Node Cons m body)) more ss a f,
+            open_branches n q k u b x y (Node Cons cells (Node Cons m body)) more ss a f,
             p.0,
             s.0,
             body_text n (body_place r Cons Branch (Node (Binder u b) x y) Cons cells Cons m) body v.0 g.0,
@@ -131,7 +131,7 @@ module _ (c : NamedContext) where
 
       call_text : (k : Calling) → Has cs k → is_term k.caller.key ≡ true → IsCallDrawn d ss k → IsCallText T (types_of c game) k
       call_text k h key drawn =
-          let called_here : function_called (oracles_in T) (record { tuple = []; site = k.caller.number }) ≡ Some k.function = (called k h).function in
+          let called_here : function_called (oracles_in T) (record { tuple = []; site = k.caller.number }) ≡ Some k.function = (is_called k h).function in
           let r = right_function (record { tuple = []; site = k.caller.number }) k.function called_here in
           record {
             key = key;

@@ -18,9 +18,9 @@ use Rattle.cv_inline_cells.specs.Layout.{IsContextText, IsPattern, IsRightFuncti
 use Rattle.cv_inline_cells.specs.Named.{NamedContext, drawn_for_context, text_of}
 use Rattle.cv_inline_cells.specs.Worked.{answer_there, drawn_numbers, role_there, type_there}
 
-named : NamedContext
+sender_names : NamedContext
 unfolding size names_assigned call_of callings_from index_draws body_draws finds_in IsDistinct
-named = record {
+sender_names = record {
   g = setting_of [] parity;
   context = one_sender;
   key = 50;
@@ -68,8 +68,8 @@ right : AllByRecursion IsRightFunction (side_group Right one_sender.equivalence)
 unfolding chooses_none is_choice is_right_text is_term
 right = (record { coins = refl; body = refl; typed = nothing_chosen _ _ refl }, (record { coins = refl; body = refl; typed = nothing_chosen _ _ refl }, tt))
 
-text : IsContextText (text_of named blank blank) type_there one_sender.game
-unfolding named IsContextText IsPattern is_term size names_assigned call_of callings_from index_draws body_draws finds_in
+text : IsContextText (text_of sender_names blank blank) type_there one_sender.game
+unfolding sender_names IsContextText IsPattern is_term size names_assigned call_of callings_from index_draws body_draws finds_in
 text = (
   (refl, tt, tt),
   (
@@ -86,5 +86,5 @@ text = (
 )
 
 pub is_of_the_grammar : (c : NamedContext) × (c.g ≡ setting_of [] parity) × (c.context ≡ one_sender) × (c.names ≡ drawn_numbers) × AllByRecursion IsRightFunction (side_group Right one_sender.equivalence).functions × IsContextText (text_of c blank blank) type_there one_sender.game
-unfolding named
-is_of_the_grammar = (named, refl, refl, refl, right, text)
+unfolding sender_names
+is_of_the_grammar = (sender_names, refl, refl, refl, right, text)

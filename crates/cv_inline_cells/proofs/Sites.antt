@@ -35,8 +35,8 @@ call_found g l (Node h a b) rs bounds s =
     go false s k = k s
 
 -- the calling of a call
-abbrev made : ℕ → Function → List (ℕ × ℕ) × Tree → Calling
-made l f c =
+abbrev calling_with : ℕ → Function → List (ℕ × ℕ) × Tree → Calling
+calling_with l f c =
     record {
       caller = record { number = l; bound = f.bound; names = map (λ (x : ℕ × ℕ). x.0) f.arguments ++ names_assigned f.body; replications = c.0; key = first (first c.1) };
       function = f;
@@ -59,14 +59,14 @@ module _ (set : Setting) (group : Group) (context : Tree) where
       go true e = absurd (let q : l ≡ n = eqb-true l n e in omega arith)
       go false e = refl
 
-  skipped : (l f n : ℕ) (o : Option (List ℕ)) (ss : List Site) → (l == n) ≡ false → site_numbered (site_with l f o ++ ss) n ≡ site_numbered ss n
-  skipped l f n None ss e = refl
-  skipped l f n (Some bs) ss e = ap (λ b. cond b (Some (record { number = l; function = f; bounds = bs })) (site_numbered ss n)) e
+  not_this_site : (l f n : ℕ) (o : Option (List ℕ)) (ss : List Site) → (l == n) ≡ false → site_numbered (site_with l f o ++ ss) n ≡ site_numbered ss n
+  not_this_site l f n None ss e = refl
+  not_this_site l f n (Some bs) ss e = ap (λ b. cond b (Some (record { number = l; function = f; bounds = bs })) (site_numbered ss n)) e
 
-  passed : (l n : ℕ) (o : Option Function) (c : Option (List (ℕ × ℕ) × Tree)) (cs : List Calling) → (l == n) ≡ false → numbered n (calling l o c ++ cs) ≡ numbered n cs
-  passed l n None c cs e = refl
-  passed l n (Some f) None cs e = refl
-  passed l n (Some f) (Some c) cs e = ap (λ b. cond b (Some (made l f c)) (numbered n cs)) e
+  not_this_calling : (l n : ℕ) (o : Option Function) (c : Option (List (ℕ × ℕ) × Tree)) (cs : List Calling) → (l == n) ≡ false → numbered n (calling l o c ++ cs) ≡ numbered n cs
+  not_this_calling l n None c cs e = refl
+  not_this_calling l n (Some f) None cs e = refl
+  not_this_calling l n (Some f) (Some c) cs e = ap (λ b. cond b (Some (calling_with l f c)) (numbered n cs)) e
 
   here : (l f : ℕ) (o : Option (List ℕ)) (ss : List Site) → IsSome o → option_and_then (at_function group) (site_numbered (site_with l f o ++ ss) l) ≡ function_at group f
   here l f None ss s = absurd s
@@ -78,8 +78,8 @@ module _ (set : Setting) (group : Group) (context : Tree) where
       let p : (l == k.caller.number) ≡ false = apart l k.caller.number e.from in
       record {
         from = let q : suc l ≤ k.caller.number = e.from in omega arith;
-        found = passed l k.caller.number (function_at group f) (call_of [] l context) (callings_from group context (suc l) fs) p ∙ e.found;
-        function = ap (option_and_then (at_function group)) (skipped l f k.caller.number (bounds_above set [] l context) (sites_from set context (suc l) fs) p) ∙ e.function;
+        found = not_this_calling l k.caller.number (function_at group f) (call_of [] l context) (callings_from group context (suc l) fs) p ∙ e.found;
+        function = ap (option_and_then (at_function group)) (not_this_site l f k.caller.number (bounds_above set [] l context) (sites_from set context (suc l) fs) p) ∙ e.function;
       }
 
   first_called : (l f : ℕ) (fs : List ℕ) (o : Option Function) → function_at group f ≡ o → (c : Option (List (ℕ × ℕ) × Tree)) → call_of [] l context ≡ c → (k : Calling) → Has (calling l o c) k → IsCalled l (f ∷ fs) k
@@ -91,7 +91,7 @@ module _ (set : Setting) (group : Group) (context : Tree) where
       subst (IsCalled l (f ∷ fs)) (sym h)
       (record {
         from = omega arith;
-        found = (λ i. numbered l (calling l (e i) (q i) ++ callings_from group context (suc l) fs)) ∙ ap (λ b. cond b (Some (made l fn c)) (numbered l (callings_from group context (suc l) fs))) (eq-eqb l l refl);
+        found = (λ i. numbered l (calling l (e i) (q i) ++ callings_from group context (suc l) fs)) ∙ ap (λ b. cond b (Some (calling_with l fn c)) (numbered l (callings_from group context (suc l) fs))) (eq-eqb l l refl);
         function = here l f (bounds_above set [] l context) (sites_from set context (suc l) fs) (call_found set l context [] [] (subst IsSome (sym q) tt)) ∙ e;
       })
 

@@ -125,9 +125,9 @@ module _ (T : Text) (find : ℕ → Option (ℕ × ℕ)) (types : Types) (m : Mo
   abbrev pub IsSized : Cell × ℕ → Type 0
   IsSized c = c.1 ≡ size_of c.0
 
-  filtered : (P : Cell × ℕ → Type 0) (p : Cell × ℕ → Bool) (cs : List (Cell × ℕ)) → AllByRecursion P cs → AllByRecursion P (filter p cs)
-  filtered P p [] e = tt
-  filtered P p (c ∷ cs) e = go (p c) (filtered P p cs e.1)
+  filter_keeps : (P : Cell × ℕ → Type 0) (p : Cell × ℕ → Bool) (cs : List (Cell × ℕ)) → AllByRecursion P cs → AllByRecursion P (filter p cs)
+  filter_keeps P p [] e = tt
+  filter_keeps P p (c ∷ cs) e = go (p c) (filter_keeps P p cs e.1)
     where
       go : (b : Bool) → AllByRecursion P (filter p cs) → AllByRecursion P (cond b (c ∷ filter p cs) (filter p cs))
       go true k = (e.0, k)
@@ -135,7 +135,7 @@ module _ (T : Text) (find : ℕ → Option (ℕ × ℕ)) (types : Types) (m : Mo
 
   each_once : (P : Cell × ℕ → Type 0) (cs : List (Cell × ℕ)) → AllByRecursion P cs → AllByRecursion P (without_repeats cs)
   each_once P [] e = tt
-  each_once P (c ∷ cs) e = (e.0, filtered P (λ (d : Cell × ℕ). not (same_cell d.0 c.0)) (without_repeats cs) (each_once P cs e.1))
+  each_once P (c ∷ cs) e = (e.0, filter_keeps P (λ (d : Cell × ℕ). not (same_cell d.0 c.0)) (without_repeats cs) (each_once P cs e.1))
 
   coins_sized : (P : Cell × ℕ → Type 0) → ((k s : ℕ) → s ≡ coin_size a.coins k → P (Coin k, s)) → (k : ℕ) (ns : List ℕ) → ((j : ℕ) → coin_size a.coins (j + k) ≡ coin_size ns j) → AllByRecursion P (coin_cells k ns)
   coins_sized P f k [] e = tt

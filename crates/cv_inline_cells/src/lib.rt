@@ -74,7 +74,7 @@ pub fn swapped_tapes_are_alike()
         find l ≡ None → (on_tape T find t).side_tape (Find_at l w) ≡ t (Find_at l w) }
     ensures coins { (T : Text) (find : ℕ → Option (ℕ × ℕ)) (t : Tape) (a : Adversary) →
         AgreeAt (cells_of (coin_cells 0 a.coins)) (on_tape T find t).side_tape t }
-    ensures named { (c : NamedContext) (t : Tape) (s q : ℕ) (w : List ℕ) →
+    ensures drawn_finds { (c : NamedContext) (t : Tape) (s q : ℕ) (w : List ℕ) →
         has_find (names_of c) s q ≡ true →
         (on_tape (text_of c t t) (find_in (names_of c)) t).side_tape (Picked_at q w s)
         ≡ t (Find_at ((drawn_in (names_of c)).label s q) w) }

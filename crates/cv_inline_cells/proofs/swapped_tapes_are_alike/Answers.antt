@@ -21,5 +21,5 @@ returns-clause-finds c T find t l w h = ap t (find_stays (names_in T find) l w h
 pub returns-clause-coins : goal.returns-clause-coins
 returns-clause-coins c T find t a = coins_alike T find t 0 a.coins
 
-pub returns-clause-named : goal.returns-clause-named
-returns-clause-named c n t s q w h = ap t (picked_swapped (names_in (text_of n t t) (find_in (names_of n))) q w s (label_again (names_of n) n.apart s q h))
+pub returns-clause-drawn_finds : goal.returns-clause-drawn_finds
+returns-clause-drawn_finds c n t s q w h = ap t (picked_swapped (names_in (text_of n t t) (find_in (names_of n))) q w s (label_again (names_of n) n.apart s q h))
