@@ -1,0 +1,30 @@
+-- The indices of a branch in place of those of the other site. This profile's own.
+use Rattle.std.specs.Prelude.{ℕ, suc, List, [], ◌∷◌}
+use Rattle.cv_syntax.specs.declared.head.Head.TheVariants.{Cons, Branch}
+use Rattle.cv_syntax.specs.Postorder.{joined}
+use Rattle.cv_syntax.specs.Tree.{Tree, Empty, Node}
+use Rattle.cv_inline_bodies.specs.Inlined.{read_at}
+
+-- what the other site's indices stand for, where these are the indices of the branch
+abbrev pub moves_by : (here : Tree) → List (ℕ × ℕ) → (indices : List ℕ) → List (ℕ × Tree)
+moves_by here (r ∷ rs) (u ∷ us) = (r.0, read_at u here) ∷ moves_by here rs us
+moves_by here _ _ = []
+
+-- the indices of a branch by name
+abbrev pub names_from : (ℕ → ℕ) → ℕ → List (ℕ × ℕ) → List ℕ
+names_from name k [] = []
+names_from name k (r ∷ rs) = name k ∷ names_from name (suc k) rs
+
+-- a list
+abbrev pub IsList : Tree → Type 0
+IsList Empty = Unit {0}
+IsList (Node Cons a b) = IsList b
+IsList t = ⊥
+
+abbrev pub binders_by : List (ℕ × ℕ) → (indices : List ℕ) → List (ℕ × ℕ)
+binders_by (r ∷ rs) (u ∷ us) = (u, r.1) ∷ binders_by rs us
+binders_by _ _ = []
+
+-- the node of a branch over its indices, its list, its condition and its body, which are the newest trees
+abbrev pub closed_branch : List Tree → List Tree
+closed_branch ts = joined Branch (joined Cons (joined Cons ts))

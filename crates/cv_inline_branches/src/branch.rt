@@ -1,0 +1,87 @@
+ghost use Rattle.std.specs.Prelude.{◌≡◌, ◌∷◌, ℕ, IfOk, length};
+ghost use Rattle.cv_pool.specs.Nodes.{ChildBelow};
+ghost use Rattle.cv_syntax.specs.Tree as tree;
+ghost use Rattle.cv_syntax.specs.Tree.{Tree, tree_at};
+ghost use Rattle.cv_inline_bodies.specs.Inlined.{branch_for, index_terms};
+ghost use Rattle.cv_inline_terms.specs.Callers.{IsLiveCaller, caller_in};
+ghost use Rattle.cv_inline_terms.specs.Drawings.{drawn_in};
+ghost use Rattle.cv_inline_terms.specs.Scopes.{scope_in};
+ghost use Rattle.cv_inline_terms.specs.Stacks.{stack};
+ghost use Rattle.cv_inline_branches.specs.Moves.{IsList, binders_by, closed_branch, names_from};
+
+use crate::key::condition;
+use crate::moving::moved_cells;
+use crate::needed::needed;
+use cv_inline_terms::{Caller, Drawing, Entry, nothing, put};
+use cv_syntax::{Head, Make, NodeId, Pool};
+use std::alloc::{AllocError, Global};
+
+/// Adds the indices of a branch, one for each replication.
+fn binders(parts: &mut Vec<Make>, others: &[(u32, u32)], indices: &[u32]) -> Result<(), AllocError>
+    ensures { IfOk result (λ _. stack parts.new.items
+        ≡ tree.binders (binders_by others.now indices.now) ∷ stack parts.old.items) }
+{
+    let Some((r, rs)) = others.split_first() else {
+        return nothing(parts);
+    };
+    let Some((u, us)) = indices.split_first() else {
+        return nothing(parts);
+    };
+    nothing(parts)?;
+    binders(parts, rs, us)?;
+    put(parts, Head::Binder(*u, r.1))
+}
+
+/// Adds what stands before the body in the branch for another site: the indices, the list and the condition.
+pub fn branch_front(
+    alloc: Global,
+    pool: &Pool,
+    drawn: &Drawing,
+    caller: &Caller,
+    scope: &[Entry],
+    parts: &mut Vec<Make>,
+    other: &Caller,
+    indices: &[u32],
+    list: Option<NodeId>,
+    term: Option<NodeId>,
+) -> Result<(), AllocError>
+    requires caller { IsLiveCaller (length pool.now.trees) caller.now }
+    requires other { IsLiveCaller (length pool.now.trees) other.now }
+    requires key { IsList (tree_at pool.now.trees other.now.key) }
+    requires list { ChildBelow (length pool.now.trees) list }
+    requires term { ChildBelow (length pool.now.trees) term }
+    ensures { (name : ℕ → ℕ) (body : Tree) →
+        indices.now ≡ names_from name 0 other.now.replications.items →
+        IfOk result (λ _. closed_branch (body ∷ stack parts.new.items) ≡
+        branch_for (drawn_in drawn.now) (caller_in pool.now.trees caller.now)
+        (scope_in (index_terms caller.now.replications.items) scope.now) name
+        (caller_in pool.now.trees other.now) (tree_at pool.now.trees list)
+        (tree_at pool.now.trees term) body ∷ stack parts.old.items) }
+{
+    let others = other.replications.as_slice();
+    let cells = needed(alloc, pool, others, other.key)?;
+    binders(parts, others, indices)?;
+    moved_cells(
+        pool,
+        drawn,
+        caller,
+        scope,
+        parts,
+        others,
+        indices,
+        cells.as_slice(),
+        list,
+    )?;
+    condition(
+        pool, drawn, caller, scope, parts, others, indices, other.key, caller.key, term,
+    )
+}
+
+/// Puts the node of a branch over what stands before its body and the body.
+pub fn branch_end(parts: &mut Vec<Make>) -> Result<(), AllocError>
+    ensures { IfOk result (λ _. stack parts.new.items ≡ closed_branch (stack parts.old.items)) }
+{
+    put(parts, Head::Cons)?;
+    put(parts, Head::Cons)?;
+    put(parts, Head::Branch)
+}

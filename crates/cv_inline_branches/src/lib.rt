@@ -1,0 +1,10 @@
+// Branches of the finds of right bodies as branches of the next game.
+#![tactic(auto)]
+
+mod branch;
+mod cells;
+mod key;
+mod moving;
+mod needed;
+
+pub use branch::{branch_end, branch_front};
