@@ -1,0 +1,32 @@
+-- Results of calls, and the trees that they stand for. This profile's own.
+use Rattle.std.specs.Prelude.{ℕ, List, map, reverse, slice_get, Option, Some, None}
+use Rattle.cv_pool.specs.KindTree.{KindTree}
+use Rattle.cv_pool.specs.declared.node.NodeId.{NodeId}
+use Rattle.cv_pool.specs.Nodes.{ChildBelow}
+use Rattle.cv_syntax.specs.Tree.{Tree, Empty, tree_at}
+use Rattle.cv_inline_bodies.specs.Inlined.{Drawn, in_game, index_terms}
+use Rattle.cv_inline_games.specs.NextGame.{Results}
+use Rattle.cv_inline_terms.specs.declared.caller.Caller.{Caller}
+use Rattle.cv_inline_terms.specs.declared.scope.Entry.{Entry}
+use Rattle.cv_inline_terms.specs.Callers.{caller_in}
+use Rattle.cv_inline_terms.specs.Scopes.{scope_in}
+use Rattle.cv_inline_results.specs.declared.outcome.Outcome.{Outcome}
+
+-- a term of a caller's body in the game; of no caller it is nothing
+abbrev pub term_of : List KindTree → Drawn → Option Caller → List Entry → Option NodeId → Tree
+term_of trees d None scope term = Empty
+term_of trees d (Some c) scope term = in_game d (caller_in trees c) (scope_in (index_terms c.replications.items) scope) (tree_at trees term)
+
+abbrev pub outcome_tree : List KindTree → Drawn → List Caller → Outcome → Tree
+outcome_tree trees d callers o = term_of trees d (slice_get callers o.caller) o.scope.items o.term
+
+-- the newest is the last of the code's list, and the first of these
+abbrev pub results_in : List KindTree → Drawn → List Caller → List Outcome → Results
+results_in trees d callers os = map (λ (o : Outcome). (o.answer, outcome_tree trees d callers o)) (reverse os)
+
+abbrev pub IsLiveOutcome : ℕ → Outcome → Type 0
+IsLiveOutcome live o = ChildBelow live o.term
+
+abbrev pub or_else : Tree → Option Tree → Tree
+or_else t None = t
+or_else t (Some u) = u

@@ -1,0 +1,69 @@
+ghost use Rattle.std.specs.Prelude.{◌≡◌, ◌∷◌, All, IfOk, length};
+ghost use Rattle.cv_pool.specs.Nodes.{ChildBelow};
+ghost use Rattle.cv_syntax.specs.Tree.{tree_at};
+ghost use Rattle.cv_inline_games.specs.NextGame as games;
+ghost use Rattle.cv_inline_games.specs.NextGame.{result_for};
+ghost use Rattle.cv_inline_terms.specs.Callers.{IsLiveCaller};
+ghost use Rattle.cv_inline_terms.specs.Drawings.{drawn_in};
+ghost use Rattle.cv_inline_terms.specs.Stacks.{stack};
+ghost use Rattle.cv_inline_results.specs.Outcomes.{IsLiveOutcome, results_in};
+
+use crate::outcome::{Outcome, add_outcome, outcome_of};
+use cv_inline_terms::{Caller, Drawing, copy, nothing, put};
+use cv_syntax::{Head, Make, NodeId, Pool, read_node};
+use std::alloc::AllocError;
+
+/// Adds the result for a variable, or else the term itself.
+fn result_or(
+    pool: &Pool,
+    drawn: &Drawing,
+    callers: &[Caller],
+    results: &[Outcome],
+    parts: &mut Vec<Make>,
+    x: u32,
+    term: Option<NodeId>,
+) -> Result<(), AllocError>
+    requires callers { All (IsLiveCaller (length pool.now.trees)) callers.now }
+    requires results { All (IsLiveOutcome (length pool.now.trees)) results.now }
+    requires term { ChildBelow (length pool.now.trees) term }
+    ensures { IfOk result (λ _. stack parts.new.items ≡ result_for
+        (results_in pool.now.trees (drawn_in drawn.now) callers.now results.now) x
+        (tree_at pool.now.trees term) ∷ stack parts.old.items) }
+{
+    match outcome_of(results, x) {
+        Some(found) => add_outcome(pool, drawn, callers, parts, found),
+        None => copy(pool, parts, term),
+    }
+}
+
+/// Adds a term of a statement, with the results of its calls in place of their answers.
+#[tactic(auto, using(cv_syntax::proofs::Trees::empty_at), unfolding(cv_inline_games::specs::NextGame::with_results))]
+pub fn with_results(
+    pool: &Pool,
+    drawn: &Drawing,
+    callers: &[Caller],
+    results: &[Outcome],
+    parts: &mut Vec<Make>,
+    term: Option<NodeId>,
+) -> Result<(), AllocError>
+    requires callers { All (IsLiveCaller (length pool.now.trees)) callers.now }
+    requires results { All (IsLiveOutcome (length pool.now.trees)) results.now }
+    requires term { ChildBelow (length pool.now.trees) term }
+    ensures { IfOk result (λ _. stack parts.new.items ≡ games.with_results
+        (results_in pool.now.trees (drawn_in drawn.now) callers.now results.now)
+        (tree_at pool.now.trees term) ∷ stack parts.old.items) }
+{
+    let Some(n) = term else {
+        return nothing(parts);
+    };
+    let node = read_node(pool, n);
+    match node.head {
+        Head::Leaf(x) => result_or(pool, drawn, callers, results, parts, x, term),
+        Head::Read(x) => result_or(pool, drawn, callers, results, parts, x, term),
+        head => {
+            with_results(pool, drawn, callers, results, parts, node.first)?;
+            with_results(pool, drawn, callers, results, parts, node.second)?;
+            put(parts, head)
+        }
+    }
+}
