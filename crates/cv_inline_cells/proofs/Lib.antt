@@ -4,6 +4,3 @@ pub mod Terms
 pub mod Next
 pub mod Sizes
 pub mod Chances
-pub mod Sites
-pub mod Laid
-pub mod OneSender

@@ -1,4 +1,2 @@
 pub mod Cells
 pub mod Layout
-pub mod Named
-pub mod Worked

@@ -1,8 +1,5 @@
 use Rattle.std.proofs.Common.{ap}
-use Rattle.cv_inline_draws.specs.DrawnNames.{find_in}
-use Rattle.cv_inline_draws.proofs.Names.{label_again}
 use Rattle.cv_inline_cells.specs.Cells.{names_in}
-use Rattle.cv_inline_cells.specs.Named.{names_of, text_of}
 use Rattle.cv_inline_cells.proofs.Swaps.{coins_alike, find_stays, like_tapes, made_swapped, picked_swapped}
 use Rattle.cv_inline_cells.proofs.swapped_tapes_are_alike.Goals as goal
 
@@ -20,6 +17,3 @@ returns-clause-finds c T find t l w h = ap t (find_stays (names_in T find) l w h
 
 pub returns-clause-coins : goal.returns-clause-coins
 returns-clause-coins c T find t a = coins_alike T find t 0 a.coins
-
-pub returns-clause-drawn_finds : goal.returns-clause-drawn_finds
-returns-clause-drawn_finds c n t s q w h = ap t (picked_swapped (names_in (text_of n t t) (find_in (names_of n))) q w s (label_again (names_of n) n.apart s q h))

@@ -25,10 +25,10 @@ use Rattle.cv_inline_draws.specs.DrawnNames.{AreBranchesDrawn, AreIndicesDrawn, 
 use Rattle.cv_inline_draws.proofs.Covered.{calls_covered}
 use Rattle.cv_inline_runs.specs.Texts.{Text, oracles_in}
 use Rattle.cv_inline_cells.specs.Layout.{AreRightBranches, IsCallText, IsContextText, IsLaidOut, IsRightFunction, IsRightText, IsTypedBy, IsTypedFunction, are_right_texts, is_right_text, is_term}
-use Rattle.cv_inline_cells.specs.Named.{NamedContext, arity_in, indices_of, named_on_tape, names_of, text_of, type_called, types_of}
+use Rattle.cv_inline_drawn.specs.Named.{NamedContext, arity_in, indices_of, named_on_tape, names_of, text_of, type_called, types_of}
 use Rattle.cv_inline_cells.proofs.Chances.{chances_of_context}
 use Rattle.cv_inline_cells.proofs.Sizes.{keys_are_terms}
-use Rattle.cv_inline_cells.proofs.Sites.{IsCalled, each_called}
+use Rattle.cv_inline_drawn.proofs.Sites.{IsCalled, each_called}
 
 no_adversary : Adversary
 no_adversary = record { coins = []; coins_have_values = tt; moves = 0; next = λ coins answers. None }

@@ -15,8 +15,8 @@ use Rattle.cv_inline_games.specs.Draws.{body_draws, finds_in, index_draws}
 use Rattle.cv_inline_games.specs.Worked.{one_sender}
 use Rattle.cv_inline_draws.specs.DrawnNames.{role_in}
 use Rattle.cv_inline_cells.specs.Layout.{IsContextText, IsPattern, IsRightFunction, IsTypedBy, is_right_text, is_term}
-use Rattle.cv_inline_cells.specs.Named.{NamedContext, drawn_for_context, text_of}
-use Rattle.cv_inline_cells.specs.Worked.{answer_there, drawn_numbers, role_there, type_there}
+use Rattle.cv_inline_drawn.specs.Named.{NamedContext, drawn_for_context, text_of}
+use Rattle.cv_inline_drawn.specs.Worked.{answer_there, drawn_numbers, role_there, type_there}
 
 sender_names : NamedContext
 unfolding size names_assigned call_of callings_from index_draws body_draws finds_in IsDistinct
