@@ -37,7 +37,8 @@ use Rattle.cv.specs.Games.{HasCloseGames, IsWithin, summed}
 use Rattle.cv_report.specs.declared.report.Entry.{Entry}
 use Rattle.cv_syntax.specs.declared.work.Game.{Game}
 use Rattle.cv_plain.specs.Strategy.{Course, EndsAt, most_pool, most_steps, nothing_said, said_of, status_by}
-use Rattle.cv.specs.Strategy.{AcceptsAll, EndsBy, EndsWell, HasFile, HoldsUpTo, IsExpected, IsGood, IsSound, Judged, Proceeds, SaysNothing, SpeaksOfFile, Succeeds, contexts_in, declared_in, file_in, game_in, most_bytes, steps_in}
+use Rattle.cv.specs.Contexts.{contexts_in}
+use Rattle.cv.specs.Strategy.{AcceptsAll, EndsBy, EndsWell, HasFile, HoldsUpTo, IsExpected, IsGood, IsSound, Judged, Proceeds, SaysNothing, SpeaksOfFile, Succeeds, declared_in, file_in, game_in, most_bytes, steps_in}
 use Rattle.cv.specs.Words.{AreTold, bytes_named, bytes_under}
 use Rattle.cv.proofs.Causing.{where_told}
 use Rattle.cv_plain.proofs.Courses.{course_fits}

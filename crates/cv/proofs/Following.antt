@@ -277,7 +277,7 @@ none_proved (q ∷ qs) zero s e = cc
 none_proved (q ∷ qs) (suc k) s e = none_proved qs k s e
 
 pub open_sound : (c : Content) (vs : List Verdict) (qs : List Tree) → vs ≡ map open_verdict qs → IsSoundFor c vs
-open_sound c vs qs e = λ k query s q v. absurd (none_proved qs k s (ap (λ us. slice_get us k) (sym e) ∙ v))
+open_sound c vs qs e = λ cs k query s q v. absurd (none_proved qs k s (ap (λ us. slice_get us k) (sym e) ∙ v))
 
 -- whether there is a query, declaration by declaration
 

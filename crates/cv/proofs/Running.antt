@@ -1,23 +1,27 @@
 -- What a run over an accepted file answers.
 use Rattle.std.proofs.Common.{◌≡◌, ◌<◌, ℕ, List, length, refl, ap, sym, ◌∙◌, subst, Option, Some, None, Ok, inl, inr}
-use Rattle.std.specs.Prelude.{All, IfSome, IsSome, MatchOption}
+use Rattle.std.specs.Prelude.{All, IfSome, IsSome, MatchOption, slice_get}
 use Rattle.std.proofs.lemmas.List.Elements.{All-nil}
 use Rattle.std.specs.declared.vec.Vec.{Vec}
 use Rattle.std.specs.declared.alloc.Global.{Global}
 use Rattle.cv_syntax.specs.declared.work.File.{File}
 use Rattle.cv_syntax.specs.Tree.{Tree}
 use Rattle.cv_script.specs.declared.steps.Step.{Step}
+use Rattle.cv_bound.specs.declared.terms.Term.{Term}
+use Rattle.cv_query_form.specs.Queries.{queries_in}
 use Rattle.cv_accept.specs.Accepted.{Content, IsFile, read_of}
 use Rattle.cv_accept.specs.Works.{script_in}
 use Rattle.cv_accept.proofs.Readings.{read_is_file}
 use Rattle.cv_plain.specs.Strategy.{most_pool}
 use Rattle.cv_report.specs.declared.report.Report.{Report}
 use Rattle.cv_report.specs.declared.report.Status.{Status}
+use Rattle.cv_report.specs.declared.report.Verdict.TheVariants.{Proved}
 use Rattle.cv_report.specs.Text.{EntryLive, IsLive}
 use Rattle.cv.specs.Answers.{Answers}
 use Rattle.cv.specs.Causes.{ComesFrom, Outside}
 use Rattle.cv.specs.Runs.{IsSoundFor, Runs}
-use Rattle.cv.specs.Strategy.{EndsBy, IsSound, Judged, Proceeds, SaysNothing, file_in, steps_in}
+use Rattle.cv.specs.Contexts.{contexts_in}
+use Rattle.cv.specs.Strategy.{EndsBy, HoldsUpTo, IsSound, Judged, Proceeds, SaysNothing, declared_in, file_in, game_in, steps_in}
 use Rattle.cv.specs.Words.{AreTold}
 use Rattle.cv.proofs.Causing.{script_cause_of, verdict_cause, where_told}
 use Rattle.cv.proofs.Endings.{memory_answers, memory_cause, sound_without}
@@ -30,7 +34,12 @@ module _ (c : Content) (f : File) (r : Report) where
 
   pub run_sound : Runs c f r → IsSound r
   run_sound (inl s) = sound_without r s.file
-  run_sound (inr h) = subst (λ (o : Option File). IfSome o (λ g. IsSoundFor (file_in r g) r.verdicts.items)) (sym h.file) (subst (λ (d : Content). IsSoundFor d r.verdicts.items) (sym h.content) h.sound)
+  run_sound (inr h) = of_file r.file (subst (λ (o : Option File). IfSome o (λ g. IsSoundFor (file_in r g) r.verdicts.items)) (sym h.file) (subst (λ (d : Content). IsSoundFor d r.verdicts.items) (sym h.content) h.sound))
+    where
+      of_file : (o : Option File) → IfSome o (λ g. IsSoundFor (file_in r g) r.verdicts.items)
+          → IfSome o (λ g. (k : ℕ) (query : Tree) (s : List Term) → slice_get (queries_in (declared_in r)) k ≡ Some query → slice_get r.verdicts.items k ≡ Some (Proved s) → HoldsUpTo (declared_in r) (contexts_in r) (game_in r g) query s)
+      of_file None s = tt
+      of_file (Some g) s = s (contexts_in r)
 
   pub run_live : Runs c f r → IsLive r
   run_live (inl s) = record {

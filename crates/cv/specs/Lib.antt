@@ -1,5 +1,6 @@
 pub mod Answers
 pub mod Causes
+pub mod Contexts
 pub mod Faults
 pub mod Fetched
 pub mod Games

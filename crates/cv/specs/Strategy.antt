@@ -23,13 +23,10 @@ use Rattle.cv_report.specs.declared.report.Status.{Status}
 use Rattle.cv_report.specs.declared.report.Status.TheVariants as status
 use Rattle.cv_report.specs.declared.report.Verdict.TheVariants.{Proved}
 use Rattle.cv_report.specs.declared.report.Which.TheVariants.{Depth, Nodes, Pool, Steps}
+use Rattle.cv.specs.Contexts.{contexts_in}
 use Rattle.cv.specs.Faults.{status_of as ended_by}
 use Rattle.cv.specs.Scripts.{Follows, entry_in, entry_of, known_to}
 use Rattle.cv.specs.Values.{Contexts, value_of}
-
--- the contexts of a report's cryptographic steps; no such step is built
-abbrev pub contexts_in : Report → Contexts
-contexts_in r = []
 
 -- how a run over a file ends
 
