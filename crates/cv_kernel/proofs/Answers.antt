@@ -25,10 +25,11 @@ use Rattle.cv_scenes.specs.Scenes.{Scene, first_reading, is_chosen, is_new, is_o
 use Rattle.cv_steps.specs.Steps.{Step, Split, Let, New, Unnew, Rewrite, Prune, Zero}
 use Rattle.cv_scenes.specs.Terms.{is_bool_at, is_game, is_term_at}
 use Rattle.cv_scope.specs.Phrases.{is_phrase}
-use Rattle.cv_kernel.specs.declared.applying.Next.{Next}
+use Rattle.cv_kernel_games.specs.declared.testing.Next.{Next}
 use Rattle.cv_kernel.specs.declared.error.RuleError.{RuleError}
 use Rattle.cv_kernel.specs.declared.error.RuleError.TheVariants as rule
-use Rattle.cv_kernel.specs.Rules.{HasNoPlace, IsAnswer, IsOutside, IsDrawFault, IsDrawn, IsNoGame, limit_fault, next_of}
+use Rattle.cv_kernel.specs.Rules.{HasNoPlace, IsAnswer, IsOutside, IsDrawFault, IsDrawn, IsNoGame, next_of}
+use Rattle.cv_kernel_games.specs.Limits.{limit_fault}
 
 -- rows of which no condition fails
 

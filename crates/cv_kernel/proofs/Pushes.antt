@@ -50,38 +50,28 @@ short_term trees t m n p e l v = (v, let g = ap size e in omega (arith, size-nod
 short_derivation : (trees : List KindTree) (t : Tree) (by : Option NodeId) (n : Tree) → nodes_of n ≤ nodes_of t → tree_at trees by ≡ n → nodes_of t < 2 ^ 31 → ChildBelow (length trees) by → IsShortDerivation trees by
 short_derivation trees t by n p e l v = (v, let g = ap (λ u. count (lines_of u)) e in omega (arith, lines-nodes n))
 
-short_by : (trees : List KindTree) (t : Tree) (r : Rule) (x : Step) → HasTerm t x → step_of trees r ≡ narrow x → nodes_of t < 2 ^ 31 → HasLiveNodes (length trees) r → IsShortRule trees r
-short_by trees t (code.Split p m) (Split q n) h e l v = short_term trees t m n h (cc) l v
-short_by trees t (code.Let p y T m) (Let q z U n) h e l v = short_term trees t m n h (cc) l v
-short_by trees t (code.New p y T) x h e l v = tt
-short_by trees t (code.Unnew y) x h e l v = tt
-short_by trees t (code.Rewrite p m by) (Rewrite q n d) h e l v = (short_term trees t m n h.0 (cc) l v.0, short_derivation trees t by d h.1 (cc) l v.1)
-short_by trees t (code.Prune p body by) (Prune q part d) h e l v = short_derivation trees t by d h (cc) l v
-short_by trees t (code.Split p m) (Let q z U n) h e l v = absurd (cc)
-short_by trees t (code.Split p m) (New q z U) h e l v = absurd (cc)
-short_by trees t (code.Split p m) (Unnew z) h e l v = absurd (cc)
-short_by trees t (code.Split p m) (Rewrite q n d) h e l v = absurd (cc)
-short_by trees t (code.Split p m) (Prune q part d) h e l v = absurd (cc)
-short_by trees t (code.Let p y T m) (Split q n) h e l v = absurd (cc)
-short_by trees t (code.Let p y T m) (New q z U) h e l v = absurd (cc)
-short_by trees t (code.Let p y T m) (Unnew z) h e l v = absurd (cc)
-short_by trees t (code.Let p y T m) (Rewrite q n d) h e l v = absurd (cc)
-short_by trees t (code.Let p y T m) (Prune q part d) h e l v = absurd (cc)
-short_by trees t (code.Rewrite p m by) (Split q n) h e l v = absurd (cc)
-short_by trees t (code.Rewrite p m by) (Let q z U n) h e l v = absurd (cc)
-short_by trees t (code.Rewrite p m by) (New q z U) h e l v = absurd (cc)
-short_by trees t (code.Rewrite p m by) (Unnew z) h e l v = absurd (cc)
-short_by trees t (code.Rewrite p m by) (Prune q part d) h e l v = absurd (cc)
-short_by trees t (code.Prune p body by) (Split q n) h e l v = absurd (cc)
-short_by trees t (code.Prune p body by) (Let q z U n) h e l v = absurd (cc)
-short_by trees t (code.Prune p body by) (New q z U) h e l v = absurd (cc)
-short_by trees t (code.Prune p body by) (Unnew z) h e l v = absurd (cc)
-short_by trees t (code.Prune p body by) (Rewrite q n d) h e l v = absurd (cc)
+has_narrow : (t : Tree) (x : Step) → HasTerm t x → HasTerm t (narrow x)
+has_narrow t (Split p m) h = h
+has_narrow t (Let p x T m) h = h
+has_narrow t (New p x T) h = h
+has_narrow t (Unnew x) h = h
+has_narrow t (Rewrite p m by) h = h
+has_narrow t (Prune p part by) h = h
+
+short_by : (trees : List KindTree) (t : Tree) (r : Rule) → HasTerm t (step_of trees r) → nodes_of t < 2 ^ 31 → HasLiveNodes (length trees) r → IsShortRule trees r
+short_by trees t (code.Split p m) h l v = short_term trees t m _ h refl l v
+short_by trees t (code.Let p y T m) h l v = short_term trees t m _ h refl l v
+short_by trees t (code.New p y T) h l v = tt
+short_by trees t (code.Unnew y) h l v = tt
+short_by trees t (code.Rewrite p m by) h l v = (short_term trees t m _ h.0 refl l v.0, short_derivation trees t by _ h.1 refl l v.1)
+short_by trees t (code.Prune p body by) h l v = short_derivation trees t by _ h refl l v
 
 short_some : (trees : List KindTree) (t : Tree) (r : Option Rule) (o : Option Step) → IfSome o (HasTerm t) → option_map (step_of trees) r ≡ option_map narrow o → nodes_of t < 2 ^ 31 → IfSome r (HasLiveNodes (length trees)) → IfSome r (IsShortRule trees)
 short_some trees t None o h e l v = tt
 short_some trees t (Some r) None h e l v = absurd (cc)
-short_some trees t (Some r) (Some x) h e l v = short_by trees t r x h (cc) l v
+short_some trees t (Some r) (Some x) h e l v =
+    let f : narrow x ≡ step_of trees r = cc in
+    short_by trees t r (subst (HasTerm t) f (has_narrow t x h)) l v
 
 pub short_rule : (trees : List KindTree) (t : Tree) (r : Option Rule) → option_map (step_of trees) r ≡ option_map narrow (step_in t) → nodes_of t < 2 ^ 31 → IfSome r (HasLiveNodes (length trees)) → IfSome r (IsShortRule trees)
 short_rule trees t r e l v = short_some trees t r (step_in t) (has_term t) e l v

@@ -10,7 +10,7 @@ use Rattle.cv_syntax.specs.Tree.{size, tree_at}
 use Rattle.cv_directory.specs.Definitions.{entries_of, large_in}
 use Rattle.cv_directory.specs.Sites.{sites_of}
 use Rattle.cv_directory.specs.Tables.{entries_in}
-use Rattle.cv_typing.specs.declared.arrays.Arrays.{Arrays}
+use Rattle.cv_kernel_games.specs.declared.testing.Next.{Next}
 use Rattle.cv_typing.specs.Signature.{OfGame}
 use Rattle.cv_typing.specs.Tables.{arrays_of, directory_in}
 use Rattle.cv_scenes.specs.Terms.{is_game}
@@ -20,15 +20,15 @@ use Rattle.cv_kernel.specs.declared.error.PushError.{PushError}
 use Rattle.cv_kernel.specs.declared.sequence.Sequence.{Sequence}
 use Rattle.cv_kernel.specs.Sequences.{Stands}
 
-same_arrays : (a b : Arrays) → Some a ≡ Some b → a ≡ b
-same_arrays a b e = cc
+same_next : (a b : Next) → Some a ≡ Some b → a ≡ b
+same_next a b e = cc
 
 module _ (trees : List KindTree) (decls : DeclsView) (root : NodeId) where
-  pub found_prepared : (found : Option Arrays) (a : Arrays) → found ≡ Some a → root.0 < length trees → size (tree_at trees (Some root)) < 2 ^ 32 → is_some found ≡ is_game (declarations trees decls.list) (tree_at trees (Some root))
-      → IfSome found (λ b. arrays_of b ≡ OfGame (sites_of (tree_at trees (Some root)))) → IfSome found (λ b. IfSome (directory_in b) (λ d. entries_in trees d ≡ entries_of (large_in decls.list) (tree_at trees (Some root)))) → IsPrepared trees decls root a
+  pub found_prepared : (found : Option Next) (a : Next) → found ≡ Some a → root.0 < length trees → size (tree_at trees (Some root)) < 2 ^ 32 → is_some found ≡ is_game (declarations trees decls.list) (tree_at trees (Some root))
+      → IfSome found (λ b. arrays_of b.arrays ≡ OfGame (sites_of (tree_at trees (Some root)))) → IfSome found (λ b. IfSome (directory_in b.arrays) (λ d. entries_in trees d ≡ entries_of (large_in decls.list) (tree_at trees (Some root)))) → IsPrepared trees decls root a.arrays
   found_prepared None a e l s g h k = absurd (cc)
   found_prepared (Some b) a e l s g h k =
-      subst (IsPrepared trees decls root) (same_arrays b a e)
+      subst (λ (n : Next). IsPrepared trees decls root n.arrays) (same_next b a e)
       (record { live = l; fits = s; formed = formed (declarations trees decls.list) (tree_at trees (Some root)) (sym g); arrays = h; entries = k })
 
 module _ (old advanced settled : PoolView) (d e : DeclsView) (s t : Sequence) where

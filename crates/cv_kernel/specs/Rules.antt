@@ -1,11 +1,10 @@
 -- What the kernel answers of a step in a game.
-use Rattle.std.specs.Prelude.{◌≡◌, ℕ, ◌+◌, ◌<◌, ◌≤◌, ◌^◌, Bool, false, nat_lt, if◌then◌else◌, List, length, Option, Some, None, Result, Ok, Err}
+use Rattle.std.specs.Prelude.{◌≡◌, ℕ, ◌+◌, ◌<◌, ◌≤◌, ◌^◌, Bool, false, List, length, Option, Some, None, Result, Ok, Err}
 use Rattle.cv_pool.specs.declared.node.NodeId.{NodeId}
 use Rattle.cv_pool.specs.declared.pool.PoolError.{PoolError}
 use Rattle.cv_pool.specs.declared.pool.PoolError.TheVariants as pool
 use Rattle.cv_pool.specs.KindTree.{KindTree}
 use Rattle.cv_pool.specs.Nodes.{ChildBelow}
-use Rattle.cv_syntax.specs.declared.work.BuildError.{BuildError}
 use Rattle.cv_syntax.specs.declared.work.BuildError.TheVariants as build
 use Rattle.cv_syntax.specs.Tree.{Tree, size, tree_at}
 use Rattle.cv_path.specs.Places.{nodes_above}
@@ -17,13 +16,13 @@ use Rattle.cv_scenes.specs.Scenes.{part_at}
 use Rattle.cv_steps.specs.Steps.{Step, Split, Let, New, Unnew, Rewrite, Prune, Cost}
 use Rattle.cv_steps.specs.Changes.{change_at, split_process, after_let, after_new, without, without_body, only}
 use Rattle.cv_steps.specs.Costs.{cost_of}
-use Rattle.cv_steps.specs.Judgements.{Judgement, Refused, TooLarge, TooDeep, Accepted, most_depth, most_nodes}
+use Rattle.cv_steps.specs.Judgements.{Judgement, Refused, TooLarge, TooDeep, Accepted}
 use Rattle.cv_rule.specs.declared.rules.Rule.{Rule}
 use Rattle.cv_rule.specs.declared.rules.Rule.TheVariants as code
 use Rattle.cv_rule.specs.Stated.{failed}
 use Rattle.cv_draw.specs.Dropping.{need_without}
 use Rattle.cv_draw_pruning.specs.Bodies as pruning
-use Rattle.cv_kernel.specs.declared.applying.Next.{Next}
+use Rattle.cv_kernel_games.specs.declared.testing.Next.{Next}
 use Rattle.cv_kernel.specs.declared.error.RuleError.{RuleError}
 use Rattle.cv_kernel.specs.declared.error.RuleError.TheVariants as rule
 
@@ -111,10 +110,6 @@ IsOutside game (Prune p part by) = size game ≤ p
 abbrev pub HasNoPlace : Tree → Step → Type 0
 HasNoPlace game (Prune p part by) = pruned p (part_at game p) part ≡ None
 HasNoPlace game step = IsOutside game step
-
--- a game of this size and depth passes this limit
-abbrev pub limit_fault : (nodes depth : ℕ) → Option BuildError
-limit_fault nodes depth = if nat_lt most_nodes nodes then Some (build.Nodes nodes) else if nat_lt most_depth depth then Some (build.Depth depth) else None
 
 abbrev pub of_pool : PoolError → RuleError
 of_pool (pool.Full need) = rule.Build (build.Full need)

@@ -1,4 +1,4 @@
-ghost use Rattle.std.specs.Prelude.{◌≡◌, ◌+◌, ◌<◌, ◌≤◌, ◌^◌, All, IfErr, IfOk, None, OnErr, OnOk, Some, length, take, true};
+ghost use Rattle.std.specs.Prelude.{◌≡◌, ◌+◌, ◌<◌, ◌≤◌, ◌^◌, All, IfErr, IfOk, None, OnErr, OnOk, Some, length, true};
 ghost use Rattle.cv_pool.specs.PoolView.{Grows};
 ghost use Rattle.cv_syntax.specs.Declarations.{declarations};
 ghost use Rattle.cv_syntax.specs.Tree as tree;
@@ -10,32 +10,16 @@ ghost use Rattle.cv_scenes.specs.Terms as terms;
 ghost use Rattle.cv_rule_scenes.specs.Kept.{scene_of};
 ghost use Rattle.cv_rule.specs.Prepared.{IsPrepared};
 ghost use Rattle.cv_rule.specs.Stated.{failed, failure_of, step_of};
-ghost use Rattle.cv_kernel.specs.Rules.{IsAnswer, IsNoGame, IsShortRule, limit_fault, need_of, next_of};
+ghost use Rattle.cv_kernel.specs.Rules.{IsAnswer, IsNoGame, IsShortRule, need_of, next_of};
 ghost use Rattle.cv_bound.specs.declared.cost.Cost.TheVariants.{Zero};
 
 use crate::drawing::{draw_next, extent_of};
 use crate::error::RuleError;
-use cv_bound::Cost;
-use cv_draw::Extent;
+use cv_kernel_games::{Next, check_limits, next_at, settle};
 use cv_rule::{Failure, Rule, conditions};
-use cv_rule_scenes::is_game;
-use cv_syntax::{BuildError, Game, Mark, NodeId, Pool, Work};
+use cv_syntax::{NodeId, Work};
 use cv_typing::Arrays;
 use std::alloc::Global;
-
-/// The most syntax nodes of a game.
-const MOST_NODES: u32 = 50_000;
-
-/// The most syntax nodes on a path of a game.
-const MOST_DEPTH: u32 = 200;
-
-/// The game that a step leads to, with what there is to read in it, and what the step costs.
-#[derive(Drop)]
-pub struct Next {
-    pub game: Game,
-    pub arrays: Arrays,
-    pub cost: Cost,
-}
 
 /// A step that fails a condition at no place.
 fn refused(condition: u32) -> RuleError
@@ -45,24 +29,6 @@ fn refused(condition: u32) -> RuleError
         condition,
         place: 0,
     })
-}
-
-/// Whether a game of this size is within the limits.
-fn check_limits(extent: Extent) -> Result<(), BuildError>
-    ensures within { OnOk result (limit_fault extent.nodes extent.depth ≡ None) }
-    ensures over { IfErr result (λ e. limit_fault extent.nodes extent.depth ≡ Some e) }
-{
-    if extent.nodes > MOST_NODES {
-        return Err(BuildError::Nodes {
-            count: extent.nodes,
-        });
-    }
-    if extent.depth > MOST_DEPTH {
-        return Err(BuildError::Depth {
-            depth: extent.depth,
-        });
-    }
-    Ok(())
 }
 
 /// The game at a node, where it is one.
@@ -81,13 +47,8 @@ fn game_at(alloc: Global, work: &Work, root: NodeId) -> Result<Next, RuleError>
         (declarations work.now.pool.trees work.now.decls.list)
         (tree_at work.now.pool.trees (Some root)))) }
 {
-    let game = Game { root };
-    match is_game(alloc, work, game)? {
-        Some(arrays) => Ok(Next {
-            game,
-            arrays,
-            cost: Cost::Zero,
-        }),
+    match next_at(alloc, work, root)? {
+        Some(next) => Ok(next),
         None => Err(refused(9)),
     }
 }
@@ -156,24 +117,6 @@ pub fn attempt(
         return Err(RuleError::Refused(failure));
     }
     make(alloc, work, game, rule)
-}
-
-/// An outcome, after which the pool is as it was before where it is a refusal. Nodes are given back here alone.
-pub fn settle<T: Drop, E: Copy>(
-    pool: &mut Pool,
-    before: Mark,
-    outcome: Result<T, E>,
-) -> Result<T, E>
-    requires { before.0 ≤ length pool.old.trees }
-    ensures same { result ≡ outcome }
-    ensures ok { OnOk result (pool.new ≡ pool.old) }
-    ensures back { OnErr result (pool.new.trees ≡ take before.0 pool.old.trees) }
-    ensures limit { pool.new.limit ≡ pool.old.limit }
-{
-    if outcome.is_err() {
-        pool.release(before);
-    }
-    outcome
 }
 
 /// Applies a step in a game. Its conditions are tested first, then the limits of the next game, then the pool is

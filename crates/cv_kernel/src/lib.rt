@@ -7,7 +7,8 @@ mod error;
 mod reading;
 mod sequence;
 
-pub use applying::{Next, apply};
+pub use applying::apply;
+pub use cv_kernel_games::Next;
 pub use error::{PushError, RuleError};
 pub use reading::rule_of;
 pub use sequence::Sequence;

@@ -9,11 +9,12 @@ ghost use Rattle.cv_kernel.specs.Rules.{IsShortRule, need_of};
 ghost use Rattle.cv_kernel.specs.Sequences.{IsAdvanced, IsPushed, IsReady, Same, Stands, needed};
 ghost use Rattle.cv_kernel.specs.Steps.{narrow, nodes_of, step_in};
 
-use crate::applying::{attempt, settle};
+use crate::applying::attempt;
 use crate::error::PushError;
 use crate::reading::rule_of;
 use cv_bound::{Cost, Sum};
 use cv_directory::Directory;
+use cv_kernel_games::settle;
 use cv_rule::{Failure, Rule};
 use cv_script::{Step, view};
 use cv_syntax::{Game, Pool, Work};
