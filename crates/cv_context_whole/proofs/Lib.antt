@@ -1,0 +1,10 @@
+pub mod Becoming
+pub mod Sites
+pub mod Apart
+pub mod Given
+pub mod Shown
+pub mod Reach
+pub mod Spoken
+pub mod Unmade
+pub mod Kept
+pub mod Whole
