@@ -1,5 +1,5 @@
 -- Sites of a context are alike and stand in different branches, as those of the game do, and each answer has one.
-use Rattle.std.proofs.Common.{◌≡◌, ℕ, suc, ◌≤◌, ◌<◌, Bool, true, false, List, [], ◌∷◌, ◌++◌, ◌⊎◌, inl, inr, length, refl, sym, ap, subst, ◌∙◌, arith}
+use Rattle.std.proofs.Common.{◌≡◌, ℕ, suc, ◌≤◌, ◌<◌, true, List, [], ◌∷◌, ◌++◌, inl, inr, length, refl, sym, ap, subst, ◌∙◌, arith}
 use Rattle.std.proofs.lemmas.Bool.{both_ways}
 use Rattle.std.specs.List.{AllByRecursion}
 use Rattle.cv_syntax.specs.declared.head.Head.{Head}
@@ -7,8 +7,7 @@ use Rattle.cv_syntax.specs.declared.head.Head.TheVariants.{New, Key, Call}
 use Rattle.cv_syntax.specs.Tree.{Tree, Empty, Node, first_place, second_place}
 use Rattle.cv_scope.specs.Branches.{AreInDifferentBranches, Each, HasOtherName, IsLike, Pairs}
 use Rattle.cv_scope.specs.Context.{first_position, replications_below, second_position}
-use Rattle.cv_scope.specs.Sites.{Site, Variable, site_of, sites_from, sites_here}
-use Rattle.cv_scope.specs.Standing.{parts_ways}
+use Rattle.cv_scope.specs.Sites.{Site, Variable, sites_from, sites_here}
 use Rattle.cv_scope.specs.declared.position.Position.{Position}
 use Rattle.cv_scope.specs.declared.position.Position.TheVariants.{Anywhere}
 use Rattle.cv_scope.proofs.Pairs.{all-append, all-left, all-right, all-weaker, each-append, pairs-append}

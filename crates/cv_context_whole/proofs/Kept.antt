@@ -1,19 +1,19 @@
 -- The rules of scope in the context, node by node, as in the game.
-use Rattle.std.proofs.Common.{◌≡◌, ℕ, suc, ◌+◌, ◌≤◌, ◌<◌, Bool, true, false, cond, not, ◌&&◌, ◌==◌, List, [], ◌∷◌, ◌++◌, map, ◌⊎◌, inl, inr, length, Option, Some, None, refl, sym, ap, ap₂, subst, ◌∙◌, eqb-true, arith}
+use Rattle.std.proofs.Common.{◌≡◌, ℕ, suc, ◌+◌, ◌≤◌, ◌<◌, Bool, true, false, cond, ◌&&◌, ◌==◌, List, [], ◌∷◌, ◌++◌, map, ◌⊎◌, inl, inr, length, Option, Some, refl, sym, ap, ap₂, subst, ◌∙◌, eqb-true, arith}
 use Rattle.std.proofs.lemmas.Bool.{and_parts, both_ways, eqb-false}
 use Rattle.std.specs.List.{AllByRecursion}
 use Rattle.cv_first_fault.specs.Walk.{IsObeyed}
 use Rattle.cv_syntax.specs.declared.head.Head.{Head}
-use Rattle.cv_syntax.specs.declared.head.Head.TheVariants.{Stop, Yield, Par, Repl, In, Out, Event, New, Let, If, Find, Branch, Leaf, Read, Not, Cons, Binder, Name, Key, Call as CallHead}
-use Rattle.cv_syntax.specs.Tree.{Tree, Empty, Node, chain, first, first_place, reads_only, second, second_place}
+use Rattle.cv_syntax.specs.declared.head.Head.TheVariants.{Stop, Yield, Par, Repl, In, Out, Event, New, Let, If, Find, Branch, Leaf, Read, Cons, Binder, Name, Key}
+use Rattle.cv_syntax.specs.Tree.{Tree, Empty, Node, first, first_place, reads_only, second}
 use Rattle.cv_meaning.specs.Binders.{bound_names}
 use Rattle.cv_scope.specs.declared.fault.Fault.TheVariants as fault
 use Rattle.cv_scope.specs.Branches.{HasOtherName, Pairs}
-use Rattle.cv_scope.specs.Context.{Context, cell_of, cells_of, items, with_cells, with_definition}
+use Rattle.cv_scope.specs.Context.{Context, cell_of, cells_of, items, with_cells}
 use Rattle.cv_scope.specs.Phrases.{Phrase, Arm, Binders, Body, Branches, Cells, Else, Guarded, Guards, Indices as NameList, Inputs, Message, Nil, OneCell, Pattern, Term, Terms, Then, is_phrase}
 use Rattle.cv_scope.specs.Rules.{IsAmong, Names, carries, is_index}
 use Rattle.cv_scope.specs.Scope.{IsScopedAt}
-use Rattle.cv_scope.specs.Sites.{Site, Variable, channel_here, named_here, site_of}
+use Rattle.cv_scope.specs.Sites.{Variable, channel_here, named_here, site_of}
 use Rattle.cv_scope.specs.Standing.{Standing, first_standing, second_standing}
 use Rattle.cv_scope.specs.declared.position.Position.{Position}
 use Rattle.cv_scope.specs.declared.position.Position.TheVariants as position
@@ -21,14 +21,14 @@ use Rattle.cv_scope.proofs.Apart.{IsApart, IsBefore, IsWithin, before-first, bef
 use Rattle.cv_scope.proofs.Pairs.{all-left, pairs-of}
 use Rattle.cv_scope_runs.proofs.Rows.{walks}
 use Rattle.cv_scenes.specs.Sights.{variable_of}
-use Rattle.cv_reductions.specs.Instances.{Call, call_at}
-use Rattle.cv_reductions.specs.Sites.{Site as CallSite, sites_in}
+use Rattle.cv_reductions.specs.Instances.{Call}
+use Rattle.cv_reductions.specs.Sites.{Site as CallSite}
 use Rattle.cv_reductions.specs.Contexts.{after_calls, call_terms, in_context}
 use Rattle.cv_reductions.specs.LeftTerms.{HasLeftTerms}
 use Rattle.cv_reductions.specs.Reductions.{Reduction, is_coin, is_plain, matching}
 use Rattle.cv_reductions.specs.Apt.{AreSitesApt, AreTermsApt, IsApt, IsAptGame, are_cells_apt, inside, is_cell_apt, sites_inside}
 use Rattle.cv_context_values.proofs.Numbers.{context}
-use Rattle.cv_context_formed.specs.Rules.{AreKept, NodeKeeps}
+use Rattle.cv_context_formed.specs.Rules.{AreKept}
 use Rattle.cv_inline_expected.specs.Fine.{has_free_indices, reads_no_call}
 use Rattle.cv_inline_expected.proofs.Nodes.{binders_in, empty_in, names_in, nil_in, node_in, pattern_in}
 use Rattle.cv_context_whole.proofs.Becoming.{is_still}

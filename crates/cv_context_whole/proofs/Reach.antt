@@ -1,29 +1,19 @@
 -- Reads of terms: where the context knows what the game does, they are in reach in the context too.
-use Rattle.std.proofs.Common.{◌≡◌, ℕ, suc, ◌+◌, ◌≤◌, ◌<◌, Bool, true, false, cond, not, ◌&&◌, ◌||◌, ◌==◌, List, [], ◌∷◌, ◌++◌, ◌⊎◌, inl, inr, length, is_some, Option, Some, None, refl, sym, ap, ap₂, subst, ◌∙◌, eq-eqb, arith}
+use Rattle.std.proofs.Common.{◌≡◌, ℕ, ◌≤◌, Bool, true, false, ◌||◌, ◌==◌, List, [], ◌∷◌, inl, inr, length, Option, Some, None, refl, sym, subst, eq-eqb}
 use Rattle.std.proofs.lemmas.Bool.{and_parts, both_ways}
 use Rattle.std.specs.List.{AllByRecursion}
 use Rattle.cv_syntax.specs.declared.head.Head.{Head}
 use Rattle.cv_syntax.specs.declared.head.Head.TheVariants.{Leaf, Read, Apply, Eq, And, Or, Not, Yes, No, Cons, Binder, Name}
-use Rattle.cv_syntax.specs.Tree.{Tree, Empty, Node, chain, first, first_place, head_reads_only, reads_only, second_place}
+use Rattle.cv_syntax.specs.Tree.{Tree, Empty, Node, first_place, head_reads_only, reads_only, second_place}
 use Rattle.cv_scope.specs.Branches.{HasOtherName, Pairs}
-use Rattle.cv_scope.specs.Context.{Context, cell_of, first_context, first_position, index_terms, replications_below, second_context, second_position}
-use Rattle.cv_scope.specs.Phrases.{Nil, OneCell, Phrase, Term, Terms, is_phrase, parts}
+use Rattle.cv_scope.specs.Context.{Context, cell_of, first_context, first_position, index_terms, second_context, second_position}
 use Rattle.cv_scope.specs.Rules.{BindsNewIndex, InReach, IsAmong, IsFewIndices, Names, ReadsInReach, carries_current, is_index}
 use Rattle.cv_scope.specs.Sites.{named_here}
-use Rattle.cv_scope.specs.declared.position.Position.{Position}
 use Rattle.cv_scope.specs.declared.position.Position.TheVariants.{Anywhere}
 use Rattle.cv_scope.proofs.Pairs.{all-weaker}
-use Rattle.cv_scope_runs.proofs.Rows.{walks}
 use Rattle.cv_scenes.specs.Sights.{variable_of}
-use Rattle.cv_reductions.specs.Instances.{Call, call_at}
-use Rattle.cv_reductions.specs.Reductions.{Reduction, is_coin, is_plain, matching}
-use Rattle.cv_reductions.specs.Apt.{IsAptGame, reads_outside}
-use Rattle.cv_reductions.specs.LeftTerms.{HasLeftTerms}
-use Rattle.cv_context_values.proofs.Numbers.{context}
-use Rattle.cv_context_formed.specs.Rules.{AreKept, NodeKeeps}
-use Rattle.cv_context_formed.proofs.Terms.{children}
-use Rattle.cv_inline_expected.specs.Fine.{has_free_indices, has_no_call, reads_no_call}
-use Rattle.cv_inline_expected.proofs.Nodes.{by_call, empty_in, nil_in, node_by, none_in, plain_node, terms_stay}
+use Rattle.cv_reductions.specs.Reductions.{Reduction, is_coin, is_plain}
+use Rattle.cv_context_formed.specs.Rules.{AreKept}
 use Rattle.cv_context_whole.proofs.Becoming.{is_still, is_still_head}
 
 -- each read in the tree is in reach

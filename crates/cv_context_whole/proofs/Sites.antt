@@ -1,5 +1,5 @@
 -- Sites of a context: each is one of the game's, but for its place, or an answer's.
-use Rattle.std.proofs.Common.{◌≡◌, ℕ, suc, ◌≤◌, ◌<◌, Bool, true, false, ◌&&◌, List, [], ◌∷◌, ◌++◌, map, ◌⊎◌, inl, inr, length, refl, sym, ap, subst, ◌∙◌, arith}
+use Rattle.std.proofs.Common.{◌≡◌, ℕ, suc, ◌≤◌, ◌<◌, true, false, List, [], ◌∷◌, ◌++◌, map, ◌⊎◌, inl, inr, refl, sym, ap, subst, ◌∙◌, arith}
 use Rattle.std.proofs.lemmas.Bool.{and_parts, both_ways}
 use Rattle.std.specs.List.{AllByRecursion}
 use Rattle.cv_syntax.specs.declared.head.Head.{Head}
@@ -9,14 +9,12 @@ use Rattle.cv_meaning.specs.Binders.{bound_names}
 use Rattle.cv_scope.specs.Branches.{AreInDifferentBranches, Each, HasOtherName, IsLike, Pairs}
 use Rattle.cv_scope.specs.Context.{first_position, replications_below, second_position}
 use Rattle.cv_scope.specs.Rules.{AreAlike}
-use Rattle.cv_scope.specs.Sites.{Channel, Site, SiteName, Variable, channel_here, named_here, site_of, sites_from, sites_here, variable_sites}
-use Rattle.cv_scope.specs.Standing.{parts_ways}
+use Rattle.cv_scope.specs.Sites.{Channel, Site, Variable, channel_here, site_of, sites_from, sites_here, variable_sites}
 use Rattle.cv_scope.specs.declared.position.Position.{Position}
 use Rattle.cv_scope.specs.declared.position.Position.TheVariants.{Anywhere}
-use Rattle.cv_scope.proofs.Pairs.{all-append, all-left, all-map, all-right, all-true, all-weaker, each-append, pairs-append}
-use Rattle.cv_reductions.specs.Reductions.{Reduction, is_answer, sites}
-use Rattle.cv_context_served.proofs.Kept.{answers_are}
-use Rattle.cv_context_whole.proofs.Becoming.{AreCalls, none, call, Becomes, still, node, coin, key, statement, IsNoAnswer, Stays, is_still, is_still_head}
+use Rattle.cv_scope.proofs.Pairs.{all-append, all-map, all-true, all-weaker, pairs-append}
+use Rattle.cv_reductions.specs.Reductions.{Reduction}
+use Rattle.cv_context_whole.proofs.Becoming.{AreCalls, none, call, Becomes, still, node, coin, key, statement, IsNoAnswer, is_still, is_still_head}
 
 -- one of a list
 

@@ -1,5 +1,5 @@
 -- Reads of a statement's terms in the context, and of the calls before it.
-use Rattle.std.proofs.Common.{◌≡◌, ℕ, suc, ◌+◌, ◌≤◌, ◌<◌, Bool, true, false, cond, not, ◌&&◌, ◌||◌, ◌==◌, List, [], ◌∷◌, ◌++◌, ◌⊎◌, inl, inr, length, is_some, Option, Some, None, refl, sym, ap, ap₂, subst, ◌∙◌, arith}
+use Rattle.std.proofs.Common.{◌≡◌, ℕ, ◌+◌, ◌≤◌, ◌<◌, Bool, true, false, not, ◌&&◌, ◌||◌, ◌==◌, List, [], ◌∷◌, ◌++◌, length, is_some, Option, Some, None, refl, sym, ap, subst, ◌∙◌, arith}
 use Rattle.std.proofs.lemmas.Bool.{and_parts, both_ways}
 use Rattle.std.specs.List.{AllByRecursion}
 use Rattle.cv_syntax.specs.declared.head.Head.{Head}
@@ -8,21 +8,20 @@ use Rattle.cv_syntax.specs.Tree.{Tree, Empty, Node, chain, first, first_place, h
 use Rattle.cv_scope.specs.Context.{Context, cell_of, first_position, replications_below, second_position}
 use Rattle.cv_scope.specs.Phrases.{Nil, OneCell, Phrase, Term, Terms, is_phrase, parts}
 use Rattle.cv_scope.specs.Rules.{IsAmong, Names, ReadsInReach}
-use Rattle.cv_scope.specs.declared.position.Position.{Position}
 use Rattle.cv_scope.specs.declared.position.Position.TheVariants.{Anywhere}
 use Rattle.cv_scope_runs.proofs.Rows.{walks}
 use Rattle.cv_scenes.specs.Sights.{variable_of}
 use Rattle.cv_reductions.specs.Instances.{Call, call_at}
-use Rattle.cv_reductions.specs.Sites.{Site, is_guard, sites_in}
+use Rattle.cv_reductions.specs.Sites.{Site, sites_in}
 use Rattle.cv_reductions.specs.Contexts.{call_terms}
-use Rattle.cv_reductions.specs.Reductions.{Reduction, is_answer, is_coin, is_plain, matching}
-use Rattle.cv_reductions.specs.Apt.{IsAptGame, IsSiteApt, inside, reads_outside}
+use Rattle.cv_reductions.specs.Reductions.{Reduction, is_coin, is_plain, matching}
+use Rattle.cv_reductions.specs.Apt.{IsAptGame, IsSiteApt, reads_outside}
 use Rattle.cv_reductions.specs.LeftTerms.{HasLeftTerms}
 use Rattle.cv_context_values.proofs.Numbers.{context}
 use Rattle.cv_context_formed.proofs.Terms.{children}
 use Rattle.cv_inline_expected.specs.Fine.{has_free_indices, reads_no_call}
 use Rattle.cv_inline_expected.proofs.Nodes.{by_call, empty_in, nil_in, node_by, none_in, plain_node, terms_stay}
-use Rattle.cv_context_whole.proofs.Becoming.{is_still, is_still_head}
+use Rattle.cv_context_whole.proofs.Becoming.{is_still_head}
 use Rattle.cv_context_whole.proofs.Shown.{AreStillParts, count_node, not_true, still_parts}
 use Rattle.cv_context_whole.proofs.Reach.{AreNamesOf, AreRead, IsBelow, cell_read, head_moves, no_coin_read, none_some, reads_move}
 

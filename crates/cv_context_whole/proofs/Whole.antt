@@ -1,7 +1,6 @@
 -- The context of an apt game keeps the rules of scope at each node.
-use Rattle.std.proofs.Common.{◌≡◌, ℕ, true, [], refl}
+use Rattle.std.proofs.Common.{◌≡◌, true, [], refl}
 use Rattle.cv_scope.specs.Context.{nothing_known}
-use Rattle.cv_scope.specs.Rules.{Names}
 use Rattle.cv_scope.specs.Scope.{names_of}
 use Rattle.cv_scope.specs.Standing.{at_root}
 use Rattle.cv_scope.specs.declared.position.Position.TheVariants.{Anywhere}
