@@ -1,0 +1,11 @@
+// The context of a game for an equivalence and a key, made in the pool. It is proved and not run: no step asks for it yet.
+#![tactic(auto)]
+
+mod building;
+mod coins;
+mod nodes;
+mod parts;
+mod roles;
+mod walk;
+
+pub use building::context;
