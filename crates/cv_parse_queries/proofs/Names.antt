@@ -299,9 +299,6 @@ module _ (ts : List Sign) (ds : List Declaration) (s : Option (ℕ × ℕ)) (g :
   asked_named : (before behind : Uses) (b : List Declaration) (us : Uses) → W ≡ before ++ (us ++ behind) → IsAsked below true b us → AreNamedQueries b
   asked_named before behind b us split w = subst AreNamedQueries w.is (go w.spelled, tt)
     where
-      after : Uses
-      after = w.behind ++ behind
-
       in_region : W ≡ before ++ (enters w.left ∷ (w.inner ++ (w.behind ++ behind)))
       in_region = split ∙ ap (λ z. before ++ z) (ap (λ z. z ++ behind) w.split ∙ ap (λ z. enters w.left ∷ z) (append_assoc w.inner w.behind behind))
 
