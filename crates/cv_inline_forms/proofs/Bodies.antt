@@ -44,13 +44,13 @@ AreBranches t = (are_right_branches t ≡ true) × (are_right_texts t ≡ true)
 abbrev IsBranch : Tree → Type 0
 IsBranch t = have_one_index t ≡ true → (more : Tree) → AreBranches more → AreBranches (Node Cons t more)
 
-abbrev IsRightFunction : Tree → Type 0
-IsRightFunction f = (is_empty (first (first f)) ≡ true) × IsBody (second f)
+abbrev IsFunction : Tree → Type 0
+IsFunction f = (is_empty (first (first f)) ≡ true) × IsBody (second f)
 
 abbrev pub OfSort : Sort → Tree → Type 0
 OfSort sort.Body t = IsBody t
 OfSort sort.BodyBranch t = IsBranch t
-OfSort sort.RightFunction t = IsRightFunction t
+OfSort sort.RightFunction t = IsFunction t
 OfSort sort.RightRest t = IsBody (second t)
 OfSort s t = IsOfSort nothing s t
 
@@ -162,7 +162,7 @@ of_arguments_and_body = turned (follow anything (behind of_body)) (λ x w. w.1)
 of_rest : Makes right_rest (λ t. IsBody (second t))
 of_rest = one_of of_new_before of_arguments_and_body
 
-of_function : Makes right_function IsRightFunction
+of_function : Makes right_function IsFunction
 of_function = turned (follow anything (behind (follow anything of_rest))) (λ x w. (refl, w.1.1))
 
 pub all_rows : (s : Sort) (t : Tree) → Yields IsNamed OfSort (rule s) t → OfSort s t
@@ -204,7 +204,7 @@ unfolding have_one_index
 body_one Empty o = refl
 body_one (Node h a b) o = (and_parts (have_one_index a) (have_one_index b) (and_parts _ (have_one_index a && have_one_index b) o).1).1
 
-pub written : (l : List Tree) → AllByRecursion IsRightFunction l → have_one_index (chain l) ≡ true → AreWritten (chain l)
+pub written : (l : List Tree) → AllByRecursion IsFunction l → have_one_index (chain l) ≡ true → AreWritten (chain l)
 unfolding have_one_index are_right_functions
 written [] w o = (refl, tt)
 written (f ∷ l) w o =
@@ -216,7 +216,7 @@ written (f ∷ l) w o =
     )
 
 of_functions : Makes (functions sort.RightFunction) (λ fs. have_one_index fs ≡ true → AreWritten fs)
-of_functions = leveled (behind (before (turned (turned {p = λ x. IsRightFunction x.0 × AllByRecursion IsRightFunction x.1} {q = AllByRecursion IsRightFunction} (follow below (several (behind below))) (λ x w. w)) written)))
+of_functions = leveled (behind (before (turned (turned {p = λ x. IsFunction x.0 × AllByRecursion IsFunction x.1} {q = AllByRecursion IsFunction} (follow below (several (behind below))) (λ x w. w)) written)))
 
 abbrev pub IsRightGroup : Tree → Type 0
 IsRightGroup g = have_one_index g ≡ true → (is_right_side g ≡ true) × AllByRecursion IsWrittenFunction (group_of g).functions
