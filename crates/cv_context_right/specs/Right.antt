@@ -1,0 +1,69 @@
+-- What gives each call of a game's context its text, where names are drawn for the next game. This profile's own.
+use Rattle.std.specs.Prelude.{◌≡◌, ◌==◌, ℕ, ◌<◌, true, false, not, List, length, slice_get, Some}
+use Rattle.std.specs.List.{AllByRecursion, list_any}
+use Rattle.cv_syntax.specs.Declarations.{Declaration}
+use Rattle.cv_syntax.specs.Tree.{chain, first, reads_only, second}
+use Rattle.cv_meaning.specs.Interpretation.{is_constant_of}
+use Rattle.cv_meaning.specs.Tapes.{blank}
+use Rattle.cv_meaning_contexts.specs.Groups.{Right, side_group}
+use Rattle.cv_group_rules.specs.Faults.{IsAccepted}
+use Rattle.cv_scope.specs.Context.{items}
+use Rattle.cv_scope.specs.Phrases.{IsWellFormedContext}
+use Rattle.cv_reductions.specs.Apt.{IsAptGame, IsSiteApt}
+use Rattle.cv_reductions.specs.LeftTerms.{HasLeftTerms}
+use Rattle.cv_reductions.specs.Reductions.{Reduction, context_of_game, matching, sites}
+use Rattle.cv_reductions.specs.Sites.{Site}
+use Rattle.cv_inline_bodies.specs.Accepted.{AreFineKeyTerms}
+use Rattle.cv_inline_bodies.specs.Inlined.{is_index_of, is_own}
+use Rattle.cv_inline_bodies.specs.Roles.{Gone}
+use Rattle.cv_inline_games.specs.NextGame.{Calling, callings_of}
+use Rattle.cv_inline_draws.specs.DrawnNames.{role_in}
+use Rattle.cv_inline_runs.specs.Contexts.{ordinary_in}
+use Rattle.cv_inline_runs.specs.Texts.{Text, plain_in}
+use Rattle.cv_inline_expected.specs.CallTexts.{AreOwnIndices}
+use Rattle.cv_inline_expected.specs.Fine.{HasRolesOf, has_free_indices, has_label}
+use Rattle.cv_inline_accepted.specs.RightBodies.{is_right_side}
+use Rattle.cv_inline_cells.specs.Layout.{IsContextText, IsRightFunction}
+use Rattle.cv_inline_drawn.specs.Named.{NamedContext, names_of, text_of}
+use Rattle.cv_inline_covered.specs.Covered.{names_stand_bare}
+
+-- a site: the indices above it are no drawn names; the key is read at indices and variables of the game, as many as the key has; the
+-- arguments read the game's names
+pub record HasSiteText (T : Text) (s : Site) : Type 0 where
+  pub indices : AreOwnIndices T s.replications
+  pub key_terms : AreFineKeyTerms (is_index_of s.replications) (plain_in T) (first s.call.instance.key)
+  pub no_constants : reads_only (λ x. not (T.g.is_constant x)) (first s.call.instance.key) ≡ true
+  pub key_length : length (items (first s.call.instance.key)) ≡ T.key_length
+  pub arguments : reads_only (ordinary_in T) (chain s.call.instance.arguments) ≡ true
+
+-- the equivalence is accepted and in the grammar of files, and its right side binds no constant
+pub record HasRightForm (ds : List Declaration) (c : NamedContext) : Type 0 where
+  pub accepted : IsAccepted (is_constant_of ds) c.context.equivalence
+  pub side : is_right_side (second c.context.equivalence) ≡ true
+  pub functions : AllByRecursion IsRightFunction (side_group Right c.context.equivalence).functions
+  pub bare : names_stand_bare (second c.context.equivalence) ≡ true
+  pub own : AllByRecursion (λ (k : Calling). (x : ℕ) → c.constant x ≡ true → is_own k.caller x ≡ false) (callings_of c.context)
+
+-- the context with drawn names is that of the game, with its key, answers and constants; its sites have texts
+pub record IsNamedFor (r : Reduction) (c : NamedContext) : Type 0 where
+  pub context : c.context ≡ context_of_game r
+  pub key : c.key ≡ r.key
+  pub answers : (l : ℕ) → l < length (sites r) → c.answer l ≡ r.answer l
+  pub constant_there : (x : ℕ) → is_constant_of r.scene.declarations x ≡ true → c.constant x ≡ true
+  pub key_constant : c.g.is_constant c.key ≡ false
+  pub gone : role_in (names_of c) c.key ≡ Gone
+  pub form : HasRightForm r.scene.declarations c
+  pub apt : IsAptGame r
+  pub left : HasLeftTerms r.scene.declarations (matching r).group
+  pub sites_apt : (l : ℕ) (s : Site) → slice_get (sites r) l ≡ Some s → IsSiteApt r s.replications l s
+  pub texts : (l : ℕ) (s : Site) → slice_get (sites r) l ≡ Some s → HasSiteText (text_of c blank blank) s
+
+-- besides, the context is in scope and its names have one type each, the game's names have their roles, its labels are not drawn, and
+-- no instance stands in an index
+pub record IsRightGame (r : Reduction) (c : NamedContext) (types : ℕ → ℕ) : Type 0 where
+  pub named : IsNamedFor r c
+  pub formed : IsWellFormedContext r.scene.declarations (context_of_game r).game
+  pub roles : HasRolesOf (text_of c blank blank) r r.scene.game
+  pub labels : (l : ℕ) → has_label l r.scene.game ≡ true → list_any (λ k. k == l) c.labels ≡ false
+  pub free : has_free_indices (matching r) r.scene.game ≡ true
+  pub typed : IsContextText (text_of c blank blank) types c.context.game

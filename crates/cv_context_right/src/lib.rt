@@ -1,0 +1,39 @@
+// The law of the right side for games: the context of a game with the right side is its next game.
+#![tactic(auto)]
+
+ghost use Rattle.std.specs.Prelude.{◌≡◌, ℕ, []};
+ghost use Rattle.cv_meaning.specs.Advantage.{chance_of};
+ghost use Rattle.cv_meaning.specs.Chances.{Same};
+ghost use Rattle.cv_meaning.specs.Experiments.{Experiment, mode_of};
+ghost use Rattle.cv_meaning.specs.Interpretation.{Interpretation, setting_of};
+ghost use Rattle.cv_meaning.specs.Runs.{Adversary};
+ghost use Rattle.cv_meaning.specs.Tapes.{Tape, blank};
+ghost use Rattle.cv_meaning_contexts.specs.ContextAdvantage.{context_chance};
+ghost use Rattle.cv_meaning_contexts.specs.Groups.{Right};
+ghost use Rattle.cv_reductions.specs.Reductions.{Reduction, context_of_game};
+ghost use Rattle.cv_inline_games.specs.NextGame.{next_of};
+ghost use Rattle.cv_inline_draws.specs.DrawnNames.{drawn_in};
+ghost use Rattle.cv_inline_runs.specs.Contexts.{IsAskedAlike};
+ghost use Rattle.cv_inline_expected.specs.CallTexts.{HasCallTexts};
+ghost use Rattle.cv_inline_drawn.specs.Named.{NamedContext, named_on_tape, names_of, text_of};
+ghost use Rattle.cv_context_right.specs.Right.{IsNamedFor, IsRightGame};
+
+/// Where names are drawn for the context of an apt game, for an accepted equivalence in the grammar of files, each
+/// call of the context has its text on each tape: it is found by number, its key is read at indices and variables of
+/// the game, and the right body of its site's function can stand there.
+pub fn contexts_have_call_texts()
+    ensures { (r : Reduction) (c : NamedContext) → IsNamedFor r c → (tape : Tape) →
+        HasCallTexts (named_on_tape c tape) [] c.context.game }
+{}
+
+/// So the context of such a game with the right side has the chance of its next game, for each experiment that
+/// tests a variable of the game, if any, and each adversary.
+pub fn right_side_equality()
+    ensures { (r : Reduction) (c : NamedContext) (types : ℕ → ℕ) (i : Interpretation)
+        (x : Experiment) (a : Adversary) → IsRightGame r c types →
+        c.g ≡ setting_of r.scene.declarations i →
+        IsAskedAlike (text_of c blank blank) (mode_of x) →
+        Same (context_chance r.scene.declarations i (context_of_game r) Right x a)
+        (chance_of (setting_of r.scene.declarations i) x a
+        (next_of (context_of_game r) r.key (drawn_in (names_of c)))) }
+{}
