@@ -2,15 +2,18 @@
 #![tactic(auto)]
 
 ghost use Rattle.std.specs.Prelude.{◌≡◌, ℕ, []};
-ghost use Rattle.cv_meaning.specs.Advantage.{chance_of};
-ghost use Rattle.cv_meaning.specs.Chances.{Same};
+ghost use Rattle.cv_meaning.specs.Advantage.{IsAsked, chance_of};
+ghost use Rattle.cv_meaning.specs.Chances.{AtMost, Same, distance};
 ghost use Rattle.cv_meaning.specs.Experiments.{Experiment, mode_of};
 ghost use Rattle.cv_meaning.specs.Interpretation.{Interpretation, setting_of};
 ghost use Rattle.cv_meaning.specs.Runs.{Adversary};
 ghost use Rattle.cv_meaning.specs.Tapes.{Tape, blank};
-ghost use Rattle.cv_meaning_contexts.specs.ContextAdvantage.{context_chance};
+ghost use Rattle.cv_meaning_contexts.specs.ContextAdvantage.{context_advantage, context_chance};
 ghost use Rattle.cv_meaning_contexts.specs.Groups.{Right};
-ghost use Rattle.cv_reductions.specs.Reductions.{Reduction, context_of_game};
+ghost use Rattle.cv_query_form.specs.Queries.{queries_in};
+ghost use Rattle.cv_typing_runs.specs.Games.{HasArguments};
+ghost use Rattle.cv_reductions.specs.Reductions.{Reduction, context_of_game, in_game};
+ghost use Rattle.cv_context_reducible.specs.Reducible.{IsReducible};
 ghost use Rattle.cv_inline_games.specs.NextGame.{next_of};
 ghost use Rattle.cv_inline_draws.specs.DrawnNames.{drawn_in};
 ghost use Rattle.cv_inline_runs.specs.Contexts.{IsAskedAlike};
@@ -36,4 +39,18 @@ pub fn right_side_equality()
         Same (context_chance r.scene.declarations i (context_of_game r) Right x a)
         (chance_of (setting_of r.scene.declarations i) x a
         (next_of (context_of_game r) r.key (drawn_in (names_of c)))) }
+{}
+
+/// So no adversary tells a game that nothing refuses from its next game, in an experiment for which a query of the
+/// file asks, by more than the advantage of the game's context in telling the two sides apart.
+pub fn reductions_cost_the_advantage()
+    ensures { (r : Reduction) (c : NamedContext) (types : ℕ → ℕ) (i : Interpretation)
+        (x : Experiment) (a : Adversary) → IsReducible r → HasArguments r.scene.declarations →
+        IsRightGame r c types → c.g ≡ setting_of r.scene.declarations i →
+        IsAsked (queries_in r.scene.declarations) x →
+        IsAskedAlike (text_of c blank blank) (mode_of x) →
+        AtMost (distance (chance_of (in_game r i) x a r.scene.game)
+        (chance_of (setting_of r.scene.declarations i) x a
+        (next_of (context_of_game r) r.key (drawn_in (names_of c)))))
+        (context_advantage r.scene.declarations i (context_of_game r) x a) }
 {}
