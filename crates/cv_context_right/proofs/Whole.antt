@@ -1,5 +1,5 @@
 -- Where each call of a tree is that of a site, and such calls have texts, all calls have texts.
-use Rattle.std.proofs.Common.{◌≡◌, ℕ, true, false, ◌&&◌, List, [], ◌∷◌, ◌++◌, refl, sym, subst}
+use Rattle.std.proofs.Common.{◌≡◌, ℕ, true, false, List, [], ◌∷◌, ◌++◌, refl, sym, subst}
 use Rattle.std.proofs.lemmas.Bool.{and_parts, both_ways}
 use Rattle.cv_syntax.specs.declared.head.Head.TheVariants.{And, Apply, Call, Cons, Eq, Leaf, No, Not, Or, Read, Repl, Yes}
 use Rattle.cv_syntax.specs.Tree.{Tree, Empty, Node}
