@@ -1,5 +1,5 @@
 -- The calls of a game's context stand where the sites of the game stand.
-use Rattle.std.proofs.Common.{◌≡◌, ℕ, zero, suc, ◌+◌, Bool, true, false, cond, ◌&&◌, ◌==◌, List, [], ◌∷◌, ◌++◌, length, Option, Some, None, refl, sym, ap, subst, ◌∙◌, arith}
+use Rattle.std.proofs.Common.{◌≡◌, ℕ, suc, ◌+◌, Bool, true, false, cond, ◌==◌, List, [], ◌∷◌, ◌++◌, length, Option, Some, None, refl, sym, ap, subst, ◌∙◌, arith}
 use Rattle.std.proofs.lemmas.Bool.{and_parts, both_ways}
 use Rattle.std.specs.Prelude.{slice_get}
 use Rattle.cv_lists.proofs.Places.{slice_get-append_left, slice_get-append_right}
@@ -19,7 +19,7 @@ use Rattle.cv_reductions.specs.Apt.{inside}
 use Rattle.cv_context_values.proofs.Numbers.{context, count_sites}
 use Rattle.cv_context_apt.proofs.Statements.{AreSame, below_message, below_term, below_terms}
 use Rattle.cv_context_formed.proofs.Terms.{children, same_parts}
-use Rattle.cv_context_calls.specs.Calls.{AreCallsOf, IsCallOf}
+use Rattle.cv_context_calls.specs.Calls.{AreCallsOf}
 
 no_row : {A : Type 0} (q : Phrase × Phrase) → ◌≡◌ {A = Option (Phrase × Phrase)} None (Some q) → A
 no_row q e = absurd (clash e)
