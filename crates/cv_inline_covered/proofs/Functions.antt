@@ -151,6 +151,10 @@ pub all_callers : (P : Caller → Type 0) (cs : List Calling) → ((k : Calling)
 all_callers P [] f = tt
 all_callers P (c ∷ cs) f = (f c (inl refl), all_callers P cs (λ k h. f k (inr h)))
 
+pub all_callings : (P : Calling → Type 0) (cs : List Calling) → ((k : Calling) → Has cs k → P k) → AllByRecursion P cs
+all_callings P [] f = tt
+all_callings P (c ∷ cs) f = (f c (inl refl), all_callings P cs (λ k h. f k (inr h)))
+
 all_finds : (P Q : ℕ → Type 0) → ((q : ℕ) → P q → Q q) → (qs : List ℕ) → AllByRecursion P qs → AllByRecursion Q qs
 all_finds P Q f [] h = tt
 all_finds P Q f (q ∷ qs) h = (f q h.0, all_finds P Q f qs h.1)

@@ -1,5 +1,15 @@
-use Rattle.cv_inline_covered.proofs.Functions.{drawn_for}
+use Rattle.cv_meaning_contexts.specs.Groups.{Right}
+use Rattle.cv_group_rules.specs.Rules.{functions_in}
+use Rattle.cv_inline_bodies.specs.Inlining.{Inlining}
+use Rattle.cv_inline_games.specs.NextGame.{Calling, callers_of, callings_of}
+use Rattle.cv_meaning_contexts.specs.Groups.{side_group}
+use Rattle.cv_inline_draws.specs.DrawnNames.{names_of_draws}
+use Rattle.cv_inline_accepted.specs.Drawn.{IsDrawnFor}
+use Rattle.cv_inline_covered.specs.Covered.{HasDraws}
+use Rattle.cv_inline_covered.proofs.Functions.{all_callings, drawn_for}
 use Rattle.cv_inline_covered.proofs.accepted_bodies_have_their_draws.Goals as goal
 
 pub returns : goal.returns
-returns c constants k names labels role l p accepted side right bare there draws = drawn_for constants k.equivalence k.game k.functions names labels role accepted side right bare l there p draws
+returns c constants k names labels role accepted side right bare =
+    all_callings (λ (l : Calling). (p : Inlining) → HasDraws constants (names_of_draws (side_group Right k.equivalence) (callings_of k) names labels role) (callings_of k) l p → IsDrawnFor constants (functions_in Right k.equivalence) l.function p (callers_of (callings_of k)))
+    (callings_of k) (drawn_for constants k.equivalence k.game k.functions names labels role accepted side right bare)
