@@ -1,9 +1,11 @@
 -- What is made at the end of a list of parts.
-use Rattle.std.proofs.Common.{◌≡◌, ℕ, suc, ◌+◌, ◌≤◌, ◌<◌, List, [], ◌∷◌, ◌++◌, length, drop, refl, ap, sym, ◌∙◌, arith, append_assoc, append-nil, map, Option, Some}
+use Rattle.std.proofs.Common.{◌≡◌, ℕ, Bool, true, false, nat_lt, Ok, suc, ◌+◌, ◌≤◌, ◌<◌, List, [], ◌∷◌, ◌++◌, length, drop, refl, ap, sym, ◌∙◌, arith, append_assoc, append-nil, map, Option, Some}
+use Rattle.std.proofs.lemmas.Bool.Decides.{nat_tests}
 use Rattle.std.proofs.lemmas.List.{drop_all, replicate_more}
-use Rattle.std.specs.Prelude.{replicate, flat_map, slice_get}
+use Rattle.std.specs.Prelude.{IsErrOf, replicate, flat_map, slice_get}
 use Rattle.cv_pool.specs.KindTree.{KindTree}
 use Rattle.cv_pool.specs.declared.node.NodeId.{NodeId}
+use Rattle.cv_pool.specs.declared.pool.PoolError.TheVariants as pool
 use Rattle.cv_syntax.specs.declared.head.Head.{Head}
 use Rattle.cv_syntax.specs.declared.head.Head.TheVariants.{Cons, Leaf, Read}
 use Rattle.cv_syntax.specs.declared.make.Make.{Make}
@@ -97,3 +99,11 @@ cell-some (r ∷ rs) x e = refl
 pub ruleset cells = (cell-none, cell-some)
 
 pub ruleset making = (tree_of-NoTree, few_overs, replicate_more, append_assoc, append-nil)
+
+-- the pool has room
+pub roomy : {A : Type 0} (limit need asked : ℕ) (r : A) → (limit < need → IsErrOf {T = A} (Ok r) (pool.Full asked)) → need ≤ limit
+roomy limit need asked r h = by_test (nat_lt limit need) refl
+  where
+    by_test : (b : Bool) → nat_lt limit need ≡ b → need ≤ limit
+    by_test true i = absurd (let l : limit < need = grind (arith, nat_tests) in let j = h l in cc)
+    by_test false i = grind (arith, nat_tests)

@@ -1,10 +1,11 @@
-ghost use Rattle.std.specs.Prelude.{◌≡◌, ◌<◌, ◌^◌, All, IfOk, OnErr, OnOk, Some, length};
+ghost use Rattle.std.specs.Prelude.{◌≡◌, ◌+◌, ◌<◌, ◌≤◌, ◌^◌, ℕ, All, IfOk, IsErrOf, OnErr, OnOk, Some, length};
 ghost use Rattle.cv_pool.specs.PoolView.{Grows};
+ghost use Rattle.cv_syntax.specs.Planting.{overs};
 ghost use Rattle.cv_syntax.specs.Postorder.{postorder};
 ghost use Rattle.cv_syntax.specs.Tree.{Tree, size, tree_at};
 ghost use Rattle.cv_scenes.specs.Scenes.{Scene};
 ghost use Rattle.cv_reductions.specs.Contexts.{context_of};
-ghost use Rattle.cv_context.specs.Roles.{AreSitesOf, IsLiveCall, name_at};
+ghost use Rattle.cv_context.specs.Roles.{AreSitesOf, IsLiveCall, name_at, nodes_of};
 
 use crate::roles::roles_of;
 use crate::walk::{Next, put};
@@ -54,6 +55,10 @@ fn planted(alloc: Global, pool: &mut Pool, makes: &[Make]) -> Result<NodeId, Poo
         → IfOk result (λ n. tree_at pool.new.trees (Some n) ≡ t) }
     ensures live { IfOk result (λ n. n.0 < length pool.new.trees) }
     ensures grows { OnOk result (Grows pool.old pool.new) }
+    ensures room { OnOk result (length pool.old.trees + overs makes.now ≤ pool.old.limit) }
+    ensures full { IsErrOf result (PoolError.Full (overs makes.now))
+        → pool.old.limit < length pool.old.trees + overs makes.now }
+    ensures other { (n : ℕ) → IsErrOf result (PoolError.Full n) → n ≡ overs makes.now }
     ensures kept { OnErr result (pool.new.trees ≡ pool.old.trees) }
     ensures limit { pool.new.limit ≡ pool.old.limit }
 {
@@ -89,6 +94,14 @@ pub fn context(
         ≡ (context_of s e key (name_at answers.now)).game) }
     ensures live { IfOk result (λ n. n.0 < length pool.new.trees) }
     ensures grows { OnOk result (Grows pool.old pool.new) }
+    ensures room { (s : Scene) (e : Tree)
+        → AreSitesOf pool.old.trees s e key sites.now (Some game)
+        → OnOk result (length pool.old.trees
+        + nodes_of (context_of s e key (name_at answers.now)).game ≤ pool.old.limit) }
+    ensures full { (n : ℕ) → IsErrOf result (PoolError.Full n) → (s : Scene) (e : Tree)
+        → AreSitesOf pool.old.trees s e key sites.now (Some game)
+        → (n ≡ nodes_of (context_of s e key (name_at answers.now)).game)
+        × (pool.old.limit < length pool.old.trees + n) }
     ensures kept { OnErr result (pool.new.trees ≡ pool.old.trees) }
     ensures limit { pool.new.limit ≡ pool.old.limit }
 {
