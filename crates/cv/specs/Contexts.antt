@@ -8,7 +8,7 @@ use Rattle.cv_syntax.specs.Declarations.{Declaration, Equiv, declarations}
 use Rattle.cv_syntax.specs.Tree.{Tree, tree_at}
 use Rattle.cv_typing.specs.Signature.{declaration_of}
 use Rattle.cv_meaning_contexts.specs.Sides.{Context}
-use Rattle.cv_reductions.specs.Contexts.{context_of}
+use Rattle.cv_scenes.specs.Contexts.{context_of}
 use Rattle.cv_context_answers.specs.Answers.{answer_above, file_scene}
 use Rattle.cv_script.specs.Views.{StepItems, items_of_step}
 use Rattle.cv_script.specs.Views as items

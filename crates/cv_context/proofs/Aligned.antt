@@ -17,11 +17,11 @@ use Rattle.cv_scope.specs.declared.position.Position.{Position}
 use Rattle.cv_scope.specs.declared.position.Position.TheVariants.{Anywhere}
 use Rattle.cv_scenes.specs.Scenes.{Scene}
 use Rattle.cv_scope.specs.Context.{cell_of, first_position, replications_below, second_position}
-use Rattle.cv_reductions.specs.Instances.{Call, Matching, call_at}
-use Rattle.cv_reductions.specs.Sites as instances
-use Rattle.cv_reductions.specs.Sites.{is_guard, sites_in, sites_of}
-use Rattle.cv_reductions.specs.Contexts.{after_calls, call_terms, context_in, context_of, in_context, is_coin_variable, is_statement, matching_of}
-use Rattle.cv_reductions.specs.Apt.{has_value}
+use Rattle.cv_scenes.specs.Instances.{Call, Matching, call_at}
+use Rattle.cv_scenes.specs.Sites as instances
+use Rattle.cv_scenes.specs.Sites.{is_guard, sites_in, sites_of}
+use Rattle.cv_scenes.specs.Contexts.{after_calls, call_terms, context_in, context_of, in_context, is_coin_variable, is_statement, matching_of}
+use Rattle.cv_scenes.specs.Apt.{has_value}
 use Rattle.cv_match_patterns.specs.Sites.{HasInstance, instance_in, site_in}
 use Rattle.cv_match_patterns.specs.declared.site.Site.{Site}
 use Rattle.cv_context.specs.declared.roles.Roles.{Roles}

@@ -6,8 +6,8 @@ use Rattle.cv_pool.specs.KindTree.{KindTree}
 use Rattle.cv_pool.specs.declared.node.NodeId.{NodeId}
 use Rattle.cv_syntax.specs.Tree.{tree_at}
 use Rattle.cv_scenes.specs.Sights.{variable_of}
-use Rattle.cv_reductions.specs.Contexts.{is_coin_variable}
-use Rattle.cv_reductions.specs.Instances.{Instance, Matching, is_read_of}
+use Rattle.cv_scenes.specs.Contexts.{is_coin_variable}
+use Rattle.cv_scenes.specs.Instances.{Instance, Matching, is_read_of}
 use Rattle.cv_match_patterns.specs.Sites.{HasInstance, site_in}
 use Rattle.cv_match_patterns.specs.declared.site.Site.{Site}
 use Rattle.cv_context.specs.Roles.{is_coin_at, is_read_in}

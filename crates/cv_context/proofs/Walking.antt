@@ -14,8 +14,8 @@ use Rattle.cv_syntax.specs.Postorder.{postorder}
 use Rattle.cv_syntax.specs.Tree.{Tree, Empty, Node, first_place, second_place}
 use Rattle.cv_scope.specs.declared.position.Position.{Position}
 use Rattle.cv_scope.specs.Context.{cell_of, first_position, replications_below, second_position}
-use Rattle.cv_reductions.specs.Sites.{is_guard}
-use Rattle.cv_reductions.specs.Contexts.{call_terms}
+use Rattle.cv_scenes.specs.Sites.{is_guard}
+use Rattle.cv_scenes.specs.Contexts.{call_terms}
 use Rattle.cv_match_patterns.specs.Sites.{instance_in}
 use Rattle.cv_match_patterns.specs.declared.site.Site.{Site}
 use Rattle.cv_context.specs.declared.roles.Roles.{Roles}

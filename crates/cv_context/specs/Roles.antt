@@ -9,10 +9,10 @@ use Rattle.cv_syntax.specs.Postorder.{postorder}
 use Rattle.cv_syntax.specs.Tree.{Tree, tree_at}
 use Rattle.cv_scenes.specs.Scenes.{Scene}
 use Rattle.cv_scenes.specs.Sights.{variable_of}
-use Rattle.cv_reductions.specs.Apt.{has_value}
-use Rattle.cv_reductions.specs.Contexts.{matching_of}
-use Rattle.cv_reductions.specs.Instances.{call_at, is_read_of}
-use Rattle.cv_reductions.specs.Sites.{sites_of}
+use Rattle.cv_scenes.specs.Apt.{has_value}
+use Rattle.cv_scenes.specs.Contexts.{matching_of}
+use Rattle.cv_scenes.specs.Instances.{call_at, is_read_of}
+use Rattle.cv_scenes.specs.Sites.{sites_of}
 use Rattle.cv_match_patterns.specs.Sites.{HasInstance, site_in}
 use Rattle.cv_match_patterns.specs.declared.site.Site.{Site}
 

@@ -4,7 +4,7 @@ ghost use Rattle.cv_syntax.specs.Planting.{overs};
 ghost use Rattle.cv_syntax.specs.Postorder.{postorder};
 ghost use Rattle.cv_syntax.specs.Tree.{Tree, size, tree_at};
 ghost use Rattle.cv_scenes.specs.Scenes.{Scene};
-ghost use Rattle.cv_reductions.specs.Contexts.{context_of};
+ghost use Rattle.cv_scenes.specs.Contexts.{context_of};
 ghost use Rattle.cv_context.specs.Roles.{AreSitesOf, IsLiveCall, name_at, nodes_of};
 
 use crate::roles::roles_of;

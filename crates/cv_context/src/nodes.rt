@@ -1,5 +1,5 @@
 ghost use Rattle.std.specs.Prelude.{◌≡◌, ◌+◌, ◌<◌, ◌≤◌, ◌^◌, ◌++◌, All, OnOk, length};
-ghost use Rattle.cv_reductions.specs.Contexts as contexts;
+ghost use Rattle.cv_scenes.specs.Contexts as contexts;
 ghost use Rattle.cv_context.specs.Roles.{IsLiveCall};
 ghost use Rattle.cv_context.specs.Written.{answer_in, calls_here, first_parts, heads_in, heads_of_calls, terms_of_calls};
 

@@ -5,7 +5,7 @@ ghost use Rattle.cv_syntax.specs.declared.make.Make.TheVariants.{Nothing, Over};
 ghost use Rattle.cv_syntax.specs.Postorder.{postorder};
 ghost use Rattle.cv_syntax.specs.Tree.{chain, lone, tree_at};
 ghost use Rattle.cv_scope.specs.Context.{cell_of, index_terms};
-ghost use Rattle.cv_reductions.specs.Contexts.{call_terms};
+ghost use Rattle.cv_scenes.specs.Contexts.{call_terms};
 ghost use Rattle.cv_match_patterns.specs.Sites.{instance_in};
 ghost use Rattle.cv_context.specs.Written.{closing};
 

@@ -3,7 +3,7 @@ ghost use Rattle.cv_pool.specs.Nodes.{ChildBelow};
 ghost use Rattle.cv_syntax.specs.Postorder.{postorder};
 ghost use Rattle.cv_syntax.specs.Tree.{size, tree_at};
 ghost use Rattle.cv_scope.specs.Context.{replications_below};
-ghost use Rattle.cv_reductions.specs.Sites as instances;
+ghost use Rattle.cv_scenes.specs.Sites as instances;
 ghost use Rattle.cv_context.specs.Roles.{IsLiveCall};
 ghost use Rattle.cv_context.specs.Written.{is_site, part_unless};
 

@@ -5,7 +5,7 @@ ghost use Rattle.std.specs.Prelude.{ℕ, List, nat_lt};
 ghost use Rattle.cv_syntax.specs.Declarations.{Declaration};
 ghost use Rattle.cv_syntax.specs.Tree.{Tree};
 ghost use Rattle.cv_scenes.specs.Scenes.{KnowsQueries};
-ghost use Rattle.cv_reductions.specs.Contexts.{AreAnswers};
+ghost use Rattle.cv_scenes.specs.Contexts.{AreAnswers};
 ghost use Rattle.cv_context_answers.specs.Answers.{KnowsConstants, answer_above, file_scene};
 
 /// The numbers from the least one above all names of a file and of a game serve as answers, however many sites there

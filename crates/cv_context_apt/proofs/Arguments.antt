@@ -8,8 +8,8 @@ use Rattle.cv_directory.specs.Sites.{first_of}
 use Rattle.cv_scope.specs.Phrases.{Nil, Term, Terms, is_phrase}
 use Rattle.cv_scenes.specs.Scenes.{first_reading, head_reads}
 use Rattle.cv_derivations.specs.Given.{or_node, term_for, with_given}
-use Rattle.cv_reductions.specs.Refusals.{first_in_arguments, is_among, is_name_of, uses}
-use Rattle.cv_reductions.specs.LeftTerms.{reads_no_array}
+use Rattle.cv_scenes.specs.Refusals.{first_in_arguments, is_among, is_name_of, uses}
+use Rattle.cv_scenes.specs.LeftTerms.{reads_no_array}
 
 no_place : (p : ℕ) → ◌≡◌ {A = Option ℕ} (Some p) None → ⊥
 no_place p e = cc

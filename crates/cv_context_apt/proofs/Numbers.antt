@@ -18,11 +18,11 @@ use Rattle.cv_scope.specs.Context.{cell_of, first_position, replications_below, 
 use Rattle.cv_scope.specs.Phrases.{Arm, Binders, Body, Branches, Cells, Else, Guarded, Guards, Indices as Names, Inputs, Nil, Pattern, Message, Term, Terms, Then, is_phrase}
 use Rattle.cv_scope.specs.declared.position.Position.{Position}
 use Rattle.cv_scope.specs.declared.position.Position.TheVariants as position
-use Rattle.cv_reductions.specs.Instances.{Call as Found, call_at}
-use Rattle.cv_reductions.specs.Sites.{Site, is_guard, sites_in}
-use Rattle.cv_reductions.specs.Contexts.{after_calls, context_in, in_context, is_statement}
-use Rattle.cv_reductions.specs.Reductions.{Reduction, is_coin, matching, oracles, sites, in_game}
-use Rattle.cv_reductions.specs.Apt.{has_value, inside}
+use Rattle.cv_scenes.specs.Instances.{Call as Found, call_at}
+use Rattle.cv_scenes.specs.Sites.{Site, is_guard, sites_in}
+use Rattle.cv_scenes.specs.Contexts.{after_calls, context_in, in_context, is_statement}
+use Rattle.cv_scenes.specs.Reductions.{Reduction, is_coin, matching, oracles, sites, in_game}
+use Rattle.cv_scenes.specs.Apt.{has_value, inside}
 use Rattle.cv_context_values.proofs.Numbers.{context, count_sites}
 
 -- a call of the number is there

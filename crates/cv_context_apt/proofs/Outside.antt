@@ -10,10 +10,10 @@ use Rattle.cv_scope.specs.Phrases.{Indices, Message, Nil, Term, Terms, is_phrase
 use Rattle.cv_scope.specs.declared.position.Position.{Position}
 use Rattle.cv_scope.specs.declared.position.Position.TheVariants.{Anywhere}
 use Rattle.cv_scenes.specs.Scenes.{head_names, head_reads, names}
-use Rattle.cv_reductions.specs.Instances.{Call, Matching, call_at}
-use Rattle.cv_reductions.specs.Refusals.{first_use, uses}
-use Rattle.cv_reductions.specs.Sites.{is_guard}
-use Rattle.cv_reductions.specs.Apt.{reads_outside}
+use Rattle.cv_scenes.specs.Instances.{Call, Matching, call_at}
+use Rattle.cv_scenes.specs.Refusals.{first_use, uses}
+use Rattle.cv_scenes.specs.Sites.{is_guard}
+use Rattle.cv_scenes.specs.Apt.{reads_outside}
 use Rattle.cv_context_sites.specs.Uses.{uses_outside}
 use Rattle.cv_context_sites.proofs.Uses.{uses_apart}
 

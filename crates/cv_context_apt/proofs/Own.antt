@@ -9,14 +9,14 @@ use Rattle.cv_scope.specs.Phrases.{IsWellFormed}
 use Rattle.cv_scope.specs.declared.position.Position.TheVariants.{Anywhere}
 use Rattle.cv_scenes.specs.Scenes.{head_reads, is_queried}
 use Rattle.cv_scenes.specs.Sights.{variable_of}
-use Rattle.cv_reductions.specs.Instances.{Matching, are_of_types, filled, is_argument_of, is_coin_of, is_read_of, names_of, terms_of}
-use Rattle.cv_reductions.specs.Refusals as refusals
-use Rattle.cv_reductions.specs.Refusals.{are_coins, first_argument_use, first_coin_use, first_in_arguments, new_of, stands_under, uses}
-use Rattle.cv_reductions.specs.Sites.{Site}
-use Rattle.cv_reductions.specs.Contexts.{AreAnswers}
-use Rattle.cv_reductions.specs.LeftTerms.{HasLeftTerms}
-use Rattle.cv_reductions.specs.Reductions.{Reduction, is_answer, is_coin, is_plain, matching, sites}
-use Rattle.cv_reductions.specs.Apt.{IsSiteApt}
+use Rattle.cv_scenes.specs.Instances.{Matching, are_of_types, filled, is_argument_of, is_coin_of, is_read_of, names_of, terms_of}
+use Rattle.cv_scenes.specs.Refusals as refusals
+use Rattle.cv_scenes.specs.Refusals.{are_coins, first_argument_use, first_coin_use, first_in_arguments, new_of, stands_under, uses}
+use Rattle.cv_scenes.specs.Sites.{Site}
+use Rattle.cv_scenes.specs.Contexts.{AreAnswers}
+use Rattle.cv_scenes.specs.LeftTerms.{HasLeftTerms}
+use Rattle.cv_scenes.specs.Reductions.{Reduction, is_answer, is_coin, is_plain, matching, sites}
+use Rattle.cv_scenes.specs.Apt.{IsSiteApt}
 use Rattle.cv_context_sites.specs.Uses.{IsUsedAt, uses_outside}
 use Rattle.cv_context_names.proofs.Plain.{not_plain, one_below}
 use Rattle.cv_context_sites.proofs.Coins.{alone, given_at, not_key, site_call, site_given, there}

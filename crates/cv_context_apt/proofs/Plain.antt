@@ -3,9 +3,9 @@ use Rattle.std.proofs.Common.{◌≡◌, ℕ, ◌<◌, true, false, length, None
 use Rattle.cv_syntax.specs.Tree.{Tree}
 use Rattle.cv_scope.specs.declared.position.Position.TheVariants.{Anywhere}
 use Rattle.cv_scenes.specs.Scenes.{names}
-use Rattle.cv_reductions.specs.Refusals.{first_use}
-use Rattle.cv_reductions.specs.Apt.{reads_outside}
-use Rattle.cv_reductions.specs.Reductions.{Reduction, is_coin, is_plain, matching, sites}
+use Rattle.cv_scenes.specs.Refusals.{first_use}
+use Rattle.cv_scenes.specs.Apt.{reads_outside}
+use Rattle.cv_scenes.specs.Reductions.{Reduction, is_coin, is_plain, matching, sites}
 use Rattle.cv_context_sites.specs.Uses.{uses_outside}
 use Rattle.cv_context_names.proofs.Plain.{not_plain}
 use Rattle.cv_context_apt.proofs.Outside.{outside_less, plain_outside, unnamed_unused}

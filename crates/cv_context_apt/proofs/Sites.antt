@@ -15,14 +15,14 @@ use Rattle.cv_scope.specs.Phrases.{IsWellFormed, binds_none, head_binds_none}
 use Rattle.cv_scope.specs.Sites.{Variable}
 use Rattle.cv_scenes.specs.Scenes.{is_queried}
 use Rattle.cv_scenes.specs.Sights.{variable_of}
-use Rattle.cv_reductions.specs.Instances.{Matching, are_of_types, is_argument_of, is_coin_of, is_read_of}
-use Rattle.cv_reductions.specs.Refusals as refusals
-use Rattle.cv_reductions.specs.Refusals.{are_coins, definitions_in, first_coin_use, new_of, only_new, stands_under, uses}
-use Rattle.cv_reductions.specs.Sites.{Site}
-use Rattle.cv_reductions.specs.LeftTerms.{HasLeftTerms}
-use Rattle.cv_reductions.specs.Standing.{AreAsMany}
-use Rattle.cv_reductions.specs.Reductions.{Reduction, is_coin, is_plain, matching, sites}
-use Rattle.cv_reductions.specs.Apt.{AreCoinsApt, IsCoinApt, IsSiteApt}
+use Rattle.cv_scenes.specs.Instances.{Matching, are_of_types, is_argument_of, is_coin_of, is_read_of}
+use Rattle.cv_scenes.specs.Refusals as refusals
+use Rattle.cv_scenes.specs.Refusals.{are_coins, definitions_in, first_coin_use, new_of, only_new, stands_under, uses}
+use Rattle.cv_scenes.specs.Sites.{Site}
+use Rattle.cv_scenes.specs.LeftTerms.{HasLeftTerms}
+use Rattle.cv_scenes.specs.Standing.{AreAsMany}
+use Rattle.cv_scenes.specs.Reductions.{Reduction, is_coin, is_plain, matching, sites}
+use Rattle.cv_scenes.specs.Apt.{AreCoinsApt, IsCoinApt, IsSiteApt}
 use Rattle.cv_context_sites.proofs.Coins.{coin_cell, site_call}
 use Rattle.cv_context_apt.proofs.Numbers.{called}
 use Rattle.cv_context_apt.proofs.Terms.{only_terms}

@@ -8,11 +8,11 @@ use Rattle.cv_syntax.specs.Tree.{Tree, Empty, Node, first_place, second_place}
 use Rattle.cv_scope.specs.Context.{first_position, replications_below, second_position}
 use Rattle.cv_scope.specs.Phrases.{Indices, Message, Nil, Term, Terms, is_phrase}
 use Rattle.cv_scope.specs.declared.position.Position.TheVariants.{Anywhere}
-use Rattle.cv_reductions.specs.Instances.{Call, Matching, call_at}
-use Rattle.cv_reductions.specs.Sites.{Site, sites_in}
-use Rattle.cv_reductions.specs.Reductions.{Reduction, matching}
-use Rattle.cv_reductions.specs.Refusals.{first_use}
-use Rattle.cv_reductions.specs.Apt.{AreSitesApt, AreTermsApt, IsSiteApt}
+use Rattle.cv_scenes.specs.Instances.{Call, Matching, call_at}
+use Rattle.cv_scenes.specs.Sites.{Site, sites_in}
+use Rattle.cv_scenes.specs.Reductions.{Reduction, matching}
+use Rattle.cv_scenes.specs.Refusals.{first_use}
+use Rattle.cv_scenes.specs.Apt.{AreSitesApt, AreTermsApt, IsSiteApt}
 use Rattle.cv_context_sites.specs.Uses.{uses_outside}
 use Rattle.cv_context_apt.specs.Statements.{AreTermsOf, HasOwnSites}
 use Rattle.cv_context_apt.proofs.Own.{site_without_refusal}

@@ -17,9 +17,9 @@ use Rattle.cv_scope.specs.Phrases.{Term, is_phrase}
 use Rattle.cv_scenes.specs.Sights.{variable_of}
 use Rattle.cv_scenes.specs.Terms.{is_sort, signature_in}
 use Rattle.cv_derivations.specs.Given.{or_node, term_for, with_given}
-use Rattle.cv_reductions.specs.Instances.{Instance, Matching, are_of_types, call_at, call_by, filled, first_call, guess, instance_of, is_argument_of, is_coin_of, is_instance, is_read_of, is_variable_of, names_of}
-use Rattle.cv_reductions.specs.LeftTerms.{HasLeftTerms, IsLeftFunction}
-use Rattle.cv_reductions.specs.Apt.{has_value}
+use Rattle.cv_scenes.specs.Instances.{Instance, Matching, are_of_types, call_at, call_by, filled, first_call, guess, instance_of, is_argument_of, is_coin_of, is_instance, is_read_of, is_variable_of, names_of}
+use Rattle.cv_scenes.specs.LeftTerms.{HasLeftTerms, IsLeftFunction}
+use Rattle.cv_scenes.specs.Apt.{has_value}
 
 abbrev HasValue : Tree → Type 0
 HasValue t = has_value t ≡ true

@@ -4,11 +4,11 @@ use Rattle.cv_syntax.specs.Tree.{Tree, first}
 use Rattle.cv_scope.specs.Phrases.{IsWellFormed}
 use Rattle.cv_scope.specs.declared.position.Position.TheVariants.{Anywhere}
 use Rattle.cv_scenes.specs.Scenes.{names}
-use Rattle.cv_reductions.specs.Refusals.{first_argument_use, first_coin_use, first_use, uses}
-use Rattle.cv_reductions.specs.Sites.{Site, sites_in}
-use Rattle.cv_reductions.specs.Contexts.{AreAnswers}
-use Rattle.cv_reductions.specs.LeftTerms.{HasLeftTerms}
-use Rattle.cv_reductions.specs.Reductions.{Reduction, is_coin, matching, sites}
+use Rattle.cv_scenes.specs.Refusals.{first_argument_use, first_coin_use, first_use, uses}
+use Rattle.cv_scenes.specs.Sites.{Site, sites_in}
+use Rattle.cv_scenes.specs.Contexts.{AreAnswers}
+use Rattle.cv_scenes.specs.LeftTerms.{HasLeftTerms}
+use Rattle.cv_scenes.specs.Reductions.{Reduction, is_coin, matching, sites}
 use Rattle.cv_context_sites.specs.Uses.{uses_outside}
 
 -- coins are their sites' own, no argument reads the key, and the answers are names of their own

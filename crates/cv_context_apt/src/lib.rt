@@ -10,12 +10,12 @@ ghost use Rattle.cv_meaning_contexts.specs.Bodies.{function_called};
 ghost use Rattle.cv_meaning_contexts.specs.Groups.{function_at};
 ghost use Rattle.cv_scope.specs.Phrases.{Inputs, Message, Term, Terms, is_phrase};
 ghost use Rattle.cv_scope.specs.declared.position.Position.TheVariants.{Anywhere};
-ghost use Rattle.cv_reductions.specs.Instances.{Matching, call_at};
-ghost use Rattle.cv_reductions.specs.Refusals.{first_coin_use, uses};
-ghost use Rattle.cv_reductions.specs.Sites.{Site};
-ghost use Rattle.cv_reductions.specs.LeftTerms.{HasLeftTerms};
-ghost use Rattle.cv_reductions.specs.Apt.{AreTermsApt, IsSiteApt, has_value};
-ghost use Rattle.cv_reductions.specs.Reductions.{Reduction, is_coin, matching, oracles, sites};
+ghost use Rattle.cv_scenes.specs.Instances.{Matching, call_at};
+ghost use Rattle.cv_scenes.specs.Refusals.{first_coin_use, uses};
+ghost use Rattle.cv_scenes.specs.Sites.{Site};
+ghost use Rattle.cv_scenes.specs.LeftTerms.{HasLeftTerms};
+ghost use Rattle.cv_scenes.specs.Apt.{AreTermsApt, IsSiteApt, has_value};
+ghost use Rattle.cv_scenes.specs.Reductions.{Reduction, is_coin, matching, oracles, sites};
 ghost use Rattle.cv_context_sites.specs.Uses.{uses_outside};
 ghost use Rattle.cv_context_apt.specs.Statements.{AreTermsOf, HasOwnSites};
 

@@ -9,11 +9,11 @@ use Rattle.cv_meaning.specs.Cells.{bounds_under}
 use Rattle.cv_meaning.specs.Interpretation.{Setting}
 use Rattle.cv_meaning_contexts.specs.Sites.{bounds_above, first_of, is_call}
 use Rattle.cv_scope.specs.Phrases.{Body, Inputs, Nil, Phrase, Term, Terms, both_are, is_oracle_phrase, is_phrase, oracle_parts}
-use Rattle.cv_reductions.specs.Contexts.{call_terms}
-use Rattle.cv_reductions.specs.Instances.{call_at}
-use Rattle.cv_reductions.specs.Sites.{Site}
-use Rattle.cv_reductions.specs.Reductions.{Reduction, context_of_game, matching, sites}
-use Rattle.cv_reductions.specs.Apt.{has_value}
+use Rattle.cv_scenes.specs.Contexts.{call_terms}
+use Rattle.cv_scenes.specs.Instances.{call_at}
+use Rattle.cv_scenes.specs.Sites.{Site}
+use Rattle.cv_scenes.specs.Reductions.{Reduction, context_of_game, matching, sites}
+use Rattle.cv_scenes.specs.Apt.{has_value}
 use Rattle.cv_context_apt.proofs.Numbers.{inputs_there}
 use Rattle.cv_inline_games.specs.NextGame.{call_of, replications_under}
 use Rattle.cv_context_calls.specs.Calls.{AreCallsOf, IsCallOf}

@@ -11,11 +11,11 @@ use Rattle.cv_scope.specs.Phrases.{Body, Inputs, Message, Nil, Phrase, Term, Ter
 use Rattle.cv_scope.specs.declared.position.Position.{Position}
 use Rattle.cv_scope.specs.declared.position.Position.TheVariants.{Anywhere}
 use Rattle.cv_scope_runs.proofs.Rows.{placed, position_of}
-use Rattle.cv_reductions.specs.Instances.{Call, call_at}
-use Rattle.cv_reductions.specs.Sites.{Site, is_guard, sites_in}
-use Rattle.cv_reductions.specs.Contexts.{after_calls, call_terms, context_in, in_context, is_statement}
-use Rattle.cv_reductions.specs.Reductions.{Reduction, context_of_game, is_coin, matching, sites}
-use Rattle.cv_reductions.specs.Apt.{inside}
+use Rattle.cv_scenes.specs.Instances.{Call, call_at}
+use Rattle.cv_scenes.specs.Sites.{Site, is_guard, sites_in}
+use Rattle.cv_scenes.specs.Contexts.{after_calls, call_terms, context_in, in_context, is_statement}
+use Rattle.cv_scenes.specs.Reductions.{Reduction, context_of_game, is_coin, matching, sites}
+use Rattle.cv_scenes.specs.Apt.{inside}
 use Rattle.cv_context_values.proofs.Numbers.{context, count_sites}
 use Rattle.cv_context_apt.proofs.Statements.{AreSame, below_message, below_term, below_terms}
 use Rattle.cv_context_formed.proofs.Terms.{children, same_parts}

@@ -2,9 +2,9 @@
 use Rattle.std.specs.Prelude.{◌≡◌, ℕ, List, [], ◌∷◌, ◌++◌, slice_get, Some}
 use Rattle.cv_syntax.specs.declared.head.Head.TheVariants.{Call, Repl}
 use Rattle.cv_syntax.specs.Tree.{Tree, Empty, Node}
-use Rattle.cv_reductions.specs.Contexts.{call_terms}
-use Rattle.cv_reductions.specs.Reductions.{Reduction, sites}
-use Rattle.cv_reductions.specs.Sites.{Site}
+use Rattle.cv_scenes.specs.Contexts.{call_terms}
+use Rattle.cv_scenes.specs.Reductions.{Reduction, sites}
+use Rattle.cv_scenes.specs.Sites.{Site}
 
 -- the call of a number below these replications is that of the site with this number
 pub record IsCallOf (r : Reduction) (rs : List (ℕ × ℕ)) (x l : ℕ) (terms : Tree) : Type 0 where

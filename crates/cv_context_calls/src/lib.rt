@@ -4,10 +4,10 @@
 ghost use Rattle.std.specs.Prelude.{◌≡◌, ◌<◌, ℕ, List, Some, [], length, slice_get, true};
 ghost use Rattle.cv_meaning.specs.Interpretation.{Setting};
 ghost use Rattle.cv_scope.specs.Phrases.{Inputs, is_oracle_phrase, is_phrase};
-ghost use Rattle.cv_reductions.specs.Apt.{IsAptGame};
-ghost use Rattle.cv_reductions.specs.Contexts.{call_terms};
-ghost use Rattle.cv_reductions.specs.Reductions.{Reduction, context_of_game, sites};
-ghost use Rattle.cv_reductions.specs.Sites.{Site};
+ghost use Rattle.cv_scenes.specs.Apt.{IsAptGame};
+ghost use Rattle.cv_scenes.specs.Contexts.{call_terms};
+ghost use Rattle.cv_scenes.specs.Reductions.{Reduction, context_of_game, sites};
+ghost use Rattle.cv_scenes.specs.Sites.{Site};
 ghost use Rattle.cv_inline_games.specs.NextGame.{call_of};
 ghost use Rattle.cv_context_calls.specs.Calls.{AreCallsOf};
 

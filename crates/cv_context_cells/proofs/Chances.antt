@@ -20,10 +20,10 @@ use Rattle.cv_meaning_unread.specs.Sizes.{GiveSizesFor, size_in}
 use Rattle.cv_meaning_unread.proofs.CellSizes.{is_in_size, same_by_sizes, size_once}
 use Rattle.cv_scope.specs.declared.position.Position.TheVariants.{Anywhere}
 use Rattle.cv_steps.proofs.Testable.{game_no_calls, game_testable, local}
-use Rattle.cv_steps_pruning.proofs.Sizes.{cell_size}
-use Rattle.cv_reductions.specs.Reductions.{Reduction, in_context, in_game}
-use Rattle.cv_reductions.specs.Cells.{at_left}
-use Rattle.cv_reductions.specs.Apt.{IsTestApt}
+use Rattle.cv_steps.proofs.Sizes.{cell_size}
+use Rattle.cv_scenes.specs.Reductions.{Reduction, in_context, in_game}
+use Rattle.cv_scenes.specs.Cells.{at_left}
+use Rattle.cv_scenes.specs.Apt.{IsTestApt}
 use Rattle.cv_context_values.proofs.Numbers.{context}
 use Rattle.cv_context_served.proofs.Runs.{again, holds_in_context, one_to_one}
 use Rattle.cv_context_cells.specs.Premises.{HasContext}

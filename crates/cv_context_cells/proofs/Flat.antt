@@ -9,10 +9,10 @@ use Rattle.cv_scope.specs.Context.{cell_of, first_position, index_terms, replica
 use Rattle.cv_scope.specs.Phrases.{Phrase, Binders, Cells, Indices, Message, Nil, OneCell, Pattern, Term, Terms, is_phrase, parts}
 use Rattle.cv_scope.specs.declared.position.Position.{Position}
 use Rattle.cv_steps.proofs.Flat.{AreStill, IfStill, is_of_terms, open_phrase, rows_still}
-use Rattle.cv_reductions.specs.Instances.{Call as Found, call_at}
-use Rattle.cv_reductions.specs.Sites.{Site, is_guard, sites_in}
-use Rattle.cv_reductions.specs.Contexts.{after_calls, context_in, in_context, is_statement}
-use Rattle.cv_reductions.specs.Reductions.{Reduction, is_coin, matching}
+use Rattle.cv_scenes.specs.Instances.{Call as Found, call_at}
+use Rattle.cv_scenes.specs.Sites.{Site, is_guard, sites_in}
+use Rattle.cv_scenes.specs.Contexts.{after_calls, context_in, in_context, is_statement}
+use Rattle.cv_scenes.specs.Reductions.{Reduction, is_coin, matching}
 use Rattle.cv_context_values.proofs.Numbers.{context}
 
 -- constructs of terms and of lists

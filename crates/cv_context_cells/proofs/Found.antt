@@ -24,13 +24,13 @@ use Rattle.cv_scope.specs.declared.position.Position.{Position}
 use Rattle.cv_scenes.specs.Scenes.{or_empty}
 use Rattle.cv_scenes.specs.Sights.{variable_of}
 use Rattle.cv_scenes.specs.Terms.{is_sort, signature_in}
-use Rattle.cv_steps_pruning.proofs.Sizes.{name_of}
-use Rattle.cv_reductions.specs.Instances.{Call, Instance, Matching, are_of_types, call_at, call_by, filled, first_call, guess, is_argument_of, is_coin_of, is_instance, is_read_of, is_variable_of, standing_for, standing_here, term_for}
-use Rattle.cv_reductions.specs.Sites.{Site, is_guard, sites_in}
-use Rattle.cv_reductions.specs.Contexts.{call_terms}
-use Rattle.cv_reductions.specs.Reductions.{Reduction, is_answer, matching, oracles}
-use Rattle.cv_reductions.specs.Cells.{at_left}
-use Rattle.cv_reductions.specs.Apt.{AreCoinsApt, IsSiteApt}
+use Rattle.cv_steps.proofs.Sizes.{name_of}
+use Rattle.cv_scenes.specs.Instances.{Call, Instance, Matching, are_of_types, call_at, call_by, filled, first_call, guess, is_argument_of, is_coin_of, is_instance, is_read_of, is_variable_of, standing_for, standing_here, term_for}
+use Rattle.cv_scenes.specs.Sites.{Site, is_guard, sites_in}
+use Rattle.cv_scenes.specs.Contexts.{call_terms}
+use Rattle.cv_scenes.specs.Reductions.{Reduction, is_answer, matching, oracles}
+use Rattle.cv_scenes.specs.Cells.{at_left}
+use Rattle.cv_scenes.specs.Apt.{AreCoinsApt, IsSiteApt}
 use Rattle.cv_context_served.proofs.Kept.{answers_are}
 use Rattle.cv_context_served.proofs.Runs.{again}
 use Rattle.cv_context_cells.proofs.Flat.{has_terms_alone, head_is_term, phrase_terms}

@@ -12,7 +12,7 @@ use Rattle.cv_meaning.specs.Tapes.{Cell, Find_at, Key_at, New_at}
 use Rattle.cv_meaning_laws.proofs.Lists.{each_append}
 use Rattle.cv_meaning_laws.proofs.Listed.{Has, has_flat_map, has_left, has_right}
 use Rattle.cv_meaning_adequacy.proofs.Lists.{flat_map_has, has_append}
-use Rattle.cv_reductions.specs.Reductions.{Reduction, in_context, in_game, is_coin}
+use Rattle.cv_scenes.specs.Reductions.{Reduction, in_context, in_game, is_coin}
 use Rattle.cv_context_cells.proofs.Flat.{flat_terms, head_is_flat, is_flat}
 use Rattle.cv_context_cells.proofs.Sizes.{all_heads, each_copy, flat_heads, of_context, of_game}
 use Rattle.cv_context_cells.proofs.Turned.{IsTurned, is_kept}

@@ -18,11 +18,11 @@ use Rattle.cv_scope.specs.Made.{made_by}
 use Rattle.cv_scope.specs.Sites.{Variable}
 use Rattle.cv_scenes.specs.Scenes.{is_queried}
 use Rattle.cv_typing_runs.proofs.Games.{typed}
-use Rattle.cv_steps_pruning.proofs.Sizes.{HeadNamesSort, IsSized, NamesSorts, all_cells, all_sizes, cell_size, name_of, typed_names}
+use Rattle.cv_steps.proofs.Sizes.{HeadNamesSort, IsSized, NamesSorts, all_cells, all_sizes, cell_size, name_of, typed_names}
 use Rattle.cv_scope.specs.declared.position.Position.TheVariants.{Anywhere}
-use Rattle.cv_reductions.specs.Refusals.{CoinUse, InCondition, KeyInArgument, NotOneSite, Refusal, Use, at_place, definitions_in, first_argument_use, first_coin_use, first_in_condition, first_use, has_key, is_of_type, new_of, only_new}
-use Rattle.cv_reductions.specs.Reductions.{Reduction, in_context, in_game, is_coin, matching, sites}
-use Rattle.cv_reductions.specs.Cells.{at_left}
+use Rattle.cv_scenes.specs.Refusals.{CoinUse, InCondition, KeyInArgument, NotOneSite, Refusal, Use, at_place, definitions_in, first_argument_use, first_coin_use, first_in_condition, first_use, has_key, is_of_type, new_of, only_new}
+use Rattle.cv_scenes.specs.Reductions.{Reduction, in_context, in_game, is_coin, matching, sites}
+use Rattle.cv_scenes.specs.Cells.{at_left}
 use Rattle.cv_context_served.proofs.Served.{own_cell}
 use Rattle.cv_context_cells.specs.Premises.{HasContext}
 use Rattle.cv_context_cells.proofs.Flat.{flat_head, has_terms_alone, head_is_flat, head_is_term, is_flat}

@@ -8,10 +8,10 @@ use Rattle.cv_scope.specs.Phrases.{Phrase, Arm, Binders, Body, Branches, Cells, 
 use Rattle.cv_scope.specs.declared.position.Position.{Position}
 use Rattle.cv_scope.specs.declared.position.Position.TheVariants as position
 use Rattle.cv_steps.proofs.Flat.{is_of_terms}
-use Rattle.cv_reductions.specs.Sites.{Site}
-use Rattle.cv_reductions.specs.Contexts.{after_calls, in_context as tree_in_context}
-use Rattle.cv_reductions.specs.Reductions.{Reduction, is_coin, matching}
-use Rattle.cv_reductions.specs.Apt.{AreSitesApt, AreTermsApt, IsApt, IsAptGame, inside, sites_inside}
+use Rattle.cv_scenes.specs.Sites.{Site}
+use Rattle.cv_scenes.specs.Contexts.{after_calls, in_context as tree_in_context}
+use Rattle.cv_scenes.specs.Reductions.{Reduction, is_coin, matching}
+use Rattle.cv_scenes.specs.Apt.{AreSitesApt, AreTermsApt, IsApt, IsAptGame, inside, sites_inside}
 use Rattle.cv_context_values.proofs.Numbers.{context}
 use Rattle.cv_context_served.proofs.Finds.{arm, arm_of, body_number, branch_in, empty_in, guarded_of, guards_of, nil_in, node_in, pattern_in}
 use Rattle.cv_context_cells.proofs.Flat.{binders_flat, has_terms_alone, is_flat, pattern_flat, phrase_flat, phrase_terms, terms_in}

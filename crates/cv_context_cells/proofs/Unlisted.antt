@@ -19,9 +19,9 @@ use Rattle.cv_meaning_runs.specs.Listed.{IsTestable, head_is_testable, is_testab
 use Rattle.cv_meaning_runs.specs.Moments.{cells_of_run}
 use Rattle.cv_meaning_runs.proofs.Listed.{cells_listed}
 use Rattle.cv_meaning_runs.proofs.Together.{consulted_same}
-use Rattle.cv_meaning_contexts.proofs.Locality.{local}
-use Rattle.cv_reductions.specs.Reductions.{Reduction, in_context, is_plain, oracles}
-use Rattle.cv_reductions.specs.Apt.{IsTestApt}
+use Rattle.cv_meaning_contexts_laws.proofs.Locality.{local}
+use Rattle.cv_scenes.specs.Reductions.{Reduction, in_context, is_plain, oracles}
+use Rattle.cv_scenes.specs.Apt.{IsTestApt}
 use Rattle.cv_context_served.proofs.Kept.{answer_not_plain, apart_by, key_not_plain}
 use Rattle.cv_context_cells.proofs.Flat.{flat_terms, flat_testable, is_flat}
 use Rattle.cv_context_cells.proofs.Turned.{IsTurned, is_kept}

@@ -2,9 +2,9 @@
 use Rattle.std.specs.Prelude.{◌≡◌, None}
 use Rattle.cv_typing.specs.Parts.{IsTypedGame}
 use Rattle.cv_typing_runs.specs.Games.{HasArguments, HasKnownNames}
-use Rattle.cv_reductions.specs.Refusals.{first_refusal}
-use Rattle.cv_reductions.specs.Reductions.{Reduction, matching}
-use Rattle.cv_reductions.specs.Apt.{IsAptGame}
+use Rattle.cv_scenes.specs.Refusals.{first_refusal}
+use Rattle.cv_scenes.specs.Reductions.{Reduction, matching}
+use Rattle.cv_scenes.specs.Apt.{IsAptGame}
 
 pub record HasContext (r : Reduction) : Type 0 where
   -- by the check of files

@@ -11,9 +11,9 @@ ghost use Rattle.cv_meaning_chances.specs.Tests.{renamed};
 ghost use Rattle.cv_meaning_contexts.specs.ContextAdvantage.{context_chance};
 ghost use Rattle.cv_meaning_contexts.specs.Groups.{Left};
 ghost use Rattle.cv_meaning_unread.specs.Sizes.{GiveSizesFor};
-ghost use Rattle.cv_reductions.specs.Apt.{IsTestApt};
-ghost use Rattle.cv_reductions.specs.Cells.{at_left};
-ghost use Rattle.cv_reductions.specs.Reductions.{Reduction, context_of_game, in_context, in_game};
+ghost use Rattle.cv_scenes.specs.Apt.{IsTestApt};
+ghost use Rattle.cv_scenes.specs.Cells.{at_left};
+ghost use Rattle.cv_scenes.specs.Reductions.{Reduction, context_of_game, in_context, in_game};
 ghost use Rattle.cv_context_cells.specs.Premises.{HasContext};
 
 /// Each experiment that tests no key, coin or answer has one chance in a game and in its context with the left

@@ -12,12 +12,12 @@ use Rattle.cv_scope.specs.Phrases.{Body, Inputs, Message, Nil, OneCell, Phrase, 
 use Rattle.cv_scope.specs.declared.position.Position.{Position}
 use Rattle.cv_scope.specs.declared.position.Position.TheVariants as position
 use Rattle.cv_scope_runs.proofs.Rows as rows
-use Rattle.cv_reductions.specs.Instances.{Call, call_at}
-use Rattle.cv_reductions.specs.Sites.{Site, is_guard, sites_in}
-use Rattle.cv_reductions.specs.Contexts.{after_calls, call_terms, context_in, in_context, is_statement}
-use Rattle.cv_reductions.specs.LeftTerms.{HasLeftTerms}
-use Rattle.cv_reductions.specs.Reductions.{Reduction, context_of_game, is_coin, matching}
-use Rattle.cv_reductions.specs.Apt.{AreBoth, AreSitesApt, IsApt, IsAptGame, IsNodeApt, has_value, inside, position_of}
+use Rattle.cv_scenes.specs.Instances.{Call, call_at}
+use Rattle.cv_scenes.specs.Sites.{Site, is_guard, sites_in}
+use Rattle.cv_scenes.specs.Contexts.{after_calls, call_terms, context_in, in_context, is_statement}
+use Rattle.cv_scenes.specs.LeftTerms.{HasLeftTerms}
+use Rattle.cv_scenes.specs.Reductions.{Reduction, context_of_game, is_coin, matching}
+use Rattle.cv_scenes.specs.Apt.{AreBoth, AreSitesApt, IsApt, IsAptGame, IsNodeApt, has_value, inside, position_of}
 use Rattle.cv_context_values.proofs.Numbers.{context}
 use Rattle.cv_context_formed.specs.Parts.{IsPart}
 use Rattle.cv_context_formed.proofs.Terms.{call_part, children, empty_part, game_part, node_part, same_parts, term_binds}

@@ -20,9 +20,9 @@ ghost use Rattle.cv_scope.specs.Rules.{MayFollow, Names};
 ghost use Rattle.cv_scope.specs.Scope.{IsScoped, IsScopedAt, names_of};
 ghost use Rattle.cv_scope.specs.Sites.{Site, sites_from};
 ghost use Rattle.cv_scope.specs.Standing.{Standing};
-ghost use Rattle.cv_reductions.specs.Apt.{IsAptGame};
-ghost use Rattle.cv_reductions.specs.LeftTerms.{HasLeftTerms};
-ghost use Rattle.cv_reductions.specs.Reductions.{Reduction, context_of_game, matching};
+ghost use Rattle.cv_scenes.specs.Apt.{IsAptGame};
+ghost use Rattle.cv_scenes.specs.LeftTerms.{HasLeftTerms};
+ghost use Rattle.cv_scenes.specs.Reductions.{Reduction, context_of_game, matching};
 ghost use Rattle.cv_context_formed.specs.Parts.{IsPart};
 ghost use Rattle.cv_context_formed.specs.Rules.{AreKept};
 

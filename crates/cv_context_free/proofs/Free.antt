@@ -13,13 +13,13 @@ use Rattle.cv_scope.specs.Standing.{at_root}
 use Rattle.cv_typing.specs.Parts.{IsTypedGame}
 use Rattle.cv_typing_runs.specs.Games.{HasKnownNames}
 use Rattle.cv_scenes.specs.Scenes.{head_reads, is_queried}
-use Rattle.cv_reductions.specs.Instances.{Call, Matching, call_at, names_of, terms_of}
-use Rattle.cv_reductions.specs.Refusals.{NotOneSite, Refusal, first_refusal, has_key, is_of_type, new_of, uses}
-use Rattle.cv_reductions.specs.LeftTerms.{HasLeftTerms}
+use Rattle.cv_scenes.specs.Instances.{Call, Matching, call_at, names_of, terms_of}
+use Rattle.cv_scenes.specs.Refusals.{NotOneSite, Refusal, first_refusal, has_key, is_of_type, new_of, uses}
+use Rattle.cv_scenes.specs.LeftTerms.{HasLeftTerms}
 use Rattle.cv_context_sites.proofs.Calls.{call_found}
 use Rattle.cv_context_sites.proofs.Given.{read_uses, stands_for}
 use Rattle.cv_context_sites.proofs.Uses.{filled_uses}
-use Rattle.cv_reductions.specs.Reductions.{Reduction, matching}
+use Rattle.cv_scenes.specs.Reductions.{Reduction, matching}
 use Rattle.cv_context_terms.specs.Forms.{HasLeftForm}
 use Rattle.cv_context_terms.proofs.Bodies.{left_terms}
 use Rattle.cv_context_indices.proofs.News.{value_sort}

@@ -9,8 +9,8 @@ ghost use Rattle.cv_group_rules.specs.Faults.{IsAccepted};
 ghost use Rattle.cv_scope.specs.Phrases.{IsWellFormed};
 ghost use Rattle.cv_typing.specs.Parts.{IsTypedGame};
 ghost use Rattle.cv_typing_runs.specs.Games.{HasKnownNames};
-ghost use Rattle.cv_reductions.specs.Refusals.{first_refusal};
-ghost use Rattle.cv_reductions.specs.Reductions.{Reduction, matching};
+ghost use Rattle.cv_scenes.specs.Refusals.{first_refusal};
+ghost use Rattle.cv_scenes.specs.Reductions.{Reduction, matching};
 ghost use Rattle.cv_context_terms.specs.Forms.{HasLeftForm};
 ghost use Rattle.cv_inline_expected.specs.Fine.{has_free_indices};
 

@@ -21,7 +21,7 @@ use Rattle.cv_scope.specs.Scope.{is_variable}
 use Rattle.cv_typing_runs.specs.Games.{are_known, has_site, is_known}
 use Rattle.cv_typing_runs.proofs.SameSites.{phrase_open}
 use Rattle.cv_typing_runs.proofs.Terms.{asked_sort, faultless}
-use Rattle.cv_reductions.specs.Refusals.{uses}
+use Rattle.cv_scenes.specs.Refusals.{uses}
 use Rattle.cv_context_indices.specs.Indices.{binds_new_index, indices_are_new, indices_use_none, reads_name}
 
 nil_unused : (x : ℕ) (a : Tree) → is_phrase Nil a ≡ true → uses x a ≡ 0

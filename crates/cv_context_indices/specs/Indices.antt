@@ -5,7 +5,7 @@ use Rattle.cv_syntax.specs.declared.head.Head.TheVariants.{Leaf, Read, Repl}
 use Rattle.cv_syntax.specs.Tree.{Tree, Empty, Node}
 use Rattle.cv_scope.specs.Context.{replications_below}
 use Rattle.cv_scope.specs.Rules.{is_index}
-use Rattle.cv_reductions.specs.Refusals.{uses}
+use Rattle.cv_scenes.specs.Refusals.{uses}
 
 -- the index of a replication is that of none above it, and no variable
 

@@ -11,7 +11,7 @@ ghost use Rattle.cv_scope.specs.Scope.{is_variable};
 ghost use Rattle.cv_typing.specs.Parts.{IsTypedGame};
 ghost use Rattle.cv_typing.specs.Signature.{OfGame, variable_sort};
 ghost use Rattle.cv_typing_runs.specs.Games.{HasKnownNames};
-ghost use Rattle.cv_reductions.specs.Refusals.{new_of};
+ghost use Rattle.cv_scenes.specs.Refusals.{new_of};
 ghost use Rattle.cv_context_indices.specs.Indices.{indices_are_new, indices_use_none};
 
 /// A variable whose one definition is a `new` has values of the type that is named there.

@@ -9,9 +9,9 @@ use Rattle.cv_scope.specs.Context.{replications_below}
 use Rattle.cv_scope.specs.Made.{is_bound, made_by}
 use Rattle.cv_scope.specs.Sites.{Variable}
 use Rattle.cv_scenes.specs.Scenes.{head_names, names}
-use Rattle.cv_reductions.specs.Refusals.{definitions_in, new_of, only_new}
-use Rattle.cv_reductions.specs.Apt.{AreBindersPlain}
-use Rattle.cv_reductions.specs.Reductions.{Reduction, is_answer, is_plain, sites}
+use Rattle.cv_scenes.specs.Refusals.{definitions_in, new_of, only_new}
+use Rattle.cv_scenes.specs.Apt.{AreBindersPlain}
+use Rattle.cv_scenes.specs.Reductions.{Reduction, is_answer, is_plain, sites}
 use Rattle.cv_context_names.specs.Bindings.{HasOwnNames, has_news_alone, is_new}
 use Rattle.cv_context_names.proofs.Plain.{not_plain, one_below}
 

@@ -4,7 +4,7 @@ use Rattle.std.proofs.lemmas.Bool.{both_ways}
 use Rattle.std.proofs.lemmas.List.Folds.{list_any-append}
 use Rattle.std.specs.List.{list_any}
 use Rattle.cv_meaning.specs.Candidates.{below}
-use Rattle.cv_reductions.specs.Reductions.{Reduction, is_answer, is_coin, is_plain, sites}
+use Rattle.cv_scenes.specs.Reductions.{Reduction, is_answer, is_coin, is_plain, sites}
 
 -- one of the numbers below
 pub record Below (p : ℕ → Bool) (n : ℕ) : Type 0 where

@@ -6,7 +6,7 @@ use Rattle.cv_syntax.specs.Tree.{Tree, Empty, Node}
 use Rattle.cv_scope.specs.Made.{made_by}
 use Rattle.cv_scope.specs.Sites.{Variable}
 use Rattle.cv_scenes.specs.Scenes.{names}
-use Rattle.cv_reductions.specs.Reductions.{Reduction, is_coin, sites}
+use Rattle.cv_scenes.specs.Reductions.{Reduction, is_coin, sites}
 
 abbrev pub is_new : Head → Bool
 is_new (New x T) = true

@@ -5,9 +5,9 @@ ghost use Rattle.std.specs.Prelude.{◌≡◌, ℕ, List, Some, false, true};
 ghost use Rattle.cv_syntax.specs.declared.head.Head.{Head};
 ghost use Rattle.cv_syntax.specs.declared.head.Head.TheVariants.{Branch, In, Let, New};
 ghost use Rattle.cv_syntax.specs.Tree.{Node, Tree, second};
-ghost use Rattle.cv_reductions.specs.Refusals.{new_of};
-ghost use Rattle.cv_reductions.specs.Apt.{AreBindersPlain};
-ghost use Rattle.cv_reductions.specs.Reductions.{Reduction, is_answer, is_plain};
+ghost use Rattle.cv_scenes.specs.Refusals.{new_of};
+ghost use Rattle.cv_scenes.specs.Apt.{AreBindersPlain};
+ghost use Rattle.cv_scenes.specs.Reductions.{Reduction, is_answer, is_plain};
 ghost use Rattle.cv_context_names.specs.Bindings.{HasOwnNames, has_news_alone};
 
 /// A variable whose one definition is a `new` is bound by no other node.

@@ -5,9 +5,9 @@ use Rattle.std.specs.Prelude.{filter}
 use Rattle.std.specs.declared.vec.Vec.{Vec}
 use Rattle.std.specs.declared.alloc.Global.{Global}
 use Rattle.cv_pool.specs.KindTree.{KindTree}
-use Rattle.cv_reductions.specs.Contexts.{calls_of, parameters_of}
-use Rattle.cv_reductions.specs.Instances.{Matching}
-use Rattle.cv_reductions.specs.Sites as instances
+use Rattle.cv_scenes.specs.Contexts.{calls_of, parameters_of}
+use Rattle.cv_scenes.specs.Instances.{Matching}
+use Rattle.cv_scenes.specs.Sites as instances
 use Rattle.cv_match_patterns.specs.Sites.{site_in}
 use Rattle.cv_match_patterns.specs.declared.site.Site.{Site}
 use Rattle.cv_context_products.specs.Products.{products, products_at}

@@ -2,7 +2,7 @@
 use Rattle.std.specs.Prelude.{ℕ, ◌==◌, List, map, filter}
 use Rattle.std.specs.declared.vec.Vec.{Vec}
 use Rattle.std.specs.declared.alloc.Global.{Global}
-use Rattle.cv_reductions.specs.Contexts.{parameters_of}
+use Rattle.cv_scenes.specs.Contexts.{parameters_of}
 use Rattle.cv_match_patterns.specs.declared.site.Site.{Site}
 
 abbrev pub products : List (Vec ℕ Global) → List (List ℕ)

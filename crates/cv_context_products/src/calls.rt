@@ -1,7 +1,7 @@
 ghost use Rattle.std.specs.Prelude.{◌≡◌, List, IfOk, map};
 ghost use Rattle.cv_pool.specs.KindTree.{KindTree};
-ghost use Rattle.cv_reductions.specs.Contexts as contexts;
-ghost use Rattle.cv_reductions.specs.Instances.{Matching};
+ghost use Rattle.cv_scenes.specs.Contexts as contexts;
+ghost use Rattle.cv_scenes.specs.Instances.{Matching};
 ghost use Rattle.cv_match_patterns.specs.Sites.{site_in};
 ghost use Rattle.cv_context_products.specs.Products.{products};
 

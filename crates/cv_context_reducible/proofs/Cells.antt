@@ -8,9 +8,9 @@ use Rattle.cv_scope.specs.Phrases.{Cells, OneCell, head_binds_none, is_phrase}
 use Rattle.cv_scope.specs.Rules.{is_index}
 use Rattle.cv_scope.specs.Scope.{is_variable}
 use Rattle.cv_scenes.specs.Scenes.{head_names, names}
-use Rattle.cv_reductions.specs.Refusals.{uses}
-use Rattle.cv_reductions.specs.Reductions.{Reduction, is_coin, is_plain, sites}
-use Rattle.cv_reductions.specs.Apt.{IsIndexApt, are_cells_apt, is_cell_apt}
+use Rattle.cv_scenes.specs.Refusals.{uses}
+use Rattle.cv_scenes.specs.Reductions.{Reduction, is_coin, is_plain, sites}
+use Rattle.cv_scenes.specs.Apt.{IsIndexApt, are_cells_apt, is_cell_apt}
 use Rattle.cv_context_names.proofs.Plain.{not_plain}
 use Rattle.cv_context_indices.specs.Indices.{binds_new_index, indices_use_none}
 use Rattle.cv_context_apt.proofs.Outside.{unnamed_unused}

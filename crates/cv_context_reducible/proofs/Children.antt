@@ -11,11 +11,11 @@ use Rattle.cv_scope.specs.Phrases.{binds_none, head_binds_none}
 use Rattle.cv_scope.specs.Scope.{is_variable}
 use Rattle.cv_scope.specs.declared.position.Position.{Position}
 use Rattle.cv_scenes.specs.Scenes.{first_reading, head_reads}
-use Rattle.cv_reductions.specs.Instances.{Call, Matching, call_at}
-use Rattle.cv_reductions.specs.Refusals.{first_in_condition, first_use, is_condition, uses}
-use Rattle.cv_reductions.specs.Sites.{Site, is_guard, sites_in}
-use Rattle.cv_reductions.specs.Reductions.{Reduction, is_coin, matching, sites}
-use Rattle.cv_reductions.specs.Apt.{has_value, inside}
+use Rattle.cv_scenes.specs.Instances.{Call, Matching, call_at}
+use Rattle.cv_scenes.specs.Refusals.{first_in_condition, first_use, is_condition, uses}
+use Rattle.cv_scenes.specs.Sites.{Site, is_guard, sites_in}
+use Rattle.cv_scenes.specs.Reductions.{Reduction, is_coin, matching, sites}
+use Rattle.cv_scenes.specs.Apt.{has_value, inside}
 use Rattle.cv_context_values.proofs.Numbers.{count_sites}
 use Rattle.cv_context_sites.specs.Uses.{uses_outside}
 use Rattle.cv_context_names.specs.Bindings.{HasOwnNames}

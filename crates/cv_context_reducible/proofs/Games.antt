@@ -7,9 +7,9 @@ use Rattle.cv_meaning.specs.Interpretation.{is_constant_of}
 use Rattle.cv_scope.specs.Phrases.{Arm, Binders, Body, Branches, Cells, Else, Guarded, Guards, Inputs, Message, Nil, Pattern, Term, Terms, Then, is_phrase}
 use Rattle.cv_scope.specs.Scope.{is_variable}
 use Rattle.cv_scope.specs.declared.position.Position.TheVariants as position
-use Rattle.cv_reductions.specs.Apt.{AreTermsApt, IsApt, has_value}
-use Rattle.cv_reductions.specs.Instances.{call_at}
-use Rattle.cv_reductions.specs.Reductions.{Reduction, is_coin, matching}
+use Rattle.cv_scenes.specs.Apt.{AreTermsApt, IsApt, has_value}
+use Rattle.cv_scenes.specs.Instances.{call_at}
+use Rattle.cv_scenes.specs.Reductions.{Reduction, is_coin, matching}
 use Rattle.cv_context_names.proofs.Bindings.{below_own, branch_plain, input_plain, let_plain, new_no_answer}
 use Rattle.cv_context_apt.specs.Statements.{AreTermsOf, HasOwnSites}
 use Rattle.cv_context_apt.proofs.Arguments.{unread_unused}

@@ -13,11 +13,11 @@ use Rattle.cv_scope.specs.declared.position.Position.{Position}
 use Rattle.cv_scenes.specs.Sights.{variable_of}
 use Rattle.cv_derivations.specs.Given.{or_node, term_for, with_given}
 use Rattle.cv_typing_runs.proofs.SameSites.{phrase_open}
-use Rattle.cv_reductions.specs.Instances.{Call, Matching, call_at, is_read_of, names_of, terms_of}
-use Rattle.cv_reductions.specs.Refusals.{uses}
-use Rattle.cv_reductions.specs.Sites.{Site, is_guard, sites_in}
-use Rattle.cv_reductions.specs.LeftTerms.{HasLeftTerms, reads_no_array}
-use Rattle.cv_reductions.specs.Reductions.{Reduction, matching, sites}
+use Rattle.cv_scenes.specs.Instances.{Call, Matching, call_at, is_read_of, names_of, terms_of}
+use Rattle.cv_scenes.specs.Refusals.{uses}
+use Rattle.cv_scenes.specs.Sites.{Site, is_guard, sites_in}
+use Rattle.cv_scenes.specs.LeftTerms.{HasLeftTerms, reads_no_array}
+use Rattle.cv_scenes.specs.Reductions.{Reduction, matching, sites}
 use Rattle.cv_context_sites.proofs.Coins.{site_call, site_given}
 use Rattle.cv_context_indices.specs.Indices.{indices_use_none, reads_name}
 use Rattle.cv_context_indices.proofs.Typed.{leaf_unused}

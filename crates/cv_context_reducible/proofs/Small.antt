@@ -4,8 +4,8 @@ use Rattle.std.proofs.lemmas.Bool.{both_ways, and_parts}
 use Rattle.cv_syntax.specs.declared.head.Head.TheVariants.{And, Apply, Binder, Cons, Eq, Leaf, Name, No, Not, Or, Read, Yes}
 use Rattle.cv_syntax.specs.Tree.{Tree, Empty, Node}
 use Rattle.cv_scope.specs.Phrases.{Binders, Cells, Indices, Message, Nil, OneCell, Pattern, Phrase, Term, Terms, is_phrase}
-use Rattle.cv_reductions.specs.Apt.{IsApt}
-use Rattle.cv_reductions.specs.Reductions.{Reduction}
+use Rattle.cv_scenes.specs.Apt.{IsApt}
+use Rattle.cv_scenes.specs.Reductions.{Reduction}
 
 module _ (r : Reduction) where
   abbrev Fine : Phrase → Tree → Type 0

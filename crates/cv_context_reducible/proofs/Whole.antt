@@ -16,12 +16,12 @@ use Rattle.cv_scope.specs.Scope.{is_variable, names_of}
 use Rattle.cv_scope.specs.Standing.{at_root}
 use Rattle.cv_scope.specs.declared.position.Position.TheVariants.{Anywhere}
 use Rattle.cv_scenes.specs.Scenes.{asks_for, is_queried}
-use Rattle.cv_reductions.specs.Instances.{Matching}
-use Rattle.cv_reductions.specs.Refusals.{CoinUse, InCondition, KeyInArgument, NotOneSite, Refusal, Use, at_place, first_argument_use, first_coin_use, first_in_condition, first_refusal, first_use, has_key, is_of_type, new_of}
-use Rattle.cv_reductions.specs.LeftTerms.{HasLeftTerms}
-use Rattle.cv_reductions.specs.Reductions.{Reduction, is_coin, is_plain, matching, sites}
-use Rattle.cv_reductions.specs.Sites.{sites_of}
-use Rattle.cv_reductions.specs.Apt.{IsAptGame, IsTestApt}
+use Rattle.cv_scenes.specs.Instances.{Matching}
+use Rattle.cv_scenes.specs.Refusals.{CoinUse, InCondition, KeyInArgument, NotOneSite, Refusal, Use, at_place, first_argument_use, first_coin_use, first_in_condition, first_refusal, first_use, has_key, is_of_type, new_of}
+use Rattle.cv_scenes.specs.LeftTerms.{HasLeftTerms}
+use Rattle.cv_scenes.specs.Reductions.{Reduction, is_coin, is_plain, matching, sites}
+use Rattle.cv_scenes.specs.Sites.{sites_of}
+use Rattle.cv_scenes.specs.Apt.{IsAptGame, IsTestApt}
 use Rattle.cv_context_names.proofs.Bindings.{only_by_new}
 use Rattle.cv_context_names.proofs.Plain.{not_plain}
 use Rattle.cv_context_indices.proofs.News.{value_sort}

@@ -21,11 +21,11 @@ use Rattle.cv_typing_runs.specs.Games.{HasKnownNames, are_known}
 use Rattle.cv_group_rules.specs.Faults.{BoundNames, IsAccepted, LeftIsTerm, OneIndex, ReadNames, SameShape, keeps}
 use Rattle.cv_group_rules.specs.Rules as rules
 use Rattle.cv_group_rules.specs.Rules.{all_agree, are_cells, defines, each_function, has_name, has_read, have_one_index, is_asked, range_of, reads}
-use Rattle.cv_reductions.specs.Contexts.{AreAnswers}
-use Rattle.cv_reductions.specs.Instances.{standing_for}
-use Rattle.cv_reductions.specs.Sites.{sites_in}
-use Rattle.cv_reductions.specs.Refusals.{definitions_in, first_in_arguments, first_in_condition, first_refusal, first_use, uses}
-use Rattle.cv_reductions.specs.Reductions.{matching, sites}
+use Rattle.cv_scenes.specs.Contexts.{AreAnswers}
+use Rattle.cv_scenes.specs.Instances.{standing_for}
+use Rattle.cv_scenes.specs.Sites.{sites_in}
+use Rattle.cv_scenes.specs.Refusals.{definitions_in, first_in_arguments, first_in_condition, first_refusal, first_use, uses}
+use Rattle.cv_scenes.specs.Reductions.{matching, sites}
 use Rattle.cv_match_laws.specs.Worked.{authentication, game}
 use Rattle.cv_context_terms.specs.Forms.{HasLeftForm}
 use Rattle.cv_context_reducible.specs.Reducible.{IsReducible}

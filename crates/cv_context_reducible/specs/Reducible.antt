@@ -5,9 +5,9 @@ use Rattle.cv_group_rules.specs.Faults.{IsAccepted}
 use Rattle.cv_scope.specs.Phrases.{IsWellFormed}
 use Rattle.cv_typing.specs.Parts.{IsTypedGame}
 use Rattle.cv_typing_runs.specs.Games.{HasKnownNames}
-use Rattle.cv_reductions.specs.Refusals.{first_refusal}
-use Rattle.cv_reductions.specs.Contexts.{AreAnswers}
-use Rattle.cv_reductions.specs.Reductions.{Reduction, matching, sites}
+use Rattle.cv_scenes.specs.Refusals.{first_refusal}
+use Rattle.cv_scenes.specs.Contexts.{AreAnswers}
+use Rattle.cv_scenes.specs.Reductions.{Reduction, matching, sites}
 use Rattle.cv_context_terms.specs.Forms.{HasLeftForm}
 
 pub record IsReducible (r : Reduction) : Type 0 where

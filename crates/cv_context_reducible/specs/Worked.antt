@@ -3,7 +3,7 @@ use Rattle.std.specs.Prelude.{ℕ, nat_lt, List, [], ◌∷◌, ◌++◌, None}
 use Rattle.cv_syntax.specs.declared.decls.Class.TheVariants as class
 use Rattle.cv_syntax.specs.Declarations.{Declaration, Named}
 use Rattle.cv_syntax.specs.Tree.{names}
-use Rattle.cv_reductions.specs.Reductions.{Reduction}
+use Rattle.cv_scenes.specs.Reductions.{Reduction}
 use Rattle.cv_match_laws.specs.Worked as worked
 use Rattle.cv_match_laws.specs.Worked.{answer, authentication, game}
 

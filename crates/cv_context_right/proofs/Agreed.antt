@@ -8,7 +8,7 @@ use Rattle.cv_syntax.proofs.Equality.{same_tree_exact}
 use Rattle.cv_meaning.specs.Correspondences.{typed_names}
 use Rattle.cv_meaning_contexts.specs.Groups.{Function, function_of, functions_of}
 use Rattle.cv_group_rules.specs.Rules.{all_agree, functions_agree, same_bound, take_alike}
-use Rattle.cv_reductions.specs.Standing.{AreAsMany}
+use Rattle.cv_scenes.specs.Standing.{AreAsMany}
 use Rattle.cv_inline_accepted.specs.RightBodies.{are_as_many}
 
 -- a function of the other side at a position, which takes as much

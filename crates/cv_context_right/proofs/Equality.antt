@@ -9,7 +9,7 @@ use Rattle.cv_meaning.specs.Tapes.{Tape, blank}
 use Rattle.cv_meaning_contexts.specs.ContextAdvantage.{context_chance}
 use Rattle.cv_meaning_contexts.specs.Groups.{Right}
 use Rattle.cv_meaning_contexts.specs.Sides.{Context}
-use Rattle.cv_reductions.specs.Reductions.{Reduction, context_of_game}
+use Rattle.cv_scenes.specs.Reductions.{Reduction, context_of_game}
 use Rattle.cv_inline_games.specs.NextGame.{next_of}
 use Rattle.cv_inline_draws.specs.DrawnNames.{drawn_in, find_in}
 use Rattle.cv_inline_draws.proofs.Names.{other_label}

@@ -9,10 +9,10 @@ use Rattle.cv_meaning_contexts.specs.Groups.{Right, side_group}
 use Rattle.cv_group_rules.specs.Faults.{IsAccepted}
 use Rattle.cv_scope.specs.Context.{items}
 use Rattle.cv_scope.specs.Phrases.{IsWellFormedContext}
-use Rattle.cv_reductions.specs.Apt.{IsAptGame, IsSiteApt}
-use Rattle.cv_reductions.specs.LeftTerms.{HasLeftTerms}
-use Rattle.cv_reductions.specs.Reductions.{Reduction, context_of_game, matching, sites}
-use Rattle.cv_reductions.specs.Sites.{Site}
+use Rattle.cv_scenes.specs.Apt.{IsAptGame, IsSiteApt}
+use Rattle.cv_scenes.specs.LeftTerms.{HasLeftTerms}
+use Rattle.cv_scenes.specs.Reductions.{Reduction, context_of_game, matching, sites}
+use Rattle.cv_scenes.specs.Sites.{Site}
 use Rattle.cv_inline_bodies.specs.Accepted.{AreFineKeyTerms}
 use Rattle.cv_inline_bodies.specs.Inlined.{is_index_of, is_own}
 use Rattle.cv_inline_bodies.specs.Roles.{Gone}

@@ -12,7 +12,7 @@ ghost use Rattle.cv_meaning_contexts.specs.ContextAdvantage.{context_advantage, 
 ghost use Rattle.cv_meaning_contexts.specs.Groups.{Right};
 ghost use Rattle.cv_query_form.specs.Queries.{queries_in};
 ghost use Rattle.cv_typing_runs.specs.Games.{HasArguments};
-ghost use Rattle.cv_reductions.specs.Reductions.{Reduction, context_of_game, in_game};
+ghost use Rattle.cv_scenes.specs.Reductions.{Reduction, context_of_game, in_game};
 ghost use Rattle.cv_context_reducible.specs.Reducible.{IsReducible};
 ghost use Rattle.cv_inline_games.specs.NextGame.{next_of};
 ghost use Rattle.cv_inline_draws.specs.DrawnNames.{drawn_in};

@@ -25,15 +25,15 @@ use Rattle.cv_scope_runs.proofs.Contexts.{Matches, constant_none, put_here, put_
 use Rattle.cv_scope_runs.proofs.TermsLater.{some_of}
 use Rattle.cv_scenes.specs.Sights.{variable_of}
 use Rattle.cv_derivations.specs.Given.{or_node, term_for, with_given}
-use Rattle.cv_reductions.specs.Instances.{Instance, filled, names_of, terms_of}
-use Rattle.cv_reductions.specs.Refusals.{uses}
-use Rattle.cv_reductions.specs.Sites.{Site}
-use Rattle.cv_reductions.specs.Contexts.{after_calls}
-use Rattle.cv_reductions.specs.LeftTerms.{IsLeftFunction, reads_no_array}
-use Rattle.cv_reductions.specs.Standing.{AreAsMany, AreDrawn}
+use Rattle.cv_scenes.specs.Instances.{Instance, filled, names_of, terms_of}
+use Rattle.cv_scenes.specs.Refusals.{uses}
+use Rattle.cv_scenes.specs.Sites.{Site}
+use Rattle.cv_scenes.specs.Contexts.{after_calls}
+use Rattle.cv_scenes.specs.LeftTerms.{IsLeftFunction, reads_no_array}
+use Rattle.cv_scenes.specs.Standing.{AreAsMany, AreDrawn}
 use Rattle.cv_context_values.proofs.Answers.{answered}
-use Rattle.cv_reductions.specs.Reductions.{Reduction, in_context, in_game, is_plain, matching, oracles, sites}
-use Rattle.cv_reductions.specs.Apt.{AreCoinsApt, AreSitesApt, IsAptGame, IsCoinApt, IsSiteApt}
+use Rattle.cv_scenes.specs.Reductions.{Reduction, in_context, in_game, is_plain, matching, oracles, sites}
+use Rattle.cv_scenes.specs.Apt.{AreCoinsApt, AreSitesApt, IsAptGame, IsCoinApt, IsSiteApt}
 use Rattle.cv_context_served.proofs.Kept.{KeptStores, answers_are, coin_not_plain, key_not_plain, put_answer, where_there}
 use Rattle.cv_context_served.proofs.Terms.{AreAnswered, cell_value, terms_values}
 

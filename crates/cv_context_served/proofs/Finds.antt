@@ -17,11 +17,11 @@ use Rattle.cv_scope.specs.Context.{cell_of, first_position, replications_below, 
 use Rattle.cv_scope.specs.Phrases.{Arm, Binders, Branches, Cells, Guarded, Guards, Indices as Names, Nil, Pattern, is_phrase}
 use Rattle.cv_scope.specs.declared.position.Position.{Position}
 use Rattle.cv_scope.specs.declared.position.Position.TheVariants as position
-use Rattle.cv_reductions.specs.Instances.{Call}
-use Rattle.cv_reductions.specs.Sites.{is_guard}
-use Rattle.cv_reductions.specs.Contexts.{after_calls, context_in, in_context, is_statement}
-use Rattle.cv_reductions.specs.Reductions.{Reduction, is_coin, is_plain, matching}
-use Rattle.cv_reductions.specs.Apt.{AreBindersPlain, IsApt, IsAptGame, are_cells_apt, has_value, inside, is_cell_apt}
+use Rattle.cv_scenes.specs.Instances.{Call}
+use Rattle.cv_scenes.specs.Sites.{is_guard}
+use Rattle.cv_scenes.specs.Contexts.{after_calls, context_in, in_context, is_statement}
+use Rattle.cv_scenes.specs.Reductions.{Reduction, is_coin, is_plain, matching}
+use Rattle.cv_scenes.specs.Apt.{AreBindersPlain, IsApt, IsAptGame, are_cells_apt, has_value, inside, is_cell_apt}
 use Rattle.cv_context_values.proofs.Numbers.{context}
 use Rattle.cv_context_served.proofs.Kept.{KeptStores, put_bound, where_there}
 

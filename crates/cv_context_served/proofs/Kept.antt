@@ -12,9 +12,9 @@ use Rattle.cv_meaning.specs.Tapes.{Key_at, New_at, Tape, same_tuple}
 use Rattle.cv_meaning_laws.specs.Agreement.{AgreeOn}
 use Rattle.cv_meaning_laws.proofs.Counts.{same_tuple_exact}
 use Rattle.cv_scope_runs.proofs.Contexts.{put_other}
-use Rattle.cv_reductions.specs.Reductions.{Reduction, is_answer, is_coin, is_plain, sites}
-use Rattle.cv_reductions.specs.Cells.{at_left, coin_from, made_by}
-use Rattle.cv_reductions.specs.Apt.{AreBindersPlain}
+use Rattle.cv_scenes.specs.Reductions.{Reduction, is_answer, is_coin, is_plain, sites}
+use Rattle.cv_scenes.specs.Cells.{at_left, coin_from, made_by}
+use Rattle.cv_scenes.specs.Apt.{AreBindersPlain}
 
 -- the value is there where another one is
 abbrev pub where_there : Option ℕ → ℕ → Option ℕ

@@ -24,10 +24,10 @@ use Rattle.cv_scope.specs.declared.position.Position.TheVariants.{Anywhere}
 use Rattle.cv_scope_runs.specs.Reads.{VisitReadsAssigned}
 use Rattle.cv_scope_runs.proofs.FactsRuns.{all_reads_assigned}
 use Rattle.cv_scope_runs.proofs.Plain.{game_context}
-use Rattle.cv_reductions.specs.Reductions.{Reduction, in_context, in_game, sites}
-use Rattle.cv_reductions.specs.Cells.{Coin, are_paired, at_left, coin_from, is_that_coin, made_by, made_if, new_by, new_if, variable_from}
-use Rattle.cv_reductions.specs.Instances.{is_read_of}
-use Rattle.cv_reductions.specs.Apt.{IsAptGame, IsTestApt}
+use Rattle.cv_scenes.specs.Reductions.{Reduction, in_context, in_game, sites}
+use Rattle.cv_scenes.specs.Cells.{Coin, are_paired, at_left, coin_from, is_that_coin, made_by, made_if, new_by, new_if, variable_from}
+use Rattle.cv_scenes.specs.Instances.{is_read_of}
+use Rattle.cv_scenes.specs.Apt.{IsAptGame, IsTestApt}
 use Rattle.cv_context_served.proofs.Kept.{Kept, put_bound}
 use Rattle.cv_context_values.proofs.Numbers.{context}
 use Rattle.cv_context_served.proofs.Served.{Like, copy, body_served, opened}

@@ -20,14 +20,14 @@ use Rattle.cv_scope.specs.Phrases.{Arm, Binders, Body, Branches, Else, Indices a
 use Rattle.cv_scope.specs.declared.position.Position.TheVariants as position
 use Rattle.cv_scope_runs.specs.Reads.{TermAssigned, VisitReadsAssigned}
 use Rattle.cv_scope_runs.proofs.Contexts.{Matches, push_matches}
-use Rattle.cv_reductions.specs.Instances.{is_read_of}
-use Rattle.cv_reductions.specs.Sites.{Site, sites_in}
+use Rattle.cv_scenes.specs.Instances.{is_read_of}
+use Rattle.cv_scenes.specs.Sites.{Site, sites_in}
 use Rattle.cv_directory.specs.Sites.{first_of}
 use Rattle.cv_scenes.specs.Sights.{variable_of}
-use Rattle.cv_reductions.specs.Contexts.{after_calls, in_context as tree_in_context, is_coin_variable}
-use Rattle.cv_reductions.specs.Reductions.{Reduction, in_context, in_game, is_answer, is_coin, is_plain, matching, sites}
-use Rattle.cv_reductions.specs.Cells.{at_left, coin_by, coin_from, made_by}
-use Rattle.cv_reductions.specs.Apt.{AreBindersPlain, AreTermsApt, IsApt, IsAptGame, inside}
+use Rattle.cv_scenes.specs.Contexts.{after_calls, in_context as tree_in_context, is_coin_variable}
+use Rattle.cv_scenes.specs.Reductions.{Reduction, in_context, in_game, is_answer, is_coin, is_plain, matching, sites}
+use Rattle.cv_scenes.specs.Cells.{at_left, coin_by, coin_from, made_by}
+use Rattle.cv_scenes.specs.Apt.{AreBindersPlain, AreTermsApt, IsApt, IsAptGame, inside}
 use Rattle.cv_context_served.proofs.Kept.{Kept, KeptStores, put_bound, put_coin, put_key, put_plain}
 use Rattle.cv_context_served.proofs.Terms.{AreAnswered, message_sites, message_values, term_sites, term_value, terms_sites, terms_value}
 use Rattle.cv_context_served.proofs.Calls.{calls_served}

@@ -18,11 +18,11 @@ use Rattle.cv_scope.specs.declared.position.Position.TheVariants.{Anywhere}
 use Rattle.cv_scope_runs.specs.Promises.{AreIndicesOf}
 use Rattle.cv_scope_runs.specs.Reads.{TermAssigned, TermsAssigned}
 use Rattle.cv_scope_runs.proofs.Contexts.{IsFound, Matches}
-use Rattle.cv_reductions.specs.Instances.{Call, Matching, call_at}
-use Rattle.cv_reductions.specs.Sites.{Site, is_guard, sites_in}
-use Rattle.cv_reductions.specs.Contexts.{context_in}
-use Rattle.cv_reductions.specs.Reductions.{Reduction, is_coin, is_plain, matching, sites}
-use Rattle.cv_reductions.specs.Apt.{IsAptGame, reads_outside}
+use Rattle.cv_scenes.specs.Instances.{Call, Matching, call_at}
+use Rattle.cv_scenes.specs.Sites.{Site, is_guard, sites_in}
+use Rattle.cv_scenes.specs.Contexts.{context_in}
+use Rattle.cv_scenes.specs.Reductions.{Reduction, is_coin, is_plain, matching, sites}
+use Rattle.cv_scenes.specs.Apt.{IsAptGame, reads_outside}
 use Rattle.cv_context_values.proofs.Numbers.{count_sites}
 use Rattle.cv_context_served.proofs.Kept.{answer_not_plain, answers_are}
 

@@ -12,9 +12,9 @@ ghost use Rattle.cv_meaning.specs.Tapes.{Cell, Tape};
 ghost use Rattle.cv_meaning_chances.specs.Tests.{IsCoveredFor, IsOneToOne, renamed};
 ghost use Rattle.cv_meaning_contexts.specs.ContextAdvantage.{context_chance};
 ghost use Rattle.cv_meaning_contexts.specs.Groups.{Left};
-ghost use Rattle.cv_reductions.specs.Apt.{IsAptGame, IsTestApt};
-ghost use Rattle.cv_reductions.specs.Cells.{at_left};
-ghost use Rattle.cv_reductions.specs.Reductions.{Reduction, context_of_game, in_context, in_game};
+ghost use Rattle.cv_scenes.specs.Apt.{IsAptGame, IsTestApt};
+ghost use Rattle.cv_scenes.specs.Cells.{at_left};
+ghost use Rattle.cv_scenes.specs.Reductions.{Reduction, context_of_game, in_context, in_game};
 
 /// The cells of the key and of coins are swapped with those of the calls, each with one other.
 pub fn cells_are_swapped()

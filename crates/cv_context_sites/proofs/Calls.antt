@@ -9,8 +9,8 @@ use Rattle.cv_syntax.proofs.Equality.{same_tree_exact}
 use Rattle.cv_meaning_contexts.specs.Groups.{Function}
 use Rattle.cv_directory.specs.Sites.{first_of}
 use Rattle.cv_scenes.specs.Sights.{variable_of}
-use Rattle.cv_reductions.specs.Instances.{Call, Instance, IsInstance, Matching, are_of_types, call_at, call_by, filled, first_call, guess, is_argument_of, is_coin_of, is_instance, is_read_of}
-use Rattle.cv_reductions.specs.LeftTerms.{HasLeftTerms, IsLeftFunction}
+use Rattle.cv_scenes.specs.Instances.{Call, Instance, IsInstance, Matching, are_of_types, call_at, call_by, filled, first_call, guess, is_argument_of, is_coin_of, is_instance, is_read_of}
+use Rattle.cv_scenes.specs.LeftTerms.{HasLeftTerms, IsLeftFunction}
 use Rattle.cv_context_sites.specs.Calls.{IsCallAt}
 
 is_one : (M : Matching) (f : Function) (I : Instance) (t : Tree) → is_instance M f I t ≡ true → IsInstance M f I t

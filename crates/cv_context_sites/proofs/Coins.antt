@@ -12,12 +12,12 @@ use Rattle.cv_scope.specs.Context.{first_position, replications_below, second_po
 use Rattle.cv_scope.specs.declared.position.Position.{Position}
 use Rattle.cv_scope.specs.declared.position.Position.TheVariants.{Anywhere}
 use Rattle.cv_scenes.specs.Sights.{variable_of}
-use Rattle.cv_reductions.specs.Instances.{Call, Matching, call_at, filled, is_read_of, names_of, terms_of}
-use Rattle.cv_reductions.specs.Refusals.{uses}
-use Rattle.cv_reductions.specs.Sites.{Site, is_guard, sites_in}
-use Rattle.cv_reductions.specs.LeftTerms.{HasLeftTerms}
-use Rattle.cv_reductions.specs.Reductions.{Reduction, matching, sites}
-use Rattle.cv_reductions.specs.Cells.{Coin, at_left, coin_by, coin_from, is_that_coin, made_by, made_if, variable_by, variable_from}
+use Rattle.cv_scenes.specs.Instances.{Call, Matching, call_at, filled, is_read_of, names_of, terms_of}
+use Rattle.cv_scenes.specs.Refusals.{uses}
+use Rattle.cv_scenes.specs.Sites.{Site, is_guard, sites_in}
+use Rattle.cv_scenes.specs.LeftTerms.{HasLeftTerms}
+use Rattle.cv_scenes.specs.Reductions.{Reduction, matching, sites}
+use Rattle.cv_scenes.specs.Cells.{Coin, at_left, coin_by, coin_from, is_that_coin, made_by, made_if, variable_by, variable_from}
 use Rattle.cv_context_sites.specs.Calls.{IsCallAt}
 use Rattle.cv_context_sites.specs.Uses.{IsUsedAt, uses_outside}
 use Rattle.cv_context_sites.proofs.Calls.{call_found}

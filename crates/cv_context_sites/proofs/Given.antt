@@ -10,9 +10,9 @@ use Rattle.cv_syntax.specs.Tree.{Tree, Empty, Node, chain}
 use Rattle.cv_meaning_contexts.specs.Groups.{Function, Group}
 use Rattle.cv_scenes.specs.Sights.{variable_of}
 use Rattle.cv_derivations.specs.Given.{term_for}
-use Rattle.cv_reductions.specs.Instances.{Instance, Matching, are_of_types, is_argument_of, is_coin_of, is_read_of, names_of, terms_of}
-use Rattle.cv_reductions.specs.Refusals.{uses}
-use Rattle.cv_reductions.specs.LeftTerms.{IsLeftFunction}
+use Rattle.cv_scenes.specs.Instances.{Instance, Matching, are_of_types, is_argument_of, is_coin_of, is_read_of, names_of, terms_of}
+use Rattle.cv_scenes.specs.Refusals.{uses}
+use Rattle.cv_scenes.specs.LeftTerms.{IsLeftFunction}
 
 abbrev pub firsts : List (ℕ × ℕ) → List ℕ
 firsts xs = map (λ (x : ℕ × ℕ). x.0) xs

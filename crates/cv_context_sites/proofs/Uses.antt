@@ -9,10 +9,10 @@ use Rattle.cv_scope.specs.Phrases.{Nil, Term, Terms, is_phrase}
 use Rattle.cv_scope.specs.declared.position.Position.{Position}
 use Rattle.cv_scenes.specs.Scenes.{head_reads}
 use Rattle.cv_derivations.specs.Given.{or_node, term_for, with_given}
-use Rattle.cv_reductions.specs.Instances.{Call, Matching, call_at}
-use Rattle.cv_reductions.specs.Refusals.{uses}
-use Rattle.cv_reductions.specs.Sites.{Site, is_guard, sites_in}
-use Rattle.cv_reductions.specs.LeftTerms.{reads_no_array}
+use Rattle.cv_scenes.specs.Instances.{Call, Matching, call_at}
+use Rattle.cv_scenes.specs.Refusals.{uses}
+use Rattle.cv_scenes.specs.Sites.{Site, is_guard, sites_in}
+use Rattle.cv_scenes.specs.LeftTerms.{reads_no_array}
 use Rattle.cv_context_sites.specs.Uses.{IsUsedAt, uses_in, uses_outside}
 
 uses_in_both : (x : ℕ) (xs ys : List Site) → uses_in x (xs ++ ys) ≡ uses_in x xs + uses_in x ys

@@ -3,8 +3,8 @@ use Rattle.std.specs.Prelude.{◌≡◌, List, Some}
 use Rattle.cv_syntax.specs.Declarations.{Declaration}
 use Rattle.cv_syntax.specs.Tree.{Tree}
 use Rattle.cv_meaning_contexts.specs.Groups.{function_at}
-use Rattle.cv_reductions.specs.Instances.{Call, IsInstance, Matching}
-use Rattle.cv_reductions.specs.LeftTerms.{IsLeftFunction}
+use Rattle.cv_scenes.specs.Instances.{Call, IsInstance, Matching}
+use Rattle.cv_scenes.specs.LeftTerms.{IsLeftFunction}
 
 -- the term is an instance of the function, which stands at its position in the group
 pub record IsCallAt (ds : List Declaration) (M : Matching) (term : Tree) (c : Call) : Type 0 where

@@ -4,9 +4,9 @@ use Rattle.cv_syntax.specs.Tree.{Tree, Empty, Node}
 use Rattle.cv_scope.specs.declared.position.Position.{Position}
 use Rattle.cv_scope.specs.Context.{first_position, second_position}
 use Rattle.cv_scenes.specs.Scenes.{head_reads}
-use Rattle.cv_reductions.specs.Instances.{Matching, call_at}
-use Rattle.cv_reductions.specs.Refusals.{uses}
-use Rattle.cv_reductions.specs.Sites.{Site, is_guard}
+use Rattle.cv_scenes.specs.Instances.{Matching, call_at}
+use Rattle.cv_scenes.specs.Refusals.{uses}
+use Rattle.cv_scenes.specs.Sites.{Site, is_guard}
 
 -- outside sites; in `defined` lists and conditions each use counts
 unfoldable pub uses_outside : Matching → Position → ℕ → Tree → ℕ

@@ -9,12 +9,12 @@ ghost use Rattle.cv_scope.specs.Phrases.{Term, is_phrase};
 ghost use Rattle.cv_scope.specs.declared.position.Position.{Position};
 ghost use Rattle.cv_scenes.specs.Sights.{variable_of};
 ghost use Rattle.cv_derivations.specs.Given.{term_for, with_given};
-ghost use Rattle.cv_reductions.specs.Instances.{Call, Matching, call_at};
-ghost use Rattle.cv_reductions.specs.Refusals.{uses};
-ghost use Rattle.cv_reductions.specs.Sites.{Site, sites_in};
-ghost use Rattle.cv_reductions.specs.LeftTerms.{HasLeftTerms, reads_no_array};
-ghost use Rattle.cv_reductions.specs.Reductions.{Reduction, matching, sites};
-ghost use Rattle.cv_reductions.specs.Cells.{at_left};
+ghost use Rattle.cv_scenes.specs.Instances.{Call, Matching, call_at};
+ghost use Rattle.cv_scenes.specs.Refusals.{uses};
+ghost use Rattle.cv_scenes.specs.Sites.{Site, sites_in};
+ghost use Rattle.cv_scenes.specs.LeftTerms.{HasLeftTerms, reads_no_array};
+ghost use Rattle.cv_scenes.specs.Reductions.{Reduction, matching, sites};
+ghost use Rattle.cv_scenes.specs.Cells.{at_left};
 ghost use Rattle.cv_context_sites.specs.Calls.{IsCallAt};
 ghost use Rattle.cv_context_sites.specs.Uses.{IsUsedAt, uses_in, uses_outside};
 

@@ -14,9 +14,9 @@ use Rattle.cv_meaning_contexts.specs.Groups.{Group, Left, function_of, functions
 use Rattle.cv_scope.specs.Phrases.{Nil, Term, Terms, is_phrase}
 use Rattle.cv_group_rules.specs.Faults.{BoundNames, IsAccepted, LeftIsTerm, ReadNames}
 use Rattle.cv_group_rules.specs.Rules.{Around, are_read, around, each_function, functions_in, index_in, is_asked, is_asked_at, is_bound, is_one_binder, is_term, key_in, reads, side_is_bound, taken_names}
-use Rattle.cv_reductions.specs.Instances.{names_of}
-use Rattle.cv_reductions.specs.Refusals.{uses}
-use Rattle.cv_reductions.specs.LeftTerms.{HasLeftTerms, IsLeftFunction, is_name_or_constant, reads_no_array}
+use Rattle.cv_scenes.specs.Instances.{names_of}
+use Rattle.cv_scenes.specs.Refusals.{uses}
+use Rattle.cv_scenes.specs.LeftTerms.{HasLeftTerms, IsLeftFunction, is_name_or_constant, reads_no_array}
 use Rattle.cv_context_terms.specs.Forms.{HasLeftForm, is_whole}
 use Rattle.cv_context_terms.proofs.Names.{distinct_names, firsts, one_reversed, one_taken, same_names, used_names}
 

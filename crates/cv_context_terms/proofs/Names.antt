@@ -12,7 +12,7 @@ use Rattle.cv_meaning.specs.Correspondences.{typed_names}
 use Rattle.cv_meaning_adequacy.proofs.Lists.{or_cases}
 use Rattle.cv_meaning_contexts.specs.Groups.{function_of, key_of}
 use Rattle.cv_group_rules.specs.Rules.{are_read, is_one_binder, reads, taken_names}
-use Rattle.cv_reductions.specs.Refusals.{uses}
+use Rattle.cv_scenes.specs.Refusals.{uses}
 
 abbrev pub firsts : List (ℕ × ℕ) → List ℕ
 firsts xs = map (λ (x : ℕ × ℕ). x.0) xs

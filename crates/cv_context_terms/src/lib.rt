@@ -7,7 +7,7 @@ ghost use Rattle.cv_syntax.specs.Tree.{Tree};
 ghost use Rattle.cv_meaning.specs.Interpretation.{is_constant_of};
 ghost use Rattle.cv_meaning_contexts.specs.Groups.{Left, side_group};
 ghost use Rattle.cv_group_rules.specs.Faults.{IsAccepted};
-ghost use Rattle.cv_reductions.specs.LeftTerms.{HasLeftTerms};
+ghost use Rattle.cv_scenes.specs.LeftTerms.{HasLeftTerms};
 ghost use Rattle.cv_context_terms.specs.Forms.{HasLeftForm};
 
 /// The left bodies of an equivalence that keeps the rules of groups are terms over the names of their functions,

@@ -18,9 +18,9 @@ use Rattle.cv_meaning_contexts.specs.Finds.{Oracles}
 use Rattle.cv_meaning_contexts.specs.Bodies.{begun, body_answer, function_answer, function_called, reply, with_arguments, with_coins}
 use Rattle.cv_scope.specs.Phrases.{Term, is_phrase}
 use Rattle.cv_scope.specs.Phrases.{HasConstantsOf}
-use Rattle.cv_reductions.specs.Instances.{Instance, filled, names_of, terms_of}
-use Rattle.cv_reductions.specs.LeftTerms.{IsLeftFunction}
-use Rattle.cv_reductions.specs.Standing.{AreAsMany, AreDrawn, HasNoConstant, HasValuesOf}
+use Rattle.cv_scenes.specs.Instances.{Instance, filled, names_of, terms_of}
+use Rattle.cv_scenes.specs.LeftTerms.{IsLeftFunction}
+use Rattle.cv_scenes.specs.Standing.{AreAsMany, AreDrawn, HasNoConstant, HasValuesOf}
 use Rattle.cv_context_values.proofs.Values.{Stand, filled_value}
 
 module _ (g : Setting) (at : Indices) (m : Store) (t : Tape) where

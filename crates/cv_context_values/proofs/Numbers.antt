@@ -4,10 +4,10 @@ use Rattle.std.proofs.lemmas.List.{length-append}
 use Rattle.cv_syntax.specs.Tree.{Tree, Empty, Node, first_place, second_place}
 use Rattle.cv_scope.specs.Context.{first_position, replications_below, second_position}
 use Rattle.cv_scope.specs.declared.position.Position.{Position}
-use Rattle.cv_reductions.specs.Instances.{Call, Matching, call_at}
-use Rattle.cv_reductions.specs.Sites.{Site, is_guard, sites_in}
-use Rattle.cv_reductions.specs.Contexts.{context_in}
-use Rattle.cv_reductions.specs.Reductions.{Reduction, is_coin, matching}
+use Rattle.cv_scenes.specs.Instances.{Call, Matching, call_at}
+use Rattle.cv_scenes.specs.Sites.{Site, is_guard, sites_in}
+use Rattle.cv_scenes.specs.Contexts.{context_in}
+use Rattle.cv_scenes.specs.Reductions.{Reduction, is_coin, matching}
 
 -- the tree in the context
 abbrev pub context : Reduction → Position → List (ℕ × ℕ) → ℕ → Tree → Tree

@@ -11,8 +11,8 @@ use Rattle.cv_meaning_contexts.specs.Frames.{Frame, IsValue, Meaning, meaning_of
 use Rattle.cv_meaning_contexts.specs.BodyTerms.{are_equal, body_value, body_values, call_at, call_meant, plain_value}
 use Rattle.cv_scope.specs.Phrases.{Term, Terms, is_phrase}
 use Rattle.cv_derivations.specs.Given.{or_node, term_for, with_given}
-use Rattle.cv_reductions.specs.LeftTerms.{reads_no_array}
-use Rattle.cv_reductions.specs.Standing.{HasNoConstant}
+use Rattle.cv_scenes.specs.LeftTerms.{reads_no_array}
+use Rattle.cv_scenes.specs.Standing.{HasNoConstant}
 
 module _ (g : Setting) (at : Indices) (m : Store) where
   -- names, what is given for them, and what they stand for

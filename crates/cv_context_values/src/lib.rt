@@ -11,9 +11,9 @@ ghost use Rattle.cv_meaning_contexts.specs.Groups.{Function};
 ghost use Rattle.cv_meaning_contexts.specs.Finds.{Oracles};
 ghost use Rattle.cv_meaning_contexts.specs.Bodies.{function_called, reply};
 ghost use Rattle.cv_scope.specs.Phrases.{HasConstantsOf};
-ghost use Rattle.cv_reductions.specs.Instances.{Instance, filled};
-ghost use Rattle.cv_reductions.specs.LeftTerms.{IsLeftFunction};
-ghost use Rattle.cv_reductions.specs.Standing.{HasNoConstant, HasValuesOf};
+ghost use Rattle.cv_scenes.specs.Instances.{Instance, filled};
+ghost use Rattle.cv_scenes.specs.LeftTerms.{IsLeftFunction};
+ghost use Rattle.cv_scenes.specs.Standing.{HasNoConstant, HasValuesOf};
 
 /// A left function answers a call with the value of the body that is filled with an instance's terms, where
 /// these have the values of the call: the key's, those that are drawn for the coins, and the arguments. So it

@@ -11,7 +11,7 @@ use Rattle.cv_scope.specs.Sites.{Site, Variable, sites_from, sites_here}
 use Rattle.cv_scope.specs.declared.position.Position.{Position}
 use Rattle.cv_scope.specs.declared.position.Position.TheVariants.{Anywhere}
 use Rattle.cv_scope.proofs.Pairs.{all-append, all-left, all-right, all-weaker, each-append, pairs-append}
-use Rattle.cv_reductions.specs.Reductions.{Reduction, sites}
+use Rattle.cv_scenes.specs.Reductions.{Reduction, sites}
 use Rattle.cv_context_served.proofs.Kept.{answers_are}
 use Rattle.cv_context_whole.proofs.Becoming.{AreCalls, none, call, Becomes, still, node, coin, key, statement, IsNoAnswer, is_answer_name, is_still}
 use Rattle.cv_context_whole.proofs.Sites.{IsAnswerFrom, IsFrom, IsMoved, IsOne, calls_ordered, like_here, moved_here, no_answers, no_sites, one_left, one_right, ordered, still_apart}

@@ -9,7 +9,7 @@ use Rattle.cv_scope.specs.Context.{first_position, replications_below, second_po
 use Rattle.cv_scope.specs.Sites.{Site, SiteName, Variable, sites_here}
 use Rattle.cv_scope.specs.declared.position.Position.{Position}
 use Rattle.cv_scope.specs.declared.position.Position.TheVariants.{Anywhere}
-use Rattle.cv_reductions.specs.Reductions.{Reduction, is_answer}
+use Rattle.cv_scenes.specs.Reductions.{Reduction, is_answer}
 
 -- trees of terms and of lists, which define nothing
 

@@ -11,10 +11,10 @@ use Rattle.cv_scope.specs.Context.{first_position, replications_below, second_po
 use Rattle.cv_scope.specs.Phrases.{Nil, Term, Terms, is_phrase}
 use Rattle.cv_scope.specs.declared.position.Position.{Position}
 use Rattle.cv_scope.proofs.Pairs.{all-append}
-use Rattle.cv_reductions.specs.Instances.{Call, Matching, call_at, names_of, terms_of}
-use Rattle.cv_reductions.specs.LeftTerms.{HasLeftTerms, reads_no_array}
-use Rattle.cv_reductions.specs.Refusals.{uses}
-use Rattle.cv_reductions.specs.Sites.{Site, is_guard, sites_in}
+use Rattle.cv_scenes.specs.Instances.{Call, Matching, call_at, names_of, terms_of}
+use Rattle.cv_scenes.specs.LeftTerms.{HasLeftTerms, reads_no_array}
+use Rattle.cv_scenes.specs.Refusals.{uses}
+use Rattle.cv_scenes.specs.Sites.{Site, is_guard, sites_in}
 use Rattle.cv_context_sites.proofs.Calls.{call_found}
 use Rattle.cv_context_sites.proofs.Given.{Given, firsts, look_at, stands_for}
 

@@ -21,12 +21,12 @@ use Rattle.cv_scope.proofs.Apart.{IsApart, IsBefore, IsWithin, before-first, bef
 use Rattle.cv_scope.proofs.Pairs.{all-left, pairs-of}
 use Rattle.cv_scope_runs.proofs.Rows.{walks}
 use Rattle.cv_scenes.specs.Sights.{variable_of}
-use Rattle.cv_reductions.specs.Instances.{Call}
-use Rattle.cv_reductions.specs.Sites.{Site as CallSite}
-use Rattle.cv_reductions.specs.Contexts.{after_calls, call_terms, in_context}
-use Rattle.cv_reductions.specs.LeftTerms.{HasLeftTerms}
-use Rattle.cv_reductions.specs.Reductions.{Reduction, is_coin, is_plain, matching}
-use Rattle.cv_reductions.specs.Apt.{AreSitesApt, AreTermsApt, IsApt, IsAptGame, are_cells_apt, inside, is_cell_apt, sites_inside}
+use Rattle.cv_scenes.specs.Instances.{Call}
+use Rattle.cv_scenes.specs.Sites.{Site as CallSite}
+use Rattle.cv_scenes.specs.Contexts.{after_calls, call_terms, in_context}
+use Rattle.cv_scenes.specs.LeftTerms.{HasLeftTerms}
+use Rattle.cv_scenes.specs.Reductions.{Reduction, is_coin, is_plain, matching}
+use Rattle.cv_scenes.specs.Apt.{AreSitesApt, AreTermsApt, IsApt, IsAptGame, are_cells_apt, inside, is_cell_apt, sites_inside}
 use Rattle.cv_context_values.proofs.Numbers.{context}
 use Rattle.cv_context_formed.specs.Rules.{AreKept}
 use Rattle.cv_inline_expected.specs.Fine.{has_free_indices, reads_no_call}

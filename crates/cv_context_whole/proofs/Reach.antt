@@ -12,7 +12,7 @@ use Rattle.cv_scope.specs.Sites.{named_here}
 use Rattle.cv_scope.specs.declared.position.Position.TheVariants.{Anywhere}
 use Rattle.cv_scope.proofs.Pairs.{all-weaker}
 use Rattle.cv_scenes.specs.Sights.{variable_of}
-use Rattle.cv_reductions.specs.Reductions.{Reduction, is_coin, is_plain}
+use Rattle.cv_scenes.specs.Reductions.{Reduction, is_coin, is_plain}
 use Rattle.cv_context_formed.specs.Rules.{AreKept}
 use Rattle.cv_context_whole.proofs.Becoming.{is_still, is_still_head}
 

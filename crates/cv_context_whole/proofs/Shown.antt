@@ -15,12 +15,12 @@ use Rattle.cv_scope.specs.declared.position.Position.{Position}
 use Rattle.cv_scope.specs.declared.position.Position.TheVariants as position
 use Rattle.cv_scope.proofs.Pairs.{all-append}
 use Rattle.cv_scope_runs.proofs.Rows.{walks}
-use Rattle.cv_reductions.specs.Instances.{Call, call_at}
-use Rattle.cv_reductions.specs.Sites.{Site, is_guard, sites_in}
-use Rattle.cv_reductions.specs.Contexts.{after_calls, call_terms, in_context, is_statement}
-use Rattle.cv_reductions.specs.LeftTerms.{HasLeftTerms}
-use Rattle.cv_reductions.specs.Reductions.{Reduction, context_of_game, is_answer, is_coin, is_plain, matching, sites}
-use Rattle.cv_reductions.specs.Apt.{IsApt, IsAptGame, has_value, inside, sites_inside}
+use Rattle.cv_scenes.specs.Instances.{Call, call_at}
+use Rattle.cv_scenes.specs.Sites.{Site, is_guard, sites_in}
+use Rattle.cv_scenes.specs.Contexts.{after_calls, call_terms, in_context, is_statement}
+use Rattle.cv_scenes.specs.LeftTerms.{HasLeftTerms}
+use Rattle.cv_scenes.specs.Reductions.{Reduction, context_of_game, is_answer, is_coin, is_plain, matching, sites}
+use Rattle.cv_scenes.specs.Apt.{IsApt, IsAptGame, has_value, inside, sites_inside}
 use Rattle.cv_context_values.proofs.Numbers.{context, count_sites}
 use Rattle.cv_context_formed.proofs.Terms.{children}
 use Rattle.cv_inline_expected.proofs.Nodes.{binders_in, by_call, empty_in, node_by, node_in, pattern_in, plain_node}

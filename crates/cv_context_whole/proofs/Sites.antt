@@ -13,7 +13,7 @@ use Rattle.cv_scope.specs.Sites.{Channel, Site, Variable, channel_here, site_of,
 use Rattle.cv_scope.specs.declared.position.Position.{Position}
 use Rattle.cv_scope.specs.declared.position.Position.TheVariants.{Anywhere}
 use Rattle.cv_scope.proofs.Pairs.{all-append, all-map, all-true, all-weaker, pairs-append}
-use Rattle.cv_reductions.specs.Reductions.{Reduction}
+use Rattle.cv_scenes.specs.Reductions.{Reduction}
 use Rattle.cv_context_whole.proofs.Becoming.{AreCalls, none, call, Becomes, still, node, coin, key, statement, IsNoAnswer, is_still, is_still_head}
 
 -- one of a list

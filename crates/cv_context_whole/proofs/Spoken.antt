@@ -11,12 +11,12 @@ use Rattle.cv_scope.specs.Rules.{IsAmong, Names, ReadsInReach}
 use Rattle.cv_scope.specs.declared.position.Position.TheVariants.{Anywhere}
 use Rattle.cv_scope_runs.proofs.Rows.{walks}
 use Rattle.cv_scenes.specs.Sights.{variable_of}
-use Rattle.cv_reductions.specs.Instances.{Call, call_at}
-use Rattle.cv_reductions.specs.Sites.{Site, sites_in}
-use Rattle.cv_reductions.specs.Contexts.{call_terms}
-use Rattle.cv_reductions.specs.Reductions.{Reduction, is_coin, is_plain, matching}
-use Rattle.cv_reductions.specs.Apt.{IsAptGame, IsSiteApt, reads_outside}
-use Rattle.cv_reductions.specs.LeftTerms.{HasLeftTerms}
+use Rattle.cv_scenes.specs.Instances.{Call, call_at}
+use Rattle.cv_scenes.specs.Sites.{Site, sites_in}
+use Rattle.cv_scenes.specs.Contexts.{call_terms}
+use Rattle.cv_scenes.specs.Reductions.{Reduction, is_coin, is_plain, matching}
+use Rattle.cv_scenes.specs.Apt.{IsAptGame, IsSiteApt, reads_outside}
+use Rattle.cv_scenes.specs.LeftTerms.{HasLeftTerms}
 use Rattle.cv_context_values.proofs.Numbers.{context}
 use Rattle.cv_context_formed.proofs.Terms.{children}
 use Rattle.cv_inline_expected.specs.Fine.{has_free_indices, reads_no_call}

@@ -10,7 +10,7 @@ use Rattle.cv_directory.specs.declared.sort.Sort.TheVariants.{OfType}
 use Rattle.cv_scope.specs.Scope.{is_variable}
 use Rattle.cv_scope.specs.declared.position.Position.{Position}
 use Rattle.cv_scope.specs.declared.position.Position.TheVariants.{Anywhere}
-use Rattle.cv_reductions.specs.Reductions.{Reduction, is_answer, is_plain, sites}
+use Rattle.cv_scenes.specs.Reductions.{Reduction, is_answer, is_plain, sites}
 use Rattle.cv_context_served.proofs.Kept.{answers_are}
 use Rattle.cv_context_whole.proofs.Becoming.{AreCalls, none, call, Becomes, still, node, coin, key, statement, is_still, is_still_head}
 use Rattle.cv_context_whole.proofs.Sites.{calls_ordered, ordered}

@@ -4,9 +4,9 @@ use Rattle.cv_scope.specs.Context.{nothing_known}
 use Rattle.cv_scope.specs.Scope.{names_of}
 use Rattle.cv_scope.specs.Standing.{at_root}
 use Rattle.cv_scope.specs.declared.position.Position.TheVariants.{Anywhere}
-use Rattle.cv_reductions.specs.Apt.{IsAptGame}
-use Rattle.cv_reductions.specs.LeftTerms.{HasLeftTerms}
-use Rattle.cv_reductions.specs.Reductions.{Reduction, context_of_game, matching}
+use Rattle.cv_scenes.specs.Apt.{IsAptGame}
+use Rattle.cv_scenes.specs.LeftTerms.{HasLeftTerms}
+use Rattle.cv_scenes.specs.Reductions.{Reduction, context_of_game, matching}
 use Rattle.cv_context_formed.specs.Rules.{AreKept}
 use Rattle.cv_inline_expected.specs.Fine.{has_free_indices}
 use Rattle.cv_context_whole.proofs.Kept.{inputs_kept, scoped_kept}

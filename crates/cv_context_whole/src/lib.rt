@@ -7,9 +7,9 @@ ghost use Rattle.cv_scope.specs.Context.{nothing_known};
 ghost use Rattle.cv_scope.specs.Phrases.{IsWellFormedContext};
 ghost use Rattle.cv_scope.specs.Scope.{names_of};
 ghost use Rattle.cv_scope.specs.declared.position.Position.TheVariants.{Anywhere};
-ghost use Rattle.cv_reductions.specs.Apt.{IsAptGame};
-ghost use Rattle.cv_reductions.specs.LeftTerms.{HasLeftTerms};
-ghost use Rattle.cv_reductions.specs.Reductions.{Reduction, context_of_game, matching};
+ghost use Rattle.cv_scenes.specs.Apt.{IsAptGame};
+ghost use Rattle.cv_scenes.specs.LeftTerms.{HasLeftTerms};
+ghost use Rattle.cv_scenes.specs.Reductions.{Reduction, context_of_game, matching};
 ghost use Rattle.cv_context_formed.specs.Rules.{AreKept};
 ghost use Rattle.cv_inline_expected.specs.Fine.{has_free_indices};
 

@@ -7,7 +7,7 @@ use Rattle.cv_syntax.specs.Tree.{Tree}
 use Rattle.cv_meaning.specs.Interpretation.{Interpretation}
 use Rattle.cv_meaning.specs.Runs.{Answer, Calls, Move}
 use Rattle.cv_meaning.specs.Terms.{bit}
-use Rattle.cv_reductions.specs.Reductions.{Reduction}
+use Rattle.cv_scenes.specs.Reductions.{Reduction}
 use Rattle.cv_match_laws.specs.Worked.{answer, authentication, game, scene}
 
 -- all sizes and parameters are two; 11 and 13 test whether a tag is right, 10 and 12 make one

@@ -12,7 +12,7 @@ use Rattle.cv_meaning.specs.Interpretation.{Interpretation}
 use Rattle.cv_meaning.specs.Runs.{Answer, Calls, Guesses, Move, Replied, Tests, Told}
 use Rattle.cv_meaning.specs.Serving.{Sent}
 use Rattle.cv_scenes.specs.Scenes.{Scene}
-use Rattle.cv_reductions.specs.Reductions.{Reduction}
+use Rattle.cv_scenes.specs.Reductions.{Reduction}
 
 -- 0 is bool, 1 plain, 2 key, 3 coins, 4 cipher; 6: plain; 10(plain, key, coins): cipher and 11 of the same types
 abbrev pub declarations : List Declaration

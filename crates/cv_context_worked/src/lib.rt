@@ -8,8 +8,8 @@ ghost use Rattle.cv_meaning.specs.Runs.{Random, Real};
 ghost use Rattle.cv_meaning_contexts.specs.ContextAdvantage.{context_chance};
 ghost use Rattle.cv_meaning_contexts.specs.Groups.{Left, Right};
 ghost use Rattle.cv_meaning_laws.specs.Worked.{adversary};
-ghost use Rattle.cv_reductions.specs.Reductions.{context_of_game, in_game, matching};
-ghost use Rattle.cv_reductions.specs.Refusals.{first_refusal};
+ghost use Rattle.cv_scenes.specs.Reductions.{context_of_game, in_game, matching};
+ghost use Rattle.cv_scenes.specs.Refusals.{first_refusal};
 ghost use Rattle.cv_context_worked.specs.Authentication.{accepted_query, authenticated, forges, parity};
 ghost use Rattle.cv_context_worked.specs.Encryption.{compares, encrypted, encryptions, secret};
 

@@ -8,11 +8,11 @@ use Rattle.cv_scope.specs.Made.{is_bound, made_by}
 use Rattle.cv_scope.specs.Phrases.{Arm, Binders, Body, Branches, Cells, Else, Guarded, Guards, Indices as Names, Inputs, Message, Nil, Pattern, Term, Terms, Then, is_phrase}
 use Rattle.cv_scope.specs.Sites.{Variable}
 use Rattle.cv_scope.specs.declared.position.Position.TheVariants as position
-use Rattle.cv_reductions.specs.Instances.{call_at}
-use Rattle.cv_reductions.specs.Sites.{Site, sites_in}
-use Rattle.cv_reductions.specs.Contexts.{after_calls}
-use Rattle.cv_reductions.specs.Reductions.{Reduction, context_of_game, is_answer, is_coin, is_plain, matching}
-use Rattle.cv_reductions.specs.Apt.{AreBindersPlain, IsApt, IsAptGame, has_value, inside}
+use Rattle.cv_scenes.specs.Instances.{call_at}
+use Rattle.cv_scenes.specs.Sites.{Site, sites_in}
+use Rattle.cv_scenes.specs.Contexts.{after_calls}
+use Rattle.cv_scenes.specs.Reductions.{Reduction, context_of_game, is_answer, is_coin, is_plain, matching}
+use Rattle.cv_scenes.specs.Apt.{AreBindersPlain, IsApt, IsAptGame, has_value, inside}
 use Rattle.cv_context_values.proofs.Numbers.{context}
 use Rattle.cv_inline_bodies.specs.Inlined.{index_terms}
 use Rattle.cv_inline_bodies.specs.Roles.{Plain}

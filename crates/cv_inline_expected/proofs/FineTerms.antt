@@ -9,10 +9,10 @@ use Rattle.cv_scope.specs.Context.{cell_of, first_position, replications_below, 
 use Rattle.cv_scope.specs.Phrases.{Cells, OneCell, Term, Terms, is_phrase}
 use Rattle.cv_scope.specs.declared.position.Position.TheVariants as position
 use Rattle.cv_scenes.specs.Scenes.{names}
-use Rattle.cv_reductions.specs.Instances.{Call, call_at}
-use Rattle.cv_reductions.specs.Sites.{Site, sites_in}
-use Rattle.cv_reductions.specs.Reductions.{Reduction, is_plain, matching}
-use Rattle.cv_reductions.specs.Apt.{are_cells_apt, has_value, reads_outside}
+use Rattle.cv_scenes.specs.Instances.{Call, call_at}
+use Rattle.cv_scenes.specs.Sites.{Site, sites_in}
+use Rattle.cv_scenes.specs.Reductions.{Reduction, is_plain, matching}
+use Rattle.cv_scenes.specs.Apt.{are_cells_apt, has_value, reads_outside}
 use Rattle.cv_context_values.proofs.Numbers.{context, count_sites}
 use Rattle.cv_inline_bodies.specs.Inlined.{index_terms}
 use Rattle.cv_inline_runs.specs.Contexts.{Answers, AreCells, AreFineIn, IsAnswer, IsFineIn, ordinary_in}

@@ -8,11 +8,11 @@ use Rattle.cv_scope.specs.Context.{cell_of, first_position, replications_below, 
 use Rattle.cv_scope.specs.Phrases.{Binders, Indices as Names, Nil, Pattern, Term, Terms, is_phrase}
 use Rattle.cv_scope.specs.declared.position.Position.{Position}
 use Rattle.cv_scope.specs.declared.position.Position.TheVariants as position
-use Rattle.cv_reductions.specs.Instances.{Call, call_at}
-use Rattle.cv_reductions.specs.Sites.{is_guard}
-use Rattle.cv_reductions.specs.Contexts.{after_calls, context_in, in_context, is_statement}
-use Rattle.cv_reductions.specs.Reductions.{Reduction, is_coin, matching}
-use Rattle.cv_reductions.specs.Apt.{has_value, inside}
+use Rattle.cv_scenes.specs.Instances.{Call, call_at}
+use Rattle.cv_scenes.specs.Sites.{is_guard}
+use Rattle.cv_scenes.specs.Contexts.{after_calls, context_in, in_context, is_statement}
+use Rattle.cv_scenes.specs.Reductions.{Reduction, is_coin, matching}
+use Rattle.cv_scenes.specs.Apt.{has_value, inside}
 use Rattle.cv_context_values.proofs.Numbers.{context}
 use Rattle.cv_inline_expected.specs.Fine.{has_no_call}
 

@@ -5,8 +5,8 @@ use Rattle.cv_meaning.specs.Runs.{Adversary, Mode}
 use Rattle.cv_meaning.specs.Tapes.{cells_of}
 use Rattle.cv_meaning_runs.specs.Agreement.{AgreeAt}
 use Rattle.cv_scope.specs.Phrases.{HasConstantsOf, IsWellFormedContext}
-use Rattle.cv_reductions.specs.Apt.{IsAptGame}
-use Rattle.cv_reductions.specs.Reductions.{Reduction, context_of_game, matching}
+use Rattle.cv_scenes.specs.Apt.{IsAptGame}
+use Rattle.cv_scenes.specs.Reductions.{Reduction, context_of_game, matching}
 use Rattle.cv_inline_runs.specs.Contexts.{AreLikeTapes, IsAskedAlike, context_setting}
 use Rattle.cv_inline_runs.specs.Texts.{Text}
 use Rattle.cv_inline_expected.specs.CallTexts.{HasCallTexts}

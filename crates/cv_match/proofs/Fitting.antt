@@ -16,9 +16,9 @@ use Rattle.cv_meaning_contexts.specs.Groups.{Function, Group, Left, functions_of
 use Rattle.cv_scope.specs.declared.position.Position.{Position}
 use Rattle.cv_scope.specs.declared.position.Position.TheVariants.{Anywhere}
 use Rattle.cv_scope.specs.Context.{first_position, replications_below, second_position}
-use Rattle.cv_reductions.specs.Instances.{Call, Instance, Matching, call_at, call_by, first_call, instance_of}
-use Rattle.cv_reductions.specs.Sites as instances
-use Rattle.cv_reductions.specs.Sites.{is_guard, sites_in, sites_of}
+use Rattle.cv_scenes.specs.Instances.{Call, Instance, Matching, call_at, call_by, first_call, instance_of}
+use Rattle.cv_scenes.specs.Sites as instances
+use Rattle.cv_scenes.specs.Sites.{is_guard, sites_in, sites_of}
 use Rattle.cv_match_patterns.specs.declared.site.Site.{Site}
 use Rattle.cv_match_patterns.specs.Sites.{site_in}
 use Rattle.cv_match.specs.Fitting.{IsSmallSite}

@@ -8,9 +8,9 @@ use Rattle.cv_syntax.proofs.Trees.{tree_of-NoTree}
 use Rattle.cv_meaning.specs.Correspondences.{typed_names}
 use Rattle.cv_scenes.specs.Scenes.{is_queried}
 use Rattle.cv_scenes.specs.Sights.{variable_of}
-use Rattle.cv_reductions.specs.Instances.{Matching}
-use Rattle.cv_reductions.specs.Refusals.{are_coins, has_key, is_coin, is_of_type, new_of, stands_under}
-use Rattle.cv_reductions.specs.Sites.{Site}
+use Rattle.cv_scenes.specs.Instances.{Matching}
+use Rattle.cv_scenes.specs.Refusals.{are_coins, has_key, is_coin, is_of_type, new_of, stands_under}
+use Rattle.cv_scenes.specs.Sites.{Site}
 use Rattle.cv_match.specs.Fitting.{is_own_use}
 
 pub ruleset first = (tree_of-NoTree)

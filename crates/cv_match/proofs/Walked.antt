@@ -7,9 +7,9 @@ use Rattle.cv_directory.specs.Sites.{first_of}
 use Rattle.cv_scope.specs.declared.position.Position.{Position}
 use Rattle.cv_scope.specs.Context.{first_position, replications_below, second_position}
 use Rattle.cv_scenes.specs.Scenes.{first_reading, head_reads}
-use Rattle.cv_reductions.specs.Instances.{Call, Matching, call_at}
-use Rattle.cv_reductions.specs.Refusals.{first_in_arguments, first_use, is_name_of}
-use Rattle.cv_reductions.specs.Sites.{Site, is_guard, sites_in}
+use Rattle.cv_scenes.specs.Instances.{Call, Matching, call_at}
+use Rattle.cv_scenes.specs.Refusals.{first_in_arguments, first_use, is_name_of}
+use Rattle.cv_scenes.specs.Sites.{Site, is_guard, sites_in}
 use Rattle.cv_match.specs.Walks.{sites_unless, use_unless}
 
 -- reads outside instances

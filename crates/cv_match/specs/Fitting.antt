@@ -5,9 +5,9 @@ use Rattle.cv_syntax.specs.Tree.{Tree, same_tree, size, tree_at}
 use Rattle.cv_scope.specs.Context.{cell_of}
 use Rattle.cv_scenes.specs.Scenes.{is_queried}
 use Rattle.cv_meaning_contexts.specs.Groups.{function_of}
-use Rattle.cv_reductions.specs.Instances.{Matching}
-use Rattle.cv_reductions.specs.Refusals.{are_coins, first_in_arguments, uses}
-use Rattle.cv_reductions.specs.Sites as instances
+use Rattle.cv_scenes.specs.Instances.{Matching}
+use Rattle.cv_scenes.specs.Refusals.{are_coins, first_in_arguments, uses}
+use Rattle.cv_scenes.specs.Sites as instances
 use Rattle.cv_match_patterns.specs.declared.site.Site.{Site}
 
 -- the places of its term and the size of its function's body fit in 32 bits

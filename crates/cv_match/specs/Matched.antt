@@ -8,10 +8,10 @@ use Rattle.cv_meaning_contexts.specs.Groups.{Left, side_group}
 use Rattle.cv_directory.specs.Sites.{first_of}
 use Rattle.cv_scope.specs.declared.position.Position.TheVariants.{Anywhere}
 use Rattle.cv_rule_scenes.specs.Kept.{scene_of}
-use Rattle.cv_reductions.specs.Instances.{Matching}
-use Rattle.cv_reductions.specs.Refusals as refusals
-use Rattle.cv_reductions.specs.Refusals.{Refusal, at_place, first_argument_use, first_coin_use, first_in_condition, first_use, has_key}
-use Rattle.cv_reductions.specs.Sites.{Site}
+use Rattle.cv_scenes.specs.Instances.{Matching}
+use Rattle.cv_scenes.specs.Refusals as refusals
+use Rattle.cv_scenes.specs.Refusals.{Refusal, at_place, first_argument_use, first_coin_use, first_in_condition, first_use, has_key}
+use Rattle.cv_scenes.specs.Sites.{Site}
 use Rattle.cv_match.specs.declared.fault.MatchFault.{MatchFault}
 use Rattle.cv_match.specs.declared.fault.MatchFault.TheVariants as fault
 

@@ -2,9 +2,9 @@
 use Rattle.std.specs.Prelude.{ℕ, Bool, if◌then◌else◌, List, [], Option, None}
 use Rattle.cv_syntax.specs.Tree.{Tree}
 use Rattle.cv_scope.specs.declared.position.Position.{Position}
-use Rattle.cv_reductions.specs.Instances.{Matching}
-use Rattle.cv_reductions.specs.Refusals.{first_use}
-use Rattle.cv_reductions.specs.Sites.{Site, sites_in}
+use Rattle.cv_scenes.specs.Instances.{Matching}
+use Rattle.cv_scenes.specs.Refusals.{first_use}
+use Rattle.cv_scenes.specs.Sites.{Site, sites_in}
 
 unfoldable pub sites_unless : (skip : Bool) → Matching → Position → List (ℕ × ℕ) → ℕ → Tree → List Site
 sites_unless skip M w rs p t = if skip then [] else sites_in M w rs p t

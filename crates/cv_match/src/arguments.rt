@@ -1,5 +1,5 @@
 ghost use Rattle.std.specs.Prelude.{◌≡◌, All, length, map};
-ghost use Rattle.cv_reductions.specs.Refusals as refusals;
+ghost use Rattle.cv_scenes.specs.Refusals as refusals;
 ghost use Rattle.cv_match_patterns.specs.Searches.{matching_by};
 ghost use Rattle.cv_match_patterns.specs.Sites.{IsLiveSite, site_in};
 ghost use Rattle.cv_match.specs.Fitting.{IsSmallSite, use_at};

@@ -2,8 +2,8 @@ ghost use Rattle.std.specs.Prelude.{◌≡◌, ℕ, List, ◌∷◌, ◌+◌, �
 ghost use Rattle.cv_pool.specs.KindTree.{KindTree};
 ghost use Rattle.cv_pool.specs.Nodes.{ChildBelow};
 ghost use Rattle.cv_syntax.specs.Tree.{size, tree_at};
-ghost use Rattle.cv_reductions.specs.Instances.{Matching};
-ghost use Rattle.cv_reductions.specs.Sites.{sites_of};
+ghost use Rattle.cv_scenes.specs.Instances.{Matching};
+ghost use Rattle.cv_scenes.specs.Sites.{sites_of};
 ghost use Rattle.cv_match_patterns.specs.Searches.{IsReady, matching_by};
 ghost use Rattle.cv_match_patterns.specs.Sites.{HasInstance, IsInstanceIn, IsLiveSite, found_call, found_site, site_in};
 ghost use Rattle.cv_match.specs.Walks.{sites_unless};

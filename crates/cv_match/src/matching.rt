@@ -2,8 +2,8 @@ ghost use Rattle.std.specs.Prelude.{◌≡◌, ◌<◌, ◌^◌, All, IfErr, IfO
 ghost use Rattle.cv_syntax.specs.Classes.{equiv_in};
 ghost use Rattle.cv_syntax.specs.Tree.{size, tree_at};
 ghost use Rattle.cv_typing.specs.Lookups.{IsLive};
-ghost use Rattle.cv_reductions.specs.Refusals.{first_refusal};
-ghost use Rattle.cv_reductions.specs.Sites.{sites_of};
+ghost use Rattle.cv_scenes.specs.Refusals.{first_refusal};
+ghost use Rattle.cv_scenes.specs.Sites.{sites_of};
 ghost use Rattle.cv_match_patterns.specs.Searches.{IsReady, matching_by};
 ghost use Rattle.cv_match_patterns.specs.Sites.{HasInstance, IsLiveSite, site_in};
 ghost use Rattle.cv_match_uses.specs.Tallies.{IsTableOf};

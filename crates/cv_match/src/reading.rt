@@ -2,8 +2,8 @@ ghost use Rattle.std.specs.Prelude.{◌≡◌, ◌+◌, ◌<◌, ◌^◌, IfErr,
 ghost use Rattle.cv_pool.specs.Nodes.{ChildBelow};
 ghost use Rattle.cv_syntax.specs.Tree.{size, tree_at};
 ghost use Rattle.cv_meaning_contexts.specs.Groups.{function_of};
-ghost use Rattle.cv_reductions.specs.Refusals as refusals;
-ghost use Rattle.cv_reductions.specs.Sites as instances;
+ghost use Rattle.cv_scenes.specs.Refusals as refusals;
+ghost use Rattle.cv_scenes.specs.Sites as instances;
 ghost use Rattle.cv_match_patterns.specs.Searches.{IsReady, matching_by};
 ghost use Rattle.cv_match.specs.Walks.{use_unless};
 

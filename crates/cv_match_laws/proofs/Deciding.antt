@@ -9,7 +9,7 @@ use Rattle.cv_syntax.proofs.Sames.{same_tree-self}
 use Rattle.cv_meaning_contexts.specs.Groups.{Function, Group}
 use Rattle.cv_scenes.specs.Scenes.{or_empty}
 use Rattle.cv_scenes.specs.Sights.{variable_of}
-use Rattle.cv_reductions.specs.Instances.{Instance, IsInstance, Matching, are_of_types, filled, guess, instance_of, is_argument_of, is_coin_of, is_instance, is_read_of, names_of, standing_for, term_for, terms_of}
+use Rattle.cv_scenes.specs.Instances.{Instance, IsInstance, Matching, are_of_types, filled, guess, instance_of, is_argument_of, is_coin_of, is_instance, is_read_of, names_of, standing_for, term_for, terms_of}
 use Rattle.cv_match_laws.specs.Named.{ReadsItsNames}
 use Rattle.cv_match_laws.proofs.Standing.{pairs, standing-terms}
 

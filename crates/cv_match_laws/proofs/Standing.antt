@@ -6,7 +6,7 @@ use Rattle.cv_syntax.specs.Tree.{Tree, Empty, Node, chain}
 use Rattle.cv_directory.specs.Sites.{first_of}
 use Rattle.cv_derivations.specs.Given.{or_node, term_for, with_given}
 use Rattle.cv_scenes.specs.Scenes.{or_empty}
-use Rattle.cv_reductions.specs.Instances.{standing_for}
+use Rattle.cv_scenes.specs.Instances.{standing_for}
 use Rattle.cv_match_laws.specs.Named.{AreApart, Each, has_bare_leaves, has_leaf}
 
 and-first : (a b : Bool) → (a && b) ≡ true → a ≡ true

@@ -5,11 +5,11 @@ ghost use Rattle.std.specs.Prelude.{◌≡◌, ◌↔◌, [], ◌∷◌, map, No
 ghost use Rattle.cv_syntax.specs.Builders.{leaf};
 ghost use Rattle.cv_syntax.specs.Tree.{Tree};
 ghost use Rattle.cv_meaning_contexts.specs.Groups.{Function};
-ghost use Rattle.cv_reductions.specs.Instances.{Instance, IsInstance, Matching, instance_of};
+ghost use Rattle.cv_scenes.specs.Instances.{Instance, IsInstance, Matching, instance_of};
 ghost use Rattle.cv_match_laws.specs.Named.{ReadsItsNames};
-ghost use Rattle.cv_reductions.specs.Sites.{sites_of};
-ghost use Rattle.cv_reductions.specs.Refusals.{KeyInArgument, NotOneSite, Use, first_refusal};
-ghost use Rattle.cv_reductions.specs.Contexts.{calls_of, context_of};
+ghost use Rattle.cv_scenes.specs.Sites.{sites_of};
+ghost use Rattle.cv_scenes.specs.Refusals.{KeyInArgument, NotOneSite, Use, first_refusal};
+ghost use Rattle.cv_scenes.specs.Contexts.{calls_of, context_of};
 ghost use Rattle.cv_match_laws.specs.Worked.{answer, authentication, context, game, keyless, matching, place_of, scene, tested_with_key};
 
 /// In a small protocol there is a site of each function of an equivalence for authentication; where the key is

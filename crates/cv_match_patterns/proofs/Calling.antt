@@ -5,7 +5,7 @@ use Rattle.cv_syntax.specs.declared.head.Head.{Head}
 use Rattle.cv_syntax.specs.Tree.{Tree, Empty, Node}
 use Rattle.cv_directory.specs.Sites.{first_of}
 use Rattle.cv_meaning_contexts.specs.Groups.{function_of, functions_of}
-use Rattle.cv_reductions.specs.Instances.{Call, Matching, call_by, first_call, guess, is_instance}
+use Rattle.cv_scenes.specs.Instances.{Call, Matching, call_by, first_call, guess, is_instance}
 
 pub call-end : (M : Matching) (k : ℕ) (t m : Tree) → t ≡ Empty → first_call M k (functions_of t) m ≡ None
 call-end M k t m e = ap (λ u. first_call M k (functions_of u) m) e

@@ -15,8 +15,8 @@ use Rattle.cv_derivations.specs.Given.{or_node, with_given}
 use Rattle.cv_meaning.specs.Correspondences.{typed_names}
 use Rattle.cv_scenes.specs.Scenes.{or_empty}
 use Rattle.cv_scenes.specs.Sights.{variable_of}
-use Rattle.cv_reductions.specs.Instances.{Instance, Matching, are_of_types, guess, is_argument_of, is_coin_of, is_instance, is_read_of, names_of, standing_for, term_for, terms_of}
-use Rattle.cv_reductions.specs.Refusals.{is_among}
+use Rattle.cv_scenes.specs.Instances.{Instance, Matching, are_of_types, guess, is_argument_of, is_coin_of, is_instance, is_read_of, names_of, standing_for, term_for, terms_of}
+use Rattle.cv_scenes.specs.Refusals.{is_among}
 use Rattle.cv_match_patterns.specs.Searches.{filled_by, filled_part, given_by, is_name, is_typed, is_whole}
 
 pub filled-empty : (g : Group) (f : Function) (m : Tree) → filled_part g f m Empty ≡ Empty

@@ -6,7 +6,7 @@ use Rattle.cv_syntax.specs.declared.head.Head.TheVariants.{Leaf}
 use Rattle.cv_syntax.specs.Tree.{Tree, Empty, Node, first, second}
 use Rattle.cv_syntax.proofs.Trees.{tree_of-NoTree}
 use Rattle.cv_directory.specs.Sites.{first_of}
-use Rattle.cv_reductions.specs.Instances.{standing_for, standing_here}
+use Rattle.cv_scenes.specs.Instances.{standing_for, standing_here}
 use Rattle.cv_match_patterns.specs.Searches.{stands_in}
 
 abbrev pub here_or : Bool → Tree → Option Tree → Option Tree

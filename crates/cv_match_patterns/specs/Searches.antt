@@ -14,8 +14,8 @@ use Rattle.cv_meaning_contexts.specs.Groups.{Function, Group, group_of}
 use Rattle.cv_derivations.specs.Given.{with_given}
 use Rattle.cv_scenes.specs.Sights.{variable_of}
 use Rattle.cv_rule_scenes.specs.Kept.{scene_of}
-use Rattle.cv_reductions.specs.Instances.{Matching, are_of_types, filled, guess, is_argument_of, is_coin_of, is_read_of, names_of, term_for, terms_of}
-use Rattle.cv_reductions.specs.Refusals.{is_among}
+use Rattle.cv_scenes.specs.Instances.{Matching, are_of_types, filled, guess, is_argument_of, is_coin_of, is_read_of, names_of, term_for, terms_of}
+use Rattle.cv_scenes.specs.Refusals.{is_among}
 use Rattle.cv_match_patterns.specs.Begun.{AreHeadsOf}
 use Rattle.cv_match_patterns.specs.declared.search.Search.{Search}
 

@@ -6,9 +6,9 @@ use Rattle.cv_pool.specs.Nodes.{ChildBelow}
 use Rattle.cv_pool.specs.declared.node.NodeId.{NodeId}
 use Rattle.cv_syntax.specs.Tree.{tree_at}
 use Rattle.cv_meaning_contexts.specs.Groups.{function_of}
-use Rattle.cv_reductions.specs.Instances as definitions
-use Rattle.cv_reductions.specs.Instances.{Call, Matching, guess}
-use Rattle.cv_reductions.specs.Sites as instances
+use Rattle.cv_scenes.specs.Instances as definitions
+use Rattle.cv_scenes.specs.Instances.{Call, Matching, guess}
+use Rattle.cv_scenes.specs.Sites as instances
 use Rattle.cv_match_patterns.specs.declared.calls.Found.{Found}
 use Rattle.cv_match_patterns.specs.declared.site.Instance.{Instance}
 use Rattle.cv_match_patterns.specs.declared.site.Site.{Site}

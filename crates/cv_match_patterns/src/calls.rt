@@ -3,7 +3,7 @@ ghost use Rattle.cv_pool.specs.Nodes.{ChildBelow};
 ghost use Rattle.cv_syntax.specs.Tree.{tree_at};
 ghost use Rattle.cv_syntax.specs.Walks.{above};
 ghost use Rattle.cv_meaning_contexts.specs.Groups.{functions_of};
-ghost use Rattle.cv_reductions.specs.Instances.{call_at as call_of, first_call};
+ghost use Rattle.cv_scenes.specs.Instances.{call_at as call_of, first_call};
 ghost use Rattle.cv_match_patterns.specs.Searches.{IsReady, matching_by};
 ghost use Rattle.cv_match_patterns.specs.Sites.{found_call};
 

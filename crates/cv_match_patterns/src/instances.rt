@@ -6,8 +6,8 @@ ghost use Rattle.cv_meaning_contexts.specs.Groups.{function_of, group_of};
 ghost use Rattle.cv_directory.specs.declared.sort.Sort.TheVariants.{OfType};
 ghost use Rattle.cv_scenes.specs.Sights as sights;
 ghost use Rattle.cv_scenes.specs.Terms as terms;
-ghost use Rattle.cv_reductions.specs.Instances as instances;
-ghost use Rattle.cv_reductions.specs.Instances.{are_of_types, guess, is_argument_of, is_coin_of, is_read_of};
+ghost use Rattle.cv_scenes.specs.Instances as instances;
+ghost use Rattle.cv_scenes.specs.Instances.{are_of_types, guess, is_argument_of, is_coin_of, is_read_of};
 ghost use Rattle.cv_match_patterns.specs.Searches.{IsReady, filled_part, is_typed, is_whole, matching_by};
 
 use crate::cells::is_head;

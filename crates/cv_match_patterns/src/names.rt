@@ -3,7 +3,7 @@ ghost use Rattle.cv_pool.specs.Nodes.{ChildBelow};
 ghost use Rattle.cv_syntax.specs.Tree.{first, second, tree_at};
 ghost use Rattle.cv_meaning.specs.Correspondences.{typed_names};
 ghost use Rattle.cv_meaning_contexts.specs.Groups.{function_of, group_of};
-ghost use Rattle.cv_reductions.specs.Refusals.{is_among};
+ghost use Rattle.cv_scenes.specs.Refusals.{is_among};
 ghost use Rattle.cv_match_patterns.specs.Searches.{is_name};
 ghost use Rattle.cv_scenes.specs.Sights as sights;
 

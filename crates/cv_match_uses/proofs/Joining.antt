@@ -12,7 +12,7 @@ use Rattle.cv_scope.specs.Context.{replications_below}
 use Rattle.cv_scope.specs.Made.{is_bound, made_by}
 use Rattle.cv_scope.specs.Sites.{Variable}
 use Rattle.cv_scenes.specs.Scenes.{head_reads}
-use Rattle.cv_reductions.specs.Refusals.{definitions_in, new_of, only_new, uses}
+use Rattle.cv_scenes.specs.Refusals.{definitions_in, new_of, only_new, uses}
 use Rattle.cv_match_uses.specs.declared.entry.Entry.{Entry}
 use Rattle.cv_match_uses.specs.Tallies.{Draw, One, Other, Tally, Zero, bound_here, defined_here, drawn, entry_at, join, nothing, only, plus, single, summary, tally, tally_at, tally_here, tally_in, tally_of, used_here}
 

@@ -7,7 +7,7 @@ use Rattle.cv_directory.specs.Sites.{first_of}
 use Rattle.cv_scope.specs.declared.position.Position.{Position}
 use Rattle.cv_scope.specs.Context.{first_position, second_position}
 use Rattle.cv_scenes.specs.Scenes.{first_reading, head_reads}
-use Rattle.cv_reductions.specs.Refusals.{first_in_condition, is_condition}
+use Rattle.cv_scenes.specs.Refusals.{first_in_condition, is_condition}
 use Rattle.cv_match_uses.specs.Within.{use_within}
 
 pub within-end : (within : Bool) (x : ℕ) (w : Position) (p : ℕ) (t : Tree) → t ≡ Empty → use_within within x w p t ≡ None

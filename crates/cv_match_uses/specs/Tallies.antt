@@ -6,8 +6,8 @@ use Rattle.cv_syntax.specs.Tree.{Tree}
 use Rattle.cv_scope.specs.Made.{is_bound, made_by}
 use Rattle.cv_scope.specs.Sites.{Variable}
 use Rattle.cv_scenes.specs.Scenes.{head_reads}
-use Rattle.cv_reductions.specs.Refusals as refusals
-use Rattle.cv_reductions.specs.Refusals.{definitions_in, new_of}
+use Rattle.cv_scenes.specs.Refusals as refusals
+use Rattle.cv_scenes.specs.Refusals.{definitions_in, new_of}
 use Rattle.cv_match_uses.specs.declared.entry.Definition.{Definition}
 use Rattle.cv_match_uses.specs.declared.entry.Definition.TheVariants.{Drawn, Nowhere, Otherwise}
 use Rattle.cv_match_uses.specs.declared.entry.Entry.{Entry}

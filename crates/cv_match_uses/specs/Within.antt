@@ -3,7 +3,7 @@ use Rattle.std.specs.Prelude.{ℕ, Bool, if◌then◌else◌, Option}
 use Rattle.cv_syntax.specs.Tree.{Tree}
 use Rattle.cv_scope.specs.declared.position.Position.{Position}
 use Rattle.cv_scenes.specs.Scenes.{first_reading}
-use Rattle.cv_reductions.specs.Refusals.{first_in_condition}
+use Rattle.cv_scenes.specs.Refusals.{first_in_condition}
 
 -- the first place in a condition, or anywhere in a part of one, where the variable is read
 unfoldable pub use_within : (within : Bool) → ℕ → Position → ℕ → Tree → Option ℕ

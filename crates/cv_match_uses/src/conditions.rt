@@ -2,7 +2,7 @@ ghost use Rattle.std.specs.Prelude.{◌≡◌, ◌&&◌, ◌||◌, ◌+◌, ◌<
 ghost use Rattle.cv_pool.specs.Nodes.{ChildBelow};
 ghost use Rattle.cv_syntax.specs.Tree.{size, tree_at};
 ghost use Rattle.cv_scenes.specs.Scenes.{first_reading, head_reads};
-ghost use Rattle.cv_reductions.specs.Refusals as refusals;
+ghost use Rattle.cv_scenes.specs.Refusals as refusals;
 ghost use Rattle.cv_match_uses.specs.Within.{use_within};
 
 use crate::heads::is_reading;

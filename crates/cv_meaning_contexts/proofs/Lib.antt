@@ -1,3 +1,1 @@
 pub mod Authentication
-pub mod Locality
-pub mod OnlyMade

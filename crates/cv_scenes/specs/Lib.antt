@@ -4,3 +4,12 @@ pub mod Sights
 pub mod Reasons
 pub mod Derivations
 pub mod Pruning
+pub mod Instances
+pub mod Sites
+pub mod Refusals
+pub mod Contexts
+pub mod LeftTerms
+pub mod Standing
+pub mod Reductions
+pub mod Cells
+pub mod Apt

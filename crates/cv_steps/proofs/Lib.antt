@@ -5,3 +5,4 @@ pub mod Testable
 pub mod Pruned
 pub mod Places
 pub mod Rewritten
+pub mod Sizes

@@ -27,7 +27,7 @@ use Rattle.cv_meaning_reworded.proofs.SameCells.{count_alike}
 use Rattle.cv_scope.specs.Phrases.{Inputs, is_phrase}
 use Rattle.cv_steps.proofs.Testable.{game_no_calls, game_testable, local}
 use Rattle.cv_steps_pruning.proofs.Inclusion.{Includes}
-use Rattle.cv_steps_pruning.proofs.Sizes.{IsSized, NamesSorts, all_cells, all_sizes, cell_size}
+use Rattle.cv_steps.proofs.Sizes.{IsSized, NamesSorts, all_cells, all_sizes, cell_size}
 
 each_has : {A : Type 0} (P : A → Type 0) (xs : List A) → AllByRecursion P xs → (x : A) → Has xs x → P x
 each_has P [] e x h = absurd h

@@ -34,7 +34,7 @@ use Rattle.cv_steps_pruning.proofs.Chances.{chance_inside}
 use Rattle.cv_steps_pruning.proofs.Inclusion.{Includes, else_included, find_included, replaced_included, then_included}
 use Rattle.cv_steps_pruning.proofs.Phrases.{Keeps, body_output, else_left, find_left, find_parts, if_bodies, phrase_replaced, phrase_there, then_left}
 use Rattle.cv_steps_pruning.proofs.Serving.{branch_goes, else_goes, then_goes}
-use Rattle.cv_steps_pruning.proofs.Sizes.{NamesSorts, typed_names}
+use Rattle.cv_steps.proofs.Sizes.{NamesSorts, typed_names}
 
 module _ (s : Scene) (ready : IsReady s.declarations s.game) (place : ℕ) where
   abbrev with_left : Tree → Tree

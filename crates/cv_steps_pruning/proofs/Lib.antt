@@ -3,6 +3,5 @@ pub mod Candidates
 pub mod Serving
 pub mod Phrases
 pub mod Inclusion
-pub mod Sizes
 pub mod Chances
 pub mod Keeping

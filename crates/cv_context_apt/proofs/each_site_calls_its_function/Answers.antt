@@ -1,6 +1,6 @@
 use Rattle.cv_context_apt.proofs.Terms.{only_terms}
 use Rattle.cv_context_apt.proofs.Numbers.{called}
-use Rattle.cv_reductions.specs.Reductions.{matching}
+use Rattle.cv_scenes.specs.Reductions.{matching}
 use Rattle.cv_context_apt.proofs.each_site_calls_its_function.Goals as goal
 
 pub returns : goal.returns

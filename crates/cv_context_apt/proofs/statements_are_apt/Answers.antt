@@ -1,4 +1,4 @@
-use Rattle.cv_reductions.specs.Reductions.{matching}
+use Rattle.cv_scenes.specs.Reductions.{matching}
 use Rattle.cv_context_apt.proofs.Outside.{free_message, free_term, free_terms}
 use Rattle.cv_context_apt.proofs.Statements.{below_message, below_term, below_terms, terms_apt}
 use Rattle.cv_context_apt.proofs.statements_are_apt.Goals as goal

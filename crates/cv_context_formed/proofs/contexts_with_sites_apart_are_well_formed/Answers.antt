@@ -1,4 +1,4 @@
-use Rattle.cv_reductions.specs.Reductions.{context_of_game}
+use Rattle.cv_scenes.specs.Reductions.{context_of_game}
 use Rattle.cv_context_formed.proofs.Games.{context_part}
 use Rattle.cv_context_formed.proofs.Scoped.{game_scoped}
 use Rattle.cv_context_formed.proofs.contexts_with_sites_apart_are_well_formed.Goals as goal

@@ -1,5 +1,5 @@
 use Rattle.cv_scope.proofs.Apart.{game-alike, game-branches}
-use Rattle.cv_reductions.specs.Reductions.{context_of_game}
+use Rattle.cv_scenes.specs.Reductions.{context_of_game}
 use Rattle.cv_context_formed.proofs.Games.{context_part}
 use Rattle.cv_context_formed.proofs.Scoped.{game_scoped}
 use Rattle.cv_context_whole.proofs.Apart.{branches_become, like_becomes}

@@ -1,5 +1,5 @@
 use Rattle.cv_scope.proofs.Apart.{game-alike, game-branches}
-use Rattle.cv_reductions.specs.Reductions.{context_of_game}
+use Rattle.cv_scenes.specs.Reductions.{context_of_game}
 use Rattle.cv_context_whole.proofs.Apart.{branches_become}
 use Rattle.cv_context_whole.proofs.Shown.{context_becomes}
 use Rattle.cv_context_whole.proofs.sites_of_contexts_are_apart.Goals as goal

@@ -24,10 +24,10 @@ use Rattle.cv_meaning_contexts.specs.Sides.{body_cells}
 use Rattle.cv_query_form.specs.Queries.{queries_in}
 use Rattle.cv_scope.specs.Made.{is_bound}
 use Rattle.cv_scenes.specs.Scenes.{first_reading}
-use Rattle.cv_reductions.specs.Instances.{standing_for}
-use Rattle.cv_reductions.specs.Sites.{sites_in}
-use Rattle.cv_reductions.specs.Refusals.{definitions_in, first_in_arguments, first_in_condition, first_use, uses}
-use Rattle.cv_reductions.specs.Contexts.{context_in}
+use Rattle.cv_scenes.specs.Instances.{standing_for}
+use Rattle.cv_scenes.specs.Sites.{sites_in}
+use Rattle.cv_scenes.specs.Refusals.{definitions_in, first_in_arguments, first_in_condition, first_use, uses}
+use Rattle.cv_scenes.specs.Contexts.{context_in}
 use Rattle.cv_context_worked.proofs.a_forged_tag_is_counted.Goals as goal
 
 pub returns-clause-none : goal.returns-clause-none

@@ -1,4 +1,4 @@
-use Rattle.cv_reductions.specs.Reductions.{context_of_game}
+use Rattle.cv_scenes.specs.Reductions.{context_of_game}
 use Rattle.cv_inline_expected.proofs.FineGames.{context_fine}
 use Rattle.cv_inline_expected.proofs.Visits.{visits_expected}
 use Rattle.cv_inline_expected.proofs.contexts_of_apt_games_are_texts.Goals as goal

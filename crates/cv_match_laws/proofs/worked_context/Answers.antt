@@ -3,9 +3,9 @@ use Rattle.cv_syntax.specs.Tree.{same_tree, size}
 use Rattle.cv_derivations.specs.Given.{with_given}
 use Rattle.cv_directory.specs.Sites.{bound_sort, first_site}
 use Rattle.cv_typing.specs.Signature.{names_in}
-use Rattle.cv_reductions.specs.Instances.{standing_for}
-use Rattle.cv_reductions.specs.Sites.{sites_in}
-use Rattle.cv_reductions.specs.Contexts.{context_in}
+use Rattle.cv_scenes.specs.Instances.{standing_for}
+use Rattle.cv_scenes.specs.Sites.{sites_in}
+use Rattle.cv_scenes.specs.Contexts.{context_in}
 use Rattle.cv_match_laws.proofs.worked_context.Goals as goal
 
 pub returns-clause-tree : goal.returns-clause-tree

@@ -6,9 +6,9 @@ use Rattle.cv_typing.specs.Signature.{names_in}
 use Rattle.cv_query_form.specs.Queries.{queries_in}
 use Rattle.cv_scope.specs.Made.{is_bound}
 use Rattle.cv_scenes.specs.Scenes.{first_reading}
-use Rattle.cv_reductions.specs.Instances.{standing_for}
-use Rattle.cv_reductions.specs.Sites.{sites_in}
-use Rattle.cv_reductions.specs.Refusals.{definitions_in, first_in_arguments, first_in_condition, first_use, uses}
+use Rattle.cv_scenes.specs.Instances.{standing_for}
+use Rattle.cv_scenes.specs.Sites.{sites_in}
+use Rattle.cv_scenes.specs.Refusals.{definitions_in, first_in_arguments, first_in_condition, first_use, uses}
 use Rattle.cv_match_laws.proofs.worked_sites.Goals as goal
 
 pub returns-clause-sites : goal.returns-clause-sites

@@ -3,7 +3,7 @@ use Rattle.std.specs.Prelude.{◌==◌}
 use Rattle.cv_syntax.specs.NameSets.{is_in}
 use Rattle.cv_syntax.specs.Tree.{tree_at}
 use Rattle.cv_scenes.specs.Sights.{variable_of}
-use Rattle.cv_reductions.specs.Instances.{is_read_of}
+use Rattle.cv_scenes.specs.Instances.{is_read_of}
 use Rattle.cv_group_bodies.proofs.Sets.{name-added, or-more, or-nothing}
 use Rattle.cv_context.specs.Roles.{is_read_in}
 use Rattle.cv_context.proofs.Drawn.{any-past, read-step}

@@ -1,5 +1,5 @@
 use Rattle.std.proofs.Common.{refl, arith}
-use Rattle.cv_reductions.specs.Contexts.{parameters_of}
+use Rattle.cv_scenes.specs.Contexts.{parameters_of}
 use Rattle.cv_context_products.proofs.Products.{at-end}
 use Rattle.cv_context_products.proofs.calls.parameters_of.Goals as goal
 

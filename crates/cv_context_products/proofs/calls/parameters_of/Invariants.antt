@@ -1,5 +1,5 @@
 use Rattle.std.proofs.Common.{◌≡◌, ◌++◌, drop}
-use Rattle.cv_reductions.specs.Contexts.{parameters_of}
+use Rattle.cv_scenes.specs.Contexts.{parameters_of}
 use Rattle.cv_context_products.proofs.calls.parameters_of.Given as goal
 
 abbrev pub invariant-replications : goal.invariant-replications

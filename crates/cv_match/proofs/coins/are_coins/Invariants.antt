@@ -4,8 +4,8 @@ use Rattle.cv_syntax.specs.Tree.{tree_at}
 use Rattle.cv_syntax.specs.Walks.{above}
 use Rattle.cv_meaning.specs.Correspondences.{typed_names}
 use Rattle.cv_meaning_contexts.specs.Groups.{function_of}
-use Rattle.cv_reductions.specs.Instances.{term_for}
-use Rattle.cv_reductions.specs.Refusals.{are_coins}
+use Rattle.cv_scenes.specs.Instances.{term_for}
+use Rattle.cv_scenes.specs.Refusals.{are_coins}
 use Rattle.cv_match_patterns.specs.Searches.{matching_by}
 use Rattle.cv_match_patterns.specs.Sites.{site_in}
 use Rattle.cv_match.proofs.coins.are_coins.Given as goal

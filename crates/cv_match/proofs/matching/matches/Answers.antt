@@ -1,8 +1,8 @@
 use Rattle.std.proofs.Common.{All, List, ap, map, subst, sym, ◌∙◌}
 use Rattle.cv_syntax.specs.Classes.{equiv_in}
 use Rattle.cv_syntax.specs.Tree.{tree_at}
-use Rattle.cv_reductions.specs.Instances.{Matching}
-use Rattle.cv_reductions.specs.Refusals.{first_refusal}
+use Rattle.cv_scenes.specs.Instances.{Matching}
+use Rattle.cv_scenes.specs.Refusals.{first_refusal}
 use Rattle.cv_match_patterns.specs.Searches.{matching_by}
 use Rattle.cv_match_patterns.specs.declared.site.Site.{Site}
 use Rattle.cv_match_patterns.specs.Sites.{HasInstance, site_in}

@@ -3,7 +3,7 @@ use Rattle.cv_pool.specs.Nodes.{ChildBelow}
 use Rattle.cv_syntax.specs.Tree.{size, tree_at}
 use Rattle.cv_syntax.specs.Walks.{above}
 use Rattle.cv_meaning_contexts.specs.Groups.{function_of}
-use Rattle.cv_reductions.specs.Refusals.{first_in_arguments}
+use Rattle.cv_scenes.specs.Refusals.{first_in_arguments}
 use Rattle.cv_match.proofs.reading.+argument_use.Given as goal
 
 abbrev pub decreases-argument_use : goal.decreases-argument_use

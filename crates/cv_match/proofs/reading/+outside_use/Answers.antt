@@ -7,8 +7,8 @@ use Rattle.cv_syntax.proofs.Walking.{above-child, above-some, size-at, size-end}
 use Rattle.cv_directory.specs.Sites.{first_of}
 use Rattle.cv_scope.specs.Context.{first_position, second_position}
 use Rattle.cv_scenes.specs.Scenes.{head_reads}
-use Rattle.cv_reductions.specs.Instances.{call_at}
-use Rattle.cv_reductions.specs.Sites.{is_guard}
+use Rattle.cv_scenes.specs.Instances.{call_at}
+use Rattle.cv_scenes.specs.Sites.{is_guard}
 use Rattle.cv_match_patterns.specs.Searches.{matching_by}
 use Rattle.cv_rule_scenes.proofs.Tested.{reads-first, reads-here, reads-rest}
 use Rattle.cv_match.specs.Walks.{use_unless}

@@ -3,7 +3,7 @@ use Rattle.cv_syntax.specs.Tree.{second, tree_at}
 use Rattle.cv_syntax.proofs.Trees.{empty_at}
 use Rattle.cv_syntax.proofs.Walking.{above-child}
 use Rattle.cv_meaning_contexts.specs.Groups.{functions_of}
-use Rattle.cv_reductions.specs.Instances.{first_call}
+use Rattle.cv_scenes.specs.Instances.{first_call}
 use Rattle.cv_match_patterns.specs.Searches.{matching_by}
 use Rattle.cv_match_patterns.proofs.Begun.{no-call}
 use Rattle.cv_match_patterns.proofs.calls.call_at.Goals as goal

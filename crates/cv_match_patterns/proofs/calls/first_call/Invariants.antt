@@ -3,7 +3,7 @@ use Rattle.cv_pool.specs.Nodes.{ChildBelow}
 use Rattle.cv_syntax.specs.Tree.{tree_at}
 use Rattle.cv_syntax.specs.Walks.{above}
 use Rattle.cv_meaning_contexts.specs.Groups.{functions_of}
-use Rattle.cv_reductions.specs.Instances.{first_call}
+use Rattle.cv_scenes.specs.Instances.{first_call}
 use Rattle.cv_match_patterns.specs.Searches.{matching_by}
 use Rattle.cv_match_patterns.proofs.calls.first_call.Given as goal
 

@@ -3,7 +3,7 @@ use Rattle.cv_syntax.specs.Tree.{first, second, tree_at}
 use Rattle.cv_syntax.specs.Walks.{above}
 use Rattle.cv_syntax.proofs.Trees.{child_above, child_live, empty_at, node_at}
 use Rattle.cv_syntax.proofs.Walking.{above-child, above-some}
-use Rattle.cv_reductions.specs.Instances.{standing_for}
+use Rattle.cv_scenes.specs.Instances.{standing_for}
 use Rattle.cv_match_patterns.proofs.Standing.{standing-end, standing-first, standing-here, standing-rest}
 use Rattle.cv_match_patterns.proofs.filling.+standing.Goals as goal
 

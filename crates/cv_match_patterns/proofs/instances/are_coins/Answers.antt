@@ -2,7 +2,7 @@ use Rattle.std.proofs.Common.{ap, length, ◌∙◌}
 use Rattle.cv_syntax.specs.Tree.{tree_at}
 use Rattle.cv_syntax.proofs.Trees.{child_live, empty_at, node_at}
 use Rattle.cv_meaning_contexts.specs.Groups.{function_of}
-use Rattle.cv_reductions.specs.Instances.{is_coin_of, term_for}
+use Rattle.cv_scenes.specs.Instances.{is_coin_of, term_for}
 use Rattle.cv_match_patterns.specs.Searches.{matching_by}
 use Rattle.cv_match_patterns.proofs.Parts.{typed-end, typed-other, typed-right, typed-wrong}
 use Rattle.cv_match_patterns.proofs.instances.are_coins.Goals as goal

@@ -4,7 +4,7 @@ use Rattle.cv_syntax.specs.Tree.{tree_at}
 use Rattle.cv_syntax.specs.Walks.{above}
 use Rattle.cv_meaning.specs.Correspondences.{typed_names}
 use Rattle.cv_meaning_contexts.specs.Groups.{function_of}
-use Rattle.cv_reductions.specs.Instances.{are_of_types, is_coin_of, term_for}
+use Rattle.cv_scenes.specs.Instances.{are_of_types, is_coin_of, term_for}
 use Rattle.cv_match_patterns.specs.Searches.{matching_by}
 use Rattle.cv_match_patterns.proofs.instances.are_coins.Given as goal
 

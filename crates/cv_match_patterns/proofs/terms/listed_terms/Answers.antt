@@ -6,7 +6,7 @@ use Rattle.cv_syntax.specs.Tree.{tree_at}
 use Rattle.cv_syntax.proofs.Trees.{child_live, empty_at, node_at}
 use Rattle.cv_meaning.specs.Correspondences.{typed_names}
 use Rattle.cv_meaning_contexts.specs.Groups.{function_of}
-use Rattle.cv_reductions.specs.Instances.{term_for}
+use Rattle.cv_scenes.specs.Instances.{term_for}
 use Rattle.cv_match_patterns.proofs.Parts.{terms-end, terms-more, terms-other}
 use Rattle.cv_match_patterns.proofs.terms.listed_terms.Goals as goal
 

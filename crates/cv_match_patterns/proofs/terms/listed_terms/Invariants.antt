@@ -5,7 +5,7 @@ use Rattle.cv_syntax.specs.Tree.{Tree, tree_at}
 use Rattle.cv_syntax.specs.Walks.{above}
 use Rattle.cv_meaning.specs.Correspondences.{typed_names}
 use Rattle.cv_meaning_contexts.specs.Groups.{function_of}
-use Rattle.cv_reductions.specs.Instances.{term_for}
+use Rattle.cv_scenes.specs.Instances.{term_for}
 use Rattle.cv_match_patterns.proofs.terms.listed_terms.Given as goal
 
 abbrev pub invariant-list : goal.invariant-list

@@ -2,7 +2,7 @@ use Rattle.std.proofs.Common.{ℕ, ap, map, ◌∙◌}
 use Rattle.cv_syntax.specs.Tree.{Tree, tree_at}
 use Rattle.cv_meaning.specs.Correspondences.{typed_names}
 use Rattle.cv_meaning_contexts.specs.Groups.{function_of}
-use Rattle.cv_reductions.specs.Instances.{term_for}
+use Rattle.cv_scenes.specs.Instances.{term_for}
 use Rattle.cv_match_patterns.specs.Searches.{given_by}
 use Rattle.cv_match_patterns.proofs.Parts.{same-instance}
 use Rattle.cv_match_patterns.proofs.terms.terms_of.Goals as goal

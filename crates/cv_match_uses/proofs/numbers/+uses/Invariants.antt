@@ -2,7 +2,7 @@ use Rattle.std.proofs.Common.{◌≡◌, ◌+◌, ◌≤◌, length}
 use Rattle.cv_pool.specs.Nodes.{ChildBelow}
 use Rattle.cv_syntax.specs.Tree.{size, tree_at}
 use Rattle.cv_syntax.specs.Walks.{above}
-use Rattle.cv_reductions.specs.Refusals.{uses}
+use Rattle.cv_scenes.specs.Refusals.{uses}
 use Rattle.cv_match_uses.proofs.numbers.+uses.Given as goal
 
 abbrev pub decreases-uses : goal.decreases-uses

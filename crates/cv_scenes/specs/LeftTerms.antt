@@ -10,8 +10,8 @@ use Rattle.cv_syntax.specs.Tree.{Tree, Empty, Node, reads_only}
 use Rattle.cv_meaning.specs.Interpretation.{is_constant_of}
 use Rattle.cv_meaning_contexts.specs.Groups.{Function, Group}
 use Rattle.cv_scope.specs.Phrases.{Term, is_phrase}
-use Rattle.cv_reductions.specs.Instances.{names_of}
-use Rattle.cv_reductions.specs.Refusals.{uses}
+use Rattle.cv_scenes.specs.Instances.{names_of}
+use Rattle.cv_scenes.specs.Refusals.{uses}
 
 -- no array is read in the tree
 abbrev pub head_reads_no_array : Head → Bool

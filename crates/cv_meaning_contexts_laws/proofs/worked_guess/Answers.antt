@@ -18,16 +18,28 @@ use Rattle.cv_meaning.specs.Cells.{tuples_below, at_each_copy, cells}
 use Rattle.cv_meaning.specs.Experiments.{run, holds_on}
 use Rattle.cv_meaning.specs.Correspondences.{assignments, positions, ways, can_match, broken}
 use Rattle.cv_meaning.specs.Advantage.{chance_of}
-use Rattle.cv_meaning_contexts.proofs.worked_context.Goals as goal
+use Rattle.cv_meaning_contexts_laws.proofs.worked_guess.Goals as goal
 
-pub returns-clause-forged : goal.returns-clause-forged
+pub returns-clause-left : goal.returns-clause-left
 unfolding size reads_only written sum_below count total put value values bound_to inputs_of step serve taken moved run_from tuples_below at_each_copy cells run holds_on assignments positions ways can_match broken chance_of tuples_up_to bounds_above sites_from put_at body_value body_values picks_at picks picked body_answer branch_answer reply body_cells
-returns-clause-forged c = refl
+returns-clause-left c = refl
 
-pub returns-clause-asked : goal.returns-clause-asked
+pub returns-clause-right : goal.returns-clause-right
 unfolding size reads_only written sum_below count total put value values bound_to inputs_of step serve taken moved run_from tuples_below at_each_copy cells run holds_on assignments positions ways can_match broken chance_of tuples_up_to bounds_above sites_from put_at body_value body_values picks_at picks picked body_answer branch_answer reply body_cells
-returns-clause-asked c = refl
+returns-clause-right c = refl
 
-pub returns-clause-asked_on_both : goal.returns-clause-asked_on_both
+pub returns-clause-advantage : goal.returns-clause-advantage
 unfolding size reads_only written sum_below count total put value values bound_to inputs_of step serve taken moved run_from tuples_below at_each_copy cells run holds_on assignments positions ways can_match broken chance_of tuples_up_to bounds_above sites_from put_at body_value body_values picks_at picks picked body_answer branch_answer reply body_cells
-returns-clause-asked_on_both c = refl
+returns-clause-advantage c = refl
+
+pub returns-clause-real : goal.returns-clause-real
+unfolding size reads_only written sum_below count total put value values bound_to inputs_of step serve taken moved run_from tuples_below at_each_copy cells run holds_on assignments positions ways can_match broken chance_of tuples_up_to bounds_above sites_from put_at body_value body_values picks_at picks picked body_answer branch_answer reply body_cells
+returns-clause-real c = refl
+
+pub returns-clause-random : goal.returns-clause-random
+unfolding size reads_only written sum_below count total put value values bound_to inputs_of step serve taken moved run_from tuples_below at_each_copy cells run holds_on assignments positions ways can_match broken chance_of tuples_up_to bounds_above sites_from put_at body_value body_values picks_at picks picked body_answer branch_answer reply body_cells
+returns-clause-random c = refl
+
+pub returns-clause-same : goal.returns-clause-same
+unfolding size reads_only written sum_below count total put value values bound_to inputs_of step serve taken moved run_from tuples_below at_each_copy cells run holds_on assignments positions ways can_match broken chance_of tuples_up_to bounds_above sites_from put_at body_value body_values picks_at picks picked body_answer branch_answer reply body_cells
+returns-clause-same c = refl

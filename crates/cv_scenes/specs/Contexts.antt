@@ -14,8 +14,8 @@ use Rattle.cv_scope.specs.declared.position.Position.TheVariants.{Anywhere}
 use Rattle.cv_scope.specs.Context.{cell_of, first_position, replications_below, second_position}
 use Rattle.cv_scenes.specs.Scenes.{Scene, is_queried, names}
 use Rattle.cv_scenes.specs.Sights.{variable_of}
-use Rattle.cv_reductions.specs.Instances.{Instance, Matching, call_at, is_read_of}
-use Rattle.cv_reductions.specs.Sites.{Site, is_guard, sites_in, sites_of}
+use Rattle.cv_scenes.specs.Instances.{Instance, Matching, call_at, is_read_of}
+use Rattle.cv_scenes.specs.Sites.{Site, is_guard, sites_in, sites_of}
 
 -- what is looked for by an equivalence: its left functions
 abbrev pub matching_of : Scene → (equivalence : Tree) → (key : ℕ) → Matching

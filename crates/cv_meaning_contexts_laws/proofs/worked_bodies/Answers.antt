@@ -8,7 +8,7 @@ use Rattle.cv_meaning_contexts.specs.BodyTerms.{body_value, body_values}
 use Rattle.cv_meaning_contexts.specs.Finds.{picks_at, picks, picked}
 use Rattle.cv_meaning_contexts.specs.Bodies.{body_answer, branch_answer, reply}
 use Rattle.cv_meaning_contexts.specs.Sides.{body_cells}
-use Rattle.cv_meaning_contexts.proofs.worked_bodies.Goals as goal
+use Rattle.cv_meaning_contexts_laws.proofs.worked_bodies.Goals as goal
 
 pub returns-clause-bound_twice : goal.returns-clause-bound_twice
 unfolding size written sum_below count total tuples_up_to bounds_above sites_from put_at body_value body_values picks_at picks picked body_answer branch_answer reply body_cells

@@ -1,5 +1,5 @@
-use Rattle.cv_meaning_contexts.proofs.Locality.{local, once, own}
-use Rattle.cv_meaning_contexts.proofs.answers_are_local.Goals as goal
+use Rattle.cv_meaning_contexts_laws.proofs.Locality.{local, once, own}
+use Rattle.cv_meaning_contexts_laws.proofs.answers_are_local.Goals as goal
 
 pub returns-clause-reads : goal.returns-clause-reads
 returns-clause-reads c = local

@@ -8,9 +8,9 @@ use Rattle.cv_meaning_contexts.specs.Finds.{Oracles}
 use Rattle.cv_meaning_contexts.specs.Groups.{Left}
 use Rattle.cv_meaning_contexts.specs.Sides.{Context, oracles_of, side_from}
 use Rattle.cv_scenes.specs.Scenes.{Scene}
-use Rattle.cv_reductions.specs.Instances.{Matching}
-use Rattle.cv_reductions.specs.Sites.{Site, sites_of}
-use Rattle.cv_reductions.specs.Contexts.{context_of, is_coin_variable, matching_of}
+use Rattle.cv_scenes.specs.Instances.{Matching}
+use Rattle.cv_scenes.specs.Sites.{Site, sites_of}
+use Rattle.cv_scenes.specs.Contexts.{context_of, is_coin_variable, matching_of}
 
 pub record Reduction : Type 0 where
   pub scene : Scene

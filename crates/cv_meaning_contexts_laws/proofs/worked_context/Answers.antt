@@ -18,28 +18,16 @@ use Rattle.cv_meaning.specs.Cells.{tuples_below, at_each_copy, cells}
 use Rattle.cv_meaning.specs.Experiments.{run, holds_on}
 use Rattle.cv_meaning.specs.Correspondences.{assignments, positions, ways, can_match, broken}
 use Rattle.cv_meaning.specs.Advantage.{chance_of}
-use Rattle.cv_meaning_contexts.proofs.worked_guess.Goals as goal
+use Rattle.cv_meaning_contexts_laws.proofs.worked_context.Goals as goal
 
-pub returns-clause-left : goal.returns-clause-left
+pub returns-clause-forged : goal.returns-clause-forged
 unfolding size reads_only written sum_below count total put value values bound_to inputs_of step serve taken moved run_from tuples_below at_each_copy cells run holds_on assignments positions ways can_match broken chance_of tuples_up_to bounds_above sites_from put_at body_value body_values picks_at picks picked body_answer branch_answer reply body_cells
-returns-clause-left c = refl
+returns-clause-forged c = refl
 
-pub returns-clause-right : goal.returns-clause-right
+pub returns-clause-asked : goal.returns-clause-asked
 unfolding size reads_only written sum_below count total put value values bound_to inputs_of step serve taken moved run_from tuples_below at_each_copy cells run holds_on assignments positions ways can_match broken chance_of tuples_up_to bounds_above sites_from put_at body_value body_values picks_at picks picked body_answer branch_answer reply body_cells
-returns-clause-right c = refl
+returns-clause-asked c = refl
 
-pub returns-clause-advantage : goal.returns-clause-advantage
+pub returns-clause-asked_on_both : goal.returns-clause-asked_on_both
 unfolding size reads_only written sum_below count total put value values bound_to inputs_of step serve taken moved run_from tuples_below at_each_copy cells run holds_on assignments positions ways can_match broken chance_of tuples_up_to bounds_above sites_from put_at body_value body_values picks_at picks picked body_answer branch_answer reply body_cells
-returns-clause-advantage c = refl
-
-pub returns-clause-real : goal.returns-clause-real
-unfolding size reads_only written sum_below count total put value values bound_to inputs_of step serve taken moved run_from tuples_below at_each_copy cells run holds_on assignments positions ways can_match broken chance_of tuples_up_to bounds_above sites_from put_at body_value body_values picks_at picks picked body_answer branch_answer reply body_cells
-returns-clause-real c = refl
-
-pub returns-clause-random : goal.returns-clause-random
-unfolding size reads_only written sum_below count total put value values bound_to inputs_of step serve taken moved run_from tuples_below at_each_copy cells run holds_on assignments positions ways can_match broken chance_of tuples_up_to bounds_above sites_from put_at body_value body_values picks_at picks picked body_answer branch_answer reply body_cells
-returns-clause-random c = refl
-
-pub returns-clause-same : goal.returns-clause-same
-unfolding size reads_only written sum_below count total put value values bound_to inputs_of step serve taken moved run_from tuples_below at_each_copy cells run holds_on assignments positions ways can_match broken chance_of tuples_up_to bounds_above sites_from put_at body_value body_values picks_at picks picked body_answer branch_answer reply body_cells
-returns-clause-same c = refl
+returns-clause-asked_on_both c = refl

@@ -15,8 +15,8 @@ use Rattle.cv_scope.specs.Sites.{Variable}
 use Rattle.cv_scope.specs.Tests.{same_replications}
 use Rattle.cv_scenes.specs.Scenes.{first_reading, head_reads, is_queried}
 use Rattle.cv_scenes.specs.Sights.{variable_of}
-use Rattle.cv_reductions.specs.Instances.{Call, Matching, call_at}
-use Rattle.cv_reductions.specs.Sites.{Site, is_guard, sites_of}
+use Rattle.cv_scenes.specs.Instances.{Call, Matching, call_at}
+use Rattle.cv_scenes.specs.Sites.{Site, is_guard, sites_of}
 
 pub data Refusal : Type 0 where
   -- the key hasn't one site, a `new` of its type, or a query asks for it

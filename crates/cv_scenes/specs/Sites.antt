@@ -5,7 +5,7 @@ use Rattle.cv_syntax.specs.Tree.{Tree, Empty, Node, first_place, second_place}
 use Rattle.cv_scope.specs.declared.position.Position.{Position}
 use Rattle.cv_scope.specs.declared.position.Position.TheVariants.{Anywhere, Guards, Guarded}
 use Rattle.cv_scope.specs.Context.{first_position, replications_below, second_position}
-use Rattle.cv_reductions.specs.Instances.{Call, Matching, call_at}
+use Rattle.cv_scenes.specs.Instances.{Call, Matching, call_at}
 
 -- an instance by its place, with the replications above it
 pub record Site : Type 0 where

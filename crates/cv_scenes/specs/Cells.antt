@@ -5,9 +5,9 @@ use Rattle.cv_syntax.specs.Tree.{Tree}
 use Rattle.cv_meaning.specs.Tapes.{Cell, Key_at, Made_at, New_at}
 use Rattle.cv_directory.specs.Sites.{first_of}
 use Rattle.cv_scenes.specs.Sights.{variable_of}
-use Rattle.cv_reductions.specs.Instances.{is_read_of}
-use Rattle.cv_reductions.specs.Sites.{Site}
-use Rattle.cv_reductions.specs.Reductions.{Reduction, sites}
+use Rattle.cv_scenes.specs.Instances.{is_read_of}
+use Rattle.cv_scenes.specs.Sites.{Site}
+use Rattle.cv_scenes.specs.Reductions.{Reduction, sites}
 
 -- a coin of a site, by its name in the body and the number of the site
 pub record Coin : Type 0 where

@@ -1,0 +1,2 @@
+pub mod Locality
+pub mod OnlyMade

@@ -1,9 +1,0 @@
-pub mod Instances
-pub mod Sites
-pub mod Refusals
-pub mod Contexts
-pub mod LeftTerms
-pub mod Standing
-pub mod Reductions
-pub mod Cells
-pub mod Apt
