@@ -20,7 +20,7 @@ use Rattle.cv_kernel.specs.Proofs.{IsProof, Transition, push, start}
 use Rattle.cv_kernel.specs.Steps.{judgement_by, step_in}
 use Rattle.cv_parse.proofs.Exactness.{says_is_said}
 use Rattle.cv_parse_terminals.specs.Signs.{signs_of}
-use Rattle.cv_parse_sorts.proofs.Games.{constants_declared}
+use Rattle.cv_parse_roles.proofs.Games.{constants_declared}
 use Rattle.cv_parse_sorts.proofs.Known.{queries_known}
 use Rattle.cv_plain.specs.Strategy.{closing, most_pool}
 use Rattle.cv_query_form.specs.Queries.{queries_in}

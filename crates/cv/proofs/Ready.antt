@@ -4,7 +4,7 @@ use Rattle.cv_parse_notation.specs.declared.sign.Sign.{Sign}
 use Rattle.cv_parse.specs.Parsed.{Parsed, parsed}
 use Rattle.cv_parse_laws.proofs.Games.{well_formed}
 use Rattle.cv_parse_sorts.proofs.Closed.{equations_closed}
-use Rattle.cv_parse_sorts.proofs.Games.{arguments_named, constants_declared, sorts_declared}
+use Rattle.cv_parse_roles.proofs.Games.{arguments_named, constants_declared, sorts_declared}
 use Rattle.cv_parse_sorts.proofs.NamedGames.{functions_and_cells_named}
 use Rattle.cv_parse_sorts.proofs.TypedRuns.{last_typed}
 use Rattle.cv_scope.specs.Scope.{IsScoped}

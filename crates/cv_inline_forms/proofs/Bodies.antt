@@ -16,9 +16,9 @@ use Rattle.cv_parse_grammar.specs.Processes.{find_in, let_in, new_in}
 use Rattle.cv_parse_grammar.specs.Rules.{rule}
 use Rattle.cv_parse_grammar.specs.Terms.{condition, term, yes}
 use Rattle.cv_parse_laws.specs.Shapes.{IsFree, IsOfSort, IsShaped}
-use Rattle.cv_parse_laws.specs.Yields.{IfThere, Yields}
+use Rattle.cv_parse_yields.specs.Yields.{IfThere, Yields}
 use Rattle.cv_parse_laws.proofs.Rows.{rows}
-use Rattle.cv_parse_laws.proofs.Yielding.{Gives, anything, before, behind, below, follow, leveled, one_of, perhaps, several, turned, weaker}
+use Rattle.cv_parse_yields.proofs.Yielding.{Gives, anything, before, behind, below, follow, leveled, one_of, perhaps, several, turned, weaker}
 use Rattle.cv_scope.specs.Phrases.{Term, is_phrase}
 use Rattle.cv_group_rules.specs.Rules.{have_one_index}
 use Rattle.cv_inline_accepted.specs.RightBodies.{are_body_cells, are_right_branches, are_right_functions, is_body_term, is_empty, is_right_body, is_right_side}

@@ -9,8 +9,8 @@ use Rattle.cv_parse_grammar.specs.Rules.{File, file, heads, rule}
 use Rattle.cv_parse_grammar.specs.Whole.{IsRead}
 use Rattle.cv_parse.specs.Parsed.{Parsed, bool_type, parsed}
 use Rattle.cv_parse.proofs.Exactness.{said_is_saying}
-use Rattle.cv_parse_laws.proofs.Naming.{all_used}
-use Rattle.cv_parse_laws.proofs.Yielding.{forms_tell}
+use Rattle.cv_parse_yields.proofs.Naming.{all_used}
+use Rattle.cv_parse_yields.proofs.Yielding.{forms_tell}
 use Rattle.cv_group_rules.specs.Faults.{equivalences_in}
 use Rattle.cv_inline_forms.proofs.Bodies.{IsNamed, OfSort, all_rows}
 use Rattle.cv_inline_forms.proofs.Rows.{HasForm, HaveRightForms, of_file}

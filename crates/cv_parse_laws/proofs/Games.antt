@@ -17,11 +17,11 @@ use Rattle.cv_parse.proofs.Exactness.{said_is_saying}
 use Rattle.cv_scope.specs.Scope.{IsScoped}
 use Rattle.cv_scope.specs.Phrases.{Inputs, IsWellFormed}
 use Rattle.cv_parse_laws.specs.Shapes.{IsFree, IsOfSort, IsShaped}
-use Rattle.cv_parse_laws.specs.Yields.{AllUsed}
+use Rattle.cv_parse_yields.specs.Yields.{AllUsed}
 use Rattle.cv_parse_laws.proofs.Filling.{filled_is}
-use Rattle.cv_parse_laws.proofs.Naming.{all_used, among, bound_undeclared, undeclared_constant}
+use Rattle.cv_parse_yields.proofs.Naming.{all_used, among, bound_undeclared, undeclared_constant}
 use Rattle.cv_parse_laws.proofs.Rows.{of_file, rows}
-use Rattle.cv_parse_laws.proofs.Yielding.{forms_tell}
+use Rattle.cv_parse_yields.proofs.Yielding.{forms_tell}
 
 -- a name that is bound is no constant of the declarations
 constants_free : (ts : List Sign) (ds : List Declaration) (s : Option (ℕ × ℕ)) (g : Tree) (w : IsRead ts ds s g) → AllUsed (IsFree (is_constant_of ds)) w.uses

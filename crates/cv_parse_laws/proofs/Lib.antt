@@ -1,10 +1,8 @@
 pub mod Blocks
 pub mod Braced
-pub mod Yielding
 pub mod Shaping
 pub mod Rows
 pub mod Filling
-pub mod Naming
 pub mod Games
 pub mod Tokens
 pub mod WordRows

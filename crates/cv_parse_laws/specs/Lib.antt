@@ -1,4 +1,3 @@
 pub mod Blocks
-pub mod Yields
 pub mod Shapes
 pub mod Words

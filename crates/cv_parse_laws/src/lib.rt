@@ -2,11 +2,10 @@
 // is read back from its text. Its names stand outside its proof block.
 #![tactic(auto)]
 
-ghost use Rattle.std.specs.Prelude.{◌≡◌, ℕ, Bool, IsTrue, List, Ok, Option, true};
+ghost use Rattle.std.specs.Prelude.{◌≡◌, ℕ, Bool, List, Ok, Option, true};
 ghost use Rattle.cv_syntax.specs.Tree.{Tree};
 ghost use Rattle.cv_parse_notation.specs.declared.sign.Sign.{Sign};
 ghost use Rattle.cv_parse_notation.specs.Spells.{IsSort};
-ghost use Rattle.cv_parse_grammar.specs.declared.role.Role.{Role};
 ghost use Rattle.cv_parse_grammar.specs.Filled.{filled_at};
 ghost use Rattle.cv_parse_grammar.specs.Names.{Uses};
 ghost use Rattle.cv_parse_grammar.specs.Phrases.{Sort};
@@ -16,7 +15,7 @@ ghost use Rattle.cv_parse.specs.Parsed.{Parsed, parsed};
 ghost use Rattle.cv_scope.specs.Scope.{IsScoped};
 ghost use Rattle.cv_scope.specs.Phrases.{Phrase, Inputs, IsWellFormed, is_phrase, binds_none};
 ghost use Rattle.cv_parse_laws.specs.Shapes.{IsFree, IsOfSort, IsShaped};
-ghost use Rattle.cv_parse_laws.specs.Yields.{AllUsed, Yields};
+ghost use Rattle.cv_parse_yields.specs.Yields.{AllUsed};
 ghost use Rattle.std.specs.List.{AllByRecursion};
 ghost use Rattle.cv_lex.specs.Lexis.{Token};
 ghost use Rattle.cv_lex.specs.View.{AreTokens};
@@ -24,16 +23,6 @@ ghost use Rattle.cv_parse_terminals.specs.Signs.{signs_in, signs_of};
 ghost use Rattle.cv_parse_laws.specs.Blocks.{around};
 ghost use Rattle.cv_print_terminals.specs.Written.{IsWritten, is_name};
 ghost use Rattle.cv_parse_laws.specs.Words.{AreNamed, HasWords, WordsOfSort};
-
-/// What the values of each row have, where the values one level down have it and each name is such in its
-/// role, all that is spelled has, where each of its names is such.
-pub fn rows_are_enough()
-    ensures { (named : Role → ℕ → Bool) (has : Sort → Tree → Bool) →
-        ((s : Sort) (t : Tree) →
-        Yields (λ r x. IsTrue (named r x)) (λ z a. IsTrue (has z a)) (rule s) t → IsTrue (has s t)) →
-        (n : ℕ) (s : Sort) (tokens : List Sign) (t : Tree) (uses : Uses) (rest : List Sign) →
-        IsSort heads rule n s tokens t uses rest → AllUsed (λ r x. IsTrue (named r x)) uses → IsTrue (has s t) }
-{}
 
 /// What is spelled by the rows of processes and terms is a phrase of a game. Where no barred name is bound
 /// among its uses of names, none is bound in the phrase.

@@ -24,14 +24,14 @@ use Rattle.cv_parse_grammar.specs.Phrases as sort
 use Rattle.cv_parse_grammar.specs.Rules.{File, heads, rule}
 use Rattle.cv_parse_grammar.specs.Terms.{equality}
 use Rattle.cv_parse_grammar.specs.Whole.{IsRead, built_in}
-use Rattle.cv_parse_laws.specs.Yields.{AllUsed}
-use Rattle.cv_parse_laws.proofs.Naming.{all_used}
-use Rattle.cv_parse_laws.proofs.Yielding.{Gives, anything, behind, follow, forms_tell, one_of, turned, weaker}
+use Rattle.cv_parse_yields.specs.Yields.{AllUsed}
+use Rattle.cv_parse_yields.proofs.Naming.{all_used}
+use Rattle.cv_parse_yields.proofs.Yielding.{Gives, anything, behind, follow, forms_tell, one_of, turned, weaker}
 use Rattle.cv_derivations_under.specs.Truth.{is_name_of}
 use Rattle.cv_parse_queries.proofs.Terms.{AreTermsOver, IsTermOver, Mentioned, OfTerms, of_arguments, of_equality, term_rows}
 use Rattle.cv_parse_queries.proofs.Parts.{AreBinders, IsInside, Spelled, all_inside, binder_inside, is_of_binder, is_of_term, is_term_sort, no_sorts, only_front, own_append, own_kept, part_append, part_kept, term_inside, vars_bind}
-use Rattle.cv_parse_sorts.proofs.Forms.{in_row, or_this}
-use Rattle.cv_parse_sorts.proofs.UsedRoles.{IsIn, form_uses, has_roles, sort_uses}
+use Rattle.cv_parse_roles.proofs.Forms.{in_row, or_this}
+use Rattle.cv_parse_roles.proofs.UsedRoles.{IsIn, form_uses, has_roles, sort_uses}
 
 -- the right side of a correspondence over names of L
 

@@ -15,9 +15,9 @@ use Rattle.cv_parse_grammar.specs.Names.{Uses, binds, is_used, own_from, part_af
 use Rattle.cv_parse_grammar.specs.Phrases.{Sort, typed}
 use Rattle.cv_parse_grammar.specs.Phrases as sort
 use Rattle.cv_parse_grammar.specs.Rules.{heads}
-use Rattle.cv_parse_laws.specs.Yields.{AllUsed}
+use Rattle.cv_parse_yields.specs.Yields.{AllUsed}
 use Rattle.cv_derivations_under.specs.Truth.{is_name_of}
-use Rattle.cv_parse_sorts.proofs.UsedRoles.{IsIn, form_uses}
+use Rattle.cv_parse_roles.proofs.UsedRoles.{IsIn, form_uses}
 
 -- roles
 

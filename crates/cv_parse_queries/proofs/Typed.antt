@@ -26,10 +26,10 @@ use Rattle.cv_typing.specs.Typing.{IsTyped, fault_of, site_differs, value_fault}
 use Rattle.cv_typing.specs.Wants.{Want, all_bound, bound, is_wrong}
 use Rattle.cv_first_fault.specs.Walk.{IsObeyed}
 use Rattle.cv_derivations_under.specs.Truth.{AreOver, IsOver, is_name_of}
-use Rattle.cv_parse_sorts.proofs.Constants.{is_constant, kind_of, only_declaration}
-use Rattle.cv_parse_sorts.proofs.Declared.{Used, function_declared}
+use Rattle.cv_parse_roles.proofs.Constants.{is_constant, kind_of, only_declaration}
+use Rattle.cv_parse_roles.proofs.Declared.{Used, function_declared}
 use Rattle.cv_parse_queries.proofs.Terms.{AreTermsOver, IsTermOver}
-use Rattle.cv_parse_sorts.proofs.Games.{kinds}
+use Rattle.cv_parse_roles.proofs.Games.{kinds}
 
 -- a function that is declared, which is a constant where it has no arguments
 abbrev pub IsFunction : List Declaration → ℕ → Type 0

@@ -13,9 +13,9 @@ use Rattle.cv_parse_grammar.specs.Phrases as sort
 use Rattle.cv_parse_grammar.specs.Rules.{rule}
 use Rattle.cv_parse_grammar.specs.declared.role.Role.{Role}
 use Rattle.cv_parse_laws.specs.Shapes.{IsFree, IsOfSort}
-use Rattle.cv_parse_laws.specs.Yields.{IfThere, Yields}
+use Rattle.cv_parse_yields.specs.Yields.{IfThere, Yields}
 use Rattle.cv_parse_laws.proofs.Rows.{rows as rows_of_files}
-use Rattle.cv_parse_laws.proofs.Yielding.{forms_tell}
+use Rattle.cv_parse_yields.proofs.Yielding.{forms_tell}
 use Rattle.cv_parse_script_laws.proofs.Fitting.{deep_rule}
 use Rattle.cv_parse_tables.specs.declared.piece.Outer.{Outer}
 use Rattle.cv_parse_tables.specs.declared.piece.Outer.TheVariants as outer

@@ -12,7 +12,7 @@ use Rattle.cv_parse_grammar.specs.declared.role.Role.TheVariants.{Mentions, Ment
 use Rattle.cv_parse_grammar.specs.Names.{Uses, as_call}
 use Rattle.cv_parse_grammar.specs.Phrases.{Phrase, Sort, or_else, row, bracket, square}
 use Rattle.cv_parse_grammar.specs.Rules.{heads}
-use Rattle.cv_parse_laws.specs.Yields.{IfThere}
+use Rattle.cv_parse_yields.specs.Yields.{IfThere}
 
 module _ (F V : ℕ → Type 0) where
   -- of a use and those behind it: what is called is a function, the variable of a cell is a variable

@@ -28,11 +28,11 @@ use Rattle.cv_typing.specs.Typing.{IsTyped, fault_of, site_differs, value_fault}
 use Rattle.cv_typing.specs.Wants.{Of, Want, all_bound, bound, is_wrong}
 use Rattle.cv_first_fault.specs.Walk.{IsObeyed}
 use Rattle.cv_derivations_under.specs.Truth.{AreOver, HasClosedEquations, IfEquation, IsOver, is_name_of}
-use Rattle.cv_parse_sorts.proofs.Constants.{is_constant, kind_of, only_declaration}
-use Rattle.cv_parse_sorts.proofs.Declared.{Used, function_declared}
+use Rattle.cv_parse_roles.proofs.Constants.{is_constant, kind_of, only_declaration}
+use Rattle.cv_parse_roles.proofs.Declared.{Used, function_declared}
 use Rattle.cv_parse_sorts.proofs.EquationTerms.{AreTermsOver, IsTermOver}
 use Rattle.cv_parse_sorts.proofs.Equations.{All, IfNamed, read_equations}
-use Rattle.cv_parse_sorts.proofs.Games.{kinds}
+use Rattle.cv_parse_roles.proofs.Games.{kinds}
 
 -- a function that is declared, which is a constant where it has no arguments
 abbrev IsFunction : List Declaration → ℕ → Type 0

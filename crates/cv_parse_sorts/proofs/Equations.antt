@@ -26,12 +26,12 @@ use Rattle.cv_parse_grammar.specs.Rules.{File, heads, rule}
 use Rattle.cv_parse_grammar.specs.Terms.{term}
 use Rattle.cv_parse_grammar.specs.Terms as terms
 use Rattle.cv_parse_grammar.specs.Whole.{IsRead, built_in}
-use Rattle.cv_parse_laws.specs.Yields.{AllUsed}
-use Rattle.cv_parse_laws.proofs.Naming.{all_used}
-use Rattle.cv_parse_laws.proofs.Yielding.{forms_tell}
+use Rattle.cv_parse_yields.specs.Yields.{AllUsed}
+use Rattle.cv_parse_yields.proofs.Naming.{all_used}
+use Rattle.cv_parse_yields.proofs.Yielding.{forms_tell}
 use Rattle.cv_derivations_under.specs.Truth.{is_name_of}
 use Rattle.cv_parse_sorts.proofs.EquationTerms.{IsTermOver, Mentioned, OfTerms, of_term, term_rows}
-use Rattle.cv_parse_sorts.proofs.UsedRoles.{IsIn, form_uses, has_roles, sort_uses}
+use Rattle.cv_parse_roles.proofs.UsedRoles.{IsIn, form_uses, has_roles, sort_uses}
 
 -- roles
 

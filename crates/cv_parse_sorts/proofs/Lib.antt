@@ -1,15 +1,7 @@
-pub mod Constants
-pub mod Declared
-pub mod DeclaredKinds
-pub mod Filling
-pub mod Forms
-pub mod Games
-pub mod Rows
 mod Queries
 mod SmallNames
 mod UsedNames
 pub mod Known
-pub mod UsedRoles
 mod EquationTerms
 mod Equations
 pub mod Closed

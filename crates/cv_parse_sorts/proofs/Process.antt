@@ -20,8 +20,8 @@ use Rattle.cv_parse_grammar.specs.Phrases as sort
 use Rattle.cv_parse_grammar.specs.Processes.{inputs}
 use Rattle.cv_parse_grammar.specs.Rules.{File, heads, proof_block, rule}
 use Rattle.cv_parse_grammar.specs.Whole.{built_in}
-use Rattle.cv_parse_laws.specs.Yields.{AllUsed}
-use Rattle.cv_parse_sorts.proofs.UsedRoles.{IsIn, form_uses, has_roles, sort_uses}
+use Rattle.cv_parse_yields.specs.Yields.{AllUsed}
+use Rattle.cv_parse_roles.proofs.UsedRoles.{IsIn, form_uses, has_roles, sort_uses}
 use Rattle.cv_parse_sorts.proofs.Calls.{AllSay, Says}
 use Rattle.cv_parse_sorts.proofs.Bindings.{IsBound, bound_parts}
 use Rattle.cv_parse_sorts.proofs.BindingRows.{quiet_form}

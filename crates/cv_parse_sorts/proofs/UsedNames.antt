@@ -6,7 +6,7 @@ use Rattle.cv_parse_notation.specs.declared.sign.Sign.{Sign}
 use Rattle.cv_parse_notation.specs.Form.{Form, sign, script_word, word, number, nought, find_word, unnamed, other, note, both, may, many, either, made, level, deeper}
 use Rattle.cv_parse_notation.specs.Spells.{Each, IsSort, Kind, Perhaps, Relation, Spells, Use, no_sort, starts}
 use Rattle.cv_parse_notation.specs.Whole.{SpellsWith}
-use Rattle.cv_parse_laws.specs.Yields.{AllUsed}
+use Rattle.cv_parse_yields.specs.Yields.{AllUsed}
 use Rattle.cv_parse_sorts.proofs.SmallNames.{AreBelow}
 
 -- a note about names uses the number 0, so that is below the bound too

@@ -1,4 +1,4 @@
-// The types and parameters that the game of a file names are declared, and it knows the names of its queries.
+// What a typed file is known to have: closed equations, functions and cells that are there, typed runs, and the names of its queries.
 #![tactic(auto)]
 
 ghost use Rattle.std.specs.Prelude.{◌≡◌, ℕ, List, Ok, length, nat_lt};
@@ -15,26 +15,7 @@ ghost use Rattle.cv_meaning.specs.Satisfies.{Satisfies};
 ghost use Rattle.cv_scope.specs.Scope.{IsScoped};
 ghost use Rattle.cv_typing.specs.Parts.{IsTypedFile};
 ghost use Rattle.cv_derivations_under.specs.Truth.{HasClosedEquations};
-ghost use Rattle.cv_typing_runs.specs.Games.{HasArguments, HasConstants, HasDeclaredSorts, HasNamedFunctionsAndCells, HasTypedRuns};
-
-/// The types that `new`, `let` and the binders of inputs name in the game of a file are declared as types or
-/// `bool`, and the parameters of its replications and branches as parameters, by the rules of names.
-pub fn games_name_declared_sorts()
-    ensures { (limit : ℕ) (signs : List Sign) (p : Parsed) →
-        parsed limit signs ≡ Ok p → HasDeclaredSorts p.declarations p.game }
-{}
-
-/// The arguments of what a file declares are lists of names of types.
-pub fn declarations_have_arguments()
-    ensures { (limit : ℕ) (signs : List Sign) (p : Parsed) →
-        parsed limit signs ≡ Ok p → HasArguments p.declarations }
-{}
-
-/// What the declarations of a file name as a constant is a function for typing, too.
-pub fn constants_are_functions()
-    ensures { (limit : ℕ) (signs : List Sign) (p : Parsed) →
-        parsed limit signs ≡ Ok p → HasConstants p.declarations }
-{}
+ghost use Rattle.cv_typing_runs.specs.Games.{HasNamedFunctionsAndCells, HasTypedRuns};
 
 /// An equation of a file that is typed says something of functions, of constants and of its own variables
 /// alone.

@@ -10,7 +10,7 @@ use Rattle.cv_parse_grammar.specs.declared.role.Role.{Role}
 use Rattle.cv_parse_grammar.specs.declared.role.Role.TheVariants.{Asks, BindsVariable, BindsIndex, AsksIndex, Mentions, MentionsCell, AsCall, AsArray, AsBare, Enters, Leaves}
 use Rattle.cv_parse_grammar.specs.Identities.{is_among}
 use Rattle.cv_parse_grammar.specs.Names.{AreNamed, Uses, as_bare, as_call, binds_index, binds_variable, cell_known_in, declares, declares_as, is_function, is_used, is_variable, known_in, obeys, part_after, part_from}
-use Rattle.cv_parse_laws.proofs.Naming.{bound_undeclared}
+use Rattle.cv_parse_yields.proofs.Naming.{bound_undeclared}
 use Rattle.cv_print_files.proofs.Passing.{AtEnd, Obey, ends, fits, with_index}
 
 -- what is used before, or behind, is used

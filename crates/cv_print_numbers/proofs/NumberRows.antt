@@ -16,7 +16,7 @@ use Rattle.cv_parse_grammar.specs.Phrases as sort
 use Rattle.cv_parse_grammar.specs.Terms.{terms, arguments, subscript, parentheses, called, indexed, alone, mention, negation, truth, falsehood, primary, unequal, equal_to, unequal_to, equality, conjoined, conjunction, disjoined, term, cell_of, cell, cells, yes, condition}
 use Rattle.cv_parse_grammar.specs.Processes.{stops, yields, name_of, channel, channel_indices, find_in, ending, replication, receiving, input, beside, inputs, received, pattern, variables, yielding, sent, sending, payload, continuation, outgoing, restriction, assignment, recording, otherwise, testing, finding, branch, output}
 use Rattle.cv_parse_grammar.specs.Rules.{file, rule}
-use Rattle.cv_parse_laws.specs.Yields.{IfThere}
+use Rattle.cv_parse_yields.specs.Yields.{IfThere}
 use Rattle.cv_print_bytes.specs.Known.{head_is_named, is_named}
 use Rattle.cv_print_numbers.proofs.Numbering.{Gives, Holds, a_find, a_number, a_word, anything, before, behind, below, fits_label, follow, leveled, one_of, perhaps, several, turned}
 

@@ -12,7 +12,7 @@ use Rattle.cv_parse_notation.specs.Whole.{SpellsWith}
 use Rattle.cv_parse_grammar.specs.declared.role.Role.{Role}
 use Rattle.cv_parse_grammar.specs.Phrases.{Phrase, Sort}
 use Rattle.cv_parse_grammar.specs.Rules.{heads, rule}
-use Rattle.cv_parse_laws.specs.Yields.{IfThere}
+use Rattle.cv_parse_yields.specs.Yields.{IfThere}
 
 -- a label fits 64 bits
 abbrev pub fits_label : ℕ → Bool

@@ -18,11 +18,11 @@ use Rattle.cv_parse_grammar.specs.Terms.{arguments, terms}
 use Rattle.cv_parse_grammar.specs.declared.role.Role.{Role}
 use Rattle.cv_parse_laws.specs.Shapes.{IsFree, IsOfSort}
 use Rattle.cv_parse_laws.specs.Words.{AreNamed, IsNamed, WordsOfSort}
-use Rattle.cv_parse_laws.specs.Yields.{Yields}
+use Rattle.cv_parse_yields.specs.Yields.{Yields}
 use Rattle.cv_parse_laws.proofs.Rows.{rows as shape_rows}
 use Rattle.cv_parse_laws.proofs.Tokens as tokens
 use Rattle.cv_parse_laws.proofs.WordRows.{rows as word_rows}
-use Rattle.cv_parse_laws.proofs.Yielding as yielding
+use Rattle.cv_parse_yields.proofs.Yielding as yielding
 use Rattle.cv_parse_script_laws.proofs.Fitting.{deep_rule}
 use Rattle.cv_parse_tables.specs.declared.piece.Outer.{Outer}
 use Rattle.cv_parse_tables.specs.declared.piece.Outer.TheVariants as outer

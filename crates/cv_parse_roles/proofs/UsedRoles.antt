@@ -6,7 +6,7 @@ use Rattle.cv_syntax.specs.Tree.{Tree}
 use Rattle.cv_parse_notation.specs.declared.sign.Sign.{Sign}
 use Rattle.cv_parse_notation.specs.Form.{Form, sign, script_word, word, number, nought, find_word, unnamed, other, note, both, may, many, either, made, level, deeper}
 use Rattle.cv_parse_notation.specs.Spells.{Each, IsSort, Kind, Perhaps, Relation, Spells, Use, no_sort, starts}
-use Rattle.cv_parse_laws.specs.Yields.{AllUsed}
+use Rattle.cv_parse_yields.specs.Yields.{AllUsed}
 
 module _ {R σ : Type 0} (p : R → Bool) (q : σ → Bool) where
   -- the form uses names in these roles, and has these sorts one level down

@@ -15,13 +15,13 @@ use Rattle.cv_parse_grammar.specs.Identities.{declared_in, ids_of, is_among}
 use Rattle.cv_parse_grammar.specs.Names.{AreNamed, Uses, asked_code, declares, declares_as, is_declared, is_used, obeys}
 use Rattle.cv_parse_grammar.specs.Whole.{built_in}
 use Rattle.cv_parse.specs.Parsed.{bool_type}
-use Rattle.cv_parse_laws.specs.Yields.{AllUsed}
-use Rattle.cv_parse_laws.proofs.Naming.{all_used, among}
+use Rattle.cv_parse_yields.specs.Yields.{AllUsed}
+use Rattle.cv_parse_yields.proofs.Naming.{all_used, among}
 use Rattle.cv_meaning_laws.proofs.Listed.{Has, has_left}
 use Rattle.cv_meaning_adequacy.specs.Typed.{BelowParameter, IsDeclared, OfType}
 use Rattle.cv_meaning_adequacy.proofs.Lists.{any_has, has_any, has_contains, or_cases}
-use Rattle.cv_parse_sorts.proofs.Rows.{Asked as AskedHere}
-use Rattle.cv_parse_sorts.proofs.DeclaredKinds.{DeclaredAs, OfKind, asked_of}
+use Rattle.cv_parse_roles.proofs.Rows.{Asked as AskedHere}
+use Rattle.cv_parse_roles.proofs.DeclaredKinds.{DeclaredAs, OfKind, asked_of}
 
 -- a use of a name in a role
 abbrev pub Used : Uses → Role → ℕ → Type 0

@@ -13,7 +13,7 @@ use Rattle.cv_meaning_laws.proofs.Listed.{Has}
 use Rattle.cv_meaning_adequacy.proofs.Lists.{or_cases}
 use Rattle.cv_typing.specs.Signature.{declaration_of, function_by}
 use Rattle.cv_typing_runs.specs.Games.{HasConstants}
-use Rattle.cv_parse_sorts.proofs.DeclaredKinds.{OfKind}
+use Rattle.cv_parse_roles.proofs.DeclaredKinds.{OfKind}
 
 -- the only declaration of a name is its first
 

@@ -18,9 +18,9 @@ use Rattle.cv_meaning_adequacy.specs.Typed.{IsDeclared}
 use Rattle.cv_directory.specs.declared.sort.Sort as directory
 use Rattle.cv_directory.specs.declared.sort.Sort.TheVariants.{BelowParameter, OfType}
 use Rattle.cv_typing_runs.specs.Games.{AreDeclared, HasDeclaredSorts, NamesDeclared, sort_of_meaning}
-use Rattle.cv_parse_laws.specs.Yields.{IfThere, Yields}
-use Rattle.cv_parse_laws.proofs.Yielding.{Gives, a_word, anything, behind, below, follow, leveled, one_of, perhaps, several, turned, weaker}
-use Rattle.cv_parse_sorts.proofs.Forms.{Tail, after_is, bracketed, enclosed, in_row, or_this, squared}
+use Rattle.cv_parse_yields.specs.Yields.{IfThere, Yields}
+use Rattle.cv_parse_yields.proofs.Yielding.{Gives, a_word, anything, behind, below, follow, leveled, one_of, perhaps, several, turned, weaker}
+use Rattle.cv_parse_roles.proofs.Forms.{Tail, after_is, bracketed, enclosed, in_row, or_this, squared}
 
 module _ (ds : List Declaration) where
   -- what a use of a name says: where a type or a parameter is asked for, it is declared

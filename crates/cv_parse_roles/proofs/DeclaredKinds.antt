@@ -15,8 +15,8 @@ use Rattle.cv_parse_grammar.specs.Declarations.{channel_decl, collision_decl, co
 use Rattle.cv_parse_grammar.specs.Phrases.{Sort}
 use Rattle.cv_parse_grammar.specs.Rules.{file}
 use Rattle.cv_typing.specs.Signature.{names_in}
-use Rattle.cv_parse_laws.proofs.Yielding.{Gives, a_word, anything, before, behind, follow, one_of, several, turned}
-use Rattle.cv_parse_sorts.proofs.Forms.{bracketed, in_row, or_this}
+use Rattle.cv_parse_yields.proofs.Yielding.{Gives, a_word, anything, before, behind, follow, one_of, several, turned}
+use Rattle.cv_parse_roles.proofs.Forms.{bracketed, in_row, or_this}
 
 -- a list of names
 abbrev pub IsNames : Tree → Type 0

@@ -7,8 +7,8 @@ use Rattle.cv_parse_notation.specs.Form.{Form, made, may}
 use Rattle.cv_parse_grammar.specs.declared.role.Region.{Region}
 use Rattle.cv_parse_grammar.specs.declared.role.Role.{Role}
 use Rattle.cv_parse_grammar.specs.Phrases.{Sort, or_else, after, row, bracket, square, inside}
-use Rattle.cv_parse_laws.specs.Yields.{IfThere}
-use Rattle.cv_parse_laws.proofs.Yielding.{Gives, anything, before, behind, follow, leveled, perhaps, several, turned}
+use Rattle.cv_parse_yields.specs.Yields.{IfThere}
+use Rattle.cv_parse_yields.proofs.Yielding.{Gives, anything, before, behind, follow, leveled, perhaps, several, turned}
 
 else_is : {A : Type 0} (p : A → Type 0) (a : A) → p a → (o : Option A) → IfThere p o → p (or_else a o)
 else_is p a w None v = w

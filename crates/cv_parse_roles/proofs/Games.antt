@@ -15,14 +15,14 @@ use Rattle.cv_parse.specs.Parsed.{Parsed, bool_type, parsed}
 use Rattle.cv_parse.proofs.Exactness.{said_is_saying}
 use Rattle.cv_typing.specs.Signature.{names_in}
 use Rattle.cv_typing_runs.specs.Games.{HasArguments, HasConstants, HasDeclaredSorts}
-use Rattle.cv_parse_laws.specs.Yields.{AllUsed}
-use Rattle.cv_parse_laws.proofs.Naming.{all_used}
-use Rattle.cv_parse_laws.proofs.Yielding.{forms_tell}
-use Rattle.cv_parse_sorts.proofs.Constants.{constants_are}
-use Rattle.cv_parse_sorts.proofs.Declared.{Used, all_asked}
-use Rattle.cv_parse_sorts.proofs.DeclaredKinds.{OfKind, of_declarations}
-use Rattle.cv_parse_sorts.proofs.Filling.{filled_is}
-use Rattle.cv_parse_sorts.proofs.Rows.{Asked, OfSort, of_file, rows}
+use Rattle.cv_parse_yields.specs.Yields.{AllUsed}
+use Rattle.cv_parse_yields.proofs.Naming.{all_used}
+use Rattle.cv_parse_yields.proofs.Yielding.{forms_tell}
+use Rattle.cv_parse_roles.proofs.Constants.{constants_are}
+use Rattle.cv_parse_roles.proofs.Declared.{Used, all_asked}
+use Rattle.cv_parse_roles.proofs.DeclaredKinds.{OfKind, of_declarations}
+use Rattle.cv_parse_roles.proofs.Filling.{filled_is}
+use Rattle.cv_parse_roles.proofs.Rows.{Asked, OfSort, of_file, rows}
 use Rattle.cv_meaning_laws.proofs.Listed.{Has, has_right}
 
 arguments_of : (W : Role → ℕ → Type 0) (ds : List Declaration) → AllByRecursion (OfKind W) ds → HasArguments ds

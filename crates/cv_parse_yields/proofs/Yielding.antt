@@ -8,7 +8,7 @@ use Rattle.cv_parse_notation.specs.declared.sign.Sign.{Sign}
 use Rattle.cv_parse_notation.specs.Form.{Form, sign, script_word, word, number, nought, find_word, unnamed, other, note, both, may, many, either, made, level, deeper, ◌▸◌, ◌◂◌}
 use Rattle.cv_parse_notation.specs.Spells.{Each, IsSort, Kind, Perhaps, Relation, Spells, Use, no_sort, starts}
 use Rattle.cv_parse_notation.specs.Whole.{SpellsWith}
-use Rattle.cv_parse_laws.specs.Yields.{AllUsed, IfThere, Yields}
+use Rattle.cv_parse_yields.specs.Yields.{AllUsed, IfThere, Yields}
 
 module _ {R σ : Type 0} (W : R → ℕ → Type 0) (P : σ → Tree → Type 0) where
   -- what is spelled is such, where its names are
