@@ -1,4 +1,3 @@
-pub mod Walked
 pub mod Serving
 pub mod Fitting
 pub mod Refusing

@@ -6,8 +6,8 @@ use Rattle.cv_scope.specs.declared.position.Position.TheVariants.{Anywhere}
 use Rattle.cv_scenes.specs.Instances.{Matching}
 use Rattle.cv_scenes.specs.Refusals.{Refusal, CoinUse, InCondition, KeyInArgument, NotOneSite, Use, at_place, first_argument_use, first_coin_use, first_in_condition, first_refusal, first_use, has_key}
 use Rattle.cv_scenes.specs.Sites.{Site, sites_of}
-use Rattle.cv_match_uses.specs.Within.{use_within}
-use Rattle.cv_match.specs.Walks.{use_unless}
+use Rattle.cv_match_reads.specs.Within.{use_within}
+use Rattle.cv_match_sites.specs.Walks.{use_unless}
 use Rattle.cv_match.specs.declared.fault.MatchFault.{MatchFault}
 use Rattle.cv_match.specs.declared.fault.MatchFault.TheVariants as fault
 use Rattle.cv_match.specs.Matched.{IsFault, key_refusal, site_refusal}

@@ -9,12 +9,14 @@ ghost use Rattle.cv_typing.specs.Lookups.{IsLive};
 ghost use Rattle.cv_scenes.specs.Instances.{term_for};
 ghost use Rattle.cv_scenes.specs.Refusals as refusals;
 ghost use Rattle.cv_scenes.specs.Refusals.{new_of, stands_under};
-ghost use Rattle.cv_match_patterns.specs.Searches.{IsReady, matching_by};
+ghost use Rattle.cv_match_patterns.specs.Searches.{IsReady};
 ghost use Rattle.cv_match_patterns.specs.Sites.{IsLiveSite, site_in};
+ghost use Rattle.cv_match_sites.specs.Matchings.{matching_by};
 ghost use Rattle.cv_match_uses.specs.Tallies.{IsTableOf};
 ghost use Rattle.cv_match.specs.Fitting.{IsSmallSite, has_coins, is_own_use};
 
-use cv_match_patterns::{Search, Site, body_of, coins_of, is_cell, term_of, variable_of};
+use cv_match_patterns::{Search, Site, body_of, coins_of, term_of, variable_of};
+use cv_match_reads::is_cell;
 use cv_match_uses::{UseTable, uses};
 use cv_rule_scenes::is_queried;
 use cv_syntax::{Head, NodeId, Work, read_node};

@@ -3,7 +3,8 @@ ghost use Rattle.cv_syntax.specs.Tree.{tree_at};
 ghost use Rattle.cv_typing.specs.Lookups.{IsLive};
 ghost use Rattle.cv_scenes.specs.Refusals as refusals;
 ghost use Rattle.cv_scenes.specs.Refusals.{is_of_type, new_of};
-ghost use Rattle.cv_match_patterns.specs.Searches.{IsReady, matching_by};
+ghost use Rattle.cv_match_patterns.specs.Searches.{IsReady};
+ghost use Rattle.cv_match_sites.specs.Matchings.{matching_by};
 ghost use Rattle.cv_match_uses.specs.Tallies.{IsTableOf};
 
 use cv_match_patterns::{Search, key_of};

@@ -4,10 +4,8 @@
 mod arguments;
 mod coins;
 mod fault;
-mod gathering;
 mod key;
 mod matching;
-mod reading;
 
 pub use fault::MatchFault;
 pub use matching::{Match, matches};

@@ -1,5 +1,5 @@
 -- What bodies begin with, function by function, and that a term with another head is no instance.
-use Rattle.std.proofs.Common.{◌≡◌, ℕ, suc, Bool, true, false, ◌&&◌, List, [], ◌∷◌, ◌++◌, Option, Some, None, refl, ap, ap₂, sym, ◌∙◌}
+use Rattle.std.proofs.Common.{◌≡◌, ℕ, suc, Bool, true, false, ◌&&◌, List, [], ◌∷◌, ◌++◌, Some, None, refl, ap, sym, ◌∙◌}
 use Rattle.std.specs.Prelude.{◌||◌, if◌then◌else◌}
 use Rattle.std.specs.List.{list_any}
 use Rattle.std.proofs.lemmas.List.Folds.{list_any-append}
@@ -11,7 +11,7 @@ use Rattle.cv_syntax.specs.Tree.{Tree, Empty, Node, same_tree}
 use Rattle.cv_derivations.specs.Given.{with_given}
 use Rattle.cv_directory.specs.Sites.{first_of}
 use Rattle.cv_meaning_contexts.specs.Groups.{Function, Group, function_of, functions_of}
-use Rattle.cv_scenes.specs.Instances.{Call, Instance, Matching, call_by, filled, first_call, guess, instance_of, is_instance, names_of, terms_of}
+use Rattle.cv_scenes.specs.Instances.{Instance, Matching, call_by, filled, first_call, guess, instance_of, is_instance, names_of, terms_of}
 use Rattle.cv_match_patterns.specs.declared.heads.Heads.{Heads}
 use Rattle.cv_match_patterns.specs.Begun.{begins, has_kind, is_kind, kind_of, may_begin, same_kind}
 

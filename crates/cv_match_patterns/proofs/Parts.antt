@@ -14,10 +14,9 @@ use Rattle.cv_derivations.specs.Given as given
 use Rattle.cv_derivations.specs.Given.{or_node, with_given}
 use Rattle.cv_meaning.specs.Correspondences.{typed_names}
 use Rattle.cv_scenes.specs.Scenes.{or_empty}
-use Rattle.cv_scenes.specs.Sights.{variable_of}
-use Rattle.cv_scenes.specs.Instances.{Instance, Matching, are_of_types, guess, is_argument_of, is_coin_of, is_instance, is_read_of, names_of, standing_for, term_for, terms_of}
+use Rattle.cv_scenes.specs.Instances.{Instance, are_of_types, guess, names_of, standing_for, term_for, terms_of}
 use Rattle.cv_scenes.specs.Refusals.{is_among}
-use Rattle.cv_match_patterns.specs.Searches.{filled_by, filled_part, given_by, is_name, is_typed, is_whole}
+use Rattle.cv_match_patterns.specs.Searches.{filled_by, filled_part, given_by, is_name, is_whole}
 
 pub filled-empty : (g : Group) (f : Function) (m : Tree) → filled_part g f m Empty ≡ Empty
 unfolding filled_part with_given
@@ -164,17 +163,6 @@ pub whole-part : (g : Group) (f : Function) (m : Tree) → same_tree (filled_par
 unfolding filled_part is_whole
 whole-part g f m = refl
 
-pub instance-parts : (M : Matching) (f : Function) (m : Tree) → (is_whole M.group f m && is_typed M f m) ≡ is_instance M f (guess M.group f m) m
-unfolding is_whole is_typed
-instance-parts M f m = refl
-
--- the terms of names, in the order of their tests
-pub typed-parts : (M : Matching) (f : Function) (m key coins arguments : Tree) (k : ℕ × ℕ) → k ≡ M.group.key → key ≡ given_by f m k.0 → typed_names coins ≡ f.coins → typed_names arguments ≡ f.arguments → (is_read_of M.key (variable_of key) && (are_of_types (is_coin_of M) (typed_names coins) (map (term_for f.body m) (typed_names coins)) && are_of_types (is_argument_of M) (typed_names arguments) (map (term_for f.body m) (typed_names arguments)))) ≡ is_typed M f m
-unfolding is_typed
-typed-parts M f m key coins arguments k p q r s =
-    ap₂ (λ x y. x && y) (ap (λ t. is_read_of M.key (variable_of t)) (q ∙ ap (λ (l : ℕ × ℕ). given_by f m l.0) p))
-    (ap₂ (λ x y. x && y) (ap (λ xs. are_of_types (is_coin_of M) xs (map (term_for f.body m) xs)) r) (ap (λ xs. are_of_types (is_argument_of M) xs (map (term_for f.body m) xs)) s))
-
 -- tests one after another
 pub test-last : (p q r a b c v : Bool) → p ≡ a → p ≡ true → q ≡ b → q ≡ true → r ≡ c → (a && (b && c)) ≡ v → r ≡ v
 test-last p q r true true c v e f g h i j = i ∙ j
@@ -193,5 +181,3 @@ test-first p false b v e f j = e ∙ j
 pub both-last : (p q a b v : Bool) → p ≡ a → p ≡ true → q ≡ b → (a && b) ≡ v → q ≡ v
 both-last p q true b v e f g j = g ∙ j
 both-last p q false b v e f g j = absurd (cc)
-
-pub ruleset whole = (tree_of-NoTree)

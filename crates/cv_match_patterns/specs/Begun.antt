@@ -1,5 +1,5 @@
 -- What the bodies of functions begin with: a term with another head is an instance of none. This profile's own.
-use Rattle.std.specs.Prelude.{◌≡◌, ℕ, Bool, true, ◌&&◌, ◌||◌, ◌==◌, List, Option, Some, None}
+use Rattle.std.specs.Prelude.{◌≡◌, Bool, true, ◌&&◌, ◌||◌, ◌==◌, List, Option, Some, None}
 use Rattle.std.specs.List.{list_any}
 use Rattle.cv_pool.specs.declared.node.Kind.{Kind}
 use Rattle.cv_syntax.specs.declared.head.Head.{Head}

@@ -1,27 +1,25 @@
 -- What the code has of what is looked for in a game, and of the terms that stand for the names of a function.
-use Rattle.std.specs.Prelude.{◌≡◌, ◌<◌, ◌^◌, ℕ, Bool, false, ◌&&◌, ◌||◌, ◌==◌, if◌then◌else◌, length, Option, Some, None}
+use Rattle.std.specs.Prelude.{◌≡◌, ◌<◌, ◌^◌, ℕ, Bool, false, ◌||◌, ◌==◌, if◌then◌else◌, length, Option, Some, None}
 use Rattle.cv_pool.specs.Nodes.{ChildBelow}
 use Rattle.cv_pool.specs.PoolView.{PoolView}
 use Rattle.cv_syntax.specs.Classes.{DeclsView}
+use Rattle.cv_syntax.specs.Declarations.{declarations}
 use Rattle.cv_syntax.specs.declared.head.Head.{Head}
 use Rattle.cv_syntax.specs.declared.head.Head.TheVariants.{Leaf}
 use Rattle.cv_syntax.specs.Tree.{Tree, same_tree, size, tree_at}
+use Rattle.cv_directory.specs.declared.sort.Sort.TheVariants.{OfType}
 use Rattle.cv_directory.specs.Sites.{sites_of}
-use Rattle.cv_typing.specs.Parts.{nothing_above}
-use Rattle.cv_typing.specs.Signature.{OfGame}
+use Rattle.cv_typing.specs.Parts.{game_part, nothing_above, signature_of}
+use Rattle.cv_typing.specs.Signature.{OfGame, Signature, sort_of}
 use Rattle.cv_typing.specs.Tables.{above_of, arrays_of}
 use Rattle.cv_meaning_contexts.specs.Groups.{Function, Group, group_of}
 use Rattle.cv_derivations.specs.Given.{with_given}
 use Rattle.cv_scenes.specs.Sights.{variable_of}
-use Rattle.cv_rule_scenes.specs.Kept.{scene_of}
-use Rattle.cv_scenes.specs.Instances.{Matching, are_of_types, filled, guess, is_argument_of, is_coin_of, is_read_of, names_of, term_for, terms_of}
+use Rattle.cv_scenes.specs.Instances.{filled, guess, is_variable_of, names_of, term_for, terms_of}
 use Rattle.cv_scenes.specs.Refusals.{is_among}
+use Rattle.cv_scenes.specs.Terms.{is_sort}
 use Rattle.cv_match_patterns.specs.Begun.{AreHeadsOf}
 use Rattle.cv_match_patterns.specs.declared.search.Search.{Search}
-
--- what is looked for
-abbrev pub matching_by : PoolView → DeclsView → Search → Matching
-matching_by pool decls s = record { scene = scene_of pool decls s.game; group = group_of (tree_at pool.trees s.side); key = s.key }
 
 -- The game and the side stand in the pool, and the tables say what the game does.
 pub record IsReady (pool : PoolView) (s : Search) : Type 0 where
@@ -58,8 +56,14 @@ filled_part g f m body = with_given (names_of g f) (terms_of (guess g f m)) body
 unfoldable pub is_whole : Group → Function → Tree → Bool
 is_whole g f m = same_tree (filled g f (guess g f m)) m
 
--- each of these terms may stand for its name
-unfoldable pub is_typed : Matching → Function → Tree → Bool
-is_typed M f m =
-    is_read_of M.key (variable_of (guess M.group f m).key)
-    && (are_of_types (is_coin_of M) f.coins (guess M.group f m).coins && are_of_types (is_argument_of M) f.arguments (guess M.group f m).arguments)
+-- what declarations and the game say of a name
+abbrev pub signature_by : PoolView → DeclsView → Search → Signature
+signature_by pool decls s = signature_of (declarations pool.trees decls.list) (game_part (tree_at pool.trees (Some s.game)))
+
+-- a term may stand for a coin, or for an argument, of a type
+
+abbrev pub may_be_coin : Signature → (type : ℕ) → Tree → Bool
+may_be_coin e T m = is_variable_of e T (variable_of m)
+
+abbrev pub may_be_argument : Signature → (type : ℕ) → Tree → Bool
+may_be_argument e T m = is_sort (sort_of e nothing_above m) (OfType T)

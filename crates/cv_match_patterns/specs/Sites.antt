@@ -9,7 +9,7 @@ use Rattle.cv_meaning_contexts.specs.Groups.{function_of}
 use Rattle.cv_scenes.specs.Instances as definitions
 use Rattle.cv_scenes.specs.Instances.{Call, Matching, guess}
 use Rattle.cv_scenes.specs.Sites as instances
-use Rattle.cv_match_patterns.specs.declared.calls.Found.{Found}
+use Rattle.cv_match_patterns.specs.declared.site.Found.{Found}
 use Rattle.cv_match_patterns.specs.declared.site.Instance.{Instance}
 use Rattle.cv_match_patterns.specs.declared.site.Site.{Site}
 

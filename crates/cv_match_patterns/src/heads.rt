@@ -1,5 +1,6 @@
 ghost use Rattle.std.specs.Prelude.{◌≡◌, ◌||◌, IfOk, OnOk, length};
 ghost use Rattle.cv_pool.specs.Nodes.{ChildBelow};
+ghost use Rattle.cv_syntax.specs.Head.{same_head};
 ghost use Rattle.cv_syntax.specs.Tree.{tree_at};
 ghost use Rattle.cv_syntax.specs.declared.head.Head as heading;
 ghost use Rattle.cv_meaning_contexts.specs.Groups.{function_of, functions_of};
@@ -17,6 +18,13 @@ pub struct Heads {
     kinds: Vec<Kind>,
     /// Some body is a name or nothing.
     any: bool,
+}
+
+/// Whether two heads are one.
+pub fn is_head(head: Head, other: Head) -> bool
+    ensures { result ≡ same_head head other }
+{
+    head.kind() == other.kind()
 }
 
 /// Whether a list has a kind.
@@ -83,7 +91,7 @@ impl Heads {
     }
 
     /// Whether a term with a head may be an instance of one of the functions.
-    pub(crate) fn may_begin(&self, head: Head) -> bool
+    pub fn may_begin(&self, head: Head) -> bool
         ensures { result ≡ may_begin self.now head }
     {
         self.any || has_kind(self.kinds.as_slice(), head.kind())

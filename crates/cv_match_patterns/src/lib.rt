@@ -1,23 +1,21 @@
-// Whether a term of a game is an instance of a function of an equivalence's left side, and what stands there for its names. It is
-// proved and not run: no step asks for it yet.
+// The functions of an equivalence's left side: their names, what stands for these in a term of a game, and whether the term is a
+// function's body with that, and whether that is of the right types. It is proved and not run: no step asks for it yet.
 #![tactic(auto)]
 
-mod calls;
-mod cells;
 mod filling;
 mod heads;
-mod instances;
 mod names;
 mod search;
 mod site;
+mod sorts;
 mod terms;
+mod whole;
 
-pub use calls::{Found, call_at, is_call};
-pub use cells::is_cell;
 pub use filling::term_of;
-pub use heads::Heads;
-pub use instances::is_instance;
+pub use heads::{Heads, is_head};
 pub use names::{arguments_of, body_of, coins_of, is_argument_name, key_of, variable_of};
 pub use search::Search;
-pub use site::{Instance, Site};
+pub use site::{Found, Instance, Site, note_site};
+pub use sorts::{are_arguments, are_coins};
 pub use terms::terms_of;
+pub use whole::is_whole;

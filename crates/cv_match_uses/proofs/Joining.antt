@@ -1,20 +1,15 @@
 -- Tallies of variables, joined, and the table that has them.
-use Rattle.std.proofs.Common.{◌≡◌, ℕ, zero, suc, ◌+◌, ◌<◌, ◌≤◌, ◌^◌, Bool, true, false, List, [], ◌∷◌, ◌++◌, length, get_or, set, refl, ap, ap₂, sym, ◌∙◌, arith, eqb-true, eq-eqb, Option, Some, None, Result, Ok, Err, OnOk}
+use Rattle.std.proofs.Common.{◌≡◌, ℕ, zero, suc, ◌+◌, ◌<◌, ◌^◌, Bool, true, false, List, [], ◌∷◌, ◌++◌, length, get_or, set, refl, ap, ap₂, sym, ◌∙◌, arith, eqb-true, eq-eqb, Result, Ok, Err, OnOk}
 use Rattle.std.specs.declared.alloc.AllocError.{AllocError}
 use Rattle.std.specs.Prelude.{if◌then◌else◌, ◌==◌, ◌||◌}
 use Rattle.std.proofs.lemmas.List.{get_or_default, get_or-set_other, get_or-set_same}
 use Rattle.cv_lists.proofs.Tests.{equals_comm}
 use Rattle.cv_syntax.specs.declared.head.Head.{Head}
 use Rattle.cv_syntax.specs.declared.head.Head.TheVariants.{Binder, Branch, Call, In, Key, Leaf, Let, New, Read}
-use Rattle.cv_syntax.specs.Head.{weight}
-use Rattle.cv_syntax.specs.Tree.{Tree, Empty, Node, second, size}
-use Rattle.cv_scope.specs.Context.{replications_below}
-use Rattle.cv_scope.specs.Made.{is_bound, made_by}
-use Rattle.cv_scope.specs.Sites.{Variable}
-use Rattle.cv_scenes.specs.Scenes.{head_reads}
-use Rattle.cv_scenes.specs.Refusals.{definitions_in, new_of, only_new, uses}
+use Rattle.cv_syntax.specs.Tree.{Tree, Empty, Node, second}
+use Rattle.cv_scope.specs.Made.{is_bound}
 use Rattle.cv_match_uses.specs.declared.entry.Entry.{Entry}
-use Rattle.cv_match_uses.specs.Tallies.{Draw, One, Other, Tally, Zero, bound_here, defined_here, drawn, entry_at, join, nothing, only, plus, single, summary, tally, tally_at, tally_here, tally_in, tally_of, used_here}
+use Rattle.cv_match_uses.specs.Tallies.{Draw, One, Other, Tally, Zero, bound_here, defined_here, entry_at, join, nothing, only, plus, tally, tally_at, tally_in, used_here}
 
 pub join-zero : (d : Draw) → join d Zero ≡ d
 join-zero Zero = refl

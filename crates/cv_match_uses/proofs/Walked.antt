@@ -10,8 +10,8 @@ use Rattle.cv_scope.specs.Context.{replications_below}
 use Rattle.cv_scope.specs.Made.{made_by}
 use Rattle.cv_scope.specs.Sites.{Variable}
 use Rattle.cv_scenes.specs.Scenes.{head_reads}
-use Rattle.cv_scenes.specs.Refusals.{definitions_in, new_of, only_new, uses}
-use Rattle.cv_match_uses.specs.Tallies.{Draw, One, Other, Tally, Zero, defined_here, drawn, join, plus, single, summary, tally, tally_here, tally_of, used_here}
+use Rattle.cv_scenes.specs.Refusals.{definitions_in, only_new, uses}
+use Rattle.cv_match_uses.specs.Tallies.{Draw, One, Other, Tally, Zero, drawn, join, plus, single, summary, tally, tally_here, tally_of, used_here}
 use Rattle.cv_match_uses.proofs.Joining.{join-assoc, join-zero, plus-assoc, plus-nothing}
 
 -- uses

@@ -5,7 +5,7 @@ use Rattle.cv_meaning_contexts.specs.Groups.{function_of}
 use Rattle.cv_scenes.specs.Sights.{variable_of}
 use Rattle.cv_scenes.specs.Instances.{term_for}
 use Rattle.cv_scenes.specs.Refusals.{is_coin}
-use Rattle.cv_match_patterns.specs.Searches.{matching_by}
+use Rattle.cv_match_sites.specs.Matchings.{matching_by}
 use Rattle.cv_match_patterns.specs.Sites.{site_in}
 use Rattle.cv_match.proofs.Serving.{coins-end, coins-other, coins-right, coins-wrong}
 use Rattle.cv_match.proofs.coins.are_coins.Goals as goal

@@ -6,7 +6,7 @@ use Rattle.cv_meaning.specs.Correspondences.{typed_names}
 use Rattle.cv_meaning_contexts.specs.Groups.{function_of}
 use Rattle.cv_scenes.specs.Instances.{term_for}
 use Rattle.cv_scenes.specs.Refusals.{are_coins}
-use Rattle.cv_match_patterns.specs.Searches.{matching_by}
+use Rattle.cv_match_sites.specs.Matchings.{matching_by}
 use Rattle.cv_match_patterns.specs.Sites.{site_in}
 use Rattle.cv_match.proofs.coins.are_coins.Given as goal
 

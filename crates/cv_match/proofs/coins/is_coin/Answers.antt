@@ -1,7 +1,7 @@
 use Rattle.std.proofs.Common.{sym, ◌∙◌}
 use Rattle.cv_syntax.specs.Tree.{tree_at}
 use Rattle.cv_scenes.specs.Sights.{variable_of}
-use Rattle.cv_match_patterns.specs.Searches.{matching_by}
+use Rattle.cv_match_sites.specs.Matchings.{matching_by}
 use Rattle.cv_match_patterns.specs.Sites.{site_in}
 use Rattle.cv_match.proofs.Serving.{coin-elsewhere, coin-none, coin-own}
 use Rattle.cv_match.proofs.coins.is_coin.Goals as goal

@@ -1,5 +1,5 @@
 use Rattle.std.proofs.Common.{ℕ, ap}
-use Rattle.cv_match_patterns.specs.Searches.{matching_by}
+use Rattle.cv_match_sites.specs.Matchings.{matching_by}
 use Rattle.cv_match.proofs.Serving.{key-drawn, key-elsewhere}
 use Rattle.cv_match.proofs.key.has_key.Goals as goal
 

@@ -1,4 +1,4 @@
-use Rattle.cv_match_patterns.specs.Searches.{matching_by}
+use Rattle.cv_match_sites.specs.Matchings.{matching_by}
 use Rattle.cv_match.proofs.Refusing.{keyless, unused, used, used-within}
 use Rattle.cv_match.proofs.matching.check_key.Goals as goal
 

@@ -1,5 +1,5 @@
 use Rattle.std.proofs.Common.{map}
-use Rattle.cv_match_patterns.specs.Searches.{matching_by}
+use Rattle.cv_match_sites.specs.Matchings.{matching_by}
 use Rattle.cv_match_patterns.specs.Sites.{site_in}
 use Rattle.cv_match.proofs.Refusing.{all-serve, argument-used, coin-used}
 use Rattle.cv_match.proofs.matching.check_sites.Goals as goal

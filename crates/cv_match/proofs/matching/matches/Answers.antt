@@ -3,7 +3,7 @@ use Rattle.cv_syntax.specs.Classes.{equiv_in}
 use Rattle.cv_syntax.specs.Tree.{tree_at}
 use Rattle.cv_scenes.specs.Instances.{Matching}
 use Rattle.cv_scenes.specs.Refusals.{first_refusal}
-use Rattle.cv_match_patterns.specs.Searches.{matching_by}
+use Rattle.cv_match_sites.specs.Matchings.{matching_by}
 use Rattle.cv_match_patterns.specs.declared.site.Site.{Site}
 use Rattle.cv_match_patterns.specs.Sites.{HasInstance, site_in}
 use Rattle.cv_match_uses.specs.Tallies.{IsTableOf}

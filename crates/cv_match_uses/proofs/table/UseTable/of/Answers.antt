@@ -1,7 +1,7 @@
-use Rattle.std.proofs.Common.{◌<◌, ◌^◌, ◌≡◌, ℕ, List, [], Some, arith, ap, ap₂, sym, ◌∙◌}
+use Rattle.std.proofs.Common.{◌≡◌, ℕ, [], Some, arith, ap, ap₂, ◌∙◌}
 use Rattle.cv_syntax.specs.Tree.{tree_at}
 use Rattle.cv_scenes.specs.Refusals.{definitions_in}
-use Rattle.cv_match_uses.specs.Tallies.{Tally, Zero, drawn, plus, tally, tally_at, tally_of}
+use Rattle.cv_match_uses.specs.Tallies.{Tally, drawn, plus, tally_at, tally_of}
 use Rattle.cv_match_uses.proofs.Joining.{nothing-plus}
 use Rattle.cv_match_uses.proofs.Walked.{only-drawn, uses-few}
 use Rattle.cv_match_uses.proofs.table.UseTable.of.Goals as goal

@@ -1,0 +1,14 @@
+use Rattle.std.proofs.Common.{ap, ◌∙◌}
+use Rattle.cv_syntax.specs.Tree.{same_tree, tree_at}
+use Rattle.cv_meaning_contexts.specs.Groups.{function_of, group_of}
+use Rattle.cv_match_patterns.specs.Searches.{filled_part}
+use Rattle.cv_match_patterns.proofs.Parts.{whole-part}
+use Rattle.cv_match_patterns.proofs.whole.is_whole.Goals as goal
+
+pub returns : goal.returns
+returns c =
+    let trees = c.args.pool.now.trees in
+    let g = group_of (tree_at trees c.args.side) in
+    let f = function_of (tree_at trees c.args.f) in
+    let m = tree_at trees c.args.term in
+    c.is_filled.ensures ∙ (ap (λ b. same_tree (filled_part g f m b) m) c.body_of.ensures.tree ∙ whole-part g f m)

@@ -1,0 +1,3 @@
+pub mod Within
+pub mod Rows
+pub mod Arguments

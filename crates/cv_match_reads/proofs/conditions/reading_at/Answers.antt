@@ -1,0 +1,11 @@
+use Rattle.std.proofs.Common.{sym, ◌∙◌}
+use Rattle.cv_syntax.specs.Tree.{tree_at}
+use Rattle.cv_scope.specs.declared.position.Position.TheVariants.{Anywhere}
+use Rattle.cv_match_reads.proofs.Within.{within-true}
+use Rattle.cv_match_reads.proofs.conditions.reading_at.Goals as goal
+
+pub returns-in-Ok : goal.returns-in-Ok
+returns-in-Ok c = sym (sym (within-true c.args.x Anywhere c.args.from (tree_at c.args.pool.now.trees c.args.term)) ∙ c.in-Ok.ensures.none)
+
+pub returns-in-Err : goal.returns-in-Err
+returns-in-Err c = sym (sym (within-true c.args.x Anywhere c.args.from (tree_at c.args.pool.now.trees c.args.term)) ∙ c.in-Err.ensures.found)

@@ -1,0 +1,16 @@
+use Rattle.std.proofs.Common.{◌++◌, [], Some, ap₂, false, map, ◌∙◌}
+use Rattle.cv_syntax.specs.Tree.{tree_at}
+use Rattle.cv_scope.specs.declared.position.Position.TheVariants.{Anywhere}
+use Rattle.cv_match_sites.specs.Matchings.{matching_by}
+use Rattle.cv_match_patterns.specs.Sites.{site_in}
+use Rattle.cv_match_sites.specs.Walks.{sites_unless}
+use Rattle.cv_match_sites.proofs.Walked.{sites-whole}
+use Rattle.cv_match_sites.proofs.gathering.sites.Goals as goal
+
+pub returns-clause-sites : goal.returns-clause-sites
+returns-clause-sites c =
+    let trees = c.args.work.now.pool.trees in
+    let M = matching_by c.args.work.now.pool c.args.work.now.decls c.args.search.now in
+    let game = tree_at trees (Some c.args.search.now.game) in
+    c.in_ok-gather.ensures.sites
+    ∙ (ap₂ (λ xs rs. map (site_in trees M) xs ++ sites_unless false M Anywhere rs 0 game) c.new-sites.ensures.items c.new-passed.ensures.items ∙ sites-whole M Anywhere [] 0 game)

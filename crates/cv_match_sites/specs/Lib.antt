@@ -1,0 +1,2 @@
+pub mod Matchings
+pub mod Walks

@@ -1,0 +1,13 @@
+// The instances of an equivalence's left side in a game, and reads of the key outside them. It is proved and not run: no step asks
+// for it yet.
+#![tactic(auto)]
+
+mod calls;
+mod gathering;
+mod instances;
+mod outside;
+
+pub use calls::{call_at, is_call};
+pub use gathering::sites;
+pub use instances::is_instance;
+pub use outside::outside_use;
