@@ -1,0 +1,96 @@
+-- What is made at the end of a list of parts.
+use Rattle.std.proofs.Common.{◌≡◌, ℕ, Bool, true, false, nat_lt, Ok, suc, ◌+◌, ◌≤◌, ◌<◌, List, [], ◌∷◌, ◌++◌, length, drop, refl, ap, sym, ◌∙◌, arith, append_assoc, append-nil, map, Option, Some}
+use Rattle.std.proofs.lemmas.Bool.Decides.{nat_tests}
+use Rattle.std.proofs.lemmas.List.{drop_all, replicate_more}
+use Rattle.std.specs.Prelude.{IsErrOf, replicate, flat_map, slice_get}
+use Rattle.cv_pool.specs.KindTree.{KindTree}
+use Rattle.cv_pool.specs.declared.node.NodeId.{NodeId}
+use Rattle.cv_pool.specs.declared.pool.PoolError.TheVariants as pool
+use Rattle.cv_syntax.specs.declared.head.Head.{Head}
+use Rattle.cv_syntax.specs.declared.head.Head.TheVariants.{Cons}
+use Rattle.cv_syntax.specs.declared.make.Make.{Make}
+use Rattle.cv_syntax.specs.declared.make.Make.TheVariants.{Nothing, Over}
+use Rattle.cv_syntax.specs.Planting.{overs}
+use Rattle.cv_syntax.specs.Tree.{Tree, Empty, Node, chain, tree_at}
+use Rattle.cv_syntax.specs.Postorder.{postorder}
+use Rattle.cv_syntax.proofs.Trees.{tree_of-NoTree}
+use Rattle.cv_context_parts.specs.Closing.{closing}
+
+pub closing-last : (hs : List Head) (h : Head) → closing (hs ++ h ∷ []) ≡ Over h ∷ closing hs
+closing-last [] h = refl
+closing-last (g ∷ hs) h = ap (λ l. l ++ Over g ∷ []) (closing-last hs h)
+
+pub postorder-empty : postorder Empty ≡ Nothing ∷ []
+unfolding postorder
+postorder-empty = refl
+
+pub postorder-node : (h : Head) (a b : Tree) → postorder (Node h a b) ≡ postorder a ++ (postorder b ++ Over h ∷ [])
+unfolding postorder
+postorder-node h a b = refl
+
+-- one node of a chain, and its end
+pub chain-goes : (t : Tree) (h : Head) (a b : Tree) (out new total : List Make) (hs ks : List Head) → t ≡ Node h a b → out ++ (postorder t ++ closing hs) ≡ total → new ≡ out ++ postorder a → ks ≡ hs ++ h ∷ [] → new ++ (postorder b ++ closing ks) ≡ total
+chain-goes t h a b out new total hs ks e i n k =
+    ap (λ l. l ++ (postorder b ++ closing ks)) n
+    ∙ (ap (λ l. (out ++ postorder a) ++ (postorder b ++ l)) (ap closing k ∙ closing-last hs h)
+    ∙ (append_assoc out (postorder a) (postorder b ++ (Over h ∷ closing hs))
+    ∙ (ap (λ l. out ++ l) (sym (append_assoc (postorder a) (postorder b ++ Over h ∷ []) (closing hs) ∙ ap (λ l. postorder a ++ l) (append_assoc (postorder b) (Over h ∷ []) (closing hs))) ∙ ap (λ l. l ++ closing hs) (sym (ap postorder e ∙ postorder-node h a b)))
+    ∙ i)))
+
+pub chain-ends : (t : Tree) (out new total : List Make) (hs : List Head) → t ≡ Empty → out ++ (postorder t ++ closing hs) ≡ total → new ≡ out ++ Nothing ∷ [] → new ++ closing hs ≡ total
+chain-ends t out new total hs e i n = ap (λ l. l ++ closing hs) n ∙ (append_assoc out (Nothing ∷ []) (closing hs) ∙ (ap (λ l. out ++ (l ++ closing hs)) (sym (ap postorder e ∙ postorder-empty)) ∙ i))
+
+-- a list of trees
+pub list-made : (ts : List Tree) → flat_map postorder ts ++ (Nothing ∷ replicate (length ts) (Over Cons)) ≡ postorder (chain ts)
+unfolding postorder
+list-made [] = refl
+list-made (t ∷ ts) =
+    append_assoc (postorder t) (flat_map postorder ts) (Nothing ∷ replicate (suc (length ts)) (Over Cons))
+    ∙ ap (λ l. postorder t ++ l) (ap (λ l. flat_map postorder ts ++ Nothing ∷ l) (ap (λ k. replicate k (Over Cons)) (let e : suc (length ts) ≡ length ts + 1 = omega arith in e) ∙ sym (replicate_more (length ts) (Over Cons)))
+    ∙ (sym (append_assoc (flat_map postorder ts) (Nothing ∷ replicate (length ts) (Over Cons)) (Over Cons ∷ [])) ∙ ap (λ l. l ++ Over Cons ∷ []) (list-made ts)))
+
+-- what the items of a list make
+abbrev pub made : {A : Type 0} → (A → Tree) → List A → List Make
+made f xs = flat_map (λ x. postorder (f x)) xs
+
+made-map : {A : Type 0} (f : A → Tree) (xs : List A) → made f xs ≡ flat_map postorder (map f xs)
+made-map f [] = refl
+made-map f (x ∷ xs) = ap (λ l. postorder (f x) ++ l) (made-map f xs)
+
+pub items-end : {A : Type 0} (f : A → Tree) (xs : List A) (n : ℕ) (out new start : List Make) → out ≡ start ++ made f xs → n ≡ length xs → new ≡ out ++ (Nothing ∷ replicate n (Over Cons)) → new ≡ start ++ postorder (chain (map f xs))
+items-end f xs n out new start i l e =
+    e ∙ (ap (λ o. o ++ (Nothing ∷ replicate n (Over Cons))) i
+    ∙ (append_assoc start (made f xs) (Nothing ∷ replicate n (Over Cons))
+    ∙ ap (λ o. start ++ o) (ap (λ k. made f xs ++ (Nothing ∷ replicate k (Over Cons))) (l ∙ sym (length-of xs)) ∙ (ap (λ o. o ++ (Nothing ∷ replicate (length (map f xs)) (Over Cons))) (made-map f xs) ∙ list-made (map f xs)))))
+  where
+    length-of : (ys : List _) → length (map f ys) ≡ length ys
+    length-of [] = refl
+    length-of (y ∷ ys) = ap suc (length-of ys)
+
+-- one head is made, the last one
+pub closing-goes : (hs ks : List Head) (h : Head) (out new total : List Make) → hs ≡ ks ++ h ∷ [] → out ++ closing hs ≡ total → new ≡ out ++ Over h ∷ [] → new ++ closing ks ≡ total
+closing-goes hs ks h out new total e i n = ap (λ l. l ++ closing ks) n ∙ (append_assoc out (Over h ∷ []) (closing ks) ∙ (ap (λ l. out ++ l) (sym (ap closing e ∙ closing-last ks h)) ∙ i))
+
+-- the trees of all items
+pub items-done : {A : Type 0} (f : A → Tree) (xs : List A) (k : ℕ) (out new start : List Make) → length xs ≤ k → out ++ made f (drop k xs) ≡ start ++ made f xs → new ≡ out ++ (Nothing ∷ replicate (length xs) (Over Cons)) → new ≡ start ++ postorder (chain (map f xs))
+items-done f xs k out new start h i e = items-end f xs (length xs) out new start (sym (append-nil out) ∙ (ap (λ ys. out ++ made f ys) (sym (drop_all k xs h)) ∙ i)) refl e
+
+pub few_overs : (ms : List Make) → overs ms ≤ length ms
+few_overs [] = omega arith
+few_overs (Nothing ∷ ms) = omega (arith, few_overs ms)
+few_overs (Over h ∷ ms) = omega (arith, few_overs ms)
+
+-- the one tree that is made
+pub only : (trees : List KindTree) (ids : List (Option NodeId)) (o : Option NodeId) (t : Tree) → map (tree_at trees) ids ≡ t ∷ [] → Some o ≡ slice_get ids 0 → tree_at trees o ≡ t
+only trees [] o t e f = absurd (cc)
+only trees (i ∷ ids) o t e f = let same : o ≡ i = cc in let first : tree_at trees i ≡ t = cc in ap (tree_at trees) same ∙ first
+
+pub ruleset making = (tree_of-NoTree, few_overs, replicate_more, append_assoc, append-nil)
+
+-- the pool has room
+pub roomy : {A : Type 0} (limit need asked : ℕ) (r : A) → (limit < need → IsErrOf {T = A} (Ok r) (pool.Full asked)) → need ≤ limit
+roomy limit need asked r h = by_test (nat_lt limit need) refl
+  where
+    by_test : (b : Bool) → nat_lt limit need ≡ b → need ≤ limit
+    by_test true i = absurd (let l : limit < need = grind (arith, nat_tests) in let j = h l in cc)
+    by_test false i = grind (arith, nat_tests)
