@@ -1,0 +1,13 @@
+// What stands in a context for one node of the game: the calls before a statement, the key's choice, and nothing for a coin. It is
+// proved and not run: no step asks for a context yet.
+#![tactic(auto)]
+
+mod calls;
+mod cells;
+mod nodes;
+mod roles;
+
+pub use calls::Call;
+pub use cells::push_cell;
+pub use nodes::{answer, put_node};
+pub use roles::Roles;
