@@ -36,7 +36,8 @@ use Rattle.cv_inline_cells.proofs.Swaps.{made_swapped, picked_swapped}
 use Rattle.cv_inline_drawn.specs.Named.{NamedContext, arity_in, indices_of, named_on_tape, names_of, text_of}
 use Rattle.cv_inline_drawn.proofs.Sites.{each_called}
 use Rattle.cv_inline_covered.proofs.Functions.{all_callers, drawn_for, got_all, has_all}
-use Rattle.cv_context_right.specs.Right.{HasSiteText, IsNamedFor}
+use Rattle.cv_context_texts.specs.SiteTexts.{HasSiteText}
+use Rattle.cv_context_right.specs.Right.{IsNamedFor}
 use Rattle.cv_context_right.proofs.Agreed.{HasOther, from_map, many, mapped, other}
 use Rattle.cv_context_right.proofs.Numbers.{IsGood, IsOfCall, calling_at, number_found, of_call, sites_related}
 use Rattle.cv_context_right.proofs.Whole.{all_texts}

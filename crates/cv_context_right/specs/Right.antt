@@ -1,40 +1,27 @@
 -- What gives each call of a game's context its text, where names are drawn for the next game. This profile's own.
-use Rattle.std.specs.Prelude.{◌≡◌, ◌==◌, ℕ, ◌<◌, true, false, not, List, length, slice_get, Some}
+use Rattle.std.specs.Prelude.{◌≡◌, ◌==◌, ℕ, ◌<◌, true, false, List, length, slice_get, Some}
 use Rattle.std.specs.List.{AllByRecursion, list_any}
 use Rattle.cv_syntax.specs.Declarations.{Declaration}
-use Rattle.cv_syntax.specs.Tree.{chain, first, reads_only, second}
+use Rattle.cv_syntax.specs.Tree.{second}
 use Rattle.cv_meaning.specs.Interpretation.{is_constant_of}
 use Rattle.cv_meaning.specs.Tapes.{blank}
 use Rattle.cv_meaning_contexts.specs.Groups.{Right, side_group}
 use Rattle.cv_group_rules.specs.Faults.{IsAccepted}
-use Rattle.cv_scope.specs.Context.{items}
 use Rattle.cv_scope.specs.Phrases.{IsWellFormedContext}
 use Rattle.cv_scenes.specs.Apt.{IsAptGame, IsSiteApt}
 use Rattle.cv_scenes.specs.LeftTerms.{HasLeftTerms}
 use Rattle.cv_scenes.specs.Reductions.{Reduction, context_of_game, matching, sites}
 use Rattle.cv_scenes.specs.Sites.{Site}
-use Rattle.cv_inline_bodies.specs.Accepted.{AreFineKeyTerms}
-use Rattle.cv_inline_bodies.specs.Inlined.{is_index_of, is_own}
+use Rattle.cv_inline_bodies.specs.Inlined.{is_own}
 use Rattle.cv_inline_bodies.specs.Roles.{Gone}
 use Rattle.cv_inline_games.specs.NextGame.{Calling, callings_of}
 use Rattle.cv_inline_draws.specs.DrawnNames.{role_in}
-use Rattle.cv_inline_runs.specs.Contexts.{ordinary_in}
-use Rattle.cv_inline_runs.specs.Texts.{Text, plain_in}
-use Rattle.cv_inline_expected.specs.CallTexts.{AreOwnIndices}
 use Rattle.cv_inline_expected.specs.Fine.{HasRolesOf, has_free_indices, has_label}
 use Rattle.cv_inline_accepted.specs.RightBodies.{is_right_side}
 use Rattle.cv_inline_cells.specs.Layout.{IsContextText, IsRightFunction}
 use Rattle.cv_inline_drawn.specs.Named.{NamedContext, names_of, text_of}
 use Rattle.cv_inline_covered.specs.Covered.{names_stand_bare}
-
--- a site: the indices above it are no drawn names; the key is read at indices and variables of the game, as many as the key has; the
--- arguments read the game's names
-pub record HasSiteText (T : Text) (s : Site) : Type 0 where
-  pub indices : AreOwnIndices T s.replications
-  pub key_terms : AreFineKeyTerms (is_index_of s.replications) (plain_in T) (first s.call.instance.key)
-  pub no_constants : reads_only (λ x. not (T.g.is_constant x)) (first s.call.instance.key) ≡ true
-  pub key_length : length (items (first s.call.instance.key)) ≡ T.key_length
-  pub arguments : reads_only (ordinary_in T) (chain s.call.instance.arguments) ≡ true
+use Rattle.cv_context_texts.specs.SiteTexts.{HasSiteText}
 
 -- the equivalence is accepted and in the grammar of files, and its right side binds no constant
 pub record HasRightForm (ds : List Declaration) (c : NamedContext) : Type 0 where
