@@ -1,0 +1,4 @@
+pub mod Results
+pub mod Terms
+pub mod Games
+pub mod Labels
