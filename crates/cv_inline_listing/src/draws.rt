@@ -11,7 +11,7 @@ use cv_syntax::{Head, NodeId, Pool, read_node};
 use std::alloc::AllocError;
 
 /// What a name is drawn for: the key, a name that a site binds, or an index of a find.
-#[derive(Clone, Copy, Debug, PartialEq, Eq)]
+#[derive(Clone, Copy, Debug, PartialEq, Eq, Hash)]
 pub enum Role {
     Key,
     Variable { site: u32, name: u32 },
@@ -38,7 +38,6 @@ pub fn add_variable(draws: &mut Vec<Draw>, site: u32, name: u32) -> Result<(), A
 }
 
 /// Adds the draws for the arguments of a site.
-#[tactic(auto, using(cv_syntax::proofs::Trees::empty_at))]
 pub fn add_arguments(
     pool: &Pool,
     draws: &mut Vec<Draw>,
@@ -49,15 +48,14 @@ pub fn add_arguments(
     ensures { IfOk result (λ _. map draw_in draws.new.items ≡ map draw_in draws.old.items
         ++ argument_draws site (typed_names (tree_at pool.now.trees binders))) }
 {
-    let Some(n) = binders else {
-        return Ok(());
-    };
-    let node = read_node(pool, n);
-    match node.head {
-        Head::Binder(x, _) => {
-            add_variable(draws, site, x)?;
-            add_arguments(pool, draws, site, node.second)
-        }
-        _ => Ok(()),
+    let mut at = binders;
+    'binders: while let Some(n) = at {
+        let node = read_node(pool, n);
+        let Head::Binder(x, _) = node.head else {
+            return Ok(());
+        };
+        add_variable(draws, site, x)?;
+        at = node.second;
     }
+    Ok(())
 }

@@ -1,10 +1,13 @@
 // What is drawn for the next game, in order.
 #![tactic(auto)]
 
+mod branches;
+mod calling;
 mod draws;
 mod indices;
 mod once;
 
+pub use calling::Calling;
 pub use draws::{Draw, Role, add_arguments, add_variable};
-pub use indices::add_indices;
-pub use once::each_role_once;
+pub use indices::{add_branch_indices, add_indices};
+pub use once::add_each_once;
