@@ -1,0 +1,25 @@
+-- What trees with terms for names are, node by node.
+use Rattle.std.proofs.Common.{◌≡◌, ℕ, false, List, [], ◌∷◌, None, refl, ap, ap₂, ◌∙◌}
+use Rattle.cv_syntax.specs.declared.head.Head.{Head}
+use Rattle.cv_syntax.specs.Tree.{Tree, Empty, Node, same_tree}
+use Rattle.cv_syntax.proofs.Trees.{same_open, tree_of-NoTree}
+use Rattle.cv_derivations.specs.Given.{or_node, term_for}
+use Rattle.cv_query_terms.specs.Given.{Terms, given_by, put}
+
+pub put_empty : (f : Terms) → put f Empty ≡ Empty
+unfolding put
+put_empty f = refl
+
+pub put_node : (f : Terms) (h : Head) (a b : Tree) → put f (Node h a b) ≡ or_node (given_by f h) h (put f a) (put f b)
+unfolding put
+put_node f h a b = refl
+
+pub given-nothing : (is : List ℕ) (terms : Tree) (x : ℕ) → terms ≡ Empty → term_for is terms x ≡ None
+given-nothing [] terms x e = refl
+given-nothing (i ∷ is) terms x e = ap (λ t. term_for (i ∷ is) t x) e
+
+-- a node is not the same as nothing
+pub same-nothing : (s t : Tree) (h : Head) (a b : Tree) → s ≡ Node h a b → t ≡ Empty → same_tree s t ≡ false
+same-nothing s t h a b e f = ap₂ same_tree e f ∙ same_open (Node h a b) Empty
+
+pub ruleset putting = (tree_of-NoTree, same_open, put_empty, put_node)

@@ -1,0 +1,10 @@
+use Rattle.std.proofs.Common.{drop, sym, ◌∙◌}
+use Rattle.cv_syntax.specs.Tree.{tree_at}
+use Rattle.cv_syntax.proofs.Trees.{empty_at}
+use Rattle.cv_query_terms.specs.Given.{names_in}
+use Rattle.cv_query_terms.proofs.Putting.{given-nothing}
+use Rattle.cv_query_terms.proofs.given.other_term.Goals as goal
+
+pub returns-in_default-clause-tree : goal.returns-in_default-clause-tree
+returns-in_default-clause-tree c =
+    sym (given-nothing (names_in (drop c.names.k c.args.others.now)) (tree_at c.args.pool.now.trees c.names.at) c.args.x (empty_at c.args.pool.now.trees c.names.at c.in_default.is)) ∙ c.names.invariant.rest
