@@ -1,5 +1,5 @@
 -- What the names of a reduction's game are in a text, and what gives the call of each site its text. This profile's own.
-use Rattle.std.specs.Prelude.{◌≡◌, ℕ, true, false, not, List, length, is_some, if◌then◌else◌, Option, Some, None}
+use Rattle.std.specs.Prelude.{◌≡◌, ℕ, true, false, not, List, length, if◌then◌else◌, Option, Some, None}
 use Rattle.cv_syntax.specs.Tree.{chain, first, reads_only}
 use Rattle.cv_scope.specs.Context.{items}
 use Rattle.cv_scope.specs.Phrases.{HasConstantsOf}
