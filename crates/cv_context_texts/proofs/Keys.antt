@@ -1,6 +1,6 @@
 -- The key of a typed game is read at indices and variables, as many as stand above its definition.
-use Rattle.std.proofs.Common.{◌≡◌, ℕ, suc, Bool, true, false, cond, ◌&&◌, ◌||◌, ◌==◌, List, [], ◌∷◌, ◌++◌, length, map, inl, inr, Option, Some, None, is_some, refl, sym, ap, ap₂, subst, ◌∙◌, eqb-true}
-use Rattle.std.proofs.lemmas.Bool.{and_parts, both_ways, or_left, or_right}
+use Rattle.std.proofs.Common.{◌≡◌, ℕ, suc, Bool, true, false, cond, ◌&&◌, ◌||◌, ◌==◌, List, [], ◌∷◌, length, map, inl, inr, Option, Some, None, is_some, refl, sym, ap, ap₂, subst, ◌∙◌, eqb-true}
+use Rattle.std.proofs.lemmas.Bool.{and_parts, both_ways}
 use Rattle.std.proofs.lemmas.List.{length-map}
 use Rattle.std.specs.List.{AllByRecursion}
 use Rattle.std.specs.Prelude.{MatchBool, MatchOption, option_map}
@@ -20,7 +20,6 @@ use Rattle.cv_scope.specs.Rules.{is_index}
 use Rattle.cv_scope.specs.Sites.{Variable as Named}
 use Rattle.cv_scenes.specs.Refusals.{definitions_in, new_of, only_new}
 use Rattle.cv_scenes.specs.Sights.{variable_of}
-use Rattle.cv_scenes.specs.Terms.{has_index}
 use Rattle.cv_typing_runs.specs.Games.{context_of, has_site, variable_of_meaning}
 use Rattle.cv_typing_runs.proofs.Terms.{nil_empty}
 use Rattle.cv_inline_bodies.specs.Accepted.{AreFineKeyTerms, IsFineKeyTerm}

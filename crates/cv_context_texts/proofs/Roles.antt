@@ -1,5 +1,5 @@
 -- Names with the roles that a game gives them have the roles of the game.
-use Rattle.std.proofs.Common.{◌≡◌, ℕ, Bool, true, false, cond, ◌&&◌, not, ◌==◌, List, [], Some, refl, ap, ◌∙◌, eq-eqb}
+use Rattle.std.proofs.Common.{◌≡◌, ℕ, Bool, true, false, cond, ◌&&◌, not, List, [], Some, refl, ap, ◌∙◌, eq-eqb}
 use Rattle.std.proofs.lemmas.Bool.{both_ways}
 use Rattle.cv_syntax.specs.Tree.{Tree}
 use Rattle.cv_meaning.specs.Tapes.{Find_at}

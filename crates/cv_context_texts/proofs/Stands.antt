@@ -2,7 +2,7 @@
 use Rattle.std.proofs.Common.{◌≡◌, ℕ, ◌+◌, ◌<◌, Bool, true, false, cond, ◌&&◌, ◌||◌, not, ◌==◌, List, [], ◌∷◌, ◌++◌, ◌⊎◌, inl, inr, Option, Some, None, is_some, refl, sym, ap, subst, ◌∙◌, eqb-true, arith}
 use Rattle.std.proofs.lemmas.Bool.{and_parts, both_ways, or_left, or_right}
 use Rattle.std.proofs.lemmas.List.Folds.{list_any-append}
-use Rattle.std.specs.List.{AllByRecursion, list_any}
+use Rattle.std.specs.List.{AllByRecursion}
 use Rattle.cv_syntax.specs.declared.head.Head.{Head}
 use Rattle.cv_syntax.specs.declared.head.Head.TheVariants.{And, Apply, Cons, Eq, Leaf, No, Not, Or, Read, Repl, Yes}
 use Rattle.cv_syntax.specs.Declarations.{Declaration}
@@ -50,6 +50,17 @@ some_left None u e = absurd (both_ways false refl e)
 some_right : {A : Type 0} (o u : Option A) → is_some u ≡ true → is_some (first_of o u) ≡ true
 some_right (Some a) u e = refl
 some_right None u e = e
+
+-- sums of uses
+
+sum_either : (m n : ℕ) → 0 < 0 + (m + n) → (0 < m) ⊎ (0 < n)
+sum_either m n l = either m n (omega arith)
+
+only_zero : (n : ℕ) → n ≡ 0 → 0 < 0 + n → ⊥
+only_zero n e l = omega arith
+
+none_used : (n : ℕ) → n ≡ 0 → 0 < n → ⊥
+none_used n e l = omega arith
 
 module _ (ds : List Declaration) (game : Tree) (key : ℕ) where
   -- a phrase of the game below replications: it is typed, the game has its names and the indices above and in it, and no name is read at
@@ -120,52 +131,62 @@ module _ (ds : List Declaration) (game : Tree) (key : ℕ) where
 
   -- what stands for a name that the body reads is a part of the filled body
 
+  parts_there : (rs : Scope) (h : Head) (a b : Tree) → replications_below h rs ≡ rs → IsThere rs (Node h a b) → IsThere rs a × IsThere rs b
+  parts_there rs h a b same s = let d = below s.0 rs h a b s.1 in ((d.phrases.0, d.first), (d.phrases.1, subst (λ qs. Stands d.phrases.1 qs b) same d.second))
+
   module _ (xs : List ℕ) (ts : Tree) (z : ℕ) (given : Tree) (found : term_for xs ts z ≡ Some given) (rs : Scope) where
     leaf_there : (q u : ℕ) (c d : Tree) → u ≡ 0 → 0 < cond (q == z) 1 0 + u → IsThere rs (or_node (term_for xs ts q) (Leaf q) c d) → IsThere rs given
     leaf_there q u c d n l s = go (q == z) refl l
       where
         go : (i : Bool) → (q == z) ≡ i → 0 < cond i 1 0 + u → IsThere rs given
         go true i l = subst (λ o. IsThere rs (or_node o (Leaf q) c d)) (ap (term_for xs ts) (eqb-true q z i) ∙ found) s
-        go false i l = absurd (omega arith)
+        go false i l = absurd (only_zero u n l)
 
     nil_unused : (a : Tree) → is_phrase Nil a ≡ true → uses z a ≡ 0
     unfolding uses
     nil_unused a p = ap (uses z) (nil_empty a p)
 
+    abbrev Given : Tree → Type 0
+    Given b = 0 < uses z b → IsThere rs (with_given xs ts b) → IsThere rs given
+
+    either_there : (a b : Tree) → Given a → Given b → 0 < 0 + (uses z a + uses z b) → IsThere rs (with_given xs ts a) × IsThere rs (with_given xs ts b) → IsThere rs given
+    either_there a b f g l t = go (sum_either (uses z a) (uses z b) l)
+      where
+        go : (0 < uses z a) ⊎ (0 < uses z b) → IsThere rs given
+        go (inl k) = f k t.0
+        go (inr k) = g k t.1
+
+    nil_given : (a : Tree) → is_phrase Nil a ≡ true → Given a
+    nil_given a p l s = absurd (none_used (uses z a) (nil_unused a p) l)
+
     mutual
       unfolding uses with_given is_phrase reads_no_array
 
-      pub term_there : (b : Tree) → is_phrase Term b ≡ true → reads_no_array b ≡ true → 0 < uses z b → IsThere rs (with_given xs ts b) → IsThere rs given
+      pub term_there : (b : Tree) → is_phrase Term b ≡ true → reads_no_array b ≡ true → Given b
       term_there (Node (Leaf q) a b) p n l s = leaf_there q (uses z a + uses z b) _ _ (leaf_unused z Term q a b p) l s
       term_there (Node (Read q) a b) p n l s = absurd (both_ways false refl n)
       term_there (Node (Apply f) a b) p n l s =
-          let q = and_parts (is_phrase Terms a) _ p in let m = and_parts (reads_no_array a) _ n in let d = below s.0 rs (Apply f) (with_given xs ts a) (with_given xs ts b) s.1 in
-          let e = nil_unused b q.1 in
-          terms_there a q.0 m.0 (omega arith) (d.phrases.0, d.first)
-      term_there (Node Eq a b) p n l s = let q = and_parts (is_phrase Term a) _ p in let m = and_parts (reads_no_array a) _ n in let d = below s.0 rs Eq (with_given xs ts a) (with_given xs ts b) s.1 in elim (either (uses z a) (uses z b) (omega arith)) as (λ _. IsThere rs given) [
-        | inl k ↦ term_there a q.0 m.0 k (d.phrases.0, d.first)
-        | inr k ↦ term_there b q.1 m.1 k (d.phrases.1, d.second)
-      ]
-      term_there (Node And a b) p n l s = let q = and_parts (is_phrase Term a) _ p in let m = and_parts (reads_no_array a) _ n in let d = below s.0 rs And (with_given xs ts a) (with_given xs ts b) s.1 in elim (either (uses z a) (uses z b) (omega arith)) as (λ _. IsThere rs given) [
-        | inl k ↦ term_there a q.0 m.0 k (d.phrases.0, d.first)
-        | inr k ↦ term_there b q.1 m.1 k (d.phrases.1, d.second)
-      ]
-      term_there (Node Or a b) p n l s = let q = and_parts (is_phrase Term a) _ p in let m = and_parts (reads_no_array a) _ n in let d = below s.0 rs Or (with_given xs ts a) (with_given xs ts b) s.1 in elim (either (uses z a) (uses z b) (omega arith)) as (λ _. IsThere rs given) [
-        | inl k ↦ term_there a q.0 m.0 k (d.phrases.0, d.first)
-        | inr k ↦ term_there b q.1 m.1 k (d.phrases.1, d.second)
-      ]
+          let q = and_parts (is_phrase Terms a) _ p in let m = and_parts (reads_no_array a) _ n in
+          either_there a b (terms_there a q.0 m.0) (nil_given b q.1) l (parts_there rs (Apply f) (with_given xs ts a) (with_given xs ts b) refl s)
+      term_there (Node Eq a b) p n l s =
+          let q = and_parts (is_phrase Term a) _ p in let m = and_parts (reads_no_array a) _ n in
+          either_there a b (term_there a q.0 m.0) (term_there b q.1 m.1) l (parts_there rs Eq (with_given xs ts a) (with_given xs ts b) refl s)
+      term_there (Node And a b) p n l s =
+          let q = and_parts (is_phrase Term a) _ p in let m = and_parts (reads_no_array a) _ n in
+          either_there a b (term_there a q.0 m.0) (term_there b q.1 m.1) l (parts_there rs And (with_given xs ts a) (with_given xs ts b) refl s)
+      term_there (Node Or a b) p n l s =
+          let q = and_parts (is_phrase Term a) _ p in let m = and_parts (reads_no_array a) _ n in
+          either_there a b (term_there a q.0 m.0) (term_there b q.1 m.1) l (parts_there rs Or (with_given xs ts a) (with_given xs ts b) refl s)
       term_there (Node Not a b) p n l s =
-          let q = and_parts (is_phrase Term a) _ p in let m = and_parts (reads_no_array a) _ n in let d = below s.0 rs Not (with_given xs ts a) (with_given xs ts b) s.1 in
-          let e = nil_unused b q.1 in
-          term_there a q.0 m.0 (omega arith) (d.phrases.0, d.first)
-      term_there (Node Yes a b) p n l s = let q = and_parts (is_phrase Nil a) _ p in let e = nil_unused a q.0 in let f = nil_unused b q.1 in absurd (omega arith)
-      term_there (Node No a b) p n l s = let q = and_parts (is_phrase Nil a) _ p in let e = nil_unused a q.0 in let f = nil_unused b q.1 in absurd (omega arith)
+          let q = and_parts (is_phrase Term a) _ p in let m = and_parts (reads_no_array a) _ n in
+          either_there a b (term_there a q.0 m.0) (nil_given b q.1) l (parts_there rs Not (with_given xs ts a) (with_given xs ts b) refl s)
+      term_there (Node Yes a b) p n l s = let q = and_parts (is_phrase Nil a) _ p in either_there a b (nil_given a q.0) (nil_given b q.1) l (parts_there rs Yes (with_given xs ts a) (with_given xs ts b) refl s)
+      term_there (Node No a b) p n l s = let q = and_parts (is_phrase Nil a) _ p in either_there a b (nil_given a q.0) (nil_given b q.1) l (parts_there rs No (with_given xs ts a) (with_given xs ts b) refl s)
       term_there t p n l s = absurd (both_ways false refl p)
 
-      terms_there : (b : Tree) → is_phrase Terms b ≡ true → reads_no_array b ≡ true → 0 < uses z b → IsThere rs (with_given xs ts b) → IsThere rs given
-      terms_there Empty p n l s = absurd (omega arith)
-      terms_there (Node Cons a b) p n l s = let q = and_parts (is_phrase Term a) _ p in let m = and_parts (reads_no_array a) _ n in let d = below s.0 rs Cons (with_given xs ts a) (with_given xs ts b) s.1 in elim (either (uses z a) (uses z b) (omega arith)) as (λ _. IsThere rs given) [
-        | inl k ↦ term_there a q.0 m.0 k (d.phrases.0, d.first)
-        | inr k ↦ terms_there b q.1 m.1 k (d.phrases.1, d.second)
-      ]
+      terms_there : (b : Tree) → is_phrase Terms b ≡ true → reads_no_array b ≡ true → Given b
+      terms_there Empty p n l s = absurd (none_used 0 refl l)
+      terms_there (Node Cons a b) p n l s =
+          let q = and_parts (is_phrase Term a) _ p in let m = and_parts (reads_no_array a) _ n in
+          either_there a b (term_there a q.0 m.0) (terms_there b q.1 m.1) l (parts_there rs Cons (with_given xs ts a) (with_given xs ts b) refl s)
       terms_there t p n l s = absurd (both_ways false refl p)

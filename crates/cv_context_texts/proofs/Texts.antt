@@ -8,10 +8,8 @@ use Rattle.cv_syntax.specs.declared.head.Head.TheVariants.{Leaf, Read}
 use Rattle.cv_syntax.specs.Declarations.{Declaration}
 use Rattle.cv_syntax.specs.Tree.{Tree, Empty, Node, chain, first, head_reads_only, reads_only}
 use Rattle.cv_meaning.specs.Interpretation.{is_constant_of}
-use Rattle.cv_meaning_adequacy.specs.Typed.{IsVariable, OfType}
 use Rattle.cv_directory.specs.Sites.{first_site}
 use Rattle.cv_group_rules.specs.Faults.{IsAccepted}
-use Rattle.cv_meaning_contexts.specs.Groups.{Group}
 use Rattle.cv_scope.specs.Phrases.{Inputs, IsWellFormed}
 use Rattle.cv_scope.specs.Rules.{is_index}
 use Rattle.cv_scope.specs.Scope.{is_variable, names_of as scope_names}
@@ -19,14 +17,14 @@ use Rattle.cv_scope.specs.Standing.{at_root}
 use Rattle.cv_scope.specs.declared.position.Position.TheVariants.{Anywhere}
 use Rattle.cv_scope_runs.proofs.Games.{no_variable}
 use Rattle.cv_typing.specs.Parts.{IsTypedGame}
-use Rattle.cv_typing_runs.specs.Games.{HasArguments, HasKnownNames, context_of, has_site}
+use Rattle.cv_typing_runs.specs.Games.{HasArguments, HasKnownNames, has_site}
 use Rattle.cv_typing_runs.proofs.Games as games
 use Rattle.cv_scenes.specs.Apt.{IsSiteApt}
 use Rattle.cv_scenes.specs.Contexts.{AreAnswers}
 use Rattle.cv_scenes.specs.Instances.{is_read_of, names_of, terms_of}
 use Rattle.cv_scenes.specs.LeftTerms.{HasLeftTerms}
 use Rattle.cv_scenes.specs.Reductions.{Reduction, is_plain, matching, sites}
-use Rattle.cv_scenes.specs.Refusals.{first_refusal, new_of, uses}
+use Rattle.cv_scenes.specs.Refusals.{first_refusal, uses}
 use Rattle.cv_scenes.specs.Scenes.{head_names, names}
 use Rattle.cv_scenes.specs.Sights.{variable_of}
 use Rattle.cv_scenes.specs.Sites.{Site}
@@ -46,12 +44,11 @@ use Rattle.cv_inline_bodies.specs.Inlined.{is_index_of}
 use Rattle.cv_inline_bodies.specs.Roles as roles
 use Rattle.cv_inline_bodies.specs.Roles.{Gone, Plain, Replication, Role}
 use Rattle.cv_inline_runs.specs.Contexts.{ordinary_in}
-use Rattle.cv_inline_runs.specs.Texts.{Text, is_ordinary, plain_in}
-use Rattle.cv_inline_expected.specs.Fine.{HasRolesOf, defines}
-use Rattle.cv_context_texts.specs.SiteTexts.{HasSiteText, IsTextOfGame, indices_of, role_in_game}
+use Rattle.cv_inline_runs.specs.Texts.{Text, plain_in}
+use Rattle.cv_context_texts.specs.SiteTexts.{HasSiteText, IsTextOfGame, indices_of}
 use Rattle.cv_context_texts.proofs.Allowed.{IsAllowed, allowed}
 use Rattle.cv_context_texts.proofs.Keys.{KeyRead, fine_terms, index_parameter, index_terms, key_count, key_read, new_variable, terms_read}
-use Rattle.cv_context_texts.proofs.Names.{defined_is_variable, defined_named, index_named, index_no_constant, index_no_variable, site_defined}
+use Rattle.cv_context_texts.proofs.Names.{index_named, index_no_constant, index_no_variable, site_defined}
 use Rattle.cv_context_texts.proofs.Stands.{IsThere, Stands, sites_there, term_there}
 
 off : (b : Bool) → (b ≡ true → ⊥) → b ≡ false
