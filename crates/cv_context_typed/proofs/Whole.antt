@@ -1,0 +1,18 @@
+-- The context of an apt game that typing accepts is laid out.
+use Rattle.std.proofs.Common.{[]}
+use Rattle.cv_typing.specs.Parts.{IsTypedGame}
+use Rattle.cv_scenes.specs.LeftTerms.{HasLeftTerms}
+use Rattle.cv_scenes.specs.Apt.{IsAptGame}
+use Rattle.cv_scenes.specs.Reductions.{Reduction, context_of_game, matching}
+use Rattle.cv_inline_runs.specs.Texts.{Text}
+use Rattle.cv_inline_cells.specs.Layout.{IsContextText}
+use Rattle.cv_context_formed.proofs.Games.{context_part}
+use Rattle.cv_context_typed.specs.Typed.{HasGameRoles, variable_type}
+use Rattle.cv_context_typed.proofs.Checked.{game_checked}
+use Rattle.cv_context_typed.proofs.Kept.{inputs_defined}
+use Rattle.cv_context_typed.proofs.Laid.{inputs_text}
+
+pub context_laid : (r : Reduction) (T : Text) → IsAptGame r → HasLeftTerms r.scene.declarations (matching r).group → IsTypedGame r.scene.declarations r.scene.game → HasGameRoles T r → IsContextText T (variable_type r.scene.game) (context_of_game r).game
+context_laid r T apt left typed roles =
+    inputs_text T (variable_type r.scene.game) (context_of_game r).game (context_part r apt left).phrase
+    (inputs_defined T r apt roles r.scene.game [] 0 apt.formed.phrase apt.apt (game_checked r.scene.declarations r.scene.game typed))
