@@ -3,7 +3,8 @@ use Rattle.std.specs.Prelude.{ℕ, List, map, reverse, slice_get, Option, Some, 
 use Rattle.cv_pool.specs.KindTree.{KindTree}
 use Rattle.cv_pool.specs.declared.node.NodeId.{NodeId}
 use Rattle.cv_pool.specs.Nodes.{ChildBelow}
-use Rattle.cv_syntax.specs.Tree.{Tree, Empty, tree_at}
+use Rattle.cv_syntax.specs.declared.head.Head.TheVariants.{No}
+use Rattle.cv_syntax.specs.Tree.{Tree, lone, tree_at}
 use Rattle.cv_inline_bodies.specs.Inlined.{Drawn, in_game, index_terms}
 use Rattle.cv_inline_games.specs.NextGame.{Results}
 use Rattle.cv_inline_terms.specs.declared.caller.Caller.{Caller}
@@ -12,9 +13,9 @@ use Rattle.cv_inline_terms.specs.Callers.{caller_in}
 use Rattle.cv_inline_terms.specs.Scopes.{scope_in}
 use Rattle.cv_inline_results.specs.declared.outcome.Outcome.{Outcome}
 
--- a term of a caller's body in the game; of no caller it is nothing
+-- a term of a caller's body in the game; of no caller it is `false`, as of a call that has no site
 abbrev pub term_of : List KindTree → Drawn → Option Caller → List Entry → Option NodeId → Tree
-term_of trees d None scope term = Empty
+term_of trees d None scope term = lone No
 term_of trees d (Some c) scope term = in_game d (caller_in trees c) (scope_in (index_terms c.replications.items) scope) (tree_at trees term)
 
 abbrev pub outcome_tree : List KindTree → Drawn → List Caller → Outcome → Tree

@@ -10,12 +10,12 @@ ghost use Rattle.cv_inline_terms.specs.Drawings.{drawn_in};
 ghost use Rattle.cv_inline_terms.specs.Stacks.{stack};
 ghost use Rattle.cv_inline_results.specs.Outcomes.{IsLiveOutcome, or_else, outcome_tree, results_in};
 
-use cv_inline_terms::{Caller, Drawing, Entry, in_game, nothing};
-use cv_syntax::{Make, NodeId, Pool};
+use cv_inline_terms::{Caller, Drawing, Entry, in_game, lone};
+use cv_syntax::{Head, Make, NodeId, Pool};
 use std::alloc::AllocError;
 
 /// The result of a call, for the variable that takes its answer: a term of the caller's body, in a scope. The caller
-/// is given by its place among the callers.
+/// is given by its place among the callers; without a caller the result is `false`.
 #[derive(Drop)]
 pub struct Outcome {
     pub answer: u32,
@@ -65,6 +65,6 @@ pub(crate) fn add_outcome(
             parts,
             outcome.term,
         ),
-        None => nothing(parts),
+        None => lone(parts, Head::No),
     }
 }
