@@ -1,0 +1,4 @@
+mod Said
+mod Places
+mod Sites
+mod Formed

@@ -1,0 +1,50 @@
+-- A game whose certificates are read, and a correspondence, as the code has them.
+use Rattle.std.specs.Prelude.{◌≡◌, ℕ, ◌<◌, ◌^◌, All, IfSome, List, Some, length}
+use Rattle.cv_pool.specs.KindTree.{KindTree}
+use Rattle.cv_pool.specs.Nodes.{ChildBelow}
+use Rattle.cv_syntax.specs.Declarations.{declarations}
+use Rattle.cv_syntax.specs.Tree.{Tree, size, tree_at}
+use Rattle.cv_directory.specs.Definitions.{entries_of, large_in}
+use Rattle.cv_directory.specs.Sites.{sites_of}
+use Rattle.cv_directory.specs.Tables.{entries_in}
+use Rattle.cv_typing.specs.Lookups.{IsLive}
+use Rattle.cv_typing.specs.Signature.{OfGame}
+use Rattle.cv_typing.specs.Tables.{arrays_of, directory_in}
+use Rattle.cv_scope.specs.Phrases.{IsWellFormed}
+use Rattle.cv_meaning.specs.Correspondences.{Correspondence, atoms_of, leaf_names}
+use Rattle.cv_scenes.specs.Scenes.{Scene}
+use Rattle.cv_rule_scenes.specs.Kept as kept
+use Rattle.cv_query_entries.specs.declared.views.Asked.{Asked}
+use Rattle.cv_query_entries.specs.declared.views.View.{View}
+
+abbrev pub trees_of : View → List KindTree
+trees_of v = v.work.now.pool.trees
+
+abbrev pub game_of : View → Tree
+game_of v = tree_at (trees_of v) (Some v.game)
+
+abbrev pub scene_of : View → Scene
+scene_of v = kept.scene_of v.work.now.pool v.work.now.decls v.game
+
+-- the game is well-formed, and what there is to read in it was looked up there
+pub record IsReady (v : View) : Type 0 where
+  pub live : v.game.0 < length (trees_of v)
+  pub fits : size (game_of v) < 2 ^ 32
+  pub declared : All (IsLive (length (trees_of v))) v.work.now.decls.list
+  pub formed : IsWellFormed (declarations (trees_of v) v.work.now.decls.list) (game_of v)
+  pub arrays : arrays_of v.arrays.now ≡ OfGame (sites_of (game_of v))
+  pub entries : IfSome (directory_in v.arrays.now) (λ d. entries_in (trees_of v) d ≡ entries_of (large_in v.work.now.decls.list) (game_of v))
+
+abbrev pub asked_of : List KindTree → Asked → Correspondence
+asked_of trees a = record {
+  inj = a.inj;
+  event = a.event;
+  variables = leaf_names (tree_at trees a.variables);
+  others = a.others.now;
+  atoms = atoms_of (tree_at trees a.atoms);
+}
+
+-- its nodes are below a number
+pub record IsAskedBelow (n : ℕ) (a : Asked) : Type 0 where
+  pub variables : ChildBelow n a.variables
+  pub atoms : ChildBelow n a.atoms

@@ -1,0 +1,270 @@
+ghost use Rattle.std.specs.Prelude.{◌≡◌, IfOk, length};
+ghost use Rattle.cv_pool.specs.Nodes.{ChildBelow};
+ghost use Rattle.cv_syntax.specs.Tree.{tree_at};
+ghost use Rattle.cv_directory.specs.declared.sort.Sort.TheVariants.{OfType};
+ghost use Rattle.cv_typing.specs.Tables.{above_of};
+ghost use Rattle.cv_meaning.specs.Correspondences.{atoms_of};
+ghost use Rattle.cv_scenes.specs.Sights as sights;
+ghost use Rattle.cv_scenes.specs.Sights.{sight_at};
+ghost use Rattle.cv_scenes.specs.Terms.{above_at};
+ghost use Rattle.cv_query_certificates.specs.EventNodes.{only_site};
+ghost use Rattle.cv_query_certificates.specs.Failures as failures;
+ghost use Rattle.cv_query_certificates.specs.Forms as forms;
+ghost use Rattle.cv_query_entries.specs.Said.{IsAtomBelow, IsRouteBelow, atom_seen, has_way, has_with, way_seen};
+ghost use Rattle.cv_query_entries.specs.Views.{IsAskedBelow, IsReady, asked_of, game_of, scene_of, trees_of};
+
+use crate::cells::site_place;
+use crate::nodes::{are_as_many, is_event_above};
+use crate::parts::{is_number, surplus_entry};
+use crate::views::{Asked, Atom, Entry, Route, View, atom_of, entry_of, route_of};
+use cv_derive_lines::Claim;
+use cv_derive_terms::{is_term_of, is_typed_claim};
+use cv_directory::Sort;
+use cv_rule_scenes::{indices_at, part_at};
+use cv_syntax::children::{first_of, is_empty};
+use cv_syntax::{NodeId, read_node};
+use std::alloc::{AllocError, Global};
+use std::collections::HashMap;
+
+/// Whether an event's node at a place stands above the only definition of a cell's variable.
+fn is_above_site(
+    view: &View,
+    event: u32,
+    terms: Option<NodeId>,
+    place: u64,
+    cell: Option<NodeId>,
+) -> bool
+    requires ready { IsReady view.now }
+    requires terms { ChildBelow (length (trees_of view.now)) terms }
+    requires cell { ChildBelow (length (trees_of view.now)) cell }
+    ensures { result ≡ forms.is_above_site (game_of view.now) event
+        (tree_at (trees_of view.now) terms) place
+        (only_site (game_of view.now) (tree_at (trees_of view.now) cell)) }
+{
+    match site_place(view, cell) {
+        Some(site) => is_event_above(&view.work.pool, view.game, event, terms, place, site),
+        None => false,
+    }
+}
+
+/// Whether a cell is typed at a place.
+fn is_cell_at(view: &View, above: &HashMap<u32, Sort>, place: u32, cell: Option<NodeId>) -> bool
+    requires ready { IsReady view.now }
+    requires above { above_of above.now ≡ above_at (scene_of view.now) place }
+    requires cell { ChildBelow (length (trees_of view.now)) cell }
+    ensures { result
+        ≡ sights.is_cell_at (scene_of view.now) place (tree_at (trees_of view.now) cell) }
+{
+    is_typed_claim(view.work, view.arrays, above, Claim::IsDefined(cell))
+}
+
+/// Whether a tree is a term of a type at a place.
+fn is_of_type(
+    view: &View,
+    above: &HashMap<u32, Sort>,
+    place: u32,
+    t: u32,
+    term: Option<NodeId>,
+) -> bool
+    requires ready { IsReady view.now }
+    requires above { above_of above.now ≡ above_at (scene_of view.now) place }
+    requires term { ChildBelow (length (trees_of view.now)) term }
+    ensures { result ≡ sights.is_term_of (sight_at (scene_of view.now) place) (OfType t)
+        (tree_at (trees_of view.now) term) }
+{
+    is_term_of(view.work, view.arrays, above, Sort::OfType(t), term)
+}
+
+/// Whether a route has the form that an atom asks at a place.
+fn has_route_form(
+    view: &View,
+    above: &HashMap<u32, Sort>,
+    place: u32,
+    atom: Atom,
+    route: Route,
+) -> bool
+    requires ready { IsReady view.now }
+    requires above { above_of above.now ≡ above_at (scene_of view.now) place }
+    requires atom { IsAtomBelow (length (trees_of view.now)) atom }
+    requires route { IsRouteBelow (length (trees_of view.now)) route }
+    ensures { result ≡ has_way (scene_of view.now) place (atom_seen (trees_of view.now) atom)
+        (way_seen (trees_of view.now) route) }
+{
+    match atom {
+        Atom::Event {
+            event,
+            arguments,
+            ..
+        } => match route {
+            Route::Above { place: q, .. } => {
+                is_event_above(&view.work.pool, view.game, event, arguments, q, place)
+            }
+            Route::Cell { cell, place: q, .. } => {
+                is_cell_at(view, above, place, cell)
+                    && is_above_site(view, event, arguments, q, cell)
+            }
+            Route::Holds(_) => false,
+            Route::Other => false,
+        },
+        Atom::Term(_) => match route {
+            Route::Holds(_) => true,
+            _ => false,
+        },
+    }
+}
+
+/// Whether there is a route of the form that is asked for each atom, in order.
+#[tactic(auto, using(crate::proofs::Formed::formed))]
+fn have_route_forms(
+    view: &View,
+    above: &HashMap<u32, Sort>,
+    place: u32,
+    atoms: Option<NodeId>,
+    routes: Option<NodeId>,
+) -> bool
+    requires ready { IsReady view.now }
+    requires above { above_of above.now ≡ above_at (scene_of view.now) place }
+    requires atoms { ChildBelow (length (trees_of view.now)) atoms }
+    requires routes { ChildBelow (length (trees_of view.now)) routes }
+    ensures { result ≡ forms.have_route_forms (scene_of view.now) place
+        (atoms_of (tree_at (trees_of view.now) atoms)) (tree_at (trees_of view.now) routes) }
+{
+    let pool = &view.work.pool;
+    let mut at = atoms;
+    let mut behind = routes;
+    'atoms: while let Some(m) = at {
+        let asked = read_node(pool, m);
+        let Some(n) = behind else {
+            return false;
+        };
+        let given = read_node(pool, n);
+        let atom = atom_of(pool, asked.first);
+        let route = route_of(pool, given.first);
+        if !has_route_form(view, above, place, atom, route) {
+            return false;
+        }
+        at = asked.second;
+        behind = given.second;
+    }
+    is_empty(pool, behind)
+}
+
+/// Whether there is a term of its type for each of the variables.
+#[tactic(auto, using(crate::proofs::Formed::formed))]
+fn have_types(
+    view: &View,
+    above: &HashMap<u32, Sort>,
+    place: u32,
+    others: &[(u32, u32)],
+    witnesses: Option<NodeId>,
+) -> bool
+    requires ready { IsReady view.now }
+    requires above { above_of above.now ≡ above_at (scene_of view.now) place }
+    requires witnesses { ChildBelow (length (trees_of view.now)) witnesses }
+    ensures { result ≡ forms.have_types (sight_at (scene_of view.now) place) others.now
+        (tree_at (trees_of view.now) witnesses) }
+{
+    let mut at = witnesses;
+    'variables: for k in 0..others.len() {
+        let Some(n) = at else {
+            return false;
+        };
+        let node = read_node(&view.work.pool, n);
+        if !is_of_type(view, above, place, others[k].1, node.first) {
+            return false;
+        }
+        at = node.second;
+    }
+    is_empty(&view.work.pool, at)
+}
+
+/// Whether witnesses and routes have the form that a query asks at a place.
+fn has_with_form(
+    alloc: Global,
+    view: &View,
+    asked: &Asked,
+    place: u32,
+    witnesses: Option<NodeId>,
+    routes: Option<NodeId>,
+) -> Result<bool, AllocError>
+    requires ready { IsReady view.now }
+    requires asked { IsAskedBelow (length (trees_of view.now)) asked.now }
+    requires witnesses { ChildBelow (length (trees_of view.now)) witnesses }
+    requires routes { ChildBelow (length (trees_of view.now)) routes }
+    ensures { IfOk result (λ has. has
+        ≡ has_with (scene_of view.now) (asked_of (trees_of view.now) asked.now) place
+        (tree_at (trees_of view.now) witnesses) (tree_at (trees_of view.now) routes)) }
+{
+    let pool = &view.work.pool;
+    let arguments = first_of(pool, part_at(pool, view.game, place));
+    if !are_as_many(pool, asked.variables, arguments) {
+        return Ok(false);
+    }
+    let above = indices_at(alloc, view.work, view.game, place)?;
+    if !have_types(view, &above, place, asked.others, witnesses) {
+        return Ok(false);
+    }
+    Ok(have_route_forms(view, &above, place, asked.atoms, routes))
+}
+
+/// Whether a part has the form that a query asks of an entry for a place.
+fn has_form(
+    alloc: Global,
+    view: &View,
+    asked: &Asked,
+    place: u32,
+    part: Option<NodeId>,
+) -> Result<bool, AllocError>
+    requires ready { IsReady view.now }
+    requires asked { IsAskedBelow (length (trees_of view.now)) asked.now }
+    requires part { ChildBelow (length (trees_of view.now)) part }
+    ensures { IfOk result (λ has. has
+        ≡ forms.has_form (scene_of view.now) (asked_of (trees_of view.now) asked.now) place
+        (tree_at (trees_of view.now) part)) }
+{
+    match entry_of(&view.work.pool, part) {
+        Entry::Never { place: n, .. } => Ok(is_number(&view.work.pool, place, n)),
+        Entry::With {
+            place: n,
+            witnesses,
+            routes,
+        } => {
+            if !is_number(&view.work.pool, place, n) {
+                return Ok(false);
+            }
+            has_with_form(alloc, view, asked, place, witnesses, routes)
+        }
+        Entry::Other => Ok(false),
+    }
+}
+
+/// The first of the places without an entry of the form that is asked, or that of an entry too many.
+#[tactic(auto, using(crate::proofs::Formed::formed))]
+pub fn first_unformed(
+    alloc: Global,
+    view: &View,
+    asked: &Asked,
+    places: &[u32],
+    parts: Option<NodeId>,
+) -> Result<Option<u64>, AllocError>
+    requires ready { IsReady view.now }
+    requires asked { IsAskedBelow (length (trees_of view.now)) asked.now }
+    requires parts { ChildBelow (length (trees_of view.now)) parts }
+    ensures { IfOk result (λ place. place
+        ≡ failures.first_unformed (scene_of view.now) (asked_of (trees_of view.now) asked.now)
+        places.now (tree_at (trees_of view.now) parts)) }
+{
+    let mut at = parts;
+    'places: for k in 0..places.len() {
+        let place = places[k];
+        let Some(n) = at else {
+            return Ok(Some(place as u64));
+        };
+        let part = read_node(&view.work.pool, n);
+        if !has_form(alloc, view, asked, place, part.first)? {
+            return Ok(Some(place as u64));
+        }
+        at = part.second;
+    }
+    Ok(surplus_entry(&view.work.pool, at))
+}
