@@ -1,3 +1,3 @@
 pub mod Within
 pub mod Rows
-pub mod Arguments
+pub mod Reading

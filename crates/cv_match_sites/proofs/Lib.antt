@@ -1,3 +1,3 @@
 pub mod Walked
 pub mod Calling
-pub mod Instances
+pub mod Testing

@@ -8,7 +8,10 @@ ghost use Rattle.cv_scenes.specs.Instances.{guess, is_read_of};
 ghost use Rattle.cv_match_patterns.specs.Searches.{IsReady};
 ghost use Rattle.cv_match_sites.specs.Matchings.{is_typed, matching_by};
 
-use cv_match_patterns::{Search, are_arguments, are_coins, arguments_of, coins_of, is_whole, key_of, term_of, variable_of};
+use cv_match_patterns::{
+    Search, are_arguments, are_coins, arguments_of, coins_of, is_whole, key_of, term_of,
+    variable_of,
+};
 use cv_syntax::{NodeId, Pool, Work};
 
 /// Whether a term may stand for the key.
@@ -23,7 +26,7 @@ fn is_read(pool: &Pool, x: u32, term: Option<NodeId>) -> bool
 }
 
 /// Whether each name of a function has a term that may stand for it.
-#[tactic(auto, using(cv_match_patterns::proofs::Parts::lists))]
+#[tactic(auto, using(crate::proofs::Testing::whole))]
 fn is_typed(work: &Work, search: &Search, f: Option<NodeId>, term: Option<NodeId>) -> bool
     requires ready { IsReady work.now.pool search.now }
     requires function { ChildBelow (length work.now.pool.trees) f }
@@ -39,7 +42,7 @@ fn is_typed(work: &Work, search: &Search, f: Option<NodeId>, term: Option<NodeId
 }
 
 /// Whether a term is an instance of a function, with the terms that stand where its body first has its names.
-#[tactic(auto, using(crate::proofs::Instances::whole))]
+#[tactic(auto, using(crate::proofs::Testing::whole))]
 pub fn is_instance(work: &Work, search: &Search, f: Option<NodeId>, term: Option<NodeId>) -> bool
     requires ready { IsReady work.now.pool search.now }
     requires function { ChildBelow (length work.now.pool.trees) f }

@@ -6,7 +6,7 @@ use Rattle.cv_syntax.proofs.Trees.{child_above, child_live, empty_at, node_at}
 use Rattle.cv_syntax.proofs.Walking.{above-child, above-some, size-at}
 use Rattle.cv_meaning_contexts.specs.Groups.{function_of}
 use Rattle.cv_scenes.specs.Scenes.{first_reading}
-use Rattle.cv_match_reads.proofs.Arguments.{argument-end, argument-first, argument-here, argument-none, argument-rest}
+use Rattle.cv_match_reads.proofs.Reading.{argument-end, argument-first, argument-here, argument-none, argument-rest}
 use Rattle.cv_match_reads.proofs.arguments.+argument_use.Goals as goal
 
 pub returns-in_default-there : goal.returns-in_default-there

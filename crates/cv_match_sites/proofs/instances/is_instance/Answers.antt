@@ -2,7 +2,7 @@ use Rattle.cv_syntax.specs.Tree.{tree_at}
 use Rattle.cv_meaning_contexts.specs.Groups.{function_of}
 use Rattle.cv_match_sites.specs.Matchings.{matching_by}
 use Rattle.cv_match_patterns.proofs.Parts.{both-last, test-first}
-use Rattle.cv_match_sites.proofs.Instances.{instance-parts}
+use Rattle.cv_match_sites.proofs.Testing.{instance-parts}
 use Rattle.cv_match_sites.proofs.instances.is_instance.Goals as goal
 
 pub returns-then-is_whole : goal.returns-then-is_whole

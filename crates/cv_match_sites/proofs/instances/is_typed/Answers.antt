@@ -4,7 +4,7 @@ use Rattle.cv_meaning.specs.Correspondences.{typed_names}
 use Rattle.cv_meaning_contexts.specs.Groups.{function_of}
 use Rattle.cv_match_sites.specs.Matchings.{matching_by}
 use Rattle.cv_match_patterns.proofs.Parts.{test-first, test-last, test-second}
-use Rattle.cv_match_sites.proofs.Instances.{typed-parts}
+use Rattle.cv_match_sites.proofs.Testing.{typed-parts}
 use Rattle.cv_match_sites.proofs.instances.is_typed.Goals as goal
 
 pub returns-then-are_coins : goal.returns-then-are_coins

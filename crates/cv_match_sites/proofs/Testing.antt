@@ -1,5 +1,5 @@
 -- Instances, by the body and by what stands for each name.
-use Rattle.std.proofs.Common.{◌≡◌, ℕ, List, refl, ap, ap₂, ◌∙◌}
+use Rattle.std.proofs.Common.{◌≡◌, ℕ, refl, ap, ap₂, ◌∙◌}
 use Rattle.std.specs.Prelude.{map, ◌&&◌}
 use Rattle.cv_syntax.specs.Tree.{Tree}
 use Rattle.cv_syntax.proofs.Trees.{tree_of-NoTree}

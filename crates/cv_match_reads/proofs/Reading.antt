@@ -1,5 +1,5 @@
 -- Reads in arguments, node by node.
-use Rattle.std.proofs.Common.{◌≡◌, ℕ, ap₂, Bool, true, false, cond, List, Option, Some, None, refl, ap, sym, ◌∙◌}
+use Rattle.std.proofs.Common.{◌≡◌, ℕ, ap₂, Bool, true, false, cond, List, Some, None, refl, ap, sym, ◌∙◌}
 use Rattle.cv_syntax.specs.declared.head.Head.{Head}
 use Rattle.cv_syntax.specs.Tree.{Tree, Empty, Node, first_place, second_place}
 use Rattle.cv_directory.specs.Sites.{first_of}
