@@ -2,3 +2,4 @@ pub mod Results
 pub mod Terms
 pub mod Games
 pub mod Labels
+pub mod Texts

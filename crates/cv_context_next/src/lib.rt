@@ -1,14 +1,18 @@
-// Laws of the next game of a reduction: the names of answers leave no trace there, and its labels are new.
+// Laws of the next game of a reduction: the names of answers leave no trace there, its labels are new, and so
+// are names with drawn texts.
 #![tactic(auto)]
 
-ghost use Rattle.std.specs.Prelude.{◌≡◌, ◌==◌, ℕ, List, [], false, length, true};
+ghost use Rattle.std.specs.Prelude.{◌≡◌, ◌==◌, ◌*◌, ◌≤◌, ◌^◌, ℕ, suc, List, [], false, length, map, true};
 ghost use Rattle.std.specs.List.{IsDistinct, list_any};
 ghost use Rattle.cv_scenes.specs.Apt.{IsAptGame};
+ghost use Rattle.cv_scenes.specs.Scenes.{names};
 ghost use Rattle.cv_scenes.specs.Reductions.{Reduction, context_of_game, matching};
 ghost use Rattle.cv_inline_games.specs.NextGame.{InlinedCalls, next_in};
+ghost use Rattle.cv_inline_games.specs.Draws.{Draw, drawn_texts, labels_from, labels_in};
+ghost use Rattle.cv_inline_names.specs.Texts.{is_listed, texts_at};
 ghost use Rattle.cv_inline_expected.specs.Fine.{has_free_indices, has_label};
 ghost use Rattle.cv_context_next.specs.Answers.{AreEndless, with_answers};
-ghost use Rattle.cv_context_next.specs.Drawn.{AreDrawnFor, finds};
+ghost use Rattle.cv_context_next.specs.Drawn.{AreDrawnFor, draws, finds};
 
 /// The next game of an apt game's context is the same for all names of the answers that are apart and that the
 /// game has not, where no instance stands in an index: each answer is read in its statement alone, and there
@@ -28,4 +32,17 @@ pub fn drawn_labels_are_none_of_the_game()
         IsDistinct ◌==◌ labels }
     ensures new { (r : Reduction) (names labels : List ℕ) → AreDrawnFor r names labels →
         (l : ℕ) → has_label l r.scene.game ≡ true → list_any (λ k. k == l) labels ≡ false }
+{}
+
+/// Where the taken names have all names of the file and of the game, names of a table with texts that are drawn for
+/// the next game are drawn names, if none is an answer's.
+pub fn names_with_drawn_texts_are_drawn()
+    ensures { (r : Reduction) (table : List (List ℕ)) (taken drawn labels : List ℕ) →
+        texts_at table drawn ≡ drawn_texts (texts_at table taken)
+        (texts_at table (map (λ (d : Draw). d.base) (draws r))) →
+        length (draws r) * suc (length taken) ≤ 10 ^ 63 →
+        ((y : ℕ) → r.scene.known y ≡ true → is_listed taken y ≡ true) →
+        ((y : ℕ) → names y r.scene.game ≡ true → is_listed taken y ≡ true) →
+        ((k : ℕ) → list_any (λ y. y == r.answer k) drawn ≡ false) →
+        labels ≡ labels_from (labels_in r.scene.game) 1 (finds r) → AreDrawnFor r drawn labels }
 {}
