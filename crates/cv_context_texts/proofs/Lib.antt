@@ -5,3 +5,4 @@ pub mod Allowed
 mod Stands
 mod Keys
 pub mod Texts
+mod Worked

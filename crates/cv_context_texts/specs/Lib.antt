@@ -1,1 +1,3 @@
 pub mod SiteTexts
+pub mod Tagging
+pub mod Worked

@@ -3,7 +3,7 @@
 #![tactic(auto)]
 
 ghost use Rattle.std.specs.Prelude.{◌≡◌, ℕ, List, length, slice_get, None, Some, true};
-ghost use Rattle.cv_meaning.specs.Interpretation.{is_constant_of};
+ghost use Rattle.cv_meaning.specs.Interpretation.{Interpretation, is_constant_of};
 ghost use Rattle.cv_meaning.specs.Tapes.{Find_at};
 ghost use Rattle.cv_group_rules.specs.Faults.{IsAccepted};
 ghost use Rattle.cv_scope.specs.Phrases.{IsWellFormed};
@@ -21,6 +21,8 @@ ghost use Rattle.cv_inline_bodies.specs.Roles.{Gone, Replication};
 ghost use Rattle.cv_inline_runs.specs.Texts.{Text};
 ghost use Rattle.cv_inline_expected.specs.Fine.{HasRolesOf, has_label};
 ghost use Rattle.cv_context_texts.specs.SiteTexts.{HasSiteText, IsTextOfGame, role_in_game};
+ghost use Rattle.cv_context_texts.specs.Tagging.{tagging};
+ghost use Rattle.cv_context_texts.specs.Worked.{tagged_text};
 
 /// Where names of a well-formed game have the roles that it gives them, they have the roles that laws of contexts ask
 /// for: no index of a game is a variable of it. The key goes.
@@ -58,4 +60,10 @@ pub fn sites_of_games_have_texts()
         IsAccepted (is_constant_of r.scene.declarations) r.equivalence →
         first_refusal (matching r) ≡ None → AreAnswers r.scene (length (sites r)) r.answer →
         (l : ℕ) (s : Site) → slice_get (sites r) l ≡ Some s → HasSiteText T s }
+{}
+
+/// The small protocol with tags, which meets the other premises (`worked_reduction`), meets what is asked of names:
+/// a text in which the key alone is drawn is one of its game.
+pub fn worked_text()
+    ensures { (i : Interpretation) → IsTextOfGame (tagged_text i) tagging }
 {}
