@@ -1,0 +1,4 @@
+pub mod Phrases
+pub mod Bodies
+pub mod Rows
+pub mod Files
