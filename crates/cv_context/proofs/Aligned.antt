@@ -24,9 +24,12 @@ use Rattle.cv_scenes.specs.Contexts.{after_calls, call_terms, context_in, contex
 use Rattle.cv_scenes.specs.Apt.{has_value}
 use Rattle.cv_match_patterns.specs.Sites.{HasInstance, instance_in, site_in}
 use Rattle.cv_match_patterns.specs.declared.site.Site.{Site}
-use Rattle.cv_context.specs.declared.roles.Roles.{Roles}
-use Rattle.cv_context.specs.Roles.{AreSitesOf, is_coin_at, name_at}
-use Rattle.cv_context.specs.Written.{Part, answer_in, before, calls_here, is_place, is_site, joined, node_in, part_at, part_unless}
+use Rattle.cv_context_nodes.specs.Calls.{terms_of}
+use Rattle.cv_context_nodes.specs.Written.{answer_in, calls_here}
+use Rattle.cv_context_nodes.specs.declared.calls.Call.{Call as Written}
+use Rattle.cv_context_nodes.specs.declared.roles.Roles.{Roles}
+use Rattle.cv_context.specs.Roles.{AreSitesOf, is_coin_at, name_at, reads_at, reads_of}
+use Rattle.cv_context.specs.Written.{Part, before, is_place, is_site, joined, node_in, part_at, part_unless}
 use Rattle.cv_context.proofs.Drawn.{found}
 use Rattle.cv_context.proofs.Walking.{at-node, at-site, skipped, whole}
 
@@ -55,14 +58,14 @@ sites_behind M w rs p (Node h a b) =
     go None true e f = f
     go None false e f = each_append (λ (s : instances.Site). p ≤ s.place) inner outer e f
 
--- the code's sites are these
-pub AreSites : List KindTree → List Site → List instances.Site → Type 0
+-- the code's calls are those of these sites
+pub AreSites : List KindTree → List Written → List instances.Site → Type 0
 AreSites trees [] [] = Unit {0}
-AreSites trees (x ∷ xs) (y ∷ ys) = (x.place ≡ y.place) × (instance_in trees x.instance ≡ y.call.instance) × AreSites trees xs ys
+AreSites trees (x ∷ xs) (y ∷ ys) = (x.place ≡ y.place) × (terms_of trees x ≡ call_terms y.call.instance) × AreSites trees xs ys
 AreSites trees xs ys = ⊥
 
 -- so the next one tells whether a node is a site
-pub told_by_place : (trees : List KindTree) (p : ℕ) (xs : List Site) (ys : List instances.Site) → AreSites trees xs ys → AllByRecursion (λ (s : instances.Site). suc p ≤ s.place) ys → is_place p (slice_get xs 0) ≡ false
+pub told_by_place : (trees : List KindTree) (p : ℕ) (xs : List Written) (ys : List instances.Site) → AreSites trees xs ys → AllByRecursion (λ (s : instances.Site). suc p ≤ s.place) ys → is_place p (slice_get xs 0) ≡ false
 unfolding AreSites
 told_by_place trees p [] ys a e = refl
 told_by_place trees p (x ∷ xs) [] a e = absurd a
@@ -72,24 +75,24 @@ told_by_place trees p (x ∷ xs) (y ∷ ys) a e = go (x.place == p) refl
     go false f = refl
     go true f = absurd (let i = eqb-true x.place p f in let j = a.0 in let k = e.0 in omega arith)
 
-pub found_by_place : (trees : List KindTree) (p : ℕ) (xs : List Site) (y : instances.Site) (ys : List instances.Site) → AreSites trees xs (y ∷ ys) → y.place ≡ p → is_place p (slice_get xs 0) ≡ true
+pub found_by_place : (trees : List KindTree) (p : ℕ) (xs : List Written) (y : instances.Site) (ys : List instances.Site) → AreSites trees xs (y ∷ ys) → y.place ≡ p → is_place p (slice_get xs 0) ≡ true
 unfolding AreSites
 found_by_place trees p [] y ys a e = absurd a
 found_by_place trees p (x ∷ xs) y ys a e = eq-eqb x.place p (a.0 ∙ e)
 
 -- those behind the first ones
-sites_dropped : (trees : List KindTree) (xs : List Site) (ys zs : List instances.Site) → AreSites trees xs (ys ++ zs) → AreSites trees (drop (length ys) xs) zs
+sites_dropped : (trees : List KindTree) (xs : List Written) (ys zs : List instances.Site) → AreSites trees xs (ys ++ zs) → AreSites trees (drop (length ys) xs) zs
 unfolding AreSites
 sites_dropped trees xs [] zs a = a
 sites_dropped trees [] (y ∷ ys) zs a = absurd a
 sites_dropped trees (x ∷ xs) (y ∷ ys) zs a = sites_dropped trees xs ys zs a.2
 
 -- calls of the first ones, before a tree
-calls_before : (trees : List KindTree) (r : Roles) (s : ℕ) (xs : List Site) (ys zs : List instances.Site) (t : Tree) → AreSites trees xs (ys ++ zs) → before trees r s (take (length ys) xs) t ≡ after_calls (answer_in r) s ys t
+calls_before : (trees : List KindTree) (r : Roles) (s : ℕ) (xs : List Written) (ys zs : List instances.Site) (t : Tree) → AreSites trees xs (ys ++ zs) → before trees r s (take (length ys) xs) t ≡ after_calls (answer_in r) s ys t
 unfolding AreSites
 calls_before trees r s xs [] zs t a = refl
 calls_before trees r s [] (y ∷ ys) zs t a = absurd a
-calls_before trees r s (x ∷ xs) (y ∷ ys) zs t a = ap₂ (λ i u. Node (CallHead (answer_in r s) s) (call_terms i) u) a.1 (calls_before trees r (suc s) xs ys zs t a.2)
+calls_before trees r s (x ∷ xs) (y ∷ ys) zs t a = ap₂ (λ i u. Node (CallHead (answer_in r s) s) i u) a.1 (calls_before trees r (suc s) xs ys zs t a.2)
 
 -- the calls of sites don't say at which places they are
 
@@ -163,7 +166,7 @@ at_drop zero xs = refl
 at_drop (suc s) [] = refl
 at_drop (suc s) (x ∷ xs) = at_drop s xs
 
-module _ (trees : List KindTree) (r : Roles) (ss : List Site) (M : Matching) (coins : ℕ → Bool) (key : M.key ≡ r.key) (drawn : (y : ℕ) → is_in r.coins y ≡ coins y) (terms : (t : Tree) → has_value t ≡ false → call_at M t ≡ None) where
+module _ (trees : List KindTree) (r : Roles) (ss : List Written) (M : Matching) (coins : ℕ → Bool) (key : M.key ≡ r.key) (drawn : (y : ℕ) → is_in r.coins y ≡ coins y) (terms : (t : Tree) → has_value t ≡ false → call_at M t ≡ None) where
   node_same : (h : Head) (a b : Tree) → node_in r h a b ≡ in_context M coins h a b
   node_same (New y T) a b = ap₂ (λ k c. cond (y == k) (Node (Key y) Empty b) (cond c b (Node (New y T) a b))) (sym key) (drawn y)
   node_same h a b = refl
@@ -294,15 +297,21 @@ module _ (trees : List KindTree) (r : Roles) (ss : List Site) (M : Matching) (co
               (each_append (λ (y : instances.Site). suc p ≤ y.place) last rest (last_after (suc p) (omega (arith, eqb-true (weight h) 1 k))) (rest_after (suc p) (omega (arith, eqb-true (weight h) 1 k, after)))))
 
 -- the sites that a search answers
-answered : (trees : List KindTree) (M : Matching) (xs : List Site) → All (HasInstance trees M) xs → AreSites trees xs (map (site_in trees M) xs)
+answered : (trees : List KindTree) (M : Matching) (cs : List Written) (xs : List Site) → map (reads_at trees) cs ≡ map (reads_of trees) xs → All (HasInstance trees M) xs → AreSites trees cs (map (site_in trees M) xs)
 unfolding AreSites
-answered trees M [] e = tt
-answered trees M (x ∷ xs) e = (refl, (e 0 x (omega arith)).instance.terms, answered trees M xs (λ k d l. e (suc k) d (omega arith)))
+answered trees M [] [] f e = tt
+answered trees M [] (x ∷ xs) f e = absurd (cc)
+answered trees M (c ∷ cs) [] f e = absurd (cc)
+answered trees M (c ∷ cs) (x ∷ xs) f e =
+    let here : (c.place, terms_of trees c) ≡ (x.place, call_terms (instance_in trees x.instance)) = cc in
+    let more : map (reads_at trees) cs ≡ map (reads_of trees) xs = cc in
+    (ap (λ (r : ℕ × Tree). r.0) here, ap (λ (r : ℕ × Tree). r.1) here ∙ ap call_terms (e 0 x (omega arith)).instance.terms, answered trees M cs xs more (λ k d l. e (suc k) d (omega arith)))
 
-pub context_made : (trees : List KindTree) (r : Roles) (ss : List Site) (s : Scene) (e : Tree) (x : ℕ) (g : Option NodeId) (names : List ℕ) → AreSitesOf trees s e x ss g → r.key ≡ x → ((y : ℕ) → is_in r.coins y ≡ is_coin_at trees ss y) → r.answers.items ≡ names
-    → (part_unless false trees r ss Anywhere [] 0 0 (tree_at trees g)).tree ≡ (context_of s e x (name_at names)).game
-context_made trees r ss s e x g names a key coins answers =
-    ap (λ (p : Part). p.tree) (whole trees r ss false Anywhere [] 0 0 game refl ∙ aligned trees r ss M in_sites (sym key) drawn a.terms Anywhere [] 0 0 game [] these tt)
+pub context_made : (trees : List KindTree) (r : Roles) (cs : List Written) (ss : List Site) (s : Scene) (e : Tree) (x : ℕ) (g : Option NodeId) (names : List ℕ) → AreSitesOf trees s e x ss g → map (reads_at trees) cs ≡ map (reads_of trees) ss
+    → r.key ≡ x → ((y : ℕ) → is_in r.coins y ≡ is_coin_at trees ss y) → r.answers.items ≡ names
+    → (part_unless false trees r cs Anywhere [] 0 0 (tree_at trees g)).tree ≡ (context_of s e x (name_at names)).game
+context_made trees r cs ss s e x g names a calls key coins answers =
+    ap (λ (p : Part). p.tree) (whole trees r cs false Anywhere [] 0 0 game refl ∙ aligned trees r cs M in_sites (sym key) drawn a.terms Anywhere [] 0 0 game [] these tt)
     ∙ ap₂ (λ (f : ℕ → ℕ) t. context_in M in_sites f Anywhere [] 0 t) (ap name_at answers) (sym a.game)
   where
     M : Matching
@@ -314,8 +323,8 @@ context_made trees r ss s e x g names a key coins answers =
     in_sites : ℕ → Bool
     in_sites = is_coin_variable (sites_of M)
 
-    these : AreSites trees ss (sites_in M Anywhere [] 0 game ++ [])
-    these = subst (AreSites trees ss) (a.sites ∙ ap (sites_in M Anywhere [] 0) a.game ∙ sym (append-nil (sites_in M Anywhere [] 0 game))) (answered trees M ss a.instances)
+    these : AreSites trees cs (sites_in M Anywhere [] 0 game ++ [])
+    these = subst (AreSites trees cs) (a.sites ∙ ap (sites_in M Anywhere [] 0) a.game ∙ sym (append-nil (sites_in M Anywhere [] 0 game))) (answered trees M cs ss calls a.instances)
 
     drawn : (y : ℕ) → is_in r.coins y ≡ in_sites y
     drawn y = coins y ∙ found trees M y ss a.instances ∙ ap (λ l. is_coin_variable l y) a.sites

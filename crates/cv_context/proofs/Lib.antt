@@ -1,4 +1,4 @@
-pub mod Making
 pub mod Walking
 pub mod Drawn
 pub mod Aligned
+pub mod Called

@@ -5,7 +5,8 @@ use Rattle.std.proofs.lemmas.List.{length-take, take-append-le}
 use Rattle.std.specs.Prelude.{slice_get}
 use Rattle.cv_pool.specs.KindTree.{KindTree}
 use Rattle.cv_syntax.specs.declared.head.Head.{Head}
-use Rattle.cv_syntax.specs.declared.head.Head.TheVariants.{Call, Key, New, Repl}
+use Rattle.cv_syntax.specs.declared.head.Head.TheVariants.{Key, New, Repl}
+use Rattle.cv_syntax.specs.declared.head.Head.TheVariants.{Call as CallHead}
 use Rattle.cv_syntax.specs.declared.make.Make.{Make}
 use Rattle.cv_syntax.specs.declared.make.Make.TheVariants.{Nothing, Over}
 use Rattle.cv_syntax.specs.Head.{weight}
@@ -15,11 +16,12 @@ use Rattle.cv_syntax.specs.Tree.{Tree, Empty, Node, first_place, second_place}
 use Rattle.cv_scope.specs.declared.position.Position.{Position}
 use Rattle.cv_scope.specs.Context.{cell_of, first_position, replications_below, second_position}
 use Rattle.cv_scenes.specs.Sites.{is_guard}
-use Rattle.cv_scenes.specs.Contexts.{call_terms}
-use Rattle.cv_match_patterns.specs.Sites.{instance_in}
-use Rattle.cv_match_patterns.specs.declared.site.Site.{Site}
-use Rattle.cv_context.specs.declared.roles.Roles.{Roles}
-use Rattle.cv_context.specs.Written.{Part, answer_in, before, calls_here, closing, first_parts, heads_in, heads_of_calls, is_place, is_site, joined, node_in, part_at, part_unless, terms_of_calls}
+use Rattle.cv_context_parts.specs.Closing.{closing}
+use Rattle.cv_context_nodes.specs.Calls.{terms_of}
+use Rattle.cv_context_nodes.specs.Written.{answer_in, calls_here, first_parts, heads_in, heads_of_calls, terms_of_calls}
+use Rattle.cv_context_nodes.specs.declared.calls.Call.{Call}
+use Rattle.cv_context_nodes.specs.declared.roles.Roles.{Roles}
+use Rattle.cv_context.specs.Written.{Part, before, is_place, is_site, joined, node_in, part_at, part_unless}
 
 -- parts of calls, and of a node
 
@@ -27,12 +29,12 @@ closing-append : (hs ks : List Head) → closing (hs ++ ks) ≡ closing ks ++ cl
 closing-append [] ks = sym (append-nil (closing ks))
 closing-append (h ∷ hs) ks = ap (λ l. l ++ Over h ∷ []) (closing-append hs ks) ∙ append_assoc (closing ks) (closing hs) (Over h ∷ [])
 
-before-parts : (trees : List KindTree) (r : Roles) (s : ℕ) (cs : List Site) (t : Tree) → postorder (before trees r s cs t) ≡ terms_of_calls trees cs ++ (postorder t ++ closing (heads_of_calls r s cs))
+before-parts : (trees : List KindTree) (r : Roles) (s : ℕ) (cs : List Call) (t : Tree) → postorder (before trees r s cs t) ≡ terms_of_calls trees cs ++ (postorder t ++ closing (heads_of_calls r s cs))
 unfolding postorder
 before-parts trees r s [] t = sym (append-nil (postorder t))
 before-parts trees r s (c ∷ cs) t =
-    let q : List Make = postorder (call_terms (instance_in trees c.instance)) in
-    let e : List Make = Over (Call (answer_in r s) s) ∷ [] in
+    let q : List Make = postorder (terms_of trees c) in
+    let e : List Make = Over (CallHead (answer_in r s) s) ∷ [] in
     let T : List Make = terms_of_calls trees cs in
     let C : List Make = closing (heads_of_calls r (suc s) cs) in
     ap (λ l. q ++ (l ++ e)) (before-parts trees r (suc s) cs t)
@@ -50,7 +52,7 @@ node-parts r (New y T) a b = go (y == r.key) (is_in r.coins y)
     go false false = refl
 node-parts r h a b = refl
 
-whole-parts : (trees : List KindTree) (r : Roles) (s : ℕ) (cs : List Site) (h : Head) (a b : Tree) (hs : List Head)
+whole-parts : (trees : List KindTree) (r : Roles) (s : ℕ) (cs : List Call) (h : Head) (a b : Tree) (hs : List Head)
     → postorder (before trees r s cs (node_in r h a b)) ++ closing hs
     ≡ (terms_of_calls trees cs ++ first_parts r h (postorder a)) ++ (postorder b ++ closing (hs ++ (heads_of_calls r s cs ++ heads_in r h)))
 whole-parts trees r s cs h a b hs =
@@ -66,7 +68,7 @@ whole-parts trees r s cs h a b hs =
     ∙ sym (append_assoc T F (B ++ (N ++ (C ++ H))))
     ∙ ap (λ l. (T ++ F) ++ (B ++ l)) (sym (append_assoc N C H) ∙ ap (λ l. l ++ H) (sym (closing-append (heads_of_calls r s cs) (heads_in r h))) ∙ sym (closing-append hs (heads_of_calls r s cs ++ heads_in r h)))
 
-module _ (trees : List KindTree) (r : Roles) (ss : List Site) where
+module _ (trees : List KindTree) (r : Roles) (ss : List Call) where
   abbrev At : Position → List (ℕ × ℕ) → ℕ → ℕ → Tree → Part
   At w rs s p t = part_at trees r ss w rs s p t
 
@@ -132,7 +134,7 @@ module _ (trees : List KindTree) (r : Roles) (ss : List Site) where
             → new ≡ out ++ (terms_of_calls trees (calls_here ss h s n) ++ first_parts r h inner) → ks ≡ hs ++ (heads_of_calls r s (calls_here ss h s n) ++ heads_in r h)
             → new ++ (postorder (At u xs n m b).tree ++ closing ks) ≡ all
         node-goes out all inner new hs ks e i j k =
-            let cs : List Site = calls_here ss h s n in
+            let cs : List Call = calls_here ss h s n in
             let A : Tree = (Unless skip v rs s q a).tree in
             let B : Tree = (At u xs n m b).tree in
             ap₂ (λ x y. x ++ (postorder B ++ closing y)) (j ∙ ap (λ x. out ++ (terms_of_calls trees cs ++ first_parts r h x)) i) k
@@ -143,10 +145,10 @@ module _ (trees : List KindTree) (r : Roles) (ss : List Site) where
 
 -- a site, the end, and the replications behind a walk
 
-pub site_there : (ss : List Site) (s p : ℕ) (h : Head) (c : Bool) → c ≡ is_site ss s p h → c ≡ true → s < length ss
+pub site_there : (ss : List Call) (s p : ℕ) (h : Head) (c : Bool) → c ≡ is_site ss s p h → c ≡ true → s < length ss
 site_there ss s p h c e f = go ss s (and_parts (weight h == 1) (is_place p (slice_get ss s)) (sym e ∙ f)).1
   where
-    go : (xs : List Site) (k : ℕ) → is_place p (slice_get xs k) ≡ true → k < length xs
+    go : (xs : List Call) (k : ℕ) → is_place p (slice_get xs k) ≡ true → k < length xs
     go [] k g = absurd (both_ways false refl g)
     go (x ∷ xs) zero g = omega arith
     go (x ∷ xs) (suc k) g = omega (arith, go xs k g)
@@ -159,7 +161,7 @@ postorder-empty : postorder Empty ≡ Nothing ∷ []
 unfolding postorder
 postorder-empty = refl
 
-pub ends-made : (trees : List KindTree) (r : Roles) (ss : List Site) (w : Position) (rs : List (ℕ × ℕ)) (s p : ℕ) (t : Tree) → t ≡ Empty → (out more new all : List Make) (hs : List Head) → more ≡ out ++ Nothing ∷ [] → new ≡ more ++ closing hs
+pub ends-made : (trees : List KindTree) (r : Roles) (ss : List Call) (w : Position) (rs : List (ℕ × ℕ)) (s p : ℕ) (t : Tree) → t ≡ Empty → (out more new all : List Make) (hs : List Head) → more ≡ out ++ Nothing ∷ [] → new ≡ more ++ closing hs
     → out ++ (postorder (part_at trees r ss w rs s p t).tree ++ closing hs) ≡ all → new ≡ all
 ends-made trees r ss w rs s p t e out more new all hs f g i =
     site-made out more new all hs (part_at trees r ss w rs s p t) (record { tree = Empty; next = s }) (at-end trees r ss w rs s p t e) (f ∙ ap (λ l. out ++ l) (sym postorder-empty)) g i

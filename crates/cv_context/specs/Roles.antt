@@ -10,17 +10,27 @@ use Rattle.cv_syntax.specs.Tree.{Tree, tree_at}
 use Rattle.cv_scenes.specs.Scenes.{Scene}
 use Rattle.cv_scenes.specs.Sights.{variable_of}
 use Rattle.cv_scenes.specs.Apt.{has_value}
-use Rattle.cv_scenes.specs.Contexts.{matching_of}
+use Rattle.cv_scenes.specs.Contexts.{call_terms, matching_of}
 use Rattle.cv_scenes.specs.Instances.{call_at, is_read_of}
 use Rattle.cv_scenes.specs.Sites.{sites_of}
-use Rattle.cv_match_patterns.specs.Sites.{HasInstance, site_in}
+use Rattle.cv_match_patterns.specs.Sites.{HasInstance, instance_in, site_in}
 use Rattle.cv_match_patterns.specs.declared.site.Site.{Site}
+use Rattle.cv_context_nodes.specs.Calls.{terms_of}
+use Rattle.cv_context_nodes.specs.declared.calls.Call.{Call}
 
 -- the nodes that stand for names stand in a pool with so many
 pub record IsLiveCall (n : ℕ) (s : Site) : Type 0 where
   pub key : ChildBelow n s.instance.key
   pub coins : All (ChildBelow n) s.instance.coins.items
   pub arguments : All (ChildBelow n) s.instance.arguments.items
+
+-- a place with what a call reads, as the code has it, and as a site says
+
+abbrev pub reads_at : List KindTree → Call → ℕ × Tree
+reads_at trees c = (c.place, terms_of trees c)
+
+abbrev pub reads_of : List KindTree → Site → ℕ × Tree
+reads_of trees s = (s.place, call_terms (instance_in trees s.instance))
 
 -- one of the terms reads the variable
 abbrev pub is_read_in : List KindTree → List (Option NodeId) → ℕ → Bool

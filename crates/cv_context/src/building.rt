@@ -1,17 +1,18 @@
 ghost use Rattle.std.specs.Prelude.{◌≡◌, ◌+◌, ◌<◌, ◌≤◌, ◌^◌, ℕ, All, IfOk, IsErrOf, OnErr, OnOk, Some, length};
 ghost use Rattle.cv_pool.specs.PoolView.{Grows};
-ghost use Rattle.cv_syntax.specs.Planting.{overs};
 ghost use Rattle.cv_syntax.specs.Postorder.{postorder};
 ghost use Rattle.cv_syntax.specs.Tree.{Tree, size, tree_at};
 ghost use Rattle.cv_scenes.specs.Scenes.{Scene};
 ghost use Rattle.cv_scenes.specs.Contexts.{context_of};
 ghost use Rattle.cv_context.specs.Roles.{AreSitesOf, IsLiveCall, name_at, nodes_of};
 
+use crate::calls::calls_of;
 use crate::roles::roles_of;
 use crate::walk::{Next, put};
+use cv_context_parts::plant_tree;
 use cv_match_patterns::Site;
 use cv_scope::Position;
-use cv_syntax::{Make, NodeId, Pool, PoolError, plant};
+use cv_syntax::{Make, NodeId, Pool, PoolError};
 use std::alloc::{AllocError, Global};
 
 /// The parts of the context of a game.
@@ -32,13 +33,14 @@ fn parts(
         (λ makes. makes.items ≡ postorder (context_of s e key (name_at answers.now)).game) }
 {
     let roles = roles_of(alloc, pool, key, answers, sites)?;
+    let calls = calls_of(alloc, sites)?;
     let mut makes = Vec::new(alloc);
     let mut passed = Vec::new(alloc);
     put(
         &mut makes,
         pool,
         &roles,
-        sites,
+        calls.as_slice(),
         &mut passed,
         false,
         Position::Anywhere,
@@ -46,32 +48,6 @@ fn parts(
         Some(game),
     )?;
     Ok(makes)
-}
-
-/// Makes a tree of its parts. Parts that are too many to be counted are want of memory.
-#[tactic(auto, using(crate::proofs::Making::making))]
-fn planted(alloc: Global, pool: &mut Pool, makes: &[Make]) -> Result<NodeId, PoolError>
-    ensures tree { (t : Tree) → makes.now ≡ postorder t
-        → IfOk result (λ n. tree_at pool.new.trees (Some n) ≡ t) }
-    ensures live { IfOk result (λ n. n.0 < length pool.new.trees) }
-    ensures grows { OnOk result (Grows pool.old pool.new) }
-    ensures room { OnOk result (length pool.old.trees + overs makes.now ≤ pool.old.limit) }
-    ensures full { IsErrOf result (PoolError.Full (overs makes.now))
-        → pool.old.limit < length pool.old.trees + overs makes.now }
-    ensures other { (n : ℕ) → IsErrOf result (PoolError.Full n) → n ≡ overs makes.now }
-    ensures kept { OnErr result (pool.new.trees ≡ pool.old.trees) }
-    ensures limit { pool.new.limit ≡ pool.old.limit }
-{
-    if makes.len() as u64 >= 4_294_967_296 {
-        return Err(PoolError::OutOfMemory);
-    }
-    let before = pool.mark();
-    let roots = plant(alloc, pool, makes)?;
-    if let Some(Some(root)) = roots.first() {
-        return Ok(*root);
-    }
-    pool.release(before);
-    Err(PoolError::OutOfMemory)
 }
 
 /// Makes the context of a game for an equivalence and a key, where a search answered the sites, in preorder, and each has a name
@@ -106,7 +82,7 @@ pub fn context(
     ensures limit { pool.new.limit ≡ pool.old.limit }
 {
     match parts(alloc, pool, key, answers, sites, game) {
-        Ok(makes) => planted(alloc, pool, makes.as_slice()),
+        Ok(makes) => plant_tree(alloc, pool, makes.as_slice()),
         Err(AllocError) => Err(PoolError::OutOfMemory),
     }
 }

@@ -2,9 +2,8 @@
 #![tactic(auto)]
 
 mod building;
+mod calls;
 mod coins;
-mod nodes;
-mod parts;
 mod roles;
 mod walk;
 

@@ -3,18 +3,10 @@ ghost use Rattle.cv_syntax.specs.NameSets.{is_in};
 ghost use Rattle.cv_context.specs.Roles.{IsLiveCall, is_coin_at};
 
 use crate::coins::coins_of;
+use cv_context_nodes::Roles;
 use cv_match_patterns::Site;
 use cv_syntax::Pool;
 use std::alloc::{AllocError, Global};
-use std::collections::HashSet;
-
-/// What names of a game and of its context are there for: the key, the coins of sites, and the answer of each site.
-#[derive(Drop)]
-pub struct Roles {
-    pub key: u32,
-    pub coins: HashSet<u32>,
-    pub answers: Vec<u32>,
-}
 
 /// The roles of names where these are the sites, with these names for their answers.
 pub fn roles_of(

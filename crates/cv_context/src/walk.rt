@@ -4,13 +4,11 @@ ghost use Rattle.cv_syntax.specs.Postorder.{postorder};
 ghost use Rattle.cv_syntax.specs.Tree.{size, tree_at};
 ghost use Rattle.cv_scope.specs.Context.{replications_below};
 ghost use Rattle.cv_scenes.specs.Sites as instances;
-ghost use Rattle.cv_context.specs.Roles.{IsLiveCall};
+ghost use Rattle.cv_context_nodes.specs.Calls.{IsLive};
 ghost use Rattle.cv_context.specs.Written.{is_site, part_unless};
 
-use crate::nodes::{answer, put_node};
-use crate::parts::{close, push_cell, push_tree};
-use crate::roles::Roles;
-use cv_match_patterns::Site;
+use cv_context_nodes::{Call, Roles, answer, push_cell, put_node};
+use cv_context_parts::{close, push_tree};
 use cv_path::size_below;
 use cv_scope::Position;
 use cv_syntax::{Head, Make, NodeId, Pool, read_node};
@@ -24,12 +22,12 @@ pub struct Next {
 }
 
 /// Whether the next site stands at the next node.
-fn is_site(sites: &[Site], next: Next, head: Head) -> bool
-    ensures { result ≡ is_site sites.now next.site next.place head }
+fn is_site(calls: &[Call], next: Next, head: Head) -> bool
+    ensures { result ≡ is_site calls.now next.site next.place head }
 {
     head.weight() == 1
-        && match sites.get(next.site as usize) {
-            Some(site) => site.place == next.place,
+        && match calls.get(next.site as usize) {
+            Some(call) => call.place == next.place,
             None => false,
         }
 }
@@ -62,7 +60,7 @@ pub fn put(
     makes: &mut Vec<Make>,
     pool: &Pool,
     roles: &Roles,
-    sites: &[Site],
+    calls: &[Call],
     passed: &mut Vec<(u32, u32)>,
     skip: bool,
     position: Position,
@@ -71,18 +69,18 @@ pub fn put(
 ) -> Result<Next, AllocError>
     requires live { ChildBelow (length pool.now.trees) tree }
     requires fits { from.place + size (tree_at pool.now.trees tree) < 2 ^ 32 }
-    requires calls { All (IsLiveCall (length pool.now.trees)) sites.now }
-    requires many { length sites.now < 2 ^ 32 }
-    requires few { from.site ≤ length sites.now }
+    requires calls { All (IsLive (length pool.now.trees)) calls.now }
+    requires many { length calls.now < 2 ^ 32 }
+    requires few { from.site ≤ length calls.now }
     ensures makes { OnOk result (makes.new.items ≡ makes.old.items ++ postorder
-        (part_unless skip pool.now.trees roles.now sites.now position passed.old.items
+        (part_unless skip pool.now.trees roles.now calls.now position passed.old.items
         from.site from.place (tree_at pool.now.trees tree)).tree) }
     ensures site { IfOk result (λ n. n.site
-        ≡ (part_unless skip pool.now.trees roles.now sites.now position passed.old.items
+        ≡ (part_unless skip pool.now.trees roles.now calls.now position passed.old.items
         from.site from.place (tree_at pool.now.trees tree)).next) }
     ensures place { IfOk result (λ n. n.place
         ≡ from.place + size (tree_at pool.now.trees tree)) }
-    ensures few { IfOk result (λ n. n.site ≤ length sites.now) }
+    ensures few { IfOk result (λ n. n.site ≤ length calls.now) }
     ensures order { IfOk result (λ n. from.site ≤ n.site) }
     ensures passed { OnOk result (passed.new.items ≡ passed.old.items) }
 {
@@ -101,7 +99,7 @@ pub fn put(
     let mut at = tree;
     'tree: while let Some(k) = at {
         let node = read_node(pool, k);
-        if is_site(sites, next, node.head) {
+        if is_site(calls, next, node.head) {
             push_cell(makes, passed.as_slice(), answer(roles, next.site))?;
             close(makes, heads)?;
             passed.truncate(outside);
@@ -120,7 +118,7 @@ pub fn put(
             &mut inner,
             pool,
             roles,
-            sites,
+            calls,
             passed,
             is_guard(here),
             here.first(node.head),
@@ -132,7 +130,7 @@ pub fn put(
             &mut heads,
             pool,
             roles,
-            sites,
+            calls,
             node.head,
             next.site,
             behind.site,

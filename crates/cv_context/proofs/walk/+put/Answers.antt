@@ -13,23 +13,23 @@ pub returns-then-skip-clause-makes : goal.returns-then-skip-clause-makes
 returns-then-skip-clause-makes t c =
     let trees = c.args.pool.now.trees in
     c.in_ok-push_tree.ensures
-    ∙ ap (λ (x : Part). c.args.makes.now.items ++ postorder x.tree) (sym (skipped trees c.args.roles.now c.args.sites.now c.args.skip c.args.position c.args.passed.now.items c.args.from.site c.args.from.place (tree_at trees c.args.tree) c.if-skip.true))
+    ∙ ap (λ (x : Part). c.args.makes.now.items ++ postorder x.tree) (sym (skipped trees c.args.roles.now c.args.calls.now c.args.skip c.args.position c.args.passed.now.items c.args.from.site c.args.from.place (tree_at trees c.args.tree) c.if-skip.true))
 
 pub returns-then-skip-clause-site : goal.returns-then-skip-clause-site
 returns-then-skip-clause-site t c =
     let trees = c.args.pool.now.trees in
-    ap (λ (x : Part). x.next) (sym (skipped trees c.args.roles.now c.args.sites.now c.args.skip c.args.position c.args.passed.now.items c.args.from.site c.args.from.place (tree_at trees c.args.tree) c.if-skip.true))
+    ap (λ (x : Part). x.next) (sym (skipped trees c.args.roles.now c.args.calls.now c.args.skip c.args.position c.args.passed.now.items c.args.from.site c.args.from.place (tree_at trees c.args.tree) c.if-skip.true))
 
 pub overflow_add-result : goal.overflow_add-result
 overflow_add-result t c =
-    let e = site_there c.args.sites.now c.tree.next.site c.tree.next.place c.read_node-node.result.head c.is_site.result c.is_site.ensures c.if-is_site.true in
+    let e = site_there c.args.calls.now c.tree.next.site c.tree.next.place c.read_node-node.result.head c.is_site.result c.is_site.ensures c.if-is_site.true in
     omega (arith, e, c.requires.many)
 
 pub returns-then-is_site-clause-makes : goal.returns-then-is_site-clause-makes
 returns-then-is_site-clause-makes t c =
     let trees = c.args.pool.now.trees in
     let r = c.args.roles.now in
-    let ss = c.args.sites.now in
+    let ss = c.args.calls.now in
     let node = c.read_node-node.result in
     let e = node_at trees c.tree.at c.in-Some.k node c.in-Some.is c.read_node-node.ensures.tree in
     let f = at-site trees r ss c.tree.here c.tree.passed.items c.tree.next.site c.tree.next.place (tree_at trees c.tree.at) node.head (tree_at trees node.first) (tree_at trees node.second) e c.is_site.result c.is_site.ensures c.if-is_site.true in
@@ -42,7 +42,7 @@ pub returns-then-is_site-clause-site : goal.returns-then-is_site-clause-site
 returns-then-is_site-clause-site t c =
     let trees = c.args.pool.now.trees in
     let r = c.args.roles.now in
-    let ss = c.args.sites.now in
+    let ss = c.args.calls.now in
     let node = c.read_node-node.result in
     let e = node_at trees c.tree.at c.in-Some.k node c.in-Some.is c.read_node-node.ensures.tree in
     let f = at-site trees r ss c.tree.here c.tree.passed.items c.tree.next.site c.tree.next.place (tree_at trees c.tree.at) node.head (tree_at trees node.first) (tree_at trees node.second) e c.is_site.result c.is_site.ensures c.if-is_site.true in
@@ -53,7 +53,7 @@ returns-then-is_site-clause-site t c =
 
 pub returns-then-is_site-clause-few : goal.returns-then-is_site-clause-few
 returns-then-is_site-clause-few t c =
-    let e = site_there c.args.sites.now c.tree.next.site c.tree.next.place c.read_node-node.result.head c.is_site.result c.is_site.ensures c.if-is_site.true in
+    let e = site_there c.args.calls.now c.tree.next.site c.tree.next.place c.read_node-node.result.head c.is_site.result c.is_site.ensures c.if-is_site.true in
     omega (arith, e)
 
 pub overflow_add-below : goal.overflow_add-below
@@ -73,7 +73,7 @@ pub tree-preserved : goal.tree-preserved
 tree-preserved t c =
     let trees = c.args.pool.now.trees in
     let r = c.args.roles.now in
-    let ss = c.args.sites.now in
+    let ss = c.args.calls.now in
     let node = c.read_node-node.result in
     let a = tree_at trees node.first in
     let b = tree_at trees node.second in
@@ -104,7 +104,7 @@ pub returns-clause-makes : goal.returns-clause-makes
 returns-clause-makes t c =
     let trees = c.args.pool.now.trees in
     let r = c.args.roles.now in
-    let ss = c.args.sites.now in
+    let ss = c.args.calls.now in
     let g = whole trees r ss c.args.skip c.args.position c.args.passed.now.items c.args.from.site c.args.from.place (tree_at trees c.args.tree) c.if-skip.false in
     ends-made trees r ss c.tree.here c.tree.passed.items c.tree.next.site c.tree.next.place (tree_at trees c.tree.at) (empty_at trees c.tree.at c.in_default.is) c.tree.makes.items c.push.new.self.items c.close-2.new.makes.items _ c.tree.heads.items c.in_ok-push.ensures.items c.in_ok-close-2.ensures c.tree.invariant.made
     ∙ ap (λ (x : Part). c.args.makes.now.items ++ postorder x.tree) (sym g)
@@ -113,7 +113,7 @@ pub returns-clause-site : goal.returns-clause-site
 returns-clause-site t c =
     let trees = c.args.pool.now.trees in
     let r = c.args.roles.now in
-    let ss = c.args.sites.now in
+    let ss = c.args.calls.now in
     let g = whole trees r ss c.args.skip c.args.position c.args.passed.now.items c.args.from.site c.args.from.place (tree_at trees c.args.tree) c.if-skip.false in
     let f = at-end trees r ss c.tree.here c.tree.passed.items c.tree.next.site c.tree.next.place (tree_at trees c.tree.at) (empty_at trees c.tree.at c.in_default.is) in
     sym (ap (λ (x : Part). x.next) f) ∙ c.tree.invariant.same ∙ ap (λ (x : Part). x.next) (sym g)

@@ -3,7 +3,8 @@ use Rattle.cv_pool.specs.Nodes.{ChildBelow}
 use Rattle.cv_syntax.specs.Postorder.{postorder}
 use Rattle.cv_syntax.specs.Tree.{size, tree_at}
 use Rattle.cv_syntax.specs.Walks.{above}
-use Rattle.cv_context.specs.Written.{closing, part_at}
+use Rattle.cv_context_parts.specs.Closing.{closing}
+use Rattle.cv_context.specs.Written.{part_at}
 use Rattle.cv_context.proofs.walk.+put.Given as goal
 
 abbrev pub decreases-put : goal.decreases-put
@@ -14,11 +15,11 @@ invariant-tree l = record {
   live : ChildBelow (length l.pool.trees) l.at;
   less : above l.at ≤ above l.fn.tree;
   sum : l.next.place + size (tree_at l.pool.trees l.at) ≡ l.fn.from.place + size (tree_at l.pool.trees l.fn.tree);
-  few : l.next.site ≤ length l.sites;
+  few : l.next.site ≤ length l.calls;
   order : l.fn.from.site ≤ l.next.site;
   front : take l.outside l.passed.items ≡ l.fn.passed.items;
-  made : l.makes.items ++ (postorder (part_at l.pool.trees l.roles l.sites l.here l.passed.items l.next.site l.next.place (tree_at l.pool.trees l.at)).tree ++ closing l.heads.items) ≡ l.fn.makes.items ++ postorder (part_at l.pool.trees l.roles l.sites l.fn.position l.fn.passed.items l.fn.from.site l.fn.from.place (tree_at l.pool.trees l.fn.tree)).tree;
-  same : (part_at l.pool.trees l.roles l.sites l.here l.passed.items l.next.site l.next.place (tree_at l.pool.trees l.at)).next ≡ (part_at l.pool.trees l.roles l.sites l.fn.position l.fn.passed.items l.fn.from.site l.fn.from.place (tree_at l.pool.trees l.fn.tree)).next;
+  made : l.makes.items ++ (postorder (part_at l.pool.trees l.roles l.calls l.here l.passed.items l.next.site l.next.place (tree_at l.pool.trees l.at)).tree ++ closing l.heads.items) ≡ l.fn.makes.items ++ postorder (part_at l.pool.trees l.roles l.calls l.fn.position l.fn.passed.items l.fn.from.site l.fn.from.place (tree_at l.pool.trees l.fn.tree)).tree;
+  same : (part_at l.pool.trees l.roles l.calls l.here l.passed.items l.next.site l.next.place (tree_at l.pool.trees l.at)).next ≡ (part_at l.pool.trees l.roles l.calls l.fn.position l.fn.passed.items l.fn.from.site l.fn.from.place (tree_at l.pool.trees l.fn.tree)).next;
 }
 
 abbrev pub decreases-tree : goal.decreases-tree

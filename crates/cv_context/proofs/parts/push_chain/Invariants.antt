@@ -1,7 +1,0 @@
-use Rattle.std.proofs.Common.{◌≡◌, ◌++◌, drop}
-use Rattle.cv_syntax.specs.Tree.{tree_at}
-use Rattle.cv_context.proofs.Making.{made}
-use Rattle.cv_context.proofs.parts.push_chain.Given as goal
-
-abbrev pub invariant-terms : goal.invariant-terms
-invariant-terms l = l.makes.items ++ made (tree_at l.pool.trees) (drop l.k l.terms) ≡ l.fn.makes.items ++ made (tree_at l.pool.trees) l.terms
