@@ -1,0 +1,10 @@
+// The draws and the finds of the sites of a context.
+#![tactic(auto)]
+
+mod bodies;
+mod draws;
+mod finds;
+mod subtree;
+
+pub use draws::draws_of;
+pub use finds::label_draws;
