@@ -7,7 +7,8 @@ use std::alloc::{AllocError, Global};
 
 /// What a name stands for, once more.
 fn same_standing(alloc: Global, standing: &Standing) -> Result<Standing, AllocError>
-    ensures { (here : Tree) → IfOk result (λ copy. standing_in here copy ≡ standing_in here standing.now) }
+    ensures { (here : Tree) → IfOk result (λ copy. standing_in here copy
+        ≡ standing_in here standing.now) }
 {
     match standing {
         Standing::TheKey => Ok(Standing::TheKey),
@@ -25,7 +26,8 @@ fn same_standing(alloc: Global, standing: &Standing) -> Result<Standing, AllocEr
 
 /// A copy of a scope.
 pub fn copy_of(alloc: Global, scope: &[Entry]) -> Result<Vec<Entry>, AllocError>
-    ensures { (here : Tree) → IfOk result (λ copy. scope_in here copy.items ≡ scope_in here scope.now) }
+    ensures { (here : Tree) → IfOk result (λ copy. scope_in here copy.items
+        ≡ scope_in here scope.now) }
 {
     let mut copy = Vec::new(alloc);
     'entries: for k in 0..scope.len() {
