@@ -1,6 +1,9 @@
-// How often a context calls functions: the parameters of the replications above their sites. It is proved and not run.
+// How often a context chooses keys and calls functions: the parameters of the replications above the key's definition, and above
+// the sites. It is proved and not run.
 #![tactic(auto)]
 
 mod calls;
+mod keys;
 
 pub use calls::{calls_of, parameters_of};
+pub use keys::keys_of;
