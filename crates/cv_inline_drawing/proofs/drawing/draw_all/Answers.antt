@@ -1,0 +1,13 @@
+use Rattle.std.proofs.Common.{◌∙◌, ap, map}
+use Rattle.cv_inline_games.specs.Draws.{drawn_by}
+use Rattle.cv_inline_listing.specs.Listed.{draw_in}
+use Rattle.cv_inline_drawing.proofs.drawing.draw_all.Goals as goal
+
+pub returns-in-Ok-clause-drawn : goal.returns-in-Ok-clause-drawn
+returns-in-Ok-clause-drawn c =
+    record {
+      names = c.in_ok-numbers.numbers.items;
+      live = c.in_ok-numbers.ensures.live;
+      texts = c.in_ok-numbers.ensures.texts;
+      table = c.in-Ok.ensures ∙ ap (λ xs. drawn_by (map draw_in c.args.draws.now) xs c.args.finds.now c.args.labels.now) c.as_slice.ensures.value;
+    }
