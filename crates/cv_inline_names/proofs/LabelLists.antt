@@ -1,7 +1,7 @@
 -- The labels of a tree, node by node; and those that are drawn, one by one.
 use Rattle.std.proofs.Common.{◌≡◌, ℕ, suc, ◌+◌, ◌<◌, Bool, List, [], ◌∷◌, ◌++◌, length, drop, arith, refl, ap, sym, ◌∙◌}
 use Rattle.std.proofs.Math.Path.{fun_ext}
-use Rattle.std.proofs.lemmas.List.{append_assoc, drop_more}
+use Rattle.std.proofs.lemmas.List.{append-nil, append_assoc, drop_more}
 use Rattle.cv_syntax.specs.declared.head.Head.{Head}
 use Rattle.cv_syntax.specs.declared.head.Head.TheVariants.{Find}
 use Rattle.cv_syntax.specs.Tree.{Tree, Empty, Node}
@@ -9,20 +9,24 @@ use Rattle.cv_inline_games.specs.Draws.{labels_from, labels_in, least_free}
 use Rattle.cv_inline_names.specs.Labels.{label_of}
 use Rattle.cv_inline_names.specs.Texts.{is_listed}
 
-pub labels_in-Node : (h : Head) (a b : Tree) → labels_in (Node h a b) ≡ label_of h ++ (labels_in a ++ labels_in b)
+labels_in-Node : (h : Head) (a b : Tree) → labels_in (Node h a b) ≡ label_of h ++ (labels_in a ++ labels_in b)
 unfolding labels_in
 labels_in-Node (Find l) a b = refl
 labels_in-Node h a b = refl
 
-pub labels_in-Empty : labels_in Empty ≡ []
+labels_in-Empty : labels_in Empty ≡ []
 unfolding labels_in
 labels_in-Empty = refl
 
-pub three_more : (before one two three : List ℕ) (h : Head) (t a b : Tree) → t ≡ Node h a b → one ≡ before ++ label_of h → two ≡ one ++ labels_in a → three ≡ two ++ labels_in b → three ≡ before ++ labels_in t
-three_more before one two three h t a b e f g i =
-    i ∙ (ap (λ xs. xs ++ labels_in b) (g ∙ ap (λ xs. xs ++ labels_in a) f)
-    ∙ (append_assoc (before ++ label_of h) (labels_in a) (labels_in b) ∙ (append_assoc before (label_of h) (labels_in a ++ labels_in b)
-    ∙ ap (λ xs. before ++ xs) (sym (ap labels_in e ∙ labels_in-Node h a b)))))
+-- one more node: its label, and the labels below it
+pub nodes_more : (before one two all : List ℕ) (h : Head) (t a b : Tree) → t ≡ Node h a b → one ≡ before ++ label_of h → two ≡ one ++ labels_in a → before ++ labels_in t ≡ all → two ++ labels_in b ≡ all
+nodes_more before one two all h t a b e f g so_far =
+    ap (λ xs. xs ++ labels_in b) (g ∙ ap (λ xs. xs ++ labels_in a) f)
+    ∙ (append_assoc (before ++ label_of h) (labels_in a) (labels_in b)
+    ∙ (append_assoc before (label_of h) (labels_in a ++ labels_in b) ∙ (ap (λ xs. before ++ xs) (sym (ap labels_in e ∙ labels_in-Node h a b)) ∙ so_far)))
+
+pub nodes_end : (before all : List ℕ) (t : Tree) → t ≡ Empty → before ++ labels_in t ≡ all → before ≡ all
+nodes_end before all t e so_far = sym (append-nil before) ∙ (ap (λ xs. before ++ xs) (sym (ap labels_in e ∙ labels_in-Empty)) ∙ so_far)
 
 -- one more label
 pub labels_more : (taken all labels : List ℕ) (is_taken : ℕ → Bool) (finds : List (ℕ × ℕ)) (from i label : ℕ) → ((k : ℕ) → is_taken k ≡ is_listed taken k) → i < length finds →

@@ -27,13 +27,14 @@ fn add_labels(pool: &Pool, labels: &mut Vec<u64>, tree: Option<NodeId>) -> Resul
     ensures { IfOk result (λ _.
         labels.new.items ≡ labels.old.items ++ labels_in (tree_at pool.now.trees tree)) }
 {
-    let Some(n) = tree else {
-        return Ok(());
-    };
-    let node = read_node(pool, n);
-    add_label(labels, node.head)?;
-    add_labels(pool, labels, node.first)?;
-    add_labels(pool, labels, node.second)
+    let mut at = tree;
+    'nodes: while let Some(n) = at {
+        let node = read_node(pool, n);
+        add_label(labels, node.head)?;
+        add_labels(pool, labels, node.first)?;
+        at = node.second;
+    }
+    Ok(())
 }
 
 /// The labels of a game, in the order of its text.

@@ -1,19 +1,21 @@
-use Rattle.std.proofs.Common.{◌≡◌, ◌++◌, ◌∙◌, ap, sym}
-use Rattle.std.proofs.lemmas.List.{append-nil}
-use Rattle.std.proofs.lemmas.Result.{IfOk-weaker}
+use Rattle.std.proofs.Common.{arith, length}
 use Rattle.cv_syntax.specs.Tree.{tree_at}
-use Rattle.cv_syntax.proofs.Trees.{empty_at, node_at}
-use Rattle.cv_inline_games.specs.Draws.{labels_in}
-use Rattle.cv_inline_names.proofs.LabelLists.{labels_in-Empty, three_more}
+use Rattle.cv_syntax.proofs.Trees.{child_live, empty_at, node_at}
+use Rattle.cv_syntax.proofs.Walking.{above-child, above-some}
+use Rattle.cv_inline_names.proofs.LabelLists.{nodes_end, nodes_more}
 use Rattle.cv_inline_names.proofs.labels.+add_labels.Goals as goal
 
-pub returns-in_default : goal.returns-in_default
-returns-in_default t c = sym (ap (λ xs. c.args.labels.now.items ++ xs) (ap labels_in (empty_at c.args.pool.now.trees c.args.tree c.in_default.is) ∙ labels_in-Empty) ∙ append-nil c.args.labels.now.items)
+pub nodes-preserved : goal.nodes-preserved
+nodes-preserved t c =
+    let trees = c.args.pool.now.trees in
+    let at = c.nodes.at in
+    let n = c.in-Some.n in
+    let node = c.read_node-node.result in
+    record {
+      live = child_live (length trees) at n node.second c.in-Some.is c.nodes.invariant.live c.read_node-node.ensures.second;
+      less = let l = c.nodes.invariant.less in let up = above-some at n c.in-Some.is in let below = above-child n.0 node.second c.read_node-node.ensures.second in omega arith;
+      labels = nodes_more c.nodes.labels.items c.add_label.new.labels.items c.add_labels.new.labels.items _ node.head (tree_at trees at) (tree_at trees node.first) (tree_at trees node.second) (node_at trees at n node c.in-Some.is c.read_node-node.ensures.tree) c.in_ok-add_label.ensures c.in_ok-add_labels.ensures c.nodes.invariant.labels;
+    }
 
 pub returns : goal.returns
-returns t c =
-    let trees = c.args.pool.now.trees in
-    let node = c.read_node-node.result in
-    IfOk-weaker c.add_labels-2.result (λ x. c.add_labels-2.new.labels.items ≡ c.add_labels.new.labels.items ++ labels_in (tree_at trees node.second)) (λ x. c.add_labels-2.new.labels.items ≡ c.args.labels.now.items ++ labels_in (tree_at trees c.args.tree))
-    (λ x e. three_more c.args.labels.now.items c.add_label.new.labels.items c.add_labels.new.labels.items c.add_labels-2.new.labels.items node.head (tree_at trees c.args.tree) (tree_at trees node.first) (tree_at trees node.second) (node_at trees c.args.tree c.in-Some.n node c.in-Some.is c.read_node-node.ensures.tree) c.in_ok-add_label.ensures c.in_ok-add_labels.ensures e)
-    c.add_labels-2.ensures
+returns t c = nodes_end c.nodes.labels.items _ (tree_at c.args.pool.now.trees c.nodes.at) (empty_at c.args.pool.now.trees c.nodes.at c.in_default.is) c.nodes.invariant.labels
