@@ -3,13 +3,14 @@ use Rattle.std.proofs.Common.{◌≡◌, ℕ, suc, ◌+◌, ◌*◌, ◌^◌, �
 use Rattle.std.proofs.lemmas.List.{append_assoc, drop_more, length-map, map_push, take-take}
 use Rattle.std.proofs.lemmas.List.Elements.{All-get_or, All-push}
 use Rattle.cv_inline_games.specs.Draws.{is_among, least_free, numbered_text, texts_from}
-use Rattle.cv_inline_names.specs.Texts.{text_at, texts_at}
-use Rattle.cv_inline_names.proofs.Texts.{text_at-kept, texts_at-kept}
+use Rattle.cv_inline_names.specs.Texts.{text_at, texts_at, with_text, with_texts}
+use Rattle.cv_inline_names.proofs.Texts.{text_at-kept, texts_at-kept, with_texts-push}
 
 -- what is there after some draws: the names of those that are drawn, of a table that begins as the old one; and the
 -- texts of all that are drawn, where the next number is this
 pub record HasDrawn (old : List (List ℕ)) (taken bases : List ℕ) (all : List (List ℕ)) (names : List (List ℕ)) (drawn : List ℕ) (number i : ℕ) : Type 0 where
   pub live : All (λ x. x < length names) drawn
+  pub table : names ≡ with_texts old (texts_at names drawn)
   pub kept : take (length old) names ≡ old
   pub more : length old ≤ length names
   pub few : length names ≤ length old + i
@@ -23,9 +24,9 @@ kept_on old names new e small f = sym (take-take (length old) (length names) new
 pub one_more : (old : List (List ℕ)) (taken bases : List ℕ) (all names new : List (List ℕ)) (drawn : List ℕ) (number i m x : ℕ) → HasDrawn old taken bases all names drawn number i →
     i < length bases → All (λ y. y < length old) bases → All (λ y. y < length old) taken →
     m ≡ least_free (λ k. is_among (texts_at names taken) (numbered_text (text_at names (get_or bases i 0)) k)) (length taken) number → m ≤ number + length taken →
-    text_at new x ≡ numbered_text (text_at names (get_or bases i 0)) m → x < length new → take (length names) new ≡ names → length new ≤ length names + 1 → length names ≤ length new →
+    new ≡ with_text names (numbered_text (text_at names (get_or bases i 0)) m) → text_at new x ≡ numbered_text (text_at names (get_or bases i 0)) m → x < length new → take (length names) new ≡ names → length new ≤ length names + 1 → length names ≤ length new →
     HasDrawn old taken bases all new (drawn ++ x ∷ []) (m + 1) (i + 1)
-one_more old taken bases all names new drawn number i m x k small bs ts least near text live kept few more =
+one_more old taken bases all names new drawn number i m x k small bs ts least near added text live kept few more =
     let base = get_or bases i 0 in
     let base_live : base < length old = All-get_or (λ y. y < length old) bases i 0 small bs in
     let same_base : text_at names base ≡ text_at old base = text_at-kept old names base k.kept base_live in
@@ -40,6 +41,7 @@ one_more old taken bases all names new drawn number i m x k small bs ts least ne
     ∙ ap₂ (λ a b. numbered_text (text_at old base) a ∷ texts_from (texts_at old taken) b (texts_at old (drop (i + 1) bases))) (sym m_is) (ap suc (sym m_is) ∙ next m) in
     record {
       live = All-push (λ y. y < length new) drawn x (λ j d h. wider (get_or drawn j d) (k.live j d h)) live;
+      table = added ∙ (ap₂ (λ ns u. with_text ns (numbered_text u m)) k.table same_base ∙ (sym (with_texts-push old (texts_at names drawn) (numbered_text (text_at old base) m)) ∙ ap (with_texts old) (sym front)));
       kept = kept_on old names new k.kept k.more kept;
       more = let a = k.more in omega arith;
       few = let a = k.few in omega arith;

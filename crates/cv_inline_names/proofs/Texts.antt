@@ -1,12 +1,14 @@
 -- Texts of names: equality, those that stay, and those that are taken.
-use Rattle.std.proofs.Common.{◌≡◌, ◌≢◌, ℕ, ◌<◌, Bool, true, false, ◌==◌, ◌||◌, List, [], ◌∷◌, All, Some, length, take, get_or, refl, ap, ap₂, sym, ◌∙◌}
+use Rattle.std.proofs.Common.{◌≡◌, ◌≢◌, ℕ, ◌<◌, Bool, true, false, ◌==◌, ◌||◌, List, [], ◌∷◌, ◌++◌, All, Some, length, take, get_or, refl, ap, ap₂, sym, ◌∙◌}
 use Rattle.std.specs.Prelude.{slice_get}
 use Rattle.std.proofs.lemmas.Bool.{eqb-true, eq-eqb, false_from_ne_true, and_parts}
 use Rattle.std.proofs.lemmas.List.Elements.{All-tail, All-head}
 use Rattle.std.proofs.lemmas.Option.{slice_get-get_or, get_or_from_slice_get}
 use Rattle.std.proofs.lemmas.List.{get_or-take}
+use Rattle.std.proofs.lemmas.List.Folds.{list_any_none}
+use Rattle.std.proofs.lemmas.Map.Keys.{any_passes_from_place}
 use Rattle.cv_inline_games.specs.Draws.{is_among, same_text}
-use Rattle.cv_inline_names.specs.Texts.{is_listed, text_at, texts_at}
+use Rattle.cv_inline_names.specs.Texts.{is_listed, text_at, texts_at, with_text, with_texts}
 
 same_text-refl : (t : List ℕ) → same_text t t ≡ true
 same_text-refl [] = refl
@@ -17,6 +19,18 @@ same_text-true [] [] h = refl
 same_text-true [] (d ∷ ds) h = cc
 same_text-true (c ∷ cs) [] h = cc
 same_text-true (c ∷ cs) (d ∷ ds) h = let p = and_parts (c == d) (same_text cs ds) h in ap₂ (λ x xs. x ∷ xs) (eqb-true c d p.0) (same_text-true cs ds p.1)
+
+-- whether a table has a text
+pub is_among-has : (names : List (List ℕ)) (t : List ℕ) (n : ℕ) → slice_get names n ≡ Some t → is_among names t ≡ true
+is_among-has names t n there = any_passes_from_place (same_text t) names n t there (same_text-refl t)
+
+pub is_among-lacks : (names : List (List ℕ)) (t : List ℕ) → ((n : ℕ) → slice_get names n ≢ Some t) → is_among names t ≡ false
+is_among-lacks names t none =
+    list_any_none (same_text t) names (λ i d small. false_from_ne_true (same_text t (get_or names i d)) (λ e. none i (slice_get-get_or names i d small ∙ ap (λ u. Some u) (sym (same_text-true t (get_or names i d) e)))))
+
+pub with_texts-push : (names : List (List ℕ)) (ts : List (List ℕ)) (t : List ℕ) → with_texts names (ts ++ t ∷ []) ≡ with_text (with_texts names ts) t
+with_texts-push names [] t = refl
+with_texts-push names (u ∷ us) t = with_texts-push (with_text names u) us t
 
 -- a text that no name has is not taken
 pub is_among-none : (names : List (List ℕ)) (xs : List ℕ) (t : List ℕ) → All (λ x. x < length names) xs → ((n : ℕ) → slice_get names n ≢ Some t) → is_among (texts_at names xs) t ≡ false

@@ -1,6 +1,6 @@
 ghost use Rattle.std.specs.Prelude.{◌≡◌, ◌+◌, ◌*◌, ◌<◌, ◌≤◌, ◌^◌, All, IfOk, OnErr, OnOk, length, take, string_bytes};
 ghost use Rattle.cv_inline_games.specs.Draws.{drawn_texts, is_among, least_free, numbered_text, texts_from};
-ghost use Rattle.cv_inline_names.specs.Texts.{is_listed, text_at, texts_at};
+ghost use Rattle.cv_inline_names.specs.Texts.{is_listed, text_at, texts_at, with_text, with_texts};
 
 use crate::ends::greatest_end;
 use cv_syntax::{NameError, NameId, Names};
@@ -72,6 +72,7 @@ fn free_text(
 /// The number of a text among the names, to which it is added where it isn't there yet.
 fn number_of(names: &mut Names, text: &str) -> Result<u32, AllocError>
     requires { length names.old + 1 < 2 ^ 32 }
+    ensures table { OnOk result (names.new ≡ with_text names.old text.now) }
     ensures text { IfOk result (λ n. text_at names.new n ≡ text.now) }
     ensures live { IfOk result (λ n. n < length names.new) }
     ensures kept { take (length names.old) names.new ≡ names.old }
@@ -98,6 +99,8 @@ fn draw(
     requires few { length taken.now + length bases.now < 2 ^ 32 }
     ensures texts { IfOk result (λ drawn. texts_at names.new drawn.items
         ≡ drawn_texts (texts_at names.old taken.now) (texts_at names.old bases.now)) }
+    ensures table { OnOk result (names.new ≡ with_texts names.old
+        (drawn_texts (texts_at names.old taken.now) (texts_at names.old bases.now))) }
     ensures live { IfOk result (λ drawn. All (λ x. x < length names.new) drawn.items) }
     ensures kept { take (length names.old) names.new ≡ names.old }
     ensures more { length names.old ≤ length names.new }
@@ -127,6 +130,8 @@ pub fn draw_names(
     requires few { length taken.now + length bases.now < 2 ^ 32 }
     ensures texts { IfOk result (λ drawn. texts_at names.new drawn.items
         ≡ drawn_texts (texts_at names.old taken.now) (texts_at names.old bases.now)) }
+    ensures table { OnOk result (names.new ≡ with_texts names.old
+        (drawn_texts (texts_at names.old taken.now) (texts_at names.old bases.now))) }
     ensures live { IfOk result (λ drawn. All (λ x. x < length names.new) drawn.items) }
     ensures kept { take (length names.old) names.new ≡ names.old }
     ensures few { length names.new ≤ length names.old + length bases.now }
