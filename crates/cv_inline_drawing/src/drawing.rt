@@ -43,8 +43,9 @@ fn draw_all(
     }
 }
 
-/// Draws the names and the labels of the next game of a context, where these are the names of file and game, the game, the
-/// name of the right key, and the sites by number. Where memory runs out the names are as they were.
+/// Draws the names and the labels of the next game of a context, where these are the names of file
+/// and game, the game, the name of the right key, and the sites by number. Besides want of memory, a
+/// name of a site that isn't in the table, and more than 2^32 names or labels, are refused.
 pub fn draw(
     alloc: Global,
     pool: &Pool,

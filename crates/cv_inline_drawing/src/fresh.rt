@@ -1,11 +1,11 @@
-ghost use Rattle.std.specs.Prelude.{◌≡◌, ◌+◌, ◌<◌, ◌^◌, ◌↔◌, All, IfOk, IsTrue, OnErr, length, map, nat_lt, take};
+ghost use Rattle.std.specs.Prelude.{◌≡◌, ◌+◌, ◌<◌, ◌^◌, ◌↔◌, All, IfOk, IsTrue, OnErr, OnOk, length, map, nat_lt, take};
 ghost use Rattle.std.specs.List.{list_all};
 ghost use Rattle.cv_pool.specs.Nodes.{ChildBelow};
 ghost use Rattle.cv_syntax.specs.Tree.{tree_at};
 ghost use Rattle.cv_inline_games.specs.Draws as of_games;
 ghost use Rattle.cv_inline_games.specs.Draws.{drawn_texts, labels_from};
 ghost use Rattle.cv_inline_listing.specs.Listed.{draw_in};
-ghost use Rattle.cv_inline_names.specs.Texts.{texts_at};
+ghost use Rattle.cv_inline_names.specs.Texts.{texts_at, with_texts};
 ghost use Rattle.cv_inline_drawing.specs.Fresh.{bases_of};
 
 use cv_inline_listing::Draw;
@@ -42,8 +42,8 @@ fn are_names(names: &Names, numbers: &[u32]) -> bool
     numbers.iter().all(|x| *x < count)
 }
 
-/// Draws the names for draws into the table. A base that is no name, and a table that would be too large, are refused as
-/// want of memory.
+/// Draws the names for draws into the table. A base that is no name, and a table that would be too
+/// large, are refused as want of memory.
 pub(crate) fn new_names(
     alloc: Global,
     names: &mut Names,
@@ -53,6 +53,8 @@ pub(crate) fn new_names(
     requires { All (λ x. x < length names.old) taken.now }
     ensures texts { IfOk result (λ drawn. texts_at names.new drawn.items ≡ drawn_texts
         (texts_at names.old taken.now) (texts_at names.old (bases_of (map draw_in draws.now)))) }
+    ensures table { OnOk result (names.new ≡ with_texts names.old (drawn_texts
+        (texts_at names.old taken.now) (texts_at names.old (bases_of (map draw_in draws.now))))) }
     ensures live { IfOk result (λ drawn. All (λ x. x < length names.new) drawn.items) }
     ensures kept { take (length names.old) names.new ≡ names.old }
     ensures err { OnErr result (names.new ≡ names.old) }

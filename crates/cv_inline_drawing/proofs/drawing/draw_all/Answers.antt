@@ -9,5 +9,6 @@ returns-in-Ok-clause-drawn c =
       names = c.in_ok-numbers.numbers.items;
       live = c.in_ok-numbers.ensures.live;
       texts = c.in_ok-numbers.ensures.texts;
+      added = c.in_ok-numbers.ensures.table;
       table = c.in-Ok.ensures ∙ ap (λ xs. drawn_by (map draw_in c.args.draws.now) xs c.args.finds.now c.args.labels.now) c.as_slice.ensures.value;
     }

@@ -1,8 +1,8 @@
-use Rattle.std.proofs.Common.{◌≡◌, ◌∙◌, ap, sym, length, map}
+use Rattle.std.proofs.Common.{◌≡◌, ◌∙◌, OnOk, ap, sym, subst, length, map}
 use Rattle.std.proofs.lemmas.Result.{IfOk-weaker}
 use Rattle.cv_inline_games.specs.Draws.{drawn_texts}
 use Rattle.cv_inline_listing.specs.Listed.{draw_in}
-use Rattle.cv_inline_names.specs.Texts.{texts_at}
+use Rattle.cv_inline_names.specs.Texts.{texts_at, with_texts}
 use Rattle.cv_inline_drawing.specs.Fresh as fresh
 use Rattle.cv_inline_drawing.proofs.Tabled.{all_below}
 use Rattle.cv_inline_drawing.proofs.fresh.new_names.Goals as goal
@@ -18,3 +18,9 @@ returns-clause-texts c =
     IfOk-weaker c.draw_names.result (λ drawn. texts_at new drawn.items ≡ drawn_texts taken (texts_at old c.as_slice-bases.result.now)) (λ drawn. texts_at new drawn.items ≡ drawn_texts taken (texts_at old (fresh.bases_of (map draw_in c.args.draws.now))))
     (λ drawn e. e ∙ ap (λ bs. drawn_texts taken (texts_at old bs)) (c.as_slice-bases.ensures.value ∙ c.in_ok-all.ensures))
     c.draw_names.ensures.texts
+
+pub returns-clause-table : goal.returns-clause-table
+returns-clause-table c =
+    let old = c.args.names.now in
+    let taken = texts_at old c.args.taken.now in
+    subst (λ bs. OnOk c.draw_names.result (c.draw_names.new.names ≡ with_texts old (drawn_texts taken (texts_at old bs)))) (c.as_slice-bases.ensures.value ∙ c.in_ok-all.ensures) c.draw_names.ensures.table
