@@ -1,6 +1,7 @@
 -- A branch over calls, as it stands first in a list. This profile's own.
 use Rattle.std.specs.Prelude.{ℕ, List, Option, Some, None, option_map, option_and_then}
 use Rattle.cv_pool.specs.KindTree.{KindTree}
+use Rattle.cv_syntax.specs.declared.open.Opened.{Opened}
 use Rattle.cv_syntax.specs.declared.head.Head.TheVariants.{Branch, Cons, Binder}
 use Rattle.cv_syntax.specs.Tree.{Tree, Node, tree_at}
 use Rattle.cv_inline_listing.specs.declared.branches.Calls.{Calls}
@@ -9,6 +10,10 @@ use Rattle.cv_inline_listing.specs.declared.branches.Calls.{Calls}
 abbrev pub cell_of : Tree → Option (Tree × Tree)
 cell_of (Node Cons t more) = Some (t, more)
 cell_of t = None
+
+-- the children of a node, as trees
+abbrev pub children_in : List KindTree → Opened → Tree × Tree
+children_in trees o = (tree_at trees o.first, tree_at trees o.second)
 
 abbrev pub first_binder : Tree → Option (ℕ × ℕ)
 first_binder (Node (Binder x n) a b) = Some (x, n)

@@ -2,7 +2,7 @@ ghost use Rattle.std.specs.Prelude.{◌≡◌, ◌<◌, IfSome, length, option_m
 ghost use Rattle.cv_pool.specs.Nodes.{ChildBelow};
 ghost use Rattle.cv_syntax.specs.Tree.{tree_at};
 ghost use Rattle.cv_syntax.specs.Walks.{above};
-ghost use Rattle.cv_inline_listing.specs.BranchForms.{binder_of, calls_in, calls_of, cell_of, first_binder};
+ghost use Rattle.cv_inline_listing.specs.BranchForms.{binder_of, calls_in, calls_of, cell_of, children_in, first_binder};
 
 use cv_syntax::children::read_child;
 use cv_syntax::{Head, NodeId, Opened, Pool, read_node};
@@ -18,8 +18,8 @@ pub(crate) struct Calls {
 /// The first item of a list.
 fn first_cell(pool: &Pool, list: Option<NodeId>) -> Option<Opened>
     requires { ChildBelow (length pool.now.trees) list }
-    ensures cell { option_map (λ o. (tree_at pool.now.trees o.first, tree_at pool.now.trees o.second))
-        result ≡ cell_of (tree_at pool.now.trees list) }
+    ensures cell { option_map (children_in pool.now.trees) result
+        ≡ cell_of (tree_at pool.now.trees list) }
     ensures first { IfSome result (λ o. ChildBelow (length pool.now.trees) o.first) }
     ensures second { IfSome result (λ o. ChildBelow (length pool.now.trees) o.second) }
     ensures below { IfSome result (λ o. above o.second < above list) }
