@@ -16,8 +16,8 @@ ghost use Rattle.cv_match_uses.specs.Tallies.{IsTableOf};
 ghost use Rattle.cv_match.specs.Fitting.{IsSmallSite, has_coins, is_own_use};
 
 use cv_match_patterns::{Search, Site, body_of, coins_of, term_of, variable_of};
-use cv_match_reads::is_cell;
-use cv_match_uses::{UseTable, uses};
+use cv_match_reads::{is_cell, is_used_as_often};
+use cv_match_uses::UseTable;
 use cv_rule_scenes::is_queried;
 use cv_syntax::{Head, NodeId, Work, read_node};
 
@@ -52,7 +52,7 @@ fn is_used_alike(
         == refusals.uses coin (function_of (tree_at work.now.pool.trees site.now.pattern)).body) }
 {
     let body = body_of(&work.pool, site.pattern);
-    table.uses_of(x) == uses(&work.pool, coin, body)
+    is_used_as_often(&work.pool, table, x, coin, body)
 }
 
 /// Whether no query asks for a variable.

@@ -1,4 +1,3 @@
 pub mod Listed
 pub mod Standing
 pub mod Parts
-pub mod Begun

@@ -18,7 +18,7 @@ use Rattle.cv_scenes.specs.Sights.{variable_of}
 use Rattle.cv_scenes.specs.Instances.{filled, guess, is_variable_of, names_of, term_for, terms_of}
 use Rattle.cv_scenes.specs.Refusals.{is_among}
 use Rattle.cv_scenes.specs.Terms.{is_sort}
-use Rattle.cv_match_patterns.specs.Begun.{AreHeadsOf}
+use Rattle.cv_match_heads.specs.Beginnings.{AreHeadsOf}
 use Rattle.cv_match_patterns.specs.declared.search.Search.{Search}
 
 -- The game and the side stand in the pool, and the tables say what the game does.

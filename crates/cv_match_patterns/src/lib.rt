@@ -3,7 +3,6 @@
 #![tactic(auto)]
 
 mod filling;
-mod heads;
 mod names;
 mod search;
 mod site;
@@ -12,7 +11,6 @@ mod terms;
 mod whole;
 
 pub use filling::term_of;
-pub use heads::{Heads, is_head};
 pub use names::{arguments_of, body_of, coins_of, is_argument_name, key_of, variable_of};
 pub use search::Search;
 pub use site::{Found, Instance, Site, note_site};

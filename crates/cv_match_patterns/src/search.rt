@@ -1,5 +1,5 @@
-use crate::heads::Heads;
 use cv_directory::Sort;
+use cv_match_heads::Heads;
 use cv_syntax::NodeId;
 use cv_typing::Arrays;
 use std::collections::HashMap;

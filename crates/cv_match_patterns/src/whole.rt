@@ -5,8 +5,8 @@ ghost use Rattle.cv_meaning_contexts.specs.Groups.{function_of, group_of};
 ghost use Rattle.cv_match_patterns.specs.Searches.{filled_part, is_whole};
 
 use crate::filling::put;
-use crate::heads::is_head;
 use crate::names::body_of;
+use cv_match_heads::is_head;
 use cv_syntax::{NodeId, Pool, read_node, same};
 
 /// Whether a part of a term is that part of a function's body, with what stands for names. Nothing is built.

@@ -1,3 +1,4 @@
 pub mod Walked
 pub mod Calling
+pub mod Heading
 pub mod Testing

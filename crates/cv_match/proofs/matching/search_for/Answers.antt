@@ -2,7 +2,7 @@ use Rattle.std.proofs.Common.{rules, ap, length, subst, sym, ◌∙◌}
 use Rattle.std.specs.List.{list_any}
 use Rattle.cv_pool.specs.Nodes.{ChildBelow}
 use Rattle.cv_meaning_contexts.specs.Groups.{functions_of}
-use Rattle.cv_match_patterns.specs.Begun.{begins}
+use Rattle.cv_match_heads.specs.Beginnings.{begins}
 use Rattle.cv_match.proofs.Fitting.{equiv-live}
 use Rattle.cv_match.proofs.matching.search_for.Goals as goal
 

@@ -5,7 +5,7 @@ use Rattle.cv_syntax.proofs.Walking.{above-child}
 use Rattle.cv_meaning_contexts.specs.Groups.{functions_of}
 use Rattle.cv_scenes.specs.Instances.{first_call}
 use Rattle.cv_match_sites.specs.Matchings.{matching_by}
-use Rattle.cv_match_patterns.proofs.Begun.{no-call}
+use Rattle.cv_match_sites.proofs.Heading.{no-call}
 use Rattle.cv_match_sites.proofs.calls.call_at.Goals as goal
 
 pub returns-in_default-clause-call : goal.returns-in_default-clause-call

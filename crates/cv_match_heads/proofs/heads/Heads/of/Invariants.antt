@@ -6,8 +6,8 @@ use Rattle.cv_syntax.specs.declared.head.Head.{Head}
 use Rattle.cv_syntax.specs.Tree.{tree_at}
 use Rattle.cv_syntax.specs.Walks.{above}
 use Rattle.cv_meaning_contexts.specs.Groups.{functions_of}
-use Rattle.cv_match_patterns.specs.Begun.{begins, may_begin}
-use Rattle.cv_match_patterns.proofs.heads.Heads.of.Given as goal
+use Rattle.cv_match_heads.specs.Beginnings.{begins, may_begin}
+use Rattle.cv_match_heads.proofs.heads.Heads.of.Given as goal
 
 abbrev pub invariant-functions : goal.invariant-functions
 invariant-functions l = record {

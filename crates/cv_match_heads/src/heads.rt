@@ -4,11 +4,11 @@ ghost use Rattle.cv_syntax.specs.Head.{same_head};
 ghost use Rattle.cv_syntax.specs.Tree.{tree_at};
 ghost use Rattle.cv_syntax.specs.declared.head.Head as heading;
 ghost use Rattle.cv_meaning_contexts.specs.Groups.{function_of, functions_of};
-ghost use Rattle.cv_match_patterns.specs.Begun as heads;
-ghost use Rattle.cv_match_patterns.specs.Begun.{AreHeadsOf, begins, may_begin};
+ghost use Rattle.cv_match_heads.specs.Beginnings as heads;
+ghost use Rattle.cv_match_heads.specs.Beginnings.{AreHeadsOf, begins, may_begin};
 
-use crate::names::body_of;
 use cv_pool::Kind;
+use cv_syntax::children::second_of;
 use cv_syntax::{Head, NodeId, Pool, read_node};
 use std::alloc::{AllocError, Global};
 
@@ -40,7 +40,7 @@ fn has_kind(kinds: &[Kind], kind: Kind) -> bool
 }
 
 /// The kind of a body's node, unless the body is a name or nothing.
-#[tactic(auto, using(crate::proofs::Parts::lists))]
+#[tactic(auto, using(crate::proofs::Beginnings::beginnings))]
 fn kind_of(pool: &Pool, body: Option<NodeId>) -> Option<Kind>
     requires { ChildBelow (length pool.now.trees) body }
     ensures { result ≡ heads.kind_of (tree_at pool.now.trees body) }
@@ -59,7 +59,7 @@ impl Heads {
         ensures { OnOk result ((k : heading.Head) → may_begin self.new k
             ≡ (may_begin self.old k || begins k (function_of (tree_at pool.now.trees f)))) }
     {
-        match kind_of(pool, body_of(pool, f)) {
+        match kind_of(pool, second_of(pool, f)) {
             Some(kind) => {
                 self.kinds.push(kind)?;
                 Ok(())

@@ -3,9 +3,9 @@ use Rattle.std.specs.List.{list_any}
 use Rattle.cv_syntax.specs.Tree.{tree_at}
 use Rattle.cv_syntax.proofs.Trees.{child_live, empty_at, node_at}
 use Rattle.cv_meaning_contexts.specs.Groups.{functions_of}
-use Rattle.cv_match_patterns.specs.Begun.{begins, may_begin}
-use Rattle.cv_match_patterns.proofs.Begun.{begun-end, begun-more}
-use Rattle.cv_match_patterns.proofs.heads.Heads.of.Goals as goal
+use Rattle.cv_match_heads.specs.Beginnings.{begins, may_begin}
+use Rattle.cv_match_heads.proofs.Beginnings.{begun-end, begun-more}
+use Rattle.cv_match_heads.proofs.heads.Heads.of.Goals as goal
 
 pub functions-preserved : goal.functions-preserved
 functions-preserved c =

@@ -7,7 +7,7 @@ use Rattle.cv_syntax.specs.declared.head.Head.TheVariants.{Leaf}
 use Rattle.cv_syntax.specs.Head.{code}
 use Rattle.cv_syntax.specs.Tree.{Tree, Empty, Node}
 use Rattle.cv_meaning_contexts.specs.Groups.{Function}
-use Rattle.cv_match_patterns.specs.declared.heads.Heads.{Heads}
+use Rattle.cv_match_heads.specs.declared.heads.Heads.{Heads}
 
 abbrev pub same_kind : Kind → Kind → Bool
 same_kind h k = (h.tag == k.tag) && ((h.a == k.a) && (h.b == k.b))

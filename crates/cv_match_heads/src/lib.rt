@@ -1,0 +1,7 @@
+// What the bodies of functions begin with, for a test of a term's head before any body is compared with the term. It is proved and
+// not run: no step asks for it yet.
+#![tactic(auto)]
+
+mod heads;
+
+pub use heads::{Heads, is_head};
