@@ -3,3 +3,6 @@ pub mod Agreed
 pub mod Texts
 pub mod Whole
 pub mod Equality
+pub mod Costs
+pub mod Drawn
+pub mod Steps

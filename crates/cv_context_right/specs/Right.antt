@@ -2,16 +2,22 @@
 use Rattle.std.specs.Prelude.{◌≡◌, ◌==◌, ℕ, ◌<◌, true, false, List, length, slice_get, Some}
 use Rattle.std.specs.List.{AllByRecursion, list_any}
 use Rattle.cv_syntax.specs.Declarations.{Declaration}
-use Rattle.cv_syntax.specs.Tree.{second}
+use Rattle.cv_syntax.specs.Tree.{Tree, second}
 use Rattle.cv_meaning.specs.Interpretation.{is_constant_of}
 use Rattle.cv_meaning.specs.Tapes.{blank}
 use Rattle.cv_meaning_contexts.specs.Groups.{Right, side_group}
 use Rattle.cv_group_rules.specs.Faults.{IsAccepted}
-use Rattle.cv_scope.specs.Phrases.{IsWellFormedContext}
+use Rattle.cv_scope.specs.Phrases.{IsWellFormedContext, binds_none}
+use Rattle.cv_typing_runs.specs.Games.{HasArguments}
 use Rattle.cv_scenes.specs.Apt.{IsAptGame, IsSiteApt}
+use Rattle.cv_scenes.specs.Contexts.{AreAnswers}
 use Rattle.cv_scenes.specs.LeftTerms.{HasLeftTerms}
 use Rattle.cv_scenes.specs.Reductions.{Reduction, context_of_game, matching, sites}
+use Rattle.cv_scenes.specs.Scenes.{KnowsQueries, is_queried}
 use Rattle.cv_scenes.specs.Sites.{Site}
+use Rattle.cv_scenes.specs.Terms.{has_index}
+use Rattle.cv_context_answers.specs.Answers.{KnowsConstants}
+use Rattle.cv_context_reducible.specs.Reducible.{IsReducible}
 use Rattle.cv_inline_bodies.specs.Inlined.{is_own}
 use Rattle.cv_inline_bodies.specs.Roles.{Gone}
 use Rattle.cv_inline_games.specs.NextGame.{Calling, callings_of}
@@ -30,6 +36,24 @@ pub record HasRightForm (ds : List Declaration) (c : NamedContext) : Type 0 wher
   pub functions : AllByRecursion IsRightFunction (side_group Right c.context.equivalence).functions
   pub bare : names_stand_bare (second c.context.equivalence) ≡ true
   pub own : AllByRecursion (λ (k : Calling). (x : ℕ) → c.constant x ≡ true → is_own k.caller x ≡ false) (callings_of c.context)
+
+-- what the grammar of files and its rules of names give of the right side of an equivalence
+pub record IsRightOfFile (ds : List Declaration) (e : Tree) : Type 0 where
+  pub side : is_right_side (second e) ≡ true
+  pub functions : AllByRecursion IsRightFunction (side_group Right e).functions
+  pub bare : names_stand_bare (second e) ≡ true
+  pub free : binds_none (is_constant_of ds) (second e) ≡ true
+
+-- what an accepted file and a cryptographic step give: besides, the file knows its constants and the names for which its queries ask,
+-- no query asks for an index of the game, and the answers serve however many calls there are
+pub record IsStepOfFile (r : Reduction) : Type 0 where
+  pub reducible : IsReducible r
+  pub arguments : HasArguments r.scene.declarations
+  pub right : IsRightOfFile r.scene.declarations r.equivalence
+  pub constants : KnowsConstants r.scene
+  pub queries : KnowsQueries r.scene
+  pub unasked : (x : ℕ) → is_queried r.scene x ≡ true → has_index r.scene.game x ≡ false
+  pub answers : (sites : ℕ) → AreAnswers r.scene sites r.answer
 
 -- the context with drawn names is that of the game, with its key, answers and constants; its sites have texts
 pub record IsNamedFor (r : Reduction) (c : NamedContext) : Type 0 where

@@ -1,7 +1,7 @@
 // The law of the right side for games: the context of a game with the right side is its next game.
 #![tactic(auto)]
 
-ghost use Rattle.std.specs.Prelude.{◌≡◌, ℕ, []};
+ghost use Rattle.std.specs.Prelude.{◌≡◌, ℕ, List, []};
 ghost use Rattle.cv_meaning.specs.Advantage.{IsAsked, chance_of};
 ghost use Rattle.cv_meaning.specs.Chances.{AtMost, Same, distance};
 ghost use Rattle.cv_meaning.specs.Experiments.{Experiment, mode_of};
@@ -19,7 +19,9 @@ ghost use Rattle.cv_inline_draws.specs.DrawnNames.{drawn_in};
 ghost use Rattle.cv_inline_runs.specs.Contexts.{IsAskedAlike};
 ghost use Rattle.cv_inline_expected.specs.CallTexts.{HasCallTexts};
 ghost use Rattle.cv_inline_drawn.specs.Named.{NamedContext, named_on_tape, names_of, text_of};
-ghost use Rattle.cv_context_right.specs.Right.{IsNamedFor, IsRightGame};
+ghost use Rattle.cv_context_next.specs.Drawn.{AreDrawnFor, next_game};
+ghost use Rattle.cv_context_typed.specs.Typed.{variable_type};
+ghost use Rattle.cv_context_right.specs.Right.{IsNamedFor, IsRightGame, IsStepOfFile};
 
 /// Where names are drawn for the context of an apt game, for an accepted equivalence in the grammar of files, each
 /// call of the context has its text on each tape: it is found by number, its key is read at indices and variables of
@@ -52,5 +54,26 @@ pub fn reductions_cost_the_advantage()
         AtMost (distance (chance_of (in_game r i) x a r.scene.game)
         (chance_of (setting_of r.scene.declarations i) x a
         (next_of (context_of_game r) r.key (drawn_in (names_of c)))))
+        (context_advantage r.scene.declarations i (context_of_game r) x a) }
+{}
+
+/// Where an accepted file and the conditions of the step give a game, an equivalence and a key, the names and labels
+/// that are drawn for its next game make its context a right game.
+pub fn drawn_names_make_right_games()
+    ensures { (r : Reduction) (names labels : List ℕ) (i : Interpretation) → IsStepOfFile r →
+        AreDrawnFor r names labels → (c : NamedContext)
+        × IsRightGame r c (variable_type r.scene.game)
+        × (c.g ≡ setting_of r.scene.declarations i)
+        × (next_of (context_of_game r) r.key (drawn_in (names_of c)) ≡ next_game r names labels) }
+{}
+
+/// So no adversary tells the game from its next game, in an experiment for which a query of the file asks, by more
+/// than the advantage of the game's context.
+pub fn next_games_cost_the_advantage()
+    ensures { (r : Reduction) (names labels : List ℕ) (i : Interpretation) (x : Experiment)
+        (a : Adversary) → IsStepOfFile r → AreDrawnFor r names labels →
+        IsAsked (queries_in r.scene.declarations) x →
+        AtMost (distance (chance_of (setting_of r.scene.declarations i) x a r.scene.game)
+        (chance_of (setting_of r.scene.declarations i) x a (next_game r names labels)))
         (context_advantage r.scene.declarations i (context_of_game r) x a) }
 {}
