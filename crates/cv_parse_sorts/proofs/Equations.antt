@@ -10,7 +10,7 @@ use Rattle.cv_syntax.specs.Declarations.{Declaration, Equation}
 use Rattle.cv_syntax.specs.Tree.{Tree, Node, binders, bound_names}
 use Rattle.cv_parse_notation.specs.declared.sign.Mark.TheVariants as mark
 use Rattle.cv_parse_notation.specs.declared.sign.Sign.{Sign}
-use Rattle.cv_parse_notation.specs.Form.{Form, ◌▸◌, ◌&◌}
+use Rattle.cv_parse_notation.specs.Form.{Form, ◌▸◌}
 use Rattle.cv_parse_notation.specs.Spells.{Each, IsSort, Relation, Spells, Use, starts}
 use Rattle.cv_parse_grammar.specs.declared.role.Asked.TheVariants.{AFunction}
 use Rattle.cv_parse_grammar.specs.declared.role.Region.{Region}

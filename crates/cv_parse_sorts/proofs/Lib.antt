@@ -2,6 +2,7 @@ mod Queries
 mod SmallNames
 mod UsedNames
 pub mod Known
+pub mod Constants
 mod EquationTerms
 mod Equations
 pub mod Closed

@@ -1,4 +1,5 @@
-// What a typed file is known to have: closed equations, functions and cells that are there, typed runs, and the names of its queries.
+// What a typed file is known to have: closed equations, functions and cells that are there, typed runs, and the names of its queries and
+// constants.
 #![tactic(auto)]
 
 ghost use Rattle.std.specs.Prelude.{◌≡◌, ℕ, List, Ok, length, nat_lt};
@@ -6,6 +7,7 @@ ghost use Rattle.cv_lex.specs.Lexis.{Token};
 ghost use Rattle.cv_parse_terminals.specs.Signs.{signs_of};
 ghost use Rattle.cv_parse.specs.Says.{Says};
 ghost use Rattle.cv_scenes.specs.Scenes.{KnowsQueries};
+ghost use Rattle.cv_context_answers.specs.Answers.{KnowsConstants};
 ghost use Rattle.cv_steps.specs.Sequences.{scene};
 ghost use Rattle.cv_parse_notation.specs.declared.sign.Sign.{Sign};
 ghost use Rattle.cv_parse.specs.Parsed.{Parsed, parsed};
@@ -45,5 +47,12 @@ pub fn games_of_files_have_typed_runs()
 pub fn files_know_their_queries()
     ensures { (limit : ℕ) (tokens : List Token) (said : Parsed) →
         Says limit (signs_of tokens).signs said → KnowsQueries
+        (scene said.declarations (λ x. nat_lt x (length (signs_of tokens).names)) said.game) }
+{}
+
+/// A file has the names of its constants, by their numbers.
+pub fn files_know_their_constants()
+    ensures { (limit : ℕ) (tokens : List Token) (said : Parsed) →
+        Says limit (signs_of tokens).signs said → KnowsConstants
         (scene said.declarations (λ x. nat_lt x (length (signs_of tokens).names)) said.game) }
 {}
