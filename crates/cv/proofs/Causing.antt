@@ -3,7 +3,7 @@ use Rattle.std.proofs.Common.{◌≡◌, ℕ, suc, ◌+◌, ◌-◌, ◌<◌, �
 use Rattle.std.proofs.lemmas.Bool.Decides.{nat_tests}
 use Rattle.std.proofs.lemmas.List.{length-map}
 use Rattle.std.specs.List.{list_all, list_any, zip}
-use Rattle.std.specs.Prelude.{IfSome, IsNone, IsSomeAnd}
+use Rattle.std.specs.Prelude.{IfSome, IsNone, IsSomeAnd, option_map}
 use Rattle.cv_lex.specs.declared.LexError.{LexError}
 use Rattle.cv_lex.specs.Lexis.{Token, tokens_of}
 use Rattle.cv_parse_terminals.specs.Signs.{signs_of}
@@ -47,7 +47,8 @@ use Rattle.cv_query_form.specs.Queries.{queries_in}
 use Rattle.cv_query_form.proofs.First.{finds-first as first_refused_is_first}
 use Rattle.cv_accept.specs.declared.error.FileError.{FileError}
 use Rattle.cv_accept.specs.declared.error.FileError.TheVariants as fault
-use Rattle.cv_accept.specs.Accepted.{Content, IsFull, Refuses, block_by, block_of, content_of, group_fault, of_block, of_groups, of_parsed, of_queries, of_scopes, of_script, of_tokens, of_types, query_fault, read_of, scope_fault, there, type_fault}
+use Rattle.cv_parse_script.specs.Scripts.{items}
+use Rattle.cv_accept.specs.Accepted.{Content, IsFull, Refuses, asks_unbuilt, block_by, block_of, content_of, group_fault, of_block, of_form, of_groups, of_parsed, of_queries, of_scopes, of_script, of_tokens, of_types, query_fault, read_of, scope_fault, there, type_fault}
 use Rattle.cv_accept.specs.Places.{nodes_before}
 use Rattle.cv_accept.specs.Works.{script_in}
 use Rattle.cv_accept.proofs.Places.{behind_none, behind_some}
@@ -60,15 +61,16 @@ use Rattle.cv_report.specs.declared.report.Status.TheVariants as status
 use Rattle.cv_report.specs.declared.report.Verdict.TheVariants.{Proved, NotProved}
 use Rattle.cv_report.specs.declared.report.Which.TheVariants.{Steps}
 use Rattle.cv_syntax.specs.declared.work.File.{File}
-use Rattle.cv.specs.Causes.{ComesFrom, HasGroupFault, HasManyClosed, HasNoScript, HasOpenQuery, HasQueryFault, HasQueryWithoutStep, HasScopeFault, HasStep, HasStop, HasTypeFault, LacksRoom, OfTokens, Outside, block_signs, closed_count}
+use Rattle.cv.specs.Causes.{ComesFrom, HasCertificate, HasGroupFault, HasManyClosed, HasNoScript, HasOpenQuery, HasQueryFault, HasQueryWithoutStep, HasScopeFault, HasStep, HasStop, HasTypeFault, LacksRoom, OfTokens, Outside, block_signs, closed_count}
 use Rattle.cv.specs.Causes as cause
 use Rattle.cv.specs.Faults.{parse_ended, status_of as ended_by}
 use Rattle.cv.specs.Words.{AreTold}
 use Rattle.cv_query_direct.specs.Plain.{certificate}
 use Rattle.cv_plain.specs.Strategy.{EndsAt, Said, is_closed, is_proved, lacks_step, left_open, most_pool, most_steps, nothing_said, open_verdict, said_of, said_then}
-use Rattle.cv.specs.Scripts.{EndsScript, entry_in, entry_of, known_to, unclosed}
+use Rattle.cv.specs.Scripts.{EndsScript, ended_with, entry_in, entry_of, first_open, known_to}
+use Rattle.cv.proofs.Closings.{all-proved}
 use Rattle.cv.specs.Strategy.{FollowsScript, FollowsStrategy, declared_in, file_in, game_in, nodes_in, said_in, steps_in}
-use Rattle.cv_kernel.specs.Proofs.{nodes_along}
+use Rattle.cv_kernel.specs.Proofs.{closed_by, nodes_along}
 use Rattle.cv_steps.specs.Sequences.{scene}
 use Rattle.cv_plain.proofs.Telling.{crowded_lacks, whole_told}
 use Rattle.cv.proofs.Unread.{dead_anywhere, nested_at}
@@ -161,8 +163,18 @@ block_rank (script.Script k) = omega arith
 block_rank (script.Unbuilt k) = omega arith
 block_rank (script.Build b) = omega arith
 
+-- a block with a certificate that isn't built, and one without
+
+form_rank : (ts : List Token) (p : Parsed) (b : Option Tree) (u : Bool) (x : FileError) → of_form ts p b u ≡ Err x → 3 ≤ rank x
+form_rank ts p b true x e = let s : fault.Unbuilt ≡ x = cc in subst (λ z. 3 ≤ rank z) s (omega arith)
+form_rank ts p b false x e = types_rank (content_of ts p b) p (type_fault p) x e
+
+past_form : (ts : List Token) (p : Parsed) (b : Option Tree) (u : Bool) (x : FileError) → rank x ≤ 6 → of_form ts p b u ≡ Err x → of_types (content_of ts p b) p (type_fault p) ≡ Err x
+past_form ts p b true x m e = absurd (let s : fault.Unbuilt ≡ x = cc in let i = subst (λ z. 7 ≤ rank z) s (omega arith) in omega arith)
+past_form ts p b false x m e = e
+
 script_rank : (ts : List Token) (p : Parsed) (r : Result (Option Tree) ScriptError) (x : FileError) → of_script ts p r ≡ Err x → 2 ≤ rank x
-script_rank ts p (Ok b) x e = let r = types_rank (content_of ts p b) p (type_fault p) x e in omega arith
+script_rank ts p (Ok b) x e = let r = form_rank ts p b (asks_unbuilt p.declarations (option_map items b)) x e in omega arith
 script_rank ts p (Err y) x e = let s : of_block y ≡ x = cc in subst (λ z. 2 ≤ rank z) s (block_rank y)
 
 -- the fault of a block is neither of types, of scope nor of queries
@@ -172,7 +184,7 @@ block_only (script.Unbuilt k) x l m e = let i = subst (λ y. 7 ≤ rank y) e (om
 block_only (script.Build b) x l m e = let i = subst (λ y. 7 ≤ rank y) e (omega arith) in omega arith
 
 past_script : (ts : List Token) (p : Parsed) (r : Result (Option Tree) ScriptError) (x : FileError) → 3 ≤ rank x → rank x ≤ 6 → of_script ts p r ≡ Err x → (block : Option Tree) × (r ≡ Ok block) × (of_types (content_of ts p block) p (type_fault p) ≡ Err x)
-past_script ts p (Ok b) x l m e = (b, refl, e)
+past_script ts p (Ok b) x l m e = (b, refl, past_form ts p b (asks_unbuilt p.declarations (option_map items b)) x m e)
 past_script ts p (Err y) x l m e = absurd (block_only y x l m (cc))
 
 by_script : (y : ScriptError) (k : ℕ) → of_block y ≡ fault.Script k → y ≡ script.Script k
@@ -274,7 +286,7 @@ module _ (ts : List Token) (p : Parsed) (e : parsed most_pool (signs_of ts).sign
   script_cause k i = go (block_of ts p) refl i
     where
       go : (r : Result (Option Tree) ScriptError) → block_of ts p ≡ r → of_script ts p r ≡ Err (fault.Script k) → HasNoScript ts k
-      go (Ok b) n j = absurd (let r = types_rank (content_of ts p b) p (type_fault p) (fault.Script k) j in omega arith)
+      go (Ok b) n j = absurd (let r = form_rank ts p b (asks_unbuilt p.declarations (option_map items b)) (fault.Script k) j in omega arith)
       go (Err y) n j = let b = dead_block ts k p.script (n ∙ ap Err (by_script y k (cc))) in record {
         said = p;
         says = said_is_saying most_pool (signs_of ts).signs p e;
@@ -284,18 +296,28 @@ module _ (ts : List Token) (p : Parsed) (e : parsed most_pool (signs_of ts).sign
         dead = b.2;
       }
 
-  unbuilt_cause : of_script ts p (block_of ts p) ≡ Err fault.Unbuilt → HasStep ts
+  form_cause : (b : Option Tree) (u : Bool) → of_form ts p b u ≡ Err fault.Unbuilt → u ≡ true
+  form_cause b true j = refl
+  form_cause b false j =
+      let t = past_types (content_of ts p b) p (type_fault p) fault.Unbuilt (omega arith) j in
+      let u = past_scopes (content_of ts p b) p (scope_fault p) fault.Unbuilt (omega arith) t.1 in
+      let v = past_groups (content_of ts p b) p (group_fault p) fault.Unbuilt (omega arith) u.1 in
+      absurd (queries_are_built (content_of ts p b) p (query_fault p) v.1)
+
+  unbuilt_cause : of_script ts p (block_of ts p) ≡ Err fault.Unbuilt → HasStep ts ⊎ HasCertificate ts
   unbuilt_cause i = go (block_of ts p) refl i
     where
-      go : (r : Result (Option Tree) ScriptError) → block_of ts p ≡ r → of_script ts p r ≡ Err fault.Unbuilt → HasStep ts
-      go (Ok b) n j =
-          let t = past_types (content_of ts p b) p (type_fault p) fault.Unbuilt (omega arith) j in
-          let u = past_scopes (content_of ts p b) p (scope_fault p) fault.Unbuilt (omega arith) t.1 in
-          let v = past_groups (content_of ts p b) p (group_fault p) fault.Unbuilt (omega arith) u.1 in
-          absurd (queries_are_built (content_of ts p b) p (query_fault p) v.1)
+      go : (r : Result (Option Tree) ScriptError) → block_of ts p ≡ r → of_script ts p r ≡ Err fault.Unbuilt → HasStep ts ⊎ HasCertificate ts
+      go (Ok b) n j = inr (record {
+        said = p;
+        says = said_is_saying most_pool (signs_of ts).signs p e;
+        script = b;
+        block = n;
+        unbuilt = form_cause b (asks_unbuilt p.declarations (option_map items b)) j;
+      })
       go (Err y) n j =
           let f = by_unbuilt y (cc) in
-          record { said = p; says = said_is_saying most_pool (signs_of ts).signs p e; token = f.0; refused = n ∙ ap Err f.1 }
+          inl (record { said = p; says = said_is_saying most_pool (signs_of ts).signs p e; token = f.0; refused = n ∙ ap Err f.1 })
 
 -- a refusal of what tokens say comes from the tokens of the bytes
 
@@ -402,7 +424,7 @@ refusal_cause o r bytes a none x e = go x e
     go (fault.Group k x) e = cause.group (in_told _ (refused_later bytes (fault.Group k x) (λ ts. HasGroupFault ts k x) (omega arith) (λ ts p i j. group_cause ts p i k x j) e))
     go (fault.Query k) e = cause.query (in_told _ (refused_later bytes (fault.Query k) (λ ts. HasQueryFault ts k) (omega arith) (λ ts p i j. query_cause ts p i k j) e))
     go (fault.Room need) e = cause.script_room (subst (λ (f : Option File). IsNone f) (sym none) refl) (in_told (λ bs. IsFull most_pool bs need) e)
-    go fault.Unbuilt e = cause.unbuilt (in_told _ (refused_later bytes fault.Unbuilt (λ ts. HasStep ts) (omega arith) (λ ts p i j. unbuilt_cause ts p i j) e))
+    go fault.Unbuilt e = cause.unbuilt (in_told _ (refused_later bytes fault.Unbuilt (λ ts. HasStep ts ⊎ HasCertificate ts) (omega arith) (λ ts p i j. unbuilt_cause ts p i j) e))
     go fault.OutOfMemory e = cause.memory
 
 -- more queries are closed than there may be steps
@@ -452,24 +474,26 @@ script_cause_of o r f steps s t w = go w.walk.left w.walk.split w.walk.ends
     count : length r.steps.items ≡ length w.walk.proof
     count = ap length w.steps ∙ (length-map r.trail.items (λ e. e.step) ∙ (sym (length-map r.trail.items (entry_in r.work.pool.trees)) ∙ (ap length w.trail ∙ length-map w.walk.proof entry_of)))
 
-    closed : (qs : List Tree) → queries_in (declared_in r) ≡ qs → steps ≡ map (λ t. t.step) w.walk.proof ++ [] → r.status ≡ unclosed qs → ComesFrom o r r.status
-    closed [] q i e =
-        subst (ComesFrom o r) (sym e) (cause.all_proved (ap (list_all is_proved) (w.verdicts ∙ ap (map open_verdict) q)))
-    closed (x ∷ qs) q i e =
-        let asked : HasOpenQuery r f 1 = record {
+    qs : List Tree
+    qs = queries_in (declared_in r)
+
+    closed : (unclosed : Option ℕ) → first_open (closed_by w.walk.proof) 1 qs ≡ unclosed → steps ≡ map (λ t. t.step) w.walk.proof ++ [] → r.status ≡ ended_with unclosed → ComesFrom o r r.status
+    closed None q i e =
+        subst (ComesFrom o r) (sym e) (cause.all_proved (ap (list_all is_proved) w.verdicts ∙ all-proved w.walk.proof qs q))
+    closed (Some k) q i e =
+        let asked : HasOpenQuery r f k = record {
           steps = steps;
           there = t;
           proof = w.walk.proof;
           all = i ∙ append-nil (map (λ t. t.step) w.walk.proof);
           last = w.walk.last;
           leads = w.walk.leads;
-          first = refl;
-          some = (let l = ap length q in omega arith);
+          first = q;
         } in
-        subst (ComesFrom o r) (sym e) (cause.no_close (there (λ (g : File). HasOpenQuery r g 1) asked))
+        subst (ComesFrom o r) (sym e) (cause.no_close (there (λ (g : File). HasOpenQuery r g k) asked))
 
-    go : (left : List Tree) → steps ≡ map (λ t. t.step) w.walk.proof ++ left → EndsScript (nodes_in r f + nodes_along (game_in r f) w.walk.proof) (length w.walk.proof) (scene (declared_in r) (known_to r.work.decls.own) w.walk.last) (queries_in (declared_in r)) left r.status → ComesFrom o r r.status
-    go [] i e = closed (queries_in (declared_in r)) refl i e
+    go : (left : List Tree) → steps ≡ map (λ t. t.step) w.walk.proof ++ left → EndsScript (nodes_in r f + nodes_along (game_in r f) w.walk.proof) (length w.walk.proof) (scene (declared_in r) (known_to r.work.decls.own) w.walk.last) (closed_by w.walk.proof) qs left r.status → ComesFrom o r r.status
+    go [] i e = closed (first_open (closed_by w.walk.proof) 1 qs) refl i e
     go (next ∷ left) i e =
         let stop : HasStop r f r.status = record {
           steps = steps;

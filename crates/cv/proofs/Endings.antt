@@ -1,5 +1,5 @@
 -- How runs end.
-use Rattle.std.proofs.Common.{◌≡◌, ℕ, ◌+◌, ◌<◌, ◌≤◌, arith, refl, ap, Bool, true, false, List, [], ◌∷◌, ◌++◌, length, map, take, Option, Some, None, Result, Ok, Err, sym, ◌∙◌, subst, ◌⊎◌, inl, inr}
+use Rattle.std.proofs.Common.{◌≡◌, ℕ, ◌+◌, ◌<◌, ◌≤◌, arith, refl, ap, Bool, true, false, List, [], ◌∷◌, ◌++◌, length, map, take, Option, Some, None, Result, Ok, Err, sym, ◌∙◌, subst, ◌⊎◌, inl, inr, append-nil}
 use Rattle.std.specs.Prelude.{IfSome, IsNone, IsSome, MatchOption, slice_get, ◌≢◌}
 use Rattle.cv_outside.specs.Causes.{NoFault, Rose}
 use Rattle.cv_outside.specs.Told.{Files, bytes_of}
@@ -18,12 +18,12 @@ use Rattle.cv_query_form.specs.Queries.{queries_in}
 use Rattle.cv_accept.proofs.Readings.{file_is_read, full_content}
 use Rattle.cv_parse_script.proofs.Steps.{items_nodes}
 use Rattle.std.proofs.lemmas.List.{length-map}
-use Rattle.cv_kernel.specs.Proofs.{nodes_along}
+use Rattle.cv_kernel.specs.Proofs.{closed_by, nodes_along}
 use Rattle.cv_scenes.specs.Scenes.{Scene}
 use Rattle.cv_steps.specs.Sequences.{scene}
 use Rattle.cv_report.specs.declared.report.Which.TheVariants.{Depth, File, Nodes, Pool, Steps}
-use Rattle.cv.specs.Scripts.{EndsScript, Follows, Stops, known_to, no_room, refused, too_deep, too_large, too_many, unclosed}
-use Rattle.cv.proofs.Walking.{Goes, chain_of, goes_on, never_stops}
+use Rattle.cv.specs.Scripts.{EndsScript, Follows, Stops, ended_with, first_open, known_to, no_room, refused, too_deep, too_large, too_many}
+use Rattle.cv.proofs.Walking.{Goes, chain_of, closed-same, goes_on, never_stops}
 use Rattle.cv_report.specs.declared.report.Status.{Status}
 use Rattle.cv_report.specs.declared.report.Status.TheVariants as status
 use Rattle.cv_report.specs.declared.report.Report.{Report}
@@ -50,13 +50,15 @@ use Rattle.cv.proofs.Verdicts.{judged_fault}
 script_proved : (s : Status) (f : Content) (steps : List Tree) → AcceptsAll f steps → Follows (content_nodes f) f.declarations f.own f.game steps (queries_in f.declarations) s → s ≡ status.Proved
 script_proved s f steps g w = go w.left w.split w.ends
   where
-    go : (left : List Tree) → steps ≡ map (λ t. t.step) w.proof ++ left → EndsScript (content_nodes f + nodes_along f.game w.proof) (length w.proof) (scene f.declarations (known_to f.own) w.last) (queries_in f.declarations) left s → s ≡ status.Proved
-    go [] i e = e ∙ ap unclosed g.none
+    go : (left : List Tree) → steps ≡ map (λ t. t.step) w.proof ++ left → EndsScript (content_nodes f + nodes_along f.game w.proof) (length w.proof) (scene f.declarations (known_to f.own) w.last) (closed_by w.proof) (queries_in f.declarations) left s → s ≡ status.Proved
+    go [] i e =
+        let same = closed-same w.proof g.proof (sym (append-nil (map (λ t. t.step) w.proof)) ∙ (sym i ∙ g.all)) in
+        e ∙ ap ended_with (ap (λ ks. first_open ks 1 (queries_in f.declarations)) same ∙ g.closed)
     go (next ∷ left) i e =
         let c = chain_of f.declarations (known_to f.own) f.game w.proof w.last w.leads in
         let d = chain_of f.declarations (known_to f.own) f.game g.proof g.last g.leads in
-        let on = goes_on f.declarations (known_to f.own) f.game w.proof g.proof next left c.0 d.0 (sym i ∙ g.all) in
-        let here = subst (λ t. Goes f.declarations (known_to f.own) t w.proof g.proof next f.game) c.1 on in
+        let on = goes_on f.declarations (known_to f.own) [] f.game w.proof g.proof next left c.0 d.0 (sym i ∙ g.all) in
+        let here = subst (λ t. Goes f.declarations (known_to f.own) [] t w.proof g.proof next f.game) c.1 on in
         let few : length g.proof ≤ most_steps = (let l = g.few in let m = ap length g.all ∙ length-map g.proof (λ t. t.step) in omega arith) in
         absurd (never_stops f.declarations f.own (content_nodes f) f.game w.last w.proof g.proof next s here few g.fits e)
 
@@ -126,24 +128,24 @@ course_speaks taken game qs s c = go c.left c.ends
 
 -- a script stops by a status that speaks of its file
 
-stop_speaks : (taken count : ℕ) (sc : Scene) (step : Tree) (s : Status) → Stops taken count sc step s → SpeaksOfFile s
-stop_speaks taken count sc step s (too_many l) = tt
-stop_speaks taken count sc step s (refused c p l e) = tt
-stop_speaks taken count sc step s (too_large n l e) = tt
-stop_speaks taken count sc step s (too_deep n l e) = tt
-stop_speaks taken count sc step s (no_room n l e) = tt
+stop_speaks : (taken count : ℕ) (sc : Scene) (ks : List ℕ) (step : Tree) (s : Status) → Stops taken count sc ks step s → SpeaksOfFile s
+stop_speaks taken count sc ks step s (too_many l) = tt
+stop_speaks taken count sc ks step s (refused c p l e) = tt
+stop_speaks taken count sc ks step s (too_large n l e) = tt
+stop_speaks taken count sc ks step s (too_deep n l e) = tt
+stop_speaks taken count sc ks step s (no_room n l e) = tt
 
-unclosed_speaks : (qs : List Tree) → SpeaksOfFile (unclosed qs)
-unclosed_speaks [] = tt
-unclosed_speaks (q ∷ qs) = tt
+ended_speaks : (o : Option ℕ) → SpeaksOfFile (ended_with o)
+ended_speaks None = tt
+ended_speaks (Some k) = tt
 
 ends_speak : (f : Content) (script : Option (List Tree)) (s : Status) → EndsBy f script s → SpeaksOfFile s
 ends_speak f None s h = course_speaks (content_nodes f) f.game (queries_in f.declarations) s h
 ends_speak f (Some steps) s h = go h.left h.ends
   where
-    go : (left : List Tree) → EndsScript (content_nodes f + nodes_along f.game h.proof) (length h.proof) (scene f.declarations (known_to f.own) h.last) (queries_in f.declarations) left s → SpeaksOfFile s
-    go [] e = subst SpeaksOfFile (sym e) (unclosed_speaks (queries_in f.declarations))
-    go (next ∷ left) e = stop_speaks _ _ _ next s e
+    go : (left : List Tree) → EndsScript (content_nodes f + nodes_along f.game h.proof) (length h.proof) (scene f.declarations (known_to f.own) h.last) (closed_by h.proof) (queries_in f.declarations) left s → SpeaksOfFile s
+    go [] e = subst SpeaksOfFile (sym e) (ended_speaks (first_open (closed_by h.proof) 1 (queries_in f.declarations)))
+    go (next ∷ left) e = stop_speaks _ _ _ _ next s e
 
 refusal_speaks : (x : FileError) → (ended_by x ≡ status.Memory) ⊎ SpeaksOfFile (ended_by x)
 refusal_speaks (fault.Lex x) = inr tt

@@ -16,7 +16,8 @@ use Rattle.cv_bound.specs.Values.{sum_value}
 use Rattle.cv_meaning.specs.Advantage.{chance_of}
 use Rattle.cv_meaning.specs.Chances.{AtMost, distance}
 use Rattle.cv_meaning.specs.Interpretation.{setting_of}
-use Rattle.cv_kernel.specs.Proofs.{IsProof, Transition, push, start}
+use Rattle.cv_kernel.specs.Closings.{Closing, closing_failure, closing_in, judgement_by_closing, judgement_of_failure}
+use Rattle.cv_kernel.specs.Proofs.{IsProof, IsTransition, Transition, closed_by, push, start}
 use Rattle.cv_kernel.specs.Steps.{judgement_by, step_in}
 use Rattle.cv_parse.proofs.Exactness.{says_is_said}
 use Rattle.cv_parse_terminals.specs.Signs.{signs_of}
@@ -33,17 +34,19 @@ use Rattle.cv_sequences.proofs.Asked.{choices_valued}
 use Rattle.cv_sequences.proofs.Sums.{within}
 use Rattle.cv_steps.specs.Costs.{cost_of}
 use Rattle.cv_steps.specs.Judgements.{Accepted}
-use Rattle.cv_scenes.specs.Scenes.{KnowsQueries}
+use Rattle.cv_query_certificates.specs.Failures.{Failure}
+use Rattle.cv_scenes.specs.Scenes.{KnowsQueries, Scene}
 use Rattle.cv_steps.specs.Sequences as steps
 use Rattle.cv_steps.specs.Sequences.{IsSequence, Passage, scene}
-use Rattle.cv_steps.specs.Steps.{Cost, Step as StepTree}
+use Rattle.cv_steps.specs.Steps.{Cost, Zero, Step as StepTree}
 use Rattle.cv_typing.specs.Parts.{IsTypedFile}
 use Rattle.cv_typing_runs.specs.Games.{HasConstants}
 use Rattle.cv_derivations_under.specs.Holding.{IsReady}
 use Rattle.cv_derivations_under.specs.Soundness.{DerivationsHold, DerivedBodiesAreUnreached}
 use Rattle.cv.specs.Games.{HasCloseGames, IsWithin, summed}
 use Rattle.cv.specs.Runs.{Runs}
-use Rattle.cv.specs.Scripts.{entry_in, entry_of, known_to}
+use Rattle.cv.specs.Scripts.{entry_in, entry_of, game_behind, known_to}
+use Rattle.cv.proofs.Closings.{nothing-more}
 use Rattle.cv.proofs.Ready.{game_ready}
 use Rattle.cv.specs.Strategy.{FollowsScript, Proceeds, declared_in, file_in, game_in, steps_in}
 
@@ -78,34 +81,93 @@ module _ (ds : List Declaration) (known : ℕ → Bool) (first : Tree) where
     | inr h ↦ subst (λ xs. IsProof ds known first xs u.next) (sym (take_front before t (k + 1) (omega (arith, h.0)))) (front before game p k u h.1)
   ]
 
+  take_all : {A : Type 0} (xs : List A) (x : A) (k : ℕ) → k ≡ length xs → take k (xs ++ x ∷ []) ≡ xs
+  take_all xs x k e = take_front xs x k (omega arith) ∙ whole xs k e
+    where
+      whole : {A : Type 0} (ys : List A) (j : ℕ) → j ≡ length ys → take j ys ≡ ys
+      whole [] zero e = refl
+      whole [] (suc j) e = absurd (omega arith)
+      whole (y ∷ ys) zero e = absurd (omega arith)
+      whole (y ∷ ys) (suc j) e = ap (λ zs. y ∷ zs) (whole ys j (omega arith))
+
+  -- a transition of a proof, in the game that those before it lead to
+  pub record StandsIn (ts : List Transition) (k : ℕ) (u : Transition) : Type 0 where
+    pub game : Tree
+    pub before : IsProof ds known first (take k ts) game
+    pub here : IsTransition ds known (closed_by (take k ts)) game u
+
+  pub stands_in : (ts : List Transition) (last : Tree) → IsProof ds known first ts last → (k : ℕ) (u : Transition) → slice_get ts k ≡ Some u → StandsIn ts k u
+  stands_in ts last start k u e = absurd (cc)
+  stands_in ts last (push before game t p i) k u e = elim (at_last before t u k e) as (λ _. StandsIn (before ++ t ∷ []) k u) [
+    | inl h ↦ record {
+        game = game;
+        before = subst (λ xs. IsProof ds known first xs game) (sym (take_all before t k h.0)) p;
+        here = subst (λ x. IsTransition ds known (closed_by (take k (before ++ t ∷ []))) game x) (sym h.1) (subst (λ xs. IsTransition ds known (closed_by xs) game t) (sym (take_all before t k h.0)) i);
+      }
+    | inr h ↦
+        let s = stands_in before game p k u h.1 in
+        record {
+          game = s.game;
+          before = subst (λ xs. IsProof ds known first xs s.game) (sym (take_front before t k (omega (arith, h.0)))) s.before;
+          here = subst (λ xs. IsTransition ds known (closed_by xs) s.game u) (sym (take_front before t k (omega (arith, h.0)))) s.here;
+        }
+  ]
+
   -- a proof is a sequence of games, with the same costs
 
   accepted_step : (game : Tree) (o : Option StepTree) (next : Tree) (c : Cost) → judgement_by (scene ds known game) o ≡ Accepted next c → (x : StepTree) × (o ≡ Some x)
   accepted_step game None next c e = absurd (cc)
   accepted_step game (Some x) next c e = (x, refl)
 
-  pub record HasPassages (ts : List Transition) (last : Tree) : Type 0 where
-    pub passages : List Passage
-    pub sequence : IsSequence ds known first passages last
-    pub costs : map cost_of (costs_of passages) ≡ map (λ t. t.cost) ts
+  -- a step that closes a query keeps the game, and costs nothing
+  pub closed_step : (s : Scene) (o : Option Failure) (next : Tree) (c : Cost) → judgement_of_failure s o ≡ Accepted next c → (next ≡ s.game) × (c ≡ Zero) × (o ≡ None)
+  closed_step s None next c e = (cc, cc, refl)
+  closed_step s (Some f) next c e = absurd (cc)
 
-  pub passages_of : (ts : List Transition) (last : Tree) → IsProof ds known first ts last → HasPassages ts last
-  passages_of ts last start = record { passages = []; sequence = steps.start; costs = refl }
-  passages_of ts last (push before game t p i) =
-      let h = passages_of before game p in
-      let x = accepted_step game (step_in t.step) t.next i.cost i.accepted in
-      let one : Passage = record { step = x.0; cost = i.cost; next = t.next } in
-      record {
-        passages = h.passages ++ one ∷ [];
-        sequence = steps.push h.passages game one h.sequence (ap (judgement_by (scene ds known game)) (sym x.1) ∙ i.accepted);
-        costs = ap (map cost_of) (map-append (λ q. q.cost) h.passages (one ∷ []))
-            ∙ (map-append cost_of (costs_of h.passages) (i.cost ∷ []) ∙ (ap₂ (λ cs c. cs ++ c ∷ []) h.costs (sym i.costs) ∙ sym (map-append (λ q. q.cost) before (t ∷ []))));
-      }
+  -- a cost more
 
-  summed_up : (sum : List Term) (cs : List Cost) → added_up sum cs false ≡ summed sum (map cost_of cs)
+  summed-put : (sum : List Term) (cs : List SumCost) (c : SumCost) → summed sum (cs ++ c ∷ []) ≡ added (summed sum cs) c false
+  unfolding summed
+  summed-put sum [] c = refl
+  summed-put sum (d ∷ cs) c = summed-put (added sum d false) cs c
+
+  pub summed_up : (sum : List Term) (cs : List Cost) → added_up sum cs false ≡ summed sum (map cost_of cs)
   unfolding added_up summed
   summed_up sum [] = refl
   summed_up sum (c ∷ cs) = summed_up (added sum (cost_of c) false) cs
+
+  pub summed-on : (before : List Transition) (t : Transition) → summed [] (map (λ x. x.cost) (before ++ t ∷ [])) ≡ added (summed [] (map (λ x. x.cost) before)) t.cost false
+  summed-on before t = ap (summed []) (map-append (λ x. x.cost) before (t ∷ [])) ∙ summed-put [] (map (λ x. x.cost) before) t.cost
+
+  -- the steps that change games are a sequence, with the same sum
+  pub record HasPassages (ts : List Transition) (last : Tree) : Type 0 where
+    pub passages : List Passage
+    pub sequence : IsSequence ds known first passages last
+    pub sums : summed [] (map cost_of (costs_of passages)) ≡ summed [] (map (λ t. t.cost) ts)
+
+  passage_more : (before : List Transition) (game : Tree) (t : Transition) → HasPassages before game → (o : Option Closing) → closing_in t.step ≡ o → (cost : Cost) → judgement_by_closing (scene ds known game) (closed_by before) t.step o ≡ Accepted t.next cost → t.cost ≡ cost_of cost → HasPassages (before ++ t ∷ []) t.next
+  passage_more before game t h None n cost e c =
+      let x = accepted_step game (step_in t.step) t.next cost e in
+      let one : Passage = record { step = x.0; cost = cost; next = t.next } in
+      record {
+        passages = h.passages ++ one ∷ [];
+        sequence = steps.push h.passages game one h.sequence (ap (judgement_by (scene ds known game)) (sym x.1) ∙ e);
+        sums = ap (λ cs. summed [] (map cost_of cs)) (map-append (λ q. q.cost) h.passages (one ∷ []))
+            ∙ (ap (summed []) (map-append cost_of (costs_of h.passages) (cost ∷ []))
+            ∙ (summed-put [] (map cost_of (costs_of h.passages)) (cost_of cost)
+            ∙ (ap₂ (λ sum k. added sum k false) h.sums (sym c) ∙ sym (summed-on before t))));
+      }
+  passage_more before game t h (Some d) n cost e c =
+      let k = closed_step (scene ds known game) (closing_failure (scene ds known game) (closed_by before) d) t.next cost e in
+      record {
+        passages = h.passages;
+        sequence = subst (IsSequence ds known first h.passages) (sym k.0) h.sequence;
+        sums = h.sums ∙ (sym (nothing-more (summed [] (map (λ x. x.cost) before))) ∙ (ap (λ z. added (summed [] (map (λ x. x.cost) before)) z false) (sym (c ∙ ap cost_of k.1)) ∙ sym (summed-on before t)));
+      }
+
+  pub passages_of : (ts : List Transition) (last : Tree) → IsProof ds known first ts last → HasPassages ts last
+  passages_of ts last start = record { passages = []; sequence = steps.start; sums = refl }
+  passages_of ts last (push before game t p i) = passage_more before game t (passages_of before game p) (closing_in t.step) refl i.cost i.accepted i.costs
 
   -- so no adversary tells its games
   module _ (w : IsReady ds first) (constants : HasConstants ds) (holds : DerivationsHold ds) (unreached : DerivedBodiesAreUnreached ds) (k : KnowsQueries (scene ds known first)) (typed : IsTypedFile ds first) (asked : AreAsked first (queries_in ds)) where
@@ -113,7 +175,7 @@ module _ (ds : List Declaration) (known : ℕ → Bool) (first : Tree) where
     close ts last p = λ i sat x q a advantages.
         let h = passages_of ts last p in
         subst (λ s. AtMost (distance (chance_of (setting_of ds i) x a first) (chance_of (setting_of ds i) x a last)) (sum_value i advantages s))
-        (summed_up [] (costs_of h.passages) ∙ ap (summed []) h.costs)
+        (summed_up [] (costs_of h.passages) ∙ h.sums)
         (within ds known first w constants holds unreached k i sat x q (choices_valued ds first w.formed.phrase typed w.sorts asked i sat x q) a advantages h.passages last h.sequence)
 
 -- the trail of a report
@@ -134,8 +196,14 @@ same_costs trees (x ∷ es) (t ∷ ts) (suc n) m =
     let f : entry_in trees x ≡ entry_of t = cc in
     ap₂ (λ c cs. c ∷ cs) (ap (λ (y : Tree × SumCost × Option Tree). y.1) f) (same_costs trees es ts n (cc))
 
+next_behind : (c : Option Closing) (t g : Tree) → game_behind c t ≡ Some g → t ≡ g
+next_behind None t g e = cc
+next_behind (Some d) t g e = absurd (cc)
+
 next_tree : (trees : List KindTree) (e : Entry) (t : Transition) (g : Game) → entry_in trees e ≡ entry_of t → e.next ≡ Some g → t.next ≡ tree_at trees (Some g.root)
-next_tree trees e t g m n = let f = sym (ap (λ (y : Tree × SumCost × Option Tree). y.2) m) ∙ ap (option_map (λ h. tree_at trees (Some h.root))) n in cc
+next_tree trees e t g m n =
+    next_behind (closing_in t.step) t.next (tree_at trees (Some g.root))
+    (sym (ap (λ (y : Tree × SumCost × Option Tree). y.2) m) ∙ ap (option_map (λ h. tree_at trees (Some h.root))) n)
 
 none_next : (ss : List Step) (k : ℕ) (e : Entry) (g : Game) → slice_get (map closing ss) k ≡ Some e → e.next ≡ Some g → ⊥
 none_next [] k e g h n = cc
@@ -144,17 +212,17 @@ none_next (s ∷ ss) (suc k) e g h n = none_next ss k e g h n
 
 module _ (holds : (ds : List Declaration) → DerivationsHold ds) (unreached : (ds : List Declaration) → DerivedBodiesAreUnreached ds) (c : Content) (f : File) (r : Report) (bytes : List ℕ) (reads : read_of most_pool bytes ≡ Ok c) where
   -- what a file has that the law asks for
-  knows : KnowsQueries (scene c.declarations (known_to c.own) c.game)
+  pub knows : KnowsQueries (scene c.declarations (known_to c.own) c.game)
   knows =
       let w = read_is_file most_pool bytes c reads in
       subst (λ d. KnowsQueries (scene d.declarations (known_to d.own) d.game)) (sym w.content) (queries_known most_pool w.tokens w.said w.says)
 
-  ready : IsReady c.declarations c.game
+  pub ready : IsReady c.declarations c.game
   ready =
       let w = read_is_file most_pool bytes c reads in
       subst (λ d. IsReady d.declarations d.game) (sym w.content) (game_ready most_pool (signs_of w.tokens).signs w.said (says_is_said most_pool (signs_of w.tokens).signs w.said w.says) w.typed w.scoped)
 
-  constants : HasConstants c.declarations
+  pub constants : HasConstants c.declarations
   constants =
       let w = read_is_file most_pool bytes c reads in
       subst (λ d. HasConstants d.declarations) (sym w.content) (constants_declared most_pool (signs_of w.tokens).signs w.said (says_is_said most_pool (signs_of w.tokens).signs w.said w.says))

@@ -1,15 +1,12 @@
 -- Scripts that are followed, step by step.
-use Rattle.std.proofs.Common.{◌≡◌, ℕ, zero, suc, ◌+◌, ◌<◌, ◌≤◌, true, false, List, [], ◌∷◌, ◌++◌, length, length-append, map, drop, take, refl, ap, ap₂, sym, ◌∙◌, subst, arith, append-nil, append_assoc, get_or, Option, Some, None, is_some, option_and_then, Ok, Err}
+use Rattle.std.proofs.Common.{◌≡◌, ℕ, zero, suc, ◌+◌, ◌<◌, ◌≤◌, false, List, [], ◌∷◌, ◌++◌, length, length-append, map, drop, take, refl, ap, ap₂, sym, ◌∙◌, subst, arith, append-nil, append_assoc, get_or, Option, Some, None, option_and_then, Ok, Err}
 use Rattle.std.proofs.lemmas.List.{map-append, map_more, drop_more}
-use Rattle.std.specs.Prelude.{All, IfSome, option_map, slice_get, slice_index_or}
+use Rattle.std.specs.Prelude.{All, IfSome, option_map, slice_index_or}
 use Rattle.std.proofs.lemmas.List.Elements.{All-cons, All-nil}
 use Rattle.cv_pool.specs.KindTree.{KindTree}
 use Rattle.cv_pool.specs.PoolView.{PoolView, Grows}
 use Rattle.cv_pool.proofs.Growth.{Grows-length}
-use Rattle.cv_lists.proofs.Options.{some_from_is_some}
-use Rattle.cv_pool.specs.declared.node.NodeId.{NodeId}
-use Rattle.cv_syntax.specs.declared.decls.Decl.{Decl}
-use Rattle.cv_syntax.specs.Classes.{DeclsView, queries, query_of}
+use Rattle.cv_syntax.specs.Classes.{DeclsView, queries}
 use Rattle.cv_syntax.specs.declared.work.BuildError.TheVariants as build
 use Rattle.cv_syntax.specs.declared.work.Game.{Game}
 use Rattle.cv_syntax.specs.Declarations.{Declaration, declarations}
@@ -19,19 +16,21 @@ use Rattle.cv_parse_script.specs.Scripts.{trees_of}
 use Rattle.cv_syntax.specs.declared.work.Work.{Work}
 use Rattle.cv_accept.proofs.Blocks.{declarations-grown, root-grown}
 use Rattle.cv_bound.specs.declared.cost.Cost.{Cost}
+use Rattle.cv_bound.specs.declared.cost.Cost.TheVariants as bound
+use Rattle.cv_bound.specs.Sums.{added}
 use Rattle.cv_kernel.specs.declared.error.PushError.{PushError}
 use Rattle.cv_kernel.specs.declared.error.PushError.TheVariants as fault
 use Rattle.cv_kernel.specs.declared.sequence.Sequence.{Sequence}
-use Rattle.cv_kernel.specs.Proofs.{IsProof, IsTransition, Transition, nodes_along, push, start}
+use Rattle.cv_kernel.specs.Closings.{Closing, closing_failure, closing_in, closing_of_items, judgement_by_closing, judgement_in, judgement_of_failure}
+use Rattle.cv_kernel.specs.Proofs.{IsProof, IsTransition, Transition, closed_by, nodes_along, push, start, sum_behind, sum_of}
 use Rattle.cv_kernel.specs.Rules.{IsDrawn}
 use Rattle.cv_steps.specs.Costs.{cost_of}
 use Rattle.cv_kernel.specs.Sequences as kernel
-use Rattle.cv_kernel.specs.Sequences.{IsPushed, needed}
-use Rattle.cv_kernel.specs.Steps.{judgement_at}
-use Rattle.cv_plain.specs.Strategy.{most_pool, open_verdict}
-use Rattle.cv_plain.proofs.QueryLists.{queries-past, queries-skip, queries-take}
-use Rattle.cv_report.specs.declared.report.Cause.TheVariants.{NoClose}
-use Rattle.cv_report.specs.declared.report.Status.TheVariants as status
+use Rattle.cv_kernel.specs.Sequences.{IsPushed, needed, needed_by}
+use Rattle.cv_kernel.specs.Steps.{judgement_at, step_of_items}
+use Rattle.cv_script.specs.Views.{StepItems, items_of_step}
+use Rattle.cv_script.specs.Views as items
+use Rattle.cv_plain.specs.Strategy.{most_pool}
 use Rattle.cv_syntax.specs.declared.work.File.{File}
 use Rattle.cv_accept.specs.Accepted.{Content}
 use Rattle.cv_accept.specs.Works.{content_nodes}
@@ -39,19 +38,20 @@ use Rattle.cv_bound.specs.declared.terms.Term.{Term}
 use Rattle.cv_query_form.specs.Queries.{queries_in}
 use Rattle.cv_report.specs.declared.report.Report.{Report}
 use Rattle.cv_report.specs.declared.report.Verdict.{Verdict}
-use Rattle.cv_report.specs.declared.report.Verdict.TheVariants.{Proved}
 use Rattle.cv_report.specs.declared.report.Entry.{Entry}
 use Rattle.cv_report.specs.declared.report.Status.{Status}
 use Rattle.cv_report.specs.Text.{EntryLive}
 use Rattle.cv_script.specs.declared.steps.Step.{Step}
 use Rattle.cv_scenes.specs.Scenes.{Scene}
 use Rattle.cv_steps.specs.Sequences.{scene}
-use Rattle.cv_steps.specs.Judgements.{Judgement}
-use Rattle.cv.specs.Scripts.{EndsScript, Follows, Stops, entry_in, entry_of, known_to, no_room, refused, too_deep, too_large, too_many, unclosed}
+use Rattle.cv_query_certificates.specs.Failures.{Failure}
+use Rattle.cv_steps.specs.Judgements.{Accepted, Judgement}
+use Rattle.cv_steps.specs.Steps.{Zero}
+use Rattle.cv.specs.Scripts.{EndsScript, Follows, Stops, ended_with, entry_in, entry_of, first_open, game_behind, known_to, no_room, refused, too_deep, too_large, too_many, verdicts_by, verdicts_of}
 use Rattle.cv.specs.declared.follow.Walk.{Walk}
-use Rattle.cv.specs.Walks.{HasFollowed, IsNoted, IsWalk, stop_of}
-use Rattle.cv.specs.Runs.{IsSoundFor}
-use Rattle.cv.specs.Strategy.{MayHaveFile, Proceeds, declared_in, file_in, steps_in}
+use Rattle.cv.specs.Walks.{HasFollowed, IsNoted, IsWalk, closed_before, first_unproved, next_of, stop_of}
+use Rattle.cv.specs.Strategy.{MayHaveFile, Proceeds, file_in, steps_in}
+use Rattle.cv.proofs.Closings.{closings-put, nothing-more, numbers-same, sum-put, sums-same, unproved-same, verdicts-map, verdicts-same}
 use Rattle.cv.proofs.Walking.{chain_of, nodes-append}
 
 some : {A : Type 0} {x y : A} → Some x ≡ Some y → x ≡ y
@@ -88,82 +88,185 @@ on_none P None e = tt
 on_none P (Some x) e = absurd (cc)
 
 -- no step was taken
-pub followed_none : (before : ℕ) (ds : List Declaration) (own : ℕ) (trees : List KindTree) (s : Sequence) (trail : List Entry) (first : Tree) → trail ≡ [] → s.steps ≡ 0 → length trees ≤ before → kernel.game_in trees s ≡ first → HasFollowed before ds own first [] trees s trail
-followed_none before ds own trees s trail first e c l g = record {
+pub followed_none : (before : ℕ) (ds : List Declaration) (own : ℕ) (trees : List KindTree) (s : Sequence) (trail : List Entry) (first : Tree) → trail ≡ [] → s.steps ≡ 0 → s.sum ≡ [] → s.closed.items ≡ [] → length trees ≤ before → kernel.game_in trees s ≡ first → HasFollowed before ds own first [] trees s trail
+followed_none before ds own trees s trail first e c m k l g = record {
   proof = [];
   steps = refl;
   leads = subst (λ t. IsProof ds (known_to own) first [] t) (sym g) start;
   entries = ap (map (entry_in trees)) e;
   count = c;
+  sum = m;
+  closed = k;
   nodes = omega arith;
   live = subst (All (EntryLive (length trees))) (sym e) (All-nil (EntryLive (length trees)));
 }
 
 module _ (before : ℕ) (ds : List Declaration) (own : ℕ) (first : Tree) (old new : PoolView) (decls : DeclsView) (is_ds : declarations old.trees decls.list ≡ ds) (is_own : decls.own ≡ own) where
-  -- the judgement of a step in the scene of the code
-  there : (s : Sequence) (step : Tree) (j : Judgement) → judgement_at (scene (declarations old.trees decls.list) (known_to decls.own) (kernel.game_in old.trees s)) step ≡ j → judgement_at (scene ds (known_to own) (kernel.game_in old.trees s)) step ≡ j
-  there s step j e = ap₂ (λ (x : List Declaration) (n : ℕ). judgement_at (scene x (known_to n) (kernel.game_in old.trees s)) step) (sym is_ds) (sym is_own) ∙ e
+  abbrev code_scene : Sequence → Scene
+  code_scene s = scene (declarations old.trees decls.list) (known_to decls.own) (kernel.game_in old.trees s)
 
-  -- one step more was accepted
-  pub followed_more : (front : List Tree) (s t : Sequence) (trail after : List Entry) (step : Step) (tree : Tree) (u : Unit {0}) → HasFollowed before ds own first front old.trees s trail → IsPushed old decls new.trees s t tree (Ok u) → IsNoted t step trail after → Grows old new
-      → tree_at new.trees (Some step.0) ≡ tree → step.0.0 < length new.trees → t.game.root.0 < length new.trees → length new.trees ≤ length old.trees + needed (kernel.game_in old.trees s) tree → HasFollowed before ds own first (front ++ tree ∷ []) new.trees t after
-  followed_more front s t trail after step tree u h p n g is live_step live_game few =
-      let w = p.1 in
-      let cost : n.entry.cost ≡ cost_of w.cost = some (sym n.cost ∙ w.costs) in
+  abbrev file_scene : Sequence → Scene
+  file_scene s = scene ds (known_to own) (kernel.game_in old.trees s)
+
+  scenes : (s : Sequence) → code_scene s ≡ file_scene s
+  scenes s = ap₂ (λ (x : List Declaration) (n : ℕ). scene x (known_to n) (kernel.game_in old.trees s)) is_ds is_own
+
+  -- the judgement of a step in the scene of the code: of one that closes no query, and of one that closes one
+
+  changes : (s : Sequence) (ks : List ℕ) (step : Tree) (j : Judgement) → closing_in step ≡ None → judgement_at (code_scene s) step ≡ j → judgement_in (file_scene s) ks step ≡ j
+  changes s ks step j n e = ap (judgement_by_closing (file_scene s) ks step) n ∙ (ap (λ x. judgement_at x step) (sym (scenes s)) ∙ e)
+
+  closes : (s : Sequence) (ks : List ℕ) (step : Tree) (c : Closing) (o : Option Failure) → closing_in step ≡ Some c → kernel.closed_numbers s ≡ ks → closing_failure (code_scene s) (kernel.closed_numbers s) c ≡ o → judgement_in (file_scene s) ks step ≡ judgement_of_failure (file_scene s) o
+  closes s ks step c o i k e =
+      ap (judgement_by_closing (file_scene s) ks step) i
+      ∙ ap (judgement_of_failure (file_scene s)) (ap₂ (λ x ls. closing_failure x ls c) (sym (scenes s)) (sym k) ∙ e)
+
+  numbers : (front : List Tree) (s : Sequence) (trail : List Entry) (h : HasFollowed before ds own first front old.trees s trail) → kernel.closed_numbers s ≡ closed_by h.proof
+  numbers front s trail h = ap (map (λ x. x.query)) h.closed ∙ numbers-same [] h.proof
+
+  entry_live : (t : Sequence) (step : Step) (tree : Tree) (e : Entry) (c : Option Closing) → e.step ≡ step → e.next ≡ next_of c t.game → step.0.0 < length new.trees → t.game.root.0 < length new.trees → EntryLive (length new.trees) e
+  entry_live t step tree e c i j l m = (subst (λ (x : Step). x.0.0 < length new.trees) (sym i) l, subst (λ (o : Option Game). IfSome o (λ q. q.root.0 < length new.trees)) (sym j) (behind c))
+    where
+      behind : (c : Option Closing) → IfSome (next_of c t.game) (λ q. q.root.0 < length new.trees)
+      behind None = m
+      behind (Some d) = tt
+
+  entry_next : (t : Sequence) (c : Option Closing) → option_map (λ q. tree_at new.trees (Some q.root)) (next_of c t.game) ≡ game_behind c (kernel.game_in new.trees t)
+  entry_next t None = refl
+  entry_next t (Some d) = refl
+
+  -- what a step more leaves: how many steps, the sum, and what is closed
+  record Leaves (s t : Sequence) (tree : Tree) (ks : List ℕ) (cost : Cost) : Type 0 where
+    pub next : IsTransition ds (known_to own) ks (kernel.game_in old.trees s) (record { step = tree; cost = cost; next = kernel.game_in new.trees t })
+    pub steps : t.steps ≡ suc s.steps
+    pub sum : t.sum ≡ sum_behind s.sum (closing_in tree) cost
+    pub closed : t.closed.items ≡ s.closed.items ++ closed_before s.sum cost (closing_in tree) []
+
+  followed_put : (front : List Tree) (s t : Sequence) (trail after : List Entry) (step : Step) (tree : Tree) (h : HasFollowed before ds own first front old.trees s trail) (n : IsNoted t step tree trail after) → Leaves s t tree (closed_by h.proof) n.entry.cost → Grows old new → tree_at new.trees (Some step.0) ≡ tree → step.0.0 < length new.trees → t.game.root.0 < length new.trees
+      → length new.trees ≤ length old.trees + needed (kernel.game_in old.trees s) tree → HasFollowed before ds own first (front ++ tree ∷ []) new.trees t after
+  followed_put front s t trail after step tree h n v g is live_step live_game few =
       let one : Transition = record { step = tree; cost = n.entry.cost; next = kernel.game_in new.trees t } in
-      let next : IsTransition ds (known_to own) (kernel.game_in old.trees s) one = record { cost = w.cost; accepted = there s tree _ w.accepted; costs = cost } in
-      let entry : entry_in new.trees n.entry ≡ entry_of one = ap₂ (λ (x : Step) (o : Option Game). (tree_at new.trees (Some x.0), n.entry.cost, option_map (λ q. tree_at new.trees (Some q.root)) o)) n.taken n.next ∙ ap (λ x. (x, n.entry.cost, Some (kernel.game_in new.trees t))) is in
+      let entry : entry_in new.trees n.entry ≡ entry_of one =
+          ap₂ (λ (x : Step) (o : Option Game). (tree_at new.trees (Some x.0), n.entry.cost, option_map (λ q. tree_at new.trees (Some q.root)) o)) n.taken n.next
+          ∙ ap₂ (λ (x : Tree) (o : Option Tree). (x, n.entry.cost, o)) is (entry_next t (closing_in tree)) in
       let c = chain_of ds (known_to own) first h.proof (kernel.game_in old.trees s) h.leads in
       let l = Grows-length old new g in
       let lives = entries_more (length old.trees) (length new.trees) trail l h.live in
       record {
         proof = h.proof ++ one ∷ [];
         steps = ap (λ ts. ts ++ tree ∷ []) h.steps ∙ sym (map-append (λ x. x.step) h.proof (one ∷ []));
-        leads = push h.proof (kernel.game_in old.trees s) one h.leads next;
+        leads = push h.proof (kernel.game_in old.trees s) one h.leads v.next;
         entries = ap (map (entry_in new.trees)) n.put
             ∙ (map-append (entry_in new.trees) trail (n.entry ∷ [])
             ∙ (ap₂ (λ xs x. xs ++ x ∷ []) (entries_same old new trail g h.live ∙ h.entries) entry ∙ sym (map-append entry_of h.proof (one ∷ []))));
-        count = w.steps ∙ (ap suc h.count ∙ sym (length-append h.proof (one ∷ []) ∙ (let e : length h.proof + 1 ≡ suc (length h.proof) = omega arith in e)));
+        count = v.steps ∙ (ap suc h.count ∙ sym (length-append h.proof (one ∷ []) ∙ (let e : length h.proof + 1 ≡ suc (length h.proof) = omega arith in e)));
+        sum = v.sum ∙ (ap (λ x. sum_behind x (closing_in tree) n.entry.cost) h.sum ∙ sym (sum-put [] h.proof one));
+        closed = v.closed
+            ∙ (ap₂ (λ xs x. xs ++ closed_before x n.entry.cost (closing_in tree) []) h.closed h.sum ∙ sym (closings-put [] h.proof one));
         nodes = (let a = nodes-append first h.proof one in let m = h.nodes in let k = ap (λ x. needed x tree) c.1 in omega arith);
-        live = subst (All (EntryLive (length new.trees))) (sym n.put) (entries_put (length new.trees) trail n.entry lives (entry_live n.entry n.taken n.next));
+        live = subst (All (EntryLive (length new.trees))) (sym n.put) (entries_put (length new.trees) trail n.entry lives (entry_live t step tree n.entry (closing_in tree) n.taken n.next live_step live_game));
       }
-    where
-      entry_live : (e : Entry) → e.step ≡ step → e.next ≡ Some t.game → EntryLive (length new.trees) e
-      entry_live e i j = (subst (λ (x : Step). x.0.0 < length new.trees) (sym i) live_step, subst (λ (o : Option Game). IfSome o (λ q. q.root.0 < length new.trees)) (sym j) live_game)
 
-  -- a step isn't accepted
-  pub stops_at : (s t : Sequence) (trees : List KindTree) (step : Tree) (e : PushError) (taken : ℕ) (end : Status) → IsPushed old decls trees s t step (Err e) → stop_of e s.steps ≡ Some end → old.limit ≡ most_pool → length old.trees ≤ taken → Stops taken s.steps (scene ds (known_to own) (kernel.game_in old.trees s)) step end
-  stops_at s t trees step (fault.Refused f) taken end p i l m = subst (Stops taken s.steps _ step) (some i) (refused f.condition f.place p.0 (there s step _ p.1))
-  stops_at s t trees step fault.Steps taken end p i l m = subst (Stops taken s.steps _ step) (some i) (too_many p)
-  stops_at s t trees step (fault.Build (build.Nodes n)) taken end p i l m = subst (Stops taken s.steps _ step) (some i) (too_large n p.0 (there s step _ p.1))
-  stops_at s t trees step (fault.Build (build.Depth n)) taken end p i l m = subst (Stops taken s.steps _ step) (some i) (too_deep n p.0 (there s step _ p.1))
-  stops_at s t trees step (fault.Build (build.Full n)) taken end p i l m =
-      let r = p.1 in
-      let o = r.over in
-      subst (Stops taken s.steps _ step) (some i) (no_room n p.0 (record { drawn = subst IsDrawn (sym (there s step _ refl)) r.drawn; asks = r.asks; over = omega arith }))
-  stops_at s t trees step (fault.Build build.OutOfMemory) taken end p i l m = absurd (cc)
+  -- one that changes the game
+  change_leaves : (s t : Sequence) (tree : Tree) (ks : List ℕ) (cost : Cost) (u : Unit {0}) → closing_in tree ≡ None → t.cost ≡ Some cost → kernel.IsStepAnswer old decls new.trees s t tree None (Ok u) → Leaves s t tree ks cost
+  change_leaves s t tree ks cost u n m w =
+      let costs : cost ≡ cost_of w.cost = some (sym m ∙ w.costs) in
+      record {
+        next = record { cost = w.cost; accepted = changes s ks tree _ n w.accepted; costs = costs };
+        steps = w.steps;
+        sum = w.sum ∙ (ap (λ x. added s.sum x false) (sym costs) ∙ ap (λ c. sum_behind s.sum c cost) (sym n));
+        closed = w.closed ∙ (sym (append-nil s.closed.items) ∙ ap (λ c. s.closed.items ++ closed_before s.sum cost c []) (sym n));
+      }
+
+  -- one that closes a query
+  close_leaves : (s t : Sequence) (tree : Tree) (ks : List ℕ) (cost : Cost) (c : Closing) (u : Unit {0}) → closing_in tree ≡ Some c → kernel.closed_numbers s ≡ ks → t.cost ≡ Some cost → s.game.root.0 < length old.trees → Grows old new → kernel.IsStepAnswer old decls new.trees s t tree (Some c) (Ok u) → Leaves s t tree ks cost
+  close_leaves s t tree ks cost c u n k m l g w =
+      let costs : cost ≡ bound.Zero = some (sym m ∙ w.1.cost) in
+      let game : kernel.game_in new.trees t ≡ kernel.game_in old.trees s = ap (λ (q : Game). tree_at new.trees (Some q.root)) w.1.game ∙ root-grown old new s.game.root g l in
+      record {
+        next = record { cost = Zero; accepted = closes s ks tree c None n k w.0 ∙ ap (λ x. Accepted x Zero) (sym game); costs = costs };
+        steps = w.1.steps;
+        sum = w.1.sum ∙ ap (λ o. sum_behind s.sum o cost) (sym n);
+        closed = w.1.closed
+            ∙ (ap (λ x. s.closed.items ++ record { query = c.query; sum = x } ∷ []) (sym (nothing-more s.sum) ∙ ap (λ x. added s.sum x false) (sym costs))
+            ∙ ap (λ o. s.closed.items ++ closed_before s.sum cost o []) (sym n));
+      }
+
+  leaves_by : (s t : Sequence) (tree : Tree) (ks : List ℕ) (cost : Cost) (o : Option Closing) (u : Unit {0}) → closing_in tree ≡ o → kernel.closed_numbers s ≡ ks → t.cost ≡ Some cost → s.game.root.0 < length old.trees → Grows old new → kernel.IsStepAnswer old decls new.trees s t tree o (Ok u) → Leaves s t tree ks cost
+  leaves_by s t tree ks cost None u n k m l g w = change_leaves s t tree ks cost u n m w
+  leaves_by s t tree ks cost (Some c) u n k m l g w = close_leaves s t tree ks cost c u n k m l g w
+
+  -- one step more was accepted
+  pub followed_more : (front : List Tree) (s t : Sequence) (trail after : List Entry) (step : Step) (tree : Tree) (u : Unit {0}) → HasFollowed before ds own first front old.trees s trail → IsPushed old decls new.trees s t tree (Ok u) → IsNoted t step tree trail after → Grows old new
+      → tree_at new.trees (Some step.0) ≡ tree → step.0.0 < length new.trees → s.game.root.0 < length old.trees → t.game.root.0 < length new.trees → length new.trees ≤ length old.trees + needed (kernel.game_in old.trees s) tree → HasFollowed before ds own first (front ++ tree ∷ []) new.trees t after
+  followed_more front s t trail after step tree u h p n g is live_step here live_game few =
+      followed_put front s t trail after step tree h n (leaves_by s t tree (closed_by h.proof) n.entry.cost (closing_in tree) u refl (numbers front s trail h) n.cost here g p.1) g is live_step live_game few
+
+  -- a step isn't accepted: one that changes the game, or one that closes a query
+
+  change_stops : (s t : Sequence) (ks : List ℕ) (trees : List KindTree) (step : Tree) (e : PushError) (taken : ℕ) (end : Status) → closing_in step ≡ None → s.steps < 2000 → kernel.IsStepAnswer old decls trees s t step None (Err e) → stop_of e s.steps ≡ Some end → old.limit ≡ most_pool → length old.trees ≤ taken → Stops taken s.steps (file_scene s) ks step end
+  change_stops s t ks trees step (fault.Refused f) taken end n b p i l m = subst (Stops taken s.steps _ ks step) (some i) (refused f.condition f.place b (changes s ks step _ n p))
+  change_stops s t ks trees step fault.Steps taken end n b p i l m = absurd p
+  change_stops s t ks trees step (fault.Build (build.Nodes k)) taken end n b p i l m = subst (Stops taken s.steps _ ks step) (some i) (too_large k b (changes s ks step _ n p))
+  change_stops s t ks trees step (fault.Build (build.Depth k)) taken end n b p i l m = subst (Stops taken s.steps _ ks step) (some i) (too_deep k b (changes s ks step _ n p))
+  change_stops s t ks trees step (fault.Build (build.Full k)) taken end n b p i l m =
+      let o = p.over in
+      subst (Stops taken s.steps _ ks step) (some i) (no_room k b (record { drawn = subst IsDrawn (sym (changes s ks step _ n refl)) p.drawn; asks = p.asks; over = omega arith }))
+  change_stops s t ks trees step (fault.Build build.OutOfMemory) taken end n b p i l m = absurd (cc)
+
+  close_stops : (s t : Sequence) (ks : List ℕ) (trees : List KindTree) (step : Tree) (c : Closing) (e : PushError) (taken : ℕ) (end : Status) → closing_in step ≡ Some c → kernel.closed_numbers s ≡ ks → s.steps < 2000 → kernel.IsStepAnswer old decls trees s t step (Some c) (Err e) → stop_of e s.steps ≡ Some end → Stops taken s.steps (file_scene s) ks step end
+  close_stops s t ks trees step c (fault.Refused f) taken end n k b p i = subst (Stops taken s.steps _ ks step) (some i) (refused f.condition f.place b (closes s ks step c _ n k p))
+  close_stops s t ks trees step c fault.Steps taken end n k b p i = absurd p
+  close_stops s t ks trees step c (fault.Build (build.Nodes x)) taken end n k b p i = absurd p
+  close_stops s t ks trees step c (fault.Build (build.Depth x)) taken end n k b p i = absurd p
+  close_stops s t ks trees step c (fault.Build (build.Full x)) taken end n k b p i = absurd p
+  close_stops s t ks trees step c (fault.Build build.OutOfMemory) taken end n k b p i = absurd (cc)
+
+  stops_by : (s t : Sequence) (ks : List ℕ) (trees : List KindTree) (step : Tree) (o : Option Closing) (e : PushError) (taken : ℕ) (end : Status) → closing_in step ≡ o → kernel.closed_numbers s ≡ ks → s.steps < 2000 → kernel.IsStepAnswer old decls trees s t step o (Err e) → stop_of e s.steps ≡ Some end → old.limit ≡ most_pool → length old.trees ≤ taken → Stops taken s.steps (file_scene s) ks step end
+  stops_by s t ks trees step None e taken end n k b p i l m = change_stops s t ks trees step e taken end n b p i l m
+  stops_by s t ks trees step (Some c) e taken end n k b p i l m = close_stops s t ks trees step c e taken end n k b p i
+
+  pub stops_at : (s t : Sequence) (ks : List ℕ) (trees : List KindTree) (step : Tree) (e : PushError) (taken : ℕ) (end : Status) → kernel.closed_numbers s ≡ ks → IsPushed old decls trees s t step (Err e) → stop_of e s.steps ≡ Some end → old.limit ≡ most_pool → length old.trees ≤ taken → Stops taken s.steps (file_scene s) ks step end
+  stops_at s t ks trees step fault.Steps taken end k p i l m = subst (Stops taken s.steps _ ks step) (some i) (too_many p)
+  stops_at s t ks trees step (fault.Refused f) taken end k p i l m = stops_by s t ks trees step (closing_in step) (fault.Refused f) taken end refl k p.0 p.1 i l m
+  stops_at s t ks trees step (fault.Build b) taken end k p i l m = stops_by s t ks trees step (closing_in step) (fault.Build b) taken end refl k p.0 p.1 i l m
 
 module _ (before : ℕ) (ds : List Declaration) (own : ℕ) (first : Tree) (trees : List KindTree) (s : Sequence) (trail : List Entry) (front : List Tree) (h : HasFollowed before ds own first front trees s trail) where
+  -- the verdicts on queries
+  verdicts : (queries : List Tree) (vs : List Verdict) → vs ≡ verdicts_by (kernel.sum_in s.closed.items) 1 queries → vs ≡ verdicts_of h.proof queries
+  verdicts queries vs e = e ∙ verdicts-same (kernel.sum_in s.closed.items) (sum_of h.proof) 1 queries (λ k. ap (λ cs. kernel.sum_in cs k) h.closed ∙ sums-same [] h.proof k)
+
   -- the script ends
-  pub walk_ends : (steps queries : List Tree) (w : Walk) → steps ≡ front → w.trail.items ≡ trail → w.status ≡ unclosed queries → IsWalk before ds own first steps queries trees w
-  walk_ends steps queries w e t i = record {
-    follows = record { proof = h.proof; left = []; split = e ∙ (h.steps ∙ sym (append-nil (map (λ x. x.step) h.proof))); last = kernel.game_in trees s; leads = h.leads; ends = i };
-    trail = ap (map (entry_in trees)) t ∙ h.entries;
-    live = subst (All (EntryLive (length trees))) (sym t) h.live;
-  }
+  pub walk_ends : (steps queries : List Tree) (w : Walk) → steps ≡ front → w.trail.items ≡ trail → w.verdicts.items ≡ verdicts_by (kernel.sum_in s.closed.items) 1 queries → w.status ≡ ended_with (first_unproved 1 w.verdicts.items) → IsWalk before ds own first steps queries trees w
+  walk_ends steps queries w e t v i =
+      let vs = verdicts queries w.verdicts.items v in
+      record {
+        follows = record {
+          proof = h.proof;
+          left = [];
+          split = e ∙ (h.steps ∙ sym (append-nil (map (λ x. x.step) h.proof)));
+          last = kernel.game_in trees s;
+          leads = h.leads;
+          ends = i ∙ ap ended_with (ap (first_unproved 1) vs ∙ unproved-same [] h.proof 1 queries);
+        };
+        trail = ap (map (entry_in trees)) t ∙ h.entries;
+        verdicts = vs;
+        live = subst (All (EntryLive (length trees))) (sym t) h.live;
+      }
 
   -- the next step stops it
-  pub walk_stops : (steps queries : List Tree) (step : Tree) (left : List Tree) (w : Walk) → steps ≡ front ++ step ∷ left → w.trail.items ≡ trail → Stops (before + nodes_along first h.proof) s.steps (scene ds (known_to own) (kernel.game_in trees s)) step w.status → IsWalk before ds own first steps queries trees w
-  walk_stops steps queries step left w e t i = record {
+  pub walk_stops : (steps queries : List Tree) (step : Tree) (left : List Tree) (w : Walk) → steps ≡ front ++ step ∷ left → w.trail.items ≡ trail → w.verdicts.items ≡ verdicts_by (kernel.sum_in s.closed.items) 1 queries → Stops (before + nodes_along first h.proof) s.steps (scene ds (known_to own) (kernel.game_in trees s)) (closed_by h.proof) step w.status → IsWalk before ds own first steps queries trees w
+  walk_stops steps queries step left w e t v i = record {
     follows = record {
       proof = h.proof;
       left = step ∷ left;
       split = e ∙ ap (λ xs. xs ++ step ∷ left) h.steps;
       last = kernel.game_in trees s;
       leads = h.leads;
-      ends = subst (λ n. Stops (before + nodes_along first h.proof) n (scene ds (known_to own) (kernel.game_in trees s)) step w.status) h.count i;
+      ends = subst (λ n. Stops (before + nodes_along first h.proof) n (scene ds (known_to own) (kernel.game_in trees s)) (closed_by h.proof) step w.status) h.count i;
     };
     trail = ap (map (entry_in trees)) t ∙ h.entries;
+    verdicts = verdicts queries w.verdicts.items v;
     live = subst (All (EntryLive (length trees))) (sym t) h.live;
   }
 
@@ -188,70 +291,93 @@ module _ (fn now : Work) (first : Tree) (script : List Step) (below : All (IsBel
     same : tree_at now.pool.trees (Some (get_or script k d).0) ≡ tree_of (get_or script k d)
     same = root-grown fn.pool now.pool (get_or script k d).0 grows here
 
-    pub followed_next : (new : PoolView) (after : List Entry) (u : Unit {0}) → IsPushed now.pool now.decls new.trees s t (tree_at now.pool.trees (Some (get_or script k d).0)) (Ok u) → IsNoted t (get_or script k d) trail after → Grows now.pool new → t.game.root.0 < length new.trees
+    pub followed_next : (new : PoolView) (after : List Entry) (u : Unit {0}) → IsPushed now.pool now.decls new.trees s t (tree_at now.pool.trees (Some (get_or script k d).0)) (Ok u) → IsNoted t (get_or script k d) (tree_at new.trees (Some (get_or script k d).0)) trail after → Grows now.pool new → s.game.root.0 < length now.pool.trees → t.game.root.0 < length new.trees
         → length new.trees ≤ length now.pool.trees + needed (kernel.game_in now.pool.trees s) (tree_at now.pool.trees (Some (get_or script k d).0)) → HasFollowed (length fn.pool.trees) (declarations fn.pool.trees fn.decls.list) fn.decls.own first (trees_of fn.pool.trees (take (k + 1) script)) new.trees t after
-    followed_next new after u p n g live_game few =
+    followed_next new after u p n g at live_game few =
         let m = Grows-length fn.pool now.pool grows in
         let i = Grows-length now.pool new g in
         let step : Step = get_or script k d in
         let place : step.0.0 < length fn.pool.trees = here in
         subst (λ ts. HasFollowed (length fn.pool.trees) (declarations fn.pool.trees fn.decls.list) fn.decls.own first ts new.trees t after) (sym (map_more tree_of script k d l))
         (followed_more (length fn.pool.trees) (declarations fn.pool.trees fn.decls.list) fn.decls.own first now.pool new now.decls is_ds (ap (λ (v : DeclsView). v.own) same_decls) (trees_of fn.pool.trees (take k script)) s t trail after step (tree_of step) u h
-        (subst (λ x. IsPushed now.pool now.decls new.trees s t x (Ok u)) same p) n g (root-grown now.pool new step.0 g (omega arith) ∙ same) (omega arith) live_game (subst (λ x. length new.trees ≤ length now.pool.trees + needed (kernel.game_in now.pool.trees s) x) same few))
+        (subst (λ x. IsPushed now.pool now.decls new.trees s t x (Ok u)) same p) (subst (λ x. IsNoted t step x trail after) (root-grown now.pool new step.0 g (omega arith) ∙ same) n) g (root-grown now.pool new step.0 g (omega arith) ∙ same) (omega arith) at live_game (subst (λ x. length new.trees ≤ length now.pool.trees + needed (kernel.game_in now.pool.trees s) x) same few))
 
-    pub followed_stops : (trees : List KindTree) (queries : List Tree) (e : PushError) (w : Walk) → trees ≡ now.pool.trees → now.pool.limit ≡ most_pool → IsPushed now.pool now.decls trees s t (tree_at now.pool.trees (Some (get_or script k d).0)) (Err e) → stop_of e s.steps ≡ Some w.status → w.trail.items ≡ trail
+    pub followed_stops : (trees : List KindTree) (queries : List Tree) (e : PushError) (w : Walk) → trees ≡ now.pool.trees → now.pool.limit ≡ most_pool → IsPushed now.pool now.decls trees s t (tree_at now.pool.trees (Some (get_or script k d).0)) (Err e) → stop_of e s.steps ≡ Some w.status → w.trail.items ≡ trail → w.verdicts.items ≡ verdicts_by (kernel.sum_in s.closed.items) 1 queries
         → IsWalk (length fn.pool.trees) (declarations fn.pool.trees fn.decls.list) fn.decls.own first (trees_of fn.pool.trees script) queries trees w
-    followed_stops trees queries e w kept limit p i put =
+    followed_stops trees queries e w kept limit p i put v =
         let step : Step = get_or script k d in
         let all = ap (trees_of fn.pool.trees) (split_here script k d l) ∙ map-append tree_of (take k script) (step ∷ drop (k + 1) script) in
-        let stops = stops_at (length fn.pool.trees) (declarations fn.pool.trees fn.decls.list) fn.decls.own first now.pool now.pool now.decls is_ds (ap (λ (v : DeclsView). v.own) same_decls) s t trees (tree_of step) e (length fn.pool.trees + nodes_along first h.proof) w.status
+        let stops = stops_at (length fn.pool.trees) (declarations fn.pool.trees fn.decls.list) fn.decls.own first now.pool now.pool now.decls is_ds (ap (λ (v : DeclsView). v.own) same_decls) s t (closed_by h.proof) trees (tree_of step) e (length fn.pool.trees + nodes_along first h.proof) w.status (ap (map (λ x. x.query)) h.closed ∙ numbers-same [] h.proof)
         (subst (λ x. IsPushed now.pool now.decls trees s t x (Err e)) same p) i limit h.nodes in
         subst (λ ts. IsWalk (length fn.pool.trees) (declarations fn.pool.trees fn.decls.list) fn.decls.own first (trees_of fn.pool.trees script) queries ts w) (sym kept)
-        (walk_stops (length fn.pool.trees) (declarations fn.pool.trees fn.decls.list) fn.decls.own first now.pool.trees s trail (trees_of fn.pool.trees (take k script)) h (trees_of fn.pool.trees script) queries (tree_of step) (trees_of fn.pool.trees (drop (k + 1) script)) w all put stops)
+        (walk_stops (length fn.pool.trees) (declarations fn.pool.trees fn.decls.list) fn.decls.own first now.pool.trees s trail (trees_of fn.pool.trees (take k script)) h (trees_of fn.pool.trees script) queries (tree_of step) (trees_of fn.pool.trees (drop (k + 1) script)) w all put v stops)
+
+-- a step that closes a query needs no room, and one that is accepted has what it needs
+
+closing_needs : (game : Tree) (i : Option StepItems) (c : Closing) → option_and_then closing_of_items i ≡ Some c → needed_by game (option_and_then step_of_items i) ≡ 0
+closing_needs game None c e = absurd (cc)
+closing_needs game (Some (items.Success k by)) c e = refl
+closing_needs game (Some i) c e = absurd (cc)
+
+room_by : (pool : PoolView) (decls : DeclsView) (trees : List KindTree) (s t : Sequence) (step : Tree) (o : Option Closing) (u : Unit {0}) → closing_in step ≡ o → kernel.IsStepAnswer pool decls trees s t step o (Ok u) → length trees ≤ length pool.trees + needed (kernel.game_in pool.trees s) step → length pool.trees ≤ pool.limit → length trees ≤ pool.limit
+room_by pool decls trees s t step None u n p few l = let r = p.room in omega arith
+room_by pool decls trees s t step (Some c) u n p few l = let z = closing_needs (kernel.game_in pool.trees s) (items_of_step step) c n in omega (arith, few, l, z)
+
+pub room_after : (pool : PoolView) (decls : DeclsView) (trees : List KindTree) (s t : Sequence) (step : Tree) (u : Unit {0}) → IsPushed pool decls trees s t step (Ok u) → length trees ≤ length pool.trees + needed (kernel.game_in pool.trees s) step → length pool.trees ≤ pool.limit → length trees ≤ pool.limit
+room_after pool decls trees s t step u p few l = room_by pool decls trees s t step (closing_in step) u refl p.1 few l
+
+-- the queries of a file, as trees
+abbrev pub asked : Work → List Tree
+asked w = map (λ n. tree_at w.pool.trees (Some n)) (queries w.decls.list)
+
+pub asked_by : (w : Work) (decls : DeclsView) → decls ≡ w.decls → (sum : ℕ → Option (List Term)) → verdicts_by sum 1 (queries decls.list) ≡ verdicts_by sum 1 (asked w)
+asked_by w decls e sum =
+    ap (λ (v : DeclsView). verdicts_by sum 1 (queries v.list)) e ∙ sym (verdicts-map (λ n. tree_at w.pool.trees (Some n)) sum 1 (queries w.decls.list))
 
 -- behind more nodes there is no more room
 
-stops_wider : (m n count : ℕ) (s : Scene) (step : Tree) (end : Status) → m ≤ n → Stops m count s step end → Stops n count s step end
-stops_wider m n count s step end l (too_many k) = too_many k
-stops_wider m n count s step end l (refused condition place k e) = refused condition place k e
-stops_wider m n count s step end l (too_large nodes k e) = too_large nodes k e
-stops_wider m n count s step end l (too_deep depth k e) = too_deep depth k e
-stops_wider m n count s step end l (no_room need k r) = no_room need k (record { drawn = r.drawn; asks = r.asks; over = (let o = r.over in omega arith) })
+stops_wider : (m n count : ℕ) (s : Scene) (ks : List ℕ) (step : Tree) (end : Status) → m ≤ n → Stops m count s ks step end → Stops n count s ks step end
+stops_wider m n count s ks step end l (too_many k) = too_many k
+stops_wider m n count s ks step end l (refused condition place k e) = refused condition place k e
+stops_wider m n count s ks step end l (too_large nodes k e) = too_large nodes k e
+stops_wider m n count s ks step end l (too_deep depth k e) = too_deep depth k e
+stops_wider m n count s ks step end l (no_room need k r) = no_room need k (record { drawn = r.drawn; asks = r.asks; over = (let o = r.over in omega arith) })
 
-ends_wider : (m n count : ℕ) (s : Scene) (queries left : List Tree) (end : Status) → m ≤ n → EndsScript m count s queries left end → EndsScript n count s queries left end
-ends_wider m n count s queries [] end l h = h
-ends_wider m n count s queries (step ∷ left) end l h = stops_wider m n count s step end l h
+ends_wider : (m n count : ℕ) (s : Scene) (ks : List ℕ) (queries left : List Tree) (end : Status) → m ≤ n → EndsScript m count s ks queries left end → EndsScript n count s ks queries left end
+ends_wider m n count s ks queries [] end l h = h
+ends_wider m n count s ks queries (step ∷ left) end l h = stops_wider m n count s ks step end l h
 
 -- how a run ends that followed a script
 
-stops_may : (taken count : ℕ) (s : Scene) (step : Tree) (end : Status) → Stops taken count s step end → MayHaveFile end
-stops_may taken count s step end (too_many k) = tt
-stops_may taken count s step end (refused condition place k e) = tt
-stops_may taken count s step end (too_large nodes k e) = tt
-stops_may taken count s step end (too_deep depth k e) = tt
-stops_may taken count s step end (no_room need k r) = tt
+stops_may : (taken count : ℕ) (s : Scene) (ks : List ℕ) (step : Tree) (end : Status) → Stops taken count s ks step end → MayHaveFile end
+stops_may taken count s ks step end (too_many k) = tt
+stops_may taken count s ks step end (refused condition place k e) = tt
+stops_may taken count s ks step end (too_large nodes k e) = tt
+stops_may taken count s ks step end (too_deep depth k e) = tt
+stops_may taken count s ks step end (no_room need k r) = tt
 
-unclosed_may : (qs : List Tree) → MayHaveFile (unclosed qs)
-unclosed_may [] = tt
-unclosed_may (q ∷ qs) = tt
+ended_may : (o : Option ℕ) → MayHaveFile (ended_with o)
+ended_may None = tt
+ended_may (Some k) = tt
 
-ends_may : (taken count : ℕ) (s : Scene) (queries left : List Tree) (end : Status) → EndsScript taken count s queries left end → MayHaveFile end
-ends_may taken count s queries [] end h = subst MayHaveFile (sym h) (unclosed_may queries)
-ends_may taken count s queries (step ∷ left) end h = stops_may taken count s step end h
+ends_may : (taken count : ℕ) (s : Scene) (ks : List ℕ) (queries left : List Tree) (end : Status) → EndsScript taken count s ks queries left end → MayHaveFile end
+ends_may taken count s ks queries [] end h = subst MayHaveFile (sym h) (ended_may (first_open ks 1 queries))
+ends_may taken count s ks queries (step ∷ left) end h = stops_may taken count s ks step end h
 
--- What a file holds, with a trail of what its script leads to.
-abbrev pub HasTrail : (end : Status) → List (Tree × Cost × Option Tree) → (nodes : ℕ) → (c : Content) → (queries : List Tree) → Option (List Tree) → Type 0
-HasTrail end trail nodes c queries None = ⊥
-HasTrail end trail nodes c queries (Some steps) = (w : Follows nodes c.declarations c.own c.game steps queries end) × (trail ≡ map entry_of w.proof)
+-- What a file holds, with a trail of what its script leads to, and the verdicts.
+abbrev pub HasTrail : (end : Status) → List (Tree × Cost × Option Tree) → List Verdict → (nodes : ℕ) → (c : Content) → (queries : List Tree) → Option (List Tree) → Type 0
+HasTrail end trail vs nodes c queries None = ⊥
+HasTrail end trail vs nodes c queries (Some steps) =
+    (w : Follows nodes c.declarations c.own c.game steps queries end) × (trail ≡ map entry_of w.proof) × (vs ≡ verdicts_of w.proof queries)
 
 -- The report follows the script of its file.
-pub script_follows : (r : Report) (f : File) (script : List Tree) → steps_in r ≡ Some script → HasTrail r.status (map (entry_in r.work.pool.trees) r.trail.items) (content_nodes (file_in r f)) (file_in r f) (queries_in (file_in r f).declarations) (file_in r f).script → r.steps.items ≡ map (λ e. e.step) r.trail.items → r.verdicts.items ≡ map open_verdict (queries_in (declared_in r)) → Proceeds r f (steps_in r)
-script_follows r f script e h s v =
-    let t = subst (λ o. HasTrail r.status (map (entry_in r.work.pool.trees) r.trail.items) (content_nodes (file_in r f)) (file_in r f) (queries_in (file_in r f).declarations) o) e h in
-    subst (Proceeds r f) (sym e) (record { walk = t.0; trail = t.1; steps = s; verdicts = v })
+pub script_follows : (r : Report) (f : File) (script : List Tree) → steps_in r ≡ Some script → HasTrail r.status (map (entry_in r.work.pool.trees) r.trail.items) r.verdicts.items (content_nodes (file_in r f)) (file_in r f) (queries_in (file_in r f).declarations) (file_in r f).script → r.steps.items ≡ map (λ e. e.step) r.trail.items → Proceeds r f (steps_in r)
+script_follows r f script e h s =
+    let t = subst (λ o. HasTrail r.status (map (entry_in r.work.pool.trees) r.trail.items) r.verdicts.items (content_nodes (file_in r f)) (file_in r f) (queries_in (file_in r f).declarations) o) e h in
+    subst (Proceeds r f) (sym e) (record { walk = t.0; trail = t.1; steps = s; verdicts = t.2 })
 
 -- the same, from what was walked in the pool before
-pub walk_trail : (before : ℕ) (c : Content) (steps queries asked : List Tree) (trees : List KindTree) (w : Walk) → IsWalk before c.declarations c.own c.game steps queries trees w → c.script ≡ Some steps → before ≤ content_nodes c → queries ≡ asked → HasTrail w.status (map (entry_in trees) w.trail.items) (content_nodes c) c asked c.script
+pub walk_trail : (before : ℕ) (c : Content) (steps queries asked : List Tree) (trees : List KindTree) (w : Walk) → IsWalk before c.declarations c.own c.game steps queries trees w → c.script ≡ Some steps → before ≤ content_nodes c → queries ≡ asked → HasTrail w.status (map (entry_in trees) w.trail.items) w.verdicts.items (content_nodes c) c asked c.script
 walk_trail before c steps queries asked trees w h s l q =
     let f = h.follows in
     let wide : Follows (content_nodes c) c.declarations c.own c.game steps queries w.status = record {
@@ -260,41 +386,15 @@ walk_trail before c steps queries asked trees w h s l q =
       split = f.split;
       last = f.last;
       leads = f.leads;
-      ends = ends_wider (before + nodes_along c.game f.proof) (content_nodes c + nodes_along c.game f.proof) (length f.proof) (scene c.declarations (known_to c.own) f.last) queries f.left w.status (omega arith) f.ends;
+      ends = ends_wider (before + nodes_along c.game f.proof) (content_nodes c + nodes_along c.game f.proof) (length f.proof) (scene c.declarations (known_to c.own) f.last) (closed_by f.proof) queries f.left w.status (omega arith) f.ends;
     } in
-    subst (λ o. HasTrail w.status (map (entry_in trees) w.trail.items) (content_nodes c) c asked o) (sym s)
-    (subst (λ qs. HasTrail w.status (map (entry_in trees) w.trail.items) (content_nodes c) c qs (Some steps)) q (wide, h.trail))
+    subst (λ o. HasTrail w.status (map (entry_in trees) w.trail.items) w.verdicts.items (content_nodes c) c asked o) (sym s)
+    (subst (λ qs. HasTrail w.status (map (entry_in trees) w.trail.items) w.verdicts.items (content_nodes c) c qs (Some steps)) q (wide, h.trail, h.verdicts))
 
 pub walk_may : (before : ℕ) (ds : List Declaration) (own : ℕ) (first : Tree) (steps queries : List Tree) (trees : List KindTree) (w : Walk) → IsWalk before ds own first steps queries trees w → MayHaveFile w.status
 walk_may before ds own first steps queries trees w h =
     let f = h.follows in
-    ends_may (before + nodes_along first f.proof) (length f.proof) (scene ds (known_to own) f.last) queries f.left w.status f.ends
-
--- no verdict is `Proved`
-none_proved : (qs : List Tree) (k : ℕ) (s : List Term) → slice_get (map open_verdict qs) k ≡ Some (Proved s) → ⊥
-none_proved [] k s e = cc
-none_proved (q ∷ qs) zero s e = cc
-none_proved (q ∷ qs) (suc k) s e = none_proved qs k s e
-
-pub open_sound : (c : Content) (vs : List Verdict) (qs : List Tree) → vs ≡ map open_verdict qs → IsSoundFor c vs
-open_sound c vs qs e = λ cs k query s q v. absurd (none_proved qs k s (ap (λ us. slice_get us k) (sym e) ∙ v))
-
--- whether there is a query, declaration by declaration
-
-pub unclosed_there : (trees : List KindTree) (ds : List Decl) (k : ℕ) (o : Option NodeId) → o ≡ option_and_then query_of (slice_get ds k) → is_some o ≡ true → queries (drop k ds) ≡ queries ds → status.Open (NoClose 1) ≡ unclosed (map (λ n. tree_at trees (Some n)) (queries ds))
-unclosed_there trees ds k o e i h =
-    let q = some_from_is_some o i in
-    ap (λ ns. unclosed (map (λ n. tree_at trees (Some n)) ns)) (sym (queries-take ds k q.0 (sym e ∙ q.1)) ∙ h)
-
-pub unclosed_none : (trees : List KindTree) (ds : List Decl) (k : ℕ) → length ds ≤ k → queries (drop k ds) ≡ queries ds → status.Proved ≡ unclosed (map (λ n. tree_at trees (Some n)) (queries ds))
-unclosed_none trees ds k l h = ap (λ ns. unclosed (map (λ n. tree_at trees (Some n)) ns)) (sym (queries-past ds k l) ∙ h)
-
-none_from : {A : Type 0} (o : Option A) → is_some o ≡ false → o ≡ None
-none_from None e = refl
-none_from (Some x) e = absurd (cc)
-
-pub queries_go : (ds : List Decl) (k : ℕ) (o : Option NodeId) → k < length ds → o ≡ option_and_then query_of (slice_get ds k) → is_some o ≡ false → queries (drop k ds) ≡ queries ds → queries (drop (k + 1) ds) ≡ queries ds
-queries_go ds k o l e i h = sym (queries-skip ds k l (sym e ∙ none_from o i)) ∙ h
+    ends_may (before + nodes_along first f.proof) (length f.proof) (scene ds (known_to own) f.last) (closed_by f.proof) queries f.left w.status f.ends
 
 -- the steps of a trail, one by one
 pub steps-go : (xs : List Entry) (k : ℕ) (d : Entry) (out new total : List Step) → k < length xs → out ++ map (λ e. e.step) (drop k xs) ≡ total → new ≡ out ++ (get_or xs k d).step ∷ [] → new ++ map (λ e. e.step) (drop (k + 1) xs) ≡ total

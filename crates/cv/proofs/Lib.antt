@@ -1,9 +1,11 @@
 pub mod Causing
+pub mod Closings
 pub mod Courses
 pub mod Endings
 pub mod Faithful
 pub mod Following
 pub mod Growing
+pub mod Proving
 pub mod Running
 pub mod Unread
 pub mod Verdicts

@@ -21,7 +21,7 @@ use Rattle.cv.specs.Answers.{Answers}
 use Rattle.cv.specs.Causes.{ComesFrom, Outside}
 use Rattle.cv.specs.Runs.{IsSoundFor, Runs}
 use Rattle.cv.specs.Contexts.{contexts_in}
-use Rattle.cv.specs.Strategy.{EndsBy, HoldsUpTo, IsSound, Judged, Proceeds, SaysNothing, declared_in, file_in, game_in, steps_in}
+use Rattle.cv.specs.Strategy.{EndsBy, FollowsScript, HoldsUpTo, IsSound, Judged, Proceeds, SaysNothing, declared_in, file_in, game_in, steps_in}
 use Rattle.cv.specs.Words.{AreTold}
 use Rattle.cv.proofs.Causing.{script_cause_of, verdict_cause, where_told}
 use Rattle.cv.proofs.Endings.{memory_answers, memory_cause, sound_without}
@@ -32,10 +32,14 @@ module _ (c : Content) (f : File) (r : Report) where
   ends None p = p.course
   ends (Some s) p = p.walk
 
-  pub run_sound : Runs c f r → IsSound r
-  run_sound (inl s) = sound_without r s.file
-  run_sound (inr h) = of_file r.file (subst (λ (o : Option File). IfSome o (λ g. IsSoundFor (file_in r g) r.verdicts.items)) (sym h.file) (subst (λ (d : Content). IsSoundFor d r.verdicts.items) (sym h.content) h.sound))
+  pub run_sound : ((steps : List Tree) → steps_in r ≡ Some steps → file_in r f ≡ c → FollowsScript r f steps → IsSoundFor c r.verdicts.items) → Runs c f r → IsSound r
+  run_sound k (inl s) = sound_without r s.file
+  run_sound k (inr h) = of_file r.file (subst (λ (o : Option File). IfSome o (λ g. IsSoundFor (file_in r g) r.verdicts.items)) (sym h.file) (subst (λ (d : Content). IsSoundFor d r.verdicts.items) (sym h.content) (by_script (steps_in r) refl h.proceeds)))
     where
+      by_script : (o : Option (List Tree)) → steps_in r ≡ o → Proceeds r f o → IsSoundFor c r.verdicts.items
+      by_script None e p = h.sound e
+      by_script (Some steps) e p = k steps e h.content p
+
       of_file : (o : Option File) → IfSome o (λ g. IsSoundFor (file_in r g) r.verdicts.items)
           → IfSome o (λ g. (k : ℕ) (query : Tree) (s : List Term) → slice_get (queries_in (declared_in r)) k ≡ Some query → slice_get r.verdicts.items k ≡ Some (Proved s) → HoldsUpTo (declared_in r) (contexts_in r) (game_in r g) query s)
       of_file None s = tt

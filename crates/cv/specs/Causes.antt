@@ -1,5 +1,5 @@
 -- What each answer comes from.
-use Rattle.std.specs.Prelude.{◌≡◌, ℕ, suc, ◌+◌, ◌-◌, ◌<◌, min, Bool, false, true, map, if◌then◌else◌, List, [], ◌∷◌, ◌++◌, length, Option, Some, None, Ok, Err, IfSome, IsNone, IsSomeAnd}
+use Rattle.std.specs.Prelude.{◌≡◌, ℕ, suc, ◌+◌, ◌-◌, ◌<◌, ◌⊎◌, min, Bool, false, true, map, if◌then◌else◌, List, [], ◌∷◌, ◌++◌, length, Option, Some, None, option_map, Ok, Err, IfSome, IsNone, IsSomeAnd}
 use Rattle.std.specs.List.{list_all, list_any, zip}
 use Rattle.cv_outside.specs.Causes.{Rose}
 use Rattle.cv_outside.specs.Told.{Files}
@@ -10,7 +10,7 @@ use Rattle.cv_parse_terminals.specs.Signs.{signs_of}
 use Rattle.cv_parse_script_laws.specs.Scripts.{IsSomeScript}
 use Rattle.cv_parse_notation.specs.Whole.{Dead}
 use Rattle.cv_parse_script.specs.declared.error.ScriptError.TheVariants as block
-use Rattle.cv_kernel.specs.Proofs.{IsProof, Transition, nodes_along}
+use Rattle.cv_kernel.specs.Proofs.{IsProof, Transition, closed_by, nodes_along}
 use Rattle.cv_parse_notation.specs.declared.sign.Sign.{Sign}
 use Rattle.cv_parse_grammar.specs.Names as names
 use Rattle.cv_parse_depth.specs.Files.{IsDeadAtEveryDepth, IsNestedTooDeep}
@@ -32,7 +32,8 @@ use Rattle.cv_query_form.specs.Queries.{queries_in}
 use Rattle.cv_query_form.specs.Rules.{IsFirstRefused}
 use Rattle.cv_syntax.specs.Tree.{Tree}
 use Rattle.cv_syntax.specs.declared.work.File.{File}
-use Rattle.cv_accept.specs.Accepted.{Content, IsFile, IsFull, block_of}
+use Rattle.cv_accept.specs.Accepted.{Content, IsFile, IsFull, asks_unbuilt, block_of}
+use Rattle.cv_parse_script.specs.Scripts.{items}
 use Rattle.cv_accept.specs.Places.{nodes_before}
 use Rattle.cv_report.specs.declared.report.FileFault.TheVariants.{Lex, Parse, Script, Types, Scope, Group, Query}
 use Rattle.cv_report.specs.declared.report.Cause.TheVariants.{NoClose, Stuck}
@@ -42,7 +43,7 @@ use Rattle.cv_report.specs.declared.report.Status.TheVariants as status
 use Rattle.cv_report.specs.declared.report.Which.TheVariants.{Depth, Nodes, Pool, Steps, File as FileLimit}
 use Rattle.cv_plain.specs.Strategy.{IsCrowded, is_closed, is_proved, lacks_step, most_pool, most_steps}
 use Rattle.cv_steps.specs.Sequences.{scene}
-use Rattle.cv.specs.Scripts.{Stops, known_to}
+use Rattle.cv.specs.Scripts.{Stops, first_open, known_to}
 use Rattle.cv.specs.Strategy.{declared_in, game_in, most_bytes, nodes_in, said_in, steps_in}
 use Rattle.cv.specs.Words.{bytes_named}
 
@@ -124,6 +125,14 @@ pub record HasStep (tokens : List Token) : Type 0 where
   pub token : ℕ
   pub refused : block_of tokens said ≡ Err (block.Unbuilt token)
 
+-- They are those of a file whose proof block closes a query by a certificate that isn't built.
+pub record HasCertificate (tokens : List Token) : Type 0 where
+  pub said : Parsed
+  pub says : Says most_pool (signs_of tokens).signs said
+  pub script : Option Tree
+  pub block : block_of tokens said ≡ Ok script
+  pub unbuilt : asks_unbuilt said.declarations (option_map items script) ≡ true
+
 -- A file without a proof block has more queries that are closed than there may be steps.
 pub record HasManyClosed (bytes : List ℕ) : Type 0 where
   pub content : Content
@@ -156,9 +165,9 @@ pub record HasStop (r : Report) (f : File) (s : Status) : Type 0 where
   pub last : Tree
   pub leads : IsProof (declared_in r) (known_to r.work.decls.own) (game_in r f) proof last
   pub count : length r.steps.items ≡ length proof
-  pub stops : Stops (nodes_in r f + nodes_along (game_in r f) proof) (length proof) (scene (declared_in r) (known_to r.work.decls.own) last) next s
+  pub stops : Stops (nodes_in r f + nodes_along (game_in r f) proof) (length proof) (scene (declared_in r) (known_to r.work.decls.own) last) (closed_by proof) next s
 
--- All steps of the proof block are accepted in turn, and this is the first query, which none of them closes.
+-- All steps of the proof block are accepted in turn, and this is the first query that none of them closes.
 pub record HasOpenQuery (r : Report) (f : File) (q : ℕ) : Type 0 where
   pub steps : List Tree
   pub there : steps_in r ≡ Some steps
@@ -166,8 +175,7 @@ pub record HasOpenQuery (r : Report) (f : File) (q : ℕ) : Type 0 where
   pub all : steps ≡ map (λ t. t.step) proof
   pub last : Tree
   pub leads : IsProof (declared_in r) (known_to r.work.decls.own) (game_in r f) proof last
-  pub first : q ≡ 1
-  pub some : 0 < length (queries_in (declared_in r))
+  pub first : first_open (closed_by proof) 1 (queries_in (declared_in r)) ≡ Some q
 
 -- what is known of the outside: the file that the words name, its told bytes, and the faults of the shelf, before and after
 pub record Outside : Type 0 where
@@ -207,7 +215,7 @@ pub data ComesFrom (o : Outside) (r : Report) : Status → Type 0 where
   scope : {e : ScopeFault} → OfTold o (λ tokens. HasScopeFault tokens e) → ComesFrom o r (status.FileRefused (Scope e))
   group : {k : ℕ} {e : GroupFault} → OfTold o (λ tokens. HasGroupFault tokens k e) → ComesFrom o r (status.FileRefused (Group k e))
   query : {k : ℕ} → OfTold o (λ tokens. HasQueryFault tokens k) → ComesFrom o r (status.FileRefused (Query k))
-  unbuilt : OfTold o HasStep → ComesFrom o r status.Unbuilt
+  unbuilt : OfTold o (λ tokens. HasStep tokens ⊎ HasCertificate tokens) → ComesFrom o r status.Unbuilt
   nodes : {count : ℕ} → OfSigns o (λ signs. IsLarge signs (HasNodes count)) → ComesFrom o r (status.Limit (Nodes count))
   deep : {depth : ℕ} → OfSigns o (λ signs. IsLarge signs (HasDepth depth)) → ComesFrom o r (status.Limit (Depth depth))
   pool : {need : ℕ} → IsNone r.file → most_pool < need → OfSigns o (λ signs. IsLarge signs (HasWeight most_pool need)) → ComesFrom o r (status.Limit (Pool need))

@@ -1,6 +1,6 @@
 -- The contexts of a report's cryptographic steps, each with the number of its step. A context is a function of the game before the
 -- step, of the equivalence and of the key that the step names, and nothing of it is a choice. Blanchet and Pointcheval, CRYPTO 2006.
-use Rattle.std.specs.Prelude.{ℕ, suc, List, [], ◌∷◌, Option, Some, None, option_and_then, option_map}
+use Rattle.std.specs.Prelude.{ℕ, suc, List, [], ◌∷◌, Option, Some, None, option_map}
 use Rattle.cv_pool.specs.KindTree.{KindTree}
 use Rattle.cv_syntax.specs.declared.work.File.{File}
 use Rattle.cv_syntax.specs.declared.work.Game.{Game}

@@ -24,7 +24,7 @@ pub record HasRun (c : Content) (f : File) (r : Report) : Type 0 where
   pub file : r.file ≡ Some f
   pub content : file_in r f ≡ c
   pub proceeds : Proceeds r f (steps_in r)
-  pub sound : IsSoundFor c r.verdicts.items
+  pub sound : steps_in r ≡ None → IsSoundFor c r.verdicts.items
   pub status : MayHaveFile r.status
   pub live : IsLive r
 

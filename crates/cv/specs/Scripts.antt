@@ -1,17 +1,20 @@
 -- What the steps of a proof block lead to: each is taken in the game that those before it lead to, as long as it is accepted,
 -- there are no more than 2,000, and the pool has room.
-use Rattle.std.specs.Prelude.{◌≡◌, ℕ, ◌+◌, ◌<◌, ◌≤◌, List, [], ◌∷◌, ◌++◌, length, map, nat_lt, Bool, Option, Some, option_map}
+use Rattle.std.specs.Prelude.{◌≡◌, ℕ, suc, ◌+◌, ◌<◌, ◌≤◌, List, [], ◌∷◌, ◌++◌, length, map, nat_lt, Bool, if◌then◌else◌, Option, Some, None, option_map}
 use Rattle.cv_bound.specs.declared.cost.Cost.{Cost}
-use Rattle.cv_kernel.specs.Proofs.{IsProof, Transition, nodes_along}
+use Rattle.cv_bound.specs.declared.terms.Term.{Term}
+use Rattle.cv_kernel.specs.Closings.{Closing, closing_in, is_among, judgement_in}
+use Rattle.cv_kernel.specs.Proofs.{IsProof, Transition, closed_by, nodes_along, sum_of}
 use Rattle.cv_kernel.specs.Rules.{HasNoRoom}
 use Rattle.cv_kernel.specs.Sequences.{needed}
-use Rattle.cv_kernel.specs.Steps.{judgement_at}
 use Rattle.cv_plain.specs.Strategy.{most_pool, most_steps}
 use Rattle.cv_pool.specs.KindTree.{KindTree}
 use Rattle.cv_report.specs.declared.report.Cause.TheVariants.{NoClose, StepRefused}
 use Rattle.cv_report.specs.declared.report.Entry.{Entry}
 use Rattle.cv_report.specs.declared.report.Status.{Status}
 use Rattle.cv_report.specs.declared.report.Status.TheVariants as status
+use Rattle.cv_report.specs.declared.report.Verdict.{Verdict}
+use Rattle.cv_report.specs.declared.report.Verdict.TheVariants.{NotProved, Proved}
 use Rattle.cv_report.specs.declared.report.Which.TheVariants.{Depth, Nodes, Pool, Steps}
 use Rattle.cv_steps.specs.Judgements.{Refused, TooDeep, TooLarge}
 use Rattle.cv_scenes.specs.Scenes.{Scene}
@@ -23,24 +26,33 @@ use Rattle.cv_syntax.specs.Tree.{Tree, tree_at}
 abbrev pub known_to : (own : ℕ) → ℕ → Bool
 known_to own x = nat_lt x own
 
--- Why a script goes on no further: so many steps were taken, the nodes of the file and of these are so many, and the next step,
--- in this game, is this.
-pub data Stops (taken count : ℕ) (s : Scene) (step : Tree) : Status → Type 0 where
-  too_many : most_steps ≤ count → Stops taken count s step (status.Limit Steps)
-  refused : (condition place : ℕ) → count < most_steps → judgement_at s step ≡ Refused condition place → Stops taken count s step (status.Open (StepRefused (count + 1) condition place))
-  too_large : (nodes : ℕ) → count < most_steps → judgement_at s step ≡ TooLarge nodes → Stops taken count s step (status.Limit (Nodes nodes))
-  too_deep : (depth : ℕ) → count < most_steps → judgement_at s step ≡ TooDeep depth → Stops taken count s step (status.Limit (Depth depth))
-  no_room : (need : ℕ) → count < most_steps → HasNoRoom most_pool taken (needed s.game step) (judgement_at s step) need → Stops taken count s step (status.Limit (Pool need))
+-- Why a script goes on no further: so many steps were taken, the nodes of the file and of these are so many, these queries are
+-- closed, and the next step, in this game, is this.
+pub data Stops (taken count : ℕ) (s : Scene) (closed : List ℕ) (step : Tree) : Status → Type 0 where
+  too_many : most_steps ≤ count → Stops taken count s closed step (status.Limit Steps)
+  refused : (condition place : ℕ) → count < most_steps → judgement_in s closed step ≡ Refused condition place → Stops taken count s closed step (status.Open (StepRefused (count + 1) condition place))
+  too_large : (nodes : ℕ) → count < most_steps → judgement_in s closed step ≡ TooLarge nodes → Stops taken count s closed step (status.Limit (Nodes nodes))
+  too_deep : (depth : ℕ) → count < most_steps → judgement_in s closed step ≡ TooDeep depth → Stops taken count s closed step (status.Limit (Depth depth))
+  no_room : (need : ℕ) → count < most_steps → HasNoRoom most_pool taken (needed s.game step) (judgement_in s closed step) need → Stops taken count s closed step (status.Limit (Pool need))
 
--- A script was followed to its end, and no step of it closes a query: the first query is open, if there is one.
-abbrev pub unclosed : (queries : List Tree) → Status
-unclosed [] = status.Proved
-unclosed (q ∷ qs) = status.Open (NoClose 1)
+-- the first of queries, numbered from a number on, that isn't closed
+abbrev pub first_open : (closed : List ℕ) → (number : ℕ) → (queries : List Tree) → Option ℕ
+first_open closed k [] = None
+first_open closed k (q ∷ qs) = if is_among closed k then first_open closed (suc k) qs else Some k
 
--- how a run ends whose steps led to this game, and that leaves these
-abbrev pub EndsScript : (taken count : ℕ) → Scene → (queries left : List Tree) → Status → Type 0
-EndsScript taken count s queries [] end = end ≡ unclosed queries
-EndsScript taken count s queries (step ∷ left) end = Stops taken count s step end
+-- A script was followed to its end, and these queries are closed: the first one that isn't is open, if there is one.
+
+abbrev pub ended_with : (unclosed : Option ℕ) → Status
+ended_with None = status.Proved
+ended_with (Some k) = status.Open (NoClose k)
+
+abbrev pub ending : (closed : List ℕ) → (queries : List Tree) → Status
+ending closed queries = ended_with (first_open closed 1 queries)
+
+-- how a run ends whose steps led to this game, closed these queries, and left these steps
+abbrev pub EndsScript : (taken count : ℕ) → Scene → (closed : List ℕ) → (queries left : List Tree) → Status → Type 0
+EndsScript taken count s closed queries [] end = end ≡ ending closed queries
+EndsScript taken count s closed queries (step ∷ left) end = Stops taken count s closed step end
 
 -- Steps are followed from a first game on: those in front are accepted, and the others are left.
 pub record Follows (taken : ℕ) (ds : List Declaration) (own : ℕ) (first : Tree) (steps queries : List Tree) (end : Status) : Type 0 where
@@ -49,12 +61,29 @@ pub record Follows (taken : ℕ) (ds : List Declaration) (own : ℕ) (first : Tr
   pub split : steps ≡ map (λ t. t.step) proof ++ left
   pub last : Tree
   pub leads : IsProof ds (known_to own) first proof last
-  pub ends : EndsScript (taken + nodes_along first proof) (length proof) (scene ds (known_to own) last) queries left end
+  pub ends : EndsScript (taken + nodes_along first proof) (length proof) (scene ds (known_to own) last) (closed_by proof) queries left end
 
--- what a trail says of a transition, and of each entry
+-- what a trail says of a transition, and of each entry: a step that closes a query leads to no game of its own
 
 abbrev pub entry_in : List KindTree → Entry → Tree × Cost × Option Tree
 entry_in trees e = (tree_at trees (Some e.step.0), e.cost, option_map (λ g. tree_at trees (Some g.root)) e.next)
 
+abbrev pub game_behind : Option Closing → (next : Tree) → Option Tree
+game_behind None next = Some next
+game_behind (Some c) next = None
+
 abbrev pub entry_of : Transition → Tree × Cost × Option Tree
-entry_of t = (t.step, t.cost, Some t.next)
+entry_of t = (t.step, t.cost, game_behind (closing_in t.step) t.next)
+
+-- the verdicts on queries, numbered from a number on: a query that is closed is proved up to its sum
+
+abbrev pub verdict_by : Option (List Term) → Verdict
+verdict_by None = NotProved
+verdict_by (Some sum) = Proved sum
+
+abbrev pub verdicts_by : {Q : Type 0} → (sum : ℕ → Option (List Term)) → (number : ℕ) → (queries : List Q) → List Verdict
+verdicts_by sum k [] = []
+verdicts_by sum k (q ∷ qs) = verdict_by (sum k) ∷ verdicts_by sum (suc k) qs
+
+abbrev pub verdicts_of : List Transition → (queries : List Tree) → List Verdict
+verdicts_of ts queries = verdicts_by (sum_of ts) 1 queries

@@ -1,5 +1,5 @@
 -- What is said of a file. Without a proof block the plain strategy goes over its queries; the steps of a proof block are
--- followed, and close no query.
+-- followed, and those of them that close queries prove these.
 use Rattle.std.specs.Prelude.{◌≡◌, ℕ, ◌+◌, ◌≤◌, ◌⊎◌, true, List, [], ◌++◌, length, map, Option, Some, None, Result, Ok, Err, slice_get, IfSome}
 use Rattle.std.specs.List.{list_all}
 use Rattle.cv_syntax.specs.declared.work.File.{File}
@@ -12,7 +12,7 @@ use Rattle.cv_meaning.specs.Advantage.{advantage}
 use Rattle.cv_meaning.specs.Chances.{AtMost}
 use Rattle.cv_meaning_chances.specs.Fractions.{HasTapes}
 use Rattle.cv_bound.specs.declared.terms.Term.{Term}
-use Rattle.cv_kernel.specs.Proofs.{IsProof, Transition, nodes_along}
+use Rattle.cv_kernel.specs.Proofs.{IsProof, Transition, closed_by, nodes_along}
 use Rattle.cv_plain.specs.Strategy.{Course, Said, closing, is_closed, most_pool, most_steps, nothing_said, open_verdict, passed_by, said_by, said_of, status_for, steps_nodes}
 use Rattle.cv_accept.specs.declared.error.FileError.{FileError}
 use Rattle.cv_accept.specs.Accepted.{Content, IsFile, IsFull, read_of}
@@ -25,7 +25,7 @@ use Rattle.cv_report.specs.declared.report.Verdict.TheVariants.{Proved}
 use Rattle.cv_report.specs.declared.report.Which.TheVariants.{Depth, Nodes, Pool, Steps}
 use Rattle.cv.specs.Contexts.{contexts_in}
 use Rattle.cv.specs.Faults.{status_of as ended_by}
-use Rattle.cv.specs.Scripts.{Follows, entry_in, entry_of, known_to}
+use Rattle.cv.specs.Scripts.{Follows, entry_in, entry_of, first_open, known_to, verdicts_of}
 use Rattle.cv.specs.Values.{Contexts, value_of}
 
 -- how a run over a file ends
@@ -94,12 +94,12 @@ pub record FollowsStrategy (r : Report) (f : File) : Type 0 where
   pub told : r.status ≡ status_for (passed_by (length r.steps.items) need) (game_in r f) (queries_in (declared_in r)) r.verdicts.items
 
 -- The steps are those of the proof block that are accepted in turn, each with its cost and its next game; the status is
--- that of the first that isn't accepted, or of the end of the block; and no query is closed.
+-- that of the first that isn't accepted, or of the end of the block; and a query is proved where one of them closes it.
 pub record FollowsScript (r : Report) (f : File) (script : List Tree) : Type 0 where
   pub walk : Follows (nodes_in r f) (declared_in r) r.work.decls.own (game_in r f) script (queries_in (declared_in r)) r.status
   pub trail : map (entry_in r.work.pool.trees) r.trail.items ≡ map entry_of walk.proof
   pub steps : r.steps.items ≡ map (λ e. e.step) r.trail.items
-  pub verdicts : r.verdicts.items ≡ map open_verdict (queries_in (declared_in r))
+  pub verdicts : r.verdicts.items ≡ verdicts_of walk.proof (queries_in (declared_in r))
 
 abbrev pub Proceeds : Report → File → Option (List Tree) → Type 0
 Proceeds r f None = FollowsStrategy r f
@@ -134,7 +134,7 @@ pub record ClosesAll (f : Content) : Type 0 where
   pub fits : content_nodes f + steps_nodes (said_of f.game nothing_said (queries_in f.declarations)).steps ≤ most_pool
 
 -- The steps of a proof block are each accepted in turn, and no more than there may be; the nodes of the file and of all games
--- are no more than a pool may have; and the file asks for nothing.
+-- are no more than a pool may have; and each query of the file is closed.
 pub record AcceptsAll (f : Content) (steps : List Tree) : Type 0 where
   pub proof : List Transition
   pub last : Tree
@@ -142,7 +142,7 @@ pub record AcceptsAll (f : Content) (steps : List Tree) : Type 0 where
   pub leads : IsProof f.declarations (known_to f.own) f.game proof last
   pub few : length steps ≤ most_steps
   pub fits : content_nodes f + nodes_along f.game proof ≤ most_pool
-  pub none : queries_in f.declarations ≡ []
+  pub closed : first_open (closed_by proof) 1 (queries_in f.declarations) ≡ None
 
 abbrev pub Succeeds : Content → Option (List Tree) → Type 0
 Succeeds f None = ClosesAll f

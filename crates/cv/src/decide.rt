@@ -18,6 +18,8 @@ use crate::plain::run_plain;
 use crate::refusal::{refused, status_of};
 use cv_accept::{Accepted, read};
 use cv_derivations_reached::derivations_are_sound;
+use cv_query_certificates::accepted_exactly_where_nothing_fails;
+use cv_query_correspondences::accepted_correspondences_are_never_broken;
 use cv_report::{Command, Report};
 use cv_syntax::Work;
 use std::alloc::Global;
@@ -65,6 +67,8 @@ pub fn judge(alloc: Global, work: Work, bytes: &[u8]) -> Report
     ensures judged { Judged result.status bytes.now }
 {
     derivations_are_sound();
+    accepted_exactly_where_nothing_fails();
+    accepted_correspondences_are_never_broken();
     let command = Command::Prove { moves: MOVES };
     let mut work = work;
     match read(alloc, &mut work, bytes) {

@@ -1,5 +1,4 @@
-ghost use Rattle.std.specs.Prelude.{◌≡◌, ◌+◌, ◌<◌, ◌≤◌, ◌^◌, All, IfOk, List, OnOk, None, Some, length, map};
-ghost use Rattle.cv_pool.specs.KindTree.{KindTree};
+ghost use Rattle.std.specs.Prelude.{◌≡◌, ◌+◌, ◌<◌, ◌≤◌, ◌^◌, All, IfOk, OnOk, Some, length, map, option_map};
 ghost use Rattle.cv_pool.specs.PoolView.{Grows};
 ghost use Rattle.cv_syntax.specs.Classes.{queries};
 ghost use Rattle.cv_syntax.specs.Declarations.{declarations};
@@ -8,25 +7,26 @@ ghost use Rattle.cv_parse.specs.Declaring.{IsBelow};
 ghost use Rattle.cv_scope.specs.Phrases.{IsWellFormed};
 ghost use Rattle.cv_parse_script.specs.Scripts.{trees_of};
 ghost use Rattle.cv_accept.specs.Works.{HasSteps, content_at, content_nodes};
-ghost use Rattle.cv_report.specs.declared.report.Verdict.TheVariants.{NotProved};
 ghost use Rattle.cv_plain.specs.Strategy.{most_pool};
-ghost use Rattle.cv_kernel.specs.Sequences.{Stands};
-ghost use Rattle.cv.specs.Scripts.{unclosed};
+ghost use Rattle.cv_kernel.specs.Sequences.{Stands, sum_in};
+ghost use Rattle.cv.specs.Scripts.{ended_with, verdict_by, verdicts_by};
 ghost use Rattle.cv.specs.Runs.{Runs};
-ghost use Rattle.cv.specs.Walks.{IsNoted, IsWalk, stop_of};
+ghost use Rattle.cv.specs.Walks.{IsNoted, IsWalk, first_unproved, stop_of};
 
 use crate::refusal::refused;
-use cv_kernel::{PushError, Sequence};
+use cv_bound::Sum;
+use cv_kernel::{PushError, Sequence, closing_of};
 use cv_report::{Cause, Command, Entry, Report, Status, Verdict, Which};
 use cv_script::Step;
-use cv_syntax::{BuildError, Decls, File, Game, Work, query_at};
+use cv_syntax::{BuildError, Decls, File, Game, Pool, Work, query_at};
 use std::alloc::{AllocError, Global};
 
-/// How far a script was followed: the accepted steps, each with its cost and the game that it leads to, and how
-/// the run ends.
+/// How far a script was followed: the accepted steps, each with its cost and the game that it leads to, the verdicts,
+/// and how the run ends.
 #[derive(Drop)]
 pub struct Walk {
     pub trail: Vec<Entry>,
+    pub verdicts: Vec<Verdict>,
     pub status: Status,
 }
 
@@ -53,38 +53,74 @@ fn stop_of(fault: PushError, count: u32) -> Option<Status>
     }
 }
 
-/// How a run ends whose script was followed to its end: no step of it closes a query.
-fn end_of(decls: &Decls) -> Status
-    ensures { (trees : List KindTree) → result
-        ≡ unclosed (map (λ n. tree_at trees (Some n)) (queries decls.now.list)) }
+/// How a run ends whose script was followed to its end: the first query that isn't proved is open.
+fn end_of(verdicts: &[Verdict]) -> Status
+    requires { length verdicts.now < 2 ^ 32 }
+    ensures { result ≡ ended_with (first_unproved 1 verdicts.now) }
 {
-    'decls: for k in 0..decls.len() {
-        if query_at(decls, k).is_some() {
-            return Status::Open(Cause::NoClose(1));
+    'verdicts: for k in 0..verdicts.len() {
+        match verdicts[k] {
+            Verdict::Proved(_) => {}
+            Verdict::NotProved => return Status::Open(Cause::NoClose(k as u32 + 1)),
         }
     }
     Status::Proved
 }
 
-/// Puts an accepted step on the trail, with its cost and the game that it leads to.
+/// Puts an accepted step on the trail, with its cost and the game that it leads to, where it closes no query.
 fn note(
     alloc: Global,
+    pool: &Pool,
     sequence: &Sequence,
     step: Step,
     trail: &mut Vec<Entry>,
 ) -> Result<(), AllocError>
-    ensures { OnOk result (IsNoted sequence.now step trail.old.items trail.new.items) }
+    requires { step.0.0 < length pool.now.trees }
+    ensures { OnOk result (IsNoted sequence.now step (tree_at pool.now.trees (Some step.0))
+        trail.old.items trail.new.items) }
 {
     let cost = match sequence.cost() {
         Some(cost) => cost.copy(alloc)?,
         None => return Err(AllocError),
     };
-    trail.push(Entry {
-        step,
-        cost,
-        next: Some(sequence.game()),
-    })?;
+    let next = match closing_of(pool, step) {
+        Some(_) => None,
+        None => Some(sequence.game()),
+    };
+    trail.push(Entry { step, cost, next })?;
     Ok(())
+}
+
+/// The verdict on a query with this sum, where it is closed.
+fn verdict_of(sum: Option<&Sum>) -> Result<Verdict, AllocError>
+    ensures { IfOk result (λ v. v ≡ verdict_by (option_map (λ s. s.now) sum.entry)) }
+{
+    match sum {
+        Some(sum) => Ok(Verdict::Proved(sum.copy()?)),
+        None => Ok(Verdict::NotProved),
+    }
+}
+
+/// The verdicts on the queries of a file: one that a sequence has closed is proved up to its sum.
+fn verdicts_of(
+    alloc: Global,
+    decls: &Decls,
+    sequence: &Sequence,
+) -> Result<Vec<Verdict>, AllocError>
+    ensures verdicts { IfOk result (λ v. v.items
+        ≡ verdicts_by (sum_in sequence.now.closed.items) 1 (queries decls.now.list)) }
+    ensures few { IfOk result (λ v. length v.items < 2 ^ 32) }
+{
+    let mut verdicts = Vec::new(alloc);
+    let mut number = 0;
+    'decls: for k in 0..decls.len() {
+        if query_at(decls, k).is_none() {
+            continue;
+        }
+        number += 1;
+        verdicts.push(verdict_of(sequence.sum(number))?)?;
+    }
+    Ok(verdicts)
 }
 
 /// Follows a script from a game on, as long as its steps are accepted.
@@ -114,32 +150,27 @@ pub fn follow(
     let mut trail = Vec::new(alloc);
     'steps: for step in script {
         match sequence.push(alloc, work, *step) {
-            Ok(()) => note(alloc, &sequence, *step, &mut trail)?,
+            Ok(()) => note(alloc, &work.pool, &sequence, *step, &mut trail)?,
             Err(fault) => {
                 let Some(status) = stop_of(fault, sequence.steps()) else {
                     return Err(AllocError);
                 };
-                return Ok(Walk { trail, status });
+                let verdicts = verdicts_of(alloc, &work.decls, &sequence)?;
+                return Ok(Walk {
+                    trail,
+                    verdicts,
+                    status,
+                });
             }
         }
     }
+    let verdicts = verdicts_of(alloc, &work.decls, &sequence)?;
+    let status = end_of(&verdicts);
     Ok(Walk {
         trail,
-        status: end_of(&work.decls),
+        verdicts,
+        status,
     })
-}
-
-/// No query is closed.
-fn open_verdicts(alloc: Global, decls: &Decls) -> Result<Vec<Verdict>, AllocError>
-    ensures { IfOk result (λ v. v.items ≡ map (λ n. NotProved) (queries decls.now.list)) }
-{
-    let mut verdicts = Vec::new(alloc);
-    'decls: for k in 0..decls.len() {
-        if query_at(decls, k).is_some() {
-            verdicts.push(Verdict::NotProved)?;
-        }
-    }
-    Ok(verdicts)
 }
 
 /// The steps of a trail.
@@ -178,13 +209,14 @@ pub fn run_script(
     let Ok(walk) = follow(alloc, &mut work, file.game, &script) else {
         return refused(alloc, work, command, Status::Memory);
     };
-    let Ok(verdicts) = open_verdicts(alloc, &work.decls) else {
-        return refused(alloc, work, command, Status::Memory);
-    };
     let Ok(steps) = steps_of(alloc, &walk.trail) else {
         return refused(alloc, work, command, Status::Memory);
     };
-    let Walk { trail, status } = walk;
+    let Walk {
+        trail,
+        verdicts,
+        status,
+    } = walk;
     Report {
         work,
         file: Some(file),

@@ -1,5 +1,5 @@
 -- Files: what they hold, and which bytes are one.
-use Rattle.std.specs.Prelude.{◌≡◌, ℕ, ◌+◌, ◌<◌, min, List, length, Option, Some, None, option_map, Result, Ok, Err}
+use Rattle.std.specs.Prelude.{◌≡◌, ℕ, ◌+◌, ◌<◌, min, Bool, true, false, List, length, Option, Some, None, option_map, Result, Ok, Err}
 use Rattle.cv_lex.specs.Lexis.{Token, Lexed, tokens_of}
 use Rattle.cv_lex.specs.declared.LexError.{LexError}
 use Rattle.cv_parse_terminals.specs.ScriptSigns.{between, script_signs}
@@ -24,6 +24,7 @@ use Rattle.cv_scope.specs.Scope.{IsScoped, first_scope_fault}
 use Rattle.cv_meaning.specs.Interpretation.{is_constant_of}
 use Rattle.cv_group.specs.Refusals.{refused_by}
 use Rattle.cv_group_rules.specs.Faults.{AreAccepted, GroupRule, equivalences_in, first_group_fault}
+use Rattle.cv_query_built.specs.Built.{has_unbuilt}
 use Rattle.cv_query_form.specs.Queries.{queries_in}
 use Rattle.cv_query_form.specs.Rules.{AreAsked}
 use Rattle.cv_query_form.specs.Tests.{first_refused}
@@ -70,8 +71,13 @@ content_of ts p block = record {
   script = option_map items block;
 }
 
--- These bytes are a file that holds this, in a pool with such a limit: with a proof block whose steps have rules, if it has
--- one, typed, in scope, with equivalences that are accepted and queries that may be asked.
+-- a step of a proof block, where there is one, asks for a certificate that isn't built
+abbrev pub asks_unbuilt : List Declaration → Option (List Tree) → Bool
+asks_unbuilt ds None = false
+asks_unbuilt ds (Some steps) = has_unbuilt (queries_in ds) steps
+
+-- These bytes are a file that holds this, in a pool with such a limit: with a proof block whose steps have rules, and whose
+-- certificates are built, if it has one, typed, in scope, with equivalences that are accepted and queries that may be asked.
 pub record IsFile (limit : ℕ) (bytes : List ℕ) (f : Content) : Type 0 where
   pub tokens : List Token
   pub said : Parsed
@@ -79,6 +85,7 @@ pub record IsFile (limit : ℕ) (bytes : List ℕ) (f : Content) : Type 0 where
   pub says : Says limit (signs_of tokens).signs said
   pub script : Option Tree
   pub block : block_of tokens said ≡ Ok script
+  pub built : asks_unbuilt said.declarations (option_map items script) ≡ false
   pub typed : IsTypedFile said.declarations said.game
   pub scoped : IsScoped said.declarations said.game
   pub groups : AreAccepted (is_constant_of said.declarations) (equivalences_in said.declarations)
@@ -136,8 +143,12 @@ of_block (script.Script token) = Script token
 of_block (script.Unbuilt token) = Unbuilt
 of_block (script.Build e) = OutOfMemory
 
+abbrev pub of_form : List Token → Parsed → (block : Option Tree) → (unbuilt : Bool) → Result Content FileError
+of_form ts p block true = Err Unbuilt
+of_form ts p block false = of_types (content_of ts p block) p (type_fault p)
+
 abbrev pub of_script : List Token → Parsed → Result (Option Tree) ScriptError → Result Content FileError
-of_script ts p (Ok block) = of_types (content_of ts p block) p (type_fault p)
+of_script ts p (Ok block) = of_form ts p block (asks_unbuilt p.declarations (option_map items block))
 of_script ts p (Err e) = Err (of_block e)
 
 abbrev pub of_parsed : List Token → Result Parsed ParseError → Result Content FileError
@@ -148,7 +159,7 @@ abbrev pub of_tokens : ℕ → Result (List Token) LexError → Result Content F
 of_tokens limit (Ok ts) = of_parsed ts (parsed limit (signs_of ts).signs)
 of_tokens limit (Err e) = Err (Lex e)
 
--- Lexis first, then what the tokens say, the proof block, types, scope, equivalences and queries.
+-- Lexis first, then what the tokens say, the proof block with its certificates, types, scope, equivalences and queries.
 unfoldable pub read_of : (limit : ℕ) → List ℕ → Result Content FileError
 read_of limit bytes = of_tokens limit (tokens_of bytes)
 

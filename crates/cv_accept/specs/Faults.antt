@@ -1,5 +1,5 @@
 -- How the faults of the stages are answered.
-use Rattle.std.specs.Prelude.{◌≡◌, ℕ, ◌+◌, ◌<◌, List, Option, Some, option_map, Result, Ok, Err}
+use Rattle.std.specs.Prelude.{◌≡◌, ℕ, ◌+◌, ◌<◌, Bool, true, List, Option, Some, option_map, Result, Ok, Err}
 use Rattle.std.specs.declared.vec.Vec.{Vec}
 use Rattle.std.specs.declared.alloc.Global.{Global}
 use Rattle.cv_pool.specs.KindTree.{KindTree}
@@ -63,3 +63,9 @@ IsBlock limit live r trees (Ok v) = (block : Option Tree) × (r ≡ Ok block) ×
 IsBlock limit live r trees (Err OutOfMemory) = Unit {0}
 IsBlock limit live r trees (Err (Room need)) = (block : Tree) × (r ≡ Ok (Some block)) × (need ≡ nodes_of block) × (limit < live + need)
 IsBlock limit live r trees (Err e) = (x : ScriptError) × (r ≡ Err x) × (e ≡ of_block x)
+
+-- a block is refused so for its certificates
+abbrev pub IsUnbuiltFault : (asks : Bool) → FileError → Type 0
+IsUnbuiltFault asks Unbuilt = asks ≡ true
+IsUnbuiltFault asks OutOfMemory = Unit {0}
+IsUnbuiltFault asks e = ⊥

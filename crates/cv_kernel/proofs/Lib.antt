@@ -1,3 +1,5 @@
+pub mod Answered
+pub mod Countable
 mod Nodes
 mod Pruned
 mod Settled

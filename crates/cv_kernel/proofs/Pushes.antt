@@ -33,7 +33,8 @@ use Rattle.cv_kernel.specs.declared.error.RuleError.{RuleError}
 use Rattle.cv_kernel.specs.declared.error.RuleError.TheVariants as rule
 use Rattle.cv_kernel.specs.declared.sequence.Sequence.{Sequence}
 use Rattle.cv_kernel.specs.Rules.{HasLiveNodes, IsAnswer, IsDrawn, IsOutside, IsShortDerivation, IsShortRule, IsShortTerm, need_of}
-use Rattle.cv_kernel.specs.Sequences.{IsAdvanced, IsPushAnswer, IsPushed, Same, game_in, needed, needed_by, push_fault}
+use Rattle.cv_kernel.specs.Closings.{closing_in}
+use Rattle.cv_kernel.specs.Sequences.{IsAdvanced, IsPushAnswer, IsPushed, IsStepAnswer, Same, game_in, needed, needed_by, push_fault}
 use Rattle.cv_rule_scenes.specs.Kept.{scene_of}
 use Rattle.cv_syntax.specs.Classes.{DeclsView}
 use Rattle.cv_kernel.specs.Steps.{judgement_by, narrow, narrow_place, nodes_of, step_in}
@@ -208,7 +209,12 @@ live-grown old new ds g a = λ k d l. decl-more (length old.trees) (length new.t
 
 -- the same answer, in a sequence that only looked up what there is to read
 
-module _ (pool : PoolView) (decls : DeclsView) (trees more : List KindTree) (old mid new : Sequence) (step : Tree) (x y : Step) (small : size (game_in pool.trees old) ≤ 50000) (same : Same old mid) (is : step_in step ≡ Some x) (narrowed : y ≡ narrow x) where
+-- the same answer of a step that closes no query
+
+pub on_kind : (pool : PoolView) (decls : DeclsView) (trees : List KindTree) (old new : Sequence) (step : Tree) (r : Result (Unit {0}) PushError) → closing_in step ≡ None → IsStepAnswer pool decls trees old new step None r → IsStepAnswer pool decls trees old new step (closing_in step) r
+on_kind pool decls trees old new step r n w = subst (λ o. IsStepAnswer pool decls trees old new step o r) (sym n) w
+
+module _ (pool : PoolView) (decls : DeclsView) (trees more : List KindTree) (old mid new : Sequence) (step : Tree) (x y : Step) (small : size (game_in pool.trees old) ≤ 50000) (same : Same old mid) (is : step_in step ≡ Some x) (narrowed : y ≡ narrow x) (changes : closing_in step ≡ None) where
   abbrev scene_at : Sequence → Scene
   scene_at s = scene_of pool decls s.game.root
 
@@ -223,6 +229,7 @@ module _ (pool : PoolView) (decls : DeclsView) (trees more : List KindTree) (old
     steps = w.steps ∙ ap suc same.steps;
     costs = w.costs;
     sum = w.sum ∙ ap (λ ts. added ts (cost_of w.cost) false) same.sum;
+    closed = w.closed ∙ same.closed;
     room = (let l = w.room in let n = ap (λ t. need_of t z) e in omega arith);
   }
   answer_of g h j k (Err (push.Refused q)) z e f m w = sym f ∙ w
@@ -241,10 +248,10 @@ module _ (pool : PoolView) (decls : DeclsView) (trees more : List KindTree) (old
       (answer_of (game_in pool.trees mid) (game_in pool.trees old) (judgement_of (scene_at mid) (narrow x)) (judgement_of (scene_at old) (narrow x)) r (narrow x) game judged m narrow_answer)
 
   by_result : old.steps < 2000 → (r : Result (Unit {0}) PushError) → Answer old more x r → IsPushed pool decls more old new step r
-  by_result l (Ok u) w = (l, subst (λ o. IsPushAnswer pool.limit (length pool.trees) (needed_by (game_in pool.trees old) o) (judgement_by (scene_at old) o) more old new (Ok u)) (sym is) w)
-  by_result l (Err (push.Refused q)) w = (l, subst (λ o. IsPushAnswer pool.limit (length pool.trees) (needed_by (game_in pool.trees old) o) (judgement_by (scene_at old) o) more old new (Err (push.Refused q))) (sym is) w)
+  by_result l (Ok u) w = (l, on_kind pool decls more old new step (Ok u) changes (subst (λ o. IsPushAnswer pool.limit (length pool.trees) (needed_by (game_in pool.trees old) o) (judgement_by (scene_at old) o) more old new (Ok u)) (sym is) w))
+  by_result l (Err (push.Refused q)) w = (l, on_kind pool decls more old new step (Err (push.Refused q)) changes (subst (λ o. IsPushAnswer pool.limit (length pool.trees) (needed_by (game_in pool.trees old) o) (judgement_by (scene_at old) o) more old new (Err (push.Refused q))) (sym is) w))
   by_result l (Err push.Steps) w = absurd w
-  by_result l (Err (push.Build b)) w = (l, subst (λ o. IsPushAnswer pool.limit (length pool.trees) (needed_by (game_in pool.trees old) o) (judgement_by (scene_at old) o) more old new (Err (push.Build b))) (sym is) w)
+  by_result l (Err (push.Build b)) w = (l, on_kind pool decls more old new step (Err (push.Build b)) changes (subst (λ o. IsPushAnswer pool.limit (length pool.trees) (needed_by (game_in pool.trees old) o) (judgement_by (scene_at old) o) more old new (Err (push.Build b))) (sym is) w))
 
   pub pushed : old.steps < 2000 → (r q : Result (Unit {0}) PushError) → q ≡ r → OnOk r (more ≡ trees) → IsAdvanced pool decls trees mid new y r → IsPushed pool decls more old new step q
   pushed l r q e m w = subst (IsPushed pool decls more old new step) (sym e) (by_result l r (tried r m w))

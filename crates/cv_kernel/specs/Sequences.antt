@@ -1,5 +1,5 @@
 -- What a sequence of games holds, and what a step does to it.
-use Rattle.std.specs.Prelude.{◌≡◌, ℕ, suc, ◌+◌, ◌<◌, ◌≤◌, false, List, length, Option, Some, None, IfSome, IsSome, Result, Ok, Err}
+use Rattle.std.specs.Prelude.{◌≡◌, ℕ, suc, ◌+◌, ◌<◌, ◌≤◌, ◌==◌, if◌then◌else◌, false, List, [], ◌∷◌, ◌++◌, length, map, Option, Some, None, IfSome, IsSome, Result, Ok, Err}
 use Rattle.cv_pool.specs.KindTree.{KindTree}
 use Rattle.cv_pool.specs.PoolView.{PoolView}
 use Rattle.cv_syntax.specs.Classes.{DeclsView}
@@ -7,22 +7,27 @@ use Rattle.cv_syntax.specs.declared.work.BuildError.TheVariants as build
 use Rattle.cv_syntax.specs.Tree.{Tree, size, tree_at}
 use Rattle.cv_syntax.specs.Declarations.{declarations}
 use Rattle.cv_scope.specs.Phrases.{IsWellFormed}
+use Rattle.cv_bound.specs.declared.cost.Cost.TheVariants as bound
+use Rattle.cv_bound.specs.declared.terms.Term.{Term}
 use Rattle.cv_bound.specs.Sums.{AllFit, added}
+use Rattle.cv_query_certificates.specs.Failures.{Failure}
 use Rattle.cv_rule_scenes.specs.Kept.{scene_of}
 use Rattle.cv_rule.specs.Prepared.{IsPrepared}
 use Rattle.cv_steps.specs.Costs.{cost_of}
 use Rattle.cv_steps.specs.Judgements.{Judgement, Refused, TooLarge, TooDeep, Accepted, judgement_of, most_nodes}
 use Rattle.cv_steps.specs.Steps.{Step, Cost}
+use Rattle.cv_kernel.specs.Closings.{Closing, closing_failure, closing_in}
 use Rattle.cv_kernel.specs.Rules.{HasNoRoom, need_of}
 use Rattle.cv_kernel.specs.Steps.{judgement_by, step_in}
 use Rattle.cv_kernel.specs.declared.error.PushError.{PushError}
 use Rattle.cv_kernel.specs.declared.error.PushError.TheVariants as push
 use Rattle.cv_kernel.specs.declared.error.RuleError.{RuleError}
 use Rattle.cv_kernel.specs.declared.error.RuleError.TheVariants as rule
+use Rattle.cv_kernel.specs.declared.sequence.Closed.{Closed}
 use Rattle.cv_kernel.specs.declared.sequence.Sequence.{Sequence}
 
 abbrev pub push_fault : RuleError → PushError
-push_fault (rule.Refused f) = push.Refused f
+push_fault (rule.Refused f) = push.Refused (record { condition = f.condition; place = f.place })
 push_fault (rule.Build e) = push.Build e
 
 abbrev pub game_in : List KindTree → Sequence → Tree
@@ -46,6 +51,16 @@ pub record Same (old new : Sequence) : Type 0 where
   pub steps : new.steps ≡ old.steps
   pub cost : new.cost ≡ old.cost
   pub sum : new.sum ≡ old.sum
+  pub closed : new.closed.items ≡ old.closed.items
+
+-- the numbers of the queries that are closed
+abbrev pub closed_numbers : Sequence → List ℕ
+closed_numbers s = map (λ c. c.query) s.closed.items
+
+-- the sum of a query, where it is closed
+abbrev pub sum_in : List Closed → (query : ℕ) → Option (List Term)
+sum_in [] k = None
+sum_in (c ∷ cs) k = if c.query == k then Some c.sum else sum_in cs k
 
 -- how many nodes a step may add
 
@@ -63,6 +78,7 @@ pub record IsTaken (limit live : ℕ) (need : ℕ) (j : Judgement) (trees : List
   pub steps : new.steps ≡ suc old.steps
   pub costs : new.cost ≡ Some (cost_of cost)
   pub sum : new.sum ≡ added old.sum (cost_of cost) false
+  pub closed : new.closed.items ≡ old.closed.items
   pub room : live + need ≤ limit
 
 -- Each answer is what is said of the step; memory may run out anywhere.
@@ -79,8 +95,29 @@ abbrev pub IsAdvanced : PoolView → DeclsView → List KindTree → (old new : 
 IsAdvanced pool decls trees old new step r =
     IsPushAnswer pool.limit (length pool.trees) (need_of (game_in pool.trees old) step) (judgement_of (scene_of pool decls old.game.root) step) trees old new r
 
+-- a query is closed up to the sum of the steps before, and the game stays
+pub record IsClosing (c : Closing) (old new : Sequence) : Type 0 where
+  pub game : new.game ≡ old.game
+  pub steps : new.steps ≡ suc old.steps
+  pub cost : new.cost ≡ Some bound.Zero
+  pub sum : new.sum ≡ old.sum
+  pub closed : new.closed.items ≡ old.closed.items ++ record { query = c.query; sum = old.sum } ∷ []
+
+-- A step that closes a query is answered by the first condition that fails; memory may run out anywhere.
+abbrev pub IsCloseAnswer : Option Failure → Closing → (old new : Sequence) → Result (Unit {0}) PushError → Type 0
+IsCloseAnswer failure c old new (Ok u) = (failure ≡ None) × IsClosing c old new
+IsCloseAnswer failure c old new (Err (push.Refused f)) = failure ≡ Some (record { condition = f.condition; place = f.place })
+IsCloseAnswer failure c old new (Err (push.Build build.OutOfMemory)) = Unit {0}
+IsCloseAnswer failure c old new (Err e) = ⊥
+
+-- each kind of step is answered so
+abbrev pub IsStepAnswer : PoolView → DeclsView → List KindTree → (old new : Sequence) → (step : Tree) → Option Closing → Result (Unit {0}) PushError → Type 0
+IsStepAnswer pool decls trees old new step None r =
+    IsPushAnswer pool.limit (length pool.trees) (needed (game_in pool.trees old) step) (judgement_by (scene_of pool decls old.game.root) (step_in step)) trees old new r
+IsStepAnswer pool decls trees old new step (Some c) r =
+    IsCloseAnswer (closing_failure (scene_of pool decls old.game.root) (closed_numbers old) c) c old new r
+
 -- as many steps were taken as a proof may have, or the step was answered
 abbrev pub IsPushed : PoolView → DeclsView → List KindTree → (old new : Sequence) → (step : Tree) → Result (Unit {0}) PushError → Type 0
 IsPushed pool decls trees old new step (Err push.Steps) = 2000 ≤ old.steps
-IsPushed pool decls trees old new step r =
-    (old.steps < 2000) × IsPushAnswer pool.limit (length pool.trees) (needed (game_in pool.trees old) step) (judgement_by (scene_of pool decls old.game.root) (step_in step)) trees old new r
+IsPushed pool decls trees old new step r = (old.steps < 2000) × IsStepAnswer pool decls trees old new step (closing_in step) r

@@ -11,11 +11,19 @@ pub enum RuleError {
     Build(BuildError),
 }
 
+/// The condition of a step that fails, and the place where it does; 0, where it names none. A certificate may name any
+/// place.
+#[derive(Clone, Copy, Debug, PartialEq, Eq)]
+pub struct Refusal {
+    pub condition: u32,
+    pub place: u64,
+}
+
 /// Why a step isn't taken.
 #[derive(Clone, Copy, Debug, PartialEq, Eq)]
 pub enum PushError {
     /// The first of its conditions that fails.
-    Refused(Failure),
+    Refused(Refusal),
     /// As many steps were taken as a proof may have.
     Steps,
     /// The next game passes a limit, or the pool has no room for it.
@@ -65,7 +73,10 @@ impl From<RuleError> for PushError {
 
     fn from(fault: RuleError) -> PushError {
         match fault {
-            RuleError::Refused(failure) => PushError::Refused(failure),
+            RuleError::Refused(failure) => PushError::Refused(Refusal {
+                condition: failure.condition,
+                place: failure.place as u64,
+            }),
             RuleError::Build(fault) => PushError::Build(fault),
         }
     }

@@ -2,13 +2,15 @@
 #![tactic(auto)]
 
 mod applying;
+mod closing;
 mod drawing;
 mod error;
 mod reading;
 mod sequence;
 
 pub use applying::apply;
+pub use closing::{Closing, closing_of};
 pub use cv_kernel_games::Next;
-pub use error::{PushError, RuleError};
+pub use error::{PushError, Refusal, RuleError};
 pub use reading::rule_of;
-pub use sequence::Sequence;
+pub use sequence::{Closed, Sequence};

@@ -1,21 +1,29 @@
-ghost use Rattle.std.specs.Prelude.{◌≡◌, ◌+◌, ◌<◌, ◌≤◌, ◌^◌, [], All, IfSome, None, OnErr, OnOk, Some, length, option_map};
+ghost use Rattle.std.specs.Prelude.{◌≡◌, ◌+◌, ◌<◌, ◌≤◌, ◌^◌, ◌++◌, ◌∷◌, [], All, IfSome, None, OnErr, OnOk, Some, length, option_map};
 ghost use Rattle.cv_pool.specs.PoolView.{Grows};
 ghost use Rattle.cv_syntax.specs.Tree.{tree_at};
 ghost use Rattle.cv_typing.specs.Lookups.{IsLive};
 ghost use Rattle.cv_bound.specs.Sums.{AllFit};
 ghost use Rattle.cv_steps.specs.Steps.{Step as StepTree};
 ghost use Rattle.cv_rule.specs.Stated.{step_of};
+ghost use Rattle.cv_pool.specs.Nodes.{ChildBelow};
+ghost use Rattle.cv_rule_scenes.specs.Kept.{scene_of};
+ghost use Rattle.cv_kernel.specs.ClosingTrees.{closing_tree};
+ghost use Rattle.cv_kernel.specs.Closings.{closing_failure};
 ghost use Rattle.cv_kernel.specs.Rules.{IsShortRule, need_of};
-ghost use Rattle.cv_kernel.specs.Sequences.{IsAdvanced, IsPushed, IsReady, Same, Stands, needed};
+ghost use Rattle.cv_kernel.specs.Sequences.{IsAdvanced, IsCloseAnswer, IsPushed, IsReady, Same, Stands, closed_numbers, needed, sum_in};
 ghost use Rattle.cv_kernel.specs.Steps.{narrow, nodes_of, step_in};
 
 use crate::applying::attempt;
-use crate::error::PushError;
+use crate::closing::{Closing, closing_of};
+use crate::error::{PushError, Refusal};
 use crate::reading::rule_of;
 use cv_bound::{Cost, Sum};
 use cv_directory::Directory;
 use cv_kernel_games::settle;
-use cv_rule::{Failure, Rule};
+use cv_query_built::query_numbered;
+use cv_query_check::check;
+use cv_query_entries::View;
+use cv_rule::Rule;
 use cv_script::{Step, view};
 use cv_syntax::{Game, Pool, Work};
 use cv_typing::Arrays;
@@ -35,7 +43,35 @@ fn rule_in(pool: &Pool, step: Step) -> Option<Rule>
     rule_of(view(pool, step)?)
 }
 
-/// A sequence of games, by its last: each accepted step leads to the next.
+/// A step that fails a condition at no place.
+fn refused(condition: u32) -> PushError
+    ensures { result ≡ PushError.Refused (record { condition = condition; place = 0 }) }
+{
+    PushError::Refused(Refusal {
+        condition,
+        place: 0,
+    })
+}
+
+/// A query that is closed, by its number, and the sum of the costs of the steps before.
+#[derive(Drop)]
+pub struct Closed {
+    query: u64,
+    sum: Sum,
+}
+
+/// Puts a query among the closed ones, with the sum so far.
+fn note_closed(closed: &mut Vec<Closed>, query: u64, sum: &Sum) -> Result<(), AllocError>
+    ensures put { OnOk result (closed.new.items
+        ≡ closed.old.items ++ record { query = query; sum = sum.now } ∷ []) }
+    ensures same { OnErr result (closed.new.items ≡ closed.old.items) }
+{
+    let sum = sum.copy()?;
+    closed.push(Closed { query, sum })?;
+    Ok(())
+}
+
+/// A sequence of games, by its last: each accepted step leads to the next, or closes a query.
 #[derive(Drop)]
 pub struct Sequence {
     game: Game,
@@ -44,6 +80,7 @@ pub struct Sequence {
     steps: u32,
     cost: Option<Cost>,
     sum: Sum,
+    closed: Vec<Closed>,
 }
 
 impl Sequence {
@@ -54,6 +91,7 @@ impl Sequence {
         ensures steps { result.steps ≡ 0 }
         ensures cost { result.cost ≡ None }
         ensures sum { result.sum ≡ [] }
+        ensures closed { result.closed.items ≡ [] }
     {
         Sequence {
             game,
@@ -61,6 +99,7 @@ impl Sequence {
             steps: 0,
             cost: None,
             sum: Sum::new(alloc),
+            closed: Vec::new(alloc),
         }
     }
 
@@ -85,11 +124,16 @@ impl Sequence {
         self.cost.as_ref()
     }
 
-    /// The sum of the costs: by no more does an adversary tell the last game from the first, where events are asked for.
-    pub fn sum(&self) -> &Sum
-        ensures { result.now ≡ self.now.sum }
+    /// The sum of a query of this number, where it is closed: the costs of the steps before. Takes no memory.
+    pub fn sum(&self, query: u64) -> Option<&Sum>
+        ensures { option_map (λ s. s.now) result ≡ sum_in self.now.closed.items query }
     {
-        &self.sum
+        'closed: for one in &self.closed {
+            if one.query == query {
+                return Some(&one.sum);
+            }
+        }
+        None
     }
 
     /// Looks up what there is to read in the game.
@@ -137,6 +181,42 @@ impl Sequence {
         Ok(())
     }
 
+    /// Closes a query by a certificate in the last game, up to the sum so far. After a refusal the sequence is as it was.
+    fn close(&mut self, alloc: Global, work: &Work, closing: Closing) -> Result<(), PushError>
+        requires stands { Stands work.now.pool.trees work.now.decls self.old }
+        requires declared { All (IsLive (length work.now.pool.trees)) work.now.decls.list }
+        requires live { ChildBelow (length work.now.pool.trees) closing.certificate }
+        requires short { nodes_of (tree_at work.now.pool.trees closing.certificate) < 2 ^ 31 }
+        requires steps { self.old.steps < 2000 }
+        ensures answer { IsCloseAnswer (closing_failure
+            (scene_of work.now.pool work.now.decls self.old.game.root) (closed_numbers self.old)
+            (closing_tree work.now.pool.trees closing))
+            (closing_tree work.now.pool.trees closing) self.old self.new result }
+        ensures stands { Stands work.now.pool.trees work.now.decls self.new }
+        ensures same { OnErr result (Same self.old self.new) }
+    {
+        if self.sum(closing.query).is_some() {
+            return Err(refused(1));
+        }
+        self.prepare(alloc, work)?;
+        let view = View {
+            work,
+            game: self.game.root,
+            arrays: self.arrays.as_ref().unwrap(),
+        };
+        let query = query_numbered(&work.decls, closing.query);
+        if let Some(failure) = check(alloc, &view, query, closing.certificate)? {
+            return Err(PushError::Refused(Refusal {
+                condition: failure.condition,
+                place: failure.place,
+            }));
+        }
+        note_closed(&mut self.closed, closing.query, &self.sum)?;
+        self.cost = Some(Cost::Zero);
+        self.steps += 1;
+        Ok(())
+    }
+
     /// Takes a step in the last game. After a refusal the sequence and the pool's contents are as they were.
     pub fn push(&mut self, alloc: Global, work: &mut Work, step: Step) -> Result<(), PushError>
         requires stands { Stands work.old.pool.trees work.old.decls self.old }
@@ -160,11 +240,11 @@ impl Sequence {
         if self.steps >= MOST_STEPS {
             return Err(PushError::Steps);
         }
+        if let Some(closing) = closing_of(&work.pool, step) {
+            return self.close(alloc, work, closing);
+        }
         let Some(rule) = rule_in(&work.pool, step) else {
-            return Err(PushError::Refused(Failure {
-                condition: 0,
-                place: 0,
-            }));
+            return Err(refused(0));
         };
         self.prepare(alloc, work)?;
         let before = work.pool.mark();

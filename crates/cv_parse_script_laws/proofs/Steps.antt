@@ -274,10 +274,10 @@ cryptos l d =
     has (Crypto e.first.0 x.first.0) (bound (λ v. name_in x.tree >>= λ w. Some (Crypto v w)) (name_is e.first) (bound (λ w. Some (Crypto e.first.0 w)) (name_is x.first) refl)) refl
     ))
 
-successes : (l : List Tree) → Made 127 l → HasItems is_any (over head.SuccessStep l)
+successes : (l : List Tree) → Made 127 l → HasItems is_built (over head.SuccessStep l)
 successes l d =
     let k = take (skip (skip d)) in
-    with_first is_any head.SuccessStep k (has (Success k.first.0 (single k.rest)) (bound (λ v. Some (Success v (single k.rest))) (number_is k.first) refl) refl)
+    with_first is_built head.SuccessStep k (has (Success k.first.0 (single k.rest)) (bound (λ v. Some (Success v (single k.rest))) (number_is k.first) refl) refl)
 
 simplifies : (l : List Tree) → Made 128 l → HasItems is_any (over head.SimplifyStep l)
 simplifies l d = let y = over_node head.SimplifyStep l in has Simplify (ap items_of_step y.2) refl
@@ -296,33 +296,33 @@ any_items d = record { items = d.items; are = d.are; pass = refl }
 any_step : (ts : List Tree) → IsStep is_built ts → IsStep is_any ts
 any_step ts x = record { tree = x.tree; is = x.is; first = any_items x.first }
 
-built_step : (ts : List Tree) → OneOf 152 129 6 ts → IsStep is_built ts
+built_step : (ts : List Tree) → OneOf 152 129 7 ts → IsStep is_built ts
 built_step ts (inl d) = a_step is_built head.SplitStep 129 115 refl splits ts (row 152 129 refl ts d)
 built_step ts (inr (inl d)) = a_step is_built head.LetStep 130 116 refl lets ts (row 152 130 refl ts d)
 built_step ts (inr (inr (inl d))) = a_step is_built head.NewStep 131 118 refl news ts (row 152 131 refl ts d)
 built_step ts (inr (inr (inr (inl d)))) = a_step is_built head.UnnewStep 132 119 refl unnews ts (row 152 132 refl ts d)
 built_step ts (inr (inr (inr (inr (inl d))))) = a_step is_built head.RewriteStep 133 111 refl rewrites ts (row 152 133 refl ts d)
 built_step ts (inr (inr (inr (inr (inr (inl d)))))) = a_step is_built head.PruneStep 134 112 refl prunes ts (row 152 134 refl ts d)
-built_step ts (inr (inr (inr (inr (inr (inr d)))))) = absurd d
+built_step ts (inr (inr (inr (inr (inr (inr (inl d))))))) = a_step is_built head.SuccessStep 135 127 refl successes ts (row 152 135 refl ts d)
+built_step ts (inr (inr (inr (inr (inr (inr (inr d))))))) = absurd d
 
-later_step : (ts : List Tree) → OneOf 149 135 13 ts → IsStep is_any ts
-later_step ts (inl d) = a_step is_any head.RenameStep 135 110 refl renames ts (row 149 135 refl ts d)
-later_step ts (inr (inl d)) = a_step is_any head.PickStep 136 113 refl picks ts (row 149 136 refl ts d)
-later_step ts (inr (inr (inl d))) = a_step is_any head.MergeStep 137 114 refl merges ts (row 149 137 refl ts d)
-later_step ts (inr (inr (inr (inl d)))) = a_step is_any head.UnletStep 138 117 refl unlets ts (row 149 138 refl ts d)
+later_step : (ts : List Tree) → OneOf 149 136 12 ts → IsStep is_any ts
+later_step ts (inl d) = a_step is_any head.RenameStep 136 110 refl renames ts (row 149 136 refl ts d)
+later_step ts (inr (inl d)) = a_step is_any head.PickStep 137 113 refl picks ts (row 149 137 refl ts d)
+later_step ts (inr (inr (inl d))) = a_step is_any head.MergeStep 138 114 refl merges ts (row 149 138 refl ts d)
+later_step ts (inr (inr (inr (inl d)))) = a_step is_any head.UnletStep 139 117 refl unlets ts (row 149 139 refl ts d)
 later_step ts (inr (inr (inr (inr d)))) = last_step ts d
   where
-    last_step : (ts : List Tree) → OneOf 149 139 9 ts → IsStep is_any ts
-    last_step ts (inl d) = a_step is_any head.MoveStep 139 120 refl moves ts (row 149 139 refl ts d)
-    last_step ts (inr (inl d)) = a_step is_any head.ArrayRenameStep 140 121 refl array_renames ts (row 149 140 refl ts d)
-    last_step ts (inr (inr (inl d))) = a_step is_any head.CodefStep 141 122 refl codefs ts (row 149 141 refl ts d)
-    last_step ts (inr (inr (inr (inl d)))) = a_step is_any head.BirthdayStep 142 123 refl birthdays ts (row 149 142 refl ts d)
-    last_step ts (inr (inr (inr (inr (inl d))))) = a_step is_any head.GuessStep 143 124 refl guesses ts (row 149 143 refl ts d)
-    last_step ts (inr (inr (inr (inr (inr (inl d)))))) = a_step is_any head.FreshStep 144 125 refl freshes ts (row 149 144 refl ts d)
-    last_step ts (inr (inr (inr (inr (inr (inr (inl d))))))) = a_step is_any head.CryptoStep 145 126 refl cryptos ts (row 149 145 refl ts d)
-    last_step ts (inr (inr (inr (inr (inr (inr (inr (inl d)))))))) = a_step is_any head.SuccessStep 146 127 refl successes ts (row 149 146 refl ts d)
-    last_step ts (inr (inr (inr (inr (inr (inr (inr (inr (inl d))))))))) = a_step is_any head.SimplifyStep 147 128 refl simplifies ts (row 149 147 refl ts d)
-    last_step ts (inr (inr (inr (inr (inr (inr (inr (inr (inr d))))))))) = absurd d
+    last_step : (ts : List Tree) → OneOf 149 140 8 ts → IsStep is_any ts
+    last_step ts (inl d) = a_step is_any head.MoveStep 140 120 refl moves ts (row 149 140 refl ts d)
+    last_step ts (inr (inl d)) = a_step is_any head.ArrayRenameStep 141 121 refl array_renames ts (row 149 141 refl ts d)
+    last_step ts (inr (inr (inl d))) = a_step is_any head.CodefStep 142 122 refl codefs ts (row 149 142 refl ts d)
+    last_step ts (inr (inr (inr (inl d)))) = a_step is_any head.BirthdayStep 143 123 refl birthdays ts (row 149 143 refl ts d)
+    last_step ts (inr (inr (inr (inr (inl d))))) = a_step is_any head.GuessStep 144 124 refl guesses ts (row 149 144 refl ts d)
+    last_step ts (inr (inr (inr (inr (inr (inl d)))))) = a_step is_any head.FreshStep 145 125 refl freshes ts (row 149 145 refl ts d)
+    last_step ts (inr (inr (inr (inr (inr (inr (inl d))))))) = a_step is_any head.CryptoStep 146 126 refl cryptos ts (row 149 146 refl ts d)
+    last_step ts (inr (inr (inr (inr (inr (inr (inr (inl d)))))))) = a_step is_any head.SimplifyStep 147 128 refl simplifies ts (row 149 147 refl ts d)
+    last_step ts (inr (inr (inr (inr (inr (inr (inr (inr d)))))))) = absurd d
 
 step : (ts : List Tree) → OneOf 149 129 19 ts → IsStep is_any ts
 step ts (inl d) = any_step ts (a_step is_built head.SplitStep 129 115 refl splits ts (row 149 129 refl ts d))
@@ -331,7 +331,8 @@ step ts (inr (inr (inl d))) = any_step ts (a_step is_built head.NewStep 131 118 
 step ts (inr (inr (inr (inl d)))) = any_step ts (a_step is_built head.UnnewStep 132 119 refl unnews ts (row 149 132 refl ts d))
 step ts (inr (inr (inr (inr (inl d))))) = any_step ts (a_step is_built head.RewriteStep 133 111 refl rewrites ts (row 149 133 refl ts d))
 step ts (inr (inr (inr (inr (inr (inl d)))))) = any_step ts (a_step is_built head.PruneStep 134 112 refl prunes ts (row 149 134 refl ts d))
-step ts (inr (inr (inr (inr (inr (inr d)))))) = later_step ts d
+step ts (inr (inr (inr (inr (inr (inr (inl d))))))) = any_step ts (a_step is_built head.SuccessStep 135 127 refl successes ts (row 149 135 refl ts d))
+step ts (inr (inr (inr (inr (inr (inr (inr d))))))) = later_step ts d
 
 -- scripts
 
@@ -379,4 +380,4 @@ unfolding sorts_pass
 have_rules limit live from signs steps e =
     let r = row_is_read built_script_row refl refl limit live from signs steps e in
     let m = made_so built_script_row refl signs r.script r.uses r.spelled in
-    subst (AllByRecursion (HasItems is_built)) (sym (r.items ∙ ap items_of (sym m.1))) (script_items is_built 154 153 152 (λ ts d. with_end is_built (OneOf 152 129 6) built_step ts (row 153 152 refl ts d)) m.0 m.2 (λ l d. row 154 153 refl l d))
+    subst (AllByRecursion (HasItems is_built)) (sym (r.items ∙ ap items_of (sym m.1))) (script_items is_built 154 153 152 (λ ts d. with_end is_built (OneOf 152 129 7) built_step ts (row 153 152 refl ts d)) m.0 m.2 (λ l d. row 154 153 refl l d))

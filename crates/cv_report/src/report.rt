@@ -44,7 +44,7 @@ pub enum Cause {
     StepRefused {
         step: u32,
         condition: u32,
-        place: u32,
+        place: u64,
     },
     /// Every step of the script was accepted, and this query, counted from 1, is closed by none.
     NoClose(u32),

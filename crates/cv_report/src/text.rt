@@ -255,17 +255,18 @@ fn push_numbered(out: &mut Vec<u8>, what: &[u8], number: u32) -> Result<(), Allo
 }
 
 /// Appends the place at which a condition fails.
-#[tactic(auto, unfolding(crate::specs::Text::place_text))]
-fn push_place(out: &mut Vec<u8>, place: u32) -> Result<(), AllocError>
+#[tactic(auto, unfolding(crate::specs::Text::place_text, crate::specs::Text::numbered_text))]
+fn push_place(out: &mut Vec<u8>, place: u64) -> Result<(), AllocError>
     ensures { OnOk result (out.new.items ≡ out.old.items ++ place_text place) }
 {
-    push_numbered(out, b" at ", place)?;
+    out.extend_from_slice(b" at ")?;
+    push_decimal(out, place)?;
     out.extend_from_slice(b"\n")
 }
 
 /// Appends the condition that fails, with the place.
 #[tactic(auto, unfolding(crate::specs::Text::condition_text))]
-fn push_condition(out: &mut Vec<u8>, condition: u32, place: u32) -> Result<(), AllocError>
+fn push_condition(out: &mut Vec<u8>, condition: u32, place: u64) -> Result<(), AllocError>
     ensures { OnOk result (out.new.items ≡ out.old.items ++ condition_text condition place) }
 {
     push_numbered(out, b" condition ", condition)?;
@@ -277,7 +278,7 @@ fn push_step_refused(
     out: &mut Vec<u8>,
     step: u32,
     condition: u32,
-    place: u32,
+    place: u64,
 ) -> Result<(), AllocError>
     ensures { OnOk result (out.new.items
         ≡ out.old.items ++ step_refused_text step condition place) }

@@ -1,5 +1,5 @@
 -- Sequences are within the sums of their costs.
-use Rattle.std.proofs.Common.{◌≡◌, ℕ, ◌<◌, Bool, false, List, [], ◌∷◌, refl, sym, subst, arith}
+use Rattle.std.proofs.Common.{◌≡◌, ℕ, ◌<◌, ◌≤◌, ◌*◌, Bool, false, List, [], ◌∷◌, refl, ap, sym, ◌∙◌, subst, arith, le_of_mul-le-mul_right}
 use Rattle.cv_syntax.specs.Declarations.{Declaration}
 use Rattle.cv_syntax.specs.Tree.{Tree}
 use Rattle.cv_meaning.specs.Interpretation.{Interpretation, setting_of}
@@ -8,6 +8,7 @@ use Rattle.cv_meaning.specs.Runs.{Adversary}
 use Rattle.cv_meaning.specs.Experiments.{Experiment, mode_of}
 use Rattle.cv_meaning.specs.Chances.{Chance, Same, AtMost, distance, zero_chance}
 use Rattle.cv_meaning.specs.Advantage.{IsAsked, chance_of}
+use Rattle.cv_meaning_chances.specs.Fractions.{HasTapes}
 use Rattle.cv_meaning_chances.proofs.FractionLaws.{at_most_trans}
 use Rattle.cv_bound.specs.declared.terms.Term.{Term}
 use Rattle.cv_bound.specs.Sums.{with_terms}
@@ -34,6 +35,15 @@ same_trans p q r pos e f =
 
 apart : (p r : Chance) → Same p r → AtMost (distance p r) zero_chance
 apart p r e = omega arith
+
+-- a chance that is close to none is as small
+back : (p q v : Chance) → 0 < q.all → AtMost (distance p q) v → AtMost q zero_chance → AtMost p v
+back p q v pos h k =
+    let none : q.good ≡ 0 = omega (arith, k) in
+    let left : q.good * p.all ≡ 0 = ap (λ n. n * p.all) none ∙ (let e : 0 * p.all ≡ 0 = omega arith in e) in
+    let whole : (distance p q).good ≡ p.good * q.all = omega (arith, left) in
+    let near : p.good * q.all * v.all ≤ v.good * (p.all * q.all) = subst (λ n. n * v.all ≤ v.good * (p.all * q.all)) whole h in
+    le_of_mul-le-mul_right {k = q.all} (omega (arith, near)) pos
 
 -- costs that are nothing add nothing
 no_terms : (sum : List Term) (costs : List Cost) → added_up sum costs false ≡ sum
@@ -75,3 +85,12 @@ module _ (ds : List Declaration) (known : ℕ → Bool) (first : Tree) (w : IsRe
       pub within : (advantages : Advantages) (passages : List Passage) (last : Tree) → IsSequence ds known first passages last → AtMost (distance (chance_in first) (chance_in last)) (sum_value i advantages (added_up [] (costs_of passages) false))
       within advantages passages last s =
           subst (λ ts. AtMost (distance (chance_in first) (chance_in last)) (sum_value i advantages ts)) (sym (no_terms [] (costs_of passages))) (apart (chance_in first) (chance_in last) (alike passages last s))
+
+      -- what is no chance in the last game is at most the sum in the first
+      pub carried : (advantages : Advantages) (passages : List Passage) (last : Tree) → IsSequence ds known first passages last → AtMost (chance_in last) zero_chance → AtMost (chance_in first) (sum_value i advantages (added_up [] (costs_of passages) false))
+      carried advantages passages last s h =
+          back (chance_in first) (chance_in last) (sum_value i advantages (added_up [] (costs_of passages) false)) (tapes (setting_of ds i) x a last (games_valued passages last s)) (within advantages passages last s) h
+
+-- and its value has tapes
+pub sum_tapes : (i : Interpretation) (advantages : Advantages) (passages : List Passage) → HasTapes (sum_value i advantages (added_up [] (costs_of passages) false))
+sum_tapes i advantages passages = subst (λ ts. HasTapes (sum_value i advantages ts)) (sym (no_terms [] (costs_of passages))) (omega arith)

@@ -8,7 +8,8 @@ ghost use Rattle.cv_meaning.specs.Interpretation.{Interpretation, setting_of};
 ghost use Rattle.cv_meaning.specs.Satisfies.{Satisfies};
 ghost use Rattle.cv_meaning.specs.Runs.{Adversary};
 ghost use Rattle.cv_meaning.specs.Experiments.{Experiment, mode_of};
-ghost use Rattle.cv_meaning.specs.Chances.{AtMost, distance};
+ghost use Rattle.cv_meaning.specs.Chances.{AtMost, distance, zero_chance};
+ghost use Rattle.cv_meaning_chances.specs.Fractions.{HasTapes};
 ghost use Rattle.cv_meaning.specs.Advantage.{IsAsked, chance_of};
 ghost use Rattle.cv_bound.specs.Values.{Advantages, sum_value};
 ghost use Rattle.cv_query_form.specs.Queries.{queries_in};
@@ -51,6 +52,23 @@ pub fn sequences_are_within_their_sums()
         AtMost (distance (chance_of (setting_of ds i) x a first)
         (chance_of (setting_of ds i) x a last))
         (sum_value i advantages (added_up [] (costs_of passages) false)) }
+{}
+
+/// So an experiment for which a query asks, and that has no chance in the last game, has a chance in the first that is
+/// at most the sum, whose value has tapes.
+pub fn chances_are_carried_back()
+    ensures chance { (ds : List Declaration) (known : ℕ → Bool) (first : Tree)
+        (passages : List Passage) (last : Tree) → IsReady ds first → HasConstants ds →
+        DerivationsHold ds → DerivedBodiesAreUnreached ds →
+        KnowsQueries (scene ds known first) → IsSequence ds known first passages last →
+        (i : Interpretation) → Satisfies ds i → (x : Experiment) → IsAsked (queries_in ds) x →
+        HasValuesIn (setting_of ds i) (mode_of x) first →
+        (a : Adversary) (advantages : Advantages) →
+        AtMost (chance_of (setting_of ds i) x a last) zero_chance →
+        AtMost (chance_of (setting_of ds i) x a first)
+        (sum_value i advantages (added_up [] (costs_of passages) false)) }
+    ensures tapes { (i : Interpretation) (advantages : Advantages) (passages : List Passage) →
+        HasTapes (sum_value i advantages (added_up [] (costs_of passages) false)) }
 {}
 
 /// In a game of the grammar that is typed with its file, whose types and parameters are declared, and whose queries

@@ -5,6 +5,7 @@ use Rattle.cv.specs.Causes.{ComesFrom}
 use Rattle.cv.proofs.Causing.{refusal_cause}
 use Rattle.cv.proofs.Endings.{refusal_answers}
 use Rattle.cv.proofs.Faithful.{run_close}
+use Rattle.cv.proofs.Proving.{script_sound}
 use Rattle.cv.proofs.Running.{run_answers, run_cause, run_judged, run_live, run_sound}
 use Rattle.cv.proofs.Verdicts.{reads_at, refuses_at}
 use Rattle.cv.proofs.decide.judge.Goals as goal
@@ -25,7 +26,10 @@ pub run_accepted-requires-clause-limit : goal.run_accepted-requires-clause-limit
 run_accepted-requires-clause-limit c = c.read.ensures.limit ∙ c.requires.limit
 
 pub returns-in-Ok-clause-sound : goal.returns-in-Ok-clause-sound
-returns-in-Ok-clause-sound c = run_sound _ c.in-Ok.accepted.file _ c.run_accepted.ensures.run
+returns-in-Ok-clause-sound c =
+    run_sound _ c.in-Ok.accepted.file _
+    (script_sound c.derivations_are_sound.ensures.hold c.derivations_are_sound.ensures.unreached c.accepted_correspondences_are_never_broken.ensures.chance c.accepted_exactly_where_nothing_fails.ensures _ c.in-Ok.accepted.file _ c.args.bytes.now (reads_at _ c.args.bytes.now _ c.requires.limit c.in-Ok.ensures.reads))
+    c.run_accepted.ensures.run
 
 pub returns-in-Ok-clause-games : goal.returns-in-Ok-clause-games
 returns-in-Ok-clause-games c = run_close c.derivations_are_sound.ensures.hold c.derivations_are_sound.ensures.unreached _ c.in-Ok.accepted.file _ c.args.bytes.now (reads_at _ c.args.bytes.now _ c.requires.limit c.in-Ok.ensures.reads) c.run_accepted.ensures.run

@@ -1,16 +1,17 @@
-use Rattle.std.proofs.Common.{◌<◌, ◌≤◌, ap, arith, length, map, subst, sym, take, refl, ◌∙◌, Some}
+use Rattle.std.proofs.Common.{◌<◌, ◌≤◌, ap, arith, length, subst, sym, take, refl, ◌∙◌, Some}
 use Rattle.std.proofs.lemmas.List.{take_all}
 use Rattle.cv_pool.proofs.Growth.{Grows-refl, Grows-trans}
-use Rattle.cv_syntax.specs.Classes.{DeclsView, queries}
+use Rattle.cv_syntax.specs.Classes.{queries}
 use Rattle.cv_syntax.specs.Declarations.{declarations}
 use Rattle.cv_syntax.specs.Tree.{size, tree_at}
 use Rattle.cv_syntax.specs.declared.work.Game.{Game}
 use Rattle.cv_parse_script.specs.Scripts.{trees_of}
 use Rattle.cv_scope.specs.Phrases.{IsWellFormed}
 use Rattle.cv_bound.specs.Sums.{AllFit}
-use Rattle.cv.specs.Scripts.{unclosed}
-use Rattle.cv.specs.Walks.{stop_of}
-use Rattle.cv.proofs.Following.{followed_next, followed_none, followed_stops, on_none, walk_ends}
+use Rattle.cv_kernel.specs.Sequences.{sum_in}
+use Rattle.cv.specs.Scripts.{ended_with, verdicts_by}
+use Rattle.cv.specs.Walks.{first_unproved, stop_of}
+use Rattle.cv.proofs.Following.{asked, asked_by, followed_next, followed_none, followed_stops, on_none, room_after, walk_ends}
 use Rattle.cv.proofs.follow.follow.Goals as goal
 
 pub steps-init : goal.steps-init
@@ -23,7 +24,7 @@ steps-init c =
     let few = c.requires.steps.few in
     let limit = c.requires.limit in
     record {
-      followed = followed_none (length trees) (declarations trees work.decls.list) work.decls.own trees s c.new-trail.result.items (tree_at trees (Some c.args.game.root)) c.new-trail.ensures.items c.start-sequence.ensures.steps (omega arith) same;
+      followed = followed_none (length trees) (declarations trees work.decls.list) work.decls.own trees s c.new-trail.result.items (tree_at trees (Some c.args.game.root)) c.new-trail.ensures.items c.start-sequence.ensures.steps c.start-sequence.ensures.sum c.start-sequence.ensures.closed (omega arith) same;
       stands = record {
         live = subst (λ (g : Game). g.root.0 < length trees) (sym c.start-sequence.ensures.game) here;
         small = subst (λ t. size t ≤ 50000) (sym same) c.requires.small;
@@ -45,7 +46,8 @@ returns-in-Err-clause-walk c =
     let i = c.steps.invariant in
     let count = sym (c.steps-in-Err.ensures ∙ c.in-Err.ensures.same.steps) in
     followed_stops fn now (tree_at fn.pool.trees (Some c.args.game.root)) c.args.script.now c.requires.below c.requires.steps.live i.grows i.decls c.steps.step-index _ c.steps-test.true c.steps.sequence c.push.new.self c.steps.trail.items i.followed
-    c.push.new.work.pool.trees _ c.in-Err.fault _ c.in-Err.ensures.kept (i.grows.limit ∙ c.requires.limit) c.in-Err.ensures.pushed (ap (stop_of c.in-Err.fault) count ∙ sym c.in-Some.ensures) refl
+    c.push.new.work.pool.trees (asked fn) c.in-Err.fault (record { trail = c.steps.trail; verdicts = c.in_ok-verdicts-in-Err.verdicts; status = c.in-Some.status }) c.in-Err.ensures.kept (i.grows.limit ∙ c.requires.limit) c.in-Err.ensures.pushed (ap (stop_of c.in-Err.fault) count ∙ sym c.in-Some.ensures) refl
+    (c.in_ok-verdicts-in-Err.ensures.verdicts ∙ (ap (λ cs. verdicts_by (sum_in cs) 1 (queries c.push.new.work.decls.list)) c.in-Err.ensures.same.closed ∙ asked_by fn c.push.new.work.decls (c.push.ensures.decls ∙ i.decls) (sum_in c.steps.sequence.closed.items)))
 
 pub steps-preserved : goal.steps-preserved
 steps-preserved c =
@@ -53,15 +55,15 @@ steps-preserved c =
     let now = c.steps.work in
     let new = c.push.new.work in
     let i = c.steps.invariant in
-    let room = c.in-Ok.ensures.pushed.1.room in
     let few = c.in-Ok.ensures.few in
     let limit = i.grows.limit ∙ c.requires.limit in
+    let room = room_after now.pool now.decls new.pool.trees c.steps.sequence c.push.new.self _ _ c.in-Ok.ensures.pushed few (omega (arith, limit, i.room)) in
     record {
       followed = followed_next fn now (tree_at fn.pool.trees (Some c.args.game.root)) c.args.script.now c.requires.below c.requires.steps.live i.grows i.decls c.steps.step-index _ c.steps-test.true c.steps.sequence c.push.new.self c.steps.trail.items i.followed
-          new.pool c.note.new.trail.items _ c.in-Ok.ensures.pushed c.in_ok-note-in-Ok.ensures c.push.ensures.grows c.push.ensures.stands.live few;
+          new.pool c.note.new.trail.items _ c.in-Ok.ensures.pushed c.in_ok-note-in-Ok.ensures c.push.ensures.grows i.stands.live c.push.ensures.stands.live few;
       stands = c.push.ensures.stands;
       grows = Grows-trans fn.pool now.pool new.pool i.grows c.push.ensures.grows;
-      room = omega arith;
+      room = omega (arith, room, limit);
       names = c.push.ensures.names ∙ i.names;
       decls = c.push.ensures.decls ∙ i.decls;
     }
@@ -72,6 +74,6 @@ returns-clause-walk c =
     let trees = fn.pool.trees in
     let i = c.steps.invariant in
     let all = ap (trees_of trees) (sym (take_all c.steps.step-index c.args.script.now (omega (arith, c.steps-test.false)))) in
-    let ends = c.end_of.ensures trees ∙ ap (λ (v : DeclsView). unclosed (map (λ n. tree_at trees (Some n)) (queries v.list))) i.decls in
     walk_ends (length trees) (declarations trees fn.decls.list) fn.decls.own (tree_at trees (Some c.args.game.root)) c.steps.work.pool.trees c.steps.sequence c.steps.trail.items (trees_of trees (take c.steps.step-index c.args.script.now)) i.followed
-    (trees_of trees c.args.script.now) _ (record { trail = c.steps.trail; status = c.end_of.result }) all refl ends
+    (trees_of trees c.args.script.now) (asked fn) (record { trail = c.steps.trail; verdicts = c.in_ok-verdicts.verdicts; status = c.end_of-status.result }) all refl
+    (c.in_ok-verdicts.ensures.verdicts ∙ asked_by fn c.steps.work.decls i.decls (sum_in c.steps.sequence.closed.items)) (c.end_of-status.ensures ∙ ap (λ vs. ended_with (first_unproved 1 vs)) c.deref.ensures.value)

@@ -1,17 +1,13 @@
 use Rattle.std.proofs.Common.{arith, refl, ap, sym, subst, ◌∙◌, Some, inr, length, map}
 use Rattle.cv_pool.proofs.Growth.{Grows-length}
-use Rattle.cv_syntax.specs.Classes.{queries}
 use Rattle.cv_syntax.specs.Declarations.{declarations}
-use Rattle.cv_syntax.specs.Tree.{tree_at}
 use Rattle.cv_parse_script.specs.Scripts.{trees_of}
 use Rattle.cv_query_form.specs.Queries.{queries_in}
 use Rattle.cv_accept.specs.Accepted.{Content}
 use Rattle.cv_accept.specs.Works.{content_at, content_nodes}
-use Rattle.cv_plain.specs.Strategy.{open_verdict}
 use Rattle.cv_plain.proofs.QueryLists.{queries-same}
-use Rattle.cv_plain.proofs.Sayings.{open-all}
 use Rattle.cv.specs.Scripts.{entry_in}
-use Rattle.cv.proofs.Following.{HasTrail, open_sound, walk_may, walk_trail}
+use Rattle.cv.proofs.Following.{HasTrail, walk_may, walk_trail}
 use Rattle.cv.proofs.Growing.{content-grown}
 use Rattle.cv.proofs.follow.run_script.Goals as goal
 
@@ -28,13 +24,12 @@ returns-clause-run c =
     let c_old = content_at old root (Some script) in
     let same = sym (queries-same old.pool.trees old.decls.list) in
     let t_old = walk_trail (length old.pool.trees) c_old _ _ (queries_in ds) now.pool.trees walk c.in-Ok.ensures.walk (ap (λ ss. Some (trees_of old.pool.trees ss)) (sym c.deref.ensures.value)) c.requires.nodes same in
-    let t = subst (λ (d : Content). HasTrail walk.status (map (entry_in now.pool.trees) walk.trail.items) (content_nodes d) d (queries_in d.declarations) d.script) (sym held) t_old in
-    let left = c.in-Ok-open_verdicts.ensures ∙ (open-all (λ n. tree_at now.pool.trees (Some n)) (queries now.decls.list) ∙ ap (map open_verdict) (sym (queries-same now.pool.trees now.decls.list))) in
+    let t = subst (λ (d : Content). HasTrail walk.status (map (entry_in now.pool.trees) walk.trail.items) walk.verdicts.items (content_nodes d) d (queries_in d.declarations) d.script) (sym held) t_old in
     inr (record {
       file = refl;
       content = held;
-      proceeds = record { walk = t.0; trail = t.1; steps = c.in-Ok-steps_of.ensures ∙ ap (map (λ e. e.step)) c.deref-2.ensures.value; verdicts = left };
-      sound = open_sound c_old _ _ left;
+      proceeds = record { walk = t.0; trail = t.1; steps = c.in-Ok-steps_of.ensures ∙ ap (map (λ e. e.step)) c.deref-2.ensures.value; verdicts = t.2 };
+      sound = λ e. absurd (cc);
       status = walk_may _ _ _ _ _ _ _ walk c.in-Ok.ensures.walk;
       live = record { file = (let here = c.requires.game in omega arith); trail = c.in-Ok.ensures.walk.live };
     })

@@ -39,7 +39,7 @@ returns-clause-run c =
       file = refl;
       content = held;
       proceeds = found_follows _ c.args.file found (length trees) game _ c.in-Ok.ensures.found (ap (λ (h : Content). h.game) held) asked (omega arith) refl refl c.status-status.ensures trail;
-      sound = sound_at ds game (queries_in ds) vs c.requires.formed (subst (λ (qs : List Tree). AreSound game qs vs) (sym (queries-same trees old.decls.list)) sound);
+      sound = λ e. sound_at ds game (queries_in ds) vs c.requires.formed (subst (λ (qs : List Tree). AreSound game qs vs) (sym (queries-same trees old.decls.list)) sound);
       status = subst MayHaveFile (sym c.status-status.ensures) (may_have_file found.need found.full found.all);
       live = record {
         file = (let here = c.requires.game in omega arith);

@@ -1,0 +1,49 @@
+-- Steps that close a query. A query is closed once, by a certificate that is accepted in the last game, and the game stays. This
+-- profile's own.
+use Rattle.std.specs.Prelude.{ℕ, Bool, ◌==◌, if◌then◌else◌, List, Option, Some, None, option_and_then}
+use Rattle.std.specs.List.{list_any}
+use Rattle.cv_syntax.specs.Tree.{Tree}
+use Rattle.cv_query_form.specs.Queries.{queries_in}
+use Rattle.cv_query_certificates.specs.Failures.{Failure, first_failure}
+use Rattle.cv_scenes.specs.Scenes.{Scene}
+use Rattle.cv_scenes.specs.Sights.{from_one}
+use Rattle.cv_script.specs.Views.{StepItems, items_of_step}
+use Rattle.cv_script.specs.Views as items
+use Rattle.cv_steps.specs.Judgements.{Judgement, Accepted, Refused}
+use Rattle.cv_steps.specs.Steps.{Zero}
+use Rattle.cv_kernel.specs.Steps.{judgement_at}
+
+-- a query by its number, from 1, and a certificate for it
+pub record Closing : Type 0 where
+  pub query : ℕ
+  pub certificate : Tree
+
+abbrev pub closing_of_items : StepItems → Option Closing
+closing_of_items (items.Success k certificate) = Some (record { query = k; certificate = certificate })
+closing_of_items other = None
+
+-- the query that a step closes, with its certificate, where it is such a step
+abbrev pub closing_in : Tree → Option Closing
+closing_in t = option_and_then closing_of_items (items_of_step t)
+
+abbrev pub is_among : List ℕ → ℕ → Bool
+is_among ks k = list_any (λ n. n == k) ks
+
+-- The first condition that fails, where these queries are closed: the query is there and isn't closed, and then the certificate's.
+abbrev pub closing_failure : Scene → (closed : List ℕ) → Closing → Option Failure
+closing_failure s closed c =
+    if is_among closed c.query then Some (record { condition = 1; place = 0 })
+    else first_failure s (from_one (queries_in s.declarations) c.query) c.certificate
+
+-- what is said of any step, where these queries are closed
+
+abbrev pub judgement_of_failure : Scene → Option Failure → Judgement
+judgement_of_failure s None = Accepted s.game Zero
+judgement_of_failure s (Some f) = Refused f.condition f.place
+
+abbrev pub judgement_by_closing : Scene → (closed : List ℕ) → (step : Tree) → Option Closing → Judgement
+judgement_by_closing s closed t None = judgement_at s t
+judgement_by_closing s closed t (Some c) = judgement_of_failure s (closing_failure s closed c)
+
+abbrev pub judgement_in : Scene → (closed : List ℕ) → (step : Tree) → Judgement
+judgement_in s closed t = judgement_by_closing s closed t (closing_in t)

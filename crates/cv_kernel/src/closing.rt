@@ -1,0 +1,31 @@
+ghost use Rattle.std.specs.Prelude.{◌≡◌, ◌<◌, IfSome, Some, length, option_map};
+ghost use Rattle.cv_pool.specs.Nodes.{ChildBelow};
+ghost use Rattle.cv_syntax.specs.Tree.{tree_at};
+ghost use Rattle.cv_kernel.specs.ClosingTrees.{closing_tree};
+ghost use Rattle.cv_kernel.specs.Closings.{closing_in};
+
+use cv_script::{Step, StepView, view};
+use cv_syntax::{NodeId, Pool};
+
+/// A query by its number, from 1, and a certificate for it.
+#[derive(Clone, Copy)]
+pub struct Closing {
+    pub query: u64,
+    pub certificate: Option<NodeId>,
+}
+
+/// The query that a step closes, with its certificate, where it is such a step.
+pub fn closing_of(pool: &Pool, step: Step) -> Option<Closing>
+    requires { step.0.0 < length pool.now.trees }
+    ensures closing { option_map (closing_tree pool.now.trees) result
+        ≡ closing_in (tree_at pool.now.trees (Some step.0)) }
+    ensures live { IfSome result (λ c. ChildBelow (length pool.now.trees) c.certificate) }
+{
+    match view(pool, step)? {
+        StepView::Success { query, by } => Some(Closing {
+            query,
+            certificate: by,
+        }),
+        _ => None,
+    }
+}

@@ -1,0 +1,90 @@
+-- Queries and steps, one after another.
+use Rattle.std.proofs.Common.{◌≡◌, ℕ, zero, suc, ◌+◌, ◌<◌, Bool, true, false, ◌||◌, List, [], ◌∷◌, ◌++◌, length, map, drop, take, refl, ap, sym, ◌∙◌, subst, arith, get_or, Option, Some, None, option_and_then, All, append_assoc, append-nil, ap₂, ◌≤◌, ◌-◌, ◌==◌}
+use Rattle.std.specs.Prelude.{slice_get}
+use Rattle.std.specs.List.{list_any}
+use Rattle.std.proofs.lemmas.List.{drop_more, map-append}
+use Rattle.std.proofs.lemmas.List.Elements.{All-append, All-cons, All-head, All-nil, All-tail}
+use Rattle.cv_pool.specs.declared.node.NodeId.{NodeId}
+use Rattle.cv_pool.specs.KindTree.{KindTree}
+use Rattle.cv_syntax.specs.declared.decls.Decl.{Decl}
+use Rattle.cv_syntax.specs.declared.decls.Decl.TheVariants as decl
+use Rattle.cv_syntax.specs.Classes.{query_of}
+use Rattle.cv_syntax.specs.Declarations.{declarations}
+use Rattle.cv_typing.specs.Lookups.{IsLive}
+use Rattle.cv_syntax.specs.Tree.{Tree}
+use Rattle.cv_scenes.specs.Sights.{from_one}
+use Rattle.cv_query_form.specs.Queries.{queries_in}
+use Rattle.cv_query_form.proofs.Parts.{queries-past, queries-skip, queries-take}
+use Rattle.cv_script.specs.declared.steps.Step.{Step}
+use Rattle.cv_query_built.specs.Built.{is_unbuilt_step, tree_of}
+
+-- a query more was found
+pub query-found : (ds : List Decl) (k : ℕ) (o : Option NodeId) (q : NodeId) (before after : List NodeId) → o ≡ option_and_then query_of (slice_get ds k) → o ≡ Some q → after ≡ before ++ q ∷ [] → (trees : List KindTree) → map (tree_of trees) before ++ queries_in (declarations trees (drop k ds)) ≡ queries_in (declarations trees ds)
+    → map (tree_of trees) after ++ queries_in (declarations trees (drop (k + 1) ds)) ≡ queries_in (declarations trees ds)
+query-found ds k o q before after e s p trees h =
+    let rest = queries_in (declarations trees (drop (k + 1) ds)) in
+    ap (λ ns. map (tree_of trees) ns ++ rest) p
+    ∙ (ap (λ ts. ts ++ rest) (map-append (tree_of trees) before (q ∷ []))
+    ∙ (append_assoc (map (tree_of trees) before) (tree_of trees q ∷ []) rest
+    ∙ (ap (λ ts. map (tree_of trees) before ++ ts) (sym (queries-take trees ds k q (sym e ∙ s))) ∙ h)))
+
+-- a declaration that is none
+pub query-skipped : (ds : List Decl) (k : ℕ) (o : Option NodeId) (found : List NodeId) → k < length ds → o ≡ option_and_then query_of (slice_get ds k) → o ≡ None → (trees : List KindTree) → map (tree_of trees) found ++ queries_in (declarations trees (drop k ds)) ≡ queries_in (declarations trees ds)
+    → map (tree_of trees) found ++ queries_in (declarations trees (drop (k + 1) ds)) ≡ queries_in (declarations trees ds)
+query-skipped ds k o found l e n trees h = ap (λ ts. map (tree_of trees) found ++ ts) (sym (queries-skip trees ds k l (sym e ∙ n))) ∙ h
+
+live-at : (n : ℕ) (ds : List Decl) (k : ℕ) (q : NodeId) → All (IsLive n) ds → option_and_then query_of (slice_get ds k) ≡ Some q → q.0 < n
+live-at n [] k q a e = absurd (cc)
+live-at n (decl.Name id class args result ∷ ds) zero q a e = absurd (cc)
+live-at n (decl.Equation m ∷ ds) zero q a e = absurd (cc)
+live-at n (decl.Equiv id m ∷ ds) zero q a e = absurd (cc)
+live-at n (decl.Query m ∷ ds) zero q a e = let h : m.0 ≡ q.0 = cc in let l : m.0 < n = All-head (IsLive n) (decl.Query m) ds a in omega arith
+live-at n (x ∷ ds) (suc k) q a e = live-at n ds k q (All-tail (IsLive n) x ds a) e
+
+pub live-found : (ds : List Decl) (k : ℕ) (o : Option NodeId) (q : NodeId) (before after : List NodeId) → o ≡ option_and_then query_of (slice_get ds k) → o ≡ Some q → after ≡ before ++ q ∷ [] → (n : ℕ) → All (IsLive n) ds → All (λ r. r.0 < n) before → All (λ r. r.0 < n) after
+live-found ds k o q before after e s p n a h =
+    subst (All (λ r. r.0 < n)) (sym p) (All-append (λ r. r.0 < n) before (q ∷ []) h (All-cons (λ r. r.0 < n) q [] (live-at n ds k q a (sym e ∙ s)) (All-nil (λ r. r.0 < n))))
+
+-- all declarations were looked at
+pub queries-found : (ds : List Decl) (k : ℕ) (found : List NodeId) → length ds ≤ k → (trees : List KindTree) → map (tree_of trees) found ++ queries_in (declarations trees (drop k ds)) ≡ queries_in (declarations trees ds) → map (tree_of trees) found ≡ queries_in (declarations trees ds)
+queries-found ds k found l trees h = sym (append-nil (map (tree_of trees) found)) ∙ (ap (λ ts. map (tree_of trees) found ++ ts) (sym (queries-past trees ds k l)) ∙ h)
+
+-- an item that doesn't pass
+pub any-later : {A B : Type 0} (p : B → Bool) (f : A → B) (xs : List A) (k : ℕ) (d : A) (b total : Bool) → k < length xs → b ≡ p (f (get_or xs k d)) → b ≡ false → list_any p (map f (drop k xs)) ≡ total → list_any p (map f (drop (k + 1) xs)) ≡ total
+any-later p f xs k d b total l e n h =
+    sym (ap (λ ys. list_any p (map f ys)) (drop_more xs k d l) ∙ ap (λ c. c || list_any p (map f (drop (k + 1) xs))) (sym e ∙ n)) ∙ h
+
+-- a step that closes no query so
+pub step-later : (trees : List KindTree) (queries : List Tree) (ns ms : List NodeId) (xs : List Step) (k : ℕ) (d : Step) (b total : Bool) → ms ≡ ns → map (tree_of trees) ns ≡ queries → k < length xs → b ≡ is_unbuilt_step (map (tree_of trees) ms) (tree_of trees (get_or xs k d).0) → b ≡ false
+    → list_any (is_unbuilt_step queries) (map (λ s. tree_of trees s.0) (drop k xs)) ≡ total → list_any (is_unbuilt_step queries) (map (λ s. tree_of trees s.0) (drop (k + 1) xs)) ≡ total
+step-later trees queries ns ms xs k d b total m q l e n h =
+    any-later (is_unbuilt_step queries) (λ s. tree_of trees s.0) xs k d b total l (e ∙ ap (λ qs. is_unbuilt_step qs (tree_of trees (get_or xs k d).0)) (ap (map (tree_of trees)) m ∙ q)) n h
+
+-- a query by its number
+
+other-number : (q : Tree) (qs : List Tree) (left : ℕ) → (left ≡ 1 → ⊥) → from_one (q ∷ qs) left ≡ from_one qs (left - 1)
+other-number q qs zero e = refl
+other-number q qs (suc zero) e = absurd (e refl)
+other-number q qs (suc (suc m)) e = let n : suc m ≡ suc (suc m) - 1 = omega arith in ap (from_one qs) n
+
+pub number-here : (ds : List Decl) (k : ℕ) (o : Option NodeId) (q : NodeId) (left number : ℕ) → o ≡ option_and_then query_of (slice_get ds k) → o ≡ Some q → left ≡ 1 → (trees : List KindTree) → from_one (queries_in (declarations trees (drop k ds))) left ≡ from_one (queries_in (declarations trees ds)) number → Some (tree_of trees q) ≡ from_one (queries_in (declarations trees ds)) number
+number-here ds k o q left number e s l trees h = sym (ap₂ (λ qs n. from_one qs n) (queries-take trees ds k q (sym e ∙ s)) l) ∙ h
+
+pub number-later : (ds : List Decl) (k : ℕ) (o : Option NodeId) (q : NodeId) (left next number : ℕ) → o ≡ option_and_then query_of (slice_get ds k) → o ≡ Some q → (left ≡ 1 → ⊥) → next ≡ left - 1 → (trees : List KindTree) → from_one (queries_in (declarations trees (drop k ds))) left ≡ from_one (queries_in (declarations trees ds)) number
+    → from_one (queries_in (declarations trees (drop (k + 1) ds))) next ≡ from_one (queries_in (declarations trees ds)) number
+number-later ds k o q left next number e s n m trees h =
+    let rest = queries_in (declarations trees (drop (k + 1) ds)) in
+    ap (from_one rest) m ∙ (sym (other-number (tree_of trees q) rest left n) ∙ (ap (λ qs. from_one qs left) (sym (queries-take trees ds k q (sym e ∙ s))) ∙ h))
+
+pub number-skip : (ds : List Decl) (k : ℕ) (o : Option NodeId) (left number : ℕ) → k < length ds → o ≡ option_and_then query_of (slice_get ds k) → o ≡ None → (trees : List KindTree) → from_one (queries_in (declarations trees (drop k ds))) left ≡ from_one (queries_in (declarations trees ds)) number → from_one (queries_in (declarations trees (drop (k + 1) ds))) left ≡ from_one (queries_in (declarations trees ds)) number
+number-skip ds k o left number l e n trees h = ap (λ qs. from_one qs left) (sym (queries-skip trees ds k l (sym e ∙ n))) ∙ h
+
+no-number : (left : ℕ) → (let none : Option Tree = None in none) ≡ from_one [] left
+no-number zero = refl
+no-number (suc m) = refl
+
+pub number-past : (ds : List Decl) (k left number : ℕ) → length ds ≤ k → (trees : List KindTree) → from_one (queries_in (declarations trees (drop k ds))) left ≡ from_one (queries_in (declarations trees ds)) number → None ≡ from_one (queries_in (declarations trees ds)) number
+number-past ds k left number l trees h = no-number left ∙ (ap (λ qs. from_one qs left) (sym (queries-past trees ds k l)) ∙ h)
+
+pub query-live : (n : ℕ) (ds : List Decl) (k : ℕ) (o : Option NodeId) (q : NodeId) → o ≡ option_and_then query_of (slice_get ds k) → o ≡ Some q → All (IsLive n) ds → q.0 < n
+query-live n ds k o q e s a = live-at n ds k q a (sym e ∙ s)
