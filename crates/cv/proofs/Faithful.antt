@@ -100,10 +100,10 @@ module _ (ds : List Declaration) (known : ℕ → Bool) (first : Tree) where
   stands_in ts last start k u e = absurd (cc)
   stands_in ts last (push before game t p i) k u e = elim (at_last before t u k e) as (λ _. StandsIn (before ++ t ∷ []) k u) [
     | inl h ↦ record {
-        game = game;
-        before = subst (λ xs. IsProof ds known first xs game) (sym (take_all before t k h.0)) p;
-        here = subst (λ x. IsTransition ds known (closed_by (take k (before ++ t ∷ []))) game x) (sym h.1) (subst (λ xs. IsTransition ds known (closed_by xs) game t) (sym (take_all before t k h.0)) i);
-      }
+      game = game;
+      before = subst (λ xs. IsProof ds known first xs game) (sym (take_all before t k h.0)) p;
+      here = subst (λ x. IsTransition ds known (closed_by (take k (before ++ t ∷ []))) game x) (sym h.1) (subst (λ xs. IsTransition ds known (closed_by xs) game t) (sym (take_all before t k h.0)) i);
+    }
     | inr h ↦
         let s = stands_in before game p k u h.1 in
         record {

@@ -147,8 +147,8 @@ module _ (before : ℕ) (ds : List Declaration) (own : ℕ) (first : Tree) (old 
   followed_put front s t trail after step tree h n v g is live_step live_game few =
       let one : Transition = record { step = tree; cost = n.entry.cost; next = kernel.game_in new.trees t } in
       let entry : entry_in new.trees n.entry ≡ entry_of one =
-          ap₂ (λ (x : Step) (o : Option Game). (tree_at new.trees (Some x.0), n.entry.cost, option_map (λ q. tree_at new.trees (Some q.root)) o)) n.taken n.next
-          ∙ ap₂ (λ (x : Tree) (o : Option Tree). (x, n.entry.cost, o)) is (entry_next t (closing_in tree)) in
+      ap₂ (λ (x : Step) (o : Option Game). (tree_at new.trees (Some x.0), n.entry.cost, option_map (λ q. tree_at new.trees (Some q.root)) o)) n.taken n.next
+      ∙ ap₂ (λ (x : Tree) (o : Option Tree). (x, n.entry.cost, o)) is (entry_next t (closing_in tree)) in
       let c = chain_of ds (known_to own) first h.proof (kernel.game_in old.trees s) h.leads in
       let l = Grows-length old new g in
       let lives = entries_more (length old.trees) (length new.trees) trail l h.live in

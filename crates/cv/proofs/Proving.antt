@@ -210,11 +210,12 @@ module _ (ds : List Declaration) (known : ℕ → Bool) (first : Tree) (w : IsRe
       let sum = sum_here ts c.place s c.here c.closing here.game here.before c.closes here.here c.up_to h in
       let advantages = advantages_of ds i cs query a in
       let asks : IsAsked (queries_in ds) (Breaks query) = contains_at (queries_in ds) j query q in
-      let values = choices_valued ds first w.formed.phrase typed w.sorts asked i sat (Breaks query) asks in
-      (subst (λ x. HasTapes (sum_value i advantages x)) sum (sum_tapes i advantages h.passages),
-      as_chance i query c.closing.certificate a is (sum_value i advantages s)
-      (subst (λ x. AtMost (chance_of (setting_of ds i) (Breaks query) a first) (sum_value i advantages x)) sum
-      (carried ds known first w constants holds unreached k i sat (Breaks query) asks values a advantages h.passages here.game h.sequence (never sc query c.closing.certificate proved i sat a))))
+      let values = choices_valued ds first w.formed.phrase typed w.sorts asked i sat (Breaks query) asks in (
+        subst (λ x. HasTapes (sum_value i advantages x)) sum (sum_tapes i advantages h.passages),
+        as_chance i query c.closing.certificate a is (sum_value i advantages s)
+            (subst (λ x. AtMost (chance_of (setting_of ds i) (Breaks query) a first) (sum_value i advantages x)) sum
+            (carried ds known first w constants holds unreached k i sat (Breaks query) asks values a advantages h.passages here.game h.sequence (never sc query c.closing.certificate proved i sat a))),
+      )
 
 -- the verdicts of a report that follows a script
 

@@ -21,9 +21,9 @@ decls-preserved c =
             live = λ n all. live-found list here _ w.in-Some.query c.decls.found.items _ c.query_at.ensures w.in-Some.is put n all (c.decls.invariant.live n all);
           }
       | in_default w ↦ record {
-            trees = λ trees. query-skipped list here _ _ (omega arith) c.query_at.ensures w.in_default.is trees (subst (λ (v : Vec NodeId Global). map (tree_of trees) v.items ++ queries_in (declarations trees (drop here list)) ≡ queries_in (declarations trees list)) (sym w.found-is) (c.decls.invariant.trees trees));
-            live = λ n all. subst (λ (v : Vec NodeId Global). All (λ q. q.0 < n) v.items) (sym w.found-is) (c.decls.invariant.live n all);
-          }
+        trees = λ trees. query-skipped list here _ _ (omega arith) c.query_at.ensures w.in_default.is trees (subst (λ (v : Vec NodeId Global). map (tree_of trees) v.items ++ queries_in (declarations trees (drop here list)) ≡ queries_in (declarations trees list)) (sym w.found-is) (c.decls.invariant.trees trees));
+        live = λ n all. subst (λ (v : Vec NodeId Global). All (λ q. q.0 < n) v.items) (sym w.found-is) (c.decls.invariant.live n all);
+      }
     ]
 
 pub returns-clause-trees : goal.returns-clause-trees

@@ -44,13 +44,14 @@ returns-clause-answer c =
     let pool = c.args.work.now.pool in
     let decls = c.args.work.now.decls in
     let same = c.prepare.ensures.same in
-    let found = c.is_some.ensures ∙ (sym (map-some (λ x. x.now) c.sum.result) ∙ ap is_some c.sum.ensures) in
-    (answer-of (scene_of pool decls old.game.root) (scene_of pool decls c.prepare.new.self.game.root) old.closed.items (closing_tree pool.trees c.args.closing) c.is_some.result _ _
-    (ap (λ (g : Game). scene_of pool decls g.root) same.game) (c.query_numbered-query.ensures.tree pool.trees) (ap (option_map failure_of) (sym c.in_default.is) ∙ c.in_ok-failure.ensures) found c.if-is_some.false,
-    record {
-      game = same.game;
-      steps = (let n = same.steps in omega arith);
-      cost = refl;
-      sum = same.sum;
-      closed = c.in_ok-note_closed.ensures.put ∙ ap₂ (λ (cs : List Closed) (s : List Term). cs ++ record { query = c.args.closing.query; sum = s } ∷ []) same.closed same.sum;
-    })
+    let found = c.is_some.ensures ∙ (sym (map-some (λ x. x.now) c.sum.result) ∙ ap is_some c.sum.ensures) in (
+      answer-of (scene_of pool decls old.game.root) (scene_of pool decls c.prepare.new.self.game.root) old.closed.items (closing_tree pool.trees c.args.closing) c.is_some.result _ _
+          (ap (λ (g : Game). scene_of pool decls g.root) same.game) (c.query_numbered-query.ensures.tree pool.trees) (ap (option_map failure_of) (sym c.in_default.is) ∙ c.in_ok-failure.ensures) found c.if-is_some.false,
+      record {
+        game = same.game;
+        steps = (let n = same.steps in omega arith);
+        cost = refl;
+        sum = same.sum;
+        closed = c.in_ok-note_closed.ensures.put ∙ ap₂ (λ (cs : List Closed) (s : List Term). cs ++ record { query = c.args.closing.query; sum = s } ∷ []) same.closed same.sum;
+      },
+    )

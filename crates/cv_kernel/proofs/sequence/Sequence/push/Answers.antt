@@ -17,10 +17,11 @@ returns-in_default-rule_in-clause-pushed c =
     let t = tree_at pool.trees (Some c.args.step.0) in
     let old = c.args.self.now in
     let decls = c.args.work.now.decls in
-    subst (λ e. IsPushed pool decls pool.trees old old t (Err e)) (sym c.refused.ensures)
-    (omega (arith, c.if-self-ge-MOST_STEPS.false),
-    on_kind pool decls pool.trees old old t (Err _) (closes_none _ _ _ c.closing_of.ensures.closing c.in_default.is)
-    (ap (judgement_by (scene_of pool decls old.game.root)) (no_step (step_in t) c.in_default-rule_in.ensures.rule)))
+    subst (λ e. IsPushed pool decls pool.trees old old t (Err e)) (sym c.refused.ensures) (
+      omega (arith, c.if-self-ge-MOST_STEPS.false),
+      on_kind pool decls pool.trees old old t (Err _) (closes_none _ _ _ c.closing_of.ensures.closing c.in_default.is)
+          (ap (judgement_by (scene_of pool decls old.game.root)) (no_step (step_in t) c.in_default-rule_in.ensures.rule)),
+    )
 
 pub returns-clause-pushed : goal.returns-clause-pushed
 returns-clause-pushed c =
