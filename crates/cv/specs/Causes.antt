@@ -32,7 +32,7 @@ use Rattle.cv_query_form.specs.Queries.{queries_in}
 use Rattle.cv_query_form.specs.Rules.{IsFirstRefused}
 use Rattle.cv_syntax.specs.Tree.{Tree}
 use Rattle.cv_syntax.specs.declared.work.File.{File}
-use Rattle.cv_accept.specs.Accepted.{Content, IsFile, IsFull, asks_unbuilt, block_of}
+use Rattle.cv_accept.specs.Accepted.{Content, IsFile, IsFull, asks_unbuilt, block_of, stops_at_prime}
 use Rattle.cv_parse_script.specs.Scripts.{items}
 use Rattle.cv_accept.specs.Places.{nodes_before}
 use Rattle.cv_report.specs.declared.report.FileFault.TheVariants.{Lex, Parse, Script, Types, Scope, Group, Query}
@@ -118,12 +118,17 @@ pub record HasQueryFault (tokens : List Token) (k : ℕ) : Type 0 where
   pub groups : AreAccepted (is_constant_of said.declarations) (equivalences_in said.declarations)
   pub first : IsFirstRefused said.game (queries_in said.declarations) k
 
+-- reading a proof block stops at this token: a step begins there that isn't built, or it is the mark of a second copy
+abbrev pub StopsUnbuilt : List Token → Parsed → (token : ℕ) → Type 0
+StopsUnbuilt tokens said token =
+    (block_of tokens said ≡ Err (block.Unbuilt token)) ⊎ ((block_of tokens said ≡ Err (block.Script token)) × (stops_at_prime tokens token ≡ true))
+
 -- The tokens are those of a file whose proof block has a step that has no rule, behind steps that have one.
 pub record HasStep (tokens : List Token) : Type 0 where
   pub said : Parsed
   pub says : Says most_pool (signs_of tokens).signs said
   pub token : ℕ
-  pub refused : block_of tokens said ≡ Err (block.Unbuilt token)
+  pub refused : StopsUnbuilt tokens said token
 
 -- They are those of a file whose proof block closes a query by a certificate that isn't built.
 pub record HasCertificate (tokens : List Token) : Type 0 where
