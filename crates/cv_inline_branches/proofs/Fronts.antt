@@ -3,7 +3,8 @@ use Rattle.std.proofs.Common.{◌≡◌, ℕ, Bool, List, [], ◌∷◌, map, re
 use Rattle.cv_syntax.specs.declared.head.Head.TheVariants.{Branch, Cons}
 use Rattle.cv_syntax.specs.Tree.{Tree, Empty, Node, binders}
 use Rattle.cv_inline_bodies.specs.Inlined.{Caller, Drawn, Scope, all_equal, branch_for, branch_indices, cells_in_game, cells_then, each_once, in_game, index_moves, index_terms, is_index_of, moved, needed}
-use Rattle.cv_inline_branches.specs.Moves.{binders_by, closed_branch, moves_by, names_from}
+use Rattle.cv_inline_terms.specs.Stacks.{names_from}
+use Rattle.cv_inline_branches.specs.Moves.{binders_by, closed_branch, moves_by}
 use Rattle.cv_inline_branches.proofs.Keys.{binders_same, moves_same}
 
 pub needed-Empty : (p : ℕ → Bool) → needed p Empty ≡ []

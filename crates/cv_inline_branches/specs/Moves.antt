@@ -1,5 +1,5 @@
 -- The indices of a branch in place of those of the other site. This profile's own.
-use Rattle.std.specs.Prelude.{ℕ, suc, List, [], ◌∷◌}
+use Rattle.std.specs.Prelude.{ℕ, List, [], ◌∷◌}
 use Rattle.cv_syntax.specs.declared.head.Head.TheVariants.{Cons, Branch}
 use Rattle.cv_syntax.specs.Postorder.{joined}
 use Rattle.cv_syntax.specs.Tree.{Tree, Empty, Node}
@@ -9,11 +9,6 @@ use Rattle.cv_inline_bodies.specs.Inlined.{read_at}
 abbrev pub moves_by : (here : Tree) → List (ℕ × ℕ) → (indices : List ℕ) → List (ℕ × Tree)
 moves_by here (r ∷ rs) (u ∷ us) = (r.0, read_at u here) ∷ moves_by here rs us
 moves_by here _ _ = []
-
--- the indices of a branch by name
-abbrev pub names_from : (ℕ → ℕ) → ℕ → List (ℕ × ℕ) → List ℕ
-names_from name k [] = []
-names_from name k (r ∷ rs) = name k ∷ names_from name (suc k) rs
 
 -- a list
 abbrev pub IsList : Tree → Type 0

@@ -6,8 +6,8 @@ ghost use Rattle.cv_inline_bodies.specs.Inlined.{branch_for, index_terms};
 ghost use Rattle.cv_inline_terms.specs.Callers.{IsLiveCaller, caller_in};
 ghost use Rattle.cv_inline_terms.specs.Drawings.{drawn_in};
 ghost use Rattle.cv_inline_terms.specs.Scopes.{scope_in};
-ghost use Rattle.cv_inline_terms.specs.Stacks.{stack};
-ghost use Rattle.cv_inline_branches.specs.Moves.{IsList, binders_by, closed_branch, names_from};
+ghost use Rattle.cv_inline_terms.specs.Stacks.{names_from, stack};
+ghost use Rattle.cv_inline_branches.specs.Moves.{IsList, binders_by, closed_branch};
 
 use crate::key::condition;
 use crate::moving::moved_cells;

@@ -1,1 +1,3 @@
+pub mod Filled
+pub mod Puts
 pub mod Tabled

@@ -1,6 +1,6 @@
 ghost use Rattle.std.specs.Prelude.{◌≡◌, ◌++◌, ◌+◌, ◌<◌, ◌^◌, IfOk, OnOk, length};
 ghost use Rattle.cv_inline_terms.specs.Drawings.{drawn_in};
-ghost use Rattle.cv_inline_branches.specs.Moves.{names_from};
+ghost use Rattle.cv_inline_terms.specs.Stacks.{names_from};
 
 use cv_inline_terms::{Drawing, Index};
 use std::alloc::{AllocError, Global};

@@ -8,9 +8,9 @@ use Rattle.cv_meaning_contexts.specs.Bodies.{body_place}
 use Rattle.cv_inline_bodies.specs.Inlined.{Caller}
 use Rattle.cv_inline_games.specs.Draws.{body_draws, branches_draws}
 use Rattle.cv_inline_sites.specs.Parts.{draws_at, draws_below, have_form, if_draws, own_draws}
-use Rattle.cv_inline_sites.specs.Subtrees.{IsNodeAt}
-use Rattle.cv_inline_sites.specs.declared.subtree.Subtree.{Subtree}
-use Rattle.cv_inline_sites.specs.declared.subtree.Parent.{Parent}
+use Rattle.cv_inline_listing.specs.Subtrees.{IsNodeAt}
+use Rattle.cv_inline_listing.specs.declared.subtree.Subtree.{Subtree}
+use Rattle.cv_inline_listing.specs.declared.subtree.Parent.{Parent}
 
 module _ (ss : List Caller) (c : ℕ) where
   form_1 : (r : ℕ) (h : Head) (more : Tree) → branches_draws ss c r (Node h Empty more) ≡ []

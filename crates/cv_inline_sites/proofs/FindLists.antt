@@ -7,9 +7,9 @@ use Rattle.cv_syntax.specs.declared.head.Head.TheVariants.{Find}
 use Rattle.cv_syntax.specs.Tree.{Tree, Empty, Node, first_place, second_place, tree_at}
 use Rattle.cv_inline_games.specs.Draws.{finds_in}
 use Rattle.cv_inline_sites.specs.Parts.{find_at}
-use Rattle.cv_inline_sites.specs.Subtrees.{IsNodeAt}
-use Rattle.cv_inline_sites.specs.declared.subtree.Subtree.{Subtree}
-use Rattle.cv_inline_sites.specs.declared.subtree.Parent.{Parent}
+use Rattle.cv_inline_listing.specs.Subtrees.{IsNodeAt}
+use Rattle.cv_inline_listing.specs.declared.subtree.Subtree.{Subtree}
+use Rattle.cv_inline_listing.specs.declared.subtree.Parent.{Parent}
 
 finds_in-Node : (q : ℕ) (h : Head) (a b : Tree) → finds_in q (Node h a b) ≡ find_at q h ++ (finds_in (first_place q h) a ++ finds_in (second_place q h a) b)
 unfolding finds_in

@@ -16,8 +16,8 @@ use Rattle.cv_inline_games.specs.Draws.{Draw, argument_draws, body_draws}
 use Rattle.cv_inline_listing.specs.Callings.{IsLiveCalling}
 use Rattle.cv_inline_sites.specs.Parts.{draws_below, own_draws}
 use Rattle.cv_inline_sites.proofs.Branching.{body_parts}
-use Rattle.cv_inline_sites.specs.Subtrees.{IsBelow}
-use Rattle.cv_inline_sites.specs.declared.subtree.Subtree.{Subtree}
+use Rattle.cv_inline_listing.specs.Subtrees.{IsBelow}
+use Rattle.cv_inline_listing.specs.declared.subtree.Subtree.{Subtree}
 
 pub none_of : {A : Type 0} (o : Option A) (P : Type 0) → o ≡ None → IfNone o P → P
 none_of None P e h = h

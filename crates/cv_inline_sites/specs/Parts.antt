@@ -7,7 +7,7 @@ use Rattle.cv_syntax.specs.Tree.{Tree, Node, first_place, second_place, tree_at}
 use Rattle.cv_inline_bodies.specs.Inlined.{Caller}
 use Rattle.cv_inline_games.specs.Draws.{Draw, body_draws, branches_draws, index_draws}
 use Rattle.cv_inline_listing.specs.Listed.{variable_draw}
-use Rattle.cv_inline_sites.specs.declared.subtree.Subtree.{Subtree}
+use Rattle.cv_inline_listing.specs.declared.subtree.Subtree.{Subtree}
 
 abbrev pub own_draws : List Caller → (c place : ℕ) → Tree → List Draw
 own_draws ss c q (Node (New z T) a b) = variable_draw c z ∷ []

@@ -5,9 +5,9 @@ ghost use Rattle.cv_inline_bodies.specs.Inlined.{Caller};
 ghost use Rattle.cv_inline_games.specs.Draws.{branches_draws};
 ghost use Rattle.cv_inline_sites.specs.Parts as parts;
 ghost use Rattle.cv_inline_sites.specs.Parts.{draws_at, draws_below, if_draws};
-ghost use Rattle.cv_inline_sites.specs.Subtrees.{IsBelow, IsNodeAt, IsWithin};
+ghost use Rattle.cv_inline_listing.specs.Subtrees.{IsBelow, IsNodeAt, IsWithin};
 
-use crate::subtree::{Parent, Subtree, node_at};
+use cv_inline_listing::{Parent, Subtree, node_at};
 use cv_syntax::{Head, Pool};
 use std::alloc::{AllocError, Global};
 

@@ -7,12 +7,11 @@ ghost use Rattle.cv_inline_games.specs.Draws.{body_draws, index_draws, site_draw
 ghost use Rattle.cv_inline_listing.specs.Callings.{IsLiveCalling, callers_in, calling_in, callings_in};
 ghost use Rattle.cv_inline_listing.specs.Listed.{draw_in};
 ghost use Rattle.cv_inline_sites.specs.Parts.{own_draws};
-ghost use Rattle.cv_inline_sites.specs.Subtrees.{IsWithin};
+ghost use Rattle.cv_inline_listing.specs.Subtrees.{IsWithin};
 
 use crate::bodies::bodies_below;
-use crate::subtree::Subtree;
 use cv_inline_listing::{
-    Calling, Draw, Role, add_arguments, add_branch_indices, add_each_once, add_variable,
+    Calling, Draw, Role, Subtree, add_arguments, add_branch_indices, add_each_once, add_variable,
 };
 use cv_syntax::children::{first_of, read_child, second_of};
 use cv_syntax::{Head, NodeId, Pool};

@@ -4,10 +4,9 @@ ghost use Rattle.cv_inline_games.specs.Draws as draws;
 ghost use Rattle.cv_inline_games.specs.Draws.{finds_in};
 ghost use Rattle.cv_inline_listing.specs.Callings.{IsLiveCalling, callings_in};
 ghost use Rattle.cv_inline_sites.specs.Parts.{find_at};
-ghost use Rattle.cv_inline_sites.specs.Subtrees.{IsWithin};
+ghost use Rattle.cv_inline_listing.specs.Subtrees.{IsWithin};
 
-use crate::subtree::{Subtree, node_at};
-use cv_inline_listing::Calling;
+use cv_inline_listing::{Calling, Subtree, node_at};
 use cv_syntax::children::second_of;
 use cv_syntax::{Head, Pool};
 use std::alloc::{AllocError, Global};

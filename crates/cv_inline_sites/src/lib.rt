@@ -4,7 +4,6 @@
 mod bodies;
 mod draws;
 mod finds;
-mod subtree;
 
 pub use draws::draws_of;
 pub use finds::label_draws;

@@ -1,5 +1,5 @@
 -- What a list of parts has made so far. This profile's own.
-use Rattle.std.specs.Prelude.{ℕ, List, [], ◌∷◌}
+use Rattle.std.specs.Prelude.{ℕ, suc, List, [], ◌∷◌}
 use Rattle.cv_syntax.specs.declared.head.Head.TheVariants.{Cons}
 use Rattle.cv_syntax.specs.declared.make.Make.{Make}
 use Rattle.cv_syntax.specs.Postorder.{made}
@@ -14,3 +14,8 @@ stack parts = made [] parts
 unfoldable pub tuple_at : Tree → List ℕ → Tree
 tuple_at here [] = Empty
 tuple_at here (u ∷ us) = Node Cons (read_at u here) (tuple_at here us)
+
+-- the indices of a branch by name
+abbrev pub names_from : (ℕ → ℕ) → ℕ → List (ℕ × ℕ) → List ℕ
+names_from name k [] = []
+names_from name k (r ∷ rs) = name k ∷ names_from name (suc k) rs

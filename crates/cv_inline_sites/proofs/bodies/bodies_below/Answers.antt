@@ -1,7 +1,7 @@
 use Rattle.std.proofs.Common.{ℕ, ◌<◌, All}
 use Rattle.std.proofs.lemmas.Result.{IfOk-weaker}
 use Rattle.cv_syntax.specs.Walks.{above}
-use Rattle.cv_inline_sites.specs.Subtrees.{IsBelow}
+use Rattle.cv_inline_listing.specs.Subtrees.{IsBelow}
 use Rattle.cv_inline_sites.proofs.bodies.bodies_below.Goals as goal
 
 pub returns-in-Find-clause-below : goal.returns-in-Find-clause-below

@@ -5,7 +5,7 @@ use Rattle.cv_syntax.specs.Walks.{above}
 use Rattle.cv_inline_bodies.specs.Inlined.{Caller}
 use Rattle.cv_inline_games.specs.Draws.{branches_draws}
 use Rattle.cv_inline_sites.specs.Parts.{draws_at}
-use Rattle.cv_inline_sites.specs.Subtrees.{IsBelow, IsWithin}
+use Rattle.cv_inline_listing.specs.Subtrees.{IsBelow, IsWithin}
 use Rattle.cv_inline_sites.proofs.bodies.bodies_of_branches.Given as goal
 
 abbrev pub decreases-branches : goal.decreases-branches

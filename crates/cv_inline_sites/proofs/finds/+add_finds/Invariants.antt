@@ -1,6 +1,6 @@
 use Rattle.std.proofs.Common.{◌≡◌, ◌≤◌, ◌++◌}
 use Rattle.cv_syntax.specs.Walks.{above}
-use Rattle.cv_inline_sites.specs.Subtrees.{IsWithin}
+use Rattle.cv_inline_listing.specs.Subtrees.{IsWithin}
 use Rattle.cv_inline_sites.proofs.FindLists.{finds_at}
 use Rattle.cv_inline_sites.proofs.finds.+add_finds.Given as goal
 

@@ -4,8 +4,8 @@ use Rattle.cv_pool.specs.KindTree.{KindTree}
 use Rattle.cv_pool.specs.Nodes.{ChildBelow}
 use Rattle.cv_syntax.specs.Tree.{Node, size, first_place, second_place, tree_at}
 use Rattle.cv_syntax.specs.Walks.{above}
-use Rattle.cv_inline_sites.specs.declared.subtree.Subtree.{Subtree}
-use Rattle.cv_inline_sites.specs.declared.subtree.Parent.{Parent}
+use Rattle.cv_inline_listing.specs.declared.subtree.Subtree.{Subtree}
+use Rattle.cv_inline_listing.specs.declared.subtree.Parent.{Parent}
 
 -- it is in the pool, and its places fit
 pub record IsWithin (trees : List KindTree) (s : Subtree) : Type 0 where

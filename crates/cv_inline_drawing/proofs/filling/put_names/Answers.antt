@@ -1,9 +1,9 @@
 use Rattle.std.proofs.Common.{◌≡◌, ◌+◌, ◌-◌, ◌∙◌, ap, arith, drop, length}
 use Rattle.cv_inline_bodies.specs.Inlined.{Drawn}
 use Rattle.cv_inline_terms.specs.Drawings.{drawn_in}
-use Rattle.cv_inline_table.specs.Tables.{with_names}
-use Rattle.cv_inline_table.proofs.Tabled.{least_is_one, names_begin, names_more}
-use Rattle.cv_inline_table.proofs.filling.put_names.Goals as goal
+use Rattle.cv_inline_drawing.specs.Tables.{with_names}
+use Rattle.cv_inline_drawing.proofs.Filled.{least_is_one, names_begin, names_more}
+use Rattle.cv_inline_drawing.proofs.filling.put_names.Goals as goal
 
 pub draws-init : goal.draws-init
 draws-init c =

@@ -6,7 +6,7 @@ use Rattle.cv_inline_bodies.specs.Inlined.{Drawn}
 use Rattle.cv_inline_games.specs.Draws.{drawn_by}
 use Rattle.cv_inline_listing.specs.declared.draws.Draw.{Draw}
 use Rattle.cv_inline_listing.specs.Listed.{draw_in, role_in}
-use Rattle.cv_inline_table.specs.Tables.{nothing, with_label, with_labels, with_name, with_names}
+use Rattle.cv_inline_drawing.specs.Tables.{nothing, with_label, with_labels, with_name, with_names}
 
 names_are : (ds : List Draw) (xs : List ℕ) → with_names ds xs nothing ≡ drawn_by (map draw_in ds) xs [] []
 names_are [] xs = refl

@@ -1,6 +1,6 @@
 use Rattle.cv_inline_terms.specs.Drawings.{drawn_in}
-use Rattle.cv_inline_table.proofs.Tabled.{filled}
-use Rattle.cv_inline_table.proofs.filling.drawing_of.Goals as goal
+use Rattle.cv_inline_drawing.proofs.Filled.{filled}
+use Rattle.cv_inline_drawing.proofs.filling.drawing_of.Goals as goal
 
 pub returns : goal.returns
 returns c =

@@ -2,7 +2,7 @@ use Rattle.std.proofs.Common.{◌+◌, ap, arith, length}
 use Rattle.cv_syntax.proofs.Trees.{child_live, empty_at}
 use Rattle.cv_syntax.proofs.Trees as trees_of
 use Rattle.cv_syntax.proofs.Walking.{above-child, above-some, size-at}
-use Rattle.cv_inline_sites.proofs.subtree.node_at.Goals as goal
+use Rattle.cv_inline_listing.proofs.subtree.node_at.Goals as goal
 
 pub returns-in_err-tree-clause-none : goal.returns-in_err-tree-clause-none
 returns-in_err-tree-clause-none c = rw c.from_residual.ensures (empty_at c.args.pool.now.trees c.args.tree.root c.in_err-tree.was)

@@ -1,7 +1,7 @@
 use Rattle.std.proofs.Common.{◌≡◌, ◌≤◌, drop, length}
 use Rattle.cv_inline_terms.specs.Drawings.{drawn_in}
-use Rattle.cv_inline_table.specs.Tables.{with_names}
-use Rattle.cv_inline_table.proofs.filling.put_names.Given as goal
+use Rattle.cv_inline_drawing.specs.Tables.{with_names}
+use Rattle.cv_inline_drawing.proofs.filling.put_names.Given as goal
 
 abbrev pub decreases-draws : goal.decreases-draws
 decreases-draws l = l.left

@@ -8,7 +8,7 @@ use Rattle.cv_inline_bodies.specs.Inlined.{Drawn}
 use Rattle.cv_inline_terms.specs.contracts.drawn.IndexPartialEq.TheImpl.{ghosts}
 use Rattle.cv_inline_terms.specs.declared.drawn.Index.{Index}
 use Rattle.cv_inline_terms.specs.Drawings.{or_zero, same_index, same_pair}
-use Rattle.cv_inline_table.specs.Tables.{with_label, with_name}
+use Rattle.cv_inline_drawing.specs.Tables.{with_label, with_name}
 
 choice : (b : Bool) (w : ℕ) (o : Option ℕ) → or_zero (cond b (Some w) o) ≡ (if b then w else or_zero o)
 choice true w o = refl

@@ -1,27 +1,27 @@
 ghost use Rattle.std.specs.Prelude.{◌≡◌, IfNone, IfSome};
 ghost use Rattle.cv_syntax.specs.Tree.{Empty, tree_at};
-ghost use Rattle.cv_inline_sites.specs.Subtrees.{IsNodeAt, IsWithin};
+ghost use Rattle.cv_inline_listing.specs.Subtrees.{IsNodeAt, IsWithin};
 
 use cv_path::size_below;
 use cv_syntax::{Head, NodeId, Pool, read_node};
 
 /// A tree, with the place where it stands.
 #[derive(Clone, Copy)]
-pub(crate) struct Subtree {
-    pub(crate) place: u32,
-    pub(crate) root: Option<NodeId>,
+pub struct Subtree {
+    pub place: u32,
+    pub root: Option<NodeId>,
 }
 
 /// A node, with its children where they stand.
 #[derive(Clone, Copy)]
-pub(crate) struct Parent {
-    pub(crate) head: Head,
-    pub(crate) first: Subtree,
-    pub(crate) second: Subtree,
+pub struct Parent {
+    pub head: Head,
+    pub first: Subtree,
+    pub second: Subtree,
 }
 
 /// The node at the top of a tree.
-pub(crate) fn node_at(pool: &Pool, tree: Subtree) -> Option<Parent>
+pub fn node_at(pool: &Pool, tree: Subtree) -> Option<Parent>
     requires { IsWithin pool.now.trees tree }
     ensures node { IfSome result (IsNodeAt pool.now.trees tree) }
     ensures none { IfNone result (tree_at pool.now.trees tree.root ≡ Empty) }

@@ -1,7 +1,7 @@
 use Rattle.std.proofs.Common.{◌≡◌, ◌≤◌, drop, length}
 use Rattle.cv_inline_terms.specs.Drawings.{drawn_in}
-use Rattle.cv_inline_table.specs.Tables.{with_labels}
-use Rattle.cv_inline_table.proofs.filling.put_labels.Given as goal
+use Rattle.cv_inline_drawing.specs.Tables.{with_labels}
+use Rattle.cv_inline_drawing.proofs.filling.put_labels.Given as goal
 
 abbrev pub decreases-finds : goal.decreases-finds
 decreases-finds l = l.left

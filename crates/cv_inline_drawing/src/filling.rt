@@ -2,7 +2,7 @@ ghost use Rattle.std.specs.Prelude.{◌≡◌, IfOk, OnOk, map, min};
 ghost use Rattle.cv_inline_games.specs.Draws.{drawn_by};
 ghost use Rattle.cv_inline_listing.specs.Listed.{draw_in};
 ghost use Rattle.cv_inline_terms.specs.Drawings.{drawn_in};
-ghost use Rattle.cv_inline_table.specs.Tables.{with_labels, with_names};
+ghost use Rattle.cv_inline_drawing.specs.Tables.{with_labels, with_names};
 
 use crate::putting::{empty, put_label, put_name};
 use cv_inline_listing::Draw;
@@ -42,7 +42,7 @@ fn put_labels(drawing: &mut Drawing, finds: &[(u32, u32)], labels: &[u64]) -> Re
 }
 
 /// The table of draws with their names, and of finds with their labels. Where one thing stands twice, the first is meant.
-pub fn drawing_of(
+pub(crate) fn drawing_of(
     alloc: Global,
     draws: &[Draw],
     names: &[u32],
