@@ -1,9 +1,9 @@
 -- The indices of a branch in place of those of the other site. This profile's own.
-use Rattle.std.specs.Prelude.{ℕ, List, [], ◌∷◌}
+use Rattle.std.specs.Prelude.{ℕ, List, [], ◌∷◌, map}
 use Rattle.cv_syntax.specs.declared.head.Head.TheVariants.{Cons, Branch}
 use Rattle.cv_syntax.specs.Postorder.{joined}
-use Rattle.cv_syntax.specs.Tree.{Tree, Empty, Node}
-use Rattle.cv_inline_bodies.specs.Inlined.{read_at}
+use Rattle.cv_syntax.specs.Tree.{Tree, Empty, Node, binders}
+use Rattle.cv_inline_bodies.specs.Inlined.{Caller, Drawn, Scope, all_equal, branch_indices, cells_in_game, cells_then, each_once, in_game, index_moves, index_terms, is_index_of, moved, needed, read_at}
 
 -- what the other site's indices stand for, where these are the indices of the branch
 abbrev pub moves_by : (here : Tree) → List (ℕ × ℕ) → (indices : List ℕ) → List (ℕ × Tree)
@@ -23,3 +23,9 @@ binders_by _ _ = []
 -- the node of a branch over its indices, its list, its condition and its body, which are the newest trees
 abbrev pub closed_branch : List Tree → List Tree
 closed_branch ts = joined Branch (joined Cons (joined Cons ts))
+
+-- what stands before the body in the branch for calls of a site: the condition, the list and the indices, the newest first
+abbrev pub front : Drawn → Caller → Scope → (name : ℕ → ℕ) → Caller → (cells condition : Tree) → List Tree → List Tree
+front d c Σ name s cells condition ts =
+    let ms : List (ℕ × Tree) = index_moves (index_terms c.replications) name 0 s.replications in
+    all_equal (moved ms s.key) c.key (in_game d c Σ condition) ∷ (cells_then (map (moved ms) (each_once (needed (is_index_of s.replications) s.key))) (cells_in_game d c Σ cells) ∷ (binders (branch_indices name 0 s.replications) ∷ ts))

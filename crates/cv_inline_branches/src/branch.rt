@@ -1,13 +1,13 @@
 ghost use Rattle.std.specs.Prelude.{◌≡◌, ◌∷◌, ℕ, IfOk, length};
 ghost use Rattle.cv_pool.specs.Nodes.{ChildBelow};
 ghost use Rattle.cv_syntax.specs.Tree as tree;
-ghost use Rattle.cv_syntax.specs.Tree.{Tree, tree_at};
-ghost use Rattle.cv_inline_bodies.specs.Inlined.{branch_for, index_terms};
+ghost use Rattle.cv_syntax.specs.Tree.{tree_at};
+ghost use Rattle.cv_inline_bodies.specs.Inlined.{index_terms};
 ghost use Rattle.cv_inline_terms.specs.Callers.{IsLiveCaller, caller_in};
 ghost use Rattle.cv_inline_terms.specs.Drawings.{drawn_in};
 ghost use Rattle.cv_inline_terms.specs.Scopes.{scope_in};
 ghost use Rattle.cv_inline_terms.specs.Stacks.{names_from, stack};
-ghost use Rattle.cv_inline_branches.specs.Moves.{IsList, binders_by, closed_branch};
+ghost use Rattle.cv_inline_branches.specs.Moves.{IsList, binders_by, closed_branch, front};
 
 use crate::key::condition;
 use crate::moving::moved_cells;
@@ -50,13 +50,12 @@ pub fn branch_front(
     requires key { IsList (tree_at pool.now.trees other.now.key) }
     requires list { ChildBelow (length pool.now.trees) list }
     requires term { ChildBelow (length pool.now.trees) term }
-    ensures { (name : ℕ → ℕ) (body : Tree) →
-        indices.now ≡ names_from name 0 other.now.replications.items →
-        IfOk result (λ _. closed_branch (body ∷ stack parts.new.items) ≡
-        branch_for (drawn_in drawn.now) (caller_in pool.now.trees caller.now)
+    ensures { (name : ℕ → ℕ) → indices.now ≡ names_from name 0 other.now.replications.items →
+        IfOk result (λ _. stack parts.new.items ≡ front (drawn_in drawn.now)
+        (caller_in pool.now.trees caller.now)
         (scope_in (index_terms caller.now.replications.items) scope.now) name
         (caller_in pool.now.trees other.now) (tree_at pool.now.trees list)
-        (tree_at pool.now.trees term) body ∷ stack parts.old.items) }
+        (tree_at pool.now.trees term) (stack parts.old.items)) }
 {
     let others = other.replications.as_slice();
     let cells = needed(alloc, pool, others, other.key)?;

@@ -11,9 +11,9 @@ ghost use Rattle.cv_inline_drawing.specs.Fresh.{IsDrawnFor};
 
 use crate::filling::drawing_of;
 use crate::fresh::{new_labels, new_names};
-use cv_inline_listing::{Calling, Draw};
+use cv_inline_listing::Draw;
 use cv_inline_sites::{draws_of, label_draws};
-use cv_inline_terms::Drawing;
+use cv_inline_terms::{Calling, Drawing};
 use cv_syntax::{Names, NodeId, Pool};
 use std::alloc::{AllocError, Global};
 

@@ -7,7 +7,7 @@ use Rattle.cv_inline_bodies.specs.Inlined.{Caller}
 use Rattle.cv_inline_games.specs.NextGame as game
 use Rattle.cv_inline_games.specs.NextGame.{callers_of}
 use Rattle.cv_inline_terms.specs.Callers.{caller_in}
-use Rattle.cv_inline_listing.specs.declared.calling.Calling.{Calling}
+use Rattle.cv_inline_terms.specs.declared.calling.Calling.{Calling}
 
 abbrev pub calling_in : List KindTree → Calling → game.Calling
 calling_in trees c = record { caller = caller_in trees c.caller; function = function_of (tree_at trees (Some c.function)) }

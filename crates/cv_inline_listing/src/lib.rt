@@ -2,13 +2,11 @@
 #![tactic(auto)]
 
 mod branches;
-mod calling;
 mod draws;
 mod indices;
 mod once;
 mod subtree;
 
-pub use calling::Calling;
 pub use draws::{Draw, Role, add_arguments, add_variable};
 pub use indices::{add_branch_indices, add_indices};
 pub use once::add_each_once;

@@ -7,23 +7,23 @@ use Rattle.cv_syntax.specs.declared.head.Head.TheVariants.{No}
 use Rattle.cv_syntax.specs.Tree.{Tree, lone, tree_at}
 use Rattle.cv_inline_bodies.specs.Inlined.{Drawn, in_game, index_terms}
 use Rattle.cv_inline_games.specs.NextGame.{Results}
-use Rattle.cv_inline_terms.specs.declared.caller.Caller.{Caller}
+use Rattle.cv_inline_terms.specs.declared.calling.Calling.{Calling}
 use Rattle.cv_inline_terms.specs.declared.scope.Entry.{Entry}
 use Rattle.cv_inline_terms.specs.Callers.{caller_in}
 use Rattle.cv_inline_terms.specs.Scopes.{scope_in}
 use Rattle.cv_inline_results.specs.declared.outcome.Outcome.{Outcome}
 
--- a term of a caller's body in the game; of no caller it is `false`, as of a call that has no site
-abbrev pub term_of : List KindTree → Drawn → Option Caller → List Entry → Option NodeId → Tree
+-- a term of a site's body in the game; of no site it is `false`, as of a call that has none
+abbrev pub term_of : List KindTree → Drawn → Option Calling → List Entry → Option NodeId → Tree
 term_of trees d None scope term = lone No
-term_of trees d (Some c) scope term = in_game d (caller_in trees c) (scope_in (index_terms c.replications.items) scope) (tree_at trees term)
+term_of trees d (Some s) scope term = in_game d (caller_in trees s.caller) (scope_in (index_terms s.caller.replications.items) scope) (tree_at trees term)
 
-abbrev pub outcome_tree : List KindTree → Drawn → List Caller → Outcome → Tree
-outcome_tree trees d callers o = term_of trees d (slice_get callers o.caller) o.scope.items o.term
+abbrev pub outcome_tree : List KindTree → Drawn → List Calling → Outcome → Tree
+outcome_tree trees d callings o = term_of trees d (slice_get callings o.site) o.scope.items o.term
 
 -- the newest is the last of the code's list, and the first of these
-abbrev pub results_in : List KindTree → Drawn → List Caller → List Outcome → Results
-results_in trees d callers os = map (λ (o : Outcome). (o.answer, outcome_tree trees d callers o)) (reverse os)
+abbrev pub results_in : List KindTree → Drawn → List Calling → List Outcome → Results
+results_in trees d callings os = map (λ (o : Outcome). (o.answer, outcome_tree trees d callings o)) (reverse os)
 
 abbrev pub IsLiveOutcome : ℕ → Outcome → Type 0
 IsLiveOutcome live o = ChildBelow live o.term

@@ -4,31 +4,31 @@ ghost use Rattle.cv_pool.specs.Nodes.{ChildBelow};
 ghost use Rattle.cv_syntax.specs.Tree.{Tree};
 ghost use Rattle.cv_inline_bodies.specs.Inlined.{Drawn};
 ghost use Rattle.cv_inline_games.specs.NextGame.{result_for};
-ghost use Rattle.cv_inline_terms.specs.declared.caller.Caller.{Caller};
-ghost use Rattle.cv_inline_terms.specs.Callers.{IsLiveCaller};
+ghost use Rattle.cv_inline_terms.specs.declared.calling.Calling.{Calling};
+ghost use Rattle.cv_inline_terms.specs.Callers.{HasLiveCaller};
 ghost use Rattle.cv_inline_terms.specs.Drawings.{drawn_in};
 ghost use Rattle.cv_inline_terms.specs.Stacks.{stack};
 ghost use Rattle.cv_inline_results.specs.Outcomes.{IsLiveOutcome, or_else, outcome_tree, results_in};
 
-use cv_inline_terms::{Caller, Drawing, Entry, in_game, lone};
+use cv_inline_terms::{Calling, Drawing, Entry, in_game, lone};
 use cv_syntax::{Head, Make, NodeId, Pool};
 use std::alloc::AllocError;
 
 /// The result of a call, for the variable that takes its answer: a term of the caller's body, in a scope. The caller
-/// is given by its place among the callers; without a caller the result is `false`.
+/// is given by its place among the sites; without a site the result is `false`.
 #[derive(Drop)]
 pub struct Outcome {
     pub answer: u32,
-    pub caller: usize,
+    pub site: usize,
     pub scope: Vec<Entry>,
     pub term: Option<NodeId>,
 }
 
 /// The newest result for a variable. The newest is the last.
 pub(crate) fn outcome_of(results: &[Outcome], x: u32) -> Option<&Outcome>
-    ensures tree { (trees : List KindTree) (d : Drawn) (callers : List Caller) (t : Tree) →
-        or_else t (option_map (λ o. outcome_tree trees d callers o.now) result)
-        ≡ result_for (results_in trees d callers results.now) x t }
+    ensures tree { (trees : List KindTree) (d : Drawn) (callings : List Calling) (t : Tree) →
+        or_else t (option_map (λ o. outcome_tree trees d callings o.now) result)
+        ≡ result_for (results_in trees d callings results.now) x t }
     ensures live { (live : ℕ) → All (IsLiveOutcome live) results.now →
         IfSome result (λ o. IsLiveOutcome live o.now) }
 {
@@ -46,21 +46,21 @@ pub(crate) fn outcome_of(results: &[Outcome], x: u32) -> Option<&Outcome>
 pub(crate) fn add_outcome(
     pool: &Pool,
     drawn: &Drawing,
-    callers: &[Caller],
+    callings: &[Calling],
     parts: &mut Vec<Make>,
     outcome: &Outcome,
 ) -> Result<(), AllocError>
-    requires callers { All (IsLiveCaller (length pool.now.trees)) callers.now }
+    requires callings { All (HasLiveCaller (length pool.now.trees)) callings.now }
     requires outcome { IsLiveOutcome (length pool.now.trees) outcome.now }
     ensures { IfOk result (λ _. stack parts.new.items
-        ≡ outcome_tree pool.now.trees (drawn_in drawn.now) callers.now outcome.now
+        ≡ outcome_tree pool.now.trees (drawn_in drawn.now) callings.now outcome.now
         ∷ stack parts.old.items) }
 {
-    match callers.get(outcome.caller) {
-        Some(caller) => in_game(
+    match callings.get(outcome.site) {
+        Some(calling) => in_game(
             pool,
             drawn,
-            caller,
+            &calling.caller,
             outcome.scope.as_slice(),
             parts,
             outcome.term,

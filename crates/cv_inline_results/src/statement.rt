@@ -3,13 +3,13 @@ ghost use Rattle.cv_pool.specs.Nodes.{ChildBelow};
 ghost use Rattle.cv_syntax.specs.Tree.{tree_at};
 ghost use Rattle.cv_inline_games.specs.NextGame as games;
 ghost use Rattle.cv_inline_games.specs.NextGame.{result_for};
-ghost use Rattle.cv_inline_terms.specs.Callers.{IsLiveCaller};
+ghost use Rattle.cv_inline_terms.specs.Callers.{HasLiveCaller};
 ghost use Rattle.cv_inline_terms.specs.Drawings.{drawn_in};
 ghost use Rattle.cv_inline_terms.specs.Stacks.{stack};
 ghost use Rattle.cv_inline_results.specs.Outcomes.{IsLiveOutcome, results_in};
 
 use crate::outcome::{Outcome, add_outcome, outcome_of};
-use cv_inline_terms::{Caller, Drawing, copy, nothing, put};
+use cv_inline_terms::{Calling, Drawing, copy, nothing, put};
 use cv_syntax::{Head, Make, NodeId, Pool, read_node};
 use std::alloc::AllocError;
 
@@ -17,21 +17,21 @@ use std::alloc::AllocError;
 fn result_or(
     pool: &Pool,
     drawn: &Drawing,
-    callers: &[Caller],
+    callings: &[Calling],
     results: &[Outcome],
     parts: &mut Vec<Make>,
     x: u32,
     term: Option<NodeId>,
 ) -> Result<(), AllocError>
-    requires callers { All (IsLiveCaller (length pool.now.trees)) callers.now }
+    requires callings { All (HasLiveCaller (length pool.now.trees)) callings.now }
     requires results { All (IsLiveOutcome (length pool.now.trees)) results.now }
     requires term { ChildBelow (length pool.now.trees) term }
     ensures { IfOk result (λ _. stack parts.new.items ≡ result_for
-        (results_in pool.now.trees (drawn_in drawn.now) callers.now results.now) x
+        (results_in pool.now.trees (drawn_in drawn.now) callings.now results.now) x
         (tree_at pool.now.trees term) ∷ stack parts.old.items) }
 {
     match outcome_of(results, x) {
-        Some(found) => add_outcome(pool, drawn, callers, parts, found),
+        Some(found) => add_outcome(pool, drawn, callings, parts, found),
         None => copy(pool, parts, term),
     }
 }
@@ -41,16 +41,16 @@ fn result_or(
 pub fn with_results(
     pool: &Pool,
     drawn: &Drawing,
-    callers: &[Caller],
+    callings: &[Calling],
     results: &[Outcome],
     parts: &mut Vec<Make>,
     term: Option<NodeId>,
 ) -> Result<(), AllocError>
-    requires callers { All (IsLiveCaller (length pool.now.trees)) callers.now }
+    requires callings { All (HasLiveCaller (length pool.now.trees)) callings.now }
     requires results { All (IsLiveOutcome (length pool.now.trees)) results.now }
     requires term { ChildBelow (length pool.now.trees) term }
     ensures { IfOk result (λ _. stack parts.new.items ≡ games.with_results
-        (results_in pool.now.trees (drawn_in drawn.now) callers.now results.now)
+        (results_in pool.now.trees (drawn_in drawn.now) callings.now results.now)
         (tree_at pool.now.trees term) ∷ stack parts.old.items) }
 {
     let Some(n) = term else {
@@ -58,11 +58,11 @@ pub fn with_results(
     };
     let node = read_node(pool, n);
     match node.head {
-        Head::Leaf(x) => result_or(pool, drawn, callers, results, parts, x, term),
-        Head::Read(x) => result_or(pool, drawn, callers, results, parts, x, term),
+        Head::Leaf(x) => result_or(pool, drawn, callings, results, parts, x, term),
+        Head::Read(x) => result_or(pool, drawn, callings, results, parts, x, term),
         head => {
-            with_results(pool, drawn, callers, results, parts, node.first)?;
-            with_results(pool, drawn, callers, results, parts, node.second)?;
+            with_results(pool, drawn, callings, results, parts, node.first)?;
+            with_results(pool, drawn, callings, results, parts, node.second)?;
             put(parts, head)
         }
     }

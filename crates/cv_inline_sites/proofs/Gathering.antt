@@ -6,7 +6,7 @@ use Rattle.std.proofs.lemmas.List.{append-nil, append_assoc, flat_map_more, map-
 use Rattle.std.proofs.lemmas.List.Elements.{All-push}
 use Rattle.cv_pool.specs.KindTree.{KindTree}
 use Rattle.cv_inline_games.specs.NextGame as game
-use Rattle.cv_inline_listing.specs.declared.calling.Calling.{Calling}
+use Rattle.cv_inline_terms.specs.declared.calling.Calling.{Calling}
 use Rattle.cv_inline_listing.specs.Callings.{callers_in, calling_in, callings_in}
 use Rattle.cv_inline_terms.specs.Callers.{caller_in}
 use Rattle.cv_syntax.specs.Tree.{Tree, Empty, Node, first, second, size}

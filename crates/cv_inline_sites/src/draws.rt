@@ -11,8 +11,9 @@ ghost use Rattle.cv_inline_listing.specs.Subtrees.{IsWithin};
 
 use crate::bodies::bodies_below;
 use cv_inline_listing::{
-    Calling, Draw, Role, Subtree, add_arguments, add_branch_indices, add_each_once, add_variable,
+    Draw, Role, Subtree, add_arguments, add_branch_indices, add_each_once, add_variable,
 };
+use cv_inline_terms::Calling;
 use cv_syntax::children::{first_of, read_child, second_of};
 use cv_syntax::{Head, NodeId, Pool};
 use std::alloc::{AllocError, Global};

@@ -6,7 +6,8 @@ ghost use Rattle.cv_inline_listing.specs.Callings.{IsLiveCalling, callings_in};
 ghost use Rattle.cv_inline_sites.specs.Parts.{find_at};
 ghost use Rattle.cv_inline_listing.specs.Subtrees.{IsWithin};
 
-use cv_inline_listing::{Calling, Subtree, node_at};
+use cv_inline_listing::{Subtree, node_at};
+use cv_inline_terms::Calling;
 use cv_syntax::children::second_of;
 use cv_syntax::{Head, Pool};
 use std::alloc::{AllocError, Global};

@@ -7,6 +7,7 @@ use Rattle.cv_syntax.specs.declared.head.Head.TheVariants.{Leaf}
 use Rattle.cv_syntax.specs.Tree.{Tree, lone, tree_at}
 use Rattle.cv_inline_bodies.specs.Inlined as bodies
 use Rattle.cv_inline_terms.specs.declared.caller.Caller.{Caller}
+use Rattle.cv_inline_terms.specs.declared.calling.Calling.{Calling}
 
 abbrev pub caller_in : List KindTree → Caller → bodies.Caller
 caller_in trees c = record { number = c.number; bound = c.bound; names = c.names.items; replications = c.replications.items; key = tree_at trees c.key }
@@ -14,6 +15,9 @@ caller_in trees c = record { number = c.number; bound = c.bound; names = c.names
 -- the terms of its key are in the pool
 abbrev pub IsLiveCaller : ℕ → Caller → Type 0
 IsLiveCaller live c = ChildBelow live c.key
+
+abbrev pub HasLiveCaller : ℕ → Calling → Type 0
+HasLiveCaller live s = IsLiveCaller live s.caller
 
 -- a name that isn't bound above the place where it is read
 abbrev pub unbound_name : bodies.Drawn → Caller → ℕ → Tree

@@ -2,6 +2,7 @@
 #![tactic(auto)]
 
 mod caller;
+mod calling;
 mod drawn;
 mod parts;
 mod reading;
@@ -9,6 +10,7 @@ mod scope;
 mod terms;
 
 pub use caller::Caller;
+pub use calling::Calling;
 pub use drawn::{Drawing, Index};
 pub use parts::{copy, lone, nothing, put};
 pub use reading::{own_variable, read_here, read_tuple};

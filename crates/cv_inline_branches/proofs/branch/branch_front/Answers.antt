@@ -1,18 +1,18 @@
 use Rattle.std.proofs.Common.{◌≡◌, ℕ, ◌∷◌, List, ap, map}
 use Rattle.std.proofs.lemmas.Result.{IfOk-weaker}
-use Rattle.cv_syntax.specs.Tree.{Tree, tree_at}
-use Rattle.cv_inline_bodies.specs.Inlined.{Caller, Drawn, Scope, all_equal, branch_for, in_game, index_terms, moved}
+use Rattle.cv_syntax.specs.Tree.{tree_at}
+use Rattle.cv_inline_bodies.specs.Inlined.{Caller, Drawn, Scope, all_equal, in_game, index_terms, moved}
 use Rattle.cv_inline_terms.specs.Callers.{caller_in}
 use Rattle.cv_inline_terms.specs.Drawings.{drawn_in}
 use Rattle.cv_inline_terms.specs.Scopes.{scope_in}
 use Rattle.cv_inline_terms.specs.Stacks.{stack}
 use Rattle.cv_inline_branches.specs.Cells.{cell_tree}
-use Rattle.cv_inline_branches.specs.Moves.{closed_branch, moves_by}
-use Rattle.cv_inline_branches.proofs.Fronts.{branch_is}
+use Rattle.cv_inline_branches.specs.Moves.{front, moves_by}
+use Rattle.cv_inline_branches.proofs.Fronts.{front_is}
 use Rattle.cv_inline_branches.proofs.branch.branch_front.Goals as goal
 
 pub returns : goal.returns
-returns c name body same =
+returns c name same =
     let trees = c.args.pool.now.trees in
     let d : Drawn = drawn_in c.args.drawn.now in
     let k : Caller = caller_in trees c.args.caller.now in
@@ -22,6 +22,6 @@ returns c name body same =
     let ms : List (ℕ × Tree) = moves_by (index_terms k.replications) rs c.args.indices.now in
     IfOk-weaker c.condition.result
     (λ x. stack c.condition.new.parts.items ≡ all_equal (moved ms s.key) k.key (in_game d k Σ (tree_at trees c.args.term)) ∷ stack c.moved_cells.new.parts.items)
-    (λ x. closed_branch (body ∷ stack c.condition.new.parts.items) ≡ branch_for d k Σ name s (tree_at trees c.args.list) (tree_at trees c.args.term) body ∷ stack c.args.parts.now.items)
-    (λ x e. branch_is d k Σ name s (tree_at trees c.args.list) (tree_at trees c.args.term) body rs c.args.indices.now (map (cell_tree trees) c.as_slice.result.now) (map (cell_tree trees) c.in_ok-cells.cells.items) (stack c.args.parts.now.items) (stack c.binders.new.parts.items) (stack c.moved_cells.new.parts.items) (stack c.condition.new.parts.items) c.as_slice-others.ensures.value same (ap (map (cell_tree trees)) c.as_slice.ensures.value) c.in_ok-cells.ensures.cells c.in_ok-binders.ensures c.in_ok-moved_cells.ensures e)
+    (λ x. stack c.condition.new.parts.items ≡ front d k Σ name s (tree_at trees c.args.list) (tree_at trees c.args.term) (stack c.args.parts.now.items))
+    (λ x e. front_is d k Σ name s (tree_at trees c.args.list) (tree_at trees c.args.term) rs c.args.indices.now (map (cell_tree trees) c.as_slice.result.now) (map (cell_tree trees) c.in_ok-cells.cells.items) (stack c.args.parts.now.items) (stack c.binders.new.parts.items) (stack c.moved_cells.new.parts.items) (stack c.condition.new.parts.items) c.as_slice-others.ensures.value same (ap (map (cell_tree trees)) c.as_slice.ensures.value) c.in_ok-cells.ensures.cells c.in_ok-binders.ensures c.in_ok-moved_cells.ensures e)
     c.condition.ensures

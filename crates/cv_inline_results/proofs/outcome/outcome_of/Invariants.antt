@@ -3,14 +3,14 @@ use Rattle.cv_pool.specs.KindTree.{KindTree}
 use Rattle.cv_syntax.specs.Tree.{Tree}
 use Rattle.cv_inline_bodies.specs.Inlined.{Drawn}
 use Rattle.cv_inline_games.specs.NextGame.{result_for}
-use Rattle.cv_inline_terms.specs.declared.caller.Caller.{Caller}
+use Rattle.cv_inline_terms.specs.declared.calling.Calling.{Calling}
 use Rattle.cv_inline_results.specs.Outcomes.{results_in}
 use Rattle.cv_inline_results.proofs.outcome.outcome_of.Given as goal
 
 abbrev pub invariant-newest : goal.invariant-newest
 invariant-newest l = record {
   within : l.left ≤ length l.results;
-  found : (trees : List KindTree) (d : Drawn) (callers : List Caller) (t : Tree) → result_for (results_in trees d callers (take l.left l.results)) l.x t ≡ result_for (results_in trees d callers l.results) l.x t;
+  found : (trees : List KindTree) (d : Drawn) (callings : List Calling) (t : Tree) → result_for (results_in trees d callings (take l.left l.results)) l.x t ≡ result_for (results_in trees d callings l.results) l.x t;
 }
 
 abbrev pub decreases-newest : goal.decreases-newest

@@ -1,4 +1,4 @@
-use cv_inline_terms::Caller;
+use crate::caller::Caller;
 use cv_syntax::NodeId;
 
 /// A site, with the node of the right function that is called there.
