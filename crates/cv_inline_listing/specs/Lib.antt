@@ -1,3 +1,4 @@
 pub mod Listed
 pub mod Callings
 pub mod BranchForms
+pub mod Subtrees
