@@ -1,0 +1,168 @@
+ghost use Rattle.std.specs.Prelude.{◌≡◌, ◌∷◌, ◌<◌, ◌^◌, List, Some, IfOk, length, slice_get};
+ghost use Rattle.cv_pool.specs.KindTree.{KindTree};
+ghost use Rattle.cv_pool.specs.Nodes.{ChildBelow};
+ghost use Rattle.cv_syntax.specs.Postorder.{joined};
+ghost use Rattle.cv_syntax.specs.Tree.{Empty, Tree, tree_at};
+ghost use Rattle.cv_inline_bodies.specs.Inlined.{Drawn, index_terms, with_call_of};
+ghost use Rattle.cv_inline_terms.specs.declared.calling.Calling.{Calling};
+ghost use Rattle.cv_inline_terms.specs.declared.caller.Caller.{Caller};
+ghost use Rattle.cv_inline_terms.specs.Callers.{caller_in};
+ghost use Rattle.cv_inline_terms.specs.Drawings.{drawn_in};
+ghost use Rattle.cv_inline_terms.specs.Scopes.{scope_in};
+ghost use Rattle.cv_inline_branches.specs.Moves.{closed_branch, front};
+ghost use Rattle.cv_inline_pieces.specs.Pieces.{Adds, AddsNodes, AddsResult, AddsTerm, closed_if, listed, scope_at};
+
+use crate::choices::Choice;
+use crate::piece::{Front, Phrase, Piece};
+use cv_inline_pairs::{Pair, copy_of, drawn_indices, with_name};
+use cv_inline_terms::{Caller, Drawing, Entry, Standing};
+use cv_syntax::{Head, NodeId};
+use std::alloc::{AllocError, Global};
+
+/// Adds the tree without nodes.
+pub(crate) fn nothing(pieces: &mut Vec<Piece>) -> Result<(), AllocError>
+    ensures { IfOk result (λ _. AddsNodes pieces.old.items pieces.new.items (λ ts. Empty ∷ ts)) }
+{
+    pieces.push(Piece::Nothing)?;
+    Ok(())
+}
+
+/// Puts a node over the two newest trees.
+pub(crate) fn put(pieces: &mut Vec<Piece>, head: Head) -> Result<(), AllocError>
+    ensures { IfOk result (λ _. AddsNodes pieces.old.items pieces.new.items (joined head)) }
+{
+    pieces.push(Piece::Put(head))?;
+    Ok(())
+}
+
+/// Puts the node of an `if` over its condition and its two bodies.
+pub(crate) fn end_if(pieces: &mut Vec<Piece>) -> Result<(), AllocError>
+    ensures { IfOk result (λ _. AddsNodes pieces.old.items pieces.new.items closed_if) }
+{
+    nothing(pieces)?;
+    put(pieces, Head::Cons)?;
+    put(pieces, Head::Cons)?;
+    put(pieces, Head::If)
+}
+
+/// Puts the node of a branch over what stands before its body and the body.
+pub(crate) fn end_branch(pieces: &mut Vec<Piece>) -> Result<(), AllocError>
+    ensures { IfOk result (λ _. AddsNodes pieces.old.items pieces.new.items closed_branch) }
+{
+    put(pieces, Head::Cons)?;
+    put(pieces, Head::Cons)?;
+    put(pieces, Head::Branch)
+}
+
+/// Makes a list of the newest trees, which are so many.
+pub(crate) fn end_list(pieces: &mut Vec<Piece>, many: usize) -> Result<(), AllocError>
+    ensures { IfOk result (λ _. AddsNodes pieces.old.items pieces.new.items
+        (λ ts. listed many (Empty ∷ ts))) }
+{
+    nothing(pieces)?;
+    'items: for _item in 0..many {
+        put(pieces, Head::Cons)?;
+    }
+    Ok(())
+}
+
+/// A term with a copy of a scope.
+fn phrase(alloc: Global, scope: &[Entry], term: Option<NodeId>) -> Result<Phrase, AllocError>
+    ensures term { IfOk result (λ e. e.term ≡ term) }
+    ensures scope { (here : Tree) → IfOk result (λ e. scope_in here e.scope.items
+        ≡ scope_in here scope.now) }
+{
+    let copy = copy_of(alloc, scope)?;
+    Ok(Phrase { scope: copy, term })
+}
+
+/// Adds a term of a body.
+pub(crate) fn add_term(
+    alloc: Global,
+    scope: &[Entry],
+    term: Option<NodeId>,
+    pieces: &mut Vec<Piece>,
+) -> Result<(), AllocError>
+    ensures { IfOk result (λ _. AddsTerm scope.now term pieces.old.items pieces.new.items) }
+{
+    let phrase = phrase(alloc, scope, term)?;
+    pieces.push(Piece::Term(phrase))?;
+    Ok(())
+}
+
+/// Adds a result of a body.
+pub(crate) fn add_result(
+    alloc: Global,
+    scope: &[Entry],
+    term: Option<NodeId>,
+    pieces: &mut Vec<Piece>,
+) -> Result<(), AllocError>
+    ensures { IfOk result (λ _. AddsResult scope.now term pieces.old.items pieces.new.items) }
+{
+    let phrase = phrase(alloc, scope, term)?;
+    pieces.push(Piece::Result(phrase))?;
+    Ok(())
+}
+
+/// The scope of the branch for the calls of another site, where its index stands for such a call.
+pub(crate) fn branch_scope(
+    alloc: Global,
+    drawn: &Drawing,
+    caller: &Caller,
+    scope: &[Entry],
+    place: u32,
+    other: &Caller,
+    pair: Pair,
+) -> Result<Vec<Entry>, AllocError>
+    requires { length other.now.replications.items < 2 ^ 32 }
+    ensures { IfOk result (λ inner. (trees : List KindTree) → scope_at caller.now inner.items
+        ≡ with_call_of (scope_at caller.now scope.now) pair.index
+        (index_terms caller.now.replications.items)
+        ((drawn_in drawn.now).index caller.now.number place other.now.number pair.number)
+        (caller_in trees other.now)) }
+{
+    let indices = drawn_indices(
+        alloc,
+        drawn,
+        caller.number,
+        place,
+        other.number,
+        pair.number,
+        other.replications.as_slice(),
+    )?;
+    let call = Standing::CallOf {
+        site: other.number,
+        indices,
+    };
+    with_name(alloc, scope, pair.index, call)
+}
+
+/// Adds what stands before the body in the branch for the calls of a site, in the scope of the branch.
+pub(crate) fn add_front(
+    alloc: Global,
+    scope: &[Entry],
+    place: u32,
+    choice: Choice,
+    pieces: &mut Vec<Piece>,
+) -> Result<(), AllocError>
+    ensures { IfOk result (λ _. (trees : List KindTree) (d : Drawn) (callings : List Calling)
+        (c : Caller) (s : Calling) → choice.other < length callings →
+        slice_get callings choice.other ≡ Some s →
+        ChildBelow (length trees) choice.pair.cells →
+        ChildBelow (length trees) choice.pair.condition →
+        Adds trees d callings c pieces.old.items pieces.new.items (λ k ts. front d
+        (caller_in trees c) (scope_at c scope.now)
+        (d.index c.number place s.caller.number choice.pair.number) (caller_in trees s.caller)
+        (tree_at trees choice.pair.cells) (tree_at trees choice.pair.condition) ts)) }
+{
+    let copy = copy_of(alloc, scope)?;
+    pieces.push(Piece::Front(Front {
+        scope: copy,
+        other: choice.other,
+        place,
+        branch: choice.pair.number,
+        cells: choice.pair.cells,
+        condition: choice.pair.condition,
+    }))?;
+    Ok(())
+}

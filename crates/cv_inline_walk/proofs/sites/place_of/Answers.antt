@@ -1,0 +1,13 @@
+use Rattle.std.proofs.Common.{◌<◌, ◌≤◌, length, arith}
+use Rattle.cv_inline_walk.proofs.Results.{place_found, place_none}
+use Rattle.cv_inline_walk.proofs.sites.place_of.Goals as goal
+
+pub returns-then-callings-place : goal.returns-then-callings-place
+returns-then-callings-place c = λ trees.
+    let h : c.sites.place < length c.args.callings.now = omega arith in
+    place_found trees c.args.callings.now c.args.number c.sites.place c.index-callings-place.result h c.if-callings-place.true (c.sites.invariant trees)
+
+pub returns : goal.returns
+returns c = λ trees.
+    let h : length c.args.callings.now ≤ c.sites.place = omega arith in
+    place_none trees c.args.callings.now c.args.number c.sites.place h (c.sites.invariant trees)
