@@ -1,0 +1,3 @@
+pub mod Measures
+pub mod Bodies
+pub mod Games

@@ -1,0 +1,10 @@
+pub mod Adding
+pub mod Counting
+pub mod Stacking
+pub mod ByHead
+pub mod Branching
+pub mod Walks
+pub mod Arguments
+pub mod Sites
+pub mod Scoped
+pub mod Answering

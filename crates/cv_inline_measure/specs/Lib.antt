@@ -1,0 +1,3 @@
+pub mod Counts
+pub mod Settings
+pub mod Games

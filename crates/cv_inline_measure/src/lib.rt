@@ -1,0 +1,16 @@
+// How large and how deep a next game is, before it is made.
+#![tactic(auto)]
+
+mod added;
+mod bodies;
+mod calls;
+mod found;
+mod game;
+mod measuring;
+mod next;
+mod parts;
+mod setting;
+mod terms;
+mod trees;
+
+pub use next::measure;
