@@ -1,0 +1,14 @@
+use Rattle.std.proofs.Common.{◌≡◌, ◌++◌, All, Some, drop}
+use Rattle.cv_syntax.specs.Tree.{tree_at}
+use Rattle.cv_meaning_contexts.specs.Groups.{Right, side_group}
+use Rattle.cv_inline_games.specs.NextGame.{callings_from}
+use Rattle.cv_inline_listing.specs.Callings.{callings_in}
+use Rattle.cv_inline_callings.specs.Sites.{IsLiveSite}
+use Rattle.cv_inline_callings.proofs.callings.callings_of.Given as goal
+
+abbrev pub invariant-sites : goal.invariant-sites
+invariant-sites l = record {
+  number : l.number ≡ l.position-index;
+  callings : callings_in l.pool.trees l.callings.items ++ callings_from (side_group Right (tree_at l.pool.trees (Some l.fn.equivalence))) (tree_at l.pool.trees (Some l.fn.context)) l.number (drop l.position-index l.functions) ≡ callings_from (side_group Right (tree_at l.pool.trees (Some l.fn.equivalence))) (tree_at l.pool.trees (Some l.fn.context)) 0 l.functions;
+  live : All (IsLiveSite l.pool.trees) l.callings.items;
+}

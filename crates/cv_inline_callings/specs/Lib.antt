@@ -1,0 +1,3 @@
+pub mod FirstCalls
+pub mod RightFunctions
+pub mod Sites
