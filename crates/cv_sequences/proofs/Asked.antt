@@ -16,7 +16,7 @@ use Rattle.cv_typing.specs.Wants.{Run}
 use Rattle.cv_query_form.specs.Queries.{queries_in}
 use Rattle.cv_query_form.specs.Rules.{AreAsked, HasValues, MayBeAsked}
 use Rattle.cv_typing_runs.specs.Games.{HasDeclaredSorts}
-use Rattle.cv_sequences.specs.Values.{HasValuesIn, is_tested}
+use Rattle.cv_meaning_values.specs.Values.{HasValuesIn, is_tested}
 use Rattle.cv_sequences.proofs.Choices.{game_valued}
 use Rattle.cv_scope.specs.Phrases.{Inputs, is_phrase}
 

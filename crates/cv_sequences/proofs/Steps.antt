@@ -23,7 +23,7 @@ use Rattle.cv_steps.proofs.Comes.{placed}
 use Rattle.cv_steps_laws.proofs.Keeping.{accepted, term_phrase}
 use Rattle.cv_steps_laws.proofs.Sorts.{type_declared}
 use Rattle.cv_steps_laws.proofs.Unnamed.{unlisted_unread}
-use Rattle.cv_sequences.specs.Values.{HasValuesIn}
+use Rattle.cv_meaning_values.specs.Values.{HasValuesIn}
 use Rattle.cv_sequences.proofs.Values.{still_values, values_put, values_replaced, values_dropped}
 
 module _ (s : Scene) (i : Interpretation) (sat : Satisfies s.declarations i) (m : Mode) where

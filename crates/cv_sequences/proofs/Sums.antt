@@ -23,8 +23,8 @@ use Rattle.cv_steps.specs.Steps.{Cost, Zero}
 use Rattle.cv_steps_laws.proofs.Keeping.{next_declared, next_formed, next_known, next_named, next_typed}
 use Rattle.cv_sequences.proofs.Accepted.{steps_keep}
 use Rattle.cv_sequences.specs.Sequences.{added_up, costs_of}
-use Rattle.cv_sequences.specs.Values.{HasValuesIn}
-use Rattle.cv_sequences.proofs.Values.{tapes}
+use Rattle.cv_meaning_values.specs.Values.{HasValuesIn}
+use Rattle.cv_meaning_values.proofs.Tapes.{tapes}
 use Rattle.cv_sequences.proofs.Steps.{next_values}
 
 same_trans : (p q r : Chance) → 0 < q.all → Same p q → Same q r → Same p r

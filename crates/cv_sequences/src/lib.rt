@@ -25,7 +25,7 @@ ghost use Rattle.cv_steps.specs.Judgements.{Accepted, judgement_of};
 ghost use Rattle.cv_steps.specs.Chances.{KeepsChances};
 ghost use Rattle.cv_steps.specs.Sequences.{IsSequence, Passage, scene};
 ghost use Rattle.cv_sequences.specs.Sequences.{added_up, costs_of};
-ghost use Rattle.cv_sequences.specs.Values.{HasValuesIn};
+ghost use Rattle.cv_meaning_values.specs.Values.{HasValuesIn};
 
 /// Each step that is accepted in a game keeps chances, where derivations are sound.
 pub fn accepted_steps_keep_chances()

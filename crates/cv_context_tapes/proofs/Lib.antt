@@ -1,0 +1,4 @@
+pub mod Sides
+pub mod Contexts
+pub mod Tapes
+pub mod Fixed
