@@ -1,0 +1,2 @@
+pub mod Crypto
+pub mod Faults

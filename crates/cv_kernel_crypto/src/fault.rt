@@ -1,0 +1,40 @@
+ghost use Rattle.std.specs.Prelude.{◌≡◌};
+
+use cv_match::MatchFault;
+use cv_syntax::BuildError;
+use std::alloc::AllocError;
+
+/// The condition of a cryptographic step that fails, and the place where it does; 0, where it names none.
+#[derive(Clone, Copy, Debug, PartialEq, Eq)]
+pub struct Failure {
+    pub condition: u32,
+    pub place: u32,
+}
+
+/// Why a cryptographic step leads to no game.
+#[derive(Clone, Copy, Debug, PartialEq, Eq)]
+pub enum CryptoFault {
+    /// The first of its conditions that fails.
+    Refused(Failure),
+    /// The next game passes a limit, or the pool has no room for it.
+    Build(BuildError),
+}
+
+impl From<AllocError> for CryptoFault {
+    ghost use Rattle.std.specs.Prelude.{◌≡◌};
+    ghost use Rattle.cv_syntax.specs.declared.work.BuildError.TheVariants.{OutOfMemory};
+    ghost use Rattle.cv_kernel_crypto.specs.declared.fault.CryptoFault.TheVariants.{Build};
+
+    ghost from_gives = { λ _ e. e ≡ Build OutOfMemory };
+
+    fn from(_: AllocError) -> CryptoFault {
+        CryptoFault::Build(BuildError::OutOfMemory)
+    }
+}
+
+/// A condition that fails at a place.
+pub(crate) fn refused(condition: u32, place: u32) -> CryptoFault
+    ensures { result ≡ CryptoFault.Refused (record { condition = condition; place = place }) }
+{
+    CryptoFault::Refused(Failure { condition, place })
+}
