@@ -1,28 +1,24 @@
 -- What a sequence holds of the queries that its steps close.
-use Rattle.std.proofs.Common.{◌≡◌, ℕ, zero, suc, ◌+◌, ◌<◌, ◌≤◌, Bool, true, false, not, ◌||◌, ◌==◌, if◌then◌else◌, List, [], ◌∷◌, ◌++◌, length, map, drop, get_or, Option, Some, None, is_some, refl, ap, ap₂, sym, ◌∙◌, arith, append_assoc, append-nil, option_and_then}
+use Rattle.std.proofs.Common.{◌≡◌, ℕ, suc, ◌+◌, ◌<◌, ◌≤◌, Bool, true, false, not, ◌||◌, ◌==◌, if◌then◌else◌, List, [], ◌∷◌, ◌++◌, length, map, drop, Option, Some, None, is_some, refl, ap, ap₂, sym, ◌∙◌, append_assoc, append-nil, option_and_then}
 use Rattle.std.specs.Prelude.{slice_get}
 use Rattle.std.specs.List.{list_all}
-use Rattle.std.proofs.lemmas.List.{drop_more}
 use Rattle.cv_bound.specs.declared.cost.Cost.{Cost as SumCost}
 use Rattle.cv_bound.specs.declared.cost.Cost.TheVariants as bound
 use Rattle.cv_bound.specs.declared.terms.Term.{Term}
 use Rattle.cv_bound.specs.Sums.{added, with_terms}
-use Rattle.cv_kernel.specs.declared.sequence.Closed.{Closed}
-use Rattle.cv_kernel.specs.Closings.{Closing, closing_in, is_among}
+use Rattle.cv_kernel_closed.specs.declared.queries.ClosedQuery.{ClosedQuery}
+use Rattle.cv_kernel_closed.specs.Queries.{is_among, numbers_of, sum_in}
+use Rattle.cv_kernel.specs.Closings.{Closing, closing_in}
 use Rattle.cv_kernel.specs.Proofs.{Transition, closed_by, number_before, sum_at, sum_behind, sum_from, sum_of}
-use Rattle.cv_kernel.specs.Sequences.{sum_in}
 use Rattle.cv_pool.specs.declared.node.NodeId.{NodeId}
 use Rattle.cv_plain.specs.Strategy.{is_proved}
 use Rattle.cv_plain.proofs.QueryLists.{queries-past, queries-skip, queries-take}
-use Rattle.cv_report.specs.declared.report.Cause.TheVariants.{NoClose}
-use Rattle.cv_report.specs.declared.report.Status.TheVariants as status
 use Rattle.cv_report.specs.declared.report.Verdict.{Verdict}
-use Rattle.cv_report.specs.declared.report.Verdict.TheVariants.{NotProved, Proved}
 use Rattle.cv_syntax.specs.declared.decls.Decl.{Decl}
 use Rattle.cv_syntax.specs.Classes.{queries, query_of}
 use Rattle.cv_syntax.specs.Tree.{Tree}
-use Rattle.cv.specs.Scripts.{ended_with, first_open, verdict_by, verdicts_by}
-use Rattle.cv.specs.Walks.{closed_before, closings_from, first_unproved, sum_along}
+use Rattle.cv.specs.Scripts.{first_open, verdict_by, verdicts_by}
+use Rattle.cv.specs.Walks.{closed_before, closings_from, sum_along}
 
 -- a sum with nothing more is the same
 pub nothing-more : (sum : List Term) → added sum bound.Zero false ≡ sum
@@ -35,7 +31,7 @@ pub sum-put : (sum : List Term) (ts : List Transition) (t : Transition) → sum_
 sum-put sum [] t = refl
 sum-put sum (u ∷ ts) t = sum-put (sum_behind sum (closing_in u.step) u.cost) ts t
 
-before-put : (sum : List Term) (cost : SumCost) (c : Option Closing) (xs ys : List Closed) → closed_before sum cost c (xs ++ ys) ≡ closed_before sum cost c xs ++ ys
+before-put : (sum : List Term) (cost : SumCost) (c : Option Closing) (xs ys : List ClosedQuery) → closed_before sum cost c (xs ++ ys) ≡ closed_before sum cost c xs ++ ys
 before-put sum cost None xs ys = refl
 before-put sum cost (Some c) xs ys = refl
 
@@ -47,17 +43,17 @@ closings-put sum (u ∷ ts) t =
 
 -- the numbers and the sums are those of the transitions
 
-numbers-before : (sum : List Term) (cost : SumCost) (c : Option Closing) (xs : List Closed) → map (λ x. x.query) (closed_before sum cost c xs) ≡ number_before c (map (λ x. x.query) xs)
+numbers-before : (sum : List Term) (cost : SumCost) (c : Option Closing) (xs : List ClosedQuery) → numbers_of (closed_before sum cost c xs) ≡ number_before c (numbers_of xs)
 numbers-before sum cost None xs = refl
 numbers-before sum cost (Some c) xs = refl
 
-pub numbers-same : (sum : List Term) (ts : List Transition) → map (λ x. x.query) (closings_from sum ts) ≡ closed_by ts
+pub numbers-same : (sum : List Term) (ts : List Transition) → numbers_of (closings_from sum ts) ≡ closed_by ts
 numbers-same sum [] = refl
 numbers-same sum (t ∷ ts) =
     let s = sum_behind sum (closing_in t.step) t.cost in
     numbers-before sum t.cost (closing_in t.step) (closings_from s ts) ∙ ap (number_before (closing_in t.step)) (numbers-same s ts)
 
-sums-before : (sum : List Term) (cost : SumCost) (k : ℕ) (c : Option Closing) (xs : List Closed) → sum_in (closed_before sum cost c xs) k ≡ sum_at sum cost k c (sum_in xs k)
+sums-before : (sum : List Term) (cost : SumCost) (k : ℕ) (c : Option Closing) (xs : List ClosedQuery) → sum_in (closed_before sum cost c xs) k ≡ sum_at sum cost k c (sum_in xs k)
 sums-before sum cost k None xs = refl
 sums-before sum cost k (Some c) xs = refl
 
@@ -96,26 +92,24 @@ pub verdicts-map : {P Q : Type 0} (h : P → Q) (f : ℕ → Option (List Term))
 verdicts-map h f k [] = refl
 verdicts-map h f k (q ∷ qs) = ap (λ vs. verdict_by (f k) ∷ vs) (verdicts-map h f (suc k) qs)
 
--- the first verdict that isn't `Proved` is that of the first open query
-
-unproved-by : (k : ℕ) (o : Option (List Term)) (b : Bool) (vs : List Verdict) (later : Option ℕ) → b ≡ is_some o → first_unproved (suc k) vs ≡ later → first_unproved k (verdict_by o ∷ vs) ≡ (if b then later else Some k)
-unproved-by k None true vs later e h = absurd (cc)
-unproved-by k None false vs later e h = refl
-unproved-by k (Some s) true vs later e h = h
-unproved-by k (Some s) false vs later e h = absurd (cc)
-
-pub unproved-same : (sum : List Term) (ts : List Transition) (k : ℕ) (qs : List Tree) → first_unproved k (verdicts_by (sum_from sum ts) k qs) ≡ first_open (closed_by ts) k qs
-unproved-same sum ts k [] = refl
-unproved-same sum ts k (q ∷ qs) = unproved-by k (sum_from sum ts k) (is_among (closed_by ts) k) (verdicts_by (sum_from sum ts) (suc k) qs) (first_open (closed_by ts) (suc k) qs) (among-same sum ts k) (unproved-same sum ts (suc k) qs)
+pub verdicts-length : {Q : Type 0} (f : ℕ → Option (List Term)) (k : ℕ) (qs : List Q) → length (verdicts_by f k qs) ≡ length qs
+verdicts-length f k [] = refl
+verdicts-length f k (q ∷ qs) = ap suc (verdicts-length f (suc k) qs)
 
 -- where no query is open, each verdict is `Proved`
-all-proved-from : (k : ℕ) (vs : List Verdict) → first_unproved k vs ≡ None → list_all is_proved vs ≡ true
-all-proved-from k [] e = refl
-all-proved-from k (NotProved ∷ vs) e = absurd (cc)
-all-proved-from k (Proved s ∷ vs) e = all-proved-from (suc k) vs e
+
+proved-by : (o : Option (List Term)) (b : Bool) (k : ℕ) (later : Option ℕ) (vs : List Verdict) → b ≡ is_some o → (if b then later else Some k) ≡ None → (later ≡ None → list_all is_proved vs ≡ true) → list_all is_proved (verdict_by o ∷ vs) ≡ true
+proved-by None true k later vs e h f = absurd (cc)
+proved-by None false k later vs e h f = absurd (cc)
+proved-by (Some s) true k later vs e h f = f h
+proved-by (Some s) false k later vs e h f = absurd (cc)
+
+all-proved-from : (sum : List Term) (ts : List Transition) (k : ℕ) (qs : List Tree) → first_open (closed_by ts) k qs ≡ None → list_all is_proved (verdicts_by (sum_from sum ts) k qs) ≡ true
+all-proved-from sum ts k [] e = refl
+all-proved-from sum ts k (q ∷ qs) e = proved-by (sum_from sum ts k) (is_among (closed_by ts) k) k (first_open (closed_by ts) (suc k) qs) (verdicts_by (sum_from sum ts) (suc k) qs) (among-same sum ts k) e (all-proved-from sum ts (suc k) qs)
 
 pub all-proved : (ts : List Transition) (qs : List Tree) → first_open (closed_by ts) 1 qs ≡ None → list_all is_proved (verdicts_by (sum_of ts) 1 qs) ≡ true
-all-proved ts qs e = all-proved-from 1 (verdicts_by (sum_of ts) 1 qs) (unproved-same [] ts 1 qs ∙ e)
+all-proved ts qs e = all-proved-from [] ts 1 qs e
 
 -- verdict by verdict
 
@@ -143,30 +137,3 @@ verdict-skip f n ds k before total l e h = ap (λ qs. before ++ verdicts_by f (s
 
 pub verdict-past : (f : ℕ → Option (List Term)) (n : ℕ) (ds : List Decl) (k : ℕ) (vs total : List Verdict) → length ds ≤ k → vs ++ verdicts_by f (suc n) (queries (drop k ds)) ≡ total → vs ≡ total
 verdict-past f n ds k vs total l h = sym (append-nil vs) ∙ (ap (λ qs. vs ++ verdicts_by f (suc n) qs) (sym (queries-past ds k l)) ∙ h)
-
--- the first verdict that isn't `Proved`, verdict by verdict
-
-unproved-open : (k : ℕ) (v : Verdict) (vs : List Verdict) (o : Option ℕ) → v ≡ NotProved → first_unproved (suc k) (v ∷ vs) ≡ o → Some (k + 1) ≡ o
-unproved-open k NotProved vs o e h = (let n : k + 1 ≡ suc k = omega arith in ap (λ m. let o : Option ℕ = Some m in o) n) ∙ h
-unproved-open k (Proved s) vs o e h = absurd (cc)
-
-unproved-on : (k : ℕ) (v : Verdict) (vs : List Verdict) (o : Option ℕ) → is_proved v ≡ true → first_unproved (suc k) (v ∷ vs) ≡ o → first_unproved (suc (suc k)) vs ≡ o
-unproved-on k NotProved vs o e h = absurd (cc)
-unproved-on k (Proved s) vs o e h = h
-
-pub ends-open : (vs : List Verdict) (k : ℕ) (d : Verdict) → k < length vs → get_or vs k d ≡ NotProved → first_unproved (suc k) (drop k vs) ≡ first_unproved 1 vs → status.Open (NoClose (k + 1)) ≡ ended_with (first_unproved 1 vs)
-ends-open vs k d l e h = ap ended_with (unproved-open k (get_or vs k d) (drop (k + 1) vs) (first_unproved 1 vs) e (ap (first_unproved (suc k)) (sym (drop_more vs k d l)) ∙ h))
-
-pub ends-on : (vs : List Verdict) (k : ℕ) (d : Verdict) → k < length vs → is_proved (get_or vs k d) ≡ true → first_unproved (suc k) (drop k vs) ≡ first_unproved 1 vs → first_unproved (suc (k + 1)) (drop (k + 1) vs) ≡ first_unproved 1 vs
-ends-on vs k d l e h =
-    (let n : suc (k + 1) ≡ suc (suc k) = omega arith in ap (λ m. first_unproved m (drop (k + 1) vs)) n)
-    ∙ unproved-on k (get_or vs k d) (drop (k + 1) vs) (first_unproved 1 vs) e (ap (first_unproved (suc k)) (sym (drop_more vs k d l)) ∙ h)
-
-past-all : (vs : List Verdict) (k : ℕ) → length vs ≤ k → drop k vs ≡ []
-past-all [] zero l = refl
-past-all [] (suc k) l = refl
-past-all (v ∷ vs) zero l = absurd (omega arith)
-past-all (v ∷ vs) (suc k) l = past-all vs k (omega arith)
-
-pub ends-proved : (vs : List Verdict) (k : ℕ) → length vs ≤ k → first_unproved (suc k) (drop k vs) ≡ first_unproved 1 vs → status.Proved ≡ ended_with (first_unproved 1 vs)
-ends-proved vs k l h = ap ended_with (ap (first_unproved (suc k)) (sym (past-all vs k l)) ∙ h)

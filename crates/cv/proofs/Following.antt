@@ -21,6 +21,7 @@ use Rattle.cv_bound.specs.Sums.{added}
 use Rattle.cv_kernel.specs.declared.error.PushError.{PushError}
 use Rattle.cv_kernel.specs.declared.error.PushError.TheVariants as fault
 use Rattle.cv_kernel.specs.declared.sequence.Sequence.{Sequence}
+use Rattle.cv_kernel_closed.specs.Queries.{first_unclosed, numbers_of, sum_in}
 use Rattle.cv_kernel.specs.Closings.{Closing, closing_failure, closing_in, closing_of_items, judgement_by_closing, judgement_in, judgement_of_failure}
 use Rattle.cv_kernel.specs.Proofs.{IsProof, IsTransition, Transition, closed_by, nodes_along, push, start, sum_behind, sum_of}
 use Rattle.cv_kernel.specs.Rules.{IsDrawn}
@@ -49,9 +50,9 @@ use Rattle.cv_steps.specs.Judgements.{Accepted, Judgement}
 use Rattle.cv_steps.specs.Steps.{Zero}
 use Rattle.cv.specs.Scripts.{EndsScript, Follows, Stops, ended_with, entry_in, entry_of, first_open, game_behind, known_to, no_room, refused, too_deep, too_large, too_many, verdicts_by, verdicts_of}
 use Rattle.cv.specs.declared.follow.Walk.{Walk}
-use Rattle.cv.specs.Walks.{HasFollowed, IsNoted, IsWalk, closed_before, first_unproved, next_of, stop_of}
+use Rattle.cv.specs.Walks.{HasFollowed, IsNoted, IsWalk, closed_before, next_of, stop_of}
 use Rattle.cv.specs.Strategy.{MayHaveFile, Proceeds, file_in, steps_in}
-use Rattle.cv.proofs.Closings.{closings-put, nothing-more, numbers-same, sum-put, sums-same, unproved-same, verdicts-map, verdicts-same}
+use Rattle.cv.proofs.Closings.{closings-put, nothing-more, numbers-same, sum-put, sums-same, verdicts-length, verdicts-map, verdicts-same}
 use Rattle.cv.proofs.Walking.{chain_of, nodes-append}
 
 some : {A : Type 0} {x y : A} → Some x ≡ Some y → x ≡ y
@@ -88,7 +89,7 @@ on_none P None e = tt
 on_none P (Some x) e = absurd (cc)
 
 -- no step was taken
-pub followed_none : (before : ℕ) (ds : List Declaration) (own : ℕ) (trees : List KindTree) (s : Sequence) (trail : List Entry) (first : Tree) → trail ≡ [] → s.steps ≡ 0 → s.sum ≡ [] → s.closed.items ≡ [] → length trees ≤ before → kernel.game_in trees s ≡ first → HasFollowed before ds own first [] trees s trail
+pub followed_none : (before : ℕ) (ds : List Declaration) (own : ℕ) (trees : List KindTree) (s : Sequence) (trail : List Entry) (first : Tree) → trail ≡ [] → s.steps ≡ 0 → s.sum ≡ [] → s.closed ≡ [] → length trees ≤ before → kernel.game_in trees s ≡ first → HasFollowed before ds own first [] trees s trail
 followed_none before ds own trees s trail first e c m k l g = record {
   proof = [];
   steps = refl;
@@ -116,13 +117,13 @@ module _ (before : ℕ) (ds : List Declaration) (own : ℕ) (first : Tree) (old 
   changes : (s : Sequence) (ks : List ℕ) (step : Tree) (j : Judgement) → closing_in step ≡ None → judgement_at (code_scene s) step ≡ j → judgement_in (file_scene s) ks step ≡ j
   changes s ks step j n e = ap (judgement_by_closing (file_scene s) ks step) n ∙ (ap (λ x. judgement_at x step) (sym (scenes s)) ∙ e)
 
-  closes : (s : Sequence) (ks : List ℕ) (step : Tree) (c : Closing) (o : Option Failure) → closing_in step ≡ Some c → kernel.closed_numbers s ≡ ks → closing_failure (code_scene s) (kernel.closed_numbers s) c ≡ o → judgement_in (file_scene s) ks step ≡ judgement_of_failure (file_scene s) o
+  closes : (s : Sequence) (ks : List ℕ) (step : Tree) (c : Closing) (o : Option Failure) → closing_in step ≡ Some c → numbers_of s.closed ≡ ks → closing_failure (code_scene s) (numbers_of s.closed) c ≡ o → judgement_in (file_scene s) ks step ≡ judgement_of_failure (file_scene s) o
   closes s ks step c o i k e =
       ap (judgement_by_closing (file_scene s) ks step) i
       ∙ ap (judgement_of_failure (file_scene s)) (ap₂ (λ x ls. closing_failure x ls c) (sym (scenes s)) (sym k) ∙ e)
 
-  numbers : (front : List Tree) (s : Sequence) (trail : List Entry) (h : HasFollowed before ds own first front old.trees s trail) → kernel.closed_numbers s ≡ closed_by h.proof
-  numbers front s trail h = ap (map (λ x. x.query)) h.closed ∙ numbers-same [] h.proof
+  numbers : (front : List Tree) (s : Sequence) (trail : List Entry) (h : HasFollowed before ds own first front old.trees s trail) → numbers_of s.closed ≡ closed_by h.proof
+  numbers front s trail h = ap numbers_of h.closed ∙ numbers-same [] h.proof
 
   entry_live : (t : Sequence) (step : Step) (tree : Tree) (e : Entry) (c : Option Closing) → e.step ≡ step → e.next ≡ next_of c t.game → step.0.0 < length new.trees → t.game.root.0 < length new.trees → EntryLive (length new.trees) e
   entry_live t step tree e c i j l m = (subst (λ (x : Step). x.0.0 < length new.trees) (sym i) l, subst (λ (o : Option Game). IfSome o (λ q. q.root.0 < length new.trees)) (sym j) (behind c))
@@ -140,7 +141,7 @@ module _ (before : ℕ) (ds : List Declaration) (own : ℕ) (first : Tree) (old 
     pub next : IsTransition ds (known_to own) ks (kernel.game_in old.trees s) (record { step = tree; cost = cost; next = kernel.game_in new.trees t })
     pub steps : t.steps ≡ suc s.steps
     pub sum : t.sum ≡ sum_behind s.sum (closing_in tree) cost
-    pub closed : t.closed.items ≡ s.closed.items ++ closed_before s.sum cost (closing_in tree) []
+    pub closed : t.closed ≡ s.closed ++ closed_before s.sum cost (closing_in tree) []
 
   followed_put : (front : List Tree) (s t : Sequence) (trail after : List Entry) (step : Step) (tree : Tree) (h : HasFollowed before ds own first front old.trees s trail) (n : IsNoted t step tree trail after) → Leaves s t tree (closed_by h.proof) n.entry.cost → Grows old new → tree_at new.trees (Some step.0) ≡ tree → step.0.0 < length new.trees → t.game.root.0 < length new.trees
       → length new.trees ≤ length old.trees + needed (kernel.game_in old.trees s) tree → HasFollowed before ds own first (front ++ tree ∷ []) new.trees t after
@@ -175,11 +176,11 @@ module _ (before : ℕ) (ds : List Declaration) (own : ℕ) (first : Tree) (old 
         next = record { cost = w.cost; accepted = changes s ks tree _ n w.accepted; costs = costs };
         steps = w.steps;
         sum = w.sum ∙ (ap (λ x. added s.sum x false) (sym costs) ∙ ap (λ c. sum_behind s.sum c cost) (sym n));
-        closed = w.closed ∙ (sym (append-nil s.closed.items) ∙ ap (λ c. s.closed.items ++ closed_before s.sum cost c []) (sym n));
+        closed = w.closed ∙ (sym (append-nil s.closed) ∙ ap (λ c. s.closed ++ closed_before s.sum cost c []) (sym n));
       }
 
   -- one that closes a query
-  close_leaves : (s t : Sequence) (tree : Tree) (ks : List ℕ) (cost : Cost) (c : Closing) (u : Unit {0}) → closing_in tree ≡ Some c → kernel.closed_numbers s ≡ ks → t.cost ≡ Some cost → s.game.root.0 < length old.trees → Grows old new → kernel.IsStepAnswer old decls new.trees s t tree (Some c) (Ok u) → Leaves s t tree ks cost
+  close_leaves : (s t : Sequence) (tree : Tree) (ks : List ℕ) (cost : Cost) (c : Closing) (u : Unit {0}) → closing_in tree ≡ Some c → numbers_of s.closed ≡ ks → t.cost ≡ Some cost → s.game.root.0 < length old.trees → Grows old new → kernel.IsStepAnswer old decls new.trees s t tree (Some c) (Ok u) → Leaves s t tree ks cost
   close_leaves s t tree ks cost c u n k m l g w =
       let costs : cost ≡ bound.Zero = some (sym m ∙ w.1.cost) in
       let game : kernel.game_in new.trees t ≡ kernel.game_in old.trees s = ap (λ (q : Game). tree_at new.trees (Some q.root)) w.1.game ∙ root-grown old new s.game.root g l in
@@ -188,11 +189,11 @@ module _ (before : ℕ) (ds : List Declaration) (own : ℕ) (first : Tree) (old 
         steps = w.1.steps;
         sum = w.1.sum ∙ ap (λ o. sum_behind s.sum o cost) (sym n);
         closed = w.1.closed
-            ∙ (ap (λ x. s.closed.items ++ record { query = c.query; sum = x } ∷ []) (sym (nothing-more s.sum) ∙ ap (λ x. added s.sum x false) (sym costs))
-            ∙ ap (λ o. s.closed.items ++ closed_before s.sum cost o []) (sym n));
+            ∙ (ap (λ x. s.closed ++ record { query = c.query; sum = x } ∷ []) (sym (nothing-more s.sum) ∙ ap (λ x. added s.sum x false) (sym costs))
+            ∙ ap (λ o. s.closed ++ closed_before s.sum cost o []) (sym n));
       }
 
-  leaves_by : (s t : Sequence) (tree : Tree) (ks : List ℕ) (cost : Cost) (o : Option Closing) (u : Unit {0}) → closing_in tree ≡ o → kernel.closed_numbers s ≡ ks → t.cost ≡ Some cost → s.game.root.0 < length old.trees → Grows old new → kernel.IsStepAnswer old decls new.trees s t tree o (Ok u) → Leaves s t tree ks cost
+  leaves_by : (s t : Sequence) (tree : Tree) (ks : List ℕ) (cost : Cost) (o : Option Closing) (u : Unit {0}) → closing_in tree ≡ o → numbers_of s.closed ≡ ks → t.cost ≡ Some cost → s.game.root.0 < length old.trees → Grows old new → kernel.IsStepAnswer old decls new.trees s t tree o (Ok u) → Leaves s t tree ks cost
   leaves_by s t tree ks cost None u n k m l g w = change_leaves s t tree ks cost u n m w
   leaves_by s t tree ks cost (Some c) u n k m l g w = close_leaves s t tree ks cost c u n k m l g w
 
@@ -214,7 +215,7 @@ module _ (before : ℕ) (ds : List Declaration) (own : ℕ) (first : Tree) (old 
       subst (Stops taken s.steps _ ks step) (some i) (no_room k b (record { drawn = subst IsDrawn (sym (changes s ks step _ n refl)) p.drawn; asks = p.asks; over = omega arith }))
   change_stops s t ks trees step (fault.Build build.OutOfMemory) taken end n b p i l m = absurd (cc)
 
-  close_stops : (s t : Sequence) (ks : List ℕ) (trees : List KindTree) (step : Tree) (c : Closing) (e : PushError) (taken : ℕ) (end : Status) → closing_in step ≡ Some c → kernel.closed_numbers s ≡ ks → s.steps < 2000 → kernel.IsStepAnswer old decls trees s t step (Some c) (Err e) → stop_of e s.steps ≡ Some end → Stops taken s.steps (file_scene s) ks step end
+  close_stops : (s t : Sequence) (ks : List ℕ) (trees : List KindTree) (step : Tree) (c : Closing) (e : PushError) (taken : ℕ) (end : Status) → closing_in step ≡ Some c → numbers_of s.closed ≡ ks → s.steps < 2000 → kernel.IsStepAnswer old decls trees s t step (Some c) (Err e) → stop_of e s.steps ≡ Some end → Stops taken s.steps (file_scene s) ks step end
   close_stops s t ks trees step c (fault.Refused f) taken end n k b p i = subst (Stops taken s.steps _ ks step) (some i) (refused f.condition f.place b (closes s ks step c _ n k p))
   close_stops s t ks trees step c fault.Steps taken end n k b p i = absurd p
   close_stops s t ks trees step c (fault.Build (build.Nodes x)) taken end n k b p i = absurd p
@@ -222,22 +223,22 @@ module _ (before : ℕ) (ds : List Declaration) (own : ℕ) (first : Tree) (old 
   close_stops s t ks trees step c (fault.Build (build.Full x)) taken end n k b p i = absurd p
   close_stops s t ks trees step c (fault.Build build.OutOfMemory) taken end n k b p i = absurd (cc)
 
-  stops_by : (s t : Sequence) (ks : List ℕ) (trees : List KindTree) (step : Tree) (o : Option Closing) (e : PushError) (taken : ℕ) (end : Status) → closing_in step ≡ o → kernel.closed_numbers s ≡ ks → s.steps < 2000 → kernel.IsStepAnswer old decls trees s t step o (Err e) → stop_of e s.steps ≡ Some end → old.limit ≡ most_pool → length old.trees ≤ taken → Stops taken s.steps (file_scene s) ks step end
+  stops_by : (s t : Sequence) (ks : List ℕ) (trees : List KindTree) (step : Tree) (o : Option Closing) (e : PushError) (taken : ℕ) (end : Status) → closing_in step ≡ o → numbers_of s.closed ≡ ks → s.steps < 2000 → kernel.IsStepAnswer old decls trees s t step o (Err e) → stop_of e s.steps ≡ Some end → old.limit ≡ most_pool → length old.trees ≤ taken → Stops taken s.steps (file_scene s) ks step end
   stops_by s t ks trees step None e taken end n k b p i l m = change_stops s t ks trees step e taken end n b p i l m
   stops_by s t ks trees step (Some c) e taken end n k b p i l m = close_stops s t ks trees step c e taken end n k b p i
 
-  pub stops_at : (s t : Sequence) (ks : List ℕ) (trees : List KindTree) (step : Tree) (e : PushError) (taken : ℕ) (end : Status) → kernel.closed_numbers s ≡ ks → IsPushed old decls trees s t step (Err e) → stop_of e s.steps ≡ Some end → old.limit ≡ most_pool → length old.trees ≤ taken → Stops taken s.steps (file_scene s) ks step end
+  pub stops_at : (s t : Sequence) (ks : List ℕ) (trees : List KindTree) (step : Tree) (e : PushError) (taken : ℕ) (end : Status) → numbers_of s.closed ≡ ks → IsPushed old decls trees s t step (Err e) → stop_of e s.steps ≡ Some end → old.limit ≡ most_pool → length old.trees ≤ taken → Stops taken s.steps (file_scene s) ks step end
   stops_at s t ks trees step fault.Steps taken end k p i l m = subst (Stops taken s.steps _ ks step) (some i) (too_many p)
   stops_at s t ks trees step (fault.Refused f) taken end k p i l m = stops_by s t ks trees step (closing_in step) (fault.Refused f) taken end refl k p.0 p.1 i l m
   stops_at s t ks trees step (fault.Build b) taken end k p i l m = stops_by s t ks trees step (closing_in step) (fault.Build b) taken end refl k p.0 p.1 i l m
 
 module _ (before : ℕ) (ds : List Declaration) (own : ℕ) (first : Tree) (trees : List KindTree) (s : Sequence) (trail : List Entry) (front : List Tree) (h : HasFollowed before ds own first front trees s trail) where
   -- the verdicts on queries
-  verdicts : (queries : List Tree) (vs : List Verdict) → vs ≡ verdicts_by (kernel.sum_in s.closed.items) 1 queries → vs ≡ verdicts_of h.proof queries
-  verdicts queries vs e = e ∙ verdicts-same (kernel.sum_in s.closed.items) (sum_of h.proof) 1 queries (λ k. ap (λ cs. kernel.sum_in cs k) h.closed ∙ sums-same [] h.proof k)
+  verdicts : (queries : List Tree) (vs : List Verdict) → vs ≡ verdicts_by (sum_in s.closed) 1 queries → vs ≡ verdicts_of h.proof queries
+  verdicts queries vs e = e ∙ verdicts-same (sum_in s.closed) (sum_of h.proof) 1 queries (λ k. ap (λ cs. sum_in cs k) h.closed ∙ sums-same [] h.proof k)
 
   -- the script ends
-  pub walk_ends : (steps queries : List Tree) (w : Walk) → steps ≡ front → w.trail.items ≡ trail → w.verdicts.items ≡ verdicts_by (kernel.sum_in s.closed.items) 1 queries → w.status ≡ ended_with (first_unproved 1 w.verdicts.items) → IsWalk before ds own first steps queries trees w
+  pub walk_ends : (steps queries : List Tree) (w : Walk) → steps ≡ front → w.trail.items ≡ trail → w.verdicts.items ≡ verdicts_by (sum_in s.closed) 1 queries → w.status ≡ ended_with (first_unclosed (numbers_of s.closed) (length w.verdicts.items)) → IsWalk before ds own first steps queries trees w
   walk_ends steps queries w e t v i =
       let vs = verdicts queries w.verdicts.items v in
       record {
@@ -247,7 +248,7 @@ module _ (before : ℕ) (ds : List Declaration) (own : ℕ) (first : Tree) (tree
           split = e ∙ (h.steps ∙ sym (append-nil (map (λ x. x.step) h.proof)));
           last = kernel.game_in trees s;
           leads = h.leads;
-          ends = i ∙ ap ended_with (ap (first_unproved 1) vs ∙ unproved-same [] h.proof 1 queries);
+          ends = i ∙ ap ended_with (ap₂ first_unclosed (ap numbers_of h.closed ∙ numbers-same [] h.proof) (ap length vs ∙ verdicts-length (sum_of h.proof) 1 queries));
         };
         trail = ap (map (entry_in trees)) t ∙ h.entries;
         verdicts = vs;
@@ -255,7 +256,7 @@ module _ (before : ℕ) (ds : List Declaration) (own : ℕ) (first : Tree) (tree
       }
 
   -- the next step stops it
-  pub walk_stops : (steps queries : List Tree) (step : Tree) (left : List Tree) (w : Walk) → steps ≡ front ++ step ∷ left → w.trail.items ≡ trail → w.verdicts.items ≡ verdicts_by (kernel.sum_in s.closed.items) 1 queries → Stops (before + nodes_along first h.proof) s.steps (scene ds (known_to own) (kernel.game_in trees s)) (closed_by h.proof) step w.status → IsWalk before ds own first steps queries trees w
+  pub walk_stops : (steps queries : List Tree) (step : Tree) (left : List Tree) (w : Walk) → steps ≡ front ++ step ∷ left → w.trail.items ≡ trail → w.verdicts.items ≡ verdicts_by (sum_in s.closed) 1 queries → Stops (before + nodes_along first h.proof) s.steps (scene ds (known_to own) (kernel.game_in trees s)) (closed_by h.proof) step w.status → IsWalk before ds own first steps queries trees w
   walk_stops steps queries step left w e t v i = record {
     follows = record {
       proof = h.proof;
@@ -302,12 +303,12 @@ module _ (fn now : Work) (first : Tree) (script : List Step) (below : All (IsBel
         (followed_more (length fn.pool.trees) (declarations fn.pool.trees fn.decls.list) fn.decls.own first now.pool new now.decls is_ds (ap (λ (v : DeclsView). v.own) same_decls) (trees_of fn.pool.trees (take k script)) s t trail after step (tree_of step) u h
         (subst (λ x. IsPushed now.pool now.decls new.trees s t x (Ok u)) same p) (subst (λ x. IsNoted t step x trail after) (root-grown now.pool new step.0 g (omega arith) ∙ same) n) g (root-grown now.pool new step.0 g (omega arith) ∙ same) (omega arith) at live_game (subst (λ x. length new.trees ≤ length now.pool.trees + needed (kernel.game_in now.pool.trees s) x) same few))
 
-    pub followed_stops : (trees : List KindTree) (queries : List Tree) (e : PushError) (w : Walk) → trees ≡ now.pool.trees → now.pool.limit ≡ most_pool → IsPushed now.pool now.decls trees s t (tree_at now.pool.trees (Some (get_or script k d).0)) (Err e) → stop_of e s.steps ≡ Some w.status → w.trail.items ≡ trail → w.verdicts.items ≡ verdicts_by (kernel.sum_in s.closed.items) 1 queries
+    pub followed_stops : (trees : List KindTree) (queries : List Tree) (e : PushError) (w : Walk) → trees ≡ now.pool.trees → now.pool.limit ≡ most_pool → IsPushed now.pool now.decls trees s t (tree_at now.pool.trees (Some (get_or script k d).0)) (Err e) → stop_of e s.steps ≡ Some w.status → w.trail.items ≡ trail → w.verdicts.items ≡ verdicts_by (sum_in s.closed) 1 queries
         → IsWalk (length fn.pool.trees) (declarations fn.pool.trees fn.decls.list) fn.decls.own first (trees_of fn.pool.trees script) queries trees w
     followed_stops trees queries e w kept limit p i put v =
         let step : Step = get_or script k d in
         let all = ap (trees_of fn.pool.trees) (split_here script k d l) ∙ map-append tree_of (take k script) (step ∷ drop (k + 1) script) in
-        let stops = stops_at (length fn.pool.trees) (declarations fn.pool.trees fn.decls.list) fn.decls.own first now.pool now.pool now.decls is_ds (ap (λ (v : DeclsView). v.own) same_decls) s t (closed_by h.proof) trees (tree_of step) e (length fn.pool.trees + nodes_along first h.proof) w.status (ap (map (λ x. x.query)) h.closed ∙ numbers-same [] h.proof)
+        let stops = stops_at (length fn.pool.trees) (declarations fn.pool.trees fn.decls.list) fn.decls.own first now.pool now.pool now.decls is_ds (ap (λ (v : DeclsView). v.own) same_decls) s t (closed_by h.proof) trees (tree_of step) e (length fn.pool.trees + nodes_along first h.proof) w.status (ap numbers_of h.closed ∙ numbers-same [] h.proof)
         (subst (λ x. IsPushed now.pool now.decls trees s t x (Err e)) same p) i limit h.nodes in
         subst (λ ts. IsWalk (length fn.pool.trees) (declarations fn.pool.trees fn.decls.list) fn.decls.own first (trees_of fn.pool.trees script) queries ts w) (sym kept)
         (walk_stops (length fn.pool.trees) (declarations fn.pool.trees fn.decls.list) fn.decls.own first now.pool.trees s trail (trees_of fn.pool.trees (take k script)) h (trees_of fn.pool.trees script) queries (tree_of step) (trees_of fn.pool.trees (drop (k + 1) script)) w all put v stops)

@@ -46,7 +46,8 @@ use Rattle.cv_steps.specs.Sequences.{scene}
 use Rattle.cv_sequences.specs.Sequences.{added_up, costs_of}
 use Rattle.cv_sequences.proofs.Asked.{choices_valued}
 use Rattle.cv_sequences.proofs.Sums.{carried, games_ready, sum_tapes}
-use Rattle.cv_kernel.specs.Closings.{Closing, closing_failure, closing_in, closing_of_items, is_among, judgement_by_closing}
+use Rattle.cv_kernel_closed.specs.Queries.{is_among}
+use Rattle.cv_kernel.specs.Closings.{Closing, closing_failure, closing_in, closing_of_items, judgement_by_closing}
 use Rattle.cv_kernel.specs.Proofs.{IsProof, IsTransition, Transition, closed_by, push, start, sum_at, sum_behind, sum_from, sum_of}
 use Rattle.cv.specs.Games.{summed}
 use Rattle.cv.specs.Runs.{IsSoundFor}

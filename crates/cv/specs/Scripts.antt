@@ -1,9 +1,10 @@
 -- What the steps of a proof block lead to: each is taken in the game that those before it lead to, as long as it is accepted,
 -- there are no more than 2,000, and the pool has room.
-use Rattle.std.specs.Prelude.{◌≡◌, ℕ, suc, ◌+◌, ◌<◌, ◌≤◌, List, [], ◌∷◌, ◌++◌, length, map, nat_lt, Bool, if◌then◌else◌, Option, Some, None, option_map}
+use Rattle.std.specs.Prelude.{◌≡◌, ℕ, suc, ◌+◌, ◌<◌, ◌≤◌, List, [], ◌∷◌, ◌++◌, length, map, nat_lt, Bool, Option, Some, None, option_map}
 use Rattle.cv_bound.specs.declared.cost.Cost.{Cost}
 use Rattle.cv_bound.specs.declared.terms.Term.{Term}
-use Rattle.cv_kernel.specs.Closings.{Closing, closing_in, is_among, judgement_in}
+use Rattle.cv_kernel_closed.specs.Queries.{first_unclosed_from}
+use Rattle.cv_kernel.specs.Closings.{Closing, closing_in, judgement_in}
 use Rattle.cv_kernel.specs.Proofs.{IsProof, Transition, closed_by, nodes_along, sum_of}
 use Rattle.cv_kernel.specs.Rules.{HasNoRoom}
 use Rattle.cv_kernel.specs.Sequences.{needed}
@@ -37,8 +38,7 @@ pub data Stops (taken count : ℕ) (s : Scene) (closed : List ℕ) (step : Tree)
 
 -- the first of queries, numbered from a number on, that isn't closed
 abbrev pub first_open : (closed : List ℕ) → (number : ℕ) → (queries : List Tree) → Option ℕ
-first_open closed k [] = None
-first_open closed k (q ∷ qs) = if is_among closed k then first_open closed (suc k) qs else Some k
+first_open closed k queries = first_unclosed_from closed k (length queries)
 
 -- A script was followed to its end, and these queries are closed: the first one that isn't is open, if there is one.
 

@@ -1,10 +1,10 @@
 -- How far a script was followed.
-use Rattle.std.specs.Prelude.{◌≡◌, ℕ, suc, ◌+◌, ◌≤◌, false, All, List, [], ◌∷◌, ◌++◌, length, map, Option, Some, None}
+use Rattle.std.specs.Prelude.{◌≡◌, ℕ, ◌+◌, ◌≤◌, false, All, List, [], ◌∷◌, ◌++◌, length, map, Option, Some, None}
 use Rattle.cv_script.specs.declared.steps.Step.{Step}
 use Rattle.cv_kernel.specs.declared.error.PushError.{PushError}
 use Rattle.cv_kernel.specs.declared.error.PushError.TheVariants as push
 use Rattle.cv_kernel.specs.declared.sequence.Sequence.{Sequence}
-use Rattle.cv_kernel.specs.declared.sequence.Closed.{Closed}
+use Rattle.cv_kernel_closed.specs.declared.queries.ClosedQuery.{ClosedQuery}
 use Rattle.cv_kernel.specs.Closings.{Closing, closing_in}
 use Rattle.cv_kernel.specs.Proofs.{IsProof, Transition, nodes_along, sum_behind}
 use Rattle.cv_kernel.specs.Sequences as kernel
@@ -17,8 +17,6 @@ use Rattle.cv_report.specs.declared.report.Entry.{Entry}
 use Rattle.cv_report.specs.declared.report.Status.{Status}
 use Rattle.cv_report.specs.declared.report.Status.TheVariants as status
 use Rattle.cv_report.specs.declared.report.Which.TheVariants.{Depth, Nodes, Pool, Steps}
-use Rattle.cv_report.specs.declared.report.Verdict.{Verdict}
-use Rattle.cv_report.specs.declared.report.Verdict.TheVariants.{NotProved, Proved}
 use Rattle.cv_report.specs.Text.{EntryLive}
 use Rattle.cv_syntax.specs.declared.work.BuildError.TheVariants as build
 use Rattle.cv_syntax.specs.declared.work.Game.{Game}
@@ -36,23 +34,17 @@ stop_of (push.Build (build.Depth depth)) count = Some (status.Limit (Depth depth
 stop_of (push.Build (build.Full need)) count = Some (status.Limit (Pool need))
 stop_of (push.Build build.OutOfMemory) count = None
 
--- the first number of a verdict, from a number on, that isn't `Proved`
-abbrev pub first_unproved : (number : ℕ) → List Verdict → Option ℕ
-first_unproved k [] = None
-first_unproved k (NotProved ∷ vs) = Some k
-first_unproved k (Proved s ∷ vs) = first_unproved (suc k) vs
-
 -- what a sequence holds behind transitions: the sum of those that close no query, and the queries that others close
 
 abbrev pub sum_along : (sum : List Term) → List Transition → List Term
 sum_along sum [] = sum
 sum_along sum (t ∷ ts) = sum_along (sum_behind sum (closing_in t.step) t.cost) ts
 
-abbrev pub closed_before : (sum : List Term) → Cost → Option Closing → List Closed → List Closed
+abbrev pub closed_before : (sum : List Term) → Cost → Option Closing → List ClosedQuery → List ClosedQuery
 closed_before sum cost None later = later
 closed_before sum cost (Some c) later = record { query = c.query; sum = added sum cost false } ∷ later
 
-abbrev pub closings_from : (sum : List Term) → List Transition → List Closed
+abbrev pub closings_from : (sum : List Term) → List Transition → List ClosedQuery
 closings_from sum [] = []
 closings_from sum (t ∷ ts) =
     closed_before sum t.cost (closing_in t.step) (closings_from (sum_behind sum (closing_in t.step) t.cost) ts)
@@ -65,7 +57,7 @@ pub record HasFollowed (before : ℕ) (ds : List Declaration) (own : ℕ) (first
   pub entries : map (entry_in trees) trail ≡ map entry_of proof
   pub count : s.steps ≡ length proof
   pub sum : s.sum ≡ sum_along [] proof
-  pub closed : s.closed.items ≡ closings_from [] proof
+  pub closed : s.closed ≡ closings_from [] proof
   pub nodes : length trees ≤ before + nodes_along first proof
   pub live : All (EntryLive (length trees)) trail
 

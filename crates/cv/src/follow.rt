@@ -8,10 +8,10 @@ ghost use Rattle.cv_scope.specs.Phrases.{IsWellFormed};
 ghost use Rattle.cv_parse_script.specs.Scripts.{trees_of};
 ghost use Rattle.cv_accept.specs.Works.{HasSteps, content_at, content_nodes};
 ghost use Rattle.cv_plain.specs.Strategy.{most_pool};
-ghost use Rattle.cv_kernel.specs.Sequences.{Stands, sum_in};
+ghost use Rattle.cv_kernel_closed.specs.Queries.{first_unclosed, numbers_of, sum_in};
 ghost use Rattle.cv.specs.Scripts.{ended_with, verdict_by, verdicts_by};
 ghost use Rattle.cv.specs.Runs.{Runs};
-ghost use Rattle.cv.specs.Walks.{IsNoted, IsWalk, first_unproved, stop_of};
+ghost use Rattle.cv.specs.Walks.{IsNoted, IsWalk, stop_of};
 
 use crate::refusal::refused;
 use cv_bound::Sum;
@@ -53,18 +53,15 @@ fn stop_of(fault: PushError, count: u32) -> Option<Status>
     }
 }
 
-/// How a run ends whose script was followed to its end: the first query that isn't proved is open.
-fn end_of(verdicts: &[Verdict]) -> Status
-    requires { length verdicts.now < 2 ^ 32 }
-    ensures { result ≡ ended_with (first_unproved 1 verdicts.now) }
+/// How a run ends whose script was followed to its end, over a file with so many queries: the first one that isn't
+/// closed is open.
+fn end_of(sequence: &Sequence, count: u32) -> Status
+    ensures { result ≡ ended_with (first_unclosed (numbers_of sequence.now.closed) count) }
 {
-    'verdicts: for k in 0..verdicts.len() {
-        match verdicts[k] {
-            Verdict::Proved(_) => {}
-            Verdict::NotProved => return Status::Open(Cause::NoClose(k as u32 + 1)),
-        }
+    match sequence.first_unclosed(count) {
+        Some(number) => Status::Open(Cause::NoClose(number)),
+        None => Status::Proved,
     }
-    Status::Proved
 }
 
 /// Puts an accepted step on the trail, with its cost and the game that it leads to, where it closes no query.
@@ -108,7 +105,7 @@ fn verdicts_of(
     sequence: &Sequence,
 ) -> Result<Vec<Verdict>, AllocError>
     ensures verdicts { IfOk result (λ v. v.items
-        ≡ verdicts_by (sum_in sequence.now.closed.items) 1 (queries decls.now.list)) }
+        ≡ verdicts_by (sum_in sequence.now.closed) 1 (queries decls.now.list)) }
     ensures few { IfOk result (λ v. length v.items < 2 ^ 32) }
 {
     let mut verdicts = Vec::new(alloc);
@@ -165,7 +162,7 @@ pub fn follow(
         }
     }
     let verdicts = verdicts_of(alloc, &work.decls, &sequence)?;
-    let status = end_of(&verdicts);
+    let status = end_of(&sequence, verdicts.as_slice().len() as u32);
     Ok(Walk {
         trail,
         verdicts,

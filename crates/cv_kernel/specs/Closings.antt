@@ -1,7 +1,6 @@
 -- Steps that close a query. A query is closed once, by a certificate that is accepted in the last game, and the game stays. This
 -- profile's own.
-use Rattle.std.specs.Prelude.{ℕ, Bool, ◌==◌, if◌then◌else◌, List, Option, Some, None, option_and_then}
-use Rattle.std.specs.List.{list_any}
+use Rattle.std.specs.Prelude.{ℕ, if◌then◌else◌, List, Option, Some, None, option_and_then}
 use Rattle.cv_syntax.specs.Tree.{Tree}
 use Rattle.cv_query_form.specs.Queries.{queries_in}
 use Rattle.cv_query_certificates.specs.Failures.{Failure, first_failure}
@@ -11,6 +10,7 @@ use Rattle.cv_script.specs.Views.{StepItems, items_of_step}
 use Rattle.cv_script.specs.Views as items
 use Rattle.cv_steps.specs.Judgements.{Judgement, Accepted, Refused}
 use Rattle.cv_steps.specs.Steps.{Zero}
+use Rattle.cv_kernel_closed.specs.Queries.{is_among}
 use Rattle.cv_kernel.specs.Steps.{judgement_at}
 
 -- a query by its number, from 1, and a certificate for it
@@ -25,9 +25,6 @@ closing_of_items other = None
 -- the query that a step closes, with its certificate, where it is such a step
 abbrev pub closing_in : Tree → Option Closing
 closing_in t = option_and_then closing_of_items (items_of_step t)
-
-abbrev pub is_among : List ℕ → ℕ → Bool
-is_among ks k = list_any (λ n. n == k) ks
 
 -- The first condition that fails, where these queries are closed: the query is there and isn't closed, and then the certificate's.
 abbrev pub closing_failure : Scene → (closed : List ℕ) → Closing → Option Failure

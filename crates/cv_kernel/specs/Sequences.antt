@@ -1,5 +1,5 @@
 -- What a sequence of games holds, and what a step does to it.
-use Rattle.std.specs.Prelude.{◌≡◌, ℕ, suc, ◌+◌, ◌<◌, ◌≤◌, ◌==◌, if◌then◌else◌, false, List, [], ◌∷◌, ◌++◌, length, map, Option, Some, None, IfSome, IsSome, Result, Ok, Err}
+use Rattle.std.specs.Prelude.{◌≡◌, ℕ, suc, ◌+◌, ◌<◌, ◌≤◌, false, List, [], ◌∷◌, ◌++◌, length, Option, Some, None, IfSome, IsSome, Result, Ok, Err}
 use Rattle.cv_pool.specs.KindTree.{KindTree}
 use Rattle.cv_pool.specs.PoolView.{PoolView}
 use Rattle.cv_syntax.specs.Classes.{DeclsView}
@@ -8,7 +8,6 @@ use Rattle.cv_syntax.specs.Tree.{Tree, size, tree_at}
 use Rattle.cv_syntax.specs.Declarations.{declarations}
 use Rattle.cv_scope.specs.Phrases.{IsWellFormed}
 use Rattle.cv_bound.specs.declared.cost.Cost.TheVariants as bound
-use Rattle.cv_bound.specs.declared.terms.Term.{Term}
 use Rattle.cv_bound.specs.Sums.{AllFit, added}
 use Rattle.cv_query_certificates.specs.Failures.{Failure}
 use Rattle.cv_rule_scenes.specs.Kept.{scene_of}
@@ -16,6 +15,7 @@ use Rattle.cv_rule.specs.Prepared.{IsPrepared}
 use Rattle.cv_steps.specs.Costs.{cost_of}
 use Rattle.cv_steps.specs.Judgements.{Judgement, Refused, TooLarge, TooDeep, Accepted, judgement_of, most_nodes}
 use Rattle.cv_steps.specs.Steps.{Step, Cost}
+use Rattle.cv_kernel_closed.specs.Queries.{numbers_of}
 use Rattle.cv_kernel.specs.Closings.{Closing, closing_failure, closing_in}
 use Rattle.cv_kernel.specs.Rules.{HasNoRoom, need_of}
 use Rattle.cv_kernel.specs.Steps.{judgement_by, step_in}
@@ -23,7 +23,6 @@ use Rattle.cv_kernel.specs.declared.error.PushError.{PushError}
 use Rattle.cv_kernel.specs.declared.error.PushError.TheVariants as push
 use Rattle.cv_kernel.specs.declared.error.RuleError.{RuleError}
 use Rattle.cv_kernel.specs.declared.error.RuleError.TheVariants as rule
-use Rattle.cv_kernel.specs.declared.sequence.Closed.{Closed}
 use Rattle.cv_kernel.specs.declared.sequence.Sequence.{Sequence}
 
 abbrev pub push_fault : RuleError → PushError
@@ -51,16 +50,7 @@ pub record Same (old new : Sequence) : Type 0 where
   pub steps : new.steps ≡ old.steps
   pub cost : new.cost ≡ old.cost
   pub sum : new.sum ≡ old.sum
-  pub closed : new.closed.items ≡ old.closed.items
-
--- the numbers of the queries that are closed
-abbrev pub closed_numbers : Sequence → List ℕ
-closed_numbers s = map (λ c. c.query) s.closed.items
-
--- the sum of a query, where it is closed
-abbrev pub sum_in : List Closed → (query : ℕ) → Option (List Term)
-sum_in [] k = None
-sum_in (c ∷ cs) k = if c.query == k then Some c.sum else sum_in cs k
+  pub closed : new.closed ≡ old.closed
 
 -- how many nodes a step may add
 
@@ -78,7 +68,7 @@ pub record IsTaken (limit live : ℕ) (need : ℕ) (j : Judgement) (trees : List
   pub steps : new.steps ≡ suc old.steps
   pub costs : new.cost ≡ Some (cost_of cost)
   pub sum : new.sum ≡ added old.sum (cost_of cost) false
-  pub closed : new.closed.items ≡ old.closed.items
+  pub closed : new.closed ≡ old.closed
   pub room : live + need ≤ limit
 
 -- Each answer is what is said of the step; memory may run out anywhere.
@@ -101,7 +91,7 @@ pub record IsClosing (c : Closing) (old new : Sequence) : Type 0 where
   pub steps : new.steps ≡ suc old.steps
   pub cost : new.cost ≡ Some bound.Zero
   pub sum : new.sum ≡ old.sum
-  pub closed : new.closed.items ≡ old.closed.items ++ record { query = c.query; sum = old.sum } ∷ []
+  pub closed : new.closed ≡ old.closed ++ record { query = c.query; sum = old.sum } ∷ []
 
 -- A step that closes a query is answered by the first condition that fails; memory may run out anywhere.
 abbrev pub IsCloseAnswer : Option Failure → Closing → (old new : Sequence) → Result (Unit {0}) PushError → Type 0
@@ -115,7 +105,7 @@ abbrev pub IsStepAnswer : PoolView → DeclsView → List KindTree → (old new 
 IsStepAnswer pool decls trees old new step None r =
     IsPushAnswer pool.limit (length pool.trees) (needed (game_in pool.trees old) step) (judgement_by (scene_of pool decls old.game.root) (step_in step)) trees old new r
 IsStepAnswer pool decls trees old new step (Some c) r =
-    IsCloseAnswer (closing_failure (scene_of pool decls old.game.root) (closed_numbers old) c) c old new r
+    IsCloseAnswer (closing_failure (scene_of pool decls old.game.root) (numbers_of old.closed) c) c old new r
 
 -- as many steps were taken as a proof may have, or the step was answered
 abbrev pub IsPushed : PoolView → DeclsView → List KindTree → (old new : Sequence) → (step : Tree) → Result (Unit {0}) PushError → Type 0

@@ -13,4 +13,4 @@ pub use closing::{Closing, closing_of};
 pub use cv_kernel_games::Next;
 pub use error::{PushError, Refusal, RuleError};
 pub use reading::rule_of;
-pub use sequence::{Closed, Sequence};
+pub use sequence::Sequence;

@@ -1,16 +1,15 @@
-ghost use Rattle.std.specs.Prelude.{◌≡◌, ◌+◌, ◌<◌, ◌≤◌, ◌^◌, ◌++◌, ◌∷◌, [], All, IfSome, None, OnErr, OnOk, Some, length, option_map};
+ghost use Rattle.std.specs.Prelude.{◌≡◌, ◌+◌, ◌<◌, ◌≤◌, ◌^◌, [], All, IfSome, None, OnErr, OnOk, Some, length, option_map};
 ghost use Rattle.cv_pool.specs.PoolView.{Grows};
 ghost use Rattle.cv_syntax.specs.Tree.{tree_at};
 ghost use Rattle.cv_typing.specs.Lookups.{IsLive};
-ghost use Rattle.cv_bound.specs.Sums.{AllFit};
-ghost use Rattle.cv_steps.specs.Steps.{Step as StepTree};
 ghost use Rattle.cv_rule.specs.Stated.{step_of};
 ghost use Rattle.cv_pool.specs.Nodes.{ChildBelow};
 ghost use Rattle.cv_rule_scenes.specs.Kept.{scene_of};
+ghost use Rattle.cv_kernel_closed.specs.Queries.{first_unclosed, numbers_of, sum_in};
 ghost use Rattle.cv_kernel.specs.ClosingTrees.{closing_tree};
 ghost use Rattle.cv_kernel.specs.Closings.{closing_failure};
 ghost use Rattle.cv_kernel.specs.Rules.{IsShortRule, need_of};
-ghost use Rattle.cv_kernel.specs.Sequences.{IsAdvanced, IsCloseAnswer, IsPushed, IsReady, Same, Stands, closed_numbers, needed, sum_in};
+ghost use Rattle.cv_kernel.specs.Sequences.{IsAdvanced, IsCloseAnswer, IsPushed, IsReady, Same, Stands, needed};
 ghost use Rattle.cv_kernel.specs.Steps.{narrow, nodes_of, step_in};
 
 use crate::applying::attempt;
@@ -19,6 +18,7 @@ use crate::error::{PushError, Refusal};
 use crate::reading::rule_of;
 use cv_bound::{Cost, Sum};
 use cv_directory::Directory;
+use cv_kernel_closed::ClosedQueries;
 use cv_kernel_games::settle;
 use cv_query_built::query_numbered;
 use cv_query_check::check;
@@ -53,24 +53,6 @@ fn refused(condition: u32) -> PushError
     })
 }
 
-/// A query that is closed, by its number, and the sum of the costs of the steps before.
-#[derive(Drop)]
-pub struct Closed {
-    query: u64,
-    sum: Sum,
-}
-
-/// Puts a query among the closed ones, with the sum so far.
-fn note_closed(closed: &mut Vec<Closed>, query: u64, sum: &Sum) -> Result<(), AllocError>
-    ensures put { OnOk result (closed.new.items
-        ≡ closed.old.items ++ record { query = query; sum = sum.now } ∷ []) }
-    ensures same { OnErr result (closed.new.items ≡ closed.old.items) }
-{
-    let sum = sum.copy()?;
-    closed.push(Closed { query, sum })?;
-    Ok(())
-}
-
 /// A sequence of games, by its last: each accepted step leads to the next, or closes a query.
 #[derive(Drop)]
 pub struct Sequence {
@@ -80,7 +62,7 @@ pub struct Sequence {
     steps: u32,
     cost: Option<Cost>,
     sum: Sum,
-    closed: Vec<Closed>,
+    closed: ClosedQueries,
 }
 
 impl Sequence {
@@ -91,7 +73,7 @@ impl Sequence {
         ensures steps { result.steps ≡ 0 }
         ensures cost { result.cost ≡ None }
         ensures sum { result.sum ≡ [] }
-        ensures closed { result.closed.items ≡ [] }
+        ensures closed { result.closed ≡ [] }
     {
         Sequence {
             game,
@@ -99,7 +81,7 @@ impl Sequence {
             steps: 0,
             cost: None,
             sum: Sum::new(alloc),
-            closed: Vec::new(alloc),
+            closed: ClosedQueries::new(alloc),
         }
     }
 
@@ -126,14 +108,16 @@ impl Sequence {
 
     /// The sum of a query of this number, where it is closed: the costs of the steps before. Takes no memory.
     pub fn sum(&self, query: u64) -> Option<&Sum>
-        ensures { option_map (λ s. s.now) result ≡ sum_in self.now.closed.items query }
+        ensures { option_map (λ s. s.now) result ≡ sum_in self.now.closed query }
     {
-        'closed: for one in &self.closed {
-            if one.query == query {
-                return Some(&one.sum);
-            }
-        }
-        None
+        self.closed.sum(query)
+    }
+
+    /// The number of the first query that isn't closed, where there are so many queries.
+    pub fn first_unclosed(&self, count: u32) -> Option<u32>
+        ensures { result ≡ first_unclosed (numbers_of self.now.closed) count }
+    {
+        self.closed.first_unclosed(count)
     }
 
     /// Looks up what there is to read in the game.
@@ -189,13 +173,13 @@ impl Sequence {
         requires short { nodes_of (tree_at work.now.pool.trees closing.certificate) < 2 ^ 31 }
         requires steps { self.old.steps < 2000 }
         ensures answer { IsCloseAnswer (closing_failure
-            (scene_of work.now.pool work.now.decls self.old.game.root) (closed_numbers self.old)
+            (scene_of work.now.pool work.now.decls self.old.game.root) (numbers_of self.old.closed)
             (closing_tree work.now.pool.trees closing))
             (closing_tree work.now.pool.trees closing) self.old self.new result }
         ensures stands { Stands work.now.pool.trees work.now.decls self.new }
         ensures same { OnErr result (Same self.old self.new) }
     {
-        if self.sum(closing.query).is_some() {
+        if self.closed.is_closed(closing.query) {
             return Err(refused(1));
         }
         self.prepare(alloc, work)?;
@@ -211,7 +195,7 @@ impl Sequence {
                 place: failure.place,
             }));
         }
-        note_closed(&mut self.closed, closing.query, &self.sum)?;
+        self.closed.note(closing.query, &self.sum)?;
         self.cost = Some(Cost::Zero);
         self.steps += 1;
         Ok(())

@@ -1,12 +1,12 @@
 use Rattle.std.proofs.Common.{◌≡◌, ◌≤◌, ◌++◌, suc, drop, length}
-use Rattle.cv_kernel.specs.Sequences.{sum_in}
+use Rattle.cv_kernel_closed.specs.Queries.{sum_in}
 use Rattle.cv_syntax.specs.Classes.{queries}
 use Rattle.cv.specs.Scripts.{verdicts_by}
 use Rattle.cv.proofs.follow.verdicts_of.Given as goal
 
 abbrev pub invariant-decls : goal.invariant-decls
 invariant-decls l = record {
-  verdicts : l.verdicts.items ++ verdicts_by (sum_in l.sequence.closed.items) (suc l.number) (queries (drop l.k l.decls.list)) ≡ verdicts_by (sum_in l.sequence.closed.items) 1 (queries l.decls.list);
+  verdicts : l.verdicts.items ++ verdicts_by (sum_in l.sequence.closed) (suc l.number) (queries (drop l.k l.decls.list)) ≡ verdicts_by (sum_in l.sequence.closed) 1 (queries l.decls.list);
   number : l.number ≤ l.k;
   few : length l.verdicts.items ≤ l.k;
 }
