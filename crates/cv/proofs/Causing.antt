@@ -43,7 +43,7 @@ use Rattle.cv_group.specs.declared.fault.GroupFault.{GroupFault}
 use Rattle.cv_group.specs.Refusals.{refused_by}
 use Rattle.cv_group_rules.specs.Faults.{GroupRule, equivalences_in}
 use Rattle.cv_group_rules.proofs.Deciding.{accepted-more as all_accepted, first-refused as first_group_refused}
-use Rattle.cv_query_form.specs.Queries.{queries_in}
+use Rattle.cv_meaning.specs.Queries.{queries_in}
 use Rattle.cv_query_form.proofs.First.{finds-first as first_refused_is_first}
 use Rattle.cv_accept.specs.declared.error.FileError.{FileError}
 use Rattle.cv_accept.specs.declared.error.FileError.TheVariants as fault

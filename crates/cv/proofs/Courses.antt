@@ -3,7 +3,7 @@ use Rattle.std.proofs.Common.{◌≡◌, ℕ, ◌≤◌, List, length, map, ap, 
 use Rattle.std.proofs.lemmas.List.{length-map}
 use Rattle.cv_syntax.specs.Tree.{Tree}
 use Rattle.cv_syntax.specs.declared.work.File.{File}
-use Rattle.cv_query_form.specs.Queries.{queries_in}
+use Rattle.cv_meaning.specs.Queries.{queries_in}
 use Rattle.cv_report.specs.declared.report.Report.{Report}
 use Rattle.cv_plain.specs.declared.strategy.Findings.{Findings}
 use Rattle.cv_plain.specs.Findings.{IsFound, ended}

@@ -14,7 +14,7 @@ use Rattle.cv_accept.specs.declared.error.FileError.{FileError}
 use Rattle.cv_accept.specs.declared.error.FileError.TheVariants as fault
 use Rattle.cv_accept.specs.Accepted.{Content, IsFile, IsFull, Refuses, read_of}
 use Rattle.cv_accept.specs.Works.{content_nodes}
-use Rattle.cv_query_form.specs.Queries.{queries_in}
+use Rattle.cv_meaning.specs.Queries.{queries_in}
 use Rattle.cv_accept.proofs.Readings.{file_is_read, full_content}
 use Rattle.cv_parse_script.proofs.Steps.{items_nodes}
 use Rattle.std.proofs.lemmas.List.{length-map}

@@ -24,7 +24,7 @@ use Rattle.cv_parse_terminals.specs.Signs.{signs_of}
 use Rattle.cv_parse_roles.proofs.Games.{constants_declared}
 use Rattle.cv_parse_sorts.proofs.Known.{queries_known}
 use Rattle.cv_plain.specs.Strategy.{closing, most_pool}
-use Rattle.cv_query_form.specs.Queries.{queries_in}
+use Rattle.cv_meaning.specs.Queries.{queries_in}
 use Rattle.cv_query_form.specs.Rules.{AreAsked}
 use Rattle.cv_report.specs.declared.report.Entry.{Entry}
 use Rattle.cv_report.specs.declared.report.Report.{Report}

@@ -19,7 +19,7 @@ use Rattle.cv_meaning.specs.Satisfies.{Satisfies}
 use Rattle.cv_meaning_chances.specs.Fractions.{HasTapes}
 use Rattle.cv_typing.specs.Parts.{IsTypedFile}
 use Rattle.cv_typing_runs.specs.Games.{HasConstants}
-use Rattle.cv_query_form.specs.Queries.{queries_in}
+use Rattle.cv_meaning.specs.Queries.{queries_in}
 use Rattle.cv_query_form.specs.Rules.{AreAsked}
 use Rattle.cv_query_built.specs.Built.{asks_unbuilt, has_unbuilt, is_unbuilt_step, lacks_form}
 use Rattle.cv_query_certificates.specs.Accepted.{IsAccepted, is_built}

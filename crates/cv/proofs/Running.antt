@@ -8,7 +8,7 @@ use Rattle.cv_syntax.specs.declared.work.File.{File}
 use Rattle.cv_syntax.specs.Tree.{Tree}
 use Rattle.cv_script.specs.declared.steps.Step.{Step}
 use Rattle.cv_bound.specs.declared.terms.Term.{Term}
-use Rattle.cv_query_form.specs.Queries.{queries_in}
+use Rattle.cv_meaning.specs.Queries.{queries_in}
 use Rattle.cv_accept.specs.Accepted.{Content, IsFile, read_of}
 use Rattle.cv_accept.specs.Works.{script_in}
 use Rattle.cv_accept.proofs.Readings.{read_is_file}

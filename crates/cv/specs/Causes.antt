@@ -28,7 +28,7 @@ use Rattle.cv_meaning.specs.Interpretation.{is_constant_of}
 use Rattle.cv_group.specs.declared.fault.GroupFault.{GroupFault}
 use Rattle.cv_group.specs.Refusals.{refused_by}
 use Rattle.cv_group_rules.specs.Faults.{AreAccepted, GroupRule, IsFirstGroupFault, equivalences_in}
-use Rattle.cv_query_form.specs.Queries.{queries_in}
+use Rattle.cv_meaning.specs.Queries.{queries_in}
 use Rattle.cv_query_form.specs.Rules.{IsFirstRefused}
 use Rattle.cv_syntax.specs.Tree.{Tree}
 use Rattle.cv_syntax.specs.declared.work.File.{File}

@@ -4,7 +4,7 @@ use Rattle.cv_syntax.specs.declared.work.File.{File}
 use Rattle.cv_syntax.specs.Tree.{Tree}
 use Rattle.cv_bound.specs.declared.terms.Term.{Term}
 use Rattle.cv_accept.specs.Accepted.{Content}
-use Rattle.cv_query_form.specs.Queries.{queries_in}
+use Rattle.cv_meaning.specs.Queries.{queries_in}
 use Rattle.cv_report.specs.declared.report.Report.{Report}
 use Rattle.cv_report.specs.declared.report.Status.TheVariants as status
 use Rattle.cv_report.specs.declared.report.Verdict.{Verdict}

@@ -17,7 +17,7 @@ use Rattle.cv_plain.specs.Strategy.{Course, Said, closing, is_closed, most_pool,
 use Rattle.cv_accept.specs.declared.error.FileError.{FileError}
 use Rattle.cv_accept.specs.Accepted.{Content, IsFile, IsFull, read_of}
 use Rattle.cv_accept.specs.Works.{content_at, content_nodes, script_in}
-use Rattle.cv_query_form.specs.Queries.{queries_in}
+use Rattle.cv_meaning.specs.Queries.{queries_in}
 use Rattle.cv_report.specs.declared.report.Report.{Report}
 use Rattle.cv_report.specs.declared.report.Status.{Status}
 use Rattle.cv_report.specs.declared.report.Status.TheVariants as status

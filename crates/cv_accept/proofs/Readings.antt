@@ -40,7 +40,7 @@ use Rattle.cv_group_rules.specs.Faults.{GroupRule, equivalences_in}
 use Rattle.cv_group_rules.proofs.Deciding.{accepted-more as all-accepted, none-where-all as none-refused}
 use Rattle.cv_query_form.specs.declared.fault.QueryFault.{QueryFault}
 use Rattle.cv_query_form.specs.declared.fault.QueryFault.TheVariants as query
-use Rattle.cv_query_form.specs.Queries.{queries_in}
+use Rattle.cv_meaning.specs.Queries.{queries_in}
 use Rattle.cv_query_form.specs.Refusals.{IsRefusalOf as IsQueryRefusal}
 use Rattle.cv_query_form.proofs.First.{asked-where-none, none-where-asked}
 use Rattle.cv_parse_laws.proofs.Games.{well_formed}

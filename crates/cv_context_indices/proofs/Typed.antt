@@ -11,7 +11,8 @@ use Rattle.cv_directory.specs.declared.sort.Sort.{Sort}
 use Rattle.cv_directory.specs.declared.sort.Sort.TheVariants.{BelowParameter, OfType}
 use Rattle.cv_directory.specs.Sites.{Variable, first_index, first_of, first_site, sites_of}
 use Rattle.cv_typing.specs.declared.form.Form.TheVariants.{InBody, InProcess}
-use Rattle.cv_typing.specs.Signature.{Above, Function, OfGame, Signature, count, function_in, is_arity, leaf_sort, sort_of, variable_sort}
+use Rattle.cv_typing.specs.Signature.{Above, Function, OfGame, Signature, function_in, is_arity, leaf_sort, sort_of, variable_sort}
+use Rattle.cv_directory.specs.Counting.{count}
 use Rattle.cv_typing.specs.Typing.{IsTyped}
 use Rattle.cv_typing.specs.Wants.{Atoms, Branches, Correspondence, Guarded, Indices, Messages, Of, Run, Tested, Want, above_second, asks_indices, atom_wants, branch_wants, is_in_body, like, list_wants, on_list, place_wants, query_wants, run_wants, wants, wants_arguments}
 use Rattle.cv_scope.specs.Context.{replications_below}

@@ -5,7 +5,7 @@ use Rattle.std.specs.List.{list_any}
 use Rattle.cv_syntax.specs.declared.head.Head.TheVariants.{Secret, SecretOnce}
 use Rattle.cv_syntax.specs.Tree.{Tree, Empty, Node}
 use Rattle.cv_directory.specs.Sites.{first_site, is_untyped_in}
-use Rattle.cv_query_form.specs.Queries.{queries_in}
+use Rattle.cv_meaning.specs.Queries.{queries_in}
 use Rattle.cv_query_form.specs.Rules.{AreAsked, HasValues, MayBeAsked}
 use Rattle.cv_scope.specs.Scope.{IsScoped, is_variable, names_of}
 use Rattle.cv_scope.specs.Standing.{at_root}

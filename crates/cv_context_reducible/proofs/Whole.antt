@@ -10,7 +10,7 @@ use Rattle.cv_meaning.specs.Runs.{Events, Random, Real}
 use Rattle.cv_meaning_adequacy.proofs.Lists.{contains_has}
 use Rattle.cv_meaning_laws.proofs.Listed.{Has}
 use Rattle.cv_directory.specs.Sites.{first_of}
-use Rattle.cv_query_form.specs.Queries.{queries_in}
+use Rattle.cv_meaning.specs.Queries.{queries_in}
 use Rattle.cv_scope.specs.Phrases.{Inputs}
 use Rattle.cv_scope.specs.Scope.{is_variable, names_of}
 use Rattle.cv_scope.specs.Standing.{at_root}

@@ -6,10 +6,11 @@ use Rattle.cv_derivations.specs.Given.{with_given}
 use Rattle.cv_directory.specs.Sites.{bound_sort, first_index, first_site}
 use Rattle.cv_meaning.specs.Interpretation.{is_constant_of}
 use Rattle.cv_typing.specs.Parts.{IsTypedGame, game_part, signature_of}
-use Rattle.cv_typing.specs.Signature.{count, names_in}
+use Rattle.cv_typing.specs.Signature.{names_in}
+use Rattle.cv_directory.specs.Counting.{count}
 use Rattle.cv_typing.specs.Typing.{binders_differ}
 use Rattle.cv_typing.proofs.First.{typed_where_none}
-use Rattle.cv_query_form.specs.Queries.{queries_in}
+use Rattle.cv_meaning.specs.Queries.{queries_in}
 use Rattle.cv_scope.specs.Made.{is_bound}
 use Rattle.cv_scope.specs.Phrases.{IsWellFormed, binds_none, is_phrase}
 use Rattle.cv_scope.specs.Scope.{is_untyped_in, names_of}

@@ -3,7 +3,7 @@
 
 ghost use Rattle.cv_meaning.specs.Advantage.{IsAsked};
 ghost use Rattle.cv_meaning.specs.Experiments.{Experiment, mode_of};
-ghost use Rattle.cv_query_form.specs.Queries.{queries_in};
+ghost use Rattle.cv_meaning.specs.Queries.{queries_in};
 ghost use Rattle.cv_scenes.specs.Reductions.{Reduction};
 ghost use Rattle.cv_scenes.specs.Apt.{IsAptGame, IsTestApt};
 ghost use Rattle.cv_context_reducible.specs.Reducible.{IsReducible};

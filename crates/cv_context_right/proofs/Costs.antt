@@ -8,7 +8,7 @@ use Rattle.cv_meaning.specs.Runs.{Adversary}
 use Rattle.cv_meaning.specs.Tapes.{blank}
 use Rattle.cv_meaning_contexts.specs.ContextAdvantage.{context_advantage}
 use Rattle.cv_meaning_chances.proofs.FractionLaws.{distance_kept}
-use Rattle.cv_query_form.specs.Queries.{queries_in}
+use Rattle.cv_meaning.specs.Queries.{queries_in}
 use Rattle.cv_typing_runs.specs.Games.{HasArguments}
 use Rattle.cv_scenes.specs.Reductions.{Reduction, context_of_game, in_game}
 use Rattle.cv_context_reducible.specs.Reducible.{IsReducible}

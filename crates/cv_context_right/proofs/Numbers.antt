@@ -11,8 +11,8 @@ use Rattle.cv_meaning_laws.proofs.Listed.{Has}
 use Rattle.cv_meaning_contexts.specs.Finds.{Oracles, has_bound}
 use Rattle.cv_meaning_contexts.specs.Groups.{Function, Group, function_at}
 use Rattle.cv_meaning_contexts.specs.Sites.{Site, bounds_above, first_of, is_call, site_with, sites_from}
-use Rattle.cv_inline_bodies.specs.Accepted.{AreFineKeyTerms}
-use Rattle.cv_inline_bodies.specs.Inlined.{Caller, is_index_of}
+use Rattle.cv_meaning_contexts.specs.KeyTerms.{AreFineKeyTerms}
+use Rattle.cv_meaning_contexts.specs.Inlined.{Caller, is_index_of}
 use Rattle.cv_inline_bodies.specs.Inlining.{Inlining}
 use Rattle.cv_inline_bodies.specs.Related.{AreSitesOf}
 use Rattle.cv_inline_games.specs.NextGame.{Calling, call_of, callers_of, calling, callings_from, names_assigned, numbered, replications_under}

@@ -17,7 +17,7 @@ use Rattle.cv_meaning_contexts.specs.ContextAdvantage.{context_advantage}
 use Rattle.cv_directory.specs.declared.sort.Sort.{Sort}
 use Rattle.cv_directory.specs.declared.sort.Sort.TheVariants.{OfType}
 use Rattle.cv_directory.specs.Sites.{Variable, first_site}
-use Rattle.cv_query_form.specs.Queries.{queries_in}
+use Rattle.cv_meaning.specs.Queries.{queries_in}
 use Rattle.cv_scope.proofs.Apart.{game-alike, game-branches}
 use Rattle.cv_scope.specs.Phrases.{Inputs, IsWellFormedContext}
 use Rattle.cv_scenes.specs.Apt.{IsAptGame, IsTestApt}
@@ -43,7 +43,7 @@ use Rattle.cv_context_typed.proofs.Own.{no_own}
 use Rattle.cv_context_typed.proofs.Whole.{context_laid}
 use Rattle.cv_context_next.specs.Drawn.{AreDrawnFor, next_game}
 use Rattle.cv_context_next.proofs.Labels.{labels_new}
-use Rattle.cv_inline_bodies.specs.Roles.{Gone, Plain}
+use Rattle.cv_meaning_contexts.specs.Roles.{Gone, Plain}
 use Rattle.cv_inline_runs.specs.Contexts.{IsAskedAlike}
 use Rattle.cv_inline_runs.specs.Texts.{Text}
 use Rattle.cv_inline_expected.specs.Fine.{HasRolesOf, has_free_indices}

@@ -20,9 +20,9 @@ use Rattle.cv_context_formed.proofs.Games.{context_part}
 use Rattle.cv_context_calls.specs.Calls.{AreCallsOf, IsCallOf}
 use Rattle.cv_context_calls.proofs.Found.{found, site_found}
 use Rattle.cv_context_calls.proofs.Games.{game_calls}
-use Rattle.cv_inline_bodies.specs.Accepted.{AreFineKeyTerms}
-use Rattle.cv_inline_bodies.specs.Inlined.{Caller, is_index_of, is_own}
-use Rattle.cv_inline_bodies.specs.Roles.{Replication, is_plain}
+use Rattle.cv_meaning_contexts.specs.KeyTerms.{AreFineKeyTerms}
+use Rattle.cv_meaning_contexts.specs.Inlined.{Caller, is_index_of, is_own}
+use Rattle.cv_meaning_contexts.specs.Roles.{Replication, is_plain}
 use Rattle.cv_inline_games.specs.NextGame.{Calling, call_of, callers_of, callings_of, numbered}
 use Rattle.cv_inline_draws.specs.DrawnNames.{find_in, has_indices}
 use Rattle.cv_inline_draws.proofs.Names.{label_again}

@@ -18,8 +18,8 @@ use Rattle.cv_scenes.specs.Sites.{Site}
 use Rattle.cv_scenes.specs.Terms.{has_index}
 use Rattle.cv_context_answers.specs.Answers.{KnowsConstants}
 use Rattle.cv_context_reducible.specs.Reducible.{IsReducible}
-use Rattle.cv_inline_bodies.specs.Inlined.{is_own}
-use Rattle.cv_inline_bodies.specs.Roles.{Gone}
+use Rattle.cv_meaning_contexts.specs.Inlined.{is_own}
+use Rattle.cv_meaning_contexts.specs.Roles.{Gone}
 use Rattle.cv_inline_games.specs.NextGame.{Calling, callings_of}
 use Rattle.cv_inline_draws.specs.DrawnNames.{role_in}
 use Rattle.cv_inline_expected.specs.Fine.{HasRolesOf, has_free_indices, has_label}

@@ -10,7 +10,7 @@ ghost use Rattle.cv_meaning.specs.Runs.{Adversary};
 ghost use Rattle.cv_meaning.specs.Tapes.{Tape, blank};
 ghost use Rattle.cv_meaning_contexts.specs.ContextAdvantage.{context_advantage, context_chance};
 ghost use Rattle.cv_meaning_contexts.specs.Groups.{Right};
-ghost use Rattle.cv_query_form.specs.Queries.{queries_in};
+ghost use Rattle.cv_meaning.specs.Queries.{queries_in};
 ghost use Rattle.cv_typing_runs.specs.Games.{HasArguments};
 ghost use Rattle.cv_scenes.specs.Reductions.{Reduction, context_of_game, in_game};
 ghost use Rattle.cv_context_reducible.specs.Reducible.{IsReducible};

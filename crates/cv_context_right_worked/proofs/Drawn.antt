@@ -13,7 +13,7 @@ use Rattle.cv_scenes.specs.Reductions.{context_of_game}
 use Rattle.cv_scenes.specs.Scenes.{is_new, names}
 use Rattle.cv_scenes.specs.Sites.{sites_in}
 use Rattle.cv_match_laws.specs.Worked.{authentication, game}
-use Rattle.cv_inline_bodies.specs.Inlined.{all_equal, cells_in_game, expanded, expanded_at, in_game, inlined_body, inlined_call, moved, needed}
+use Rattle.cv_meaning_contexts.specs.Inlined.{all_equal, cells_in_game, expanded, expanded_at, in_game, inlined_body, inlined_call, moved, needed}
 use Rattle.cv_inline_games.specs.Draws.{Draw, body_draws, draws_of, drawn_by, finds_in, index_draws, label_draws, labels_from, labels_in}
 use Rattle.cv_inline_games.specs.NextGame.{call_of, callings_from, callings_of, names_assigned, next_in, next_of, with_results}
 use Rattle.cv_context_answers.specs.Answers.{above_names}

@@ -15,7 +15,8 @@ use Rattle.cv_directory.specs.declared.sort.Sort.{Sort}
 use Rattle.cv_typing.specs.declared.fault.Fault.TheVariants.{Arity, IndexAsMessage, NotFixed, WrongType}
 use Rattle.cv_typing.specs.declared.form.Form.TheVariants.{InBody}
 use Rattle.cv_typing.specs.Parts.{AreTyped, IsTypedFile, IsTypedPart, Part, body_parts, declaration_parts, equivalence_parts, first_result, game_part, in_function, more_results, names_of, results, side_arrays, signature_of}
-use Rattle.cv_typing.specs.Signature.{Above, Arrays, Signature, arity_by, count, declaration_of, fixed_by, is_arity, is_fixed_in, is_of, sort_by}
+use Rattle.cv_typing.specs.Signature.{Above, Arrays, Signature, arity_by, declaration_of, fixed_by, is_arity, is_fixed_in, is_of, sort_by}
+use Rattle.cv_directory.specs.Counting.{count}
 use Rattle.cv_typing.specs.Typing.{IsTyped, fault_of, site_differs}
 use Rattle.cv_typing.specs.Wants.{Run, Want, above_second, is_index_sent, is_wrong, wants}
 use Rattle.cv_context_tapes.specs.Declared.{BodiesChooseFromDeclaredTypes, ChoosesFromDeclaredTypes}

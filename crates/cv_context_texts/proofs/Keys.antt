@@ -22,8 +22,8 @@ use Rattle.cv_scenes.specs.Refusals.{definitions_in, new_of, only_new}
 use Rattle.cv_scenes.specs.Sights.{variable_of}
 use Rattle.cv_typing_runs.specs.Games.{context_of, has_site, variable_of_meaning}
 use Rattle.cv_typing_runs.proofs.Terms.{nil_empty}
-use Rattle.cv_inline_bodies.specs.Accepted.{AreFineKeyTerms, IsFineKeyTerm}
-use Rattle.cv_inline_bodies.specs.Inlined.{is_index_of}
+use Rattle.cv_meaning_contexts.specs.KeyTerms.{AreFineKeyTerms, IsFineKeyTerm}
+use Rattle.cv_meaning_contexts.specs.Inlined.{is_index_of}
 use Rattle.cv_context_texts.proofs.Typed.{IsTypedAs}
 use Rattle.cv_context_texts.proofs.Stands.{IsThere, Stands, below}
 

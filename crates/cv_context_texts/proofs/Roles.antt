@@ -14,7 +14,7 @@ use Rattle.cv_context_indices.specs.Indices.{indices_are_new}
 use Rattle.cv_context_indices.proofs.News.{value_sort}
 use Rattle.cv_context_indices.proofs.Replications.{all_new}
 use Rattle.cv_context_indices.proofs.Typed.{variable_there}
-use Rattle.cv_inline_bodies.specs.Roles.{Gone, Plain, Replication, Role}
+use Rattle.cv_meaning_contexts.specs.Roles.{Gone, Plain, Replication, Role}
 use Rattle.cv_inline_runs.specs.Texts.{Text, is_ordinary}
 use Rattle.cv_inline_expected.specs.Fine.{HasRolesOf, has_label}
 use Rattle.cv_context_texts.specs.SiteTexts.{role_in_game}

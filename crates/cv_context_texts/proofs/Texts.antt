@@ -39,10 +39,10 @@ use Rattle.cv_context_indices.proofs.Replications.{all_new}
 use Rattle.cv_context_indices.proofs.Typed.{game_free, variable_there}
 use Rattle.cv_context_apt.proofs.Own.{site_without_refusal}
 use Rattle.cv_context_apt.proofs.Sites.{chosen_no_constant}
-use Rattle.cv_inline_bodies.specs.Accepted.{AreFineKeyTerms}
-use Rattle.cv_inline_bodies.specs.Inlined.{is_index_of}
-use Rattle.cv_inline_bodies.specs.Roles as roles
-use Rattle.cv_inline_bodies.specs.Roles.{Gone, Plain, Replication, Role}
+use Rattle.cv_meaning_contexts.specs.KeyTerms.{AreFineKeyTerms}
+use Rattle.cv_meaning_contexts.specs.Inlined.{is_index_of}
+use Rattle.cv_meaning_contexts.specs.Roles as roles
+use Rattle.cv_meaning_contexts.specs.Roles.{Gone, Plain, Replication, Role}
 use Rattle.cv_inline_runs.specs.Contexts.{ordinary_in}
 use Rattle.cv_inline_runs.specs.Texts.{Text, plain_in}
 use Rattle.cv_context_texts.specs.SiteTexts.{HasSiteText, IsTextOfGame, indices_of}

@@ -5,7 +5,7 @@ use Rattle.cv_first_fault.specs.Walk.{first_fault}
 use Rattle.cv_syntax.specs.Tree.{same_tree, size}
 use Rattle.cv_directory.specs.Sites.{bound_sort, first_site, is_untyped_in}
 use Rattle.cv_meaning.specs.Interpretation.{Interpretation}
-use Rattle.cv_typing.specs.Signature.{count}
+use Rattle.cv_directory.specs.Counting.{count}
 use Rattle.cv_scope.specs.Made.{is_bound}
 use Rattle.cv_scope.specs.Phrases.{IsWellFormed, binds_none, is_phrase}
 use Rattle.cv_scope.specs.Scope.{names_of}
@@ -15,7 +15,7 @@ use Rattle.cv_scope.proofs.First.{scoped_where_none}
 use Rattle.cv_scenes.specs.Scenes.{names}
 use Rattle.cv_scenes.specs.Refusals.{definitions_in, new_of}
 use Rattle.cv_match_laws.specs.Worked.{game}
-use Rattle.cv_inline_bodies.specs.Roles.{Gone, TheKeyName}
+use Rattle.cv_meaning_contexts.specs.Roles.{Gone, TheKeyName}
 use Rattle.cv_context_texts.specs.SiteTexts.{IsTextOfGame, indices_of, role_in_game}
 use Rattle.cv_context_texts.specs.Tagging.{declarations, tagging}
 use Rattle.cv_context_texts.specs.Worked.{tagged_role, tagged_text}

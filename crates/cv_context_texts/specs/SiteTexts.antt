@@ -8,9 +8,9 @@ use Rattle.cv_scenes.specs.Terms.{has_index}
 use Rattle.cv_scenes.specs.Sites.{Site}
 use Rattle.cv_scenes.specs.Refusals.{new_of}
 use Rattle.cv_scenes.specs.Reductions.{Reduction, is_plain}
-use Rattle.cv_inline_bodies.specs.Accepted.{AreFineKeyTerms}
-use Rattle.cv_inline_bodies.specs.Inlined.{is_index_of}
-use Rattle.cv_inline_bodies.specs.Roles.{Gone, Plain, Replication, Role}
+use Rattle.cv_meaning_contexts.specs.KeyTerms.{AreFineKeyTerms}
+use Rattle.cv_meaning_contexts.specs.Inlined.{is_index_of}
+use Rattle.cv_meaning_contexts.specs.Roles.{Gone, Plain, Replication, Role}
 use Rattle.cv_inline_runs.specs.Contexts.{ordinary_in}
 use Rattle.cv_inline_runs.specs.Texts.{Text, plain_in}
 use Rattle.cv_inline_expected.specs.CallTexts.{AreOwnIndices}

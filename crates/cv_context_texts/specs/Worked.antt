@@ -5,7 +5,7 @@ use Rattle.std.specs.Prelude.{ℕ, false, ◌==◌, if◌then◌else◌, []}
 use Rattle.cv_meaning.specs.Interpretation.{Interpretation, setting_of}
 use Rattle.cv_meaning.specs.Tapes.{blank}
 use Rattle.cv_scenes.specs.Reductions.{context_of_game}
-use Rattle.cv_inline_bodies.specs.Roles.{Gone, Role, TheKeyName}
+use Rattle.cv_meaning_contexts.specs.Roles.{Gone, Role, TheKeyName}
 use Rattle.cv_inline_games.specs.NextGame.{inlined_calls_of}
 use Rattle.cv_inline_runs.specs.Texts.{Text}
 use Rattle.cv_context_texts.specs.SiteTexts.{role_in_game}

@@ -17,7 +17,7 @@ ghost use Rattle.cv_scenes.specs.Scenes.{names};
 ghost use Rattle.cv_scenes.specs.Sites.{Site};
 ghost use Rattle.cv_scenes.specs.Terms.{has_index};
 ghost use Rattle.cv_context_terms.specs.Forms.{HasLeftForm};
-ghost use Rattle.cv_inline_bodies.specs.Roles.{Gone, Replication};
+ghost use Rattle.cv_meaning_contexts.specs.Roles.{Gone, Replication};
 ghost use Rattle.cv_inline_runs.specs.Texts.{Text};
 ghost use Rattle.cv_inline_expected.specs.Fine.{HasRolesOf, has_label};
 ghost use Rattle.cv_context_texts.specs.SiteTexts.{HasSiteText, IsTextOfGame, role_in_game};

@@ -2,7 +2,7 @@
 use Rattle.std.proofs.Common.{◌≡◌, ℕ}
 use Rattle.cv_syntax.specs.declared.head.Head.TheVariants.{Binder, Branch, Call, Cons, Find, In, Key, Let, New, Par}
 use Rattle.cv_syntax.specs.Tree.{Tree, Empty, Node, second}
-use Rattle.cv_inline_bodies.specs.Roles.{Gone, Plain}
+use Rattle.cv_meaning_contexts.specs.Roles.{Gone, Plain}
 use Rattle.cv_inline_runs.specs.Texts.{Text}
 
 -- each binder of a list has the type of its name

@@ -11,7 +11,7 @@ use Rattle.cv_scenes.specs.Sites.{Site}
 use Rattle.cv_scenes.specs.Contexts.{after_calls, in_context as tree_in_context}
 use Rattle.cv_scenes.specs.Reductions.{Reduction, is_answer, is_coin, matching}
 use Rattle.cv_scenes.specs.Apt.{AreSitesApt, IsApt, IsAptGame, inside}
-use Rattle.cv_inline_bodies.specs.Roles.{Gone}
+use Rattle.cv_meaning_contexts.specs.Roles.{Gone}
 use Rattle.cv_inline_runs.specs.Texts.{Text}
 use Rattle.cv_context_values.proofs.Numbers.{context}
 use Rattle.cv_context_served.proofs.Finds.{arm, arm_of, body_number, branch_in, empty_in, guarded_of, guards_of, node_in, pattern_in}

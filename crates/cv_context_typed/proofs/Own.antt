@@ -11,7 +11,7 @@ use Rattle.cv_meaning_laws.proofs.Lists.{each_append}
 use Rattle.cv_meaning_contexts.specs.Groups.{Function, Group, Right, function_at, functions_of, side_group}
 use Rattle.cv_meaning_contexts.specs.Sides.{Context}
 use Rattle.cv_scope.specs.Phrases.{binds_none, head_binds_none}
-use Rattle.cv_inline_bodies.specs.Inlined.{is_own}
+use Rattle.cv_meaning_contexts.specs.Inlined.{is_own}
 use Rattle.cv_inline_games.specs.NextGame.{Calling, call_of, calling, callings_from, callings_of, names_assigned}
 
 at_position : {A : Type 0} (P : A → Type 0) (xs : List A) → AllByRecursion P xs → (k : ℕ) (x : A) → slice_get xs k ≡ Some x → P x

@@ -5,7 +5,7 @@ use Rattle.cv_directory.specs.declared.sort.Sort.{Sort}
 use Rattle.cv_directory.specs.declared.sort.Sort.TheVariants.{BelowParameter, OfType}
 use Rattle.cv_directory.specs.Sites.{Variable, first_site}
 use Rattle.cv_scenes.specs.Reductions.{Reduction, is_plain, sites}
-use Rattle.cv_inline_bodies.specs.Roles.{Gone, Plain}
+use Rattle.cv_meaning_contexts.specs.Roles.{Gone, Plain}
 use Rattle.cv_inline_runs.specs.Texts.{Text}
 use Rattle.cv_inline_expected.specs.Fine.{defines}
 

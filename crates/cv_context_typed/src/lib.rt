@@ -10,7 +10,7 @@ ghost use Rattle.cv_scope.specs.Phrases.{binds_none};
 ghost use Rattle.cv_scenes.specs.Apt.{IsAptGame};
 ghost use Rattle.cv_scenes.specs.LeftTerms.{HasLeftTerms};
 ghost use Rattle.cv_scenes.specs.Reductions.{Reduction, context_of_game, matching};
-ghost use Rattle.cv_inline_bodies.specs.Inlined.{is_own};
+ghost use Rattle.cv_meaning_contexts.specs.Inlined.{is_own};
 ghost use Rattle.cv_inline_games.specs.NextGame.{Calling, callings_of};
 ghost use Rattle.cv_inline_runs.specs.Texts.{Text};
 ghost use Rattle.cv_inline_cells.specs.Layout.{IsContextText};

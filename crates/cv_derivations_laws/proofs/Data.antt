@@ -19,7 +19,8 @@ use Rattle.cv_meaning_adequacy.specs.Typed as meaning
 use Rattle.cv_meaning_adequacy.specs.Typed.{HasSort, Scope, boolean}
 use Rattle.cv_scope.specs.Context.{items}
 use Rattle.cv_scope.specs.Phrases.{IsWellFormed, Nil, Term, Terms, is_phrase}
-use Rattle.cv_typing.specs.Signature.{Above, Function, Signature, count, declaration_of, function_by, function_in, is_arity, names_in}
+use Rattle.cv_typing.specs.Signature.{Above, Function, Signature, declaration_of, function_by, function_in, is_arity, names_in}
+use Rattle.cv_directory.specs.Counting.{count}
 use Rattle.cv_typing.specs.Typing.{IsTyped}
 use Rattle.cv_typing.specs.Wants.{AnyTerm, Message, Messages, Want, wants, wants_arguments}
 use Rattle.cv_typing_runs.specs.Games.{HasArguments, sort_of_meaning}

@@ -7,7 +7,7 @@ use Rattle.cv_syntax.specs.Builders.{leaf}
 use Rattle.cv_syntax.specs.Tree.{Empty, Node, chain, lone, size, subtree, same_tree}
 use Rattle.cv_directory.specs.Sites.{bound_sort, first_index, first_site}
 use Rattle.cv_typing.specs.Signature.{names_in}
-use Rattle.cv_typing.specs.Signature as typing
+use Rattle.cv_directory.specs.Counting as counting
 use Rattle.cv_typing.specs.Typing.{binders_differ}
 use Rattle.cv_scope.specs.Context.{context_at}
 use Rattle.cv_scope.specs.Made.{is_bound}
@@ -25,139 +25,139 @@ use Rattle.cv_derivations_worked.specs.Worked.{a, and, au, cases, ends, eq, g, h
 use Rattle.cv_derivations_worked.specs.Worked as worked
 
 case_0 : first_bad_line sight (chain (line (eq x a) (one ByFact 1) ∷ [])) ≡ None
-unfolding first_fault size subtree same_tree first_index first_site bound_sort binders_differ typing.count context_at is_bound is_phrase is_there standing_at names_in sites_in with_given lines_of lines.count statements first_bad
+unfolding first_fault size subtree same_tree first_index first_site bound_sort binders_differ counting.count context_at is_bound is_phrase is_there standing_at names_in sites_in with_given lines_of lines.count statements first_bad
 case_0 = refl
 
 case_1 : first_bad_line sight (chain (line (eq x a) (one ByFact 2) ∷ [])) ≡ Some 1
-unfolding first_fault size subtree same_tree first_index first_site bound_sort binders_differ typing.count context_at is_bound is_phrase is_there standing_at names_in sites_in with_given lines_of lines.count statements first_bad
+unfolding first_fault size subtree same_tree first_index first_site bound_sort binders_differ counting.count context_at is_bound is_phrase is_there standing_at names_in sites_in with_given lines_of lines.count statements first_bad
 case_1 = refl
 
 case_2 : first_bad_line sight (chain (line (eq xu a) (one ByFact 2) ∷ [])) ≡ None
-unfolding first_fault size subtree same_tree first_index first_site bound_sort binders_differ typing.count context_at is_bound is_phrase is_there standing_at names_in sites_in with_given lines_of lines.count statements first_bad
+unfolding first_fault size subtree same_tree first_index first_site bound_sort binders_differ counting.count context_at is_bound is_phrase is_there standing_at names_in sites_in with_given lines_of lines.count statements first_bad
 case_2 = refl
 
 case_3 : first_bad_line sight (chain (worked.is_there u (lone ByHere) ∷ worked.is_there xu (lone ByHere) ∷ [])) ≡ None
-unfolding first_fault size subtree same_tree first_index first_site bound_sort binders_differ typing.count context_at is_bound is_phrase is_there standing_at names_in sites_in with_given lines_of lines.count statements first_bad
+unfolding first_fault size subtree same_tree first_index first_site bound_sort binders_differ counting.count context_at is_bound is_phrase is_there standing_at names_in sites_in with_given lines_of lines.count statements first_bad
 case_3 = refl
 
 case_4 : first_bad_line sight (chain (worked.is_there au (lone ByHere) ∷ [])) ≡ Some 1
-unfolding first_fault size subtree same_tree first_index first_site bound_sort binders_differ typing.count context_at is_bound is_phrase is_there standing_at names_in sites_in with_given lines_of lines.count statements first_bad
+unfolding first_fault size subtree same_tree first_index first_site bound_sort binders_differ counting.count context_at is_bound is_phrase is_there standing_at names_in sites_in with_given lines_of lines.count statements first_bad
 case_4 = refl
 
 case_5 : first_bad_line sight (chain (worked.is_there xu (lone ByHere) ∷ worked.is_there au (one ByOf 1) ∷ line (eq xu au) (two BySite 1 1) ∷ [])) ≡ None
-unfolding first_fault size subtree same_tree first_index first_site bound_sort binders_differ typing.count context_at is_bound is_phrase is_there standing_at names_in sites_in with_given lines_of lines.count statements first_bad
+unfolding first_fault size subtree same_tree first_index first_site bound_sort binders_differ counting.count context_at is_bound is_phrase is_there standing_at names_in sites_in with_given lines_of lines.count statements first_bad
 case_5 = refl
 
 case_6 : first_bad_line sight (chain (worked.is_there xu (lone ByHere) ∷ worked.is_there u (one ByOf 1) ∷ [])) ≡ Some 2
-unfolding first_fault size subtree same_tree first_index first_site bound_sort binders_differ typing.count context_at is_bound is_phrase is_there standing_at names_in sites_in with_given lines_of lines.count statements first_bad
+unfolding first_fault size subtree same_tree first_index first_site bound_sort binders_differ counting.count context_at is_bound is_phrase is_there standing_at names_in sites_in with_given lines_of lines.count statements first_bad
 case_6 = refl
 
 case_7 : first_bad_line sight (chain (worked.is_there xu (lone ByHere) ∷ line (eq xu a) (two BySite 1 1) ∷ [])) ≡ Some 2
-unfolding first_fault size subtree same_tree first_index first_site bound_sort binders_differ typing.count context_at is_bound is_phrase is_there standing_at names_in sites_in with_given lines_of lines.count statements first_bad
+unfolding first_fault size subtree same_tree first_index first_site bound_sort binders_differ counting.count context_at is_bound is_phrase is_there standing_at names_in sites_in with_given lines_of lines.count statements first_bad
 case_7 = refl
 
 case_8 : first_bad_line sight (chain (line (eq (g a) a) (Node ByEquation (number 1) (chain (a ∷ []))) ∷ [])) ≡ None
-unfolding first_fault size subtree same_tree first_index first_site bound_sort binders_differ typing.count context_at is_bound is_phrase is_there standing_at names_in sites_in with_given lines_of lines.count statements first_bad
+unfolding first_fault size subtree same_tree first_index first_site bound_sort binders_differ counting.count context_at is_bound is_phrase is_there standing_at names_in sites_in with_given lines_of lines.count statements first_bad
 case_8 = refl
 
 case_9 : first_bad_line sight (chain (line (eq (g a) x) (Node ByEquation (number 1) (chain (a ∷ []))) ∷ [])) ≡ Some 1
-unfolding first_fault size subtree same_tree first_index first_site bound_sort binders_differ typing.count context_at is_bound is_phrase is_there standing_at names_in sites_in with_given lines_of lines.count statements first_bad
+unfolding first_fault size subtree same_tree first_index first_site bound_sort binders_differ counting.count context_at is_bound is_phrase is_there standing_at names_in sites_in with_given lines_of lines.count statements first_bad
 case_9 = refl
 
 case_10 : first_bad_line sight (chain (line (eq (g a) a) (Node ByEquation (number 1) Empty) ∷ [])) ≡ Some 1
-unfolding first_fault size subtree same_tree first_index first_site bound_sort binders_differ typing.count context_at is_bound is_phrase is_there standing_at names_in sites_in with_given lines_of lines.count statements first_bad
+unfolding first_fault size subtree same_tree first_index first_site bound_sort binders_differ counting.count context_at is_bound is_phrase is_there standing_at names_in sites_in with_given lines_of lines.count statements first_bad
 case_10 = refl
 
 case_11 : first_bad_line sight (chain (line (eq x a) (one ByFact 1) ∷ line (eq a x) (one BySym 1) ∷ line (eq x x) (two ByTrans 1 2) ∷ line (eq x x) (lone ByRefl) ∷ [])) ≡ None
-unfolding first_fault size subtree same_tree first_index first_site bound_sort binders_differ typing.count context_at is_bound is_phrase is_there standing_at names_in sites_in with_given lines_of lines.count statements first_bad
+unfolding first_fault size subtree same_tree first_index first_site bound_sort binders_differ counting.count context_at is_bound is_phrase is_there standing_at names_in sites_in with_given lines_of lines.count statements first_bad
 case_11 = refl
 
 case_12 : first_bad_line sight (chain (line (eq x a) (one ByFact 1) ∷ line (eq x a) (one BySym 1) ∷ [])) ≡ Some 2
-unfolding first_fault size subtree same_tree first_index first_site bound_sort binders_differ typing.count context_at is_bound is_phrase is_there standing_at names_in sites_in with_given lines_of lines.count statements first_bad
+unfolding first_fault size subtree same_tree first_index first_site bound_sort binders_differ counting.count context_at is_bound is_phrase is_there standing_at names_in sites_in with_given lines_of lines.count statements first_bad
 case_12 = refl
 
 case_13 : first_bad_line sight (chain (line (eq x a) (one ByFact 1) ∷ line (eq x a) (two ByTrans 1 1) ∷ [])) ≡ Some 2
-unfolding first_fault size subtree same_tree first_index first_site bound_sort binders_differ typing.count context_at is_bound is_phrase is_there standing_at names_in sites_in with_given lines_of lines.count statements first_bad
+unfolding first_fault size subtree same_tree first_index first_site bound_sort binders_differ counting.count context_at is_bound is_phrase is_there standing_at names_in sites_in with_given lines_of lines.count statements first_bad
 case_13 = refl
 
 case_14 : first_bad_line sight (chain (line (eq x a) (lone ByRefl) ∷ [])) ≡ Some 1
-unfolding first_fault size subtree same_tree first_index first_site bound_sort binders_differ typing.count context_at is_bound is_phrase is_there standing_at names_in sites_in with_given lines_of lines.count statements first_bad
+unfolding first_fault size subtree same_tree first_index first_site bound_sort binders_differ counting.count context_at is_bound is_phrase is_there standing_at names_in sites_in with_given lines_of lines.count statements first_bad
 case_14 = refl
 
 case_15 : first_bad_line sight (chain (line (eq x a) (one ByFact 1) ∷ line (eq (g x) (g a)) (Node ByCong (chain (number 1 ∷ [])) Empty) ∷ [])) ≡ None
-unfolding first_fault size subtree same_tree first_index first_site bound_sort binders_differ typing.count context_at is_bound is_phrase is_there standing_at names_in sites_in with_given lines_of lines.count statements first_bad
+unfolding first_fault size subtree same_tree first_index first_site bound_sort binders_differ counting.count context_at is_bound is_phrase is_there standing_at names_in sites_in with_given lines_of lines.count statements first_bad
 case_15 = refl
 
 case_16 : first_bad_line sight (chain (line (eq x a) (one ByFact 1) ∷ line (eq (g x) (h a)) (Node ByCong (chain (number 1 ∷ [])) Empty) ∷ [])) ≡ Some 2
-unfolding first_fault size subtree same_tree first_index first_site bound_sort binders_differ typing.count context_at is_bound is_phrase is_there standing_at names_in sites_in with_given lines_of lines.count statements first_bad
+unfolding first_fault size subtree same_tree first_index first_site bound_sort binders_differ counting.count context_at is_bound is_phrase is_there standing_at names_in sites_in with_given lines_of lines.count statements first_bad
 case_16 = refl
 
 case_17 : first_bad_line sight (chain (line (eq (leaf 8) (leaf 8)) (Node ByCong Empty Empty) ∷ [])) ≡ Some 1
-unfolding first_fault size subtree same_tree first_index first_site bound_sort binders_differ typing.count context_at is_bound is_phrase is_there standing_at names_in sites_in with_given lines_of lines.count statements first_bad
+unfolding first_fault size subtree same_tree first_index first_site bound_sort binders_differ counting.count context_at is_bound is_phrase is_there standing_at names_in sites_in with_given lines_of lines.count statements first_bad
 case_17 = refl
 
 case_18 : first_bad_line sight (chain (line (eq (eq (g a) (g x)) (eq a x)) (lone ByData) ∷ [])) ≡ None
-unfolding first_fault size subtree same_tree first_index first_site bound_sort binders_differ typing.count context_at is_bound is_phrase is_there standing_at names_in sites_in with_given lines_of lines.count statements first_bad
+unfolding first_fault size subtree same_tree first_index first_site bound_sort binders_differ counting.count context_at is_bound is_phrase is_there standing_at names_in sites_in with_given lines_of lines.count statements first_bad
 case_18 = refl
 
 case_19 : first_bad_line sight (chain (line (eq (eq (h a) (h x)) (eq a x)) (lone ByData) ∷ [])) ≡ Some 1
-unfolding first_fault size subtree same_tree first_index first_site bound_sort binders_differ typing.count context_at is_bound is_phrase is_there standing_at names_in sites_in with_given lines_of lines.count statements first_bad
+unfolding first_fault size subtree same_tree first_index first_site bound_sort binders_differ counting.count context_at is_bound is_phrase is_there standing_at names_in sites_in with_given lines_of lines.count statements first_bad
 case_19 = refl
 
 case_20 : first_bad_line sight (chain (line (eq (p a) (eq (p a) yes)) (lone ByBool) ∷ line (eq (and (p a) no) no) (lone ByBool) ∷ [])) ≡ None
-unfolding first_fault size subtree same_tree first_index first_site bound_sort binders_differ typing.count context_at is_bound is_phrase is_there standing_at names_in sites_in with_given lines_of lines.count statements first_bad
+unfolding first_fault size subtree same_tree first_index first_site bound_sort binders_differ counting.count context_at is_bound is_phrase is_there standing_at names_in sites_in with_given lines_of lines.count statements first_bad
 case_20 = refl
 
 case_21 : first_bad_line sight (chain (line (eq (and (p a) no) (p a)) (lone ByBool) ∷ [])) ≡ Some 1
-unfolding first_fault size subtree same_tree first_index first_site bound_sort binders_differ typing.count context_at is_bound is_phrase is_there standing_at names_in sites_in with_given lines_of lines.count statements first_bad
+unfolding first_fault size subtree same_tree first_index first_site bound_sort binders_differ counting.count context_at is_bound is_phrase is_there standing_at names_in sites_in with_given lines_of lines.count statements first_bad
 case_21 = refl
 
 case_22 : first_bad_line sight (chain (split (two ByMp 1 2) (not_p) (eq x a) (one ByAgain 10))) ≡ None
-unfolding first_fault size subtree same_tree first_index first_site bound_sort binders_differ typing.count context_at is_bound is_phrase is_there standing_at names_in sites_in with_given lines_of lines.count statements first_bad
+unfolding first_fault size subtree same_tree first_index first_site bound_sort binders_differ counting.count context_at is_bound is_phrase is_there standing_at names_in sites_in with_given lines_of lines.count statements first_bad
 case_22 = refl
 
 case_23 : first_bad_line sight (chain (split (two ByMp 2 1) (not_p) (eq x a) (one ByAgain 10))) ≡ Some 3
-unfolding first_fault size subtree same_tree first_index first_site bound_sort binders_differ typing.count context_at is_bound is_phrase is_there standing_at names_in sites_in with_given lines_of lines.count statements first_bad
+unfolding first_fault size subtree same_tree first_index first_site bound_sort binders_differ counting.count context_at is_bound is_phrase is_there standing_at names_in sites_in with_given lines_of lines.count statements first_bad
 case_23 = refl
 
 case_24 : first_bad_line sight (chain (split (two ByMp 1 2) (p a) (eq x a) (one ByAgain 10))) ≡ Some 8
-unfolding first_fault size subtree same_tree first_index first_site bound_sort binders_differ typing.count context_at is_bound is_phrase is_there standing_at names_in sites_in with_given lines_of lines.count statements first_bad
+unfolding first_fault size subtree same_tree first_index first_site bound_sort binders_differ counting.count context_at is_bound is_phrase is_there standing_at names_in sites_in with_given lines_of lines.count statements first_bad
 case_24 = refl
 
 case_25 : first_bad_line sight (chain (split (two ByMp 1 2) (not_p) (eq a x) (one ByAgain 10))) ≡ Some 10
-unfolding first_fault size subtree same_tree first_index first_site bound_sort binders_differ typing.count context_at is_bound is_phrase is_there standing_at names_in sites_in with_given lines_of lines.count statements first_bad
+unfolding first_fault size subtree same_tree first_index first_site bound_sort binders_differ counting.count context_at is_bound is_phrase is_there standing_at names_in sites_in with_given lines_of lines.count statements first_bad
 case_25 = refl
 
 case_26 : first_bad_line sight (chain (split (two ByMp 1 2) (not_p) (eq x a) (one ByAgain 7))) ≡ Some 11
-unfolding first_fault size subtree same_tree first_index first_site bound_sort binders_differ typing.count context_at is_bound is_phrase is_there standing_at names_in sites_in with_given lines_of lines.count statements first_bad
+unfolding first_fault size subtree same_tree first_index first_site bound_sort binders_differ counting.count context_at is_bound is_phrase is_there standing_at names_in sites_in with_given lines_of lines.count statements first_bad
 case_26 = refl
 
 case_27 : first_bad_line sight (chain (refutes (two ByContra 1 3) 4)) ≡ None
-unfolding first_fault size subtree same_tree first_index first_site bound_sort binders_differ typing.count context_at is_bound is_phrase is_there standing_at names_in sites_in with_given lines_of lines.count statements first_bad
+unfolding first_fault size subtree same_tree first_index first_site bound_sort binders_differ counting.count context_at is_bound is_phrase is_there standing_at names_in sites_in with_given lines_of lines.count statements first_bad
 case_27 = refl
 
 case_28 : first_bad_line sight (chain (refutes (two ByContra 3 1) 4)) ≡ Some 4
-unfolding first_fault size subtree same_tree first_index first_site bound_sort binders_differ typing.count context_at is_bound is_phrase is_there standing_at names_in sites_in with_given lines_of lines.count statements first_bad
+unfolding first_fault size subtree same_tree first_index first_site bound_sort binders_differ counting.count context_at is_bound is_phrase is_there standing_at names_in sites_in with_given lines_of lines.count statements first_bad
 case_28 = refl
 
 case_29 : first_bad_line sight (chain (refutes (two ByContra 1 3) 3)) ≡ Some 5
-unfolding first_fault size subtree same_tree first_index first_site bound_sort binders_differ typing.count context_at is_bound is_phrase is_there standing_at names_in sites_in with_given lines_of lines.count statements first_bad
+unfolding first_fault size subtree same_tree first_index first_site bound_sort binders_differ counting.count context_at is_bound is_phrase is_there standing_at names_in sites_in with_given lines_of lines.count statements first_bad
 case_29 = refl
 
 case_30 : first_bad_line sight (chain (line (eq (leaf 99) (leaf 99)) (lone ByRefl) ∷ [])) ≡ Some 1
-unfolding first_fault size subtree same_tree first_index first_site bound_sort binders_differ typing.count context_at is_bound is_phrase is_there standing_at names_in sites_in with_given lines_of lines.count statements first_bad
+unfolding first_fault size subtree same_tree first_index first_site bound_sort binders_differ counting.count context_at is_bound is_phrase is_there standing_at names_in sites_in with_given lines_of lines.count statements first_bad
 case_30 = refl
 
 case_31 : first_bad_line sight (chain (line (eq a (leaf 8)) (one ByFact 1) ∷ [])) ≡ Some 1
-unfolding first_fault size subtree same_tree first_index first_site bound_sort binders_differ typing.count context_at is_bound is_phrase is_there standing_at names_in sites_in with_given lines_of lines.count statements first_bad
+unfolding first_fault size subtree same_tree first_index first_site bound_sort binders_differ counting.count context_at is_bound is_phrase is_there standing_at names_in sites_in with_given lines_of lines.count statements first_bad
 case_31 = refl
 
 case_32 : first_bad_line sight (chain (line (eq x a) (lone ByOtherHere) ∷ [])) ≡ Some 1
-unfolding first_fault size subtree same_tree first_index first_site bound_sort binders_differ typing.count context_at is_bound is_phrase is_there standing_at names_in sites_in with_given lines_of lines.count statements first_bad
+unfolding first_fault size subtree same_tree first_index first_site bound_sort binders_differ counting.count context_at is_bound is_phrase is_there standing_at names_in sites_in with_given lines_of lines.count statements first_bad
 case_32 = refl
 
 case_33 : first_bad_line sight (chain (line (eq x a) (one ByAgain 1) ∷ [])) ≡ Some 1
-unfolding first_fault size subtree same_tree first_index first_site bound_sort binders_differ typing.count context_at is_bound is_phrase is_there standing_at names_in sites_in with_given lines_of lines.count statements first_bad
+unfolding first_fault size subtree same_tree first_index first_site bound_sort binders_differ counting.count context_at is_bound is_phrase is_there standing_at names_in sites_in with_given lines_of lines.count statements first_bad
 case_33 = refl
 
 pub each : AllByRecursion (λ c. first_bad_line sight (chain c.0) ≡ c.1) cases

@@ -14,7 +14,7 @@ use Rattle.cv_syntax.specs.Classes.{equations}
 use Rattle.cv_syntax.specs.Declarations.{Declaration, declarations}
 use Rattle.cv_syntax.specs.Tree.{Tree, Empty, Node, bound_names, first, second, same_tree, tree_at}
 use Rattle.cv_directory.specs.declared.sort.Sort.TheVariants.{OfType}
-use Rattle.cv_typing.specs.Lookups.{IsLive}
+use Rattle.cv_directory.specs.Live.{IsLive}
 use Rattle.cv_derivations.specs.Given.{with_given}
 use Rattle.cv_scenes.specs.Reasons.{are_of_types, equations_in, is_instance}
 use Rattle.cv_scenes.specs.Sights.{Sight, from_one, is_term_of}

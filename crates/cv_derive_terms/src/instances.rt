@@ -1,7 +1,7 @@
 ghost use Rattle.std.specs.Prelude.{◌≡◌, ◌<◌, All, length};
 ghost use Rattle.cv_pool.specs.Nodes.{ChildBelow};
 ghost use Rattle.cv_syntax.specs.Tree.{tree_at};
-ghost use Rattle.cv_typing.specs.Lookups.{IsLive};
+ghost use Rattle.cv_directory.specs.Live.{IsLive};
 ghost use Rattle.cv_derivations.specs.Inferences.{number_of};
 ghost use Rattle.cv_scenes.specs.Reasons as reasons;
 ghost use Rattle.cv_scenes.specs.Reasons.{equations_in};

@@ -5,7 +5,7 @@ use Rattle.cv_syntax.specs.Head.{weight}
 use Rattle.cv_syntax.specs.Tree.{Tree, Empty, Node, size, depth, subtree}
 use Rattle.cv_syntax.proofs.Walking.{depth-node, depth-le-size, size-node}
 use Rattle.cv_syntax.proofs.Trees.{empty_at, size-Empty}
-use Rattle.cv_meaning_runs.specs.Replacement.{replaced}
+use Rattle.cv_meaning.specs.Replaced.{replaced}
 use Rattle.cv_path.specs.declared.place.Lies.TheVariants.{Here, Within, Behind}
 use Rattle.cv_path.specs.Places.{LiesAt}
 use Rattle.cv_path.specs.Ways.{turned}

@@ -2,7 +2,7 @@ ghost use Rattle.std.specs.Prelude.{◌≡◌, ◌+◌, ◌<◌, ◌≤◌, ◌^
 ghost use Rattle.cv_pool.specs.Nodes.{ChildBelow};
 ghost use Rattle.cv_syntax.specs.Tree as tree;
 ghost use Rattle.cv_syntax.specs.Tree.{Tree, subtree, tree_at};
-ghost use Rattle.cv_meaning_runs.specs.Replacement.{replaced};
+ghost use Rattle.cv_meaning.specs.Replaced.{replaced};
 
 use cv_path::{Lies, place_in};
 use cv_syntax::{NodeId, Pool, depth, read_node, size};

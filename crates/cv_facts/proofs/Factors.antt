@@ -8,7 +8,7 @@ use Rattle.cv_syntax.specs.declared.head.Head.{Head}
 use Rattle.cv_syntax.specs.declared.head.Head.TheVariants.{Repl, Branch, Cons, Binder}
 use Rattle.cv_syntax.specs.Declarations.{Declaration}
 use Rattle.cv_syntax.specs.Tree.{Tree, Empty, Node, size}
-use Rattle.cv_typing.specs.Signature.{count}
+use Rattle.cv_directory.specs.Counting.{count}
 use Rattle.cv_scope.specs.declared.fault.Fault.TheVariants as fault
 use Rattle.cv_scope.specs.Context.{replications_below}
 use Rattle.cv_scope.specs.Rules.{Names, IsFewIndices, Obeys}

@@ -14,7 +14,7 @@ use Rattle.cv_syntax.specs.Classes as classes
 use Rattle.cv_syntax.specs.Declarations.{Declaration, declarations, declared, number, Named}
 use Rattle.cv_syntax.specs.Tree.{Tree, Empty, Node, tree_at}
 use Rattle.cv_meaning.specs.Interpretation.{is_constant_of}
-use Rattle.cv_typing.specs.Lookups.{IsLive}
+use Rattle.cv_directory.specs.Live.{IsLive}
 use Rattle.cv_group.specs.Tables.{constant_in, equiv_of}
 use Rattle.cv_group.specs.Refusals.{IsRefusalOf, IsRefusalAt}
 use Rattle.cv_group.specs.declared.fault.GroupFault.{GroupFault}

@@ -5,7 +5,7 @@ ghost use Rattle.cv_syntax.specs.Declarations.{declarations};
 ghost use Rattle.cv_syntax.specs.NameSets.{is_in};
 ghost use Rattle.cv_syntax.specs.Tree.{tree_at};
 ghost use Rattle.cv_meaning.specs.Interpretation.{is_constant_of};
-ghost use Rattle.cv_typing.specs.Lookups.{IsLive};
+ghost use Rattle.cv_directory.specs.Live.{IsLive};
 ghost use Rattle.cv_group.specs.Tables.{equiv_of, sides_fault};
 ghost use Rattle.cv_group.specs.Refusals.{IsRefusalAt, IsRefusalOf};
 ghost use Rattle.cv_group_rules.specs.Faults.{equivalences_in, first_group_fault, group_fault};

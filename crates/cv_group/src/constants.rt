@@ -3,7 +3,7 @@ ghost use Rattle.std.specs.Option.{option_copied};
 ghost use Rattle.cv_syntax.specs.Declarations.{declarations};
 ghost use Rattle.cv_syntax.specs.NameSets.{is_in};
 ghost use Rattle.cv_meaning.specs.Interpretation.{is_constant_of};
-ghost use Rattle.cv_typing.specs.Lookups.{IsLive};
+ghost use Rattle.cv_directory.specs.Live.{IsLive};
 ghost use Rattle.cv_group.specs.Tables.{constant_in};
 
 use cv_syntax::children::is_empty;

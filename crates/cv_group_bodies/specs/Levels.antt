@@ -7,7 +7,7 @@ use Rattle.cv_syntax.specs.declared.head.Head.{Head}
 use Rattle.cv_syntax.specs.declared.head.Head.TheVariants.{Branch, Leaf, Read}
 use Rattle.cv_syntax.specs.NameSets.{is_in}
 use Rattle.cv_syntax.specs.Tree.{Tree, Node, first}
-use Rattle.cv_typing.specs.Tables.{same_pair}
+use Rattle.cv_directory.specs.Pairs.{same_pair}
 use Rattle.cv_meaning_contexts.specs.Made as made
 use Rattle.cv_group_rules.specs.Rules as rule
 use Rattle.cv_group_bodies.specs.declared.around.Around.{Around}

@@ -9,7 +9,7 @@ use Rattle.cv_meaning_contexts.specs.Bodies.{body_place}
 use Rattle.cv_meaning_contexts.specs.Made.{has_cell_at}
 use Rattle.cv_group_rules.specs.Rules.{Around, Defined, Found, Level, are_cells, defines, has_name, has_read, index_in, is_asked_at, is_bound, is_readable, range_of}
 use Rattle.cv_inline_bodies.specs.Accepted.{AreFineBranches, AreFineCells, AreFineTerms, IsFineArray, IsFineBody, IsFineTerm, IsNeverAssigned, scope_for}
-use Rattle.cv_inline_bodies.specs.Inlined.{Caller, CallOf, Own, Scope, call_in, index_reads, index_terms}
+use Rattle.cv_meaning_contexts.specs.Inlined.{Caller, CallOf, Own, Scope, call_in, index_reads, index_terms}
 use Rattle.cv_inline_bodies.specs.Inlining.{Inlining}
 use Rattle.cv_inline_games.specs.Draws.{finds_in}
 use Rattle.cv_inline_accepted.specs.RightBodies.{are_body_cells, are_body_terms, are_right_branches, is_body_term, is_right_body}

@@ -9,7 +9,7 @@ use Rattle.cv_meaning_contexts.specs.Groups.{Function, Right, bound_of, function
 use Rattle.cv_group_rules.specs.Faults.{BoundNames, IsAccepted}
 use Rattle.cv_group_rules.specs.Rules.{Around, around, binds_name, defines, each_function, functions_in, is_asked, is_bound, is_readable, key_in, names_of, range_of, side_is_bound, takes}
 use Rattle.cv_inline_bodies.specs.Accepted.{IsFineBody, IsFineCall}
-use Rattle.cv_inline_bodies.specs.Inlined.{Caller, Own, Scope, Standing, TheKey, standing_of}
+use Rattle.cv_meaning_contexts.specs.Inlined.{Caller, Own, Scope, Standing, TheKey, standing_of}
 use Rattle.cv_inline_bodies.specs.Inlining.{Inlining}
 use Rattle.cv_inline_accepted.specs.RightBodies.{are_as_many, are_right_functions, is_empty, is_one_name, is_right_body, is_right_side}
 use Rattle.cv_inline_accepted.specs.Drawn.{IsDrawnFor}

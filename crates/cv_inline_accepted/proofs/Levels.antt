@@ -6,7 +6,7 @@ use Rattle.cv_syntax.specs.declared.head.Head.TheVariants.{Cons, Leaf, Read}
 use Rattle.cv_syntax.specs.Tree.{Tree, Empty, Node, first}
 use Rattle.cv_group_rules.specs.Rules.{Around, Defined, Found, Level, are_cells, asking, gives, has_name, has_read, index_in, is_asked, is_index, is_named_at, is_named_by, is_readable, range_of, ranging}
 use Rattle.cv_inline_bodies.specs.Accepted.{AreFineCells, IsFineArray, IsNeverAssigned, is_assigned_above, is_own_variable}
-use Rattle.cv_inline_bodies.specs.Inlined.{CallOf, Own, Scope, call_in, called, standing_of}
+use Rattle.cv_meaning_contexts.specs.Inlined.{CallOf, Own, Scope, call_in, called, standing_of}
 use Rattle.cv_inline_bodies.specs.Inlining.{Inlining}
 use Rattle.cv_inline_accepted.specs.RightBodies.{are_body_cells}
 

@@ -5,7 +5,7 @@ use Rattle.cv_syntax.specs.declared.head.Head.TheVariants.{Branch, Cons, Binder,
 use Rattle.cv_syntax.specs.Tree.{Tree, Empty, Node, first_place, second_place}
 use Rattle.cv_group_rules.specs.Rules.{names_of}
 use Rattle.cv_meaning_contexts.specs.Groups.{Function}
-use Rattle.cv_inline_bodies.specs.Inlined.{Caller}
+use Rattle.cv_meaning_contexts.specs.Inlined.{Caller}
 use Rattle.cv_inline_bodies.specs.Inlining.{Inlining}
 use Rattle.cv_inline_games.specs.Draws.{finds_in}
 

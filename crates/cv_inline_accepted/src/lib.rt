@@ -12,7 +12,7 @@ ghost use Rattle.cv_meaning_contexts.specs.Worked.{
 ghost use Rattle.cv_group_rules.specs.Faults.{IsAccepted};
 ghost use Rattle.cv_group_rules.specs.Rules.{functions_in};
 ghost use Rattle.cv_inline_bodies.specs.Accepted.{IsFineCall};
-ghost use Rattle.cv_inline_bodies.specs.Inlined.{Caller, TheKey};
+ghost use Rattle.cv_meaning_contexts.specs.Inlined.{Caller, TheKey};
 ghost use Rattle.cv_inline_bodies.specs.Inlining.{Inlining};
 ghost use Rattle.cv_inline_accepted.specs.Drawn.{IsDrawnFor};
 ghost use Rattle.cv_inline_accepted.specs.RightBodies.{are_as_many, is_right_side};

@@ -20,7 +20,7 @@ use Rattle.cv_meaning_contexts.specs.BodyTerms.{body_value}
 use Rattle.cv_meaning_contexts.specs.Finds.{Oracles, Pick, picks, picked}
 use Rattle.cv_meaning_contexts.specs.Bodies.{with_arguments, after_pick, body_place, body_answer, branch_answer}
 use Rattle.cv_meaning_contexts.specs.Made.{has_cell_at}
-use Rattle.cv_inline_bodies.specs.Inlined.{Caller, Own, Scope, is_index_of, branch_indices, in_game, expanded, find_or_else, inlined_body, inlined_branch, inlined_call}
+use Rattle.cv_meaning_contexts.specs.Inlined.{Caller, Own, Scope, is_index_of, branch_indices, in_game, expanded, find_or_else, inlined_body, inlined_branch, inlined_call}
 use Rattle.cv_inline_bodies.specs.Inlining.{Inlining, Naming, plain, elsewhere}
 use Rattle.cv_inline_bodies.specs.Accepted.{IsFineTerm, AreFineCells, IsNeverAssigned, IsFineBody, AreFineBranches, IsFineCall}
 use Rattle.cv_inline_bodies.specs.Related.{MadeUnder, at_its_key, indices_at, IsSiteOf, AreSitesOf, HasKeys, IsAsBefore, IsServing, IsLater}

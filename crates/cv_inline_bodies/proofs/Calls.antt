@@ -14,9 +14,10 @@ use Rattle.cv_meaning_contexts.specs.Groups.{Group}
 use Rattle.cv_meaning_contexts.specs.Sites.{Site}
 use Rattle.cv_meaning_contexts.specs.Frames.{Frame, IsValue, same_number}
 use Rattle.cv_meaning_contexts.specs.Bodies.{with_arguments, body_answer}
-use Rattle.cv_inline_bodies.specs.Inlined.{Caller, TheKey, Scope, is_index_of, inlined_call}
+use Rattle.cv_meaning_contexts.specs.Inlined.{Caller, TheKey, Scope, is_index_of, inlined_call}
 use Rattle.cv_inline_bodies.specs.Inlining.{Inlining, Naming, plain}
-use Rattle.cv_inline_bodies.specs.Accepted.{AreFineKeyTerms, IsFineCall}
+use Rattle.cv_inline_bodies.specs.Accepted.{IsFineCall}
+use Rattle.cv_meaning_contexts.specs.KeyTerms.{AreFineKeyTerms}
 use Rattle.cv_inline_bodies.specs.Related.{MadeUnder, with_made, at_its_key, indices_at, IsKept, this_call, IsMeant, AreSitesOf, HasKeys, IsOpened, IsAsBefore, IsServing, IsLater, KeyStays, AreRelated}
 use Rattle.cv_inline_bodies.proofs.Terms.{same_self}
 use Rattle.cv_inline_bodies.proofs.Roles.{plain_elsewhere}

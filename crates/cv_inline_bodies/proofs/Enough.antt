@@ -12,7 +12,7 @@ use Rattle.cv_meaning_contexts.specs.Groups.{Group}
 use Rattle.cv_meaning_contexts.specs.Sites.{Site, is_below, sites_at, most_bounds, greatest, greatest_bound}
 use Rattle.cv_meaning_contexts.specs.Frames.{Frame, with_call}
 use Rattle.cv_meaning_contexts.specs.Finds.{Oracles, Pick, has_bound, function_of_site, is_pick, pick, picks_at, picks}
-use Rattle.cv_inline_bodies.specs.Inlined.{Caller, Scope, index_terms, branch_indices, branch_for, with_call_of, expanded_at, expanded}
+use Rattle.cv_meaning_contexts.specs.Inlined.{Caller, Scope, index_terms, branch_indices, branch_for, with_call_of, expanded_at, expanded}
 use Rattle.cv_inline_bodies.specs.Inlining.{Inlining}
 use Rattle.cv_inline_bodies.specs.Accepted.{AreFineBranches}
 use Rattle.cv_inline_bodies.specs.Related.{IsSiteOf, AreSitesOf}

@@ -13,9 +13,9 @@ use Rattle.cv_meaning_laws.specs.Agreement.{AgreeOn}
 use Rattle.cv_meaning_laws.proofs.Lists.{each_append}
 use Rattle.cv_inline_bodies.proofs.Stores.{bound_agree}
 use Rattle.cv_meaning_contexts.specs.Sites.{is_below}
-use Rattle.cv_inline_bodies.specs.Inlined.{read_at, index_terms, moved_leaf, moved, needed, each_once, is_index_of, branch_indices, index_moves, index_reads, cells_then}
+use Rattle.cv_meaning_contexts.specs.Inlined.{read_at, index_terms, moved_leaf, moved, needed, each_once, is_index_of, branch_indices, index_moves, index_reads, cells_then}
 use Rattle.cv_inline_bodies.specs.Inlining.{Inlining}
-use Rattle.cv_inline_bodies.specs.Accepted.{IsFineKeyTerm, AreFineKeyTerms}
+use Rattle.cv_meaning_contexts.specs.KeyTerms.{IsFineKeyTerm, AreFineKeyTerms}
 use Rattle.cv_inline_bodies.specs.Related.{indices_at}
 use Rattle.cv_inline_bodies.proofs.Terms.{read_value, same_self}
 

@@ -15,9 +15,10 @@ use Rattle.cv_meaning_contexts.specs.Sites.{Site, is_below, sites_at}
 use Rattle.cv_meaning_contexts.specs.Frames.{Frame, with_call}
 use Rattle.cv_meaning_contexts.specs.Finds.{Oracles, Pick, has_bound, function_of_site, is_pick, pick, picks_at, picked}
 use Rattle.cv_meaning_contexts.specs.Made.{has_cell_at}
-use Rattle.cv_inline_bodies.specs.Inlined.{Caller, Scope, index_terms, is_index_of, branch_indices, branch_for, with_call_of, expanded_at, expanded}
+use Rattle.cv_meaning_contexts.specs.Inlined.{Caller, Scope, index_terms, is_index_of, branch_indices, branch_for, with_call_of, expanded_at, expanded}
 use Rattle.cv_inline_bodies.specs.Inlining.{Inlining}
-use Rattle.cv_inline_bodies.specs.Accepted.{AreFineKeyTerms, IsFineTerm, AreFineCells, IsNeverAssigned}
+use Rattle.cv_inline_bodies.specs.Accepted.{IsFineTerm, AreFineCells, IsNeverAssigned}
+use Rattle.cv_meaning_contexts.specs.KeyTerms.{AreFineKeyTerms}
 use Rattle.cv_inline_bodies.specs.Related.{MadeUnder}
 use Rattle.cv_inline_bodies.proofs.Keys.{AreNames}
 use Rattle.cv_inline_bodies.proofs.Tests.{IsKnown, same_bodies, picked_made, no_candidate_there, no_pick_there}

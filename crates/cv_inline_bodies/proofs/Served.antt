@@ -7,7 +7,7 @@ use Rattle.cv_meaning.specs.Serving.{Served, serve}
 use Rattle.cv_meaning_contexts.specs.Groups.{Function}
 use Rattle.cv_meaning_contexts.specs.Frames.{Frame}
 use Rattle.cv_meaning_contexts.specs.Bodies.{begun, with_arguments, with_coins, body_answer, function_called, function_answer, reply}
-use Rattle.cv_inline_bodies.specs.Inlined.{TheKey, Scope, inlined_body, inlined_call}
+use Rattle.cv_meaning_contexts.specs.Inlined.{TheKey, Scope, inlined_body, inlined_call}
 use Rattle.cv_inline_bodies.specs.Inlining.{Inlining, Naming}
 use Rattle.cv_inline_bodies.specs.Accepted.{IsFineBody, IsFineCall}
 use Rattle.cv_inline_bodies.specs.Related.{MadeUnder, RunPair, with_made, this_call, oracles, at_store, IsAsBefore, IsUnderWay, IsServing, ArgumentsStay, IsCallToBeMade, ComesTo, KeepsMemories}

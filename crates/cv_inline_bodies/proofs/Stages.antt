@@ -16,10 +16,10 @@ use Rattle.cv_meaning_laws.proofs.Agreeing.{values_agree}
 use Rattle.cv_inline_bodies.proofs.Stores.{bound_agree, bound_elsewhere, put_agree, put_elsewhere}
 use Rattle.cv_meaning_laws.proofs.Counts.{same_tuple_exact}
 use Rattle.cv_meaning_contexts.specs.Frames.{Meaning, IsValue, IsCall, Frame, meaning_of, assigned, put_at, same_number, with_call}
-use Rattle.cv_inline_bodies.specs.Inlined.{Standing, TheKey, Own, CallOf, Scope, standing_of, index_terms, is_index_of, needed, branch_indices, index_reads, read_at}
-use Rattle.cv_inline_bodies.specs.Roles.{Role, TheKeyName, is_plain, is_seen, is_kept}
+use Rattle.cv_meaning_contexts.specs.Inlined.{Standing, TheKey, Own, CallOf, Scope, standing_of, index_terms, is_index_of, needed, branch_indices, index_reads, read_at}
+use Rattle.cv_meaning_contexts.specs.Roles.{Role, TheKeyName, is_plain, is_seen, is_kept}
 use Rattle.cv_inline_bodies.specs.Inlining.{Inlining, Naming, plain, elsewhere, seen, kept}
-use Rattle.cv_inline_bodies.specs.Accepted.{IsFineKeyTerm, AreFineKeyTerms}
+use Rattle.cv_meaning_contexts.specs.KeyTerms.{IsFineKeyTerm, AreFineKeyTerms}
 use Rattle.cv_inline_bodies.specs.Related.{MadeUnder, at_its_key, this_call, IsMeant, HasArrays, IsOpened, IsAsBefore, IsServing, IsLater}
 use Rattle.cv_inline_bodies.proofs.Terms.{Agrees, same_self}
 use Rattle.cv_inline_bodies.proofs.Keys.{AreNames, index_tuple, fits_length}

@@ -12,7 +12,7 @@ use Rattle.cv_meaning_contexts.specs.BodyTerms.{call_meant, call_at, array_at, p
 use Rattle.cv_inline_bodies.specs.Inlining.{Inlining}
 use Rattle.cv_inline_bodies.specs.Accepted.{IsFineArray, IsFineTerm, AreFineTerms}
 use Rattle.cv_inline_bodies.specs.Related.{MadeUnder, at_its_key, IsMeant, HasArrays}
-use Rattle.cv_inline_bodies.specs.Inlined.{Standing, TheKey, Own, CallOf, Scope, standing_of, read_at, index_terms, own_variable, leaf_in_game, called, call_in, array_in_game, all_equal, indices_equal, in_game}
+use Rattle.cv_meaning_contexts.specs.Inlined.{Standing, TheKey, Own, CallOf, Scope, standing_of, read_at, index_terms, own_variable, leaf_in_game, called, call_in, array_in_game, all_equal, indices_equal, in_game}
 
 pub same_self : (w : List ℕ) → same_tuple w w ≡ true
 same_self [] = refl

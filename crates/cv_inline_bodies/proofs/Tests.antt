@@ -18,9 +18,10 @@ use Rattle.cv_meaning_contexts.specs.BodyTerms.{call_meant, call_at, array_at, b
 use Rattle.cv_meaning_contexts.specs.Finds.{is_made, are_made, is_pick}
 use Rattle.cv_meaning_contexts.specs.Made.{is_index, has_cell_at}
 use Rattle.cv_inline_bodies.specs.Inlining.{Inlining}
-use Rattle.cv_inline_bodies.specs.Accepted.{AreFineKeyTerms, IsFineArray, IsFineTerm, AreFineCells, IsNeverAssigned, is_assigned_above}
+use Rattle.cv_inline_bodies.specs.Accepted.{IsFineArray, IsFineTerm, AreFineCells, IsNeverAssigned, is_assigned_above}
+use Rattle.cv_meaning_contexts.specs.KeyTerms.{AreFineKeyTerms}
 use Rattle.cv_inline_bodies.specs.Related.{MadeUnder, at_its_key, indices_at, this_call, IsMeant, HasArrays}
-use Rattle.cv_inline_bodies.specs.Inlined.{Caller, CallOf, Scope, standing_of, index_terms, called, call_in, array_in_game, all_equal, in_game, own_variable, cell_in_game, cells_in_game, moved, needed, each_once, is_index_of, branch_indices, index_moves, index_reads, cells_then, with_call_of}
+use Rattle.cv_meaning_contexts.specs.Inlined.{Caller, CallOf, Scope, standing_of, index_terms, called, call_in, array_in_game, all_equal, in_game, own_variable, cell_in_game, cells_in_game, moved, needed, each_once, is_index_of, branch_indices, index_moves, index_reads, cells_then, with_call_of}
 use Rattle.cv_inline_bodies.proofs.Terms.{Agrees, SameCall, calls_same, value_in, equal_value, read_assigned, same_self}
 use Rattle.cv_inline_bodies.proofs.Keys.{AreNames, moves_to, index_tuple, fits_length, terms_moved, key_cells, cells_behind}
 

@@ -5,21 +5,8 @@ use Rattle.cv_syntax.specs.declared.head.Head.TheVariants.{Leaf, Read, Apply, Eq
 use Rattle.cv_syntax.specs.Tree.{Tree, Empty, Node, first, first_place, second_place}
 use Rattle.cv_meaning_contexts.specs.Bodies.{body_place}
 use Rattle.cv_meaning_contexts.specs.Made.{has_cell_at}
-use Rattle.cv_inline_bodies.specs.Inlined.{Caller, Standing, Own, Scope, standing_of, call_in, index_terms, with_call_of}
+use Rattle.cv_meaning_contexts.specs.Inlined.{Caller, Standing, Own, Scope, standing_of, call_in, index_terms, with_call_of}
 use Rattle.cv_inline_bodies.specs.Inlining.{Inlining}
-
--- terms of a key: indices of the site, and plain variables of the game at such terms
-unfoldable mutual
-  pub IsFineKeyTerm : (is_index plain : ℕ → Bool) → Tree → Type 0
-  IsFineKeyTerm i pl Empty = Unit {0}
-  IsFineKeyTerm i pl (Node (Leaf x) a b) = (i x ≡ true) ⊎ (pl x ≡ true)
-  IsFineKeyTerm i pl (Node (Read x) a b) = (pl x ≡ true) × AreFineKeyTerms i pl a
-  IsFineKeyTerm i pl (Node h a b) = ⊥
-
-  pub AreFineKeyTerms : (is_index plain : ℕ → Bool) → Tree → Type 0
-  AreFineKeyTerms i pl Empty = Unit {0}
-  AreFineKeyTerms i pl (Node Cons a b) = IsFineKeyTerm i pl a × AreFineKeyTerms i pl b
-  AreFineKeyTerms i pl (Node h a b) = ⊥
 
 -- the function has assigned the name above
 abbrev pub is_own_variable : Standing → Bool

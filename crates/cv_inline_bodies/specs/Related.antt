@@ -13,9 +13,10 @@ use Rattle.cv_meaning_contexts.specs.Groups.{Group}
 use Rattle.cv_meaning_contexts.specs.Sites.{Site}
 use Rattle.cv_meaning_contexts.specs.Frames.{Frame, Meaning, IsValue, IsCall, meaning_of, same_number}
 use Rattle.cv_meaning_contexts.specs.Finds.{Oracles, has_bound, function_of_site}
-use Rattle.cv_inline_bodies.specs.Inlined.{Caller, Standing, TheKey, Own, CallOf, Scope, standing_of, is_index_of, needed}
+use Rattle.cv_meaning_contexts.specs.Inlined.{Caller, Standing, TheKey, Own, CallOf, Scope, standing_of, is_index_of, needed}
 use Rattle.cv_inline_bodies.specs.Inlining.{Inlining, Naming, plain, elsewhere, seen, kept}
-use Rattle.cv_inline_bodies.specs.Accepted.{AreFineKeyTerms, is_assigned_above}
+use Rattle.cv_inline_bodies.specs.Accepted.{is_assigned_above}
+use Rattle.cv_meaning_contexts.specs.KeyTerms.{AreFineKeyTerms}
 
 -- the tuple of the key under which each call was made, if it was made
 abbrev pub MadeUnder : Type 0

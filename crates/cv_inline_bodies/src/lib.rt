@@ -11,7 +11,7 @@ ghost use Rattle.cv_meaning_contexts.specs.Groups.{Function};
 ghost use Rattle.cv_meaning_contexts.specs.Frames.{Frame};
 ghost use Rattle.cv_meaning_contexts.specs.BodyTerms.{body_value};
 ghost use Rattle.cv_meaning_contexts.specs.Bodies.{body_answer, function_called, reply, with_arguments};
-ghost use Rattle.cv_inline_bodies.specs.Inlined.{Scope, TheKey, in_game, inlined_body, inlined_call};
+ghost use Rattle.cv_meaning_contexts.specs.Inlined.{Scope, TheKey, in_game, inlined_body, inlined_call};
 ghost use Rattle.cv_inline_bodies.specs.Inlining.{Inlining, Naming};
 ghost use Rattle.cv_inline_bodies.specs.Accepted.{IsFineBody, IsFineCall, IsFineTerm};
 ghost use Rattle.cv_inline_bodies.specs.Related.{

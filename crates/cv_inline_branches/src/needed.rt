@@ -1,8 +1,8 @@
 ghost use Rattle.std.specs.Prelude.{◌≡◌, ◌∷◌, ◌++◌, All, IfOk, filter, length, map, not};
 ghost use Rattle.cv_pool.specs.Nodes.{ChildBelow};
 ghost use Rattle.cv_syntax.specs.Tree.{same_tree, tree_at};
-ghost use Rattle.cv_inline_bodies.specs.Inlined as bodies;
-ghost use Rattle.cv_inline_bodies.specs.Inlined.{is_index_of};
+ghost use Rattle.cv_meaning_contexts.specs.Inlined as bodies;
+ghost use Rattle.cv_meaning_contexts.specs.Inlined.{is_index_of};
 ghost use Rattle.cv_inline_branches.specs.Cells.{IsLiveCell, cell_tree};
 
 use cv_syntax::{Head, NodeId, Pool, read_node, same};
@@ -23,7 +23,7 @@ fn is_index(replications: &[(u32, u32)], x: u32) -> bool
 }
 
 /// Adds the cells that a term reads, inner ones first.
-#[tactic(auto, using(cv_syntax::proofs::Trees::empty_at), unfolding(cv_inline_bodies::specs::Inlined::needed))]
+#[tactic(auto, using(cv_syntax::proofs::Trees::empty_at), unfolding(cv_meaning_contexts::specs::Inlined::needed))]
 fn add_needed(
     pool: &Pool,
     replications: &[(u32, u32)],

@@ -29,8 +29,8 @@ use Rattle.cv_meaning_contexts.specs.Sites.{sites_of}
 use Rattle.cv_meaning_contexts.specs.Sides.{Context, side_from}
 use Rattle.cv_meaning_contexts.specs.ContextAdvantage.{context_chance}
 use Rattle.cv_meaning_contexts_laws.proofs.Locality.{local}
-use Rattle.cv_inline_bodies.specs.Inlined.{Drawn}
-use Rattle.cv_inline_bodies.specs.Roles.{Role, Plain, Replication, Gone, TheKeyName, Variable, Index}
+use Rattle.cv_meaning_contexts.specs.Inlined.{Drawn}
+use Rattle.cv_meaning_contexts.specs.Roles.{Role, Plain, Replication, Gone, TheKeyName, Variable, Index}
 use Rattle.cv_inline_games.specs.Draws.{same_role}
 use Rattle.cv_inline_games.specs.NextGame.{inlined_calls_of, next_in, next_of}
 use Rattle.cv_inline_runs.specs.Texts.{Text, oracles_in}

@@ -17,7 +17,7 @@ use Rattle.cv_meaning_contexts.specs.Groups.{Function, Group, function_at}
 use Rattle.cv_meaning_contexts.specs.Sites.{first_of, is_call}
 use Rattle.cv_meaning_contexts.specs.Sides.{body_cells, cells_here, chosen_cell, function_cells}
 use Rattle.cv_meaning_contexts.specs.Bodies.{function_called}
-use Rattle.cv_inline_bodies.specs.Roles.{Role, Plain, Replication, Gone, TheKeyName, Variable, Index}
+use Rattle.cv_meaning_contexts.specs.Roles.{Role, Plain, Replication, Gone, TheKeyName, Variable, Index}
 use Rattle.cv_inline_games.specs.Draws.{same_role}
 use Rattle.cv_inline_games.specs.NextGame.{Calling, call_of, calling, callings_from, next_in, replications_under}
 use Rattle.cv_inline_runs.specs.Texts.{Text, oracles_in}

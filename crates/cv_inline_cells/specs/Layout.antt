@@ -9,8 +9,8 @@ use Rattle.cv_meaning.specs.Side.{CallNumber, no_side}
 use Rattle.cv_meaning_contexts.specs.Groups.{Function}
 use Rattle.cv_meaning_contexts.specs.Sites.{first_of}
 use Rattle.cv_meaning_contexts.specs.Bodies.{body_place, function_called}
-use Rattle.cv_inline_bodies.specs.Roles.{Plain, Gone}
-use Rattle.cv_inline_bodies.specs.Inlined.{Caller}
+use Rattle.cv_meaning_contexts.specs.Roles.{Plain, Gone}
+use Rattle.cv_meaning_contexts.specs.Inlined.{Caller}
 use Rattle.cv_inline_games.specs.NextGame.{Calling, callers_of}
 use Rattle.cv_inline_runs.specs.Texts.{Text, oracles_in}
 

@@ -7,7 +7,7 @@ use Rattle.cv_syntax.specs.declared.head.Head.TheVariants.{New, Let, If, Find, B
 use Rattle.cv_syntax.specs.Tree.{Tree, Empty, Node, first_place, second_place}
 use Rattle.cv_group_rules.specs.Rules.{defines, defines_here}
 use Rattle.cv_meaning_laws.proofs.Lists.{each_append}
-use Rattle.cv_inline_bodies.specs.Inlined.{Caller}
+use Rattle.cv_meaning_contexts.specs.Inlined.{Caller}
 use Rattle.cv_inline_games.specs.Draws.{finds_in}
 use Rattle.cv_inline_draws.specs.DrawnNames.{AreBranchesDrawn, AreIndicesDrawn, DrawnNames, IsBodyDrawn, has_find, has_indices, has_name}
 use Rattle.cv_inline_accepted.specs.Drawn.{Opening, opening_if, openings_at, openings_in}

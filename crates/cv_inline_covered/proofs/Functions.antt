@@ -10,9 +10,9 @@ use Rattle.cv_meaning_laws.proofs.Listed.{Has}
 use Rattle.cv_meaning_contexts.specs.Groups.{Function, Group, Right, bound_of, function_at, function_of, functions_of, side_group}
 use Rattle.cv_group_rules.specs.Faults.{IsAccepted, SameShape}
 use Rattle.cv_group_rules.specs.Rules.{are_distinct, binds_name, bounds, defines, functions_in, groups_agree, names_of, takes}
-use Rattle.cv_inline_bodies.specs.Inlined.{Caller}
+use Rattle.cv_meaning_contexts.specs.Inlined.{Caller}
 use Rattle.cv_inline_bodies.specs.Inlining.{Inlining}
-use Rattle.cv_inline_bodies.specs.Roles.{Role}
+use Rattle.cv_meaning_contexts.specs.Roles.{Role}
 use Rattle.cv_inline_games.specs.NextGame.{Calling, call_of, callers_of, calling, callings_from}
 use Rattle.cv_inline_draws.specs.DrawnNames.{DrawnNames, IsCallDrawn, has_find, has_indices, has_name, names_of_draws}
 use Rattle.cv_inline_draws.proofs.Covered.{calls_covered}

@@ -9,7 +9,7 @@ ghost use Rattle.cv_meaning_contexts.specs.Sides.{Context};
 ghost use Rattle.cv_group_rules.specs.Faults.{IsAccepted};
 ghost use Rattle.cv_group_rules.specs.Rules.{functions_in};
 ghost use Rattle.cv_inline_bodies.specs.Inlining.{Inlining};
-ghost use Rattle.cv_inline_bodies.specs.Roles.{Role};
+ghost use Rattle.cv_meaning_contexts.specs.Roles.{Role};
 ghost use Rattle.cv_inline_games.specs.NextGame.{Calling, callers_of, callings_of};
 ghost use Rattle.cv_inline_draws.specs.DrawnNames.{names_of_draws};
 ghost use Rattle.cv_inline_accepted.specs.Drawn.{IsDrawnFor};

@@ -1,5 +1,5 @@
 ghost use Rattle.std.specs.Prelude.{◌≡◌, OnOk};
-ghost use Rattle.cv_inline_bodies.specs.Roles as roles;
+ghost use Rattle.cv_meaning_contexts.specs.Roles as roles;
 ghost use Rattle.cv_inline_listing.specs.Listed.{role_in};
 ghost use Rattle.cv_inline_terms.specs.Drawings.{drawn_in};
 ghost use Rattle.cv_inline_drawing.specs.Tables.{nothing, with_label, with_name};

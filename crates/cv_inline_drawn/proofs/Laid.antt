@@ -19,7 +19,7 @@ use Rattle.cv_meaning_contexts.specs.Groups.{Function, Right, side_group}
 use Rattle.cv_meaning_contexts.specs.Bodies.{body_place, function_called}
 use Rattle.cv_meaning_contexts.specs.Finds.{function_of_site}
 use Rattle.cv_meaning_contexts.specs.Sites.{Site, site_numbered, sites_of}
-use Rattle.cv_inline_bodies.specs.Inlined.{Caller}
+use Rattle.cv_meaning_contexts.specs.Inlined.{Caller}
 use Rattle.cv_inline_games.specs.NextGame.{Calling, callers_of, callings_of, next_of}
 use Rattle.cv_inline_draws.specs.DrawnNames.{AreBranchesDrawn, AreIndicesDrawn, DrawnNames, IsBodyDrawn, IsCallDrawn, drawn_in, find_in, has_indices}
 use Rattle.cv_inline_draws.proofs.Covered.{calls_covered}

@@ -9,7 +9,7 @@ use Rattle.cv_meaning.specs.Interpretation.{setting_of}
 use Rattle.cv_meaning.specs.Tapes.{blank}
 use Rattle.cv_meaning_contexts.specs.Groups.{Right, side_group}
 use Rattle.cv_meaning_contexts.specs.Worked.{parity}
-use Rattle.cv_inline_bodies.specs.Roles.{Gone}
+use Rattle.cv_meaning_contexts.specs.Roles.{Gone}
 use Rattle.cv_inline_games.specs.NextGame.{call_of, callings_from, names_assigned}
 use Rattle.cv_inline_games.specs.Draws.{body_draws, finds_in, index_draws}
 use Rattle.cv_inline_games.specs.Worked.{one_sender}

@@ -8,7 +8,7 @@ use Rattle.cv_meaning_contexts.specs.Bodies.{function_called}
 use Rattle.cv_meaning_contexts.specs.Groups.{Function, Right, side_group}
 use Rattle.cv_meaning_contexts.specs.Sides.{Context, oracles_of}
 use Rattle.cv_meaning_contexts.specs.Sites.{sites_of}
-use Rattle.cv_inline_bodies.specs.Roles.{Role, Gone, TheKeyName, Variable, Index}
+use Rattle.cv_meaning_contexts.specs.Roles.{Role, Gone, TheKeyName, Variable, Index}
 use Rattle.cv_inline_games.specs.NextGame.{Calling, callings_of, inlined_calls_of, numbered}
 use Rattle.cv_inline_draws.specs.DrawnNames.{AreApart, DrawnNames, drawn_in, find_in, has_find, has_indices, has_name, is_new, names_of_draws, role_in}
 use Rattle.cv_inline_draws.proofs.Names.{index_among, name_again, name_new}

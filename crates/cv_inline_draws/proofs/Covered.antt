@@ -8,8 +8,8 @@ use Rattle.cv_syntax.specs.Tree.{Tree, Node, first_place, second_place}
 use Rattle.cv_meaning_laws.proofs.Listed.{Has, has_flat_map, has_left, has_map, has_right}
 use Rattle.cv_meaning_contexts.specs.Groups.{Group}
 use Rattle.cv_meaning_contexts.specs.Bodies.{body_place}
-use Rattle.cv_inline_bodies.specs.Roles.{Role, TheKeyName, Variable, Index}
-use Rattle.cv_inline_bodies.specs.Inlined.{Caller}
+use Rattle.cv_meaning_contexts.specs.Roles.{Role, TheKeyName, Variable, Index}
+use Rattle.cv_meaning_contexts.specs.Inlined.{Caller}
 use Rattle.cv_inline_games.specs.NextGame.{Calling, callers_of}
 use Rattle.cv_inline_games.specs.Draws.{Draw, argument_draws, body_draws, branch_draws, branches_draws, each_role_once, finds_in, index_draws, is_drawn, label_draws, roles_of, same_find, same_role, site_draws}
 use Rattle.cv_inline_games.proofs.Named.{same_role_exact}

@@ -3,7 +3,7 @@ use Rattle.std.proofs.Common.{◌≡◌, ℕ, zero, suc, ◌+◌, ◌<◌, ◌�
 use Rattle.std.proofs.lemmas.List.{length-map}
 use Rattle.std.proofs.lemmas.Bool.{both_ways, and_parts}
 use Rattle.std.specs.List.{AllByRecursion, IsDistinct, list_any}
-use Rattle.cv_inline_bodies.specs.Roles.{Role, Index}
+use Rattle.cv_meaning_contexts.specs.Roles.{Role, Index}
 use Rattle.cv_inline_games.specs.Draws.{drawn_for, is_drawn, name_for, roles_of, same_find, same_role}
 use Rattle.cv_inline_games.proofs.Named.{found_again, same_find_exact, same_role_exact}
 use Rattle.cv_inline_draws.specs.DrawnNames.{AreApart, DrawnNames, drawn_in, find_in, has_find, has_indices, is_drawn_for, is_new, numbers_from, role_in}

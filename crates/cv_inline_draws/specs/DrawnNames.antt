@@ -6,8 +6,8 @@ use Rattle.cv_syntax.specs.declared.head.Head.TheVariants.{New, Let, If, Find, B
 use Rattle.cv_syntax.specs.Tree.{Tree, Node, first_place, second_place}
 use Rattle.cv_meaning_contexts.specs.Groups.{Group}
 use Rattle.cv_meaning_contexts.specs.Bodies.{body_place}
-use Rattle.cv_inline_bodies.specs.Roles.{Role, Variable, Index}
-use Rattle.cv_inline_bodies.specs.Inlined.{Drawn, Caller}
+use Rattle.cv_meaning_contexts.specs.Roles.{Role, Variable, Index}
+use Rattle.cv_meaning_contexts.specs.Inlined.{Drawn, Caller}
 use Rattle.cv_inline_games.specs.NextGame.{Calling}
 use Rattle.cv_inline_games.specs.Draws.{Draw, draws_of, drawn_by, drawn_for, is_drawn, label_draws, roles_of, same_find, same_role}
 

@@ -5,7 +5,7 @@
 ghost use Rattle.std.specs.Prelude.{◌≡◌, ℕ, ◌+◌, ◌*◌, ◌^◌, suc, ◌<◌, ◌≤◌, ◌==◌, true, false, List, length, Some, None};
 ghost use Rattle.std.specs.List.{AllByRecursion, IsDistinct, list_any};
 ghost use Rattle.cv_meaning_contexts.specs.Groups.{Group};
-ghost use Rattle.cv_inline_bodies.specs.Roles.{Role, TheKeyName, Index};
+ghost use Rattle.cv_meaning_contexts.specs.Roles.{Role, TheKeyName, Index};
 ghost use Rattle.cv_inline_games.specs.NextGame.{Calling, callers_of};
 ghost use Rattle.cv_inline_games.specs.Draws.{
   Draw,

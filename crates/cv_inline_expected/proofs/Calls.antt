@@ -16,9 +16,9 @@ use Rattle.cv_scope.specs.Phrases.{Nil, Term, Terms, is_oracle_phrase}
 use Rattle.cv_scope_runs.specs.Reads.{LeafAssigned, TermAssigned, TermsAssigned}
 use Rattle.cv_scope_runs.proofs.Contexts.{Matches, index_none}
 use Rattle.cv_scenes.specs.Sights.{variable_of}
-use Rattle.cv_inline_bodies.specs.Inlined.{Caller, is_index_of, needed}
+use Rattle.cv_meaning_contexts.specs.Inlined.{Caller, is_index_of, needed}
 use Rattle.cv_inline_bodies.specs.Related.{indices_at}
-use Rattle.cv_inline_bodies.specs.Roles.{Gone, Replication, Role, is_plain}
+use Rattle.cv_meaning_contexts.specs.Roles.{Gone, Replication, Role, is_plain}
 use Rattle.cv_inline_games.specs.NextGame.{callers_of}
 use Rattle.cv_inline_runs.specs.Texts.{IsHere, KeyKeeps, Text, oracles_in, plain_in}
 use Rattle.cv_inline_runs.specs.Contexts.{IsCallVisit, context_setting}

@@ -14,8 +14,8 @@ use Rattle.cv_scenes.specs.Contexts.{after_calls}
 use Rattle.cv_scenes.specs.Reductions.{Reduction, context_of_game, is_answer, is_coin, is_plain, matching}
 use Rattle.cv_scenes.specs.Apt.{AreBindersPlain, IsApt, IsAptGame, has_value, inside}
 use Rattle.cv_context_values.proofs.Numbers.{context}
-use Rattle.cv_inline_bodies.specs.Inlined.{index_terms}
-use Rattle.cv_inline_bodies.specs.Roles.{Plain}
+use Rattle.cv_meaning_contexts.specs.Inlined.{index_terms}
+use Rattle.cv_meaning_contexts.specs.Roles.{Plain}
 use Rattle.cv_inline_games.specs.NextGame.{Calling}
 use Rattle.cv_inline_runs.specs.Contexts.{Answers, IsAnswer, AreFineBranchesIn, AreFineInputs, IsFineContext}
 use Rattle.cv_inline_runs.specs.Texts.{Text}

@@ -14,7 +14,7 @@ use Rattle.cv_scenes.specs.Sites.{Site, sites_in}
 use Rattle.cv_scenes.specs.Reductions.{Reduction, is_plain, matching}
 use Rattle.cv_scenes.specs.Apt.{are_cells_apt, has_value, reads_outside}
 use Rattle.cv_context_values.proofs.Numbers.{context, count_sites}
-use Rattle.cv_inline_bodies.specs.Inlined.{index_terms}
+use Rattle.cv_meaning_contexts.specs.Inlined.{index_terms}
 use Rattle.cv_inline_runs.specs.Contexts.{Answers, AreCells, AreFineIn, IsAnswer, IsFineIn, ordinary_in}
 use Rattle.cv_inline_runs.specs.Texts.{Text}
 use Rattle.cv_inline_expected.specs.Fine.{has_free_indices, has_no_call}

@@ -13,8 +13,8 @@ use Rattle.cv_scope.specs.Context.{items}
 use Rattle.cv_scope_runs.specs.Promises.{AreIndicesOf}
 use Rattle.cv_scope_runs.specs.Reads.{LeafAssigned, TermAssigned, TermsAssigned}
 use Rattle.cv_scope_runs.proofs.TermsLater.{later_same}
-use Rattle.cv_inline_bodies.specs.Accepted.{AreFineKeyTerms, IsFineKeyTerm}
-use Rattle.cv_inline_bodies.specs.Inlined.{index_terms, is_index_of, needed}
+use Rattle.cv_meaning_contexts.specs.KeyTerms.{AreFineKeyTerms, IsFineKeyTerm}
+use Rattle.cv_meaning_contexts.specs.Inlined.{index_terms, is_index_of, needed}
 use Rattle.cv_inline_bodies.specs.Related.{IsKept, indices_at}
 
 -- indices

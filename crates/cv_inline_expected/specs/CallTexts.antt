@@ -10,10 +10,11 @@ use Rattle.cv_meaning_contexts.specs.Bodies.{function_called}
 use Rattle.cv_meaning_contexts.specs.Groups.{Function}
 use Rattle.cv_scope.specs.Context.{items, replications_below}
 use Rattle.cv_scenes.specs.Sights.{variable_of}
-use Rattle.cv_inline_bodies.specs.Accepted.{AreFineKeyTerms, IsFineCall}
-use Rattle.cv_inline_bodies.specs.Inlined.{Caller, TheKey, is_index_of, is_own}
+use Rattle.cv_inline_bodies.specs.Accepted.{IsFineCall}
+use Rattle.cv_meaning_contexts.specs.KeyTerms.{AreFineKeyTerms}
+use Rattle.cv_meaning_contexts.specs.Inlined.{Caller, TheKey, is_index_of, is_own}
 use Rattle.cv_inline_bodies.specs.Related.{AreSitesOf}
-use Rattle.cv_inline_bodies.specs.Roles.{Gone, Replication}
+use Rattle.cv_meaning_contexts.specs.Roles.{Gone, Replication}
 use Rattle.cv_inline_games.specs.NextGame.{Calling, callers_of, numbered}
 use Rattle.cv_inline_runs.specs.Texts.{IsHere, Text, inlining_at, is_ordinary, oracles_in, plain_in}
 

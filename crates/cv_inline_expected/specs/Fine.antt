@@ -9,7 +9,7 @@ use Rattle.cv_scope.specs.Sites.{Variable}
 use Rattle.cv_scenes.specs.Scenes.{names}
 use Rattle.cv_scenes.specs.Instances.{Matching, call_at}
 use Rattle.cv_scenes.specs.Reductions.{Reduction, is_plain}
-use Rattle.cv_inline_bodies.specs.Roles.{Plain}
+use Rattle.cv_meaning_contexts.specs.Roles.{Plain}
 use Rattle.cv_inline_runs.specs.Contexts.{ordinary_in}
 use Rattle.cv_inline_runs.specs.Texts.{Text}
 

@@ -5,7 +5,7 @@ use Rattle.cv_syntax.specs.declared.head.Head.TheVariants.{In, Out, Event, New, 
 use Rattle.cv_syntax.specs.Head.{weight}
 use Rattle.cv_syntax.specs.Tree.{Tree, Empty, Node, lone, binders, chain, second, first_place, second_place}
 use Rattle.cv_meaning_contexts.specs.Bodies.{body_place}
-use Rattle.cv_inline_bodies.specs.Inlined.{Drawn, Caller, Scope, TheKey, Own, all_equal, branch_indices, cells_in_game, cells_then, each_once, in_game, index_moves, index_terms, is_index_of, moved, needed, with_call_of}
+use Rattle.cv_meaning_contexts.specs.Inlined.{Drawn, Caller, Scope, TheKey, Own, all_equal, branch_indices, cells_in_game, cells_then, each_once, in_game, index_moves, index_terms, is_index_of, moved, needed, with_call_of}
 use Rattle.cv_inline_games.specs.NextGame.{Calling, InlinedCalls, callers_of, numbered}
 
 -- what trees are measured by

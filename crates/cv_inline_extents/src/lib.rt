@@ -4,7 +4,7 @@
 ghost use Rattle.std.specs.Prelude.{◌≡◌, ℕ, []};
 ghost use Rattle.cv_syntax.specs.Tree.{Tree, depth, size};
 ghost use Rattle.cv_meaning_contexts.specs.Sides.{Context};
-ghost use Rattle.cv_inline_bodies.specs.Inlined.{Drawn};
+ghost use Rattle.cv_meaning_contexts.specs.Inlined.{Drawn};
 ghost use Rattle.cv_inline_games.specs.NextGame.{inlined_calls_of, next_of};
 ghost use Rattle.cv_inline_extents.specs.Extents.{all_nodes, extent, longest_path, of_game};
 

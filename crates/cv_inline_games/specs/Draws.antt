@@ -7,8 +7,8 @@ use Rattle.cv_syntax.specs.declared.head.Head.TheVariants.{New, Let, If, Find, B
 use Rattle.cv_syntax.specs.Tree.{Tree, Empty, Node, first_place, second_place}
 use Rattle.cv_meaning_contexts.specs.Groups.{Group}
 use Rattle.cv_meaning_contexts.specs.Bodies.{body_place}
-use Rattle.cv_inline_bodies.specs.Roles.{Role, TheKeyName, Variable, Index}
-use Rattle.cv_inline_bodies.specs.Inlined.{Drawn, Caller}
+use Rattle.cv_meaning_contexts.specs.Roles.{Role, TheKeyName, Variable, Index}
+use Rattle.cv_meaning_contexts.specs.Inlined.{Drawn, Caller}
 use Rattle.cv_inline_games.specs.NextGame.{Calling, callers_of}
 
 -- What is drawn, in order: for the key, and then for each site by number. There the arguments come first and

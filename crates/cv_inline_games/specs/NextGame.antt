@@ -7,7 +7,7 @@ use Rattle.cv_syntax.specs.Tree.{Tree, Empty, Node, lone, first, second}
 use Rattle.cv_meaning_contexts.specs.Groups.{Right, Function, Group, side_group, function_at}
 use Rattle.cv_meaning_contexts.specs.Sites.{is_call, first_of}
 use Rattle.cv_meaning_contexts.specs.Sides.{Context}
-use Rattle.cv_inline_bodies.specs.Inlined.{Drawn, Caller, TheKey, inlined_call}
+use Rattle.cv_meaning_contexts.specs.Inlined.{Drawn, Caller, TheKey, inlined_call}
 
 -- the callers of a context
 

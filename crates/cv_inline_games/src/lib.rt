@@ -6,7 +6,7 @@ ghost use Rattle.std.specs.Prelude.{◌≡◌, ℕ, ◌==◌, true, List, [], �
 ghost use Rattle.std.specs.List.{IsDistinct};
 ghost use Rattle.cv_syntax.specs.Tree.{subtree};
 ghost use Rattle.cv_inline_games.specs.NextGame.{callings_of};
-ghost use Rattle.cv_inline_bodies.specs.Roles.{Role};
+ghost use Rattle.cv_meaning_contexts.specs.Roles.{Role};
 ghost use Rattle.cv_inline_games.specs.Draws.{
   Draw,
   drawn_for,

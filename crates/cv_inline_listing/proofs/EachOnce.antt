@@ -8,8 +8,8 @@ use Rattle.std.proofs.lemmas.Bool.Decides.{eqb_tells}
 use Rattle.std.proofs.lemmas.List.{append_assoc, append-nil, map-append, take_more}
 use Rattle.std.proofs.lemmas.List.Elements.{filter-append}
 use Rattle.std.proofs.lemmas.List.Folds.{list_any-append}
-use Rattle.cv_inline_bodies.specs.Roles as roles
-use Rattle.cv_inline_bodies.specs.Roles.{Plain, Replication, Gone, TheKeyName}
+use Rattle.cv_meaning_contexts.specs.Roles as roles
+use Rattle.cv_meaning_contexts.specs.Roles.{Plain, Replication, Gone, TheKeyName}
 use Rattle.cv_inline_games.specs.Draws as draws
 use Rattle.cv_inline_games.specs.Draws.{each_role_once, same_role}
 use Rattle.cv_inline_listing.specs.declared.draws.Draw.{Draw}

@@ -3,7 +3,7 @@ use Rattle.std.specs.Prelude.{◌<◌, ◌^◌, List, Some, length, map}
 use Rattle.cv_pool.specs.KindTree.{KindTree}
 use Rattle.cv_syntax.specs.Tree.{size, tree_at}
 use Rattle.cv_meaning_contexts.specs.Groups.{function_of}
-use Rattle.cv_inline_bodies.specs.Inlined.{Caller}
+use Rattle.cv_meaning_contexts.specs.Inlined.{Caller}
 use Rattle.cv_inline_games.specs.NextGame as game
 use Rattle.cv_inline_games.specs.NextGame.{callers_of}
 use Rattle.cv_inline_terms.specs.Callers.{caller_in}

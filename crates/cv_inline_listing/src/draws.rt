@@ -3,7 +3,7 @@ ghost use Rattle.cv_pool.specs.Nodes.{ChildBelow};
 ghost use Rattle.cv_syntax.specs.Tree.{tree_at};
 ghost use Rattle.cv_meaning.specs.Correspondences.{typed_names};
 ghost use Rattle.cv_inline_games.specs.Draws.{argument_draws};
-ghost use Rattle.cv_inline_bodies.specs.Roles as roles;
+ghost use Rattle.cv_meaning_contexts.specs.Roles as roles;
 ghost use Rattle.cv_inline_listing.specs.Listed.{draw_in, variable_draw};
 
 use cv_inline_terms::Index;

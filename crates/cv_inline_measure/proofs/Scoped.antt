@@ -3,7 +3,7 @@ use Rattle.std.proofs.Common.{◌≡◌, ℕ, suc, List, [], ◌∷◌, Option, 
 use Rattle.cv_pool.specs.declared.node.NodeId.{NodeId}
 use Rattle.cv_syntax.specs.declared.head.Head.TheVariants.{Cons, No}
 use Rattle.cv_syntax.specs.Tree.{Tree, Node, lone, tree_at}
-use Rattle.cv_inline_bodies.specs.Inlined.{Own, Scope, index_reads, read_at}
+use Rattle.cv_meaning_contexts.specs.Inlined.{Own, Scope, index_reads, read_at}
 use Rattle.cv_inline_terms.specs.declared.caller.Caller.{Caller}
 use Rattle.cv_inline_terms.specs.Drawings.{drawn_in}
 use Rattle.cv_inline_terms.specs.Stacks.{names_from, tuple_at}

@@ -8,8 +8,8 @@ use Rattle.cv_syntax.specs.Tree.{Tree, Node, tree_at}
 use Rattle.cv_meaning.specs.Correspondences.{typed_names}
 use Rattle.cv_meaning_contexts.specs.Groups.{Group}
 use Rattle.cv_inline_games.specs.NextGame.{InlinedCalls}
-use Rattle.cv_inline_bodies.specs.Inlined as bodies
-use Rattle.cv_inline_bodies.specs.Inlined.{Scope, in_game, index_terms, with_call_of}
+use Rattle.cv_meaning_contexts.specs.Inlined as bodies
+use Rattle.cv_meaning_contexts.specs.Inlined.{Scope, in_game, index_terms, with_call_of}
 use Rattle.cv_inline_terms.specs.declared.caller.Caller.{Caller}
 use Rattle.cv_inline_terms.specs.declared.calling.Calling.{Calling}
 use Rattle.cv_inline_terms.specs.declared.scope.Entry.{Entry}

@@ -8,7 +8,7 @@ use Rattle.cv_syntax.specs.declared.head.Head.TheVariants.{Binder, Branch, Cons}
 use Rattle.cv_syntax.specs.Tree.{Tree, Node, second_place, size, tree_at}
 use Rattle.cv_syntax.specs.Walks.{above}
 use Rattle.cv_meaning_contexts.specs.Bodies.{body_place}
-use Rattle.cv_inline_bodies.specs.Inlined.{Caller, Drawn, Scope, branch_for, index_terms, with_call_of}
+use Rattle.cv_meaning_contexts.specs.Inlined.{Caller, Drawn, Scope, branch_for, index_terms, with_call_of}
 use Rattle.cv_inline_pairs.specs.declared.branches.Branch as branches
 use Rattle.cv_inline_pairs.specs.declared.pairs.Pair as code
 

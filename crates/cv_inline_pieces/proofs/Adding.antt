@@ -3,7 +3,7 @@ use Rattle.std.proofs.Common.{◌≡◌, ℕ, zero, suc, ◌<◌, List, [], ◌�
 use Rattle.std.proofs.lemmas.List.Elements.{All-append}
 use Rattle.cv_pool.specs.KindTree.{KindTree}
 use Rattle.cv_syntax.specs.Tree.{Tree}
-use Rattle.cv_inline_bodies.specs.Inlined.{Drawn}
+use Rattle.cv_meaning_contexts.specs.Inlined.{Drawn}
 use Rattle.cv_inline_terms.specs.declared.caller.Caller.{Caller}
 use Rattle.cv_inline_terms.specs.declared.calling.Calling.{Calling}
 use Rattle.cv_inline_pieces.specs.declared.piece.Piece.{Piece}

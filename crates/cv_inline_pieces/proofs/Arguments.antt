@@ -4,7 +4,7 @@ use Rattle.cv_syntax.specs.declared.head.Head.{Head}
 use Rattle.cv_syntax.specs.declared.head.Head.TheVariants.{Binder, Let}
 use Rattle.cv_syntax.specs.Tree.{Tree, Empty, Node}
 use Rattle.cv_meaning.specs.Correspondences.{typed_names}
-use Rattle.cv_inline_bodies.specs.Inlined.{Caller, Drawn, Own, Scope, inlined_body, inlined_call}
+use Rattle.cv_meaning_contexts.specs.Inlined.{Caller, Drawn, Own, Scope, inlined_body, inlined_call}
 use Rattle.cv_inline_pieces.specs.Calls.{Argument, first_argument}
 
 module _ (d : Drawn) (ss : List Caller) (c : Caller) (Σ : Scope) (body : Tree) (k : Tree → Tree) where

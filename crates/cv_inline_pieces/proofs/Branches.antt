@@ -5,7 +5,7 @@ use Rattle.cv_syntax.specs.declared.head.Head.TheVariants as head
 use Rattle.cv_syntax.specs.Postorder.{joined}
 use Rattle.cv_syntax.specs.Tree.{Tree, Empty, Node, second_place}
 use Rattle.cv_meaning_contexts.specs.Bodies.{body_place}
-use Rattle.cv_inline_bodies.specs.Inlined.{Caller, Drawn, Scope, branch_for, cells_then, expanded, expanded_at, index_reads, index_terms, inlined_body, inlined_branch, read_at, with_call_of}
+use Rattle.cv_meaning_contexts.specs.Inlined.{Caller, Drawn, Scope, branch_for, cells_then, expanded, expanded_at, index_reads, index_terms, inlined_body, inlined_branch, read_at, with_call_of}
 use Rattle.cv_inline_terms.specs.Stacks.{names_from, tuple_at}
 use Rattle.cv_inline_pairs.specs.Pairs.{Pair, branch_of_pair, pairs_with}
 use Rattle.cv_inline_pieces.specs.Choices.{branch_by, choices_over, onto}

@@ -4,7 +4,7 @@ use Rattle.cv_pool.specs.KindTree.{KindTree}
 use Rattle.cv_syntax.specs.declared.head.Head.{Head}
 use Rattle.cv_syntax.specs.declared.head.Head.TheVariants.{New, Let, If, Find, Cons}
 use Rattle.cv_syntax.specs.Tree.{Tree, Empty, Node, first_place, second_place, tree_at}
-use Rattle.cv_inline_bodies.specs.Inlined.{Caller, Drawn, Own, Scope, expanded, find_or_else, in_game, inlined_body, inlined_branch}
+use Rattle.cv_meaning_contexts.specs.Inlined.{Caller, Drawn, Own, Scope, expanded, find_or_else, in_game, inlined_body, inlined_branch}
 use Rattle.cv_inline_listing.specs.Subtrees.{IsNodeAt}
 use Rattle.cv_inline_listing.specs.declared.subtree.Subtree.{Subtree}
 use Rattle.cv_inline_listing.specs.declared.subtree.Parent.{Parent}

@@ -7,7 +7,7 @@ use Rattle.cv_syntax.specs.declared.head.Head.{Head}
 use Rattle.cv_syntax.specs.declared.head.Head.TheVariants as head
 use Rattle.cv_syntax.specs.Postorder.{joined}
 use Rattle.cv_syntax.specs.Tree.{Tree, Empty, tree_at}
-use Rattle.cv_inline_bodies.specs.Inlined.{Drawn, in_game}
+use Rattle.cv_meaning_contexts.specs.Inlined.{Drawn, in_game}
 use Rattle.cv_inline_terms.specs.declared.caller.Caller.{Caller}
 use Rattle.cv_inline_terms.specs.declared.calling.Calling.{Calling}
 use Rattle.cv_inline_terms.specs.declared.scope.Entry.{Entry}

@@ -6,7 +6,7 @@ use Rattle.cv_syntax.specs.declared.head.Head.TheVariants as head
 use Rattle.cv_syntax.specs.Postorder.{joined}
 use Rattle.cv_syntax.specs.Tree.{Tree, Empty, Node, first, second, size, tree_at}
 use Rattle.cv_meaning.specs.Correspondences.{typed_names}
-use Rattle.cv_inline_bodies.specs.Inlined.{Drawn, Own, Scope, inlined_body, inlined_call}
+use Rattle.cv_meaning_contexts.specs.Inlined.{Drawn, Own, Scope, inlined_body, inlined_call}
 use Rattle.cv_inline_terms.specs.declared.caller.Caller.{Caller}
 use Rattle.cv_inline_terms.specs.declared.calling.Calling.{Calling}
 use Rattle.cv_inline_terms.specs.Callers.{caller_in}

@@ -7,8 +7,8 @@ use Rattle.cv_syntax.specs.declared.head.Head.{Head}
 use Rattle.cv_syntax.specs.declared.head.Head.TheVariants as head
 use Rattle.cv_syntax.specs.Postorder.{joined}
 use Rattle.cv_syntax.specs.Tree.{Tree, Empty, Node, tree_at}
-use Rattle.cv_inline_bodies.specs.Inlined as bodies
-use Rattle.cv_inline_bodies.specs.Inlined.{Drawn, Own, Scope, cells_then, find_or_else, in_game, index_terms, inlined_body, with_call_of}
+use Rattle.cv_meaning_contexts.specs.Inlined as bodies
+use Rattle.cv_meaning_contexts.specs.Inlined.{Drawn, Own, Scope, cells_then, find_or_else, in_game, index_terms, inlined_body, with_call_of}
 use Rattle.cv_inline_terms.specs.declared.caller.Caller.{Caller}
 use Rattle.cv_inline_terms.specs.declared.calling.Calling.{Calling}
 use Rattle.cv_inline_terms.specs.declared.scope.Entry.{Entry}

@@ -4,7 +4,7 @@ use Rattle.cv_pool.specs.KindTree.{KindTree}
 use Rattle.cv_syntax.specs.declared.head.Head.TheVariants.{Binder}
 use Rattle.cv_syntax.specs.Tree.{Tree, Node, tree_at}
 use Rattle.cv_meaning_contexts.specs.Groups.{Group}
-use Rattle.cv_inline_bodies.specs.Inlined.{Drawn, Scope, expanded, find_or_else, inlined_body, inlined_branch}
+use Rattle.cv_meaning_contexts.specs.Inlined.{Drawn, Scope, expanded, find_or_else, inlined_body, inlined_branch}
 use Rattle.cv_inline_games.specs.NextGame.{InlinedCalls}
 use Rattle.cv_inline_terms.specs.declared.caller.Caller.{Caller}
 use Rattle.cv_inline_terms.specs.declared.calling.Calling.{Calling}

@@ -3,7 +3,7 @@ use Rattle.std.specs.Prelude.{ℕ, ◌<◌, List, [], ◌∷◌, ◌++◌, lengt
 use Rattle.cv_pool.specs.KindTree.{KindTree}
 use Rattle.cv_pool.specs.declared.node.NodeId.{NodeId}
 use Rattle.cv_syntax.specs.Tree.{Tree, Empty}
-use Rattle.cv_inline_bodies.specs.Inlined.{Caller, Drawn, Scope}
+use Rattle.cv_meaning_contexts.specs.Inlined.{Caller, Drawn, Scope}
 use Rattle.cv_inline_terms.specs.declared.calling.Calling.{Calling}
 use Rattle.cv_inline_terms.specs.Callers.{caller_in}
 use Rattle.cv_inline_pairs.specs.declared.pairs.Pair as code

@@ -6,7 +6,7 @@ use Rattle.cv_pool.specs.declared.node.NodeId.{NodeId}
 use Rattle.cv_syntax.specs.declared.head.Head.TheVariants.{Cons, If}
 use Rattle.cv_syntax.specs.Postorder.{joined}
 use Rattle.cv_syntax.specs.Tree.{Tree, Empty, tree_at}
-use Rattle.cv_inline_bodies.specs.Inlined.{Drawn, Scope, in_game, index_terms}
+use Rattle.cv_meaning_contexts.specs.Inlined.{Drawn, Scope, in_game, index_terms}
 use Rattle.cv_inline_terms.specs.declared.caller.Caller.{Caller}
 use Rattle.cv_inline_terms.specs.declared.calling.Calling.{Calling}
 use Rattle.cv_inline_terms.specs.declared.scope.Entry.{Entry}

@@ -1,7 +1,7 @@
 ghost use Rattle.std.specs.Prelude.{◌≡◌, ◌∷◌, All, IfOk, length, map};
 ghost use Rattle.cv_syntax.specs.declared.head.Head.TheVariants as head;
 ghost use Rattle.cv_syntax.specs.Postorder.{joined};
-ghost use Rattle.cv_inline_bodies.specs.Inlined.{Own};
+ghost use Rattle.cv_meaning_contexts.specs.Inlined.{Own};
 ghost use Rattle.cv_inline_terms.specs.Drawings.{drawn_in};
 ghost use Rattle.cv_inline_listing.specs.Callings.{IsLiveCalling};
 ghost use Rattle.cv_inline_listing.specs.Subtrees.{IsNodeAt, IsWithin};

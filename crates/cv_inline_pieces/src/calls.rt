@@ -4,7 +4,7 @@ ghost use Rattle.cv_syntax.specs.Tree.{Tree, tree_at};
 ghost use Rattle.cv_syntax.specs.Walks.{above};
 ghost use Rattle.cv_meaning.specs.Correspondences.{typed_names};
 ghost use Rattle.cv_meaning_contexts.specs.Groups.{Group};
-ghost use Rattle.cv_inline_bodies.specs.Inlined.{inlined_call};
+ghost use Rattle.cv_meaning_contexts.specs.Inlined.{inlined_call};
 ghost use Rattle.cv_inline_games.specs.NextGame.{call_in_game};
 ghost use Rattle.cv_inline_terms.specs.Callers.{caller_in};
 ghost use Rattle.cv_inline_terms.specs.Drawings.{drawn_in};

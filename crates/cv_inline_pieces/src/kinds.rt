@@ -3,7 +3,7 @@ ghost use Rattle.cv_pool.specs.KindTree.{KindTree};
 ghost use Rattle.cv_pool.specs.Nodes.{ChildBelow};
 ghost use Rattle.cv_syntax.specs.Postorder.{joined};
 ghost use Rattle.cv_syntax.specs.Tree.{Empty, Tree, tree_at};
-ghost use Rattle.cv_inline_bodies.specs.Inlined.{Drawn, index_terms, with_call_of};
+ghost use Rattle.cv_meaning_contexts.specs.Inlined.{Drawn, index_terms, with_call_of};
 ghost use Rattle.cv_inline_terms.specs.declared.calling.Calling.{Calling};
 ghost use Rattle.cv_inline_terms.specs.declared.caller.Caller.{Caller};
 ghost use Rattle.cv_inline_terms.specs.Callers.{caller_in};

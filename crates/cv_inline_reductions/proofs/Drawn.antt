@@ -7,7 +7,7 @@ use Rattle.std.proofs.lemmas.List.Elements.{All-head, All-tail}
 use Rattle.std.specs.List.{AllByRecursion, list_any}
 use Rattle.cv_scenes.specs.Reductions.{Reduction, context_of_game}
 use Rattle.cv_scenes.specs.Scenes.{is_new, names}
-use Rattle.cv_inline_bodies.specs.Inlined.{Drawn}
+use Rattle.cv_meaning_contexts.specs.Inlined.{Drawn}
 use Rattle.cv_inline_games.specs.Draws.{Draw, drawn_texts}
 use Rattle.cv_inline_games.specs.NextGame.{next_of}
 use Rattle.cv_inline_names.specs.Texts.{is_listed, text_at, texts_at}

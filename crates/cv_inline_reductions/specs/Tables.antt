@@ -4,7 +4,7 @@ use Rattle.cv_syntax.specs.Tree.{Tree}
 use Rattle.cv_syntax.specs.Declarations.{Declaration}
 use Rattle.cv_scenes.specs.Reductions.{Reduction, context_of_game}
 use Rattle.cv_scenes.specs.Scenes.{Scene, names}
-use Rattle.cv_inline_bodies.specs.Inlined.{Drawn}
+use Rattle.cv_meaning_contexts.specs.Inlined.{Drawn}
 use Rattle.cv_inline_games.specs.Draws.{labels_from, labels_in}
 use Rattle.cv_inline_games.specs.NextGame.{next_of}
 use Rattle.cv_inline_names.specs.Texts.{is_listed}

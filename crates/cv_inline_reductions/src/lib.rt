@@ -6,7 +6,7 @@ ghost use Rattle.cv_syntax.specs.Declarations.{Declaration};
 ghost use Rattle.cv_syntax.specs.Tree.{Tree};
 ghost use Rattle.cv_scenes.specs.Reductions.{Reduction};
 ghost use Rattle.cv_scenes.specs.Scenes.{names};
-ghost use Rattle.cv_inline_bodies.specs.Inlined.{Drawn};
+ghost use Rattle.cv_meaning_contexts.specs.Inlined.{Drawn};
 ghost use Rattle.cv_inline_drawing.specs.Fresh.{IsDrawnFor};
 ghost use Rattle.cv_inline_names.specs.Texts.{is_listed};
 ghost use Rattle.cv_inline_taken.specs.Taken.{taken_names};

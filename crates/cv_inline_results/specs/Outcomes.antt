@@ -5,7 +5,7 @@ use Rattle.cv_pool.specs.declared.node.NodeId.{NodeId}
 use Rattle.cv_pool.specs.Nodes.{ChildBelow}
 use Rattle.cv_syntax.specs.declared.head.Head.TheVariants.{No}
 use Rattle.cv_syntax.specs.Tree.{Tree, lone, tree_at}
-use Rattle.cv_inline_bodies.specs.Inlined.{Drawn, in_game, index_terms}
+use Rattle.cv_meaning_contexts.specs.Inlined.{Drawn, in_game, index_terms}
 use Rattle.cv_inline_games.specs.NextGame.{Results}
 use Rattle.cv_inline_terms.specs.declared.calling.Calling.{Calling}
 use Rattle.cv_inline_terms.specs.declared.scope.Entry.{Entry}

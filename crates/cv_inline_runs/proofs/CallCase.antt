@@ -12,8 +12,8 @@ use Rattle.cv_meaning_laws.specs.Agreement.{AgreeOn}
 use Rattle.cv_meaning_laws.proofs.Agreeing.{values_agree}
 use Rattle.cv_meaning_contexts.specs.Groups.{Function}
 use Rattle.cv_meaning_contexts.specs.Bodies.{reply}
-use Rattle.cv_inline_bodies.specs.Inlined.{Caller, TheKey, is_index_of, inlined_call}
-use Rattle.cv_inline_bodies.specs.Roles.{Role, Plain, Replication, Gone, TheKeyName, Variable, Index, is_plain, is_elsewhere}
+use Rattle.cv_meaning_contexts.specs.Inlined.{Caller, TheKey, is_index_of, inlined_call}
+use Rattle.cv_meaning_contexts.specs.Roles.{Role, Plain, Replication, Gone, TheKeyName, Variable, Index, is_plain, is_elsewhere}
 use Rattle.cv_inline_bodies.specs.Inlining.{Inlining, Naming}
 use Rattle.cv_inline_bodies.specs.Related.{MadeUnder, with_made, KeyStays, KeepsMemories}
 use Rattle.cv_inline_bodies.proofs.Stages.{keys_agree}

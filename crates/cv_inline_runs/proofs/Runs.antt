@@ -13,7 +13,7 @@ use Rattle.cv_meaning_contexts.specs.Sides.{side_from}
 use Rattle.cv_meaning_runs.specs.Simulation.{HaveSameEvents, AreServedAlike, AreAlike, IsSimulation}
 use Rattle.cv_meaning_runs.proofs.Simulation.{games_alike}
 use Rattle.cv_meaning_runs.proofs.Ends.{experiments_alike, holds_alike}
-use Rattle.cv_inline_bodies.specs.Inlined.{Caller}
+use Rattle.cv_meaning_contexts.specs.Inlined.{Caller}
 use Rattle.cv_inline_bodies.specs.Related.{MadeUnder}
 use Rattle.cv_inline_games.specs.NextGame.{callers_of, next_in}
 use Rattle.cv_inline_runs.specs.Texts.{is_ordinary, Text, oracles_in, KeyKeeps}

@@ -20,8 +20,8 @@ use Rattle.cv_meaning_contexts.specs.Sides.{side_from}
 use Rattle.cv_meaning_contexts.specs.Bodies.{reply}
 use Rattle.cv_meaning_runs.specs.Simulation.{InOrder, AreServedAlike}
 use Rattle.cv_meaning_runs.proofs.Simulation.{in_order_append}
-use Rattle.cv_inline_bodies.specs.Inlined.{index_terms}
-use Rattle.cv_inline_bodies.specs.Roles.{Role, Plain, Replication, Gone, TheKeyName, Variable, Index, is_elsewhere, is_kept}
+use Rattle.cv_meaning_contexts.specs.Inlined.{index_terms}
+use Rattle.cv_meaning_contexts.specs.Roles.{Role, Plain, Replication, Gone, TheKeyName, Variable, Index, is_elsewhere, is_kept}
 use Rattle.cv_inline_bodies.specs.Related.{MadeUnder, with_made}
 use Rattle.cv_inline_bodies.proofs.Terms.{same_self}
 use Rattle.cv_inline_bodies.proofs.Stages.{put_here}

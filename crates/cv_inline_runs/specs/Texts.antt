@@ -14,10 +14,11 @@ use Rattle.cv_meaning_contexts.specs.Groups.{Function}
 use Rattle.cv_meaning_contexts.specs.Sites.{Site}
 use Rattle.cv_meaning_contexts.specs.Finds.{Oracles}
 use Rattle.cv_meaning_contexts.specs.Bodies.{function_called}
-use Rattle.cv_inline_bodies.specs.Inlined.{Caller, TheKey, index_terms, is_index_of, is_own, needed}
-use Rattle.cv_inline_bodies.specs.Roles.{Role, Plain, Replication, Gone, TheKeyName, Variable, Index, is_plain, is_elsewhere, is_kept}
+use Rattle.cv_meaning_contexts.specs.Inlined.{Caller, TheKey, index_terms, is_index_of, is_own, needed}
+use Rattle.cv_meaning_contexts.specs.Roles.{Role, Plain, Replication, Gone, TheKeyName, Variable, Index, is_plain, is_elsewhere, is_kept}
 use Rattle.cv_inline_bodies.specs.Inlining.{Inlining, Naming}
-use Rattle.cv_inline_bodies.specs.Accepted.{AreFineKeyTerms, IsFineCall}
+use Rattle.cv_inline_bodies.specs.Accepted.{IsFineCall}
+use Rattle.cv_meaning_contexts.specs.KeyTerms.{AreFineKeyTerms}
 use Rattle.cv_inline_bodies.specs.Related.{MadeUnder, RunPair, with_made, at_its_key, indices_at, IsKept, AreSitesOf}
 use Rattle.cv_inline_games.specs.NextGame.{InlinedCalls, callers_of}
 

@@ -14,7 +14,7 @@ ghost use Rattle.cv_meaning.specs.Experiments.{Experiment, holds_on, mode_of, ru
 ghost use Rattle.cv_meaning_runs.specs.Simulation.{AreAlike, AreServedAlike, InOrder};
 ghost use Rattle.cv_meaning_contexts.specs.Groups.{Function};
 ghost use Rattle.cv_meaning_contexts.specs.Bodies.{reply};
-ghost use Rattle.cv_inline_bodies.specs.Inlined.{Caller, TheKey, inlined_call};
+ghost use Rattle.cv_meaning_contexts.specs.Inlined.{Caller, TheKey, inlined_call};
 ghost use Rattle.cv_inline_bodies.specs.Related.{MadeUnder};
 ghost use Rattle.cv_inline_games.specs.NextGame.{callers_of, next_in};
 ghost use Rattle.cv_inline_runs.specs.Texts.{

@@ -5,7 +5,7 @@ use Rattle.cv_syntax.specs.declared.head.Head.{Head}
 use Rattle.cv_syntax.specs.declared.head.Head.TheVariants.{New, Let, If, Find, Branch, Cons}
 use Rattle.cv_syntax.specs.Tree.{Tree, Empty, Node, first_place, second_place, tree_at}
 use Rattle.cv_meaning_contexts.specs.Bodies.{body_place}
-use Rattle.cv_inline_bodies.specs.Inlined.{Caller}
+use Rattle.cv_meaning_contexts.specs.Inlined.{Caller}
 use Rattle.cv_inline_games.specs.Draws.{body_draws, branches_draws}
 use Rattle.cv_inline_sites.specs.Parts.{draws_at, draws_below, have_form, if_draws, own_draws}
 use Rattle.cv_inline_listing.specs.Subtrees.{IsNodeAt}

@@ -11,7 +11,7 @@ use Rattle.cv_inline_listing.specs.Callings.{callers_in, calling_in, callings_in
 use Rattle.cv_inline_terms.specs.Callers.{caller_in}
 use Rattle.cv_syntax.specs.Tree.{Tree, Empty, Node, first, second, size}
 use Rattle.cv_meaning.specs.Correspondences.{typed_names}
-use Rattle.cv_inline_bodies.specs.Inlined.{Caller}
+use Rattle.cv_meaning_contexts.specs.Inlined.{Caller}
 use Rattle.cv_inline_games.specs.Draws.{Draw, argument_draws, body_draws}
 use Rattle.cv_inline_listing.specs.Callings.{IsLiveCalling}
 use Rattle.cv_inline_sites.specs.Parts.{draws_below, own_draws}

@@ -4,7 +4,7 @@ use Rattle.cv_pool.specs.KindTree.{KindTree}
 use Rattle.cv_syntax.specs.declared.head.Head.{Head}
 use Rattle.cv_syntax.specs.declared.head.Head.TheVariants.{New, Let, If, Find, Branch, Cons}
 use Rattle.cv_syntax.specs.Tree.{Tree, Node, first_place, second_place, tree_at}
-use Rattle.cv_inline_bodies.specs.Inlined.{Caller}
+use Rattle.cv_meaning_contexts.specs.Inlined.{Caller}
 use Rattle.cv_inline_games.specs.Draws.{Draw, body_draws, branches_draws, index_draws}
 use Rattle.cv_inline_listing.specs.Listed.{variable_draw}
 use Rattle.cv_inline_listing.specs.declared.subtree.Subtree.{Subtree}

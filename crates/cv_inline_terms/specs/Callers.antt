@@ -5,7 +5,7 @@ use Rattle.cv_pool.specs.Nodes.{ChildBelow}
 use Rattle.std.specs.List.{list_any}
 use Rattle.cv_syntax.specs.declared.head.Head.TheVariants.{Leaf}
 use Rattle.cv_syntax.specs.Tree.{Tree, lone, tree_at}
-use Rattle.cv_inline_bodies.specs.Inlined as bodies
+use Rattle.cv_meaning_contexts.specs.Inlined as bodies
 use Rattle.cv_inline_terms.specs.declared.caller.Caller.{Caller}
 use Rattle.cv_inline_terms.specs.declared.calling.Calling.{Calling}
 

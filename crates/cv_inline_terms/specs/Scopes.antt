@@ -2,7 +2,7 @@
 use Rattle.std.specs.Prelude.{ℕ, ◌==◌, if◌then◌else◌, List, map, reverse, Option, Some, None}
 use Rattle.cv_syntax.specs.declared.head.Head.TheVariants.{Yes, No}
 use Rattle.cv_syntax.specs.Tree.{Tree, lone}
-use Rattle.cv_inline_bodies.specs.Inlined as bodies
+use Rattle.cv_meaning_contexts.specs.Inlined as bodies
 use Rattle.cv_inline_terms.specs.declared.scope.Called.{Called}
 use Rattle.cv_inline_terms.specs.declared.scope.Entry.{Entry}
 use Rattle.cv_inline_terms.specs.declared.scope.Standing.{Standing}

@@ -1,6 +1,6 @@
 ghost use Rattle.std.specs.Prelude.{◌≡◌, ◌∷◌, IfOk, length};
-ghost use Rattle.cv_inline_bodies.specs.Inlined as bodies;
-ghost use Rattle.cv_inline_bodies.specs.Inlined.{all_equal, read_at};
+ghost use Rattle.cv_meaning_contexts.specs.Inlined as bodies;
+ghost use Rattle.cv_meaning_contexts.specs.Inlined.{all_equal, read_at};
 ghost use Rattle.cv_syntax.specs.Tree as tree;
 ghost use Rattle.cv_syntax.specs.declared.head.Head.TheVariants as head;
 ghost use Rattle.cv_inline_terms.specs.Drawings.{drawn_in};
@@ -81,7 +81,7 @@ pub fn read_tuple(
 }
 
 /// Adds the equations between the indices of two calls.
-#[tactic(auto, unfolding(crate::specs::Stacks::tuple_at, cv_inline_bodies::specs::Inlined::all_equal))]
+#[tactic(auto, unfolding(crate::specs::Stacks::tuple_at, cv_meaning_contexts::specs::Inlined::all_equal))]
 pub fn equations(
     parts: &mut Vec<Make>,
     replications: &[(u32, u32)],

@@ -7,7 +7,7 @@ use Rattle.std.proofs.lemmas.Option.{slice_get-get_or, slice_get_past}
 use Rattle.cv_pool.specs.KindTree.{KindTree}
 use Rattle.cv_pool.specs.declared.node.NodeId.{NodeId}
 use Rattle.cv_syntax.specs.Tree.{Tree, tree_at}
-use Rattle.cv_inline_bodies.specs.Inlined.{Drawn, in_game, index_terms}
+use Rattle.cv_meaning_contexts.specs.Inlined.{Drawn, in_game, index_terms}
 use Rattle.cv_inline_games.specs.NextGame as game
 use Rattle.cv_inline_games.specs.NextGame.{numbered}
 use Rattle.cv_inline_terms.specs.declared.calling.Calling.{Calling}

@@ -17,9 +17,10 @@ use Rattle.cv_meaning_contexts.specs.Frames.{put_at}
 use Rattle.cv_meaning_contexts.specs.BodyTerms.{body_value}
 use Rattle.cv_meaning_contexts.specs.Finds.{picks_at, picks, picked}
 use Rattle.cv_meaning_contexts.specs.Bodies.{body_answer, branch_answer, reply}
-use Rattle.cv_inline_bodies.specs.Inlined.{index_terms, needed}
-use Rattle.cv_inline_bodies.specs.Roles.{Plain, Replication, Gone, Variable, Index, is_plain}
-use Rattle.cv_inline_bodies.specs.Accepted.{IsFineKeyTerm, IsFineTerm, IsFineBody, IsFineCall}
+use Rattle.cv_meaning_contexts.specs.Inlined.{index_terms, needed}
+use Rattle.cv_meaning_contexts.specs.Roles.{Plain, Replication, Gone, Variable, Index, is_plain}
+use Rattle.cv_inline_bodies.specs.Accepted.{IsFineTerm, IsFineBody, IsFineCall}
+use Rattle.cv_meaning_contexts.specs.KeyTerms.{IsFineKeyTerm}
 use Rattle.cv_inline_games.specs.NextGame.{Calling, names_assigned, call_of, callings_from, inlined_calls_of}
 use Rattle.cv_inline_games.specs.Draws.{same_role, same_find, index_draws, body_draws, finds_in, name_for, is_drawn}
 use Rattle.cv_inline_games.specs.Worked.{at, one_sender}

@@ -20,7 +20,7 @@ use Rattle.cv_derivations.specs.Targets.{equality, falsity}
 use Rattle.cv_scenes.specs.Derivations.{first_bad_line}
 use Rattle.cv_scenes.specs.Pruning.{Part, Pruned, pruned}
 use Rattle.cv_scenes.specs.Sights.{sight_at}
-use Rattle.cv_meaning_runs.specs.Replacement.{replaced}
+use Rattle.cv_meaning.specs.Replaced.{replaced}
 use Rattle.cv_scenes.specs.Scenes.{Scene, first_reading, is_chosen, is_new, is_output_at, is_queried, is_type, part_at}
 use Rattle.cv_steps.specs.Steps.{Step, Split, Let, New, Unnew, Rewrite, Prune, Zero}
 use Rattle.cv_scenes.specs.Terms.{is_bool_at, is_game, is_term_at}

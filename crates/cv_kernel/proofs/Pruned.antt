@@ -5,7 +5,7 @@ use Rattle.std.specs.Prelude.{IfSome, IsNone, option_map}
 use Rattle.cv_pool.specs.PoolView.{PoolView}
 use Rattle.cv_syntax.specs.declared.work.BuildError.TheVariants as build
 use Rattle.cv_syntax.specs.Tree.{Tree}
-use Rattle.cv_meaning_runs.specs.Replacement.{replaced}
+use Rattle.cv_meaning.specs.Replaced.{replaced}
 use Rattle.cv_scenes.specs.Pruning.{Part, Pruned, pruned}
 use Rattle.cv_scenes.specs.Scenes.{part_at}
 use Rattle.cv_steps.specs.Changes.{change_at, left_or, without_body}

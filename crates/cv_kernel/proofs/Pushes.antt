@@ -14,7 +14,7 @@ use Rattle.cv_syntax.specs.declared.work.BuildError.TheVariants as build
 use Rattle.cv_syntax.specs.Declarations.{Named, Equation, Equiv, Query, declared, declarations, number}
 use Rattle.cv_syntax.specs.Tree.{Tree, depth, size, tree_at}
 use Rattle.cv_syntax.proofs.Buildings.{child-grown}
-use Rattle.cv_typing.specs.Lookups.{IsLive}
+use Rattle.cv_directory.specs.Live.{IsLive}
 use Rattle.cv_bound.specs.declared.cost.Cost.{Cost as SumCost}
 use Rattle.cv_bound.specs.declared.terms.Term.{Term}
 use Rattle.cv_bound.specs.Sums.{AllFit, added, with_terms}

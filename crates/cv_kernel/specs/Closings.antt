@@ -2,7 +2,7 @@
 -- profile's own.
 use Rattle.std.specs.Prelude.{ℕ, if◌then◌else◌, List, Option, Some, None, option_and_then}
 use Rattle.cv_syntax.specs.Tree.{Tree}
-use Rattle.cv_query_form.specs.Queries.{queries_in}
+use Rattle.cv_meaning.specs.Queries.{queries_in}
 use Rattle.cv_query_certificates.specs.Failures.{Failure, first_failure}
 use Rattle.cv_scenes.specs.Scenes.{Scene}
 use Rattle.cv_scenes.specs.Sights.{from_one}

@@ -1,7 +1,7 @@
 ghost use Rattle.std.specs.Prelude.{◌≡◌, ◌+◌, ◌<◌, ◌≤◌, ◌^◌, [], All, IfSome, None, OnErr, OnOk, Some, length, option_map};
 ghost use Rattle.cv_pool.specs.PoolView.{Grows};
 ghost use Rattle.cv_syntax.specs.Tree.{tree_at};
-ghost use Rattle.cv_typing.specs.Lookups.{IsLive};
+ghost use Rattle.cv_directory.specs.Live.{IsLive};
 ghost use Rattle.cv_rule.specs.Stated.{step_of};
 ghost use Rattle.cv_pool.specs.Nodes.{ChildBelow};
 ghost use Rattle.cv_rule_scenes.specs.Kept.{scene_of};

@@ -5,7 +5,7 @@ ghost use Rattle.cv_meaning.specs.Correspondences.{typed_names};
 ghost use Rattle.cv_meaning_contexts.specs.Groups.{function_of};
 ghost use Rattle.cv_scenes.specs.Scenes.{is_queried};
 ghost use Rattle.cv_scenes.specs.Sights as sights;
-ghost use Rattle.cv_typing.specs.Lookups.{IsLive};
+ghost use Rattle.cv_directory.specs.Live.{IsLive};
 ghost use Rattle.cv_scenes.specs.Instances.{term_for};
 ghost use Rattle.cv_scenes.specs.Refusals as refusals;
 ghost use Rattle.cv_scenes.specs.Refusals.{new_of, stands_under};

@@ -16,3 +16,5 @@ pub mod Experiments
 pub mod Chances
 pub mod Advantage
 pub mod Direct
+pub mod Queries
+pub mod Replaced

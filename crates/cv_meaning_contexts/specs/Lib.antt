@@ -9,3 +9,6 @@ pub mod ContextAdvantage
 pub mod Made
 pub mod OwnCells
 pub mod Worked
+pub mod Inlined
+pub mod Roles
+pub mod KeyTerms

@@ -11,7 +11,8 @@ use Rattle.cv_meaning.specs.Terms.{is_one, value_here}
 use Rattle.cv_meaning.specs.Inputs.{inputs_of}
 use Rattle.cv_meaning.specs.Serving.{step, serve, visits}
 use Rattle.cv_meaning_runs.specs.Simulation.{InOrder, AreServedAlike}
-use Rattle.cv_meaning_runs.specs.Replacement.{AreLikeInputs, SameMemory, ServeAlike, is_output, if_tree, IsDecided}
+use Rattle.cv_meaning_runs.specs.Replacement.{AreLikeInputs, SameMemory, ServeAlike, if_tree, IsDecided}
+use Rattle.cv_meaning.specs.Replaced.{is_output}
 use Rattle.cv_meaning_runs.proofs.Replacement.{inputs_same, serve_same}
 
 pub output_begins : (g : Setting) (t : Tape) (b : Tree) (p k : ℕ) (vs : List ℕ) (s : Local) → is_output b ≡ true → serve g t b p k vs s ≡ serve g t b p 0 [] s

@@ -5,7 +5,8 @@ use Rattle.cv_syntax.specs.declared.head.Head.{Head}
 use Rattle.cv_syntax.specs.declared.head.Head.TheVariants.{Par, Find, Branch, Cons, Binder, Name, Number, Forall, Query, Occurs, OccursOnce, Secret, SecretOnce, Equivalence, Bound, Single, Oracle}
 use Rattle.cv_syntax.specs.Head.{weight}
 use Rattle.cv_syntax.specs.Tree.{Tree, Empty, Node, size, subtree, second_place}
-use Rattle.cv_meaning_runs.specs.Replacement.{Part, Process, Branches, IsReplaced, here, in_continuation, in_parallel, in_list, in_find, in_branch, in_later_branch, replaced, in_first, before_body, may_come}
+use Rattle.cv_meaning_runs.specs.Replacement.{Part, Process, Branches, IsReplaced, here, in_continuation, in_parallel, in_list, in_find, in_branch, in_later_branch, in_first, before_body, may_come}
+use Rattle.cv_meaning.specs.Replaced.{replaced}
 
 weight_small : (h : Head) → weight h ≤ 1
 weight_small Cons = omega arith

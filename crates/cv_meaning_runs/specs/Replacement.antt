@@ -3,7 +3,7 @@
 use Rattle.std.specs.Prelude.{◌≡◌, ℕ, ◌+◌, ◌-◌, Bool, true, false, nat_lt, if◌then◌else◌, List, ◌⊎◌}
 use Rattle.std.specs.List.{AllByRecursion}
 use Rattle.cv_syntax.specs.declared.head.Head.{Head}
-use Rattle.cv_syntax.specs.declared.head.Head.TheVariants.{Yield, Par, Out, Event, New, Let, If, Find, Branch, Cons, Key, Call}
+use Rattle.cv_syntax.specs.declared.head.Head.TheVariants.{Par, If, Find, Branch, Cons}
 use Rattle.cv_syntax.specs.Head.{weight}
 use Rattle.cv_syntax.specs.Tree.{Tree, Empty, Node, first, size, first_place, second_place}
 use Rattle.cv_meaning.specs.Tapes.{Tape}
@@ -36,13 +36,6 @@ pub data IsReplaced (old new : Tree) (place : ℕ) : Part → ℕ → Tree → T
       → IsReplaced old new place Branches p (Node Cons (Node Branch binders (Node Cons defined (Node Cons condition b))) more)
       (Node Cons (Node Branch binders (Node Cons defined (Node Cons condition c))) more)
   in_later_branch : {p : ℕ} {a b c : Tree} → IsReplaced old new place Branches (second_place p Cons a) b c → IsReplaced old new place Branches p (Node Cons a b) (Node Cons a c)
-
--- the tree with another subtree at a place
-unfoldable pub replaced : Tree → ℕ → Tree → Tree
-replaced Empty p new = Empty
-replaced (Node h a b) p new =
-    if nat_lt p (weight h) then new else
-    if nat_lt p (weight h + size a) then Node h (replaced a (p - weight h) new) b else Node h a (replaced b (p - (weight h + size a)) new)
 
 -- of the first children, those of these heads alone hold processes
 abbrev pub in_first : Head → Bool → Bool → Bool
@@ -86,19 +79,6 @@ pub record IsLocalChange (Expected : Visit → Type 0) (a : Adversary) (g : Sett
   pub replaced : IsReplaced old new place Process 0 game next
   pub alike : ServeAlike Expected g t old new place
   pub visited : AllByRecursion Expected (visits_of_run g m a game t)
-
--- an output process
-abbrev pub is_output : Tree → Bool
-is_output (Node Yield a b) = true
-is_output (Node (Out c) a b) = true
-is_output (Node (Event e) a b) = true
-is_output (Node (New x T) a b) = true
-is_output (Node (Let x T) a b) = true
-is_output (Node If a b) = true
-is_output (Node (Find l) a b) = true
-is_output (Node (Key x) a b) = true
-is_output (Node (Call x l) a b) = true
-is_output b = false
 
 -- an `if` with its condition and its two bodies
 abbrev pub if_tree : Tree → Tree → Tree → Tree

@@ -45,19 +45,8 @@ ghost use Rattle.cv_meaning_runs.specs.Simulation.{
   IsSimulation,
   IsGameSimulation,
 };
-ghost use Rattle.cv_meaning_runs.specs.Replacement.{
-  AreLikeInputs,
-  IsLocalChange,
-  IsReplaced,
-  Process,
-  SameMemory,
-  ServeAlike,
-  IsDecided,
-  if_tree,
-  is_output,
-  may_come,
-  replaced,
-};
+ghost use Rattle.cv_meaning_runs.specs.Replacement.{AreLikeInputs, IsLocalChange, IsReplaced, Process, SameMemory, ServeAlike, IsDecided, if_tree, may_come};
+ghost use Rattle.cv_meaning.specs.Replaced.{is_output, replaced};
 ghost use Rattle.cv_meaning_runs.specs.Placed.{
   IsPassedDown,
   InputHas,

@@ -19,7 +19,8 @@ use Rattle.cv_meaning.specs.Experiments.{Experiment, mode_of, holds_on, run, vis
 use Rattle.cv_meaning_laws.specs.Agreement.{AgreeOn}
 use Rattle.cv_meaning_runs.specs.Agreement.{AgreeAt}
 use Rattle.cv_meaning_runs.specs.Simulation.{InOrder, AreAlike, IsGameSimulation}
-use Rattle.cv_meaning_runs.specs.Replacement.{Part, Process, Branches, is_output}
+use Rattle.cv_meaning_runs.specs.Replacement.{Part, Process, Branches}
+use Rattle.cv_meaning.specs.Replaced.{is_output}
 use Rattle.cv_meaning_runs.proofs.Simulation.{in_order_append, games_alike}
 use Rattle.cv_meaning_runs.proofs.Ends.{experiments_alike, holds_alike}
 use Rattle.cv_meaning_runs.proofs.Outputs.{output_opens}

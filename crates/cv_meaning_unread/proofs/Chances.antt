@@ -19,7 +19,8 @@ use Rattle.cv_meaning_chances.specs.Tests.{Ignores, IgnoresOthers}
 use Rattle.cv_meaning_runs.specs.Agreement.{IsLocal}
 use Rattle.cv_meaning_runs.specs.Listed.{IsTestable, has_no_calls}
 use Rattle.cv_meaning_runs.specs.Simulation.{InOrder, AreServedAlike}
-use Rattle.cv_meaning_runs.specs.Replacement.{Process, IsReplaced, AreLikeInputs, SameMemory, ServeAlike, is_output, if_tree}
+use Rattle.cv_meaning_runs.specs.Replacement.{Process, IsReplaced, AreLikeInputs, SameMemory, ServeAlike, if_tree}
+use Rattle.cv_meaning.specs.Replaced.{is_output}
 use Rattle.cv_meaning_runs.proofs.Outputs.{output_begins, output_opens, served_elsewhere}
 use Rattle.cv_meaning_runs.proofs.Replacement.{replaced_holds}
 use Rattle.cv_meaning_alignment.proofs.Closing.{others_ignored_in_games}

@@ -3,7 +3,8 @@ use Rattle.std.proofs.Common.{◌≡◌, ℕ, Bool, true}
 use Rattle.cv_syntax.specs.declared.head.Head.{Head}
 use Rattle.cv_syntax.specs.declared.head.Head.TheVariants.{Par, Find, Branch, Cons}
 use Rattle.cv_syntax.specs.Tree.{Tree, Node}
-use Rattle.cv_meaning_runs.specs.Replacement.{Part, Process, Branches, IsReplaced, is_output}
+use Rattle.cv_meaning_runs.specs.Replacement.{Part, Process, Branches, IsReplaced}
+use Rattle.cv_meaning.specs.Replaced.{is_output}
 use Rattle.cv_meaning_runs.specs.Replacement as at
 use Rattle.cv_meaning_unread.specs.Dropping.{defines, reads_none, is_still, IsDropped, same, gone, kept, in_parallel, in_list, in_find, in_branch, in_later_branch}
 use Rattle.cv_meaning_unread.proofs.Unread.{first_reads, second_reads}

@@ -7,7 +7,8 @@ use Rattle.cv_meaning.specs.Memory.{Memory}
 use Rattle.cv_meaning.specs.Inputs.{Input, message_binders}
 use Rattle.cv_meaning.specs.Runs.{Mode, Events, Real, Random}
 use Rattle.cv_meaning_laws.specs.Agreement.{AgreeOn}
-use Rattle.cv_meaning_runs.specs.Replacement.{Part, Process, Branches, is_output}
+use Rattle.cv_meaning_runs.specs.Replacement.{Part, Process, Branches}
+use Rattle.cv_meaning.specs.Replaced.{is_output}
 
 -- the construct defines one of these variables, by `new` or `let`
 abbrev pub defines : (ℕ → Bool) → Head → Bool

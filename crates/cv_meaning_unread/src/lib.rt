@@ -13,13 +13,8 @@ ghost use Rattle.cv_meaning.specs.Chances.{Same};
 ghost use Rattle.cv_meaning.specs.Advantage.{chance_of};
 ghost use Rattle.cv_meaning_runs.specs.Agreement.{IsLocal};
 ghost use Rattle.cv_meaning_runs.specs.Listed.{IsTestable, has_no_calls};
-ghost use Rattle.cv_meaning_runs.specs.Replacement.{
-  IsReplaced,
-  Process,
-  ServeAlike,
-  if_tree,
-  is_output,
-};
+ghost use Rattle.cv_meaning_runs.specs.Replacement.{IsReplaced, Process, ServeAlike, if_tree};
+ghost use Rattle.cv_meaning.specs.Replaced.{is_output};
 ghost use Rattle.cv_meaning_runs.specs.Simulation.{AreAlike};
 ghost use Rattle.cv_meaning_unread.specs.Dropping.{
   AgreesOff,

@@ -8,7 +8,7 @@ use Rattle.cv_parse_notation.specs.declared.sign.Sign.{Sign}
 use Rattle.cv_parse_grammar.specs.Whole.{IsRead}
 use Rattle.cv_parse.specs.Parsed.{Parsed, parsed}
 use Rattle.cv_parse.proofs.Exactness.{said_is_saying}
-use Rattle.cv_query_form.specs.Queries.{queries_in}
+use Rattle.cv_meaning.specs.Queries.{queries_in}
 use Rattle.cv_typing.specs.Parts.{AreTyped, IsTypedFile, declaration_parts, game_part, local_names, query_part, IsTypedPart}
 use Rattle.cv_typing.specs.Signature.{OfNothing, Signature}
 use Rattle.cv_typing.specs.Typing.{IsTyped}

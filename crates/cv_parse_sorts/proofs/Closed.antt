@@ -23,7 +23,8 @@ use Rattle.cv_directory.specs.declared.sort.Sort.{Sort}
 use Rattle.cv_directory.specs.declared.sort.Sort.TheVariants.{OfType}
 use Rattle.cv_directory.specs.Sites.{first_of}
 use Rattle.cv_typing.specs.Parts.{AreTyped, IsTypedFile, Part, declaration_parts, game_part, local_names, nothing_above}
-use Rattle.cv_typing.specs.Signature.{Above, Function, OfNothing, Signature, arity_by, boolean, count, function_by, function_in, is_arity, names_in, sort_by}
+use Rattle.cv_typing.specs.Signature.{Above, Function, OfNothing, Signature, arity_by, boolean, function_by, function_in, is_arity, names_in, sort_by}
+use Rattle.cv_directory.specs.Counting.{count}
 use Rattle.cv_typing.specs.Typing.{IsTyped, fault_of, site_differs, value_fault}
 use Rattle.cv_typing.specs.Wants.{Of, Want, all_bound, bound, is_wrong}
 use Rattle.cv_first_fault.specs.Walk.{IsObeyed}

@@ -7,7 +7,7 @@ use Rattle.cv_syntax.specs.Declarations.{Declaration}
 use Rattle.cv_parse_terminals.specs.Signs.{signs_of}
 use Rattle.cv_parse.specs.Parsed.{Parsed, bool_type}
 use Rattle.cv_parse.specs.Says.{Says}
-use Rattle.cv_query_form.specs.Queries.{queries_in}
+use Rattle.cv_meaning.specs.Queries.{queries_in}
 use Rattle.cv_scenes.specs.Scenes.{KnowsQueries, asks_for}
 use Rattle.cv_steps.specs.Sequences.{scene}
 use Rattle.cv_parse_sorts.proofs.Queries.{names_asked}

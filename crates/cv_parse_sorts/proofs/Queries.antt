@@ -15,7 +15,7 @@ use Rattle.cv_parse_grammar.specs.Phrases.{Sort}
 use Rattle.cv_parse_grammar.specs.Rules.{File, file, heads, rule}
 use Rattle.cv_parse_grammar.specs.Whole.{IsRead}
 use Rattle.cv_meaning_adequacy.proofs.Lists.{or_cases}
-use Rattle.cv_query_form.specs.Queries.{queries_in}
+use Rattle.cv_meaning.specs.Queries.{queries_in}
 use Rattle.cv_parse_yields.proofs.Yielding.{Gives, a_word, anything, before, behind, follow, forms_tell, one_of, several, turned}
 use Rattle.cv_parse_roles.proofs.Forms.{enclosed}
 use Rattle.cv_scenes.specs.Scenes.{asks_for}

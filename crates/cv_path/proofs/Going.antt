@@ -13,7 +13,7 @@ use Rattle.cv_syntax.specs.declared.head.Head.{Head}
 use Rattle.cv_syntax.specs.Head.{weight}
 use Rattle.cv_syntax.specs.Tree.{Tree, Empty, Node, second, size, subtree, tree_at}
 use Rattle.cv_syntax.specs.Walks.{above}
-use Rattle.cv_meaning_runs.specs.Replacement.{replaced}
+use Rattle.cv_meaning.specs.Replaced.{replaced}
 use Rattle.cv_path.specs.declared.place.Lies.TheVariants.{Here, Within, Behind}
 use Rattle.cv_path.specs.declared.replacing.Turn.{Turn}
 use Rattle.cv_path.specs.Places.{LiesAt, nodes_above}

@@ -2,7 +2,7 @@ ghost use Rattle.std.specs.Prelude.{◌≡◌, ◌+◌, ◌<◌, ◌≤◌, ◌^
 ghost use Rattle.cv_pool.specs.Nodes.{ChildBelow};
 ghost use Rattle.cv_pool.specs.PoolView.{Grows};
 ghost use Rattle.cv_syntax.specs.Tree.{Node, Tree, size, subtree, tree_at};
-ghost use Rattle.cv_meaning_runs.specs.Replacement.{replaced};
+ghost use Rattle.cv_meaning.specs.Replaced.{replaced};
 ghost use Rattle.cv_path.specs.Places.{nodes_above};
 ghost use Rattle.cv_path.specs.Refusals.{no_memory, refusal};
 ghost use Rattle.cv_path.specs.Ways.{led, turned};

@@ -10,7 +10,7 @@ use Rattle.cv_syntax.specs.Declarations.{declarations}
 use Rattle.cv_pool.specs.KindTree.{KindTree}
 use Rattle.cv_syntax.specs.Tree.{tree_at}
 use Rattle.cv_parse.specs.Declaring.{IsBelow}
-use Rattle.cv_query_form.specs.Queries.{queries_in}
+use Rattle.cv_meaning.specs.Queries.{queries_in}
 
 pub queries-same : (trees : List KindTree) (ds : List Decl) → queries_in (declarations trees ds) ≡ map (λ n. tree_at trees (Some n)) (queries ds)
 unfolding queries_in

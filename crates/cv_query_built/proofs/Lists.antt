@@ -10,10 +10,10 @@ use Rattle.cv_syntax.specs.declared.decls.Decl.{Decl}
 use Rattle.cv_syntax.specs.declared.decls.Decl.TheVariants as decl
 use Rattle.cv_syntax.specs.Classes.{query_of}
 use Rattle.cv_syntax.specs.Declarations.{declarations}
-use Rattle.cv_typing.specs.Lookups.{IsLive}
+use Rattle.cv_directory.specs.Live.{IsLive}
 use Rattle.cv_syntax.specs.Tree.{Tree}
 use Rattle.cv_scenes.specs.Sights.{from_one}
-use Rattle.cv_query_form.specs.Queries.{queries_in}
+use Rattle.cv_meaning.specs.Queries.{queries_in}
 use Rattle.cv_query_form.proofs.Parts.{queries-past, queries-skip, queries-take}
 use Rattle.cv_script.specs.declared.steps.Step.{Step}
 use Rattle.cv_query_built.specs.Built.{is_unbuilt_step, tree_of}

@@ -1,8 +1,8 @@
 ghost use Rattle.std.specs.Prelude.{◌≡◌, ◌<◌, ℕ, All, IfOk, IfSome, List, length, map, option_map};
 ghost use Rattle.cv_pool.specs.KindTree.{KindTree};
 ghost use Rattle.cv_syntax.specs.Declarations.{declarations};
-ghost use Rattle.cv_typing.specs.Lookups.{IsLive};
-ghost use Rattle.cv_query_form.specs.Queries.{queries_in};
+ghost use Rattle.cv_directory.specs.Live.{IsLive};
+ghost use Rattle.cv_meaning.specs.Queries.{queries_in};
 ghost use Rattle.cv_scenes.specs.Sights.{from_one};
 ghost use Rattle.cv_query_built.specs.Built as built;
 ghost use Rattle.cv_query_built.specs.Built.{tree_of};

@@ -5,7 +5,7 @@ use Rattle.cv_first_fault.specs.Walk.{first_fault}
 use Rattle.cv_syntax.specs.Tree.{reads_only, size, subtree, same_tree}
 use Rattle.cv_directory.specs.Sites.{bound_sort, first_index, first_site}
 use Rattle.cv_typing.specs.Signature.{names_in}
-use Rattle.cv_typing.specs.Signature as typing
+use Rattle.cv_directory.specs.Counting as counting
 use Rattle.cv_typing.specs.Typing.{binders_differ}
 use Rattle.cv_scope.specs.Context.{context_at}
 use Rattle.cv_scope.specs.Made.{is_bound}
@@ -22,13 +22,13 @@ use Rattle.cv_query_certificates.specs.Failures.{first_failure}
 use Rattle.cv_query_certificates.specs.Worked.{cell_cases, direct, direct_cases, one_site, two_sites, two_sites_cases}
 
 pub direct_judged : AllByRecursion (λ c. first_failure direct c.0 c.1 ≡ c.2) direct_cases
-unfolding first_fault size subtree same_tree first_index first_site bound_sort binders_differ typing.count context_at is_bound is_phrase is_there standing_at names_in sites_in with_given lines_of lines.count statements first_bad event_places reads_only
+unfolding first_fault size subtree same_tree first_index first_site bound_sort binders_differ counting.count context_at is_bound is_phrase is_there standing_at names_in sites_in with_given lines_of lines.count statements first_bad event_places reads_only
 direct_judged = (refl, (refl, (refl, (refl, (refl, (refl, (refl, (refl, (refl, (refl, (refl, (refl, (refl, (refl, tt))))))))))))))
 
 pub cells_judged : AllByRecursion (λ c. first_failure one_site c.0 c.1 ≡ c.2) cell_cases
-unfolding first_fault size subtree same_tree first_index first_site bound_sort binders_differ typing.count context_at is_bound is_phrase is_there standing_at names_in sites_in with_given lines_of lines.count statements first_bad event_places reads_only
+unfolding first_fault size subtree same_tree first_index first_site bound_sort binders_differ counting.count context_at is_bound is_phrase is_there standing_at names_in sites_in with_given lines_of lines.count statements first_bad event_places reads_only
 cells_judged = (refl, (refl, (refl, tt)))
 
 pub two_sites_judged : AllByRecursion (λ c. first_failure two_sites c.0 c.1 ≡ c.2) two_sites_cases
-unfolding first_fault size subtree same_tree first_index first_site bound_sort binders_differ typing.count context_at is_bound is_phrase is_there standing_at names_in sites_in with_given lines_of lines.count statements first_bad event_places reads_only
+unfolding first_fault size subtree same_tree first_index first_site bound_sort binders_differ counting.count context_at is_bound is_phrase is_there standing_at names_in sites_in with_given lines_of lines.count statements first_bad event_places reads_only
 two_sites_judged = (refl, tt)

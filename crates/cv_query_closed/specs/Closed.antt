@@ -5,7 +5,7 @@ use Rattle.cv_syntax.specs.declared.head.Head.TheVariants.{Occurs, OccursOnce, Q
 use Rattle.cv_syntax.specs.Declarations.{Declaration}
 use Rattle.cv_syntax.specs.Tree.{Tree, Empty, Node, bound_names}
 use Rattle.cv_meaning.specs.Interpretation.{is_constant_of}
-use Rattle.cv_query_form.specs.Queries.{queries_in}
+use Rattle.cv_meaning.specs.Queries.{queries_in}
 use Rattle.cv_derivations_under.specs.Truth.{AreOver, IsOver, is_name_of}
 
 -- one of the names, or a constant

@@ -7,7 +7,7 @@ use Rattle.cv_syntax.specs.Tree.{Tree, size, tree_at}
 use Rattle.cv_directory.specs.Definitions.{entries_of, large_in}
 use Rattle.cv_directory.specs.Sites.{sites_of}
 use Rattle.cv_directory.specs.Tables.{entries_in}
-use Rattle.cv_typing.specs.Lookups.{IsLive}
+use Rattle.cv_directory.specs.Live.{IsLive}
 use Rattle.cv_typing.specs.Signature.{OfGame}
 use Rattle.cv_typing.specs.Tables.{arrays_of, directory_in}
 use Rattle.cv_scope.specs.Phrases.{IsWellFormed}

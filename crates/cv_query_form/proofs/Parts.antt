@@ -18,10 +18,10 @@ use Rattle.cv_syntax.specs.Classes.{query_of}
 use Rattle.cv_syntax.proofs.Trees.{tree_at-None, empty_at}
 use Rattle.cv_meaning.specs.Binders.{bound_names}
 use Rattle.cv_meaning.specs.Correspondences.{is_once}
-use Rattle.cv_typing.specs.Lookups.{IsLive}
+use Rattle.cv_directory.specs.Live.{IsLive}
 use Rattle.cv_directory.specs.Sites.{SitesView, sites_of}
 use Rattle.cv_query_form.specs.Held.{valued, cell_variable, event_passes, events_pass, correspondence_passes, secret_passes, node_passes}
-use Rattle.cv_query_form.specs.Queries.{queries_in}
+use Rattle.cv_meaning.specs.Queries.{queries_in}
 use Rattle.cv_query_form.specs.Tests.{without, are_distinct, are_marked_alike, is_left_event, some_is_marked, passes, may_be_asked, first_refused}
 use Rattle.cv_query_form.proofs.First.{passed, stopped}
 

@@ -1,4 +1,3 @@
-pub mod Queries
 pub mod Rules
 pub mod Tests
 pub mod Refusals

@@ -3,7 +3,7 @@ ghost use Rattle.cv_pool.specs.Nodes.{ChildBelow};
 ghost use Rattle.cv_syntax.specs.Tree as tree;
 ghost use Rattle.cv_syntax.specs.Tree.{tree_at};
 ghost use Rattle.cv_scenes.specs.Scenes as scenes;
-ghost use Rattle.cv_meaning_runs.specs.Replacement.{is_output as is_output_tree};
+ghost use Rattle.cv_meaning.specs.Replaced.{is_output as is_output_tree};
 ghost use Rattle.cv_rule_scenes.specs.Kept.{scene_of};
 
 use cv_path::at;

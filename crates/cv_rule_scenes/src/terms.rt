@@ -4,7 +4,7 @@ ghost use Rattle.cv_directory.specs.declared.sort.Sort.TheVariants.{BelowParamet
 ghost use Rattle.cv_scope.specs.Context.{replications_below};
 ghost use Rattle.cv_syntax.specs.Tree.{size, tree_at};
 ghost use Rattle.cv_typing.specs.declared.precedence.Precedence.TheVariants.{Newest};
-ghost use Rattle.cv_typing.specs.Lookups.{IsLive};
+ghost use Rattle.cv_directory.specs.Live.{IsLive};
 ghost use Rattle.cv_typing.specs.Signature.{OfGame, boolean};
 ghost use Rattle.cv_typing.specs.Tables.{above_of, arrays_of};
 ghost use Rattle.cv_typing.specs.Wants.{bound};

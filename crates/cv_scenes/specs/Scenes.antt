@@ -6,10 +6,10 @@ use Rattle.cv_syntax.specs.declared.head.Head.{Head}
 use Rattle.cv_syntax.specs.declared.head.Head.TheVariants.{Repl, New, Let, Binder, Name, Leaf, Read, Key, Call, Secret, SecretOnce}
 use Rattle.cv_syntax.specs.Declarations.{Declaration, Named}
 use Rattle.cv_syntax.specs.Tree.{Tree, Empty, Node, size, subtree, first_place, second_place}
-use Rattle.cv_meaning_runs.specs.Replacement.{is_output}
+use Rattle.cv_meaning.specs.Replaced.{is_output}
 use Rattle.cv_directory.specs.Sites.{first_of}
 use Rattle.cv_typing.specs.Signature.{declaration_of}
-use Rattle.cv_query_form.specs.Queries.{queries_in}
+use Rattle.cv_meaning.specs.Queries.{queries_in}
 use Rattle.cv_scope.specs.Sites.{Variable}
 use Rattle.cv_scope.specs.Made.{made_by}
 

@@ -6,7 +6,7 @@ use Rattle.std.proofs.lemmas.Bool.{and_parts, and_from, or_cases, or_left, or_ri
 use Rattle.cv_syntax.specs.declared.head.Head.{Head}
 use Rattle.cv_syntax.specs.declared.head.Head.TheVariants.{Repl, Branch, Leaf, Read}
 use Rattle.cv_syntax.specs.Tree.{Tree, Node, same_tree}
-use Rattle.cv_typing.specs.Signature.{count}
+use Rattle.cv_directory.specs.Counting.{count}
 use Rattle.cv_scope.specs.declared.fault.Fault.{Fault}
 use Rattle.cv_scope.specs.declared.fault.Fault.TheVariants.{Unscoped, TwoSites, Channel, Replications}
 use Rattle.cv_scope.specs.declared.position.Position.{Position}

@@ -9,7 +9,7 @@ use Rattle.cv_syntax.specs.declared.head.Head.TheVariants.{Repl, In, Event, New,
 use Rattle.cv_syntax.specs.Head.{same_head}
 use Rattle.cv_syntax.specs.Tree.{Tree, Empty, Node, second, lone, same_tree}
 use Rattle.cv_syntax.specs.Children.{is_empty, is_leaf}
-use Rattle.cv_typing.specs.Tables.{same_pair}
+use Rattle.cv_directory.specs.Pairs.{same_pair}
 use Rattle.cv_scope.specs.declared.position.Position.{Position}
 use Rattle.cv_scope.specs.declared.position.Position.TheVariants.{Bodies, ElseBody, Guards, Guarded, Cells}
 use Rattle.cv_scope.specs.Context.{Context, cell_of, cells_of, index_terms, items, first_context, second_context, item_context, rest_context, replications_below}

@@ -4,7 +4,7 @@ use Rattle.std.specs.Prelude.{slice_get}
 use Rattle.std.specs.List.{AllByRecursion}
 use Rattle.std.proofs.lemmas.Bool.{and_parts, and_from, or_cases, or_left, or_right, both_ways, eq-eqb, not_from_true, lt-ltb, le-ltb, or_from, and_left, and_right, leb-true, leb-false}
 use Rattle.std.specs.List.Sorted.{IsNonDecreasingBy}
-use Rattle.cv_typing.specs.Tables.{same_pair}
+use Rattle.cv_directory.specs.Pairs.{same_pair}
 use Rattle.cv_scope.specs.Ordered.{IsPlaced, EndBy, Rise}
 use Rattle.cv_scope.specs.declared.places.Places.{Places}
 use Rattle.cv_scope.specs.Places.{place_of}

@@ -8,7 +8,7 @@ use Rattle.cv_syntax.specs.Children.{is_empty, is_leaf}
 use Rattle.cv_syntax.specs.Tree.{Tree, Empty, Node, second, same_tree, first_place, second_place}
 use Rattle.cv_meaning.specs.Binders.{bound_names}
 use Rattle.cv_directory.specs.Sites.{first_of}
-use Rattle.cv_typing.specs.Tables.{same_pair}
+use Rattle.cv_directory.specs.Pairs.{same_pair}
 use Rattle.cv_scope.specs.declared.fault.Fault.{Fault}
 use Rattle.cv_scope.specs.declared.fault.Fault.TheVariants.{Unscoped, TwoSites, Channel, Replications}
 use Rattle.cv_scope.specs.declared.position.Position.{Position}

@@ -3,7 +3,7 @@ ghost use Rattle.cv_syntax.specs.Declarations.{declarations};
 ghost use Rattle.cv_syntax.specs.Tree.{size, tree_at};
 ghost use Rattle.cv_directory.specs.Sites.{sites_of};
 ghost use Rattle.cv_directory.specs.Tables.{seen};
-ghost use Rattle.cv_typing.specs.Lookups.{IsLive};
+ghost use Rattle.cv_directory.specs.Live.{IsLive};
 ghost use Rattle.cv_scope.specs.Refusals.{IsFirstRefusal, IsRefusalOf};
 ghost use Rattle.cv_scope.specs.Scope.{IsScoped, first_scope_fault};
 

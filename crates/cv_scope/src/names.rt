@@ -5,7 +5,7 @@ ghost use Rattle.cv_syntax.specs.Declarations.{declarations, declared};
 ghost use Rattle.cv_syntax.specs.Tree.{tree_at};
 ghost use Rattle.cv_directory.specs.Sites.{sites_of};
 ghost use Rattle.cv_directory.specs.Tables.{seen};
-ghost use Rattle.cv_typing.specs.Lookups.{IsLive};
+ghost use Rattle.cv_directory.specs.Live.{IsLive};
 ghost use Rattle.cv_scope.specs.Held.{constant_by, has_constant, is_here, names_held};
 ghost use Rattle.cv_scope.specs.Scope.{names_of};
 

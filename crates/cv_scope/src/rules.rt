@@ -1,7 +1,7 @@
 ghost use Rattle.std.specs.Prelude.{◌≡◌, ◌<◌, length, nat_lt, None, IfOk};
 ghost use Rattle.cv_pool.specs.Nodes.{ChildBelow};
 ghost use Rattle.cv_syntax.specs.Tree.{first, tree_at};
-ghost use Rattle.cv_typing.specs.Signature.{count};
+ghost use Rattle.cv_directory.specs.Counting.{count};
 ghost use Rattle.cv_scope.specs.Held.{AreListed, HasLiveBinders, IsOpened, OnlySites, names_held, state_held};
 ghost use Rattle.cv_scope.specs.Rules.{carries_current as are_current};
 ghost use Rattle.cv_scope.specs.Seen.{fault_seen, is_well_replicated as are_well_replicated};

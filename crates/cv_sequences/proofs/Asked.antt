@@ -13,7 +13,7 @@ use Rattle.cv_meaning_laws.proofs.Listed.{Has}
 use Rattle.cv_typing.specs.declared.form.Form.TheVariants.{InProcess}
 use Rattle.cv_typing.specs.Parts.{AreTyped, IsTypedFile, IsTypedPart, Part, declaration_parts, game_part, nothing_above}
 use Rattle.cv_typing.specs.Wants.{Run}
-use Rattle.cv_query_form.specs.Queries.{queries_in}
+use Rattle.cv_meaning.specs.Queries.{queries_in}
 use Rattle.cv_query_form.specs.Rules.{AreAsked, HasValues, MayBeAsked}
 use Rattle.cv_typing_runs.specs.Games.{HasDeclaredSorts}
 use Rattle.cv_meaning_values.specs.Values.{HasValuesIn, is_tested}

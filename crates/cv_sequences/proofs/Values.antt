@@ -8,7 +8,8 @@ use Rattle.cv_syntax.specs.Tree.{Tree, Empty, Node, size}
 use Rattle.cv_meaning.specs.Interpretation.{Setting}
 use Rattle.cv_meaning.specs.Runs.{Mode}
 use Rattle.cv_meaning_runs.specs.Replacement as at
-use Rattle.cv_meaning_runs.specs.Replacement.{Part, Process, IsReplaced, replaced}
+use Rattle.cv_meaning_runs.specs.Replacement.{Part, Process, IsReplaced}
+use Rattle.cv_meaning.specs.Replaced.{replaced}
 use Rattle.cv_meaning_unread.specs.Dropping.{IsDropped, is_still, head_is_still, same, gone, kept, in_parallel, in_list, in_find, in_branch, in_later_branch}
 use Rattle.cv_meaning_values.specs.Values.{ConstructHasValues, HasValuesIn}
 

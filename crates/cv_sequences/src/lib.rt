@@ -12,7 +12,7 @@ ghost use Rattle.cv_meaning.specs.Chances.{AtMost, distance, zero_chance};
 ghost use Rattle.cv_meaning_chances.specs.Fractions.{HasTapes};
 ghost use Rattle.cv_meaning.specs.Advantage.{IsAsked, chance_of};
 ghost use Rattle.cv_bound.specs.Values.{Advantages, sum_value};
-ghost use Rattle.cv_query_form.specs.Queries.{queries_in};
+ghost use Rattle.cv_meaning.specs.Queries.{queries_in};
 ghost use Rattle.cv_query_form.specs.Rules.{AreAsked};
 ghost use Rattle.cv_scope.specs.Phrases.{Inputs, is_phrase};
 ghost use Rattle.cv_typing.specs.Parts.{IsTypedFile};

@@ -6,7 +6,8 @@ use Rattle.cv_syntax.specs.declared.head.Head.TheVariants.{Stop, Yield, Par, Rep
 use Rattle.cv_syntax.specs.Head.{weight}
 use Rattle.cv_syntax.specs.Tree.{Tree, Empty, Node, size, subtree}
 use Rattle.cv_meaning_runs.specs.Replacement as runs
-use Rattle.cv_meaning_runs.specs.Replacement.{Process, IsReplaced, in_first, before_body, may_come, is_output}
+use Rattle.cv_meaning_runs.specs.Replacement.{Process, IsReplaced, in_first, before_body, may_come}
+use Rattle.cv_meaning.specs.Replaced.{is_output}
 use Rattle.cv_meaning_runs.proofs.Places.{replaced_where}
 use Rattle.cv_scope.specs.Phrases.{Phrase, Nil, Inputs, Body, Then, Else, Branches, Arm, Pattern, Message, Binders, Cells, Terms, Term, is_phrase}
 use Rattle.cv_scenes.specs.Scenes.{or_empty, part_at}

@@ -4,7 +4,7 @@ use Rattle.std.specs.Prelude.{option_map}
 use Rattle.cv_syntax.specs.declared.head.Head.{Head}
 use Rattle.cv_syntax.specs.declared.head.Head.TheVariants.{Cons, Find, If}
 use Rattle.cv_syntax.specs.Tree.{Tree, Empty, Node, first_place}
-use Rattle.cv_meaning_runs.specs.Replacement.{is_output}
+use Rattle.cv_meaning.specs.Replaced.{is_output}
 use Rattle.cv_derivations.specs.Ends.{ends_with}
 use Rattle.cv_derivations.specs.Targets.{falsity}
 use Rattle.cv_scenes.specs.Scenes.{Scene, part_at}

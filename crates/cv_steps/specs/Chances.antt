@@ -8,7 +8,7 @@ use Rattle.cv_meaning.specs.Runs.{Adversary}
 use Rattle.cv_meaning.specs.Experiments.{Experiment}
 use Rattle.cv_meaning.specs.Chances.{Same}
 use Rattle.cv_meaning.specs.Advantage.{IsAsked, chance_of}
-use Rattle.cv_query_form.specs.Queries.{queries_in}
+use Rattle.cv_meaning.specs.Queries.{queries_in}
 
 -- Each experiment for which a query of the file asks has one chance in both games, for each interpretation that satisfies
 -- the declarations and each adversary.

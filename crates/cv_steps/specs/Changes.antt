@@ -2,7 +2,8 @@
 use Rattle.std.specs.Prelude.{ℕ, Bool, ◌==◌, if◌then◌else◌, Option, Some, None}
 use Rattle.cv_syntax.specs.declared.head.Head.TheVariants.{New, Let}
 use Rattle.cv_syntax.specs.Tree.{Tree, Empty, Node}
-use Rattle.cv_meaning_runs.specs.Replacement.{if_tree, replaced}
+use Rattle.cv_meaning_runs.specs.Replacement.{if_tree}
+use Rattle.cv_meaning.specs.Replaced.{replaced}
 use Rattle.cv_meaning_unread.specs.Dropping.{defines}
 use Rattle.cv_scenes.specs.Pruning.{Part, Pruned, pruned}
 use Rattle.cv_scenes.specs.Scenes.{part_at}

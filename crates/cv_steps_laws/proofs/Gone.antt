@@ -5,7 +5,8 @@ use Rattle.cv_syntax.specs.declared.head.Head.{Head}
 use Rattle.cv_syntax.specs.declared.head.Head.TheVariants.{Stop, Yield, Par, Repl, In, Out, Event, New, Let, If, Find, Branch, Cons}
 use Rattle.cv_syntax.specs.Tree.{Tree, Empty, Node}
 use Rattle.cv_meaning_runs.specs.Replacement as runs
-use Rattle.cv_meaning_runs.specs.Replacement.{Part, Process, is_output}
+use Rattle.cv_meaning_runs.specs.Replacement.{Part, Process}
+use Rattle.cv_meaning.specs.Replaced.{is_output}
 use Rattle.cv_scope.specs.Phrases.{Phrase, Nil, Inputs, Body, Then, Else, Branches, Arm, Pattern, Message, Binders, Cells, Terms, Term, is_phrase}
 use Rattle.cv_meaning_unread.specs.Dropping.{defines, reads_none, IsDropped, same, gone, kept, in_parallel, in_list, in_find, in_branch}
 use Rattle.cv_meaning_unread.proofs.Unread.{first_reads, second_reads}

@@ -11,7 +11,8 @@ use Rattle.cv_syntax.specs.Tree.{Tree, Empty, Node, size}
 use Rattle.cv_meaning_adequacy.specs.Typed as meaning
 use Rattle.cv_meaning_adequacy.specs.Typed.{IsDeclared}
 use Rattle.cv_meaning_runs.specs.Replacement as at
-use Rattle.cv_meaning_runs.specs.Replacement.{Part, Process, IsReplaced, replaced}
+use Rattle.cv_meaning_runs.specs.Replacement.{Part, Process, IsReplaced}
+use Rattle.cv_meaning.specs.Replaced.{replaced}
 use Rattle.cv_meaning_unread.specs.Dropping.{IsDropped, same, gone, kept, in_parallel, in_list, in_find, in_branch, in_later_branch}
 use Rattle.cv_scope.specs.Context.{first_position, second_position}
 use Rattle.cv_scope.specs.Phrases.{Phrase, Inputs, Arm, Body, Guards, Cells, OneCell, Term, parts, oracle_parts, both_are, is_phrase}

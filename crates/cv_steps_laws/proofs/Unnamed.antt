@@ -10,7 +10,7 @@ use Rattle.cv_meaning.specs.Runs.{Events, Real, Random}
 use Rattle.cv_meaning.specs.Experiments.{Experiment, Breaks, Guesses, mode_of}
 use Rattle.cv_meaning.specs.Advantage.{IsAsked, secrecy_query}
 use Rattle.cv_meaning_unread.specs.Dropping.{defines, reads_none, head_draws_none, draws_none, IsUntested}
-use Rattle.cv_query_form.specs.Queries.{queries_in}
+use Rattle.cv_meaning.specs.Queries.{queries_in}
 use Rattle.cv_directory.specs.Sites.{first_of}
 use Rattle.cv_scope.specs.Phrases.{Phrase, Body, Nil, Term, parts, both_are, is_phrase}
 use Rattle.cv_scenes.specs.Scenes.{Scene, head_names, names, head_reads, first_reading, asks_for, is_queried}

@@ -7,12 +7,13 @@ use Rattle.cv_syntax.specs.declared.head.Head.TheVariants as head
 use Rattle.cv_syntax.specs.declared.head.Head.TheVariants.{Yes}
 use Rattle.cv_syntax.specs.Builders.{leaf}
 use Rattle.cv_syntax.specs.Tree.{Empty, Node, lone, size, depth, subtree, same_tree}
-use Rattle.cv_meaning_runs.specs.Replacement.{if_tree, replaced}
+use Rattle.cv_meaning_runs.specs.Replacement.{if_tree}
+use Rattle.cv_meaning.specs.Replaced.{replaced}
 use Rattle.cv_directory.specs.Sites.{first_index, first_site, bound_sort}
 use Rattle.cv_typing.specs.Parts.{first_in}
 use Rattle.cv_typing.specs.Typing.{binders_differ}
-use Rattle.cv_typing.specs.Signature.{count}
-use Rattle.cv_query_form.specs.Queries.{queries_in}
+use Rattle.cv_directory.specs.Counting.{count}
+use Rattle.cv_meaning.specs.Queries.{queries_in}
 use Rattle.cv_scope.specs.Context.{context_at}
 use Rattle.cv_scope.specs.Sites.{sites_from}
 use Rattle.cv_scope.specs.Made.{is_bound}

@@ -14,7 +14,8 @@ use Rattle.cv_meaning.specs.Runs.{Adversary, Mode}
 use Rattle.cv_meaning.specs.Cells.{cells}
 use Rattle.cv_meaning.specs.Experiments.{holds_on, mode_of, visits_of_run}
 use Rattle.cv_meaning_adequacy.specs.Counted.{tapes_of}
-use Rattle.cv_meaning_runs.specs.Replacement.{IsReplaced, Process, ServeAlike, is_output}
+use Rattle.cv_meaning_runs.specs.Replacement.{IsReplaced, Process, ServeAlike}
+use Rattle.cv_meaning.specs.Replaced.{is_output}
 use Rattle.cv_meaning_runs.proofs.Replacement.{replaced_holds}
 use Rattle.cv_scope.specs.Phrases.{Phrase, Inputs, is_phrase}
 use Rattle.cv_typing_runs.specs.Games.{context_of}

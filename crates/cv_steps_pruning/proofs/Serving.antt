@@ -16,7 +16,8 @@ use Rattle.cv_meaning.specs.Candidates.{Candidate, candidates, chosen}
 use Rattle.cv_meaning.specs.Inputs.{inputs_of}
 use Rattle.cv_meaning.specs.Serving.{Served, after_find, after_turn, serve, step, visits}
 use Rattle.cv_meaning_runs.specs.Simulation.{AreServedAlike, InOrder}
-use Rattle.cv_meaning_runs.specs.Replacement.{AreLikeInputs, SameMemory, ServeAlike, is_output}
+use Rattle.cv_meaning_runs.specs.Replacement.{AreLikeInputs, SameMemory, ServeAlike}
+use Rattle.cv_meaning.specs.Replaced.{is_output}
 use Rattle.cv_meaning_runs.proofs.Outputs.{output_begins, output_opens, served_elsewhere}
 use Rattle.cv_scope.specs.Phrases.{Branches, is_phrase}
 use Rattle.cv_scenes.specs.Scenes.{Scene}

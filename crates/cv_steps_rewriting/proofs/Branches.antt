@@ -8,7 +8,7 @@ use Rattle.cv_meaning.specs.Binders.{binder_count, bound_to, fits, widest_binder
 use Rattle.cv_meaning.specs.Candidates.{Candidate, are_assigned, candidate, candidates, candidates_at, most_indices, tuples_up_to, widest}
 use Rattle.cv_meaning.specs.Memory.{Indices, Memory, Store, tuple}
 use Rattle.cv_meaning.specs.Terms.{is_one, value}
-use Rattle.cv_meaning_runs.specs.Replacement.{replaced}
+use Rattle.cv_meaning.specs.Replaced.{replaced}
 use Rattle.cv_scope.specs.Phrases.{Arm, Branches, Term, is_phrase}
 use Rattle.cv_scenes.specs.Scenes.{Scene, part_at}
 use Rattle.cv_steps.specs.Rewriting.{has_term_at}

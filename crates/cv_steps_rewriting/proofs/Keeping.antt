@@ -11,7 +11,7 @@ use Rattle.cv_meaning.specs.Chances.{Same}
 use Rattle.cv_meaning.specs.Experiments.{mode_of, visits_of_run}
 use Rattle.cv_meaning.specs.Memory.{Indices, Store}
 use Rattle.cv_meaning.specs.Terms.{bit, value}
-use Rattle.cv_meaning_runs.specs.Replacement.{replaced}
+use Rattle.cv_meaning.specs.Replaced.{replaced}
 use Rattle.cv_meaning_runs.proofs.Lists.{all_both}
 use Rattle.cv_meaning_reworded.proofs.SameCells.{reworded_chances}
 use Rattle.cv_scope.specs.Phrases.{Inputs, Term, is_phrase}

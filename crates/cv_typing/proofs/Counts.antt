@@ -1,17 +1,9 @@
 -- Counting along lists.
-use Rattle.std.proofs.Common.{◌≡◌, ℕ, ◌+◌, [], ◌∷◌, refl, ap, ◌∙◌}
+use Rattle.std.proofs.Common.{◌≡◌, ℕ, [], ◌∷◌, refl, ap, ◌∙◌}
 use Rattle.cv_syntax.specs.declared.head.Head.{Head}
 use Rattle.cv_syntax.specs.declared.head.Head.TheVariants.{Name}
 use Rattle.cv_syntax.specs.Tree.{Tree, Empty, Node}
-use Rattle.cv_typing.specs.Signature.{count, names_in}
-
-pub count-step : (t : Tree) (h : Head) (a b : Tree) → t ≡ Node h a b → count t ≡ count b + 1
-unfolding count
-count-step t h a b e = ap count e
-
-pub count-end : (t : Tree) → t ≡ Empty → count t ≡ 0
-unfolding count
-count-end t e = ap count e
+use Rattle.cv_typing.specs.Signature.{names_in}
 
 pub names-step : (t : Tree) (h : Head) (a b : Tree) (x : ℕ) → t ≡ Node h a b → h ≡ Name x → names_in t ≡ x ∷ names_in b
 unfolding names_in

@@ -14,7 +14,8 @@ use Rattle.cv_typing.specs.declared.fault.Fault.TheVariants as fault
 use Rattle.cv_typing.specs.declared.fault.TypeFault.{TypeFault}
 use Rattle.cv_typing.specs.declared.fault.TypeFault.TheVariants as refused
 use Rattle.cv_directory.specs.declared.sort.Sort.{Sort}
-use Rattle.cv_typing.specs.Lookups.{HasLiveArguments, IsLive}
+use Rattle.cv_typing.specs.Lookups.{HasLiveArguments}
+use Rattle.cv_directory.specs.Live.{IsLive}
 use Rattle.cv_typing.specs.Parts.{Part, IsTypedPart, signature_of, first_in, nothing_above}
 use Rattle.cv_typing.specs.Refusals.{IsFirstRefusal, IsRefusalOf}
 use Rattle.cv_directory.specs.Sites.{first_of}

@@ -1,5 +1,5 @@
 -- What the code finds of a name in a list of declarations of a pool.
-use Rattle.std.specs.Prelude.{ℕ, Bool, false, drop, List, [], Option, Some, None, ◌<◌}
+use Rattle.std.specs.Prelude.{ℕ, Bool, false, drop, List, [], Option, Some, None}
 use Rattle.cv_syntax.specs.declared.decls.Class.TheVariants.{TypeName, Fun, Event as AnEvent}
 use Rattle.cv_syntax.specs.declared.decls.Decl.{Decl}
 use Rattle.cv_syntax.specs.declared.decls.Decl.TheVariants as decl
@@ -17,13 +17,6 @@ use Rattle.cv_typing.specs.Signature.{Signature, Function, names_in, variable_in
 use Rattle.cv_directory.specs.Sites.{Variable}
 use Rattle.cv_typing.specs.Tables.{arrays_of}
 use Rattle.cv_typing.specs.Wants as wants
-
--- each node of a declaration is live
-abbrev pub IsLive : ℕ → Decl → Type 0
-IsLive n (decl.Name id class args result) = ChildBelow n args
-IsLive n (decl.Equation t) = t.0 < n
-IsLive n (decl.Equiv id t) = t.0 < n
-IsLive n (decl.Query t) = t.0 < n
 
 -- the lists of arguments are live
 abbrev pub HasLiveArguments : ℕ → List Decl → Type 0

@@ -1,5 +1,5 @@
 -- What declarations and definitions say of a name that a term reads.
-use Rattle.std.specs.Prelude.{ℕ, ◌+◌, Bool, true, false, ◌==◌, if◌then◌else◌, List, [], ◌∷◌, length, option_map, Option, Some, None}
+use Rattle.std.specs.Prelude.{ℕ, Bool, true, false, ◌==◌, if◌then◌else◌, List, [], ◌∷◌, length, option_map, Option, Some, None}
 use Rattle.cv_syntax.specs.declared.decls.Class.TheVariants.{TypeName, Fun, Event as AnEvent}
 use Rattle.cv_syntax.specs.declared.head.Head.{Head}
 use Rattle.cv_syntax.specs.declared.head.Head.TheVariants.{Name, Leaf, Read, Apply, Eq, And, Or, Not, Yes, No, Event, Occurs, OccursOnce}
@@ -147,11 +147,6 @@ sort_of e above Empty = None
 sort_of e above (Node h a b) = sort_by e above h a
 
 -- numbers of arguments and indices
-
--- how many items a list has
-unfoldable pub count : Tree → ℕ
-count Empty = 0
-count (Node h a b) = count b + 1
 
 abbrev pub leaf_arity : Signature → Above → ℕ → Option ℕ
 leaf_arity e above x = elim (above x) [

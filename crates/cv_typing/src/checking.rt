@@ -3,7 +3,8 @@ ghost use Rattle.cv_syntax.specs.Declarations.{declarations};
 ghost use Rattle.cv_syntax.specs.Tree.{size, tree_at};
 ghost use Rattle.cv_directory.specs.Sites.{sites_of};
 ghost use Rattle.cv_directory.specs.Tables.{seen};
-ghost use Rattle.cv_typing.specs.Lookups.{HasLiveArguments, IsLive};
+ghost use Rattle.cv_typing.specs.Lookups.{HasLiveArguments};
+ghost use Rattle.cv_directory.specs.Live.{IsLive};
 ghost use Rattle.cv_typing.specs.Parts.{IsTypedFile, IsTypedGame, file_parts, first_in, game_part};
 ghost use Rattle.cv_typing.specs.Refusals.{IsFirstRefusal, IsRefusalOf, parts_size};
 

@@ -5,7 +5,7 @@ ghost use Rattle.cv_typing.specs.declared.arrays.Arrays.{Arrays};
 ghost use Rattle.cv_syntax.specs.Declarations.{declarations};
 ghost use Rattle.cv_syntax.specs.Tree.{tree_at};
 ghost use Rattle.cv_typing.specs.Lookups.{HasLiveArguments, signature_in, want_of};
-ghost use Rattle.cv_typing.specs.Signature as signature;
+ghost use Rattle.cv_directory.specs.Counting as counting;
 ghost use Rattle.cv_typing.specs.Signature.{is_arity, same_sort as same};
 ghost use Rattle.cv_directory.specs.Sites.{binder_sort};
 ghost use Rattle.cv_typing.specs.Tables.{above_of, arrays_of};
@@ -167,7 +167,7 @@ fn is_index_sent(want: Want, sort: Option<Sort>) -> bool
 /// Whether a list has as many items as are asked, where that is known.
 fn has_arity(pool: &Pool, wanted: Option<usize>, list: Option<NodeId>) -> bool
     requires { ChildBelow (length pool.now.trees) list }
-    ensures { result ≡ is_arity wanted (signature.count (tree_at pool.now.trees list)) }
+    ensures { result ≡ is_arity wanted (counting.count (tree_at pool.now.trees list)) }
 {
     match wanted {
         Some(n) => n == count(pool, list),

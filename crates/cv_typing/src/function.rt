@@ -3,7 +3,7 @@ ghost use Rattle.cv_pool.specs.Nodes.{ChildBelow};
 ghost use Rattle.cv_syntax.specs.Classes.{declaration_in};
 ghost use Rattle.cv_syntax.specs.Tree.{tree_at};
 ghost use Rattle.cv_typing.specs.Lookups.{callee_in, event_args_in, fixed_decl};
-ghost use Rattle.cv_typing.specs.Signature as signature;
+ghost use Rattle.cv_directory.specs.Counting as counting;
 ghost use Rattle.cv_typing.specs.Signature.{names_in};
 
 use cv_syntax::{Class, Decls, Head, NameId, NodeId, Pool, read_node};
@@ -55,7 +55,7 @@ pub fn is_fixed(decls: &Decls, t: u32) -> bool
 /// How many items a list has.
 pub fn count(pool: &Pool, list: Option<NodeId>) -> usize
     requires { ChildBelow (length pool.now.trees) list }
-    ensures { result ≡ signature.count (tree_at pool.now.trees list) }
+    ensures { result ≡ counting.count (tree_at pool.now.trees list) }
 {
     let mut n = 0;
     let mut at = list;

@@ -2,7 +2,8 @@ ghost use Rattle.std.specs.Prelude.{◌≡◌, ◌<◌, ◌+◌, ◌^◌, ◌∷
 ghost use Rattle.cv_pool.specs.Nodes.{ChildBelow};
 ghost use Rattle.cv_syntax.specs.Declarations.{declarations, declared};
 ghost use Rattle.cv_syntax.specs.Tree.{tree_at};
-ghost use Rattle.cv_typing.specs.Lookups.{HasLiveArguments, IsLive, signature_in};
+ghost use Rattle.cv_typing.specs.Lookups.{HasLiveArguments, signature_in};
+ghost use Rattle.cv_directory.specs.Live.{IsLive};
 ghost use Rattle.cv_typing.specs.Parts.{body_parts, declaration_parts, equation_part, equivalence_parts, first_result, local_names, names_of, query_part, results, side_arrays};
 ghost use Rattle.cv_typing.specs.Refusals.{IsChecked, parts_size};
 ghost use Rattle.cv_typing.specs.Tables.{above_of, arrays_of};

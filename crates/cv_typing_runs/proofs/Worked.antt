@@ -5,7 +5,8 @@ use Rattle.cv_first_fault.specs.Walk.{first_fault}
 use Rattle.cv_syntax.specs.Tree.{Empty, size, same_tree}
 use Rattle.cv_directory.specs.Sites.{bound_sort, first_index, first_site}
 use Rattle.cv_typing.specs.Parts.{IsTypedGame, game_part, signature_of}
-use Rattle.cv_typing.specs.Signature.{count, names_in}
+use Rattle.cv_typing.specs.Signature.{names_in}
+use Rattle.cv_directory.specs.Counting.{count}
 use Rattle.cv_typing.specs.Typing.{binders_differ}
 use Rattle.cv_typing.proofs.First.{typed_where_none}
 use Rattle.cv_scope.specs.Sites.{sites_from}

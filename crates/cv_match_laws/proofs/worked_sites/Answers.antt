@@ -3,7 +3,7 @@ use Rattle.cv_syntax.specs.Tree.{same_tree, size}
 use Rattle.cv_derivations.specs.Given.{with_given}
 use Rattle.cv_directory.specs.Sites.{bound_sort, first_site}
 use Rattle.cv_typing.specs.Signature.{names_in}
-use Rattle.cv_query_form.specs.Queries.{queries_in}
+use Rattle.cv_meaning.specs.Queries.{queries_in}
 use Rattle.cv_scope.specs.Made.{is_bound}
 use Rattle.cv_scenes.specs.Scenes.{first_reading}
 use Rattle.cv_scenes.specs.Instances.{standing_for}

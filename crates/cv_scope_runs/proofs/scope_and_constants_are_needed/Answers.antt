@@ -11,7 +11,7 @@ use Rattle.cv_meaning.specs.Runs.{taken, moved, run_from}
 use Rattle.cv_meaning.specs.Experiments.{run, holds_on}
 use Rattle.cv_meaning.specs.Correspondences.{assignments, broken}
 use Rattle.cv_directory.specs.Sites.{first_site, bound_sort}
-use Rattle.cv_typing.specs.Signature.{count}
+use Rattle.cv_directory.specs.Counting.{count}
 use Rattle.cv_scope.specs.Sites.{sites_from}
 use Rattle.cv_scope.specs.Standing.{at_root}
 use Rattle.cv_scope.specs.Scope.{is_untyped_in, names_of, IsScoped}

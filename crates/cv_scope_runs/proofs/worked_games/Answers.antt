@@ -5,7 +5,7 @@ use Rattle.cv_syntax.specs.Tree.{size, same_tree, reads_only, binds}
 use Rattle.cv_meaning.specs.Direct.{argument, is_substituted, is_instance, is_unbound, plainly_covered}
 use Rattle.cv_meaning.specs.Interpretation.{setting_of}
 use Rattle.cv_directory.specs.Sites.{first_site, bound_sort}
-use Rattle.cv_typing.specs.Signature.{count}
+use Rattle.cv_directory.specs.Counting.{count}
 use Rattle.cv_scope.specs.Sites.{sites_from}
 use Rattle.cv_scope.specs.Standing.{at_root}
 use Rattle.cv_scope.specs.Scope.{is_untyped_in, names_of}

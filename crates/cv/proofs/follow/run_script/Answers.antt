@@ -2,7 +2,7 @@ use Rattle.std.proofs.Common.{arith, refl, ap, sym, subst, ◌∙◌, Some, inr,
 use Rattle.cv_pool.proofs.Growth.{Grows-length}
 use Rattle.cv_syntax.specs.Declarations.{declarations}
 use Rattle.cv_parse_script.specs.Scripts.{trees_of}
-use Rattle.cv_query_form.specs.Queries.{queries_in}
+use Rattle.cv_meaning.specs.Queries.{queries_in}
 use Rattle.cv_accept.specs.Accepted.{Content}
 use Rattle.cv_accept.specs.Works.{content_at, content_nodes}
 use Rattle.cv_plain.proofs.QueryLists.{queries-same}

@@ -2,7 +2,7 @@ use Rattle.std.proofs.Common.{arith, List, refl, ap, sym, subst, ◌∙◌, None
 use Rattle.cv_pool.proofs.Growth.{Grows-length}
 use Rattle.cv_syntax.specs.Declarations.{declarations}
 use Rattle.cv_syntax.specs.Tree.{Tree, tree_at}
-use Rattle.cv_query_form.specs.Queries.{queries_in}
+use Rattle.cv_meaning.specs.Queries.{queries_in}
 use Rattle.cv_accept.specs.Accepted.{Content}
 use Rattle.cv_accept.specs.Works.{content_nodes}
 use Rattle.cv_plain.specs.Strategy.{closing}

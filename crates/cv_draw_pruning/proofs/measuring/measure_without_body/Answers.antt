@@ -1,6 +1,6 @@
 use Rattle.std.proofs.Common.{◌≡◌, None, Some, sym, ap, ◌∙◌, arith}
 use Rattle.std.specs.Prelude.{option_map}
-use Rattle.cv_meaning_runs.specs.Replacement.{replaced}
+use Rattle.cv_meaning.specs.Replaced.{replaced}
 use Rattle.cv_syntax.specs.Tree.{Node, size, depth, subtree, tree_at}
 use Rattle.cv_syntax.proofs.Walking.{size-node}
 use Rattle.cv_draw_extents.specs.declared.measuring.Extent.{Extent}

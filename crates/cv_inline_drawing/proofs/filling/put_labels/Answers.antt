@@ -1,5 +1,5 @@
 use Rattle.std.proofs.Common.{◌≡◌, ◌+◌, ◌-◌, ◌∙◌, ap, arith, drop, length}
-use Rattle.cv_inline_bodies.specs.Inlined.{Drawn}
+use Rattle.cv_meaning_contexts.specs.Inlined.{Drawn}
 use Rattle.cv_inline_terms.specs.Drawings.{drawn_in}
 use Rattle.cv_inline_drawing.specs.Tables.{with_labels}
 use Rattle.cv_inline_drawing.proofs.Filled.{least_is_one, labels_begin, labels_more}

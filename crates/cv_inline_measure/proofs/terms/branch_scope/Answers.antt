@@ -1,7 +1,7 @@
 use Rattle.std.proofs.Common.{◌≡◌, ℕ, ◌∷◌, ap, ◌∙◌}
 use Rattle.std.proofs.lemmas.Result.{IfOk-weaker}
 use Rattle.cv_syntax.specs.Tree.{Tree}
-use Rattle.cv_inline_bodies.specs.Inlined.{CallOf, Scope, index_terms}
+use Rattle.cv_meaning_contexts.specs.Inlined.{CallOf, Scope, index_terms}
 use Rattle.cv_inline_terms.specs.Stacks.{names_from, tuple_at}
 use Rattle.cv_inline_measure.specs.Settings.{branch_scope_in, names_in, scope_at}
 use Rattle.cv_inline_measure.proofs.Scoped.{tuple_reads}

@@ -4,7 +4,7 @@ use Rattle.cv_syntax.specs.declared.head.Head.TheVariants as head
 use Rattle.cv_syntax.specs.Postorder.{joined}
 use Rattle.cv_syntax.specs.Tree.{Tree, tree_at}
 use Rattle.cv_meaning.specs.Correspondences.{typed_names}
-use Rattle.cv_inline_bodies.specs.Inlined.{Own, Scope, index_terms, inlined_call}
+use Rattle.cv_meaning_contexts.specs.Inlined.{Own, Scope, index_terms, inlined_call}
 use Rattle.cv_inline_terms.specs.Callers.{caller_in}
 use Rattle.cv_inline_terms.specs.Drawings.{drawn_in}
 use Rattle.cv_inline_listing.specs.Callings.{callers_in}

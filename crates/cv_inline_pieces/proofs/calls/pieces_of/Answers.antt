@@ -1,7 +1,7 @@
 use Rattle.std.proofs.Common.{◌≡◌, ◌∷◌, ◌++◌, [], List, Some, ap, sym, ◌∙◌, arith}
 use Rattle.cv_syntax.specs.Tree.{Tree, size, tree_at}
 use Rattle.cv_meaning.specs.Correspondences.{typed_names}
-use Rattle.cv_inline_bodies.specs.Inlined.{Scope, TheKey, inlined_call}
+use Rattle.cv_meaning_contexts.specs.Inlined.{Scope, TheKey, inlined_call}
 use Rattle.cv_inline_terms.specs.declared.scope.Standing.TheVariants as code
 use Rattle.cv_inline_terms.specs.declared.scope.Entry.{Entry}
 use Rattle.cv_inline_terms.specs.Callers.{caller_in}

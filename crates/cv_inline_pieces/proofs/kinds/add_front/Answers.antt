@@ -1,4 +1,4 @@
-use Rattle.cv_inline_bodies.specs.Inlined.{index_terms}
+use Rattle.cv_meaning_contexts.specs.Inlined.{index_terms}
 use Rattle.cv_inline_pieces.proofs.ByKind.{front_added}
 use Rattle.cv_inline_pieces.proofs.kinds.add_front.Goals as goal
 

@@ -3,7 +3,7 @@ use Rattle.std.specs.Prelude.{flat_map}
 use Rattle.std.proofs.lemmas.List.{append-nil}
 use Rattle.cv_syntax.specs.Tree.{tree_at}
 use Rattle.cv_syntax.specs.Walks.{above}
-use Rattle.cv_inline_bodies.specs.Inlined.{Caller}
+use Rattle.cv_meaning_contexts.specs.Inlined.{Caller}
 use Rattle.cv_inline_games.specs.Draws.{branches_draws}
 use Rattle.cv_inline_sites.specs.Parts.{draws_at}
 use Rattle.cv_inline_sites.proofs.Gathering.{below_push, body_more, lower, none_of}

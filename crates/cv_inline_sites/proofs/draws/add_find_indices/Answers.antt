@@ -1,6 +1,6 @@
 use Rattle.std.proofs.Common.{map}
 use Rattle.cv_syntax.specs.Tree.{tree_at}
-use Rattle.cv_inline_bodies.specs.Inlined.{Caller}
+use Rattle.cv_meaning_contexts.specs.Inlined.{Caller}
 use Rattle.cv_inline_games.specs.Draws.{index_draws}
 use Rattle.cv_inline_listing.specs.Listed.{draw_in}
 use Rattle.cv_inline_sites.proofs.Gathering.{callers_step}

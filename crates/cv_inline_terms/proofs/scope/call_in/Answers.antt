@@ -1,6 +1,6 @@
 use Rattle.std.proofs.Common.{ap, sym}
 use Rattle.cv_syntax.proofs.Trees.{empty_at}
-use Rattle.cv_inline_bodies.specs.Inlined as bodies
+use Rattle.cv_meaning_contexts.specs.Inlined as bodies
 use Rattle.cv_inline_terms.specs.Scopes.{scope_in}
 use Rattle.cv_inline_terms.proofs.scope.call_in.Goals as goal
 

@@ -1,6 +1,6 @@
 use Rattle.std.proofs.Common.{◌≡◌, ℕ, List, All, take}
 use Rattle.cv_pool.specs.KindTree.{KindTree}
-use Rattle.cv_inline_bodies.specs.Inlined.{Drawn}
+use Rattle.cv_meaning_contexts.specs.Inlined.{Drawn}
 use Rattle.cv_inline_terms.specs.declared.calling.Calling.{Calling}
 use Rattle.cv_inline_results.specs.Outcomes.{IsLiveOutcome, results_in}
 use Rattle.cv_inline_walk.proofs.outcomes.copies.Given as goal

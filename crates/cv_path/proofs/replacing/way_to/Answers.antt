@@ -2,7 +2,7 @@ use Rattle.std.proofs.Common.{◌≡◌, ◌+◌, ◌<◌, Some, true, false, ru
 use Rattle.cv_syntax.specs.Head.{weight}
 use Rattle.cv_syntax.specs.Tree.{size, tree_at}
 use Rattle.cv_syntax.proofs.Walking.{size-node, above-some}
-use Rattle.cv_meaning_runs.specs.Replacement.{replaced}
+use Rattle.cv_meaning.specs.Replaced.{replaced}
 use Rattle.cv_path.specs.Ways.{led, turned as turned-by}
 use Rattle.cv_path.proofs.Going.{subtree-here, subtree-within, subtree-behind, replaced-here, replaced-within, replaced-behind, above-here, above-within, above-behind, above-below, live-at, turn-of, way-goes, way-live}
 use Rattle.cv_path.proofs.replacing.way_to.Goals as goal

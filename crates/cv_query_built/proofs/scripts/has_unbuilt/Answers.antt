@@ -1,5 +1,5 @@
 use Rattle.cv_syntax.specs.Declarations.{declarations}
-use Rattle.cv_query_form.specs.Queries.{queries_in}
+use Rattle.cv_meaning.specs.Queries.{queries_in}
 use Rattle.cv_query_built.proofs.Lists.{step-later}
 use Rattle.cv_query_built.proofs.scripts.has_unbuilt.Goals as goal
 

@@ -1,7 +1,7 @@
 use Rattle.std.proofs.Common.{◌≡◌, drop, map}
 use Rattle.std.specs.List.{list_any}
 use Rattle.cv_syntax.specs.Declarations.{declarations}
-use Rattle.cv_query_form.specs.Queries.{queries_in}
+use Rattle.cv_meaning.specs.Queries.{queries_in}
 use Rattle.cv_query_built.specs.Built.{is_unbuilt_step, tree_of}
 use Rattle.cv_query_built.proofs.scripts.has_unbuilt.Given as goal
 

@@ -3,7 +3,7 @@ use Rattle.std.specs.declared.vec.Vec.{Vec}
 use Rattle.std.specs.declared.alloc.Global.{Global}
 use Rattle.cv_pool.specs.declared.node.NodeId.{NodeId}
 use Rattle.cv_syntax.specs.Declarations.{declarations}
-use Rattle.cv_query_form.specs.Queries.{queries_in}
+use Rattle.cv_meaning.specs.Queries.{queries_in}
 use Rattle.cv_query_built.specs.Built.{tree_of}
 use Rattle.cv_query_built.proofs.Lists.{live-found, queries-found, query-found, query-skipped}
 use Rattle.cv_query_built.proofs.scripts.queries_of.Goals as goal

@@ -1,8 +1,8 @@
 use Rattle.std.proofs.Common.{◌≡◌, ◌<◌, ◌++◌, ℕ, All, List, drop, map}
 use Rattle.cv_pool.specs.KindTree.{KindTree}
 use Rattle.cv_syntax.specs.Declarations.{declarations}
-use Rattle.cv_typing.specs.Lookups.{IsLive}
-use Rattle.cv_query_form.specs.Queries.{queries_in}
+use Rattle.cv_directory.specs.Live.{IsLive}
+use Rattle.cv_meaning.specs.Queries.{queries_in}
 use Rattle.cv_query_built.specs.Built.{tree_of}
 use Rattle.cv_query_built.proofs.scripts.queries_of.Given as goal
 

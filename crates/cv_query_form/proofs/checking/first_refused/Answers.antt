@@ -2,7 +2,7 @@ use Rattle.std.proofs.Common.{◌<◌, ◌≤◌, ◌+◌, length, drop, Some, a
 use Rattle.cv_syntax.specs.Declarations.{declarations}
 use Rattle.cv_syntax.specs.Tree.{tree_at}
 use Rattle.cv_directory.specs.Tables.{seen}
-use Rattle.cv_query_form.specs.Queries.{queries_in}
+use Rattle.cv_meaning.specs.Queries.{queries_in}
 use Rattle.cv_query_form.specs.Tests.{first_refused}
 use Rattle.cv_query_form.proofs.Parts.{asked-same, behind, queries-past, queries-skip, queries-take, query-below, refused-here, refused-later, refused-none}
 use Rattle.cv_query_form.proofs.checking.first_refused.Goals as goal

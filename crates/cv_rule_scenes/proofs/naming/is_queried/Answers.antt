@@ -2,7 +2,7 @@ use Rattle.std.proofs.Common.{◌<◌, ◌≤◌, ◌+◌, length, drop, Some, a
 use Rattle.std.specs.List.{list_any}
 use Rattle.cv_syntax.specs.Declarations.{declarations}
 use Rattle.cv_syntax.specs.Tree.{tree_at}
-use Rattle.cv_query_form.specs.Queries.{queries_in}
+use Rattle.cv_meaning.specs.Queries.{queries_in}
 use Rattle.cv_query_form.proofs.Parts.{queries-past, queries-skip, queries-take, query-below}
 use Rattle.cv_scenes.specs.Scenes.{asks_for}
 use Rattle.cv_rule_scenes.proofs.Tested.{asked-here, asked-later}

@@ -1,7 +1,7 @@
 use Rattle.std.proofs.Common.{◌≡◌, drop}
 use Rattle.std.specs.List.{list_any}
 use Rattle.cv_syntax.specs.Declarations.{declarations}
-use Rattle.cv_query_form.specs.Queries.{queries_in}
+use Rattle.cv_meaning.specs.Queries.{queries_in}
 use Rattle.cv_scenes.specs.Scenes.{asks_for}
 use Rattle.cv_rule_scenes.proofs.naming.is_queried.Given as goal
 

@@ -1,5 +1,5 @@
 use Rattle.std.proofs.Common.{ap, ◌∙◌}
-use Rattle.cv_meaning_runs.specs.Replacement.{is_output}
+use Rattle.cv_meaning.specs.Replaced.{is_output}
 use Rattle.cv_scenes.specs.Scenes.{or_empty}
 use Rattle.cv_rule_scenes.proofs.places.is_output_at.Goals as goal
 

@@ -2,7 +2,7 @@ use Rattle.std.proofs.Common.{refl}
 use Rattle.cv_first_fault.specs.Walk.{first_fault}
 use Rattle.cv_syntax.specs.Tree.{same_tree, size}
 use Rattle.cv_directory.specs.Sites.{first_site, bound_sort}
-use Rattle.cv_typing.specs.Signature.{count}
+use Rattle.cv_directory.specs.Counting.{count}
 use Rattle.cv_scope.specs.Sites.{sites_from}
 use Rattle.cv_scope.specs.Scope.{is_untyped_in}
 use Rattle.cv_scope.proofs.worked.worked_sites.Goals as goal

@@ -2,7 +2,8 @@ use Rattle.std.proofs.Common.{refl}
 use Rattle.cv_syntax.specs.Tree.{size}
 use Rattle.cv_first_fault.specs.Walk.{first_fault}
 use Rattle.cv_typing.specs.Parts.{body_parts, first_in, local_in, results, sort_by_bound}
-use Rattle.cv_typing.specs.Signature.{count, names_in}
+use Rattle.cv_typing.specs.Signature.{names_in}
+use Rattle.cv_directory.specs.Counting.{count}
 use Rattle.cv_directory.specs.Sites.{bound_sort, first_index, first_site}
 use Rattle.cv_typing.specs.Typing.{binders_differ}
 use Rattle.cv_typing.specs.Wants.{all_bound}
