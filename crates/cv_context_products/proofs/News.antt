@@ -14,7 +14,7 @@ use Rattle.cv_scope.specs.Context.{replications_below}
 use Rattle.cv_scope.specs.Made.{is_bound, made_by}
 use Rattle.cv_scope.specs.Phrases.{Phrase, Binders, Inputs, Nil, is_phrase}
 use Rattle.cv_scope.specs.Sites.{Variable as Named}
-use Rattle.cv_scope_runs.proofs.Plain.{phrase_plain}
+use Rattle.cv_scope.proofs.Plain.{phrase_plain}
 use Rattle.cv_typing_runs.proofs.SameSites.{below_parameters, branch_binders, input_binders, phrase_open}
 use Rattle.cv_scenes.specs.Contexts.{parameters_of}
 use Rattle.cv_scenes.specs.Refusals.{definitions_in, new_of, only_new}

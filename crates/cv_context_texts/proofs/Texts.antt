@@ -15,7 +15,7 @@ use Rattle.cv_scope.specs.Rules.{is_index}
 use Rattle.cv_scope.specs.Scope.{is_variable, names_of as scope_names}
 use Rattle.cv_scope.specs.Standing.{at_root}
 use Rattle.cv_scope.specs.declared.position.Position.TheVariants.{Anywhere}
-use Rattle.cv_scope_runs.proofs.Games.{no_variable}
+use Rattle.cv_scope.proofs.Unbound.{no_variable}
 use Rattle.cv_typing.specs.Parts.{IsTypedGame}
 use Rattle.cv_typing_runs.specs.Games.{HasArguments, HasKnownNames, has_site}
 use Rattle.cv_typing_runs.proofs.Games as games

@@ -11,7 +11,7 @@ use Rattle.cv_syntax.specs.Head.{weight}
 use Rattle.cv_syntax.specs.Planting.{overs}
 use Rattle.cv_syntax.specs.Postorder.{postorder}
 use Rattle.cv_syntax.specs.Tree.{Tree, Empty, Node, size, depth}
-use Rattle.cv_meaning_unread.specs.Dropping.{defines}
+use Rattle.cv_meaning.specs.Still.{defines}
 use Rattle.cv_steps.specs.Changes.{without, only}
 use Rattle.cv_syntax.proofs.Trees.{size-Empty}
 use Rattle.cv_syntax.proofs.Walking.{size-node, depth-node}

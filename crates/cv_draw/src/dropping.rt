@@ -5,7 +5,7 @@ ghost use Rattle.cv_syntax.specs.Planting.{overs};
 ghost use Rattle.cv_syntax.specs.Postorder.{postorder};
 ghost use Rattle.cv_syntax.specs.Tree as tree;
 ghost use Rattle.cv_syntax.specs.Tree.{Tree, tree_at};
-ghost use Rattle.cv_meaning_unread.specs.Dropping.{defines};
+ghost use Rattle.cv_meaning.specs.Still.{defines};
 ghost use Rattle.cv_steps.specs.Changes.{without, only};
 ghost use Rattle.cv_draw.specs.Dropping.{need_without};
 ghost use Rattle.cv_syntax.specs.declared.make.Make.TheVariants as make;

@@ -18,3 +18,4 @@ pub mod Advantage
 pub mod Direct
 pub mod Queries
 pub mod Replaced
+pub mod Still

@@ -18,7 +18,7 @@ use Rattle.cv_meaning.specs.Advantage.{chance_of}
 use Rattle.cv_meaning_adequacy.specs.Counted.{tapes_of}
 use Rattle.cv_meaning_adequacy.proofs.Counting.{count_is}
 use Rattle.cv_meaning_runs.specs.Replacement.{Part, Process, Branches}
-use Rattle.cv_meaning_unread.specs.Dropping.{head_is_still, is_still}
+use Rattle.cv_meaning.specs.Still.{head_is_still, is_still}
 use Rattle.cv_meaning_reworded.specs.Rewording.{IsReworded, same, kept, reworded, in_parallel, in_list, in_find, in_branch}
 use Rattle.cv_meaning_reworded.proofs.Alike.{holds_reworded}
 

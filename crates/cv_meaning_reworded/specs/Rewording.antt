@@ -10,7 +10,7 @@ use Rattle.cv_meaning.specs.Candidates.{candidates}
 use Rattle.cv_meaning.specs.Inputs.{Input, message_binders}
 use Rattle.cv_meaning.specs.Serving.{Visit}
 use Rattle.cv_meaning_runs.specs.Replacement.{Part, Process, Branches, before_body}
-use Rattle.cv_meaning_unread.specs.Dropping.{is_still}
+use Rattle.cv_meaning.specs.Still.{is_still}
 
 -- the constructs whose terms are their first child
 abbrev pub has_terms : Head → Bool

@@ -27,7 +27,8 @@ use Rattle.cv_meaning_runs.proofs.Outputs.{output_opens}
 use Rattle.cv_meaning_alignment.specs.Points.{Point, turn_of}
 use Rattle.cv_meaning_alignment.specs.Alignment.{GoesOn, both_end, both_first, both_second, left_second, IsAligned, AreBegun}
 use Rattle.cv_meaning_alignment.proofs.Aligned.{simulates}
-use Rattle.cv_meaning_unread.specs.Dropping.{defines, reads_none, IsDropped, same, gone, kept, in_parallel, in_list, in_find, in_branch, in_later_branch, IsUntested, AgreesOff, AreLikeInputs}
+use Rattle.cv_meaning_unread.specs.Dropping.{reads_none, IsDropped, same, gone, kept, in_parallel, in_list, in_find, in_branch, in_later_branch, IsUntested, AgreesOff, AreLikeInputs}
+use Rattle.cv_meaning.specs.Still.{defines}
 use Rattle.cv_meaning_unread.proofs.Unread.{first_reads, second_reads, first_part, second_part, put_agrees, put_aside, bound_agrees, value_same, values_same, candidates_same}
 
 pub all_expected : {A : Type 0} (xs : List A) → AllByRecursion (λ x. Unit {0}) xs

@@ -17,7 +17,8 @@ use Rattle.cv_meaning_chances.proofs.Covers.{same_chance}
 use Rattle.cv_meaning_runs.specs.Replacement.{Part, Process, Branches, IsReplaced, if_tree}
 use Rattle.cv_meaning_runs.specs.Replacement as at
 use Rattle.cv_meaning_runs.specs.Listed.{head_is_no_call, has_no_calls}
-use Rattle.cv_meaning_unread.specs.Dropping.{defines, head_is_still, is_still, head_draws_none, draws_none, IsDropped, same, gone, kept, in_parallel, in_list, in_find, in_branch, in_later_branch, IsUntested}
+use Rattle.cv_meaning_unread.specs.Dropping.{head_draws_none, draws_none, IsDropped, same, gone, kept, in_parallel, in_list, in_find, in_branch, in_later_branch, IsUntested}
+use Rattle.cv_meaning.specs.Still.{defines, head_is_still, is_still}
 use Rattle.cv_meaning_unread.specs.Sizes.{size_in, GiveSizesFor}
 
 -- lists

@@ -24,7 +24,8 @@ use Rattle.cv_meaning.specs.Replaced.{is_output}
 use Rattle.cv_meaning_runs.proofs.Outputs.{output_begins, output_opens, served_elsewhere}
 use Rattle.cv_meaning_runs.proofs.Replacement.{replaced_holds}
 use Rattle.cv_meaning_alignment.proofs.Closing.{others_ignored_in_games}
-use Rattle.cv_meaning_unread.specs.Dropping.{is_still, draws_none, IsDropped, IsUntested}
+use Rattle.cv_meaning_unread.specs.Dropping.{draws_none, IsDropped, IsUntested}
+use Rattle.cv_meaning.specs.Still.{is_still}
 use Rattle.cv_meaning_unread.specs.Sizes.{size_in, GiveSizesFor}
 use Rattle.cv_meaning_unread.proofs.Alike.{all_expected, holds_without}
 use Rattle.cv_meaning_unread.proofs.CellSizes.{is_drawn, undrawn, other_sizes, split_sizes, same_by_sizes}

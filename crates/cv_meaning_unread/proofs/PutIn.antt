@@ -6,7 +6,8 @@ use Rattle.cv_syntax.specs.Tree.{Tree, Node}
 use Rattle.cv_meaning_runs.specs.Replacement.{Part, Process, Branches, IsReplaced}
 use Rattle.cv_meaning.specs.Replaced.{is_output}
 use Rattle.cv_meaning_runs.specs.Replacement as at
-use Rattle.cv_meaning_unread.specs.Dropping.{defines, reads_none, is_still, IsDropped, same, gone, kept, in_parallel, in_list, in_find, in_branch, in_later_branch}
+use Rattle.cv_meaning_unread.specs.Dropping.{reads_none, IsDropped, same, gone, kept, in_parallel, in_list, in_find, in_branch, in_later_branch}
+use Rattle.cv_meaning.specs.Still.{defines, is_still}
 use Rattle.cv_meaning_unread.proofs.Unread.{first_reads, second_reads}
 
 pub put_in : (xs : ℕ → Bool) (h : Head) (a old : Tree) (place : ℕ) (part : Part) (p : ℕ) (game next : Tree) → defines xs h ≡ true → is_still a ≡ true → is_output old ≡ true → reads_none xs game ≡ true → IsReplaced old (Node h a old) place part p game next → IsDropped xs part next game

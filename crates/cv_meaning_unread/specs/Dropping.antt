@@ -1,7 +1,7 @@
 -- Games without some of their restrictions and assignments, whose variables are read nowhere. This profile's own.
 use Rattle.std.specs.Prelude.{◌≡◌, ℕ, Bool, true, false, ◌&&◌, not}
 use Rattle.cv_syntax.specs.declared.head.Head.{Head}
-use Rattle.cv_syntax.specs.declared.head.Head.TheVariants.{Par, New, Let, Find, Branch, Binder, Cons, Key, Call}
+use Rattle.cv_syntax.specs.declared.head.Head.TheVariants.{Par, New, Find, Branch, Cons}
 use Rattle.cv_syntax.specs.Tree.{Tree, Empty, Node, reads_only}
 use Rattle.cv_meaning.specs.Memory.{Memory}
 use Rattle.cv_meaning.specs.Inputs.{Input, message_binders}
@@ -9,30 +9,11 @@ use Rattle.cv_meaning.specs.Runs.{Mode, Events, Real, Random}
 use Rattle.cv_meaning_laws.specs.Agreement.{AgreeOn}
 use Rattle.cv_meaning_runs.specs.Replacement.{Part, Process, Branches}
 use Rattle.cv_meaning.specs.Replaced.{is_output}
-
--- the construct defines one of these variables, by `new` or `let`
-abbrev pub defines : (ℕ → Bool) → Head → Bool
-defines xs (New x T) = xs x
-defines xs (Let x T) = xs x
-defines xs h = false
+use Rattle.cv_meaning.specs.Still.{defines, is_still}
 
 -- the tree reads none of these variables
 abbrev pub reads_none : (ℕ → Bool) → Tree → Bool
 reads_none xs t = reads_only (λ x. not (xs x)) t
-
--- the tree has nothing that is chosen, and defines nothing: so it is with a term
-abbrev pub head_is_still : Head → Bool
-head_is_still (New x T) = false
-head_is_still (Let x T) = false
-head_is_still (Binder x T) = false
-head_is_still (Find l) = false
-head_is_still (Key x) = false
-head_is_still (Call x l) = false
-head_is_still h = true
-
-abbrev pub is_still : Tree → Bool
-is_still Empty = true
-is_still (Node h a b) = head_is_still h && (is_still a && is_still b)
 
 -- The second tree is the first without some definitions of these variables, none of which the second one reads.
 pub data IsDropped (xs : ℕ → Bool) : Part → Tree → Tree → Type 0 where

@@ -21,11 +21,10 @@ ghost use Rattle.cv_meaning_unread.specs.Dropping.{
   AreLikeInputs,
   IsDropped,
   IsUntested,
-  defines,
   draws_none,
-  is_still,
   reads_none,
 };
+ghost use Rattle.cv_meaning.specs.Still.{defines, is_still};
 
 /// Where a game is another one without some `new` and `let`, whose variables it reads nowhere and no test
 /// asks for, both runs show the adversary the same on every tape, and their stores differ in these

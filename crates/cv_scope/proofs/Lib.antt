@@ -14,3 +14,5 @@ pub mod Apart
 pub mod Constants
 pub mod Decided
 pub mod First
+pub mod Plain
+pub mod Unbound

@@ -34,7 +34,8 @@ use Rattle.cv_scope_runs.proofs.TermsLater.{readable_assigned, all_readable_assi
 use Rattle.cv_scope_runs.proofs.Contexts.{Matches, CellHolds, FactHolds, EventHolds, Holds, bound_later}
 use Rattle.cv_scope_runs.proofs.Candidates.{OnlyVariables, bound_values, list_cells, list_read}
 use Rattle.cv_scope_runs.proofs.Standing.{Stands, root, in_first, in_second, stands_known, stands_definition}
-use Rattle.cv_scope_runs.proofs.Games.{Game, no_variable, variable_site, stands_phrase, stands_asked, stands_variable}
+use Rattle.cv_scope_runs.proofs.Games.{Game, variable_site, stands_phrase, stands_asked, stands_variable}
+use Rattle.cv_scope.proofs.Unbound.{no_variable}
 use Rattle.cv_scope_runs.proofs.PathRuns.{term_reads, terms_read, later_holds, only_variables, SiteHolds, StoreHolds, InputReady, GuardsShape, shape, guards_shape, own_ready, guarded_holds, branch_holds}
 use Rattle.cv_scope_runs.proofs.ServeRuns.{VisitHolds, Moves, game_holds}
 

@@ -33,7 +33,8 @@ use Rattle.cv_scope_runs.proofs.TermsLater.{LeafReads, index, constant, cell}
 use Rattle.cv_scope_runs.proofs.Contexts.{Matches, Holds, index_none}
 use Rattle.cv_scope_runs.proofs.Rows.{position_of}
 use Rattle.cv_scope_runs.proofs.Standing.{Stands, root, in_first, in_second}
-use Rattle.cv_scope_runs.proofs.Games.{Game, no_variable}
+use Rattle.cv_scope_runs.proofs.Games.{Game}
+use Rattle.cv_scope.proofs.Unbound.{no_variable}
 use Rattle.cv_scope_runs.proofs.ServeRuns.{VisitHolds, game_holds}
 use Rattle.cv_scope_runs.proofs.FactsRuns.{well_game}
 use Rattle.cv_scope_runs.proofs.Covered.{StandsForItself, event_met, met_push, none_breaks}

@@ -10,7 +10,8 @@ use Rattle.cv_meaning.specs.Runs.{Mode}
 use Rattle.cv_meaning_runs.specs.Replacement as at
 use Rattle.cv_meaning_runs.specs.Replacement.{Part, Process, IsReplaced}
 use Rattle.cv_meaning.specs.Replaced.{replaced}
-use Rattle.cv_meaning_unread.specs.Dropping.{IsDropped, is_still, head_is_still, same, gone, kept, in_parallel, in_list, in_find, in_branch, in_later_branch}
+use Rattle.cv_meaning_unread.specs.Dropping.{IsDropped, same, gone, kept, in_parallel, in_list, in_find, in_branch, in_later_branch}
+use Rattle.cv_meaning.specs.Still.{is_still, head_is_still}
 use Rattle.cv_meaning_values.specs.Values.{ConstructHasValues, HasValuesIn}
 
 module _ (g : Setting) (m : Mode) where

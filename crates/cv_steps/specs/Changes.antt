@@ -4,7 +4,7 @@ use Rattle.cv_syntax.specs.declared.head.Head.TheVariants.{New, Let}
 use Rattle.cv_syntax.specs.Tree.{Tree, Empty, Node}
 use Rattle.cv_meaning_runs.specs.Replacement.{if_tree}
 use Rattle.cv_meaning.specs.Replaced.{replaced}
-use Rattle.cv_meaning_unread.specs.Dropping.{defines}
+use Rattle.cv_meaning.specs.Still.{defines}
 use Rattle.cv_scenes.specs.Pruning.{Part, Pruned, pruned}
 use Rattle.cv_scenes.specs.Scenes.{part_at}
 

@@ -7,7 +7,7 @@ use Rattle.cv_syntax.specs.Declarations.{Declaration}
 use Rattle.cv_syntax.specs.Tree.{Tree, Empty, Node, size, depth}
 use Rattle.cv_meaning.specs.Interpretation.{is_constant_of, setting_of}
 use Rattle.cv_meaning_runs.specs.Replacement.{Process}
-use Rattle.cv_meaning_unread.specs.Dropping.{defines, is_still}
+use Rattle.cv_meaning.specs.Still.{defines, is_still}
 use Rattle.cv_meaning_unread.proofs.Chances.{chance_without, split_chance}
 use Rattle.cv_meaning_unread.proofs.PutIn.{put_in}
 use Rattle.cv_typing.specs.Parts.{IsTypedGame, first_in, game_part}

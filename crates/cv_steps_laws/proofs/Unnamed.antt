@@ -9,7 +9,8 @@ use Rattle.cv_syntax.specs.Tree.{Tree, Empty, Node, head_reads_only, reads_only,
 use Rattle.cv_meaning.specs.Runs.{Events, Real, Random}
 use Rattle.cv_meaning.specs.Experiments.{Experiment, Breaks, Guesses, mode_of}
 use Rattle.cv_meaning.specs.Advantage.{IsAsked, secrecy_query}
-use Rattle.cv_meaning_unread.specs.Dropping.{defines, reads_none, head_draws_none, draws_none, IsUntested}
+use Rattle.cv_meaning_unread.specs.Dropping.{reads_none, head_draws_none, draws_none, IsUntested}
+use Rattle.cv_meaning.specs.Still.{defines}
 use Rattle.cv_meaning.specs.Queries.{queries_in}
 use Rattle.cv_directory.specs.Sites.{first_of}
 use Rattle.cv_scope.specs.Phrases.{Phrase, Body, Nil, Term, parts, both_are, is_phrase}

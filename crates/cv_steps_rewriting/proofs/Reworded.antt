@@ -13,7 +13,7 @@ use Rattle.cv_meaning.specs.Terms.{is_one, value, value_here}
 use Rattle.cv_meaning_runs.specs.Replacement as runs
 use Rattle.cv_meaning_runs.specs.Replacement.{Process, before_body}
 use Rattle.cv_meaning.specs.Replaced.{replaced}
-use Rattle.cv_meaning_unread.specs.Dropping.{head_is_still, is_still}
+use Rattle.cv_meaning.specs.Still.{head_is_still, is_still}
 use Rattle.cv_meaning_reworded.specs.Rewording.{IsReworded, same, kept, reworded, in_parallel, in_list, in_find, in_branch, has_terms, SaysTheSame}
 use Rattle.cv_facts.specs.Promises.{IsOwnTerm}
 use Rattle.cv_scope.specs.Phrases.{Phrase, Nil, Inputs, Body, Then, Else, Branches, Arm, Pattern, Message, Cells, Terms, Term, is_phrase}

@@ -17,7 +17,7 @@ use Rattle.cv_scope.specs.Sites.{Site, Variable as Named, channel_here, named_he
 use Rattle.cv_scope.specs.Standing.{Standing, first_standing, second_standing}
 use Rattle.cv_scope.proofs.Pairs.{all-append}
 use Rattle.cv_scope.specs.Phrases.{Phrase, Arm, Binders, Inputs, Pattern, both_are, is_phrase, parts}
-use Rattle.cv_scope_runs.proofs.Plain.{phrase_plain}
+use Rattle.cv_scope.proofs.Plain.{phrase_plain}
 use Rattle.cv_directory.specs.declared.sort.Sort.{Sort}
 use Rattle.cv_directory.specs.declared.sort.Sort.TheVariants.{BelowParameter, OfType}
 use Rattle.cv_directory.specs.Sites.{Variable, at_parameters, bound_sort, first_of, first_site, parameters_below, site_here}

@@ -3,7 +3,7 @@ use Rattle.cv_syntax.specs.Tree.{tree_at}
 use Rattle.cv_syntax.specs.Walks.{above}
 use Rattle.cv_syntax.proofs.Trees.{child_live, empty_at}
 use Rattle.cv_syntax.proofs.Walking.{above-child, above-some, size-node}
-use Rattle.cv_meaning_unread.specs.Dropping.{defines}
+use Rattle.cv_meaning.specs.Still.{defines}
 use Rattle.cv_steps.specs.Changes.{only}
 use Rattle.cv_draw.proofs.Lists.{size-without, size-ends, size-gone, size-stays}
 use Rattle.cv_draw.proofs.dropping.+size_without.Goals as goal
