@@ -9,7 +9,7 @@ use Rattle.cv_scenes.specs.Reductions.{Reduction}
 use Rattle.cv_inline_games.specs.Draws.{labels_in}
 use Rattle.cv_inline_draws.proofs.Fresh.{as_many_labels, labels_differ, labels_free}
 use Rattle.cv_inline_expected.specs.Fine.{has_label}
-use Rattle.cv_context_next.specs.Drawn.{AreDrawnFor, finds}
+use Rattle.cv_context_answers.specs.Drawn.{AreDrawnFor, finds}
 
 label_listed : (l : ℕ) (t : Tree) → has_label l t ≡ list_any (λ k. k == l) (labels_in t)
 unfolding has_label labels_in

@@ -8,7 +8,7 @@ use Rattle.cv_scenes.specs.Scenes.{is_new, names}
 use Rattle.cv_inline_games.specs.Draws.{Draw, drawn_texts, greatest_end, is_among, labels_from, labels_in, same_text}
 use Rattle.cv_inline_draws.proofs.Texts.{as_many_texts, drawn_fit, texts_differ, texts_free}
 use Rattle.cv_inline_names.specs.Texts.{is_listed, text_at, texts_at}
-use Rattle.cv_context_next.specs.Drawn.{AreDrawnFor, draws, finds}
+use Rattle.cv_context_answers.specs.Drawn.{AreDrawnFor, draws, finds}
 
 off : (b : Bool) → (b ≡ true → ⊥) → b ≡ false
 off true f = absurd (f refl)

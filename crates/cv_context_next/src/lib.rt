@@ -12,7 +12,7 @@ ghost use Rattle.cv_inline_games.specs.Draws.{Draw, drawn_texts, labels_from, la
 ghost use Rattle.cv_inline_names.specs.Texts.{is_listed, texts_at};
 ghost use Rattle.cv_inline_expected.specs.Fine.{has_free_indices, has_label};
 ghost use Rattle.cv_context_next.specs.Answers.{AreEndless, with_answers};
-ghost use Rattle.cv_context_next.specs.Drawn.{AreDrawnFor, draws, finds};
+ghost use Rattle.cv_context_answers.specs.Drawn.{AreDrawnFor, draws, finds};
 
 /// The next game of an apt game's context is the same for all names of the answers that are apart and that the
 /// game has not, where no instance stands in an index: each answer is read in its statement alone, and there

@@ -15,7 +15,7 @@ use Rattle.cv_context_answers.specs.Answers.{KnowsConstants}
 use Rattle.cv_context_served.proofs.Kept.{answers_are}
 use Rattle.cv_context_texts.specs.SiteTexts.{indices_of, role_in_game}
 use Rattle.cv_context_texts.proofs.Names.{index_named}
-use Rattle.cv_context_next.specs.Drawn.{AreDrawnFor, callings}
+use Rattle.cv_context_answers.specs.Drawn.{AreDrawnFor, callings}
 use Rattle.cv_context_next.proofs.Labels.{labels_apart, many_labels}
 use Rattle.cv_meaning_contexts.specs.Roles.{Gone, Plain, Replication, Role}
 use Rattle.cv_inline_draws.specs.DrawnNames.{AreApart, DrawnNames, is_new, names_of_draws, role_in}

@@ -41,7 +41,7 @@ use Rattle.cv_context_texts.proofs.Texts.{apt_site, site_text}
 use Rattle.cv_context_typed.specs.Typed.{variable_type}
 use Rattle.cv_context_typed.proofs.Own.{no_own}
 use Rattle.cv_context_typed.proofs.Whole.{context_laid}
-use Rattle.cv_context_next.specs.Drawn.{AreDrawnFor, next_game}
+use Rattle.cv_context_answers.specs.Drawn.{AreDrawnFor, next_game}
 use Rattle.cv_context_next.proofs.Labels.{labels_new}
 use Rattle.cv_meaning_contexts.specs.Roles.{Gone, Plain}
 use Rattle.cv_inline_runs.specs.Contexts.{IsAskedAlike}

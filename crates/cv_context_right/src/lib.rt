@@ -19,7 +19,7 @@ ghost use Rattle.cv_inline_draws.specs.DrawnNames.{drawn_in};
 ghost use Rattle.cv_inline_runs.specs.Contexts.{IsAskedAlike};
 ghost use Rattle.cv_inline_expected.specs.CallTexts.{HasCallTexts};
 ghost use Rattle.cv_inline_drawn.specs.Named.{NamedContext, named_on_tape, names_of, text_of};
-ghost use Rattle.cv_context_next.specs.Drawn.{AreDrawnFor, next_game};
+ghost use Rattle.cv_context_answers.specs.Drawn.{AreDrawnFor, next_game};
 ghost use Rattle.cv_context_typed.specs.Typed.{variable_type};
 ghost use Rattle.cv_context_right.specs.Right.{IsNamedFor, IsRightGame, IsStepOfFile};
 

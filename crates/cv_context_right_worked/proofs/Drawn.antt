@@ -18,7 +18,7 @@ use Rattle.cv_inline_games.specs.Draws.{Draw, body_draws, draws_of, drawn_by, fi
 use Rattle.cv_inline_games.specs.NextGame.{call_of, callings_from, callings_of, names_assigned, next_in, next_of, with_results}
 use Rattle.cv_context_answers.specs.Answers.{above_names}
 use Rattle.cv_context_answers.proofs.Many.{none_is}
-use Rattle.cv_context_next.specs.Drawn.{AreDrawnFor, draws, finds, next_game}
+use Rattle.cv_context_answers.specs.Drawn.{AreDrawnFor, draws, finds, next_game}
 use Rattle.cv_context_right_worked.specs.Worked.{accepting, context, drawn_labels, drawn_names, next}
 
 context_is : context_of_game accepting ≡ context

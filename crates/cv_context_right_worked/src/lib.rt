@@ -10,7 +10,7 @@ ghost use Rattle.cv_meaning.specs.Runs.{Adversary};
 ghost use Rattle.cv_meaning_contexts.specs.ContextAdvantage.{context_advantage};
 ghost use Rattle.cv_scenes.specs.Reductions.{context_of_game};
 ghost use Rattle.cv_inline_drawn.specs.Named.{NamedContext};
-ghost use Rattle.cv_context_next.specs.Drawn.{AreDrawnFor, next_game};
+ghost use Rattle.cv_context_answers.specs.Drawn.{AreDrawnFor, next_game};
 ghost use Rattle.cv_context_typed.specs.Typed.{variable_type};
 ghost use Rattle.cv_context_right.specs.Right.{IsRightGame, IsStepOfFile};
 ghost use Rattle.cv_context_right_worked.specs.Worked.{

@@ -11,7 +11,7 @@ use Rattle.cv_inline_games.specs.Draws as of_games
 use Rattle.cv_inline_games.specs.Draws.{labels_from}
 use Rattle.cv_inline_listing.specs.declared.draws.Draw.{Draw}
 use Rattle.cv_inline_listing.specs.Listed.{draw_in}
-use Rattle.cv_inline_drawing.specs.Fresh.{IsDrawnFor, bases_of}
+use Rattle.cv_inline_names.specs.Fresh.{IsDrawnFor, bases_of}
 
 pub bases_more : (ds : List Draw) (i : ℕ) (d : Draw) (old new : List ℕ) → i < length ds → new ≡ old ++ (get_or ds i d).base ∷ [] → old ≡ bases_of (map draw_in (take i ds)) → new ≡ bases_of (map draw_in (take (i + 1) ds))
 bases_more ds i d old new h n o =

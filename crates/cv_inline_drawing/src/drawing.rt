@@ -7,7 +7,7 @@ ghost use Rattle.cv_inline_games.specs.Draws as of_games;
 ghost use Rattle.cv_inline_listing.specs.Callings.{IsLiveCalling, callings_in};
 ghost use Rattle.cv_inline_listing.specs.Listed.{draw_in};
 ghost use Rattle.cv_inline_terms.specs.Drawings.{drawn_in};
-ghost use Rattle.cv_inline_drawing.specs.Fresh.{IsDrawnFor};
+ghost use Rattle.cv_inline_names.specs.Fresh.{IsDrawnFor};
 
 use crate::filling::drawing_of;
 use crate::fresh::{new_labels, new_names};

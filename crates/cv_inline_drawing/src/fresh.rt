@@ -6,7 +6,7 @@ ghost use Rattle.cv_inline_games.specs.Draws as of_games;
 ghost use Rattle.cv_inline_games.specs.Draws.{drawn_texts, labels_from};
 ghost use Rattle.cv_inline_listing.specs.Listed.{draw_in};
 ghost use Rattle.cv_inline_names.specs.Texts.{texts_at, with_texts};
-ghost use Rattle.cv_inline_drawing.specs.Fresh.{bases_of};
+ghost use Rattle.cv_inline_names.specs.Fresh.{bases_of};
 
 use cv_inline_listing::Draw;
 use cv_inline_names::{draw_labels, draw_names, labels_in};

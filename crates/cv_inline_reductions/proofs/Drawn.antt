@@ -12,8 +12,8 @@ use Rattle.cv_inline_games.specs.Draws.{Draw, drawn_texts}
 use Rattle.cv_inline_games.specs.NextGame.{next_of}
 use Rattle.cv_inline_names.specs.Texts.{is_listed, text_at, texts_at}
 use Rattle.cv_inline_names.proofs.Texts.{texts_at-kept}
-use Rattle.cv_inline_drawing.specs.Fresh.{IsDrawnFor, bases_of}
-use Rattle.cv_context_next.specs.Drawn.{draws, finds}
+use Rattle.cv_inline_names.specs.Fresh.{IsDrawnFor, bases_of}
+use Rattle.cv_context_answers.specs.Drawn.{draws, finds}
 use Rattle.cv_inline_reductions.specs.Tables.{AreTaken, GivesNextGame, labels}
 use Rattle.cv_inline_reductions.proofs.Tables.{apart, many, names_kept, new}
 

@@ -9,7 +9,7 @@ use Rattle.cv_inline_games.specs.Draws.{labels_from, labels_in}
 use Rattle.cv_inline_games.specs.NextGame.{next_of}
 use Rattle.cv_inline_names.specs.Texts.{is_listed}
 use Rattle.cv_context_answers.specs.Answers.{answer_above, file_scene}
-use Rattle.cv_context_next.specs.Drawn.{AreDrawnFor, finds, next_game}
+use Rattle.cv_context_answers.specs.Drawn.{AreDrawnFor, finds, next_game}
 
 -- the game's names are numbers below a count
 abbrev pub HasNamesBelow : ℕ → Tree → Type 0

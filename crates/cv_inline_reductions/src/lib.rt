@@ -7,11 +7,11 @@ ghost use Rattle.cv_syntax.specs.Tree.{Tree};
 ghost use Rattle.cv_scenes.specs.Reductions.{Reduction};
 ghost use Rattle.cv_scenes.specs.Scenes.{names};
 ghost use Rattle.cv_meaning_contexts.specs.Inlined.{Drawn};
-ghost use Rattle.cv_inline_drawing.specs.Fresh.{IsDrawnFor};
+ghost use Rattle.cv_inline_names.specs.Fresh.{IsDrawnFor};
 ghost use Rattle.cv_inline_names.specs.Texts.{is_listed};
 ghost use Rattle.cv_inline_taken.specs.Taken.{taken_names};
 ghost use Rattle.cv_context_answers.specs.Answers.{file_scene};
-ghost use Rattle.cv_context_next.specs.Drawn.{draws, finds};
+ghost use Rattle.cv_context_answers.specs.Drawn.{draws, finds};
 ghost use Rattle.cv_inline_reductions.specs.Tables.{
   AreTaken,
   GivesNextGame,

@@ -16,7 +16,7 @@ use Rattle.cv_rule_scenes.specs.Kept.{scene_of}
 use Rattle.cv_match.specs.declared.fault.MatchFault.{MatchFault}
 use Rattle.cv_match.specs.declared.fault.MatchFault.TheVariants as match
 use Rattle.cv_match.specs.Matched.{IsFault}
-use Rattle.cv_kernel_crypto.specs.Crypto.{Failure, equivalence_by, equivalence_of, failed, failure_by, failure_of, failure_with}
+use Rattle.cv_steps_crypto.specs.Conditions.{Failure, equivalence_by, equivalence_of, failed, failure_by, failure_of, failure_with}
 use Rattle.cv_kernel_crypto.specs.Faults.{IsRefused, fault_of}
 
 abbrev at_node : List KindTree → NodeId → Tree

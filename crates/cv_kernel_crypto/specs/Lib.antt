@@ -1,2 +1,1 @@
-pub mod Crypto
 pub mod Faults

@@ -7,7 +7,7 @@ ghost use Rattle.cv_scenes.specs.Scenes as scenes;
 ghost use Rattle.cv_scenes.specs.Sites.{sites_of};
 ghost use Rattle.cv_match_patterns.specs.Sites.{HasInstance, IsLiveSite, site_in};
 ghost use Rattle.cv_match.specs.Matched.{matching_of};
-ghost use Rattle.cv_kernel_crypto.specs.Crypto.{failed, failure_of};
+ghost use Rattle.cv_steps_crypto.specs.Conditions.{failed, failure_of};
 ghost use Rattle.cv_kernel_crypto.specs.Faults.{IsRefused, fault_of};
 
 use crate::fault::{CryptoFault, refused};

@@ -6,7 +6,7 @@ use Rattle.cv_inline_games.specs.Draws.{labels_from, labels_in}
 use Rattle.cv_inline_listing.specs.Callings.{callings_in}
 use Rattle.cv_inline_listing.specs.Listed.{draw_in}
 use Rattle.cv_inline_terms.specs.Drawings.{drawn_in}
-use Rattle.cv_inline_drawing.specs.Fresh.{IsDrawnFor}
+use Rattle.cv_inline_names.specs.Fresh.{IsDrawnFor}
 use Rattle.cv_inline_drawing.proofs.Tabled.{given_lists}
 use Rattle.cv_inline_drawing.proofs.drawing.draw.Goals as goal
 

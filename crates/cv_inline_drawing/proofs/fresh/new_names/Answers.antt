@@ -3,7 +3,7 @@ use Rattle.std.proofs.lemmas.Result.{IfOk-weaker}
 use Rattle.cv_inline_games.specs.Draws.{drawn_texts}
 use Rattle.cv_inline_listing.specs.Listed.{draw_in}
 use Rattle.cv_inline_names.specs.Texts.{texts_at, with_texts}
-use Rattle.cv_inline_drawing.specs.Fresh as fresh
+use Rattle.cv_inline_names.specs.Fresh as fresh
 use Rattle.cv_inline_drawing.proofs.Tabled.{all_below}
 use Rattle.cv_inline_drawing.proofs.fresh.new_names.Goals as goal
 

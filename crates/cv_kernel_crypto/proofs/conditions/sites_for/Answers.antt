@@ -2,7 +2,7 @@ use Rattle.std.proofs.Common.{sym, subst, ap, ◌∙◌, option_map}
 use Rattle.cv_rule_scenes.specs.Kept.{scene_of}
 use Rattle.cv_scenes.specs.Refusals.{first_refusal}
 use Rattle.cv_match.specs.Matched.{matching_of}
-use Rattle.cv_kernel_crypto.specs.Crypto.{failure_by, failure_of}
+use Rattle.cv_steps_crypto.specs.Conditions.{failure_by, failure_of}
 use Rattle.cv_kernel_crypto.specs.Faults.{IsRefused}
 use Rattle.cv_kernel_crypto.proofs.Failing.{refused_by, with_both, without_equivalence, without_variable}
 use Rattle.cv_kernel_crypto.proofs.conditions.sites_for.Goals as goal

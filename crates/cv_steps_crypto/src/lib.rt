@@ -1,0 +1,27 @@
+// The cryptographic step: its conditions, and the games that it leads to.
+#![tactic(auto)]
+
+ghost use Rattle.std.specs.Prelude.{◌≡◌, ℕ, List, None, Option, Some, true};
+ghost use Rattle.cv_syntax.specs.Declarations.{Declaration};
+ghost use Rattle.cv_syntax.specs.Tree.{Tree};
+ghost use Rattle.cv_typing_runs.specs.Games.{HasDeclaredSorts};
+ghost use Rattle.cv_scenes.specs.Scenes.{Scene};
+ghost use Rattle.cv_steps_crypto.specs.Conditions.{equivalence_of, failure_of};
+ghost use Rattle.cv_steps_crypto.specs.Sorts.{has_declared_sorts};
+ghost use Rattle.cv_steps_crypto.specs.Steps.{Accepted, IsNextGame, IsOutcome, is_next, reduction_of};
+
+/// The test of types and parameters decides.
+pub fn declared_sorts_are_decided()
+    ensures { (ds : List Declaration) (game : Tree) → has_declared_sorts ds game ≡ true
+        → HasDeclaredSorts ds game }
+{}
+
+/// An accepted step fails no condition, and leads to a next game of its reduction, which is a game.
+pub fn accepted_steps_lead_to_next_games()
+    ensures failure { (s : Scene) (e x : ℕ) (next : Tree) → IsOutcome s e x (Accepted next)
+        → failure_of s e x ≡ None }
+    ensures drawn { (s : Scene) (e x : ℕ) (next t : Tree) → IsOutcome s e x (Accepted next)
+        → equivalence_of s e ≡ Some t → IsNextGame (reduction_of s t x) next }
+    ensures game { (s : Scene) (e x : ℕ) (next : Tree) → IsOutcome s e x (Accepted next)
+        → is_next s.declarations next ≡ true }
+{}
