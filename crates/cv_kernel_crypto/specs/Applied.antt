@@ -1,0 +1,72 @@
+-- What the code answers of a cryptographic step. This profile's own.
+use Rattle.std.specs.Prelude.{◌≡◌, ℕ, ◌+◌, ◌<◌, ◌≤◌, ◌⊎◌, List, None, Result, Ok, Err, Some}
+use Rattle.cv_pool.specs.KindTree.{KindTree}
+use Rattle.cv_syntax.specs.declared.work.BuildError.TheVariants as build
+use Rattle.cv_syntax.specs.Declarations.{Declaration}
+use Rattle.cv_syntax.specs.Planting.{overs}
+use Rattle.cv_syntax.specs.Postorder.{postorder}
+use Rattle.cv_syntax.specs.Tree.{Tree, depth, size, tree_at}
+use Rattle.cv_bound.specs.declared.cost.Cost.TheVariants as bound
+use Rattle.cv_meaning.specs.Interpretation.{is_constant_of}
+use Rattle.cv_group_rules.specs.Faults.{IsAccepted}
+use Rattle.cv_context_terms.specs.Forms.{HasLeftForm}
+use Rattle.cv_scenes.specs.Reductions.{context_of_game}
+use Rattle.cv_scenes.specs.Scenes.{Scene}
+use Rattle.cv_steps.specs.Judgements.{most_depth, most_nodes}
+use Rattle.cv_steps_crypto.specs.Conditions.{equivalence_of, failure_of}
+use Rattle.cv_steps_crypto.specs.Steps.{IsNextGame, IsOutcome, reduction_of}
+use Rattle.cv_steps_crypto.specs.Steps as outcome
+use Rattle.cv_kernel_games.specs.declared.testing.Next.{Next}
+use Rattle.cv_kernel_crypto.specs.declared.fault.CryptoFault.{CryptoFault}
+use Rattle.cv_kernel_crypto.specs.declared.fault.CryptoFault.TheVariants as crypto
+
+-- the equivalences of the file are accepted, and their left sides are in the grammar of files
+abbrev pub HasEquivalences : Scene → Type 0
+HasEquivalences s = (e : ℕ) (t : Tree) → equivalence_of s e ≡ Some t → HasLeftForm t × IsAccepted (is_constant_of s.declarations) t
+
+-- how many nodes a tree takes in the pool
+abbrev pub nodes_of : Tree → ℕ
+nodes_of t = overs (postorder t)
+
+-- the context of a step
+pub record IsContext (s : Scene) (e x : ℕ) (context : Tree) : Type 0 where
+  pub equivalence : Tree
+  pub named : equivalence_of s e ≡ Some equivalence
+  pub tree : context ≡ (context_of_game (reduction_of s equivalence x)).game
+
+-- a game that the step may lead to, within the limits
+pub record IsDrawn (s : Scene) (e x : ℕ) (next : Tree) : Type 0 where
+  pub equivalence : Tree
+  pub named : equivalence_of s e ≡ Some equivalence
+  pub drawn : IsNextGame (reduction_of s equivalence x) next
+  pub small : size next ≤ most_nodes
+  pub shallow : depth next ≤ most_depth
+
+-- The pool with so many nodes has no room for the context, or none for the next game behind it; its conditions hold.
+pub record HasNoRoom (limit live : ℕ) (s : Scene) (e x asked : ℕ) : Type 0 where
+  pub failure : failure_of s e x ≡ None
+  pub context : Tree
+  pub made : IsContext s e x context
+  pub full : ((asked ≡ nodes_of context) × (limit < live + asked))
+      ⊎ ((next : Tree) × IsDrawn s e x next × (asked ≡ nodes_of next) × (limit < live + nodes_of context + asked))
+
+-- The step is accepted, and this is its next game, with the advantage of its context as cost. The pool had room for both.
+pub record IsApplied (limit live : ℕ) (s : Scene) (e x step : ℕ) (trees : List KindTree) (next : Next) : Type 0 where
+  pub accepted : IsOutcome s e x (outcome.Accepted (tree_at trees (Some next.game.root)))
+  pub cost : next.cost ≡ bound.Advantage step (record { 0 = e })
+  pub context : Tree
+  pub made : IsContext s e x context
+  pub room : live + nodes_of context + nodes_of (tree_at trees (Some next.game.root)) ≤ limit
+
+-- Each answer is what may be said of the step; memory may run out anywhere.
+abbrev pub IsAnswer : (limit live : ℕ) → Scene → (e x step : ℕ) → List KindTree → Result Next CryptoFault → Type 0
+IsAnswer limit live s e x step trees (Ok next) = IsApplied limit live s e x step trees next
+IsAnswer limit live s e x step trees (Err (crypto.Refused f)) = IsOutcome s e x (outcome.Refused f.condition f.place)
+IsAnswer limit live s e x step trees (Err (crypto.Build (build.Nodes count))) = IsOutcome s e x (outcome.TooLarge count)
+IsAnswer limit live s e x step trees (Err (crypto.Build (build.Depth depth))) = IsOutcome s e x (outcome.TooDeep depth)
+IsAnswer limit live s e x step trees (Err (crypto.Build (build.Full asked))) = HasNoRoom limit live s e x asked
+IsAnswer limit live s e x step trees (Err (crypto.Build build.OutOfMemory)) = Unit {0}
+
+-- the nodes that a step adds are those of its context and of its next game
+abbrev pub IsFew : (live : ℕ) → Scene → (e x : ℕ) → (after : ℕ) → (next : Tree) → Type 0
+IsFew live s e x after next = (context : Tree) → IsContext s e x context → after ≤ live + nodes_of context + nodes_of next
