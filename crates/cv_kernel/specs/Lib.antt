@@ -1,7 +1,6 @@
 pub mod Steps
 pub mod Rules
 pub mod Closings
-pub mod Sayings
 pub mod ClosingTrees
 pub mod Sequences
 pub mod Proofs
