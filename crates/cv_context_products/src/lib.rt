@@ -4,6 +4,8 @@
 
 mod calls;
 mod keys;
+mod shape;
 
 pub use calls::{calls_of, parameters_of};
 pub use keys::keys_of;
+pub use shape::{Calls, Shape, shape_of};
