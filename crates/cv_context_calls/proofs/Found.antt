@@ -110,21 +110,28 @@ module _ (r : Reduction) (l : ℕ) where
   first_found None q c f g e = g e
   first_found (Some d) q c f g e = f e
 
+  -- in a tree with a fact that its parts have too, by which the terms of calls have no calls
+  module _ (P : Tree → Type 0) (kept : (h : Head) (a b : Tree) → P (Node h a b) → P a × P b) (plain : (rs : List (ℕ × ℕ)) (x m : ℕ) (a b : Tree) → P (Node (Call x m) a b) → IsCallOf r rs x m a → call_of rs l a ≡ None) where
+    pub found_by : (t : Tree) (rs : List (ℕ × ℕ)) (c : Found) → P t → AreCallsOf r rs t → call_of rs l t ≡ Some c → IsOfSite c
+    unfolding AreCallsOf call_of
+    found_by Empty rs c p k e = absurd (none_is c e)
+    found_by (Node (Call x m) a b) rs c p k e = go (m == l) refl (found_by b rs c (kept (Call x m) a b p).1 k.1) e
+      where
+        go : (z : Bool) → (m == l) ≡ z → (call_of rs l b ≡ Some c → IsOfSite c) → cond z (Some (rs, a)) (first_of (call_of rs l a) (call_of rs l b)) ≡ Some c → IsOfSite c
+        go true i ih e = subst IsOfSite (some_is (rs, a) c e) (record { variable = x; call = subst (λ n. IsCallOf r rs x n a) (eqb-true m l i) k.0 })
+        go false i ih e = first_found (call_of rs l a) (call_of rs l b) c (λ z. absurd (none_is c (sym (plain rs x m a b p k.0) ∙ z))) ih e
+    found_by (Node (Repl i n) a b) rs c p k e =
+        first_found (call_of (rs ++ (i, n) ∷ []) l a) (call_of (rs ++ (i, n) ∷ []) l b) c
+        (λ z. absurd (none_is c (sym (ap (call_of (rs ++ (i, n) ∷ []) l) k.0) ∙ z))) (λ z. found_by b (rs ++ (i, n) ∷ []) c (kept (Repl i n) a b p).1 k.1 z) e
+    found_by (Node h a b) rs c p k e =
+        let q = kept h a b p in
+        first_found (call_of rs l a) (call_of rs l b) c (λ z. found_by a rs c q.0 k.0 z) (λ z. found_by b rs c q.1 k.1 z) e
+
+  -- as in a phrase of a context
   pub found : (t : Tree) (σ : Phrase) (rs : List (ℕ × ℕ)) (c : Found) → is_oracle_phrase σ t ≡ true → AreCallsOf r rs t → call_of rs l t ≡ Some c → IsOfSite c
-  unfolding AreCallsOf call_of
-  found Empty σ rs c p k e = absurd (none_is c e)
-  found (Node (Call x m) a b) σ rs c p k e = let q = children_of σ (Call x m) a b p in go (m == l) refl (found b q.second rs c q.in_second k.1) e
-    where
-      go : (z : Bool) → (m == l) ≡ z → (call_of rs l b ≡ Some c → IsOfSite c) → cond z (Some (rs, a)) (first_of (call_of rs l a) (call_of rs l b)) ≡ Some c → IsOfSite c
-      go true i ih e = subst IsOfSite (some_is (rs, a) c e) (record { variable = x; call = subst (λ n. IsCallOf r rs x n a) (eqb-true m l i) k.0 })
-      go false i ih e = first_found (call_of rs l a) (call_of rs l b) c (λ z. absurd (none_is c (sym (terms_none l a rs (terms_of_call σ x m a b p)) ∙ z))) ih e
-  found (Node (Repl i n) a b) σ rs c p k e =
-      let q = children_of σ (Repl i n) a b p in
-      first_found (call_of (rs ++ (i, n) ∷ []) l a) (call_of (rs ++ (i, n) ∷ []) l b) c
-      (λ z. absurd (none_is c (sym (ap (call_of (rs ++ (i, n) ∷ []) l) k.0) ∙ z))) (λ z. found b q.second (rs ++ (i, n) ∷ []) c q.in_second k.1 z) e
-  found (Node h a b) σ rs c p k e =
-      let q = children_of σ h a b p in
-      first_found (call_of rs l a) (call_of rs l b) c (λ z. found a q.first rs c q.in_first k.0 z) (λ z. found b q.second rs c q.in_second k.1 z) e
+  found t σ rs c p k e =
+      found_by (λ t. (σ : Phrase) × (is_oracle_phrase σ t ≡ true)) (λ h a b p. let q = children_of p.0 h a b p.1 in ((q.first, q.in_first), (q.second, q.in_second)))
+      (λ rs x m a b p k. terms_none l a rs (terms_of_call p.0 x m a b p.1)) t rs c (σ, p) k e
 
   site_is : (s d : Site) → ◌≡◌ {A = Option Site} (Some s) (Some d) → s ≡ d
   site_is s d e = cc

@@ -11,7 +11,7 @@ use Rattle.cv_scope.specs.Phrases.{Body, Inputs, Message, Nil, Phrase, Term, Ter
 use Rattle.cv_scope.specs.declared.position.Position.{Position}
 use Rattle.cv_scope.specs.declared.position.Position.TheVariants.{Anywhere}
 use Rattle.cv_scope_runs.proofs.Rows.{placed, position_of}
-use Rattle.cv_scenes.specs.Instances.{Call, call_at}
+use Rattle.cv_scenes.specs.Instances.{Call, Matching, call_at}
 use Rattle.cv_scenes.specs.Sites.{Site, is_guard, sites_in}
 use Rattle.cv_scenes.specs.Contexts.{after_calls, call_terms, context_in, in_context, is_statement}
 use Rattle.cv_scenes.specs.Reductions.{Reduction, context_of_game, is_coin, matching, sites}
@@ -21,19 +21,24 @@ use Rattle.cv_context_apt.proofs.Statements.{AreSame, below_message, below_term,
 use Rattle.cv_context_formed.proofs.Terms.{children, same_parts}
 use Rattle.cv_context_calls.specs.Calls.{AreCallsOf}
 
-no_row : {A : Type 0} (q : Phrase × Phrase) → ◌≡◌ {A = Option (Phrase × Phrase)} None (Some q) → A
+pub no_row : {A : Type 0} (q : Phrase × Phrase) → ◌≡◌ {A = Option (Phrase × Phrase)} None (Some q) → A
 no_row q e = absurd (clash e)
   where
     clash : ◌≡◌ {A = Option (Phrase × Phrase)} None (Some q) → ⊥
     clash e = cc
 
-nil_is_empty : (a : Tree) → is_phrase Nil a ≡ true → a ≡ Empty
+pub nil_is_empty : (a : Tree) → is_phrase Nil a ≡ true → a ≡ Empty
 unfolding is_phrase
 nil_is_empty Empty e = refl
 nil_is_empty (Node h a b) e = absurd (both_ways false refl e)
 
 row_first : (p q : Phrase × Phrase) → ◌≡◌ {A = Option (Phrase × Phrase)} (Some p) (Some q) → p.0 ≡ q.0
 row_first p q e = cc
+
+-- as many sites in a first child at one place as at another
+pub inside_length : (M : Matching) (w : Position) (rs : List (ℕ × ℕ)) (h : Head) (a : Tree) (p : ℕ) (z : Bool) → length (cond z [] (sites_in M (first_position w h) rs 0 a)) ≡ length (cond z [] (sites_in M (first_position w h) rs p a))
+inside_length M w rs h a p true = refl
+inside_length M w rs h a p false = count_sites M (first_position w h) rs a 0 p
 
 module _ (r : Reduction) where
   -- a node of a phrase of a game is no call
@@ -129,10 +134,6 @@ module _ (r : Reduction) where
   unfolding context_in
   empty_in w rs j a e = ap (context r w rs j) e ∙ refl
 
-  inside_length : (w : Position) (rs : List (ℕ × ℕ)) (h : Head) (a : Tree) (p : ℕ) (z : Bool) → length (cond z [] (sites_in (matching r) (first_position w h) rs 0 a)) ≡ length (cond z [] (sites_in (matching r) (first_position w h) rs p a))
-  inside_length w rs h a p true = refl
-  inside_length w rs h a p false = count_sites (matching r) (first_position w h) rs a 0 p
-
   unguarded : (j : ℕ) (xs : List Site) (z : Bool) → z ≡ false → AreFrom j (cond z [] xs) → AreFrom j xs
   unguarded j xs z e f = subst (λ b. AreFrom j (cond b [] xs)) e f
 
@@ -174,7 +175,7 @@ module _ (r : Reduction) where
           statement h σ a b _ rs j (first_place p h) e first
           (inner h σ (τ, ρ) rs _ _ row (λ q. let i = nil_is_empty a (subst (λ x. is_phrase x a ≡ true) q e₁) in guarded_empty a (context r (first_position w h) rs j a) (is_guard w) i (empty_in (first_position w h) rs j a i))
           (guarded τ rs a (context r (first_position w h) rs j a) (is_guard w) e₁ (λ z. A (unguarded j XA (is_guard w) z first)))
-          (B (right_from j (length (inside r w rs h a)) (cond (is_guard w) [] XA) XB (inside_length w rs h a (first_place p h) (is_guard w)) f)))
+          (B (right_from j (length (inside r w rs h a)) (cond (is_guard w) [] XA) XB (inside_length (matching r) w rs h a (first_place p h) (is_guard w)) f)))
 
   pub game_calls : is_phrase Inputs r.scene.game ≡ true → AreCallsOf r [] (context_of_game r).game
   game_calls e = calls r.scene.game Inputs [] 0 0 e (λ k s i. let z : 0 + k ≡ k = omega arith in ap (slice_get (sites r)) z ∙ i)

@@ -1,2 +1,5 @@
 pub mod Games
 pub mod Found
+pub mod Instances
+pub mod Keys
+pub mod Alike
