@@ -33,7 +33,8 @@ use Rattle.cv.specs.Causes.{ComesFrom, Outside}
 use Rattle.cv.specs.Causes as cause
 use Rattle.cv.specs.Faults.{status_of as ended_by}
 use Rattle.cv.specs.Fetched.{fetch_ended}
-use Rattle.cv.specs.Games.{HasCloseGames, IsWithin, summed}
+use Rattle.cv_sequences.specs.Chains.{summed}
+use Rattle.cv.specs.Games.{HasCloseGames, IsWithin}
 use Rattle.cv_report.specs.declared.report.Entry.{Entry}
 use Rattle.cv_syntax.specs.declared.work.Game.{Game}
 use Rattle.cv_plain.specs.Strategy.{Course, EndsAt, most_pool, most_steps, nothing_said, said_of, status_by}

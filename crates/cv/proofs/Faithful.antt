@@ -29,8 +29,10 @@ use Rattle.cv_query_form.specs.Rules.{AreAsked}
 use Rattle.cv_report.specs.declared.report.Entry.{Entry}
 use Rattle.cv_report.specs.declared.report.Report.{Report}
 use Rattle.cv_script.specs.declared.steps.Step.{Step}
+use Rattle.cv_sequences.specs.Chains.{summed}
 use Rattle.cv_sequences.specs.Sequences.{added_up, costs_of}
 use Rattle.cv_sequences.proofs.Asked.{choices_valued}
+use Rattle.cv_sequences.proofs.Chains.{summed_put}
 use Rattle.cv_sequences.proofs.Sums.{within}
 use Rattle.cv_steps.specs.Costs.{cost_of}
 use Rattle.cv_steps.specs.Judgements.{Accepted}
@@ -43,7 +45,7 @@ use Rattle.cv_typing.specs.Parts.{IsTypedFile}
 use Rattle.cv_typing_runs.specs.Games.{HasConstants}
 use Rattle.cv_derivations_under.specs.Holding.{IsReady}
 use Rattle.cv_derivations_under.specs.Soundness.{DerivationsHold, DerivedBodiesAreUnreached}
-use Rattle.cv.specs.Games.{HasCloseGames, IsWithin, summed}
+use Rattle.cv.specs.Games.{HasCloseGames, IsWithin}
 use Rattle.cv.specs.Runs.{Runs}
 use Rattle.cv.specs.Scripts.{entry_in, entry_of, game_behind, known_to}
 use Rattle.cv.proofs.Closings.{nothing-more}
@@ -126,18 +128,13 @@ module _ (ds : List Declaration) (known : ℕ → Bool) (first : Tree) where
 
   -- a cost more
 
-  summed-put : (sum : List Term) (cs : List SumCost) (c : SumCost) → summed sum (cs ++ c ∷ []) ≡ added (summed sum cs) c false
-  unfolding summed
-  summed-put sum [] c = refl
-  summed-put sum (d ∷ cs) c = summed-put (added sum d false) cs c
-
   pub summed_up : (sum : List Term) (cs : List Cost) → added_up sum cs false ≡ summed sum (map cost_of cs)
   unfolding added_up summed
   summed_up sum [] = refl
   summed_up sum (c ∷ cs) = summed_up (added sum (cost_of c) false) cs
 
   pub summed-on : (before : List Transition) (t : Transition) → summed [] (map (λ x. x.cost) (before ++ t ∷ [])) ≡ added (summed [] (map (λ x. x.cost) before)) t.cost false
-  summed-on before t = ap (summed []) (map-append (λ x. x.cost) before (t ∷ [])) ∙ summed-put [] (map (λ x. x.cost) before) t.cost
+  summed-on before t = ap (summed []) (map-append (λ x. x.cost) before (t ∷ [])) ∙ summed_put [] (map (λ x. x.cost) before) t.cost
 
   -- the steps that change games are a sequence, with the same sum
   pub record HasPassages (ts : List Transition) (last : Tree) : Type 0 where
@@ -154,7 +151,7 @@ module _ (ds : List Declaration) (known : ℕ → Bool) (first : Tree) where
         sequence = steps.push h.passages game one h.sequence (ap (judgement_by (scene ds known game)) (sym x.1) ∙ e);
         sums = ap (λ cs. summed [] (map cost_of cs)) (map-append (λ q. q.cost) h.passages (one ∷ []))
             ∙ (ap (summed []) (map-append cost_of (costs_of h.passages) (cost ∷ []))
-            ∙ (summed-put [] (map cost_of (costs_of h.passages)) (cost_of cost)
+            ∙ (summed_put [] (map cost_of (costs_of h.passages)) (cost_of cost)
             ∙ (ap₂ (λ sum k. added sum k false) h.sums (sym c) ∙ sym (summed-on before t))));
       }
   passage_more before game t h (Some d) n cost e c =

@@ -43,13 +43,13 @@ use Rattle.cv_derivations_under.specs.Holding.{IsReady}
 use Rattle.cv_derivations_under.specs.Soundness.{DerivationsHold, DerivedBodiesAreUnreached}
 use Rattle.cv_steps.specs.Costs.{cost_of}
 use Rattle.cv_steps.specs.Sequences.{scene}
+use Rattle.cv_sequences.specs.Chains.{summed}
 use Rattle.cv_sequences.specs.Sequences.{added_up, costs_of}
 use Rattle.cv_sequences.proofs.Asked.{choices_valued}
 use Rattle.cv_sequences.proofs.Sums.{carried, games_ready, sum_tapes}
 use Rattle.cv_kernel_closed.specs.Queries.{is_among}
 use Rattle.cv_kernel.specs.Closings.{Closing, closing_failure, closing_in, closing_of_items, judgement_by_closing}
 use Rattle.cv_kernel.specs.Proofs.{IsProof, IsTransition, Transition, closed_by, push, start, sum_at, sum_behind, sum_from, sum_of}
-use Rattle.cv.specs.Games.{summed}
 use Rattle.cv.specs.Runs.{IsSoundFor}
 use Rattle.cv.specs.Scripts.{known_to, verdict_by, verdicts_by}
 use Rattle.cv.specs.Strategy.{FollowsScript, HoldsUpTo, file_in, steps_in}

@@ -1,9 +1,7 @@
 -- What the games of a report have in common: no adversary tells one from the first by more than the costs of the steps
 -- between them. Sequences of games are those of Blanchet, TDSC 2008.
-use Rattle.std.specs.Prelude.{◌≡◌, ℕ, ◌+◌, false, List, [], ◌∷◌, map, take, Some, IfSome, slice_get}
-use Rattle.cv_bound.specs.declared.cost.Cost.{Cost}
+use Rattle.std.specs.Prelude.{◌≡◌, ℕ, ◌+◌, List, [], map, take, Some, IfSome, slice_get}
 use Rattle.cv_bound.specs.declared.terms.Term.{Term}
-use Rattle.cv_bound.specs.Sums.{added}
 use Rattle.cv_bound.specs.Values.{Advantages, sum_value}
 use Rattle.cv_meaning.specs.Advantage.{IsAsked, chance_of}
 use Rattle.cv_meaning.specs.Chances.{AtMost, distance}
@@ -17,12 +15,8 @@ use Rattle.cv_report.specs.declared.report.Report.{Report}
 use Rattle.cv_syntax.specs.declared.work.Game.{Game}
 use Rattle.cv_syntax.specs.Declarations.{Declaration}
 use Rattle.cv_syntax.specs.Tree.{Tree, tree_at}
+use Rattle.cv_sequences.specs.Chains.{summed}
 use Rattle.cv.specs.Strategy.{declared_in, game_in}
-
--- a sum with these costs more, one after another
-unfoldable pub summed : List Term → List Cost → List Term
-summed sum [] = sum
-summed sum (c ∷ cs) = summed (added sum c false) cs
 
 -- In each experiment for which a query of the file asks, no adversary tells the games by more than the sum.
 abbrev pub IsWithin : List Declaration → (first next : Tree) → List Term → Type 0

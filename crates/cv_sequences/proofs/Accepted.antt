@@ -1,16 +1,28 @@
--- Each step that is accepted keeps chances.
+-- Each step that is accepted leads to a ready game, and keeps chances.
 use Rattle.std.proofs.Common.{◌≡◌}
 use Rattle.std.proofs.lemmas.Bool.{and_parts}
 use Rattle.cv_syntax.specs.Tree.{Tree}
+use Rattle.cv_typing_runs.specs.Games.{HasConstants}
 use Rattle.cv_derivations_under.specs.Holding.{IsReady}
 use Rattle.cv_derivations_under.specs.Soundness.{DerivationsHold, DerivedBodiesAreUnreached}
 use Rattle.cv_scenes.specs.Scenes.{KnowsQueries, Scene, has_place, is_type}
 use Rattle.cv_steps.specs.Steps.{Cost, Let, New, Prune, Rewrite, Split, Step, Unnew}
 use Rattle.cv_steps.specs.Judgements.{Accepted, judgement_of}
 use Rattle.cv_steps.specs.Chances.{KeepsChances}
-use Rattle.cv_steps_laws.proofs.Keeping.{accepted, assigns, chooses, drops, splits, term_phrase}
+use Rattle.cv_steps_laws.proofs.Keeping.{accepted, assigns, chooses, drops, next_declared, next_formed, next_known, next_named, next_typed, splits, term_phrase}
 use Rattle.cv_steps_pruning.proofs.Keeping.{prunes}
 use Rattle.cv_steps_rewriting.proofs.Keeping.{rewrites}
+
+pub step_ready : (s : Scene) (step : Step) (next : Tree) (cost : Cost) → HasConstants s.declarations → IsReady s.declarations s.game → judgement_of s step ≡ Accepted next cost → IsReady s.declarations next
+step_ready s step next cost constants w e = record {
+  arguments = w.arguments;
+  equations = w.equations;
+  formed = next_formed s step next cost e;
+  typed = next_typed s step next cost e;
+  names = next_known s step next cost constants e;
+  cells = next_named s step next cost e;
+  sorts = next_declared s step next cost w.formed.phrase w.sorts e;
+}
 
 pub steps_keep : (s : Scene) (step : Step) (next : Tree) (cost : Cost) → IsReady s.declarations s.game → DerivationsHold s.declarations → DerivedBodiesAreUnreached s.declarations → KnowsQueries s → judgement_of s step ≡ Accepted next cost → KeepsChances s.declarations s.game next
 steps_keep s (Split p m) next cost w d u k e =

@@ -4,3 +4,5 @@ pub mod Steps
 pub mod Sums
 pub mod Asked
 pub mod Choices
+pub mod Tested
+pub mod Chains

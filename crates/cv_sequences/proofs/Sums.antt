@@ -20,24 +20,23 @@ use Rattle.cv_derivations_under.specs.Soundness.{DerivationsHold, DerivedBodiesA
 use Rattle.cv_scenes.specs.Scenes.{KnowsQueries}
 use Rattle.cv_steps.specs.Sequences.{IsSequence, Passage, push, scene, start}
 use Rattle.cv_steps.specs.Steps.{Cost, Zero}
-use Rattle.cv_steps_laws.proofs.Keeping.{next_declared, next_formed, next_known, next_named, next_typed}
-use Rattle.cv_sequences.proofs.Accepted.{steps_keep}
+use Rattle.cv_sequences.proofs.Accepted.{step_ready, steps_keep}
 use Rattle.cv_sequences.specs.Sequences.{added_up, costs_of}
 use Rattle.cv_meaning_values.specs.Values.{HasValuesIn}
 use Rattle.cv_meaning_values.proofs.Tapes.{tapes}
 use Rattle.cv_sequences.proofs.Steps.{next_values}
 
-same_trans : (p q r : Chance) → 0 < q.all → Same p q → Same q r → Same p r
+pub same_trans : (p q r : Chance) → 0 < q.all → Same p q → Same q r → Same p r
 same_trans p q r pos e f =
     let a : AtMost p r = at_most_trans p q r pos (omega arith) (omega arith) in
     let b : AtMost r p = at_most_trans r q p pos (omega arith) (omega arith) in
     omega arith
 
-apart : (p r : Chance) → Same p r → AtMost (distance p r) zero_chance
+pub apart : (p r : Chance) → Same p r → AtMost (distance p r) zero_chance
 apart p r e = omega arith
 
 -- a chance that is close to none is as small
-back : (p q v : Chance) → 0 < q.all → AtMost (distance p q) v → AtMost q zero_chance → AtMost p v
+pub back : (p q v : Chance) → 0 < q.all → AtMost (distance p q) v → AtMost q zero_chance → AtMost p v
 back p q v pos h k =
     let none : q.good ≡ 0 = omega (arith, k) in
     let left : q.good * p.all ≡ 0 = ap (λ n. n * p.all) none ∙ (let e : 0 * p.all ≡ 0 = omega arith in e) in
@@ -54,17 +53,7 @@ no_terms sum (Zero ∷ cs) = no_terms sum cs
 module _ (ds : List Declaration) (known : ℕ → Bool) (first : Tree) (w : IsReady ds first) (constants : HasConstants ds) where
   pub games_ready : (passages : List Passage) (last : Tree) → IsSequence ds known first passages last → IsReady ds last
   games_ready passages last start = w
-  games_ready passages last (push before game p s e) =
-      let ready = games_ready before game s in
-      record {
-        arguments = w.arguments;
-        equations = w.equations;
-        formed = next_formed (scene ds known game) p.step p.next p.cost e;
-        typed = next_typed (scene ds known game) p.step p.next p.cost e;
-        names = next_known (scene ds known game) p.step p.next p.cost constants e;
-        cells = next_named (scene ds known game) p.step p.next p.cost e;
-        sorts = next_declared (scene ds known game) p.step p.next p.cost ready.formed.phrase ready.sorts e;
-      }
+  games_ready passages last (push before game p s e) = step_ready (scene ds known game) p.step p.next p.cost constants (games_ready before game s) e
 
   module _ (holds : DerivationsHold ds) (unreached : DerivedBodiesAreUnreached ds) (k : KnowsQueries (scene ds known first)) (i : Interpretation) (sat : Satisfies ds i) (x : Experiment) (asked : IsAsked (queries_in ds) x) (v : HasValuesIn (setting_of ds i) (mode_of x) first) where
     games_valued : (passages : List Passage) (last : Tree) → IsSequence ds known first passages last → HasValuesIn (setting_of ds i) (mode_of x) last

@@ -24,6 +24,8 @@ ghost use Rattle.cv_steps.specs.Steps.{Cost, Step};
 ghost use Rattle.cv_steps.specs.Judgements.{Accepted, judgement_of};
 ghost use Rattle.cv_steps.specs.Chances.{KeepsChances};
 ghost use Rattle.cv_steps.specs.Sequences.{IsSequence, Passage, scene};
+ghost use Rattle.cv_context_queries.specs.Asked.{AskForNoIndex};
+ghost use Rattle.cv_sequences.specs.Chains.{HaveTapedPrices, IsChain, IsFileOf, Link, Prices, costs_behind, names_below, summed};
 ghost use Rattle.cv_sequences.specs.Sequences.{added_up, costs_of};
 ghost use Rattle.cv_meaning_values.specs.Values.{HasValuesIn};
 
@@ -79,4 +81,49 @@ pub fn declared_games_have_values()
         IsTypedFile ds game → HasDeclaredSorts ds game → AreAsked game (queries_in ds) →
         (i : Interpretation) → Satisfies ds i → (x : Experiment) → IsAsked (queries_in ds) x →
         HasValuesIn (setting_of ds i) (mode_of x) game }
+{}
+
+/// Each game of a chain has all that the laws of runs and of cryptographic steps ask for, where the first is that of an
+/// accepted file.
+pub fn chains_lead_to_ready_games()
+    ensures ready { (ds : List Declaration) (own : ℕ) (first : Tree) (links : List Link)
+        (last : Tree) → IsFileOf ds own first →
+        IsChain ds (names_below own) first links last → IsReady ds last }
+    ensures unasked { (ds : List Declaration) (own : ℕ) (first : Tree) (links : List Link)
+        (last : Tree) → IsFileOf ds own first →
+        IsChain ds (names_below own) first links last →
+        AskForNoIndex (scene ds (names_below own) last) }
+{}
+
+/// So no adversary tells the last game from the first, in an experiment for which a query asks, by more than the sum of
+/// the costs, where an equivalence costs the advantage of the context of its game.
+pub fn chains_are_within_their_sums()
+    ensures { (ds : List Declaration) (own : ℕ) (first : Tree) (links : List Link)
+        (last : Tree) → IsFileOf ds own first →
+        IsChain ds (names_below own) first links last →
+        (i : Interpretation) → Satisfies ds i → (x : Experiment) → IsAsked (queries_in ds) x →
+        HasValuesIn (setting_of ds i) (mode_of x) first →
+        (a : Adversary) (advantages : Advantages) →
+        Prices ds (names_below own) first links advantages i x a →
+        AtMost (distance (chance_of (setting_of ds i) x a first)
+        (chance_of (setting_of ds i) x a last))
+        (sum_value i advantages (summed [] (costs_behind links))) }
+{}
+
+/// So an experiment without a chance in the last game has in the first a chance that is at most the sum. The sum has
+/// tapes where the advantages have.
+pub fn chains_carry_chances_back()
+    ensures chance { (ds : List Declaration) (own : ℕ) (first : Tree) (links : List Link)
+        (last : Tree) → IsFileOf ds own first →
+        IsChain ds (names_below own) first links last →
+        (i : Interpretation) → Satisfies ds i → (x : Experiment) → IsAsked (queries_in ds) x →
+        HasValuesIn (setting_of ds i) (mode_of x) first →
+        (a : Adversary) (advantages : Advantages) →
+        Prices ds (names_below own) first links advantages i x a →
+        AtMost (chance_of (setting_of ds i) x a last) zero_chance →
+        AtMost (chance_of (setting_of ds i) x a first)
+        (sum_value i advantages (summed [] (costs_behind links))) }
+    ensures tapes { (i : Interpretation) (advantages : Advantages) (links : List Link) →
+        HaveTapedPrices advantages links →
+        HasTapes (sum_value i advantages (summed [] (costs_behind links))) }
 {}

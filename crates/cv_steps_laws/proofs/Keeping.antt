@@ -117,16 +117,16 @@ term_phrase s p m e = (and_parts (is_phrase Term m) _ e).0
 
 -- next games
 
-none_of : {A : Type 0} (o : Option A) → not (is_some o) ≡ true → o ≡ None
+pub none_of : {A : Type 0} (o : Option A) → not (is_some o) ≡ true → o ≡ None
 none_of None e = refl
 none_of (Some a) e = absurd (both_ways false refl e)
 
-record IsGame (ds : List Declaration) (game : Tree) : Type 0 where
-  formed : IsWellFormed ds game
-  typed : IsTypedGame ds game
-  named : HasNamedFunctionsAndCells ds game
+pub record IsGame (ds : List Declaration) (game : Tree) : Type 0 where
+  pub formed : IsWellFormed ds game
+  pub typed : IsTypedGame ds game
+  pub named : HasNamedFunctionsAndCells ds game
 
-game_formed : (ds : List Declaration) (game : Tree) → is_game ds game ≡ true → IsGame ds game
+pub game_formed : (ds : List Declaration) (game : Tree) → is_game ds game ≡ true → IsGame ds game
 game_formed ds game e =
     let p = and_parts (is_phrase Inputs game) _ e in
     let q = and_parts (binds_none (is_constant_of ds) game) _ p.1 in

@@ -1,0 +1,237 @@
+-- Chains lead to ready games, and are within the sums of their costs.
+use Rattle.std.proofs.Common.{◌≡◌, ℕ, ◌<◌, ◌≤◌, ◌*◌, Bool, true, false, List, [], ◌∷◌, ◌++◌, Some, None, refl, ap, sym, ◌∙◌, subst, arith, map-append, append_assoc, mul-pos}
+use Rattle.std.proofs.lemmas.Bool.{both_ways}
+use Rattle.cv_syntax.specs.Declarations.{Declaration}
+use Rattle.cv_syntax.specs.Tree.{Tree}
+use Rattle.cv_meaning.specs.Interpretation.{Interpretation, setting_of}
+use Rattle.cv_meaning.specs.Satisfies.{Satisfies}
+use Rattle.cv_meaning.specs.Runs.{Adversary}
+use Rattle.cv_meaning.specs.Experiments.{Experiment, mode_of}
+use Rattle.cv_meaning.specs.Chances.{AtMost, Chance, Same, distance, zero_chance}
+use Rattle.cv_meaning.specs.Advantage.{IsAsked, chance_of}
+use Rattle.cv_meaning.specs.Queries.{queries_in}
+use Rattle.cv_meaning_chances.specs.Fractions.{HasTapes, plus}
+use Rattle.cv_meaning_chances.proofs.FractionLaws.{at_most_trans, distance_kept, plus_kept, triangle}
+use Rattle.cv_meaning_contexts.specs.ContextAdvantage.{context_advantage}
+use Rattle.cv_meaning_values.specs.Values.{HasValuesIn}
+use Rattle.cv_meaning_values.proofs.Tapes.{tapes}
+use Rattle.cv_bound.specs.declared.cost.Cost.{Cost as SumCost}
+use Rattle.cv_bound.specs.declared.terms.Experiment.TheVariants as term
+use Rattle.cv_bound.specs.declared.terms.Term.{Term}
+use Rattle.cv_bound.specs.declared.terms.Term.TheVariants as terms
+use Rattle.cv_bound.specs.Sums.{added, with_terms}
+use Rattle.cv_bound.specs.Values.{Advantages, sum_value}
+use Rattle.cv_bound.proofs.Adding.{sum_value-append}
+use Rattle.cv_typing_runs.proofs.Games.{known}
+use Rattle.cv_scenes.specs.Contexts.{AreAnswers}
+use Rattle.cv_scenes.specs.Reductions.{context_of_game}
+use Rattle.cv_scenes.specs.Scenes.{Scene}
+use Rattle.cv_scenes.specs.Terms.{has_index}
+use Rattle.cv_derivations_under.specs.Holding.{IsReady}
+use Rattle.cv_context_answers.specs.Answers.{answer_above}
+use Rattle.cv_context_answers.proofs.Many.{are_answers}
+use Rattle.cv_context_queries.specs.Asked.{AskForNoIndex}
+use Rattle.cv_context_queries.proofs.Asked.{asked_no_index}
+use Rattle.cv_context_queries.proofs.Steps.{bound_before}
+use Rattle.cv_context_right.specs.Right.{IsStepOfFile}
+use Rattle.cv_context_right.proofs.Steps.{step_costs}
+use Rattle.cv_steps.specs.Judgements.{judgement_of}
+use Rattle.cv_steps.specs.Judgements as rule
+use Rattle.cv_steps.specs.Sequences.{scene}
+use Rattle.cv_steps.specs.Steps.{Cost, Step, Zero}
+use Rattle.cv_steps_crypto.specs.Conditions.{equivalence_of, failure_of}
+use Rattle.cv_steps_crypto.specs.Steps.{IsOutcome, first_answer, reduction_of}
+use Rattle.cv_steps_crypto.specs.Steps as crypto
+use Rattle.cv_steps_crypto.proofs.Accepted.{accepted}
+use Rattle.cv_sequences.specs.Chains.{ByEquivalence, ByStep, HasPrice, HaveTapedPrices, IsChain, IsFileOf, IsLink, Link, Prices, cost_behind, costs_behind, game_after, names_below, next_behind, push, start, summed}
+use Rattle.cv_sequences.proofs.Accepted.{step_ready, steps_keep}
+use Rattle.cv_sequences.proofs.Asked.{game_choices_valued}
+use Rattle.cv_sequences.proofs.Steps.{next_values}
+use Rattle.cv_sequences.proofs.Sums.{apart, back}
+use Rattle.cv_sequences.proofs.Tested.{tested, unrefused}
+
+-- chances
+
+more : (d p : Chance) → AtMost d p → AtMost d (plus p zero_chance)
+more d p h = omega (arith, h)
+
+as_much : (p q v : Chance) → 0 < q.all → Same p q → AtMost q v → AtMost p v
+as_much p q v n e h = at_most_trans p q v n (omega (arith, e)) h
+
+-- what a chance is apart from another, it is from one that is the same
+same_end : (p q r v : Chance) → 0 < p.all → 0 < q.all → AtMost (distance p q) v → Same q r → AtMost (distance p r) v
+same_end p q r v m n h e = as_much (distance p r) (distance p q) v (mul-pos m n) (distance_kept p r p q refl (sym e)) h
+
+-- and from one further on it is apart by both distances
+one_more : (p q r v c : Chance) → 0 < p.all → 0 < q.all → 0 < r.all → AtMost (distance p q) v → AtMost (distance q r) c → AtMost (distance p r) (plus v (plus c zero_chance))
+one_more p q r v c l m n h k =
+    at_most_trans (distance p r) (plus (distance p q) (distance q r)) (plus v (plus c zero_chance)) (mul-pos (mul-pos l m) (mul-pos m n)) (triangle p q r)
+    (plus_kept (distance p q) v (distance q r) (plus c zero_chance) h (more (distance q r) c k))
+
+-- sums
+
+pub summed_put : (sum : List Term) (cs : List SumCost) (c : SumCost) → summed sum (cs ++ c ∷ []) ≡ added (summed sum cs) c false
+unfolding summed
+summed_put sum [] c = refl
+summed_put sum (d ∷ cs) c = summed_put (added sum d false) cs c
+
+-- the sum of a chain with a link more
+summed_more : (before : List Link) (l : Link) → summed [] (costs_behind (before ++ l ∷ [])) ≡ added (summed [] (costs_behind before)) (cost_behind l) false
+summed_more before l = ap (summed []) (map-append cost_behind before (l ∷ [])) ∙ summed_put [] (costs_behind before) (cost_behind l)
+
+abbrev advantage : (n e : ℕ) → Term
+advantage n e = terms.Advantage n (record { 0 = e }) term.Events
+
+-- a chain ends with the game that its links lead to
+ends : (first : Tree) (links : List Link) (l : Link) → game_after first (links ++ l ∷ []) ≡ next_behind l
+unfolding game_after
+ends first [] l = refl
+ends first (m ∷ links) l = ends (next_behind m) links l
+
+pub chain_ends : (ds : List Declaration) (known : ℕ → Bool) (first : Tree) (links : List Link) (last : Tree) → IsChain ds known first links last → game_after first links ≡ last
+unfolding game_after
+chain_ends ds known first links last start = refl
+chain_ends ds known first links last (push before game l c e) = ends first before l
+
+-- the sum has tapes where the advantages have
+with_advantage : (i : Interpretation) (advantages : Advantages) (sum : List Term) (n e : ℕ) → HasTapes (sum_value i advantages sum) → HasTapes (advantages n term.Events) → HasTapes (sum_value i advantages (sum ++ advantage n e ∷ []))
+with_advantage i advantages sum n e h k = subst HasTapes (sym (sum_value-append i advantages sum (advantage n e ∷ []))) (mul-pos h (mul-pos k (omega arith)))
+
+taped_behind : (i : Interpretation) (advantages : Advantages) (sum : List Term) (links : List Link) → HasTapes (sum_value i advantages sum) → HaveTapedPrices advantages links → HasTapes (sum_value i advantages (summed sum (costs_behind links)))
+unfolding summed with_terms
+taped_behind i advantages sum [] h k = h
+taped_behind i advantages sum (ByStep step Zero next ∷ links) h k = taped_behind i advantages sum links h k.1
+taped_behind i advantages sum (ByEquivalence n e x next ∷ links) h k = taped_behind i advantages (sum ++ advantage n e ∷ []) links (with_advantage i advantages sum n e h k.0) k.1
+
+pub taped : (i : Interpretation) (advantages : Advantages) (links : List Link) → HaveTapedPrices advantages links → HasTapes (sum_value i advantages (summed [] (costs_behind links)))
+taped i advantages links k = taped_behind i advantages [] links (omega arith) k
+
+module _ (ds : List Declaration) (own : ℕ) (first : Tree) (w : IsFileOf ds own first) where
+  abbrev at : Tree → Scene
+  at game = scene ds (names_below own) game
+
+  -- games
+
+  record IsSound (game : Tree) : Type 0 where
+    ready : IsReady ds game
+    unasked : AskForNoIndex (at game)
+
+  step_unasked : (game : Tree) (step : Step) (next : Tree) (cost : Cost) → AskForNoIndex (at game) → judgement_of (at game) step ≡ rule.Accepted next cost → AskForNoIndex (at next)
+  step_unasked game step next cost k e x q = go (has_index next x) refl
+    where
+      go : (b : Bool) → has_index next x ≡ b → b ≡ false
+      go true h = absurd (both_ways _ (k x q) (bound_before (at game) step next cost e x h))
+      go false h = refl
+
+  link_sound : (game : Tree) (l : Link) → IsSound game → IsLink (at game) l → IsSound (next_behind l)
+  link_sound game (ByStep step cost next) g e =
+      record { ready = step_ready (at game) step next cost w.constants g.ready e; unasked = step_unasked game step next cost g.unasked e }
+  link_sound game (ByEquivalence n e x next) g h =
+      let t = tested ds next (accepted (at game) e x next h).game in
+      record {
+        ready = record {
+          arguments = w.ready.arguments;
+          equations = w.ready.equations;
+          formed = t.game.formed;
+          typed = t.game.typed;
+          names = known ds next w.constants t.game.formed t.game.named;
+          cells = t.game.named;
+          sorts = t.sorts;
+        };
+        unasked = asked_no_index (at next) t.game.formed.scoped t.asked;
+      }
+
+  sound : (links : List Link) (last : Tree) → IsChain ds (names_below own) first links last → IsSound last
+  sound links last start = record { ready = w.ready; unasked = w.unasked }
+  sound links last (push before game l c e) = link_sound game l (sound before game c) e
+
+  pub games_ready : (links : List Link) (last : Tree) → IsChain ds (names_below own) first links last → IsReady ds last
+  games_ready links last c = (sound links last c).ready
+
+  pub games_unasked : (links : List Link) (last : Tree) → IsChain ds (names_below own) first links last → AskForNoIndex (at last)
+  games_unasked links last c = (sound links last c).unasked
+
+  -- a cryptographic step
+
+  step_of_file : (game : Tree) (e x : ℕ) (t : Tree) → IsSound game → equivalence_of (at game) e ≡ Some t → failure_of (at game) e x ≡ None → IsStepOfFile (reduction_of (at game) t x)
+  step_of_file game e x t g i f =
+      let q = w.equivalences e t i in
+      let answers : (sites : ℕ) → AreAnswers (at game) sites (answer_above first_answer game) = λ sites. are_answers ds own first_answer game sites w.names w.known_queries w.known_constants in
+      record {
+        reducible = record {
+          formed = g.ready.formed;
+          typed = g.ready.typed;
+          names = g.ready.names;
+          form = q.left;
+          accepted = q.accepted;
+          allowed = unrefused (at game) e x t i f;
+          answers = answers _;
+        };
+        arguments = g.ready.arguments;
+        right = q.right;
+        constants = w.known_constants;
+        queries = w.known_queries;
+        unasked = g.unasked;
+        answers = answers;
+      }
+
+  module _ (i : Interpretation) (sat : Satisfies ds i) (x : Experiment) (asked : IsAsked (queries_in ds) x) (v : HasValuesIn (setting_of ds i) (mode_of x) first) where
+    link_valued : (game : Tree) (l : Link) → IsSound game → HasValuesIn (setting_of ds i) (mode_of x) game → IsLink (at game) l → HasValuesIn (setting_of ds i) (mode_of x) (next_behind l)
+    link_valued game (ByStep step cost next) g k e = next_values (at game) i sat (mode_of x) step next cost g.ready.formed.phrase k e
+    link_valued game (ByEquivalence n e key next) g k h =
+        let t = tested ds next (accepted (at game) e key next h).game in
+        game_choices_valued ds next t.game.formed.phrase t.game.typed t.sorts t.asked i sat x asked
+
+    valued : (links : List Link) (last : Tree) → IsChain ds (names_below own) first links last → HasValuesIn (setting_of ds i) (mode_of x) last
+    valued links last start = v
+    valued links last (push before game l c e) = link_valued game l (sound before game c) (valued before game c) e
+
+    module _ (a : Adversary) (advantages : Advantages) where
+      abbrev chance_in : Tree → Chance
+      chance_in game = chance_of (setting_of ds i) x a game
+
+      has_tapes : (links : List Link) (last : Tree) → IsChain ds (names_below own) first links last → HasTapes (chance_in last)
+      has_tapes links last c = tapes (setting_of ds i) x a last (valued links last c)
+
+      abbrev IsWithin : Tree → List Term → Type 0
+      IsWithin game sum = AtMost (distance (chance_in first) (chance_in game)) (sum_value i advantages sum)
+
+      -- a step by a rule
+      by_step : (game : Tree) (step : Step) (next : Tree) (cost : Cost) (sum : List Term) → HasTapes (chance_in game) → IsSound game → judgement_of (at game) step ≡ rule.Accepted next cost → IsWithin game sum → IsWithin next sum
+      by_step game step next cost sum k g e h =
+          same_end (chance_in first) (chance_in game) (chance_in next) (sum_value i advantages sum) (has_tapes [] first start) k h
+          (steps_keep (at game) step next cost g.ready w.derivations w.bodies w.known_queries e i sat x asked a)
+
+      -- one by an equivalence
+      by_equivalence : (game : Tree) (n e key : ℕ) (next : Tree) (sum : List Term) → HasTapes (chance_in game) → HasTapes (chance_in next) → IsSound game → IsOutcome (at game) e key (crypto.Accepted next) → HasPrice (at game) advantages i x a (ByEquivalence n e key next) → IsWithin game sum → IsWithin next (sum ++ advantage n e ∷ [])
+      by_equivalence game n e key next sum k l g o p h =
+          let y = accepted (at game) e key next o in
+          let r = reduction_of (at game) y.equivalence key in
+          let cost : AtMost (distance (chance_in game) (chance_in next)) (context_advantage ds i (context_of_game r) x a) =
+              subst (λ t. AtMost (distance (chance_in game) (chance_in t)) (context_advantage ds i (context_of_game r) x a)) (sym y.drawn.game)
+              (step_costs r (step_of_file game e key y.equivalence g y.is_equivalence y.failure) i y.drawn.names y.drawn.labels y.drawn.drawn x a asked) in
+          subst (AtMost (distance (chance_in first) (chance_in next))) (sym (sum_value-append i advantages sum (advantage n e ∷ [])))
+          (one_more (chance_in first) (chance_in game) (chance_in next) (sum_value i advantages sum) (advantages n term.Events) (has_tapes [] first start) k l h
+          (subst (AtMost (distance (chance_in game) (chance_in next))) (sym (p y.equivalence y.is_equivalence)) cost))
+
+      by_link : (game : Tree) (l : Link) (sum : List Term) → HasTapes (chance_in game) → HasTapes (chance_in (next_behind l)) → IsSound game → IsLink (at game) l → HasPrice (at game) advantages i x a l → IsWithin game sum → IsWithin (next_behind l) (added sum (cost_behind l) false)
+      unfolding with_terms
+      by_link game (ByStep step Zero next) sum k j g e p h = by_step game step next Zero sum k g e h
+      by_link game (ByEquivalence n e key next) sum k j g o p h = by_equivalence game n e key next sum k j g o p h
+
+      -- the prices of a chain, less its last link
+      fewer : (before : List Link) (l : Link) → Prices ds (names_below own) first (before ++ l ∷ []) advantages i x a → Prices ds (names_below own) first before advantages i x a
+      fewer before l p front m behind e = p front m (behind ++ l ∷ []) (ap (λ links. links ++ l ∷ []) e ∙ append_assoc front (m ∷ behind) (l ∷ []))
+
+      pub within : (links : List Link) (last : Tree) → IsChain ds (names_below own) first links last → Prices ds (names_below own) first links advantages i x a → IsWithin last (summed [] (costs_behind links))
+      unfolding summed
+      within links last start p = apart (chance_in first) (chance_in first) refl
+      within links last (push before game l c e) p =
+          subst (IsWithin (next_behind l)) (sym (summed_more before l))
+          (by_link game l (summed [] (costs_behind before)) (has_tapes before game c) (has_tapes (before ++ l ∷ []) (next_behind l) (push before game l c e)) (sound before game c) e
+          (subst (λ t. HasPrice (at t) advantages i x a l) (chain_ends ds (names_below own) first before game c) (p before l [] refl))
+          (within before game c (fewer before l p)))
+
+      -- what is no chance in the last game is at most the sum in the first
+      pub carried : (links : List Link) (last : Tree) → IsChain ds (names_below own) first links last → Prices ds (names_below own) first links advantages i x a → AtMost (chance_in last) zero_chance → AtMost (chance_in first) (sum_value i advantages (summed [] (costs_behind links)))
+      carried links last c p h = back (chance_in first) (chance_in last) (sum_value i advantages (summed [] (costs_behind links))) (has_tapes links last c) (within links last c p) h

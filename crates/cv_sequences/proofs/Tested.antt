@@ -1,0 +1,38 @@
+-- What the test of a next game gives, and what the conditions of its step.
+use Rattle.std.proofs.Common.{◌≡◌, ℕ, ◌||◌, Bool, true, false, cond, List, Option, Some, None, option_map, refl, sym, ap, ◌∙◌}
+use Rattle.std.proofs.lemmas.Bool.{and_parts}
+use Rattle.cv_syntax.specs.Declarations.{Declaration}
+use Rattle.cv_syntax.specs.Tree.{Tree}
+use Rattle.cv_meaning.specs.Queries.{queries_in}
+use Rattle.cv_query_form.specs.Rules.{AreAsked}
+use Rattle.cv_query_form.proofs.First.{asked-where-none}
+use Rattle.cv_typing_runs.specs.Games.{HasDeclaredSorts}
+use Rattle.cv_scenes.specs.Contexts.{matching_of}
+use Rattle.cv_scenes.specs.Refusals.{Refusal, first_refusal}
+use Rattle.cv_scenes.specs.Scenes.{Scene, names}
+use Rattle.cv_scenes.specs.Terms.{is_game}
+use Rattle.cv_steps_crypto.specs.Conditions.{Failure, equivalence_of, failed, failure_by, failure_of, failure_with}
+use Rattle.cv_steps_crypto.specs.Sorts.{has_declared_sorts}
+use Rattle.cv_steps_crypto.specs.Steps.{is_next}
+use Rattle.cv_steps_crypto.proofs.Sorts.{sorts_declared}
+use Rattle.cv_steps_laws.proofs.Keeping.{IsGame, game_formed, none_of}
+
+pub record IsTested (ds : List Declaration) (game : Tree) : Type 0 where
+  pub game : IsGame ds game
+  pub sorts : HasDeclaredSorts ds game
+  pub asked : AreAsked game (queries_in ds)
+
+pub tested : (ds : List Declaration) (game : Tree) → is_next ds game ≡ true → IsTested ds game
+tested ds game e =
+    let p = and_parts (is_game ds game) _ e in
+    let q = and_parts (has_declared_sorts ds game) _ p.1 in
+    record { game = game_formed ds game p.0; sorts = sorts_declared ds game q.0; asked = asked-where-none game (queries_in ds) (none_of _ q.1) }
+
+-- where no condition fails, nothing refuses the game
+pub unrefused : (s : Scene) (e x : ℕ) (t : Tree) → equivalence_of s e ≡ Some t → failure_of s e x ≡ None → first_refusal (matching_of s t x) ≡ None
+unrefused s e x t i f = go (s.known x || names x s.game) (first_refusal (matching_of s t x)) (ap (λ o. failure_with s o x) (sym i) ∙ f)
+  where
+    go : (v : Bool) (o : Option Refusal) → cond v (option_map failure_by o) (Some (failed 0 0)) ≡ None → o ≡ None
+    go true None h = refl
+    go true (Some r) h = absurd (cc)
+    go false o h = absurd (cc)

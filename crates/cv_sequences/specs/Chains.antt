@@ -1,0 +1,113 @@
+-- Sequences of games with cryptographic steps. Blanchet, TDSC 2008.
+use Rattle.std.specs.Prelude.{◌≡◌, ◌≤◌, ℕ, Bool, false, nat_lt, List, [], ◌∷◌, ◌++◌, Some, map}
+use Rattle.std.specs.List.{AllByRecursion}
+use Rattle.cv_syntax.specs.Declarations.{Declaration}
+use Rattle.cv_syntax.specs.Tree.{Tree}
+use Rattle.cv_meaning.specs.Experiments.{Experiment}
+use Rattle.cv_meaning.specs.Interpretation.{Interpretation, is_constant_of}
+use Rattle.cv_meaning.specs.Runs.{Adversary}
+use Rattle.cv_meaning_chances.specs.Fractions.{HasTapes}
+use Rattle.cv_meaning_contexts.specs.ContextAdvantage.{context_advantage}
+use Rattle.cv_bound.specs.declared.cost.Cost.{Cost as SumCost}
+use Rattle.cv_bound.specs.declared.cost.Cost.TheVariants as bound
+use Rattle.cv_bound.specs.declared.terms.Experiment.TheVariants as term
+use Rattle.cv_bound.specs.declared.terms.Term.{Term}
+use Rattle.cv_bound.specs.Sums.{added}
+use Rattle.cv_bound.specs.Values.{Advantages}
+use Rattle.cv_group_rules.specs.Faults.{IsAccepted}
+use Rattle.cv_typing_runs.specs.Games.{HasConstants}
+use Rattle.cv_scenes.specs.Reductions.{context_of_game}
+use Rattle.cv_scenes.specs.Scenes.{KnowsQueries, Scene}
+use Rattle.cv_derivations_under.specs.Holding.{IsReady}
+use Rattle.cv_derivations_under.specs.Soundness.{DerivationsHold, DerivedBodiesAreUnreached}
+use Rattle.cv_context_answers.specs.Answers.{KnowsConstants, file_scene}
+use Rattle.cv_context_queries.specs.Asked.{AskForNoIndex}
+use Rattle.cv_context_right.specs.Right.{IsRightOfFile}
+use Rattle.cv_context_terms.specs.Forms.{HasLeftForm}
+use Rattle.cv_steps.specs.Costs.{cost_of}
+use Rattle.cv_steps.specs.Judgements.{judgement_of}
+use Rattle.cv_steps.specs.Judgements as rule
+use Rattle.cv_steps.specs.Sequences.{scene}
+use Rattle.cv_steps.specs.Steps.{Cost, Step}
+use Rattle.cv_steps_crypto.specs.Conditions.{equivalence_of}
+use Rattle.cv_steps_crypto.specs.Steps.{IsOutcome, first_answer, reduction_of}
+use Rattle.cv_steps_crypto.specs.Steps as crypto
+
+-- the names of a file that has so many
+abbrev pub names_below : (own : ℕ) → ℕ → Bool
+names_below own x = nat_lt x own
+
+-- A step, and the game that it leads to: one by a rule with what it costs, or one by an equivalence, with its number in the proof.
+pub data Link : Type 0 where
+  ByStep : Step → Cost → (next : Tree) → Link
+  ByEquivalence : (number equivalence key : ℕ) → (next : Tree) → Link
+
+abbrev pub next_behind : Link → Tree
+next_behind (ByStep step cost next) = next
+next_behind (ByEquivalence n e x next) = next
+
+-- what sums take for a link: by an equivalence it costs the advantage of its context
+abbrev pub cost_behind : Link → SumCost
+cost_behind (ByStep step cost next) = cost_of cost
+cost_behind (ByEquivalence n e x next) = bound.Advantage n (record { 0 = e })
+
+abbrev pub costs_behind : List Link → List SumCost
+costs_behind links = map cost_behind links
+
+-- the step leads from the game to the next one
+abbrev pub IsLink : Scene → Link → Type 0
+IsLink s (ByStep step cost next) = judgement_of s step ≡ rule.Accepted next cost
+IsLink s (ByEquivalence n e x next) = IsOutcome s e x (crypto.Accepted next)
+
+-- From the first game the links lead to this game.
+pub data IsChain (ds : List Declaration) (known : ℕ → Bool) (first : Tree) : List Link → Tree → Type 0 where
+  start : IsChain ds known first [] first
+  push : (before : List Link) (game : Tree) (l : Link) → IsChain ds known first before game → IsLink (scene ds known game) l → IsChain ds known first (before ++ l ∷ []) (next_behind l)
+
+-- the game that links lead to
+unfoldable pub game_after : (first : Tree) → List Link → Tree
+game_after first [] = first
+game_after first (l ∷ links) = game_after (next_behind l) links
+
+-- a sum with these costs more, one after another
+unfoldable pub summed : List Term → List SumCost → List Term
+summed sum [] = sum
+summed sum (c ∷ cs) = summed (added sum c false) cs
+
+-- Of a link by an equivalence the advantage with its number is that of the context of the game before it.
+abbrev pub HasPrice : Scene → Advantages → Interpretation → Experiment → Adversary → Link → Type 0
+HasPrice s advantages i x a (ByStep step cost next) = Unit {0}
+HasPrice s advantages i x a (ByEquivalence n e key next) =
+    (t : Tree) → equivalence_of s e ≡ Some t → advantages n term.Events ≡ context_advantage s.declarations i (context_of_game (reduction_of s t key)) x a
+
+-- so it is of each link
+abbrev pub Prices : List Declaration → (known : ℕ → Bool) → (first : Tree) → List Link → Advantages → Interpretation → Experiment → Adversary → Type 0
+Prices ds known first links advantages i x a =
+    (before : List Link) (l : Link) (behind : List Link) → links ≡ before ++ l ∷ behind → HasPrice (scene ds known (game_after first before)) advantages i x a l
+
+-- the advantages of links have tapes
+
+abbrev pub HasTapedPrice : Advantages → Link → Type 0
+HasTapedPrice advantages (ByStep step cost next) = Unit {0}
+HasTapedPrice advantages (ByEquivalence n e key next) = HasTapes (advantages n term.Events)
+
+abbrev pub HaveTapedPrices : Advantages → List Link → Type 0
+HaveTapedPrices advantages links = AllByRecursion (HasTapedPrice advantages) links
+
+-- what an accepted file gives of an equivalence
+pub record IsEquivalenceOfFile (ds : List Declaration) (t : Tree) : Type 0 where
+  pub left : HasLeftForm t
+  pub accepted : IsAccepted (is_constant_of ds) t
+  pub right : IsRightOfFile ds t
+
+-- What it gives of its declarations and of its game, where it has so many names.
+pub record IsFileOf (ds : List Declaration) (own : ℕ) (first : Tree) : Type 0 where
+  pub ready : IsReady ds first
+  pub constants : HasConstants ds
+  pub derivations : DerivationsHold ds
+  pub bodies : DerivedBodiesAreUnreached ds
+  pub known_queries : KnowsQueries (file_scene ds own first)
+  pub known_constants : KnowsConstants (file_scene ds own first)
+  pub names : own ≤ first_answer
+  pub unasked : AskForNoIndex (file_scene ds own first)
+  pub equivalences : (e : ℕ) (t : Tree) → equivalence_of (file_scene ds own first) e ≡ Some t → IsEquivalenceOfFile ds t
