@@ -208,8 +208,8 @@ module _ (ds : List Declaration) (own : ℕ) (first : Tree) (w : IsFileOf ds own
           let y = accepted (at game) e key next o in
           let r = reduction_of (at game) y.equivalence key in
           let cost : AtMost (distance (chance_in game) (chance_in next)) (context_advantage ds i (context_of_game r) x a) =
-              subst (λ t. AtMost (distance (chance_in game) (chance_in t)) (context_advantage ds i (context_of_game r) x a)) (sym y.drawn.game)
-              (step_costs r (step_of_file game e key y.equivalence g y.is_equivalence y.failure) i y.drawn.names y.drawn.labels y.drawn.drawn x a asked) in
+          subst (λ t. AtMost (distance (chance_in game) (chance_in t)) (context_advantage ds i (context_of_game r) x a)) (sym y.drawn.game)
+          (step_costs r (step_of_file game e key y.equivalence g y.is_equivalence y.failure) i y.drawn.names y.drawn.labels y.drawn.drawn x a asked) in
           subst (AtMost (distance (chance_in first) (chance_in next))) (sym (sum_value-append i advantages sum (advantage n e ∷ [])))
           (one_more (chance_in first) (chance_in game) (chance_in next) (sum_value i advantages sum) (advantages n term.Events) (has_tapes [] first start) k l h
           (subst (AtMost (distance (chance_in game) (chance_in next))) (sym (p y.equivalence y.is_equivalence)) cost))
