@@ -11,16 +11,16 @@ use Rattle.cv_scenes.specs.Contexts.{matching_of}
 use Rattle.cv_scenes.specs.Refusals.{Refusal, first_refusal}
 use Rattle.cv_scenes.specs.Scenes.{Scene, names}
 use Rattle.cv_scenes.specs.Terms.{is_game}
-use Rattle.cv_steps_crypto.specs.Conditions.{Failure, equivalence_of, failed, failure_by, failure_of, failure_with}
+use Rattle.cv_steps_crypto.specs.Conditions.{equivalence_of, failed, failure_by, failure_of, failure_with}
 use Rattle.cv_steps_crypto.specs.Sorts.{has_declared_sorts}
 use Rattle.cv_steps_crypto.specs.Steps.{is_next}
 use Rattle.cv_steps_crypto.proofs.Sorts.{sorts_declared}
 use Rattle.cv_steps_laws.proofs.Keeping.{IsGame, game_formed, none_of}
 
-pub record IsTested (ds : List Declaration) (game : Tree) : Type 0 where
-  pub game : IsGame ds game
-  pub sorts : HasDeclaredSorts ds game
-  pub asked : AreAsked game (queries_in ds)
+pub record IsTested (ds : List Declaration) (next : Tree) : Type 0 where
+  pub game : IsGame ds next
+  pub sorts : HasDeclaredSorts ds next
+  pub asked : AreAsked next (queries_in ds)
 
 pub tested : (ds : List Declaration) (game : Tree) → is_next ds game ≡ true → IsTested ds game
 tested ds game e =
