@@ -6,7 +6,7 @@ use Rattle.cv_pool.specs.declared.node.NodeId.{NodeId}
 use Rattle.cv_syntax.specs.Classes.{DeclsView, declaration_in, equiv_by, equiv_in}
 use Rattle.cv_syntax.specs.declared.decls.Decl.{Decl}
 use Rattle.cv_syntax.specs.declared.decls.Decl.TheVariants as decl
-use Rattle.cv_syntax.specs.Declarations.{Declaration, declared}
+use Rattle.cv_syntax.specs.Declarations.{declared}
 use Rattle.cv_syntax.specs.Tree.{Tree, tree_at}
 use Rattle.cv_typing.specs.Signature.{declaration_of}
 use Rattle.cv_scenes.specs.Contexts.{matching_of}
@@ -36,6 +36,10 @@ module _ (trees : List KindTree) where
   found (decl.Equation n ∷ ds) x = found ds x
   found (decl.Equiv id n ∷ ds) x = unless_named (x == id.0) (decl.Equiv id n) ds x refl (found ds x)
   found (decl.Query n ∷ ds) x = found ds x
+
+-- so its tree is that of its node
+pub node_named : (pool : PoolView) (decls : DeclsView) (game : NodeId) (e : ℕ) (n : NodeId) → equiv_in decls.list e ≡ Some n → equivalence_of (scene_of pool decls game) e ≡ Some (tree_at pool.trees (Some n))
+node_named pool decls game e n i = found pool.trees decls.list e ∙ ap (option_map (at_node pool.trees)) i
 
 module _ (pool : PoolView) (decls : DeclsView) (game : NodeId) (e x : ℕ) where
   abbrev failure_here : Option Failure

@@ -1,1 +1,12 @@
 pub mod Failing
+pub mod Growing
+pub mod Named
+pub mod Declared
+pub mod Reduced
+pub mod Inlined
+pub mod Found
+pub mod Built
+pub mod Limits
+pub mod Rooms
+pub mod Outcomes
+pub mod Answers

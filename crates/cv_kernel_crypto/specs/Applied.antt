@@ -2,7 +2,6 @@
 use Rattle.std.specs.Prelude.{◌≡◌, ℕ, ◌+◌, ◌<◌, ◌≤◌, ◌⊎◌, List, None, Result, Ok, Err, Some}
 use Rattle.cv_pool.specs.KindTree.{KindTree}
 use Rattle.cv_syntax.specs.declared.work.BuildError.TheVariants as build
-use Rattle.cv_syntax.specs.Declarations.{Declaration}
 use Rattle.cv_syntax.specs.Planting.{overs}
 use Rattle.cv_syntax.specs.Postorder.{postorder}
 use Rattle.cv_syntax.specs.Tree.{Tree, depth, size, tree_at}
@@ -59,13 +58,17 @@ pub record IsApplied (limit live : ℕ) (s : Scene) (e x step : ℕ) (trees : Li
   pub room : live + nodes_of context + nodes_of (tree_at trees (Some next.game.root)) ≤ limit
 
 -- Each answer is what may be said of the step; memory may run out anywhere.
+
+abbrev pub IsFaultOf : (limit live : ℕ) → Scene → (e x : ℕ) → CryptoFault → Type 0
+IsFaultOf limit live s e x (crypto.Refused f) = IsOutcome s e x (outcome.Refused f.condition f.place)
+IsFaultOf limit live s e x (crypto.Build (build.Nodes count)) = IsOutcome s e x (outcome.TooLarge count)
+IsFaultOf limit live s e x (crypto.Build (build.Depth depth)) = IsOutcome s e x (outcome.TooDeep depth)
+IsFaultOf limit live s e x (crypto.Build (build.Full asked)) = HasNoRoom limit live s e x asked
+IsFaultOf limit live s e x (crypto.Build build.OutOfMemory) = Unit {0}
+
 abbrev pub IsAnswer : (limit live : ℕ) → Scene → (e x step : ℕ) → List KindTree → Result Next CryptoFault → Type 0
 IsAnswer limit live s e x step trees (Ok next) = IsApplied limit live s e x step trees next
-IsAnswer limit live s e x step trees (Err (crypto.Refused f)) = IsOutcome s e x (outcome.Refused f.condition f.place)
-IsAnswer limit live s e x step trees (Err (crypto.Build (build.Nodes count))) = IsOutcome s e x (outcome.TooLarge count)
-IsAnswer limit live s e x step trees (Err (crypto.Build (build.Depth depth))) = IsOutcome s e x (outcome.TooDeep depth)
-IsAnswer limit live s e x step trees (Err (crypto.Build (build.Full asked))) = HasNoRoom limit live s e x asked
-IsAnswer limit live s e x step trees (Err (crypto.Build build.OutOfMemory)) = Unit {0}
+IsAnswer limit live s e x step trees (Err fault) = IsFaultOf limit live s e x fault
 
 -- the nodes that a step adds are those of its context and of its next game
 abbrev pub IsFew : (live : ℕ) → Scene → (e x : ℕ) → (after : ℕ) → (next : Tree) → Type 0

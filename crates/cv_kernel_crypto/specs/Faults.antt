@@ -1,5 +1,7 @@
 -- How a cryptographic step is refused by the code.
-use Rattle.std.specs.Prelude.{◌≡◌, Option, Some}
+use Rattle.std.specs.Prelude.{◌≡◌, ℕ, Bool, false, true, is_some, Option, Some}
+use Rattle.cv_pool.specs.declared.pool.PoolError.{PoolError}
+use Rattle.cv_pool.specs.declared.pool.PoolError.TheVariants as pool
 use Rattle.cv_syntax.specs.declared.work.BuildError.TheVariants as build
 use Rattle.cv_match.specs.declared.fault.MatchFault.{MatchFault}
 use Rattle.cv_match.specs.declared.fault.MatchFault.TheVariants as match
@@ -20,3 +22,20 @@ abbrev pub IsRefused : Option Failure → CryptoFault → Type 0
 IsRefused failure (crypto.Refused f) = failure ≡ Some (failed f.condition f.place)
 IsRefused failure (crypto.Build build.OutOfMemory) = Unit {0}
 IsRefused failure (crypto.Build e) = ⊥
+
+-- a fault of the pool
+abbrev pub of_pool : PoolError → CryptoFault
+of_pool (pool.Full need) = crypto.Build (build.Full need)
+of_pool pool.OutOfMemory = crypto.Build build.OutOfMemory
+
+-- a tree is no next game by this test: condition 9; want of memory says nothing
+abbrev pub IsNoNext : Bool → CryptoFault → Type 0
+IsNoNext is_next (crypto.Refused f) = (f ≡ record { condition = 9; place = 0 }) × (is_next ≡ false)
+IsNoNext is_next (crypto.Build build.OutOfMemory) = Unit {0}
+IsNoNext is_next (crypto.Build e) = ⊥
+
+-- the queries may not be asked, where this is the first of them that may not
+abbrev pub IsNotAsked : Option ℕ → CryptoFault → Type 0
+IsNotAsked first (crypto.Refused f) = (f ≡ record { condition = 9; place = 0 }) × (is_some first ≡ true)
+IsNotAsked first (crypto.Build build.OutOfMemory) = Unit {0}
+IsNotAsked first (crypto.Build e) = ⊥

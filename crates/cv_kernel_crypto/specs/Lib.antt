@@ -1,2 +1,4 @@
 pub mod Faults
 pub mod Applied
+pub mod Roles
+pub mod Stages

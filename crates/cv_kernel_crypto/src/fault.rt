@@ -1,7 +1,7 @@
 ghost use Rattle.std.specs.Prelude.{◌≡◌};
 
 use cv_match::MatchFault;
-use cv_syntax::BuildError;
+use cv_syntax::{BuildError, PoolError};
 use std::alloc::AllocError;
 
 /// The condition of a cryptographic step that fails, and the place where it does; 0, where it names none.
@@ -29,6 +29,31 @@ impl From<AllocError> for CryptoFault {
 
     fn from(_: AllocError) -> CryptoFault {
         CryptoFault::Build(BuildError::OutOfMemory)
+    }
+}
+
+impl From<BuildError> for CryptoFault {
+    ghost use Rattle.std.specs.Prelude.{◌≡◌};
+    ghost use Rattle.cv_kernel_crypto.specs.declared.fault.CryptoFault.TheVariants.{Build};
+
+    ghost from_gives = { λ fault e. e ≡ Build fault };
+
+    fn from(fault: BuildError) -> CryptoFault {
+        CryptoFault::Build(fault)
+    }
+}
+
+impl From<PoolError> for CryptoFault {
+    ghost use Rattle.std.specs.Prelude.{◌≡◌};
+    ghost use Rattle.cv_kernel_crypto.specs.Faults.{of_pool};
+
+    ghost from_gives = { λ fault e. e ≡ of_pool fault };
+
+    fn from(fault: PoolError) -> CryptoFault {
+        match fault {
+            PoolError::Full { need } => CryptoFault::Build(BuildError::Full { need }),
+            PoolError::OutOfMemory => CryptoFault::Build(BuildError::OutOfMemory),
+        }
     }
 }
 

@@ -1,8 +1,18 @@
-// The cryptographic step: its conditions in a game of a file. It is proved and not run: no step asks for it yet.
+// The cryptographic step: its conditions in a game of a file, its context and its next game. It is proved and not run: no step asks
+// for it yet.
 #![tactic(auto)]
 
+mod applying;
 mod conditions;
+mod contexts;
 mod fault;
+mod inlining;
+mod instances;
+mod naming;
+mod room;
+mod sorts;
+mod testing;
 
+pub use applying::apply;
 pub use conditions::sites_for;
 pub use fault::{CryptoFault, Failure};

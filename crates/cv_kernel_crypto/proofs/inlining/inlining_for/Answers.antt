@@ -1,0 +1,30 @@
+use Rattle.std.proofs.Common.{◌≡◌, ℕ, ◌≤◌, ◌^◌, arith, length, subst, sym, ap, ◌∙◌}
+use Rattle.cv_meaning_contexts.specs.Groups.{Right, side_group}
+use Rattle.cv_context_answers.specs.Answers.{file_scene}
+use Rattle.cv_context_answers.specs.Drawn.{draws, finds}
+use Rattle.cv_inline_listing.specs.Callings.{callings_in}
+use Rattle.cv_inline_names.specs.Fresh.{IsDrawnFor}
+use Rattle.cv_inline_reductions.specs.Tables.{labels}
+use Rattle.cv_inline_terms.specs.Drawings.{drawn_in}
+use Rattle.cv_steps_crypto.specs.Steps.{first_answer, reduction_of}
+use Rattle.cv_kernel_crypto.proofs.Inlined.{drawn_same}
+use Rattle.cv_kernel_crypto.proofs.inlining.inlining_for.Goals as goal
+
+pub returns-clause-inlining : goal.returns-clause-inlining
+returns-clause-inlining c = λ ds own t e x h a.
+    let trees = c.args.pool.now.trees in
+    let r = reduction_of (file_scene ds own t) e x in
+    let g = side_group Right e in
+    let before = c.args.names.now in
+    let after = c.draw.new.names in
+    let d = drawn_in c.in_ok-drawing.drawing in
+    let cs = c.in_ok-callings.ensures.callings r c.args.game h in
+    let key : g.key ≡ c.right_key_of-right_key.result = sym (c.right_key_of-right_key.ensures ∙ ap (λ q. (side_group Right q).key) h.equivalence) in
+    let drawn = drawn_same trees r c.args.game c.args.context c.args.found.now h before after c.args.taken.now (callings_in trees c.as_slice.result.now) d (ap (callings_in trees) c.as_slice.ensures.value ∙ cs)
+    (c.in_ok-drawing.ensures.drawn g (ap (λ (k : ℕ × ℕ). k.0) key)) in
+    let few : length after ≤ first_answer = omega (arith, c.len.ensures.len, c.if-len-gt-FIRST_ANSWER.false) in
+    record {
+      callings = cs;
+      drawn = c.steps_of_files_have_drawn_tables.ensures ds own first_answer t e x before after d a.owned a.named few (omega (arith, few)) (subst (λ ns. length ns ≤ 2 ^ 64) a.all a.counted) (subst (λ ns. IsDrawnFor before after ns (draws r) (finds r) (labels r) d) a.all drawn);
+      key = key;
+    }

@@ -1,0 +1,97 @@
+-- What the stages of a cryptographic step have found and made. This profile's own.
+use Rattle.std.specs.Prelude.{◌≡◌, ℕ, ◌+◌, ◌<◌, ◌≤◌, ◌^◌, List, length, map, None, Some, Result, Ok, Err}
+use Rattle.std.specs.List.{All}
+use Rattle.cv_pool.specs.KindTree.{KindTree}
+use Rattle.cv_pool.specs.declared.node.NodeId.{NodeId}
+use Rattle.cv_syntax.specs.declared.work.BuildError.TheVariants as build
+use Rattle.cv_syntax.specs.Tree.{Tree, depth, size, tree_at}
+use Rattle.cv_meaning_contexts.specs.Groups.{Right, side_group}
+use Rattle.cv_match_patterns.specs.declared.site.Site.{Site}
+use Rattle.cv_context.specs.Roles.{AreSitesOf, IsLiveCall}
+use Rattle.cv_scenes.specs.Scenes.{Scene}
+use Rattle.cv_scenes.specs.Reductions.{Reduction, context_of_game}
+use Rattle.cv_inline_taken.specs.Taken.{taken_names}
+use Rattle.cv_inline_callings.specs.RightFunctions.{HasRightFunctions}
+use Rattle.cv_inline_listing.specs.Callings.{callings_in}
+use Rattle.cv_inline_reductions.specs.Tables.{GivesNextGame, HasNamesBelow}
+use Rattle.cv_inline_terms.specs.Drawings.{drawn_in}
+use Rattle.cv_context_answers.specs.Drawn.{callings}
+use Rattle.cv_steps.specs.Judgements.{most_depth, most_nodes}
+use Rattle.cv_steps_crypto.specs.Conditions.{equivalence_of, failure_of}
+use Rattle.cv_steps_crypto.specs.Steps.{first_answer, told}
+use Rattle.cv_kernel_crypto.specs.declared.fault.CryptoFault.{CryptoFault}
+use Rattle.cv_kernel_crypto.specs.declared.fault.CryptoFault.TheVariants as crypto
+use Rattle.cv_kernel_crypto.specs.declared.inlining.Inlining.{Inlining}
+use Rattle.cv_kernel_crypto.specs.declared.instances.Instances.{Instances}
+use Rattle.cv_kernel_crypto.specs.Applied.{IsContext, IsDrawn, IsFaultOf, nodes_of}
+
+-- the step's conditions hold, and this is its equivalence
+pub record IsMet (trees : List KindTree) (s : Scene) (e x : ℕ) (i : Instances) : Type 0 where
+  pub named : equivalence_of s e ≡ Some (tree_at trees (Some i.tree))
+  pub met : failure_of s e x ≡ None
+
+-- an equivalence of the pool, and its sites in a game, where a variable stands for the key
+pub record AreInstances (trees : List KindTree) (s : Scene) (game : NodeId) (x : ℕ) (i : Instances) : Type 0 where
+  pub live : i.tree.0 < length trees
+  pub short : size (tree_at trees (Some i.tree)) < 2 ^ 32
+  pub right : HasRightFunctions (tree_at trees (Some i.tree))
+  pub sites : AreSitesOf trees s (tree_at trees (Some i.tree)) x i.sites.items (Some game)
+  pub calls : All (IsLiveCall (length trees)) i.sites.items
+  pub few : length i.sites.items < first_answer
+
+-- the names of file and game, which are numbers of names of the table; the answers' names are above the table's
+pub record AreTakenNames (names : List (List ℕ)) (own : ℕ) (game : Tree) (taken : List ℕ) : Type 0 where
+  pub all : taken ≡ taken_names own game
+  pub below : All (λ x. x < length names) taken
+  pub named : HasNamesBelow (length names) game
+  pub owned : own ≤ length names
+  pub few : length names ≤ first_answer
+  pub counted : length taken ≤ 2 ^ 64
+
+-- a reduction's game, equivalence and context stand in the pool, and its sites' functions have these positions
+pub record HasContext (trees : List KindTree) (r : Reduction) (game_at context_at : NodeId) (i : Instances) : Type 0 where
+  pub game : tree_at trees (Some game_at) ≡ r.scene.game
+  pub equivalence : tree_at trees (Some i.tree) ≡ r.equivalence
+  pub context : tree_at trees (Some context_at) ≡ (context_of_game r).game
+  pub functions : map (λ (s : Site). s.function) i.sites.items ≡ (context_of_game r).functions
+
+-- what the reduction's next game is made from
+pub record IsInlining (trees : List KindTree) (r : Reduction) (i : Inlining) : Type 0 where
+  pub callings : callings_in trees i.callings.items ≡ callings r
+  pub drawn : GivesNextGame r (drawn_in i.drawing)
+  pub key : (side_group Right r.equivalence).key ≡ i.right_key
+
+-- a tree within the limits is made in a pool that had so many nodes
+pub record IsTreeAt (limit live : ℕ) (next : Tree) (trees : List KindTree) (root : NodeId) : Type 0 where
+  pub tree : tree_at trees (Some root) ≡ next
+  pub small : size next ≤ most_nodes
+  pub shallow : depth next ≤ most_depth
+  pub room : live + nodes_of next ≤ limit
+
+-- there is no room for a tree within the limits
+pub record IsCrowded (limit live : ℕ) (next : Tree) (asked : ℕ) : Type 0 where
+  pub small : size next ≤ most_nodes
+  pub shallow : depth next ≤ most_depth
+  pub asks : asked ≡ nodes_of next
+  pub over : limit < live + asked
+
+-- a tree is made; or it passes a limit, or the pool has no room for it, or memory ran out
+abbrev pub IsMade : (limit live : ℕ) → (next : Tree) → List KindTree → Result NodeId CryptoFault → Type 0
+IsMade limit live next trees (Ok root) = IsTreeAt limit live next trees root
+IsMade limit live next trees (Err (crypto.Refused f)) = ⊥
+IsMade limit live next trees (Err (crypto.Build (build.Nodes count))) = (most_nodes < size next) × (count ≡ told (size next))
+IsMade limit live next trees (Err (crypto.Build (build.Depth deep))) = (size next ≤ most_nodes) × (most_depth < depth next) × (deep ≡ told (depth next))
+IsMade limit live next trees (Err (crypto.Build (build.Full asked))) = IsCrowded limit live next asked
+IsMade limit live next trees (Err (crypto.Build build.OutOfMemory)) = Unit {0}
+
+-- the context of a step and its next game are made, and take no more nodes than there is room for
+pub record IsBuiltAt (limit live : ℕ) (s : Scene) (e x : ℕ) (trees : List KindTree) (root : NodeId) : Type 0 where
+  pub context : Tree
+  pub made : IsContext s e x context
+  pub drawn : IsDrawn s e x (tree_at trees (Some root))
+  pub room : live + nodes_of context + nodes_of (tree_at trees (Some root)) ≤ limit
+  pub few : length trees ≤ live + nodes_of context + nodes_of (tree_at trees (Some root))
+
+abbrev pub IsBuilt : (limit live : ℕ) → Scene → (e x : ℕ) → List KindTree → Result NodeId CryptoFault → Type 0
+IsBuilt limit live s e x trees (Ok root) = IsBuiltAt limit live s e x trees root
+IsBuilt limit live s e x trees (Err fault) = IsFaultOf limit live s e x fault

@@ -1,0 +1,171 @@
+ghost use Rattle.std.specs.Prelude.{◌≡◌, ◌<◌, ◌^◌, ℕ, All, IfOk, List, OnErr, OnOk, Some, length, take};
+ghost use Rattle.cv_pool.specs.PoolView.{Grows};
+ghost use Rattle.cv_syntax.specs.Declarations.{Declaration};
+ghost use Rattle.cv_syntax.specs.Tree.{Tree, size, tree_at};
+ghost use Rattle.cv_meaning_contexts.specs.Groups.{Group, Right, side_group};
+ghost use Rattle.cv_scenes.specs.Reductions.{Reduction};
+ghost use Rattle.cv_context_answers.specs.Answers.{file_scene};
+ghost use Rattle.cv_context_answers.specs.Drawn.{callings};
+ghost use Rattle.cv_inline_callings.specs.RightFunctions.{HasRightFunctions};
+ghost use Rattle.cv_inline_callings.specs.Sites.{HasListedKeys};
+ghost use Rattle.cv_inline_listing.specs.Callings.{callings_in};
+ghost use Rattle.cv_inline_walk.specs.Steps.{AreLiveSites, next_tree};
+ghost use Rattle.cv_steps_crypto.specs.Steps.{first_answer, reduction_of};
+ghost use Rattle.cv_kernel_crypto.specs.Stages.{AreTakenNames, HasContext, IsInlining, IsMade};
+
+use crate::contexts::functions_of;
+use crate::fault::CryptoFault;
+use crate::instances::Instances;
+use crate::naming::FIRST_ANSWER;
+use cv_inline_callings::callings_of;
+use cv_inline_drawing::draw;
+use cv_inline_measure::measure;
+use cv_inline_reductions::steps_of_files_have_drawn_tables;
+use cv_inline_terms::{Calling, Drawing};
+use cv_inline_walk::next_game;
+use cv_kernel_games::check_limits;
+use cv_syntax::children::{first_of, read_child, room_left, second_of};
+use cv_syntax::{Head, Names, NodeId, Pool};
+use std::alloc::{AllocError, Global};
+
+/// What a next game is made from, beside its context: the sites by number, the drawn names, and the name and the type of the
+/// right key.
+#[derive(Drop)]
+pub(crate) struct Inlining {
+    pub(crate) callings: Vec<Calling>,
+    pub(crate) drawing: Drawing,
+    pub(crate) right_key: (u32, u32),
+}
+
+/// The name and the type of the key of an equivalence's right side.
+fn right_key_of(pool: &Pool, equivalence: NodeId) -> (u32, u32)
+    requires { equivalence.0 < length pool.now.trees }
+    ensures { result ≡ (side_group Right (tree_at pool.now.trees (Some equivalence))).key }
+{
+    let side = second_of(pool, Some(equivalence));
+    let Some(node) = read_child(pool, first_of(pool, side)) else {
+        return (0, 0);
+    };
+    match node.head {
+        Head::Binder(x, t) => (x, t),
+        _ => (0, 0),
+    }
+}
+
+/// The sites of a context by number. A context with more nodes than there are names below the answers is told as want of
+/// memory.
+fn callings_for(
+    alloc: Global,
+    pool: &Pool,
+    found: &Instances,
+    context: NodeId,
+) -> Result<Vec<Calling>, AllocError>
+    requires tree { found.now.tree.0 < length pool.now.trees }
+    requires short { size (tree_at pool.now.trees (Some found.now.tree)) < 2 ^ 32 }
+    requires right { HasRightFunctions (tree_at pool.now.trees (Some found.now.tree)) }
+    requires few { length found.now.sites.items < first_answer }
+    requires context { context.0 < length pool.now.trees }
+    requires keys { HasListedKeys (tree_at pool.now.trees (Some context)) }
+    ensures callings { (r : Reduction) (game : NodeId) →
+        HasContext pool.now.trees r game context found.now →
+        IfOk result (λ cs. callings_in pool.now.trees cs.items ≡ callings r) }
+    ensures live { IfOk result (λ cs. AreLiveSites pool.now.trees cs.items) }
+    ensures fits { OnOk result (size (tree_at pool.now.trees (Some context)) < 2 ^ 32) }
+{
+    if room_left(pool, Some(context), FIRST_ANSWER).is_none() {
+        return Err(AllocError);
+    }
+    let functions = functions_of(alloc, found.sites.as_slice())?;
+    callings_of(alloc, pool, found.tree, functions.as_slice(), context)
+}
+
+/// What the next game of a context is made from, with names that are drawn for it. A table that then has more names than there
+/// are below the answers is told as want of memory.
+pub(crate) fn inlining_for(
+    alloc: Global,
+    pool: &Pool,
+    names: &mut Names,
+    game: NodeId,
+    found: &Instances,
+    context: NodeId,
+    taken: &[u32],
+) -> Result<Inlining, AllocError>
+    requires game { game.0 < length pool.now.trees }
+    requires tree { found.now.tree.0 < length pool.now.trees }
+    requires short { size (tree_at pool.now.trees (Some found.now.tree)) < 2 ^ 32 }
+    requires right { HasRightFunctions (tree_at pool.now.trees (Some found.now.tree)) }
+    requires few { length found.now.sites.items < first_answer }
+    requires context { context.0 < length pool.now.trees }
+    requires keys { HasListedKeys (tree_at pool.now.trees (Some context)) }
+    requires taken { All (λ x. x < length names.old) taken.now }
+    ensures inlining { (ds : List Declaration) (own : ℕ) (t e : Tree) (x : ℕ) →
+        HasContext pool.now.trees (reduction_of (file_scene ds own t) e x) game context found.now →
+        AreTakenNames names.old own t taken.now →
+        IfOk result (IsInlining pool.now.trees (reduction_of (file_scene ds own t) e x)) }
+    ensures live { IfOk result (λ i. AreLiveSites pool.now.trees i.callings.items) }
+    ensures fits { OnOk result (size (tree_at pool.now.trees (Some context)) < 2 ^ 32) }
+    ensures kept { take (length names.old) names.new ≡ names.old }
+{
+    let callings = callings_for(alloc, pool, found, context)?;
+    let right_key = right_key_of(pool, found.tree);
+    let drawing = draw(
+        alloc,
+        pool,
+        names,
+        taken,
+        Some(game),
+        right_key.0,
+        callings.as_slice(),
+    )?;
+    if names.len() > FIRST_ANSWER {
+        return Err(AllocError);
+    }
+    steps_of_files_have_drawn_tables();
+    Ok(Inlining {
+        callings,
+        drawing,
+        right_key,
+    })
+}
+
+/// Makes a next game, where it is within the limits and the pool has room for it.
+pub(crate) fn make(
+    alloc: Global,
+    pool: &mut Pool,
+    key: u32,
+    inlining: &Inlining,
+    context: NodeId,
+) -> Result<NodeId, CryptoFault>
+    requires context { context.0 < length pool.old.trees }
+    requires fits { size (tree_at pool.old.trees (Some context)) < 2 ^ 32 }
+    requires sites { AreLiveSites pool.old.trees inlining.now.callings.items }
+    ensures made { (g : Group) → g.key ≡ inlining.now.right_key →
+        IsMade pool.old.limit (length pool.old.trees)
+        (next_tree pool.old.trees inlining.now.drawing key inlining.now.callings.items g context)
+        pool.new.trees result }
+    ensures live { IfOk result (λ n. n.0 < length pool.new.trees) }
+    ensures grows { OnOk result (Grows pool.old pool.new) }
+    ensures kept { OnErr result (pool.new.trees ≡ pool.old.trees) }
+    ensures limit { pool.new.limit ≡ pool.old.limit }
+{
+    let callings = inlining.callings.as_slice();
+    let extent = measure(
+        alloc,
+        pool,
+        &inlining.drawing,
+        inlining.right_key.0,
+        callings,
+        context,
+    )?;
+    check_limits(extent)?;
+    let root = next_game(
+        alloc,
+        pool,
+        &inlining.drawing,
+        key,
+        inlining.right_key,
+        callings,
+        context,
+    )?;
+    Ok(root)
+}
