@@ -12,7 +12,7 @@ use Rattle.cv_meaning_contexts.specs.BodyTerms.{call_meant, call_at, array_at, p
 use Rattle.cv_inline_bodies.specs.Inlining.{Inlining}
 use Rattle.cv_inline_bodies.specs.Accepted.{IsFineArray, IsFineTerm, AreFineTerms}
 use Rattle.cv_inline_bodies.specs.Related.{MadeUnder, at_its_key, IsMeant, HasArrays}
-use Rattle.cv_meaning_contexts.specs.Inlined.{Standing, TheKey, Own, CallOf, Scope, standing_of, read_at, index_terms, own_variable, leaf_in_game, called, call_in, array_in_game, all_equal, indices_equal, in_game}
+use Rattle.cv_meaning_contexts.specs.Inlined.{Standing, TheKey, Own, CallOf, Scope, standing_of, read_at, index_terms, own_variable, leaf_in_game, called, call_in, array_in_game, all_equal, indices_equal, in_game, and_equal, tuples_equal}
 
 pub same_self : (w : List ℕ) → same_tuple w w ≡ true
 same_self [] = refl
@@ -63,14 +63,29 @@ module _ (p : Inlining) where
   equal_value Empty (Node k b rest) m n e = let l : zero ≡ suc (length (values p.g p.at n rest)) = e in absurd (omega arith)
   equal_value (Node h a more) Empty m n e = let l : suc (length (values p.g p.at n more)) ≡ zero = e in absurd (omega arith)
 
-  pub equal_bit : (ts us : Tree) (n : Store) → length (values p.g p.at n ts) ≡ length (values p.g p.at n us) → value p.g p.at n (all_equal ts us (lone Yes)) ≡ bit (same_tuple (values p.g p.at n ts) (values p.g p.at n us))
-  unfolding value all_equal
-  equal_bit Empty Empty n e = refl
-  equal_bit (Node h a more) (Node k b rest) n e =
+  -- a term, and then equations
+  and_equal_bit : (m ts us : Tree) (n : Store) (z : Bool) → value p.g p.at n m ≡ bit z → length (values p.g p.at n ts) ≡ length (values p.g p.at n us) → value p.g p.at n (and_equal m ts us) ≡ bit (z && same_tuple (values p.g p.at n ts) (values p.g p.at n us))
+  unfolding value and_equal
+  and_equal_bit m Empty Empty n z v e = v ∙ ap bit (alone z)
+    where
+      alone : (z : Bool) → z ≡ (z && true)
+      alone true = refl
+      alone false = refl
+  and_equal_bit m (Node h a more) (Node k b rest) n z v e =
       let l : length (values p.g p.at n more) ≡ length (values p.g p.at n rest) = omega arith in
-      ap bit (ap₂ ◌&&◌ (one_bit (value p.g p.at n a == value p.g p.at n b)) (ap is_one (equal_bit more rest n l) ∙ one_bit (same_tuple (values p.g p.at n more) (values p.g p.at n rest))))
-  equal_bit Empty (Node k b rest) n e = let l : zero ≡ suc (length (values p.g p.at n rest)) = e in absurd (omega arith)
-  equal_bit (Node h a more) Empty n e = let l : suc (length (values p.g p.at n more)) ≡ zero = e in absurd (omega arith)
+      let next = and_equal_bit (Node Eq a b) more rest n (value p.g p.at n a == value p.g p.at n b) refl l in
+      ap bit (ap₂ ◌&&◌ (ap is_one v ∙ one_bit z) (ap is_one next ∙ one_bit ((value p.g p.at n a == value p.g p.at n b) && same_tuple (values p.g p.at n more) (values p.g p.at n rest))))
+  and_equal_bit m Empty (Node k b rest) n z v e = let l : zero ≡ suc (length (values p.g p.at n rest)) = e in absurd (omega arith)
+  and_equal_bit m (Node h a more) Empty n z v e = let l : suc (length (values p.g p.at n more)) ≡ zero = e in absurd (omega arith)
+
+  pub tuples_bit : (ts us : Tree) (n : Store) → length (values p.g p.at n ts) ≡ length (values p.g p.at n us) → value p.g p.at n (tuples_equal ts us) ≡ bit (same_tuple (values p.g p.at n ts) (values p.g p.at n us))
+  unfolding value
+  tuples_bit Empty Empty n e = refl
+  tuples_bit (Node h a more) (Node k b rest) n e =
+      let l : length (values p.g p.at n more) ≡ length (values p.g p.at n rest) = omega arith in
+      and_equal_bit (Node Eq a b) more rest n (value p.g p.at n a == value p.g p.at n b) refl l
+  tuples_bit Empty (Node k b rest) n e = let l : zero ≡ suc (length (values p.g p.at n rest)) = e in absurd (omega arith)
+  tuples_bit (Node h a more) Empty n e = let l : suc (length (values p.g p.at n more)) ≡ zero = e in absurd (omega arith)
 
   module _ (κ : MadeUnder) (Σ : Scope) (e : Frame) (n : Store) (ag : Agrees κ Σ e n) where
     name_call : (x : ℕ) (o : Option Standing) (r : Option Meaning) → IsMeant p κ e.key n x o r → SameCall κ e.key n (called o) (call_meant r)
@@ -131,10 +146,10 @@ module _ (p : Inlining) where
         tuples : same_tuple (values p.g p.at n j.1) (values p.g p.at n k.1) ≡ same_tuple l.tuple m.tuple
         tuples = ap₂ same_tuple h.1 i.1
 
-        go : (z : Bool) → (j.0 == k.0) ≡ z → value p.g p.at n (cond z (all_equal j.1 k.1 (lone Yes)) (lone No)) ≡ bit ((l.site == m.site) && same_tuple l.tuple m.tuple)
+        go : (z : Bool) → (j.0 == k.0) ≡ z → value p.g p.at n (cond z (tuples_equal j.1 k.1) (lone No)) ≡ bit ((l.site == m.site) && same_tuple l.tuple m.tuple)
         go true z =
             let same : l.site ≡ m.site = sym h.0 ∙ eqb-true j.0 k.0 z ∙ i.0 in
-            equal_bit j.1 k.1 n (ap length h.1 ∙ h.3 ∙ ap p.arity same ∙ sym i.3 ∙ sym (ap length i.1))
+            tuples_bit j.1 k.1 n (ap length h.1 ∙ h.3 ∙ ap p.arity same ∙ sym i.3 ∙ sym (ap length i.1))
             ∙ ap bit (tuples ∙ sym (ap (λ q. q && same_tuple l.tuple m.tuple) (sites ∙ z)))
         go false z = sym (ap (λ q. bit (q && same_tuple l.tuple m.tuple)) (sites ∙ z))
     indices_value a b x y None None None None h i q r = ap₂ (λ v w. bit (v == w)) q r

@@ -6,7 +6,7 @@ use Rattle.cv_syntax.specs.declared.head.Head.{Head}
 use Rattle.cv_syntax.specs.declared.head.Head.TheVariants.{Leaf, Read, Eq, And, Yes, No, Cons}
 use Rattle.cv_syntax.specs.Tree.{Tree, Empty, Node, first, lone, same_tree}
 use Rattle.cv_meaning_laws.proofs.Lists.{each_append}
-use Rattle.cv_meaning_contexts.specs.Inlined.{Drawn, Caller, Standing, TheKey, Own, CallOf, Scope, all_equal, array_in_game, call_in, called, cell_in_game, cells_in_game, cells_then, each_once, in_game, index_moves, index_reads, index_terms, indices_equal, is_own, leaf_in_game, moved, moved_leaf, needed, own_variable, read_at, standing_of}
+use Rattle.cv_meaning_contexts.specs.Inlined.{Drawn, Caller, Standing, TheKey, Own, CallOf, Scope, all_equal, array_in_game, call_in, called, cell_in_game, cells_in_game, cells_then, each_once, in_game, index_moves, index_reads, index_terms, indices_equal, is_own, leaf_in_game, moved, moved_leaf, needed, own_variable, read_at, standing_of, and_equal, tuples_equal}
 use Rattle.cv_inline_games.specs.NextGame.{Results, result_for, with_results}
 use Rattle.cv_inline_cells.specs.Layout.{is_term, is_term_head}
 
@@ -82,6 +82,21 @@ equal_term (Node h a more) (Node k b rest) m e f g =
     let p = term_parts h a more e in
     let q = term_parts k b rest f in term_with And (Node Eq a b) (all_equal more rest m) refl (term_with Eq a b refl p.1 q.1) (equal_term more rest m p.2 q.2 g)
 
+and_equal_term : (m ms ns : Tree) → IsTerm m → IsTerm ms → IsTerm ns → IsTerm (and_equal m ms ns)
+unfolding and_equal
+and_equal_term m Empty ns g e f = g
+and_equal_term m (Node h a more) Empty g e f = g
+and_equal_term m (Node h a more) (Node k b rest) g e f =
+    let p = term_parts h a more e in
+    let q = term_parts k b rest f in term_with And m (and_equal (Node Eq a b) more rest) refl g (and_equal_term (Node Eq a b) more rest (term_with Eq a b refl p.1 q.1) p.2 q.2)
+
+tuples_term : (ms ns : Tree) → IsTerm ms → IsTerm ns → IsTerm (tuples_equal ms ns)
+tuples_term Empty ns e f = lone_term Yes refl
+tuples_term (Node h a more) Empty e f = lone_term Yes refl
+tuples_term (Node h a more) (Node k b rest) e f =
+    let p = term_parts h a more e in
+    let q = term_parts k b rest f in and_equal_term (Node Eq a b) more rest (term_with Eq a b refl p.1 q.1) p.2 q.2
+
 module _ (d : Drawn) (c : Caller) (key : IsTerm c.key) where
   own_term : (x : ℕ) → IsTerm (own_variable d c x)
   own_term x = read_term (d.variable c.number x) (index_terms c.replications) (index_term c.replications)
@@ -105,8 +120,8 @@ module _ (d : Drawn) (c : Caller) (key : IsTerm c.key) where
   indices_term (Some j) None m e f g = g
   indices_term (Some j) (Some k) m e f g = go (j.0 == k.0)
     where
-      go : (b : Bool) → IsTerm (cond b (all_equal j.1 k.1 (lone Yes)) (lone No))
-      go true = equal_term j.1 k.1 (lone Yes) e f (lone_term Yes refl)
+      go : (b : Bool) → IsTerm (cond b (tuples_equal j.1 k.1) (lone No))
+      go true = tuples_term j.1 k.1 e f
       go false = lone_term No refl
 
   pub in_game_term : (Σ : Scope) → HasTerms Σ → (t : Tree) → IsTerm t → IsTerm (in_game d c Σ t)

@@ -1,6 +1,6 @@
 -- A scope of the code as one of the definitions. This profile's own.
 use Rattle.std.specs.Prelude.{ℕ, ◌==◌, if◌then◌else◌, List, map, reverse, Option, Some, None}
-use Rattle.cv_syntax.specs.declared.head.Head.TheVariants.{Yes, No}
+use Rattle.cv_syntax.specs.declared.head.Head.TheVariants.{No}
 use Rattle.cv_syntax.specs.Tree.{Tree, lone}
 use Rattle.cv_meaning_contexts.specs.Inlined as bodies
 use Rattle.cv_inline_terms.specs.declared.scope.Called.{Called}
@@ -39,4 +39,4 @@ both _ _ = None
 
 -- two calls are one where their sites are one and their tuples equal
 abbrev pub same_call : ℕ × Tree → ℕ × Tree → Tree
-same_call j k = if j.0 == k.0 then bodies.all_equal j.1 k.1 (lone Yes) else lone No
+same_call j k = if j.0 == k.0 then bodies.tuples_equal j.1 k.1 else lone No

@@ -1,6 +1,6 @@
 -- What a list of parts has made so far. This profile's own.
 use Rattle.std.specs.Prelude.{ℕ, suc, List, [], ◌∷◌}
-use Rattle.cv_syntax.specs.declared.head.Head.TheVariants.{Cons}
+use Rattle.cv_syntax.specs.declared.head.Head.TheVariants.{Cons, Eq}
 use Rattle.cv_syntax.specs.declared.make.Make.{Make}
 use Rattle.cv_syntax.specs.Postorder.{made}
 use Rattle.cv_syntax.specs.Tree.{Tree, Empty, Node}
@@ -14,6 +14,10 @@ stack parts = made [] parts
 unfoldable pub tuple_at : Tree → List ℕ → Tree
 tuple_at here [] = Empty
 tuple_at here (u ∷ us) = Node Cons (read_at u here) (tuple_at here us)
+
+-- that two indices are equal, as they are read here
+abbrev pub equation : Tree → (u w : ℕ) → Tree
+equation here u w = Node Eq (read_at u here) (read_at w here)
 
 -- the indices of a branch by name
 abbrev pub names_from : (ℕ → ℕ) → ℕ → List (ℕ × ℕ) → List ℕ

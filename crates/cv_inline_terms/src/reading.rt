@@ -1,10 +1,10 @@
 ghost use Rattle.std.specs.Prelude.{◌≡◌, ◌∷◌, IfOk, length};
 ghost use Rattle.cv_meaning_contexts.specs.Inlined as bodies;
-ghost use Rattle.cv_meaning_contexts.specs.Inlined.{all_equal, read_at};
+ghost use Rattle.cv_meaning_contexts.specs.Inlined.{and_equal, read_at};
 ghost use Rattle.cv_syntax.specs.Tree as tree;
 ghost use Rattle.cv_syntax.specs.declared.head.Head.TheVariants as head;
 ghost use Rattle.cv_inline_terms.specs.Drawings.{drawn_in};
-ghost use Rattle.cv_inline_terms.specs.Stacks.{stack, tuple_at};
+ghost use Rattle.cv_inline_terms.specs.Stacks.{equation, stack, tuple_at};
 
 use crate::caller::Caller;
 use crate::drawn::Drawing;
@@ -80,18 +80,45 @@ pub fn read_tuple(
     put(parts, Head::Read(y))
 }
 
-/// Adds the equations between the indices of two calls.
-#[tactic(auto, unfolding(crate::specs::Stacks::tuple_at, cv_meaning_contexts::specs::Inlined::all_equal))]
-pub fn equations(
+/// Adds the equation of two indices, and then the equations between the rest of the indices.
+#[tactic(auto, unfolding(crate::specs::Stacks::tuple_at, cv_meaning_contexts::specs::Inlined::and_equal))]
+fn equations(
+    parts: &mut Vec<Make>,
+    replications: &[(u32, u32)],
+    x: u32,
+    xs: &[u32],
+    y: u32,
+    ys: &[u32],
+) -> Result<(), AllocError>
+    ensures { IfOk result (λ _. stack parts.new.items
+        ≡ and_equal (equation (bodies.index_terms replications.now) x y)
+        (tuple_at (bodies.index_terms replications.now) xs.now)
+        (tuple_at (bodies.index_terms replications.now) ys.now) ∷ stack parts.old.items) }
+{
+    read_here(parts, x, replications)?;
+    read_here(parts, y, replications)?;
+    put(parts, Head::Eq)?;
+    let Some((x, xs)) = xs.split_first() else {
+        return Ok(());
+    };
+    let Some((y, ys)) = ys.split_first() else {
+        return Ok(());
+    };
+    equations(parts, replications, *x, xs, *y, ys)?;
+    put(parts, Head::And)
+}
+
+/// Adds the condition that the indices of two calls are equal.
+#[tactic(auto, unfolding(crate::specs::Stacks::tuple_at))]
+pub fn tuples_equal(
     parts: &mut Vec<Make>,
     replications: &[(u32, u32)],
     left: &[u32],
     right: &[u32],
 ) -> Result<(), AllocError>
     ensures { IfOk result (λ _. stack parts.new.items
-        ≡ all_equal (tuple_at (bodies.index_terms replications.now) left.now)
-        (tuple_at (bodies.index_terms replications.now) right.now) (tree.lone head.Yes)
-        ∷ stack parts.old.items) }
+        ≡ bodies.tuples_equal (tuple_at (bodies.index_terms replications.now) left.now)
+        (tuple_at (bodies.index_terms replications.now) right.now) ∷ stack parts.old.items) }
 {
     let Some((x, xs)) = left.split_first() else {
         return lone(parts, Head::Yes);
@@ -99,11 +126,7 @@ pub fn equations(
     let Some((y, ys)) = right.split_first() else {
         return lone(parts, Head::Yes);
     };
-    read_here(parts, *x, replications)?;
-    read_here(parts, *y, replications)?;
-    put(parts, Head::Eq)?;
-    equations(parts, replications, xs, ys)?;
-    put(parts, Head::And)
+    equations(parts, replications, *x, xs, *y, ys)
 }
 
 /// Adds the variable that is drawn for a name of the caller's function.

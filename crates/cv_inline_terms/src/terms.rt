@@ -12,7 +12,7 @@ ghost use Rattle.cv_inline_terms.specs.Stacks.{stack};
 use crate::caller::Caller;
 use crate::drawn::Drawing;
 use crate::parts::{copy, lone, nothing, put};
-use crate::reading::{equations, own_variable, read_tuple};
+use crate::reading::{own_variable, read_tuple, tuples_equal};
 use crate::scope::{Called, Entry, Standing, call_in, standing_of};
 use cv_syntax::children::{first_of, is_empty};
 use cv_syntax::{Head, Make, NodeId, Pool, read_node};
@@ -136,7 +136,7 @@ fn same_call(
         ∷ stack parts.old.items) }
 {
     if left.site == right.site {
-        equations(
+        tuples_equal(
             parts,
             caller.replications.as_slice(),
             left.indices,

@@ -79,9 +79,19 @@ unfoldable pub all_equal : Tree → Tree → Tree → Tree
 all_equal (Node h a more) (Node k b rest) m = Node And (Node Eq a b) (all_equal more rest m)
 all_equal _ _ m = m
 
+-- a term, and then the equations between two lists of terms
+unfoldable pub and_equal : Tree → Tree → Tree → Tree
+and_equal m (Node h a more) (Node k b rest) = Node And m (and_equal (Node Eq a b) more rest)
+and_equal m _ _ = m
+
+-- the conjunction of the equations between two lists of terms
+abbrev pub tuples_equal : Tree → Tree → Tree
+tuples_equal (Node h a more) (Node k b rest) = and_equal (Node Eq a b) more rest
+tuples_equal _ _ = lone Yes
+
 -- two indices are equal where they stand for calls of one site at equal tuples
 abbrev pub indices_equal : Option (ℕ × Tree) → Option (ℕ × Tree) → Tree → Tree
-indices_equal (Some j) (Some k) m = if j.0 == k.0 then all_equal j.1 k.1 (lone Yes) else lone No
+indices_equal (Some j) (Some k) m = if j.0 == k.0 then tuples_equal j.1 k.1 else lone No
 indices_equal _ _ m = m
 
 unfoldable pub in_game : Drawn → Caller → Scope → Tree → Tree

@@ -2,4 +2,4 @@ use Rattle.std.proofs.Common.{length}
 use Rattle.cv_inline_terms.proofs.reading.+equations.Given as goal
 
 abbrev pub decreases-equations : goal.decreases-equations
-decreases-equations l = length l.left.now
+decreases-equations l = length l.xs.now
