@@ -266,11 +266,11 @@ guesses l d =
 freshes : (l : List Tree) → Made 125 l → HasItems is_any (over head.FreshStep l)
 freshes l d = let p = last (skip (skip d)) in with_one is_any head.FreshStep p (has (Fresh p.first.0) (bound (λ v. Some (Fresh v)) (number_is p.first) refl) refl)
 
-cryptos : (l : List Tree) → Made 126 l → HasItems is_any (over head.CryptoStep l)
+cryptos : (l : List Tree) → Made 126 l → HasItems is_built (over head.CryptoStep l)
 cryptos l d =
     let e = take (skip (skip d)) in
     let x = last (skip e.second) in
-    with_first is_any head.CryptoStep e (subst (λ z. HasItems is_any (Node head.CryptoStep e.tree (single z))) (sym x.is) (
+    with_first is_built head.CryptoStep e (subst (λ z. HasItems is_built (Node head.CryptoStep e.tree (single z))) (sym x.is) (
     has (Crypto e.first.0 x.first.0) (bound (λ v. name_in x.tree >>= λ w. Some (Crypto v w)) (name_is e.first) (bound (λ w. Some (Crypto e.first.0 w)) (name_is x.first) refl)) refl
     ))
 
@@ -296,7 +296,7 @@ any_items d = record { items = d.items; are = d.are; pass = refl }
 any_step : (ts : List Tree) → IsStep is_built ts → IsStep is_any ts
 any_step ts x = record { tree = x.tree; is = x.is; first = any_items x.first }
 
-built_step : (ts : List Tree) → OneOf 152 129 7 ts → IsStep is_built ts
+built_step : (ts : List Tree) → OneOf 152 129 8 ts → IsStep is_built ts
 built_step ts (inl d) = a_step is_built head.SplitStep 129 115 refl splits ts (row 152 129 refl ts d)
 built_step ts (inr (inl d)) = a_step is_built head.LetStep 130 116 refl lets ts (row 152 130 refl ts d)
 built_step ts (inr (inr (inl d))) = a_step is_built head.NewStep 131 118 refl news ts (row 152 131 refl ts d)
@@ -304,25 +304,25 @@ built_step ts (inr (inr (inr (inl d)))) = a_step is_built head.UnnewStep 132 119
 built_step ts (inr (inr (inr (inr (inl d))))) = a_step is_built head.RewriteStep 133 111 refl rewrites ts (row 152 133 refl ts d)
 built_step ts (inr (inr (inr (inr (inr (inl d)))))) = a_step is_built head.PruneStep 134 112 refl prunes ts (row 152 134 refl ts d)
 built_step ts (inr (inr (inr (inr (inr (inr (inl d))))))) = a_step is_built head.SuccessStep 135 127 refl successes ts (row 152 135 refl ts d)
-built_step ts (inr (inr (inr (inr (inr (inr (inr d))))))) = absurd d
+built_step ts (inr (inr (inr (inr (inr (inr (inr (inl d)))))))) = a_step is_built head.CryptoStep 136 126 refl cryptos ts (row 152 136 refl ts d)
+built_step ts (inr (inr (inr (inr (inr (inr (inr (inr d)))))))) = absurd d
 
-later_step : (ts : List Tree) → OneOf 149 136 12 ts → IsStep is_any ts
-later_step ts (inl d) = a_step is_any head.RenameStep 136 110 refl renames ts (row 149 136 refl ts d)
-later_step ts (inr (inl d)) = a_step is_any head.PickStep 137 113 refl picks ts (row 149 137 refl ts d)
-later_step ts (inr (inr (inl d))) = a_step is_any head.MergeStep 138 114 refl merges ts (row 149 138 refl ts d)
-later_step ts (inr (inr (inr (inl d)))) = a_step is_any head.UnletStep 139 117 refl unlets ts (row 149 139 refl ts d)
+later_step : (ts : List Tree) → OneOf 149 137 11 ts → IsStep is_any ts
+later_step ts (inl d) = a_step is_any head.RenameStep 137 110 refl renames ts (row 149 137 refl ts d)
+later_step ts (inr (inl d)) = a_step is_any head.PickStep 138 113 refl picks ts (row 149 138 refl ts d)
+later_step ts (inr (inr (inl d))) = a_step is_any head.MergeStep 139 114 refl merges ts (row 149 139 refl ts d)
+later_step ts (inr (inr (inr (inl d)))) = a_step is_any head.UnletStep 140 117 refl unlets ts (row 149 140 refl ts d)
 later_step ts (inr (inr (inr (inr d)))) = last_step ts d
   where
-    last_step : (ts : List Tree) → OneOf 149 140 8 ts → IsStep is_any ts
-    last_step ts (inl d) = a_step is_any head.MoveStep 140 120 refl moves ts (row 149 140 refl ts d)
-    last_step ts (inr (inl d)) = a_step is_any head.ArrayRenameStep 141 121 refl array_renames ts (row 149 141 refl ts d)
-    last_step ts (inr (inr (inl d))) = a_step is_any head.CodefStep 142 122 refl codefs ts (row 149 142 refl ts d)
-    last_step ts (inr (inr (inr (inl d)))) = a_step is_any head.BirthdayStep 143 123 refl birthdays ts (row 149 143 refl ts d)
-    last_step ts (inr (inr (inr (inr (inl d))))) = a_step is_any head.GuessStep 144 124 refl guesses ts (row 149 144 refl ts d)
-    last_step ts (inr (inr (inr (inr (inr (inl d)))))) = a_step is_any head.FreshStep 145 125 refl freshes ts (row 149 145 refl ts d)
-    last_step ts (inr (inr (inr (inr (inr (inr (inl d))))))) = a_step is_any head.CryptoStep 146 126 refl cryptos ts (row 149 146 refl ts d)
-    last_step ts (inr (inr (inr (inr (inr (inr (inr (inl d)))))))) = a_step is_any head.SimplifyStep 147 128 refl simplifies ts (row 149 147 refl ts d)
-    last_step ts (inr (inr (inr (inr (inr (inr (inr (inr d)))))))) = absurd d
+    last_step : (ts : List Tree) → OneOf 149 141 7 ts → IsStep is_any ts
+    last_step ts (inl d) = a_step is_any head.MoveStep 141 120 refl moves ts (row 149 141 refl ts d)
+    last_step ts (inr (inl d)) = a_step is_any head.ArrayRenameStep 142 121 refl array_renames ts (row 149 142 refl ts d)
+    last_step ts (inr (inr (inl d))) = a_step is_any head.CodefStep 143 122 refl codefs ts (row 149 143 refl ts d)
+    last_step ts (inr (inr (inr (inl d)))) = a_step is_any head.BirthdayStep 144 123 refl birthdays ts (row 149 144 refl ts d)
+    last_step ts (inr (inr (inr (inr (inl d))))) = a_step is_any head.GuessStep 145 124 refl guesses ts (row 149 145 refl ts d)
+    last_step ts (inr (inr (inr (inr (inr (inl d)))))) = a_step is_any head.FreshStep 146 125 refl freshes ts (row 149 146 refl ts d)
+    last_step ts (inr (inr (inr (inr (inr (inr (inl d))))))) = a_step is_any head.SimplifyStep 147 128 refl simplifies ts (row 149 147 refl ts d)
+    last_step ts (inr (inr (inr (inr (inr (inr (inr d))))))) = absurd d
 
 step : (ts : List Tree) → OneOf 149 129 19 ts → IsStep is_any ts
 step ts (inl d) = any_step ts (a_step is_built head.SplitStep 129 115 refl splits ts (row 149 129 refl ts d))
@@ -332,7 +332,8 @@ step ts (inr (inr (inr (inl d)))) = any_step ts (a_step is_built head.UnnewStep 
 step ts (inr (inr (inr (inr (inl d))))) = any_step ts (a_step is_built head.RewriteStep 133 111 refl rewrites ts (row 149 133 refl ts d))
 step ts (inr (inr (inr (inr (inr (inl d)))))) = any_step ts (a_step is_built head.PruneStep 134 112 refl prunes ts (row 149 134 refl ts d))
 step ts (inr (inr (inr (inr (inr (inr (inl d))))))) = any_step ts (a_step is_built head.SuccessStep 135 127 refl successes ts (row 149 135 refl ts d))
-step ts (inr (inr (inr (inr (inr (inr (inr d))))))) = later_step ts d
+step ts (inr (inr (inr (inr (inr (inr (inr (inl d)))))))) = any_step ts (a_step is_built head.CryptoStep 136 126 refl cryptos ts (row 149 136 refl ts d))
+step ts (inr (inr (inr (inr (inr (inr (inr (inr d)))))))) = later_step ts d
 
 -- scripts
 
@@ -380,4 +381,4 @@ unfolding sorts_pass
 have_rules limit live from signs steps e =
     let r = row_is_read built_script_row refl refl limit live from signs steps e in
     let m = made_so built_script_row refl signs r.script r.uses r.spelled in
-    subst (AllByRecursion (HasItems is_built)) (sym (r.items ∙ ap items_of (sym m.1))) (script_items is_built 154 153 152 (λ ts d. with_end is_built (OneOf 152 129 7) built_step ts (row 153 152 refl ts d)) m.0 m.2 (λ l d. row 154 153 refl l d))
+    subst (AllByRecursion (HasItems is_built)) (sym (r.items ∙ ap items_of (sym m.1))) (script_items is_built 154 153 152 (λ ts d. with_end is_built (OneOf 152 129 8) built_step ts (row 153 152 refl ts d)) m.0 m.2 (λ l d. row 154 153 refl l d))

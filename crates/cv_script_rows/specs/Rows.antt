@@ -159,23 +159,23 @@ script_rows =
     (Over head.RewriteStep 111 ∷ []) ∷  -- 133 a rewrite
     (Over head.PruneStep 112 ∷ []) ∷  -- 134 a prune
     (Over head.SuccessStep 127 ∷ []) ∷  -- 135 a success
-    (Over head.RenameStep 110 ∷ []) ∷  -- 136 a rename
-    (Over head.PickStep 113 ∷ []) ∷  -- 137 a pick
-    (Over head.MergeStep 114 ∷ []) ∷  -- 138 a merge
-    (Over head.UnletStep 117 ∷ []) ∷  -- 139 a unlet
-    (Over head.MoveStep 120 ∷ []) ∷  -- 140 a move
-    (Over head.ArrayRenameStep 121 ∷ []) ∷  -- 141 a array rename
-    (Over head.CodefStep 122 ∷ []) ∷  -- 142 a codef
-    (Over head.BirthdayStep 123 ∷ []) ∷  -- 143 a birthday
-    (Over head.GuessStep 124 ∷ []) ∷  -- 144 a guess
-    (Over head.FreshStep 125 ∷ []) ∷  -- 145 a fresh
-    (Over head.CryptoStep 126 ∷ []) ∷  -- 146 a crypto
+    (Over head.CryptoStep 126 ∷ []) ∷  -- 136 a crypto
+    (Over head.RenameStep 110 ∷ []) ∷  -- 137 a rename
+    (Over head.PickStep 113 ∷ []) ∷  -- 138 a pick
+    (Over head.MergeStep 114 ∷ []) ∷  -- 139 a merge
+    (Over head.UnletStep 117 ∷ []) ∷  -- 140 a unlet
+    (Over head.MoveStep 120 ∷ []) ∷  -- 141 a move
+    (Over head.ArrayRenameStep 121 ∷ []) ∷  -- 142 a array rename
+    (Over head.CodefStep 122 ∷ []) ∷  -- 143 a codef
+    (Over head.BirthdayStep 123 ∷ []) ∷  -- 144 a birthday
+    (Over head.GuessStep 124 ∷ []) ∷  -- 145 a guess
+    (Over head.FreshStep 125 ∷ []) ∷  -- 146 a fresh
     (Over head.SimplifyStep 128 ∷ []) ∷  -- 147 a simplify
     (OneOf 129 19 ∷ []) ∷  -- 148 step
     (OneOf 129 19 ∷ Sign mark.Semicolon ∷ []) ∷  -- 149 step item
     (Many false 149 ∷ []) ∷  -- 150 steps
     (Chain 150 ∷ []) ∷  -- 151 script
-    (OneOf 129 7 ∷ Sign mark.Semicolon ∷ []) ∷  -- 152 built item
+    (OneOf 129 8 ∷ Sign mark.Semicolon ∷ []) ∷  -- 152 built item
     (Many false 152 ∷ []) ∷  -- 153 built steps
     (Chain 153 ∷ []) ∷  -- 154 built script
     []

@@ -224,7 +224,7 @@ const BUILT_STEPS: u16 = 153;
 /// The row of a script whose steps have a rule.
 pub const BUILT_SCRIPT: u16 = 154;
 /// How many of the steps, from the first one on, have a rule.
-const BUILT: u16 = 7;
+const BUILT: u16 = 8;
 /// How many rows the table has.
 const ROWS: usize = 155;
 
@@ -591,6 +591,7 @@ static STEP_ROWS: [&[Piece]; 45] = [
     &[Over(Head::RewriteStep, REWRITE)],
     &[Over(Head::PruneStep, PRUNE)],
     &[Over(Head::SuccessStep, SUCCESS)],
+    &[Over(Head::CryptoStep, CRYPTO)],
     &[Over(Head::RenameStep, RENAME)],
     &[Over(Head::PickStep, PICK)],
     &[Over(Head::MergeStep, MERGE)],
@@ -601,7 +602,6 @@ static STEP_ROWS: [&[Piece]; 45] = [
     &[Over(Head::BirthdayStep, BIRTHDAY)],
     &[Over(Head::GuessStep, GUESS)],
     &[Over(Head::FreshStep, FRESH)],
-    &[Over(Head::CryptoStep, CRYPTO)],
     &[Over(Head::SimplifyStep, SIMPLIFY)],
     &[OneOf(FIRST_STEP, 19)],
     &[OneOf(FIRST_STEP, 19), Sign(Mark::Semicolon)],
