@@ -1,4 +1,4 @@
-// The context of a game for an equivalence and a key, made in the pool. It is proved and not run: no step asks for it yet.
+// The context of a game for an equivalence and a key, made in the pool.
 #![tactic(auto)]
 
 mod building;

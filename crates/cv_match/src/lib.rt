@@ -1,4 +1,4 @@
-// The sites of an equivalence in a game, or why it has none that serve. It is proved and not run: no step asks for it yet.
+// The sites of an equivalence in a game, or why it has none that serve.
 #![tactic(auto)]
 
 mod arguments;

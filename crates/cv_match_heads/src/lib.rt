@@ -1,5 +1,4 @@
-// What the bodies of functions begin with, for a test of a term's head before any body is compared with the term. It is proved and
-// not run: no step asks for it yet.
+// What the bodies of functions begin with, for a test of a term's head before any body is compared with the term.
 #![tactic(auto)]
 
 mod heads;
