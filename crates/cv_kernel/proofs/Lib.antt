@@ -5,5 +5,7 @@ mod Pruned
 mod Settled
 pub mod Answers
 pub mod Fits
+mod StepAnswers
 pub mod Pushes
+mod Reduced
 pub mod Steps

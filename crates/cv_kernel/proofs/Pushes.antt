@@ -1,13 +1,12 @@
 -- Steps that a sequence takes.
 use Rattle.std.proofs.Common.{◌≡◌, ℕ, zero, suc, ◌+◌, ◌<◌, ◌≤◌, ◌^◌, ◌⊎◌, inl, inr, Bool, true, false, nat_lt, if◌then◌else◌, List, [], ◌∷◌, length, Option, Some, None, Result, Ok, Err, refl, sym, ap, ap₂, ◌∙◌, subst, arith}
 use Rattle.std.proofs.lemmas.Bool.Decides.{nat_tests}
-use Rattle.std.specs.Prelude.{All, IfSome, IsErrAnd, OnOk, option_map, slice_index_or}
+use Rattle.std.specs.Prelude.{All, IfSome, OnOk, option_map}
 use Rattle.cv_pool.specs.declared.node.NodeId.{NodeId}
 use Rattle.cv_pool.specs.KindTree.{KindTree}
 use Rattle.cv_pool.specs.Nodes.{ChildBelow}
 use Rattle.cv_pool.specs.PoolView.{PoolView, Grows}
 use Rattle.cv_derivations.specs.Lines.{count, lines_of}
-use Rattle.cv_pool.proofs.Growth.{ChildBelow-more, Grows-length}
 use Rattle.cv_syntax.specs.declared.decls.Decl.{Decl}
 use Rattle.cv_syntax.specs.declared.decls.Decl.TheVariants as decl
 use Rattle.cv_syntax.specs.declared.work.BuildError.TheVariants as build
@@ -29,17 +28,17 @@ use Rattle.cv_steps.specs.Steps.{Step, Split, Let, New, Unnew, Rewrite, Prune, C
 use Rattle.cv_scenes.specs.Terms.{is_game}
 use Rattle.cv_kernel.specs.declared.error.PushError.{PushError}
 use Rattle.cv_kernel.specs.declared.error.PushError.TheVariants as push
-use Rattle.cv_kernel.specs.declared.error.RuleError.{RuleError}
-use Rattle.cv_kernel.specs.declared.error.RuleError.TheVariants as rule
 use Rattle.cv_kernel.specs.declared.sequence.Sequence.{Sequence}
-use Rattle.cv_kernel.specs.Rules.{HasLiveNodes, IsAnswer, IsDrawn, IsOutside, IsShortDerivation, IsShortRule, IsShortTerm, need_of}
+use Rattle.cv_kernel.specs.Rules.{HasLiveNodes, IsDrawn, IsOutside, IsShortDerivation, IsShortRule, IsShortTerm, need_of}
 use Rattle.cv_kernel.specs.Closings.{closing_in}
-use Rattle.cv_kernel.specs.Sequences.{IsAdvanced, IsPushAnswer, IsPushed, IsStepAnswer, Same, game_in, needed, needed_by, push_fault}
+use Rattle.cv_kernel.specs.Reducings.{reducing_in}
+use Rattle.cv_kernel.specs.Sequences.{IsAdvanced, IsPushAnswer, IsPushed, Same, game_in, needed, needed_by}
 use Rattle.cv_rule_scenes.specs.Kept.{scene_of}
 use Rattle.cv_syntax.specs.Classes.{DeclsView}
 use Rattle.cv_kernel.specs.Steps.{judgement_by, narrow, narrow_place, nodes_of, step_in}
 use Rattle.cv_draw_extents.proofs.Extents.{below_or_not}
 use Rattle.cv_kernel.proofs.Answers.{no_place}
+use Rattle.cv_kernel.proofs.StepAnswers.{rule_pushed}
 use Rattle.cv_kernel.proofs.Nodes.{lines-nodes, size-nodes}
 use Rattle.cv_kernel.proofs.Steps.{HasTerm, has_term}
 
@@ -166,18 +165,6 @@ small_stand s row false n c e = absurd (cc)
 pub accepted_small : (s : Scene) (x : Step) (n : Tree) (c : Cost) → judgement_of s x ≡ Accepted n c → size n ≤ 50000
 accepted_small s x n c e = small_stand s (row_of s x) (stands s x) n c e
 
--- the answer of a step, as a sequence passes it on
-pub fault_on : (limit live need : ℕ) (j : Judgement) (trees : List KindTree) (old new : Sequence) (e : RuleError) → IsAnswer limit live need j trees (Err e) → IsPushAnswer limit live need j trees old new (Err (push_fault e))
-fault_on limit live need j trees old new (rule.Refused f) h = h
-fault_on limit live need j trees old new (rule.Build (build.Nodes n)) h = h
-fault_on limit live need j trees old new (rule.Build (build.Depth n)) h = h
-fault_on limit live need j trees old new (rule.Build (build.Full n)) h = h
-fault_on limit live need j trees old new (rule.Build build.OutOfMemory) h = h
-
-pub answer_on : (limit live need : ℕ) (j : Judgement) (trees : List KindTree) (old new : Sequence) (r : Result (Unit {0}) PushError) (e : PushError) → IsErrAnd r (λ x. x ≡ e) → IsPushAnswer limit live need j trees old new (Err e) → IsPushAnswer limit live need j trees old new r
-answer_on limit live need j trees old new (Ok u) e i h = absurd i
-answer_on limit live need j trees old new (Err x) e i h = subst (λ y. IsPushAnswer limit live need j trees old new (Err y)) (sym i) h
-
 -- a cost that is nothing changes no sum
 pub fits_on : (sum : List Term) (c : SumCost) (cost : Cost) → c ≡ cost_of cost → AllFit sum → AllFit (added sum c false)
 unfolding with_terms
@@ -198,23 +185,9 @@ pub declarations-grown : (old new : PoolView) (ds : List Decl) → Grows old new
 declarations-grown old new [] g a = refl
 declarations-grown old new (d ∷ ds) g a = ap₂ (λ t ts. t ∷ ts) (decl-grown old new d g (a zero d (omega arith))) (declarations-grown old new ds g (λ k e l. a (suc k) e (omega arith)))
 
-decl-more : (m n : ℕ) (d : Decl) → m ≤ n → IsLive m d → IsLive n d
-decl-more m n (decl.Name id class args result) l b = ChildBelow-more m n args l b
-decl-more m n (decl.Equation k) l b = omega arith
-decl-more m n (decl.Equiv id k) l b = omega arith
-decl-more m n (decl.Query k) l b = omega arith
-
-pub live-grown : (old new : PoolView) (ds : List Decl) → Grows old new → All (IsLive (length old.trees)) ds → All (IsLive (length new.trees)) ds
-live-grown old new ds g a = λ k d l. decl-more (length old.trees) (length new.trees) (slice_index_or ds k d) (Grows-length old new g) (a k d l)
-
 -- the same answer, in a sequence that only looked up what there is to read
 
--- the same answer of a step that closes no query
-
-pub on_kind : (pool : PoolView) (decls : DeclsView) (trees : List KindTree) (old new : Sequence) (step : Tree) (r : Result (Unit {0}) PushError) → closing_in step ≡ None → IsStepAnswer pool decls trees old new step None r → IsStepAnswer pool decls trees old new step (closing_in step) r
-on_kind pool decls trees old new step r n w = subst (λ o. IsStepAnswer pool decls trees old new step o r) (sym n) w
-
-module _ (pool : PoolView) (decls : DeclsView) (trees more : List KindTree) (old mid new : Sequence) (step : Tree) (x y : Step) (small : size (game_in pool.trees old) ≤ 50000) (same : Same old mid) (is : step_in step ≡ Some x) (narrowed : y ≡ narrow x) (changes : closing_in step ≡ None) where
+module _ (pool : PoolView) (decls : DeclsView) (trees more : List KindTree) (old mid new : Sequence) (step : Tree) (x y : Step) (small : size (game_in pool.trees old) ≤ 50000) (same : Same old mid) (is : step_in step ≡ Some x) (narrowed : y ≡ narrow x) (changes : closing_in step ≡ None) (ruled : reducing_in step ≡ None) where
   abbrev scene_at : Sequence → Scene
   scene_at s = scene_of pool decls s.game.root
 
@@ -230,6 +203,7 @@ module _ (pool : PoolView) (decls : DeclsView) (trees more : List KindTree) (old
     costs = w.costs;
     sum = w.sum ∙ ap (λ ts. added ts (cost_of w.cost) false) same.sum;
     closed = w.closed ∙ same.closed;
+    context = w.context;
     room = (let l = w.room in let n = ap (λ t. need_of t z) e in omega arith);
   }
   answer_of g h j k (Err (push.Refused q)) z e f m w = sym f ∙ w
@@ -248,10 +222,9 @@ module _ (pool : PoolView) (decls : DeclsView) (trees more : List KindTree) (old
       (answer_of (game_in pool.trees mid) (game_in pool.trees old) (judgement_of (scene_at mid) (narrow x)) (judgement_of (scene_at old) (narrow x)) r (narrow x) game judged m narrow_answer)
 
   by_result : old.steps < 2000 → (r : Result (Unit {0}) PushError) → Answer old more x r → IsPushed pool decls more old new step r
-  by_result l (Ok u) w = (l, on_kind pool decls more old new step (Ok u) changes (subst (λ o. IsPushAnswer pool.limit (length pool.trees) (needed_by (game_in pool.trees old) o) (judgement_by (scene_at old) o) more old new (Ok u)) (sym is) w))
-  by_result l (Err (push.Refused q)) w = (l, on_kind pool decls more old new step (Err (push.Refused q)) changes (subst (λ o. IsPushAnswer pool.limit (length pool.trees) (needed_by (game_in pool.trees old) o) (judgement_by (scene_at old) o) more old new (Err (push.Refused q))) (sym is) w))
-  by_result l (Err push.Steps) w = absurd w
-  by_result l (Err (push.Build b)) w = (l, on_kind pool decls more old new step (Err (push.Build b)) changes (subst (λ o. IsPushAnswer pool.limit (length pool.trees) (needed_by (game_in pool.trees old) o) (judgement_by (scene_at old) o) more old new (Err (push.Build b))) (sym is) w))
+  by_result l r w =
+      rule_pushed pool decls more old new step r changes ruled l
+      (subst (λ o. IsPushAnswer pool.limit (length pool.trees) (needed_by (game_in pool.trees old) o) (judgement_by (scene_at old) o) more old new r) (sym is) w)
 
   pub pushed : old.steps < 2000 → (r q : Result (Unit {0}) PushError) → q ≡ r → OnOk r (more ≡ trees) → IsAdvanced pool decls trees mid new y r → IsPushed pool decls more old new step q
   pushed l r q e m w = subst (IsPushed pool decls more old new step) (sym e) (by_result l r (tried r m w))

@@ -1,22 +1,35 @@
 -- Proofs by sequences of games: the trees of steps, with what each costs and the game that it leads to. Blanchet, TDSC 2008.
-use Rattle.std.specs.Prelude.{◌≡◌, ℕ, ◌+◌, ◌==◌, false, if◌then◌else◌, Bool, List, [], ◌∷◌, ◌++◌, Option, Some, None}
+use Rattle.std.specs.Prelude.{◌≡◌, ℕ, suc, ◌+◌, ◌==◌, false, if◌then◌else◌, Bool, List, [], ◌∷◌, ◌++◌, length, Option, Some, None, option_map}
 use Rattle.cv_syntax.specs.Declarations.{Declaration}
 use Rattle.cv_syntax.specs.Tree.{Tree}
 use Rattle.cv_bound.specs.declared.cost.Cost.{Cost as SumCost}
 use Rattle.cv_bound.specs.declared.terms.Term.{Term}
 use Rattle.cv_bound.specs.Sums.{added}
-use Rattle.cv_steps.specs.Costs.{cost_of}
-use Rattle.cv_steps.specs.Judgements.{Accepted}
+use Rattle.cv_context_products.specs.Shapes.{Shape, shape_of}
+use Rattle.cv_scenes.specs.Scenes.{Scene}
+use Rattle.cv_script.specs.Views.{StepItems, items_of_step}
+use Rattle.cv_script.specs.Views as items
 use Rattle.cv_steps.specs.Sequences.{scene}
-use Rattle.cv_steps.specs.Steps.{Cost}
-use Rattle.cv_kernel.specs.Closings.{Closing, closing_in, judgement_in}
-use Rattle.cv_kernel.specs.Sequences.{needed}
+use Rattle.cv_steps_crypto.specs.Conditions.{equivalence_of}
+use Rattle.cv_kernel.specs.Closings.{Closing, closing_in}
+use Rattle.cv_kernel.specs.Sayings.{Accepted, IsSaid}
+use Rattle.cv_kernel.specs.Sequences.{needed_for}
 
--- a step that closes a query leads to the same game
+-- a step that closes a query leads to the same game; a cryptographic step has a context of this shape
 pub record Transition : Type 0 where
   pub step : Tree
   pub cost : SumCost
+  pub context : Option Shape
   pub next : Tree
+
+-- the shape of a step's context in a game, where the step is a cryptographic one
+
+abbrev pub shape_by : Scene → Option StepItems → Option Shape
+shape_by s (Some (items.Crypto e x)) = option_map (λ t. shape_of s t x) (equivalence_of s e)
+shape_by s other = None
+
+abbrev pub shape_at : Scene → (step : Tree) → Option Shape
+shape_at s t = shape_by s (items_of_step t)
 
 -- the numbers of the queries that transitions close, in order
 
@@ -28,21 +41,20 @@ abbrev pub closed_by : List Transition → List ℕ
 closed_by [] = []
 closed_by (t ∷ ts) = number_before (closing_in t.step) (closed_by ts)
 
--- the step is accepted in a game, at this cost, where these queries are closed, and leads to the next
-pub record IsTransition (ds : List Declaration) (known : ℕ → Bool) (closed : List ℕ) (game : Tree) (t : Transition) : Type 0 where
-  pub cost : Cost
-  pub accepted : judgement_in (scene ds known game) closed t.step ≡ Accepted t.next cost
-  pub costs : t.cost ≡ cost_of cost
+-- the step is accepted in a game, at this cost, where it has this number and these queries are closed, and leads to the next
+pub record IsTransition (ds : List Declaration) (known : ℕ → Bool) (number : ℕ) (closed : List ℕ) (game : Tree) (t : Transition) : Type 0 where
+  pub accepted : IsSaid (scene ds known game) closed number t.step (Accepted t.next t.cost)
+  pub context : t.context ≡ shape_at (scene ds known game) t.step
 
 -- From the first game the transitions lead to this game.
 pub data IsProof (ds : List Declaration) (known : ℕ → Bool) (first : Tree) : List Transition → Tree → Type 0 where
   start : IsProof ds known first [] first
-  push : (before : List Transition) (game : Tree) (t : Transition) → IsProof ds known first before game → IsTransition ds known (closed_by before) game t → IsProof ds known first (before ++ t ∷ []) t.next
+  push : (before : List Transition) (game : Tree) (t : Transition) → IsProof ds known first before game → IsTransition ds known (suc (length before)) (closed_by before) game t → IsProof ds known first (before ++ t ∷ []) t.next
 
--- how many nodes the transitions may add to those of the first game
-abbrev pub nodes_along : (first : Tree) → List Transition → ℕ
-nodes_along first [] = 0
-nodes_along first (t ∷ ts) = needed first t.step + nodes_along t.next ts
+-- how many nodes transitions may add to those of the first game
+abbrev pub nodes_along : List Declaration → (known : ℕ → Bool) → (first : Tree) → List Transition → ℕ
+nodes_along ds known first [] = 0
+nodes_along ds known first (t ∷ ts) = needed_for (scene ds known first) t.step t.next (items_of_step t.step) + nodes_along ds known t.next ts
 
 -- The sum of a correspondence, where it is closed: the costs of the steps before the one that closes it, but for those of steps that
 -- close others, and its own cost.

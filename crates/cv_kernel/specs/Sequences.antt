@@ -1,5 +1,5 @@
 -- What a sequence of games holds, and what a step does to it.
-use Rattle.std.specs.Prelude.{◌≡◌, ℕ, suc, ◌+◌, ◌<◌, ◌≤◌, false, List, [], ◌∷◌, ◌++◌, length, Option, Some, None, IfSome, IsSome, Result, Ok, Err}
+use Rattle.std.specs.Prelude.{◌≡◌, ℕ, suc, ◌+◌, ◌<◌, ◌≤◌, false, List, [], ◌∷◌, ◌++◌, length, Option, Some, None, option_map, IfSome, IsSome, Result, Ok, Err}
 use Rattle.cv_pool.specs.KindTree.{KindTree}
 use Rattle.cv_pool.specs.PoolView.{PoolView}
 use Rattle.cv_syntax.specs.Classes.{DeclsView}
@@ -16,7 +16,21 @@ use Rattle.cv_steps.specs.Costs.{cost_of}
 use Rattle.cv_steps.specs.Judgements.{Judgement, Refused, TooLarge, TooDeep, Accepted, judgement_of, most_nodes}
 use Rattle.cv_steps.specs.Steps.{Step, Cost}
 use Rattle.cv_kernel_closed.specs.Queries.{numbers_of}
-use Rattle.cv_kernel.specs.Closings.{Closing, closing_failure, closing_in}
+use Rattle.cv_context_products.specs.Shapes.{shape_of}
+use Rattle.cv_context_products.specs.ShapesInCode.{shape_in}
+use Rattle.cv_scenes.specs.Reductions.{context_of_game}
+use Rattle.cv_scenes.specs.Scenes.{Scene}
+use Rattle.cv_script.specs.Views.{StepItems, items_of_step}
+use Rattle.cv_script.specs.Views as items
+use Rattle.cv_steps_crypto.specs.Conditions.{equivalence_of}
+use Rattle.cv_steps_crypto.specs.Steps.{IsOutcome, reduction_of}
+use Rattle.cv_steps_crypto.specs.Steps as outcome
+use Rattle.cv_kernel_crypto.specs.Applied.{nodes_of}
+use Rattle.cv_kernel_crypto.specs.Applied as applied
+use Rattle.cv_kernel_crypto.specs.declared.fault.CryptoFault.{CryptoFault}
+use Rattle.cv_kernel_crypto.specs.declared.fault.CryptoFault.TheVariants as crypto
+use Rattle.cv_kernel.specs.Closings.{Closing, closing_failure}
+use Rattle.cv_kernel.specs.Sayings.{advantage_of}
 use Rattle.cv_kernel.specs.Rules.{HasNoRoom, need_of}
 use Rattle.cv_kernel.specs.Steps.{judgement_by, step_in}
 use Rattle.cv_kernel.specs.declared.error.PushError.{PushError}
@@ -28,6 +42,10 @@ use Rattle.cv_kernel.specs.declared.sequence.Sequence.{Sequence}
 abbrev pub push_fault : RuleError → PushError
 push_fault (rule.Refused f) = push.Refused (record { condition = f.condition; place = f.place })
 push_fault (rule.Build e) = push.Build e
+
+abbrev pub reduce_fault : CryptoFault → PushError
+reduce_fault (crypto.Refused f) = push.Refused (record { condition = f.condition; place = f.place })
+reduce_fault (crypto.Build e) = push.Build e
 
 abbrev pub game_in : List KindTree → Sequence → Tree
 game_in trees s = tree_at trees (Some s.game.root)
@@ -50,9 +68,10 @@ pub record Same (old new : Sequence) : Type 0 where
   pub steps : new.steps ≡ old.steps
   pub cost : new.cost ≡ old.cost
   pub sum : new.sum ≡ old.sum
+  pub context : new.context ≡ old.context
   pub closed : new.closed ≡ old.closed
 
--- how many nodes a step may add
+-- how many nodes a step may add: one with a rule what the rule draws, and a cryptographic one its context and its next game
 
 abbrev pub needed_by : Tree → Option Step → ℕ
 needed_by game None = 0
@@ -60,6 +79,15 @@ needed_by game (Some step) = need_of game step
 
 abbrev pub needed : (game step : Tree) → ℕ
 needed game step = needed_by game (step_in step)
+
+-- the nodes of the context of a step, where there is one
+abbrev pub context_nodes : Scene → (x : ℕ) → Option Tree → ℕ
+context_nodes s x None = 0
+context_nodes s x (Some t) = nodes_of (context_of_game (reduction_of s t x)).game
+
+abbrev pub needed_for : Scene → (step next : Tree) → Option StepItems → ℕ
+needed_for s step next (Some (items.Crypto e x)) = context_nodes s x (equivalence_of s e) + nodes_of next
+needed_for s step next other = needed s.game step
 
 -- the step was accepted: the sequence has its next game, its cost, and the sum with it
 pub record IsTaken (limit live : ℕ) (need : ℕ) (j : Judgement) (trees : List KindTree) (old new : Sequence) : Type 0 where
@@ -69,6 +97,7 @@ pub record IsTaken (limit live : ℕ) (need : ℕ) (j : Judgement) (trees : List
   pub costs : new.cost ≡ Some (cost_of cost)
   pub sum : new.sum ≡ added old.sum (cost_of cost) false
   pub closed : new.closed ≡ old.closed
+  pub context : new.context ≡ None
   pub room : live + need ≤ limit
 
 -- Each answer is what is said of the step; memory may run out anywhere.
@@ -91,6 +120,7 @@ pub record IsClosing (c : Closing) (old new : Sequence) : Type 0 where
   pub steps : new.steps ≡ suc old.steps
   pub cost : new.cost ≡ Some bound.Zero
   pub sum : new.sum ≡ old.sum
+  pub context : new.context ≡ None
   pub closed : new.closed ≡ old.closed ++ record { query = c.query; sum = old.sum } ∷ []
 
 -- A step that closes a query is answered by the first condition that fails; memory may run out anywhere.
@@ -100,14 +130,38 @@ IsCloseAnswer failure c old new (Err (push.Refused f)) = failure ≡ Some (recor
 IsCloseAnswer failure c old new (Err (push.Build build.OutOfMemory)) = Unit {0}
 IsCloseAnswer failure c old new (Err e) = ⊥
 
+-- a cryptographic step was accepted: the sequence has its next game, the advantage of its context as cost, and the context's shape
+pub record IsReduced (limit live : ℕ) (s : Scene) (e x : ℕ) (trees : List KindTree) (old new : Sequence) : Type 0 where
+  pub accepted : IsOutcome s e x (outcome.Accepted (game_in trees new))
+  pub steps : new.steps ≡ suc old.steps
+  pub costs : new.cost ≡ Some (advantage_of new.steps e)
+  pub sum : new.sum ≡ added old.sum (advantage_of new.steps e) false
+  pub closed : new.closed ≡ old.closed
+  pub shape : option_map shape_in new.context ≡ option_map (λ t. shape_of s t x) (equivalence_of s e)
+  pub few : length trees ≤ live + context_nodes s x (equivalence_of s e) + nodes_of (game_in trees new)
+  pub room : live + context_nodes s x (equivalence_of s e) + nodes_of (game_in trees new) ≤ limit
+
+-- Each answer is what may be said of it; memory may run out anywhere.
+abbrev pub IsReduceAnswer : (limit live : ℕ) → Scene → (e x : ℕ) → List KindTree → (old new : Sequence) → Result (Unit {0}) PushError → Type 0
+IsReduceAnswer limit live s e x trees old new (Ok u) = IsReduced limit live s e x trees old new
+IsReduceAnswer limit live s e x trees old new (Err (push.Refused f)) = IsOutcome s e x (outcome.Refused f.condition f.place)
+IsReduceAnswer limit live s e x trees old new (Err push.Steps) = ⊥
+IsReduceAnswer limit live s e x trees old new (Err (push.Build (build.Nodes count))) = IsOutcome s e x (outcome.TooLarge count)
+IsReduceAnswer limit live s e x trees old new (Err (push.Build (build.Depth depth))) = IsOutcome s e x (outcome.TooDeep depth)
+IsReduceAnswer limit live s e x trees old new (Err (push.Build (build.Full asked))) = applied.HasNoRoom limit live s e x asked
+IsReduceAnswer limit live s e x trees old new (Err (push.Build build.OutOfMemory)) = Unit {0}
+
 -- each kind of step is answered so
-abbrev pub IsStepAnswer : PoolView → DeclsView → List KindTree → (old new : Sequence) → (step : Tree) → Option Closing → Result (Unit {0}) PushError → Type 0
-IsStepAnswer pool decls trees old new step None r =
+abbrev pub IsStepAnswer : PoolView → DeclsView → List KindTree → (old new : Sequence) → (step : Tree) → Option StepItems → Result (Unit {0}) PushError → Type 0
+IsStepAnswer pool decls trees old new step (Some (items.Success k certificate)) r =
+    IsCloseAnswer (closing_failure (scene_of pool decls old.game.root) (numbers_of old.closed) (record { query = k; certificate = certificate }))
+    (record { query = k; certificate = certificate }) old new r
+IsStepAnswer pool decls trees old new step (Some (items.Crypto e x)) r =
+    IsReduceAnswer pool.limit (length pool.trees) (scene_of pool decls old.game.root) e x trees old new r
+IsStepAnswer pool decls trees old new step other r =
     IsPushAnswer pool.limit (length pool.trees) (needed (game_in pool.trees old) step) (judgement_by (scene_of pool decls old.game.root) (step_in step)) trees old new r
-IsStepAnswer pool decls trees old new step (Some c) r =
-    IsCloseAnswer (closing_failure (scene_of pool decls old.game.root) (numbers_of old.closed) c) c old new r
 
 -- as many steps were taken as a proof may have, or the step was answered
 abbrev pub IsPushed : PoolView → DeclsView → List KindTree → (old new : Sequence) → (step : Tree) → Result (Unit {0}) PushError → Type 0
 IsPushed pool decls trees old new step (Err push.Steps) = 2000 ≤ old.steps
-IsPushed pool decls trees old new step r = (old.steps < 2000) × IsStepAnswer pool decls trees old new step (closing_in step) r
+IsPushed pool decls trees old new step r = (old.steps < 2000) × IsStepAnswer pool decls trees old new step (items_of_step step) r

@@ -1,3 +1,4 @@
+use cv_kernel_crypto::CryptoFault;
 use cv_rule::Failure;
 use cv_syntax::BuildError;
 use std::alloc::AllocError;
@@ -78,6 +79,23 @@ impl From<RuleError> for PushError {
                 place: failure.place as u64,
             }),
             RuleError::Build(fault) => PushError::Build(fault),
+        }
+    }
+}
+
+impl From<CryptoFault> for PushError {
+    ghost use Rattle.std.specs.Prelude.{◌≡◌};
+    ghost use Rattle.cv_kernel.specs.Sequences.{reduce_fault};
+
+    ghost from_gives = { λ fault e. e ≡ reduce_fault fault };
+
+    fn from(fault: CryptoFault) -> PushError {
+        match fault {
+            CryptoFault::Refused(failure) => PushError::Refused(Refusal {
+                condition: failure.condition,
+                place: failure.place as u64,
+            }),
+            CryptoFault::Build(fault) => PushError::Build(fault),
         }
     }
 }

@@ -6,6 +6,7 @@ mod closing;
 mod drawing;
 mod error;
 mod reading;
+mod reducing;
 mod sequence;
 
 pub use applying::apply;

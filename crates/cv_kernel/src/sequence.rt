@@ -1,31 +1,37 @@
-ghost use Rattle.std.specs.Prelude.{◌≡◌, ◌+◌, ◌<◌, ◌≤◌, ◌^◌, [], All, IfSome, None, OnErr, OnOk, Some, length, option_map};
+ghost use Rattle.std.specs.Prelude.{◌≡◌, ◌+◌, ◌<◌, ◌≤◌, ◌^◌, [], All, IfOk, IfSome, None, OnErr, OnOk, Some, false, length, option_map, take};
 ghost use Rattle.cv_pool.specs.PoolView.{Grows};
 ghost use Rattle.cv_syntax.specs.Tree.{tree_at};
 ghost use Rattle.cv_directory.specs.Live.{IsLive};
 ghost use Rattle.cv_rule.specs.Stated.{step_of};
 ghost use Rattle.cv_pool.specs.Nodes.{ChildBelow};
 ghost use Rattle.cv_rule_scenes.specs.Kept.{scene_of};
+ghost use Rattle.cv_script.specs.Views.{items_of_step};
+ghost use Rattle.cv_bound.specs.Sums.{AllFit, added};
+ghost use Rattle.cv_kernel_crypto.specs.Applied.{HasEquivalences};
 ghost use Rattle.cv_kernel_closed.specs.Queries.{first_unclosed, numbers_of, sum_in};
 ghost use Rattle.cv_kernel.specs.ClosingTrees.{closing_tree};
 ghost use Rattle.cv_kernel.specs.Closings.{closing_failure};
 ghost use Rattle.cv_kernel.specs.Rules.{IsShortRule, need_of};
-ghost use Rattle.cv_kernel.specs.Sequences.{IsAdvanced, IsCloseAnswer, IsPushed, IsReady, Same, Stands, needed};
+ghost use Rattle.cv_kernel.specs.Sequences.{IsAdvanced, IsCloseAnswer, IsPushed, IsReady, IsReduceAnswer, Same, Stands, game_in, needed_for};
 ghost use Rattle.cv_kernel.specs.Steps.{narrow, nodes_of, step_in};
 
 use crate::applying::attempt;
 use crate::closing::{Closing, closing_of};
 use crate::error::{PushError, Refusal};
 use crate::reading::rule_of;
+use crate::reducing::{Reducing, reducing_of};
 use cv_bound::{Cost, Sum};
+use cv_context_products::Shape;
 use cv_directory::Directory;
 use cv_kernel_closed::ClosedQueries;
-use cv_kernel_games::settle;
+use cv_kernel_crypto::{apply, shape_at};
+use cv_kernel_games::{Next, settle};
 use cv_query_built::query_numbered;
 use cv_query_check::check;
 use cv_query_entries::View;
 use cv_rule::Rule;
 use cv_script::{Step, view};
-use cv_syntax::{Game, Pool, Work};
+use cv_syntax::{Game, NameId, Pool, Work};
 use cv_typing::Arrays;
 use std::alloc::{AllocError, Global};
 
@@ -61,6 +67,8 @@ pub struct Sequence {
     arrays: Option<Arrays>,
     steps: u32,
     cost: Option<Cost>,
+    /// How often the context of the last step chooses keys and calls functions, where it was a cryptographic one.
+    context: Option<Shape>,
     sum: Sum,
     closed: ClosedQueries,
 }
@@ -72,6 +80,7 @@ impl Sequence {
         ensures arrays { result.arrays ≡ None }
         ensures steps { result.steps ≡ 0 }
         ensures cost { result.cost ≡ None }
+        ensures context { result.context ≡ None }
         ensures sum { result.sum ≡ [] }
         ensures closed { result.closed ≡ [] }
     {
@@ -80,6 +89,7 @@ impl Sequence {
             arrays: None,
             steps: 0,
             cost: None,
+            context: None,
             sum: Sum::new(alloc),
             closed: ClosedQueries::new(alloc),
         }
@@ -104,6 +114,13 @@ impl Sequence {
         ensures { option_map (λ c. c.now) result ≡ self.now.cost }
     {
         self.cost.as_ref()
+    }
+
+    /// The shape of the context of the last accepted step, where this was a cryptographic one. Takes no memory.
+    pub fn context(&self) -> Option<&Shape>
+        ensures { option_map (λ c. c.now) result ≡ self.now.context }
+    {
+        self.context.as_ref()
     }
 
     /// The sum of a query of this number, where it is closed: the costs of the steps before. Takes no memory.
@@ -161,6 +178,7 @@ impl Sequence {
         self.game = next.game;
         self.arrays = Some(next.arrays);
         self.cost = Some(next.cost);
+        self.context = None;
         self.steps += 1;
         Ok(())
     }
@@ -197,14 +215,71 @@ impl Sequence {
         }
         self.closed.note(closing.query, &self.sum)?;
         self.cost = Some(Cost::Zero);
+        self.context = None;
         self.steps += 1;
         Ok(())
     }
 
-    /// Takes a step in the last game. After a refusal the sequence and the pool's contents are as they were.
+    /// The sum with a cost more.
+    fn sum_with(&self, cost: &Cost) -> Result<Sum, AllocError>
+        requires { AllFit (added self.now.sum cost.now false) }
+        ensures { IfOk result (λ sum. sum ≡ added self.now.sum cost.now false) }
+    {
+        let mut sum = self.sum.copy()?;
+        sum.add(cost, false)?;
+        Ok(sum)
+    }
+
+    /// Goes to the next game of a cryptographic step. After a refusal the sequence, the pool's contents and the names are as
+    /// they were.
+    fn reduce(
+        &mut self,
+        alloc: Global,
+        work: &mut Work,
+        reducing: Reducing,
+    ) -> Result<(), PushError>
+        requires stands { Stands work.old.pool.trees work.old.decls self.old }
+        requires declared { All (IsLive (length work.old.pool.trees)) work.old.decls.list }
+        requires equivalences { HasEquivalences
+            (scene_of work.old.pool work.old.decls self.old.game.root) }
+        requires few { length work.old.pool.trees + 4 < 2 ^ 32 }
+        requires limit { work.old.pool.limit < 4294967295 }
+        requires steps { self.old.steps < 2000 }
+        ensures answer { IsReduceAnswer work.old.pool.limit (length work.old.pool.trees)
+            (scene_of work.old.pool work.old.decls self.old.game.root) reducing.equivalence
+            reducing.key work.new.pool.trees self.old self.new result }
+        ensures stands { Stands work.new.pool.trees work.new.decls self.new }
+        ensures same { OnErr result (Same self.old self.new) }
+        ensures grows { Grows work.old.pool work.new.pool }
+        ensures kept { OnErr result (work.new.pool.trees ≡ work.old.pool.trees) }
+        ensures names { take (length work.old.names) work.new.names ≡ work.old.names }
+        ensures back { OnErr result (work.new.names ≡ work.old.names) }
+        ensures decls { work.new.decls ≡ work.old.decls }
+    {
+        self.prepare(alloc, work)?;
+        let arrays = self.arrays.as_ref().unwrap();
+        let Reducing { equivalence, key } = reducing;
+        let context = shape_at(alloc, work, self.game.root, arrays, equivalence, key)?;
+        let step = self.steps + 1;
+        let equiv = NameId(equivalence);
+        let sum = self.sum_with(&Cost::Advantage { step, equiv })?;
+        let next = apply(alloc, work, self.game.root, equivalence, key, step)?;
+        let Next { game, arrays, cost } = next;
+        self.game = game;
+        self.arrays = Some(arrays);
+        self.cost = Some(cost);
+        self.context = Some(context);
+        self.sum = sum;
+        self.steps = step;
+        Ok(())
+    }
+
+    /// Takes a step in the last game. After a refusal the sequence, the pool's contents and the names are as they were.
     pub fn push(&mut self, alloc: Global, work: &mut Work, step: Step) -> Result<(), PushError>
         requires stands { Stands work.old.pool.trees work.old.decls self.old }
         requires declared { All (IsLive (length work.old.pool.trees)) work.old.decls.list }
+        requires equivalences { HasEquivalences
+            (scene_of work.old.pool work.old.decls self.old.game.root) }
         requires live { step.0.0 < length work.old.pool.trees }
         requires short { nodes_of (tree_at work.old.pool.trees (Some step.0)) < 2 ^ 31 }
         requires few { length work.old.pool.trees + 4 < 2 ^ 32 }
@@ -214,11 +289,13 @@ impl Sequence {
         ensures stands { Stands work.new.pool.trees work.new.decls self.new }
         ensures same { OnErr result (Same self.old self.new) }
         ensures grows { Grows work.old.pool work.new.pool }
-        ensures few { OnOk result (length work.new.pool.trees ≤ length work.old.pool.trees + needed
-            (tree_at work.old.pool.trees (Some self.old.game.root))
-            (tree_at work.old.pool.trees (Some step.0))) }
+        ensures few { OnOk result (length work.new.pool.trees ≤ length work.old.pool.trees
+            + needed_for (scene_of work.old.pool work.old.decls self.old.game.root)
+            (tree_at work.old.pool.trees (Some step.0)) (game_in work.new.pool.trees self.new)
+            (items_of_step (tree_at work.old.pool.trees (Some step.0)))) }
         ensures kept { OnErr result (work.new.pool.trees ≡ work.old.pool.trees) }
-        ensures names { work.new.names ≡ work.old.names }
+        ensures names { take (length work.old.names) work.new.names ≡ work.old.names }
+        ensures back { OnErr result (work.new.names ≡ work.old.names) }
         ensures decls { work.new.decls ≡ work.old.decls }
     {
         if self.steps >= MOST_STEPS {
@@ -226,6 +303,9 @@ impl Sequence {
         }
         if let Some(closing) = closing_of(&work.pool, step) {
             return self.close(alloc, work, closing);
+        }
+        if let Some(reducing) = reducing_of(&work.pool, step) {
+            return self.reduce(alloc, work, reducing);
         }
         let Some(rule) = rule_in(&work.pool, step) else {
             return Err(refused(0));

@@ -50,6 +50,7 @@ returns-clause-answer c =
         steps = (let n = same.steps in omega arith);
         cost = refl;
         sum = same.sum;
+        context = refl;
         closed = c.in_ok-note.ensures.put ∙ ap₂ (λ (cs : List ClosedQuery) (s : List Term). cs ++ record { query = c.args.closing.query; sum = s } ∷ []) same.closed same.sum;
       },
     )

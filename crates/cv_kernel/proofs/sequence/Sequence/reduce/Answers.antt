@@ -1,0 +1,58 @@
+use Rattle.std.proofs.Common.{◌+◌, ◌∙◌, List, Some, ap, arith, false, length, refl, subst, sym}
+use Rattle.cv_syntax.specs.declared.work.Game.{Game}
+use Rattle.cv_syntax.specs.Tree.{tree_at}
+use Rattle.cv_bound.specs.declared.terms.Term.{Term}
+use Rattle.cv_bound.specs.Sums.{AllFit, added}
+use Rattle.cv_rule_scenes.specs.Kept.{scene_of}
+use Rattle.cv_kernel_crypto.specs.Applied.{HasEquivalences}
+use Rattle.cv_kernel.specs.Sayings.{advantage_of}
+use Rattle.cv_kernel.proofs.Reduced.{advantage-fits, failed-answer, formed-grown, next-formed, reduced, refused-answer}
+use Rattle.cv_kernel.proofs.sequence.Sequence.reduce.Goals as goal
+
+pub sum_with-requires : goal.sum_with-requires
+sum_with-requires c = advantage-fits c.prepare.new.self.sum (c.prepare.new.self.steps + 1) c.args.reducing.equivalence c.prepare.ensures.stands.fits
+
+pub apply-requires-clause-equivalences : goal.apply-requires-clause-equivalences
+apply-requires-clause-equivalences c =
+    let w = c.args.work.now in
+    subst (λ (g : Game). HasEquivalences (scene_of w.pool w.decls g.root)) (sym c.prepare.ensures.same.game) c.requires.equivalences
+
+pub returns-in_err-context-clause-answer : goal.returns-in_err-context-clause-answer
+returns-in_err-context-clause-answer c =
+    let w = c.args.work.now in
+    refused-answer w.pool.limit (length w.pool.trees) _ _ (ap (λ (g : Game). scene_of w.pool w.decls g.root) c.prepare.ensures.same.game) c.args.reducing.equivalence c.args.reducing.key w.pool.trees c.args.self.now c.prepare.new.self _ c.in_err-context.field-0.0 c.from_residual-in_err-context.ensures.1
+    c.in_err-context.ensures.fault
+
+pub returns-in_err-next-clause-answer : goal.returns-in_err-next-clause-answer
+returns-in_err-next-clause-answer c =
+    let w = c.args.work.now in
+    failed-answer w.pool.limit (length w.pool.trees) _ _ (ap (λ (g : Game). scene_of w.pool w.decls g.root) c.prepare.ensures.same.game) c.args.reducing.equivalence c.args.reducing.key c.apply.new.work.pool.trees c.args.self.now c.prepare.new.self (c.prepare.new.self.steps + 1) c.apply.new.work.pool.trees _ c.in_err-next.field-0.0 c.from_residual-in_err-next.ensures.1
+    c.in_err-next.ensures.answer
+
+pub returns-clause-answer : goal.returns-clause-answer
+returns-clause-answer c =
+    let w = c.args.work.now in
+    let same = c.prepare.ensures.same in
+    let mid = c.prepare.new.self in
+    let step = mid.steps + 1 in
+    reduced w.pool.limit (length w.pool.trees) _ _ (ap (λ (g : Game). scene_of w.pool w.decls g.root) same.game) c.args.reducing.equivalence c.args.reducing.key c.apply.new.work.pool.trees c.args.self.now _ step c.in_ok-next.next refl c.in_ok-next.ensures.answer refl
+    (let e = same.steps in omega arith) refl (c.in_ok-sum.ensures ∙ ap (λ (ts : List Term). added ts (advantage_of step c.args.reducing.equivalence) false) same.sum) same.closed (sym c.in_ok-context.ensures.shape) c.in_ok-next.ensures.few
+
+pub returns-clause-stands : goal.returns-clause-stands
+returns-clause-stands c =
+    let w = c.args.work.now in
+    let after = c.apply.new.work in
+    let mid = c.prepare.new.self in
+    let s = scene_of w.pool w.decls mid.game.root in
+    let next = tree_at after.pool.trees (Some c.in_ok-next.next.game.root) in
+    let formed = formed-grown w.pool after.pool w.decls after.decls next c.apply.ensures.grows c.requires.declared c.apply.ensures.decls
+    (next-formed s c.args.reducing.equivalence c.args.reducing.key next c.in_ok-next.ensures.answer.accepted) in
+    let small = c.in_ok-next.ensures.small in
+    record {
+      live = c.in_ok-next.ensures.live;
+      small = small;
+      formed = formed;
+      arrays = record { live = c.in_ok-next.ensures.live; fits = omega (arith, small); formed = formed; arrays = c.in_ok-next.ensures.arrays; entries = c.in_ok-next.ensures.entries };
+      fits = subst AllFit (sym c.in_ok-sum.ensures) (advantage-fits mid.sum (mid.steps + 1) c.args.reducing.equivalence c.prepare.ensures.stands.fits);
+      few = (let e = c.prepare.ensures.same.steps in omega (arith, c.requires.steps));
+    }
