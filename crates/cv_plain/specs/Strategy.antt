@@ -119,6 +119,6 @@ status_for which game qs vs =
 abbrev pub said_by : List KindTree → Step → Tree
 said_by trees s = tree_at trees (Some s.0)
 
--- a step that closes a query costs nothing, and leads to no game
+-- a step that closes a query costs nothing, has no context, and leads to no game
 abbrev pub closing : Step → Entry
-closing s = record { step = s; cost = Zero; next = None }
+closing s = record { step = s; cost = Zero; context = None; next = None }

@@ -201,6 +201,7 @@ pub fn trail_of(alloc: Global, steps: &[Step]) -> Result<Vec<Entry>, AllocError>
         trail.push(Entry {
             step: *step,
             cost: Cost::Zero,
+            context: None,
             next: None,
         })?;
     }

@@ -1,10 +1,18 @@
 -- Texts, part by part.
-use Rattle.std.proofs.Common.{◌≡◌, ℕ, zero, suc, ◌+◌, ◌<◌, ◌≤◌, List, [], ◌∷◌, ◌++◌, length, drop, get_or, Bool, true, false, cond, is_some, append_assoc, append-nil, refl, ap, sym, ◌∙◌, arith}
+use Rattle.std.proofs.Common.{◌≡◌, ℕ, zero, suc, ◌+◌, ◌<◌, ◌≤◌, List, [], ◌∷◌, ◌++◌, length, drop, get_or, Bool, true, false, cond, is_some, append_assoc, append-nil, refl, ap, sym, ◌∙◌, arith, Result, Ok, Err}
 use Rattle.std.proofs.lemmas.List.{drop_all}
+use Rattle.std.specs.Result.{OnOk, is_ok}
 use Rattle.cv_pool.specs.KindTree.{KindTree}
 use Rattle.cv_report.specs.declared.report.Entry.{Entry}
 use Rattle.cv_report.specs.declared.report.Verdict.{Verdict}
 use Rattle.cv_report.specs.Text.{entry_text, games_after, trail_text, verdict_text, verdicts_text}
+
+pub framed : (out before text after : List ℕ) → ((out ++ before) ++ text) ++ after ≡ out ++ (before ++ (text ++ after))
+framed out before text after = append_assoc (out ++ before) text after ∙ append_assoc out before (text ++ after)
+
+pub extended : {T E : Type 0} (r : Result T E) (old more new total : List ℕ) → new ≡ cond (is_ok r) (old ++ more) old → old ++ more ≡ total → OnOk r (new ≡ total)
+extended (Ok u) old more new total i e = i ∙ e
+extended (Err u) old more new total i e = tt
 
 next : (k : ℕ) → suc k ≡ k + 1
 next k = omega arith

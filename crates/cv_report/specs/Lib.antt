@@ -1,3 +1,5 @@
 pub mod Codes
+pub mod Contexts
 pub mod Text
+pub mod Worked
 pub mod Writing

@@ -1,5 +1,5 @@
 -- The text of a report.
-use Rattle.std.specs.Prelude.{ℕ, ◌+◌, ◌<◌, List, [], ◌∷◌, ◌++◌, codes, if◌then◌else◌, length, All, Option, Some, None, is_some, IfSome}
+use Rattle.std.specs.Prelude.{ℕ, ◌+◌, ◌<◌, List, [], ◌∷◌, ◌++◌, codes, if◌then◌else◌, length, All, Option, Some, None, is_some, option_map, IfSome}
 use Rattle.std.specs.Fmt.{decimal}
 use Rattle.cv_syntax.specs.declared.work.File.{File}
 use Rattle.cv_syntax.specs.declared.work.Game.{Game}
@@ -9,6 +9,7 @@ use Rattle.cv_print.specs.Games.{game_text}
 use Rattle.cv_script.specs.Text.{step_text}
 use Rattle.cv_bound.specs.Texts.{listed_text, sum_text}
 use Rattle.cv_bound.specs.declared.cost.Cost.{Cost}
+use Rattle.cv_context_products.specs.ShapesInCode.{shape_in}
 use Rattle.cv_lex.specs.declared.LexError.{LexError}
 use Rattle.cv_lex.specs.declared.LexError.TheVariants as lex
 use Rattle.cv_parse.specs.declared.error.ParseError.{ParseError}
@@ -30,6 +31,7 @@ use Rattle.cv_report.specs.declared.report.Entry.{Entry}
 use Rattle.cv_report.specs.declared.report.Verdict.{Verdict}
 use Rattle.cv_report.specs.declared.report.Verdict.TheVariants.{Proved, NotProved}
 use Rattle.cv_report.specs.declared.report.Which.TheVariants.{File as FileLimit, Nodes, Depth, Steps, Pool}
+use Rattle.cv_report.specs.Contexts.{context_text}
 
 -- the line of a step's cost
 abbrev pub cost_text : List (List ℕ) → Cost → List ℕ
@@ -40,11 +42,11 @@ abbrev pub next_text : List (List ℕ) → List KindTree → ℕ → Option Game
 next_text names trees g None = []
 next_text names trees g (Some game) = codes "game " ++ decimal g ++ codes "\n" ++ game_text names (tree_at trees (Some game.root))
 
--- the k-th step, with its cost, and the game that it leads to, which would be the g-th
+-- the k-th step, with its cost and its context, and the game that it leads to, which would be the g-th
 abbrev pub entry_text : List (List ℕ) → List KindTree → (k g : ℕ) → Entry → List ℕ
 entry_text names trees k g e =
     codes "step " ++ decimal k ++ codes ": " ++ step_text names (tree_at trees (Some e.step.0)) ++ codes ";\n"
-    ++ cost_text names e.cost ++ next_text names trees g e.next
+    ++ cost_text names e.cost ++ context_text names k (option_map shape_in e.context) ++ next_text names trees g e.next
 
 -- the number of the next game
 abbrev pub games_after : ℕ → Entry → ℕ

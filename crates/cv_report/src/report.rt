@@ -2,6 +2,7 @@ ghost use Rattle.std.specs.Prelude.{◌≡◌};
 ghost use Rattle.cv_report.specs.Codes.{code_of};
 
 use cv_bound::{Cost, Sum};
+use cv_context_products::Shape;
 use cv_group::GroupFault;
 use cv_lex::LexError;
 use cv_parse::ParseError;
@@ -19,11 +20,13 @@ pub enum Command {
     Nothing,
 }
 
-/// An accepted step, with its cost and the game that it leads to; a step that closes a query leads to none.
+/// An accepted step, with its cost and the game that it leads to; a step that closes a query leads to none. A cryptographic
+/// step has the shape of its context.
 #[derive(Drop)]
 pub struct Entry {
     pub step: Step,
     pub cost: Cost,
+    pub context: Option<Shape>,
     pub next: Option<Game>,
 }
 
@@ -131,7 +134,7 @@ pub struct Report {
     pub script: Option<Vec<Step>>,
     /// The accepted steps, in order.
     pub steps: Vec<Step>,
-    /// The same steps, each with its cost and the game that it leads to.
+    /// The same steps, each with its cost, its context and the game that it leads to.
     pub trail: Vec<Entry>,
     /// What is said of each query of an accepted file, in order.
     pub verdicts: Vec<Verdict>,

@@ -2,6 +2,7 @@
 ghost use Rattle.std.specs.Prelude.{◌≡◌, ◌+◌, ◌<◌, ◌^◌, ◌++◌, [], All, length, IfOk, OnOk, IfSome};
 ghost use Rattle.cv_report.specs.Text.{EntryLive, IsLive, condition_text, cost_text, end_text, entry_text, fault_text, games_after, grammar_text, group_text, lexis_text, next_text, no_close_text, numbered_text, open_text, place_text, query_text, refused_text, said_text, scope_text, script_text, step_refused_text, text_of, trail_text, types_text, verdict_text, verdicts_text};
 
+use crate::contexts::push_context;
 use crate::report::{Cause, Entry, FileFault, Report, Status, Verdict, Which};
 use cv_bound::{Cost, listed_text};
 use cv_group::GroupFault;
@@ -46,7 +47,7 @@ fn push_next(
     push_game(out, pool, names, game.root)
 }
 
-/// Appends a step with its number, its cost and the game that it leads to, which would have this number.
+/// Appends a step with its number, its cost, its context and the game that it leads to, which would have this number.
 fn push_entry(
     out: &mut Vec<u8>,
     pool: &Pool,
@@ -65,6 +66,7 @@ fn push_entry(
     push_step(out, pool, names, entry.step)?;
     out.extend_from_slice(b";\n")?;
     push_cost(out, names, &entry.cost)?;
+    push_context(out, names, number, &entry.context)?;
     push_next(out, pool, names, game, entry.next)
 }
 

@@ -1,4 +1,4 @@
-// Tests of sums of costs, whose terms no step of the program has yet.
+// Tests of sums of costs. No step of the program has a collision yet.
 #![tactic(auto)]
 
 #[cfg(test)]
