@@ -452,8 +452,8 @@ many_closed : (bytes : List ℕ) (c : Content) → read_of most_pool bytes ≡ O
 many_closed bytes c e n f = record { content = c; file = read_is_file most_pool bytes c e; plain = n; many = (let m = full_many c.game nothing_said (queries_in c.declarations) refl f in omega arith) }
 
 -- the cause of what is said of a file without a proof block
-pub verdict_cause : (o : Outside) (r : Report) (f : File) (bytes : List ℕ) → AreTold o.told bytes → r.file ≡ Some f → r.script ≡ None → FollowsStrategy r f → read_of most_pool bytes ≡ Ok (file_in r f) → ComesFrom o r r.status
-verdict_cause o r f bytes a s n h e = go h.course.left h.course.split h.course.ends h.verdicts
+pub verdict_cause : (o : Outside) (r : Report) (f : File) (bytes : List ℕ) → AreTold o.told bytes → r.file ≡ Some f → r.script ≡ None → FollowsStrategy r f → (names : ℕ) → read_of most_pool bytes ≡ Ok (file_in r f names) → ComesFrom o r r.status
+verdict_cause o r f bytes a s n h names e = go h.course.left h.course.split h.course.ends h.verdicts
   where
     game : Tree
     game = game_in r f
@@ -466,7 +466,7 @@ verdict_cause o r f bytes a s n h e = go h.course.left h.course.split h.course.e
 
     whole : (said_of game nothing_said asked).full ≡ list_any (lacks_step game) (zip asked r.verdicts.items) → (p : Bool) → list_all is_proved r.verdicts.items ≡ p → (l : Bool) → HasQueryWithoutStep r f l → ComesFrom o r (if p then status.Proved else (if l then status.Limit Steps else status.Open Stuck))
     whole full true i l j = cause.all_proved i
-    whole full false i true j = cause.steps (there true j) (where_told o.told bytes HasManyClosed a (many_closed bytes (file_in r f) e (ap (script_in r.work.pool.trees) n) (full ∙ j)))
+    whole full false i true j = cause.steps (there true j) (where_told o.told bytes HasManyClosed a (many_closed bytes (file_in r f names) e (ap (script_in r.work.pool.trees) n) (full ∙ j)))
     whole full false i false j = cause.stuck n i (there false j)
 
     go : (left : List Tree) → asked ≡ h.course.answered ++ left → EndsAt (nodes_in r f) game (said_in r f h.course.answered) left r.status → r.verdicts.items ≡ (said_in r f h.course.answered).verdicts ++ map open_verdict left → ComesFrom o r r.status
@@ -512,7 +512,7 @@ script_cause_of o r f steps s t w = go w.walk.left w.walk.split w.walk.ends
         } in
         subst (ComesFrom o r) (sym e) (cause.no_close (there (λ (g : File). HasOpenQuery r g k) asked))
 
-    go : (left : List Tree) → steps ≡ map (λ t. t.step) w.walk.proof ++ left → EndsScript (nodes_in r f + nodes_along (game_in r f) w.walk.proof) (length w.walk.proof) (scene (declared_in r) (known_to r.work.decls.own) w.walk.last) (closed_by w.walk.proof) qs left r.status → ComesFrom o r r.status
+    go : (left : List Tree) → steps ≡ map (λ t. t.step) w.walk.proof ++ left → EndsScript (nodes_in r f + nodes_along (declared_in r) (known_to r.work.decls.own) (game_in r f) w.walk.proof) (length w.walk.proof) (scene (declared_in r) (known_to r.work.decls.own) w.walk.last) (closed_by w.walk.proof) qs left r.status → ComesFrom o r r.status
     go [] i e = closed (first_open (closed_by w.walk.proof) 1 qs) refl i e
     go (next ∷ left) i e =
         let stop : HasStop r f r.status = record {

@@ -1,5 +1,5 @@
 -- How runs end.
-use Rattle.std.proofs.Common.{◌≡◌, ℕ, ◌+◌, ◌<◌, ◌≤◌, arith, refl, ap, Bool, true, false, List, [], ◌∷◌, ◌++◌, length, map, take, Option, Some, None, Result, Ok, Err, sym, ◌∙◌, subst, ◌⊎◌, inl, inr, append-nil}
+use Rattle.std.proofs.Common.{◌≡◌, ℕ, suc, ◌+◌, ◌<◌, ◌≤◌, arith, refl, ap, Bool, true, false, List, [], ◌∷◌, ◌++◌, length, length-append, map, take, Option, Some, None, Result, Ok, Err, sym, ◌∙◌, subst, ◌⊎◌, inl, inr, append-nil}
 use Rattle.std.specs.Prelude.{IfSome, IsNone, IsSome, MatchOption, slice_get, ◌≢◌}
 use Rattle.cv_outside.specs.Causes.{NoFault, Rose}
 use Rattle.cv_outside.specs.Told.{Files, bytes_of}
@@ -23,7 +23,7 @@ use Rattle.cv_scenes.specs.Scenes.{Scene}
 use Rattle.cv_steps.specs.Sequences.{scene}
 use Rattle.cv_report.specs.declared.report.Which.TheVariants.{Depth, File, Nodes, Pool, Steps}
 use Rattle.cv.specs.Scripts.{EndsScript, Follows, Stops, ended_with, first_open, known_to, no_room, refused, too_deep, too_large, too_many}
-use Rattle.cv.proofs.Walking.{Goes, chain_of, closed-same, goes_on, never_stops}
+use Rattle.cv.proofs.Walking.{never_stops}
 use Rattle.cv_report.specs.declared.report.Status.{Status}
 use Rattle.cv_report.specs.declared.report.Status.TheVariants as status
 use Rattle.cv_report.specs.declared.report.Report.{Report}
@@ -51,17 +51,16 @@ use Rattle.cv.proofs.Verdicts.{judged_fault}
 script_proved : (s : Status) (f : Content) (steps : List Tree) → AcceptsAll f steps → Follows (content_nodes f) f.declarations f.own f.game steps (queries_in f.declarations) s → s ≡ status.Proved
 script_proved s f steps g w = go w.left w.split w.ends
   where
-    go : (left : List Tree) → steps ≡ map (λ t. t.step) w.proof ++ left → EndsScript (content_nodes f + nodes_along f.game w.proof) (length w.proof) (scene f.declarations (known_to f.own) w.last) (closed_by w.proof) (queries_in f.declarations) left s → s ≡ status.Proved
-    go [] i e =
-        let same = closed-same w.proof g.proof (sym (append-nil (map (λ t. t.step) w.proof)) ∙ (sym i ∙ g.all)) in
-        e ∙ ap ended_with (ap (λ ks. first_open ks 1 (queries_in f.declarations)) same ∙ g.closed)
+    go : (left : List Tree) → steps ≡ map (λ t. t.step) w.proof ++ left → EndsScript (content_nodes f + nodes_along f.declarations (known_to f.own) f.game w.proof) (length w.proof) (scene f.declarations (known_to f.own) w.last) (closed_by w.proof) (queries_in f.declarations) left s → s ≡ status.Proved
+    go [] i e = e ∙ ap ended_with (g.closed w.proof w.last (i ∙ append-nil (map (λ t. t.step) w.proof)) w.leads)
     go (next ∷ left) i e =
-        let c = chain_of f.declarations (known_to f.own) f.game w.proof w.last w.leads in
-        let d = chain_of f.declarations (known_to f.own) f.game g.proof g.last g.leads in
-        let on = goes_on f.declarations (known_to f.own) [] f.game w.proof g.proof next left c.0 d.0 (sym i ∙ g.all) in
-        let here = subst (λ t. Goes f.declarations (known_to f.own) [] t w.proof g.proof next f.game) c.1 on in
-        let few : length g.proof ≤ most_steps = (let l = g.few in let m = ap length g.all ∙ length-map g.proof (λ t. t.step) in omega arith) in
-        absurd (never_stops f.declarations f.own (content_nodes f) f.game w.last w.proof g.proof next s here few g.fits e)
+        let few : suc (length w.proof) ≤ most_steps = (
+        let l = g.few in
+        let m = ap length i ∙ length-append (map (λ t. t.step) w.proof) (next ∷ left) in
+        let n = length-map w.proof (λ t. t.step) in
+        omega arith
+        ) in
+        absurd (never_stops (content_nodes f + nodes_along f.declarations (known_to f.own) f.game w.proof) (length w.proof) (scene f.declarations (known_to f.own) w.last) (closed_by w.proof) next (g.goes w.proof w.last next left i w.leads) few s e)
 
 file_proved : (s : Status) (f : Content) (script : Option (List Tree)) → f.script ≡ script → Succeeds f script → EndsBy f script s → s ≡ status.Proved
 file_proved s f None e g h =
@@ -76,7 +75,7 @@ good_proved s bytes g h = file_proved s g.content g.content.script refl g.succee
 
 fits_in : (f : Content) (script : Option (List Tree)) → Succeeds f script → content_nodes f ≤ most_pool
 fits_in f None g = let l = g.fits in omega arith
-fits_in f (Some steps) g = let l = g.fits in omega arith
+fits_in f (Some steps) g = g.fits
 
 good_room : (bytes : List ℕ) (need : ℕ) → IsGood bytes → IsFull most_pool bytes need → ⊥
 good_room bytes need g w =
@@ -144,7 +143,7 @@ ends_speak : (f : Content) (script : Option (List Tree)) (s : Status) → EndsBy
 ends_speak f None s h = course_speaks (content_nodes f) f.game (queries_in f.declarations) s h
 ends_speak f (Some steps) s h = go h.left h.ends
   where
-    go : (left : List Tree) → EndsScript (content_nodes f + nodes_along f.game h.proof) (length h.proof) (scene f.declarations (known_to f.own) h.last) (closed_by h.proof) (queries_in f.declarations) left s → SpeaksOfFile s
+    go : (left : List Tree) → EndsScript (content_nodes f + nodes_along f.declarations (known_to f.own) f.game h.proof) (length h.proof) (scene f.declarations (known_to f.own) h.last) (closed_by h.proof) (queries_in f.declarations) left s → SpeaksOfFile s
     go [] e = subst SpeaksOfFile (sym e) (ended_speaks (first_open (closed_by h.proof) 1 (queries_in f.declarations)))
     go (next ∷ left) e = stop_speaks _ _ _ _ next s e
 
@@ -198,11 +197,11 @@ pub sound_without : (r : Report) → r.file ≡ None → IsSound r
 sound_without r e = subst (λ (o : Option SourceFile). IfSome o (λ f. (k : ℕ) (query : Tree) (s : List Term) → slice_get (queries_in (declared_in r)) k ≡ Some query → slice_get r.verdicts.items k ≡ Some (Proved s) → HoldsUpTo (declared_in r) (contexts_in r) (game_in r f) query s)) (sym e) tt
 
 pub close_without : (r : Report) → r.file ≡ None → HasCloseGames r
-close_without r e = subst (λ (o : Option SourceFile). IfSome o (λ f. (k : ℕ) (x : Entry) (g : Game) → slice_get r.trail.items k ≡ Some x → x.next ≡ Some g → IsWithin (declared_in r) (game_in r f) (tree_at r.work.pool.trees (Some g.root)) (summed [] (map (λ x. x.cost) (take (k + 1) r.trail.items))))) (sym e) tt
+close_without r e = subst (λ (o : Option SourceFile). IfSome o (λ f. (k : ℕ) (x : Entry) (g : Game) → slice_get r.trail.items k ≡ Some x → x.next ≡ Some g → IsWithin (declared_in r) (contexts_in r) (game_in r f) (tree_at r.work.pool.trees (Some g.root)) (summed [] (map (λ x. x.cost) (take (k + 1) r.trail.items))))) (sym e) tt
 
 pub answers_without : (told : Option (List ℕ)) (r : Report) → r.file ≡ None → SaysNothing r → (HasFile r.status → ⊥) → (SpeaksOfFile r.status → IfSome told (Judged r.status)) → Answers told r
 answers_without told r e n h j = record {
-  file = subst (λ (o : Option SourceFile). IfSome o (λ f. IfSome told (λ bytes. IsFile most_pool bytes (file_in r f)))) (sym e) tt;
+  file = subst (λ (o : Option SourceFile). IfSome o (λ f. IfSome told (λ bytes. (names : ℕ) × IsFile most_pool bytes (file_in r f names)))) (sym e) tt;
   follows = subst (λ (o : Option SourceFile). MatchOption o (SaysNothing r) (λ f. Proceeds r f (steps_in r))) (sym e) n;
   given = λ s. absurd (h s);
   only = λ s. absurd (let t = subst (λ (o : Option SourceFile). IsSome o) e s in cc);

@@ -1,6 +1,7 @@
--- The games of a report are close to the first.
-use Rattle.std.proofs.Common.{◌≡◌, ℕ, zero, suc, ◌+◌, ◌<◌, ◌≤◌, Bool, false, List, [], ◌∷◌, ◌++◌, length, map, take, refl, ap, ap₂, sym, ◌∙◌, subst, arith, Option, Some, None, Ok, ◌⊎◌, inl, inr}
-use Rattle.std.proofs.lemmas.List.{map-append}
+-- The games of a report are close to the first: its steps are links of a chain, each with the price of its context.
+use Rattle.std.proofs.Common.{◌≡◌, ℕ, zero, suc, ◌+◌, ◌<◌, ◌≤◌, ◌==◌, Bool, true, false, if◌then◌else◌, List, [], ◌∷◌, ◌++◌, length, map, drop, take, refl, ap, ap₂, sym, ◌∙◌, subst, arith, append_assoc, Option, Some, None, option_and_then, Ok, ◌⊎◌, inl, inr}
+use Rattle.std.proofs.lemmas.Bool.Decides.{nat_tests}
+use Rattle.std.proofs.lemmas.List.{map-append, take-append-drop}
 use Rattle.std.specs.Prelude.{IfSome, slice_get, option_map}
 use Rattle.cv_pool.specs.KindTree.{KindTree}
 use Rattle.cv_syntax.specs.declared.work.File.{File}
@@ -8,49 +9,45 @@ use Rattle.cv_syntax.specs.declared.work.Game.{Game}
 use Rattle.cv_syntax.specs.Declarations.{Declaration}
 use Rattle.cv_syntax.specs.Tree.{Tree, tree_at}
 use Rattle.cv_accept.specs.Accepted.{Content, read_of}
-use Rattle.cv_accept.proofs.Readings.{accepted, read_is_file}
-use Rattle.cv_bound.specs.declared.cost.Cost.{Cost as SumCost}
-use Rattle.cv_bound.specs.declared.terms.Term.{Term}
+use Rattle.cv_bound.specs.declared.terms.Experiment.TheVariants.{Events}
 use Rattle.cv_bound.specs.Sums.{added}
-use Rattle.cv_bound.specs.Values.{sum_value}
-use Rattle.cv_meaning.specs.Advantage.{chance_of}
+use Rattle.cv_bound.specs.Values.{Advantages, sum_value}
+use Rattle.cv_meaning.specs.Advantage.{IsAsked, chance_of}
 use Rattle.cv_meaning.specs.Chances.{AtMost, distance}
-use Rattle.cv_meaning.specs.Interpretation.{setting_of}
-use Rattle.cv_kernel.specs.Closings.{Closing, closing_failure, closing_in, judgement_by_closing, judgement_of_failure}
-use Rattle.cv_kernel.specs.Proofs.{IsProof, IsTransition, Transition, closed_by, push, start}
-use Rattle.cv_kernel.specs.Steps.{judgement_by, step_in}
-use Rattle.cv_parse.proofs.Exactness.{says_is_said}
-use Rattle.cv_parse_terminals.specs.Signs.{signs_of}
-use Rattle.cv_parse_roles.proofs.Games.{constants_declared}
-use Rattle.cv_parse_sorts.proofs.Known.{queries_known}
-use Rattle.cv_plain.specs.Strategy.{closing, most_pool}
+use Rattle.cv_meaning.specs.Experiments.{Experiment, mode_of}
+use Rattle.cv_meaning.specs.Interpretation.{Interpretation, setting_of}
 use Rattle.cv_meaning.specs.Queries.{queries_in}
-use Rattle.cv_query_form.specs.Rules.{AreAsked}
+use Rattle.cv_meaning.specs.Runs.{Adversary}
+use Rattle.cv_meaning.specs.Satisfies.{Satisfies}
+use Rattle.cv_meaning_contexts.specs.Sides.{Context}
+use Rattle.cv_meaning_values.specs.Values.{HasValuesIn}
+use Rattle.cv_kernel.specs.Closings.{Closing, closing_in, closing_of_items}
+use Rattle.cv_kernel.specs.Proofs.{IsProof, IsTransition, Transition, closed_by, push, start}
+use Rattle.cv_kernel.specs.Sayings.{Accepted, MaySay}
+use Rattle.cv_plain.specs.Strategy.{closing, most_pool}
 use Rattle.cv_report.specs.declared.report.Entry.{Entry}
 use Rattle.cv_report.specs.declared.report.Report.{Report}
+use Rattle.cv_scenes.specs.Reductions.{context_of_game}
+use Rattle.cv_scenes.specs.Scenes.{Scene}
 use Rattle.cv_script.specs.declared.steps.Step.{Step}
-use Rattle.cv_sequences.specs.Chains.{summed}
-use Rattle.cv_sequences.specs.Sequences.{added_up, costs_of}
-use Rattle.cv_sequences.proofs.Asked.{choices_valued}
-use Rattle.cv_sequences.proofs.Chains.{summed_put}
-use Rattle.cv_sequences.proofs.Sums.{within}
-use Rattle.cv_steps.specs.Costs.{cost_of}
-use Rattle.cv_steps.specs.Judgements.{Accepted}
-use Rattle.cv_query_certificates.specs.Failures.{Failure}
-use Rattle.cv_scenes.specs.Scenes.{KnowsQueries, Scene}
-use Rattle.cv_steps.specs.Sequences as steps
-use Rattle.cv_steps.specs.Sequences.{IsSequence, Passage, scene}
-use Rattle.cv_steps.specs.Steps.{Cost, Zero, Step as StepTree}
-use Rattle.cv_typing.specs.Parts.{IsTypedFile}
-use Rattle.cv_typing_runs.specs.Games.{HasConstants}
-use Rattle.cv_derivations_under.specs.Holding.{IsReady}
+use Rattle.cv_script.specs.Views.{items_of_step}
+use Rattle.cv_sequences.specs.Chains.{ByEquivalence, ByStep, HasPrice, IsChain, IsFileOf, IsLink, Link, Prices, cost_behind, costs_behind, game_after, next_behind, summed}
+use Rattle.cv_sequences.specs.Chains as chains
+use Rattle.cv_sequences.proofs.Chains.{chain_ends, summed_put, within}
+use Rattle.cv_steps.specs.Sequences.{scene}
+use Rattle.cv_steps_crypto.specs.Conditions.{equivalence_of}
+use Rattle.cv_steps_crypto.specs.Steps.{reduction_of}
 use Rattle.cv_derivations_under.specs.Soundness.{DerivationsHold, DerivedBodiesAreUnreached}
+use Rattle.cv.specs.Contexts.{context_by, contexts_from, contexts_in, contexts_of_file, game_behind as game_of_entry, with_context}
 use Rattle.cv.specs.Games.{HasCloseGames, IsWithin}
 use Rattle.cv.specs.Runs.{Runs}
-use Rattle.cv.specs.Scripts.{entry_in, entry_of, game_behind, known_to}
+use Rattle.cv.specs.Scripts.{Told, entry_in, entry_of, game_behind, known_to}
+use Rattle.cv.specs.Strategy.{FollowsScript, Proceeds, declared_in, file_in, game_in, most_bytes, steps_in}
+use Rattle.cv.specs.Values.{Contexts, advantage_of, advantages_in, context_of}
 use Rattle.cv.proofs.Closings.{nothing-more}
-use Rattle.cv.proofs.Ready.{game_ready}
-use Rattle.cv.specs.Strategy.{FollowsScript, Proceeds, declared_in, file_in, game_in, steps_in}
+use Rattle.cv.proofs.StepKinds.{Kind, closure, kind_of, passage, reduction}
+use Rattle.cv.proofs.StepKinds as kind
+use Rattle.cv.proofs.Ready.{file_of, valued}
 
 -- the front of a proof
 
@@ -96,7 +93,7 @@ module _ (ds : List Declaration) (known : ℕ → Bool) (first : Tree) where
   pub record StandsIn (ts : List Transition) (k : ℕ) (u : Transition) : Type 0 where
     pub game : Tree
     pub before : IsProof ds known first (take k ts) game
-    pub here : IsTransition ds known (closed_by (take k ts)) game u
+    pub here : IsTransition ds known (suc (length (take k ts))) (closed_by (take k ts)) game u
 
   pub stands_in : (ts : List Transition) (last : Tree) → IsProof ds known first ts last → (k : ℕ) (u : Transition) → slice_get ts k ≡ Some u → StandsIn ts k u
   stands_in ts last start k u e = absurd (cc)
@@ -104,76 +101,172 @@ module _ (ds : List Declaration) (known : ℕ → Bool) (first : Tree) where
     | inl h ↦ record {
       game = game;
       before = subst (λ xs. IsProof ds known first xs game) (sym (take_all before t k h.0)) p;
-      here = subst (λ x. IsTransition ds known (closed_by (take k (before ++ t ∷ []))) game x) (sym h.1) (subst (λ xs. IsTransition ds known (closed_by xs) game t) (sym (take_all before t k h.0)) i);
+      here = subst (λ x. IsTransition ds known (suc (length (take k (before ++ t ∷ [])))) (closed_by (take k (before ++ t ∷ []))) game x) (sym h.1) (subst (λ xs. IsTransition ds known (suc (length xs)) (closed_by xs) game t) (sym (take_all before t k h.0)) i);
     }
     | inr h ↦
         let s = stands_in before game p k u h.1 in
         record {
           game = s.game;
           before = subst (λ xs. IsProof ds known first xs s.game) (sym (take_front before t k (omega (arith, h.0)))) s.before;
-          here = subst (λ xs. IsTransition ds known (closed_by xs) s.game u) (sym (take_front before t k (omega (arith, h.0)))) s.here;
+          here = subst (λ xs. IsTransition ds known (suc (length xs)) (closed_by xs) s.game u) (sym (take_front before t k (omega (arith, h.0)))) s.here;
         }
   ]
 
-  -- a proof is a sequence of games, with the same costs
+-- a cost more
+pub summed-on : (before : List Transition) (t : Transition) → summed [] (map (λ x. x.cost) (before ++ t ∷ [])) ≡ added (summed [] (map (λ x. x.cost) before)) t.cost false
+summed-on before t = ap (summed []) (map-append (λ x. x.cost) before (t ∷ [])) ∙ summed_put [] (map (λ x. x.cost) before) t.cost
 
-  accepted_step : (game : Tree) (o : Option StepTree) (next : Tree) (c : Cost) → judgement_by (scene ds known game) o ≡ Accepted next c → (x : StepTree) × (o ≡ Some x)
-  accepted_step game None next c e = absurd (cc)
-  accepted_step game (Some x) next c e = (x, refl)
+-- contexts by the numbers of their steps
 
-  -- a step that closes a query keeps the game, and costs nothing
-  pub closed_step : (s : Scene) (o : Option Failure) (next : Tree) (c : Cost) → judgement_of_failure s o ≡ Accepted next c → (next ≡ s.game) × (c ≡ Zero) × (o ≡ None)
-  closed_step s None next c e = (cc, cc, refl)
-  closed_step s (Some f) next c e = absurd (cc)
+found_here : (n : ℕ) (c : Context) (cs : Contexts) (b : Bool) → (n == n) ≡ b → (if b then Some c else context_of cs n) ≡ Some c
+found_here n c cs true e = refl
+found_here n c cs false e = absurd (let h : n ≡ n → ⊥ = grind (arith, nat_tests) in h refl)
 
-  -- a cost more
+other_number : (m n : ℕ) (c : Context) (cs : Contexts) → m < n → (b : Bool) → (m == n) ≡ b → (if b then Some c else context_of cs n) ≡ context_of cs n
+other_number m n c cs l true e = absurd (let h : m ≡ n = grind (arith, nat_tests) in omega arith)
+other_number m n c cs l false e = refl
 
-  pub summed_up : (sum : List Term) (cs : List Cost) → added_up sum cs false ≡ summed sum (map cost_of cs)
-  unfolding added_up summed
-  summed_up sum [] = refl
-  summed_up sum (c ∷ cs) = summed_up (added sum (cost_of c) false) cs
+found_later : (m n : ℕ) (o : Option Context) (cs : Contexts) → m < n → context_of (with_context m o cs) n ≡ context_of cs n
+found_later m n None cs l = refl
+found_later m n (Some c) cs l = other_number m n c cs l (m == n) refl
 
-  pub summed-on : (before : List Transition) (t : Transition) → summed [] (map (λ x. x.cost) (before ++ t ∷ [])) ≡ added (summed [] (map (λ x. x.cost) before)) t.cost false
-  summed-on before t = ap (summed []) (map-append (λ x. x.cost) before (t ∷ [])) ∙ summed_put [] (map (λ x. x.cost) before) t.cost
+-- those of transitions: a step that closes a query keeps the game
 
-  -- the steps that change games are a sequence, with the same sum
-  pub record HasPassages (ts : List Transition) (last : Tree) : Type 0 where
-    pub passages : List Passage
-    pub sequence : IsSequence ds known first passages last
-    pub sums : summed [] (map cost_of (costs_of passages)) ≡ summed [] (map (λ t. t.cost) ts)
+abbrev pub game_kept : (game : Tree) → Option Closing → (next : Tree) → Tree
+game_kept game None next = next
+game_kept game (Some c) next = game
 
-  passage_more : (before : List Transition) (game : Tree) (t : Transition) → HasPassages before game → (o : Option Closing) → closing_in t.step ≡ o → (cost : Cost) → judgement_by_closing (scene ds known game) (closed_by before) t.step o ≡ Accepted t.next cost → t.cost ≡ cost_of cost → HasPassages (before ++ t ∷ []) t.next
-  passage_more before game t h None n cost e c =
-      let x = accepted_step game (step_in t.step) t.next cost e in
-      let one : Passage = record { step = x.0; cost = cost; next = t.next } in
-      record {
-        passages = h.passages ++ one ∷ [];
-        sequence = steps.push h.passages game one h.sequence (ap (judgement_by (scene ds known game)) (sym x.1) ∙ e);
-        sums = ap (λ cs. summed [] (map cost_of cs)) (map-append (λ q. q.cost) h.passages (one ∷ []))
-            ∙ (ap (summed []) (map-append cost_of (costs_of h.passages) (cost ∷ []))
-            ∙ (summed_put [] (map cost_of (costs_of h.passages)) (cost_of cost)
-            ∙ (ap₂ (λ sum k. added sum k false) h.sums (sym c) ∙ sym (summed-on before t))));
-      }
-  passage_more before game t h (Some d) n cost e c =
-      let k = closed_step (scene ds known game) (closing_failure (scene ds known game) (closed_by before) d) t.next cost e in
-      record {
-        passages = h.passages;
-        sequence = subst (IsSequence ds known first h.passages) (sym k.0) h.sequence;
-        sums = h.sums ∙ (sym (nothing-more (summed [] (map (λ x. x.cost) before))) ∙ (ap (λ z. added (summed [] (map (λ x. x.cost) before)) z false) (sym (c ∙ ap cost_of k.1)) ∙ sym (summed-on before t)));
-      }
+module _ (ds : List Declaration) (own : ℕ) where
+  abbrev pub contexts_along : (step : ℕ) → (game : Tree) → List Transition → Contexts
+  contexts_along step game [] = []
+  contexts_along step game (t ∷ ts) = with_context step (context_by ds own game (items_of_step t.step)) (contexts_along (suc step) (game_kept game (closing_in t.step) t.next) ts)
 
-  pub passages_of : (ts : List Transition) (last : Tree) → IsProof ds known first ts last → HasPassages ts last
-  passages_of ts last start = record { passages = []; sequence = steps.start; sums = refl }
-  passages_of ts last (push before game t p i) = passage_more before game t (passages_of before game p) (closing_in t.step) refl i.cost i.accepted i.costs
+abbrev game_along : (game : Tree) → List Transition → Tree
+game_along game [] = game
+game_along game (t ∷ ts) = game_along (game_kept game (closing_in t.step) t.next) ts
+
+along-put : (game : Tree) (ts : List Transition) (t : Transition) → game_along game (ts ++ t ∷ []) ≡ game_kept (game_along game ts) (closing_in t.step) t.next
+along-put game [] t = refl
+along-put game (u ∷ ts) t = along-put (game_kept game (closing_in u.step) u.next) ts t
+
+context_at : (ds : List Declaration) (own step : ℕ) (game : Tree) (before : List Transition) (t : Transition) (behind : List Transition) (c : Context) → context_by ds own (game_along game before) (items_of_step t.step) ≡ Some c
+    → context_of (contexts_along ds own step game (before ++ t ∷ behind)) (step + length before) ≡ Some c
+context_at ds own step game [] t behind c e =
+    let n : step + 0 ≡ step = omega arith in
+    let rest = contexts_along ds own (suc step) (game_kept game (closing_in t.step) t.next) behind in
+    ap (context_of (contexts_along ds own step game (t ∷ behind))) n ∙ (ap (λ o. context_of (with_context step o rest) step) e ∙ found_here step c rest (step == step) refl)
+context_at ds own step game (u ∷ before) t behind c e =
+    let n : step + suc (length before) ≡ suc step + length before = omega arith in
+    let to = game_kept game (closing_in u.step) u.next in
+    let rest = contexts_along ds own (suc step) to (before ++ t ∷ behind) in
+    found_later step (step + suc (length before)) (context_by ds own game (items_of_step u.step)) rest (omega arith) ∙ (ap (context_of rest) n ∙ context_at ds own (suc step) to before t behind c e)
+
+-- the contexts of links are those of a list by their numbers
+
+abbrev HasContext : Contexts → Scene → Link → Type 0
+HasContext cs s (ByStep step cost next) = Unit {0}
+HasContext cs s (ByEquivalence n e key next) = (t : Tree) → equivalence_of s e ≡ Some t → context_of cs n ≡ Some (context_of_game (reduction_of s t key))
+
+module _ (ds : List Declaration) (own : ℕ) (cs : Contexts) where
+  abbrev HaveContexts : (game : Tree) → List Link → Type 0
+  HaveContexts game [] = Unit {0}
+  HaveContexts game (l ∷ links) = HasContext cs (scene ds (known_to own) game) l × HaveContexts (next_behind l) links
+
+  contexts_put : (game : Tree) (links : List Link) (l : Link) → HaveContexts game links → HasContext cs (scene ds (known_to own) (game_after game links)) l → HaveContexts game (links ++ l ∷ [])
+  unfolding game_after
+  contexts_put game [] l h k = (k, tt)
+  contexts_put game (m ∷ links) l h k = (h.0, contexts_put (next_behind m) links l h.1 k)
+
+  context_there : (game : Tree) (before : List Link) (l : Link) (behind : List Link) → HaveContexts game (before ++ l ∷ behind) → HasContext cs (scene ds (known_to own) (game_after game before)) l
+  unfolding game_after
+  context_there game [] l behind h = h.0
+  context_there game (b ∷ before) l behind h = context_there (next_behind b) before l behind h.1
+
+  -- so their prices are the advantages of the contexts
+  module _ (i : Interpretation) (x : Experiment) (a : Adversary) (advantages : Advantages) (are : (n : ℕ) → advantages n Events ≡ advantage_of ds i x a (context_of cs n)) where
+    price_of : (game : Tree) (l : Link) → HasContext cs (scene ds (known_to own) game) l → HasPrice (scene ds (known_to own) game) advantages i x a l
+    price_of game (ByStep step cost next) h = tt
+    price_of game (ByEquivalence n e key next) h = λ t q. are n ∙ ap (advantage_of ds i x a) (h t q)
+
+    pub prices : (first : Tree) (links : List Link) → HaveContexts first links → Prices ds (known_to own) first links advantages i x a
+    prices first links h before l behind e = price_of (game_after first before) l (context_there first before l behind (subst (HaveContexts first) e h))
+
+-- the steps of a proof that change the game are the links of a chain, with the same sum, whose contexts are those of the whole proof
+
+pub record HasLinks (ds : List Declaration) (own : ℕ) (first : Tree) (cs : Contexts) (ts : List Transition) (last : Tree) : Type 0 where
+  pub links : List Link
+  pub chain : IsChain ds (known_to own) first links last
+  pub contexts : HaveContexts ds own cs first links
+  pub sums : summed [] (costs_behind links) ≡ summed [] (map (λ t. t.cost) ts)
+
+module _ (ds : List Declaration) (own : ℕ) (first : Tree) where
+  abbrev at : Tree → Scene
+  at game = scene ds (known_to own) game
+
+  module _ (cs : Contexts) (before : List Transition) (game : Tree) (t : Transition) (h : HasLinks ds own first cs before game) where
+    link_more : (l : Link) → IsLink (at game) l → next_behind l ≡ t.next → t.cost ≡ cost_behind l → HasContext cs (at game) l → HasLinks ds own first cs (before ++ t ∷ []) t.next
+    link_more l k n c d = record {
+      links = h.links ++ l ∷ [];
+      chain = subst (IsChain ds (known_to own) first (h.links ++ l ∷ [])) n (chains.push h.links game l h.chain k);
+      contexts = contexts_put ds own cs first h.links l h.contexts (subst (λ g. HasContext cs (at g) l) (sym (chain_ends ds (known_to own) first h.links game h.chain)) d);
+      sums = ap (summed []) (map-append cost_behind h.links (l ∷ []))
+          ∙ (summed_put [] (costs_behind h.links) (cost_behind l)
+          ∙ (ap₂ (λ sum k. added sum k false) h.sums (sym c) ∙ sym (summed-on before t)));
+    }
+
+    -- a step that closes a query is none
+    link_none : (c : Closing) → closing_in t.step ≡ Some c → IsTransition ds (known_to own) (suc (length before)) (closed_by before) game t → HasLinks ds own first cs (before ++ t ∷ []) t.next
+    link_none c n i =
+        let k = closure (at game) (closed_by before) (suc (length before)) t.step c t.next t.cost n i.accepted in
+        record {
+          links = h.links;
+          chain = subst (IsChain ds (known_to own) first h.links) (sym k.game) h.chain;
+          contexts = h.contexts;
+          sums = h.sums ∙ (sym (nothing-more (summed [] (map (λ x. x.cost) before))) ∙ (ap (λ z. added (summed [] (map (λ x. x.cost) before)) z false) (sym k.costs) ∙ sym (summed-on before t)));
+        }
+
+    -- of a cryptographic step this is the context
+    abbrev IsThere : Type 0
+    IsThere = (c : Context) → context_by ds own game (items_of_step t.step) ≡ Some c → context_of cs (suc (length before)) ≡ Some c
+
+    link_by : Kind (items_of_step t.step) → IsThere → IsTransition ds (known_to own) (suc (length before)) (closed_by before) game t → HasLinks ds own first cs (before ++ t ∷ []) t.next
+    link_by (kind.reduces e x q) there i =
+        let r = reduction (at game) (closed_by before) (suc (length before)) e x t.step t.next t.cost (subst (λ o. MaySay (at game) (closed_by before) (suc (length before)) t.step o (Accepted t.next t.cost)) q i.accepted) in
+        link_more (ByEquivalence (suc (length before)) e x t.next) r.leads refl r.costs
+        (λ y j. there (context_of_game (reduction_of (at game) y x)) (ap (context_by ds own game) q ∙ ap (option_map (λ z. context_of_game (reduction_of (at game) z x))) j))
+    link_by (kind.judged j (kind.changes c)) there i =
+        let p = passage (at game) (closed_by before) t.step t.next t.cost c.closing (j.says (at game) (closed_by before) (suc (length before)) t.step _ i.accepted) in
+        link_more (ByStep p.step p.price t.next) p.accepted refl p.costs tt
+    link_by (kind.judged j (kind.closes k by q)) there i = link_none (record { query = k; certificate = by }) (ap (option_and_then closing_of_items) q) i
+
+  -- the games of a proof
+  kept_by : (game : Tree) (t : Transition) (n : ℕ) (ks : List ℕ) → IsTransition ds (known_to own) n ks game t → (o : Option Closing) → closing_in t.step ≡ o → game_kept game o t.next ≡ t.next
+  kept_by game t n ks i None e = refl
+  kept_by game t n ks i (Some c) e = sym (closure (at game) ks n t.step c t.next t.cost e i.accepted).game
+
+  along_is : (ts : List Transition) (last : Tree) → IsProof ds (known_to own) first ts last → game_along first ts ≡ last
+  along_is ts last start = refl
+  along_is ts last (push before game t p i) =
+      along-put first before t ∙ (ap (λ g. game_kept g (closing_in t.step) t.next) (along_is before game p) ∙ kept_by game t (suc (length before)) (closed_by before) i (closing_in t.step) refl)
+
+  pub links_of : (ts : List Transition) (last : Tree) → IsProof ds (known_to own) first ts last → (rest : List Transition) → HasLinks ds own first (contexts_along ds own 1 first (ts ++ rest)) ts last
+  links_of ts last start rest = record { links = []; chain = chains.start; contexts = tt; sums = refl }
+  links_of ts last (push before game t p i) rest =
+      let cs = contexts_along ds own 1 first (before ++ t ∷ rest) in
+      let n : 1 + length before ≡ suc (length before) = omega arith in
+      subst (λ all. HasLinks ds own first (contexts_along ds own 1 first all) (before ++ t ∷ []) t.next) (sym (append_assoc before (t ∷ []) rest))
+      (link_by cs before game t (links_of before game p (t ∷ rest)) (kind_of (items_of_step t.step))
+      (λ c e. sym (ap (context_of cs) n) ∙ context_at ds own 1 first before t rest c (ap (λ g. context_by ds own g (items_of_step t.step)) (along_is before game p) ∙ e)) i)
 
   -- so no adversary tells its games
-  module _ (w : IsReady ds first) (constants : HasConstants ds) (holds : DerivationsHold ds) (unreached : DerivedBodiesAreUnreached ds) (k : KnowsQueries (scene ds known first)) (typed : IsTypedFile ds first) (asked : AreAsked first (queries_in ds)) where
-    pub close : (ts : List Transition) (last : Tree) → IsProof ds known first ts last → IsWithin ds first last (summed [] (map (λ t. t.cost) ts))
-    close ts last p = λ i sat x q a advantages.
-        let h = passages_of ts last p in
-        subst (λ s. AtMost (distance (chance_of (setting_of ds i) x a first) (chance_of (setting_of ds i) x a last)) (sum_value i advantages s))
-        (summed_up [] (costs_of h.passages) ∙ h.sums)
-        (within ds known first w constants holds unreached k i sat x q (choices_valued ds first w.formed.phrase typed w.sorts asked i sat x q) a advantages h.passages last h.sequence)
+  pub close : IsFileOf ds own first → ((i : Interpretation) → Satisfies ds i → (x : Experiment) → IsAsked (queries_in ds) x → HasValuesIn (setting_of ds i) (mode_of x) first)
+      → (ts : List Transition) (last : Tree) → IsProof ds (known_to own) first ts last → (rest : List Transition) → IsWithin ds (contexts_along ds own 1 first (ts ++ rest)) first last (summed [] (map (λ t. t.cost) ts))
+  close w values ts last p rest = λ i sat x q a.
+      let cs = contexts_along ds own 1 first (ts ++ rest) in
+      let h = links_of ts last p rest in
+      let advantages = advantages_in ds i cs x a in
+      subst (λ s. AtMost (distance (chance_of (setting_of ds i) x a first) (chance_of (setting_of ds i) x a last)) (sum_value i advantages s)) h.sums
+      (within ds own first w i sat x q (values i sat x q) a advantages h.links last h.chain (prices ds own cs i x a advantages (λ n. refl) first h.links h.contexts))
 
 -- the trail of a report
 
@@ -191,57 +284,76 @@ same_costs trees [] (t ∷ ts) (suc n) m = absurd (cc)
 same_costs trees (x ∷ es) [] (suc n) m = absurd (cc)
 same_costs trees (x ∷ es) (t ∷ ts) (suc n) m =
     let f : entry_in trees x ≡ entry_of t = cc in
-    ap₂ (λ c cs. c ∷ cs) (ap (λ (y : Tree × SumCost × Option Tree). y.1) f) (same_costs trees es ts n (cc))
+    ap₂ (λ c cs. c ∷ cs) (ap (λ (y : Told). y.1) f) (same_costs trees es ts n (cc))
 
-next_behind : (c : Option Closing) (t g : Tree) → game_behind c t ≡ Some g → t ≡ g
-next_behind None t g e = cc
-next_behind (Some d) t g e = absurd (cc)
+next_behind_step : (c : Option Closing) (t g : Tree) → game_behind c t ≡ Some g → t ≡ g
+next_behind_step None t g e = cc
+next_behind_step (Some d) t g e = absurd (cc)
 
 next_tree : (trees : List KindTree) (e : Entry) (t : Transition) (g : Game) → entry_in trees e ≡ entry_of t → e.next ≡ Some g → t.next ≡ tree_at trees (Some g.root)
 next_tree trees e t g m n =
-    next_behind (closing_in t.step) t.next (tree_at trees (Some g.root))
-    (sym (ap (λ (y : Tree × SumCost × Option Tree). y.2) m) ∙ ap (option_map (λ h. tree_at trees (Some h.root))) n)
+    next_behind_step (closing_in t.step) t.next (tree_at trees (Some g.root))
+    (sym (ap (λ (y : Told). y.3) m) ∙ ap (option_map (λ h. tree_at trees (Some h.root))) n)
 
 none_next : (ss : List Step) (k : ℕ) (e : Entry) (g : Game) → slice_get (map closing ss) k ≡ Some e → e.next ≡ Some g → ⊥
 none_next [] k e g h n = cc
 none_next (s ∷ ss) zero e g h n = let f : closing s ≡ e = cc in let m = ap (λ x. x.next) f ∙ n in cc
 none_next (s ∷ ss) (suc k) e g h n = none_next ss k e g h n
 
-module _ (holds : (ds : List Declaration) → DerivationsHold ds) (unreached : (ds : List Declaration) → DerivedBodiesAreUnreached ds) (c : Content) (f : File) (r : Report) (bytes : List ℕ) (reads : read_of most_pool bytes ≡ Ok c) where
-  -- what a file has that the law asks for
-  pub knows : KnowsQueries (scene c.declarations (known_to c.own) c.game)
-  knows =
-      let w = read_is_file most_pool bytes c reads in
-      subst (λ d. KnowsQueries (scene d.declarations (known_to d.own) d.game)) (sym w.content) (queries_known most_pool w.tokens w.said w.says)
+-- the contexts of its entries are those of the transitions
 
-  pub ready : IsReady c.declarations c.game
-  ready =
-      let w = read_is_file most_pool bytes c reads in
-      subst (λ d. IsReady d.declarations d.game) (sym w.content) (game_ready most_pool (signs_of w.tokens).signs w.said (says_is_said most_pool (signs_of w.tokens).signs w.said w.says) w.typed w.scoped)
+same_game : (trees : List KindTree) (game next : Tree) (o : Option Game) (c : Option Closing) → option_map (λ h. tree_at trees (Some h.root)) o ≡ game_behind c next → game_of_entry trees game o ≡ game_kept game c next
+same_game trees game next None None e = absurd (cc)
+same_game trees game next None (Some c) e = refl
+same_game trees game next (Some g) None e = cc
+same_game trees game next (Some g) (Some c) e = absurd (cc)
 
-  pub constants : HasConstants c.declarations
-  constants =
-      let w = read_is_file most_pool bytes c reads in
-      subst (λ d. HasConstants d.declarations) (sym w.content) (constants_declared most_pool (signs_of w.tokens).signs w.said (says_is_said most_pool (signs_of w.tokens).signs w.said w.says))
+pub same_contexts : (ds : List Declaration) (own : ℕ) (trees : List KindTree) (step : ℕ) (game : Tree) (es : List Entry) (ts : List Transition) → map (entry_in trees) es ≡ map entry_of ts → contexts_from ds own trees step game es ≡ contexts_along ds own step game ts
+unfolding contexts_from
+same_contexts ds own trees step game [] [] m = refl
+same_contexts ds own trees step game [] (t ∷ ts) m = absurd (cc)
+same_contexts ds own trees step game (e ∷ es) [] m = absurd (cc)
+same_contexts ds own trees step game (e ∷ es) (t ∷ ts) m =
+    let f : entry_in trees e ≡ entry_of t = cc in
+    let to = same_game trees game t.next e.next (closing_in t.step) (ap (λ (y : Told). y.3) f) in
+    ap₂ (λ s cs. with_context step (context_by ds own game (items_of_step s)) cs) (ap (λ (y : Told). y.0) f)
+    (ap (λ g. contexts_from ds own trees (suc step) g es) to ∙ same_contexts ds own trees (suc step) (game_kept game (closing_in t.step) t.next) es ts (cc))
 
-  close_content : (ts : List Transition) (last : Tree) → IsProof c.declarations (known_to c.own) c.game ts last → IsWithin c.declarations c.game last (summed [] (map (λ t. t.cost) ts))
-  close_content ts last p =
-      let a = accepted most_pool bytes c reads in
-      close c.declarations (known_to c.own) c.game ready constants (holds c.declarations) (unreached c.declarations) knows a.typed a.asked ts last p
+-- those of a report that follows a script
+pub script_contexts : (r : Report) (f : File) (steps : List Tree) (w : FollowsScript r f steps) → r.file ≡ Some f → contexts_in r ≡ contexts_along (declared_in r) r.work.decls.own 1 (game_in r f) w.walk.proof
+script_contexts r f steps w e = ap (contexts_of_file r) e ∙ same_contexts (declared_in r) r.work.decls.own r.work.pool.trees 1 (game_in r f) r.trail.items w.walk.proof w.trail
 
-  script_close : (steps : List Tree) → file_in r f ≡ c → FollowsScript r f steps → (k : ℕ) (e : Entry) (g : Game) → slice_get r.trail.items k ≡ Some e → e.next ≡ Some g → IsWithin (declared_in r) (game_in r f) (tree_at r.work.pool.trees (Some g.root)) (summed [] (map (λ x. x.cost) (take (k + 1) r.trail.items)))
-  script_close steps held w k e g h n =
+abbrev AreClose : Report → File → Type 0
+AreClose r f =
+    (k : ℕ) (e : Entry) (g : Game) → slice_get r.trail.items k ≡ Some e → e.next ≡ Some g
+    → IsWithin (declared_in r) (contexts_in r) (game_in r f) (tree_at r.work.pool.trees (Some g.root)) (summed [] (map (λ x. x.cost) (take (k + 1) r.trail.items)))
+
+module _ (holds : (ds : List Declaration) → DerivationsHold ds) (unreached : (ds : List Declaration) → DerivedBodiesAreUnreached ds) (c : Content) (f : File) (r : Report) (bytes : List ℕ) (reads : read_of most_pool bytes ≡ Ok c) (few : length bytes ≤ most_bytes) where
+  close_content : (ts : List Transition) (last : Tree) → IsProof c.declarations (known_to c.own) c.game ts last → (rest : List Transition) → IsWithin c.declarations (contexts_along c.declarations c.own 1 c.game (ts ++ rest)) c.game last (summed [] (map (λ t. t.cost) ts))
+  close_content ts last p rest =
+      let w = file_of bytes c reads holds unreached few in
+      close c.declarations c.own c.game w (valued bytes c reads w.ready) ts last p rest
+
+  script_close : (steps : List Tree) → r.file ≡ Some f → file_in r f (length c.names) ≡ c → FollowsScript r f steps → AreClose r f
+  script_close steps there held w k e g h n =
       let trees = r.work.pool.trees in
-      let m = matched trees r.trail.items w.walk.proof k e w.trail h in
-      let p = front (declared_in r) (known_to r.work.decls.own) (game_in r f) w.walk.proof w.walk.last w.walk.leads k m.0 m.1 in
-      let here = subst (λ d. (ts : List Transition) (last : Tree) → IsProof d.declarations (known_to d.own) d.game ts last → IsWithin d.declarations d.game last (summed [] (map (λ t. t.cost) ts))) (sym held) close_content in
-      subst (λ cs. IsWithin (declared_in r) (game_in r f) (tree_at trees (Some g.root)) (summed [] cs)) (sym (same_costs trees r.trail.items w.walk.proof (k + 1) w.trail))
-      (subst (λ t. IsWithin (declared_in r) (game_in r f) t (summed [] (map (λ x. x.cost) (take (k + 1) w.walk.proof)))) (next_tree trees e m.0 g m.2 n) (here (take (k + 1) w.walk.proof) m.0.next p))
+      let ds = declared_in r in
+      let own = r.work.decls.own in
+      let first = game_in r f in
+      let ts = w.walk.proof in
+      let m = matched trees r.trail.items ts k e w.trail h in
+      let p = front ds (known_to own) first ts w.walk.last w.walk.leads k m.0 m.1 in
+      let here = subst (λ d. (us : List Transition) (last : Tree) → IsProof d.declarations (known_to d.own) d.game us last → (rest : List Transition) → IsWithin d.declarations (contexts_along d.declarations d.own 1 d.game (us ++ rest)) d.game last (summed [] (map (λ t. t.cost) us))) (sym held) close_content in
+      let whole = here (take (k + 1) ts) m.0.next p (drop (k + 1) ts) in
+      let within_all = subst (λ us. IsWithin ds (contexts_along ds own 1 first us) first m.0.next (summed [] (map (λ t. t.cost) (take (k + 1) ts)))) (take-append-drop (k + 1) ts) whole in
+      let within_trail = subst (λ cs. IsWithin ds cs first m.0.next (summed [] (map (λ t. t.cost) (take (k + 1) ts)))) (sym (script_contexts r f steps w there)) within_all in
+      subst (λ cs. IsWithin ds (contexts_in r) first (tree_at trees (Some g.root)) (summed [] cs)) (sym (same_costs trees r.trail.items ts (k + 1) w.trail))
+      (subst (λ t. IsWithin ds (contexts_in r) first t (summed [] (map (λ x. x.cost) (take (k + 1) ts)))) (next_tree trees e m.0 g m.2 n) within_trail)
 
-  by_script : (o : Option (List Tree)) → file_in r f ≡ c → Proceeds r f o → (k : ℕ) (e : Entry) (g : Game) → slice_get r.trail.items k ≡ Some e → e.next ≡ Some g → IsWithin (declared_in r) (game_in r f) (tree_at r.work.pool.trees (Some g.root)) (summed [] (map (λ x. x.cost) (take (k + 1) r.trail.items)))
-  by_script None held p k e g h n = absurd (none_next r.steps.items k e g (ap (λ es. slice_get es k) (sym p.trail) ∙ h) n)
-  by_script (Some steps) held p k e g h n = script_close steps held p k e g h n
+  by_script : (o : Option (List Tree)) → r.file ≡ Some f → file_in r f (length c.names) ≡ c → Proceeds r f o → AreClose r f
+  by_script None there held p k e g h n = absurd (none_next r.steps.items k e g (ap (λ es. slice_get es k) (sym p.trail) ∙ h) n)
+  by_script (Some steps) there held p k e g h n = script_close steps there held p k e g h n
 
   pub run_close : Runs c f r → HasCloseGames r
-  run_close (inl s) = subst (λ (o : Option File). IfSome o (λ q. (k : ℕ) (e : Entry) (g : Game) → slice_get r.trail.items k ≡ Some e → e.next ≡ Some g → IsWithin (declared_in r) (game_in r q) (tree_at r.work.pool.trees (Some g.root)) (summed [] (map (λ x. x.cost) (take (k + 1) r.trail.items))))) (sym s.file) tt
-  run_close (inr h) = subst (λ (o : Option File). IfSome o (λ q. (k : ℕ) (e : Entry) (g : Game) → slice_get r.trail.items k ≡ Some e → e.next ≡ Some g → IsWithin (declared_in r) (game_in r q) (tree_at r.work.pool.trees (Some g.root)) (summed [] (map (λ x. x.cost) (take (k + 1) r.trail.items))))) (sym h.file) (by_script (steps_in r) h.content h.proceeds)
+  run_close (inl s) = subst (λ (o : Option File). IfSome o (AreClose r)) (sym s.file) tt
+  run_close (inr h) = subst (λ (o : Option File). IfSome o (AreClose r)) (sym h.file) (by_script (steps_in r) h.file h.content h.proceeds)

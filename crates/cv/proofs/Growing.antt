@@ -1,5 +1,5 @@
 -- What stays of a work while its pool grows.
-use Rattle.std.proofs.Common.{◌≡◌, ℕ, zero, suc, ◌<◌, List, [], ◌∷◌, length, refl, ap, ap₂, ◌∙◌, arith, Option, Some, None}
+use Rattle.std.proofs.Common.{◌≡◌, ℕ, zero, suc, ◌<◌, List, [], ◌∷◌, length, take, refl, ap, ap₂, ◌∙◌, arith, Option, Some, None}
 use Rattle.std.specs.Prelude.{All, IfSome}
 use Rattle.std.specs.declared.vec.Vec.{Vec}
 use Rattle.std.specs.declared.alloc.Global.{Global}
@@ -26,9 +26,16 @@ pub script-grown : (old new : PoolView) (script : Option (Vec Step Global)) → 
 script-grown old new None g a = refl
 script-grown old new (Some v) g a = ap Some (steps-grown old new v.items g a)
 
--- what a work holds stays
-pub content-grown : (old new : Work) (root : NodeId) (script : Option (Vec Step Global)) → Grows old.pool new.pool → new.names ≡ old.names → new.decls ≡ old.decls → root.0 < length old.pool.trees → All (IsBelow (length old.pool.trees)) old.decls.list
-    → IfSome script (λ v. All (λ s. s.0.0 < length old.pool.trees) v.items) → content_at new root script ≡ content_at old root script
+-- names behind names behind others
+pub names_kept : (xs ys zs : List (List ℕ)) → take (length xs) ys ≡ xs → take (length ys) zs ≡ ys → take (length xs) zs ≡ xs
+names_kept [] ys zs e f = refl
+names_kept (x ∷ xs) [] zs e f = absurd (cc)
+names_kept (x ∷ xs) (y ∷ ys) [] e f = absurd (cc)
+names_kept (x ∷ xs) (y ∷ ys) (z ∷ zs) e f = let p : z ≡ x = cc in ap₂ (λ w ws. w ∷ ws) p (names_kept xs ys zs (cc) (cc))
+
+-- what a work holds stays, but for the names that are drawn behind its own
+pub content-grown : (old new : Work) (root : NodeId) (script : Option (Vec Step Global)) → Grows old.pool new.pool → take (length old.names) new.names ≡ old.names → new.decls ≡ old.decls → root.0 < length old.pool.trees → All (IsBelow (length old.pool.trees)) old.decls.list
+    → IfSome script (λ v. All (λ s. s.0.0 < length old.pool.trees) v.items) → content_in (take (length old.names) new.names) new.decls.own new.pool.trees new.decls.list root script ≡ content_at old root script
 content-grown old new root script g n d l a s =
     ap (λ (ns : List (List ℕ)). content_in ns new.decls.own new.pool.trees new.decls.list root script) n
     ∙ (ap (λ (v : DeclsView). content_in old.names v.own new.pool.trees v.list root script) d

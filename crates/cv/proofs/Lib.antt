@@ -5,6 +5,7 @@ pub mod Endings
 pub mod Faithful
 pub mod Following
 pub mod Growing
+pub mod StepKinds
 pub mod Proving
 pub mod Running
 pub mod Unread

@@ -28,22 +28,19 @@ use Rattle.cv.proofs.Endings.{memory_answers, memory_cause, sound_without}
 use Rattle.cv.proofs.Verdicts.{judged_file}
 
 module _ (c : Content) (f : File) (r : Report) where
-  ends : (o : Option (List Tree)) → Proceeds r f o → EndsBy (file_in r f) o r.status
+  ends : (o : Option (List Tree)) → Proceeds r f o → EndsBy (file_in r f (length c.names)) o r.status
   ends None p = p.course
   ends (Some s) p = p.walk
 
-  pub run_sound : ((steps : List Tree) → steps_in r ≡ Some steps → file_in r f ≡ c → FollowsScript r f steps → IsSoundFor c r.verdicts.items) → Runs c f r → IsSound r
+  pub run_sound : ((steps : List Tree) → steps_in r ≡ Some steps → r.file ≡ Some f → file_in r f (length c.names) ≡ c → FollowsScript r f steps → IsSoundFor c (contexts_in r) r.verdicts.items) → Runs c f r → IsSound r
   run_sound k (inl s) = sound_without r s.file
-  run_sound k (inr h) = of_file r.file (subst (λ (o : Option File). IfSome o (λ g. IsSoundFor (file_in r g) r.verdicts.items)) (sym h.file) (subst (λ (d : Content). IsSoundFor d r.verdicts.items) (sym h.content) (by_script (steps_in r) refl h.proceeds)))
+  run_sound k (inr h) =
+      subst (λ (o : Option File). IfSome o (λ g. (k : ℕ) (query : Tree) (s : List Term) → slice_get (queries_in (declared_in r)) k ≡ Some query → slice_get r.verdicts.items k ≡ Some (Proved s) → HoldsUpTo (declared_in r) (contexts_in r) (game_in r g) query s)) (sym h.file)
+      (subst (λ (d : Content). IsSoundFor d (contexts_in r) r.verdicts.items) (sym h.content) (by_script (steps_in r) refl h.proceeds))
     where
-      by_script : (o : Option (List Tree)) → steps_in r ≡ o → Proceeds r f o → IsSoundFor c r.verdicts.items
-      by_script None e p = h.sound e
-      by_script (Some steps) e p = k steps e h.content p
-
-      of_file : (o : Option File) → IfSome o (λ g. IsSoundFor (file_in r g) r.verdicts.items)
-          → IfSome o (λ g. (k : ℕ) (query : Tree) (s : List Term) → slice_get (queries_in (declared_in r)) k ≡ Some query → slice_get r.verdicts.items k ≡ Some (Proved s) → HoldsUpTo (declared_in r) (contexts_in r) (game_in r g) query s)
-      of_file None s = tt
-      of_file (Some g) s = s (contexts_in r)
+      by_script : (o : Option (List Tree)) → steps_in r ≡ o → Proceeds r f o → IsSoundFor c (contexts_in r) r.verdicts.items
+      by_script None e p = h.sound e (contexts_in r)
+      by_script (Some steps) e p = k steps e h.file h.content p
 
   pub run_live : Runs c f r → IsLive r
   run_live (inl s) = record {
@@ -60,8 +57,8 @@ module _ (c : Content) (f : File) (r : Report) where
     pub run_answers : (told : Option (List ℕ)) → AreTold told bytes → Runs c f r → Answers told r
     run_answers told a (inl s) = memory_answers told r s.file s.nothing s.status
     run_answers told a (inr h) = record {
-      file = subst (λ (o : Option File). IfSome o (λ g. IfSome told (λ b. IsFile most_pool b (file_in r g)))) (sym h.file)
-          (where_told told bytes (λ b. IsFile most_pool b (file_in r f)) a (read_is_file most_pool bytes (file_in r f) (reads ∙ ap Ok (sym h.content))));
+      file = subst (λ (o : Option File). IfSome o (λ g. IfSome told (λ b. (n : ℕ) × IsFile most_pool b (file_in r g n)))) (sym h.file)
+          (where_told told bytes (λ b. (n : ℕ) × IsFile most_pool b (file_in r f n)) a (length c.names, read_is_file most_pool bytes (file_in r f (length c.names)) (reads ∙ ap Ok (sym h.content))));
       follows = subst (λ (o : Option File). MatchOption o (SaysNothing r) (λ g. Proceeds r g (steps_in r))) (sym h.file) h.proceeds;
       given = λ s. subst (λ (o : Option File). IsSome o) (sym h.file) refl;
       only = λ s. h.status;
@@ -73,5 +70,5 @@ module _ (c : Content) (f : File) (r : Report) where
     run_cause o a (inr h) = go r.script refl
       where
         go : (v : Option (Vec Step Global)) → r.script ≡ v → ComesFrom o r r.status
-        go None e = verdict_cause o r f bytes a h.file e (subst (λ (x : Option (List Tree)). Proceeds r f x) (ap (script_in r.work.pool.trees) e) h.proceeds) (reads ∙ ap Ok (sym h.content))
+        go None e = verdict_cause o r f bytes a h.file e (subst (λ (x : Option (List Tree)). Proceeds r f x) (ap (script_in r.work.pool.trees) e) h.proceeds) (length c.names) (reads ∙ ap Ok (sym h.content))
         go (Some v) e = script_cause_of o r f _ h.file (ap (script_in r.work.pool.trees) e) (subst (λ (x : Option (List Tree)). Proceeds r f x) (ap (script_in r.work.pool.trees) e) h.proceeds)

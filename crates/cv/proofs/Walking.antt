@@ -1,16 +1,30 @@
--- Proofs from their first step on, and two that begin alike.
-use Rattle.std.proofs.Common.{◌≡◌, ℕ, suc, ◌+◌, ◌≤◌, Bool, List, [], ◌∷◌, ◌++◌, length, map, Option, Some, None, refl, ap, sym, subst, ◌∙◌, arith, append-nil, append_assoc}
+-- Proofs with a step more, and why a run doesn't stop at a step behind which it may go on.
+use Rattle.std.proofs.Common.{◌≡◌, ℕ, suc, ◌+◌, ◌≤◌, nat_lt, Bool, true, false, if◌then◌else◌, List, [], ◌∷◌, ◌++◌, Some, None, inl, inr, refl, ap, sym, subst, ◌∙◌, arith}
 use Rattle.cv_syntax.specs.Declarations.{Declaration}
-use Rattle.cv_syntax.specs.Tree.{Tree}
-use Rattle.cv_kernel.specs.Closings.{Closing, closing_in, judgement_in}
-use Rattle.cv_kernel.specs.Proofs.{IsProof, IsTransition, Transition, closed_by, nodes_along, number_before, push, start}
-use Rattle.cv_kernel.specs.Sequences.{needed}
+use Rattle.cv_syntax.specs.Tree.{Tree, depth, size}
+use Rattle.cv_kernel.specs.Proofs.{IsProof, Transition, nodes_along, push, start}
+use Rattle.cv_kernel.specs.Rules.{HasNoRoom}
+use Rattle.cv_kernel.specs.Sayings.{Accepted, MaySay, Refused, TooDeep, TooLarge, advantage_of, saying_by, saying_of}
+use Rattle.cv_kernel.specs.Sequences.{context_nodes, needed, needed_for}
+use Rattle.cv_kernel.specs.Closings.{judgement_in}
+use Rattle.cv_kernel_crypto.specs.Applied.{nodes_of}
+use Rattle.cv_kernel_crypto.specs.Applied as crypto
 use Rattle.cv_plain.specs.Strategy.{most_pool, most_steps}
 use Rattle.cv_report.specs.declared.report.Status.{Status}
-use Rattle.cv_steps.specs.Judgements.{Accepted}
+use Rattle.cv_scenes.specs.Scenes.{Scene}
+use Rattle.cv_script.specs.Views.{items_of_step}
+use Rattle.cv_script.specs.Views as items
+use Rattle.cv_steps.specs.Costs.{cost_of}
+use Rattle.cv_steps.specs.Judgements.{Judgement, most_depth, most_nodes}
+use Rattle.cv_steps.specs.Judgements as judgement
 use Rattle.cv_steps.specs.Sequences.{scene}
-use Rattle.cv_steps.specs.Steps.{Cost}
-use Rattle.cv.specs.Scripts.{Stops, known_to, no_room, refused, too_deep, too_large, too_many}
+use Rattle.cv_steps_crypto.specs.Conditions.{equivalence_of, failure_of}
+use Rattle.cv_steps_crypto.specs.Steps.{IsOutcome, IsOutcomeBy, is_next, outcome_with, told}
+use Rattle.cv_steps_crypto.specs.Steps as outcome
+use Rattle.cv.specs.Scripts.{LacksRoomFor, Stops, no_room, refused, too_deep, too_large, too_many}
+use Rattle.cv.specs.Strategy.{GoesOn, IsAcceptance, context_needs}
+use Rattle.cv.proofs.StepKinds.{IsJudged, Kind, kind_of}
+use Rattle.cv.proofs.StepKinds as kind
 
 -- the game that transitions lead to
 abbrev pub last_game : Tree → List Transition → Tree
@@ -21,97 +35,76 @@ last_behind : (first : Tree) (ts : List Transition) (t : Transition) → last_ga
 last_behind first [] t = refl
 last_behind first (u ∷ ts) t = last_behind u.next ts t
 
-pub nodes-append : (first : Tree) (ts : List Transition) (t : Transition) → nodes_along first (ts ++ t ∷ []) ≡ nodes_along first ts + needed (last_game first ts) t.step
-nodes-append first [] t = omega arith
-nodes-append first (u ∷ ts) t = let e = nodes-append u.next ts t in omega arith
-
--- the numbers of queries that are closed behind a step more
-
-abbrev pub closed_behind : List ℕ → (step : Tree) → List ℕ
-closed_behind ks step = ks ++ number_before (closing_in step) []
-
-number-put : (c : Option Closing) (ks ls : List ℕ) → number_before c (ks ++ ls) ≡ number_before c ks ++ ls
-number-put None ks ls = refl
-number-put (Some c) ks ls = refl
-
-number-first : (c : Option Closing) (ks : List ℕ) → number_before c ks ≡ number_before c [] ++ ks
-number-first None ks = refl
-number-first (Some c) ks = refl
-
-pub closed-put : (ts : List Transition) (t : Transition) → closed_by (ts ++ t ∷ []) ≡ closed_behind (closed_by ts) t.step
-closed-put [] t = refl
-closed-put (u ∷ ts) t = ap (number_before (closing_in u.step)) (closed-put ts t) ∙ number-put (closing_in u.step) (closed_by ts) (number_before (closing_in t.step) [])
-
-closed-more : (ks : List ℕ) (u : Transition) (ts : List Transition) → ks ++ closed_by (u ∷ ts) ≡ closed_behind ks u.step ++ closed_by ts
-closed-more ks u ts = ap (λ ls. ks ++ ls) (number-first (closing_in u.step) (closed_by ts)) ∙ sym (append_assoc ks (number_before (closing_in u.step) []) (closed_by ts))
-
--- the same steps close the same queries
-pub closed-same : (ts us : List Transition) → map (λ t. t.step) ts ≡ map (λ t. t.step) us → closed_by ts ≡ closed_by us
-closed-same [] [] e = refl
-closed-same [] (u ∷ us) e = absurd (cc)
-closed-same (t ∷ ts) [] e = absurd (cc)
-closed-same (t ∷ ts) (u ∷ us) e =
-    let f : t.step ≡ u.step = cc in
-    ap (λ x. number_before (closing_in x) (closed_by ts)) f ∙ ap (number_before (closing_in u.step)) (closed-same ts us (cc))
-
 module _ (ds : List Declaration) (known : ℕ → Bool) where
-  -- each transition is one in the game that those before it lead to, behind the queries that these close
-  abbrev pub IsChain : List ℕ → Tree → List Transition → Type 0
-  IsChain ks first [] = Unit {0}
-  IsChain ks first (t ∷ ts) = IsTransition ds known ks first t × IsChain (closed_behind ks t.step) t.next ts
+  pub last_is : (first : Tree) (ts : List Transition) (last : Tree) → IsProof ds known first ts last → last_game first ts ≡ last
+  last_is first ts last start = refl
+  last_is first ts last (push before game t p i) = last_behind first before t
 
-  chain_put : (ks : List ℕ) (first : Tree) (ts : List Transition) (t : Transition) → IsChain ks first ts → IsTransition ds known (ks ++ closed_by ts) (last_game first ts) t → IsChain ks first (ts ++ t ∷ [])
-  chain_put ks first [] t c i = (subst (λ ls. IsTransition ds known ls first t) (append-nil ks) i, tt)
-  chain_put ks first (u ∷ ts) t c i = (c.0, chain_put (closed_behind ks u.step) u.next ts t c.1 (subst (λ ls. IsTransition ds known ls (last_game u.next ts) t) (closed-more ks u ts) i))
+  pub nodes-append : (first : Tree) (ts : List Transition) (t : Transition) → nodes_along ds known first (ts ++ t ∷ []) ≡ nodes_along ds known first ts + needed_for (scene ds known (last_game first ts)) t.step t.next (items_of_step t.step)
+  nodes-append first [] t = omega arith
+  nodes-append first (u ∷ ts) t = let e = nodes-append u.next ts t in omega arith
 
-  pub chain_of : (first : Tree) (ts : List Transition) (last : Tree) → IsProof ds known first ts last → IsChain [] first ts × (last_game first ts ≡ last)
-  chain_of first ts last start = (tt, refl)
-  chain_of first ts last (push before game t p i) =
-      let c = chain_of first before game p in
-      (chain_put [] first before t c.0 (subst (λ x. IsTransition ds known (closed_by before) x t) (sym c.1) i), last_behind first before t)
+-- a run never stops at a step that is accepted, with room for it
 
-  -- Behind the front the next step is accepted in this game, and all transitions are no fewer, with no fewer nodes.
-  pub record Goes (ks : List ℕ) (last : Tree) (front all : List Transition) (next : Tree) (first : Tree) : Type 0 where
-    pub to : Tree
-    pub cost : Cost
-    pub accepted : judgement_in (scene ds known last) (ks ++ closed_by front) next ≡ Accepted to cost
-    pub few : suc (length front) ≤ length all
-    pub fits : nodes_along first front + needed last next ≤ nodes_along first all
+-- a game that may be drawn is the next one, where what is said of it is an acceptance
+drawn_next : (n e m d : ℕ) (next : Tree) (large deep good : Bool) → IsAcceptance (saying_by n e (if large then outcome.TooLarge m else if deep then outcome.TooDeep d else if good then outcome.Accepted next else outcome.Refused 9 0))
+    → outcome.Accepted next ≡ (if large then outcome.TooLarge m else if deep then outcome.TooDeep d else if good then outcome.Accepted next else outcome.Refused 9 0)
+drawn_next n e m d next true deep good a = absurd a
+drawn_next n e m d next false true good a = absurd a
+drawn_next n e m d next false false true a = refl
+drawn_next n e m d next false false false a = absurd a
 
-  -- the same step in the same game leads to the same
-  same_next : (ks : List ℕ) (game : Tree) (t u : Transition) → IsTransition ds known ks game t → IsTransition ds known ks game u → t.step ≡ u.step → t.next ≡ u.next
-  same_next ks game t u i j e = let both : Accepted t.next i.cost ≡ Accepted u.next j.cost = sym i.accepted ∙ (ap (judgement_in (scene ds known game) ks) e ∙ j.accepted) in cc
+module _ (taken count : ℕ) (s : Scene) (ks : List ℕ) (step : Tree) (g : GoesOn taken count s ks step) where
+  -- of a step with one judgement
+  room_judged : IsJudged (items_of_step step) → (need : ℕ) (j : Judgement) → judgement_in s ks step ≡ j → HasNoRoom most_pool taken (needed s.game step) j need → ⊥
+  room_judged k need (judgement.Accepted next cost) e h =
+      let fits = g.fits next (cost_of cost) (k.said s ks (suc count) step (Accepted next (cost_of cost)) (sym (ap saying_of e))) in
+      let same = k.needs s step next in
+      let asks = h.asks in
+      let over = h.over in
+      omega arith
+  room_judged k need (judgement.Refused c p) e h = g.accepted (Refused c p) (k.said s ks (suc count) step (Refused c p) (sym (ap saying_of e)))
+  room_judged k need (judgement.TooLarge n) e h = h.drawn
+  room_judged k need (judgement.TooDeep n) e h = h.drawn
 
-  pub goes_on : (ks : List ℕ) (first : Tree) (front all : List Transition) (next : Tree) (left : List Tree) → IsChain ks first front → IsChain ks first all → map (λ t. t.step) front ++ next ∷ left ≡ map (λ t. t.step) all → Goes ks (last_game first front) front all next first
-  goes_on ks first [] [] next left c d e = absurd (cc)
-  goes_on ks first [] (t ∷ ts) next left c d e =
-      let same : next ≡ t.step = cc in
-      record {
-        to = t.next;
-        cost = d.0.cost;
-        accepted = ap (λ ls. judgement_in (scene ds known first) ls next) (append-nil ks) ∙ (ap (judgement_in (scene ds known first) ks) same ∙ d.0.accepted);
-        few = omega arith;
-        fits = (let n = ap (needed first) same in omega arith);
-      }
-  goes_on ks first (u ∷ front) [] next left c d e = absurd (cc)
-  goes_on ks first (u ∷ front) (t ∷ ts) next left c d e =
-      let same : u.step ≡ t.step = cc in
-      let to = same_next ks first u t c.0 d.0 same in
-      let rest : map (λ x. x.step) front ++ next ∷ left ≡ map (λ x. x.step) ts = cc in
-      let chain = subst (λ s. IsChain (closed_behind ks s) u.next ts) (sym same) (subst (λ x. IsChain (closed_behind ks t.step) x ts) (sym to) d.1) in
-      let g = goes_on (closed_behind ks u.step) u.next front ts next left c.1 chain rest in
-      record {
-        to = g.to;
-        cost = g.cost;
-        accepted = ap (λ ls. judgement_in (scene ds known (last_game u.next front)) ls next) (closed-more ks u front) ∙ g.accepted;
-        few = (let l = g.few in omega arith);
-        fits = (let l = g.fits in let n = ap (needed first) same in let m = ap (λ x. nodes_along x ts) to in omega arith);
-      }
+  -- of a cryptographic step
+  module _ (e x : ℕ) (same : items_of_step step ≡ Some (items.Crypto e x)) where
+    context_same : (context : Tree) → crypto.IsContext s e x context → context_nodes s x (equivalence_of s e) ≡ nodes_of context
+    context_same context c = ap (context_nodes s x) c.named ∙ ap nodes_of (sym c.tree)
 
--- so the front stops nowhere, where all transitions are few and the pool has room
-pub never_stops : (ds : List Declaration) (own nodes : ℕ) (first last : Tree) (front all : List Transition) (next : Tree) (s : Status) → Goes ds (known_to own) [] last front all next first → length all ≤ most_steps → nodes + nodes_along first all ≤ most_pool → Stops (nodes + nodes_along first front) (length front) (scene ds (known_to own) last) (closed_by front) next s → ⊥
-never_stops ds own nodes first last front all next _ g few fits (too_many k) = let l = g.few in omega arith
-never_stops ds own nodes first last front all next _ g few fits (refused condition place k e) = let f = sym g.accepted ∙ e in cc
-never_stops ds own nodes first last front all next _ g few fits (too_large n k e) = let f = sym g.accepted ∙ e in cc
-never_stops ds own nodes first last front all next _ g few fits (too_deep n k e) = let f = sym g.accepted ∙ e in cc
-never_stops ds own nodes first last front all next _ g few fits (no_room need k r) = let o = r.over in let a = r.asks in let l = g.fits in omega arith
+    drawn_fits : (next : Tree) → failure_of s e x ≡ None → crypto.IsDrawn s e x next → taken + (context_nodes s x (equivalence_of s e) + nodes_of next) ≤ most_pool
+    drawn_fits next f d =
+        let o = outcome_with s.declarations next in
+        let by : IsOutcomeBy s (Some d.equivalence) x None o = record { next = next; drawn = d.drawn; outcome = refl } in
+        let is : IsOutcome s e x o = subst (λ t. IsOutcomeBy s t x (failure_of s e x) o) (sym d.named) (subst (λ h. IsOutcomeBy s (Some d.equivalence) x h o) (sym f) by) in
+        let a = g.accepted (saying_by (suc count) e o) (subst (λ i. MaySay s ks (suc count) step i (saying_by (suc count) e o)) (sym same) (o, is, refl)) in
+        let n = drawn_next (suc count) e (told (size next)) (told (depth next)) next (nat_lt most_nodes (size next)) (nat_lt most_depth (depth next)) (is_next s.declarations next) a in
+        let here = subst (λ i. MaySay s ks (suc count) step i (Accepted next (advantage_of (suc count) e))) (sym same) (outcome.Accepted next, subst (IsOutcome s e x) (sym n) is, refl) in
+        subst (λ i. taken + needed_for s step next i ≤ most_pool) same (g.fits next (advantage_of (suc count) e) here)
+
+    room_reduced : (need : ℕ) → crypto.HasNoRoom most_pool taken s e x need → ⊥
+    room_reduced need h =
+        let c = context_same h.context h.made in
+        elim h.full [
+          | inl k ↦
+              let l = subst (λ i. taken + context_needs s i ≤ most_pool) same g.context in
+              let a = k.0 in
+              let o = k.1 in
+              omega arith
+          | inr k ↦
+              let l = drawn_fits k.0 h.failure k.1 in
+              let a = k.2 in
+              let o = k.3 in
+              omega arith
+        ]
+
+  room : (need : ℕ) → Kind (items_of_step step) → LacksRoomFor taken s ks step (items_of_step step) need → ⊥
+  room need (kind.judged k v) h = room_judged k need (judgement_in s ks step) refl (k.lacks taken s ks step need h)
+  room need (kind.reduces e x same) h = room_reduced e x same need (subst (λ i. LacksRoomFor taken s ks step i need) same h)
+
+  pub never_stops : suc count ≤ most_steps → (end : Status) → Stops taken count s ks step end → ⊥
+  never_stops few _ (too_many k) = omega arith
+  never_stops few _ (refused c p k e) = g.accepted (Refused c p) e
+  never_stops few _ (too_large n k e) = g.accepted (TooLarge n) e
+  never_stops few _ (too_deep n k e) = g.accepted (TooDeep n) e
+  never_stops few _ (no_room need k h) = room need (kind_of (items_of_step step)) h

@@ -170,7 +170,7 @@ pub record HasStop (r : Report) (f : File) (s : Status) : Type 0 where
   pub last : Tree
   pub leads : IsProof (declared_in r) (known_to r.work.decls.own) (game_in r f) proof last
   pub count : length r.steps.items ≡ length proof
-  pub stops : Stops (nodes_in r f + nodes_along (game_in r f) proof) (length proof) (scene (declared_in r) (known_to r.work.decls.own) last) (closed_by proof) next s
+  pub stops : Stops (nodes_in r f + nodes_along (declared_in r) (known_to r.work.decls.own) (game_in r f) proof) (length proof) (scene (declared_in r) (known_to r.work.decls.own) last) (closed_by proof) next s
 
 -- All steps of the proof block are accepted in turn, and this is the first query that none of them closes.
 pub record HasOpenQuery (r : Report) (f : File) (q : ℕ) : Type 0 where

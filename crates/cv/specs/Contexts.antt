@@ -1,32 +1,28 @@
 -- The contexts of a report's cryptographic steps, each with the number of its step. A context is a function of the game before the
--- step, of the equivalence and of the key that the step names; its answers stand above all names of the report, and nothing of it is a
--- choice. Blanchet and Pointcheval, CRYPTO 2006.
-use Rattle.std.specs.Prelude.{ℕ, suc, List, [], ◌∷◌, length, Option, Some, None, option_map}
+-- step, of the equivalence and of the key that the step names; its answers stand above all names that a table may have, and nothing of
+-- it is a choice. Blanchet and Pointcheval, CRYPTO 2006.
+use Rattle.std.specs.Prelude.{ℕ, suc, List, [], ◌∷◌, Option, Some, None, option_map}
 use Rattle.cv_pool.specs.KindTree.{KindTree}
 use Rattle.cv_syntax.specs.declared.work.File.{File}
 use Rattle.cv_syntax.specs.declared.work.Game.{Game}
-use Rattle.cv_syntax.specs.Declarations.{Declaration, Equiv, declarations}
+use Rattle.cv_syntax.specs.Declarations.{Declaration, declarations}
 use Rattle.cv_syntax.specs.Tree.{Tree, tree_at}
-use Rattle.cv_typing.specs.Signature.{declaration_of}
 use Rattle.cv_meaning_contexts.specs.Sides.{Context}
-use Rattle.cv_scenes.specs.Contexts.{context_of}
-use Rattle.cv_context_answers.specs.Answers.{answer_above, file_scene}
+use Rattle.cv_scenes.specs.Reductions.{context_of_game}
+use Rattle.cv_context_answers.specs.Answers.{file_scene}
+use Rattle.cv_steps_crypto.specs.Conditions.{equivalence_of}
+use Rattle.cv_steps_crypto.specs.Steps.{reduction_of}
 use Rattle.cv_script.specs.Views.{StepItems, items_of_step}
 use Rattle.cv_script.specs.Views as items
 use Rattle.cv_report.specs.declared.report.Entry.{Entry}
 use Rattle.cv_report.specs.declared.report.Report.{Report}
 use Rattle.cv.specs.Values.{Contexts}
 
--- the tree of an equivalence
-abbrev pub equivalence_by : Option Declaration → Option Tree
-equivalence_by (Some (Equiv id t)) = Some t
-equivalence_by d = None
-
--- the context of a step in a game of a file, where the step is a cryptographic one, and this is the number of all names
-abbrev pub context_by : List Declaration → (own names : ℕ) → (game : Tree) → Option StepItems → Option Context
-context_by ds own names game (Some (items.Crypto e x)) =
-    option_map (λ t. context_of (file_scene ds own game) t x (answer_above names game)) (equivalence_by (declaration_of ds e))
-context_by ds own names game other = None
+-- the context of a step in a game of a file, where the step is a cryptographic one
+abbrev pub context_by : List Declaration → (own : ℕ) → (game : Tree) → Option StepItems → Option Context
+context_by ds own game (Some (items.Crypto e x)) =
+    option_map (λ t. context_of_game (reduction_of (file_scene ds own game) t x)) (equivalence_of (file_scene ds own game) e)
+context_by ds own game other = None
 
 abbrev pub with_context : (step : ℕ) → Option Context → Contexts → Contexts
 with_context step None cs = cs
@@ -38,16 +34,16 @@ game_behind trees game None = game
 game_behind trees game (Some next) = tree_at trees (Some next.root)
 
 -- those of the steps of a trail from a game on, numbered from a number on
-unfoldable pub contexts_from : List Declaration → (own names : ℕ) → List KindTree → (step : ℕ) → (game : Tree) → List Entry → Contexts
-contexts_from ds own names trees step game [] = []
-contexts_from ds own names trees step game (e ∷ es) =
-    with_context step (context_by ds own names game (items_of_step (tree_at trees (Some e.step.0)))) (contexts_from ds own names trees (suc step) (game_behind trees game e.next) es)
+unfoldable pub contexts_from : List Declaration → (own : ℕ) → List KindTree → (step : ℕ) → (game : Tree) → List Entry → Contexts
+contexts_from ds own trees step game [] = []
+contexts_from ds own trees step game (e ∷ es) =
+    with_context step (context_by ds own game (items_of_step (tree_at trees (Some e.step.0)))) (contexts_from ds own trees (suc step) (game_behind trees game e.next) es)
 
 -- those of a report; its steps are numbered from 1
 abbrev pub contexts_of_file : Report → Option File → Contexts
 contexts_of_file r None = []
 contexts_of_file r (Some f) =
-    contexts_from (declarations r.work.pool.trees r.work.decls.list) r.work.decls.own (length r.work.names) r.work.pool.trees 1 (tree_at r.work.pool.trees (Some f.game.root)) r.trail.items
+    contexts_from (declarations r.work.pool.trees r.work.decls.list) r.work.decls.own r.work.pool.trees 1 (tree_at r.work.pool.trees (Some f.game.root)) r.trail.items
 
 abbrev pub contexts_in : Report → Contexts
 contexts_in r = contexts_of_file r r.file

@@ -2,7 +2,7 @@
 -- between them. Sequences of games are those of Blanchet, TDSC 2008.
 use Rattle.std.specs.Prelude.{◌≡◌, ℕ, ◌+◌, List, [], map, take, Some, IfSome, slice_get}
 use Rattle.cv_bound.specs.declared.terms.Term.{Term}
-use Rattle.cv_bound.specs.Values.{Advantages, sum_value}
+use Rattle.cv_bound.specs.Values.{sum_value}
 use Rattle.cv_meaning.specs.Advantage.{IsAsked, chance_of}
 use Rattle.cv_meaning.specs.Chances.{AtMost, distance}
 use Rattle.cv_meaning.specs.Experiments.{Experiment}
@@ -12,20 +12,23 @@ use Rattle.cv_meaning.specs.Satisfies.{Satisfies}
 use Rattle.cv_meaning.specs.Queries.{queries_in}
 use Rattle.cv_report.specs.declared.report.Entry.{Entry}
 use Rattle.cv_report.specs.declared.report.Report.{Report}
+use Rattle.cv_sequences.specs.Chains.{summed}
 use Rattle.cv_syntax.specs.declared.work.Game.{Game}
 use Rattle.cv_syntax.specs.Declarations.{Declaration}
 use Rattle.cv_syntax.specs.Tree.{Tree, tree_at}
-use Rattle.cv_sequences.specs.Chains.{summed}
+use Rattle.cv.specs.Contexts.{contexts_in}
 use Rattle.cv.specs.Strategy.{declared_in, game_in}
+use Rattle.cv.specs.Values.{Contexts, advantages_in}
 
--- In each experiment for which a query of the file asks, no adversary tells the games by more than the sum.
-abbrev pub IsWithin : List Declaration → (first next : Tree) → List Term → Type 0
-IsWithin ds first next sum =
-    (i : Interpretation) → Satisfies ds i → (x : Experiment) → IsAsked (queries_in ds) x → (a : Adversary) (advantages : Advantages)
-    → AtMost (distance (chance_of (setting_of ds i) x a first) (chance_of (setting_of ds i) x a next)) (sum_value i advantages sum)
+-- In each experiment for which a query of the file asks, no adversary tells the games by more than the sum, in which the advantages
+-- are those of the contexts in that experiment.
+abbrev pub IsWithin : List Declaration → Contexts → (first next : Tree) → List Term → Type 0
+IsWithin ds cs first next sum =
+    (i : Interpretation) → Satisfies ds i → (x : Experiment) → IsAsked (queries_in ds) x → (a : Adversary)
+    → AtMost (distance (chance_of (setting_of ds i) x a first) (chance_of (setting_of ds i) x a next)) (sum_value i (advantages_in ds i cs x a) sum)
 
 -- So it is with the game of the file and that of each entry of the trail, by the costs of the entries through it.
 abbrev pub HasCloseGames : Report → Type 0
 HasCloseGames r =
     IfSome r.file (λ f. (k : ℕ) (e : Entry) (g : Game) → slice_get r.trail.items k ≡ Some e → e.next ≡ Some g
-    → IsWithin (declared_in r) (game_in r f) (tree_at r.work.pool.trees (Some g.root)) (summed [] (map (λ e. e.cost) (take (k + 1) r.trail.items))))
+    → IsWithin (declared_in r) (contexts_in r) (game_in r f) (tree_at r.work.pool.trees (Some g.root)) (summed [] (map (λ e. e.cost) (take (k + 1) r.trail.items))))

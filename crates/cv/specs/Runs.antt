@@ -1,5 +1,5 @@
 -- What a run over an accepted file leaves.
-use Rattle.std.specs.Prelude.{◌≡◌, ℕ, ◌⊎◌, List, Some, None, slice_get}
+use Rattle.std.specs.Prelude.{◌≡◌, ℕ, ◌⊎◌, List, length, Some, None, slice_get}
 use Rattle.cv_syntax.specs.declared.work.File.{File}
 use Rattle.cv_syntax.specs.Tree.{Tree}
 use Rattle.cv_bound.specs.declared.terms.Term.{Term}
@@ -13,18 +13,19 @@ use Rattle.cv_report.specs.Text.{IsLive}
 use Rattle.cv.specs.Strategy.{HoldsUpTo, MayHaveFile, Proceeds, SaysNothing, file_in, steps_in}
 use Rattle.cv.specs.Values.{Contexts}
 
--- where the verdict on a query is `Proved`, the query holds up to the sum, whatever contexts advantages in it are of: it has none
-abbrev pub IsSoundFor : Content → List Verdict → Type 0
-IsSoundFor c vs =
-    (cs : Contexts) (k : ℕ) (query : Tree) (s : List Term)
+-- where the verdict on a query is `Proved`, the query holds up to the sum, with the advantages of these contexts
+abbrev pub IsSoundFor : Content → Contexts → List Verdict → Type 0
+IsSoundFor c cs vs =
+    (k : ℕ) (query : Tree) (s : List Term)
     → slice_get (queries_in c.declarations) k ≡ Some query → slice_get vs k ≡ Some (Proved s) → HoldsUpTo c.declarations cs c.game query s
 
--- The report has the file, which holds the same as before, with what comes of its queries or of its proof block.
+-- The report has the file, which holds the same as before, with what comes of its queries or of its proof block. Without a proof block
+-- its verdicts hold whatever contexts advantages in the sums are of: they have none.
 pub record HasRun (c : Content) (f : File) (r : Report) : Type 0 where
   pub file : r.file ≡ Some f
-  pub content : file_in r f ≡ c
+  pub content : file_in r f (length c.names) ≡ c
   pub proceeds : Proceeds r f (steps_in r)
-  pub sound : steps_in r ≡ None → IsSoundFor c r.verdicts.items
+  pub sound : steps_in r ≡ None → (cs : Contexts) → IsSoundFor c cs r.verdicts.items
   pub status : MayHaveFile r.status
   pub live : IsLive r
 

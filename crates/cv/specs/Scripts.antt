@@ -4,10 +4,14 @@ use Rattle.std.specs.Prelude.{◌≡◌, ℕ, suc, ◌+◌, ◌<◌, ◌≤◌, 
 use Rattle.cv_bound.specs.declared.cost.Cost.{Cost}
 use Rattle.cv_bound.specs.declared.terms.Term.{Term}
 use Rattle.cv_kernel_closed.specs.Queries.{first_unclosed_from}
+use Rattle.cv_context_products.specs.Shapes.{Shape}
+use Rattle.cv_context_products.specs.ShapesInCode.{shape_in}
 use Rattle.cv_kernel.specs.Closings.{Closing, closing_in, judgement_in}
 use Rattle.cv_kernel.specs.Proofs.{IsProof, Transition, closed_by, nodes_along, sum_of}
 use Rattle.cv_kernel.specs.Rules.{HasNoRoom}
+use Rattle.cv_kernel.specs.Sayings.{IsSaid, Refused, TooDeep, TooLarge}
 use Rattle.cv_kernel.specs.Sequences.{needed}
+use Rattle.cv_kernel_crypto.specs.Applied as crypto
 use Rattle.cv_plain.specs.Strategy.{most_pool, most_steps}
 use Rattle.cv_pool.specs.KindTree.{KindTree}
 use Rattle.cv_report.specs.declared.report.Cause.TheVariants.{NoClose, StepRefused}
@@ -17,8 +21,9 @@ use Rattle.cv_report.specs.declared.report.Status.TheVariants as status
 use Rattle.cv_report.specs.declared.report.Verdict.{Verdict}
 use Rattle.cv_report.specs.declared.report.Verdict.TheVariants.{NotProved, Proved}
 use Rattle.cv_report.specs.declared.report.Which.TheVariants.{Depth, Nodes, Pool, Steps}
-use Rattle.cv_steps.specs.Judgements.{Refused, TooDeep, TooLarge}
 use Rattle.cv_scenes.specs.Scenes.{Scene}
+use Rattle.cv_script.specs.Views.{StepItems, items_of_step}
+use Rattle.cv_script.specs.Views as items
 use Rattle.cv_steps.specs.Sequences.{scene}
 use Rattle.cv_syntax.specs.Declarations.{Declaration}
 use Rattle.cv_syntax.specs.Tree.{Tree, tree_at}
@@ -27,14 +32,19 @@ use Rattle.cv_syntax.specs.Tree.{Tree, tree_at}
 abbrev pub known_to : (own : ℕ) → ℕ → Bool
 known_to own x = nat_lt x own
 
+-- a pool with so many nodes has no room for what a step draws: a cryptographic one its context and then its next game
+abbrev pub LacksRoomFor : (taken : ℕ) → Scene → (closed : List ℕ) → (step : Tree) → Option StepItems → (need : ℕ) → Type 0
+LacksRoomFor taken s closed step (Some (items.Crypto e x)) need = crypto.HasNoRoom most_pool taken s e x need
+LacksRoomFor taken s closed step other need = HasNoRoom most_pool taken (needed s.game step) (judgement_in s closed step) need
+
 -- Why a script goes on no further: so many steps were taken, the nodes of the file and of these are so many, these queries are
 -- closed, and the next step, in this game, is this.
 pub data Stops (taken count : ℕ) (s : Scene) (closed : List ℕ) (step : Tree) : Status → Type 0 where
   too_many : most_steps ≤ count → Stops taken count s closed step (status.Limit Steps)
-  refused : (condition place : ℕ) → count < most_steps → judgement_in s closed step ≡ Refused condition place → Stops taken count s closed step (status.Open (StepRefused (count + 1) condition place))
-  too_large : (nodes : ℕ) → count < most_steps → judgement_in s closed step ≡ TooLarge nodes → Stops taken count s closed step (status.Limit (Nodes nodes))
-  too_deep : (depth : ℕ) → count < most_steps → judgement_in s closed step ≡ TooDeep depth → Stops taken count s closed step (status.Limit (Depth depth))
-  no_room : (need : ℕ) → count < most_steps → HasNoRoom most_pool taken (needed s.game step) (judgement_in s closed step) need → Stops taken count s closed step (status.Limit (Pool need))
+  refused : (condition place : ℕ) → count < most_steps → IsSaid s closed (suc count) step (Refused condition place) → Stops taken count s closed step (status.Open (StepRefused (count + 1) condition place))
+  too_large : (nodes : ℕ) → count < most_steps → IsSaid s closed (suc count) step (TooLarge nodes) → Stops taken count s closed step (status.Limit (Nodes nodes))
+  too_deep : (depth : ℕ) → count < most_steps → IsSaid s closed (suc count) step (TooDeep depth) → Stops taken count s closed step (status.Limit (Depth depth))
+  no_room : (need : ℕ) → count < most_steps → LacksRoomFor taken s closed step (items_of_step step) need → Stops taken count s closed step (status.Limit (Pool need))
 
 -- the first of queries, numbered from a number on, that isn't closed
 abbrev pub first_open : (closed : List ℕ) → (number : ℕ) → (queries : List Tree) → Option ℕ
@@ -61,19 +71,23 @@ pub record Follows (taken : ℕ) (ds : List Declaration) (own : ℕ) (first : Tr
   pub split : steps ≡ map (λ t. t.step) proof ++ left
   pub last : Tree
   pub leads : IsProof ds (known_to own) first proof last
-  pub ends : EndsScript (taken + nodes_along first proof) (length proof) (scene ds (known_to own) last) (closed_by proof) queries left end
+  pub ends : EndsScript (taken + nodes_along ds (known_to own) first proof) (length proof) (scene ds (known_to own) last) (closed_by proof) queries left end
 
--- what a trail says of a transition, and of each entry: a step that closes a query leads to no game of its own
+-- what a trail says of a transition, and of each entry: the step, its cost, the shape of its context and the game that it leads to; a
+-- step that closes a query leads to no game of its own
 
-abbrev pub entry_in : List KindTree → Entry → Tree × Cost × Option Tree
-entry_in trees e = (tree_at trees (Some e.step.0), e.cost, option_map (λ g. tree_at trees (Some g.root)) e.next)
+abbrev pub Told : Type 0
+Told = Tree × Cost × Option Shape × Option Tree
+
+abbrev pub entry_in : List KindTree → Entry → Told
+entry_in trees e = (tree_at trees (Some e.step.0), e.cost, option_map shape_in e.context, option_map (λ g. tree_at trees (Some g.root)) e.next)
 
 abbrev pub game_behind : Option Closing → (next : Tree) → Option Tree
 game_behind None next = Some next
 game_behind (Some c) next = None
 
-abbrev pub entry_of : Transition → Tree × Cost × Option Tree
-entry_of t = (t.step, t.cost, game_behind (closing_in t.step) t.next)
+abbrev pub entry_of : Transition → Told
+entry_of t = (t.step, t.cost, t.context, game_behind (closing_in t.step) t.next)
 
 -- the verdicts on queries, numbered from a number on: a query that is closed is proved up to its sum
 

@@ -1,6 +1,6 @@
 -- What is said of a file. Without a proof block the plain strategy goes over its queries; the steps of a proof block are
 -- followed, and those of them that close queries prove these.
-use Rattle.std.specs.Prelude.{◌≡◌, ℕ, ◌+◌, ◌≤◌, ◌⊎◌, true, List, [], ◌++◌, length, map, Option, Some, None, Result, Ok, Err, slice_get, IfSome}
+use Rattle.std.specs.Prelude.{◌≡◌, ℕ, suc, ◌+◌, ◌≤◌, ◌⊎◌, true, List, [], ◌∷◌, ◌++◌, length, map, take, Option, Some, None, Result, Ok, Err, slice_get, IfSome}
 use Rattle.std.specs.List.{list_all}
 use Rattle.cv_syntax.specs.declared.work.File.{File}
 use Rattle.cv_syntax.specs.Declarations.{Declaration, declarations}
@@ -12,17 +12,25 @@ use Rattle.cv_meaning.specs.Advantage.{advantage}
 use Rattle.cv_meaning.specs.Chances.{AtMost}
 use Rattle.cv_meaning_chances.specs.Fractions.{HasTapes}
 use Rattle.cv_bound.specs.declared.terms.Term.{Term}
+use Rattle.cv_bound.specs.declared.cost.Cost.{Cost}
 use Rattle.cv_kernel.specs.Proofs.{IsProof, Transition, closed_by, nodes_along}
+use Rattle.cv_kernel.specs.Sayings.{Accepted, IsSaid, Saying}
+use Rattle.cv_kernel.specs.Sequences.{context_nodes, needed_for}
 use Rattle.cv_plain.specs.Strategy.{Course, Said, closing, is_closed, most_pool, most_steps, nothing_said, open_verdict, passed_by, said_by, said_of, status_for, steps_nodes}
 use Rattle.cv_accept.specs.declared.error.FileError.{FileError}
 use Rattle.cv_accept.specs.Accepted.{Content, IsFile, IsFull, read_of}
-use Rattle.cv_accept.specs.Works.{content_at, content_nodes, script_in}
+use Rattle.cv_accept.specs.Works.{content_at, content_in, content_nodes, script_in}
 use Rattle.cv_meaning.specs.Queries.{queries_in}
 use Rattle.cv_report.specs.declared.report.Report.{Report}
 use Rattle.cv_report.specs.declared.report.Status.{Status}
 use Rattle.cv_report.specs.declared.report.Status.TheVariants as status
 use Rattle.cv_report.specs.declared.report.Verdict.TheVariants.{Proved}
 use Rattle.cv_report.specs.declared.report.Which.TheVariants.{Depth, Nodes, Pool, Steps}
+use Rattle.cv_scenes.specs.Scenes.{Scene}
+use Rattle.cv_script.specs.Views.{StepItems, items_of_step}
+use Rattle.cv_script.specs.Views as items
+use Rattle.cv_steps.specs.Sequences.{scene}
+use Rattle.cv_steps_crypto.specs.Conditions.{equivalence_of}
 use Rattle.cv.specs.Contexts.{contexts_in}
 use Rattle.cv.specs.Faults.{status_of as ended_by}
 use Rattle.cv.specs.Scripts.{Follows, entry_in, entry_of, first_open, known_to, verdicts_of}
@@ -72,12 +80,13 @@ game_in r f = tree_at r.work.pool.trees (Some f.game.root)
 abbrev pub steps_in : Report → Option (List Tree)
 steps_in r = script_in r.work.pool.trees r.script
 
-abbrev pub file_in : Report → File → Content
-file_in r f = content_at r.work f.game.root r.script
+-- what a report's file holds, with so many of the report's names: those behind them were drawn
+abbrev pub file_in : Report → File → (names : ℕ) → Content
+file_in r f n = content_in (take n r.work.names) r.work.decls.own r.work.pool.trees r.work.decls.list f.game.root r.script
 
 -- how many nodes the trees of a report's file take
 abbrev pub nodes_in : Report → File → ℕ
-nodes_in r f = content_nodes (file_in r f)
+nodes_in r f = content_nodes (content_at r.work f.game.root r.script)
 
 -- what the plain strategy says of queries in the game of a report's file
 abbrev pub said_in : Report → File → List Tree → Said
@@ -133,16 +142,30 @@ pub record ClosesAll (f : Content) : Type 0 where
   pub few : length (queries_in f.declarations) ≤ most_steps
   pub fits : content_nodes f + steps_nodes (said_of f.game nothing_said (queries_in f.declarations)).steps ≤ most_pool
 
--- The steps of a proof block are each accepted in turn, and no more than there may be; the nodes of the file and of all games
--- are no more than a pool may have; and each query of the file is closed.
+abbrev pub IsAcceptance : Saying → Type 0
+IsAcceptance (Accepted next cost) = Unit {0}
+IsAcceptance w = ⊥
+
+-- how many nodes the context of a step takes, where it is a cryptographic one
+abbrev pub context_needs : Scene → Option StepItems → ℕ
+context_needs s (Some (items.Crypto e x)) = context_nodes s x (equivalence_of s e)
+context_needs s other = 0
+
+-- Behind steps that led to a game, with so many nodes, the next one is accepted there, whatever names are drawn for the game that it
+-- leads to, and a pool has room for it.
+pub record GoesOn (taken count : ℕ) (s : Scene) (closed : List ℕ) (step : Tree) : Type 0 where
+  pub accepted : (w : Saying) → IsSaid s closed (suc count) step w → IsAcceptance w
+  pub context : taken + context_needs s (items_of_step step) ≤ most_pool
+  pub fits : (next : Tree) (cost : Cost) → IsSaid s closed (suc count) step (Accepted next cost) → taken + needed_for s step next (items_of_step step) ≤ most_pool
+
+-- The steps of a proof block are each accepted in turn, whatever names are drawn, and no more than there may be; the nodes of the file,
+-- of all games and of all contexts are no more than a pool may have; and each query of the file is closed.
 pub record AcceptsAll (f : Content) (steps : List Tree) : Type 0 where
-  pub proof : List Transition
-  pub last : Tree
-  pub all : steps ≡ map (λ t. t.step) proof
-  pub leads : IsProof f.declarations (known_to f.own) f.game proof last
   pub few : length steps ≤ most_steps
-  pub fits : content_nodes f + nodes_along f.game proof ≤ most_pool
-  pub closed : first_open (closed_by proof) 1 (queries_in f.declarations) ≡ None
+  pub fits : content_nodes f ≤ most_pool
+  pub goes : (front : List Transition) (last next : Tree) (left : List Tree) → steps ≡ map (λ t. t.step) front ++ next ∷ left → IsProof f.declarations (known_to f.own) f.game front last
+      → GoesOn (content_nodes f + nodes_along f.declarations (known_to f.own) f.game front) (length front) (scene f.declarations (known_to f.own) last) (closed_by front) next
+  pub closed : (proof : List Transition) (last : Tree) → steps ≡ map (λ t. t.step) proof → IsProof f.declarations (known_to f.own) f.game proof last → first_open (closed_by proof) 1 (queries_in f.declarations) ≡ None
 
 abbrev pub Succeeds : Content → Option (List Tree) → Type 0
 Succeeds f None = ClosesAll f

@@ -40,13 +40,17 @@ counted_of q Events = meaning.Breaks q
 counted_of q Real = meaning.Guesses (mode.Real (is_once q) (secret_of q))
 counted_of q Random = meaning.Guesses (mode.Random (is_once q) (secret_of q))
 
-abbrev pub advantage_of : List Declaration → Interpretation → Tree → Adversary → Experiment → Option Context → Chance
-advantage_of ds i q a e None = zero_chance
-advantage_of ds i q a e (Some c) = context_advantage ds i c (counted_of q e) a
+abbrev pub advantage_of : List Declaration → Interpretation → meaning.Experiment → Adversary → Option Context → Chance
+advantage_of ds i x a None = zero_chance
+advantage_of ds i x a (Some c) = context_advantage ds i c x a
 
--- the advantages of the contexts against a query; a step without a context has none
+-- the advantages of the contexts in an experiment; a step without a context has none
+abbrev pub advantages_in : List Declaration → Interpretation → Contexts → meaning.Experiment → Adversary → Advantages
+advantages_in ds i cs x a step e = advantage_of ds i x a (context_of cs step)
+
+-- those against a query
 abbrev pub advantages_of : List Declaration → Interpretation → Contexts → Tree → Adversary → Advantages
-advantages_of ds i cs q a step e = advantage_of ds i q a e (context_of cs step)
+advantages_of ds i cs q a step e = advantages_in ds i cs (counted_of q e) a step e
 
 abbrev pub value_of : List Declaration → Interpretation → Contexts → Tree → Adversary → List Term → Chance
 value_of ds i cs q a s = sum_value i (advantages_of ds i cs q a) s

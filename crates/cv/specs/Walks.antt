@@ -1,5 +1,5 @@
 -- How far a script was followed.
-use Rattle.std.specs.Prelude.{◌≡◌, ℕ, ◌+◌, ◌≤◌, false, All, List, [], ◌∷◌, ◌++◌, length, map, Option, Some, None}
+use Rattle.std.specs.Prelude.{◌≡◌, ℕ, ◌+◌, ◌≤◌, false, All, List, [], ◌∷◌, ◌++◌, length, map, Option, Some, None, option_map}
 use Rattle.cv_script.specs.declared.steps.Step.{Step}
 use Rattle.cv_kernel.specs.declared.error.PushError.{PushError}
 use Rattle.cv_kernel.specs.declared.error.PushError.TheVariants as push
@@ -8,6 +8,7 @@ use Rattle.cv_kernel_closed.specs.declared.queries.ClosedQuery.{ClosedQuery}
 use Rattle.cv_kernel.specs.Closings.{Closing, closing_in}
 use Rattle.cv_kernel.specs.Proofs.{IsProof, Transition, nodes_along, sum_behind}
 use Rattle.cv_kernel.specs.Sequences as kernel
+use Rattle.cv_context_products.specs.ShapesInCode.{shape_in}
 use Rattle.cv_pool.specs.KindTree.{KindTree}
 use Rattle.cv_bound.specs.declared.cost.Cost.{Cost}
 use Rattle.cv_bound.specs.declared.terms.Term.{Term}
@@ -58,7 +59,7 @@ pub record HasFollowed (before : ℕ) (ds : List Declaration) (own : ℕ) (first
   pub count : s.steps ≡ length proof
   pub sum : s.sum ≡ sum_along [] proof
   pub closed : s.closed ≡ closings_from [] proof
-  pub nodes : length trees ≤ before + nodes_along first proof
+  pub nodes : length trees ≤ before + nodes_along ds (known_to own) first proof
   pub live : All (EntryLive (length trees)) trail
 
 -- the script was followed as far as this
@@ -79,4 +80,5 @@ pub record IsNoted (s : Sequence) (step : Step) (tree : Tree) (before after : Li
   pub put : after ≡ before ++ entry ∷ []
   pub taken : entry.step ≡ step
   pub cost : s.cost ≡ Some entry.cost
+  pub context : option_map shape_in entry.context ≡ option_map shape_in s.context
   pub next : entry.next ≡ next_of (closing_in tree) s.game

@@ -6,6 +6,8 @@ ghost use Rattle.cv_scope.specs.Phrases.{IsWellFormed};
 ghost use Rattle.cv_accept.specs.Works.{HasSteps, content_at, content_nodes};
 ghost use Rattle.cv_plain.specs.Strategy.{most_pool};
 ghost use Rattle.cv_report.specs.Text.{IsLive};
+ghost use Rattle.cv_rule_scenes.specs.Kept.{scene_of};
+ghost use Rattle.cv_kernel_crypto.specs.Applied.{HasEquivalences};
 ghost use Rattle.cv.specs.Answers.{Answers};
 ghost use Rattle.cv.specs.Causes.{ComesFrom, Outside};
 ghost use Rattle.cv.specs.Games.{HasCloseGames};
@@ -32,6 +34,8 @@ fn run_accepted(alloc: Global, work: Work, command: Command, accepted: Accepted)
     requires game { accepted.file.game.root.0 < length work.pool.trees }
     requires small { size (tree_at work.pool.trees (Some accepted.file.game.root)) ≤ 50000 }
     requires below { All (IsBelow (length work.pool.trees)) work.decls.list }
+    requires equivalences { HasEquivalences
+        (scene_of work.pool work.decls accepted.file.game.root) }
     requires limit { work.pool.limit ≡ most_pool }
     requires nodes { length work.pool.trees
         ≤ content_nodes (content_at work accepted.file.game.root accepted.script) }

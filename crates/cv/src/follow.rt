@@ -1,4 +1,4 @@
-ghost use Rattle.std.specs.Prelude.{◌≡◌, ◌+◌, ◌<◌, ◌≤◌, ◌^◌, All, IfOk, OnOk, Some, length, map, option_map};
+ghost use Rattle.std.specs.Prelude.{◌≡◌, ◌+◌, ◌<◌, ◌≤◌, ◌^◌, All, IfOk, OnOk, Some, length, map, option_map, take};
 ghost use Rattle.cv_pool.specs.PoolView.{Grows};
 ghost use Rattle.cv_syntax.specs.Classes.{queries};
 ghost use Rattle.cv_syntax.specs.Declarations.{declarations};
@@ -8,21 +8,26 @@ ghost use Rattle.cv_scope.specs.Phrases.{IsWellFormed};
 ghost use Rattle.cv_parse_script.specs.Scripts.{trees_of};
 ghost use Rattle.cv_accept.specs.Works.{HasSteps, content_at, content_nodes};
 ghost use Rattle.cv_plain.specs.Strategy.{most_pool};
+ghost use Rattle.cv_context_products.specs.ShapesInCode.{shape_in};
+ghost use Rattle.cv_rule_scenes.specs.Kept.{scene_of};
+ghost use Rattle.cv_kernel_crypto.specs.Applied.{HasEquivalences};
+ghost use Rattle.cv_kernel.specs.Closings.{closing_in};
 ghost use Rattle.cv_kernel_closed.specs.Queries.{first_unclosed, numbers_of, sum_in};
 ghost use Rattle.cv.specs.Scripts.{ended_with, verdict_by, verdicts_by};
 ghost use Rattle.cv.specs.Runs.{Runs};
-ghost use Rattle.cv.specs.Walks.{IsNoted, IsWalk, stop_of};
+ghost use Rattle.cv.specs.Walks.{IsNoted, IsWalk, next_of, stop_of};
 
 use crate::refusal::refused;
-use cv_bound::Sum;
+use cv_bound::{Cost, Sum};
+use cv_context_products::Shape;
 use cv_kernel::{PushError, Sequence, closing_of};
 use cv_report::{Cause, Command, Entry, Report, Status, Verdict, Which};
 use cv_script::Step;
 use cv_syntax::{BuildError, Decls, File, Game, Pool, Work, query_at};
 use std::alloc::{AllocError, Global};
 
-/// How far a script was followed: the accepted steps, each with its cost and the game that it leads to, the verdicts,
-/// and how the run ends.
+/// How far a script was followed: the accepted steps, each with its cost, the shape of its context and the game that it
+/// leads to, the verdicts, and how the run ends.
 #[derive(Drop)]
 pub struct Walk {
     pub trail: Vec<Entry>,
@@ -64,7 +69,41 @@ fn end_of(sequence: &Sequence, count: u32) -> Status
     }
 }
 
-/// Puts an accepted step on the trail, with its cost and the game that it leads to, where it closes no query.
+/// A copy of the shape of the context of the last step, where this was a cryptographic one.
+fn context_of(alloc: Global, sequence: &Sequence) -> Result<Option<Shape>, AllocError>
+    ensures { IfOk result (λ context. option_map shape_in context
+        ≡ option_map shape_in sequence.now.context) }
+{
+    match sequence.context() {
+        Some(context) => Ok(Some(context.copy(alloc)?)),
+        None => Ok(None),
+    }
+}
+
+/// A copy of the cost of the last step.
+fn cost_of(alloc: Global, sequence: &Sequence) -> Result<Cost, AllocError>
+    ensures { IfOk result (λ cost. sequence.now.cost ≡ Some cost) }
+{
+    match sequence.cost() {
+        Some(cost) => cost.copy(alloc),
+        None => Err(AllocError),
+    }
+}
+
+/// The game that the last step led to, where it closed no query.
+fn next_of(pool: &Pool, sequence: &Sequence, step: Step) -> Option<Game>
+    requires { step.0.0 < length pool.now.trees }
+    ensures { result ≡ next_of (closing_in (tree_at pool.now.trees (Some step.0)))
+        sequence.now.game }
+{
+    match closing_of(pool, step) {
+        Some(_) => None,
+        None => Some(sequence.game()),
+    }
+}
+
+/// Puts an accepted step on the trail, with its cost, the shape of its context, and the game that it leads to, where it
+/// closes no query.
 fn note(
     alloc: Global,
     pool: &Pool,
@@ -76,15 +115,15 @@ fn note(
     ensures { OnOk result (IsNoted sequence.now step (tree_at pool.now.trees (Some step.0))
         trail.old.items trail.new.items) }
 {
-    let cost = match sequence.cost() {
-        Some(cost) => cost.copy(alloc)?,
-        None => return Err(AllocError),
-    };
-    let next = match closing_of(pool, step) {
-        Some(_) => None,
-        None => Some(sequence.game()),
-    };
-    trail.push(Entry { step, cost, next })?;
+    let cost = cost_of(alloc, sequence)?;
+    let context = context_of(alloc, sequence)?;
+    let next = next_of(pool, sequence, step);
+    trail.push(Entry {
+        step,
+        cost,
+        context,
+        next,
+    })?;
     Ok(())
 }
 
@@ -120,7 +159,7 @@ fn verdicts_of(
     Ok(verdicts)
 }
 
-/// Follows a script from a game on, as long as its steps are accepted.
+/// Follows a script from a game on, as long as its steps are accepted. The names that steps draw stand behind the others.
 pub fn follow(
     alloc: Global,
     work: &mut Work,
@@ -132,6 +171,7 @@ pub fn follow(
     requires formed { IsWellFormed (declarations work.old.pool.trees work.old.decls.list)
         (tree_at work.old.pool.trees (Some game.root)) }
     requires below { All (IsBelow (length work.old.pool.trees)) work.old.decls.list }
+    requires equivalences { HasEquivalences (scene_of work.old.pool work.old.decls game.root) }
     requires steps { HasSteps work.old.pool.limit work.old.pool.trees script.now }
     requires limit { work.old.pool.limit ≡ most_pool }
     ensures walk { IfOk result (λ w. IsWalk (length work.old.pool.trees)
@@ -140,7 +180,7 @@ pub fn follow(
         (map (λ n. tree_at work.old.pool.trees (Some n)) (queries work.old.decls.list))
         work.new.pool.trees w) }
     ensures grows { OnOk result (Grows work.old.pool work.new.pool) }
-    ensures names { work.new.names ≡ work.old.names }
+    ensures names { take (length work.old.names) work.new.names ≡ work.old.names }
     ensures decls { work.new.decls ≡ work.old.decls }
 {
     let mut sequence = Sequence::start(alloc, game);
@@ -195,6 +235,7 @@ pub fn run_script(
     requires formed { IsWellFormed (declarations work.pool.trees work.decls.list)
         (tree_at work.pool.trees (Some file.game.root)) }
     requires below { All (IsBelow (length work.pool.trees)) work.decls.list }
+    requires equivalences { HasEquivalences (scene_of work.pool work.decls file.game.root) }
     requires limit { work.pool.limit ≡ most_pool }
     requires nodes { length work.pool.trees
         ≤ content_nodes (content_at work file.game.root (Some script)) }

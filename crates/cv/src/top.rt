@@ -148,7 +148,8 @@ pub fn run<F: Shelf, K: Sink>(
 ) -> Outcome
     // What is called proved holds, for all meanings that satisfy the declarations, and all adversaries.
     ensures headline { IsSound result.report }
-    // No adversary tells a game of the report from the first by more than the costs of the steps between.
+    // No adversary tells a game of the report from the first by more than the costs of the steps between, with the
+    // advantages of the contexts of the cryptographic ones.
     ensures games { HasCloseGames result.report }
     // The command is the one that the words give. The file that they name is asked for alone, at most once.
     ensures words { SaysOfWords (map string_bytes words.now) result.report }
@@ -165,8 +166,8 @@ pub fn run<F: Shelf, K: Sink>(
     ensures complete { NoFault (F.faults shelf.old) (F.faults shelf.new)
         → IfSome (bytes_named (F.told shelf.old) (file_given words.now))
         (λ bytes. IsComplete bytes result.report.status) }
-    // A file within the limits whose queries are all closed by the events above is proved; so is one without a
-    // query, each step of whose proof block is accepted.
+    // A file within the limits whose queries are all closed by the events above is proved; so is one each step of
+    // whose proof block is accepted, whatever names are drawn, and whose queries are closed by these.
     ensures good { NoFault (F.faults shelf.old) (F.faults shelf.new)
         → NoFault (K.faults sink.old) (K.faults sink.new)
         → IfSome (bytes_named (F.told shelf.old) (file_given words.now))

@@ -6,6 +6,7 @@ use Rattle.cv.proofs.Causing.{refusal_cause}
 use Rattle.cv.proofs.Endings.{refusal_answers}
 use Rattle.cv.proofs.Faithful.{run_close}
 use Rattle.cv.proofs.Proving.{script_sound}
+use Rattle.cv.proofs.Ready.{equivalences}
 use Rattle.cv.proofs.Running.{run_answers, run_cause, run_judged, run_live, run_sound}
 use Rattle.cv.proofs.Verdicts.{reads_at, refuses_at}
 use Rattle.cv.proofs.decide.judge.Goals as goal
@@ -25,14 +26,19 @@ run_accepted-requires-clause-formed c = (accepted most_pool c.args.bytes.now _ (
 pub run_accepted-requires-clause-limit : goal.run_accepted-requires-clause-limit
 run_accepted-requires-clause-limit c = c.read.ensures.limit ∙ c.requires.limit
 
+pub run_accepted-requires-clause-equivalences : goal.run_accepted-requires-clause-equivalences
+run_accepted-requires-clause-equivalences c = λ y t e.
+    let w = equivalences c.args.bytes.now _ (reads_at _ c.args.bytes.now _ c.requires.limit c.in-Ok.ensures.reads) y t e in
+    (w.left, w.accepted)
+
 pub returns-in-Ok-clause-sound : goal.returns-in-Ok-clause-sound
 returns-in-Ok-clause-sound c =
     run_sound _ c.in-Ok.accepted.file _
-    (script_sound c.derivations_are_sound.ensures.hold c.derivations_are_sound.ensures.unreached c.accepted_correspondences_are_never_broken.ensures.chance c.accepted_exactly_where_nothing_fails.ensures _ c.in-Ok.accepted.file _ c.args.bytes.now (reads_at _ c.args.bytes.now _ c.requires.limit c.in-Ok.ensures.reads))
+    (script_sound c.derivations_are_sound.ensures.hold c.derivations_are_sound.ensures.unreached c.accepted_correspondences_are_never_broken.ensures.chance c.accepted_exactly_where_nothing_fails.ensures _ c.in-Ok.accepted.file _ c.args.bytes.now (reads_at _ c.args.bytes.now _ c.requires.limit c.in-Ok.ensures.reads) c.requires.few)
     c.run_accepted.ensures.run
 
 pub returns-in-Ok-clause-games : goal.returns-in-Ok-clause-games
-returns-in-Ok-clause-games c = run_close c.derivations_are_sound.ensures.hold c.derivations_are_sound.ensures.unreached _ c.in-Ok.accepted.file _ c.args.bytes.now (reads_at _ c.args.bytes.now _ c.requires.limit c.in-Ok.ensures.reads) c.run_accepted.ensures.run
+returns-in-Ok-clause-games c = run_close c.derivations_are_sound.ensures.hold c.derivations_are_sound.ensures.unreached _ c.in-Ok.accepted.file _ c.args.bytes.now (reads_at _ c.args.bytes.now _ c.requires.limit c.in-Ok.ensures.reads) c.requires.few c.run_accepted.ensures.run
 
 pub returns-in-Ok-clause-live : goal.returns-in-Ok-clause-live
 returns-in-Ok-clause-live c = run_live _ c.in-Ok.accepted.file _ c.run_accepted.ensures.run

@@ -11,7 +11,8 @@ use Rattle.cv_bound.specs.Sums.{AllFit}
 use Rattle.cv_kernel_closed.specs.Queries.{first_unclosed, numbers_of, sum_in}
 use Rattle.cv.specs.Scripts.{ended_with, verdicts_by}
 use Rattle.cv.specs.Walks.{stop_of}
-use Rattle.cv.proofs.Following.{asked, asked_by, followed_next, followed_none, followed_stops, on_none, room_after, walk_ends}
+use Rattle.cv.proofs.Growing.{names_kept}
+use Rattle.cv.proofs.Following.{asked, asked_by, equivalences_kept, followed_next, followed_none, followed_stops, on_none, room_after, walk_ends}
 use Rattle.cv.proofs.follow.follow.Goals as goal
 
 pub steps-init : goal.steps-init
@@ -35,9 +36,13 @@ steps-init c =
       };
       grows = Grows-refl work.pool;
       room = omega arith;
-      names = refl;
+      names = take_all (length work.names) work.names (omega arith);
       decls = refl;
     }
+
+pub push-requires-clause-equivalences : goal.push-requires-clause-equivalences
+push-requires-clause-equivalences c =
+    equivalences_kept c.args.work.now c.steps.work c.args.game.root c.steps.sequence.game.root c.steps.invariant.grows c.steps.invariant.decls c.requires.below c.requires.equivalences
 
 pub returns-in-Err-clause-walk : goal.returns-in-Err-clause-walk
 returns-in-Err-clause-walk c =
@@ -64,7 +69,7 @@ steps-preserved c =
       stands = c.push.ensures.stands;
       grows = Grows-trans fn.pool now.pool new.pool i.grows c.push.ensures.grows;
       room = omega (arith, room, limit);
-      names = c.push.ensures.names ∙ i.names;
+      names = names_kept fn.names now.names new.names i.names c.push.ensures.names;
       decls = c.push.ensures.decls ∙ i.decls;
     }
 

@@ -14,6 +14,6 @@ invariant-steps l = record {
   stands : Stands l.work.pool.trees l.work.decls l.sequence;
   grows : Grows l.fn.work.pool l.work.pool;
   room : length l.work.pool.trees ≤ most_pool;
-  names : l.work.names ≡ l.fn.work.names;
+  names : take (length l.fn.work.names) l.work.names ≡ l.fn.work.names;
   decls : l.work.decls ≡ l.fn.work.decls;
 }

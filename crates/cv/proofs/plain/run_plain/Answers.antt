@@ -1,4 +1,5 @@
-use Rattle.std.proofs.Common.{arith, List, refl, ap, sym, subst, ◌∙◌, None, Some, inr, length, map}
+use Rattle.std.proofs.Common.{arith, List, refl, ap, sym, subst, ◌∙◌, None, Some, inr, length, map, take}
+use Rattle.std.proofs.lemmas.List.{take_all}
 use Rattle.cv_pool.proofs.Growth.{Grows-length}
 use Rattle.cv_syntax.specs.Declarations.{declarations}
 use Rattle.cv_syntax.specs.Tree.{Tree, tree_at}
@@ -27,7 +28,8 @@ returns-clause-run c =
     let game : Tree = tree_at trees (Some c.args.file.game.root) in
     let now = c.answer.new.work in
     let found = c.in-Ok.found in
-    let held = content-grown old now c.args.file.game.root None c.in-Ok.ensures.grows c.answer.ensures.names c.answer.ensures.decls c.requires.game c.requires.below tt in
+    let names = ap (take (length old.names)) c.answer.ensures.names ∙ take_all (length old.names) old.names (omega arith) in
+    let held = content-grown old now c.args.file.game.root None c.in-Ok.ensures.grows names c.answer.ensures.decls c.requires.game c.requires.below tt in
     let asked = ap (λ (h : Content). queries_in h.declarations) held ∙ queries-same trees old.decls.list in
     let nodes = ap content_nodes held in
     let few = c.requires.nodes in
