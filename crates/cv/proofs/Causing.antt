@@ -67,7 +67,8 @@ use Rattle.cv.specs.Faults.{parse_ended, status_of as ended_by}
 use Rattle.cv.specs.Words.{AreTold}
 use Rattle.cv_query_direct.specs.Plain.{certificate}
 use Rattle.cv_plain.specs.Strategy.{EndsAt, Said, is_closed, is_proved, lacks_step, left_open, most_pool, most_steps, nothing_said, open_verdict, said_of, said_then}
-use Rattle.cv.specs.Scripts.{EndsScript, ended_with, entry_in, entry_of, first_open, known_to}
+use Rattle.cv_report_verdicts.specs.Verdicts.{ended_with}
+use Rattle.cv.specs.Scripts.{EndsScript, entry_in, entry_of, first_open, known_to}
 use Rattle.cv.proofs.Closings.{all-proved}
 use Rattle.cv.specs.Strategy.{FollowsScript, FollowsStrategy, declared_in, file_in, game_in, nodes_in, said_in, steps_in}
 use Rattle.cv_kernel.specs.Proofs.{closed_by, nodes_along}

@@ -1,6 +1,5 @@
 -- What a sequence holds of the queries that its steps close.
-use Rattle.std.proofs.Common.{◌≡◌, ℕ, suc, ◌+◌, ◌<◌, ◌≤◌, Bool, true, false, not, ◌||◌, ◌==◌, if◌then◌else◌, List, [], ◌∷◌, ◌++◌, length, map, drop, Option, Some, None, is_some, refl, ap, ap₂, sym, ◌∙◌, append_assoc, append-nil, option_and_then}
-use Rattle.std.specs.Prelude.{slice_get}
+use Rattle.std.proofs.Common.{◌≡◌, ℕ, suc, Bool, true, false, ◌||◌, ◌==◌, if◌then◌else◌, List, [], ◌∷◌, ◌++◌, length, map, Option, Some, None, is_some, refl, ap, ap₂, ◌∙◌}
 use Rattle.std.specs.List.{list_all}
 use Rattle.cv_bound.specs.declared.cost.Cost.{Cost as SumCost}
 use Rattle.cv_bound.specs.declared.cost.Cost.TheVariants as bound
@@ -10,14 +9,11 @@ use Rattle.cv_kernel_closed.specs.declared.queries.ClosedQuery.{ClosedQuery}
 use Rattle.cv_kernel_closed.specs.Queries.{is_among, numbers_of, sum_in}
 use Rattle.cv_kernel.specs.Closings.{Closing, closing_in}
 use Rattle.cv_kernel.specs.Proofs.{Transition, closed_by, number_before, sum_at, sum_behind, sum_from, sum_of}
-use Rattle.cv_pool.specs.declared.node.NodeId.{NodeId}
 use Rattle.cv_plain.specs.Strategy.{is_proved}
-use Rattle.cv_plain.proofs.QueryLists.{queries-past, queries-skip, queries-take}
 use Rattle.cv_report.specs.declared.report.Verdict.{Verdict}
-use Rattle.cv_syntax.specs.declared.decls.Decl.{Decl}
-use Rattle.cv_syntax.specs.Classes.{queries, query_of}
 use Rattle.cv_syntax.specs.Tree.{Tree}
-use Rattle.cv.specs.Scripts.{first_open, verdict_by, verdicts_by}
+use Rattle.cv_report_verdicts.specs.Verdicts.{verdict_by, verdicts_by}
+use Rattle.cv.specs.Scripts.{first_open}
 use Rattle.cv.specs.Walks.{closed_before, closings_from, sum_along}
 
 -- a sum with nothing more is the same
@@ -110,30 +106,3 @@ all-proved-from sum ts k (q ∷ qs) e = proved-by (sum_from sum ts k) (is_among 
 
 pub all-proved : (ts : List Transition) (qs : List Tree) → first_open (closed_by ts) 1 qs ≡ None → list_all is_proved (verdicts_by (sum_of ts) 1 qs) ≡ true
 all-proved ts qs e = all-proved-from [] ts 1 qs e
-
--- verdict by verdict
-
-pub no-query : (o : Option NodeId) (none : Bool) → is_some o ≡ not none → none ≡ true → o ≡ None
-no-query None none e t = refl
-no-query (Some q) true e t = absurd (cc)
-no-query (Some q) false e t = absurd (cc)
-
-pub some-query : (o : Option NodeId) (none : Bool) → is_some o ≡ not none → none ≡ false → (q : NodeId) × (o ≡ Some q)
-some-query (Some q) none e f = (q, refl)
-some-query None true e f = absurd (cc)
-some-query None false e f = absurd (cc)
-
-pub verdict-put : (f : ℕ → Option (List Term)) (n : ℕ) (ds : List Decl) (k : ℕ) (q : NodeId) (before after total : List Verdict) (v : Verdict) → option_and_then query_of (slice_get ds k) ≡ Some q → v ≡ verdict_by (f (suc n)) → after ≡ before ++ v ∷ [] → before ++ verdicts_by f (suc n) (queries (drop k ds)) ≡ total
-    → after ++ verdicts_by f (suc (suc n)) (queries (drop (k + 1) ds)) ≡ total
-verdict-put f n ds k q before after total v e i p h =
-    let rest = verdicts_by f (suc (suc n)) (queries (drop (k + 1) ds)) in
-    ap (λ vs. vs ++ rest) p
-    ∙ (append_assoc before (v ∷ []) rest
-    ∙ (ap (λ x. before ++ x ∷ rest) i
-    ∙ (ap (λ qs. before ++ verdicts_by f (suc n) qs) (sym (queries-take ds k q e)) ∙ h)))
-
-pub verdict-skip : (f : ℕ → Option (List Term)) (n : ℕ) (ds : List Decl) (k : ℕ) (before total : List Verdict) → k < length ds → option_and_then query_of (slice_get ds k) ≡ None → before ++ verdicts_by f (suc n) (queries (drop k ds)) ≡ total → before ++ verdicts_by f (suc n) (queries (drop (k + 1) ds)) ≡ total
-verdict-skip f n ds k before total l e h = ap (λ qs. before ++ verdicts_by f (suc n) qs) (sym (queries-skip ds k l e)) ∙ h
-
-pub verdict-past : (f : ℕ → Option (List Term)) (n : ℕ) (ds : List Decl) (k : ℕ) (vs total : List Verdict) → length ds ≤ k → vs ++ verdicts_by f (suc n) (queries (drop k ds)) ≡ total → vs ≡ total
-verdict-past f n ds k vs total l h = sym (append-nil vs) ∙ (ap (λ qs. vs ++ verdicts_by f (suc n) qs) (sym (queries-past ds k l)) ∙ h)

@@ -22,7 +22,8 @@ use Rattle.cv_kernel.specs.Proofs.{closed_by, nodes_along}
 use Rattle.cv_scenes.specs.Scenes.{Scene}
 use Rattle.cv_steps.specs.Sequences.{scene}
 use Rattle.cv_report.specs.declared.report.Which.TheVariants.{Depth, File, Nodes, Pool, Steps}
-use Rattle.cv.specs.Scripts.{EndsScript, Follows, Stops, ended_with, first_open, known_to, no_room, refused, too_deep, too_large, too_many}
+use Rattle.cv_report_verdicts.specs.Verdicts.{ended_with}
+use Rattle.cv.specs.Scripts.{EndsScript, Follows, Stops, first_open, known_to, no_room, refused, too_deep, too_large, too_many}
 use Rattle.cv.proofs.Walking.{never_stops}
 use Rattle.cv_report.specs.declared.report.Status.{Status}
 use Rattle.cv_report.specs.declared.report.Status.TheVariants as status

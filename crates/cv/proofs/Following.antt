@@ -1,6 +1,6 @@
 -- Scripts that are followed, step by step.
-use Rattle.std.proofs.Common.{◌≡◌, ℕ, zero, suc, ◌+◌, ◌<◌, ◌≤◌, false, List, [], ◌∷◌, ◌++◌, length, length-append, map, drop, take, refl, ap, ap₂, sym, ◌∙◌, subst, arith, append-nil, append_assoc, get_or, Option, Some, None, option_and_then, Ok, Err, inl, inr}
-use Rattle.std.proofs.lemmas.List.{map-append, map_more, drop_more}
+use Rattle.std.proofs.Common.{◌≡◌, ℕ, zero, suc, ◌+◌, ◌<◌, ◌≤◌, false, List, [], ◌∷◌, ◌++◌, length, length-append, map, drop, take, refl, ap, ap₂, sym, ◌∙◌, subst, arith, append-nil, get_or, Option, Some, None, option_and_then, Ok, Err, inl, inr}
+use Rattle.std.proofs.lemmas.List.{map-append, map_more}
 use Rattle.std.specs.Prelude.{All, IfSome, option_map, slice_index_or}
 use Rattle.std.proofs.lemmas.List.Elements.{All-cons, All-nil}
 use Rattle.cv_pool.specs.declared.node.NodeId.{NodeId}
@@ -57,7 +57,8 @@ use Rattle.cv_scenes.specs.Scenes.{Scene}
 use Rattle.cv_steps.specs.Sequences.{scene}
 use Rattle.cv_query_certificates.specs.Failures.{Failure}
 use Rattle.cv_steps.specs.Judgements.{Judgement}
-use Rattle.cv.specs.Scripts.{EndsScript, Follows, LacksRoomFor, Stops, Told, ended_with, entry_in, entry_of, first_open, game_behind, known_to, no_room, refused, too_deep, too_large, too_many, verdicts_by, verdicts_of}
+use Rattle.cv_report_verdicts.specs.Verdicts.{ended_with, verdicts_by}
+use Rattle.cv.specs.Scripts.{EndsScript, Follows, LacksRoomFor, Stops, Told, entry_in, entry_of, first_open, game_behind, known_to, no_room, refused, too_deep, too_large, too_many, verdicts_of}
 use Rattle.cv.specs.declared.follow.Walk.{Walk}
 use Rattle.cv.specs.Walks.{HasFollowed, IsNoted, IsWalk, closed_before, next_of, stop_of}
 use Rattle.cv.specs.Strategy.{MayHaveFile}
@@ -503,10 +504,3 @@ pub walk_may : (before : ℕ) (ds : List Declaration) (own : ℕ) (first : Tree)
 walk_may before ds own first steps queries trees w h =
     let f = h.follows in
     ends_may (before + nodes_along ds (known_to own) first f.proof) (length f.proof) (scene ds (known_to own) f.last) (closed_by f.proof) queries f.left w.status f.ends
-
--- the steps of a trail, one by one
-pub steps-go : (xs : List Entry) (k : ℕ) (d : Entry) (out new total : List Step) → k < length xs → out ++ map (λ e. e.step) (drop k xs) ≡ total → new ≡ out ++ (get_or xs k d).step ∷ [] → new ++ map (λ e. e.step) (drop (k + 1) xs) ≡ total
-steps-go xs k d out new total l i n =
-    ap (λ o. o ++ map (λ e. e.step) (drop (k + 1) xs)) n ∙ (append_assoc out ((get_or xs k d).step ∷ []) (map (λ e. e.step) (drop (k + 1) xs)) ∙ (ap (λ ys. out ++ map (λ e. e.step) ys) (sym (drop_more xs k d l)) ∙ i))
-
-pub ruleset following = (steps-go)

@@ -55,7 +55,8 @@ use Rattle.cv_kernel.specs.Closings.{Closing, closing_failure, closing_in, closi
 use Rattle.cv_kernel.specs.Proofs.{IsProof, IsTransition, Transition, closed_by, push, start, sum_at, sum_behind, sum_from, sum_of}
 use Rattle.cv.specs.Contexts.{contexts_in}
 use Rattle.cv.specs.Runs.{IsSoundFor}
-use Rattle.cv.specs.Scripts.{known_to, verdict_by, verdicts_by}
+use Rattle.cv_report_verdicts.specs.Verdicts.{verdict_by, verdicts_by}
+use Rattle.cv.specs.Scripts.{known_to}
 use Rattle.cv.specs.Strategy.{FollowsScript, HoldsUpTo, declared_in, file_in, game_in, most_bytes, steps_in}
 use Rattle.cv.specs.Values.{Contexts, advantages_of}
 use Rattle.cv.specs.Walks.{sum_along}

@@ -2,7 +2,6 @@
 -- there are no more than 2,000, and the pool has room.
 use Rattle.std.specs.Prelude.{◌≡◌, ℕ, suc, ◌+◌, ◌<◌, ◌≤◌, List, [], ◌∷◌, ◌++◌, length, map, nat_lt, Bool, Option, Some, None, option_map}
 use Rattle.cv_bound.specs.declared.cost.Cost.{Cost}
-use Rattle.cv_bound.specs.declared.terms.Term.{Term}
 use Rattle.cv_kernel_closed.specs.Queries.{first_unclosed_from}
 use Rattle.cv_context_products.specs.Shapes.{Shape}
 use Rattle.cv_context_products.specs.ShapesInCode.{shape_in}
@@ -14,14 +13,14 @@ use Rattle.cv_kernel.specs.Sequences.{needed}
 use Rattle.cv_kernel_crypto.specs.Applied as crypto
 use Rattle.cv_plain.specs.Strategy.{most_pool, most_steps}
 use Rattle.cv_pool.specs.KindTree.{KindTree}
-use Rattle.cv_report.specs.declared.report.Cause.TheVariants.{NoClose, StepRefused}
+use Rattle.cv_report.specs.declared.report.Cause.TheVariants.{StepRefused}
 use Rattle.cv_report.specs.declared.report.Entry.{Entry}
 use Rattle.cv_report.specs.declared.report.Status.{Status}
 use Rattle.cv_report.specs.declared.report.Status.TheVariants as status
 use Rattle.cv_report.specs.declared.report.Verdict.{Verdict}
-use Rattle.cv_report.specs.declared.report.Verdict.TheVariants.{NotProved, Proved}
 use Rattle.cv_report.specs.declared.report.Which.TheVariants.{Depth, Nodes, Pool, Steps}
 use Rattle.cv_scenes.specs.Scenes.{Scene}
+use Rattle.cv_report_verdicts.specs.Verdicts.{ended_with, verdicts_by}
 use Rattle.cv_script.specs.Views.{StepItems, items_of_step}
 use Rattle.cv_script.specs.Views as items
 use Rattle.cv_steps.specs.Sequences.{scene}
@@ -51,10 +50,6 @@ abbrev pub first_open : (closed : List ℕ) → (number : ℕ) → (queries : Li
 first_open closed k queries = first_unclosed_from closed k (length queries)
 
 -- A script was followed to its end, and these queries are closed: the first one that isn't is open, if there is one.
-
-abbrev pub ended_with : (unclosed : Option ℕ) → Status
-ended_with None = status.Proved
-ended_with (Some k) = status.Open (NoClose k)
 
 abbrev pub ending : (closed : List ℕ) → (queries : List Tree) → Status
 ending closed queries = ended_with (first_open closed 1 queries)
@@ -88,16 +83,6 @@ game_behind (Some c) next = None
 
 abbrev pub entry_of : Transition → Told
 entry_of t = (t.step, t.cost, t.context, game_behind (closing_in t.step) t.next)
-
--- the verdicts on queries, numbered from a number on: a query that is closed is proved up to its sum
-
-abbrev pub verdict_by : Option (List Term) → Verdict
-verdict_by None = NotProved
-verdict_by (Some sum) = Proved sum
-
-abbrev pub verdicts_by : {Q : Type 0} → (sum : ℕ → Option (List Term)) → (number : ℕ) → (queries : List Q) → List Verdict
-verdicts_by sum k [] = []
-verdicts_by sum k (q ∷ qs) = verdict_by (sum k) ∷ verdicts_by sum (suc k) qs
 
 abbrev pub verdicts_of : List Transition → (queries : List Tree) → List Verdict
 verdicts_of ts queries = verdicts_by (sum_of ts) 1 queries

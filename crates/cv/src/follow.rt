@@ -12,18 +12,17 @@ ghost use Rattle.cv_context_products.specs.ShapesInCode.{shape_in};
 ghost use Rattle.cv_rule_scenes.specs.Kept.{scene_of};
 ghost use Rattle.cv_kernel_crypto.specs.Applied.{HasEquivalences};
 ghost use Rattle.cv_kernel.specs.Closings.{closing_in};
-ghost use Rattle.cv_kernel_closed.specs.Queries.{first_unclosed, numbers_of, sum_in};
-ghost use Rattle.cv.specs.Scripts.{ended_with, verdict_by, verdicts_by};
 ghost use Rattle.cv.specs.Runs.{Runs};
 ghost use Rattle.cv.specs.Walks.{IsNoted, IsWalk, next_of, stop_of};
 
 use crate::refusal::refused;
-use cv_bound::{Cost, Sum};
+use cv_bound::Cost;
 use cv_context_products::Shape;
 use cv_kernel::{PushError, Sequence, closing_of};
 use cv_report::{Cause, Command, Entry, Report, Status, Verdict, Which};
+use cv_report_verdicts::{end_of, steps_of, verdicts_of};
 use cv_script::Step;
-use cv_syntax::{BuildError, Decls, File, Game, Pool, Work, query_at};
+use cv_syntax::{BuildError, File, Game, Pool, Work};
 use std::alloc::{AllocError, Global};
 
 /// How far a script was followed: the accepted steps, each with its cost, the shape of its context and the game that it
@@ -55,17 +54,6 @@ fn stop_of(fault: PushError, count: u32) -> Option<Status>
         })),
         PushError::Build(BuildError::Full { need }) => Some(Status::Limit(Which::Pool { need })),
         PushError::Build(BuildError::OutOfMemory) => None,
-    }
-}
-
-/// How a run ends whose script was followed to its end, over a file with so many queries: the first one that isn't
-/// closed is open.
-fn end_of(sequence: &Sequence, count: u32) -> Status
-    ensures { result ≡ ended_with (first_unclosed (numbers_of sequence.now.closed) count) }
-{
-    match sequence.first_unclosed(count) {
-        Some(number) => Status::Open(Cause::NoClose(number)),
-        None => Status::Proved,
     }
 }
 
@@ -127,38 +115,6 @@ fn note(
     Ok(())
 }
 
-/// The verdict on a query with this sum, where it is closed.
-fn verdict_of(sum: Option<&Sum>) -> Result<Verdict, AllocError>
-    ensures { IfOk result (λ v. v ≡ verdict_by (option_map (λ s. s.now) sum.entry)) }
-{
-    match sum {
-        Some(sum) => Ok(Verdict::Proved(sum.copy()?)),
-        None => Ok(Verdict::NotProved),
-    }
-}
-
-/// The verdicts on the queries of a file: one that a sequence has closed is proved up to its sum.
-fn verdicts_of(
-    alloc: Global,
-    decls: &Decls,
-    sequence: &Sequence,
-) -> Result<Vec<Verdict>, AllocError>
-    ensures verdicts { IfOk result (λ v. v.items
-        ≡ verdicts_by (sum_in sequence.now.closed) 1 (queries decls.now.list)) }
-    ensures few { IfOk result (λ v. length v.items < 2 ^ 32) }
-{
-    let mut verdicts = Vec::new(alloc);
-    let mut number = 0;
-    'decls: for k in 0..decls.len() {
-        if query_at(decls, k).is_none() {
-            continue;
-        }
-        number += 1;
-        verdicts.push(verdict_of(sequence.sum(number))?)?;
-    }
-    Ok(verdicts)
-}
-
 /// Follows a script from a game on, as long as its steps are accepted. The names that steps draw stand behind the others.
 pub fn follow(
     alloc: Global,
@@ -192,7 +148,7 @@ pub fn follow(
                 let Some(status) = stop_of(fault, sequence.steps()) else {
                     return Err(AllocError);
                 };
-                let verdicts = verdicts_of(alloc, &work.decls, &sequence)?;
+                let verdicts = verdicts_of(alloc, &work.decls, sequence.closed())?;
                 return Ok(Walk {
                     trail,
                     verdicts,
@@ -201,25 +157,13 @@ pub fn follow(
             }
         }
     }
-    let verdicts = verdicts_of(alloc, &work.decls, &sequence)?;
-    let status = end_of(&sequence, verdicts.as_slice().len() as u32);
+    let verdicts = verdicts_of(alloc, &work.decls, sequence.closed())?;
+    let status = end_of(sequence.closed(), verdicts.as_slice().len() as u32);
     Ok(Walk {
         trail,
         verdicts,
         status,
     })
-}
-
-/// The steps of a trail.
-#[tactic(auto, using(crate::proofs::Following::following))]
-fn steps_of(alloc: Global, trail: &[Entry]) -> Result<Vec<Step>, AllocError>
-    ensures { IfOk result (λ v. v.items ≡ map (λ e. e.step) trail.now) }
-{
-    let mut steps = Vec::new(alloc);
-    for entry in trail {
-        steps.push(entry.step)?;
-    }
-    Ok(steps)
 }
 
 /// A run over a file with a proof block: its steps are followed.

@@ -8,7 +8,7 @@ ghost use Rattle.cv_rule_scenes.specs.Kept.{scene_of};
 ghost use Rattle.cv_script.specs.Views.{items_of_step};
 ghost use Rattle.cv_bound.specs.Sums.{AllFit, added};
 ghost use Rattle.cv_kernel_crypto.specs.Applied.{HasEquivalences};
-ghost use Rattle.cv_kernel_closed.specs.Queries.{first_unclosed, numbers_of, sum_in};
+ghost use Rattle.cv_kernel_closed.specs.Queries.{numbers_of};
 ghost use Rattle.cv_kernel.specs.ClosingTrees.{closing_tree};
 ghost use Rattle.cv_kernel.specs.Closings.{closing_failure};
 ghost use Rattle.cv_kernel.specs.Rules.{IsShortRule, need_of};
@@ -123,18 +123,11 @@ impl Sequence {
         self.context.as_ref()
     }
 
-    /// The sum of a query of this number, where it is closed: the costs of the steps before. Takes no memory.
-    pub fn sum(&self, query: u64) -> Option<&Sum>
-        ensures { option_map (λ s. s.now) result ≡ sum_in self.now.closed query }
+    /// The queries that steps have closed.
+    pub fn closed(&self) -> &ClosedQueries
+        ensures { result.now ≡ self.now.closed }
     {
-        self.closed.sum(query)
-    }
-
-    /// The number of the first query that isn't closed, where there are so many queries.
-    pub fn first_unclosed(&self, count: u32) -> Option<u32>
-        ensures { result ≡ first_unclosed (numbers_of self.now.closed) count }
-    {
-        self.closed.first_unclosed(count)
+        &self.closed
     }
 
     /// Looks up what there is to read in the game.

@@ -6,7 +6,7 @@ use Rattle.std.proofs.lemmas.Bool.{lt-ltb, le-ltb}
 use Rattle.std.specs.declared.vec.Vec.{Vec}
 use Rattle.std.specs.declared.alloc.Global.{Global}
 use Rattle.cv_lists.proofs.Options.{option_map-Some, option_map-None, some_from_is_some}
-use Rattle.cv_plain.proofs.QueryLists.{queries-skip, queries-take}
+use Rattle.cv_kernel_closed.proofs.QueryLists.{queries-skip, queries-take}
 use Rattle.cv_pool.specs.declared.node.NodeId.{NodeId}
 use Rattle.cv_syntax.specs.declared.decls.Decl.{Decl}
 use Rattle.cv_syntax.specs.Classes.{queries, query_of}

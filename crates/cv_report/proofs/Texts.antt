@@ -7,9 +7,6 @@ use Rattle.cv_report.specs.declared.report.Entry.{Entry}
 use Rattle.cv_report.specs.declared.report.Verdict.{Verdict}
 use Rattle.cv_report.specs.Text.{entry_text, games_after, trail_text, verdict_text, verdicts_text}
 
-pub framed : (out before text after : List ℕ) → ((out ++ before) ++ text) ++ after ≡ out ++ (before ++ (text ++ after))
-framed out before text after = append_assoc (out ++ before) text after ∙ append_assoc out before (text ++ after)
-
 pub extended : {T E : Type 0} (r : Result T E) (old more new total : List ℕ) → new ≡ cond (is_ok r) (old ++ more) old → old ++ more ≡ total → OnOk r (new ≡ total)
 extended (Ok u) old more new total i e = i ∙ e
 extended (Err u) old more new total i e = tt

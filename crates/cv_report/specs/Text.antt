@@ -31,7 +31,7 @@ use Rattle.cv_report.specs.declared.report.Entry.{Entry}
 use Rattle.cv_report.specs.declared.report.Verdict.{Verdict}
 use Rattle.cv_report.specs.declared.report.Verdict.TheVariants.{Proved, NotProved}
 use Rattle.cv_report.specs.declared.report.Which.TheVariants.{File as FileLimit, Nodes, Depth, Steps, Pool}
-use Rattle.cv_report.specs.Contexts.{context_text}
+use Rattle.cv_report_contexts.specs.Contexts.{context_text}
 
 -- the line of a step's cost
 abbrev pub cost_text : List (List ℕ) → Cost → List ℕ

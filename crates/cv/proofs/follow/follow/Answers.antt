@@ -1,4 +1,4 @@
-use Rattle.std.proofs.Common.{◌<◌, ◌≤◌, ap, arith, length, subst, sym, take, refl, ◌∙◌, Some}
+use Rattle.std.proofs.Common.{◌<◌, ◌≤◌, ap, ap₂, arith, length, subst, sym, take, refl, ◌∙◌, Some}
 use Rattle.std.proofs.lemmas.List.{take_all}
 use Rattle.cv_pool.proofs.Growth.{Grows-refl, Grows-trans}
 use Rattle.cv_syntax.specs.Classes.{queries}
@@ -9,7 +9,7 @@ use Rattle.cv_parse_script.specs.Scripts.{trees_of}
 use Rattle.cv_scope.specs.Phrases.{IsWellFormed}
 use Rattle.cv_bound.specs.Sums.{AllFit}
 use Rattle.cv_kernel_closed.specs.Queries.{first_unclosed, numbers_of, sum_in}
-use Rattle.cv.specs.Scripts.{ended_with, verdicts_by}
+use Rattle.cv_report_verdicts.specs.Verdicts.{ended_with, verdicts_by}
 use Rattle.cv.specs.Walks.{stop_of}
 use Rattle.cv.proofs.Growing.{names_kept}
 use Rattle.cv.proofs.Following.{asked, asked_by, equivalences_kept, followed_next, followed_none, followed_stops, on_none, room_after, walk_ends}
@@ -52,7 +52,7 @@ returns-in-Err-clause-walk c =
     let count = sym (c.steps-in-Err.ensures ∙ c.in-Err.ensures.same.steps) in
     followed_stops fn now (tree_at fn.pool.trees (Some c.args.game.root)) c.args.script.now c.requires.below c.requires.steps.live i.grows i.decls c.steps.step-index _ c.steps-test.true c.steps.sequence c.push.new.self c.steps.trail.items i.followed
     c.push.new.work.pool.trees (asked fn) c.in-Err.fault (record { trail = c.steps.trail; verdicts = c.in_ok-verdicts-in-Err.verdicts; status = c.in-Some.status }) c.in-Err.ensures.kept (i.grows.limit ∙ c.requires.limit) c.in-Err.ensures.pushed (ap (stop_of c.in-Err.fault) count ∙ sym c.in-Some.ensures) refl
-    (c.in_ok-verdicts-in-Err.ensures.verdicts ∙ (ap (λ cs. verdicts_by (sum_in cs) 1 (queries c.push.new.work.decls.list)) c.in-Err.ensures.same.closed ∙ asked_by fn c.push.new.work.decls (c.push.ensures.decls ∙ i.decls) (sum_in c.steps.sequence.closed)))
+    (c.in_ok-verdicts-in-Err.ensures.verdicts ∙ (ap (λ cs. verdicts_by (sum_in cs) 1 (queries c.push.new.work.decls.list)) (c.closed.ensures ∙ c.in-Err.ensures.same.closed) ∙ asked_by fn c.push.new.work.decls (c.push.ensures.decls ∙ i.decls) (sum_in c.steps.sequence.closed)))
 
 pub steps-preserved : goal.steps-preserved
 steps-preserved c =
@@ -81,4 +81,5 @@ returns-clause-walk c =
     let all = ap (trees_of trees) (sym (take_all c.steps.step-index c.args.script.now (omega (arith, c.steps-test.false)))) in
     walk_ends (length trees) (declarations trees fn.decls.list) fn.decls.own (tree_at trees (Some c.args.game.root)) c.steps.work.pool.trees c.steps.sequence c.steps.trail.items (trees_of trees (take c.steps.step-index c.args.script.now)) i.followed
     (trees_of trees c.args.script.now) (asked fn) (record { trail = c.steps.trail; verdicts = c.in_ok-verdicts.verdicts; status = c.end_of-status.result }) all refl
-    (c.in_ok-verdicts.ensures.verdicts ∙ asked_by fn c.steps.work.decls i.decls (sum_in c.steps.sequence.closed)) (c.end_of-status.ensures ∙ ap (λ vs. ended_with (first_unclosed (numbers_of c.steps.sequence.closed) (length vs))) c.as_slice.ensures.value)
+    (c.in_ok-verdicts.ensures.verdicts ∙ (ap (λ cs. verdicts_by (sum_in cs) 1 (queries c.steps.work.decls.list)) c.closed-2.ensures ∙ asked_by fn c.steps.work.decls i.decls (sum_in c.steps.sequence.closed)))
+    (c.end_of-status.ensures ∙ ap₂ (λ cs vs. ended_with (first_unclosed (numbers_of cs) (length vs))) c.closed-3.ensures c.as_slice.ensures.value)

@@ -1,0 +1,4 @@
+pub mod Factors
+pub mod Marked
+pub mod Powers
+pub mod Values
