@@ -37,7 +37,8 @@ use Rattle.cv_kernel_crypto.specs.Applied as crypto
 use Rattle.cv_kernel.specs.Closings.{Closing, closing_failure, closing_in, closing_of_items, judgement_by_closing, judgement_in, judgement_of_failure}
 use Rattle.cv_kernel.specs.Proofs.{IsProof, IsTransition, Transition, closed_by, nodes_along, push, shape_at, shape_by, start, sum_behind, sum_of}
 use Rattle.cv_kernel.specs.Rules.{IsDrawn}
-use Rattle.cv_kernel.specs.Sayings.{Accepted, IsSaid, MaySay, advantage_of, saying_by, saying_of}
+use Rattle.cv_kernel.specs.Sayings.{Accepted, IsSaid, MaySay, saying_by, saying_of}
+use Rattle.cv_kernel_costs.specs.Costs.{advantage_of}
 use Rattle.cv_steps.specs.Costs.{cost_of}
 use Rattle.cv_kernel.specs.Sequences as kernel
 use Rattle.cv_kernel.specs.Sequences.{IsPushed, needed, needed_by, needed_for}

@@ -23,7 +23,8 @@ use Rattle.cv_kernel.specs.declared.sequence.Sequence.{Sequence}
 use Rattle.cv_kernel.specs.Closings.{Closing, closing_failure, closing_in, closing_of_items, judgement_by_closing, judgement_in, judgement_of_failure}
 use Rattle.cv_kernel.specs.Proofs.{shape_by}
 use Rattle.cv_kernel.specs.Rules.{HasNoRoom}
-use Rattle.cv_kernel.specs.Sayings.{Accepted, MaySay, Saying, advantage_of, saying_by, saying_of}
+use Rattle.cv_kernel.specs.Sayings.{Accepted, MaySay, Saying, saying_by, saying_of}
+use Rattle.cv_kernel_costs.specs.Costs.{advantage_of}
 use Rattle.cv_kernel.specs.Sequences.{IsPushAnswer, IsStepAnswer, game_in, needed, needed_for}
 use Rattle.cv_kernel.specs.Steps.{judgement_by, step_in}
 use Rattle.cv_plain.specs.Strategy.{most_pool}

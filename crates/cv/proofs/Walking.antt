@@ -4,7 +4,8 @@ use Rattle.cv_syntax.specs.Declarations.{Declaration}
 use Rattle.cv_syntax.specs.Tree.{Tree, depth, size}
 use Rattle.cv_kernel.specs.Proofs.{IsProof, Transition, nodes_along, push, start}
 use Rattle.cv_kernel.specs.Rules.{HasNoRoom}
-use Rattle.cv_kernel.specs.Sayings.{Accepted, MaySay, Refused, TooDeep, TooLarge, advantage_of, saying_by, saying_of}
+use Rattle.cv_kernel.specs.Sayings.{Accepted, MaySay, Refused, TooDeep, TooLarge, saying_by, saying_of}
+use Rattle.cv_kernel_costs.specs.Costs.{advantage_of}
 use Rattle.cv_kernel.specs.Sequences.{context_nodes, needed, needed_for}
 use Rattle.cv_kernel.specs.Closings.{judgement_in}
 use Rattle.cv_kernel_crypto.specs.Applied.{nodes_of}

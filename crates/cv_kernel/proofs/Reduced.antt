@@ -30,7 +30,7 @@ use Rattle.cv_kernel_crypto.specs.Applied.{IsAnswer, IsApplied, IsFew, nodes_of}
 use Rattle.cv_kernel_crypto.specs.Faults.{IsRefused}
 use Rattle.cv_kernel.specs.declared.error.PushError.{PushError}
 use Rattle.cv_kernel.specs.declared.sequence.Sequence.{Sequence}
-use Rattle.cv_kernel.specs.Sayings.{advantage_of}
+use Rattle.cv_kernel_costs.specs.Costs.{advantage_of}
 use Rattle.cv_kernel.specs.Sequences.{IsReduceAnswer, IsReduced, context_nodes, game_in, reduce_fault}
 use Rattle.cv_kernel.proofs.Pushes.{declarations-grown}
 

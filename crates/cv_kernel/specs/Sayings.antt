@@ -3,7 +3,6 @@
 use Rattle.std.specs.Prelude.{◌≡◌, ℕ, List, Option, Some}
 use Rattle.cv_syntax.specs.Tree.{Tree}
 use Rattle.cv_bound.specs.declared.cost.Cost.{Cost}
-use Rattle.cv_bound.specs.declared.cost.Cost.TheVariants as bound
 use Rattle.cv_scenes.specs.Scenes.{Scene}
 use Rattle.cv_script.specs.Views.{StepItems, items_of_step}
 use Rattle.cv_script.specs.Views as items
@@ -12,6 +11,7 @@ use Rattle.cv_steps.specs.Judgements.{Judgement}
 use Rattle.cv_steps.specs.Judgements as judgement
 use Rattle.cv_steps_crypto.specs.Steps.{IsOutcome, Outcome}
 use Rattle.cv_steps_crypto.specs.Steps as outcome
+use Rattle.cv_kernel_costs.specs.Costs.{advantage_of}
 use Rattle.cv_kernel.specs.Closings.{judgement_in}
 
 pub data Saying : Type 0 where
@@ -25,10 +25,6 @@ saying_of (judgement.Refused condition place) = Refused condition place
 saying_of (judgement.TooLarge nodes) = TooLarge nodes
 saying_of (judgement.TooDeep depth) = TooDeep depth
 saying_of (judgement.Accepted next cost) = Accepted next (cost_of cost)
-
--- a cryptographic step costs the advantage of its context, which has the number of the step in the proof
-abbrev pub advantage_of : (number equivalence : ℕ) → Cost
-advantage_of number e = bound.Advantage number (record { 0 = e })
 
 abbrev pub saying_by : (number equivalence : ℕ) → Outcome → Saying
 saying_by number e (outcome.Refused condition place) = Refused condition place

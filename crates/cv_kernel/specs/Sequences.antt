@@ -30,7 +30,7 @@ use Rattle.cv_kernel_crypto.specs.Applied as applied
 use Rattle.cv_kernel_crypto.specs.declared.fault.CryptoFault.{CryptoFault}
 use Rattle.cv_kernel_crypto.specs.declared.fault.CryptoFault.TheVariants as crypto
 use Rattle.cv_kernel.specs.Closings.{Closing, closing_failure}
-use Rattle.cv_kernel.specs.Sayings.{advantage_of}
+use Rattle.cv_kernel_costs.specs.Costs.{advantage_of}
 use Rattle.cv_kernel.specs.Rules.{HasNoRoom, need_of}
 use Rattle.cv_kernel.specs.Steps.{judgement_by, step_in}
 use Rattle.cv_kernel.specs.declared.error.PushError.{PushError}

@@ -24,6 +24,7 @@ use cv_bound::{Cost, Sum};
 use cv_context_products::Shape;
 use cv_directory::Directory;
 use cv_kernel_closed::ClosedQueries;
+use cv_kernel_costs::{advantage, with_cost};
 use cv_kernel_crypto::{apply, shape_at};
 use cv_kernel_games::{Next, settle};
 use cv_query_built::query_numbered;
@@ -31,7 +32,7 @@ use cv_query_check::check;
 use cv_query_entries::View;
 use cv_rule::Rule;
 use cv_script::{Step, view};
-use cv_syntax::{Game, NameId, Pool, Work};
+use cv_syntax::{Game, Pool, Work};
 use cv_typing::Arrays;
 use std::alloc::{AllocError, Global};
 
@@ -213,16 +214,6 @@ impl Sequence {
         Ok(())
     }
 
-    /// The sum with a cost more.
-    fn sum_with(&self, cost: &Cost) -> Result<Sum, AllocError>
-        requires { AllFit (added self.now.sum cost.now false) }
-        ensures { IfOk result (λ sum. sum ≡ added self.now.sum cost.now false) }
-    {
-        let mut sum = self.sum.copy()?;
-        sum.add(cost, false)?;
-        Ok(sum)
-    }
-
     /// Goes to the next game of a cryptographic step. After a refusal the sequence, the pool's contents and the names are as
     /// they were.
     fn reduce(
@@ -254,8 +245,7 @@ impl Sequence {
         let Reducing { equivalence, key } = reducing;
         let context = shape_at(alloc, work, self.game.root, arrays, equivalence, key)?;
         let step = self.steps + 1;
-        let equiv = NameId(equivalence);
-        let sum = self.sum_with(&Cost::Advantage { step, equiv })?;
+        let sum = with_cost(&self.sum, &advantage(step, equivalence))?;
         let next = apply(alloc, work, self.game.root, equivalence, key, step)?;
         let Next { game, arrays, cost } = next;
         self.game = game;

@@ -20,9 +20,9 @@ use crate::instances::{Instances, instances_for};
 use crate::naming::names_for;
 use crate::room::{check_room, room_behind};
 use crate::testing::tested;
-use cv_bound::Cost;
-use cv_kernel_games::{Next, settle};
-use cv_syntax::{NameId, Names, NodeId, Work};
+use cv_kernel_costs::advantage;
+use cv_kernel_games::{Next, settle, settle_names};
+use cv_syntax::{NodeId, Work};
 use std::alloc::Global;
 
 /// Makes the context and the next game of a step, where the next game is within the limits and the pool has room for both.
@@ -106,20 +106,7 @@ fn attempt(
     let found = instances_for(alloc, work, game, equivalence, key)?;
     let taken = names_for(alloc, work, game)?;
     let root = build(alloc, work, game, key, &found, taken.as_slice())?;
-    let equiv = NameId(equivalence);
-    let cost = Cost::Advantage { step, equiv };
-    tested(alloc, work, root, cost)
-}
-
-/// Gives back the names that were added before an outcome that is a refusal.
-fn settle_names(names: &mut Names, before: u32, outcome: &Result<Next, CryptoFault>)
-    requires { before ≤ length names.old }
-    ensures ok { OnOk outcome.now (names.new ≡ names.old) }
-    ensures back { OnErr outcome.now (names.new ≡ take before names.old) }
-{
-    if outcome.is_err() {
-        names.keep(before);
-    }
+    tested(alloc, work, root, advantage(step, equivalence))
 }
 
 /// Applies a cryptographic step in a game of a file: for the equivalence of this name, where the variable of the other name stands

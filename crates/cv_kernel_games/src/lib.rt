@@ -6,5 +6,5 @@ mod settling;
 mod testing;
 
 pub use limits::check_limits;
-pub use settling::settle;
+pub use settling::{settle, settle_names};
 pub use testing::{Next, next_at};

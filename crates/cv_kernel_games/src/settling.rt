@@ -1,6 +1,6 @@
 ghost use Rattle.std.specs.Prelude.{◌≡◌, ◌≤◌, OnErr, OnOk, length, take};
 
-use cv_syntax::{Mark, Pool};
+use cv_syntax::{Mark, Names, Pool};
 
 /// An outcome, after which the pool is as it was before where it is a refusal. Nodes are given back here alone.
 pub fn settle<T: Drop, E: Copy>(
@@ -18,4 +18,15 @@ pub fn settle<T: Drop, E: Copy>(
         pool.release(before);
     }
     outcome
+}
+
+/// Gives back the names that were added before an outcome that is a refusal.
+pub fn settle_names<T, E>(names: &mut Names, before: u32, outcome: &Result<T, E>)
+    requires { before ≤ length names.old }
+    ensures ok { OnOk outcome.now (names.new ≡ names.old) }
+    ensures back { OnErr outcome.now (names.new ≡ take before names.old) }
+{
+    if outcome.is_err() {
+        names.keep(before);
+    }
 }

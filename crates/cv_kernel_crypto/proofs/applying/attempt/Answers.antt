@@ -1,4 +1,6 @@
-use Rattle.std.proofs.Common.{arith, ap, length, ◌∙◌}
+use Rattle.std.proofs.Common.{◌≡◌, arith, ap, length, subst, ◌∙◌}
+use Rattle.std.specs.Prelude.{IfOk}
+use Rattle.cv_bound.specs.declared.cost.Cost.{Cost}
 use Rattle.cv_syntax.specs.Classes.{DeclsView}
 use Rattle.cv_syntax.specs.Declarations.{declarations}
 use Rattle.cv_rule_scenes.specs.Kept.{scene_of}
@@ -21,7 +23,7 @@ returns-clause-answer c =
     let met = c.in_ok-found.ensures.met in
     let same = ap (λ (d : DeclsView). declarations v.pool.trees d.list) c.in_ok-root.ensures.decls ∙ declarations-grown w.pool v.pool w.decls.list c.in_ok-root.ensures.grows c.requires.declared in
     tested_answer w.pool.limit (length w.pool.trees) (scene_of w.pool w.decls c.args.game) c.args.equivalence c.args.key c.args.step v.pool.trees c.in_ok-root.root met.met (c.in_ok-root.ensures.built c.args.equivalence met) (declarations v.pool.trees v.decls.list) same
-    c.tested.result c.tested.ensures.root c.tested.ensures.cost c.tested.ensures.game c.tested.ensures.fault
+    c.tested.result c.tested.ensures.root (subst (λ (k : Cost). IfOk c.tested.result (λ next. next.cost ≡ k)) c.advantage.ensures c.tested.ensures.cost) c.tested.ensures.game c.tested.ensures.fault
 
 pub returns-clause-small : goal.returns-clause-small
 returns-clause-small c =
