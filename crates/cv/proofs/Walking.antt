@@ -8,7 +8,7 @@ use Rattle.cv_kernel.specs.Sayings.{Accepted, MaySay, Refused, TooDeep, TooLarge
 use Rattle.cv_kernel_costs.specs.Costs.{advantage_of}
 use Rattle.cv_kernel.specs.Sequences.{context_nodes, needed, needed_for}
 use Rattle.cv_kernel.specs.Closings.{judgement_in}
-use Rattle.cv_kernel_crypto.specs.Applied.{nodes_of}
+use Rattle.cv_syntax_limits.specs.Limits.{most_depth, most_nodes, nodes_of, told}
 use Rattle.cv_kernel_crypto.specs.Applied as crypto
 use Rattle.cv_plain.specs.Strategy.{most_pool, most_steps}
 use Rattle.cv_report.specs.declared.report.Status.{Status}
@@ -16,11 +16,11 @@ use Rattle.cv_scenes.specs.Scenes.{Scene}
 use Rattle.cv_script.specs.Views.{items_of_step}
 use Rattle.cv_script.specs.Views as items
 use Rattle.cv_steps.specs.Costs.{cost_of}
-use Rattle.cv_steps.specs.Judgements.{Judgement, most_depth, most_nodes}
+use Rattle.cv_steps.specs.Judgements.{Judgement}
 use Rattle.cv_steps.specs.Judgements as judgement
 use Rattle.cv_steps.specs.Sequences.{scene}
 use Rattle.cv_steps_crypto.specs.Conditions.{equivalence_of, failure_of}
-use Rattle.cv_steps_crypto.specs.Steps.{IsOutcome, IsOutcomeBy, is_next, outcome_with, told}
+use Rattle.cv_steps_crypto.specs.Steps.{IsOutcome, IsOutcomeBy, is_next, outcome_with}
 use Rattle.cv_steps_crypto.specs.Steps as outcome
 use Rattle.cv.specs.Scripts.{LacksRoomFor, Stops, no_room, refused, too_deep, too_large, too_many}
 use Rattle.cv.specs.Strategy.{GoesOn, IsAcceptance, context_needs}

@@ -32,7 +32,8 @@ use Rattle.cv_parse.specs.Parsed.{held_in}
 use Rattle.cv_parse_script.specs.declared.error.ScriptError.{ScriptError}
 use Rattle.cv_parse_script.specs.declared.error.ScriptError.TheVariants as script
 use Rattle.cv_parse_notation.specs.Spells.{next_is}
-use Rattle.cv_parse_script.specs.Scripts.{begins_step, items, nodes_of, read_row, script_read, stop_at, trees_of}
+use Rattle.cv_parse_script.specs.Scripts.{begins_step, items, read_row, script_read, stop_at, trees_of}
+use Rattle.cv_syntax_limits.specs.Limits.{nodes_of}
 use Rattle.cv_parse_script.specs.Scripts as scripts
 use Rattle.cv_parse_script.specs.Trees.{in_room, of_whole, tree_read, whole}
 use Rattle.cv_parse_script.proofs.Steps.{read_in_room}

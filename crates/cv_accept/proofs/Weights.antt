@@ -6,7 +6,7 @@ use Rattle.cv_syntax.specs.Tree.{Tree, Empty, Node, first, second, size}
 use Rattle.cv_parse.specs.Parsed.{Parsed, parsed, weight_of}
 use Rattle.cv_parse.specs.Weights.{declared_weight, tree_weight}
 use Rattle.cv_parse.proofs.Exactness.{said_is_saying}
-use Rattle.cv_parse_declarations.specs.Declares.{tree_in}
+use Rattle.cv_parse_signature.specs.Declares.{tree_in}
 use Rattle.cv_directory.specs.declared.sort.Sort.{Sort}
 use Rattle.cv_typing.specs.Parts.{Part, body_parts, declaration_parts, equivalence_parts, file_parts, game_part, more_results, results, side_arrays}
 use Rattle.cv_typing.specs.Refusals.{parts_size}

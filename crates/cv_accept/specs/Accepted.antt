@@ -10,7 +10,8 @@ use Rattle.cv_parse_terminals.specs.Signs.{signs_of}
 use Rattle.cv_parse_terminals.specs.Spelling.{mark_of_text}
 use Rattle.cv_parse_script.specs.declared.error.ScriptError.{ScriptError}
 use Rattle.cv_parse_script.specs.declared.error.ScriptError.TheVariants as script
-use Rattle.cv_parse_script.specs.Scripts.{items, nodes_of}
+use Rattle.cv_parse_script.specs.Scripts.{items}
+use Rattle.cv_syntax_limits.specs.Limits.{nodes_of}
 use Rattle.cv_parse_script.specs.Trees.{tree_read}
 use Rattle.cv_script_rows.specs.Rows.{built_script_row}
 use Rattle.cv_syntax.specs.Declarations.{Declaration}

@@ -9,8 +9,8 @@ use Rattle.cv_syntax.specs.declared.work.Work.{Work}
 use Rattle.cv_syntax.specs.Declarations.{declarations}
 use Rattle.cv_syntax.specs.Tree.{Tree, depth, size, tree_at}
 use Rattle.cv_parse.specs.Nodes.{file_nodes}
-use Rattle.cv_parse.specs.Parsed.{most_depth, most_nodes}
-use Rattle.cv_parse_script.specs.Scripts.{nodes_of, trees_of}
+use Rattle.cv_syntax_limits.specs.Limits.{most_depth, most_nodes, nodes_of}
+use Rattle.cv_parse_script.specs.Scripts.{trees_of}
 use Rattle.cv_parse_script.specs.Trees.{script_nodes}
 use Rattle.cv_script.specs.declared.steps.Step.{Step}
 use Rattle.cv_typing.specs.Parts.{IsTypedFile}

@@ -20,6 +20,7 @@ use cv_query_built::has_unbuilt;
 use cv_query_form::check as check_queries;
 use cv_script::Step;
 use cv_syntax::{File, Work};
+use cv_syntax_work::empty_again;
 use cv_typing::check as check_types;
 use std::alloc::Global;
 
@@ -219,10 +220,7 @@ pub fn read(alloc: Global, work: &mut Work, bytes: &[u8]) -> Result<Accepted, Fi
     match fill(alloc, work, bytes) {
         Ok(file) => Ok(file),
         Err(fault) => {
-            work.names.keep(0);
-            work.decls.keep(0);
-            work.decls.set_own(own);
-            work.pool.release(before);
+            empty_again(work, before, own);
             Err(fault)
         }
     }

@@ -4,8 +4,6 @@ use Rattle.std.specs.List.{All, list_any}
 use Rattle.cv_pool.specs.KindTree.{KindTree}
 use Rattle.cv_pool.specs.Nodes.{ChildBelow}
 use Rattle.cv_pool.specs.declared.node.NodeId.{NodeId}
-use Rattle.cv_syntax.specs.Planting.{overs}
-use Rattle.cv_syntax.specs.Postorder.{postorder}
 use Rattle.cv_syntax.specs.Tree.{Tree, tree_at}
 use Rattle.cv_scenes.specs.Scenes.{Scene}
 use Rattle.cv_scenes.specs.Sights.{variable_of}
@@ -43,10 +41,6 @@ is_coin_at trees ss y = list_any (λ (s : Site). is_read_in trees s.instance.coi
 -- the answer of a site, of these names
 abbrev pub name_at : List ℕ → ℕ → ℕ
 name_at names k = slice_index_or names k 0
-
--- how many nodes a tree asks for
-abbrev pub nodes_of : Tree → ℕ
-nodes_of t = overs (postorder t)
 
 -- The sites are those of a game for an equivalence and a key, as a search answers them, and only terms are instances.
 pub record AreSitesOf (trees : List KindTree) (s : Scene) (equivalence : Tree) (key : ℕ) (ss : List Site) (root : Option NodeId) : Type 0 where

@@ -4,15 +4,16 @@ ghost use Rattle.cv_syntax.specs.Postorder.{postorder};
 ghost use Rattle.cv_syntax.specs.Tree.{Tree, size, tree_at};
 ghost use Rattle.cv_scenes.specs.Scenes.{Scene};
 ghost use Rattle.cv_scenes.specs.Contexts.{context_of};
-ghost use Rattle.cv_context.specs.Roles.{AreSitesOf, IsLiveCall, name_at, nodes_of};
+ghost use Rattle.cv_context.specs.Roles.{AreSitesOf, IsLiveCall, name_at};
+ghost use Rattle.cv_syntax_limits.specs.Limits.{nodes_of};
 
 use crate::calls::calls_of;
 use crate::roles::roles_of;
 use crate::walk::{Next, put};
-use cv_context_parts::plant_tree;
 use cv_match_patterns::Site;
 use cv_scope::Position;
 use cv_syntax::{Make, NodeId, Pool, PoolError};
+use cv_syntax_limits::plant_tree;
 use std::alloc::{AllocError, Global};
 
 /// The parts of the context of a game.

@@ -1,17 +1,12 @@
 -- What is made at the end of a list of parts.
 use Rattle.std.proofs.Common.{◌≡◌, ℕ, Bool, true, false, nat_lt, Ok, suc, ◌+◌, ◌≤◌, ◌<◌, List, [], ◌∷◌, ◌++◌, length, drop, refl, ap, sym, ◌∙◌, arith, append_assoc, append-nil, map, Option, Some}
-use Rattle.std.proofs.lemmas.Bool.Decides.{nat_tests}
 use Rattle.std.proofs.lemmas.List.{drop_all, replicate_more}
-use Rattle.std.specs.Prelude.{IsErrOf, replicate, flat_map, slice_get}
-use Rattle.cv_pool.specs.KindTree.{KindTree}
-use Rattle.cv_pool.specs.declared.node.NodeId.{NodeId}
-use Rattle.cv_pool.specs.declared.pool.PoolError.TheVariants as pool
+use Rattle.std.specs.Prelude.{replicate, flat_map}
 use Rattle.cv_syntax.specs.declared.head.Head.{Head}
 use Rattle.cv_syntax.specs.declared.head.Head.TheVariants.{Cons}
 use Rattle.cv_syntax.specs.declared.make.Make.{Make}
 use Rattle.cv_syntax.specs.declared.make.Make.TheVariants.{Nothing, Over}
-use Rattle.cv_syntax.specs.Planting.{overs}
-use Rattle.cv_syntax.specs.Tree.{Tree, Empty, Node, chain, tree_at}
+use Rattle.cv_syntax.specs.Tree.{Tree, Empty, Node, chain}
 use Rattle.cv_syntax.specs.Postorder.{postorder}
 use Rattle.cv_syntax.proofs.Trees.{tree_of-NoTree}
 use Rattle.cv_context_parts.specs.Closing.{closing}
@@ -75,22 +70,4 @@ closing-goes hs ks h out new total e i n = ap (λ l. l ++ closing ks) n ∙ (app
 pub items-done : {A : Type 0} (f : A → Tree) (xs : List A) (k : ℕ) (out new start : List Make) → length xs ≤ k → out ++ made f (drop k xs) ≡ start ++ made f xs → new ≡ out ++ (Nothing ∷ replicate (length xs) (Over Cons)) → new ≡ start ++ postorder (chain (map f xs))
 items-done f xs k out new start h i e = items-end f xs (length xs) out new start (sym (append-nil out) ∙ (ap (λ ys. out ++ made f ys) (sym (drop_all k xs h)) ∙ i)) refl e
 
-pub few_overs : (ms : List Make) → overs ms ≤ length ms
-few_overs [] = omega arith
-few_overs (Nothing ∷ ms) = omega (arith, few_overs ms)
-few_overs (Over h ∷ ms) = omega (arith, few_overs ms)
-
--- the one tree that is made
-pub only : (trees : List KindTree) (ids : List (Option NodeId)) (o : Option NodeId) (t : Tree) → map (tree_at trees) ids ≡ t ∷ [] → Some o ≡ slice_get ids 0 → tree_at trees o ≡ t
-only trees [] o t e f = absurd (cc)
-only trees (i ∷ ids) o t e f = let same : o ≡ i = cc in let first : tree_at trees i ≡ t = cc in ap (tree_at trees) same ∙ first
-
-pub ruleset making = (tree_of-NoTree, few_overs, replicate_more, append_assoc, append-nil)
-
--- the pool has room
-pub roomy : {A : Type 0} (limit need asked : ℕ) (r : A) → (limit < need → IsErrOf {T = A} (Ok r) (pool.Full asked)) → need ≤ limit
-roomy limit need asked r h = by_test (nat_lt limit need) refl
-  where
-    by_test : (b : Bool) → nat_lt limit need ≡ b → need ≤ limit
-    by_test true i = absurd (let l : limit < need = grind (arith, nat_tests) in let j = h l in cc)
-    by_test false i = grind (arith, nat_tests)
+pub ruleset making = (tree_of-NoTree, replicate_more, append_assoc, append-nil)

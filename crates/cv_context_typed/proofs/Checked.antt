@@ -12,7 +12,8 @@ use Rattle.cv_directory.specs.declared.sort.Sort.{Sort}
 use Rattle.cv_directory.specs.declared.sort.Sort.TheVariants.{BelowParameter, OfType}
 use Rattle.cv_typing.specs.Parts.{IsTypedGame, nothing_above}
 use Rattle.cv_typing.specs.Signature.{Above, OfGame, Signature, variable_sort}
-use Rattle.cv_typing.specs.Typing.{binders_differ, differs_from, site_differs, typing_walk}
+use Rattle.cv_typing.specs.Typing.{binders_differ, site_differs, typing_walk}
+use Rattle.cv_directory.specs.Sorts.{differs_from}
 use Rattle.cv_typing.specs.Wants.{Run, Want}
 use Rattle.cv_typing.specs.declared.form.Form.TheVariants.{InProcess}
 use Rattle.cv_typing_runs.proofs.Terms.{faultless, same_sorts}

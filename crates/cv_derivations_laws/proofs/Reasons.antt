@@ -23,7 +23,8 @@ use Rattle.cv_scope.specs.Context.{items}
 use Rattle.cv_scope.specs.Phrases.{IsWellFormed, OneCell, Term, is_phrase}
 use Rattle.cv_directory.specs.declared.sort.Sort.{Sort}
 use Rattle.cv_directory.specs.declared.sort.Sort.TheVariants.{BelowParameter, OfType}
-use Rattle.cv_typing.specs.Signature.{same_sort, sort_of}
+use Rattle.cv_typing.specs.Signature.{sort_of}
+use Rattle.cv_directory.specs.Sorts.{same_sort}
 use Rattle.cv_typing_runs.specs.Games.{HasArguments, context_of, sort_of_meaning}
 use Rattle.cv_typing_runs.proofs.Terms.{same_sorts}
 use Rattle.cv_scenes.specs.Terms.{above_at, is_sort, is_term_at, replications_at, signature_in}

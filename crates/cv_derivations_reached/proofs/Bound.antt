@@ -36,7 +36,8 @@ use Rattle.cv_scope.specs.Above.{first_standing, second_standing, standing_at, s
 use Rattle.cv_typing.specs.declared.form.Form.TheVariants.{InProcess}
 use Rattle.cv_typing.specs.Parts.{IsTypedGame}
 use Rattle.cv_typing.specs.Signature.{Above, OfGame, Signature, variable_sort}
-use Rattle.cv_typing.specs.Typing.{IsTyped, binders_differ, differs_from}
+use Rattle.cv_typing.specs.Typing.{IsTyped, binders_differ}
+use Rattle.cv_directory.specs.Sorts.{differs_from}
 use Rattle.cv_typing.specs.Wants.{Run, Want, above_second, wants}
 use Rattle.cv_typing_runs.specs.Games.{context_of, sort_of_meaning, variable_of_meaning}
 use Rattle.cv_typing_runs.proofs.SameSites.{Agrees, sites_agree}

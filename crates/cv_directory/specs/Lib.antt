@@ -5,3 +5,4 @@ pub mod Worked
 pub mod Pairs
 pub mod Live
 pub mod Counting
+pub mod Sorts

@@ -4,8 +4,8 @@ ghost use Rattle.cv_syntax.specs.Tree as tree;
 ghost use Rattle.cv_syntax.specs.Tree.{tree_at};
 ghost use Rattle.cv_draw.specs.Changes.{TermIsLive, change_of, nodes_of};
 
-use cv_draw_extents::Extent;
 use cv_syntax::{NodeId, Pool, depth, size};
+use cv_syntax_limits::Extent;
 
 /// How a step changes what stands at a place.
 #[derive(Clone, Copy)]

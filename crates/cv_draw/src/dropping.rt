@@ -10,9 +10,9 @@ ghost use Rattle.cv_steps.specs.Changes.{without, only};
 ghost use Rattle.cv_draw.specs.Dropping.{need_without};
 ghost use Rattle.cv_syntax.specs.declared.make.Make.TheVariants as make;
 
-use cv_draw_extents::Extent;
 use cv_pool::PoolError;
 use cv_syntax::{Head, Make, NodeId, Pool, plant, read_node};
+use cv_syntax_limits::Extent;
 use std::alloc::{AllocError, Global};
 
 /// Whether a node defines a variable by `new` or `let`.

@@ -7,7 +7,6 @@ mod dropping;
 mod measuring;
 
 pub use change::Change;
-pub use cv_draw_extents::Extent;
 pub use drawing::draw;
 pub use dropping::{drop_variable, measure_without};
 pub use measuring::measure;

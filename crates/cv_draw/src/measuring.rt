@@ -6,9 +6,10 @@ ghost use Rattle.cv_scenes.specs.Scenes.{part_at};
 ghost use Rattle.cv_draw.specs.Changes.{TermIsLive, change_of};
 
 use crate::change::Change;
-use cv_draw_extents::{Extent, extent_with};
+use cv_draw_extents::extent_with;
 use cv_path::at;
 use cv_syntax::{NodeId, Pool};
+use cv_syntax_limits::Extent;
 
 /// How large a game is with what stands at a place changed. There is no answer where the game has no such place.
 #[tactic(auto, using(crate::proofs::Extents::extents))]

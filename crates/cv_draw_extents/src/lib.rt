@@ -3,4 +3,4 @@
 
 mod measuring;
 
-pub use measuring::{Extent, depth_below, extent_with};
+pub use measuring::{depth_below, extent_with};

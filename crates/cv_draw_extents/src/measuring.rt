@@ -6,13 +6,7 @@ ghost use Rattle.cv_meaning.specs.Replaced.{replaced};
 
 use cv_path::{Lies, place_in};
 use cv_syntax::{NodeId, Pool, depth, read_node, size};
-
-/// How many syntax nodes a tree has, and how many its longest path.
-#[derive(Clone, Copy)]
-pub struct Extent {
-    pub nodes: u32,
-    pub depth: u32,
-}
+use cv_syntax_limits::Extent;
 
 /// How deep a child is.
 pub fn depth_below(pool: &Pool, child: Option<NodeId>) -> u32

@@ -8,10 +8,11 @@ ghost use Rattle.cv_draw_pruning.specs.Lefts.{IsLeft, IsLive, left_of};
 
 use crate::body::{Body, is_find};
 use crate::cut::{Cut, bodies_in, cut_at};
-use cv_draw_extents::{Extent, depth_below};
+use cv_draw_extents::depth_below;
 use cv_path::size_below;
 use cv_syntax::children::is_empty;
 use cv_syntax::{NodeId, Opened, Pool};
+use cv_syntax_limits::Extent;
 
 /// What is left of a construct: another body of it, or a `find` without the branch of this number.
 #[derive(Clone, Copy)]

@@ -5,9 +5,10 @@ ghost use Rattle.cv_draw_pruning.specs.Bodies.{game_without, part_of};
 
 use crate::body::Body;
 use crate::left::left_extent;
-use cv_draw_extents::{Extent, extent_with};
+use cv_draw_extents::extent_with;
 use cv_path::at;
 use cv_syntax::{NodeId, Pool, read_node};
+use cv_syntax_limits::Extent;
 
 /// How large a game is without a body of the construct at a place. There is no answer where there is no such body.
 pub fn measure_without_body(pool: &Pool, root: NodeId, place: u32, body: Body) -> Option<Extent>

@@ -13,8 +13,9 @@ use Rattle.cv_first_fault.specs.Walk.{IsObeyed}
 use Rattle.cv_typing.specs.declared.fault.Fault.{Fault}
 use Rattle.cv_typing.specs.declared.fault.Fault.TheVariants.{WrongType}
 use Rattle.cv_typing.specs.Parts.{AreTyped, body_parts, local_in, nothing_above, own_sort, with_taken}
-use Rattle.cv_typing.specs.Signature.{Above, OfSide, Signature, same_sort, sort_by}
-use Rattle.cv_typing.specs.Typing.{IsTyped, differs_from, fault_of, site_differs}
+use Rattle.cv_typing.specs.Signature.{Above, OfSide, Signature, sort_by}
+use Rattle.cv_directory.specs.Sorts.{differs_from, same_sort}
+use Rattle.cv_typing.specs.Typing.{IsTyped, fault_of, site_differs}
 use Rattle.cv_typing.specs.Wants.{Want, is_wrong}
 use Rattle.cv_meaning_contexts.specs.Groups.{Function, functions_of}
 use Rattle.cv_meaning_contexts.specs.Sites as sites

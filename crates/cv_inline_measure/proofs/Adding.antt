@@ -6,7 +6,8 @@ use Rattle.cv_inline_extents.specs.Extents.{Extent, all_beside, extent, of_resul
 use Rattle.cv_inline_measure.specs.declared.added.Added.{Added}
 use Rattle.cv_inline_measure.specs.declared.measuring.Measure.{Measure}
 use Rattle.cv_inline_measure.specs.declared.measuring.Measure.TheVariants.{Nodes, Path}
-use Rattle.cv_inline_measure.specs.Counts.{IsTold, measure_in, told}
+use Rattle.cv_inline_measure.specs.Counts.{IsTold, measure_in}
+use Rattle.cv_syntax_limits.specs.Limits.{told}
 use Rattle.cv_inline_measure.proofs.Counting.{along_told, join_told, node_alike}
 
 one_told : (m : Measure) → (measure_in m).one_copy ≡ told (measure_in m).one_copy

@@ -8,7 +8,8 @@ use Rattle.cv_inline_extents.specs.Extents.{Answers, answer_or, copies_of, with_
 use Rattle.cv_inline_measure.specs.declared.added.Added.{Added}
 use Rattle.cv_inline_measure.specs.declared.game.Answer.{Answer}
 use Rattle.cv_inline_measure.specs.declared.measuring.Measure.{Measure}
-use Rattle.cv_inline_measure.specs.Counts.{measure_in, told}
+use Rattle.cv_inline_measure.specs.Counts.{measure_in}
+use Rattle.cv_syntax_limits.specs.Limits.{told}
 use Rattle.cv_inline_measure.specs.Games.{answers_in, with_call}
 
 answers_at : (x n k : ℕ) (rs : List Answer) (d : Answer) → k < length rs → answer_or n (answers_in (drop k rs)) x ≡ cond ((get_or rs k d).name == x) (get_or rs k d).results (answer_or n (answers_in (drop (k + 1) rs)) x)

@@ -6,7 +6,8 @@ use Rattle.cv_inline_extents.specs.Extents.{all_nodes, longest_path, over_node}
 use Rattle.cv_inline_extents.proofs.Games.{Keeps}
 use Rattle.cv_inline_measure.specs.declared.measuring.Measure.{Measure}
 use Rattle.cv_inline_measure.specs.declared.measuring.Measure.TheVariants.{Nodes, Path}
-use Rattle.cv_inline_measure.specs.Counts.{measure_in, told}
+use Rattle.cv_inline_measure.specs.Counts.{measure_in}
+use Rattle.cv_syntax_limits.specs.Limits.{told}
 
 pub told_again : (n : ℕ) → told (told n) ≡ told n
 told_again n = omega arith

@@ -15,7 +15,8 @@ use Rattle.cv_inline_measure.specs.declared.calls.Argument as code
 use Rattle.cv_inline_measure.specs.declared.measuring.Measure.{Measure}
 use Rattle.cv_inline_measure.specs.declared.measuring.Measure.TheVariants.{Nodes, Path}
 use Rattle.cv_inline_measure.specs.declared.setting.Setting.{Setting}
-use Rattle.cv_inline_measure.specs.Counts.{IsTold, measure_in, told}
+use Rattle.cv_inline_measure.specs.Counts.{IsTold, measure_in}
+use Rattle.cv_syntax_limits.specs.Limits.{told}
 use Rattle.cv_inline_measure.specs.Settings.{argument_in, body_in, branch_in, branch_scope_in, call_in, caller_at, callers_at, first_argument, front_in, measure_of, trees_of}
 use Rattle.cv_inline_measure.proofs.Arguments.{with_argument, without_arguments}
 

@@ -12,7 +12,8 @@ use Rattle.cv_inline_extents.proofs.Measures.{IsMeasure, nodes_measure, path_mea
 use Rattle.cv_inline_measure.specs.declared.added.Added.{Added}
 use Rattle.cv_inline_measure.specs.declared.measuring.Measure.{Measure}
 use Rattle.cv_inline_measure.specs.declared.measuring.Measure.TheVariants.{Nodes, Path}
-use Rattle.cv_inline_measure.specs.Counts.{IsTold, measure_in, told}
+use Rattle.cv_inline_measure.specs.Counts.{IsTold, measure_in}
+use Rattle.cv_syntax_limits.specs.Limits.{told}
 use Rattle.cv_inline_measure.specs.Games.{call_of_game, first_child, of_child, second_child, with_call}
 use Rattle.cv_inline_measure.proofs.Counting.{keeps, node_alike, told_again}
 

@@ -1,17 +1,15 @@
 -- Counts as they are told: what is above the greatest number of 32 bits is told as that number. This profile's own.
-use Rattle.std.specs.Prelude.{◌≡◌, ℕ, ◌-◌, ◌^◌, min, List, [], ◌∷◌, map}
+use Rattle.std.specs.Prelude.{◌≡◌, ℕ, List, [], ◌∷◌, map}
 use Rattle.cv_syntax.specs.declared.make.Make.{Make}
 use Rattle.cv_syntax.specs.declared.make.Make.TheVariants as make
 use Rattle.cv_syntax.specs.Postorder.{joined}
 use Rattle.cv_syntax.specs.Tree.{Tree, Empty}
+use Rattle.cv_syntax_limits.specs.Limits.{told}
 use Rattle.cv_inline_extents.specs.Extents as extents
 use Rattle.cv_inline_extents.specs.Extents.{Extent, all_nodes, extent, longest_path}
 use Rattle.cv_inline_measure.specs.declared.added.Added.{Added}
 use Rattle.cv_inline_measure.specs.declared.measuring.Measure.{Measure}
 use Rattle.cv_inline_measure.specs.declared.measuring.Measure.TheVariants.{Nodes, Path}
-
-abbrev pub told : ℕ → ℕ
-told n = min n (2 ^ 32 - 1)
 
 abbrev pub measure_in : Measure → extents.Measure
 measure_in Nodes = all_nodes

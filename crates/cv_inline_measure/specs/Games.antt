@@ -11,7 +11,8 @@ use Rattle.cv_inline_measure.specs.declared.game.Answer.{Answer}
 use Rattle.cv_inline_measure.specs.declared.game.Kind.{Kind}
 use Rattle.cv_inline_measure.specs.declared.game.Kind.TheVariants.{Nothing, Results, Same, Game}
 use Rattle.cv_inline_measure.specs.declared.measuring.Measure.{Measure}
-use Rattle.cv_inline_measure.specs.Counts.{measure_in, told}
+use Rattle.cv_inline_measure.specs.Counts.{measure_in}
+use Rattle.cv_syntax_limits.specs.Limits.{told}
 
 abbrev pub answers_in : List Answer → Answers
 answers_in rs = map (λ (r : Answer). (r.name, r.results)) rs

@@ -2,7 +2,8 @@ ghost use Rattle.std.specs.Prelude.{◌≡◌, ℕ};
 ghost use Rattle.cv_syntax.specs.Tree.{Tree};
 ghost use Rattle.cv_inline_extents.specs.Extents as extents;
 ghost use Rattle.cv_inline_extents.specs.Extents.{Extent, extent};
-ghost use Rattle.cv_inline_measure.specs.Counts.{IsTold, measure_in, told};
+ghost use Rattle.cv_inline_measure.specs.Counts.{IsTold, measure_in};
+ghost use Rattle.cv_syntax_limits.specs.Limits.{told};
 
 use crate::measuring::Measure;
 

@@ -6,7 +6,8 @@ ghost use Rattle.cv_inline_extents.specs.Extents.{Extent};
 ghost use Rattle.cv_inline_terms.specs.Callers.{IsLiveCaller};
 ghost use Rattle.cv_inline_listing.specs.Subtrees.{IsNodeAt, IsWithin};
 ghost use Rattle.cv_inline_pairs.specs.Pairs.{IsPairOver};
-ghost use Rattle.cv_inline_measure.specs.Counts.{IsTold, told};
+ghost use Rattle.cv_inline_measure.specs.Counts.{IsTold};
+ghost use Rattle.cv_syntax_limits.specs.Limits.{told};
 ghost use Rattle.cv_inline_measure.specs.Settings.{IsFound, IsLiveOther, IsLiveSetting, body_in, branch_in, branches_in, caller_at, find_in, live_in, measure_of, scope_at, term_in};
 
 use crate::added::{Added, beside, of_result, under};

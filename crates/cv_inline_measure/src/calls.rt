@@ -135,7 +135,7 @@ fn site_call(
 }
 
 /// The place of the first site with a number, or past all sites.
-fn place_of(callings: &[Calling], number: u32) -> usize
+pub fn place_of_site(callings: &[Calling], number: u32) -> usize
     ensures { (trees : List KindTree) →
         option_map (calling_in trees) (slice_get callings.now result)
         ≡ numbered number (callings_in trees callings.now) }
@@ -163,7 +163,10 @@ pub(crate) fn call_extent(
         (numbered number (callings_in setting.now.pool.now.trees setting.now.callings.now))
         (tree_at setting.now.pool.now.trees arguments))) }
 {
-    match setting.callings.get(place_of(setting.callings, number)) {
+    match setting
+        .callings
+        .get(place_of_site(setting.callings, number))
+    {
         Some(calling) => site_call(alloc, setting, calling, arguments),
         None => Ok(of_result(setting.measure, 1)),
     }

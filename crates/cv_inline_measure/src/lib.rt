@@ -13,4 +13,5 @@ mod setting;
 mod terms;
 mod trees;
 
+pub use calls::place_of_site;
 pub use next::measure;

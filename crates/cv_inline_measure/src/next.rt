@@ -4,15 +4,16 @@ ghost use Rattle.cv_syntax.specs.Tree.{tree_at};
 ghost use Rattle.cv_meaning_contexts.specs.Groups.{Group};
 ghost use Rattle.cv_inline_games.specs.NextGame.{next_in};
 ghost use Rattle.cv_inline_extents.specs.Extents.{extent};
-ghost use Rattle.cv_inline_measure.specs.Counts.{measure_in, told};
+ghost use Rattle.cv_inline_measure.specs.Counts.{measure_in};
+ghost use Rattle.cv_syntax_limits.specs.Limits.{told};
 ghost use Rattle.cv_inline_measure.specs.Settings.{AreLiveSites, inlined_calls};
 
 use crate::game::game;
 use crate::measuring::Measure;
 use crate::setting::Setting;
-use cv_draw_extents::Extent;
 use cv_inline_terms::{Calling, Drawing};
 use cv_syntax::{NodeId, Pool};
+use cv_syntax_limits::Extent;
 use std::alloc::{AllocError, Global};
 
 /// How large and how deep the next game of a context is, where these are the drawn names, the name of the right key and the

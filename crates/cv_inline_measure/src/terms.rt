@@ -3,7 +3,7 @@ ghost use Rattle.cv_pool.specs.Nodes.{ChildBelow};
 ghost use Rattle.cv_inline_extents.specs.Extents.{extent};
 ghost use Rattle.cv_inline_terms.specs.Callers.{IsLiveCaller};
 ghost use Rattle.cv_inline_terms.specs.Stacks.{names_from};
-ghost use Rattle.cv_inline_measure.specs.Counts.{told};
+ghost use Rattle.cv_syntax_limits.specs.Limits.{told};
 ghost use Rattle.cv_inline_measure.specs.Settings.{IsLiveOther, branch_scope_in, front_in, live_in, measure_of, names_in, scope_at, term_in};
 
 use crate::parts::extent_of;

@@ -1,5 +1,3 @@
-pub mod Counting
 pub mod Keys
 pub mod Nodes
 pub mod Pieces
-pub mod Results

@@ -1,3 +1,3 @@
 pub mod Steps
 pub mod Forms
-pub mod Nodes
+pub mod Made

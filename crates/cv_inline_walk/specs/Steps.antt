@@ -1,5 +1,5 @@
 -- A cryptographic step of the code as the inlined calls of the definitions. This profile's own.
-use Rattle.std.specs.Prelude.{◌≡◌, ℕ, [], List, All, Some, length}
+use Rattle.std.specs.Prelude.{◌≡◌, ℕ, [], List, Some, length}
 use Rattle.cv_pool.specs.KindTree.{KindTree}
 use Rattle.cv_pool.specs.declared.node.NodeId.{NodeId}
 use Rattle.cv_syntax.specs.Tree.{Tree, tree_at}
@@ -7,10 +7,8 @@ use Rattle.cv_meaning_contexts.specs.Groups.{Group}
 use Rattle.cv_inline_games.specs.NextGame.{InlinedCalls, Results, next_in}
 use Rattle.cv_inline_terms.specs.declared.calling.Calling.{Calling}
 use Rattle.cv_inline_terms.specs.declared.drawn.Drawing.{Drawing}
-use Rattle.cv_inline_terms.specs.Callers.{HasLiveCaller}
 use Rattle.cv_inline_terms.specs.Drawings.{drawn_in}
-use Rattle.cv_inline_branches.specs.Moves.{IsList}
-use Rattle.cv_inline_listing.specs.Callings.{IsLiveCalling}
+use Rattle.cv_inline_measure.specs.Settings.{AreLiveSites}
 use Rattle.cv_inline_pieces.specs.Calls.{inlined_calls}
 use Rattle.cv_inline_results.specs.Outcomes.{results_in}
 use Rattle.cv_inline_results.specs.declared.outcome.Outcome.{Outcome}
@@ -31,15 +29,6 @@ results_of s os = results_in s.pool.now.trees (drawn_in s.drawn.now) s.callings.
 -- the statement goes on behind a call, with one more result
 abbrev pub goes_on : Step → Group → List Outcome → Call → Tree → Tree
 goes_on s g os c = behind_call (calls_of s g) (results_of s os) c.answer (tree_at s.pool.now.trees c.rest)
-
-abbrev pub HasListKey : List KindTree → Calling → Type 0
-HasListKey trees c = IsList (tree_at trees c.caller.key)
-
--- the sites are in the pool; their keys are lists, as those are whose terms are fine (`key_is_list`)
-pub record AreLiveSites (trees : List KindTree) (callings : List Calling) : Type 0 where
-  pub functions : All (IsLiveCalling trees) callings
-  pub callers : All (HasLiveCaller (length trees)) callings
-  pub keys : All (HasListKey trees) callings
 
 abbrev pub IsLiveStep : Step → Type 0
 IsLiveStep s = AreLiveSites s.pool.now.trees s.callings.now

@@ -12,11 +12,10 @@ ghost use Rattle.cv_inline_walk.specs.Steps.{HasRightKey, IsLiveStep, calls_of, 
 
 use crate::forms::{First, Form, form_of, head_in};
 use crate::fronts::add_front;
-use crate::outcomes::with_result;
-use crate::sites::place_of;
 use crate::step::{Call, Step};
+use cv_inline_measure::place_of_site;
 use cv_inline_pieces::{Piece, pieces_of};
-use cv_inline_results::{Outcome, with_results};
+use cv_inline_results::{Outcome, with_newest, with_results};
 use cv_inline_terms::{Calling, Entry, copy, in_game, nothing, put};
 use cv_syntax::children::second_of;
 use cv_syntax::{Make, NodeId, Opened, read_node};
@@ -106,7 +105,7 @@ fn add_call(
 {
     let call = Call {
         answer,
-        site: place_of(step.callings, number),
+        site: place_of_site(step.callings, number),
         rest: node.second,
     };
     let Some(calling) = step.callings.get(call.site) else {
@@ -194,6 +193,6 @@ fn go_on(
         (drawn_in step.now.drawn.now) (slice_get step.now.callings.now call.site) scope.now term)
         ∷ stack parts.old.items) }
 {
-    let more = with_result(alloc, results, call.answer, call.site, scope, term)?;
+    let more = with_newest(alloc, results, call.answer, call.site, scope, term)?;
     game(alloc, step, more.as_slice(), parts, call.rest)
 }

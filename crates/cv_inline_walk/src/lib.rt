@@ -1,13 +1,11 @@
 // The next game of a cryptographic step: a context, with right bodies in place of its calls.
 #![tactic(auto)]
 
-mod building;
 mod forms;
 mod fronts;
 mod game;
-mod outcomes;
-mod planting;
-mod sites;
+mod making;
+mod parts;
 mod step;
 
-pub use building::next_game;
+pub use making::next_game;

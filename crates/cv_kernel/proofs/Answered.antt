@@ -10,7 +10,7 @@ use Rattle.cv_scenes.specs.Scenes.{Scene}
 use Rattle.cv_scenes.specs.Sights.{from_one}
 use Rattle.cv_kernel_closed.specs.Queries.{is_among}
 use Rattle.cv_kernel.specs.Closings.{Closing, closing_failure, closing_in}
-use Rattle.cv_kernel.specs.Steps.{nodes_of}
+use Rattle.cv_syntax_limits.specs.Limits.{nodes_of}
 use Rattle.cv_kernel.proofs.Steps.{certificate_nodes}
 
 -- a query that is closed fails, and of another one its certificate counts

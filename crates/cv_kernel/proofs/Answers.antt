@@ -29,7 +29,7 @@ use Rattle.cv_kernel_games.specs.declared.testing.Next.{Next}
 use Rattle.cv_kernel.specs.declared.error.RuleError.{RuleError}
 use Rattle.cv_kernel.specs.declared.error.RuleError.TheVariants as rule
 use Rattle.cv_kernel.specs.Rules.{HasNoPlace, IsAnswer, IsOutside, IsDrawFault, IsDrawn, IsNoGame, next_of}
-use Rattle.cv_kernel_games.specs.Limits.{limit_fault}
+use Rattle.cv_syntax_limits.specs.Limits.{limit_fault}
 
 -- rows of which no condition fails
 

@@ -5,7 +5,7 @@ use Rattle.cv_syntax.specs.Postorder.{postorder}
 use Rattle.cv_syntax.specs.Tree.{Tree, Empty, Node}
 use Rattle.cv_query_check.specs.Countable.{AreCountable, AreCountableParts, IsCountable, IsCountableCertificate, IsCountableSaying, derivation_by}
 use Rattle.cv_query_entries.specs.Said.{cell_way, saying_at, saying_of, way_of}
-use Rattle.cv_kernel.specs.Steps.{nodes_of}
+use Rattle.cv_syntax_limits.specs.Limits.{nodes_of}
 use Rattle.cv_kernel.proofs.Nodes.{lines-nodes, nodes-node}
 
 countable : (by t : Tree) → nodes_of by ≤ nodes_of t → nodes_of t < 2 ^ 31 → IsCountable by

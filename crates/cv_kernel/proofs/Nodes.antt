@@ -9,7 +9,7 @@ use Rattle.cv_syntax.specs.Planting.{overs}
 use Rattle.cv_syntax.specs.Postorder.{postorder}
 use Rattle.cv_syntax.specs.Tree.{Tree, Empty, Node, first, second, size}
 use Rattle.cv_derivations.specs.Lines.{count, lines_of}
-use Rattle.cv_kernel.specs.Steps.{nodes_of}
+use Rattle.cv_syntax_limits.specs.Limits.{nodes_of}
 
 overs-append : (xs ys : List Make) → overs (xs ++ ys) ≡ overs xs + overs ys
 overs-append [] ys = omega arith

@@ -9,7 +9,7 @@ use Rattle.cv_meaning.specs.Replaced.{replaced}
 use Rattle.cv_scenes.specs.Pruning.{Part, Pruned, pruned}
 use Rattle.cv_scenes.specs.Scenes.{part_at}
 use Rattle.cv_steps.specs.Changes.{change_at, left_or, without_body}
-use Rattle.cv_draw_extents.specs.declared.measuring.Extent.{Extent}
+use Rattle.cv_syntax_limits.specs.declared.games.Extent.{Extent}
 use Rattle.cv_draw_pruning.specs.Bodies.{game_without, need_of, refusal, refusal_by}
 use Rattle.cv_path.specs.declared.error.PathError.{PathError}
 use Rattle.cv_path.specs.declared.error.PathError.TheVariants as path

@@ -35,7 +35,8 @@ use Rattle.cv_kernel.specs.Reducings.{reducing_in}
 use Rattle.cv_kernel.specs.Sequences.{IsAdvanced, IsPushAnswer, IsPushed, Same, game_in, needed, needed_by}
 use Rattle.cv_rule_scenes.specs.Kept.{scene_of}
 use Rattle.cv_syntax.specs.Classes.{DeclsView}
-use Rattle.cv_kernel.specs.Steps.{judgement_by, narrow, narrow_place, nodes_of, step_in}
+use Rattle.cv_kernel.specs.Steps.{judgement_by, narrow, narrow_place, step_in}
+use Rattle.cv_syntax_limits.specs.Limits.{nodes_of}
 use Rattle.cv_draw_extents.proofs.Extents.{below_or_not}
 use Rattle.cv_kernel.proofs.Answers.{no_place}
 use Rattle.cv_kernel.proofs.StepAnswers.{rule_pushed}

@@ -26,7 +26,8 @@ use Rattle.cv_steps_crypto.proofs.Accepted.{accepted}
 use Rattle.cv_kernel_games.specs.declared.testing.Next.{Next}
 use Rattle.cv_kernel_crypto.specs.declared.fault.CryptoFault.{CryptoFault}
 use Rattle.cv_kernel_crypto.specs.declared.fault.CryptoFault.TheVariants as crypto
-use Rattle.cv_kernel_crypto.specs.Applied.{IsAnswer, IsApplied, IsFew, nodes_of}
+use Rattle.cv_kernel_crypto.specs.Applied.{IsAnswer, IsApplied, IsFew}
+use Rattle.cv_syntax_limits.specs.Limits.{nodes_of}
 use Rattle.cv_kernel_crypto.specs.Faults.{IsRefused}
 use Rattle.cv_kernel.specs.declared.error.PushError.{PushError}
 use Rattle.cv_kernel.specs.declared.sequence.Sequence.{Sequence}

@@ -8,7 +8,8 @@ use Rattle.cv_script.specs.Views.{StepItems, items_of_step, name_in, number_in, 
 use Rattle.cv_script.specs.Views as items
 use Rattle.cv_steps.specs.Steps.{Step, Split, Let, Rewrite, Prune}
 use Rattle.cv_kernel.specs.Closings.{closing_in, closing_of_items}
-use Rattle.cv_kernel.specs.Steps.{nodes_of, step_in, step_of_items}
+use Rattle.cv_kernel.specs.Steps.{step_in, step_of_items}
+use Rattle.cv_syntax_limits.specs.Limits.{nodes_of}
 use Rattle.cv_kernel.proofs.Nodes.{first-nodes, nodes-node, second-nodes}
 
 abbrev pub HasTerm : Tree → Step → Type 0

@@ -13,7 +13,8 @@ use Rattle.cv_query_certificates.specs.Failures.{Failure}
 use Rattle.cv_rule_scenes.specs.Kept.{scene_of}
 use Rattle.cv_rule.specs.Prepared.{IsPrepared}
 use Rattle.cv_steps.specs.Costs.{cost_of}
-use Rattle.cv_steps.specs.Judgements.{Judgement, Refused, TooLarge, TooDeep, Accepted, judgement_of, most_nodes}
+use Rattle.cv_steps.specs.Judgements.{Judgement, Refused, TooLarge, TooDeep, Accepted, judgement_of}
+use Rattle.cv_syntax_limits.specs.Limits.{most_nodes, nodes_of}
 use Rattle.cv_steps.specs.Steps.{Step, Cost}
 use Rattle.cv_kernel_closed.specs.Queries.{numbers_of}
 use Rattle.cv_context_products.specs.Shapes.{shape_of}
@@ -25,7 +26,6 @@ use Rattle.cv_script.specs.Views as items
 use Rattle.cv_steps_crypto.specs.Conditions.{equivalence_of}
 use Rattle.cv_steps_crypto.specs.Steps.{IsOutcome, reduction_of}
 use Rattle.cv_steps_crypto.specs.Steps as outcome
-use Rattle.cv_kernel_crypto.specs.Applied.{nodes_of}
 use Rattle.cv_kernel_crypto.specs.Applied as applied
 use Rattle.cv_kernel_crypto.specs.declared.fault.CryptoFault.{CryptoFault}
 use Rattle.cv_kernel_crypto.specs.declared.fault.CryptoFault.TheVariants as crypto

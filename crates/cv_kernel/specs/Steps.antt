@@ -1,7 +1,5 @@
 -- What is said of the tree of a step in a game.
 use Rattle.std.specs.Prelude.{ℕ, min, Option, Some, None, option_and_then}
-use Rattle.cv_syntax.specs.Planting.{overs}
-use Rattle.cv_syntax.specs.Postorder.{postorder}
 use Rattle.cv_syntax.specs.Tree.{Tree}
 use Rattle.cv_script.specs.declared.views.Part.{Part as Written}
 use Rattle.cv_script.specs.declared.views.Part.TheVariants as written
@@ -52,7 +50,3 @@ narrow (New p x T) = New (narrow_place p) x T
 narrow (Unnew x) = Unnew x
 narrow (Rewrite p m by) = Rewrite (narrow_place p) m by
 narrow (Prune p part by) = Prune (narrow_place p) part by
-
--- how many nodes a tree has, lists among them
-abbrev pub nodes_of : Tree → ℕ
-nodes_of t = overs (postorder t)

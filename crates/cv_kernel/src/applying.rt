@@ -15,9 +15,10 @@ ghost use Rattle.cv_bound.specs.declared.cost.Cost.TheVariants.{Zero};
 
 use crate::drawing::{draw_next, extent_of};
 use crate::error::RuleError;
-use cv_kernel_games::{Next, check_limits, next_at, settle};
+use cv_kernel_games::{Next, next_at, settle};
 use cv_rule::{Failure, Rule, conditions};
 use cv_syntax::{NodeId, Work};
+use cv_syntax_limits::check_limits;
 use cv_typing::Arrays;
 use std::alloc::Global;
 

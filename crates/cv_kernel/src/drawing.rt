@@ -16,12 +16,13 @@ ghost use Rattle.cv_draw_pruning.specs.Bodies.{part_of};
 ghost use Rattle.cv_kernel.specs.Rules.{HasNoPlace, IsDrawFault, IsShortRule, need_of, next_of, of_path, of_pool};
 
 use crate::error::RuleError;
-use cv_draw::{Change, Extent, draw, drop_variable, measure, measure_without};
+use cv_draw::{Change, draw, drop_variable, measure, measure_without};
 use cv_draw_pruning::{Body, draw_without_body, measure_without_body};
 use cv_path::PathError;
 use cv_pool::PoolError;
 use cv_rule::{Failure, Rule};
 use cv_syntax::{BuildError, NodeId, Pool};
+use cv_syntax_limits::Extent;
 use std::alloc::Global;
 
 /// How large the next game of a step is. There is no answer where the game has no such place.

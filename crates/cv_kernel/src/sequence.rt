@@ -13,7 +13,8 @@ ghost use Rattle.cv_kernel.specs.ClosingTrees.{closing_tree};
 ghost use Rattle.cv_kernel.specs.Closings.{closing_failure};
 ghost use Rattle.cv_kernel.specs.Rules.{IsShortRule, need_of};
 ghost use Rattle.cv_kernel.specs.Sequences.{IsAdvanced, IsCloseAnswer, IsPushed, IsReady, IsReduceAnswer, Same, Stands, game_in, needed_for};
-ghost use Rattle.cv_kernel.specs.Steps.{narrow, nodes_of, step_in};
+ghost use Rattle.cv_kernel.specs.Steps.{narrow, step_in};
+ghost use Rattle.cv_syntax_limits.specs.Limits.{nodes_of};
 
 use crate::applying::attempt;
 use crate::closing::{Closing, closing_of};

@@ -15,7 +15,8 @@ use Rattle.cv_steps_crypto.specs.Steps.{Accepted, IsOutcome, Refused, is_next, r
 use Rattle.cv_kernel_crypto.specs.declared.fault.CryptoFault.{CryptoFault}
 use Rattle.cv_kernel_crypto.specs.declared.fault.Failure.{Failure as CryptoFailure}
 use Rattle.cv_kernel_crypto.specs.declared.fault.CryptoFault.TheVariants as crypto
-use Rattle.cv_kernel_crypto.specs.Applied.{IsAnswer, IsContext, IsFaultOf, IsFew, nodes_of}
+use Rattle.cv_kernel_crypto.specs.Applied.{IsAnswer, IsContext, IsFaultOf, IsFew}
+use Rattle.cv_syntax_limits.specs.Limits.{nodes_of}
 use Rattle.cv_kernel_crypto.specs.Faults.{IsNoNext}
 use Rattle.cv_kernel_crypto.specs.Stages.{IsBuiltAt}
 use Rattle.cv_kernel_crypto.proofs.Outcomes.{accepted, refused}

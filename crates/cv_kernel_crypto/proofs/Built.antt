@@ -10,12 +10,14 @@ use Rattle.cv_rule_scenes.specs.Kept.{scene_of}
 use Rattle.cv_scenes.specs.Reductions.{Reduction, context_of_game}
 use Rattle.cv_scenes.specs.Scenes.{Scene}
 use Rattle.cv_inline_reductions.specs.Tables.{labels}
+use Rattle.cv_inline_walk.specs.Made.{IsTreeAt}
 use Rattle.cv_inline_walk.specs.Steps.{next_tree}
 use Rattle.cv_steps_crypto.specs.Steps.{IsNextGame, reduction_of}
 use Rattle.cv_kernel_crypto.specs.declared.inlining.Inlining.{Inlining}
 use Rattle.cv_kernel_crypto.specs.declared.instances.Instances.{Instances}
-use Rattle.cv_kernel_crypto.specs.Applied.{IsDrawn, nodes_of}
-use Rattle.cv_kernel_crypto.specs.Stages.{AreInstances, HasContext, IsBuiltAt, IsInlining, IsMet, IsTreeAt}
+use Rattle.cv_kernel_crypto.specs.Applied.{IsDrawn}
+use Rattle.cv_syntax_limits.specs.Limits.{nodes_of}
+use Rattle.cv_kernel_crypto.specs.Stages.{AreInstances, HasContext, IsBuiltAt, IsInlining, IsMet}
 use Rattle.cv_kernel_crypto.proofs.Reduced.{functions_same}
 use Rattle.cv_kernel_crypto.proofs.Growing.{root-grown}
 use Rattle.cv_kernel_crypto.proofs.Inlined.{next_made}

@@ -6,7 +6,6 @@ pub mod Reduced
 pub mod Inlined
 pub mod Found
 pub mod Built
-pub mod Limits
 pub mod Rooms
 pub mod Outcomes
 pub mod Answers

@@ -6,17 +6,20 @@ use Rattle.cv_pool.specs.KindTree.{KindTree}
 use Rattle.cv_pool.specs.declared.node.NodeId.{NodeId}
 use Rattle.cv_pool.specs.declared.pool.PoolError.{PoolError}
 use Rattle.cv_pool.specs.declared.pool.PoolError.TheVariants as pool
+use Rattle.cv_syntax.specs.declared.work.BuildError.{BuildError}
 use Rattle.cv_syntax.specs.declared.work.BuildError.TheVariants as build
 use Rattle.cv_syntax.specs.Tree.{Tree, depth, size}
 use Rattle.cv_scenes.specs.Reductions.{context_of_game}
 use Rattle.cv_scenes.specs.Scenes.{Scene}
+use Rattle.cv_inline_walk.specs.Made.{IsMade}
 use Rattle.cv_steps_crypto.specs.Conditions.{equivalence_of, failure_of}
-use Rattle.cv_steps_crypto.specs.Steps.{Accepted, IsNextGame, IsOutcome, IsOutcomeBy, IsOutcomeOf, Outcome, Refused, TooDeep, TooLarge, is_next, reduction_of, told}
+use Rattle.cv_steps_crypto.specs.Steps.{Accepted, IsNextGame, IsOutcome, IsOutcomeBy, IsOutcomeOf, Outcome, Refused, TooDeep, TooLarge, is_next, reduction_of}
+use Rattle.cv_syntax_limits.specs.Limits.{nodes_of, told}
 use Rattle.cv_kernel_crypto.specs.declared.fault.CryptoFault.{CryptoFault}
 use Rattle.cv_kernel_crypto.specs.declared.fault.CryptoFault.TheVariants as crypto
-use Rattle.cv_kernel_crypto.specs.Applied.{IsContext, IsDrawn, IsFaultOf, nodes_of}
+use Rattle.cv_kernel_crypto.specs.Applied.{IsContext, IsDrawn, IsFaultOf}
 use Rattle.cv_kernel_crypto.specs.Faults.{IsRefused, of_pool}
-use Rattle.cv_kernel_crypto.specs.Stages.{IsBuilt, IsMade}
+use Rattle.cv_kernel_crypto.specs.Stages.{IsBuilt}
 
 -- the first condition that fails
 pub not_met : (limit live : ℕ) (s : Scene) (e x : ℕ) (f : CryptoFault) → IsRefused (failure_of s e x) f → IsFaultOf limit live s e x f
@@ -87,14 +90,13 @@ module _ (s : Scene) (e x : ℕ) (t : Tree) (named : equivalence_of s e ≡ Some
     is_drawn l m = record { equivalence = t; named = named; drawn = drawn; small = l; shallow = m }
 
     -- the next game isn't made, in a pool that got no more nodes than those of the context
-    pub not_made : (limit live more : ℕ) (trees : List KindTree) (f : CryptoFault) → more ≤ live + nodes_of context → IsMade limit more next trees (Err f) → IsFaultOf limit live s e x f
-    not_made limit live more trees (crypto.Refused f) l h = absurd h
-    not_made limit live more trees (crypto.Build (build.Nodes n)) l h = subst (λ k. IsOutcome s e x (TooLarge k)) (sym h.1) (large h.0)
-    not_made limit live more trees (crypto.Build (build.Depth n)) l h = subst (λ k. IsOutcome s e x (TooDeep k)) (sym h.2) (deep h.0 h.1)
-    not_made limit live more trees (crypto.Build (build.Full n)) l h =
+    pub not_made : (limit live more : ℕ) (trees : List KindTree) (f : BuildError) → more ≤ live + nodes_of context → IsMade limit more next trees (Err f) → IsFaultOf limit live s e x (crypto.Build f)
+    not_made limit live more trees (build.Nodes n) l h = subst (λ k. IsOutcome s e x (TooLarge k)) (sym h.1) (large h.0)
+    not_made limit live more trees (build.Depth n) l h = subst (λ k. IsOutcome s e x (TooDeep k)) (sym h.2) (deep h.0 h.1)
+    not_made limit live more trees (build.Full n) l h =
         let o = h.over in
         record { failure = met; context = context; made = is_context; full = inr (next, is_drawn h.small h.shallow, h.asks, omega (arith, o, l)) }
-    not_made limit live more trees (crypto.Build build.OutOfMemory) l h = tt
+    not_made limit live more trees build.OutOfMemory l h = tt
 
     -- it is made where both would have no room
     pub no_room : (limit live : ℕ) (f : PoolError) → size next ≤ 50000 → depth next ≤ 200 → ((n : ℕ) → f ≡ pool.Full n → (n ≡ nodes_of next) × (limit < live + nodes_of context + n)) → IsFaultOf limit live s e x (of_pool f)

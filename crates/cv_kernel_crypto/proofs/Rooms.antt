@@ -6,7 +6,7 @@ use Rattle.cv_syntax.specs.declared.make.Make.TheVariants.{Nothing, Over}
 use Rattle.cv_syntax.specs.Planting.{overs}
 use Rattle.cv_syntax.specs.Postorder.{postorder}
 use Rattle.cv_syntax.specs.Tree.{Tree, Empty, Node}
-use Rattle.cv_kernel_crypto.specs.Applied.{nodes_of}
+use Rattle.cv_syntax_limits.specs.Limits.{nodes_of}
 
 overs_both : (xs ys : List Make) → overs (xs ++ ys) ≡ overs xs + overs ys
 overs_both [] ys = omega arith

@@ -2,8 +2,6 @@
 use Rattle.std.specs.Prelude.{◌≡◌, ℕ, ◌+◌, ◌<◌, ◌≤◌, ◌⊎◌, List, None, Result, Ok, Err, Some}
 use Rattle.cv_pool.specs.KindTree.{KindTree}
 use Rattle.cv_syntax.specs.declared.work.BuildError.TheVariants as build
-use Rattle.cv_syntax.specs.Planting.{overs}
-use Rattle.cv_syntax.specs.Postorder.{postorder}
 use Rattle.cv_syntax.specs.Tree.{Tree, depth, size, tree_at}
 use Rattle.cv_bound.specs.declared.cost.Cost.TheVariants as bound
 use Rattle.cv_meaning.specs.Interpretation.{is_constant_of}
@@ -11,7 +9,7 @@ use Rattle.cv_group_rules.specs.Faults.{IsAccepted}
 use Rattle.cv_context_terms.specs.Forms.{HasLeftForm}
 use Rattle.cv_scenes.specs.Reductions.{context_of_game}
 use Rattle.cv_scenes.specs.Scenes.{Scene}
-use Rattle.cv_steps.specs.Judgements.{most_depth, most_nodes}
+use Rattle.cv_syntax_limits.specs.Limits.{most_depth, most_nodes, nodes_of}
 use Rattle.cv_steps_crypto.specs.Conditions.{equivalence_of, failure_of}
 use Rattle.cv_steps_crypto.specs.Steps.{IsNextGame, IsOutcome, reduction_of}
 use Rattle.cv_steps_crypto.specs.Steps as outcome
@@ -22,10 +20,6 @@ use Rattle.cv_kernel_crypto.specs.declared.fault.CryptoFault.TheVariants as cryp
 -- the equivalences of the file are accepted, and their left sides are in the grammar of files
 abbrev pub HasEquivalences : Scene → Type 0
 HasEquivalences s = (e : ℕ) (t : Tree) → equivalence_of s e ≡ Some t → HasLeftForm t × IsAccepted (is_constant_of s.declarations) t
-
--- how many nodes a tree takes in the pool
-abbrev pub nodes_of : Tree → ℕ
-nodes_of t = overs (postorder t)
 
 -- the context of a step
 pub record IsContext (s : Scene) (e x : ℕ) (context : Tree) : Type 0 where

@@ -3,8 +3,7 @@ use Rattle.std.specs.Prelude.{◌≡◌, ℕ, ◌+◌, ◌<◌, ◌≤◌, ◌^�
 use Rattle.std.specs.List.{All}
 use Rattle.cv_pool.specs.KindTree.{KindTree}
 use Rattle.cv_pool.specs.declared.node.NodeId.{NodeId}
-use Rattle.cv_syntax.specs.declared.work.BuildError.TheVariants as build
-use Rattle.cv_syntax.specs.Tree.{Tree, depth, size, tree_at}
+use Rattle.cv_syntax.specs.Tree.{Tree, size, tree_at}
 use Rattle.cv_meaning_contexts.specs.Groups.{Right, side_group}
 use Rattle.cv_match_patterns.specs.declared.site.Site.{Site}
 use Rattle.cv_context.specs.Roles.{AreSitesOf, IsLiveCall}
@@ -16,14 +15,13 @@ use Rattle.cv_inline_listing.specs.Callings.{callings_in}
 use Rattle.cv_inline_reductions.specs.Tables.{GivesNextGame, HasNamesBelow}
 use Rattle.cv_inline_terms.specs.Drawings.{drawn_in}
 use Rattle.cv_context_answers.specs.Drawn.{callings}
-use Rattle.cv_steps.specs.Judgements.{most_depth, most_nodes}
+use Rattle.cv_syntax_limits.specs.Limits.{nodes_of}
 use Rattle.cv_steps_crypto.specs.Conditions.{equivalence_of, failure_of}
-use Rattle.cv_steps_crypto.specs.Steps.{first_answer, told}
+use Rattle.cv_steps_crypto.specs.Steps.{first_answer}
 use Rattle.cv_kernel_crypto.specs.declared.fault.CryptoFault.{CryptoFault}
-use Rattle.cv_kernel_crypto.specs.declared.fault.CryptoFault.TheVariants as crypto
 use Rattle.cv_kernel_crypto.specs.declared.inlining.Inlining.{Inlining}
 use Rattle.cv_kernel_crypto.specs.declared.instances.Instances.{Instances}
-use Rattle.cv_kernel_crypto.specs.Applied.{IsContext, IsDrawn, IsFaultOf, nodes_of}
+use Rattle.cv_kernel_crypto.specs.Applied.{IsContext, IsDrawn, IsFaultOf}
 
 -- the step's conditions hold, and this is its equivalence
 pub record IsMet (trees : List KindTree) (s : Scene) (e x : ℕ) (i : Instances) : Type 0 where
@@ -60,29 +58,6 @@ pub record IsInlining (trees : List KindTree) (r : Reduction) (i : Inlining) : T
   pub callings : callings_in trees i.callings.items ≡ callings r
   pub drawn : GivesNextGame r (drawn_in i.drawing)
   pub key : (side_group Right r.equivalence).key ≡ i.right_key
-
--- a tree within the limits is made in a pool that had so many nodes
-pub record IsTreeAt (limit live : ℕ) (next : Tree) (trees : List KindTree) (root : NodeId) : Type 0 where
-  pub tree : tree_at trees (Some root) ≡ next
-  pub small : size next ≤ most_nodes
-  pub shallow : depth next ≤ most_depth
-  pub room : live + nodes_of next ≤ limit
-
--- there is no room for a tree within the limits
-pub record IsCrowded (limit live : ℕ) (next : Tree) (asked : ℕ) : Type 0 where
-  pub small : size next ≤ most_nodes
-  pub shallow : depth next ≤ most_depth
-  pub asks : asked ≡ nodes_of next
-  pub over : limit < live + asked
-
--- a tree is made; or it passes a limit, or the pool has no room for it, or memory ran out
-abbrev pub IsMade : (limit live : ℕ) → (next : Tree) → List KindTree → Result NodeId CryptoFault → Type 0
-IsMade limit live next trees (Ok root) = IsTreeAt limit live next trees root
-IsMade limit live next trees (Err (crypto.Refused f)) = ⊥
-IsMade limit live next trees (Err (crypto.Build (build.Nodes count))) = (most_nodes < size next) × (count ≡ told (size next))
-IsMade limit live next trees (Err (crypto.Build (build.Depth deep))) = (size next ≤ most_nodes) × (most_depth < depth next) × (deep ≡ told (depth next))
-IsMade limit live next trees (Err (crypto.Build (build.Full asked))) = IsCrowded limit live next asked
-IsMade limit live next trees (Err (crypto.Build build.OutOfMemory)) = Unit {0}
 
 -- the context of a step and its next game are made, and take no more nodes than there is room for
 pub record IsBuiltAt (limit live : ℕ) (s : Scene) (e x : ℕ) (trees : List KindTree) (root : NodeId) : Type 0 where

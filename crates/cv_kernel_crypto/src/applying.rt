@@ -15,11 +15,12 @@ ghost use Rattle.cv_kernel_crypto.specs.Stages.{AreInstances, AreTakenNames, IsB
 
 use crate::contexts::context_for;
 use crate::fault::CryptoFault;
-use crate::inlining::{inlining_for, make};
+use crate::inlining::inlining_for;
 use crate::instances::{Instances, instances_for};
 use crate::naming::names_for;
 use crate::room::{check_room, room_behind};
 use crate::testing::tested;
+use cv_inline_walk::next_game;
 use cv_kernel_costs::advantage;
 use cv_kernel_games::{Next, settle, settle_names};
 use cv_syntax::{NodeId, Work};
@@ -64,7 +65,15 @@ fn build(
         context,
         taken,
     )?;
-    let root = make(alloc, &mut work.pool, key, &inlining, context)?;
+    let root = next_game(
+        alloc,
+        &mut work.pool,
+        &inlining.drawing,
+        key,
+        inlining.right_key,
+        inlining.callings.as_slice(),
+        context,
+    )?;
     check_room(&mut work.pool, room, root)?;
     Ok(root)
 }

@@ -7,7 +7,7 @@ ghost use Rattle.cv_scenes.specs.Reductions.{context_of_game};
 ghost use Rattle.cv_context.specs.Roles.{AreSitesOf, IsLiveCall, name_at};
 ghost use Rattle.cv_context_answers.specs.Answers.{above_names};
 ghost use Rattle.cv_steps_crypto.specs.Steps.{first_answer, reduction_of};
-ghost use Rattle.cv_kernel_crypto.specs.Applied.{nodes_of};
+ghost use Rattle.cv_syntax_limits.specs.Limits.{nodes_of};
 
 use crate::naming::FIRST_ANSWER;
 use cv_context::context;

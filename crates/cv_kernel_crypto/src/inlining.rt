@@ -1,29 +1,24 @@
-ghost use Rattle.std.specs.Prelude.{◌≡◌, ◌<◌, ◌^◌, ℕ, All, IfOk, List, OnErr, OnOk, Some, length, take};
-ghost use Rattle.cv_pool.specs.PoolView.{Grows};
+ghost use Rattle.std.specs.Prelude.{◌≡◌, ◌<◌, ◌^◌, ℕ, All, IfOk, List, OnOk, Some, length, take};
 ghost use Rattle.cv_syntax.specs.Declarations.{Declaration};
 ghost use Rattle.cv_syntax.specs.Tree.{Tree, size, tree_at};
-ghost use Rattle.cv_meaning_contexts.specs.Groups.{Group, Right, side_group};
+ghost use Rattle.cv_meaning_contexts.specs.Groups.{Right, side_group};
 ghost use Rattle.cv_scenes.specs.Reductions.{Reduction};
 ghost use Rattle.cv_context_answers.specs.Answers.{file_scene};
 ghost use Rattle.cv_context_answers.specs.Drawn.{callings};
 ghost use Rattle.cv_inline_callings.specs.RightFunctions.{HasRightFunctions};
 ghost use Rattle.cv_inline_callings.specs.Sites.{HasListedKeys};
 ghost use Rattle.cv_inline_listing.specs.Callings.{callings_in};
-ghost use Rattle.cv_inline_walk.specs.Steps.{AreLiveSites, next_tree};
+ghost use Rattle.cv_inline_measure.specs.Settings.{AreLiveSites};
 ghost use Rattle.cv_steps_crypto.specs.Steps.{first_answer, reduction_of};
-ghost use Rattle.cv_kernel_crypto.specs.Stages.{AreTakenNames, HasContext, IsInlining, IsMade};
+ghost use Rattle.cv_kernel_crypto.specs.Stages.{AreTakenNames, HasContext, IsInlining};
 
 use crate::contexts::functions_of;
-use crate::fault::CryptoFault;
 use crate::instances::Instances;
 use crate::naming::FIRST_ANSWER;
 use cv_inline_callings::callings_of;
 use cv_inline_drawing::draw;
-use cv_inline_measure::measure;
 use cv_inline_reductions::steps_of_files_have_drawn_tables;
 use cv_inline_terms::{Calling, Drawing};
-use cv_inline_walk::next_game;
-use cv_kernel_games::check_limits;
 use cv_syntax::children::{first_of, read_child, room_left, second_of};
 use cv_syntax::{Head, Names, NodeId, Pool};
 use std::alloc::{AllocError, Global};
@@ -126,46 +121,4 @@ pub(crate) fn inlining_for(
         drawing,
         right_key,
     })
-}
-
-/// Makes a next game, where it is within the limits and the pool has room for it.
-pub(crate) fn make(
-    alloc: Global,
-    pool: &mut Pool,
-    key: u32,
-    inlining: &Inlining,
-    context: NodeId,
-) -> Result<NodeId, CryptoFault>
-    requires context { context.0 < length pool.old.trees }
-    requires fits { size (tree_at pool.old.trees (Some context)) < 2 ^ 32 }
-    requires sites { AreLiveSites pool.old.trees inlining.now.callings.items }
-    ensures made { (g : Group) → g.key ≡ inlining.now.right_key →
-        IsMade pool.old.limit (length pool.old.trees)
-        (next_tree pool.old.trees inlining.now.drawing key inlining.now.callings.items g context)
-        pool.new.trees result }
-    ensures live { IfOk result (λ n. n.0 < length pool.new.trees) }
-    ensures grows { OnOk result (Grows pool.old pool.new) }
-    ensures kept { OnErr result (pool.new.trees ≡ pool.old.trees) }
-    ensures limit { pool.new.limit ≡ pool.old.limit }
-{
-    let callings = inlining.callings.as_slice();
-    let extent = measure(
-        alloc,
-        pool,
-        &inlining.drawing,
-        inlining.right_key.0,
-        callings,
-        context,
-    )?;
-    check_limits(extent)?;
-    let root = next_game(
-        alloc,
-        pool,
-        &inlining.drawing,
-        key,
-        inlining.right_key,
-        callings,
-        context,
-    )?;
-    Ok(root)
 }

@@ -12,9 +12,9 @@ use Rattle.cv_syntax.specs.Classes.{IsNamed, IsNew, declaration_in}
 use Rattle.cv_names.specs.declared.names.NameId.{NameId}
 use Rattle.cv_pool.specs.declared.node.NodeId.{NodeId}
 use Rattle.cv_parse_grammar.specs.Identities.{AreDistinct, is_among}
-use Rattle.cv_parse_declarations.specs.declared.heard.Heard.{Heard}
-use Rattle.cv_parse_declarations.specs.declared.heard.Heard.TheVariants as heard
-use Rattle.cv_parse_declarations.specs.Declares.{is_of_name}
+use Rattle.cv_parse_signature.specs.declared.heard.Heard.{Heard}
+use Rattle.cv_parse_signature.specs.declared.heard.Heard.TheVariants as heard
+use Rattle.cv_parse_signature.specs.Declares.{is_of_name}
 use Rattle.cv_parse.specs.Declaring.{IsNameable, all_decls, decl_of, named_by, names_by, names_of}
 
 -- a declaration is of a name as far as it was heard so

@@ -1,7 +1,6 @@
 -- From the stages of reading a file to what it says, or what it is refused for.
 use Rattle.std.proofs.Common.{◌≡◌, ℕ, ◌+◌, ◌-◌, ◌<◌, ◌≤◌, true, false, Bool, nat_lt, if◌then◌else◌, List, ◌∷◌, ◌++◌, length, refl, ap, ap₂, subst, sym, ◌∙◌, arith, Option, Some, None, Result, Ok, Err}
 use Rattle.std.proofs.lemmas.Bool.Decides.{nat_tests}
-use Rattle.std.proofs.lemmas.Bool.{lt-ltb, le-ltb}
 use Rattle.std.specs.Prelude.{IsErrAnd}
 use Rattle.cv_pool.specs.KindTree.{KindTree}
 use Rattle.cv_syntax.specs.declared.decls.Decl.{Decl}
@@ -28,7 +27,8 @@ use Rattle.cv_parse.specs.declared.error.ParseError.{ParseError}
 use Rattle.cv_parse.specs.declared.error.ParseError.TheVariants.{Syntax, Nesting, NameTwice, NameUnknown, Build}
 use Rattle.cv_parse.specs.Building.{Builds, Crowds, IsBuilt, Misnames}
 use Rattle.cv_parse.specs.Faults.{of_read}
-use Rattle.cv_parse.specs.Parsed.{Parsed, ParsesIn, Refuses, held_in, limited, most_depth, most_nodes, of_name, of_outcome, parsed, range_of, roomed, said, sized, sized_first, weight_of}
+use Rattle.cv_parse.specs.Parsed.{Parsed, ParsesIn, Refuses, held_in, limited, of_name, of_outcome, parsed, range_of, roomed, said, sized, sized_first, weight_of}
+use Rattle.cv_syntax_limits.specs.Limits.{most_depth, most_nodes}
 use Rattle.cv_parse.specs.Weights.{asked, capped, parts_weight, tree_weight}
 use Rattle.cv_parse.proofs.Weighing.{declared-weight, tree-weight, weight-both}
 
@@ -169,29 +169,6 @@ module _ (limit : ℕ) (signs : List Sign) (r : Reading) (d : IsReading signs r)
 
 abbrev sized_by : Tree → Bool → Bool → Result (Unit {0}) ParseError
 sized_by t a b = if a then Err (Build (build.Nodes (capped (size t)))) else if b then Err (Build (build.Depth (capped (depth t)))) else Ok tt
-
-is_large : (t : Tree) (a b : Bool) → a ≡ true → sized_by t a b ≡ Err (Build (build.Nodes (capped (size t))))
-is_large t true b e = refl
-is_large t false b e = absurd (cc)
-
-is_deep : (t : Tree) (a b : Bool) → a ≡ false → b ≡ true → sized_by t a b ≡ Err (Build (build.Depth (capped (depth t))))
-is_deep t false true e f = refl
-is_deep t true b e f = absurd (cc)
-is_deep t false false e f = absurd (cc)
-
-is_small : (t : Tree) (a b : Bool) → a ≡ false → b ≡ false → sized_by t a b ≡ Ok tt
-is_small t false false e f = refl
-is_small t true b e f = absurd (cc)
-is_small t false true e f = absurd (cc)
-
-pub too_large : (t : Tree) (n : ℕ) → n ≡ capped (size t) → most_nodes < n → sized t ≡ Err (Build (build.Nodes n))
-too_large t n e l = is_large t (nat_lt most_nodes (size t)) (nat_lt most_depth (depth t)) (lt-ltb most_nodes (size t) (omega arith)) ∙ ap (λ m. let r : Result (Unit {0}) ParseError = Err (Build (build.Nodes m)) in r) (sym e)
-
-pub too_deep : (t : Tree) (n m : ℕ) → n ≡ capped (size t) → n ≤ most_nodes → m ≡ capped (depth t) → most_depth < m → sized t ≡ Err (Build (build.Depth m))
-too_deep t n m e l f k = is_deep t (nat_lt most_nodes (size t)) (nat_lt most_depth (depth t)) (le-ltb most_nodes (size t) (omega arith)) (lt-ltb most_depth (depth t) (omega arith)) ∙ ap (λ x. let r : Result (Unit {0}) ParseError = Err (Build (build.Depth x)) in r) (sym f)
-
-pub small_enough : (t : Tree) (n m : ℕ) → n ≡ capped (size t) → n ≤ most_nodes → m ≡ capped (depth t) → m ≤ most_depth → sized t ≡ Ok tt
-small_enough t n m e l f k = is_small t (nat_lt most_nodes (size t)) (nat_lt most_depth (depth t)) (le-ltb most_nodes (size t) (omega arith)) (le-ltb most_depth (depth t) (omega arith))
 
 few_by : (t : Tree) (a b : Bool) → nat_lt most_nodes (size t) ≡ a → sized_by t a b ≡ Ok tt → size t ≤ most_nodes
 few_by t false b e f = grind (arith, nat_tests)

@@ -6,9 +6,9 @@ use Rattle.cv_syntax.specs.declared.decls.Class.TheVariants.{TypeName}
 use Rattle.cv_names.specs.declared.names.NameId.{NameId}
 use Rattle.cv_pool.specs.declared.node.NodeId.{NodeId}
 use Rattle.cv_pool.specs.Nodes.{ChildBelow}
-use Rattle.cv_parse_declarations.specs.declared.heard.Heard.{Heard}
-use Rattle.cv_parse_declarations.specs.declared.heard.Heard.TheVariants as heard
-use Rattle.cv_parse_declarations.specs.Declares.{is_of_name}
+use Rattle.cv_parse_signature.specs.declared.heard.Heard.{Heard}
+use Rattle.cv_parse_signature.specs.declared.heard.Heard.TheVariants as heard
+use Rattle.cv_parse_signature.specs.Declares.{is_of_name}
 
 -- the declaration of `bool`, whose name is number 0
 abbrev pub bool_decl : Decl

@@ -8,6 +8,7 @@ use Rattle.cv_syntax.specs.declared.work.File.{File}
 use Rattle.cv_syntax.specs.declared.work.Work.{Work}
 use Rattle.cv_syntax.specs.Declarations.{Declaration, Named, declarations}
 use Rattle.cv_syntax.specs.Tree.{Tree, Empty, size, depth, tree_at}
+use Rattle.cv_syntax_limits.specs.Limits.{most_depth, most_nodes}
 use Rattle.cv_parse_notation.specs.declared.sign.Sign.{Sign}
 use Rattle.cv_parse_notation.specs.Reads.{Fault}
 use Rattle.cv_parse_notation.specs.Reads as fault
@@ -28,13 +29,6 @@ pub record Parsed : Type 0 where
 -- the type `bool`, which each file has: it is fixed and not large
 abbrev pub bool_type : Declaration
 bool_type = Named 0 (TypeName true false) Empty None
-
--- the limits of a game
-abbrev pub most_nodes : ℕ
-most_nodes = 50000
-
-abbrev pub most_depth : ℕ
-most_depth = 200
 
 abbrev pub sized : Tree → Result (Unit {0}) ParseError
 sized game =

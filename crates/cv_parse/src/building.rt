@@ -12,7 +12,8 @@ ghost use Rattle.cv_parse.specs.Weights.{asked as asked_for, parts_weight as wei
 use crate::declaring::declare_all;
 use crate::error::ParseError;
 use crate::weights::{asked, parts_weight};
-use cv_parse_declarations::{Heard, Reading};
+use cv_parse_declarations::Reading;
+use cv_parse_signature::Heard;
 use cv_syntax::{BuildError, Class, Decl, Decls, Make, NameId, NodeId, Pool, plant};
 use std::alloc::{AllocError, Global};
 

@@ -29,6 +29,17 @@ impl From<AllocError> for ParseError {
     }
 }
 
+impl From<BuildError> for ParseError {
+    ghost use Rattle.std.specs.Prelude.{◌≡◌};
+    ghost use Rattle.cv_parse.specs.declared.error.ParseError.TheVariants.{Build};
+
+    ghost from_gives = { λ fault e. e ≡ Build fault };
+
+    fn from(fault: BuildError) -> ParseError {
+        ParseError::Build(fault)
+    }
+}
+
 impl From<ReadError> for ParseError {
     ghost use Rattle.cv_parse.specs.Faults.{of_read};
     ghost use Rattle.std.specs.Prelude.{◌≡◌};

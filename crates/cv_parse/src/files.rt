@@ -18,6 +18,7 @@ use cv_parse_indices::{fill, measure};
 use cv_parse_notation::Sign;
 use cv_parse_terminals::signs;
 use cv_syntax::{Decls, File, Game, Make, Pool, Work};
+use cv_syntax_work::{empty_again, own_all_names};
 use std::alloc::{AllocError, Global};
 
 /// The parts of all trees of a file: those of its declarations, and behind them those of its game.
@@ -96,7 +97,7 @@ fn fill_work(alloc: Global, work: &mut Work, tokens: &Tokens) -> Result<File, Pa
 {
     let signs = signs(alloc, &mut work.names, tokens)?;
     let file = parse(alloc, &mut work.pool, &mut work.decls, &signs)?;
-    work.decls.set_own(work.names.len());
+    own_all_names(work);
     Ok(file)
 }
 
@@ -124,12 +125,11 @@ pub fn file(alloc: Global, work: &mut Work, tokens: &Tokens) -> Result<File, Par
     ensures no_trees { OnErr result (work.new.pool.trees ≡ []) }
 {
     let before = work.pool.mark();
+    let own = work.decls.own();
     match fill_work(alloc, work, tokens) {
         Ok(file) => Ok(file),
         Err(fault) => {
-            work.names.keep(0);
-            work.decls.keep(0);
-            work.pool.release(before);
+            empty_again(work, before, own);
             Err(fault)
         }
     }

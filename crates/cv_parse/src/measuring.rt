@@ -6,30 +6,16 @@ ghost use Rattle.cv_parse.specs.Measures.{IsExtent, depths_behind, depths_over, 
 ghost use Rattle.cv_parse.specs.Parsed.{Refuses, sized};
 
 use crate::ParseError;
-use cv_parse_indices::Extent;
-use cv_syntax::{BuildError, Head, Make};
+use cv_syntax::{Head, Make};
+use cv_syntax_limits::{Extent, check_limits};
 use std::alloc::{AllocError, Global};
-
-/// The most syntax nodes of a game, and of a path in it.
-const MOST_NODES: u32 = 50_000;
-
-const MOST_DEPTH: u32 = 200;
 
 /// Checks that a game of an extent is no larger than a game may be.
 pub fn check_size(extent: Extent) -> Result<(), ParseError>
     ensures small { (t : Tree) → IsExtent t extent → OnOk result (sized t ≡ Ok tt) }
     ensures large { (t : Tree) → IsExtent t extent → IfErr result (λ e. Refuses e (sized t)) }
 {
-    if extent.nodes > MOST_NODES {
-        return Err(ParseError::Build(BuildError::Nodes {
-            count: extent.nodes,
-        }));
-    }
-    if extent.depth > MOST_DEPTH {
-        return Err(ParseError::Build(BuildError::Depth {
-            depth: extent.depth,
-        }));
-    }
+    check_limits(extent)?;
     Ok(())
 }
 

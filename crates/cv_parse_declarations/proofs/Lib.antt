@@ -2,7 +2,6 @@ pub mod Begins
 pub mod Choices
 pub mod Correspondences
 pub mod Groups
-pub mod Listed
 pub mod Sequences
 pub mod Pieces
 pub mod Wholes

@@ -4,18 +4,18 @@ ghost use Rattle.cv_parse_notation.specs.Spells.{next_is, starts};
 ghost use Rattle.cv_parse_grammar.specs.Rules.{heads};
 ghost use Rattle.cv_parse_grammar.specs.Declarations.{collision_decl as collision_form, const_decl as const_form, declaration as declaration_form, equation_decl as equation_form, equiv_decl as equiv_form, event_decl as event_form, fun_decl as fun_form, query_decl as query_form, type_decl as type_form};
 ghost use Rattle.cv_parse_terms.specs.Gives.{read_in};
-ghost use Rattle.cv_parse_declarations.specs.Declares.{DeclareAll, Declares};
+ghost use Rattle.cv_parse_signature.specs.Declares.{Declares};
+ghost use Rattle.cv_parse_declarations.specs.Sequences.{DeclareAll};
 ghost use Rattle.cv_parse_declarations.specs.Choices.{ending, middle};
 
 use crate::collisions::collision_decl;
-use crate::equations::equation_decl;
 use crate::equivalences::equiv_decl;
-use crate::functions::fun_decl;
-use crate::heard::Heard;
-use crate::named::{channel_decl, const_decl, event_decl, param_decl, proba_decl};
 use crate::queries::query_decl;
-use crate::types::type_decl;
 use cv_parse_notation::{Mark, Sign};
+use cv_parse_signature::{
+    Heard, channel_decl, const_decl, equation_decl, event_decl, fun_decl, param_decl, proba_decl,
+    type_decl,
+};
 use cv_parse_terms::{ReadError, Trail, is_at, is_unnamed_at};
 use std::alloc::Global;
 

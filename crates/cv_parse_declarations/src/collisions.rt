@@ -6,13 +6,13 @@ ghost use Rattle.cv_parse_grammar.specs.Phrases.{vars as vars_form};
 ghost use Rattle.cv_parse_grammar.specs.Terms.{term as term_form};
 ghost use Rattle.cv_parse_grammar.specs.Declarations.{collision_decl as collision_form, collision_name as collision_name_form, forall_vars as forall_form, probability as probability_form};
 ghost use Rattle.cv_parse_terms.specs.Gives.{Gives, Makes, read_in};
-ghost use Rattle.cv_parse_declarations.specs.Declares.{Declares};
+ghost use Rattle.cv_parse_signature.specs.Declares.{Declares};
 ghost use Rattle.cv_parse_declarations.specs.Sides.{GivesBinders, MakesTerms, parts_before, parts_behind, parts_of_side};
 
 use crate::equivalences::probability;
-use crate::heard::Heard;
 use cv_parse_grammar::{Asked, Region, Role};
 use cv_parse_notation::{Mark, Sign};
+use cv_parse_signature::Heard;
 use cv_parse_terms::{
     NameUse, Pair, ReadError, Trail, expect, is_at, make_binders, note, pair_row, term, typed,
     unnamed, word,

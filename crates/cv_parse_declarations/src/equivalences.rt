@@ -6,13 +6,13 @@ ghost use Rattle.cv_parse_grammar.specs.Phrases.{LeftFunction, RightFunction, br
 ghost use Rattle.cv_parse_grammar.specs.Equivalences.{group as group_form};
 ghost use Rattle.cv_parse_grammar.specs.Declarations.{equiv_decl as equiv_form, probability as probability_form};
 ghost use Rattle.cv_parse_terms.specs.Gives.{Gives, read_in};
-ghost use Rattle.cv_parse_declarations.specs.Declares.{Declares};
+ghost use Rattle.cv_parse_signature.specs.Declares.{Declares};
 ghost use Rattle.cv_parse_declarations.specs.Sides.{MakesSides};
 
-use crate::heard::Heard;
 use cv_parse_grammar::{Asked, Region, Role};
 use cv_parse_notation::{Mark, Sign};
 use cv_parse_processes::{Side, group};
+use cv_parse_signature::Heard;
 use cv_parse_terms::{NameUse, ReadError, Trail, expect, note, open, word};
 use cv_syntax::{Head, Make};
 use std::alloc::Global;

@@ -5,15 +5,9 @@
 mod blocks;
 mod choice;
 mod collisions;
-mod equations;
 mod equivalences;
 mod file;
-mod functions;
-mod heard;
-mod named;
 mod queries;
-mod types;
 
 pub use choice::{begins_decl, decls};
 pub use file::{Reading, read};
-pub use heard::Heard;

@@ -11,11 +11,11 @@ ghost use Rattle.cv_parse_grammar.specs.Terms.{arguments as arguments_form, equa
 ghost use Rattle.cv_parse_grammar.specs.Rules.{heads};
 ghost use Rattle.cv_parse_grammar.specs.Declarations.{correspondence as correspondence_form, event as event_form, happens as happens_form, query_decl as query_form, secrecy as secrecy_form};
 ghost use Rattle.cv_parse_terms.specs.Gives.{Makes, MakesRow, MakesWith, read_in};
-ghost use Rattle.cv_parse_declarations.specs.Declares.{Declares};
+ghost use Rattle.cv_parse_signature.specs.Declares.{Declares};
 
-use crate::heard::Heard;
 use cv_parse_grammar::{Asked, Region, Role};
 use cv_parse_notation::{Mark, Sign};
+use cv_parse_signature::Heard;
 use cv_parse_terms::{
     ReadError, Trail, arguments, close_chain, equality, expect, is_at, is_word_at, leaf, note,
     vars, word,

@@ -10,4 +10,4 @@ mod sites;
 mod writing;
 
 pub use filling::fill;
-pub use measuring::{Extent, measure};
+pub use measuring::measure;

@@ -11,17 +11,11 @@ use crate::current::Current;
 use crate::reads::index_count;
 use crate::sites::first_sites;
 use cv_syntax::{Head, Make};
+use cv_syntax_limits::Extent;
 use std::alloc::{AllocError, Global};
 use std::collections::HashMap;
 
-/// How many syntax nodes a tree has, and how many its longest path has.
-#[derive(Clone, Copy, Debug, PartialEq, Eq)]
-pub struct Extent {
-    pub nodes: u32,
-    pub depth: u32,
-}
-
-/// The same of one part.
+/// How many syntax nodes one part has, and how many its longest path has.
 #[derive(Clone, Copy, Debug, PartialEq, Eq)]
 struct Weight {
     nodes: usize,

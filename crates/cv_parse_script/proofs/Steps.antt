@@ -31,7 +31,8 @@ use Rattle.cv_script_rows.specs.Rows.{script_rows, step_row}
 use Rattle.cv_script.specs.declared.steps.Step.{Step}
 use Rattle.cv_parse_script.specs.declared.error.ScriptError.{ScriptError}
 use Rattle.cv_parse_script.specs.declared.error.ScriptError.TheVariants.{Script, Unbuilt, Build}
-use Rattle.cv_parse_script.specs.Scripts.{ReadsScript, Refuses, begins_step, to_end, items, nodes_of, of_read, read_row, with_room, script_of, stop_at, trees_of}
+use Rattle.cv_parse_script.specs.Scripts.{ReadsScript, Refuses, begins_step, to_end, items, of_read, read_row, with_room, script_of, stop_at, trees_of}
+use Rattle.cv_syntax_limits.specs.Limits.{nodes_of}
 use Rattle.cv_parse_script.specs.Stages.{Crowds, IsScript, at_token}
 use Rattle.cv_parse_script.specs.Trees.{in_room, of_whole, script_nodes, script_tree, whole}
 

@@ -3,9 +3,8 @@ use Rattle.std.specs.Prelude.{◌≡◌, ℕ, ◌+◌, ◌-◌, nat_lt, Bool, if
 use Rattle.cv_lex.specs.Lexis.{Token}
 use Rattle.cv_pool.specs.KindTree.{KindTree}
 use Rattle.cv_syntax.specs.declared.work.BuildError.TheVariants.{Full, OutOfMemory}
-use Rattle.cv_syntax.specs.Planting.{overs}
-use Rattle.cv_syntax.specs.Postorder.{postorder}
 use Rattle.cv_syntax.specs.Tree.{Tree, Empty, Node, tree_at}
+use Rattle.cv_syntax_limits.specs.Limits.{nodes_of}
 use Rattle.std.specs.declared.vec.Vec.{Vec}
 use Rattle.std.specs.declared.alloc.Global.{Global}
 use Rattle.cv_parse_terminals.specs.ScriptSigns.{between, script_signs}
@@ -45,10 +44,6 @@ of_fault end (fault.Nesting left) = Script (end - left)
 abbrev pub items : Tree → List Tree
 items Empty = []
 items (Node h a b) = a ∷ items b
-
--- how many nodes of a pool a tree takes
-abbrev pub nodes_of : Tree → ℕ
-nodes_of t = overs (postorder t)
 
 -- the steps, where a pool with so many nodes and this limit has room for them
 abbrev pub with_room : (limit live : ℕ) → Tree → Result (List Tree) ScriptError

@@ -7,7 +7,8 @@ use Rattle.cv_parse_notation.specs.declared.sign.Sign.{Sign}
 use Rattle.cv_parse_notation.specs.Reads.{Read}
 use Rattle.cv_parse_grammar.specs.declared.role.Role.{Role}
 use Rattle.cv_parse_script.specs.declared.error.ScriptError.{ScriptError}
-use Rattle.cv_parse_script.specs.Scripts.{nodes_of, of_fault, read_row, stop_at, with_room}
+use Rattle.cv_parse_script.specs.Scripts.{of_fault, read_row, stop_at, with_room}
+use Rattle.cv_syntax_limits.specs.Limits.{nodes_of}
 
 -- a script that ends with its tokens
 abbrev pub whole : (end : ℕ) → Tree → List Sign → Result Tree ScriptError

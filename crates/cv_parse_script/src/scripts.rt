@@ -2,7 +2,8 @@ ghost use Rattle.std.specs.Prelude.{◌≡◌, ◌+◌, ◌<◌, ◌≤◌, ◌^
 ghost use Rattle.cv_pool.specs.PoolView.{Grows};
 ghost use Rattle.cv_parse_terminals.specs.ScriptSigns.{between, script_signs as signs_of_script};
 ghost use Rattle.cv_script_rows.specs.Rows.{built_script_row, script_row};
-ghost use Rattle.cv_parse_script.specs.Scripts.{ReadsScript, nodes_of, script_of as script_by, script_read, trees_of};
+ghost use Rattle.cv_parse_script.specs.Scripts.{ReadsScript, script_of as script_by, script_read, trees_of};
+ghost use Rattle.cv_syntax_limits.specs.Limits.{nodes_of};
 ghost use Rattle.cv_parse_script.specs.Trees.{script_nodes};
 ghost use Rattle.cv_syntax.specs.Tree.{tree_at};
 

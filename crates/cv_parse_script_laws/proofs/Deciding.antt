@@ -19,7 +19,8 @@ use Rattle.cv_parse_grammar.specs.Phrases.{Sort}
 use Rattle.cv_parse_grammar.specs.Rules.{rule}
 use Rattle.cv_parse_tables.specs.Table.{Nowhere, OfFiles, Row, TableSort, carried, table_heads, table_rule}
 use Rattle.cv_script_rows.specs.Rows.{script_row, script_rows}
-use Rattle.cv_parse_script.specs.Scripts.{begins_step, to_end, items, nodes_of, of_read, read_row, with_room, script_of, stop_at}
+use Rattle.cv_parse_script.specs.Scripts.{begins_step, to_end, items, of_read, read_row, with_room, script_of, stop_at}
+use Rattle.cv_syntax_limits.specs.Limits.{nodes_of}
 use Rattle.cv_parse_script.specs.declared.error.ScriptError.{ScriptError}
 use Rattle.cv_parse_script.specs.declared.error.ScriptError.TheVariants.{Build, Script, Unbuilt}
 use Rattle.cv_parse_script_laws.specs.Scripts.{IsScript, IsSomeScript, Takes, script_form}

@@ -14,7 +14,8 @@ use Rattle.cv_parse_grammar.specs.Files.{levels}
 use Rattle.cv_parse_grammar.specs.Names.{Uses}
 use Rattle.cv_parse_tables.specs.Table.{Row, table_heads, table_rule}
 use Rattle.cv_script_rows.specs.Rows.{script_rows}
-use Rattle.cv_parse_script.specs.Scripts.{items as items_of, nodes_of, of_read, read_row, script_of, to_end, with_room}
+use Rattle.cv_parse_script.specs.Scripts.{items as items_of, of_read, read_row, script_of, to_end, with_room}
+use Rattle.cv_syntax_limits.specs.Limits.{nodes_of}
 use Rattle.cv_parse_script.specs.declared.error.ScriptError.{ScriptError}
 use Rattle.cv_parse_script.specs.declared.error.ScriptError.TheVariants.{Build}
 use Rattle.cv_parse_script_laws.proofs.Agreement.{reads_same, sorts_pass, sorts_same}

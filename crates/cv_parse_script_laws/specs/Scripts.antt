@@ -9,7 +9,8 @@ use Rattle.cv_parse_grammar.specs.declared.role.Role.{Role}
 use Rattle.cv_parse_grammar.specs.Files.{levels}
 use Rattle.cv_parse_tables.specs.Table.{Row, TableSort, table_heads, table_rule}
 use Rattle.cv_script_rows.specs.Rows.{script_row, script_rows}
-use Rattle.cv_parse_script.specs.Scripts.{items as items_of, nodes_of}
+use Rattle.cv_parse_script.specs.Scripts.{items as items_of}
+use Rattle.cv_syntax_limits.specs.Limits.{nodes_of}
 
 -- the form of a script
 abbrev pub script_form : Form Role TableSort Tree

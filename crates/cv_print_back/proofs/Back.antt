@@ -34,7 +34,8 @@ use Rattle.cv_syntax.specs.declared.work.BuildError.TheVariants.{Depth, Nodes}
 use Rattle.cv_parse.specs.declared.error.ParseError.{ParseError}
 use Rattle.cv_parse.specs.declared.error.ParseError.TheVariants.{Build}
 use Rattle.cv_parse.specs.Weights.{capped}
-use Rattle.cv_parse.specs.Parsed.{most_depth, most_nodes, sized}
+use Rattle.cv_parse.specs.Parsed.{sized}
+use Rattle.cv_syntax_limits.specs.Limits.{most_depth, most_nodes}
 use Rattle.cv_parse.specs.Games.{declared_before, game_of, nodes_of, of_reading, read_process, sized_first, unless}
 use Rattle.cv_parse.specs.Terms.{goes_on, names_by, names_within, of_term, roomed_term, stops, term_of}
 use Rattle.cv_print_back.specs.Texts.{IsGameBack, IsProperGame, IsProperTerm, IsTermBack}

@@ -16,7 +16,7 @@ use Rattle.cv_print_terminals.specs.Signs.{game_signs, term_signs}
 use Rattle.cv_print_terminals.specs.Told.{game_uses}
 use Rattle.cv_print_terminals.specs.Written.{IsWritten}
 use Rattle.cv_print_bytes.specs.Known.{AreNames, is_named}
-use Rattle.cv_parse.specs.Parsed.{most_depth, most_nodes}
+use Rattle.cv_syntax_limits.specs.Limits.{most_depth, most_nodes}
 use Rattle.cv_parse.specs.Games.{declared_before, game_read, nodes_of}
 use Rattle.cv_parse.specs.Terms.{names_behind, term_read}
 

@@ -4,7 +4,8 @@ use Rattle.cv_syntax.specs.Tree.{Tree}
 use Rattle.cv_parse_notation.specs.Spells.{IsSort}
 use Rattle.cv_parse_terminals.specs.ScriptSigns.{script_signs}
 use Rattle.cv_parse_grammar.specs.Files.{levels}
-use Rattle.cv_parse_script.specs.Scripts.{items, nodes_of}
+use Rattle.cv_parse_script.specs.Scripts.{items}
+use Rattle.cv_syntax_limits.specs.Limits.{nodes_of}
 use Rattle.cv_parse_script_laws.proofs.Deciding.{one_script, takes}
 use Rattle.cv_script_rows.specs.Rows.{script_row, script_rows}
 use Rattle.cv_print_steps.specs.Shown.{Words}

@@ -11,7 +11,8 @@ use Rattle.cv_parse_notation.specs.declared.sign.Sign.{Sign}
 use Rattle.cv_parse_grammar.specs.Files.{levels}
 use Rattle.cv_parse_terminals.specs.ScriptSigns.{between, script_signs}
 use Rattle.cv_parse_tables.specs.Trees.{all_of, single}
-use Rattle.cv_parse_script.specs.Scripts.{items as items_of, nodes_of, script_of, script_read}
+use Rattle.cv_parse_script.specs.Scripts.{items as items_of, script_of, script_read}
+use Rattle.cv_syntax_limits.specs.Limits.{nodes_of}
 use Rattle.cv_parse_script_laws.proofs.Agreement.{sorts_pass}
 use Rattle.cv_print_bytes.specs.Known.{AreNames}
 use Rattle.cv_print_bytes.proofs.Files.{names_of_script}

@@ -2,7 +2,7 @@
 use Rattle.std.specs.Prelude.{◌≡◌, ℕ, suc, ◌+◌, ◌≤◌, true, List, [], ◌∷◌, ◌++◌, codes}
 use Rattle.cv_syntax.specs.Tree.{Tree, chain}
 use Rattle.cv_parse_grammar.specs.Files.{levels}
-use Rattle.cv_parse_script.specs.Scripts.{nodes_of}
+use Rattle.cv_syntax_limits.specs.Limits.{nodes_of}
 use Rattle.cv_print_scripts.specs.Known.{is_known}
 use Rattle.cv_print_scripts.specs.Texts.{FitsIn}
 use Rattle.cv_print_script_back.specs.Back.{ComesBack}

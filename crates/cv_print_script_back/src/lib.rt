@@ -4,7 +4,8 @@
 ghost use Rattle.std.specs.Prelude.{◌≡◌, ◌+◌, ◌≤◌, ℕ, suc, true, List, [], ◌∷◌, ◌++◌, length, codes, ◌<◌, ◌^◌, Ok};
 ghost use Rattle.cv_syntax.specs.Tree.{Tree, chain};
 ghost use Rattle.cv_parse_grammar.specs.Files.{levels};
-ghost use Rattle.cv_parse_script.specs.Scripts.{items, nodes_of, script_read};
+ghost use Rattle.cv_parse_script.specs.Scripts.{items, script_read};
+ghost use Rattle.cv_syntax_limits.specs.Limits.{nodes_of};
 ghost use Rattle.cv_print_bytes.specs.Known.{AreNames};
 ghost use Rattle.cv_print_scripts.specs.Known.{is_known};
 ghost use Rattle.cv_print_scripts.specs.Texts.{FitsIn, IsUnambiguous};

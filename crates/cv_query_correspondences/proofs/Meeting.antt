@@ -22,7 +22,8 @@ use Rattle.cv_meaning_adequacy.specs.Typed.{IsTypedStore}
 use Rattle.cv_meaning_adequacy.proofs.Sorted.{typed_value}
 use Rattle.cv_directory.specs.declared.sort.Sort.{Sort}
 use Rattle.cv_directory.specs.declared.sort.Sort.TheVariants.{BelowParameter, OfType}
-use Rattle.cv_typing.specs.Signature.{same_sort, sort_of}
+use Rattle.cv_typing.specs.Signature.{sort_of}
+use Rattle.cv_directory.specs.Sorts.{same_sort}
 use Rattle.cv_typing_runs.specs.Games.{context_of, sort_of_meaning}
 use Rattle.cv_typing_runs.proofs.Models.{is_model}
 use Rattle.cv_typing_runs.proofs.Terms.{nil_empty}

@@ -8,7 +8,8 @@ use Rattle.cv_meaning.specs.Interpretation.{is_constant_of}
 use Rattle.cv_directory.specs.declared.sort.Sort.{Sort}
 use Rattle.cv_directory.specs.declared.sort.Sort.TheVariants.{BelowParameter}
 use Rattle.cv_directory.specs.Sites.{first_site, first_index}
-use Rattle.cv_typing.specs.Signature.{Signature, Above, boolean, same_sort, function_in, sort_of}
+use Rattle.cv_typing.specs.Signature.{Signature, Above, boolean, function_in, sort_of}
+use Rattle.cv_directory.specs.Sorts.{same_sort}
 use Rattle.cv_typing.specs.Wants.{AnyTerm, bound}
 use Rattle.cv_typing.specs.declared.precedence.Precedence.TheVariants.{First}
 use Rattle.cv_typing.specs.Typing as typing

@@ -1,10 +1,11 @@
 -- What is learned on the way into a second child.
-use Rattle.std.proofs.Common.{◌≡◌, ℕ, Bool, true, false, cond, List, [], ◌∷◌, ◌++◌, length, take, refl, ap, sym, ◌∙◌, subst, append-nil, append_assoc, Result, Ok, Err, OnOk}
+use Rattle.std.proofs.Common.{◌≡◌, ℕ, Bool, true, false, cond, List, [], ◌∷◌, ◌++◌, length, take, refl, ap, sym, ◌∙◌, subst, append-nil, append_assoc, Some, None, Result, Ok, Err, OnOk}
 use Rattle.std.proofs.lemmas.Result.{IfOk-weaker}
 use Rattle.cv_pool.specs.KindTree.{KindTree}
 use Rattle.cv_syntax.specs.declared.head.Head.{Head}
 use Rattle.cv_syntax.specs.declared.head.Head.TheVariants.{Repl, In, New, Let, Find, Branch, Cons, Key, Call}
 use Rattle.cv_syntax.specs.Tree.{Tree}
+use Rattle.cv_scope_heads.specs.Heads.{variable_of}
 use Rattle.cv_scope.specs.declared.position.Position.{Position}
 use Rattle.cv_scope.specs.declared.state.State.{State}
 use Rattle.cv_scope.specs.Context.{replications_below}
@@ -104,21 +105,37 @@ module _ (trees : List KindTree) (s r : State) (w : Position) (h : Head) (a : Tr
       (ap (λ (z : State). z.passed) e ∙ (sym (append-nil s.passed) ∙ ap (λ k. s.passed ++ passed_by w k p q) (sym eh)))
       (ap (λ (z : State). z.last) e) (subst (AreListed trees) (sym same) live)
 
+-- a head that defines a variable by itself makes its cell known, and nothing else
+abbrev pub DefinesOne : List (ℕ × ℕ) → Position → Head → Tree → ℕ → ℕ → ℕ → Type 0
+DefinesOne rs w h a p q x = (replications_below h rs ≡ rs) × (defined_by h a ≡ x ∷ []) × (listed_by w h a ≡ []) × (passed_by w h p q ≡ [])
+
+pub defining-head : (rs : List (ℕ × ℕ)) (w : Position) (h : Head) (a : Tree) (p q x : ℕ) → variable_of h ≡ Some x → DefinesOne rs w h a p q x
+defining-head rs w (New y T) a p q x e = (refl, cc, refl, refl)
+defining-head rs w (Let y T) a p q x e = (refl, cc, refl, refl)
+defining-head rs w (Key y) a p q x e = (refl, cc, refl, refl)
+defining-head rs w (Call y l) a p q x e = (refl, cc, refl, refl)
+defining-head rs w h a p q x e = absurd (cc)
+
+pub variable-entered : (trees : List KindTree) (s r : State) (w : Position) (h : Head) (a : Tree) (p q x : ℕ) → variable_of h ≡ Some x → AreListed trees s.listed → DefinesOnly s r (with_definition s.defined (x, length s.replications.items)) → IsEntered trees s r w h a p q
+variable-entered trees s r w h a p q x e live d =
+    let one = defining-head s.replications.items w h a p q x e in
+    defines-entered trees s r w h a p q live one.0 one.2 one.3 (subst (λ l. DefinesOnly s r (with_definitions s.defined (length s.replications.items) l)) (sym one.1) d)
+
 -- a head that makes nothing known
 abbrev pub IsPlain : List (ℕ × ℕ) → Position → Head → Tree → ℕ → ℕ → Type 0
 IsPlain rs w h a p q = (replications_below h rs ≡ rs) × (defined_by h a ≡ []) × (listed_by w h a ≡ []) × (passed_by w h p q ≡ [])
 
-pub plain-head : (rs : List (ℕ × ℕ)) (w : Position) (h : Head) (a : Tree) (p q : ℕ) → ((i n : ℕ) → h ≡ Repl i n → ⊥) → ((c : ℕ) → h ≡ In c → ⊥) → ((x T : ℕ) → h ≡ New x T → ⊥) → ((x T : ℕ) → h ≡ Let x T → ⊥) → ((x : ℕ) → h ≡ Key x → ⊥) → ((x l : ℕ) → h ≡ Call x l → ⊥) → ((l : ℕ) → h ≡ Find l → ⊥) → (h ≡ Branch → ⊥) → (h ≡ Cons → ⊥) → IsPlain rs w h a p q
-plain-head rs w (Repl i n) a p q m i' k l y z f b c = absurd (m i n refl)
-plain-head rs w (In d) a p q m i k l y z f b c = absurd (i d refl)
-plain-head rs w (New x T) a p q m i k l y z f b c = absurd (k x T refl)
-plain-head rs w (Let x T) a p q m i k l y z f b c = absurd (l x T refl)
-plain-head rs w (Key x) a p q m i k l y z f b c = absurd (y x refl)
-plain-head rs w (Call x j) a p q m i k l y z f b c = absurd (z x j refl)
-plain-head rs w (Find x) a p q m i k l y z f b c = absurd (f x refl)
-plain-head rs w Branch a p q m i k l y z f b c = absurd (b refl)
-plain-head rs w Cons a p q m i k l y z f b c = absurd (c refl)
-plain-head rs w h a p q m i k l y z f b c = (refl, refl, refl, refl)
+pub plain-head : (rs : List (ℕ × ℕ)) (w : Position) (h : Head) (a : Tree) (p q : ℕ) → variable_of h ≡ None → ((i n : ℕ) → h ≡ Repl i n → ⊥) → ((c : ℕ) → h ≡ In c → ⊥) → ((l : ℕ) → h ≡ Find l → ⊥) → (h ≡ Branch → ⊥) → (h ≡ Cons → ⊥) → IsPlain rs w h a p q
+plain-head rs w (Repl i n) a p q v m i' f b c = absurd (m i n refl)
+plain-head rs w (In d) a p q v m i f b c = absurd (i d refl)
+plain-head rs w (New x T) a p q v m i f b c = absurd (cc)
+plain-head rs w (Let x T) a p q v m i f b c = absurd (cc)
+plain-head rs w (Key x) a p q v m i f b c = absurd (cc)
+plain-head rs w (Call x j) a p q v m i f b c = absurd (cc)
+plain-head rs w (Find x) a p q v m i f b c = absurd (f x refl)
+plain-head rs w Branch a p q v m i f b c = absurd (b refl)
+plain-head rs w Cons a p q v m i f b c = absurd (c refl)
+plain-head rs w h a p q v m i f b c = (refl, refl, refl, refl)
 
 pub plain-entered : (trees : List KindTree) (s : State) (w : Position) (h : Head) (a : Tree) (p q : ℕ) → AreListed trees s.listed → IsPlain s.replications.items w h a p q → IsEntered trees s s w h a p q
 plain-entered trees s w h a p q live e =

@@ -1,5 +1,5 @@
 -- Listed cells by their numbers.
-use Rattle.std.proofs.Common.{◌≡◌, ℕ, zero, suc, ◌+◌, ◌<◌, ◌≤◌, Bool, true, false, ◌||◌, ◌⊎◌, inl, inr, List, [], ◌∷◌, ◌++◌, length, take, drop, refl, ap, ap₂, sym, ◌∙◌, arith, subst, Option, Some, None, nat_eq, eqb-true, get_or, map}
+use Rattle.std.proofs.Common.{◌≡◌, ℕ, zero, suc, ◌+◌, ◌<◌, ◌≤◌, Bool, true, false, ◌||◌, ◌⊎◌, inl, inr, List, [], ◌∷◌, ◌++◌, length, take, drop, refl, ap, sym, ◌∙◌, arith, subst, Option, Some, None, nat_eq, eqb-true, get_or}
 use Rattle.std.specs.List.{list_any}
 use Rattle.std.specs.HashMap.{get, IsUnchanged, Updates}
 use Rattle.std.specs.Map.{lookup}

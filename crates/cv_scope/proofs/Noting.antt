@@ -8,6 +8,7 @@ use Rattle.cv_syntax.specs.declared.head.Head.TheVariants.{In, New, Let, Find, B
 use Rattle.cv_syntax.specs.Tree.{Tree, tree_at}
 use Rattle.cv_meaning.specs.Binders.{bound_names}
 use Rattle.cv_syntax.proofs.Trees.{tree_at-None}
+use Rattle.cv_scope_heads.specs.Heads.{variable_of}
 use Rattle.cv_scope.specs.declared.lasts.LastSite.{LastSite}
 use Rattle.cv_scope.specs.declared.lasts.Lasts.{Lasts}
 use Rattle.cv_scope.specs.declared.state.State.{State}
@@ -61,15 +62,15 @@ pub above-again : (s r q : State) → SameAbove s r → SameAbove r q → SameAb
 above-again s r q a b = record { replications = b.replications ∙ a.replications; defined = b.defined ∙ a.defined; listed = b.listed ∙ a.listed; passed = b.passed ∙ a.passed }
 
 -- heads without sites
-pub no-named : (rs : List (ℕ × ℕ)) (p : ℕ) (h : Head) (a : Tree) → ((x T : ℕ) → h ≡ New x T → ⊥) → ((x T : ℕ) → h ≡ Let x T → ⊥) → ((x : ℕ) → h ≡ Key x → ⊥) → ((x l : ℕ) → h ≡ Call x l → ⊥) → ((c : ℕ) → h ≡ In c → ⊥) → (h ≡ Branch → ⊥) → ((l : ℕ) → h ≡ Find l → ⊥) → named_here rs p h a ≡ []
-no-named rs p (New x T) a n l y z i b f = absurd (n x T refl)
-no-named rs p (Let x T) a n l y z i b f = absurd (l x T refl)
-no-named rs p (Key x) a n l y z i b f = absurd (y x refl)
-no-named rs p (Call x m) a n l y z i b f = absurd (z x m refl)
-no-named rs p (In c) a n l y z i b f = absurd (i c refl)
-no-named rs p Branch a n l y z i b f = absurd (b refl)
-no-named rs p (Find m) a n l y z i b f = absurd (f m refl)
-no-named rs p h a n l y z i b f = refl
+pub no-named : (rs : List (ℕ × ℕ)) (p : ℕ) (h : Head) (a : Tree) → variable_of h ≡ None → ((c : ℕ) → h ≡ In c → ⊥) → (h ≡ Branch → ⊥) → ((l : ℕ) → h ≡ Find l → ⊥) → named_here rs p h a ≡ []
+no-named rs p (New x T) a n i b f = absurd (cc)
+no-named rs p (Let x T) a n i b f = absurd (cc)
+no-named rs p (Key x) a n i b f = absurd (cc)
+no-named rs p (Call x m) a n i b f = absurd (cc)
+no-named rs p (In c) a n i b f = absurd (i c refl)
+no-named rs p Branch a n i b f = absurd (b refl)
+no-named rs p (Find m) a n i b f = absurd (f m refl)
+no-named rs p h a n i b f = refl
 
 pub no-channel : (rs : List (ℕ × ℕ)) (p : ℕ) (h : Head) (a : Tree) → ((c : ℕ) → h ≡ In c → ⊥) → channel_here rs p h a ≡ []
 no-channel rs p (In c) a i = absurd (i c refl)

@@ -1,10 +1,6 @@
 -- Equality of trees as a test.
-use Rattle.std.proofs.Common.{◌≡◌, true, refl, subst}
-use Rattle.std.specs.Prelude.{◌==◌}
-use Rattle.std.proofs.lemmas.Bool.{and_from, eq-eqb}
-use Rattle.cv_syntax.specs.declared.head.Head.{Head}
-use Rattle.cv_syntax.specs.Head.{code, same_head}
-use Rattle.cv_syntax.specs.Tree.{Tree, Empty, Node, same_tree}
+use Rattle.std.proofs.Common.{◌≡◌, true, subst}
+use Rattle.cv_syntax.specs.Tree.{Tree, same_tree}
 use Rattle.cv_syntax.proofs.Equality.{same_tree_exact}
 use Rattle.cv_syntax.proofs.Sames.{same_tree-self}
 

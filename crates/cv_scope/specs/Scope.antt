@@ -1,9 +1,7 @@
 -- Array scope: each node of a game obeys the rules; else the first node in preorder that does not.
-use Rattle.std.specs.Prelude.{◌≡◌, ◌≤◌, ◌||◌, ◌==◌, ℕ, Bool, false, List, [], Option, Some, None, is_some}
-use Rattle.cv_syntax.specs.declared.head.Head.{Head}
-use Rattle.cv_syntax.specs.declared.head.Head.TheVariants.{Key, Call}
+use Rattle.std.specs.Prelude.{◌||◌, ℕ, Bool, List, [], Option, is_some}
 use Rattle.cv_syntax.specs.Declarations.{Declaration}
-use Rattle.cv_syntax.specs.Tree.{Tree, Empty, Node}
+use Rattle.cv_syntax.specs.Tree.{Tree}
 use Rattle.cv_meaning.specs.Interpretation.{is_constant_of}
 use Rattle.cv_directory.specs.Sites.{first_site}
 unfoldable pub use Rattle.cv_directory.specs.Sites.{is_untyped_in}

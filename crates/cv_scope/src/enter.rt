@@ -11,6 +11,7 @@ ghost use Rattle.cv_scope.specs.Seen.{with_definition, with_definitions};
 use crate::binders::first_binder;
 use crate::position::Position;
 use crate::state::State;
+use cv_scope_heads::variable_of;
 use cv_syntax::children::second_of;
 use cv_syntax::{Head, NodeId, Pool, read_node};
 use std::alloc::AllocError;
@@ -141,14 +142,13 @@ impl State {
         ensures { OnOk result (IsEntered pool.now.trees self.old self.new position head
             (tree_at pool.now.trees first) from to) }
     {
+        if let Some(x) = variable_of(head) {
+            return self.define(x);
+        }
         match head {
             Head::Cons => self.enter_rest(pool, position, first, from, to),
             Head::Find(_) => self.passed.add(from, to),
             Head::Repl(i, n) => self.replicate(i, n),
-            Head::New(x, _) => self.define(x),
-            Head::Let(x, _) => self.define(x),
-            Head::Key(x) => self.define(x),
-            Head::Call(x, _) => self.define(x),
             Head::In(_) => self.define_all(pool, second_of(pool, first)),
             Head::Branch => self.define_all(pool, first),
             _ => Ok(()),

@@ -11,6 +11,7 @@ use crate::defined::Defined;
 use crate::lasts::{LastSite, Lasts};
 use crate::listed::Listed;
 use crate::passed::Passed;
+use cv_scope_heads::variable_of;
 use cv_syntax::children::second_of;
 use cv_syntax::{Head, NodeId, Pool};
 use std::alloc::{AllocError, Global};
@@ -140,11 +141,10 @@ impl State {
             → OnlySites pool.now.trees self.old self.new
             (named_here self.old.replications.items place head (tree_at pool.now.trees first))) }
     {
+        if let Some(x) = variable_of(head) {
+            return self.note_variable(alloc, pool, place, x);
+        }
         match head {
-            Head::New(x, _) => self.note_variable(alloc, pool, place, x),
-            Head::Let(x, _) => self.note_variable(alloc, pool, place, x),
-            Head::Key(x) => self.note_variable(alloc, pool, place, x),
-            Head::Call(x, _) => self.note_variable(alloc, pool, place, x),
             Head::In(_) => self.note_binders(alloc, pool, place, second_of(pool, first)),
             Head::Branch => self.note_binders(alloc, pool, place, first),
             Head::Find(l) => self.note_label(alloc, pool, place, l),

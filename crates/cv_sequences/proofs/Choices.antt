@@ -18,7 +18,8 @@ use Rattle.cv_directory.specs.declared.sort.Sort.{Sort}
 use Rattle.cv_directory.specs.declared.sort.Sort.TheVariants.{BelowParameter, OfType}
 use Rattle.cv_directory.specs.Sites.{Variable, sites_of}
 use Rattle.cv_typing.specs.Signature.{Above, OfGame, Signature, variable_sort}
-use Rattle.cv_typing.specs.Typing.{IsTyped, binders_differ, differs_from}
+use Rattle.cv_typing.specs.Typing.{IsTyped, binders_differ}
+use Rattle.cv_directory.specs.Sorts.{differs_from}
 use Rattle.cv_typing.specs.Wants.{Want, above_second, wants}
 use Rattle.cv_typing_runs.specs.Games.{AreDeclared, HasDeclaredSorts, sort_of_meaning}
 use Rattle.cv_typing_runs.proofs.SameSites.{input_binders}

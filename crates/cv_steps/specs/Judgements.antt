@@ -1,6 +1,7 @@
 -- What is said of a step in a game: its conditions in their order, and the limits of the next game. This profile's own.
 use Rattle.std.specs.Prelude.{ℕ, Bool, ◌&&◌, ◌||◌, nat_lt, if◌then◌else◌}
 use Rattle.cv_syntax.specs.Tree.{Tree, size, depth}
+use Rattle.cv_syntax_limits.specs.Limits.{most_depth, most_nodes}
 use Rattle.cv_scenes.specs.Scenes.{Scene, has_place, names, is_type}
 use Rattle.cv_steps.specs.Steps.{Step, Split, Let, New, Unnew, Rewrite, Prune, Cost}
 use Rattle.cv_scenes.specs.Terms.{is_term_at, is_game}
@@ -20,13 +21,6 @@ stands s (New p x T) = has_place s p && is_type s T
 stands s (Unnew x) = s.known x || names x s.game
 stands s (Rewrite p m by) = has_place s p && is_term_at s p m
 stands s (Prune p part by) = has_place s p
-
--- the limits of a game
-abbrev pub most_nodes : ℕ
-most_nodes = 50000
-
-abbrev pub most_depth : ℕ
-most_depth = 200
 
 -- condition 9 is that of the next game
 abbrev pub judgement_of_row : Scene → Row → Judgement

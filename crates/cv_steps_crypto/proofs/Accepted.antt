@@ -3,9 +3,9 @@ use Rattle.std.proofs.Common.{◌≡◌, ℕ, Bool, true, false, cond, nat_lt, L
 use Rattle.cv_syntax.specs.Declarations.{Declaration}
 use Rattle.cv_syntax.specs.Tree.{Tree, depth, size}
 use Rattle.cv_scenes.specs.Scenes.{Scene}
-use Rattle.cv_steps.specs.Judgements.{most_depth, most_nodes}
+use Rattle.cv_syntax_limits.specs.Limits.{most_depth, most_nodes, told}
 use Rattle.cv_steps_crypto.specs.Conditions.{Failure, equivalence_of, failure_of}
-use Rattle.cv_steps_crypto.specs.Steps.{Accepted, IsNextGame, IsOutcome, IsOutcomeBy, Refused, TooDeep, TooLarge, is_next, outcome_with, reduction_of, told}
+use Rattle.cv_steps_crypto.specs.Steps.{Accepted, IsNextGame, IsOutcome, IsOutcomeBy, Refused, TooDeep, TooLarge, is_next, outcome_with, reduction_of}
 
 -- a game that is within the limits and passes the test is the one that is accepted
 leads : (ds : List Declaration) (game next : Tree) → Accepted next ≡ outcome_with ds game → (game ≡ next) × (is_next ds game ≡ true)

@@ -1,7 +1,7 @@
 -- What is said of a cryptographic step: the first of its conditions that fails; and where none does, for the game that it leads to, with
 -- names and labels that are drawn for it, the limits and whether it is a game. Blanchet and Pointcheval, CRYPTO 2006; the limits and the
 -- numbers of the conditions are this profile's own.
-use Rattle.std.specs.Prelude.{◌≡◌, ℕ, ◌-◌, ◌^◌, Bool, ◌&&◌, not, is_some, min, nat_lt, if◌then◌else◌, List, Option, Some, None}
+use Rattle.std.specs.Prelude.{◌≡◌, ℕ, Bool, ◌&&◌, not, is_some, nat_lt, if◌then◌else◌, List, Option, Some, None}
 use Rattle.cv_syntax.specs.Declarations.{Declaration}
 use Rattle.cv_syntax.specs.Tree.{Tree, depth, size}
 use Rattle.cv_meaning.specs.Queries.{queries_in}
@@ -9,7 +9,7 @@ use Rattle.cv_query_form.specs.Tests.{first_refused}
 use Rattle.cv_scenes.specs.Reductions.{Reduction}
 use Rattle.cv_scenes.specs.Scenes.{Scene}
 use Rattle.cv_scenes.specs.Terms.{is_game}
-use Rattle.cv_steps.specs.Judgements.{most_depth, most_nodes}
+use Rattle.cv_syntax_limits.specs.Limits.{most_depth, most_nodes, told}
 use Rattle.cv_context_answers.specs.Answers.{answer_above}
 use Rattle.cv_context_answers.specs.Drawn.{AreDrawnFor, next_game}
 use Rattle.cv_steps_crypto.specs.Conditions.{Failure, equivalence_of, failure_of}
@@ -39,9 +39,6 @@ pub data Outcome : Type 0 where
   TooLarge : (nodes : ℕ) → Outcome
   TooDeep : (depth : ℕ) → Outcome
   Accepted : (next : Tree) → Outcome
-
-abbrev pub told : ℕ → ℕ
-told n = min n (2 ^ 32 - 1)
 
 abbrev pub outcome_with : List Declaration → (next : Tree) → Outcome
 outcome_with ds next =

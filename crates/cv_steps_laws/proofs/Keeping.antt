@@ -23,7 +23,8 @@ use Rattle.cv_steps.specs.Steps.{Step, Split, Let, New, Unnew, Rewrite, Prune, C
 use Rattle.cv_steps.specs.Changes.{change_at, split_process, after_let, after_new, without, only}
 use Rattle.cv_scenes.specs.Terms.{is_term_at, is_bool_at, is_there, names_anywhere, has_site, has_index, is_game}
 use Rattle.cv_steps.specs.Rows.{Row, Fails, Leads, unless, split_row, let_row, new_row, unnew_row, row_of}
-use Rattle.cv_steps.specs.Judgements.{Refused, TooLarge, TooDeep, Accepted, most_nodes, most_depth, stands, judgement_of_row, judgement_of}
+use Rattle.cv_steps.specs.Judgements.{Refused, TooLarge, TooDeep, Accepted, stands, judgement_of_row, judgement_of}
+use Rattle.cv_syntax_limits.specs.Limits.{most_depth, most_nodes}
 use Rattle.cv_steps.specs.Chances.{KeepsChances}
 use Rattle.cv_steps.proofs.Flat.{term_still}
 use Rattle.cv_steps.proofs.Pruned.{prune_leads, pruned_output}

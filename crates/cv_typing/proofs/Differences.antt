@@ -5,7 +5,8 @@ use Rattle.cv_syntax.specs.declared.head.Head.TheVariants.{Binder}
 use Rattle.cv_syntax.specs.Tree.{Tree, Empty, Node}
 use Rattle.cv_directory.specs.declared.sort.Sort.{Sort}
 use Rattle.cv_typing.specs.Signature.{Arrays, variable_sort}
-use Rattle.cv_typing.specs.Typing.{binders_differ, differs_from}
+use Rattle.cv_typing.specs.Typing.{binders_differ}
+use Rattle.cv_directory.specs.Sorts.{differs_from}
 
 pub differ-step : (r : Arrays) (sort : ℕ → Sort) (t : Tree) (h : Head) (a b : Tree) (x T : ℕ) → t ≡ Node h a b → h ≡ Binder x T → binders_differ r sort t ≡ (differs_from (variable_sort r x) (sort T) || binders_differ r sort b)
 unfolding binders_differ

@@ -12,11 +12,6 @@ use Rattle.cv_directory.specs.Sites.{SitesView, Variable, first_of}
 abbrev pub boolean : Sort
 boolean = OfType 0
 
-abbrev pub same_sort : Sort → Sort → Bool
-same_sort (OfType T) (OfType U) = T == U
-same_sort (BelowParameter n) (BelowParameter m) = n == m
-same_sort S R = false
-
 -- declarations
 
 pub record Function : Type 0 where

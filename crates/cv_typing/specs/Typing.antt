@@ -9,16 +9,13 @@ use Rattle.cv_typing.specs.declared.fault.Fault.{Fault}
 use Rattle.cv_typing.specs.declared.fault.Fault.TheVariants.{WrongType, Arity, IndexAsMessage, NotFixed}
 use Rattle.cv_directory.specs.declared.sort.Sort.{Sort}
 use Rattle.cv_directory.specs.declared.sort.Sort.TheVariants.{OfType, BelowParameter}
-use Rattle.cv_typing.specs.Signature.{Signature, Arrays, Above, same_sort, variable_sort, defined_sort, is_fixed_in, sort_by, arity_by, is_arity}
+use Rattle.cv_typing.specs.Signature.{Signature, Arrays, Above, variable_sort, defined_sort, is_fixed_in, sort_by, arity_by, is_arity}
+use Rattle.cv_directory.specs.Sorts.{differs_from}
 use Rattle.cv_directory.specs.Counting.{count}
 use Rattle.cv_typing.specs.Wants.{Want, wants, is_wrong, is_index_sent, above_second}
 
 -- A definition of a variable has the sort of its first site. In a body of an equivalence a name that its function binds
 -- has one sort wherever the function binds it, but for the indices of branches.
-
-abbrev pub differs_from : Option Sort → Sort → Bool
-differs_from None S = false
-differs_from (Some R) S = not (same_sort R S)
 
 unfoldable pub binders_differ : Arrays → (ℕ → Sort) → Tree → Bool
 binders_differ arrays sort Empty = false

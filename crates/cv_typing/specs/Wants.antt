@@ -11,7 +11,8 @@ use Rattle.cv_typing.specs.declared.precedence.Precedence.TheVariants.{First, Ne
 use Rattle.cv_directory.specs.declared.sort.Sort.{Sort}
 use Rattle.cv_directory.specs.declared.sort.Sort.TheVariants.{OfType, BelowParameter}
 use Rattle.cv_directory.specs.Sites.{Variable, first_of}
-use Rattle.cv_typing.specs.Signature.{Signature, Function, Arrays, OfGame, OfSide, OfNothing, Above, boolean, same_sort, function_in, event_in, sort_of}
+use Rattle.cv_typing.specs.Signature.{Signature, Function, Arrays, OfGame, OfSide, OfNothing, Above, boolean, function_in, event_in, sort_of}
+use Rattle.cv_directory.specs.Sorts.{same_sort}
 
 pub data Want : Type 0 where
   -- a process or a body; the branches of a `find`; the cells, the condition and the body of a branch; its condition and body

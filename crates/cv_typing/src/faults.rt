@@ -6,7 +6,7 @@ ghost use Rattle.cv_syntax.specs.Declarations.{declarations};
 ghost use Rattle.cv_syntax.specs.Tree.{tree_at};
 ghost use Rattle.cv_typing.specs.Lookups.{HasLiveArguments, signature_in, want_of};
 ghost use Rattle.cv_directory.specs.Counting as counting;
-ghost use Rattle.cv_typing.specs.Signature.{is_arity, same_sort as same};
+ghost use Rattle.cv_typing.specs.Signature.{is_arity};
 ghost use Rattle.cv_directory.specs.Sites.{binder_sort};
 ghost use Rattle.cv_typing.specs.Tables.{above_of, arrays_of};
 ghost use Rattle.cv_typing.specs.Typing as typing;
@@ -18,21 +18,10 @@ use crate::form::Form;
 use crate::function::{count, is_fixed};
 use crate::terms::{arity_of_head, sort_of_head};
 use crate::want::Want;
-use cv_directory::{Sort, sort_of_binder};
+use cv_directory::{Sort, differs_from, same_sort, sort_of_binder};
 use cv_syntax::children::second_of;
 use cv_syntax::{Decls, Head, NodeId, Opened, Pool, read_node};
 use std::collections::HashMap;
-
-/// Whether two sorts are the same.
-fn same_sort(a: Sort, b: Sort) -> bool
-    ensures { result ≡ same a b }
-{
-    match (a, b) {
-        (Sort::OfType(t), Sort::OfType(u)) => t == u,
-        (Sort::BelowParameter(n), Sort::BelowParameter(m)) => n == m,
-        _ => false,
-    }
-}
 
 /// Whether a sort is that of indices.
 fn is_index(sort: Sort) -> bool
@@ -84,16 +73,6 @@ fn is_message(want: Want) -> bool
         → result ≡ wants.is_message (want_of trees arrays want) }
 {
     matches!(want, Want::AnyMessage | Want::Message(_))
-}
-
-/// Whether a definition gives another sort than one that is known.
-fn differs_from(known: Option<Sort>, sort: Sort) -> bool
-    ensures { result ≡ typing.differs_from known sort }
-{
-    match known {
-        Some(known) => !same_sort(known, sort),
-        None => false,
-    }
 }
 
 /// Whether a binder of a list gives its variable another sort than its first site.

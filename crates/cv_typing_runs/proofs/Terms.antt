@@ -16,7 +16,8 @@ use Rattle.cv_scope.proofs.Unbound.{no_variable}
 use Rattle.cv_typing.specs.declared.fault.Fault.TheVariants.{Arity, IndexAsMessage, NotFixed, WrongType}
 use Rattle.cv_directory.specs.declared.sort.Sort.{Sort}
 use Rattle.cv_directory.specs.declared.sort.Sort.TheVariants.{BelowParameter, OfType}
-use Rattle.cv_typing.specs.Signature.{Above, Function, OfGame, Signature, arity_by, boolean, function_in, is_arity, leaf_arity, leaf_sort, same_sort, sort_by, sort_of}
+use Rattle.cv_typing.specs.Signature.{Above, Function, OfGame, Signature, arity_by, boolean, function_in, is_arity, leaf_arity, leaf_sort, sort_by, sort_of}
+use Rattle.cv_directory.specs.Sorts.{same_sort}
 use Rattle.cv_directory.specs.Counting.{count}
 use Rattle.cv_directory.specs.Sites.{Variable, first_of, first_index, first_site, sites_of}
 use Rattle.cv_typing.specs.Typing.{IsTyped, fault_of, is_unfixed, site_differs}

@@ -18,7 +18,8 @@ use Rattle.cv_directory.specs.declared.sort.Sort.{Sort}
 use Rattle.cv_directory.specs.declared.sort.Sort.TheVariants.{BelowParameter, OfType}
 use Rattle.cv_typing.specs.Signature.{Above, OfGame, Signature, boolean, variable_sort}
 use Rattle.cv_directory.specs.Sites.{Variable, first_of, first_site, sites_of}
-use Rattle.cv_typing.specs.Typing.{IsTyped, binders_differ, differs_from}
+use Rattle.cv_typing.specs.Typing.{IsTyped, binders_differ}
+use Rattle.cv_directory.specs.Sorts.{differs_from}
 use Rattle.cv_typing.specs.Wants.{AllMessages, Branches, EachTerm, Guarded, Message, Of, Run, Sent, Tested, Want, above_second, bound, wants}
 use Rattle.cv_typing_runs.specs.Games.{HasArguments, context_of, has_site, sort_of_meaning, variable_of_meaning}
 use Rattle.cv_scope.proofs.Pairs.{all-left, all-right}

@@ -3,7 +3,7 @@ use Rattle.std.specs.Prelude.{option_map}
 use Rattle.cv_meaning.specs.Replaced.{replaced}
 use Rattle.cv_syntax.specs.Tree.{Node, size, depth, subtree, tree_at}
 use Rattle.cv_syntax.proofs.Walking.{size-node}
-use Rattle.cv_draw_extents.specs.declared.measuring.Extent.{Extent}
+use Rattle.cv_syntax_limits.specs.declared.games.Extent.{Extent}
 use Rattle.cv_draw_extents.proofs.Extents.{size-part}
 use Rattle.cv_draw_pruning.specs.Bodies.{part_of}
 use Rattle.cv_draw_pruning.specs.Lefts.{left_of}

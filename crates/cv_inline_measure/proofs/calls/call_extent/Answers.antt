@@ -19,7 +19,7 @@ returns-in-Some c =
     let trees = s.pool.now.trees in
     let xs = s.callings.now in
     let ms = tree_at trees c.args.arguments in
-    let site : Some (calling_in trees c.in-Some.calling.now) ≡ numbered c.args.number (callings_in trees s.callings.now) = ap (option_map (calling_in trees)) (sym (slice_get-get_or xs c.place_of.result c.in-Some.calling.now c.in-Some.ensures.lookup.3.0 ∙ ap (λ (k : Calling). Some k) (sym c.in-Some.ensures.lookup.1))) ∙ c.place_of.ensures trees in
+    let site : Some (calling_in trees c.in-Some.calling.now) ≡ numbered c.args.number (callings_in trees s.callings.now) = ap (option_map (calling_in trees)) (sym (slice_get-get_or xs c.place_of_site.result c.in-Some.calling.now c.in-Some.ensures.lookup.3.0 ∙ ap (λ (k : Calling). Some k) (sym c.in-Some.ensures.lookup.1))) ∙ c.place_of_site.ensures trees in
     IfOk-weaker c.site_call.result
     (λ a. (x : ℕ) (g : Group) → g.key.0 ≡ s.right_key → IsTold a (of_call_at (measure_of s) (calls_of s x g) (Some (calling_in trees c.in-Some.calling.now)) ms))
     (λ a. (x : ℕ) (g : Group) → g.key.0 ≡ s.right_key → IsTold a (of_call_at (measure_of s) (calls_of s x g) (numbered c.args.number (callings_in trees s.callings.now)) ms))
@@ -30,5 +30,5 @@ returns-in-None c = λ x g e.
     let s = c.args.setting.now in
     let trees = s.pool.now.trees in
     let xs = s.callings.now in
-    let site : None ≡ numbered c.args.number (callings_in trees s.callings.now) = ap (option_map (calling_in trees)) (sym (slice_get_past xs c.place_of.result c.in-None.ensures.lookup.3)) ∙ c.place_of.ensures trees in
+    let site : None ≡ numbered c.args.number (callings_in trees s.callings.now) = ap (option_map (calling_in trees)) (sym (slice_get_past xs c.place_of_site.result c.in-None.ensures.lookup.3)) ∙ c.place_of_site.ensures trees in
     subst (λ o. IsTold c.of_result.result (of_call_at (measure_of s) (calls_of s x g) o (tree_at trees c.args.arguments))) site (c.of_result.ensures (lone No) (false_told s.measure))

@@ -10,7 +10,8 @@ use Rattle.cv_meaning_contexts.specs.Groups.{Group}
 use Rattle.cv_inline_games.specs.NextGame.{numbered}
 use Rattle.cv_inline_extents.specs.Extents.{of_call_at, of_game}
 use Rattle.cv_inline_measure.specs.declared.game.Kind.{Kind}
-use Rattle.cv_inline_measure.specs.Counts.{IsTold, told}
+use Rattle.cv_inline_measure.specs.Counts.{IsTold}
+use Rattle.cv_syntax_limits.specs.Limits.{told}
 use Rattle.cv_inline_measure.specs.Games.{answers_in, call_of_game, of_child}
 use Rattle.cv_inline_measure.specs.Settings.{calls_of, measure_of}
 use Rattle.cv_inline_measure.proofs.Arguments.{second_small}

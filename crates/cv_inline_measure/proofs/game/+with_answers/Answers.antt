@@ -5,7 +5,7 @@ use Rattle.cv_syntax.specs.Walks.{above}
 use Rattle.cv_syntax.proofs.Trees.{child_live, empty_at}
 use Rattle.cv_syntax.proofs.Walking.{above-child, above-some, size-node}
 use Rattle.cv_inline_extents.specs.Extents.{copies_of, with_answers}
-use Rattle.cv_inline_measure.specs.Counts.{told}
+use Rattle.cv_syntax_limits.specs.Limits.{told}
 use Rattle.cv_inline_measure.specs.Games.{answers_in}
 use Rattle.cv_inline_measure.specs.Settings.{measure_of}
 use Rattle.cv_inline_measure.proofs.Answering.{leaf_with, read_with}

@@ -5,7 +5,8 @@ use Rattle.cv_meaning_contexts.specs.Groups.{Group}
 use Rattle.cv_inline_games.specs.NextGame.{next_in}
 use Rattle.cv_inline_extents.specs.Extents.{extent, of_game}
 use Rattle.cv_inline_extents.proofs.Games.{next_measured}
-use Rattle.cv_inline_measure.specs.Counts.{measure_in, told}
+use Rattle.cv_inline_measure.specs.Counts.{measure_in}
+use Rattle.cv_syntax_limits.specs.Limits.{told}
 use Rattle.cv_inline_measure.specs.Settings.{inlined_calls}
 use Rattle.cv_inline_measure.proofs.Walks.{is_measure}
 use Rattle.cv_inline_measure.proofs.next.count.Goals as goal

@@ -2,7 +2,7 @@ use Rattle.std.proofs.Common.{[], Some, ap, ◌∙◌}
 use Rattle.cv_syntax.specs.Tree.{tree_at}
 use Rattle.cv_inline_games.specs.NextGame.{next_in}
 use Rattle.cv_inline_extents.proofs.Measures.{nodes_are_size, path_is_depth}
-use Rattle.cv_inline_measure.specs.Counts.{told}
+use Rattle.cv_syntax_limits.specs.Limits.{told}
 use Rattle.cv_inline_measure.specs.Settings.{inlined_calls}
 use Rattle.cv_inline_measure.proofs.next.measure.Goals as goal
 

@@ -4,7 +4,8 @@ use Rattle.cv_syntax.proofs.Walking.{depth-le-size}
 use Rattle.cv_inline_extents.specs.Extents.{extent}
 use Rattle.cv_inline_extents.proofs.Measures.{nodes_are_size, path_is_depth}
 use Rattle.cv_inline_measure.specs.declared.measuring.Measure.{Measure}
-use Rattle.cv_inline_measure.specs.Counts.{measure_in, told}
+use Rattle.cv_inline_measure.specs.Counts.{measure_in}
+use Rattle.cv_syntax_limits.specs.Limits.{told}
 use Rattle.cv_inline_measure.proofs.trees.extent_below.Goals as goal
 
 pub returns-in-Nodes : goal.returns-in-Nodes

@@ -77,19 +77,19 @@ add_call-returns-in_default t c = λ g k.
     let trees = s.pool.now.trees in
     let d = drawn_in s.drawn.now in
     let i = calls_of s g in
-    let call : Call = record { answer = c.args.answer; site = c.place_of.result; rest = c.args.node.second } in
+    let call : Call = record { answer = c.args.answer; site = c.place_of_site.result; rest = c.args.node.second } in
     let follows = goes_on s g c.args.results.now call in
-    let site = slice_get s.callings.now c.place_of.result in
+    let site = slice_get s.callings.now c.place_of_site.result in
     let n = numbered c.args.number (callings_in trees s.callings.now) in
     let arguments = second (tree_at trees c.args.node.first) in
     let old = stack c.args.parts.now.items in
     IfOk-equal c.go_on.result (stack c.go_on.new.parts.items) (follows (term_of trees d site [] None) ∷ old) (call_in_game i n arguments follows ∷ old) (c.go_on.ensures g k)
-    (ap (λ m. m ∷ old) (no_site i follows trees d site n arguments (c.place_of.ensures trees) (slice_get_past s.callings.now c.place_of.result c.in_default.ensures.lookup.3)))
+    (ap (λ m. m ∷ old) (no_site i follows trees d site n arguments (c.place_of_site.ensures trees) (slice_get_past s.callings.now c.place_of_site.result c.in_default.ensures.lookup.3)))
 
 pub add_call-pieces-init : goal.add_call-pieces-init
 add_call-pieces-init t c = λ g k.
     let s = c.args.step.now in
-    let call : Call = record { answer = c.args.answer; site = c.place_of.result; rest = c.args.node.second } in
+    let call : Call = record { answer = c.args.answer; site = c.place_of_site.result; rest = c.args.node.second } in
     sym (pieced_none s.pool.now.trees (drawn_in s.drawn.now) s.callings.now c.in-Some.calling.now.caller (goes_on s g c.args.results.now call) (stack c.args.parts.now.items))
 
 pub add_call-add_piece-requires : goal.add_call-add_piece-requires
@@ -98,12 +98,12 @@ add_call-add_piece-requires t c =
     let found = c.in-Some.ensures.lookup in
     let items = c.as_slice-piece-items.result.now in
     let within : c.pieces.piece-index < length items = omega arith in
-    (search rules, (c.requires.step, (c.requires.results, (c.requires.second, (slice_get_read s.callings.now (length s.callings.now) c.place_of.result c.in-Some.calling.now refl found.3.0 found.1, of_each (IsLivePiece (live_in s) (length s.callings.now)) items c.in_ok-pieces.pieces.items c.pieces.piece-index c.piece-item.result c.in_ok-pieces.ensures.live c.as_slice-piece-items.ensures.value within c.piece-item.is)))))
+    (search rules, (c.requires.step, (c.requires.results, (c.requires.second, (slice_get_read s.callings.now (length s.callings.now) c.place_of_site.result c.in-Some.calling.now refl found.3.0 found.1, of_each (IsLivePiece (live_in s) (length s.callings.now)) items c.in_ok-pieces.pieces.items c.pieces.piece-index c.piece-item.result c.in_ok-pieces.ensures.live c.as_slice-piece-items.ensures.value within c.piece-item.is)))))
 
 pub add_call-pieces-preserved : goal.add_call-pieces-preserved
 add_call-pieces-preserved t c = λ g k.
     let s = c.args.step.now in
-    let call : Call = record { answer = c.args.answer; site = c.place_of.result; rest = c.args.node.second } in
+    let call : Call = record { answer = c.args.answer; site = c.place_of_site.result; rest = c.args.node.second } in
     let items = c.as_slice-piece-items.result.now in
     let within : c.pieces.piece-index < length items = omega arith in
     pieced_more s.pool.now.trees (drawn_in s.drawn.now) s.callings.now c.in-Some.calling.now.caller (goes_on s g c.args.results.now call) (stack c.args.parts.now.items) (stack c.pieces.parts.items) (stack c.add_piece.new.parts.items) items c.pieces.piece-index c.piece-item.result c.piece-item.result within c.piece-item.is (c.in_ok-add_piece.ensures g k) (c.pieces.invariant g k)
@@ -113,15 +113,15 @@ add_call-returns t c = λ g k.
     let s = c.args.step.now in
     let trees = s.pool.now.trees in
     let i = calls_of s g in
-    let call : Call = record { answer = c.args.answer; site = c.place_of.result; rest = c.args.node.second } in
+    let call : Call = record { answer = c.args.answer; site = c.place_of_site.result; rest = c.args.node.second } in
     let follows = goes_on s g c.args.results.now call in
     let old = stack c.args.parts.now.items in
     let calling = c.in-Some.calling.now in
     let items = c.as_slice-piece-items.result.now in
     let found = c.in-Some.ensures.lookup in
     let all : length items ≤ c.pieces.piece-index = omega arith in
-    let there = slice_get_read s.callings.now (length s.callings.now) c.place_of.result calling refl found.3.0 found.1 in
-    let site = sym (ap (option_map (calling_in trees)) there) ∙ c.place_of.ensures trees in
+    let there = slice_get_read s.callings.now (length s.callings.now) c.place_of_site.result calling refl found.3.0 found.1 in
+    let site = sym (ap (option_map (calling_in trees)) there) ∙ c.place_of_site.ensures trees in
     let made = c.in_ok-pieces.ensures.pieced s.key g (ap (λ (p : ℕ × ℕ). p.0) k) follows old in
     let every = pieced_all trees (drawn_in s.drawn.now) s.callings.now calling.caller follows old (stack c.pieces.parts.items) c.in_ok-pieces.pieces.items items c.pieces.piece-index (c.pieces.invariant g k) all c.as_slice-piece-items.ensures.value in
     call_made i follows (stack c.pieces.parts.items) (pieced trees (drawn_in s.drawn.now) s.callings.now calling.caller follows old c.in_ok-pieces.pieces.items) old (Some (calling_in trees calling)) (numbered c.args.number (callings_in trees s.callings.now)) (tree_at trees c.second_of-arguments.result) (second (tree_at trees c.args.node.first)) every made site c.second_of-arguments.ensures.tree

@@ -7,9 +7,10 @@ use Rattle.cv_scenes.specs.Reductions.{context_of_game}
 use Rattle.cv_context.specs.Roles.{AreSitesOf}
 use Rattle.cv_context_calls.proofs.Keys.{listed_keys}
 use Rattle.cv_inline_callings.specs.Sites.{HasListedKeys}
+use Rattle.cv_inline_walk.specs.Made.{IsMade, IsTreeAt}
+use Rattle.cv_inline_walk.specs.Steps.{next_tree}
 use Rattle.cv_steps_crypto.specs.Steps.{reduction_of}
-use Rattle.cv_kernel_crypto.specs.Applied.{nodes_of}
-use Rattle.cv_kernel_crypto.specs.Stages.{IsMade}
+use Rattle.cv_syntax_limits.specs.Limits.{nodes_of}
 use Rattle.cv_kernel_crypto.proofs.Built.{built, context_stands, next, next_drawn}
 use Rattle.cv_kernel_crypto.proofs.Named.{answers_above}
 use Rattle.cv_kernel_crypto.proofs.Outcomes.{built_through, no_context, no_room, not_made}
@@ -48,9 +49,10 @@ returns-in_err-root-clause-built c = λ e m.
     let k = c.in_ok-inlining.ensures.inlining (declarations w.pool.trees w.decls.list) w.decls.own s.game t c.args.key h c.requires.taken in
     let x = next w.pool mid w.decls c.args.game c.in_ok-context.context c.args.key i n h k in
     let few : length mid.trees ≤ length w.pool.trees + nodes_of (context_of_game (reduction_of s t c.args.key)).game = omega (arith, c.live-before.ensures, c.in_ok-room.ensures.room, c.in_ok-room.ensures.few, ap nodes_of h.context) in
-    let made = subst (λ l. IsMade l (length mid.trees) x c.make.new.pool.trees (Err c.in_err-root.field-0.0)) c.in_ok-context.ensures.limit (c.in_err-root.ensures.made (side_group Right t) k.key) in
-    built_through w.pool.limit (length w.pool.trees) s e c.args.key c.make.new.pool.trees _ _ c.from_residual-in_err-root.ensures.1
-    (not_made s e c.args.key t m.named m.met x (next_drawn w.pool mid w.decls c.args.game c.in_ok-context.context c.args.key i n h k) w.pool.limit (length w.pool.trees) (length mid.trees) c.make.new.pool.trees c.in_err-root.field-0.0 few made)
+    let by_sites = subst (λ cs. IsMade mid.limit (length mid.trees) (next_tree mid.trees n.drawing c.args.key cs (side_group Right t) c.in_ok-context.context) c.next_game.new.pool.trees (Err c.in_err-root.field-0.0)) c.as_slice.ensures.value (c.in_err-root.ensures.made (side_group Right t) k.key) in
+    let made = subst (λ l. IsMade l (length mid.trees) x c.next_game.new.pool.trees (Err c.in_err-root.field-0.0)) c.in_ok-context.ensures.limit by_sites in
+    built_through w.pool.limit (length w.pool.trees) s e c.args.key c.next_game.new.pool.trees _ _ c.from_residual-in_err-root.ensures.1
+    (not_made s e c.args.key t m.named m.met x (next_drawn w.pool mid w.decls c.args.game c.in_ok-context.context c.args.key i n h k) w.pool.limit (length w.pool.trees) (length mid.trees) c.next_game.new.pool.trees c.in_err-root.field-0.0 few made)
 
 pub returns-in_err-check_room-clause-built : goal.returns-in_err-check_room-clause-built
 returns-in_err-check_room-clause-built c = λ e m.
@@ -64,10 +66,10 @@ returns-in_err-check_room-clause-built c = λ e m.
     let n = c.in_ok-inlining.inlining in
     let h = context_stands w.pool mid w.decls c.args.game c.in_ok-context.context c.args.key i c.in_ok-context.ensures.grows c.requires.live c.requires.found (c.in_ok-context.ensures.tree s t sites above) in
     let k = c.in_ok-inlining.ensures.inlining (declarations w.pool.trees w.decls.list) w.decls.own s.game t c.args.key h c.requires.taken in
-    let q = c.in_ok-root.ensures.made (side_group Right t) k.key in
+    let q = subst (λ cs. IsTreeAt mid.limit (length mid.trees) (next_tree mid.trees n.drawing c.args.key cs (side_group Right t) c.in_ok-context.context) c.next_game.new.pool.trees c.in_ok-root.root) c.as_slice.ensures.value (c.in_ok-root.ensures.made (side_group Right t) k.key) in
     let nodes = nodes_of (context_of_game (reduction_of s t c.args.key)).game in
     let all : length w.pool.trees + nodes + c.in_ok-room.room ≡ 4294967295 = omega (arith, c.live-before.ensures, c.in_ok-room.ensures.room, ap nodes_of h.context) in
-    let limit : c.make.new.pool.limit ≡ w.pool.limit = c.in_ok-root.ensures.limit ∙ c.in_ok-context.ensures.limit in
+    let limit : c.next_game.new.pool.limit ≡ w.pool.limit = c.in_ok-root.ensures.limit ∙ c.in_ok-context.ensures.limit in
     let f = c.in_err-check_room.ensures in
     built_through w.pool.limit (length w.pool.trees) s e c.args.key c.check_room.new.pool.trees _ _ c.from_residual-in_err-check_room.ensures.1
     (no_room s e c.args.key t m.named m.met (next w.pool mid w.decls c.args.game c.in_ok-context.context c.args.key i n h k) (next_drawn w.pool mid w.decls c.args.game c.in_ok-context.context c.args.key i n h k) w.pool.limit (length w.pool.trees) c.in_err-check_room.field-0.0 q.small q.shallow
@@ -85,10 +87,10 @@ returns-clause-built c = λ e m.
     let n = c.in_ok-inlining.inlining in
     let h = context_stands w.pool mid w.decls c.args.game c.in_ok-context.context c.args.key i c.in_ok-context.ensures.grows c.requires.live c.requires.found (c.in_ok-context.ensures.tree s t sites above) in
     let k = c.in_ok-inlining.ensures.inlining (declarations w.pool.trees w.decls.list) w.decls.own s.game t c.args.key h c.requires.taken in
-    let q = c.in_ok-root.ensures.made (side_group Right t) k.key in
+    let q = subst (λ cs. IsTreeAt mid.limit (length mid.trees) (next_tree mid.trees n.drawing c.args.key cs (side_group Right t) c.in_ok-context.context) c.next_game.new.pool.trees c.in_ok-root.root) c.as_slice.ensures.value (c.in_ok-root.ensures.made (side_group Right t) k.key) in
     let nodes = nodes_of (context_of_game (reduction_of s t c.args.key)).game in
     let all : length w.pool.trees + nodes + c.in_ok-room.room ≡ 4294967295 = omega (arith, c.live-before.ensures, c.in_ok-room.ensures.room, ap nodes_of h.context) in
-    let limit : c.make.new.pool.limit ≡ w.pool.limit = c.in_ok-root.ensures.limit ∙ c.in_ok-context.ensures.limit in
+    let limit : c.next_game.new.pool.limit ≡ w.pool.limit = c.in_ok-root.ensures.limit ∙ c.in_ok-context.ensures.limit in
     let f = c.in_ok-check_room.ensures in
-    built w.pool mid w.decls c.args.game c.in_ok-context.context c.args.key i n h k e w.pool.limit mid.limit (length mid.trees) c.make.new.pool.trees c.check_room.new.pool.trees c.in_ok-root.root m q f.kept
+    built w.pool mid w.decls c.args.game c.in_ok-context.context c.args.key i n h k e w.pool.limit mid.limit (length mid.trees) c.next_game.new.pool.trees c.check_room.new.pool.trees c.in_ok-root.root m q f.kept
     (omega (arith, f.room (length w.pool.trees + nodes) all, limit)) (f.few (length w.pool.trees + nodes) all)

@@ -13,7 +13,7 @@ use Rattle.cv_parse_grammar.specs.Declarations.{collision, forall_vars, probabil
 use Rattle.cv_parse_terms.specs.Gives.{read_in, read_note}
 use Rattle.cv_parse_terms.proofs.Chains.{both_read, made_read, sign_both}
 use Rattle.cv_parse_declarations.proofs.Groups.{over_both}
-use Rattle.cv_parse_declarations.proofs.Listed.{is_there, one_made}
+use Rattle.cv_parse_signature.proofs.Listed.{is_there, one_made}
 use Rattle.cv_parse_declarations.proofs.collisions.collision_decl.Goals as goal
 
 pub returns : goal.returns

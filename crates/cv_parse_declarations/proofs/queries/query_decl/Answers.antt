@@ -8,7 +8,7 @@ use Rattle.cv_parse_grammar.specs.Phrases.{inside}
 use Rattle.cv_parse_grammar.specs.Declarations.{correspondence, secrecy}
 use Rattle.cv_parse_terms.specs.Gives.{read_in, read_note}
 use Rattle.cv_parse_terms.proofs.Chains.{both_read, made_read}
-use Rattle.cv_parse_declarations.proofs.Listed.{ended_read, one_made}
+use Rattle.cv_parse_signature.proofs.Listed.{ended_read, one_made}
 use Rattle.cv_parse_declarations.proofs.Correspondences.{query_gives}
 use Rattle.cv_parse_declarations.proofs.queries.query_decl.Goals as goal
 

@@ -1,12 +1,19 @@
-use Rattle.std.proofs.Common.{sym, subst, refl, length, OnOk}
+use Rattle.std.proofs.Common.{sym, ◌∙◌, subst, refl, length, OnOk}
 use Rattle.cv_syntax.specs.declared.head.Head.{Head}
-use Rattle.cv_syntax.specs.declared.head.Head.TheVariants.{In, New, Let, Find, Branch, Key, Call}
+use Rattle.cv_syntax.specs.declared.head.Head.TheVariants.{In, Find, Branch}
 use Rattle.cv_syntax.specs.Tree.{Tree, tree_at}
 use Rattle.cv_meaning.specs.Binders.{bound_names}
 use Rattle.cv_scope.specs.Held.{DefinesOnly, IsEntered}
 use Rattle.cv_scope.specs.Seen.{with_definitions}
-use Rattle.cv_scope.proofs.Entering.{both-ok, on-ok, defines-entered, passes-entered, plain-entered, plain-head, replicates-entered}
+use Rattle.cv_scope.proofs.Entering.{both-ok, on-ok, defines-entered, passes-entered, plain-entered, plain-head, replicates-entered, variable-entered}
 use Rattle.cv_scope.proofs.state.State.enter.Goals as goal
+
+pub returns-in-Some : goal.returns-in-Some
+returns-in-Some c =
+    let trees = c.args.pool.now.trees in
+    let s = c.args.self.now in
+    let a = tree_at trees c.args.first in
+    on-ok c.define.result _ _ (variable-entered trees s c.define.new.self c.args.position c.args.head a c.args.from c.args.to c.in-Some.x (sym c.variable_of.ensures ∙ c.in-Some.is) c.requires.listed) c.define.ensures
 
 pub returns-in-Find : goal.returns-in-Find
 returns-in-Find c =
@@ -22,38 +29,6 @@ returns-in-Repl c =
     let s = c.args.self.now in
     let a = tree_at trees c.args.first in
     both-ok c.replicate.result _ _ _ (λ e m. replicates-entered trees s c.replicate.new.self c.args.position c.args.head a c.args.from c.args.to c.in-Repl.i c.in-Repl.n c.in-Repl.is c.requires.listed e m) c.replicate.ensures.same c.replicate.ensures.replications
-
-pub returns-in-New : goal.returns-in-New
-returns-in-New c =
-    let trees = c.args.pool.now.trees in
-    let s = c.args.self.now in
-    let a = tree_at trees c.args.first in
-    subst (λ (h : Head). OnOk c.define.result (IsEntered trees s c.define.new.self c.args.position h a c.args.from c.args.to)) (sym c.in-New.is)
-    (on-ok c.define.result _ _ (defines-entered trees s c.define.new.self c.args.position (New c.in-New.x c.in-New.field-1) a c.args.from c.args.to c.requires.listed refl refl refl) c.define.ensures)
-
-pub returns-in-Let : goal.returns-in-Let
-returns-in-Let c =
-    let trees = c.args.pool.now.trees in
-    let s = c.args.self.now in
-    let a = tree_at trees c.args.first in
-    subst (λ (h : Head). OnOk c.define-in-Let.result (IsEntered trees s c.define-in-Let.new.self c.args.position h a c.args.from c.args.to)) (sym c.in-Let.is)
-    (on-ok c.define-in-Let.result _ _ (defines-entered trees s c.define-in-Let.new.self c.args.position (Let c.in-Let.x c.in-Let.field-1) a c.args.from c.args.to c.requires.listed refl refl refl) c.define-in-Let.ensures)
-
-pub returns-in-Key : goal.returns-in-Key
-returns-in-Key c =
-    let trees = c.args.pool.now.trees in
-    let s = c.args.self.now in
-    let a = tree_at trees c.args.first in
-    subst (λ (h : Head). OnOk c.define-in-Key.result (IsEntered trees s c.define-in-Key.new.self c.args.position h a c.args.from c.args.to)) (sym c.in-Key.is)
-    (on-ok c.define-in-Key.result _ _ (defines-entered trees s c.define-in-Key.new.self c.args.position (Key c.in-Key.x) a c.args.from c.args.to c.requires.listed refl refl refl) c.define-in-Key.ensures)
-
-pub returns-in-Call : goal.returns-in-Call
-returns-in-Call c =
-    let trees = c.args.pool.now.trees in
-    let s = c.args.self.now in
-    let a = tree_at trees c.args.first in
-    subst (λ (h : Head). OnOk c.define-in-Call.result (IsEntered trees s c.define-in-Call.new.self c.args.position h a c.args.from c.args.to)) (sym c.in-Call.is)
-    (on-ok c.define-in-Call.result _ _ (defines-entered trees s c.define-in-Call.new.self c.args.position (Call c.in-Call.x c.in-Call.field-1) a c.args.from c.args.to c.requires.listed refl refl refl) c.define-in-Call.ensures)
 
 pub returns-in-In : goal.returns-in-In
 returns-in-In c =
@@ -71,9 +46,10 @@ returns-in-Branch c =
     subst (λ (h : Head). OnOk c.define_all-in-Branch.result (IsEntered trees s c.define_all-in-Branch.new.self c.args.position h a c.args.from c.args.to)) (sym c.in-Branch.is)
     (on-ok c.define_all-in-Branch.result _ _ (defines-entered trees s c.define_all-in-Branch.new.self c.args.position Branch a c.args.from c.args.to c.requires.listed refl refl refl) c.define_all-in-Branch.ensures)
 
-pub returns-in_default : goal.returns-in_default
-returns-in_default c =
+pub returns-in_default-head : goal.returns-in_default-head
+returns-in_default-head c =
     let trees = c.args.pool.now.trees in
     let s = c.args.self.now in
     let a = tree_at trees c.args.first in
-    plain-entered trees s c.args.position c.args.head a c.args.from c.args.to c.requires.listed (plain-head s.replications.items c.args.position c.args.head a c.args.from c.args.to c.in_default.not-Repl c.in_default.not-In c.in_default.not-New c.in_default.not-Let c.in_default.not-Key c.in_default.not-Call c.in_default.not-Find c.in_default.not-Branch c.in_default.not-Cons)
+    plain-entered trees s c.args.position c.args.head a c.args.from c.args.to c.requires.listed
+    (plain-head s.replications.items c.args.position c.args.head a c.args.from c.args.to (sym c.variable_of.ensures ∙ c.in_default.is) c.in_default-head.not-Repl c.in_default-head.not-In c.in_default-head.not-Find c.in_default-head.not-Branch c.in_default-head.not-Cons)

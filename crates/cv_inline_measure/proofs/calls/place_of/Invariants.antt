@@ -1,8 +1,0 @@
-use Rattle.std.proofs.Common.{◌≡◌, List, drop}
-use Rattle.cv_pool.specs.KindTree.{KindTree}
-use Rattle.cv_inline_games.specs.NextGame.{numbered}
-use Rattle.cv_inline_listing.specs.Callings.{callings_in}
-use Rattle.cv_inline_measure.proofs.calls.place_of.Given as goal
-
-abbrev pub invariant-sites : goal.invariant-sites
-invariant-sites l = (trees : List KindTree) → numbered l.number (callings_in trees (drop l.place l.callings)) ≡ numbered l.number (callings_in trees l.callings)

@@ -1,0 +1,6 @@
+// Heads that define a variable by themselves.
+#![tactic(auto)]
+
+mod heads;
+
+pub use heads::variable_of;
