@@ -1,6 +1,6 @@
 -- What is answered of a step that closes a query.
 use Rattle.std.proofs.Common.{◌≡◌, ℕ, ◌<◌, ◌≤◌, ◌^◌, Bool, true, false, if◌then◌else◌, List, refl, ap, sym, ◌∙◌, subst, arith, Option, Some, None}
-use Rattle.std.specs.Prelude.{IfSome, option_map}
+use Rattle.std.specs.Prelude.{IfSome, option_and_then, option_map}
 use Rattle.cv_pool.specs.declared.node.NodeId.{NodeId}
 use Rattle.cv_pool.specs.Nodes.{ChildBelow}
 use Rattle.cv_syntax.specs.Tree.{Tree}
@@ -9,7 +9,11 @@ use Rattle.cv_query_certificates.specs.Failures.{Failure, first_failure}
 use Rattle.cv_scenes.specs.Scenes.{Scene}
 use Rattle.cv_scenes.specs.Sights.{from_one}
 use Rattle.cv_kernel_closed.specs.Queries.{is_among}
-use Rattle.cv_kernel.specs.Closings.{Closing, closing_failure, closing_in}
+use Rattle.cv_script.specs.Views.{StepItems}
+use Rattle.cv_script.specs.Views as items
+use Rattle.cv_kernel.specs.declared.reducing.Reducing.{Reducing}
+use Rattle.cv_kernel.specs.Closings.{Closing, closing_failure, closing_in, closing_of_items}
+use Rattle.cv_kernel.specs.Reducings.{reducing_of_items}
 use Rattle.cv_syntax_limits.specs.Limits.{nodes_of}
 use Rattle.cv_kernel.proofs.Steps.{certificate_nodes}
 
@@ -50,3 +54,15 @@ certificate_short t (Some x) c h e l = let g : x ≡ c = cc in subst (λ y. node
 
 pub closing_short : (t : Tree) (c : Closing) → Some c ≡ closing_in t → nodes_of t < 2 ^ 31 → nodes_of c.certificate < 2 ^ 31
 closing_short t c e l = certificate_short t (closing_in t) c (certificate_nodes t) e l
+
+-- no step both closes a query and is a cryptographic one
+pub closes_or_reduces : (o : Option StepItems) (c : Closing) (q : Reducing) → Some c ≡ option_and_then closing_of_items o → option_and_then reducing_of_items o ≡ Some q → ⊥
+closes_or_reduces None c q e f = absurd (cc)
+closes_or_reduces (Some (items.Success k certificate)) c q e f = absurd (cc)
+closes_or_reduces (Some other) c q e f = absurd (cc)
+
+pub one_reducing : (q r : Reducing) → Some q ≡ Some r → q ≡ r
+one_reducing q r e = cc
+
+pub no_reducing : {o : Option Reducing} (q : Reducing) → o ≡ None → o ≡ Some q → ⊥
+no_reducing q e f = absurd (cc)

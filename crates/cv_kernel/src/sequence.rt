@@ -7,10 +7,11 @@ ghost use Rattle.cv_pool.specs.Nodes.{ChildBelow};
 ghost use Rattle.cv_rule_scenes.specs.Kept.{scene_of};
 ghost use Rattle.cv_script.specs.Views.{items_of_step};
 ghost use Rattle.cv_bound.specs.Sums.{AllFit, added};
-ghost use Rattle.cv_kernel_crypto.specs.Applied.{HasEquivalences};
+ghost use Rattle.cv_kernel_crypto.specs.Applied.{DrawsNext, HasEquivalences};
 ghost use Rattle.cv_kernel_closed.specs.Queries.{numbers_of};
 ghost use Rattle.cv_kernel.specs.ClosingTrees.{closing_tree};
 ghost use Rattle.cv_kernel.specs.Closings.{closing_failure};
+ghost use Rattle.cv_kernel.specs.Reducings.{reducing_in};
 ghost use Rattle.cv_kernel.specs.Rules.{IsShortRule, need_of};
 ghost use Rattle.cv_kernel.specs.Sequences.{IsAdvanced, IsCloseAnswer, IsPushed, IsReady, IsReduceAnswer, Same, Stands, game_in, needed_for};
 ghost use Rattle.cv_kernel.specs.Steps.{narrow, step_in};
@@ -233,6 +234,9 @@ impl Sequence {
         ensures answer { IsReduceAnswer work.old.pool.limit (length work.old.pool.trees)
             (scene_of work.old.pool work.old.decls self.old.game.root) reducing.equivalence
             reducing.key work.new.pool.trees self.old self.new result }
+        ensures drawn { OnOk result (DrawsNext work.old.names work.new.names work.old.decls.own
+            (scene_of work.old.pool work.old.decls self.old.game.root) reducing.equivalence
+            reducing.key (game_in work.new.pool.trees self.new)) }
         ensures stands { Stands work.new.pool.trees work.new.decls self.new }
         ensures same { OnErr result (Same self.old self.new) }
         ensures grows { Grows work.old.pool work.new.pool }
@@ -270,6 +274,13 @@ impl Sequence {
         requires limit { work.old.pool.limit < 4294967295 }
         ensures pushed { IsPushed work.old.pool work.old.decls work.new.pool.trees self.old self.new
             (tree_at work.old.pool.trees (Some step.0)) result }
+        ensures drawn { (c : Reducing) →
+            reducing_in (tree_at work.old.pool.trees (Some step.0)) ≡ Some c →
+            OnOk result (DrawsNext work.old.names work.new.names work.old.decls.own
+            (scene_of work.old.pool work.old.decls self.old.game.root) c.equivalence c.key
+            (game_in work.new.pool.trees self.new)) }
+        ensures alone { reducing_in (tree_at work.old.pool.trees (Some step.0)) ≡ None →
+            work.new.names ≡ work.old.names }
         ensures stands { Stands work.new.pool.trees work.new.decls self.new }
         ensures same { OnErr result (Same self.old self.new) }
         ensures grows { Grows work.old.pool work.new.pool }

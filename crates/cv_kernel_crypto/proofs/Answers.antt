@@ -26,6 +26,11 @@ pub answer_through : (limit live : ℕ) (s : Scene) (e x step : ℕ) (trees : Li
 answer_through limit live s e x step trees (Ok n) f i h = absurd i
 answer_through limit live s e x step trees (Err y) f i h = subst (IsFaultOf limit live s e x) (sym i) h
 
+-- what holds of a game, of the one that is tested
+pub tested_game : (P : Tree → Type 0) (trees : List KindTree) (root : NodeId) (r : Result Next CryptoFault) → IfOk r (λ n. n.game.root ≡ root) → P (tree_at trees (Some root)) → IfOk r (λ n. P (tree_at trees (Some n.game.root)))
+tested_game P trees root (Ok n) e h = subst (λ m. P (tree_at trees (Some m))) (sym e) h
+tested_game P trees root (Err f) e h = tt
+
 -- a step has one context
 
 same_some : (t u : Tree) → Some t ≡ Some u → t ≡ u

@@ -9,13 +9,19 @@ use Rattle.cv_meaning_contexts.specs.Groups.{Right, side_group}
 use Rattle.cv_rule_scenes.specs.Kept.{scene_of}
 use Rattle.cv_scenes.specs.Reductions.{Reduction, context_of_game}
 use Rattle.cv_scenes.specs.Scenes.{Scene}
+use Rattle.cv_context_answers.specs.Drawn.{draws, finds}
+use Rattle.cv_inline_games.specs.NextGame.{next_of}
+use Rattle.cv_inline_names.specs.Fresh.{IsDrawnFor}
 use Rattle.cv_inline_reductions.specs.Tables.{labels}
+use Rattle.cv_inline_taken.specs.Taken.{taken_names}
+use Rattle.cv_meaning_contexts.specs.Inlined.{Drawn}
+use Rattle.cv_steps_crypto.specs.Conditions.{equivalence_of}
 use Rattle.cv_inline_walk.specs.Made.{IsTreeAt}
 use Rattle.cv_inline_walk.specs.Steps.{next_tree}
 use Rattle.cv_steps_crypto.specs.Steps.{IsNextGame, reduction_of}
 use Rattle.cv_kernel_crypto.specs.declared.inlining.Inlining.{Inlining}
 use Rattle.cv_kernel_crypto.specs.declared.instances.Instances.{Instances}
-use Rattle.cv_kernel_crypto.specs.Applied.{IsDrawn}
+use Rattle.cv_kernel_crypto.specs.Applied.{IsDrawn, IsDrawnWith}
 use Rattle.cv_syntax_limits.specs.Limits.{nodes_of}
 use Rattle.cv_kernel_crypto.specs.Stages.{AreInstances, HasContext, IsBuiltAt, IsInlining, IsMet}
 use Rattle.cv_kernel_crypto.proofs.Reduced.{functions_same}
@@ -63,3 +69,11 @@ module _ (old mid : PoolView) (decls : DeclsView) (game context : NodeId) (x : �
           room = omega (arith, room, c);
           few = omega (arith, few, c);
         }
+
+-- an equivalence of a name is one
+pub one_equivalence : (s : Scene) (e : ℕ) (t u : Tree) → equivalence_of s e ≡ Some t → equivalence_of s e ≡ Some u → t ≡ u
+one_equivalence s e t u i j = cc
+
+pub drawn_with : (before after : List (List ℕ)) (own : ℕ) (r : Reduction) (taken : List ℕ) (d : Drawn) → taken ≡ taken_names own r.scene.game → IsDrawnFor before after taken (draws r) (finds r) (labels r) d
+    → (made : Tree) → made ≡ next_of (context_of_game r) r.key d → IsDrawnWith before after own r made
+drawn_with before after own r taken d e h made g = record { drawn = d; table = subst (λ ns. IsDrawnFor before after ns (draws r) (finds r) (labels r) d) e h; game = g }

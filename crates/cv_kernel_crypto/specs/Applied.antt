@@ -7,9 +7,15 @@ use Rattle.cv_bound.specs.declared.cost.Cost.TheVariants as bound
 use Rattle.cv_meaning.specs.Interpretation.{is_constant_of}
 use Rattle.cv_group_rules.specs.Faults.{IsAccepted}
 use Rattle.cv_context_terms.specs.Forms.{HasLeftForm}
-use Rattle.cv_scenes.specs.Reductions.{context_of_game}
+use Rattle.cv_meaning_contexts.specs.Inlined.{Drawn}
+use Rattle.cv_scenes.specs.Reductions.{Reduction, context_of_game}
 use Rattle.cv_scenes.specs.Scenes.{Scene}
 use Rattle.cv_syntax_limits.specs.Limits.{most_depth, most_nodes, nodes_of}
+use Rattle.cv_context_answers.specs.Drawn.{draws, finds}
+use Rattle.cv_inline_games.specs.NextGame.{next_of}
+use Rattle.cv_inline_names.specs.Fresh.{IsDrawnFor}
+use Rattle.cv_inline_reductions.specs.Tables.{labels}
+use Rattle.cv_inline_taken.specs.Taken.{taken_names}
 use Rattle.cv_steps_crypto.specs.Conditions.{equivalence_of, failure_of}
 use Rattle.cv_steps_crypto.specs.Steps.{IsNextGame, IsOutcome, reduction_of}
 use Rattle.cv_steps_crypto.specs.Steps as outcome
@@ -34,6 +40,16 @@ pub record IsDrawn (s : Scene) (e x : ℕ) (next : Tree) : Type 0 where
   pub drawn : IsNextGame (reduction_of s equivalence x) next
   pub small : size next ≤ most_nodes
   pub shallow : depth next ≤ most_depth
+
+-- The game is the next game of a step with the names that are drawn for it: they have the drawn texts, the table got those of them that
+-- it lacked and nothing else, and labels are the least ones that no find of the game has.
+pub record IsDrawnWith (before after : List (List ℕ)) (own : ℕ) (r : Reduction) (next : Tree) : Type 0 where
+  pub drawn : Drawn
+  pub table : IsDrawnFor before after (taken_names own r.scene.game) (draws r) (finds r) (labels r) drawn
+  pub game : next ≡ next_of (context_of_game r) r.key drawn
+
+abbrev pub DrawsNext : (before after : List (List ℕ)) → (own : ℕ) → Scene → (e x : ℕ) → Tree → Type 0
+DrawsNext before after own s e x next = (t : Tree) → equivalence_of s e ≡ Some t → IsDrawnWith before after own (reduction_of s t x) next
 
 -- The pool with so many nodes has no room for the context, or none for the next game behind it; its conditions hold.
 pub record HasNoRoom (limit live : ℕ) (s : Scene) (e x asked : ℕ) : Type 0 where

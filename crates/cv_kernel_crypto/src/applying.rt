@@ -10,7 +10,7 @@ ghost use Rattle.cv_typing.specs.Signature.{OfGame};
 ghost use Rattle.cv_typing.specs.Tables.{arrays_of, directory_in};
 ghost use Rattle.cv_scope.specs.Phrases.{IsWellFormed};
 ghost use Rattle.cv_rule_scenes.specs.Kept.{scene_of};
-ghost use Rattle.cv_kernel_crypto.specs.Applied.{HasEquivalences, IsAnswer, IsFew};
+ghost use Rattle.cv_kernel_crypto.specs.Applied.{DrawsNext, HasEquivalences, IsAnswer, IsFew};
 ghost use Rattle.cv_kernel_crypto.specs.Stages.{AreInstances, AreTakenNames, IsBuilt, IsMet};
 
 use crate::contexts::context_for;
@@ -47,6 +47,11 @@ fn build(
         (scene_of work.old.pool work.old.decls game) e key found.now →
         IsBuilt work.old.pool.limit (length work.old.pool.trees)
         (scene_of work.old.pool work.old.decls game) e key work.new.pool.trees result }
+    ensures drawn { (e : ℕ) → IsMet work.old.pool.trees
+        (scene_of work.old.pool work.old.decls game) e key found.now →
+        IfOk result (λ n. DrawsNext work.old.names work.new.names work.old.decls.own
+        (scene_of work.old.pool work.old.decls game) e key
+        (tree_at work.new.pool.trees (Some n))) }
     ensures live { IfOk result (λ n. n.0 < length work.new.pool.trees) }
     ensures grows { Grows work.old.pool work.new.pool }
     ensures names { take (length work.old.names) work.new.names ≡ work.old.names }
@@ -96,6 +101,9 @@ fn attempt(
     ensures answer { IsAnswer work.old.pool.limit (length work.old.pool.trees)
         (scene_of work.old.pool work.old.decls game) equivalence key step work.new.pool.trees
         result }
+    ensures drawn { IfOk result (λ next. DrawsNext work.old.names work.new.names
+        work.old.decls.own (scene_of work.old.pool work.old.decls game) equivalence key
+        (tree_at work.new.pool.trees (Some next.game.root))) }
     ensures live { IfOk result (λ next. next.game.root.0 < length work.new.pool.trees) }
     ensures small { IfOk result (λ next.
         size (tree_at work.new.pool.trees (Some next.game.root)) ≤ 50000) }
@@ -138,6 +146,9 @@ pub fn apply(
     ensures answer { IsAnswer work.old.pool.limit (length work.old.pool.trees)
         (scene_of work.old.pool work.old.decls game) equivalence key step work.new.pool.trees
         result }
+    ensures drawn { IfOk result (λ next. DrawsNext work.old.names work.new.names
+        work.old.decls.own (scene_of work.old.pool work.old.decls game) equivalence key
+        (tree_at work.new.pool.trees (Some next.game.root))) }
     ensures live { IfOk result (λ next. next.game.root.0 < length work.new.pool.trees) }
     ensures small { IfOk result (λ next.
         size (tree_at work.new.pool.trees (Some next.game.root)) ≤ 50000) }

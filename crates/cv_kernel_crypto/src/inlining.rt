@@ -4,9 +4,12 @@ ghost use Rattle.cv_syntax.specs.Tree.{Tree, size, tree_at};
 ghost use Rattle.cv_meaning_contexts.specs.Groups.{Right, side_group};
 ghost use Rattle.cv_scenes.specs.Reductions.{Reduction};
 ghost use Rattle.cv_context_answers.specs.Answers.{file_scene};
-ghost use Rattle.cv_context_answers.specs.Drawn.{callings};
+ghost use Rattle.cv_context_answers.specs.Drawn.{callings, draws, finds};
 ghost use Rattle.cv_inline_callings.specs.RightFunctions.{HasRightFunctions};
 ghost use Rattle.cv_inline_callings.specs.Sites.{HasListedKeys};
+ghost use Rattle.cv_inline_names.specs.Fresh.{IsDrawnFor};
+ghost use Rattle.cv_inline_reductions.specs.Tables.{labels};
+ghost use Rattle.cv_inline_terms.specs.Drawings.{drawn_in};
 ghost use Rattle.cv_inline_listing.specs.Callings.{callings_in};
 ghost use Rattle.cv_inline_measure.specs.Settings.{AreLiveSites};
 ghost use Rattle.cv_steps_crypto.specs.Steps.{first_answer, reduction_of};
@@ -97,6 +100,9 @@ pub(crate) fn inlining_for(
         HasContext pool.now.trees (reduction_of (file_scene ds own t) e x) game context found.now →
         AreTakenNames names.old own t taken.now →
         IfOk result (IsInlining pool.now.trees (reduction_of (file_scene ds own t) e x)) }
+    ensures drawn { (r : Reduction) → HasContext pool.now.trees r game context found.now →
+        IfOk result (λ i. IsDrawnFor names.old names.new taken.now (draws r) (finds r) (labels r)
+        (drawn_in i.drawing)) }
     ensures live { IfOk result (λ i. AreLiveSites pool.now.trees i.callings.items) }
     ensures fits { OnOk result (size (tree_at pool.now.trees (Some context)) < 2 ^ 32) }
     ensures kept { take (length names.old) names.new ≡ names.old }

@@ -11,7 +11,10 @@ use Rattle.cv_inline_walk.specs.Made.{IsMade, IsTreeAt}
 use Rattle.cv_inline_walk.specs.Steps.{next_tree}
 use Rattle.cv_steps_crypto.specs.Steps.{reduction_of}
 use Rattle.cv_syntax_limits.specs.Limits.{nodes_of}
-use Rattle.cv_kernel_crypto.proofs.Built.{built, context_stands, next, next_drawn}
+use Rattle.cv_inline_terms.specs.Drawings.{drawn_in}
+use Rattle.cv_kernel_crypto.specs.Applied.{IsDrawnWith}
+use Rattle.cv_kernel_crypto.proofs.Built.{built, context_stands, drawn_with, next, next_drawn, one_equivalence}
+use Rattle.cv_kernel_crypto.proofs.Inlined.{next_made}
 use Rattle.cv_kernel_crypto.proofs.Named.{answers_above}
 use Rattle.cv_kernel_crypto.proofs.Outcomes.{built_through, no_context, no_room, not_made}
 use Rattle.cv_kernel_crypto.proofs.applying.build.Goals as goal
@@ -94,3 +97,22 @@ returns-clause-built c = λ e m.
     let f = c.in_ok-check_room.ensures in
     built w.pool mid w.decls c.args.game c.in_ok-context.context c.args.key i n h k e w.pool.limit mid.limit (length mid.trees) c.next_game.new.pool.trees c.check_room.new.pool.trees c.in_ok-root.root m q f.kept
     (omega (arith, f.room (length w.pool.trees + nodes) all, limit)) (f.few (length w.pool.trees + nodes) all)
+
+pub returns-clause-drawn : goal.returns-clause-drawn
+returns-clause-drawn c = λ e m u j.
+    let w = c.args.work.now in
+    let mid = c.context_for.new.pool in
+    let i = c.args.found.now in
+    let s = scene_of w.pool w.decls c.args.game in
+    let t = tree_at w.pool.trees (Some i.tree) in
+    let r = reduction_of s t c.args.key in
+    let above = answers_above w.names w.decls.own s.game c.args.taken.now c.requires.taken in
+    let sites = subst (λ ss. AreSitesOf w.pool.trees s t c.args.key ss (Some c.args.game)) (sym c.as_slice-sites.ensures.value) c.requires.found.sites in
+    let n = c.in_ok-inlining.inlining in
+    let h = context_stands w.pool mid w.decls c.args.game c.in_ok-context.context c.args.key i c.in_ok-context.ensures.grows c.requires.live c.requires.found (c.in_ok-context.ensures.tree s t sites above) in
+    let k = c.in_ok-inlining.ensures.inlining (declarations w.pool.trees w.decls.list) w.decls.own s.game t c.args.key h c.requires.taken in
+    let q = subst (λ cs. IsTreeAt mid.limit (length mid.trees) (next_tree mid.trees n.drawing c.args.key cs (side_group Right t) c.in_ok-context.context) c.next_game.new.pool.trees c.in_ok-root.root) c.as_slice.ensures.value (c.in_ok-root.ensures.made (side_group Right t) k.key) in
+    let f = c.in_ok-check_room.ensures in
+    subst (λ v. IsDrawnWith w.names c.inlining_for.new.names w.decls.own (reduction_of s v c.args.key) (tree_at c.check_room.new.pool.trees (Some c.in_ok-root.root))) (one_equivalence s e t u m.named j)
+    (drawn_with w.names c.inlining_for.new.names w.decls.own r c.args.taken.now (drawn_in n.drawing) c.requires.taken.all (c.in_ok-inlining.ensures.drawn r h) (tree_at c.check_room.new.pool.trees (Some c.in_ok-root.root))
+    (ap (λ ts. tree_at ts (Some c.in_ok-root.root)) f.kept ∙ (q.tree ∙ next_made mid.trees r c.args.game c.in_ok-context.context i n h k)))

@@ -10,6 +10,15 @@ use Rattle.cv_steps_crypto.specs.Steps.{first_answer, reduction_of}
 use Rattle.cv_kernel_crypto.proofs.Inlined.{drawn_same}
 use Rattle.cv_kernel_crypto.proofs.inlining.inlining_for.Goals as goal
 
+pub returns-clause-drawn : goal.returns-clause-drawn
+returns-clause-drawn c = λ r h.
+    let trees = c.args.pool.now.trees in
+    let g = side_group Right r.equivalence in
+    let cs = c.in_ok-callings.ensures.callings r c.args.game h in
+    let key : g.key ≡ c.right_key_of-right_key.result = sym (c.right_key_of-right_key.ensures ∙ ap (λ q. (side_group Right q).key) h.equivalence) in
+    drawn_same trees r c.args.game c.args.context c.args.found.now h c.args.names.now c.draw.new.names c.args.taken.now (callings_in trees c.as_slice.result.now) (drawn_in c.in_ok-drawing.drawing) (ap (callings_in trees) c.as_slice.ensures.value ∙ cs)
+    (c.in_ok-drawing.ensures.drawn g (ap (λ (k : ℕ × ℕ). k.0) key))
+
 pub returns-clause-inlining : goal.returns-clause-inlining
 returns-clause-inlining c = λ ds own t e x h a.
     let trees = c.args.pool.now.trees in

@@ -1,13 +1,16 @@
 use Rattle.std.proofs.Common.{ap, arith, subst, sym, ◌∙◌, Err, Some}
-use Rattle.std.specs.Prelude.{option_map}
+use Rattle.std.specs.Prelude.{OnOk, option_map}
 use Rattle.cv_syntax.specs.Tree.{tree_at}
 use Rattle.cv_rule_scenes.specs.Kept.{scene_of}
 use Rattle.cv_rule.specs.Stated.{step_of}
+use Rattle.cv_script.specs.Views.{items_of_step}
+use Rattle.cv_kernel_crypto.specs.Applied.{DrawsNext}
+use Rattle.cv_kernel.specs.declared.reducing.Reducing.{Reducing}
 use Rattle.cv_kernel.specs.declared.error.PushError.TheVariants as push
 use Rattle.cv_kernel.specs.ClosingTrees.{closing_tree}
-use Rattle.cv_kernel.specs.Sequences.{IsPushed}
+use Rattle.cv_kernel.specs.Sequences.{IsPushed, game_in}
 use Rattle.cv_kernel.specs.Steps.{judgement_by, step_in}
-use Rattle.cv_kernel.proofs.Answered.{closes_none, closing_short}
+use Rattle.cv_kernel.proofs.Answered.{closes_none, closes_or_reduces, closing_short, no_reducing, one_reducing}
 use Rattle.cv_kernel.proofs.StepAnswers.{closing_pushed, few_reduced, few_ruled, memory_pushed, reducing_pushed, rule_pushed}
 use Rattle.cv_kernel.proofs.Pushes.{few_pushed, no_step, ok_trees, pushed, settled_trees, step_there}
 use Rattle.cv_kernel.proofs.Settled.{stands_settled}
@@ -73,3 +76,20 @@ pub close-requires-clause-short : goal.close-requires-clause-short
 close-requires-clause-short c =
     let trees = c.args.work.now.pool.trees in
     closing_short (tree_at trees (Some c.args.step.0)) (closing_tree trees c.in-Some.closing) (ap (option_map (closing_tree trees)) (sym c.in-Some.is) ∙ c.closing_of.ensures.closing) c.requires.short
+
+pub returns-in-Some-clause-drawn : goal.returns-in-Some-clause-drawn
+returns-in-Some-clause-drawn c = λ q i.
+    let trees = c.args.work.now.pool.trees in
+    absurd (closes_or_reduces (items_of_step (tree_at trees (Some c.args.step.0))) (closing_tree trees c.in-Some.closing) q (ap (option_map (closing_tree trees)) (sym c.in-Some.is) ∙ c.closing_of.ensures.closing) i)
+
+pub returns-in-Some-reducing_of-clause-drawn : goal.returns-in-Some-reducing_of-clause-drawn
+returns-in-Some-reducing_of-clause-drawn c = λ q i.
+    let w = c.args.work.now in
+    let after = c.reduce.new.work in
+    subst (λ (p : Reducing). OnOk c.reduce.result (DrawsNext w.names after.names w.decls.own (scene_of w.pool w.decls c.args.self.now.game.root) p.equivalence p.key (game_in after.pool.trees c.reduce.new.self))) (one_reducing _ _ (sym c.in-Some-reducing_of.is ∙ (c.reducing_of.ensures ∙ i))) c.reduce.ensures.drawn
+
+pub returns-clause-drawn : goal.returns-clause-drawn
+returns-clause-drawn c = λ q i. absurd (no_reducing q (sym c.reducing_of.ensures ∙ c.in_default-reducing_of.is) i)
+
+pub returns-in-Some-reducing_of-clause-alone : goal.returns-in-Some-reducing_of-clause-alone
+returns-in-Some-reducing_of-clause-alone c = λ n. absurd (no_reducing c.in-Some-reducing_of.reducing n (sym (sym c.in-Some-reducing_of.is ∙ c.reducing_of.ensures)))

@@ -5,7 +5,7 @@ use Rattle.cv_bound.specs.declared.cost.Cost.{Cost}
 use Rattle.cv_bound.specs.declared.terms.Term.{Term}
 use Rattle.cv_bound.specs.Sums.{AllFit, added}
 use Rattle.cv_rule_scenes.specs.Kept.{scene_of}
-use Rattle.cv_kernel_crypto.specs.Applied.{HasEquivalences}
+use Rattle.cv_kernel_crypto.specs.Applied.{DrawsNext, HasEquivalences}
 use Rattle.cv_kernel_costs.specs.Costs.{advantage_of}
 use Rattle.cv_kernel.proofs.Reduced.{advantage-fits, failed-answer, formed-grown, next-formed, reduced, refused-answer}
 use Rattle.cv_kernel.proofs.sequence.Sequence.reduce.Goals as goal
@@ -40,6 +40,11 @@ returns-clause-answer c =
     let step = mid.steps + 1 in
     reduced w.pool.limit (length w.pool.trees) _ _ (ap (λ (g : Game). scene_of w.pool w.decls g.root) same.game) c.args.reducing.equivalence c.args.reducing.key c.apply.new.work.pool.trees c.args.self.now _ step c.in_ok-next.next refl c.in_ok-next.ensures.answer refl
     (let e = same.steps in omega arith) refl (c.in_ok-sum.ensures ∙ (ap (λ (k : Cost). added mid.sum k false) c.advantage.ensures ∙ ap (λ (ts : List Term). added ts (advantage_of step c.args.reducing.equivalence) false) same.sum)) same.closed (sym c.in_ok-context.ensures.shape) c.in_ok-next.ensures.few
+
+pub returns-clause-drawn : goal.returns-clause-drawn
+returns-clause-drawn c =
+    let w = c.args.work.now in
+    subst (λ (g : Game). DrawsNext w.names c.apply.new.work.names w.decls.own (scene_of w.pool w.decls g.root) c.args.reducing.equivalence c.args.reducing.key (tree_at c.apply.new.work.pool.trees (Some c.in_ok-next.next.game.root))) c.prepare.ensures.same.game c.in_ok-next.ensures.drawn
 
 pub returns-clause-stands : goal.returns-clause-stands
 returns-clause-stands c =
