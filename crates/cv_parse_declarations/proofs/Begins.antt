@@ -1,18 +1,11 @@
--- How declarations and queries begin.
+-- How declarations begin, and the arguments of a function of the right side.
 use Rattle.std.proofs.Common.{◌≡◌, List, [], ◌∷◌, ◌||◌, refl}
 use Rattle.cv_parse_notation.specs.declared.sign.Sign.{Sign}
 use Rattle.cv_parse_notation.specs.declared.sign.Mark.TheVariants as mark
 use Rattle.cv_parse_notation.specs.Spells.{next_is, is_mark, is_unnamed, starts}
+use Rattle.cv_parse_grammar.specs.Phrases.{RightRest}
 use Rattle.cv_parse_grammar.specs.Rules.{heads}
-use Rattle.cv_parse_grammar.specs.Declarations.{collision_decl, declaration, event, secrecy}
-
-pub event_begins : (ts : List Sign) → (next_is (is_mark mark.Inj) ts || next_is (is_mark mark.EventWord) ts) ≡ next_is (starts heads event) ts
-event_begins [] = refl
-event_begins (t ∷ ts) = refl
-
-pub secrecy_begins : (ts : List Sign) → (next_is (is_mark mark.Secret) ts || next_is (is_mark mark.SecretOnce) ts) ≡ next_is (starts heads secrecy) ts
-secrecy_begins [] = refl
-secrecy_begins (t ∷ ts) = refl
+use Rattle.cv_parse_grammar.specs.Declarations.{collision_decl, declaration}
 
 pub collision_begins : (ts : List Sign) → (next_is (is_mark mark.Collision) ts || next_is is_unnamed ts) ≡ next_is (starts heads collision_decl) ts
 collision_begins [] = refl
@@ -21,3 +14,7 @@ collision_begins (t ∷ ts) = refl
 pub declaration_begins : (ts : List Sign) → (next_is (is_mark mark.Param) ts || (next_is (is_mark mark.Channel) ts || (next_is (is_mark mark.Proba) ts || (next_is (is_mark mark.TypeWord) ts || (next_is (is_mark mark.ConstWord) ts || (next_is (is_mark mark.Fun) ts || (next_is (is_mark mark.EventWord) ts || (next_is (is_mark mark.EquationWord) ts || (next_is (starts heads collision_decl) ts || (next_is (is_mark mark.Equiv) ts || next_is (is_mark mark.QueryWord) ts)))))))))) ≡ next_is (starts heads declaration) ts
 declaration_begins [] = refl
 declaration_begins (t ∷ ts) = refl
+
+pub rest_begins : (ts : List Sign) → (next_is (is_mark mark.New) ts || next_is (is_mark mark.Open) ts) ≡ next_is (heads RightRest) ts
+rest_begins [] = refl
+rest_begins (t ∷ ts) = refl

@@ -1,7 +1,6 @@
 pub mod Begins
 pub mod Choices
-pub mod Correspondences
-pub mod Groups
+pub mod Parts
 pub mod Sequences
 pub mod Pieces
 pub mod Wholes

@@ -1,5 +1,5 @@
+pub mod Around
 pub mod Choices
 pub mod Sequences
-pub mod Sides
 pub mod Blocks
 pub mod Files

@@ -8,13 +8,11 @@ ghost use Rattle.cv_parse_signature.specs.Declares.{Declares};
 ghost use Rattle.cv_parse_declarations.specs.Sequences.{DeclareAll};
 ghost use Rattle.cv_parse_declarations.specs.Choices.{ending, middle};
 
-use crate::collisions::collision_decl;
 use crate::equivalences::equiv_decl;
-use crate::queries::query_decl;
 use cv_parse_notation::{Mark, Sign};
 use cv_parse_signature::{
-    Heard, channel_decl, const_decl, equation_decl, event_decl, fun_decl, param_decl, proba_decl,
-    type_decl,
+    Heard, channel_decl, collision_decl, const_decl, equation_decl, event_decl, fun_decl,
+    param_decl, proba_decl, query_decl, type_decl,
 };
 use cv_parse_terms::{ReadError, Trail, is_at, is_unnamed_at};
 use std::alloc::Global;

@@ -7,53 +7,15 @@ ghost use Rattle.cv_parse_grammar.specs.Equivalences.{group as group_form};
 ghost use Rattle.cv_parse_grammar.specs.Declarations.{equiv_decl as equiv_form, probability as probability_form};
 ghost use Rattle.cv_parse_terms.specs.Gives.{Gives, read_in};
 ghost use Rattle.cv_parse_signature.specs.Declares.{Declares};
-ghost use Rattle.cv_parse_declarations.specs.Sides.{MakesSides};
+ghost use Rattle.cv_parse_signature.specs.Sides.{MakesSides};
 
+use crate::groups::{Side, group};
 use cv_parse_grammar::{Asked, Region, Role};
 use cv_parse_notation::{Mark, Sign};
-use cv_parse_processes::{Side, group};
-use cv_parse_signature::Heard;
+use cv_parse_signature::{Heard, probability};
 use cv_parse_terms::{NameUse, ReadError, Trail, expect, note, open, word};
 use cv_syntax::{Head, Make};
 use std::alloc::Global;
-
-/// The name of a probability, in parentheses.
-#[tactic(auto, using(cv_parse_terms::proofs::Places::places, cv_parse_terms::proofs::Levels::levels))]
-fn bracketed_name(
-    signs: &[Sign],
-    at: usize,
-    uses: &mut Vec<NameUse>,
-    depth: u32,
-) -> Result<(u32, usize), ReadError>
-    requires at { at ≤ length signs.now }
-    requires few { length signs.now < 2 ^ 32 }
-    ensures gives { Gives signs.now uses.old.items uses.new.items result
-        (read_in depth (bracket (word_form (Asks AProbability))) (drop at signs.now)) }
-{
-    let place = open(signs, at, depth, Mark::Open)?;
-    let (name, place) = word(signs, place, uses, Role::Asks(Asked::AProbability))?;
-    let place = expect(signs, place, Mark::Close)?;
-    Ok((name, place))
-}
-
-/// The probability that two sides are told apart.
-#[tactic(auto, using(cv_parse_terms::proofs::Places::places))]
-pub fn probability(
-    signs: &[Sign],
-    at: usize,
-    uses: &mut Vec<NameUse>,
-    depth: u32,
-) -> Result<(u32, usize), ReadError>
-    requires at { at ≤ length signs.now }
-    requires few { length signs.now < 2 ^ 32 }
-    ensures gives { Gives signs.now uses.old.items uses.new.items result
-        (read_in depth probability_form (drop at signs.now)) }
-{
-    let place = expect(signs, at, Mark::AtMost)?;
-    let (name, place) = bracketed_name(signs, place, uses, depth)?;
-    let place = expect(signs, place, Mark::Gives)?;
-    Ok((name, place))
-}
 
 /// Two groups, with the probability between them.
 #[tactic(auto, using(cv_parse_terms::proofs::Places::places))]

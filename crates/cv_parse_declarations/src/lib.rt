@@ -1,13 +1,13 @@
-// Reading of declarations, of each kind and one after another, and of whole files: declarations, a proof block and
-// a process.
+// Reading of groups of functions, of declarations, of each kind and one after another, and of whole files:
+// declarations, a proof block and a process.
 #![tactic(auto)]
 
 mod blocks;
 mod choice;
-mod collisions;
 mod equivalences;
 mod file;
-mod queries;
+mod functions;
+mod groups;
 
 pub use choice::{begins_decl, decls};
 pub use file::{Reading, read};

@@ -2,4 +2,3 @@ pub mod Starts
 pub mod Branches
 pub mod Nodes
 pub mod Productions
-pub mod Parts

@@ -1,9 +1,9 @@
--- How processes, bodies and functions begin.
+-- How processes, bodies and branches begin.
 use Rattle.std.proofs.Common.{◌≡◌, List, [], ◌∷◌, ◌||◌, refl}
 use Rattle.cv_parse_notation.specs.declared.sign.Sign.{Sign}
 use Rattle.cv_parse_notation.specs.declared.sign.Mark.TheVariants as mark
 use Rattle.cv_parse_notation.specs.Spells.{next_is, is_mark, is_word, is_find, is_zero}
-use Rattle.cv_parse_grammar.specs.Phrases.{Body, Input, Output, RightRest, Term}
+use Rattle.cv_parse_grammar.specs.Phrases.{Body, Input, Output, Term}
 use Rattle.cv_parse_grammar.specs.Rules.{heads}
 use Rattle.cv_parse_processes.specs.declared.continuation.Continuation.{Continuation}
 use Rattle.cv_parse_processes.specs.declared.continuation.Continuation.TheVariants.{Function, Process}
@@ -20,10 +20,6 @@ input_begins (t ∷ ts) = refl
 pub body_begins : (ts : List Sign) → (next_is (is_mark mark.New) ts || (next_is (is_mark mark.Let) ts || (next_is (is_mark mark.If) ts || (next_is is_find ts || next_is (heads Term) ts)))) ≡ next_is (heads Body) ts
 body_begins [] = refl
 body_begins (t ∷ ts) = refl
-
-pub rest_begins : (ts : List Sign) → (next_is (is_mark mark.New) ts || next_is (is_mark mark.Open) ts) ≡ next_is (heads RightRest) ts
-rest_begins [] = refl
-rest_begins (t ∷ ts) = refl
 
 -- a word or `suchthat`
 pub branch_begins : (ts : List Sign) → (next_is is_word ts || next_is (is_mark mark.Suchthat) ts) ≡ next_is begins_branch ts

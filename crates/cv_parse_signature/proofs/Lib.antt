@@ -1,1 +1,4 @@
+pub mod Begins
+pub mod Correspondences
 pub mod Listed
+pub mod Gathering

@@ -12,7 +12,7 @@ use Rattle.cv_parse_grammar.specs.Equivalences.{group}
 use Rattle.cv_parse_grammar.specs.Declarations.{probability}
 use Rattle.cv_parse_terms.specs.Gives.{read_in, read_note}
 use Rattle.cv_parse_terms.proofs.Chains.{both_read, made_read}
-use Rattle.cv_parse_declarations.proofs.Groups.{over_both}
+use Rattle.cv_parse_signature.proofs.Gathering.{over_both}
 use Rattle.cv_parse_signature.proofs.Listed.{ended_read, is_there, one_made}
 use Rattle.cv_parse_declarations.proofs.equivalences.equiv_decl.Goals as goal
 
