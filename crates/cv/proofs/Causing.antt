@@ -32,12 +32,12 @@ use Rattle.cv_typing.specs.declared.fault.TypeFault.{TypeFault}
 use Rattle.cv_typing.specs.Parts.{IsFirstIn, Part, file_parts}
 use Rattle.cv_typing.specs.Refusals.{IsFirstRefusal, refusal}
 use Rattle.cv_typing.proofs.First.{finds_first_in, parts_typed_where_none}
-use Rattle.cv_scope.specs.declared.fault.Fault.{Fault as ScopeRules}
-use Rattle.cv_scope.specs.declared.fault.ScopeFault.{ScopeFault}
-use Rattle.cv_scope.specs.Refusals.{refusal as scope_refusal}
-use Rattle.cv_scope.specs.Scope.{first_scope_fault, names_of}
-use Rattle.cv_scope.specs.Standing.{at_root}
-use Rattle.cv_scope.proofs.First.{finds_first, scoped_where_none}
+use Rattle.cv_scope_rules.specs.declared.fault.Fault.{Fault as ScopeRules}
+use Rattle.cv_scope_rules.specs.declared.fault.ScopeFault.{ScopeFault}
+use Rattle.cv_scope_rules.specs.Refusals.{refusal as scope_refusal}
+use Rattle.cv_scope_rules.specs.Scope.{first_scope_fault, names_of}
+use Rattle.cv_scope_rules.specs.Standing.{at_root}
+use Rattle.cv_scope_rules.proofs.First.{finds_first, scoped_where_none}
 use Rattle.cv_meaning.specs.Interpretation.{is_constant_of}
 use Rattle.cv_group.specs.declared.fault.GroupFault.{GroupFault}
 use Rattle.cv_group.specs.Refusals.{refused_by}
@@ -64,7 +64,7 @@ use Rattle.cv_syntax.specs.declared.work.File.{File}
 use Rattle.cv.specs.Causes.{ComesFrom, HasCertificate, HasGroupFault, HasManyClosed, HasNoScript, HasOpenQuery, HasQueryFault, HasQueryWithoutStep, HasScopeFault, HasStep, HasStop, HasTypeFault, LacksRoom, OfTokens, Outside, StopsUnbuilt, block_signs, closed_count}
 use Rattle.cv.specs.Causes as cause
 use Rattle.cv.specs.Faults.{parse_ended, status_of as ended_by}
-use Rattle.cv.specs.Words.{AreTold}
+use Rattle.cv_report_outcome.specs.Words.{AreTold}
 use Rattle.cv_query_direct.specs.Plain.{certificate}
 use Rattle.cv_plain.specs.Strategy.{EndsAt, Said, is_closed, is_proved, lacks_step, left_open, most_pool, most_steps, nothing_said, open_verdict, said_of, said_then}
 use Rattle.cv_report_verdicts.specs.Verdicts.{ended_with}

@@ -33,15 +33,16 @@ use Rattle.cv.specs.Answers.{Answers, IsComplete}
 use Rattle.cv.specs.Causes.{ComesFrom, Outside}
 use Rattle.cv.specs.Causes as cause
 use Rattle.cv.specs.Faults.{status_of as ended_by}
-use Rattle.cv.specs.Fetched.{fetch_ended}
+use Rattle.cv_report_outcome.specs.Fetched.{fetch_ended}
 use Rattle.cv_sequences.specs.Chains.{summed}
 use Rattle.cv.specs.Games.{HasCloseGames, IsWithin}
 use Rattle.cv_report.specs.declared.report.Entry.{Entry}
 use Rattle.cv_syntax.specs.declared.work.Game.{Game}
 use Rattle.cv_plain.specs.Strategy.{Course, EndsAt, most_pool, most_steps, nothing_said, said_of, status_by}
 use Rattle.cv.specs.Contexts.{contexts_in}
-use Rattle.cv.specs.Strategy.{AcceptsAll, EndsBy, EndsWell, HasFile, HoldsUpTo, IsExpected, IsGood, IsSound, Judged, Proceeds, SaysNothing, SpeaksOfFile, Succeeds, declared_in, file_in, game_in, most_bytes, steps_in}
-use Rattle.cv.specs.Words.{AreTold, bytes_named, bytes_under}
+use Rattle.cv_report_outcome.specs.Refused.{SaysNothing}
+use Rattle.cv.specs.Strategy.{AcceptsAll, EndsBy, EndsWell, HasFile, HoldsUpTo, IsExpected, IsGood, IsSound, Judged, Proceeds, SpeaksOfFile, Succeeds, declared_in, file_in, game_in, most_bytes, steps_in}
+use Rattle.cv_report_outcome.specs.Words.{AreTold, bytes_named, bytes_under}
 use Rattle.cv.proofs.Causing.{where_told}
 use Rattle.cv_plain.proofs.Courses.{course_fits}
 use Rattle.cv_plain.proofs.Verdicts.{all_closed}

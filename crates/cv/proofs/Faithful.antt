@@ -11,7 +11,7 @@ use Rattle.cv_syntax.specs.Tree.{Tree, tree_at}
 use Rattle.cv_accept.specs.Accepted.{Content, read_of}
 use Rattle.cv_bound.specs.declared.terms.Experiment.TheVariants.{Events}
 use Rattle.cv_bound.specs.Sums.{added}
-use Rattle.cv_bound.specs.Values.{Advantages, sum_value}
+use Rattle.cv_bound_values.specs.Values.{Advantages, sum_value}
 use Rattle.cv_meaning.specs.Advantage.{IsAsked, chance_of}
 use Rattle.cv_meaning.specs.Chances.{AtMost, distance}
 use Rattle.cv_meaning.specs.Experiments.{Experiment, mode_of}

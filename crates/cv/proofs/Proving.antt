@@ -10,7 +10,7 @@ use Rattle.cv_syntax.specs.Declarations.{Declaration}
 use Rattle.cv_syntax.specs.Tree.{Tree, Node}
 use Rattle.cv_bound.specs.declared.terms.Term.{Term}
 use Rattle.cv_bound.specs.Sums.{added}
-use Rattle.cv_bound.specs.Values.{Advantages, sum_value}
+use Rattle.cv_bound_values.specs.Values.{Advantages, sum_value}
 use Rattle.cv_meaning.specs.Advantage.{IsAsked, advantage, chance_of}
 use Rattle.cv_meaning.specs.Chances.{AtMost, Chance, zero_chance}
 use Rattle.cv_meaning.specs.Experiments.{Breaks, Experiment, mode_of}

@@ -32,7 +32,7 @@ use Rattle.cv_meaning_contexts.specs.ContextAdvantage.{context_advantage}
 use Rattle.cv_meaning_values.specs.Values.{HasValuesIn}
 use Rattle.cv_group_rules.specs.Faults.{IsAccepted, OneIndex, equivalences_in}
 use Rattle.cv_group_rules.specs.Rules.{branches_have_one_index}
-use Rattle.cv_scope.specs.Scope.{IsScoped}
+use Rattle.cv_scope_rules.specs.Scope.{IsScoped}
 use Rattle.cv_typing.specs.declared.form.Form.TheVariants.{InProcess}
 use Rattle.cv_typing.specs.Parts.{IsTypedFile, declaration_parts, game_part, nothing_above}
 use Rattle.cv_typing.specs.Signature.{declaration_of}

@@ -11,7 +11,7 @@ use Rattle.cv_meaning.specs.Runs.{Adversary}
 use Rattle.cv_accept.specs.declared.error.FileError.{FileError}
 use Rattle.cv_accept.specs.declared.error.FileError.TheVariants as fault
 use Rattle.cv_accept.specs.Accepted.{Content, Refuses, read_of}
-use Rattle.cv_scope.specs.Phrases.{IsWellFormed}
+use Rattle.cv_scope_rules.specs.Phrases.{IsWellFormed}
 use Rattle.cv_query_direct.proofs.Certificates.{no_advantage}
 use Rattle.cv_report.specs.declared.report.Status.{Status}
 use Rattle.cv_report.specs.declared.report.Status.TheVariants as status

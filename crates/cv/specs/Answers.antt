@@ -1,13 +1,13 @@
 -- What a report says of the told bytes of a file.
-use Rattle.std.specs.Prelude.{◌≡◌, ℕ, ◌<◌, ◌≤◌, ◌⊎◌, List, length, Option, None, IfSome, IsSome, MatchOption}
+use Rattle.std.specs.Prelude.{◌≡◌, ℕ, ◌<◌, ◌≤◌, ◌⊎◌, List, length, Option, IfSome, IsSome, MatchOption}
 use Rattle.cv_accept.specs.Accepted.{IsFile}
-use Rattle.cv_report.specs.declared.report.Command.{Command}
 use Rattle.cv_report.specs.declared.report.Report.{Report}
 use Rattle.cv_report.specs.declared.report.Status.{Status}
 use Rattle.cv_report.specs.declared.report.Status.TheVariants as status
 use Rattle.cv_report.specs.declared.report.Which.TheVariants.{File}
 use Rattle.cv_plain.specs.Strategy.{most_pool}
-use Rattle.cv.specs.Strategy.{HasFile, Judged, MayHaveFile, Proceeds, SaysNothing, SpeaksOfFile, file_in, most_bytes, steps_in}
+use Rattle.cv_report_outcome.specs.Refused.{SaysNothing}
+use Rattle.cv.specs.Strategy.{HasFile, Judged, MayHaveFile, Proceeds, SpeaksOfFile, file_in, most_bytes, steps_in}
 
 -- A report's file is what the told bytes are, with the first of the report's names, and its steps, verdicts and status are those of its
 -- proof block, or of the plain strategy where it has none. Without a file there are none. A status that speaks of a file is one that the
@@ -23,10 +23,3 @@ pub record Answers (told : Option (List ℕ)) (r : Report) : Type 0 where
 pub record IsComplete (bytes : List ℕ) (s : Status) : Type 0 where
   pub short : length bytes ≤ most_bytes → Judged s bytes
   pub long : most_bytes < length bytes → (s ≡ status.Limit File) ⊎ (s ≡ status.Memory)
-
--- The report of a run that memory ran out in has no file.
-pub record SaysMemory (asked : Command) (r : Report) : Type 0 where
-  pub status : r.status ≡ status.Memory
-  pub command : r.command ≡ asked
-  pub file : r.file ≡ None
-  pub nothing : SaysNothing r

@@ -20,10 +20,10 @@ use Rattle.cv_parse.specs.Says.{HasDepth, HasNodes, HasWeight, IsLarge, IsMisnam
 use Rattle.cv_typing.specs.declared.fault.TypeFault.{TypeFault}
 use Rattle.cv_typing.specs.Parts.{IsTypedFile, file_parts}
 use Rattle.cv_typing.specs.Refusals.{IsFirstRefusal}
-use Rattle.cv_scope.specs.declared.fault.ScopeFault.{ScopeFault}
-use Rattle.cv_scope.specs.declared.fault.Fault.{Fault}
-use Rattle.cv_scope.specs.Refusals.{refusal}
-use Rattle.cv_scope.specs.Scope.{IsFirstFault, IsScoped}
+use Rattle.cv_scope_rules.specs.declared.fault.ScopeFault.{ScopeFault}
+use Rattle.cv_scope_rules.specs.declared.fault.Fault.{Fault}
+use Rattle.cv_scope_rules.specs.Refusals.{refusal}
+use Rattle.cv_scope_rules.specs.Scope.{IsFirstFault, IsScoped}
 use Rattle.cv_meaning.specs.Interpretation.{is_constant_of}
 use Rattle.cv_group.specs.declared.fault.GroupFault.{GroupFault}
 use Rattle.cv_group.specs.Refusals.{refused_by}
@@ -45,7 +45,7 @@ use Rattle.cv_plain.specs.Strategy.{IsCrowded, is_closed, is_proved, lacks_step,
 use Rattle.cv_steps.specs.Sequences.{scene}
 use Rattle.cv.specs.Scripts.{Stops, first_open, known_to}
 use Rattle.cv.specs.Strategy.{declared_in, game_in, most_bytes, nodes_in, said_in, steps_in}
-use Rattle.cv.specs.Words.{bytes_named}
+use Rattle.cv_report_outcome.specs.Words.{bytes_named}
 
 -- The bytes have tokens, of which this holds.
 pub record OfTokens (bytes : List ℕ) (Holds : List Token → Type 0) : Type 0 where

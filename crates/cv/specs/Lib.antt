@@ -2,12 +2,9 @@ pub mod Answers
 pub mod Causes
 pub mod Contexts
 pub mod Faults
-pub mod Fetched
 pub mod Games
 pub mod Runs
 pub mod Scripts
 pub mod Strategy
 pub mod Values
 pub mod Walks
-pub mod Words
-pub mod Written

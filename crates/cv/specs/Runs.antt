@@ -10,7 +10,8 @@ use Rattle.cv_report.specs.declared.report.Status.TheVariants as status
 use Rattle.cv_report.specs.declared.report.Verdict.{Verdict}
 use Rattle.cv_report.specs.declared.report.Verdict.TheVariants.{Proved}
 use Rattle.cv_report.specs.Text.{IsLive}
-use Rattle.cv.specs.Strategy.{HoldsUpTo, MayHaveFile, Proceeds, SaysNothing, file_in, steps_in}
+use Rattle.cv_report_outcome.specs.Refused.{SaysNothing}
+use Rattle.cv.specs.Strategy.{HoldsUpTo, MayHaveFile, Proceeds, file_in, steps_in}
 use Rattle.cv.specs.Values.{Contexts}
 
 -- where the verdict on a query is `Proved`, the query holds up to the sum, with the advantages of these contexts

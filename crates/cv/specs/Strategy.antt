@@ -114,13 +114,6 @@ abbrev pub Proceeds : Report → File → Option (List Tree) → Type 0
 Proceeds r f None = FollowsStrategy r f
 Proceeds r f (Some script) = FollowsScript r f script
 
--- without a file there are none
-pub record SaysNothing (r : Report) : Type 0 where
-  pub steps : r.steps.items ≡ []
-  pub trail : r.trail.items ≡ []
-  pub verdicts : r.verdicts.items ≡ []
-  pub script : r.script ≡ None
-
 -- the status says that there is a file
 abbrev pub HasFile : Status → Type 0
 HasFile status.Proved = Unit {0}

@@ -14,7 +14,7 @@ use Rattle.cv_meaning_contexts.specs.ContextAdvantage.{context_advantage}
 use Rattle.cv_bound.specs.declared.terms.Experiment.{Experiment}
 use Rattle.cv_bound.specs.declared.terms.Experiment.TheVariants.{Events, Real, Random}
 use Rattle.cv_bound.specs.declared.terms.Term.{Term}
-use Rattle.cv_bound.specs.Values.{Advantages, sum_value}
+use Rattle.cv_bound_values.specs.Values.{Advantages, sum_value}
 
 -- the contexts of cryptographic steps, each with the number of its step
 abbrev pub Contexts : Type 0

@@ -2,7 +2,7 @@ ghost use Rattle.std.specs.Prelude.{◌≡◌, ◌<◌, ◌≤◌, [], ℕ, All,
 ghost use Rattle.cv_syntax.specs.Declarations.{declarations};
 ghost use Rattle.cv_syntax.specs.Tree.{size, tree_at};
 ghost use Rattle.cv_parse.specs.Declaring.{IsBelow};
-ghost use Rattle.cv_scope.specs.Phrases.{IsWellFormed};
+ghost use Rattle.cv_scope_rules.specs.Phrases.{IsWellFormed};
 ghost use Rattle.cv_accept.specs.Works.{HasSteps, content_at, content_nodes};
 ghost use Rattle.cv_plain.specs.Strategy.{most_pool};
 ghost use Rattle.cv_report.specs.Text.{IsLive};
@@ -13,16 +13,17 @@ ghost use Rattle.cv.specs.Causes.{ComesFrom, Outside};
 ghost use Rattle.cv.specs.Games.{HasCloseGames};
 ghost use Rattle.cv.specs.Runs.{Runs};
 ghost use Rattle.cv.specs.Strategy.{IsSound, Judged};
-ghost use Rattle.cv.specs.Words.{AreTold};
+ghost use Rattle.cv_report_outcome.specs.Words.{AreTold};
 
 use crate::follow::run_script;
 use crate::plain::run_plain;
-use crate::refusal::{refused, status_of};
+use crate::refusal::status_of;
 use cv_accept::{Accepted, read};
 use cv_derivations_reached::derivations_are_sound;
 use cv_query_certificates::accepted_exactly_where_nothing_fails;
 use cv_query_correspondences::accepted_correspondences_are_never_broken;
 use cv_report::{Command, Report};
+use cv_report_outcome::refused;
 use cv_syntax::Work;
 use std::alloc::Global;
 

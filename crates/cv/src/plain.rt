@@ -1,15 +1,15 @@
 ghost use Rattle.std.specs.Prelude.{◌≡◌, ◌<◌, ◌≤◌, All, None, Some, length};
 ghost use Rattle.cv_syntax.specs.Tree.{size, tree_at};
 ghost use Rattle.cv_parse.specs.Declaring.{IsBelow};
-ghost use Rattle.cv_scope.specs.Phrases.{IsWellFormed};
+ghost use Rattle.cv_scope_rules.specs.Phrases.{IsWellFormed};
 ghost use Rattle.cv_syntax.specs.Declarations.{declarations};
 ghost use Rattle.cv_accept.specs.Works.{content_at, content_nodes};
 ghost use Rattle.cv_plain.specs.Strategy.{most_pool};
 ghost use Rattle.cv.specs.Runs.{Runs};
 
-use crate::refusal::refused;
 use cv_plain::{Findings, answer, trail_of};
 use cv_report::{Command, Report, Status};
+use cv_report_outcome::refused;
 use cv_syntax::{File, Work};
 use std::alloc::Global;
 

@@ -1,31 +1,10 @@
-ghost use Rattle.std.specs.Prelude.{◌≡◌, None};
+ghost use Rattle.std.specs.Prelude.{◌≡◌};
 ghost use Rattle.cv.specs.Faults.{parse_ended, status_of as ended_by};
-ghost use Rattle.cv.specs.Strategy.{SaysNothing};
 
 use cv_accept::FileError;
 use cv_parse::ParseError;
-use cv_report::{Command, FileFault, Report, Status, Which};
-use cv_syntax::{BuildError, Work};
-use std::alloc::Global;
-
-/// A report on a run that ended before a file was accepted, or that memory ran out in.
-pub fn refused(alloc: Global, work: Work, command: Command, status: Status) -> Report
-    ensures status { result.status ≡ status }
-    ensures command { result.command ≡ command }
-    ensures file { result.file ≡ None }
-    ensures nothing { SaysNothing result }
-{
-    Report {
-        work,
-        file: None,
-        command,
-        script: None,
-        steps: Vec::new(alloc),
-        trail: Vec::new(alloc),
-        verdicts: Vec::new(alloc),
-        status,
-    }
-}
+use cv_report::{FileFault, Status, Which};
+use cv_syntax::BuildError;
 
 /// How tokens that are no file end a run.
 fn parse_ended(fault: ParseError) -> Status

@@ -1,20 +1,17 @@
-ghost use Rattle.std.specs.Prelude.{◌≡◌, ◌≢◌, ◌⊎◌, None, Some, map, IfSome, string_bytes};
-ghost use Rattle.cv_outside.specs.Causes.{NoFault, Rose};
-ghost use Rattle.cv_report.specs.Text.{IsLive, text_of};
-ghost use Rattle.cv_report.specs.Writing.{TakesAll, TakesFront};
-ghost use Rattle.cv.specs.Answers.{Answers, IsComplete, SaysMemory};
+ghost use Rattle.std.specs.Prelude.{◌≡◌, ◌≢◌, Some, map, IfSome, string_bytes};
+ghost use Rattle.cv_outside.specs.Causes.{NoFault};
+ghost use Rattle.cv_report.specs.Text.{IsLive};
+ghost use Rattle.cv.specs.Answers.{Answers, IsComplete};
 ghost use Rattle.cv.specs.Causes.{ComesFrom, outside_of};
-ghost use Rattle.cv.specs.Fetched.{fetch_ended};
 ghost use Rattle.cv.specs.Games.{HasCloseGames};
 ghost use Rattle.cv.specs.Strategy.{EndsWell, IsGood, IsSound};
-ghost use Rattle.cv.specs.Words.{AsksOnly, SaysOfWords, bytes_named, file_given};
-ghost use Rattle.cv.specs.Written.{EndsBy, IsWritten, unwritten as unwritten_status};
+ghost use Rattle.cv_report_outcome.specs.Words.{AsksOnly, SaysOfWords, bytes_named, file_given};
+ghost use Rattle.cv_report_outcome.specs.Written.{EndsBy, IsWritten};
 
 use crate::decide::{MOVES, judge};
-use crate::refusal::refused;
-use crate::words::named;
-use cv_outside::{FetchError, Shelf, Sink};
-use cv_report::{Command, Report, Status, Which, WriteError, write as write_report};
+use cv_outside::{Shelf, Sink};
+use cv_report::{Command, Report, Status};
+use cv_report_outcome::{Outcome, fetch_status, named, refused, write};
 use cv_syntax::Work;
 use std::alloc::Global;
 
@@ -23,24 +20,6 @@ const MOST_BYTES: usize = 1_048_576;
 
 /// The most nodes of the pool.
 const MOST_NODES: u32 = 16_000_000;
-
-/// What a run answers.
-#[derive(Drop)]
-pub struct Outcome {
-    pub status: Status,
-    pub report: Report,
-}
-
-/// How a file that wasn't fetched ends a run.
-fn status_of(fault: FetchError) -> Status
-    ensures { result ≡ fetch_ended fault }
-{
-    match fault {
-        FetchError::Failed => Status::Read,
-        FetchError::Long => Status::Limit(Which::File),
-        FetchError::OutOfMemory => Status::Memory,
-    }
-}
 
 /// All but the writing, where the words name a file.
 fn prove<F: Shelf>(alloc: Global, name: &str, shelf: &mut F) -> Report
@@ -64,7 +43,7 @@ fn prove<F: Shelf>(alloc: Global, name: &str, shelf: &mut F) -> Report
             alloc,
             work,
             Command::Prove { moves: MOVES },
-            status_of(fault),
+            fetch_status(fault),
         ),
     }
 }
@@ -90,52 +69,6 @@ fn decide<F: Shelf>(alloc: Global, words: &[String], shelf: &mut F) -> Report
             let work = Work::new(alloc, MOST_NODES);
             refused(alloc, work, Command::Nothing, Status::Words)
         }
-    }
-}
-
-/// How a run ends whose report isn't written to its end. Want of memory merges with no fault.
-fn unwritten(status: Status) -> Status
-    ensures { result ≡ unwritten_status status }
-{
-    match status {
-        Status::Memory => Status::Memory,
-        _ => Status::Write,
-    }
-}
-
-/// What a run answers that has no memory left for the text of its report. Nothing is written then.
-fn spent(alloc: Global, report: Report) -> Outcome
-    ensures status { result.status ≡ Status.Memory }
-    ensures report { SaysMemory report.command result.report }
-{
-    Outcome {
-        status: Status::Memory,
-        report: refused(alloc, report.work, report.command, Status::Memory),
-    }
-}
-
-/// Writes a report.
-#[tactic(auto, using(crate::proofs::Writing::unwritten_laws))]
-fn write<K: Sink>(alloc: Global, report: Report, sink: &mut K) -> Outcome
-    requires { IsLive report }
-    ensures kept { (result.report ≡ report) ⊎ SaysMemory report.command result.report }
-    ensures front { TakesFront (K.taken sink.old) (K.taken sink.new) (text_of result.report) }
-    ensures all { result.status ≢ Status.Write → result.status ≢ Status.Memory
-        → TakesAll (K.taken sink.old) (K.taken sink.new) (text_of result.report) }
-    ensures status { (result.status ≡ result.report.status)
-        ⊎ ((result.status ≡ Status.Write) × Rose (K.faults sink.old) (K.faults sink.new)) }
-    ensures memory { result.report.status ≡ Status.Memory → result.status ≡ Status.Memory }
-{
-    match write_report(alloc, sink, &report) {
-        Ok(()) => Outcome {
-            status: report.status,
-            report,
-        },
-        Err(WriteError::Failed) => Outcome {
-            status: unwritten(report.status),
-            report,
-        },
-        Err(WriteError::OutOfMemory) => spent(alloc, report),
     }
 }
 

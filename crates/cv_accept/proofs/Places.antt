@@ -4,14 +4,14 @@ use Rattle.cv_syntax.specs.Declarations.{Declaration}
 use Rattle.cv_syntax.specs.Tree.{Tree, size}
 use Rattle.cv_typing.specs.Parts.{declaration_parts, file_parts, game_part}
 use Rattle.cv_typing.specs.Refusals.{parts_size}
-use Rattle.cv_scope.specs.declared.fault.Fault.{Fault}
-use Rattle.cv_scope.specs.declared.fault.Fault.TheVariants as rules
-use Rattle.cv_scope.specs.declared.fault.ScopeFault.{ScopeFault}
-use Rattle.cv_scope.specs.declared.fault.ScopeFault.TheVariants.{Unscoped, TwoSites, Channel, Replications, OutOfMemory}
-use Rattle.cv_scope.specs.Refusals.{IsRefusalOf}
-use Rattle.cv_scope.specs.Scope.{first_scope_fault, names_of}
-use Rattle.cv_scope.specs.Standing.{at_root}
-use Rattle.cv_scope.proofs.First.{earlier, finds_first}
+use Rattle.cv_scope_rules.specs.declared.fault.Fault.{Fault}
+use Rattle.cv_scope_rules.specs.declared.fault.Fault.TheVariants as rules
+use Rattle.cv_scope_rules.specs.declared.fault.ScopeFault.{ScopeFault}
+use Rattle.cv_scope_rules.specs.declared.fault.ScopeFault.TheVariants.{Unscoped, TwoSites, Channel, Replications, OutOfMemory}
+use Rattle.cv_scope_rules.specs.Refusals.{IsRefusalOf}
+use Rattle.cv_scope_rules.specs.Scope.{first_scope_fault, names_of}
+use Rattle.cv_scope_rules.specs.Standing.{at_root}
+use Rattle.cv_scope_rules.proofs.First.{earlier, finds_first}
 use Rattle.cv_accept.specs.Places.{HasPlace, behind, nodes_before, refused_behind}
 use Rattle.cv_accept.proofs.Weights.{parts_both}
 

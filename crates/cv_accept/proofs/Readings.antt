@@ -25,13 +25,13 @@ use Rattle.cv_typing.specs.declared.fault.TypeFault.TheVariants as type
 use Rattle.cv_typing.specs.Parts.{file_parts}
 use Rattle.cv_typing.specs.Refusals.{IsRefusalOf}
 use Rattle.cv_typing.proofs.First.{none_where_parts_typed, parts_typed_where_none}
-use Rattle.cv_scope.specs.declared.fault.Fault.{Fault as ScopeRules}
-use Rattle.cv_scope.specs.declared.fault.ScopeFault.{ScopeFault}
-use Rattle.cv_scope.specs.declared.fault.ScopeFault.TheVariants as scope
-use Rattle.cv_scope.specs.Refusals.{IsRefusalOf as IsRefusal}
-use Rattle.cv_scope.specs.Scope.{first_scope_fault, names_of}
-use Rattle.cv_scope.specs.Standing.{at_root}
-use Rattle.cv_scope.proofs.First.{none_where_scoped, scoped_where_none}
+use Rattle.cv_scope_rules.specs.declared.fault.Fault.{Fault as ScopeRules}
+use Rattle.cv_scope_rules.specs.declared.fault.ScopeFault.{ScopeFault}
+use Rattle.cv_scope_rules.specs.declared.fault.ScopeFault.TheVariants as scope
+use Rattle.cv_scope_rules.specs.Refusals.{IsRefusalOf as IsRefusal}
+use Rattle.cv_scope_rules.specs.Scope.{first_scope_fault, names_of}
+use Rattle.cv_scope_rules.specs.Standing.{at_root}
+use Rattle.cv_scope_rules.proofs.First.{none_where_scoped, scoped_where_none}
 use Rattle.cv_meaning.specs.Interpretation.{is_constant_of}
 use Rattle.cv_group.specs.declared.fault.GroupFault.{GroupFault}
 use Rattle.cv_group.specs.declared.fault.GroupFault.TheVariants as group

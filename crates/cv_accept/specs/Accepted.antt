@@ -7,7 +7,7 @@ use Rattle.cv_parse_notation.specs.declared.sign.Mark.{Mark}
 use Rattle.cv_parse_notation.specs.declared.sign.Mark.TheVariants as mark
 use Rattle.cv_parse_terminals.specs.ScriptSigns.{between, script_signs}
 use Rattle.cv_parse_terminals.specs.Signs.{signs_of}
-use Rattle.cv_parse_terminals.specs.Spelling.{mark_of_text}
+use Rattle.cv_parse_spelling.specs.Spelling.{mark_of_text}
 use Rattle.cv_parse_script.specs.declared.error.ScriptError.{ScriptError}
 use Rattle.cv_parse_script.specs.declared.error.ScriptError.TheVariants as script
 use Rattle.cv_parse_script.specs.Scripts.{items}
@@ -23,9 +23,9 @@ use Rattle.cv_parse.specs.Says.{Says}
 use Rattle.cv_typing.specs.declared.fault.Fault.{Fault}
 use Rattle.cv_typing.specs.Parts.{IsTypedFile, file_parts, first_in}
 use Rattle.cv_typing.specs.Refusals.{refusal}
-use Rattle.cv_scope.specs.declared.fault.Fault.{Fault as ScopeRules}
-use Rattle.cv_scope.specs.Refusals.{refusal as scope_refusal}
-use Rattle.cv_scope.specs.Scope.{IsScoped, first_scope_fault}
+use Rattle.cv_scope_rules.specs.declared.fault.Fault.{Fault as ScopeRules}
+use Rattle.cv_scope_rules.specs.Refusals.{refusal as scope_refusal}
+use Rattle.cv_scope_rules.specs.Scope.{IsScoped, first_scope_fault}
 use Rattle.cv_meaning.specs.Interpretation.{is_constant_of}
 use Rattle.cv_group.specs.Refusals.{refused_by}
 use Rattle.cv_group_rules.specs.Faults.{AreAccepted, GroupRule, equivalences_in, first_group_fault}

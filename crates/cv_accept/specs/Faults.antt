@@ -17,8 +17,8 @@ use Rattle.cv_parse.specs.declared.error.ParseError.{ParseError}
 use Rattle.cv_parse.specs.declared.error.ParseError.TheVariants as parse
 use Rattle.cv_typing.specs.declared.fault.TypeFault.{TypeFault}
 use Rattle.cv_typing.specs.declared.fault.TypeFault.TheVariants as type
-use Rattle.cv_scope.specs.declared.fault.ScopeFault.{ScopeFault}
-use Rattle.cv_scope.specs.declared.fault.ScopeFault.TheVariants as scope
+use Rattle.cv_scope_rules.specs.declared.fault.ScopeFault.{ScopeFault}
+use Rattle.cv_scope_rules.specs.declared.fault.ScopeFault.TheVariants as scope
 use Rattle.cv_group.specs.declared.fault.GroupFault.{GroupFault}
 use Rattle.cv_group.specs.declared.fault.GroupFault.TheVariants as group
 use Rattle.cv_query_form.specs.declared.fault.QueryFault.{QueryFault}

@@ -3,9 +3,9 @@ use Rattle.std.specs.Prelude.{ℕ, ◌+◌, ◌<◌, List, Option, Some, None, f
 use Rattle.cv_syntax.specs.Declarations.{Declaration}
 use Rattle.cv_typing.specs.Parts.{declaration_parts}
 use Rattle.cv_typing.specs.Refusals.{parts_size}
-use Rattle.cv_scope.specs.declared.fault.Fault.{Fault}
-use Rattle.cv_scope.specs.declared.fault.ScopeFault.{ScopeFault}
-use Rattle.cv_scope.specs.declared.fault.ScopeFault.TheVariants.{Unscoped, TwoSites, Channel, Replications, OutOfMemory}
+use Rattle.cv_scope_rules.specs.declared.fault.Fault.{Fault}
+use Rattle.cv_scope_rules.specs.declared.fault.ScopeFault.{ScopeFault}
+use Rattle.cv_scope_rules.specs.declared.fault.ScopeFault.TheVariants.{Unscoped, TwoSites, Channel, Replications, OutOfMemory}
 
 -- how many nodes stand before the process
 abbrev pub nodes_before : List Declaration → ℕ

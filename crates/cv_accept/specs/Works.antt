@@ -14,7 +14,7 @@ use Rattle.cv_parse_script.specs.Scripts.{trees_of}
 use Rattle.cv_parse_script.specs.Trees.{script_nodes}
 use Rattle.cv_script.specs.declared.steps.Step.{Step}
 use Rattle.cv_typing.specs.Parts.{IsTypedFile}
-use Rattle.cv_scope.specs.Phrases.{IsWellFormed}
+use Rattle.cv_scope_rules.specs.Phrases.{IsWellFormed}
 use Rattle.cv_meaning.specs.Queries.{queries_in}
 use Rattle.cv_query_form.specs.Rules.{AreAsked}
 use Rattle.cv_accept.specs.declared.error.FileError.{FileError}

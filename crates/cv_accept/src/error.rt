@@ -3,7 +3,7 @@ use cv_lex::LexError;
 use cv_parse::ParseError;
 use cv_parse_script::ScriptError;
 use cv_query_form::QueryFault;
-use cv_scope::ScopeFault;
+use cv_scope_rules::ScopeFault;
 use cv_syntax::BuildError;
 use cv_typing::TypeFault;
 use std::alloc::AllocError;

@@ -15,7 +15,7 @@ use cv_lex::{Tokens, tokens};
 use cv_parse::file;
 use cv_parse_notation::Mark;
 use cv_parse_script::script;
-use cv_parse_terminals::spelled;
+use cv_parse_spelling::spelled;
 use cv_query_built::has_unbuilt;
 use cv_query_form::check as check_queries;
 use cv_script::Step;

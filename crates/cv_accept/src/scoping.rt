@@ -4,13 +4,14 @@ ghost use Rattle.cv_syntax.specs.Tree.{size, tree_at};
 ghost use Rattle.cv_directory.specs.Sites.{sites_of};
 ghost use Rattle.cv_directory.specs.Tables.{seen};
 ghost use Rattle.cv_directory.specs.Live.{IsLive};
-ghost use Rattle.cv_scope.specs.Refusals.{IsRefusalOf};
-ghost use Rattle.cv_scope.specs.Scope.{first_scope_fault};
+ghost use Rattle.cv_scope_rules.specs.Refusals.{IsRefusalOf};
+ghost use Rattle.cv_scope_rules.specs.Scope.{first_scope_fault};
 ghost use Rattle.cv_accept.specs.Places as places;
 ghost use Rattle.cv_accept.specs.Places.{HasPlace, refused_behind};
 
 use cv_directory::Directory;
-use cv_scope::{ScopeFault, check_with};
+use cv_scope::check_with;
+use cv_scope_rules::ScopeFault;
 use cv_syntax::{Game, Work};
 use std::alloc::Global;
 

@@ -1,4 +1,1 @@
 pub mod Merging
-pub mod Adding
-pub mod Orders
-pub mod Coefficients

@@ -1,6 +1,3 @@
-pub mod Orders
 pub mod Places
 pub mod Sums
 pub mod Texts
-pub mod Values
-pub mod Worked

@@ -13,8 +13,8 @@ use Rattle.cv_syntax.specs.Head.{weight}
 use Rattle.cv_syntax.specs.NameSets.{is_in}
 use Rattle.cv_syntax.specs.Postorder.{postorder}
 use Rattle.cv_syntax.specs.Tree.{Tree, Empty, Node, first_place, second_place}
-use Rattle.cv_scope.specs.declared.position.Position.{Position}
-use Rattle.cv_scope.specs.Context.{cell_of, first_position, replications_below, second_position}
+use Rattle.cv_scope_rules.specs.declared.position.Position.{Position}
+use Rattle.cv_scope_rules.specs.Context.{cell_of, first_position, replications_below, second_position}
 use Rattle.cv_scenes.specs.Sites.{is_guard}
 use Rattle.cv_context_parts.specs.Closing.{closing}
 use Rattle.cv_context_nodes.specs.Calls.{terms_of}

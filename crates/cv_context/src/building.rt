@@ -11,7 +11,7 @@ use crate::calls::calls_of;
 use crate::roles::roles_of;
 use crate::walk::{Next, put};
 use cv_match_patterns::Site;
-use cv_scope::Position;
+use cv_scope_rules::Position;
 use cv_syntax::{Make, NodeId, Pool, PoolError};
 use cv_syntax_limits::plant_tree;
 use std::alloc::{AllocError, Global};

@@ -2,7 +2,7 @@ ghost use Rattle.std.specs.Prelude.{◌≡◌, ◌+◌, ◌<◌, ◌≤◌, ◌^
 ghost use Rattle.cv_pool.specs.Nodes.{ChildBelow};
 ghost use Rattle.cv_syntax.specs.Postorder.{postorder};
 ghost use Rattle.cv_syntax.specs.Tree.{size, tree_at};
-ghost use Rattle.cv_scope.specs.Context.{replications_below};
+ghost use Rattle.cv_scope_rules.specs.Context.{replications_below};
 ghost use Rattle.cv_scenes.specs.Sites as instances;
 ghost use Rattle.cv_context_nodes.specs.Calls.{IsLive};
 ghost use Rattle.cv_context.specs.Written.{is_site, part_unless};
@@ -10,7 +10,7 @@ ghost use Rattle.cv_context.specs.Written.{is_site, part_unless};
 use cv_context_nodes::{Call, Roles, answer, push_cell, put_node};
 use cv_context_parts::{close, push_tree};
 use cv_path::size_below;
-use cv_scope::Position;
+use cv_scope_rules::Position;
 use cv_syntax::{Head, Make, NodeId, Pool, read_node};
 use std::alloc::AllocError;
 

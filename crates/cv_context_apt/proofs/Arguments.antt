@@ -5,7 +5,7 @@ use Rattle.cv_syntax.specs.declared.head.Head.{Head}
 use Rattle.cv_syntax.specs.declared.head.Head.TheVariants.{And, Apply, Cons, Eq, Leaf, No, Not, Or, Read, Yes}
 use Rattle.cv_syntax.specs.Tree.{Tree, Empty, Node, first_place, second_place}
 use Rattle.cv_directory.specs.Sites.{first_of}
-use Rattle.cv_scope.specs.Phrases.{Nil, Term, Terms, is_phrase}
+use Rattle.cv_scope_rules.specs.Phrases.{Nil, Term, Terms, is_phrase}
 use Rattle.cv_scenes.specs.Scenes.{first_reading, head_reads}
 use Rattle.cv_derivations.specs.Given.{or_node, term_for, with_given}
 use Rattle.cv_scenes.specs.Refusals.{first_in_arguments, is_among, is_name_of, uses}

@@ -14,10 +14,10 @@ use Rattle.cv_meaning_contexts.specs.Finds.{function_of_site}
 use Rattle.cv_meaning_contexts.specs.Groups.{function_at}
 use Rattle.cv_meaning_contexts.specs.Sites as numbered
 use Rattle.cv_meaning_contexts.specs.Sites.{bounds_above, is_call, site_numbered, site_with, sites_from}
-use Rattle.cv_scope.specs.Context.{cell_of, first_position, replications_below, second_position}
-use Rattle.cv_scope.specs.Phrases.{Arm, Binders, Body, Branches, Cells, Else, Guarded, Guards, Indices as Names, Inputs, Nil, Pattern, Message, Term, Terms, Then, is_phrase}
-use Rattle.cv_scope.specs.declared.position.Position.{Position}
-use Rattle.cv_scope.specs.declared.position.Position.TheVariants as position
+use Rattle.cv_scope_rules.specs.Context.{cell_of, first_position, replications_below, second_position}
+use Rattle.cv_scope_rules.specs.Phrases.{Arm, Binders, Body, Branches, Cells, Else, Guarded, Guards, Indices as Names, Inputs, Nil, Pattern, Message, Term, Terms, Then, is_phrase}
+use Rattle.cv_scope_rules.specs.declared.position.Position.{Position}
+use Rattle.cv_scope_rules.specs.declared.position.Position.TheVariants as position
 use Rattle.cv_scenes.specs.Instances.{Call as Found, call_at}
 use Rattle.cv_scenes.specs.Sites.{Site, is_guard, sites_in}
 use Rattle.cv_scenes.specs.Contexts.{after_calls, context_in, in_context, is_statement}

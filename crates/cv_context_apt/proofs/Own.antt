@@ -4,9 +4,9 @@ use Rattle.std.proofs.lemmas.Bool.{both_ways, and_parts, eqb-false, not-true}
 use Rattle.std.specs.List.{AllByRecursion, list_any}
 use Rattle.std.specs.Prelude.{nat_eq, slice_get}
 use Rattle.cv_syntax.specs.Tree.{Tree, Empty, Node, chain, first, reads_only, same_tree}
-use Rattle.cv_scope.specs.Context.{cell_of}
-use Rattle.cv_scope.specs.Phrases.{IsWellFormed}
-use Rattle.cv_scope.specs.declared.position.Position.TheVariants.{Anywhere}
+use Rattle.cv_scope_rules.specs.Context.{cell_of}
+use Rattle.cv_scope_rules.specs.Phrases.{IsWellFormed}
+use Rattle.cv_scope_rules.specs.declared.position.Position.TheVariants.{Anywhere}
 use Rattle.cv_scenes.specs.Scenes.{head_reads, is_queried}
 use Rattle.cv_scenes.specs.Sights.{variable_of}
 use Rattle.cv_scenes.specs.Instances.{Matching, are_of_types, filled, is_argument_of, is_coin_of, is_read_of, names_of, terms_of}

@@ -9,10 +9,10 @@ use Rattle.cv_syntax.specs.Declarations.{Declaration}
 use Rattle.cv_syntax.specs.Tree.{Tree, Empty, Node, chain, first, reads_only, same_tree, second}
 use Rattle.cv_syntax.proofs.Equality.{same_tree_exact}
 use Rattle.cv_meaning.specs.Interpretation.{is_constant_of}
-use Rattle.cv_scope.specs.Context.{cell_of, replications_below}
-use Rattle.cv_scope.specs.Made.{is_bound, made_by}
-use Rattle.cv_scope.specs.Phrases.{IsWellFormed, binds_none, head_binds_none}
-use Rattle.cv_scope.specs.Sites.{Variable}
+use Rattle.cv_scope_rules.specs.Context.{cell_of, replications_below}
+use Rattle.cv_scope_rules.specs.Made.{is_bound, made_by}
+use Rattle.cv_scope_rules.specs.Phrases.{IsWellFormed, binds_none, head_binds_none}
+use Rattle.cv_scope_rules.specs.Sites.{Variable}
 use Rattle.cv_scenes.specs.Scenes.{is_queried}
 use Rattle.cv_scenes.specs.Sights.{variable_of}
 use Rattle.cv_scenes.specs.Instances.{Matching, are_of_types, is_argument_of, is_coin_of, is_read_of}

@@ -13,7 +13,7 @@ use Rattle.cv_directory.specs.Sites.{first_of}
 use Rattle.cv_directory.specs.declared.sort.Sort.TheVariants.{OfType}
 use Rattle.cv_typing.specs.Parts.{nothing_above}
 use Rattle.cv_typing.specs.Signature.{Signature, sort_of}
-use Rattle.cv_scope.specs.Phrases.{Term, is_phrase}
+use Rattle.cv_scope_rules.specs.Phrases.{Term, is_phrase}
 use Rattle.cv_scenes.specs.Sights.{variable_of}
 use Rattle.cv_scenes.specs.Terms.{is_sort, signature_in}
 use Rattle.cv_derivations.specs.Given.{or_node, term_for, with_given}

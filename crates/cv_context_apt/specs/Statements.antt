@@ -1,8 +1,8 @@
 -- What a game without refusals has, and terms in it: their sites are sites of the game. This profile's own.
 use Rattle.std.specs.Prelude.{◌≡◌, ℕ, ◌+◌, ◌<◌, true, false, List, length, slice_get, Some, None}
 use Rattle.cv_syntax.specs.Tree.{Tree, first}
-use Rattle.cv_scope.specs.Phrases.{IsWellFormed}
-use Rattle.cv_scope.specs.declared.position.Position.TheVariants.{Anywhere}
+use Rattle.cv_scope_rules.specs.Phrases.{IsWellFormed}
+use Rattle.cv_scope_rules.specs.declared.position.Position.TheVariants.{Anywhere}
 use Rattle.cv_scenes.specs.Scenes.{names}
 use Rattle.cv_scenes.specs.Refusals.{first_argument_use, first_coin_use, first_use, uses}
 use Rattle.cv_scenes.specs.Sites.{Site, sites_in}

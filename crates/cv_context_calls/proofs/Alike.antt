@@ -3,9 +3,9 @@ use Rattle.std.proofs.Common.{◌≡◌, ℕ, suc, ◌+◌, ◌<◌, ◌≤◌, 
 use Rattle.std.proofs.lemmas.List.{length-append}
 use Rattle.cv_syntax.specs.declared.head.Head.TheVariants.{Call as CallHead}
 use Rattle.cv_syntax.specs.Tree.{Tree, Empty, Node, first_place, second_place}
-use Rattle.cv_scope.specs.Context.{cell_of, first_position, replications_below, second_position}
-use Rattle.cv_scope.specs.declared.position.Position.{Position}
-use Rattle.cv_scope.specs.declared.position.Position.TheVariants.{Anywhere}
+use Rattle.cv_scope_rules.specs.Context.{cell_of, first_position, replications_below, second_position}
+use Rattle.cv_scope_rules.specs.declared.position.Position.{Position}
+use Rattle.cv_scope_rules.specs.declared.position.Position.TheVariants.{Anywhere}
 use Rattle.cv_scenes.specs.Scenes.{Scene}
 use Rattle.cv_scenes.specs.Instances.{Call, Matching, call_at}
 use Rattle.cv_scenes.specs.Sites.{Site, is_guard, sites_in, sites_of}

@@ -8,7 +8,7 @@ use Rattle.cv_syntax.specs.Tree.{Tree, Empty, Node}
 use Rattle.cv_meaning.specs.Cells.{bounds_under}
 use Rattle.cv_meaning.specs.Interpretation.{Setting}
 use Rattle.cv_meaning_contexts.specs.Sites.{bounds_above, first_of, is_call}
-use Rattle.cv_scope.specs.Phrases.{Body, Inputs, Nil, Phrase, Term, Terms, both_are, is_oracle_phrase, is_phrase, oracle_parts}
+use Rattle.cv_scope_rules.specs.Phrases.{Body, Inputs, Nil, Phrase, Term, Terms, both_are, is_oracle_phrase, is_phrase, oracle_parts}
 use Rattle.cv_scenes.specs.Contexts.{call_terms}
 use Rattle.cv_scenes.specs.Instances.{call_at}
 use Rattle.cv_scenes.specs.Sites.{Site}

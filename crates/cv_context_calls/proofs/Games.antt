@@ -6,10 +6,10 @@ use Rattle.cv_lists.proofs.Places.{slice_get-append_left, slice_get-append_right
 use Rattle.cv_syntax.specs.declared.head.Head.{Head}
 use Rattle.cv_syntax.specs.declared.head.Head.TheVariants.{Repl, New, Let, If, Event, Out, Key, Call as CallHead}
 use Rattle.cv_syntax.specs.Tree.{Tree, Empty, Node, first_place, second_place}
-use Rattle.cv_scope.specs.Context.{cell_of, first_position, index_terms, replications_below, second_position}
-use Rattle.cv_scope.specs.Phrases.{Body, Inputs, Message, Nil, Phrase, Term, Terms, is_phrase, parts}
-use Rattle.cv_scope.specs.declared.position.Position.{Position}
-use Rattle.cv_scope.specs.declared.position.Position.TheVariants.{Anywhere}
+use Rattle.cv_scope_rules.specs.Context.{cell_of, first_position, index_terms, replications_below, second_position}
+use Rattle.cv_scope_rules.specs.Phrases.{Body, Inputs, Message, Nil, Phrase, Term, Terms, is_phrase, parts}
+use Rattle.cv_scope_rules.specs.declared.position.Position.{Position}
+use Rattle.cv_scope_rules.specs.declared.position.Position.TheVariants.{Anywhere}
 use Rattle.cv_scope_runs.proofs.Rows.{placed, position_of}
 use Rattle.cv_scenes.specs.Instances.{Call, Matching, call_at}
 use Rattle.cv_scenes.specs.Sites.{Site, is_guard, sites_in}

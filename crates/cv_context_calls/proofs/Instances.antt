@@ -11,10 +11,10 @@ use Rattle.cv_syntax.specs.Tree.{Tree, Empty, Node, chain, first, first_place, s
 use Rattle.cv_directory.specs.Sites.{first_of}
 use Rattle.cv_meaning_contexts.specs.Groups.{Function}
 use Rattle.cv_meaning_contexts.specs.Sites.{is_call}
-use Rattle.cv_scope.specs.Context.{first_position, replications_below, second_position}
-use Rattle.cv_scope.specs.Phrases.{Body, Inputs, Nil, OneCell, Phrase, Term, Terms, is_phrase, parts}
-use Rattle.cv_scope.specs.declared.position.Position.{Position}
-use Rattle.cv_scope.specs.declared.position.Position.TheVariants.{Anywhere}
+use Rattle.cv_scope_rules.specs.Context.{first_position, replications_below, second_position}
+use Rattle.cv_scope_rules.specs.Phrases.{Body, Inputs, Nil, OneCell, Phrase, Term, Terms, is_phrase, parts}
+use Rattle.cv_scope_rules.specs.declared.position.Position.{Position}
+use Rattle.cv_scope_rules.specs.declared.position.Position.TheVariants.{Anywhere}
 use Rattle.cv_scenes.specs.Scenes.{or_empty}
 use Rattle.cv_scenes.specs.Sights.{variable_of}
 use Rattle.cv_scenes.specs.Instances.{Call, Instance, Matching, call_at, call_by, filled, first_call, guess, is_instance, is_read_of, standing_for, standing_here, term_for}

@@ -2,7 +2,7 @@
 use Rattle.std.proofs.Common.{◌≡◌, ℕ, true, List, [], Option, Some, None, refl, sym, ap, subst, ◌∙◌}
 use Rattle.std.specs.Prelude.{IfSome}
 use Rattle.cv_syntax.specs.Tree.{Tree, first}
-use Rattle.cv_scope.specs.Phrases.{Inputs, is_phrase}
+use Rattle.cv_scope_rules.specs.Phrases.{Inputs, is_phrase}
 use Rattle.cv_scenes.specs.Reductions.{Reduction, context_of_game, matching}
 use Rattle.cv_inline_branches.specs.Moves.{IsList}
 use Rattle.cv_inline_callings.specs.Sites.{HasListedKeys}

@@ -4,7 +4,7 @@
 ghost use Rattle.std.specs.Prelude.{◌≡◌, ◌<◌, ℕ, List, Some, [], length, slice_get, true};
 ghost use Rattle.cv_syntax.specs.Tree.{Tree};
 ghost use Rattle.cv_meaning.specs.Interpretation.{Setting};
-ghost use Rattle.cv_scope.specs.Phrases.{Inputs, is_oracle_phrase, is_phrase};
+ghost use Rattle.cv_scope_rules.specs.Phrases.{Inputs, is_oracle_phrase, is_phrase};
 ghost use Rattle.cv_scenes.specs.Apt.{IsAptGame};
 ghost use Rattle.cv_scenes.specs.Contexts.{call_terms, context_of, matching_of};
 ghost use Rattle.cv_scenes.specs.Reductions.{Reduction, context_of_game, sites};

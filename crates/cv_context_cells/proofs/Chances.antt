@@ -18,7 +18,7 @@ use Rattle.cv_meaning_chances.proofs.Renaming.{chance_renamed, distinct_renamed}
 use Rattle.cv_meaning_alignment.proofs.Closing.{others_ignored_in_games}
 use Rattle.cv_meaning_unread.specs.Sizes.{GiveSizesFor, size_in}
 use Rattle.cv_meaning_unread.proofs.CellSizes.{is_in_size, same_by_sizes, size_once}
-use Rattle.cv_scope.specs.declared.position.Position.TheVariants.{Anywhere}
+use Rattle.cv_scope_rules.specs.declared.position.Position.TheVariants.{Anywhere}
 use Rattle.cv_steps.proofs.Testable.{game_no_calls, game_testable, local}
 use Rattle.cv_steps.proofs.Sizes.{cell_size}
 use Rattle.cv_scenes.specs.Reductions.{Reduction, in_context, in_game}

@@ -5,9 +5,9 @@ use Rattle.cv_syntax.specs.declared.head.Head.{Head}
 use Rattle.cv_syntax.specs.declared.head.Head.TheVariants.{And, Apply, Binder, Call, Cons, Eq, Event, If, In, Key, Leaf, Let, Name, New, No, Not, Or, Out, Read, Yes}
 use Rattle.cv_syntax.specs.Tree.{Tree, Empty, Node}
 use Rattle.cv_meaning_runs.specs.Listed.{head_is_testable, is_testable}
-use Rattle.cv_scope.specs.Context.{cell_of, first_position, index_terms, replications_below, second_position}
-use Rattle.cv_scope.specs.Phrases.{Phrase, Binders, Cells, Indices, Message, Nil, OneCell, Pattern, Term, Terms, is_phrase, parts}
-use Rattle.cv_scope.specs.declared.position.Position.{Position}
+use Rattle.cv_scope_rules.specs.Context.{cell_of, first_position, index_terms, replications_below, second_position}
+use Rattle.cv_scope_rules.specs.Phrases.{Phrase, Binders, Cells, Indices, Message, Nil, OneCell, Pattern, Term, Terms, is_phrase, parts}
+use Rattle.cv_scope_rules.specs.declared.position.Position.{Position}
 use Rattle.cv_steps.proofs.Flat.{AreStill, IfStill, is_of_terms, open_phrase, rows_still}
 use Rattle.cv_scenes.specs.Instances.{Call as Found, call_at}
 use Rattle.cv_scenes.specs.Sites.{Site, is_guard, sites_in}

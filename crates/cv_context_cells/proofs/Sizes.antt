@@ -13,13 +13,13 @@ use Rattle.cv_meaning_laws.proofs.Lists.{each_append, each_flat_map}
 use Rattle.cv_meaning_runs.proofs.Lists.{all_map, right_part}
 use Rattle.cv_meaning_adequacy.specs.Typed.{Context}
 use Rattle.cv_directory.specs.Sites.{first_of}
-use Rattle.cv_scope.specs.Context.{replications_below}
-use Rattle.cv_scope.specs.Made.{made_by}
-use Rattle.cv_scope.specs.Sites.{Variable}
+use Rattle.cv_scope_rules.specs.Context.{replications_below}
+use Rattle.cv_scope_rules.specs.Made.{made_by}
+use Rattle.cv_scope_rules.specs.Sites.{Variable}
 use Rattle.cv_scenes.specs.Scenes.{is_queried}
 use Rattle.cv_typing_runs.proofs.Games.{typed}
 use Rattle.cv_steps.proofs.Sizes.{HeadNamesSort, IsSized, NamesSorts, all_cells, all_sizes, cell_size, name_of, typed_names}
-use Rattle.cv_scope.specs.declared.position.Position.TheVariants.{Anywhere}
+use Rattle.cv_scope_rules.specs.declared.position.Position.TheVariants.{Anywhere}
 use Rattle.cv_scenes.specs.Refusals.{CoinUse, InCondition, KeyInArgument, NotOneSite, Refusal, Use, at_place, definitions_in, first_argument_use, first_coin_use, first_in_condition, first_use, has_key, is_of_type, new_of, only_new}
 use Rattle.cv_scenes.specs.Reductions.{Reduction, in_context, in_game, is_coin, matching, sites}
 use Rattle.cv_scenes.specs.Cells.{at_left}

@@ -4,9 +4,9 @@ use Rattle.std.proofs.lemmas.Bool.{both_ways, and_parts}
 use Rattle.cv_syntax.specs.declared.head.Head.{Head}
 use Rattle.cv_syntax.specs.declared.head.Head.TheVariants.{Branch, Call, Cons, Event, Find, If, In, Key, Let, New, Out, Par, Repl, Stop, Yield}
 use Rattle.cv_syntax.specs.Tree.{Tree, Empty, Node}
-use Rattle.cv_scope.specs.Phrases.{Phrase, Arm, Binders, Body, Branches, Cells, Else, Inputs, Message, Nil, Pattern, Term, Terms, Then, is_phrase}
-use Rattle.cv_scope.specs.declared.position.Position.{Position}
-use Rattle.cv_scope.specs.declared.position.Position.TheVariants as position
+use Rattle.cv_scope_rules.specs.Phrases.{Phrase, Arm, Binders, Body, Branches, Cells, Else, Inputs, Message, Nil, Pattern, Term, Terms, Then, is_phrase}
+use Rattle.cv_scope_rules.specs.declared.position.Position.{Position}
+use Rattle.cv_scope_rules.specs.declared.position.Position.TheVariants as position
 use Rattle.cv_steps.proofs.Flat.{is_of_terms}
 use Rattle.cv_scenes.specs.Sites.{Site}
 use Rattle.cv_scenes.specs.Contexts.{after_calls, in_context as tree_in_context}

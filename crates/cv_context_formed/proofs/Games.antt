@@ -7,10 +7,10 @@ use Rattle.cv_syntax.specs.declared.head.Head.TheVariants.{Leaf, Read, Apply, Eq
 use Rattle.cv_syntax.specs.Tree.{Tree, Empty, Node, first_place, second_place}
 use Rattle.cv_meaning.specs.Interpretation.{is_constant_of}
 use Rattle.cv_meaning_laws.proofs.Lists.{each_append}
-use Rattle.cv_scope.specs.Context.{cell_of, first_position, index_terms, replications_below, second_position}
-use Rattle.cv_scope.specs.Phrases.{Body, Inputs, Message, Nil, OneCell, Phrase, Term, Terms, binds_none, head_binds_none, is_phrase, parts}
-use Rattle.cv_scope.specs.declared.position.Position.{Position}
-use Rattle.cv_scope.specs.declared.position.Position.TheVariants as position
+use Rattle.cv_scope_rules.specs.Context.{cell_of, first_position, index_terms, replications_below, second_position}
+use Rattle.cv_scope_rules.specs.Phrases.{Body, Inputs, Message, Nil, OneCell, Phrase, Term, Terms, binds_none, head_binds_none, is_phrase, parts}
+use Rattle.cv_scope_rules.specs.declared.position.Position.{Position}
+use Rattle.cv_scope_rules.specs.declared.position.Position.TheVariants as position
 use Rattle.cv_scope_runs.proofs.Rows as rows
 use Rattle.cv_scenes.specs.Instances.{Call, call_at}
 use Rattle.cv_scenes.specs.Sites.{Site, is_guard, sites_in}

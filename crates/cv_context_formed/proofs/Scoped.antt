@@ -6,17 +6,17 @@ use Rattle.cv_syntax.specs.declared.head.Head.{Head}
 use Rattle.cv_syntax.specs.declared.head.Head.TheVariants.{In}
 use Rattle.cv_syntax.specs.Declarations.{Declaration}
 use Rattle.cv_syntax.specs.Tree.{Tree, Empty, Node, first_place, second_place}
-use Rattle.cv_scope.specs.declared.fault.Fault.{Fault}
-use Rattle.cv_scope.specs.declared.fault.Fault.TheVariants as fault
-use Rattle.cv_scope.specs.declared.position.Position.TheVariants.{Anywhere}
-use Rattle.cv_scope.specs.Branches.{AreInDifferentBranches, AreSitesAlike, Each, HasOtherName, IsApartByBranches, IsLike, Pairs}
-use Rattle.cv_scope.specs.Context.{nothing_known, replications_below}
-use Rattle.cv_scope.specs.Rules.{MayStand, Names, Obeys}
-use Rattle.cv_scope.specs.Scope.{IsScoped, IsScopedAt, names_of}
-use Rattle.cv_scope.specs.Sites.{Site, channel_here, named_here, sites_from, sites_here}
-use Rattle.cv_scope.specs.Standing.{Standing, at_root, first_standing, parts_ways, passed_second, second_standing}
-use Rattle.cv_scope.proofs.Apart.{IsApart, IsWithin, first-replications, in-last, in-more, second-replications, tree-within}
-use Rattle.cv_scope.proofs.Pairs.{all-append, all-left, all-right, all-weaker, each-weaker}
+use Rattle.cv_scope_rules.specs.declared.fault.Fault.{Fault}
+use Rattle.cv_scope_rules.specs.declared.fault.Fault.TheVariants as fault
+use Rattle.cv_scope_rules.specs.declared.position.Position.TheVariants.{Anywhere}
+use Rattle.cv_scope_rules.specs.Branches.{AreInDifferentBranches, AreSitesAlike, Each, HasOtherName, IsApartByBranches, IsLike, Pairs}
+use Rattle.cv_scope_rules.specs.Context.{nothing_known, replications_below}
+use Rattle.cv_scope_rules.specs.Rules.{MayStand, Names, Obeys}
+use Rattle.cv_scope_rules.specs.Scope.{IsScoped, IsScopedAt, names_of}
+use Rattle.cv_scope_rules.specs.Sites.{Site, channel_here, named_here, sites_from, sites_here}
+use Rattle.cv_scope_rules.specs.Standing.{Standing, at_root, first_standing, parts_ways, passed_second, second_standing}
+use Rattle.cv_scope_rules.proofs.Apart.{IsApart, IsWithin, first-replications, in-last, in-more, second-replications, tree-within}
+use Rattle.cv_scope_rules.proofs.Pairs.{all-append, all-left, all-right, all-weaker, each-weaker}
 use Rattle.cv_context_formed.specs.Rules.{AreKept, NodeKeeps}
 
 -- parts of relations of lists

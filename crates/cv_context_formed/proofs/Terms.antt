@@ -6,7 +6,7 @@ use Rattle.cv_syntax.specs.declared.head.Head.TheVariants.{Leaf, Read, Apply, Eq
 use Rattle.cv_syntax.specs.Declarations.{Declaration}
 use Rattle.cv_syntax.specs.Tree.{Tree, Empty, Node, chain}
 use Rattle.cv_derivations.specs.Given.{or_node, term_for, with_given}
-use Rattle.cv_scope.specs.Phrases.{Body, Nil, Phrase, Term, Terms, binds_none, both_are, head_binds_none, is_oracle_phrase, is_phrase, oracle_parts, parts}
+use Rattle.cv_scope_rules.specs.Phrases.{Body, Nil, Phrase, Term, Terms, binds_none, both_are, head_binds_none, is_oracle_phrase, is_phrase, oracle_parts, parts}
 use Rattle.cv_scenes.specs.Contexts.{call_terms}
 use Rattle.cv_scenes.specs.Instances.{Call, Matching, call_at, names_of, terms_of}
 use Rattle.cv_scenes.specs.LeftTerms.{HasLeftTerms, reads_no_array}

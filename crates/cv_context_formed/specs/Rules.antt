@@ -2,11 +2,11 @@
 use Rattle.std.specs.Prelude.{◌≡◌, ◌≤◌, ℕ, true, length}
 use Rattle.cv_syntax.specs.declared.head.Head.{Head}
 use Rattle.cv_syntax.specs.Tree.{Tree, Empty, Node, first_place, second_place}
-use Rattle.cv_scope.specs.declared.position.Position.{Position}
-use Rattle.cv_scope.specs.Branches.{HasOtherName, Pairs}
-use Rattle.cv_scope.specs.Context.{Context, first_context, first_position, second_context, second_position}
-use Rattle.cv_scope.specs.Rules.{BindsNewIndex, IsFewIndices, IsInScope, Names, carries_current}
-use Rattle.cv_scope.specs.Sites.{named_here}
+use Rattle.cv_scope_rules.specs.declared.position.Position.{Position}
+use Rattle.cv_scope_rules.specs.Branches.{HasOtherName, Pairs}
+use Rattle.cv_scope_rules.specs.Context.{Context, first_context, first_position, second_context, second_position}
+use Rattle.cv_scope_rules.specs.Rules.{BindsNewIndex, IsFewIndices, IsInScope, Names, carries_current}
+use Rattle.cv_scope_rules.specs.Sites.{named_here}
 
 -- a node at a place: its reads, channels and replications, and that its own sites have different names
 pub record NodeKeeps (names : Names) (w : Position) (Γ : Context) (p : ℕ) (h : Head) (a b : Tree) : Type 0 where

@@ -5,8 +5,8 @@ ghost use Rattle.std.specs.Prelude.{List};
 ghost use Rattle.cv_syntax.specs.Declarations.{Declaration};
 ghost use Rattle.cv_syntax.specs.Tree.{Tree};
 ghost use Rattle.cv_meaning.specs.Interpretation.{is_constant_of};
-ghost use Rattle.cv_scope.specs.declared.position.Position.TheVariants.{Anywhere};
-ghost use Rattle.cv_scope.specs.Branches.{
+ghost use Rattle.cv_scope_rules.specs.declared.position.Position.TheVariants.{Anywhere};
+ghost use Rattle.cv_scope_rules.specs.Branches.{
   AreInDifferentBranches,
   AreSitesAlike,
   Each,
@@ -14,12 +14,12 @@ ghost use Rattle.cv_scope.specs.Branches.{
   IsLike,
   Pairs,
 };
-ghost use Rattle.cv_scope.specs.Context.{nothing_known};
-ghost use Rattle.cv_scope.specs.Phrases.{Inputs, IsWellFormedContext};
-ghost use Rattle.cv_scope.specs.Rules.{MayFollow, Names};
-ghost use Rattle.cv_scope.specs.Scope.{IsScoped, IsScopedAt, names_of};
-ghost use Rattle.cv_scope.specs.Sites.{Site, sites_from};
-ghost use Rattle.cv_scope.specs.Standing.{Standing};
+ghost use Rattle.cv_scope_rules.specs.Context.{nothing_known};
+ghost use Rattle.cv_scope_rules.specs.Phrases.{Inputs, IsWellFormedContext};
+ghost use Rattle.cv_scope_rules.specs.Rules.{MayFollow, Names};
+ghost use Rattle.cv_scope_rules.specs.Scope.{IsScoped, IsScopedAt, names_of};
+ghost use Rattle.cv_scope_rules.specs.Sites.{Site, sites_from};
+ghost use Rattle.cv_scope_rules.specs.Standing.{Standing};
 ghost use Rattle.cv_scenes.specs.Apt.{IsAptGame};
 ghost use Rattle.cv_scenes.specs.LeftTerms.{HasLeftTerms};
 ghost use Rattle.cv_scenes.specs.Reductions.{Reduction, context_of_game, matching};

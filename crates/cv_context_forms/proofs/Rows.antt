@@ -23,7 +23,7 @@ use Rattle.cv_parse_laws.specs.Shapes.{IsFree, IsOfSort}
 use Rattle.cv_parse_yields.specs.Yields.{Yields}
 use Rattle.cv_parse_laws.proofs.Rows.{rows}
 use Rattle.cv_parse_yields.proofs.Yielding.{Gives, anything, before, behind, below, follow, leveled, one_of, several, turned}
-use Rattle.cv_scope.specs.Phrases.{Term, is_phrase}
+use Rattle.cv_scope_rules.specs.Phrases.{Term, is_phrase}
 use Rattle.cv_group_rules.specs.Rules.{each_function, is_one_binder, is_term}
 use Rattle.cv_context_terms.specs.Forms.{HasLeftForm, is_whole}
 

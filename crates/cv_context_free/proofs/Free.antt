@@ -7,9 +7,9 @@ use Rattle.cv_syntax.specs.Declarations.{Declaration}
 use Rattle.cv_syntax.specs.Tree.{Tree, Empty, Node}
 use Rattle.cv_meaning.specs.Interpretation.{is_constant_of}
 use Rattle.cv_group_rules.specs.Faults.{IsAccepted}
-use Rattle.cv_scope.specs.Phrases.{IsWellFormed}
-use Rattle.cv_scope.specs.Scope.{names_of as scope_names}
-use Rattle.cv_scope.specs.Standing.{at_root}
+use Rattle.cv_scope_rules.specs.Phrases.{IsWellFormed}
+use Rattle.cv_scope_rules.specs.Scope.{names_of as scope_names}
+use Rattle.cv_scope_rules.specs.Standing.{at_root}
 use Rattle.cv_typing.specs.Parts.{IsTypedGame}
 use Rattle.cv_typing_runs.specs.Games.{HasKnownNames}
 use Rattle.cv_scenes.specs.Scenes.{head_reads, is_queried}

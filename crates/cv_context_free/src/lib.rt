@@ -6,7 +6,7 @@ ghost use Rattle.cv_syntax.specs.Declarations.{Declaration};
 ghost use Rattle.cv_syntax.specs.Tree.{Tree};
 ghost use Rattle.cv_meaning.specs.Interpretation.{is_constant_of};
 ghost use Rattle.cv_group_rules.specs.Faults.{IsAccepted};
-ghost use Rattle.cv_scope.specs.Phrases.{IsWellFormed};
+ghost use Rattle.cv_scope_rules.specs.Phrases.{IsWellFormed};
 ghost use Rattle.cv_typing.specs.Parts.{IsTypedGame};
 ghost use Rattle.cv_typing_runs.specs.Games.{HasKnownNames};
 ghost use Rattle.cv_scenes.specs.Refusals.{first_refusal};

@@ -9,10 +9,10 @@ use Rattle.cv_directory.specs.declared.sort.Sort.{Sort}
 use Rattle.cv_directory.specs.declared.sort.Sort.TheVariants.{BelowParameter, OfType}
 use Rattle.cv_directory.specs.Sites.{Variable, at_parameters, bound_sort, first_of, first_site, parameters_below, site_here, sites_of}
 use Rattle.cv_typing.specs.Signature.{OfGame, variable_sort}
-use Rattle.cv_scope.specs.Context.{replications_below}
-use Rattle.cv_scope.specs.Made.{is_bound, made_by}
-use Rattle.cv_scope.specs.Phrases.{Phrase, Binders, Inputs, Nil, is_phrase}
-use Rattle.cv_scope.specs.Sites.{Variable as Named}
+use Rattle.cv_scope_rules.specs.Context.{replications_below}
+use Rattle.cv_scope_rules.specs.Made.{is_bound, made_by}
+use Rattle.cv_scope_rules.specs.Phrases.{Phrase, Binders, Inputs, Nil, is_phrase}
+use Rattle.cv_scope_rules.specs.Sites.{Variable as Named}
 use Rattle.cv_typing_runs.proofs.SameSites.{branch_binders, input_binders, phrase_open}
 use Rattle.cv_scenes.specs.Refusals.{definitions_in, new_of, only_new}
 

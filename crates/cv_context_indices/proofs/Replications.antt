@@ -5,12 +5,12 @@ use Rattle.cv_syntax.specs.declared.head.Head.{Head}
 use Rattle.cv_syntax.specs.declared.head.Head.TheVariants.{Repl}
 use Rattle.cv_syntax.specs.Tree.{Tree, Empty, Node}
 use Rattle.cv_first_fault.specs.Walk.{IsObeyed}
-use Rattle.cv_scope.specs.declared.fault.Fault.TheVariants.{Replications}
-use Rattle.cv_scope.specs.Context.{replications_below}
-use Rattle.cv_scope.specs.Rules.{BindsNewIndex, Names}
-use Rattle.cv_scope.specs.Scope.{IsScopedAt}
-use Rattle.cv_scope.specs.Standing.{Standing, first_standing, second_standing}
-use Rattle.cv_scope.proofs.Apart.{first-replications, second-replications}
+use Rattle.cv_scope_rules.specs.declared.fault.Fault.TheVariants.{Replications}
+use Rattle.cv_scope_rules.specs.Context.{replications_below}
+use Rattle.cv_scope_rules.specs.Rules.{BindsNewIndex, Names}
+use Rattle.cv_scope_rules.specs.Scope.{IsScopedAt}
+use Rattle.cv_scope_rules.specs.Standing.{Standing, first_standing, second_standing}
+use Rattle.cv_scope_rules.proofs.Apart.{first-replications, second-replications}
 use Rattle.cv_context_indices.specs.Indices.{binds_new_index, indices_are_new}
 
 module _ (names : Names) where

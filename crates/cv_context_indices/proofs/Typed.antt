@@ -15,10 +15,10 @@ use Rattle.cv_typing.specs.Signature.{Above, Function, OfGame, Signature, functi
 use Rattle.cv_directory.specs.Counting.{count}
 use Rattle.cv_typing.specs.Typing.{IsTyped}
 use Rattle.cv_typing.specs.Wants.{Atoms, Branches, Correspondence, Guarded, Indices, Messages, Of, Run, Tested, Want, above_second, asks_indices, atom_wants, branch_wants, is_in_body, like, list_wants, on_list, place_wants, query_wants, run_wants, wants, wants_arguments}
-use Rattle.cv_scope.specs.Context.{replications_below}
-use Rattle.cv_scope.specs.Phrases.{Phrase, Inputs, Nil, OneCell, Term, Terms, is_phrase}
-use Rattle.cv_scope.specs.Rules.{is_index}
-use Rattle.cv_scope.specs.Scope.{is_variable}
+use Rattle.cv_scope_rules.specs.Context.{replications_below}
+use Rattle.cv_scope_rules.specs.Phrases.{Phrase, Inputs, Nil, OneCell, Term, Terms, is_phrase}
+use Rattle.cv_scope_rules.specs.Rules.{is_index}
+use Rattle.cv_scope_rules.specs.Scope.{is_variable}
 use Rattle.cv_typing_runs.specs.Games.{are_known, has_site, is_known}
 use Rattle.cv_typing_runs.proofs.SameSites.{phrase_open}
 use Rattle.cv_typing_runs.proofs.Terms.{asked_sort, faultless}

@@ -3,8 +3,8 @@ use Rattle.std.specs.Prelude.{ℕ, Bool, true, false, ◌||◌, ◌&&◌, not, �
 use Rattle.cv_syntax.specs.declared.head.Head.{Head}
 use Rattle.cv_syntax.specs.declared.head.Head.TheVariants.{Leaf, Read, Repl}
 use Rattle.cv_syntax.specs.Tree.{Tree, Empty, Node}
-use Rattle.cv_scope.specs.Context.{replications_below}
-use Rattle.cv_scope.specs.Rules.{is_index}
+use Rattle.cv_scope_rules.specs.Context.{replications_below}
+use Rattle.cv_scope_rules.specs.Rules.{is_index}
 use Rattle.cv_scenes.specs.Refusals.{uses}
 
 -- the index of a replication is that of none above it, and no variable

@@ -5,9 +5,9 @@ use Rattle.std.specs.List.{list_all}
 use Rattle.cv_syntax.specs.declared.head.Head.{Head}
 use Rattle.cv_syntax.specs.declared.head.Head.TheVariants.{Binder, Branch, In, Let, New}
 use Rattle.cv_syntax.specs.Tree.{Tree, Empty, Node, second}
-use Rattle.cv_scope.specs.Context.{replications_below}
-use Rattle.cv_scope.specs.Made.{is_bound, made_by}
-use Rattle.cv_scope.specs.Sites.{Variable}
+use Rattle.cv_scope_rules.specs.Context.{replications_below}
+use Rattle.cv_scope_rules.specs.Made.{is_bound, made_by}
+use Rattle.cv_scope_rules.specs.Sites.{Variable}
 use Rattle.cv_scenes.specs.Scenes.{head_names, names}
 use Rattle.cv_scenes.specs.Refusals.{definitions_in, new_of, only_new}
 use Rattle.cv_scenes.specs.Apt.{AreBindersPlain}

@@ -1,6 +1,6 @@
 ghost use Rattle.std.specs.Prelude.{◌≡◌, ◌++◌, OnOk};
 ghost use Rattle.cv_syntax.specs.Postorder.{postorder};
-ghost use Rattle.cv_scope.specs.Context.{cell_of, index_terms};
+ghost use Rattle.cv_scope_rules.specs.Context.{cell_of, index_terms};
 
 use cv_context_parts::{close_list, push_leaf};
 use cv_syntax::{Head, Make};

@@ -8,7 +8,7 @@ use Rattle.cv_syntax.specs.Tree.{Tree, Empty, Node, second}
 use Rattle.cv_meaning_contexts.specs.Groups.{Left, side_tree}
 use Rattle.cv_directory.specs.Sites as directory
 use Rattle.cv_directory.specs.Sites.{SitesView}
-use Rattle.cv_scope.specs.Phrases.{Inputs, is_phrase}
+use Rattle.cv_scope_rules.specs.Phrases.{Inputs, is_phrase}
 use Rattle.cv_scenes.specs.Contexts as contexts
 use Rattle.cv_scenes.specs.Contexts.{matching_of, parameters_of}
 use Rattle.cv_scenes.specs.Instances.{Matching}

@@ -2,7 +2,7 @@ ghost use Rattle.std.specs.Prelude.{◌≡◌, ℕ, List, IfOk, Some, true};
 ghost use Rattle.cv_syntax.specs.Tree.{Tree};
 ghost use Rattle.cv_directory.specs.Sites.{sites_of};
 ghost use Rattle.cv_directory.specs.Tables.{seen};
-ghost use Rattle.cv_scope.specs.Phrases.{Inputs, is_phrase};
+ghost use Rattle.cv_scope_rules.specs.Phrases.{Inputs, is_phrase};
 ghost use Rattle.cv_scenes.specs.Contexts as contexts;
 ghost use Rattle.cv_scenes.specs.Refusals.{new_of};
 ghost use Rattle.cv_context_products.specs.Products.{parameters_by};

@@ -7,8 +7,8 @@ use Rattle.cv_syntax.specs.Tree.{Tree, Empty, Node}
 use Rattle.cv_directory.specs.Sites.{first_site, is_untyped_in}
 use Rattle.cv_meaning.specs.Queries.{queries_in}
 use Rattle.cv_query_form.specs.Rules.{AreAsked, HasValues, MayBeAsked}
-use Rattle.cv_scope.specs.Scope.{IsScoped, is_variable, names_of}
-use Rattle.cv_scope.specs.Standing.{at_root}
+use Rattle.cv_scope_rules.specs.Scope.{IsScoped, is_variable, names_of}
+use Rattle.cv_scope_rules.specs.Standing.{at_root}
 use Rattle.cv_scenes.specs.Scenes.{Scene, asks_for}
 use Rattle.cv_scenes.specs.Terms.{has_index}
 use Rattle.cv_context_indices.proofs.Replications.{all_new}

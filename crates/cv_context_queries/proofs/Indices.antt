@@ -8,7 +8,7 @@ use Rattle.cv_syntax.specs.Tree.{Tree, Empty, Node, size, subtree}
 use Rattle.cv_meaning.specs.Replaced.{replaced}
 use Rattle.cv_meaning.specs.Still.{defines}
 use Rattle.cv_directory.specs.Sites.{first_index, first_of, index_here}
-use Rattle.cv_scope.specs.Phrases.{Phrase, Inputs, Term, parts, is_phrase}
+use Rattle.cv_scope_rules.specs.Phrases.{Phrase, Inputs, Term, parts, is_phrase}
 use Rattle.cv_scenes.specs.Pruning.{Part, Pruned, pruned}
 use Rattle.cv_scenes.specs.Scenes.{or_empty, part_at}
 use Rattle.cv_scenes.specs.Terms.{has_index}

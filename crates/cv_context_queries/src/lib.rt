@@ -6,7 +6,7 @@ ghost use Rattle.cv_syntax.specs.Declarations.{Declaration};
 ghost use Rattle.cv_syntax.specs.Tree.{Tree};
 ghost use Rattle.cv_meaning.specs.Queries.{queries_in};
 ghost use Rattle.cv_query_form.specs.Rules.{AreAsked};
-ghost use Rattle.cv_scope.specs.Scope.{IsScoped};
+ghost use Rattle.cv_scope_rules.specs.Scope.{IsScoped};
 ghost use Rattle.cv_scenes.specs.Scenes.{Scene};
 ghost use Rattle.cv_scenes.specs.Terms.{has_index};
 ghost use Rattle.cv_steps.specs.Steps.{Cost, Step};

@@ -4,9 +4,9 @@ use Rattle.std.proofs.lemmas.Bool.{both_ways, and_from, and_parts, not-true}
 use Rattle.cv_syntax.specs.declared.head.Head.TheVariants.{Cons, Leaf, Read, Repl}
 use Rattle.cv_syntax.specs.Tree.{Tree, Empty, Node, reads_only}
 use Rattle.cv_meaning.specs.Interpretation.{is_constant_of}
-use Rattle.cv_scope.specs.Phrases.{Cells, OneCell, head_binds_none, is_phrase}
-use Rattle.cv_scope.specs.Rules.{is_index}
-use Rattle.cv_scope.specs.Scope.{is_variable}
+use Rattle.cv_scope_rules.specs.Phrases.{Cells, OneCell, head_binds_none, is_phrase}
+use Rattle.cv_scope_rules.specs.Rules.{is_index}
+use Rattle.cv_scope_rules.specs.Scope.{is_variable}
 use Rattle.cv_scenes.specs.Scenes.{head_names, names}
 use Rattle.cv_scenes.specs.Refusals.{uses}
 use Rattle.cv_scenes.specs.Reductions.{Reduction, is_coin, is_plain, sites}

@@ -4,9 +4,9 @@ use Rattle.std.proofs.lemmas.Bool.{both_ways, and_parts}
 use Rattle.cv_syntax.specs.declared.head.Head.TheVariants.{Branch, Cons, Event, Find, If, In, Let, New, Out, Par, Repl, Stop, Yield}
 use Rattle.cv_syntax.specs.Tree.{Tree, Empty, Node, first_place, second_place}
 use Rattle.cv_meaning.specs.Interpretation.{is_constant_of}
-use Rattle.cv_scope.specs.Phrases.{Arm, Binders, Body, Branches, Cells, Else, Guarded, Guards, Inputs, Message, Nil, Pattern, Term, Terms, Then, is_phrase}
-use Rattle.cv_scope.specs.Scope.{is_variable}
-use Rattle.cv_scope.specs.declared.position.Position.TheVariants as position
+use Rattle.cv_scope_rules.specs.Phrases.{Arm, Binders, Body, Branches, Cells, Else, Guarded, Guards, Inputs, Message, Nil, Pattern, Term, Terms, Then, is_phrase}
+use Rattle.cv_scope_rules.specs.Scope.{is_variable}
+use Rattle.cv_scope_rules.specs.declared.position.Position.TheVariants as position
 use Rattle.cv_scenes.specs.Apt.{AreTermsApt, IsApt, has_value}
 use Rattle.cv_scenes.specs.Instances.{call_at}
 use Rattle.cv_scenes.specs.Reductions.{Reduction, is_coin, matching}

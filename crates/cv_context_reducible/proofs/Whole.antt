@@ -11,10 +11,10 @@ use Rattle.cv_meaning_adequacy.proofs.Lists.{contains_has}
 use Rattle.cv_meaning_laws.proofs.Listed.{Has}
 use Rattle.cv_directory.specs.Sites.{first_of}
 use Rattle.cv_meaning.specs.Queries.{queries_in}
-use Rattle.cv_scope.specs.Phrases.{Inputs}
-use Rattle.cv_scope.specs.Scope.{is_variable, names_of}
-use Rattle.cv_scope.specs.Standing.{at_root}
-use Rattle.cv_scope.specs.declared.position.Position.TheVariants.{Anywhere}
+use Rattle.cv_scope_rules.specs.Phrases.{Inputs}
+use Rattle.cv_scope_rules.specs.Scope.{is_variable, names_of}
+use Rattle.cv_scope_rules.specs.Standing.{at_root}
+use Rattle.cv_scope_rules.specs.declared.position.Position.TheVariants.{Anywhere}
 use Rattle.cv_scenes.specs.Scenes.{asks_for, is_queried}
 use Rattle.cv_scenes.specs.Instances.{Matching}
 use Rattle.cv_scenes.specs.Refusals.{CoinUse, InCondition, KeyInArgument, NotOneSite, Refusal, Use, at_place, first_argument_use, first_coin_use, first_in_condition, first_refusal, first_use, has_key, is_of_type, new_of}

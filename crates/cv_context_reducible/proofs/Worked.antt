@@ -11,12 +11,12 @@ use Rattle.cv_directory.specs.Counting.{count}
 use Rattle.cv_typing.specs.Typing.{binders_differ}
 use Rattle.cv_typing.proofs.First.{typed_where_none}
 use Rattle.cv_meaning.specs.Queries.{queries_in}
-use Rattle.cv_scope.specs.Made.{is_bound}
-use Rattle.cv_scope.specs.Phrases.{IsWellFormed, binds_none, is_phrase}
-use Rattle.cv_scope.specs.Scope.{is_untyped_in, names_of}
-use Rattle.cv_scope.specs.Sites.{sites_from}
-use Rattle.cv_scope.specs.Standing.{at_root}
-use Rattle.cv_scope.proofs.First.{scoped_where_none}
+use Rattle.cv_scope_rules.specs.Made.{is_bound}
+use Rattle.cv_scope_rules.specs.Phrases.{IsWellFormed, binds_none, is_phrase}
+use Rattle.cv_scope_rules.specs.Scope.{is_untyped_in, names_of}
+use Rattle.cv_scope_rules.specs.Sites.{sites_from}
+use Rattle.cv_scope_rules.specs.Standing.{at_root}
+use Rattle.cv_scope_rules.proofs.First.{scoped_where_none}
 use Rattle.cv_scenes.specs.Scenes.{first_reading, is_queried, names}
 use Rattle.cv_typing_runs.specs.Games.{HasKnownNames, are_known}
 use Rattle.cv_group_rules.specs.Faults.{BoundNames, IsAccepted, LeftIsTerm, OneIndex, ReadNames, SameShape, keeps}

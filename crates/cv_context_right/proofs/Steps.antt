@@ -18,8 +18,8 @@ use Rattle.cv_directory.specs.declared.sort.Sort.{Sort}
 use Rattle.cv_directory.specs.declared.sort.Sort.TheVariants.{OfType}
 use Rattle.cv_directory.specs.Sites.{Variable, first_site}
 use Rattle.cv_meaning.specs.Queries.{queries_in}
-use Rattle.cv_scope.proofs.Apart.{game-alike, game-branches}
-use Rattle.cv_scope.specs.Phrases.{Inputs, IsWellFormedContext}
+use Rattle.cv_scope_rules.proofs.Apart.{game-alike, game-branches}
+use Rattle.cv_scope_rules.specs.Phrases.{Inputs, IsWellFormedContext}
 use Rattle.cv_scenes.specs.Apt.{IsAptGame, IsTestApt}
 use Rattle.cv_scenes.specs.LeftTerms.{HasLeftTerms}
 use Rattle.cv_scenes.specs.Reductions.{Reduction, context_of_game, is_plain, matching, sites}

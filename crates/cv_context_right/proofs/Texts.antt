@@ -11,7 +11,7 @@ use Rattle.cv_meaning_contexts.specs.Groups.{Group, Left, Right, function_at, fu
 use Rattle.cv_meaning_contexts.specs.Sides.{Context}
 use Rattle.cv_group_rules.specs.Faults.{SameShape}
 use Rattle.cv_group_rules.specs.Rules.{all_agree, functions_in, groups_agree, same_bound}
-use Rattle.cv_scope.specs.Phrases.{Inputs, is_oracle_phrase}
+use Rattle.cv_scope_rules.specs.Phrases.{Inputs, is_oracle_phrase}
 use Rattle.cv_scenes.specs.Contexts.{call_terms}
 use Rattle.cv_scenes.specs.Reductions.{Reduction, context_of_game, sites}
 use Rattle.cv_scenes.specs.Sites.{Site}

@@ -3,7 +3,7 @@ use Rattle.std.proofs.Common.{◌≡◌, ℕ, true, false, List, [], ◌∷◌, 
 use Rattle.std.proofs.lemmas.Bool.{and_parts, both_ways}
 use Rattle.cv_syntax.specs.declared.head.Head.TheVariants.{And, Apply, Call, Cons, Eq, Leaf, No, Not, Or, Read, Repl, Yes}
 use Rattle.cv_syntax.specs.Tree.{Tree, Empty, Node}
-use Rattle.cv_scope.specs.Phrases.{Nil, Phrase, Term, Terms, is_oracle_phrase}
+use Rattle.cv_scope_rules.specs.Phrases.{Nil, Phrase, Term, Terms, is_oracle_phrase}
 use Rattle.cv_scenes.specs.Reductions.{Reduction}
 use Rattle.cv_inline_runs.specs.Texts.{Text}
 use Rattle.cv_inline_expected.specs.CallTexts.{HasCallTexts, IsCallText}

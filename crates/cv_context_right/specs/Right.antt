@@ -7,7 +7,7 @@ use Rattle.cv_meaning.specs.Interpretation.{is_constant_of}
 use Rattle.cv_meaning.specs.Tapes.{blank}
 use Rattle.cv_meaning_contexts.specs.Groups.{Right, side_group}
 use Rattle.cv_group_rules.specs.Faults.{IsAccepted}
-use Rattle.cv_scope.specs.Phrases.{IsWellFormedContext, binds_none}
+use Rattle.cv_scope_rules.specs.Phrases.{IsWellFormedContext, binds_none}
 use Rattle.cv_typing_runs.specs.Games.{HasArguments}
 use Rattle.cv_scenes.specs.Apt.{IsAptGame, IsSiteApt}
 use Rattle.cv_scenes.specs.Contexts.{AreAnswers}

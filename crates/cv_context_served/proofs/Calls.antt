@@ -18,8 +18,8 @@ use Rattle.cv_meaning_laws.proofs.Sides.{values_same}
 use Rattle.cv_meaning_runs.proofs.Lists.{all_both, left_part}
 use Rattle.cv_meaning_contexts.specs.Bodies.{reply}
 use Rattle.cv_meaning_contexts.specs.Groups.{Function, Group}
-use Rattle.cv_scope.specs.Context.{cell_of, index_terms}
-use Rattle.cv_scope.specs.Phrases.{Nil, Term, Terms, is_phrase}
+use Rattle.cv_scope_rules.specs.Context.{cell_of, index_terms}
+use Rattle.cv_scope_rules.specs.Phrases.{Nil, Term, Terms, is_phrase}
 use Rattle.cv_scope_runs.specs.Reads.{LeafAssigned, TermAssigned, TermsAssigned}
 use Rattle.cv_scope_runs.proofs.Contexts.{Matches, constant_none, put_here, put_other, variable_none}
 use Rattle.cv_scope_runs.proofs.TermsLater.{some_of}

@@ -13,10 +13,10 @@ use Rattle.cv_meaning.specs.Candidates.{Candidate, are_assigned, candidate, cand
 use Rattle.cv_meaning.specs.Tapes.{Key_at, Tape}
 use Rattle.cv_meaning_laws.specs.Agreement.{AgreeOn}
 use Rattle.cv_meaning_laws.proofs.Agreeing.{value_agree, values_agree}
-use Rattle.cv_scope.specs.Context.{cell_of, first_position, replications_below, second_position}
-use Rattle.cv_scope.specs.Phrases.{Arm, Binders, Branches, Cells, Guarded, Guards, Indices as Names, Nil, Pattern, is_phrase}
-use Rattle.cv_scope.specs.declared.position.Position.{Position}
-use Rattle.cv_scope.specs.declared.position.Position.TheVariants as position
+use Rattle.cv_scope_rules.specs.Context.{cell_of, first_position, replications_below, second_position}
+use Rattle.cv_scope_rules.specs.Phrases.{Arm, Binders, Branches, Cells, Guarded, Guards, Indices as Names, Nil, Pattern, is_phrase}
+use Rattle.cv_scope_rules.specs.declared.position.Position.{Position}
+use Rattle.cv_scope_rules.specs.declared.position.Position.TheVariants as position
 use Rattle.cv_scenes.specs.Instances.{Call}
 use Rattle.cv_scenes.specs.Sites.{is_guard}
 use Rattle.cv_scenes.specs.Contexts.{after_calls, context_in, in_context, is_statement}

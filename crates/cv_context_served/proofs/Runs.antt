@@ -20,7 +20,7 @@ use Rattle.cv_meaning_runs.specs.Agreement.{AgreeAt}
 use Rattle.cv_meaning_runs.specs.Simulation.{AreAlike, AreServedAlike, IsGameSimulation, IsSimulation}
 use Rattle.cv_meaning_runs.proofs.Ends.{experiments_alike, holds_alike}
 use Rattle.cv_meaning_runs.proofs.Simulation.{games_alike}
-use Rattle.cv_scope.specs.declared.position.Position.TheVariants.{Anywhere}
+use Rattle.cv_scope_rules.specs.declared.position.Position.TheVariants.{Anywhere}
 use Rattle.cv_scope_runs.specs.Reads.{VisitReadsAssigned}
 use Rattle.cv_scope_runs.proofs.FactsRuns.{all_reads_assigned}
 use Rattle.cv_scope_runs.proofs.Plain.{game_context}

@@ -15,9 +15,9 @@ use Rattle.cv_meaning.specs.Tapes.{Find_at, Key_at, New_at, Tape}
 use Rattle.cv_meaning_laws.proofs.Sides.{candidates_same, value_same, values_same}
 use Rattle.cv_meaning_runs.specs.Simulation.{AreServedAlike, InOrder}
 use Rattle.cv_meaning_runs.proofs.Simulation.{in_order_append}
-use Rattle.cv_scope.specs.Context.{nothing_known}
-use Rattle.cv_scope.specs.Phrases.{Arm, Binders, Body, Branches, Else, Indices as Names, Inputs, Message, Nil, Pattern, Term, Terms, Then, is_phrase}
-use Rattle.cv_scope.specs.declared.position.Position.TheVariants as position
+use Rattle.cv_scope_rules.specs.Context.{nothing_known}
+use Rattle.cv_scope_rules.specs.Phrases.{Arm, Binders, Body, Branches, Else, Indices as Names, Inputs, Message, Nil, Pattern, Term, Terms, Then, is_phrase}
+use Rattle.cv_scope_rules.specs.declared.position.Position.TheVariants as position
 use Rattle.cv_scope_runs.specs.Reads.{TermAssigned, VisitReadsAssigned}
 use Rattle.cv_scope_runs.proofs.Contexts.{Matches, push_matches}
 use Rattle.cv_scenes.specs.Instances.{is_read_of}

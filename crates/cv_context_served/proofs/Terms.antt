@@ -11,10 +11,10 @@ use Rattle.cv_meaning.specs.Memory.{Indices, Store, tuple}
 use Rattle.cv_meaning.specs.Terms.{bit, found_in, is_one, leaf_value, leaf_value_from, or_zero, value, values}
 use Rattle.cv_meaning_laws.specs.Agreement.{AgreeOn}
 use Rattle.cv_meaning_laws.proofs.Lists.{each_append}
-use Rattle.cv_scope.specs.Context.{cell_of, first_position, index_terms, replications_below, second_position}
-use Rattle.cv_scope.specs.Phrases.{HasConstantsOf, Indices as Names, Nil, Term, Terms, is_phrase}
-use Rattle.cv_scope.specs.declared.position.Position.{Position}
-use Rattle.cv_scope.specs.declared.position.Position.TheVariants.{Anywhere}
+use Rattle.cv_scope_rules.specs.Context.{cell_of, first_position, index_terms, replications_below, second_position}
+use Rattle.cv_scope_rules.specs.Phrases.{HasConstantsOf, Indices as Names, Nil, Term, Terms, is_phrase}
+use Rattle.cv_scope_rules.specs.declared.position.Position.{Position}
+use Rattle.cv_scope_rules.specs.declared.position.Position.TheVariants.{Anywhere}
 use Rattle.cv_scope_runs.specs.Promises.{AreIndicesOf}
 use Rattle.cv_scope_runs.specs.Reads.{TermAssigned, TermsAssigned}
 use Rattle.cv_scope_runs.proofs.Contexts.{IsFound, Matches}

@@ -8,9 +8,9 @@ use Rattle.cv_meaning.specs.Tapes.{Key_at, Made_at, New_at}
 use Rattle.cv_meaning_laws.proofs.Lists.{each_append}
 use Rattle.cv_meaning_contexts.specs.Groups.{Group}
 use Rattle.cv_directory.specs.Sites.{first_of}
-use Rattle.cv_scope.specs.Context.{first_position, replications_below, second_position}
-use Rattle.cv_scope.specs.declared.position.Position.{Position}
-use Rattle.cv_scope.specs.declared.position.Position.TheVariants.{Anywhere}
+use Rattle.cv_scope_rules.specs.Context.{first_position, replications_below, second_position}
+use Rattle.cv_scope_rules.specs.declared.position.Position.{Position}
+use Rattle.cv_scope_rules.specs.declared.position.Position.TheVariants.{Anywhere}
 use Rattle.cv_scenes.specs.Sights.{variable_of}
 use Rattle.cv_scenes.specs.Instances.{Call, Matching, call_at, filled, is_read_of, names_of, terms_of}
 use Rattle.cv_scenes.specs.Refusals.{uses}

@@ -4,9 +4,9 @@ use Rattle.std.proofs.lemmas.Bool.{both_ways, and_parts}
 use Rattle.std.specs.Prelude.{slice_get}
 use Rattle.cv_syntax.specs.declared.head.Head.TheVariants.{Leaf, Read, Apply, Eq, And, Or, Not, Yes, No, Cons}
 use Rattle.cv_syntax.specs.Tree.{Tree, Empty, Node, first_place, second_place}
-use Rattle.cv_scope.specs.Context.{first_position, replications_below, second_position}
-use Rattle.cv_scope.specs.Phrases.{Nil, Term, Terms, is_phrase}
-use Rattle.cv_scope.specs.declared.position.Position.{Position}
+use Rattle.cv_scope_rules.specs.Context.{first_position, replications_below, second_position}
+use Rattle.cv_scope_rules.specs.Phrases.{Nil, Term, Terms, is_phrase}
+use Rattle.cv_scope_rules.specs.declared.position.Position.{Position}
 use Rattle.cv_scenes.specs.Scenes.{head_reads}
 use Rattle.cv_derivations.specs.Given.{or_node, term_for, with_given}
 use Rattle.cv_scenes.specs.Instances.{Call, Matching, call_at}

@@ -5,8 +5,8 @@ ghost use Rattle.std.specs.Prelude.{◌≡◌, ◌+◌, ◌<◌, ◌≤◌, ◌=
 ghost use Rattle.cv_syntax.specs.Declarations.{Declaration};
 ghost use Rattle.cv_syntax.specs.Tree.{Tree};
 ghost use Rattle.cv_meaning.specs.Tapes.{Made_at, New_at};
-ghost use Rattle.cv_scope.specs.Phrases.{Term, is_phrase};
-ghost use Rattle.cv_scope.specs.declared.position.Position.{Position};
+ghost use Rattle.cv_scope_rules.specs.Phrases.{Term, is_phrase};
+ghost use Rattle.cv_scope_rules.specs.declared.position.Position.{Position};
 ghost use Rattle.cv_scenes.specs.Sights.{variable_of};
 ghost use Rattle.cv_derivations.specs.Given.{term_for, with_given};
 ghost use Rattle.cv_scenes.specs.Instances.{Call, Matching, call_at};

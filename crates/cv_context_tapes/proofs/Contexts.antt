@@ -13,8 +13,8 @@ use Rattle.cv_meaning_laws.proofs.Lists.{each_append}
 use Rattle.cv_meaning_contexts.specs.Groups.{Function}
 use Rattle.cv_meaning_values.specs.Values.{ConstructHasValues, HasValuesIn}
 use Rattle.cv_directory.specs.Sites.{first_of}
-use Rattle.cv_scope.specs.declared.position.Position.{Position}
-use Rattle.cv_scope.specs.Context.{cell_of, first_position, index_terms, replications_below, second_position}
+use Rattle.cv_scope_rules.specs.declared.position.Position.{Position}
+use Rattle.cv_scope_rules.specs.Context.{cell_of, first_position, index_terms, replications_below, second_position}
 use Rattle.cv_scenes.specs.Scenes.{or_empty}
 use Rattle.cv_scenes.specs.Instances.{Call as Found, Matching, call_at, call_by, first_call, guess, instance_of, is_instance, standing_for, standing_here, term_for}
 use Rattle.cv_scenes.specs.Sites.{Site, is_guard, sites_in}

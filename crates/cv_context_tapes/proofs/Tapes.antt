@@ -10,7 +10,7 @@ use Rattle.cv_meaning_contexts.specs.Groups.{Left, Right, Which}
 use Rattle.cv_meaning_contexts.specs.Sides.{side_of}
 use Rattle.cv_meaning_values.specs.Values.{HasValuesIn}
 use Rattle.cv_meaning_values.proofs.Tapes.{tapes}
-use Rattle.cv_scope.specs.declared.position.Position.TheVariants.{Anywhere}
+use Rattle.cv_scope_rules.specs.declared.position.Position.TheVariants.{Anywhere}
 use Rattle.cv_scenes.specs.Reductions.{Reduction, context_of_game, in_game, is_coin, matching}
 use Rattle.cv_context_tapes.specs.Declared.{HasDeclaredTypes}
 use Rattle.cv_context_tapes.proofs.Contexts.{in_context_valued}

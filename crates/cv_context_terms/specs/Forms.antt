@@ -3,7 +3,7 @@
 use Rattle.std.specs.Prelude.{◌≡◌, Bool, true, not, ◌||◌}
 use Rattle.cv_syntax.specs.Tree.{Tree, second}
 use Rattle.cv_meaning_contexts.specs.Groups.{Left}
-use Rattle.cv_scope.specs.Phrases.{Term, is_phrase}
+use Rattle.cv_scope_rules.specs.Phrases.{Term, is_phrase}
 use Rattle.cv_group_rules.specs.Rules.{each_function, functions_in, is_one_binder, is_term, key_in}
 
 abbrev pub is_whole : Tree → Bool

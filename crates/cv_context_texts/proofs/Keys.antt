@@ -13,11 +13,11 @@ use Rattle.cv_meaning_laws.proofs.Lists.{each_append}
 use Rattle.cv_meaning_adequacy.specs.Typed as meaning
 use Rattle.cv_meaning_adequacy.specs.Typed.{BelowParameter, HasSort, HaveSorts, IsFunction, IsTyped, IsVariable, NameHasSort, OfType, Scope, Sort, boolean, parameter_in, parameters}
 use Rattle.cv_directory.specs.Sites.{Variable, first_site}
-use Rattle.cv_scope.specs.Context.{items, replications_below}
-use Rattle.cv_scope.specs.Made.{made_by}
-use Rattle.cv_scope.specs.Phrases.{Phrase, Body, Nil, OneCell, Term, Terms, is_phrase}
-use Rattle.cv_scope.specs.Rules.{is_index}
-use Rattle.cv_scope.specs.Sites.{Variable as Named}
+use Rattle.cv_scope_rules.specs.Context.{items, replications_below}
+use Rattle.cv_scope_rules.specs.Made.{made_by}
+use Rattle.cv_scope_rules.specs.Phrases.{Phrase, Body, Nil, OneCell, Term, Terms, is_phrase}
+use Rattle.cv_scope_rules.specs.Rules.{is_index}
+use Rattle.cv_scope_rules.specs.Sites.{Variable as Named}
 use Rattle.cv_scenes.specs.Refusals.{definitions_in, new_of, only_new}
 use Rattle.cv_scenes.specs.Sights.{variable_of}
 use Rattle.cv_typing_runs.specs.Games.{context_of, has_site, variable_of_meaning}

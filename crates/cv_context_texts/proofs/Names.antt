@@ -8,12 +8,12 @@ use Rattle.cv_meaning_adequacy.proofs.Lists.{or_cases}
 use Rattle.cv_directory.specs.declared.sort.Sort.{Sort}
 use Rattle.cv_directory.specs.declared.sort.Sort.TheVariants.{BelowParameter, OfType}
 use Rattle.cv_directory.specs.Sites.{at_parameters, bound_sort, first_index, first_of, first_site, index_here, is_untyped_here, is_untyped_in, parameters_below, site_here}
-use Rattle.cv_scope.specs.Context.{replications_below}
-use Rattle.cv_scope.specs.Made.{is_bound, made_by}
-use Rattle.cv_scope.specs.Phrases.{Phrase, Binders, Nil, binds_none, head_binds_none, is_phrase}
-use Rattle.cv_scope.specs.Rules.{is_index}
-use Rattle.cv_scope.specs.Scope.{is_variable}
-use Rattle.cv_scope.specs.Sites.{Variable as Named}
+use Rattle.cv_scope_rules.specs.Context.{replications_below}
+use Rattle.cv_scope_rules.specs.Made.{is_bound, made_by}
+use Rattle.cv_scope_rules.specs.Phrases.{Phrase, Binders, Nil, binds_none, head_binds_none, is_phrase}
+use Rattle.cv_scope_rules.specs.Rules.{is_index}
+use Rattle.cv_scope_rules.specs.Scope.{is_variable}
+use Rattle.cv_scope_rules.specs.Sites.{Variable as Named}
 use Rattle.cv_scenes.specs.Scenes.{head_names, names}
 use Rattle.cv_typing_runs.proofs.SameSites.{branch_binders, input_binders, phrase_open}
 use Rattle.cv_context_indices.specs.Indices.{binds_new_index, indices_are_new}

@@ -3,9 +3,9 @@ use Rattle.std.proofs.Common.{◌≡◌, ℕ, Bool, true, false, cond, ◌&&◌,
 use Rattle.std.proofs.lemmas.Bool.{both_ways}
 use Rattle.cv_syntax.specs.Tree.{Tree}
 use Rattle.cv_meaning.specs.Tapes.{Find_at}
-use Rattle.cv_scope.specs.Phrases.{IsWellFormed}
-use Rattle.cv_scope.specs.Scope.{is_variable, names_of}
-use Rattle.cv_scope.specs.Standing.{at_root}
+use Rattle.cv_scope_rules.specs.Phrases.{IsWellFormed}
+use Rattle.cv_scope_rules.specs.Scope.{is_variable, names_of}
+use Rattle.cv_scope_rules.specs.Standing.{at_root}
 use Rattle.cv_scenes.specs.Reductions.{Reduction, is_answer, is_coin, is_plain}
 use Rattle.cv_scenes.specs.Refusals.{new_of}
 use Rattle.cv_scenes.specs.Scenes.{names}

@@ -12,10 +12,10 @@ use Rattle.cv_meaning_adequacy.specs.Typed.{Scope}
 use Rattle.cv_meaning_adequacy.proofs.Lists.{or_cases}
 use Rattle.cv_directory.specs.Sites.{first_index, first_of, index_here}
 use Rattle.cv_derivations.specs.Given.{or_node, term_for, with_given}
-use Rattle.cv_scope.specs.Context.{first_position, replications_below, second_position}
-use Rattle.cv_scope.specs.Phrases.{Phrase, Nil, Term, Terms, is_phrase}
-use Rattle.cv_scope.specs.Rules.{is_index}
-use Rattle.cv_scope.specs.declared.position.Position.{Position}
+use Rattle.cv_scope_rules.specs.Context.{first_position, replications_below, second_position}
+use Rattle.cv_scope_rules.specs.Phrases.{Phrase, Nil, Term, Terms, is_phrase}
+use Rattle.cv_scope_rules.specs.Rules.{is_index}
+use Rattle.cv_scope_rules.specs.declared.position.Position.{Position}
 use Rattle.cv_scenes.specs.Scenes.{head_names, names}
 use Rattle.cv_scenes.specs.Terms.{has_index}
 use Rattle.cv_scenes.specs.Instances.{Call, Matching, call_at}

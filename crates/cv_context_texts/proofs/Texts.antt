@@ -10,12 +10,12 @@ use Rattle.cv_syntax.specs.Tree.{Tree, Empty, Node, chain, first, head_reads_onl
 use Rattle.cv_meaning.specs.Interpretation.{is_constant_of}
 use Rattle.cv_directory.specs.Sites.{first_site}
 use Rattle.cv_group_rules.specs.Faults.{IsAccepted}
-use Rattle.cv_scope.specs.Phrases.{Inputs, IsWellFormed}
-use Rattle.cv_scope.specs.Rules.{is_index}
-use Rattle.cv_scope.specs.Scope.{is_variable, names_of as scope_names}
-use Rattle.cv_scope.specs.Standing.{at_root}
-use Rattle.cv_scope.specs.declared.position.Position.TheVariants.{Anywhere}
-use Rattle.cv_scope.proofs.Unbound.{no_variable}
+use Rattle.cv_scope_rules.specs.Phrases.{Inputs, IsWellFormed}
+use Rattle.cv_scope_rules.specs.Rules.{is_index}
+use Rattle.cv_scope_rules.specs.Scope.{is_variable, names_of as scope_names}
+use Rattle.cv_scope_rules.specs.Standing.{at_root}
+use Rattle.cv_scope_rules.specs.declared.position.Position.TheVariants.{Anywhere}
+use Rattle.cv_scope_rules.proofs.Unbound.{no_variable}
 use Rattle.cv_typing.specs.Parts.{IsTypedGame}
 use Rattle.cv_typing_runs.specs.Games.{HasArguments, HasKnownNames, has_site}
 use Rattle.cv_typing_runs.proofs.Games as games

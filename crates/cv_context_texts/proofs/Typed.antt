@@ -5,8 +5,8 @@ use Rattle.cv_syntax.specs.declared.head.Head.{Head}
 use Rattle.cv_syntax.specs.declared.head.Head.TheVariants.{And, Apply, Binder, Branch, Cons, Eq, Event, Find, If, In, Leaf, Let, Name, New, No, Not, Or, Out, Par, Read, Repl, Stop, Yes, Yield}
 use Rattle.cv_syntax.specs.Tree.{Tree, Node, first, second}
 use Rattle.cv_meaning_adequacy.specs.Typed.{BelowParameter, Context, HasSort, HaveSomeSorts, HaveSorts, IsTyped, OfType, Scope, Sort, boolean}
-use Rattle.cv_scope.specs.Context.{replications_below}
-use Rattle.cv_scope.specs.Phrases.{Phrase, Arm, Binders, Body, Branches, Cells, Else, Guarded, Guards, Indices, Inputs, Message, Nil, OneCell, Pattern, Term, Terms, Then, is_phrase, parts}
+use Rattle.cv_scope_rules.specs.Context.{replications_below}
+use Rattle.cv_scope_rules.specs.Phrases.{Phrase, Arm, Binders, Body, Branches, Cells, Else, Guarded, Guards, Indices, Inputs, Message, Nil, OneCell, Pattern, Term, Terms, Then, is_phrase, parts}
 
 module _ (c : Context) where
   -- what typing says of a phrase

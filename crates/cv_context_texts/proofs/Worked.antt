@@ -6,12 +6,12 @@ use Rattle.cv_syntax.specs.Tree.{same_tree, size}
 use Rattle.cv_directory.specs.Sites.{bound_sort, first_site, is_untyped_in}
 use Rattle.cv_meaning.specs.Interpretation.{Interpretation}
 use Rattle.cv_directory.specs.Counting.{count}
-use Rattle.cv_scope.specs.Made.{is_bound}
-use Rattle.cv_scope.specs.Phrases.{IsWellFormed, binds_none, is_phrase}
-use Rattle.cv_scope.specs.Scope.{names_of}
-use Rattle.cv_scope.specs.Sites.{sites_from}
-use Rattle.cv_scope.specs.Standing.{at_root}
-use Rattle.cv_scope.proofs.First.{scoped_where_none}
+use Rattle.cv_scope_rules.specs.Made.{is_bound}
+use Rattle.cv_scope_rules.specs.Phrases.{IsWellFormed, binds_none, is_phrase}
+use Rattle.cv_scope_rules.specs.Scope.{names_of}
+use Rattle.cv_scope_rules.specs.Sites.{sites_from}
+use Rattle.cv_scope_rules.specs.Standing.{at_root}
+use Rattle.cv_scope_rules.proofs.First.{scoped_where_none}
 use Rattle.cv_scenes.specs.Scenes.{names}
 use Rattle.cv_scenes.specs.Refusals.{definitions_in, new_of}
 use Rattle.cv_match_laws.specs.Worked.{game}

@@ -17,8 +17,8 @@ use Rattle.cv_directory.specs.Sorts.{differs_from}
 use Rattle.cv_typing.specs.Wants.{Run, Want}
 use Rattle.cv_typing.specs.declared.form.Form.TheVariants.{InProcess}
 use Rattle.cv_typing_runs.proofs.Terms.{faultless, same_sorts}
-use Rattle.cv_scope.specs.Made.{made_by}
-use Rattle.cv_scope.specs.Sites.{Variable as Named}
+use Rattle.cv_scope_rules.specs.Made.{made_by}
+use Rattle.cv_scope_rules.specs.Sites.{Variable as Named}
 use Rattle.cv_inline_expected.specs.Fine.{defines}
 use Rattle.cv_context_typed.specs.Typed.{sort_name, type_by, variable_type}
 use Rattle.cv_context_typed.proofs.Definitions.{HasTypes}

@@ -10,7 +10,7 @@ use Rattle.cv_meaning.specs.Correspondences.{typed_names}
 use Rattle.cv_meaning_laws.proofs.Lists.{each_append}
 use Rattle.cv_meaning_contexts.specs.Groups.{Function, Group, Right, function_at, functions_of, side_group}
 use Rattle.cv_meaning_contexts.specs.Sides.{Context}
-use Rattle.cv_scope.specs.Phrases.{binds_none, head_binds_none}
+use Rattle.cv_scope_rules.specs.Phrases.{binds_none, head_binds_none}
 use Rattle.cv_meaning_contexts.specs.Inlined.{is_own}
 use Rattle.cv_inline_games.specs.NextGame.{Calling, call_of, calling, callings_from, callings_of, names_assigned}
 

@@ -6,7 +6,7 @@ ghost use Rattle.std.specs.List.{AllByRecursion};
 ghost use Rattle.cv_syntax.specs.Tree.{second};
 ghost use Rattle.cv_meaning_contexts.specs.Sides.{Context};
 ghost use Rattle.cv_typing.specs.Parts.{IsTypedGame};
-ghost use Rattle.cv_scope.specs.Phrases.{binds_none};
+ghost use Rattle.cv_scope_rules.specs.Phrases.{binds_none};
 ghost use Rattle.cv_scenes.specs.Apt.{IsAptGame};
 ghost use Rattle.cv_scenes.specs.LeftTerms.{HasLeftTerms};
 ghost use Rattle.cv_scenes.specs.Reductions.{Reduction, context_of_game, matching};

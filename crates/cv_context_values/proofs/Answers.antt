@@ -16,8 +16,8 @@ use Rattle.cv_meaning_contexts.specs.Frames.{Frame, IsValue}
 use Rattle.cv_meaning_contexts.specs.BodyTerms.{body_value}
 use Rattle.cv_meaning_contexts.specs.Finds.{Oracles}
 use Rattle.cv_meaning_contexts.specs.Bodies.{begun, body_answer, function_answer, function_called, reply, with_arguments, with_coins}
-use Rattle.cv_scope.specs.Phrases.{Term, is_phrase}
-use Rattle.cv_scope.specs.Phrases.{HasConstantsOf}
+use Rattle.cv_scope_rules.specs.Phrases.{Term, is_phrase}
+use Rattle.cv_scope_rules.specs.Phrases.{HasConstantsOf}
 use Rattle.cv_scenes.specs.Instances.{Instance, filled, names_of, terms_of}
 use Rattle.cv_scenes.specs.LeftTerms.{IsLeftFunction}
 use Rattle.cv_scenes.specs.Standing.{AreAsMany, AreDrawn, HasNoConstant, HasValuesOf}

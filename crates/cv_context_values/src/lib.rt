@@ -10,7 +10,7 @@ ghost use Rattle.cv_meaning.specs.Terms.{value};
 ghost use Rattle.cv_meaning_contexts.specs.Groups.{Function};
 ghost use Rattle.cv_meaning_contexts.specs.Finds.{Oracles};
 ghost use Rattle.cv_meaning_contexts.specs.Bodies.{function_called, reply};
-ghost use Rattle.cv_scope.specs.Phrases.{HasConstantsOf};
+ghost use Rattle.cv_scope_rules.specs.Phrases.{HasConstantsOf};
 ghost use Rattle.cv_scenes.specs.Instances.{Instance, filled};
 ghost use Rattle.cv_scenes.specs.LeftTerms.{IsLeftFunction};
 ghost use Rattle.cv_scenes.specs.Standing.{HasNoConstant, HasValuesOf};

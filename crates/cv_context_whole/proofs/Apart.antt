@@ -5,12 +5,12 @@ use Rattle.std.specs.List.{AllByRecursion}
 use Rattle.cv_syntax.specs.declared.head.Head.{Head}
 use Rattle.cv_syntax.specs.declared.head.Head.TheVariants.{New, Key, Call}
 use Rattle.cv_syntax.specs.Tree.{Tree, Empty, Node, first_place, second_place}
-use Rattle.cv_scope.specs.Branches.{AreInDifferentBranches, Each, HasOtherName, IsLike, Pairs}
-use Rattle.cv_scope.specs.Context.{first_position, replications_below, second_position}
-use Rattle.cv_scope.specs.Sites.{Site, Variable, sites_from, sites_here}
-use Rattle.cv_scope.specs.declared.position.Position.{Position}
-use Rattle.cv_scope.specs.declared.position.Position.TheVariants.{Anywhere}
-use Rattle.cv_scope.proofs.Pairs.{all-append, all-left, all-right, all-weaker, each-append, pairs-append}
+use Rattle.cv_scope_rules.specs.Branches.{AreInDifferentBranches, Each, HasOtherName, IsLike, Pairs}
+use Rattle.cv_scope_rules.specs.Context.{first_position, replications_below, second_position}
+use Rattle.cv_scope_rules.specs.Sites.{Site, Variable, sites_from, sites_here}
+use Rattle.cv_scope_rules.specs.declared.position.Position.{Position}
+use Rattle.cv_scope_rules.specs.declared.position.Position.TheVariants.{Anywhere}
+use Rattle.cv_scope_rules.proofs.Pairs.{all-append, all-left, all-right, all-weaker, each-append, pairs-append}
 use Rattle.cv_scenes.specs.Reductions.{Reduction, sites}
 use Rattle.cv_context_served.proofs.Kept.{answers_are}
 use Rattle.cv_context_whole.proofs.Becoming.{AreCalls, none, call, Becomes, still, node, coin, key, statement, IsNoAnswer, is_answer_name, is_still}

@@ -7,10 +7,10 @@ use Rattle.cv_syntax.specs.declared.head.Head.TheVariants.{Leaf, Read, Apply, Eq
 use Rattle.cv_syntax.specs.Declarations.{Declaration}
 use Rattle.cv_syntax.specs.Tree.{Tree, Empty, Node, first_place, second_place}
 use Rattle.cv_derivations.specs.Given.{or_node, term_for, with_given}
-use Rattle.cv_scope.specs.Context.{first_position, replications_below, second_position}
-use Rattle.cv_scope.specs.Phrases.{Nil, Term, Terms, is_phrase}
-use Rattle.cv_scope.specs.declared.position.Position.{Position}
-use Rattle.cv_scope.proofs.Pairs.{all-append}
+use Rattle.cv_scope_rules.specs.Context.{first_position, replications_below, second_position}
+use Rattle.cv_scope_rules.specs.Phrases.{Nil, Term, Terms, is_phrase}
+use Rattle.cv_scope_rules.specs.declared.position.Position.{Position}
+use Rattle.cv_scope_rules.proofs.Pairs.{all-append}
 use Rattle.cv_scenes.specs.Instances.{Call, Matching, call_at, names_of, terms_of}
 use Rattle.cv_scenes.specs.LeftTerms.{HasLeftTerms, reads_no_array}
 use Rattle.cv_scenes.specs.Refusals.{uses}

@@ -7,18 +7,18 @@ use Rattle.cv_syntax.specs.declared.head.Head.{Head}
 use Rattle.cv_syntax.specs.declared.head.Head.TheVariants.{Stop, Yield, Par, Repl, In, Out, Event, New, Let, If, Find, Branch, Leaf, Read, Cons, Binder, Name, Key}
 use Rattle.cv_syntax.specs.Tree.{Tree, Empty, Node, first, first_place, reads_only, second}
 use Rattle.cv_meaning.specs.Binders.{bound_names}
-use Rattle.cv_scope.specs.declared.fault.Fault.TheVariants as fault
-use Rattle.cv_scope.specs.Branches.{HasOtherName, Pairs}
-use Rattle.cv_scope.specs.Context.{Context, cell_of, cells_of, items, with_cells}
-use Rattle.cv_scope.specs.Phrases.{Phrase, Arm, Binders, Body, Branches, Cells, Else, Guarded, Guards, Indices as NameList, Inputs, Message, Nil, OneCell, Pattern, Term, Terms, Then, is_phrase}
-use Rattle.cv_scope.specs.Rules.{IsAmong, Names, carries, is_index}
-use Rattle.cv_scope.specs.Scope.{IsScopedAt}
-use Rattle.cv_scope.specs.Sites.{Variable, channel_here, named_here, site_of}
-use Rattle.cv_scope.specs.Standing.{Standing, first_standing, second_standing}
-use Rattle.cv_scope.specs.declared.position.Position.{Position}
-use Rattle.cv_scope.specs.declared.position.Position.TheVariants as position
-use Rattle.cv_scope.proofs.Apart.{IsApart, IsBefore, IsWithin, before-first, before-second, here-within, past-end, stand-apart}
-use Rattle.cv_scope.proofs.Pairs.{all-left, pairs-of}
+use Rattle.cv_scope_rules.specs.declared.fault.Fault.TheVariants as fault
+use Rattle.cv_scope_rules.specs.Branches.{HasOtherName, Pairs}
+use Rattle.cv_scope_rules.specs.Context.{Context, cell_of, cells_of, items, with_cells}
+use Rattle.cv_scope_rules.specs.Phrases.{Phrase, Arm, Binders, Body, Branches, Cells, Else, Guarded, Guards, Indices as NameList, Inputs, Message, Nil, OneCell, Pattern, Term, Terms, Then, is_phrase}
+use Rattle.cv_scope_rules.specs.Rules.{IsAmong, Names, carries, is_index}
+use Rattle.cv_scope_rules.specs.Scope.{IsScopedAt}
+use Rattle.cv_scope_rules.specs.Sites.{Variable, channel_here, named_here, site_of}
+use Rattle.cv_scope_rules.specs.Standing.{Standing, first_standing, second_standing}
+use Rattle.cv_scope_rules.specs.declared.position.Position.{Position}
+use Rattle.cv_scope_rules.specs.declared.position.Position.TheVariants as position
+use Rattle.cv_scope_rules.proofs.Apart.{IsApart, IsBefore, IsWithin, before-first, before-second, here-within, past-end, stand-apart}
+use Rattle.cv_scope_rules.proofs.Pairs.{all-left, pairs-of}
 use Rattle.cv_scope_runs.proofs.Rows.{walks}
 use Rattle.cv_scenes.specs.Sights.{variable_of}
 use Rattle.cv_scenes.specs.Instances.{Call}

@@ -5,12 +5,12 @@ use Rattle.std.specs.List.{AllByRecursion}
 use Rattle.cv_syntax.specs.declared.head.Head.{Head}
 use Rattle.cv_syntax.specs.declared.head.Head.TheVariants.{Leaf, Read, Apply, Eq, And, Or, Not, Yes, No, Cons, Binder, Name}
 use Rattle.cv_syntax.specs.Tree.{Tree, Empty, Node, first_place, head_reads_only, reads_only, second_place}
-use Rattle.cv_scope.specs.Branches.{HasOtherName, Pairs}
-use Rattle.cv_scope.specs.Context.{Context, cell_of, first_context, first_position, index_terms, second_context, second_position}
-use Rattle.cv_scope.specs.Rules.{BindsNewIndex, InReach, IsAmong, IsFewIndices, Names, ReadsInReach, carries_current, is_index}
-use Rattle.cv_scope.specs.Sites.{named_here}
-use Rattle.cv_scope.specs.declared.position.Position.TheVariants.{Anywhere}
-use Rattle.cv_scope.proofs.Pairs.{all-weaker}
+use Rattle.cv_scope_rules.specs.Branches.{HasOtherName, Pairs}
+use Rattle.cv_scope_rules.specs.Context.{Context, cell_of, first_context, first_position, index_terms, second_context, second_position}
+use Rattle.cv_scope_rules.specs.Rules.{BindsNewIndex, InReach, IsAmong, IsFewIndices, Names, ReadsInReach, carries_current, is_index}
+use Rattle.cv_scope_rules.specs.Sites.{named_here}
+use Rattle.cv_scope_rules.specs.declared.position.Position.TheVariants.{Anywhere}
+use Rattle.cv_scope_rules.proofs.Pairs.{all-weaker}
 use Rattle.cv_scenes.specs.Sights.{variable_of}
 use Rattle.cv_scenes.specs.Reductions.{Reduction, is_coin, is_plain}
 use Rattle.cv_context_formed.specs.Rules.{AreKept}

@@ -8,12 +8,12 @@ use Rattle.cv_syntax.specs.declared.head.Head.TheVariants.{Stop, Yield, Par, Rep
 use Rattle.cv_syntax.specs.Tree.{Tree, Empty, Node, chain, first_place, second, second_place}
 use Rattle.cv_meaning.specs.Binders.{bound_names}
 use Rattle.cv_directory.specs.Sites.{site_here}
-use Rattle.cv_scope.specs.Context.{cell_of, first_position, index_terms, replications_below, second_position}
-use Rattle.cv_scope.specs.Phrases.{Phrase, Arm, Binders, Body, Branches, Cells, Else, Guarded, Guards, Indices as Names, Inputs, Message, Nil, OneCell, Pattern, Term, Terms, Then, is_phrase, parts}
-use Rattle.cv_scope.specs.Sites.{Variable, channel_here, site_of, sites_here, variable_sites}
-use Rattle.cv_scope.specs.declared.position.Position.{Position}
-use Rattle.cv_scope.specs.declared.position.Position.TheVariants as position
-use Rattle.cv_scope.proofs.Pairs.{all-append}
+use Rattle.cv_scope_rules.specs.Context.{cell_of, first_position, index_terms, replications_below, second_position}
+use Rattle.cv_scope_rules.specs.Phrases.{Phrase, Arm, Binders, Body, Branches, Cells, Else, Guarded, Guards, Indices as Names, Inputs, Message, Nil, OneCell, Pattern, Term, Terms, Then, is_phrase, parts}
+use Rattle.cv_scope_rules.specs.Sites.{Variable, channel_here, site_of, sites_here, variable_sites}
+use Rattle.cv_scope_rules.specs.declared.position.Position.{Position}
+use Rattle.cv_scope_rules.specs.declared.position.Position.TheVariants as position
+use Rattle.cv_scope_rules.proofs.Pairs.{all-append}
 use Rattle.cv_scope_runs.proofs.Rows.{walks}
 use Rattle.cv_scenes.specs.Instances.{Call, call_at}
 use Rattle.cv_scenes.specs.Sites.{Site, is_guard, sites_in}

@@ -6,13 +6,13 @@ use Rattle.cv_syntax.specs.declared.head.Head.{Head}
 use Rattle.cv_syntax.specs.declared.head.Head.TheVariants.{Leaf, Read, Apply, Eq, And, Or, Not, Yes, No, Cons, Name, Binder, Branch, Find, In, Let, New, Key, Call}
 use Rattle.cv_syntax.specs.Tree.{Tree, Empty, Node, first_place, second, second_place}
 use Rattle.cv_meaning.specs.Binders.{bound_names}
-use Rattle.cv_scope.specs.Branches.{AreInDifferentBranches, Each, HasOtherName, IsLike, Pairs}
-use Rattle.cv_scope.specs.Context.{first_position, replications_below, second_position}
-use Rattle.cv_scope.specs.Rules.{AreAlike}
-use Rattle.cv_scope.specs.Sites.{Channel, Site, Variable, channel_here, site_of, sites_from, sites_here, variable_sites}
-use Rattle.cv_scope.specs.declared.position.Position.{Position}
-use Rattle.cv_scope.specs.declared.position.Position.TheVariants.{Anywhere}
-use Rattle.cv_scope.proofs.Pairs.{all-append, all-map, all-true, all-weaker, pairs-append}
+use Rattle.cv_scope_rules.specs.Branches.{AreInDifferentBranches, Each, HasOtherName, IsLike, Pairs}
+use Rattle.cv_scope_rules.specs.Context.{first_position, replications_below, second_position}
+use Rattle.cv_scope_rules.specs.Rules.{AreAlike}
+use Rattle.cv_scope_rules.specs.Sites.{Channel, Site, Variable, channel_here, site_of, sites_from, sites_here, variable_sites}
+use Rattle.cv_scope_rules.specs.declared.position.Position.{Position}
+use Rattle.cv_scope_rules.specs.declared.position.Position.TheVariants.{Anywhere}
+use Rattle.cv_scope_rules.proofs.Pairs.{all-append, all-map, all-true, all-weaker, pairs-append}
 use Rattle.cv_scenes.specs.Reductions.{Reduction}
 use Rattle.cv_context_whole.proofs.Becoming.{AreCalls, none, call, Becomes, still, node, coin, key, statement, IsNoAnswer, is_still, is_still_head}
 

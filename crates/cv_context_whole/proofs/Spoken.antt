@@ -5,10 +5,10 @@ use Rattle.std.specs.List.{AllByRecursion}
 use Rattle.cv_syntax.specs.declared.head.Head.{Head}
 use Rattle.cv_syntax.specs.declared.head.Head.TheVariants.{Leaf, Read, Apply, Eq, And, Or, Not, Yes, No, Cons, Binder, Name}
 use Rattle.cv_syntax.specs.Tree.{Tree, Empty, Node, chain, first, first_place, head_reads_only, reads_only, second_place}
-use Rattle.cv_scope.specs.Context.{Context, cell_of, first_position, replications_below, second_position}
-use Rattle.cv_scope.specs.Phrases.{Nil, OneCell, Phrase, Term, Terms, is_phrase, parts}
-use Rattle.cv_scope.specs.Rules.{IsAmong, Names, ReadsInReach}
-use Rattle.cv_scope.specs.declared.position.Position.TheVariants.{Anywhere}
+use Rattle.cv_scope_rules.specs.Context.{Context, cell_of, first_position, replications_below, second_position}
+use Rattle.cv_scope_rules.specs.Phrases.{Nil, OneCell, Phrase, Term, Terms, is_phrase, parts}
+use Rattle.cv_scope_rules.specs.Rules.{IsAmong, Names, ReadsInReach}
+use Rattle.cv_scope_rules.specs.declared.position.Position.TheVariants.{Anywhere}
 use Rattle.cv_scope_runs.proofs.Rows.{walks}
 use Rattle.cv_scenes.specs.Sights.{variable_of}
 use Rattle.cv_scenes.specs.Instances.{Call, call_at}

@@ -1,9 +1,9 @@
 -- The context of an apt game keeps the rules of scope at each node.
 use Rattle.std.proofs.Common.{◌≡◌, true, [], refl}
-use Rattle.cv_scope.specs.Context.{nothing_known}
-use Rattle.cv_scope.specs.Scope.{names_of}
-use Rattle.cv_scope.specs.Standing.{at_root}
-use Rattle.cv_scope.specs.declared.position.Position.TheVariants.{Anywhere}
+use Rattle.cv_scope_rules.specs.Context.{nothing_known}
+use Rattle.cv_scope_rules.specs.Scope.{names_of}
+use Rattle.cv_scope_rules.specs.Standing.{at_root}
+use Rattle.cv_scope_rules.specs.declared.position.Position.TheVariants.{Anywhere}
 use Rattle.cv_scenes.specs.Apt.{IsAptGame}
 use Rattle.cv_scenes.specs.LeftTerms.{HasLeftTerms}
 use Rattle.cv_scenes.specs.Reductions.{Reduction, context_of_game, matching}

@@ -2,11 +2,11 @@
 #![tactic(auto)]
 
 ghost use Rattle.std.specs.Prelude.{◌≡◌, true};
-ghost use Rattle.cv_scope.specs.Branches.{AreSitesAlike, IsApartByBranches};
-ghost use Rattle.cv_scope.specs.Context.{nothing_known};
-ghost use Rattle.cv_scope.specs.Phrases.{IsWellFormedContext};
-ghost use Rattle.cv_scope.specs.Scope.{names_of};
-ghost use Rattle.cv_scope.specs.declared.position.Position.TheVariants.{Anywhere};
+ghost use Rattle.cv_scope_rules.specs.Branches.{AreSitesAlike, IsApartByBranches};
+ghost use Rattle.cv_scope_rules.specs.Context.{nothing_known};
+ghost use Rattle.cv_scope_rules.specs.Phrases.{IsWellFormedContext};
+ghost use Rattle.cv_scope_rules.specs.Scope.{names_of};
+ghost use Rattle.cv_scope_rules.specs.declared.position.Position.TheVariants.{Anywhere};
 ghost use Rattle.cv_scenes.specs.Apt.{IsAptGame};
 ghost use Rattle.cv_scenes.specs.LeftTerms.{HasLeftTerms};
 ghost use Rattle.cv_scenes.specs.Reductions.{Reduction, context_of_game, matching};

@@ -11,7 +11,7 @@ use Rattle.cv_meaning.specs.Memory.{Indices, Store}
 use Rattle.cv_meaning.specs.Satisfies.{Satisfies}
 use Rattle.cv_meaning.specs.Terms.{bit, is_one, value}
 use Rattle.cv_meaning_adequacy.specs.Typed.{HasSort}
-use Rattle.cv_scope.specs.Phrases.{IsWellFormed}
+use Rattle.cv_scope_rules.specs.Phrases.{IsWellFormed}
 use Rattle.cv_directory.specs.Sites.{first_of}
 use Rattle.cv_first_fault.proofs.First.{none_first}
 use Rattle.cv_typing.specs.Signature as typing

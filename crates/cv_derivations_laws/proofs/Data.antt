@@ -17,8 +17,8 @@ use Rattle.cv_meaning.specs.Terms.{bit, is_one, value, values}
 use Rattle.cv_meaning.specs.Binders.{fits_types}
 use Rattle.cv_meaning_adequacy.specs.Typed as meaning
 use Rattle.cv_meaning_adequacy.specs.Typed.{HasSort, Scope, boolean}
-use Rattle.cv_scope.specs.Context.{items}
-use Rattle.cv_scope.specs.Phrases.{IsWellFormed, Nil, Term, Terms, is_phrase}
+use Rattle.cv_scope_rules.specs.Context.{items}
+use Rattle.cv_scope_rules.specs.Phrases.{IsWellFormed, Nil, Term, Terms, is_phrase}
 use Rattle.cv_typing.specs.Signature.{Above, Function, Signature, declaration_of, function_by, function_in, is_arity, names_in}
 use Rattle.cv_directory.specs.Counting.{count}
 use Rattle.cv_typing.specs.Typing.{IsTyped}

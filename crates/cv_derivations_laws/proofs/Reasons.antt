@@ -19,8 +19,8 @@ use Rattle.cv_meaning.specs.Satisfies.{DeclarationHolds, EquationHolds, Satisfie
 use Rattle.cv_meaning_adequacy.specs.Typed as meaning
 use Rattle.cv_meaning_adequacy.specs.Typed.{HasSort, Scope, boolean}
 use Rattle.cv_meaning_adequacy.proofs.Lists.{or_cases}
-use Rattle.cv_scope.specs.Context.{items}
-use Rattle.cv_scope.specs.Phrases.{IsWellFormed, OneCell, Term, is_phrase}
+use Rattle.cv_scope_rules.specs.Context.{items}
+use Rattle.cv_scope_rules.specs.Phrases.{IsWellFormed, OneCell, Term, is_phrase}
 use Rattle.cv_directory.specs.declared.sort.Sort.{Sort}
 use Rattle.cv_directory.specs.declared.sort.Sort.TheVariants.{BelowParameter, OfType}
 use Rattle.cv_typing.specs.Signature.{sort_of}

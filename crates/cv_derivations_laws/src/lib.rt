@@ -7,7 +7,7 @@ ghost use Rattle.cv_syntax.specs.Tree.{Tree};
 ghost use Rattle.cv_meaning.specs.Interpretation.{Interpretation, setting_of};
 ghost use Rattle.cv_meaning.specs.Memory.{Indices, Store};
 ghost use Rattle.cv_meaning.specs.Satisfies.{Satisfies};
-ghost use Rattle.cv_scope.specs.Phrases.{IsWellFormed};
+ghost use Rattle.cv_scope_rules.specs.Phrases.{IsWellFormed};
 ghost use Rattle.cv_typing_runs.specs.Games.{HasArguments};
 ghost use Rattle.cv_scenes.specs.Derivations.{first_bad_line};
 ghost use Rattle.cv_derivations.specs.Lines.{lines_of, statements};

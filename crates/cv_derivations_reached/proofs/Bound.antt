@@ -17,14 +17,14 @@ use Rattle.cv_meaning_adequacy.specs.Typed as meaning
 use Rattle.cv_meaning_adequacy.specs.Typed.{AreBelowParameters, IsTypedStore, IsVariable}
 use Rattle.cv_directory.specs.declared.sort.Sort.TheVariants.{BelowParameter}
 use Rattle.cv_directory.specs.Sites.{Variable, first_of, first_site, sites_of}
-use Rattle.cv_scope.proofs.Pairs.{all-left, all-right}
-use Rattle.cv_scope.specs.declared.position.Position.{Position}
-use Rattle.cv_scope.specs.declared.position.Position.TheVariants as position
-use Rattle.cv_scope.specs.Context.{Context, first_position, nothing_known, replications_below, second_position}
-use Rattle.cv_scope.specs.Scope.{names_of}
-use Rattle.cv_scope.specs.Sites.{sites_from, sites_here, variable_sites}
-use Rattle.cv_scope.specs.Standing.{at_root}
-use Rattle.cv_scope.specs.Phrases.{Inputs, IsWellFormed}
+use Rattle.cv_scope_rules.proofs.Pairs.{all-left, all-right}
+use Rattle.cv_scope_rules.specs.declared.position.Position.{Position}
+use Rattle.cv_scope_rules.specs.declared.position.Position.TheVariants as position
+use Rattle.cv_scope_rules.specs.Context.{Context, first_position, nothing_known, replications_below, second_position}
+use Rattle.cv_scope_rules.specs.Scope.{names_of}
+use Rattle.cv_scope_rules.specs.Sites.{sites_from, sites_here, variable_sites}
+use Rattle.cv_scope_rules.specs.Standing.{at_root}
+use Rattle.cv_scope_rules.specs.Phrases.{Inputs, IsWellFormed}
 use Rattle.cv_scope_runs.specs.Promises.{AreIndicesOf}
 use Rattle.cv_meaning_laws.proofs.Counts.{same_tuple_exact}
 use Rattle.cv_path.specs.declared.place.Lies.{Lies}
@@ -32,7 +32,7 @@ use Rattle.cv_path.specs.declared.place.Lies.TheVariants.{Here, Within, Behind}
 use Rattle.cv_path.specs.Places.{LiesAt}
 use Rattle.cv_path.proofs.Bounds.{lies-somewhere}
 use Rattle.cv_path.proofs.Going.{choice-here, choice-within, choice-behind, less-within, less-behind, subtree-here, subtree-within, subtree-behind}
-use Rattle.cv_scope.specs.Above.{first_standing, second_standing, standing_at, stands_at}
+use Rattle.cv_scope_rules.specs.Above.{first_standing, second_standing, standing_at, stands_at}
 use Rattle.cv_typing.specs.declared.form.Form.TheVariants.{InProcess}
 use Rattle.cv_typing.specs.Parts.{IsTypedGame}
 use Rattle.cv_typing.specs.Signature.{Above, OfGame, Signature, variable_sort}

@@ -11,10 +11,10 @@ use Rattle.cv_meaning_adequacy.specs.Typed as meaning
 use Rattle.cv_meaning_adequacy.specs.Typed.{HasSort, HaveSomeSorts, HaveSorts, IsVariable, NameHasSort, Scope, Sort, parameter_in}
 use Rattle.cv_directory.specs.Sites.{first_site, is_untyped_in}
 use Rattle.cv_directory.specs.Sites as directory
-use Rattle.cv_scope.specs.Context.{cell_of, index_terms, items}
-use Rattle.cv_scope.specs.Rules.{is_index}
-use Rattle.cv_scope.specs.Scope.{is_variable}
-use Rattle.cv_scope.specs.Phrases.{Cells, Nil, OneCell, Term, Terms, is_phrase}
+use Rattle.cv_scope_rules.specs.Context.{cell_of, index_terms, items}
+use Rattle.cv_scope_rules.specs.Rules.{is_index}
+use Rattle.cv_scope_rules.specs.Scope.{is_variable}
+use Rattle.cv_scope_rules.specs.Phrases.{Cells, Nil, OneCell, Term, Terms, is_phrase}
 use Rattle.cv_scope_runs.proofs.OnceGames.{or_left, or_right}
 use Rattle.cv_typing_runs.specs.Games.{are_variable_cells, context_of, has_site, is_variable_cell, variable_of_meaning}
 use Rattle.cv_derivations_under.specs.Truth.{AreOver}

@@ -18,14 +18,14 @@ use Rattle.cv_meaning_adequacy.specs.Typed as meaning
 use Rattle.cv_meaning_adequacy.specs.Typed.{IsModel, IsTypedStore}
 use Rattle.cv_meaning_adequacy.proofs.Sorted.{typed_value}
 use Rattle.cv_meaning_runs.specs.Placed.{IsSubtreeOrList, VisitHas}
-use Rattle.cv_scope.specs.Context.{Context, items, known_at}
-use Rattle.cv_scope.specs.Rules.{is_index}
-use Rattle.cv_scope.specs.Scope.{is_variable}
-use Rattle.cv_scope.specs.Scope as scope
-use Rattle.cv_scope.specs.Standing.{at_root}
-use Rattle.cv_scope.specs.Phrases.{Nil, OneCell, is_phrase}
+use Rattle.cv_scope_rules.specs.Context.{Context, items, known_at}
+use Rattle.cv_scope_rules.specs.Rules.{is_index}
+use Rattle.cv_scope_rules.specs.Scope.{is_variable}
+use Rattle.cv_scope_rules.specs.Scope as scope
+use Rattle.cv_scope_rules.specs.Standing.{at_root}
+use Rattle.cv_scope_rules.specs.Phrases.{Nil, OneCell, is_phrase}
 use Rattle.cv_meaning_laws.proofs.Lists.{each_append}
-use Rattle.cv_scope.specs.Made.{OwnUnassigned, is_bound, is_own_of}
+use Rattle.cv_scope_rules.specs.Made.{OwnUnassigned, is_bound, is_own_of}
 use Rattle.cv_scope_runs.specs.Promises.{AreIndicesOf, GrowsTo}
 use Rattle.cv_scope_runs.specs.Reads.{IsKept}
 use Rattle.cv_scope_runs.proofs.OnceGames.{or_left, or_right}
@@ -35,9 +35,9 @@ use Rattle.cv_typing_runs.proofs.Games.{typed}
 use Rattle.cv_typing_runs.proofs.Models.{is_model}
 use Rattle.cv_typing_runs.proofs.Terms.{nil_empty}
 use Rattle.cv_facts.specs.Definitions.{IsBehind, behind_at}
-use Rattle.cv_scope.specs.Behind.{in_body, in_condition, sites_of}
+use Rattle.cv_scope_rules.specs.Behind.{in_body, in_condition, sites_of}
 use Rattle.cv_facts.specs.Promises.{BranchesPlaces, BranchesStand, CandidatesStand, PlaceStands, SitesStand, StandsIn, VisitSitesStand}
-use Rattle.cv_scope.specs.Above.{stands_at}
+use Rattle.cv_scope_rules.specs.Above.{stands_at}
 use Rattle.cv_scenes.specs.Scenes.{Scene}
 use Rattle.cv_scenes.specs.Terms.{replications_at, replications_by}
 use Rattle.cv_derivations.specs.Given.{term_for, or_node, with_given}

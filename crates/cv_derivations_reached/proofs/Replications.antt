@@ -10,15 +10,15 @@ use Rattle.cv_syntax.specs.Head.{weight}
 use Rattle.cv_syntax.specs.Tree.{Tree, Empty, Node, size}
 use Rattle.cv_first_fault.specs.Walk.{IsObeyed}
 use Rattle.cv_meaning_laws.proofs.Lists.{each_append}
-use Rattle.cv_scope.specs.declared.fault.Fault.TheVariants.{Replications}
-use Rattle.cv_scope.specs.declared.position.Position.{Position}
-use Rattle.cv_scope.specs.declared.position.Position.TheVariants as position
-use Rattle.cv_scope.specs.Context.{Context, context_at, first_context, first_position, known_at, nothing_known, replications_below, second_context, second_position}
-use Rattle.cv_scope.specs.Rules.{BindsNewIndex, Names}
-use Rattle.cv_scope.specs.Scope.{IsScopedAt}
-use Rattle.cv_scope.specs.Standing as scope
-use Rattle.cv_scope.specs.Phrases.{binds_none, head_binds_none}
-use Rattle.cv_scope.specs.Above.{first_standing, second_standing, standing_at, stands_at, with_failed, with_held}
+use Rattle.cv_scope_rules.specs.declared.fault.Fault.TheVariants.{Replications}
+use Rattle.cv_scope_rules.specs.declared.position.Position.{Position}
+use Rattle.cv_scope_rules.specs.declared.position.Position.TheVariants as position
+use Rattle.cv_scope_rules.specs.Context.{Context, context_at, first_context, first_position, known_at, nothing_known, replications_below, second_context, second_position}
+use Rattle.cv_scope_rules.specs.Rules.{BindsNewIndex, Names}
+use Rattle.cv_scope_rules.specs.Scope.{IsScopedAt}
+use Rattle.cv_scope_rules.specs.Standing as scope
+use Rattle.cv_scope_rules.specs.Phrases.{binds_none, head_binds_none}
+use Rattle.cv_scope_rules.specs.Above.{first_standing, second_standing, standing_at, stands_at, with_failed, with_held}
 
 held-same : (Γ : Context) (t : Tree) → (with_held Γ t).replications ≡ Γ.replications
 held-same Γ Empty = refl

@@ -10,14 +10,14 @@ use Rattle.cv_meaning_laws.proofs.Lists.{each_append}
 use Rattle.cv_meaning_runs.proofs.Lists.{all_map}
 use Rattle.cv_meaning_adequacy.specs.Typed as meaning
 use Rattle.cv_meaning_adequacy.specs.Typed.{AreBranches, AreVariables, HasSort, HaveSomeSorts, IsTyped, Scope}
-use Rattle.cv_scope.specs.declared.position.Position.{Position}
-use Rattle.cv_scope.specs.declared.position.Position.TheVariants as position
-use Rattle.cv_scope.specs.Context.{Context, cell_of, cells_of, first_position, items, nothing_known, second_position}
-use Rattle.cv_scope.specs.Sites.{Variable}
-use Rattle.cv_scope.specs.Made.{made_by}
-use Rattle.cv_scope.specs.Phrases.{Phrase, Nil, Inputs, Body, Then, Else, Branches, Arm, Pattern, Message, Indices, Binders, Cells, OneCell, Terms, Term, is_phrase}
-use Rattle.cv_scope.specs.Behind.{behind_site, in_body, in_condition, in_list, sites_in, sites_of}
-use Rattle.cv_scope.specs.Above.{first_standing, second_standing, with_failed, with_held}
+use Rattle.cv_scope_rules.specs.declared.position.Position.{Position}
+use Rattle.cv_scope_rules.specs.declared.position.Position.TheVariants as position
+use Rattle.cv_scope_rules.specs.Context.{Context, cell_of, cells_of, first_position, items, nothing_known, second_position}
+use Rattle.cv_scope_rules.specs.Sites.{Variable}
+use Rattle.cv_scope_rules.specs.Made.{made_by}
+use Rattle.cv_scope_rules.specs.Phrases.{Phrase, Nil, Inputs, Body, Then, Else, Branches, Arm, Pattern, Message, Indices, Binders, Cells, OneCell, Terms, Term, is_phrase}
+use Rattle.cv_scope_rules.specs.Behind.{behind_site, in_body, in_condition, in_list, sites_in, sites_of}
+use Rattle.cv_scope_rules.specs.Above.{first_standing, second_standing, with_failed, with_held}
 use Rattle.cv_typing_runs.specs.Games.{are_named, are_variable_cells, context_of, has_site}
 use Rattle.cv_derivations_reached.specs.Fine.{IsFine, IsFineCell, IsFineTerm}
 use Rattle.cv_derivations_reached.proofs.Leaves.{cells-fine, more-cell, more-fine, own-cell, own-term, sorted-fine, variable-fine}

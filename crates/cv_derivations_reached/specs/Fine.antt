@@ -5,9 +5,9 @@ use Rattle.cv_syntax.specs.declared.head.Head.TheVariants.{Leaf, Read}
 use Rattle.cv_syntax.specs.Declarations.{Declaration}
 use Rattle.cv_syntax.specs.Tree.{Tree, Empty, Node}
 use Rattle.cv_meaning.specs.Interpretation.{is_constant_of}
-use Rattle.cv_scope.specs.Context.{Context}
-use Rattle.cv_scope.specs.Rules.{is_index}
-use Rattle.cv_scope.specs.Scope.{is_variable}
+use Rattle.cv_scope_rules.specs.Context.{Context}
+use Rattle.cv_scope_rules.specs.Rules.{is_index}
+use Rattle.cv_scope_rules.specs.Scope.{is_variable}
 use Rattle.cv_derivations_under.specs.Truth.{AreOver, IsOver}
 
 -- a bare name is that of a replication above, a constant or a variable of the game

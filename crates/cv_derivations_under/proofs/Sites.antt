@@ -10,11 +10,11 @@ use Rattle.cv_meaning.specs.Memory.{Memory, Indices, Local, Store, put, tuple}
 use Rattle.cv_meaning.specs.Candidates.{is_candidate}
 use Rattle.cv_meaning.specs.Serving.{Visit}
 use Rattle.cv_meaning_runs.specs.Placed.{VisitHas, IsSubtreeOrList}
-use Rattle.cv_scope.specs.declared.position.Position.{Position}
-use Rattle.cv_scope.specs.declared.position.Position.TheVariants as position
-use Rattle.cv_scope.specs.Context.{Context, nothing_known, first_position, second_position}
-use Rattle.cv_scope.specs.Sites.{Variable}
-use Rattle.cv_scope.specs.Made.{is_bound, is_own_of, made_by, OwnUnassigned}
+use Rattle.cv_scope_rules.specs.declared.position.Position.{Position}
+use Rattle.cv_scope_rules.specs.declared.position.Position.TheVariants as position
+use Rattle.cv_scope_rules.specs.Context.{Context, nothing_known, first_position, second_position}
+use Rattle.cv_scope_rules.specs.Sites.{Variable}
+use Rattle.cv_scope_rules.specs.Made.{is_bound, is_own_of, made_by, OwnUnassigned}
 use Rattle.cv_scope_runs.specs.Promises.{GrowsTo, IsDefinition}
 use Rattle.cv_scope_runs.specs.Reads.{IsKept}
 use Rattle.cv_scope_runs.proofs.Contexts.{put_other}
@@ -25,8 +25,8 @@ use Rattle.cv_path.specs.declared.place.Lies.TheVariants.{Here, Within, Behind}
 use Rattle.cv_path.specs.Places.{LiesAt}
 use Rattle.cv_path.proofs.Bounds.{lies-somewhere}
 use Rattle.cv_path.proofs.Going.{choice-here, choice-within, choice-behind, less-within, less-behind, subtree-here, subtree-within, subtree-behind}
-use Rattle.cv_scope.specs.Above.{first_standing, second_standing, standing_at}
-use Rattle.cv_scope.specs.Behind.{behind_site, sites_in, sites_of}
+use Rattle.cv_scope_rules.specs.Above.{first_standing, second_standing, standing_at}
+use Rattle.cv_scope_rules.specs.Behind.{behind_site, sites_in, sites_of}
 use Rattle.cv_facts.specs.Promises.{BranchStands, BranchesStand, CandidatesStand, SitesStand, StandsIn, VisitSitesStand}
 use Rattle.cv_syntax.specs.Head.{weight}
 use Rattle.cv_syntax.specs.Tree.{size}

@@ -14,7 +14,7 @@ use Rattle.cv_meaning.specs.Satisfies.{Satisfies}
 use Rattle.cv_meaning.specs.Serving.{Visit}
 use Rattle.cv_meaning_adequacy.specs.Counted.{tapes_of}
 use Rattle.cv_meaning_adequacy.specs.Typed.{Context, IsTypedStore}
-use Rattle.cv_scope.specs.Phrases.{IsWellFormed}
+use Rattle.cv_scope_rules.specs.Phrases.{IsWellFormed}
 use Rattle.cv_scope_runs.specs.Promises.{GrowsToEnd}
 use Rattle.cv_scope_runs.specs.Reads.{IsKept}
 use Rattle.cv_typing.specs.Parts.{IsTypedGame}

@@ -8,8 +8,8 @@ use Rattle.cv_syntax.specs.Declarations.{Declaration}
 use Rattle.cv_syntax.specs.Tree.{Tree, Empty, Node}
 use Rattle.cv_meaning_adequacy.specs.Typed.{HasSort, Scope, parameter_in}
 use Rattle.cv_meaning_adequacy.proofs.Lists.{or_cases}
-use Rattle.cv_scope.specs.Rules.{is_index}
-use Rattle.cv_scope.specs.Phrases.{IsWellFormed, Phrase, Nil, Term, Terms, is_phrase}
+use Rattle.cv_scope_rules.specs.Rules.{is_index}
+use Rattle.cv_scope_rules.specs.Phrases.{IsWellFormed, Phrase, Nil, Term, Terms, is_phrase}
 use Rattle.cv_directory.specs.declared.sort.Sort.{Sort}
 use Rattle.cv_directory.specs.declared.sort.Sort.TheVariants.{BelowParameter}
 use Rattle.cv_directory.specs.Sites.{first_of}

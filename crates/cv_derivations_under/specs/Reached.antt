@@ -12,13 +12,13 @@ use Rattle.cv_meaning.specs.Memory.{Memory, Indices, Local, Store, tuple}
 use Rattle.cv_meaning.specs.Candidates.{is_assigned, is_candidate}
 use Rattle.cv_meaning.specs.Serving.{Visit}
 use Rattle.cv_meaning_adequacy.specs.Typed.{IsTypedStore}
-use Rattle.cv_scope.specs.Context.{Context}
+use Rattle.cv_scope_rules.specs.Context.{Context}
 use Rattle.cv_typing_runs.specs.Games.{context_of}
 use Rattle.cv_scope_runs.specs.Promises.{AreIndicesOf}
 use Rattle.cv_scope_runs.specs.Reads.{IsKept}
-use Rattle.cv_scope.specs.Behind.{sites_of}
+use Rattle.cv_scope_rules.specs.Behind.{sites_of}
 use Rattle.cv_facts.specs.Promises.{StandsIn}
-use Rattle.cv_scope.specs.Above.{stands_at}
+use Rattle.cv_scope_rules.specs.Above.{stands_at}
 
 -- Of a variable with one definition, what stands behind it holds at the tuple of each assigned cell, in this memory.
 abbrev pub SitesStandNow : Setting → Tree → Memory → Type 0

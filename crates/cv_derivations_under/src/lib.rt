@@ -13,7 +13,7 @@ ghost use Rattle.cv_meaning.specs.Experiments.{visits_of_run};
 ghost use Rattle.cv_meaning.specs.Satisfies.{Satisfies};
 ghost use Rattle.cv_meaning_adequacy.specs.Counted.{tapes_of};
 ghost use Rattle.cv_meaning_adequacy.specs.Typed.{HasSort};
-ghost use Rattle.cv_scope.specs.Phrases.{HasConstantsOf, IsWellFormed, IsWellFormedContext};
+ghost use Rattle.cv_scope_rules.specs.Phrases.{HasConstantsOf, IsWellFormed, IsWellFormedContext};
 ghost use Rattle.cv_directory.specs.declared.sort.Sort.{Sort};
 ghost use Rattle.cv_typing.specs.Parts.{IsTypedGame};
 ghost use Rattle.cv_typing.specs.Signature.{sort_of};

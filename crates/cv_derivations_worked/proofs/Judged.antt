@@ -9,11 +9,11 @@ use Rattle.cv_directory.specs.Sites.{bound_sort, first_index, first_site}
 use Rattle.cv_typing.specs.Signature.{names_in}
 use Rattle.cv_directory.specs.Counting as counting
 use Rattle.cv_typing.specs.Typing.{binders_differ}
-use Rattle.cv_scope.specs.Context.{context_at}
-use Rattle.cv_scope.specs.Made.{is_bound}
-use Rattle.cv_scope.specs.Phrases.{is_phrase}
-use Rattle.cv_scope.specs.Behind.{sites_in}
-use Rattle.cv_scope.specs.Above.{standing_at}
+use Rattle.cv_scope_rules.specs.Context.{context_at}
+use Rattle.cv_scope_rules.specs.Made.{is_bound}
+use Rattle.cv_scope_rules.specs.Phrases.{is_phrase}
+use Rattle.cv_scope_rules.specs.Behind.{sites_in}
+use Rattle.cv_scope_rules.specs.Above.{standing_at}
 use Rattle.cv_scenes.specs.Terms.{is_there}
 use Rattle.cv_scenes.specs.Derivations.{first_bad, first_bad_line}
 use Rattle.cv_derivations.specs.Ends.{ends_with}

@@ -11,10 +11,10 @@ use Rattle.cv_syntax.specs.declared.head.Head.{Head}
 use Rattle.cv_syntax.specs.declared.head.Head.TheVariants.{Repl, In, New, Let, Branch, Cons, Key, Call}
 use Rattle.cv_syntax.specs.Tree.{Tree, Empty, Node, same_tree, tree_at}
 use Rattle.cv_syntax.proofs.Trees.{tree_at-None}
-use Rattle.cv_scope.specs.declared.position.Position.{Position}
-use Rattle.cv_scope.specs.declared.position.Position.TheVariants.{Bodies, ElseBody, Guards, Guarded}
-use Rattle.cv_scope.specs.Above.{with_held, with_failed, first_standing, second_standing, standing_at}
-use Rattle.cv_scope.specs.Context.{Context, cells_of, first_position, nothing_known, replications_below, second_position}
+use Rattle.cv_scope_rules.specs.declared.position.Position.{Position}
+use Rattle.cv_scope_rules.specs.declared.position.Position.TheVariants.{Bodies, ElseBody, Guards, Guarded}
+use Rattle.cv_scope_rules.specs.Above.{with_held, with_failed, first_standing, second_standing, standing_at}
+use Rattle.cv_scope_rules.specs.Context.{Context, cells_of, first_position, nothing_known, replications_below, second_position}
 use Rattle.cv_path.specs.declared.place.Lies.TheVariants.{Within, Behind}
 use Rattle.cv_path.specs.Places.{LiesAt}
 use Rattle.cv_scenes.specs.Sights.{cells_by}

@@ -6,10 +6,10 @@ use Rattle.std.proofs.lemmas.Bool.{eqb-false}
 use Rattle.cv_syntax.specs.Declarations.{Declaration}
 use Rattle.cv_syntax.specs.Tree.{Tree, subtree}
 use Rattle.cv_directory.specs.Definitions.{Definition, Entries, entries_of, most}
-use Rattle.cv_scope.specs.Above.{stands_at}
-use Rattle.cv_scope.specs.Behind.{sites_of}
-use Rattle.cv_scope.specs.Context.{Context}
-use Rattle.cv_scope.specs.Phrases.{IsWellFormed}
+use Rattle.cv_scope_rules.specs.Above.{stands_at}
+use Rattle.cv_scope_rules.specs.Behind.{sites_of}
+use Rattle.cv_scope_rules.specs.Context.{Context}
+use Rattle.cv_scope_rules.specs.Phrases.{IsWellFormed}
 use Rattle.cv_scope_runs.proofs.Plain.{game_context}
 use Rattle.cv_scenes.specs.Sights.{only_site, variable_of}
 use Rattle.cv_facts.specs.Definitions.{IsBehind, behind_at, definition_entry, site_entry}

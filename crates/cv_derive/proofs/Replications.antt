@@ -4,16 +4,16 @@ use Rattle.std.proofs.Common.{◌≡◌, ℕ, ◌≤◌, List, length, Some, Non
 use Rattle.cv_first_fault.specs.Walk.{IsObeyed}
 use Rattle.cv_syntax.specs.Declarations.{Declaration}
 use Rattle.cv_syntax.specs.Tree.{Tree, Empty, Node}
-use Rattle.cv_scope.specs.declared.fault.Fault.TheVariants as fault
-use Rattle.cv_scope.specs.declared.position.Position.{Position}
-use Rattle.cv_scope.specs.declared.position.Position.TheVariants.{Anywhere}
-use Rattle.cv_scope.specs.Above.{first_standing, second_standing, standing_at, stands_at}
-use Rattle.cv_scope.specs.Context.{Context, context_at, first_context, first_position, known_at, nothing_known, replications_below, second_context, second_position}
-use Rattle.cv_scope.specs.Rules.{Names, Obeys}
-use Rattle.cv_scope.specs.Scope.{IsScoped, IsScopedAt, names_of}
-use Rattle.cv_scope.specs.Standing.{Standing, at_root}
-use Rattle.cv_scope.specs.Standing as known
-use Rattle.cv_scope.proofs.Apart as apart
+use Rattle.cv_scope_rules.specs.declared.fault.Fault.TheVariants as fault
+use Rattle.cv_scope_rules.specs.declared.position.Position.{Position}
+use Rattle.cv_scope_rules.specs.declared.position.Position.TheVariants.{Anywhere}
+use Rattle.cv_scope_rules.specs.Above.{first_standing, second_standing, standing_at, stands_at}
+use Rattle.cv_scope_rules.specs.Context.{Context, context_at, first_context, first_position, known_at, nothing_known, replications_below, second_context, second_position}
+use Rattle.cv_scope_rules.specs.Rules.{Names, Obeys}
+use Rattle.cv_scope_rules.specs.Scope.{IsScoped, IsScopedAt, names_of}
+use Rattle.cv_scope_rules.specs.Standing.{Standing, at_root}
+use Rattle.cv_scope_rules.specs.Standing as known
+use Rattle.cv_scope_rules.proofs.Apart as apart
 use Rattle.cv_path.specs.declared.place.Lies.{Lies}
 use Rattle.cv_path.specs.declared.place.Lies.TheVariants.{Here, Within, Behind}
 use Rattle.cv_path.specs.Places.{LiesAt}

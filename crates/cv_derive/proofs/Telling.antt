@@ -3,7 +3,7 @@ use Rattle.std.proofs.Common.{◌≡◌, ℕ, zero, suc, ◌-◌, List, [], map,
 use Rattle.std.specs.Prelude.{option_and_then, option_map, slice_get}
 use Rattle.std.proofs.lemmas.Option.{slice_get-map}
 use Rattle.cv_syntax.specs.Tree.{Tree, same_tree}
-use Rattle.cv_scope.specs.Context.{Context}
+use Rattle.cv_scope_rules.specs.Context.{Context}
 use Rattle.cv_scenes.specs.Reasons.{is_tree}
 use Rattle.cv_scenes.specs.Sights.{facts_by, from_one}
 use Rattle.cv_scenes.specs.Terms.{replications_by}

@@ -2,7 +2,7 @@
 use Rattle.std.specs.Prelude.{◌≡◌, ℕ, ◌-◌, List, [], ◌++◌, length, slice_get, Option, Some, None, option_map}
 use Rattle.cv_pool.specs.KindTree.{KindTree}
 use Rattle.cv_syntax.specs.Tree.{tree_at}
-use Rattle.cv_scope.specs.Context.{Context}
+use Rattle.cv_scope_rules.specs.Context.{Context}
 use Rattle.cv_facts.specs.declared.known.Fact.{Fact}
 use Rattle.cv_facts.specs.Facts.{FactAt, fact_of, facts_from}
 use Rattle.cv_facts.specs.Walks.{Tests, given_facts}

@@ -11,7 +11,7 @@ use Rattle.cv_directory.specs.Tables.{entries_in}
 use Rattle.cv_directory.specs.Live.{IsLive}
 use Rattle.cv_typing.specs.Signature.{OfGame}
 use Rattle.cv_typing.specs.Tables.{above_of, arrays_of, directory_in}
-use Rattle.cv_scope.specs.Phrases.{IsWellFormed}
+use Rattle.cv_scope_rules.specs.Phrases.{IsWellFormed}
 use Rattle.cv_scenes.specs.Sights as spec
 use Rattle.cv_scenes.specs.Terms.{above_at, replications_at}
 use Rattle.cv_rule_scenes.specs.Kept.{scene_of}

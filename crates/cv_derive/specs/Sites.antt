@@ -1,9 +1,9 @@
 -- The site of the variable of a cell, as the code has it.
 use Rattle.std.specs.Prelude.{◌≡◌, Option, Some, None, option_and_then}
 use Rattle.cv_syntax.specs.Tree.{Tree}
-use Rattle.cv_scope.specs.Above.{stands_at}
-use Rattle.cv_scope.specs.Behind.{sites_of}
-use Rattle.cv_scope.specs.Context.{Context}
+use Rattle.cv_scope_rules.specs.Above.{stands_at}
+use Rattle.cv_scope_rules.specs.Behind.{sites_of}
+use Rattle.cv_scope_rules.specs.Context.{Context}
 use Rattle.cv_scenes.specs.Sights.{only_site, variable_of}
 use Rattle.cv_derive.specs.declared.sites.Site.{Site}
 

@@ -2,8 +2,8 @@
 use Rattle.std.specs.Prelude.{◌≡◌, ℕ, Bool, List, length, Option, Some, None}
 use Rattle.cv_pool.specs.KindTree.{KindTree}
 use Rattle.cv_syntax.specs.Tree.{Tree, tree_at}
-use Rattle.cv_scope.specs.Above.{standing_at}
-use Rattle.cv_scope.specs.Context.{Context, cells_of}
+use Rattle.cv_scope_rules.specs.Above.{standing_at}
+use Rattle.cv_scope_rules.specs.Context.{Context, cells_of}
 use Rattle.cv_derive.specs.declared.defined.Walk.{Walk}
 
 -- the walk knows the indices of the branch around, and the number of replications

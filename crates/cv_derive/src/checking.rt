@@ -8,7 +8,7 @@ ghost use Rattle.cv_directory.specs.Tables.{entries_in};
 ghost use Rattle.cv_directory.specs.Live.{IsLive};
 ghost use Rattle.cv_typing.specs.Signature.{OfGame};
 ghost use Rattle.cv_typing.specs.Tables.{above_of, arrays_of, directory_in};
-ghost use Rattle.cv_scope.specs.Phrases.{IsWellFormed};
+ghost use Rattle.cv_scope_rules.specs.Phrases.{IsWellFormed};
 ghost use Rattle.cv_scenes.specs.Derivations as derivations;
 ghost use Rattle.cv_scenes.specs.Derivations.{Derives, first_bad_line};
 ghost use Rattle.cv_scenes.specs.Sights.{is_condition, sight_at};

@@ -2,8 +2,8 @@ ghost use Rattle.std.specs.Prelude.{◌≡◌, ◌+◌, ◌<◌, ◌≤◌, ◌^
 ghost use Rattle.std.specs.List.{list_any};
 ghost use Rattle.cv_pool.specs.Nodes.{ChildBelow};
 ghost use Rattle.cv_syntax.specs.Tree.{same_tree, size, tree_at};
-ghost use Rattle.cv_scope.specs.Above.{stands_at};
-ghost use Rattle.cv_scope.specs.Context.{Context, cells_of};
+ghost use Rattle.cv_scope_rules.specs.Above.{stands_at};
+ghost use Rattle.cv_scope_rules.specs.Context.{Context, cells_of};
 ghost use Rattle.cv_scenes.specs.Terms.{replications_by};
 ghost use Rattle.cv_derive_cells.specs.Cells.{defined_second, is_among_under};
 ghost use Rattle.cv_derive_sizes.specs.Sizes.{AreSizes};
@@ -14,7 +14,7 @@ use cv_derive_cells::{defines, front, own_behind};
 use cv_derive_sizes::{Sizes, place_in};
 use cv_facts::above_behind;
 use cv_path::Lies;
-use cv_scope::Position;
+use cv_scope_rules::Position;
 use cv_syntax::{Game, NodeId, Opened, Pool, Work, read_node};
 
 /// A node on the way to a place, with the place that is left below it, the indices of the branch around, the number of

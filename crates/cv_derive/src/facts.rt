@@ -2,7 +2,7 @@ ghost use Rattle.std.specs.Prelude.{◌≡◌, ◌<◌, ◌^◌, Some, length};
 ghost use Rattle.cv_pool.specs.Nodes.{ChildBelow};
 ghost use Rattle.cv_syntax.specs.Tree.{Empty, Node, same_tree, size, tree_at};
 ghost use Rattle.cv_syntax.specs.declared.head.Head.TheVariants.{Not};
-ghost use Rattle.cv_scope.specs.Above.{stands_at};
+ghost use Rattle.cv_scope_rules.specs.Above.{stands_at};
 ghost use Rattle.cv_scenes.specs.Reasons.{is_tree};
 ghost use Rattle.cv_scenes.specs.Sights.{from_one};
 ghost use Rattle.cv_scenes.specs.Terms.{replications_by};

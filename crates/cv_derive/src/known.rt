@@ -10,7 +10,7 @@ ghost use Rattle.cv_derive.specs.Leading.{Counts, Goes};
 use cv_derive_sizes::{Sizes, place_in};
 use cv_facts::{Fact, above_behind};
 use cv_path::Lies;
-use cv_scope::Position;
+use cv_scope_rules::Position;
 use cv_syntax::{Game, Head, NodeId, Opened, Pool, read_node};
 
 /// A node on the way to a place, with the place that is left below it, the condition of the `if` around,

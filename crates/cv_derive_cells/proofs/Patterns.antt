@@ -6,7 +6,7 @@ use Rattle.cv_syntax.specs.Children.{is_empty}
 use Rattle.cv_syntax.specs.Tree.{Tree, Empty, Node, lone, same_tree}
 use Rattle.cv_syntax.proofs.Trees.{same_open, tree_of-NoTree}
 use Rattle.cv_derivations.specs.Given.{with_given}
-use Rattle.cv_scope.specs.Context.{index_terms}
+use Rattle.cv_scope_rules.specs.Context.{index_terms}
 use Rattle.cv_derive_inferences.specs.Sides.{sides_of}
 use Rattle.cv_derive_substitution.specs.Under.{under}
 use Rattle.cv_derive_inferences.proofs.Forms.{empty-form, over-form, tested}

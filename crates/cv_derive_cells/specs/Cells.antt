@@ -5,9 +5,9 @@ use Rattle.cv_pool.specs.declared.node.NodeId.{NodeId}
 use Rattle.cv_syntax.specs.declared.head.Head.{Head}
 use Rattle.cv_syntax.specs.declared.head.Head.TheVariants.{Repl, In, New, Let, Branch, Cons, Key, Call, Leaf}
 use Rattle.cv_syntax.specs.Tree.{Tree, Empty, Node, lone, same_tree, second}
-use Rattle.cv_scope.specs.declared.position.Position.{Position}
-use Rattle.cv_scope.specs.declared.position.Position.TheVariants.{Guards, Guarded}
-use Rattle.cv_scope.specs.Context.{Context, cell_of, cells_of, items}
+use Rattle.cv_scope_rules.specs.declared.position.Position.{Position}
+use Rattle.cv_scope_rules.specs.declared.position.Position.TheVariants.{Guards, Guarded}
+use Rattle.cv_scope_rules.specs.Context.{Context, cell_of, cells_of, items}
 use Rattle.cv_derive_substitution.specs.Under.{under}
 
 -- the list has the indices of replications with terms for names

@@ -1,12 +1,12 @@
 ghost use Rattle.std.specs.Prelude.{◌≡◌, ◌<◌, length};
 ghost use Rattle.cv_pool.specs.Nodes.{ChildBelow};
 ghost use Rattle.cv_syntax.specs.Tree.{tree_at};
-ghost use Rattle.cv_scope.specs.Context.{Context, cells_of, items};
+ghost use Rattle.cv_scope_rules.specs.Context.{Context, cells_of, items};
 ghost use Rattle.cv_derive_cells.specs.Cells.{defined_second, is_among_under, own_behind};
 
 use crate::cells::is_cell_under;
 use cv_derive_substitution::same_under;
-use cv_scope::Position;
+use cv_scope_rules::Position;
 use cv_syntax::children::second_of;
 use cv_syntax::{Head, NodeId, Opened, Pool, read_node};
 

@@ -14,7 +14,7 @@ use Rattle.cv_syntax.specs.Declarations.{Declaration, declarations, declared}
 use Rattle.cv_syntax.specs.Tree.{Tree, Empty, Node, same_tree}
 use Rattle.cv_typing.specs.Signature.{declaration_of}
 use Rattle.cv_typing.proofs.Bridges.{declaration-same}
-use Rattle.cv_scope.specs.Context.{items}
+use Rattle.cv_scope_rules.specs.Context.{items}
 use Rattle.cv_scenes.specs.Reasons.{is_data_by, is_injective}
 use Rattle.cv_scenes.specs.Sights.{Sight}
 use Rattle.cv_derivations.specs.Inferences.{equations_of}

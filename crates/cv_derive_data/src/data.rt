@@ -5,7 +5,7 @@ ghost use Rattle.cv_syntax.specs.Children as children;
 ghost use Rattle.cv_syntax.specs.Declarations.{declarations};
 ghost use Rattle.cv_syntax.specs.Tree.{same_tree, tree_at};
 ghost use Rattle.cv_typing.specs.Signature.{declaration_of};
-ghost use Rattle.cv_scope.specs.Context.{items};
+ghost use Rattle.cv_scope_rules.specs.Context.{items};
 ghost use Rattle.cv_derivations.specs.Inferences.{equations_of};
 ghost use Rattle.cv_scenes.specs.Reasons as reasons;
 ghost use Rattle.cv_scenes.specs.Sights.{Sight};

@@ -7,8 +7,8 @@ use Rattle.cv_syntax.specs.Children.{is_empty}
 use Rattle.cv_syntax.specs.Head.{same_head}
 use Rattle.cv_syntax.specs.Tree.{Tree, Empty, Node}
 use Rattle.cv_syntax.proofs.Equality.{same_head_exact}
-use Rattle.cv_scope.specs.Context.{items}
-use Rattle.cv_scope.specs.Rules.{is_index}
+use Rattle.cv_scope_rules.specs.Context.{items}
+use Rattle.cv_scope_rules.specs.Rules.{is_index}
 use Rattle.cv_scenes.specs.Reasons.{are_congruent_by, arguments, is_congruent}
 use Rattle.cv_scenes.specs.Sights.{Sight}
 use Rattle.cv_scenes.specs.Terms.{replications_at}

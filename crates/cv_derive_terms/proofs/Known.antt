@@ -14,7 +14,7 @@ use Rattle.cv_typing.specs.Parts.{nothing_above}
 use Rattle.cv_typing.specs.Signature.{Above, variable_in}
 use Rattle.cv_typing.specs.Tables.{Map, above_of}
 use Rattle.cv_typing.specs.Wants.{bound}
-use Rattle.cv_scope.specs.Rules.{is_index}
+use Rattle.cv_scope_rules.specs.Rules.{is_index}
 use Rattle.cv_scenes.specs.Sights.{Sight}
 use Rattle.cv_scenes.specs.Terms.{indices_above, is_function, names_at, replications_at}
 use Rattle.cv_derive_terms.specs.Typed.{IsSightOf, names_of}

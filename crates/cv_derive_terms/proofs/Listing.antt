@@ -5,7 +5,7 @@ use Rattle.cv_syntax.specs.declared.head.Head.{Head}
 use Rattle.cv_syntax.specs.declared.head.Head.TheVariants.{Eq}
 use Rattle.cv_syntax.specs.Children.{is_empty}
 use Rattle.cv_syntax.specs.Tree.{Tree, Empty, Node, same_tree}
-use Rattle.cv_scope.specs.Context.{items}
+use Rattle.cv_scope_rules.specs.Context.{items}
 use Rattle.cv_derivations.specs.Inferences.{Visible, are_equal_by, cited_term}
 
 module _ (v : Visible) where

@@ -11,7 +11,7 @@ use Rattle.cv_typing.specs.Signature.{Signature, Above}
 use Rattle.cv_typing.specs.Typing.{fault_of, first_fault}
 use Rattle.cv_typing.specs.Wants.{Want, above_second, wants}
 use Rattle.cv_typing.proofs.Steps.{fault-end, fault-parts}
-use Rattle.cv_scope.specs.Phrases.{Phrase, Nil, Terms, Term, OneCell, both_are, is_phrase, parts}
+use Rattle.cv_scope_rules.specs.Phrases.{Phrase, Nil, Terms, Term, OneCell, both_are, is_phrase, parts}
 use Rattle.cv_scenes.specs.Terms.{Names, head_is_there, is_there}
 use Rattle.cv_derive_terms.specs.Typed.{is_known_cell, is_known_head, is_typed_tree}
 

@@ -10,7 +10,7 @@ use Rattle.cv_typing.specs.Lookups.{signature_in}
 use Rattle.cv_typing.specs.Signature.{sort_of}
 use Rattle.cv_typing.specs.Tables.{Map, above_of}
 use Rattle.cv_typing.specs.Wants.{AnyTerm}
-use Rattle.cv_scope.specs.Phrases.{Phrase, OneCell, Term, is_phrase}
+use Rattle.cv_scope_rules.specs.Phrases.{Phrase, OneCell, Term, is_phrase}
 use Rattle.cv_scenes.specs.Sights.{Sight, is_cell_at, is_term_of}
 use Rattle.cv_scenes.specs.Terms.{above_at, is_sort, is_term_at, names_at}
 use Rattle.cv_scenes.specs.Terms as terms

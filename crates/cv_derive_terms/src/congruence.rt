@@ -3,7 +3,7 @@ ghost use Rattle.cv_pool.specs.Nodes.{ChildBelow};
 ghost use Rattle.cv_syntax.specs.Head.{same_head};
 ghost use Rattle.cv_syntax.specs.Tree.{tree_at};
 ghost use Rattle.cv_typing.specs.Tables.{above_of};
-ghost use Rattle.cv_scope.specs.Context.{items};
+ghost use Rattle.cv_scope_rules.specs.Context.{items};
 ghost use Rattle.cv_derivations.specs.Inferences as inferences;
 ghost use Rattle.cv_derive_citing.specs.Bookmarks.{CanCite, visible_to};
 ghost use Rattle.cv_scenes.specs.Reasons as reasons;

@@ -4,17 +4,17 @@ use Rattle.std.proofs.lemmas.Bool.{both_ways}
 use Rattle.cv_syntax.specs.declared.head.Head.{Head}
 use Rattle.cv_syntax.specs.declared.head.Head.TheVariants.{Repl, In, Event, New, Let, If, Branch, Cons, Eq, Not, Key, Call}
 use Rattle.cv_syntax.specs.Tree.{Tree, Empty, Node}
-use Rattle.cv_scope.specs.declared.position.Position.{Position}
-use Rattle.cv_scope.specs.declared.position.Position.TheVariants as position
-use Rattle.cv_scope.specs.Context.{Context, cell_of, context_at, first_context, first_position, known_at, nothing_known, second_context, second_position, with_fact}
-use Rattle.cv_scope.specs.Phrases.{Phrase, Inputs, Body, Then, Else, Guarded, Term, is_oracle_phrase, oracle_parts}
+use Rattle.cv_scope_rules.specs.declared.position.Position.{Position}
+use Rattle.cv_scope_rules.specs.declared.position.Position.TheVariants as position
+use Rattle.cv_scope_rules.specs.Context.{Context, cell_of, context_at, first_context, first_position, known_at, nothing_known, second_context, second_position, with_fact}
+use Rattle.cv_scope_rules.specs.Phrases.{Phrase, Inputs, Body, Then, Else, Guarded, Term, is_oracle_phrase, oracle_parts}
 use Rattle.cv_scope_runs.proofs.Games.{has_parts, phrase_parts}
 use Rattle.cv_scope_runs.proofs.Rows.{Row, stop, par, repl, input, yield, output, restriction, definition, key, call, event, test, bodies, last_body, find, branches, branch, guards, guarded, placed, position_of, row, walks}
 use Rattle.cv_path.specs.declared.place.Lies.{Lies}
 use Rattle.cv_path.specs.declared.place.Lies.TheVariants.{Here, Within, Behind}
 use Rattle.cv_path.specs.Places.{LiesAt}
 use Rattle.cv_path.proofs.Bounds.{lies-somewhere}
-use Rattle.cv_scope.specs.Above.{first_standing, second_standing, standing_at, stands_at, with_failed, with_held}
+use Rattle.cv_scope_rules.specs.Above.{first_standing, second_standing, standing_at, stands_at, with_failed, with_held}
 use Rattle.cv_facts.specs.Facts.{terms_of}
 use Rattle.cv_facts.proofs.Covering.{known-here, known-within, known-behind, known-empty}
 use Rattle.cv_facts.proofs.Flat.{Some-injective, flat-parts}

@@ -7,11 +7,11 @@ use Rattle.cv_syntax.specs.declared.head.Head.{Head}
 use Rattle.cv_syntax.specs.declared.head.Head.TheVariants.{In, New, Let, Branch, Cons, Key, Call}
 use Rattle.cv_syntax.specs.Head.{weight}
 use Rattle.cv_syntax.specs.Tree.{Tree, Empty, Node, first_place, second_place, size, subtree}
-use Rattle.cv_scope.specs.Context.{Context, nothing_known}
-use Rattle.cv_scope.specs.Sites.{Variable}
-use Rattle.cv_scope.proofs.Pairs.{all-append}
-use Rattle.cv_scope.specs.Made.{made_by}
-use Rattle.cv_scope.specs.Phrases.{Phrase, Inputs, Guards, Cells, Guarded, is_oracle_phrase}
+use Rattle.cv_scope_rules.specs.Context.{Context, nothing_known}
+use Rattle.cv_scope_rules.specs.Sites.{Variable}
+use Rattle.cv_scope_rules.proofs.Pairs.{all-append}
+use Rattle.cv_scope_rules.specs.Made.{made_by}
+use Rattle.cv_scope_rules.specs.Phrases.{Phrase, Inputs, Guards, Cells, Guarded, is_oracle_phrase}
 use Rattle.cv_scope_runs.proofs.Games.{has_parts, phrase_parts}
 use Rattle.cv_scope_runs.proofs.Rows.{placed, position_of}
 use Rattle.cv_path.specs.declared.place.Lies.{Lies}
@@ -20,8 +20,8 @@ use Rattle.cv_path.specs.Places.{LiesAt}
 use Rattle.cv_path.proofs.Bounds.{lies-somewhere}
 use Rattle.cv_path.proofs.Going.{subtree-empty, subtree-here, subtree-within, subtree-behind}
 use Rattle.cv_facts.specs.Definitions.{IsBehind, can_define, place_behind}
-use Rattle.cv_scope.specs.Behind.{behind_site, in_list, sites_in, sites_of}
-use Rattle.cv_scope.specs.Above.{first_standing, second_standing, stands_at}
+use Rattle.cv_scope_rules.specs.Behind.{behind_site, in_list, sites_in, sites_of}
+use Rattle.cv_scope_rules.specs.Above.{first_standing, second_standing, stands_at}
 use Rattle.cv_facts.proofs.Flat.{None-Some, Some-injective, arm-parts, continued-parts, continues}
 use Rattle.cv_facts.proofs.Placing.{StandsAs, body-stands, first-stands, game-stands, guards-places, here-tree, second-stands}
 

@@ -13,16 +13,16 @@ use Rattle.cv_meaning.specs.Terms.{value}
 use Rattle.cv_meaning.specs.Candidates.{is_assigned}
 use Rattle.cv_meaning.specs.Serving.{Visit}
 use Rattle.cv_meaning_runs.specs.Placed.{VisitHas}
-use Rattle.cv_scope.specs.declared.position.Position.{Position}
-use Rattle.cv_scope.specs.declared.position.Position.TheVariants.{Anywhere, Bodies, ElseBody, Guards, Guarded, Cells}
-use Rattle.cv_scope.specs.Context.{Context, cell_of, cells_of, context_at, first_context, first_position, items, known_at, nothing_known, second_context, second_position, with_cells, with_fact}
+use Rattle.cv_scope_rules.specs.declared.position.Position.{Position}
+use Rattle.cv_scope_rules.specs.declared.position.Position.TheVariants.{Anywhere, Bodies, ElseBody, Guards, Guarded, Cells}
+use Rattle.cv_scope_rules.specs.Context.{Context, cell_of, cells_of, context_at, first_context, first_position, items, known_at, nothing_known, second_context, second_position, with_cells, with_fact}
 use Rattle.cv_scope_runs.specs.Promises.{AreIndicesOf, GrowsTo, BranchHolds, BranchesHold, CandidatesHold, ContextHolds, FindHolds, PlaceHolds}
 use Rattle.cv_path.specs.declared.place.Lies.{Lies}
 use Rattle.cv_path.specs.declared.place.Lies.TheVariants.{Here, Within, Behind}
 use Rattle.cv_path.specs.Places.{LiesAt}
 use Rattle.cv_path.proofs.Bounds.{lies-somewhere}
 use Rattle.cv_path.proofs.Going.{choice-here, choice-within, choice-behind, less-within, less-behind}
-use Rattle.cv_scope.specs.Above.{with_held, with_failed, first_standing, second_standing, standing_at, stands_at}
+use Rattle.cv_scope_rules.specs.Above.{with_held, with_failed, first_standing, second_standing, standing_at, stands_at}
 use Rattle.cv_facts.specs.Promises.{BranchStands, BranchesStand, CandidatesStand, FindPlaces, FindStands, OwnTermsStand, StandsIn, PlaceStands}
 use Rattle.cv_facts.proofs.Placing.{StandsSomewhere, somewhere-places}
 use Rattle.cv_facts.proofs.Standings.{standing-here, standing-within, standing-behind}

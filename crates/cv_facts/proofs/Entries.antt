@@ -13,25 +13,25 @@ use Rattle.cv_directory.specs.declared.sort.Sort.{Sort}
 use Rattle.cv_directory.specs.declared.sort.Sort.TheVariants.{OfType, BelowParameter}
 use Rattle.cv_directory.specs.Definitions as directory
 use Rattle.cv_directory.specs.Definitions.{Definition, bound_definitions, definitions_at, definitions_from, definitions_of}
-use Rattle.cv_scope.specs.declared.fault.Fault.TheVariants as fault
-use Rattle.cv_scope.specs.declared.position.Position.{Position}
-use Rattle.cv_scope.specs.declared.position.Position.TheVariants.{Anywhere, Guarded}
-use Rattle.cv_scope.specs.Branches.{Pairs}
-use Rattle.cv_scope.specs.Ordered.{EndBy}
-use Rattle.cv_scope.specs.Context.{Context, first_position, nothing_known, replications_below, second_position}
-use Rattle.cv_scope.specs.Rules.{MayStand, Names}
-use Rattle.cv_scope.specs.Scope.{IsScopedAt, names_of}
-use Rattle.cv_scope.specs.Sites.{Variable, named_here, site_of, variable_sites}
-use Rattle.cv_scope.specs.Standing as scope
-use Rattle.cv_scope.specs.Standing.{Standing, at_root}
-use Rattle.cv_scope.proofs.Apart as apart
-use Rattle.cv_scope.proofs.Apart.{IsApart, IsBefore, before-first, before-second, past-end, stand-apart}
-use Rattle.cv_scope.specs.Made.{is_bound, made_by}
-use Rattle.cv_scope.specs.Phrases as phrase
-use Rattle.cv_scope.specs.Phrases.{Phrase, Inputs, Body, Arm, Pattern, Binders, Indices, Nil, is_phrase, parts, both_are, IsWellFormed}
+use Rattle.cv_scope_rules.specs.declared.fault.Fault.TheVariants as fault
+use Rattle.cv_scope_rules.specs.declared.position.Position.{Position}
+use Rattle.cv_scope_rules.specs.declared.position.Position.TheVariants.{Anywhere, Guarded}
+use Rattle.cv_scope_rules.specs.Branches.{Pairs}
+use Rattle.cv_scope_rules.specs.Ranges.{EndBy}
+use Rattle.cv_scope_rules.specs.Context.{Context, first_position, nothing_known, replications_below, second_position}
+use Rattle.cv_scope_rules.specs.Rules.{MayStand, Names}
+use Rattle.cv_scope_rules.specs.Scope.{IsScopedAt, names_of}
+use Rattle.cv_scope_rules.specs.Sites.{Variable, named_here, site_of, variable_sites}
+use Rattle.cv_scope_rules.specs.Standing as scope
+use Rattle.cv_scope_rules.specs.Standing.{Standing, at_root}
+use Rattle.cv_scope_rules.proofs.Apart as apart
+use Rattle.cv_scope_rules.proofs.Apart.{IsApart, IsBefore, before-first, before-second, past-end, stand-apart}
+use Rattle.cv_scope_rules.specs.Made.{is_bound, made_by}
+use Rattle.cv_scope_rules.specs.Phrases as phrase
+use Rattle.cv_scope_rules.specs.Phrases.{Phrase, Inputs, Body, Arm, Pattern, Binders, Indices, Nil, is_phrase, parts, both_are, IsWellFormed}
 use Rattle.cv_facts.specs.Definitions.{site_entry, definition_entry}
-use Rattle.cv_scope.specs.Behind.{behind_site, in_condition, sites_in, sites_of}
-use Rattle.cv_scope.specs.Above.{first_standing, second_standing}
+use Rattle.cv_scope_rules.specs.Behind.{behind_site, in_condition, sites_in, sites_of}
+use Rattle.cv_scope_rules.specs.Above.{first_standing, second_standing}
 use Rattle.cv_facts.proofs.Flat.{None-Some, Some-injective}
 use Rattle.cv_facts.proofs.Standings.{first-replications, second-replications}
 

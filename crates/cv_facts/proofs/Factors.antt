@@ -9,13 +9,13 @@ use Rattle.cv_syntax.specs.declared.head.Head.TheVariants.{Repl, Branch, Cons, B
 use Rattle.cv_syntax.specs.Declarations.{Declaration}
 use Rattle.cv_syntax.specs.Tree.{Tree, Empty, Node, size}
 use Rattle.cv_directory.specs.Counting.{count}
-use Rattle.cv_scope.specs.declared.fault.Fault.TheVariants as fault
-use Rattle.cv_scope.specs.Context.{replications_below}
-use Rattle.cv_scope.specs.Rules.{Names, IsFewIndices, Obeys}
-use Rattle.cv_scope.specs.Scope.{IsScopedAt, names_of}
-use Rattle.cv_scope.specs.Standing.{Standing, at_root, first_standing, second_standing}
-use Rattle.cv_scope.proofs.Apart.{first-replications, second-replications}
-use Rattle.cv_scope.specs.Phrases.{Phrase, Inputs, Guards, Cells, Term, oracle_parts, is_oracle_phrase, IsWellFormedContext}
+use Rattle.cv_scope_rules.specs.declared.fault.Fault.TheVariants as fault
+use Rattle.cv_scope_rules.specs.Context.{replications_below}
+use Rattle.cv_scope_rules.specs.Rules.{Names, IsFewIndices, Obeys}
+use Rattle.cv_scope_rules.specs.Scope.{IsScopedAt, names_of}
+use Rattle.cv_scope_rules.specs.Standing.{Standing, at_root, first_standing, second_standing}
+use Rattle.cv_scope_rules.proofs.Apart.{first-replications, second-replications}
+use Rattle.cv_scope_rules.specs.Phrases.{Phrase, Inputs, Guards, Cells, Term, oracle_parts, is_oracle_phrase, IsWellFormedContext}
 use Rattle.cv_scope_runs.proofs.Rows.{walks}
 use Rattle.cv_scope_runs.proofs.Games.{has_parts, phrase_parts}
 use Rattle.cv_path.specs.declared.place.Lies.{Lies}

@@ -4,12 +4,12 @@ use Rattle.std.proofs.lemmas.Bool.{both_ways}
 use Rattle.cv_syntax.specs.declared.head.Head.{Head}
 use Rattle.cv_syntax.specs.declared.head.Head.TheVariants.{Par, Find, Branch, Leaf, Read, Apply, Eq, And, Or, Not, Yes, No, Cons, Binder, Name}
 use Rattle.cv_syntax.specs.Tree.{Tree}
-use Rattle.cv_scope.specs.Context.{Context}
-use Rattle.cv_scope.specs.Phrases.{Phrase, Nil, Inputs, Body, Then, Else, Branches, Arm, Guards, Guarded, Pattern, Message, Indices, Binders, Cells, OneCell, Terms, Term, oracle_parts}
+use Rattle.cv_scope_rules.specs.Context.{Context}
+use Rattle.cv_scope_rules.specs.Phrases.{Phrase, Nil, Inputs, Body, Then, Else, Branches, Arm, Guards, Guarded, Pattern, Message, Indices, Binders, Cells, OneCell, Terms, Term, oracle_parts}
 use Rattle.cv_scope_runs.proofs.Rows.{Row, stop, par, repl, input, yield, output, restriction, definition, key, call, event, test, bodies, last_body, find, branches, branch, guards, guarded, position_of, row, walks}
 use Rattle.cv_path.specs.Copies.{added}
 use Rattle.cv_facts.specs.Definitions.{can_define}
-use Rattle.cv_scope.specs.Above.{first_standing, second_standing}
+use Rattle.cv_scope_rules.specs.Above.{first_standing, second_standing}
 
 pub Some-injective : {A : Type 0} (a b : A) → ◌≡◌ {A = Option A} (Some a) (Some b) → a ≡ b
 Some-injective a b e = cc

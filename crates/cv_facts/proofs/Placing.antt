@@ -7,8 +7,8 @@ use Rattle.cv_syntax.specs.Head.{weight}
 use Rattle.cv_syntax.specs.Layouts.{IsSyntax}
 use Rattle.cv_syntax.specs.Tree.{Tree, Empty, Node, first, second, size, subtree, first_place, second_place}
 use Rattle.cv_meaning_runs.specs.Placed.{IsPassedDown}
-use Rattle.cv_scope.specs.Context.{Context, first_position, nothing_known, second_position}
-use Rattle.cv_scope.specs.Phrases.{Phrase, Inputs, Body, Branches, Arm, Guards, Guarded, Binders, Cells, Term, is_oracle_phrase, oracle_parts}
+use Rattle.cv_scope_rules.specs.Context.{Context, first_position, nothing_known, second_position}
+use Rattle.cv_scope_rules.specs.Phrases.{Phrase, Inputs, Body, Branches, Arm, Guards, Guarded, Binders, Cells, Term, is_oracle_phrase, oracle_parts}
 use Rattle.cv_scope_runs.proofs.Games.{has_parts, phrase_parts}
 use Rattle.cv_scope_runs.proofs.Rows.{placed, position_of, walks}
 use Rattle.cv_path.specs.declared.place.Lies.{Lies}
@@ -16,9 +16,9 @@ use Rattle.cv_path.specs.declared.place.Lies.TheVariants.{Here, Within, Behind}
 use Rattle.cv_path.specs.Places.{LiesAt}
 use Rattle.cv_path.proofs.Bounds.{lies-somewhere}
 use Rattle.cv_path.proofs.Going.{subtree-here, subtree-within, subtree-behind}
-use Rattle.cv_scope.specs.Behind.{in_body, in_condition, in_list}
+use Rattle.cv_scope_rules.specs.Behind.{in_body, in_condition, in_list}
 use Rattle.cv_facts.specs.Promises.{BranchPlaces, BranchesPlaces, FindPlaces, OwnTermsStand}
-use Rattle.cv_scope.specs.Above.{first_standing, second_standing, standing_at, stands_at}
+use Rattle.cv_scope_rules.specs.Above.{first_standing, second_standing, standing_at, stands_at}
 use Rattle.cv_facts.proofs.Flat.{Some-injective, find-parts, flat-parts, has_terms, terms-parts}
 use Rattle.cv_facts.proofs.Standings.{standing-here, standing-within, standing-behind}
 

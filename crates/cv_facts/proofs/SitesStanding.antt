@@ -9,15 +9,15 @@ use Rattle.cv_meaning.specs.Memory.{Memory}
 use Rattle.cv_meaning.specs.Terms.{value}
 use Rattle.cv_meaning.specs.Candidates.{is_assigned}
 use Rattle.cv_meaning.specs.Serving.{Visit}
-use Rattle.cv_scope.specs.declared.position.Position.{Position}
-use Rattle.cv_scope.specs.declared.position.Position.TheVariants.{Anywhere, Guards, Guarded}
-use Rattle.cv_scope.specs.Context.{Context, first_context, first_position, nothing_known, second_context, second_position}
-use Rattle.cv_scope.specs.Sites.{Variable}
-use Rattle.cv_scope.specs.Made.{made_by}
+use Rattle.cv_scope_rules.specs.declared.position.Position.{Position}
+use Rattle.cv_scope_rules.specs.declared.position.Position.TheVariants.{Anywhere, Guards, Guarded}
+use Rattle.cv_scope_rules.specs.Context.{Context, first_context, first_position, nothing_known, second_context, second_position}
+use Rattle.cv_scope_rules.specs.Sites.{Variable}
+use Rattle.cv_scope_rules.specs.Made.{made_by}
 use Rattle.cv_scope_runs.specs.Promises.{CellsHold, VisitCellsHold, after_site, definitions_in, definitions_of}
 use Rattle.cv_scope_runs.proofs.FactsRuns.{one_definition_holds}
-use Rattle.cv_scope.specs.Above.{first_standing, second_standing}
-use Rattle.cv_scope.specs.Behind.{behind_site, sites_in, sites_of}
+use Rattle.cv_scope_rules.specs.Above.{first_standing, second_standing}
+use Rattle.cv_scope_rules.specs.Behind.{behind_site, sites_in, sites_of}
 use Rattle.cv_facts.specs.Promises.{SitesStand, VisitSitesStand}
 use Rattle.cv_facts.proofs.Covering.{Covers, first-covers, same-covers, second-covers, stands-in}
 

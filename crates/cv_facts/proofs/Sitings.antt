@@ -4,16 +4,16 @@ use Rattle.std.specs.Prelude.{◌==◌}
 use Rattle.cv_syntax.specs.declared.head.Head.{Head}
 use Rattle.cv_syntax.specs.Head.{weight}
 use Rattle.cv_syntax.specs.Tree.{Tree, Empty, Node, first_place, second_place, size}
-use Rattle.cv_scope.specs.declared.position.Position.{Position}
-use Rattle.cv_scope.specs.declared.position.Position.TheVariants.{Anywhere}
-use Rattle.cv_scope.specs.Context.{Context, first_position, nothing_known, second_position}
-use Rattle.cv_scope.specs.Sites.{Variable}
-use Rattle.cv_scope.specs.Made.{made_by}
+use Rattle.cv_scope_rules.specs.declared.position.Position.{Position}
+use Rattle.cv_scope_rules.specs.declared.position.Position.TheVariants.{Anywhere}
+use Rattle.cv_scope_rules.specs.Context.{Context, first_position, nothing_known, second_position}
+use Rattle.cv_scope_rules.specs.Sites.{Variable}
+use Rattle.cv_scope_rules.specs.Made.{made_by}
 use Rattle.cv_facts.specs.declared.sites.Seen.{Seen}
 use Rattle.cv_facts.specs.declared.sites.Seen.TheVariants.{Nothing, Once, Often}
 use Rattle.cv_facts.specs.Definitions.{counted_on, only, places, places_of, seen_then}
-use Rattle.cv_scope.specs.Behind.{behind_site, sites_in, sites_of}
-use Rattle.cv_scope.specs.Above.{first_standing, second_standing}
+use Rattle.cv_scope_rules.specs.Behind.{behind_site, sites_in, sites_of}
+use Rattle.cv_scope_rules.specs.Above.{first_standing, second_standing}
 
 pub counted-append : (s : Seen) (ps qs : List ℕ) → counted_on s (ps ++ qs) ≡ counted_on (counted_on s ps) qs
 counted-append s [] qs = refl

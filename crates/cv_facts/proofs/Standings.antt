@@ -10,9 +10,9 @@ use Rattle.cv_syntax.specs.declared.head.Head.{Head}
 use Rattle.cv_syntax.specs.declared.head.Head.TheVariants.{Repl, Let, If, Branch, Cons, Eq}
 use Rattle.cv_syntax.specs.Head.{weight}
 use Rattle.cv_syntax.specs.Tree.{Tree, Empty, Node, size, tree_at, tree_of}
-use Rattle.cv_scope.specs.declared.position.Position.{Position}
-use Rattle.cv_scope.specs.declared.position.Position.TheVariants.{Anywhere, Bodies, ElseBody, Guards, Guarded}
-use Rattle.cv_scope.specs.Context.{Context, nothing_known, cell_of, first_position, replications_below, second_position}
+use Rattle.cv_scope_rules.specs.declared.position.Position.{Position}
+use Rattle.cv_scope_rules.specs.declared.position.Position.TheVariants.{Anywhere, Bodies, ElseBody, Guards, Guarded}
+use Rattle.cv_scope_rules.specs.Context.{Context, nothing_known, cell_of, first_position, replications_below, second_position}
 use Rattle.cv_path.specs.declared.place.Lies.{Lies}
 use Rattle.cv_path.specs.declared.place.Lies.TheVariants.{Here, Within, Behind}
 use Rattle.cv_path.specs.Places.{LiesAt}
@@ -21,7 +21,7 @@ use Rattle.cv_path.proofs.Going.{choice-here, choice-within, choice-behind, less
 use Rattle.cv_facts.specs.declared.known.Fact.{Fact}
 use Rattle.cv_facts.specs.declared.known.Fact.TheVariants as fact
 use Rattle.cv_facts.specs.Facts.{AreFactsOf, FactAt, Defines, Holds, Fails, about, facts_at, facts_from, first_facts, second_facts, term_of, fact_of}
-use Rattle.cv_scope.specs.Above.{with_held, with_failed, first_standing, second_standing, standing_at, stands_at}
+use Rattle.cv_scope_rules.specs.Above.{with_held, with_failed, first_standing, second_standing, standing_at, stands_at}
 use Rattle.cv_facts.specs.Walks.{above_behind, given_first, given_second, node_of, tested_behind, given_facts, Counts, IsLive, LeadsTo, Tests}
 
 module _ (w : Position) (Γ : Context) (t : Tree) (h : Head) (a b : Tree) (p q : ℕ) (e : t ≡ Node h a b) where

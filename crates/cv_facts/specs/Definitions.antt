@@ -5,12 +5,12 @@ use Rattle.cv_syntax.specs.declared.head.Head.{Head}
 use Rattle.cv_syntax.specs.declared.head.Head.TheVariants.{In, New, Let, Branch, Key, Call}
 use Rattle.cv_syntax.specs.Tree.{Tree, Empty, Node, first_place, second_place, subtree}
 use Rattle.cv_directory.specs.Definitions as directory
-use Rattle.cv_scope.specs.Context.{Context}
-use Rattle.cv_scope.specs.Sites.{Variable}
-use Rattle.cv_scope.specs.Made.{made_by}
+use Rattle.cv_scope_rules.specs.Context.{Context}
+use Rattle.cv_scope_rules.specs.Sites.{Variable}
+use Rattle.cv_scope_rules.specs.Made.{made_by}
 use Rattle.cv_facts.specs.declared.sites.Seen.{Seen}
 use Rattle.cv_facts.specs.declared.sites.Seen.TheVariants.{Nothing, Once, Often}
-use Rattle.cv_scope.specs.Above.{stands_at}
+use Rattle.cv_scope_rules.specs.Above.{stands_at}
 
 -- the places of the definitions in a tree that stands at a place, in preorder
 unfoldable pub places_of : ℕ → ℕ → Tree → List ℕ

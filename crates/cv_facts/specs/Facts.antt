@@ -6,12 +6,12 @@ use Rattle.cv_syntax.specs.declared.head.Head.{Head}
 use Rattle.cv_syntax.specs.declared.head.Head.TheVariants.{Let, Eq, Not, Cons}
 use Rattle.cv_syntax.specs.Head.{weight}
 use Rattle.cv_syntax.specs.Tree.{Tree, Empty, Node, size, tree_at}
-use Rattle.cv_scope.specs.declared.position.Position.{Position}
-use Rattle.cv_scope.specs.declared.position.Position.TheVariants.{Anywhere, Bodies, ElseBody, Guarded}
-use Rattle.cv_scope.specs.Context.{Context, cell_of, first_position, nothing_known, second_position}
+use Rattle.cv_scope_rules.specs.declared.position.Position.{Position}
+use Rattle.cv_scope_rules.specs.declared.position.Position.TheVariants.{Anywhere, Bodies, ElseBody, Guarded}
+use Rattle.cv_scope_rules.specs.Context.{Context, cell_of, first_position, nothing_known, second_position}
 use Rattle.cv_facts.specs.declared.known.Fact.{Fact}
 use Rattle.cv_facts.specs.declared.known.Fact.TheVariants as fact
-use Rattle.cv_scope.specs.Above.{first_standing, second_standing}
+use Rattle.cv_scope_rules.specs.Above.{first_standing, second_standing}
 
 -- the equation of a `let` with so many replications above it, a condition that holds, or one that doesn't
 pub data FactAt : Type 0 where

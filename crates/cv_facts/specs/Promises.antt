@@ -10,10 +10,10 @@ use Rattle.cv_meaning.specs.Memory.{Memory, Indices, Local, Store, tuple}
 use Rattle.cv_meaning.specs.Terms.{value}
 use Rattle.cv_meaning.specs.Candidates.{are_assigned, is_assigned, is_candidate}
 use Rattle.cv_meaning.specs.Serving.{Visit}
-use Rattle.cv_scope.specs.Context.{Context}
+use Rattle.cv_scope_rules.specs.Context.{Context}
 use Rattle.cv_scope_runs.specs.Promises.{AreIndicesOf, GrowsTo}
-use Rattle.cv_scope.specs.Above.{stands_at}
-use Rattle.cv_scope.specs.Behind.{in_body, in_condition, in_list, sites_of}
+use Rattle.cv_scope_rules.specs.Above.{stands_at}
+use Rattle.cv_scope_rules.specs.Behind.{in_body, in_condition, in_list, sites_of}
 
 -- the indices are those of the replications, the cells that are directly defined are assigned, and the facts true
 pub record StandsIn (g : Setting) (Γ : Context) (at : Indices) (x : Memory) : Type 0 where

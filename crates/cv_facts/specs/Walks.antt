@@ -5,9 +5,9 @@ use Rattle.cv_pool.specs.KindTree.{KindTree}
 use Rattle.cv_syntax.specs.declared.head.Head.{Head}
 use Rattle.cv_syntax.specs.declared.head.Head.TheVariants.{Repl, Cons, Let, If}
 use Rattle.cv_syntax.specs.Tree.{Empty, tree_at}
-use Rattle.cv_scope.specs.declared.position.Position.{Position}
-use Rattle.cv_scope.specs.declared.position.Position.TheVariants.{Bodies, ElseBody, Guarded}
-use Rattle.cv_scope.specs.Context.{Context}
+use Rattle.cv_scope_rules.specs.declared.position.Position.{Position}
+use Rattle.cv_scope_rules.specs.declared.position.Position.TheVariants.{Bodies, ElseBody, Guarded}
+use Rattle.cv_scope_rules.specs.Context.{Context}
 use Rattle.cv_facts.specs.declared.known.Fact.{Fact}
 use Rattle.cv_facts.specs.declared.known.Fact.TheVariants.{Defines, Holds, Fails}
 use Rattle.cv_facts.specs.declared.facts.Count.{Count}

@@ -8,7 +8,7 @@ ghost use Rattle.cv_facts.specs.Walks.{above_behind, given_first, given_second, 
 
 use crate::known::Fact;
 use cv_path::{Lies, place_in};
-use cv_scope::Position;
+use cv_scope_rules::Position;
 use cv_syntax::{Game, Head, NodeId, Opened, Pool, Work, read_node};
 
 /// A node on the way to a place, with the place that is left below it, the condition of the `if` around,

@@ -7,14 +7,14 @@ ghost use Rattle.cv_meaning.specs.Interpretation.{Setting};
 ghost use Rattle.cv_meaning.specs.Runs.{Adversary, Mode};
 ghost use Rattle.cv_meaning.specs.Experiments.{run, visits_of_run};
 ghost use Rattle.cv_directory.specs.Definitions.{definitions_of, entries_of, most};
-ghost use Rattle.cv_scope.specs.Context.{known_at};
-ghost use Rattle.cv_scope.specs.Phrases.{HasConstantsOf, IsWellFormed, IsWellFormedContext};
+ghost use Rattle.cv_scope_rules.specs.Context.{known_at};
+ghost use Rattle.cv_scope_rules.specs.Phrases.{HasConstantsOf, IsWellFormed, IsWellFormedContext};
 ghost use Rattle.cv_path.specs.Copies.{copies_at, few_copies_at, most_factors};
 ghost use Rattle.cv_facts.specs.Definitions.{IsBehind, definition_entry, places, places_of, site_entry};
 ghost use Rattle.cv_facts.specs.Facts.{AreFactsOf, facts_at, terms_of};
-ghost use Rattle.cv_scope.specs.Behind.{sites_of};
+ghost use Rattle.cv_scope_rules.specs.Behind.{sites_of};
 ghost use Rattle.cv_facts.specs.Promises.{CandidatesStand, PlaceStands, SitesStand, VisitSitesStand};
-ghost use Rattle.cv_scope.specs.Above.{stands_at};
+ghost use Rattle.cv_scope_rules.specs.Above.{stands_at};
 
 /// The facts with their kinds are those that stand at a place, by their terms. There is a place exactly
 /// below the size. In a well-formed game or context no condition is missing, so that the facts are all that

@@ -2,7 +2,7 @@ ghost use Rattle.std.specs.Prelude.{◌≡◌, ◌+◌, ◌<◌, ◌^◌, if◌t
 ghost use Rattle.cv_pool.specs.Nodes.{ChildBelow};
 ghost use Rattle.cv_syntax.specs.Tree.{size, tree_at};
 ghost use Rattle.cv_facts.specs.Definitions.{counted_on, only, places, places_of, seen_then};
-ghost use Rattle.cv_scope.specs.Behind.{sites_of};
+ghost use Rattle.cv_scope_rules.specs.Behind.{sites_of};
 
 use cv_path::is_definition;
 use cv_syntax::{Game, NameId, NodeId, Pool, Work, read_node};

@@ -17,7 +17,7 @@ use Rattle.cv_parse_yields.specs.Yields.{IfThere, Yields}
 use Rattle.cv_parse_laws.proofs.Rows.{rows}
 use Rattle.cv_parse_laws.proofs.Shaping.{bound}
 use Rattle.cv_parse_yields.proofs.Yielding.{Gives, a_word, anything, before, behind, below, follow, leveled, one_of, perhaps, several, turned, weaker}
-use Rattle.cv_scope.specs.Phrases.{Binders, Cells, Term}
+use Rattle.cv_scope_rules.specs.Phrases.{Binders, Cells, Term}
 use Rattle.cv_inline_bindings.specs.Bindings.{HasFreeNames}
 use Rattle.cv_inline_bindings.proofs.Phrases.{chained, node, none, phrase_free}
 

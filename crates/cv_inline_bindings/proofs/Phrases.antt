@@ -5,7 +5,7 @@ use Rattle.std.specs.List.{AllByRecursion}
 use Rattle.cv_syntax.specs.declared.head.Head.{Head}
 use Rattle.cv_syntax.specs.declared.head.Head.TheVariants.{Binder, New}
 use Rattle.cv_syntax.specs.Tree.{Tree, Empty, Node, chain}
-use Rattle.cv_scope.specs.Phrases.{Binders, Body, Nil, Phrase, binds_none, head_binds_none, is_phrase, parts}
+use Rattle.cv_scope_rules.specs.Phrases.{Binders, Body, Nil, Phrase, binds_none, head_binds_none, is_phrase, parts}
 use Rattle.cv_parse_laws.specs.Shapes.{IsShaped}
 use Rattle.cv_parse_laws.proofs.Shaping.{opened}
 use Rattle.cv_inline_accepted.specs.RightBodies.{is_empty}

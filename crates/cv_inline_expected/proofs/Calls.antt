@@ -12,7 +12,7 @@ use Rattle.cv_meaning.specs.Serving.{key_tuple}
 use Rattle.cv_meaning_laws.proofs.Sides.{values_same}
 use Rattle.cv_meaning_contexts.specs.Sides.{side_from}
 use Rattle.cv_meaning_runs.proofs.Lists.{all_map}
-use Rattle.cv_scope.specs.Phrases.{Nil, Term, Terms, is_oracle_phrase}
+use Rattle.cv_scope_rules.specs.Phrases.{Nil, Term, Terms, is_oracle_phrase}
 use Rattle.cv_scope_runs.specs.Reads.{LeafAssigned, TermAssigned, TermsAssigned}
 use Rattle.cv_scope_runs.proofs.Contexts.{Matches, index_none}
 use Rattle.cv_scenes.specs.Sights.{variable_of}

@@ -4,10 +4,10 @@ use Rattle.std.proofs.lemmas.Bool.{and_parts, both_ways, eqb-false, or_left, or_
 use Rattle.cv_syntax.specs.declared.head.Head.{Head}
 use Rattle.cv_syntax.specs.declared.head.Head.TheVariants.{Stop, Yield, Par, Repl, In, Out, Event, New, Let, If, Find, Branch, Binder, Cons, Key}
 use Rattle.cv_syntax.specs.Tree.{Tree, Empty, Node, binds, second}
-use Rattle.cv_scope.specs.Made.{is_bound, made_by}
-use Rattle.cv_scope.specs.Phrases.{Arm, Binders, Body, Branches, Cells, Else, Guarded, Guards, Indices as Names, Inputs, Message, Nil, Pattern, Term, Terms, Then, is_phrase}
-use Rattle.cv_scope.specs.Sites.{Variable}
-use Rattle.cv_scope.specs.declared.position.Position.TheVariants as position
+use Rattle.cv_scope_rules.specs.Made.{is_bound, made_by}
+use Rattle.cv_scope_rules.specs.Phrases.{Arm, Binders, Body, Branches, Cells, Else, Guarded, Guards, Indices as Names, Inputs, Message, Nil, Pattern, Term, Terms, Then, is_phrase}
+use Rattle.cv_scope_rules.specs.Sites.{Variable}
+use Rattle.cv_scope_rules.specs.declared.position.Position.TheVariants as position
 use Rattle.cv_scenes.specs.Instances.{call_at}
 use Rattle.cv_scenes.specs.Sites.{Site, sites_in}
 use Rattle.cv_scenes.specs.Contexts.{after_calls}

@@ -9,7 +9,7 @@ use Rattle.cv_meaning.specs.Memory.{Indices, Store, tuple}
 use Rattle.cv_meaning.specs.Terms.{found_in, leaf_value_from, or_zero, value, values}
 use Rattle.cv_meaning.specs.Candidates.{is_assigned}
 use Rattle.cv_meaning_laws.proofs.Lists.{each_append}
-use Rattle.cv_scope.specs.Context.{items}
+use Rattle.cv_scope_rules.specs.Context.{items}
 use Rattle.cv_scope_runs.specs.Promises.{AreIndicesOf}
 use Rattle.cv_scope_runs.specs.Reads.{LeafAssigned, TermAssigned, TermsAssigned}
 use Rattle.cv_scope_runs.proofs.TermsLater.{later_same}

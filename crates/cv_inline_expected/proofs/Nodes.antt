@@ -4,10 +4,10 @@ use Rattle.std.proofs.lemmas.Bool.{and_parts, both_ways}
 use Rattle.cv_syntax.specs.declared.head.Head.{Head}
 use Rattle.cv_syntax.specs.declared.head.Head.TheVariants.{Leaf, Read, Apply, Eq, And, Or, Not, Yes, No, Cons, Branch, Name, Binder}
 use Rattle.cv_syntax.specs.Tree.{Tree, Empty, Node}
-use Rattle.cv_scope.specs.Context.{cell_of, first_position, replications_below, second_position}
-use Rattle.cv_scope.specs.Phrases.{Binders, Indices as Names, Nil, Pattern, Term, Terms, is_phrase}
-use Rattle.cv_scope.specs.declared.position.Position.{Position}
-use Rattle.cv_scope.specs.declared.position.Position.TheVariants as position
+use Rattle.cv_scope_rules.specs.Context.{cell_of, first_position, replications_below, second_position}
+use Rattle.cv_scope_rules.specs.Phrases.{Binders, Indices as Names, Nil, Pattern, Term, Terms, is_phrase}
+use Rattle.cv_scope_rules.specs.declared.position.Position.{Position}
+use Rattle.cv_scope_rules.specs.declared.position.Position.TheVariants as position
 use Rattle.cv_scenes.specs.Instances.{Call, call_at}
 use Rattle.cv_scenes.specs.Sites.{is_guard}
 use Rattle.cv_scenes.specs.Contexts.{after_calls, context_in, in_context, is_statement}

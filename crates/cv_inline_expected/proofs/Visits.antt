@@ -10,11 +10,11 @@ use Rattle.cv_meaning.specs.Memory.{Local}
 use Rattle.cv_meaning.specs.Runs.{Adversary, Mode}
 use Rattle.cv_meaning.specs.Serving.{Visit}
 use Rattle.cv_meaning_runs.proofs.Lists.{all_both}
-use Rattle.cv_scope.specs.Context.{Context}
-use Rattle.cv_scope.specs.Made.{AssignsNew, is_bound}
-use Rattle.cv_scope.specs.Phrases.{Arm, Binders, Body, HasConstantsOf, Inputs, IsWellFormedContext, Nil, Pattern, Phrase, Terms, is_oracle_phrase}
-use Rattle.cv_scope.specs.Scope.{is_variable}
-use Rattle.cv_scope.proofs.Apart.{first-replications, second-replications}
+use Rattle.cv_scope_rules.specs.Context.{Context}
+use Rattle.cv_scope_rules.specs.Made.{AssignsNew, is_bound}
+use Rattle.cv_scope_rules.specs.Phrases.{Arm, Binders, Body, HasConstantsOf, Inputs, IsWellFormedContext, Nil, Pattern, Phrase, Terms, is_oracle_phrase}
+use Rattle.cv_scope_rules.specs.Scope.{is_variable}
+use Rattle.cv_scope_rules.proofs.Apart.{first-replications, second-replications}
 use Rattle.cv_scope_runs.specs.Reads.{VisitReadsAssigned}
 use Rattle.cv_scope_runs.proofs.ConsultedOnce.{all_assign_new}
 use Rattle.cv_scope_runs.proofs.Contexts.{Matches, not_constant}

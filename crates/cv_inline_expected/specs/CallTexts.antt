@@ -8,7 +8,7 @@ use Rattle.cv_meaning.specs.Tapes.{Find_at, Made_at, New_at, Picked_at}
 use Rattle.cv_meaning.specs.Memory.{Indices}
 use Rattle.cv_meaning_contexts.specs.Bodies.{function_called}
 use Rattle.cv_meaning_contexts.specs.Groups.{Function}
-use Rattle.cv_scope.specs.Context.{items, replications_below}
+use Rattle.cv_scope_rules.specs.Context.{items, replications_below}
 use Rattle.cv_scenes.specs.Sights.{variable_of}
 use Rattle.cv_inline_bodies.specs.Accepted.{IsFineCall}
 use Rattle.cv_meaning_contexts.specs.KeyTerms.{AreFineKeyTerms}

@@ -4,8 +4,8 @@ use Rattle.cv_syntax.specs.declared.head.Head.{Head}
 use Rattle.cv_syntax.specs.declared.head.Head.TheVariants.{Find, Read}
 use Rattle.cv_syntax.specs.Tree.{Tree, Empty, Node}
 use Rattle.cv_meaning.specs.Tapes.{Find_at}
-use Rattle.cv_scope.specs.Made.{made_by}
-use Rattle.cv_scope.specs.Sites.{Variable}
+use Rattle.cv_scope_rules.specs.Made.{made_by}
+use Rattle.cv_scope_rules.specs.Sites.{Variable}
 use Rattle.cv_scenes.specs.Scenes.{names}
 use Rattle.cv_scenes.specs.Instances.{Matching, call_at}
 use Rattle.cv_scenes.specs.Reductions.{Reduction, is_plain}

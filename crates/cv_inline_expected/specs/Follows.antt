@@ -4,7 +4,7 @@ use Rattle.cv_meaning.specs.Cells.{coin_cells}
 use Rattle.cv_meaning.specs.Runs.{Adversary, Mode}
 use Rattle.cv_meaning.specs.Tapes.{cells_of}
 use Rattle.cv_meaning_runs.specs.Agreement.{AgreeAt}
-use Rattle.cv_scope.specs.Phrases.{HasConstantsOf, IsWellFormedContext}
+use Rattle.cv_scope_rules.specs.Phrases.{HasConstantsOf, IsWellFormedContext}
 use Rattle.cv_scenes.specs.Apt.{IsAptGame}
 use Rattle.cv_scenes.specs.Reductions.{Reduction, context_of_game, matching}
 use Rattle.cv_inline_runs.specs.Contexts.{AreLikeTapes, IsAskedAlike, context_setting}

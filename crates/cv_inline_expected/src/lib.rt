@@ -7,7 +7,7 @@ ghost use Rattle.cv_syntax.specs.Declarations.{Declaration};
 ghost use Rattle.cv_syntax.specs.Tree.{Tree};
 ghost use Rattle.cv_meaning.specs.Experiments.{visits_of_run};
 ghost use Rattle.cv_meaning.specs.Runs.{Adversary, Mode};
-ghost use Rattle.cv_scope.specs.Phrases.{HasConstantsOf, IsWellFormedContext};
+ghost use Rattle.cv_scope_rules.specs.Phrases.{HasConstantsOf, IsWellFormedContext};
 ghost use Rattle.cv_scenes.specs.Apt.{IsAptGame};
 ghost use Rattle.cv_scenes.specs.Reductions.{Reduction, context_of_game, matching};
 ghost use Rattle.cv_inline_runs.specs.Contexts.{

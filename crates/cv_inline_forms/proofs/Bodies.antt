@@ -19,7 +19,7 @@ use Rattle.cv_parse_laws.specs.Shapes.{IsFree, IsOfSort, IsShaped}
 use Rattle.cv_parse_yields.specs.Yields.{IfThere, Yields}
 use Rattle.cv_parse_laws.proofs.Rows.{rows}
 use Rattle.cv_parse_yields.proofs.Yielding.{Gives, anything, before, behind, below, follow, leveled, one_of, perhaps, several, turned, weaker}
-use Rattle.cv_scope.specs.Phrases.{Term, is_phrase}
+use Rattle.cv_scope_rules.specs.Phrases.{Term, is_phrase}
 use Rattle.cv_group_rules.specs.Rules.{have_one_index}
 use Rattle.cv_inline_accepted.specs.RightBodies.{are_body_cells, are_right_branches, are_right_functions, is_body_term, is_empty, is_right_body, is_right_side}
 use Rattle.cv_inline_cells.specs.Layout.{are_right_texts, is_right_text, is_term}

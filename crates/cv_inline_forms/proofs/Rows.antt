@@ -14,7 +14,7 @@ use Rattle.cv_parse_grammar.specs.Equivalences.{function_of, lone_group}
 use Rattle.cv_parse_grammar.specs.Phrases.{Sort, inside}
 use Rattle.cv_parse_grammar.specs.Rules.{file}
 use Rattle.cv_parse_yields.proofs.Yielding.{anything, before, behind, follow, one_of, several, turned}
-use Rattle.cv_scope.specs.Phrases.{Term, is_phrase}
+use Rattle.cv_scope_rules.specs.Phrases.{Term, is_phrase}
 use Rattle.cv_group_rules.specs.Rules.{branches_have_one_index, have_one_index}
 use Rattle.cv_inline_forms.specs.Forms.{HasRightForm}
 use Rattle.cv_inline_forms.proofs.Bodies.{IsRightGroup, Makes, of_group, of_term, written}

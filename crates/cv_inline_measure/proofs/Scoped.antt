@@ -1,12 +1,11 @@
 -- What bodies add in scopes that the code has made, as it is told.
-use Rattle.std.proofs.Common.{◌≡◌, ℕ, suc, List, [], ◌∷◌, Option, Some, None, refl, ap, subst, ◌∙◌}
+use Rattle.std.proofs.Common.{◌≡◌, ℕ, ◌∷◌, Option, Some, None, refl, ap, subst, ◌∙◌}
 use Rattle.cv_pool.specs.declared.node.NodeId.{NodeId}
-use Rattle.cv_syntax.specs.declared.head.Head.TheVariants.{Cons, No}
-use Rattle.cv_syntax.specs.Tree.{Tree, Node, lone, tree_at}
-use Rattle.cv_meaning_contexts.specs.Inlined.{Own, Scope, index_reads, read_at}
+use Rattle.cv_syntax.specs.declared.head.Head.TheVariants.{No}
+use Rattle.cv_syntax.specs.Tree.{lone, tree_at}
+use Rattle.cv_meaning_contexts.specs.Inlined.{Own, Scope}
 use Rattle.cv_inline_terms.specs.declared.caller.Caller.{Caller}
 use Rattle.cv_inline_terms.specs.Drawings.{drawn_in}
-use Rattle.cv_inline_terms.specs.Stacks.{names_from, tuple_at}
 use Rattle.cv_inline_listing.specs.declared.subtree.Subtree.{Subtree}
 use Rattle.cv_inline_pairs.specs.declared.pairs.Pair.{Pair}
 use Rattle.cv_inline_extents.specs.Extents.{Extent, extent, under}
@@ -48,8 +47,3 @@ pub false_told : (m : Measure) → 1 ≡ told (extent (measure_in m) (lone No))
 unfolding extent
 false_told Nodes = refl
 false_told Path = refl
-
-pub tuple_reads : (here : Tree) (name : ℕ → ℕ) (k : ℕ) (rs : List (ℕ × ℕ)) → tuple_at here (names_from name k rs) ≡ index_reads here name k rs
-unfolding tuple_at
-tuple_reads here name k [] = refl
-tuple_reads here name k (r ∷ rs) = ap (Node Cons (read_at (name k) here)) (tuple_reads here name (suc k) rs)

@@ -12,11 +12,9 @@ use Rattle.cv_meaning_contexts.specs.Inlined as bodies
 use Rattle.cv_meaning_contexts.specs.Inlined.{Scope, in_game, index_terms, with_call_of}
 use Rattle.cv_inline_terms.specs.declared.caller.Caller.{Caller}
 use Rattle.cv_inline_terms.specs.declared.calling.Calling.{Calling}
-use Rattle.cv_inline_terms.specs.declared.scope.Entry.{Entry}
 use Rattle.cv_inline_terms.specs.declared.drawn.Drawing.{Drawing}
 use Rattle.cv_inline_terms.specs.Callers.{HasLiveCaller, caller_in}
 use Rattle.cv_inline_terms.specs.Drawings.{drawn_in}
-use Rattle.cv_inline_terms.specs.Scopes.{scope_in}
 use Rattle.cv_inline_branches.specs.Moves.{IsList}
 use Rattle.cv_inline_listing.specs.Callings.{IsLiveCalling, callers_in, callings_in}
 use Rattle.cv_inline_listing.specs.declared.subtree.Subtree.{Subtree}
@@ -54,9 +52,6 @@ pub record IsLiveOther (trees : List KindTree) (c : Caller) : Type 0 where
   pub live : ChildBelow (length trees) c.key
   pub key : IsList (tree_at trees c.key)
   pub few : length c.replications.items < 2 ^ 32
-
-abbrev pub scope_at : Caller → List Entry → Scope
-scope_at c entries = scope_in (index_terms c.replications.items) entries
 
 abbrev pub callers_at : Setting → List bodies.Caller
 callers_at s = callers_in s.pool.now.trees s.callings.now

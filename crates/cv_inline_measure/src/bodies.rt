@@ -8,14 +8,15 @@ ghost use Rattle.cv_inline_listing.specs.Subtrees.{IsNodeAt, IsWithin};
 ghost use Rattle.cv_inline_pairs.specs.Pairs.{IsPairOver};
 ghost use Rattle.cv_inline_measure.specs.Counts.{IsTold};
 ghost use Rattle.cv_syntax_limits.specs.Limits.{told};
-ghost use Rattle.cv_inline_measure.specs.Settings.{IsFound, IsLiveOther, IsLiveSetting, body_in, branch_in, branches_in, caller_at, find_in, live_in, measure_of, scope_at, term_in};
+ghost use Rattle.cv_inline_pairs.specs.Scopes.{scope_at};
+ghost use Rattle.cv_inline_measure.specs.Settings.{IsFound, IsLiveOther, IsLiveSetting, body_in, branch_in, branches_in, caller_at, find_in, live_in, measure_of, term_in};
 
 use crate::added::{Added, beside, of_result, under};
 use crate::found::Found;
 use crate::setting::Setting;
-use crate::terms::{branch_scope, front_extent, term_extent};
+use crate::terms::{front_extent, term_extent};
 use cv_inline_listing::{Parent, Subtree, node_at};
-use cv_inline_pairs::{Pair, pairs_with, with_name};
+use cv_inline_pairs::{Pair, branch_scope, pairs_with, with_name};
 use cv_inline_terms::{Caller, Entry, Standing};
 use cv_syntax::Head;
 use std::alloc::{AllocError, Global};
@@ -80,7 +81,7 @@ fn branch(
     ensures { IfOk result (λ a. IsTold a (branch_in setting.now caller.now
         (scope_at caller.now scope.now) place other.now pair)) }
 {
-    let inner = branch_scope(alloc, setting, caller, scope, place, other, pair)?;
+    let inner = branch_scope(alloc, setting.drawn, caller, scope, place, other, pair)?;
     let front = front_extent(alloc, setting, caller, inner.as_slice(), place, other, pair)?;
     let root = Subtree {
         place: pair.place,

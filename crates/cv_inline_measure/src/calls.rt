@@ -10,7 +10,8 @@ ghost use Rattle.cv_inline_terms.specs.Callers.{IsLiveCaller};
 ghost use Rattle.cv_inline_listing.specs.Callings.{IsLiveCalling, calling_in, callings_in};
 ghost use Rattle.cv_inline_listing.specs.Subtrees.{IsWithin};
 ghost use Rattle.cv_inline_measure.specs.Counts.{IsTold};
-ghost use Rattle.cv_inline_measure.specs.Settings.{IsLiveSetting, argument_in, call_in, calls_of, first_argument, live_in, measure_of, scope_at};
+ghost use Rattle.cv_inline_pairs.specs.Scopes.{scope_at};
+ghost use Rattle.cv_inline_measure.specs.Settings.{IsLiveSetting, argument_in, call_in, calls_of, first_argument, live_in, measure_of};
 
 use crate::added::{Added, of_result, under};
 use crate::bodies::body;

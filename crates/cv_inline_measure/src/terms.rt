@@ -4,13 +4,14 @@ ghost use Rattle.cv_inline_extents.specs.Extents.{extent};
 ghost use Rattle.cv_inline_terms.specs.Callers.{IsLiveCaller};
 ghost use Rattle.cv_inline_terms.specs.Stacks.{names_from};
 ghost use Rattle.cv_syntax_limits.specs.Limits.{told};
-ghost use Rattle.cv_inline_measure.specs.Settings.{IsLiveOther, branch_scope_in, front_in, live_in, measure_of, names_in, scope_at, term_in};
+ghost use Rattle.cv_inline_pairs.specs.Scopes.{scope_at};
+ghost use Rattle.cv_inline_measure.specs.Settings.{IsLiveOther, front_in, live_in, measure_of, names_in, term_in};
 
 use crate::parts::extent_of;
 use crate::setting::Setting;
 use cv_inline_branches::branch_front;
-use cv_inline_pairs::{Pair, drawn_indices, with_name};
-use cv_inline_terms::{Caller, Entry, Standing, in_game, nothing, put};
+use cv_inline_pairs::{Pair, drawn_indices};
+use cv_inline_terms::{Caller, Entry, in_game, nothing, put};
 use cv_syntax::{Head, NodeId};
 use std::alloc::{AllocError, Global};
 
@@ -93,26 +94,4 @@ pub(crate) fn front_extent(
     put(&mut parts, Head::Cons)?;
     put(&mut parts, Head::Cons)?;
     extent_of(alloc, setting.measure, parts.as_slice())
-}
-
-/// The scope of such a branch, where the index stands for a call of the other site.
-pub(crate) fn branch_scope(
-    alloc: Global,
-    setting: &Setting,
-    caller: &Caller,
-    scope: &[Entry],
-    place: u32,
-    other: &Caller,
-    pair: Pair,
-) -> Result<Vec<Entry>, AllocError>
-    requires { length other.now.replications.items < 2 ^ 32 }
-    ensures { IfOk result (λ inner. scope_at caller.now inner.items ≡ branch_scope_in setting.now
-        caller.now (scope_at caller.now scope.now) place other.now pair) }
-{
-    let indices = indices_of(alloc, setting, caller, place, other, pair)?;
-    let call = Standing::CallOf {
-        site: other.number,
-        indices,
-    };
-    with_name(alloc, scope, pair.index, call)
 }

@@ -8,4 +8,4 @@ mod scopes;
 
 pub use indices::drawn_indices;
 pub use pairs::{Pair, pairs_with};
-pub use scopes::{copy_of, with_name};
+pub use scopes::{branch_scope, copy_of, with_name};

@@ -1,8 +1,15 @@
-ghost use Rattle.std.specs.Prelude.{◌≡◌, ◌∷◌, IfOk};
+ghost use Rattle.std.specs.Prelude.{◌≡◌, ◌∷◌, ◌<◌, ◌^◌, List, IfOk, length};
+ghost use Rattle.cv_pool.specs.KindTree.{KindTree};
 ghost use Rattle.cv_syntax.specs.Tree.{Tree};
+ghost use Rattle.cv_meaning_contexts.specs.Inlined.{index_terms, with_call_of};
+ghost use Rattle.cv_inline_terms.specs.Callers.{caller_in};
+ghost use Rattle.cv_inline_terms.specs.Drawings.{drawn_in};
 ghost use Rattle.cv_inline_terms.specs.Scopes.{scope_in, standing_in};
+ghost use Rattle.cv_inline_pairs.specs.Scopes.{scope_at};
 
-use cv_inline_terms::{Entry, Standing};
+use crate::indices::drawn_indices;
+use crate::pairs::Pair;
+use cv_inline_terms::{Caller, Drawing, Entry, Standing};
 use std::alloc::{AllocError, Global};
 
 /// What a name stands for, once more.
@@ -55,4 +62,37 @@ pub fn with_name(
     let mut more = copy_of(alloc, scope)?;
     more.push(Entry { name, standing })?;
     Ok(more)
+}
+
+/// The scope of the branch for the calls of another site, where its index stands for such a call.
+pub fn branch_scope(
+    alloc: Global,
+    drawn: &Drawing,
+    caller: &Caller,
+    scope: &[Entry],
+    place: u32,
+    other: &Caller,
+    pair: Pair,
+) -> Result<Vec<Entry>, AllocError>
+    requires { length other.now.replications.items < 2 ^ 32 }
+    ensures { IfOk result (λ inner. (trees : List KindTree) → scope_at caller.now inner.items
+        ≡ with_call_of (scope_at caller.now scope.now) pair.index
+        (index_terms caller.now.replications.items)
+        ((drawn_in drawn.now).index caller.now.number place other.now.number pair.number)
+        (caller_in trees other.now)) }
+{
+    let indices = drawn_indices(
+        alloc,
+        drawn,
+        caller.number,
+        place,
+        other.number,
+        pair.number,
+        other.replications.as_slice(),
+    )?;
+    let call = Standing::CallOf {
+        site: other.number,
+        indices,
+    };
+    with_name(alloc, scope, pair.index, call)
 }

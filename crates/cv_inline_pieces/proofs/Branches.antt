@@ -5,8 +5,7 @@ use Rattle.cv_syntax.specs.declared.head.Head.TheVariants as head
 use Rattle.cv_syntax.specs.Postorder.{joined}
 use Rattle.cv_syntax.specs.Tree.{Tree, Empty, Node, second_place}
 use Rattle.cv_meaning_contexts.specs.Bodies.{body_place}
-use Rattle.cv_meaning_contexts.specs.Inlined.{Caller, Drawn, Scope, branch_for, cells_then, expanded, expanded_at, index_reads, index_terms, inlined_body, inlined_branch, read_at, with_call_of}
-use Rattle.cv_inline_terms.specs.Stacks.{names_from, tuple_at}
+use Rattle.cv_meaning_contexts.specs.Inlined.{Caller, Drawn, Scope, branch_for, cells_then, expanded, expanded_at, index_terms, inlined_body, inlined_branch, with_call_of}
 use Rattle.cv_inline_pairs.specs.Pairs.{Pair, branch_of_pair, pairs_with}
 use Rattle.cv_inline_pieces.specs.Choices.{branch_by, choices_over, onto}
 use Rattle.cv_inline_pieces.specs.Pieces.{listed}
@@ -24,11 +23,6 @@ onto_append (x ∷ xs) ys ts = onto_append xs ys (x ∷ ts)
 pub listed_onto : (bs ts : List Tree) (t : Tree) → listed (length bs) (t ∷ onto bs ts) ≡ cells_then bs t ∷ ts
 listed_onto [] ts t = refl
 listed_onto (b ∷ bs) ts t = ap (joined head.Cons) (listed_onto bs (b ∷ ts) t)
-
-pub tuple_reads : (here : Tree) (name : ℕ → ℕ) (k : ℕ) (rs : List (ℕ × ℕ)) → tuple_at here (names_from name k rs) ≡ index_reads here name k rs
-unfolding tuple_at
-tuple_reads here name k [] = refl
-tuple_reads here name k (r ∷ rs) = ap (λ t. Node head.Cons (read_at (name k) here) t) (tuple_reads here name (suc k) rs)
 
 module _ (d : Drawn) (ss : List Caller) (c : Caller) (Σ : Scope) (name : ℕ → ℕ → ℕ → ℕ) (k : Tree → Tree) where
   abbrev inner : ℕ → Scope → Tree → Tree

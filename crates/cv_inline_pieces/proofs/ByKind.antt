@@ -17,7 +17,8 @@ use Rattle.cv_inline_pieces.specs.declared.piece.Front.{Front}
 use Rattle.cv_inline_pieces.specs.declared.piece.Phrase.{Phrase}
 use Rattle.cv_inline_pieces.specs.declared.piece.Piece.{Piece}
 use Rattle.cv_inline_pieces.specs.declared.piece.Piece.TheVariants as pieces
-use Rattle.cv_inline_pieces.specs.Pieces.{Adds, AddsNodes, closed_if, front_over, listed, scope_at}
+use Rattle.cv_inline_pairs.specs.Scopes.{scope_at}
+use Rattle.cv_inline_pieces.specs.Pieces.{Adds, AddsNodes, closed_if, front_over, listed}
 use Rattle.cv_inline_pieces.proofs.Adding.{both, pushed, same}
 
 pub nothing_added : (old new : List Piece) → new ≡ old ++ pieces.Nothing ∷ [] → AddsNodes old new (λ ts. Empty ∷ ts)

@@ -23,7 +23,8 @@ use Rattle.cv_inline_pieces.specs.declared.choices.Choice.{Choice}
 use Rattle.cv_inline_pieces.specs.declared.piece.Piece.{Piece}
 use Rattle.cv_inline_pieces.specs.Calls.{body_in, branch_in, find_in}
 use Rattle.cv_inline_pieces.specs.Choices.{branch_by, caller_of, choice_in, choices_over, onto}
-use Rattle.cv_inline_pieces.specs.Pieces.{Adds, AddsNodes, AddsResult, closed_if, listed, scope_at}
+use Rattle.cv_inline_pairs.specs.Scopes.{scope_at}
+use Rattle.cv_inline_pieces.specs.Pieces.{Adds, AddsNodes, AddsResult, closed_if, listed}
 use Rattle.cv_inline_pieces.proofs.Adding.{both, same}
 use Rattle.cv_inline_pieces.proofs.Branches.{for_sites, listed_onto, onto_append}
 use Rattle.cv_inline_pieces.proofs.ByHead.{if_is, let_is, new_is}

@@ -6,21 +6,17 @@ use Rattle.cv_pool.specs.declared.node.NodeId.{NodeId}
 use Rattle.cv_syntax.specs.declared.head.Head.TheVariants.{Cons, If}
 use Rattle.cv_syntax.specs.Postorder.{joined}
 use Rattle.cv_syntax.specs.Tree.{Tree, Empty, tree_at}
-use Rattle.cv_meaning_contexts.specs.Inlined.{Drawn, Scope, in_game, index_terms}
+use Rattle.cv_meaning_contexts.specs.Inlined.{Drawn, in_game}
 use Rattle.cv_inline_terms.specs.declared.caller.Caller.{Caller}
 use Rattle.cv_inline_terms.specs.declared.calling.Calling.{Calling}
 use Rattle.cv_inline_terms.specs.declared.scope.Entry.{Entry}
 use Rattle.cv_inline_terms.specs.Callers.{caller_in}
-use Rattle.cv_inline_terms.specs.Scopes.{scope_in}
 use Rattle.cv_inline_branches.specs.Moves.{front}
+use Rattle.cv_inline_pairs.specs.Scopes.{scope_at}
 use Rattle.cv_inline_pieces.specs.declared.piece.Front.{Front}
 use Rattle.cv_inline_pieces.specs.declared.piece.Phrase.{Phrase}
 use Rattle.cv_inline_pieces.specs.declared.piece.Piece.{Piece}
 use Rattle.cv_inline_pieces.specs.declared.piece.Piece.TheVariants as pieces
-
--- a scope at the indices of a caller
-abbrev pub scope_at : Caller → List Entry → Scope
-scope_at c entries = scope_in (index_terms c.replications.items) entries
 
 -- a term of the body in the game
 abbrev pub phrase_tree : List KindTree → Drawn → Caller → Phrase → Tree

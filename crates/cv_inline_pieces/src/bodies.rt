@@ -7,15 +7,14 @@ ghost use Rattle.cv_inline_listing.specs.Callings.{IsLiveCalling};
 ghost use Rattle.cv_inline_listing.specs.Subtrees.{IsNodeAt, IsWithin};
 ghost use Rattle.cv_inline_pieces.specs.Calls.{body_in, branch_in, find_in};
 ghost use Rattle.cv_inline_pieces.specs.Choices.{IsChoice, onto};
-ghost use Rattle.cv_inline_pieces.specs.Pieces.{Adds, scope_at};
+ghost use Rattle.cv_inline_pairs.specs.Scopes.{scope_at};
+ghost use Rattle.cv_inline_pieces.specs.Pieces.{Adds};
 
 use crate::choices::{Choice, choices};
-use crate::kinds::{
-    add_front, add_result, add_term, branch_scope, end_branch, end_if, end_list, nothing, put,
-};
+use crate::kinds::{add_front, add_result, add_term, end_branch, end_if, end_list, nothing, put};
 use crate::piece::Piece;
 use cv_inline_listing::{Parent, Subtree, node_at};
-use cv_inline_pairs::with_name;
+use cv_inline_pairs::{branch_scope, with_name};
 use cv_inline_terms::{Caller, Calling, Drawing, Entry, Standing};
 use cv_syntax::{Head, Pool};
 use std::alloc::{AllocError, Global};

@@ -11,7 +11,8 @@ ghost use Rattle.cv_inline_terms.specs.Drawings.{drawn_in};
 ghost use Rattle.cv_inline_listing.specs.Callings.{IsLiveCalling, callers_in, calling_in};
 ghost use Rattle.cv_inline_listing.specs.Subtrees.{IsWithin};
 ghost use Rattle.cv_inline_pieces.specs.Calls.{argument_in, first_argument, inlined_calls};
-ghost use Rattle.cv_inline_pieces.specs.Pieces.{Adds, IsLivePiece, pieced, scope_at};
+ghost use Rattle.cv_inline_pairs.specs.Scopes.{scope_at};
+ghost use Rattle.cv_inline_pieces.specs.Pieces.{Adds, IsLivePiece, pieced};
 
 use crate::bodies::body;
 use crate::kinds::put;

@@ -3,19 +3,19 @@ ghost use Rattle.cv_pool.specs.KindTree.{KindTree};
 ghost use Rattle.cv_pool.specs.Nodes.{ChildBelow};
 ghost use Rattle.cv_syntax.specs.Postorder.{joined};
 ghost use Rattle.cv_syntax.specs.Tree.{Empty, Tree, tree_at};
-ghost use Rattle.cv_meaning_contexts.specs.Inlined.{Drawn, index_terms, with_call_of};
+ghost use Rattle.cv_meaning_contexts.specs.Inlined.{Drawn};
 ghost use Rattle.cv_inline_terms.specs.declared.calling.Calling.{Calling};
 ghost use Rattle.cv_inline_terms.specs.declared.caller.Caller.{Caller};
 ghost use Rattle.cv_inline_terms.specs.Callers.{caller_in};
-ghost use Rattle.cv_inline_terms.specs.Drawings.{drawn_in};
 ghost use Rattle.cv_inline_terms.specs.Scopes.{scope_in};
 ghost use Rattle.cv_inline_branches.specs.Moves.{closed_branch, front};
-ghost use Rattle.cv_inline_pieces.specs.Pieces.{Adds, AddsNodes, AddsResult, AddsTerm, closed_if, listed, scope_at};
+ghost use Rattle.cv_inline_pairs.specs.Scopes.{scope_at};
+ghost use Rattle.cv_inline_pieces.specs.Pieces.{Adds, AddsNodes, AddsResult, AddsTerm, closed_if, listed};
 
 use crate::choices::Choice;
 use crate::piece::{Front, Phrase, Piece};
-use cv_inline_pairs::{Pair, copy_of, drawn_indices, with_name};
-use cv_inline_terms::{Caller, Drawing, Entry, Standing};
+use cv_inline_pairs::copy_of;
+use cv_inline_terms::Entry;
 use cv_syntax::{Head, NodeId};
 use std::alloc::{AllocError, Global};
 
@@ -102,39 +102,6 @@ pub(crate) fn add_result(
     let phrase = phrase(alloc, scope, term)?;
     pieces.push(Piece::Result(phrase))?;
     Ok(())
-}
-
-/// The scope of the branch for the calls of another site, where its index stands for such a call.
-pub(crate) fn branch_scope(
-    alloc: Global,
-    drawn: &Drawing,
-    caller: &Caller,
-    scope: &[Entry],
-    place: u32,
-    other: &Caller,
-    pair: Pair,
-) -> Result<Vec<Entry>, AllocError>
-    requires { length other.now.replications.items < 2 ^ 32 }
-    ensures { IfOk result (λ inner. (trees : List KindTree) → scope_at caller.now inner.items
-        ≡ with_call_of (scope_at caller.now scope.now) pair.index
-        (index_terms caller.now.replications.items)
-        ((drawn_in drawn.now).index caller.now.number place other.now.number pair.number)
-        (caller_in trees other.now)) }
-{
-    let indices = drawn_indices(
-        alloc,
-        drawn,
-        caller.number,
-        place,
-        other.number,
-        pair.number,
-        other.replications.as_slice(),
-    )?;
-    let call = Standing::CallOf {
-        site: other.number,
-        indices,
-    };
-    with_name(alloc, scope, pair.index, call)
 }
 
 /// Adds what stands before the body in the branch for the calls of a site, in the scope of the branch.

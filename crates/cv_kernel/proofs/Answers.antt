@@ -24,7 +24,7 @@ use Rattle.cv_meaning.specs.Replaced.{replaced}
 use Rattle.cv_scenes.specs.Scenes.{Scene, first_reading, is_chosen, is_new, is_output_at, is_queried, is_type, part_at}
 use Rattle.cv_steps.specs.Steps.{Step, Split, Let, New, Unnew, Rewrite, Prune, Zero}
 use Rattle.cv_scenes.specs.Terms.{is_bool_at, is_game, is_term_at}
-use Rattle.cv_scope.specs.Phrases.{is_phrase}
+use Rattle.cv_scope_rules.specs.Phrases.{is_phrase}
 use Rattle.cv_kernel_games.specs.declared.testing.Next.{Next}
 use Rattle.cv_kernel.specs.declared.error.RuleError.{RuleError}
 use Rattle.cv_kernel.specs.declared.error.RuleError.TheVariants as rule

@@ -10,7 +10,7 @@ use Rattle.cv_syntax.specs.Classes.{DeclsView}
 use Rattle.cv_syntax.specs.declared.work.BuildError.TheVariants as build
 use Rattle.cv_syntax.specs.Declarations.{declarations}
 use Rattle.cv_syntax.specs.Tree.{Tree, tree_at}
-use Rattle.cv_scope.specs.Phrases.{IsWellFormed}
+use Rattle.cv_scope_rules.specs.Phrases.{IsWellFormed}
 use Rattle.cv_bound.specs.declared.terms.Experiment.TheVariants.{Events}
 use Rattle.cv_bound.specs.declared.terms.Term.{Term}
 use Rattle.cv_bound.specs.declared.terms.Term.TheVariants as term

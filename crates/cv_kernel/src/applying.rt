@@ -4,7 +4,7 @@ ghost use Rattle.cv_syntax.specs.Declarations.{declarations};
 ghost use Rattle.cv_syntax.specs.Tree as tree;
 ghost use Rattle.cv_syntax.specs.Tree.{tree_at};
 ghost use Rattle.cv_directory.specs.Live.{IsLive};
-ghost use Rattle.cv_scope.specs.Phrases.{IsWellFormed};
+ghost use Rattle.cv_scope_rules.specs.Phrases.{IsWellFormed};
 ghost use Rattle.cv_steps.specs.Judgements.{judgement_of};
 ghost use Rattle.cv_scenes.specs.Terms as terms;
 ghost use Rattle.cv_rule_scenes.specs.Kept.{scene_of};

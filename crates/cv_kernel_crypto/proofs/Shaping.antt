@@ -11,7 +11,7 @@ use Rattle.cv_typing.specs.declared.arrays.Arrays.{Arrays}
 use Rattle.cv_typing.specs.declared.arrays.Arrays.TheVariants as held
 use Rattle.cv_typing.specs.Signature.{OfGame}
 use Rattle.cv_typing.specs.Tables.{arrays_of}
-use Rattle.cv_scope.specs.Phrases.{IsWellFormed}
+use Rattle.cv_scope_rules.specs.Phrases.{IsWellFormed}
 use Rattle.cv_scenes.specs.Contexts.{matching_of}
 use Rattle.cv_scenes.specs.Instances.{Matching}
 use Rattle.cv_scenes.specs.Refusals.{Refusal, first_refusal}

@@ -8,7 +8,7 @@ ghost use Rattle.cv_directory.specs.Sites.{sites_of};
 ghost use Rattle.cv_directory.specs.Tables.{entries_in};
 ghost use Rattle.cv_typing.specs.Signature.{OfGame};
 ghost use Rattle.cv_typing.specs.Tables.{arrays_of, directory_in};
-ghost use Rattle.cv_scope.specs.Phrases.{IsWellFormed};
+ghost use Rattle.cv_scope_rules.specs.Phrases.{IsWellFormed};
 ghost use Rattle.cv_rule_scenes.specs.Kept.{scene_of};
 ghost use Rattle.cv_kernel_crypto.specs.Applied.{DrawsNext, HasEquivalences, IsAnswer, IsFew};
 ghost use Rattle.cv_kernel_crypto.specs.Stages.{AreInstances, AreTakenNames, IsBuilt, IsMet};

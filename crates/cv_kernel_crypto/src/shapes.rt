@@ -5,7 +5,7 @@ ghost use Rattle.cv_directory.specs.Live.{IsLive};
 ghost use Rattle.cv_directory.specs.Sites.{sites_of};
 ghost use Rattle.cv_typing.specs.Signature.{OfGame};
 ghost use Rattle.cv_typing.specs.Tables.{arrays_of};
-ghost use Rattle.cv_scope.specs.Phrases.{IsWellFormed};
+ghost use Rattle.cv_scope_rules.specs.Phrases.{IsWellFormed};
 ghost use Rattle.cv_rule_scenes.specs.Kept.{scene_of};
 ghost use Rattle.cv_context_products.specs.Shapes as shapes;
 ghost use Rattle.cv_context_products.specs.ShapesInCode.{shape_in};

@@ -13,9 +13,9 @@ use Rattle.cv_directory.specs.Live.{IsLive}
 use Rattle.cv_syntax.specs.Tree.{Tree, Empty, Node, first, first_place, second, second_place, size}
 use Rattle.cv_directory.specs.Sites.{first_of}
 use Rattle.cv_meaning_contexts.specs.Groups.{Function, Group, Left, functions_of, side_group}
-use Rattle.cv_scope.specs.declared.position.Position.{Position}
-use Rattle.cv_scope.specs.declared.position.Position.TheVariants.{Anywhere}
-use Rattle.cv_scope.specs.Context.{first_position, replications_below, second_position}
+use Rattle.cv_scope_rules.specs.declared.position.Position.{Position}
+use Rattle.cv_scope_rules.specs.declared.position.Position.TheVariants.{Anywhere}
+use Rattle.cv_scope_rules.specs.Context.{first_position, replications_below, second_position}
 use Rattle.cv_scenes.specs.Instances.{Call, Instance, Matching, call_at, call_by, first_call, instance_of}
 use Rattle.cv_scenes.specs.Sites as instances
 use Rattle.cv_scenes.specs.Sites.{is_guard, sites_in, sites_of}

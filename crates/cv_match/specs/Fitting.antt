@@ -2,7 +2,7 @@
 use Rattle.std.specs.Prelude.{ℕ, ◌+◌, ◌<◌, ◌^◌, Bool, ◌&&◌, not, ◌==◌, List, Option, Some}
 use Rattle.cv_pool.specs.KindTree.{KindTree}
 use Rattle.cv_syntax.specs.Tree.{Tree, same_tree, size, tree_at}
-use Rattle.cv_scope.specs.Context.{cell_of}
+use Rattle.cv_scope_rules.specs.Context.{cell_of}
 use Rattle.cv_scenes.specs.Scenes.{is_queried}
 use Rattle.cv_meaning_contexts.specs.Groups.{function_of}
 use Rattle.cv_scenes.specs.Instances.{Matching}

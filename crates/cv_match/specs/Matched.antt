@@ -6,7 +6,7 @@ use Rattle.cv_syntax.specs.Classes.{DeclsView, equiv_in}
 use Rattle.cv_syntax.specs.Tree.{tree_at}
 use Rattle.cv_meaning_contexts.specs.Groups.{Left, side_group}
 use Rattle.cv_directory.specs.Sites.{first_of}
-use Rattle.cv_scope.specs.declared.position.Position.TheVariants.{Anywhere}
+use Rattle.cv_scope_rules.specs.declared.position.Position.TheVariants.{Anywhere}
 use Rattle.cv_rule_scenes.specs.Kept.{scene_of}
 use Rattle.cv_scenes.specs.Instances.{Matching}
 use Rattle.cv_scenes.specs.Refusals as refusals

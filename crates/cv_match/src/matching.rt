@@ -21,7 +21,7 @@ use cv_match_patterns::{Search, Site};
 use cv_match_reads::condition_use;
 use cv_match_sites::{outside_use, sites};
 use cv_match_uses::UseTable;
-use cv_scope::Position;
+use cv_scope_rules::Position;
 use cv_syntax::children::{first_of, second_of};
 use cv_syntax::{Game, NameId, Work};
 use cv_typing::Arrays;

@@ -6,7 +6,7 @@ use Rattle.cv_syntax.specs.Tree.{Tree, Empty, Node}
 use Rattle.cv_syntax.proofs.Trees.{tree_of-NoTree}
 use Rattle.cv_lists.proofs.Tests.{equals_comm}
 use Rattle.cv_meaning.specs.Correspondences.{typed_names}
-use Rattle.cv_scope.specs.Made.{is_bound}
+use Rattle.cv_scope_rules.specs.Made.{is_bound}
 use Rattle.cv_scenes.specs.Refusals.{is_among}
 
 pub listed-bound : (t : Tree) (y : ℕ) → is_bound t y ≡ is_among (typed_names t) y

@@ -8,7 +8,7 @@ use Rattle.cv_syntax.specs.Children.{is_empty, is_leaf}
 use Rattle.cv_syntax.specs.Head.{same_head}
 use Rattle.cv_syntax.specs.Tree.{Tree, Empty, Node, lone, same_tree}
 use Rattle.cv_syntax.proofs.Trees.{tree_of-NoTree}
-use Rattle.cv_scope.specs.Context.{index_terms}
+use Rattle.cv_scope_rules.specs.Context.{index_terms}
 
 pub empty-form : (t : Tree) → same_tree t Empty ≡ is_empty t
 unfolding same_tree

@@ -3,7 +3,7 @@ ghost use Rattle.cv_pool.specs.Nodes.{ChildBelow};
 ghost use Rattle.cv_syntax.specs.declared.head.Head.TheVariants.{Cons, Leaf, Read};
 ghost use Rattle.cv_syntax.specs.Head.{same_head};
 ghost use Rattle.cv_syntax.specs.Tree.{Empty, Node, lone, same_tree, tree_at};
-ghost use Rattle.cv_scope.specs.Context.{cell_of, index_terms};
+ghost use Rattle.cv_scope_rules.specs.Context.{cell_of, index_terms};
 
 use cv_match_heads::is_head;
 use cv_syntax::children::{is_empty, is_leaf};

@@ -6,7 +6,7 @@ ghost use Rattle.cv_scenes.specs.Refusals as refusals;
 ghost use Rattle.cv_match_reads.specs.Within.{use_within};
 
 use cv_match_uses::is_reading;
-use cv_scope::Position;
+use cv_scope_rules::Position;
 use cv_syntax::{Head, NodeId, Pool, read_node};
 
 /// Whether the first child there is a condition.

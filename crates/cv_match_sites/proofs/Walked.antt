@@ -4,8 +4,8 @@ use Rattle.std.specs.Prelude.{is_some}
 use Rattle.cv_syntax.specs.declared.head.Head.{Head}
 use Rattle.cv_syntax.specs.Tree.{Tree, Empty, Node, first_place, second_place}
 use Rattle.cv_directory.specs.Sites.{first_of}
-use Rattle.cv_scope.specs.declared.position.Position.{Position}
-use Rattle.cv_scope.specs.Context.{first_position, replications_below, second_position}
+use Rattle.cv_scope_rules.specs.declared.position.Position.{Position}
+use Rattle.cv_scope_rules.specs.Context.{first_position, replications_below, second_position}
 use Rattle.cv_scenes.specs.Scenes.{head_reads}
 use Rattle.cv_scenes.specs.Instances.{Call, Matching, call_at}
 use Rattle.cv_scenes.specs.Refusals.{first_use}

@@ -12,7 +12,7 @@ use crate::outside::is_guard;
 use cv_match_patterns::{Search, Site, note_site, terms_of};
 use cv_match_uses::pass_replication;
 use cv_path::size_below;
-use cv_scope::Position;
+use cv_scope_rules::Position;
 use cv_syntax::{NodeId, Work, read_node};
 use std::alloc::{AllocError, Global};
 

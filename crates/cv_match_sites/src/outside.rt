@@ -10,7 +10,7 @@ use crate::calls::is_call;
 use cv_match_patterns::Search;
 use cv_match_uses::is_reading;
 use cv_path::size_below;
-use cv_scope::Position;
+use cv_scope_rules::Position;
 use cv_syntax::{NodeId, Work, read_node};
 
 /// Whether the first child there is a `defined` list or a condition.

@@ -7,7 +7,7 @@ use Rattle.cv_lists.proofs.Tests.{equals_comm}
 use Rattle.cv_syntax.specs.declared.head.Head.{Head}
 use Rattle.cv_syntax.specs.declared.head.Head.TheVariants.{Binder, Branch, Call, In, Key, Leaf, Let, New, Read}
 use Rattle.cv_syntax.specs.Tree.{Tree, Empty, Node, second}
-use Rattle.cv_scope.specs.Made.{is_bound}
+use Rattle.cv_scope_rules.specs.Made.{is_bound}
 use Rattle.cv_match_uses.specs.declared.entry.Entry.{Entry}
 use Rattle.cv_match_uses.specs.Tallies.{Draw, One, Other, Tally, Zero, bound_here, defined_here, entry_at, join, nothing, only, plus, tally, tally_at, tally_in, used_here}
 

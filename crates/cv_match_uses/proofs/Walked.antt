@@ -6,9 +6,9 @@ use Rattle.cv_syntax.specs.declared.head.Head.{Head}
 use Rattle.cv_syntax.specs.declared.head.Head.TheVariants.{Leaf, New, Read, Repl}
 use Rattle.cv_syntax.specs.Head.{weight}
 use Rattle.cv_syntax.specs.Tree.{Tree, Empty, Node, size}
-use Rattle.cv_scope.specs.Context.{replications_below}
-use Rattle.cv_scope.specs.Made.{made_by}
-use Rattle.cv_scope.specs.Sites.{Variable}
+use Rattle.cv_scope_rules.specs.Context.{replications_below}
+use Rattle.cv_scope_rules.specs.Made.{made_by}
+use Rattle.cv_scope_rules.specs.Sites.{Variable}
 use Rattle.cv_scenes.specs.Scenes.{head_reads}
 use Rattle.cv_scenes.specs.Refusals.{definitions_in, only_new, uses}
 use Rattle.cv_match_uses.specs.Tallies.{Draw, One, Other, Tally, Zero, drawn, join, plus, single, summary, tally, tally_here, tally_of, used_here}

@@ -3,8 +3,8 @@ use Rattle.std.specs.Prelude.{◌≡◌, ℕ, ◌+◌, ◌==◌, if◌then◌els
 use Rattle.cv_syntax.specs.declared.head.Head.{Head}
 use Rattle.cv_syntax.specs.declared.head.Head.TheVariants.{New}
 use Rattle.cv_syntax.specs.Tree.{Tree}
-use Rattle.cv_scope.specs.Made.{is_bound, made_by}
-use Rattle.cv_scope.specs.Sites.{Variable}
+use Rattle.cv_scope_rules.specs.Made.{is_bound, made_by}
+use Rattle.cv_scope_rules.specs.Sites.{Variable}
 use Rattle.cv_scenes.specs.Scenes.{head_reads}
 use Rattle.cv_scenes.specs.Refusals as refusals
 use Rattle.cv_scenes.specs.Refusals.{definitions_in, new_of}

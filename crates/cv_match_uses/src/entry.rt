@@ -1,5 +1,5 @@
 ghost use Rattle.std.specs.Prelude.{◌≡◌, ◌+◌, ◌<◌, ◌^◌, OnOk};
-ghost use Rattle.cv_scope.specs.Tests.{same_replications};
+ghost use Rattle.cv_scope_rules.specs.Tests.{same_replications};
 ghost use Rattle.cv_scenes.specs.Refusals.{is_of_type, stands_under};
 ghost use Rattle.cv_match_uses.specs.Tallies.{One, Other, Zero, drawn, nothing, plus, seen, tally, tally_in};
 

@@ -1,5 +1,5 @@
 ghost use Rattle.std.specs.Prelude.{◌≡◌, OnOk};
-ghost use Rattle.cv_scope.specs.Context.{replications_below};
+ghost use Rattle.cv_scope_rules.specs.Context.{replications_below};
 ghost use Rattle.cv_scenes.specs.Scenes.{head_reads};
 
 use cv_syntax::Head;

@@ -19,10 +19,10 @@ use Rattle.cv_parse_notation.specs.Spells.{is_mark, kind_of}
 use Rattle.cv_parse_notation.proofs.Sound.{same_mark_eq}
 use Rattle.cv_parse_terminals.specs.Braces.{closes, file_tokens, is_end, is_read, open_behind, opens, read_at, read_from, semicolon}
 use Rattle.cv_parse_terminals.specs.Signs.{Tells, signs_of}
-use Rattle.cv_parse_terminals.specs.Spelling.{mark_of_text, spelling}
+use Rattle.cv_parse_spelling.specs.Spelling.{mark_of_text, spelling}
 use Rattle.cv_parse_terminals.proofs.FileTokens.{are_read, length-read_from}
 use Rattle.cv_parse_terminals.proofs.Naming.{text_test}
-use Rattle.cv_parse_terminals.proofs.Table.{found}
+use Rattle.cv_parse_spelling.proofs.Table.{found}
 use Rattle.cv_parse_terminals.proofs.Telling.{count_all, tell_all}
 
 -- a sign of a brace

@@ -5,7 +5,7 @@ use Rattle.cv_syntax.specs.declared.head.Head.{Head}
 use Rattle.cv_syntax.specs.declared.head.Head.TheVariants.{In, Out, Leaf, Read, Cons}
 use Rattle.cv_syntax.specs.Tree.{Tree, Empty, Node, lone, chain, names}
 use Rattle.cv_parse_grammar.specs.Filled.{bare, filled_at, now_below, on_channel, read_at, read_plainly}
-use Rattle.cv_scope.specs.Phrases.{Phrase, Nil, Inputs, Body, Pattern, Message, Indices, Binders, OneCell, Terms, Term, parts}
+use Rattle.cv_scope_rules.specs.Phrases.{Phrase, Nil, Inputs, Body, Pattern, Message, Indices, Binders, OneCell, Terms, Term, parts}
 use Rattle.cv_parse_laws.specs.Shapes.{IsShaped}
 use Rattle.cv_parse_laws.proofs.Shaping.{empty, named, nil, node, opened}
 

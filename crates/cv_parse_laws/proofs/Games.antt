@@ -14,8 +14,8 @@ use Rattle.cv_parse_grammar.proofs.Identities.{declared_names}
 use Rattle.cv_meaning.specs.Interpretation.{is_constant_of}
 use Rattle.cv_parse.specs.Parsed.{Parsed, parsed}
 use Rattle.cv_parse.proofs.Exactness.{said_is_saying}
-use Rattle.cv_scope.specs.Scope.{IsScoped}
-use Rattle.cv_scope.specs.Phrases.{Inputs, IsWellFormed}
+use Rattle.cv_scope_rules.specs.Scope.{IsScoped}
+use Rattle.cv_scope_rules.specs.Phrases.{Inputs, IsWellFormed}
 use Rattle.cv_parse_laws.specs.Shapes.{IsFree, IsOfSort, IsShaped}
 use Rattle.cv_parse_yields.specs.Yields.{AllUsed}
 use Rattle.cv_parse_laws.proofs.Filling.{filled_is}

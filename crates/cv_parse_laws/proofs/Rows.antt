@@ -13,7 +13,7 @@ use Rattle.cv_parse_grammar.specs.Phrases as sort
 use Rattle.cv_parse_grammar.specs.Terms.{terms, arguments, subscript, parentheses, called, indexed, alone, mention, negation, truth, falsehood, primary, unequal, equal_to, unequal_to, equality, conjoined, conjunction, disjoined, term, cell_of, cell, cells, yes, condition}
 use Rattle.cv_parse_grammar.specs.Processes.{stops, yields, channel, channel_indices, find_in, ending, replication, receiving, input, beside, inputs, received, pattern, variables, yielding, sent, sending, payload, continuation, outgoing, restriction, assignment, recording, otherwise, testing, finding, branch, output}
 use Rattle.cv_parse_grammar.specs.Rules.{file, rule}
-use Rattle.cv_scope.specs.Phrases.{Phrase, Inputs, Body, Branches, Arm, Indices, Binders, Cells, OneCell, Terms, Term, may_end}
+use Rattle.cv_scope_rules.specs.Phrases.{Phrase, Inputs, Body, Branches, Arm, Indices, Binders, Cells, OneCell, Terms, Term, may_end}
 use Rattle.cv_parse_laws.specs.Shapes.{IsFree, IsOfSort, IsOver, IsShaped}
 use Rattle.cv_parse_yields.specs.Yields.{IfThere, Yields}
 use Rattle.cv_parse_laws.proofs.Shaping.{bound, chained, empty, named, nil, node}

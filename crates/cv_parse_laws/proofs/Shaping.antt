@@ -5,7 +5,7 @@ use Rattle.std.specs.List.{AllByRecursion}
 use Rattle.cv_syntax.specs.declared.head.Head.{Head}
 use Rattle.cv_syntax.specs.declared.head.Head.TheVariants.{Cons}
 use Rattle.cv_syntax.specs.Tree.{Tree, Empty, Node, lone, chain, names, binders}
-use Rattle.cv_scope.specs.Phrases.{Phrase, Nil, Indices, Binders, parts, may_end, both_are, is_phrase, head_binds_none, binds_none}
+use Rattle.cv_scope_rules.specs.Phrases.{Phrase, Nil, Indices, Binders, parts, may_end, both_are, is_phrase, head_binds_none, binds_none}
 use Rattle.cv_parse_laws.specs.Shapes.{IsShaped}
 
 -- what the two children of a node are

@@ -9,7 +9,7 @@ use Rattle.cv_parse_grammar.specs.Rules.{File, file, heads, rule}
 use Rattle.cv_parse_grammar.specs.Whole.{IsRead}
 use Rattle.cv_parse.specs.Parsed.{Parsed, parsed}
 use Rattle.cv_parse.proofs.Exactness.{said_is_saying}
-use Rattle.cv_scope.specs.Phrases.{Inputs}
+use Rattle.cv_scope_rules.specs.Phrases.{Inputs}
 use Rattle.cv_parse_laws.proofs.Games.{game_is}
 use Rattle.cv_print_terminals.specs.Written.{IsWritten}
 use Rattle.cv_parse_laws.specs.Words.{AreNamed, HasWords, WordsOfSort}

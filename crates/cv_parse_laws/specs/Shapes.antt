@@ -5,7 +5,7 @@ use Rattle.cv_parse_grammar.specs.declared.role.Role.{Role}
 use Rattle.cv_parse_grammar.specs.Names.{binds}
 use Rattle.cv_parse_grammar.specs.Phrases.{Sort}
 use Rattle.cv_parse_grammar.specs.Phrases as sort
-use Rattle.cv_scope.specs.Phrases.{Phrase, Inputs, Body, Arm, Indices, Binders, Cells, OneCell, Terms, Term, is_phrase, binds_none}
+use Rattle.cv_scope_rules.specs.Phrases.{Phrase, Inputs, Body, Arm, Indices, Binders, Cells, OneCell, Terms, Term, is_phrase, binds_none}
 
 -- a phrase of a game that binds no barred name
 pub record IsShaped (barred : ℕ → Bool) (φ : Phrase) (t : Tree) : Type 0 where

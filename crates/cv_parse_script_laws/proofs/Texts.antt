@@ -20,7 +20,7 @@ use Rattle.cv_parse_script_laws.proofs.Fitting.{deep_rule}
 use Rattle.cv_parse_tables.specs.declared.piece.Outer.{Outer}
 use Rattle.cv_parse_tables.specs.declared.piece.Outer.TheVariants as outer
 use Rattle.cv_parse_tables.specs.Table.{Nowhere, OfFiles, Row, TableSort, carried, outer_form, table_heads}
-use Rattle.cv_scope.specs.Phrases.{Term, OneCell, is_phrase}
+use Rattle.cv_scope_rules.specs.Phrases.{Term, OneCell, is_phrase}
 use Rattle.cv_script_rows.specs.Rows.{script_rows}
 use Rattle.cv_script.specs.Views.{tree_in}
 

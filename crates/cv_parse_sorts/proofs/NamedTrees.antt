@@ -7,9 +7,9 @@ use Rattle.cv_syntax.specs.declared.head.Head.TheVariants.{Apply, Branch, Cons, 
 use Rattle.cv_syntax.specs.Declarations.{Declaration}
 use Rattle.cv_syntax.specs.Tree.{Tree, Empty, Node, chain, lone, names}
 use Rattle.cv_parse_grammar.specs.Filled.{filled_at, now_below, on_channel, read_at, read_plainly}
-use Rattle.cv_scope.specs.Context.{first_position, second_position}
-use Rattle.cv_scope.specs.declared.position.Position.{Position}
-use Rattle.cv_scope.specs.declared.position.Position.TheVariants.{Anywhere, Bodies, Branches, Cells, Guards}
+use Rattle.cv_scope_rules.specs.Context.{first_position, second_position}
+use Rattle.cv_scope_rules.specs.declared.position.Position.{Position}
+use Rattle.cv_scope_rules.specs.declared.position.Position.TheVariants.{Anywhere, Bodies, Branches, Cells, Guards}
 use Rattle.cv_typing.specs.Signature.{function_in}
 use Rattle.cv_typing_runs.specs.Games.{are_named, are_variable_cells, is_named, is_variable_cell}
 

@@ -12,7 +12,7 @@ use Rattle.cv_parse_notation.specs.declared.sign.Sign.{Sign}
 use Rattle.cv_parse_notation.specs.declared.sign.Sign.TheVariants as sign
 use Rattle.cv_parse_terminals.specs.declared.pass.Counts.{Counts}
 use Rattle.cv_parse_terminals.specs.Braces.{file_tokens}
-use Rattle.cv_parse_terminals.specs.Spelling.{mark_of_text}
+use Rattle.cv_parse_spelling.specs.Spelling.{mark_of_text}
 use Rattle.cv_parse_terminals.specs.Signs.{NumberBelow, Step, first_text, is_unnamed, no_counts, one_find, place_of, signs_from, signs_of, step_before, text_step, token_step, unnamed_name, unnamed_step, with_name, word_step}
 
 abbrev pub AreBelow : ℕ → List Sign → Type 0

@@ -10,7 +10,7 @@ use Rattle.cv_lex.proofs.Pieces.{token_not_end}
 use Rattle.cv_parse_terminals.specs.declared.pass.Counts.{Counts}
 use Rattle.cv_parse_terminals.specs.Braces.{is_end, read_between, open_behind, read_from, outside_from, outside}
 use Rattle.cv_parse_terminals.specs.Signs.{Step, no_counts, first_text, step_before, signs_from, signs_in, signs_of}
-use Rattle.cv_parse_terminals.specs.Spelling.{mark_of_text}
+use Rattle.cv_parse_spelling.specs.Spelling.{mark_of_text}
 use Rattle.cv_parse_terminals.specs.Worked.{small, small_names}
 use Rattle.cv_parse_terminals.proofs.FileTokens.{none_behind}
 use Rattle.cv_parse_terminals.proofs.Naming.{text_test}

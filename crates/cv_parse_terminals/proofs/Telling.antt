@@ -16,11 +16,11 @@ use Rattle.cv_parse_notation.specs.declared.sign.Sign.{Sign}
 use Rattle.cv_parse_notation.specs.declared.sign.Sign.TheVariants as sign
 use Rattle.cv_names.specs.Texts.{NoRepeat}
 use Rattle.cv_parse_terminals.specs.declared.pass.Counts.{Counts}
-use Rattle.cv_parse_terminals.specs.Spelling.{mark_of_text}
+use Rattle.cv_parse_spelling.specs.Spelling.{mark_of_text}
 use Rattle.cv_parse_terminals.specs.Signs.{Step, Signed, no_counts, join, step_before, unnamed_name, is_unnamed, first_text, token_step, text_step, word_step, signs_from, signs_in, signs_of, place_of, Tells, TellInOrder, NumberBelow}
 use Rattle.cv_parse_terminals.specs.Braces.{file_tokens}
 use Rattle.cv_parse_terminals.proofs.FileTokens.{are_read, length-read_from}
-use Rattle.cv_parse_terminals.proofs.Table.{only}
+use Rattle.cv_parse_spelling.proofs.Table.{only}
 use Rattle.cv_parse_terminals.proofs.Naming.{text_test, with_name-keeps, with_name-has, with_name-apart}
 use Rattle.cv_parse_terminals.proofs.Walk.{no_end_yet}
 

@@ -14,7 +14,7 @@ use Rattle.cv_parse_notation.specs.declared.sign.Mark.{Mark}
 use Rattle.cv_parse_notation.specs.declared.sign.Sign.{Sign}
 use Rattle.cv_parse_notation.specs.declared.sign.Sign.TheVariants as sign
 use Rattle.cv_parse_terminals.specs.declared.pass.Counts.{Counts}
-use Rattle.cv_parse_terminals.specs.Spelling.{mark_of_text}
+use Rattle.cv_parse_spelling.specs.Spelling.{mark_of_text}
 use Rattle.cv_parse_terminals.specs.Signs.{Step, no_counts, one_find, join, go_on, step_before, unnamed_step, unnamed_name, is_unnamed, first_text, token_step, text_step, word_step, signs_from, place_of, with_name}
 use Rattle.cv_parse_terminals.proofs.Naming.{length-with_name, with_name-behind}
 

@@ -1,6 +1,4 @@
 pub mod Braces
 pub mod ScriptSigns
-pub mod ScriptSpelling
 pub mod Signs
-pub mod Spelling
 pub mod Worked

@@ -3,7 +3,7 @@ use Rattle.std.specs.Prelude.{ℕ, ◌-◌, List, [], ◌∷◌, drop, take}
 use Rattle.cv_lex.specs.Lexis.{Token}
 use Rattle.cv_parse_notation.specs.declared.sign.Sign.{Sign}
 use Rattle.cv_parse_notation.specs.declared.sign.Sign.TheVariants as sign
-use Rattle.cv_parse_terminals.specs.ScriptSpelling.{word_of_text}
+use Rattle.cv_parse_spelling.specs.ScriptSpelling.{word_of_text}
 use Rattle.cv_parse_terminals.specs.Signs.{Signed, no_counts, signs_from}
 
 -- the tokens from one on, before another

@@ -12,7 +12,7 @@ use Rattle.cv_parse_notation.specs.declared.sign.Sign.{Sign}
 use Rattle.cv_parse_notation.specs.declared.sign.Sign.TheVariants as sign
 use Rattle.cv_parse_terminals.specs.declared.pass.Counts.{Counts}
 use Rattle.cv_parse_terminals.specs.Braces.{file_tokens}
-use Rattle.cv_parse_terminals.specs.Spelling.{spelling, mark_of_text}
+use Rattle.cv_parse_spelling.specs.Spelling.{spelling, mark_of_text}
 
 -- the place of a text among names, or their number where it isn't there
 abbrev pub place_of : List (List ℕ) → List ℕ → ℕ

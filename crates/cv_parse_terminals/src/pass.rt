@@ -6,13 +6,13 @@ ghost use Rattle.cv_lex.specs.View.{AreTokens};
 ghost use Rattle.cv_names.specs.Texts.{NoRepeat};
 ghost use Rattle.cv_parse_terminals.specs.Braces.{file_tokens, opens, outside};
 ghost use Rattle.cv_parse_terminals.specs.Signs.{place_of, with_name, step_before, token_step, text_step, unnamed_step, no_counts, signs_from, signs_in, signs_of, TellInOrder, NumberBelow};
-ghost use Rattle.cv_parse_terminals.specs.Spelling.{mark_of_text};
+ghost use Rattle.cv_parse_spelling.specs.Spelling.{mark_of_text};
 ghost use Rattle.cv_parse_terminals.specs.Worked.{small, small_names};
 
 use crate::braces::{open_behind, read_token};
-use crate::marks::spelled;
 use cv_lex::{TokenKind, Tokens};
 use cv_parse_notation::{ScriptWord, Sign};
+use cv_parse_spelling::spelled;
 use cv_syntax::{NameError, Names};
 use std::alloc::{AllocError, Global};
 

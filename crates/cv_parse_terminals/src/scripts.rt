@@ -6,9 +6,9 @@ ghost use Rattle.cv_parse_terminals.specs.ScriptSigns.{between, script_signs as 
 ghost use Rattle.cv_parse_terminals.specs.Signs.{first_text};
 
 use crate::pass::{Counts, sign_before};
-use crate::words::word_of_text;
 use cv_lex::Tokens;
 use cv_parse_notation::Sign;
+use cv_parse_spelling::word_of_text;
 use cv_syntax::Names;
 use std::alloc::{AllocError, Global};
 

@@ -4,7 +4,7 @@ use Rattle.std.specs.Prelude.{◌||◌, ◌==◌}
 use Rattle.cv_syntax.specs.declared.head.Head.{Head}
 use Rattle.cv_syntax.specs.declared.head.Head.TheVariants.{Binder}
 use Rattle.cv_syntax.specs.Tree.{Tree, Empty, Node}
-use Rattle.cv_scope.specs.Made.{is_bound}
+use Rattle.cv_scope_rules.specs.Made.{is_bound}
 
 pub bound-empty : (t : Tree) (y : ℕ) → t ≡ Empty → is_bound t y ≡ false
 unfolding is_bound

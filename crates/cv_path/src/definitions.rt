@@ -1,8 +1,8 @@
 ghost use Rattle.std.specs.Prelude.{◌≡◌, length};
 ghost use Rattle.cv_pool.specs.Nodes.{ChildBelow};
 ghost use Rattle.cv_syntax.specs.Tree.{tree_at};
-ghost use Rattle.cv_scope.specs.Sites.{Variable};
-ghost use Rattle.cv_scope.specs.Made.{is_bound, made_by};
+ghost use Rattle.cv_scope_rules.specs.Sites.{Variable};
+ghost use Rattle.cv_scope_rules.specs.Made.{is_bound, made_by};
 
 use cv_syntax::children::second_of;
 use cv_syntax::{Head, NodeId, Opened, Pool, read_node};

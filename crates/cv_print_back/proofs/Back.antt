@@ -23,7 +23,7 @@ use Rattle.cv_parse_grammar.specs.Terms.{term}
 use Rattle.cv_parse_grammar.specs.Names.{Uses}
 use Rattle.cv_parse_grammar.specs.Rules.{heads, rule, tails}
 use Rattle.cv_parse_grammar.proofs.Fitting.{all_fit}
-use Rattle.cv_scope.specs.Phrases.{Term}
+use Rattle.cv_scope_rules.specs.Phrases.{Term}
 use Rattle.cv_print_terminals.specs.Levels.{term_levels}
 use Rattle.cv_print_terminals.specs.Signs.{game_signs, term_signs}
 use Rattle.cv_print_terminals.specs.Told.{game_uses, term_uses}

@@ -8,7 +8,7 @@ use Rattle.cv_parse_grammar.specs.declared.role.Region.TheVariants.{InProcess}
 use Rattle.cv_parse_grammar.specs.declared.role.Role.TheVariants.{Enters, Leaves}
 use Rattle.cv_parse_grammar.specs.Files.{levels}
 use Rattle.cv_parse_grammar.specs.Names.{Uses, name_fault}
-use Rattle.cv_scope.specs.Phrases.{Inputs, Term}
+use Rattle.cv_scope_rules.specs.Phrases.{Inputs, Term}
 use Rattle.cv_print.specs.Games.{game_text}
 use Rattle.cv_print.specs.Terms.{term_text}
 use Rattle.cv_print_terminals.specs.Levels.{levels_of, term_levels}

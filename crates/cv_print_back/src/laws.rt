@@ -7,7 +7,7 @@ ghost use Rattle.cv_parse_grammar.specs.Files.{levels};
 ghost use Rattle.cv_parse_grammar.specs.Names as names;
 ghost use Rattle.cv_syntax.specs.declared.work.BuildError.TheVariants.{Depth, Full, Nodes, OutOfMemory};
 ghost use Rattle.cv_parse.specs.declared.error.ParseError.TheVariants.{Build, NameTwice, NameUnknown, Nesting, Syntax};
-ghost use Rattle.cv_scope.specs.Phrases.{Term};
+ghost use Rattle.cv_scope_rules.specs.Phrases.{Term};
 ghost use Rattle.cv_print_terminals.specs.Levels.{term_levels};
 ghost use Rattle.cv_print_terminals.specs.Signs.{term_signs};
 ghost use Rattle.cv_print_terminals.specs.Written.{IsWritten};

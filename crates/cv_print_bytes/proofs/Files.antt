@@ -13,12 +13,12 @@ use Rattle.cv_parse_notation.specs.declared.sign.Mark.{Mark}
 use Rattle.cv_parse_notation.specs.declared.sign.Mark.TheVariants as mark
 use Rattle.cv_names.specs.Texts.{NoRepeat}
 use Rattle.cv_parse_terminals.specs.ScriptSigns.{between, script_signs}
-use Rattle.cv_parse_terminals.specs.Spelling.{spelling, mark_of_text}
+use Rattle.cv_parse_spelling.specs.Spelling.{spelling, mark_of_text}
 use Rattle.cv_parse_terminals.specs.Signs.{Step, no_counts, with_name, is_unnamed, word_step, text_step, token_step, unnamed_step, step_before, unnamed_name, first_text, signs_from, signs_of}
 use Rattle.cv_parse_terminals.specs.Braces.{file_tokens}
 use Rattle.cv_parse_terminals.proofs.FileTokens.{are_read}
 use Rattle.cv_parse_terminals.proofs.Naming.{text_test, with_name-from}
-use Rattle.cv_parse_terminals.proofs.Table.{found}
+use Rattle.cv_parse_spelling.proofs.Table.{found}
 use Rattle.cv_parse_terminals.proofs.Telling.{grown}
 use Rattle.cv_print_bytes.specs.Known.{AreNames, IsName}
 use Rattle.cv_print_bytes.proofs.Bytes.{collision_token, symbol_length}

@@ -1,7 +1,7 @@
 -- What is known of a tree is known of its parts, and the indices of the channels of a phrase are names.
 use Rattle.std.proofs.Common.{◌≡◌, ℕ, Bool, true, false, ◌&&◌, Option, Some, None, refl}
 use Rattle.std.proofs.lemmas.Bool.{and_parts, and_from, both_ways}
-use Rattle.cv_scope.specs.Phrases.{Phrase, Inputs, Body, Pattern, Message, Indices, Binders, Terms, parts, both_are, is_phrase}
+use Rattle.cv_scope_rules.specs.Phrases.{Phrase, Inputs, Body, Pattern, Message, Indices, Binders, Terms, parts, both_are, is_phrase}
 use Rattle.cv_syntax.specs.Tree.{Tree, Empty, Node, first, second}
 use Rattle.cv_syntax.specs.declared.head.Head.{Head}
 use Rattle.cv_syntax.specs.declared.head.Head.TheVariants.{In, Out, Cons, Name}

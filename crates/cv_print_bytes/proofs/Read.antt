@@ -7,7 +7,7 @@ use Rattle.cv_lex.proofs.Exact.{said}
 use Rattle.cv_parse_notation.specs.declared.sign.Sign.{Sign}
 use Rattle.cv_parse_terminals.specs.Signs.{no_counts, signs_from}
 use Rattle.cv_parse_grammar.specs.Phrases as sort
-use Rattle.cv_scope.specs.Phrases.{Inputs, Term, is_phrase}
+use Rattle.cv_scope_rules.specs.Phrases.{Inputs, Term, is_phrase}
 use Rattle.cv_print.specs.Games.{game_text}
 use Rattle.cv_print.specs.Terms.{term_text}
 use Rattle.cv_print_terminals.specs.Levels.{levels_of, term_levels}

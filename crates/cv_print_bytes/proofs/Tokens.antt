@@ -18,9 +18,9 @@ use Rattle.cv_parse_notation.specs.declared.sign.Mark.TheVariants as mark
 use Rattle.cv_parse_notation.specs.declared.sign.Sign.TheVariants as sign
 use Rattle.cv_print.specs.Terms.{name_text}
 use Rattle.cv_parse_terminals.specs.Signs.{place_of, with_name, step_before, token_step, text_step, word_step, unnamed_step, one_find}
-use Rattle.cv_parse_terminals.specs.Spelling.{spelling, mark_of_text}
+use Rattle.cv_parse_spelling.specs.Spelling.{spelling, mark_of_text}
 use Rattle.cv_parse_terminals.proofs.Naming.{only_place, with_name-old}
-use Rattle.cv_parse_terminals.proofs.Table.{found, find_is_none}
+use Rattle.cv_parse_spelling.proofs.Table.{found, find_is_none}
 use Rattle.cv_print_terminals.specs.Signs.{name_sign, named, one}
 use Rattle.cv_print_bytes.specs.Known.{AreNames, IsName}
 use Rattle.cv_print_bytes.proofs.Bytes.{word_before, decimal_before, number_before}

@@ -8,7 +8,7 @@ ghost use Rattle.cv_lex.specs.View.{AreTokens};
 ghost use Rattle.cv_parse_terminals.specs.ScriptSigns.{between, script_signs};
 ghost use Rattle.cv_parse_terminals.specs.Signs.{signs_of};
 ghost use Rattle.cv_parse_grammar.specs.Phrases.{Inputs as InputsRow, Term as TermRow};
-ghost use Rattle.cv_scope.specs.Phrases.{Inputs, Term, is_phrase};
+ghost use Rattle.cv_scope_rules.specs.Phrases.{Inputs, Term, is_phrase};
 ghost use Rattle.cv_print.specs.Games.{game_text};
 ghost use Rattle.cv_print.specs.Terms.{term_text};
 ghost use Rattle.cv_print_terminals.specs.Levels.{levels_of, term_levels};

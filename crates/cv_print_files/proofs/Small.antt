@@ -7,7 +7,7 @@ use Rattle.cv_syntax.specs.Tree.{depth, size, tree_of}
 use Rattle.cv_parse_notation.specs.Reads.{read_sort}
 use Rattle.cv_parse_terminals.specs.Braces.{read_from}
 use Rattle.cv_parse_terminals.specs.Signs.{signs_from, signs_of}
-use Rattle.cv_parse_terminals.specs.Spelling.{mark_of_text}
+use Rattle.cv_parse_spelling.specs.Spelling.{mark_of_text}
 use Rattle.cv_parse_grammar.specs.Filled.{first_site, filled_at}
 use Rattle.cv_parse_grammar.specs.InOrder.{first_broken}
 use Rattle.cv_parse_grammar.specs.Names.{own_from, part_from}

@@ -24,7 +24,7 @@ use Rattle.cv_parse_notation.specs.declared.script.ScriptWord.TheVariants.{Plain
 use Rattle.cv_parse_notation.specs.declared.sign.Mark.{Mark}
 use Rattle.cv_parse_notation.specs.declared.sign.Sign.{Sign}
 use Rattle.cv_parse_notation.specs.declared.sign.Sign.TheVariants as sign
-use Rattle.cv_parse_terminals.specs.Spelling.{mark_of_text}
+use Rattle.cv_parse_spelling.specs.Spelling.{mark_of_text}
 use Rattle.cv_parse_terminals.specs.Braces.{file_tokens}
 use Rattle.cv_parse_terminals.proofs.FileTokens.{are_read, length-read_from}
 use Rattle.cv_parse_terminals.specs.Signs.{NumberBelow, Step, first_text, is_unnamed, no_counts, one_find, place_of, with_name, signs_from, signs_in, signs_of, step_before, text_step, token_step, unnamed_step, word_step}

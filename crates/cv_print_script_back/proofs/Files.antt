@@ -34,8 +34,8 @@ use Rattle.cv_print_numbers.proofs.NumberRows.{SmallOf, rows as number_rows}
 use Rattle.cv_print_scripts.specs.Known.{head_is_known, is_known}
 use Rattle.cv_print_steps.specs.Trees.{IsOuter}
 use Rattle.cv_print_terminals.specs.Written.{is_name}
-use Rattle.cv_scope.specs.Phrases as phrase
-use Rattle.cv_scope.specs.Phrases.{both_are, is_phrase, parts}
+use Rattle.cv_scope_rules.specs.Phrases as phrase
+use Rattle.cv_scope_rules.specs.Phrases.{both_are, is_phrase, parts}
 use Rattle.cv_script_rows.specs.Rows.{script_rows}
 
 -- the same phrase

@@ -18,7 +18,7 @@ use Rattle.cv_parse_notation.specs.declared.sign.Mark.TheVariants as mark
 use Rattle.cv_parse_notation.specs.declared.sign.Sign.{Sign}
 use Rattle.cv_parse_notation.specs.declared.sign.Sign.TheVariants as sign
 use Rattle.cv_parse_terminals.specs.ScriptSigns.{between, script_signs, with_word, with_words}
-use Rattle.cv_parse_terminals.specs.Spelling.{mark_of_text}
+use Rattle.cv_parse_spelling.specs.Spelling.{mark_of_text}
 use Rattle.cv_parse_terminals.specs.Signs.{Step, first_text, is_unnamed, no_counts, one_find, place_of, signs_from, step_before, text_step, token_step, unnamed_name, unnamed_step, with_name, word_step}
 use Rattle.cv_parse_terminals.specs.declared.pass.Counts.{Counts}
 use Rattle.cv_parse_terminals.proofs.Naming.{with_name-has}

@@ -17,12 +17,12 @@ use Rattle.cv_parse_notation.specs.declared.script.ScriptWord.TheVariants as scr
 use Rattle.cv_parse_notation.specs.declared.sign.Mark.{Mark}
 use Rattle.cv_parse_notation.specs.declared.sign.Mark.TheVariants as mark
 use Rattle.cv_parse_notation.specs.declared.sign.Sign.TheVariants as sign
-use Rattle.cv_parse_terminals.specs.ScriptSpelling.{word_of_text, word_spelling}
+use Rattle.cv_parse_spelling.specs.ScriptSpelling.{word_of_text, word_spelling}
 use Rattle.cv_parse_terminals.specs.Signs.{place_of, with_name, step_before, token_step, text_step, unnamed_step, one_find}
-use Rattle.cv_parse_terminals.specs.Spelling.{spelling, mark_of_text}
+use Rattle.cv_parse_spelling.specs.Spelling.{spelling, mark_of_text}
 use Rattle.cv_parse_terminals.proofs.Naming.{only_place, with_name-apart, with_name-has, with_name-keeps, with_name-old}
-use Rattle.cv_parse_terminals.proofs.ScriptTable.{found as found_word}
-use Rattle.cv_parse_terminals.proofs.Table.{found}
+use Rattle.cv_parse_spelling.proofs.ScriptTable.{found as found_word}
+use Rattle.cv_parse_spelling.proofs.Table.{found}
 use Rattle.cv_parse_terminals.proofs.Telling.{IsGrown}
 use Rattle.cv_print.specs.Terms.{name_text}
 use Rattle.cv_print_terminals.specs.Signs.{name_sign, named}

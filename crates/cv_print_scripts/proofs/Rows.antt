@@ -7,8 +7,8 @@ use Rattle.cv_syntax.specs.declared.head.Head.TheVariants as head
 use Rattle.cv_parse_notation.specs.declared.sign.Mark.{Mark}
 use Rattle.cv_parse_notation.specs.declared.sign.Sign.{Sign}
 use Rattle.cv_parse_notation.specs.declared.sign.Sign.TheVariants as token
-use Rattle.cv_parse_terminals.specs.Spelling.{spelling}
-use Rattle.cv_parse_terminals.specs.ScriptSpelling.{word_spelling}
+use Rattle.cv_parse_spelling.specs.Spelling.{spelling}
+use Rattle.cv_parse_spelling.specs.ScriptSpelling.{word_spelling}
 use Rattle.cv_parse_tables.specs.declared.piece.Outer.{Outer}
 use Rattle.cv_parse_tables.specs.declared.piece.Outer.TheVariants as outer
 use Rattle.cv_parse_tables.specs.declared.piece.Piece.{Piece}

@@ -2,9 +2,9 @@
 use Rattle.std.proofs.Common.{◌≡◌, ℕ, zero, suc, true, false, List, [], ◌∷◌, length, Some, inl, inr, refl, sym, ◌∙◌, subst, codes}
 use Rattle.std.specs.Prelude.{slice_get}
 use Rattle.std.proofs.lemmas.Slice.Eq.{bytes_eq-Decides}
-use Rattle.cv_parse_terminals.specs.ScriptSpelling.{word_with}
+use Rattle.cv_parse_spelling.specs.ScriptSpelling.{word_with}
 use Rattle.cv_parse_terminals.specs.Signs.{place_of}
-use Rattle.cv_parse_terminals.specs.Spelling.{mark_of_text}
+use Rattle.cv_parse_spelling.specs.Spelling.{mark_of_text}
 use Rattle.cv_print_bytes.specs.Known.{AreNames, IsName}
 use Rattle.cv_print_steps.specs.Shown.{row_signs, tree_shown}
 use Rattle.cv_print_steps.specs.Trees.{IsTree}

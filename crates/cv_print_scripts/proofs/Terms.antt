@@ -7,7 +7,7 @@ use Rattle.cv_lex.specs.declared.scan.Piece.TheVariants.{Lexeme}
 use Rattle.cv_lex.specs.Lexis.{IsToken, piece}
 use Rattle.cv_parse_notation.specs.declared.sign.Mark.{Mark}
 use Rattle.cv_parse_notation.specs.declared.sign.Sign.TheVariants as token
-use Rattle.cv_parse_terminals.specs.Spelling.{spelling}
+use Rattle.cv_parse_spelling.specs.Spelling.{spelling}
 use Rattle.cv_parse_notation.specs.declared.sign.Mark.TheVariants as mark
 use Rattle.cv_parse_notation.specs.declared.sign.Sign.{Sign}
 use Rattle.cv_print.specs.Terms.{name_text, term_text, terms_text}

@@ -6,7 +6,7 @@ use Rattle.cv_parse_notation.specs.Spells.{IsSort}
 use Rattle.cv_parse_grammar.specs.Names.{Uses}
 use Rattle.cv_parse_tables.specs.Table.{Row, Table, table_heads, table_rule}
 use Rattle.cv_parse_terminals.specs.ScriptSigns.{script_signs}
-use Rattle.cv_parse_terminals.specs.ScriptSpelling.{words, word_of_text, word_spelling}
+use Rattle.cv_parse_spelling.specs.ScriptSpelling.{words, word_of_text, word_spelling}
 use Rattle.cv_parse_terminals.specs.Signs.{place_of}
 use Rattle.cv_print.specs.Terms.{name_text}
 use Rattle.cv_print_steps.specs.Shown.{Words, row_levels}

@@ -16,7 +16,7 @@ use Rattle.cv_parse_terms.specs.Gives.{positive}
 use Rattle.cv_parse_tables.specs.declared.piece.Outer.{Outer}
 use Rattle.cv_parse_tables.specs.declared.piece.Outer.TheVariants as outer
 use Rattle.cv_parse_tables.specs.Table.{Table, TableSort, OfFiles, carried, outer_form, table_heads, table_rule}
-use Rattle.cv_scope.specs.Phrases.{OneCell, Term}
+use Rattle.cv_scope_rules.specs.Phrases.{OneCell, Term}
 use Rattle.cv_print_terminals.specs.Levels.{term_levels, terms_levels}
 use Rattle.cv_print_terminals.specs.Signs.{numbered, term_signs, terms_signs}
 use Rattle.cv_print_terminals.specs.Told.{Piece, cell_told, shown, signs_in, term_uses, terms_told, uses_in}

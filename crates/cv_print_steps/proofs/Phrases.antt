@@ -19,7 +19,7 @@ use Rattle.cv_parse_tables.specs.declared.piece.Outer.TheVariants as outer
 use Rattle.cv_parse_tables.specs.Table.{Table, carried, outer_form, table_heads}
 use Rattle.cv_print_tables.specs.Layout as lay
 use Rattle.cv_print_tables.specs.Prints.{is_outer, is_term}
-use Rattle.cv_scope.specs.Phrases.{OneCell, Term, is_phrase}
+use Rattle.cv_scope_rules.specs.Phrases.{OneCell, Term, is_phrase}
 use Rattle.cv_print_terminals.specs.Written.{IsWritten, has_items}
 use Rattle.cv_print_terminals.proofs.Phrases.{no_phrase}
 use Rattle.cv_print_steps.specs.Apart.{ATerm, firsts, one_is_first, trails}

@@ -18,8 +18,8 @@ use Rattle.cv_parse_notation.proofs.Complete.{within_next}
 use Rattle.cv_parse_grammar.specs.declared.role.Role.{Role}
 use Rattle.cv_parse_grammar.specs.Names.{Uses}
 use Rattle.cv_parse_terms.specs.Gives.{positive}
-use Rattle.cv_parse_terminals.specs.Spelling.{spelling}
-use Rattle.cv_parse_terminals.specs.ScriptSpelling.{word_spelling}
+use Rattle.cv_parse_spelling.specs.Spelling.{spelling}
+use Rattle.cv_parse_spelling.specs.ScriptSpelling.{word_spelling}
 use Rattle.cv_parse_tables.specs.declared.piece.Outer.{Outer}
 use Rattle.cv_parse_tables.specs.declared.piece.Piece.{Piece}
 use Rattle.cv_parse_tables.specs.declared.piece.Piece.TheVariants as piece

@@ -9,7 +9,7 @@ use Rattle.cv_parse_tables.specs.declared.piece.Piece.{Piece}
 use Rattle.cv_parse_tables.specs.declared.piece.Piece.TheVariants as piece
 use Rattle.cv_parse_tables.specs.Table.{Table}
 use Rattle.cv_parse_tables.specs.Trees.{all_of, over, single}
-use Rattle.cv_scope.specs.Phrases.{OneCell, Term, Terms}
+use Rattle.cv_scope_rules.specs.Phrases.{OneCell, Term, Terms}
 use Rattle.cv_print_terminals.specs.Written.{IsWritten, has_items}
 
 -- terms, and one at least

@@ -17,7 +17,7 @@ use Rattle.cv_parse_grammar.specs.Phrases as sort
 use Rattle.cv_parse_grammar.specs.Processes.{inputs}
 use Rattle.cv_parse_grammar.specs.Rules.{heads, rule, tails}
 use Rattle.cv_parse_grammar.proofs.Fitting.{all_fit}
-use Rattle.cv_scope.specs.Phrases.{Inputs, Term}
+use Rattle.cv_scope_rules.specs.Phrases.{Inputs, Term}
 use Rattle.cv_print_terminals.specs.Levels.{levels_of, term_levels}
 use Rattle.cv_print_terminals.specs.Parts.{part_signs, part_uses, process_part}
 use Rattle.cv_print_terminals.specs.Signs.{game_signs, numbered, process_signs, term_signs}

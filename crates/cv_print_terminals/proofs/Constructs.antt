@@ -16,7 +16,7 @@ use Rattle.cv_parse_grammar.specs.Phrases as sort
 use Rattle.cv_parse_grammar.specs.Processes.{over, branch, input, inputs, output, pattern, payload, sending}
 use Rattle.cv_parse_grammar.specs.Rules.{heads}
 use Rattle.cv_parse_grammar.specs.Terms.{condition, defined_condition}
-use Rattle.cv_scope.specs.Phrases.{Nil, Binders, Cells, Indices, Terms, Term, is_phrase}
+use Rattle.cv_scope_rules.specs.Phrases.{Nil, Binders, Cells, Indices, Terms, Term, is_phrase}
 use Rattle.cv_print_terminals.specs.Levels.{terms_levels}
 use Rattle.cv_print_terminals.specs.Told.{Piece, Shown, arguments_told, branch_told, branches_told, channel_told, condition_told, cells_told, find_told, guard_told, indices_told, process_told, bodies_told, shown, step_told, term_told, terms_told, type_word, variables_told}
 use Rattle.cv_print_terminals.specs.Told as told

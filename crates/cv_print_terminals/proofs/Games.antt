@@ -4,7 +4,7 @@ use Rattle.std.proofs.lemmas.Bool.{both_ways}
 use Rattle.cv_syntax.specs.declared.head.Head.{Head}
 use Rattle.cv_syntax.specs.declared.head.Head.TheVariants.{Stop, Yield, Par, Repl, In, Out, Event, New, Let, If, Find, Branch, Cons}
 use Rattle.cv_syntax.specs.Tree.{Tree, Empty, Node}
-use Rattle.cv_scope.specs.Phrases.{Nil, Inputs, Body, Then, Else, Branches, Arm, Guards, Guarded, Pattern, Message, Indices, Binders, Cells, Terms, Term, is_phrase}
+use Rattle.cv_scope_rules.specs.Phrases.{Nil, Inputs, Body, Then, Else, Branches, Arm, Guards, Guarded, Pattern, Message, Indices, Binders, Cells, Terms, Term, is_phrase}
 use Rattle.cv_print_terminals.specs.Levels.{branch_levels, branches_levels, levels_of, term_levels, terms_levels}
 use Rattle.cv_print_terminals.specs.Written.{IsWritten}
 use Rattle.cv_print_terminals.proofs.Constructs.{BeginsBehind, BranchAt, InputAt, MoreBranches, OutputAt, branch_behind, branch_is, event_is, find_is, if_is, in_is, let_is, new_is, none_more, one_more, out_is, par_is, repl_is, stop_is, yield_is}

@@ -15,7 +15,7 @@ use Rattle.cv_parse_grammar.specs.Phrases.{Phrase, indices, listed, row, typed, 
 use Rattle.cv_parse_grammar.specs.Phrases as sort
 use Rattle.cv_parse_grammar.specs.Processes.{channel, variables}
 use Rattle.cv_parse_grammar.specs.Terms.{cell, cells}
-use Rattle.cv_scope.specs.Phrases.{Nil, Indices, Binders, Cells, OneCell, Terms, is_phrase}
+use Rattle.cv_scope_rules.specs.Phrases.{Nil, Indices, Binders, Cells, OneCell, Terms, is_phrase}
 use Rattle.cv_print_terminals.specs.Levels.{term_levels, terms_levels}
 use Rattle.cv_print_terminals.specs.Told.{Piece, shown, type_word, entry_told, entries_told, names_told, variables_told, indices_told, cell_told, cells_told, terms_told, channel_told}
 use Rattle.cv_print_terminals.specs.Told as told

@@ -14,7 +14,7 @@ use Rattle.cv_parse_grammar.specs.Phrases.{Phrase, after, bracket}
 use Rattle.cv_parse_grammar.specs.Phrases as sort
 use Rattle.cv_parse_grammar.specs.Rules.{heads}
 use Rattle.cv_parse_grammar.specs.Terms.{called, indexed, primary, term, terms}
-use Rattle.cv_scope.specs.Phrases.{Nil, Terms, Term, is_phrase}
+use Rattle.cv_scope_rules.specs.Phrases.{Nil, Terms, Term, is_phrase}
 use Rattle.cv_print_terminals.specs.Levels.{term_levels, terms_levels}
 use Rattle.cv_print_terminals.specs.Signs.{numbered}
 use Rattle.cv_print_terminals.specs.Told.{Piece, signs_in, shown, term_told, terms_told}

@@ -5,7 +5,7 @@ use Rattle.cv_syntax.specs.declared.head.Head.{Head}
 use Rattle.cv_syntax.specs.declared.head.Head.TheVariants.{Repl, In, Out, Event, New, Let, Find, Branch, Leaf, Read, Apply, Binder, Name}
 use Rattle.cv_parse_notation.specs.declared.sign.Mark.TheVariants as mark
 use Rattle.cv_parse_notation.specs.Spells.{Kind, is_mark}
-use Rattle.cv_scope.specs.Phrases.{Phrase, is_phrase}
+use Rattle.cv_scope_rules.specs.Phrases.{Phrase, is_phrase}
 
 -- a name, but not `bool`
 abbrev pub is_name : ℕ → Bool

@@ -9,7 +9,7 @@ ghost use Rattle.cv_parse_notation.specs.Whole.{SpellsWith};
 ghost use Rattle.cv_parse_notation.specs.declared.sign.Sign.{Sign};
 ghost use Rattle.cv_parse_grammar.specs.Phrases.{Inputs as InputsRow, Term as TermRow};
 ghost use Rattle.cv_parse_grammar.specs.Rules.{heads, rule};
-ghost use Rattle.cv_scope.specs.Phrases.{Inputs, Term};
+ghost use Rattle.cv_scope_rules.specs.Phrases.{Inputs, Term};
 ghost use Rattle.cv_print_terminals.specs.Levels.{levels_of, term_levels};
 ghost use Rattle.cv_print_terminals.specs.Parts.{part_signs, part_uses, process_part};
 ghost use Rattle.cv_print_terminals.specs.Signs.{game_signs, numbered, process_signs, term_signs};

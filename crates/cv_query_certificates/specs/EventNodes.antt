@@ -3,8 +3,8 @@ use Rattle.std.specs.Prelude.{ℕ, ◌+◌, Bool, true, false, ◌&&◌, not, �
 use Rattle.cv_syntax.specs.declared.head.Head.{Head}
 use Rattle.cv_syntax.specs.declared.head.Head.TheVariants.{Event, Number}
 use Rattle.cv_syntax.specs.Tree.{Tree, Empty, Node, first, first_place, second_place, size}
-use Rattle.cv_scope.specs.Behind.{sites_of}
-use Rattle.cv_scope.specs.Context.{Context}
+use Rattle.cv_scope_rules.specs.Behind.{sites_of}
+use Rattle.cv_scope_rules.specs.Context.{Context}
 use Rattle.cv_scenes.specs.Scenes.{part_at}
 use Rattle.cv_scenes.specs.Sights.{variable_of}
 

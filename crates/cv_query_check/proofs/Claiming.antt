@@ -18,7 +18,7 @@ use Rattle.cv_derivations.specs.Truths.{no}
 use Rattle.cv_scenes.specs.Derivations.{first_bad_line}
 use Rattle.cv_scenes.specs.Scenes.{Scene}
 use Rattle.cv_scenes.specs.Sights.{sight_at}
-use Rattle.cv_scope.specs.Context.{Context}
+use Rattle.cv_scope_rules.specs.Context.{Context}
 use Rattle.cv_query_certificates.specs.Claims.{Claim, at_place, behind_cell, claim_of, claims_of, entry_claims, equations, joined, names_of, terms_for}
 use Rattle.cv_query_certificates.specs.EventNodes.{are_for, arguments_at}
 use Rattle.cv_query_certificates.specs.Failures.{has_end, is_right}

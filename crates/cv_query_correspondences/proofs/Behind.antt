@@ -10,10 +10,10 @@ use Rattle.cv_path.specs.declared.place.Lies.TheVariants.{Here, Within, Behind}
 use Rattle.cv_path.specs.Places.{LiesAt}
 use Rattle.cv_path.proofs.Bounds.{lies-somewhere}
 use Rattle.cv_path.proofs.Going.{subtree-empty, subtree-here, subtree-within, subtree-behind}
-use Rattle.cv_scope.specs.declared.position.Position.{Position}
-use Rattle.cv_scope.specs.declared.position.Position.TheVariants.{Anywhere, Bodies, ElseBody, Guards, Guarded, Cells}
-use Rattle.cv_scope.specs.Context.{Context, context_at, first_context, first_position, item_context, known_at, nothing_known, rest_context, second_context, second_position}
-use Rattle.cv_scope.specs.Phrases.{Phrase, Body, Terms, both_are, is_phrase, parts}
+use Rattle.cv_scope_rules.specs.declared.position.Position.{Position}
+use Rattle.cv_scope_rules.specs.declared.position.Position.TheVariants.{Anywhere, Bodies, ElseBody, Guards, Guarded, Cells}
+use Rattle.cv_scope_rules.specs.Context.{Context, context_at, first_context, first_position, item_context, known_at, nothing_known, rest_context, second_context, second_position}
+use Rattle.cv_scope_rules.specs.Phrases.{Phrase, Body, Terms, both_are, is_phrase, parts}
 use Rattle.cv_facts.proofs.Covering.{known-behind, known-empty, known-here, known-within}
 use Rattle.cv_scope_runs.specs.Promises.{after_site}
 use Rattle.cv_scenes.specs.Scenes.{or_empty}

@@ -25,7 +25,7 @@ use Rattle.cv_meaning_adequacy.proofs.Counting.{count_is}
 use Rattle.cv_meaning_laws.proofs.Lists.{each_append}
 use Rattle.cv_meaning_runs.specs.Placed.{IsSubtreeOrList, VisitHas}
 use Rattle.cv_meaning_runs.proofs.Placed.{visits_subtrees}
-use Rattle.cv_scope.specs.Scope.{is_variable}
+use Rattle.cv_scope_rules.specs.Scope.{is_variable}
 use Rattle.cv_scope_runs.specs.Promises.{GrowsTo}
 use Rattle.cv_scope_runs.proofs.FactsRuns.{well_game}
 use Rattle.cv_scope_runs.proofs.Games.{Game}

@@ -27,12 +27,12 @@ use Rattle.cv_directory.specs.Sorts.{same_sort}
 use Rattle.cv_typing_runs.specs.Games.{context_of, sort_of_meaning}
 use Rattle.cv_typing_runs.proofs.Models.{is_model}
 use Rattle.cv_typing_runs.proofs.Terms.{nil_empty}
-use Rattle.cv_scope.specs.Behind.{sites_of}
-use Rattle.cv_scope.specs.Context.{Context, known_at}
-use Rattle.cv_scope.specs.Made.{made_by}
-use Rattle.cv_scope.specs.Phrases.{Inputs, Nil, OneCell, Term, Terms, is_phrase}
-use Rattle.cv_scope.specs.Scope.{is_variable}
-use Rattle.cv_scope.specs.Sites.{Variable}
+use Rattle.cv_scope_rules.specs.Behind.{sites_of}
+use Rattle.cv_scope_rules.specs.Context.{Context, known_at}
+use Rattle.cv_scope_rules.specs.Made.{made_by}
+use Rattle.cv_scope_rules.specs.Phrases.{Inputs, Nil, OneCell, Term, Terms, is_phrase}
+use Rattle.cv_scope_rules.specs.Scope.{is_variable}
+use Rattle.cv_scope_rules.specs.Sites.{Variable}
 use Rattle.cv_scope_runs.specs.Promises.{AreIndicesOf, EventsKept, IsRecorded, after_site}
 use Rattle.cv_scope_runs.proofs.Contexts.{EventHolds, Holds, Matches, constant_none, variable_none}
 use Rattle.cv_scope_runs.proofs.Games.{Game}

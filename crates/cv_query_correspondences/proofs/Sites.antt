@@ -3,13 +3,13 @@ use Rattle.std.proofs.Common.{◌≡◌, ℕ, ◌⊎◌, Bool, true, false, cond
 use Rattle.cv_syntax.specs.declared.head.Head.{Head}
 use Rattle.cv_syntax.specs.declared.head.Head.TheVariants.{Branch, Cons}
 use Rattle.cv_syntax.specs.Tree.{Tree, Empty, Node, first_place, second_place}
-use Rattle.cv_scope.specs.declared.position.Position.{Position}
-use Rattle.cv_scope.specs.declared.position.Position.TheVariants.{Anywhere, Guards, Guarded}
-use Rattle.cv_scope.specs.Above.{first_standing, second_standing}
-use Rattle.cv_scope.specs.Behind.{behind_site, sites_in, sites_of}
-use Rattle.cv_scope.specs.Context.{Context, first_context, first_position, nothing_known, second_context, second_position}
-use Rattle.cv_scope.specs.Made.{made_by}
-use Rattle.cv_scope.specs.Sites.{Variable}
+use Rattle.cv_scope_rules.specs.declared.position.Position.{Position}
+use Rattle.cv_scope_rules.specs.declared.position.Position.TheVariants.{Anywhere, Guards, Guarded}
+use Rattle.cv_scope_rules.specs.Above.{first_standing, second_standing}
+use Rattle.cv_scope_rules.specs.Behind.{behind_site, sites_in, sites_of}
+use Rattle.cv_scope_rules.specs.Context.{Context, first_context, first_position, nothing_known, second_context, second_position}
+use Rattle.cv_scope_rules.specs.Made.{made_by}
+use Rattle.cv_scope_rules.specs.Sites.{Variable}
 use Rattle.cv_scope_runs.specs.Promises.{IsDefinition, after_site, definitions_in, definitions_of}
 use Rattle.cv_facts.proofs.Covering.{Covers, first-covers, same-covers, second-covers}
 use Rattle.cv_query_correspondences.proofs.Behind.{IsAmong, among-left, among-right}

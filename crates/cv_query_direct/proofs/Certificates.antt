@@ -12,7 +12,7 @@ use Rattle.cv_meaning.specs.Correspondences.{atom_of, atoms_of, correspondence_o
 use Rattle.cv_meaning.specs.Direct.{IsPlainlyDirect, is_unmarked, is_unbound, plainly_covered}
 use Rattle.cv_meaning.specs.Interpretation.{Interpretation, setting_of}
 use Rattle.cv_meaning.specs.Runs.{Adversary}
-use Rattle.cv_scope.specs.Phrases.{IsWellFormed}
+use Rattle.cv_scope_rules.specs.Phrases.{IsWellFormed}
 use Rattle.cv_scope_runs.proofs.PlainlyDirect.{plainly_at_most}
 use Rattle.cv_query_direct.specs.Plain.{are_plain_events, certificate, has_none, is_plain_event, is_plain_query, is_plainly_direct, none_alone}
 use Rattle.cv_query_direct.specs.Search.{EntryTree, entries_of, wanted_of}

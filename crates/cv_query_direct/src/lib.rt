@@ -11,7 +11,7 @@ ghost use Rattle.cv_meaning.specs.Correspondences.{correspondence_of};
 ghost use Rattle.cv_meaning.specs.Direct.{IsPlainlyDirect};
 ghost use Rattle.cv_meaning.specs.Interpretation.{Interpretation, setting_of};
 ghost use Rattle.cv_meaning.specs.Runs.{Adversary};
-ghost use Rattle.cv_scope.specs.Phrases.{IsWellFormed};
+ghost use Rattle.cv_scope_rules.specs.Phrases.{IsWellFormed};
 ghost use Rattle.cv_query_direct.specs.Plain.{is_plain_event, is_plainly_direct};
 
 mod bound;

@@ -5,9 +5,9 @@ use Rattle.std.proofs.lemmas.List.{take_all}
 use Rattle.cv_syntax.specs.Declarations.{Declaration}
 use Rattle.cv_syntax.specs.Tree.{Tree}
 use Rattle.cv_directory.specs.Definitions.{Definition, Entries, entries_of, most}
-use Rattle.cv_scope.specs.Behind.{sites_of}
-use Rattle.cv_scope.specs.Context.{Context}
-use Rattle.cv_scope.specs.Phrases.{IsWellFormed}
+use Rattle.cv_scope_rules.specs.Behind.{sites_of}
+use Rattle.cv_scope_rules.specs.Context.{Context}
+use Rattle.cv_scope_rules.specs.Phrases.{IsWellFormed}
 use Rattle.cv_scenes.specs.Sights.{variable_of}
 use Rattle.cv_facts.specs.Definitions.{definition_entry, site_entry}
 use Rattle.cv_facts.proofs.Entries.{count-sites, first-sites}

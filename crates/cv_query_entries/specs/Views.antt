@@ -10,7 +10,7 @@ use Rattle.cv_directory.specs.Tables.{entries_in}
 use Rattle.cv_directory.specs.Live.{IsLive}
 use Rattle.cv_typing.specs.Signature.{OfGame}
 use Rattle.cv_typing.specs.Tables.{arrays_of, directory_in}
-use Rattle.cv_scope.specs.Phrases.{IsWellFormed}
+use Rattle.cv_scope_rules.specs.Phrases.{IsWellFormed}
 use Rattle.cv_meaning.specs.Correspondences.{Correspondence, atoms_of, leaf_names}
 use Rattle.cv_scenes.specs.Scenes.{Scene}
 use Rattle.cv_rule_scenes.specs.Kept as kept

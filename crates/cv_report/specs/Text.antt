@@ -18,8 +18,8 @@ use Rattle.cv_typing.specs.declared.fault.TypeFault.{TypeFault}
 use Rattle.cv_typing.specs.declared.fault.TypeFault.TheVariants as type
 use Rattle.cv_group.specs.declared.fault.GroupFault.{GroupFault}
 use Rattle.cv_group.specs.declared.fault.GroupFault.TheVariants as group
-use Rattle.cv_scope.specs.declared.fault.ScopeFault.{ScopeFault}
-use Rattle.cv_scope.specs.declared.fault.ScopeFault.TheVariants as scope
+use Rattle.cv_scope_rules.specs.declared.fault.ScopeFault.{ScopeFault}
+use Rattle.cv_scope_rules.specs.declared.fault.ScopeFault.TheVariants as scope
 use Rattle.cv_report.specs.declared.report.Cause.{Cause}
 use Rattle.cv_report.specs.declared.report.Cause.TheVariants.{Stuck, StepRefused, NoClose}
 use Rattle.cv_report.specs.declared.report.FileFault.{FileFault}

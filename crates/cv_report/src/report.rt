@@ -6,7 +6,7 @@ use cv_context_products::Shape;
 use cv_group::GroupFault;
 use cv_lex::LexError;
 use cv_parse::ParseError;
-use cv_scope::ScopeFault;
+use cv_scope_rules::ScopeFault;
 use cv_script::Step;
 use cv_syntax::{File, Game, Work};
 use cv_typing::TypeFault;

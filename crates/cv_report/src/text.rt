@@ -9,7 +9,7 @@ use cv_lex::LexError;
 use cv_parse::ParseError;
 use cv_print::{push_decimal, push_game};
 use cv_report_contexts::push_context;
-use cv_scope::ScopeFault;
+use cv_scope_rules::ScopeFault;
 use cv_script::push_step;
 use cv_syntax::{Game, Names, Pool};
 use cv_typing::TypeFault;

@@ -5,7 +5,7 @@ use Rattle.std.proofs.lemmas.Bool.{eqb-true}
 use Rattle.std.specs.Prelude.{◌==◌, nat_lt}
 use Rattle.cv_names.specs.declared.names.NameId.{NameId}
 use Rattle.cv_meaning.specs.Interpretation.{Interpretation}
-use Rattle.cv_bound.specs.Values.{product_value}
+use Rattle.cv_bound_values.specs.Values.{product_value}
 use Rattle.cv_report_contexts.specs.Contexts.{factor, with_parameter}
 
 once : (v m : ℕ) → v ^ 1 * m ≡ v * m

@@ -1,6 +1,6 @@
 ghost use Rattle.std.specs.Prelude.{◌≡◌, ℕ, ◌*◌, List, [], ◌∷◌, Some, codes};
 ghost use Rattle.cv_meaning.specs.Interpretation.{Interpretation};
-ghost use Rattle.cv_bound.specs.Values.{product_value};
+ghost use Rattle.cv_bound_values.specs.Values.{product_value};
 ghost use Rattle.cv_report_contexts.specs.Contexts.{context_text, factors_of};
 ghost use Rattle.cv_report_contexts.specs.Worked.{checks, names, sessions};
 

@@ -7,7 +7,7 @@ use Rattle.cv_syntax.specs.Tree.{Tree, Empty, Node, size}
 use Rattle.cv_path.specs.declared.place.Lies.TheVariants.{Here, Within, Behind}
 use Rattle.cv_path.specs.Places.{LiesAt}
 use Rattle.cv_path.proofs.Going.{choice-behind, choice-here, choice-within, less-behind, less-within}
-use Rattle.cv_scope.specs.Phrases as grammar
+use Rattle.cv_scope_rules.specs.Phrases as grammar
 use Rattle.cv_steps.specs.Rewriting.{by_parts, has_term_at, is_term, parts_of}
 
 -- a read, and another node

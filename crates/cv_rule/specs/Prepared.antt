@@ -11,7 +11,7 @@ use Rattle.cv_directory.specs.Tables.{entries_in}
 use Rattle.cv_typing.specs.declared.arrays.Arrays.{Arrays}
 use Rattle.cv_typing.specs.Signature.{OfGame}
 use Rattle.cv_typing.specs.Tables.{arrays_of, directory_in}
-use Rattle.cv_scope.specs.Phrases.{IsWellFormed}
+use Rattle.cv_scope_rules.specs.Phrases.{IsWellFormed}
 
 pub record IsPrepared (trees : List KindTree) (decls : DeclsView) (game : NodeId) (a : Arrays) : Type 0 where
   pub live : game.0 < length trees

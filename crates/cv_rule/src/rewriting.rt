@@ -5,7 +5,7 @@ ghost use Rattle.cv_syntax.specs.Tree.{size, tree_at};
 ghost use Rattle.cv_typing.specs.Signature as signature;
 ghost use Rattle.cv_typing.specs.Signature.{OfGame};
 ghost use Rattle.cv_typing.specs.Tables.{arrays_of};
-ghost use Rattle.cv_scope.specs.Phrases as grammar;
+ghost use Rattle.cv_scope_rules.specs.Phrases as grammar;
 ghost use Rattle.cv_scenes.specs.Terms as terms;
 ghost use Rattle.cv_steps.specs.Rewriting as rewriting;
 ghost use Rattle.cv_rule_phrases.specs.Phrases.{both, phrase_of};

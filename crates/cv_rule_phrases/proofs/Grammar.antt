@@ -3,8 +3,8 @@ use Rattle.std.proofs.Common.{◌≡◌, ◌&&◌, Bool, true, false, Option, So
 use Rattle.cv_syntax.specs.declared.head.Head.{Head}
 use Rattle.cv_syntax.specs.declared.head.Head.TheVariants as head
 use Rattle.cv_syntax.specs.Tree.{Tree, Empty, Node}
-use Rattle.cv_scope.specs.Phrases as grammar
-use Rattle.cv_scope.specs.Phrases.{both_are, is_phrase, may_end, parts}
+use Rattle.cv_scope_rules.specs.Phrases as grammar
+use Rattle.cv_scope_rules.specs.Phrases.{both_are, is_phrase, may_end, parts}
 use Rattle.cv_rule_phrases.specs.declared.phrases.Phrase.{Phrase}
 use Rattle.cv_rule_phrases.specs.declared.phrases.Phrase.TheVariants.{Nil, Inputs, Body, Then, Else, Branches, Arm, Guards, Guarded, Pattern, Message, Indices, Binders, Cells, OneCell, Terms, Term}
 use Rattle.cv_rule_phrases.specs.Phrases.{others_of, parts_of, phrase_of}

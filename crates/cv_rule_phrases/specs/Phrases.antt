@@ -2,7 +2,7 @@
 use Rattle.std.specs.Prelude.{Option, Some, None, option_map}
 use Rattle.cv_syntax.specs.declared.head.Head.{Head}
 use Rattle.cv_syntax.specs.declared.head.Head.TheVariants.{Branch, Name, Binder, Cons}
-use Rattle.cv_scope.specs.Phrases as grammar
+use Rattle.cv_scope_rules.specs.Phrases as grammar
 use Rattle.cv_rule_phrases.specs.declared.phrases.Phrase.{Phrase}
 use Rattle.cv_rule_phrases.specs.declared.phrases.Phrase.TheVariants as code
 

@@ -13,10 +13,10 @@ use Rattle.cv_typing.specs.declared.precedence.Precedence.TheVariants.{First, Ne
 use Rattle.cv_typing.specs.Parts.{nothing_above}
 use Rattle.cv_typing.specs.Signature.{Above}
 use Rattle.cv_typing.specs.Wants.{bound}
-use Rattle.cv_scope.specs.declared.position.Position.{Position}
-use Rattle.cv_scope.specs.declared.position.Position.TheVariants.{Anywhere, Bodies, ElseBody, Guards, Guarded, Cells}
-use Rattle.cv_scope.specs.Context.{Context, context_at, first_context, first_position, item_context, known_at, nothing_known, replications_below, rest_context, second_context, second_position}
-use Rattle.cv_scope.specs.Rules.{is_index}
+use Rattle.cv_scope_rules.specs.declared.position.Position.{Position}
+use Rattle.cv_scope_rules.specs.declared.position.Position.TheVariants.{Anywhere, Bodies, ElseBody, Guards, Guarded, Cells}
+use Rattle.cv_scope_rules.specs.Context.{Context, context_at, first_context, first_position, item_context, known_at, nothing_known, replications_below, rest_context, second_context, second_position}
+use Rattle.cv_scope_rules.specs.Rules.{is_index}
 use Rattle.cv_path.specs.declared.place.Lies.TheVariants.{Here, Within, Behind}
 use Rattle.cv_path.specs.Places.{LiesAt}
 use Rattle.cv_path.proofs.Going.{choice-behind, choice-here, choice-within, less-behind, less-within}

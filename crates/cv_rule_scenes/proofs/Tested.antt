@@ -12,9 +12,9 @@ use Rattle.cv_syntax.specs.Classes.{class_by, class_in, declaration_in}
 use Rattle.cv_syntax.specs.Declarations.{declarations, declared}
 use Rattle.cv_syntax.specs.Tree.{Tree, Empty, Node, first_place, second_place}
 use Rattle.cv_directory.specs.Sites.{first_of}
-use Rattle.cv_scope.specs.Sites.{Variable}
-use Rattle.cv_scope.specs.Made.{made_by}
-use Rattle.cv_scope.specs.Phrases.{binds_none, head_binds_none}
+use Rattle.cv_scope_rules.specs.Sites.{Variable}
+use Rattle.cv_scope_rules.specs.Made.{made_by}
+use Rattle.cv_scope_rules.specs.Phrases.{binds_none, head_binds_none}
 use Rattle.cv_scenes.specs.Scenes.{asks_for, first_reading, has_news_alone, has_some_new, head_names, head_reads, is_new_head, is_type_by, names}
 use Rattle.cv_typing.specs.Signature.{declaration_of}
 use Rattle.cv_typing.proofs.Bridges.{declaration-same}

@@ -11,8 +11,8 @@ use Rattle.cv_typing.specs.Parts.{nothing_above}
 use Rattle.cv_typing.specs.Signature.{OfGame, index_in, variable_in}
 use Rattle.cv_typing.specs.Signature as signature
 use Rattle.cv_typing.specs.Tables.{Map, above_of, arrays_of}
-use Rattle.cv_scope.specs.Context.{known_at}
-use Rattle.cv_scope.specs.Rules.{is_index}
+use Rattle.cv_scope_rules.specs.Context.{known_at}
+use Rattle.cv_scope_rules.specs.Rules.{is_index}
 use Rattle.cv_scenes.specs.Terms.{Names, has_site, indices_above, is_function, names_anywhere, replications_by}
 use Rattle.cv_rule_scenes.specs.Kept.{names_there, has_variable}
 use Rattle.cv_rule_scenes.proofs.Above.{index-above}

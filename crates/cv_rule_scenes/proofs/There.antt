@@ -4,8 +4,8 @@ use Rattle.std.specs.Prelude.{◌||◌}
 use Rattle.cv_syntax.specs.declared.head.Head.{Head}
 use Rattle.cv_syntax.specs.declared.head.Head.TheVariants.{Leaf, Read, Apply}
 use Rattle.cv_syntax.specs.Tree.{Tree, Empty, Node}
-use Rattle.cv_scope.specs.Phrases as grammar
-use Rattle.cv_scope.specs.Phrases.{both_are, parts}
+use Rattle.cv_scope_rules.specs.Phrases as grammar
+use Rattle.cv_scope_rules.specs.Phrases.{both_are, parts}
 use Rattle.cv_scenes.specs.Terms.{Names, head_is_there, is_there}
 use Rattle.cv_rule_phrases.specs.declared.phrases.Phrase.{Phrase}
 use Rattle.cv_rule_phrases.specs.declared.phrases.Phrase.TheVariants.{OneCell}

@@ -1,8 +1,8 @@
 ghost use Rattle.std.specs.Prelude.{◌≡◌, ◌+◌, ◌<◌, ◌^◌, ◌&&◌, ◌||◌, IfErr, IfOk, None, OnOk, Some, length, not};
 ghost use Rattle.cv_pool.specs.Nodes.{ChildBelow};
 ghost use Rattle.cv_syntax.specs.Tree.{size, tree_at};
-ghost use Rattle.cv_scope.specs.Sites.{Variable};
-ghost use Rattle.cv_scope.specs.Made.{made_by};
+ghost use Rattle.cv_scope_rules.specs.Sites.{Variable};
+ghost use Rattle.cv_scope_rules.specs.Made.{made_by};
 ghost use Rattle.cv_scenes.specs.Scenes as scenes;
 ghost use Rattle.cv_rule_scenes.specs.Kept.{scene_of};
 

@@ -1,7 +1,7 @@
 ghost use Rattle.std.specs.Prelude.{◌≡◌, ◌<◌, ◌^◌, All, IfOk, OnOk, Some, length};
 ghost use Rattle.cv_directory.specs.Sites.{sites_of};
 ghost use Rattle.cv_directory.specs.declared.sort.Sort.TheVariants.{BelowParameter};
-ghost use Rattle.cv_scope.specs.Context.{replications_below};
+ghost use Rattle.cv_scope_rules.specs.Context.{replications_below};
 ghost use Rattle.cv_syntax.specs.Tree.{size, tree_at};
 ghost use Rattle.cv_typing.specs.declared.precedence.Precedence.TheVariants.{Newest};
 ghost use Rattle.cv_directory.specs.Live.{IsLive};

@@ -10,14 +10,14 @@ use Rattle.cv_meaning.specs.Runs.{Events, Mode, Random, Real}
 use Rattle.cv_meaning.specs.Side.{CallNumber}
 use Rattle.cv_meaning.specs.Tapes.{Made_at, New_at}
 use Rattle.cv_meaning_contexts.specs.Bodies.{function_called}
-use Rattle.cv_scope.specs.Context.{cell_of, first_position, replications_below}
-use Rattle.cv_scope.specs.Phrases.{Phrase, Branches, Cells, Else, Guarded, Guards, Inputs, IsWellFormed, OneCell, Then, parts}
-use Rattle.cv_scope.specs.Rules.{is_index}
+use Rattle.cv_scope_rules.specs.Context.{cell_of, first_position, replications_below}
+use Rattle.cv_scope_rules.specs.Phrases.{Phrase, Branches, Cells, Else, Guarded, Guards, Inputs, IsWellFormed, OneCell, Then, parts}
+use Rattle.cv_scope_rules.specs.Rules.{is_index}
 use Rattle.cv_scenes.specs.Sights.{variable_of}
 use Rattle.cv_scenes.specs.Instances.{Matching, call_at, filled}
 use Rattle.cv_scenes.specs.Sites.{Site, is_guard, sites_in}
-use Rattle.cv_scope.specs.declared.position.Position.{Position}
-use Rattle.cv_scope.specs.declared.position.Position.TheVariants as position
+use Rattle.cv_scope_rules.specs.declared.position.Position.{Position}
+use Rattle.cv_scope_rules.specs.declared.position.Position.TheVariants as position
 use Rattle.cv_scenes.specs.LeftTerms.{IsLeftFunction}
 use Rattle.cv_scenes.specs.Standing.{AreAsMany}
 use Rattle.cv_scenes.specs.Reductions.{Reduction, is_answer, is_coin, is_plain, matching, oracles, sites}

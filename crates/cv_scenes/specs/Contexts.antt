@@ -9,9 +9,9 @@ use Rattle.cv_syntax.specs.Tree.{Tree, Empty, Node, chain, first, second}
 use Rattle.cv_meaning.specs.Interpretation.{is_constant_of}
 use Rattle.cv_meaning_contexts.specs.Groups.{Left, side_group}
 use Rattle.cv_meaning_contexts.specs.Sides.{Context}
-use Rattle.cv_scope.specs.declared.position.Position.{Position}
-use Rattle.cv_scope.specs.declared.position.Position.TheVariants.{Anywhere}
-use Rattle.cv_scope.specs.Context.{cell_of, first_position, replications_below, second_position}
+use Rattle.cv_scope_rules.specs.declared.position.Position.{Position}
+use Rattle.cv_scope_rules.specs.declared.position.Position.TheVariants.{Anywhere}
+use Rattle.cv_scope_rules.specs.Context.{cell_of, first_position, replications_below, second_position}
 use Rattle.cv_scenes.specs.Scenes.{Scene, is_queried, names}
 use Rattle.cv_scenes.specs.Sights.{variable_of}
 use Rattle.cv_scenes.specs.Instances.{Instance, Matching, call_at, is_read_of}

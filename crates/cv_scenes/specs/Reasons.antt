@@ -10,8 +10,8 @@ use Rattle.cv_syntax.specs.Head.{same_head}
 use Rattle.cv_syntax.specs.Tree.{Tree, Empty, Node, bound_names, first, second, same_tree}
 use Rattle.cv_directory.specs.declared.sort.Sort.TheVariants.{OfType}
 use Rattle.cv_typing.specs.Signature.{declaration_of}
-use Rattle.cv_scope.specs.Context.{items}
-use Rattle.cv_scope.specs.Rules.{is_index}
+use Rattle.cv_scope_rules.specs.Context.{items}
+use Rattle.cv_scope_rules.specs.Rules.{is_index}
 use Rattle.cv_scenes.specs.Terms.{replications_at}
 use Rattle.cv_derivations.specs.Given.{with_given}
 use Rattle.cv_derivations.specs.Inferences.{Visible, are_equal_by, cited_cell, equations_of, is_both, is_left, is_refuted, is_reflexive, is_replaced_by, is_right_side, is_symmetric, is_transitive, number_of, cited_term}

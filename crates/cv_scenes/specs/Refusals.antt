@@ -7,12 +7,12 @@ use Rattle.cv_syntax.specs.declared.head.Head.TheVariants.{Leaf, New}
 use Rattle.cv_syntax.specs.Tree.{Tree, Empty, Node, first_place, same_tree, second_place}
 use Rattle.cv_meaning_contexts.specs.Groups.{Function}
 use Rattle.cv_directory.specs.Sites.{first_of}
-use Rattle.cv_scope.specs.declared.position.Position.{Position}
-use Rattle.cv_scope.specs.declared.position.Position.TheVariants.{Anywhere, Guarded}
-use Rattle.cv_scope.specs.Context.{cell_of, first_position, replications_below, second_position}
-use Rattle.cv_scope.specs.Made.{made_by}
-use Rattle.cv_scope.specs.Sites.{Variable}
-use Rattle.cv_scope.specs.Tests.{same_replications}
+use Rattle.cv_scope_rules.specs.declared.position.Position.{Position}
+use Rattle.cv_scope_rules.specs.declared.position.Position.TheVariants.{Anywhere, Guarded}
+use Rattle.cv_scope_rules.specs.Context.{cell_of, first_position, replications_below, second_position}
+use Rattle.cv_scope_rules.specs.Made.{made_by}
+use Rattle.cv_scope_rules.specs.Sites.{Variable}
+use Rattle.cv_scope_rules.specs.Tests.{same_replications}
 use Rattle.cv_scenes.specs.Scenes.{first_reading, head_reads, is_queried}
 use Rattle.cv_scenes.specs.Sights.{variable_of}
 use Rattle.cv_scenes.specs.Instances.{Call, Matching, call_at}

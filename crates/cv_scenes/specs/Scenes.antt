@@ -10,8 +10,8 @@ use Rattle.cv_meaning.specs.Replaced.{is_output}
 use Rattle.cv_directory.specs.Sites.{first_of}
 use Rattle.cv_typing.specs.Signature.{declaration_of}
 use Rattle.cv_meaning.specs.Queries.{queries_in}
-use Rattle.cv_scope.specs.Sites.{Variable}
-use Rattle.cv_scope.specs.Made.{made_by}
+use Rattle.cv_scope_rules.specs.Sites.{Variable}
+use Rattle.cv_scope_rules.specs.Made.{made_by}
 
 pub record Scene : Type 0 where
   pub declarations : List Declaration

@@ -3,14 +3,14 @@
 use Rattle.std.specs.Prelude.{ℕ, zero, suc, Bool, ◌&&◌, not, List, [], ◌∷◌, map, slice_get, is_some, Option, Some, None, option_and_then}
 use Rattle.cv_syntax.specs.declared.head.Head.TheVariants.{Leaf, Read}
 use Rattle.cv_syntax.specs.Tree.{Tree, Node, first}
-use Rattle.cv_scope.specs.Context.{Context}
-use Rattle.cv_scope.specs.Phrases.{OneCell, is_phrase}
+use Rattle.cv_scope_rules.specs.Context.{Context}
+use Rattle.cv_scope_rules.specs.Phrases.{OneCell, is_phrase}
 use Rattle.cv_directory.specs.declared.sort.Sort.{Sort}
 use Rattle.cv_typing.specs.Signature.{sort_of}
 use Rattle.cv_typing.specs.Typing.{first_fault}
 use Rattle.cv_typing.specs.Wants.{AnyTerm}
-use Rattle.cv_scope.specs.Behind.{sites_of}
-use Rattle.cv_scope.specs.Above.{stands_at}
+use Rattle.cv_scope_rules.specs.Behind.{sites_of}
+use Rattle.cv_scope_rules.specs.Above.{stands_at}
 use Rattle.cv_scenes.specs.Scenes.{Scene}
 use Rattle.cv_scenes.specs.Terms.{above_at, is_bool_at, is_sort, is_term_at, is_there, names_at, signature_in}
 use Rattle.cv_derivations.specs.Given.{with_given}

@@ -14,10 +14,10 @@ use Rattle.cv_typing.specs.Wants.{AnyTerm, bound}
 use Rattle.cv_typing.specs.declared.precedence.Precedence.TheVariants.{First}
 use Rattle.cv_typing.specs.Typing as typing
 use Rattle.cv_typing.specs.Parts.{first_in, game_part, nothing_above, signature_of}
-use Rattle.cv_scope.specs.Context.{Context, known_at}
-use Rattle.cv_scope.specs.Rules.{is_index}
-use Rattle.cv_scope.specs.Scope.{first_scope_fault}
-use Rattle.cv_scope.specs.Phrases.{Phrase, Term, OneCell, Inputs, parts, both_are, is_phrase, binds_none}
+use Rattle.cv_scope_rules.specs.Context.{Context, known_at}
+use Rattle.cv_scope_rules.specs.Rules.{is_index}
+use Rattle.cv_scope_rules.specs.Scope.{first_scope_fault}
+use Rattle.cv_scope_rules.specs.Phrases.{Phrase, Term, OneCell, Inputs, parts, both_are, is_phrase, binds_none}
 use Rattle.cv_scenes.specs.Scenes.{Scene}
 
 -- names

@@ -6,28 +6,28 @@ use Rattle.cv_syntax.specs.declared.head.Head.TheVariants.{Leaf, Read}
 use Rattle.cv_syntax.specs.Head.{weight}
 use Rattle.cv_syntax.specs.Tree.{Tree, Empty, Node, size}
 use Rattle.cv_directory.specs.Sites.{first_of}
-use Rattle.cv_scope.specs.declared.fault.Fault.{Fault}
-use Rattle.cv_scope.specs.declared.fault.Fault.TheVariants as fault
+use Rattle.cv_scope_rules.specs.declared.fault.Fault.{Fault}
+use Rattle.cv_scope_rules.specs.declared.fault.Fault.TheVariants as fault
 use Rattle.cv_syntax.specs.Declarations.{Declaration}
 use Rattle.cv_syntax.specs.Children.{is_empty}
-use Rattle.cv_scope.specs.declared.fault.ScopeFault.{ScopeFault}
-use Rattle.cv_scope.specs.declared.fault.ScopeFault.TheVariants as refused
-use Rattle.cv_scope.specs.Refusals.{IsFirstRefusal, IsRefusalOf}
-use Rattle.cv_scope.specs.declared.position.Position.{Position}
-use Rattle.cv_scope.specs.declared.position.Position.TheVariants.{Anywhere, OneCell}
-use Rattle.cv_scope.specs.Rules.{Names, is_index, carries_current}
-use Rattle.cv_scope.specs.Scope.{IsFirstFault, IsScoped, IsScopedAt, first_fault, first_scope_fault, names_of}
+use Rattle.cv_scope_rules.specs.declared.fault.ScopeFault.{ScopeFault}
+use Rattle.cv_scope_rules.specs.declared.fault.ScopeFault.TheVariants as refused
+use Rattle.cv_scope_rules.specs.Refusals.{IsFirstRefusal, IsRefusalOf}
+use Rattle.cv_scope_rules.specs.declared.position.Position.{Position}
+use Rattle.cv_scope_rules.specs.declared.position.Position.TheVariants.{Anywhere, OneCell}
+use Rattle.cv_scope_rules.specs.Rules.{Names, is_index, carries_current}
+use Rattle.cv_scope_rules.specs.Scope.{IsFirstFault, IsScoped, IsScopedAt, first_fault, first_scope_fault, names_of}
 use Rattle.cv_scope.specs.Seen.{Seen, fault_seen, current, found, is_defined_at, is_reached, is_read_reached, is_scoped_read, is_well_replicated, may_stand_last, no_site, nothing_seen, second_seen, with_node, with_sites, with_tree}
-use Rattle.cv_scope.specs.Sites.{InOneOf, Site, channel_here, named_here, sites_from, sites_here}
-use Rattle.cv_scope.specs.Standing.{Standing, at_root, first_standing, second_standing, parts_ways, passed_second}
-use Rattle.cv_scope.specs.Tests.{fault_of, is_in_scope, may_stand, reads_in_reach}
-use Rattle.cv_scope.proofs.Apart.{IsApart, IsBefore, IsWithin, before-first, before-second, first-replications, second-replications, here-apart, in-fewer, in-last, in-more, past-end, tree-apart, tree-within}
-use Rattle.cv_scope.proofs.Decided.{first_failing, node-obeys}
+use Rattle.cv_scope_rules.specs.Sites.{InOneOf, Site, channel_here, named_here, sites_from, sites_here}
+use Rattle.cv_scope_rules.specs.Standing.{Standing, at_root, first_standing, second_standing, parts_ways, passed_second}
+use Rattle.cv_scope_rules.specs.Tests.{fault_of, is_in_scope, may_stand, reads_in_reach}
+use Rattle.cv_scope_rules.proofs.Apart.{IsApart, IsBefore, IsWithin, before-first, before-second, first-replications, second-replications, here-apart, in-fewer, in-last, in-more, past-end, tree-apart, tree-within}
+use Rattle.cv_scope_rules.proofs.Decided.{first_failing, node-obeys}
 use Rattle.cv_scope.proofs.Faults.{sites-append}
-use Rattle.cv_scope.proofs.First.{finds_first, scoped_where_none}
+use Rattle.cv_scope_rules.proofs.First.{finds_first, scoped_where_none}
 use Rattle.cv_scope.proofs.Latest.{IsCovered, all-stand}
-use Rattle.cv_scope.specs.Branches.{Each, Pairs, IsLike}
-use Rattle.cv_scope.proofs.Pairs.{each-weaker, pairs-append, pairs-of, pairs-weaker}
+use Rattle.cv_scope_rules.specs.Branches.{Each, Pairs, IsLike}
+use Rattle.cv_scope_rules.proofs.Pairs.{each-weaker, pairs-append, pairs-of, pairs-weaker}
 use Rattle.cv_scope.proofs.Reaching.{and-false, or-false, AreBounded, ReachesAlike, bounded-behind, reaches-first, reaches-second}
 
 -- the tables hold what is known where a node stands
@@ -167,7 +167,7 @@ pub second-agrees : (names : Names) (S : Seen) (s : Standing) (h : Head) (a b : 
 second-agrees names S s h a b e i m =
     let T = with_tree (with_node S s.place h a) (s.place + weight h) a in
     record {
-      replications = ap (Rattle.cv_scope.specs.Context.replications_below h) m.replications ∙ sym (second-replications s.position h a s.known);
+      replications = ap (Rattle.cv_scope_rules.specs.Context.replications_below h) m.replications ∙ sym (second-replications s.position h a s.known);
       passed = passed-agrees S s h a m;
       last = last-second S s h a m;
       reach = reaches-second T s.position h a (s.place + weight h) (s.place + weight h + size a) s.known m.replications m.bounded m.reach;

@@ -1,7 +1,7 @@
 -- Terms by the heads and the children of their nodes.
 use Rattle.std.proofs.Common.{◌≡◌, ◌≤◌, ℕ, zero, suc, Bool, true, false, refl, ap, sym, ◌∙◌, arith, nat_eq, eqb-true, List, [], ◌∷◌, length, drop}
 use Rattle.std.proofs.lemmas.Bool.{eq-eqb, ne_eqb, eqb-false}
-use Rattle.cv_scope.specs.Rules.{carries}
+use Rattle.cv_scope_rules.specs.Rules.{carries}
 use Rattle.cv_syntax.specs.Tree.{Tree, Empty}
 use Rattle.cv_syntax.proofs.Trees.{tree_of-NoTree}
 

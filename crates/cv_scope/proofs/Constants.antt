@@ -12,7 +12,7 @@ use Rattle.cv_directory.specs.Sites.{SitesView, sites_of}
 use Rattle.cv_directory.specs.Tables.{seen}
 use Rattle.cv_scope.specs.declared.names.NameKinds.{NameKinds}
 use Rattle.cv_scope.specs.Held.{constant_by, has_constant, is_here, names_held}
-use Rattle.cv_scope.specs.Scope.{names_of}
+use Rattle.cv_scope_rules.specs.Scope.{names_of}
 
 or-assoc : (a b c : Bool) → ((a || b) || c) ≡ (a || (b || c))
 or-assoc true b c = refl

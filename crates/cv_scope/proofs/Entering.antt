@@ -6,9 +6,9 @@ use Rattle.cv_syntax.specs.declared.head.Head.{Head}
 use Rattle.cv_syntax.specs.declared.head.Head.TheVariants.{Repl, In, New, Let, Find, Branch, Cons, Key, Call}
 use Rattle.cv_syntax.specs.Tree.{Tree}
 use Rattle.cv_scope_heads.specs.Heads.{variable_of}
-use Rattle.cv_scope.specs.declared.position.Position.{Position}
+use Rattle.cv_scope_rules.specs.declared.position.Position.{Position}
 use Rattle.cv_scope.specs.declared.state.State.{State}
-use Rattle.cv_scope.specs.Context.{replications_below}
+use Rattle.cv_scope_rules.specs.Context.{replications_below}
 use Rattle.cv_scope.specs.Held.{AreListed, DefinesOnly, Extends, IsEntered, ListsOnly, cells_held, state_held}
 use Rattle.cv_scope.specs.Seen.{defined_by, is_defined, listed_by, passed_by, with_definition, with_definitions}
 

@@ -5,12 +5,12 @@ use Rattle.cv_syntax.specs.declared.head.Head.{Head}
 use Rattle.cv_syntax.specs.declared.head.Head.TheVariants.{In, New, Let, Find, Branch, Key, Call}
 use Rattle.cv_syntax.specs.Tree.{Tree, second}
 use Rattle.cv_meaning.specs.Binders.{bound_names}
-use Rattle.cv_scope.specs.declared.fault.Fault.TheVariants as fault
+use Rattle.cv_scope_rules.specs.declared.fault.Fault.TheVariants as fault
 use Rattle.cv_scope.specs.declared.state.State.{State}
 use Rattle.cv_scope.specs.Held.{OnlySites, last_held}
 use Rattle.cv_scope.specs.Seen.{may_follow_last, may_stand_last, with_site, with_sites}
-use Rattle.cv_scope.specs.Sites.{Site, SiteName, Variable, Channel, Label, channel_here, named_here, sites_here, site_of}
-use Rattle.cv_scope.proofs.Decided.{first_failing}
+use Rattle.cv_scope_rules.specs.Sites.{Site, SiteName, Variable, Channel, Label, channel_here, named_here, sites_here, site_of}
+use Rattle.cv_scope_rules.proofs.Decided.{first_failing}
 use Rattle.cv_scope.proofs.Noting.{above-again}
 
 pub sites-append : (last : SiteName → Option Site) (xs ys : List Site) → with_sites last (xs ++ ys) ≡ with_sites (with_sites last xs) ys
@@ -33,7 +33,7 @@ named-keep last rs p (Find l) a c = refl
 named-keep last rs p h a c = refl
 
 channel-by : (passed rs : List (ℕ × ℕ)) (p : ℕ) (h : Head) (a : Tree) (last new : SiteName → Option Site) → ((c : ℕ) → new (Channel c) ≡ last (Channel c)) → may_stand_last passed new (channel_here rs p h a) ≡ may_stand_last passed last (channel_here rs p h a)
-channel-by passed rs p (In c) a last new e = ap (λ o. may_follow_last passed (record { name = Channel c; replications = rs; types = Rattle.cv_scope.specs.Sites.bound_types (second a); place = p }) o && true) (e c)
+channel-by passed rs p (In c) a last new e = ap (λ o. may_follow_last passed (record { name = Channel c; replications = rs; types = Rattle.cv_scope_rules.specs.Sites.bound_types (second a); place = p }) o && true) (e c)
 channel-by passed rs p h a last new e = refl
 
 -- the site of a channel may stand behind those that were there before the node's variables

@@ -6,25 +6,25 @@ use Rattle.cv_syntax.specs.declared.head.Head.{Head}
 use Rattle.cv_syntax.specs.Head.{weight}
 use Rattle.cv_syntax.specs.Tree.{Tree, Empty, Node, size}
 use Rattle.cv_directory.specs.Sites.{first_of}
-use Rattle.cv_scope.specs.declared.fault.Fault.{Fault}
-use Rattle.cv_scope.specs.declared.fault.Fault.TheVariants as fault
-use Rattle.cv_scope.specs.declared.fault.ScopeFault.{ScopeFault}
-use Rattle.cv_scope.specs.declared.fault.ScopeFault.TheVariants as refused
+use Rattle.cv_scope_rules.specs.declared.fault.Fault.{Fault}
+use Rattle.cv_scope_rules.specs.declared.fault.Fault.TheVariants as fault
+use Rattle.cv_scope_rules.specs.declared.fault.ScopeFault.{ScopeFault}
+use Rattle.cv_scope_rules.specs.declared.fault.ScopeFault.TheVariants as refused
 use Rattle.cv_scope.specs.declared.enter.Marks.{Marks}
-use Rattle.cv_scope.specs.declared.position.Position.{Position}
+use Rattle.cv_scope_rules.specs.declared.position.Position.{Position}
 use Rattle.cv_scope.specs.declared.state.State.{State}
-use Rattle.cv_scope.specs.Context.{first_position, second_position, replications_below}
+use Rattle.cv_scope_rules.specs.Context.{first_position, second_position, replications_below}
 use Rattle.cv_scope.specs.Held.{Extends, HasLiveBinders, IsEntered, IsTaken, Keeps, OnlySites, SameAbove, cells_held, last_held, state_held}
-use Rattle.cv_scope.specs.Refusals.{IsRefusalOf, named, refusal}
-use Rattle.cv_scope.specs.Rules.{Names}
+use Rattle.cv_scope_rules.specs.Refusals.{IsRefusalOf, named, refusal}
+use Rattle.cv_scope_rules.specs.Rules.{Names}
 use Rattle.cv_first_fault.specs.Walk.{placed}
 use Rattle.cv_first_fault.proofs.Steps as steps
 use Rattle.cv_scope.specs.Seen.{Seen, behind, fault_seen, found, passed_by, second_seen, with_node, with_sites, with_tree}
-use Rattle.cv_scope.specs.Sites.{Site, SiteName, sites_from, sites_here}
-use Rattle.cv_scope.specs.Ordered.{EndBy}
-use Rattle.cv_scope.specs.Standing.{parts_ways}
+use Rattle.cv_scope_rules.specs.Sites.{Site, SiteName, sites_from, sites_here}
+use Rattle.cv_scope_rules.specs.Ranges.{EndBy}
+use Rattle.cv_scope_rules.specs.Standing.{parts_ways}
 use Rattle.cv_scope.proofs.Entering.{front-all}
-use Rattle.cv_scope.proofs.Stacks.{end-later, end-push}
+use Rattle.cv_scope_rules.proofs.Ranges.{end-later, end-push}
 use Rattle.cv_scope.proofs.Faults.{sites-append}
 
 -- what is found

@@ -3,14 +3,14 @@ use Rattle.std.proofs.Common.{◌≡◌, ℕ, Bool, true, false, ◌&&◌, cond,
 use Rattle.std.specs.List.{AllByRecursion, list_all}
 use Rattle.std.proofs.lemmas.Bool.{and_parts, and_from, both_ways}
 use Rattle.cv_directory.specs.Sites.{first_of}
-use Rattle.cv_scope.specs.Rules.{AreAlike, MayFollow}
+use Rattle.cv_scope_rules.specs.Rules.{AreAlike, MayFollow}
 use Rattle.cv_scope.specs.Seen.{may_follow_last, may_stand_last, no_site, with_site, with_sites}
-use Rattle.cv_scope.specs.Sites.{InOneOf, Site, SiteName}
-use Rattle.cv_scope.specs.Tests.{is_in_one_of, may_follow, may_stand, same_name}
-use Rattle.cv_scope.proofs.Decided.{alike-found, alike-tested, follows-found, follows-tested, name-same, ranges-found, ranges-tested, same-name}
+use Rattle.cv_scope_rules.specs.Sites.{InOneOf, Site, SiteName}
+use Rattle.cv_scope_rules.specs.Tests.{is_in_one_of, may_follow, may_stand, same_name}
+use Rattle.cv_scope_rules.proofs.Decided.{alike-found, alike-tested, follows-found, follows-tested, name-same, ranges-found, ranges-tested, same-name}
 use Rattle.cv_scope.proofs.Faults.{sites-append}
-use Rattle.cv_scope.specs.Branches.{Pairs}
-use Rattle.cv_scope.proofs.Pairs.{all-weaker, pairs-append}
+use Rattle.cv_scope_rules.specs.Branches.{Pairs}
+use Rattle.cv_scope_rules.proofs.Pairs.{all-weaker, pairs-append}
 
 -- an earlier site is in another branch where a later one of its name is, and they are alike
 abbrev pub IsCovered : List (ℕ × ℕ) → Site → Site → Type 0

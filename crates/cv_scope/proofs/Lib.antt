@@ -6,13 +6,6 @@ pub mod Faults
 pub mod Stacks
 pub mod Listing
 pub mod Comparing
-pub mod Trees
 pub mod Agreeing
 pub mod Reaching
-pub mod Pairs
-pub mod Apart
 pub mod Constants
-pub mod Decided
-pub mod First
-pub mod Plain
-pub mod Unbound

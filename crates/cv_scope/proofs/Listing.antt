@@ -9,7 +9,7 @@ use Rattle.cv_pool.specs.declared.node.NodeId.{NodeId}
 use Rattle.cv_syntax.specs.Tree.{Tree, same_tree, tree_at}
 use Rattle.cv_scope.specs.Held.{cells_held}
 use Rattle.cv_scope.specs.Ordered.{AreNumbersPlaced, IsPlacedBy, MapFrom, has_number, is_node}
-use Rattle.cv_scope.proofs.Trees.{same-tree}
+use Rattle.cv_scope_rules.proofs.Trees.{same-tree}
 
 abbrev Cells : Type 0
 Cells = List (Option NodeId)

@@ -5,11 +5,13 @@ use Rattle.std.specs.List.{AllByRecursion}
 use Rattle.std.proofs.lemmas.Bool.{and_parts, and_from, or_cases, or_left, or_right, both_ways, eq-eqb, not_from_true, lt-ltb, le-ltb, or_from, and_left, and_right, leb-true, leb-false}
 use Rattle.std.specs.List.Sorted.{IsNonDecreasingBy}
 use Rattle.cv_directory.specs.Pairs.{same_pair}
-use Rattle.cv_scope.specs.Ordered.{IsPlaced, EndBy, Rise}
+use Rattle.cv_scope_rules.specs.Ranges.{EndBy}
+use Rattle.cv_scope.specs.Ordered.{IsPlaced, Rise}
 use Rattle.cv_scope.specs.declared.places.Places.{Places}
+use Rattle.cv_scope_rules.proofs.Ranges.{all-push}
 use Rattle.cv_scope.specs.Places.{place_of}
 use Rattle.cv_scope.specs.Seen.{is_defined}
-use Rattle.cv_scope.specs.Tests.{is_in_one_of}
+use Rattle.cv_scope_rules.specs.Tests.{is_in_one_of}
 
 -- pairs
 
@@ -96,21 +98,10 @@ placed-take n ds m i = λ k d s. i k d (get-take n ds k d s)
 
 -- ranges
 
-all-push : (P : ℕ × ℕ → Type 0) (rs : List (ℕ × ℕ)) (r : ℕ × ℕ) → AllByRecursion P rs → P r → AllByRecursion P (rs ++ r ∷ [])
-all-push P [] r a p = (p, tt)
-all-push P (q ∷ rs) r a p = (a.0, all-push P rs r a.1 p)
-
 all-take : (P : ℕ × ℕ → Type 0) (n : ℕ) (rs : List (ℕ × ℕ)) → AllByRecursion P rs → AllByRecursion P (take n rs)
 all-take P zero rs a = tt
 all-take P (suc n) [] a = tt
 all-take P (suc n) (r ∷ rs) a = (a.0, all-take P n rs a.1)
-
-pub end-push : (p from to : ℕ) (rs : List (ℕ × ℕ)) → EndBy p rs → to ≤ p → EndBy p (rs ++ (from, to) ∷ [])
-end-push p from to rs a h = all-push (λ r. r.1 ≤ p) rs (from, to) a h
-
-pub end-later : (p q : ℕ) (rs : List (ℕ × ℕ)) → EndBy p rs → p ≤ q → EndBy q rs
-end-later p q [] a h = tt
-end-later p q (r ∷ rs) a h = (omega (arith, a.0, h), end-later p q rs a.1 h)
 
 pub rise-push : (from to : ℕ) (rs : List (ℕ × ℕ)) → Rise rs → EndBy from rs → from ≤ to → Rise (rs ++ (from, to) ∷ [])
 rise-push from to [] s a h = (tt, h, tt)

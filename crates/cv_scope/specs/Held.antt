@@ -8,7 +8,7 @@ use Rattle.cv_syntax.specs.declared.decls.Class.TheVariants.{Fun}
 use Rattle.cv_syntax.specs.declared.decls.Decl.{Decl}
 use Rattle.cv_syntax.specs.Declarations.{Declaration, Named, declared}
 use Rattle.cv_syntax.specs.declared.head.Head.{Head}
-use Rattle.cv_scope.specs.declared.position.Position.{Position}
+use Rattle.cv_scope_rules.specs.declared.position.Position.{Position}
 use Rattle.cv_syntax.specs.declared.open.Opened.{Opened}
 use Rattle.cv_syntax.specs.Tree.{Tree, Empty, Node, tree_at}
 use Rattle.cv_syntax.specs.Walks.{above}
@@ -16,13 +16,13 @@ use Rattle.cv_meaning.specs.Binders.{bound_names}
 use Rattle.cv_scope.specs.declared.binders.FirstBinder.{FirstBinder}
 use Rattle.cv_directory.specs.Tables.{seen}
 use Rattle.cv_scope.specs.declared.names.NameKinds.{NameKinds}
-use Rattle.cv_scope.specs.Rules.{Names}
+use Rattle.cv_scope_rules.specs.Rules.{Names}
 use Rattle.cv_scope.specs.declared.enter.Marks.{Marks}
 use Rattle.cv_scope.specs.declared.state.State.{State}
 use Rattle.cv_scope.specs.Seen.{Seen, behind, with_sites}
 use Rattle.cv_scope.specs.declared.lasts.LastSite.{LastSite}
 use Rattle.cv_scope.specs.declared.lasts.Lasts.{Lasts}
-use Rattle.cv_scope.specs.Sites.{Site, SiteName, Variable, Channel, Label, bound_types}
+use Rattle.cv_scope_rules.specs.Sites.{Site, SiteName, Variable, Channel, Label, bound_types}
 
 -- sites
 

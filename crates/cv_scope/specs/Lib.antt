@@ -1,17 +1,4 @@
-pub mod Context
-pub mod Sites
-pub mod Standing
-pub mod Rules
-pub mod Tests
-pub mod Scope
-pub mod Refusals
-pub mod Worked
 pub mod Seen
 pub mod Held
 pub mod Ordered
 pub mod Places
-pub mod Branches
-pub mod Phrases
-pub mod Made
-pub mod Behind
-pub mod Above

@@ -37,10 +37,6 @@ pub record IsPlacedBy (cells : List (Option NodeId)) (places : MapFrom ℕ ℕ) 
 abbrev pub AreNumbersPlaced : List (Option NodeId) → MapFrom ℕ ℕ → Type 0
 AreNumbersPlaced cells places = (k : ℕ) (c : NodeId) → slice_index_or cells k None ≡ Some c → IsPlacedBy cells places k c.0
 
--- ranges that end at or before a place
-abbrev pub EndBy : ℕ → List (ℕ × ℕ) → Type 0
-EndBy p ranges = AllByRecursion (λ (r : ℕ × ℕ). r.1 ≤ p) ranges
-
 -- ranges one behind the other
 abbrev pub Rise : List (ℕ × ℕ) → Type 0
 Rise [] = Unit {0}

@@ -9,15 +9,15 @@ use Rattle.cv_syntax.specs.Tree.{Tree, Empty, Node, second, same_tree, first_pla
 use Rattle.cv_meaning.specs.Binders.{bound_names}
 use Rattle.cv_directory.specs.Sites.{first_of}
 use Rattle.cv_directory.specs.Pairs.{same_pair}
-use Rattle.cv_scope.specs.declared.fault.Fault.{Fault}
-use Rattle.cv_scope.specs.declared.fault.Fault.TheVariants.{Unscoped, TwoSites, Channel, Replications}
-use Rattle.cv_scope.specs.declared.position.Position.{Position}
-use Rattle.cv_scope.specs.declared.position.Position.TheVariants.{Guards, Cells, OneCell}
-use Rattle.cv_scope.specs.Context.{items, replications_below, first_position, second_position}
-use Rattle.cv_scope.specs.Sites.{Site, SiteName, named_here, channel_here, sites_here, sites_from}
-use Rattle.cv_scope.specs.Standing.{parts_ways}
-use Rattle.cv_scope.specs.Rules.{Names, is_index, carries_current}
-use Rattle.cv_scope.specs.Tests.{same_name, is_in_one_of, are_alike, is_few_indices, binds_new_index}
+use Rattle.cv_scope_rules.specs.declared.fault.Fault.{Fault}
+use Rattle.cv_scope_rules.specs.declared.fault.Fault.TheVariants.{Unscoped, TwoSites, Channel, Replications}
+use Rattle.cv_scope_rules.specs.declared.position.Position.{Position}
+use Rattle.cv_scope_rules.specs.declared.position.Position.TheVariants.{Guards, Cells, OneCell}
+use Rattle.cv_scope_rules.specs.Context.{items, replications_below, first_position, second_position}
+use Rattle.cv_scope_rules.specs.Sites.{Site, SiteName, named_here, channel_here, sites_here, sites_from}
+use Rattle.cv_scope_rules.specs.Standing.{parts_ways}
+use Rattle.cv_scope_rules.specs.Rules.{Names, is_index, carries_current}
+use Rattle.cv_scope_rules.specs.Tests.{same_name, is_in_one_of, are_alike, is_few_indices, binds_new_index}
 use Rattle.cv_first_fault.specs.Walk.{placed}
 
 pub record Seen : Type 0 where

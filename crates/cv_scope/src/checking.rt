@@ -4,15 +4,14 @@ ghost use Rattle.cv_syntax.specs.Tree.{size, tree_at};
 ghost use Rattle.cv_directory.specs.Sites.{sites_of};
 ghost use Rattle.cv_directory.specs.Tables.{seen};
 ghost use Rattle.cv_directory.specs.Live.{IsLive};
-ghost use Rattle.cv_scope.specs.Refusals.{IsFirstRefusal, IsRefusalOf};
-ghost use Rattle.cv_scope.specs.Scope.{IsScoped, first_scope_fault};
+ghost use Rattle.cv_scope_rules.specs.Refusals.{IsFirstRefusal, IsRefusalOf};
+ghost use Rattle.cv_scope_rules.specs.Scope.{IsScoped, first_scope_fault};
 
-use crate::fault::ScopeFault;
 use crate::names::NameKinds;
-use crate::position::Position;
 use crate::state::State;
 use crate::walk::walk;
 use cv_directory::Directory;
+use cv_scope_rules::{Position, ScopeFault};
 use cv_syntax::{Game, Work};
 use std::alloc::Global;
 

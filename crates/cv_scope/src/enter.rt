@@ -3,15 +3,15 @@ ghost use Rattle.cv_pool.specs.Nodes.{ChildBelow};
 ghost use Rattle.cv_syntax.specs.declared.head.Head.TheVariants as Head;
 ghost use Rattle.cv_syntax.specs.Tree.{tree_at};
 ghost use Rattle.cv_meaning.specs.Binders.{bound_names};
-ghost use Rattle.cv_scope.specs.Context.{items};
+ghost use Rattle.cv_scope_rules.specs.Context.{items};
 ghost use Rattle.cv_scope.specs.Held.{AreListed, DefinesOnly, IsEntered, IsTaken, ListsOnly, state_held};
-ghost use Rattle.cv_scope.specs.Ordered.{EndBy};
+ghost use Rattle.cv_scope_rules.specs.Ranges.{EndBy};
 ghost use Rattle.cv_scope.specs.Seen.{with_definition, with_definitions};
 
 use crate::binders::first_binder;
-use crate::position::Position;
 use crate::state::State;
 use cv_scope_heads::variable_of;
+use cv_scope_rules::Position;
 use cv_syntax::children::second_of;
 use cv_syntax::{Head, NodeId, Pool, read_node};
 use std::alloc::AllocError;

@@ -7,7 +7,7 @@ ghost use Rattle.cv_directory.specs.Sites.{sites_of};
 ghost use Rattle.cv_directory.specs.Tables.{seen};
 ghost use Rattle.cv_directory.specs.Live.{IsLive};
 ghost use Rattle.cv_scope.specs.Held.{constant_by, has_constant, is_here, names_held};
-ghost use Rattle.cv_scope.specs.Scope.{names_of};
+ghost use Rattle.cv_scope_rules.specs.Scope.{names_of};
 
 use cv_directory::Directory;
 use cv_syntax::children::read_child;
@@ -110,21 +110,21 @@ fn constant_at(pool: &Pool, decls: &Decls, k: u32) -> Option<u32>
 }
 
 /// The constant that a declaration declares.
-#[tactic(auto, using(crate::proofs::Comparing::term_laws))]
 fn constant_of(pool: &Pool, decl: &Decl) -> Option<u32>
     requires { IsLive (length pool.now.trees) decl.now }
     ensures { result ≡ constant_by (declared pool.now.trees decl.now) }
 {
-    match decl {
-        Decl::Name {
-            id,
-            class: Class::Fun { .. },
-            args,
-            ..
-        } => match read_child(pool, *args) {
-            Some(_) => None,
-            None => Some(id.0),
-        },
-        _ => None,
+    let Decl::Name {
+        id,
+        class: Class::Fun { .. },
+        args,
+        ..
+    } = decl
+    else {
+        return None;
+    };
+    match read_child(pool, *args) {
+        Some(_) => None,
+        None => Some(id.0),
     }
 }

@@ -1,6 +1,7 @@
 ghost use Rattle.std.specs.Prelude.{◌≡◌, ◌≤◌, ◌++◌, ◌∷◌, [], length, take, OnOk};
-ghost use Rattle.cv_scope.specs.Ordered.{EndBy, Rise};
-ghost use Rattle.cv_scope.specs.Tests.{is_in_one_of};
+ghost use Rattle.cv_scope_rules.specs.Ranges.{EndBy};
+ghost use Rattle.cv_scope.specs.Ordered.{Rise};
+ghost use Rattle.cv_scope_rules.specs.Tests.{is_in_one_of};
 
 use std::alloc::{AllocError, Global};
 use std::marker::Model;

@@ -6,9 +6,9 @@ ghost use Rattle.cv_scope.specs.Held.{AreListed, IsOpened, cells_held, names_hel
 ghost use Rattle.cv_scope.specs.Seen.{is_reached as is_reached_by, is_scoped_read, reads_definition as is_defined_by};
 
 use crate::names::NameKinds;
-use crate::position::Position;
 use crate::state::State;
 use crate::terms::{current, is_index};
+use cv_scope_rules::Position;
 use cv_syntax::{Head, NodeId, Opened, Pool, same};
 
 /// Whether a node is a cell that a definition above assigns.

@@ -3,17 +3,16 @@ ghost use Rattle.cv_pool.specs.Nodes.{ChildBelow};
 ghost use Rattle.cv_syntax.specs.Tree.{first, tree_at};
 ghost use Rattle.cv_directory.specs.Counting.{count};
 ghost use Rattle.cv_scope.specs.Held.{AreListed, HasLiveBinders, IsOpened, OnlySites, names_held, state_held};
-ghost use Rattle.cv_scope.specs.Rules.{carries_current as are_current};
+ghost use Rattle.cv_scope_rules.specs.Rules.{carries_current as are_current};
 ghost use Rattle.cv_scope.specs.Seen.{fault_seen, is_well_replicated as are_well_replicated};
-ghost use Rattle.cv_scope.specs.Sites.{sites_here};
-ghost use Rattle.cv_scope.specs.Tests.{binds_new_index as is_new_index, is_few_indices};
+ghost use Rattle.cv_scope_rules.specs.Sites.{sites_here};
+ghost use Rattle.cv_scope_rules.specs.Tests.{binds_new_index as is_new_index, is_few_indices};
 
-use crate::fault::Fault;
 use crate::names::NameKinds;
-use crate::position::Position;
 use crate::reads::is_in_scope;
 use crate::state::State;
 use crate::terms::{carries, is_index};
+use cv_scope_rules::{Fault, Position};
 use cv_syntax::{Head, NodeId, Opened, Pool, read_node};
 use std::alloc::{AllocError, Global};
 

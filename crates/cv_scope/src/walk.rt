@@ -2,16 +2,15 @@ ghost use Rattle.std.specs.Prelude.{◌≡◌, ◌<◌, ◌+◌, ◌^◌, None, 
 ghost use Rattle.cv_pool.specs.Nodes.{ChildBelow};
 ghost use Rattle.cv_syntax.specs.Tree.{size, tree_at};
 ghost use Rattle.cv_scope.specs.Held.{AreListed, HasLiveBinders, OnlySites, names_held, state_held};
-ghost use Rattle.cv_scope.specs.Ordered.{EndBy};
-ghost use Rattle.cv_scope.specs.Refusals.{IsRefusalOf};
+ghost use Rattle.cv_scope_rules.specs.Ranges.{EndBy};
+ghost use Rattle.cv_scope_rules.specs.Refusals.{IsRefusalOf};
 ghost use Rattle.cv_scope.specs.Seen.{found};
-ghost use Rattle.cv_scope.specs.Sites.{sites_from};
+ghost use Rattle.cv_scope_rules.specs.Sites.{sites_from};
 
-use crate::fault::ScopeFault;
 use crate::names::NameKinds;
-use crate::position::Position;
 use crate::rules::node_fault;
 use crate::state::State;
+use cv_scope_rules::{Position, ScopeFault};
 use cv_syntax::{NodeId, Pool, read_node};
 use std::alloc::Global;
 

@@ -6,18 +6,18 @@ use Rattle.cv_syntax.specs.declared.head.Head.{Head}
 use Rattle.cv_syntax.specs.declared.head.Head.TheVariants.{In, Branch, Binder}
 use Rattle.cv_syntax.specs.Declarations.{Declaration}
 use Rattle.cv_syntax.specs.Tree.{Tree, Empty, Node, second}
-use Rattle.cv_scope.specs.declared.fault.Fault.TheVariants as fault
-use Rattle.cv_scope.specs.declared.position.Position.{Position}
-use Rattle.cv_scope.specs.declared.position.Position.TheVariants.{Anywhere}
-use Rattle.cv_scope.specs.Context.{Context, nothing_known, first_position, second_position, first_context, second_context}
-use Rattle.cv_scope.specs.Ordered.{EndBy}
-use Rattle.cv_scope.specs.Sites.{Site, Variable, site_of, variable_sites, named_here}
-use Rattle.cv_scope.specs.Rules.{Names, IsInScope, BindsNewIndex}
-use Rattle.cv_scope.specs.Scope.{IsScopedAt, IsScoped, names_of}
-use Rattle.cv_scope.specs.Standing.{Standing, at_root, first_standing, second_standing}
-use Rattle.cv_scope.specs.Branches.{Pairs}
-use Rattle.cv_scope.proofs.Apart.{IsApart, IsBefore, before-first, before-second, past-end, stand-apart}
-use Rattle.cv_scope.specs.Made.{is_bound}
+use Rattle.cv_scope_rules.specs.declared.fault.Fault.TheVariants as fault
+use Rattle.cv_scope_rules.specs.declared.position.Position.{Position}
+use Rattle.cv_scope_rules.specs.declared.position.Position.TheVariants.{Anywhere}
+use Rattle.cv_scope_rules.specs.Context.{Context, nothing_known, first_position, second_position, first_context, second_context}
+use Rattle.cv_scope_rules.specs.Ranges.{EndBy}
+use Rattle.cv_scope_rules.specs.Sites.{Site, Variable, site_of, variable_sites, named_here}
+use Rattle.cv_scope_rules.specs.Rules.{Names, IsInScope, BindsNewIndex}
+use Rattle.cv_scope_rules.specs.Scope.{IsScopedAt, IsScoped, names_of}
+use Rattle.cv_scope_rules.specs.Standing.{Standing, at_root, first_standing, second_standing}
+use Rattle.cv_scope_rules.specs.Branches.{Pairs}
+use Rattle.cv_scope_rules.proofs.Apart.{IsApart, IsBefore, before-first, before-second, past-end, stand-apart}
+use Rattle.cv_scope_rules.specs.Made.{is_bound}
 
 -- the variables of a list of binders are distinct
 abbrev pub AreDistinct : Tree → Type 0

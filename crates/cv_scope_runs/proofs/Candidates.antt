@@ -11,11 +11,11 @@ use Rattle.cv_meaning.specs.Binders.{fits, bound_to}
 use Rattle.cv_meaning.specs.Candidates.{Candidate, is_assigned, are_assigned, is_candidate, candidate, candidates_at, candidates, chosen, tuples_up_to, most_indices, widest}
 use Rattle.cv_meaning_laws.proofs.Lists.{each_append, each_flat_map}
 use Rattle.cv_meaning_runs.proofs.Lists.{all_map}
-use Rattle.cv_scope.specs.declared.position.Position.TheVariants as position
-use Rattle.cv_scope.specs.Context.{Context, cells_of, items, with_cells}
-use Rattle.cv_scope.specs.Phrases.{Terms, Cells, OneCell, is_oracle_phrase}
+use Rattle.cv_scope_rules.specs.declared.position.Position.TheVariants as position
+use Rattle.cv_scope_rules.specs.Context.{Context, cells_of, items, with_cells}
+use Rattle.cv_scope_rules.specs.Phrases.{Terms, Cells, OneCell, is_oracle_phrase}
 use Rattle.cv_scope_runs.specs.Reads.{IsKept, CellAssigned, CellsAssigned}
-use Rattle.cv_scope.specs.Made.{is_bound}
+use Rattle.cv_scope_rules.specs.Made.{is_bound}
 use Rattle.cv_scope_runs.proofs.Asked.{Asked, AreDistinct}
 use Rattle.cv_scope_runs.proofs.OnceGames.{or_left, or_right}
 use Rattle.cv_scope_runs.proofs.TermsLater.{cell, later_same, all_readable_assigned}

@@ -14,12 +14,12 @@ use Rattle.cv_meaning.specs.Runs.{Mode, Answer, Move, run_visits, start}
 use Rattle.cv_meaning_laws.proofs.Counts.{same_tuple_exact}
 use Rattle.cv_meaning_laws.proofs.Lists.{each_append}
 use Rattle.cv_meaning_runs.proofs.Lists.{all_map, all_both}
-use Rattle.cv_scope.specs.Sites.{SiteName, Variable, Label}
-use Rattle.cv_scope.specs.Branches.{Pairs, IsApartByBranches}
-use Rattle.cv_scope.proofs.Pairs.{pairs-append}
-use Rattle.cv_scope.proofs.Apart.{game-branches}
-use Rattle.cv_scope.specs.Phrases.{is_plain, IsWellFormed, IsWellFormedContext}
-use Rattle.cv_scope.specs.Made.{is_bound, is_own_at, is_own_of, made_at, MakeApart, AssignsNew, OwnUnassigned}
+use Rattle.cv_scope_rules.specs.Sites.{SiteName, Variable, Label}
+use Rattle.cv_scope_rules.specs.Branches.{Pairs, IsApartByBranches}
+use Rattle.cv_scope_rules.proofs.Pairs.{pairs-append}
+use Rattle.cv_scope_rules.proofs.Apart.{game-branches}
+use Rattle.cv_scope_rules.specs.Phrases.{is_plain, IsWellFormed, IsWellFormedContext}
+use Rattle.cv_scope_rules.specs.Made.{is_bound, is_own_at, is_own_of, made_at, MakeApart, AssignsNew, OwnUnassigned}
 use Rattle.cv_scope_runs.proofs.Plain.{game_context, game_plain, VisitPlain, visits_plain}
 use Rattle.cv_scope_runs.proofs.OnceRuns.{Has, made_has}
 use Rattle.cv_scope_runs.proofs.OnceGames.{MakesName, names_at, made_once}

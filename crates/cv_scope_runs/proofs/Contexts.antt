@@ -13,12 +13,12 @@ use Rattle.cv_meaning.specs.Candidates.{is_assigned}
 use Rattle.cv_meaning_laws.proofs.Counts.{same_tuple_refl, same_tuple_exact}
 use Rattle.cv_meaning_laws.proofs.Lists.{each_append}
 use Rattle.cv_meaning_runs.proofs.Lists.{all_map}
-use Rattle.cv_scope.specs.declared.position.Position.TheVariants.{Anywhere}
-use Rattle.cv_scope.specs.Context.{Context, index_terms, cell_of}
-use Rattle.cv_scope.specs.Rules.{Names, is_index, IsAmong, InReach, ReadsInReach}
-use Rattle.cv_scope.specs.Phrases.{Nil, Terms, Term, is_oracle_phrase}
+use Rattle.cv_scope_rules.specs.declared.position.Position.TheVariants.{Anywhere}
+use Rattle.cv_scope_rules.specs.Context.{Context, index_terms, cell_of}
+use Rattle.cv_scope_rules.specs.Rules.{Names, is_index, IsAmong, InReach, ReadsInReach}
+use Rattle.cv_scope_rules.specs.Phrases.{Nil, Terms, Term, is_oracle_phrase}
 use Rattle.cv_scope_runs.specs.Reads.{IsKept}
-use Rattle.cv_scope.specs.Made.{is_bound}
+use Rattle.cv_scope_rules.specs.Made.{is_bound}
 use Rattle.cv_scope_runs.specs.Promises.{IsRecorded, EventsKept, AreIndicesOf}
 use Rattle.cv_scope_runs.proofs.Asked.{Asked, AreDistinct}
 use Rattle.cv_scope_runs.proofs.OnceGames.{or_left, or_right}

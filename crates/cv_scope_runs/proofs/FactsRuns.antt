@@ -14,16 +14,16 @@ use Rattle.cv_meaning.specs.Inputs.{Input}
 use Rattle.cv_meaning.specs.Serving.{Visit}
 use Rattle.cv_meaning.specs.Runs.{Mode, Answer, Move, run_visits, run_from, start}
 use Rattle.cv_meaning_runs.proofs.Lists.{all_map, all_both}
-use Rattle.cv_scope.specs.Context.{Context, known_at}
-use Rattle.cv_scope.specs.Sites.{SiteName, Variable}
-use Rattle.cv_scope.specs.Scope.{is_variable}
-use Rattle.cv_scope.specs.Branches.{Pairs}
-use Rattle.cv_scope.proofs.Apart.{game-branches}
-use Rattle.cv_scope.specs.declared.position.Position.TheVariants.{Anywhere}
-use Rattle.cv_scope.specs.Context.{nothing_known}
-use Rattle.cv_scope.specs.Phrases.{Phrase, Inputs, Body, Branches, Arm, Message, Binders, Cells, is_oracle_phrase, binds_none, IsWellFormedContext, HasConstantsOf}
+use Rattle.cv_scope_rules.specs.Context.{Context, known_at}
+use Rattle.cv_scope_rules.specs.Sites.{SiteName, Variable}
+use Rattle.cv_scope_rules.specs.Scope.{is_variable}
+use Rattle.cv_scope_rules.specs.Branches.{Pairs}
+use Rattle.cv_scope_rules.proofs.Apart.{game-branches}
+use Rattle.cv_scope_rules.specs.declared.position.Position.TheVariants.{Anywhere}
+use Rattle.cv_scope_rules.specs.Context.{nothing_known}
+use Rattle.cv_scope_rules.specs.Phrases.{Phrase, Inputs, Body, Branches, Arm, Message, Binders, Cells, is_oracle_phrase, binds_none, IsWellFormedContext, HasConstantsOf}
 use Rattle.cv_scope_runs.specs.Reads.{IsKept, TermsAssigned, ReadsAssigned, VisitReadsAssigned, BranchAssigned, BranchesAssigned}
-use Rattle.cv_scope.specs.Made.{is_bound}
+use Rattle.cv_scope_rules.specs.Made.{is_bound}
 use Rattle.cv_scope_runs.specs.Indexed.{HasValuesBelow, StateHasValuesBelow, VisitHasValuesBelow, head_indexes, is_index_below}
 use Rattle.cv_scope_runs.specs.Promises.{GrowsToEnd, VisitsGrow, ContextHolds, HoldsFrom, PlaceHolds, InputHolds, in_list, in_condition, in_body, TuplesHold, BranchesHold, FindHolds, CandidatesHold, after_site, IsDefinition, HoldsAt, CellsHold, OneDefinitionHolds, VisitCellsHold}
 use Rattle.cv_scope_runs.proofs.Asked.{Asked, AreDistinct, game_asked}
@@ -35,7 +35,7 @@ use Rattle.cv_scope_runs.proofs.Contexts.{Matches, CellHolds, FactHolds, EventHo
 use Rattle.cv_scope_runs.proofs.Candidates.{OnlyVariables, bound_values, list_cells, list_read}
 use Rattle.cv_scope_runs.proofs.Standing.{Stands, root, in_first, in_second, stands_known, stands_definition}
 use Rattle.cv_scope_runs.proofs.Games.{Game, variable_site, stands_phrase, stands_asked, stands_variable}
-use Rattle.cv_scope.proofs.Unbound.{no_variable}
+use Rattle.cv_scope_rules.proofs.Unbound.{no_variable}
 use Rattle.cv_scope_runs.proofs.PathRuns.{term_reads, terms_read, later_holds, only_variables, SiteHolds, StoreHolds, InputReady, GuardsShape, shape, guards_shape, own_ready, guarded_holds, branch_holds}
 use Rattle.cv_scope_runs.proofs.ServeRuns.{VisitHolds, Moves, game_holds}
 

@@ -13,10 +13,10 @@ use Rattle.cv_meaning.specs.Serving.{Turn, Ends, First, Second, after_find, step
 use Rattle.cv_meaning.specs.Runs.{Mode, Answer, Move, Calls, Tests, Guesses, State, Taken, admitted, called, told, tested_with, moved, start, begun, next_move, by_move, visits_of_call, visits_of_move, run_visits}
 use Rattle.cv_meaning_laws.proofs.Counts.{same_tuple_exact}
 use Rattle.cv_meaning_laws.proofs.Lists.{each_append}
-use Rattle.cv_scope.specs.Sites.{SiteName, Variable}
-use Rattle.cv_scope.specs.Branches.{Pairs, IsApartByBranches}
+use Rattle.cv_scope_rules.specs.Sites.{SiteName, Variable}
+use Rattle.cv_scope_rules.specs.Branches.{Pairs, IsApartByBranches}
 use Rattle.cv_meaning_runs.proofs.Lists.{all_both, left_part}
-use Rattle.cv_scope.specs.Made.{is_bound, made_at}
+use Rattle.cv_scope_rules.specs.Made.{is_bound, made_at}
 use Rattle.cv_scope_runs.proofs.OnceRuns.{Has, VisitsApart, nothing_twice}
 use Rattle.cv_scope_runs.proofs.OnceGames.{MakesName, names_single, names_at, or_left, or_right}
 

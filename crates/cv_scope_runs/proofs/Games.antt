@@ -8,14 +8,14 @@ use Rattle.cv_meaning.specs.Interpretation.{Setting}
 use Rattle.cv_directory.specs.declared.sort.Sort.{Sort}
 use Rattle.cv_directory.specs.declared.sort.Sort.TheVariants.{OfType, BelowParameter}
 use Rattle.cv_directory.specs.Sites.{first_of, bound_sort, site_here, at_parameters, parameters_below, first_site}
-use Rattle.cv_scope.specs.declared.position.Position.TheVariants.{Anywhere}
-use Rattle.cv_scope.specs.Context.{Context, nothing_known}
-use Rattle.cv_scope.specs.Sites.{Variable}
-use Rattle.cv_scope.specs.Scope.{is_untyped_here, is_untyped_in, is_variable}
-use Rattle.cv_scope.specs.Branches.{IsApartByBranches}
-use Rattle.cv_scope.specs.Phrases.{Phrase, Inputs, oracle_parts, both_are, is_oracle_phrase, head_binds_none, binds_none}
-use Rattle.cv_scope.specs.Made.{is_bound, made_by}
-use Rattle.cv_scope.proofs.Unbound.{no_variable}
+use Rattle.cv_scope_rules.specs.declared.position.Position.TheVariants.{Anywhere}
+use Rattle.cv_scope_rules.specs.Context.{Context, nothing_known}
+use Rattle.cv_scope_rules.specs.Sites.{Variable}
+use Rattle.cv_scope_rules.specs.Scope.{is_untyped_here, is_untyped_in, is_variable}
+use Rattle.cv_scope_rules.specs.Branches.{IsApartByBranches}
+use Rattle.cv_scope_rules.specs.Phrases.{Phrase, Inputs, oracle_parts, both_are, is_oracle_phrase, head_binds_none, binds_none}
+use Rattle.cv_scope_rules.specs.Made.{is_bound, made_by}
+use Rattle.cv_scope_rules.proofs.Unbound.{no_variable}
 use Rattle.cv_scope_runs.proofs.Asked.{Asked}
 use Rattle.cv_scope_runs.proofs.OnceGames.{or_left, or_right}
 use Rattle.cv_scope_runs.proofs.Rows.{position_of, placed}

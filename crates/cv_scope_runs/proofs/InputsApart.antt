@@ -15,9 +15,9 @@ use Rattle.cv_meaning_runs.specs.Placed.{IsInputOn, InputHas}
 use Rattle.cv_meaning_runs.specs.Spots.{same_address}
 use Rattle.cv_meaning_runs.proofs.Lists.{all_both}
 use Rattle.cv_meaning_runs.proofs.Placed.{available_have}
-use Rattle.cv_scope.specs.declared.position.Position.TheVariants.{Anywhere}
-use Rattle.cv_scope.specs.Sites.{SiteName, Channel}
-use Rattle.cv_scope.specs.Branches.{Pairs, IsApartByBranches}
+use Rattle.cv_scope_rules.specs.declared.position.Position.TheVariants.{Anywhere}
+use Rattle.cv_scope_rules.specs.Sites.{SiteName, Channel}
+use Rattle.cv_scope_rules.specs.Branches.{Pairs, IsApartByBranches}
 use Rattle.cv_scope_runs.proofs.OnceRuns.{Has, InputsApart, inputs_apart}
 use Rattle.cv_scope_runs.proofs.OnceGames.{MakesName, names_single}
 

@@ -22,12 +22,12 @@ use Rattle.cv_meaning_runs.specs.Listed.{AreKeysListed}
 use Rattle.cv_meaning_runs.specs.Moments.{Moment, Visited, Tested, cells_of_moment, cells_of_test, moments_of_run, visits_among, cells_of_run}
 use Rattle.cv_meaning_runs.proofs.Lists.{all_map, all_both}
 use Rattle.cv_meaning_runs.proofs.Together.{visits_among_moments}
-use Rattle.cv_scope.specs.Context.{Context, replications_below}
-use Rattle.cv_scope.specs.Scope.{is_untyped_in, is_variable}
-use Rattle.cv_scope.specs.Sites.{Variable}
-use Rattle.cv_scope.proofs.Apart.{first-replications, second-replications}
-use Rattle.cv_scope.specs.Phrases.{Phrase, Nil, Inputs, oracle_parts, is_oracle_phrase, IsWellFormedContext, HasConstantsOf}
-use Rattle.cv_scope.specs.Made.{made_by}
+use Rattle.cv_scope_rules.specs.Context.{Context, replications_below}
+use Rattle.cv_scope_rules.specs.Scope.{is_untyped_in, is_variable}
+use Rattle.cv_scope_rules.specs.Sites.{Variable}
+use Rattle.cv_scope_rules.proofs.Apart.{first-replications, second-replications}
+use Rattle.cv_scope_rules.specs.Phrases.{Phrase, Nil, Inputs, oracle_parts, is_oracle_phrase, IsWellFormedContext, HasConstantsOf}
+use Rattle.cv_scope_rules.specs.Made.{made_by}
 use Rattle.cv_scope_runs.specs.Keys.{HasOwnCells, calls_read_keys, has_keys_alone, head_keys, head_reads_key, is_key_of, reads_key}
 use Rattle.cv_scope_runs.specs.Promises.{AreIndicesOf, after_site}
 use Rattle.cv_scope_runs.specs.Reads.{LeafAssigned, TermsAssigned, VisitReadsAssigned}

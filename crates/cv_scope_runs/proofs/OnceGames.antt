@@ -8,12 +8,12 @@ use Rattle.cv_syntax.specs.Tree.{Tree, Empty, Node, second, first_place, second_
 use Rattle.cv_meaning.specs.Tapes.{Tape}
 use Rattle.cv_meaning.specs.Interpretation.{Setting}
 use Rattle.cv_meaning.specs.Runs.{Mode, Answer, Move, run_visits, start}
-use Rattle.cv_scope.specs.declared.position.Position.{Position}
-use Rattle.cv_scope.specs.Context.{first_position, second_position, replications_below}
-use Rattle.cv_scope.specs.Sites.{Site, SiteName, Variable, Channel, Label, sites_here, sites_from, channel_here, variable_sites}
-use Rattle.cv_scope.specs.Branches.{Pairs, Each, HasOtherName, AreInDifferentBranches, IsApartByBranches}
-use Rattle.cv_scope.proofs.Pairs.{pairs-weaker}
-use Rattle.cv_scope.specs.Made.{is_bound, made_by, made_at, MakeApart}
+use Rattle.cv_scope_rules.specs.declared.position.Position.{Position}
+use Rattle.cv_scope_rules.specs.Context.{first_position, second_position, replications_below}
+use Rattle.cv_scope_rules.specs.Sites.{Site, SiteName, Variable, Channel, Label, sites_here, sites_from, channel_here, variable_sites}
+use Rattle.cv_scope_rules.specs.Branches.{Pairs, Each, HasOtherName, AreInDifferentBranches, IsApartByBranches}
+use Rattle.cv_scope_rules.proofs.Pairs.{pairs-weaker}
+use Rattle.cv_scope_rules.specs.Made.{is_bound, made_by, made_at, MakeApart}
 use Rattle.cv_scope_runs.proofs.OnceRuns.{Has, Single, first_apart, makes_at, made_has, VisitsApart, nothing_twice}
 
 pub or_left : (a b : Bool) → a ≡ true → (a || b) ≡ true

@@ -13,8 +13,8 @@ use Rattle.cv_meaning.specs.Serving.{Served, Turn, Ends, First, Second, after_fi
 use Rattle.cv_meaning.specs.Runs.{Mode, Answer, Move, Calls, Tests, Guesses, State, Taken, admitted, called, told, tested_with, moved, start, begun, run_from, next_move, by_move, visits_of_call, visits_of_move, run_visits}
 use Rattle.cv_meaning_laws.proofs.Lists.{each_append}
 use Rattle.cv_meaning_laws.proofs.Moves.{TakenEach, taken_each, run_keeps}
-use Rattle.cv_scope.specs.Branches.{Pairs}
-use Rattle.cv_scope.proofs.Pairs.{pairs-append}
+use Rattle.cv_scope_rules.specs.Branches.{Pairs}
+use Rattle.cv_scope_rules.proofs.Pairs.{pairs-append}
 use Rattle.cv_meaning_runs.proofs.Lists.{all_map, all_both, all_cross, left_part, right_part}
 use Rattle.cv_meaning_runs.proofs.Copies.{tuple_push}
 use Rattle.cv_scope_runs.proofs.Taking.{TakenPairs, taken_pairs, admitted_taken}

@@ -17,11 +17,11 @@ use Rattle.cv_meaning.specs.Serving.{Served, Turn, Ends, First, Second, after_fi
 use Rattle.cv_meaning_laws.proofs.Counts.{same_tuple_exact}
 use Rattle.cv_meaning_laws.proofs.Lists.{each_append}
 use Rattle.cv_meaning_runs.proofs.Copies.{all_below}
-use Rattle.cv_scope.specs.Context.{Context, cell_of, cells_of, items, with_cells, with_fact}
-use Rattle.cv_scope.specs.Sites.{Variable}
-use Rattle.cv_scope.specs.Phrases.{Phrase, Nil, Inputs, Body, Then, Else, Branches, Arm, Guards, Guarded, Pattern, Binders, Cells, Terms, Term, is_oracle_phrase}
+use Rattle.cv_scope_rules.specs.Context.{Context, cell_of, cells_of, items, with_cells, with_fact}
+use Rattle.cv_scope_rules.specs.Sites.{Variable}
+use Rattle.cv_scope_rules.specs.Phrases.{Phrase, Nil, Inputs, Body, Then, Else, Branches, Arm, Guards, Guarded, Pattern, Binders, Cells, Terms, Term, is_oracle_phrase}
 use Rattle.cv_scope_runs.specs.Reads.{IsKept}
-use Rattle.cv_scope.specs.Made.{is_bound, made_by}
+use Rattle.cv_scope_rules.specs.Made.{is_bound, made_by}
 use Rattle.cv_scope_runs.specs.Indexed.{binds_below, head_indexes}
 use Rattle.cv_scope_runs.proofs.OnceGames.{or_left, or_right}
 use Rattle.cv_scope_runs.specs.Promises.{EventsKept, GrowsTo, after_site}

@@ -13,8 +13,8 @@ use Rattle.cv_meaning.specs.Runs.{Mode, Answer, Move, run_visits, start}
 use Rattle.cv_meaning.specs.Experiments.{visits_of_run}
 use Rattle.cv_meaning_runs.specs.Listed.{head_is_no_call, has_no_calls}
 use Rattle.cv_meaning_runs.proofs.Placed.{visits_have}
-use Rattle.cv_scope.proofs.Plain.{phrase_plain}
-use Rattle.cv_scope.specs.Phrases.{Phrase, Inputs, Body, parts, both_are, is_phrase, oracle_parts, is_oracle_phrase, head_is_plain, is_plain, IsWellFormed, IsWellFormedContext}
+use Rattle.cv_scope_rules.proofs.Plain.{phrase_plain}
+use Rattle.cv_scope_rules.specs.Phrases.{Phrase, Inputs, Body, parts, both_are, is_phrase, oracle_parts, is_oracle_phrase, head_is_plain, is_plain, IsWellFormed, IsWellFormedContext}
 
 abbrev pub VisitPlain : Visit → Type 0
 VisitPlain v = is_plain v.tree ≡ true

@@ -22,19 +22,19 @@ use Rattle.cv_meaning.specs.Direct.{head_names, is_unbound, head_covered, noted_
 use Rattle.cv_meaning_laws.proofs.Counts.{count_same, count_false}
 use Rattle.cv_scope_runs.proofs.Covered.{IsMetBy, AllMet}
 use Rattle.cv_meaning_runs.proofs.Lists.{all_map, left_part, right_part}
-use Rattle.cv_scope.specs.declared.position.Position.{Position}
-use Rattle.cv_scope.specs.declared.position.Position.TheVariants.{Bodies, ElseBody, Guards, Guarded, Cells}
-use Rattle.cv_scope.specs.Context.{Context, first_context, second_context, item_context, rest_context}
-use Rattle.cv_scope.specs.Rules.{is_index}
-use Rattle.cv_scope.specs.Scope.{is_variable}
-use Rattle.cv_scope.specs.Phrases.{Phrase, head_binds_none, binds_none, head_is_plain, is_plain, IsWellFormed, HasConstantsOf}
+use Rattle.cv_scope_rules.specs.declared.position.Position.{Position}
+use Rattle.cv_scope_rules.specs.declared.position.Position.TheVariants.{Bodies, ElseBody, Guards, Guarded, Cells}
+use Rattle.cv_scope_rules.specs.Context.{Context, first_context, second_context, item_context, rest_context}
+use Rattle.cv_scope_rules.specs.Rules.{is_index}
+use Rattle.cv_scope_rules.specs.Scope.{is_variable}
+use Rattle.cv_scope_rules.specs.Phrases.{Phrase, head_binds_none, binds_none, head_is_plain, is_plain, IsWellFormed, HasConstantsOf}
 use Rattle.cv_scope_runs.proofs.Plain.{game_context, game_plain}
 use Rattle.cv_scope_runs.proofs.TermsLater.{LeafReads, index, constant, cell}
 use Rattle.cv_scope_runs.proofs.Contexts.{Matches, Holds, index_none}
 use Rattle.cv_scope_runs.proofs.Rows.{position_of}
 use Rattle.cv_scope_runs.proofs.Standing.{Stands, root, in_first, in_second}
 use Rattle.cv_scope_runs.proofs.Games.{Game}
-use Rattle.cv_scope.proofs.Unbound.{no_variable}
+use Rattle.cv_scope_rules.proofs.Unbound.{no_variable}
 use Rattle.cv_scope_runs.proofs.ServeRuns.{VisitHolds, game_holds}
 use Rattle.cv_scope_runs.proofs.FactsRuns.{well_game}
 use Rattle.cv_scope_runs.proofs.Covered.{StandsForItself, event_met, met_push, none_breaks}

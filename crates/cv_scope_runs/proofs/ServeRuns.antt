@@ -14,10 +14,10 @@ use Rattle.cv_meaning.specs.Runs.{Mode, Answer, Move, Calls, Tests, Guesses, Sta
 use Rattle.cv_meaning_laws.proofs.Lists.{each_append}
 use Rattle.cv_meaning_laws.proofs.Moves.{TakenEach, admitted_each}
 use Rattle.cv_meaning_runs.proofs.Lists.{all_map, all_cross, left_part, right_part}
-use Rattle.cv_scope.specs.Context.{Context, nothing_known}
-use Rattle.cv_scope.specs.Branches.{Pairs}
-use Rattle.cv_scope.proofs.Pairs.{pairs-append}
-use Rattle.cv_scope.specs.Phrases.{Phrase, Inputs}
+use Rattle.cv_scope_rules.specs.Context.{Context, nothing_known}
+use Rattle.cv_scope_rules.specs.Branches.{Pairs}
+use Rattle.cv_scope_rules.proofs.Pairs.{pairs-append}
+use Rattle.cv_scope_rules.specs.Phrases.{Phrase, Inputs}
 use Rattle.cv_scope_runs.specs.Promises.{GrowsTo, VisitsGrow}
 use Rattle.cv_scope_runs.proofs.FreshRuns.{IsClear, visits_clear}
 use Rattle.cv_scope_runs.proofs.Contexts.{Matches, Holds}

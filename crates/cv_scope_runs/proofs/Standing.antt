@@ -4,11 +4,11 @@ use Rattle.cv_syntax.specs.declared.head.Head.{Head}
 use Rattle.cv_syntax.specs.Head.{weight}
 use Rattle.cv_syntax.specs.Layouts.{IsSyntax}
 use Rattle.cv_syntax.specs.Tree.{Tree, Empty, Node, size, first_place, second_place}
-use Rattle.cv_scope.specs.declared.position.Position.{Position}
-use Rattle.cv_scope.specs.Context.{Context, nothing_known, first_position, second_position, first_context, second_context, context_at, known_at}
-use Rattle.cv_scope.specs.Sites.{Variable}
-use Rattle.cv_scope.specs.Phrases.{Phrase, Inputs, oracle_parts}
-use Rattle.cv_scope.specs.Made.{made_by}
+use Rattle.cv_scope_rules.specs.declared.position.Position.{Position}
+use Rattle.cv_scope_rules.specs.Context.{Context, nothing_known, first_position, second_position, first_context, second_context, context_at, known_at}
+use Rattle.cv_scope_rules.specs.Sites.{Variable}
+use Rattle.cv_scope_rules.specs.Phrases.{Phrase, Inputs, oracle_parts}
+use Rattle.cv_scope_rules.specs.Made.{made_by}
 use Rattle.cv_scope_runs.specs.Promises.{after_site, definitions_in, definitions_of, IsDefinition}
 use Rattle.cv_scope_runs.proofs.Rows.{position_of, placed}
 

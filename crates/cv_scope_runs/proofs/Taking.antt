@@ -6,7 +6,7 @@ use Rattle.cv_meaning.specs.Binders.{fits}
 use Rattle.cv_meaning.specs.Inputs.{Input, message_binders}
 use Rattle.cv_meaning.specs.Runs.{Taken, taken, behind, is_at, admitted, if_fitting}
 use Rattle.cv_meaning_laws.proofs.Moves.{TakenEach, taken_each}
-use Rattle.cv_scope.specs.Branches.{Pairs}
+use Rattle.cv_scope_rules.specs.Branches.{Pairs}
 
 -- of each two, at a symmetric relation
 pub record TakenPairs (R : Input → Input → Type 0) (k : Taken) : Type 0 where

@@ -7,8 +7,8 @@ use Rattle.cv_meaning.specs.Interpretation.{Setting}
 use Rattle.cv_meaning.specs.Memory.{Store}
 use Rattle.cv_meaning.specs.Runs.{State}
 use Rattle.cv_meaning.specs.Serving.{Visit}
-use Rattle.cv_scope.specs.Sites.{Variable}
-use Rattle.cv_scope.specs.Made.{made_by}
+use Rattle.cv_scope_rules.specs.Sites.{Variable}
+use Rattle.cv_scope_rules.specs.Made.{made_by}
 
 -- each binder of the variable in the list has this parameter
 abbrev pub binds_below : ℕ → ℕ → Tree → Bool

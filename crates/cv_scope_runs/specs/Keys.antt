@@ -7,9 +7,9 @@ use Rattle.cv_syntax.specs.Tree.{Tree, Empty, Node, first}
 use Rattle.cv_meaning.specs.Consulted.{is_key}
 use Rattle.cv_meaning.specs.Side.{CallNumber, Side}
 use Rattle.cv_meaning.specs.Tapes.{cells_of}
-use Rattle.cv_scope.specs.Scope.{is_untyped_in}
-use Rattle.cv_scope.specs.Sites.{Variable}
-use Rattle.cv_scope.specs.Made.{made_by}
+use Rattle.cv_scope_rules.specs.Scope.{is_untyped_in}
+use Rattle.cv_scope_rules.specs.Sites.{Variable}
+use Rattle.cv_scope_rules.specs.Made.{made_by}
 
 -- the node defines the variable as a key, or not at all
 abbrev pub head_keys : ℕ → Head → Tree → Bool

@@ -13,11 +13,11 @@ use Rattle.cv_meaning.specs.Candidates.{is_assigned, are_assigned, is_candidate}
 use Rattle.cv_meaning.specs.Inputs.{Input}
 use Rattle.cv_meaning.specs.Serving.{Visit}
 use Rattle.cv_meaning.specs.Runs.{State}
-use Rattle.cv_scope.specs.declared.position.Position.TheVariants as position
-use Rattle.cv_scope.specs.declared.position.Position.{Position}
-use Rattle.cv_scope.specs.Context.{Context, nothing_known, cells_of, first_position, second_position, first_context, second_context, known_at}
-use Rattle.cv_scope.specs.Sites.{Variable}
-use Rattle.cv_scope.specs.Made.{made_by}
+use Rattle.cv_scope_rules.specs.declared.position.Position.TheVariants as position
+use Rattle.cv_scope_rules.specs.declared.position.Position.{Position}
+use Rattle.cv_scope_rules.specs.Context.{Context, nothing_known, cells_of, first_position, second_position, first_context, second_context, known_at}
+use Rattle.cv_scope_rules.specs.Sites.{Variable}
+use Rattle.cv_scope_rules.specs.Made.{made_by}
 use Rattle.cv_scope_runs.specs.Reads.{IsKept}
 
 abbrev pub IsRecorded : Happened → List Happened → Type 0

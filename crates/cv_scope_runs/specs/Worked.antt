@@ -10,7 +10,7 @@ use Rattle.cv_meaning.specs.Runs.{Adversary, Answer, Move, Calls}
 use Rattle.cv_meaning.specs.Correspondences.{Correspondence, correspondence_of}
 use Rattle.cv_syntax.specs.Builders.{leaf, read, input, output, event, correspondence, occurs}
 use Rattle.cv_meaning_laws.specs.Worked.{adversary}
-use Rattle.cv_scope.specs.Worked.{call, constants, key, repl, restriction, sends, starts}
+use Rattle.cv_scope_rules.specs.Worked.{call, constants, key, repl, restriction, sends, starts}
 
 -- event 12(9) ==> event 11(9)
 abbrev pub begun_query : Tree

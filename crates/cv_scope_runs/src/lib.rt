@@ -19,9 +19,9 @@ ghost use Rattle.cv_meaning.specs.Advantage.{advantage, chance_of};
 ghost use Rattle.cv_meaning.specs.Direct.{IsPlainlyDirect};
 ghost use Rattle.cv_meaning_runs.specs.Listed.{AreKeysListed, has_no_calls};
 ghost use Rattle.cv_meaning_runs.specs.Spots.{same_address};
-ghost use Rattle.cv_scope.specs.Branches.{Pairs};
-ghost use Rattle.cv_scope.specs.Scope.{IsScoped};
-ghost use Rattle.cv_scope.specs.Worked.{cell_found, constants, finds};
+ghost use Rattle.cv_scope_rules.specs.Branches.{Pairs};
+ghost use Rattle.cv_scope_rules.specs.Scope.{IsScoped};
+ghost use Rattle.cv_scope_rules.specs.Worked.{cell_found, constants, finds};
 ghost use Rattle.cv_scope_runs.specs.Worked.{
   begun_before,
   begun_query,
@@ -35,7 +35,7 @@ ghost use Rattle.cv_scope_runs.specs.Worked.{
   two_values,
   caller,
 };
-ghost use Rattle.cv_scope.specs.Phrases.{
+ghost use Rattle.cv_scope_rules.specs.Phrases.{
   Inputs,
   is_phrase,
   is_plain,
@@ -51,7 +51,7 @@ ghost use Rattle.cv_scope_runs.specs.Indexed.{
 };
 ghost use Rattle.cv_scope_runs.specs.Keys.{HasOwnCells, calls_read_keys};
 ghost use Rattle.cv_scope_runs.specs.Reads.{VisitReadsAssigned};
-ghost use Rattle.cv_scope.specs.Made.{MakeApart, AssignsNew, OwnUnassigned};
+ghost use Rattle.cv_scope_rules.specs.Made.{MakeApart, AssignsNew, OwnUnassigned};
 ghost use Rattle.cv_scope_runs.specs.Promises.{
   VisitsGrow,
   GrowsToEnd,

@@ -18,7 +18,7 @@ use Rattle.cv_query_form.specs.Rules.{AreAsked, HasValues, MayBeAsked}
 use Rattle.cv_typing_runs.specs.Games.{HasDeclaredSorts}
 use Rattle.cv_meaning_values.specs.Values.{HasValuesIn, is_tested}
 use Rattle.cv_sequences.proofs.Choices.{game_valued}
-use Rattle.cv_scope.specs.Phrases.{Inputs, is_phrase}
+use Rattle.cv_scope_rules.specs.Phrases.{Inputs, is_phrase}
 
 -- the game is the last part of a file
 last_typed : (ds : List Declaration) (parts : List Part) (part : Part) → AreTyped ds (parts ++ part ∷ []) → IsTypedPart ds part

@@ -21,8 +21,8 @@ use Rattle.cv_bound.specs.declared.terms.Experiment.TheVariants as term
 use Rattle.cv_bound.specs.declared.terms.Term.{Term}
 use Rattle.cv_bound.specs.declared.terms.Term.TheVariants as terms
 use Rattle.cv_bound.specs.Sums.{added, with_terms}
-use Rattle.cv_bound.specs.Values.{Advantages, sum_value}
-use Rattle.cv_bound.proofs.Adding.{sum_value-append}
+use Rattle.cv_bound_values.specs.Values.{Advantages, sum_value}
+use Rattle.cv_bound_values.proofs.Adding.{sum_value-append}
 use Rattle.cv_typing_runs.proofs.Games.{known}
 use Rattle.cv_scenes.specs.Contexts.{AreAnswers}
 use Rattle.cv_scenes.specs.Reductions.{context_of_game}

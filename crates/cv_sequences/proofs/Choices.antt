@@ -13,7 +13,7 @@ use Rattle.cv_meaning.specs.Satisfies.{Satisfies}
 use Rattle.cv_meaning_adequacy.specs.Typed as meaning
 use Rattle.cv_meaning_adequacy.specs.Typed.{IsDeclared}
 use Rattle.cv_meaning_adequacy.proofs.Sorted.{some_value}
-use Rattle.cv_scope.specs.Phrases.{Phrase, Arm, Binders, Body, Branches as BranchesPhrase, Cells, Else, Guarded as GuardedPhrase, Guards, Indices as IndicesPhrase, Inputs, Message as MessagePhrase, Nil, OneCell, Pattern, Term, Terms, Then, is_phrase}
+use Rattle.cv_scope_rules.specs.Phrases.{Phrase, Arm, Binders, Body, Branches as BranchesPhrase, Cells, Else, Guarded as GuardedPhrase, Guards, Indices as IndicesPhrase, Inputs, Message as MessagePhrase, Nil, OneCell, Pattern, Term, Terms, Then, is_phrase}
 use Rattle.cv_directory.specs.declared.sort.Sort.{Sort}
 use Rattle.cv_directory.specs.declared.sort.Sort.TheVariants.{BelowParameter, OfType}
 use Rattle.cv_directory.specs.Sites.{Variable, sites_of}

@@ -8,7 +8,7 @@ use Rattle.cv_meaning.specs.Satisfies.{Satisfies}
 use Rattle.cv_meaning_adequacy.specs.Typed as meaning
 use Rattle.cv_meaning_adequacy.proofs.Sorted.{some_value}
 use Rattle.cv_meaning_runs.specs.Replacement.{Process}
-use Rattle.cv_scope.specs.Phrases.{Inputs, is_phrase}
+use Rattle.cv_scope_rules.specs.Phrases.{Inputs, is_phrase}
 use Rattle.cv_scenes.specs.Scenes.{Scene, is_output_at, is_chosen, is_new, is_queried, first_reading, has_place, is_type, part_at}
 use Rattle.cv_steps.specs.Steps.{Step, Split, Let, New, Unnew, Rewrite, Prune, Cost, Zero}
 use Rattle.cv_steps.specs.Changes.{change_at, split_process, after_let, after_new, without, only}

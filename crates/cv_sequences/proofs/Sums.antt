@@ -12,7 +12,7 @@ use Rattle.cv_meaning_chances.specs.Fractions.{HasTapes}
 use Rattle.cv_meaning_chances.proofs.FractionLaws.{at_most_trans}
 use Rattle.cv_bound.specs.declared.terms.Term.{Term}
 use Rattle.cv_bound.specs.Sums.{with_terms}
-use Rattle.cv_bound.specs.Values.{Advantages, sum_value}
+use Rattle.cv_bound_values.specs.Values.{Advantages, sum_value}
 use Rattle.cv_meaning.specs.Queries.{queries_in}
 use Rattle.cv_typing_runs.specs.Games.{HasConstants}
 use Rattle.cv_derivations_under.specs.Holding.{IsReady}

@@ -13,7 +13,7 @@ use Rattle.cv_bound.specs.declared.cost.Cost.TheVariants as bound
 use Rattle.cv_bound.specs.declared.terms.Experiment.TheVariants as term
 use Rattle.cv_bound.specs.declared.terms.Term.{Term}
 use Rattle.cv_bound.specs.Sums.{added}
-use Rattle.cv_bound.specs.Values.{Advantages}
+use Rattle.cv_bound_values.specs.Values.{Advantages}
 use Rattle.cv_group_rules.specs.Faults.{IsAccepted}
 use Rattle.cv_typing_runs.specs.Games.{HasConstants}
 use Rattle.cv_scenes.specs.Reductions.{context_of_game}

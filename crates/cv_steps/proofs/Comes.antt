@@ -9,7 +9,7 @@ use Rattle.cv_meaning_runs.specs.Replacement as runs
 use Rattle.cv_meaning_runs.specs.Replacement.{Process, IsReplaced, in_first, before_body, may_come}
 use Rattle.cv_meaning.specs.Replaced.{is_output}
 use Rattle.cv_meaning_runs.proofs.Places.{replaced_where}
-use Rattle.cv_scope.specs.Phrases.{Phrase, Nil, Inputs, Body, Then, Else, Branches, Arm, Pattern, Message, Binders, Cells, Terms, Term, is_phrase}
+use Rattle.cv_scope_rules.specs.Phrases.{Phrase, Nil, Inputs, Body, Then, Else, Branches, Arm, Pattern, Message, Binders, Cells, Terms, Term, is_phrase}
 use Rattle.cv_scenes.specs.Scenes.{or_empty, part_at}
 use Rattle.cv_steps.specs.Changes.{change_at}
 use Rattle.cv_steps.proofs.Flat.{is_flat, flat_output, guarded_of, guards_of}

@@ -7,7 +7,7 @@ use Rattle.cv_syntax.specs.Head.{weight}
 use Rattle.cv_syntax.specs.Tree.{Tree, Empty, Node, size, subtree}
 use Rattle.cv_meaning_runs.specs.Replacement.{before_body}
 use Rattle.cv_meaning.specs.Replaced.{replaced}
-use Rattle.cv_scope.specs.Phrases.{Phrase, Nil, Body, Branches, Arm, Guards, Guarded, Pattern, Indices, Binders, Cells, OneCell, Term}
+use Rattle.cv_scope_rules.specs.Phrases.{Phrase, Nil, Body, Branches, Arm, Guards, Guarded, Pattern, Indices, Binders, Cells, OneCell, Term}
 use Rattle.cv_scenes.specs.Scenes.{or_empty, part_at}
 use Rattle.cv_steps.specs.Rewriting.{has_term_at, is_term, parts_of}
 

@@ -2,7 +2,7 @@
 use Rattle.std.proofs.Common.{◌≡◌, ℕ, true}
 use Rattle.std.proofs.lemmas.Bool.{and_parts}
 use Rattle.cv_syntax.specs.Tree.{Tree}
-use Rattle.cv_scope.specs.Phrases.{Inputs}
+use Rattle.cv_scope_rules.specs.Phrases.{Inputs}
 use Rattle.cv_derivations.specs.Ends.{ends_with}
 use Rattle.cv_derivations.specs.Targets.{equality}
 use Rattle.cv_scenes.specs.Scenes.{Scene, part_at}

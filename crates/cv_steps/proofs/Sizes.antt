@@ -14,7 +14,7 @@ use Rattle.cv_meaning.specs.Cells.{at_each_copy, bounds_under, cells_at, coin_ce
 use Rattle.cv_meaning_laws.proofs.Lists.{each_append, each_flat_map}
 use Rattle.cv_meaning_adequacy.specs.Typed.{AreVariables, BelowParameter, Context, IsTyped, IsVariable, OfType, Scope, Sort, Variable}
 use Rattle.cv_meaning.specs.Still.{head_is_still, is_still}
-use Rattle.cv_scope.specs.Phrases.{Phrase, Nil, Inputs, Body, Then, Else, Branches, Arm, Guards, Guarded, Pattern, Message, Indices, Binders, Cells, Terms, Term, is_phrase}
+use Rattle.cv_scope_rules.specs.Phrases.{Phrase, Nil, Inputs, Body, Then, Else, Branches, Arm, Guards, Guarded, Pattern, Message, Indices, Binders, Cells, Terms, Term, is_phrase}
 use Rattle.cv_steps.proofs.Flat.{nil_still, term_still, terms_still}
 
 -- the name of a sort: of a type, or of a parameter

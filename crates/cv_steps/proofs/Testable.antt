@@ -8,9 +8,9 @@ use Rattle.cv_meaning.specs.Side.{no_side}
 use Rattle.cv_meaning.specs.Runs.{Mode, Events, Real, Random}
 use Rattle.cv_meaning_runs.specs.Agreement.{IsLocal}
 use Rattle.cv_meaning_runs.specs.Listed.{head_is_testable, is_testable, IsTestable, has_no_calls}
-use Rattle.cv_scope.specs.Phrases.{Phrase, Inputs, is_phrase, head_is_plain}
+use Rattle.cv_scope_rules.specs.Phrases.{Phrase, Inputs, is_phrase, head_is_plain}
 use Rattle.cv_scope_runs.proofs.Plain.{plain_no_calls}
-use Rattle.cv_scope.proofs.Plain.{phrase_plain}
+use Rattle.cv_scope_rules.proofs.Plain.{phrase_plain}
 use Rattle.cv_steps.proofs.Flat.{open_phrase}
 
 head_testable : (x : ℕ) (σ : Phrase) (h : Head) (a b : Tree) → is_phrase σ (Node h a b) ≡ true → head_is_plain h ≡ true → head_is_testable x h a ≡ true

@@ -12,10 +12,10 @@ use Rattle.cv_meaning_unread.proofs.Chances.{chance_without, split_chance}
 use Rattle.cv_meaning_unread.proofs.PutIn.{put_in}
 use Rattle.cv_typing.specs.Parts.{IsTypedGame, first_in, game_part}
 use Rattle.cv_typing.proofs.First.{game_alone, parts_typed_where_none}
-use Rattle.cv_scope.specs.Scope.{names_of}
-use Rattle.cv_scope.specs.Standing.{at_root}
-use Rattle.cv_scope.proofs.First.{scoped_where_none}
-use Rattle.cv_scope.specs.Phrases.{Inputs, Term, IsWellFormed, is_phrase, binds_none}
+use Rattle.cv_scope_rules.specs.Scope.{names_of}
+use Rattle.cv_scope_rules.specs.Standing.{at_root}
+use Rattle.cv_scope_rules.proofs.First.{scoped_where_none}
+use Rattle.cv_scope_rules.specs.Phrases.{Inputs, Term, IsWellFormed, is_phrase, binds_none}
 use Rattle.cv_typing_runs.specs.Games.{HasConstants, HasDeclaredSorts, HasKnownNames, HasNamedFunctionsAndCells}
 use Rattle.cv_typing_runs.proofs.Games.{known}
 use Rattle.cv_scenes.specs.Scenes.{Scene, KnowsQueries, is_chosen, is_new, is_output_at, is_queried, first_reading, has_place, is_type, names, part_at}

@@ -14,8 +14,8 @@ use Rattle.cv_meaning_runs.specs.Replacement as at
 use Rattle.cv_meaning_runs.specs.Replacement.{Part, Process, IsReplaced}
 use Rattle.cv_meaning.specs.Replaced.{replaced}
 use Rattle.cv_meaning_unread.specs.Dropping.{IsDropped, same, gone, kept, in_parallel, in_list, in_find, in_branch, in_later_branch}
-use Rattle.cv_scope.specs.Context.{first_position, second_position}
-use Rattle.cv_scope.specs.Phrases.{Phrase, Inputs, Arm, Body, Guards, Cells, OneCell, Term, parts, oracle_parts, both_are, is_phrase}
+use Rattle.cv_scope_rules.specs.Context.{first_position, second_position}
+use Rattle.cv_scope_rules.specs.Phrases.{Phrase, Inputs, Arm, Body, Guards, Cells, OneCell, Term, parts, oracle_parts, both_are, is_phrase}
 use Rattle.cv_scope_runs.proofs.Rows.{position_of, placed}
 use Rattle.cv_typing.specs.Signature.{function_in, declaration_of}
 use Rattle.cv_typing_runs.specs.Games.{HasDeclaredSorts, NamesDeclared, is_variable_cell, are_variable_cells, is_named, are_named}

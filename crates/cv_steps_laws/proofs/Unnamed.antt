@@ -13,7 +13,7 @@ use Rattle.cv_meaning_unread.specs.Dropping.{reads_none, head_draws_none, draws_
 use Rattle.cv_meaning.specs.Still.{defines}
 use Rattle.cv_meaning.specs.Queries.{queries_in}
 use Rattle.cv_directory.specs.Sites.{first_of}
-use Rattle.cv_scope.specs.Phrases.{Phrase, Body, Nil, Term, parts, both_are, is_phrase}
+use Rattle.cv_scope_rules.specs.Phrases.{Phrase, Body, Nil, Term, parts, both_are, is_phrase}
 use Rattle.cv_scenes.specs.Scenes.{Scene, head_names, names, head_reads, first_reading, asks_for, is_queried}
 use Rattle.cv_steps.specs.Changes.{without, only}
 use Rattle.cv_steps.proofs.Flat.{open_phrase}

@@ -14,10 +14,10 @@ use Rattle.cv_typing.specs.Parts.{first_in}
 use Rattle.cv_typing.specs.Typing.{binders_differ}
 use Rattle.cv_directory.specs.Counting.{count}
 use Rattle.cv_meaning.specs.Queries.{queries_in}
-use Rattle.cv_scope.specs.Context.{context_at}
-use Rattle.cv_scope.specs.Sites.{sites_from}
-use Rattle.cv_scope.specs.Made.{is_bound}
-use Rattle.cv_scope.specs.Phrases.{is_phrase, binds_none, IsWellFormed}
+use Rattle.cv_scope_rules.specs.Context.{context_at}
+use Rattle.cv_scope_rules.specs.Sites.{sites_from}
+use Rattle.cv_scope_rules.specs.Made.{is_bound}
+use Rattle.cv_scope_rules.specs.Phrases.{is_phrase, binds_none, IsWellFormed}
 use Rattle.cv_scenes.specs.Scenes.{KnowsQueries, names, first_reading, has_news_alone, has_some_new}
 use Rattle.cv_steps.specs.Steps.{Split, Let, New, Unnew, Zero}
 use Rattle.cv_steps.specs.Changes.{without}

@@ -8,7 +8,7 @@ ghost use Rattle.cv_meaning_runs.specs.Replacement.{IsReplaced, Process};
 ghost use Rattle.cv_meaning.specs.Replaced.{is_output};
 ghost use Rattle.cv_meaning_unread.specs.Dropping.{IsDropped, reads_none};
 ghost use Rattle.cv_typing.specs.Parts.{IsTypedGame};
-ghost use Rattle.cv_scope.specs.Phrases.{Inputs, IsWellFormed, Term, is_phrase};
+ghost use Rattle.cv_scope_rules.specs.Phrases.{Inputs, IsWellFormed, Term, is_phrase};
 ghost use Rattle.cv_typing_runs.specs.Games.{
   HasConstants,
   HasDeclaredSorts,

@@ -12,7 +12,7 @@ use Rattle.cv_meaning.specs.Interpretation.{Interpretation, Setting, setting_of}
 use Rattle.cv_meaning.specs.Memory.{Indices, Memory, Store, tuple}
 use Rattle.cv_meaning.specs.Binders.{binder_count, bound_to, fits, widest_binder}
 use Rattle.cv_meaning.specs.Candidates.{Candidate, candidate, candidates, candidates_at, chosen, is_candidate, most_indices, tuples_up_to, widest}
-use Rattle.cv_scope.specs.Phrases.{Arm, Branches, is_phrase}
+use Rattle.cv_scope_rules.specs.Phrases.{Arm, Branches, is_phrase}
 use Rattle.cv_scenes.specs.Scenes.{Scene}
 use Rattle.cv_derivations_under.specs.Unreached.{HasNoCandidate}
 use Rattle.cv_scenes.specs.Pruning.{branch_body, without_branch}

@@ -24,7 +24,7 @@ use Rattle.cv_meaning_alignment.proofs.Closing.{others_ignored_in_games}
 use Rattle.cv_meaning_unread.specs.Sizes.{GiveSizesFor, size_in}
 use Rattle.cv_meaning_unread.proofs.CellSizes.{is_in_size, same_by_sizes, size_once}
 use Rattle.cv_meaning_reworded.proofs.SameCells.{count_alike}
-use Rattle.cv_scope.specs.Phrases.{Inputs, is_phrase}
+use Rattle.cv_scope_rules.specs.Phrases.{Inputs, is_phrase}
 use Rattle.cv_steps.proofs.Testable.{game_no_calls, game_testable, local}
 use Rattle.cv_steps_pruning.proofs.Inclusion.{Includes}
 use Rattle.cv_steps.proofs.Sizes.{IsSized, NamesSorts, all_cells, all_sizes, cell_size}

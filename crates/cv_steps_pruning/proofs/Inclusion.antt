@@ -11,7 +11,7 @@ use Rattle.cv_meaning_laws.proofs.Listed.{Has, has_left, has_right}
 use Rattle.cv_meaning_adequacy.proofs.Lists.{has_append}
 use Rattle.cv_meaning_runs.specs.Replacement as runs
 use Rattle.cv_meaning_runs.specs.Replacement.{IsReplaced, here, in_branch, in_continuation, in_find, in_later_branch, in_list, in_parallel}
-use Rattle.cv_scope.specs.Phrases.{Arm, Branches, is_phrase}
+use Rattle.cv_scope_rules.specs.Phrases.{Arm, Branches, is_phrase}
 use Rattle.cv_scenes.specs.Pruning.{find_of, without_branch}
 
 module _ (g : Setting) (give : Head → List ℕ → List (Cell × ℕ)) where

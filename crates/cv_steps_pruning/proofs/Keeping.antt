@@ -17,7 +17,7 @@ use Rattle.cv_meaning_adequacy.specs.Counted.{tapes_of}
 use Rattle.cv_meaning_runs.specs.Replacement.{IsReplaced, Process, ServeAlike}
 use Rattle.cv_meaning.specs.Replaced.{is_output}
 use Rattle.cv_meaning_runs.proofs.Replacement.{replaced_holds}
-use Rattle.cv_scope.specs.Phrases.{Phrase, Inputs, is_phrase}
+use Rattle.cv_scope_rules.specs.Phrases.{Phrase, Inputs, is_phrase}
 use Rattle.cv_typing_runs.specs.Games.{context_of}
 use Rattle.cv_typing_runs.proofs.Games.{typed}
 use Rattle.cv_scenes.specs.Scenes.{Scene, part_at}

@@ -8,7 +8,7 @@ use Rattle.cv_syntax.specs.Tree.{Tree, Empty, Node}
 use Rattle.cv_meaning_runs.specs.Replacement as runs
 use Rattle.cv_meaning_runs.specs.Replacement.{IsReplaced, here, in_branch, in_continuation, in_find, in_later_branch, in_list, in_parallel}
 use Rattle.cv_meaning.specs.Replaced.{is_output}
-use Rattle.cv_scope.specs.Phrases.{Phrase, Body, Branches, Arm, Term, both_are, is_phrase}
+use Rattle.cv_scope_rules.specs.Phrases.{Phrase, Body, Branches, Arm, Term, both_are, is_phrase}
 use Rattle.cv_scenes.specs.Pruning.{find_of, without_branch}
 use Rattle.cv_steps.proofs.Flat.{open_phrase}
 

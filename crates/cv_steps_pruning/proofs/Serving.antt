@@ -19,7 +19,7 @@ use Rattle.cv_meaning_runs.specs.Simulation.{AreServedAlike, InOrder}
 use Rattle.cv_meaning_runs.specs.Replacement.{AreLikeInputs, SameMemory, ServeAlike}
 use Rattle.cv_meaning.specs.Replaced.{is_output}
 use Rattle.cv_meaning_runs.proofs.Outputs.{output_begins, output_opens, served_elsewhere}
-use Rattle.cv_scope.specs.Phrases.{Branches, is_phrase}
+use Rattle.cv_scope_rules.specs.Phrases.{Branches, is_phrase}
 use Rattle.cv_scenes.specs.Scenes.{Scene}
 use Rattle.cv_derivations_under.specs.Unreached.{HasNoneAt, IsElsewhere}
 use Rattle.cv_scenes.specs.Pruning.{branch_body, find_of, without_branch}

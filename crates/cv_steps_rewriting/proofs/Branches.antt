@@ -9,7 +9,7 @@ use Rattle.cv_meaning.specs.Candidates.{Candidate, are_assigned, candidate, cand
 use Rattle.cv_meaning.specs.Memory.{Indices, Memory, Store, tuple}
 use Rattle.cv_meaning.specs.Terms.{is_one, value}
 use Rattle.cv_meaning.specs.Replaced.{replaced}
-use Rattle.cv_scope.specs.Phrases.{Arm, Branches, Term, is_phrase}
+use Rattle.cv_scope_rules.specs.Phrases.{Arm, Branches, Term, is_phrase}
 use Rattle.cv_scenes.specs.Scenes.{Scene, part_at}
 use Rattle.cv_steps.specs.Rewriting.{has_term_at}
 use Rattle.cv_steps.proofs.Flat.{guarded_of, guards_of}

@@ -14,7 +14,7 @@ use Rattle.cv_meaning.specs.Terms.{bit, value}
 use Rattle.cv_meaning.specs.Replaced.{replaced}
 use Rattle.cv_meaning_runs.proofs.Lists.{all_both}
 use Rattle.cv_meaning_reworded.proofs.SameCells.{reworded_chances}
-use Rattle.cv_scope.specs.Phrases.{Inputs, Term, is_phrase}
+use Rattle.cv_scope_rules.specs.Phrases.{Inputs, Term, is_phrase}
 use Rattle.cv_scenes.specs.Scenes.{Scene, part_at}
 use Rattle.cv_scenes.specs.Sights.{sight_at}
 use Rattle.cv_scenes.specs.Derivations.{Derives}

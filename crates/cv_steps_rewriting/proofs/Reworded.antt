@@ -16,7 +16,7 @@ use Rattle.cv_meaning.specs.Replaced.{replaced}
 use Rattle.cv_meaning.specs.Still.{head_is_still, is_still}
 use Rattle.cv_meaning_reworded.specs.Rewording.{IsReworded, same, kept, reworded, in_parallel, in_list, in_find, in_branch, has_terms, SaysTheSame}
 use Rattle.cv_facts.specs.Promises.{IsOwnTerm}
-use Rattle.cv_scope.specs.Phrases.{Phrase, Nil, Inputs, Body, Then, Else, Branches, Arm, Pattern, Message, Cells, Terms, Term, is_phrase}
+use Rattle.cv_scope_rules.specs.Phrases.{Phrase, Nil, Inputs, Body, Then, Else, Branches, Arm, Pattern, Message, Cells, Terms, Term, is_phrase}
 use Rattle.cv_scenes.specs.Scenes.{Scene, part_at}
 use Rattle.cv_steps.specs.Rewriting.{has_term_at}
 use Rattle.cv_steps.proofs.Flat.{guarded_of, guards_of, is_of_terms, terms_still}

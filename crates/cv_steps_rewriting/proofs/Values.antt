@@ -9,7 +9,7 @@ use Rattle.cv_meaning.specs.Interpretation.{Setting}
 use Rattle.cv_meaning.specs.Memory.{Indices, Store}
 use Rattle.cv_meaning.specs.Terms.{bit, is_one, value, values}
 use Rattle.cv_meaning.specs.Replaced.{replaced}
-use Rattle.cv_scope.specs.Phrases.{Phrase, Nil, Message, Indices as Names, Terms, Term, is_phrase}
+use Rattle.cv_scope_rules.specs.Phrases.{Phrase, Nil, Message, Indices as Names, Terms, Term, is_phrase}
 use Rattle.cv_scenes.specs.Scenes.{part_at}
 use Rattle.cv_steps.specs.Rewriting.{has_term_at, parts_of}
 use Rattle.cv_steps.proofs.Places.{Found, here, in_first, in_second, bare, by_child, found, nothing_there}

@@ -66,7 +66,7 @@ fn total_of(list: &[Collision]) -> Option<u64>
 }
 
 /// How much collisions add to the coefficients of a sum, where that has at most 64 bits.
-#[tactic(auto, using(cv_bound::proofs::Coefficients::counts))]
+#[tactic(auto, using(cv_bound_values::proofs::Coefficients::counts))]
 fn bound_of(list: &[Collision], secrecy: bool) -> Option<u64>
     ensures { IfSome result (λ n. coefficients (terms_of (Cost.Collisions list.now) secrecy) ≡ n) }
 {
@@ -120,7 +120,7 @@ impl Draft {
         Ok(())
     }
 
-    #[tactic(auto, using(cv_bound::proofs::Coefficients::counts))]
+    #[tactic(auto, using(cv_bound_values::proofs::Coefficients::counts))]
     fn advantage(&mut self, step: u32, secrecy: bool) -> Result<(), Fail> {
         self.add(&Cost::Advantage { step, equiv: UF }, 0, secrecy)
     }

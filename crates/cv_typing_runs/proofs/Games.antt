@@ -16,10 +16,10 @@ use Rattle.cv_meaning_adequacy.specs.Typed.{HasTypedRestrictions, IsTyped as Mea
 use Rattle.cv_meaning_adequacy.proofs.TypedRuns.{games_keep, run_typed}
 use Rattle.cv_meaning_adequacy.proofs.TypedTapes.{tapes_typed}
 use Rattle.cv_meaning_adequacy.proofs.Worked.{leaves}
-use Rattle.cv_scope.specs.Sites.{sites_from}
-use Rattle.cv_scope.specs.Scope.{names_of}
-use Rattle.cv_scope.specs.Standing.{at_root}
-use Rattle.cv_scope.specs.Phrases.{Inputs, IsWellFormed}
+use Rattle.cv_scope_rules.specs.Sites.{sites_from}
+use Rattle.cv_scope_rules.specs.Scope.{names_of}
+use Rattle.cv_scope_rules.specs.Standing.{at_root}
+use Rattle.cv_scope_rules.specs.Phrases.{Inputs, IsWellFormed}
 use Rattle.cv_typing.specs.declared.form.Form.TheVariants.{InProcess}
 use Rattle.cv_typing.specs.Parts.{IsTypedGame, nothing_above}
 use Rattle.cv_directory.specs.Sites.{Variable, first_of, first_site}

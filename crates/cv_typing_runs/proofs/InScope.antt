@@ -10,15 +10,15 @@ use Rattle.cv_syntax.specs.Tree.{Tree, Empty, Node, second, first_place, second_
 use Rattle.cv_meaning.specs.Binders.{bound_names}
 use Rattle.cv_directory.specs.Sites.{Variable, first_site}
 use Rattle.cv_typing.specs.Signature.{function_in}
-use Rattle.cv_scope.specs.declared.fault.Fault.TheVariants.{Unscoped}
-use Rattle.cv_scope.specs.declared.position.Position.{Position}
-use Rattle.cv_scope.specs.declared.position.Position.TheVariants.{Anywhere, Bodies, Cells, ElseBody, Guarded, Guards, OneCell}
-use Rattle.cv_scope.specs.Context.{Context, cell_of, cells_of, first_context, first_position, item_context, items, replications_below, rest_context, second_context, second_position}
-use Rattle.cv_scope.specs.Rules.{InReach, IsAmong, IsInScope, ReadsInReach, is_index}
-use Rattle.cv_scope.specs.Scope.{IsScopedAt, names_of}
-use Rattle.cv_scope.specs.Sites.{Variable as Named, channel_here, named_here, site_of, sites_from, sites_here}
-use Rattle.cv_scope.specs.Standing.{Standing, at_root, first_standing, second_standing}
-use Rattle.cv_scope.proofs.Pairs.{all-append, all-left, all-right}
+use Rattle.cv_scope_rules.specs.declared.fault.Fault.TheVariants.{Unscoped}
+use Rattle.cv_scope_rules.specs.declared.position.Position.{Position}
+use Rattle.cv_scope_rules.specs.declared.position.Position.TheVariants.{Anywhere, Bodies, Cells, ElseBody, Guarded, Guards, OneCell}
+use Rattle.cv_scope_rules.specs.Context.{Context, cell_of, cells_of, first_context, first_position, item_context, items, replications_below, rest_context, second_context, second_position}
+use Rattle.cv_scope_rules.specs.Rules.{InReach, IsAmong, IsInScope, ReadsInReach, is_index}
+use Rattle.cv_scope_rules.specs.Scope.{IsScopedAt, names_of}
+use Rattle.cv_scope_rules.specs.Sites.{Variable as Named, channel_here, named_here, site_of, sites_from, sites_here}
+use Rattle.cv_scope_rules.specs.Standing.{Standing, at_root, first_standing, second_standing}
+use Rattle.cv_scope_rules.proofs.Pairs.{all-append, all-left, all-right}
 use Rattle.cv_typing_runs.specs.Games.{HasConstants, are_known, are_named, are_variable_cells, has_site, is_known, is_named, is_variable_cell}
 use Rattle.cv_typing_runs.proofs.SameSites.{Agrees, Stands, first_same, second_same}
 

@@ -8,8 +8,8 @@ use Rattle.cv_syntax.specs.Tree.{Tree, Empty, Node}
 use Rattle.std.specs.Prelude.{List}
 use Rattle.cv_meaning_adequacy.specs.Typed.{Scope}
 use Rattle.cv_meaning_adequacy.proofs.Lists.{or_cases}
-use Rattle.cv_scope.specs.Context.{replications_below}
-use Rattle.cv_scope.specs.Rules.{is_index}
+use Rattle.cv_scope_rules.specs.Context.{replications_below}
+use Rattle.cv_scope_rules.specs.Rules.{is_index}
 use Rattle.cv_typing.specs.Signature.{function_in}
 use Rattle.cv_typing_runs.specs.Games.{are_known, is_known}
 

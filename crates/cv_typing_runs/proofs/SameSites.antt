@@ -7,17 +7,17 @@ use Rattle.cv_first_fault.specs.Walk.{IsObeyed}
 use Rattle.cv_syntax.specs.declared.head.Head.{Head}
 use Rattle.cv_syntax.specs.declared.head.Head.TheVariants.{Binder, Branch, Call, Cons, Find, In, Key, Let, New, Repl}
 use Rattle.cv_syntax.specs.Tree.{Tree, Empty, Node, second, first_place, second_place}
-use Rattle.cv_scope.specs.declared.fault.Fault.TheVariants.{TwoSites}
-use Rattle.cv_scope.specs.declared.position.Position.{Position}
-use Rattle.cv_scope.specs.declared.position.Position.TheVariants.{Bodies, Cells as ScopeCells, ElseBody, Guarded as ScopeGuarded, Guards as ScopeGuards}
-use Rattle.cv_scope.specs.Context.{Context, first_context, rest_context, second_context, replications_below}
-use Rattle.cv_scope.specs.Rules.{MayFollow, MayStand, Names}
-use Rattle.cv_scope.specs.Scope.{IsScopedAt}
-use Rattle.cv_scope.specs.Sites.{Site, Variable as Named, channel_here, named_here, sites_from, sites_here, variable_sites}
-use Rattle.cv_scope.specs.Standing.{Standing, first_standing, second_standing}
-use Rattle.cv_scope.proofs.Pairs.{all-append}
-use Rattle.cv_scope.specs.Phrases.{Phrase, Arm, Binders, Inputs, Pattern, both_are, is_phrase, parts}
-use Rattle.cv_scope.proofs.Plain.{phrase_plain}
+use Rattle.cv_scope_rules.specs.declared.fault.Fault.TheVariants.{TwoSites}
+use Rattle.cv_scope_rules.specs.declared.position.Position.{Position}
+use Rattle.cv_scope_rules.specs.declared.position.Position.TheVariants.{Bodies, Cells as ScopeCells, ElseBody, Guarded as ScopeGuarded, Guards as ScopeGuards}
+use Rattle.cv_scope_rules.specs.Context.{Context, first_context, rest_context, second_context, replications_below}
+use Rattle.cv_scope_rules.specs.Rules.{MayFollow, MayStand, Names}
+use Rattle.cv_scope_rules.specs.Scope.{IsScopedAt}
+use Rattle.cv_scope_rules.specs.Sites.{Site, Variable as Named, channel_here, named_here, sites_from, sites_here, variable_sites}
+use Rattle.cv_scope_rules.specs.Standing.{Standing, first_standing, second_standing}
+use Rattle.cv_scope_rules.proofs.Pairs.{all-append}
+use Rattle.cv_scope_rules.specs.Phrases.{Phrase, Arm, Binders, Inputs, Pattern, both_are, is_phrase, parts}
+use Rattle.cv_scope_rules.proofs.Plain.{phrase_plain}
 use Rattle.cv_directory.specs.declared.sort.Sort.{Sort}
 use Rattle.cv_directory.specs.declared.sort.Sort.TheVariants.{BelowParameter, OfType}
 use Rattle.cv_directory.specs.Sites.{Variable, at_parameters, bound_sort, first_of, first_site, parameters_below, site_here}

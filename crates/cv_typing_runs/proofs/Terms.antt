@@ -10,9 +10,9 @@ use Rattle.cv_first_fault.specs.Walk.{IsObeyed}
 use Rattle.cv_meaning.specs.Interpretation.{is_constant_of}
 use Rattle.cv_meaning_adequacy.specs.Typed as meaning
 use Rattle.cv_meaning_adequacy.specs.Typed.{Context, HasSort, HaveSomeSorts, HaveSorts, IsFunction, NameHasSort, Scope, parameter_in}
-use Rattle.cv_scope.specs.Rules.{is_index}
-use Rattle.cv_scope.specs.Phrases.{Phrase, Nil, Term, Terms, binds_none, is_phrase}
-use Rattle.cv_scope.proofs.Unbound.{no_variable}
+use Rattle.cv_scope_rules.specs.Rules.{is_index}
+use Rattle.cv_scope_rules.specs.Phrases.{Phrase, Nil, Term, Terms, binds_none, is_phrase}
+use Rattle.cv_scope_rules.proofs.Unbound.{no_variable}
 use Rattle.cv_typing.specs.declared.fault.Fault.TheVariants.{Arity, IndexAsMessage, NotFixed, WrongType}
 use Rattle.cv_directory.specs.declared.sort.Sort.{Sort}
 use Rattle.cv_directory.specs.declared.sort.Sort.TheVariants.{BelowParameter, OfType}

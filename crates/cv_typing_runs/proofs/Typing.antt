@@ -10,8 +10,8 @@ use Rattle.cv_first_fault.specs.Walk.{IsObeyed}
 use Rattle.cv_meaning.specs.Interpretation.{is_constant_of}
 use Rattle.cv_meaning_adequacy.specs.Typed as meaning
 use Rattle.cv_meaning_adequacy.specs.Typed.{AreBranches, AreVariables, HasSort, HaveSomeSorts, HasTypedRestrictions, IsVariable, Scope, parameter_in, IsTyped as MeansTyped}
-use Rattle.cv_scope.specs.Sites.{channel_here, sites_from, sites_here, variable_sites}
-use Rattle.cv_scope.specs.Phrases.{Phrase, Arm, Binders, Body, Branches as BranchesPhrase, Cells, Else, Guarded as GuardedPhrase, Guards, Indices, Inputs, Message as MessagePhrase, Nil, OneCell, Pattern, Term, Terms, Then, binds_none, is_phrase}
+use Rattle.cv_scope_rules.specs.Sites.{channel_here, sites_from, sites_here, variable_sites}
+use Rattle.cv_scope_rules.specs.Phrases.{Phrase, Arm, Binders, Body, Branches as BranchesPhrase, Cells, Else, Guarded as GuardedPhrase, Guards, Indices, Inputs, Message as MessagePhrase, Nil, OneCell, Pattern, Term, Terms, Then, binds_none, is_phrase}
 use Rattle.cv_typing.specs.declared.form.Form.TheVariants.{InProcess}
 use Rattle.cv_typing.specs.declared.precedence.Precedence.TheVariants.{First}
 use Rattle.cv_directory.specs.declared.sort.Sort.{Sort}
@@ -22,7 +22,7 @@ use Rattle.cv_typing.specs.Typing.{IsTyped, binders_differ}
 use Rattle.cv_directory.specs.Sorts.{differs_from}
 use Rattle.cv_typing.specs.Wants.{AllMessages, Branches, EachTerm, Guarded, Message, Of, Run, Sent, Tested, Want, above_second, bound, wants}
 use Rattle.cv_typing_runs.specs.Games.{HasArguments, context_of, has_site, sort_of_meaning, variable_of_meaning}
-use Rattle.cv_scope.proofs.Pairs.{all-left, all-right}
+use Rattle.cv_scope_rules.proofs.Pairs.{all-left, all-right}
 use Rattle.cv_typing_runs.proofs.Known.{AreKnown}
 use Rattle.cv_typing_runs.proofs.SameSites.{Agrees, Stands, input_binders}
 use Rattle.cv_typing_runs.proofs.Terms.{Matches, asked_sort, faultless, message_sort, nil_empty, same_sorts, some_have, sorted}

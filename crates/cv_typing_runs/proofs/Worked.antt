@@ -9,11 +9,11 @@ use Rattle.cv_typing.specs.Signature.{names_in}
 use Rattle.cv_directory.specs.Counting.{count}
 use Rattle.cv_typing.specs.Typing.{binders_differ}
 use Rattle.cv_typing.proofs.First.{typed_where_none}
-use Rattle.cv_scope.specs.Sites.{sites_from}
-use Rattle.cv_scope.specs.Standing.{at_root}
-use Rattle.cv_scope.specs.Scope.{is_untyped_in, names_of}
-use Rattle.cv_scope.proofs.First.{scoped_where_none}
-use Rattle.cv_scope.specs.Phrases.{is_phrase, binds_none, IsWellFormed}
+use Rattle.cv_scope_rules.specs.Sites.{sites_from}
+use Rattle.cv_scope_rules.specs.Standing.{at_root}
+use Rattle.cv_scope_rules.specs.Scope.{is_untyped_in, names_of}
+use Rattle.cv_scope_rules.proofs.First.{scoped_where_none}
+use Rattle.cv_scope_rules.specs.Phrases.{is_phrase, binds_none, IsWellFormed}
 use Rattle.cv_meaning_adequacy.specs.Typed.{BelowParameter, HasSort, HaveSorts, IsDeclared, IsTyped, OfType}
 use Rattle.cv_meaning_adequacy.proofs.Lists.{has_contains}
 use Rattle.cv_typing_runs.specs.Games.{AreDeclared, HasArguments, HasDeclaredSorts, HasKnownNames, are_known, context_of, HasConstants, HasNamedFunctionsAndCells, are_named}

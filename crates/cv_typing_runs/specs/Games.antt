@@ -14,10 +14,10 @@ use Rattle.cv_meaning.specs.Experiments.{run}
 use Rattle.cv_meaning_adequacy.specs.Counted.{tapes_of}
 use Rattle.cv_meaning_adequacy.specs.Typed as meaning
 use Rattle.cv_meaning_adequacy.specs.Typed.{Context, IsDeclared, Scope, IsTypedStore}
-use Rattle.cv_scope.specs.Rules.{is_index}
-use Rattle.cv_scope.specs.declared.position.Position.{Position}
-use Rattle.cv_scope.specs.declared.position.Position.TheVariants.{Anywhere, Guards}
-use Rattle.cv_scope.specs.Context.{first_position, replications_below, second_position}
+use Rattle.cv_scope_rules.specs.Rules.{is_index}
+use Rattle.cv_scope_rules.specs.declared.position.Position.{Position}
+use Rattle.cv_scope_rules.specs.declared.position.Position.TheVariants.{Anywhere, Guards}
+use Rattle.cv_scope_rules.specs.Context.{first_position, replications_below, second_position}
 use Rattle.cv_directory.specs.declared.sort.Sort.{Sort}
 use Rattle.cv_directory.specs.declared.sort.Sort.TheVariants.{BelowParameter, OfType}
 use Rattle.cv_typing.specs.Signature.{function_in, names_in}

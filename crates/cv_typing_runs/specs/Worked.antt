@@ -6,7 +6,7 @@ use Rattle.cv_syntax.specs.declared.head.Head.TheVariants.{Eq, Yield}
 use Rattle.cv_syntax.specs.Builders.{branch, find, input, leaf}
 use Rattle.cv_syntax.specs.Declarations.{Declaration, Named}
 use Rattle.cv_syntax.specs.Tree.{Tree, Empty, Node, lone}
-use Rattle.cv_scope.specs.Worked.{cell_found, finds}
+use Rattle.cv_scope_rules.specs.Worked.{cell_found, finds}
 
 -- param 2. type 5 [fixed].
 abbrev pub declared : List Declaration

@@ -8,7 +8,7 @@ ghost use Rattle.cv_meaning.specs.Interpretation.{Interpretation};
 ghost use Rattle.cv_meaning.specs.Runs.{Adversary, Mode};
 ghost use Rattle.cv_meaning.specs.Satisfies.{Satisfies};
 ghost use Rattle.cv_meaning_adequacy.specs.Typed.{HasTypedRestrictions, IsModel, IsTyped};
-ghost use Rattle.cv_scope.specs.Phrases.{IsWellFormed};
+ghost use Rattle.cv_scope_rules.specs.Phrases.{IsWellFormed};
 ghost use Rattle.cv_typing.specs.Parts.{IsTypedGame};
 ghost use Rattle.cv_typing_runs.specs.Worked.{declared, found_game, nameless_game};
 ghost use Rattle.cv_typing_runs.specs.Games.{HasArguments, HasConstants, HasDeclaredSorts, HasKnownNames, HasNamedFunctionsAndCells, HasTypedRuns, context_of};

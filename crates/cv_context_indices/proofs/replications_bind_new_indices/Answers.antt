@@ -1,5 +1,5 @@
-use Rattle.cv_scope.specs.Scope.{names_of}
-use Rattle.cv_scope.specs.Standing.{at_root}
+use Rattle.cv_scope_rules.specs.Scope.{names_of}
+use Rattle.cv_scope_rules.specs.Standing.{at_root}
 use Rattle.cv_context_indices.proofs.Replications.{all_new}
 use Rattle.cv_context_indices.proofs.replications_bind_new_indices.Goals as goal
 

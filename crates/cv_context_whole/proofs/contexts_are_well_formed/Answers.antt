@@ -1,4 +1,4 @@
-use Rattle.cv_scope.proofs.Apart.{game-alike, game-branches}
+use Rattle.cv_scope_rules.proofs.Apart.{game-alike, game-branches}
 use Rattle.cv_scenes.specs.Reductions.{context_of_game}
 use Rattle.cv_context_formed.proofs.Games.{context_part}
 use Rattle.cv_context_formed.proofs.Scoped.{game_scoped}

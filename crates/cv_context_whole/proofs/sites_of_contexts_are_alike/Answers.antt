@@ -1,4 +1,4 @@
-use Rattle.cv_scope.proofs.Apart.{game-alike, game-branches}
+use Rattle.cv_scope_rules.proofs.Apart.{game-alike, game-branches}
 use Rattle.cv_scenes.specs.Reductions.{context_of_game}
 use Rattle.cv_context_whole.proofs.Apart.{like_becomes}
 use Rattle.cv_context_whole.proofs.Shown.{context_becomes}

@@ -22,7 +22,7 @@ use Rattle.cv_meaning_contexts.specs.Finds.{picks_at, picks, picked}
 use Rattle.cv_meaning_contexts.specs.Bodies.{body_answer, branch_answer, reply}
 use Rattle.cv_meaning_contexts.specs.Sides.{body_cells}
 use Rattle.cv_meaning.specs.Queries.{queries_in}
-use Rattle.cv_scope.specs.Made.{is_bound}
+use Rattle.cv_scope_rules.specs.Made.{is_bound}
 use Rattle.cv_scenes.specs.Scenes.{first_reading}
 use Rattle.cv_scenes.specs.Instances.{standing_for}
 use Rattle.cv_scenes.specs.Sites.{sites_in}

@@ -1,5 +1,5 @@
 use Rattle.cv_meaning.specs.Experiments.{coins_on, visits_of_run}
-use Rattle.cv_scope.specs.Scope.{is_variable}
+use Rattle.cv_scope_rules.specs.Scope.{is_variable}
 use Rattle.cv_scope_runs.proofs.FactsRuns.{well_game}
 use Rattle.cv_scope_runs.proofs.ServeRuns.{game_holds}
 use Rattle.cv_derivations_under.proofs.Between.{all-between}

@@ -4,7 +4,7 @@ use Rattle.cv_derivations.specs.Given.{with_given}
 use Rattle.cv_directory.specs.Sites.{bound_sort, first_site}
 use Rattle.cv_typing.specs.Signature.{names_in}
 use Rattle.cv_meaning.specs.Queries.{queries_in}
-use Rattle.cv_scope.specs.Made.{is_bound}
+use Rattle.cv_scope_rules.specs.Made.{is_bound}
 use Rattle.cv_scenes.specs.Scenes.{first_reading}
 use Rattle.cv_scenes.specs.Instances.{standing_for}
 use Rattle.cv_scenes.specs.Sites.{sites_in}

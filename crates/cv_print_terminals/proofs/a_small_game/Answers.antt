@@ -1,6 +1,6 @@
 use Rattle.std.proofs.Common.{refl}
 use Rattle.cv_parse_notation.specs.Reads.{read_sort}
-use Rattle.cv_scope.specs.Phrases.{is_phrase}
+use Rattle.cv_scope_rules.specs.Phrases.{is_phrase}
 use Rattle.cv_print_terminals.specs.Levels.{levels_of, term_levels}
 use Rattle.cv_print_terminals.specs.Signs.{entries_signs, numbered, process_signs, term_signs}
 use Rattle.cv_print_terminals.specs.Told.{cells_told, entries_told, process_told, signs_in, term_told, uses_in}

@@ -1,7 +1,7 @@
-use Rattle.cv_scope.proofs.Apart.{game-branches}
-use Rattle.cv_scope.specs.Phrases.{Inputs}
+use Rattle.cv_scope_rules.proofs.Apart.{game-branches}
+use Rattle.cv_scope_rules.specs.Phrases.{Inputs}
 use Rattle.cv_scope_runs.proofs.Plain.{plain_no_calls}
-use Rattle.cv_scope.proofs.Plain.{phrase_plain}
+use Rattle.cv_scope_rules.proofs.Plain.{phrase_plain}
 use Rattle.cv_scope_runs.proofs.InputsApart.{inputs_distinct}
 use Rattle.cv_scope_runs.proofs.calls_take_the_only_copy.Goals as goal
 

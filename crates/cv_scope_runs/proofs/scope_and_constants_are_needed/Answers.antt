@@ -12,12 +12,12 @@ use Rattle.cv_meaning.specs.Experiments.{run, holds_on}
 use Rattle.cv_meaning.specs.Correspondences.{assignments, broken}
 use Rattle.cv_directory.specs.Sites.{first_site, bound_sort}
 use Rattle.cv_directory.specs.Counting.{count}
-use Rattle.cv_scope.specs.Sites.{sites_from}
-use Rattle.cv_scope.specs.Standing.{at_root}
-use Rattle.cv_scope.specs.Scope.{is_untyped_in, names_of, IsScoped}
-use Rattle.cv_scope.specs.Worked.{constants}
-use Rattle.cv_scope.proofs.First.{scoped_where_none, none_where_scoped}
-use Rattle.cv_scope.specs.Phrases.{is_phrase, binds_none}
+use Rattle.cv_scope_rules.specs.Sites.{sites_from}
+use Rattle.cv_scope_rules.specs.Standing.{at_root}
+use Rattle.cv_scope_rules.specs.Scope.{is_untyped_in, names_of, IsScoped}
+use Rattle.cv_scope_rules.specs.Worked.{constants}
+use Rattle.cv_scope_rules.proofs.First.{scoped_where_none, none_where_scoped}
+use Rattle.cv_scope_rules.specs.Phrases.{is_phrase, binds_none}
 use Rattle.cv_scope_runs.specs.Worked.{assigned_again, constant_captured}
 use Rattle.cv_scope_runs.proofs.scope_and_constants_are_needed.Goals as goal
 

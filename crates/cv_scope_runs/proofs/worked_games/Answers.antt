@@ -6,12 +6,12 @@ use Rattle.cv_meaning.specs.Direct.{argument, is_substituted, is_instance, is_un
 use Rattle.cv_meaning.specs.Interpretation.{setting_of}
 use Rattle.cv_directory.specs.Sites.{first_site, bound_sort}
 use Rattle.cv_directory.specs.Counting.{count}
-use Rattle.cv_scope.specs.Sites.{sites_from}
-use Rattle.cv_scope.specs.Standing.{at_root}
-use Rattle.cv_scope.specs.Scope.{is_untyped_in, names_of}
-use Rattle.cv_scope.specs.Worked.{cell_found, constants, finds}
-use Rattle.cv_scope.proofs.First.{scoped_where_none}
-use Rattle.cv_scope.specs.Phrases.{Inputs, is_phrase, is_oracle_phrase, binds_none, IsWellFormed}
+use Rattle.cv_scope_rules.specs.Sites.{sites_from}
+use Rattle.cv_scope_rules.specs.Standing.{at_root}
+use Rattle.cv_scope_rules.specs.Scope.{is_untyped_in, names_of}
+use Rattle.cv_scope_rules.specs.Worked.{cell_found, constants, finds}
+use Rattle.cv_scope_rules.proofs.First.{scoped_where_none}
+use Rattle.cv_scope_rules.specs.Phrases.{Inputs, is_phrase, is_oracle_phrase, binds_none, IsWellFormed}
 use Rattle.cv_scope_runs.specs.Worked.{begun_before, begun_query, keyed, sessions, told_before, told_query, told}
 use Rattle.cv_meaning.specs.Direct.{IsPlainlyDirect}
 use Rattle.cv_scope_runs.proofs.PlainlyDirect.{plainly_at_most}

@@ -1,4 +1,4 @@
-use Rattle.cv_scope.specs.Phrases.{Inputs}
+use Rattle.cv_scope_rules.specs.Phrases.{Inputs}
 use Rattle.cv_steps_laws.proofs.Gone.{dropped_game}
 use Rattle.cv_steps.proofs.Comes.{placed}
 use Rattle.cv_steps_laws.proofs.Unnamed.{dropped_phrase}

@@ -6,7 +6,7 @@ use Rattle.cv_syntax.specs.Declarations.{declarations}
 use Rattle.cv_syntax.specs.Tree.{size, tree_at}
 use Rattle.cv_syntax.specs.declared.work.Game.{Game}
 use Rattle.cv_parse_script.specs.Scripts.{trees_of}
-use Rattle.cv_scope.specs.Phrases.{IsWellFormed}
+use Rattle.cv_scope_rules.specs.Phrases.{IsWellFormed}
 use Rattle.cv_bound.specs.Sums.{AllFit}
 use Rattle.cv_kernel_closed.specs.Queries.{first_unclosed, numbers_of, sum_in}
 use Rattle.cv_report_verdicts.specs.Verdicts.{ended_with, verdicts_by}

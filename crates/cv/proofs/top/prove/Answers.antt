@@ -8,7 +8,7 @@ use Rattle.cv_report.specs.declared.report.Status.TheVariants as status
 use Rattle.cv.specs.Answers.{IsComplete}
 use Rattle.cv.specs.Causes.{ComesFrom}
 use Rattle.cv.specs.Strategy.{most_bytes}
-use Rattle.cv.specs.Words.{bytes_under}
+use Rattle.cv_report_outcome.specs.Words.{bytes_under}
 use Rattle.cv.proofs.Endings.{fetch_answers, fetch_cause, fetch_complete, fetch_never, fetched_told, judged_complete, judged_speaks, speaks_never, under_told}
 use Rattle.cv.proofs.top.prove.Goals as goal
 
@@ -31,19 +31,19 @@ returns-in-Ok-clause-complete g c = λ quiet.
     (subst (λ (l : List ℕ). length l ≤ most_bytes) (sym c.deref.ensures.value) c.in-Ok.ensures.limit) c.judge.ensures.judged
 
 pub returns-in-Err-clause-never : goal.returns-in-Err-clause-never
-returns-in-Err-clause-never g c = subst (λ (s : Status). (s ≢ status.Words) × (s ≢ status.Write)) (sym (c.refused.ensures.status ∙ c.status_of.ensures)) (fetch_never c.in-Err.fault)
+returns-in-Err-clause-never g c = subst (λ (s : Status). (s ≢ status.Words) × (s ≢ status.Write)) (sym (c.refused.ensures.status ∙ c.fetch_status.ensures)) (fetch_never c.in-Err.fault)
 
 pub returns-in-Err-clause-answers : goal.returns-in-Err-clause-answers
-returns-in-Err-clause-answers g c = fetch_answers _ _ c.in-Err.fault (c.refused.ensures.status ∙ c.status_of.ensures) c.refused.ensures.file c.refused.ensures.nothing
+returns-in-Err-clause-answers g c = fetch_answers _ _ c.in-Err.fault (c.refused.ensures.status ∙ c.fetch_status.ensures) c.refused.ensures.file c.refused.ensures.nothing
 
 pub returns-in-Err-clause-cause : goal.returns-in-Err-clause-cause
 returns-in-Err-clause-cause g c =
-    subst (ComesFrom _ _) (sym (c.refused.ensures.status ∙ c.status_of.ensures))
+    subst (ComesFrom _ _) (sym (c.refused.ensures.status ∙ c.fetch_status.ensures))
     (fetch_cause _ _ c.in-Err.fault (λ e. c.in-Err.ensures.failed (ap error e))
     (λ e. under_told (g.F.Shelf.told c.args.shelf.now) c.args.name.now (λ (b : List ℕ). most_bytes < length b) (c.in-Err.ensures.long_only (ap error e))))
 
 pub returns-in-Err-clause-complete : goal.returns-in-Err-clause-complete
 returns-in-Err-clause-complete g c = λ quiet.
-    subst (λ (s : Status). IfSome (bytes_under (g.F.Shelf.told c.args.shelf.now) c.args.name.now) (λ (b : List ℕ). IsComplete b s)) (sym (c.refused.ensures.status ∙ c.status_of.ensures))
+    subst (λ (s : Status). IfSome (bytes_under (g.F.Shelf.told c.args.shelf.now) c.args.name.now) (λ (b : List ℕ). IsComplete b s)) (sym (c.refused.ensures.status ∙ c.fetch_status.ensures))
     (fetch_complete (bytes_under (g.F.Shelf.told c.args.shelf.now) c.args.name.now) c.in-Err.fault _ _ (λ e. c.in-Err.ensures.failed (ap error e))
     (λ e. under_told (g.F.Shelf.told c.args.shelf.now) c.args.name.now (λ (b : List ℕ). most_bytes < length b) (c.in-Err.ensures.long_only (ap error e))) quiet)

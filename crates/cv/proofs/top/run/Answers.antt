@@ -1,6 +1,6 @@
 use Rattle.std.specs.Prelude.{map, string_bytes}
 use Rattle.cv_lists.proofs.Options.{IfSome-weaker}
-use Rattle.cv.specs.Words.{bytes_named, file_named}
+use Rattle.cv_report_outcome.specs.Words.{bytes_named, file_named}
 use Rattle.cv.proofs.Endings.{ends_well}
 use Rattle.cv.proofs.Writing.{by_sink, ends_either, kept_answers, kept_cause, kept_close, kept_complete, kept_sound, kept_words}
 use Rattle.cv.proofs.top.run.Goals as goal

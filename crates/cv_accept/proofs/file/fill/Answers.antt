@@ -4,8 +4,8 @@ use Rattle.cv_syntax.specs.Tree.{size}
 use Rattle.cv_parse.specs.Declaring.{IsBelow}
 use Rattle.cv_parse.specs.Nodes.{file_nodes}
 use Rattle.cv_parse.specs.Parsed.{held_in}
-use Rattle.cv_scope.specs.Refusals.{IsRefusalOf}
-use Rattle.cv_scope.specs.Scope.{first_scope_fault}
+use Rattle.cv_scope_rules.specs.Refusals.{IsRefusalOf}
+use Rattle.cv_scope_rules.specs.Scope.{first_scope_fault}
 use Rattle.cv_accept.specs.Accepted.{Refuses, asks_unbuilt, content_of}
 use Rattle.cv_accept.specs.Faults.{IsUnbuiltFault}
 use Rattle.cv_accept.specs.Places.{behind}

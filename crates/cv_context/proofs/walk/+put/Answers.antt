@@ -4,7 +4,7 @@ use Rattle.cv_syntax.specs.Tree.{size, tree_at}
 use Rattle.cv_syntax.specs.Walks.{above}
 use Rattle.cv_syntax.proofs.Trees.{child_above, child_live, empty_at, node_at}
 use Rattle.cv_syntax.proofs.Walking.{above-child, above-some, size-at, size-end}
-use Rattle.cv_scope.specs.Context.{replications_below}
+use Rattle.cv_scope_rules.specs.Context.{replications_below}
 use Rattle.cv_context.specs.Written.{Part}
 use Rattle.cv_context.proofs.Walking.{at-end, at-site, ends-made, front-kept, node-goes, node-next, site-made, site_there, skipped, whole}
 use Rattle.cv_context.proofs.walk.+put.Goals as goal

@@ -1,9 +1,9 @@
 use Rattle.std.proofs.Common.{◌≡◌, arith, rules, refl, ap, ◌∙◌, Some}
 use Rattle.cv_syntax.specs.Tree.{size, tree_at}
 use Rattle.cv_syntax.proofs.Trees.{empty_at}
-use Rattle.cv_scope.specs.Above.{stands_at}
-use Rattle.cv_scope.specs.Context.{nothing_known}
-use Rattle.cv_scope.specs.declared.position.Position.TheVariants.{Anywhere}
+use Rattle.cv_scope_rules.specs.Above.{stands_at}
+use Rattle.cv_scope_rules.specs.Context.{nothing_known}
+use Rattle.cv_scope_rules.specs.declared.position.Position.TheVariants.{Anywhere}
 use Rattle.cv_facts.proofs.Standings.{standing-empty}
 use Rattle.cv_derive.proofs.Descending.{found-here, found-nowhere, nothing-knows, there-replications}
 use Rattle.cv_derive.proofs.defined.is_defined_under.Goals as goal

@@ -2,8 +2,8 @@ use Rattle.std.proofs.Common.{◌≡◌, ◌+◌, ◌≤◌, Some, length}
 use Rattle.cv_pool.specs.Nodes.{ChildBelow}
 use Rattle.cv_syntax.specs.Tree.{size, tree_at}
 use Rattle.cv_syntax.specs.Walks.{above}
-use Rattle.cv_scope.specs.Above.{standing_at, stands_at}
-use Rattle.cv_scope.specs.Context.{Context}
+use Rattle.cv_scope_rules.specs.Above.{standing_at, stands_at}
+use Rattle.cv_scope_rules.specs.Context.{Context}
 use Rattle.cv_derive_cells.specs.Cells.{is_among_under}
 use Rattle.cv_derive.specs.Walks.{Knows}
 use Rattle.cv_derive.proofs.defined.is_defined_under.Given as goal

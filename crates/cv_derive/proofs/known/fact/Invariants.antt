@@ -3,7 +3,7 @@ use Rattle.std.specs.Prelude.{option_map}
 use Rattle.cv_pool.specs.Nodes.{ChildBelow}
 use Rattle.cv_syntax.specs.Tree.{size, tree_at}
 use Rattle.cv_syntax.specs.Walks.{above}
-use Rattle.cv_scope.specs.Context.{Context}
+use Rattle.cv_scope_rules.specs.Context.{Context}
 use Rattle.cv_facts.specs.Facts.{FactAt, facts_at, facts_from}
 use Rattle.cv_facts.specs.Walks.{IsLive, Tests}
 use Rattle.cv_derive.specs.Leading.{Counts}

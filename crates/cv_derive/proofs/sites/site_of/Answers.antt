@@ -5,7 +5,7 @@ use Rattle.cv_syntax.specs.Tree.{tree_at}
 use Rattle.cv_directory.specs.Definitions.{large_in}
 use Rattle.cv_directory.specs.Tables.{entries_in}
 use Rattle.cv_scenes.specs.Sights.{only_site}
-use Rattle.cv_scope.specs.Behind.{sites_of}
+use Rattle.cv_scope_rules.specs.Behind.{sites_of}
 use Rattle.cv_derive_cells.specs.Only.{only_place}
 use Rattle.cv_derive.proofs.Defining.{live-root, no-process, within-same}
 use Rattle.cv_derive.proofs.Only.{behind-root, is-site, no-site, placed, root-there, rooted, site-there, unplaced}

@@ -2,7 +2,7 @@ use Rattle.std.proofs.Common.{◌≡◌, length}
 use Rattle.cv_pool.specs.Nodes.{ChildBelow}
 use Rattle.cv_syntax.specs.Tree.{same_tree, tree_at}
 use Rattle.cv_syntax.specs.Walks.{above as rank}
-use Rattle.cv_scope.specs.Context.{items}
+use Rattle.cv_scope_rules.specs.Context.{items}
 use Rattle.cv_derivations.specs.Inferences.{equations_of}
 use Rattle.cv_derive_data.proofs.data.are_equations.Given as goal
 

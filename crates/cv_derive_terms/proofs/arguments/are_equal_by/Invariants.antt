@@ -2,7 +2,7 @@ use Rattle.std.proofs.Common.{◌≡◌, length}
 use Rattle.cv_pool.specs.Nodes.{ChildBelow}
 use Rattle.cv_syntax.specs.Tree.{tree_at}
 use Rattle.cv_syntax.specs.Walks.{above}
-use Rattle.cv_scope.specs.Context.{items}
+use Rattle.cv_scope_rules.specs.Context.{items}
 use Rattle.cv_derivations.specs.Inferences.{are_equal_by}
 use Rattle.cv_derive_citing.specs.Bookmarks.{visible_to}
 use Rattle.cv_derive_terms.proofs.arguments.are_equal_by.Given as goal

@@ -2,7 +2,7 @@ use Rattle.std.proofs.Common.{◌≡◌, arith, rules, sym, ap, ◌∙◌, [], �
 use Rattle.std.specs.Prelude.{option_map}
 use Rattle.cv_syntax.specs.Tree.{size, tree_at}
 use Rattle.cv_syntax.proofs.Trees.{empty_at}
-use Rattle.cv_scope.specs.Context.{nothing_known}
+use Rattle.cv_scope_rules.specs.Context.{nothing_known}
 use Rattle.cv_facts.specs.Walks.{given_facts}
 use Rattle.cv_facts.proofs.Standings.{facts-empty, passed-append, no_place, none-passed, nothing-tests, passed-nil}
 use Rattle.cv_facts.proofs.facts.fact.Goals as goal

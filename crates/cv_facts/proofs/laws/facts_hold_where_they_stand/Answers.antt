@@ -1,8 +1,8 @@
 use Rattle.std.proofs.Common.{List}
 use Rattle.cv_syntax.specs.Declarations.{Declaration}
 use Rattle.cv_syntax.specs.Tree.{Tree}
-use Rattle.cv_scope.specs.Context.{nothing_known}
-use Rattle.cv_scope.specs.Phrases.{Inputs, IsWellFormedContext}
+use Rattle.cv_scope_rules.specs.Context.{nothing_known}
+use Rattle.cv_scope_rules.specs.Phrases.{Inputs, IsWellFormedContext}
 use Rattle.cv_meaning.specs.Experiments.{run, visits_of_run, coins_on}
 use Rattle.cv_meaning_runs.proofs.Placed.{visits_have}
 use Rattle.cv_scope_runs.proofs.FactsRuns.{all_candidates_hold, all_cells_hold, all_places_hold, last_cells_hold}

@@ -7,7 +7,8 @@ use Rattle.cv_inline_extents.specs.Extents.{Extent, of_result, under}
 use Rattle.cv_inline_terms.specs.Drawings.{drawn_in}
 use Rattle.cv_inline_measure.specs.Counts.{IsTold}
 use Rattle.cv_syntax_limits.specs.Limits.{told}
-use Rattle.cv_inline_measure.specs.Settings.{body_in, branches_in, caller_at, callers_at, find_in, front_in, measure_of, scope_at, term_in, trees_of}
+use Rattle.cv_inline_pairs.specs.Scopes.{scope_at}
+use Rattle.cv_inline_measure.specs.Settings.{body_in, branches_in, caller_at, callers_at, find_in, front_in, measure_of, term_in, trees_of}
 use Rattle.cv_inline_measure.proofs.Branching.{branches_by_pairs, of_pair, pair_more, pairs_whole, site_more, sites_whole}
 use Rattle.cv_inline_measure.proofs.ByHead.{find_is, if_is, if_with_one_body, if_without_bodies, let_is, new_is, result_is, without_node}
 use Rattle.cv_inline_measure.proofs.Scoped.{bound_told, branch_told, told_same}
@@ -68,7 +69,7 @@ branch-returns t c =
     let Σ = scope_at k c.args.scope.now in
     let value = ap (scope_at k) c.as_slice.ensures.value in
     let value2 = ap (scope_at k) c.as_slice-2.ensures.value in
-    branch_told s k Σ (scope_at k c.in_ok-inner.inner.items) c.args.place c.args.other.now c.args.pair c.in_ok-front.front c.in_ok-inside.inside c.under.result c.in_ok-inner.ensures
+    branch_told s k Σ (scope_at k c.in_ok-inner.inner.items) c.args.place c.args.other.now c.args.pair c.in_ok-front.front c.in_ok-inside.inside c.under.result (c.in_ok-inner.ensures s.pool.now.trees)
     (c.in_ok-front.ensures ∙ ap (λ Υ. told (front_in s k Υ c.args.place c.args.other.now c.args.pair)) value)
     (told_same c.in_ok-inside.inside _ _ (ap (λ Υ. body_in s k Υ (record { place = c.args.pair.place; root = c.args.pair.body })) value2) c.in_ok-inside.ensures) c.under.ensures
 

@@ -5,7 +5,8 @@ use Rattle.cv_inline_extents.specs.Extents.{Extent}
 use Rattle.cv_inline_listing.specs.Callings.{callers_in}
 use Rattle.cv_inline_terms.specs.Drawings.{drawn_in}
 use Rattle.cv_inline_pairs.specs.Pairs.{pair_in}
-use Rattle.cv_inline_measure.specs.Settings.{IsFound, branches_in, caller_at, callers_at, measure_of, scope_at, trees_of}
+use Rattle.cv_inline_pairs.specs.Scopes.{scope_at}
+use Rattle.cv_inline_measure.specs.Settings.{IsFound, branches_in, caller_at, callers_at, measure_of, trees_of}
 use Rattle.cv_inline_measure.proofs.Branching.{of_pair}
 use Rattle.cv_inline_measure.proofs.bodies.+body.Given as goal
 

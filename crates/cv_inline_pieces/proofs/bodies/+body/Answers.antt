@@ -11,7 +11,8 @@ use Rattle.cv_inline_listing.specs.Callings.{callers_in}
 use Rattle.cv_inline_pieces.specs.declared.choices.Choice.{Choice}
 use Rattle.cv_inline_pieces.specs.Choices.{choice_in}
 use Rattle.cv_inline_pieces.specs.Calls.{body_in, branch_in, find_in}
-use Rattle.cv_inline_pieces.specs.Pieces.{Adds, AddsNodes, AddsResult, closed_if, scope_at}
+use Rattle.cv_inline_pairs.specs.Scopes.{scope_at}
+use Rattle.cv_inline_pieces.specs.Pieces.{Adds, AddsNodes, AddsResult, closed_if}
 use Rattle.cv_inline_pieces.proofs.ByHead.{find_is, if_with_one_body, if_without_bodies, result_is, without_node}
 use Rattle.cv_inline_pieces.proofs.Choosing.{site_there}
 use Rattle.cv_inline_pieces.proofs.Whole.{as_result, bound, branch_of_parts, branches_more, let_body, new_body, no_branches, nothing_there, same_tree, some_branches, two_bodies}

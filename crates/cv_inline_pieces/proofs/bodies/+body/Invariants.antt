@@ -3,7 +3,8 @@ use Rattle.cv_syntax.specs.Walks.{above}
 use Rattle.cv_inline_terms.specs.Drawings.{drawn_in}
 use Rattle.cv_inline_pieces.specs.Calls.{branch_in}
 use Rattle.cv_inline_pieces.specs.Choices.{onto}
-use Rattle.cv_inline_pieces.specs.Pieces.{Adds, scope_at}
+use Rattle.cv_inline_pairs.specs.Scopes.{scope_at}
+use Rattle.cv_inline_pieces.specs.Pieces.{Adds}
 use Rattle.cv_inline_pieces.proofs.bodies.+body.Given as goal
 
 abbrev pub decreases-body : goal.decreases-body

@@ -9,7 +9,8 @@ use Rattle.cv_inline_terms.specs.Callers.{caller_in}
 use Rattle.cv_inline_terms.specs.Drawings.{drawn_in}
 use Rattle.cv_inline_listing.specs.Callings.{callers_in}
 use Rattle.cv_inline_pieces.specs.Calls.{body_in}
-use Rattle.cv_inline_pieces.specs.Pieces.{Adds, AddsNodes, scope_at}
+use Rattle.cv_inline_pairs.specs.Scopes.{scope_at}
+use Rattle.cv_inline_pieces.specs.Pieces.{Adds, AddsNodes}
 use Rattle.cv_inline_pieces.proofs.Called.{call_argument, call_body}
 use Rattle.cv_inline_pieces.proofs.calls.+call.Goals as goal
 

@@ -7,7 +7,7 @@ use Rattle.cv_inline_terms.specs.declared.scope.Entry.{Entry}
 use Rattle.cv_inline_terms.specs.Callers.{caller_in}
 use Rattle.cv_inline_terms.specs.Drawings.{drawn_in}
 use Rattle.cv_inline_listing.specs.Callings.{callers_in}
-use Rattle.cv_inline_pieces.specs.Pieces.{scope_at}
+use Rattle.cv_inline_pairs.specs.Scopes.{scope_at}
 use Rattle.cv_inline_pieces.proofs.Called.{from_nothing, second_small, whole_call}
 use Rattle.cv_inline_pieces.proofs.calls.pieces_of.Goals as goal
 

@@ -1,6 +1,6 @@
 use Rattle.std.proofs.Common.{ap, refl, ◌∙◌}
 use Rattle.cv_syntax.specs.Tree.{same_tree, tree_at}
-use Rattle.cv_scope.specs.Context.{cell_of}
+use Rattle.cv_scope_rules.specs.Context.{cell_of}
 use Rattle.cv_match_patterns.proofs.Parts.{test-first, test-last, test-second}
 use Rattle.cv_match.specs.Fitting.{is_own_use}
 use Rattle.cv_match.proofs.coins.is_own_use.Goals as goal

@@ -1,7 +1,7 @@
 use Rattle.std.proofs.Common.{◌≡◌, drop, length}
 use Rattle.cv_pool.specs.Nodes.{ChildBelow}
 use Rattle.cv_syntax.specs.Tree.{same_tree, tree_at}
-use Rattle.cv_scope.specs.Context.{index_terms}
+use Rattle.cv_scope_rules.specs.Context.{index_terms}
 use Rattle.cv_match_reads.proofs.cells.are_indices.Given as goal
 
 abbrev pub invariant-loop-replication : goal.invariant-loop-replication

@@ -5,7 +5,7 @@ use Rattle.cv_syntax.specs.Walks.{above}
 use Rattle.cv_syntax.proofs.Trees.{child_above, child_live, empty_at, node_at}
 use Rattle.cv_syntax.proofs.Walking.{above-child, above-some, size-at, size-end}
 use Rattle.cv_directory.specs.Sites.{first_of}
-use Rattle.cv_scope.specs.Context.{first_position, second_position}
+use Rattle.cv_scope_rules.specs.Context.{first_position, second_position}
 use Rattle.cv_scenes.specs.Scenes.{head_reads}
 use Rattle.cv_scenes.specs.Refusals.{is_condition}
 use Rattle.cv_rule_scenes.proofs.Tested.{reads-first, reads-here, reads-rest}

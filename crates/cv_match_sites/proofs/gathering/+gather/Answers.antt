@@ -3,7 +3,7 @@ use Rattle.cv_syntax.specs.Tree.{size, tree_at}
 use Rattle.cv_syntax.specs.Walks.{above}
 use Rattle.cv_syntax.proofs.Trees.{child_above, child_live, empty_at, node_at}
 use Rattle.cv_syntax.proofs.Walking.{above-child, above-some, below-some, size-at, size-end}
-use Rattle.cv_scope.specs.Context.{replications_below}
+use Rattle.cv_scope_rules.specs.Context.{replications_below}
 use Rattle.cv_scenes.specs.Instances.{call_at}
 use Rattle.cv_match_sites.specs.Matchings.{matching_by}
 use Rattle.cv_match_patterns.specs.Sites.{found_call, site_in}

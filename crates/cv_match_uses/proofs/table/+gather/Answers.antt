@@ -3,7 +3,7 @@ use Rattle.cv_syntax.specs.Tree.{tree_at}
 use Rattle.cv_syntax.specs.Walks.{above}
 use Rattle.cv_syntax.proofs.Trees.{child_above, child_live, empty_at, node_at}
 use Rattle.cv_syntax.proofs.Walking.{above-child, above-some}
-use Rattle.cv_scope.specs.Context.{replications_below}
+use Rattle.cv_scope_rules.specs.Context.{replications_below}
 use Rattle.cv_match_uses.specs.Tallies.{Tally, plus, tally_at, tally_here}
 use Rattle.cv_match_uses.proofs.Walked.{front-kept, room-first, room-here, tally-end, tally-node}
 use Rattle.cv_match_uses.proofs.table.+gather.Goals as goal

@@ -2,7 +2,7 @@ use Rattle.std.proofs.Common.{◌≡◌, ◌+◌, ◌≤◌, Some}
 use Rattle.cv_pool.specs.Nodes.{ChildBelow}
 use Rattle.cv_syntax.specs.Tree.{size, tree_at}
 use Rattle.cv_syntax.specs.Walks.{above}
-use Rattle.cv_scope.specs.Phrases as grammar
+use Rattle.cv_scope_rules.specs.Phrases as grammar
 use Rattle.cv_steps.specs.Rewriting.{has_term_at}
 use Rattle.cv_rule_phrases.specs.Phrases.{phrase_of}
 use Rattle.cv_rule.proofs.rewriting.has_term_at.Given as goal

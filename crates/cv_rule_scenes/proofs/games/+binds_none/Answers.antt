@@ -4,7 +4,7 @@ use Rattle.cv_syntax.specs.Walks.{above}
 use Rattle.cv_syntax.proofs.Trees.{child_above, child_live, empty_at, node_at}
 use Rattle.cv_syntax.proofs.Walking.{above-child, above-some}
 use Rattle.cv_scope.specs.Held.{names_held}
-use Rattle.cv_scope.specs.Phrases.{binds_none, head_binds_none}
+use Rattle.cv_scope_rules.specs.Phrases.{binds_none, head_binds_none}
 use Rattle.cv_rule_scenes.proofs.Tested.{all-first, all-here, all-rest, binds-end, binds-node}
 use Rattle.cv_rule_scenes.proofs.games.+binds_none.Goals as goal
 

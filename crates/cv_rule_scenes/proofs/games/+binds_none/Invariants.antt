@@ -3,7 +3,7 @@ use Rattle.cv_pool.specs.Nodes.{ChildBelow}
 use Rattle.cv_syntax.specs.Tree.{tree_at}
 use Rattle.cv_syntax.specs.Walks.{above}
 use Rattle.cv_scope.specs.Held.{names_held}
-use Rattle.cv_scope.specs.Phrases.{binds_none}
+use Rattle.cv_scope_rules.specs.Phrases.{binds_none}
 use Rattle.cv_rule_scenes.proofs.games.+binds_none.Given as goal
 
 abbrev pub decreases-binds_none : goal.decreases-binds_none

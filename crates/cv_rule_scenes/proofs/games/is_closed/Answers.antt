@@ -7,8 +7,8 @@ use Rattle.cv_directory.specs.Tables.{seen}
 use Rattle.cv_typing.specs.declared.arrays.Arrays.TheVariants as held
 use Rattle.cv_typing.specs.Signature.{OfGame}
 use Rattle.cv_typing.proofs.Files.{nothing-bound}
-use Rattle.cv_scope.specs.Rules.{Names}
-use Rattle.cv_scope.specs.Phrases.{Inputs, binds_none}
+use Rattle.cv_scope_rules.specs.Rules.{Names}
+use Rattle.cv_scope_rules.specs.Phrases.{Inputs, binds_none}
 use Rattle.cv_scenes.specs.Terms as terms
 use Rattle.cv_scenes.specs.Terms.{is_there, names_anywhere}
 use Rattle.cv_rule_scenes.proofs.Tests.{both-hold, not-first, not-last, there-in}

@@ -4,8 +4,8 @@ use Rattle.cv_meaning.specs.Interpretation.{is_constant_of}
 use Rattle.cv_syntax.specs.Declarations.{declarations}
 use Rattle.cv_syntax.specs.Tree.{tree_at}
 use Rattle.cv_typing.specs.Parts.{first_in, game_part}
-use Rattle.cv_scope.specs.Scope.{first_scope_fault}
-use Rattle.cv_scope.specs.Phrases.{Inputs, binds_none, is_phrase}
+use Rattle.cv_scope_rules.specs.Scope.{first_scope_fault}
+use Rattle.cv_scope_rules.specs.Phrases.{Inputs, binds_none, is_phrase}
 use Rattle.cv_scenes.specs.Terms.{is_game, is_there, names_anywhere}
 use Rattle.cv_rule_scenes.proofs.Tests.{some-same}
 use Rattle.cv_rule_scenes.proofs.Whole.{closed-game, game-typed, no-type}

@@ -4,8 +4,8 @@ use Rattle.cv_syntax.specs.Tree.{tree_at}
 use Rattle.cv_syntax.specs.Walks.{above}
 use Rattle.cv_syntax.proofs.Trees.{child_above, child_live, empty_at, node_at}
 use Rattle.cv_syntax.proofs.Walking.{above-child, above-some}
-use Rattle.cv_scope.specs.Sites.{Variable}
-use Rattle.cv_scope.specs.Made.{made_by}
+use Rattle.cv_scope_rules.specs.Sites.{Variable}
+use Rattle.cv_scope_rules.specs.Made.{made_by}
 use Rattle.cv_scenes.specs.Scenes.{has_news_alone, is_new_head}
 use Rattle.cv_rule_scenes.proofs.Tested.{all-first, all-here, all-rest, only-end, only-node}
 use Rattle.cv_rule_scenes.proofs.sites.+is_only_drawn.Goals as goal

@@ -6,7 +6,7 @@ use Rattle.cv_typing.specs.Signature.{Above}
 use Rattle.cv_typing.specs.Signature as signature
 use Rattle.cv_typing.specs.Typing.{first_fault}
 use Rattle.cv_typing.specs.Wants.{AnyTerm}
-use Rattle.cv_scope.specs.Phrases.{Term, is_phrase}
+use Rattle.cv_scope_rules.specs.Phrases.{Term, is_phrase}
 use Rattle.cv_scenes.specs.Terms.{Names, above_at, is_there, names_at, signature_in}
 use Rattle.cv_rule_scenes.specs.Kept.{scene_of}
 use Rattle.cv_rule_scenes.proofs.Tests.{not-first, not-second, ok-same, then-third, there-at}

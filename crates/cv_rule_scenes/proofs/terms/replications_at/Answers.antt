@@ -2,7 +2,7 @@ use Rattle.std.proofs.Common.{rules, arith, ap, sym, ◌∙◌, [], Some}
 use Rattle.cv_syntax.specs.Tree.{tree_at}
 use Rattle.cv_syntax.proofs.Trees.{empty_at}
 use Rattle.cv_syntax.proofs.Walking.{size-node}
-use Rattle.cv_scope.specs.Context.{replications_below}
+use Rattle.cv_scope_rules.specs.Context.{replications_below}
 use Rattle.cv_rule_scenes.proofs.Above.{passed_to, passed-game, to-behind, to-here, to-nothing, to-within}
 use Rattle.cv_rule_scenes.proofs.terms.replications_at.Goals as goal
 

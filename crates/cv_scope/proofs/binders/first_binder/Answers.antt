@@ -1,6 +1,6 @@
 use Rattle.std.proofs.Common.{ap}
 use Rattle.cv_meaning.specs.Binders.{bound_names}
-use Rattle.cv_scope.specs.Sites.{bound_types}
+use Rattle.cv_scope_rules.specs.Sites.{bound_types}
 use Rattle.cv_syntax.proofs.Trees.{empty_at}
 use Rattle.cv_scope.proofs.binders.first_binder.Goals as goal
 

@@ -2,8 +2,8 @@ use Rattle.std.proofs.Common.{◌≡◌, length}
 use Rattle.cv_pool.specs.Nodes.{ChildBelow}
 use Rattle.cv_syntax.specs.Tree.{tree_at}
 use Rattle.cv_syntax.specs.Walks.{above}
-use Rattle.cv_scope.specs.Sites.{bound_types}
-use Rattle.cv_scope.specs.Tests.{same_numbers}
+use Rattle.cv_scope_rules.specs.Sites.{bound_types}
+use Rattle.cv_scope_rules.specs.Tests.{same_numbers}
 use Rattle.cv_scope.proofs.binders.have_same_types.Given as goal
 
 abbrev pub invariant-binders : goal.invariant-binders

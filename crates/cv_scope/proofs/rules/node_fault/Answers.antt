@@ -1,7 +1,7 @@
 use Rattle.std.proofs.Common.{ap, sym, ◌∙◌}
 use Rattle.cv_syntax.specs.Tree.{tree_at}
 use Rattle.cv_scope.specs.Held.{last_held, names_held}
-use Rattle.cv_scope.specs.Rules.{carries_current}
+use Rattle.cv_scope_rules.specs.Rules.{carries_current}
 use Rattle.cv_scope.specs.Seen.{is_well_replicated}
 use Rattle.cv_scope.proofs.Faults.{both-noted, channel-fails, channel-same, none-fail, replications-fail}
 use Rattle.cv_scope.proofs.rules.node_fault.Goals as goal

@@ -3,9 +3,9 @@ use Rattle.cv_pool.specs.Nodes.{ChildBelow}
 use Rattle.cv_syntax.specs.Tree.{size, tree_at}
 use Rattle.cv_syntax.specs.Walks.{above as rank}
 use Rattle.cv_scope.specs.Held.{AreListed, HasLiveBinders, Keeps, last_held, names_held, state_held}
-use Rattle.cv_scope.specs.Ordered.{EndBy}
+use Rattle.cv_scope_rules.specs.Ranges.{EndBy}
 use Rattle.cv_scope.specs.Seen.{found, with_sites}
-use Rattle.cv_scope.specs.Sites.{sites_from}
+use Rattle.cv_scope_rules.specs.Sites.{sites_from}
 use Rattle.cv_scope.proofs.walk.+walk.Given as goal
 
 abbrev pub decreases-walk : goal.decreases-walk

@@ -1,5 +1,6 @@
 use Rattle.std.proofs.Common.{sym, subst}
-use Rattle.cv_scope.specs.Ordered.{Rise, EndBy}
+use Rattle.cv_scope_rules.specs.Ranges.{EndBy}
+use Rattle.cv_scope.specs.Ordered.{Rise}
 use Rattle.cv_scope.proofs.Stacks.{rise-push}
 use Rattle.cv_scope.proofs.passed.Passed.add.Goals as goal
 

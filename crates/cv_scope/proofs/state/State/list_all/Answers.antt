@@ -1,6 +1,6 @@
 use Rattle.std.proofs.Common.{◌++◌, append-nil, ap, sym, ◌∙◌}
 use Rattle.cv_syntax.proofs.Trees.{empty_at}
-use Rattle.cv_scope.specs.Context.{items}
+use Rattle.cv_scope_rules.specs.Context.{items}
 use Rattle.cv_scope.specs.Held.{cells_held}
 use Rattle.cv_scope.proofs.state.State.list_all.Goals as goal
 

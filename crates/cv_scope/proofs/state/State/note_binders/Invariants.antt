@@ -4,7 +4,7 @@ use Rattle.cv_syntax.specs.Tree.{tree_at}
 use Rattle.cv_syntax.specs.Walks.{above as rank}
 use Rattle.cv_scope.specs.Held.{HasLiveBinders, SameAbove, last_held}
 use Rattle.cv_scope.specs.Seen.{may_stand_last, with_sites}
-use Rattle.cv_scope.specs.Sites.{variable_sites}
+use Rattle.cv_scope_rules.specs.Sites.{variable_sites}
 use Rattle.cv_scope.proofs.state.State.note_binders.Given as goal
 
 abbrev pub invariant-binders : goal.invariant-binders

@@ -3,7 +3,7 @@ use Rattle.cv_syntax.specs.declared.head.Head.{Head}
 use Rattle.cv_syntax.specs.Tree.{tree_at}
 use Rattle.cv_scope.specs.Held.{last_held, OnlySites}
 use Rattle.cv_scope.specs.Seen.{may_stand_last}
-use Rattle.cv_scope.specs.Sites.{Channel, Site, bound_types, channel_here}
+use Rattle.cv_scope_rules.specs.Sites.{Channel, Site, bound_types, channel_here}
 use Rattle.cv_scope.proofs.Noting.{one-may, one-noted, none-noted, site-is, no-channel, site_at}
 use Rattle.cv_scope.proofs.state.State.note_channel.Goals as goal
 

@@ -1,5 +1,5 @@
 use Rattle.cv_scope.specs.Held.{last_held}
-use Rattle.cv_scope.specs.Sites.{Label}
+use Rattle.cv_scope_rules.specs.Sites.{Label}
 use Rattle.cv_scope.proofs.Noting.{one-may, one-noted, plain-site}
 use Rattle.cv_scope.proofs.state.State.note_label.Goals as goal
 

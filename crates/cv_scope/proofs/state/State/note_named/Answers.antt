@@ -3,7 +3,7 @@ use Rattle.cv_syntax.specs.declared.head.Head.{Head}
 use Rattle.cv_syntax.specs.Tree.{Tree, tree_at}
 use Rattle.cv_scope.specs.Held.{last_held, OnlySites}
 use Rattle.cv_scope.specs.Seen.{may_stand_last}
-use Rattle.cv_scope.specs.Sites.{Site, named_here, variable_sites}
+use Rattle.cv_scope_rules.specs.Sites.{Site, named_here, variable_sites}
 use Rattle.cv_scope.proofs.Noting.{no-named, none-noted}
 use Rattle.cv_scope.proofs.state.State.note_named.Goals as goal
 

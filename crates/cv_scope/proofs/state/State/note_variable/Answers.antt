@@ -1,5 +1,5 @@
 use Rattle.cv_scope.specs.Held.{last_held}
-use Rattle.cv_scope.specs.Sites.{Variable}
+use Rattle.cv_scope_rules.specs.Sites.{Variable}
 use Rattle.cv_scope.proofs.Noting.{one-may, one-noted, plain-site}
 use Rattle.cv_scope.proofs.state.State.note_variable.Goals as goal
 

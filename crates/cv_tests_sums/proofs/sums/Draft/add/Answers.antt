@@ -1,6 +1,6 @@
 use Rattle.std.proofs.Common.{◌≤◌, arith}
 use Rattle.cv_bound.specs.Sums.{coefficients}
-use Rattle.cv_bound.proofs.Coefficients.{added_fits, still_bounded}
+use Rattle.cv_bound_values.proofs.Coefficients.{added_fits, still_bounded}
 use Rattle.cv_tests_sums.proofs.sums.Draft.add.Goals as goal
 
 pub add-requires : goal.add-requires

@@ -1,0 +1,2 @@
+pub mod ScriptTable
+pub mod Table

@@ -1,0 +1,2 @@
+pub mod ScriptSpelling
+pub mod Spelling

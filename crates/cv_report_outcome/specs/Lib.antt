@@ -1,0 +1,4 @@
+pub mod Fetched
+pub mod Refused
+pub mod Words
+pub mod Written

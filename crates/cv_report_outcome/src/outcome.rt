@@ -1,0 +1,64 @@
+ghost use Rattle.std.specs.Prelude.{◌≡◌, ◌≢◌, ◌⊎◌};
+ghost use Rattle.cv_outside.specs.Causes.{Rose};
+ghost use Rattle.cv_report.specs.Text.{IsLive, text_of};
+ghost use Rattle.cv_report.specs.Writing.{TakesAll, TakesFront};
+ghost use Rattle.cv_report_outcome.specs.Refused.{SaysMemory};
+ghost use Rattle.cv_report_outcome.specs.Written.{unwritten as unwritten_status};
+
+use crate::without_file::refused;
+use cv_outside::Sink;
+use cv_report::{Report, Status, WriteError, write as write_report};
+use std::alloc::Global;
+
+/// What a run answers.
+#[derive(Drop)]
+pub struct Outcome {
+    pub status: Status,
+    pub report: Report,
+}
+
+/// How a run ends whose report isn't written to its end. Want of memory merges with no fault.
+fn unwritten(status: Status) -> Status
+    ensures { result ≡ unwritten_status status }
+{
+    match status {
+        Status::Memory => Status::Memory,
+        _ => Status::Write,
+    }
+}
+
+/// What a run answers that has no memory left for the text of its report. Nothing is written then.
+fn spent(alloc: Global, report: Report) -> Outcome
+    ensures status { result.status ≡ Status.Memory }
+    ensures report { SaysMemory report.command result.report }
+{
+    Outcome {
+        status: Status::Memory,
+        report: refused(alloc, report.work, report.command, Status::Memory),
+    }
+}
+
+/// Writes a report.
+#[tactic(auto, using(crate::proofs::Written::unwritten_laws))]
+pub fn write<K: Sink>(alloc: Global, report: Report, sink: &mut K) -> Outcome
+    requires { IsLive report }
+    ensures kept { (result.report ≡ report) ⊎ SaysMemory report.command result.report }
+    ensures front { TakesFront (K.taken sink.old) (K.taken sink.new) (text_of result.report) }
+    ensures all { result.status ≢ Status.Write → result.status ≢ Status.Memory
+        → TakesAll (K.taken sink.old) (K.taken sink.new) (text_of result.report) }
+    ensures status { (result.status ≡ result.report.status)
+        ⊎ ((result.status ≡ Status.Write) × Rose (K.faults sink.old) (K.faults sink.new)) }
+    ensures memory { result.report.status ≡ Status.Memory → result.status ≡ Status.Memory }
+{
+    match write_report(alloc, sink, &report) {
+        Ok(()) => Outcome {
+            status: report.status,
+            report,
+        },
+        Err(WriteError::Failed) => Outcome {
+            status: unwritten(report.status),
+            report,
+        },
+        Err(WriteError::OutOfMemory) => spent(alloc, report),
+    }
+}

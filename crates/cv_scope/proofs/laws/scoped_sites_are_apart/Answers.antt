@@ -1,8 +1,0 @@
-use Rattle.cv_scope.proofs.Apart.{game-alike, game-branches}
-use Rattle.cv_scope.proofs.laws.scoped_sites_are_apart.Goals as goal
-
-pub returns-clause-alike : goal.returns-clause-alike
-returns-clause-alike c = λ ds game i. game-alike ds game i
-
-pub returns-clause-branches : goal.returns-clause-branches
-returns-clause-branches c = λ ds game i. game-branches ds game i

@@ -1,0 +1,14 @@
+pub mod Context
+pub mod Sites
+pub mod Standing
+pub mod Rules
+pub mod Tests
+pub mod Scope
+pub mod Refusals
+pub mod Worked
+pub mod Branches
+pub mod Phrases
+pub mod Made
+pub mod Behind
+pub mod Above
+pub mod Ranges

@@ -1,0 +1,12 @@
+// The rules of array scope: what a scoped game is, which node breaks a rule first, and laws of scoped games.
+#![tactic(auto)]
+
+mod fault;
+mod laws;
+mod position;
+
+pub use fault::{Fault, ScopeFault};
+pub use laws::{
+    game_faults_are_first, nodes_are_decided, scoped_sites_are_apart, tree_faults_are_first,
+};
+pub use position::Position;
