@@ -41,6 +41,7 @@ use Rattle.cv_syntax.specs.declared.work.Game.{Game}
 use Rattle.cv_plain.specs.Strategy.{Course, EndsAt, most_pool, most_steps, nothing_said, said_of, status_by}
 use Rattle.cv.specs.Contexts.{contexts_in}
 use Rattle.cv_report_outcome.specs.Refused.{SaysNothing}
+use Rattle.cv.specs.Drawings.{HasDrawn}
 use Rattle.cv.specs.Strategy.{AcceptsAll, EndsBy, EndsWell, HasFile, HoldsUpTo, IsExpected, IsGood, IsSound, Judged, Proceeds, SpeaksOfFile, Succeeds, declared_in, file_in, game_in, most_bytes, steps_in}
 use Rattle.cv_report_outcome.specs.Words.{AreTold, bytes_named, bytes_under}
 use Rattle.cv.proofs.Causing.{where_told}
@@ -203,7 +204,9 @@ close_without r e = subst (λ (o : Option SourceFile). IfSome o (λ f. (k : ℕ)
 
 pub answers_without : (told : Option (List ℕ)) (r : Report) → r.file ≡ None → SaysNothing r → (HasFile r.status → ⊥) → (SpeaksOfFile r.status → IfSome told (Judged r.status)) → Answers told r
 answers_without told r e n h j = record {
-  file = subst (λ (o : Option SourceFile). IfSome o (λ f. IfSome told (λ bytes. (names : ℕ) × IsFile most_pool bytes (file_in r f names)))) (sym e) tt;
+  names = 0;
+  file = subst (λ (o : Option SourceFile). IfSome o (λ f. IfSome told (λ bytes. IsFile most_pool bytes (file_in r f 0)))) (sym e) tt;
+  drawn = subst (λ (o : Option SourceFile). IfSome o (λ f. HasDrawn r (file_in r f 0))) (sym e) tt;
   follows = subst (λ (o : Option SourceFile). MatchOption o (SaysNothing r) (λ f. Proceeds r f (steps_in r))) (sym e) n;
   given = λ s. absurd (h s);
   only = λ s. absurd (let t = subst (λ (o : Option SourceFile). IsSome o) e s in cc);

@@ -13,3 +13,4 @@ pub mod Verdicts
 pub mod Walking
 pub mod Writing
 pub mod Ready
+pub mod Drawing

@@ -22,6 +22,7 @@ use Rattle.cv.specs.Causes.{ComesFrom, Outside}
 use Rattle.cv.specs.Runs.{IsSoundFor, Runs}
 use Rattle.cv.specs.Contexts.{contexts_in}
 use Rattle.cv_report_outcome.specs.Refused.{SaysNothing}
+use Rattle.cv.specs.Drawings.{HasDrawn}
 use Rattle.cv.specs.Strategy.{EndsBy, FollowsScript, HoldsUpTo, IsSound, Judged, Proceeds, declared_in, file_in, game_in, steps_in}
 use Rattle.cv_report_outcome.specs.Words.{AreTold}
 use Rattle.cv.proofs.Causing.{script_cause_of, verdict_cause, where_told}
@@ -58,8 +59,10 @@ module _ (c : Content) (f : File) (r : Report) where
     pub run_answers : (told : Option (List ℕ)) → AreTold told bytes → Runs c f r → Answers told r
     run_answers told a (inl s) = memory_answers told r s.file s.nothing s.status
     run_answers told a (inr h) = record {
-      file = subst (λ (o : Option File). IfSome o (λ g. IfSome told (λ b. (n : ℕ) × IsFile most_pool b (file_in r g n)))) (sym h.file)
-          (where_told told bytes (λ b. (n : ℕ) × IsFile most_pool b (file_in r f n)) a (length c.names, read_is_file most_pool bytes (file_in r f (length c.names)) (reads ∙ ap Ok (sym h.content))));
+      names = length c.names;
+      file = subst (λ (o : Option File). IfSome o (λ g. IfSome told (λ b. IsFile most_pool b (file_in r g (length c.names))))) (sym h.file)
+          (where_told told bytes (λ b. IsFile most_pool b (file_in r f (length c.names))) a (read_is_file most_pool bytes (file_in r f (length c.names)) (reads ∙ ap Ok (sym h.content))));
+      drawn = subst (λ (o : Option File). IfSome o (λ g. HasDrawn r (file_in r g (length c.names)))) (sym h.file) (subst (HasDrawn r) (sym h.content) h.drawn);
       follows = subst (λ (o : Option File). MatchOption o (SaysNothing r) (λ g. Proceeds r g (steps_in r))) (sym h.file) h.proceeds;
       given = λ s. subst (λ (o : Option File). IsSome o) (sym h.file) refl;
       only = λ s. h.status;

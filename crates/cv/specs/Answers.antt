@@ -7,13 +7,16 @@ use Rattle.cv_report.specs.declared.report.Status.TheVariants as status
 use Rattle.cv_report.specs.declared.report.Which.TheVariants.{File}
 use Rattle.cv_plain.specs.Strategy.{most_pool}
 use Rattle.cv_report_outcome.specs.Refused.{SaysNothing}
+use Rattle.cv.specs.Drawings.{HasDrawn}
 use Rattle.cv.specs.Strategy.{HasFile, Judged, MayHaveFile, Proceeds, SpeaksOfFile, file_in, most_bytes, steps_in}
 
--- A report's file is what the told bytes are, with the first of the report's names, and its steps, verdicts and status are those of its
--- proof block, or of the plain strategy where it has none. Without a file there are none. A status that speaks of a file is one that the
--- bytes call for.
+-- A report's file is what the told bytes are, with so many of the report's names; those behind them were drawn along its trail. Its
+-- steps, verdicts and status are those of its proof block, or of the plain strategy where it has none. Without a file there are none. A
+-- status that speaks of a file is one that the bytes call for.
 pub record Answers (told : Option (List ℕ)) (r : Report) : Type 0 where
-  pub file : IfSome r.file (λ f. IfSome told (λ bytes. (names : ℕ) × IsFile most_pool bytes (file_in r f names)))
+  pub names : ℕ
+  pub file : IfSome r.file (λ f. IfSome told (λ bytes. IsFile most_pool bytes (file_in r f names)))
+  pub drawn : IfSome r.file (λ f. HasDrawn r (file_in r f names))
   pub follows : MatchOption r.file (SaysNothing r) (λ f. Proceeds r f (steps_in r))
   pub given : HasFile r.status → IsSome r.file
   pub only : IsSome r.file → MayHaveFile r.status

@@ -8,3 +8,4 @@ pub mod Scripts
 pub mod Strategy
 pub mod Values
 pub mod Walks
+pub mod Drawings

@@ -11,6 +11,7 @@ use Rattle.cv_report.specs.declared.report.Verdict.{Verdict}
 use Rattle.cv_report.specs.declared.report.Verdict.TheVariants.{Proved}
 use Rattle.cv_report.specs.Text.{IsLive}
 use Rattle.cv_report_outcome.specs.Refused.{SaysNothing}
+use Rattle.cv.specs.Drawings.{HasDrawn}
 use Rattle.cv.specs.Strategy.{HoldsUpTo, MayHaveFile, Proceeds, file_in, steps_in}
 use Rattle.cv.specs.Values.{Contexts}
 
@@ -25,6 +26,7 @@ IsSoundFor c cs vs =
 pub record HasRun (c : Content) (f : File) (r : Report) : Type 0 where
   pub file : r.file ≡ Some f
   pub content : file_in r f (length c.names) ≡ c
+  pub drawn : HasDrawn r c
   pub proceeds : Proceeds r f (steps_in r)
   pub sound : steps_in r ≡ None → (cs : Contexts) → IsSoundFor c cs r.verdicts.items
   pub status : MayHaveFile r.status

@@ -12,7 +12,9 @@ ghost use Rattle.cv_context_products.specs.ShapesInCode.{shape_in};
 ghost use Rattle.cv_rule_scenes.specs.Kept.{scene_of};
 ghost use Rattle.cv_kernel_crypto.specs.Applied.{HasEquivalences};
 ghost use Rattle.cv_kernel.specs.Closings.{closing_in};
+ghost use Rattle.cv.specs.Drawings.{DrawsAlong};
 ghost use Rattle.cv.specs.Runs.{Runs};
+ghost use Rattle.cv.specs.Scripts.{entry_in};
 ghost use Rattle.cv.specs.Walks.{IsNoted, IsWalk, next_of, stop_of};
 
 use cv_bound::Cost;
@@ -135,6 +137,10 @@ pub fn follow(
         (tree_at work.old.pool.trees (Some game.root)) (trees_of work.old.pool.trees script.now)
         (map (λ n. tree_at work.old.pool.trees (Some n)) (queries work.old.decls.list))
         work.new.pool.trees w) }
+    ensures drawn { IfOk result (λ w. DrawsAlong
+        (declarations work.old.pool.trees work.old.decls.list) work.old.decls.own
+        (tree_at work.old.pool.trees (Some game.root))
+        (map (entry_in work.new.pool.trees) w.trail.items) work.old.names work.new.names) }
     ensures grows { OnOk result (Grows work.old.pool work.new.pool) }
     ensures names { take (length work.old.names) work.new.names ≡ work.old.names }
     ensures decls { work.new.decls ≡ work.old.decls }

@@ -1,4 +1,4 @@
-use Rattle.std.proofs.Common.{◌<◌, ◌≤◌, ap, ap₂, arith, length, subst, sym, take, refl, ◌∙◌, Some}
+use Rattle.std.proofs.Common.{◌<◌, ◌≤◌, ap, ap₂, arith, length, map, subst, sym, take, refl, ◌∙◌, Some}
 use Rattle.std.proofs.lemmas.List.{take_all}
 use Rattle.cv_pool.proofs.Growth.{Grows-refl, Grows-trans}
 use Rattle.cv_syntax.specs.Classes.{queries}
@@ -10,7 +10,10 @@ use Rattle.cv_scope_rules.specs.Phrases.{IsWellFormed}
 use Rattle.cv_bound.specs.Sums.{AllFit}
 use Rattle.cv_kernel_closed.specs.Queries.{first_unclosed, numbers_of, sum_in}
 use Rattle.cv_report_verdicts.specs.Verdicts.{ended_with, verdicts_by}
+use Rattle.cv.specs.Drawings.{DrawsAlong}
+use Rattle.cv.specs.Scripts.{entry_in}
 use Rattle.cv.specs.Walks.{stop_of}
+use Rattle.cv.proofs.Drawing.{drawn_next}
 use Rattle.cv.proofs.Growing.{names_kept}
 use Rattle.cv.proofs.Following.{asked, asked_by, equivalences_kept, followed_next, followed_none, followed_stops, on_none, room_after, walk_ends}
 use Rattle.cv.proofs.follow.follow.Goals as goal
@@ -26,6 +29,7 @@ steps-init c =
     let limit = c.requires.limit in
     record {
       followed = followed_none (length trees) (declarations trees work.decls.list) work.decls.own trees s c.new-trail.result.items (tree_at trees (Some c.args.game.root)) c.new-trail.ensures.items c.start-sequence.ensures.steps c.start-sequence.ensures.sum c.start-sequence.ensures.closed (omega arith) same;
+      drawn = subst (λ es. DrawsAlong (declarations trees work.decls.list) work.decls.own (tree_at trees (Some c.args.game.root)) (map (entry_in trees) es) work.names work.names) (sym c.new-trail.ensures.items) refl;
       stands = record {
         live = subst (λ (g : Game). g.root.0 < length trees) (sym c.start-sequence.ensures.game) here;
         small = subst (λ t. size t ≤ 50000) (sym same) c.requires.small;
@@ -66,12 +70,20 @@ steps-preserved c =
     record {
       followed = followed_next fn now (tree_at fn.pool.trees (Some c.args.game.root)) c.args.script.now c.requires.below c.requires.steps.live i.grows i.decls c.steps.step-index _ c.steps-test.true c.steps.sequence c.push.new.self c.steps.trail.items i.followed
           new.pool c.note.new.trail.items _ c.in-Ok.ensures.pushed c.in_ok-note-in-Ok.ensures c.push.ensures.grows i.stands.live c.push.ensures.stands.live few;
+      drawn = drawn_next fn now (tree_at fn.pool.trees (Some c.args.game.root)) c.requires.below i.grows i.decls _ c.steps.sequence c.push.new.self c.steps.trail.items c.note.new.trail.items _ new.pool new.names i.followed c.in_ok-note-in-Ok.ensures c.push.ensures.grows (c.requires.steps.live c.steps.step-index _ c.steps-test.true) c.in-Ok.ensures.drawn c.push.ensures.alone i.drawn;
       stands = c.push.ensures.stands;
       grows = Grows-trans fn.pool now.pool new.pool i.grows c.push.ensures.grows;
       room = omega (arith, room, limit);
       names = names_kept fn.names now.names new.names i.names c.push.ensures.names;
       decls = c.push.ensures.decls ∙ i.decls;
     }
+
+pub returns-in-Err-clause-drawn : goal.returns-in-Err-clause-drawn
+returns-in-Err-clause-drawn c =
+    let fn = c.args.work.now in
+    let new = c.push.new.work in
+    subst (DrawsAlong (declarations fn.pool.trees fn.decls.list) fn.decls.own (tree_at fn.pool.trees (Some c.args.game.root)) (map (entry_in new.pool.trees) c.steps.trail.items) fn.names) (sym c.in-Err.ensures.back)
+    (subst (λ ts. DrawsAlong (declarations fn.pool.trees fn.decls.list) fn.decls.own (tree_at fn.pool.trees (Some c.args.game.root)) (map (entry_in ts) c.steps.trail.items) fn.names c.steps.work.names) (sym c.in-Err.ensures.kept) c.steps.invariant.drawn)
 
 pub returns-clause-walk : goal.returns-clause-walk
 returns-clause-walk c =

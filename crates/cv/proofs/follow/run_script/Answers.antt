@@ -28,6 +28,7 @@ returns-clause-run c =
     inr (record {
       file = refl;
       content = held;
+      drawn = c.in-Ok.ensures.drawn;
       proceeds = record { walk = t.0; trail = t.1; steps = c.in-Ok-steps_of.ensures ∙ ap (map (λ e. e.step)) c.deref-2.ensures.value; verdicts = t.2 };
       sound = λ e. absurd (cc);
       status = walk_may _ _ _ _ _ _ _ walk c.in-Ok.ensures.walk;

@@ -40,6 +40,7 @@ returns-clause-run c =
     inr (record {
       file = refl;
       content = held;
+      drawn = c.answer.ensures.names;
       proceeds = found_follows _ c.args.file found (length trees) game _ c.in-Ok.ensures.found (ap (λ (h : Content). h.game) held) asked (omega arith) refl refl c.status-status.ensures trail;
       sound = λ e. sound_at ds game (queries_in ds) vs c.requires.formed (subst (λ (qs : List Tree). AreSound game qs vs) (sym (queries-same trees old.decls.list)) sound);
       status = subst MayHaveFile (sym c.status-status.ensures) (may_have_file found.need found.full found.all);

@@ -9,7 +9,7 @@ use Rattle.cv.specs.Answers.{IsComplete}
 use Rattle.cv.specs.Causes.{ComesFrom}
 use Rattle.cv.specs.Strategy.{most_bytes}
 use Rattle.cv_report_outcome.specs.Words.{bytes_under}
-use Rattle.cv.proofs.Endings.{fetch_answers, fetch_cause, fetch_complete, fetch_never, fetched_told, judged_complete, judged_speaks, speaks_never, under_told}
+use Rattle.cv.proofs.Endings.{close_without, fetch_answers, fetch_cause, fetch_complete, fetch_never, fetched_told, judged_complete, judged_speaks, sound_without, speaks_never, under_told}
 use Rattle.cv.proofs.top.prove.Goals as goal
 
 -- an error as an answer
@@ -29,6 +29,12 @@ pub returns-in-Ok-clause-complete : goal.returns-in-Ok-clause-complete
 returns-in-Ok-clause-complete g c = λ quiet.
     judged_complete _ _ _ (fetched_told (g.F.Shelf.told c.args.shelf.now) c.args.name.now _ _ c.deref.ensures.value c.in-Ok.ensures.bytes)
     (subst (λ (l : List ℕ). length l ≤ most_bytes) (sym c.deref.ensures.value) c.in-Ok.ensures.limit) c.judge.ensures.judged
+
+pub returns-in-Err-clause-sound : goal.returns-in-Err-clause-sound
+returns-in-Err-clause-sound g c = sound_without c.refused.result c.refused.ensures.file
+
+pub returns-in-Err-clause-games : goal.returns-in-Err-clause-games
+returns-in-Err-clause-games g c = close_without c.refused.result c.refused.ensures.file
 
 pub returns-in-Err-clause-never : goal.returns-in-Err-clause-never
 returns-in-Err-clause-never g c = subst (λ (s : Status). (s ≢ status.Words) × (s ≢ status.Write)) (sym (c.refused.ensures.status ∙ c.fetch_status.ensures)) (fetch_never c.in-Err.fault)
