@@ -22,7 +22,7 @@ use Rattle.cv_meaning.specs.Satisfies.{Satisfies}
 use Rattle.cv_meaning_contexts.specs.Sides.{Context}
 use Rattle.cv_meaning_values.specs.Values.{HasValuesIn}
 use Rattle.cv_kernel.specs.Closings.{Closing, closing_in, closing_of_items}
-use Rattle.cv_kernel.specs.Proofs.{IsProof, IsTransition, Transition, closed_by, push, start}
+use Rattle.cv_kernel.specs.Proofs.{IsProof, IsTransition, Transition, closed_by, game_behind, push, start}
 use Rattle.cv_kernel.specs.Sayings.{Accepted, MaySay}
 use Rattle.cv_plain.specs.Strategy.{closing, most_pool}
 use Rattle.cv_report.specs.declared.report.Entry.{Entry}
@@ -41,7 +41,7 @@ use Rattle.cv_derivations_under.specs.Soundness.{DerivationsHold, DerivedBodiesA
 use Rattle.cv.specs.Contexts.{context_by, contexts_from, contexts_in, contexts_of_file, game_behind as game_of_entry, with_context}
 use Rattle.cv.specs.Games.{HasCloseGames, IsWithin}
 use Rattle.cv.specs.Runs.{Runs}
-use Rattle.cv.specs.Scripts.{Told, entry_in, entry_of, game_behind, known_to}
+use Rattle.cv.specs.Scripts.{Told, entry_in, entry_of, known_to}
 use Rattle.cv.specs.Strategy.{FollowsScript, Proceeds, declared_in, file_in, game_in, most_bytes, steps_in}
 use Rattle.cv.specs.Values.{Contexts, advantage_of, advantages_in, context_of}
 use Rattle.cv.proofs.Closings.{nothing-more}

@@ -35,7 +35,7 @@ use Rattle.cv_steps_crypto.specs.Steps.{IsOutcome, Outcome}
 use Rattle.cv_steps_crypto.specs.Steps as outcome
 use Rattle.cv_kernel_crypto.specs.Applied as crypto
 use Rattle.cv_kernel.specs.Closings.{Closing, closing_failure, closing_in, closing_of_items, judgement_by_closing, judgement_in, judgement_of_failure}
-use Rattle.cv_kernel.specs.Proofs.{IsProof, IsTransition, Transition, closed_by, nodes_along, push, shape_at, shape_by, start, sum_behind, sum_of}
+use Rattle.cv_kernel.specs.Proofs.{IsProof, IsTransition, Transition, closed_by, game_behind, nodes_along, push, shape_at, shape_by, start, sum_behind, sum_of}
 use Rattle.cv_kernel.specs.Rules.{IsDrawn}
 use Rattle.cv_kernel.specs.Sayings.{Accepted, IsSaid, MaySay, saying_by, saying_of}
 use Rattle.cv_kernel_costs.specs.Costs.{advantage_of}
@@ -59,7 +59,7 @@ use Rattle.cv_steps.specs.Sequences.{scene}
 use Rattle.cv_query_certificates.specs.Failures.{Failure}
 use Rattle.cv_steps.specs.Judgements.{Judgement}
 use Rattle.cv_report_verdicts.specs.Verdicts.{ended_with, verdicts_by}
-use Rattle.cv.specs.Scripts.{EndsScript, Follows, LacksRoomFor, Stops, Told, entry_in, entry_of, first_open, game_behind, known_to, no_room, refused, too_deep, too_large, too_many, verdicts_of}
+use Rattle.cv.specs.Scripts.{EndsScript, Follows, LacksRoomFor, Stops, Told, entry_in, entry_of, first_open, known_to, no_room, refused, too_deep, too_large, too_many, verdicts_of}
 use Rattle.cv.specs.declared.follow.Walk.{Walk}
 use Rattle.cv.specs.Walks.{HasFollowed, IsNoted, IsWalk, closed_before, next_of, stop_of}
 use Rattle.cv.specs.Strategy.{MayHaveFile}

@@ -6,7 +6,7 @@ use Rattle.cv_kernel_closed.specs.Queries.{first_unclosed_from}
 use Rattle.cv_context_products.specs.Shapes.{Shape}
 use Rattle.cv_context_products.specs.ShapesInCode.{shape_in}
 use Rattle.cv_kernel.specs.Closings.{Closing, closing_in, judgement_in}
-use Rattle.cv_kernel.specs.Proofs.{IsProof, Transition, closed_by, nodes_along, sum_of}
+use Rattle.cv_kernel.specs.Proofs.{IsProof, Transition, closed_by, game_behind, nodes_along, sum_of}
 use Rattle.cv_kernel.specs.Rules.{HasNoRoom}
 use Rattle.cv_kernel.specs.Sayings.{IsSaid, Refused, TooDeep, TooLarge}
 use Rattle.cv_kernel.specs.Sequences.{needed}
@@ -76,10 +76,6 @@ Told = Tree × Cost × Option Shape × Option Tree
 
 abbrev pub entry_in : List KindTree → Entry → Told
 entry_in trees e = (tree_at trees (Some e.step.0), e.cost, option_map shape_in e.context, option_map (λ g. tree_at trees (Some g.root)) e.next)
-
-abbrev pub game_behind : Option Closing → (next : Tree) → Option Tree
-game_behind None next = Some next
-game_behind (Some c) next = None
 
 abbrev pub entry_of : Transition → Told
 entry_of t = (t.step, t.cost, t.context, game_behind (closing_in t.step) t.next)

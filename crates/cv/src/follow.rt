@@ -12,9 +12,10 @@ ghost use Rattle.cv_context_products.specs.ShapesInCode.{shape_in};
 ghost use Rattle.cv_rule_scenes.specs.Kept.{scene_of};
 ghost use Rattle.cv_kernel_crypto.specs.Applied.{HasEquivalences};
 ghost use Rattle.cv_kernel.specs.Closings.{closing_in};
-ghost use Rattle.cv.specs.Drawings.{DrawsAlong};
+ghost use Rattle.cv_kernel.specs.Drawings.{DrawsAlong};
+ghost use Rattle.cv.specs.Drawings.{led};
 ghost use Rattle.cv.specs.Runs.{Runs};
-ghost use Rattle.cv.specs.Scripts.{entry_in};
+ghost use Rattle.cv.specs.Scripts.{entry_in, known_to};
 ghost use Rattle.cv.specs.Walks.{IsNoted, IsWalk, next_of, stop_of};
 
 use cv_bound::Cost;
@@ -138,9 +139,10 @@ pub fn follow(
         (map (λ n. tree_at work.old.pool.trees (Some n)) (queries work.old.decls.list))
         work.new.pool.trees w) }
     ensures drawn { IfOk result (λ w. DrawsAlong
-        (declarations work.old.pool.trees work.old.decls.list) work.old.decls.own
-        (tree_at work.old.pool.trees (Some game.root))
-        (map (entry_in work.new.pool.trees) w.trail.items) work.old.names work.new.names) }
+        (declarations work.old.pool.trees work.old.decls.list) (known_to work.old.decls.own)
+        work.old.decls.own (tree_at work.old.pool.trees (Some game.root))
+        (map led (map (entry_in work.new.pool.trees) w.trail.items)) work.old.names
+        work.new.names) }
     ensures grows { OnOk result (Grows work.old.pool work.new.pool) }
     ensures names { take (length work.old.names) work.new.names ≡ work.old.names }
     ensures decls { work.new.decls ≡ work.old.decls }

@@ -9,3 +9,4 @@ mod StepAnswers
 pub mod Pushes
 mod Reduced
 pub mod Steps
+pub mod Drawn

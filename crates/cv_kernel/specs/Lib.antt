@@ -6,3 +6,4 @@ pub mod ClosingTrees
 pub mod Reducings
 pub mod Sequences
 pub mod Proofs
+pub mod Drawings

@@ -41,6 +41,11 @@ abbrev pub closed_by : List Transition → List ℕ
 closed_by [] = []
 closed_by (t ∷ ts) = number_before (closing_in t.step) (closed_by ts)
 
+-- the game of its own that a step leads to: one that closes a query leads to none
+abbrev pub game_behind : Option Closing → (next : Tree) → Option Tree
+game_behind None next = Some next
+game_behind (Some c) next = None
+
 -- the step is accepted in a game, at this cost, where it has this number and these queries are closed, and leads to the next
 pub record IsTransition (ds : List Declaration) (known : ℕ → Bool) (number : ℕ) (closed : List ℕ) (game : Tree) (t : Transition) : Type 0 where
   pub accepted : IsSaid (scene ds known game) closed number t.step (Accepted t.next t.cost)

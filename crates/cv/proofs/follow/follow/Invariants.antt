@@ -5,15 +5,16 @@ use Rattle.cv_syntax.specs.Tree.{tree_at}
 use Rattle.cv_parse_script.specs.Scripts.{trees_of}
 use Rattle.cv_plain.specs.Strategy.{most_pool}
 use Rattle.cv_kernel.specs.Sequences.{Stands}
-use Rattle.cv.specs.Drawings.{DrawsAlong}
-use Rattle.cv.specs.Scripts.{entry_in}
+use Rattle.cv_kernel.specs.Drawings.{DrawsAlong}
+use Rattle.cv.specs.Drawings.{led}
+use Rattle.cv.specs.Scripts.{entry_in, known_to}
 use Rattle.cv.specs.Walks.{HasFollowed}
 use Rattle.cv.proofs.follow.follow.Given as goal
 
 abbrev pub invariant-steps : goal.invariant-steps
 invariant-steps l = record {
   followed : HasFollowed (length l.fn.work.pool.trees) (declarations l.fn.work.pool.trees l.fn.work.decls.list) l.fn.work.decls.own (tree_at l.fn.work.pool.trees (Some l.fn.game.root)) (trees_of l.fn.work.pool.trees (take l.step-index l.script)) l.work.pool.trees l.sequence l.trail.items;
-  drawn : DrawsAlong (declarations l.fn.work.pool.trees l.fn.work.decls.list) l.fn.work.decls.own (tree_at l.fn.work.pool.trees (Some l.fn.game.root)) (map (entry_in l.work.pool.trees) l.trail.items) l.fn.work.names l.work.names;
+  drawn : DrawsAlong (declarations l.fn.work.pool.trees l.fn.work.decls.list) (known_to l.fn.work.decls.own) l.fn.work.decls.own (tree_at l.fn.work.pool.trees (Some l.fn.game.root)) (map led (map (entry_in l.work.pool.trees) l.trail.items)) l.fn.work.names l.work.names;
   stands : Stands l.work.pool.trees l.work.decls l.sequence;
   grows : Grows l.fn.work.pool l.work.pool;
   room : length l.work.pool.trees ≤ most_pool;

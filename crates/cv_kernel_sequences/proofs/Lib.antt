@@ -1,0 +1,2 @@
+pub mod OneSequence
+pub mod OneTable
