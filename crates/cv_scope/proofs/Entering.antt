@@ -10,7 +10,8 @@ use Rattle.cv_scope_rules.specs.declared.position.Position.{Position}
 use Rattle.cv_scope.specs.declared.state.State.{State}
 use Rattle.cv_scope_rules.specs.Context.{replications_below}
 use Rattle.cv_scope.specs.Held.{AreListed, DefinesOnly, Extends, IsEntered, ListsOnly, cells_held, state_held}
-use Rattle.cv_scope.specs.Seen.{defined_by, is_defined, listed_by, passed_by, with_definition, with_definitions}
+use Rattle.cv_scope.specs.Seen.{defined_by, listed_by, passed_by, with_definitions}
+use Rattle.cv_scope_tables.specs.Definitions.{is_defined, with_definition}
 
 pub on-ok : {X E : Type 0} (r : Result X E) (A B : Type 0) → (A → B) → OnOk r A → OnOk r B
 on-ok r A B f m = IfOk-weaker r (λ x. A) (λ x. B) (λ x y. f y) m

@@ -3,9 +3,9 @@ pub mod Latest
 pub mod Noting
 pub mod Entering
 pub mod Faults
-pub mod Stacks
-pub mod Listing
 pub mod Comparing
 pub mod Agreeing
 pub mod Reaching
 pub mod Constants
+pub mod Rising
+pub mod Cells

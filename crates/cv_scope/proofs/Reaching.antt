@@ -13,9 +13,10 @@ use Rattle.cv_directory.specs.Pairs.{same_pair}
 use Rattle.cv_scope_rules.specs.declared.position.Position.{Position}
 use Rattle.cv_scope_rules.specs.declared.position.Position.TheVariants.{Bodies, ElseBody, Guards, Guarded, Cells}
 use Rattle.cv_scope_rules.specs.Context.{Context, cell_of, cells_of, index_terms, items, first_context, second_context, item_context, rest_context, replications_below}
-use Rattle.cv_scope.specs.Seen.{Seen, behind, current, defined_by, is_cons, is_defined, is_defined_at, is_reached, listed_by, plus_one, reads_definition, with_definition, with_definitions}
+use Rattle.cv_scope.specs.Seen.{Seen, behind, current, defined_by, is_cons, is_defined_at, is_reached, listed_by, plus_one, reads_definition, with_definitions}
+use Rattle.cv_scope_tables.specs.Definitions.{is_defined, with_definition}
 use Rattle.cv_scope_rules.specs.Tests.{is_in_reach}
-use Rattle.cv_scope.proofs.Stacks.{pair-same}
+use Rattle.cv_scope_tables.proofs.Stacks.{pair-same}
 
 -- truth values
 

@@ -1,4 +1,3 @@
 pub mod Seen
 pub mod Held
-pub mod Ordered
-pub mod Places
+pub mod Rising

@@ -8,7 +8,7 @@ use Rattle.cv_syntax.specs.Children.{is_empty, is_leaf}
 use Rattle.cv_syntax.specs.Tree.{Tree, Empty, Node, second, same_tree, first_place, second_place}
 use Rattle.cv_meaning.specs.Binders.{bound_names}
 use Rattle.cv_directory.specs.Sites.{first_of}
-use Rattle.cv_directory.specs.Pairs.{same_pair}
+use Rattle.cv_scope_tables.specs.Definitions.{is_defined, with_definition}
 use Rattle.cv_scope_rules.specs.declared.fault.Fault.{Fault}
 use Rattle.cv_scope_rules.specs.declared.fault.Fault.TheVariants.{Unscoped, TwoSites, Channel, Replications}
 use Rattle.cv_scope_rules.specs.declared.position.Position.{Position}
@@ -38,9 +38,6 @@ abbrev pub nothing_seen : Seen
 nothing_seen = record { replications = []; defined = []; listed = []; passed = []; last = no_site }
 
 -- reads
-
-abbrev pub is_defined : List (ℕ × ℕ) → ℕ × ℕ → Bool
-is_defined ds d = list_any (same_pair d) ds
 
 abbrev pub plus_one : Option ℕ → Option ℕ
 plus_one None = None
@@ -124,9 +121,6 @@ defined_by (Key x) a = x ∷ []
 defined_by (Call x l) a = x ∷ []
 defined_by Branch a = bound_names a
 defined_by h a = []
-
-abbrev pub with_definition : List (ℕ × ℕ) → ℕ × ℕ → List (ℕ × ℕ)
-with_definition ds d = if is_defined ds d then ds else ds ++ d ∷ []
 
 abbrev pub with_definitions : List (ℕ × ℕ) → ℕ → List ℕ → List (ℕ × ℕ)
 with_definitions ds k [] = ds

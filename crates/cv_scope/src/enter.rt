@@ -6,7 +6,8 @@ ghost use Rattle.cv_meaning.specs.Binders.{bound_names};
 ghost use Rattle.cv_scope_rules.specs.Context.{items};
 ghost use Rattle.cv_scope.specs.Held.{AreListed, DefinesOnly, IsEntered, IsTaken, ListsOnly, state_held};
 ghost use Rattle.cv_scope_rules.specs.Ranges.{EndBy};
-ghost use Rattle.cv_scope.specs.Seen.{with_definition, with_definitions};
+ghost use Rattle.cv_scope.specs.Seen.{with_definitions};
+ghost use Rattle.cv_scope_tables.specs.Definitions.{with_definition};
 
 use crate::binders::first_binder;
 use crate::state::State;

@@ -3,13 +3,10 @@
 
 mod binders;
 mod checking;
-mod defined;
 mod enter;
 mod lasts;
-mod listed;
 mod names;
 mod passed;
-mod places;
 mod reads;
 mod rules;
 mod state;

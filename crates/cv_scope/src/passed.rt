@@ -1,6 +1,6 @@
 ghost use Rattle.std.specs.Prelude.{◌≡◌, ◌≤◌, ◌++◌, ◌∷◌, [], length, take, OnOk};
 ghost use Rattle.cv_scope_rules.specs.Ranges.{EndBy};
-ghost use Rattle.cv_scope.specs.Ordered.{Rise};
+ghost use Rattle.cv_scope.specs.Rising.{Rise};
 ghost use Rattle.cv_scope_rules.specs.Tests.{is_in_one_of};
 
 use std::alloc::{AllocError, Global};
@@ -14,7 +14,7 @@ pub struct Passed {
 
 impl Model for Passed {
     ghost use Rattle.std.specs.Prelude.{ℕ, List};
-    ghost use Rattle.cv_scope.specs.Ordered.{Rise};
+    ghost use Rattle.cv_scope.specs.Rising.{Rise};
 
     ghost Value = { List (ℕ × ℕ) };
 

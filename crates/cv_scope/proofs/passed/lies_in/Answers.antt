@@ -1,6 +1,6 @@
 use Rattle.std.proofs.Common.{◌-◌, leb, ℕ, rules, arith, refl, get_or}
 use Rattle.std.proofs.lemmas.List.Sorted.{IsPartitionPoint-from_clause, IsPartitionedBy-leb}
-use Rattle.cv_scope.proofs.Stacks.{rise-orders, in-no-range, in-last-range}
+use Rattle.cv_scope.proofs.Rising.{rise-orders, in-no-range, in-last-range}
 use Rattle.cv_scope.proofs.passed.lies_in.Goals as goal
 
 pub returns-then-behind-eq0 : goal.returns-then-behind-eq0

@@ -1,5 +1,5 @@
 use Rattle.std.proofs.Common.{sym, ◌∙◌}
-use Rattle.cv_scope.proofs.Listing.{listed-node}
+use Rattle.cv_scope.proofs.Cells.{listed-node}
 use Rattle.cv_scope.proofs.reads.is_listed.Goals as goal
 
 pub returns-then-has : goal.returns-then-has

@@ -1,7 +1,7 @@
 use Rattle.std.proofs.Common.{sym, subst}
 use Rattle.cv_scope_rules.specs.Ranges.{EndBy}
-use Rattle.cv_scope.specs.Ordered.{Rise}
-use Rattle.cv_scope.proofs.Stacks.{rise-push}
+use Rattle.cv_scope.specs.Rising.{Rise}
+use Rattle.cv_scope.proofs.Rising.{rise-push}
 use Rattle.cv_scope.proofs.passed.Passed.add.Goals as goal
 
 pub invariant_of-self-2 : goal.invariant_of-self-2

@@ -1,6 +1,6 @@
 use Rattle.std.proofs.Common.{sym, subst}
-use Rattle.cv_scope.specs.Ordered.{Rise}
-use Rattle.cv_scope.proofs.Stacks.{rise-take}
+use Rattle.cv_scope.specs.Rising.{Rise}
+use Rattle.cv_scope.proofs.Rising.{rise-take}
 use Rattle.cv_scope.proofs.passed.Passed.keep.Goals as goal
 
 pub invariant_of-self : goal.invariant_of-self

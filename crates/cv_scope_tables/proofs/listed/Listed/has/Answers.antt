@@ -1,7 +1,7 @@
 use Rattle.std.proofs.Common.{sym, ◌∙◌, subst}
-use Rattle.cv_scope.specs.Ordered.{AreNumbersPlaced}
-use Rattle.cv_scope.proofs.Listing.{number-past, number-there, number-unknown}
-use Rattle.cv_scope.proofs.listed.Listed.has.Goals as goal
+use Rattle.cv_scope_tables.specs.Ordered.{AreNumbersPlaced}
+use Rattle.cv_scope_tables.proofs.Listing.{number-past, number-there, number-unknown}
+use Rattle.cv_scope_tables.proofs.listed.Listed.has.Goals as goal
 
 pub returns-in-Some-at : goal.returns-in-Some-at
 returns-in-Some-at c =

@@ -1,6 +1,6 @@
 use Rattle.std.proofs.Common.{◌≡◌, ℕ, ◌+◌, ◌-◌, length}
-use Rattle.cv_scope.specs.Places.{row_at}
-use Rattle.cv_scope.proofs.places.reach.Given as goal
+use Rattle.cv_scope_tables.specs.Places.{row_at}
+use Rattle.cv_scope_tables.proofs.places.reach.Given as goal
 
 abbrev pub invariant-rows : goal.invariant-rows
 invariant-rows l = record {

@@ -1,9 +1,9 @@
 use Rattle.std.proofs.Common.{arith, ◌≡◌, sym, ◌∙◌, subst, ap, false, Some, length}
-use Rattle.cv_scope.specs.Ordered.{IsPlaced}
-use Rattle.cv_scope.specs.Places.{place_of}
-use Rattle.cv_scope.specs.Seen.{is_defined}
-use Rattle.cv_scope.proofs.Stacks.{placed-insert, placed-push}
-use Rattle.cv_scope.proofs.defined.Defined.add.Goals as goal
+use Rattle.cv_scope_tables.specs.Ordered.{IsPlaced}
+use Rattle.cv_scope_tables.specs.Places.{place_of}
+use Rattle.cv_scope_tables.specs.Definitions.{is_defined}
+use Rattle.cv_scope_tables.proofs.Stacks.{placed-insert, placed-push}
+use Rattle.cv_scope_tables.proofs.defined.Defined.add.Goals as goal
 
 pub invariant_of-self-in_err-push : goal.invariant_of-self-in_err-push
 invariant_of-self-in_err-push c =

@@ -1,15 +1,10 @@
 -- Listed cells by their numbers.
-use Rattle.std.proofs.Common.{◌≡◌, ℕ, zero, suc, ◌+◌, ◌<◌, ◌≤◌, Bool, true, false, ◌||◌, ◌⊎◌, inl, inr, List, [], ◌∷◌, ◌++◌, length, take, drop, refl, ap, sym, ◌∙◌, arith, subst, Option, Some, None, nat_eq, eqb-true, get_or}
-use Rattle.std.specs.List.{list_any}
+use Rattle.std.proofs.Common.{◌≡◌, ℕ, zero, suc, ◌<◌, Bool, true, false, ◌⊎◌, inl, inr, List, [], ◌∷◌, ◌++◌, length, take, refl, ap, sym, ◌∙◌, arith, subst, Option, Some, None, nat_eq, eqb-true, get_or}
 use Rattle.std.specs.HashMap.{get, IsUnchanged, Updates}
 use Rattle.std.specs.Map.{lookup}
 use Rattle.std.proofs.lemmas.Bool.{or_cases, or_left, or_right, both_ways, eq-eqb, ne_eqb}
-use Rattle.cv_pool.specs.KindTree.{KindTree}
 use Rattle.cv_pool.specs.declared.node.NodeId.{NodeId}
-use Rattle.cv_syntax.specs.Tree.{Tree, same_tree, tree_at}
-use Rattle.cv_scope.specs.Held.{cells_held}
-use Rattle.cv_scope.specs.Ordered.{AreNumbersPlaced, IsPlacedBy, MapFrom, has_number, is_node}
-use Rattle.cv_scope_rules.proofs.Trees.{same-tree}
+use Rattle.cv_scope_tables.specs.Ordered.{AreNumbersPlaced, IsPlacedBy, MapFrom, has_number, is_node}
 
 abbrev Cells : Type 0
 Cells = List (Option NodeId)
@@ -144,28 +139,3 @@ placed-front n cells m i k c s =
     let r = at-take n cells k c s in
     let p = i k c r.0 in
     record { place = p.place; node = p.node; known = p.known; before = p.before; there = take-at n cells p.place p.node (omega (arith, p.before, r.1)) p.there; same = p.same }
-
--- cells of a pool
-
--- the tree of a node that is listed is listed
-pub listed-node : (trees : List KindTree) (t : NodeId) (cells : Cells) → has_number cells t.0 ≡ true → list_any (same_tree (tree_at trees (Some t))) (cells_held trees cells) ≡ true
-listed-node trees t [] h = absurd (both_ways _ refl h)
-listed-node trees t (None ∷ cells) h = or_right (same_tree (tree_at trees (Some t)) (tree_at trees None)) _ (listed-node trees t cells h)
-listed-node trees t (Some c ∷ cells) h = elim (or_cases (nat_eq t.0 c.0) (has_number cells t.0) h) [
-  | inl m ↦ or_left (same_tree (tree_at trees (Some t)) (tree_at trees (Some c))) _ (same-tree (tree_at trees (Some t)) (tree_at trees (Some c)) (let e = eqb-true t.0 c.0 m in λ i. tree_at trees (Some (record { 0 = e i }))))
-  | inr m ↦ or_right (same_tree (tree_at trees (Some t)) (tree_at trees (Some c))) _ (listed-node trees t cells m)
-]
-
--- whether a test holds of one of the cells from here on
-pub any-here : (p : Tree → Bool) (trees : List KindTree) (cells : Cells) (i : ℕ) → i < length cells → list_any p (cells_held trees (drop i cells)) ≡ (p (tree_at trees (get_or cells i None)) || list_any p (cells_held trees (drop (i + 1) cells)))
-any-here p trees [] i l = absurd (omega arith)
-any-here p trees (c ∷ cells) zero l = refl
-any-here p trees (c ∷ cells) (suc i) l =
-    let e : suc (i + 1) ≡ suc i + 1 = omega arith in
-    any-here p trees cells i (omega arith) ∙ ap (λ n. p (tree_at trees (get_or cells i None)) || list_any p (cells_held trees (drop n (c ∷ cells)))) e
-
-pub any-none : (p : Tree → Bool) (trees : List KindTree) (cells : Cells) (i : ℕ) → length cells ≤ i → list_any p (cells_held trees (drop i cells)) ≡ false
-any-none p trees [] zero l = refl
-any-none p trees [] (suc i) l = refl
-any-none p trees (c ∷ cells) zero l = absurd (omega arith)
-any-none p trees (c ∷ cells) (suc i) l = any-none p trees cells i (omega arith)

@@ -1,7 +1,7 @@
 use Rattle.std.proofs.Common.{sym, ◌∙◌, subst}
-use Rattle.cv_scope.specs.Ordered.{IsPlaced}
-use Rattle.cv_scope.proofs.Stacks.{has-some, has-past, has-none}
-use Rattle.cv_scope.proofs.defined.Defined.has.Goals as goal
+use Rattle.cv_scope_tables.specs.Ordered.{IsPlaced}
+use Rattle.cv_scope_tables.proofs.Stacks.{has-some, has-past, has-none}
+use Rattle.cv_scope_tables.proofs.defined.Defined.has.Goals as goal
 
 pub returns-in-Some-at : goal.returns-in-Some-at
 returns-in-Some-at c =

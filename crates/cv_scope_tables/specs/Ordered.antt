@@ -1,12 +1,12 @@
 -- Lists that are searched by a table or by their order.
-use Rattle.std.specs.Prelude.{◌≡◌, ◌≤◌, ℕ, Bool, false, nat_eq, List, [], ◌∷◌, slice_get, slice_index_or, Option, Some, None}
-use Rattle.std.specs.List.{AllByRecursion, list_any}
+use Rattle.std.specs.Prelude.{◌≡◌, ◌≤◌, ℕ, Bool, false, nat_eq, List, slice_get, slice_index_or, Option, Some, None}
+use Rattle.std.specs.List.{list_any}
 use Rattle.std.specs.declared.hash.FoldHasher.{FoldHasher}
 use Rattle.std.specs.declared.hash.BuildHasherDefault.{BuildHasherDefault}
 use Rattle.std.specs.HashMap.{get, HashMap}
 use Rattle.cv_pool.specs.declared.node.NodeId.{NodeId}
-use Rattle.cv_scope.specs.declared.places.Places.{Places}
-use Rattle.cv_scope.specs.Places.{place_of}
+use Rattle.cv_scope_tables.specs.declared.places.Places.{Places}
+use Rattle.cv_scope_tables.specs.Places.{place_of}
 
 abbrev pub MapFrom : Type 0 → Type 0 → Type 0
 MapFrom K X = HashMap K X (BuildHasherDefault FoldHasher)
@@ -36,8 +36,3 @@ pub record IsPlacedBy (cells : List (Option NodeId)) (places : MapFrom ℕ ℕ) 
 -- the number of each cell has a place in a table; a number that no cell of the list has may have one too
 abbrev pub AreNumbersPlaced : List (Option NodeId) → MapFrom ℕ ℕ → Type 0
 AreNumbersPlaced cells places = (k : ℕ) (c : NodeId) → slice_index_or cells k None ≡ Some c → IsPlacedBy cells places k c.0
-
--- ranges one behind the other
-abbrev pub Rise : List (ℕ × ℕ) → Type 0
-Rise [] = Unit {0}
-Rise (r ∷ rs) = AllByRecursion (λ (q : ℕ × ℕ). r.1 ≤ q.0) rs × (r.0 ≤ r.1) × Rise rs

@@ -1,8 +1,8 @@
 use Rattle.std.proofs.Common.{arith, ◌≡◌, ap, sym, ◌∙◌, subst, true, false, Some, length, nat_eq}
 use Rattle.std.specs.HashMap.{get}
-use Rattle.cv_scope.specs.Ordered.{AreNumbersPlaced, has_number}
-use Rattle.cv_scope.proofs.Listing.{placed-again, placed-new, placed-none, placed-other, placed-same}
-use Rattle.cv_scope.proofs.listed.Listed.add.Goals as goal
+use Rattle.cv_scope_tables.specs.Ordered.{AreNumbersPlaced, has_number}
+use Rattle.cv_scope_tables.proofs.Listing.{placed-again, placed-new, placed-none, placed-other, placed-same}
+use Rattle.cv_scope_tables.proofs.listed.Listed.add.Goals as goal
 
 pub invariant_of-self-in_default : goal.invariant_of-self-in_default
 invariant_of-self-in_default c = subst (λ l. AreNumbersPlaced l c.self.inside.places) (sym c.in_ok-push.ensures.items) (placed-none c.self.inside.list.items c.self.inside.places c.self.invariant)

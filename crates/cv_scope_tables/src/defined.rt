@@ -1,5 +1,5 @@
 ghost use Rattle.std.specs.Prelude.{◌≡◌, ◌≤◌, [], length, take, slice_get, OnOk};
-ghost use Rattle.cv_scope.specs.Seen.{is_defined, with_definition};
+ghost use Rattle.cv_scope_tables.specs.Definitions.{is_defined, with_definition};
 
 use crate::places::Places;
 use std::alloc::{AllocError, Global};
@@ -14,7 +14,7 @@ pub struct Defined {
 
 impl Model for Defined {
     ghost use Rattle.std.specs.Prelude.{ℕ, List};
-    ghost use Rattle.cv_scope.specs.Ordered.{IsPlaced};
+    ghost use Rattle.cv_scope_tables.specs.Ordered.{IsPlaced};
 
     ghost Value = { List (ℕ × ℕ) };
 

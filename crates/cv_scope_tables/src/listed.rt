@@ -1,5 +1,5 @@
 ghost use Rattle.std.specs.Prelude.{◌≡◌, ◌++◌, ◌∷◌, [], length, take, OnOk, None, slice_index_or};
-ghost use Rattle.cv_scope.specs.Ordered.{has_number};
+ghost use Rattle.cv_scope_tables.specs.Ordered.{has_number};
 
 use cv_syntax::NodeId;
 use std::alloc::{AllocError, Global};
@@ -16,7 +16,7 @@ pub struct Listed {
 impl Model for Listed {
     ghost use Rattle.std.specs.Prelude.{List, Option};
     ghost use Rattle.cv_pool.specs.declared.node.NodeId.{NodeId};
-    ghost use Rattle.cv_scope.specs.Ordered.{AreNumbersPlaced};
+    ghost use Rattle.cv_scope_tables.specs.Ordered.{AreNumbersPlaced};
 
     ghost Value = { List (Option NodeId) };
 
