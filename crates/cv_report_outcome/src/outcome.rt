@@ -10,7 +10,7 @@ use cv_outside::Sink;
 use cv_report::{Report, Status, WriteError, write as write_report};
 use std::alloc::Global;
 
-/// What a run answers.
+/// What a run answers: how it ended, by which its exit code goes, and the report that was put.
 #[derive(Drop)]
 pub struct Outcome {
     pub status: Status,
@@ -38,7 +38,8 @@ fn spent(alloc: Global, report: Report) -> Outcome
     }
 }
 
-/// Writes a report.
+/// Puts the text of a report into a sink, line by line. A sink that fails ends the run by `Write`; without memory for the
+/// text nothing is put, and the report is one of memory.
 #[tactic(auto, using(crate::proofs::Written::unwritten_laws))]
 pub fn write<K: Sink>(alloc: Global, report: Report, sink: &mut K) -> Outcome
     requires { IsLive report }
