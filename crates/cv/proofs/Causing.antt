@@ -19,19 +19,19 @@ use Rattle.cv_parse_notation.specs.declared.sign.Sign.{Sign}
 use Rattle.cv_parse_grammar.specs.Names as names
 use Rattle.cv_parse_depth.specs.Files.{IsDeadAtEveryDepth, IsNestedTooDeep}
 use Rattle.cv_syntax.specs.declared.work.BuildError.TheVariants as build
-use Rattle.cv_syntax.specs.Tree.{Tree}
+use Rattle.cv_syntax_trees.specs.Tree.{Tree}
 use Rattle.cv_parse.specs.declared.error.ParseError.{ParseError}
 use Rattle.cv_parse.specs.declared.error.ParseError.TheVariants as parse
 use Rattle.cv_parse.specs.Parsed.{Parsed, parsed}
 use Rattle.cv_parse.specs.Says.{HasDepth, HasNodes, HasWeight, IsLarge, IsMisnamedAt}
 use Rattle.cv_parse.proofs.Exactness.{deep_game, heavy_trees, large_game, said_is_saying, twice_named, unknown_name}
-use Rattle.cv_syntax.specs.Declarations.{Declaration}
-use Rattle.cv_typing.specs.declared.fault.Fault.{Fault}
-use Rattle.cv_typing.specs.declared.fault.Fault.TheVariants as type
-use Rattle.cv_typing.specs.declared.fault.TypeFault.{TypeFault}
-use Rattle.cv_typing.specs.Parts.{IsFirstIn, Part, file_parts}
-use Rattle.cv_typing.specs.Refusals.{IsFirstRefusal, refusal}
-use Rattle.cv_typing.proofs.First.{finds_first_in, parts_typed_where_none}
+use Rattle.cv_syntax_trees.specs.Declarations.{Declaration}
+use Rattle.cv_typing_rules.specs.declared.fault.Fault.{Fault}
+use Rattle.cv_typing_rules.specs.declared.fault.Fault.TheVariants as type
+use Rattle.cv_typing_rules.specs.declared.fault.TypeFault.{TypeFault}
+use Rattle.cv_typing_rules.specs.Parts.{IsFirstIn, Part, file_parts}
+use Rattle.cv_typing_rules.specs.Refusals.{IsFirstRefusal, refusal}
+use Rattle.cv_typing_rules.proofs.First.{finds_first_in, parts_typed_where_none}
 use Rattle.cv_scope_rules.specs.declared.fault.Fault.{Fault as ScopeRules}
 use Rattle.cv_scope_rules.specs.declared.fault.ScopeFault.{ScopeFault}
 use Rattle.cv_scope_rules.specs.Refusals.{refusal as scope_refusal}
@@ -68,8 +68,8 @@ use Rattle.cv_report_outcome.specs.Words.{AreTold}
 use Rattle.cv_query_direct.specs.Plain.{certificate}
 use Rattle.cv_plain.specs.Strategy.{EndsAt, Said, is_closed, is_proved, lacks_step, left_open, most_pool, most_steps, nothing_said, open_verdict, said_of, said_then}
 use Rattle.cv_report_verdicts.specs.Verdicts.{ended_with}
-use Rattle.cv.specs.Scripts.{EndsScript, entry_in, entry_of, first_open, known_to}
-use Rattle.cv.proofs.Closings.{all-proved}
+use Rattle.cv_follow.specs.Scripts.{EndsScript, entry_in, entry_of, first_open, known_to}
+use Rattle.cv_follow.proofs.Closings.{all-proved}
 use Rattle.cv.specs.Strategy.{FollowsScript, FollowsStrategy, declared_in, file_in, game_in, nodes_in, said_in, steps_in}
 use Rattle.cv_kernel.specs.Proofs.{closed_by, nodes_along}
 use Rattle.cv_steps.specs.Sequences.{scene}

@@ -7,12 +7,13 @@ use Rattle.cv_outside.specs.declared.shelf.FetchError.{FetchError}
 use Rattle.cv_outside.specs.declared.shelf.FetchError.TheVariants as fetch
 use Rattle.cv_syntax.specs.declared.work.BuildError.TheVariants as build
 use Rattle.cv_syntax.specs.declared.work.File.{File as SourceFile}
-use Rattle.cv_syntax.specs.Tree.{Tree, tree_at}
+use Rattle.cv_syntax_trees.specs.Tree.{Tree}
+use Rattle.cv_syntax.specs.PoolTrees.{tree_at}
 use Rattle.cv_bound.specs.declared.terms.Term.{Term}
 use Rattle.cv_parse.specs.declared.error.ParseError.TheVariants as parse
 use Rattle.cv_accept.specs.declared.error.FileError.{FileError}
 use Rattle.cv_accept.specs.declared.error.FileError.TheVariants as fault
-use Rattle.cv_accept.specs.Accepted.{Content, IsFile, IsFull, Refuses, read_of}
+use Rattle.cv_accept.specs.Accepted.{Content, IsFile, IsFull, Refuses, read_of, most_bytes}
 use Rattle.cv_accept.specs.Works.{content_nodes}
 use Rattle.cv_meaning.specs.Queries.{queries_in}
 use Rattle.cv_accept.proofs.Readings.{file_is_read, full_content}
@@ -23,7 +24,7 @@ use Rattle.cv_scenes.specs.Scenes.{Scene}
 use Rattle.cv_steps.specs.Sequences.{scene}
 use Rattle.cv_report.specs.declared.report.Which.TheVariants.{Depth, File, Nodes, Pool, Steps}
 use Rattle.cv_report_verdicts.specs.Verdicts.{ended_with}
-use Rattle.cv.specs.Scripts.{EndsScript, Follows, Stops, first_open, known_to, no_room, refused, too_deep, too_large, too_many}
+use Rattle.cv_follow.specs.Scripts.{EndsScript, Follows, Stops, first_open, known_to, no_room, refused, too_deep, too_large, too_many}
 use Rattle.cv.proofs.Walking.{never_stops}
 use Rattle.cv_report.specs.declared.report.Status.{Status}
 use Rattle.cv_report.specs.declared.report.Status.TheVariants as status
@@ -42,7 +43,7 @@ use Rattle.cv_plain.specs.Strategy.{Course, EndsAt, most_pool, most_steps, nothi
 use Rattle.cv.specs.Contexts.{contexts_in}
 use Rattle.cv_report_outcome.specs.Refused.{SaysNothing}
 use Rattle.cv.specs.Drawings.{HasDrawn}
-use Rattle.cv.specs.Strategy.{AcceptsAll, EndsBy, EndsWell, HasFile, HoldsUpTo, IsExpected, IsGood, IsSound, Judged, Proceeds, SpeaksOfFile, Succeeds, declared_in, file_in, game_in, most_bytes, steps_in}
+use Rattle.cv.specs.Strategy.{AcceptsAll, EndsBy, EndsWell, HasFile, HoldsUpTo, IsExpected, IsGood, IsSound, Judged, Proceeds, SpeaksOfFile, Succeeds, declared_in, file_in, game_in, steps_in}
 use Rattle.cv_report_outcome.specs.Words.{AreTold, bytes_named, bytes_under}
 use Rattle.cv.proofs.Causing.{where_told}
 use Rattle.cv_plain.proofs.Courses.{course_fits}
@@ -202,10 +203,22 @@ sound_without r e = subst (λ (o : Option SourceFile). IfSome o (λ f. (k : ℕ)
 pub close_without : (r : Report) → r.file ≡ None → HasCloseGames r
 close_without r e = subst (λ (o : Option SourceFile). IfSome o (λ f. (k : ℕ) (x : Entry) (g : Game) → slice_get r.trail.items k ≡ Some x → x.next ≡ Some g → IsWithin (declared_in r) (contexts_in r) (game_in r f) (tree_at r.work.pool.trees (Some g.root)) (summed [] (map (λ x. x.cost) (take (k + 1) r.trail.items))))) (sym e) tt
 
-pub answers_without : (told : Option (List ℕ)) (r : Report) → r.file ≡ None → SaysNothing r → (HasFile r.status → ⊥) → (SpeaksOfFile r.status → IfSome told (Judged r.status)) → Answers told r
-answers_without told r e n h j = record {
+-- no file is read from bytes, the told ones where there are any
+abbrev told_bytes : Option (List ℕ) → List ℕ
+told_bytes None = []
+told_bytes (Some bytes) = bytes
+
+are_told : (told : Option (List ℕ)) → AreTold told (told_bytes told)
+are_told None = tt
+are_told (Some bytes) = refl
+
+answers_of : (told : Option (List ℕ)) (bytes : List ℕ) (r : Report) → AreTold told bytes → r.file ≡ None → SaysNothing r → (HasFile r.status → ⊥) → (SpeaksOfFile r.status → Judged r.status bytes) → Answers told r
+answers_of told bytes r a e n h j = record {
+  bytes = bytes;
+  agree = a;
+  short = λ s. absurd (let t = subst (λ (o : Option SourceFile). IsSome o) e s in cc);
   names = 0;
-  file = subst (λ (o : Option SourceFile). IfSome o (λ f. IfSome told (λ bytes. IsFile most_pool bytes (file_in r f 0)))) (sym e) tt;
+  file = subst (λ (o : Option SourceFile). IfSome o (λ f. IsFile most_pool bytes (file_in r f 0))) (sym e) tt;
   drawn = subst (λ (o : Option SourceFile). IfSome o (λ f. HasDrawn r (file_in r f 0))) (sym e) tt;
   follows = subst (λ (o : Option SourceFile). MatchOption o (SaysNothing r) (λ f. Proceeds r f (steps_in r))) (sym e) n;
   given = λ s. absurd (h s);
@@ -213,8 +226,11 @@ answers_without told r e n h j = record {
   judged = j;
 }
 
+answers_without : (told : Option (List ℕ)) (r : Report) → r.file ≡ None → SaysNothing r → (HasFile r.status → ⊥) → (SpeaksOfFile r.status → ⊥) → Answers told r
+answers_without told r e n h j = answers_of told (told_bytes told) r (are_told told) e n h (λ s. absurd (j s))
+
 pub memory_answers : (told : Option (List ℕ)) (r : Report) → r.file ≡ None → SaysNothing r → r.status ≡ status.Memory → Answers told r
-memory_answers told r e n s = answers_without told r e n (λ h. subst HasFile s h) (λ h. absurd (subst SpeaksOfFile s h))
+memory_answers told r e n s = answers_without told r e n (λ h. subst HasFile s h) (λ h. subst SpeaksOfFile s h)
 
 pub memory_cause : (o : Outside) (r : Report) → r.status ≡ status.Memory → ComesFrom o r r.status
 memory_cause o r s = subst (ComesFrom o r) (sym s) cause.memory
@@ -244,13 +260,12 @@ refusal_has_none fault.OutOfMemory h = h
 
 pub refusal_answers : (told : Option (List ℕ)) (r : Report) (bytes : List ℕ) (x : FileError) → AreTold told bytes → Refuses most_pool bytes x → r.status ≡ ended_by x → r.file ≡ None → SaysNothing r → Answers told r
 refusal_answers told r bytes x a f s e n =
-    answers_without told r e n (λ h. refusal_has_none x (subst HasFile s h))
-    (λ h. where_told told bytes (Judged r.status) a (subst (λ y. Judged y bytes) (sym s) (judged_fault x bytes f)))
+    answers_of told bytes r a e n (λ h. refusal_has_none x (subst HasFile s h)) (λ h. subst (λ y. Judged y bytes) (sym s) (judged_fault x bytes f))
 
 -- a file that isn't fetched
 
 pub fetch_answers : (told : Option (List ℕ)) (r : Report) (x : FetchError) → r.status ≡ fetch_ended x → r.file ≡ None → SaysNothing r → Answers told r
-fetch_answers told r x s e n = answers_without told r e n (λ h. no_file x (subst HasFile s h)) (λ h. absurd (speaks_not x (subst SpeaksOfFile s h)))
+fetch_answers told r x s e n = answers_without told r e n (λ h. no_file x (subst HasFile s h)) (λ h. speaks_not x (subst SpeaksOfFile s h))
   where
     no_file : (x : FetchError) → HasFile (fetch_ended x) → ⊥
     no_file fetch.Failed h = h
@@ -291,7 +306,7 @@ fetched_told (Some fs) name slice items e h = sym (e ∙ h)
 -- words that name no file
 
 pub words_answers : (told : Option (List ℕ)) (r : Report) → r.file ≡ None → SaysNothing r → r.status ≡ status.Words → Answers told r
-words_answers told r e n s = answers_without told r e n (λ h. subst HasFile s h) (λ h. absurd (subst SpeaksOfFile s h))
+words_answers told r e n s = answers_without told r e n (λ h. subst HasFile s h) (λ h. subst SpeaksOfFile s h)
 
 pub words_cause : (o : Outside) (r : Report) → r.status ≡ status.Words → o.name ≡ None → ComesFrom o r r.status
 words_cause o r s e = subst (ComesFrom o r) (sym s) (cause.words (subst (λ (n : Option (List ℕ)). IsNone n) (sym e) refl))

@@ -6,9 +6,10 @@ use Rattle.std.specs.Prelude.{IfSome, slice_get, option_map}
 use Rattle.cv_pool.specs.KindTree.{KindTree}
 use Rattle.cv_syntax.specs.declared.work.File.{File}
 use Rattle.cv_syntax.specs.declared.work.Game.{Game}
-use Rattle.cv_syntax.specs.Declarations.{Declaration}
-use Rattle.cv_syntax.specs.Tree.{Tree, tree_at}
-use Rattle.cv_accept.specs.Accepted.{Content, read_of}
+use Rattle.cv_syntax_trees.specs.Declarations.{Declaration}
+use Rattle.cv_syntax_trees.specs.Tree.{Tree}
+use Rattle.cv_syntax.specs.PoolTrees.{tree_at}
+use Rattle.cv_accept.specs.Accepted.{Content, read_of, most_bytes}
 use Rattle.cv_bound.specs.declared.terms.Experiment.TheVariants.{Events}
 use Rattle.cv_bound.specs.Sums.{added}
 use Rattle.cv_bound_values.specs.Values.{Advantages, sum_value}
@@ -41,13 +42,13 @@ use Rattle.cv_derivations_under.specs.Soundness.{DerivationsHold, DerivedBodiesA
 use Rattle.cv.specs.Contexts.{context_by, contexts_from, contexts_in, contexts_of_file, game_behind as game_of_entry, with_context}
 use Rattle.cv.specs.Games.{HasCloseGames, IsWithin}
 use Rattle.cv.specs.Runs.{Runs}
-use Rattle.cv.specs.Scripts.{Told, entry_in, entry_of, known_to}
-use Rattle.cv.specs.Strategy.{FollowsScript, Proceeds, declared_in, file_in, game_in, most_bytes, steps_in}
+use Rattle.cv_follow.specs.Scripts.{Told, entry_in, entry_of, known_to}
+use Rattle.cv.specs.Strategy.{FollowsScript, Proceeds, declared_in, file_in, game_in, steps_in}
 use Rattle.cv.specs.Values.{Contexts, advantage_of, advantages_in, context_of}
-use Rattle.cv.proofs.Closings.{nothing-more}
-use Rattle.cv.proofs.StepKinds.{Kind, closure, kind_of, passage, reduction}
-use Rattle.cv.proofs.StepKinds as kind
-use Rattle.cv.proofs.Ready.{file_of, valued}
+use Rattle.cv_follow.proofs.Closings.{nothing-more}
+use Rattle.cv_follow.proofs.StepKinds.{Kind, closure, kind_of, passage, reduction}
+use Rattle.cv_follow.proofs.StepKinds as kind
+use Rattle.cv_accept_sequences.proofs.Ready.{file_of, valued}
 
 -- the front of a proof
 

@@ -5,9 +5,11 @@ use Rattle.std.specs.declared.vec.Vec.{Vec}
 use Rattle.std.specs.declared.alloc.Global.{Global}
 use Rattle.cv_pool.specs.declared.node.NodeId.{NodeId}
 use Rattle.cv_pool.specs.PoolView.{PoolView, Grows}
-use Rattle.cv_syntax.specs.Declarations.{Declaration, declarations}
+use Rattle.cv_syntax_trees.specs.Declarations.{Declaration}
+use Rattle.cv_syntax.specs.Declarations.{declarations}
 use Rattle.cv_syntax.specs.Classes.{DeclsView}
-use Rattle.cv_syntax.specs.Tree.{Tree, tree_at}
+use Rattle.cv_syntax_trees.specs.Tree.{Tree}
+use Rattle.cv_syntax.specs.PoolTrees.{tree_at}
 use Rattle.cv_syntax.specs.declared.work.Work.{Work}
 use Rattle.cv_parse.specs.Declaring.{IsBelow}
 use Rattle.cv_parse_script.specs.Scripts.{trees_of}
@@ -25,13 +27,6 @@ steps-grown old new (s ∷ ss) g a = ap₂ (λ t ts. t ∷ ts) (root-grown old n
 pub script-grown : (old new : PoolView) (script : Option (Vec Step Global)) → Grows old new → IfSome script (λ v. All (λ s. s.0.0 < length old.trees) v.items) → script_in new.trees script ≡ script_in old.trees script
 script-grown old new None g a = refl
 script-grown old new (Some v) g a = ap Some (steps-grown old new v.items g a)
-
--- names behind names behind others
-pub names_kept : (xs ys zs : List (List ℕ)) → take (length xs) ys ≡ xs → take (length ys) zs ≡ ys → take (length xs) zs ≡ xs
-names_kept [] ys zs e f = refl
-names_kept (x ∷ xs) [] zs e f = absurd (cc)
-names_kept (x ∷ xs) (y ∷ ys) [] e f = absurd (cc)
-names_kept (x ∷ xs) (y ∷ ys) (z ∷ zs) e f = let p : z ≡ x = cc in ap₂ (λ w ws. w ∷ ws) p (names_kept xs ys zs (cc) (cc))
 
 -- what a work holds stays, but for the names that are drawn behind its own
 pub content-grown : (old new : Work) (root : NodeId) (script : Option (Vec Step Global)) → Grows old.pool new.pool → take (length old.names) new.names ≡ old.names → new.decls ≡ old.decls → root.0 < length old.pool.trees → All (IsBelow (length old.pool.trees)) old.decls.list

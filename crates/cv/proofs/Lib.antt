@@ -1,16 +1,12 @@
 pub mod Causing
-pub mod Closings
 pub mod Courses
 pub mod Endings
 pub mod Faithful
-pub mod Following
 pub mod Growing
-pub mod StepKinds
 pub mod Proving
 pub mod Running
 pub mod Unread
 pub mod Verdicts
 pub mod Walking
 pub mod Writing
-pub mod Ready
-pub mod Drawing
+pub mod Ended

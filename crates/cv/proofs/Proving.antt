@@ -5,9 +5,9 @@ use Rattle.std.specs.List.{AllByRecursion, list_any}
 use Rattle.std.proofs.lemmas.Bool.{both_ways}
 use Rattle.std.proofs.lemmas.Bool.Decides.{nat_tests}
 use Rattle.std.proofs.lemmas.List.{take-append-drop}
-use Rattle.cv_syntax.specs.declared.head.Head.TheVariants.{Query}
-use Rattle.cv_syntax.specs.Declarations.{Declaration}
-use Rattle.cv_syntax.specs.Tree.{Tree, Node}
+use Rattle.cv_syntax_trees.specs.declared.head.Head.TheVariants.{Query}
+use Rattle.cv_syntax_trees.specs.Declarations.{Declaration}
+use Rattle.cv_syntax_trees.specs.Tree.{Tree, Node}
 use Rattle.cv_bound.specs.declared.terms.Term.{Term}
 use Rattle.cv_bound.specs.Sums.{added}
 use Rattle.cv_bound_values.specs.Values.{Advantages, sum_value}
@@ -21,11 +21,11 @@ use Rattle.cv_meaning_chances.specs.Fractions.{HasTapes}
 use Rattle.cv_meaning_contexts.specs.ContextAdvantage.{context_advantage}
 use Rattle.cv_meaning_values.specs.Values.{HasValuesIn}
 use Rattle.cv_meaning.specs.Queries.{queries_in}
-use Rattle.cv_typing.specs.Signature.{declaration_of}
+use Rattle.cv_typing_rules.specs.Signature.{declaration_of}
 use Rattle.cv_query_built.specs.Built.{asks_unbuilt, has_unbuilt, is_unbuilt_step, lacks_form}
 use Rattle.cv_query_certificates.specs.Accepted.{IsAccepted, is_built}
 use Rattle.cv_query_certificates.specs.Failures.{first_failure}
-use Rattle.cv_accept.specs.Accepted.{Content, asks_unbuilt as file_unbuilt, read_of}
+use Rattle.cv_accept.specs.Accepted.{Content, asks_unbuilt as file_unbuilt, read_of, most_bytes}
 use Rattle.cv_parse.proofs.Exactness.{says_is_said}
 use Rattle.cv_parse_queries.proofs.Closed.{queries_closed}
 use Rattle.cv_parse_terminals.specs.Signs.{signs_of}
@@ -56,14 +56,14 @@ use Rattle.cv_kernel.specs.Proofs.{IsProof, IsTransition, Transition, closed_by,
 use Rattle.cv.specs.Contexts.{contexts_in}
 use Rattle.cv.specs.Runs.{IsSoundFor}
 use Rattle.cv_report_verdicts.specs.Verdicts.{verdict_by, verdicts_by}
-use Rattle.cv.specs.Scripts.{known_to}
-use Rattle.cv.specs.Strategy.{FollowsScript, HoldsUpTo, declared_in, file_in, game_in, most_bytes, steps_in}
+use Rattle.cv_follow.specs.Scripts.{known_to}
+use Rattle.cv.specs.Strategy.{FollowsScript, HoldsUpTo, declared_in, file_in, game_in, steps_in}
 use Rattle.cv.specs.Values.{Contexts, advantages_of}
-use Rattle.cv.specs.Walks.{sum_along}
-use Rattle.cv.proofs.Closings.{nothing-more, sum-put}
+use Rattle.cv_follow.specs.Walks.{sum_along}
+use Rattle.cv_follow.proofs.Closings.{nothing-more, sum-put}
 use Rattle.cv.proofs.Faithful.{HasLinks, contexts_along, links_of, prices, script_contexts, stands_in, summed-on}
-use Rattle.cv.proofs.StepKinds.{IsClosure, closure}
-use Rattle.cv.proofs.Ready.{events_valued, file, file_of, taped}
+use Rattle.cv_follow.proofs.StepKinds.{IsClosure, closure}
+use Rattle.cv_accept_sequences.proofs.Ready.{events_valued, file, file_of, taped}
 
 -- the step that closes a query first, and its sum
 

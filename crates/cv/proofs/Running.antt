@@ -1,15 +1,15 @@
 -- What a run over an accepted file answers.
-use Rattle.std.proofs.Common.{◌≡◌, ◌<◌, ℕ, List, length, refl, ap, sym, ◌∙◌, subst, Option, Some, None, Ok, inl, inr}
+use Rattle.std.proofs.Common.{◌≡◌, ◌<◌, ◌≤◌, ℕ, List, length, refl, ap, sym, ◌∙◌, subst, Option, Some, None, Ok, inl, inr}
 use Rattle.std.specs.Prelude.{All, IfSome, IsSome, MatchOption, slice_get}
 use Rattle.std.proofs.lemmas.List.Elements.{All-nil}
 use Rattle.std.specs.declared.vec.Vec.{Vec}
 use Rattle.std.specs.declared.alloc.Global.{Global}
 use Rattle.cv_syntax.specs.declared.work.File.{File}
-use Rattle.cv_syntax.specs.Tree.{Tree}
+use Rattle.cv_syntax_trees.specs.Tree.{Tree}
 use Rattle.cv_script.specs.declared.steps.Step.{Step}
 use Rattle.cv_bound.specs.declared.terms.Term.{Term}
 use Rattle.cv_meaning.specs.Queries.{queries_in}
-use Rattle.cv_accept.specs.Accepted.{Content, IsFile, read_of}
+use Rattle.cv_accept.specs.Accepted.{Content, IsFile, most_bytes, read_of}
 use Rattle.cv_accept.specs.Works.{script_in}
 use Rattle.cv_accept.proofs.Readings.{read_is_file}
 use Rattle.cv_plain.specs.Strategy.{most_pool}
@@ -25,7 +25,7 @@ use Rattle.cv_report_outcome.specs.Refused.{SaysNothing}
 use Rattle.cv.specs.Drawings.{HasDrawn}
 use Rattle.cv.specs.Strategy.{EndsBy, FollowsScript, HoldsUpTo, IsSound, Judged, Proceeds, declared_in, file_in, game_in, steps_in}
 use Rattle.cv_report_outcome.specs.Words.{AreTold}
-use Rattle.cv.proofs.Causing.{script_cause_of, verdict_cause, where_told}
+use Rattle.cv.proofs.Causing.{script_cause_of, verdict_cause}
 use Rattle.cv.proofs.Endings.{memory_answers, memory_cause, sound_without}
 use Rattle.cv.proofs.Verdicts.{judged_file}
 
@@ -56,17 +56,19 @@ module _ (c : Content) (f : File) (r : Report) where
     run_judged (inl s) = subst (λ (t : Status). Judged t bytes) (sym s.status) tt
     run_judged (inr h) = judged_file r.status bytes c reads (subst (λ (d : Content). EndsBy d d.script r.status) h.content (ends (steps_in r) h.proceeds))
 
-    pub run_answers : (told : Option (List ℕ)) → AreTold told bytes → Runs c f r → Answers told r
-    run_answers told a (inl s) = memory_answers told r s.file s.nothing s.status
-    run_answers told a (inr h) = record {
+    pub run_answers : (told : Option (List ℕ)) → length bytes ≤ most_bytes → AreTold told bytes → Runs c f r → Answers told r
+    run_answers told few a (inl s) = memory_answers told r s.file s.nothing s.status
+    run_answers told few a (inr h) = record {
+      bytes = bytes;
+      agree = a;
+      short = λ s. few;
       names = length c.names;
-      file = subst (λ (o : Option File). IfSome o (λ g. IfSome told (λ b. IsFile most_pool b (file_in r g (length c.names))))) (sym h.file)
-          (where_told told bytes (λ b. IsFile most_pool b (file_in r f (length c.names))) a (read_is_file most_pool bytes (file_in r f (length c.names)) (reads ∙ ap Ok (sym h.content))));
+      file = subst (λ (o : Option File). IfSome o (λ g. IsFile most_pool bytes (file_in r g (length c.names)))) (sym h.file) (read_is_file most_pool bytes (file_in r f (length c.names)) (reads ∙ ap Ok (sym h.content)));
       drawn = subst (λ (o : Option File). IfSome o (λ g. HasDrawn r (file_in r g (length c.names)))) (sym h.file) (subst (HasDrawn r) (sym h.content) h.drawn);
       follows = subst (λ (o : Option File). MatchOption o (SaysNothing r) (λ g. Proceeds r g (steps_in r))) (sym h.file) h.proceeds;
       given = λ s. subst (λ (o : Option File). IsSome o) (sym h.file) refl;
       only = λ s. h.status;
-      judged = λ s. where_told told bytes (Judged r.status) a (run_judged (inr h));
+      judged = λ s. run_judged (inr h);
     }
 
     pub run_cause : (o : Outside) → AreTold o.told bytes → Runs c f r → ComesFrom o r r.status

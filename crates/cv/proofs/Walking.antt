@@ -1,8 +1,6 @@
 -- Proofs with a step more, and why a run doesn't stop at a step behind which it may go on.
-use Rattle.std.proofs.Common.{◌≡◌, ℕ, suc, ◌+◌, ◌≤◌, nat_lt, Bool, true, false, if◌then◌else◌, List, [], ◌∷◌, ◌++◌, Some, None, inl, inr, refl, ap, sym, subst, ◌∙◌, arith}
-use Rattle.cv_syntax.specs.Declarations.{Declaration}
-use Rattle.cv_syntax.specs.Tree.{Tree, depth, size}
-use Rattle.cv_kernel.specs.Proofs.{IsProof, Transition, nodes_along, push, start}
+use Rattle.std.proofs.Common.{◌≡◌, ℕ, suc, ◌+◌, ◌≤◌, nat_lt, Bool, true, false, if◌then◌else◌, List, Some, None, inl, inr, refl, ap, sym, subst, ◌∙◌, arith}
+use Rattle.cv_syntax_trees.specs.Tree.{Tree, depth, size}
 use Rattle.cv_kernel.specs.Rules.{HasNoRoom}
 use Rattle.cv_kernel.specs.Sayings.{Accepted, MaySay, Refused, TooDeep, TooLarge, saying_by, saying_of}
 use Rattle.cv_kernel_costs.specs.Costs.{advantage_of}
@@ -18,32 +16,13 @@ use Rattle.cv_script.specs.Views as items
 use Rattle.cv_steps.specs.Costs.{cost_of}
 use Rattle.cv_steps.specs.Judgements.{Judgement}
 use Rattle.cv_steps.specs.Judgements as judgement
-use Rattle.cv_steps.specs.Sequences.{scene}
 use Rattle.cv_steps_crypto.specs.Conditions.{equivalence_of, failure_of}
 use Rattle.cv_steps_crypto.specs.Steps.{IsOutcome, IsOutcomeBy, is_next, outcome_with}
 use Rattle.cv_steps_crypto.specs.Steps as outcome
-use Rattle.cv.specs.Scripts.{LacksRoomFor, Stops, no_room, refused, too_deep, too_large, too_many}
+use Rattle.cv_follow.specs.Scripts.{LacksRoomFor, Stops, no_room, refused, too_deep, too_large, too_many}
 use Rattle.cv.specs.Strategy.{GoesOn, IsAcceptance, context_needs}
-use Rattle.cv.proofs.StepKinds.{IsJudged, Kind, kind_of}
-use Rattle.cv.proofs.StepKinds as kind
-
--- the game that transitions lead to
-abbrev pub last_game : Tree → List Transition → Tree
-last_game first [] = first
-last_game first (t ∷ ts) = last_game t.next ts
-
-last_behind : (first : Tree) (ts : List Transition) (t : Transition) → last_game first (ts ++ t ∷ []) ≡ t.next
-last_behind first [] t = refl
-last_behind first (u ∷ ts) t = last_behind u.next ts t
-
-module _ (ds : List Declaration) (known : ℕ → Bool) where
-  pub last_is : (first : Tree) (ts : List Transition) (last : Tree) → IsProof ds known first ts last → last_game first ts ≡ last
-  last_is first ts last start = refl
-  last_is first ts last (push before game t p i) = last_behind first before t
-
-  pub nodes-append : (first : Tree) (ts : List Transition) (t : Transition) → nodes_along ds known first (ts ++ t ∷ []) ≡ nodes_along ds known first ts + needed_for (scene ds known (last_game first ts)) t.step t.next (items_of_step t.step)
-  nodes-append first [] t = omega arith
-  nodes-append first (u ∷ ts) t = let e = nodes-append u.next ts t in omega arith
+use Rattle.cv_follow.proofs.StepKinds.{IsJudged, Kind, kind_of}
+use Rattle.cv_follow.proofs.StepKinds as kind
 
 -- a run never stops at a step that is accepted, with room for it
 

@@ -17,9 +17,9 @@ use Rattle.cv_parse_depth.specs.Files.{IsDeadAtEveryDepth, IsNestedTooDeep}
 use Rattle.cv_parse.specs.declared.error.ParseError.TheVariants.{Syntax, Nesting, NameTwice, NameUnknown}
 use Rattle.cv_parse.specs.Parsed.{Parsed}
 use Rattle.cv_parse.specs.Says.{HasDepth, HasNodes, HasWeight, IsLarge, IsMisnamedAt, Says}
-use Rattle.cv_typing.specs.declared.fault.TypeFault.{TypeFault}
-use Rattle.cv_typing.specs.Parts.{IsTypedFile, file_parts}
-use Rattle.cv_typing.specs.Refusals.{IsFirstRefusal}
+use Rattle.cv_typing_rules.specs.declared.fault.TypeFault.{TypeFault}
+use Rattle.cv_typing_rules.specs.Parts.{IsTypedFile, file_parts}
+use Rattle.cv_typing_rules.specs.Refusals.{IsFirstRefusal}
 use Rattle.cv_scope_rules.specs.declared.fault.ScopeFault.{ScopeFault}
 use Rattle.cv_scope_rules.specs.declared.fault.Fault.{Fault}
 use Rattle.cv_scope_rules.specs.Refusals.{refusal}
@@ -30,9 +30,9 @@ use Rattle.cv_group.specs.Refusals.{refused_by}
 use Rattle.cv_group_rules.specs.Faults.{AreAccepted, GroupRule, IsFirstGroupFault, equivalences_in}
 use Rattle.cv_meaning.specs.Queries.{queries_in}
 use Rattle.cv_query_form.specs.Rules.{IsFirstRefused}
-use Rattle.cv_syntax.specs.Tree.{Tree}
+use Rattle.cv_syntax_trees.specs.Tree.{Tree}
 use Rattle.cv_syntax.specs.declared.work.File.{File}
-use Rattle.cv_accept.specs.Accepted.{Content, IsFile, IsFull, asks_unbuilt, block_of, stops_at_prime}
+use Rattle.cv_accept.specs.Accepted.{Content, IsFile, IsFull, asks_unbuilt, block_of, stops_at_prime, most_bytes}
 use Rattle.cv_parse_script.specs.Scripts.{items}
 use Rattle.cv_accept.specs.Places.{nodes_before}
 use Rattle.cv_report.specs.declared.report.FileFault.TheVariants.{Lex, Parse, Script, Types, Scope, Group, Query}
@@ -43,8 +43,8 @@ use Rattle.cv_report.specs.declared.report.Status.TheVariants as status
 use Rattle.cv_report.specs.declared.report.Which.TheVariants.{Depth, Nodes, Pool, Steps, File as FileLimit}
 use Rattle.cv_plain.specs.Strategy.{IsCrowded, is_closed, is_proved, lacks_step, most_pool, most_steps}
 use Rattle.cv_steps.specs.Sequences.{scene}
-use Rattle.cv.specs.Scripts.{Stops, first_open, known_to}
-use Rattle.cv.specs.Strategy.{declared_in, game_in, most_bytes, nodes_in, said_in, steps_in}
+use Rattle.cv_follow.specs.Scripts.{Stops, first_open, known_to}
+use Rattle.cv.specs.Strategy.{declared_in, game_in, nodes_in, said_in, steps_in}
 use Rattle.cv_report_outcome.specs.Words.{bytes_named}
 
 -- The bytes have tokens, of which this holds.

@@ -5,8 +5,10 @@ use Rattle.std.specs.Prelude.{ℕ, suc, List, [], ◌∷◌, Option, Some, None,
 use Rattle.cv_pool.specs.KindTree.{KindTree}
 use Rattle.cv_syntax.specs.declared.work.File.{File}
 use Rattle.cv_syntax.specs.declared.work.Game.{Game}
-use Rattle.cv_syntax.specs.Declarations.{Declaration, declarations}
-use Rattle.cv_syntax.specs.Tree.{Tree, tree_at}
+use Rattle.cv_syntax_trees.specs.Declarations.{Declaration}
+use Rattle.cv_syntax.specs.Declarations.{declarations}
+use Rattle.cv_syntax_trees.specs.Tree.{Tree}
+use Rattle.cv_syntax.specs.PoolTrees.{tree_at}
 use Rattle.cv_meaning_contexts.specs.Sides.{Context}
 use Rattle.cv_scenes.specs.Reductions.{context_of_game}
 use Rattle.cv_context_answers.specs.Answers.{file_scene}

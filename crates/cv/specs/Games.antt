@@ -14,8 +14,9 @@ use Rattle.cv_report.specs.declared.report.Entry.{Entry}
 use Rattle.cv_report.specs.declared.report.Report.{Report}
 use Rattle.cv_sequences.specs.Chains.{summed}
 use Rattle.cv_syntax.specs.declared.work.Game.{Game}
-use Rattle.cv_syntax.specs.Declarations.{Declaration}
-use Rattle.cv_syntax.specs.Tree.{Tree, tree_at}
+use Rattle.cv_syntax_trees.specs.Declarations.{Declaration}
+use Rattle.cv_syntax_trees.specs.Tree.{Tree}
+use Rattle.cv_syntax.specs.PoolTrees.{tree_at}
 use Rattle.cv.specs.Contexts.{contexts_in}
 use Rattle.cv.specs.Strategy.{declared_in, game_in}
 use Rattle.cv.specs.Values.{Contexts, advantages_in}

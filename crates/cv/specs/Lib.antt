@@ -4,8 +4,6 @@ pub mod Contexts
 pub mod Faults
 pub mod Games
 pub mod Runs
-pub mod Scripts
 pub mod Strategy
 pub mod Values
-pub mod Walks
 pub mod Drawings

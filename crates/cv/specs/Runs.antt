@@ -1,7 +1,7 @@
 -- What a run over an accepted file leaves.
 use Rattle.std.specs.Prelude.{◌≡◌, ℕ, ◌⊎◌, List, length, Some, None, slice_get}
 use Rattle.cv_syntax.specs.declared.work.File.{File}
-use Rattle.cv_syntax.specs.Tree.{Tree}
+use Rattle.cv_syntax_trees.specs.Tree.{Tree}
 use Rattle.cv_bound.specs.declared.terms.Term.{Term}
 use Rattle.cv_accept.specs.Accepted.{Content}
 use Rattle.cv_meaning.specs.Queries.{queries_in}

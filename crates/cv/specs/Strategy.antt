@@ -3,8 +3,10 @@
 use Rattle.std.specs.Prelude.{◌≡◌, ℕ, suc, ◌+◌, ◌≤◌, ◌⊎◌, true, List, ◌∷◌, ◌++◌, length, map, take, Option, Some, None, Result, Ok, Err, slice_get, IfSome}
 use Rattle.std.specs.List.{list_all}
 use Rattle.cv_syntax.specs.declared.work.File.{File}
-use Rattle.cv_syntax.specs.Declarations.{Declaration, declarations}
-use Rattle.cv_syntax.specs.Tree.{Tree, tree_at}
+use Rattle.cv_syntax_trees.specs.Declarations.{Declaration}
+use Rattle.cv_syntax.specs.Declarations.{declarations}
+use Rattle.cv_syntax_trees.specs.Tree.{Tree}
+use Rattle.cv_syntax.specs.PoolTrees.{tree_at}
 use Rattle.cv_meaning.specs.Interpretation.{Interpretation, setting_of}
 use Rattle.cv_meaning.specs.Satisfies.{Satisfies}
 use Rattle.cv_meaning.specs.Runs.{Adversary}
@@ -18,7 +20,7 @@ use Rattle.cv_kernel.specs.Sayings.{Accepted, IsSaid, Saying}
 use Rattle.cv_kernel.specs.Sequences.{context_nodes, needed_for}
 use Rattle.cv_plain.specs.Strategy.{Course, Said, closing, is_closed, most_pool, most_steps, nothing_said, open_verdict, passed_by, said_by, said_of, status_for, steps_nodes}
 use Rattle.cv_accept.specs.declared.error.FileError.{FileError}
-use Rattle.cv_accept.specs.Accepted.{Content, IsFile, IsFull, read_of}
+use Rattle.cv_accept.specs.Accepted.{Content, IsFile, IsFull, most_bytes, read_of}
 use Rattle.cv_accept.specs.Works.{content_at, content_in, content_nodes, script_in}
 use Rattle.cv_meaning.specs.Queries.{queries_in}
 use Rattle.cv_report.specs.declared.report.Report.{Report}
@@ -33,7 +35,7 @@ use Rattle.cv_steps.specs.Sequences.{scene}
 use Rattle.cv_steps_crypto.specs.Conditions.{equivalence_of}
 use Rattle.cv.specs.Contexts.{contexts_in}
 use Rattle.cv.specs.Faults.{status_of as ended_by}
-use Rattle.cv.specs.Scripts.{Follows, entry_in, entry_of, first_open, known_to, verdicts_of}
+use Rattle.cv_follow.specs.Scripts.{Follows, entry_in, entry_of, first_open, known_to, verdicts_of}
 use Rattle.cv.specs.Values.{Contexts, value_of}
 
 -- how a run over a file ends
@@ -46,10 +48,6 @@ EndsBy f (Some steps) end = Follows (content_nodes f) f.declarations f.own f.gam
 abbrev pub IsExpected : Result Content FileError → Status → Type 0
 IsExpected (Err e) s = s ≡ ended_by e
 IsExpected (Ok f) s = EndsBy f f.script s
-
--- the most bytes of a file
-abbrev pub most_bytes : ℕ
-most_bytes = 1048576
 
 -- The status is one that these bytes have, unless memory ended the run. The pool may have no room for a proof block.
 abbrev pub Judged : Status → List ℕ → Type 0

@@ -1,6 +1,7 @@
 ghost use Rattle.std.specs.Prelude.{◌≡◌, ◌<◌, ◌≤◌, [], ℕ, All, IfSome, List, Option, Some, length};
 ghost use Rattle.cv_syntax.specs.Declarations.{declarations};
-ghost use Rattle.cv_syntax.specs.Tree.{size, tree_at};
+ghost use Rattle.cv_syntax_trees.specs.Tree.{size};
+ghost use Rattle.cv_syntax.specs.PoolTrees.{tree_at};
 ghost use Rattle.cv_parse.specs.Declaring.{IsBelow};
 ghost use Rattle.cv_scope_rules.specs.Phrases.{IsWellFormed};
 ghost use Rattle.cv_accept.specs.Works.{HasSteps, content_at, content_nodes};
@@ -15,9 +16,9 @@ ghost use Rattle.cv.specs.Runs.{Runs};
 ghost use Rattle.cv.specs.Strategy.{IsSound, Judged};
 ghost use Rattle.cv_report_outcome.specs.Words.{AreTold};
 
-use crate::follow::run_script;
 use crate::plain::run_plain;
 use crate::refusal::status_of;
+use crate::script::run_script;
 use cv_accept::{Accepted, read};
 use cv_derivations_reached::derivations_are_sound;
 use cv_query_certificates::accepted_exactly_where_nothing_fails;

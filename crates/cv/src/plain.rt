@@ -1,5 +1,6 @@
 ghost use Rattle.std.specs.Prelude.{◌≡◌, ◌<◌, ◌≤◌, All, None, Some, length};
-ghost use Rattle.cv_syntax.specs.Tree.{size, tree_at};
+ghost use Rattle.cv_syntax_trees.specs.Tree.{size};
+ghost use Rattle.cv_syntax.specs.PoolTrees.{tree_at};
 ghost use Rattle.cv_parse.specs.Declaring.{IsBelow};
 ghost use Rattle.cv_scope_rules.specs.Phrases.{IsWellFormed};
 ghost use Rattle.cv_syntax.specs.Declarations.{declarations};

@@ -88,8 +88,8 @@ pub fn run<F: Shelf, K: Sink>(
     ensures words { SaysOfWords (map string_bytes words.now) result.report }
     ensures asked { AsksOnly (file_given words.now) (F.asked shelf.old) (F.asked shelf.new) }
 
-    // The report's file is the reading of the bytes under that name, where the shelf tells them. Its steps,
-    // verdicts and status are those of its proof block, or of the plain strategy, whatever the shelf.
+    // Whatever the shelf, there are bytes of which the report's file is the reading: those under that name, where it
+    // tells them. The steps, verdicts and status are those of the proof block, or of the plain strategy.
     ensures answers { Answers (bytes_named (F.told shelf.old) (file_given words.now))
         result.report }
     // Each answer has its cause.

@@ -8,7 +8,7 @@ use Rattle.cv_lex.specs.View.{AreTokens}
 use Rattle.cv_lex.proofs.Exact.{computed, said}
 use Rattle.cv_pool.specs.KindTree.{KindTree}
 use Rattle.cv_syntax.specs.declared.work.BuildError.TheVariants as build
-use Rattle.cv_syntax.specs.Tree.{Tree}
+use Rattle.cv_syntax_trees.specs.Tree.{Tree}
 use Rattle.cv_parse_terminals.specs.Signs.{signs_of}
 use Rattle.cv_parse_terminals.proofs.Telling.{count_all}
 use Rattle.cv_parse_script.specs.declared.error.ScriptError.{ScriptError}
@@ -19,12 +19,12 @@ use Rattle.cv_parse.specs.declared.error.ParseError.TheVariants as parse
 use Rattle.cv_parse.specs.Parsed.{Parsed, parsed, range_of}
 use Rattle.cv_parse.specs.Parsed as parsing
 use Rattle.cv_parse.proofs.Exactness.{said_is_saying, says_is_said}
-use Rattle.cv_typing.specs.declared.fault.Fault.{Fault}
-use Rattle.cv_typing.specs.declared.fault.TypeFault.{TypeFault}
-use Rattle.cv_typing.specs.declared.fault.TypeFault.TheVariants as type
-use Rattle.cv_typing.specs.Parts.{file_parts}
-use Rattle.cv_typing.specs.Refusals.{IsRefusalOf}
-use Rattle.cv_typing.proofs.First.{none_where_parts_typed, parts_typed_where_none}
+use Rattle.cv_typing_rules.specs.declared.fault.Fault.{Fault}
+use Rattle.cv_typing_rules.specs.declared.fault.TypeFault.{TypeFault}
+use Rattle.cv_typing_rules.specs.declared.fault.TypeFault.TheVariants as type
+use Rattle.cv_typing_rules.specs.Parts.{file_parts}
+use Rattle.cv_typing_rules.specs.Refusals.{IsRefusalOf}
+use Rattle.cv_typing_rules.proofs.First.{none_where_parts_typed, parts_typed_where_none}
 use Rattle.cv_scope_rules.specs.declared.fault.Fault.{Fault as ScopeRules}
 use Rattle.cv_scope_rules.specs.declared.fault.ScopeFault.{ScopeFault}
 use Rattle.cv_scope_rules.specs.declared.fault.ScopeFault.TheVariants as scope

@@ -1,16 +1,16 @@
 -- The terms of a file have no more syntax nodes than the file weighs.
 use Rattle.std.proofs.Common.{◌≡◌, ℕ, ◌+◌, ◌*◌, ◌<◌, ◌≤◌, min, List, [], ◌∷◌, ◌++◌, flat_map, Option, arith, Ok}
 use Rattle.cv_parse_notation.specs.declared.sign.Sign.{Sign}
-use Rattle.cv_syntax.specs.Declarations.{Declaration, Named, Equation, Equiv, Query}
-use Rattle.cv_syntax.specs.Tree.{Tree, Empty, Node, first, second, size}
+use Rattle.cv_syntax_trees.specs.Declarations.{Declaration, Named, Equation, Equiv, Query}
+use Rattle.cv_syntax_trees.specs.Tree.{Tree, Empty, Node, first, second, size}
 use Rattle.cv_parse.specs.Parsed.{Parsed, parsed, weight_of}
 use Rattle.cv_parse.specs.Weights.{declared_weight, tree_weight}
 use Rattle.cv_parse.proofs.Exactness.{said_is_saying}
 use Rattle.cv_parse_signature.specs.Declares.{tree_in}
-use Rattle.cv_directory.specs.declared.sort.Sort.{Sort}
-use Rattle.cv_typing.specs.Parts.{Part, body_parts, declaration_parts, equivalence_parts, file_parts, game_part, more_results, results, side_arrays}
-use Rattle.cv_typing.specs.Refusals.{parts_size}
-use Rattle.cv_typing.specs.Signature.{Arrays}
+use Rattle.cv_directory_sorts.specs.declared.sort.Sort.{Sort}
+use Rattle.cv_typing_rules.specs.Parts.{Part, body_parts, declaration_parts, equivalence_parts, file_parts, game_part, more_results, results, side_arrays}
+use Rattle.cv_typing_rules.specs.Refusals.{parts_size}
+use Rattle.cv_typing_rules.specs.Signature.{Arrays}
 
 size_weight : (t : Tree) → size t ≤ tree_weight t
 unfolding size tree_weight

@@ -14,15 +14,15 @@ use Rattle.cv_parse_script.specs.Scripts.{items}
 use Rattle.cv_syntax_limits.specs.Limits.{nodes_of}
 use Rattle.cv_parse_script.specs.Trees.{tree_read}
 use Rattle.cv_script_rows.specs.Rows.{built_script_row}
-use Rattle.cv_syntax.specs.Declarations.{Declaration}
-use Rattle.cv_syntax.specs.Tree.{Tree}
+use Rattle.cv_syntax_trees.specs.Declarations.{Declaration}
+use Rattle.cv_syntax_trees.specs.Tree.{Tree}
 use Rattle.cv_parse.specs.declared.error.ParseError.{ParseError}
 use Rattle.cv_parse.specs.Nodes.{file_nodes}
 use Rattle.cv_parse.specs.Parsed.{Parsed, parsed}
 use Rattle.cv_parse.specs.Says.{Says}
-use Rattle.cv_typing.specs.declared.fault.Fault.{Fault}
-use Rattle.cv_typing.specs.Parts.{IsTypedFile, file_parts, first_in}
-use Rattle.cv_typing.specs.Refusals.{refusal}
+use Rattle.cv_typing_rules.specs.declared.fault.Fault.{Fault}
+use Rattle.cv_typing_rules.specs.Parts.{IsTypedFile, file_parts, first_in}
+use Rattle.cv_typing_rules.specs.Refusals.{refusal}
 use Rattle.cv_scope_rules.specs.declared.fault.Fault.{Fault as ScopeRules}
 use Rattle.cv_scope_rules.specs.Refusals.{refusal as scope_refusal}
 use Rattle.cv_scope_rules.specs.Scope.{IsScoped, first_scope_fault}
@@ -36,6 +36,10 @@ use Rattle.cv_query_form.specs.Tests.{first_refused}
 use Rattle.cv_accept.specs.declared.error.FileError.{FileError}
 use Rattle.cv_accept.specs.declared.error.FileError.TheVariants.{Lex, Parse, Script, Types, Scope, Group, Query, Room, Unbuilt, OutOfMemory}
 use Rattle.cv_accept.specs.Places.{behind, nodes_before}
+
+-- the most bytes of a file
+abbrev pub most_bytes : ℕ
+most_bytes = 1048576
 
 -- what a file holds: its names, behind them those of its proof block, what it declares, its game, and the steps of the block,
 -- where it has one

@@ -7,13 +7,14 @@ use Rattle.cv_pool.specs.KindTree.{KindTree}
 use Rattle.cv_syntax.specs.declared.decls.Decl.{Decl}
 use Rattle.cv_syntax.specs.declared.work.Work.{Work}
 use Rattle.cv_syntax.specs.Declarations.{declarations}
-use Rattle.cv_syntax.specs.Tree.{Tree, depth, size, tree_at}
+use Rattle.cv_syntax_trees.specs.Tree.{Tree, depth, size}
+use Rattle.cv_syntax.specs.PoolTrees.{tree_at}
 use Rattle.cv_parse.specs.Nodes.{file_nodes}
 use Rattle.cv_syntax_limits.specs.Limits.{most_depth, most_nodes, nodes_of}
 use Rattle.cv_parse_script.specs.Scripts.{trees_of}
 use Rattle.cv_parse_script.specs.Trees.{script_nodes}
 use Rattle.cv_script.specs.declared.steps.Step.{Step}
-use Rattle.cv_typing.specs.Parts.{IsTypedFile}
+use Rattle.cv_typing_rules.specs.Parts.{IsTypedFile}
 use Rattle.cv_scope_rules.specs.Phrases.{IsWellFormed}
 use Rattle.cv_meaning.specs.Queries.{queries_in}
 use Rattle.cv_query_form.specs.Rules.{AreAsked}

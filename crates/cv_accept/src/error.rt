@@ -5,7 +5,7 @@ use cv_parse_script::ScriptError;
 use cv_query_form::QueryFault;
 use cv_scope_rules::ScopeFault;
 use cv_syntax::BuildError;
-use cv_typing::TypeFault;
+use cv_typing_rules::TypeFault;
 use std::alloc::AllocError;
 
 /// Why bytes aren't taken as a file.

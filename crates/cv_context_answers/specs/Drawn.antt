@@ -2,7 +2,7 @@
 -- drawn is this profile's own.
 use Rattle.std.specs.Prelude.{◌≡◌, ℕ, true, false, ◌==◌, List, length}
 use Rattle.std.specs.List.{AllByRecursion, IsDistinct, list_any}
-use Rattle.cv_syntax.specs.Tree.{Tree}
+use Rattle.cv_syntax_trees.specs.Tree.{Tree}
 use Rattle.cv_meaning_contexts.specs.Groups.{Right, side_group}
 use Rattle.cv_scenes.specs.Scenes.{is_new}
 use Rattle.cv_scenes.specs.Reductions.{Reduction, context_of_game}

@@ -3,8 +3,8 @@
 
 ghost use Rattle.std.specs.Prelude.{◌≡◌, ◌==◌, ◌<◌, ◌≤◌, ℕ, List, false, nat_lt};
 ghost use Rattle.std.specs.List.{AllByRecursion, list_any};
-ghost use Rattle.cv_syntax.specs.Declarations.{Declaration};
-ghost use Rattle.cv_syntax.specs.Tree.{Tree};
+ghost use Rattle.cv_syntax_trees.specs.Declarations.{Declaration};
+ghost use Rattle.cv_syntax_trees.specs.Tree.{Tree};
 ghost use Rattle.cv_scenes.specs.Scenes.{KnowsQueries};
 ghost use Rattle.cv_scenes.specs.Contexts.{AreAnswers};
 ghost use Rattle.cv_context_answers.specs.Answers.{KnowsConstants, answer_above, file_scene};

@@ -3,7 +3,7 @@ use Rattle.std.proofs.Common.{◌≡◌, ℕ, zero, suc, ◌+◌, ◌<◌, Bool,
 use Rattle.std.proofs.lemmas.Bool.{both_ways, and_parts, eqb-false, not-true}
 use Rattle.std.specs.List.{AllByRecursion, list_any}
 use Rattle.std.specs.Prelude.{nat_eq, slice_get}
-use Rattle.cv_syntax.specs.Tree.{Tree, Empty, Node, chain, first, reads_only, same_tree}
+use Rattle.cv_syntax_trees.specs.Tree.{Tree, Empty, Node, chain, first, reads_only, same_tree}
 use Rattle.cv_scope_rules.specs.Context.{cell_of}
 use Rattle.cv_scope_rules.specs.Phrases.{IsWellFormed}
 use Rattle.cv_scope_rules.specs.declared.position.Position.TheVariants.{Anywhere}

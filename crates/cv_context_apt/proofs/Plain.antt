@@ -1,6 +1,6 @@
 -- Terms that use the key and coins in sites alone, and no answer, read plain names alone outside sites.
 use Rattle.std.proofs.Common.{◌≡◌, ℕ, ◌<◌, true, false, length, None, arith}
-use Rattle.cv_syntax.specs.Tree.{Tree}
+use Rattle.cv_syntax_trees.specs.Tree.{Tree}
 use Rattle.cv_scope_rules.specs.declared.position.Position.TheVariants.{Anywhere}
 use Rattle.cv_scenes.specs.Scenes.{names}
 use Rattle.cv_scenes.specs.Refusals.{first_use}

@@ -1,6 +1,6 @@
 -- What a game without refusals has, and terms in it: their sites are sites of the game. This profile's own.
 use Rattle.std.specs.Prelude.{◌≡◌, ℕ, ◌+◌, ◌<◌, true, false, List, length, slice_get, Some, None}
-use Rattle.cv_syntax.specs.Tree.{Tree, first}
+use Rattle.cv_syntax_trees.specs.Tree.{Tree, first}
 use Rattle.cv_scope_rules.specs.Phrases.{IsWellFormed}
 use Rattle.cv_scope_rules.specs.declared.position.Position.TheVariants.{Anywhere}
 use Rattle.cv_scenes.specs.Scenes.{names}

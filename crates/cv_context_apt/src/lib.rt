@@ -2,8 +2,8 @@
 #![tactic(auto)]
 
 ghost use Rattle.std.specs.Prelude.{◌≡◌, ℕ, List, None, Some, false, slice_get, true};
-ghost use Rattle.cv_syntax.specs.Declarations.{Declaration};
-ghost use Rattle.cv_syntax.specs.Tree.{Tree, first};
+ghost use Rattle.cv_syntax_trees.specs.Declarations.{Declaration};
+ghost use Rattle.cv_syntax_trees.specs.Tree.{Tree, first};
 ghost use Rattle.cv_meaning.specs.Interpretation.{Interpretation};
 ghost use Rattle.cv_meaning.specs.Side.{CallNumber};
 ghost use Rattle.cv_meaning_contexts.specs.Bodies.{function_called};

@@ -3,9 +3,9 @@ use Rattle.std.proofs.Common.{◌≡◌, ℕ, suc, ◌+◌, Bool, true, false, c
 use Rattle.std.proofs.lemmas.Bool.{and_parts, both_ways}
 use Rattle.std.specs.Prelude.{slice_get}
 use Rattle.cv_lists.proofs.Places.{slice_get-append_left, slice_get-append_right}
-use Rattle.cv_syntax.specs.declared.head.Head.{Head}
-use Rattle.cv_syntax.specs.declared.head.Head.TheVariants.{Repl, New, Let, If, Event, Out, Key, Call as CallHead}
-use Rattle.cv_syntax.specs.Tree.{Tree, Empty, Node, first_place, second_place}
+use Rattle.cv_syntax_trees.specs.declared.head.Head.{Head}
+use Rattle.cv_syntax_trees.specs.declared.head.Head.TheVariants.{Repl, New, Let, If, Event, Out, Key, Call as CallHead}
+use Rattle.cv_syntax_trees.specs.Tree.{Tree, Empty, Node, first_place, second_place}
 use Rattle.cv_scope_rules.specs.Context.{cell_of, first_position, index_terms, replications_below, second_position}
 use Rattle.cv_scope_rules.specs.Phrases.{Body, Inputs, Message, Nil, Phrase, Term, Terms, is_phrase, parts}
 use Rattle.cv_scope_rules.specs.declared.position.Position.{Position}

@@ -5,10 +5,10 @@ use Rattle.std.proofs.lemmas.Option.{get_or_from_slice_get, slice_get_within}
 use Rattle.std.specs.List.{AllByRecursion}
 use Rattle.std.specs.Prelude.{slice_get}
 use Rattle.cv_lists.proofs.Each.{AllByRecursion-append, AllByRecursion-get_or, AllByRecursion-map}
-use Rattle.cv_syntax.specs.declared.head.Head.{Head}
-use Rattle.cv_syntax.specs.declared.head.Head.TheVariants.{Call as CallHead, Cons, Leaf, Read}
-use Rattle.cv_syntax.specs.Tree.{Tree, Empty, Node, chain, first, first_place, second, second_place, same_tree}
-use Rattle.cv_directory.specs.Sites.{first_of}
+use Rattle.cv_syntax_trees.specs.declared.head.Head.{Head}
+use Rattle.cv_syntax_trees.specs.declared.head.Head.TheVariants.{Call as CallHead, Cons, Leaf, Read}
+use Rattle.cv_syntax_trees.specs.Tree.{Tree, Empty, Node, chain, first, first_place, second, second_place, same_tree}
+use Rattle.cv_directory_sorts.specs.Sites.{first_of}
 use Rattle.cv_meaning_contexts.specs.Groups.{Function}
 use Rattle.cv_meaning_contexts.specs.Sites.{is_call}
 use Rattle.cv_scope_rules.specs.Context.{first_position, replications_below, second_position}

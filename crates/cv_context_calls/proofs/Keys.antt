@@ -1,7 +1,7 @@
 -- The indices of the key are a list in each call that is found in a game's context.
 use Rattle.std.proofs.Common.{◌≡◌, ℕ, true, List, [], Option, Some, None, refl, sym, ap, subst, ◌∙◌}
 use Rattle.std.specs.Prelude.{IfSome}
-use Rattle.cv_syntax.specs.Tree.{Tree, first}
+use Rattle.cv_syntax_trees.specs.Tree.{Tree, first}
 use Rattle.cv_scope_rules.specs.Phrases.{Inputs, is_phrase}
 use Rattle.cv_scenes.specs.Reductions.{Reduction, context_of_game, matching}
 use Rattle.cv_inline_branches.specs.Moves.{IsList}

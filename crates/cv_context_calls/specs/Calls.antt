@@ -1,7 +1,7 @@
 -- The calls of a context as those of the sites of its game. This profile's own.
 use Rattle.std.specs.Prelude.{◌≡◌, ℕ, List, [], ◌∷◌, ◌++◌, slice_get, Some}
-use Rattle.cv_syntax.specs.declared.head.Head.TheVariants.{Call, Repl}
-use Rattle.cv_syntax.specs.Tree.{Tree, Empty, Node}
+use Rattle.cv_syntax_trees.specs.declared.head.Head.TheVariants.{Call, Repl}
+use Rattle.cv_syntax_trees.specs.Tree.{Tree, Empty, Node}
 use Rattle.cv_scenes.specs.Contexts.{call_terms}
 use Rattle.cv_scenes.specs.Reductions.{Reduction, sites}
 use Rattle.cv_scenes.specs.Sites.{Site}

@@ -1,9 +1,9 @@
 -- Terms, and lists of binders: nothing is drawn there. A term is one in the context too.
 use Rattle.std.proofs.Common.{◌≡◌, ℕ, ◌+◌, Bool, true, false, cond, ◌&&◌, List, [], ◌∷◌, length, Option, Some, None, is_some, refl, ap, ap₂, subst, ◌∙◌}
 use Rattle.std.proofs.lemmas.Bool.{both_ways, and_parts}
-use Rattle.cv_syntax.specs.declared.head.Head.{Head}
-use Rattle.cv_syntax.specs.declared.head.Head.TheVariants.{And, Apply, Binder, Call, Cons, Eq, Event, If, In, Key, Leaf, Let, Name, New, No, Not, Or, Out, Read, Yes}
-use Rattle.cv_syntax.specs.Tree.{Tree, Empty, Node}
+use Rattle.cv_syntax_trees.specs.declared.head.Head.{Head}
+use Rattle.cv_syntax_trees.specs.declared.head.Head.TheVariants.{And, Apply, Binder, Call, Cons, Eq, Event, If, In, Key, Leaf, Let, Name, New, No, Not, Or, Out, Read, Yes}
+use Rattle.cv_syntax_trees.specs.Tree.{Tree, Empty, Node}
 use Rattle.cv_meaning_runs.specs.Listed.{head_is_testable, is_testable}
 use Rattle.cv_scope_rules.specs.Context.{cell_of, first_position, index_terms, replications_below, second_position}
 use Rattle.cv_scope_rules.specs.Phrases.{Phrase, Binders, Cells, Indices, Message, Nil, OneCell, Pattern, Term, Terms, is_phrase, parts}

@@ -3,9 +3,9 @@ use Rattle.std.proofs.Common.{◌≡◌, ℕ, suc, Bool, true, false, cond, ◌&
 use Rattle.std.proofs.lemmas.Bool.{both_ways, and_parts}
 use Rattle.std.specs.List.{AllByRecursion}
 use Rattle.std.specs.Prelude.{option_map}
-use Rattle.cv_syntax.specs.declared.head.Head.{Head}
-use Rattle.cv_syntax.specs.declared.head.Head.TheVariants.{Find, Leaf, New}
-use Rattle.cv_syntax.specs.Tree.{Tree, Empty, Node, chain, first, first_place, same_tree, second, second_place}
+use Rattle.cv_syntax_trees.specs.declared.head.Head.{Head}
+use Rattle.cv_syntax_trees.specs.declared.head.Head.TheVariants.{Find, Leaf, New}
+use Rattle.cv_syntax_trees.specs.Tree.{Tree, Empty, Node, chain, first, first_place, same_tree, second, second_place}
 use Rattle.cv_meaning.specs.Cells.{without_repeats}
 use Rattle.cv_meaning.specs.Interpretation.{Interpretation}
 use Rattle.cv_meaning.specs.Side.{CallNumber}
@@ -14,9 +14,9 @@ use Rattle.cv_meaning_adequacy.specs.Typed as meaning
 use Rattle.cv_meaning_contexts.specs.Bodies.{function_called}
 use Rattle.cv_meaning_contexts.specs.Groups.{Function, Group}
 use Rattle.cv_meaning_contexts.specs.Sides.{body_cells, cells_here, chosen_cell, function_cells}
-use Rattle.cv_directory.specs.Sites.{Variable, first_of, first_site}
-use Rattle.cv_directory.specs.declared.sort.Sort.{Sort}
-use Rattle.cv_directory.specs.declared.sort.Sort.TheVariants.{BelowParameter, OfType}
+use Rattle.cv_directory_sorts.specs.Sites.{Variable, first_of, first_site}
+use Rattle.cv_directory_sorts.specs.declared.sort.Sort.{Sort}
+use Rattle.cv_directory_sorts.specs.declared.sort.Sort.TheVariants.{BelowParameter, OfType}
 use Rattle.cv_typing_runs.specs.Games.{context_of, variable_of_meaning}
 use Rattle.cv_scope_rules.specs.Context.{cell_of, first_position, replications_below, second_position}
 use Rattle.cv_scope_rules.specs.Phrases.{Term}

@@ -1,10 +1,10 @@
 -- Terms that stand for names in an instance are terms, and bind nothing.
 use Rattle.std.proofs.Common.{◌≡◌, ℕ, zero, suc, ◌+◌, ◌<◌, Bool, true, false, cond, ◌&&◌, ◌==◌, List, [], ◌∷◌, ◌⊎◌, inl, inr, Option, Some, None, refl, ap, ap₂, subst, ◌∙◌, eqb-true, arith}
 use Rattle.std.proofs.lemmas.Bool.{and_parts, both_ways}
-use Rattle.cv_syntax.specs.declared.head.Head.{Head}
-use Rattle.cv_syntax.specs.declared.head.Head.TheVariants.{Leaf, Read, Apply, Eq, And, Or, Not, Yes, No, Cons, Key, Call as CallHead}
-use Rattle.cv_syntax.specs.Declarations.{Declaration}
-use Rattle.cv_syntax.specs.Tree.{Tree, Empty, Node, chain}
+use Rattle.cv_syntax_trees.specs.declared.head.Head.{Head}
+use Rattle.cv_syntax_trees.specs.declared.head.Head.TheVariants.{Leaf, Read, Apply, Eq, And, Or, Not, Yes, No, Cons, Key, Call as CallHead}
+use Rattle.cv_syntax_trees.specs.Declarations.{Declaration}
+use Rattle.cv_syntax_trees.specs.Tree.{Tree, Empty, Node, chain}
 use Rattle.cv_derivations.specs.Given.{or_node, term_for, with_given}
 use Rattle.cv_scope_rules.specs.Phrases.{Body, Nil, Phrase, Term, Terms, binds_none, both_are, head_binds_none, is_oracle_phrase, is_phrase, oracle_parts, parts}
 use Rattle.cv_scenes.specs.Contexts.{call_terms}

@@ -1,7 +1,7 @@
 -- What array scope asks of each node of a tree by itself, whatever stands before the tree. This profile's own.
 use Rattle.std.specs.Prelude.{◌≡◌, ◌≤◌, ℕ, true, length}
-use Rattle.cv_syntax.specs.declared.head.Head.{Head}
-use Rattle.cv_syntax.specs.Tree.{Tree, Empty, Node, first_place, second_place}
+use Rattle.cv_syntax_trees.specs.declared.head.Head.{Head}
+use Rattle.cv_syntax_trees.specs.Tree.{Tree, Empty, Node, first_place, second_place}
 use Rattle.cv_scope_rules.specs.declared.position.Position.{Position}
 use Rattle.cv_scope_rules.specs.Branches.{HasOtherName, Pairs}
 use Rattle.cv_scope_rules.specs.Context.{Context, first_context, first_position, second_context, second_position}

@@ -1,16 +1,16 @@
 -- An instance uses the key, so it stands in no index that doesn't.
 use Rattle.std.proofs.Common.{◌≡◌, ℕ, ◌+◌, ◌<◌, Bool, true, false, cond, not, ◌&&◌, ◌||◌, ◌==◌, List, Option, Some, None, is_some, refl, ap₂, subst, eqb-true, arith}
 use Rattle.std.proofs.lemmas.Bool.{and_parts, both_ways}
-use Rattle.cv_syntax.specs.declared.head.Head.{Head}
-use Rattle.cv_syntax.specs.declared.head.Head.TheVariants.{Read}
-use Rattle.cv_syntax.specs.Declarations.{Declaration}
-use Rattle.cv_syntax.specs.Tree.{Tree, Empty, Node}
+use Rattle.cv_syntax_trees.specs.declared.head.Head.{Head}
+use Rattle.cv_syntax_trees.specs.declared.head.Head.TheVariants.{Read}
+use Rattle.cv_syntax_trees.specs.Declarations.{Declaration}
+use Rattle.cv_syntax_trees.specs.Tree.{Tree, Empty, Node}
 use Rattle.cv_meaning.specs.Interpretation.{is_constant_of}
 use Rattle.cv_group_rules.specs.Faults.{IsAccepted}
 use Rattle.cv_scope_rules.specs.Phrases.{IsWellFormed}
 use Rattle.cv_scope_rules.specs.Scope.{names_of as scope_names}
 use Rattle.cv_scope_rules.specs.Standing.{at_root}
-use Rattle.cv_typing.specs.Parts.{IsTypedGame}
+use Rattle.cv_typing_rules.specs.Parts.{IsTypedGame}
 use Rattle.cv_typing_runs.specs.Games.{HasKnownNames}
 use Rattle.cv_scenes.specs.Scenes.{head_reads, is_queried}
 use Rattle.cv_scenes.specs.Instances.{Call, Matching, call_at, names_of, terms_of}

@@ -2,12 +2,12 @@
 #![tactic(auto)]
 
 ghost use Rattle.std.specs.Prelude.{◌≡◌, None, true};
-ghost use Rattle.cv_syntax.specs.Declarations.{Declaration};
-ghost use Rattle.cv_syntax.specs.Tree.{Tree};
+ghost use Rattle.cv_syntax_trees.specs.Declarations.{Declaration};
+ghost use Rattle.cv_syntax_trees.specs.Tree.{Tree};
 ghost use Rattle.cv_meaning.specs.Interpretation.{is_constant_of};
 ghost use Rattle.cv_group_rules.specs.Faults.{IsAccepted};
 ghost use Rattle.cv_scope_rules.specs.Phrases.{IsWellFormed};
-ghost use Rattle.cv_typing.specs.Parts.{IsTypedGame};
+ghost use Rattle.cv_typing_rules.specs.Parts.{IsTypedGame};
 ghost use Rattle.cv_typing_runs.specs.Games.{HasKnownNames};
 ghost use Rattle.cv_scenes.specs.Refusals.{first_refusal};
 ghost use Rattle.cv_scenes.specs.Reductions.{Reduction, matching};

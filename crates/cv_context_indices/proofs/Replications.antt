@@ -1,9 +1,9 @@
 -- In array scope each replication binds a new index.
 use Rattle.std.proofs.Common.{◌≡◌, ℕ, Bool, true, ◌&&◌, not, List, refl, ap₂, subst}
 use Rattle.std.proofs.lemmas.Bool.{and_from}
-use Rattle.cv_syntax.specs.declared.head.Head.{Head}
-use Rattle.cv_syntax.specs.declared.head.Head.TheVariants.{Repl}
-use Rattle.cv_syntax.specs.Tree.{Tree, Empty, Node}
+use Rattle.cv_syntax_trees.specs.declared.head.Head.{Head}
+use Rattle.cv_syntax_trees.specs.declared.head.Head.TheVariants.{Repl}
+use Rattle.cv_syntax_trees.specs.Tree.{Tree, Empty, Node}
 use Rattle.cv_first_fault.specs.Walk.{IsObeyed}
 use Rattle.cv_scope_rules.specs.declared.fault.Fault.TheVariants.{Replications}
 use Rattle.cv_scope_rules.specs.Context.{replications_below}

@@ -2,14 +2,14 @@
 #![tactic(auto)]
 
 ghost use Rattle.std.specs.Prelude.{◌≡◌, ℕ, List, [], Some, true};
-ghost use Rattle.cv_syntax.specs.Declarations.{Declaration};
-ghost use Rattle.cv_syntax.specs.Tree.{Tree};
-ghost use Rattle.cv_directory.specs.declared.sort.Sort.TheVariants.{OfType};
-ghost use Rattle.cv_directory.specs.Sites.{sites_of};
+ghost use Rattle.cv_syntax_trees.specs.Declarations.{Declaration};
+ghost use Rattle.cv_syntax_trees.specs.Tree.{Tree};
+ghost use Rattle.cv_directory_sorts.specs.declared.sort.Sort.TheVariants.{OfType};
+ghost use Rattle.cv_directory_sorts.specs.Sites.{sites_of};
 ghost use Rattle.cv_scope_rules.specs.Phrases.{Inputs, IsWellFormed, is_phrase};
 ghost use Rattle.cv_scope_rules.specs.Scope.{is_variable};
-ghost use Rattle.cv_typing.specs.Parts.{IsTypedGame};
-ghost use Rattle.cv_typing.specs.Signature.{OfGame, variable_sort};
+ghost use Rattle.cv_typing_rules.specs.Parts.{IsTypedGame};
+ghost use Rattle.cv_typing_rules.specs.Signature.{OfGame, variable_sort};
 ghost use Rattle.cv_typing_runs.specs.Games.{HasKnownNames};
 ghost use Rattle.cv_scenes.specs.Refusals.{new_of};
 ghost use Rattle.cv_context_indices.specs.Indices.{indices_are_new, indices_use_none};

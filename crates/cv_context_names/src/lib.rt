@@ -2,9 +2,9 @@
 #![tactic(auto)]
 
 ghost use Rattle.std.specs.Prelude.{◌≡◌, ℕ, List, Some, false, true};
-ghost use Rattle.cv_syntax.specs.declared.head.Head.{Head};
-ghost use Rattle.cv_syntax.specs.declared.head.Head.TheVariants.{Branch, In, Let, New};
-ghost use Rattle.cv_syntax.specs.Tree.{Node, Tree, second};
+ghost use Rattle.cv_syntax_trees.specs.declared.head.Head.{Head};
+ghost use Rattle.cv_syntax_trees.specs.declared.head.Head.TheVariants.{Branch, In, Let, New};
+ghost use Rattle.cv_syntax_trees.specs.Tree.{Node, Tree, second};
 ghost use Rattle.cv_scenes.specs.Refusals.{new_of};
 ghost use Rattle.cv_scenes.specs.Apt.{AreBindersPlain};
 ghost use Rattle.cv_scenes.specs.Reductions.{Reduction, is_answer, is_plain};

@@ -3,8 +3,8 @@ use Rattle.std.proofs.Common.{◌≡◌, ℕ, Bool, true, false, ◌||◌, ◌==
 use Rattle.std.proofs.lemmas.Bool.{both_ways}
 use Rattle.std.proofs.lemmas.List.Folds.{list_any-append}
 use Rattle.std.specs.List.{AllByRecursion, IsDistinct, list_any}
-use Rattle.cv_syntax.specs.declared.head.Head.TheVariants.{Find}
-use Rattle.cv_syntax.specs.Tree.{Tree, Empty, Node}
+use Rattle.cv_syntax_trees.specs.declared.head.Head.TheVariants.{Find}
+use Rattle.cv_syntax_trees.specs.Tree.{Tree, Empty, Node}
 use Rattle.cv_scenes.specs.Reductions.{Reduction}
 use Rattle.cv_inline_games.specs.Draws.{labels_in}
 use Rattle.cv_inline_draws.proofs.Fresh.{as_many_labels, labels_differ, labels_free}

@@ -1,6 +1,6 @@
 -- Names for the answers of a context's calls, as many as there may be. This profile's own.
 use Rattle.std.specs.Prelude.{◌≡◌, ℕ, false}
-use Rattle.cv_syntax.specs.Tree.{Tree}
+use Rattle.cv_syntax_trees.specs.Tree.{Tree}
 use Rattle.cv_scenes.specs.Scenes.{names}
 use Rattle.cv_scenes.specs.Reductions.{Reduction}
 

@@ -1,7 +1,7 @@
 -- What is made at the end of a list of parts, and the cell of a variable.
 use Rattle.std.proofs.Common.{◌≡◌, ℕ, ◌<◌, List, [], ◌∷◌, length, refl, arith, append_assoc, append-nil}
-use Rattle.cv_syntax.specs.declared.head.Head.TheVariants.{Leaf, Read}
-use Rattle.cv_syntax.specs.Tree.{Empty, Node, lone}
+use Rattle.cv_syntax_trees.specs.declared.head.Head.TheVariants.{Leaf, Read}
+use Rattle.cv_syntax_trees.specs.Tree.{Empty, Node, lone}
 use Rattle.cv_scope_rules.specs.Context.{cell_of, index_terms}
 
 pub cell-none : (rs : List (ℕ × ℕ)) (x : ℕ) → rs ≡ [] → cell_of rs x ≡ lone (Leaf x)

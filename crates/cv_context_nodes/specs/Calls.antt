@@ -3,8 +3,9 @@ use Rattle.std.specs.Prelude.{ℕ, List, map}
 use Rattle.std.specs.List.{All}
 use Rattle.cv_pool.specs.KindTree.{KindTree}
 use Rattle.cv_pool.specs.Nodes.{ChildBelow}
-use Rattle.cv_syntax.specs.declared.head.Head.TheVariants.{Cons}
-use Rattle.cv_syntax.specs.Tree.{Tree, Node, chain, tree_at}
+use Rattle.cv_syntax_trees.specs.declared.head.Head.TheVariants.{Cons}
+use Rattle.cv_syntax_trees.specs.Tree.{Tree, Node, chain}
+use Rattle.cv_syntax.specs.PoolTrees.{tree_at}
 use Rattle.cv_context_nodes.specs.declared.calls.Call.{Call}
 
 -- the nodes of what it reads stand in a pool with so many

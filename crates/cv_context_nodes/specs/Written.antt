@@ -1,9 +1,9 @@
 -- What the code writes for one node of the game: parts of trees, and the nodes that are open behind them.
 use Rattle.std.specs.Prelude.{ℕ, suc, ◌==◌, if◌then◌else◌, List, [], ◌∷◌, ◌++◌, drop, slice_index_or, take, ◌-◌}
 use Rattle.cv_pool.specs.KindTree.{KindTree}
-use Rattle.cv_syntax.specs.declared.head.Head.{Head}
-use Rattle.cv_syntax.specs.declared.head.Head.TheVariants.{Key, New}
-use Rattle.cv_syntax.specs.declared.head.Head.TheVariants.{Call as CallHead}
+use Rattle.cv_syntax_trees.specs.declared.head.Head.{Head}
+use Rattle.cv_syntax_trees.specs.declared.head.Head.TheVariants.{Key, New}
+use Rattle.cv_syntax_trees.specs.declared.head.Head.TheVariants.{Call as CallHead}
 use Rattle.cv_syntax.specs.declared.make.Make.{Make}
 use Rattle.cv_syntax.specs.declared.make.Make.TheVariants.{Nothing}
 use Rattle.cv_syntax.specs.NameSets.{is_in}

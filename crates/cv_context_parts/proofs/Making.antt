@@ -2,11 +2,11 @@
 use Rattle.std.proofs.Common.{◌≡◌, ℕ, Bool, true, false, nat_lt, Ok, suc, ◌+◌, ◌≤◌, ◌<◌, List, [], ◌∷◌, ◌++◌, length, drop, refl, ap, sym, ◌∙◌, arith, append_assoc, append-nil, map, Option, Some}
 use Rattle.std.proofs.lemmas.List.{drop_all, replicate_more}
 use Rattle.std.specs.Prelude.{replicate, flat_map}
-use Rattle.cv_syntax.specs.declared.head.Head.{Head}
-use Rattle.cv_syntax.specs.declared.head.Head.TheVariants.{Cons}
+use Rattle.cv_syntax_trees.specs.declared.head.Head.{Head}
+use Rattle.cv_syntax_trees.specs.declared.head.Head.TheVariants.{Cons}
 use Rattle.cv_syntax.specs.declared.make.Make.{Make}
 use Rattle.cv_syntax.specs.declared.make.Make.TheVariants.{Nothing, Over}
-use Rattle.cv_syntax.specs.Tree.{Tree, Empty, Node, chain}
+use Rattle.cv_syntax_trees.specs.Tree.{Tree, Empty, Node, chain}
 use Rattle.cv_syntax.specs.Postorder.{postorder}
 use Rattle.cv_syntax.proofs.Trees.{tree_of-NoTree}
 use Rattle.cv_context_parts.specs.Closing.{closing}

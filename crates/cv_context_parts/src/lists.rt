@@ -1,9 +1,10 @@
 ghost use Rattle.std.specs.Prelude.{◌≡◌, ◌++◌, ◌∷◌, All, OnOk, length, map, replicate};
 ghost use Rattle.cv_pool.specs.Nodes.{ChildBelow};
-ghost use Rattle.cv_syntax.specs.declared.head.Head.TheVariants.{Cons};
+ghost use Rattle.cv_syntax_trees.specs.declared.head.Head.TheVariants.{Cons};
 ghost use Rattle.cv_syntax.specs.declared.make.Make.TheVariants.{Nothing, Over};
 ghost use Rattle.cv_syntax.specs.Postorder.{postorder};
-ghost use Rattle.cv_syntax.specs.Tree.{chain, lone, tree_at};
+ghost use Rattle.cv_syntax_trees.specs.Tree.{chain, lone};
+ghost use Rattle.cv_syntax.specs.PoolTrees.{tree_at};
 
 use crate::trees::push_tree;
 use cv_syntax::{Head, Make, NodeId, Pool};

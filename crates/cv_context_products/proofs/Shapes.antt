@@ -3,11 +3,11 @@ use Rattle.std.proofs.Common.{◌≡◌, ℕ, ◌+◌, Bool, true, false, List, 
 use Rattle.std.specs.Prelude.{if◌then◌else◌, not}
 use Rattle.std.proofs.lemmas.Bool.{and_parts}
 use Rattle.cv_pool.specs.KindTree.{KindTree}
-use Rattle.cv_syntax.specs.declared.head.Head.{Head}
-use Rattle.cv_syntax.specs.Tree.{Tree, Empty, Node, second}
+use Rattle.cv_syntax_trees.specs.declared.head.Head.{Head}
+use Rattle.cv_syntax_trees.specs.Tree.{Tree, Empty, Node, second}
 use Rattle.cv_meaning_contexts.specs.Groups.{Left, side_tree}
-use Rattle.cv_directory.specs.Sites as directory
-use Rattle.cv_directory.specs.Sites.{SitesView}
+use Rattle.cv_directory_sorts.specs.Sites as directory
+use Rattle.cv_directory_sorts.specs.Sites.{SitesView}
 use Rattle.cv_scope_rules.specs.Phrases.{Inputs, is_phrase}
 use Rattle.cv_scenes.specs.Contexts as contexts
 use Rattle.cv_scenes.specs.Contexts.{matching_of, parameters_of}

@@ -1,8 +1,8 @@
 -- The shape of a context: how often keys are chosen in it, and how often each function of the left side is called. Each number is a
 -- product of parameters. This profile's own.
 use Rattle.std.specs.Prelude.{ℕ, suc, List, [], ◌∷◌, Option, Some, None}
-use Rattle.cv_syntax.specs.declared.head.Head.TheVariants.{Oracle}
-use Rattle.cv_syntax.specs.Tree.{Tree, Empty, Node, second}
+use Rattle.cv_syntax_trees.specs.declared.head.Head.TheVariants.{Oracle}
+use Rattle.cv_syntax_trees.specs.Tree.{Tree, Empty, Node, second}
 use Rattle.cv_meaning_contexts.specs.Groups.{Left, side_tree}
 use Rattle.cv_scenes.specs.Contexts.{calls_of, matching_of, parameters_of}
 use Rattle.cv_scenes.specs.Refusals.{new_of}

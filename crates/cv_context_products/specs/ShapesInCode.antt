@@ -1,8 +1,8 @@
 -- What the code has of the shape of a context, and of the scene that it is the shape in.
 use Rattle.std.specs.Prelude.{◌≡◌, ℕ, true, List, map, None}
 use Rattle.cv_pool.specs.KindTree.{KindTree}
-use Rattle.cv_syntax.specs.Tree.{Tree}
-use Rattle.cv_directory.specs.Sites.{SitesView, sites_of}
+use Rattle.cv_syntax_trees.specs.Tree.{Tree}
+use Rattle.cv_directory_sorts.specs.Sites.{SitesView, sites_of}
 use Rattle.cv_scope_rules.specs.Phrases.{Inputs, is_phrase}
 use Rattle.cv_scenes.specs.Contexts.{matching_of}
 use Rattle.cv_scenes.specs.Refusals.{first_refusal}

@@ -1,6 +1,7 @@
 ghost use Rattle.std.specs.Prelude.{◌≡◌, ◌≤◌, IfOk, length, map};
 ghost use Rattle.cv_pool.specs.Nodes.{ChildBelow};
-ghost use Rattle.cv_syntax.specs.Tree.{Tree, second, tree_at};
+ghost use Rattle.cv_syntax_trees.specs.Tree.{Tree, second};
+ghost use Rattle.cv_syntax.specs.PoolTrees.{tree_at};
 ghost use Rattle.cv_syntax.specs.Walks.{above};
 ghost use Rattle.cv_directory.specs.Tables.{seen};
 ghost use Rattle.cv_scenes.specs.Instances.{Matching};

@@ -2,9 +2,9 @@
 use Rattle.std.proofs.Common.{◌≡◌, ℕ, Bool, true, false, List, [], ◌∷◌, inl, inr, is_some, refl, ap, subst, eqb-true}
 use Rattle.std.proofs.lemmas.Bool.{both_ways, or_cases, or_left}
 use Rattle.std.specs.List.{list_any}
-use Rattle.cv_syntax.specs.declared.head.Head.TheVariants.{Secret, SecretOnce}
-use Rattle.cv_syntax.specs.Tree.{Tree, Empty, Node}
-use Rattle.cv_directory.specs.Sites.{first_site, is_untyped_in}
+use Rattle.cv_syntax_trees.specs.declared.head.Head.TheVariants.{Secret, SecretOnce}
+use Rattle.cv_syntax_trees.specs.Tree.{Tree, Empty, Node}
+use Rattle.cv_directory_sorts.specs.Sites.{first_site, is_untyped_in}
 use Rattle.cv_meaning.specs.Queries.{queries_in}
 use Rattle.cv_query_form.specs.Rules.{AreAsked, HasValues, MayBeAsked}
 use Rattle.cv_scope_rules.specs.Scope.{IsScoped, is_variable, names_of}

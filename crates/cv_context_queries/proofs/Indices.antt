@@ -1,13 +1,13 @@
 -- A tree that doesn't bind an index: neither do its parts, nor does it with a part changed to one that doesn't.
 use Rattle.std.proofs.Common.{◌≡◌, ℕ, ◌+◌, ◌-◌, Bool, true, false, cond, nat_lt, Option, Some, None, is_some, refl, subst}
 use Rattle.std.proofs.lemmas.Bool.{both_ways}
-use Rattle.cv_syntax.specs.declared.head.Head.{Head}
-use Rattle.cv_syntax.specs.declared.head.Head.TheVariants.{Find, Repl}
-use Rattle.cv_syntax.specs.Head.{weight}
-use Rattle.cv_syntax.specs.Tree.{Tree, Empty, Node, size, subtree}
+use Rattle.cv_syntax_trees.specs.declared.head.Head.{Head}
+use Rattle.cv_syntax_trees.specs.declared.head.Head.TheVariants.{Find, Repl}
+use Rattle.cv_syntax_trees.specs.Head.{weight}
+use Rattle.cv_syntax_trees.specs.Tree.{Tree, Empty, Node, size, subtree}
 use Rattle.cv_meaning.specs.Replaced.{replaced}
 use Rattle.cv_meaning.specs.Still.{defines}
-use Rattle.cv_directory.specs.Sites.{first_index, first_of, index_here}
+use Rattle.cv_directory_sorts.specs.Sites.{first_index, first_of, index_here}
 use Rattle.cv_scope_rules.specs.Phrases.{Phrase, Inputs, Term, parts, is_phrase}
 use Rattle.cv_scenes.specs.Pruning.{Part, Pruned, pruned}
 use Rattle.cv_scenes.specs.Scenes.{or_empty, part_at}

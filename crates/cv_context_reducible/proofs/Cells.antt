@@ -1,8 +1,8 @@
 -- Cells of `defined` lists, conditions and indices of a game without a refusal are apt.
 use Rattle.std.proofs.Common.{◌≡◌, ℕ, ◌+◌, ◌<◌, ◌≤◌, Bool, true, false, cond, ◌&&◌, ◌||◌, not, ◌==◌, List, length, refl, sym, ap, subst, ◌∙◌, eq-eqb, eqb-true, arith}
 use Rattle.std.proofs.lemmas.Bool.{both_ways, and_from, and_parts, not-true}
-use Rattle.cv_syntax.specs.declared.head.Head.TheVariants.{Cons, Leaf, Read, Repl}
-use Rattle.cv_syntax.specs.Tree.{Tree, Empty, Node, reads_only}
+use Rattle.cv_syntax_trees.specs.declared.head.Head.TheVariants.{Cons, Leaf, Read, Repl}
+use Rattle.cv_syntax_trees.specs.Tree.{Tree, Empty, Node, reads_only}
 use Rattle.cv_meaning.specs.Interpretation.{is_constant_of}
 use Rattle.cv_scope_rules.specs.Phrases.{Cells, OneCell, head_binds_none, is_phrase}
 use Rattle.cv_scope_rules.specs.Rules.{is_index}

@@ -1,8 +1,8 @@
 -- Each phrase of a game without a refusal is apt.
 use Rattle.std.proofs.Common.{◌≡◌, ℕ, ◌+◌, ◌<◌, Bool, true, false, ◌&&◌, List, [], ◌∷◌, ◌++◌, length, Option, None, refl}
 use Rattle.std.proofs.lemmas.Bool.{both_ways, and_parts}
-use Rattle.cv_syntax.specs.declared.head.Head.TheVariants.{Branch, Cons, Event, Find, If, In, Let, New, Out, Par, Repl, Stop, Yield}
-use Rattle.cv_syntax.specs.Tree.{Tree, Empty, Node, first_place, second_place}
+use Rattle.cv_syntax_trees.specs.declared.head.Head.TheVariants.{Branch, Cons, Event, Find, If, In, Let, New, Out, Par, Repl, Stop, Yield}
+use Rattle.cv_syntax_trees.specs.Tree.{Tree, Empty, Node, first_place, second_place}
 use Rattle.cv_meaning.specs.Interpretation.{is_constant_of}
 use Rattle.cv_scope_rules.specs.Phrases.{Arm, Binders, Body, Branches, Cells, Else, Guarded, Guards, Inputs, Message, Nil, Pattern, Term, Terms, Then, is_phrase}
 use Rattle.cv_scope_rules.specs.Scope.{is_variable}

@@ -1,8 +1,8 @@
 -- Phrases in which no statement stands are apt.
 use Rattle.std.proofs.Common.{◌≡◌, ℕ, Bool, true, false, ◌&&◌, List, refl}
 use Rattle.std.proofs.lemmas.Bool.{both_ways, and_parts}
-use Rattle.cv_syntax.specs.declared.head.Head.TheVariants.{And, Apply, Binder, Cons, Eq, Leaf, Name, No, Not, Or, Read, Yes}
-use Rattle.cv_syntax.specs.Tree.{Tree, Empty, Node}
+use Rattle.cv_syntax_trees.specs.declared.head.Head.TheVariants.{And, Apply, Binder, Cons, Eq, Leaf, Name, No, Not, Or, Read, Yes}
+use Rattle.cv_syntax_trees.specs.Tree.{Tree, Empty, Node}
 use Rattle.cv_scope_rules.specs.Phrases.{Binders, Cells, Indices, Message, Nil, OneCell, Pattern, Phrase, Term, Terms, is_phrase}
 use Rattle.cv_scenes.specs.Apt.{IsApt}
 use Rattle.cv_scenes.specs.Reductions.{Reduction}

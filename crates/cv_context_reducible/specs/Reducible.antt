@@ -3,7 +3,7 @@ use Rattle.std.specs.Prelude.{◌≡◌, List, length, None}
 use Rattle.cv_meaning.specs.Interpretation.{is_constant_of}
 use Rattle.cv_group_rules.specs.Faults.{IsAccepted}
 use Rattle.cv_scope_rules.specs.Phrases.{IsWellFormed}
-use Rattle.cv_typing.specs.Parts.{IsTypedGame}
+use Rattle.cv_typing_rules.specs.Parts.{IsTypedGame}
 use Rattle.cv_typing_runs.specs.Games.{HasKnownNames}
 use Rattle.cv_scenes.specs.Refusals.{first_refusal}
 use Rattle.cv_scenes.specs.Contexts.{AreAnswers}

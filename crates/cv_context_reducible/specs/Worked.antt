@@ -1,8 +1,8 @@
 -- A small protocol with tags, as a reduction to authentication: its events are declared, too.
 use Rattle.std.specs.Prelude.{ℕ, nat_lt, List, [], ◌∷◌, ◌++◌, None}
-use Rattle.cv_syntax.specs.declared.decls.Class.TheVariants as class
-use Rattle.cv_syntax.specs.Declarations.{Declaration, Named}
-use Rattle.cv_syntax.specs.Tree.{names}
+use Rattle.cv_syntax_trees.specs.declared.class.Class.TheVariants as class
+use Rattle.cv_syntax_trees.specs.Declarations.{Declaration, Named}
+use Rattle.cv_syntax_trees.specs.Tree.{names}
 use Rattle.cv_scenes.specs.Reductions.{Reduction}
 use Rattle.cv_match_laws.specs.Worked as worked
 use Rattle.cv_match_laws.specs.Worked.{answer, authentication, game}

@@ -2,9 +2,9 @@
 use Rattle.std.proofs.Common.{◌≡◌, ℕ, zero, suc, true, false, List, [], ◌∷◌, map, Option, Some, None, refl, sym, ap, ◌∙◌}
 use Rattle.std.proofs.lemmas.Bool.{and_parts, both_ways}
 use Rattle.std.specs.Prelude.{slice_get}
-use Rattle.cv_syntax.specs.Head.{same_head}
-use Rattle.cv_syntax.specs.Tree.{Tree, Empty, Node, chain, first, same_tree, second}
-use Rattle.cv_syntax.proofs.Equality.{same_tree_exact}
+use Rattle.cv_syntax_trees.specs.Head.{same_head}
+use Rattle.cv_syntax_trees.specs.Tree.{Tree, Empty, Node, chain, first, same_tree, second}
+use Rattle.cv_syntax_trees.proofs.Equality.{same_tree_exact}
 use Rattle.cv_meaning.specs.Correspondences.{typed_names}
 use Rattle.cv_meaning_contexts.specs.Groups.{Function, function_of, functions_of}
 use Rattle.cv_group_rules.specs.Rules.{all_agree, functions_agree, same_bound, take_alike}

@@ -3,8 +3,8 @@ use Rattle.std.proofs.Common.{◌≡◌, ℕ, ◌<◌, Bool, true, false, cond, 
 use Rattle.std.proofs.lemmas.Bool.{or_left, or_right}
 use Rattle.std.specs.List.{list_any}
 use Rattle.std.specs.Prelude.{option_map}
-use Rattle.cv_syntax.specs.Declarations.{Declaration}
-use Rattle.cv_syntax.specs.Tree.{Tree}
+use Rattle.cv_syntax_trees.specs.Declarations.{Declaration}
+use Rattle.cv_syntax_trees.specs.Tree.{Tree}
 use Rattle.cv_meaning.specs.Advantage.{IsAsked, chance_of, secrecy_query}
 use Rattle.cv_meaning.specs.Chances.{AtMost, distance}
 use Rattle.cv_meaning.specs.Experiments.{Breaks, Experiment, Guesses, mode_of}
@@ -14,9 +14,9 @@ use Rattle.cv_meaning.specs.Tapes.{blank}
 use Rattle.cv_meaning_adequacy.proofs.Lists.{contains_has}
 use Rattle.cv_meaning_laws.proofs.Listed.{Has}
 use Rattle.cv_meaning_contexts.specs.ContextAdvantage.{context_advantage}
-use Rattle.cv_directory.specs.declared.sort.Sort.{Sort}
-use Rattle.cv_directory.specs.declared.sort.Sort.TheVariants.{OfType}
-use Rattle.cv_directory.specs.Sites.{Variable, first_site}
+use Rattle.cv_directory_sorts.specs.declared.sort.Sort.{Sort}
+use Rattle.cv_directory_sorts.specs.declared.sort.Sort.TheVariants.{OfType}
+use Rattle.cv_directory_sorts.specs.Sites.{Variable, first_site}
 use Rattle.cv_meaning.specs.Queries.{queries_in}
 use Rattle.cv_scope_rules.proofs.Apart.{game-alike, game-branches}
 use Rattle.cv_scope_rules.specs.Phrases.{Inputs, IsWellFormedContext}

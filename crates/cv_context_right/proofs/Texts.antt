@@ -2,7 +2,7 @@
 use Rattle.std.proofs.Common.{◌≡◌, ℕ, ◌+◌, Bool, true, false, cond, ◌==◌, List, [], ◌∷◌, inl, inr, length, is_some, Option, Some, refl, sym, ap, subst, ◌∙◌, arith}
 use Rattle.std.proofs.lemmas.Bool.{and_parts, both_ways}
 use Rattle.std.specs.Prelude.{slice_get}
-use Rattle.cv_syntax.specs.Tree.{Tree, Empty, Node, chain, first, second}
+use Rattle.cv_syntax_trees.specs.Tree.{Tree, Empty, Node, chain, first, second}
 use Rattle.cv_meaning.specs.Interpretation.{is_constant_of}
 use Rattle.cv_meaning.specs.Memory.{Indices}
 use Rattle.cv_meaning.specs.Tapes.{Tape, blank}

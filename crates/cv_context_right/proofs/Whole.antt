@@ -1,8 +1,8 @@
 -- Where each call of a tree is that of a site, and such calls have texts, all calls have texts.
 use Rattle.std.proofs.Common.{◌≡◌, ℕ, true, false, List, [], ◌∷◌, ◌++◌, refl, sym, subst}
 use Rattle.std.proofs.lemmas.Bool.{and_parts, both_ways}
-use Rattle.cv_syntax.specs.declared.head.Head.TheVariants.{And, Apply, Call, Cons, Eq, Leaf, No, Not, Or, Read, Repl, Yes}
-use Rattle.cv_syntax.specs.Tree.{Tree, Empty, Node}
+use Rattle.cv_syntax_trees.specs.declared.head.Head.TheVariants.{And, Apply, Call, Cons, Eq, Leaf, No, Not, Or, Read, Repl, Yes}
+use Rattle.cv_syntax_trees.specs.Tree.{Tree, Empty, Node}
 use Rattle.cv_scope_rules.specs.Phrases.{Nil, Phrase, Term, Terms, is_oracle_phrase}
 use Rattle.cv_scenes.specs.Reductions.{Reduction}
 use Rattle.cv_inline_runs.specs.Texts.{Text}

@@ -1,10 +1,10 @@
 -- What is drawn for the next game of the small protocol.
 use Rattle.std.proofs.Common.{◌≡◌, ℕ, ◌<◌, ◌==◌, true, false, List, [], length, refl, sym, subst, arith}
 use Rattle.std.specs.List.{AllByRecursion, IsDistinct, list_any}
-use Rattle.cv_syntax.specs.Tree.{same_tree, size}
+use Rattle.cv_syntax_trees.specs.Tree.{same_tree, size}
 use Rattle.cv_derivations.specs.Given.{with_given}
-use Rattle.cv_directory.specs.Sites.{bound_sort, first_site}
-use Rattle.cv_typing.specs.Signature.{names_in}
+use Rattle.cv_directory_sorts.specs.Sites.{bound_sort, first_site}
+use Rattle.cv_typing_rules.specs.Signature.{names_in}
 use Rattle.cv_meaning_contexts.specs.Groups.{Right, side_group}
 use Rattle.cv_meaning_contexts.specs.Sides.{Context}
 use Rattle.cv_scenes.specs.Contexts.{context_in}

@@ -3,18 +3,18 @@ use Rattle.std.proofs.Common.{◌≡◌, ℕ, ◌==◌, Bool, true, false, ◌&&
 use Rattle.std.proofs.lemmas.Bool.{and_parts, both_ways}
 use Rattle.std.proofs.lemmas.List.Elements.{Contains-append_left, Contains-push}
 use Rattle.cv_first_fault.specs.Walk.{first_fault}
-use Rattle.cv_syntax.specs.declared.head.Head.TheVariants.{New, Secret}
-use Rattle.cv_syntax.specs.Tree.{Tree, Empty, Node, lone, same_tree, size}
+use Rattle.cv_syntax_trees.specs.declared.head.Head.TheVariants.{New, Secret}
+use Rattle.cv_syntax_trees.specs.Tree.{Tree, Empty, Node, lone, same_tree, size}
 use Rattle.cv_derivations.specs.Given.{with_given}
-use Rattle.cv_directory.specs.Sites.{bound_sort, first_index, first_site}
+use Rattle.cv_directory_sorts.specs.Sites.{bound_sort, first_index, first_site}
 use Rattle.cv_meaning.specs.Advantage.{IsAsked}
 use Rattle.cv_meaning.specs.Experiments.{Breaks}
 use Rattle.cv_meaning.specs.Interpretation.{is_constant_of}
-use Rattle.cv_typing.specs.Parts.{IsTypedGame, game_part, signature_of}
-use Rattle.cv_typing.specs.Signature.{names_in}
-use Rattle.cv_directory.specs.Counting.{count}
-use Rattle.cv_typing.specs.Typing.{binders_differ}
-use Rattle.cv_typing.proofs.First.{typed_where_none}
+use Rattle.cv_typing_rules.specs.Parts.{IsTypedGame, game_part, signature_of}
+use Rattle.cv_typing_rules.specs.Signature.{names_in}
+use Rattle.cv_directory_sorts.specs.Counting.{count}
+use Rattle.cv_typing_rules.specs.Typing.{binders_differ}
+use Rattle.cv_typing_rules.proofs.First.{typed_where_none}
 use Rattle.cv_meaning.specs.Queries.{queries_in}
 use Rattle.cv_scope_rules.specs.Made.{is_bound}
 use Rattle.cv_scope_rules.specs.Phrases.{IsWellFormed, binds_none, is_phrase}

@@ -1,10 +1,10 @@
 -- The small protocol with tags, as a step by authentication of a file with queries: 80 to 84 are the names that are drawn for its
 -- next game, 1 is the label, and the answers of its calls are above. This profile's own.
 use Rattle.std.specs.Prelude.{ℕ, ◌+◌, false, nat_lt, List, [], ◌∷◌, ◌++◌}
-use Rattle.cv_syntax.specs.declared.head.Head.TheVariants.{And, Eq, Let, New, No, Secret, Yes}
-use Rattle.cv_syntax.specs.Builders.{branch, correspondence, find, leaf, occurs, read}
-use Rattle.cv_syntax.specs.Declarations.{Declaration, Query}
-use Rattle.cv_syntax.specs.Tree.{Tree, Empty, Node, lone}
+use Rattle.cv_syntax_trees.specs.declared.head.Head.TheVariants.{And, Eq, Let, New, No, Secret, Yes}
+use Rattle.cv_syntax_trees.specs.Builders.{branch, correspondence, find, leaf, occurs, read}
+use Rattle.cv_syntax_trees.specs.Declarations.{Declaration, Query}
+use Rattle.cv_syntax_trees.specs.Tree.{Tree, Empty, Node, lone}
 use Rattle.cv_meaning_contexts.specs.Sides.{Context}
 use Rattle.cv_scenes.specs.Reductions.{Reduction}
 use Rattle.cv_match_laws.specs.Worked.{accepts, apply, authentication, call, choose_key, game, game_with, parties, sends}

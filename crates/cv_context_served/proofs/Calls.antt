@@ -4,9 +4,9 @@ use Rattle.std.proofs.lemmas.Bool.{both_ways, and_parts}
 use Rattle.std.specs.List.{AllByRecursion, IsDistinct}
 use Rattle.std.specs.Prelude.{nat_eq}
 use mathlib.Core.List.{reverse_aux}
-use Rattle.cv_syntax.specs.declared.head.Head.TheVariants.{Leaf, Read, Apply, Eq, And, Or, Not, Yes, No, Cons}
-use Rattle.cv_syntax.specs.Declarations.{Declaration}
-use Rattle.cv_syntax.specs.Tree.{Tree, Empty, Node, chain, first, reads_only}
+use Rattle.cv_syntax_trees.specs.declared.head.Head.TheVariants.{Leaf, Read, Apply, Eq, And, Or, Not, Yes, No, Cons}
+use Rattle.cv_syntax_trees.specs.Declarations.{Declaration}
+use Rattle.cv_syntax_trees.specs.Tree.{Tree, Empty, Node, chain, first, reads_only}
 use Rattle.cv_meaning.specs.Interpretation.{Interpretation, Setting, is_constant_of}
 use Rattle.cv_meaning.specs.Memory.{Indices, Local, Memory, Store, put, tuple}
 use Rattle.cv_meaning.specs.Serving.{Served, key_tuple, serve, step}

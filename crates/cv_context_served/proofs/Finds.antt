@@ -2,9 +2,9 @@
 use Rattle.std.proofs.Common.{◌≡◌, ℕ, suc, ◌+◌, Bool, true, false, cond, ◌||◌, ◌==◌, max, List, [], ◌∷◌, ◌++◌, flat_map, length, Option, Some, None, is_some, refl, sym, ap, ap₂, subst, ◌∙◌, eqb-true}
 use Rattle.std.proofs.lemmas.Bool.{both_ways, and_parts}
 use Rattle.std.proofs.Math.Path.{fun_ext}
-use Rattle.cv_syntax.specs.declared.head.Head.{Head}
-use Rattle.cv_syntax.specs.declared.head.Head.TheVariants.{Leaf, Read, Cons, Branch, Name, Binder}
-use Rattle.cv_syntax.specs.Tree.{Tree, Empty, Node, reads_only}
+use Rattle.cv_syntax_trees.specs.declared.head.Head.{Head}
+use Rattle.cv_syntax_trees.specs.declared.head.Head.TheVariants.{Leaf, Read, Cons, Branch, Name, Binder}
+use Rattle.cv_syntax_trees.specs.Tree.{Tree, Empty, Node, reads_only}
 use Rattle.cv_meaning.specs.Interpretation.{Setting}
 use Rattle.cv_meaning.specs.Memory.{Indices, Store, tuple}
 use Rattle.cv_meaning.specs.Terms.{is_one, values}

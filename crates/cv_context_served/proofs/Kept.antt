@@ -3,8 +3,8 @@ use Rattle.std.proofs.Common.{◌≡◌, ◌≢◌, ℕ, zero, suc, ◌<◌, Boo
 use Rattle.std.proofs.lemmas.Bool.{both_ways, eqb-false}
 use Rattle.std.proofs.lemmas.List.Folds.{list_any-append}
 use Rattle.std.specs.List.{list_any}
-use Rattle.cv_syntax.specs.declared.head.Head.TheVariants.{Binder}
-use Rattle.cv_syntax.specs.Tree.{Tree, Node}
+use Rattle.cv_syntax_trees.specs.declared.head.Head.TheVariants.{Binder}
+use Rattle.cv_syntax_trees.specs.Tree.{Tree, Node}
 use Rattle.cv_meaning.specs.Binders.{bound_to}
 use Rattle.cv_meaning.specs.Candidates.{below}
 use Rattle.cv_meaning.specs.Memory.{Memory, Store, put}

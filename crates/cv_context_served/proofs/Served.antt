@@ -3,8 +3,8 @@ use Rattle.std.proofs.Common.{◌≡◌, ℕ, zero, suc, ◌+◌, ◌<◌, Bool,
 use Rattle.std.proofs.lemmas.Bool.{both_ways, and_parts}
 use Rattle.std.proofs.lemmas.Grind.{flat_map-append}
 use Rattle.std.specs.List.{AllByRecursion, list_any}
-use Rattle.cv_syntax.specs.declared.head.Head.TheVariants.{Stop, Yield, Par, Repl, In, Out, Event, New, Let, If, Find, Branch, Cons, Key}
-use Rattle.cv_syntax.specs.Tree.{Tree, Empty, Node, first_place, second, second_place}
+use Rattle.cv_syntax_trees.specs.declared.head.Head.TheVariants.{Stop, Yield, Par, Repl, In, Out, Event, New, Let, If, Find, Branch, Cons, Key}
+use Rattle.cv_syntax_trees.specs.Tree.{Tree, Empty, Node, first_place, second, second_place}
 use Rattle.cv_meaning.specs.Interpretation.{Interpretation, Setting}
 use Rattle.cv_meaning.specs.Memory.{Indices, Local, Memory, Store, put, tuple}
 use Rattle.cv_meaning.specs.Terms.{is_one, value}
@@ -22,7 +22,7 @@ use Rattle.cv_scope_runs.specs.Reads.{TermAssigned, VisitReadsAssigned}
 use Rattle.cv_scope_runs.proofs.Contexts.{Matches, push_matches}
 use Rattle.cv_scenes.specs.Instances.{is_read_of}
 use Rattle.cv_scenes.specs.Sites.{Site, sites_in}
-use Rattle.cv_directory.specs.Sites.{first_of}
+use Rattle.cv_directory_sorts.specs.Sites.{first_of}
 use Rattle.cv_scenes.specs.Sights.{variable_of}
 use Rattle.cv_scenes.specs.Contexts.{after_calls, in_context as tree_in_context, is_coin_variable}
 use Rattle.cv_scenes.specs.Reductions.{Reduction, in_context, in_game, is_answer, is_coin, is_plain, matching, sites}

@@ -3,11 +3,11 @@ use Rattle.std.proofs.Common.{◌≡◌, ℕ, zero, suc, ◌+◌, Bool, true, fa
 use Rattle.std.proofs.lemmas.Bool.{and_parts}
 use Rattle.std.specs.List.{AllByRecursion}
 use Rattle.std.specs.Prelude.{slice_get}
-use Rattle.cv_syntax.specs.Declarations.{Declaration}
-use Rattle.cv_syntax.specs.Tree.{Tree, same_tree}
-use Rattle.cv_syntax.proofs.Equality.{same_tree_exact}
+use Rattle.cv_syntax_trees.specs.Declarations.{Declaration}
+use Rattle.cv_syntax_trees.specs.Tree.{Tree, same_tree}
+use Rattle.cv_syntax_trees.proofs.Equality.{same_tree_exact}
 use Rattle.cv_meaning_contexts.specs.Groups.{Function}
-use Rattle.cv_directory.specs.Sites.{first_of}
+use Rattle.cv_directory_sorts.specs.Sites.{first_of}
 use Rattle.cv_scenes.specs.Sights.{variable_of}
 use Rattle.cv_scenes.specs.Instances.{Call, Instance, IsInstance, Matching, are_of_types, call_at, call_by, filled, first_call, guess, is_argument_of, is_coin_of, is_instance, is_read_of}
 use Rattle.cv_scenes.specs.LeftTerms.{HasLeftTerms, IsLeftFunction}

@@ -1,7 +1,7 @@
 -- What is known of an instance that is found in a game. This profile's own.
 use Rattle.std.specs.Prelude.{◌≡◌, List, Some}
-use Rattle.cv_syntax.specs.Declarations.{Declaration}
-use Rattle.cv_syntax.specs.Tree.{Tree}
+use Rattle.cv_syntax_trees.specs.Declarations.{Declaration}
+use Rattle.cv_syntax_trees.specs.Tree.{Tree}
 use Rattle.cv_meaning_contexts.specs.Groups.{function_at}
 use Rattle.cv_scenes.specs.Instances.{Call, IsInstance, Matching}
 use Rattle.cv_scenes.specs.LeftTerms.{IsLeftFunction}

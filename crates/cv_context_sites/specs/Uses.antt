@@ -1,6 +1,6 @@
 -- How often a game uses a variable outside its sites, and in them. This profile's own.
 use Rattle.std.specs.Prelude.{◌≡◌, ℕ, ◌+◌, if◌then◌else◌, List, [], ◌∷◌, slice_get, Some, None}
-use Rattle.cv_syntax.specs.Tree.{Tree, Empty, Node}
+use Rattle.cv_syntax_trees.specs.Tree.{Tree, Empty, Node}
 use Rattle.cv_scope_rules.specs.declared.position.Position.{Position}
 use Rattle.cv_scope_rules.specs.Context.{first_position, second_position}
 use Rattle.cv_scenes.specs.Scenes.{head_reads}

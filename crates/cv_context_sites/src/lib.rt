@@ -2,8 +2,8 @@
 #![tactic(auto)]
 
 ghost use Rattle.std.specs.Prelude.{◌≡◌, ◌+◌, ◌<◌, ◌≤◌, ◌==◌, ℕ, List, Some, false, slice_get, true};
-ghost use Rattle.cv_syntax.specs.Declarations.{Declaration};
-ghost use Rattle.cv_syntax.specs.Tree.{Tree};
+ghost use Rattle.cv_syntax_trees.specs.Declarations.{Declaration};
+ghost use Rattle.cv_syntax_trees.specs.Tree.{Tree};
 ghost use Rattle.cv_meaning.specs.Tapes.{Made_at, New_at};
 ghost use Rattle.cv_scope_rules.specs.Phrases.{Term, is_phrase};
 ghost use Rattle.cv_scope_rules.specs.declared.position.Position.{Position};

@@ -2,23 +2,23 @@
 use Rattle.std.proofs.Common.{◌≡◌, ℕ, suc, Bool, true, false, cond, not, ◌||◌, List, [], ◌∷◌, ◌++◌, flat_map, Contains, Option, Some, None, inl, inr, refl, sym, ap, subst, eqb-true, arith}
 use Rattle.std.proofs.lemmas.Bool.{both_ways}
 use Rattle.std.specs.List.{AllByRecursion}
-use Rattle.cv_syntax.specs.declared.decls.Class.TheVariants as class
-use Rattle.cv_syntax.specs.declared.head.Head.TheVariants.{New}
-use Rattle.cv_syntax.specs.Declarations.{Declaration, Equiv, Named}
-use Rattle.cv_syntax.specs.Tree.{Tree, Empty, Node, first, second}
+use Rattle.cv_syntax_trees.specs.declared.class.Class.TheVariants as class
+use Rattle.cv_syntax_trees.specs.declared.head.Head.TheVariants.{New}
+use Rattle.cv_syntax_trees.specs.Declarations.{Declaration, Equiv, Named}
+use Rattle.cv_syntax_trees.specs.Tree.{Tree, Empty, Node, first, second}
 use Rattle.cv_first_fault.specs.Walk.{IsObeyed}
 use Rattle.cv_meaning_laws.proofs.Listed.{Has}
 use Rattle.cv_meaning_adequacy.specs.Typed.{IsDeclared, OfType}
 use Rattle.cv_meaning_adequacy.proofs.Lists.{contains_has}
 use Rattle.cv_meaning_contexts.specs.Groups.{Function, Left, Right, Which, functions_of}
-use Rattle.cv_directory.specs.declared.sort.Sort.{Sort}
-use Rattle.cv_typing.specs.declared.fault.Fault.TheVariants.{Arity, IndexAsMessage, NotFixed, WrongType}
-use Rattle.cv_typing.specs.declared.form.Form.TheVariants.{InBody}
-use Rattle.cv_typing.specs.Parts.{AreTyped, IsTypedFile, IsTypedPart, Part, body_parts, declaration_parts, equivalence_parts, first_result, game_part, in_function, more_results, names_of, results, side_arrays, signature_of}
-use Rattle.cv_typing.specs.Signature.{Above, Arrays, Signature, arity_by, declaration_of, fixed_by, is_arity, is_fixed_in, is_of, sort_by}
-use Rattle.cv_directory.specs.Counting.{count}
-use Rattle.cv_typing.specs.Typing.{IsTyped, fault_of, site_differs}
-use Rattle.cv_typing.specs.Wants.{Run, Want, above_second, is_index_sent, is_wrong, wants}
+use Rattle.cv_directory_sorts.specs.declared.sort.Sort.{Sort}
+use Rattle.cv_typing_rules.specs.declared.fault.Fault.TheVariants.{Arity, IndexAsMessage, NotFixed, WrongType}
+use Rattle.cv_typing_rules.specs.declared.form.Form.TheVariants.{InBody}
+use Rattle.cv_typing_rules.specs.Parts.{AreTyped, IsTypedFile, IsTypedPart, Part, body_parts, declaration_parts, equivalence_parts, first_result, game_part, in_function, more_results, names_of, results, side_arrays, signature_of}
+use Rattle.cv_typing_rules.specs.Signature.{Above, Arrays, Signature, arity_by, declaration_of, fixed_by, is_arity, is_fixed_in, is_of, sort_by}
+use Rattle.cv_directory_sorts.specs.Counting.{count}
+use Rattle.cv_typing_rules.specs.Typing.{IsTyped, fault_of, site_differs}
+use Rattle.cv_typing_rules.specs.Wants.{Run, Want, above_second, is_index_sent, is_wrong, wants}
 use Rattle.cv_context_tapes.specs.Declared.{BodiesChooseFromDeclaredTypes, ChoosesFromDeclaredTypes}
 
 -- a fixed type is declared

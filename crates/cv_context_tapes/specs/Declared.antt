@@ -1,9 +1,9 @@
 -- Equivalences whose sides choose from declared types: keys, coins, and what bodies choose by `new`. This profile's own.
 use Rattle.std.specs.Prelude.{ℕ, List}
 use Rattle.std.specs.List.{AllByRecursion}
-use Rattle.cv_syntax.specs.declared.head.Head.TheVariants.{New}
-use Rattle.cv_syntax.specs.Declarations.{Declaration}
-use Rattle.cv_syntax.specs.Tree.{Tree, Empty, Node}
+use Rattle.cv_syntax_trees.specs.declared.head.Head.TheVariants.{New}
+use Rattle.cv_syntax_trees.specs.Declarations.{Declaration}
+use Rattle.cv_syntax_trees.specs.Tree.{Tree, Empty, Node}
 use Rattle.cv_meaning_contexts.specs.Groups.{Function, Which, side_group}
 use Rattle.cv_meaning_adequacy.specs.Typed.{IsDeclared, OfType}
 

@@ -2,8 +2,8 @@
 #![tactic(auto)]
 
 ghost use Rattle.std.specs.Prelude.{ℕ, ◌<◌, Contains, List};
-ghost use Rattle.cv_syntax.specs.Declarations.{Declaration, Equiv};
-ghost use Rattle.cv_syntax.specs.Tree.{Tree};
+ghost use Rattle.cv_syntax_trees.specs.Declarations.{Declaration, Equiv};
+ghost use Rattle.cv_syntax_trees.specs.Tree.{Tree};
 ghost use Rattle.cv_meaning.specs.Experiments.{Experiment, mode_of};
 ghost use Rattle.cv_meaning.specs.Interpretation.{Interpretation, setting_with};
 ghost use Rattle.cv_meaning.specs.Runs.{Adversary, Mode};
@@ -15,7 +15,7 @@ ghost use Rattle.cv_meaning_contexts.specs.ContextAdvantage.{context_advantage, 
 ghost use Rattle.cv_meaning_contexts.specs.Groups.{Which};
 ghost use Rattle.cv_meaning_contexts.specs.Sides.{Context, side_of};
 ghost use Rattle.cv_meaning_values.specs.Values.{HasValuesIn};
-ghost use Rattle.cv_typing.specs.Parts.{IsTypedFile};
+ghost use Rattle.cv_typing_rules.specs.Parts.{IsTypedFile};
 ghost use Rattle.cv_scenes.specs.Reductions.{Reduction, context_of_game, in_game};
 ghost use Rattle.cv_context_tapes.specs.Declared.{BodiesChooseFromDeclaredTypes, HasDeclaredTypes};
 

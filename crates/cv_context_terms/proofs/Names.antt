@@ -5,9 +5,9 @@ use Rattle.std.proofs.lemmas.List.{map-append}
 use Rattle.std.specs.List.{AllByRecursion, IsDistinct, list_any}
 use Rattle.std.specs.Prelude.{nat_eq}
 use mathlib.Core.List.{reverse_aux}
-use Rattle.cv_syntax.specs.declared.head.Head.TheVariants.{Binder, Leaf}
+use Rattle.cv_syntax_trees.specs.declared.head.Head.TheVariants.{Binder, Leaf}
 use Rattle.cv_syntax.specs.NameSets.{is_one_of}
-use Rattle.cv_syntax.specs.Tree.{Tree, Empty, Node, bound_names, first, second}
+use Rattle.cv_syntax_trees.specs.Tree.{Tree, Empty, Node, bound_names, first, second}
 use Rattle.cv_meaning.specs.Correspondences.{typed_names}
 use Rattle.cv_meaning_adequacy.proofs.Lists.{or_cases}
 use Rattle.cv_meaning_contexts.specs.Groups.{function_of, key_of}

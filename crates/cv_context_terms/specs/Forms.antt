@@ -1,7 +1,7 @@
 -- What the grammar gives of the left side of an equivalence: one key, and bodies that are terms as soon as they begin as terms.
 -- This profile's own.
 use Rattle.std.specs.Prelude.{◌≡◌, Bool, true, not, ◌||◌}
-use Rattle.cv_syntax.specs.Tree.{Tree, second}
+use Rattle.cv_syntax_trees.specs.Tree.{Tree, second}
 use Rattle.cv_meaning_contexts.specs.Groups.{Left}
 use Rattle.cv_scope_rules.specs.Phrases.{Term, is_phrase}
 use Rattle.cv_group_rules.specs.Rules.{each_function, functions_in, is_one_binder, is_term, key_in}

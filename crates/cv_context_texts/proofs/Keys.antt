@@ -4,15 +4,15 @@ use Rattle.std.proofs.lemmas.Bool.{and_parts, both_ways}
 use Rattle.std.proofs.lemmas.List.{length-map}
 use Rattle.std.specs.List.{AllByRecursion}
 use Rattle.std.specs.Prelude.{MatchBool, MatchOption, option_map}
-use Rattle.cv_syntax.specs.declared.head.Head.{Head}
-use Rattle.cv_syntax.specs.declared.head.Head.TheVariants.{And, Apply, Cons, Eq, Leaf, New, No, Not, Or, Read, Yes}
-use Rattle.cv_syntax.specs.Declarations.{Declaration}
-use Rattle.cv_syntax.specs.Tree.{Tree, Empty, Node, first, reads_only}
+use Rattle.cv_syntax_trees.specs.declared.head.Head.{Head}
+use Rattle.cv_syntax_trees.specs.declared.head.Head.TheVariants.{And, Apply, Cons, Eq, Leaf, New, No, Not, Or, Read, Yes}
+use Rattle.cv_syntax_trees.specs.Declarations.{Declaration}
+use Rattle.cv_syntax_trees.specs.Tree.{Tree, Empty, Node, first, reads_only}
 use Rattle.cv_meaning.specs.Interpretation.{is_constant_of}
 use Rattle.cv_meaning_laws.proofs.Lists.{each_append}
 use Rattle.cv_meaning_adequacy.specs.Typed as meaning
 use Rattle.cv_meaning_adequacy.specs.Typed.{BelowParameter, HasSort, HaveSorts, IsFunction, IsTyped, IsVariable, NameHasSort, OfType, Scope, Sort, boolean, parameter_in, parameters}
-use Rattle.cv_directory.specs.Sites.{Variable, first_site}
+use Rattle.cv_directory_sorts.specs.Sites.{Variable, first_site}
 use Rattle.cv_scope_rules.specs.Context.{items, replications_below}
 use Rattle.cv_scope_rules.specs.Made.{made_by}
 use Rattle.cv_scope_rules.specs.Phrases.{Phrase, Body, Nil, OneCell, Term, Terms, is_phrase}

@@ -1,6 +1,6 @@
 -- What the names of a reduction's game are in a text, and what gives the call of each site its text. This profile's own.
 use Rattle.std.specs.Prelude.{◌≡◌, ℕ, true, false, not, List, length, if◌then◌else◌, Option, Some, None}
-use Rattle.cv_syntax.specs.Tree.{chain, first, reads_only}
+use Rattle.cv_syntax_trees.specs.Tree.{chain, first, reads_only}
 use Rattle.cv_scope_rules.specs.Context.{items}
 use Rattle.cv_scope_rules.specs.Phrases.{HasConstantsOf}
 use Rattle.cv_scenes.specs.Scenes.{names}

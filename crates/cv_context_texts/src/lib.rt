@@ -7,7 +7,7 @@ ghost use Rattle.cv_meaning.specs.Interpretation.{Interpretation, is_constant_of
 ghost use Rattle.cv_meaning.specs.Tapes.{Find_at};
 ghost use Rattle.cv_group_rules.specs.Faults.{IsAccepted};
 ghost use Rattle.cv_scope_rules.specs.Phrases.{IsWellFormed};
-ghost use Rattle.cv_typing.specs.Parts.{IsTypedGame};
+ghost use Rattle.cv_typing_rules.specs.Parts.{IsTypedGame};
 ghost use Rattle.cv_typing_runs.specs.Games.{HasArguments, HasKnownNames};
 ghost use Rattle.cv_scenes.specs.Apt.{IsSiteApt};
 ghost use Rattle.cv_scenes.specs.Contexts.{AreAnswers};

@@ -1,7 +1,7 @@
 -- The definitions of a context, each with its type and its role.
 use Rattle.std.proofs.Common.{◌≡◌, ℕ}
-use Rattle.cv_syntax.specs.declared.head.Head.TheVariants.{Binder, Branch, Call, Cons, Find, In, Key, Let, New, Par}
-use Rattle.cv_syntax.specs.Tree.{Tree, Empty, Node, second}
+use Rattle.cv_syntax_trees.specs.declared.head.Head.TheVariants.{Binder, Branch, Call, Cons, Find, In, Key, Let, New, Par}
+use Rattle.cv_syntax_trees.specs.Tree.{Tree, Empty, Node, second}
 use Rattle.cv_meaning_contexts.specs.Roles.{Gone, Plain}
 use Rattle.cv_inline_runs.specs.Texts.{Text}
 

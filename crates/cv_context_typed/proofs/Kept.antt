@@ -1,9 +1,9 @@
 -- The definitions of a context are those of its game, with the choice of the key and the answers of calls.
 use Rattle.std.proofs.Common.{◌≡◌, ℕ, suc, Bool, true, false, cond, ◌&&◌, not, ◌==◌, List, [], ◌∷◌, refl, sym, ap₂, subst, eqb-true}
 use Rattle.std.proofs.lemmas.Bool.{and_parts, both_ways}
-use Rattle.cv_syntax.specs.declared.head.Head.TheVariants.{Branch, Cons, Event, Find, If, In, Key, Let, New, Out, Par, Repl, Stop, Yield}
-use Rattle.cv_syntax.specs.Declarations.{Declaration}
-use Rattle.cv_syntax.specs.Tree.{Tree, Empty, Node, second}
+use Rattle.cv_syntax_trees.specs.declared.head.Head.TheVariants.{Branch, Cons, Event, Find, If, In, Key, Let, New, Out, Par, Repl, Stop, Yield}
+use Rattle.cv_syntax_trees.specs.Declarations.{Declaration}
+use Rattle.cv_syntax_trees.specs.Tree.{Tree, Empty, Node, second}
 use Rattle.cv_scope_rules.specs.Phrases.{Arm, Binders, Body, Branches, Cells, Else, Inputs, Message, Nil, Pattern, Term, Terms, Then, is_phrase}
 use Rattle.cv_scope_rules.specs.declared.position.Position.{Position}
 use Rattle.cv_scope_rules.specs.declared.position.Position.TheVariants as position

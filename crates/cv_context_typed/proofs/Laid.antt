@@ -1,8 +1,8 @@
 -- A context in the grammar is laid out where each of its definitions has its type and its role.
 use Rattle.std.proofs.Common.{◌≡◌, ℕ, true, false, ◌&&◌, refl, ap₂}
 use Rattle.std.proofs.lemmas.Bool.{and_parts, both_ways}
-use Rattle.cv_syntax.specs.declared.head.Head.TheVariants.{And, Apply, Binder, Branch, Call, Cons, Eq, Event, Find, If, In, Key, Leaf, Let, Name, New, No, Not, Or, Out, Par, Read, Repl, Stop, Yes, Yield}
-use Rattle.cv_syntax.specs.Tree.{Tree, Empty, Node, second}
+use Rattle.cv_syntax_trees.specs.declared.head.Head.TheVariants.{And, Apply, Binder, Branch, Call, Cons, Eq, Event, Find, If, In, Key, Leaf, Let, Name, New, No, Not, Or, Out, Par, Read, Repl, Stop, Yes, Yield}
+use Rattle.cv_syntax_trees.specs.Tree.{Tree, Empty, Node, second}
 use Rattle.cv_scope_rules.specs.Phrases.{Arm, Binders, Body, Branches, Cells, Else, Guarded, Guards, Indices, Inputs, Message, Nil, OneCell, Pattern, Term, Terms, Then, is_oracle_phrase}
 use Rattle.cv_context_typed.proofs.Definitions.{HasDefinitions, HasGuarded, HasTested, HasTypes}
 use Rattle.cv_inline_runs.specs.Texts.{Text}

@@ -3,9 +3,9 @@
 
 ghost use Rattle.std.specs.Prelude.{◌≡◌, ℕ, Bool, false, true};
 ghost use Rattle.std.specs.List.{AllByRecursion};
-ghost use Rattle.cv_syntax.specs.Tree.{second};
+ghost use Rattle.cv_syntax_trees.specs.Tree.{second};
 ghost use Rattle.cv_meaning_contexts.specs.Sides.{Context};
-ghost use Rattle.cv_typing.specs.Parts.{IsTypedGame};
+ghost use Rattle.cv_typing_rules.specs.Parts.{IsTypedGame};
 ghost use Rattle.cv_scope_rules.specs.Phrases.{binds_none};
 ghost use Rattle.cv_scenes.specs.Apt.{IsAptGame};
 ghost use Rattle.cv_scenes.specs.LeftTerms.{HasLeftTerms};

@@ -1,8 +1,8 @@
 -- The types of the equivalences of a typed file are declared, so the advantages of contexts have tapes.
 use Rattle.std.proofs.Common.{◌≡◌, ℕ, List, [], ◌∷◌, Contains, ◌⊎◌, inl, inr, Ok, Option, sym, subst}
 use Rattle.std.specs.List.{AllByRecursion}
-use Rattle.cv_syntax.specs.Declarations.{Declaration, Equiv}
-use Rattle.cv_syntax.specs.Tree.{Tree}
+use Rattle.cv_syntax_trees.specs.Declarations.{Declaration, Equiv}
+use Rattle.cv_syntax_trees.specs.Tree.{Tree}
 use Rattle.cv_meaning.specs.Experiments.{Experiment, mode_of}
 use Rattle.cv_meaning.specs.Interpretation.{Interpretation}
 use Rattle.cv_meaning.specs.Runs.{Adversary}
@@ -23,7 +23,7 @@ use Rattle.cv_parse_yields.proofs.Yielding.{forms_tell}
 use Rattle.cv_parse_roles.proofs.Declared.{all_asked}
 use Rattle.cv_parse_roles.proofs.Games.{kinds}
 use Rattle.cv_parse_roles.proofs.Rows.{Asked}
-use Rattle.cv_typing.specs.Parts.{IsTypedFile}
+use Rattle.cv_typing_rules.specs.Parts.{IsTypedFile}
 use Rattle.cv_scenes.specs.Reductions.{Reduction, context_of_game, in_game}
 use Rattle.cv_context_tapes.specs.Declared.{HasDeclaredTypes}
 use Rattle.cv_context_tapes.proofs.Fixed.{bodies_choose_declared}

@@ -2,11 +2,11 @@
 use Rattle.std.proofs.Common.{ℕ, List, [], ◌∷◌, map, inl, refl}
 use Rattle.std.specs.List.{AllByRecursion}
 use Rattle.cv_lists.proofs.Each.{AllByRecursion-flat_map}
-use Rattle.cv_syntax.specs.declared.decls.Class.{Class}
-use Rattle.cv_syntax.specs.declared.decls.Class.TheVariants as class
-use Rattle.cv_syntax.specs.declared.head.Head.TheVariants.{Equivalence}
-use Rattle.cv_syntax.specs.Declarations.{Declaration, Equiv}
-use Rattle.cv_syntax.specs.Tree.{Tree, Node, binders, chain, first}
+use Rattle.cv_syntax_trees.specs.declared.class.Class.{Class}
+use Rattle.cv_syntax_trees.specs.declared.class.Class.TheVariants as class
+use Rattle.cv_syntax_trees.specs.declared.head.Head.TheVariants.{Equivalence}
+use Rattle.cv_syntax_trees.specs.Declarations.{Declaration, Equiv}
+use Rattle.cv_syntax_trees.specs.Tree.{Tree, Node, binders, chain, first}
 use Rattle.cv_meaning.specs.Correspondences.{typed_names}
 use Rattle.cv_meaning_contexts.specs.Groups.{Function, Group, Left, Right, Which, function_of, functions_of, group_of, side_group}
 use Rattle.cv_meaning_adequacy.specs.Typed.{IsDeclared, OfType}

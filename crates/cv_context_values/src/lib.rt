@@ -2,7 +2,7 @@
 #![tactic(auto)]
 
 ghost use Rattle.std.specs.Prelude.{◌≡◌, List, Some};
-ghost use Rattle.cv_syntax.specs.Declarations.{Declaration};
+ghost use Rattle.cv_syntax_trees.specs.Declarations.{Declaration};
 ghost use Rattle.cv_meaning.specs.Memory.{Indices, Store};
 ghost use Rattle.cv_meaning.specs.Side.{Arrays, OracleCall};
 ghost use Rattle.cv_meaning.specs.Tapes.{Tape};

@@ -3,9 +3,9 @@ use Rattle.std.proofs.Common.{◌≡◌, ℕ, suc, ◌+◌, ◌≤◌, ◌<◌, 
 use Rattle.std.proofs.lemmas.Bool.{and_parts, both_ways, eqb-false}
 use Rattle.std.specs.List.{AllByRecursion}
 use Rattle.cv_first_fault.specs.Walk.{IsObeyed}
-use Rattle.cv_syntax.specs.declared.head.Head.{Head}
-use Rattle.cv_syntax.specs.declared.head.Head.TheVariants.{Stop, Yield, Par, Repl, In, Out, Event, New, Let, If, Find, Branch, Leaf, Read, Cons, Binder, Name, Key}
-use Rattle.cv_syntax.specs.Tree.{Tree, Empty, Node, first, first_place, reads_only, second}
+use Rattle.cv_syntax_trees.specs.declared.head.Head.{Head}
+use Rattle.cv_syntax_trees.specs.declared.head.Head.TheVariants.{Stop, Yield, Par, Repl, In, Out, Event, New, Let, If, Find, Branch, Leaf, Read, Cons, Binder, Name, Key}
+use Rattle.cv_syntax_trees.specs.Tree.{Tree, Empty, Node, first, first_place, reads_only, second}
 use Rattle.cv_meaning.specs.Binders.{bound_names}
 use Rattle.cv_scope_rules.specs.declared.fault.Fault.TheVariants as fault
 use Rattle.cv_scope_rules.specs.Branches.{HasOtherName, Pairs}

@@ -2,9 +2,9 @@
 use Rattle.std.proofs.Common.{◌≡◌, ℕ, ◌≤◌, Bool, true, false, ◌||◌, ◌==◌, List, [], ◌∷◌, inl, inr, length, Option, Some, None, refl, sym, subst, eq-eqb}
 use Rattle.std.proofs.lemmas.Bool.{and_parts, both_ways}
 use Rattle.std.specs.List.{AllByRecursion}
-use Rattle.cv_syntax.specs.declared.head.Head.{Head}
-use Rattle.cv_syntax.specs.declared.head.Head.TheVariants.{Leaf, Read, Apply, Eq, And, Or, Not, Yes, No, Cons, Binder, Name}
-use Rattle.cv_syntax.specs.Tree.{Tree, Empty, Node, first_place, head_reads_only, reads_only, second_place}
+use Rattle.cv_syntax_trees.specs.declared.head.Head.{Head}
+use Rattle.cv_syntax_trees.specs.declared.head.Head.TheVariants.{Leaf, Read, Apply, Eq, And, Or, Not, Yes, No, Cons, Binder, Name}
+use Rattle.cv_syntax_trees.specs.Tree.{Tree, Empty, Node, first_place, head_reads_only, reads_only, second_place}
 use Rattle.cv_scope_rules.specs.Branches.{HasOtherName, Pairs}
 use Rattle.cv_scope_rules.specs.Context.{Context, cell_of, first_context, first_position, index_terms, second_context, second_position}
 use Rattle.cv_scope_rules.specs.Rules.{BindsNewIndex, InReach, IsAmong, IsFewIndices, Names, ReadsInReach, carries_current, is_index}

@@ -2,9 +2,9 @@
 use Rattle.std.proofs.Common.{◌≡◌, ℕ, suc, ◌≤◌, ◌<◌, true, false, List, [], ◌∷◌, ◌++◌, map, ◌⊎◌, inl, inr, refl, sym, ap, subst, ◌∙◌, arith}
 use Rattle.std.proofs.lemmas.Bool.{and_parts, both_ways}
 use Rattle.std.specs.List.{AllByRecursion}
-use Rattle.cv_syntax.specs.declared.head.Head.{Head}
-use Rattle.cv_syntax.specs.declared.head.Head.TheVariants.{Leaf, Read, Apply, Eq, And, Or, Not, Yes, No, Cons, Name, Binder, Branch, Find, In, Let, New, Key, Call}
-use Rattle.cv_syntax.specs.Tree.{Tree, Empty, Node, first_place, second, second_place}
+use Rattle.cv_syntax_trees.specs.declared.head.Head.{Head}
+use Rattle.cv_syntax_trees.specs.declared.head.Head.TheVariants.{Leaf, Read, Apply, Eq, And, Or, Not, Yes, No, Cons, Name, Binder, Branch, Find, In, Let, New, Key, Call}
+use Rattle.cv_syntax_trees.specs.Tree.{Tree, Empty, Node, first_place, second, second_place}
 use Rattle.cv_meaning.specs.Binders.{bound_names}
 use Rattle.cv_scope_rules.specs.Branches.{AreInDifferentBranches, Each, HasOtherName, IsLike, Pairs}
 use Rattle.cv_scope_rules.specs.Context.{first_position, replications_below, second_position}

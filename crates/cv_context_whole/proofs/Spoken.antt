@@ -2,9 +2,9 @@
 use Rattle.std.proofs.Common.{◌≡◌, ℕ, ◌+◌, ◌≤◌, ◌<◌, Bool, true, false, not, ◌&&◌, ◌||◌, ◌==◌, List, [], ◌∷◌, ◌++◌, length, is_some, Option, Some, None, refl, sym, ap, subst, ◌∙◌, arith}
 use Rattle.std.proofs.lemmas.Bool.{and_parts, both_ways}
 use Rattle.std.specs.List.{AllByRecursion}
-use Rattle.cv_syntax.specs.declared.head.Head.{Head}
-use Rattle.cv_syntax.specs.declared.head.Head.TheVariants.{Leaf, Read, Apply, Eq, And, Or, Not, Yes, No, Cons, Binder, Name}
-use Rattle.cv_syntax.specs.Tree.{Tree, Empty, Node, chain, first, first_place, head_reads_only, reads_only, second_place}
+use Rattle.cv_syntax_trees.specs.declared.head.Head.{Head}
+use Rattle.cv_syntax_trees.specs.declared.head.Head.TheVariants.{Leaf, Read, Apply, Eq, And, Or, Not, Yes, No, Cons, Binder, Name}
+use Rattle.cv_syntax_trees.specs.Tree.{Tree, Empty, Node, chain, first, first_place, head_reads_only, reads_only, second_place}
 use Rattle.cv_scope_rules.specs.Context.{Context, cell_of, first_position, replications_below, second_position}
 use Rattle.cv_scope_rules.specs.Phrases.{Nil, OneCell, Phrase, Term, Terms, is_phrase, parts}
 use Rattle.cv_scope_rules.specs.Rules.{IsAmong, Names, ReadsInReach}

@@ -2,8 +2,8 @@
 -- modulo two, and a right tag is an equal one. This profile's own.
 use Rattle.std.specs.Prelude.{ℕ, ◌%◌, ◌==◌, false, if◌then◌else◌, List, [], ◌∷◌, Option, Some, None}
 use Rattle.std.specs.List.{sum}
-use Rattle.cv_syntax.specs.Builders.{correspondence, leaf, occurs}
-use Rattle.cv_syntax.specs.Tree.{Tree}
+use Rattle.cv_syntax_trees.specs.Builders.{correspondence, leaf, occurs}
+use Rattle.cv_syntax_trees.specs.Tree.{Tree}
 use Rattle.cv_meaning.specs.Interpretation.{Interpretation}
 use Rattle.cv_meaning.specs.Runs.{Answer, Calls, Move}
 use Rattle.cv_meaning.specs.Terms.{bit}

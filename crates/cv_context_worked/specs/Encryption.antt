@@ -3,11 +3,11 @@
 -- equivalence, 80 the answer of the call. This profile's own.
 use Rattle.std.specs.Prelude.{ℕ, true, false, nat_lt, ◌%◌, ◌==◌, if◌then◌else◌, List, [], ◌∷◌, Option, Some, None}
 use Rattle.std.specs.List.{sum}
-use Rattle.cv_syntax.specs.declared.decls.Class.TheVariants as class
-use Rattle.cv_syntax.specs.declared.head.Head.TheVariants.{Apply, Bound, Equivalence, New, Oracle, Repl, Stop}
-use Rattle.cv_syntax.specs.Builders.{input, leaf, output, read}
-use Rattle.cv_syntax.specs.Declarations.{Declaration, Named}
-use Rattle.cv_syntax.specs.Tree.{Tree, Empty, Node, binders, chain, lone, names}
+use Rattle.cv_syntax_trees.specs.declared.class.Class.TheVariants as class
+use Rattle.cv_syntax_trees.specs.declared.head.Head.TheVariants.{Apply, Bound, Equivalence, New, Oracle, Repl, Stop}
+use Rattle.cv_syntax_trees.specs.Builders.{input, leaf, output, read}
+use Rattle.cv_syntax_trees.specs.Declarations.{Declaration, Named}
+use Rattle.cv_syntax_trees.specs.Tree.{Tree, Empty, Node, binders, chain, lone, names}
 use Rattle.cv_meaning.specs.Interpretation.{Interpretation}
 use Rattle.cv_meaning.specs.Runs.{Answer, Calls, Guesses, Move, Replied, Tests, Told}
 use Rattle.cv_meaning.specs.Serving.{Sent}

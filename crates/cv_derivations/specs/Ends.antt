@@ -1,6 +1,6 @@
 -- What the last lines of a derivation say. This profile's own.
 use Rattle.std.specs.Prelude.{◌-◌, Bool, true, false, ◌&&◌, not, nat_lt, List, [], ◌∷◌, drop, length}
-use Rattle.cv_syntax.specs.Tree.{Tree, same_tree}
+use Rattle.cv_syntax_trees.specs.Tree.{Tree, same_tree}
 use Rattle.cv_derivations.specs.Lines.{Statement, Holds, IsDefined, lines_of, statements}
 
 abbrev pub same_statement : Statement → Statement → Bool

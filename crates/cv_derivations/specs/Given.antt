@@ -1,8 +1,8 @@
 -- A tree with terms for names, all at once: what is put is not looked into. This profile's own.
 use Rattle.std.specs.Prelude.{ℕ, ◌==◌, if◌then◌else◌, List, [], ◌∷◌, Option, Some, None}
-use Rattle.cv_syntax.specs.declared.head.Head.{Head}
-use Rattle.cv_syntax.specs.declared.head.Head.TheVariants.{Leaf}
-use Rattle.cv_syntax.specs.Tree.{Tree, Empty, Node}
+use Rattle.cv_syntax_trees.specs.declared.head.Head.{Head}
+use Rattle.cv_syntax_trees.specs.declared.head.Head.TheVariants.{Leaf}
+use Rattle.cv_syntax_trees.specs.Tree.{Tree, Empty, Node}
 
 -- the term that is given for a name: the names and the terms stand in one order, and of two equal names the first counts
 abbrev pub term_for : List ℕ → Tree → ℕ → Option Tree

@@ -1,7 +1,7 @@
 -- What follows from lines that are cited, by their terms alone. This profile's own.
 use Rattle.std.specs.Prelude.{ℕ, ◌^◌, Bool, true, false, ◌&&◌, nat_lt, if◌then◌else◌, List, [], ◌∷◌, Option, Some}
-use Rattle.cv_syntax.specs.declared.head.Head.TheVariants.{Eq, And, Not, Number}
-use Rattle.cv_syntax.specs.Tree.{Tree, Empty, Node, same_tree}
+use Rattle.cv_syntax_trees.specs.declared.head.Head.TheVariants.{Eq, And, Not, Number}
+use Rattle.cv_syntax_trees.specs.Tree.{Tree, Empty, Node, same_tree}
 use Rattle.cv_derivations.specs.Lines.{Statement, Holds, IsDefined}
 use Rattle.cv_derivations.specs.Truths.{no}
 

@@ -1,8 +1,8 @@
 -- Derivations: lines that say that a term is true or that a cell is defined, each by a reason or by cases. The lines inside
 -- the two blocks of a line by cases come before it. This profile's own.
 use Rattle.std.specs.Prelude.{ℕ, ◌+◌, List, [], ◌∷◌}
-use Rattle.cv_syntax.specs.declared.head.Head.TheVariants as head
-use Rattle.cv_syntax.specs.Tree.{Tree, Empty, Node}
+use Rattle.cv_syntax_trees.specs.declared.head.Head.TheVariants as head
+use Rattle.cv_syntax_trees.specs.Tree.{Tree, Empty, Node}
 
 pub data Statement : Type 0 where
   Holds : (term : Tree) → Statement

@@ -1,6 +1,6 @@
 -- What a derivation is to end with. This profile's own.
-use Rattle.cv_syntax.specs.declared.head.Head.TheVariants.{Cons, Eq, Line}
-use Rattle.cv_syntax.specs.Tree.{Tree, Empty, Node}
+use Rattle.cv_syntax_trees.specs.declared.head.Head.TheVariants.{Cons, Eq, Line}
+use Rattle.cv_syntax_trees.specs.Tree.{Tree, Empty, Node}
 use Rattle.cv_derivations.specs.Truths.{no}
 
 -- one line that says a term is true

@@ -1,7 +1,7 @@
 -- What is true of truth values. This profile's own.
 use Rattle.std.specs.Prelude.{Bool, false, ◌&&◌, ◌||◌}
-use Rattle.cv_syntax.specs.declared.head.Head.TheVariants.{Eq, And, Or, Not, Yes, No}
-use Rattle.cv_syntax.specs.Tree.{Tree, Node, lone, same_tree}
+use Rattle.cv_syntax_trees.specs.declared.head.Head.TheVariants.{Eq, And, Or, Not, Yes, No}
+use Rattle.cv_syntax_trees.specs.Tree.{Tree, Node, lone, same_tree}
 
 abbrev pub yes : Tree
 yes = lone Yes

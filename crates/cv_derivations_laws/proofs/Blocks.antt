@@ -2,20 +2,20 @@
 use Rattle.std.proofs.Common.{◌≡◌, ℕ, ◌+◌, Bool, true, false, cond, ◌==◌, not, List, [], ◌∷◌, inl, inr, Option, Some, None, refl, ap, subst, ◌∙◌}
 use Rattle.std.proofs.lemmas.Bool.{both_ways, and_parts}
 use Rattle.std.specs.List.{AllByRecursion}
-use Rattle.cv_syntax.specs.declared.head.Head.TheVariants as head
-use Rattle.cv_syntax.specs.declared.head.Head.TheVariants.{Not}
-use Rattle.cv_syntax.specs.Tree.{Tree, Empty, Node}
-use Rattle.cv_syntax.proofs.Equality.{same_tree_exact}
+use Rattle.cv_syntax_trees.specs.declared.head.Head.TheVariants as head
+use Rattle.cv_syntax_trees.specs.declared.head.Head.TheVariants.{Not}
+use Rattle.cv_syntax_trees.specs.Tree.{Tree, Empty, Node}
+use Rattle.cv_syntax_trees.proofs.Equality.{same_tree_exact}
 use Rattle.cv_meaning.specs.Interpretation.{Interpretation}
 use Rattle.cv_meaning.specs.Memory.{Indices, Store}
 use Rattle.cv_meaning.specs.Satisfies.{Satisfies}
 use Rattle.cv_meaning.specs.Terms.{bit, is_one, value}
 use Rattle.cv_meaning_adequacy.specs.Typed.{HasSort}
 use Rattle.cv_scope_rules.specs.Phrases.{IsWellFormed}
-use Rattle.cv_directory.specs.Sites.{first_of}
+use Rattle.cv_directory_sorts.specs.Sites.{first_of}
 use Rattle.cv_first_fault.proofs.First.{none_first}
-use Rattle.cv_typing.specs.Signature as typing
-use Rattle.cv_typing.specs.Signature.{sort_of}
+use Rattle.cv_typing_rules.specs.Signature as typing
+use Rattle.cv_typing_rules.specs.Signature.{sort_of}
 use Rattle.cv_typing_runs.specs.Games.{HasArguments, sort_of_meaning}
 use Rattle.cv_scenes.specs.Terms.{above_at, is_term_at, signature_in}
 use Rattle.cv_scenes.specs.Derivations.{first_bad, first_bad_line, is_right_split, nothing_visible, unless, with_line}

@@ -3,12 +3,12 @@ use Rattle.std.proofs.Common.{◌≡◌, ℕ, suc, ◌+◌, ◌<◌, Bool, true,
 use Rattle.std.specs.Prelude.{option_map}
 use Rattle.std.proofs.lemmas.Bool.{both_ways, and_from, and_parts}
 use Rattle.std.specs.List.{AllByRecursion}
-use Rattle.cv_syntax.specs.declared.decls.Class.{Class}
-use Rattle.cv_syntax.specs.declared.decls.Class.TheVariants as class
-use Rattle.cv_syntax.specs.declared.head.Head.TheVariants.{Apply, And, Cons, Eq}
-use Rattle.cv_syntax.specs.Declarations.{Declaration, Named, Equation, Equiv, Query}
-use Rattle.cv_syntax.specs.Tree.{Tree, Empty, Node, names}
-use Rattle.cv_syntax.proofs.Equality.{same_tree_exact}
+use Rattle.cv_syntax_trees.specs.declared.class.Class.{Class}
+use Rattle.cv_syntax_trees.specs.declared.class.Class.TheVariants as class
+use Rattle.cv_syntax_trees.specs.declared.head.Head.TheVariants.{Apply, And, Cons, Eq}
+use Rattle.cv_syntax_trees.specs.Declarations.{Declaration, Named, Equation, Equiv, Query}
+use Rattle.cv_syntax_trees.specs.Tree.{Tree, Empty, Node, names}
+use Rattle.cv_syntax_trees.proofs.Equality.{same_tree_exact}
 use Rattle.cv_first_fault.specs.Walk.{IsObeyed}
 use Rattle.cv_meaning.specs.Interpretation.{Interpretation, Setting, setting_of}
 use Rattle.cv_meaning.specs.Memory.{Indices, Store}
@@ -19,10 +19,10 @@ use Rattle.cv_meaning_adequacy.specs.Typed as meaning
 use Rattle.cv_meaning_adequacy.specs.Typed.{HasSort, Scope, boolean}
 use Rattle.cv_scope_rules.specs.Context.{items}
 use Rattle.cv_scope_rules.specs.Phrases.{IsWellFormed, Nil, Term, Terms, is_phrase}
-use Rattle.cv_typing.specs.Signature.{Above, Function, Signature, declaration_of, function_by, function_in, is_arity, names_in}
-use Rattle.cv_directory.specs.Counting.{count}
-use Rattle.cv_typing.specs.Typing.{IsTyped}
-use Rattle.cv_typing.specs.Wants.{AnyTerm, Message, Messages, Want, wants, wants_arguments}
+use Rattle.cv_typing_rules.specs.Signature.{Above, Function, Signature, declaration_of, function_by, function_in, is_arity, names_in}
+use Rattle.cv_directory_sorts.specs.Counting.{count}
+use Rattle.cv_typing_rules.specs.Typing.{IsTyped}
+use Rattle.cv_typing_rules.specs.Wants.{AnyTerm, Message, Messages, Want, wants, wants_arguments}
 use Rattle.cv_typing_runs.specs.Games.{HasArguments, sort_of_meaning}
 use Rattle.cv_typing_runs.proofs.Known.{AreKnown}
 use Rattle.cv_typing_runs.proofs.Terms.{AllSorted, asked_sort, faultless, message_sort, sorted}

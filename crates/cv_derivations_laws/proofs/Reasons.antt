@@ -3,13 +3,13 @@ use Rattle.std.proofs.Common.{◌≡◌, ℕ, zero, suc, ◌<◌, Bool, true, fa
 use Rattle.std.specs.Prelude.{slice_get}
 use Rattle.std.proofs.lemmas.Bool.{both_ways, and_from, and_parts}
 use Rattle.std.specs.List.{AllByRecursion, list_any}
-use Rattle.cv_syntax.specs.declared.head.Head.{Head}
-use Rattle.cv_syntax.specs.declared.head.Head.TheVariants as head
-use Rattle.cv_syntax.specs.declared.head.Head.TheVariants.{Leaf, Read, Apply, Eq, And, Or, Not, Binder, Cons, Forall}
-use Rattle.cv_syntax.specs.Declarations.{Declaration, Named, Equation, Equiv, Query}
-use Rattle.cv_syntax.specs.Head.{same_head}
-use Rattle.cv_syntax.specs.Tree.{Tree, Empty, Node, bound_names, first, second, same_tree}
-use Rattle.cv_syntax.proofs.Equality.{same_head_exact, same_tree_exact}
+use Rattle.cv_syntax_trees.specs.declared.head.Head.{Head}
+use Rattle.cv_syntax_trees.specs.declared.head.Head.TheVariants as head
+use Rattle.cv_syntax_trees.specs.declared.head.Head.TheVariants.{Leaf, Read, Apply, Eq, And, Or, Not, Binder, Cons, Forall}
+use Rattle.cv_syntax_trees.specs.Declarations.{Declaration, Named, Equation, Equiv, Query}
+use Rattle.cv_syntax_trees.specs.Head.{same_head}
+use Rattle.cv_syntax_trees.specs.Tree.{Tree, Empty, Node, bound_names, first, second, same_tree}
+use Rattle.cv_syntax_trees.proofs.Equality.{same_head_exact, same_tree_exact}
 use Rattle.cv_meaning.specs.Interpretation.{Interpretation, Setting, is_constant_of, setting_of}
 use Rattle.cv_meaning.specs.Memory.{Indices, Store, nowhere, tuple}
 use Rattle.cv_meaning.specs.Terms.{bit, found_in, is_one, leaf_value_from, or_zero, value, values}
@@ -21,10 +21,10 @@ use Rattle.cv_meaning_adequacy.specs.Typed.{HasSort, Scope, boolean}
 use Rattle.cv_meaning_adequacy.proofs.Lists.{or_cases}
 use Rattle.cv_scope_rules.specs.Context.{items}
 use Rattle.cv_scope_rules.specs.Phrases.{IsWellFormed, OneCell, Term, is_phrase}
-use Rattle.cv_directory.specs.declared.sort.Sort.{Sort}
-use Rattle.cv_directory.specs.declared.sort.Sort.TheVariants.{BelowParameter, OfType}
-use Rattle.cv_typing.specs.Signature.{sort_of}
-use Rattle.cv_directory.specs.Sorts.{same_sort}
+use Rattle.cv_directory_sorts.specs.declared.sort.Sort.{Sort}
+use Rattle.cv_directory_sorts.specs.declared.sort.Sort.TheVariants.{BelowParameter, OfType}
+use Rattle.cv_typing_rules.specs.Signature.{sort_of}
+use Rattle.cv_directory_sorts.specs.Sorts.{same_sort}
 use Rattle.cv_typing_runs.specs.Games.{HasArguments, context_of, sort_of_meaning}
 use Rattle.cv_typing_runs.proofs.Terms.{same_sorts}
 use Rattle.cv_scenes.specs.Terms.{above_at, is_sort, is_term_at, replications_at, signature_in}

@@ -3,11 +3,11 @@ use Rattle.std.proofs.Common.{◌≡◌, ℕ, ◌+◌, ◌-◌, ◌<◌, Bool, t
 use Rattle.std.specs.Prelude.{option_map}
 use Rattle.std.proofs.lemmas.Bool.{and_parts, or_parts}
 use Rattle.std.specs.List.{AllByRecursion}
-use Rattle.cv_syntax.specs.declared.head.Head.{Head}
-use Rattle.cv_syntax.specs.declared.head.Head.TheVariants.{Binder, Branch, Cons, Find}
-use Rattle.cv_syntax.specs.Declarations.{Declaration}
-use Rattle.cv_syntax.specs.Head.{weight}
-use Rattle.cv_syntax.specs.Tree.{Tree, Empty, Node, size, subtree, first_place, second_place}
+use Rattle.cv_syntax_trees.specs.declared.head.Head.{Head}
+use Rattle.cv_syntax_trees.specs.declared.head.Head.TheVariants.{Binder, Branch, Cons, Find}
+use Rattle.cv_syntax_trees.specs.Declarations.{Declaration}
+use Rattle.cv_syntax_trees.specs.Head.{weight}
+use Rattle.cv_syntax_trees.specs.Tree.{Tree, Empty, Node, size, subtree, first_place, second_place}
 use Rattle.cv_first_fault.specs.Walk.{IsObeyed}
 use Rattle.cv_meaning.specs.Tapes.{same_tuple}
 use Rattle.cv_meaning.specs.Interpretation.{Interpretation, setting_of}
@@ -15,8 +15,8 @@ use Rattle.cv_meaning.specs.Binders.{bound_to, fits}
 use Rattle.cv_meaning.specs.Memory.{Indices, Store, put, tuple}
 use Rattle.cv_meaning_adequacy.specs.Typed as meaning
 use Rattle.cv_meaning_adequacy.specs.Typed.{AreBelowParameters, IsTypedStore, IsVariable}
-use Rattle.cv_directory.specs.declared.sort.Sort.TheVariants.{BelowParameter}
-use Rattle.cv_directory.specs.Sites.{Variable, first_of, first_site, sites_of}
+use Rattle.cv_directory_sorts.specs.declared.sort.Sort.TheVariants.{BelowParameter}
+use Rattle.cv_directory_sorts.specs.Sites.{Variable, first_of, first_site, sites_of}
 use Rattle.cv_scope_rules.proofs.Pairs.{all-left, all-right}
 use Rattle.cv_scope_rules.specs.declared.position.Position.{Position}
 use Rattle.cv_scope_rules.specs.declared.position.Position.TheVariants as position
@@ -33,12 +33,12 @@ use Rattle.cv_path.specs.Places.{LiesAt}
 use Rattle.cv_path.proofs.Bounds.{lies-somewhere}
 use Rattle.cv_path.proofs.Going.{choice-here, choice-within, choice-behind, less-within, less-behind, subtree-here, subtree-within, subtree-behind}
 use Rattle.cv_scope_rules.specs.Above.{first_standing, second_standing, standing_at, stands_at}
-use Rattle.cv_typing.specs.declared.form.Form.TheVariants.{InProcess}
-use Rattle.cv_typing.specs.Parts.{IsTypedGame}
-use Rattle.cv_typing.specs.Signature.{Above, OfGame, Signature, variable_sort}
-use Rattle.cv_typing.specs.Typing.{IsTyped, binders_differ}
-use Rattle.cv_directory.specs.Sorts.{differs_from}
-use Rattle.cv_typing.specs.Wants.{Run, Want, above_second, wants}
+use Rattle.cv_typing_rules.specs.declared.form.Form.TheVariants.{InProcess}
+use Rattle.cv_typing_rules.specs.Parts.{IsTypedGame}
+use Rattle.cv_typing_rules.specs.Signature.{Above, OfGame, Signature, variable_sort}
+use Rattle.cv_typing_rules.specs.Typing.{IsTyped, binders_differ}
+use Rattle.cv_directory_sorts.specs.Sorts.{differs_from}
+use Rattle.cv_typing_rules.specs.Wants.{Run, Want, above_second, wants}
 use Rattle.cv_typing_runs.specs.Games.{context_of, sort_of_meaning, variable_of_meaning}
 use Rattle.cv_typing_runs.proofs.SameSites.{Agrees, sites_agree}
 use Rattle.cv_typing_runs.proofs.Terms.{faultless, same_sorts}

@@ -4,10 +4,10 @@ use Rattle.std.proofs.Common.{◌≡◌, ℕ, ◌+◌, ◌-◌, Bool, true, fals
 use Rattle.std.specs.Prelude.{option_map}
 use Rattle.std.proofs.lemmas.Bool.{and_parts, not-true}
 use Rattle.std.specs.List.{AllByRecursion}
-use Rattle.cv_syntax.specs.declared.head.Head.{Head}
-use Rattle.cv_syntax.specs.declared.head.Head.TheVariants.{Repl, Cons}
-use Rattle.cv_syntax.specs.Head.{weight}
-use Rattle.cv_syntax.specs.Tree.{Tree, Empty, Node, size}
+use Rattle.cv_syntax_trees.specs.declared.head.Head.{Head}
+use Rattle.cv_syntax_trees.specs.declared.head.Head.TheVariants.{Repl, Cons}
+use Rattle.cv_syntax_trees.specs.Head.{weight}
+use Rattle.cv_syntax_trees.specs.Tree.{Tree, Empty, Node, size}
 use Rattle.cv_first_fault.specs.Walk.{IsObeyed}
 use Rattle.cv_meaning_laws.proofs.Lists.{each_append}
 use Rattle.cv_scope_rules.specs.declared.fault.Fault.TheVariants.{Replications}

@@ -2,11 +2,11 @@
 use Rattle.std.proofs.Common.{◌≡◌, ℕ, ◌+◌, ◌-◌, Bool, true, false, cond, nat_lt, List, [], ◌∷◌, ◌++◌, inl, inr, Option, Some, None, is_some, refl, sym, ap, subst, ◌∙◌}
 use Rattle.std.proofs.lemmas.Bool.{both_ways}
 use Rattle.std.specs.List.{AllByRecursion}
-use Rattle.cv_syntax.specs.declared.head.Head.{Head}
-use Rattle.cv_syntax.specs.declared.head.Head.TheVariants.{Repl, In, New, Let, Branch, Leaf, Read, Cons, Key, Call}
-use Rattle.cv_syntax.specs.Head.{weight}
+use Rattle.cv_syntax_trees.specs.declared.head.Head.{Head}
+use Rattle.cv_syntax_trees.specs.declared.head.Head.TheVariants.{Repl, In, New, Let, Branch, Leaf, Read, Cons, Key, Call}
+use Rattle.cv_syntax_trees.specs.Head.{weight}
 use Rattle.cv_syntax.specs.Layouts.{IsSyntax}
-use Rattle.cv_syntax.specs.Tree.{Tree, Empty, Node, second, size, first_place, second_place}
+use Rattle.cv_syntax_trees.specs.Tree.{Tree, Empty, Node, second, size, first_place, second_place}
 use Rattle.cv_meaning.specs.Interpretation.{Setting}
 use Rattle.cv_meaning.specs.Memory.{Indices, Store, tuple}
 use Rattle.cv_meaning.specs.Candidates.{is_assigned}

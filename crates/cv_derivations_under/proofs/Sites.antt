@@ -1,9 +1,9 @@
 -- What stands behind definitions holds in the store of a candidate.
 use Rattle.std.proofs.Common.{◌≡◌, ℕ, ◌+◌, ◌-◌, true, cond, ◌==◌, List, [], ◌∷◌, ◌++◌, ◌⊎◌, inl, inr, Option, Some, None, refl, sym, ap, subst, ◌∙◌}
 use Rattle.std.specs.List.{AllByRecursion}
-use Rattle.cv_syntax.specs.declared.head.Head.{Head}
-use Rattle.cv_syntax.specs.declared.head.Head.TheVariants.{Binder, Branch, Cons, Find}
-use Rattle.cv_syntax.specs.Tree.{Tree, Empty, Node, subtree, first_place, second_place}
+use Rattle.cv_syntax_trees.specs.declared.head.Head.{Head}
+use Rattle.cv_syntax_trees.specs.declared.head.Head.TheVariants.{Binder, Branch, Cons, Find}
+use Rattle.cv_syntax_trees.specs.Tree.{Tree, Empty, Node, subtree, first_place, second_place}
 use Rattle.cv_meaning.specs.Interpretation.{Setting}
 use Rattle.cv_meaning.specs.Binders.{bound_to}
 use Rattle.cv_meaning.specs.Memory.{Memory, Indices, Local, Store, put, tuple}
@@ -28,8 +28,8 @@ use Rattle.cv_path.proofs.Going.{choice-here, choice-within, choice-behind, less
 use Rattle.cv_scope_rules.specs.Above.{first_standing, second_standing, standing_at}
 use Rattle.cv_scope_rules.specs.Behind.{behind_site, sites_in, sites_of}
 use Rattle.cv_facts.specs.Promises.{BranchStands, BranchesStand, CandidatesStand, SitesStand, StandsIn, VisitSitesStand}
-use Rattle.cv_syntax.specs.Head.{weight}
-use Rattle.cv_syntax.specs.Tree.{size}
+use Rattle.cv_syntax_trees.specs.Head.{weight}
+use Rattle.cv_syntax_trees.specs.Tree.{size}
 use Rattle.cv_derivations_under.specs.Reached.{BranchSitesStand, CandidateSitesStand, SitesStandNow}
 
 -- the store with the values of binders keeps the cells that they don't assign

@@ -2,8 +2,8 @@
 use Rattle.std.proofs.Common.{List, [], ◌∷◌}
 use Rattle.std.specs.List.{All, AllByRecursion}
 use Rattle.std.proofs.lemmas.List.Elements.{All-weaker}
-use Rattle.cv_syntax.specs.Declarations.{Declaration}
-use Rattle.cv_syntax.specs.Tree.{Tree}
+use Rattle.cv_syntax_trees.specs.Declarations.{Declaration}
+use Rattle.cv_syntax_trees.specs.Tree.{Tree}
 use Rattle.cv_meaning.specs.Tapes.{Tape, blank}
 use Rattle.cv_meaning.specs.Interpretation.{Interpretation, setting_of}
 use Rattle.cv_meaning.specs.Cells.{cells}
@@ -17,7 +17,7 @@ use Rattle.cv_meaning_adequacy.specs.Typed.{Context, IsTypedStore}
 use Rattle.cv_scope_rules.specs.Phrases.{IsWellFormed}
 use Rattle.cv_scope_runs.specs.Promises.{GrowsToEnd}
 use Rattle.cv_scope_runs.specs.Reads.{IsKept}
-use Rattle.cv_typing.specs.Parts.{IsTypedGame}
+use Rattle.cv_typing_rules.specs.Parts.{IsTypedGame}
 use Rattle.cv_typing_runs.specs.Games.{HasArguments, HasDeclaredSorts, HasKnownNames, context_of}
 use Rattle.cv_typing_runs.proofs.Games.{typed_runs}
 use Rattle.cv_derivations_under.specs.Reached.{HasTypes}

@@ -2,23 +2,23 @@
 use Rattle.std.proofs.Common.{◌≡◌, ℕ, Bool, true, false, cond, ◌==◌, ◌||◌, not, List, [], ◌∷◌, ◌⊎◌, inl, inr, Option, Some, None, is_some, refl, ap, ◌∙◌, eqb-true}
 use Rattle.std.specs.Prelude.{option_map}
 use Rattle.std.proofs.lemmas.Bool.{both_ways, and_parts}
-use Rattle.cv_syntax.specs.declared.head.Head.{Head}
-use Rattle.cv_syntax.specs.declared.head.Head.TheVariants.{And, Apply, Cons, Eq, Leaf, No, Not, Or, Read, Yes}
-use Rattle.cv_syntax.specs.Declarations.{Declaration}
-use Rattle.cv_syntax.specs.Tree.{Tree, Empty, Node}
+use Rattle.cv_syntax_trees.specs.declared.head.Head.{Head}
+use Rattle.cv_syntax_trees.specs.declared.head.Head.TheVariants.{And, Apply, Cons, Eq, Leaf, No, Not, Or, Read, Yes}
+use Rattle.cv_syntax_trees.specs.Declarations.{Declaration}
+use Rattle.cv_syntax_trees.specs.Tree.{Tree, Empty, Node}
 use Rattle.cv_meaning_adequacy.specs.Typed.{HasSort, Scope, parameter_in}
 use Rattle.cv_meaning_adequacy.proofs.Lists.{or_cases}
 use Rattle.cv_scope_rules.specs.Rules.{is_index}
 use Rattle.cv_scope_rules.specs.Phrases.{IsWellFormed, Phrase, Nil, Term, Terms, is_phrase}
-use Rattle.cv_directory.specs.declared.sort.Sort.{Sort}
-use Rattle.cv_directory.specs.declared.sort.Sort.TheVariants.{BelowParameter}
-use Rattle.cv_directory.specs.Sites.{first_of}
-use Rattle.cv_typing.specs.declared.precedence.Precedence.TheVariants.{First}
-use Rattle.cv_typing.specs.Parts.{nothing_above}
-use Rattle.cv_typing.specs.Signature.{Above, sort_of, function_in}
-use Rattle.cv_typing.specs.Typing as typing
-use Rattle.cv_typing.specs.Wants.{AnyTerm, bound}
-use Rattle.cv_typing.proofs.First.{typed_where_none}
+use Rattle.cv_directory_sorts.specs.declared.sort.Sort.{Sort}
+use Rattle.cv_directory_sorts.specs.declared.sort.Sort.TheVariants.{BelowParameter}
+use Rattle.cv_directory_sorts.specs.Sites.{first_of}
+use Rattle.cv_typing_rules.specs.declared.precedence.Precedence.TheVariants.{First}
+use Rattle.cv_typing_rules.specs.Parts.{nothing_above}
+use Rattle.cv_typing_rules.specs.Signature.{Above, sort_of, function_in}
+use Rattle.cv_typing_rules.specs.Typing as typing
+use Rattle.cv_typing_rules.specs.Wants.{AnyTerm, bound}
+use Rattle.cv_typing_rules.proofs.First.{typed_where_none}
 use Rattle.cv_typing_runs.specs.Games.{HasArguments, context_of, sort_of_meaning}
 use Rattle.cv_typing_runs.proofs.Known.{AreKnown, IsKnown}
 use Rattle.cv_typing_runs.proofs.Terms.{sorted}

@@ -1,17 +1,17 @@
 -- Where derivations hold: at each visited place of a run. This profile's own.
 use Rattle.std.specs.Prelude.{◌≡◌, ℕ, ◌+◌, ◌<◌, true, List, None}
 use Rattle.std.specs.List.{AllByRecursion}
-use Rattle.cv_syntax.specs.declared.head.Head.TheVariants.{Branch, Cons, Find}
-use Rattle.cv_syntax.specs.Declarations.{Declaration}
+use Rattle.cv_syntax_trees.specs.declared.head.Head.TheVariants.{Branch, Cons, Find}
+use Rattle.cv_syntax_trees.specs.Declarations.{Declaration}
 use Rattle.cv_syntax.specs.Layouts.{IsSyntax}
-use Rattle.cv_syntax.specs.Tree.{Tree, Node, first, first_place, second, second_place, size}
+use Rattle.cv_syntax_trees.specs.Tree.{Tree, Node, first, first_place, second, second_place, size}
 use Rattle.cv_meaning.specs.Interpretation.{Interpretation, setting_of}
 use Rattle.cv_meaning.specs.Binders.{bound_to, fits}
 use Rattle.cv_meaning.specs.Candidates.{are_assigned, is_candidate}
 use Rattle.cv_meaning.specs.Memory.{Indices, Local, Memory, Store, tuple}
 use Rattle.cv_meaning.specs.Serving.{Visit}
 use Rattle.cv_scope_rules.specs.Phrases.{IsWellFormed}
-use Rattle.cv_typing.specs.Parts.{IsTypedGame}
+use Rattle.cv_typing_rules.specs.Parts.{IsTypedGame}
 use Rattle.cv_typing_runs.specs.Games.{HasArguments, HasDeclaredSorts, HasKnownNames, HasNamedFunctionsAndCells}
 use Rattle.cv_facts.specs.Promises.{IsOwnTerm}
 use Rattle.cv_scenes.specs.Scenes.{Scene}

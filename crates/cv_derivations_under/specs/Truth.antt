@@ -1,9 +1,9 @@
 -- When what a derivation says is true: at a copy of its place, in the stores in which it is read. This profile's own.
 use Rattle.std.specs.Prelude.{◌≡◌, ◌⊎◌, ℕ, ◌<◌, Bool, true, ◌==◌, List, None}
 use Rattle.std.specs.List.{AllByRecursion, list_any}
-use Rattle.cv_syntax.specs.declared.head.Head.TheVariants.{Forall, Leaf, Read, Apply, Eq, And, Or, Not, Yes, No, Cons}
-use Rattle.cv_syntax.specs.Declarations.{Declaration, Equation}
-use Rattle.cv_syntax.specs.Tree.{Tree, Empty, Node, bound_names}
+use Rattle.cv_syntax_trees.specs.declared.head.Head.TheVariants.{Forall, Leaf, Read, Apply, Eq, And, Or, Not, Yes, No, Cons}
+use Rattle.cv_syntax_trees.specs.Declarations.{Declaration, Equation}
+use Rattle.cv_syntax_trees.specs.Tree.{Tree, Empty, Node, bound_names}
 use Rattle.cv_meaning.specs.Interpretation.{Interpretation, Setting, is_constant_of, setting_of}
 use Rattle.cv_meaning.specs.Memory.{Indices, Store}
 use Rattle.cv_meaning.specs.Terms.{found_in, value}

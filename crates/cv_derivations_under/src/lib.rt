@@ -3,8 +3,8 @@
 
 ghost use Rattle.std.specs.Prelude.{◌≡◌, ℕ, List, Some, true};
 ghost use Rattle.std.specs.List.{All, AllByRecursion};
-ghost use Rattle.cv_syntax.specs.Declarations.{Declaration};
-ghost use Rattle.cv_syntax.specs.Tree.{Tree};
+ghost use Rattle.cv_syntax_trees.specs.Declarations.{Declaration};
+ghost use Rattle.cv_syntax_trees.specs.Tree.{Tree};
 ghost use Rattle.cv_meaning.specs.Tapes.{Tape, blank};
 ghost use Rattle.cv_meaning.specs.Interpretation.{Interpretation, Setting, setting_of};
 ghost use Rattle.cv_meaning.specs.Cells.{cells};
@@ -14,9 +14,9 @@ ghost use Rattle.cv_meaning.specs.Satisfies.{Satisfies};
 ghost use Rattle.cv_meaning_adequacy.specs.Counted.{tapes_of};
 ghost use Rattle.cv_meaning_adequacy.specs.Typed.{HasSort};
 ghost use Rattle.cv_scope_rules.specs.Phrases.{HasConstantsOf, IsWellFormed, IsWellFormedContext};
-ghost use Rattle.cv_directory.specs.declared.sort.Sort.{Sort};
-ghost use Rattle.cv_typing.specs.Parts.{IsTypedGame};
-ghost use Rattle.cv_typing.specs.Signature.{sort_of};
+ghost use Rattle.cv_directory_sorts.specs.declared.sort.Sort.{Sort};
+ghost use Rattle.cv_typing_rules.specs.Parts.{IsTypedGame};
+ghost use Rattle.cv_typing_rules.specs.Signature.{sort_of};
 ghost use Rattle.cv_typing_runs.specs.Games.{HasArguments, HasDeclaredSorts, HasKnownNames, context_of, sort_of_meaning};
 ghost use Rattle.cv_scenes.specs.Scenes.{Scene};
 ghost use Rattle.cv_scenes.specs.Terms.{above_at, is_term_at, replications_at, signature_in};

@@ -1,13 +1,13 @@
 -- Derivations at a place of a small game, with the first line that isn't right. Names are numbers: 0 is `bool`, 5 a type, 7 a
 -- parameter, 3 a channel.
 use Rattle.std.specs.Prelude.{ℕ, true, false, nat_lt, List, [], ◌∷◌, Option, Some, None}
-use Rattle.cv_syntax.specs.declared.decls.Class.TheVariants as class
-use Rattle.cv_syntax.specs.declared.head.Head.{Head}
-use Rattle.cv_syntax.specs.declared.head.Head.TheVariants as head
-use Rattle.cv_syntax.specs.declared.head.Head.TheVariants.{And, Apply, ByAgain, ByAnd, ByBool, ByCong, ByContra, ByData, ByEquation, ByExfalso, ByFact, ByGiven, ByHere, ByLeft, ByMp, ByOf, ByOtherHere, ByRefl, ByRight, BySite, BySym, ByTrans, Cons, Eq, Forall, Not, Number, Stop, Yield}
-use Rattle.cv_syntax.specs.Builders.{branch, find, input, leaf, output, read}
-use Rattle.cv_syntax.specs.Declarations.{Declaration, Named, Equation}
-use Rattle.cv_syntax.specs.Tree.{Tree, Empty, Node, binders, chain, lone, names}
+use Rattle.cv_syntax_trees.specs.declared.class.Class.TheVariants as class
+use Rattle.cv_syntax_trees.specs.declared.head.Head.{Head}
+use Rattle.cv_syntax_trees.specs.declared.head.Head.TheVariants as head
+use Rattle.cv_syntax_trees.specs.declared.head.Head.TheVariants.{And, Apply, ByAgain, ByAnd, ByBool, ByCong, ByContra, ByData, ByEquation, ByExfalso, ByFact, ByGiven, ByHere, ByLeft, ByMp, ByOf, ByOtherHere, ByRefl, ByRight, BySite, BySym, ByTrans, Cons, Eq, Forall, Not, Number, Stop, Yield}
+use Rattle.cv_syntax_trees.specs.Builders.{branch, find, input, leaf, output, read}
+use Rattle.cv_syntax_trees.specs.Declarations.{Declaration, Named, Equation}
+use Rattle.cv_syntax_trees.specs.Tree.{Tree, Empty, Node, binders, chain, lone, names}
 use Rattle.cv_scenes.specs.Scenes.{Scene}
 use Rattle.cv_scenes.specs.Sights.{Sight, sight_at}
 use Rattle.cv_derivations.specs.Truths.{no, yes}

@@ -3,7 +3,7 @@
 
 ghost use Rattle.std.specs.Prelude.{◌≡◌, true, false};
 ghost use Rattle.std.specs.List.{AllByRecursion};
-ghost use Rattle.cv_syntax.specs.Tree.{chain};
+ghost use Rattle.cv_syntax_trees.specs.Tree.{chain};
 ghost use Rattle.cv_scenes.specs.Derivations.{first_bad_line};
 ghost use Rattle.cv_derivations.specs.Ends.{ends_with};
 ghost use Rattle.cv_derivations_worked.specs.Worked.{cases, ends, no_ends, sight, two_lines};

@@ -1,8 +1,8 @@
 -- Reasons, case by case.
 use Rattle.std.proofs.Common.{◌≡◌, ◌&&◌, Bool, true, false, refl, sym, ap, ap₂, ◌∙◌}
-use Rattle.cv_syntax.specs.declared.head.Head.{Head}
-use Rattle.cv_syntax.specs.declared.head.Head.TheVariants.{ByFact, BySite, ByEquation, ByCong, ByData, ByGiven}
-use Rattle.cv_syntax.specs.Tree.{Tree, Node}
+use Rattle.cv_syntax_trees.specs.declared.head.Head.{Head}
+use Rattle.cv_syntax_trees.specs.declared.head.Head.TheVariants.{ByFact, BySite, ByEquation, ByCong, ByData, ByGiven}
+use Rattle.cv_syntax_trees.specs.Tree.{Tree, Node}
 use Rattle.cv_scenes.specs.Reasons.{has_reason, is_reason, is_right}
 use Rattle.cv_scenes.specs.Sights.{is_typed}
 use Rattle.cv_scenes.specs.Sights as spec

@@ -2,7 +2,7 @@
 use Rattle.std.proofs.Common.{◌≡◌, ℕ, zero, suc, ◌-◌, List, [], map, false, Option, Some, None, refl, sym, ap, ◌∙◌, arith}
 use Rattle.std.specs.Prelude.{option_and_then, option_map, slice_get}
 use Rattle.std.proofs.lemmas.Option.{slice_get-map}
-use Rattle.cv_syntax.specs.Tree.{Tree, same_tree}
+use Rattle.cv_syntax_trees.specs.Tree.{Tree, same_tree}
 use Rattle.cv_scope_rules.specs.Context.{Context}
 use Rattle.cv_scenes.specs.Reasons.{is_tree}
 use Rattle.cv_scenes.specs.Sights.{facts_by, from_one}

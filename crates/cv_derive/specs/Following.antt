@@ -1,8 +1,8 @@
 -- The reasons of which the terms of cited lines alone decide.
 use Rattle.std.specs.Prelude.{Bool, false}
-use Rattle.cv_syntax.specs.declared.head.Head.{Head}
-use Rattle.cv_syntax.specs.declared.head.Head.TheVariants.{ByRefl, BySym, ByTrans, ByMp, ByAnd, ByLeft, ByRight, ByContra, ByExfalso, ByAgain, ByBool}
-use Rattle.cv_syntax.specs.Tree.{Tree, same_tree}
+use Rattle.cv_syntax_trees.specs.declared.head.Head.{Head}
+use Rattle.cv_syntax_trees.specs.declared.head.Head.TheVariants.{ByRefl, BySym, ByTrans, ByMp, ByAnd, ByLeft, ByRight, ByContra, ByExfalso, ByAgain, ByBool}
+use Rattle.cv_syntax_trees.specs.Tree.{Tree, same_tree}
 use Rattle.cv_derivations.specs.Inferences.{Visible, cited_term, is_both, is_left, is_refuted, is_reflexive, is_replaced_by, is_right_side, is_symmetric, is_transitive}
 use Rattle.cv_derivations.specs.Truths.{is_truth, no}
 

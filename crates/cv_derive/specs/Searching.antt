@@ -1,8 +1,8 @@
 -- The first line that isn't right, where the lines that may be cited are looked for from the first line on.
 use Rattle.std.specs.Prelude.{ℕ, ◌+◌, Option, None}
-use Rattle.cv_syntax.specs.declared.head.Head.TheVariants.{Not}
-use Rattle.cv_syntax.specs.Tree.{Tree, Empty, Node}
-use Rattle.cv_directory.specs.Sites.{first_of}
+use Rattle.cv_syntax_trees.specs.declared.head.Head.TheVariants.{Not}
+use Rattle.cv_syntax_trees.specs.Tree.{Tree, Empty, Node}
+use Rattle.cv_directory_sorts.specs.Sites.{first_of}
 use Rattle.cv_scenes.specs.Derivations.{is_right_split, unless}
 use Rattle.cv_derivations.specs.Lines.{Lines, End, By, Cases, count}
 use Rattle.cv_scenes.specs.Reasons.{is_right}

@@ -1,6 +1,6 @@
 -- The site of the variable of a cell, as the code has it.
 use Rattle.std.specs.Prelude.{◌≡◌, Option, Some, None, option_and_then}
-use Rattle.cv_syntax.specs.Tree.{Tree}
+use Rattle.cv_syntax_trees.specs.Tree.{Tree}
 use Rattle.cv_scope_rules.specs.Above.{stands_at}
 use Rattle.cv_scope_rules.specs.Behind.{sites_of}
 use Rattle.cv_scope_rules.specs.Context.{Context}

@@ -1,6 +1,6 @@
 -- What stands at a place of a game, with terms for names.
 use Rattle.std.specs.Prelude.{ℕ, List, map}
-use Rattle.cv_syntax.specs.Tree.{Tree}
+use Rattle.cv_syntax_trees.specs.Tree.{Tree}
 use Rattle.cv_scope_rules.specs.Above.{stands_at}
 use Rattle.cv_scenes.specs.Sights.{cells_by, facts_by}
 use Rattle.cv_derive_substitution.specs.Under.{under}

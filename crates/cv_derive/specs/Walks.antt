@@ -1,7 +1,8 @@
 -- One step down on the way to a place, for a cell that is looked for.
 use Rattle.std.specs.Prelude.{◌≡◌, ℕ, Bool, List, length, Option, Some, None}
 use Rattle.cv_pool.specs.KindTree.{KindTree}
-use Rattle.cv_syntax.specs.Tree.{Tree, tree_at}
+use Rattle.cv_syntax_trees.specs.Tree.{Tree}
+use Rattle.cv_syntax.specs.PoolTrees.{tree_at}
 use Rattle.cv_scope_rules.specs.Above.{standing_at}
 use Rattle.cv_scope_rules.specs.Context.{Context, cells_of}
 use Rattle.cv_derive.specs.declared.defined.Walk.{Walk}

@@ -1,7 +1,8 @@
 ghost use Rattle.std.specs.Prelude.{◌≡◌, ◌+◌, ◌<◌, ◌≤◌, ◌^◌, ◌||◌, IfSome, Some, length};
 ghost use Rattle.std.specs.List.{list_any};
 ghost use Rattle.cv_pool.specs.Nodes.{ChildBelow};
-ghost use Rattle.cv_syntax.specs.Tree.{same_tree, size, tree_at};
+ghost use Rattle.cv_syntax_trees.specs.Tree.{same_tree, size};
+ghost use Rattle.cv_syntax.specs.PoolTrees.{tree_at};
 ghost use Rattle.cv_scope_rules.specs.Above.{stands_at};
 ghost use Rattle.cv_scope_rules.specs.Context.{Context, cells_of};
 ghost use Rattle.cv_scenes.specs.Terms.{replications_by};

@@ -1,7 +1,8 @@
 ghost use Rattle.std.specs.Prelude.{◌≡◌, ◌<◌, ◌^◌, Some, length};
 ghost use Rattle.cv_pool.specs.Nodes.{ChildBelow};
-ghost use Rattle.cv_syntax.specs.Tree.{Empty, Node, same_tree, size, tree_at};
-ghost use Rattle.cv_syntax.specs.declared.head.Head.TheVariants.{Not};
+ghost use Rattle.cv_syntax_trees.specs.Tree.{Empty, Node, same_tree, size};
+ghost use Rattle.cv_syntax.specs.PoolTrees.{tree_at};
+ghost use Rattle.cv_syntax_trees.specs.declared.head.Head.TheVariants.{Not};
 ghost use Rattle.cv_scope_rules.specs.Above.{stands_at};
 ghost use Rattle.cv_scenes.specs.Reasons.{is_tree};
 ghost use Rattle.cv_scenes.specs.Sights.{from_one};

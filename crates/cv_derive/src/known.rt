@@ -1,7 +1,8 @@
 ghost use Rattle.std.specs.Prelude.{◌≡◌, ◌+◌, ◌<◌, ◌≤◌, ◌^◌, ◌++◌, ℕ, List, IfSome, Some, length, option_map};
 ghost use Rattle.cv_pool.specs.KindTree.{KindTree};
 ghost use Rattle.cv_pool.specs.Nodes.{ChildBelow};
-ghost use Rattle.cv_syntax.specs.Tree.{size, tree_at};
+ghost use Rattle.cv_syntax_trees.specs.Tree.{size};
+ghost use Rattle.cv_syntax.specs.PoolTrees.{tree_at};
 ghost use Rattle.cv_facts.specs.Facts.{FactAt, fact_at, fact_of};
 ghost use Rattle.cv_facts.specs.Walks.{given_facts, given_first, given_second, tested_behind, IsLive};
 ghost use Rattle.cv_derive_sizes.specs.Sizes.{AreSizes};

@@ -1,5 +1,5 @@
 ghost use Rattle.std.specs.Prelude.{◌≡◌};
-ghost use Rattle.cv_syntax.specs.Tree.{Empty, Tree};
+ghost use Rattle.cv_syntax_trees.specs.Tree.{Empty, Tree};
 ghost use Rattle.cv_scenes.specs.Derivations.{first_bad_line};
 ghost use Rattle.cv_derivations.specs.Lines.{lines_of};
 ghost use Rattle.cv_scenes.specs.Sights.{Sight};

@@ -1,7 +1,8 @@
 ghost use Rattle.std.specs.Prelude.{◌≡◌, ◌<◌, length};
 ghost use Rattle.std.specs.List.{list_any};
 ghost use Rattle.cv_pool.specs.Nodes.{ChildBelow};
-ghost use Rattle.cv_syntax.specs.Tree.{same_tree, tree_at};
+ghost use Rattle.cv_syntax_trees.specs.Tree.{same_tree};
+ghost use Rattle.cv_syntax.specs.PoolTrees.{tree_at};
 ghost use Rattle.cv_scenes.specs.Reasons as reasons;
 ghost use Rattle.cv_scenes.specs.Reasons.{is_tree};
 ghost use Rattle.cv_scenes.specs.Sights.{from_one, site_cells, site_facts};

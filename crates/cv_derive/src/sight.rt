@@ -1,5 +1,5 @@
 use cv_derive_sizes::Sizes;
-use cv_directory::Sort;
+use cv_directory_sorts::Sort;
 use cv_syntax::{Game, NodeId, Work};
 use cv_typing::Arrays;
 use std::collections::HashMap;

@@ -1,9 +1,9 @@
 -- Cells with terms for names.
 use Rattle.std.proofs.Common.{◌≡◌, ◌&&◌, ℕ, zero, suc, ◌≤◌, Bool, true, false, List, [], ◌∷◌, length, drop, nat_eq, Option, Some, None, refl, sym, ap, ap₂, ◌∙◌, arith, eqb-true}
 use Rattle.std.proofs.lemmas.Bool.{eq-eqb, ne_eqb, eqb-false}
-use Rattle.cv_syntax.specs.declared.head.Head.TheVariants.{Cons, Leaf, Read}
-use Rattle.cv_syntax.specs.Children.{is_empty}
-use Rattle.cv_syntax.specs.Tree.{Tree, Empty, Node, lone, same_tree}
+use Rattle.cv_syntax_trees.specs.declared.head.Head.TheVariants.{Cons, Leaf, Read}
+use Rattle.cv_syntax_trees.specs.Children.{is_empty}
+use Rattle.cv_syntax_trees.specs.Tree.{Tree, Empty, Node, lone, same_tree}
 use Rattle.cv_syntax.proofs.Trees.{same_open, tree_of-NoTree}
 use Rattle.cv_derivations.specs.Given.{with_given}
 use Rattle.cv_scope_rules.specs.Context.{index_terms}

@@ -2,9 +2,9 @@
 use Rattle.std.specs.Prelude.{ℕ, Bool, true, false, ◌&&◌, List, [], ◌∷◌, map, Option, None}
 use Rattle.std.specs.List.{list_any}
 use Rattle.cv_pool.specs.declared.node.NodeId.{NodeId}
-use Rattle.cv_syntax.specs.declared.head.Head.{Head}
-use Rattle.cv_syntax.specs.declared.head.Head.TheVariants.{Repl, In, New, Let, Branch, Cons, Key, Call, Leaf}
-use Rattle.cv_syntax.specs.Tree.{Tree, Empty, Node, lone, same_tree, second}
+use Rattle.cv_syntax_trees.specs.declared.head.Head.{Head}
+use Rattle.cv_syntax_trees.specs.declared.head.Head.TheVariants.{Repl, In, New, Let, Branch, Cons, Key, Call, Leaf}
+use Rattle.cv_syntax_trees.specs.Tree.{Tree, Empty, Node, lone, same_tree, second}
 use Rattle.cv_scope_rules.specs.declared.position.Position.{Position}
 use Rattle.cv_scope_rules.specs.declared.position.Position.TheVariants.{Guards, Guarded}
 use Rattle.cv_scope_rules.specs.Context.{Context, cell_of, cells_of, items}

@@ -1,7 +1,8 @@
 ghost use Rattle.std.specs.Prelude.{◌≡◌, ◌<◌, length, take};
 ghost use Rattle.cv_pool.specs.Nodes.{ChildBelow};
-ghost use Rattle.cv_syntax.specs.declared.head.Head.TheVariants.{Read};
-ghost use Rattle.cv_syntax.specs.Tree.{Empty, Node, same_tree, tree_at};
+ghost use Rattle.cv_syntax_trees.specs.declared.head.Head.TheVariants.{Read};
+ghost use Rattle.cv_syntax_trees.specs.Tree.{Empty, Node, same_tree};
+ghost use Rattle.cv_syntax.specs.PoolTrees.{tree_at};
 ghost use Rattle.cv_scope_rules.specs.Context.{cell_of, index_terms};
 ghost use Rattle.cv_derive_substitution.specs.Under.{under};
 ghost use Rattle.cv_derive_cells.specs.Cells.{are_indices_under};

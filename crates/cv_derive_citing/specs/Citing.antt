@@ -2,7 +2,7 @@
 use Rattle.std.specs.Prelude.{ℕ, ◌+◌, ◌≤◌, ◌==◌, IfSome, nat_lt, if◌then◌else◌, List, Option, Some, None, option_map}
 use Rattle.cv_pool.specs.KindTree.{KindTree}
 use Rattle.cv_pool.specs.Nodes.{ChildBelow}
-use Rattle.cv_syntax.specs.Tree.{tree_at}
+use Rattle.cv_syntax.specs.PoolTrees.{tree_at}
 use Rattle.cv_derivations.specs.Lines.{Lines, End, By, Cases, Statement, Holds, count, lines_of}
 use Rattle.cv_derive_lines.specs.Views.{IsClaimBelow, statement_of}
 use Rattle.cv_derive_citing.specs.declared.citing.Search.{Search}

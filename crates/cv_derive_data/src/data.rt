@@ -1,10 +1,11 @@
 ghost use Rattle.std.specs.Prelude.{◌≡◌, ◌<◌, ◌&&◌, List, length};
 ghost use Rattle.cv_pool.specs.KindTree.{KindTree};
 ghost use Rattle.cv_pool.specs.Nodes.{ChildBelow};
-ghost use Rattle.cv_syntax.specs.Children as children;
+ghost use Rattle.cv_syntax_trees.specs.Children as children;
 ghost use Rattle.cv_syntax.specs.Declarations.{declarations};
-ghost use Rattle.cv_syntax.specs.Tree.{same_tree, tree_at};
-ghost use Rattle.cv_typing.specs.Signature.{declaration_of};
+ghost use Rattle.cv_syntax_trees.specs.Tree.{same_tree};
+ghost use Rattle.cv_syntax.specs.PoolTrees.{tree_at};
+ghost use Rattle.cv_typing_rules.specs.Signature.{declaration_of};
 ghost use Rattle.cv_scope_rules.specs.Context.{items};
 ghost use Rattle.cv_derivations.specs.Inferences.{equations_of};
 ghost use Rattle.cv_scenes.specs.Reasons as reasons;

@@ -1,11 +1,11 @@
 -- What is asked of terms, by the children of their heads.
 use Rattle.std.proofs.Common.{◌≡◌, ◌&&◌, Bool, true, false, Option, Some, None, refl, ◌∙◌}
 use Rattle.std.specs.Prelude.{if◌then◌else◌}
-use Rattle.cv_syntax.specs.declared.head.Head.{Head}
-use Rattle.cv_syntax.specs.declared.head.Head.TheVariants.{Eq, And, Not}
-use Rattle.cv_syntax.specs.Children.{is_empty}
-use Rattle.cv_syntax.specs.Head.{same_head}
-use Rattle.cv_syntax.specs.Tree.{Tree, Empty, Node, same_tree}
+use Rattle.cv_syntax_trees.specs.declared.head.Head.{Head}
+use Rattle.cv_syntax_trees.specs.declared.head.Head.TheVariants.{Eq, And, Not}
+use Rattle.cv_syntax_trees.specs.Children.{is_empty}
+use Rattle.cv_syntax_trees.specs.Head.{same_head}
+use Rattle.cv_syntax_trees.specs.Tree.{Tree, Empty, Node, same_tree}
 use Rattle.cv_syntax.proofs.Trees.{same_open, tree_of-NoTree}
 use Rattle.cv_derivations.specs.Inferences.{is_both, is_left, is_refuted, is_reflexive, is_replaced_by, is_right_side, is_symmetric, is_transitive}
 use Rattle.cv_derivations.specs.Truths.{no}

@@ -1,6 +1,7 @@
 ghost use Rattle.std.specs.Prelude.{◌≡◌, ◌<◌, IfSome, length, option_map};
 ghost use Rattle.cv_pool.specs.Nodes.{ChildBelow};
-ghost use Rattle.cv_syntax.specs.Tree.{Node, lone, same_tree, tree_at};
+ghost use Rattle.cv_syntax_trees.specs.Tree.{Node, lone, same_tree};
+ghost use Rattle.cv_syntax.specs.PoolTrees.{tree_at};
 ghost use Rattle.cv_derive_inferences.specs.Sides.{AreLive, both_at, sides_of};
 
 use cv_syntax::children::{is_empty, read_child};
@@ -21,7 +22,7 @@ pub fn sides(
     let Some(node) = read_child(pool, term) else {
         return None;
     };
-    if node.head.kind() != head.kind() {
+    if node.head.code() != head.code() {
         return None;
     }
     Some((node.first, node.second))

@@ -1,6 +1,6 @@
 ghost use Rattle.std.specs.Prelude.{◌≡◌, ◌<◌, ◌^◌, IfSome, drop, length, option_map};
 ghost use Rattle.cv_pool.specs.Nodes.{ChildBelow};
-ghost use Rattle.cv_syntax.specs.Tree.{tree_at};
+ghost use Rattle.cv_syntax.specs.PoolTrees.{tree_at};
 ghost use Rattle.cv_derivations.specs.Ends as ends;
 ghost use Rattle.cv_derivations.specs.Lines.{Holds, lines_of, statements};
 ghost use Rattle.cv_derive_lines.specs.Lasts.{last_of};

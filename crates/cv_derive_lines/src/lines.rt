@@ -1,8 +1,9 @@
 ghost use Rattle.std.specs.Prelude.{◌≡◌, ◌<◌, ◌^◌, ◌∷◌, ℕ, None, List, length};
 ghost use Rattle.cv_pool.specs.KindTree.{KindTree};
 ghost use Rattle.cv_pool.specs.Nodes.{ChildBelow};
-ghost use Rattle.cv_syntax.specs.Tree.{Node, tree_at};
-ghost use Rattle.cv_syntax.specs.declared.head.Head.TheVariants.{Cases};
+ghost use Rattle.cv_syntax_trees.specs.Tree.{Node};
+ghost use Rattle.cv_syntax.specs.PoolTrees.{tree_at};
+ghost use Rattle.cv_syntax_trees.specs.declared.head.Head.TheVariants.{Cases};
 ghost use Rattle.cv_derivations.specs.Lines as derivations;
 ghost use Rattle.cv_derivations.specs.Lines.{Lines, lines_of, statements};
 ghost use Rattle.cv_derive_lines.specs.declared.lines.Line.TheVariants as line;

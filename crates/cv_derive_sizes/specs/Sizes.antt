@@ -1,7 +1,8 @@
 -- Sizes of trees that are known beforehand. This profile's own.
 use Rattle.std.specs.Prelude.{◌≡◌, All, IfSome, List, Some}
 use Rattle.cv_pool.specs.KindTree.{KindTree}
-use Rattle.cv_syntax.specs.Tree.{size, tree_at}
+use Rattle.cv_syntax_trees.specs.Tree.{size}
+use Rattle.cv_syntax.specs.PoolTrees.{tree_at}
 use Rattle.cv_derive_sizes.specs.declared.sizes.Noted.{Noted}
 use Rattle.cv_derive_sizes.specs.declared.sizes.Sizes.{Sizes}
 

@@ -1,9 +1,9 @@
 -- What trees are under a substitution, node by node.
 use Rattle.std.proofs.Common.{◌≡◌, ℕ, Bool, true, false, List, [], ◌∷◌, Some, None, refl, sym, ap, ap₂, ◌∙◌}
 use Rattle.std.specs.Prelude.{◌==◌, if◌then◌else◌}
-use Rattle.cv_syntax.specs.declared.head.Head.{Head}
-use Rattle.cv_syntax.specs.declared.head.Head.TheVariants.{Binder}
-use Rattle.cv_syntax.specs.Tree.{Tree, Empty, Node, bound_names}
+use Rattle.cv_syntax_trees.specs.declared.head.Head.{Head}
+use Rattle.cv_syntax_trees.specs.declared.head.Head.TheVariants.{Binder}
+use Rattle.cv_syntax_trees.specs.Tree.{Tree, Empty, Node, bound_names}
 use Rattle.cv_syntax.proofs.ChildReads.{bound_names-Binder, bound_names_other}
 use Rattle.cv_syntax.proofs.Trees.{same_open, tree_of-NoTree}
 use Rattle.cv_derivations.specs.Given.{term_for, given_for, or_node, with_given}

@@ -1,6 +1,6 @@
 -- A tree with terms for the indices of replications.
 use Rattle.std.specs.Prelude.{ℕ, List, map}
-use Rattle.cv_syntax.specs.Tree.{Tree}
+use Rattle.cv_syntax_trees.specs.Tree.{Tree}
 use Rattle.cv_derivations.specs.Given.{with_given}
 
 abbrev pub names_of : List (ℕ × ℕ) → List ℕ

@@ -1,6 +1,7 @@
 ghost use Rattle.std.specs.Prelude.{◌≡◌, ◌<◌, IfSome, length, option_map};
 ghost use Rattle.cv_pool.specs.Nodes.{ChildBelow};
-ghost use Rattle.cv_syntax.specs.Tree.{bound_names, same_tree, tree_at};
+ghost use Rattle.cv_syntax_trees.specs.Tree.{bound_names, same_tree};
+ghost use Rattle.cv_syntax.specs.PoolTrees.{tree_at};
 ghost use Rattle.cv_derivations.specs.Given as given;
 
 use crate::substitution::Put;
@@ -79,7 +80,7 @@ pub fn same_instance(
         return false;
     };
     let x = read_node(pool, n);
-    x.head.kind() == y.head.kind()
+    x.head.code() == y.head.code()
         && same_instance(pool, x.first, y.first, binders, terms)
         && same_instance(pool, x.second, y.second, binders, terms)
 }

@@ -1,7 +1,8 @@
 ghost use Rattle.std.specs.Prelude.{◌≡◌, ◌<◌, IfSome, length, option_map};
 ghost use Rattle.cv_pool.specs.Nodes.{ChildBelow};
-ghost use Rattle.cv_syntax.specs.declared.head.Head.TheVariants.{Leaf};
-ghost use Rattle.cv_syntax.specs.Tree.{lone, same_tree, tree_at};
+ghost use Rattle.cv_syntax_trees.specs.declared.head.Head.TheVariants.{Leaf};
+ghost use Rattle.cv_syntax_trees.specs.Tree.{lone, same_tree};
+ghost use Rattle.cv_syntax.specs.PoolTrees.{tree_at};
 ghost use Rattle.cv_derivations.specs.Given as given;
 ghost use Rattle.cv_derive_substitution.specs.Under.{names_of, under};
 
@@ -95,7 +96,7 @@ pub fn same_under(
         return false;
     };
     let x = read_node(pool, n);
-    x.head.kind() == y.head.kind()
+    x.head.code() == y.head.code()
         && same_under(pool, x.first, y.first, names, terms)
         && same_under(pool, x.second, y.second, names, terms)
 }

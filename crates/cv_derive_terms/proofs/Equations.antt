@@ -6,14 +6,16 @@ use Rattle.cv_pool.specs.declared.node.NodeId.{NodeId}
 use Rattle.cv_pool.specs.KindTree.{KindTree}
 use Rattle.cv_syntax.specs.declared.decls.Decl.{Decl}
 use Rattle.cv_syntax.specs.declared.decls.Decl.TheVariants as decl
-use Rattle.cv_syntax.specs.declared.head.Head.{Head}
-use Rattle.cv_syntax.specs.declared.head.Head.TheVariants.{Binder}
-use Rattle.cv_syntax.specs.Children.{is_empty}
+use Rattle.cv_syntax_trees.specs.declared.head.Head.{Head}
+use Rattle.cv_syntax_trees.specs.declared.head.Head.TheVariants.{Binder}
+use Rattle.cv_syntax_trees.specs.Children.{is_empty}
 use Rattle.cv_syntax.specs.Classes as classes
 use Rattle.cv_syntax.specs.Classes.{equations}
-use Rattle.cv_syntax.specs.Declarations.{Declaration, declarations}
-use Rattle.cv_syntax.specs.Tree.{Tree, Empty, Node, bound_names, first, second, same_tree, tree_at}
-use Rattle.cv_directory.specs.declared.sort.Sort.TheVariants.{OfType}
+use Rattle.cv_syntax_trees.specs.Declarations.{Declaration}
+use Rattle.cv_syntax.specs.Declarations.{declarations}
+use Rattle.cv_syntax_trees.specs.Tree.{Tree, Empty, Node, bound_names, first, second, same_tree}
+use Rattle.cv_syntax.specs.PoolTrees.{tree_at}
+use Rattle.cv_directory_sorts.specs.declared.sort.Sort.TheVariants.{OfType}
 use Rattle.cv_directory.specs.Live.{IsLive}
 use Rattle.cv_derivations.specs.Given.{with_given}
 use Rattle.cv_scenes.specs.Reasons.{are_of_types, equations_in, is_instance}

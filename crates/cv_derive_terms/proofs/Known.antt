@@ -5,15 +5,15 @@ use Rattle.std.proofs.Math.Path.{fun_ext}
 use Rattle.cv_pool.specs.KindTree.{KindTree}
 use Rattle.cv_syntax.specs.declared.decls.Decl.{Decl}
 use Rattle.cv_syntax.specs.Declarations.{declarations}
-use Rattle.cv_directory.specs.declared.sort.Sort.{Sort}
-use Rattle.cv_directory.specs.declared.sort.Sort.TheVariants.{BelowParameter}
-use Rattle.cv_directory.specs.Sites.{first_of}
+use Rattle.cv_directory_sorts.specs.declared.sort.Sort.{Sort}
+use Rattle.cv_directory_sorts.specs.declared.sort.Sort.TheVariants.{BelowParameter}
+use Rattle.cv_directory_sorts.specs.Sites.{first_of}
 use Rattle.cv_typing.specs.declared.arrays.Arrays.{Arrays}
-use Rattle.cv_typing.specs.declared.precedence.Precedence.TheVariants.{First}
-use Rattle.cv_typing.specs.Parts.{nothing_above}
-use Rattle.cv_typing.specs.Signature.{Above, variable_in}
+use Rattle.cv_typing_rules.specs.declared.precedence.Precedence.TheVariants.{First}
+use Rattle.cv_typing_rules.specs.Parts.{nothing_above}
+use Rattle.cv_typing_rules.specs.Signature.{Above, variable_in}
 use Rattle.cv_typing.specs.Tables.{Map, above_of}
-use Rattle.cv_typing.specs.Wants.{bound}
+use Rattle.cv_typing_rules.specs.Wants.{bound}
 use Rattle.cv_scope_rules.specs.Rules.{is_index}
 use Rattle.cv_scenes.specs.Sights.{Sight}
 use Rattle.cv_scenes.specs.Terms.{indices_above, is_function, names_at, replications_at}

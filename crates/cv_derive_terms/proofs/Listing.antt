@@ -1,10 +1,10 @@
 -- Lists of terms that lines say are equal, item by item.
 use Rattle.std.proofs.Common.{◌≡◌, ◌&&◌, Bool, true, false, [], ◌∷◌, refl, sym, ap, ap₂, ◌∙◌}
 use Rattle.std.proofs.lemmas.Bool.{both_ways}
-use Rattle.cv_syntax.specs.declared.head.Head.{Head}
-use Rattle.cv_syntax.specs.declared.head.Head.TheVariants.{Eq}
-use Rattle.cv_syntax.specs.Children.{is_empty}
-use Rattle.cv_syntax.specs.Tree.{Tree, Empty, Node, same_tree}
+use Rattle.cv_syntax_trees.specs.declared.head.Head.{Head}
+use Rattle.cv_syntax_trees.specs.declared.head.Head.TheVariants.{Eq}
+use Rattle.cv_syntax_trees.specs.Children.{is_empty}
+use Rattle.cv_syntax_trees.specs.Tree.{Tree, Empty, Node, same_tree}
 use Rattle.cv_scope_rules.specs.Context.{items}
 use Rattle.cv_derivations.specs.Inferences.{Visible, are_equal_by, cited_term}
 

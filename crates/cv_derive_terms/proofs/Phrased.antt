@@ -2,15 +2,15 @@
 use Rattle.std.proofs.Common.{◌≡◌, ℕ, ◌+◌, Bool, true, false, not, ◌&&◌, Option, Some, None, refl, ap, ap₂, ◌∙◌}
 use Rattle.std.specs.Prelude.{◌||◌, is_some}
 use Rattle.std.proofs.lemmas.Bool.{and_parts}
-use Rattle.cv_syntax.specs.declared.head.Head.{Head}
-use Rattle.cv_syntax.specs.declared.head.Head.TheVariants as head
-use Rattle.cv_syntax.specs.Head.{weight}
-use Rattle.cv_syntax.specs.Tree.{Tree, Empty, Node, size}
+use Rattle.cv_syntax_trees.specs.declared.head.Head.{Head}
+use Rattle.cv_syntax_trees.specs.declared.head.Head.TheVariants as head
+use Rattle.cv_syntax_trees.specs.Head.{weight}
+use Rattle.cv_syntax_trees.specs.Tree.{Tree, Empty, Node, size}
 use Rattle.cv_first_fault.specs.Walk.{first_of, placed}
-use Rattle.cv_typing.specs.Signature.{Signature, Above}
-use Rattle.cv_typing.specs.Typing.{fault_of, first_fault}
-use Rattle.cv_typing.specs.Wants.{Want, above_second, wants}
-use Rattle.cv_typing.proofs.Steps.{fault-end, fault-parts}
+use Rattle.cv_typing_rules.specs.Signature.{Signature, Above}
+use Rattle.cv_typing_rules.specs.Typing.{fault_of, first_fault}
+use Rattle.cv_typing_rules.specs.Wants.{Want, above_second, wants}
+use Rattle.cv_typing_rules.proofs.Steps.{fault-end, fault-parts}
 use Rattle.cv_scope_rules.specs.Phrases.{Phrase, Nil, Terms, Term, OneCell, both_are, is_phrase, parts}
 use Rattle.cv_scenes.specs.Terms.{Names, head_is_there, is_there}
 use Rattle.cv_derive_terms.specs.Typed.{is_known_cell, is_known_head, is_typed_tree}

@@ -3,13 +3,13 @@ use Rattle.std.proofs.Common.{◌≡◌, Bool, true, false, ◌&&◌, List, sym,
 use Rattle.cv_pool.specs.KindTree.{KindTree}
 use Rattle.cv_syntax.specs.declared.decls.Decl.{Decl}
 use Rattle.cv_syntax.specs.Declarations.{declarations}
-use Rattle.cv_syntax.specs.Tree.{Tree}
-use Rattle.cv_directory.specs.declared.sort.Sort.{Sort}
+use Rattle.cv_syntax_trees.specs.Tree.{Tree}
+use Rattle.cv_directory_sorts.specs.declared.sort.Sort.{Sort}
 use Rattle.cv_typing.specs.declared.arrays.Arrays.{Arrays}
 use Rattle.cv_typing.specs.Lookups.{signature_in}
-use Rattle.cv_typing.specs.Signature.{sort_of}
+use Rattle.cv_typing_rules.specs.Signature.{sort_of}
 use Rattle.cv_typing.specs.Tables.{Map, above_of}
-use Rattle.cv_typing.specs.Wants.{AnyTerm}
+use Rattle.cv_typing_rules.specs.Wants.{AnyTerm}
 use Rattle.cv_scope_rules.specs.Phrases.{Phrase, OneCell, Term, is_phrase}
 use Rattle.cv_scenes.specs.Sights.{Sight, is_cell_at, is_term_of}
 use Rattle.cv_scenes.specs.Terms.{above_at, is_sort, is_term_at, names_at}

@@ -1,12 +1,12 @@
 -- Typed trees, node by node.
 use Rattle.std.proofs.Common.{◌≡◌, ℕ, Bool, true, false, not, ◌&&◌, Option, refl, sym, ap, ap₂, ◌∙◌}
 use Rattle.std.specs.Prelude.{◌||◌, is_some}
-use Rattle.cv_syntax.specs.declared.head.Head.{Head}
-use Rattle.cv_syntax.specs.declared.head.Head.TheVariants.{Leaf, Read, Apply}
-use Rattle.cv_syntax.specs.Tree.{Tree, Empty, Node}
-use Rattle.cv_typing.specs.Signature.{Signature, Above}
-use Rattle.cv_typing.specs.Typing.{fault_of}
-use Rattle.cv_typing.specs.Wants.{Want, wants}
+use Rattle.cv_syntax_trees.specs.declared.head.Head.{Head}
+use Rattle.cv_syntax_trees.specs.declared.head.Head.TheVariants.{Leaf, Read, Apply}
+use Rattle.cv_syntax_trees.specs.Tree.{Tree, Empty, Node}
+use Rattle.cv_typing_rules.specs.Signature.{Signature, Above}
+use Rattle.cv_typing_rules.specs.Typing.{fault_of}
+use Rattle.cv_typing_rules.specs.Wants.{Want, wants}
 use Rattle.cv_scenes.specs.Terms.{Names}
 use Rattle.cv_derive_terms.specs.Typed.{is_known_head, is_typed_tree}
 

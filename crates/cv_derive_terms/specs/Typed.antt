@@ -2,17 +2,18 @@
 use Rattle.std.specs.Prelude.{◌≡◌, ℕ, Bool, true, ◌&&◌, ◌||◌, not, is_some, List}
 use Rattle.cv_pool.specs.KindTree.{KindTree}
 use Rattle.cv_syntax.specs.declared.decls.Decl.{Decl}
-use Rattle.cv_syntax.specs.declared.head.Head.{Head}
-use Rattle.cv_syntax.specs.declared.head.Head.TheVariants.{Leaf, Read, Apply}
-use Rattle.cv_syntax.specs.Declarations.{Declaration, declarations}
-use Rattle.cv_syntax.specs.Tree.{Tree, Empty, Node}
-use Rattle.cv_directory.specs.declared.sort.Sort.{Sort}
-use Rattle.cv_directory.specs.Sites.{sites_of}
+use Rattle.cv_syntax_trees.specs.declared.head.Head.{Head}
+use Rattle.cv_syntax_trees.specs.declared.head.Head.TheVariants.{Leaf, Read, Apply}
+use Rattle.cv_syntax_trees.specs.Declarations.{Declaration}
+use Rattle.cv_syntax.specs.Declarations.{declarations}
+use Rattle.cv_syntax_trees.specs.Tree.{Tree, Empty, Node}
+use Rattle.cv_directory_sorts.specs.declared.sort.Sort.{Sort}
+use Rattle.cv_directory_sorts.specs.Sites.{sites_of}
 use Rattle.cv_typing.specs.declared.arrays.Arrays.{Arrays}
-use Rattle.cv_typing.specs.Signature.{Signature, Above, OfGame, variable_in}
+use Rattle.cv_typing_rules.specs.Signature.{Signature, Above, OfGame, variable_in}
 use Rattle.cv_typing.specs.Tables.{Map, above_of, arrays_of}
-use Rattle.cv_typing.specs.Typing.{fault_of}
-use Rattle.cv_typing.specs.Wants.{Want, wants}
+use Rattle.cv_typing_rules.specs.Typing.{fault_of}
+use Rattle.cv_typing_rules.specs.Wants.{Want, wants}
 use Rattle.cv_scenes.specs.Sights.{Sight}
 use Rattle.cv_scenes.specs.Terms.{Names, above_at, is_function}
 

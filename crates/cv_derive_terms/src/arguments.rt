@@ -1,7 +1,8 @@
 ghost use Rattle.std.specs.Prelude.{◌≡◌, ◌<◌, ◌∷◌, [], length};
 ghost use Rattle.cv_pool.specs.Nodes.{ChildBelow};
-ghost use Rattle.cv_syntax.specs.declared.head.Head.TheVariants.{Eq};
-ghost use Rattle.cv_syntax.specs.Tree.{Node, same_tree, tree_at};
+ghost use Rattle.cv_syntax_trees.specs.declared.head.Head.TheVariants.{Eq};
+ghost use Rattle.cv_syntax_trees.specs.Tree.{Node, same_tree};
+ghost use Rattle.cv_syntax.specs.PoolTrees.{tree_at};
 ghost use Rattle.cv_scope_rules.specs.Context.{items};
 ghost use Rattle.cv_derivations.specs.Inferences as inferences;
 ghost use Rattle.cv_derive_citing.specs.Bookmarks.{CanCite, visible_to};

@@ -1,7 +1,7 @@
 ghost use Rattle.std.specs.Prelude.{◌≡◌, ◌<◌, ◌∷◌, [], length};
 ghost use Rattle.cv_pool.specs.Nodes.{ChildBelow};
-ghost use Rattle.cv_syntax.specs.Head.{same_head};
-ghost use Rattle.cv_syntax.specs.Tree.{tree_at};
+ghost use Rattle.cv_syntax_trees.specs.Head.{same_head};
+ghost use Rattle.cv_syntax.specs.PoolTrees.{tree_at};
 ghost use Rattle.cv_typing.specs.Tables.{above_of};
 ghost use Rattle.cv_scope_rules.specs.Context.{items};
 ghost use Rattle.cv_derivations.specs.Inferences as inferences;
@@ -13,7 +13,7 @@ ghost use Rattle.cv_scenes.specs.Terms.{above_at};
 use crate::arguments::{are_equal_by, is_equal_by, is_only_equal_by};
 use cv_derive_citing::Citing;
 use cv_derive_inferences::sides;
-use cv_directory::Sort;
+use cv_directory_sorts::Sort;
 use cv_syntax::children::{is_empty, read_child};
 use cv_syntax::{Head, NodeId, Opened, Pool, read_node};
 use std::collections::HashMap;
@@ -94,7 +94,7 @@ fn are_arguments_equal_by(
 fn have_same_head(left: Head, right: Head) -> bool
     ensures { result ≡ same_head left right }
 {
-    left.kind() == right.kind()
+    left.code() == right.code()
 }
 
 /// Whether a term says that two terms with one head are equal, whose arguments are equal by lines that are cited.

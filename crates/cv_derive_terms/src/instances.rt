@@ -1,6 +1,6 @@
 ghost use Rattle.std.specs.Prelude.{◌≡◌, ◌<◌, All, length};
 ghost use Rattle.cv_pool.specs.Nodes.{ChildBelow};
-ghost use Rattle.cv_syntax.specs.Tree.{tree_at};
+ghost use Rattle.cv_syntax.specs.PoolTrees.{tree_at};
 ghost use Rattle.cv_directory.specs.Live.{IsLive};
 ghost use Rattle.cv_derivations.specs.Inferences.{number_of};
 ghost use Rattle.cv_scenes.specs.Reasons as reasons;
@@ -11,7 +11,7 @@ ghost use Rattle.cv_derive_terms.specs.Typed.{IsSightOf};
 use crate::typing::is_term_of;
 use cv_derive_citing::number;
 use cv_derive_substitution::same_instance;
-use cv_directory::Sort;
+use cv_directory_sorts::Sort;
 use cv_syntax::children::is_empty;
 use cv_syntax::{Head, NodeId, Work, read_node};
 use cv_typing::Arrays;

@@ -2,13 +2,13 @@ ghost use Rattle.std.specs.Prelude.{◌≡◌, ◌<◌, ◌&&◌, ◌||◌, All,
 ghost use Rattle.cv_pool.specs.KindTree.{KindTree};
 ghost use Rattle.cv_pool.specs.Nodes.{ChildBelow};
 ghost use Rattle.cv_syntax.specs.Declarations.{declarations};
-ghost use Rattle.cv_syntax.specs.Tree.{tree_at};
+ghost use Rattle.cv_syntax.specs.PoolTrees.{tree_at};
 ghost use Rattle.cv_typing.specs.Lookups.{HasLiveArguments, IsLiveWant, signature_in, want_of};
 ghost use Rattle.cv_directory.specs.Live.{IsLive};
-ghost use Rattle.cv_typing.specs.Signature.{function_in, variable_in};
-ghost use Rattle.cv_directory.specs.Sorts.{same_sort};
+ghost use Rattle.cv_typing_rules.specs.Signature.{function_in, variable_in};
+ghost use Rattle.cv_directory_sorts.specs.Sorts.{same_sort};
 ghost use Rattle.cv_typing.specs.Tables.{above_of, arrays_of};
-ghost use Rattle.cv_typing.specs.Typing.{fault_of};
+ghost use Rattle.cv_typing_rules.specs.Typing.{fault_of};
 ghost use Rattle.cv_scenes.specs.Sights as sights;
 ghost use Rattle.cv_scenes.specs.Sights.{Sight};
 ghost use Rattle.cv_scenes.specs.Terms as terms;
@@ -17,11 +17,12 @@ ghost use Rattle.cv_derive_terms.specs.Typed as typed;
 ghost use Rattle.cv_derive_terms.specs.Typed.{IsSightOf, names_of};
 
 use cv_derive_lines::Claim;
-use cv_directory::Sort;
+use cv_directory_sorts::Sort;
 use cv_rule_phrases::{Phrase, is_phrase};
 use cv_syntax::children::read_child;
 use cv_syntax::{Decls, Head, NodeId, Opened, Pool, Work, read_node};
-use cv_typing::{Arrays, Want, function_sort, own_fault, sort_of_term, wants_below};
+use cv_typing::{Arrays, function_sort, own_fault, sort_of_term, wants_below};
+use cv_typing_rules::Want;
 use std::collections::HashMap;
 
 /// Whether a name is a variable of the game.

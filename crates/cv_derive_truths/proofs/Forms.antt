@@ -1,8 +1,8 @@
 -- What is asked of equations of truth values, by the children of their heads.
 use Rattle.std.proofs.Common.{◌≡◌, Bool, Option, Some, None, refl}
 use Rattle.std.specs.Prelude.{◌||◌}
-use Rattle.cv_syntax.specs.declared.head.Head.TheVariants.{Eq, And, Or, Not}
-use Rattle.cv_syntax.specs.Tree.{Tree, Empty, Node, same_tree}
+use Rattle.cv_syntax_trees.specs.declared.head.Head.TheVariants.{Eq, And, Or, Not}
+use Rattle.cv_syntax_trees.specs.Tree.{Tree, Empty, Node, same_tree}
 use Rattle.cv_syntax.proofs.Trees.{tree_of-NoTree}
 use Rattle.cv_derivations.specs.Truths.{is_double, is_truth_of_and, is_truth_of_equality, is_truth_of_equation, is_truth_of_not, is_truth_of_or, is_truth_of_sides, yes}
 use Rattle.cv_derive_inferences.specs.Sides.{sides_of}

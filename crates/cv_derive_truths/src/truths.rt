@@ -1,7 +1,8 @@
 ghost use Rattle.std.specs.Prelude.{◌≡◌, ◌<◌, length};
 ghost use Rattle.cv_pool.specs.Nodes.{ChildBelow};
-ghost use Rattle.cv_syntax.specs.Tree.{Node, lone, same_tree, tree_at};
-ghost use Rattle.cv_syntax.specs.declared.head.Head.TheVariants.{Eq, No, Yes};
+ghost use Rattle.cv_syntax_trees.specs.Tree.{Node, lone, same_tree};
+ghost use Rattle.cv_syntax.specs.PoolTrees.{tree_at};
+ghost use Rattle.cv_syntax_trees.specs.declared.head.Head.TheVariants.{Eq, No, Yes};
 ghost use Rattle.cv_derivations.specs.Truths as truths;
 ghost use Rattle.cv_derivations.specs.Truths.{are_sides};
 

@@ -1,15 +1,15 @@
 -- The definitions of a game's variables, one by one in preorder, and what they say of a name.
 use Rattle.std.specs.Prelude.{ℕ, min, Bool, true, false, not, ◌==◌, if◌then◌else◌, List, [], ◌∷◌, ◌++◌, length, map, Option, Some, None}
-use Rattle.cv_syntax.specs.declared.decls.Class.TheVariants.{TypeName}
-use Rattle.cv_syntax.specs.declared.decls.Class.{Class}
+use Rattle.cv_syntax_trees.specs.declared.class.Class.TheVariants.{TypeName}
+use Rattle.cv_syntax_trees.specs.declared.class.Class.{Class}
 use Rattle.cv_syntax.specs.declared.decls.Decl.{Decl}
 use Rattle.cv_syntax.specs.Classes.{class_in}
-use Rattle.cv_syntax.specs.declared.head.Head.{Head}
-use Rattle.cv_syntax.specs.declared.head.Head.TheVariants.{Repl, In, New, Let, Branch, Binder}
-use Rattle.cv_syntax.specs.Tree.{Tree, Empty, Node, second, first_place, second_place}
-use Rattle.cv_directory.specs.declared.sort.Sort.{Sort}
-use Rattle.cv_directory.specs.declared.sort.Sort.TheVariants.{OfType, BelowParameter}
-use Rattle.cv_directory.specs.Sites.{Variable, first_index}
+use Rattle.cv_syntax_trees.specs.declared.head.Head.{Head}
+use Rattle.cv_syntax_trees.specs.declared.head.Head.TheVariants.{Repl, In, New, Let, Branch, Binder}
+use Rattle.cv_syntax_trees.specs.Tree.{Tree, Empty, Node, second, first_place, second_place}
+use Rattle.cv_directory_sorts.specs.declared.sort.Sort.{Sort}
+use Rattle.cv_directory_sorts.specs.declared.sort.Sort.TheVariants.{OfType, BelowParameter}
+use Rattle.cv_directory_sorts.specs.Sites.{Variable, first_index}
 
 -- A definition: the replications above it by index and parameter, outermost first, the sort of the variable's values,
 -- the place of the node that defines it, and the tree there.

@@ -5,13 +5,13 @@ use Rattle.std.specs.declared.hash.BuildHasherDefault.{BuildHasherDefault}
 use Rattle.std.specs.HashMap.{get, HashMap}
 use Rattle.cv_pool.specs.KindTree.{KindTree}
 use Rattle.cv_pool.specs.declared.node.NodeId.{NodeId}
-use Rattle.cv_syntax.specs.Tree.{tree_at}
+use Rattle.cv_syntax.specs.PoolTrees.{tree_at}
 use Rattle.cv_directory.specs.declared.directory.Directory.{Directory}
 use Rattle.cv_directory.specs.declared.site.Entry.{Entry}
 use Rattle.cv_directory.specs.declared.site.Site.{Site}
-use Rattle.cv_directory.specs.declared.sort.Sort.{Sort}
+use Rattle.cv_directory_sorts.specs.declared.sort.Sort.{Sort}
 use Rattle.cv_directory.specs.Definitions.{Definition, Entries, definition_at, first_in, first_other, most}
-use Rattle.cv_directory.specs.Sites.{SitesView, Variable, first_of}
+use Rattle.cv_directory_sorts.specs.Sites.{SitesView, Variable, first_of}
 
 abbrev pub Map : Type 0 → Type 0
 Map X = HashMap ℕ X (BuildHasherDefault FoldHasher)

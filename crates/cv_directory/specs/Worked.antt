@@ -1,7 +1,7 @@
 -- A small game, and what its directory says of its variables.
 use Rattle.std.specs.Prelude.{ℕ, Bool, ◌==◌, List, [], ◌∷◌, option_map, Option, Some, None}
-use Rattle.cv_syntax.specs.declared.head.Head.TheVariants.{Cons, If, In, Let, New, Repl, Leaf, Yes, Yield}
-use Rattle.cv_syntax.specs.Tree.{Tree, Empty, Node, binders, chain, lone}
+use Rattle.cv_syntax_trees.specs.declared.head.Head.TheVariants.{Cons, If, In, Let, New, Repl, Leaf, Yes, Yield}
+use Rattle.cv_syntax_trees.specs.Tree.{Tree, Empty, Node, binders, chain, lone}
 use Rattle.cv_directory.specs.Definitions.{Definition, entries_of}
 
 -- the type 1 is large, the type 2 is not

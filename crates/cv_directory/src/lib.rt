@@ -5,11 +5,9 @@ mod directory;
 mod laws;
 mod nodes;
 mod site;
-mod sort;
 mod tables;
 
 pub use directory::Directory;
 pub use laws::{definitions_are_sites, worked_directories};
 pub use nodes::sort_of_binder;
 pub use site::Site;
-pub use sort::{Sort, differs_from, same_sort};

@@ -1,9 +1,9 @@
 ghost use Rattle.std.specs.Prelude.{◌≡◌};
-ghost use Rattle.cv_syntax.specs.Tree.{Node, Tree};
+ghost use Rattle.cv_syntax_trees.specs.Tree.{Node, Tree};
 ghost use Rattle.cv_directory.specs.Definitions.{is_other, large_in};
-ghost use Rattle.cv_directory.specs.Sites.{binder_sort};
+ghost use Rattle.cv_directory_sorts.specs.Sites.{binder_sort};
 
-use crate::sort::Sort;
+use cv_directory_sorts::Sort;
 use cv_syntax::{Class, Decls, Head, NameId};
 
 /// The sort that a binder gives: that of an index, or of a value of a type.

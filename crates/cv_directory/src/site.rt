@@ -1,4 +1,4 @@
-use crate::sort::Sort;
+use cv_directory_sorts::Sort;
 use cv_syntax::NodeId;
 
 /// The first definition of a variable.

@@ -1,11 +1,11 @@
 ghost use Rattle.std.specs.Prelude.{◌≡◌, ◌+◌, ◌<◌, min, if◌then◌else◌, ℕ, List, Some, length, option_map, OnOk};
 ghost use Rattle.cv_pool.specs.KindTree.{KindTree};
 ghost use Rattle.cv_directory.specs.Definitions.{most};
-ghost use Rattle.cv_directory.specs.Sites.{first_of};
+ghost use Rattle.cv_directory_sorts.specs.Sites.{first_of};
 ghost use Rattle.cv_directory.specs.Tables.{definition_in, definition_of, entry_at, nothing};
 
 use crate::site::{Entry, Site};
-use crate::sort::Sort;
+use cv_directory_sorts::Sort;
 use cv_syntax::NodeId;
 use std::alloc::{AllocError, Global};
 

@@ -4,13 +4,13 @@ use Rattle.std.specs.Prelude.{flat_map, unwrap_or, IsSome, OnOk}
 use Rattle.std.specs.Option.{option_to_list}
 use Rattle.std.proofs.lemmas.List.{reverse-append}
 use Rattle.cv_pool.specs.declared.node.NodeId.{NodeId}
-use Rattle.cv_syntax.specs.declared.head.Head.{Head}
+use Rattle.cv_syntax_trees.specs.declared.head.Head.{Head}
 use Rattle.cv_syntax.specs.declared.make.Make.{Make}
 use Rattle.cv_syntax.specs.declared.make.Make.TheVariants as make
-use Rattle.cv_syntax.specs.Head.{weight}
+use Rattle.cv_syntax_trees.specs.Head.{weight}
 use Rattle.cv_syntax.specs.Planting.{overs}
 use Rattle.cv_syntax.specs.Postorder.{postorder}
-use Rattle.cv_syntax.specs.Tree.{Tree, Empty, Node, size, depth}
+use Rattle.cv_syntax_trees.specs.Tree.{Tree, Empty, Node, size, depth}
 use Rattle.cv_meaning.specs.Still.{defines}
 use Rattle.cv_steps.specs.Changes.{without, only}
 use Rattle.cv_syntax.proofs.Trees.{size-Empty}

@@ -8,9 +8,10 @@ use Rattle.cv_pool.specs.declared.pool.PoolError.{PoolError}
 use Rattle.cv_pool.specs.declared.pool.PoolError.TheVariants as pool
 use Rattle.cv_pool.specs.PoolView.{PoolView, Grows}
 use Rattle.cv_syntax.specs.declared.work.BuildError.TheVariants as build
-use Rattle.cv_syntax.specs.declared.head.Head.{Head}
-use Rattle.cv_syntax.specs.declared.head.Head.TheVariants.{If, Cons}
-use Rattle.cv_syntax.specs.Tree.{Tree, Empty, Node, size, subtree, tree_at}
+use Rattle.cv_syntax_trees.specs.declared.head.Head.{Head}
+use Rattle.cv_syntax_trees.specs.declared.head.Head.TheVariants.{If, Cons}
+use Rattle.cv_syntax_trees.specs.Tree.{Tree, Empty, Node, size, subtree}
+use Rattle.cv_syntax.specs.PoolTrees.{tree_at}
 use Rattle.cv_syntax.proofs.Buildings.{child-grown}
 use Rattle.cv_syntax.proofs.Trees.{tree_at-None}
 use Rattle.cv_steps.specs.Changes.{split_process}

@@ -3,7 +3,8 @@ use Rattle.std.specs.Prelude.{ℕ, ◌+◌, ◌<◌, nat_lt, if◌then◌else◌
 use Rattle.cv_pool.specs.KindTree.{KindTree}
 use Rattle.cv_pool.specs.PoolView.{PoolView}
 use Rattle.cv_syntax.specs.declared.work.BuildError.TheVariants as build
-use Rattle.cv_syntax.specs.Tree.{Tree, size, tree_at}
+use Rattle.cv_syntax_trees.specs.Tree.{Tree, size}
+use Rattle.cv_syntax.specs.PoolTrees.{tree_at}
 use Rattle.cv_path.specs.Places.{nodes_above}
 use Rattle.cv_path.specs.declared.error.PathError.{PathError}
 use Rattle.cv_path.specs.declared.error.PathError.TheVariants.{NoSuchPlace, Build}

@@ -1,6 +1,6 @@
 -- How many nodes of a pool the tree without the definitions of a variable has, counted at each of its places.
 use Rattle.std.specs.Prelude.{ℕ, ◌+◌, min, if◌then◌else◌}
-use Rattle.cv_syntax.specs.Tree.{Tree, Empty, Node}
+use Rattle.cv_syntax_trees.specs.Tree.{Tree, Empty, Node}
 use Rattle.cv_meaning.specs.Still.{defines}
 use Rattle.cv_steps.specs.Changes.{only}
 

@@ -1,8 +1,9 @@
 ghost use Rattle.std.specs.Prelude.{◌≡◌, ◌+◌, ◌<◌, ◌≤◌, ◌^◌, ◌⊎◌, ℕ, IfErr, IfOk, IsErrOf, OnErr, OnOk, None, Some, length};
 ghost use Rattle.cv_pool.specs.Nodes.{ChildBelow};
 ghost use Rattle.cv_pool.specs.PoolView.{Grows};
-ghost use Rattle.cv_syntax.specs.Tree as tree;
-ghost use Rattle.cv_syntax.specs.Tree.{Node, tree_at};
+ghost use Rattle.cv_syntax_trees.specs.Tree as tree;
+ghost use Rattle.cv_syntax_trees.specs.Tree.{Node};
+ghost use Rattle.cv_syntax.specs.PoolTrees.{tree_at};
 ghost use Rattle.cv_path.specs.Places.{nodes_above};
 ghost use Rattle.cv_path.specs.Refusals.{no_memory, no_room};
 ghost use Rattle.cv_steps.specs.Changes.{change_at};
@@ -11,7 +12,7 @@ ghost use Rattle.cv_draw.specs.Changes.{TermIsLive, change_of, need_of, nodes_of
 use crate::change::Change;
 use cv_path::{Lies, PathError, at, place_in, replace};
 use cv_pool::PoolError;
-use cv_syntax::{BuildError, Head, NodeId, Pool, read_node};
+use cv_syntax::{BuildError, Head, NodeId, Pool, kind_of, read_node};
 use std::alloc::Global;
 
 /// How a pool without room ends a drawing.
@@ -68,7 +69,7 @@ fn join(pool: &mut Pool, head: Head, first: Option<NodeId>, second: Option<NodeI
     ensures spare { pool.old.spare ≤ pool.new.spare + 1 }
     ensures few { length pool.new.trees ≤ length pool.old.trees + 1 }
 {
-    pool.node(head.kind(), first, second)
+    pool.node(kind_of(head), first, second)
 }
 
 /// Makes the changed part.

@@ -1,8 +1,8 @@
 -- How large trees are with a part changed.
 use Rattle.std.proofs.Common.{◌≡◌, ℕ, ◌+◌, ◌-◌, ◌≤◌, ◌<◌, max, Bool, true, false, cond, ◌⊎◌, inl, inr, Some, None, refl, sym, ap, ◌∙◌, arith, nat_lt, ltb, ltb-true, ltb-false}
-use Rattle.cv_syntax.specs.declared.head.Head.{Head}
-use Rattle.cv_syntax.specs.Head.{weight}
-use Rattle.cv_syntax.specs.Tree.{Tree, Empty, Node, size, depth, subtree}
+use Rattle.cv_syntax_trees.specs.declared.head.Head.{Head}
+use Rattle.cv_syntax_trees.specs.Head.{weight}
+use Rattle.cv_syntax_trees.specs.Tree.{Tree, Empty, Node, size, depth, subtree}
 use Rattle.cv_syntax.proofs.Walking.{depth-node, depth-le-size, size-node}
 use Rattle.cv_syntax.proofs.Trees.{empty_at, size-Empty}
 use Rattle.cv_meaning.specs.Replaced.{replaced}

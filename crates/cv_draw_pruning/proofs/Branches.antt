@@ -1,10 +1,10 @@
 -- Lists of branches, item by item.
 use Rattle.std.proofs.Common.{◌≡◌, ℕ, zero, suc, ◌+◌, ◌-◌, ◌≤◌, max, true, List, Option, Some, None, refl, sym, ap, ◌∙◌, arith}
 use Rattle.std.specs.Prelude.{option_map}
-use Rattle.cv_syntax.specs.declared.head.Head.TheVariants.{Branch, Cons}
-use Rattle.cv_syntax.specs.declared.head.Head.{Head}
+use Rattle.cv_syntax_trees.specs.declared.head.Head.TheVariants.{Branch, Cons}
+use Rattle.cv_syntax_trees.specs.declared.head.Head.{Head}
 use Rattle.cv_path.specs.Ways.{turned}
-use Rattle.cv_syntax.specs.Tree.{Tree, Empty, Node, first, second, size, depth}
+use Rattle.cv_syntax_trees.specs.Tree.{Tree, Empty, Node, first, second, size, depth}
 use Rattle.cv_syntax.proofs.Walking.{size-node, depth-node}
 use Rattle.cv_path.specs.Copies.{guards}
 use Rattle.cv_scenes.specs.Pruning.{branch_body, without_branch}

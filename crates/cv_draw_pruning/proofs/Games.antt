@@ -5,7 +5,7 @@ use Rattle.cv_pool.specs.declared.pool.PoolError.{PoolError}
 use Rattle.cv_pool.specs.declared.pool.PoolError.TheVariants as pool
 use Rattle.cv_pool.specs.PoolView.{PoolView}
 use Rattle.cv_syntax.specs.declared.work.BuildError.TheVariants as build
-use Rattle.cv_syntax.specs.Tree.{Tree, Empty, Node, size, subtree}
+use Rattle.cv_syntax_trees.specs.Tree.{Tree, Empty, Node, size, subtree}
 use Rattle.cv_meaning.specs.Replaced.{replaced}
 use Rattle.cv_path.proofs.Bounds.{no_subtree}
 use Rattle.cv_path.specs.Refusals.{no_memory, no_room}

@@ -2,8 +2,8 @@
 use Rattle.std.specs.Prelude.{ℕ, ◌+◌, Bool, true, false, nat_lt, if◌then◌else◌, length, Option, Some, None, option_map}
 use Rattle.cv_pool.specs.PoolView.{PoolView}
 use Rattle.cv_syntax.specs.declared.work.BuildError.TheVariants as build
-use Rattle.cv_syntax.specs.declared.head.Head.TheVariants.{Find}
-use Rattle.cv_syntax.specs.Tree.{Tree, Empty, Node}
+use Rattle.cv_syntax_trees.specs.declared.head.Head.TheVariants.{Find}
+use Rattle.cv_syntax_trees.specs.Tree.{Tree, Empty, Node}
 use Rattle.cv_meaning.specs.Replaced.{replaced}
 use Rattle.cv_path.specs.Places.{nodes_above}
 use Rattle.cv_path.specs.declared.error.PathError.{PathError}

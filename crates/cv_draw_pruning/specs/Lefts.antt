@@ -1,11 +1,12 @@
 -- What is left of a construct without a body, as the code finds it.
 use Rattle.std.specs.Prelude.{◌≡◌, ℕ, suc, ◌+◌, ◌≤◌, max, Bool, true, false, List, Option, Some, None, option_map, option_and_then}
 use Rattle.cv_pool.specs.KindTree.{KindTree}
-use Rattle.cv_syntax.specs.declared.head.Head.{Head}
-use Rattle.cv_syntax.specs.declared.head.Head.TheVariants.{If, Find, Branch, Cons}
+use Rattle.cv_syntax_trees.specs.declared.head.Head.{Head}
+use Rattle.cv_syntax_trees.specs.declared.head.Head.TheVariants.{If, Find, Branch, Cons}
 use Rattle.cv_pool.specs.Nodes.{ChildBelow}
-use Rattle.cv_syntax.specs.Head.{weight}
-use Rattle.cv_syntax.specs.Tree.{Tree, Empty, Node, size, depth, tree_at}
+use Rattle.cv_syntax_trees.specs.Head.{weight}
+use Rattle.cv_syntax_trees.specs.Tree.{Tree, Empty, Node, size, depth}
+use Rattle.cv_syntax.specs.PoolTrees.{tree_at}
 use Rattle.cv_path.specs.Copies.{guards}
 use Rattle.cv_scenes.specs.Pruning.{Part, pruned, without_branch}
 use Rattle.cv_draw_pruning.specs.declared.cut.Cut.{Cut}

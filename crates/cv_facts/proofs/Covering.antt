@@ -1,11 +1,11 @@
 -- What stands above a place is known there.
 use Rattle.std.proofs.Common.{◌≡◌, ℕ, ◌+◌, ◌-◌, true, List, [], ◌∷◌, ◌++◌, Option, Some, None, refl, sym, ap, subst, ◌∙◌}
 use Rattle.std.specs.List.{AllByRecursion}
-use Rattle.cv_syntax.specs.declared.head.Head.{Head}
-use Rattle.cv_syntax.specs.declared.head.Head.TheVariants.{Repl, In, Event, New, Let, If, Find, Branch, Cons, Not, Eq, Key, Call}
-use Rattle.cv_syntax.specs.Head.{weight}
+use Rattle.cv_syntax_trees.specs.declared.head.Head.{Head}
+use Rattle.cv_syntax_trees.specs.declared.head.Head.TheVariants.{Repl, In, Event, New, Let, If, Find, Branch, Cons, Not, Eq, Key, Call}
+use Rattle.cv_syntax_trees.specs.Head.{weight}
 use Rattle.cv_syntax.specs.Layouts.{IsSyntax}
-use Rattle.cv_syntax.specs.Tree.{Tree, Empty, Node, first, second, size}
+use Rattle.cv_syntax_trees.specs.Tree.{Tree, Empty, Node, first, second, size}
 use Rattle.cv_meaning.specs.Interpretation.{Setting}
 use Rattle.cv_meaning.specs.Binders.{bound_to}
 use Rattle.cv_meaning.specs.Memory.{Memory, Indices, Local, Store, tuple}

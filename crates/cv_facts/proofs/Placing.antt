@@ -1,11 +1,11 @@
 -- Where the trees of a game stand: each is a phrase of the grammar there, and this stands above it.
 use Rattle.std.proofs.Common.{◌≡◌, ℕ, ◌+◌, ◌-◌, ◌<◌, ◌≤◌, true, false, Option, Some, None, refl, sym, ap, ap₂, subst, ◌∙◌, zero-add, add-zero, arith}
 use Rattle.std.proofs.lemmas.Bool.{both_ways}
-use Rattle.cv_syntax.specs.declared.head.Head.{Head}
-use Rattle.cv_syntax.specs.declared.head.Head.TheVariants.{Yield, Par, Out, Event, New, Let, If, Find, Branch, Cons, Key, Call}
-use Rattle.cv_syntax.specs.Head.{weight}
+use Rattle.cv_syntax_trees.specs.declared.head.Head.{Head}
+use Rattle.cv_syntax_trees.specs.declared.head.Head.TheVariants.{Yield, Par, Out, Event, New, Let, If, Find, Branch, Cons, Key, Call}
+use Rattle.cv_syntax_trees.specs.Head.{weight}
 use Rattle.cv_syntax.specs.Layouts.{IsSyntax}
-use Rattle.cv_syntax.specs.Tree.{Tree, Empty, Node, first, second, size, subtree, first_place, second_place}
+use Rattle.cv_syntax_trees.specs.Tree.{Tree, Empty, Node, first, second, size, subtree, first_place, second_place}
 use Rattle.cv_meaning_runs.specs.Placed.{IsPassedDown}
 use Rattle.cv_scope_rules.specs.Context.{Context, first_position, nothing_known, second_position}
 use Rattle.cv_scope_rules.specs.Phrases.{Phrase, Inputs, Body, Branches, Arm, Guards, Guarded, Binders, Cells, Term, is_oracle_phrase, oracle_parts}

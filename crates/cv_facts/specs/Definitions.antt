@@ -1,9 +1,9 @@
 -- The definitions of a variable in a game or context: inputs and branches that bind it, `new`, `let`, keys and calls. A
 -- variable's site is its only definition. Blanchet, TDSC 2008, section 2.
 use Rattle.std.specs.Prelude.{◌≡◌, ℕ, Bool, true, false, if◌then◌else◌, List, [], ◌∷◌, ◌++◌, map, Option, Some, None, option_and_then}
-use Rattle.cv_syntax.specs.declared.head.Head.{Head}
-use Rattle.cv_syntax.specs.declared.head.Head.TheVariants.{In, New, Let, Branch, Key, Call}
-use Rattle.cv_syntax.specs.Tree.{Tree, Empty, Node, first_place, second_place, subtree}
+use Rattle.cv_syntax_trees.specs.declared.head.Head.{Head}
+use Rattle.cv_syntax_trees.specs.declared.head.Head.TheVariants.{In, New, Let, Branch, Key, Call}
+use Rattle.cv_syntax_trees.specs.Tree.{Tree, Empty, Node, first_place, second_place, subtree}
 use Rattle.cv_directory.specs.Definitions as directory
 use Rattle.cv_scope_rules.specs.Context.{Context}
 use Rattle.cv_scope_rules.specs.Sites.{Variable}

@@ -1,6 +1,7 @@
 ghost use Rattle.std.specs.Prelude.{◌≡◌, ◌+◌, ◌<◌, ◌^◌, Some, length};
 ghost use Rattle.cv_pool.specs.Nodes.{ChildBelow};
-ghost use Rattle.cv_syntax.specs.Tree.{Node, second_place, size, tree_at};
+ghost use Rattle.cv_syntax_trees.specs.Tree.{Node, second_place, size};
+ghost use Rattle.cv_syntax.specs.PoolTrees.{tree_at};
 ghost use Rattle.cv_facts.specs.Definitions.{behind_at, body_place, can_define, process_place};
 
 use cv_path::{at, size_below};

@@ -1,7 +1,7 @@
 -- What is computed is the first fault in preorder, and there is none exactly where each node does what is asked of it.
 use Rattle.std.proofs.Common.{◌≡◌, ℕ, ◌+◌, ◌≤◌, Option, Some, None, refl, ap, subst, ◌∙◌, arith}
-use Rattle.cv_syntax.specs.declared.head.Head.{Head}
-use Rattle.cv_syntax.specs.Tree.{Tree, Empty, Node, size, first_place, second_place}
+use Rattle.cv_syntax_trees.specs.declared.head.Head.{Head}
+use Rattle.cv_syntax_trees.specs.Tree.{Tree, Empty, Node, size, first_place, second_place}
 use Rattle.cv_first_fault.specs.Walk.{Walk, IsDecided, IsObeyed, Faulty, here, in_first, in_second, IsFirst, first_of, placed, first_fault}
 
 pub none_first : {A : Type 0} (a b : Option A) → first_of a b ≡ None → (a ≡ None) × (b ≡ None)

@@ -1,8 +1,8 @@
 -- The first fault of a tree in preorder, where each node inherits a state from above and is faulty or not by itself.
 use Rattle.std.specs.Prelude.{◌≡◌, ◌≤◌, ℕ, Option, Some, None}
 use Rattle.std.specs.Option.{IfSome}
-use Rattle.cv_syntax.specs.declared.head.Head.{Head}
-use Rattle.cv_syntax.specs.Tree.{Tree, Empty, Node, first_place, second_place}
+use Rattle.cv_syntax_trees.specs.declared.head.Head.{Head}
+use Rattle.cv_syntax_trees.specs.Tree.{Tree, Empty, Node, first_place, second_place}
 pub use Rattle.cv_lists.specs.Options.{first_of}
 
 -- A walk: states that are inherited, and kinds of fault.

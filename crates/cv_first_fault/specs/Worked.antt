@@ -1,8 +1,8 @@
 -- A walk that counts the replications above a node, with small trees and their first faults.
 use Rattle.std.specs.Prelude.{◌≡◌, ℕ, ◌+◌, Bool, true, false, ◌&&◌, nat_lt, if◌then◌else◌, List, [], ◌∷◌, Option, Some, None}
-use Rattle.cv_syntax.specs.declared.head.Head.{Head}
-use Rattle.cv_syntax.specs.declared.head.Head.TheVariants.{Par, Repl, Stop}
-use Rattle.cv_syntax.specs.Tree.{Tree, Empty, Node, lone}
+use Rattle.cv_syntax_trees.specs.declared.head.Head.{Head}
+use Rattle.cv_syntax_trees.specs.declared.head.Head.TheVariants.{Par, Repl, Stop}
+use Rattle.cv_syntax_trees.specs.Tree.{Tree, Empty, Node, lone}
 use Rattle.cv_first_fault.specs.Walk.{Walk}
 
 abbrev pub is_replication : Head → Bool

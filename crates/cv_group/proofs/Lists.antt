@@ -5,14 +5,16 @@ use Rattle.std.proofs.lemmas.List.Elements.{All-head, All-tail}
 use Rattle.cv_pool.specs.declared.node.NodeId.{NodeId}
 use Rattle.cv_pool.specs.KindTree.{KindTree}
 use Rattle.cv_pool.specs.Nodes.{ChildBelow}
-use Rattle.cv_syntax.specs.declared.decls.Class.TheVariants as class
+use Rattle.cv_syntax_trees.specs.declared.class.Class.TheVariants as class
 use Rattle.cv_syntax.specs.declared.decls.Decl.{Decl}
 use Rattle.cv_syntax.specs.declared.decls.Decl.TheVariants as decl
-use Rattle.cv_syntax.specs.Children.{is_empty}
+use Rattle.cv_syntax_trees.specs.Children.{is_empty}
 use Rattle.cv_syntax.specs.Classes.{id_of, equiv_by, equiv_in, declaration_in}
 use Rattle.cv_syntax.specs.Classes as classes
-use Rattle.cv_syntax.specs.Declarations.{Declaration, declarations, declared, number, Named}
-use Rattle.cv_syntax.specs.Tree.{Tree, Empty, Node, tree_at}
+use Rattle.cv_syntax_trees.specs.Declarations.{Declaration, Named}
+use Rattle.cv_syntax.specs.Declarations.{declarations, declared, number}
+use Rattle.cv_syntax_trees.specs.Tree.{Tree, Empty, Node}
+use Rattle.cv_syntax.specs.PoolTrees.{tree_at}
 use Rattle.cv_meaning.specs.Interpretation.{is_constant_of}
 use Rattle.cv_directory.specs.Live.{IsLive}
 use Rattle.cv_group.specs.Tables.{constant_in, equiv_of}

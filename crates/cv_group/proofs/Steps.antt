@@ -1,7 +1,7 @@
 -- The rules on what functions bind and read, and on sides, from node to node.
 use Rattle.std.proofs.Common.{◌≡◌, ℕ, Bool, false, ◌||◌, ap}
-use Rattle.cv_syntax.specs.declared.head.Head.{Head}
-use Rattle.cv_syntax.specs.Tree.{Tree, Empty, Node}
+use Rattle.cv_syntax_trees.specs.declared.head.Head.{Head}
+use Rattle.cv_syntax_trees.specs.Tree.{Tree, Empty, Node}
 use Rattle.cv_group_rules.specs.Rules.{defines, defines_here, names_here, names_of, reads}
 use Rattle.cv_group_rules.specs.Faults.{group_fault}
 use Rattle.cv_group.specs.Tables.{function_names, sides_fault}

@@ -1,11 +1,12 @@
 -- What a check finds of constants, of what functions bind, and of the sides of an equivalence.
 use Rattle.std.specs.Prelude.{ℕ, Bool, ◌&&◌, ◌||◌, ◌==◌, List, Option, Some, None, if◌then◌else◌}
-use Rattle.cv_syntax.specs.declared.decls.Class.TheVariants as class
+use Rattle.cv_syntax_trees.specs.declared.class.Class.TheVariants as class
 use Rattle.cv_syntax.specs.declared.decls.Decl.{Decl}
 use Rattle.cv_syntax.specs.declared.decls.Decl.TheVariants as decl
 use Rattle.cv_syntax.specs.NameSets.{is_one_of}
-use Rattle.cv_syntax.specs.Tree.{Tree, bound_names, first, second, tree_at}
-use Rattle.cv_syntax.specs.Children.{is_empty}
+use Rattle.cv_syntax_trees.specs.Tree.{Tree, bound_names, first, second}
+use Rattle.cv_syntax.specs.PoolTrees.{tree_at}
+use Rattle.cv_syntax_trees.specs.Children.{is_empty}
 use Rattle.cv_pool.specs.KindTree.{KindTree}
 use Rattle.cv_meaning_contexts.specs.Groups.{bound_of}
 use Rattle.cv_group_shapes.specs.Shapes.{sides_agree}

@@ -1,7 +1,8 @@
 ghost use Rattle.std.specs.Prelude.{◌≡◌, [], length, IfOk, OnOk};
 ghost use Rattle.cv_pool.specs.Nodes.{ChildBelow};
 ghost use Rattle.cv_syntax.specs.NameSets.{is_in};
-ghost use Rattle.cv_syntax.specs.Tree.{first, second, tree_at};
+ghost use Rattle.cv_syntax_trees.specs.Tree.{first, second};
+ghost use Rattle.cv_syntax.specs.PoolTrees.{tree_at};
 ghost use Rattle.cv_group.specs.Tables.{around_by};
 ghost use Rattle.cv_group_bodies.specs.Levels.{around_of, is_paired};
 ghost use Rattle.cv_group_rules.specs.Rules as rule;

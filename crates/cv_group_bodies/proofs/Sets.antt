@@ -3,7 +3,7 @@ use Rattle.std.proofs.Common.{◌≡◌, ℕ, Bool, true, false, cond, ◌&&◌,
 use Rattle.std.specs.Prelude.{◌==◌}
 use Rattle.std.specs.HashSet.{Updates}
 use Rattle.cv_syntax.specs.NameSets.{NameSet, is_in}
-use Rattle.cv_directory.specs.Pairs.{same_pair}
+use Rattle.cv_directory_sorts.specs.Pairs.{same_pair}
 use Rattle.cv_group_bodies.specs.Levels.{PairSet, is_paired}
 
 -- s' is s with q, p is q with r

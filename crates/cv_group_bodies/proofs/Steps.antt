@@ -1,8 +1,8 @@
 -- The rules on cells, from node to node.
 use Rattle.std.proofs.Common.{◌≡◌, ℕ, Bool, true, false, ◌&&◌, ◌||◌, List, refl, ap, sym, ◌∙◌}
-use Rattle.cv_syntax.specs.declared.head.Head.{Head}
-use Rattle.cv_syntax.specs.declared.head.Head.TheVariants.{Read, Leaf}
-use Rattle.cv_syntax.specs.Tree.{Tree, Empty, Node}
+use Rattle.cv_syntax_trees.specs.declared.head.Head.{Head}
+use Rattle.cv_syntax_trees.specs.declared.head.Head.TheVariants.{Read, Leaf}
+use Rattle.cv_syntax_trees.specs.Tree.{Tree, Empty, Node}
 use Rattle.cv_meaning_contexts.specs.Made.{has_cell_at}
 use Rattle.cv_group_rules.specs.Rules.{Around, Level, are_cells, has_name, has_read, is_cell, is_name, is_read}
 use Rattle.cv_group_bodies.specs.Levels.{is_cell_at}

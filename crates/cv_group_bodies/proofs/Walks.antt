@@ -1,9 +1,9 @@
 -- Bodies, from node to node, with the levels that stand around.
 use Rattle.std.proofs.Common.{◌≡◌, Bool, true, false, ◌&&◌, List, ◌++◌, map, refl, ap, sym, ◌∙◌}
 use Rattle.std.proofs.lemmas.List.{map-append}
-use Rattle.cv_syntax.specs.declared.head.Head.{Head}
-use Rattle.cv_syntax.specs.declared.head.Head.TheVariants.{Leaf, Read}
-use Rattle.cv_syntax.specs.Tree.{Tree, Empty, Node}
+use Rattle.cv_syntax_trees.specs.declared.head.Head.{Head}
+use Rattle.cv_syntax_trees.specs.declared.head.Head.TheVariants.{Leaf, Read}
+use Rattle.cv_syntax_trees.specs.Tree.{Tree, Empty, Node}
 use Rattle.cv_group_bodies.specs.declared.levels.Level as code
 use Rattle.cv_group_bodies.specs.Levels.{HasBound, level_of, node_passes, term_passes}
 use Rattle.cv_group_rules.specs.Rules.{Around, Level, behind, is_bound, names_bound}

@@ -3,11 +3,11 @@ use Rattle.std.specs.Prelude.{◌≡◌, map, ℕ, Bool, false, true, ◌&&◌, 
 use Rattle.std.specs.HashSet.{HashSet, contains}
 use Rattle.std.specs.declared.hash.FoldHasher.{FoldHasher}
 use Rattle.std.specs.declared.hash.BuildHasherDefault.{BuildHasherDefault}
-use Rattle.cv_syntax.specs.declared.head.Head.{Head}
-use Rattle.cv_syntax.specs.declared.head.Head.TheVariants.{Branch, Leaf, Read}
+use Rattle.cv_syntax_trees.specs.declared.head.Head.{Head}
+use Rattle.cv_syntax_trees.specs.declared.head.Head.TheVariants.{Branch, Leaf, Read}
 use Rattle.cv_syntax.specs.NameSets.{is_in}
-use Rattle.cv_syntax.specs.Tree.{Tree, Node, first}
-use Rattle.cv_directory.specs.Pairs.{same_pair}
+use Rattle.cv_syntax_trees.specs.Tree.{Tree, Node, first}
+use Rattle.cv_directory_sorts.specs.Pairs.{same_pair}
 use Rattle.cv_meaning_contexts.specs.Made as made
 use Rattle.cv_group_rules.specs.Rules as rule
 use Rattle.cv_group_bodies.specs.declared.around.Around.{Around}

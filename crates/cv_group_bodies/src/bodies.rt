@@ -1,6 +1,6 @@
 ghost use Rattle.std.specs.Prelude.{◌≡◌, true, [], length, map, IfOk};
 ghost use Rattle.cv_pool.specs.Nodes.{ChildBelow};
-ghost use Rattle.cv_syntax.specs.Tree.{tree_at};
+ghost use Rattle.cv_syntax.specs.PoolTrees.{tree_at};
 ghost use Rattle.cv_group_bodies.specs.Levels.{HasBound, around_of, branch_passes, level_of, node_passes, term_passes};
 ghost use Rattle.cv_group_rules.specs.Rules as rule;
 

@@ -1,7 +1,7 @@
 ghost use Rattle.std.specs.Prelude.{◌≡◌, ◌||◌, ℕ, length, map, IfOk, OnOk};
 ghost use Rattle.cv_pool.specs.Nodes.{ChildBelow};
 ghost use Rattle.cv_syntax.specs.NameSets.{is_in};
-ghost use Rattle.cv_syntax.specs.Tree.{tree_at};
+ghost use Rattle.cv_syntax.specs.PoolTrees.{tree_at};
 ghost use Rattle.cv_meaning_contexts.specs.Made as made;
 ghost use Rattle.cv_group_bodies.specs.Levels.{around_of, is_cell_at, is_paired, level_of};
 ghost use Rattle.cv_group_rules.specs.Rules as rule;

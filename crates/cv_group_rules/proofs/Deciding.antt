@@ -1,7 +1,7 @@
 -- What is computed is the first rule that is broken, and the first equivalence that breaks one.
 use Rattle.std.proofs.Common.{◌≡◌, ℕ, suc, ◌+◌, Bool, true, false, cond, List, [], ◌∷◌, ◌++◌, length, refl, ap, sym, ◌∙◌, subst, arith, Option, Some, None}
 use Rattle.std.proofs.lemmas.Bool.{both_ways}
-use Rattle.cv_syntax.specs.Tree.{Tree}
+use Rattle.cv_syntax_trees.specs.Tree.{Tree}
 use Rattle.cv_group_rules.specs.Rules.{left_bodies_are_terms, branches_have_one_index, shapes_agree, names_are_bound, names_are_read}
 use Rattle.cv_group_rules.specs.Faults.{GroupRule, LeftIsTerm, OneIndex, SameShape, BoundNames, ReadNames, IsAccepted, IsFirstBroken, AreAccepted, IsFirstGroupFault, keeps, or_else, group_fault, later, refused_or, first_group_fault}
 

@@ -1,8 +1,8 @@
 -- The first rule that an equivalence breaks, and the first equivalence of a file that breaks one.
 use Rattle.std.specs.Prelude.{◌≡◌, ℕ, suc, ◌+◌, Bool, true, false, if◌then◌else◌, List, [], ◌∷◌, ◌++◌, length, Option, Some, None, option_map}
 use Rattle.std.specs.List.{AllByRecursion}
-use Rattle.cv_syntax.specs.Declarations.{Declaration, Equiv}
-use Rattle.cv_syntax.specs.Tree.{Tree}
+use Rattle.cv_syntax_trees.specs.Declarations.{Declaration, Equiv}
+use Rattle.cv_syntax_trees.specs.Tree.{Tree}
 use Rattle.cv_group_rules.specs.Rules.{left_bodies_are_terms, branches_have_one_index, shapes_agree, names_are_bound, names_are_read}
 
 -- the rules, in order

@@ -2,10 +2,10 @@
 -- That an index of a right body needs a cell of the function with its bound is this profile's own.
 use Rattle.std.specs.Prelude.{ℕ, Bool, true, false, ◌&&◌, ◌||◌, not, ◌==◌, if◌then◌else◌, List, [], ◌∷◌, ◌++◌, Option, Some, None}
 use Rattle.std.specs.List.{list_any}
-use Rattle.cv_syntax.specs.declared.head.Head.{Head}
-use Rattle.cv_syntax.specs.declared.head.Head.TheVariants.{New, Let, Branch, Leaf, Read, Apply, Eq, And, Or, Not, Yes, No, Binder, Bound, Single}
-use Rattle.cv_syntax.specs.Head.{same_head}
-use Rattle.cv_syntax.specs.Tree.{Tree, Empty, Node, first, second, bound_names, same_tree}
+use Rattle.cv_syntax_trees.specs.declared.head.Head.{Head}
+use Rattle.cv_syntax_trees.specs.declared.head.Head.TheVariants.{New, Let, Branch, Leaf, Read, Apply, Eq, And, Or, Not, Yes, No, Binder, Bound, Single}
+use Rattle.cv_syntax_trees.specs.Head.{same_head}
+use Rattle.cv_syntax_trees.specs.Tree.{Tree, Empty, Node, first, second, bound_names, same_tree}
 use Rattle.cv_syntax.specs.NameSets.{is_one_of}
 use Rattle.cv_meaning_contexts.specs.Groups.{Which, Left, Right, side_tree, bound_of}
 use Rattle.cv_meaning_contexts.specs.Made.{has_cell_at}

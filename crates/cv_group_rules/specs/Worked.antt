@@ -2,9 +2,9 @@
 -- Names are numbers: 20 to 29 are functions with their indices and bounds, 30 is a key, 31 to 35 are variables, 36 and 37 are
 -- indices of finds. 40 and 41 are functions, 6 is a constant.
 use Rattle.std.specs.Prelude.{ℕ, Bool, ◌==◌, List, [], ◌∷◌}
-use Rattle.cv_syntax.specs.declared.head.Head.TheVariants.{New, Let, Yes, No, Bound, Single}
-use Rattle.cv_syntax.specs.Tree.{Tree, Empty, Node, lone}
-use Rattle.cv_syntax.specs.Builders.{leaf, read, branch, find}
+use Rattle.cv_syntax_trees.specs.declared.head.Head.TheVariants.{New, Let, Yes, No, Bound, Single}
+use Rattle.cv_syntax_trees.specs.Tree.{Tree, Empty, Node, lone}
+use Rattle.cv_syntax_trees.specs.Builders.{leaf, read, branch, find}
 use Rattle.cv_meaning_contexts.specs.Worked.{any_put, apply, argument_at, equal, equivalence, group, oracle, test}
 
 abbrev pub is_six : ℕ → Bool

@@ -2,9 +2,9 @@
 #![tactic(auto)]
 
 ghost use Rattle.std.specs.Prelude.{◌≡◌, ◌↔◌, ℕ, Bool, true, false, [], ◌∷◌, List, None, Some};
-ghost use Rattle.cv_syntax.specs.declared.head.Head.TheVariants.{Bound, New, No, Single, Yes};
-ghost use Rattle.cv_syntax.specs.Tree.{Empty, Node, Tree, lone};
-ghost use Rattle.cv_syntax.specs.Builders.{branch, find, leaf, read};
+ghost use Rattle.cv_syntax_trees.specs.declared.head.Head.TheVariants.{Bound, New, No, Single, Yes};
+ghost use Rattle.cv_syntax_trees.specs.Tree.{Empty, Node, Tree, lone};
+ghost use Rattle.cv_syntax_trees.specs.Builders.{branch, find, leaf, read};
 ghost use Rattle.cv_meaning_contexts.specs.Worked.{any_put, argument_at, authentication_equivalence, bound_or_not, encryption_equivalence, equal, equivalence, group, guess_equivalence, oracle, test, two_alike};
 ghost use Rattle.cv_group_rules.specs.Faults.{AreAccepted, BoundNames, GroupRule, IsAccepted, IsFirstBroken, IsFirstGroupFault, LeftIsTerm, OneIndex, ReadNames, SameShape, first_group_fault, group_fault};
 ghost use Rattle.cv_group_rules.specs.Worked.{alone, defining, getting, is_six, putting, replaced, sealed, search};

@@ -1,10 +1,10 @@
 -- The rules, from node to node.
 use Rattle.std.proofs.Common.{◌≡◌, ℕ, Bool, true, false, ◌&&◌, [], ◌∷◌, refl, ap, sym, ◌∙◌}
-use Rattle.cv_syntax.specs.declared.head.Head.{Head}
-use Rattle.cv_syntax.specs.Tree.{Tree, Empty, Node, first}
+use Rattle.cv_syntax_trees.specs.declared.head.Head.{Head}
+use Rattle.cv_syntax_trees.specs.Tree.{Tree, Empty, Node, first}
 use Rattle.cv_meaning_contexts.specs.Groups.{bound_of}
 use Rattle.cv_group_rules.specs.Rules.{all_agree, bounds, each_function, functions_agree, has_one_index, have_one_index}
-use Rattle.cv_syntax.specs.Children.{is_empty}
+use Rattle.cv_syntax_trees.specs.Children.{is_empty}
 
 -- a conjunction whose first part is decided
 pub and-false : (x : Bool) (b r total : Bool) → x ≡ (b && r) → x ≡ total → b ≡ false → false ≡ total

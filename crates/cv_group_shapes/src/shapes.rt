@@ -1,6 +1,7 @@
 ghost use Rattle.std.specs.Prelude.{◌≡◌, length, IfOk};
 ghost use Rattle.cv_pool.specs.Nodes.{ChildBelow};
-ghost use Rattle.cv_syntax.specs.Tree.{second, tree_at};
+ghost use Rattle.cv_syntax_trees.specs.Tree.{second};
+ghost use Rattle.cv_syntax.specs.PoolTrees.{tree_at};
 ghost use Rattle.cv_meaning_contexts.specs.Groups.{bound_of};
 ghost use Rattle.cv_group_shapes.specs.Shapes.{sides_agree};
 ghost use Rattle.cv_group_rules.specs.Rules as rule;
@@ -130,7 +131,7 @@ fn functions_agree(pool: &Pool, left: Option<NodeId>, right: Option<NodeId>) -> 
     };
     let x = read_node(pool, m);
     let y = read_node(pool, n);
-    x.head.kind() == y.head.kind() && take_alike(pool, x.first, y.first)
+    x.head.code() == y.head.code() && take_alike(pool, x.first, y.first)
 }
 
 /// Whether the functions of two lists agree, one by one.

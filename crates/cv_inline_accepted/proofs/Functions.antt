@@ -1,9 +1,9 @@
 -- The functions of the right side of an accepted equivalence.
 use Rattle.std.proofs.Common.{◌≡◌, ℕ, zero, suc, Bool, true, false, cond, ◌&&◌, ◌||◌, ◌==◌, List, [], ◌∷◌, ◌⊎◌, inl, inr, slice_get, Option, Some, None, refl, sym, ap, subst, ◌∙◌, eq-eqb}
 use Rattle.std.proofs.lemmas.Bool.{and_parts, both_ways, or_left, or_right}
-use Rattle.cv_syntax.specs.declared.head.Head.TheVariants.{Binder}
+use Rattle.cv_syntax_trees.specs.declared.head.Head.TheVariants.{Binder}
 use Rattle.cv_syntax.specs.NameSets.{is_one_of}
-use Rattle.cv_syntax.specs.Tree.{Tree, Empty, Node, bound_names, first, second}
+use Rattle.cv_syntax_trees.specs.Tree.{Tree, Empty, Node, bound_names, first, second}
 use Rattle.cv_meaning.specs.Correspondences.{typed_names}
 use Rattle.cv_meaning_contexts.specs.Groups.{Function, Right, bound_of, function_at, function_of, functions_of, key_of, side_group}
 use Rattle.cv_group_rules.specs.Faults.{BoundNames, IsAccepted}

@@ -1,8 +1,8 @@
 -- What is drawn for the sites of a right side, as the text of its bodies asks for it. This profile's own.
 use Rattle.std.specs.Prelude.{◌≡◌, ℕ, suc, Bool, true, false, ◌==◌, List, [], ◌∷◌, ◌++◌, flat_map}
 use Rattle.std.specs.List.{AllByRecursion}
-use Rattle.cv_syntax.specs.declared.head.Head.TheVariants.{Branch, Cons, Binder, Find}
-use Rattle.cv_syntax.specs.Tree.{Tree, Empty, Node, first_place, second_place}
+use Rattle.cv_syntax_trees.specs.declared.head.Head.TheVariants.{Branch, Cons, Binder, Find}
+use Rattle.cv_syntax_trees.specs.Tree.{Tree, Empty, Node, first_place, second_place}
 use Rattle.cv_group_rules.specs.Rules.{names_of}
 use Rattle.cv_meaning_contexts.specs.Groups.{Function}
 use Rattle.cv_meaning_contexts.specs.Inlined.{Caller}

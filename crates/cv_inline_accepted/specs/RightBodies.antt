@@ -1,8 +1,8 @@
 -- What the grammar of files has of bodies on the right: `new`, `let`, `if` and `find` around terms. Blanchet and Pointcheval, CRYPTO
 -- 2006.
 use Rattle.std.specs.Prelude.{ℕ, Bool, true, false, ◌&&◌, List, [], ◌∷◌}
-use Rattle.cv_syntax.specs.declared.head.Head.TheVariants.{Leaf, Read, Apply, Eq, And, Or, Not, Yes, No, Cons, Binder, Branch, New, Let, If, Find}
-use Rattle.cv_syntax.specs.Tree.{Tree, Empty, Node, first, second}
+use Rattle.cv_syntax_trees.specs.declared.head.Head.TheVariants.{Leaf, Read, Apply, Eq, And, Or, Not, Yes, No, Cons, Binder, Branch, New, Let, If, Find}
+use Rattle.cv_syntax_trees.specs.Tree.{Tree, Empty, Node, first, second}
 
 -- terms, and lists of terms
 unfoldable mutual

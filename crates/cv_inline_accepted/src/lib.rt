@@ -2,7 +2,7 @@
 #![tactic(auto)]
 
 ghost use Rattle.std.specs.Prelude.{◌≡◌, ℕ, Bool, List, Some, [], ◌∷◌, true};
-ghost use Rattle.cv_syntax.specs.Tree.{Tree, second};
+ghost use Rattle.cv_syntax_trees.specs.Tree.{Tree, second};
 ghost use Rattle.cv_meaning_contexts.specs.Groups.{Function, Right, function_at, side_group};
 ghost use Rattle.cv_meaning_contexts.specs.Worked.{
   authentication_equivalence,

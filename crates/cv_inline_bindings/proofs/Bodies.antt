@@ -1,7 +1,7 @@
 -- The rows of equivalences bind names that stand bare and are not barred.
 use Rattle.std.proofs.Common.{◌≡◌, ℕ, Bool, true, not, List, [], ◌∷◌, Option, Some, None, refl}
 use Rattle.std.specs.List.{AllByRecursion}
-use Rattle.cv_syntax.specs.Tree.{Tree, Empty, binders, first, second}
+use Rattle.cv_syntax_trees.specs.Tree.{Tree, Empty, binders, first, second}
 use Rattle.cv_parse_notation.specs.declared.sign.Mark.{Mark}
 use Rattle.cv_parse_notation.specs.Form.{Form}
 use Rattle.cv_parse_grammar.specs.declared.role.Role.{Role}

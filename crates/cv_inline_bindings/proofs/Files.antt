@@ -2,8 +2,8 @@
 use Rattle.std.proofs.Common.{◌≡◌, ◌==◌, ℕ, Bool, false, List, [], ◌∷◌, Option, Ok, ap, sym, subst, ◌∙◌}
 use Rattle.std.proofs.lemmas.Bool.{not_from_false, or_parts}
 use Rattle.std.specs.List.{AllByRecursion}
-use Rattle.cv_syntax.specs.Declarations.{Declaration, Named, Equation, Equiv, Query}
-use Rattle.cv_syntax.specs.Tree.{Tree, second}
+use Rattle.cv_syntax_trees.specs.Declarations.{Declaration, Named, Equation, Equiv, Query}
+use Rattle.cv_syntax_trees.specs.Tree.{Tree, second}
 use Rattle.cv_meaning.specs.Interpretation.{is_constant_of}
 use Rattle.cv_parse_notation.specs.declared.sign.Sign.{Sign}
 use Rattle.cv_parse_grammar.specs.Files.{levels}

@@ -2,9 +2,9 @@
 use Rattle.std.proofs.Common.{◌≡◌, ℕ, Bool, true, false, ◌&&◌, List, [], ◌∷◌, Option, Some, None, refl}
 use Rattle.std.proofs.lemmas.Bool.{and_from, both_ways}
 use Rattle.std.specs.List.{AllByRecursion}
-use Rattle.cv_syntax.specs.declared.head.Head.{Head}
-use Rattle.cv_syntax.specs.declared.head.Head.TheVariants.{Binder, New}
-use Rattle.cv_syntax.specs.Tree.{Tree, Empty, Node, chain}
+use Rattle.cv_syntax_trees.specs.declared.head.Head.{Head}
+use Rattle.cv_syntax_trees.specs.declared.head.Head.TheVariants.{Binder, New}
+use Rattle.cv_syntax_trees.specs.Tree.{Tree, Empty, Node, chain}
 use Rattle.cv_scope_rules.specs.Phrases.{Binders, Body, Nil, Phrase, binds_none, head_binds_none, is_phrase, parts}
 use Rattle.cv_parse_laws.specs.Shapes.{IsShaped}
 use Rattle.cv_parse_laws.proofs.Shaping.{opened}

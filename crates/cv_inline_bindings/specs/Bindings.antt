@@ -1,6 +1,6 @@
 -- What the grammar of files and its rules of names give of each name that a right side binds. This profile's own.
 use Rattle.std.specs.Prelude.{◌≡◌, ℕ, Bool, true}
-use Rattle.cv_syntax.specs.Tree.{Tree}
+use Rattle.cv_syntax_trees.specs.Tree.{Tree}
 use Rattle.cv_scope_rules.specs.Phrases.{binds_none}
 use Rattle.cv_inline_covered.specs.Covered.{names_stand_bare}
 

@@ -3,8 +3,8 @@ use Rattle.std.proofs.Common.{◌≡◌, ℕ, zero, suc, ◌+◌, ◌-◌, ◌�
 use Rattle.std.proofs.Math.Nat.{le-max_left, le-max_right, max-le}
 use Rattle.std.proofs.lemmas.Bool.{both_ways, and_parts}
 use Rattle.std.specs.List.{AllByRecursion}
-use Rattle.cv_syntax.specs.declared.head.Head.TheVariants.{Cons, Branch, Binder}
-use Rattle.cv_syntax.specs.Tree.{Tree, Empty, Node, binders}
+use Rattle.cv_syntax_trees.specs.declared.head.Head.TheVariants.{Cons, Branch, Binder}
+use Rattle.cv_syntax_trees.specs.Tree.{Tree, Empty, Node, binders}
 use Rattle.cv_meaning.specs.Side.{CallNumber}
 use Rattle.cv_meaning.specs.Binders.{binder_count, widest_binder}
 use Rattle.cv_meaning.specs.Candidates.{tuples_up_to, most_indices, widest}

@@ -2,8 +2,8 @@
 use Rattle.std.proofs.Common.{◌≡◌, ℕ, suc, ◌+◌, ◌<◌, ◌≤◌, Bool, true, false, cond, ◌||◌, ◌&&◌, not, ◌==◌, List, [], ◌∷◌, ◌⊎◌, inl, inr, Some, None, refl, sym, ap, ap₂, subst, ◌∙◌, map, filter, length, is_some, eq-eqb, eqb-true, nat_lt, arith}
 use Rattle.std.proofs.lemmas.Bool.{both_ways, and_parts}
 use Rattle.std.specs.List.{AllByRecursion}
-use Rattle.cv_syntax.specs.declared.head.Head.TheVariants.{Leaf, Read, Cons}
-use Rattle.cv_syntax.specs.Tree.{Tree, Empty, Node, lone, binders, binds, same_tree}
+use Rattle.cv_syntax_trees.specs.declared.head.Head.TheVariants.{Leaf, Read, Cons}
+use Rattle.cv_syntax_trees.specs.Tree.{Tree, Empty, Node, lone, binders, binds, same_tree}
 use Rattle.cv_meaning.specs.Interpretation.{Setting}
 use Rattle.cv_meaning.specs.Memory.{Store, Indices, tuple, put}
 use Rattle.cv_meaning.specs.Terms.{or_zero, found_in, leaf_value_from, leaf_value, value, values}

@@ -1,8 +1,8 @@
 -- The candidates of the next game's find correspond, in order, to those of the side.
 use Rattle.std.proofs.Common.{◌≡◌, ℕ, zero, suc, ◌+◌, ◌≤◌, Bool, true, false, cond, if◌then◌else◌, ◌==◌, List, [], ◌∷◌, ◌++◌, ◌⊎◌, inl, inr, Option, Some, None, refl, sym, ap, subst, ◌∙◌, flat_map, length, slice_get, ◌%◌, append_assoc, arith}
 use Rattle.std.proofs.lemmas.Bool.{both_ways}
-use Rattle.cv_syntax.specs.declared.head.Head.TheVariants.{Cons, Branch, Binder}
-use Rattle.cv_syntax.specs.Tree.{Tree, Empty, Node, second, binders}
+use Rattle.cv_syntax_trees.specs.declared.head.Head.TheVariants.{Cons, Branch, Binder}
+use Rattle.cv_syntax_trees.specs.Tree.{Tree, Empty, Node, second, binders}
 use Rattle.cv_meaning.specs.Tapes.{Tape}
 use Rattle.cv_meaning.specs.Side.{CallNumber}
 use Rattle.cv_meaning.specs.Memory.{Store, Local, tuple}

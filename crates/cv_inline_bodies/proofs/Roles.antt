@@ -1,8 +1,8 @@
 -- What a name is drawn for: so drawn names differ from each other and from the names of the game.
 use Rattle.std.proofs.Common.{◌≡◌, ℕ, suc, ◌+◌, ◌<◌, ◌≤◌, length, Bool, true, false, ◌||◌, ◌&&◌, not, ◌==◌, List, [], ◌∷◌, refl, sym, ap, ap₂, ◌∙◌, eq-eqb, eqb-true, nat_lt, ltb-true, lt-ltb, le-ltb, arith}
 use Rattle.std.proofs.lemmas.Bool.{both_ways, and_parts}
-use Rattle.cv_syntax.specs.declared.head.Head.TheVariants.{Leaf, Read}
-use Rattle.cv_syntax.specs.Tree.{Tree, Empty, Node, binders, binds, reads_only}
+use Rattle.cv_syntax_trees.specs.declared.head.Head.TheVariants.{Leaf, Read}
+use Rattle.cv_syntax_trees.specs.Tree.{Tree, Empty, Node, binders, binds, reads_only}
 use Rattle.cv_meaning_contexts.specs.Inlined.{branch_indices}
 use Rattle.cv_meaning_contexts.specs.Roles.{Role, Plain, Replication, Gone, TheKeyName, Variable, Index, is_plain, is_elsewhere, is_seen, is_kept}
 use Rattle.cv_inline_bodies.specs.Inlining.{Inlining, Naming, plain, elsewhere, seen, kept}

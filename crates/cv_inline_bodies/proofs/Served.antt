@@ -1,6 +1,6 @@
 -- A body, and a call, that is served comes to what follows it.
 use Rattle.std.proofs.Common.{◌≡◌, ℕ, List, [], ◌∷◌, Some, refl, sym, ap, subst, ◌∙◌}
-use Rattle.cv_syntax.specs.Tree.{Tree}
+use Rattle.cv_syntax_trees.specs.Tree.{Tree}
 use Rattle.cv_meaning.specs.Side.{Arrays, OracleCall, OracleAnswer}
 use Rattle.cv_meaning.specs.Memory.{Store, Happened}
 use Rattle.cv_meaning.specs.Serving.{Served, serve}

@@ -1,7 +1,7 @@
 -- Stores that agree at all names but those that are assigned.
 use Rattle.std.proofs.Common.{◌≡◌, ℕ, Bool, true, false, cond, ◌&&◌, ◌==◌, List, ◌∷◌, Some, refl, sym, ap, ◌∙◌}
-use Rattle.cv_syntax.specs.declared.head.Head.TheVariants.{Binder}
-use Rattle.cv_syntax.specs.Tree.{Tree, Node, binds}
+use Rattle.cv_syntax_trees.specs.declared.head.Head.TheVariants.{Binder}
+use Rattle.cv_syntax_trees.specs.Tree.{Tree, Node, binds}
 use Rattle.cv_meaning.specs.Tapes.{same_tuple}
 use Rattle.cv_meaning.specs.Memory.{Store, put}
 use Rattle.cv_meaning.specs.Binders.{bound_to}

@@ -1,7 +1,7 @@
 -- The value of a body's term at a call is that of its text in the next game.
 use Rattle.std.proofs.Common.{◌≡◌, ℕ, zero, suc, Bool, true, false, cond, ◌||◌, ◌&&◌, not, ◌==◌, List, [], ◌∷◌, Option, Some, None, refl, sym, ap, ap₂, subst, ◌∙◌, length, is_some, eq-eqb, eqb-true, arith}
-use Rattle.cv_syntax.specs.declared.head.Head.TheVariants.{Leaf, Read, Apply, Eq, And, Or, Not, Yes, No, Cons}
-use Rattle.cv_syntax.specs.Tree.{Tree, Empty, Node, lone, first}
+use Rattle.cv_syntax_trees.specs.declared.head.Head.TheVariants.{Leaf, Read, Apply, Eq, And, Or, Not, Yes, No, Cons}
+use Rattle.cv_syntax_trees.specs.Tree.{Tree, Empty, Node, lone, first}
 use Rattle.cv_meaning.specs.Tapes.{same_tuple}
 use Rattle.cv_meaning.specs.Side.{CallNumber}
 use Rattle.cv_meaning.specs.Memory.{Store}

@@ -3,8 +3,8 @@
 use Rattle.std.proofs.Common.{◌≡◌, ℕ, ◌+◌, ◌≤◌, arith, Bool, true, false, cond, ◌||◌, ◌&&◌, ◌==◌, List, inl, inr, Option, Some, None, refl, sym, ap, ap₂, subst, ◌∙◌, map, length, is_some}
 use Rattle.std.proofs.lemmas.Bool.{both_ways}
 use Rattle.std.specs.List.{AllByRecursion}
-use Rattle.cv_syntax.specs.declared.head.Head.TheVariants.{Leaf, Read, Cons}
-use Rattle.cv_syntax.specs.Tree.{Tree, Empty, Node, first, binders}
+use Rattle.cv_syntax_trees.specs.declared.head.Head.TheVariants.{Leaf, Read, Cons}
+use Rattle.cv_syntax_trees.specs.Tree.{Tree, Empty, Node, first, binders}
 use Rattle.cv_meaning.specs.Tapes.{same_tuple}
 use Rattle.cv_meaning.specs.Side.{CallNumber}
 use Rattle.cv_meaning.specs.Memory.{Store, tuple}

@@ -1,8 +1,8 @@
 -- Right bodies, and keys of calls, that can stand in a game. This profile's own.
 use Rattle.std.specs.Prelude.{◌≡◌, ℕ, suc, Bool, true, false, ◌==◌, ◌&&◌, ◌||◌, List, [], ◌∷◌, ◌⊎◌, Option, Some, None}
 use Rattle.std.specs.List.{AllByRecursion}
-use Rattle.cv_syntax.specs.declared.head.Head.TheVariants.{Leaf, Read, Apply, Eq, And, Or, Not, Cons, Binder, Branch, New, Let, If, Find}
-use Rattle.cv_syntax.specs.Tree.{Tree, Empty, Node, first, first_place, second_place}
+use Rattle.cv_syntax_trees.specs.declared.head.Head.TheVariants.{Leaf, Read, Apply, Eq, And, Or, Not, Cons, Binder, Branch, New, Let, If, Find}
+use Rattle.cv_syntax_trees.specs.Tree.{Tree, Empty, Node, first, first_place, second_place}
 use Rattle.cv_meaning_contexts.specs.Bodies.{body_place}
 use Rattle.cv_meaning_contexts.specs.Made.{has_cell_at}
 use Rattle.cv_meaning_contexts.specs.Inlined.{Caller, Standing, Own, Scope, standing_of, call_in, index_terms, with_call_of}

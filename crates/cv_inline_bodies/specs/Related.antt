@@ -1,7 +1,7 @@
 -- What a side has of its calls, and what the next game has in place of them. This profile's own.
 use Rattle.std.specs.Prelude.{◌≡◌, ℕ, Bool, true, false, ◌==◌, if◌then◌else◌, List, [], ◌∷◌, map, length, is_some, Option, Some, None}
 use Rattle.std.specs.List.{AllByRecursion}
-use Rattle.cv_syntax.specs.Tree.{Tree, reads_only}
+use Rattle.cv_syntax_trees.specs.Tree.{Tree, reads_only}
 use Rattle.cv_meaning.specs.Tapes.{Tape, New_at, Find_at, Made_at, Picked_at, Key_at, same_tuple}
 use Rattle.cv_meaning.specs.Side.{CallNumber, Arrays, OracleAnswer}
 use Rattle.cv_meaning.specs.Memory.{Store, Happened, Indices, Local, tuple, put}

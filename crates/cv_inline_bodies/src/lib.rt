@@ -2,7 +2,7 @@
 #![tactic(auto)]
 
 ghost use Rattle.std.specs.Prelude.{◌≡◌, ℕ, List, [], ◌∷◌, Some};
-ghost use Rattle.cv_syntax.specs.Tree.{Tree};
+ghost use Rattle.cv_syntax_trees.specs.Tree.{Tree};
 ghost use Rattle.cv_meaning.specs.Side.{Arrays, OracleCall};
 ghost use Rattle.cv_meaning.specs.Memory.{Happened, Store};
 ghost use Rattle.cv_meaning.specs.Terms.{value};

@@ -1,8 +1,8 @@
 -- Equations between keys, one by one; and the indices of a branch by name.
 use Rattle.std.proofs.Common.{◌≡◌, ℕ, suc, List, [], ◌∷◌, refl, ap, ap₂, subst, ◌∙◌}
-use Rattle.cv_syntax.specs.declared.head.Head.{Head}
-use Rattle.cv_syntax.specs.declared.head.Head.TheVariants.{And, Cons, Eq}
-use Rattle.cv_syntax.specs.Tree.{Tree, Empty, Node}
+use Rattle.cv_syntax_trees.specs.declared.head.Head.{Head}
+use Rattle.cv_syntax_trees.specs.declared.head.Head.TheVariants.{And, Cons, Eq}
+use Rattle.cv_syntax_trees.specs.Tree.{Tree, Empty, Node}
 use Rattle.cv_meaning_contexts.specs.Inlined.{all_equal, branch_indices, index_moves, moved, read_at}
 use Rattle.cv_inline_terms.specs.Stacks.{names_from}
 use Rattle.cv_inline_branches.specs.Moves.{IsList, binders_by, moves_by}

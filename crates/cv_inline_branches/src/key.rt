@@ -1,6 +1,6 @@
 ghost use Rattle.std.specs.Prelude.{◌≡◌, ◌∷◌, IfOk, length};
 ghost use Rattle.cv_pool.specs.Nodes.{ChildBelow};
-ghost use Rattle.cv_syntax.specs.Tree.{tree_at};
+ghost use Rattle.cv_syntax.specs.PoolTrees.{tree_at};
 ghost use Rattle.cv_meaning_contexts.specs.Inlined as bodies;
 ghost use Rattle.cv_meaning_contexts.specs.Inlined.{all_equal, index_terms};
 ghost use Rattle.cv_inline_terms.specs.Callers.{IsLiveCaller, caller_in};

@@ -1,6 +1,7 @@
 ghost use Rattle.std.specs.Prelude.{◌≡◌, ◌∷◌, ◌++◌, All, IfOk, filter, length, map, not};
 ghost use Rattle.cv_pool.specs.Nodes.{ChildBelow};
-ghost use Rattle.cv_syntax.specs.Tree.{same_tree, tree_at};
+ghost use Rattle.cv_syntax_trees.specs.Tree.{same_tree};
+ghost use Rattle.cv_syntax.specs.PoolTrees.{tree_at};
 ghost use Rattle.cv_meaning_contexts.specs.Inlined as bodies;
 ghost use Rattle.cv_meaning_contexts.specs.Inlined.{is_index_of};
 ghost use Rattle.cv_inline_branches.specs.Cells.{IsLiveCell, cell_tree};
@@ -62,7 +63,7 @@ fn add_needed(
 }
 
 /// Whether two cells are one.
-#[tactic(auto, unfolding(cv_syntax::specs::Tree::same_tree))]
+#[tactic(auto, unfolding(cv_syntax_trees::specs::Tree::same_tree))]
 fn are_same(pool: &Pool, a: Cell, b: Cell) -> bool
     requires a { IsLiveCell (length pool.now.trees) a }
     requires b { IsLiveCell (length pool.now.trees) b }

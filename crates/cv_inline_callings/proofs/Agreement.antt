@@ -1,7 +1,7 @@
 -- The functions of sides that agree in shape.
 use Rattle.std.proofs.Common.{◌≡◌, true, false, refl}
 use Rattle.std.proofs.lemmas.Bool.{and_parts, both_ways}
-use Rattle.cv_syntax.specs.Tree.{Tree, Empty, Node, second}
+use Rattle.cv_syntax_trees.specs.Tree.{Tree, Empty, Node, second}
 use Rattle.cv_group_rules.specs.Rules.{all_agree, functions_agree, groups_agree, same_bound, shapes_agree}
 use Rattle.cv_inline_callings.specs.RightFunctions.{AreNodes, HasRightFunctions}
 

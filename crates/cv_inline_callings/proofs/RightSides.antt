@@ -5,8 +5,9 @@ use Rattle.std.proofs.lemmas.List.Elements.{All-push}
 use Rattle.cv_pool.specs.declared.node.NodeId.{NodeId}
 use Rattle.cv_pool.specs.KindTree.{KindTree}
 use Rattle.cv_pool.specs.Nodes.{ChildBelow}
-use Rattle.cv_syntax.specs.declared.head.Head.{Head}
-use Rattle.cv_syntax.specs.Tree.{Tree, Empty, Node, size, tree_at}
+use Rattle.cv_syntax_trees.specs.declared.head.Head.{Head}
+use Rattle.cv_syntax_trees.specs.Tree.{Tree, Empty, Node, size}
+use Rattle.cv_syntax.specs.PoolTrees.{tree_at}
 use Rattle.cv_syntax.proofs.Walking.{below-some, size-node}
 use Rattle.cv_meaning_contexts.specs.Groups.{Function, function_of, functions_of}
 use Rattle.cv_inline_callings.specs.RightFunctions.{AreNodes, IsLiveFunction, function_in}

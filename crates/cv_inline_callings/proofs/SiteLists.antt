@@ -9,7 +9,7 @@ use Rattle.std.proofs.lemmas.List.Elements.{All-from_recursion}
 use Rattle.std.proofs.lemmas.Option.{slice_get-map, slice_get_past, slice_get_read}
 use Rattle.cv_pool.specs.declared.node.NodeId.{NodeId}
 use Rattle.cv_pool.specs.KindTree.{KindTree}
-use Rattle.cv_syntax.specs.Tree.{Tree, Empty, Node, first, second, size}
+use Rattle.cv_syntax_trees.specs.Tree.{Tree, Empty, Node, first, second, size}
 use Rattle.cv_meaning_contexts.specs.Groups.{Function, Group, function_at}
 use Rattle.cv_inline_branches.specs.Moves.{IsList}
 use Rattle.cv_inline_games.specs.NextGame as game

@@ -2,7 +2,8 @@
 use Rattle.std.specs.Prelude.{ℕ, ◌<◌, ◌^◌, ◌++◌, List, length, map, Some}
 use Rattle.cv_pool.specs.declared.node.NodeId.{NodeId}
 use Rattle.cv_pool.specs.KindTree.{KindTree}
-use Rattle.cv_syntax.specs.Tree.{Tree, Empty, Node, second, size, tree_at}
+use Rattle.cv_syntax_trees.specs.Tree.{Tree, Empty, Node, second, size}
+use Rattle.cv_syntax.specs.PoolTrees.{tree_at}
 use Rattle.cv_meaning_contexts.specs.Groups.{Function, Right, function_of, side_tree}
 use Rattle.cv_inline_games.specs.NextGame.{names_assigned}
 

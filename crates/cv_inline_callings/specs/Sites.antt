@@ -2,7 +2,8 @@
 use Rattle.std.specs.Prelude.{ℕ, [], IfSome, List, length, map, slice_get}
 use Rattle.cv_pool.specs.declared.node.NodeId.{NodeId}
 use Rattle.cv_pool.specs.KindTree.{KindTree}
-use Rattle.cv_syntax.specs.Tree.{Tree, first, tree_at}
+use Rattle.cv_syntax_trees.specs.Tree.{Tree, first}
+use Rattle.cv_syntax.specs.PoolTrees.{tree_at}
 use Rattle.cv_inline_branches.specs.Moves.{IsList}
 use Rattle.cv_inline_games.specs.NextGame as game
 use Rattle.cv_inline_games.specs.NextGame.{call_of, calling}

@@ -1,5 +1,6 @@
 ghost use Rattle.std.specs.Prelude.{◌≡◌, ◌∷◌, ◌++◌, ◌<◌, ◌^◌, [], All, IfOk, OnOk, Some, length};
-ghost use Rattle.cv_syntax.specs.Tree.{size, tree_at};
+ghost use Rattle.cv_syntax_trees.specs.Tree.{size};
+ghost use Rattle.cv_syntax.specs.PoolTrees.{tree_at};
 ghost use Rattle.cv_meaning_contexts.specs.Groups.{Right, side_group};
 ghost use Rattle.cv_inline_games.specs.NextGame.{calling, callings_from};
 ghost use Rattle.cv_inline_terms.specs.Callers.{HasLiveCaller};

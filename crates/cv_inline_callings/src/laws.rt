@@ -1,5 +1,5 @@
 ghost use Rattle.std.specs.Prelude.{◌≡◌, ℕ, Bool, true};
-ghost use Rattle.cv_syntax.specs.Tree.{Tree};
+ghost use Rattle.cv_syntax_trees.specs.Tree.{Tree};
 ghost use Rattle.cv_group_rules.specs.Rules.{shapes_agree};
 ghost use Rattle.cv_meaning_contexts.specs.KeyTerms.{AreFineKeyTerms};
 ghost use Rattle.cv_inline_branches.specs.Moves.{IsList};

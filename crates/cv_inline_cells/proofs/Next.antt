@@ -2,9 +2,9 @@
 use Rattle.std.proofs.Common.{◌≡◌, ℕ, zero, suc, ◌+◌, ◌<◌, Bool, true, false, cond, ◌==◌, List, [], ◌∷◌, map, length, Option, Some, None, refl, subst, arith}
 use Rattle.std.proofs.lemmas.Bool.{both_ways}
 use Rattle.std.specs.List.{AllByRecursion}
-use Rattle.cv_syntax.specs.declared.head.Head.{Head}
-use Rattle.cv_syntax.specs.declared.head.Head.TheVariants.{In, Out, Event, New, Let, If, Find, Branch, Leaf, Read, No, Cons, Binder, Key, Call}
-use Rattle.cv_syntax.specs.Tree.{Tree, Empty, Node, binders, first_place, lone, second, second_place}
+use Rattle.cv_syntax_trees.specs.declared.head.Head.{Head}
+use Rattle.cv_syntax_trees.specs.declared.head.Head.TheVariants.{In, Out, Event, New, Let, If, Find, Branch, Leaf, Read, No, Cons, Binder, Key, Call}
+use Rattle.cv_syntax_trees.specs.Tree.{Tree, Empty, Node, binders, first_place, lone, second, second_place}
 use Rattle.cv_meaning.specs.Cells.{bounds_under}
 use Rattle.cv_meaning_contexts.specs.Bodies.{body_place}
 use Rattle.cv_meaning_contexts.specs.Roles.{Plain}

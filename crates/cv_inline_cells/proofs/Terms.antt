@@ -2,9 +2,9 @@
 use Rattle.std.proofs.Common.{◌≡◌, ℕ, suc, Bool, true, false, cond, not, ◌&&◌, ◌==◌, List, [], ◌∷◌, map, filter, Option, Some, None, refl}
 use Rattle.std.proofs.lemmas.Bool.{and_parts}
 use Rattle.std.specs.List.{AllByRecursion}
-use Rattle.cv_syntax.specs.declared.head.Head.{Head}
-use Rattle.cv_syntax.specs.declared.head.Head.TheVariants.{Leaf, Read, Eq, And, Yes, No, Cons}
-use Rattle.cv_syntax.specs.Tree.{Tree, Empty, Node, first, lone, same_tree}
+use Rattle.cv_syntax_trees.specs.declared.head.Head.{Head}
+use Rattle.cv_syntax_trees.specs.declared.head.Head.TheVariants.{Leaf, Read, Eq, And, Yes, No, Cons}
+use Rattle.cv_syntax_trees.specs.Tree.{Tree, Empty, Node, first, lone, same_tree}
 use Rattle.cv_meaning_laws.proofs.Lists.{each_append}
 use Rattle.cv_meaning_contexts.specs.Inlined.{Drawn, Caller, Standing, TheKey, Own, CallOf, Scope, all_equal, array_in_game, call_in, called, cell_in_game, cells_in_game, cells_then, each_once, in_game, index_moves, index_reads, index_terms, indices_equal, is_own, leaf_in_game, moved, moved_leaf, needed, own_variable, read_at, standing_of, and_equal, tuples_equal}
 use Rattle.cv_inline_games.specs.NextGame.{Results, result_for, with_results}

@@ -1,9 +1,9 @@
 -- When a call has what is drawn for its function, and what the grammar of files leaves empty in right bodies. This profile's own.
 use Rattle.std.specs.Prelude.{◌≡◌, ℕ, Bool, true, ◌&&◌, List, length}
 use Rattle.std.specs.List.{AllByRecursion}
-use Rattle.cv_syntax.specs.declared.head.Head.{Head}
-use Rattle.cv_syntax.specs.declared.head.Head.TheVariants.{Binder, New}
-use Rattle.cv_syntax.specs.Tree.{Tree, Empty, Node}
+use Rattle.cv_syntax_trees.specs.declared.head.Head.{Head}
+use Rattle.cv_syntax_trees.specs.declared.head.Head.TheVariants.{Binder, New}
+use Rattle.cv_syntax_trees.specs.Tree.{Tree, Empty, Node}
 use Rattle.cv_meaning_contexts.specs.Inlined.{Caller}
 use Rattle.cv_inline_bodies.specs.Inlining.{Inlining}
 use Rattle.cv_inline_games.specs.NextGame.{Calling, callers_of}

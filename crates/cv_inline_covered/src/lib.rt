@@ -3,7 +3,7 @@
 
 ghost use Rattle.std.specs.Prelude.{◌≡◌, ℕ, Bool, List, true};
 ghost use Rattle.std.specs.List.{AllByRecursion};
-ghost use Rattle.cv_syntax.specs.Tree.{second};
+ghost use Rattle.cv_syntax_trees.specs.Tree.{second};
 ghost use Rattle.cv_meaning_contexts.specs.Groups.{Right, side_group};
 ghost use Rattle.cv_meaning_contexts.specs.Sides.{Context};
 ghost use Rattle.cv_group_rules.specs.Faults.{IsAccepted};

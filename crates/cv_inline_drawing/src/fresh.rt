@@ -1,7 +1,7 @@
 ghost use Rattle.std.specs.Prelude.{◌≡◌, ◌+◌, ◌<◌, ◌^◌, ◌↔◌, All, IfOk, IsTrue, OnErr, OnOk, length, map, nat_lt, take};
 ghost use Rattle.std.specs.List.{list_all};
 ghost use Rattle.cv_pool.specs.Nodes.{ChildBelow};
-ghost use Rattle.cv_syntax.specs.Tree.{tree_at};
+ghost use Rattle.cv_syntax.specs.PoolTrees.{tree_at};
 ghost use Rattle.cv_inline_games.specs.Draws as of_games;
 ghost use Rattle.cv_inline_games.specs.Draws.{drawn_texts, labels_from};
 ghost use Rattle.cv_inline_listing.specs.Listed.{draw_in};

@@ -2,9 +2,9 @@
 use Rattle.std.proofs.Common.{◌≡◌, ℕ, Bool, true, false, cond, ◌&&◌, ◌==◌, not, [], ◌∷◌, refl}
 use Rattle.std.proofs.lemmas.Bool.{both_ways, and_parts}
 use Rattle.std.specs.List.{AllByRecursion, IsDistinct}
-use Rattle.cv_syntax.specs.declared.head.Head.{Head}
-use Rattle.cv_syntax.specs.declared.head.Head.TheVariants.{New}
-use Rattle.cv_syntax.specs.Tree.{Tree, Empty, Node, size}
+use Rattle.cv_syntax_trees.specs.declared.head.Head.{Head}
+use Rattle.cv_syntax_trees.specs.declared.head.Head.TheVariants.{New}
+use Rattle.cv_syntax_trees.specs.Tree.{Tree, Empty, Node, size}
 use Rattle.cv_meaning.specs.Interpretation.{setting_of}
 use Rattle.cv_meaning.specs.Tapes.{blank}
 use Rattle.cv_meaning_contexts.specs.Groups.{Right, side_group}

@@ -3,7 +3,7 @@
 
 ghost use Rattle.std.specs.Prelude.{◌≡◌, ℕ, true, List, []};
 ghost use Rattle.std.specs.List.{AllByRecursion};
-ghost use Rattle.cv_syntax.specs.Declarations.{Declaration};
+ghost use Rattle.cv_syntax_trees.specs.Declarations.{Declaration};
 ghost use Rattle.cv_meaning.specs.Tapes.{Find_at, Picked_at, Tape, blank};
 ghost use Rattle.cv_meaning.specs.Side.{no_side};
 ghost use Rattle.cv_meaning.specs.Interpretation.{Interpretation, setting_of};

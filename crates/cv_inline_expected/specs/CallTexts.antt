@@ -1,9 +1,9 @@
 -- What is asked of the text of each call in a context, so that its visits are as is expected. This profile's own.
 use Rattle.std.specs.Prelude.{◌≡◌, ℕ, true, false, not, List, [], ◌∷◌, length, Some}
 use Rattle.std.specs.List.{AllByRecursion}
-use Rattle.cv_syntax.specs.declared.head.Head.{Head}
-use Rattle.cv_syntax.specs.declared.head.Head.TheVariants.{Call}
-use Rattle.cv_syntax.specs.Tree.{Tree, Empty, Node, first, reads_only, second}
+use Rattle.cv_syntax_trees.specs.declared.head.Head.{Head}
+use Rattle.cv_syntax_trees.specs.declared.head.Head.TheVariants.{Call}
+use Rattle.cv_syntax_trees.specs.Tree.{Tree, Empty, Node, first, reads_only, second}
 use Rattle.cv_meaning.specs.Tapes.{Find_at, Made_at, New_at, Picked_at}
 use Rattle.cv_meaning.specs.Memory.{Indices}
 use Rattle.cv_meaning_contexts.specs.Bodies.{function_called}

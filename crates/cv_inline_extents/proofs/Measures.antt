@@ -1,8 +1,8 @@
 -- Measures of trees: laws of parts side by side and of copies.
 use Rattle.std.proofs.Common.{◌≡◌, ℕ, ◌+◌, ◌*◌, max, refl, sym, ap, ap₂, ◌∙◌, arith}
 use Rattle.std.proofs.Math.Nat.{mul_comm, mul_assoc, mul-add}
-use Rattle.cv_syntax.specs.Head.{weight}
-use Rattle.cv_syntax.specs.Tree.{Tree, Empty, Node, depth, size}
+use Rattle.cv_syntax_trees.specs.Head.{weight}
+use Rattle.cv_syntax_trees.specs.Tree.{Tree, Empty, Node, depth, size}
 use Rattle.cv_inline_extents.specs.Extents.{Measure, all_nodes, longest_path, over_node, extent}
 
 pub record IsMeasure (μ : Measure) : Type 0 where

@@ -2,7 +2,7 @@
 #![tactic(auto)]
 
 ghost use Rattle.std.specs.Prelude.{◌≡◌, ℕ, []};
-ghost use Rattle.cv_syntax.specs.Tree.{Tree, depth, size};
+ghost use Rattle.cv_syntax_trees.specs.Tree.{Tree, depth, size};
 ghost use Rattle.cv_meaning_contexts.specs.Sides.{Context};
 ghost use Rattle.cv_meaning_contexts.specs.Inlined.{Drawn};
 ghost use Rattle.cv_inline_games.specs.NextGame.{inlined_calls_of, next_of};

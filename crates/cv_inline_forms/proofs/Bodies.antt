@@ -2,8 +2,8 @@
 use Rattle.std.proofs.Common.{◌≡◌, ℕ, Bool, true, false, ◌&&◌, List, [], ◌∷◌, Option, Some, None, refl}
 use Rattle.std.proofs.lemmas.Bool.{and_from, and_parts, both_ways}
 use Rattle.std.specs.List.{AllByRecursion}
-use Rattle.cv_syntax.specs.declared.head.Head.TheVariants.{Binder, Branch, Cons}
-use Rattle.cv_syntax.specs.Tree.{Tree, Empty, Node, chain, first, second}
+use Rattle.cv_syntax_trees.specs.declared.head.Head.TheVariants.{Binder, Branch, Cons}
+use Rattle.cv_syntax_trees.specs.Tree.{Tree, Empty, Node, chain, first, second}
 use Rattle.cv_meaning.specs.Correspondences.{typed_names}
 use Rattle.cv_meaning_contexts.specs.Groups.{functions_of, group_of}
 use Rattle.cv_parse_notation.specs.Form.{Form}

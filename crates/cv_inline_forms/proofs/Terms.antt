@@ -1,8 +1,8 @@
 -- Terms and `defined` lists of a file are those of right bodies.
 use Rattle.std.proofs.Common.{◌≡◌, true, false, ◌&&◌, refl}
 use Rattle.std.proofs.lemmas.Bool.{and_from, and_parts, both_ways}
-use Rattle.cv_syntax.specs.declared.head.Head.TheVariants.{Leaf, Read, Apply, Eq, And, Or, Not, Yes, No, Cons}
-use Rattle.cv_syntax.specs.Tree.{Tree, Empty, Node}
+use Rattle.cv_syntax_trees.specs.declared.head.Head.TheVariants.{Leaf, Read, Apply, Eq, And, Or, Not, Yes, No, Cons}
+use Rattle.cv_syntax_trees.specs.Tree.{Tree, Empty, Node}
 use Rattle.cv_scope_rules.specs.Phrases.{Cells, Nil, OneCell, Term, Terms, is_phrase}
 use Rattle.cv_inline_accepted.specs.RightBodies.{are_body_cells, are_body_terms, is_body_term, is_right_body}
 use Rattle.cv_inline_cells.specs.Layout.{is_right_text, is_term}

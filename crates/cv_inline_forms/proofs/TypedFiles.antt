@@ -1,12 +1,12 @@
 -- So are the right functions of a typed file.
 use Rattle.std.proofs.Common.{◌≡◌, ℕ, true, List, [], ◌∷◌, ◌++◌, flat_map, Ok}
 use Rattle.std.specs.List.{AllByRecursion}
-use Rattle.cv_syntax.specs.Declarations.{Declaration, Named, Equation, Equiv, Query}
-use Rattle.cv_syntax.specs.Tree.{Tree, first, second}
+use Rattle.cv_syntax_trees.specs.Declarations.{Declaration, Named, Equation, Equiv, Query}
+use Rattle.cv_syntax_trees.specs.Tree.{Tree, first, second}
 use Rattle.cv_parse_notation.specs.declared.sign.Sign.{Sign}
 use Rattle.cv_parse.specs.Parsed.{Parsed, parsed}
 use Rattle.cv_meaning_contexts.specs.Groups.{Function, Right, side_group}
-use Rattle.cv_typing.specs.Parts.{AreTyped, IsTypedFile, Part, body_parts, declaration_parts, equivalence_parts, game_part, side_arrays, sort_by_bound}
+use Rattle.cv_typing_rules.specs.Parts.{AreTyped, IsTypedFile, Part, body_parts, declaration_parts, equivalence_parts, game_part, side_arrays, sort_by_bound}
 use Rattle.cv_group_rules.specs.Faults.{equivalences_in}
 use Rattle.cv_group_rules.specs.Rules.{branches_have_one_index}
 use Rattle.cv_inline_cells.specs.Layout.{IsRightFunction}

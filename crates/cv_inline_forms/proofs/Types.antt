@@ -2,21 +2,21 @@
 use Rattle.std.proofs.Common.{◌≡◌, ℕ, Bool, true, false, cond, ◌==◌, ◌||◌, not, List, Option, Some, None, is_some, refl, ap, sym, subst, ◌∙◌, eqb-true, eq-eqb}
 use Rattle.std.proofs.lemmas.Bool.{both_ways}
 use Rattle.std.specs.List.{AllByRecursion}
-use Rattle.cv_syntax.specs.declared.head.Head.{Head}
-use Rattle.cv_syntax.specs.declared.head.Head.TheVariants.{New, Let}
-use Rattle.cv_syntax.specs.Declarations.{Declaration}
-use Rattle.cv_syntax.specs.Tree.{Tree, Empty, Node, first, second}
+use Rattle.cv_syntax_trees.specs.declared.head.Head.{Head}
+use Rattle.cv_syntax_trees.specs.declared.head.Head.TheVariants.{New, Let}
+use Rattle.cv_syntax_trees.specs.Declarations.{Declaration}
+use Rattle.cv_syntax_trees.specs.Tree.{Tree, Empty, Node, first, second}
 use Rattle.cv_lists.specs.Options.{first_of}
-use Rattle.cv_directory.specs.declared.sort.Sort.{Sort}
-use Rattle.cv_directory.specs.declared.sort.Sort.TheVariants.{OfType, BelowParameter}
+use Rattle.cv_directory_sorts.specs.declared.sort.Sort.{Sort}
+use Rattle.cv_directory_sorts.specs.declared.sort.Sort.TheVariants.{OfType, BelowParameter}
 use Rattle.cv_first_fault.specs.Walk.{IsObeyed}
-use Rattle.cv_typing.specs.declared.fault.Fault.{Fault}
-use Rattle.cv_typing.specs.declared.fault.Fault.TheVariants.{WrongType}
-use Rattle.cv_typing.specs.Parts.{AreTyped, body_parts, local_in, nothing_above, own_sort, with_taken}
-use Rattle.cv_typing.specs.Signature.{Above, OfSide, Signature, sort_by}
-use Rattle.cv_directory.specs.Sorts.{differs_from, same_sort}
-use Rattle.cv_typing.specs.Typing.{IsTyped, fault_of, site_differs}
-use Rattle.cv_typing.specs.Wants.{Want, is_wrong}
+use Rattle.cv_typing_rules.specs.declared.fault.Fault.{Fault}
+use Rattle.cv_typing_rules.specs.declared.fault.Fault.TheVariants.{WrongType}
+use Rattle.cv_typing_rules.specs.Parts.{AreTyped, body_parts, local_in, nothing_above, own_sort, with_taken}
+use Rattle.cv_typing_rules.specs.Signature.{Above, OfSide, Signature, sort_by}
+use Rattle.cv_directory_sorts.specs.Sorts.{differs_from, same_sort}
+use Rattle.cv_typing_rules.specs.Typing.{IsTyped, fault_of, site_differs}
+use Rattle.cv_typing_rules.specs.Wants.{Want, is_wrong}
 use Rattle.cv_meaning_contexts.specs.Groups.{Function, functions_of}
 use Rattle.cv_meaning_contexts.specs.Sites as sites
 use Rattle.cv_inline_cells.specs.Layout.{IsTypedBy, new_type, type_in, type_or_none}

@@ -2,7 +2,7 @@
 -- chosen besides their bodies, which are of the grammar. This profile's own.
 use Rattle.std.specs.Prelude.{◌≡◌, true, []}
 use Rattle.std.specs.List.{AllByRecursion}
-use Rattle.cv_syntax.specs.Tree.{Tree, second}
+use Rattle.cv_syntax_trees.specs.Tree.{Tree, second}
 use Rattle.cv_meaning_contexts.specs.Groups.{Function, Right, side_group}
 use Rattle.cv_inline_accepted.specs.RightBodies.{is_right_side}
 use Rattle.cv_inline_cells.specs.Layout.{is_right_text}

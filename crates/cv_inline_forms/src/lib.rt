@@ -6,7 +6,7 @@ ghost use Rattle.std.specs.List.{AllByRecursion};
 ghost use Rattle.cv_parse_notation.specs.declared.sign.Sign.{Sign};
 ghost use Rattle.cv_parse.specs.Parsed.{Parsed, parsed};
 ghost use Rattle.cv_meaning_contexts.specs.Groups.{Right, side_group};
-ghost use Rattle.cv_typing.specs.Parts.{IsTypedFile};
+ghost use Rattle.cv_typing_rules.specs.Parts.{IsTypedFile};
 ghost use Rattle.cv_group_rules.specs.Faults.{equivalences_in};
 ghost use Rattle.cv_group_rules.specs.Rules.{branches_have_one_index};
 ghost use Rattle.cv_inline_cells.specs.Layout.{IsRightFunction};

@@ -3,8 +3,8 @@ use Rattle.std.specs.Prelude.{ℕ, zero, suc, max, Bool, true, false, ◌&&◌, 
 use Rattle.std.specs.List.{list_any}
 use Rattle.std.specs.Fmt.{decimal}
 use Rattle.cv_lex.specs.Lexis.{value_of}
-use Rattle.cv_syntax.specs.declared.head.Head.TheVariants.{New, Let, If, Find, Branch, Cons, Binder}
-use Rattle.cv_syntax.specs.Tree.{Tree, Empty, Node, first_place, second_place}
+use Rattle.cv_syntax_trees.specs.declared.head.Head.TheVariants.{New, Let, If, Find, Branch, Cons, Binder}
+use Rattle.cv_syntax_trees.specs.Tree.{Tree, Empty, Node, first_place, second_place}
 use Rattle.cv_meaning_contexts.specs.Groups.{Group}
 use Rattle.cv_meaning_contexts.specs.Bodies.{body_place}
 use Rattle.cv_meaning_contexts.specs.Roles.{Role, TheKeyName, Variable, Index}

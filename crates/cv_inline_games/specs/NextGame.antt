@@ -1,9 +1,9 @@
 -- The next game of a context with the right side: a `new` for the choice of the key, and for each call the
 -- `let` of its arguments and the right body. Blanchet and Pointcheval, CRYPTO 2006.
 use Rattle.std.specs.Prelude.{ℕ, suc, ◌==◌, if◌then◌else◌, List, [], ◌∷◌, ◌++◌, map, Option, Some, None}
-use Rattle.cv_syntax.specs.declared.head.Head.{Head}
-use Rattle.cv_syntax.specs.declared.head.Head.TheVariants.{Repl, In, Out, Event, New, Let, If, Branch, Leaf, Read, No, Key, Call}
-use Rattle.cv_syntax.specs.Tree.{Tree, Empty, Node, lone, first, second}
+use Rattle.cv_syntax_trees.specs.declared.head.Head.{Head}
+use Rattle.cv_syntax_trees.specs.declared.head.Head.TheVariants.{Repl, In, Out, Event, New, Let, If, Branch, Leaf, Read, No, Key, Call}
+use Rattle.cv_syntax_trees.specs.Tree.{Tree, Empty, Node, lone, first, second}
 use Rattle.cv_meaning_contexts.specs.Groups.{Right, Function, Group, side_group, function_at}
 use Rattle.cv_meaning_contexts.specs.Sites.{is_call, first_of}
 use Rattle.cv_meaning_contexts.specs.Sides.{Context}

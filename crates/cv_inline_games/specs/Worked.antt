@@ -4,9 +4,9 @@
 -- are variables, 42 and 46 to 48 are indices of finds. Of games: 50 is the key, 51 and 53 are indices, 52, 54 and 55 variables,
 -- 60 to 62 answers. 71 to 80 are the drawn names, by number.
 use Rattle.std.specs.Prelude.{ℕ, List, [], ◌∷◌, map}
-use Rattle.cv_syntax.specs.declared.head.Head.TheVariants.{Stop, Yield, Par, Repl, New, Let, Yes, No, Cons, Equivalence, Bound, Key, Call}
-use Rattle.cv_syntax.specs.Tree.{Tree, Empty, Node, lone, chain, binders}
-use Rattle.cv_syntax.specs.Builders.{leaf, read, input, output, event, branch, find}
+use Rattle.cv_syntax_trees.specs.declared.head.Head.TheVariants.{Stop, Yield, Par, Repl, New, Let, Yes, No, Cons, Equivalence, Bound, Key, Call}
+use Rattle.cv_syntax_trees.specs.Tree.{Tree, Empty, Node, lone, chain, binders}
+use Rattle.cv_syntax_trees.specs.Builders.{leaf, read, input, output, event, branch, find}
 use Rattle.cv_meaning_contexts.specs.Groups.{Right, side_group}
 use Rattle.cv_meaning_contexts.specs.Sides.{Context}
 use Rattle.cv_meaning_contexts.specs.Worked.{apply, both, equal, oracle, test}

@@ -4,7 +4,7 @@
 
 ghost use Rattle.std.specs.Prelude.{◌≡◌, ℕ, ◌==◌, true, List, [], ◌∷◌, length, Some, codes};
 ghost use Rattle.std.specs.List.{IsDistinct};
-ghost use Rattle.cv_syntax.specs.Tree.{subtree};
+ghost use Rattle.cv_syntax_trees.specs.Tree.{subtree};
 ghost use Rattle.cv_inline_games.specs.NextGame.{callings_of};
 ghost use Rattle.cv_meaning_contexts.specs.Roles.{Role};
 ghost use Rattle.cv_inline_games.specs.Draws.{

@@ -3,8 +3,9 @@ use Rattle.std.proofs.Common.{◌≡◌, ℕ, suc, ◌+◌, ◌≤◌, ◌==◌,
 use Rattle.std.specs.Prelude.{option_map}
 use Rattle.std.proofs.lemmas.List.{append_assoc, append-nil}
 use Rattle.cv_pool.specs.KindTree.{KindTree}
-use Rattle.cv_syntax.specs.declared.head.Head.TheVariants.{Cons, Branch, Binder}
-use Rattle.cv_syntax.specs.Tree.{Tree, Empty, Node, size, tree_at}
+use Rattle.cv_syntax_trees.specs.declared.head.Head.TheVariants.{Cons, Branch, Binder}
+use Rattle.cv_syntax_trees.specs.Tree.{Tree, Empty, Node, size}
+use Rattle.cv_syntax.specs.PoolTrees.{tree_at}
 use Rattle.cv_meaning_contexts.specs.Inlined.{Caller}
 use Rattle.cv_inline_games.specs.Draws.{Draw, branch_draws, index_draws}
 use Rattle.cv_inline_listing.specs.BranchForms.{calls_in, calls_of}

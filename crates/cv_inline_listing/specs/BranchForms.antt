@@ -2,8 +2,9 @@
 use Rattle.std.specs.Prelude.{ℕ, List, Option, Some, None, option_map, option_and_then}
 use Rattle.cv_pool.specs.KindTree.{KindTree}
 use Rattle.cv_syntax.specs.declared.open.Opened.{Opened}
-use Rattle.cv_syntax.specs.declared.head.Head.TheVariants.{Branch, Cons, Binder}
-use Rattle.cv_syntax.specs.Tree.{Tree, Node, tree_at}
+use Rattle.cv_syntax_trees.specs.declared.head.Head.TheVariants.{Branch, Cons, Binder}
+use Rattle.cv_syntax_trees.specs.Tree.{Tree, Node}
+use Rattle.cv_syntax.specs.PoolTrees.{tree_at}
 use Rattle.cv_inline_listing.specs.declared.branches.Calls.{Calls}
 
 -- the first item of a list, and those behind it

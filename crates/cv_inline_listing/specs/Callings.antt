@@ -1,7 +1,8 @@
 -- Sites of the code as those of the definitions. This profile's own.
 use Rattle.std.specs.Prelude.{◌<◌, ◌^◌, List, Some, length, map}
 use Rattle.cv_pool.specs.KindTree.{KindTree}
-use Rattle.cv_syntax.specs.Tree.{size, tree_at}
+use Rattle.cv_syntax_trees.specs.Tree.{size}
+use Rattle.cv_syntax.specs.PoolTrees.{tree_at}
 use Rattle.cv_meaning_contexts.specs.Groups.{function_of}
 use Rattle.cv_meaning_contexts.specs.Inlined.{Caller}
 use Rattle.cv_inline_games.specs.NextGame as game

@@ -2,7 +2,8 @@
 use Rattle.std.specs.Prelude.{◌≡◌, ℕ, ◌+◌, ◌<◌, ◌^◌, List, length}
 use Rattle.cv_pool.specs.KindTree.{KindTree}
 use Rattle.cv_pool.specs.Nodes.{ChildBelow}
-use Rattle.cv_syntax.specs.Tree.{Node, size, first_place, second_place, tree_at}
+use Rattle.cv_syntax_trees.specs.Tree.{Node, size, first_place, second_place}
+use Rattle.cv_syntax.specs.PoolTrees.{tree_at}
 use Rattle.cv_syntax.specs.Walks.{above}
 use Rattle.cv_inline_listing.specs.declared.subtree.Subtree.{Subtree}
 use Rattle.cv_inline_listing.specs.declared.subtree.Parent.{Parent}

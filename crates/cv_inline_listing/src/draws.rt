@@ -1,6 +1,6 @@
 ghost use Rattle.std.specs.Prelude.{◌≡◌, ◌∷◌, ◌++◌, [], IfOk, length, map};
 ghost use Rattle.cv_pool.specs.Nodes.{ChildBelow};
-ghost use Rattle.cv_syntax.specs.Tree.{tree_at};
+ghost use Rattle.cv_syntax.specs.PoolTrees.{tree_at};
 ghost use Rattle.cv_meaning.specs.Correspondences.{typed_names};
 ghost use Rattle.cv_inline_games.specs.Draws.{argument_draws};
 ghost use Rattle.cv_meaning_contexts.specs.Roles as roles;

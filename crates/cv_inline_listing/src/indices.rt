@@ -1,6 +1,7 @@
 ghost use Rattle.std.specs.Prelude.{◌≡◌, ◌==◌, ◌++◌, ◌+◌, ◌<◌, ◌^◌, [], IfOk, if◌then◌else◌, length, map};
 ghost use Rattle.cv_pool.specs.Nodes.{ChildBelow};
-ghost use Rattle.cv_syntax.specs.Tree.{size, tree_at};
+ghost use Rattle.cv_syntax_trees.specs.Tree.{size};
+ghost use Rattle.cv_syntax.specs.PoolTrees.{tree_at};
 ghost use Rattle.cv_inline_games.specs.Draws.{branch_draws, index_draws};
 ghost use Rattle.cv_inline_terms.specs.Callers.{caller_in};
 ghost use Rattle.cv_inline_listing.specs.Listed.{draw_in};

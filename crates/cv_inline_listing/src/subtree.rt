@@ -1,5 +1,6 @@
 ghost use Rattle.std.specs.Prelude.{◌≡◌, IfNone, IfSome};
-ghost use Rattle.cv_syntax.specs.Tree.{Empty, tree_at};
+ghost use Rattle.cv_syntax_trees.specs.Tree.{Empty};
+ghost use Rattle.cv_syntax.specs.PoolTrees.{tree_at};
 ghost use Rattle.cv_inline_listing.specs.Subtrees.{IsNodeAt, IsWithin};
 
 use cv_path::size_below;

@@ -1,6 +1,6 @@
 -- What bodies add, as it is told.
 use Rattle.std.proofs.Common.{◌≡◌, ℕ, refl, ap, ◌∙◌}
-use Rattle.cv_syntax.specs.Tree.{Tree}
+use Rattle.cv_syntax_trees.specs.Tree.{Tree}
 use Rattle.cv_inline_extents.specs.Extents as extents
 use Rattle.cv_inline_extents.specs.Extents.{Extent, all_beside, extent, of_result, over_node}
 use Rattle.cv_inline_measure.specs.declared.added.Added.{Added}

@@ -1,8 +1,8 @@
 -- What a call adds, by its first argument.
 use Rattle.std.proofs.Common.{◌≡◌, ℕ, ◌≤◌, List, ◌∷◌, Some, None, refl, ap, sym, ◌∙◌, arith}
-use Rattle.cv_syntax.specs.declared.head.Head.{Head}
-use Rattle.cv_syntax.specs.declared.head.Head.TheVariants.{Binder}
-use Rattle.cv_syntax.specs.Tree.{Tree, Empty, Node, second, size}
+use Rattle.cv_syntax_trees.specs.declared.head.Head.{Head}
+use Rattle.cv_syntax_trees.specs.declared.head.Head.TheVariants.{Binder}
+use Rattle.cv_syntax_trees.specs.Tree.{Tree, Empty, Node, second, size}
 use Rattle.cv_meaning.specs.Correspondences.{typed_names}
 use Rattle.cv_meaning_contexts.specs.Inlined.{Caller, Drawn, Own, Scope}
 use Rattle.cv_inline_extents.specs.Extents.{Extent, Measure, extent, of_body, of_call, under}

@@ -3,8 +3,8 @@ use Rattle.std.proofs.Common.{◌≡◌, ℕ, suc, ◌+◌, ◌<◌, ◌≤◌, 
 use Rattle.std.specs.Prelude.{flat_map}
 use Rattle.std.proofs.lemmas.List.{flat_map_more, map-append, take_all, take_more}
 use Rattle.cv_pool.specs.KindTree.{KindTree}
-use Rattle.cv_syntax.specs.declared.head.Head.TheVariants.{Binder, Branch, Cons}
-use Rattle.cv_syntax.specs.Tree.{Tree, Node}
+use Rattle.cv_syntax_trees.specs.declared.head.Head.TheVariants.{Binder, Branch, Cons}
+use Rattle.cv_syntax_trees.specs.Tree.{Tree, Node}
 use Rattle.cv_meaning_contexts.specs.Inlined.{Caller, Drawn, Scope, index_terms, with_call_of}
 use Rattle.cv_inline_extents.specs.Extents as extents
 use Rattle.cv_inline_extents.specs.Extents.{Extent, all_beside, beside, front, of_body, of_branches, of_find, under}

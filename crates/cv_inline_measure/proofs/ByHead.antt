@@ -2,9 +2,10 @@
 use Rattle.std.proofs.Common.{◌≡◌, ℕ, List, ◌∷◌, refl, ap, sym, ◌∙◌}
 use Rattle.std.specs.Prelude.{flat_map}
 use Rattle.cv_pool.specs.KindTree.{KindTree}
-use Rattle.cv_syntax.specs.declared.head.Head.{Head}
-use Rattle.cv_syntax.specs.declared.head.Head.TheVariants.{New, Let, If, Find}
-use Rattle.cv_syntax.specs.Tree.{Tree, Empty, Node, first_place, second_place, tree_at}
+use Rattle.cv_syntax_trees.specs.declared.head.Head.{Head}
+use Rattle.cv_syntax_trees.specs.declared.head.Head.TheVariants.{New, Let, If, Find}
+use Rattle.cv_syntax_trees.specs.Tree.{Tree, Empty, Node, first_place, second_place}
+use Rattle.cv_syntax.specs.PoolTrees.{tree_at}
 use Rattle.cv_meaning_contexts.specs.Inlined.{Caller, Drawn, Own, Scope, in_game}
 use Rattle.cv_inline_extents.specs.Extents.{Extent, Measure, beside, extent, of_body, of_branches, of_find, of_result, under}
 use Rattle.cv_inline_listing.specs.Subtrees.{IsNodeAt}

@@ -1,8 +1,9 @@
 -- What bodies add in scopes that the code has made, as it is told.
 use Rattle.std.proofs.Common.{◌≡◌, ℕ, ◌∷◌, Option, Some, None, refl, ap, subst, ◌∙◌}
 use Rattle.cv_pool.specs.declared.node.NodeId.{NodeId}
-use Rattle.cv_syntax.specs.declared.head.Head.TheVariants.{No}
-use Rattle.cv_syntax.specs.Tree.{lone, tree_at}
+use Rattle.cv_syntax_trees.specs.declared.head.Head.TheVariants.{No}
+use Rattle.cv_syntax_trees.specs.Tree.{lone}
+use Rattle.cv_syntax.specs.PoolTrees.{tree_at}
 use Rattle.cv_meaning_contexts.specs.Inlined.{Own, Scope}
 use Rattle.cv_inline_terms.specs.declared.caller.Caller.{Caller}
 use Rattle.cv_inline_terms.specs.Drawings.{drawn_in}

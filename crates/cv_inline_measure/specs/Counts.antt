@@ -3,7 +3,7 @@ use Rattle.std.specs.Prelude.{◌≡◌, ℕ, List, [], ◌∷◌, map}
 use Rattle.cv_syntax.specs.declared.make.Make.{Make}
 use Rattle.cv_syntax.specs.declared.make.Make.TheVariants as make
 use Rattle.cv_syntax.specs.Postorder.{joined}
-use Rattle.cv_syntax.specs.Tree.{Tree, Empty}
+use Rattle.cv_syntax_trees.specs.Tree.{Tree, Empty}
 use Rattle.cv_syntax_limits.specs.Limits.{told}
 use Rattle.cv_inline_extents.specs.Extents as extents
 use Rattle.cv_inline_extents.specs.Extents.{Extent, all_nodes, extent, longest_path}

@@ -1,8 +1,8 @@
 -- What the next game has for the children of a node, over the copies. This profile's own.
 use Rattle.std.specs.Prelude.{ℕ, [], ◌∷◌, List, map}
-use Rattle.cv_syntax.specs.declared.head.Head.{Head}
-use Rattle.cv_syntax.specs.declared.head.Head.TheVariants as head
-use Rattle.cv_syntax.specs.Tree.{Tree, second}
+use Rattle.cv_syntax_trees.specs.declared.head.Head.{Head}
+use Rattle.cv_syntax_trees.specs.declared.head.Head.TheVariants as head
+use Rattle.cv_syntax_trees.specs.Tree.{Tree, second}
 use Rattle.cv_inline_games.specs.NextGame.{InlinedCalls, numbered}
 use Rattle.cv_inline_extents.specs.Extents as extents
 use Rattle.cv_inline_extents.specs.Extents.{Answers, Extent, all_along, copies_of, of_call_at, of_game, with_answers}

@@ -3,8 +3,9 @@ use Rattle.std.specs.Prelude.{◌≡◌, ◌<◌, ◌^◌, ℕ, [], ◌∷◌, L
 use Rattle.cv_pool.specs.KindTree.{KindTree}
 use Rattle.cv_pool.specs.Nodes.{ChildBelow}
 use Rattle.cv_pool.specs.declared.node.NodeId.{NodeId}
-use Rattle.cv_syntax.specs.declared.head.Head.TheVariants.{Binder}
-use Rattle.cv_syntax.specs.Tree.{Tree, Node, tree_at}
+use Rattle.cv_syntax_trees.specs.declared.head.Head.TheVariants.{Binder}
+use Rattle.cv_syntax_trees.specs.Tree.{Tree, Node}
+use Rattle.cv_syntax.specs.PoolTrees.{tree_at}
 use Rattle.cv_meaning.specs.Correspondences.{typed_names}
 use Rattle.cv_meaning_contexts.specs.Groups.{Group}
 use Rattle.cv_inline_games.specs.NextGame.{InlinedCalls}

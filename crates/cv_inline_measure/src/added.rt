@@ -1,5 +1,5 @@
 ghost use Rattle.std.specs.Prelude.{◌≡◌, ℕ};
-ghost use Rattle.cv_syntax.specs.Tree.{Tree};
+ghost use Rattle.cv_syntax_trees.specs.Tree.{Tree};
 ghost use Rattle.cv_inline_extents.specs.Extents as extents;
 ghost use Rattle.cv_inline_extents.specs.Extents.{Extent, extent};
 ghost use Rattle.cv_inline_measure.specs.Counts.{IsTold, measure_in};

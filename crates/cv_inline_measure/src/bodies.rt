@@ -1,5 +1,5 @@
 ghost use Rattle.std.specs.Prelude.{◌≡◌, ◌∷◌, ◌++◌, [], ℕ, List, IfOk};
-ghost use Rattle.cv_syntax.specs.declared.head.Head.TheVariants as head;
+ghost use Rattle.cv_syntax_trees.specs.declared.head.Head.TheVariants as head;
 ghost use Rattle.cv_meaning_contexts.specs.Inlined.{Own};
 ghost use Rattle.cv_inline_extents.specs.Extents as extents;
 ghost use Rattle.cv_inline_extents.specs.Extents.{Extent};

@@ -1,6 +1,6 @@
 ghost use Rattle.std.specs.Prelude.{◌≡◌, ◌<◌, ◌^◌, ℕ, [], IfOk, Some, length};
-ghost use Rattle.cv_syntax.specs.Tree as tree;
-ghost use Rattle.cv_syntax.specs.Tree.{tree_at};
+ghost use Rattle.cv_syntax_trees.specs.Tree as tree;
+ghost use Rattle.cv_syntax.specs.PoolTrees.{tree_at};
 ghost use Rattle.cv_meaning_contexts.specs.Groups.{Group};
 ghost use Rattle.cv_inline_games.specs.NextGame.{next_in};
 ghost use Rattle.cv_inline_extents.specs.Extents.{extent};

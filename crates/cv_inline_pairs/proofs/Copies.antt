@@ -1,7 +1,7 @@
 -- A copy of a scope, name by name.
 use Rattle.std.proofs.Common.{◌≡◌, ℕ, ◌+◌, ◌<◌, List, [], ◌∷◌, ◌++◌, length, take, get_or, ap, sym, ◌∙◌}
 use Rattle.std.proofs.lemmas.List.{take_more}
-use Rattle.cv_syntax.specs.Tree.{Tree}
+use Rattle.cv_syntax_trees.specs.Tree.{Tree}
 use Rattle.cv_inline_terms.specs.declared.scope.Entry.{Entry}
 use Rattle.cv_inline_terms.specs.Scopes.{entry_in, scope_in}
 use Rattle.cv_inline_terms.proofs.Scoping.{scope_push}

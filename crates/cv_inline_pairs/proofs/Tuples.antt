@@ -1,7 +1,7 @@
 -- The drawn names of indices, and the reads of them.
 use Rattle.std.proofs.Common.{◌≡◌, ℕ, suc, List, [], ◌∷◌, refl, ap}
-use Rattle.cv_syntax.specs.declared.head.Head.TheVariants as head
-use Rattle.cv_syntax.specs.Tree.{Tree, Node}
+use Rattle.cv_syntax_trees.specs.declared.head.Head.TheVariants as head
+use Rattle.cv_syntax_trees.specs.Tree.{Tree, Node}
 use Rattle.cv_meaning_contexts.specs.Inlined.{index_reads, read_at}
 use Rattle.cv_inline_terms.specs.Stacks.{names_from, tuple_at}
 

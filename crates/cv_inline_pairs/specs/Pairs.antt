@@ -4,8 +4,9 @@ use Rattle.std.specs.Prelude.{ℕ, suc, ◌+◌, ◌<◌, ◌≤◌, ◌==◌, O
 use Rattle.cv_pool.specs.KindTree.{KindTree}
 use Rattle.cv_pool.specs.Nodes.{ChildBelow}
 use Rattle.cv_pool.specs.declared.node.NodeId.{NodeId}
-use Rattle.cv_syntax.specs.declared.head.Head.TheVariants.{Binder, Branch, Cons}
-use Rattle.cv_syntax.specs.Tree.{Tree, Node, second_place, size, tree_at}
+use Rattle.cv_syntax_trees.specs.declared.head.Head.TheVariants.{Binder, Branch, Cons}
+use Rattle.cv_syntax_trees.specs.Tree.{Tree, Node, second_place, size}
+use Rattle.cv_syntax.specs.PoolTrees.{tree_at}
 use Rattle.cv_syntax.specs.Walks.{above}
 use Rattle.cv_meaning_contexts.specs.Bodies.{body_place}
 use Rattle.cv_meaning_contexts.specs.Inlined.{Caller, Drawn, Scope, branch_for, index_terms, with_call_of}

@@ -1,6 +1,6 @@
 ghost use Rattle.std.specs.Prelude.{◌≡◌, ◌∷◌, ◌<◌, ◌^◌, List, IfOk, length};
 ghost use Rattle.cv_pool.specs.KindTree.{KindTree};
-ghost use Rattle.cv_syntax.specs.Tree.{Tree};
+ghost use Rattle.cv_syntax_trees.specs.Tree.{Tree};
 ghost use Rattle.cv_meaning_contexts.specs.Inlined.{index_terms, with_call_of};
 ghost use Rattle.cv_inline_terms.specs.Callers.{caller_in};
 ghost use Rattle.cv_inline_terms.specs.Drawings.{drawn_in};

@@ -1,9 +1,9 @@
 -- The branches of a find of the next game, for each site those of the text that go over its calls.
 use Rattle.std.proofs.Common.{◌≡◌, ℕ, zero, suc, ◌+◌, Bool, true, false, cond, ◌==◌, List, [], ◌∷◌, ◌++◌, length, map, Option, Some, refl, ap, sym, ◌∙◌, arith, add-zero, zero-add}
 use Rattle.std.proofs.lemmas.List.{map-append}
-use Rattle.cv_syntax.specs.declared.head.Head.TheVariants as head
+use Rattle.cv_syntax_trees.specs.declared.head.Head.TheVariants as head
 use Rattle.cv_syntax.specs.Postorder.{joined}
-use Rattle.cv_syntax.specs.Tree.{Tree, Empty, Node, second_place}
+use Rattle.cv_syntax_trees.specs.Tree.{Tree, Empty, Node, second_place}
 use Rattle.cv_meaning_contexts.specs.Bodies.{body_place}
 use Rattle.cv_meaning_contexts.specs.Inlined.{Caller, Drawn, Scope, branch_for, cells_then, expanded, expanded_at, index_terms, inlined_body, inlined_branch, with_call_of}
 use Rattle.cv_inline_pairs.specs.Pairs.{Pair, branch_of_pair, pairs_with}

@@ -1,9 +1,10 @@
 -- A right body by the head of its node.
 use Rattle.std.proofs.Common.{◌≡◌, ℕ, List, ◌∷◌, refl, ap, sym, ◌∙◌}
 use Rattle.cv_pool.specs.KindTree.{KindTree}
-use Rattle.cv_syntax.specs.declared.head.Head.{Head}
-use Rattle.cv_syntax.specs.declared.head.Head.TheVariants.{New, Let, If, Find, Cons}
-use Rattle.cv_syntax.specs.Tree.{Tree, Empty, Node, first_place, second_place, tree_at}
+use Rattle.cv_syntax_trees.specs.declared.head.Head.{Head}
+use Rattle.cv_syntax_trees.specs.declared.head.Head.TheVariants.{New, Let, If, Find, Cons}
+use Rattle.cv_syntax_trees.specs.Tree.{Tree, Empty, Node, first_place, second_place}
+use Rattle.cv_syntax.specs.PoolTrees.{tree_at}
 use Rattle.cv_meaning_contexts.specs.Inlined.{Caller, Drawn, Own, Scope, expanded, find_or_else, in_game, inlined_body, inlined_branch}
 use Rattle.cv_inline_listing.specs.Subtrees.{IsNodeAt}
 use Rattle.cv_inline_listing.specs.declared.subtree.Subtree.{Subtree}

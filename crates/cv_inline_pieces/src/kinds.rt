@@ -2,7 +2,8 @@ ghost use Rattle.std.specs.Prelude.{◌≡◌, ◌∷◌, ◌<◌, ◌^◌, List
 ghost use Rattle.cv_pool.specs.KindTree.{KindTree};
 ghost use Rattle.cv_pool.specs.Nodes.{ChildBelow};
 ghost use Rattle.cv_syntax.specs.Postorder.{joined};
-ghost use Rattle.cv_syntax.specs.Tree.{Empty, Tree, tree_at};
+ghost use Rattle.cv_syntax_trees.specs.Tree.{Empty, Tree};
+ghost use Rattle.cv_syntax.specs.PoolTrees.{tree_at};
 ghost use Rattle.cv_meaning_contexts.specs.Inlined.{Drawn};
 ghost use Rattle.cv_inline_terms.specs.declared.calling.Calling.{Calling};
 ghost use Rattle.cv_inline_terms.specs.declared.caller.Caller.{Caller};

@@ -1,7 +1,7 @@
 -- What a table of drawn names has to do with a reduction. This profile's own.
 use Rattle.std.specs.Prelude.{◌≡◌, ℕ, ◌<◌, true, List, All}
-use Rattle.cv_syntax.specs.Tree.{Tree}
-use Rattle.cv_syntax.specs.Declarations.{Declaration}
+use Rattle.cv_syntax_trees.specs.Tree.{Tree}
+use Rattle.cv_syntax_trees.specs.Declarations.{Declaration}
 use Rattle.cv_scenes.specs.Reductions.{Reduction, context_of_game}
 use Rattle.cv_scenes.specs.Scenes.{Scene, names}
 use Rattle.cv_meaning_contexts.specs.Inlined.{Drawn}

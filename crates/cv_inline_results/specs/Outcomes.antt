@@ -3,8 +3,9 @@ use Rattle.std.specs.Prelude.{ℕ, List, map, reverse, slice_get, Option, Some, 
 use Rattle.cv_pool.specs.KindTree.{KindTree}
 use Rattle.cv_pool.specs.declared.node.NodeId.{NodeId}
 use Rattle.cv_pool.specs.Nodes.{ChildBelow}
-use Rattle.cv_syntax.specs.declared.head.Head.TheVariants.{No}
-use Rattle.cv_syntax.specs.Tree.{Tree, lone, tree_at}
+use Rattle.cv_syntax_trees.specs.declared.head.Head.TheVariants.{No}
+use Rattle.cv_syntax_trees.specs.Tree.{Tree, lone}
+use Rattle.cv_syntax.specs.PoolTrees.{tree_at}
 use Rattle.cv_meaning_contexts.specs.Inlined.{Drawn, in_game, index_terms}
 use Rattle.cv_inline_games.specs.NextGame.{Results}
 use Rattle.cv_inline_terms.specs.declared.calling.Calling.{Calling}

@@ -1,6 +1,6 @@
 ghost use Rattle.std.specs.Prelude.{◌≡◌, ◌∷◌, All, IfOk, length};
 ghost use Rattle.cv_pool.specs.Nodes.{ChildBelow};
-ghost use Rattle.cv_syntax.specs.Tree.{tree_at};
+ghost use Rattle.cv_syntax.specs.PoolTrees.{tree_at};
 ghost use Rattle.cv_inline_games.specs.NextGame as games;
 ghost use Rattle.cv_inline_games.specs.NextGame.{result_for};
 ghost use Rattle.cv_inline_terms.specs.Callers.{HasLiveCaller};

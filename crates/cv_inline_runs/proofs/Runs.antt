@@ -1,7 +1,7 @@
 -- The run of a context with the right side, and that of its next game.
 use Rattle.std.proofs.Common.{◌≡◌, ℕ, true, false, cond, ◌&&◌, List, [], ◌∷◌, length, is_some, Option, Some, None, refl, sym, ap, ap₂, subst}
 use Rattle.std.specs.List.{AllByRecursion}
-use Rattle.cv_syntax.specs.Tree.{Tree}
+use Rattle.cv_syntax_trees.specs.Tree.{Tree}
 use Rattle.cv_meaning.specs.Interpretation.{Setting}
 use Rattle.cv_meaning.specs.Memory.{no_memory, nowhere, tuple}
 use Rattle.cv_meaning.specs.Binders.{fits}

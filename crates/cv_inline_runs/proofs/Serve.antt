@@ -2,8 +2,8 @@
 use Rattle.std.proofs.Common.{◌≡◌, ℕ, zero, suc, Bool, true, false, cond, ◌&&◌, not, ◌==◌, is_some, eqb-true, eq-eqb, if◌then◌else◌, List, [], ◌∷◌, ◌++◌, flat_map, Option, Some, None, refl, sym, ap, ap₂, subst, ◌∙◌}
 use Rattle.std.proofs.lemmas.Bool.{both_ways}
 use Rattle.std.specs.List.{AllByRecursion}
-use Rattle.cv_syntax.specs.declared.head.Head.TheVariants.{Stop, Yield, Par, Repl, In, Out, Event, New, Let, If, Find, Branch, Cons, Key, Call}
-use Rattle.cv_syntax.specs.Tree.{Tree, Empty, Node, first, second, first_place, second_place}
+use Rattle.cv_syntax_trees.specs.declared.head.Head.TheVariants.{Stop, Yield, Par, Repl, In, Out, Event, New, Let, If, Find, Branch, Cons, Key, Call}
+use Rattle.cv_syntax_trees.specs.Tree.{Tree, Empty, Node, first, second, first_place, second_place}
 use Rattle.cv_meaning.specs.Tapes.{Tape, New_at, Find_at, Key_at, same_tuple}
 use Rattle.cv_meaning.specs.Side.{CallNumber, Arrays, OracleAnswer}
 use Rattle.cv_meaning.specs.Interpretation.{Setting}

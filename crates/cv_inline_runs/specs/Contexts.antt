@@ -1,7 +1,7 @@
 -- Contexts of which each call stands before a statement, and what is expected of the visits of a run. This profile's own.
 use Rattle.std.specs.Prelude.{◌≡◌, ℕ, Bool, true, false, List, [], ◌∷◌, ◌⊎◌, Some, None}
-use Rattle.cv_syntax.specs.declared.head.Head.TheVariants.{Stop, Yield, Par, Repl, In, Out, Event, New, Let, If, Find, Branch, Leaf, Read, Apply, Eq, And, Or, Not, Yes, No, Cons, Key, Call}
-use Rattle.cv_syntax.specs.Tree.{Tree, Empty, Node, first, second, binds, reads_only}
+use Rattle.cv_syntax_trees.specs.declared.head.Head.TheVariants.{Stop, Yield, Par, Repl, In, Out, Event, New, Let, If, Find, Branch, Leaf, Read, Apply, Eq, And, Or, Not, Yes, No, Cons, Key, Call}
+use Rattle.cv_syntax_trees.specs.Tree.{Tree, Empty, Node, first, second, binds, reads_only}
 use Rattle.std.specs.List.{AllByRecursion}
 use Rattle.cv_meaning.specs.Tapes.{New_at, Find_at, Key_at, Test_at, cells_of}
 use Rattle.cv_meaning.specs.Runs.{Mode, Events, Real, Random, Adversary}

@@ -1,7 +1,7 @@
 -- The run of a context with the right side beside that of its next game. This profile's own.
 use Rattle.std.specs.Prelude.{◌≡◌, ℕ, ◌<◌, Bool, true, false, ◌==◌, List, [], ◌∷◌, length, is_some, Some, None}
 use Rattle.std.specs.List.{AllByRecursion}
-use Rattle.cv_syntax.specs.Tree.{Tree, reads_only}
+use Rattle.cv_syntax_trees.specs.Tree.{Tree, reads_only}
 use Rattle.cv_meaning.specs.Tapes.{Tape, New_at, Find_at, Made_at, Picked_at, Key_at, same_tuple}
 use Rattle.cv_meaning.specs.Side.{CallNumber, Arrays, OracleAnswer}
 use Rattle.cv_meaning.specs.Interpretation.{Setting}

@@ -3,7 +3,7 @@
 
 ghost use Rattle.std.specs.Prelude.{◌≡◌, ℕ, List, [], ◌∷◌};
 ghost use Rattle.std.specs.List.{AllByRecursion};
-ghost use Rattle.cv_syntax.specs.Tree.{Tree};
+ghost use Rattle.cv_syntax_trees.specs.Tree.{Tree};
 ghost use Rattle.cv_meaning.specs.Side.{Arrays, OracleCall};
 ghost use Rattle.cv_meaning.specs.Memory.{Happened, Indices, Store, tuple};
 ghost use Rattle.cv_meaning.specs.Terms.{values};

@@ -1,9 +1,10 @@
 -- Branches, and the bodies below a body, by their heads.
 use Rattle.std.proofs.Common.{◌≡◌, ℕ, true, false, List, [], ◌++◌, refl, ap, ap₂, sym, ◌∙◌}
 use Rattle.cv_pool.specs.KindTree.{KindTree}
-use Rattle.cv_syntax.specs.declared.head.Head.{Head}
-use Rattle.cv_syntax.specs.declared.head.Head.TheVariants.{New, Let, If, Find, Branch, Cons}
-use Rattle.cv_syntax.specs.Tree.{Tree, Empty, Node, first_place, second_place, tree_at}
+use Rattle.cv_syntax_trees.specs.declared.head.Head.{Head}
+use Rattle.cv_syntax_trees.specs.declared.head.Head.TheVariants.{New, Let, If, Find, Branch, Cons}
+use Rattle.cv_syntax_trees.specs.Tree.{Tree, Empty, Node, first_place, second_place}
+use Rattle.cv_syntax.specs.PoolTrees.{tree_at}
 use Rattle.cv_meaning_contexts.specs.Bodies.{body_place}
 use Rattle.cv_meaning_contexts.specs.Inlined.{Caller}
 use Rattle.cv_inline_games.specs.Draws.{body_draws, branches_draws}

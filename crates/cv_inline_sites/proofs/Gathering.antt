@@ -9,7 +9,7 @@ use Rattle.cv_inline_games.specs.NextGame as game
 use Rattle.cv_inline_terms.specs.declared.calling.Calling.{Calling}
 use Rattle.cv_inline_listing.specs.Callings.{callers_in, calling_in, callings_in}
 use Rattle.cv_inline_terms.specs.Callers.{caller_in}
-use Rattle.cv_syntax.specs.Tree.{Tree, Empty, Node, first, second, size}
+use Rattle.cv_syntax_trees.specs.Tree.{Tree, Empty, Node, first, second, size}
 use Rattle.cv_meaning.specs.Correspondences.{typed_names}
 use Rattle.cv_meaning_contexts.specs.Inlined.{Caller}
 use Rattle.cv_inline_games.specs.Draws.{Draw, argument_draws, body_draws}

@@ -1,9 +1,10 @@
 -- What is drawn for a body: for its own node, and for the bodies below it. This profile's own.
 use Rattle.std.specs.Prelude.{ℕ, Bool, true, false, ◌&&◌, List, [], ◌∷◌, ◌++◌, flat_map}
 use Rattle.cv_pool.specs.KindTree.{KindTree}
-use Rattle.cv_syntax.specs.declared.head.Head.{Head}
-use Rattle.cv_syntax.specs.declared.head.Head.TheVariants.{New, Let, If, Find, Branch, Cons}
-use Rattle.cv_syntax.specs.Tree.{Tree, Node, first_place, second_place, tree_at}
+use Rattle.cv_syntax_trees.specs.declared.head.Head.{Head}
+use Rattle.cv_syntax_trees.specs.declared.head.Head.TheVariants.{New, Let, If, Find, Branch, Cons}
+use Rattle.cv_syntax_trees.specs.Tree.{Tree, Node, first_place, second_place}
+use Rattle.cv_syntax.specs.PoolTrees.{tree_at}
 use Rattle.cv_meaning_contexts.specs.Inlined.{Caller}
 use Rattle.cv_inline_games.specs.Draws.{Draw, body_draws, branches_draws, index_draws}
 use Rattle.cv_inline_listing.specs.Listed.{variable_draw}

@@ -1,5 +1,5 @@
 ghost use Rattle.std.specs.Prelude.{◌≡◌, ◌++◌, All, IfOk, map};
-ghost use Rattle.cv_syntax.specs.Tree.{tree_at};
+ghost use Rattle.cv_syntax.specs.PoolTrees.{tree_at};
 ghost use Rattle.cv_inline_games.specs.Draws as draws;
 ghost use Rattle.cv_inline_games.specs.Draws.{finds_in};
 ghost use Rattle.cv_inline_listing.specs.Callings.{IsLiveCalling, callings_in};

@@ -1,8 +1,8 @@
 -- The names of a tree, node by node.
 use Rattle.std.proofs.Common.{◌≡◌, ℕ, List, [], ◌++◌, refl, ap, sym, ◌∙◌}
 use Rattle.std.proofs.lemmas.List.{append-nil, append_assoc}
-use Rattle.cv_syntax.specs.declared.head.Head.{Head}
-use Rattle.cv_syntax.specs.Tree.{Tree, Empty, Node}
+use Rattle.cv_syntax_trees.specs.declared.head.Head.{Head}
+use Rattle.cv_syntax_trees.specs.Tree.{Tree, Empty, Node}
 use Rattle.cv_inline_taken.specs.Taken.{names_at, names_in}
 
 names_in-Node : (h : Head) (a b : Tree) → names_in (Node h a b) ≡ names_at h ++ (names_in a ++ names_in b)

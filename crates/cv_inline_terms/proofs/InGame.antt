@@ -1,9 +1,9 @@
 -- A term in the game, by its head.
 use Rattle.std.proofs.Common.{◌≡◌, ℕ, Option, Some, None, refl, ap, sym, ◌∙◌, false}
-use Rattle.cv_syntax.specs.declared.head.Head.{Head}
-use Rattle.cv_syntax.specs.declared.head.Head.TheVariants.{Leaf, Read, Eq}
-use Rattle.cv_syntax.specs.Children.{is_empty}
-use Rattle.cv_syntax.specs.Tree.{Tree, Empty, Node, first}
+use Rattle.cv_syntax_trees.specs.declared.head.Head.{Head}
+use Rattle.cv_syntax_trees.specs.declared.head.Head.TheVariants.{Leaf, Read, Eq}
+use Rattle.cv_syntax_trees.specs.Children.{is_empty}
+use Rattle.cv_syntax_trees.specs.Tree.{Tree, Empty, Node, first}
 use Rattle.cv_meaning_contexts.specs.Inlined.{Caller, Drawn, Scope, array_in_game, call_in, in_game, indices_equal, leaf_in_game, read_at, standing_of}
 use Rattle.cv_inline_terms.specs.Scopes.{both, same_call}
 

@@ -1,7 +1,7 @@
 -- A scope, read from its newest name on.
 use Rattle.std.proofs.Common.{◌≡◌, ℕ, ◌+◌, ◌<◌, ◌==◌, if◌then◌else◌, List, [], ◌∷◌, ◌++◌, length, take, get_or, map, Some, ap, ◌∙◌}
 use Rattle.std.proofs.lemmas.List.{reverse-append, take_more}
-use Rattle.cv_syntax.specs.Tree.{Tree}
+use Rattle.cv_syntax_trees.specs.Tree.{Tree}
 use Rattle.cv_meaning_contexts.specs.Inlined as bodies
 use Rattle.cv_inline_terms.specs.declared.scope.Entry.{Entry}
 use Rattle.cv_inline_terms.specs.Scopes.{entry_in, scope_in, standing_in}

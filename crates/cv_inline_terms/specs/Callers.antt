@@ -3,8 +3,9 @@ use Rattle.std.specs.Prelude.{ℕ, ◌==◌, if◌then◌else◌, List}
 use Rattle.cv_pool.specs.KindTree.{KindTree}
 use Rattle.cv_pool.specs.Nodes.{ChildBelow}
 use Rattle.std.specs.List.{list_any}
-use Rattle.cv_syntax.specs.declared.head.Head.TheVariants.{Leaf}
-use Rattle.cv_syntax.specs.Tree.{Tree, lone, tree_at}
+use Rattle.cv_syntax_trees.specs.declared.head.Head.TheVariants.{Leaf}
+use Rattle.cv_syntax_trees.specs.Tree.{Tree, lone}
+use Rattle.cv_syntax.specs.PoolTrees.{tree_at}
 use Rattle.cv_meaning_contexts.specs.Inlined as bodies
 use Rattle.cv_inline_terms.specs.declared.caller.Caller.{Caller}
 use Rattle.cv_inline_terms.specs.declared.calling.Calling.{Calling}

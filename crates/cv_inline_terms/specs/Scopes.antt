@@ -1,7 +1,7 @@
 -- A scope of the code as one of the definitions. This profile's own.
 use Rattle.std.specs.Prelude.{ℕ, ◌==◌, if◌then◌else◌, List, map, reverse, Option, Some, None}
-use Rattle.cv_syntax.specs.declared.head.Head.TheVariants.{No}
-use Rattle.cv_syntax.specs.Tree.{Tree, lone}
+use Rattle.cv_syntax_trees.specs.declared.head.Head.TheVariants.{No}
+use Rattle.cv_syntax_trees.specs.Tree.{Tree, lone}
 use Rattle.cv_meaning_contexts.specs.Inlined as bodies
 use Rattle.cv_inline_terms.specs.declared.scope.Called.{Called}
 use Rattle.cv_inline_terms.specs.declared.scope.Entry.{Entry}

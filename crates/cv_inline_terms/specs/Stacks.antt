@@ -1,9 +1,9 @@
 -- What a list of parts has made so far. This profile's own.
 use Rattle.std.specs.Prelude.{ℕ, suc, List, [], ◌∷◌}
-use Rattle.cv_syntax.specs.declared.head.Head.TheVariants.{Cons, Eq}
+use Rattle.cv_syntax_trees.specs.declared.head.Head.TheVariants.{Cons, Eq}
 use Rattle.cv_syntax.specs.declared.make.Make.{Make}
 use Rattle.cv_syntax.specs.Postorder.{made}
-use Rattle.cv_syntax.specs.Tree.{Tree, Empty, Node}
+use Rattle.cv_syntax_trees.specs.Tree.{Tree, Empty, Node}
 use Rattle.cv_meaning_contexts.specs.Inlined.{read_at}
 
 -- the trees, the newest first

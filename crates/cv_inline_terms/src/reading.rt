@@ -1,8 +1,8 @@
 ghost use Rattle.std.specs.Prelude.{◌≡◌, ◌∷◌, IfOk, length};
 ghost use Rattle.cv_meaning_contexts.specs.Inlined as bodies;
 ghost use Rattle.cv_meaning_contexts.specs.Inlined.{and_equal, read_at};
-ghost use Rattle.cv_syntax.specs.Tree as tree;
-ghost use Rattle.cv_syntax.specs.declared.head.Head.TheVariants as head;
+ghost use Rattle.cv_syntax_trees.specs.Tree as tree;
+ghost use Rattle.cv_syntax_trees.specs.declared.head.Head.TheVariants as head;
 ghost use Rattle.cv_inline_terms.specs.Drawings.{drawn_in};
 ghost use Rattle.cv_inline_terms.specs.Stacks.{equation, stack, tuple_at};
 

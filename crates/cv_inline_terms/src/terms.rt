@@ -1,7 +1,8 @@
 ghost use Rattle.std.specs.Prelude.{◌≡◌, ◌∷◌, ◌==◌, IfOk, length, option_map};
 ghost use Rattle.std.specs.List.{list_any};
 ghost use Rattle.cv_pool.specs.Nodes.{ChildBelow};
-ghost use Rattle.cv_syntax.specs.Tree.{Tree, tree_at};
+ghost use Rattle.cv_syntax_trees.specs.Tree.{Tree};
+ghost use Rattle.cv_syntax.specs.PoolTrees.{tree_at};
 ghost use Rattle.cv_meaning_contexts.specs.Inlined as bodies;
 ghost use Rattle.cv_meaning_contexts.specs.Inlined.{array_in_game, index_terms, leaf_in_game, read_at};
 ghost use Rattle.cv_inline_terms.specs.Callers.{IsLiveCaller, caller_in, unbound_name};

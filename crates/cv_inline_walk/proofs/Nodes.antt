@@ -1,9 +1,9 @@
 -- The next game of a node, by its head.
 use Rattle.std.proofs.Common.{◌≡◌, List, ◌∷◌, ◌∙◌, ap, refl, sym}
-use Rattle.cv_syntax.specs.declared.head.Head.{Head}
-use Rattle.cv_syntax.specs.declared.head.Head.TheVariants as head
+use Rattle.cv_syntax_trees.specs.declared.head.Head.{Head}
+use Rattle.cv_syntax_trees.specs.declared.head.Head.TheVariants as head
 use Rattle.cv_syntax.specs.Postorder.{joined}
-use Rattle.cv_syntax.specs.Tree.{Tree, Empty, Node}
+use Rattle.cv_syntax_trees.specs.Tree.{Tree, Empty, Node}
 use Rattle.cv_inline_games.specs.NextGame.{InlinedCalls, Results, next_in}
 use Rattle.cv_inline_terms.proofs.Pushes.{over_two}
 use Rattle.cv_inline_walk.specs.declared.forms.Form.{Form}

@@ -2,7 +2,7 @@
 use Rattle.std.proofs.Common.{◌≡◌, ℕ, ◌+◌, ◌<◌, List, [], ◌∷◌, ◌++◌, length, All, take, get_or, refl, ap, sym, subst, ◌∙◌, ◌≤◌, Option, Some, None, option_map}
 use Rattle.std.proofs.lemmas.List.{take_all, take_more}
 use Rattle.cv_pool.specs.KindTree.{KindTree}
-use Rattle.cv_syntax.specs.Tree.{Tree}
+use Rattle.cv_syntax_trees.specs.Tree.{Tree}
 use Rattle.cv_meaning_contexts.specs.Inlined.{Drawn}
 use Rattle.cv_inline_games.specs.NextGame as game
 use Rattle.cv_inline_games.specs.NextGame.{InlinedCalls, call_in_game}

@@ -1,8 +1,8 @@
 -- What the next game has for a node, by the node's head. This profile's own.
 use Rattle.std.specs.Prelude.{ℕ, [], ◌∷◌}
-use Rattle.cv_syntax.specs.declared.head.Head.{Head}
-use Rattle.cv_syntax.specs.declared.head.Head.TheVariants as head
-use Rattle.cv_syntax.specs.Tree.{Tree, Empty, Node, second}
+use Rattle.cv_syntax_trees.specs.declared.head.Head.{Head}
+use Rattle.cv_syntax_trees.specs.declared.head.Head.TheVariants as head
+use Rattle.cv_syntax_trees.specs.Tree.{Tree, Empty, Node, second}
 use Rattle.cv_inline_games.specs.NextGame.{InlinedCalls, Results, call_in_game, game_name, next_in, numbered, with_results}
 use Rattle.cv_inline_walk.specs.declared.forms.First.{First}
 use Rattle.cv_inline_walk.specs.declared.forms.First.TheVariants as of_first

@@ -7,7 +7,8 @@ use Rattle.cv_pool.specs.declared.pool.PoolError.{PoolError}
 use Rattle.cv_pool.specs.declared.pool.PoolError.TheVariants as pool
 use Rattle.cv_syntax.specs.declared.work.BuildError.{BuildError}
 use Rattle.cv_syntax.specs.declared.work.BuildError.TheVariants as build
-use Rattle.cv_syntax.specs.Tree.{Tree, depth, size, tree_at}
+use Rattle.cv_syntax_trees.specs.Tree.{Tree, depth, size}
+use Rattle.cv_syntax.specs.PoolTrees.{tree_at}
 use Rattle.cv_syntax_limits.specs.Limits.{most_depth, most_nodes, nodes_of, told}
 
 -- a tree within the limits is made in a pool that had so many nodes

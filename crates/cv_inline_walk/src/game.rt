@@ -1,6 +1,7 @@
 ghost use Rattle.std.specs.Prelude.{◌≡◌, ◌∷◌, All, IfOk, Some, length, slice_get};
 ghost use Rattle.cv_pool.specs.Nodes.{ChildBelow};
-ghost use Rattle.cv_syntax.specs.Tree.{second, tree_at};
+ghost use Rattle.cv_syntax_trees.specs.Tree.{second};
+ghost use Rattle.cv_syntax.specs.PoolTrees.{tree_at};
 ghost use Rattle.cv_meaning_contexts.specs.Groups.{Group};
 ghost use Rattle.cv_inline_games.specs.NextGame.{call_in_game, next_in, numbered};
 ghost use Rattle.cv_inline_terms.specs.Drawings.{drawn_in};

@@ -2,7 +2,7 @@
 use Rattle.std.proofs.Common.{◌≡◌, ℕ, ◌<◌, Bool, true, false, cond, ◌||◌, ◌==◌, List, [], ◌∷◌, ◌⊎◌, inl, inr, length, is_some, Option, Some, None, refl, sym, ap, subst, ◌∙◌, eqb-true, eq-eqb, arith}
 use Rattle.std.proofs.lemmas.Bool.{both_ways}
 use Rattle.std.specs.List.{AllByRecursion, IsDistinct, list_any}
-use Rattle.cv_syntax.specs.Tree.{chain, size, binds, reads_only}
+use Rattle.cv_syntax_trees.specs.Tree.{chain, size, binds, reads_only}
 use Rattle.cv_meaning.specs.Tapes.{blank}
 use Rattle.cv_meaning.specs.Candidates.{tuples_up_to}
 use Rattle.cv_meaning.specs.Memory.{Store, nowhere, put}

@@ -7,8 +7,8 @@ use Rattle.cv_meaning_contexts.specs.Inlined.{Drawn}
 use Rattle.cv_meaning_contexts.specs.Roles.{Role, Plain, Replication, Gone}
 use Rattle.cv_inline_games.specs.NextGame.{Calling, callings_of}
 use Rattle.cv_inline_games.specs.Draws.{roles_of, label_draws, drawn_by, drawn_for}
-use Rattle.cv_syntax.specs.Tree.{Empty}
-use Rattle.cv_syntax.specs.Builders.{leaf}
+use Rattle.cv_syntax_trees.specs.Tree.{Empty}
+use Rattle.cv_syntax_trees.specs.Builders.{leaf}
 use Rattle.cv_inline_games.specs.Worked.{one_sender, draws_for, was_authenticated}
 
 -- one sender and one receiver; sizes and parameters are 2, and functions are sums modulo 2

@@ -1,8 +1,8 @@
 -- The derivations of a certificate have no more lines than it has nodes.
 use Rattle.std.proofs.Common.{ℕ, ◌<◌, ◌≤◌, ◌^◌, arith}
-use Rattle.cv_syntax.specs.declared.head.Head.TheVariants as head
+use Rattle.cv_syntax_trees.specs.declared.head.Head.TheVariants as head
 use Rattle.cv_syntax.specs.Postorder.{postorder}
-use Rattle.cv_syntax.specs.Tree.{Tree, Empty, Node}
+use Rattle.cv_syntax_trees.specs.Tree.{Tree, Empty, Node}
 use Rattle.cv_query_check.specs.Countable.{AreCountable, AreCountableParts, IsCountable, IsCountableCertificate, IsCountableSaying, derivation_by}
 use Rattle.cv_query_entries.specs.Said.{cell_way, saying_at, saying_of, way_of}
 use Rattle.cv_syntax_limits.specs.Limits.{nodes_of}

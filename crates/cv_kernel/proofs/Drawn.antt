@@ -1,8 +1,8 @@
 -- The names that are drawn along a trail, with a step more, and where a trail leads.
 use Rattle.std.proofs.Common.{◌≡◌, ℕ, Bool, List, [], ◌∷◌, ◌++◌, map, Option, Some, None, option_and_then, refl, ap, sym, ◌∙◌, subst}
 use Rattle.std.proofs.lemmas.List.{map-append}
-use Rattle.cv_syntax.specs.Declarations.{Declaration}
-use Rattle.cv_syntax.specs.Tree.{Tree}
+use Rattle.cv_syntax_trees.specs.Declarations.{Declaration}
+use Rattle.cv_syntax_trees.specs.Tree.{Tree}
 use Rattle.cv_bound.specs.declared.cost.Cost.{Cost}
 use Rattle.cv_query_certificates.specs.Failures.{Failure}
 use Rattle.cv_scenes.specs.Scenes.{Scene}

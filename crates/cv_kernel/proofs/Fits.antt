@@ -6,7 +6,7 @@ use Rattle.cv_rule.specs.declared.rules.Rule.{Rule}
 use Rattle.cv_rule.specs.declared.rules.Rule.TheVariants as code
 use Rattle.cv_rule.specs.Stated.{IsLiveRule, IsLiveTerm}
 use Rattle.cv_kernel.specs.Rules.{IsShortRule, IsShortTerm}
-use Rattle.cv_syntax.specs.Tree.{Tree, Empty, size, subtree}
+use Rattle.cv_syntax_trees.specs.Tree.{Tree, Empty, size, subtree}
 use Rattle.cv_steps.specs.Changes.{split_process, after_let, after_new}
 use Rattle.cv_scenes.specs.Scenes.{or_empty, part_at}
 use Rattle.cv_draw.proofs.Extents.{size-let, size-new, size-split_process}

@@ -10,8 +10,10 @@ use Rattle.cv_derivations.specs.Lines.{count, lines_of}
 use Rattle.cv_syntax.specs.declared.decls.Decl.{Decl}
 use Rattle.cv_syntax.specs.declared.decls.Decl.TheVariants as decl
 use Rattle.cv_syntax.specs.declared.work.BuildError.TheVariants as build
-use Rattle.cv_syntax.specs.Declarations.{Named, Equation, Equiv, Query, declared, declarations, number}
-use Rattle.cv_syntax.specs.Tree.{Tree, depth, size, tree_at}
+use Rattle.cv_syntax_trees.specs.Declarations.{Named, Equation, Equiv, Query}
+use Rattle.cv_syntax.specs.Declarations.{declared, declarations, number}
+use Rattle.cv_syntax_trees.specs.Tree.{Tree, depth, size}
+use Rattle.cv_syntax.specs.PoolTrees.{tree_at}
 use Rattle.cv_syntax.proofs.Buildings.{child-grown}
 use Rattle.cv_directory.specs.Live.{IsLive}
 use Rattle.cv_bound.specs.declared.cost.Cost.{Cost as SumCost}

@@ -6,12 +6,13 @@ use Rattle.cv_pool.specs.KindTree.{KindTree}
 use Rattle.cv_pool.specs.PoolView.{PoolView, Grows}
 use Rattle.cv_syntax.specs.Classes.{DeclsView}
 use Rattle.cv_syntax.specs.Declarations.{declarations}
-use Rattle.cv_syntax.specs.Tree.{size, tree_at}
+use Rattle.cv_syntax_trees.specs.Tree.{size}
+use Rattle.cv_syntax.specs.PoolTrees.{tree_at}
 use Rattle.cv_directory.specs.Definitions.{entries_of, large_in}
-use Rattle.cv_directory.specs.Sites.{sites_of}
+use Rattle.cv_directory_sorts.specs.Sites.{sites_of}
 use Rattle.cv_directory.specs.Tables.{entries_in}
 use Rattle.cv_kernel_games.specs.declared.testing.Next.{Next}
-use Rattle.cv_typing.specs.Signature.{OfGame}
+use Rattle.cv_typing_rules.specs.Signature.{OfGame}
 use Rattle.cv_typing.specs.Tables.{arrays_of, directory_in}
 use Rattle.cv_scenes.specs.Terms.{is_game}
 use Rattle.cv_rule.specs.Prepared.{IsPrepared}

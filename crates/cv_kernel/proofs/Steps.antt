@@ -1,9 +1,9 @@
 -- The term of a step has no more nodes than the step; nor has its derivation or certificate.
 use Rattle.std.proofs.Common.{◌≤◌, Option, Some, None, arith}
 use Rattle.std.specs.Prelude.{IfSome, option_and_then}
-use Rattle.cv_syntax.specs.declared.head.Head.{Head}
-use Rattle.cv_syntax.specs.declared.head.Head.TheVariants as head
-use Rattle.cv_syntax.specs.Tree.{Tree, Empty, Node, first, second}
+use Rattle.cv_syntax_trees.specs.declared.head.Head.{Head}
+use Rattle.cv_syntax_trees.specs.declared.head.Head.TheVariants as head
+use Rattle.cv_syntax_trees.specs.Tree.{Tree, Empty, Node, first, second}
 use Rattle.cv_script.specs.Views.{StepItems, items_of_step, name_in, number_in, part_in, adds_in, tree_in, ◌>>=◌}
 use Rattle.cv_script.specs.Views as items
 use Rattle.cv_steps.specs.Steps.{Step, Split, Let, Rewrite, Prune}

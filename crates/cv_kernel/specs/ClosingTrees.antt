@@ -1,7 +1,7 @@
 -- Steps that close a query, as nodes of a pool. This profile's own.
 use Rattle.std.specs.Prelude.{List}
 use Rattle.cv_pool.specs.KindTree.{KindTree}
-use Rattle.cv_syntax.specs.Tree.{tree_at}
+use Rattle.cv_syntax.specs.PoolTrees.{tree_at}
 use Rattle.cv_kernel.specs.declared.closing.Closing.{Closing as Code}
 use Rattle.cv_kernel.specs.Closings.{Closing}
 

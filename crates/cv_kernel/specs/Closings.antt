@@ -1,7 +1,7 @@
 -- Steps that close a query. A query is closed once, by a certificate that is accepted in the last game, and the game stays. This
 -- profile's own.
 use Rattle.std.specs.Prelude.{ℕ, if◌then◌else◌, List, Option, Some, None, option_and_then}
-use Rattle.cv_syntax.specs.Tree.{Tree}
+use Rattle.cv_syntax_trees.specs.Tree.{Tree}
 use Rattle.cv_meaning.specs.Queries.{queries_in}
 use Rattle.cv_query_certificates.specs.Failures.{Failure, first_failure}
 use Rattle.cv_scenes.specs.Scenes.{Scene}

@@ -1,6 +1,6 @@
 -- Cryptographic steps by the names of their equivalence and of the variable for its key. This profile's own.
 use Rattle.std.specs.Prelude.{Option, Some, None, option_and_then}
-use Rattle.cv_syntax.specs.Tree.{Tree}
+use Rattle.cv_syntax_trees.specs.Tree.{Tree}
 use Rattle.cv_script.specs.Views.{StepItems, items_of_step}
 use Rattle.cv_script.specs.Views as items
 use Rattle.cv_kernel.specs.declared.reducing.Reducing.{Reducing}

@@ -6,7 +6,8 @@ use Rattle.cv_pool.specs.declared.pool.PoolError.TheVariants as pool
 use Rattle.cv_pool.specs.KindTree.{KindTree}
 use Rattle.cv_pool.specs.Nodes.{ChildBelow}
 use Rattle.cv_syntax.specs.declared.work.BuildError.TheVariants as build
-use Rattle.cv_syntax.specs.Tree.{Tree, size, tree_at}
+use Rattle.cv_syntax_trees.specs.Tree.{Tree, size}
+use Rattle.cv_syntax.specs.PoolTrees.{tree_at}
 use Rattle.cv_path.specs.Places.{nodes_above}
 use Rattle.cv_path.specs.declared.error.PathError.{PathError}
 use Rattle.cv_path.specs.declared.error.PathError.TheVariants as path

@@ -1,7 +1,7 @@
 -- What may be said of the tree of a step: of a cryptographic step what it may come to, and of every other step the one judgement. This
 -- profile's own.
 use Rattle.std.specs.Prelude.{◌≡◌, ℕ, List, Option, Some}
-use Rattle.cv_syntax.specs.Tree.{Tree}
+use Rattle.cv_syntax_trees.specs.Tree.{Tree}
 use Rattle.cv_bound.specs.declared.cost.Cost.{Cost}
 use Rattle.cv_scenes.specs.Scenes.{Scene}
 use Rattle.cv_script.specs.Views.{StepItems, items_of_step}

@@ -4,7 +4,8 @@ use Rattle.cv_pool.specs.KindTree.{KindTree}
 use Rattle.cv_pool.specs.PoolView.{PoolView}
 use Rattle.cv_syntax.specs.Classes.{DeclsView}
 use Rattle.cv_syntax.specs.declared.work.BuildError.TheVariants as build
-use Rattle.cv_syntax.specs.Tree.{Tree, size, tree_at}
+use Rattle.cv_syntax_trees.specs.Tree.{Tree, size}
+use Rattle.cv_syntax.specs.PoolTrees.{tree_at}
 use Rattle.cv_syntax.specs.Declarations.{declarations}
 use Rattle.cv_scope_rules.specs.Phrases.{IsWellFormed}
 use Rattle.cv_bound.specs.declared.cost.Cost.TheVariants as bound

@@ -1,6 +1,6 @@
 -- What is said of the tree of a step in a game.
 use Rattle.std.specs.Prelude.{ℕ, min, Option, Some, None, option_and_then}
-use Rattle.cv_syntax.specs.Tree.{Tree}
+use Rattle.cv_syntax_trees.specs.Tree.{Tree}
 use Rattle.cv_script.specs.declared.views.Part.{Part as Written}
 use Rattle.cv_script.specs.declared.views.Part.TheVariants as written
 use Rattle.cv_script.specs.Views.{StepItems, items_of_step}

@@ -4,8 +4,9 @@ use Rattle.std.specs.Prelude.{IfErr, IfOk, IsErrAnd, OnOk}
 use Rattle.cv_pool.specs.KindTree.{KindTree}
 use Rattle.cv_pool.specs.declared.node.NodeId.{NodeId}
 use Rattle.cv_syntax.specs.declared.work.BuildError.TheVariants as build
-use Rattle.cv_syntax.specs.Declarations.{Declaration}
-use Rattle.cv_syntax.specs.Tree.{Tree, size, tree_at}
+use Rattle.cv_syntax_trees.specs.Declarations.{Declaration}
+use Rattle.cv_syntax_trees.specs.Tree.{Tree, size}
+use Rattle.cv_syntax.specs.PoolTrees.{tree_at}
 use Rattle.cv_bound.specs.declared.cost.Cost.TheVariants as bound
 use Rattle.cv_scenes.specs.Reductions.{context_of_game}
 use Rattle.cv_scenes.specs.Scenes.{Scene}

@@ -1,16 +1,17 @@
 -- What names are declared as, node by node.
 use Rattle.std.proofs.Common.{◌≡◌, ℕ, Bool, true, false, ◌&&◌, ◌||◌, ◌==◌, List, Option, Some, None, option_map, refl, ap, sym, ◌∙◌}
 use Rattle.cv_pool.specs.KindTree.{KindTree}
-use Rattle.cv_syntax.specs.declared.decls.Class.{Class}
-use Rattle.cv_syntax.specs.declared.decls.Class.TheVariants as class
+use Rattle.cv_syntax_trees.specs.declared.class.Class.{Class}
+use Rattle.cv_syntax_trees.specs.declared.class.Class.TheVariants as class
 use Rattle.cv_syntax.specs.declared.decls.Decl.{Decl}
 use Rattle.cv_syntax.specs.declared.decls.Decl.TheVariants as decl
-use Rattle.cv_syntax.specs.declared.head.Head.{Head}
-use Rattle.cv_syntax.specs.declared.head.Head.TheVariants.{Binder}
+use Rattle.cv_syntax_trees.specs.declared.head.Head.{Head}
+use Rattle.cv_syntax_trees.specs.declared.head.Head.TheVariants.{Binder}
 use Rattle.cv_syntax.specs.Classes.{class_by, class_in, declaration_in}
-use Rattle.cv_syntax.specs.Declarations.{Declaration, declarations, declared}
-use Rattle.cv_syntax.specs.Tree.{Tree, Empty, Node}
-use Rattle.cv_typing.specs.Signature.{declaration_of}
+use Rattle.cv_syntax_trees.specs.Declarations.{Declaration}
+use Rattle.cv_syntax.specs.Declarations.{declarations, declared}
+use Rattle.cv_syntax_trees.specs.Tree.{Tree, Empty, Node}
+use Rattle.cv_typing_rules.specs.Signature.{declaration_of}
 use Rattle.cv_typing.proofs.Bridges.{declaration-same}
 use Rattle.cv_scenes.specs.Scenes.{is_type_by}
 use Rattle.cv_rule_scenes.specs.Kept.{is_type_class}

@@ -7,8 +7,9 @@ use Rattle.cv_syntax.specs.Classes.{DeclsView, declaration_in, equiv_by, equiv_i
 use Rattle.cv_syntax.specs.declared.decls.Decl.{Decl}
 use Rattle.cv_syntax.specs.declared.decls.Decl.TheVariants as decl
 use Rattle.cv_syntax.specs.Declarations.{declared}
-use Rattle.cv_syntax.specs.Tree.{Tree, tree_at}
-use Rattle.cv_typing.specs.Signature.{declaration_of}
+use Rattle.cv_syntax_trees.specs.Tree.{Tree}
+use Rattle.cv_syntax.specs.PoolTrees.{tree_at}
+use Rattle.cv_typing_rules.specs.Signature.{declaration_of}
 use Rattle.cv_scenes.specs.Contexts.{matching_of}
 use Rattle.cv_scenes.specs.Refusals.{Refusal, first_refusal}
 use Rattle.cv_scenes.specs.Scenes.{names}

@@ -6,8 +6,9 @@ use Rattle.cv_pool.specs.PoolView.{PoolView, Grows}
 use Rattle.cv_pool.proofs.Growth.{ChildBelow-more, Grows-length}
 use Rattle.cv_syntax.specs.declared.decls.Decl.{Decl}
 use Rattle.cv_syntax.specs.declared.decls.Decl.TheVariants as decl
-use Rattle.cv_syntax.specs.Declarations.{Named, Equation, Equiv, Query, declared, declarations, number}
-use Rattle.cv_syntax.specs.Tree.{tree_at}
+use Rattle.cv_syntax_trees.specs.Declarations.{Named, Equation, Equiv, Query}
+use Rattle.cv_syntax.specs.Declarations.{declared, declarations, number}
+use Rattle.cv_syntax.specs.PoolTrees.{tree_at}
 use Rattle.cv_syntax.proofs.Buildings.{child-grown}
 use Rattle.cv_directory.specs.Live.{IsLive}
 

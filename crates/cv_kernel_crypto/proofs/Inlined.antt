@@ -2,7 +2,7 @@
 use Rattle.std.proofs.Common.{◌≡◌, ℕ, List, [], map, Some, ap, ◌∙◌, subst}
 use Rattle.cv_pool.specs.KindTree.{KindTree}
 use Rattle.cv_pool.specs.declared.node.NodeId.{NodeId}
-use Rattle.cv_syntax.specs.Tree.{tree_at}
+use Rattle.cv_syntax.specs.PoolTrees.{tree_at}
 use Rattle.cv_meaning_contexts.specs.Groups.{Right, side_group}
 use Rattle.cv_meaning_contexts.specs.Inlined.{Drawn}
 use Rattle.cv_match_patterns.specs.declared.site.Site.{Site}

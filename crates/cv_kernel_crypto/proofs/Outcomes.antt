@@ -8,7 +8,7 @@ use Rattle.cv_pool.specs.declared.pool.PoolError.{PoolError}
 use Rattle.cv_pool.specs.declared.pool.PoolError.TheVariants as pool
 use Rattle.cv_syntax.specs.declared.work.BuildError.{BuildError}
 use Rattle.cv_syntax.specs.declared.work.BuildError.TheVariants as build
-use Rattle.cv_syntax.specs.Tree.{Tree, depth, size}
+use Rattle.cv_syntax_trees.specs.Tree.{Tree, depth, size}
 use Rattle.cv_scenes.specs.Reductions.{context_of_game}
 use Rattle.cv_scenes.specs.Scenes.{Scene}
 use Rattle.cv_inline_walk.specs.Made.{IsMade}

@@ -3,13 +3,13 @@ use Rattle.std.proofs.Common.{◌≡◌, ℕ, Bool, true, false, if◌then◌els
 use Rattle.cv_pool.specs.PoolView.{PoolView}
 use Rattle.cv_pool.specs.declared.node.NodeId.{NodeId}
 use Rattle.cv_syntax.specs.Classes.{DeclsView, equiv_in}
-use Rattle.cv_syntax.specs.Tree.{tree_at}
+use Rattle.cv_syntax.specs.PoolTrees.{tree_at}
 use Rattle.cv_directory.specs.declared.directory.Directory.{Directory}
-use Rattle.cv_directory.specs.Sites.{SitesView, sites_of}
+use Rattle.cv_directory_sorts.specs.Sites.{SitesView, sites_of}
 use Rattle.cv_directory.specs.Tables.{seen}
 use Rattle.cv_typing.specs.declared.arrays.Arrays.{Arrays}
 use Rattle.cv_typing.specs.declared.arrays.Arrays.TheVariants as held
-use Rattle.cv_typing.specs.Signature.{OfGame}
+use Rattle.cv_typing_rules.specs.Signature.{OfGame}
 use Rattle.cv_typing.specs.Tables.{arrays_of}
 use Rattle.cv_scope_rules.specs.Phrases.{IsWellFormed}
 use Rattle.cv_scenes.specs.Contexts.{matching_of}

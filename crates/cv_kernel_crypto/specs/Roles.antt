@@ -1,10 +1,10 @@
 -- What a name in a game is to be declared as, as the code has it.
 use Rattle.std.specs.Prelude.{ℕ, Bool, true, false, List}
-use Rattle.cv_syntax.specs.declared.decls.Class.{Class}
-use Rattle.cv_syntax.specs.declared.decls.Class.TheVariants.{Param}
-use Rattle.cv_syntax.specs.declared.head.Head.{Head}
-use Rattle.cv_syntax.specs.declared.head.Head.TheVariants.{Binder}
-use Rattle.cv_syntax.specs.Declarations.{Declaration}
+use Rattle.cv_syntax_trees.specs.declared.class.Class.{Class}
+use Rattle.cv_syntax_trees.specs.declared.class.Class.TheVariants.{Param}
+use Rattle.cv_syntax_trees.specs.declared.head.Head.{Head}
+use Rattle.cv_syntax_trees.specs.declared.head.Head.TheVariants.{Binder}
+use Rattle.cv_syntax_trees.specs.Declarations.{Declaration}
 use Rattle.cv_steps_crypto.specs.Sorts.{is_parameter, is_type}
 use Rattle.cv_kernel_crypto.specs.declared.sorts.Role.{Role}
 use Rattle.cv_kernel_crypto.specs.declared.sorts.Role.TheVariants.{OfParameter, OfType}

@@ -1,6 +1,7 @@
 ghost use Rattle.std.specs.Prelude.{◌≡◌, ◌+◌, ◌<◌, ◌≤◌, ◌^◌, ℕ, All, IfOk, IsErrOf, OnErr, OnOk, Some, length, map};
 ghost use Rattle.cv_pool.specs.PoolView.{Grows};
-ghost use Rattle.cv_syntax.specs.Tree.{Tree, size, tree_at};
+ghost use Rattle.cv_syntax_trees.specs.Tree.{Tree, size};
+ghost use Rattle.cv_syntax.specs.PoolTrees.{tree_at};
 ghost use Rattle.cv_match_patterns.specs.declared.site.Site.{Site};
 ghost use Rattle.cv_scenes.specs.Scenes.{Scene};
 ghost use Rattle.cv_scenes.specs.Reductions.{context_of_game};

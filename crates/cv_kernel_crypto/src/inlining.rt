@@ -1,6 +1,7 @@
 ghost use Rattle.std.specs.Prelude.{◌≡◌, ◌<◌, ◌^◌, ℕ, All, IfOk, List, OnOk, Some, length, take};
-ghost use Rattle.cv_syntax.specs.Declarations.{Declaration};
-ghost use Rattle.cv_syntax.specs.Tree.{Tree, size, tree_at};
+ghost use Rattle.cv_syntax_trees.specs.Declarations.{Declaration};
+ghost use Rattle.cv_syntax_trees.specs.Tree.{Tree, size};
+ghost use Rattle.cv_syntax.specs.PoolTrees.{tree_at};
 ghost use Rattle.cv_meaning_contexts.specs.Groups.{Right, side_group};
 ghost use Rattle.cv_scenes.specs.Reductions.{Reduction};
 ghost use Rattle.cv_context_answers.specs.Answers.{file_scene};

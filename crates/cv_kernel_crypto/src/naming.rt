@@ -1,5 +1,5 @@
 ghost use Rattle.std.specs.Prelude.{◌≡◌, ◌<◌, ◌↔◌, All, IfOk, IsTrue, Some, length};
-ghost use Rattle.cv_syntax.specs.Tree.{tree_at};
+ghost use Rattle.cv_syntax.specs.PoolTrees.{tree_at};
 ghost use Rattle.cv_kernel_crypto.specs.Stages.{AreTakenNames};
 
 use cv_inline_reductions::taken_names_are_of_file_and_game;

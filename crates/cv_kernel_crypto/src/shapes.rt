@@ -1,9 +1,10 @@
 ghost use Rattle.std.specs.Prelude.{◌≡◌, ◌<◌, ◌^◌, All, IfErr, IfOk, Some, length, option_map};
 ghost use Rattle.cv_syntax.specs.Declarations.{declarations};
-ghost use Rattle.cv_syntax.specs.Tree.{size, tree_at};
+ghost use Rattle.cv_syntax_trees.specs.Tree.{size};
+ghost use Rattle.cv_syntax.specs.PoolTrees.{tree_at};
 ghost use Rattle.cv_directory.specs.Live.{IsLive};
-ghost use Rattle.cv_directory.specs.Sites.{sites_of};
-ghost use Rattle.cv_typing.specs.Signature.{OfGame};
+ghost use Rattle.cv_directory_sorts.specs.Sites.{sites_of};
+ghost use Rattle.cv_typing_rules.specs.Signature.{OfGame};
 ghost use Rattle.cv_typing.specs.Tables.{arrays_of};
 ghost use Rattle.cv_scope_rules.specs.Phrases.{IsWellFormed};
 ghost use Rattle.cv_rule_scenes.specs.Kept.{scene_of};

@@ -2,7 +2,7 @@ ghost use Rattle.std.specs.Prelude.{◌≡◌, ◌<◌, List, length};
 ghost use Rattle.cv_pool.specs.KindTree.{KindTree};
 ghost use Rattle.cv_pool.specs.Nodes.{ChildBelow};
 ghost use Rattle.cv_syntax.specs.Declarations.{declarations};
-ghost use Rattle.cv_syntax.specs.Tree.{tree_at};
+ghost use Rattle.cv_syntax.specs.PoolTrees.{tree_at};
 ghost use Rattle.cv_rule_scenes.specs.Kept.{is_type_class};
 ghost use Rattle.cv_steps_crypto.specs.Sorts as sorts;
 ghost use Rattle.cv_kernel_crypto.specs.Roles.{binds_one, is_of, is_parameter_class};

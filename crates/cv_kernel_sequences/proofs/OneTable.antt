@@ -10,7 +10,7 @@ use Rattle.cv_inline_games.specs.Draws.{Draw, drawn_by, drawn_texts, is_among}
 use Rattle.cv_inline_names.specs.Fresh.{IsDrawnFor, bases_of}
 use Rattle.cv_inline_names.specs.Texts.{text_at, texts_at, with_text, with_texts}
 use Rattle.cv_inline_names.proofs.Texts.{is_among-has}
-use Rattle.cv_syntax.specs.Tree.{Tree}
+use Rattle.cv_syntax_trees.specs.Tree.{Tree}
 use Rattle.cv_context_answers.specs.Drawn.{draws, finds}
 use Rattle.cv_inline_games.specs.NextGame.{next_of}
 use Rattle.cv_inline_reductions.specs.Tables.{labels}

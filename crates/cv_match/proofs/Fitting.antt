@@ -10,8 +10,8 @@ use Rattle.cv_syntax.specs.Classes.{declaration_in, equiv_by, equiv_in, id_of, i
 use Rattle.cv_syntax.specs.declared.decls.Decl.{Decl}
 use Rattle.cv_syntax.specs.declared.decls.Decl.TheVariants as decl
 use Rattle.cv_directory.specs.Live.{IsLive}
-use Rattle.cv_syntax.specs.Tree.{Tree, Empty, Node, first, first_place, second, second_place, size}
-use Rattle.cv_directory.specs.Sites.{first_of}
+use Rattle.cv_syntax_trees.specs.Tree.{Tree, Empty, Node, first, first_place, second, second_place, size}
+use Rattle.cv_directory_sorts.specs.Sites.{first_of}
 use Rattle.cv_meaning_contexts.specs.Groups.{Function, Group, Left, functions_of, side_group}
 use Rattle.cv_scope_rules.specs.declared.position.Position.{Position}
 use Rattle.cv_scope_rules.specs.declared.position.Position.TheVariants.{Anywhere}

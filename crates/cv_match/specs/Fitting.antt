@@ -1,7 +1,8 @@
 -- What the tests of a site ask of it, in a pool with these trees.
 use Rattle.std.specs.Prelude.{ℕ, ◌+◌, ◌<◌, ◌^◌, Bool, ◌&&◌, not, ◌==◌, List, Option, Some}
 use Rattle.cv_pool.specs.KindTree.{KindTree}
-use Rattle.cv_syntax.specs.Tree.{Tree, same_tree, size, tree_at}
+use Rattle.cv_syntax_trees.specs.Tree.{Tree, same_tree, size}
+use Rattle.cv_syntax.specs.PoolTrees.{tree_at}
 use Rattle.cv_scope_rules.specs.Context.{cell_of}
 use Rattle.cv_scenes.specs.Scenes.{is_queried}
 use Rattle.cv_meaning_contexts.specs.Groups.{function_of}

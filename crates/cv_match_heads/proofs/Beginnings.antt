@@ -3,14 +3,14 @@ use Rattle.std.proofs.Common.{◌≡◌, Bool, true, false, List, [], ◌∷◌,
 use Rattle.std.specs.Prelude.{◌||◌}
 use Rattle.std.specs.List.{list_any}
 use Rattle.std.proofs.lemmas.List.Folds.{list_any-append}
-use Rattle.cv_pool.specs.declared.node.Kind.{Kind}
-use Rattle.cv_syntax.specs.declared.head.Head.{Head}
-use Rattle.cv_syntax.specs.Head.{code}
-use Rattle.cv_syntax.specs.Tree.{Tree, Empty, Node}
+use Rattle.cv_syntax_trees.specs.declared.head.Code.{Code}
+use Rattle.cv_syntax_trees.specs.declared.head.Head.{Head}
+use Rattle.cv_syntax_trees.specs.Head.{code}
+use Rattle.cv_syntax_trees.specs.Tree.{Tree, Empty, Node}
 use Rattle.cv_syntax.proofs.Trees.{tree_of-NoTree}
 use Rattle.cv_meaning_contexts.specs.Groups.{function_of, functions_of}
 use Rattle.cv_match_heads.specs.declared.heads.Heads.{Heads}
-use Rattle.cv_match_heads.specs.Beginnings.{begins, has_kind, is_kind, kind_of, may_begin, same_kind}
+use Rattle.cv_match_heads.specs.Beginnings.{begins, has_code, is_code, code_of, may_begin, same_code}
 
 or-assoc : (a b c : Bool) → ((a || b) || c) ≡ (a || (b || c))
 or-assoc true b c = refl
@@ -27,15 +27,15 @@ or-false false = refl
 -- one body more
 
 module _ (k : Head) (b : Tree) (old : Heads) where
-  pub noted-kind : (kind : Kind) → Some kind ≡ kind_of b → (ks : List Kind) → ks ≡ old.kinds.items ++ kind ∷ [] → (old.any || has_kind (code k) ks) ≡ (may_begin old k || is_kind (code k) (kind_of b))
-  noted-kind kind e ks f =
-      ap (λ l. old.any || has_kind (code k) l) f
-      ∙ (ap (λ c. old.any || c) (list_any-append (λ h. same_kind h (code k)) old.kinds.items (kind ∷ []) ∙ ap (λ c. has_kind (code k) old.kinds.items || c) (or-false (same_kind kind (code k))))
-      ∙ (sym (or-assoc old.any (has_kind (code k) old.kinds.items) (same_kind kind (code k)))
-      ∙ ap (λ o. may_begin old k || is_kind (code k) o) e))
+  pub noted-code : (c : Code) → Some c ≡ code_of b → (ks : List Code) → ks ≡ old.codes.items ++ c ∷ [] → (old.any || has_code (code k) ks) ≡ (may_begin old k || is_code (code k) (code_of b))
+  noted-code c e ks f =
+      ap (λ l. old.any || has_code (code k) l) f
+      ∙ (ap (λ b. old.any || b) (list_any-append (λ h. same_code h (code k)) old.codes.items (c ∷ []) ∙ ap (λ b. has_code (code k) old.codes.items || b) (or-false (same_code c (code k))))
+      ∙ (sym (or-assoc old.any (has_code (code k) old.codes.items) (same_code c (code k)))
+      ∙ ap (λ o. may_begin old k || is_code (code k) o) e))
 
-  pub noted-any : None ≡ kind_of b → true ≡ (may_begin old k || is_kind (code k) (kind_of b))
-  noted-any e = sym (ap (λ o. may_begin old k || is_kind (code k) o) (sym e) ∙ or-true (may_begin old k))
+  pub noted-any : None ≡ code_of b → true ≡ (may_begin old k || is_code (code k) (code_of b))
+  noted-any e = sym (ap (λ o. may_begin old k || is_code (code k) o) (sym e) ∙ or-true (may_begin old k))
 
 -- functions, one after another
 

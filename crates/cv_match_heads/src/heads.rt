@@ -1,21 +1,20 @@
 ghost use Rattle.std.specs.Prelude.{◌≡◌, ◌||◌, IfOk, OnOk, length};
 ghost use Rattle.cv_pool.specs.Nodes.{ChildBelow};
-ghost use Rattle.cv_syntax.specs.Head.{same_head};
-ghost use Rattle.cv_syntax.specs.Tree.{tree_at};
-ghost use Rattle.cv_syntax.specs.declared.head.Head as heading;
+ghost use Rattle.cv_syntax_trees.specs.Head.{same_head};
+ghost use Rattle.cv_syntax.specs.PoolTrees.{tree_at};
+ghost use Rattle.cv_syntax_trees.specs.declared.head.Head as heading;
 ghost use Rattle.cv_meaning_contexts.specs.Groups.{function_of, functions_of};
 ghost use Rattle.cv_match_heads.specs.Beginnings as heads;
 ghost use Rattle.cv_match_heads.specs.Beginnings.{AreHeadsOf, begins, may_begin};
 
-use cv_pool::Kind;
 use cv_syntax::children::second_of;
-use cv_syntax::{Head, NodeId, Pool, read_node};
+use cv_syntax::{Code, Head, NodeId, Pool, read_node};
 use std::alloc::{AllocError, Global};
 
 /// What the bodies of functions begin with, for a test before any body is compared with a term.
 #[derive(Drop)]
 pub struct Heads {
-    kinds: Vec<Kind>,
+    codes: Vec<Code>,
     /// Some body is a name or nothing.
     any: bool,
 }
@@ -24,31 +23,31 @@ pub struct Heads {
 pub fn is_head(head: Head, other: Head) -> bool
     ensures { result ≡ same_head head other }
 {
-    head.kind() == other.kind()
+    head.code() == other.code()
 }
 
-/// Whether a list has a kind.
-fn has_kind(kinds: &[Kind], kind: Kind) -> bool
-    ensures { result ≡ heads.has_kind kind kinds.now }
+/// Whether a list has a code.
+fn has_code(codes: &[Code], code: Code) -> bool
+    ensures { result ≡ heads.has_code code codes.now }
 {
-    for other in kinds {
-        if *other == kind {
+    for other in codes {
+        if *other == code {
             return true;
         }
     }
     false
 }
 
-/// The kind of a body's node, unless the body is a name or nothing.
+/// The code of a body's node, unless the body is a name or nothing.
 #[tactic(auto, using(crate::proofs::Beginnings::beginnings))]
-fn kind_of(pool: &Pool, body: Option<NodeId>) -> Option<Kind>
+fn code_of(pool: &Pool, body: Option<NodeId>) -> Option<Code>
     requires { ChildBelow (length pool.now.trees) body }
-    ensures { result ≡ heads.kind_of (tree_at pool.now.trees body) }
+    ensures { result ≡ heads.code_of (tree_at pool.now.trees body) }
 {
     let head = read_node(pool, body?).head;
     match head {
         Head::Leaf(_) => None,
-        _ => Some(head.kind()),
+        _ => Some(head.code()),
     }
 }
 
@@ -59,9 +58,9 @@ impl Heads {
         ensures { OnOk result ((k : heading.Head) → may_begin self.new k
             ≡ (may_begin self.old k || begins k (function_of (tree_at pool.now.trees f)))) }
     {
-        match kind_of(pool, second_of(pool, f)) {
-            Some(kind) => {
-                self.kinds.push(kind)?;
+        match code_of(pool, second_of(pool, f)) {
+            Some(code) => {
+                self.codes.push(code)?;
                 Ok(())
             }
             None => {
@@ -78,7 +77,7 @@ impl Heads {
             (AreHeadsOf (functions_of (tree_at pool.now.trees functions))) }
     {
         let mut heads = Heads {
-            kinds: Vec::new(alloc),
+            codes: Vec::new(alloc),
             any: false,
         };
         let mut at = functions;
@@ -94,6 +93,6 @@ impl Heads {
     pub fn may_begin(&self, head: Head) -> bool
         ensures { result ≡ may_begin self.now head }
     {
-        self.any || has_kind(self.kinds.as_slice(), head.kind())
+        self.any || has_code(self.codes.as_slice(), head.code())
     }
 }

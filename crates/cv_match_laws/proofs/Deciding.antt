@@ -3,9 +3,9 @@ use Rattle.std.proofs.Common.{◌≡◌, ℕ, suc, Bool, true, false, ◌&&◌, 
 use Rattle.std.specs.Prelude.{if◌then◌else◌}
 use Rattle.std.proofs.lemmas.Bool.{and_from}
 use Rattle.std.proofs.lemmas.List.{length-reverse, map-append, reverse-append, reverse-reverse}
-use Rattle.cv_syntax.specs.Tree.{Tree, same_tree}
-use Rattle.cv_syntax.proofs.Equality.{same_tree_exact}
-use Rattle.cv_syntax.proofs.Sames.{same_tree-self}
+use Rattle.cv_syntax_trees.specs.Tree.{Tree, same_tree}
+use Rattle.cv_syntax_trees.proofs.Equality.{same_tree_exact}
+use Rattle.cv_syntax_trees.proofs.Equality.{same_tree-self}
 use Rattle.cv_meaning_contexts.specs.Groups.{Function, Group}
 use Rattle.cv_scenes.specs.Scenes.{or_empty}
 use Rattle.cv_scenes.specs.Sights.{variable_of}

@@ -1,9 +1,9 @@
 -- What stands where a body has its names, in the body with terms for them.
 use Rattle.std.proofs.Common.{◌≡◌, ℕ, Bool, true, false, ◌&&◌, List, [], ◌∷◌, length, map, Option, Some, None, refl, ap, ap₂, ◌∙◌, eqb-true, eq-eqb}
 use Rattle.std.specs.Prelude.{◌||◌, ◌==◌, if◌then◌else◌}
-use Rattle.cv_syntax.specs.declared.head.Head.TheVariants.{Cons, Leaf}
-use Rattle.cv_syntax.specs.Tree.{Tree, Empty, Node, chain}
-use Rattle.cv_directory.specs.Sites.{first_of}
+use Rattle.cv_syntax_trees.specs.declared.head.Head.TheVariants.{Cons, Leaf}
+use Rattle.cv_syntax_trees.specs.Tree.{Tree, Empty, Node, chain}
+use Rattle.cv_directory_sorts.specs.Sites.{first_of}
 use Rattle.cv_derivations.specs.Given.{or_node, term_for, with_given}
 use Rattle.cv_scenes.specs.Scenes.{or_empty}
 use Rattle.cv_scenes.specs.Instances.{standing_for}

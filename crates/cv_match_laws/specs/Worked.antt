@@ -2,11 +2,11 @@
 -- authentication. Names are numbers: 0 to 3 are types, 4 and 5 parameters, 10 to 13 functions, 20 to 24 channels, 30 and 31
 -- events, 40 to 43 variables, 44 and 45 indices, 60 to 73 names of the equivalence, 80 and 81 answers of calls.
 use Rattle.std.specs.Prelude.{ℕ, true, false, nat_lt, ◌+◌, List, [], ◌∷◌, Some, None}
-use Rattle.cv_syntax.specs.declared.decls.Class.TheVariants as class
-use Rattle.cv_syntax.specs.declared.head.Head.TheVariants.{Apply, Bound, Call, Equivalence, If, Key, New, Oracle, Par, Repl, Stop, Yes, No, And, Eq}
-use Rattle.cv_syntax.specs.Builders.{branch, event, find, input, leaf, output, read}
-use Rattle.cv_syntax.specs.Declarations.{Declaration, Named}
-use Rattle.cv_syntax.specs.Tree.{Tree, Empty, Node, binders, chain, lone, names}
+use Rattle.cv_syntax_trees.specs.declared.class.Class.TheVariants as class
+use Rattle.cv_syntax_trees.specs.declared.head.Head.TheVariants.{Apply, Bound, Call, Equivalence, If, Key, New, Oracle, Par, Repl, Stop, Yes, No, And, Eq}
+use Rattle.cv_syntax_trees.specs.Builders.{branch, event, find, input, leaf, output, read}
+use Rattle.cv_syntax_trees.specs.Declarations.{Declaration, Named}
+use Rattle.cv_syntax_trees.specs.Tree.{Tree, Empty, Node, binders, chain, lone, names}
 use Rattle.cv_meaning_contexts.specs.Groups.{Left, side_group}
 use Rattle.cv_scenes.specs.Scenes.{Scene}
 use Rattle.cv_scenes.specs.Instances.{Matching}

@@ -2,8 +2,8 @@
 #![tactic(auto)]
 
 ghost use Rattle.std.specs.Prelude.{◌≡◌, ◌↔◌, [], ◌∷◌, map, None, Some};
-ghost use Rattle.cv_syntax.specs.Builders.{leaf};
-ghost use Rattle.cv_syntax.specs.Tree.{Tree};
+ghost use Rattle.cv_syntax_trees.specs.Builders.{leaf};
+ghost use Rattle.cv_syntax_trees.specs.Tree.{Tree};
 ghost use Rattle.cv_meaning_contexts.specs.Groups.{Function};
 ghost use Rattle.cv_scenes.specs.Instances.{Instance, IsInstance, Matching, instance_of};
 ghost use Rattle.cv_match_laws.specs.Named.{ReadsItsNames};

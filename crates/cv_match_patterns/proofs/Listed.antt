@@ -1,8 +1,8 @@
 -- Names of a side and of a function, node by node.
 use Rattle.std.proofs.Common.{◌≡◌, ℕ, refl, ap₂}
 use Rattle.std.specs.Prelude.{◌||◌}
-use Rattle.cv_syntax.specs.declared.head.Head.TheVariants.{Binder}
-use Rattle.cv_syntax.specs.Tree.{Tree, Empty, Node}
+use Rattle.cv_syntax_trees.specs.declared.head.Head.TheVariants.{Binder}
+use Rattle.cv_syntax_trees.specs.Tree.{Tree, Empty, Node}
 use Rattle.cv_syntax.proofs.Trees.{tree_of-NoTree}
 use Rattle.cv_lists.proofs.Tests.{equals_comm}
 use Rattle.cv_meaning.specs.Correspondences.{typed_names}

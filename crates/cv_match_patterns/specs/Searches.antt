@@ -4,13 +4,14 @@ use Rattle.cv_pool.specs.Nodes.{ChildBelow}
 use Rattle.cv_pool.specs.PoolView.{PoolView}
 use Rattle.cv_syntax.specs.Classes.{DeclsView}
 use Rattle.cv_syntax.specs.Declarations.{declarations}
-use Rattle.cv_syntax.specs.declared.head.Head.{Head}
-use Rattle.cv_syntax.specs.declared.head.Head.TheVariants.{Leaf}
-use Rattle.cv_syntax.specs.Tree.{Tree, same_tree, size, tree_at}
-use Rattle.cv_directory.specs.declared.sort.Sort.TheVariants.{OfType}
-use Rattle.cv_directory.specs.Sites.{sites_of}
-use Rattle.cv_typing.specs.Parts.{game_part, nothing_above, signature_of}
-use Rattle.cv_typing.specs.Signature.{OfGame, Signature, sort_of}
+use Rattle.cv_syntax_trees.specs.declared.head.Head.{Head}
+use Rattle.cv_syntax_trees.specs.declared.head.Head.TheVariants.{Leaf}
+use Rattle.cv_syntax_trees.specs.Tree.{Tree, same_tree, size}
+use Rattle.cv_syntax.specs.PoolTrees.{tree_at}
+use Rattle.cv_directory_sorts.specs.declared.sort.Sort.TheVariants.{OfType}
+use Rattle.cv_directory_sorts.specs.Sites.{sites_of}
+use Rattle.cv_typing_rules.specs.Parts.{game_part, nothing_above, signature_of}
+use Rattle.cv_typing_rules.specs.Signature.{OfGame, Signature, sort_of}
 use Rattle.cv_typing.specs.Tables.{above_of, arrays_of}
 use Rattle.cv_meaning_contexts.specs.Groups.{Function, Group, group_of}
 use Rattle.cv_derivations.specs.Given.{with_given}

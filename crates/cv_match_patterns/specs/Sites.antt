@@ -4,7 +4,7 @@ use Rattle.std.specs.List.{All}
 use Rattle.cv_pool.specs.KindTree.{KindTree}
 use Rattle.cv_pool.specs.Nodes.{ChildBelow}
 use Rattle.cv_pool.specs.declared.node.NodeId.{NodeId}
-use Rattle.cv_syntax.specs.Tree.{tree_at}
+use Rattle.cv_syntax.specs.PoolTrees.{tree_at}
 use Rattle.cv_meaning_contexts.specs.Groups.{function_of}
 use Rattle.cv_scenes.specs.Instances as definitions
 use Rattle.cv_scenes.specs.Instances.{Call, Matching, guess}

@@ -1,6 +1,7 @@
 ghost use Rattle.std.specs.Prelude.{◌≡◌, length};
 ghost use Rattle.cv_pool.specs.Nodes.{ChildBelow};
-ghost use Rattle.cv_syntax.specs.Tree.{first, second, tree_at};
+ghost use Rattle.cv_syntax_trees.specs.Tree.{first, second};
+ghost use Rattle.cv_syntax.specs.PoolTrees.{tree_at};
 ghost use Rattle.cv_meaning.specs.Correspondences.{typed_names};
 ghost use Rattle.cv_meaning_contexts.specs.Groups.{function_of, group_of};
 ghost use Rattle.cv_scenes.specs.Refusals.{is_among};

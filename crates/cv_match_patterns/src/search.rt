@@ -1,4 +1,4 @@
-use cv_directory::Sort;
+use cv_directory_sorts::Sort;
 use cv_match_heads::Heads;
 use cv_syntax::NodeId;
 use cv_typing::Arrays;

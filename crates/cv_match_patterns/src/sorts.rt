@@ -1,9 +1,9 @@
 ghost use Rattle.std.specs.Prelude.{◌≡◌, length, map};
 ghost use Rattle.cv_pool.specs.Nodes.{ChildBelow};
-ghost use Rattle.cv_syntax.specs.Tree.{tree_at};
+ghost use Rattle.cv_syntax.specs.PoolTrees.{tree_at};
 ghost use Rattle.cv_meaning.specs.Correspondences.{typed_names};
 ghost use Rattle.cv_meaning_contexts.specs.Groups.{function_of};
-ghost use Rattle.cv_directory.specs.declared.sort.Sort.TheVariants.{OfType};
+ghost use Rattle.cv_directory_sorts.specs.declared.sort.Sort.TheVariants.{OfType};
 ghost use Rattle.cv_scenes.specs.Instances.{are_of_types, term_for};
 ghost use Rattle.cv_scenes.specs.Terms as terms;
 ghost use Rattle.cv_match_patterns.specs.Searches.{IsReady, may_be_argument, may_be_coin, signature_by};
@@ -11,7 +11,7 @@ ghost use Rattle.cv_match_patterns.specs.Searches.{IsReady, may_be_argument, may
 use crate::filling::term_of;
 use crate::names::variable_of;
 use crate::search::Search;
-use cv_directory::Sort;
+use cv_directory_sorts::Sort;
 use cv_syntax::{Head, NodeId, Work, read_node};
 use cv_typing::sort_of_term;
 

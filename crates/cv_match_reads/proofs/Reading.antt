@@ -1,8 +1,8 @@
 -- Reads in arguments, node by node.
 use Rattle.std.proofs.Common.{◌≡◌, ℕ, ap₂, Bool, true, false, cond, List, Some, None, refl, ap, sym, ◌∙◌}
-use Rattle.cv_syntax.specs.declared.head.Head.{Head}
-use Rattle.cv_syntax.specs.Tree.{Tree, Empty, Node, first_place, second_place}
-use Rattle.cv_directory.specs.Sites.{first_of}
+use Rattle.cv_syntax_trees.specs.declared.head.Head.{Head}
+use Rattle.cv_syntax_trees.specs.Tree.{Tree, Empty, Node, first_place, second_place}
+use Rattle.cv_directory_sorts.specs.Sites.{first_of}
 use Rattle.cv_scenes.specs.Scenes.{first_reading}
 use Rattle.cv_scenes.specs.Refusals.{first_in_arguments, is_name_of}
 

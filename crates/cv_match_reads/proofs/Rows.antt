@@ -2,11 +2,11 @@
 use Rattle.std.proofs.Common.{◌≡◌, ◌==◌, ◌+◌, ◌<◌, ◌≤◌, drop, get_or, length, ℕ, Bool, true, false, ◌&&◌, List, ◌∷◌, refl, ap, ap₂, sym, ◌∙◌}
 use Rattle.std.proofs.lemmas.List.{at_drop_all, at_drop_more}
 use Rattle.cv_lists.proofs.Tests.{and-true, equals_comm}
-use Rattle.cv_syntax.specs.declared.head.Head.{Head}
-use Rattle.cv_syntax.specs.declared.head.Head.TheVariants.{Cons, Leaf, Read}
-use Rattle.cv_syntax.specs.Children.{is_empty, is_leaf}
-use Rattle.cv_syntax.specs.Head.{same_head}
-use Rattle.cv_syntax.specs.Tree.{Tree, Empty, Node, lone, same_tree}
+use Rattle.cv_syntax_trees.specs.declared.head.Head.{Head}
+use Rattle.cv_syntax_trees.specs.declared.head.Head.TheVariants.{Cons, Leaf, Read}
+use Rattle.cv_syntax_trees.specs.Children.{is_empty, is_leaf}
+use Rattle.cv_syntax_trees.specs.Head.{same_head}
+use Rattle.cv_syntax_trees.specs.Tree.{Tree, Empty, Node, lone, same_tree}
 use Rattle.cv_syntax.proofs.Trees.{tree_of-NoTree}
 use Rattle.cv_scope_rules.specs.Context.{index_terms}
 

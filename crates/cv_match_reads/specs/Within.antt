@@ -1,6 +1,6 @@
 -- Reads in conditions of a `find`, where a walk may already be within one. This profile's own.
 use Rattle.std.specs.Prelude.{ℕ, Bool, if◌then◌else◌, Option}
-use Rattle.cv_syntax.specs.Tree.{Tree}
+use Rattle.cv_syntax_trees.specs.Tree.{Tree}
 use Rattle.cv_scope_rules.specs.declared.position.Position.{Position}
 use Rattle.cv_scenes.specs.Scenes.{first_reading}
 use Rattle.cv_scenes.specs.Refusals.{first_in_condition}

@@ -1,8 +1,9 @@
 ghost use Rattle.std.specs.Prelude.{◌≡◌, ◌&&◌, length};
 ghost use Rattle.cv_pool.specs.Nodes.{ChildBelow};
-ghost use Rattle.cv_syntax.specs.declared.head.Head.TheVariants.{Cons, Leaf, Read};
-ghost use Rattle.cv_syntax.specs.Head.{same_head};
-ghost use Rattle.cv_syntax.specs.Tree.{Empty, Node, lone, same_tree, tree_at};
+ghost use Rattle.cv_syntax_trees.specs.declared.head.Head.TheVariants.{Cons, Leaf, Read};
+ghost use Rattle.cv_syntax_trees.specs.Head.{same_head};
+ghost use Rattle.cv_syntax_trees.specs.Tree.{Empty, Node, lone, same_tree};
+ghost use Rattle.cv_syntax.specs.PoolTrees.{tree_at};
 ghost use Rattle.cv_scope_rules.specs.Context.{cell_of, index_terms};
 
 use cv_match_heads::is_head;

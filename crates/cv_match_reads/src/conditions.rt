@@ -1,6 +1,7 @@
 ghost use Rattle.std.specs.Prelude.{◌≡◌, ◌&&◌, ◌||◌, ◌+◌, ◌<◌, ◌^◌, IfErr, IfOk, None, OnOk, Some, length, true};
 ghost use Rattle.cv_pool.specs.Nodes.{ChildBelow};
-ghost use Rattle.cv_syntax.specs.Tree.{size, tree_at};
+ghost use Rattle.cv_syntax_trees.specs.Tree.{size};
+ghost use Rattle.cv_syntax.specs.PoolTrees.{tree_at};
 ghost use Rattle.cv_scenes.specs.Scenes.{first_reading, head_reads};
 ghost use Rattle.cv_scenes.specs.Refusals as refusals;
 ghost use Rattle.cv_match_reads.specs.Within.{use_within};

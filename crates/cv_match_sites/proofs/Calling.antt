@@ -1,9 +1,9 @@
 -- The first function of which a term is an instance, function by function.
 use Rattle.std.proofs.Common.{◌≡◌, ℕ, suc, ◌+◌, Bool, true, false, Option, Some, None, refl, ap, ap₂, sym, ◌∙◌, add-one}
 use Rattle.std.specs.Prelude.{if◌then◌else◌}
-use Rattle.cv_syntax.specs.declared.head.Head.{Head}
-use Rattle.cv_syntax.specs.Tree.{Tree, Empty, Node}
-use Rattle.cv_directory.specs.Sites.{first_of}
+use Rattle.cv_syntax_trees.specs.declared.head.Head.{Head}
+use Rattle.cv_syntax_trees.specs.Tree.{Tree, Empty, Node}
+use Rattle.cv_directory_sorts.specs.Sites.{first_of}
 use Rattle.cv_meaning_contexts.specs.Groups.{function_of, functions_of}
 use Rattle.cv_scenes.specs.Instances.{Call, Matching, call_by, first_call, guess, is_instance}
 

@@ -2,21 +2,21 @@
 use Rattle.std.proofs.Common.{◌≡◌, ℕ, suc, Bool, true, false, ◌&&◌, List, [], ◌∷◌, Some, None, refl, ap, ◌∙◌}
 use Rattle.std.specs.Prelude.{◌||◌, if◌then◌else◌}
 use Rattle.std.specs.List.{list_any}
-use Rattle.cv_syntax.specs.declared.head.Head.{Head}
-use Rattle.cv_syntax.specs.declared.head.Head.TheVariants.{Leaf}
-use Rattle.cv_syntax.specs.Head.{code}
-use Rattle.cv_syntax.specs.Tree.{Tree, Empty, Node, same_tree}
+use Rattle.cv_syntax_trees.specs.declared.head.Head.{Head}
+use Rattle.cv_syntax_trees.specs.declared.head.Head.TheVariants.{Leaf}
+use Rattle.cv_syntax_trees.specs.Head.{code}
+use Rattle.cv_syntax_trees.specs.Tree.{Tree, Empty, Node, same_tree}
 use Rattle.cv_derivations.specs.Given.{with_given}
-use Rattle.cv_directory.specs.Sites.{first_of}
+use Rattle.cv_directory_sorts.specs.Sites.{first_of}
 use Rattle.cv_meaning_contexts.specs.Groups.{Function, Group}
 use Rattle.cv_scenes.specs.Instances.{Instance, Matching, call_by, filled, first_call, guess, instance_of, is_instance, names_of, terms_of}
-use Rattle.cv_match_heads.specs.Beginnings.{begins, is_kind, kind_of}
+use Rattle.cv_match_heads.specs.Beginnings.{begins, is_code, code_of}
 
 other-body : (g : Group) (f : Function) (I : Instance) (k : Head) (c d : Tree) → begins k f ≡ false → same_tree (filled g f I) (Node k c d) ≡ false
 unfolding with_given same_tree
 other-body g f I k c d e = by-body f.body e
   where
-    by-body : (b : Tree) → is_kind (code k) (kind_of b) ≡ false → same_tree (with_given (names_of g f) (terms_of I) b) (Node k c d) ≡ false
+    by-body : (b : Tree) → is_code (code k) (code_of b) ≡ false → same_tree (with_given (names_of g f) (terms_of I) b) (Node k c d) ≡ false
     by-body Empty i = absurd (cc)
     by-body (Node (Leaf x) a b) i = absurd (cc)
     by-body (Node h a b) i = ap (λ v. v && (same_tree (with_given (names_of g f) (terms_of I) a) c && same_tree (with_given (names_of g f) (terms_of I) b) d)) i

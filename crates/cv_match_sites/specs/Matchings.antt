@@ -2,7 +2,8 @@
 use Rattle.std.specs.Prelude.{Bool, ◌&&◌}
 use Rattle.cv_pool.specs.PoolView.{PoolView}
 use Rattle.cv_syntax.specs.Classes.{DeclsView}
-use Rattle.cv_syntax.specs.Tree.{Tree, tree_at}
+use Rattle.cv_syntax_trees.specs.Tree.{Tree}
+use Rattle.cv_syntax.specs.PoolTrees.{tree_at}
 use Rattle.cv_meaning_contexts.specs.Groups.{Function, group_of}
 use Rattle.cv_scenes.specs.Sights.{variable_of}
 use Rattle.cv_rule_scenes.specs.Kept.{scene_of}

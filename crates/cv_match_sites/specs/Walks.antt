@@ -1,6 +1,6 @@
 -- What walks over a game find in a part of it that they may pass over. This profile's own.
 use Rattle.std.specs.Prelude.{ℕ, Bool, if◌then◌else◌, List, [], Option, None}
-use Rattle.cv_syntax.specs.Tree.{Tree}
+use Rattle.cv_syntax_trees.specs.Tree.{Tree}
 use Rattle.cv_scope_rules.specs.declared.position.Position.{Position}
 use Rattle.cv_scenes.specs.Instances.{Matching}
 use Rattle.cv_scenes.specs.Refusals.{first_use}

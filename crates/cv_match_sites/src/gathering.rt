@@ -1,6 +1,7 @@
 ghost use Rattle.std.specs.Prelude.{◌≡◌, ◌+◌, ◌<◌, ◌^◌, ◌++◌, All, IfOk, OnOk, Some, length, map};
 ghost use Rattle.cv_pool.specs.Nodes.{ChildBelow};
-ghost use Rattle.cv_syntax.specs.Tree.{size, tree_at};
+ghost use Rattle.cv_syntax_trees.specs.Tree.{size};
+ghost use Rattle.cv_syntax.specs.PoolTrees.{tree_at};
 ghost use Rattle.cv_scenes.specs.Sites.{sites_of};
 ghost use Rattle.cv_match_patterns.specs.Searches.{IsReady};
 ghost use Rattle.cv_match_patterns.specs.Sites.{HasInstance, IsLiveSite, site_in};

@@ -2,10 +2,10 @@
 use Rattle.std.proofs.Common.{◌≡◌, ℕ, None, ◌+◌, ◌<◌, ◌≤◌, ◌^◌, Bool, true, false, List, [], ◌∷◌, ◌++◌, length, take, refl, ap, ap₂, sym, ◌∙◌, arith}
 use Rattle.std.specs.Prelude.{if◌then◌else◌, ◌==◌}
 use Rattle.std.proofs.lemmas.List.{length-take, take-append-le}
-use Rattle.cv_syntax.specs.declared.head.Head.{Head}
-use Rattle.cv_syntax.specs.declared.head.Head.TheVariants.{Leaf, New, Read, Repl}
-use Rattle.cv_syntax.specs.Head.{weight}
-use Rattle.cv_syntax.specs.Tree.{Tree, Empty, Node, size}
+use Rattle.cv_syntax_trees.specs.declared.head.Head.{Head}
+use Rattle.cv_syntax_trees.specs.declared.head.Head.TheVariants.{Leaf, New, Read, Repl}
+use Rattle.cv_syntax_trees.specs.Head.{weight}
+use Rattle.cv_syntax_trees.specs.Tree.{Tree, Empty, Node, size}
 use Rattle.cv_scope_rules.specs.Context.{replications_below}
 use Rattle.cv_scope_rules.specs.Made.{made_by}
 use Rattle.cv_scope_rules.specs.Sites.{Variable}

@@ -1,6 +1,7 @@
 ghost use Rattle.std.specs.Prelude.{◌≡◌, ◌+◌, ◌<◌, ◌^◌, ℕ, IfOk, OnOk, Some, length};
 ghost use Rattle.cv_pool.specs.Nodes.{ChildBelow};
-ghost use Rattle.cv_syntax.specs.Tree.{size, tree_at};
+ghost use Rattle.cv_syntax_trees.specs.Tree.{size};
+ghost use Rattle.cv_syntax.specs.PoolTrees.{tree_at};
 ghost use Rattle.cv_scenes.specs.Refusals.{is_of_type, stands_under};
 ghost use Rattle.cv_match_uses.specs.Tallies.{IsTableOf, One, Other, Zero, bound_here, defined_here, drawn, entry_at, only, plus, tally, tally_at, tally_here, tally_of, used_here};
 

@@ -1,8 +1,8 @@
 -- The advantage of an adversary against a query. Blanchet, CSF 2007, for correspondences; Blanchet,
 -- TDSC 2008, for secrecy and for secrecy of one session.
 use Rattle.std.specs.Prelude.{ℕ, Bool, true, false, List, Contains, if◌then◌else◌}
-use Rattle.cv_syntax.specs.declared.head.Head.TheVariants.{Secret, SecretOnce}
-use Rattle.cv_syntax.specs.Tree.{Tree, Node, lone}
+use Rattle.cv_syntax_trees.specs.declared.head.Head.TheVariants.{Secret, SecretOnce}
+use Rattle.cv_syntax_trees.specs.Tree.{Tree, Node, lone}
 use Rattle.cv_meaning.specs.Interpretation.{Setting}
 use Rattle.cv_meaning.specs.Runs.{Events, Real, Random, Adversary}
 use Rattle.cv_meaning.specs.Cells.{cells}

@@ -1,11 +1,11 @@
 -- Lists of binders: those of an input, of a branch, of an equation and of a query.
 -- Blanchet, TDSC 2008, section 2.
 use Rattle.std.specs.Prelude.{ℕ, suc, max, Bool, true, false, ◌&&◌, nat_lt, List, [], ◌∷◌}
-use Rattle.cv_syntax.specs.declared.head.Head.TheVariants.{Binder, Name}
-use Rattle.cv_syntax.specs.Tree.{Tree, Empty, Node}
+use Rattle.cv_syntax_trees.specs.declared.head.Head.TheVariants.{Binder, Name}
+use Rattle.cv_syntax_trees.specs.Tree.{Tree, Empty, Node}
 use Rattle.cv_meaning.specs.Memory.{Store, Local, put, tuple, with_store}
 -- the variables of a list of binders
-pub use Rattle.cv_syntax.specs.Tree.{bound_names}
+pub use Rattle.cv_syntax_trees.specs.Tree.{bound_names}
 
 -- there is a value below its bound for each binder, and no other
 abbrev pub fits : (ℕ → ℕ) → Tree → List ℕ → Bool

@@ -1,8 +1,8 @@
 -- The candidates of a find, and the choice among them. Blanchet, TDSC 2008, section 2, for when a
 -- branch is a candidate. The order and the choice by one cell are this profile's own.
 use Rattle.std.specs.Prelude.{ℕ, zero, suc, ◌%◌, max, Bool, true, false, if◌then◌else◌, List, [], ◌∷◌, ◌++◌, map, length, Option, None, is_some, slice_get, flat_map}
-use Rattle.cv_syntax.specs.declared.head.Head.TheVariants.{Leaf, Read}
-use Rattle.cv_syntax.specs.Tree.{Tree, Empty, Node, first, second}
+use Rattle.cv_syntax_trees.specs.declared.head.Head.TheVariants.{Leaf, Read}
+use Rattle.cv_syntax_trees.specs.Tree.{Tree, Empty, Node, first, second}
 use Rattle.cv_meaning.specs.Interpretation.{Setting}
 use Rattle.cv_meaning.specs.Memory.{Store, Indices, tuple}
 use Rattle.cv_meaning.specs.Terms.{value, values, is_one}

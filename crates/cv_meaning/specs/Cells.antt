@@ -1,8 +1,8 @@
 -- The cells of an experiment, each once, with their sizes. This profile's own.
 use Rattle.std.specs.Prelude.{ℕ, suc, Bool, ◌==◌, not, if◌then◌else◌, List, [], ◌∷◌, ◌++◌, map, filter, flat_map}
-use Rattle.cv_syntax.specs.declared.head.Head.{Head}
-use Rattle.cv_syntax.specs.declared.head.Head.TheVariants.{Repl, New, Let, Find, Binder, Key, Call}
-use Rattle.cv_syntax.specs.Tree.{Tree, Empty, Node}
+use Rattle.cv_syntax_trees.specs.declared.head.Head.{Head}
+use Rattle.cv_syntax_trees.specs.declared.head.Head.TheVariants.{Repl, New, Let, Find, Binder, Key, Call}
+use Rattle.cv_syntax_trees.specs.Tree.{Tree, Empty, Node}
 use Rattle.cv_meaning.specs.Tapes.{Cell, New_at, Find_at, Test_at, Key_at, Coin, same_cell}
 use Rattle.cv_meaning.specs.Interpretation.{Setting}
 use Rattle.cv_meaning.specs.Candidates.{below}

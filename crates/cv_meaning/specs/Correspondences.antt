@@ -1,8 +1,8 @@
 -- Correspondences, and when a list of events breaks one. Blanchet, CSF 2007.
 use Rattle.std.specs.Prelude.{ℕ, suc, Bool, true, false, ◌&&◌, not, ◌==◌, if◌then◌else◌, List, [], ◌∷◌, ◌++◌, filter, flat_map, zip}
 use Rattle.std.specs.List.{list_any, list_all}
-use Rattle.cv_syntax.specs.declared.head.Head.TheVariants.{Occurs, OccursOnce, Leaf, Binder}
-use Rattle.cv_syntax.specs.Tree.{Tree, Empty, Node, first, second, reads_only}
+use Rattle.cv_syntax_trees.specs.declared.head.Head.TheVariants.{Occurs, OccursOnce, Leaf, Binder}
+use Rattle.cv_syntax_trees.specs.Tree.{Tree, Empty, Node, first, second, reads_only}
 use Rattle.cv_meaning.specs.Tapes.{same_tuple}
 use Rattle.cv_meaning.specs.Interpretation.{Setting}
 use Rattle.cv_meaning.specs.Memory.{Happened, Indices, nowhere}

@@ -1,7 +1,7 @@
 -- Experiments: the run of a game on a tape, and what is counted at its end. Blanchet, CSF 2007, for
 -- correspondences; Blanchet, TDSC 2008, for secrecy, in the forms of one session and of many.
 use Rattle.std.specs.Prelude.{ℕ, suc, Bool, false, ◌==◌, List, [], ◌∷◌, Option, Some, None}
-use Rattle.cv_syntax.specs.Tree.{Tree}
+use Rattle.cv_syntax_trees.specs.Tree.{Tree}
 use Rattle.cv_meaning.specs.Tapes.{Tape, Coin}
 use Rattle.cv_meaning.specs.Interpretation.{Setting}
 use Rattle.cv_meaning.specs.Serving.{Visit}

@@ -1,9 +1,9 @@
 -- Interpretations of types, parameters and functions (Blanchet, TDSC 2008, section 2), and the setting
 -- of a run. That the choice among the candidates of a find has a range is this profile's own.
 use Rattle.std.specs.Prelude.{ℕ, Bool, false, ◌||◌, ◌==◌, List, [], ◌∷◌}
-use Rattle.cv_syntax.specs.Tree.{Empty}
-use Rattle.cv_syntax.specs.Declarations.{Declaration, Named}
-use Rattle.cv_syntax.specs.declared.decls.Class.TheVariants as class
+use Rattle.cv_syntax_trees.specs.Tree.{Empty}
+use Rattle.cv_syntax_trees.specs.Declarations.{Declaration, Named}
+use Rattle.cv_syntax_trees.specs.declared.class.Class.TheVariants as class
 use Rattle.cv_meaning.specs.Side.{Side, no_side}
 
 pub record Interpretation : Type 0 where

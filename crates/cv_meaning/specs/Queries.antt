@@ -1,7 +1,7 @@
 -- The queries of a file.
 use Rattle.std.specs.Prelude.{List, [], ◌∷◌}
-use Rattle.cv_syntax.specs.Declarations.{Declaration, Query}
-use Rattle.cv_syntax.specs.Tree.{Tree}
+use Rattle.cv_syntax_trees.specs.Declarations.{Declaration, Query}
+use Rattle.cv_syntax_trees.specs.Tree.{Tree}
 
 -- in the order of the file
 unfoldable pub queries_in : List Declaration → List Tree

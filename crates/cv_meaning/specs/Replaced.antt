@@ -1,8 +1,8 @@
 -- A tree with another subtree at a place, and the subtrees that are output processes.
 use Rattle.std.specs.Prelude.{ℕ, ◌+◌, ◌-◌, Bool, true, false, nat_lt, if◌then◌else◌}
-use Rattle.cv_syntax.specs.declared.head.Head.TheVariants.{Yield, Out, Event, New, Let, If, Find, Key, Call}
-use Rattle.cv_syntax.specs.Head.{weight}
-use Rattle.cv_syntax.specs.Tree.{Tree, Empty, Node, size}
+use Rattle.cv_syntax_trees.specs.declared.head.Head.TheVariants.{Yield, Out, Event, New, Let, If, Find, Key, Call}
+use Rattle.cv_syntax_trees.specs.Head.{weight}
+use Rattle.cv_syntax_trees.specs.Tree.{Tree, Empty, Node, size}
 
 -- the tree with another subtree at a place
 unfoldable pub replaced : Tree → ℕ → Tree → Tree

@@ -2,11 +2,11 @@
 -- Blanchet, TDSC 2008, section 2, for types and functions; the sizes are this profile's own.
 use Rattle.std.specs.Prelude.{◌≡◌, ℕ, ◌<◌, ◌≤◌, Bool, true, false, List, Option, Some, None, zip}
 use Rattle.std.specs.List.{AllByRecursion}
-use Rattle.cv_syntax.specs.declared.decls.Class.{Class}
-use Rattle.cv_syntax.specs.declared.decls.Class.TheVariants as class
-use Rattle.cv_syntax.specs.declared.head.Head.TheVariants.{Forall}
-use Rattle.cv_syntax.specs.Tree.{Tree, Node}
-use Rattle.cv_syntax.specs.Declarations.{Declaration, Named, Equation}
+use Rattle.cv_syntax_trees.specs.declared.class.Class.{Class}
+use Rattle.cv_syntax_trees.specs.declared.class.Class.TheVariants as class
+use Rattle.cv_syntax_trees.specs.declared.head.Head.TheVariants.{Forall}
+use Rattle.cv_syntax_trees.specs.Tree.{Tree, Node}
+use Rattle.cv_syntax_trees.specs.Declarations.{Declaration, Named, Equation}
 use Rattle.cv_meaning.specs.Interpretation.{Interpretation, Setting, setting_of}
 use Rattle.cv_meaning.specs.Memory.{nowhere}
 use Rattle.cv_meaning.specs.Terms.{value}

@@ -1,9 +1,9 @@
 -- The service of one input, up to its output. Blanchet, TDSC 2008, section 2; events are those of
 -- Blanchet, CSF 2007, and calls those of Blanchet and Pointcheval, CRYPTO 2006.
 use Rattle.std.specs.Prelude.{ℕ, zero, suc, if◌then◌else◌, List, [], ◌∷◌, Option, Some, None}
-use Rattle.cv_syntax.specs.declared.head.Head.{Head}
-use Rattle.cv_syntax.specs.declared.head.Head.TheVariants.{In, Out, Event, New, Let, If, Find, Branch, Cons, Key, Call, Read}
-use Rattle.cv_syntax.specs.Tree.{Tree, Empty, Node, first, second, first_place, second_place}
+use Rattle.cv_syntax_trees.specs.declared.head.Head.{Head}
+use Rattle.cv_syntax_trees.specs.declared.head.Head.TheVariants.{In, Out, Event, New, Let, If, Find, Branch, Cons, Key, Call, Read}
+use Rattle.cv_syntax_trees.specs.Tree.{Tree, Empty, Node, first, second, first_place, second_place}
 use Rattle.cv_meaning.specs.Tapes.{Tape, New_at, Find_at}
 use Rattle.cv_meaning.specs.Side.{OracleCall}
 use Rattle.cv_meaning.specs.Interpretation.{Setting}

@@ -1,8 +1,8 @@
 -- Constructs that define variables, and trees that define nothing and have nothing that is chosen.
 use Rattle.std.specs.Prelude.{ℕ, Bool, true, false, ◌&&◌}
-use Rattle.cv_syntax.specs.declared.head.Head.{Head}
-use Rattle.cv_syntax.specs.declared.head.Head.TheVariants.{New, Let, Find, Binder, Key, Call}
-use Rattle.cv_syntax.specs.Tree.{Tree, Empty, Node}
+use Rattle.cv_syntax_trees.specs.declared.head.Head.{Head}
+use Rattle.cv_syntax_trees.specs.declared.head.Head.TheVariants.{New, Let, Find, Binder, Key, Call}
+use Rattle.cv_syntax_trees.specs.Tree.{Tree, Empty, Node}
 
 -- the construct defines one of these variables, by `new` or `let`
 abbrev pub defines : (ℕ → Bool) → Head → Bool

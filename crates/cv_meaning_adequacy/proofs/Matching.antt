@@ -3,7 +3,7 @@ use Rattle.std.proofs.Common.{◌≡◌, ℕ, zero, suc, ◌+◌, Bool, true, fa
 use Rattle.std.proofs.lemmas.Bool.{both_ways}
 use Rattle.std.specs.Prelude.{◌↔◌, MatchBool}
 use Rattle.std.specs.List.{list_any}
-use Rattle.cv_syntax.specs.Tree.{Tree}
+use Rattle.cv_syntax_trees.specs.Tree.{Tree}
 use Rattle.cv_meaning.specs.Interpretation.{Setting}
 use Rattle.cv_meaning.specs.Memory.{Happened}
 use Rattle.cv_meaning.specs.Correspondences.{Correspondence, RightEvent, assignments, left_values, is_left, is_met, is_used, ways, can_match, broken}

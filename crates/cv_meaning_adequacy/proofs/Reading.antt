@@ -3,9 +3,9 @@ use Rattle.std.proofs.Common.{◌≡◌, ℕ, Bool, true, false, ◌&&◌, not, 
 use Rattle.std.proofs.lemmas.Bool.{both_ways, and_parts, and_from}
 use Rattle.std.specs.Prelude.{◌↔◌}
 use Rattle.std.specs.List.{Contains, list_any}
-use Rattle.cv_syntax.specs.declared.head.Head.{Head}
-use Rattle.cv_syntax.specs.declared.head.Head.TheVariants.{Leaf, Read}
-use Rattle.cv_syntax.specs.Tree.{Tree, Empty, Node, first, second, head_reads_only, reads_only}
+use Rattle.cv_syntax_trees.specs.declared.head.Head.{Head}
+use Rattle.cv_syntax_trees.specs.declared.head.Head.TheVariants.{Leaf, Read}
+use Rattle.cv_syntax_trees.specs.Tree.{Tree, Empty, Node, first, second, head_reads_only, reads_only}
 use Rattle.cv_meaning.specs.Correspondences.{typed_names, reads, correspondence_of}
 use Rattle.cv_meaning_adequacy.specs.Queries.{HeadReads, IsReadIn, IsOnTheRightAlone}
 use Rattle.cv_meaning_adequacy.proofs.Lists.{any_has, has_any, filter_has, has_filter, contains_has, has_contains}

@@ -2,8 +2,8 @@
 use Rattle.std.proofs.Common.{◌≡◌, ℕ, zero, suc, ◌+◌, ◌<◌, Bool, true, false, cond, ◌&&◌, List, [], ◌∷◌, ◌++◌, flat_map, map, inl, inr, Option, Some, None, is_some, refl, sym, ap, ap₂, subst, ◌∙◌, arith, eqb-true, eq-eqb}
 use Rattle.std.proofs.lemmas.Bool.{both_ways, and_parts, and_from}
 use Rattle.std.specs.List.{All}
-use Rattle.cv_syntax.specs.declared.head.Head.TheVariants.{Secret, SecretOnce}
-use Rattle.cv_syntax.specs.Tree.{Tree, Node}
+use Rattle.cv_syntax_trees.specs.declared.head.Head.TheVariants.{Secret, SecretOnce}
+use Rattle.cv_syntax_trees.specs.Tree.{Tree, Node}
 use Rattle.cv_meaning.specs.Tapes.{Cell, Tape, written, sum_below, count, total, blank, same_tuple}
 use Rattle.cv_meaning.specs.Interpretation.{Setting}
 use Rattle.cv_meaning.specs.Serving.{Reply, Yielded, Sent}

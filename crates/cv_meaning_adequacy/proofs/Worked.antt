@@ -1,6 +1,6 @@
 -- The worked game is typed.
 use Rattle.std.proofs.Common.{◌≡◌, ℕ, Bool, true, false, cond, ◌==◌, [], ◌∷◌, Some, None, refl, sym, ap, subst, ◌∙◌, inl, inr, arith}
-use Rattle.cv_syntax.specs.Tree.{Empty}
+use Rattle.cv_syntax_trees.specs.Tree.{Empty}
 use Rattle.cv_meaning.specs.Side.{no_side}
 use Rattle.cv_meaning_laws.specs.Worked.{colliding_game, finder, nonce_at, own, interpretation_of_file}
 use Rattle.cv_meaning_adequacy.specs.Typed.{Sort, OfType, BelowParameter, boolean, Variable, Scope, HasSort, HaveSorts, IsTyped, IsModel, IsDeclared, HasTypedRestrictions, LeavesRestrictions}

@@ -1,6 +1,6 @@
 -- A context that calls an oracle, and sides that keep its sorts.
 use Rattle.std.proofs.Common.{◌≡◌, ◌<◌, ℕ, Bool, true, false, cond, ◌==◌, ◌||◌, List, [], ◌∷◌, Option, Some, None, refl, sym, subst, inl, inr, arith}
-use Rattle.cv_syntax.specs.Tree.{Empty}
+use Rattle.cv_syntax_trees.specs.Tree.{Empty}
 use Rattle.cv_meaning.specs.Tapes.{Tape, Key_at}
 use Rattle.cv_meaning.specs.Side.{Arrays, OracleCall, Side}
 use Rattle.cv_meaning.specs.Memory.{no_memory}

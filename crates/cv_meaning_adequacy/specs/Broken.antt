@@ -1,6 +1,6 @@
 -- When a list of events breaks a correspondence, as a sentence. Blanchet, CSF 2007.
 use Rattle.std.specs.Prelude.{◌≡◌, ℕ, ◌<◌, ◌++◌, true, List, [], ◌∷◌, map, zip, Some, slice_get, Contains, MatchBool}
-use Rattle.cv_syntax.specs.Tree.{Tree}
+use Rattle.cv_syntax_trees.specs.Tree.{Tree}
 use Rattle.cv_meaning.specs.Interpretation.{Setting}
 use Rattle.cv_meaning.specs.Memory.{Happened, Indices, nowhere}
 use Rattle.cv_meaning.specs.Terms.{value, values}

@@ -1,8 +1,8 @@
 -- Which branches of a find are candidates with which tuples, and in which order, as sentences.
 -- Blanchet, TDSC 2008, section 2, for when a branch is a candidate; the order is this profile's own.
 use Rattle.std.specs.Prelude.{◌≡◌, ℕ, zero, suc, ◌<◌, ◌⊎◌, List, [], ◌∷◌, Bool, false, Option, Some, None, IsSome, count_by}
-use Rattle.cv_syntax.specs.declared.head.Head.TheVariants.{Leaf, Read, Binder}
-use Rattle.cv_syntax.specs.Tree.{Tree, Empty, Node, first, second}
+use Rattle.cv_syntax_trees.specs.declared.head.Head.TheVariants.{Leaf, Read, Binder}
+use Rattle.cv_syntax_trees.specs.Tree.{Tree, Empty, Node, first, second}
 use Rattle.cv_meaning.specs.Interpretation.{Setting}
 use Rattle.cv_meaning.specs.Memory.{Store, Indices, tuple}
 use Rattle.cv_meaning.specs.Terms.{value, values}

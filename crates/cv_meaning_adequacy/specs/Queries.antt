@@ -1,8 +1,8 @@
 -- Which variables of a query stand on the right alone, as a sentence. Blanchet, CSF 2007.
 use Rattle.std.specs.Prelude.{◌≡◌, ℕ, ◌⊎◌, Contains}
-use Rattle.cv_syntax.specs.declared.head.Head.{Head}
-use Rattle.cv_syntax.specs.declared.head.Head.TheVariants.{Leaf, Read}
-use Rattle.cv_syntax.specs.Tree.{Tree, Empty, Node, first, second}
+use Rattle.cv_syntax_trees.specs.declared.head.Head.{Head}
+use Rattle.cv_syntax_trees.specs.declared.head.Head.TheVariants.{Leaf, Read}
+use Rattle.cv_syntax_trees.specs.Tree.{Tree, Empty, Node, first, second}
 use Rattle.cv_meaning.specs.Correspondences.{typed_names, correspondence_of}
 
 abbrev pub HeadReads : Head → ℕ → Type 0

@@ -1,10 +1,10 @@
 -- The types of terms and of the variables of a game, and stores with values of them.
 -- Blanchet, TDSC 2008, section 2; that a type or a parameter counts the values is this profile's own.
 use Rattle.std.specs.Prelude.{◌≡◌, ℕ, ◌<◌, ◌⊎◌, ◌==◌, if◌then◌else◌, Bool, List, [], ◌∷◌, ◌++◌, map, Option, Some, None, Contains, MatchBool, MatchOption}
-use Rattle.cv_syntax.specs.declared.decls.Class.TheVariants as class
-use Rattle.cv_syntax.specs.declared.head.Head.TheVariants.{Par, Repl, In, Out, Event, New, Let, If, Find, Branch, Cons, Binder, Key, Call, Leaf, Read, Apply, Eq, And, Or, Not, Yes, No}
-use Rattle.cv_syntax.specs.Declarations.{Declaration, Named}
-use Rattle.cv_syntax.specs.Tree.{Tree, Empty, Node, first, second, names}
+use Rattle.cv_syntax_trees.specs.declared.class.Class.TheVariants as class
+use Rattle.cv_syntax_trees.specs.declared.head.Head.TheVariants.{Par, Repl, In, Out, Event, New, Let, If, Find, Branch, Cons, Binder, Key, Call, Leaf, Read, Apply, Eq, And, Or, Not, Yes, No}
+use Rattle.cv_syntax_trees.specs.Declarations.{Declaration, Named}
+use Rattle.cv_syntax_trees.specs.Tree.{Tree, Empty, Node, first, second, names}
 use Rattle.cv_meaning.specs.Tapes.{Tape, New_at}
 use Rattle.cv_meaning.specs.Side.{Side, CallNumber, Arrays, OracleCall, OracleAnswer}
 use Rattle.cv_meaning.specs.Interpretation.{Interpretation, is_constant_of}

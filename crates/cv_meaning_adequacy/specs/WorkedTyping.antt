@@ -1,10 +1,10 @@
 -- Contexts in which the types of worked games are checked, and sides that answer a call.
 use Rattle.std.specs.Prelude.{ℕ, false, ◌==◌, ◌||◌, if◌then◌else◌, [], ◌∷◌, Option, Some, None}
-use Rattle.cv_syntax.specs.declared.decls.Class.TheVariants as class
-use Rattle.cv_syntax.specs.Declarations.{Named}
-use Rattle.cv_syntax.specs.declared.head.Head.TheVariants.{Key, Call, Yield}
-use Rattle.cv_syntax.specs.Builders.{input, leaf}
-use Rattle.cv_syntax.specs.Tree.{Tree, Empty, Node, chain, lone}
+use Rattle.cv_syntax_trees.specs.declared.class.Class.TheVariants as class
+use Rattle.cv_syntax_trees.specs.Declarations.{Named}
+use Rattle.cv_syntax_trees.specs.declared.head.Head.TheVariants.{Key, Call, Yield}
+use Rattle.cv_syntax_trees.specs.Builders.{input, leaf}
+use Rattle.cv_syntax_trees.specs.Tree.{Tree, Empty, Node, chain, lone}
 use Rattle.cv_meaning.specs.Tapes.{Tape, Key_at}
 use Rattle.cv_meaning.specs.Side.{Arrays, OracleCall, OracleAnswer, Side}
 use Rattle.cv_meaning.specs.Terms.{or_zero}

@@ -2,7 +2,7 @@
 #![tactic(auto)]
 
 ghost use Rattle.std.specs.Prelude.{◌≡◌, ◌≢◌, ℕ, ◌+◌, ◌*◌, ◌<◌, ◌≤◌, ◌↔◌, Bool, true, false, [], List, length, count_by, All, AllPairs, Contains};
-ghost use Rattle.cv_syntax.specs.Tree.{Tree};
+ghost use Rattle.cv_syntax_trees.specs.Tree.{Tree};
 ghost use Rattle.cv_meaning.specs.Tapes.{Cell, Key_at, Tape, count, total, blank};
 ghost use Rattle.cv_meaning.specs.Side.{Side, no_side};
 ghost use Rattle.cv_meaning.specs.Interpretation.{Interpretation, Setting, setting_with};

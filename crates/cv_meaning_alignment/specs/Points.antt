@@ -1,6 +1,6 @@
 -- Where a service stands: a construct, its place, the number of the body and the values that are handed to it. This profile's own.
 use Rattle.std.specs.Prelude.{ℕ, List, []}
-use Rattle.cv_syntax.specs.Tree.{Tree, Empty, Node, first_place, second_place}
+use Rattle.cv_syntax_trees.specs.Tree.{Tree, Empty, Node, first_place, second_place}
 use Rattle.cv_meaning.specs.Tapes.{Tape}
 use Rattle.cv_meaning.specs.Interpretation.{Setting}
 use Rattle.cv_meaning.specs.Memory.{Local}

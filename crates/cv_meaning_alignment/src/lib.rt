@@ -4,7 +4,7 @@
 
 ghost use Rattle.std.specs.Prelude.{◌≡◌, ℕ, true};
 ghost use Rattle.std.specs.List.{AllByRecursion};
-ghost use Rattle.cv_syntax.specs.Tree.{Tree};
+ghost use Rattle.cv_syntax_trees.specs.Tree.{Tree};
 ghost use Rattle.cv_meaning.specs.Tapes.{Cell, Tape};
 ghost use Rattle.cv_meaning.specs.Interpretation.{Setting};
 ghost use Rattle.cv_meaning.specs.Memory.{Local, Memory};

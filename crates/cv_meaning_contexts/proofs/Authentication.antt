@@ -1,8 +1,8 @@
 -- A message is accepted exactly where its tag was asked for and the function accepts it.
 use Rattle.std.proofs.Common.{◌≡◌, ℕ, Bool, true, false, ◌&&◌, ◌==◌, if◌then◌else◌, List, [], ◌∷◌, ◌++◌, refl, ap, ◌∙◌}
 use Rattle.std.proofs.Math.Nat.{mod-one}
-use Rattle.cv_syntax.specs.declared.head.Head.TheVariants.{No, Find}
-use Rattle.cv_syntax.specs.Tree.{lone, first, second_place}
+use Rattle.cv_syntax_trees.specs.declared.head.Head.TheVariants.{No, Find}
+use Rattle.cv_syntax_trees.specs.Tree.{lone, first, second_place}
 use Rattle.cv_meaning.specs.Tapes.{Tape, Key_at, Picked_at}
 use Rattle.cv_meaning.specs.Memory.{no_memory}
 use Rattle.cv_meaning.specs.Interpretation.{Interpretation, setting_of}

@@ -1,9 +1,9 @@
 -- How a side answers a call: it chooses the coins, assigns the arguments, and then evaluates the body, in the order of the text.
 -- Blanchet and Pointcheval, CRYPTO 2006. That what is chosen stands in cells of the call is this profile's own.
 use Rattle.std.specs.Prelude.{ℕ, zero, suc, if◌then◌else◌, List, [], ◌∷◌, Option, Some, None, option_and_then}
-use Rattle.cv_syntax.specs.declared.head.Head.{Head}
-use Rattle.cv_syntax.specs.declared.head.Head.TheVariants.{New, Let, If, Find, Binder}
-use Rattle.cv_syntax.specs.Tree.{Tree, Node, first_place, second_place}
+use Rattle.cv_syntax_trees.specs.declared.head.Head.{Head}
+use Rattle.cv_syntax_trees.specs.declared.head.Head.TheVariants.{New, Let, If, Find, Binder}
+use Rattle.cv_syntax_trees.specs.Tree.{Tree, Node, first_place, second_place}
 use Rattle.cv_meaning.specs.Tapes.{Tape, Key_at, Made_at, Picked_at}
 use Rattle.cv_meaning.specs.Side.{CallNumber, Arrays, OracleCall, OracleAnswer}
 use Rattle.cv_meaning.specs.Terms.{is_one}

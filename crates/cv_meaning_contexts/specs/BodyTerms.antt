@@ -1,8 +1,8 @@
 -- The value of a term of a body. Blanchet and Pointcheval, CRYPTO 2006.
 -- That an unassigned read is 0, and that connectives are total, is this profile's own.
 use Rattle.std.specs.Prelude.{ℕ, Bool, ◌&&◌, ◌||◌, not, ◌==◌, if◌then◌else◌, List, [], ◌∷◌, Option, Some, None}
-use Rattle.cv_syntax.specs.declared.head.Head.TheVariants.{Leaf, Read, Apply, Eq, And, Or, Not, Yes}
-use Rattle.cv_syntax.specs.Tree.{Tree, Empty, Node, first}
+use Rattle.cv_syntax_trees.specs.declared.head.Head.TheVariants.{Leaf, Read, Apply, Eq, And, Or, Not, Yes}
+use Rattle.cv_syntax_trees.specs.Tree.{Tree, Empty, Node, first}
 use Rattle.cv_meaning.specs.Side.{CallNumber}
 use Rattle.cv_meaning.specs.Interpretation.{Setting}
 use Rattle.cv_meaning.specs.Terms.{or_zero, bit, is_one}

@@ -1,7 +1,7 @@
 -- The advantage of a context: how far apart the two sides of its equivalence let an experiment come out.
 -- Blanchet and Pointcheval, CRYPTO 2006. Chances as pairs of counts are this profile's own.
 use Rattle.std.specs.Prelude.{List}
-use Rattle.cv_syntax.specs.Declarations.{Declaration}
+use Rattle.cv_syntax_trees.specs.Declarations.{Declaration}
 use Rattle.cv_meaning.specs.Interpretation.{Interpretation, setting_with}
 use Rattle.cv_meaning.specs.Runs.{Adversary}
 use Rattle.cv_meaning.specs.Experiments.{Experiment}

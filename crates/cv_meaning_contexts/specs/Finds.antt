@@ -2,8 +2,8 @@
 -- CRYPTO 2006, for arrays that the functions of a side share. The order and the choice by one cell are
 -- this profile's own.
 use Rattle.std.specs.Prelude.{ℕ, suc, ◌%◌, Bool, true, false, ◌==◌, if◌then◌else◌, List, [], ◌∷◌, ◌++◌, length, is_some, flat_map, slice_get, Option, Some, None}
-use Rattle.cv_syntax.specs.declared.head.Head.TheVariants.{Leaf, Read, Binder}
-use Rattle.cv_syntax.specs.Tree.{Tree, Empty, Node, first, second}
+use Rattle.cv_syntax_trees.specs.declared.head.Head.TheVariants.{Leaf, Read, Binder}
+use Rattle.cv_syntax_trees.specs.Tree.{Tree, Empty, Node, first, second}
 use Rattle.cv_meaning.specs.Side.{CallNumber}
 use Rattle.cv_meaning.specs.Interpretation.{Setting}
 use Rattle.cv_meaning.specs.Terms.{is_one}

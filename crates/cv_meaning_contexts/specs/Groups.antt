@@ -1,8 +1,8 @@
 -- The two sides of an equivalence, read from its tree: the key, and functions in order.
 -- Blanchet and Pointcheval, CRYPTO 2006. That a side has one group with one key is this profile's own.
 use Rattle.std.specs.Prelude.{ℕ, List, [], ◌∷◌, slice_get, Option, Some, None}
-use Rattle.cv_syntax.specs.declared.head.Head.TheVariants.{Bound, Single}
-use Rattle.cv_syntax.specs.Tree.{Tree, Empty, Node, first, second}
+use Rattle.cv_syntax_trees.specs.declared.head.Head.TheVariants.{Bound, Single}
+use Rattle.cv_syntax_trees.specs.Tree.{Tree, Empty, Node, first, second}
 use Rattle.cv_meaning.specs.Correspondences.{typed_names}
 
 pub data Which : Type 0 where

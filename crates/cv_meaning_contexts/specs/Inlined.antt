@@ -2,8 +2,8 @@
 -- of the branches of a find and the names that are drawn are this profile's own.
 use Rattle.std.specs.Prelude.{ℕ, zero, suc, Bool, ◌==◌, not, if◌then◌else◌, List, [], ◌∷◌, ◌++◌, map, filter, Option, Some, None}
 use Rattle.std.specs.List.{list_any}
-use Rattle.cv_syntax.specs.declared.head.Head.TheVariants.{Leaf, Read, Eq, And, Yes, No, Cons, Binder, Branch, New, Let, If, Find}
-use Rattle.cv_syntax.specs.Tree.{Tree, Empty, Node, lone, chain, binders, same_tree, first, first_place, second_place}
+use Rattle.cv_syntax_trees.specs.declared.head.Head.TheVariants.{Leaf, Read, Eq, And, Yes, No, Cons, Binder, Branch, New, Let, If, Find}
+use Rattle.cv_syntax_trees.specs.Tree.{Tree, Empty, Node, lone, chain, binders, same_tree, first, first_place, second_place}
 use Rattle.cv_meaning_contexts.specs.Bodies.{body_place}
 
 -- the names that are drawn: for the key; for a name that is bound at a site; for a find at a place of a

@@ -1,7 +1,7 @@
 -- Terms of the key of a call: indices of its site, and plain variables of the game at such terms. This profile's own.
 use Rattle.std.specs.Prelude.{◌≡◌, ℕ, Bool, true, ◌⊎◌}
-use Rattle.cv_syntax.specs.declared.head.Head.TheVariants.{Leaf, Read, Cons}
-use Rattle.cv_syntax.specs.Tree.{Tree, Empty, Node}
+use Rattle.cv_syntax_trees.specs.declared.head.Head.TheVariants.{Leaf, Read, Cons}
+use Rattle.cv_syntax_trees.specs.Tree.{Tree, Empty, Node}
 
 unfoldable mutual
   pub IsFineKeyTerm : (is_index plain : ℕ → Bool) → Tree → Type 0

@@ -1,10 +1,10 @@
 -- A side of an equivalence as what answers the calls of a context. Blanchet and Pointcheval, CRYPTO 2006.
 -- The list of cells is this profile's own.
 use Rattle.std.specs.Prelude.{ℕ, List, [], ◌∷◌, ◌++◌, map, Option, Some, None}
-use Rattle.cv_syntax.specs.declared.head.Head.{Head}
-use Rattle.cv_syntax.specs.declared.head.Head.TheVariants.{New, Find}
-use Rattle.cv_syntax.specs.Tree.{Tree, Empty, Node, first_place, second_place}
-use Rattle.cv_syntax.specs.Declarations.{Declaration}
+use Rattle.cv_syntax_trees.specs.declared.head.Head.{Head}
+use Rattle.cv_syntax_trees.specs.declared.head.Head.TheVariants.{New, Find}
+use Rattle.cv_syntax_trees.specs.Tree.{Tree, Empty, Node, first_place, second_place}
+use Rattle.cv_syntax_trees.specs.Declarations.{Declaration}
 use Rattle.cv_meaning.specs.Tapes.{Cell, Made_at, Picked_at}
 use Rattle.cv_meaning.specs.Side.{CallNumber, Side}
 use Rattle.cv_meaning.specs.Interpretation.{Interpretation, Setting, setting_of}

@@ -5,9 +5,9 @@
 -- 17 are variables, 11 is an event.
 use Rattle.std.specs.Prelude.{ℕ, ◌%◌, ◌==◌, if◌then◌else◌, List, [], ◌∷◌, Option, Some, None}
 use Rattle.std.specs.List.{sum}
-use Rattle.cv_syntax.specs.declared.head.Head.{Head}
-use Rattle.cv_syntax.specs.declared.head.Head.TheVariants.{Yield, Stop, Par, Repl, New, Let, If, Apply, Eq, And, Or, Not, Yes, No, Equivalence, Bound, Single, Oracle, Key, Call}
-use Rattle.cv_syntax.specs.Tree.{Tree, Empty, Node, lone, chain, binders}
+use Rattle.cv_syntax_trees.specs.declared.head.Head.{Head}
+use Rattle.cv_syntax_trees.specs.declared.head.Head.TheVariants.{Yield, Stop, Par, Repl, New, Let, If, Apply, Eq, And, Or, Not, Yes, No, Equivalence, Bound, Single, Oracle, Key, Call}
+use Rattle.cv_syntax_trees.specs.Tree.{Tree, Empty, Node, lone, chain, binders}
 use Rattle.cv_meaning.specs.Tapes.{Tape, Picked_at, blank, written}
 use Rattle.cv_meaning.specs.Side.{CallNumber, Arrays, OracleCall, OracleAnswer, Side}
 use Rattle.cv_meaning.specs.Interpretation.{Interpretation, Setting, setting_of}
@@ -15,7 +15,7 @@ use Rattle.cv_meaning.specs.Memory.{no_memory}
 use Rattle.cv_meaning.specs.Terms.{bit}
 use Rattle.cv_meaning.specs.Serving.{Sent}
 use Rattle.cv_meaning.specs.Runs.{Move, Calls, Tests, Guesses, Answer, Replied, Told}
-use Rattle.cv_syntax.specs.Builders.{leaf, read, input, output, event, branch, find}
+use Rattle.cv_syntax_trees.specs.Builders.{leaf, read, input, output, event, branch, find}
 use Rattle.cv_meaning_contexts.specs.Groups.{group_of}
 use Rattle.cv_meaning_contexts.specs.Sites.{Site}
 use Rattle.cv_meaning_contexts.specs.Sides.{Context, side_from}

@@ -2,16 +2,16 @@
 #![tactic(auto)]
 
 ghost use Rattle.std.specs.Prelude.{◌≡◌, ℕ, ◌==◌, ◌&&◌, [], ◌∷◌, List, Some, None, map};
-ghost use Rattle.cv_syntax.specs.declared.head.Head.TheVariants.{Equivalence};
-ghost use Rattle.cv_syntax.specs.Declarations.{Declaration};
-ghost use Rattle.cv_syntax.specs.Tree.{Tree, Node};
+ghost use Rattle.cv_syntax_trees.specs.declared.head.Head.TheVariants.{Equivalence};
+ghost use Rattle.cv_syntax_trees.specs.Declarations.{Declaration};
+ghost use Rattle.cv_syntax_trees.specs.Tree.{Tree, Node};
 ghost use Rattle.cv_meaning.specs.Tapes.{Tape, Key_at, Made_at, Picked_at, blank, count};
 ghost use Rattle.cv_meaning.specs.Interpretation.{Interpretation, setting_of};
 ghost use Rattle.cv_meaning.specs.Terms.{bit, is_one};
 ghost use Rattle.cv_meaning.specs.Runs.{Adversary};
 ghost use Rattle.cv_meaning.specs.Experiments.{Experiment};
 ghost use Rattle.cv_meaning.specs.Chances.{chance};
-ghost use Rattle.cv_syntax.specs.Builders.{leaf};
+ghost use Rattle.cv_syntax_trees.specs.Builders.{leaf};
 ghost use Rattle.cv_meaning_contexts.specs.Groups.{Left, Right, side_group};
 ghost use Rattle.cv_meaning_contexts.specs.Sites.{sites_of};
 ghost use Rattle.cv_meaning_contexts.specs.Finds.{picks};

@@ -3,8 +3,8 @@
 
 ghost use Rattle.std.specs.Prelude.{◌≡◌, true, false, [], ◌∷◌};
 ghost use Rattle.std.specs.List.{AllByRecursion, IsDistinct};
-ghost use Rattle.cv_syntax.specs.declared.head.Head.TheVariants.{Equivalence};
-ghost use Rattle.cv_syntax.specs.Tree.{Tree, Node};
+ghost use Rattle.cv_syntax_trees.specs.declared.head.Head.TheVariants.{Equivalence};
+ghost use Rattle.cv_syntax_trees.specs.Tree.{Tree, Node};
 ghost use Rattle.cv_meaning.specs.Tapes.{Tape, Key_at, same_cell, cells_of, blank};
 ghost use Rattle.cv_meaning.specs.Side.{Arrays, CallNumber, OracleCall};
 ghost use Rattle.cv_meaning.specs.Interpretation.{Interpretation, setting_of};

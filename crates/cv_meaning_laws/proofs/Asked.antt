@@ -1,8 +1,8 @@
 -- Which experiments are asked of one query of secrecy.
 use Rattle.std.proofs.Common.{◌≡◌, ℕ, true, false, List, [], ◌∷◌, ◌⊎◌, inl, inr, Contains, arith}
 use Rattle.std.proofs.lemmas.List.Elements.{Contains-push, Contains-push_cases}
-use Rattle.cv_syntax.specs.declared.head.Head.TheVariants.{Secret, SecretOnce}
-use Rattle.cv_syntax.specs.Tree.{Tree, lone}
+use Rattle.cv_syntax_trees.specs.declared.head.Head.TheVariants.{Secret, SecretOnce}
+use Rattle.cv_syntax_trees.specs.Tree.{Tree, lone}
 use Rattle.cv_meaning.specs.Runs.{Real, Random}
 use Rattle.cv_meaning.specs.Experiments.{Guesses}
 use Rattle.cv_meaning.specs.Advantage.{IsAsked}

@@ -1,14 +1,14 @@
 -- The worked file is satisfied.
 use Rattle.std.proofs.Common.{◌-◌, ◌≡◌, ℕ, true, nat_lt, ltb-true, List, [], ◌∷◌, zip, Some, refl, ap, arith, eq-eqb}
 use Rattle.std.proofs.lemmas.Bool.{both_ways, and_parts}
-use Rattle.cv_syntax.specs.declared.head.Head.TheVariants.{Apply, Eq}
-use Rattle.cv_syntax.specs.Tree.{Empty, Node, names, binders, chain}
+use Rattle.cv_syntax_trees.specs.declared.head.Head.TheVariants.{Apply, Eq}
+use Rattle.cv_syntax_trees.specs.Tree.{Empty, Node, names, binders, chain}
 use Rattle.cv_meaning.specs.Interpretation.{setting_of}
 use Rattle.cv_meaning.specs.Binders.{fits}
 use Rattle.cv_meaning.specs.Satisfies.{Satisfies, IsTotal, IsInjective}
 use Rattle.cv_meaning.specs.Memory.{nowhere}
 use Rattle.cv_meaning.specs.Terms.{value, values, bit}
-use Rattle.cv_syntax.specs.Builders.{leaf}
+use Rattle.cv_syntax_trees.specs.Builders.{leaf}
 use Rattle.cv_meaning_laws.specs.Worked.{data_file, with_function, first_value, declared_file, interpretation_of_file}
 
 function_total : IsTotal interpretation_of_file 4 (names (3 ∷ [])) (Some 3)

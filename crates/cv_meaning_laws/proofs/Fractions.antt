@@ -1,7 +1,7 @@
 -- No chance is above one.
 use Rattle.std.proofs.Common.{ℕ, ◌+◌, ◌-◌, ◌*◌, ◌≤◌, Bool, true, false, List, refl, arith, le_trans, le_of_eq, mul_comm, mul-le-mul_right}
-use Rattle.cv_syntax.specs.declared.head.Head.TheVariants.{Secret, SecretOnce}
-use Rattle.cv_syntax.specs.Tree.{Tree, Node}
+use Rattle.cv_syntax_trees.specs.declared.head.Head.TheVariants.{Secret, SecretOnce}
+use Rattle.cv_syntax_trees.specs.Tree.{Tree, Node}
 use Rattle.cv_meaning.specs.Tapes.{Cell, Tape, count, total, blank}
 use Rattle.cv_meaning.specs.Interpretation.{Setting}
 use Rattle.cv_meaning.specs.Runs.{Real, Random, Adversary}

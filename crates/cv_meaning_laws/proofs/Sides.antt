@@ -2,8 +2,8 @@
 use Rattle.std.proofs.Common.{◌≡◌, ℕ, suc, Bool, true, false, cond, ◌&&◌, ◌||◌, not, ◌==◌, List, [], ◌∷◌, ◌++◌, flat_map, Option, Some, None, is_some, refl, ap, ap₂}
 use Rattle.std.proofs.Math.Path.{fun_ext}
 use Rattle.std.specs.List.{list_any, list_all}
-use Rattle.cv_syntax.specs.declared.head.Head.TheVariants.{Par, Repl, In, Leaf, Read, Apply, Eq, And, Or, Not}
-use Rattle.cv_syntax.specs.Tree.{Tree, Empty, Node, first, second, first_place, second_place}
+use Rattle.cv_syntax_trees.specs.declared.head.Head.TheVariants.{Par, Repl, In, Leaf, Read, Apply, Eq, And, Or, Not}
+use Rattle.cv_syntax_trees.specs.Tree.{Tree, Empty, Node, first, second, first_place, second_place}
 use Rattle.cv_meaning.specs.Tapes.{same_tuple}
 use Rattle.cv_meaning.specs.Side.{Side}
 use Rattle.cv_meaning.specs.Interpretation.{Setting}

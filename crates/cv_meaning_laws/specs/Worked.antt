@@ -3,11 +3,11 @@
 -- 6, 10 and 12 of outputs, 4 is a nonce and 5 its type, 9 and 10 are index variables of a find or a
 -- received message, and 11, 12 and 13 are events.
 use Rattle.std.specs.Prelude.{ℕ, Bool, true, false, List, [], ◌∷◌, ◌++◌, Option, Some, None, ◌==◌, if◌then◌else◌}
-use Rattle.cv_syntax.specs.declared.head.Head.TheVariants.{Stop, Yield, Par, Repl, New, If, Apply, Eq, And, Not, Yes, No, Forall, Key, Call}
-use Rattle.cv_syntax.specs.Tree.{Tree, Empty, Node, lone, chain, names, binders}
-use Rattle.cv_syntax.specs.Builders.{leaf, read, input, output, event, branch, find, correspondence, occurs}
-use Rattle.cv_syntax.specs.declared.decls.Class.TheVariants as class
-use Rattle.cv_syntax.specs.Declarations.{Declaration, Named, Equation}
+use Rattle.cv_syntax_trees.specs.declared.head.Head.TheVariants.{Stop, Yield, Par, Repl, New, If, Apply, Eq, And, Not, Yes, No, Forall, Key, Call}
+use Rattle.cv_syntax_trees.specs.Tree.{Tree, Empty, Node, lone, chain, names, binders}
+use Rattle.cv_syntax_trees.specs.Builders.{leaf, read, input, output, event, branch, find, correspondence, occurs}
+use Rattle.cv_syntax_trees.specs.declared.class.Class.TheVariants as class
+use Rattle.cv_syntax_trees.specs.Declarations.{Declaration, Named, Equation}
 use Rattle.cv_meaning.specs.Tapes.{Key_at, Made_at}
 use Rattle.cv_meaning.specs.Side.{Side}
 use Rattle.cv_meaning.specs.Interpretation.{Interpretation, Setting, setting_of, setting_with}

@@ -3,8 +3,8 @@
 
 ghost use Rattle.std.specs.Prelude.{◌≡◌, ℕ, ◌-◌, Bool, List, [], ◌∷◌, true, false};
 ghost use Rattle.std.specs.List.{AllByRecursion, IsDistinct};
-ghost use Rattle.cv_syntax.specs.declared.head.Head.TheVariants.{Secret, SecretOnce};
-ghost use Rattle.cv_syntax.specs.Tree.{Tree, chain, lone, reads_only};
+ghost use Rattle.cv_syntax_trees.specs.declared.head.Head.TheVariants.{Secret, SecretOnce};
+ghost use Rattle.cv_syntax_trees.specs.Tree.{Tree, chain, lone, reads_only};
 ghost use Rattle.cv_meaning.specs.Tapes.{Tape, same_cell, cells_of};
 ghost use Rattle.cv_meaning.specs.Side.{Side};
 ghost use Rattle.cv_meaning.specs.Interpretation.{Setting};
@@ -22,7 +22,7 @@ ghost use Rattle.cv_meaning.specs.Correspondences.{Correspondence, RightEvent, b
 ghost use Rattle.cv_meaning.specs.Chances.{IsFraction};
 ghost use Rattle.cv_meaning.specs.Advantage.{IsAsked, advantage, chance_of};
 ghost use Rattle.cv_meaning.specs.Direct.{IsPlainlyDirect, is_unbound, plainly_covered};
-ghost use Rattle.cv_syntax.specs.Builders.{leaf};
+ghost use Rattle.cv_syntax_trees.specs.Builders.{leaf};
 ghost use Rattle.cv_meaning_laws.specs.Worked.{sized, adversary, colliding_game, game_after_collision, never_query, sends_twice, choosing_game, calls_copy, own_index_game, calls_once, two_events_game, authentication_query, some_query, later_game, replay_game, replays, compares, sessions_game, tests_sessions, data_file, declared_file, with_function, interpretation_of_file, context_game, context_setting, constant_query};
 
 /// No chance and no advantage is above one.

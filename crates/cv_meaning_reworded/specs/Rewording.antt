@@ -1,8 +1,8 @@
 -- Games of which one is the other with other terms, lists and conditions that say the same at each visit. This profile's own.
 use Rattle.std.specs.Prelude.{◌≡◌, ℕ, ◌+◌, Bool, true, false}
-use Rattle.cv_syntax.specs.declared.head.Head.{Head}
-use Rattle.cv_syntax.specs.declared.head.Head.TheVariants.{Par, Out, Event, Let, If, Find, Branch, Cons}
-use Rattle.cv_syntax.specs.Tree.{Tree, Node, second, first_place, second_place}
+use Rattle.cv_syntax_trees.specs.declared.head.Head.{Head}
+use Rattle.cv_syntax_trees.specs.declared.head.Head.TheVariants.{Par, Out, Event, Let, If, Find, Branch, Cons}
+use Rattle.cv_syntax_trees.specs.Tree.{Tree, Node, second, first_place, second_place}
 use Rattle.cv_meaning.specs.Interpretation.{Setting}
 use Rattle.cv_meaning.specs.Memory.{Local}
 use Rattle.cv_meaning.specs.Terms.{is_one, value_here, values_here}

@@ -1,6 +1,6 @@
 -- Experiments at the ends of runs that are alike, and their chances.
 use Rattle.std.proofs.Common.{◌≡◌, ℕ, Bool, List, ap, ◌∙◌}
-use Rattle.cv_syntax.specs.Tree.{Tree}
+use Rattle.cv_syntax_trees.specs.Tree.{Tree}
 use Rattle.cv_meaning.specs.Tapes.{Cell, Tape, blank, total}
 use Rattle.cv_meaning.specs.Side.{Side}
 use Rattle.cv_meaning.specs.Interpretation.{Setting}

@@ -2,8 +2,8 @@
 use Rattle.std.proofs.Common.{◌≡◌, ℕ, Bool, true, false, ◌&&◌, ◌==◌, List, [], ◌∷◌, ◌++◌, Some, refl, sym, ap₂, subst, eqb-true, eq-eqb}
 use Rattle.std.proofs.lemmas.Bool.{both_ways, and_parts}
 use Rattle.std.specs.List.{AllByRecursion, IsDistinct}
-use Rattle.cv_syntax.specs.declared.head.Head.TheVariants.{New, Find, Call}
-use Rattle.cv_syntax.specs.Tree.{Tree, Empty, Node, subtree}
+use Rattle.cv_syntax_trees.specs.declared.head.Head.TheVariants.{New, Find, Call}
+use Rattle.cv_syntax_trees.specs.Tree.{Tree, Empty, Node, subtree}
 use Rattle.cv_meaning.specs.Tapes.{Tape, Cell, New_at, Find_at, same_tuple, same_cell}
 use Rattle.cv_meaning.specs.Interpretation.{Setting}
 use Rattle.cv_meaning.specs.Memory.{tuple, Local}

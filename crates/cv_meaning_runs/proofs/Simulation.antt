@@ -1,7 +1,7 @@
 -- Two runs, move by move: where related inputs are served alike, whole runs are alike.
 use Rattle.std.proofs.Common.{◌≡◌, ℕ, zero, suc, Bool, true, false, cond, ◌&&◌, ◌==◌, List, [], ◌∷◌, ◌++◌, Option, Some, None, refl, ap, ap₂, subst, is_some}
 use Rattle.std.specs.List.{AllByRecursion}
-use Rattle.cv_syntax.specs.Tree.{Tree}
+use Rattle.cv_syntax_trees.specs.Tree.{Tree}
 use Rattle.cv_meaning.specs.Tapes.{Tape, same_tuple}
 use Rattle.cv_meaning.specs.Interpretation.{Setting}
 use Rattle.cv_meaning.specs.Memory.{Memory}

@@ -2,9 +2,9 @@
 use Rattle.std.proofs.Common.{◌≡◌, ℕ, zero, suc, Bool, true, false, cond, ◌&&◌, ◌||◌, not, ◌==◌, eqb-true, eq-eqb, List, [], ◌∷◌, ◌++◌, Option, Some, None, refl, sym, ap, ap₂, subst, ◌∙◌, is_some, map, flat_map}
 use Rattle.std.proofs.lemmas.Bool.{both_ways}
 use Rattle.std.specs.List.{list_any}
-use Rattle.cv_syntax.specs.declared.head.Head.{Head}
-use Rattle.cv_syntax.specs.declared.head.Head.TheVariants.{New, Find, Call, Cons}
-use Rattle.cv_syntax.specs.Tree.{Tree, Empty, Node, first_place, second_place}
+use Rattle.cv_syntax_trees.specs.declared.head.Head.{Head}
+use Rattle.cv_syntax_trees.specs.declared.head.Head.TheVariants.{New, Find, Call, Cons}
+use Rattle.cv_syntax_trees.specs.Tree.{Tree, Empty, Node, first_place, second_place}
 use Rattle.cv_meaning.specs.Tapes.{Tape, Cell, New_at, Find_at, Test_at, cells_of}
 use Rattle.cv_meaning.specs.Interpretation.{Setting}
 use Rattle.cv_meaning.specs.Memory.{Local, tuple, with_value, with_answer}

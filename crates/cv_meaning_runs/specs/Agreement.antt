@@ -1,7 +1,7 @@
 -- Two tapes that agree at some cells, and two runs that agree up to a moment. This profile's own.
 use Rattle.std.specs.Prelude.{◌≡◌, Bool, false, List, [], ◌∷◌}
 use Rattle.std.specs.List.{AllByRecursion, list_any}
-use Rattle.cv_syntax.specs.Tree.{Tree}
+use Rattle.cv_syntax_trees.specs.Tree.{Tree}
 use Rattle.cv_meaning.specs.Tapes.{Tape, Cell, Key_at, cells_of}
 use Rattle.cv_meaning.specs.Side.{Side, Arrays, OracleCall}
 use Rattle.cv_meaning.specs.Interpretation.{Setting}

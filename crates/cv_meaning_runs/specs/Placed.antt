@@ -1,9 +1,9 @@
 -- Where the visits and the inputs of a run stand in the game. This profile's own.
 use Rattle.std.specs.Prelude.{◌≡◌, ℕ, Some}
-use Rattle.cv_syntax.specs.declared.head.Head.{Head}
-use Rattle.cv_syntax.specs.declared.head.Head.TheVariants.{In}
+use Rattle.cv_syntax_trees.specs.declared.head.Head.{Head}
+use Rattle.cv_syntax_trees.specs.declared.head.Head.TheVariants.{In}
 use Rattle.cv_syntax.specs.Layouts.{IsSyntax}
-use Rattle.cv_syntax.specs.Tree.{Tree, Node, subtree, first_place, second_place}
+use Rattle.cv_syntax_trees.specs.Tree.{Tree, Node, subtree, first_place, second_place}
 use Rattle.cv_meaning.specs.Inputs.{Input}
 use Rattle.cv_meaning.specs.Serving.{Visit}
 

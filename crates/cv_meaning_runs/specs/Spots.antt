@@ -1,8 +1,8 @@
 -- Constructs of a game at values of their replication indices. This profile's own.
 use Rattle.std.specs.Prelude.{◌≡◌, ℕ, Bool, false, ◌&&◌, ◌==◌, if◌then◌else◌, List, [], ◌∷◌, ◌++◌, map, Some}
-use Rattle.cv_syntax.specs.declared.head.Head.TheVariants.{In, New, Find}
-use Rattle.cv_syntax.specs.Head.{weight}
-use Rattle.cv_syntax.specs.Tree.{Tree, Empty, Node, subtree}
+use Rattle.cv_syntax_trees.specs.declared.head.Head.TheVariants.{In, New, Find}
+use Rattle.cv_syntax_trees.specs.Head.{weight}
+use Rattle.cv_syntax_trees.specs.Tree.{Tree, Empty, Node, subtree}
 use Rattle.cv_meaning.specs.Tapes.{same_tuple}
 use Rattle.cv_meaning.specs.Memory.{tuple}
 use Rattle.cv_meaning.specs.Inputs.{Input}

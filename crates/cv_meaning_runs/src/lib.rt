@@ -3,7 +3,7 @@
 
 ghost use Rattle.std.specs.Prelude.{◌≡◌, ℕ, Bool, false, true, List, ◌++◌, Option, Some, [], if◌then◌else◌};
 ghost use Rattle.std.specs.List.{AllByRecursion, IsDistinct, list_any};
-ghost use Rattle.cv_syntax.specs.Tree.{Tree, subtree};
+ghost use Rattle.cv_syntax_trees.specs.Tree.{Tree, subtree};
 ghost use Rattle.cv_meaning.specs.Tapes.{Tape, Cell, Test_at, cells_of, same_cell};
 ghost use Rattle.cv_meaning.specs.Side.{Side, no_side};
 ghost use Rattle.cv_meaning.specs.Interpretation.{Setting};

@@ -2,9 +2,9 @@
 use Rattle.std.proofs.Common.{◌≡◌, ℕ, zero, suc, Bool, true, false, cond, not, List, [], ◌∷◌, ◌++◌, flat_map, ◌⊎◌, inl, inr, Option, Some, None, is_some, ◌&&◌, refl, sym, ap, ap₂, subst, ◌∙◌}
 use Rattle.std.proofs.lemmas.Bool.{both_ways}
 use Rattle.std.specs.List.{AllByRecursion}
-use Rattle.cv_syntax.specs.declared.head.Head.{Head}
-use Rattle.cv_syntax.specs.declared.head.Head.TheVariants.{Par, Repl, In, Out, Event, New, Let, If, Find, Branch, Cons, Key, Call, Read}
-use Rattle.cv_syntax.specs.Tree.{Tree, Empty, Node, first, second}
+use Rattle.cv_syntax_trees.specs.declared.head.Head.{Head}
+use Rattle.cv_syntax_trees.specs.declared.head.Head.TheVariants.{Par, Repl, In, Out, Event, New, Let, If, Find, Branch, Cons, Key, Call, Read}
+use Rattle.cv_syntax_trees.specs.Tree.{Tree, Empty, Node, first, second}
 use Rattle.cv_meaning.specs.Tapes.{Tape, Cell, Test_at, New_at, Find_at}
 use Rattle.cv_meaning.specs.Side.{OracleAnswer}
 use Rattle.cv_meaning.specs.Interpretation.{Setting}

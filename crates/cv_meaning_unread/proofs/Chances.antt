@@ -1,8 +1,8 @@
 -- The chances of experiments in a game and in the one without some definitions, or with an `if` of equal bodies.
 use Rattle.std.proofs.Common.{◌≡◌, ℕ, Bool, true, false, cond, List, [], ◌⊎◌, inl, inr, refl, sym, subst}
 use Rattle.std.proofs.Math.Path.{fun_ext}
-use Rattle.cv_syntax.specs.declared.head.Head.TheVariants.{If, Cons}
-use Rattle.cv_syntax.specs.Tree.{Tree, Empty, Node, first_place, second_place}
+use Rattle.cv_syntax_trees.specs.declared.head.Head.TheVariants.{If, Cons}
+use Rattle.cv_syntax_trees.specs.Tree.{Tree, Empty, Node, first_place, second_place}
 use Rattle.cv_meaning.specs.Tapes.{Cell, Tape}
 use Rattle.cv_meaning.specs.Interpretation.{Setting}
 use Rattle.cv_meaning.specs.Memory.{Local}

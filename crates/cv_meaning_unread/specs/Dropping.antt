@@ -1,8 +1,8 @@
 -- Games without some of their restrictions and assignments, whose variables are read nowhere. This profile's own.
 use Rattle.std.specs.Prelude.{◌≡◌, ℕ, Bool, true, false, ◌&&◌, not}
-use Rattle.cv_syntax.specs.declared.head.Head.{Head}
-use Rattle.cv_syntax.specs.declared.head.Head.TheVariants.{Par, New, Find, Branch, Cons}
-use Rattle.cv_syntax.specs.Tree.{Tree, Empty, Node, reads_only}
+use Rattle.cv_syntax_trees.specs.declared.head.Head.{Head}
+use Rattle.cv_syntax_trees.specs.declared.head.Head.TheVariants.{Par, New, Find, Branch, Cons}
+use Rattle.cv_syntax_trees.specs.Tree.{Tree, Empty, Node, reads_only}
 use Rattle.cv_meaning.specs.Memory.{Memory}
 use Rattle.cv_meaning.specs.Inputs.{Input, message_binders}
 use Rattle.cv_meaning.specs.Runs.{Mode, Events, Real, Random}

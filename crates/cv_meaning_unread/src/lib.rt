@@ -3,8 +3,8 @@
 #![tactic(auto)]
 
 ghost use Rattle.std.specs.Prelude.{◌≡◌, ℕ, Bool, true};
-ghost use Rattle.cv_syntax.specs.declared.head.Head.{Head};
-ghost use Rattle.cv_syntax.specs.Tree.{Tree, Node};
+ghost use Rattle.cv_syntax_trees.specs.declared.head.Head.{Head};
+ghost use Rattle.cv_syntax_trees.specs.Tree.{Tree, Node};
 ghost use Rattle.cv_meaning.specs.Tapes.{Tape};
 ghost use Rattle.cv_meaning.specs.Interpretation.{Setting};
 ghost use Rattle.cv_meaning.specs.Runs.{Adversary, Mode};

@@ -2,7 +2,7 @@
 use Rattle.std.specs.Prelude.{◌≡◌, ℕ, ◌<◌, true, false, List, [], ◌∷◌, Option, Some, None, option_map}
 use Rattle.cv_syntax.specs.declared.decls.Decl.{Decl}
 use Rattle.cv_syntax.specs.declared.decls.Decl.TheVariants as decl
-use Rattle.cv_syntax.specs.declared.decls.Class.TheVariants.{TypeName}
+use Rattle.cv_syntax_trees.specs.declared.class.Class.TheVariants.{TypeName}
 use Rattle.cv_names.specs.declared.names.NameId.{NameId}
 use Rattle.cv_pool.specs.declared.node.NodeId.{NodeId}
 use Rattle.cv_pool.specs.Nodes.{ChildBelow}

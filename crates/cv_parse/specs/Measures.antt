@@ -1,10 +1,10 @@
 -- Sizes of trees, over their parts in postorder. This profile's own.
 use Rattle.std.specs.Prelude.{◌≡◌, ℕ, ◌+◌, max, List, [], ◌∷◌}
-use Rattle.cv_syntax.specs.declared.head.Head.{Head}
+use Rattle.cv_syntax_trees.specs.declared.head.Head.{Head}
 use Rattle.cv_syntax.specs.declared.make.Make.{Make}
 use Rattle.cv_syntax.specs.declared.make.Make.TheVariants.{Nothing, Over}
-use Rattle.cv_syntax.specs.Head.{weight}
-use Rattle.cv_syntax.specs.Tree.{Tree, depth as tree_depth, size}
+use Rattle.cv_syntax_trees.specs.Head.{weight}
+use Rattle.cv_syntax_trees.specs.Tree.{Tree, depth as tree_depth, size}
 use Rattle.cv_syntax_limits.specs.declared.games.Extent.{Extent}
 use Rattle.cv_parse.specs.Weights.{capped}
 

@@ -1,7 +1,7 @@
 -- How many nodes of a pool the trees of a file take.
 use Rattle.std.specs.Prelude.{ℕ, ◌+◌, List, [], ◌∷◌}
-use Rattle.cv_syntax.specs.Declarations.{Declaration}
-use Rattle.cv_syntax.specs.Tree.{Tree}
+use Rattle.cv_syntax_trees.specs.Declarations.{Declaration}
+use Rattle.cv_syntax_trees.specs.Tree.{Tree}
 use Rattle.cv_parse_signature.specs.Declares.{tree_in}
 use Rattle.cv_parse.specs.Games.{nodes_of}
 

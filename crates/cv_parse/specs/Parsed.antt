@@ -1,13 +1,15 @@
 -- What the tokens of a file say, or why they are no file.
 use Rattle.std.specs.Prelude.{◌≡◌, ℕ, ◌+◌, ◌-◌, true, false, nat_lt, if◌then◌else◌, List, ◌∷◌, length, Option, Some, None, Result, Ok, Err}
-use Rattle.cv_syntax.specs.declared.decls.Class.TheVariants.{TypeName}
+use Rattle.cv_syntax_trees.specs.declared.class.Class.TheVariants.{TypeName}
 use Rattle.cv_pool.specs.KindTree.{KindTree}
 use Rattle.cv_syntax.specs.declared.decls.Decl.{Decl}
 use Rattle.cv_syntax.specs.declared.work.BuildError.TheVariants.{Depth, Full, Nodes, OutOfMemory}
 use Rattle.cv_syntax.specs.declared.work.File.{File}
 use Rattle.cv_syntax.specs.declared.work.Work.{Work}
-use Rattle.cv_syntax.specs.Declarations.{Declaration, Named, declarations}
-use Rattle.cv_syntax.specs.Tree.{Tree, Empty, size, depth, tree_at}
+use Rattle.cv_syntax_trees.specs.Declarations.{Declaration, Named}
+use Rattle.cv_syntax.specs.Declarations.{declarations}
+use Rattle.cv_syntax_trees.specs.Tree.{Tree, Empty, size, depth}
+use Rattle.cv_syntax.specs.PoolTrees.{tree_at}
 use Rattle.cv_syntax_limits.specs.Limits.{most_depth, most_nodes}
 use Rattle.cv_parse_notation.specs.declared.sign.Sign.{Sign}
 use Rattle.cv_parse_notation.specs.Reads.{Fault}

@@ -2,7 +2,8 @@ ghost use Rattle.std.specs.Prelude.{◌≡◌, ◌+◌, ◌<◌, ◌≤◌, ◌^
 ghost use Rattle.cv_parse_grammar.specs.Filled.{filled};
 ghost use Rattle.cv_parse_terminals.specs.Signs.{signs_of};
 ghost use Rattle.cv_syntax.specs.Postorder.{postorder};
-ghost use Rattle.cv_syntax.specs.Tree.{Tree, tree_at, size};
+ghost use Rattle.cv_syntax_trees.specs.Tree.{Tree, size};
+ghost use Rattle.cv_syntax.specs.PoolTrees.{tree_at};
 ghost use Rattle.cv_syntax.specs.Declarations.{declarations};
 ghost use Rattle.cv_parse.specs.Declaring.{IsBelow};
 ghost use Rattle.cv_parse.specs.Nodes.{file_nodes};

@@ -1,6 +1,6 @@
 ghost use Rattle.std.specs.Prelude.{◌≡◌, reverse, Ok, IfErr, IfOk, OnOk};
 ghost use Rattle.cv_syntax.specs.Postorder.{postorder};
-ghost use Rattle.cv_syntax.specs.Tree.{Tree, depth as tree_depth, size};
+ghost use Rattle.cv_syntax_trees.specs.Tree.{Tree, depth as tree_depth, size};
 ghost use Rattle.cv_parse.specs.Weights.{capped};
 ghost use Rattle.cv_parse.specs.Measures.{IsExtent, depths_behind, depths_over, part_size as size_in};
 ghost use Rattle.cv_parse.specs.Parsed.{Refuses, sized};

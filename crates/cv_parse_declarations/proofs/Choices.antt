@@ -1,6 +1,6 @@
 -- One declaration or the other.
 use Rattle.std.proofs.Common.{◌≡◌, ℕ, Bool, true, false, List, Result}
-use Rattle.cv_syntax.specs.Declarations.{Declaration}
+use Rattle.cv_syntax_trees.specs.Declarations.{Declaration}
 use Rattle.cv_parse_notation.specs.declared.sign.Sign.{Sign}
 use Rattle.cv_parse_notation.specs.Reads.{Reader, pick}
 use Rattle.cv_parse_grammar.specs.declared.role.Role.{Role}

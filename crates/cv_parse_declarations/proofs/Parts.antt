@@ -2,11 +2,11 @@
 use Rattle.std.proofs.Common.{◌≡◌, ℕ, ◌+◌, false, List, [], ◌∷◌, ◌++◌, drop, refl, ap, sym, ◌∙◌, append_assoc, Option}
 use Rattle.std.proofs.lemmas.List.{replicate_more}
 use Rattle.std.specs.Prelude.{replicate}
-use Rattle.cv_syntax.specs.declared.head.Head.{Head}
-use Rattle.cv_syntax.specs.declared.head.Head.TheVariants.{Bound, Cons, New, Oracle}
+use Rattle.cv_syntax_trees.specs.declared.head.Head.{Head}
+use Rattle.cv_syntax_trees.specs.declared.head.Head.TheVariants.{Bound, Cons, New, Oracle}
 use Rattle.cv_syntax.specs.declared.make.Make.{Make}
 use Rattle.cv_syntax.specs.declared.make.Make.TheVariants.{Nothing, Over}
-use Rattle.cv_syntax.specs.Tree.{Tree, Empty, Node, binders, first, second}
+use Rattle.cv_syntax_trees.specs.Tree.{Tree, Empty, Node, binders, first, second}
 use Rattle.cv_syntax.specs.Postorder.{postorder}
 use Rattle.cv_parse_notation.specs.declared.sign.Sign.{Sign}
 use Rattle.cv_parse_notation.specs.declared.sign.Mark.TheVariants as mark

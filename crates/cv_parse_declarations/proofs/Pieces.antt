@@ -1,6 +1,6 @@
 -- Pieces of a proof block, one after another.
 use Rattle.std.proofs.Common.{◌≡◌, ℕ, ◌-◌, ◌<◌, ◌≤◌, Bool, true, false, not, ◌||◌, List, [], ◌∷◌, ◌++◌, length, drop, refl, sym, arith, subst, length-drop, Result}
-use Rattle.cv_syntax.specs.Tree.{Empty}
+use Rattle.cv_syntax_trees.specs.Tree.{Empty}
 use Rattle.cv_parse_notation.specs.declared.sign.Sign.{Sign}
 use Rattle.cv_parse_notation.specs.declared.sign.Mark.TheVariants as mark
 use Rattle.cv_parse_notation.specs.Form.{deeper, made, other}

@@ -1,9 +1,9 @@
 -- What is made of a function's arguments and body, and the sort of the functions of a side. This profile's own.
 use Rattle.std.specs.Prelude.{ℕ, List, [], ◌∷◌, ◌++◌, replicate}
-use Rattle.cv_syntax.specs.declared.head.Head.{Head}
+use Rattle.cv_syntax_trees.specs.declared.head.Head.{Head}
 use Rattle.cv_syntax.specs.declared.make.Make.{Make}
 use Rattle.cv_syntax.specs.declared.make.Make.TheVariants.{Nothing, Over}
-use Rattle.cv_syntax.specs.Tree.{Tree, binders, first, second}
+use Rattle.cv_syntax_trees.specs.Tree.{Tree, binders, first, second}
 use Rattle.cv_syntax.specs.Postorder.{postorder}
 use Rattle.cv_parse_grammar.specs.Phrases.{Sort, LeftFunction, RightFunction}
 use Rattle.cv_parse_declarations.specs.declared.groups.Side.{Side}

@@ -1,6 +1,6 @@
 -- What the readers of a proof block give. This profile's own.
 use Rattle.std.specs.Prelude.{ℕ, List, Result, Ok, Err}
-use Rattle.cv_syntax.specs.Tree.{Tree, Empty}
+use Rattle.cv_syntax_trees.specs.Tree.{Tree, Empty}
 use Rattle.cv_parse_notation.specs.declared.sign.Sign.{Sign}
 use Rattle.cv_parse_notation.specs.Form.{deeper, either, made, other}
 use Rattle.cv_parse_notation.specs.Reads.{Read}

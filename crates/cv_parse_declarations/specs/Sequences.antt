@@ -1,7 +1,7 @@
 -- What a reader of declarations, one after another, gives. This profile's own.
 use Rattle.std.specs.Prelude.{ℕ, ◌≡◌, List, ◌++◌, map, flat_map, Result, Ok, Err}
 use Rattle.std.specs.List.{AllByRecursion}
-use Rattle.cv_syntax.specs.Declarations.{Declaration}
+use Rattle.cv_syntax_trees.specs.Declarations.{Declaration}
 use Rattle.cv_parse_notation.specs.declared.sign.Sign.{Sign}
 use Rattle.cv_parse_notation.specs.Reads.{Read}
 use Rattle.cv_parse_grammar.specs.declared.role.Role.{Role}

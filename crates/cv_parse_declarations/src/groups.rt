@@ -1,7 +1,7 @@
 ghost use Rattle.std.specs.Prelude.{◌≡◌, false, ◌+◌, ◌<◌, ◌≤◌, ◌^◌, ◌++◌, ◌∷◌, [], ℕ, length, drop};
 ghost use Rattle.cv_parse_notation.specs.Form.{◌&◌, ◌▸◌, deeper, made, many};
 ghost use Rattle.cv_parse_notation.specs.declared.sign.Mark.TheVariants.{Bar, New, Semicolon};
-ghost use Rattle.cv_syntax.specs.Tree.{chain};
+ghost use Rattle.cv_syntax_trees.specs.Tree.{chain};
 ghost use Rattle.cv_syntax.specs.Postorder.{postorder};
 ghost use Rattle.cv_parse_grammar.specs.declared.role.Role.TheVariants.{BindsLocal};
 ghost use Rattle.cv_parse_grammar.specs.Phrases.{row, typed as typed_form};

@@ -1,7 +1,7 @@
 -- Where a token stands in a phrase, the tokens from the phrase on begin one.
 use Rattle.std.proofs.Common.{◌≡◌, ◌⊎◌, ℕ, zero, suc, ◌<◌, ◌≤◌, Bool, true, false, ◌&&◌, ◌||◌, not, inl, inr, List, [], ◌∷◌, length, refl, ap, ap₂, sym, ◌∙◌, arith, subst}
 use Rattle.std.proofs.lemmas.Bool.{not-true}
-use Rattle.cv_syntax.specs.Tree.{Tree}
+use Rattle.cv_syntax_trees.specs.Tree.{Tree}
 use Rattle.cv_parse_notation.specs.Marks.{every_mark}
 use Rattle.cv_parse_notation.specs.ScriptWords.{every_word}
 use Rattle.cv_parse_notation.specs.declared.script.ScriptWord.{ScriptWord}

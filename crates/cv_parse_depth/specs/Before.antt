@@ -1,6 +1,6 @@
 -- A phrase with something behind it: where what stands behind it may begin with some tokens alone.
 use Rattle.std.specs.Prelude.{◌≡◌, ℕ, Bool, false, if◌then◌else◌, List, length, Ok, Err}
-use Rattle.cv_syntax.specs.Tree.{Tree}
+use Rattle.cv_syntax_trees.specs.Tree.{Tree}
 use Rattle.cv_parse_notation.specs.declared.sign.Sign.{Sign}
 use Rattle.cv_parse_notation.specs.Form.{Form}
 use Rattle.cv_parse_notation.specs.Spells.{Kind, next_is, Use}

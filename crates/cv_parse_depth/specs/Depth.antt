@@ -1,6 +1,6 @@
 -- How deep a token stands: the number of brackets and syntax nodes that are open there, whatever bound there is on it.
 use Rattle.std.specs.Prelude.{◌≡◌, ℕ, zero, suc, ◌<◌, ◌≤◌, Bool, true, false, List, length, ◌⊎◌}
-use Rattle.cv_syntax.specs.Tree.{Tree}
+use Rattle.cv_syntax_trees.specs.Tree.{Tree}
 use Rattle.cv_parse_notation.specs.declared.sign.Sign.{Sign}
 use Rattle.cv_parse_notation.specs.Form.{Form, sign, script_word, word, number, nought, find_word, unnamed, other, note, both, may, many, either, made, level, deeper}
 use Rattle.cv_parse_notation.specs.Spells.{Kind, is_mark, is_script_word, is_word, is_number, is_zero, is_find, is_unnamed, is_other, starts, next_is, Use, Spells, IsSort}

@@ -2,9 +2,9 @@
 use Rattle.std.proofs.Common.{◌≡◌, ℕ, zero, suc, Bool, true, false, ◌==◌, ◌||◌, if◌then◌else◌, List, [], ◌∷◌, ◌++◌, map, take, Option, Some, None, refl, ap, sym, ◌∙◌, subst, append_assoc}
 use Rattle.std.proofs.lemmas.Bool.{eq-eqb}
 use Rattle.std.specs.List.{list_any}
-use Rattle.cv_syntax.specs.declared.head.Head.{Head}
-use Rattle.cv_syntax.specs.declared.head.Head.TheVariants.{In, Out, Leaf, Read, Cons, Name}
-use Rattle.cv_syntax.specs.Tree.{Tree, Empty, Node, second, lone, chain, names}
+use Rattle.cv_syntax_trees.specs.declared.head.Head.{Head}
+use Rattle.cv_syntax_trees.specs.declared.head.Head.TheVariants.{In, Out, Leaf, Read, Cons, Name}
+use Rattle.cv_syntax_trees.specs.Tree.{Tree, Empty, Node, second, lone, chain, names}
 use Rattle.cv_parse_grammar.specs.Filled.{read_at, read_plainly, bare, now_below, on_channel, filled_at}
 
 -- current indices

@@ -1,7 +1,7 @@
 -- What is computed of a file is what is meant.
 use Rattle.std.proofs.Common.{◌≡◌, ℕ, List, [], ◌∷◌, Option, Some, None, Ok, Err, refl, ap, ◌∙◌, subst}
-use Rattle.cv_syntax.specs.Declarations.{Declaration}
-use Rattle.cv_syntax.specs.Tree.{Tree}
+use Rattle.cv_syntax_trees.specs.Declarations.{Declaration}
+use Rattle.cv_syntax_trees.specs.Tree.{Tree}
 use Rattle.cv_parse_notation.specs.declared.sign.Sign.{Sign}
 use Rattle.cv_parse_notation.specs.Reads.{Found, Read}
 use Rattle.cv_parse_notation.proofs.Whole.{whole_sound, whole_complete}

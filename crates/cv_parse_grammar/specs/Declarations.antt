@@ -1,11 +1,11 @@
 -- The rows of declarations.
 use Rattle.std.specs.Prelude.{ℕ, map, Bool, true, false, List, [], ◌∷◌, Option, Some, None}
 use Rattle.std.specs.List.{list_any}
-use Rattle.cv_syntax.specs.Tree.{Tree, Empty, Node, lone, chain, names}
-use Rattle.cv_syntax.specs.Declarations.{Declaration, Named, Equation, Equiv, Query}
-use Rattle.cv_syntax.specs.declared.decls.Class.{Class}
-use Rattle.cv_syntax.specs.declared.decls.Class.TheVariants as class
-use Rattle.cv_syntax.specs.declared.head.Head.TheVariants.{Cons, Forall, Query as Correspondence, Occurs, OccursOnce, Secret, SecretOnce, Equivalence}
+use Rattle.cv_syntax_trees.specs.Tree.{Tree, Empty, Node, lone, chain, names}
+use Rattle.cv_syntax_trees.specs.Declarations.{Declaration, Named, Equation, Equiv, Query}
+use Rattle.cv_syntax_trees.specs.declared.class.Class.{Class}
+use Rattle.cv_syntax_trees.specs.declared.class.Class.TheVariants as class
+use Rattle.cv_syntax_trees.specs.declared.head.Head.TheVariants.{Cons, Forall, Query as Correspondence, Occurs, OccursOnce, Secret, SecretOnce, Equivalence}
 use Rattle.cv_parse_notation.specs.declared.sign.Mark.TheVariants as mark
 use Rattle.cv_parse_notation.specs.Form.{sign, word, unnamed, may, either, made, ◌&◌, ◌▸◌, ◌◂◌}
 use Rattle.cv_parse_grammar.specs.declared.role.TypeOption.{TypeOption}

@@ -1,8 +1,8 @@
 -- The rows of equivalences: groups of functions, and the bodies of functions.
 use Rattle.std.specs.Prelude.{ℕ, false, [], ◌∷◌, Option, Some, None}
-use Rattle.cv_syntax.specs.Tree.{Tree, Empty, Node, first, second, chain, binders}
-use Rattle.cv_syntax.specs.declared.head.Head.{Head}
-use Rattle.cv_syntax.specs.declared.head.Head.TheVariants.{New, Find, Cons, Bound, Single, Oracle}
+use Rattle.cv_syntax_trees.specs.Tree.{Tree, Empty, Node, first, second, chain, binders}
+use Rattle.cv_syntax_trees.specs.declared.head.Head.{Head}
+use Rattle.cv_syntax_trees.specs.declared.head.Head.TheVariants.{New, Find, Cons, Bound, Single, Oracle}
 use Rattle.cv_parse_notation.specs.declared.sign.Mark.TheVariants as mark
 use Rattle.cv_parse_notation.specs.Form.{word, may, many, either, made, level, deeper, ◌&◌, ◌▸◌, ◌◂◌}
 use Rattle.cv_parse_grammar.specs.declared.role.Role.TheVariants.{BindsLocal, BindsBound, AsksBound}

@@ -1,9 +1,9 @@
 -- From the tree of a text to the game: a plain read gets all its indices, and a plain channel the current ones.
 use Rattle.std.specs.Prelude.{ℕ, suc, Bool, false, ◌==◌, if◌then◌else◌, List, [], ◌∷◌, ◌++◌, map, take, Option, Some, None}
 use Rattle.std.specs.List.{list_any}
-use Rattle.cv_syntax.specs.declared.head.Head.{Head}
-use Rattle.cv_syntax.specs.declared.head.Head.TheVariants.{Repl, In, Out, New, Let, Leaf, Read, Cons, Binder}
-use Rattle.cv_syntax.specs.Tree.{Tree, Empty, Node, lone, chain, names}
+use Rattle.cv_syntax_trees.specs.declared.head.Head.{Head}
+use Rattle.cv_syntax_trees.specs.declared.head.Head.TheVariants.{Repl, In, Out, New, Let, Leaf, Read, Cons, Binder}
+use Rattle.cv_syntax_trees.specs.Tree.{Tree, Empty, Node, lone, chain, names}
 
 -- a definition of the variable
 abbrev pub defines : Head → ℕ → Bool

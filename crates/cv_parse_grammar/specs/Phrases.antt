@@ -1,6 +1,6 @@
 -- The sorts of phrases of the grammar, and what its rows are made of.
 use Rattle.std.specs.Prelude.{ℕ, false, List, ◌∷◌, Option, Some, None}
-use Rattle.cv_syntax.specs.Tree.{Tree, Empty, binders}
+use Rattle.cv_syntax_trees.specs.Tree.{Tree, Empty, binders}
 use Rattle.cv_parse_notation.specs.declared.sign.Mark.{Mark}
 use Rattle.cv_parse_notation.specs.declared.sign.Mark.TheVariants as mark
 use Rattle.cv_parse_notation.specs.Form.{Form, sign, word, note, may, many, either, made, level, ◌&◌, ◌▸◌, ◌◂◌}

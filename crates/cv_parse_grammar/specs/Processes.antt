@@ -1,7 +1,7 @@
 -- The rows of processes. An input process waits for a message; an output process runs until it sends one.
 use Rattle.std.specs.Prelude.{ℕ, false, true, [], ◌∷◌}
-use Rattle.cv_syntax.specs.Tree.{Tree, Empty, Node, first, second, lone, chain, names, binders}
-use Rattle.cv_syntax.specs.declared.head.Head.TheVariants.{Stop, Yield, Par, Repl, In, Out, Event, New, Let, If, Find, Branch, Cons, Name}
+use Rattle.cv_syntax_trees.specs.Tree.{Tree, Empty, Node, first, second, lone, chain, names, binders}
+use Rattle.cv_syntax_trees.specs.declared.head.Head.TheVariants.{Stop, Yield, Par, Repl, In, Out, Event, New, Let, If, Find, Branch, Cons, Name}
 use Rattle.cv_parse_notation.specs.declared.sign.Mark.TheVariants as mark
 use Rattle.cv_parse_notation.specs.Form.{sign, word, number, nought, find_word, may, many, either, made, level, deeper, ◌&◌, ◌▸◌}
 use Rattle.cv_parse_grammar.specs.declared.role.Asked.TheVariants.{AParam, AChannel, AnEvent}

@@ -1,7 +1,7 @@
 -- The grammar of files: the rows of each sort, and the row of a file.
 use Rattle.std.specs.Prelude.{ℕ, flat_map, Bool, false, ◌||◌, List, Option}
-use Rattle.cv_syntax.specs.Tree.{Tree, Empty}
-use Rattle.cv_syntax.specs.Declarations.{Declaration}
+use Rattle.cv_syntax_trees.specs.Tree.{Tree, Empty}
+use Rattle.cv_syntax_trees.specs.Declarations.{Declaration}
 use Rattle.cv_parse_notation.specs.declared.sign.Mark.TheVariants as mark
 use Rattle.cv_parse_notation.specs.Form.{other, note, may, many, either, made, level, deeper, ◌&◌, ◌▸◌, ◌◂◌}
 use Rattle.cv_parse_notation.specs.Spells.{Kind, is_mark, starts}

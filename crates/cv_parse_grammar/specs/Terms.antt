@@ -1,7 +1,7 @@
 -- The rows of terms: `||` over `&&` over `=` and `<>` over primary terms, and the conditions of `find`.
 use Rattle.std.specs.Prelude.{ℕ, false, Option, Some, None}
-use Rattle.cv_syntax.specs.Tree.{Tree, Empty, Node, lone, chain}
-use Rattle.cv_syntax.specs.declared.head.Head.TheVariants.{Leaf, Read, Apply, Eq, And, Or, Not, Yes, No}
+use Rattle.cv_syntax_trees.specs.Tree.{Tree, Empty, Node, lone, chain}
+use Rattle.cv_syntax_trees.specs.declared.head.Head.TheVariants.{Leaf, Read, Apply, Eq, And, Or, Not, Yes, No}
 use Rattle.cv_parse_notation.specs.declared.sign.Mark.TheVariants as mark
 use Rattle.cv_parse_notation.specs.Form.{sign, word, note, may, either, made, level, deeper, ◌&◌, ◌▸◌}
 use Rattle.cv_parse_grammar.specs.declared.role.Role.TheVariants.{Mentions, AsCall, AsArray, AsBare, MentionsCell}

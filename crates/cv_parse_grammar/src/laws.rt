@@ -1,7 +1,7 @@
 ghost use Rattle.std.specs.Prelude.{◌≡◌, ◌↔◌, ℕ, suc, List, [], ◌∷◌, Option, Ok, Err, Some, None};
-ghost use Rattle.cv_syntax.specs.Declarations.{Declaration};
-ghost use Rattle.cv_syntax.specs.Tree.{Tree, lone};
-ghost use Rattle.cv_syntax.specs.declared.head.Head.TheVariants.{Stop};
+ghost use Rattle.cv_syntax_trees.specs.Declarations.{Declaration};
+ghost use Rattle.cv_syntax_trees.specs.Tree.{Tree, lone};
+ghost use Rattle.cv_syntax_trees.specs.declared.head.Head.TheVariants.{Stop};
 ghost use Rattle.cv_parse_notation.specs.Reads.{Found, found, Syntax, Nesting};
 ghost use Rattle.cv_parse_notation.specs.Spells.{Use};
 ghost use Rattle.cv_parse_notation.specs.Whole.{Dead};

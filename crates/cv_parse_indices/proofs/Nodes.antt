@@ -2,10 +2,10 @@
 use Rattle.std.proofs.Common.{◌≡◌, ℕ, ◌+◌, ◌==◌, Bool, true, false, if◌then◌else◌, List, [], ◌∷◌, ◌++◌, take, Option, Some, None, refl, ap, sym, ◌∙◌, append-nil, arith}
 use Rattle.std.specs.Prelude.{max}
 use Rattle.std.specs.List.{list_any}
-use Rattle.cv_syntax.specs.declared.head.Head.{Head}
-use Rattle.cv_syntax.specs.declared.head.Head.TheVariants.{In, Out, Leaf, Cons}
+use Rattle.cv_syntax_trees.specs.declared.head.Head.{Head}
+use Rattle.cv_syntax_trees.specs.declared.head.Head.TheVariants.{In, Out, Leaf, Cons}
 use Rattle.cv_syntax.specs.declared.make.Make.TheVariants.{Nothing, Over}
-use Rattle.cv_syntax.specs.Tree.{Tree, Empty, Node, lone, names, size, depth}
+use Rattle.cv_syntax_trees.specs.Tree.{Tree, Empty, Node, lone, names, size, depth}
 use Rattle.cv_parse_grammar.specs.Filled.{read_at, read_plainly, bare, now_below, filled_at}
 use Rattle.cv_parse_grammar.specs.Filled as filled
 use Rattle.cv_parse_indices.specs.declared.context.Place.{Place}

@@ -1,10 +1,10 @@
 -- Trees that are still to come, by the parts that are left of a list.
 use Rattle.std.proofs.Common.{◌≡◌, ℕ, zero, suc, ◌+◌, ◌-◌, ◌<◌, ◌≤◌, List, [], ◌∷◌, ◌++◌, length, take, reverse, get_or, refl, ap, sym, ◌∙◌, subst, arith, append_assoc, append-nil, add-one}
 use Rattle.std.proofs.lemmas.List.{reverse-append, reverse-reverse, take_more, take_all}
-use Rattle.cv_syntax.specs.declared.head.Head.{Head}
+use Rattle.cv_syntax_trees.specs.declared.head.Head.{Head}
 use Rattle.cv_syntax.specs.declared.make.Make.{Make}
 use Rattle.cv_syntax.specs.declared.make.Make.TheVariants.{Nothing, Over}
-use Rattle.cv_syntax.specs.Tree.{Tree, Empty, Node}
+use Rattle.cv_syntax_trees.specs.Tree.{Tree, Empty, Node}
 use Rattle.cv_syntax.specs.Postorder.{postorder}
 use Rattle.cv_parse_indices.specs.Backward.{backward, all_backward}
 use Rattle.cv_parse_indices.specs.Sites.{part_before}

@@ -3,10 +3,10 @@ use Rattle.std.proofs.Common.{◌≡◌, ℕ, zero, suc, ◌+◌, ◌<◌, ◌�
 use Rattle.std.proofs.lemmas.Bool.{cases_lt}
 use Rattle.std.proofs.lemmas.List.{take-take, take_all, length-take, map_more, drop_all, replicate_more}
 use Rattle.cv_parse_grammar.specs.Filled.{read_at}
-use Rattle.cv_syntax.specs.declared.head.Head.TheVariants.{Leaf, Cons, Name, Read}
+use Rattle.cv_syntax_trees.specs.declared.head.Head.TheVariants.{Leaf, Cons, Name, Read}
 use Rattle.cv_syntax.specs.declared.make.Make.{Make}
 use Rattle.cv_syntax.specs.declared.make.Make.TheVariants.{Nothing, Over}
-use Rattle.cv_syntax.specs.Tree.{chain, lone, names}
+use Rattle.cv_syntax_trees.specs.Tree.{chain, lone, names}
 use Rattle.cv_parse_indices.specs.Backward.{backward}
 
 -- the first k of the first n

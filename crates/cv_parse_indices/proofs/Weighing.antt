@@ -2,10 +2,10 @@
 use Rattle.std.proofs.Common.{◌≡◌, ℕ, zero, suc, ◌+◌, ◌<◌, ◌≤◌, min, List, [], ◌∷◌, ◌++◌, length, map, take, reverse, get_or, Option, refl, ap, ap₂, sym, ◌∙◌, subst, arith, append-nil}
 use Rattle.std.specs.Prelude.{max}
 use Rattle.std.proofs.lemmas.List.{reverse-append, length-take-le}
-use Rattle.cv_syntax.specs.declared.head.Head.TheVariants.{Leaf}
+use Rattle.cv_syntax_trees.specs.declared.head.Head.TheVariants.{Leaf}
 use Rattle.cv_syntax.specs.declared.make.Make.{Make}
 use Rattle.cv_syntax.specs.declared.make.Make.TheVariants.{Nothing, Over}
-use Rattle.cv_syntax.specs.Tree.{Tree, Empty, Node, chain, lone, size, depth}
+use Rattle.cv_syntax_trees.specs.Tree.{Tree, Empty, Node, chain, lone, size, depth}
 use Rattle.cv_syntax.specs.Postorder.{postorder}
 use Rattle.cv_parse_grammar.specs.Filled.{filled, filled_at, first_site, now_below, read_at}
 use Rattle.cv_parse_indices.specs.declared.context.Context.{Context}

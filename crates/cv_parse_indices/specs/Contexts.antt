@@ -1,11 +1,11 @@
 -- What stands in the game for a tree of the text, by where it stands.
 use Rattle.std.specs.Prelude.{ℕ, List, [], ◌∷◌, Option}
-use Rattle.cv_syntax.specs.declared.head.Head.{Head}
-use Rattle.cv_syntax.specs.declared.head.Head.TheVariants.{In, Out, Leaf, Cons}
+use Rattle.cv_syntax_trees.specs.declared.head.Head.{Head}
+use Rattle.cv_syntax_trees.specs.declared.head.Head.TheVariants.{In, Out, Leaf, Cons}
 use Rattle.cv_syntax.specs.declared.make.Make.{Make}
 use Rattle.cv_syntax.specs.declared.make.Make.TheVariants.{Nothing, Over}
-use Rattle.cv_syntax.specs.Head.{weight}
-use Rattle.cv_syntax.specs.Tree.{Tree, Empty, Node, names, size, depth}
+use Rattle.cv_syntax_trees.specs.Head.{weight}
+use Rattle.cv_syntax_trees.specs.Tree.{Tree, Empty, Node, names, size, depth}
 use Rattle.cv_parse_grammar.specs.Filled.{bare, filled_at}
 use Rattle.cv_parse_indices.specs.declared.context.Place.{Place}
 use Rattle.cv_parse_indices.specs.declared.context.Place.TheVariants.{Plain, Channel, Indices, Dropped}

@@ -1,6 +1,6 @@
 ghost use Rattle.std.specs.Prelude.{◌≡◌, ◌≤◌, ◌-◌, ◌^◌, ◌++◌, min, length, take, reverse, IfOk, OnOk};
 ghost use Rattle.cv_syntax.specs.Postorder.{postorder};
-ghost use Rattle.cv_syntax.specs.Tree.{Tree, depth as tree_depth, size};
+ghost use Rattle.cv_syntax_trees.specs.Tree.{Tree, depth as tree_depth, size};
 ghost use Rattle.cv_parse_grammar.specs.Filled.{bare, filled};
 ghost use Rattle.cv_parse_indices.specs.Contexts.{depth_at, nodes_at};
 ghost use Rattle.cv_parse_indices.specs.Current.{numbers_of};

@@ -1,6 +1,6 @@
 ghost use Rattle.std.specs.Prelude.{◌≡◌, ◌+◌, ◌-◌, ◌<◌, ◌≤◌, ◌^◌, ◌++◌, ◌∷◌, [], ℕ, length, IfOk, OnOk};
 ghost use Rattle.cv_syntax.specs.Postorder.{postorder};
-ghost use Rattle.cv_syntax.specs.Tree.{Tree};
+ghost use Rattle.cv_syntax_trees.specs.Tree.{Tree};
 ghost use Rattle.cv_parse_grammar.specs.Filled.{first_site, under as below};
 ghost use Rattle.cv_parse_indices.specs.Current.{numbers_of};
 ghost use Rattle.cv_parse_indices.specs.Sites.{defined_by, part_before as part, tasks_at};

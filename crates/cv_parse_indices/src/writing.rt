@@ -1,6 +1,6 @@
 ghost use Rattle.std.specs.Prelude.{◌≡◌, ◌≤◌, ◌++◌, length, map, take, OnOk};
-ghost use Rattle.cv_syntax.specs.Tree.{chain, lone, names};
-ghost use Rattle.cv_syntax.specs.declared.head.Head.TheVariants.{Leaf};
+ghost use Rattle.cv_syntax_trees.specs.Tree.{chain, lone, names};
+ghost use Rattle.cv_syntax_trees.specs.declared.head.Head.TheVariants.{Leaf};
 ghost use Rattle.cv_parse_grammar.specs.Filled.{read_at};
 ghost use Rattle.cv_parse_indices.specs.Backward.{backward};
 ghost use Rattle.cv_parse_indices.specs.Contexts.{written};

@@ -1,9 +1,9 @@
 -- Filling makes phrases of phrases, and binds nothing.
 use Rattle.std.proofs.Common.{◌≡◌, ℕ, Bool, true, false, ◌==◌, if◌then◌else◌, List, [], ◌∷◌, map, take, Option, Some, None, refl, ap, sym, subst}
 use Rattle.std.specs.List.{list_any}
-use Rattle.cv_syntax.specs.declared.head.Head.{Head}
-use Rattle.cv_syntax.specs.declared.head.Head.TheVariants.{In, Out, Leaf, Read, Cons}
-use Rattle.cv_syntax.specs.Tree.{Tree, Empty, Node, lone, chain, names}
+use Rattle.cv_syntax_trees.specs.declared.head.Head.{Head}
+use Rattle.cv_syntax_trees.specs.declared.head.Head.TheVariants.{In, Out, Leaf, Read, Cons}
+use Rattle.cv_syntax_trees.specs.Tree.{Tree, Empty, Node, lone, chain, names}
 use Rattle.cv_parse_grammar.specs.Filled.{bare, filled_at, now_below, on_channel, read_at, read_plainly}
 use Rattle.cv_scope_rules.specs.Phrases.{Phrase, Nil, Inputs, Body, Pattern, Message, Indices, Binders, OneCell, Terms, Term, parts}
 use Rattle.cv_parse_laws.specs.Shapes.{IsShaped}

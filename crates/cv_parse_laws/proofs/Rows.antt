@@ -1,7 +1,7 @@
 -- The rows of processes and terms make phrases of a game.
 use Rattle.std.proofs.Common.{◌≡◌, ℕ, Bool, true, not, [], ◌∷◌, Option, Some, None, refl}
 use Rattle.std.specs.List.{AllByRecursion}
-use Rattle.cv_syntax.specs.Tree.{Tree, Empty}
+use Rattle.cv_syntax_trees.specs.Tree.{Tree, Empty}
 use Rattle.cv_parse_notation.specs.declared.sign.Mark.{Mark}
 use Rattle.cv_parse_notation.specs.Form.{Form, made, may}
 use Rattle.cv_parse_grammar.specs.declared.role.Asked.TheVariants.{AParam}

@@ -1,6 +1,6 @@
 -- What the rows of processes and terms make: phrases of a game that bind no barred name.
 use Rattle.std.specs.Prelude.{◌≡◌, ℕ, Bool, true, not}
-use Rattle.cv_syntax.specs.Tree.{Tree, first, second}
+use Rattle.cv_syntax_trees.specs.Tree.{Tree, first, second}
 use Rattle.cv_parse_grammar.specs.declared.role.Role.{Role}
 use Rattle.cv_parse_grammar.specs.Names.{binds}
 use Rattle.cv_parse_grammar.specs.Phrases.{Sort}

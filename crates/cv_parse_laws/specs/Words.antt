@@ -1,7 +1,7 @@
 -- Which phrases the rows of processes and terms make, where no name among the tokens is `bool`. This profile's own.
 use Rattle.std.specs.Prelude.{◌≡◌, true, List}
 use Rattle.std.specs.List.{AllByRecursion}
-use Rattle.cv_syntax.specs.Tree.{Tree, first, second}
+use Rattle.cv_syntax_trees.specs.Tree.{Tree, first, second}
 use Rattle.cv_parse_notation.specs.declared.sign.Sign.{Sign}
 use Rattle.cv_parse_notation.specs.declared.sign.Sign.TheVariants as token
 use Rattle.cv_parse_grammar.specs.Phrases.{Sort}

@@ -1,6 +1,6 @@
 -- The laws of reading a phrase with nothing behind it, for each table of rules and each form that fits.
 use Rattle.std.proofs.Common.{◌≡◌, ℕ, Bool, true, List, [], ◌∷◌, ◌++◌, length, Ok, Err, refl, ap, sym, ◌∙◌, subst}
-use Rattle.cv_syntax.specs.Tree.{Tree}
+use Rattle.cv_syntax_trees.specs.Tree.{Tree}
 use Rattle.cv_parse_notation.specs.declared.sign.Sign.{Sign}
 use Rattle.cv_parse_notation.specs.Form.{Form}
 use Rattle.cv_parse_notation.specs.Spells.{Kind, Use, IsSort, is_steady}

@@ -1,6 +1,6 @@
 -- The notation of the grammar: what may stand on the right of a production.
 use Rattle.std.specs.Prelude.{ℕ, Bool, List, Option}
-use Rattle.cv_syntax.specs.Tree.{Tree}
+use Rattle.cv_syntax_trees.specs.Tree.{Tree}
 use Rattle.cv_parse_notation.specs.declared.script.ScriptWord.{ScriptWord}
 use Rattle.cv_parse_notation.specs.declared.sign.Mark.{Mark}
 

@@ -1,6 +1,6 @@
 -- A phrase and nothing behind it, and tokens that no such phrase begins with.
 use Rattle.std.specs.Prelude.{◌≡◌, ℕ, Bool, true, List, [], ◌∷◌, ◌++◌, length, Ok, Err}
-use Rattle.cv_syntax.specs.Tree.{Tree}
+use Rattle.cv_syntax_trees.specs.Tree.{Tree}
 use Rattle.cv_parse_notation.specs.declared.sign.Sign.{Sign}
 use Rattle.cv_parse_notation.specs.Form.{Form}
 use Rattle.cv_parse_notation.specs.Spells.{Kind, Use, Spells, IsSort}

@@ -1,6 +1,6 @@
 -- What was read between brackets, and the lists of branches.
 use Rattle.std.proofs.Common.{◌≡◌, ℕ, List, ◌∷◌, drop, true, ap, ap₂, Ok, Err}
-use Rattle.cv_syntax.specs.Tree.{Tree, chain}
+use Rattle.cv_syntax_trees.specs.Tree.{Tree, chain}
 use Rattle.cv_parse_notation.specs.declared.sign.Sign.{Sign}
 use Rattle.cv_parse_notation.specs.declared.sign.Mark.TheVariants as mark
 use Rattle.cv_parse_notation.specs.Form.{deeper, made, many, ◌&◌, ◌▸◌, ◌◂◌}

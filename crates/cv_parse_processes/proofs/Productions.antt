@@ -1,10 +1,10 @@
 -- Each construct of a process, from its parts.
 use Rattle.std.proofs.Common.{◌≡◌, ℕ, ◌<◌, false, List, [], ◌∷◌, ◌++◌, drop, refl, ap, ap₂, sym, append-nil, append_assoc, ◌∙◌, Option, flat_map, subst}
 use Rattle.std.specs.Prelude.{replicate}
-use Rattle.cv_syntax.specs.declared.head.Head.TheVariants.{Branch, Cons, Event, Find, If, In, Let, Name, New, Out, Repl}
+use Rattle.cv_syntax_trees.specs.declared.head.Head.TheVariants.{Branch, Cons, Event, Find, If, In, Let, Name, New, Out, Repl}
 use Rattle.cv_syntax.specs.declared.make.Make.{Make}
 use Rattle.cv_syntax.specs.declared.make.Make.TheVariants.{Nothing, Over}
-use Rattle.cv_syntax.specs.Tree.{Tree, Empty, Node, chain}
+use Rattle.cv_syntax_trees.specs.Tree.{Tree, Empty, Node, chain}
 use Rattle.cv_syntax.specs.Postorder.{postorder}
 use Rattle.cv_parse_notation.specs.declared.sign.Sign.{Sign}
 use Rattle.cv_parse_notation.specs.declared.sign.Mark.TheVariants as mark

@@ -1,7 +1,7 @@
 -- What runs under a construct, an output process or the body of a function, and the rows that the two share.
 use Rattle.std.specs.Prelude.{◌||◌, Bool, List, ℕ}
-use Rattle.cv_syntax.specs.Tree.{Tree, Node, chain}
-use Rattle.cv_syntax.specs.declared.head.Head.TheVariants.{Find}
+use Rattle.cv_syntax_trees.specs.Tree.{Tree, Node, chain}
+use Rattle.cv_syntax_trees.specs.declared.head.Head.TheVariants.{Find}
 use Rattle.cv_parse_notation.specs.declared.sign.Mark.{Mark}
 use Rattle.cv_parse_notation.specs.declared.sign.Mark.TheVariants as mark
 use Rattle.cv_parse_notation.specs.Form.{deeper, either, level, made, ◌&◌, ◌▸◌}

@@ -1,6 +1,6 @@
 -- What a reader makes of a phrase at its place, with so many levels left.
 use Rattle.std.specs.Prelude.{ℕ, List, drop, Result}
-use Rattle.cv_syntax.specs.Tree.{Tree}
+use Rattle.cv_syntax_trees.specs.Tree.{Tree}
 use Rattle.cv_syntax.specs.Postorder.{postorder}
 use Rattle.cv_parse_notation.specs.declared.sign.Sign.{Sign}
 use Rattle.cv_parse_grammar.specs.Phrases.{Phrase, Sort}

@@ -1,18 +1,18 @@
 -- Queries of a file that are typed say something of functions, of constants and of their own variables alone.
 use Rattle.std.proofs.Common.{◌≡◌, ℕ, true, List, [], ◌∷◌, flat_map, ◌⊎◌, inl, inr, Option, Ok, refl, sym, subst}
 use Rattle.std.specs.List.{AllByRecursion}
-use Rattle.cv_syntax.specs.declared.head.Head.TheVariants.{Occurs, OccursOnce, Query as Correspondence}
-use Rattle.cv_syntax.specs.Declarations.{Declaration, Named, Equation, Equiv, Query}
-use Rattle.cv_syntax.specs.Tree.{Tree, Empty, Node, binders, bound_names, chain}
+use Rattle.cv_syntax_trees.specs.declared.head.Head.TheVariants.{Occurs, OccursOnce, Query as Correspondence}
+use Rattle.cv_syntax_trees.specs.Declarations.{Declaration, Named, Equation, Equiv, Query}
+use Rattle.cv_syntax_trees.specs.Tree.{Tree, Empty, Node, binders, bound_names, chain}
 use Rattle.cv_parse_notation.specs.declared.sign.Sign.{Sign}
 use Rattle.cv_parse_grammar.specs.Whole.{IsRead}
 use Rattle.cv_parse.specs.Parsed.{Parsed, parsed}
 use Rattle.cv_parse.proofs.Exactness.{said_is_saying}
 use Rattle.cv_meaning.specs.Queries.{queries_in}
-use Rattle.cv_typing.specs.Parts.{AreTyped, IsTypedFile, declaration_parts, game_part, local_names, query_part, IsTypedPart}
-use Rattle.cv_typing.specs.Signature.{OfNothing, Signature}
-use Rattle.cv_typing.specs.Typing.{IsTyped}
-use Rattle.cv_typing.specs.Wants.{Atoms}
+use Rattle.cv_typing_rules.specs.Parts.{AreTyped, IsTypedFile, declaration_parts, game_part, local_names, query_part, IsTypedPart}
+use Rattle.cv_typing_rules.specs.Signature.{OfNothing, Signature}
+use Rattle.cv_typing_rules.specs.Typing.{IsTyped}
+use Rattle.cv_typing_rules.specs.Wants.{Atoms}
 use Rattle.cv_first_fault.specs.Walk.{IsObeyed}
 use Rattle.cv_derivations_under.specs.Truth.{is_name_of}
 use Rattle.cv_query_closed.specs.Closed.{AreClosedAtoms, HasClosedQueries, IsClosedAtom, IsClosedQuery, IsKnown}

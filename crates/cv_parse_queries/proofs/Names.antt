@@ -4,10 +4,10 @@ use Rattle.std.proofs.lemmas.Bool.{and_parts, both_ways, or_cases, or_left}
 use Rattle.std.proofs.lemmas.List.Folds.{list_any-append}
 use Rattle.std.specs.List.{AllByRecursion}
 use Rattle.cv_lists.proofs.Each.{AllByRecursion-append, AllByRecursion-flat_map, AllByRecursion-left}
-use Rattle.cv_syntax.specs.declared.decls.Class.{Class}
-use Rattle.cv_syntax.specs.declared.head.Head.TheVariants.{Cons, Occurs, OccursOnce, Query as Correspondence, Secret, SecretOnce}
-use Rattle.cv_syntax.specs.Declarations.{Declaration, Query}
-use Rattle.cv_syntax.specs.Tree.{Tree, Empty, Node, binders, bound_names, chain, lone}
+use Rattle.cv_syntax_trees.specs.declared.class.Class.{Class}
+use Rattle.cv_syntax_trees.specs.declared.head.Head.TheVariants.{Cons, Occurs, OccursOnce, Query as Correspondence, Secret, SecretOnce}
+use Rattle.cv_syntax_trees.specs.Declarations.{Declaration, Query}
+use Rattle.cv_syntax_trees.specs.Tree.{Tree, Empty, Node, binders, bound_names, chain, lone}
 use Rattle.cv_parse_notation.specs.declared.sign.Mark.TheVariants as mark
 use Rattle.cv_parse_notation.specs.declared.sign.Sign.{Sign}
 use Rattle.cv_parse_notation.specs.Form.{Form, either, ◌▸◌, ◌◂◌, ◌&◌}

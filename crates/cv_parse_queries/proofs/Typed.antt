@@ -1,11 +1,11 @@
 -- Terms that are typed name functions, constants and variables that are bound above alone.
 use Rattle.std.proofs.Common.{◌≡◌, ℕ, ◌+◌, Bool, true, false, cond, ◌==◌, ◌||◌, List, [], ◌∷◌, ◌++◌, length, ◌⊎◌, inl, inr, Option, Some, None, option_map, refl, ap, ap₂, sym, subst, ◌∙◌, arith, eqb-true}
 use Rattle.std.proofs.lemmas.Bool.{both_ways, or_left, or_right}
-use Rattle.cv_syntax.specs.declared.decls.Class.TheVariants as class
-use Rattle.cv_syntax.specs.declared.head.Head.{Head}
-use Rattle.cv_syntax.specs.declared.head.Head.TheVariants.{Leaf, Read, Apply, Eq, And, Or, Not, Yes, No, Cons}
-use Rattle.cv_syntax.specs.Declarations.{Declaration, Named}
-use Rattle.cv_syntax.specs.Tree.{Tree, Empty, Node, binders, bound_names, names}
+use Rattle.cv_syntax_trees.specs.declared.class.Class.TheVariants as class
+use Rattle.cv_syntax_trees.specs.declared.head.Head.{Head}
+use Rattle.cv_syntax_trees.specs.declared.head.Head.TheVariants.{Leaf, Read, Apply, Eq, And, Or, Not, Yes, No, Cons}
+use Rattle.cv_syntax_trees.specs.Declarations.{Declaration, Named}
+use Rattle.cv_syntax_trees.specs.Tree.{Tree, Empty, Node, binders, bound_names, names}
 use Rattle.cv_parse_notation.specs.declared.sign.Sign.{Sign}
 use Rattle.cv_parse_grammar.specs.declared.role.Asked.TheVariants.{AFunction}
 use Rattle.cv_parse_grammar.specs.Files.{levels}
@@ -15,16 +15,16 @@ use Rattle.cv_parse_grammar.proofs.Identities.{declared_names, ids_are_distinct}
 use Rattle.cv_parse.specs.Parsed.{bool_type}
 use Rattle.cv_meaning.specs.Interpretation.{is_constant_of}
 use Rattle.cv_meaning_laws.proofs.Listed.{Has}
-use Rattle.cv_typing.specs.declared.fault.Fault.TheVariants.{WrongType, Arity}
-use Rattle.cv_typing.specs.declared.precedence.Precedence.TheVariants.{First}
-use Rattle.cv_directory.specs.declared.sort.Sort.{Sort}
-use Rattle.cv_directory.specs.declared.sort.Sort.TheVariants.{OfType}
-use Rattle.cv_directory.specs.Sites.{first_of}
-use Rattle.cv_typing.specs.Parts.{AreTyped, Part, local_names, nothing_above}
-use Rattle.cv_typing.specs.Signature.{Above, Function, OfNothing, Signature, arity_by, function_by, function_in, is_arity, names_in, sort_by}
-use Rattle.cv_directory.specs.Counting.{count}
-use Rattle.cv_typing.specs.Typing.{IsTyped, fault_of, site_differs, value_fault}
-use Rattle.cv_typing.specs.Wants.{Want, all_bound, bound, is_wrong}
+use Rattle.cv_typing_rules.specs.declared.fault.Fault.TheVariants.{WrongType, Arity}
+use Rattle.cv_typing_rules.specs.declared.precedence.Precedence.TheVariants.{First}
+use Rattle.cv_directory_sorts.specs.declared.sort.Sort.{Sort}
+use Rattle.cv_directory_sorts.specs.declared.sort.Sort.TheVariants.{OfType}
+use Rattle.cv_directory_sorts.specs.Sites.{first_of}
+use Rattle.cv_typing_rules.specs.Parts.{AreTyped, Part, local_names, nothing_above}
+use Rattle.cv_typing_rules.specs.Signature.{Above, Function, OfNothing, Signature, arity_by, function_by, function_in, is_arity, names_in, sort_by}
+use Rattle.cv_directory_sorts.specs.Counting.{count}
+use Rattle.cv_typing_rules.specs.Typing.{IsTyped, fault_of, site_differs, value_fault}
+use Rattle.cv_typing_rules.specs.Wants.{Want, all_bound, bound, is_wrong}
 use Rattle.cv_first_fault.specs.Walk.{IsObeyed}
 use Rattle.cv_derivations_under.specs.Truth.{AreOver, IsOver, is_name_of}
 use Rattle.cv_parse_roles.proofs.Constants.{is_constant, kind_of, only_declaration}

@@ -2,16 +2,16 @@
 use Rattle.std.proofs.Common.{◌≡◌, ℕ, Bool, true, false, cond, ◌==◌, List, [], ◌∷◌, ◌++◌, ◌⊎◌, inl, inr, Option, Some, None, is_some, refl, ap, sym, subst, ◌∙◌, eqb-true, eq-eqb}
 use Rattle.std.proofs.lemmas.Bool.{both_ways, or_left, or_parts, or_right}
 use Rattle.std.specs.List.{AllByRecursion}
-use Rattle.cv_syntax.specs.declared.decls.Class.{Class}
-use Rattle.cv_syntax.specs.declared.decls.Class.TheVariants as class
-use Rattle.cv_syntax.specs.Declarations.{Declaration, Named, Equation, Equiv, Query}
-use Rattle.cv_syntax.specs.Tree.{Tree, Empty, Node}
+use Rattle.cv_syntax_trees.specs.declared.class.Class.{Class}
+use Rattle.cv_syntax_trees.specs.declared.class.Class.TheVariants as class
+use Rattle.cv_syntax_trees.specs.Declarations.{Declaration, Named, Equation, Equiv, Query}
+use Rattle.cv_syntax_trees.specs.Tree.{Tree, Empty, Node}
 use Rattle.cv_parse_grammar.specs.declared.role.Role.{Role}
 use Rattle.cv_parse_grammar.specs.Identities.{AreDistinct, ids_of, is_among}
 use Rattle.cv_meaning.specs.Interpretation.{is_constant_of}
 use Rattle.cv_meaning_laws.proofs.Listed.{Has}
 use Rattle.cv_meaning_adequacy.proofs.Lists.{or_cases}
-use Rattle.cv_typing.specs.Signature.{declaration_of, function_by}
+use Rattle.cv_typing_rules.specs.Signature.{declaration_of, function_by}
 use Rattle.cv_typing_runs.specs.Games.{HasConstants}
 use Rattle.cv_parse_roles.proofs.DeclaredKinds.{OfKind}
 

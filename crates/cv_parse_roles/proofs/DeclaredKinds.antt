@@ -2,10 +2,10 @@
 use Rattle.std.proofs.Common.{◌≡◌, ℕ, true, List, [], ◌∷◌, map, Option, Some, None, is_some, refl, ap, sym, subst}
 use Rattle.std.specs.List.{AllByRecursion}
 use Rattle.cv_lists.proofs.Each.{AllByRecursion-flat_map}
-use Rattle.cv_syntax.specs.declared.decls.Class.{Class}
-use Rattle.cv_syntax.specs.declared.decls.Class.TheVariants as class
-use Rattle.cv_syntax.specs.Declarations.{Declaration, Named, Equation, Equiv, Query}
-use Rattle.cv_syntax.specs.Tree.{Tree, Empty, names}
+use Rattle.cv_syntax_trees.specs.declared.class.Class.{Class}
+use Rattle.cv_syntax_trees.specs.declared.class.Class.TheVariants as class
+use Rattle.cv_syntax_trees.specs.Declarations.{Declaration, Named, Equation, Equiv, Query}
+use Rattle.cv_syntax_trees.specs.Tree.{Tree, Empty, names}
 use Rattle.cv_parse_notation.specs.Form.{Form, unnamed}
 use Rattle.cv_parse_grammar.specs.declared.role.Asked.{Asked}
 use Rattle.cv_parse_grammar.specs.declared.role.Asked.TheVariants.{AParam, AChannel, AFunction, AnEvent, AProbability, AnEquivalence, AType}
@@ -14,7 +14,7 @@ use Rattle.cv_parse_grammar.specs.declared.role.Role.TheVariants.{Declares}
 use Rattle.cv_parse_grammar.specs.Declarations.{channel_decl, collision_decl, const_decl, constant, declaration, equation_decl, equiv_decl, event_decl, fun_decl, ids, named, param_decl, proba_decl, query_decl, type_decl, type_list}
 use Rattle.cv_parse_grammar.specs.Phrases.{Sort}
 use Rattle.cv_parse_grammar.specs.Rules.{file}
-use Rattle.cv_typing.specs.Signature.{names_in}
+use Rattle.cv_typing_rules.specs.Signature.{names_in}
 use Rattle.cv_parse_yields.proofs.Yielding.{Gives, a_word, anything, before, behind, follow, one_of, several, turned}
 use Rattle.cv_parse_roles.proofs.Forms.{bracketed, in_row, or_this}
 

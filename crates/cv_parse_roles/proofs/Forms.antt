@@ -1,7 +1,7 @@
 -- What the values of forms have that the rows are made of.
 use Rattle.std.specs.Prelude.{ℕ, Bool, Option, Some, None}
 use Rattle.std.specs.List.{AllByRecursion}
-use Rattle.cv_syntax.specs.Tree.{Tree}
+use Rattle.cv_syntax_trees.specs.Tree.{Tree}
 use Rattle.cv_parse_notation.specs.declared.sign.Mark.{Mark}
 use Rattle.cv_parse_notation.specs.Form.{Form, made, may}
 use Rattle.cv_parse_grammar.specs.declared.role.Region.{Region}

@@ -1,8 +1,8 @@
 -- The types and parameters that the game of a file names are declared.
 use Rattle.std.proofs.Common.{◌≡◌, ℕ, List, [], ◌∷◌, Option, Ok, inl, refl, sym, subst}
 use Rattle.std.specs.List.{AllByRecursion}
-use Rattle.cv_syntax.specs.Declarations.{Declaration, Named, Equation, Equiv, Query}
-use Rattle.cv_syntax.specs.Tree.{Tree}
+use Rattle.cv_syntax_trees.specs.Declarations.{Declaration, Named, Equation, Equiv, Query}
+use Rattle.cv_syntax_trees.specs.Tree.{Tree}
 use Rattle.cv_parse_notation.specs.declared.sign.Sign.{Sign}
 use Rattle.cv_parse_grammar.specs.declared.role.Role.{Role}
 use Rattle.cv_parse_grammar.specs.Files.{levels}
@@ -13,7 +13,7 @@ use Rattle.cv_parse_grammar.specs.Whole.{IsRead, built_in}
 use Rattle.cv_parse_grammar.proofs.Identities.{declared_names, ids_are_distinct}
 use Rattle.cv_parse.specs.Parsed.{Parsed, bool_type, parsed}
 use Rattle.cv_parse.proofs.Exactness.{said_is_saying}
-use Rattle.cv_typing.specs.Signature.{names_in}
+use Rattle.cv_typing_rules.specs.Signature.{names_in}
 use Rattle.cv_typing_runs.specs.Games.{HasArguments, HasConstants, HasDeclaredSorts}
 use Rattle.cv_parse_yields.specs.Yields.{AllUsed}
 use Rattle.cv_parse_yields.proofs.Naming.{all_used}

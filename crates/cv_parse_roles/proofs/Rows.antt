@@ -1,9 +1,9 @@
 -- The types and parameters that a process names are those that its uses of names ask for.
 use Rattle.std.proofs.Common.{ℕ, [], ◌∷◌, List, Option, Some, None, inl, refl}
 use Rattle.std.specs.List.{AllByRecursion}
-use Rattle.cv_syntax.specs.declared.head.Head.{Head}
-use Rattle.cv_syntax.specs.Declarations.{Declaration}
-use Rattle.cv_syntax.specs.Tree.{Tree, Empty, Node, binders, chain, first, names, second}
+use Rattle.cv_syntax_trees.specs.declared.head.Head.{Head}
+use Rattle.cv_syntax_trees.specs.Declarations.{Declaration}
+use Rattle.cv_syntax_trees.specs.Tree.{Tree, Empty, Node, binders, chain, first, names, second}
 use Rattle.cv_parse_notation.specs.Form.{Form}
 use Rattle.cv_parse_grammar.specs.declared.role.Asked.TheVariants.{AParam, AType}
 use Rattle.cv_parse_grammar.specs.declared.role.Role.{Role}
@@ -15,8 +15,8 @@ use Rattle.cv_parse_grammar.specs.Processes.{assignment, beside, branch, channel
 use Rattle.cv_parse_grammar.specs.Rules.{file, rule}
 use Rattle.cv_meaning_adequacy.specs.Typed as meaning
 use Rattle.cv_meaning_adequacy.specs.Typed.{IsDeclared}
-use Rattle.cv_directory.specs.declared.sort.Sort as directory
-use Rattle.cv_directory.specs.declared.sort.Sort.TheVariants.{BelowParameter, OfType}
+use Rattle.cv_directory_sorts.specs.declared.sort.Sort as directory
+use Rattle.cv_directory_sorts.specs.declared.sort.Sort.TheVariants.{BelowParameter, OfType}
 use Rattle.cv_typing_runs.specs.Games.{AreDeclared, HasDeclaredSorts, NamesDeclared, sort_of_meaning}
 use Rattle.cv_parse_yields.specs.Yields.{IfThere, Yields}
 use Rattle.cv_parse_yields.proofs.Yielding.{Gives, a_word, anything, behind, below, follow, leveled, one_of, perhaps, several, turned, weaker}

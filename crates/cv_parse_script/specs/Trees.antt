@@ -1,7 +1,7 @@
 -- The tree of a script, whatever room there is, and how many nodes steps take in a pool.
 use Rattle.std.specs.Prelude.{ℕ, ◌+◌, ◌-◌, List, [], ◌∷◌, length, Result, Ok, Err}
 use Rattle.cv_lex.specs.Lexis.{Token}
-use Rattle.cv_syntax.specs.Tree.{Tree}
+use Rattle.cv_syntax_trees.specs.Tree.{Tree}
 use Rattle.cv_parse_terminals.specs.ScriptSigns.{between, script_signs}
 use Rattle.cv_parse_notation.specs.declared.sign.Sign.{Sign}
 use Rattle.cv_parse_notation.specs.Reads.{Read}

@@ -5,7 +5,7 @@ ghost use Rattle.cv_script_rows.specs.Rows.{built_script_row, script_row};
 ghost use Rattle.cv_parse_script.specs.Scripts.{ReadsScript, script_of as script_by, script_read, trees_of};
 ghost use Rattle.cv_syntax_limits.specs.Limits.{nodes_of};
 ghost use Rattle.cv_parse_script.specs.Trees.{script_nodes};
-ghost use Rattle.cv_syntax.specs.Tree.{tree_at};
+ghost use Rattle.cv_syntax.specs.PoolTrees.{tree_at};
 
 use crate::ScriptError;
 use crate::planting::plant_steps;

@@ -1,6 +1,6 @@
 -- What is read by the rows of the steps that have a rule is read by those of all steps.
 use Rattle.std.proofs.Common.{◌≡◌, ℕ, zero, suc, ◌+◌, ◌≤◌, Bool, true, false, inl, inr, List, [], ◌∷◌, Ok, refl, sym, ◌∙◌, subst, ap, arith}
-use Rattle.cv_syntax.specs.Tree.{Tree, chain}
+use Rattle.cv_syntax_trees.specs.Tree.{Tree, chain}
 use Rattle.cv_parse_notation.specs.Form.{Form, both, made, sign}
 use Rattle.cv_parse_notation.specs.declared.sign.Mark.TheVariants as mark
 use Rattle.cv_parse_notation.specs.declared.sign.Sign.{Sign}

@@ -1,6 +1,6 @@
 -- The table of scripts fits its notation: the next token always tells how a phrase goes on.
 use Rattle.std.proofs.Common.{◌≡◌, ℕ, Bool, true, false, not, refl, eqb, eqb-true, sym, subst}
-use Rattle.cv_syntax.specs.Tree.{Tree}
+use Rattle.cv_syntax_trees.specs.Tree.{Tree}
 use Rattle.cv_parse_notation.specs.declared.sign.Mark.TheVariants as mark
 use Rattle.cv_parse_notation.specs.Form.{Form, deeper}
 use Rattle.cv_parse_notation.specs.Fits.{fits, fitting}

@@ -1,6 +1,6 @@
 -- What is refused of a script of the steps that have a rule is refused of a script of all steps.
 use Rattle.std.proofs.Common.{◌≡◌, ℕ, zero, suc, ◌+◌, ◌-◌, ◌≤◌, Bool, true, false, ◌||◌, if◌then◌else◌, ◌⊎◌, inl, inr, List, [], ◌∷◌, length, None, ◌++◌, Result, Ok, Err, refl, sym, ◌∙◌, subst, ap, arith}
-use Rattle.cv_syntax.specs.Tree.{Tree, chain}
+use Rattle.cv_syntax_trees.specs.Tree.{Tree, chain}
 use Rattle.cv_parse_notation.specs.Form.{Form, both, made, many, sign}
 use Rattle.cv_parse_notation.specs.Reads.{Found, Read, Reader, ◌>>=◌, found, joined, mapped, nothing, one_more, pick, read_many, read_sort, reads}
 use Rattle.cv_parse_notation.specs.declared.sign.Mark.TheVariants as mark

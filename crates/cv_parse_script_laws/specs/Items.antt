@@ -1,6 +1,6 @@
 -- Which steps have items, and which of them have a rule.
 use Rattle.std.specs.Prelude.{◌≡◌, Bool, true, false, Some}
-use Rattle.cv_syntax.specs.Tree.{Tree}
+use Rattle.cv_syntax_trees.specs.Tree.{Tree}
 use Rattle.cv_script.specs.Views.{StepItems, Crypto, Split, Success, Let, New, Unnew, Rewrite, Prune, items_of_step}
 
 -- the steps that have a rule

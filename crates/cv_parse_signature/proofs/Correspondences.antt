@@ -1,10 +1,10 @@
 -- Queries, from their parts.
 use Rattle.std.proofs.Common.{◌≡◌, ◌≢◌, subst, ℕ, Bool, true, false, List, [], ◌∷◌, ◌++◌, drop, length, ap, sym, ◌∙◌, flat_map}
 use Rattle.std.specs.Prelude.{replicate, Result, Ok, Err}
-use Rattle.cv_syntax.specs.declared.head.Head.TheVariants.{Cons, Query as Correspondence, Secret, SecretOnce}
+use Rattle.cv_syntax_trees.specs.declared.head.Head.TheVariants.{Cons, Query as Correspondence, Secret, SecretOnce}
 use Rattle.cv_syntax.specs.declared.make.Make.{Make}
 use Rattle.cv_syntax.specs.declared.make.Make.TheVariants.{Nothing, Over}
-use Rattle.cv_syntax.specs.Tree.{Tree, Empty, Node, chain, lone}
+use Rattle.cv_syntax_trees.specs.Tree.{Tree, Empty, Node, chain, lone}
 use Rattle.cv_syntax.specs.Postorder.{postorder}
 use Rattle.cv_parse_notation.specs.declared.sign.Sign.{Sign}
 use Rattle.cv_parse_notation.specs.declared.sign.Mark.{Mark}

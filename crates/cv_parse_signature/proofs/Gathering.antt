@@ -1,9 +1,9 @@
 -- Equivalences and collisions, from their parts.
 use Rattle.std.proofs.Common.{◌≡◌, ℕ, List, [], ◌∷◌, ◌++◌, drop, refl, ap, ap₂, sym, ◌∙◌, append_assoc}
-use Rattle.cv_syntax.specs.declared.head.Head.TheVariants.{Cons, Equivalence, Oracle, Single}
+use Rattle.cv_syntax_trees.specs.declared.head.Head.TheVariants.{Cons, Equivalence, Oracle, Single}
 use Rattle.cv_syntax.specs.declared.make.Make.{Make}
 use Rattle.cv_syntax.specs.declared.make.Make.TheVariants.{Nothing, Over}
-use Rattle.cv_syntax.specs.Tree.{Tree, Node, binders}
+use Rattle.cv_syntax_trees.specs.Tree.{Tree, Node, binders}
 use Rattle.cv_syntax.specs.Postorder.{postorder}
 use Rattle.cv_parse_notation.specs.declared.sign.Sign.{Sign}
 use Rattle.cv_parse_notation.specs.declared.sign.Mark.TheVariants as mark

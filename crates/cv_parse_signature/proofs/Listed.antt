@@ -2,13 +2,13 @@
 use Rattle.std.proofs.Common.{◌≡◌, ◌≢◌, ℕ, true, List, [], ◌∷◌, ◌++◌, drop, length, refl, ap, sym, ◌∙◌, append-nil, Option, map}
 use Rattle.std.specs.Prelude.{replicate, flat_map}
 use Rattle.std.specs.List.{AllByRecursion}
-use Rattle.cv_syntax.specs.declared.decls.Class.{Class}
-use Rattle.cv_syntax.specs.declared.head.Head.{Head}
+use Rattle.cv_syntax_trees.specs.declared.class.Class.{Class}
+use Rattle.cv_syntax_trees.specs.declared.head.Head.{Head}
 use Rattle.cv_syntax.specs.declared.make.Make.{Make}
 use Rattle.cv_syntax.specs.declared.make.Make.TheVariants.{Nothing}
-use Rattle.cv_syntax.specs.Declarations.{Declaration, Named}
+use Rattle.cv_syntax_trees.specs.Declarations.{Declaration, Named}
 use Rattle.cv_syntax.specs.Postorder.{postorder}
-use Rattle.cv_syntax.specs.Tree.{Tree, Empty, Node}
+use Rattle.cv_syntax_trees.specs.Tree.{Tree, Empty, Node}
 use Rattle.cv_parse_notation.specs.declared.sign.Sign.{Sign}
 use Rattle.cv_parse_notation.specs.declared.sign.Mark.{Mark}
 use Rattle.cv_parse_notation.specs.declared.sign.Mark.TheVariants as mark

@@ -2,10 +2,10 @@
 use Rattle.std.specs.Prelude.{ℕ, ◌≡◌, List, [], ◌∷◌, ◌++◌, Result, Ok, Err}
 use Rattle.std.specs.declared.vec.Vec.{Vec}
 use Rattle.std.specs.declared.alloc.Global.{Global}
-use Rattle.cv_syntax.specs.declared.head.Head.TheVariants.{Cons, Oracle, Single}
+use Rattle.cv_syntax_trees.specs.declared.head.Head.TheVariants.{Cons, Oracle, Single}
 use Rattle.cv_syntax.specs.declared.make.Make.{Make}
 use Rattle.cv_syntax.specs.declared.make.Make.TheVariants.{Nothing, Over}
-use Rattle.cv_syntax.specs.Tree.{Tree, binders}
+use Rattle.cv_syntax_trees.specs.Tree.{Tree, binders}
 use Rattle.cv_syntax.specs.Postorder.{postorder}
 use Rattle.cv_parse_notation.specs.declared.sign.Sign.{Sign}
 use Rattle.cv_parse_notation.specs.Reads.{Read}

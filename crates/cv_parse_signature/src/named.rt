@@ -1,7 +1,7 @@
 ghost use Rattle.std.specs.Prelude.{◌≡◌, false, true, ◌+◌, ◌<◌, ◌≤◌, ◌^◌, ◌++◌, ◌∷◌, [], ℕ, length, drop, map, replicate, OnOk};
 ghost use Rattle.cv_parse_notation.specs.Form.{◌▸◌, ◌◂◌, made};
 ghost use Rattle.cv_parse_notation.specs.declared.sign.Mark.TheVariants.{Comma, Dot};
-ghost use Rattle.cv_syntax.specs.Tree.{names as name_tree};
+ghost use Rattle.cv_syntax_trees.specs.Tree.{names as name_tree};
 ghost use Rattle.cv_syntax.specs.Postorder.{postorder};
 ghost use Rattle.cv_syntax.specs.declared.make.Make.TheVariants.{Nothing};
 ghost use Rattle.cv_parse_grammar.specs.declared.role.Role.TheVariants.{Declares as declares};

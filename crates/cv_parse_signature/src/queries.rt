@@ -2,9 +2,9 @@ ghost use Rattle.std.specs.Prelude.{◌≡◌, false, ◌+◌, ◌<◌, ◌≤�
 ghost use Rattle.cv_parse_notation.specs.Form.{◌▸◌, ◌◂◌, either, made, word as word_form};
 ghost use Rattle.cv_parse_notation.specs.Spells.{next_is, starts};
 ghost use Rattle.cv_parse_notation.specs.declared.sign.Mark.TheVariants.{Both, Implies, Inj, Secret, SecretOnce, Semicolon};
-ghost use Rattle.cv_syntax.specs.Tree.{Node, Empty, chain, lone};
+ghost use Rattle.cv_syntax_trees.specs.Tree.{Node, Empty, chain, lone};
 ghost use Rattle.cv_syntax.specs.Postorder.{postorder};
-ghost use Rattle.cv_syntax.specs.declared.head.Head.TheVariants.{Occurs, OccursOnce, Secret as SecretHead, SecretOnce as SecretOnceHead};
+ghost use Rattle.cv_syntax_trees.specs.declared.head.Head.TheVariants.{Occurs, OccursOnce, Secret as SecretHead, SecretOnce as SecretOnceHead};
 ghost use Rattle.cv_parse_grammar.specs.declared.role.Role.TheVariants.{BindsLocal, Unchecked};
 ghost use Rattle.cv_parse_grammar.specs.Phrases.{listed, row, vars as vars_form};
 ghost use Rattle.cv_parse_grammar.specs.Terms.{arguments as arguments_form, equality as equality_form};

@@ -1,8 +1,8 @@
 -- The rows of processes make trees that define each variable that their uses of names bind.
 use Rattle.std.proofs.Common.{◌≡◌, ℕ, zero, suc, Bool, true, false, ◌==◌, ◌&&◌, ◌||◌, not, [], ◌∷◌, List, ◌⊎◌, Option, Some, None, inl, inr, refl, subst}
 use Rattle.std.proofs.lemmas.Bool.{both_ways}
-use Rattle.cv_syntax.specs.declared.head.Head.TheVariants.{Branch, Cons, Find, In, Let, New, Par}
-use Rattle.cv_syntax.specs.Tree.{Tree, Empty, Node, binders, chain, first, second}
+use Rattle.cv_syntax_trees.specs.declared.head.Head.TheVariants.{Branch, Cons, Find, In, Let, New, Par}
+use Rattle.cv_syntax_trees.specs.Tree.{Tree, Empty, Node, binders, chain, first, second}
 use Rattle.cv_parse_notation.specs.declared.sign.Mark.TheVariants as mark
 use Rattle.cv_parse_notation.specs.declared.sign.Sign.{Sign}
 use Rattle.cv_parse_notation.specs.Form.{deeper, level, may, sign, ◌&◌}

@@ -2,8 +2,8 @@
 -- what their uses of names say.
 use Rattle.std.proofs.Common.{◌≡◌, ℕ, zero, suc, Bool, true, false, [], ◌∷◌, ◌++◌, List, Option, Some, None, inl, inr, ap, subst, ◌∙◌}
 use Rattle.std.specs.List.{AllByRecursion}
-use Rattle.cv_syntax.specs.declared.head.Head.{Head}
-use Rattle.cv_syntax.specs.Tree.{Tree, Empty, Node, binders, chain, first, names, second}
+use Rattle.cv_syntax_trees.specs.declared.head.Head.{Head}
+use Rattle.cv_syntax_trees.specs.Tree.{Tree, Empty, Node, binders, chain, first, names, second}
 use Rattle.cv_parse_notation.specs.declared.sign.Sign.{Sign}
 use Rattle.cv_parse_notation.specs.Form.{deeper, either, word}
 use Rattle.cv_parse_notation.specs.Spells.{IsSort, Relation, Spells, no_sort, used}

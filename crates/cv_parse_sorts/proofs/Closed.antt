@@ -2,11 +2,11 @@
 use Rattle.std.proofs.Common.{◌≡◌, ℕ, ◌+◌, Bool, true, false, cond, ◌==◌, ◌||◌, List, [], ◌∷◌, ◌++◌, flat_map, length, ◌⊎◌, inl, inr, Option, Some, None, Ok, option_map, refl, ap, ap₂, sym, subst, ◌∙◌, arith, eqb-true}
 use Rattle.std.proofs.lemmas.Bool.{both_ways, or_left, or_right}
 use Rattle.std.specs.List.{AllByRecursion}
-use Rattle.cv_syntax.specs.declared.decls.Class.TheVariants as class
-use Rattle.cv_syntax.specs.declared.head.Head.{Head}
-use Rattle.cv_syntax.specs.declared.head.Head.TheVariants.{Forall, Leaf, Read, Apply, Eq, And, Or, Not, Yes, No, Cons}
-use Rattle.cv_syntax.specs.Declarations.{Declaration, Named, Equation, Equiv, Query}
-use Rattle.cv_syntax.specs.Tree.{Tree, Empty, Node, binders, bound_names, names}
+use Rattle.cv_syntax_trees.specs.declared.class.Class.TheVariants as class
+use Rattle.cv_syntax_trees.specs.declared.head.Head.{Head}
+use Rattle.cv_syntax_trees.specs.declared.head.Head.TheVariants.{Forall, Leaf, Read, Apply, Eq, And, Or, Not, Yes, No, Cons}
+use Rattle.cv_syntax_trees.specs.Declarations.{Declaration, Named, Equation, Equiv, Query}
+use Rattle.cv_syntax_trees.specs.Tree.{Tree, Empty, Node, binders, bound_names, names}
 use Rattle.cv_parse_notation.specs.declared.sign.Sign.{Sign}
 use Rattle.cv_parse_grammar.specs.declared.role.Asked.TheVariants.{AFunction}
 use Rattle.cv_parse_grammar.specs.Files.{levels}
@@ -17,16 +17,16 @@ use Rattle.cv_parse.specs.Parsed.{Parsed, bool_type, parsed}
 use Rattle.cv_parse.proofs.Exactness.{said_is_saying}
 use Rattle.cv_meaning.specs.Interpretation.{is_constant_of}
 use Rattle.cv_meaning_laws.proofs.Listed.{Has}
-use Rattle.cv_typing.specs.declared.fault.Fault.TheVariants.{WrongType, Arity}
-use Rattle.cv_typing.specs.declared.precedence.Precedence.TheVariants.{First}
-use Rattle.cv_directory.specs.declared.sort.Sort.{Sort}
-use Rattle.cv_directory.specs.declared.sort.Sort.TheVariants.{OfType}
-use Rattle.cv_directory.specs.Sites.{first_of}
-use Rattle.cv_typing.specs.Parts.{AreTyped, IsTypedFile, Part, declaration_parts, game_part, local_names, nothing_above}
-use Rattle.cv_typing.specs.Signature.{Above, Function, OfNothing, Signature, arity_by, boolean, function_by, function_in, is_arity, names_in, sort_by}
-use Rattle.cv_directory.specs.Counting.{count}
-use Rattle.cv_typing.specs.Typing.{IsTyped, fault_of, site_differs, value_fault}
-use Rattle.cv_typing.specs.Wants.{Of, Want, all_bound, bound, is_wrong}
+use Rattle.cv_typing_rules.specs.declared.fault.Fault.TheVariants.{WrongType, Arity}
+use Rattle.cv_typing_rules.specs.declared.precedence.Precedence.TheVariants.{First}
+use Rattle.cv_directory_sorts.specs.declared.sort.Sort.{Sort}
+use Rattle.cv_directory_sorts.specs.declared.sort.Sort.TheVariants.{OfType}
+use Rattle.cv_directory_sorts.specs.Sites.{first_of}
+use Rattle.cv_typing_rules.specs.Parts.{AreTyped, IsTypedFile, Part, declaration_parts, game_part, local_names, nothing_above}
+use Rattle.cv_typing_rules.specs.Signature.{Above, Function, OfNothing, Signature, arity_by, boolean, function_by, function_in, is_arity, names_in, sort_by}
+use Rattle.cv_directory_sorts.specs.Counting.{count}
+use Rattle.cv_typing_rules.specs.Typing.{IsTyped, fault_of, site_differs, value_fault}
+use Rattle.cv_typing_rules.specs.Wants.{Of, Want, all_bound, bound, is_wrong}
 use Rattle.cv_first_fault.specs.Walk.{IsObeyed}
 use Rattle.cv_derivations_under.specs.Truth.{AreOver, HasClosedEquations, IfEquation, IsOver, is_name_of}
 use Rattle.cv_parse_roles.proofs.Constants.{is_constant, kind_of, only_declaration}

@@ -3,9 +3,9 @@ use Rattle.std.proofs.Common.{◌≡◌, ℕ, ◌<◌, ◌==◌, true, false, na
 use Rattle.std.proofs.lemmas.Bool.{both_ways, lt-ltb}
 use Rattle.std.specs.List.{AllByRecursion}
 use Rattle.cv_lex.specs.Lexis.{Token}
-use Rattle.cv_syntax.specs.declared.decls.Class.TheVariants as class
-use Rattle.cv_syntax.specs.Declarations.{Declaration, Named, Equation, Equiv, Query}
-use Rattle.cv_syntax.specs.Tree.{Tree, Empty, Node}
+use Rattle.cv_syntax_trees.specs.declared.class.Class.TheVariants as class
+use Rattle.cv_syntax_trees.specs.Declarations.{Declaration, Named, Equation, Equiv, Query}
+use Rattle.cv_syntax_trees.specs.Tree.{Tree, Empty, Node}
 use Rattle.cv_meaning.specs.Interpretation.{is_constant_of}
 use Rattle.cv_meaning_adequacy.proofs.Lists.{or_cases}
 use Rattle.cv_parse_notation.specs.declared.sign.Sign.{Sign}

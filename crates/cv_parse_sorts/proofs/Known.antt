@@ -3,7 +3,7 @@ use Rattle.std.proofs.Common.{◌≡◌, ℕ, true, nat_lt, List, ◌∷◌, len
 use Rattle.std.proofs.lemmas.Bool.{lt-ltb}
 use Rattle.std.specs.List.{list_any}
 use Rattle.cv_lex.specs.Lexis.{Token}
-use Rattle.cv_syntax.specs.Declarations.{Declaration}
+use Rattle.cv_syntax_trees.specs.Declarations.{Declaration}
 use Rattle.cv_parse_terminals.specs.Signs.{signs_of}
 use Rattle.cv_parse.specs.Parsed.{Parsed, bool_type}
 use Rattle.cv_parse.specs.Says.{Says}

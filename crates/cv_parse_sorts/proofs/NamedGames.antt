@@ -1,8 +1,8 @@
 -- What the game of a file applies is a function, and the cells of its `defined` lists are of its variables.
 use Rattle.std.proofs.Common.{◌≡◌, ℕ, Bool, true, List, [], ◌∷◌, Option, Some, None, Ok, inr, is_some, refl, ap, sym, subst, ◌∙◌}
-use Rattle.cv_syntax.specs.declared.decls.Class.TheVariants as class
-use Rattle.cv_syntax.specs.Declarations.{Declaration, Named}
-use Rattle.cv_syntax.specs.Tree.{Tree}
+use Rattle.cv_syntax_trees.specs.declared.class.Class.TheVariants as class
+use Rattle.cv_syntax_trees.specs.Declarations.{Declaration, Named}
+use Rattle.cv_syntax_trees.specs.Tree.{Tree}
 use Rattle.cv_parse_notation.specs.declared.sign.Sign.{Sign}
 use Rattle.cv_parse_grammar.specs.declared.role.Asked.TheVariants.{AFunction}
 use Rattle.cv_parse_grammar.specs.Files.{levels}
@@ -13,7 +13,7 @@ use Rattle.cv_parse_grammar.specs.Whole.{IsRead, built_in}
 use Rattle.cv_parse_grammar.proofs.Identities.{declared_names, ids_are_distinct}
 use Rattle.cv_parse.specs.Parsed.{Parsed, bool_type, parsed}
 use Rattle.cv_parse.proofs.Exactness.{said_is_saying}
-use Rattle.cv_typing.specs.Signature.{function_by}
+use Rattle.cv_typing_rules.specs.Signature.{function_by}
 use Rattle.cv_typing_runs.specs.Games.{HasNamedFunctionsAndCells, has_site}
 use Rattle.cv_parse_roles.proofs.Constants.{kind_of, only_declaration}
 use Rattle.cv_parse_roles.proofs.Declared.{Used, function_declared}

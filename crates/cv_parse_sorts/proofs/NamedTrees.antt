@@ -2,15 +2,15 @@
 use Rattle.std.proofs.Common.{◌≡◌, ℕ, Bool, true, false, ◌==◌, if◌then◌else◌, List, [], ◌∷◌, map, take, Option, Some, None, is_some, refl}
 use Rattle.std.proofs.lemmas.Bool.{and_from}
 use Rattle.std.specs.List.{list_any}
-use Rattle.cv_syntax.specs.declared.head.Head.{Head}
-use Rattle.cv_syntax.specs.declared.head.Head.TheVariants.{Apply, Branch, Cons, Find, If, In, Leaf, Out, Read}
-use Rattle.cv_syntax.specs.Declarations.{Declaration}
-use Rattle.cv_syntax.specs.Tree.{Tree, Empty, Node, chain, lone, names}
+use Rattle.cv_syntax_trees.specs.declared.head.Head.{Head}
+use Rattle.cv_syntax_trees.specs.declared.head.Head.TheVariants.{Apply, Branch, Cons, Find, If, In, Leaf, Out, Read}
+use Rattle.cv_syntax_trees.specs.Declarations.{Declaration}
+use Rattle.cv_syntax_trees.specs.Tree.{Tree, Empty, Node, chain, lone, names}
 use Rattle.cv_parse_grammar.specs.Filled.{filled_at, now_below, on_channel, read_at, read_plainly}
 use Rattle.cv_scope_rules.specs.Context.{first_position, second_position}
 use Rattle.cv_scope_rules.specs.declared.position.Position.{Position}
 use Rattle.cv_scope_rules.specs.declared.position.Position.TheVariants.{Anywhere, Bodies, Branches, Cells, Guards}
-use Rattle.cv_typing.specs.Signature.{function_in}
+use Rattle.cv_typing_rules.specs.Signature.{function_in}
 use Rattle.cv_typing_runs.specs.Games.{are_named, are_variable_cells, is_named, is_variable_cell}
 
 module _ (F V : ℕ → Type 0) where

@@ -1,13 +1,13 @@
 -- In each run of the game of a file variables hold values of their types.
 use Rattle.std.proofs.Common.{◌≡◌, ℕ, List, [], ◌∷◌, ◌++◌, flat_map, Ok}
-use Rattle.cv_syntax.specs.Declarations.{Declaration}
+use Rattle.cv_syntax_trees.specs.Declarations.{Declaration}
 use Rattle.cv_parse_notation.specs.declared.sign.Sign.{Sign}
 use Rattle.cv_parse.specs.Parsed.{Parsed, parsed}
 use Rattle.cv_meaning.specs.Interpretation.{Interpretation}
 use Rattle.cv_meaning.specs.Runs.{Adversary, Mode}
 use Rattle.cv_meaning.specs.Satisfies.{Satisfies}
 use Rattle.cv_scope_rules.specs.Scope.{IsScoped}
-use Rattle.cv_typing.specs.Parts.{AreTyped, IsTypedFile, IsTypedPart, Part, declaration_parts, game_part}
+use Rattle.cv_typing_rules.specs.Parts.{AreTyped, IsTypedFile, IsTypedPart, Part, declaration_parts, game_part}
 use Rattle.cv_typing_runs.specs.Games.{HasTypedRuns}
 use Rattle.cv_typing_runs.proofs.Games.{known, typed_runs as runs}
 use Rattle.cv_parse_laws.proofs.Games.{well_formed}

@@ -1,6 +1,6 @@
 -- A phrase of files reads in a table what it reads in files.
 use Rattle.std.proofs.Common.{◌≡◌, ℕ, zero, suc, Bool, true, false, List, [], ◌∷◌, length, ◌&&◌, ◌||◌, refl, ap, ap₂, ◌∙◌, Ok, Err, Some, None}
-use Rattle.cv_syntax.specs.Tree.{Tree}
+use Rattle.cv_syntax_trees.specs.Tree.{Tree}
 use Rattle.cv_parse_notation.specs.declared.sign.Sign.{Sign}
 use Rattle.cv_parse_notation.specs.Form.{Form, sign, script_word, word, number, nought, find_word, unnamed, other, note, both, may, many, either, made, level, deeper}
 use Rattle.cv_parse_notation.specs.Spells.{Kind, may_vanish, starts, starts_both, next_is}

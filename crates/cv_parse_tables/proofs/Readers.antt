@@ -2,10 +2,10 @@
 use Rattle.std.proofs.Common.{◌≡◌, ℕ, zero, suc, ◌+◌, ◌-◌, ◌<◌, ◌≤◌, Bool, true, false, List, [], ◌∷◌, ◌++◌, length, drop, refl, ap, ap₂, sym, ◌∙◌, arith, subst, append_assoc, append-nil, length-append, length-drop, get_or, flat_map, Ok, Err, Some, None, Result, IsErrAnd}
 use Rattle.std.specs.Prelude.{replicate}
 use Rattle.std.specs.Borrow.{Bor}
-use Rattle.cv_syntax.specs.Tree.{Tree, chain}
+use Rattle.cv_syntax_trees.specs.Tree.{Tree, chain}
 use Rattle.cv_syntax.specs.Postorder.{postorder}
-use Rattle.cv_syntax.specs.declared.head.Head.{Head}
-use Rattle.cv_syntax.specs.declared.head.Head.TheVariants.{Cons}
+use Rattle.cv_syntax_trees.specs.declared.head.Head.{Head}
+use Rattle.cv_syntax_trees.specs.declared.head.Head.TheVariants.{Cons}
 use Rattle.cv_syntax.specs.declared.make.Make.{Make}
 use Rattle.cv_syntax.specs.declared.make.Make.TheVariants.{Nothing, Over}
 use Rattle.cv_parse_notation.specs.declared.script.ScriptWord.{ScriptWord}

@@ -1,7 +1,7 @@
 -- A small grammar as a table: blocks of lines, with blocks in them.
 use Rattle.std.specs.Prelude.{ℕ, false, List, [], ◌∷◌}
-use Rattle.cv_syntax.specs.Tree.{Tree, Empty, Node, chain, lone}
-use Rattle.cv_syntax.specs.declared.head.Head.TheVariants as head
+use Rattle.cv_syntax_trees.specs.Tree.{Tree, Empty, Node, chain, lone}
+use Rattle.cv_syntax_trees.specs.declared.head.Head.TheVariants as head
 use Rattle.cv_parse_notation.specs.declared.sign.Mark.TheVariants as mark
 use Rattle.cv_parse_notation.specs.declared.script.ScriptWord.TheVariants.{Plain, Prune}
 use Rattle.cv_parse_notation.specs.declared.sign.Sign.{Sign}

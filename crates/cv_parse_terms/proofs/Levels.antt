@@ -1,6 +1,6 @@
 -- Levels, and choices by the next token.
 use Rattle.std.proofs.Common.{◌≡◌, ℕ, zero, suc, ◌+◌, ◌-◌, ◌<◌, ◌≤◌, Bool, true, false, List, [], ◌∷◌, ◌++◌, length, drop, ◌||◌, refl, ap, ap₂, sym, ◌∙◌, arith, subst, length-drop, append-nil, Err, Ok, Some, None, Result}
-use Rattle.cv_syntax.specs.Tree.{Tree, Empty}
+use Rattle.cv_syntax_trees.specs.Tree.{Tree, Empty}
 use Rattle.cv_syntax.specs.declared.make.Make.{Make}
 use Rattle.cv_syntax.specs.declared.make.Make.TheVariants.{Nothing}
 use Rattle.cv_syntax.specs.Postorder.{postorder}

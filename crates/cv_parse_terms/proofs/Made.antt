@@ -2,11 +2,11 @@
 use Rattle.std.proofs.Common.{◌≡◌, ℕ, zero, suc, ◌+◌, ◌<◌, ◌≤◌, List, [], ◌∷◌, ◌++◌, length, drop, refl, ap, sym, ◌∙◌, arith, append_assoc, append-nil, map, get_or}
 use Rattle.std.proofs.lemmas.List.{replicate_more}
 use Rattle.std.specs.Prelude.{replicate, flat_map}
-use Rattle.cv_syntax.specs.declared.head.Head.{Head}
-use Rattle.cv_syntax.specs.declared.head.Head.TheVariants.{Cons, Binder, Name}
+use Rattle.cv_syntax_trees.specs.declared.head.Head.{Head}
+use Rattle.cv_syntax_trees.specs.declared.head.Head.TheVariants.{Cons, Binder, Name}
 use Rattle.cv_syntax.specs.declared.make.Make.{Make}
 use Rattle.cv_syntax.specs.declared.make.Make.TheVariants.{Nothing, Over}
-use Rattle.cv_syntax.specs.Tree.{Tree, Empty, Node, chain, binders, names}
+use Rattle.cv_syntax_trees.specs.Tree.{Tree, Empty, Node, chain, binders, names}
 use Rattle.cv_syntax.specs.Postorder.{postorder}
 use Rattle.cv_parse_terms.specs.Spines.{spine}
 

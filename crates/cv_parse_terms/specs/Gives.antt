@@ -2,9 +2,9 @@
 use Rattle.std.specs.Prelude.{ℕ, zero, suc, Bool, false, true, ◌-◌, ◌+◌, ◌<◌, ◌≤◌, ◌≡◌, List, [], length, drop, ◌++◌, ◌∷◌, map, flat_map, Option, Some, None, Result, Ok, Err}
 use Rattle.std.specs.declared.vec.Vec.{Vec}
 use Rattle.std.specs.declared.alloc.Global.{Global}
-use Rattle.cv_syntax.specs.Tree.{Tree, Node}
+use Rattle.cv_syntax_trees.specs.Tree.{Tree, Node}
 use Rattle.cv_syntax.specs.Postorder.{postorder}
-use Rattle.cv_syntax.specs.declared.head.Head.TheVariants.{Name}
+use Rattle.cv_syntax_trees.specs.declared.head.Head.TheVariants.{Name}
 use Rattle.cv_syntax.specs.declared.make.Make.{Make}
 use Rattle.cv_parse_notation.specs.declared.sign.Sign.{Sign}
 use Rattle.cv_parse_notation.specs.declared.sign.Sign.TheVariants as token

@@ -1,10 +1,10 @@
 -- The parts that are made behind a name, and behind `<>`. This profile's own.
 use Rattle.std.specs.Prelude.{ℕ, List, [], ◌∷◌, Option}
-use Rattle.cv_syntax.specs.Tree.{Tree}
+use Rattle.cv_syntax_trees.specs.Tree.{Tree}
 use Rattle.cv_syntax.specs.Postorder.{postorder}
 use Rattle.cv_syntax.specs.declared.make.Make.{Make}
 use Rattle.cv_syntax.specs.declared.make.Make.TheVariants.{Nothing, Over}
-use Rattle.cv_syntax.specs.declared.head.Head.TheVariants.{Eq, Not}
+use Rattle.cv_syntax_trees.specs.declared.head.Head.TheVariants.{Eq, Not}
 use Rattle.cv_parse_notation.specs.Form.{either}
 use Rattle.cv_parse_grammar.specs.Phrases.{Phrase}
 use Rattle.cv_parse_grammar.specs.Terms.{called, indexed, alone, cell_of}

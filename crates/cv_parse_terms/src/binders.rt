@@ -1,8 +1,8 @@
 ghost use Rattle.std.specs.Prelude.{◌≡◌, ◌+◌, ◌<◌, ◌≤◌, ◌^◌, ◌++◌, ◌∷◌, [], ℕ, length, drop, map, IfOk, OnOk};
 ghost use Rattle.cv_parse_notation.specs.Form.{made};
 ghost use Rattle.cv_parse_notation.specs.declared.sign.Mark.TheVariants.{Comma};
-ghost use Rattle.cv_syntax.specs.Tree.{binders, names};
-ghost use Rattle.cv_syntax.specs.declared.head.Head.TheVariants.{Binder, Name};
+ghost use Rattle.cv_syntax_trees.specs.Tree.{binders, names};
+ghost use Rattle.cv_syntax_trees.specs.declared.head.Head.TheVariants.{Binder, Name};
 ghost use Rattle.cv_syntax.specs.Postorder.{postorder};
 ghost use Rattle.cv_parse_grammar.specs.Phrases.{row, listed, typed as typed_form, vars as vars_form, var_list as var_list_form, indices as indices_form};
 ghost use Rattle.cv_parse_terms.specs.Items.{item_form, pair_form};

@@ -1,7 +1,7 @@
 ghost use Rattle.std.specs.Prelude.{◌≡◌, false, ◌+◌, ◌<◌, ◌≤◌, ◌^◌, ℕ, length, drop};
 ghost use Rattle.cv_parse_notation.specs.Form.{◌▸◌, deeper, made, may};
 ghost use Rattle.cv_parse_notation.specs.declared.sign.Mark.TheVariants.{Both, Comma};
-ghost use Rattle.cv_syntax.specs.Tree.{chain};
+ghost use Rattle.cv_syntax_trees.specs.Tree.{chain};
 ghost use Rattle.cv_syntax.specs.Postorder.{postorder};
 ghost use Rattle.cv_parse_grammar.specs.Phrases.{Cells, OneCell, Subscript, Term, or_else, row};
 ghost use Rattle.cv_parse_grammar.specs.Terms.{yes, cell as cell_form, cells as cells_form, condition as condition_form, defined_condition as defined_form, plain_condition as plain_form};

@@ -2,7 +2,7 @@ ghost use Rattle.std.specs.Prelude.{◌≡◌, false, true, ◌∷◌, [], ◌+�
 ghost use Rattle.cv_parse_notation.specs.Spells.{next_is, is_word};
 ghost use Rattle.cv_parse_notation.specs.Form.{◌▸◌, deeper, either, made, may};
 ghost use Rattle.cv_parse_notation.specs.declared.sign.Mark.TheVariants.{Comma};
-ghost use Rattle.cv_syntax.specs.Tree.{chain};
+ghost use Rattle.cv_syntax_trees.specs.Tree.{chain};
 ghost use Rattle.cv_syntax.specs.Postorder.{postorder};
 ghost use Rattle.cv_parse_grammar.specs.Phrases.{Term, Conjunction, Primary, Arguments, Subscript, listed, row};
 ghost use Rattle.cv_parse_grammar.specs.Rules.{heads};

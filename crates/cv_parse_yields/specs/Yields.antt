@@ -1,7 +1,7 @@
 -- What the value of a phrase is made of, whatever tokens spell it.
 use Rattle.std.specs.Prelude.{◌≡◌, ℕ, List, Option, Some, None, ◌⊎◌}
 use Rattle.std.specs.List.{AllByRecursion}
-use Rattle.cv_syntax.specs.Tree.{Tree}
+use Rattle.cv_syntax_trees.specs.Tree.{Tree}
 use Rattle.cv_parse_notation.specs.Form.{Form, word, unnamed, both, may, many, either, made, level, deeper}
 use Rattle.cv_parse_notation.specs.Spells.{Use}
 

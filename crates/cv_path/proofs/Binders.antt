@@ -1,9 +1,9 @@
 -- Lists of binders, as they are gone through.
 use Rattle.std.proofs.Common.{◌≡◌, ℕ, true, false, refl, ap, eq-eqb, ne_eqb, ◌∙◌}
 use Rattle.std.specs.Prelude.{◌||◌, ◌==◌}
-use Rattle.cv_syntax.specs.declared.head.Head.{Head}
-use Rattle.cv_syntax.specs.declared.head.Head.TheVariants.{Binder}
-use Rattle.cv_syntax.specs.Tree.{Tree, Empty, Node}
+use Rattle.cv_syntax_trees.specs.declared.head.Head.{Head}
+use Rattle.cv_syntax_trees.specs.declared.head.Head.TheVariants.{Binder}
+use Rattle.cv_syntax_trees.specs.Tree.{Tree, Empty, Node}
 use Rattle.cv_scope_rules.specs.Made.{is_bound}
 
 pub bound-empty : (t : Tree) (y : ℕ) → t ≡ Empty → is_bound t y ≡ false

@@ -9,9 +9,10 @@ use Rattle.cv_pool.specs.PoolView.{PoolView, Grows}
 use Rattle.cv_syntax.proofs.Buildings.{child-grown}
 use Rattle.cv_syntax.proofs.Trees.{empty_at, size-Empty}
 use Rattle.cv_syntax.proofs.Walking.{size-node}
-use Rattle.cv_syntax.specs.declared.head.Head.{Head}
-use Rattle.cv_syntax.specs.Head.{weight}
-use Rattle.cv_syntax.specs.Tree.{Tree, Empty, Node, second, size, subtree, tree_at}
+use Rattle.cv_syntax_trees.specs.declared.head.Head.{Head}
+use Rattle.cv_syntax_trees.specs.Head.{weight}
+use Rattle.cv_syntax_trees.specs.Tree.{Tree, Empty, Node, second, size, subtree}
+use Rattle.cv_syntax.specs.PoolTrees.{tree_at}
 use Rattle.cv_syntax.specs.Walks.{above}
 use Rattle.cv_meaning.specs.Replaced.{replaced}
 use Rattle.cv_path.specs.declared.place.Lies.TheVariants.{Here, Within, Behind}

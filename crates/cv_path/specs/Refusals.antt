@@ -4,7 +4,7 @@ use Rattle.cv_pool.specs.declared.pool.PoolError.{PoolError}
 use Rattle.cv_pool.specs.declared.pool.PoolError.TheVariants as pool
 use Rattle.cv_pool.specs.PoolView.{PoolView}
 use Rattle.cv_syntax.specs.declared.work.BuildError.TheVariants as build
-use Rattle.cv_syntax.specs.Tree.{Tree, size}
+use Rattle.cv_syntax_trees.specs.Tree.{Tree, size}
 use Rattle.cv_path.specs.Places.{nodes_above}
 use Rattle.cv_path.specs.declared.error.PathError.{PathError}
 use Rattle.cv_path.specs.declared.error.PathError.TheVariants.{NoSuchPlace, Build}

@@ -1,7 +1,8 @@
 -- The way from the root of a tree down to a place, and the tree with another subtree at its end.
 use Rattle.std.specs.Prelude.{Bool, true, false, List, [], ◌∷◌, Some}
 use Rattle.cv_pool.specs.KindTree.{KindTree}
-use Rattle.cv_syntax.specs.Tree.{Tree, Empty, Node, tree_at}
+use Rattle.cv_syntax_trees.specs.Tree.{Tree, Empty, Node}
+use Rattle.cv_syntax.specs.PoolTrees.{tree_at}
 use Rattle.cv_path.specs.declared.replacing.Turn.{Turn}
 
 -- a node with another second, or first, child

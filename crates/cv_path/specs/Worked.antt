@@ -1,7 +1,7 @@
 -- A game whose copies are counted: `!1 <= 11 find 2 <= 12 suchthat true then yield else yield`.
 use Rattle.std.specs.Prelude.{[], ◌∷◌}
-use Rattle.cv_syntax.specs.declared.head.Head.TheVariants.{Repl, Find, Branch, Cons, Yes, Yield}
-use Rattle.cv_syntax.specs.Tree.{Tree, Empty, Node, binders, chain, lone}
+use Rattle.cv_syntax_trees.specs.declared.head.Head.TheVariants.{Repl, Find, Branch, Cons, Yes, Yield}
+use Rattle.cv_syntax_trees.specs.Tree.{Tree, Empty, Node, binders, chain, lone}
 
 abbrev pub searching : Tree
 searching =

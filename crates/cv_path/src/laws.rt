@@ -1,5 +1,5 @@
 ghost use Rattle.std.specs.Prelude.{◌≡◌, ◌≤◌, ◌↔◌, ◌∷◌, [], ℕ, None, Some};
-ghost use Rattle.cv_syntax.specs.Tree.{Tree, size, subtree};
+ghost use Rattle.cv_syntax_trees.specs.Tree.{Tree, size, subtree};
 ghost use Rattle.cv_path.specs.Copies.{copies_at};
 ghost use Rattle.cv_path.specs.Worked.{searching};
 

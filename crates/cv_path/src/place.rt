@@ -1,8 +1,9 @@
 ghost use Rattle.std.specs.Prelude.{◌≡◌, ◌+◌, ◌<◌, ◌≤◌, ◌^◌, ◌↔◌, IsNone, Some, length, option_map};
 ghost use Rattle.cv_pool.specs.Nodes.{ChildBelow};
-ghost use Rattle.cv_syntax.specs.Head as head;
-ghost use Rattle.cv_syntax.specs.Tree as tree;
-ghost use Rattle.cv_syntax.specs.Tree.{subtree, tree_at};
+ghost use Rattle.cv_syntax_trees.specs.Head as head;
+ghost use Rattle.cv_syntax_trees.specs.Tree as tree;
+ghost use Rattle.cv_syntax_trees.specs.Tree.{subtree};
+ghost use Rattle.cv_syntax.specs.PoolTrees.{tree_at};
 ghost use Rattle.cv_path.specs.Places.{LiesAt};
 
 use cv_pool::{NodeId, Pool};

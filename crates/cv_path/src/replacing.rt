@@ -1,7 +1,8 @@
 ghost use Rattle.std.specs.Prelude.{◌≡◌, ◌+◌, ◌<◌, ◌≤◌, ◌^◌, ◌⊎◌, ◌++◌, ◌∷◌, [], All, IfErr, IfOk, IsErrOf, None, OnErr, OnOk, Some, length};
 ghost use Rattle.cv_pool.specs.Nodes.{ChildBelow};
 ghost use Rattle.cv_pool.specs.PoolView.{Grows};
-ghost use Rattle.cv_syntax.specs.Tree.{Node, Tree, size, subtree, tree_at};
+ghost use Rattle.cv_syntax_trees.specs.Tree.{Node, Tree, size, subtree};
+ghost use Rattle.cv_syntax.specs.PoolTrees.{tree_at};
 ghost use Rattle.cv_meaning.specs.Replaced.{replaced};
 ghost use Rattle.cv_path.specs.Places.{nodes_above};
 ghost use Rattle.cv_path.specs.Refusals.{no_memory, refusal};
@@ -10,7 +11,7 @@ ghost use Rattle.cv_path.specs.Ways.{led, turned};
 use crate::error::{PathError, no_room};
 use crate::place::{Lies, place_in};
 use cv_pool::{NodeId, Pool};
-use cv_syntax::{BuildError, Head, read_node};
+use cv_syntax::{BuildError, Head, kind_of, read_node};
 use std::alloc::Global;
 
 /// A node above a place, and whether the way goes on through its second child.
@@ -93,7 +94,7 @@ fn join(pool: &mut Pool, head: Head, first: Option<NodeId>, second: Option<NodeI
     ensures spare { pool.old.spare ≤ pool.new.spare + 1 }
     ensures few { length pool.new.trees ≤ length pool.old.trees + 1 }
 {
-    pool.node(head.kind(), first, second)
+    pool.node(kind_of(head), first, second)
 }
 
 /// A node of a way once more, with another child.

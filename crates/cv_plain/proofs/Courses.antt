@@ -3,7 +3,7 @@ use Rattle.std.proofs.Common.{◌≡◌, ℕ, ◌+◌, ◌<◌, ◌≤◌, nat_l
 use Rattle.std.proofs.lemmas.Bool.{lt-ltb}
 use Rattle.cv_lists.proofs.Options.{option_map-Some}
 use Rattle.cv_pool.specs.KindTree.{KindTree}
-use Rattle.cv_syntax.specs.Tree.{Tree}
+use Rattle.cv_syntax_trees.specs.Tree.{Tree}
 use Rattle.cv_parse.specs.Games.{nodes_of}
 use Rattle.cv_query_direct.specs.Certificates.{step_of}
 use Rattle.cv_query_direct.specs.Plain.{certificate}

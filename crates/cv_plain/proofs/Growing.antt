@@ -7,7 +7,8 @@ use Rattle.cv_pool.specs.declared.node.NodeId.{NodeId}
 use Rattle.cv_pool.specs.PoolView.{PoolView, Grows}
 use Rattle.cv_pool.proofs.Growth.{Grows-length}
 use Rattle.cv_syntax.proofs.Buildings.{child-grown}
-use Rattle.cv_syntax.specs.Tree.{Tree, tree_at}
+use Rattle.cv_syntax_trees.specs.Tree.{Tree}
+use Rattle.cv_syntax.specs.PoolTrees.{tree_at}
 use Rattle.cv_parse.specs.Games.{nodes_of}
 use Rattle.cv_parse.proofs.Plants.{overs-tree}
 use Rattle.cv_query_direct.specs.Certificates.{nodes_asked}

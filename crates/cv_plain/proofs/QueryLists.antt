@@ -8,7 +8,7 @@ use Rattle.cv_pool.specs.declared.node.NodeId.{NodeId}
 use Rattle.cv_syntax.specs.Classes.{queries, query_of}
 use Rattle.cv_syntax.specs.Declarations.{declarations}
 use Rattle.cv_pool.specs.KindTree.{KindTree}
-use Rattle.cv_syntax.specs.Tree.{tree_at}
+use Rattle.cv_syntax.specs.PoolTrees.{tree_at}
 use Rattle.cv_parse.specs.Declaring.{IsBelow}
 use Rattle.cv_meaning.specs.Queries.{queries_in}
 

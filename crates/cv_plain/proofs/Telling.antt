@@ -4,7 +4,7 @@ use Rattle.std.proofs.lemmas.Bool.Decides.{nat_tests}
 use Rattle.std.proofs.lemmas.Bool.{lt-ltb, le-ltb}
 use Rattle.cv_lists.proofs.Options.{option_map-Some}
 use Rattle.std.specs.List.{list_all, list_any, zip}
-use Rattle.cv_syntax.specs.Tree.{Tree}
+use Rattle.cv_syntax_trees.specs.Tree.{Tree}
 use Rattle.cv_query_direct.specs.Plain.{certificate}
 use Rattle.cv_query_direct.specs.Search.{EntryTree}
 use Rattle.cv_query_direct.specs.Certificates.{step_of}

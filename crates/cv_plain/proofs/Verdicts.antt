@@ -4,7 +4,7 @@ use Rattle.std.specs.Prelude.{slice_get}
 use Rattle.std.specs.List.{list_all}
 use Rattle.std.proofs.lemmas.Bool.{and_parts, lt-ltb}
 use Rattle.cv_lists.proofs.Options.{some_from_is_some}
-use Rattle.cv_syntax.specs.Tree.{Tree}
+use Rattle.cv_syntax_trees.specs.Tree.{Tree}
 use Rattle.cv_query_direct.specs.Search.{EntryTree}
 use Rattle.cv_query_direct.proofs.Certificates.{certificate_some}
 use Rattle.cv_report.specs.declared.report.Status.TheVariants as status

@@ -3,7 +3,7 @@ use Rattle.std.specs.Prelude.{◌≡◌, ℕ, ◌+◌, ◌<◌, Bool, List, ◌+
 use Rattle.cv_pool.specs.KindTree.{KindTree}
 use Rattle.cv_pool.specs.declared.pool.PoolError.{PoolError}
 use Rattle.cv_pool.specs.declared.pool.PoolError.TheVariants as pool
-use Rattle.cv_syntax.specs.Tree.{Tree}
+use Rattle.cv_syntax_trees.specs.Tree.{Tree}
 use Rattle.cv_query_direct.specs.Certificates.{nodes_asked, step_by}
 use Rattle.cv_query_direct.specs.Plain.{certificate}
 use Rattle.cv_script.specs.declared.steps.Step.{Step}

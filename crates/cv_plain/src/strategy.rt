@@ -1,6 +1,7 @@
 ghost use Rattle.std.specs.Prelude.{◌≡◌, ◌+◌, ◌<◌, ◌≤◌, ◌^◌, ◌++◌, Option, All, None, Some, drop, map, length, IfOk, OnOk};
 ghost use Rattle.cv_syntax.specs.Classes.{queries};
-ghost use Rattle.cv_syntax.specs.Tree.{tree_at, size};
+ghost use Rattle.cv_syntax_trees.specs.Tree.{size};
+ghost use Rattle.cv_syntax.specs.PoolTrees.{tree_at};
 ghost use Rattle.cv_parse.specs.Declaring.{IsBelow};
 ghost use Rattle.cv_plain.specs.Findings.{need_of, IsFound, IsStepBelow, SaysOf, ended, said, taken};
 ghost use Rattle.cv_pool.specs.PoolView.{Grows};

@@ -3,10 +3,10 @@ use Rattle.std.proofs.Common.{◌≡◌, ℕ, ◌+◌, List, [], ◌++◌, refl,
 use Rattle.std.proofs.lemmas.List.{append-nil}
 use Rattle.std.specs.Prelude.{codes}
 use Rattle.std.specs.Fmt.{decimal}
-use Rattle.cv_syntax.specs.Tree.{Tree, Empty, Node}
+use Rattle.cv_syntax_trees.specs.Tree.{Tree, Empty, Node}
 use Rattle.cv_pool.specs.declared.node.NodeId.{NodeId}
-use Rattle.cv_syntax.specs.declared.head.Head.TheVariants.{Leaf, Read, Apply, Eq, And, Or, Not, Yes, No, Par, Repl, If, Find}
-use Rattle.cv_syntax.specs.Children.{is_empty}
+use Rattle.cv_syntax_trees.specs.declared.head.Head.TheVariants.{Leaf, Read, Apply, Eq, And, Or, Not, Yes, No, Par, Repl, If, Find}
+use Rattle.cv_syntax_trees.specs.Children.{is_empty}
 use Rattle.cv_syntax.proofs.Trees.{tree_of-NoTree}
 use Rattle.cv_print.specs.Terms.{name_text, binder_text, entry_text, entries_text, term_text, terms_text}
 use Rattle.cv_print.specs.Games.{line, branch_line, step_text, process_text, bodies_text, branches_text, branch_text}

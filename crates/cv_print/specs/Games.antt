@@ -1,10 +1,10 @@
 -- The text of processes: each construct on its own line, with two spaces for each level.
 use Rattle.std.specs.Prelude.{ℕ, ◌+◌, ◌*◌, List, [], ◌++◌, replicate, codes, if◌then◌else◌}
 use Rattle.std.specs.Fmt.{decimal}
-use Rattle.cv_syntax.specs.Tree.{Tree, Empty, Node, first, second}
-use Rattle.cv_syntax.specs.declared.head.Head.{Head}
-use Rattle.cv_syntax.specs.declared.head.Head.TheVariants.{Stop, Yield, Par, Repl, In, Out, Event, New, Let, If, Find}
-use Rattle.cv_syntax.specs.Children.{is_empty}
+use Rattle.cv_syntax_trees.specs.Tree.{Tree, Empty, Node, first, second}
+use Rattle.cv_syntax_trees.specs.declared.head.Head.{Head}
+use Rattle.cv_syntax_trees.specs.declared.head.Head.TheVariants.{Stop, Yield, Par, Repl, In, Out, Event, New, Let, If, Find}
+use Rattle.cv_syntax_trees.specs.Children.{is_empty}
 use Rattle.cv_print.specs.Terms.{name_text, binder_text, entries_text, term_text, terms_text}
 
 abbrev pub line : ℕ → List ℕ → List ℕ

@@ -1,8 +1,8 @@
 -- The text of terms, and of lists of terms, of names and of binders.
 use Rattle.std.specs.Prelude.{ℕ, List, [], ◌++◌, unwrap_or, slice_get, codes}
-use Rattle.cv_syntax.specs.Tree.{Tree, Empty, Node}
-use Rattle.cv_syntax.specs.declared.head.Head.{Head}
-use Rattle.cv_syntax.specs.declared.head.Head.TheVariants.{Leaf, Read, Apply, Eq, And, Or, Not, Yes, No, Binder, Name}
+use Rattle.cv_syntax_trees.specs.Tree.{Tree, Empty, Node}
+use Rattle.cv_syntax_trees.specs.declared.head.Head.{Head}
+use Rattle.cv_syntax_trees.specs.declared.head.Head.TheVariants.{Leaf, Read, Apply, Eq, And, Or, Not, Yes, No, Binder, Name}
 
 -- the text of a name, by its number; a number past the list has none
 abbrev pub name_text : List (List ℕ) → ℕ → List ℕ

@@ -2,8 +2,8 @@
 ghost use Rattle.std.specs.Prelude.{◌≡◌, ◌++◌, ◌+◌, ◌*◌, ◌^◌, ◌<◌, [], OnOk, IfOk, Some, length, is_none, codes, replicate};
 ghost use Rattle.std.specs.Fmt.{decimal};
 ghost use Rattle.cv_pool.specs.Nodes.{ChildBelow};
-ghost use Rattle.cv_syntax.specs.Tree.{tree_at};
-ghost use Rattle.cv_syntax.specs.Children.{is_empty};
+ghost use Rattle.cv_syntax.specs.PoolTrees.{tree_at};
+ghost use Rattle.cv_syntax_trees.specs.Children.{is_empty};
 ghost use Rattle.cv_print.specs.Numbers.{above};
 ghost use Rattle.cv_print.specs.Terms.{binder_text, term_text};
 ghost use Rattle.cv_print.specs.Games.{line, game_text, process_text, bodies_text, branches_text, branch_text, indices_text, cells_text};

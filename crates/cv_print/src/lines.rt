@@ -1,7 +1,8 @@
 ghost use Rattle.std.specs.Prelude.{◌≡◌, ◌++◌, ◌*◌, ◌+◌, ◌^◌, ◌<◌, [], OnOk, Some, length, codes, replicate, is_none};
 ghost use Rattle.cv_pool.specs.Nodes.{ChildBelow};
-ghost use Rattle.cv_syntax.specs.Tree.{Node, first, second, tree_at};
-ghost use Rattle.cv_syntax.specs.Children.{is_empty};
+ghost use Rattle.cv_syntax_trees.specs.Tree.{Node, first, second};
+ghost use Rattle.cv_syntax.specs.PoolTrees.{tree_at};
+ghost use Rattle.cv_syntax_trees.specs.Children.{is_empty};
 ghost use Rattle.cv_print.specs.Numbers.{above};
 ghost use Rattle.cv_print.specs.Games.{line, channel_text, arguments_text, indices_text, cells_text};
 

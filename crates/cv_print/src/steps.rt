@@ -1,8 +1,8 @@
 // The lines of constructs whose continuation stays at their level.
 ghost use Rattle.std.specs.Prelude.{◌≡◌, ◌++◌, ◌^◌, ◌<◌, OnOk, length, is_none, codes};
 ghost use Rattle.cv_pool.specs.Nodes.{ChildBelow};
-ghost use Rattle.cv_syntax.specs.Tree.{tree_at};
-ghost use Rattle.cv_syntax.specs.Children.{is_empty};
+ghost use Rattle.cv_syntax.specs.PoolTrees.{tree_at};
+ghost use Rattle.cv_syntax_trees.specs.Children.{is_empty};
 ghost use Rattle.cv_print.specs.Terms.{binder_text};
 ghost use Rattle.cv_print.specs.Games.{line, step_text};
 

@@ -1,7 +1,7 @@
 ghost use Rattle.std.specs.Prelude.{◌≡◌, ◌++◌, [], OnOk, length};
 ghost use Rattle.std.specs.Fmt.{decimal};
 ghost use Rattle.cv_pool.specs.Nodes.{ChildBelow};
-ghost use Rattle.cv_syntax.specs.Tree.{tree_at};
+ghost use Rattle.cv_syntax.specs.PoolTrees.{tree_at};
 ghost use Rattle.cv_print.specs.Terms.{name_text, binder_text, entry_text, entries_text};
 
 use cv_syntax::{Head, NameId, Names, NodeId, Pool, read_node};

@@ -1,7 +1,7 @@
 -- What the tokens of a game, or of a term, say, as a relation. This profile's own.
 use Rattle.std.specs.Prelude.{◌≡◌, ℕ, ◌+◌, ◌-◌, ◌<◌, ◌≤◌, false, List, [], ◌++◌, length}
 use Rattle.cv_syntax.specs.declared.decls.Decl.{Decl}
-use Rattle.cv_syntax.specs.Tree.{Tree, depth, size}
+use Rattle.cv_syntax_trees.specs.Tree.{Tree, depth, size}
 use Rattle.cv_parse_notation.specs.declared.sign.Sign.{Sign}
 use Rattle.cv_parse_notation.specs.Spells.{next_is}
 use Rattle.cv_parse_notation.specs.Whole.{Dead, IsWhole, SpellsWith}

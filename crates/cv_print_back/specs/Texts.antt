@@ -2,7 +2,7 @@
 use Rattle.std.specs.Prelude.{◌≡◌, ℕ, ◌+◌, ◌≤◌, true, List, [], ◌∷◌, ◌++◌, length, None, Ok}
 use Rattle.cv_lex.specs.Lexis.{Token, tokens_of}
 use Rattle.cv_syntax.specs.declared.decls.Decl.{Decl}
-use Rattle.cv_syntax.specs.Tree.{Tree, depth, size}
+use Rattle.cv_syntax_trees.specs.Tree.{Tree, depth, size}
 use Rattle.cv_parse_terminals.specs.Signs.{no_counts, signs_from}
 use Rattle.cv_parse_grammar.specs.declared.role.Region.TheVariants.{InProcess}
 use Rattle.cv_parse_grammar.specs.declared.role.Role.TheVariants.{Enters, Leaves}

@@ -1,5 +1,5 @@
 ghost use Rattle.std.specs.Prelude.{◌≡◌, ◌+◌, ◌≤◌, ◌++◌, ◌↔◌, ◌≢◌, false, ℕ, List, length, Ok, Err};
-ghost use Rattle.cv_syntax.specs.Tree.{Tree};
+ghost use Rattle.cv_syntax_trees.specs.Tree.{Tree};
 ghost use Rattle.cv_syntax.specs.declared.decls.Decl.{Decl};
 ghost use Rattle.cv_parse_notation.specs.declared.sign.Sign.{Sign};
 ghost use Rattle.cv_parse_notation.specs.Spells.{next_is};

@@ -6,10 +6,10 @@ use Rattle.cv_parse_notation.specs.declared.sign.Sign.{Sign}
 use Rattle.cv_print.specs.Games.{line}
 use Rattle.cv_print.specs.Terms.{binder_text, entry_text, entries_text}
 use Rattle.cv_print_terminals.specs.Signs.{one, binder_signs, entry_signs, entries_signs, unless_empty}
-use Rattle.cv_syntax.specs.Tree.{Tree, Empty, Node}
-use Rattle.cv_syntax.specs.declared.head.Head.{Head}
-use Rattle.cv_syntax.specs.declared.head.Head.TheVariants.{Binder, Name}
-use Rattle.cv_syntax.specs.Children.{is_empty}
+use Rattle.cv_syntax_trees.specs.Tree.{Tree, Empty, Node}
+use Rattle.cv_syntax_trees.specs.declared.head.Head.{Head}
+use Rattle.cv_syntax_trees.specs.declared.head.Head.TheVariants.{Binder, Name}
+use Rattle.cv_syntax_trees.specs.Children.{is_empty}
 use Rattle.cv_print_bytes.specs.Known.{AreNames, head_is_named, is_named}
 use Rattle.cv_print_bytes.proofs.Fronts.{Front, Chain, nothing, none, first, ◌and◌, ◌last◌}
 use Rattle.cv_print_bytes.proofs.Literals.{comma_space, bar_newline}

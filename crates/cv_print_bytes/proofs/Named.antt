@@ -2,9 +2,9 @@
 use Rattle.std.proofs.Common.{◌≡◌, ℕ, Bool, true, false, ◌&&◌, Option, Some, None, refl}
 use Rattle.std.proofs.lemmas.Bool.{and_parts, and_from, both_ways}
 use Rattle.cv_scope_rules.specs.Phrases.{Phrase, Inputs, Body, Pattern, Message, Indices, Binders, Terms, parts, both_are, is_phrase}
-use Rattle.cv_syntax.specs.Tree.{Tree, Empty, Node, first, second}
-use Rattle.cv_syntax.specs.declared.head.Head.{Head}
-use Rattle.cv_syntax.specs.declared.head.Head.TheVariants.{In, Out, Cons, Name}
+use Rattle.cv_syntax_trees.specs.Tree.{Tree, Empty, Node, first, second}
+use Rattle.cv_syntax_trees.specs.declared.head.Head.{Head}
+use Rattle.cv_syntax_trees.specs.declared.head.Head.TheVariants.{In, Out, Cons, Name}
 use Rattle.cv_print_bytes.specs.Known.{head_is_named, is_named}
 
 pub record Parted (count : ℕ) (h : Head) (a b : Tree) : Type 0 where

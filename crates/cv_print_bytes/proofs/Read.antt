@@ -16,7 +16,7 @@ use Rattle.cv_print_terminals.specs.Told.{game_uses, term_uses}
 use Rattle.cv_print_terminals.specs.Written.{IsWritten}
 use Rattle.cv_print_terminals.proofs.Back.{term_read, game_read, same_term, same_game}
 use Rattle.cv_print_terminals.proofs.Plain.{of_term as plain}
-use Rattle.cv_syntax.specs.Tree.{Tree}
+use Rattle.cv_syntax_trees.specs.Tree.{Tree}
 use Rattle.cv_print_bytes.specs.Known.{AreNames, is_named}
 use Rattle.cv_print_bytes.specs.Texts.{HasSigns, IsReadAs}
 use Rattle.cv_print_bytes.proofs.Fronts.{begins, Front}

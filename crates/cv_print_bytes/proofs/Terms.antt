@@ -4,8 +4,8 @@ use Rattle.cv_parse_notation.specs.declared.sign.Mark.TheVariants as mark
 use Rattle.cv_parse_notation.specs.declared.sign.Sign.{Sign}
 use Rattle.cv_print.specs.Terms.{term_text, terms_text}
 use Rattle.cv_print_terminals.specs.Signs.{term_signs, terms_signs}
-use Rattle.cv_syntax.specs.Tree.{Tree, Empty, Node}
-use Rattle.cv_syntax.specs.declared.head.Head.TheVariants.{Leaf, Read, Apply, Eq, And, Or, Not, Yes, No}
+use Rattle.cv_syntax_trees.specs.Tree.{Tree, Empty, Node}
+use Rattle.cv_syntax_trees.specs.declared.head.Head.TheVariants.{Leaf, Read, Apply, Eq, And, Or, Not, Yes, No}
 use Rattle.cv_print_bytes.specs.Known.{AreNames, is_named}
 use Rattle.cv_print_bytes.proofs.Fronts.{Front, nothing, none, first, ◌and◌, ◌last◌}
 use Rattle.cv_print_bytes.proofs.Literals.{comma_space, equals, conjunction, disjunction, negation}

@@ -4,9 +4,9 @@ use Rattle.cv_lex.specs.declared.TokenKind.TheVariants.{Ident}
 use Rattle.cv_lex.specs.Lexis.{IsToken}
 use Rattle.cv_names.specs.Texts.{NoRepeat}
 use Rattle.cv_parse_spelling.specs.Spelling.{mark_of_text}
-use Rattle.cv_syntax.specs.Tree.{Tree, Empty, Node}
-use Rattle.cv_syntax.specs.declared.head.Head.{Head}
-use Rattle.cv_syntax.specs.declared.head.Head.TheVariants.{Repl, In, Out, Event, New, Let, Find, Leaf, Read, Apply, Binder, Name}
+use Rattle.cv_syntax_trees.specs.Tree.{Tree, Empty, Node}
+use Rattle.cv_syntax_trees.specs.declared.head.Head.{Head}
+use Rattle.cv_syntax_trees.specs.declared.head.Head.TheVariants.{Repl, In, Out, Event, New, Let, Find, Leaf, Read, Apply, Binder, Name}
 
 -- one identifier, which is none of the words of the grammar
 pub record IsName (text : List ℕ) : Type 0 where

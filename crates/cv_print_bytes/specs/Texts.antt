@@ -7,7 +7,7 @@ use Rattle.cv_parse_notation.specs.Reads.{found, read_sort}
 use Rattle.cv_parse_grammar.specs.Names.{Uses}
 use Rattle.cv_parse_grammar.specs.Phrases.{Sort}
 use Rattle.cv_parse_grammar.specs.Rules.{heads, rule}
-use Rattle.cv_syntax.specs.Tree.{Tree}
+use Rattle.cv_syntax_trees.specs.Tree.{Tree}
 
 -- a text has tokens, which have these signs; no name is new
 pub record HasSigns (names : List (List ℕ)) (text : List ℕ) (signs : List Sign) : Type 0 where

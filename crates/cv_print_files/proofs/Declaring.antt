@@ -3,9 +3,9 @@ use Rattle.std.proofs.Common.{◌≡◌, ℕ, Bool, true, false, ◌&&◌, ◌==
 use Rattle.std.specs.Prelude.{flat_map}
 use Rattle.std.proofs.lemmas.Bool.{and_parts, or_from}
 use Rattle.std.proofs.lemmas.List.Folds.{list_any-append}
-use Rattle.cv_syntax.specs.Tree.{Tree}
-use Rattle.cv_syntax.specs.Declarations.{Declaration, Named, Equation, Equiv, Query}
-use Rattle.cv_syntax.specs.declared.decls.Class.TheVariants as class
+use Rattle.cv_syntax_trees.specs.Tree.{Tree}
+use Rattle.cv_syntax_trees.specs.Declarations.{Declaration, Named, Equation, Equiv, Query}
+use Rattle.cv_syntax_trees.specs.declared.class.Class.TheVariants as class
 use Rattle.cv_parse_notation.specs.declared.sign.Mark.{Mark}
 use Rattle.cv_parse_notation.specs.declared.sign.Mark.TheVariants as mark
 use Rattle.cv_parse_notation.specs.Form.{made, many, may, unnamed, ◌▸◌, ◌◂◌}

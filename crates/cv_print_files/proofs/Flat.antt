@@ -1,7 +1,7 @@
 -- How deep a text stands, by the depth of its game.
 use Rattle.std.proofs.Common.{◌+◌, ◌*◌, ◌≤◌, arith}
-use Rattle.cv_syntax.specs.Tree.{Tree, Empty, Node, depth, second}
-use Rattle.cv_syntax.specs.declared.head.Head.TheVariants.{Par, Repl, In, Out, Event, New, Let, If, Find, Read, Apply, Eq, And, Or, Not}
+use Rattle.cv_syntax_trees.specs.Tree.{Tree, Empty, Node, depth, second}
+use Rattle.cv_syntax_trees.specs.declared.head.Head.TheVariants.{Par, Repl, In, Out, Event, New, Let, If, Find, Read, Apply, Eq, And, Or, Not}
 use Rattle.cv_print_terminals.specs.Levels.{bodies_levels, branch_levels, branches_levels, levels_of, term_levels, terms_levels}
 
 second_depth : (t : Tree) → depth (second t) ≤ depth t

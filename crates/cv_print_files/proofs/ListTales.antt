@@ -1,7 +1,7 @@
 -- The uses of names of lists in a process: binders, and the indices of a channel.
 use Rattle.std.proofs.Common.{◌≡◌, ℕ, zero, suc, false, List, [], ◌∷◌, Option, refl, ap, sym, ◌∙◌, subst}
-use Rattle.cv_syntax.specs.Tree.{Tree, Empty, Node, binders, names}
-use Rattle.cv_syntax.specs.declared.head.Head.TheVariants.{Binder, Name}
+use Rattle.cv_syntax_trees.specs.Tree.{Tree, Empty, Node, binders, names}
+use Rattle.cv_syntax_trees.specs.declared.head.Head.TheVariants.{Binder, Name}
 use Rattle.cv_parse_notation.specs.declared.sign.Mark.{Mark}
 use Rattle.cv_parse_notation.specs.declared.sign.Mark.TheVariants as mark
 use Rattle.cv_parse_grammar.specs.declared.role.Asked.TheVariants.{AChannel, AParam, AType}

@@ -1,7 +1,7 @@
 -- Each row of terms and processes makes a tree that stands for its uses of names.
 use Rattle.std.proofs.Common.{◌≡◌, ℕ, Bool, true, List, [], ◌∷◌, Option, Some, None, refl, sym, subst}
-use Rattle.cv_syntax.specs.Tree.{Tree, Empty, Node, chain}
-use Rattle.cv_syntax.specs.declared.head.Head.TheVariants.{Eq, Find}
+use Rattle.cv_syntax_trees.specs.Tree.{Tree, Empty, Node, chain}
+use Rattle.cv_syntax_trees.specs.declared.head.Head.TheVariants.{Eq, Find}
 use Rattle.cv_parse_notation.specs.declared.sign.Mark.{Mark}
 use Rattle.cv_parse_notation.specs.declared.sign.Mark.TheVariants as mark
 use Rattle.cv_parse_notation.specs.Form.{both, made, may, nought, number, find_word, sign}

@@ -3,7 +3,8 @@ use Rattle.std.proofs.Common.{◌≡◌, suc, List, [], length, Result, Ok, Err,
 use Rattle.cv_lex.specs.Lexis.{Lexed, Token, lexed, tokens_of}
 use Rattle.cv_lex.specs.declared.LexError.{LexError}
 use Rattle.cv_lex.proofs.Exact.{computed}
-use Rattle.cv_syntax.specs.Tree.{depth, size, tree_of}
+use Rattle.cv_syntax_trees.specs.Tree.{depth, size}
+use Rattle.cv_syntax.specs.PoolTrees.{tree_of}
 use Rattle.cv_parse_notation.specs.Reads.{read_sort}
 use Rattle.cv_parse_terminals.specs.Braces.{read_from}
 use Rattle.cv_parse_terminals.specs.Signs.{signs_from, signs_of}

@@ -1,8 +1,8 @@
 -- The uses of names that pieces of a text tell, in front of others, and the variables that a tree defines.
 use Rattle.std.proofs.Common.{◌≡◌, ℕ, List, [], ◌∷◌, ◌++◌, refl, ap}
-use Rattle.cv_syntax.specs.declared.head.Head.{Head}
-use Rattle.cv_syntax.specs.declared.head.Head.TheVariants.{New, Let, Binder}
-use Rattle.cv_syntax.specs.Tree.{Tree, Empty, Node}
+use Rattle.cv_syntax_trees.specs.declared.head.Head.{Head}
+use Rattle.cv_syntax_trees.specs.declared.head.Head.TheVariants.{New, Let, Binder}
+use Rattle.cv_syntax_trees.specs.Tree.{Tree, Empty, Node}
 use Rattle.cv_parse_grammar.specs.Names.{Uses}
 use Rattle.cv_print_terminals.specs.Told.{Piece, Shown, Told}
 use Rattle.cv_print_files.proofs.Passing.{use_of}

@@ -1,12 +1,12 @@
 -- A small file whose game comes back, and one whose game has too deep a text. This profile's own.
 use Rattle.std.specs.Prelude.{ℕ, zero, suc, true, false, List, [], ◌∷◌, ◌++◌, None, codes}
 use Rattle.cv_names.specs.declared.names.NameId.{NameId}
-use Rattle.cv_syntax.specs.declared.decls.Class.TheVariants.{Channel, Event, Param, TypeName}
+use Rattle.cv_syntax_trees.specs.declared.class.Class.TheVariants.{Channel, Event, Param, TypeName}
 use Rattle.cv_syntax.specs.declared.decls.Decl.{Decl}
 use Rattle.cv_syntax.specs.declared.decls.Decl.TheVariants.{Name}
-use Rattle.cv_syntax.specs.declared.head.Head.TheVariants as head
+use Rattle.cv_syntax_trees.specs.declared.head.Head.TheVariants as head
 use Rattle.cv_syntax.specs.Declarations.{declarations}
-use Rattle.cv_syntax.specs.Tree.{Tree, Empty, Node, binders, chain, lone, names}
+use Rattle.cv_syntax_trees.specs.Tree.{Tree, Empty, Node, binders, chain, lone, names}
 use Rattle.cv_parse_notation.specs.declared.sign.Mark.TheVariants as mark
 use Rattle.cv_parse_notation.specs.declared.sign.Sign.{Sign}
 use Rattle.cv_parse_notation.specs.declared.sign.Sign.TheVariants.{Number, Mark}

@@ -1,7 +1,7 @@
 ghost use Rattle.std.specs.Prelude.{◌≡◌, ◌+◌, ◌*◌, ◌≤◌, ℕ, List, [], Err, None};
 ghost use Rattle.cv_pool.specs.KindTree.{KindTree};
 ghost use Rattle.cv_syntax.specs.declared.decls.Decl.{Decl};
-ghost use Rattle.cv_syntax.specs.Tree.{Tree, depth};
+ghost use Rattle.cv_syntax_trees.specs.Tree.{Tree, depth};
 ghost use Rattle.cv_parse_notation.specs.declared.sign.Sign.{Sign};
 ghost use Rattle.cv_parse_grammar.specs.Whole.{IsRead};
 ghost use Rattle.cv_parse.specs.declared.error.ParseError.TheVariants.{Nesting};

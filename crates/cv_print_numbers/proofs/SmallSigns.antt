@@ -18,8 +18,8 @@ use Rattle.cv_lex.specs.declared.LexError.{LexError}
 use Rattle.cv_lex.specs.Lexis.{Token, IsToken, Lexed, ends, between, token, later, unclosed, wide, foreign, a_comment, a_number, a_symbol, comment_end, end_token, is_blank, is_inner, longest, opens_comment, symbols, value_of}
 use Rattle.cv_lex.specs.View.{AreTokens}
 use Rattle.cv_lex.proofs.Pieces.{lexeme}
-use Rattle.cv_syntax.specs.Declarations.{Declaration}
-use Rattle.cv_syntax.specs.Tree.{Tree}
+use Rattle.cv_syntax_trees.specs.Declarations.{Declaration}
+use Rattle.cv_syntax_trees.specs.Tree.{Tree}
 use Rattle.cv_parse_notation.specs.declared.script.ScriptWord.TheVariants.{Plain}
 use Rattle.cv_parse_notation.specs.declared.sign.Mark.{Mark}
 use Rattle.cv_parse_notation.specs.declared.sign.Sign.{Sign}

@@ -1,6 +1,6 @@
 -- What is spelled to the end, with the levels of a script, is read.
 use Rattle.std.proofs.Common.{ℕ, suc, ◌+◌, ◌≤◌, List}
-use Rattle.cv_syntax.specs.Tree.{Tree}
+use Rattle.cv_syntax_trees.specs.Tree.{Tree}
 use Rattle.cv_parse_notation.specs.Spells.{IsSort}
 use Rattle.cv_parse_terminals.specs.ScriptSigns.{script_signs}
 use Rattle.cv_parse_grammar.specs.Files.{levels}

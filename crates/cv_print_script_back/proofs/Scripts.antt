@@ -6,7 +6,7 @@ use Rattle.std.proofs.lemmas.Option.{slice_get_within}
 use Rattle.cv_lists.proofs.Each.{AllByRecursion-weaker}
 use Rattle.cv_lex.specs.Lexis.{Token}
 use Rattle.cv_lex.specs.View.{AreTokens}
-use Rattle.cv_syntax.specs.Tree.{Tree, chain}
+use Rattle.cv_syntax_trees.specs.Tree.{Tree, chain}
 use Rattle.cv_parse_notation.specs.declared.sign.Sign.{Sign}
 use Rattle.cv_parse_grammar.specs.Files.{levels}
 use Rattle.cv_parse_terminals.specs.ScriptSigns.{between, script_signs}

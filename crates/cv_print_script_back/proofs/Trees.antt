@@ -4,9 +4,9 @@ use Rattle.std.proofs.lemmas.Bool.Decides.{nat_tests}
 use Rattle.std.proofs.lemmas.Bool.{and_from, and_parts}
 use Rattle.std.specs.List.{AllByRecursion}
 use Rattle.cv_lists.proofs.Each.{AllByRecursion-append}
-use Rattle.cv_syntax.specs.declared.head.Head.{Head}
-use Rattle.cv_syntax.specs.declared.head.Head.TheVariants as head
-use Rattle.cv_syntax.specs.Tree.{Tree, Empty, Node, chain, lone}
+use Rattle.cv_syntax_trees.specs.declared.head.Head.{Head}
+use Rattle.cv_syntax_trees.specs.declared.head.Head.TheVariants as head
+use Rattle.cv_syntax_trees.specs.Tree.{Tree, Empty, Node, chain, lone}
 use Rattle.cv_parse_tables.specs.declared.piece.Piece.{Piece}
 use Rattle.cv_parse_tables.specs.declared.piece.Piece.TheVariants as piece
 use Rattle.cv_parse_tables.specs.Table.{Table}

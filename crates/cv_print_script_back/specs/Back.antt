@@ -1,7 +1,7 @@
 -- A text that is read as these steps. This profile's own.
 use Rattle.std.specs.Prelude.{◌≡◌, ℕ, List, Ok}
 use Rattle.cv_lex.specs.Lexis.{Token, tokens_of}
-use Rattle.cv_syntax.specs.Tree.{Tree}
+use Rattle.cv_syntax_trees.specs.Tree.{Tree}
 use Rattle.cv_parse_terminals.specs.ScriptSigns.{script_signs}
 use Rattle.cv_parse_script.specs.Scripts.{script_of}
 use Rattle.cv_script_rows.specs.Rows.{script_row}

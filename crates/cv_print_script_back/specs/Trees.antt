@@ -1,6 +1,6 @@
 -- A step that may be printed, and one whose text is read back. This profile's own.
 use Rattle.std.specs.Prelude.{◌≡◌, ℕ, suc, ◌+◌, ◌≤◌, true, List, [], ◌∷◌, ◌++◌, codes}
-use Rattle.cv_syntax.specs.Tree.{Tree, chain}
+use Rattle.cv_syntax_trees.specs.Tree.{Tree, chain}
 use Rattle.cv_parse_grammar.specs.Files.{levels}
 use Rattle.cv_syntax_limits.specs.Limits.{nodes_of}
 use Rattle.cv_print_scripts.specs.Known.{is_known}

@@ -2,7 +2,7 @@
 #![tactic(auto)]
 
 ghost use Rattle.std.specs.Prelude.{◌≡◌, ◌+◌, ◌≤◌, ℕ, suc, true, List, [], ◌∷◌, ◌++◌, length, codes, ◌<◌, ◌^◌, Ok};
-ghost use Rattle.cv_syntax.specs.Tree.{Tree, chain};
+ghost use Rattle.cv_syntax_trees.specs.Tree.{Tree, chain};
 ghost use Rattle.cv_parse_grammar.specs.Files.{levels};
 ghost use Rattle.cv_parse_script.specs.Scripts.{items, script_read};
 ghost use Rattle.cv_syntax_limits.specs.Limits.{nodes_of};

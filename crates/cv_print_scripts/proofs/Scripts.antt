@@ -13,7 +13,7 @@ use Rattle.cv_parse_tables.specs.Table.{Nowhere, Row, Table, TableSort, TreesFor
 use Rattle.cv_parse_tables.specs.Trees.{both_of}
 use Rattle.cv_print_steps.proofs.Outer.{below_of}
 use Rattle.cv_script_rows.specs.Rows.{script_row, script_rows, step_row}
-use Rattle.cv_syntax.specs.Tree.{Tree, chain}
+use Rattle.cv_syntax_trees.specs.Tree.{Tree, chain}
 
 -- the rows of steps of a form: of one, of one with its semicolon, of a list of these, and of the chain
 

@@ -10,8 +10,8 @@ use Rattle.cv_print_steps.specs.Shown.{row_signs, tree_shown}
 use Rattle.cv_print_steps.specs.Trees.{IsTree}
 use Rattle.cv_print_tables.specs.Prints.{single_items, tree_text}
 use Rattle.cv_script_rows.specs.Rows.{script_rows, step_row}
-use Rattle.cv_syntax.specs.Tree.{lone}
-use Rattle.cv_syntax.specs.declared.head.Head.TheVariants.{Name}
+use Rattle.cv_syntax_trees.specs.Tree.{lone}
+use Rattle.cv_syntax_trees.specs.declared.head.Head.TheVariants.{Name}
 use Rattle.cv_print_scripts.specs.Known.{is_known}
 use Rattle.cv_print_scripts.specs.Texts.{words_among}
 use Rattle.cv_print_scripts.specs.Worked.{small, small_behind, small_names, small_signs}

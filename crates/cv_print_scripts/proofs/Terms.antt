@@ -13,9 +13,9 @@ use Rattle.cv_parse_notation.specs.declared.sign.Sign.{Sign}
 use Rattle.cv_print.specs.Terms.{name_text, term_text, terms_text}
 use Rattle.cv_print_bytes.specs.Known.{AreNames}
 use Rattle.cv_print_terminals.specs.Signs.{named, one, term_signs, terms_signs}
-use Rattle.cv_syntax.specs.Tree.{Tree, Empty, Node}
-use Rattle.cv_syntax.specs.declared.head.Head.{Head}
-use Rattle.cv_syntax.specs.declared.head.Head.TheVariants.{Leaf, Read, Apply, Eq, And, Or, Not, Yes, No}
+use Rattle.cv_syntax_trees.specs.Tree.{Tree, Empty, Node}
+use Rattle.cv_syntax_trees.specs.declared.head.Head.{Head}
+use Rattle.cv_syntax_trees.specs.declared.head.Head.TheVariants.{Leaf, Read, Apply, Eq, And, Or, Not, Yes, No}
 use Rattle.cv_print_scripts.specs.Known.{head_is_known, is_known}
 use Rattle.cv_print_scripts.specs.Parted.{is_apart}
 use Rattle.cv_print_scripts.proofs.Fronts.{Told, first, none, nothing, ◌and◌, ◌last◌}

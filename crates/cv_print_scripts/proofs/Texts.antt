@@ -20,7 +20,7 @@ use Rattle.cv_print_terminals.specs.Signs.{one}
 use Rattle.cv_script_rows.specs.Rows.{script_row, script_rows, step_row}
 use Rattle.cv_print_tables.specs.Prints.{tree_text}
 use Rattle.cv_print_bytes.specs.Known.{AreNames}
-use Rattle.cv_syntax.specs.Tree.{Tree, chain, first}
+use Rattle.cv_syntax_trees.specs.Tree.{Tree, chain, first}
 use Rattle.cv_print_scripts.specs.Known.{is_known}
 use Rattle.cv_print_scripts.specs.Parted.{is_parted}
 use Rattle.cv_print_scripts.specs.Texts.{FitsIn, HasSigns, IsReadAs, IsUnambiguous, words_among}

@@ -1,8 +1,8 @@
 -- What is known of a tree whose text is in a script. This profile's own.
 use Rattle.std.specs.Prelude.{ℕ, ◌^◌, Bool, true, ◌&&◌, nat_lt}
-use Rattle.cv_syntax.specs.Tree.{Tree, Empty, Node}
-use Rattle.cv_syntax.specs.declared.head.Head.{Head}
-use Rattle.cv_syntax.specs.declared.head.Head.TheVariants.{Number}
+use Rattle.cv_syntax_trees.specs.Tree.{Tree, Empty, Node}
+use Rattle.cv_syntax_trees.specs.declared.head.Head.{Head}
+use Rattle.cv_syntax_trees.specs.declared.head.Head.TheVariants.{Number}
 use Rattle.cv_print_bytes.specs.Known.{head_is_named}
 
 -- its names are below so many, and a number fits 64 bits

@@ -10,7 +10,7 @@ use Rattle.cv_parse_spelling.specs.ScriptSpelling.{words, word_of_text, word_spe
 use Rattle.cv_parse_terminals.specs.Signs.{place_of}
 use Rattle.cv_print.specs.Terms.{name_text}
 use Rattle.cv_print_steps.specs.Shown.{Words, row_levels}
-use Rattle.cv_syntax.specs.Tree.{Tree}
+use Rattle.cv_syntax_trees.specs.Tree.{Tree}
 
 -- names, and behind them the words of scripts
 abbrev pub with_all_words : List (List ℕ) → List (List ℕ)

@@ -3,8 +3,8 @@ use Rattle.std.specs.Prelude.{ℕ, List, [], ◌∷◌, codes}
 use Rattle.cv_parse_notation.specs.declared.script.ScriptWord.TheVariants.{Move, Plain, Rename, To}
 use Rattle.cv_parse_notation.specs.declared.sign.Sign.{Sign}
 use Rattle.cv_parse_notation.specs.declared.sign.Sign.TheVariants.{Word}
-use Rattle.cv_syntax.specs.Tree.{Tree, Node, lone}
-use Rattle.cv_syntax.specs.declared.head.Head.TheVariants.{Name, RenameStep}
+use Rattle.cv_syntax_trees.specs.Tree.{Tree, Node, lone}
+use Rattle.cv_syntax_trees.specs.declared.head.Head.TheVariants.{Name, RenameStep}
 
 -- rename move to x
 abbrev pub small : Tree

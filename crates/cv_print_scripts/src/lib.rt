@@ -2,7 +2,7 @@
 #![tactic(auto)]
 
 ghost use Rattle.std.specs.Prelude.{◌≡◌, ℕ, true, List, [], ◌∷◌, ◌++◌, length, codes};
-ghost use Rattle.cv_syntax.specs.Tree.{Tree, chain};
+ghost use Rattle.cv_syntax_trees.specs.Tree.{Tree, chain};
 ghost use Rattle.cv_parse_notation.specs.declared.sign.Mark.TheVariants.{Semicolon};
 ghost use Rattle.cv_parse_tables.specs.Table.{Table};
 ghost use Rattle.cv_print_tables.specs.Prints.{tree_text};

@@ -1,6 +1,6 @@
 -- Lists of trees, by their first tree and the rest.
 use Rattle.std.proofs.Common.{◌≡◌, ℕ, zero, suc, ◌+◌, ◌-◌, ◌≤◌, List, [], ◌∷◌, ◌++◌, length, refl, ap, sym, ◌∙◌, arith, append_assoc, append-nil}
-use Rattle.cv_syntax.specs.Tree.{Tree, Empty, Node, first, second}
+use Rattle.cv_syntax_trees.specs.Tree.{Tree, Empty, Node, first, second}
 use Rattle.cv_syntax.proofs.Trees.{tree_of-NoTree}
 use Rattle.cv_print_tables.specs.Prints.{chain_items, single_items, node_items}
 

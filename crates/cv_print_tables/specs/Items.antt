@@ -2,7 +2,8 @@
 use Rattle.std.specs.Prelude.{ℕ, List, [], ◌∷◌, Option}
 use Rattle.cv_pool.specs.KindTree.{KindTree}
 use Rattle.cv_pool.specs.declared.node.NodeId.{NodeId}
-use Rattle.cv_syntax.specs.Tree.{Tree, tree_at}
+use Rattle.cv_syntax_trees.specs.Tree.{Tree}
+use Rattle.cv_syntax.specs.PoolTrees.{tree_at}
 use Rattle.cv_print_tables.specs.declared.items.Items.{Items}
 use Rattle.cv_print_tables.specs.declared.items.Items.TheVariants.{Chain, Single}
 use Rattle.cv_print_tables.specs.Prints.{chain_items, single_items}

@@ -125,7 +125,7 @@ fn piece_belongs(rows: &[&[Piece]], bound: usize, piece: Piece, head: Head) -> b
         Piece::Number => is_number(head),
         Piece::Phrase(phrase) => is_outer(phrase, head),
         Piece::Deeper(_) | Piece::Chain(_) => true,
-        Piece::Over(over, _) => over.kind() == head.kind(),
+        Piece::Over(over, _) => over.code() == head.code(),
         Piece::May(_, r) | Piece::Many(_, r) | Piece::Level(r) => {
             row_belongs(rows, bound, r as usize, head)
         }

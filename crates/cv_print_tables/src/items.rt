@@ -1,6 +1,7 @@
 ghost use Rattle.std.specs.Prelude.{◌≡◌, ◌<◌, ◌∷◌, [], IfSome, IfNone, Some, length};
 ghost use Rattle.cv_pool.specs.Nodes.{ChildBelow};
-ghost use Rattle.cv_syntax.specs.Tree.{tree_at, first, second};
+ghost use Rattle.cv_syntax_trees.specs.Tree.{first, second};
+ghost use Rattle.cv_syntax.specs.PoolTrees.{tree_at};
 ghost use Rattle.cv_print_tables.specs.Items.{listed, items_at};
 ghost use Rattle.cv_print_tables.specs.Prints.{first_head, node_items};
 

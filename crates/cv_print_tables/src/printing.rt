@@ -1,7 +1,7 @@
 // The text of rows.
 ghost use Rattle.std.specs.Prelude.{◌≡◌, ◌∷◌, [], true, ◌++◌, ◌≤◌, OnOk, IfOk, length, ℕ};
 ghost use Rattle.cv_pool.specs.Nodes.{ChildBelow};
-ghost use Rattle.cv_syntax.specs.Tree.{tree_at};
+ghost use Rattle.cv_syntax.specs.PoolTrees.{tree_at};
 ghost use Rattle.cv_parse_tables.specs.Table.{rows_of};
 ghost use Rattle.cv_print_tables.specs.Items.{listed, items_at};
 ghost use Rattle.cv_print_tables.specs.Layout.{layout, many, piece_layout, row_layout, takes_one};

@@ -2,9 +2,9 @@
 use Rattle.std.proofs.Common.{◌≡◌, ℕ, zero, suc, ◌≤◌, Bool, true, List, [], ◌∷◌, ◌++◌, refl, ap, sym, ◌∙◌}
 use Rattle.std.proofs.lemmas.Bool.{both_ways}
 use Rattle.std.proofs.lemmas.List.{append-nil, append_assoc}
-use Rattle.cv_syntax.specs.declared.head.Head.{Head}
-use Rattle.cv_syntax.specs.declared.head.Head.TheVariants.{Leaf, Read, Apply, Eq, And, Or, Not, Yes, No, Stop, Yield, Par, Repl, In, Out, Event, New, Let, If, Find, Branch, Cons}
-use Rattle.cv_syntax.specs.Tree.{Tree, Empty, Node, chain, lone}
+use Rattle.cv_syntax_trees.specs.declared.head.Head.{Head}
+use Rattle.cv_syntax_trees.specs.declared.head.Head.TheVariants.{Leaf, Read, Apply, Eq, And, Or, Not, Yes, No, Stop, Yield, Par, Repl, In, Out, Event, New, Let, If, Find, Branch, Cons}
+use Rattle.cv_syntax_trees.specs.Tree.{Tree, Empty, Node, chain, lone}
 use Rattle.cv_parse_notation.specs.declared.sign.Mark.TheVariants as mark
 use Rattle.cv_parse_notation.specs.declared.sign.Sign.TheVariants as token
 use Rattle.cv_parse_notation.specs.Form.{many, deeper, ◌▸◌}

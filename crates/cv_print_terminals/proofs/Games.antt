@@ -1,9 +1,9 @@
 -- Games are spelled by their signs.
 use Rattle.std.proofs.Common.{ℕ, zero, suc, ◌≤◌, max, refl, sym, subst}
 use Rattle.std.proofs.lemmas.Bool.{both_ways}
-use Rattle.cv_syntax.specs.declared.head.Head.{Head}
-use Rattle.cv_syntax.specs.declared.head.Head.TheVariants.{Stop, Yield, Par, Repl, In, Out, Event, New, Let, If, Find, Branch, Cons}
-use Rattle.cv_syntax.specs.Tree.{Tree, Empty, Node}
+use Rattle.cv_syntax_trees.specs.declared.head.Head.{Head}
+use Rattle.cv_syntax_trees.specs.declared.head.Head.TheVariants.{Stop, Yield, Par, Repl, In, Out, Event, New, Let, If, Find, Branch, Cons}
+use Rattle.cv_syntax_trees.specs.Tree.{Tree, Empty, Node}
 use Rattle.cv_scope_rules.specs.Phrases.{Nil, Inputs, Body, Then, Else, Branches, Arm, Guards, Guarded, Pattern, Message, Indices, Binders, Cells, Terms, Term, is_phrase}
 use Rattle.cv_print_terminals.specs.Levels.{branch_levels, branches_levels, levels_of, term_levels, terms_levels}
 use Rattle.cv_print_terminals.specs.Written.{IsWritten}

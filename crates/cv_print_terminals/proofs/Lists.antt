@@ -1,9 +1,9 @@
 -- Lists of names, of binders and of cells are spelled by their signs.
 use Rattle.std.proofs.Common.{◌≡◌, ℕ, zero, suc, ◌≤◌, Bool, true, false, List, [], ◌∷◌, ◌++◌, refl, ap, sym, subst, ◌∙◌}
 use Rattle.std.proofs.lemmas.Bool.{both_ways}
-use Rattle.cv_syntax.specs.declared.head.Head.{Head}
-use Rattle.cv_syntax.specs.declared.head.Head.TheVariants.{Binder, Cons, Leaf, Name, Read}
-use Rattle.cv_syntax.specs.Tree.{Tree, Empty, Node, binders, chain, names}
+use Rattle.cv_syntax_trees.specs.declared.head.Head.{Head}
+use Rattle.cv_syntax_trees.specs.declared.head.Head.TheVariants.{Binder, Cons, Leaf, Name, Read}
+use Rattle.cv_syntax_trees.specs.Tree.{Tree, Empty, Node, binders, chain, names}
 use Rattle.cv_parse_notation.specs.declared.sign.Mark.TheVariants as mark
 use Rattle.cv_parse_notation.specs.Form.{made, many, deeper, ◌&◌, ◌▸◌}
 use Rattle.cv_parse_notation.specs.Form as form

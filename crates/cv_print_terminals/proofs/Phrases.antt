@@ -1,8 +1,8 @@
 -- What the parts of a written phrase are.
 use Rattle.std.proofs.Common.{◌≡◌, ℕ, zero, suc, ◌≤◌, max, true, false, ◌&&◌, Some, refl, ap, sym, ◌∙◌, arith}
 use Rattle.std.proofs.lemmas.Bool.{and_parts, both_ways}
-use Rattle.cv_syntax.specs.declared.head.Head.{Head}
-use Rattle.cv_syntax.specs.Tree.{Tree, Empty, Node}
+use Rattle.cv_syntax_trees.specs.declared.head.Head.{Head}
+use Rattle.cv_syntax_trees.specs.Tree.{Tree, Empty, Node}
 use Rattle.cv_scope_rules.specs.Phrases.{Phrase, Nil, parts, both_are, is_phrase}
 use Rattle.cv_print_terminals.specs.Levels.{beside}
 use Rattle.cv_print_terminals.specs.Written.{IsWritten, head_is_written, is_written}

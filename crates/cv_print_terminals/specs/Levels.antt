@@ -1,7 +1,7 @@
 -- How deep brackets and syntax nodes stand in a text, less one. This profile's own.
 use Rattle.std.specs.Prelude.{ℕ, suc, max}
-use Rattle.cv_syntax.specs.Tree.{Tree, Empty, Node, second}
-use Rattle.cv_syntax.specs.declared.head.Head.TheVariants.{Par, Repl, In, Out, Event, New, Let, If, Find, Read, Apply, Eq, And, Or, Not}
+use Rattle.cv_syntax_trees.specs.Tree.{Tree, Empty, Node, second}
+use Rattle.cv_syntax_trees.specs.declared.head.Head.TheVariants.{Par, Repl, In, Out, Event, New, Let, If, Find, Read, Apply, Eq, And, Or, Not}
 
 -- two sides in parentheses, where the other one stands behind a symbol
 abbrev pub beside : ℕ → ℕ → ℕ

@@ -1,7 +1,7 @@
 -- A small game, the signs of its text, and what is told about its names. This profile's own.
 use Rattle.std.specs.Prelude.{ℕ, List, [], ◌∷◌, ◌++◌}
-use Rattle.cv_syntax.specs.Tree.{Tree, Empty, Node, binders, chain, lone, names}
-use Rattle.cv_syntax.specs.declared.head.Head.TheVariants.{Stop, Yield, Repl, In, Out, Event, If, Find, Branch, Leaf, Read, Eq, Cons}
+use Rattle.cv_syntax_trees.specs.Tree.{Tree, Empty, Node, binders, chain, lone, names}
+use Rattle.cv_syntax_trees.specs.declared.head.Head.TheVariants.{Stop, Yield, Repl, In, Out, Event, If, Find, Branch, Leaf, Read, Eq, Cons}
 use Rattle.cv_parse_notation.specs.declared.script.ScriptWord.TheVariants.{Plain}
 use Rattle.cv_parse_notation.specs.declared.sign.Mark.TheVariants as mark
 use Rattle.cv_parse_notation.specs.declared.sign.Sign.{Sign}

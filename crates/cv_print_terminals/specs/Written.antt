@@ -1,8 +1,8 @@
 -- Which games are read back from their text: what the grammar has no words for is left out. This profile's own.
 use Rattle.std.specs.Prelude.{◌≡◌, ℕ, zero, suc, Bool, true, false, ◌&&◌, ◌||◌}
-use Rattle.cv_syntax.specs.Tree.{Tree, Empty, Node}
-use Rattle.cv_syntax.specs.declared.head.Head.{Head}
-use Rattle.cv_syntax.specs.declared.head.Head.TheVariants.{Repl, In, Out, Event, New, Let, Find, Branch, Leaf, Read, Apply, Binder, Name}
+use Rattle.cv_syntax_trees.specs.Tree.{Tree, Empty, Node}
+use Rattle.cv_syntax_trees.specs.declared.head.Head.{Head}
+use Rattle.cv_syntax_trees.specs.declared.head.Head.TheVariants.{Repl, In, Out, Event, New, Let, Find, Branch, Leaf, Read, Apply, Binder, Name}
 use Rattle.cv_parse_notation.specs.declared.sign.Mark.TheVariants as mark
 use Rattle.cv_parse_notation.specs.Spells.{Kind, is_mark}
 use Rattle.cv_scope_rules.specs.Phrases.{Phrase, is_phrase}

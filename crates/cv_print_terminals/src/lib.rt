@@ -2,7 +2,7 @@
 #![tactic(auto)]
 
 ghost use Rattle.std.specs.Prelude.{◌≡◌, ◌≤◌, ℕ, suc, List, [], ◌++◌, false, length, Err};
-ghost use Rattle.cv_syntax.specs.Tree.{Tree};
+ghost use Rattle.cv_syntax_trees.specs.Tree.{Tree};
 ghost use Rattle.cv_parse_notation.specs.Reads.{Nesting, found, read_sort};
 ghost use Rattle.cv_parse_notation.specs.Spells.{IsSort, next_is};
 ghost use Rattle.cv_parse_notation.specs.Whole.{SpellsWith};

@@ -11,7 +11,7 @@ use Rattle.cv_syntax.specs.declared.decls.Decl.TheVariants as decl
 use Rattle.cv_syntax.specs.Classes.{query_of}
 use Rattle.cv_syntax.specs.Declarations.{declarations}
 use Rattle.cv_directory.specs.Live.{IsLive}
-use Rattle.cv_syntax.specs.Tree.{Tree}
+use Rattle.cv_syntax_trees.specs.Tree.{Tree}
 use Rattle.cv_scenes.specs.Sights.{from_one}
 use Rattle.cv_meaning.specs.Queries.{queries_in}
 use Rattle.cv_query_form.proofs.Parts.{queries-past, queries-skip, queries-take}

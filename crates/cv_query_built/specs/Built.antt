@@ -4,7 +4,8 @@ use Rattle.std.specs.Prelude.{ℕ, Bool, false, not, List, Option, Some, None}
 use Rattle.std.specs.List.{list_any}
 use Rattle.cv_pool.specs.declared.node.NodeId.{NodeId}
 use Rattle.cv_pool.specs.KindTree.{KindTree}
-use Rattle.cv_syntax.specs.Tree.{Tree, tree_at}
+use Rattle.cv_syntax_trees.specs.Tree.{Tree}
+use Rattle.cv_syntax.specs.PoolTrees.{tree_at}
 use Rattle.cv_query_certificates.specs.Accepted.{is_built}
 use Rattle.cv_scenes.specs.Sights.{from_one}
 use Rattle.cv_script.specs.Views.{StepItems, items_of_step}

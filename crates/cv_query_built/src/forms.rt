@@ -1,6 +1,7 @@
 ghost use Rattle.std.specs.Prelude.{◌≡◌, ◌<◌, Some, length};
 ghost use Rattle.cv_pool.specs.Nodes.{ChildBelow};
-ghost use Rattle.cv_syntax.specs.Tree.{first, second, tree_at};
+ghost use Rattle.cv_syntax_trees.specs.Tree.{first, second};
+ghost use Rattle.cv_syntax.specs.PoolTrees.{tree_at};
 ghost use Rattle.cv_meaning.specs.Correspondences.{is_once};
 ghost use Rattle.cv_query_certificates.specs.Accepted as accepted;
 

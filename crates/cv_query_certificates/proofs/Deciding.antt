@@ -4,8 +4,8 @@ use Rattle.std.specs.Prelude.{not, is_some}
 use Rattle.std.proofs.lemmas.Bool.{both_ways, and_parts, and_from}
 use Rattle.std.specs.List.{AllByRecursion, list_all}
 use Rattle.cv_lists.specs.Options.{first_of}
-use Rattle.cv_syntax.specs.declared.head.Head.TheVariants.{EventsCertificate}
-use Rattle.cv_syntax.specs.Tree.{Tree, Empty, Node}
+use Rattle.cv_syntax_trees.specs.declared.head.Head.TheVariants.{EventsCertificate}
+use Rattle.cv_syntax_trees.specs.Tree.{Tree, Empty, Node}
 use Rattle.cv_meaning.specs.Correspondences.{Correspondence, correspondence_of}
 use Rattle.cv_scenes.specs.Derivations.{first_bad_line, unless}
 use Rattle.cv_scenes.specs.Scenes.{Scene}

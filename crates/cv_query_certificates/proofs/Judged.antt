@@ -2,11 +2,11 @@
 use Rattle.std.proofs.Common.{◌≡◌, refl}
 use Rattle.std.specs.List.{AllByRecursion}
 use Rattle.cv_first_fault.specs.Walk.{first_fault}
-use Rattle.cv_syntax.specs.Tree.{reads_only, size, subtree, same_tree}
-use Rattle.cv_directory.specs.Sites.{bound_sort, first_index, first_site}
-use Rattle.cv_typing.specs.Signature.{names_in}
-use Rattle.cv_directory.specs.Counting as counting
-use Rattle.cv_typing.specs.Typing.{binders_differ}
+use Rattle.cv_syntax_trees.specs.Tree.{reads_only, size, subtree, same_tree}
+use Rattle.cv_directory_sorts.specs.Sites.{bound_sort, first_index, first_site}
+use Rattle.cv_typing_rules.specs.Signature.{names_in}
+use Rattle.cv_directory_sorts.specs.Counting as counting
+use Rattle.cv_typing_rules.specs.Typing.{binders_differ}
 use Rattle.cv_scope_rules.specs.Context.{context_at}
 use Rattle.cv_scope_rules.specs.Made.{is_bound}
 use Rattle.cv_scope_rules.specs.Phrases.{is_phrase}

@@ -3,8 +3,8 @@
 -- that is assigned. Blanchet, CSF 2007, for correspondences; certificates are this profile's own.
 use Rattle.std.specs.Prelude.{◌≡◌, ℕ, Bool, true, false, ◌&&◌, ◌||◌, not, List, [], ◌∷◌}
 use Rattle.std.specs.List.{AllByRecursion}
-use Rattle.cv_syntax.specs.declared.head.Head.TheVariants.{DistinctPart, EventsCertificate, Query}
-use Rattle.cv_syntax.specs.Tree.{Tree, Empty, Node}
+use Rattle.cv_syntax_trees.specs.declared.head.Head.TheVariants.{DistinctPart, EventsCertificate, Query}
+use Rattle.cv_syntax_trees.specs.Tree.{Tree, Empty, Node}
 use Rattle.cv_meaning.specs.Correspondences.{Correspondence, correspondence_of}
 use Rattle.cv_scenes.specs.Derivations.{Derives}
 use Rattle.cv_scenes.specs.Scenes.{Scene}

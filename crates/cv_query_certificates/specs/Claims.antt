@@ -1,8 +1,8 @@
 -- What the derivations of a certificate are to end with: each with its targets, in the order of its text. Blanchet, CSF 2007, for
 -- correspondences; the form of certificates is this profile's own.
 use Rattle.std.specs.Prelude.{ℕ, List, [], ◌∷◌, ◌++◌, map, Option, None, Some}
-use Rattle.cv_syntax.specs.declared.head.Head.TheVariants.{AboveRoute, AtEntry, CellRoute, Cons, Defined, Eq, HoldsRoute, Line, NeverEntry, WithEntry}
-use Rattle.cv_syntax.specs.Tree.{Tree, Empty, Node}
+use Rattle.cv_syntax_trees.specs.declared.head.Head.TheVariants.{AboveRoute, AtEntry, CellRoute, Cons, Defined, Eq, HoldsRoute, Line, NeverEntry, WithEntry}
+use Rattle.cv_syntax_trees.specs.Tree.{Tree, Empty, Node}
 use Rattle.cv_meaning.specs.Correspondences.{Atom, Correspondence, RightEvent, RightTerm}
 use Rattle.cv_scope_rules.specs.Context.{Context}
 use Rattle.cv_derivations.specs.Given.{with_given}

@@ -1,8 +1,8 @@
 -- Event nodes of a game: their places, their arguments, and what stands behind them. This profile's own.
 use Rattle.std.specs.Prelude.{ℕ, ◌+◌, Bool, true, false, ◌&&◌, not, ◌==◌, nat_lt, if◌then◌else◌, List, [], ◌∷◌, ◌++◌, Option, None, Some, option_and_then}
-use Rattle.cv_syntax.specs.declared.head.Head.{Head}
-use Rattle.cv_syntax.specs.declared.head.Head.TheVariants.{Event, Number}
-use Rattle.cv_syntax.specs.Tree.{Tree, Empty, Node, first, first_place, second_place, size}
+use Rattle.cv_syntax_trees.specs.declared.head.Head.{Head}
+use Rattle.cv_syntax_trees.specs.declared.head.Head.TheVariants.{Event, Number}
+use Rattle.cv_syntax_trees.specs.Tree.{Tree, Empty, Node, first, first_place, second_place, size}
 use Rattle.cv_scope_rules.specs.Behind.{sites_of}
 use Rattle.cv_scope_rules.specs.Context.{Context}
 use Rattle.cv_scenes.specs.Scenes.{part_at}

@@ -3,8 +3,8 @@
 use Rattle.std.specs.Prelude.{ℕ, Bool, not, List, [], ◌∷◌, Option, None, Some, is_some, option_map}
 use Rattle.std.specs.List.{list_all}
 use Rattle.cv_lists.specs.Options.{first_of}
-use Rattle.cv_syntax.specs.declared.head.Head.TheVariants.{AtEntry, EventsCertificate}
-use Rattle.cv_syntax.specs.Tree.{Tree, Empty, Node, first}
+use Rattle.cv_syntax_trees.specs.declared.head.Head.TheVariants.{AtEntry, EventsCertificate}
+use Rattle.cv_syntax_trees.specs.Tree.{Tree, Empty, Node, first}
 use Rattle.cv_meaning.specs.Correspondences.{Correspondence, correspondence_of}
 use Rattle.cv_derivations.specs.Ends.{ends_with}
 use Rattle.cv_scenes.specs.Derivations.{first_bad_line, unless}

@@ -1,12 +1,12 @@
 -- Certificates with the first condition of each that fails. Names are numbers: 0 is `bool`, 5 a type, 2 a parameter; 1, 7 and 14 are
 -- indices; 3, 6, 8 and 15 are channels, 11 and 12 events, 4, 9 and 10 variables, and 21 and 22 variables of a query.
 use Rattle.std.specs.Prelude.{ℕ, true, false, nat_lt, List, [], ◌∷◌, Option, Some, None}
-use Rattle.cv_syntax.specs.declared.decls.Class.TheVariants as class
-use Rattle.cv_syntax.specs.declared.head.Head.TheVariants as head
-use Rattle.cv_syntax.specs.declared.head.Head.TheVariants.{AboveRoute, AtEntry, ByAgain, ByBool, ByFact, ByHere, ByRefl, BySite, BySym, ByTrans, CellRoute, Cons, Defined, DistinctPart, Eq, EventsCertificate, HoldsRoute, If, Let, Line, Name, NeverEntry, New, Number, Pair, Par, Repl, SecretCertificate, Stop, WithEntry, Yes, Yield}
-use Rattle.cv_syntax.specs.Builders.{branch, correspondence, event, find, input, leaf, occurs, output, read}
-use Rattle.cv_syntax.specs.Declarations.{Declaration, Named}
-use Rattle.cv_syntax.specs.Tree.{Tree, Empty, Node, chain, lone, names}
+use Rattle.cv_syntax_trees.specs.declared.class.Class.TheVariants as class
+use Rattle.cv_syntax_trees.specs.declared.head.Head.TheVariants as head
+use Rattle.cv_syntax_trees.specs.declared.head.Head.TheVariants.{AboveRoute, AtEntry, ByAgain, ByBool, ByFact, ByHere, ByRefl, BySite, BySym, ByTrans, CellRoute, Cons, Defined, DistinctPart, Eq, EventsCertificate, HoldsRoute, If, Let, Line, Name, NeverEntry, New, Number, Pair, Par, Repl, SecretCertificate, Stop, WithEntry, Yes, Yield}
+use Rattle.cv_syntax_trees.specs.Builders.{branch, correspondence, event, find, input, leaf, occurs, output, read}
+use Rattle.cv_syntax_trees.specs.Declarations.{Declaration, Named}
+use Rattle.cv_syntax_trees.specs.Tree.{Tree, Empty, Node, chain, lone, names}
 use Rattle.cv_scenes.specs.Scenes.{Scene}
 use Rattle.cv_query_certificates.specs.Failures.{Failure}
 

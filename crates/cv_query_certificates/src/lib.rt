@@ -3,7 +3,7 @@
 
 ghost use Rattle.std.specs.Prelude.{◌≡◌, ◌↔◌, ◌∷◌, [], true, false, Some, None};
 ghost use Rattle.std.specs.List.{AllByRecursion};
-ghost use Rattle.cv_syntax.specs.Tree.{Tree};
+ghost use Rattle.cv_syntax_trees.specs.Tree.{Tree};
 ghost use Rattle.cv_scenes.specs.Scenes.{Scene};
 ghost use Rattle.cv_query_certificates.specs.Accepted.{IsAccepted, is_built};
 ghost use Rattle.cv_query_certificates.specs.Failures.{first_failure};

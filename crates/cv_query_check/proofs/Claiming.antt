@@ -5,9 +5,9 @@ use Rattle.std.proofs.lemmas.Bool.{and_parts}
 use Rattle.std.specs.List.{list_all}
 use Rattle.std.proofs.Math.Path.{fun_ext}
 use Rattle.cv_lists.specs.Options.{first_of}
-use Rattle.cv_syntax.specs.declared.head.Head.{Head}
-use Rattle.cv_syntax.specs.declared.head.Head.TheVariants.{AboveRoute, AtEntry, CellRoute, Cons, Defined, Eq, HoldsRoute, Leaf, NeverEntry, WithEntry}
-use Rattle.cv_syntax.specs.Tree.{Tree, Empty, Node, first}
+use Rattle.cv_syntax_trees.specs.declared.head.Head.{Head}
+use Rattle.cv_syntax_trees.specs.declared.head.Head.TheVariants.{AboveRoute, AtEntry, CellRoute, Cons, Defined, Eq, HoldsRoute, Leaf, NeverEntry, WithEntry}
+use Rattle.cv_syntax_trees.specs.Tree.{Tree, Empty, Node, first}
 use Rattle.cv_syntax.proofs.Trees.{tree_of-NoTree}
 use Rattle.cv_meaning.specs.Correspondences.{Atom, Correspondence, RightEvent, RightTerm, atom_of, atoms_of}
 use Rattle.cv_derivations.specs.Ends.{is_end}
@@ -29,7 +29,7 @@ use Rattle.cv_query_entries.specs.Nodes.{rows_above}
 use Rattle.cv_query_entries.specs.Said.{Saying, Never, Nothing, With, Way, Above, ByCell, Holds, NoWay, saying_of, way_of}
 use Rattle.cv_pool.specs.KindTree.{KindTree}
 use Rattle.cv_syntax.proofs.Trees.{tree_at-None}
-use Rattle.cv_syntax.specs.Tree.{tree_at}
+use Rattle.cv_syntax.specs.PoolTrees.{tree_at}
 use Rattle.cv_meaning.specs.Correspondences.{leaf_names}
 use Rattle.cv_lists.proofs.Tests.{and-true}
 use Rattle.cv_derivations.specs.Lines.{count}

@@ -1,6 +1,6 @@
 -- A place that no game has.
 use Rattle.std.proofs.Common.{◌≡◌, ℕ, ◌<◌, ◌^◌, arith, sym, ap}
-use Rattle.cv_syntax.specs.Tree.{Tree, Empty, first, size}
+use Rattle.cv_syntax_trees.specs.Tree.{Tree, Empty, first, size}
 use Rattle.cv_syntax.proofs.Trees.{tree_of-NoTree}
 use Rattle.cv_path.proofs.Bounds.{no_subtree}
 use Rattle.cv_scenes.specs.Scenes.{or_empty}

@@ -1,6 +1,6 @@
 -- What the derivations of a certificate are to end with, by the items of its parts; and what the code answers.
 use Rattle.std.specs.Prelude.{Bool, List, [], ◌∷◌}
-use Rattle.cv_syntax.specs.Tree.{Tree, Empty}
+use Rattle.cv_syntax_trees.specs.Tree.{Tree, Empty}
 use Rattle.cv_meaning.specs.Correspondences.{Atom, RightEvent, RightTerm}
 use Rattle.cv_derivations.specs.Ends.{is_end}
 use Rattle.cv_derivations.specs.Lines.{Statement, Holds as HoldsTerm, IsDefined, lines_of, statements}

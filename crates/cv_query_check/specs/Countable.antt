@@ -1,7 +1,7 @@
 -- Certificates whose derivations have no more lines than can be counted.
 use Rattle.std.specs.Prelude.{◌+◌, ◌<◌, ◌^◌}
-use Rattle.cv_syntax.specs.declared.head.Head.TheVariants.{EventsCertificate}
-use Rattle.cv_syntax.specs.Tree.{Tree, Empty, Node}
+use Rattle.cv_syntax_trees.specs.declared.head.Head.TheVariants.{EventsCertificate}
+use Rattle.cv_syntax_trees.specs.Tree.{Tree, Empty, Node}
 use Rattle.cv_derivations.specs.Lines.{count, lines_of}
 use Rattle.cv_query_entries.specs.Said.{Saying, Never, Nothing, Way, With, Above, ByCell, Holds, NoWay, saying_of, way_of}
 

@@ -1,7 +1,7 @@
 ghost use Rattle.std.specs.Prelude.{◌≡◌, ℕ, List, length};
 ghost use Rattle.cv_pool.specs.KindTree.{KindTree};
 ghost use Rattle.cv_pool.specs.Nodes.{ChildBelow};
-ghost use Rattle.cv_syntax.specs.Tree.{tree_at};
+ghost use Rattle.cv_syntax.specs.PoolTrees.{tree_at};
 ghost use Rattle.cv_query_certificates.specs.EventNodes as certificates;
 ghost use Rattle.cv_query_entries.specs.Said.{IsRouteBelow, atom_seen, way_seen};
 ghost use Rattle.cv_query_entries.specs.Views.{IsReady, game_of, trees_of};

@@ -1,7 +1,7 @@
 ghost use Rattle.std.specs.Prelude.{◌≡◌, ◌∷◌, ℕ, IfOk, None, length, true};
 ghost use Rattle.std.specs.List.{list_all};
 ghost use Rattle.cv_pool.specs.Nodes.{ChildBelow};
-ghost use Rattle.cv_syntax.specs.Tree.{tree_at};
+ghost use Rattle.cv_syntax.specs.PoolTrees.{tree_at};
 ghost use Rattle.cv_meaning.specs.Correspondences.{atoms_of};
 ghost use Rattle.cv_derivations.specs.Ends.{is_end};
 ghost use Rattle.cv_derivations.specs.Lines.{IsDefined, lines_of, statements};

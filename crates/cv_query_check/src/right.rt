@@ -1,7 +1,8 @@
 ghost use Rattle.std.specs.Prelude.{◌≡◌, IfOk, length, not, is_some};
 ghost use Rattle.std.specs.List.{list_all};
 ghost use Rattle.cv_pool.specs.Nodes.{ChildBelow};
-ghost use Rattle.cv_syntax.specs.Tree.{Tree, tree_at};
+ghost use Rattle.cv_syntax_trees.specs.Tree.{Tree};
+ghost use Rattle.cv_syntax.specs.PoolTrees.{tree_at};
 ghost use Rattle.cv_typing.specs.Tables.{above_of};
 ghost use Rattle.cv_meaning.specs.Correspondences.{atoms_of};
 ghost use Rattle.cv_scenes.specs.Derivations.{first_bad_line};
@@ -16,7 +17,7 @@ ghost use Rattle.cv_query_entries.specs.Said.{saying_of};
 
 use crate::claims::derivation_of;
 use cv_derive::{DeriveFault, check};
-use cv_directory::Sort;
+use cv_directory_sorts::Sort;
 use cv_query_entries::{Asked, Entry, View, atom_of, entry_of, route_of};
 use cv_rule_scenes::{indices_at, replications_at};
 use cv_syntax::{Game, NodeId, read_node};

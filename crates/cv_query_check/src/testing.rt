@@ -1,6 +1,6 @@
 ghost use Rattle.std.specs.Prelude.{◌≡◌, IfOk, Some, length, option_map};
 ghost use Rattle.cv_pool.specs.Nodes.{ChildBelow};
-ghost use Rattle.cv_syntax.specs.Tree.{tree_at};
+ghost use Rattle.cv_syntax.specs.PoolTrees.{tree_at};
 ghost use Rattle.cv_query_certificates.specs.EventNodes.{event_places as event_places_of};
 ghost use Rattle.cv_query_certificates.specs.Failures as failures;
 ghost use Rattle.cv_query_certificates.specs.Failures.{certificate_failure, parts_failure};

@@ -5,8 +5,8 @@ use Rattle.std.proofs.lemmas.Bool.{both_ways, and_parts, not-true}
 use Rattle.std.proofs.lemmas.List.Sums.{sum_by-cons}
 use Rattle.std.proofs.lemmas.List.Elements.{All-cons, All-head, All-nil, All-tail, All-weaker}
 use Rattle.std.specs.List.{All, AllByRecursion, count_by}
-use Rattle.cv_syntax.specs.declared.head.Head.TheVariants.{Event, EventsCertificate, Query}
-use Rattle.cv_syntax.specs.Tree.{Tree, Empty, Node, first, subtree}
+use Rattle.cv_syntax_trees.specs.declared.head.Head.TheVariants.{Event, EventsCertificate, Query}
+use Rattle.cv_syntax_trees.specs.Tree.{Tree, Empty, Node, first, subtree}
 use Rattle.cv_meaning.specs.Tapes.{Tape, blank, count}
 use Rattle.cv_meaning.specs.Interpretation.{Interpretation, Setting, setting_of}
 use Rattle.cv_meaning.specs.Memory.{Happened, Local}

@@ -4,11 +4,11 @@ use Rattle.std.specs.Prelude.{Contains}
 use Rattle.std.proofs.lemmas.Bool.{both_ways, and_parts}
 use Rattle.std.proofs.lemmas.List.Elements.{Contains-append_left, Contains-append_right}
 use Rattle.std.specs.List.{AllByRecursion}
-use Rattle.cv_syntax.specs.declared.head.Head.{Head}
-use Rattle.cv_syntax.specs.declared.head.Head.TheVariants.{AboveRoute, And, Apply, AtEntry, Branch, Call, CellRoute, Cons, Eq, HoldsRoute, In, Key, Leaf, Let, NeverEntry, New, No, Not, Or, Read, WithEntry, Yes}
-use Rattle.cv_syntax.specs.Declarations.{Declaration}
-use Rattle.cv_syntax.specs.Head.{weight}
-use Rattle.cv_syntax.specs.Tree.{Tree, Empty, Node, first}
+use Rattle.cv_syntax_trees.specs.declared.head.Head.{Head}
+use Rattle.cv_syntax_trees.specs.declared.head.Head.TheVariants.{AboveRoute, And, Apply, AtEntry, Branch, Call, CellRoute, Cons, Eq, HoldsRoute, In, Key, Leaf, Let, NeverEntry, New, No, Not, Or, Read, WithEntry, Yes}
+use Rattle.cv_syntax_trees.specs.Declarations.{Declaration}
+use Rattle.cv_syntax_trees.specs.Head.{weight}
+use Rattle.cv_syntax_trees.specs.Tree.{Tree, Empty, Node, first}
 use Rattle.cv_meaning.specs.Side.{no_side}
 use Rattle.cv_meaning.specs.Interpretation.{Interpretation, Setting, setting_of}
 use Rattle.cv_meaning.specs.Memory.{Happened, Indices, Local, Store, nowhere, tuple}
@@ -20,10 +20,10 @@ use Rattle.cv_meaning_adequacy.specs.Broken.{AreValues, Holds as IsHeld, IsMet, 
 use Rattle.cv_meaning_adequacy.specs.Typed as meaning
 use Rattle.cv_meaning_adequacy.specs.Typed.{IsTypedStore}
 use Rattle.cv_meaning_adequacy.proofs.Sorted.{typed_value}
-use Rattle.cv_directory.specs.declared.sort.Sort.{Sort}
-use Rattle.cv_directory.specs.declared.sort.Sort.TheVariants.{BelowParameter, OfType}
-use Rattle.cv_typing.specs.Signature.{sort_of}
-use Rattle.cv_directory.specs.Sorts.{same_sort}
+use Rattle.cv_directory_sorts.specs.declared.sort.Sort.{Sort}
+use Rattle.cv_directory_sorts.specs.declared.sort.Sort.TheVariants.{BelowParameter, OfType}
+use Rattle.cv_typing_rules.specs.Signature.{sort_of}
+use Rattle.cv_directory_sorts.specs.Sorts.{same_sort}
 use Rattle.cv_typing_runs.specs.Games.{context_of, sort_of_meaning}
 use Rattle.cv_typing_runs.proofs.Models.{is_model}
 use Rattle.cv_typing_runs.proofs.Terms.{nil_empty}

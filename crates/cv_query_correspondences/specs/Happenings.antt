@@ -1,7 +1,7 @@
 -- The events that the visits of a run execute. Events are those of Blanchet, CSF 2007.
 use Rattle.std.specs.Prelude.{List, [], ◌∷◌, flat_map}
-use Rattle.cv_syntax.specs.declared.head.Head.TheVariants.{Event}
-use Rattle.cv_syntax.specs.Tree.{Tree, Node}
+use Rattle.cv_syntax_trees.specs.declared.head.Head.TheVariants.{Event}
+use Rattle.cv_syntax_trees.specs.Tree.{Tree, Node}
 use Rattle.cv_meaning.specs.Interpretation.{Setting}
 use Rattle.cv_meaning.specs.Memory.{Happened, Local}
 use Rattle.cv_meaning.specs.Serving.{Visit}

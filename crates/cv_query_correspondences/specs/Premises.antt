@@ -1,6 +1,6 @@
 -- What a certificate's soundness takes: a ready game, derivations that hold, a query that names what it may, and a certificate that
 -- is accepted. This profile's own.
-use Rattle.cv_syntax.specs.Tree.{Tree}
+use Rattle.cv_syntax_trees.specs.Tree.{Tree}
 use Rattle.cv_derivations_under.specs.Holding.{IsReady}
 use Rattle.cv_derivations_under.specs.Soundness.{DerivationsHold}
 use Rattle.cv_scenes.specs.Scenes.{Scene}

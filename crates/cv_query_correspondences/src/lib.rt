@@ -3,7 +3,7 @@
 
 ghost use Rattle.std.specs.Prelude.{◌≡◌, false};
 ghost use Rattle.std.specs.List.{All};
-ghost use Rattle.cv_syntax.specs.Tree.{Tree};
+ghost use Rattle.cv_syntax_trees.specs.Tree.{Tree};
 ghost use Rattle.cv_meaning.specs.Tapes.{Tape, blank};
 ghost use Rattle.cv_meaning.specs.Interpretation.{Interpretation, Setting, setting_of};
 ghost use Rattle.cv_meaning.specs.Advantage.{advantage, chance_of};

@@ -4,12 +4,13 @@ use Rattle.std.proofs.lemmas.List.{drop_all, replicate_more}
 use Rattle.std.specs.Prelude.{replicate, flat_map, slice_get}
 use Rattle.cv_pool.specs.declared.node.NodeId.{NodeId}
 use Rattle.cv_pool.specs.KindTree.{KindTree}
-use Rattle.cv_syntax.specs.declared.head.Head.{Head}
-use Rattle.cv_syntax.specs.declared.head.Head.TheVariants.{Cons}
+use Rattle.cv_syntax_trees.specs.declared.head.Head.{Head}
+use Rattle.cv_syntax_trees.specs.declared.head.Head.TheVariants.{Cons}
 use Rattle.cv_syntax.specs.declared.make.Make.{Make}
 use Rattle.cv_syntax.specs.declared.make.Make.TheVariants.{Nothing, Over}
 use Rattle.cv_syntax.specs.Planting.{overs}
-use Rattle.cv_syntax.specs.Tree.{Tree, Empty, Node, chain, tree_at}
+use Rattle.cv_syntax_trees.specs.Tree.{Tree, Empty, Node, chain}
+use Rattle.cv_syntax.specs.PoolTrees.{tree_at}
 use Rattle.cv_syntax.specs.Postorder.{postorder}
 use Rattle.cv_syntax.proofs.Trees.{tree_of-NoTree}
 use Rattle.cv_script.specs.Steps.{reflexive, reflexive_lines, terms_in}

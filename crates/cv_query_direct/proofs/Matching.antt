@@ -1,12 +1,13 @@
 -- Whether a list of terms is an instance, by the heads and the children of its nodes.
 use Rattle.std.proofs.Common.{◌≡◌, ℕ, Bool, true, false, ◌&&◌, not, ◌==◌, cond, ap, ap₂, sym, ◌∙◌, eq-eqb, eqb-true, List, [], ◌∷◌, Option, Some, None, refl}
-use Rattle.cv_syntax.specs.declared.head.Head.{Head}
-use Rattle.cv_syntax.specs.declared.head.Head.TheVariants.{Leaf, Apply, Eq, And, Or, Not, Yes, No}
+use Rattle.cv_syntax_trees.specs.declared.head.Head.{Head}
+use Rattle.cv_syntax_trees.specs.declared.head.Head.TheVariants.{Leaf, Apply, Eq, And, Or, Not, Yes, No}
 use Rattle.cv_syntax.specs.NameSets.{NameSet, is_outside}
 use Rattle.cv_pool.specs.KindTree.{KindTree}
 use Rattle.cv_pool.specs.declared.node.NodeId.{NodeId}
 use Rattle.std.specs.HashSet.{Updates, contains}
-use Rattle.cv_syntax.specs.Tree.{Tree, Empty, Node, tree_at}
+use Rattle.cv_syntax_trees.specs.Tree.{Tree, Empty, Node}
+use Rattle.cv_syntax.specs.PoolTrees.{tree_at}
 use Rattle.cv_syntax.proofs.Trees.{tree_of-NoTree, same_open, empty_at}
 use Rattle.cv_meaning.specs.Correspondences.{leaf_name, leaf_names}
 use Rattle.std.specs.Prelude.{nat_eq}

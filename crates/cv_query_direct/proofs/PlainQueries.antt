@@ -4,11 +4,12 @@ use Rattle.std.specs.HashSet.{UpdatesBy}
 use Rattle.std.proofs.Math.Path.{fun_ext}
 use Rattle.std.proofs.lemmas.Bool.{and_parts, eqb-true}
 use Rattle.cv_lists.proofs.Tests.{equals_comm}
-use Rattle.cv_syntax.specs.declared.head.Head.{Head}
-use Rattle.cv_syntax.specs.declared.head.Head.TheVariants.{Leaf, Read, Binder, Cons, Query}
+use Rattle.cv_syntax_trees.specs.declared.head.Head.{Head}
+use Rattle.cv_syntax_trees.specs.declared.head.Head.TheVariants.{Leaf, Read, Binder, Cons, Query}
 use Rattle.cv_pool.specs.declared.node.NodeId.{NodeId}
 use Rattle.cv_pool.specs.KindTree.{KindTree}
-use Rattle.cv_syntax.specs.Tree.{Tree, Empty, Node, first, head_reads_only, reads_only, tree_at}
+use Rattle.cv_syntax_trees.specs.Tree.{Tree, Empty, Node, first, head_reads_only, reads_only}
+use Rattle.cv_syntax.specs.PoolTrees.{tree_at}
 use Rattle.cv_syntax.specs.NameSets.{NameSet, is_in, is_one_of, is_outside}
 use Rattle.cv_syntax.proofs.Trees.{tree_of-NoTree, reads_open, empty_at}
 use Rattle.cv_meaning.specs.Binders.{bound_names}

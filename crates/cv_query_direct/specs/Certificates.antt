@@ -3,7 +3,7 @@
 use Rattle.std.specs.Prelude.{ℕ, List, map, Option, Some, None, option_map}
 use Rattle.cv_syntax.specs.Planting.{overs}
 use Rattle.cv_syntax.specs.Postorder.{postorder}
-use Rattle.cv_syntax.specs.Tree.{Tree, Empty, chain}
+use Rattle.cv_syntax_trees.specs.Tree.{Tree, Empty, chain}
 use Rattle.cv_query_direct.specs.Plain.{certificate}
 use Rattle.cv_query_direct.specs.Search.{EntryTree, RouteTree}
 use Rattle.cv_script.specs.Steps.{above_route, events_certificate, reflexive_lines, success, with_entry}

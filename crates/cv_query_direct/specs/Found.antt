@@ -1,11 +1,12 @@
 -- What the search keeps, as the trees of a pool.
 use Rattle.std.specs.Prelude.{ℕ, Bool, List, [], ◌∷◌, map, All, Option}
-use Rattle.cv_syntax.specs.declared.head.Head.{Head}
-use Rattle.cv_syntax.specs.declared.head.Head.TheVariants.{Event}
+use Rattle.cv_syntax_trees.specs.declared.head.Head.{Head}
+use Rattle.cv_syntax_trees.specs.declared.head.Head.TheVariants.{Event}
 use Rattle.cv_pool.specs.declared.node.NodeId.{NodeId}
 use Rattle.cv_pool.specs.KindTree.{KindTree}
 use Rattle.cv_pool.specs.Nodes.{ChildBelow}
-use Rattle.cv_syntax.specs.Tree.{Tree, tree_at}
+use Rattle.cv_syntax_trees.specs.Tree.{Tree}
+use Rattle.cv_syntax.specs.PoolTrees.{tree_at}
 use Rattle.cv_syntax.specs.NameSets.{NameSet, is_outside}
 use Rattle.cv_meaning.specs.Correspondences.{atoms_of, leaf_names}
 use Rattle.cv_meaning.specs.Direct.{is_substituted, is_instance}

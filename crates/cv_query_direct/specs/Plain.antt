@@ -1,7 +1,7 @@
 -- Which queries are met by the shape of a game, and their certificates.
 use Rattle.std.specs.Prelude.{ℕ, Bool, true, false, ◌&&◌, if◌then◌else◌, List, [], ◌∷◌, Option, None}
-use Rattle.cv_syntax.specs.declared.head.Head.TheVariants.{Cons, Occurs, Query}
-use Rattle.cv_syntax.specs.Tree.{Tree, Empty, Node, first}
+use Rattle.cv_syntax_trees.specs.declared.head.Head.TheVariants.{Cons, Occurs, Query}
+use Rattle.cv_syntax_trees.specs.Tree.{Tree, Empty, Node, first}
 use Rattle.cv_meaning.specs.Correspondences.{correspondence_of, leaf_names, on_the_right_alone}
 use Rattle.cv_meaning.specs.Direct.{is_unbound, plainly_covered}
 use Rattle.cv_query_direct.specs.Search.{EntryTree, entries_of, wanted_of}

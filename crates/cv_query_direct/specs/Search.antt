@@ -1,8 +1,8 @@
 -- The routes by which right events stand above left ones.
 use Rattle.std.specs.Prelude.{ℕ, ◌==◌, Bool, if◌then◌else◌, List, [], ◌∷◌, ◌++◌, Option, Some, None, option_map}
-use Rattle.cv_syntax.specs.declared.head.Head.{Head}
-use Rattle.cv_syntax.specs.declared.head.Head.TheVariants.{Event}
-use Rattle.cv_syntax.specs.Tree.{Tree, Empty, Node, first_place, second_place}
+use Rattle.cv_syntax_trees.specs.declared.head.Head.{Head}
+use Rattle.cv_syntax_trees.specs.declared.head.Head.TheVariants.{Event}
+use Rattle.cv_syntax_trees.specs.Tree.{Tree, Empty, Node, first_place, second_place}
 use Rattle.cv_meaning.specs.Correspondences.{Correspondence, Atom, RightEvent, RightTerm}
 use Rattle.cv_meaning.specs.Direct.{Noted, is_noted, is_unbound}
 

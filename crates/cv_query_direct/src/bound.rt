@@ -1,7 +1,7 @@
 // The names that a game binds.
 ghost use Rattle.std.specs.Prelude.{◌≡◌, ℕ, ◌&&◌, IfOk, length, not};
 ghost use Rattle.cv_pool.specs.Nodes.{ChildBelow};
-ghost use Rattle.cv_syntax.specs.Tree.{tree_at};
+ghost use Rattle.cv_syntax.specs.PoolTrees.{tree_at};
 ghost use Rattle.cv_syntax.specs.NameSets.{is_outside};
 ghost use Rattle.cv_meaning.specs.Direct.{head_names, is_unbound};
 ghost use Rattle.cv_query_direct.specs.Variables.{is_there};

@@ -1,6 +1,6 @@
 ghost use Rattle.std.specs.Prelude.{◌≡◌, ◌&&◌, length};
 ghost use Rattle.cv_pool.specs.Nodes.{ChildBelow};
-ghost use Rattle.cv_syntax.specs.Tree.{tree_at};
+ghost use Rattle.cv_syntax.specs.PoolTrees.{tree_at};
 ghost use Rattle.cv_syntax.specs.NameSets.{is_outside};
 ghost use Rattle.cv_meaning.specs.Correspondences as names;
 ghost use Rattle.cv_meaning.specs.Correspondences.{leaf_names};

@@ -2,9 +2,9 @@
 #![tactic(auto)]
 
 ghost use Rattle.std.specs.Prelude.{◌≡◌, true, List};
-ghost use Rattle.cv_syntax.specs.declared.head.Head.TheVariants.{Cons, Query};
-ghost use Rattle.cv_syntax.specs.Declarations.{Declaration};
-ghost use Rattle.cv_syntax.specs.Tree.{Node, Tree};
+ghost use Rattle.cv_syntax_trees.specs.declared.head.Head.TheVariants.{Cons, Query};
+ghost use Rattle.cv_syntax_trees.specs.Declarations.{Declaration};
+ghost use Rattle.cv_syntax_trees.specs.Tree.{Node, Tree};
 ghost use Rattle.cv_meaning.specs.Advantage.{advantage};
 ghost use Rattle.cv_meaning.specs.Chances.{AtMost, zero_chance};
 ghost use Rattle.cv_meaning.specs.Correspondences.{correspondence_of};

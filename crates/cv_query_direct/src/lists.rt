@@ -1,8 +1,8 @@
 ghost use Rattle.std.specs.Prelude.{◌≡◌, ◌++◌, ◌∷◌, OnOk, replicate};
-ghost use Rattle.cv_syntax.specs.declared.head.Head.TheVariants.{Cons, Number};
+ghost use Rattle.cv_syntax_trees.specs.declared.head.Head.TheVariants.{Cons, Number};
 ghost use Rattle.cv_syntax.specs.declared.make.Make.TheVariants.{Nothing, Over};
 ghost use Rattle.cv_syntax.specs.Postorder.{postorder};
-ghost use Rattle.cv_syntax.specs.Tree.{lone};
+ghost use Rattle.cv_syntax_trees.specs.Tree.{lone};
 
 use cv_syntax::{Head, Make};
 use std::alloc::AllocError;

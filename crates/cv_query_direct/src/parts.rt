@@ -1,7 +1,8 @@
 ghost use Rattle.std.specs.Prelude.{◌≡◌, ◌+◌, ◌^◌, ◌<◌, ◌++◌, OnOk, All, length, map, flat_map};
 ghost use Rattle.cv_pool.specs.Nodes.{ChildBelow};
 ghost use Rattle.cv_syntax.specs.Postorder.{postorder};
-ghost use Rattle.cv_syntax.specs.Tree.{chain, tree_at};
+ghost use Rattle.cv_syntax_trees.specs.Tree.{chain};
+ghost use Rattle.cv_syntax.specs.PoolTrees.{tree_at};
 ghost use Rattle.cv_query_direct.specs.Found.{RouteBelow, RoutesBelow, entry_tree, entry_trees, route_tree};
 ghost use Rattle.cv_script.specs.Steps.{number, reflexive, reflexive_lines};
 ghost use Rattle.cv_query_direct.specs.Certificates.{entry_of, route_of, step_of};

@@ -1,6 +1,7 @@
 ghost use Rattle.std.specs.Prelude.{◌≡◌, ◌<◌, ◌&&◌, IfOk, Some, length};
 ghost use Rattle.cv_pool.specs.Nodes.{ChildBelow};
-ghost use Rattle.cv_syntax.specs.Tree.{head_reads_only, reads_only, tree_at};
+ghost use Rattle.cv_syntax_trees.specs.Tree.{head_reads_only, reads_only};
+ghost use Rattle.cv_syntax.specs.PoolTrees.{tree_at};
 ghost use Rattle.cv_syntax.specs.NameSets.{is_in, is_one_of, is_outside};
 ghost use Rattle.cv_query_direct.specs.Plain as plain;
 ghost use Rattle.cv_query_direct.specs.Variables as variables;

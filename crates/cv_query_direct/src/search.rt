@@ -1,6 +1,7 @@
 ghost use Rattle.std.specs.Prelude.{◌≡◌, ◌+◌, ◌<◌, ◌^◌, ◌++◌, [], true, All, IfOk, IfSome, OnOk, if◌then◌else◌, is_some, length, map, option_map, None, Some};
 ghost use Rattle.cv_pool.specs.Nodes.{ChildBelow};
-ghost use Rattle.cv_syntax.specs.Tree.{size, tree_at};
+ghost use Rattle.cv_syntax_trees.specs.Tree.{size};
+ghost use Rattle.cv_syntax.specs.PoolTrees.{tree_at};
 ghost use Rattle.cv_syntax.specs.NameSets.{is_outside};
 ghost use Rattle.cv_meaning.specs.Correspondences.{atom_of, atoms_of, correspondence_of, leaf_names};
 ghost use Rattle.cv_query_direct.specs.Plain.{certificate, is_plainly_direct};

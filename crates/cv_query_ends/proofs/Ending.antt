@@ -2,11 +2,11 @@
 use Rattle.std.proofs.Common.{◌≡◌, ℕ, zero, suc, ◌-◌, ◌<◌, ◌≤◌, Bool, true, false, ◌&&◌, not, List, [], ◌∷◌, length, drop, Option, None, Some, refl, sym, ap, ap₂, ◌∙◌, arith, lt-ltb, le-ltb}
 use Rattle.std.proofs.lemmas.List.{length-drop}
 use Rattle.cv_lists.proofs.Tests.{and-true}
-use Rattle.cv_syntax.specs.declared.head.Head.{Head}
-use Rattle.cv_syntax.specs.declared.head.Head.TheVariants.{Eq}
-use Rattle.cv_syntax.specs.Tree.{Tree, Empty, Node, same_tree}
+use Rattle.cv_syntax_trees.specs.declared.head.Head.{Head}
+use Rattle.cv_syntax_trees.specs.declared.head.Head.TheVariants.{Eq}
+use Rattle.cv_syntax_trees.specs.Tree.{Tree, Empty, Node, same_tree}
 use Rattle.cv_derivations.specs.Ends.{is_end, same_statement, same_statements}
-use Rattle.cv_syntax.specs.Children.{is_empty}
+use Rattle.cv_syntax_trees.specs.Children.{is_empty}
 use Rattle.cv_derivations.specs.Lines.{Statement, Holds, IsDefined, lines_of, statements}
 use Rattle.cv_derive_inferences.specs.Sides.{sides_of}
 use Rattle.cv_derive_inferences.proofs.Forms.{over-form, tested}

@@ -1,7 +1,7 @@
 -- What a derivation is to end with, said by terms alone.
 use Rattle.std.specs.Prelude.{Bool, false, List, [], ◌∷◌, Option, Some, None}
-use Rattle.cv_syntax.specs.declared.head.Head.TheVariants.{Eq}
-use Rattle.cv_syntax.specs.Tree.{Tree, Node, same_tree}
+use Rattle.cv_syntax_trees.specs.declared.head.Head.TheVariants.{Eq}
+use Rattle.cv_syntax_trees.specs.Tree.{Tree, Node, same_tree}
 use Rattle.cv_derivations.specs.Lines.{Statement, Holds}
 
 -- the terms of two lists are equal, one by one

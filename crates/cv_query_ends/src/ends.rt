@@ -1,7 +1,8 @@
 ghost use Rattle.std.specs.Prelude.{◌≡◌, ◌<◌, ◌≤◌, ◌∷◌, [], IfSome, IsNone, drop, length};
 ghost use Rattle.cv_pool.specs.Nodes.{ChildBelow};
-ghost use Rattle.cv_syntax.specs.declared.head.Head.TheVariants.{Eq};
-ghost use Rattle.cv_syntax.specs.Tree.{Node, tree_at};
+ghost use Rattle.cv_syntax_trees.specs.declared.head.Head.TheVariants.{Eq};
+ghost use Rattle.cv_syntax_trees.specs.Tree.{Node};
+ghost use Rattle.cv_syntax.specs.PoolTrees.{tree_at};
 ghost use Rattle.cv_derivations.specs.Ends.{is_end, same_statement, same_statements};
 ghost use Rattle.cv_derivations.specs.Lines.{Holds, IsDefined, lines_of, statements};
 ghost use Rattle.cv_derivations.specs.Truths.{no};

@@ -1,6 +1,7 @@
 ghost use Rattle.std.specs.Prelude.{◌≡◌, ◌-◌, ◌<◌, ◌≤◌, ◌∷◌, ℕ, [], IfSome, drop, length};
 ghost use Rattle.cv_pool.specs.Nodes.{ChildBelow};
-ghost use Rattle.cv_syntax.specs.Tree.{Tree, tree_at};
+ghost use Rattle.cv_syntax_trees.specs.Tree.{Tree};
+ghost use Rattle.cv_syntax.specs.PoolTrees.{tree_at};
 ghost use Rattle.cv_derivations.specs.Ends.{is_end};
 ghost use Rattle.cv_derivations.specs.Lines.{Holds, lines_of, statements};
 ghost use Rattle.cv_query_terms.specs.Parts.{found_tree};

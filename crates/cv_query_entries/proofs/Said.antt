@@ -1,7 +1,7 @@
 -- The parts of a certificate, node by node.
 use Rattle.std.proofs.Common.{◌≡◌, ℕ, refl}
-use Rattle.cv_syntax.specs.declared.head.Head.TheVariants.{AboveRoute, AtEntry, CellRoute, HoldsRoute, NeverEntry, WithEntry}
-use Rattle.cv_syntax.specs.Tree.{Tree, Empty, Node}
+use Rattle.cv_syntax_trees.specs.declared.head.Head.TheVariants.{AboveRoute, AtEntry, CellRoute, HoldsRoute, NeverEntry, WithEntry}
+use Rattle.cv_syntax_trees.specs.Tree.{Tree, Empty, Node}
 use Rattle.cv_syntax.proofs.Trees.{tree_of-NoTree}
 use Rattle.cv_meaning.specs.Correspondences.{Atom, Correspondence, RightEvent, RightTerm}
 use Rattle.cv_scenes.specs.Scenes.{Scene}

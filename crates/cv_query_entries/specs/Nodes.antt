@@ -1,6 +1,6 @@
 -- The only definition of a variable, and the places of an event's nodes, as the code has them.
 use Rattle.std.specs.Prelude.{ℕ, if◌then◌else◌, List, [], ◌∷◌, Option, Some, None}
-use Rattle.cv_syntax.specs.declared.head.Head.{Head}
+use Rattle.cv_syntax_trees.specs.declared.head.Head.{Head}
 use Rattle.cv_scope_rules.specs.Context.{Context}
 use Rattle.cv_query_certificates.specs.EventNodes.{is_event_head}
 

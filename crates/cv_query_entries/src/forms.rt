@@ -1,7 +1,7 @@
 ghost use Rattle.std.specs.Prelude.{◌≡◌, IfOk, length};
 ghost use Rattle.cv_pool.specs.Nodes.{ChildBelow};
-ghost use Rattle.cv_syntax.specs.Tree.{tree_at};
-ghost use Rattle.cv_directory.specs.declared.sort.Sort.TheVariants.{OfType};
+ghost use Rattle.cv_syntax.specs.PoolTrees.{tree_at};
+ghost use Rattle.cv_directory_sorts.specs.declared.sort.Sort.TheVariants.{OfType};
 ghost use Rattle.cv_typing.specs.Tables.{above_of};
 ghost use Rattle.cv_meaning.specs.Correspondences.{atoms_of};
 ghost use Rattle.cv_scenes.specs.Sights as sights;
@@ -19,7 +19,7 @@ use crate::parts::{is_number, surplus_entry};
 use crate::views::{Asked, Atom, Entry, Route, View, atom_of, entry_of, route_of};
 use cv_derive_lines::Claim;
 use cv_derive_terms::{is_term_of, is_typed_claim};
-use cv_directory::Sort;
+use cv_directory_sorts::Sort;
 use cv_rule_scenes::{indices_at, part_at};
 use cv_syntax::children::{first_of, is_empty};
 use cv_syntax::{NodeId, read_node};

@@ -1,7 +1,8 @@
 ghost use Rattle.std.specs.Prelude.{◌≡◌, ℕ, ◌+◌, ◌++◌, ◌<◌, ◌^◌, IfOk, Some, length};
 ghost use Rattle.cv_pool.specs.Nodes.{ChildBelow};
-ghost use Rattle.cv_syntax.specs.Head as head;
-ghost use Rattle.cv_syntax.specs.Tree.{Node, size, tree_at};
+ghost use Rattle.cv_syntax_trees.specs.Head as head;
+ghost use Rattle.cv_syntax_trees.specs.Tree.{Node, size};
+ghost use Rattle.cv_syntax.specs.PoolTrees.{tree_at};
 ghost use Rattle.cv_query_certificates.specs.EventNodes as certificates;
 ghost use Rattle.cv_query_entries.specs.Nodes.{places_here};
 

@@ -1,6 +1,7 @@
 ghost use Rattle.std.specs.Prelude.{◌≡◌, length};
 ghost use Rattle.cv_pool.specs.Nodes.{ChildBelow};
-ghost use Rattle.cv_syntax.specs.Tree.{first, tree_at};
+ghost use Rattle.cv_syntax_trees.specs.Tree.{first};
+ghost use Rattle.cv_syntax.specs.PoolTrees.{tree_at};
 ghost use Rattle.cv_meaning.specs.Correspondences as query;
 ghost use Rattle.cv_query_entries.specs.Said.{IsAtomBelow, IsEntryBelow, IsRouteBelow, atom_seen, cell_way, saying_at, saying_of, saying_seen, way_of, way_seen};
 

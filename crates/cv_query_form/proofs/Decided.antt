@@ -2,14 +2,14 @@
 use Rattle.std.proofs.Common.{◌≡◌, ℕ, Bool, true, false, not, cond, List, [], inl, inr, refl, ap, ◌∙◌, Option, Some, None}
 use Rattle.std.specs.Prelude.{option_map}
 use Rattle.std.proofs.lemmas.Bool.{and_parts, and_from, or_cases, or_left, or_right, both_ways, not-true, not_from_false}
-use Rattle.cv_syntax.specs.declared.head.Head.TheVariants.{Cons, Query, Occurs, OccursOnce, Secret, SecretOnce}
-use Rattle.cv_syntax.specs.Tree.{Tree, Empty, Node}
+use Rattle.cv_syntax_trees.specs.declared.head.Head.TheVariants.{Cons, Query, Occurs, OccursOnce, Secret, SecretOnce}
+use Rattle.cv_syntax_trees.specs.Tree.{Tree, Empty, Node}
 use Rattle.cv_syntax.specs.NameSets.{is_one_of}
 use Rattle.cv_meaning.specs.Binders.{bound_names}
 use Rattle.cv_meaning.specs.Correspondences.{is_once}
-use Rattle.cv_directory.specs.declared.sort.Sort.{Sort}
-use Rattle.cv_directory.specs.declared.sort.Sort.TheVariants.{OfType, BelowParameter}
-use Rattle.cv_directory.specs.Sites.{Variable, first_site}
+use Rattle.cv_directory_sorts.specs.declared.sort.Sort.{Sort}
+use Rattle.cv_directory_sorts.specs.declared.sort.Sort.TheVariants.{OfType, BelowParameter}
+use Rattle.cv_directory_sorts.specs.Sites.{Variable, first_site}
 use Rattle.cv_query_form.specs.Rules.{IsLeftEvent, SomeIsMarked, AreMarkedAlike, HasValues, MayBeAsked}
 use Rattle.cv_query_form.specs.Tests.{is_left_event, some_is_marked, are_marked_alike, is_of_type, has_values, passes, may_be_asked}
 use Rattle.cv_query_form.proofs.Distinct.{arguments-found, arguments-tested}

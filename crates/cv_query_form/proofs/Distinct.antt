@@ -3,8 +3,8 @@ use Rattle.std.proofs.Common.{◌≡◌, ℕ, Bool, true, false, cond, List, [],
 use Rattle.std.specs.Prelude.{◌==◌}
 use Rattle.std.specs.List.{AllByRecursion}
 use Rattle.std.proofs.lemmas.Bool.{and_parts, and_from, or_cases, or_left, or_right, both_ways, eq-eqb}
-use Rattle.cv_syntax.specs.declared.head.Head.TheVariants.{Leaf, Cons}
-use Rattle.cv_syntax.specs.Tree.{Tree, Empty, Node, lone}
+use Rattle.cv_syntax_trees.specs.declared.head.Head.TheVariants.{Leaf, Cons}
+use Rattle.cv_syntax_trees.specs.Tree.{Tree, Empty, Node, lone}
 use Rattle.cv_syntax.specs.NameSets.{is_one_of}
 use Rattle.cv_query_form.specs.Rules.{IsOneOf, AreDistinct, reads_of, AreDistinctVariables}
 use Rattle.cv_query_form.specs.Tests.{without, are_distinct}

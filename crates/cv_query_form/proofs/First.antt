@@ -2,7 +2,7 @@
 use Rattle.std.proofs.Common.{◌≡◌, ℕ, suc, ◌+◌, Bool, true, false, cond, List, [], ◌∷◌, ◌++◌, length, refl, ap, sym, ◌∙◌, subst, arith, Option, Some, None}
 use Rattle.std.specs.Prelude.{option_map}
 use Rattle.std.proofs.lemmas.Bool.{both_ways}
-use Rattle.cv_syntax.specs.Tree.{Tree}
+use Rattle.cv_syntax_trees.specs.Tree.{Tree}
 use Rattle.cv_query_form.specs.Rules.{MayBeAsked, AreAsked, IsFirstRefused}
 use Rattle.cv_query_form.specs.Tests.{may_be_asked, first_refused}
 use Rattle.cv_query_form.proofs.Decided.{query-found, query-tested}

@@ -8,18 +8,19 @@ use Rattle.cv_pool.specs.declared.node.NodeId.{NodeId}
 use Rattle.cv_pool.specs.KindTree.{KindTree}
 use Rattle.cv_syntax.specs.declared.decls.Decl.{Decl}
 use Rattle.cv_syntax.specs.declared.decls.Decl.TheVariants as decl
-use Rattle.cv_syntax.specs.declared.head.Head.{Head}
-use Rattle.cv_syntax.specs.declared.head.Head.TheVariants.{Leaf, Cons, Query, Occurs, OccursOnce, Secret, SecretOnce}
+use Rattle.cv_syntax_trees.specs.declared.head.Head.{Head}
+use Rattle.cv_syntax_trees.specs.declared.head.Head.TheVariants.{Leaf, Cons, Query, Occurs, OccursOnce, Secret, SecretOnce}
 use Rattle.cv_syntax.specs.Declarations.{declarations}
 use Rattle.cv_syntax.specs.NameSets.{NameSet, is_in, is_one_of}
-use Rattle.cv_syntax.specs.Tree.{Tree, Empty, Node, tree_at}
-use Rattle.cv_syntax.specs.Children.{is_empty}
+use Rattle.cv_syntax_trees.specs.Tree.{Tree, Empty, Node}
+use Rattle.cv_syntax.specs.PoolTrees.{tree_at}
+use Rattle.cv_syntax_trees.specs.Children.{is_empty}
 use Rattle.cv_syntax.specs.Classes.{query_of}
 use Rattle.cv_syntax.proofs.Trees.{tree_at-None, empty_at}
 use Rattle.cv_meaning.specs.Binders.{bound_names}
 use Rattle.cv_meaning.specs.Correspondences.{is_once}
 use Rattle.cv_directory.specs.Live.{IsLive}
-use Rattle.cv_directory.specs.Sites.{SitesView, sites_of}
+use Rattle.cv_directory_sorts.specs.Sites.{SitesView, sites_of}
 use Rattle.cv_query_form.specs.Held.{valued, cell_variable, event_passes, events_pass, correspondence_passes, secret_passes, node_passes}
 use Rattle.cv_meaning.specs.Queries.{queries_in}
 use Rattle.cv_query_form.specs.Tests.{without, are_distinct, are_marked_alike, is_left_event, some_is_marked, passes, may_be_asked, first_refused}

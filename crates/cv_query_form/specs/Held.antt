@@ -1,12 +1,12 @@
 -- What the code reads of a query, part by part.
 use Rattle.std.specs.Prelude.{ℕ, Bool, false, ◌&&◌, Option, Some, None, option_map}
-use Rattle.cv_syntax.specs.declared.head.Head.{Head}
-use Rattle.cv_syntax.specs.declared.head.Head.TheVariants.{Leaf, Cons, Query, Occurs, OccursOnce, Secret, SecretOnce}
-use Rattle.cv_syntax.specs.Tree.{Tree, Empty, Node}
-use Rattle.cv_syntax.specs.Children.{is_empty}
+use Rattle.cv_syntax_trees.specs.declared.head.Head.{Head}
+use Rattle.cv_syntax_trees.specs.declared.head.Head.TheVariants.{Leaf, Cons, Query, Occurs, OccursOnce, Secret, SecretOnce}
+use Rattle.cv_syntax_trees.specs.Tree.{Tree, Empty, Node}
+use Rattle.cv_syntax_trees.specs.Children.{is_empty}
 use Rattle.cv_syntax.specs.NameSets.{is_one_of}
 use Rattle.cv_meaning.specs.Binders.{bound_names}
-use Rattle.cv_directory.specs.Sites.{SitesView, Variable}
+use Rattle.cv_directory_sorts.specs.Sites.{SitesView, Variable}
 use Rattle.cv_query_form.specs.Tests.{are_distinct, are_marked_alike, is_left_event, is_of_type}
 
 -- which names have values, by a table of sites

@@ -1,6 +1,6 @@
 -- What a refusal says.
 use Rattle.std.specs.Prelude.{◌≡◌, ℕ, List, Option, Some}
-use Rattle.cv_syntax.specs.Tree.{Tree}
+use Rattle.cv_syntax_trees.specs.Tree.{Tree}
 use Rattle.cv_query_form.specs.declared.fault.QueryFault.{QueryFault}
 use Rattle.cv_query_form.specs.declared.fault.QueryFault.TheVariants as refused
 use Rattle.cv_query_form.specs.Rules.{IsFirstRefused}

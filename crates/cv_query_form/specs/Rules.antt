@@ -1,12 +1,12 @@
 -- Which queries may be asked of a game.
 use Rattle.std.specs.Prelude.{◌≡◌, ◌↔◌, ℕ, ◌+◌, true, List, [], ◌∷◌, ◌++◌, ◌⊎◌, Some, map, length}
 use Rattle.std.specs.List.{AllByRecursion}
-use Rattle.cv_syntax.specs.declared.head.Head.TheVariants.{Leaf, Cons, Query, Occurs, OccursOnce, Secret, SecretOnce}
-use Rattle.cv_syntax.specs.Tree.{Tree, Empty, Node, lone, chain}
+use Rattle.cv_syntax_trees.specs.declared.head.Head.TheVariants.{Leaf, Cons, Query, Occurs, OccursOnce, Secret, SecretOnce}
+use Rattle.cv_syntax_trees.specs.Tree.{Tree, Empty, Node, lone, chain}
 use Rattle.cv_meaning.specs.Binders.{bound_names}
 use Rattle.cv_meaning.specs.Correspondences.{is_once}
-use Rattle.cv_directory.specs.declared.sort.Sort.TheVariants.{OfType}
-use Rattle.cv_directory.specs.Sites.{first_site}
+use Rattle.cv_directory_sorts.specs.declared.sort.Sort.TheVariants.{OfType}
+use Rattle.cv_directory_sorts.specs.Sites.{first_site}
 
 -- The arguments of a left event are distinct variables of the query.
 

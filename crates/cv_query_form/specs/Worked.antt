@@ -3,9 +3,9 @@
 -- index variable of a find, 2 its parameter, 10 is what the second input receives, 20 is a constant, 11 and 12 are events,
 -- and 21, 22 and 23 are variables of a query.
 use Rattle.std.specs.Prelude.{ℕ, Bool, List, [], ◌∷◌}
-use Rattle.cv_syntax.specs.declared.head.Head.TheVariants.{Yield, New, Yes, Cons, Secret, SecretOnce, Apply}
-use Rattle.cv_syntax.specs.Tree.{Tree, Empty, Node, lone}
-use Rattle.cv_syntax.specs.Builders.{leaf, input, output, branch, find, occurs, correspondence}
+use Rattle.cv_syntax_trees.specs.declared.head.Head.TheVariants.{Yield, New, Yes, Cons, Secret, SecretOnce, Apply}
+use Rattle.cv_syntax_trees.specs.Tree.{Tree, Empty, Node, lone}
+use Rattle.cv_syntax_trees.specs.Builders.{leaf, input, output, branch, find, occurs, correspondence}
 
 -- in(3, ()); new 4:5; out(6, ()); in(8, (10:5)); find 9<=2 suchthat true then yield
 abbrev pub game : Tree

@@ -1,6 +1,6 @@
 ghost use Rattle.std.specs.Prelude.{◌≡◌, length, Some};
 ghost use Rattle.cv_pool.specs.Nodes.{ChildBelow};
-ghost use Rattle.cv_syntax.specs.Tree.{tree_at};
+ghost use Rattle.cv_syntax.specs.PoolTrees.{tree_at};
 ghost use Rattle.cv_syntax.specs.NameSets.{is_in};
 ghost use Rattle.cv_query_form.specs.Held.{cell_variable, variable_of as variable_in};
 ghost use Rattle.cv_query_form.specs.Tests as test;

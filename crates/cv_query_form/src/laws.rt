@@ -1,5 +1,5 @@
 ghost use Rattle.std.specs.Prelude.{◌≡◌, ◌↔◌, ℕ, true, List, None, Some};
-ghost use Rattle.cv_syntax.specs.Tree.{Tree};
+ghost use Rattle.cv_syntax_trees.specs.Tree.{Tree};
 ghost use Rattle.cv_query_form.specs.Rules.{AreAsked, IsFirstRefused, MayBeAsked};
 ghost use Rattle.cv_query_form.specs.Tests.{first_refused, may_be_asked};
 

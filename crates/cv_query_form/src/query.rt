@@ -1,6 +1,6 @@
 ghost use Rattle.std.specs.Prelude.{◌≡◌, ◌<◌, length, IfOk, Some};
 ghost use Rattle.cv_pool.specs.Nodes.{ChildBelow};
-ghost use Rattle.cv_syntax.specs.Tree.{tree_at};
+ghost use Rattle.cv_syntax.specs.PoolTrees.{tree_at};
 ghost use Rattle.cv_directory.specs.Tables.{seen};
 ghost use Rattle.cv_query_form.specs.Held.{correspondence_passes, secret_passes, valued};
 ghost use Rattle.cv_query_form.specs.Tests.{passes};

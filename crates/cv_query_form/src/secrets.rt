@@ -2,7 +2,8 @@ ghost use Rattle.std.specs.Prelude.{◌≡◌};
 ghost use Rattle.cv_directory.specs.Tables.{seen};
 ghost use Rattle.cv_query_form.specs.Held.{valued};
 
-use cv_directory::{Directory, Sort};
+use cv_directory::Directory;
+use cv_directory_sorts::Sort;
 
 /// Whether a name is a variable with values of a type.
 pub fn has_values(sites: &Directory, x: u32) -> bool

@@ -1,7 +1,7 @@
 ghost use Rattle.std.specs.Prelude.{◌≡◌, false, true, [], ◌∷◌, None, Some};
-ghost use Rattle.cv_syntax.specs.declared.head.Head.TheVariants.{Eq, No, Yield};
-ghost use Rattle.cv_syntax.specs.Tree.{Empty, Node, lone};
-ghost use Rattle.cv_syntax.specs.Builders.{leaf, occurs};
+ghost use Rattle.cv_syntax_trees.specs.declared.head.Head.TheVariants.{Eq, No, Yield};
+ghost use Rattle.cv_syntax_trees.specs.Tree.{Empty, Node, lone};
+ghost use Rattle.cv_syntax_trees.specs.Builders.{leaf, occurs};
 ghost use Rattle.cv_query_form.specs.Tests.{first_refused, may_be_asked};
 ghost use Rattle.cv_query_form.specs.Worked.{applied, asks, begins_before, game, secret, secret_once, two_variables};
 

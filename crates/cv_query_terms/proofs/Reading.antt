@@ -4,10 +4,10 @@ use Rattle.std.proofs.lemmas.List.{append-nil}
 use Rattle.std.specs.HashSet.{Updates}
 use Rattle.std.specs.List.{list_any}
 use Rattle.cv_lists.proofs.Tests.{or-false}
-use Rattle.cv_syntax.specs.declared.head.Head.{Head}
-use Rattle.cv_syntax.specs.declared.head.Head.TheVariants.{Binder, Leaf, Read}
+use Rattle.cv_syntax_trees.specs.declared.head.Head.{Head}
+use Rattle.cv_syntax_trees.specs.declared.head.Head.TheVariants.{Binder, Leaf, Read}
 use Rattle.cv_syntax.specs.NameSets.{NameSet, is_in, is_one_of}
-use Rattle.cv_syntax.specs.Tree.{Tree, Empty, Node, head_reads_only, reads_only}
+use Rattle.cv_syntax_trees.specs.Tree.{Tree, Empty, Node, head_reads_only, reads_only}
 use Rattle.cv_syntax.proofs.Trees.{reads_open, tree_of-NoTree}
 use Rattle.cv_meaning.specs.Correspondences.{leaf_name, leaf_names, reads, typed_names}
 use Rattle.cv_query_terms.specs.Reads.{head_is}

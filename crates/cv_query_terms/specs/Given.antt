@@ -1,9 +1,9 @@
 -- A tree with terms for names, by what is given for each name: what is put is not looked into.
 use Rattle.std.specs.Prelude.{ℕ, List, map, Option, None}
 use Rattle.cv_lists.specs.Options.{first_of}
-use Rattle.cv_syntax.specs.declared.head.Head.{Head}
-use Rattle.cv_syntax.specs.declared.head.Head.TheVariants.{Leaf}
-use Rattle.cv_syntax.specs.Tree.{Tree, Empty, Node}
+use Rattle.cv_syntax_trees.specs.declared.head.Head.{Head}
+use Rattle.cv_syntax_trees.specs.declared.head.Head.TheVariants.{Leaf}
+use Rattle.cv_syntax_trees.specs.Tree.{Tree, Empty, Node}
 use Rattle.cv_derivations.specs.Given.{or_node, term_for}
 
 -- the term that is given for a name, if there is one

@@ -1,6 +1,7 @@
 ghost use Rattle.std.specs.Prelude.{◌≡◌, ◌<◌, IfNone, IfSome, length};
 ghost use Rattle.cv_pool.specs.Nodes.{ChildBelow};
-ghost use Rattle.cv_syntax.specs.Tree.{Empty, Node, same_tree, tree_at};
+ghost use Rattle.cv_syntax_trees.specs.Tree.{Empty, Node, same_tree};
+ghost use Rattle.cv_syntax.specs.PoolTrees.{tree_at};
 ghost use Rattle.cv_meaning.specs.Correspondences.{leaf_names};
 ghost use Rattle.cv_derivations.specs.Given as derivations;
 ghost use Rattle.cv_query_terms.specs.Given.{given_by, names_in};
@@ -192,7 +193,7 @@ pub fn same_part(pool: &Pool, given: &Given, tree: Option<NodeId>, part: Part) -
         let Some(wanted) = read_part(pool, given, there) else {
             return false;
         };
-        if node.head.kind() != wanted.head.kind() {
+        if node.head.code() != wanted.head.code() {
             return false;
         }
         if !same_part(pool, given, node.first, wanted.first) {

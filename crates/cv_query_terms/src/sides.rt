@@ -1,7 +1,7 @@
 ghost use Rattle.std.specs.Prelude.{◌≡◌, ℕ, ◌&&◌, ◌||◌, IfOk, length, not};
 ghost use Rattle.cv_pool.specs.Nodes.{ChildBelow};
 ghost use Rattle.cv_syntax.specs.NameSets.{is_in, is_one_of};
-ghost use Rattle.cv_syntax.specs.Tree.{tree_at};
+ghost use Rattle.cv_syntax.specs.PoolTrees.{tree_at};
 ghost use Rattle.cv_meaning.specs.Correspondences as query;
 ghost use Rattle.cv_meaning.specs.Correspondences.{leaf_names, on_the_right_alone, reads};
 ghost use Rattle.cv_query_terms.specs.Reads.{head_is};

@@ -12,7 +12,7 @@ use cv_report_contexts::push_context;
 use cv_scope_rules::ScopeFault;
 use cv_script::push_step;
 use cv_syntax::{Game, Names, Pool};
-use cv_typing::TypeFault;
+use cv_typing_rules::TypeFault;
 use std::alloc::{AllocError, Global};
 
 /// Appends the cost of a step.

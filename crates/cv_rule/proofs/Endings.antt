@@ -1,7 +1,7 @@
 -- A derivation ends with one target where its last line says it.
 use Rattle.std.proofs.Common.{◌≡◌, ℕ, suc, ◌-◌, Bool, true, false, not, ◌&&◌, nat_lt, List, [], ◌∷◌, length, drop, Option, Some, None, refl, sym, ap, ◌∙◌, arith}
 use Rattle.std.proofs.lemmas.Bool.Decides.{nat_tests}
-use Rattle.cv_syntax.specs.Tree.{Tree, same_tree}
+use Rattle.cv_syntax_trees.specs.Tree.{Tree, same_tree}
 use Rattle.cv_derivations.specs.Ends.{ends_with, is_end, same_statement, same_statements}
 use Rattle.cv_derivations.specs.Lines.{Statement, Holds, IsDefined, lines_of, statements}
 use Rattle.cv_derivations.specs.Targets.{target}

@@ -1,9 +1,9 @@
 -- Conditions in their order.
 use Rattle.std.proofs.Common.{◌≡◌, ℕ, Bool, true, false, not, if◌then◌else◌, Option, Some, None, refl, sym, ap, ◌∙◌}
 use Rattle.std.specs.Prelude.{◌&&◌, option_map}
-use Rattle.cv_directory.specs.declared.sort.Sort.{Sort}
+use Rattle.cv_directory_sorts.specs.declared.sort.Sort.{Sort}
 use Rattle.cv_scope_rules.specs.Phrases as grammar
-use Rattle.cv_syntax.specs.Tree.{Tree}
+use Rattle.cv_syntax_trees.specs.Tree.{Tree}
 use Rattle.cv_derivations.specs.Ends.{ends_with}
 use Rattle.cv_derivations.specs.Targets.{equality, falsity}
 use Rattle.cv_scenes.specs.Derivations.{first_bad_line}

@@ -5,7 +5,8 @@ use Rattle.cv_pool.specs.KindTree.{KindTree}
 use Rattle.cv_pool.specs.Nodes.{ChildBelow}
 use Rattle.cv_derivations.specs.Lines.{count, lines_of}
 use Rattle.cv_draw_pruning.specs.Bodies.{part_of}
-use Rattle.cv_syntax.specs.Tree.{size, tree_at}
+use Rattle.cv_syntax_trees.specs.Tree.{size}
+use Rattle.cv_syntax.specs.PoolTrees.{tree_at}
 use Rattle.cv_steps.specs.Judgements.{stands}
 use Rattle.cv_steps.specs.Rows.{Row, Fails, Leads, row_of}
 use Rattle.cv_scenes.specs.Scenes.{Scene}

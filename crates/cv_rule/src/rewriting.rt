@@ -1,9 +1,10 @@
 ghost use Rattle.std.specs.Prelude.{◌≡◌, ◌<◌, ◌^◌, ◌&&◌, IfOk, Some, length};
 ghost use Rattle.cv_pool.specs.Nodes.{ChildBelow};
-ghost use Rattle.cv_directory.specs.Sites.{sites_of};
-ghost use Rattle.cv_syntax.specs.Tree.{size, tree_at};
-ghost use Rattle.cv_typing.specs.Signature as signature;
-ghost use Rattle.cv_typing.specs.Signature.{OfGame};
+ghost use Rattle.cv_directory_sorts.specs.Sites.{sites_of};
+ghost use Rattle.cv_syntax_trees.specs.Tree.{size};
+ghost use Rattle.cv_syntax.specs.PoolTrees.{tree_at};
+ghost use Rattle.cv_typing_rules.specs.Signature as signature;
+ghost use Rattle.cv_typing_rules.specs.Signature.{OfGame};
 ghost use Rattle.cv_typing.specs.Tables.{arrays_of};
 ghost use Rattle.cv_scope_rules.specs.Phrases as grammar;
 ghost use Rattle.cv_scenes.specs.Terms as terms;
@@ -11,7 +12,7 @@ ghost use Rattle.cv_steps.specs.Rewriting as rewriting;
 ghost use Rattle.cv_rule_phrases.specs.Phrases.{both, phrase_of};
 ghost use Rattle.cv_rule_scenes.specs.Kept.{scene_of};
 
-use cv_directory::Sort;
+use cv_directory_sorts::Sort;
 use cv_path::{Lies, place_in};
 use cv_rule_phrases::{Phrase, parts};
 use cv_rule_scenes::indices_at;

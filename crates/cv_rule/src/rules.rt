@@ -1,5 +1,6 @@
 ghost use Rattle.std.specs.Prelude.{◌≡◌, ◌<◌, ◌^◌, ◌&&◌, All, IfOk, Some, length, option_map, ℕ};
-ghost use Rattle.cv_syntax.specs.Tree.{Tree, size, tree_at};
+ghost use Rattle.cv_syntax_trees.specs.Tree.{Tree, size};
+ghost use Rattle.cv_syntax.specs.PoolTrees.{tree_at};
 ghost use Rattle.cv_directory.specs.Live.{IsLive};
 ghost use Rattle.cv_steps.specs.Judgements as judgement_of;
 ghost use Rattle.cv_steps.specs.Rows.{let_row, new_row, prune_row, rewrite_row, row_of, split_row, unnew_row};

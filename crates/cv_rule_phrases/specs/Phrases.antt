@@ -1,7 +1,7 @@
 -- The phrases of the grammar, as the code names them.
 use Rattle.std.specs.Prelude.{Option, Some, None, option_map}
-use Rattle.cv_syntax.specs.declared.head.Head.{Head}
-use Rattle.cv_syntax.specs.declared.head.Head.TheVariants.{Branch, Name, Binder, Cons}
+use Rattle.cv_syntax_trees.specs.declared.head.Head.{Head}
+use Rattle.cv_syntax_trees.specs.declared.head.Head.TheVariants.{Branch, Name, Binder, Cons}
 use Rattle.cv_scope_rules.specs.Phrases as grammar
 use Rattle.cv_rule_phrases.specs.declared.phrases.Phrase.{Phrase}
 use Rattle.cv_rule_phrases.specs.declared.phrases.Phrase.TheVariants as code

@@ -2,17 +2,17 @@
 use Rattle.std.proofs.Common.{◌≡◌, ℕ, ◌+◌, ◌-◌, Bool, true, false, cond, List, [], ◌∷◌, ◌++◌, Option, Some, None, refl, sym, ap, ap₂, ◌∙◌, eqb-true, nat_lt}
 use Rattle.std.specs.Prelude.{◌||◌, ◌==◌, is_some, if◌then◌else◌}
 use Rattle.std.proofs.Math.Path.{fun_ext}
-use Rattle.cv_syntax.specs.declared.head.Head.{Head}
-use Rattle.cv_syntax.specs.declared.head.Head.TheVariants.{Cons, Repl}
-use Rattle.cv_syntax.specs.Head.{weight}
-use Rattle.cv_syntax.specs.Tree.{Tree, Empty, Node, size}
-use Rattle.cv_directory.specs.declared.sort.Sort.{Sort}
-use Rattle.cv_directory.specs.declared.sort.Sort.TheVariants.{BelowParameter}
-use Rattle.cv_directory.specs.Sites.{first_of}
-use Rattle.cv_typing.specs.declared.precedence.Precedence.TheVariants.{First, Newest}
-use Rattle.cv_typing.specs.Parts.{nothing_above}
-use Rattle.cv_typing.specs.Signature.{Above}
-use Rattle.cv_typing.specs.Wants.{bound}
+use Rattle.cv_syntax_trees.specs.declared.head.Head.{Head}
+use Rattle.cv_syntax_trees.specs.declared.head.Head.TheVariants.{Cons, Repl}
+use Rattle.cv_syntax_trees.specs.Head.{weight}
+use Rattle.cv_syntax_trees.specs.Tree.{Tree, Empty, Node, size}
+use Rattle.cv_directory_sorts.specs.declared.sort.Sort.{Sort}
+use Rattle.cv_directory_sorts.specs.declared.sort.Sort.TheVariants.{BelowParameter}
+use Rattle.cv_directory_sorts.specs.Sites.{first_of}
+use Rattle.cv_typing_rules.specs.declared.precedence.Precedence.TheVariants.{First, Newest}
+use Rattle.cv_typing_rules.specs.Parts.{nothing_above}
+use Rattle.cv_typing_rules.specs.Signature.{Above}
+use Rattle.cv_typing_rules.specs.Wants.{bound}
 use Rattle.cv_scope_rules.specs.declared.position.Position.{Position}
 use Rattle.cv_scope_rules.specs.declared.position.Position.TheVariants.{Anywhere, Bodies, ElseBody, Guards, Guarded, Cells}
 use Rattle.cv_scope_rules.specs.Context.{Context, context_at, first_context, first_position, item_context, known_at, nothing_known, replications_below, rest_context, second_context, second_position}

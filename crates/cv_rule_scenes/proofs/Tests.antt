@@ -2,14 +2,14 @@
 use Rattle.std.proofs.Common.{◌≡◌, ℕ, Bool, true, false, not, ◌&&◌, List, Option, Ok, Err, Result, refl, sym, ap, ap₂, ◌∙◌}
 use Rattle.std.specs.Prelude.{◌||◌, IfOk, is_some}
 use Rattle.std.proofs.Math.Path.{fun_ext}
-use Rattle.cv_syntax.specs.Declarations.{Declaration}
-use Rattle.cv_syntax.specs.Tree.{Tree}
-use Rattle.cv_directory.specs.declared.sort.Sort.{Sort}
-use Rattle.cv_directory.specs.Sites.{sites_of}
+use Rattle.cv_syntax_trees.specs.Declarations.{Declaration}
+use Rattle.cv_syntax_trees.specs.Tree.{Tree}
+use Rattle.cv_directory_sorts.specs.declared.sort.Sort.{Sort}
+use Rattle.cv_directory_sorts.specs.Sites.{sites_of}
 use Rattle.cv_typing.specs.declared.arrays.Arrays.{Arrays}
-use Rattle.cv_typing.specs.Parts.{nothing_above}
-use Rattle.cv_typing.specs.Signature.{OfGame, index_in, variable_in}
-use Rattle.cv_typing.specs.Signature as signature
+use Rattle.cv_typing_rules.specs.Parts.{nothing_above}
+use Rattle.cv_typing_rules.specs.Signature.{OfGame, index_in, variable_in}
+use Rattle.cv_typing_rules.specs.Signature as signature
 use Rattle.cv_typing.specs.Tables.{Map, above_of, arrays_of}
 use Rattle.cv_scope_rules.specs.Context.{known_at}
 use Rattle.cv_scope_rules.specs.Rules.{is_index}

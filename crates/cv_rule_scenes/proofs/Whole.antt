@@ -5,13 +5,13 @@ use Rattle.cv_scope_rules.specs.declared.fault.Fault.{Fault}
 use Rattle.cv_scope_rules.specs.declared.fault.ScopeFault.{ScopeFault}
 use Rattle.cv_scope_rules.specs.declared.fault.ScopeFault.TheVariants as refused
 use Rattle.cv_scope_rules.specs.Refusals.{IsRefusalOf, named}
-use Rattle.cv_syntax.specs.Declarations.{Declaration}
-use Rattle.cv_syntax.specs.Tree.{Tree}
+use Rattle.cv_syntax_trees.specs.Declarations.{Declaration}
+use Rattle.cv_syntax_trees.specs.Tree.{Tree}
 use Rattle.cv_directory.proofs.Entries.{first-nothing}
-use Rattle.cv_typing.specs.declared.form.Form.TheVariants.{InProcess}
-use Rattle.cv_typing.specs.Parts.{first_in, game_part, nothing_above, signature_of}
-use Rattle.cv_typing.specs.Typing.{first_fault}
-use Rattle.cv_typing.specs.Wants.{Run}
+use Rattle.cv_typing_rules.specs.declared.form.Form.TheVariants.{InProcess}
+use Rattle.cv_typing_rules.specs.Parts.{first_in, game_part, nothing_above, signature_of}
+use Rattle.cv_typing_rules.specs.Typing.{first_fault}
+use Rattle.cv_typing_rules.specs.Wants.{Run}
 
 -- a refusal that names a fault is of one
 pub fault-there : (found : Option (ℕ × Fault)) (t : ScopeFault) (b : Bool) → IsRefusalOf found t → b ≡ not (is_some (named t)) → b ≡ false → false ≡ not (is_some found)

@@ -1,21 +1,22 @@
 -- What the code has of a scene.
 use Rattle.std.specs.Prelude.{ℕ, Bool, true, false, ◌&&◌, ◌||◌, is_some, nat_lt, List, Some}
-use Rattle.cv_syntax.specs.declared.decls.Class.{Class}
-use Rattle.cv_syntax.specs.declared.decls.Class.TheVariants.{TypeName}
+use Rattle.cv_syntax_trees.specs.declared.class.Class.{Class}
+use Rattle.cv_syntax_trees.specs.declared.class.Class.TheVariants.{TypeName}
 use Rattle.cv_pool.specs.declared.node.NodeId.{NodeId}
 use Rattle.cv_pool.specs.PoolView.{PoolView}
 use Rattle.cv_syntax.specs.Classes.{DeclsView}
-use Rattle.cv_syntax.specs.Declarations.{Declaration, declarations}
-use Rattle.cv_syntax.specs.declared.head.Head.{Head}
-use Rattle.cv_syntax.specs.declared.head.Head.TheVariants.{Repl}
-use Rattle.cv_syntax.specs.Tree.{tree_at}
+use Rattle.cv_syntax_trees.specs.Declarations.{Declaration}
+use Rattle.cv_syntax.specs.Declarations.{declarations}
+use Rattle.cv_syntax_trees.specs.declared.head.Head.{Head}
+use Rattle.cv_syntax_trees.specs.declared.head.Head.TheVariants.{Repl}
+use Rattle.cv_syntax.specs.PoolTrees.{tree_at}
 use Rattle.cv_typing.specs.declared.arrays.Arrays.{Arrays}
-use Rattle.cv_typing.specs.Signature.{Above, index_in, variable_in}
+use Rattle.cv_typing_rules.specs.Signature.{Above, index_in, variable_in}
 use Rattle.cv_typing.specs.Tables.{Map, above_of, arrays_of}
-use Rattle.cv_typing.specs.declared.precedence.Precedence.TheVariants.{First}
-use Rattle.cv_typing.specs.Wants.{bound}
-use Rattle.cv_directory.specs.declared.sort.Sort.{Sort}
-use Rattle.cv_directory.specs.declared.sort.Sort.TheVariants.{BelowParameter}
+use Rattle.cv_typing_rules.specs.declared.precedence.Precedence.TheVariants.{First}
+use Rattle.cv_typing_rules.specs.Wants.{bound}
+use Rattle.cv_directory_sorts.specs.declared.sort.Sort.{Sort}
+use Rattle.cv_directory_sorts.specs.declared.sort.Sort.TheVariants.{BelowParameter}
 use Rattle.cv_scenes.specs.Scenes.{Scene}
 use Rattle.cv_scenes.specs.Terms.{Names, is_function}
 

@@ -1,6 +1,7 @@
 ghost use Rattle.std.specs.Prelude.{◌≡◌, ◌+◌, ◌<◌, ◌^◌, ◌&&◌, ◌||◌, IfErr, IfOk, None, OnOk, Some, length, not};
 ghost use Rattle.cv_pool.specs.Nodes.{ChildBelow};
-ghost use Rattle.cv_syntax.specs.Tree.{size, tree_at};
+ghost use Rattle.cv_syntax_trees.specs.Tree.{size};
+ghost use Rattle.cv_syntax.specs.PoolTrees.{tree_at};
 ghost use Rattle.cv_scope_rules.specs.Sites.{Variable};
 ghost use Rattle.cv_scope_rules.specs.Made.{made_by};
 ghost use Rattle.cv_scenes.specs.Scenes as scenes;

@@ -1,18 +1,19 @@
 ghost use Rattle.std.specs.Prelude.{◌≡◌, ◌<◌, ◌^◌, All, IfOk, OnOk, Some, length};
-ghost use Rattle.cv_directory.specs.Sites.{sites_of};
-ghost use Rattle.cv_directory.specs.declared.sort.Sort.TheVariants.{BelowParameter};
+ghost use Rattle.cv_directory_sorts.specs.Sites.{sites_of};
+ghost use Rattle.cv_directory_sorts.specs.declared.sort.Sort.TheVariants.{BelowParameter};
 ghost use Rattle.cv_scope_rules.specs.Context.{replications_below};
-ghost use Rattle.cv_syntax.specs.Tree.{size, tree_at};
-ghost use Rattle.cv_typing.specs.declared.precedence.Precedence.TheVariants.{Newest};
+ghost use Rattle.cv_syntax_trees.specs.Tree.{size};
+ghost use Rattle.cv_syntax.specs.PoolTrees.{tree_at};
+ghost use Rattle.cv_typing_rules.specs.declared.precedence.Precedence.TheVariants.{Newest};
 ghost use Rattle.cv_directory.specs.Live.{IsLive};
-ghost use Rattle.cv_typing.specs.Signature.{OfGame, boolean};
+ghost use Rattle.cv_typing_rules.specs.Signature.{OfGame, boolean};
 ghost use Rattle.cv_typing.specs.Tables.{above_of, arrays_of};
-ghost use Rattle.cv_typing.specs.Wants.{bound};
+ghost use Rattle.cv_typing_rules.specs.Wants.{bound};
 ghost use Rattle.cv_scenes.specs.Terms as terms;
 ghost use Rattle.cv_rule_scenes.specs.Kept.{above_behind, scene_of};
 
 use crate::games::is_there;
-use cv_directory::Sort;
+use cv_directory_sorts::Sort;
 use cv_path::{Lies, place_in};
 use cv_rule_phrases::{Phrase, is_phrase};
 use cv_syntax::{Head, NodeId, Work, read_node};

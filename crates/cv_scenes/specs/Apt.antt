@@ -2,9 +2,9 @@
 -- of each site, and which function is called there. This profile's own.
 use Rattle.std.specs.Prelude.{◌≡◌, ℕ, suc, ◌+◌, ◌<◌, Bool, true, false, ◌||◌, ◌&&◌, ◌==◌, if◌then◌else◌, List, [], ◌∷◌, length, is_some, Option, Some, None}
 use Rattle.std.specs.List.{AllByRecursion}
-use Rattle.cv_syntax.specs.declared.head.Head.{Head}
-use Rattle.cv_syntax.specs.declared.head.Head.TheVariants.{And, Apply, Branch, Cons, Eq, Event, If, In, Leaf, Let, New, No, Not, Or, Out, Read, Repl, Yes}
-use Rattle.cv_syntax.specs.Tree.{Tree, Empty, Node, bound_names, chain, first, head_reads_only, reads_only, second}
+use Rattle.cv_syntax_trees.specs.declared.head.Head.{Head}
+use Rattle.cv_syntax_trees.specs.declared.head.Head.TheVariants.{And, Apply, Branch, Cons, Eq, Event, If, In, Leaf, Let, New, No, Not, Or, Out, Read, Repl, Yes}
+use Rattle.cv_syntax_trees.specs.Tree.{Tree, Empty, Node, bound_names, chain, first, head_reads_only, reads_only, second}
 use Rattle.cv_meaning.specs.Interpretation.{Interpretation, is_constant_of}
 use Rattle.cv_meaning.specs.Runs.{Events, Mode, Random, Real}
 use Rattle.cv_meaning.specs.Side.{CallNumber}

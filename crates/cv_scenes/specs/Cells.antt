@@ -1,9 +1,9 @@
 -- The cells of a game as those of its context with the left side: the key's `new` is the choice of a key, and that of a coin is what
 -- the call of its site draws. Blanchet and Pointcheval, CRYPTO 2006; that cells are swapped, so that none is lost, is this profile's own.
 use Rattle.std.specs.Prelude.{ℕ, suc, Bool, true, false, not, ◌&&◌, ◌==◌, if◌then◌else◌, List, [], ◌∷◌, Option, Some, None}
-use Rattle.cv_syntax.specs.Tree.{Tree}
+use Rattle.cv_syntax_trees.specs.Tree.{Tree}
 use Rattle.cv_meaning.specs.Tapes.{Cell, Key_at, Made_at, New_at}
-use Rattle.cv_directory.specs.Sites.{first_of}
+use Rattle.cv_directory_sorts.specs.Sites.{first_of}
 use Rattle.cv_scenes.specs.Sights.{variable_of}
 use Rattle.cv_scenes.specs.Instances.{is_read_of}
 use Rattle.cv_scenes.specs.Sites.{Site}

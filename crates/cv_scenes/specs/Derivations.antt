@@ -1,9 +1,9 @@
 -- Derivations at a place, and the first line that isn't right. A line cites earlier lines that aren't
 -- inside a closed block. This profile's own.
 use Rattle.std.specs.Prelude.{◌≡◌, ℕ, ◌+◌, Bool, true, false, ◌&&◌, ◌==◌, if◌then◌else◌, Option, Some, None}
-use Rattle.cv_syntax.specs.declared.head.Head.TheVariants.{Not}
-use Rattle.cv_syntax.specs.Tree.{Tree, Empty, Node}
-use Rattle.cv_directory.specs.Sites.{first_of}
+use Rattle.cv_syntax_trees.specs.declared.head.Head.TheVariants.{Not}
+use Rattle.cv_syntax_trees.specs.Tree.{Tree, Empty, Node}
+use Rattle.cv_directory_sorts.specs.Sites.{first_of}
 use Rattle.cv_derivations.specs.Ends.{ends_in, ends_with}
 use Rattle.cv_derivations.specs.Inferences.{Visible}
 use Rattle.cv_derivations.specs.Lines.{Lines, End, By, Cases, Statement, Holds, count, lines_of, statements}

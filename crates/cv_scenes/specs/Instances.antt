@@ -2,14 +2,14 @@
 -- names that it reads. Blanchet and Pointcheval, CRYPTO 2006, for the functions of a side that are looked for in a game; what a
 -- name may stand for is this profile's own.
 use Rattle.std.specs.Prelude.{◌≡◌, ℕ, suc, Bool, true, false, ◌&&◌, ◌==◌, if◌then◌else◌, List, [], ◌∷◌, ◌++◌, map, reverse, Option, Some, None}
-use Rattle.cv_syntax.specs.declared.head.Head.{Head}
-use Rattle.cv_syntax.specs.declared.head.Head.TheVariants.{Leaf}
-use Rattle.cv_syntax.specs.Tree.{Tree, Empty, Node, chain, first, second, same_tree}
+use Rattle.cv_syntax_trees.specs.declared.head.Head.{Head}
+use Rattle.cv_syntax_trees.specs.declared.head.Head.TheVariants.{Leaf}
+use Rattle.cv_syntax_trees.specs.Tree.{Tree, Empty, Node, chain, first, second, same_tree}
 use Rattle.cv_meaning_contexts.specs.Groups.{Function, Group}
-use Rattle.cv_directory.specs.declared.sort.Sort.TheVariants.{OfType}
-use Rattle.cv_directory.specs.Sites.{first_of}
-use Rattle.cv_typing.specs.Signature.{Signature, sort_of, variable_sort}
-use Rattle.cv_typing.specs.Parts.{nothing_above}
+use Rattle.cv_directory_sorts.specs.declared.sort.Sort.TheVariants.{OfType}
+use Rattle.cv_directory_sorts.specs.Sites.{first_of}
+use Rattle.cv_typing_rules.specs.Signature.{Signature, sort_of, variable_sort}
+use Rattle.cv_typing_rules.specs.Parts.{nothing_above}
 use Rattle.cv_derivations.specs.Given.{with_given}
 use Rattle.cv_scenes.specs.Scenes.{Scene, or_empty}
 use Rattle.cv_scenes.specs.Sights.{variable_of}

@@ -2,11 +2,11 @@
 -- names of their function and constants, each name is read, and no two are the same. This profile's own.
 use Rattle.std.specs.Prelude.{◌≡◌, ℕ, nat_eq, ◌<◌, Bool, true, false, ◌&&◌, ◌||◌, List}
 use Rattle.std.specs.List.{AllByRecursion, IsDistinct}
-use Rattle.cv_syntax.specs.declared.head.Head.{Head}
-use Rattle.cv_syntax.specs.declared.head.Head.TheVariants.{Read}
-use Rattle.cv_syntax.specs.Declarations.{Declaration}
+use Rattle.cv_syntax_trees.specs.declared.head.Head.{Head}
+use Rattle.cv_syntax_trees.specs.declared.head.Head.TheVariants.{Read}
+use Rattle.cv_syntax_trees.specs.Declarations.{Declaration}
 use Rattle.cv_syntax.specs.NameSets.{is_one_of}
-use Rattle.cv_syntax.specs.Tree.{Tree, Empty, Node, reads_only}
+use Rattle.cv_syntax_trees.specs.Tree.{Tree, Empty, Node, reads_only}
 use Rattle.cv_meaning.specs.Interpretation.{is_constant_of}
 use Rattle.cv_meaning_contexts.specs.Groups.{Function, Group}
 use Rattle.cv_scope_rules.specs.Phrases.{Term, is_phrase}

@@ -1,8 +1,8 @@
 -- Bodies that may go: of an `if` one of its two, of a `find` that of a branch. This profile's own.
 use Rattle.std.specs.Prelude.{ℕ, zero, suc, ◌+◌, Option, Some, None, option_map}
-use Rattle.cv_syntax.specs.declared.head.Head.TheVariants as head
-use Rattle.cv_syntax.specs.declared.head.Head.TheVariants.{If, Find, Cons}
-use Rattle.cv_syntax.specs.Tree.{Tree, Empty, Node, first, first_place, second, second_place, size}
+use Rattle.cv_syntax_trees.specs.declared.head.Head.TheVariants as head
+use Rattle.cv_syntax_trees.specs.declared.head.Head.TheVariants.{If, Find, Cons}
+use Rattle.cv_syntax_trees.specs.Tree.{Tree, Empty, Node, first, first_place, second, second_place, size}
 
 -- a body of an `if`, or that of a branch of a `find`, counted from 1
 pub data Part : Type 0 where

@@ -1,15 +1,15 @@
 -- The reasons of a derivation: when a line is right, one clause for each. This profile's own.
 use Rattle.std.specs.Prelude.{Bool, true, false, ◌&&◌, ◌==◌, if◌then◌else◌, List, [], ◌∷◌, Option, Some, None}
 use Rattle.std.specs.List.{list_any}
-use Rattle.cv_syntax.specs.declared.decls.Class.TheVariants.{Fun}
-use Rattle.cv_syntax.specs.declared.head.Head.{Head}
-use Rattle.cv_syntax.specs.declared.head.Head.TheVariants as head
-use Rattle.cv_syntax.specs.declared.head.Head.TheVariants.{Eq, And, Or, Not, Leaf, Read, Apply, Binder}
-use Rattle.cv_syntax.specs.Declarations.{Declaration, Named, Equation}
-use Rattle.cv_syntax.specs.Head.{same_head}
-use Rattle.cv_syntax.specs.Tree.{Tree, Empty, Node, bound_names, first, second, same_tree}
-use Rattle.cv_directory.specs.declared.sort.Sort.TheVariants.{OfType}
-use Rattle.cv_typing.specs.Signature.{declaration_of}
+use Rattle.cv_syntax_trees.specs.declared.class.Class.TheVariants.{Fun}
+use Rattle.cv_syntax_trees.specs.declared.head.Head.{Head}
+use Rattle.cv_syntax_trees.specs.declared.head.Head.TheVariants as head
+use Rattle.cv_syntax_trees.specs.declared.head.Head.TheVariants.{Eq, And, Or, Not, Leaf, Read, Apply, Binder}
+use Rattle.cv_syntax_trees.specs.Declarations.{Declaration, Named, Equation}
+use Rattle.cv_syntax_trees.specs.Head.{same_head}
+use Rattle.cv_syntax_trees.specs.Tree.{Tree, Empty, Node, bound_names, first, second, same_tree}
+use Rattle.cv_directory_sorts.specs.declared.sort.Sort.TheVariants.{OfType}
+use Rattle.cv_typing_rules.specs.Signature.{declaration_of}
 use Rattle.cv_scope_rules.specs.Context.{items}
 use Rattle.cv_scope_rules.specs.Rules.{is_index}
 use Rattle.cv_scenes.specs.Terms.{replications_at}

@@ -1,7 +1,7 @@
 -- A game with an equivalence, a key and the answers of calls: its names that its context has with the same values. This profile's own.
 use Rattle.std.specs.Prelude.{ℕ, Bool, ◌&&◌, not, ◌==◌, List, length}
 use Rattle.std.specs.List.{list_any}
-use Rattle.cv_syntax.specs.Tree.{Tree}
+use Rattle.cv_syntax_trees.specs.Tree.{Tree}
 use Rattle.cv_meaning.specs.Candidates.{below}
 use Rattle.cv_meaning.specs.Interpretation.{Interpretation, Setting, setting_of, setting_with}
 use Rattle.cv_meaning_contexts.specs.Finds.{Oracles}

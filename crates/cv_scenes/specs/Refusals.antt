@@ -2,11 +2,11 @@
 -- coin is used elsewhere. Blanchet and Pointcheval, CRYPTO 2006, for the conditions; their order is this profile's own.
 use Rattle.std.specs.Prelude.{ℕ, ◌+◌, Bool, true, false, ◌&&◌, not, ◌==◌, if◌then◌else◌, List, [], ◌∷◌, ◌++◌, map, zip, Option, Some, None}
 use Rattle.std.specs.List.{list_all, list_any}
-use Rattle.cv_syntax.specs.declared.head.Head.{Head}
-use Rattle.cv_syntax.specs.declared.head.Head.TheVariants.{Leaf, New}
-use Rattle.cv_syntax.specs.Tree.{Tree, Empty, Node, first_place, same_tree, second_place}
+use Rattle.cv_syntax_trees.specs.declared.head.Head.{Head}
+use Rattle.cv_syntax_trees.specs.declared.head.Head.TheVariants.{Leaf, New}
+use Rattle.cv_syntax_trees.specs.Tree.{Tree, Empty, Node, first_place, same_tree, second_place}
 use Rattle.cv_meaning_contexts.specs.Groups.{Function}
-use Rattle.cv_directory.specs.Sites.{first_of}
+use Rattle.cv_directory_sorts.specs.Sites.{first_of}
 use Rattle.cv_scope_rules.specs.declared.position.Position.{Position}
 use Rattle.cv_scope_rules.specs.declared.position.Position.TheVariants.{Anywhere, Guarded}
 use Rattle.cv_scope_rules.specs.Context.{cell_of, first_position, replications_below, second_position}

@@ -1,14 +1,14 @@
 -- A game with the names of its file, and what a step asks of a name or of a place there. This profile's own.
 use Rattle.std.specs.Prelude.{◌≡◌, ℕ, Bool, true, false, ◌&&◌, ◌||◌, not, ◌==◌, nat_lt, if◌then◌else◌, List, Option, Some, None}
 use Rattle.std.specs.List.{list_any}
-use Rattle.cv_syntax.specs.declared.decls.Class.TheVariants as class
-use Rattle.cv_syntax.specs.declared.head.Head.{Head}
-use Rattle.cv_syntax.specs.declared.head.Head.TheVariants.{Repl, New, Let, Binder, Name, Leaf, Read, Key, Call, Secret, SecretOnce}
-use Rattle.cv_syntax.specs.Declarations.{Declaration, Named}
-use Rattle.cv_syntax.specs.Tree.{Tree, Empty, Node, size, subtree, first_place, second_place}
+use Rattle.cv_syntax_trees.specs.declared.class.Class.TheVariants as class
+use Rattle.cv_syntax_trees.specs.declared.head.Head.{Head}
+use Rattle.cv_syntax_trees.specs.declared.head.Head.TheVariants.{Repl, New, Let, Binder, Name, Leaf, Read, Key, Call, Secret, SecretOnce}
+use Rattle.cv_syntax_trees.specs.Declarations.{Declaration, Named}
+use Rattle.cv_syntax_trees.specs.Tree.{Tree, Empty, Node, size, subtree, first_place, second_place}
 use Rattle.cv_meaning.specs.Replaced.{is_output}
-use Rattle.cv_directory.specs.Sites.{first_of}
-use Rattle.cv_typing.specs.Signature.{declaration_of}
+use Rattle.cv_directory_sorts.specs.Sites.{first_of}
+use Rattle.cv_typing_rules.specs.Signature.{declaration_of}
 use Rattle.cv_meaning.specs.Queries.{queries_in}
 use Rattle.cv_scope_rules.specs.Sites.{Variable}
 use Rattle.cv_scope_rules.specs.Made.{made_by}

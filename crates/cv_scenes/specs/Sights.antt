@@ -1,14 +1,14 @@
 -- What a derivation may cite at a place of a game, and at the only site of a variable. Blanchet, TDSC 2008, for the facts of
 -- a place; the order of facts and what is a site are this profile's own.
 use Rattle.std.specs.Prelude.{ℕ, zero, suc, Bool, ◌&&◌, not, List, [], ◌∷◌, map, slice_get, is_some, Option, Some, None, option_and_then}
-use Rattle.cv_syntax.specs.declared.head.Head.TheVariants.{Leaf, Read}
-use Rattle.cv_syntax.specs.Tree.{Tree, Node, first}
+use Rattle.cv_syntax_trees.specs.declared.head.Head.TheVariants.{Leaf, Read}
+use Rattle.cv_syntax_trees.specs.Tree.{Tree, Node, first}
 use Rattle.cv_scope_rules.specs.Context.{Context}
 use Rattle.cv_scope_rules.specs.Phrases.{OneCell, is_phrase}
-use Rattle.cv_directory.specs.declared.sort.Sort.{Sort}
-use Rattle.cv_typing.specs.Signature.{sort_of}
-use Rattle.cv_typing.specs.Typing.{first_fault}
-use Rattle.cv_typing.specs.Wants.{AnyTerm}
+use Rattle.cv_directory_sorts.specs.declared.sort.Sort.{Sort}
+use Rattle.cv_typing_rules.specs.Signature.{sort_of}
+use Rattle.cv_typing_rules.specs.Typing.{first_fault}
+use Rattle.cv_typing_rules.specs.Wants.{AnyTerm}
 use Rattle.cv_scope_rules.specs.Behind.{sites_of}
 use Rattle.cv_scope_rules.specs.Above.{stands_at}
 use Rattle.cv_scenes.specs.Scenes.{Scene}

@@ -1,7 +1,7 @@
 -- The sites of a group in a game: going down each term outside `defined` lists and conditions of a `find`, the terms that are
 -- instances; no search goes on inside one. Blanchet and Pointcheval, CRYPTO 2006.
 use Rattle.std.specs.Prelude.{ℕ, Bool, true, false, if◌then◌else◌, List, [], ◌∷◌, ◌++◌, Option, Some, None}
-use Rattle.cv_syntax.specs.Tree.{Tree, Empty, Node, first_place, second_place}
+use Rattle.cv_syntax_trees.specs.Tree.{Tree, Empty, Node, first_place, second_place}
 use Rattle.cv_scope_rules.specs.declared.position.Position.{Position}
 use Rattle.cv_scope_rules.specs.declared.position.Position.TheVariants.{Anywhere, Guards, Guarded}
 use Rattle.cv_scope_rules.specs.Context.{first_position, replications_below, second_position}

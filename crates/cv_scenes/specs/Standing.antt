@@ -1,7 +1,7 @@
 -- Where the terms of an instance have the values of a call: that of the key, those that are drawn for the coins, and the
 -- arguments. This profile's own.
 use Rattle.std.specs.Prelude.{◌≡◌, ℕ, true, List, [], ◌∷◌, None}
-use Rattle.cv_syntax.specs.Tree.{Tree, chain}
+use Rattle.cv_syntax_trees.specs.Tree.{Tree, chain}
 use Rattle.cv_meaning.specs.Interpretation.{Setting}
 use Rattle.cv_meaning.specs.Memory.{Indices, Store}
 use Rattle.cv_meaning.specs.Side.{CallNumber, OracleCall}

@@ -1,19 +1,19 @@
 -- Terms of steps at a place of a game, and the test of a whole game. This profile's own.
 use Rattle.std.specs.Prelude.{ℕ, Bool, true, false, ◌&&◌, ◌||◌, not, List, [], ◌∷◌, Option, Some, None, is_some}
-use Rattle.cv_syntax.specs.declared.head.Head.{Head}
-use Rattle.cv_syntax.specs.declared.head.Head.TheVariants.{Leaf, Read, Apply}
-use Rattle.cv_syntax.specs.Declarations.{Declaration}
-use Rattle.cv_syntax.specs.Tree.{Tree, Empty, Node}
+use Rattle.cv_syntax_trees.specs.declared.head.Head.{Head}
+use Rattle.cv_syntax_trees.specs.declared.head.Head.TheVariants.{Leaf, Read, Apply}
+use Rattle.cv_syntax_trees.specs.Declarations.{Declaration}
+use Rattle.cv_syntax_trees.specs.Tree.{Tree, Empty, Node}
 use Rattle.cv_meaning.specs.Interpretation.{is_constant_of}
-use Rattle.cv_directory.specs.declared.sort.Sort.{Sort}
-use Rattle.cv_directory.specs.declared.sort.Sort.TheVariants.{BelowParameter}
-use Rattle.cv_directory.specs.Sites.{first_site, first_index}
-use Rattle.cv_typing.specs.Signature.{Signature, Above, boolean, function_in, sort_of}
-use Rattle.cv_directory.specs.Sorts.{same_sort}
-use Rattle.cv_typing.specs.Wants.{AnyTerm, bound}
-use Rattle.cv_typing.specs.declared.precedence.Precedence.TheVariants.{First}
-use Rattle.cv_typing.specs.Typing as typing
-use Rattle.cv_typing.specs.Parts.{first_in, game_part, nothing_above, signature_of}
+use Rattle.cv_directory_sorts.specs.declared.sort.Sort.{Sort}
+use Rattle.cv_directory_sorts.specs.declared.sort.Sort.TheVariants.{BelowParameter}
+use Rattle.cv_directory_sorts.specs.Sites.{first_site, first_index}
+use Rattle.cv_typing_rules.specs.Signature.{Signature, Above, boolean, function_in, sort_of}
+use Rattle.cv_directory_sorts.specs.Sorts.{same_sort}
+use Rattle.cv_typing_rules.specs.Wants.{AnyTerm, bound}
+use Rattle.cv_typing_rules.specs.declared.precedence.Precedence.TheVariants.{First}
+use Rattle.cv_typing_rules.specs.Typing as typing
+use Rattle.cv_typing_rules.specs.Parts.{first_in, game_part, nothing_above, signature_of}
 use Rattle.cv_scope_rules.specs.Context.{Context, known_at}
 use Rattle.cv_scope_rules.specs.Rules.{is_index}
 use Rattle.cv_scope_rules.specs.Scope.{first_scope_fault}

@@ -4,7 +4,8 @@ use Rattle.std.specs.List.{list_any}
 use Rattle.std.proofs.lemmas.Bool.{or_cases, or_left, or_right, both_ways}
 use Rattle.cv_pool.specs.KindTree.{KindTree}
 use Rattle.cv_pool.specs.declared.node.NodeId.{NodeId}
-use Rattle.cv_syntax.specs.Tree.{Tree, same_tree, tree_at}
+use Rattle.cv_syntax_trees.specs.Tree.{Tree, same_tree}
+use Rattle.cv_syntax.specs.PoolTrees.{tree_at}
 use Rattle.cv_scope.specs.Held.{cells_held}
 use Rattle.cv_scope_tables.specs.Ordered.{has_number}
 use Rattle.cv_scope_rules.proofs.Trees.{same-tree}

@@ -2,7 +2,7 @@
 use Rattle.std.proofs.Common.{◌≡◌, ◌≤◌, ℕ, zero, suc, Bool, true, false, refl, ap, sym, ◌∙◌, arith, nat_eq, eqb-true, List, [], ◌∷◌, length, drop}
 use Rattle.std.proofs.lemmas.Bool.{eq-eqb, ne_eqb, eqb-false}
 use Rattle.cv_scope_rules.specs.Rules.{carries}
-use Rattle.cv_syntax.specs.Tree.{Tree, Empty}
+use Rattle.cv_syntax_trees.specs.Tree.{Tree, Empty}
 use Rattle.cv_syntax.proofs.Trees.{tree_of-NoTree}
 
 pub ruleset term_laws = (tree_of-NoTree)

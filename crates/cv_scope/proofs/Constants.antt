@@ -2,13 +2,14 @@
 use Rattle.std.proofs.Common.{◌≡◌, ℕ, zero, suc, ◌+◌, ◌<◌, Bool, true, false, ◌||◌, List, [], ◌∷◌, length, drop, refl, ap, sym, ◌∙◌, arith, Option, is_some}
 use Rattle.std.specs.Prelude.{slice_get, option_and_then}
 use Rattle.std.proofs.Math.Path.{fun_ext}
-use Rattle.cv_syntax.specs.declared.decls.Class.TheVariants as class
+use Rattle.cv_syntax_trees.specs.declared.class.Class.TheVariants as class
 use Rattle.cv_syntax.specs.declared.decls.Decl.{Decl}
 use Rattle.cv_pool.specs.KindTree.{KindTree}
-use Rattle.cv_syntax.specs.Declarations.{Declaration, Named, declarations, declared}
-use Rattle.cv_syntax.specs.Tree.{Tree, Empty, Node}
+use Rattle.cv_syntax_trees.specs.Declarations.{Declaration, Named}
+use Rattle.cv_syntax.specs.Declarations.{declarations, declared}
+use Rattle.cv_syntax_trees.specs.Tree.{Tree, Empty, Node}
 use Rattle.cv_meaning.specs.Interpretation.{is_constant_of}
-use Rattle.cv_directory.specs.Sites.{SitesView, sites_of}
+use Rattle.cv_directory_sorts.specs.Sites.{SitesView, sites_of}
 use Rattle.cv_directory.specs.Tables.{seen}
 use Rattle.cv_scope.specs.declared.names.NameKinds.{NameKinds}
 use Rattle.cv_scope.specs.Held.{constant_by, has_constant, is_here, names_held}

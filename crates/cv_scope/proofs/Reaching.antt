@@ -4,12 +4,12 @@ use Rattle.std.specs.Prelude.{◌==◌}
 use Rattle.std.specs.List.{AllByRecursion, list_any}
 use Rattle.std.proofs.lemmas.Bool.{eq-eqb, ne_eqb, eqb-false, or_right}
 use Rattle.std.proofs.lemmas.List.Folds.{list_any-append}
-use Rattle.cv_syntax.specs.declared.head.Head.{Head}
-use Rattle.cv_syntax.specs.declared.head.Head.TheVariants.{Repl, In, Event, New, Let, If, Branch, Leaf, Read, Cons, Key, Call}
-use Rattle.cv_syntax.specs.Head.{same_head}
-use Rattle.cv_syntax.specs.Tree.{Tree, Empty, Node, second, lone, same_tree}
-use Rattle.cv_syntax.specs.Children.{is_empty, is_leaf}
-use Rattle.cv_directory.specs.Pairs.{same_pair}
+use Rattle.cv_syntax_trees.specs.declared.head.Head.{Head}
+use Rattle.cv_syntax_trees.specs.declared.head.Head.TheVariants.{Repl, In, Event, New, Let, If, Branch, Leaf, Read, Cons, Key, Call}
+use Rattle.cv_syntax_trees.specs.Head.{same_head}
+use Rattle.cv_syntax_trees.specs.Tree.{Tree, Empty, Node, second, lone, same_tree}
+use Rattle.cv_syntax_trees.specs.Children.{is_empty, is_leaf}
+use Rattle.cv_directory_sorts.specs.Pairs.{same_pair}
 use Rattle.cv_scope_rules.specs.declared.position.Position.{Position}
 use Rattle.cv_scope_rules.specs.declared.position.Position.TheVariants.{Bodies, ElseBody, Guards, Guarded, Cells}
 use Rattle.cv_scope_rules.specs.Context.{Context, cell_of, cells_of, index_terms, items, first_context, second_context, item_context, rest_context, replications_below}

@@ -4,13 +4,15 @@ use Rattle.std.specs.HashMap.{get}
 use Rattle.cv_pool.specs.KindTree.{KindTree}
 use Rattle.cv_pool.specs.Nodes.{ChildBelow}
 use Rattle.cv_pool.specs.declared.node.NodeId.{NodeId}
-use Rattle.cv_syntax.specs.declared.decls.Class.TheVariants.{Fun}
+use Rattle.cv_syntax_trees.specs.declared.class.Class.TheVariants.{Fun}
 use Rattle.cv_syntax.specs.declared.decls.Decl.{Decl}
-use Rattle.cv_syntax.specs.Declarations.{Declaration, Named, declared}
-use Rattle.cv_syntax.specs.declared.head.Head.{Head}
+use Rattle.cv_syntax_trees.specs.Declarations.{Declaration, Named}
+use Rattle.cv_syntax.specs.Declarations.{declared}
+use Rattle.cv_syntax_trees.specs.declared.head.Head.{Head}
 use Rattle.cv_scope_rules.specs.declared.position.Position.{Position}
 use Rattle.cv_syntax.specs.declared.open.Opened.{Opened}
-use Rattle.cv_syntax.specs.Tree.{Tree, Empty, Node, tree_at}
+use Rattle.cv_syntax_trees.specs.Tree.{Tree, Empty, Node}
+use Rattle.cv_syntax.specs.PoolTrees.{tree_at}
 use Rattle.cv_syntax.specs.Walks.{above}
 use Rattle.cv_meaning.specs.Binders.{bound_names}
 use Rattle.cv_scope.specs.declared.binders.FirstBinder.{FirstBinder}

@@ -1,6 +1,6 @@
 ghost use Rattle.std.specs.Prelude.{◌≡◌, ◌<◌, ◌≤◌, length};
 ghost use Rattle.cv_pool.specs.Nodes.{ChildBelow};
-ghost use Rattle.cv_syntax.specs.Tree.{tree_at};
+ghost use Rattle.cv_syntax.specs.PoolTrees.{tree_at};
 ghost use Rattle.cv_scope.specs.Held.{IsFirstBinder};
 ghost use Rattle.cv_scope_rules.specs.Sites.{bound_types};
 ghost use Rattle.cv_scope_rules.specs.Tests.{same_numbers, same_replications};

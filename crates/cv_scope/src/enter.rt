@@ -1,7 +1,7 @@
 ghost use Rattle.std.specs.Prelude.{◌≡◌, ◌<◌, ◌≤◌, ◌∷◌, ◌++◌, [], length, map, take, OnOk};
 ghost use Rattle.cv_pool.specs.Nodes.{ChildBelow};
-ghost use Rattle.cv_syntax.specs.declared.head.Head.TheVariants as Head;
-ghost use Rattle.cv_syntax.specs.Tree.{tree_at};
+ghost use Rattle.cv_syntax_trees.specs.declared.head.Head.TheVariants as Head;
+ghost use Rattle.cv_syntax.specs.PoolTrees.{tree_at};
 ghost use Rattle.cv_meaning.specs.Binders.{bound_names};
 ghost use Rattle.cv_scope_rules.specs.Context.{items};
 ghost use Rattle.cv_scope.specs.Held.{AreListed, DefinesOnly, IsEntered, IsTaken, ListsOnly, state_held};

@@ -2,7 +2,7 @@ ghost use Rattle.std.specs.Prelude.{◌≡◌, ◌<◌, ◌==◌, if◌then◌el
 ghost use Rattle.std.specs.Option.{option_copied};
 ghost use Rattle.cv_pool.specs.KindTree.{KindTree};
 ghost use Rattle.cv_pool.specs.Nodes.{ChildBelow};
-ghost use Rattle.cv_syntax.specs.Tree.{tree_at};
+ghost use Rattle.cv_syntax.specs.PoolTrees.{tree_at};
 ghost use Rattle.cv_scope.specs.Held.{HasLiveBinders, IsLiveSite, last_at, last_held, site_held};
 ghost use Rattle.cv_scope.specs.Seen.{may_follow_last, no_site, with_site};
 ghost use Rattle.cv_scope_rules.specs.Sites.{SiteName, Variable, Channel, Label, bound_types, site_of};

@@ -1,7 +1,8 @@
 ghost use Rattle.std.specs.Prelude.{◌≡◌, ◌<◌, ◌↔◌, length, Some, IsNone};
 ghost use Rattle.std.specs.List.{list_any};
 ghost use Rattle.cv_pool.specs.Nodes.{ChildBelow};
-ghost use Rattle.cv_syntax.specs.Tree.{Empty, Node, same_tree, tree_at};
+ghost use Rattle.cv_syntax_trees.specs.Tree.{Empty, Node, same_tree};
+ghost use Rattle.cv_syntax.specs.PoolTrees.{tree_at};
 ghost use Rattle.cv_scope.specs.Held.{AreListed, IsOpened, cells_held, names_held, state_held};
 ghost use Rattle.cv_scope.specs.Seen.{is_reached as is_reached_by, is_scoped_read, reads_definition as is_defined_by};
 

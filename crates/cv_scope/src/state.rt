@@ -1,7 +1,7 @@
 ghost use Rattle.std.specs.Prelude.{◌≡◌, ◌<◌, ◌≤◌, ℕ, List, [], ◌∷◌, true, length, Option, None, Some, IfOk, OnOk};
 ghost use Rattle.cv_pool.specs.KindTree.{KindTree};
 ghost use Rattle.cv_pool.specs.Nodes.{ChildBelow};
-ghost use Rattle.cv_syntax.specs.Tree.{tree_at};
+ghost use Rattle.cv_syntax.specs.PoolTrees.{tree_at};
 ghost use Rattle.cv_scope.specs.Held.{HasLiveBinders, IsSiteOf, OnlySites, state_held};
 ghost use Rattle.cv_scope.specs.Seen.{may_stand_last, nothing_seen, with_sites};
 ghost use Rattle.cv_scope_rules.specs.Sites.{Variable, Label, channel_here, named_here, site_of, variable_sites};

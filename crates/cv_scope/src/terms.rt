@@ -1,6 +1,6 @@
 ghost use Rattle.std.specs.Prelude.{◌≡◌, ◌<◌, length};
 ghost use Rattle.cv_pool.specs.Nodes.{ChildBelow};
-ghost use Rattle.cv_syntax.specs.Tree.{tree_at};
+ghost use Rattle.cv_syntax.specs.PoolTrees.{tree_at};
 ghost use Rattle.cv_scope_rules.specs.Rules.{carries as are_carried, is_index as is_index_of};
 ghost use Rattle.cv_scope.specs.Seen.{current as current_of};
 ghost use Rattle.cv_scope_rules.specs.Rules.{is_name as is_name_of};

@@ -1,6 +1,7 @@
 ghost use Rattle.std.specs.Prelude.{◌≡◌, ◌<◌, ◌+◌, ◌^◌, None, length, IfOk, IfErr, OnOk};
 ghost use Rattle.cv_pool.specs.Nodes.{ChildBelow};
-ghost use Rattle.cv_syntax.specs.Tree.{size, tree_at};
+ghost use Rattle.cv_syntax_trees.specs.Tree.{size};
+ghost use Rattle.cv_syntax.specs.PoolTrees.{tree_at};
 ghost use Rattle.cv_scope.specs.Held.{AreListed, HasLiveBinders, OnlySites, names_held, state_held};
 ghost use Rattle.cv_scope_rules.specs.Ranges.{EndBy};
 ghost use Rattle.cv_scope_rules.specs.Refusals.{IsRefusalOf};

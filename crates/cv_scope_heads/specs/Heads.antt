@@ -1,7 +1,7 @@
 -- Heads that define a variable by themselves.
 use Rattle.std.specs.Prelude.{ℕ, Option, Some, None}
-use Rattle.cv_syntax.specs.declared.head.Head.{Head}
-use Rattle.cv_syntax.specs.declared.head.Head.TheVariants.{New, Let, Key, Call}
+use Rattle.cv_syntax_trees.specs.declared.head.Head.{Head}
+use Rattle.cv_syntax_trees.specs.declared.head.Head.TheVariants.{New, Let, Key, Call}
 
 -- the variable that a node with this head defines by itself
 abbrev pub variable_of : Head → Option ℕ

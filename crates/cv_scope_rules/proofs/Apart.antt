@@ -2,10 +2,10 @@
 use Rattle.std.proofs.Common.{◌≡◌, ℕ, ◌+◌, ◌≤◌, ◌<◌, Bool, true, false, cond, inl, inr, List, [], ◌∷◌, ◌++◌, refl, subst, arith}
 use Rattle.std.specs.List.{AllByRecursion}
 use Rattle.cv_first_fault.specs.Walk.{IsObeyed}
-use Rattle.cv_syntax.specs.declared.head.Head.{Head}
-use Rattle.cv_syntax.specs.declared.head.Head.TheVariants.{Repl, In, Event, New, Let, If, Find, Branch, Cons, Key, Call}
-use Rattle.cv_syntax.specs.Head.{weight}
-use Rattle.cv_syntax.specs.Tree.{Tree, Empty, Node, second, size}
+use Rattle.cv_syntax_trees.specs.declared.head.Head.{Head}
+use Rattle.cv_syntax_trees.specs.declared.head.Head.TheVariants.{Repl, In, Event, New, Let, If, Find, Branch, Cons, Key, Call}
+use Rattle.cv_syntax_trees.specs.Head.{weight}
+use Rattle.cv_syntax_trees.specs.Tree.{Tree, Empty, Node, second, size}
 use Rattle.cv_meaning.specs.Binders.{bound_names}
 use Rattle.cv_scope_rules.specs.declared.fault.Fault.TheVariants as fault
 use Rattle.cv_scope_rules.specs.declared.position.Position.{Position}
@@ -13,7 +13,7 @@ use Rattle.cv_scope_rules.specs.declared.position.Position.TheVariants.{Bodies, 
 use Rattle.cv_scope_rules.specs.Context.{Context, first_position, second_position, first_context, second_context, item_context, rest_context, replications_below}
 use Rattle.cv_scope_rules.specs.Ranges.{EndBy}
 use Rattle.cv_scope_rules.specs.Rules.{Names, MayFollow, MayStand}
-use Rattle.cv_syntax.specs.Declarations.{Declaration}
+use Rattle.cv_syntax_trees.specs.Declarations.{Declaration}
 use Rattle.cv_scope_rules.specs.Scope.{IsScoped, IsScopedAt, names_of}
 use Rattle.cv_scope_rules.specs.Sites.{InOneOf, Site, Variable, Channel, channel_here, named_here, site_of, sites_from, sites_here, variable_sites}
 use Rattle.cv_scope_rules.specs.Standing.{Standing, at_root, first_standing, second_standing, parts_ways, passed_second}

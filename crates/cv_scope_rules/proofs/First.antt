@@ -1,6 +1,6 @@
 -- What is computed is the first fault in preorder, and there is none exactly where all is scoped.
 use Rattle.std.proofs.Common.{◌≡◌, ℕ, ◌+◌, ◌≤◌, Some, None}
-use Rattle.cv_syntax.specs.Tree.{Tree, size}
+use Rattle.cv_syntax_trees.specs.Tree.{Tree, size}
 use Rattle.cv_first_fault.specs.Walk.{IsDecided}
 use Rattle.cv_first_fault.proofs.First as walk
 use Rattle.cv_scope_rules.specs.declared.fault.Fault.{Fault}

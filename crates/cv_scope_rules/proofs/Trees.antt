@@ -1,8 +1,8 @@
 -- Equality of trees as a test.
 use Rattle.std.proofs.Common.{◌≡◌, true, subst}
-use Rattle.cv_syntax.specs.Tree.{Tree, same_tree}
-use Rattle.cv_syntax.proofs.Equality.{same_tree_exact}
-use Rattle.cv_syntax.proofs.Sames.{same_tree-self}
+use Rattle.cv_syntax_trees.specs.Tree.{Tree, same_tree}
+use Rattle.cv_syntax_trees.proofs.Equality.{same_tree_exact}
+use Rattle.cv_syntax_trees.proofs.Equality.{same_tree-self}
 
 pub tree-same : (a b : Tree) → same_tree a b ≡ true → a ≡ b
 tree-same a b e = same_tree_exact a b e

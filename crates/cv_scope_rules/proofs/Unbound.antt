@@ -1,12 +1,12 @@
 -- A name that is bound nowhere is no variable.
 use Rattle.std.proofs.Common.{◌≡◌, ℕ, Bool, true, false, cond, ◌||◌, not, ◌==◌, List, [], Option, Some, None, is_some, refl, sym, ap, ap₂, ◌∙◌, eqb-true}
 use Rattle.std.proofs.lemmas.Bool.{both_ways, and_parts, not-true}
-use Rattle.cv_syntax.specs.declared.head.Head.{Head}
-use Rattle.cv_syntax.specs.declared.head.Head.TheVariants.{In, New, Let, Branch, Binder, Key, Call}
-use Rattle.cv_syntax.specs.Tree.{Tree, Empty, Node, second}
-use Rattle.cv_directory.specs.declared.sort.Sort.{Sort}
-use Rattle.cv_directory.specs.declared.sort.Sort.TheVariants.{OfType, BelowParameter}
-use Rattle.cv_directory.specs.Sites.{first_of, bound_sort, site_here, at_parameters, parameters_below, first_site}
+use Rattle.cv_syntax_trees.specs.declared.head.Head.{Head}
+use Rattle.cv_syntax_trees.specs.declared.head.Head.TheVariants.{In, New, Let, Branch, Binder, Key, Call}
+use Rattle.cv_syntax_trees.specs.Tree.{Tree, Empty, Node, second}
+use Rattle.cv_directory_sorts.specs.declared.sort.Sort.{Sort}
+use Rattle.cv_directory_sorts.specs.declared.sort.Sort.TheVariants.{OfType, BelowParameter}
+use Rattle.cv_directory_sorts.specs.Sites.{first_of, bound_sort, site_here, at_parameters, parameters_below, first_site}
 use Rattle.cv_scope_rules.specs.Scope.{is_untyped_here, is_untyped_in, is_variable}
 use Rattle.cv_scope_rules.specs.Phrases.{head_binds_none, binds_none}
 

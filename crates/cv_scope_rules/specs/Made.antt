@@ -1,9 +1,9 @@
 -- What the visit of a construct makes: it assigns a variable's cell, serves a copy of a channel's input, or
 -- consults the cell of a find. Blanchet, TDSC 2008, section 2, for single assignment.
 use Rattle.std.specs.Prelude.{◌≡◌, ℕ, Bool, true, false, ◌||◌, ◌==◌, None}
-use Rattle.cv_syntax.specs.declared.head.Head.{Head}
-use Rattle.cv_syntax.specs.declared.head.Head.TheVariants.{In, New, Let, Binder, Find, Branch, Key, Call}
-use Rattle.cv_syntax.specs.Tree.{Tree, Empty, Node, second}
+use Rattle.cv_syntax_trees.specs.declared.head.Head.{Head}
+use Rattle.cv_syntax_trees.specs.declared.head.Head.TheVariants.{In, New, Let, Binder, Find, Branch, Key, Call}
+use Rattle.cv_syntax_trees.specs.Tree.{Tree, Empty, Node, second}
 use Rattle.cv_meaning.specs.Memory.{tuple}
 use Rattle.cv_meaning.specs.Serving.{Visit}
 use Rattle.cv_scope_rules.specs.Sites.{SiteName, Variable, Channel, Label}

@@ -1,7 +1,7 @@
 -- What a refusal says.
 use Rattle.std.specs.Prelude.{ℕ, List, Option, Some, None, IfSome}
-use Rattle.cv_syntax.specs.Declarations.{Declaration}
-use Rattle.cv_syntax.specs.Tree.{Tree}
+use Rattle.cv_syntax_trees.specs.Declarations.{Declaration}
+use Rattle.cv_syntax_trees.specs.Tree.{Tree}
 use Rattle.cv_scope_rules.specs.declared.fault.Fault.{Fault}
 use Rattle.cv_scope_rules.specs.declared.fault.Fault.TheVariants as fault
 use Rattle.cv_scope_rules.specs.declared.fault.ScopeFault.{ScopeFault}

@@ -1,10 +1,10 @@
 -- The rules of array scope, one by one: what each asks of a node, by its head and its children a and b.
 use Rattle.std.specs.Prelude.{◌≡◌, ◌≤◌, ℕ, Bool, true, false, ◌&&◌, ◌==◌, List, [], ◌∷◌, ◌++◌, ◌⊎◌, length}
 use Rattle.std.specs.List.{AllByRecursion, list_any}
-use Rattle.cv_syntax.specs.declared.head.Head.{Head}
-use Rattle.cv_syntax.specs.declared.head.Head.TheVariants.{Repl, In, Out, Branch, Leaf, Read, Name}
-use Rattle.cv_syntax.specs.Tree.{Tree, Empty, Node, first}
-use Rattle.cv_directory.specs.Counting.{count}
+use Rattle.cv_syntax_trees.specs.declared.head.Head.{Head}
+use Rattle.cv_syntax_trees.specs.declared.head.Head.TheVariants.{Repl, In, Out, Branch, Leaf, Read, Name}
+use Rattle.cv_syntax_trees.specs.Tree.{Tree, Empty, Node, first}
+use Rattle.cv_directory_sorts.specs.Counting.{count}
 use Rattle.cv_scope_rules.specs.declared.fault.Fault.{Fault}
 use Rattle.cv_scope_rules.specs.declared.fault.Fault.TheVariants.{Unscoped, TwoSites, Channel, Replications}
 use Rattle.cv_scope_rules.specs.declared.position.Position.{Position}

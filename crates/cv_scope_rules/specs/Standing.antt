@@ -1,8 +1,8 @@
 -- Where a node stands in a game: what is known there, and what stands before it.
 use Rattle.std.specs.Prelude.{ℕ, Bool, true, false, if◌then◌else◌, List, [], ◌∷◌, ◌++◌}
-use Rattle.cv_syntax.specs.declared.head.Head.{Head}
-use Rattle.cv_syntax.specs.declared.head.Head.TheVariants.{Find, Cons}
-use Rattle.cv_syntax.specs.Tree.{Tree, first_place, second_place}
+use Rattle.cv_syntax_trees.specs.declared.head.Head.{Head}
+use Rattle.cv_syntax_trees.specs.declared.head.Head.TheVariants.{Find, Cons}
+use Rattle.cv_syntax_trees.specs.Tree.{Tree, first_place, second_place}
 use Rattle.cv_scope_rules.specs.declared.position.Position.{Position}
 use Rattle.cv_scope_rules.specs.declared.position.Position.TheVariants.{Anywhere, Bodies, Branches}
 use Rattle.cv_scope_rules.specs.Context.{Context, nothing_known, first_position, second_position, first_context, second_context}

@@ -1,10 +1,10 @@
 -- The rules of array scope as tests.
 use Rattle.std.specs.Prelude.{ℕ, Bool, true, false, ◌&&◌, ◌||◌, not, ◌==◌, nat_lt, if◌then◌else◌, List, [], ◌∷◌, ◌++◌, Option, Some, None, length}
 use Rattle.std.specs.List.{list_any, list_all}
-use Rattle.cv_syntax.specs.declared.head.Head.{Head}
-use Rattle.cv_syntax.specs.declared.head.Head.TheVariants.{Repl, Branch, Leaf, Read}
-use Rattle.cv_syntax.specs.Tree.{Tree, Node, same_tree}
-use Rattle.cv_directory.specs.Counting.{count}
+use Rattle.cv_syntax_trees.specs.declared.head.Head.{Head}
+use Rattle.cv_syntax_trees.specs.declared.head.Head.TheVariants.{Repl, Branch, Leaf, Read}
+use Rattle.cv_syntax_trees.specs.Tree.{Tree, Node, same_tree}
+use Rattle.cv_directory_sorts.specs.Counting.{count}
 use Rattle.cv_scope_rules.specs.declared.fault.Fault.{Fault}
 use Rattle.cv_scope_rules.specs.declared.fault.Fault.TheVariants.{Unscoped, TwoSites, Channel, Replications}
 use Rattle.cv_scope_rules.specs.declared.position.Position.{Position}

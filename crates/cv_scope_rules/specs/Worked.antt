@@ -3,11 +3,11 @@
 -- outputs, 4 and 10 are variables, 5 and 13 are types, 9 is an index variable or a received message, 11 is an event,
 -- and 20 is a constant where it is declared.
 use Rattle.std.specs.Prelude.{ℕ, false, List, [], ◌∷◌, Some}
-use Rattle.cv_syntax.specs.declared.decls.Class.TheVariants.{Fun}
-use Rattle.cv_syntax.specs.declared.head.Head.TheVariants.{Stop, Yield, Par, Repl, New, Let, If, Yes, Key, Call}
-use Rattle.cv_syntax.specs.Declarations.{Declaration, Named}
-use Rattle.cv_syntax.specs.Tree.{Tree, Empty, Node, lone, chain}
-use Rattle.cv_syntax.specs.Builders.{leaf, read, input, output, branch, find}
+use Rattle.cv_syntax_trees.specs.declared.class.Class.TheVariants.{Fun}
+use Rattle.cv_syntax_trees.specs.declared.head.Head.TheVariants.{Stop, Yield, Par, Repl, New, Let, If, Yes, Key, Call}
+use Rattle.cv_syntax_trees.specs.Declarations.{Declaration, Named}
+use Rattle.cv_syntax_trees.specs.Tree.{Tree, Empty, Node, lone, chain}
+use Rattle.cv_syntax_trees.specs.Builders.{leaf, read, input, output, branch, find}
 
 abbrev pub constants : List Declaration
 constants = Named 20 (Fun false) Empty (Some 5) ∷ []

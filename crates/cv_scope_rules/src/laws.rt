@@ -1,7 +1,7 @@
 ghost use Rattle.std.specs.Prelude.{◌≡◌, ◌↔◌, ℕ, List, None, Some};
-ghost use Rattle.cv_syntax.specs.declared.head.Head.{Head};
-ghost use Rattle.cv_syntax.specs.Declarations.{Declaration};
-ghost use Rattle.cv_syntax.specs.Tree.{Tree};
+ghost use Rattle.cv_syntax_trees.specs.declared.head.Head.{Head};
+ghost use Rattle.cv_syntax_trees.specs.Declarations.{Declaration};
+ghost use Rattle.cv_syntax_trees.specs.Tree.{Tree};
 ghost use Rattle.cv_scope_rules.specs.declared.fault.Fault.{Fault};
 ghost use Rattle.cv_scope_rules.specs.Branches.{AreSitesAlike, IsApartByBranches};
 ghost use Rattle.cv_scope_rules.specs.Standing.{Standing};

@@ -2,8 +2,8 @@
 use Rattle.std.proofs.Common.{◌≡◌, ℕ, Bool, true, false, cond, ◌||◌, ◌&&◌, not, ◌==◌, List, [], ◌∷◌, ◌++◌, ◌⊎◌, Option, Some, None, refl, sym, ap, ap₂, subst, ◌∙◌, inl, inr, zip, eqb-true}
 use Rattle.std.proofs.lemmas.Bool.{both_ways, and_parts, and_from}
 use Rattle.std.specs.List.{AllByRecursion, list_any, list_all}
-use Rattle.cv_syntax.specs.declared.head.Head.TheVariants.{Leaf, Apply, Eq, And, Or, Not, Yes, No}
-use Rattle.cv_syntax.specs.Tree.{Tree, Empty, Node}
+use Rattle.cv_syntax_trees.specs.declared.head.Head.TheVariants.{Leaf, Apply, Eq, And, Or, Not, Yes, No}
+use Rattle.cv_syntax_trees.specs.Tree.{Tree, Empty, Node}
 use Rattle.cv_meaning.specs.Tapes.{same_tuple}
 use Rattle.cv_meaning.specs.Interpretation.{Setting}
 use Rattle.cv_meaning.specs.Memory.{Store, nowhere, Happened, Indices}
@@ -11,7 +11,7 @@ use Rattle.cv_meaning.specs.Terms.{found_in, bit, is_one, leaf_value_from, leaf_
 use Rattle.cv_meaning.specs.Correspondences.{Correspondence, Atom, RightEvent, RightTerm, is_event, holds, left_values, is_left, is_met, assignments}
 use Rattle.cv_meaning.specs.Direct.{Noted, argument, is_argument, is_leaf, is_one_of, stands_for, is_substituted, is_instance, is_noted, atom_noted, event_covered}
 use Rattle.cv_meaning_laws.proofs.Counts.{same_tuple_refl}
-use Rattle.cv_syntax.proofs.Equality.{same_tree_exact}
+use Rattle.cv_syntax_trees.proofs.Equality.{same_tree_exact}
 use Rattle.cv_meaning_laws.proofs.Lists.{or_none}
 use Rattle.cv_scope_runs.specs.Promises.{IsRecorded}
 use Rattle.cv_scope_runs.proofs.OnceGames.{or_right}

@@ -1,9 +1,9 @@
 -- In a run of such a game no cell is assigned that a visited node could still assign.
 use Rattle.std.proofs.Common.{◌≡◌, ℕ, zero, suc, Bool, true, false, cond, ◌||◌, ◌&&◌, ◌==◌, List, [], ◌∷◌, ◌++◌, ◌⊎◌, inl, inr, Option, Some, None, refl, sym, ◌∙◌}
 use Rattle.std.specs.List.{AllByRecursion}
-use Rattle.cv_syntax.specs.declared.head.Head.{Head}
-use Rattle.cv_syntax.specs.declared.head.Head.TheVariants.{In, Event, New, Let, If, Find, Branch, Cons, Binder, Key, Call}
-use Rattle.cv_syntax.specs.Tree.{Tree, Empty, Node, second, first_place, second_place}
+use Rattle.cv_syntax_trees.specs.declared.head.Head.{Head}
+use Rattle.cv_syntax_trees.specs.declared.head.Head.TheVariants.{In, Event, New, Let, If, Find, Branch, Cons, Binder, Key, Call}
+use Rattle.cv_syntax_trees.specs.Tree.{Tree, Empty, Node, second, first_place, second_place}
 use Rattle.cv_meaning.specs.Tapes.{Tape, Find_at, same_tuple}
 use Rattle.cv_meaning.specs.Interpretation.{Setting}
 use Rattle.cv_meaning.specs.Memory.{Store, Local, put, tuple}

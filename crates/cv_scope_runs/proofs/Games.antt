@@ -1,13 +1,13 @@
 -- What holds of the subtrees of a well-formed game where they stand.
 use Rattle.std.proofs.Common.{◌≡◌, ℕ, Bool, true, false, cond, ◌||◌, not, ◌==◌, List, [], ◌⊎◌, inl, inr, Option, Some, None, is_some, refl, sym, ap, subst, eqb-true, eq-eqb}
 use Rattle.std.proofs.lemmas.Bool.{both_ways, and_parts, not-true}
-use Rattle.cv_syntax.specs.declared.head.Head.{Head}
-use Rattle.cv_syntax.specs.declared.head.Head.TheVariants.{Repl, In, New, Let, Branch, Binder, Key, Call}
-use Rattle.cv_syntax.specs.Tree.{Tree, Node, second}
+use Rattle.cv_syntax_trees.specs.declared.head.Head.{Head}
+use Rattle.cv_syntax_trees.specs.declared.head.Head.TheVariants.{Repl, In, New, Let, Branch, Binder, Key, Call}
+use Rattle.cv_syntax_trees.specs.Tree.{Tree, Node, second}
 use Rattle.cv_meaning.specs.Interpretation.{Setting}
-use Rattle.cv_directory.specs.declared.sort.Sort.{Sort}
-use Rattle.cv_directory.specs.declared.sort.Sort.TheVariants.{OfType, BelowParameter}
-use Rattle.cv_directory.specs.Sites.{first_of, bound_sort, site_here, at_parameters, parameters_below, first_site}
+use Rattle.cv_directory_sorts.specs.declared.sort.Sort.{Sort}
+use Rattle.cv_directory_sorts.specs.declared.sort.Sort.TheVariants.{OfType, BelowParameter}
+use Rattle.cv_directory_sorts.specs.Sites.{first_of, bound_sort, site_here, at_parameters, parameters_below, first_site}
 use Rattle.cv_scope_rules.specs.declared.position.Position.TheVariants.{Anywhere}
 use Rattle.cv_scope_rules.specs.Context.{Context, nothing_known}
 use Rattle.cv_scope_rules.specs.Sites.{Variable}

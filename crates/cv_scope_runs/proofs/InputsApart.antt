@@ -2,8 +2,8 @@
 use Rattle.std.proofs.Common.{◌≡◌, ℕ, Bool, true, false, ◌==◌, List, [], ◌∷◌, ◌++◌, inl, refl, sym, ap, subst, eqb-true, eq-eqb}
 use Rattle.std.proofs.lemmas.Bool.{and_parts}
 use Rattle.std.specs.List.{AllByRecursion, IsDistinct}
-use Rattle.cv_syntax.specs.declared.head.Head.TheVariants.{In}
-use Rattle.cv_syntax.specs.Tree.{Tree, Node}
+use Rattle.cv_syntax_trees.specs.declared.head.Head.TheVariants.{In}
+use Rattle.cv_syntax_trees.specs.Tree.{Tree, Node}
 use Rattle.cv_meaning.specs.Tapes.{Tape}
 use Rattle.cv_meaning.specs.Interpretation.{Setting}
 use Rattle.cv_meaning.specs.Memory.{tuple}

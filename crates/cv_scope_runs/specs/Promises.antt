@@ -1,10 +1,10 @@
 -- What stands above a node holds: its replications, cells, facts and events. This profile's own.
 use Rattle.std.specs.Prelude.{◌≡◌, ℕ, ◌<◌, ◌⊎◌, true, if◌then◌else◌, List, [], ◌∷◌, ◌++◌, map, Some}
 use Rattle.std.specs.List.{AllByRecursion}
-use Rattle.cv_syntax.specs.declared.head.Head.{Head}
-use Rattle.cv_syntax.specs.declared.head.Head.TheVariants.{Branch, Cons, Find}
+use Rattle.cv_syntax_trees.specs.declared.head.Head.{Head}
+use Rattle.cv_syntax_trees.specs.declared.head.Head.TheVariants.{Branch, Cons, Find}
 use Rattle.cv_syntax.specs.Layouts.{IsSyntax}
-use Rattle.cv_syntax.specs.Tree.{Tree, Empty, Node, first, second, first_place, second_place}
+use Rattle.cv_syntax_trees.specs.Tree.{Tree, Empty, Node, first, second, first_place, second_place}
 use Rattle.cv_meaning.specs.Interpretation.{Setting}
 use Rattle.cv_meaning.specs.Memory.{Memory, Store, Indices, Happened, Local, tuple}
 use Rattle.cv_meaning.specs.Terms.{value, values}

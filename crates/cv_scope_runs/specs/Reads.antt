@@ -1,7 +1,7 @@
 -- When each value that a construct reads has been assigned. Blanchet, TDSC 2008, section 2.
 use Rattle.std.specs.Prelude.{◌≡◌, ℕ, true, List, [], Option, Some, None, ◌⊎◌, is_some}
-use Rattle.cv_syntax.specs.declared.head.Head.TheVariants.{Leaf, Read, Apply, Let, If, Event, Out, Find, Call}
-use Rattle.cv_syntax.specs.Tree.{Tree, Empty, Node, first, second}
+use Rattle.cv_syntax_trees.specs.declared.head.Head.TheVariants.{Leaf, Read, Apply, Let, If, Event, Out, Find, Call}
+use Rattle.cv_syntax_trees.specs.Tree.{Tree, Empty, Node, first, second}
 use Rattle.cv_meaning.specs.Interpretation.{Setting}
 use Rattle.cv_meaning.specs.Memory.{Store, Indices, Local, tuple}
 use Rattle.cv_meaning.specs.Terms.{found_in, values}

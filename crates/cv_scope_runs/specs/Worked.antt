@@ -3,12 +3,12 @@
 -- outputs, 4 is a variable and 5 its type, 9 is a variable of a query, 11 and 12 are events, 20 is a constant where it is
 -- declared, and 30 is a function.
 use Rattle.std.specs.Prelude.{ℕ, false, List, [], ◌∷◌, Option, Some}
-use Rattle.cv_syntax.specs.declared.head.Head.TheVariants.{Yield, Let, Yes, Apply}
-use Rattle.cv_syntax.specs.Tree.{Tree, Empty, Node, lone, chain}
+use Rattle.cv_syntax_trees.specs.declared.head.Head.TheVariants.{Yield, Let, Yes, Apply}
+use Rattle.cv_syntax_trees.specs.Tree.{Tree, Empty, Node, lone, chain}
 use Rattle.cv_meaning.specs.Interpretation.{Setting, setting_of}
 use Rattle.cv_meaning.specs.Runs.{Adversary, Answer, Move, Calls}
 use Rattle.cv_meaning.specs.Correspondences.{Correspondence, correspondence_of}
-use Rattle.cv_syntax.specs.Builders.{leaf, read, input, output, event, correspondence, occurs}
+use Rattle.cv_syntax_trees.specs.Builders.{leaf, read, input, output, event, correspondence, occurs}
 use Rattle.cv_meaning_laws.specs.Worked.{adversary}
 use Rattle.cv_scope_rules.specs.Worked.{call, constants, key, repl, restriction, sends, starts}
 

@@ -4,9 +4,9 @@
 
 ghost use Rattle.std.specs.Prelude.{◌≡◌, ℕ, List, [], ◌∷◌, false, true};
 ghost use Rattle.std.specs.List.{AllByRecursion, IsDistinct};
-ghost use Rattle.cv_syntax.specs.declared.head.Head.TheVariants.{Query};
-ghost use Rattle.cv_syntax.specs.Declarations.{Declaration};
-ghost use Rattle.cv_syntax.specs.Tree.{Node, Tree};
+ghost use Rattle.cv_syntax_trees.specs.declared.head.Head.TheVariants.{Query};
+ghost use Rattle.cv_syntax_trees.specs.Declarations.{Declaration};
+ghost use Rattle.cv_syntax_trees.specs.Tree.{Node, Tree};
 ghost use Rattle.cv_meaning.specs.Tapes.{Tape, blank, same_cell};
 ghost use Rattle.cv_meaning.specs.Interpretation.{Interpretation, Setting, is_constant_of, setting_of};
 ghost use Rattle.cv_meaning.specs.Memory.{Memory};

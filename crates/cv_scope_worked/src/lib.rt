@@ -2,9 +2,9 @@
 #![tactic(auto)]
 
 ghost use Rattle.std.specs.Prelude.{◌≡◌, [], ◌∷◌, None, Some};
-ghost use Rattle.cv_syntax.specs.declared.head.Head.TheVariants.{Eq, Par, Stop, Yes, Yield};
-ghost use Rattle.cv_syntax.specs.Tree.{Node, lone};
-ghost use Rattle.cv_syntax.specs.Builders.{branch, event, find, input, leaf, output, read};
+ghost use Rattle.cv_syntax_trees.specs.declared.head.Head.TheVariants.{Eq, Par, Stop, Yes, Yield};
+ghost use Rattle.cv_syntax_trees.specs.Tree.{Node, lone};
+ghost use Rattle.cv_syntax_trees.specs.Builders.{branch, event, find, input, leaf, output, read};
 ghost use Rattle.cv_scope_rules.specs.declared.fault.Fault.TheVariants.{Channel, Replications, TwoSites, Unscoped};
 ghost use Rattle.cv_scope_rules.specs.Scope.{first_scope_fault};
 ghost use Rattle.cv_scope_rules.specs.Worked.{answers_twice, assignment, call, cell_found, constants, finds, finds_index, key, reads_below_two, reads_without_definition, repl, replicated, restriction, sends, starts, test, tests_cells};

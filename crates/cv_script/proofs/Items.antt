@@ -1,7 +1,7 @@
 -- The items of a step.
 use Rattle.std.proofs.Common.{◌≡◌, true, false, refl, Some, None}
-use Rattle.cv_syntax.specs.Children.{is_empty}
-use Rattle.cv_syntax.specs.Tree.{Tree, Empty, Node}
+use Rattle.cv_syntax_trees.specs.Children.{is_empty}
+use Rattle.cv_syntax_trees.specs.Tree.{Tree, Empty, Node}
 use Rattle.cv_syntax.proofs.Trees.{tree_of-NoTree}
 use Rattle.cv_script.specs.Views.{tree_in}
 

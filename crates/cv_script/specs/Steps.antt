@@ -1,8 +1,8 @@
 -- The trees of steps, certificates and derivations. This profile's own. A certificate says of each left event of a
 -- correspondence why the right events hold; correspondences are those of Blanchet, CSF 2007.
 use Rattle.std.specs.Prelude.{ℕ, List, [], ◌∷◌, map}
-use Rattle.cv_syntax.specs.declared.head.Head.TheVariants.{Eq, Number, Line, ByRefl, AboveRoute, AtEntry, WithEntry, EventsCertificate, SuccessStep}
-use Rattle.cv_syntax.specs.Tree.{Tree, Empty, Node, chain, lone}
+use Rattle.cv_syntax_trees.specs.declared.head.Head.TheVariants.{Eq, Number, Line, ByRefl, AboveRoute, AtEntry, WithEntry, EventsCertificate, SuccessStep}
+use Rattle.cv_syntax_trees.specs.Tree.{Tree, Empty, Node, chain, lone}
 
 abbrev pub number : ℕ → Tree
 number n = lone (Number n)

@@ -1,6 +1,6 @@
 -- The text of a step, by the table of scripts.
 use Rattle.std.specs.Prelude.{ℕ, List}
-use Rattle.cv_syntax.specs.Tree.{Tree}
+use Rattle.cv_syntax_trees.specs.Tree.{Tree}
 use Rattle.cv_print_tables.specs.Prints.{tree_text}
 use Rattle.cv_script_rows.specs.Rows.{script_rows, step_row}
 

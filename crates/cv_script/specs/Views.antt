@@ -2,8 +2,9 @@
 use Rattle.std.specs.Prelude.{ℕ, ◌<◌, Bool, true, false, List, Option, Some, None}
 use Rattle.cv_pool.specs.KindTree.{KindTree}
 use Rattle.cv_pool.specs.Nodes.{ChildBelow}
-use Rattle.cv_syntax.specs.declared.head.Head.TheVariants as head
-use Rattle.cv_syntax.specs.Tree.{Tree, Empty, Node, first, second, tree_at}
+use Rattle.cv_syntax_trees.specs.declared.head.Head.TheVariants as head
+use Rattle.cv_syntax_trees.specs.Tree.{Tree, Empty, Node, first, second}
+use Rattle.cv_syntax.specs.PoolTrees.{tree_at}
 use Rattle.cv_script.specs.declared.views.Part.{Part}
 use Rattle.cv_script.specs.declared.views.Part.TheVariants as part
 use Rattle.cv_script.specs.declared.views.StepView.{StepView}

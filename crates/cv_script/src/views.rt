@@ -1,8 +1,9 @@
 // Steps by their items: what no other crate reads off a step's nodes.
 ghost use Rattle.std.specs.Prelude.{◌≡◌, ◌<◌, IfSome, Some, length, option_map};
 ghost use Rattle.cv_pool.specs.Nodes.{ChildBelow};
-ghost use Rattle.cv_syntax.specs.declared.head.Head.TheVariants.{ArrayRenameStep, BirthdayStep, CodefStep, CryptoStep, FreshStep, GuessStep, LetStep, MergeStep, MoveStep, NewStep, PickStep, PruneStep, RenameStep, RewriteStep, SplitStep, SuccessStep, UnletStep, UnnewStep};
-ghost use Rattle.cv_syntax.specs.Tree.{Empty, Node, tree_at};
+ghost use Rattle.cv_syntax_trees.specs.declared.head.Head.TheVariants.{ArrayRenameStep, BirthdayStep, CodefStep, CryptoStep, FreshStep, GuessStep, LetStep, MergeStep, MoveStep, NewStep, PickStep, PruneStep, RenameStep, RewriteStep, SplitStep, SuccessStep, UnletStep, UnnewStep};
+ghost use Rattle.cv_syntax_trees.specs.Tree.{Empty, Node};
+ghost use Rattle.cv_syntax.specs.PoolTrees.{tree_at};
 ghost use Rattle.cv_script.specs.Views.{AreLive, adds_in, name_in, number_in, part_in, items_of_view, tree_in, items_of_step};
 
 use crate::steps::Step;

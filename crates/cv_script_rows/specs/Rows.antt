@@ -2,7 +2,7 @@
 -- over its items, in the order of its text; a list is a chain, a derivation the chain of its lines. The forms of steps, derivations
 -- and certificates are this profile's own.
 use Rattle.std.specs.Prelude.{ℕ, false, [], ◌∷◌}
-use Rattle.cv_syntax.specs.declared.head.Head.TheVariants as head
+use Rattle.cv_syntax_trees.specs.declared.head.Head.TheVariants as head
 use Rattle.cv_parse_notation.specs.declared.sign.Mark.TheVariants as mark
 use Rattle.cv_parse_notation.specs.declared.script.ScriptWord.TheVariants as word
 use Rattle.cv_parse_grammar.specs.declared.role.Role.TheVariants as role

@@ -1,7 +1,7 @@
 -- Each step that is accepted leads to a ready game, and keeps chances.
 use Rattle.std.proofs.Common.{◌≡◌}
 use Rattle.std.proofs.lemmas.Bool.{and_parts}
-use Rattle.cv_syntax.specs.Tree.{Tree}
+use Rattle.cv_syntax_trees.specs.Tree.{Tree}
 use Rattle.cv_typing_runs.specs.Games.{HasConstants}
 use Rattle.cv_derivations_under.specs.Holding.{IsReady}
 use Rattle.cv_derivations_under.specs.Soundness.{DerivationsHold, DerivedBodiesAreUnreached}

@@ -1,8 +1,8 @@
 -- What an asked experiment tests has values, so each choice and test of a typed game with declared sorts has one.
 use Rattle.std.proofs.Common.{◌≡◌, ℕ, ◌==◌, Bool, true, false, List, [], ◌∷◌, ◌++◌, flat_map, Contains, inl, inr, refl, sym, subst, eqb-true}
 use Rattle.std.proofs.lemmas.Bool.{both_ways}
-use Rattle.cv_syntax.specs.Declarations.{Declaration}
-use Rattle.cv_syntax.specs.Tree.{Tree}
+use Rattle.cv_syntax_trees.specs.Declarations.{Declaration}
+use Rattle.cv_syntax_trees.specs.Tree.{Tree}
 use Rattle.cv_meaning.specs.Advantage.{IsAsked, secrecy_query}
 use Rattle.cv_meaning.specs.Experiments.{Breaks, Experiment, Guesses, mode_of}
 use Rattle.cv_meaning.specs.Interpretation.{Interpretation, setting_of}
@@ -10,9 +10,9 @@ use Rattle.cv_meaning.specs.Runs.{Events, Random, Real}
 use Rattle.cv_meaning.specs.Satisfies.{Satisfies}
 use Rattle.cv_meaning_adequacy.proofs.Lists.{contains_has}
 use Rattle.cv_meaning_laws.proofs.Listed.{Has}
-use Rattle.cv_typing.specs.declared.form.Form.TheVariants.{InProcess}
-use Rattle.cv_typing.specs.Parts.{AreTyped, IsTypedFile, IsTypedGame, IsTypedPart, Part, declaration_parts, game_part, nothing_above}
-use Rattle.cv_typing.specs.Wants.{Run}
+use Rattle.cv_typing_rules.specs.declared.form.Form.TheVariants.{InProcess}
+use Rattle.cv_typing_rules.specs.Parts.{AreTyped, IsTypedFile, IsTypedGame, IsTypedPart, Part, declaration_parts, game_part, nothing_above}
+use Rattle.cv_typing_rules.specs.Wants.{Run}
 use Rattle.cv_meaning.specs.Queries.{queries_in}
 use Rattle.cv_query_form.specs.Rules.{AreAsked, HasValues, MayBeAsked}
 use Rattle.cv_typing_runs.specs.Games.{HasDeclaredSorts}

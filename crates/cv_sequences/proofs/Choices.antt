@@ -4,9 +4,9 @@ use Rattle.std.proofs.Common.{◌≡◌, ℕ, ◌<◌, ◌≤◌, true, false, L
 use Rattle.std.specs.Prelude.{option_map}
 use Rattle.std.proofs.lemmas.Bool.{both_ways, and_parts, or_parts}
 use Rattle.cv_first_fault.specs.Walk.{IsObeyed}
-use Rattle.cv_syntax.specs.declared.head.Head.TheVariants.{Binder, Branch, Cons, Event, Find, If, In, Leaf, Let, Name, New, Out, Par, Read, Repl, Stop, Yield}
-use Rattle.cv_syntax.specs.Declarations.{Declaration}
-use Rattle.cv_syntax.specs.Tree.{Tree, Empty, Node, second}
+use Rattle.cv_syntax_trees.specs.declared.head.Head.TheVariants.{Binder, Branch, Cons, Event, Find, If, In, Leaf, Let, Name, New, Out, Par, Read, Repl, Stop, Yield}
+use Rattle.cv_syntax_trees.specs.Declarations.{Declaration}
+use Rattle.cv_syntax_trees.specs.Tree.{Tree, Empty, Node, second}
 use Rattle.cv_meaning.specs.Interpretation.{Interpretation, Setting, setting_of}
 use Rattle.cv_meaning.specs.Runs.{Mode}
 use Rattle.cv_meaning.specs.Satisfies.{Satisfies}
@@ -14,13 +14,13 @@ use Rattle.cv_meaning_adequacy.specs.Typed as meaning
 use Rattle.cv_meaning_adequacy.specs.Typed.{IsDeclared}
 use Rattle.cv_meaning_adequacy.proofs.Sorted.{some_value}
 use Rattle.cv_scope_rules.specs.Phrases.{Phrase, Arm, Binders, Body, Branches as BranchesPhrase, Cells, Else, Guarded as GuardedPhrase, Guards, Indices as IndicesPhrase, Inputs, Message as MessagePhrase, Nil, OneCell, Pattern, Term, Terms, Then, is_phrase}
-use Rattle.cv_directory.specs.declared.sort.Sort.{Sort}
-use Rattle.cv_directory.specs.declared.sort.Sort.TheVariants.{BelowParameter, OfType}
-use Rattle.cv_directory.specs.Sites.{Variable, sites_of}
-use Rattle.cv_typing.specs.Signature.{Above, OfGame, Signature, variable_sort}
-use Rattle.cv_typing.specs.Typing.{IsTyped, binders_differ}
-use Rattle.cv_directory.specs.Sorts.{differs_from}
-use Rattle.cv_typing.specs.Wants.{Want, above_second, wants}
+use Rattle.cv_directory_sorts.specs.declared.sort.Sort.{Sort}
+use Rattle.cv_directory_sorts.specs.declared.sort.Sort.TheVariants.{BelowParameter, OfType}
+use Rattle.cv_directory_sorts.specs.Sites.{Variable, sites_of}
+use Rattle.cv_typing_rules.specs.Signature.{Above, OfGame, Signature, variable_sort}
+use Rattle.cv_typing_rules.specs.Typing.{IsTyped, binders_differ}
+use Rattle.cv_directory_sorts.specs.Sorts.{differs_from}
+use Rattle.cv_typing_rules.specs.Wants.{Want, above_second, wants}
 use Rattle.cv_typing_runs.specs.Games.{AreDeclared, HasDeclaredSorts, sort_of_meaning}
 use Rattle.cv_typing_runs.proofs.SameSites.{input_binders}
 use Rattle.cv_typing_runs.proofs.Terms.{faultless, same_sorts}

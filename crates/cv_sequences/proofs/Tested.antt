@@ -1,8 +1,8 @@
 -- What the test of a next game gives, and what the conditions of its step.
 use Rattle.std.proofs.Common.{◌≡◌, ℕ, ◌||◌, Bool, true, false, cond, List, Option, Some, None, option_map, refl, sym, ap, ◌∙◌}
 use Rattle.std.proofs.lemmas.Bool.{and_parts}
-use Rattle.cv_syntax.specs.Declarations.{Declaration}
-use Rattle.cv_syntax.specs.Tree.{Tree}
+use Rattle.cv_syntax_trees.specs.Declarations.{Declaration}
+use Rattle.cv_syntax_trees.specs.Tree.{Tree}
 use Rattle.cv_meaning.specs.Queries.{queries_in}
 use Rattle.cv_query_form.specs.Rules.{AreAsked}
 use Rattle.cv_query_form.proofs.First.{asked-where-none}

@@ -2,8 +2,8 @@
 #![tactic(auto)]
 
 ghost use Rattle.std.specs.Prelude.{◌≡◌, ℕ, Bool, false, true, List, []};
-ghost use Rattle.cv_syntax.specs.Declarations.{Declaration};
-ghost use Rattle.cv_syntax.specs.Tree.{Tree};
+ghost use Rattle.cv_syntax_trees.specs.Declarations.{Declaration};
+ghost use Rattle.cv_syntax_trees.specs.Tree.{Tree};
 ghost use Rattle.cv_meaning.specs.Interpretation.{Interpretation, setting_of};
 ghost use Rattle.cv_meaning.specs.Satisfies.{Satisfies};
 ghost use Rattle.cv_meaning.specs.Runs.{Adversary};
@@ -15,7 +15,7 @@ ghost use Rattle.cv_bound_values.specs.Values.{Advantages, sum_value};
 ghost use Rattle.cv_meaning.specs.Queries.{queries_in};
 ghost use Rattle.cv_query_form.specs.Rules.{AreAsked};
 ghost use Rattle.cv_scope_rules.specs.Phrases.{Inputs, is_phrase};
-ghost use Rattle.cv_typing.specs.Parts.{IsTypedFile};
+ghost use Rattle.cv_typing_rules.specs.Parts.{IsTypedFile};
 ghost use Rattle.cv_typing_runs.specs.Games.{HasConstants, HasDeclaredSorts};
 ghost use Rattle.cv_scenes.specs.Scenes.{KnowsQueries, Scene};
 ghost use Rattle.cv_derivations_under.specs.Holding.{IsReady};

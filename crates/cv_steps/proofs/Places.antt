@@ -1,10 +1,10 @@
 -- Where a term stands in a phrase, and the phrase with another term there.
 use Rattle.std.proofs.Common.{◌≡◌, ℕ, ◌+◌, ◌-◌, ◌<◌, ◌≤◌, Bool, true, false, cond, Some, refl, sym, ap, subst, ◌∙◌, arith, nat_lt, ltb-true, ltb-false}
 use Rattle.std.proofs.lemmas.Bool.{both_ways}
-use Rattle.cv_syntax.specs.declared.head.Head.{Head}
-use Rattle.cv_syntax.specs.declared.head.Head.TheVariants.{Branch, Binder, Cons, Leaf, Name, Read}
-use Rattle.cv_syntax.specs.Head.{weight}
-use Rattle.cv_syntax.specs.Tree.{Tree, Empty, Node, size, subtree}
+use Rattle.cv_syntax_trees.specs.declared.head.Head.{Head}
+use Rattle.cv_syntax_trees.specs.declared.head.Head.TheVariants.{Branch, Binder, Cons, Leaf, Name, Read}
+use Rattle.cv_syntax_trees.specs.Head.{weight}
+use Rattle.cv_syntax_trees.specs.Tree.{Tree, Empty, Node, size, subtree}
 use Rattle.cv_meaning_runs.specs.Replacement.{before_body}
 use Rattle.cv_meaning.specs.Replaced.{replaced}
 use Rattle.cv_scope_rules.specs.Phrases.{Phrase, Nil, Body, Branches, Arm, Guards, Guarded, Pattern, Indices, Binders, Cells, OneCell, Term}

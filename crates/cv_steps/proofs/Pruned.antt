@@ -1,9 +1,9 @@
 -- What follows of a row by which a body goes: which construct stands there, and what is left of it.
 use Rattle.std.proofs.Common.{◌≡◌, ℕ, zero, suc, true, Option, Some, None, refl, ap, subst}
 use Rattle.std.specs.Prelude.{option_map}
-use Rattle.cv_syntax.specs.declared.head.Head.{Head}
-use Rattle.cv_syntax.specs.declared.head.Head.TheVariants.{Cons, Find, If}
-use Rattle.cv_syntax.specs.Tree.{Tree, Empty, Node, first_place}
+use Rattle.cv_syntax_trees.specs.declared.head.Head.{Head}
+use Rattle.cv_syntax_trees.specs.declared.head.Head.TheVariants.{Cons, Find, If}
+use Rattle.cv_syntax_trees.specs.Tree.{Tree, Empty, Node, first_place}
 use Rattle.cv_meaning.specs.Replaced.{is_output}
 use Rattle.cv_derivations.specs.Ends.{ends_with}
 use Rattle.cv_derivations.specs.Targets.{falsity}

@@ -1,7 +1,7 @@
 -- What follows of a row by which a term is rewritten.
 use Rattle.std.proofs.Common.{◌≡◌, ℕ, true}
 use Rattle.std.proofs.lemmas.Bool.{and_parts}
-use Rattle.cv_syntax.specs.Tree.{Tree}
+use Rattle.cv_syntax_trees.specs.Tree.{Tree}
 use Rattle.cv_scope_rules.specs.Phrases.{Inputs}
 use Rattle.cv_derivations.specs.Ends.{ends_with}
 use Rattle.cv_derivations.specs.Targets.{equality}

@@ -1,6 +1,6 @@
 -- What follows of a row that leads to a game: no condition of it fails.
 use Rattle.std.proofs.Common.{◌≡◌, ℕ, Bool, true, false, Option, Some, None, refl}
-use Rattle.cv_syntax.specs.Tree.{Tree}
+use Rattle.cv_syntax_trees.specs.Tree.{Tree}
 use Rattle.cv_steps.specs.Steps.{Cost}
 use Rattle.cv_steps.specs.Rows.{Row, Leads, unless, unless_at}
 

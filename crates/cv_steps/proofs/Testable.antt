@@ -1,9 +1,9 @@
 -- Games in the grammar can be tested, and have no calls; nothing answers them.
 use Rattle.std.proofs.Common.{◌≡◌, ℕ, ◌&&◌, true, false, refl, ap₂}
 use Rattle.std.proofs.lemmas.Bool.{both_ways, and_parts}
-use Rattle.cv_syntax.specs.declared.head.Head.{Head}
-use Rattle.cv_syntax.specs.declared.head.Head.TheVariants.{Repl, In, Key, Call}
-use Rattle.cv_syntax.specs.Tree.{Tree, Empty, Node}
+use Rattle.cv_syntax_trees.specs.declared.head.Head.{Head}
+use Rattle.cv_syntax_trees.specs.declared.head.Head.TheVariants.{Repl, In, Key, Call}
+use Rattle.cv_syntax_trees.specs.Tree.{Tree, Empty, Node}
 use Rattle.cv_meaning.specs.Side.{no_side}
 use Rattle.cv_meaning.specs.Runs.{Mode, Events, Real, Random}
 use Rattle.cv_meaning_runs.specs.Agreement.{IsLocal}

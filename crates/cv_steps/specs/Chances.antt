@@ -1,7 +1,7 @@
 -- When a step keeps chances. Steps between games of equal chances are those of Blanchet, TDSC 2008, section 3.
 use Rattle.std.specs.Prelude.{List}
-use Rattle.cv_syntax.specs.Declarations.{Declaration}
-use Rattle.cv_syntax.specs.Tree.{Tree}
+use Rattle.cv_syntax_trees.specs.Declarations.{Declaration}
+use Rattle.cv_syntax_trees.specs.Tree.{Tree}
 use Rattle.cv_meaning.specs.Interpretation.{Interpretation, setting_of}
 use Rattle.cv_meaning.specs.Satisfies.{Satisfies}
 use Rattle.cv_meaning.specs.Runs.{Adversary}

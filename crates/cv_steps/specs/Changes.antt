@@ -1,7 +1,7 @@
 -- How steps change games. This profile's own.
 use Rattle.std.specs.Prelude.{ℕ, Bool, ◌==◌, if◌then◌else◌, Option, Some, None}
-use Rattle.cv_syntax.specs.declared.head.Head.TheVariants.{New, Let}
-use Rattle.cv_syntax.specs.Tree.{Tree, Empty, Node}
+use Rattle.cv_syntax_trees.specs.declared.head.Head.TheVariants.{New, Let}
+use Rattle.cv_syntax_trees.specs.Tree.{Tree, Empty, Node}
 use Rattle.cv_meaning_runs.specs.Replacement.{if_tree}
 use Rattle.cv_meaning.specs.Replaced.{replaced}
 use Rattle.cv_meaning.specs.Still.{defines}

@@ -1,6 +1,6 @@
 -- What is said of a step in a game: its conditions in their order, and the limits of the next game. This profile's own.
 use Rattle.std.specs.Prelude.{ℕ, Bool, ◌&&◌, ◌||◌, nat_lt, if◌then◌else◌}
-use Rattle.cv_syntax.specs.Tree.{Tree, size, depth}
+use Rattle.cv_syntax_trees.specs.Tree.{Tree, size, depth}
 use Rattle.cv_syntax_limits.specs.Limits.{most_depth, most_nodes}
 use Rattle.cv_scenes.specs.Scenes.{Scene, has_place, names, is_type}
 use Rattle.cv_steps.specs.Steps.{Step, Split, Let, New, Unnew, Rewrite, Prune, Cost}

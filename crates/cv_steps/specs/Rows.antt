@@ -1,6 +1,6 @@
 -- The rows of steps: the first condition that fails, with its place, or the next game and the cost. This profile's own.
 use Rattle.std.specs.Prelude.{ℕ, Bool, not, if◌then◌else◌, Option, Some, None}
-use Rattle.cv_syntax.specs.Tree.{Tree}
+use Rattle.cv_syntax_trees.specs.Tree.{Tree}
 use Rattle.cv_derivations.specs.Ends.{ends_with}
 use Rattle.cv_scenes.specs.Scenes.{Scene, is_output_at, is_new, is_queried, is_chosen, first_reading, part_at}
 use Rattle.cv_scenes.specs.Sights.{sight_at}

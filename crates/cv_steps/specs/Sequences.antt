@@ -1,7 +1,7 @@
 -- Sequences of games. Blanchet, TDSC 2008.
 use Rattle.std.specs.Prelude.{◌≡◌, ℕ, Bool, List, [], ◌∷◌, ◌++◌}
-use Rattle.cv_syntax.specs.Declarations.{Declaration}
-use Rattle.cv_syntax.specs.Tree.{Tree}
+use Rattle.cv_syntax_trees.specs.Declarations.{Declaration}
+use Rattle.cv_syntax_trees.specs.Tree.{Tree}
 use Rattle.cv_scenes.specs.Scenes.{Scene}
 use Rattle.cv_steps.specs.Steps.{Step, Cost}
 use Rattle.cv_steps.specs.Judgements.{Accepted, judgement_of}

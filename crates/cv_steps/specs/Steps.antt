@@ -1,6 +1,6 @@
 -- Steps of proofs, as trees and names say them. This profile's own.
 use Rattle.std.specs.Prelude.{ℕ}
-use Rattle.cv_syntax.specs.Tree.{Tree}
+use Rattle.cv_syntax_trees.specs.Tree.{Tree}
 use Rattle.cv_scenes.specs.Pruning.{Part}
 
 -- a place is a preorder number, and what a step goes by is a derivation

@@ -1,9 +1,9 @@
 -- The conditions of a cryptographic step in a game, in their order. Blanchet and Pointcheval, CRYPTO 2006; the order and the numbers of
 -- the conditions are this profile's own.
 use Rattle.std.specs.Prelude.{ℕ, ◌||◌, if◌then◌else◌, Option, Some, None, option_map}
-use Rattle.cv_syntax.specs.Declarations.{Declaration, Equiv}
-use Rattle.cv_syntax.specs.Tree.{Tree}
-use Rattle.cv_typing.specs.Signature.{declaration_of}
+use Rattle.cv_syntax_trees.specs.Declarations.{Declaration, Equiv}
+use Rattle.cv_syntax_trees.specs.Tree.{Tree}
+use Rattle.cv_typing_rules.specs.Signature.{declaration_of}
 use Rattle.cv_scenes.specs.Contexts.{matching_of}
 use Rattle.cv_scenes.specs.Refusals.{Refusal, NotOneSite, Use, InCondition, CoinUse, KeyInArgument, first_refusal}
 use Rattle.cv_scenes.specs.Scenes.{Scene, names}

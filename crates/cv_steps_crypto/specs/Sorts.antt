@@ -1,11 +1,11 @@
 -- Whether the types and parameters that a game names are declared. This profile's own.
 use Rattle.std.specs.Prelude.{ℕ, Bool, true, false, ◌&&◌, ◌||◌, ◌==◌, List, Option, Some}
-use Rattle.cv_syntax.specs.declared.decls.Class.TheVariants as class
-use Rattle.cv_syntax.specs.declared.head.Head.{Head}
-use Rattle.cv_syntax.specs.declared.head.Head.TheVariants.{Binder, Branch, In, Let, New, Repl}
-use Rattle.cv_syntax.specs.Declarations.{Declaration, Named}
-use Rattle.cv_syntax.specs.Tree.{Tree, Empty, Node, second}
-use Rattle.cv_typing.specs.Signature.{declaration_of}
+use Rattle.cv_syntax_trees.specs.declared.class.Class.TheVariants as class
+use Rattle.cv_syntax_trees.specs.declared.head.Head.{Head}
+use Rattle.cv_syntax_trees.specs.declared.head.Head.TheVariants.{Binder, Branch, In, Let, New, Repl}
+use Rattle.cv_syntax_trees.specs.Declarations.{Declaration, Named}
+use Rattle.cv_syntax_trees.specs.Tree.{Tree, Empty, Node, second}
+use Rattle.cv_typing_rules.specs.Signature.{declaration_of}
 use Rattle.cv_scenes.specs.Scenes.{is_type_by}
 
 -- `bool` is the type 0

@@ -2,8 +2,8 @@
 -- names and labels that are drawn for it, the limits and whether it is a game. Blanchet and Pointcheval, CRYPTO 2006; the limits and the
 -- numbers of the conditions are this profile's own.
 use Rattle.std.specs.Prelude.{◌≡◌, ℕ, Bool, ◌&&◌, not, is_some, nat_lt, if◌then◌else◌, List, Option, Some, None}
-use Rattle.cv_syntax.specs.Declarations.{Declaration}
-use Rattle.cv_syntax.specs.Tree.{Tree, depth, size}
+use Rattle.cv_syntax_trees.specs.Declarations.{Declaration}
+use Rattle.cv_syntax_trees.specs.Tree.{Tree, depth, size}
 use Rattle.cv_meaning.specs.Queries.{queries_in}
 use Rattle.cv_query_form.specs.Tests.{first_refused}
 use Rattle.cv_scenes.specs.Reductions.{Reduction}

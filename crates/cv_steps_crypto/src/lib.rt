@@ -2,8 +2,8 @@
 #![tactic(auto)]
 
 ghost use Rattle.std.specs.Prelude.{◌≡◌, ℕ, List, [], None, Option, Some, false, true};
-ghost use Rattle.cv_syntax.specs.Declarations.{Declaration};
-ghost use Rattle.cv_syntax.specs.Tree.{Tree};
+ghost use Rattle.cv_syntax_trees.specs.Declarations.{Declaration};
+ghost use Rattle.cv_syntax_trees.specs.Tree.{Tree};
 ghost use Rattle.cv_typing_runs.specs.Games.{HasDeclaredSorts};
 ghost use Rattle.cv_typing_runs.specs.Worked.{declared, found_game};
 ghost use Rattle.cv_scenes.specs.Scenes.{Scene};

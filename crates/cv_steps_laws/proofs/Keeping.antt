@@ -1,17 +1,17 @@
 -- Steps keep chances.
 use Rattle.std.proofs.Common.{[], ◌∷◌, ◌≡◌, ℕ, Bool, true, false, cond, not, nat_lt, List, Option, Some, None, is_some, refl, sym, ap, subst, ◌∙◌, eq-eqb}
 use Rattle.std.proofs.lemmas.Bool.{both_ways, and_parts, not-true}
-use Rattle.cv_syntax.specs.declared.head.Head.{Head}
-use Rattle.cv_syntax.specs.declared.head.Head.TheVariants as head
-use Rattle.cv_syntax.specs.Declarations.{Declaration}
-use Rattle.cv_syntax.specs.Tree.{Tree, Empty, Node, size, depth}
+use Rattle.cv_syntax_trees.specs.declared.head.Head.{Head}
+use Rattle.cv_syntax_trees.specs.declared.head.Head.TheVariants as head
+use Rattle.cv_syntax_trees.specs.Declarations.{Declaration}
+use Rattle.cv_syntax_trees.specs.Tree.{Tree, Empty, Node, size, depth}
 use Rattle.cv_meaning.specs.Interpretation.{is_constant_of, setting_of}
 use Rattle.cv_meaning_runs.specs.Replacement.{Process}
 use Rattle.cv_meaning.specs.Still.{defines, is_still}
 use Rattle.cv_meaning_unread.proofs.Chances.{chance_without, split_chance}
 use Rattle.cv_meaning_unread.proofs.PutIn.{put_in}
-use Rattle.cv_typing.specs.Parts.{IsTypedGame, first_in, game_part}
-use Rattle.cv_typing.proofs.First.{game_alone, parts_typed_where_none}
+use Rattle.cv_typing_rules.specs.Parts.{IsTypedGame, first_in, game_part}
+use Rattle.cv_typing_rules.proofs.First.{game_alone, parts_typed_where_none}
 use Rattle.cv_scope_rules.specs.Scope.{names_of}
 use Rattle.cv_scope_rules.specs.Standing.{at_root}
 use Rattle.cv_scope_rules.proofs.First.{scoped_where_none}

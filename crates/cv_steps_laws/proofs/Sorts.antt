@@ -2,12 +2,12 @@
 use Rattle.std.proofs.Common.{◌≡◌, ℕ, ◌+◌, ◌-◌, ◌==◌, ◌&&◌, Bool, true, false, cond, List, [], ◌∷◌, Contains, inr, Option, Some, None, is_some, refl, sym, ap, ap₂, subst, ◌∙◌, eqb-true}
 use Rattle.std.proofs.lemmas.Bool.{both_ways, and_parts}
 use Rattle.std.proofs.lemmas.List.Elements.{Contains-append_left, Contains-append_right, Contains-push}
-use Rattle.cv_syntax.specs.declared.decls.Class.TheVariants as class
-use Rattle.cv_syntax.specs.declared.head.Head.{Head}
-use Rattle.cv_syntax.specs.declared.head.Head.TheVariants.{In, Branch, Leaf, Read, Apply, Cons, Key, Call}
-use Rattle.cv_syntax.specs.Declarations.{Declaration, Named, Equation, Equiv, Query}
-use Rattle.cv_syntax.specs.Head.{weight}
-use Rattle.cv_syntax.specs.Tree.{Tree, Empty, Node, size}
+use Rattle.cv_syntax_trees.specs.declared.class.Class.TheVariants as class
+use Rattle.cv_syntax_trees.specs.declared.head.Head.{Head}
+use Rattle.cv_syntax_trees.specs.declared.head.Head.TheVariants.{In, Branch, Leaf, Read, Apply, Cons, Key, Call}
+use Rattle.cv_syntax_trees.specs.Declarations.{Declaration, Named, Equation, Equiv, Query}
+use Rattle.cv_syntax_trees.specs.Head.{weight}
+use Rattle.cv_syntax_trees.specs.Tree.{Tree, Empty, Node, size}
 use Rattle.cv_meaning_adequacy.specs.Typed as meaning
 use Rattle.cv_meaning_adequacy.specs.Typed.{IsDeclared}
 use Rattle.cv_meaning_runs.specs.Replacement as at
@@ -17,7 +17,7 @@ use Rattle.cv_meaning_unread.specs.Dropping.{IsDropped, same, gone, kept, in_par
 use Rattle.cv_scope_rules.specs.Context.{first_position, second_position}
 use Rattle.cv_scope_rules.specs.Phrases.{Phrase, Inputs, Arm, Body, Guards, Cells, OneCell, Term, parts, oracle_parts, both_are, is_phrase}
 use Rattle.cv_scope_runs.proofs.Rows.{position_of, placed}
-use Rattle.cv_typing.specs.Signature.{function_in, declaration_of}
+use Rattle.cv_typing_rules.specs.Signature.{function_in, declaration_of}
 use Rattle.cv_typing_runs.specs.Games.{HasDeclaredSorts, NamesDeclared, is_variable_cell, are_variable_cells, is_named, are_named}
 use Rattle.cv_scenes.specs.Scenes.{is_type_by}
 use Rattle.cv_scenes.specs.Terms.{Names, is_function, head_is_there, is_there}

@@ -3,16 +3,16 @@ use Rattle.std.proofs.Common.{◌≡◌, ℕ, ◌==◌, ◌&&◌, ◌||◌, Bool
 use Rattle.std.specs.List.{list_any}
 use Rattle.std.proofs.lemmas.Bool.{both_ways, or_parts, or_left, or_right}
 use Rattle.std.proofs.lemmas.List.Elements.{Contains-append_cases, Contains-push_cases}
-use Rattle.cv_syntax.specs.declared.head.Head.{Head}
-use Rattle.cv_syntax.specs.declared.head.Head.TheVariants.{New, Let, Leaf, Read}
-use Rattle.cv_syntax.specs.Tree.{Tree, Empty, Node, head_reads_only, reads_only, first_place, second_place}
+use Rattle.cv_syntax_trees.specs.declared.head.Head.{Head}
+use Rattle.cv_syntax_trees.specs.declared.head.Head.TheVariants.{New, Let, Leaf, Read}
+use Rattle.cv_syntax_trees.specs.Tree.{Tree, Empty, Node, head_reads_only, reads_only, first_place, second_place}
 use Rattle.cv_meaning.specs.Runs.{Events, Real, Random}
 use Rattle.cv_meaning.specs.Experiments.{Experiment, Breaks, Guesses, mode_of}
 use Rattle.cv_meaning.specs.Advantage.{IsAsked, secrecy_query}
 use Rattle.cv_meaning_unread.specs.Dropping.{reads_none, head_draws_none, draws_none, IsUntested}
 use Rattle.cv_meaning.specs.Still.{defines}
 use Rattle.cv_meaning.specs.Queries.{queries_in}
-use Rattle.cv_directory.specs.Sites.{first_of}
+use Rattle.cv_directory_sorts.specs.Sites.{first_of}
 use Rattle.cv_scope_rules.specs.Phrases.{Phrase, Body, Nil, Term, parts, both_are, is_phrase}
 use Rattle.cv_scenes.specs.Scenes.{Scene, head_names, names, head_reads, first_reading, asks_for, is_queried}
 use Rattle.cv_steps.specs.Changes.{without, only}

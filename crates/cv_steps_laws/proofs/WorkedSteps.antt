@@ -3,16 +3,16 @@ use Rattle.std.proofs.Common.{◌≡◌, ◌==◌, ◌||◌, Bool, true, false, 
 use Rattle.std.proofs.lemmas.Bool.{both_ways}
 use Rattle.std.specs.List.{AllByRecursion}
 use Rattle.cv_first_fault.specs.Walk.{first_fault}
-use Rattle.cv_syntax.specs.declared.head.Head.TheVariants as head
-use Rattle.cv_syntax.specs.declared.head.Head.TheVariants.{Yes}
-use Rattle.cv_syntax.specs.Builders.{leaf}
-use Rattle.cv_syntax.specs.Tree.{Empty, Node, lone, size, depth, subtree, same_tree}
+use Rattle.cv_syntax_trees.specs.declared.head.Head.TheVariants as head
+use Rattle.cv_syntax_trees.specs.declared.head.Head.TheVariants.{Yes}
+use Rattle.cv_syntax_trees.specs.Builders.{leaf}
+use Rattle.cv_syntax_trees.specs.Tree.{Empty, Node, lone, size, depth, subtree, same_tree}
 use Rattle.cv_meaning_runs.specs.Replacement.{if_tree}
 use Rattle.cv_meaning.specs.Replaced.{replaced}
-use Rattle.cv_directory.specs.Sites.{first_index, first_site, bound_sort}
-use Rattle.cv_typing.specs.Parts.{first_in}
-use Rattle.cv_typing.specs.Typing.{binders_differ}
-use Rattle.cv_directory.specs.Counting.{count}
+use Rattle.cv_directory_sorts.specs.Sites.{first_index, first_site, bound_sort}
+use Rattle.cv_typing_rules.specs.Parts.{first_in}
+use Rattle.cv_typing_rules.specs.Typing.{binders_differ}
+use Rattle.cv_directory_sorts.specs.Counting.{count}
 use Rattle.cv_meaning.specs.Queries.{queries_in}
 use Rattle.cv_scope_rules.specs.Context.{context_at}
 use Rattle.cv_scope_rules.specs.Sites.{sites_from}

@@ -1,12 +1,12 @@
 -- Steps in a small game, with what is said of each. Names are numbers: 3 is a channel, 5 a type, 4 a nonce; the file has
 -- the names below 10.
 use Rattle.std.specs.Prelude.{true, false, nat_lt, List, [], ◌∷◌, ◌++◌, None}
-use Rattle.cv_syntax.specs.declared.decls.Class.TheVariants as class
-use Rattle.cv_syntax.specs.declared.head.Head.TheVariants as head
-use Rattle.cv_syntax.specs.declared.head.Head.TheVariants.{Eq, Secret, Stop, Yes}
-use Rattle.cv_syntax.specs.Builders.{input, leaf, output}
-use Rattle.cv_syntax.specs.Declarations.{Declaration, Named, Query}
-use Rattle.cv_syntax.specs.Tree.{Tree, Empty, Node, lone}
+use Rattle.cv_syntax_trees.specs.declared.class.Class.TheVariants as class
+use Rattle.cv_syntax_trees.specs.declared.head.Head.TheVariants as head
+use Rattle.cv_syntax_trees.specs.declared.head.Head.TheVariants.{Eq, Secret, Stop, Yes}
+use Rattle.cv_syntax_trees.specs.Builders.{input, leaf, output}
+use Rattle.cv_syntax_trees.specs.Declarations.{Declaration, Named, Query}
+use Rattle.cv_syntax_trees.specs.Tree.{Tree, Empty, Node, lone}
 use Rattle.cv_meaning_runs.specs.Replacement.{if_tree}
 use Rattle.cv_scenes.specs.Scenes.{Scene}
 use Rattle.cv_steps.specs.Steps.{Step, Split, Let, New, Unnew, Zero}

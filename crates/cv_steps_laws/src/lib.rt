@@ -3,11 +3,11 @@
 
 ghost use Rattle.std.specs.Prelude.{◌≡◌, ℕ, Bool, true};
 ghost use Rattle.std.specs.List.{AllByRecursion};
-ghost use Rattle.cv_syntax.specs.Tree.{Tree};
+ghost use Rattle.cv_syntax_trees.specs.Tree.{Tree};
 ghost use Rattle.cv_meaning_runs.specs.Replacement.{IsReplaced, Process};
 ghost use Rattle.cv_meaning.specs.Replaced.{is_output};
 ghost use Rattle.cv_meaning_unread.specs.Dropping.{IsDropped, reads_none};
-ghost use Rattle.cv_typing.specs.Parts.{IsTypedGame};
+ghost use Rattle.cv_typing_rules.specs.Parts.{IsTypedGame};
 ghost use Rattle.cv_scope_rules.specs.Phrases.{Inputs, IsWellFormed, Term, is_phrase};
 ghost use Rattle.cv_typing_runs.specs.Games.{
   HasConstants,

@@ -1,8 +1,8 @@
 -- Branches have the same candidates with a condition reworded, at a visited `find`.
 use Rattle.std.proofs.Common.{◌≡◌, ℕ, suc, ◌+◌, Bool, true, false, cond, max, List, [], ◌∷◌, ◌++◌, flat_map, refl, sym, ap, subst, ◌∙◌, arith}
 use Rattle.std.proofs.lemmas.Bool.{both_ways, and_parts}
-use Rattle.cv_syntax.specs.declared.head.Head.TheVariants.{Branch, Cons}
-use Rattle.cv_syntax.specs.Tree.{Tree, Empty, Node, first_place, second_place, size}
+use Rattle.cv_syntax_trees.specs.declared.head.Head.TheVariants.{Branch, Cons}
+use Rattle.cv_syntax_trees.specs.Tree.{Tree, Empty, Node, first_place, second_place, size}
 use Rattle.cv_meaning.specs.Interpretation.{Interpretation, Setting, setting_of}
 use Rattle.cv_meaning.specs.Binders.{binder_count, bound_to, fits, widest_binder}
 use Rattle.cv_meaning.specs.Candidates.{Candidate, are_assigned, candidate, candidates, candidates_at, most_indices, tuples_up_to, widest}

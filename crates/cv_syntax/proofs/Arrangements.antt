@@ -3,12 +3,12 @@ use Rattle.std.proofs.Common.{◌≡◌, ℕ, zero, suc, ◌+◌, ◌-◌, ◌<�
 use Rattle.std.specs.Prelude.{All, ◌==◌}
 use Rattle.std.proofs.lemmas.Bool.{eqb-true}
 use Rattle.std.proofs.lemmas.List.{take_more, take_all, length-take, get_or-take}
-use Rattle.cv_syntax.specs.declared.head.Head.{Head}
-use Rattle.cv_syntax.specs.declared.head.Head.TheVariants.{Cons}
+use Rattle.cv_syntax_trees.specs.declared.head.Head.{Head}
+use Rattle.cv_syntax_trees.specs.declared.head.Head.TheVariants.{Cons}
 use Rattle.cv_syntax.specs.declared.layout.Layout.{Layout}
 use Rattle.cv_syntax.specs.declared.layout.Layout.TheVariants.{Lone, One, Two, Three, Listed, Rest, Taking, Giving, Chosen}
 use Rattle.cv_syntax.specs.Layouts.{shape_of, fits, IsLaidOut, layout_of, item, all_but, first_part, second_part, arranged, IsSyntax}
-use Rattle.cv_syntax.specs.Tree.{Tree, Empty, Node, chain, tops, children}
+use Rattle.cv_syntax_trees.specs.Tree.{Tree, Empty, Node, chain, tops, children}
 
 fits-laid : (l : Layout) (n : ℕ) → fits l n ≡ true → IsLaidOut l n
 fits-laid Lone n e = eqb-true n 0 e

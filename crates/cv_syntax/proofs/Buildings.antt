@@ -2,18 +2,18 @@
 use Rattle.std.proofs.Common.{◌≡◌, ℕ, zero, suc, ◌+◌, ◌-◌, ◌<◌, List, [], ◌∷◌, length, take, drop, refl, ap, sym, ◌∙◌, arith, get_or, subst, Option, Some, None}
 use Rattle.std.specs.Prelude.{All}
 use Rattle.std.proofs.lemmas.List.{drop_more, drop_all, take-map, length-map}
-use Rattle.cv_syntax.specs.declared.head.Head.{Head}
-use Rattle.cv_syntax.specs.declared.head.Head.TheVariants.{Cons}
+use Rattle.cv_syntax_trees.specs.declared.head.Head.{Head}
+use Rattle.cv_syntax_trees.specs.declared.head.Head.TheVariants.{Cons}
 use Rattle.cv_pool.specs.declared.node.NodeId.{NodeId}
 use Rattle.cv_pool.specs.declared.node.Kind.{Kind}
-use Rattle.cv_syntax.specs.Head.{code, decoded}
 use Rattle.cv_pool.specs.KindTree.{KindTree, Fork}
 use Rattle.cv_syntax.specs.Layouts.{trees_of, item, all_but, first_part, second_part, layout_of, arranged}
 use Rattle.cv_pool.specs.Nodes.{ChildBelow}
 use Rattle.cv_syntax.specs.declared.layout.Layout.{Layout}
 use Rattle.cv_syntax.specs.declared.layout.Layout.TheVariants.{Taking, Giving, Three, Chosen}
 use Rattle.cv_pool.specs.PoolView.{PoolView, Grows}
-use Rattle.cv_syntax.specs.Tree.{Tree, Empty, Node, chain, tree_of, tree_at}
+use Rattle.cv_syntax_trees.specs.Tree.{Tree, Empty, Node, chain}
+use Rattle.cv_syntax.specs.PoolTrees.{tree_of, tree_at, kind_of_head, head_of_kind}
 use Rattle.cv_pool.proofs.Growth.{Grows-at, Grows-child, Grows-length}
 
 -- the trees of live nodes stay
@@ -39,16 +39,16 @@ item-trees_of trees (n ∷ ns) (suc k) d h = item-trees_of trees ns k d (omega a
 pub take-trees_of : (trees : List KindTree) (ns : List NodeId) (k : ℕ) → trees_of trees (take k ns) ≡ take k (trees_of trees ns)
 take-trees_of trees ns k = sym (take-map (λ n. tree_at trees (Some n)) k ns)
 
-pub tree-node : (t : KindTree) (k : Kind) (a b : KindTree) → t ≡ Fork k a b → tree_of t ≡ Node (decoded k) (tree_of a) (tree_of b)
+pub tree-node : (t : KindTree) (k : Kind) (a b : KindTree) → t ≡ Fork k a b → tree_of t ≡ Node (head_of_kind k) (tree_of a) (tree_of b)
 unfolding tree_of
 tree-node t k a b e = ap tree_of e
 
 -- a node that holds a list together
-pub tree-cons : (t : Tree) (k : Kind) (a b : Tree) → t ≡ Node (decoded k) a b → k ≡ code Cons → t ≡ Node Cons a b
-tree-cons t k a b e f = e ∙ ap (λ h. Node h a b) (ap decoded f)
+pub tree-cons : (t : Tree) (k : Kind) (a b : Tree) → t ≡ Node (head_of_kind k) a b → k ≡ kind_of_head Cons → t ≡ Node Cons a b
+tree-cons t k a b e f = e ∙ ap (λ h. Node h a b) (ap head_of_kind f)
 
 -- one item more
-pub chain-step : (old now new : PoolView) (ns : List NodeId) (k : ℕ) (n : NodeId) (d : NodeId) (list : Option NodeId) (id : NodeId) (c : Kind) → Grows old now → All (λ (n : NodeId). n.0 < length old.trees) ns → k < length ns → n ≡ get_or ns k d → c ≡ code Cons → tree_at now.trees list ≡ chain (drop (k + 1) (trees_of old.trees ns)) → tree_at new.trees (Some id) ≡ Node (decoded c) (tree_at now.trees (Some n)) (tree_at now.trees list) → tree_at new.trees (Some id) ≡ chain (drop k (trees_of old.trees ns))
+pub chain-step : (old now new : PoolView) (ns : List NodeId) (k : ℕ) (n : NodeId) (d : NodeId) (list : Option NodeId) (id : NodeId) (c : Kind) → Grows old now → All (λ (n : NodeId). n.0 < length old.trees) ns → k < length ns → n ≡ get_or ns k d → c ≡ kind_of_head Cons → tree_at now.trees list ≡ chain (drop (k + 1) (trees_of old.trees ns)) → tree_at new.trees (Some id) ≡ Node (head_of_kind c) (tree_at now.trees (Some n)) (tree_at now.trees list) → tree_at new.trees (Some id) ≡ chain (drop k (trees_of old.trees ns))
 chain-step old now new ns k n d list id c g a h e f l t =
     let within : k < length (trees_of old.trees ns) = omega (arith, length-trees_of old.trees ns) in
     let live : n.0 < length old.trees = subst (λ (m : NodeId). m.0 < length old.trees) (sym e) (a k d h) in
@@ -79,19 +79,19 @@ pub child-grown : (old new : PoolView) (o : Option NodeId) → Grows old new →
 child-grown old new o g b = ap tree_of (Grows-child old new o g b)
 
 -- the first and the second child of each layout that has cells of its own
-pub taking : (old mid new : PoolView) (ns : List NodeId) (list : Option NodeId) (id : NodeId) (k : Kind) → k ≡ code Cons → tree_at mid.trees list ≡ chain (trees_of old.trees (take (length ns - 1) ns)) → tree_at new.trees (Some id) ≡ Node (decoded k) (tree_at mid.trees list) (tree_at mid.trees None) → tree_at new.trees (Some id) ≡ first_part Taking (trees_of old.trees ns)
+pub taking : (old mid new : PoolView) (ns : List NodeId) (list : Option NodeId) (id : NodeId) (k : Kind) → k ≡ kind_of_head Cons → tree_at mid.trees list ≡ chain (trees_of old.trees (take (length ns - 1) ns)) → tree_at new.trees (Some id) ≡ Node (head_of_kind k) (tree_at mid.trees list) (tree_at mid.trees None) → tree_at new.trees (Some id) ≡ first_part Taking (trees_of old.trees ns)
 taking old mid new ns list id k e l t =
     tree-cons (tree_at new.trees (Some id)) k (tree_at mid.trees list) (tree_at mid.trees None) t e
     ∙ (ap (λ u. Node Cons u (tree_at mid.trees None)) (chain-front old.trees ns (take (length ns - 1) ns) (tree_at mid.trees list) 1 refl l)
     ∙ ap (λ u. Node Cons (chain (all_but 1 (trees_of old.trees ns))) u) (nothing mid.trees))
 
-pub giving : (old mid new : PoolView) (ns : List NodeId) (list : Option NodeId) (id : NodeId) (k : Kind) → k ≡ code Cons → tree_at mid.trees list ≡ chain (trees_of old.trees (take (length ns - 1) ns)) → tree_at new.trees (Some id) ≡ Node (decoded k) (tree_at mid.trees None) (tree_at mid.trees list) → tree_at new.trees (Some id) ≡ first_part Giving (trees_of old.trees ns)
+pub giving : (old mid new : PoolView) (ns : List NodeId) (list : Option NodeId) (id : NodeId) (k : Kind) → k ≡ kind_of_head Cons → tree_at mid.trees list ≡ chain (trees_of old.trees (take (length ns - 1) ns)) → tree_at new.trees (Some id) ≡ Node (head_of_kind k) (tree_at mid.trees None) (tree_at mid.trees list) → tree_at new.trees (Some id) ≡ first_part Giving (trees_of old.trees ns)
 giving old mid new ns list id k e l t =
     tree-cons (tree_at new.trees (Some id)) k (tree_at mid.trees None) (tree_at mid.trees list) t e
     ∙ (ap (λ u. Node Cons (tree_at mid.trees None) u) (chain-front old.trees ns (take (length ns - 1) ns) (tree_at mid.trees list) 1 refl l)
     ∙ ap (λ u. Node Cons u (chain (all_but 1 (trees_of old.trees ns)))) (nothing mid.trees))
 
-pub three : (old mid new : PoolView) (ns : List NodeId) (d : NodeId) (rest id : NodeId) (j k : Kind) → length ns ≡ 3 → All (λ (n : NodeId). n.0 < length old.trees) ns → Grows old mid → j ≡ code Cons → k ≡ code Cons → tree_at mid.trees (Some rest) ≡ Node (decoded j) (tree_at old.trees (Some (get_or ns 2 d))) (tree_at old.trees None) → tree_at new.trees (Some id) ≡ Node (decoded k) (tree_at mid.trees (Some (get_or ns 1 d))) (tree_at mid.trees (Some rest)) → tree_at new.trees (Some id) ≡ second_part Three (trees_of old.trees ns)
+pub three : (old mid new : PoolView) (ns : List NodeId) (d : NodeId) (rest id : NodeId) (j k : Kind) → length ns ≡ 3 → All (λ (n : NodeId). n.0 < length old.trees) ns → Grows old mid → j ≡ kind_of_head Cons → k ≡ kind_of_head Cons → tree_at mid.trees (Some rest) ≡ Node (head_of_kind j) (tree_at old.trees (Some (get_or ns 2 d))) (tree_at old.trees None) → tree_at new.trees (Some id) ≡ Node (head_of_kind k) (tree_at mid.trees (Some (get_or ns 1 d))) (tree_at mid.trees (Some rest)) → tree_at new.trees (Some id) ≡ second_part Three (trees_of old.trees ns)
 three old mid new ns d rest id j k n a g ej ek r t =
     let ts = trees_of old.trees ns in
     tree-cons (tree_at new.trees (Some id)) k (tree_at mid.trees (Some (get_or ns 1 d))) (tree_at mid.trees (Some rest)) t ek
@@ -100,7 +100,7 @@ three old mid new ns d rest id j k n a g ej ek r t =
     ∙ (ap (λ u. Node Cons u (tree_at old.trees None)) (sym (item-trees_of old.trees ns 2 d (omega arith)))
     ∙ ap (λ u. Node Cons (item ts 2) u) (nothing old.trees))))
 
-pub chosen : (old low mid new : PoolView) (ns : List NodeId) (d : NodeId) (cells : Option NodeId) (body id : NodeId) (j k : Kind) → 1 < length ns → All (λ (n : NodeId). n.0 < length old.trees) ns → Grows old low → Grows low mid → ChildBelow (length low.trees) cells → j ≡ code Cons → k ≡ code Cons → tree_at low.trees cells ≡ chain (trees_of old.trees (take (length ns - 2) ns)) → tree_at mid.trees (Some body) ≡ Node (decoded j) (tree_at low.trees (Some (get_or ns (length ns - 2) d))) (tree_at low.trees (Some (get_or ns (length ns - 1) d))) → tree_at new.trees (Some id) ≡ Node (decoded k) (tree_at mid.trees cells) (tree_at mid.trees (Some body)) → tree_at new.trees (Some id) ≡ second_part Chosen (trees_of old.trees ns)
+pub chosen : (old low mid new : PoolView) (ns : List NodeId) (d : NodeId) (cells : Option NodeId) (body id : NodeId) (j k : Kind) → 1 < length ns → All (λ (n : NodeId). n.0 < length old.trees) ns → Grows old low → Grows low mid → ChildBelow (length low.trees) cells → j ≡ kind_of_head Cons → k ≡ kind_of_head Cons → tree_at low.trees cells ≡ chain (trees_of old.trees (take (length ns - 2) ns)) → tree_at mid.trees (Some body) ≡ Node (head_of_kind j) (tree_at low.trees (Some (get_or ns (length ns - 2) d))) (tree_at low.trees (Some (get_or ns (length ns - 1) d))) → tree_at new.trees (Some id) ≡ Node (head_of_kind k) (tree_at mid.trees cells) (tree_at mid.trees (Some body)) → tree_at new.trees (Some id) ≡ second_part Chosen (trees_of old.trees ns)
 chosen old low mid new ns d cells body id j k n a g h b ej ek l r t =
     let ts = trees_of old.trees ns in
     let size : length ns ≡ length ts = sym (length-trees_of old.trees ns) in
@@ -114,12 +114,12 @@ chosen old low mid new ns d cells body id j k n a g h b ej ek l r t =
     ∙ ap (λ m. Node Cons (chain (all_but 2 ts)) (Node Cons (item ts (m - 2)) (item ts (m - 1)))) size))
 
 -- a node over its two parts
-pub whole : (old low mid new : PoolView) (ns : List NodeId) (l : Layout) (h : Head) (first second : Option NodeId) (id : NodeId) (k : Kind) → l ≡ layout_of h (length ns) → h ≡ decoded k → All (λ (n : NodeId). n.0 < length old.trees) ns → Grows old low → Grows low mid → ChildBelow (length low.trees) first → tree_at low.trees first ≡ first_part l (trees_of old.trees ns) → tree_at mid.trees second ≡ second_part l (trees_of low.trees ns) → tree_at new.trees (Some id) ≡ Node (decoded k) (tree_at mid.trees first) (tree_at mid.trees second) → tree_at new.trees (Some id) ≡ arranged (decoded k) (trees_of old.trees ns)
+pub whole : (old low mid new : PoolView) (ns : List NodeId) (l : Layout) (h : Head) (first second : Option NodeId) (id : NodeId) (k : Kind) → l ≡ layout_of h (length ns) → h ≡ head_of_kind k → All (λ (n : NodeId). n.0 < length old.trees) ns → Grows old low → Grows low mid → ChildBelow (length low.trees) first → tree_at low.trees first ≡ first_part l (trees_of old.trees ns) → tree_at mid.trees second ≡ second_part l (trees_of low.trees ns) → tree_at new.trees (Some id) ≡ Node (head_of_kind k) (tree_at mid.trees first) (tree_at mid.trees second) → tree_at new.trees (Some id) ≡ arranged (head_of_kind k) (trees_of old.trees ns)
 whole old low mid new ns l h first second id k el eh a g gg b f s t =
     let ts = trees_of old.trees ns in
-    let lay : l ≡ layout_of (decoded k) (length ts) = el ∙ (ap (λ x. layout_of x (length ns)) eh ∙ ap (layout_of (decoded k)) (sym (length-trees_of old.trees ns))) in
-    t ∙ (ap (λ u. Node (decoded k) u (tree_at mid.trees second)) (child-grown low mid first gg b ∙ f)
-    ∙ (ap (λ u. Node (decoded k) (first_part l ts) u) (s ∙ ap (second_part l) (trees-kept old low ns g a))
-    ∙ ap (λ x. Node (decoded k) (first_part x ts) (second_part x ts)) lay))
+    let lay : l ≡ layout_of (head_of_kind k) (length ts) = el ∙ (ap (λ x. layout_of x (length ns)) eh ∙ ap (layout_of (head_of_kind k)) (sym (length-trees_of old.trees ns))) in
+    t ∙ (ap (λ u. Node (head_of_kind k) u (tree_at mid.trees second)) (child-grown low mid first gg b ∙ f)
+    ∙ (ap (λ u. Node (head_of_kind k) (first_part l ts) u) (s ∙ ap (second_part l) (trees-kept old low ns g a))
+    ∙ ap (λ x. Node (head_of_kind k) (first_part x ts) (second_part x ts)) lay))
 
 pub ruleset kept = (live-kept, length-trees_of, take-trees_of)

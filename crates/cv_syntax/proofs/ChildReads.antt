@@ -5,11 +5,12 @@ use Rattle.std.specs.HashSet.{Updates}
 use Rattle.std.proofs.Math.Path.{fun_ext}
 use Rattle.cv_pool.specs.declared.node.NodeId.{NodeId}
 use Rattle.cv_pool.specs.KindTree.{KindTree}
-use Rattle.cv_syntax.specs.declared.head.Head.{Head}
-use Rattle.cv_syntax.specs.declared.head.Head.TheVariants.{Binder}
-use Rattle.cv_syntax.specs.Children.{is_empty}
+use Rattle.cv_syntax_trees.specs.declared.head.Head.{Head}
+use Rattle.cv_syntax_trees.specs.declared.head.Head.TheVariants.{Binder}
+use Rattle.cv_syntax_trees.specs.Children.{is_empty}
 use Rattle.cv_syntax.specs.NameSets.{NameSet, is_in, is_one_of}
-use Rattle.cv_syntax.specs.Tree.{Tree, Empty, Node, bound_names, same_tree, tree_at}
+use Rattle.cv_syntax_trees.specs.Tree.{Tree, Empty, Node, bound_names, same_tree}
+use Rattle.cv_syntax.specs.PoolTrees.{tree_at}
 use Rattle.cv_syntax.proofs.Trees.{empty_at}
 
 -- what a smaller tree leaves of a smaller room

@@ -1,7 +1,6 @@
 pub mod Arrangements
 pub mod Buildings
 pub mod ChildReads
-pub mod Equality
 pub mod Indexed
 pub mod Openings
 pub mod Plantings

@@ -5,16 +5,16 @@ use Rattle.std.specs.Option.{option_to_list}
 use Rattle.std.proofs.lemmas.List.{map-append, reverse-append, reverse-reverse, drop_more, get_or_append_left, get_or_at, drop_all}
 use Rattle.cv_pool.specs.declared.node.NodeId.{NodeId}
 use Rattle.cv_pool.specs.declared.node.Kind.{Kind}
-use Rattle.cv_syntax.specs.declared.head.Head.{Head}
+use Rattle.cv_syntax_trees.specs.declared.head.Head.{Head}
 use Rattle.cv_syntax.specs.declared.make.Make.{Make}
 use Rattle.cv_syntax.specs.declared.make.Make.TheVariants as make
-use Rattle.cv_syntax.specs.Head.{code, decoded, decoded-code}
 use Rattle.cv_pool.specs.KindTree.{KindTree, NoTree, Fork}
 use Rattle.cv_pool.specs.Nodes.{at, child, ChildBelow}
 use Rattle.cv_syntax.specs.Planting.{overs}
 use Rattle.cv_pool.specs.PoolView.{PoolView, Grows}
 use Rattle.cv_syntax.specs.Postorder.{joined, made, postorder, made-postorder}
-use Rattle.cv_syntax.specs.Tree.{Tree, Empty, Node, tree_of, tree_at}
+use Rattle.cv_syntax_trees.specs.Tree.{Tree, Empty, Node}
+use Rattle.cv_syntax.specs.PoolTrees.{tree_of, tree_at, kind_of_head, head_of_kind, head_of_kind-kind_of_head}
 use Rattle.cv_pool.proofs.Growth.{Grows-child, Grows-length, Grows-trans, ChildBelow-more}
 use Rattle.std.proofs.lemmas.List.Elements.{All-append}
 
@@ -23,10 +23,10 @@ unfolding tree_of
 tree_of-none = refl
 
 -- the tree of a node that was just made
-pub tree_of-node : (t : KindTree) (k : Kind) (h : Head) (a b : KindTree) → t ≡ Fork k a b → k ≡ code h → tree_of t ≡ Node h (tree_of a) (tree_of b)
+pub tree_of-node : (t : KindTree) (k : Kind) (h : Head) (a b : KindTree) → t ≡ Fork k a b → k ≡ kind_of_head h → tree_of t ≡ Node h (tree_of a) (tree_of b)
 unfolding tree_of
 tree_of-node t k h a b e f =
-    ap tree_of e ∙ ap (λ x. Node x (tree_of a) (tree_of b)) (ap decoded f ∙ decoded-code h)
+    ap tree_of e ∙ ap (λ x. Node x (tree_of a) (tree_of b)) (ap head_of_kind f ∙ head_of_kind-kind_of_head h)
 
 pub reverse-push : {A : Type 0} (f : A → Tree) (s : List A) (x : A) → reverse (map f (s ++ x ∷ [])) ≡ f x ∷ reverse (map f s)
 reverse-push f s x = ap reverse (map-append f s (x ∷ [])) ∙ reverse-append (map f s) (f x ∷ [])
@@ -69,7 +69,7 @@ All-last n stack s (Some x) e a =
 pub All-grows : (m n : ℕ) (s : List (Option NodeId)) → m ≤ n → All (ChildBelow m) s → All (ChildBelow n) s
 All-grows m n s h a = λ k d l. ChildBelow-more m n (get_or s k d) h (a k d l)
 
-pub over-trees : (old new : PoolView) (stack s t : List (Option NodeId)) (x y : Option (Option NodeId)) (a b : Option NodeId) (h : Head) (k : Kind) (id : NodeId) → Grows old new → All (ChildBelow (length old.trees)) stack → at new.trees id.0 ≡ Fork k (child old.trees b) (child old.trees a) → k ≡ code h → a ≡ unwrap_or x None → b ≡ unwrap_or y None → stack ≡ s ++ option_to_list x → s ≡ t ++ option_to_list y → (0 < length stack → IsSome x) → (0 < length s → IsSome y) → joined h (reverse (map (tree_at old.trees) stack)) ≡ tree_at new.trees (Some id) ∷ reverse (map (tree_at new.trees) t)
+pub over-trees : (old new : PoolView) (stack s t : List (Option NodeId)) (x y : Option (Option NodeId)) (a b : Option NodeId) (h : Head) (k : Kind) (id : NodeId) → Grows old new → All (ChildBelow (length old.trees)) stack → at new.trees id.0 ≡ Fork k (child old.trees b) (child old.trees a) → k ≡ kind_of_head h → a ≡ unwrap_or x None → b ≡ unwrap_or y None → stack ≡ s ++ option_to_list x → s ≡ t ++ option_to_list y → (0 < length stack → IsSome x) → (0 < length s → IsSome y) → joined h (reverse (map (tree_at old.trees) stack)) ≡ tree_at new.trees (Some id) ∷ reverse (map (tree_at new.trees) t)
 over-trees old new stack s t x y a b h k id g live e f ea eb es et p q =
     let below : All (ChildBelow (length old.trees)) t = All-front (ChildBelow (length old.trees)) s t (option_to_list y) et (All-front (ChildBelow (length old.trees)) stack s (option_to_list x) es live) in
     let node : tree_at new.trees (Some id) ≡ Node h (tree_at old.trees b) (tree_at old.trees a) = tree_of-node (at new.trees id.0) k h (child old.trees b) (child old.trees a) e f in

@@ -5,8 +5,9 @@ use Rattle.cv_pool.specs.declared.node.NodeId.{NodeId}
 use Rattle.cv_pool.specs.KindTree.{KindTree, NoTree}
 use Rattle.cv_pool.specs.Nodes.{ChildBelow}
 use Rattle.cv_syntax.specs.declared.open.Opened.{Opened}
-use Rattle.cv_syntax.specs.Head.{weight, same_head}
-use Rattle.cv_syntax.specs.Tree.{Tree, Empty, Node, first, second, size, depth, tops, same_tree, head_reads_only, reads_only, head_binds, binds, tree_of, tree_at}
+use Rattle.cv_syntax_trees.specs.Head.{weight, same_head}
+use Rattle.cv_syntax_trees.specs.Tree.{Tree, Empty, Node, first, second, size, depth, tops, same_tree, head_reads_only, reads_only, head_binds, binds}
+use Rattle.cv_syntax.specs.PoolTrees.{tree_of, tree_at}
 use Rattle.cv_syntax.specs.Walks.{above}
 use Rattle.cv_syntax.proofs.Walking.{below-some, live-child}
 

@@ -1,15 +1,16 @@
 -- Walks over trees.
 use Rattle.std.proofs.Common.{◌≡◌, ℕ, zero, suc, ◌+◌, ◌<◌, ◌≤◌, max, List, [], ◌∷◌, ◌++◌, length, refl, ap, sym, ◌∙◌, arith, length-append, Option, Some, None, Ok, Err, Result}
 use Rattle.std.specs.Prelude.{slice_get, ◌==◌, if◌then◌else◌}
-use Rattle.cv_syntax.specs.declared.head.Head.{Head}
+use Rattle.cv_syntax_trees.specs.declared.head.Head.{Head}
 use Rattle.cv_pool.specs.declared.node.NodeId.{NodeId}
 use Rattle.cv_syntax.specs.declared.open.Opened.{Opened}
-use Rattle.cv_syntax.specs.declared.head.Head.TheVariants.{Cons}
-use Rattle.cv_syntax.specs.Head.{weight, decoded}
+use Rattle.cv_syntax_trees.specs.declared.head.Head.TheVariants.{Cons}
+use Rattle.cv_syntax_trees.specs.Head.{weight}
 use Rattle.cv_pool.specs.declared.node.Kind.{Kind}
 use Rattle.cv_pool.specs.KindTree.{KindTree, NoTree, Fork}
 use Rattle.cv_pool.specs.Nodes.{ChildBelow}
-use Rattle.cv_syntax.specs.Tree.{Tree, Empty, Node, size, depth, tops, children, tree_of, tree_at}
+use Rattle.cv_syntax_trees.specs.Tree.{Tree, Empty, Node, size, depth, tops, children}
+use Rattle.cv_syntax.specs.PoolTrees.{tree_of, tree_at, head_of_kind}
 use Rattle.cv_syntax.specs.Walks.{Reaches, above}
 
 weight-le : (h : Head) → weight h ≤ 1
@@ -138,7 +139,7 @@ child-none trees n o place left bound e r = past-none (tops (tree_at trees o.fir
 -- the size of a node of a pool, by the sizes of its children
 pub size-fork : (t : KindTree) (k : Kind) (a b : KindTree) → t ≡ Fork k a b → size (tree_of t) ≤ size (tree_of a) + size (tree_of b) + 1
 unfolding size tree_of
-size-fork t k a b e = let s = ap (λ x. size (tree_of x)) e in let w = weight-le (decoded k) in omega arith
+size-fork t k a b e = let s = ap (λ x. size (tree_of x)) e in let w = weight-le (head_of_kind k) in omega arith
 
 pub size-nothing : size (tree_of NoTree) ≡ 0
 unfolding size tree_of

@@ -3,15 +3,12 @@ use Rattle.std.specs.Prelude.{◌≡◌, ℕ, zero, suc, Bool, false, ◌==◌, 
 use Rattle.std.specs.declared.hash.FoldHasher.{FoldHasher}
 use Rattle.std.specs.declared.hash.BuildHasherDefault.{BuildHasherDefault}
 use Rattle.std.specs.HashMap.{get, HashMap}
-use Rattle.cv_syntax.specs.declared.decls.Class.{Class}
-use Rattle.cv_syntax.specs.declared.decls.Class.TheVariants as class
+use Rattle.cv_syntax_trees.specs.declared.class.Class.{Class}
+use Rattle.cv_syntax_trees.specs.declared.class.Class.TheVariants as class
 use Rattle.cv_syntax.specs.declared.decls.Decl.{Decl}
 use Rattle.cv_syntax.specs.declared.decls.Decl.TheVariants as decl
-use Rattle.cv_syntax.specs.declared.head.Head.{Head}
-use Rattle.cv_syntax.specs.declared.head.Head.TheVariants.{Name}
 use Rattle.cv_names.specs.declared.names.NameId.{NameId}
 use Rattle.cv_pool.specs.declared.node.NodeId.{NodeId}
-use Rattle.cv_syntax.specs.Tree.{Tree, Empty, Node}
 
 -- what a contract sees of the declarations of a file
 pub record DeclsView : Type 0 where
@@ -85,16 +82,6 @@ query_of d = None
 abbrev pub from_one : List NodeId → ℕ → Option NodeId
 from_one ns zero = None
 from_one ns (suc k) = slice_get ns k
-
-abbrev pub name_in : Head → Option ℕ
-name_in (Name x) = Some x
-name_in h = None
-
--- the name at a place, counted from 0, of a list of names
-unfoldable pub name_at : Tree → ℕ → Option ℕ
-name_at Empty k = None
-name_at (Node h a b) zero = name_in h
-name_at (Node h a b) (suc k) = name_at b k
 
 -- no declaration is of a class that no declaration of a name has
 abbrev pub IsNamed : Decl → Type 0

@@ -1,18 +1,12 @@
--- What a file declares.
+-- The declarations of a file, over the trees of a pool.
 use Rattle.std.specs.Prelude.{ℕ, List, Option, Some, None, map}
-use Rattle.cv_syntax.specs.declared.decls.Class.{Class}
+use Rattle.cv_syntax_trees.specs.Declarations.{Declaration, Named, Equation, Equiv, Query}
 use Rattle.cv_syntax.specs.declared.decls.Decl.{Decl}
 use Rattle.cv_syntax.specs.declared.decls.Decl.TheVariants as decl
 use Rattle.cv_names.specs.declared.names.NameId.{NameId}
 use Rattle.cv_pool.specs.KindTree.{KindTree}
-use Rattle.cv_syntax.specs.Tree.{Tree, tree_at}
-
--- a declaration, with its trees
-pub data Declaration : Type 0 where
-  Named : (id : ℕ) → (class : Class) → (arguments : Tree) → (result : Option ℕ) → Declaration
-  Equation : Tree → Declaration
-  Equiv : (id : ℕ) → Tree → Declaration
-  Query : Tree → Declaration
+use Rattle.cv_syntax_trees.specs.Tree.{Tree}
+use Rattle.cv_syntax.specs.PoolTrees.{tree_at}
 
 abbrev pub number : Option NameId → Option ℕ
 number None = None

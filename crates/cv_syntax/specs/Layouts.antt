@@ -1,13 +1,14 @@
 -- How the children of a node are laid out in its tree.
 use Rattle.std.specs.Prelude.{◌≡◌, ℕ, ◌-◌, ◌<◌, Bool, true, ◌==◌, nat_lt, if◌then◌else◌, List, length, map, take, slice_index_or, Some}
-use Rattle.cv_syntax.specs.declared.head.Head.{Head}
-use Rattle.cv_syntax.specs.declared.head.Head.TheVariants.{Par, Let, Eq, And, Or, Not, If, Read, Apply, In, Out, Branch, Cons}
+use Rattle.cv_syntax_trees.specs.declared.head.Head.{Head}
+use Rattle.cv_syntax_trees.specs.declared.head.Head.TheVariants.{Par, Let, Eq, And, Or, Not, If, Read, Apply, In, Out, Branch, Cons}
 use Rattle.cv_syntax.specs.declared.layout.Layout.{Layout}
 use Rattle.cv_syntax.specs.declared.layout.Layout.TheVariants.{Lone, One, Two, Three, Listed, Rest, Taking, Giving, Chosen}
 use Rattle.cv_pool.specs.declared.node.NodeId.{NodeId}
-use Rattle.cv_syntax.specs.Head.{weight}
+use Rattle.cv_syntax_trees.specs.Head.{weight}
 use Rattle.cv_pool.specs.KindTree.{KindTree}
-use Rattle.cv_syntax.specs.Tree.{Tree, Empty, Node, chain, tree_at}
+use Rattle.cv_syntax_trees.specs.Tree.{Tree, Empty, Node, chain}
+use Rattle.cv_syntax.specs.PoolTrees.{tree_at}
 
 -- the layout that a head has with as many children as it asks for
 abbrev pub shape_of : Head → Layout

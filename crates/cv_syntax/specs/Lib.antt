@@ -1,11 +1,8 @@
-pub mod Builders
-pub mod Children
 pub mod Classes
 pub mod Declarations
-pub mod Head
 pub mod Layouts
 pub mod NameSets
 pub mod Planting
+pub mod PoolTrees
 pub mod Postorder
-pub mod Tree
 pub mod Walks

@@ -1,10 +1,10 @@
 -- A tree as a list: none, or a node behind its two children.
 use Rattle.std.specs.Prelude.{◌≡◌, List, [], ◌∷◌, ◌++◌, refl}
 use Rattle.std.proofs.Common.{ap, ◌∙◌, append_assoc}
-use Rattle.cv_syntax.specs.declared.head.Head.{Head}
+use Rattle.cv_syntax_trees.specs.declared.head.Head.{Head}
 use Rattle.cv_syntax.specs.declared.make.Make.{Make}
 use Rattle.cv_syntax.specs.declared.make.Make.TheVariants as make
-use Rattle.cv_syntax.specs.Tree.{Tree, Empty, Node}
+use Rattle.cv_syntax_trees.specs.Tree.{Tree, Empty, Node}
 
 unfoldable pub postorder : Tree → List Make
 postorder Empty = make.Nothing ∷ []

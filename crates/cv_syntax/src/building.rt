@@ -1,15 +1,16 @@
 ghost use Rattle.std.specs.Prelude.{◌≡◌, ◌+◌, ◌<◌, ◌≤◌, List, All, Some, length};
-ghost use Rattle.cv_syntax.specs.Head.{decoded};
 ghost use Rattle.cv_pool.specs.KindTree.{kind_of};
 ghost use Rattle.cv_syntax.specs.Layouts.{arranged, shape_of, layout_of, IsLaidOut, first_part, second_part, first_cost, second_cost, trees_of, IsSyntax};
 ghost use Rattle.cv_pool.specs.Nodes.{at, ChildBelow};
 ghost use Rattle.cv_pool.specs.PoolView.{Grows};
-ghost use Rattle.cv_syntax.specs.Tree as tree;
-ghost use Rattle.cv_syntax.specs.Tree.{Tree, Node, tree_at};
+ghost use Rattle.cv_syntax_trees.specs.Tree as tree;
+ghost use Rattle.cv_syntax_trees.specs.Tree.{Tree, Node};
+ghost use Rattle.cv_syntax.specs.PoolTrees.{head_of_kind, tree_at};
 
-use crate::head::Head;
+use crate::kind::{head_of, kind_of};
 use crate::layout::Layout;
 use cv_pool::{Kind, NodeId, Pool};
+use cv_syntax_trees::Head;
 
 /// A node over the children that are given, laid out as nodes of this kind are: without binders, and without
 /// the indices of a channel. Where a kind does not have so many children, all but the last become a list.
@@ -18,14 +19,14 @@ pub fn build(pool: &mut Pool, kind: Kind, kids: &[NodeId]) -> NodeId
     requires spare { length kids.now + 1 ≤ pool.old.spare }
     requires kids { All (λ n. n.0 < length pool.old.trees) kids.now }
     ensures tree { tree_at pool.new.trees (Some result)
-        ≡ arranged (decoded kind) (trees_of pool.old.trees kids.now) }
+        ≡ arranged (head_of_kind kind) (trees_of pool.old.trees kids.now) }
     ensures kind { kind_of (at pool.new.trees result.0) ≡ kind }
     ensures live { result.0 < length pool.new.trees }
     ensures grows { Grows pool.old pool.new }
     ensures spare { pool.old.spare ≤ pool.new.spare + length kids.now + 1 }
     ensures few { length pool.new.trees ≤ length pool.old.trees + length kids.now + 1 }
 {
-    let layout = Layout::of(Head::of(kind), kids.len());
+    let layout = Layout::of(head_of(kind), kids.len());
     let first = first_part(pool, layout, kids);
     let second = second_part(pool, layout, kids);
     join(pool, kind, first, second)
@@ -60,11 +61,11 @@ fn first_part(pool: &mut Pool, layout: Layout, kids: &[NodeId]) -> Option<NodeId
         Layout::Rest => chain(pool, &kids[..kids.len() - 1]),
         Layout::Taking => {
             let list = chain(pool, &kids[..kids.len() - 1]);
-            Some(join(pool, Head::Cons.kind(), list, None))
+            Some(join(pool, kind_of(Head::Cons), list, None))
         }
         Layout::Giving => {
             let list = chain(pool, &kids[..kids.len() - 1]);
-            Some(join(pool, Head::Cons.kind(), None, list))
+            Some(join(pool, kind_of(Head::Cons), None, list))
         }
     }
 }
@@ -91,18 +92,18 @@ fn second_part(pool: &mut Pool, layout: Layout, kids: &[NodeId]) -> Option<NodeI
         Layout::Two => Some(kids[1]),
         Layout::Rest | Layout::Taking | Layout::Giving => Some(kids[count - 1]),
         Layout::Three => {
-            let rest = join(pool, Head::Cons.kind(), Some(kids[2]), None);
-            Some(join(pool, Head::Cons.kind(), Some(kids[1]), Some(rest)))
+            let rest = join(pool, kind_of(Head::Cons), Some(kids[2]), None);
+            Some(join(pool, kind_of(Head::Cons), Some(kids[1]), Some(rest)))
         }
         Layout::Chosen => {
             let cells = chain(pool, &kids[..count - 2]);
             let body = join(
                 pool,
-                Head::Cons.kind(),
+                kind_of(Head::Cons),
                 Some(kids[count - 2]),
                 Some(kids[count - 1]),
             );
-            Some(join(pool, Head::Cons.kind(), cells, Some(body)))
+            Some(join(pool, kind_of(Head::Cons), cells, Some(body)))
         }
     }
 }
@@ -122,7 +123,7 @@ fn chain(pool: &mut Pool, kids: &[NodeId]) -> Option<NodeId>
     let mut left = kids.len();
     'items: while left > 0 {
         left -= 1;
-        list = Some(join(pool, Head::Cons.kind(), Some(kids[left]), list));
+        list = Some(join(pool, kind_of(Head::Cons), Some(kids[left]), list));
     }
     list
 }
@@ -134,7 +135,7 @@ fn join(pool: &mut Pool, kind: Kind, first: Option<NodeId>, second: Option<NodeI
     requires first { ChildBelow (length pool.old.trees) first }
     requires second { ChildBelow (length pool.old.trees) second }
     ensures tree { tree_at pool.new.trees (Some result)
-        ≡ Node (decoded kind) (tree_at pool.old.trees first) (tree_at pool.old.trees second) }
+        ≡ Node (head_of_kind kind) (tree_at pool.old.trees first) (tree_at pool.old.trees second) }
     ensures kind { kind_of (at pool.new.trees result.0) ≡ kind }
     ensures live { result.0 < length pool.new.trees }
     ensures grows { Grows pool.old pool.new }

@@ -1,13 +1,14 @@
 ghost use Rattle.std.specs.Prelude.{◌≡◌, ◌+◌, ◌<◌, ◌↔◌, IfNone, IfOk, IfSome, IsNone, IsTrue, length};
 ghost use Rattle.cv_pool.specs.Nodes.{ChildBelow};
-ghost use Rattle.cv_syntax.specs.Children as children;
+ghost use Rattle.cv_syntax_trees.specs.Children as children;
 ghost use Rattle.cv_syntax.specs.NameSets.{is_in, is_one_of};
-ghost use Rattle.cv_syntax.specs.Tree.{Empty, Node, bound_names, first, lone, second, size, tree_at};
-ghost use Rattle.cv_syntax.specs.declared.head.Head.TheVariants.{Leaf};
+ghost use Rattle.cv_syntax_trees.specs.Tree.{Empty, Node, bound_names, first, lone, second, size};
+ghost use Rattle.cv_syntax.specs.PoolTrees.{tree_at};
+ghost use Rattle.cv_syntax_trees.specs.declared.head.Head.TheVariants.{Leaf};
 
-use crate::head::Head;
 use crate::open::{Opened, read_node};
 use cv_pool::{NodeId, Pool};
+use cv_syntax_trees::Head;
 use std::alloc::{AllocError, Global};
 use std::collections::HashSet;
 

@@ -1,6 +1,7 @@
 ghost use Rattle.std.specs.Prelude.{◌≡◌, length};
 ghost use Rattle.cv_pool.specs.Nodes.{ChildBelow};
-ghost use Rattle.cv_syntax.specs.Tree.{same_tree, tree_at};
+ghost use Rattle.cv_syntax_trees.specs.Tree.{same_tree};
+ghost use Rattle.cv_syntax.specs.PoolTrees.{tree_at};
 
 use crate::children::is_empty;
 use crate::open::read_node;
@@ -24,7 +25,7 @@ pub fn same(pool: &Pool, left: Option<NodeId>, right: Option<NodeId>) -> bool
             return true;
         }
         let y = read_node(pool, n);
-        if x.head.kind() != y.head.kind() {
+        if x.head.code() != y.head.code() {
             return false;
         }
         if !same(pool, x.first, y.first) {

@@ -1,38 +1,18 @@
 ghost use Rattle.std.specs.Prelude.{◌↔◌, All, None, ◌≡◌, ◌+◌, ◌<◌, ◌≤◌, ◌^◌, ◌++◌, ◌∷◌, [], length, option_and_then, take, slice_get, OnOk, OnErr};
 ghost use Rattle.std.specs.Option.{option_copied};
-ghost use Rattle.cv_syntax.specs.Classes.{DeclsView, id_of, declaration_in, class_by, class_in, result_in, args_in, equiv_in, equations, queries, query_of, from_one, name_at, IsNamed, IsNew};
+ghost use Rattle.cv_syntax_trees.specs.Tree.{name_at};
+ghost use Rattle.cv_syntax.specs.Classes.{DeclsView, id_of, declaration_in, class_by, class_in, result_in, args_in, equiv_in, equations, queries, query_of, from_one, IsNamed, IsNew};
 ghost use Rattle.cv_syntax.specs.Declarations.{number};
 ghost use Rattle.cv_pool.specs.Nodes.{ChildBelow};
-ghost use Rattle.cv_syntax.specs.Tree.{tree_at};
+ghost use Rattle.cv_syntax.specs.PoolTrees.{tree_at};
 
-use crate::head::Head;
 use crate::open::read_node;
 use cv_names::NameId;
 use cv_pool::{NodeId, Pool};
+use cv_syntax_trees::{Class, Head};
 use std::alloc::{AllocError, Global};
 use std::collections::HashMap;
 use std::marker::Model;
-
-/// What a name of a file is.
-#[derive(Clone, Copy, Debug, PartialEq, Eq)]
-pub enum Class {
-    /// A parameter.
-    Param,
-    /// A type: `new` may choose of it, and a collision in it is rare.
-    TypeName { fixed: bool, large: bool },
-    /// A channel.
-    Channel,
-    /// A function, or a constant. With `[data]` it is injective.
-    Fun { data_like: bool },
-    /// An event.
-    Event,
-    /// A probability.
-    Proba,
-    /// An equivalence.
-    Equiv,
-    /// No name of a declaration.
-    Free,
-}
 
 /// A declaration. Arguments are a list of the names of types.
 #[derive(Clone, Copy, Debug)]

@@ -1,7 +1,7 @@
 ghost use Rattle.std.specs.Prelude.{◌≡◌};
 ghost use Rattle.cv_syntax.specs.Layouts.{shape_of, layout_of, fits, IsLaidOut};
 
-use crate::head::Head;
+use cv_syntax_trees::Head;
 
 /// How the children of a node are laid out in its tree.
 #[derive(Clone, Copy, Debug, PartialEq, Eq)]

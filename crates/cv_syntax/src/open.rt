@@ -1,9 +1,11 @@
 ghost use Rattle.std.specs.Prelude.{◌≡◌, ◌<◌, ◌↔◌, length, Some, IsNone};
 ghost use Rattle.cv_pool.specs.Nodes.{ChildBelow};
-ghost use Rattle.cv_syntax.specs.Tree.{Tree, Empty, Node, tree_at};
+ghost use Rattle.cv_syntax_trees.specs.Tree.{Tree, Empty, Node};
+ghost use Rattle.cv_syntax.specs.PoolTrees.{tree_at};
 
-use crate::head::Head;
+use crate::kind::head_of;
 use cv_pool::{NodeId, Pool};
+use cv_syntax_trees::Head;
 
 /// A node: what it is, and its children.
 #[derive(Clone, Copy)]
@@ -26,7 +28,7 @@ pub fn read_node(pool: &Pool, n: NodeId) -> Opened
     ensures no_second { IsNone result.second ↔ (tree_at pool.now.trees result.second ≡ Empty) }
 {
     Opened {
-        head: Head::of(pool.kind(n)),
+        head: head_of(pool.kind(n)),
         first: pool.kid(n, false),
         second: pool.kid(n, true),
     }

@@ -3,11 +3,13 @@ ghost use Rattle.cv_pool.specs.Nodes.{ChildBelow};
 ghost use Rattle.cv_syntax.specs.Planting.{overs};
 ghost use Rattle.cv_pool.specs.PoolView.{Grows};
 ghost use Rattle.cv_syntax.specs.Postorder.{joined, made, postorder};
-ghost use Rattle.cv_syntax.specs.Tree.{Tree, tree_at};
+ghost use Rattle.cv_syntax_trees.specs.Tree.{Tree};
+ghost use Rattle.cv_syntax.specs.PoolTrees.{tree_at};
 
-use crate::head::Head;
+use crate::kind::kind_of;
 use crate::make::Make;
 use cv_pool::{NodeId, Pool, PoolError};
+use cv_syntax_trees::Head;
 use std::alloc::{AllocError, Global};
 
 /// How many nodes a list makes.
@@ -95,5 +97,5 @@ fn over(pool: &mut Pool, stack: &mut Vec<Option<NodeId>>, head: Head) -> NodeId
 {
     let second = stack.pop().unwrap_or(None);
     let first = stack.pop().unwrap_or(None);
-    pool.node(head.kind(), first, second)
+    pool.node(kind_of(head), first, second)
 }

@@ -5,12 +5,13 @@ use Rattle.std.specs.Prelude.{IsErrOf, reverse, slice_get}
 use Rattle.cv_pool.specs.KindTree.{KindTree}
 use Rattle.cv_pool.specs.declared.node.NodeId.{NodeId}
 use Rattle.cv_pool.specs.declared.pool.PoolError.TheVariants as pool
-use Rattle.cv_syntax.specs.declared.head.Head.{Head}
+use Rattle.cv_syntax_trees.specs.declared.head.Head.{Head}
 use Rattle.cv_syntax.specs.declared.make.Make.{Make}
 use Rattle.cv_syntax.specs.declared.make.Make.TheVariants.{Nothing, Over}
 use Rattle.cv_syntax.specs.Planting.{overs}
 use Rattle.cv_syntax.specs.Postorder.{joined, made, made-postorder, postorder}
-use Rattle.cv_syntax.specs.Tree.{Tree, Empty, Node, tree_at}
+use Rattle.cv_syntax_trees.specs.Tree.{Tree, Empty, Node}
+use Rattle.cv_syntax.specs.PoolTrees.{tree_at}
 use Rattle.cv_syntax_limits.specs.Limits.{nodes_of}
 
 pub few_overs : (ms : List Make) → overs ms ≤ length ms

@@ -2,7 +2,8 @@ ghost use Rattle.std.specs.Prelude.{◌≡◌, ◌+◌, ◌<◌, ◌≤◌, [], 
 ghost use Rattle.cv_pool.specs.PoolView.{Grows};
 ghost use Rattle.cv_syntax.specs.Planting.{overs};
 ghost use Rattle.cv_syntax.specs.Postorder.{made, postorder};
-ghost use Rattle.cv_syntax.specs.Tree.{Tree, tree_at};
+ghost use Rattle.cv_syntax_trees.specs.Tree.{Tree};
+ghost use Rattle.cv_syntax.specs.PoolTrees.{tree_at};
 
 use cv_syntax::{Make, NodeId, Pool, PoolError, plant};
 use std::alloc::Global;

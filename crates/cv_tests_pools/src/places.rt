@@ -1,7 +1,7 @@
 use cv_path::{PathError, at, replace};
 use cv_pool::{NodeId, Pool};
 use cv_syntax::children::room_left;
-use cv_syntax::{BuildError, Head};
+use cv_syntax::{BuildError, Head, kind_of};
 use std::alloc::Global;
 use std::process::Abort;
 use std::test::Fail;
@@ -11,16 +11,16 @@ use std::test::Fail;
 fn searching(alloc: Global, limit: u32) -> Result<Pool, Fail> {
     let mut pool = Pool::new(alloc, limit);
     pool.reserve(10)?;
-    let body = pool.node(Head::Yield.kind(), None, None);
-    let condition = pool.node(Head::Yes.kind(), None, None);
-    let tested = pool.node(Head::Cons.kind(), Some(condition), Some(body));
-    let guards = pool.node(Head::Cons.kind(), None, Some(tested));
-    let index = pool.node(Head::Binder(2, 12).kind(), None, None);
-    let branch = pool.node(Head::Branch.kind(), Some(index), Some(guards));
-    let branches = pool.node(Head::Cons.kind(), Some(branch), None);
-    let other = pool.node(Head::Stop.kind(), None, None);
-    let find = pool.node(Head::Find(1).kind(), Some(branches), Some(other));
-    let _ = pool.node(Head::Repl(1, 11).kind(), None, Some(find));
+    let body = pool.node(kind_of(Head::Yield), None, None);
+    let condition = pool.node(kind_of(Head::Yes), None, None);
+    let tested = pool.node(kind_of(Head::Cons), Some(condition), Some(body));
+    let guards = pool.node(kind_of(Head::Cons), None, Some(tested));
+    let index = pool.node(kind_of(Head::Binder(2, 12)), None, None);
+    let branch = pool.node(kind_of(Head::Branch), Some(index), Some(guards));
+    let branches = pool.node(kind_of(Head::Cons), Some(branch), None);
+    let other = pool.node(kind_of(Head::Stop), None, None);
+    let find = pool.node(kind_of(Head::Find(1)), Some(branches), Some(other));
+    let _ = pool.node(kind_of(Head::Repl(1, 11)), None, Some(find));
     Ok(pool)
 }
 

@@ -2,18 +2,18 @@
 use Rattle.std.proofs.Common.{◌≡◌, ℕ, Bool, true, false, cond, List, [], ◌∷◌, ◌++◌, refl, ap, ap₂, sym, ◌∙◌, eqb-true, Option, Some, None}
 use Rattle.std.specs.Prelude.{◌==◌}
 use Rattle.std.proofs.Math.Path.{fun_ext}
-use Rattle.cv_syntax.specs.declared.head.Head.{Head}
-use Rattle.cv_syntax.specs.declared.head.Head.TheVariants.{Let, New}
-use Rattle.cv_syntax.specs.Tree.{Tree, Empty, Node, first, second}
+use Rattle.cv_syntax_trees.specs.declared.head.Head.{Head}
+use Rattle.cv_syntax_trees.specs.declared.head.Head.TheVariants.{Let, New}
+use Rattle.cv_syntax_trees.specs.Tree.{Tree, Empty, Node, first, second}
 use Rattle.cv_typing.specs.declared.locals.Own.{Own}
-use Rattle.cv_typing.specs.declared.precedence.Precedence.TheVariants.{First}
-use Rattle.cv_directory.specs.declared.sort.Sort.{Sort}
-use Rattle.cv_directory.specs.declared.sort.Sort.TheVariants.{OfType}
-use Rattle.cv_typing.specs.Parts.{bound_at, local_here, local_in, nothing_above, own_sort, sort_by_bound, with_taken}
-use Rattle.cv_typing.specs.Signature.{Above}
-use Rattle.cv_directory.specs.Sites.{first_of}
+use Rattle.cv_typing_rules.specs.declared.precedence.Precedence.TheVariants.{First}
+use Rattle.cv_directory_sorts.specs.declared.sort.Sort.{Sort}
+use Rattle.cv_directory_sorts.specs.declared.sort.Sort.TheVariants.{OfType}
+use Rattle.cv_typing_rules.specs.Parts.{bound_at, local_here, local_in, nothing_above, own_sort, sort_by_bound, with_taken}
+use Rattle.cv_typing_rules.specs.Signature.{Above}
+use Rattle.cv_directory_sorts.specs.Sites.{first_of}
 use Rattle.cv_typing.specs.Tables.{ByBound, above_of, and_else, by_bound_in, with_body, with_function, with_functions, with_here}
-use Rattle.cv_typing.specs.Wants.{bound}
+use Rattle.cv_typing_rules.specs.Wants.{bound}
 
 pub same_table : (l k : ByBound) → ((n y : ℕ) → l n y ≡ k n y) → l ≡ k
 same_table l k f = fun_ext (λ n. fun_ext (λ y. f n y))

@@ -1,21 +1,21 @@
 -- The bodies of the functions of a side, and the declarations of a file, one by one.
 use Rattle.std.proofs.Common.{◌≡◌, ℕ, zero, suc, ◌+◌, List, [], ◌∷◌, ◌++◌, drop, refl, ap, ap₂, sym, subst, ◌∙◌, arith, append_assoc, Option, Some, None, Result, Ok, Err, IfOk, IfErr, OnOk}
 use Rattle.std.specs.Prelude.{slice_get}
-use Rattle.cv_syntax.specs.declared.head.Head.{Head}
-use Rattle.cv_syntax.specs.Declarations.{Declaration}
-use Rattle.cv_syntax.specs.Tree.{Tree, Empty, Node, first, second, size}
-use Rattle.cv_typing.specs.declared.fault.Fault.{Fault}
-use Rattle.cv_typing.specs.declared.fault.Fault.TheVariants as fault
-use Rattle.cv_typing.specs.declared.fault.TypeFault.{TypeFault}
-use Rattle.cv_typing.specs.declared.fault.TypeFault.TheVariants as refused
-use Rattle.cv_typing.specs.declared.form.Form.TheVariants.{InBody}
-use Rattle.cv_directory.specs.declared.sort.Sort.{Sort}
-use Rattle.cv_typing.specs.Parts.{Part, signature_of, first_in, body_parts, first_result, in_function, more_results, names_of, results}
-use Rattle.cv_typing.specs.Refusals.{IsChecked, IsRefusalOf, parts_size}
-use Rattle.cv_typing.specs.Signature.{Above, Arrays, OfGame, OfNothing, OfSide, Signature, sort_of}
-use Rattle.cv_directory.specs.Sites.{first_of}
-use Rattle.cv_typing.specs.Typing.{first_fault}
-use Rattle.cv_typing.specs.Wants.{Run}
+use Rattle.cv_syntax_trees.specs.declared.head.Head.{Head}
+use Rattle.cv_syntax_trees.specs.Declarations.{Declaration}
+use Rattle.cv_syntax_trees.specs.Tree.{Tree, Empty, Node, first, second, size}
+use Rattle.cv_typing_rules.specs.declared.fault.Fault.{Fault}
+use Rattle.cv_typing_rules.specs.declared.fault.Fault.TheVariants as fault
+use Rattle.cv_typing_rules.specs.declared.fault.TypeFault.{TypeFault}
+use Rattle.cv_typing_rules.specs.declared.fault.TypeFault.TheVariants as refused
+use Rattle.cv_typing_rules.specs.declared.form.Form.TheVariants.{InBody}
+use Rattle.cv_directory_sorts.specs.declared.sort.Sort.{Sort}
+use Rattle.cv_typing_rules.specs.Parts.{Part, signature_of, first_in, body_parts, first_result, in_function, more_results, names_of, results}
+use Rattle.cv_typing_rules.specs.Refusals.{IsChecked, IsRefusalOf, parts_size}
+use Rattle.cv_typing_rules.specs.Signature.{Above, Arrays, OfGame, OfNothing, OfSide, Signature, sort_of}
+use Rattle.cv_directory_sorts.specs.Sites.{first_of}
+use Rattle.cv_typing_rules.specs.Typing.{first_fault}
+use Rattle.cv_typing_rules.specs.Wants.{Run}
 use Rattle.cv_typing.proofs.Files.{part-refused, part-step, parts-end}
 
 -- one part alone is checked

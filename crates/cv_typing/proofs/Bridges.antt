@@ -1,19 +1,20 @@
 -- What a list of declarations in a pool says of names.
 use Rattle.std.proofs.Common.{◌≡◌, ℕ, Bool, true, false, cond, List, [], ◌∷◌, refl, ap, sym, ◌∙◌, Option, Some, None, subst}
 use Rattle.std.specs.Prelude.{nat_eq, option_map}
-use Rattle.cv_syntax.specs.declared.decls.Class.TheVariants.{TypeName, Fun, Event}
+use Rattle.cv_syntax_trees.specs.declared.class.Class.TheVariants.{TypeName, Fun, Event}
 use Rattle.cv_syntax.specs.declared.decls.Decl.{Decl}
 use Rattle.cv_syntax.specs.declared.decls.Decl.TheVariants as decl
 use Rattle.cv_syntax.specs.Classes.{declaration_in, args_by}
-use Rattle.cv_syntax.specs.Declarations.{Declaration, declared, declarations}
-use Rattle.cv_syntax.specs.Tree.{tree_at}
+use Rattle.cv_syntax_trees.specs.Declarations.{Declaration}
+use Rattle.cv_syntax.specs.Declarations.{declared, declarations}
+use Rattle.cv_syntax.specs.PoolTrees.{tree_at}
 use Rattle.cv_pool.specs.declared.node.NodeId.{NodeId}
 use Rattle.cv_pool.specs.KindTree.{KindTree}
 use Rattle.cv_typing.specs.declared.function.Callee.{Callee}
 use Rattle.cv_pool.specs.Nodes.{ChildBelow}
 use Rattle.cv_typing.specs.Lookups.{callee_by, callee_in, event_args_by, event_args_in, fixed_decl, function_at, HasLiveArguments}
-use Rattle.cv_typing.specs.Signature.{declaration_of, function_by, function_in, event_by, event_in, fixed_by, is_fixed_in, names_in}
-use Rattle.cv_typing.proofs.Counts.{names-end}
+use Rattle.cv_typing_rules.specs.Signature.{declaration_of, function_by, function_in, event_by, event_in, fixed_by, is_fixed_in, names_in}
+use Rattle.cv_typing_rules.proofs.Counts.{names-end}
 use Rattle.cv_syntax.proofs.Trees.{tree_at-None}
 
 pub declaration-same : (trees : List KindTree) (ds : List Decl) (x : ℕ) → declaration_of (declarations trees ds) x ≡ option_map (declared trees) (declaration_in ds x)

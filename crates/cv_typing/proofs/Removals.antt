@@ -3,16 +3,16 @@ use Rattle.std.proofs.Common.{◌≡◌, ℕ, Bool, true, false, cond, List, [],
 use Rattle.std.specs.Prelude.{◌==◌}
 use Rattle.std.proofs.Math.Path.{fun_ext}
 use Rattle.std.specs.HashMap.{Updates, UpdatesBy}
-use Rattle.cv_syntax.specs.declared.head.Head.{Head}
-use Rattle.cv_syntax.specs.declared.head.Head.TheVariants.{Binder, Branch, Let, New, Repl}
-use Rattle.cv_syntax.specs.Tree.{Tree, Empty, Node}
-use Rattle.cv_typing.specs.declared.precedence.Precedence.{Precedence}
-use Rattle.cv_typing.specs.declared.precedence.Precedence.TheVariants.{First, Newest}
-use Rattle.cv_directory.specs.declared.sort.Sort.{Sort}
-use Rattle.cv_directory.specs.Sites.{first_of}
-use Rattle.cv_typing.specs.Signature.{Above}
+use Rattle.cv_syntax_trees.specs.declared.head.Head.{Head}
+use Rattle.cv_syntax_trees.specs.declared.head.Head.TheVariants.{Binder, Branch, Let, New, Repl}
+use Rattle.cv_syntax_trees.specs.Tree.{Tree, Empty, Node}
+use Rattle.cv_typing_rules.specs.declared.precedence.Precedence.{Precedence}
+use Rattle.cv_typing_rules.specs.declared.precedence.Precedence.TheVariants.{First, Newest}
+use Rattle.cv_directory_sorts.specs.declared.sort.Sort.{Sort}
+use Rattle.cv_directory_sorts.specs.Sites.{first_of}
+use Rattle.cv_typing_rules.specs.Signature.{Above}
 use Rattle.cv_typing.specs.Tables.{Map, above_of, restored}
-use Rattle.cv_typing.specs.Wants.{all_bound, bound, with_names}
+use Rattle.cv_typing_rules.specs.Wants.{all_bound, bound, with_names}
 
 -- the function with another value at one name
 abbrev updated : Above → ℕ → Option Sort → Above

@@ -4,17 +4,18 @@ use Rattle.std.specs.Prelude.{All, flat_map, slice_get}
 use Rattle.std.proofs.lemmas.List.Elements.{All-head, All-tail}
 use Rattle.cv_directory.specs.Live.{IsLive}
 use Rattle.cv_syntax.specs.declared.decls.Decl.{Decl}
-use Rattle.cv_syntax.specs.declared.head.Head.{Head}
-use Rattle.cv_syntax.specs.Declarations.{Declaration, declared, declarations}
-use Rattle.cv_syntax.specs.Tree.{Tree, Node, first, second}
+use Rattle.cv_syntax_trees.specs.declared.head.Head.{Head}
+use Rattle.cv_syntax_trees.specs.Declarations.{Declaration}
+use Rattle.cv_syntax.specs.Declarations.{declared, declarations}
+use Rattle.cv_syntax_trees.specs.Tree.{Tree, Node, first, second}
 use Rattle.cv_pool.specs.KindTree.{KindTree}
-use Rattle.cv_typing.specs.declared.fault.Fault.{Fault}
-use Rattle.cv_typing.specs.declared.fault.TypeFault.{TypeFault}
-use Rattle.cv_directory.specs.declared.sort.Sort.{Sort}
-use Rattle.cv_typing.specs.Parts.{Part, AreTyped, first_in, body_parts, declaration_parts, equivalence_parts, file_parts, game_part, results, side_arrays}
-use Rattle.cv_typing.specs.Refusals.{IsChecked, IsRefusalOf}
-use Rattle.cv_typing.specs.Signature.{Arrays}
-use Rattle.cv_typing.proofs.First.{parts_typed_where_none}
+use Rattle.cv_typing_rules.specs.declared.fault.Fault.{Fault}
+use Rattle.cv_typing_rules.specs.declared.fault.TypeFault.{TypeFault}
+use Rattle.cv_directory_sorts.specs.declared.sort.Sort.{Sort}
+use Rattle.cv_typing_rules.specs.Parts.{Part, AreTyped, first_in, body_parts, declaration_parts, equivalence_parts, file_parts, game_part, results, side_arrays}
+use Rattle.cv_typing_rules.specs.Refusals.{IsChecked, IsRefusalOf}
+use Rattle.cv_typing_rules.specs.Signature.{Arrays}
+use Rattle.cv_typing_rules.proofs.First.{parts_typed_where_none}
 use Rattle.cv_typing.proofs.Parameters.{drop-none, drop-some}
 
 -- the two sides of an equivalence

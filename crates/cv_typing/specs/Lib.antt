@@ -1,8 +1,2 @@
 pub mod Lookups
-pub mod Parts
-pub mod Refusals
-pub mod Signature
 pub mod Tables
-pub mod Typing
-pub mod Wants
-pub mod Worked

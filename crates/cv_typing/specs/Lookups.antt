@@ -1,22 +1,22 @@
 -- What the code finds of a name in a list of declarations of a pool.
 use Rattle.std.specs.Prelude.{ℕ, Bool, false, drop, List, [], Option, Some, None}
-use Rattle.cv_syntax.specs.declared.decls.Class.TheVariants.{TypeName, Fun, Event as AnEvent}
+use Rattle.cv_syntax_trees.specs.declared.class.Class.TheVariants.{TypeName, Fun, Event as AnEvent}
 use Rattle.cv_syntax.specs.declared.decls.Decl.{Decl}
 use Rattle.cv_syntax.specs.declared.decls.Decl.TheVariants as decl
 use Rattle.cv_syntax.specs.Classes.{declaration_in, args_in}
 use Rattle.cv_syntax.specs.Declarations.{declarations}
-use Rattle.cv_syntax.specs.Tree.{tree_at}
+use Rattle.cv_syntax.specs.PoolTrees.{tree_at}
 use Rattle.cv_pool.specs.declared.node.NodeId.{NodeId}
 use Rattle.cv_pool.specs.KindTree.{KindTree}
 use Rattle.cv_pool.specs.Nodes.{ChildBelow}
 use Rattle.cv_typing.specs.declared.arrays.Arrays.{Arrays}
 use Rattle.cv_typing.specs.declared.function.Callee.{Callee}
-use Rattle.cv_typing.specs.declared.want.Want.{Want}
-use Rattle.cv_typing.specs.declared.want.Want.TheVariants as asked
-use Rattle.cv_typing.specs.Signature.{Signature, Function, names_in, variable_in}
-use Rattle.cv_directory.specs.Sites.{Variable}
+use Rattle.cv_typing_rules.specs.declared.want.Want.{Want}
+use Rattle.cv_typing_rules.specs.declared.want.Want.TheVariants as asked
+use Rattle.cv_typing_rules.specs.Signature.{Signature, Function, names_in, variable_in}
+use Rattle.cv_directory_sorts.specs.Sites.{Variable}
 use Rattle.cv_typing.specs.Tables.{arrays_of}
-use Rattle.cv_typing.specs.Wants as wants
+use Rattle.cv_typing_rules.specs.Wants as wants
 
 -- the lists of arguments are live
 abbrev pub HasLiveArguments : ℕ → List Decl → Type 0

@@ -3,19 +3,19 @@ use Rattle.std.specs.Prelude.{ℕ, nat_eq, ◌==◌, if◌then◌else◌, List, 
 use Rattle.std.specs.declared.hash.FoldHasher.{FoldHasher}
 use Rattle.std.specs.declared.hash.BuildHasherDefault.{BuildHasherDefault}
 use Rattle.std.specs.HashMap.{get, HashMap}
-use Rattle.cv_syntax.specs.declared.head.Head.{Head}
-use Rattle.cv_syntax.specs.Tree.{Tree, first, second}
-use Rattle.cv_directory.specs.declared.sort.Sort.{Sort}
+use Rattle.cv_syntax_trees.specs.declared.head.Head.{Head}
+use Rattle.cv_syntax_trees.specs.Tree.{Tree, first, second}
+use Rattle.cv_directory_sorts.specs.declared.sort.Sort.{Sort}
 use Rattle.cv_typing.specs.declared.arrays.Arrays.{Arrays}
 use Rattle.cv_typing.specs.declared.arrays.Arrays.TheVariants as held
 use Rattle.cv_typing.specs.declared.locals.Locals.{Locals}
 use Rattle.cv_typing.specs.declared.locals.Own.{Own}
-use Rattle.cv_typing.specs.Signature as signature
-use Rattle.cv_typing.specs.Signature.{Above}
+use Rattle.cv_typing_rules.specs.Signature as signature
+use Rattle.cv_typing_rules.specs.Signature.{Above}
 use Rattle.cv_directory.specs.declared.directory.Directory.{Directory}
 use Rattle.cv_directory.specs.Tables.{seen}
-use Rattle.cv_directory.specs.Sites.{first_of}
-use Rattle.cv_typing.specs.Parts.{bound_at, local_here, local_in, own_sort, sort_by_bound}
+use Rattle.cv_directory_sorts.specs.Sites.{first_of}
+use Rattle.cv_typing_rules.specs.Parts.{bound_at, local_here, local_in, own_sort, sort_by_bound}
 
 abbrev pub Map : Type 0 → Type 0
 Map X = HashMap ℕ X (BuildHasherDefault FoldHasher)

@@ -1,22 +1,24 @@
 ghost use Rattle.std.specs.Prelude.{◌≡◌, ◌<◌, ◌^◌, All, not, is_some, length, IfOk, IfSome, OnOk, Some};
 ghost use Rattle.cv_syntax.specs.Declarations.{declarations};
-ghost use Rattle.cv_syntax.specs.Tree.{size, tree_at};
-ghost use Rattle.cv_directory.specs.Sites.{sites_of};
+ghost use Rattle.cv_syntax_trees.specs.Tree.{size};
+ghost use Rattle.cv_syntax.specs.PoolTrees.{tree_at};
+ghost use Rattle.cv_directory_sorts.specs.Sites.{sites_of};
 ghost use Rattle.cv_directory.specs.Tables.{seen};
 ghost use Rattle.cv_typing.specs.Lookups.{signature_in};
 ghost use Rattle.cv_directory.specs.Live.{IsLive};
-ghost use Rattle.cv_typing.specs.Parts.{game_part, nothing_above, signature_of};
+ghost use Rattle.cv_typing_rules.specs.Parts.{game_part, nothing_above, signature_of};
 ghost use Rattle.cv_typing.specs.Tables.{above_of};
-ghost use Rattle.cv_typing.specs.Typing.{first_fault};
-ghost use Rattle.cv_typing.specs.Wants.{AnyTerm, Run};
-ghost use Rattle.cv_typing.specs.declared.form.Form.TheVariants.{InProcess};
+ghost use Rattle.cv_typing_rules.specs.Typing.{first_fault};
+ghost use Rattle.cv_typing_rules.specs.Wants.{AnyTerm, Run};
+ghost use Rattle.cv_typing_rules.specs.declared.form.Form.TheVariants.{InProcess};
 
 use crate::arrays::Arrays;
 use crate::checking::check_process;
 use crate::walk::walk;
-use crate::want::Want;
-use cv_directory::{Directory, Sort};
+use cv_directory::Directory;
+use cv_directory_sorts::Sort;
 use cv_syntax::{NodeId, Work};
+use cv_typing_rules::Want;
 use std::alloc::{AllocError, Global};
 use std::collections::HashMap;
 

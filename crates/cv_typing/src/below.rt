@@ -2,21 +2,20 @@ ghost use Rattle.std.specs.Prelude.{◌≡◌, ◌<◌, ◌+◌, ◌^◌, ℕ, L
 ghost use Rattle.cv_pool.specs.KindTree.{KindTree};
 ghost use Rattle.cv_pool.specs.Nodes.{ChildBelow};
 ghost use Rattle.cv_syntax.specs.Declarations.{declarations};
-ghost use Rattle.cv_syntax.specs.Tree.{tree_at};
+ghost use Rattle.cv_syntax.specs.PoolTrees.{tree_at};
 ghost use Rattle.cv_typing.specs.declared.arrays.Arrays.{Arrays};
 ghost use Rattle.cv_typing.specs.Lookups.{AreLiveWants, HasLiveArguments, IsLiveWant, both_wants, signature_in, want_of};
-ghost use Rattle.cv_typing.specs.Signature.{event_in, function_in, names_in};
-ghost use Rattle.cv_typing.specs.declared.want.Want.TheVariants.{Indices};
+ghost use Rattle.cv_typing_rules.specs.Signature.{event_in, function_in, names_in};
+ghost use Rattle.cv_typing_rules.specs.declared.want.Want.TheVariants.{Indices};
 ghost use Rattle.cv_typing.specs.Tables.{above_of, arrays_of};
-ghost use Rattle.cv_typing.specs.Wants as wants;
+ghost use Rattle.cv_typing_rules.specs.Wants as wants;
 
 use crate::arrays::Arrays;
-use crate::form::Form;
 use crate::function::{event_arguments, find_function};
 use crate::terms::sort_of_term;
-use crate::want::Want;
-use cv_directory::Sort;
+use cv_directory_sorts::Sort;
 use cv_syntax::{Decls, Head, NodeId, Opened, Pool, read_node};
+use cv_typing_rules::{Form, Want};
 use std::collections::HashMap;
 
 /// A term of a sort, or any term where it isn't known.

@@ -1,21 +1,20 @@
 ghost use Rattle.std.specs.Prelude.{◌≡◌, ◌<◌, ◌+◌, ◌^◌, ◌∷◌, [], All, None, length, IfErr, IfOk, OnOk, Some};
 ghost use Rattle.cv_syntax.specs.Declarations.{declarations};
-ghost use Rattle.cv_syntax.specs.Tree.{size, tree_at};
-ghost use Rattle.cv_directory.specs.Sites.{sites_of};
+ghost use Rattle.cv_syntax_trees.specs.Tree.{size};
+ghost use Rattle.cv_syntax.specs.PoolTrees.{tree_at};
+ghost use Rattle.cv_directory_sorts.specs.Sites.{sites_of};
 ghost use Rattle.cv_directory.specs.Tables.{seen};
 ghost use Rattle.cv_typing.specs.Lookups.{HasLiveArguments};
 ghost use Rattle.cv_directory.specs.Live.{IsLive};
-ghost use Rattle.cv_typing.specs.Parts.{IsTypedFile, IsTypedGame, file_parts, first_in, game_part};
-ghost use Rattle.cv_typing.specs.Refusals.{IsFirstRefusal, IsRefusalOf, parts_size};
+ghost use Rattle.cv_typing_rules.specs.Parts.{IsTypedFile, IsTypedGame, file_parts, first_in, game_part};
+ghost use Rattle.cv_typing_rules.specs.Refusals.{IsFirstRefusal, IsRefusalOf, parts_size};
 
 use crate::arrays::Arrays;
-use crate::fault::TypeFault;
-use crate::form::Form;
 use crate::parts::check_declaration;
 use crate::walk::walk;
-use crate::want::Want;
 use cv_directory::Directory;
 use cv_syntax::{Decls, File, Game, NodeId, Pool, Work};
+use cv_typing_rules::{Form, TypeFault, Want};
 use std::alloc::Global;
 use std::collections::HashMap;
 

@@ -1,10 +1,10 @@
 ghost use Rattle.std.specs.Prelude.{◌≡◌, ◌<◌, length, IfSome};
 ghost use Rattle.cv_pool.specs.Nodes.{ChildBelow};
 ghost use Rattle.cv_syntax.specs.Classes.{declaration_in};
-ghost use Rattle.cv_syntax.specs.Tree.{tree_at};
+ghost use Rattle.cv_syntax.specs.PoolTrees.{tree_at};
 ghost use Rattle.cv_typing.specs.Lookups.{callee_in, event_args_in, fixed_decl};
-ghost use Rattle.cv_directory.specs.Counting as counting;
-ghost use Rattle.cv_typing.specs.Signature.{names_in};
+ghost use Rattle.cv_directory_sorts.specs.Counting as counting;
+ghost use Rattle.cv_typing_rules.specs.Signature.{names_in};
 
 use cv_syntax::{Class, Decls, Head, NameId, NodeId, Pool, read_node};
 

@@ -1,16 +1,16 @@
 ghost use Rattle.std.specs.Prelude.{◌≡◌, ◌<◌, List, length, option_map};
 ghost use Rattle.cv_pool.specs.Nodes.{ChildBelow};
-ghost use Rattle.cv_syntax.specs.Tree.{tree_at};
+ghost use Rattle.cv_syntax.specs.PoolTrees.{tree_at};
 ghost use Rattle.cv_syntax.specs.Declarations.{declarations};
 ghost use Rattle.cv_pool.specs.KindTree.{KindTree};
 ghost use Rattle.cv_typing.specs.Lookups.{HasLiveArguments, signature_in};
-ghost use Rattle.cv_typing.specs.Signature as signature;
-ghost use Rattle.cv_directory.specs.declared.sort.Sort.TheVariants.{OfType};
+ghost use Rattle.cv_typing_rules.specs.Signature as signature;
+ghost use Rattle.cv_directory_sorts.specs.declared.sort.Sort.TheVariants.{OfType};
 ghost use Rattle.cv_typing.specs.Tables.{above_of, arrays_of};
 
 use crate::arrays::Arrays;
 use crate::function::{count_names, event_arguments, find_function};
-use cv_directory::Sort;
+use cv_directory_sorts::Sort;
 use cv_syntax::children::first_of;
 use cv_syntax::{Decls, Head, NodeId, Pool, read_node};
 use std::collections::HashMap;

@@ -1,19 +1,19 @@
 ghost use Rattle.std.specs.Prelude.{◌≡◌, ◌<◌, ◌+◌, ◌^◌, None, Ok, length, IfOk, IfErr, OnOk};
 ghost use Rattle.cv_pool.specs.Nodes.{ChildBelow};
-ghost use Rattle.cv_syntax.specs.Tree.{size, tree_at};
+ghost use Rattle.cv_syntax_trees.specs.Tree.{size};
+ghost use Rattle.cv_syntax.specs.PoolTrees.{tree_at};
 ghost use Rattle.cv_typing.specs.Lookups.{HasLiveArguments, IsLiveWant, signature_in, want_of};
-ghost use Rattle.cv_typing.specs.Refusals.{IsRefusalOf};
+ghost use Rattle.cv_typing_rules.specs.Refusals.{IsRefusalOf};
 ghost use Rattle.cv_typing.specs.Tables.{above_of};
-ghost use Rattle.cv_typing.specs.Typing.{first_fault};
+ghost use Rattle.cv_typing_rules.specs.Typing.{first_fault};
 
 use crate::above::{bind_names, unbind};
 use crate::arrays::Arrays;
 use crate::below::{binds, wants_below};
-use crate::fault::TypeFault;
 use crate::faults::own_fault;
-use crate::want::Want;
-use cv_directory::Sort;
+use cv_directory_sorts::Sort;
 use cv_syntax::{Decls, NodeId, Pool, read_node};
+use cv_typing_rules::{TypeFault, Want};
 use std::alloc::Global;
 use std::collections::HashMap;
 

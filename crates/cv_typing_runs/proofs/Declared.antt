@@ -3,12 +3,12 @@ use Rattle.std.proofs.Common.{◌≡◌, ℕ, Bool, true, false, ◌==◌, cond,
 use Rattle.std.proofs.lemmas.Bool.{or_left, or_right}
 use Rattle.std.specs.List.{Contains}
 use Rattle.std.proofs.lemmas.List.Elements.{Contains-append_left, Contains-append_right, Contains-push}
-use Rattle.cv_syntax.specs.declared.decls.Class.{Class}
-use Rattle.cv_syntax.specs.declared.decls.Class.TheVariants as class
-use Rattle.cv_syntax.specs.Declarations.{Declaration, Named, Equation, Equiv, Query}
-use Rattle.cv_syntax.specs.Tree.{Tree, Empty, Node, names}
+use Rattle.cv_syntax_trees.specs.declared.class.Class.{Class}
+use Rattle.cv_syntax_trees.specs.declared.class.Class.TheVariants as class
+use Rattle.cv_syntax_trees.specs.Declarations.{Declaration, Named, Equation, Equiv, Query}
+use Rattle.cv_syntax_trees.specs.Tree.{Tree, Empty, Node, names}
 use Rattle.cv_meaning.specs.Interpretation.{is_constant_of}
-use Rattle.cv_typing.specs.Signature.{Function, declaration_of, function_by, function_in, names_in}
+use Rattle.cv_typing_rules.specs.Signature.{Function, declaration_of, function_by, function_in, names_in}
 use Rattle.cv_typing_runs.specs.Games.{HasArguments}
 
 head_in : (ds : List Declaration) (d : Declaration) → Contains (d ∷ ds) d

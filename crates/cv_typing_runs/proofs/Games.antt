@@ -2,8 +2,8 @@
 use Rattle.std.proofs.Common.{◌≡◌, List, [], refl, inr, Option, Some, None}
 use Rattle.std.specs.List.{All, AllByRecursion}
 use Rattle.std.proofs.lemmas.List.Elements.{All-weaker}
-use Rattle.cv_syntax.specs.Declarations.{Declaration}
-use Rattle.cv_syntax.specs.Tree.{Tree}
+use Rattle.cv_syntax_trees.specs.Declarations.{Declaration}
+use Rattle.cv_syntax_trees.specs.Tree.{Tree}
 use Rattle.cv_meaning.specs.Cells.{cells}
 use Rattle.cv_meaning.specs.Experiments.{run}
 use Rattle.cv_meaning.specs.Interpretation.{Interpretation, setting_of}
@@ -20,10 +20,10 @@ use Rattle.cv_scope_rules.specs.Sites.{sites_from}
 use Rattle.cv_scope_rules.specs.Scope.{names_of}
 use Rattle.cv_scope_rules.specs.Standing.{at_root}
 use Rattle.cv_scope_rules.specs.Phrases.{Inputs, IsWellFormed}
-use Rattle.cv_typing.specs.declared.form.Form.TheVariants.{InProcess}
-use Rattle.cv_typing.specs.Parts.{IsTypedGame, nothing_above}
-use Rattle.cv_directory.specs.Sites.{Variable, first_of, first_site}
-use Rattle.cv_typing.specs.Wants.{Run}
+use Rattle.cv_typing_rules.specs.declared.form.Form.TheVariants.{InProcess}
+use Rattle.cv_typing_rules.specs.Parts.{IsTypedGame, nothing_above}
+use Rattle.cv_directory_sorts.specs.Sites.{Variable, first_of, first_site}
+use Rattle.cv_typing_rules.specs.Wants.{Run}
 use Rattle.cv_typing_runs.specs.Games.{HasArguments, HasConstants, HasNamedFunctionsAndCells, HasDeclaredSorts, HasKnownNames, context_of, has_site}
 use Rattle.cv_typing_runs.proofs.InScope.{in_scope_known}
 use Rattle.cv_typing_runs.proofs.Known.{names_known}

@@ -3,13 +3,13 @@ use Rattle.std.proofs.Common.{◌≡◌, ℕ, Bool, true, List, [], ◌∷◌, �
 use Rattle.std.proofs.lemmas.Bool.{and_from, and_parts, or_left, or_right}
 use Rattle.std.specs.List.{AllByRecursion}
 use Rattle.cv_first_fault.specs.Walk.{IsObeyed}
-use Rattle.cv_syntax.specs.declared.head.Head.{Head}
-use Rattle.cv_syntax.specs.declared.head.Head.TheVariants.{Apply, Branch, Call, Cons, Event, If, In, Key, Leaf, Let, New, Read, Repl}
-use Rattle.cv_syntax.specs.Declarations.{Declaration}
-use Rattle.cv_syntax.specs.Tree.{Tree, Empty, Node, second, first_place, second_place}
+use Rattle.cv_syntax_trees.specs.declared.head.Head.{Head}
+use Rattle.cv_syntax_trees.specs.declared.head.Head.TheVariants.{Apply, Branch, Call, Cons, Event, If, In, Key, Leaf, Let, New, Read, Repl}
+use Rattle.cv_syntax_trees.specs.Declarations.{Declaration}
+use Rattle.cv_syntax_trees.specs.Tree.{Tree, Empty, Node, second, first_place, second_place}
 use Rattle.cv_meaning.specs.Binders.{bound_names}
-use Rattle.cv_directory.specs.Sites.{Variable, first_site}
-use Rattle.cv_typing.specs.Signature.{function_in}
+use Rattle.cv_directory_sorts.specs.Sites.{Variable, first_site}
+use Rattle.cv_typing_rules.specs.Signature.{function_in}
 use Rattle.cv_scope_rules.specs.declared.fault.Fault.TheVariants.{Unscoped}
 use Rattle.cv_scope_rules.specs.declared.position.Position.{Position}
 use Rattle.cv_scope_rules.specs.declared.position.Position.TheVariants.{Anywhere, Bodies, Cells, ElseBody, Guarded, Guards, OneCell}

@@ -1,16 +1,16 @@
 -- The names that a game reads, one by one.
 use Rattle.std.proofs.Common.{◌≡◌, ℕ, Bool, true, ◌||◌, ◌⊎◌, inl, inr, is_some}
 use Rattle.std.proofs.lemmas.Bool.{and_parts}
-use Rattle.cv_syntax.specs.declared.head.Head.{Head}
-use Rattle.cv_syntax.specs.declared.head.Head.TheVariants.{Apply, Leaf, Read}
-use Rattle.cv_syntax.specs.Declarations.{Declaration}
-use Rattle.cv_syntax.specs.Tree.{Tree, Empty, Node}
+use Rattle.cv_syntax_trees.specs.declared.head.Head.{Head}
+use Rattle.cv_syntax_trees.specs.declared.head.Head.TheVariants.{Apply, Leaf, Read}
+use Rattle.cv_syntax_trees.specs.Declarations.{Declaration}
+use Rattle.cv_syntax_trees.specs.Tree.{Tree, Empty, Node}
 use Rattle.std.specs.Prelude.{List}
 use Rattle.cv_meaning_adequacy.specs.Typed.{Scope}
 use Rattle.cv_meaning_adequacy.proofs.Lists.{or_cases}
 use Rattle.cv_scope_rules.specs.Context.{replications_below}
 use Rattle.cv_scope_rules.specs.Rules.{is_index}
-use Rattle.cv_typing.specs.Signature.{function_in}
+use Rattle.cv_typing_rules.specs.Signature.{function_in}
 use Rattle.cv_typing_runs.specs.Games.{are_known, is_known}
 
 abbrev pub IsKnown : List Declaration → (variable : ℕ → Bool) → Scope → Head → Type 0

@@ -4,9 +4,9 @@ use Rattle.std.proofs.lemmas.Bool.{both_ways, and_parts}
 use Rattle.std.proofs.lemmas.List.{map-append}
 use Rattle.std.specs.List.{AllByRecursion}
 use Rattle.cv_first_fault.specs.Walk.{IsObeyed}
-use Rattle.cv_syntax.specs.declared.head.Head.{Head}
-use Rattle.cv_syntax.specs.declared.head.Head.TheVariants.{Binder, Branch, Call, Cons, Find, In, Key, Let, New, Repl}
-use Rattle.cv_syntax.specs.Tree.{Tree, Empty, Node, second, first_place, second_place}
+use Rattle.cv_syntax_trees.specs.declared.head.Head.{Head}
+use Rattle.cv_syntax_trees.specs.declared.head.Head.TheVariants.{Binder, Branch, Call, Cons, Find, In, Key, Let, New, Repl}
+use Rattle.cv_syntax_trees.specs.Tree.{Tree, Empty, Node, second, first_place, second_place}
 use Rattle.cv_scope_rules.specs.declared.fault.Fault.TheVariants.{TwoSites}
 use Rattle.cv_scope_rules.specs.declared.position.Position.{Position}
 use Rattle.cv_scope_rules.specs.declared.position.Position.TheVariants.{Bodies, Cells as ScopeCells, ElseBody, Guarded as ScopeGuarded, Guards as ScopeGuards}
@@ -18,9 +18,9 @@ use Rattle.cv_scope_rules.specs.Standing.{Standing, first_standing, second_stand
 use Rattle.cv_scope_rules.proofs.Pairs.{all-append}
 use Rattle.cv_scope_rules.specs.Phrases.{Phrase, Arm, Binders, Inputs, Pattern, both_are, is_phrase, parts}
 use Rattle.cv_scope_rules.proofs.Plain.{phrase_plain}
-use Rattle.cv_directory.specs.declared.sort.Sort.{Sort}
-use Rattle.cv_directory.specs.declared.sort.Sort.TheVariants.{BelowParameter, OfType}
-use Rattle.cv_directory.specs.Sites.{Variable, at_parameters, bound_sort, first_of, first_site, parameters_below, site_here}
+use Rattle.cv_directory_sorts.specs.declared.sort.Sort.{Sort}
+use Rattle.cv_directory_sorts.specs.declared.sort.Sort.TheVariants.{BelowParameter, OfType}
+use Rattle.cv_directory_sorts.specs.Sites.{Variable, at_parameters, bound_sort, first_of, first_site, parameters_below, site_here}
 use Rattle.cv_typing_runs.specs.Games.{parameters_of}
 
 pub none_some : {A : Type 0} (a : A) → ◌≡◌ {A = Option A} None (Some a) → ⊥

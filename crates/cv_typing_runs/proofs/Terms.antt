@@ -2,10 +2,10 @@
 use Rattle.std.proofs.Common.{◌≡◌, ℕ, suc, ◌+◌, ◌==◌, Bool, true, false, ◌||◌, cond, not, List, [], ◌∷◌, map, length, inl, inr, refl, ap, ap₂, sym, subst, ◌∙◌, arith, eqb-true, eq-eqb, Option, Some, None, is_some}
 use Rattle.std.specs.Prelude.{option_map, MatchBool, MatchOption}
 use Rattle.std.proofs.lemmas.Bool.{both_ways, and_parts, or_parts}
-use Rattle.cv_syntax.specs.declared.head.Head.{Head}
-use Rattle.cv_syntax.specs.declared.head.Head.TheVariants.{And, Apply, Cons, Eq, Leaf, No, Not, Or, Read, Yes}
-use Rattle.cv_syntax.specs.Declarations.{Declaration}
-use Rattle.cv_syntax.specs.Tree.{Tree, Empty, Node}
+use Rattle.cv_syntax_trees.specs.declared.head.Head.{Head}
+use Rattle.cv_syntax_trees.specs.declared.head.Head.TheVariants.{And, Apply, Cons, Eq, Leaf, No, Not, Or, Read, Yes}
+use Rattle.cv_syntax_trees.specs.Declarations.{Declaration}
+use Rattle.cv_syntax_trees.specs.Tree.{Tree, Empty, Node}
 use Rattle.cv_first_fault.specs.Walk.{IsObeyed}
 use Rattle.cv_meaning.specs.Interpretation.{is_constant_of}
 use Rattle.cv_meaning_adequacy.specs.Typed as meaning
@@ -13,15 +13,15 @@ use Rattle.cv_meaning_adequacy.specs.Typed.{Context, HasSort, HaveSomeSorts, Hav
 use Rattle.cv_scope_rules.specs.Rules.{is_index}
 use Rattle.cv_scope_rules.specs.Phrases.{Phrase, Nil, Term, Terms, binds_none, is_phrase}
 use Rattle.cv_scope_rules.proofs.Unbound.{no_variable}
-use Rattle.cv_typing.specs.declared.fault.Fault.TheVariants.{Arity, IndexAsMessage, NotFixed, WrongType}
-use Rattle.cv_directory.specs.declared.sort.Sort.{Sort}
-use Rattle.cv_directory.specs.declared.sort.Sort.TheVariants.{BelowParameter, OfType}
-use Rattle.cv_typing.specs.Signature.{Above, Function, OfGame, Signature, arity_by, boolean, function_in, is_arity, leaf_arity, leaf_sort, sort_by, sort_of}
-use Rattle.cv_directory.specs.Sorts.{same_sort}
-use Rattle.cv_directory.specs.Counting.{count}
-use Rattle.cv_directory.specs.Sites.{Variable, first_of, first_index, first_site, sites_of}
-use Rattle.cv_typing.specs.Typing.{IsTyped, fault_of, is_unfixed, site_differs}
-use Rattle.cv_typing.specs.Wants.{Indices, Messages, Of, Message, Want, asks_indices, is_index_sent, is_wrong, like, wants, wants_arguments}
+use Rattle.cv_typing_rules.specs.declared.fault.Fault.TheVariants.{Arity, IndexAsMessage, NotFixed, WrongType}
+use Rattle.cv_directory_sorts.specs.declared.sort.Sort.{Sort}
+use Rattle.cv_directory_sorts.specs.declared.sort.Sort.TheVariants.{BelowParameter, OfType}
+use Rattle.cv_typing_rules.specs.Signature.{Above, Function, OfGame, Signature, arity_by, boolean, function_in, is_arity, leaf_arity, leaf_sort, sort_by, sort_of}
+use Rattle.cv_directory_sorts.specs.Sorts.{same_sort}
+use Rattle.cv_directory_sorts.specs.Counting.{count}
+use Rattle.cv_directory_sorts.specs.Sites.{Variable, first_of, first_index, first_site, sites_of}
+use Rattle.cv_typing_rules.specs.Typing.{IsTyped, fault_of, is_unfixed, site_differs}
+use Rattle.cv_typing_rules.specs.Wants.{Indices, Messages, Of, Message, Want, asks_indices, is_index_sent, is_wrong, like, wants, wants_arguments}
 use Rattle.cv_typing_runs.specs.Games.{HasArguments, context_of, has_site, sort_of_meaning, variable_of_meaning}
 use Rattle.cv_typing_runs.proofs.Known.{AreKnown, IsKnown}
 use Rattle.cv_typing_runs.proofs.Declared.{function_constant, function_declared}

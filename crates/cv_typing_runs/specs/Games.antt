@@ -1,10 +1,10 @@
 -- What is asked of a game beside typing and array scope, so that it is typed as the laws of meaning take it: that the types
 -- and parameters that it names are declared, and that each name that it reads is known.
 use Rattle.std.specs.Prelude.{◌≡◌, ℕ, Bool, true, ◌&&◌, ◌||◌, List, [], ◌∷◌, map, option_map, None, is_some}
-use Rattle.cv_syntax.specs.declared.head.Head.{Head}
-use Rattle.cv_syntax.specs.declared.head.Head.TheVariants.{Apply, Binder, Branch, Cons, In, Leaf, Let, New, Read, Repl}
-use Rattle.cv_syntax.specs.Declarations.{Declaration, Named, Equation, Equiv, Query}
-use Rattle.cv_syntax.specs.Tree.{Tree, Empty, Node, names, second}
+use Rattle.cv_syntax_trees.specs.declared.head.Head.{Head}
+use Rattle.cv_syntax_trees.specs.declared.head.Head.TheVariants.{Apply, Binder, Branch, Cons, In, Leaf, Let, New, Read, Repl}
+use Rattle.cv_syntax_trees.specs.Declarations.{Declaration, Named, Equation, Equiv, Query}
+use Rattle.cv_syntax_trees.specs.Tree.{Tree, Empty, Node, names, second}
 use Rattle.std.specs.List.{All}
 use Rattle.cv_meaning.specs.Tapes.{blank}
 use Rattle.cv_meaning.specs.Interpretation.{Interpretation, is_constant_of, setting_of}
@@ -18,10 +18,10 @@ use Rattle.cv_scope_rules.specs.Rules.{is_index}
 use Rattle.cv_scope_rules.specs.declared.position.Position.{Position}
 use Rattle.cv_scope_rules.specs.declared.position.Position.TheVariants.{Anywhere, Guards}
 use Rattle.cv_scope_rules.specs.Context.{first_position, replications_below, second_position}
-use Rattle.cv_directory.specs.declared.sort.Sort.{Sort}
-use Rattle.cv_directory.specs.declared.sort.Sort.TheVariants.{BelowParameter, OfType}
-use Rattle.cv_typing.specs.Signature.{function_in, names_in}
-use Rattle.cv_directory.specs.Sites.{Variable, first_site}
+use Rattle.cv_directory_sorts.specs.declared.sort.Sort.{Sort}
+use Rattle.cv_directory_sorts.specs.declared.sort.Sort.TheVariants.{BelowParameter, OfType}
+use Rattle.cv_typing_rules.specs.Signature.{function_in, names_in}
+use Rattle.cv_directory_sorts.specs.Sites.{Variable, first_site}
 
 -- the parameters of replications
 abbrev pub parameters_of : Scope → List ℕ

@@ -1,11 +1,11 @@
 -- Worked games.
 -- Names are numbers: 2 is a parameter, 5 a type, 3 a channel, and 40 is defined nowhere.
 use Rattle.std.specs.Prelude.{true, false, List, [], ◌∷◌, None}
-use Rattle.cv_syntax.specs.declared.decls.Class.TheVariants as class
-use Rattle.cv_syntax.specs.declared.head.Head.TheVariants.{Eq, Yield}
-use Rattle.cv_syntax.specs.Builders.{branch, find, input, leaf}
-use Rattle.cv_syntax.specs.Declarations.{Declaration, Named}
-use Rattle.cv_syntax.specs.Tree.{Tree, Empty, Node, lone}
+use Rattle.cv_syntax_trees.specs.declared.class.Class.TheVariants as class
+use Rattle.cv_syntax_trees.specs.declared.head.Head.TheVariants.{Eq, Yield}
+use Rattle.cv_syntax_trees.specs.Builders.{branch, find, input, leaf}
+use Rattle.cv_syntax_trees.specs.Declarations.{Declaration, Named}
+use Rattle.cv_syntax_trees.specs.Tree.{Tree, Empty, Node, lone}
 use Rattle.cv_scope_rules.specs.Worked.{cell_found, finds}
 
 -- param 2. type 5 [fixed].

@@ -1,5 +1,5 @@
 use Rattle.std.proofs.Common.{refl, subst}
-use Rattle.cv_syntax.specs.Tree.{Tree}
+use Rattle.cv_syntax_trees.specs.Tree.{Tree}
 use Rattle.cv_meaning.specs.Advantage.{chance_of}
 use Rattle.cv_meaning.specs.Chances.{AtMost, distance}
 use Rattle.cv_meaning.specs.Experiments.{Breaks}

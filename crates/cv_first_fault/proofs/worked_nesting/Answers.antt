@@ -1,5 +1,5 @@
 use Rattle.std.proofs.Common.{refl}
-use Rattle.cv_syntax.specs.Tree.{size}
+use Rattle.cv_syntax_trees.specs.Tree.{size}
 use Rattle.cv_first_fault.specs.Walk.{first_fault}
 use Rattle.cv_first_fault.proofs.worked_nesting.Goals as goal
 

@@ -1,5 +1,5 @@
 use Rattle.std.proofs.Common.{refl}
-use Rattle.cv_syntax.specs.Tree.{same_tree}
+use Rattle.cv_syntax_trees.specs.Tree.{same_tree}
 use Rattle.cv_group_rules.specs.Rules.{all_agree, are_cells, defines, each_function, has_name, has_read, have_one_index, is_asked, is_bound, names_of, range_of, reads}
 use Rattle.cv_group_rules.specs.Faults.{group_fault}
 use Rattle.cv_group_rules.proofs.worked_names.Goals as goal

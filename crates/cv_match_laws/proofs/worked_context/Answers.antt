@@ -1,8 +1,8 @@
 use Rattle.std.proofs.Common.{refl}
-use Rattle.cv_syntax.specs.Tree.{same_tree, size}
+use Rattle.cv_syntax_trees.specs.Tree.{same_tree, size}
 use Rattle.cv_derivations.specs.Given.{with_given}
-use Rattle.cv_directory.specs.Sites.{bound_sort, first_site}
-use Rattle.cv_typing.specs.Signature.{names_in}
+use Rattle.cv_directory_sorts.specs.Sites.{bound_sort, first_site}
+use Rattle.cv_typing_rules.specs.Signature.{names_in}
 use Rattle.cv_scenes.specs.Instances.{standing_for}
 use Rattle.cv_scenes.specs.Sites.{sites_in}
 use Rattle.cv_scenes.specs.Contexts.{context_in}

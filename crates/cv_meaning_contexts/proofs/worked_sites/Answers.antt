@@ -1,5 +1,5 @@
 use Rattle.std.proofs.Common.{refl}
-use Rattle.cv_syntax.specs.Tree.{size}
+use Rattle.cv_syntax_trees.specs.Tree.{size}
 use Rattle.cv_meaning.specs.Tapes.{written, sum_below, count, total}
 use Rattle.cv_meaning.specs.Candidates.{tuples_up_to}
 use Rattle.cv_meaning_contexts.specs.Sites.{bounds_above, sites_from}

@@ -7,7 +7,7 @@ use Rattle.cv_meaning_contexts.specs.BodyTerms.{body_value, body_values}
 use Rattle.cv_meaning_contexts.specs.Finds.{picks_at, picks, picked}
 use Rattle.cv_meaning_contexts.specs.Bodies.{body_answer, branch_answer, reply}
 use Rattle.cv_meaning_contexts.specs.Sides.{body_cells}
-use Rattle.cv_syntax.specs.Tree.{size, reads_only}
+use Rattle.cv_syntax_trees.specs.Tree.{size, reads_only}
 use Rattle.cv_meaning.specs.Memory.{put}
 use Rattle.cv_meaning.specs.Terms.{value, values}
 use Rattle.cv_meaning.specs.Binders.{bound_to}

@@ -1,5 +1,5 @@
 use Rattle.std.proofs.Common.{refl}
-use Rattle.cv_syntax.specs.Tree.{same_tree, reads_only}
+use Rattle.cv_syntax_trees.specs.Tree.{same_tree, reads_only}
 use Rattle.cv_meaning.specs.Direct.{argument, is_substituted, is_instance, plainly_covered}
 use Rattle.cv_meaning_laws.proofs.shapes.Goals as goal
 

@@ -1,5 +1,5 @@
 use Rattle.std.proofs.Common.{refl}
-use Rattle.cv_syntax.specs.Tree.{size, reads_only}
+use Rattle.cv_syntax_trees.specs.Tree.{size, reads_only}
 use Rattle.cv_meaning.specs.Tapes.{written, sum_below, count, total}
 use Rattle.cv_meaning.specs.Memory.{put}
 use Rattle.cv_meaning.specs.Terms.{value, values}

@@ -1,5 +1,5 @@
 use Rattle.std.proofs.Common.{◌≡◌, Option, Some, None, refl, sym, ◌∙◌}
-use Rattle.cv_syntax.specs.Tree.{reads_only}
+use Rattle.cv_syntax_trees.specs.Tree.{reads_only}
 use Rattle.cv_query_certificates.specs.Failures.{Failure}
 use Rattle.cv_query_certificates.proofs.Judged.{cells_judged, direct_judged, two_sites_judged}
 use Rattle.cv_query_certificates.proofs.worked_certificates.Goals as goal

@@ -1,5 +1,5 @@
-use Rattle.cv_syntax.specs.declared.head.Head.TheVariants.{Query}
-use Rattle.cv_syntax.specs.Tree.{Node}
+use Rattle.cv_syntax_trees.specs.declared.head.Head.TheVariants.{Query}
+use Rattle.cv_syntax_trees.specs.Tree.{Node}
 use Rattle.cv_scope_runs.proofs.PlainlyDirect.{plainly_unbroken, plainly_at_most}
 use Rattle.cv_scope_runs.proofs.plainly_direct_is_never_broken.Goals as goal
 

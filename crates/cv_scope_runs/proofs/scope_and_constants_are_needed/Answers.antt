@@ -1,6 +1,6 @@
 use Rattle.std.proofs.Common.{◌≡◌, Option, Some, None, refl}
 use Rattle.cv_first_fault.specs.Walk.{first_fault}
-use Rattle.cv_syntax.specs.Tree.{size, same_tree, reads_only}
+use Rattle.cv_syntax_trees.specs.Tree.{size, same_tree, reads_only}
 use Rattle.cv_meaning.specs.Direct.{argument, is_substituted, is_instance, plainly_covered}
 use Rattle.cv_meaning.specs.Memory.{put}
 use Rattle.cv_meaning.specs.Terms.{value}
@@ -10,8 +10,8 @@ use Rattle.cv_meaning.specs.Serving.{step, serve}
 use Rattle.cv_meaning.specs.Runs.{taken, moved, run_from}
 use Rattle.cv_meaning.specs.Experiments.{run, holds_on}
 use Rattle.cv_meaning.specs.Correspondences.{assignments, broken}
-use Rattle.cv_directory.specs.Sites.{first_site, bound_sort}
-use Rattle.cv_directory.specs.Counting.{count}
+use Rattle.cv_directory_sorts.specs.Sites.{first_site, bound_sort}
+use Rattle.cv_directory_sorts.specs.Counting.{count}
 use Rattle.cv_scope_rules.specs.Sites.{sites_from}
 use Rattle.cv_scope_rules.specs.Standing.{at_root}
 use Rattle.cv_scope_rules.specs.Scope.{is_untyped_in, names_of, IsScoped}

@@ -1,11 +1,11 @@
 use Rattle.std.proofs.Common.{◌≡◌, false, [], ◌∷◌, refl}
 use Rattle.std.proofs.lemmas.Bool.{both_ways}
 use Rattle.cv_first_fault.specs.Walk.{first_fault}
-use Rattle.cv_syntax.specs.Tree.{size, same_tree, reads_only, binds}
+use Rattle.cv_syntax_trees.specs.Tree.{size, same_tree, reads_only, binds}
 use Rattle.cv_meaning.specs.Direct.{argument, is_substituted, is_instance, is_unbound, plainly_covered}
 use Rattle.cv_meaning.specs.Interpretation.{setting_of}
-use Rattle.cv_directory.specs.Sites.{first_site, bound_sort}
-use Rattle.cv_directory.specs.Counting.{count}
+use Rattle.cv_directory_sorts.specs.Sites.{first_site, bound_sort}
+use Rattle.cv_directory_sorts.specs.Counting.{count}
 use Rattle.cv_scope_rules.specs.Sites.{sites_from}
 use Rattle.cv_scope_rules.specs.Standing.{at_root}
 use Rattle.cv_scope_rules.specs.Scope.{is_untyped_in, names_of}

@@ -6,7 +6,7 @@ use Rattle.cv.proofs.Causing.{refusal_cause}
 use Rattle.cv.proofs.Endings.{refusal_answers}
 use Rattle.cv.proofs.Faithful.{run_close}
 use Rattle.cv.proofs.Proving.{script_sound}
-use Rattle.cv.proofs.Ready.{equivalences}
+use Rattle.cv_accept_sequences.proofs.Ready.{equivalences}
 use Rattle.cv.proofs.Running.{run_answers, run_cause, run_judged, run_live, run_sound}
 use Rattle.cv.proofs.Verdicts.{reads_at, refuses_at}
 use Rattle.cv.proofs.decide.judge.Goals as goal
@@ -44,7 +44,7 @@ pub returns-in-Ok-clause-live : goal.returns-in-Ok-clause-live
 returns-in-Ok-clause-live c = run_live _ c.in-Ok.accepted.file _ c.run_accepted.ensures.run
 
 pub returns-in-Ok-clause-answers : goal.returns-in-Ok-clause-answers
-returns-in-Ok-clause-answers c = λ told given. run_answers _ c.in-Ok.accepted.file _ c.args.bytes.now (reads_at _ c.args.bytes.now _ c.requires.limit c.in-Ok.ensures.reads) told given c.run_accepted.ensures.run
+returns-in-Ok-clause-answers c = λ told given. run_answers _ c.in-Ok.accepted.file _ c.args.bytes.now (reads_at _ c.args.bytes.now _ c.requires.limit c.in-Ok.ensures.reads) told c.requires.few given c.run_accepted.ensures.run
 
 pub returns-in-Ok-clause-cause : goal.returns-in-Ok-clause-cause
 returns-in-Ok-clause-cause c = λ o given. run_cause _ c.in-Ok.accepted.file _ c.args.bytes.now (reads_at _ c.args.bytes.now _ c.requires.limit c.in-Ok.ensures.reads) o given c.run_accepted.ensures.run

@@ -2,7 +2,8 @@ use Rattle.std.proofs.Common.{arith, List, refl, ap, sym, subst, ◌∙◌, None
 use Rattle.std.proofs.lemmas.List.{take_all}
 use Rattle.cv_pool.proofs.Growth.{Grows-length}
 use Rattle.cv_syntax.specs.Declarations.{declarations}
-use Rattle.cv_syntax.specs.Tree.{Tree, tree_at}
+use Rattle.cv_syntax_trees.specs.Tree.{Tree}
+use Rattle.cv_syntax.specs.PoolTrees.{tree_at}
 use Rattle.cv_meaning.specs.Queries.{queries_in}
 use Rattle.cv_accept.specs.Accepted.{Content}
 use Rattle.cv_accept.specs.Works.{content_nodes}

@@ -1,6 +1,6 @@
 use Rattle.std.proofs.Common.{ap, arith, subst, sym, ◌≤◌, ◌∙◌, length, Ok, Err, All}
 use Rattle.cv_parse_terminals.specs.Signs.{signs_of}
-use Rattle.cv_syntax.specs.Tree.{size}
+use Rattle.cv_syntax_trees.specs.Tree.{size}
 use Rattle.cv_parse.specs.Declaring.{IsBelow}
 use Rattle.cv_parse.specs.Nodes.{file_nodes}
 use Rattle.cv_parse.specs.Parsed.{held_in}

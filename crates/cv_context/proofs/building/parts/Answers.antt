@@ -1,7 +1,7 @@
 use Rattle.std.proofs.Common.{◌≡◌, [], length, ap, arith, rules, subst, sym, Some, false, ◌∙◌}
 use Rattle.std.specs.List.{All}
 use Rattle.cv_syntax.specs.Postorder.{postorder}
-use Rattle.cv_syntax.specs.Tree.{tree_at}
+use Rattle.cv_syntax.specs.PoolTrees.{tree_at}
 use Rattle.cv_scope_rules.specs.declared.position.Position.TheVariants.{Anywhere}
 use Rattle.cv_context.specs.Written.{part_unless}
 use Rattle.cv_context_nodes.specs.Calls.{IsLive}

@@ -1,7 +1,7 @@
 use Rattle.std.proofs.Common.{◌||◌, drop, Some, None, ap, sym, ◌∙◌, arith}
 use Rattle.std.specs.Prelude.{◌==◌}
 use Rattle.cv_syntax.specs.NameSets.{is_in}
-use Rattle.cv_syntax.specs.Tree.{tree_at}
+use Rattle.cv_syntax.specs.PoolTrees.{tree_at}
 use Rattle.cv_scenes.specs.Sights.{variable_of}
 use Rattle.cv_scenes.specs.Instances.{is_read_of}
 use Rattle.cv_group_bodies.proofs.Sets.{name-added, or-more, or-nothing}

@@ -1,5 +1,6 @@
 use Rattle.std.proofs.Common.{map, ap, ◌∙◌}
-use Rattle.cv_syntax.specs.Tree.{second, tree_at}
+use Rattle.cv_syntax_trees.specs.Tree.{second}
+use Rattle.cv_syntax.specs.PoolTrees.{tree_at}
 use Rattle.cv_directory.specs.Tables.{seen}
 use Rattle.cv_scenes.specs.Contexts.{matching_of}
 use Rattle.cv_context_products.specs.ShapesInCode.{calls_in}

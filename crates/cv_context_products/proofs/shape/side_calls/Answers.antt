@@ -1,5 +1,5 @@
 use Rattle.std.proofs.Common.{map, ap, sym, ◌∙◌}
-use Rattle.cv_syntax.specs.Tree.{second}
+use Rattle.cv_syntax_trees.specs.Tree.{second}
 use Rattle.cv_syntax.proofs.Trees.{empty_at}
 use Rattle.cv_match_patterns.specs.Sites.{site_in}
 use Rattle.cv_context_products.specs.Shapes.{calls_from}

@@ -1,5 +1,5 @@
 use Rattle.std.proofs.Common.{arith, sym, ◌∙◌}
-use Rattle.cv_syntax.specs.Tree.{tree_at}
+use Rattle.cv_syntax.specs.PoolTrees.{tree_at}
 use Rattle.cv_scenes.specs.Sights.{sight_at}
 use Rattle.cv_derivations.specs.Lines.{lines_of}
 use Rattle.cv_rule_scenes.specs.Kept.{scene_of}

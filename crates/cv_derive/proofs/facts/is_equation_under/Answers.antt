@@ -1,5 +1,5 @@
 use Rattle.std.proofs.Common.{◌∙◌, Some}
-use Rattle.cv_syntax.specs.Tree.{tree_at}
+use Rattle.cv_syntax.specs.PoolTrees.{tree_at}
 use Rattle.cv_derive.proofs.Patterns.{other-equation}
 use Rattle.cv_derive.proofs.facts.is_equation_under.Goals as goal
 

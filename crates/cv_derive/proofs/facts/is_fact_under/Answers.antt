@@ -1,6 +1,6 @@
 use Rattle.std.proofs.Common.{sym, ap, ◌∙◌, Some}
 use Rattle.std.specs.Prelude.{option_map}
-use Rattle.cv_syntax.specs.Tree.{tree_at}
+use Rattle.cv_syntax.specs.PoolTrees.{tree_at}
 use Rattle.cv_scope_rules.specs.Above.{stands_at}
 use Rattle.cv_facts.specs.Facts.{fact_of, facts_at}
 use Rattle.cv_facts.proofs.Standings.{are_facts}

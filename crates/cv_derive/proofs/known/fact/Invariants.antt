@@ -1,7 +1,8 @@
 use Rattle.std.proofs.Common.{◌≡◌, ◌+◌, ◌≤◌, ◌++◌, List, Some, length}
 use Rattle.std.specs.Prelude.{option_map}
 use Rattle.cv_pool.specs.Nodes.{ChildBelow}
-use Rattle.cv_syntax.specs.Tree.{size, tree_at}
+use Rattle.cv_syntax_trees.specs.Tree.{size}
+use Rattle.cv_syntax.specs.PoolTrees.{tree_at}
 use Rattle.cv_syntax.specs.Walks.{above}
 use Rattle.cv_scope_rules.specs.Context.{Context}
 use Rattle.cv_facts.specs.Facts.{FactAt, facts_at, facts_from}

@@ -1,5 +1,5 @@
 use Rattle.std.proofs.Common.{sym, ap₂, ◌∙◌, None}
-use Rattle.cv_syntax.specs.Tree.{tree_at}
+use Rattle.cv_syntax.specs.PoolTrees.{tree_at}
 use Rattle.cv_scenes.specs.Reasons.{is_tree}
 use Rattle.cv_scenes.specs.Sights.{from_one}
 use Rattle.cv_derive.specs.Seen.{game_of, sight_of, trees_of}

@@ -1,6 +1,7 @@
 use Rattle.std.proofs.Common.{sym, ap, ◌∙◌, None}
 use Rattle.std.specs.List.{list_any}
-use Rattle.cv_syntax.specs.Tree.{same_tree, tree_at}
+use Rattle.cv_syntax_trees.specs.Tree.{same_tree}
+use Rattle.cv_syntax.specs.PoolTrees.{tree_at}
 use Rattle.cv_derive.specs.Seen.{game_of, sight_of, trees_of}
 use Rattle.cv_derive.proofs.Plain.{none-under}
 use Rattle.cv_derive.proofs.Replications.{known-replications}

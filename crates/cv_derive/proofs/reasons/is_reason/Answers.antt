@@ -1,5 +1,5 @@
-use Rattle.cv_syntax.specs.declared.head.Head.TheVariants.{ByCong, ByData, ByEquation}
-use Rattle.cv_syntax.specs.Tree.{tree_at}
+use Rattle.cv_syntax_trees.specs.declared.head.Head.TheVariants.{ByCong, ByData, ByEquation}
+use Rattle.cv_syntax.specs.PoolTrees.{tree_at}
 use Rattle.cv_derive_citing.specs.Bookmarks.{visible_to}
 use Rattle.cv_derive.specs.Seen.{assumed_of, sight_of, trees_of}
 use Rattle.cv_derive.proofs.Reasoning.{reason-by, reason-follows, seen}

@@ -1,5 +1,5 @@
 use Rattle.std.proofs.Common.{ap}
-use Rattle.cv_syntax.specs.Tree.{tree_at}
+use Rattle.cv_syntax.specs.PoolTrees.{tree_at}
 use Rattle.cv_derivations.specs.Lines.{Holds, IsDefined}
 use Rattle.cv_derive_lines.specs.Views.{statement_of}
 use Rattle.cv_derive_citing.specs.Bookmarks.{visible_to}

@@ -1,7 +1,7 @@
 use Rattle.std.proofs.Common.{◌≡◌, ◌+◌, ◌∙◌, arith, sym, ap, Some, None}
 use Rattle.std.specs.Prelude.{option_map}
 use Rattle.cv_syntax.specs.Declarations.{declarations}
-use Rattle.cv_syntax.specs.Tree.{tree_at}
+use Rattle.cv_syntax.specs.PoolTrees.{tree_at}
 use Rattle.cv_directory.specs.Definitions.{large_in}
 use Rattle.cv_directory.specs.Tables.{entries_in}
 use Rattle.cv_scenes.specs.Sights.{only_site}

@@ -1,5 +1,5 @@
 use Rattle.std.proofs.Common.{arith, ◌∙◌}
-use Rattle.cv_syntax.specs.Tree.{tree_at}
+use Rattle.cv_syntax.specs.PoolTrees.{tree_at}
 use Rattle.cv_derivations.specs.Lines.{lines_of}
 use Rattle.cv_derive_citing.proofs.Looking.{found-at, found-behind}
 use Rattle.cv_derive_citing.proofs.citing.cited_claim.Goals as goal

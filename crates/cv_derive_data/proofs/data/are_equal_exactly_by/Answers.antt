@@ -1,6 +1,6 @@
 use Rattle.std.proofs.Common.{eq-eqb}
 use Rattle.cv_syntax.specs.Declarations.{declarations}
-use Rattle.cv_syntax.specs.Tree.{tree_at}
+use Rattle.cv_syntax.specs.PoolTrees.{tree_at}
 use Rattle.cv_derive_data.proofs.Injective.{no-data, values-at}
 use Rattle.cv_derive_data.proofs.data.are_equal_exactly_by.Goals as goal
 

@@ -1,6 +1,7 @@
 use Rattle.std.proofs.Common.{◌≡◌, length}
 use Rattle.cv_pool.specs.Nodes.{ChildBelow}
-use Rattle.cv_syntax.specs.Tree.{same_tree, tree_at}
+use Rattle.cv_syntax_trees.specs.Tree.{same_tree}
+use Rattle.cv_syntax.specs.PoolTrees.{tree_at}
 use Rattle.cv_syntax.specs.Walks.{above as rank}
 use Rattle.cv_scope_rules.specs.Context.{items}
 use Rattle.cv_derivations.specs.Inferences.{equations_of}

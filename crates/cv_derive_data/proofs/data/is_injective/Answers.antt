@@ -1,7 +1,7 @@
 use Rattle.std.proofs.Common.{sym, ap, ◌∙◌}
 use Rattle.std.specs.Prelude.{option_map}
 use Rattle.cv_syntax.specs.Declarations.{declarations}
-use Rattle.cv_syntax.specs.Tree.{tree_at}
+use Rattle.cv_syntax.specs.PoolTrees.{tree_at}
 use Rattle.cv_derive_inferences.specs.Sides.{both_at}
 use Rattle.cv_derive_data.proofs.Injective.{injective-at, no-equation, no-inner}
 use Rattle.cv_derive_data.proofs.data.is_injective.Goals as goal

@@ -1,5 +1,5 @@
 use Rattle.std.proofs.Common.{length, sym, ◌∙◌}
-use Rattle.cv_syntax.specs.Tree.{tree_at}
+use Rattle.cv_syntax.specs.PoolTrees.{tree_at}
 use Rattle.cv_syntax.proofs.Trees.{child_live, empty_at}
 use Rattle.cv_derivations.specs.Lines.{Holds, lines_of, statements}
 use Rattle.cv_derive_lines.specs.Views.{statement_of}

@@ -1,5 +1,5 @@
 use Rattle.std.proofs.Common.{None, length, sym, ◌∙◌}
-use Rattle.cv_syntax.specs.Tree.{tree_at}
+use Rattle.cv_syntax.specs.PoolTrees.{tree_at}
 use Rattle.cv_syntax.proofs.Trees.{child_live, empty_at, tree_at-None}
 use Rattle.cv_derivations.specs.Lines.{lines_of, statements}
 use Rattle.cv_derive_lines.proofs.Ending.{no-statements, skip-behind, skip-none, statements-behind}

@@ -1,5 +1,5 @@
 use Rattle.std.proofs.Common.{sym, ◌∙◌}
-use Rattle.cv_syntax.specs.Tree.{tree_at}
+use Rattle.cv_syntax.specs.PoolTrees.{tree_at}
 use Rattle.cv_syntax.proofs.Trees.{empty_at, node_at}
 use Rattle.cv_derive_lines.proofs.Fronts.{cases-empty, cases-short, nothing-line}
 use Rattle.cv_derive_lines.proofs.lines.cases.Goals as goal

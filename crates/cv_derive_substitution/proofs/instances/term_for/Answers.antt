@@ -1,5 +1,5 @@
 use Rattle.std.proofs.Common.{◌∙◌, length, refl, eq-eqb, ne_eqb}
-use Rattle.cv_syntax.specs.Tree.{tree_at}
+use Rattle.cv_syntax.specs.PoolTrees.{tree_at}
 use Rattle.cv_syntax.proofs.Trees.{child_live, empty_at, node_at}
 use Rattle.cv_derive_substitution.proofs.Unders.{given-end, given-here, given-later, no-binder, none-given}
 use Rattle.cv_derive_substitution.proofs.instances.term_for.Goals as goal

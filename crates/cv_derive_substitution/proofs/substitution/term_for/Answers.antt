@@ -1,5 +1,5 @@
 use Rattle.std.proofs.Common.{drop, sym, ◌∙◌}
-use Rattle.cv_syntax.specs.Tree.{tree_at}
+use Rattle.cv_syntax.specs.PoolTrees.{tree_at}
 use Rattle.cv_syntax.proofs.Trees.{empty_at}
 use Rattle.cv_derive_substitution.specs.Under.{names_of}
 use Rattle.cv_derive_substitution.proofs.Unders.{given-nothing}

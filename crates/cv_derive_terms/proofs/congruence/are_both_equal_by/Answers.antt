@@ -1,5 +1,5 @@
 use Rattle.std.proofs.Common.{◌∙◌}
-use Rattle.cv_syntax.specs.Tree.{tree_at}
+use Rattle.cv_syntax.specs.PoolTrees.{tree_at}
 use Rattle.cv_syntax.proofs.Trees.{empty_at, node_at}
 use Rattle.cv_derive_citing.specs.Bookmarks.{visible_to}
 use Rattle.cv_derive_terms.proofs.Listing.{two-differ, two-further, two-none}

@@ -1,5 +1,5 @@
 use Rattle.std.proofs.Common.{◌∙◌, length, sym}
-use Rattle.cv_syntax.specs.Tree.{tree_at}
+use Rattle.cv_syntax.specs.PoolTrees.{tree_at}
 use Rattle.cv_syntax.proofs.Trees.{child_live, empty_at, node_at}
 use Rattle.cv_derive_terms.proofs.Equations.{further-types, no-binder, no-binders, no-terms, other-type}
 use Rattle.cv_derive_terms.proofs.instances.are_of_types.Goals as goal

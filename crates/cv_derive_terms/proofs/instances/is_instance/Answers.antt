@@ -1,5 +1,5 @@
 use Rattle.std.proofs.Common.{◌<◌, arith, length}
-use Rattle.cv_syntax.specs.Tree.{tree_at}
+use Rattle.cv_syntax.specs.PoolTrees.{tree_at}
 use Rattle.cv_syntax.proofs.Walking.{live-child}
 use Rattle.cv_derivations.specs.Inferences.{number_of}
 use Rattle.cv_derive_terms.proofs.Equations.{instance-at, live-equation, no-equation, other-types}

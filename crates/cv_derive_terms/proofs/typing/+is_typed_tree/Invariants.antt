@@ -1,7 +1,7 @@
 use Rattle.std.proofs.Common.{◌≡◌, ◌≤◌, length}
 use Rattle.cv_pool.specs.Nodes.{ChildBelow}
 use Rattle.cv_syntax.specs.Declarations.{declarations}
-use Rattle.cv_syntax.specs.Tree.{tree_at}
+use Rattle.cv_syntax.specs.PoolTrees.{tree_at}
 use Rattle.cv_syntax.specs.Walks.{above as rank}
 use Rattle.cv_typing.specs.Lookups.{IsLiveWant, signature_in, want_of}
 use Rattle.cv_typing.specs.Tables.{above_of}

@@ -1,5 +1,5 @@
 use Rattle.std.proofs.Common.{length}
-use Rattle.cv_syntax.specs.Tree.{tree_at}
+use Rattle.cv_syntax.specs.PoolTrees.{tree_at}
 use Rattle.cv_typing.proofs.Files.{arguments-live}
 use Rattle.cv_derive_terms.proofs.Sighted.{cell-at, no-cell, unknown-cell}
 use Rattle.cv_derive_terms.proofs.typing.is_cell.Goals as goal

@@ -1,6 +1,6 @@
 use Rattle.std.specs.Prelude.{is_some}
 use Rattle.cv_syntax.specs.Declarations.{declarations}
-use Rattle.cv_typing.specs.Signature.{function_in, variable_in}
+use Rattle.cv_typing_rules.specs.Signature.{function_in, variable_in}
 use Rattle.cv_typing.specs.Tables.{above_of, arrays_of}
 use Rattle.cv_derive_terms.proofs.Typed.{either-first, either-second, either-third}
 use Rattle.cv_derive_terms.proofs.typing.is_known_name.Goals as goal

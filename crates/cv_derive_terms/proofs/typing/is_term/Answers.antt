@@ -1,5 +1,5 @@
 use Rattle.std.proofs.Common.{length}
-use Rattle.cv_syntax.specs.Tree.{tree_at}
+use Rattle.cv_syntax.specs.PoolTrees.{tree_at}
 use Rattle.cv_typing.proofs.Files.{arguments-live}
 use Rattle.cv_derive_terms.proofs.Sighted.{no-term, term-at}
 use Rattle.cv_derive_terms.proofs.typing.is_term.Goals as goal

@@ -1,5 +1,5 @@
 use Rattle.std.proofs.Common.{ap, ◌∙◌}
-use Rattle.cv_syntax.specs.Tree.{tree_at}
+use Rattle.cv_syntax.specs.PoolTrees.{tree_at}
 use Rattle.cv_scenes.specs.Terms.{is_sort}
 use Rattle.cv_derive_terms.proofs.Sighted.{no-term-of, term-of}
 use Rattle.cv_derive_terms.proofs.typing.is_term_of.Goals as goal

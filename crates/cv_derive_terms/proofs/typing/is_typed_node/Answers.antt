@@ -1,10 +1,10 @@
 use Rattle.std.proofs.Common.{not}
 use Rattle.std.specs.Prelude.{is_some}
 use Rattle.cv_syntax.specs.Declarations.{declarations}
-use Rattle.cv_syntax.specs.Tree.{tree_at}
+use Rattle.cv_syntax.specs.PoolTrees.{tree_at}
 use Rattle.cv_typing.specs.Lookups.{signature_in, want_of}
 use Rattle.cv_typing.specs.Tables.{above_of}
-use Rattle.cv_typing.specs.Typing.{fault_of}
+use Rattle.cv_typing_rules.specs.Typing.{fault_of}
 use Rattle.cv_derive_terms.specs.Typed.{is_known_head, names_of}
 use Rattle.cv_derive_terms.proofs.Typed.{no-fault, not-first, then-second}
 use Rattle.cv_derive_terms.proofs.typing.is_typed_node.Goals as goal

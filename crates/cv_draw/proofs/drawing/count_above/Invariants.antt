@@ -1,6 +1,7 @@
 use Rattle.std.proofs.Common.{◌≡◌, ◌+◌, ◌≤◌, Some}
 use Rattle.cv_pool.specs.Nodes.{ChildBelow}
-use Rattle.cv_syntax.specs.Tree.{size, tree_at}
+use Rattle.cv_syntax_trees.specs.Tree.{size}
+use Rattle.cv_syntax.specs.PoolTrees.{tree_at}
 use Rattle.cv_syntax.specs.Walks.{above}
 use Rattle.cv_path.specs.Places.{nodes_above}
 use Rattle.cv_draw.proofs.drawing.count_above.Given as goal

@@ -1,6 +1,7 @@
 use Rattle.std.proofs.Common.{ap, ap₂, sym, refl, ◌∙◌, ◌+◌, ◌<◌, inl, inr, Some, Err, length, arith}
 use Rattle.cv_pool.specs.declared.pool.PoolError.TheVariants as pool
-use Rattle.cv_syntax.specs.Tree.{size, tree_at}
+use Rattle.cv_syntax_trees.specs.Tree.{size}
+use Rattle.cv_syntax.specs.PoolTrees.{tree_at}
 use Rattle.cv_syntax.proofs.Buildings.{child-grown}
 use Rattle.cv_draw_extents.proofs.Extents.{some-part}
 use Rattle.cv_draw.proofs.Room.{no-place, room-refused, still-room, none-found, some-found, only-left, with-right, same-error, no-error}

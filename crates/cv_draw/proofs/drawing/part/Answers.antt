@@ -1,5 +1,5 @@
 use Rattle.std.proofs.Common.{ap, sym, subst, ◌∙◌, Some, length}
-use Rattle.cv_syntax.specs.Tree.{tree_at}
+use Rattle.cv_syntax.specs.PoolTrees.{tree_at}
 use Rattle.cv_draw.specs.Changes.{TermIsLive, change_of}
 use Rattle.cv_draw.proofs.Room.{split_process-made, new-made}
 use Rattle.cv_draw.proofs.drawing.part.Goals as goal

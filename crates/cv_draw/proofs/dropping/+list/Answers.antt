@@ -1,5 +1,5 @@
 use Rattle.std.proofs.Common.{arith, ap, sym, length, ◌∙◌}
-use Rattle.cv_syntax.specs.Tree.{tree_at}
+use Rattle.cv_syntax.specs.PoolTrees.{tree_at}
 use Rattle.cv_syntax.proofs.Trees.{child_live, empty_at}
 use Rattle.cv_syntax.proofs.Walking.{above-child, above-some}
 use Rattle.cv_draw.proofs.Lists.{listed-ends, listed-gone, listed-stays, on-ok}

@@ -1,5 +1,5 @@
 use Rattle.std.proofs.Common.{rules, arith, ap, true, false, length, ◌∙◌, ◌≡◌, ◌<◌}
-use Rattle.cv_syntax.specs.Tree.{tree_at}
+use Rattle.cv_syntax.specs.PoolTrees.{tree_at}
 use Rattle.cv_syntax.specs.Walks.{above}
 use Rattle.cv_syntax.proofs.Trees.{child_live, empty_at}
 use Rattle.cv_syntax.proofs.Walking.{above-child, above-some, size-node}

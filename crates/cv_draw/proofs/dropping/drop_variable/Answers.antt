@@ -3,7 +3,7 @@ use Rattle.std.specs.Prelude.{IsErrOf}
 use Rattle.cv_pool.specs.declared.pool.PoolError.TheVariants as pool
 use Rattle.cv_syntax.specs.Planting.{overs}
 use Rattle.cv_syntax.specs.Postorder.{postorder}
-use Rattle.cv_syntax.specs.Tree.{tree_at}
+use Rattle.cv_syntax.specs.PoolTrees.{tree_at}
 use Rattle.cv_steps.specs.Changes.{without, only}
 use Rattle.cv_draw.specs.Dropping.{need_without, nodes_without}
 use Rattle.cv_draw.proofs.Lists.{accepted-where, asked_most, entries, overs-without}

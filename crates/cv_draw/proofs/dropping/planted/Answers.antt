@@ -1,5 +1,5 @@
 use Rattle.std.proofs.Common.{arith, ap, ◌∙◌, ◌∷◌, []}
-use Rattle.cv_syntax.specs.Tree.{tree_at}
+use Rattle.cv_syntax.specs.PoolTrees.{tree_at}
 use Rattle.cv_draw.proofs.Lists.{one-list, popped}
 use Rattle.cv_draw.proofs.dropping.planted.Goals as goal
 

@@ -1,5 +1,6 @@
 use Rattle.std.proofs.Common.{Some, sym, ap, ◌∙◌, arith}
-use Rattle.cv_syntax.specs.Tree.{size, depth, tree_at}
+use Rattle.cv_syntax_trees.specs.Tree.{size, depth}
+use Rattle.cv_syntax.specs.PoolTrees.{tree_at}
 use Rattle.cv_syntax.proofs.Walking.{depth-le-size}
 use Rattle.cv_scenes.specs.Scenes.{part_at}
 use Rattle.cv_draw.specs.Changes.{change_of}

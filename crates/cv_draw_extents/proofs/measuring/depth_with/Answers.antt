@@ -1,5 +1,5 @@
 use Rattle.std.proofs.Common.{rules, arith, ap, ◌∙◌, ◌≡◌, ◌+◌, max}
-use Rattle.cv_syntax.specs.Tree.{tree_at}
+use Rattle.cv_syntax.specs.PoolTrees.{tree_at}
 use Rattle.cv_syntax.proofs.Trees.{empty_at}
 use Rattle.cv_syntax.proofs.Walking.{depth-le-size, size-node}
 use Rattle.cv_draw_extents.proofs.Extents.{depth-here, depth-within, depth-behind, depth-gone}

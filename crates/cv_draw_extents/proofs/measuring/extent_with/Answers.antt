@@ -1,5 +1,5 @@
 use Rattle.std.proofs.Common.{Some, arith}
-use Rattle.cv_syntax.specs.Tree.{tree_at}
+use Rattle.cv_syntax.specs.PoolTrees.{tree_at}
 use Rattle.cv_draw_extents.proofs.Extents.{size-part, size-replaced}
 use Rattle.cv_draw_extents.proofs.measuring.extent_with.Goals as goal
 

@@ -1,6 +1,7 @@
 use Rattle.std.proofs.Common.{Some, sym, ap, ◌∙◌, arith}
 use Rattle.std.specs.Prelude.{option_map}
-use Rattle.cv_syntax.specs.Tree.{Node, size, tree_at}
+use Rattle.cv_syntax_trees.specs.Tree.{Node, size}
+use Rattle.cv_syntax.specs.PoolTrees.{tree_at}
 use Rattle.cv_syntax.proofs.Walking.{size-node}
 use Rattle.cv_scenes.specs.Pruning.{pruned}
 use Rattle.cv_draw_pruning.specs.Bodies.{part_of}

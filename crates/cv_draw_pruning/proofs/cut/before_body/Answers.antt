@@ -1,6 +1,6 @@
 use Rattle.std.proofs.Common.{ap, arith}
-use Rattle.cv_syntax.specs.Head.{weight}
-use Rattle.cv_syntax.specs.Tree.{tree_at}
+use Rattle.cv_syntax_trees.specs.Head.{weight}
+use Rattle.cv_syntax.specs.PoolTrees.{tree_at}
 use Rattle.cv_syntax.proofs.Walking.{size-node}
 use Rattle.cv_draw_pruning.proofs.Branches.{guards-few}
 use Rattle.cv_draw_pruning.proofs.cut.before_body.Goals as goal

@@ -1,8 +1,9 @@
 use Rattle.std.proofs.Common.{◌≡◌, ◌≤◌, ◌+◌, ◌-◌, ℕ, suc, max, Some, None, rules, refl, sym, ap, ◌∙◌, arith, length}
 use Rattle.std.specs.Prelude.{option_map}
-use Rattle.cv_syntax.specs.declared.head.Head.TheVariants.{Cons}
+use Rattle.cv_syntax_trees.specs.declared.head.Head.TheVariants.{Cons}
 use Rattle.cv_syntax.specs.Walks.{above}
-use Rattle.cv_syntax.specs.Tree.{Node, size, depth, tree_at}
+use Rattle.cv_syntax_trees.specs.Tree.{Node, size, depth}
+use Rattle.cv_syntax.specs.PoolTrees.{tree_at}
 use Rattle.cv_syntax.proofs.Walking.{depth-le-size}
 use Rattle.cv_scenes.specs.Pruning.{branch_body}
 use Rattle.cv_draw_pruning.specs.declared.cut.Cut.{Cut}

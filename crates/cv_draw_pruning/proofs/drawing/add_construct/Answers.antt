@@ -1,6 +1,7 @@
 use Rattle.std.proofs.Common.{◌≡◌, false, Some, refl, sym, ap, subst, ◌∙◌, arith, length}
 use Rattle.std.specs.Prelude.{option_map}
-use Rattle.cv_syntax.specs.Tree.{Node, tree_at}
+use Rattle.cv_syntax_trees.specs.Tree.{Node}
+use Rattle.cv_syntax.specs.PoolTrees.{tree_at}
 use Rattle.cv_syntax.proofs.Walking.{size-node}
 use Rattle.cv_path.specs.Ways.{led, turned}
 use Rattle.cv_path.proofs.Going.{turn-of, way-goes, way-live}

@@ -2,7 +2,8 @@ use Rattle.std.proofs.Common.{◌≡◌, ◌≤◌, Some, Err, refl, sym, ap, �
 use Rattle.std.specs.Prelude.{option_map}
 use Rattle.cv_pool.specs.declared.pool.PoolError.TheVariants as pool
 use Rattle.cv_meaning.specs.Replaced.{replaced}
-use Rattle.cv_syntax.specs.Tree.{size, tree_at}
+use Rattle.cv_syntax_trees.specs.Tree.{size}
+use Rattle.cv_syntax.specs.PoolTrees.{tree_at}
 use Rattle.cv_draw_extents.proofs.Extents.{size-part}
 use Rattle.cv_path.specs.Ways.{led}
 use Rattle.cv_draw_pruning.specs.Bodies.{need_of, part_of}

@@ -1,6 +1,7 @@
 use Rattle.std.proofs.Common.{◌≡◌, max, Some, refl, rules, sym, ap, subst, ◌∙◌, arith}
 use Rattle.std.specs.Prelude.{option_map}
-use Rattle.cv_syntax.specs.Tree.{Node, depth, tree_at}
+use Rattle.cv_syntax_trees.specs.Tree.{Node, depth}
+use Rattle.cv_syntax.specs.PoolTrees.{tree_at}
 use Rattle.cv_syntax.proofs.Walking.{depth-node}
 use Rattle.cv_scenes.specs.Pruning.{without_branch}
 use Rattle.cv_draw_pruning.specs.Bodies.{part_of}

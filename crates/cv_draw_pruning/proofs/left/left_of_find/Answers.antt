@@ -1,6 +1,7 @@
 use Rattle.std.proofs.Common.{◌≡◌, ◌+◌, true, Some, sym, ap, ◌∙◌, arith}
 use Rattle.std.specs.Prelude.{option_map}
-use Rattle.cv_syntax.specs.Tree.{Empty, tree_at}
+use Rattle.cv_syntax_trees.specs.Tree.{Empty}
+use Rattle.cv_syntax.specs.PoolTrees.{tree_at}
 use Rattle.cv_scenes.specs.Pruning.{branch_body, without_branch}
 use Rattle.cv_draw_pruning.specs.Lefts.{is_find}
 use Rattle.cv_draw_pruning.proofs.Branches.{enough-items}

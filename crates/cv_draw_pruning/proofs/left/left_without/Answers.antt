@@ -1,6 +1,7 @@
 use Rattle.std.proofs.Common.{sym, ap, ◌∙◌, arith}
 use Rattle.std.specs.Prelude.{option_map}
-use Rattle.cv_syntax.specs.Tree.{Node, tree_at}
+use Rattle.cv_syntax_trees.specs.Tree.{Node}
+use Rattle.cv_syntax.specs.PoolTrees.{tree_at}
 use Rattle.cv_draw_pruning.specs.Bodies.{nodes_of, part_of}
 use Rattle.cv_draw_pruning.specs.Lefts.{left_of}
 use Rattle.cv_draw_pruning.proofs.Constructs.{bodies-small, else-left, if-else-nodes, if-nodes, then-left}

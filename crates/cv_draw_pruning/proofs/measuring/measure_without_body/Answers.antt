@@ -1,7 +1,8 @@
 use Rattle.std.proofs.Common.{◌≡◌, None, Some, sym, ap, ◌∙◌, arith}
 use Rattle.std.specs.Prelude.{option_map}
 use Rattle.cv_meaning.specs.Replaced.{replaced}
-use Rattle.cv_syntax.specs.Tree.{Node, size, depth, subtree, tree_at}
+use Rattle.cv_syntax_trees.specs.Tree.{Node, size, depth, subtree}
+use Rattle.cv_syntax.specs.PoolTrees.{tree_at}
 use Rattle.cv_syntax.proofs.Walking.{size-node}
 use Rattle.cv_syntax_limits.specs.declared.games.Extent.{Extent}
 use Rattle.cv_draw_extents.proofs.Extents.{size-part}

@@ -1,5 +1,5 @@
 use Rattle.std.proofs.Common.{arith, ap, ◌∙◌, Some}
-use Rattle.cv_syntax.specs.Tree.{tree_at}
+use Rattle.cv_syntax.specs.PoolTrees.{tree_at}
 use Rattle.cv_syntax.proofs.Walking.{size-node}
 use Rattle.cv_facts.proofs.Standings.{above-grows, facts-here, first-leads, first-live, second-leads, second-live, tested-live}
 use Rattle.cv_facts.proofs.facts.step.Goals as goal

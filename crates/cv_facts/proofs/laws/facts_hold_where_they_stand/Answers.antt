@@ -1,6 +1,6 @@
 use Rattle.std.proofs.Common.{List}
-use Rattle.cv_syntax.specs.Declarations.{Declaration}
-use Rattle.cv_syntax.specs.Tree.{Tree}
+use Rattle.cv_syntax_trees.specs.Declarations.{Declaration}
+use Rattle.cv_syntax_trees.specs.Tree.{Tree}
 use Rattle.cv_scope_rules.specs.Context.{nothing_known}
 use Rattle.cv_scope_rules.specs.Phrases.{Inputs, IsWellFormedContext}
 use Rattle.cv_meaning.specs.Experiments.{run, visits_of_run, coins_on}

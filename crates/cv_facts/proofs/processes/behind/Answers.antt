@@ -1,5 +1,5 @@
 use Rattle.std.proofs.Common.{arith, sym, ap, ◌∙◌, Some}
-use Rattle.cv_syntax.specs.Tree.{tree_at}
+use Rattle.cv_syntax.specs.PoolTrees.{tree_at}
 use Rattle.cv_facts.proofs.Continuing.{definition-fits}
 use Rattle.cv_facts.proofs.processes.behind.Goals as goal
 

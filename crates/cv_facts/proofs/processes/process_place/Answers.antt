@@ -1,5 +1,6 @@
 use Rattle.std.proofs.Common.{arith, refl}
-use Rattle.cv_syntax.specs.Tree.{Node, tree_at}
+use Rattle.cv_syntax_trees.specs.Tree.{Node}
+use Rattle.cv_syntax.specs.PoolTrees.{tree_at}
 use Rattle.cv_syntax.proofs.Walking.{size-node}
 use Rattle.cv_facts.proofs.processes.process_place.Goals as goal
 

@@ -1,5 +1,5 @@
 use Rattle.std.proofs.Common.{sym, ap, ◌∙◌, Some}
-use Rattle.cv_syntax.specs.Tree.{tree_at}
+use Rattle.cv_syntax.specs.PoolTrees.{tree_at}
 use Rattle.cv_facts.specs.Definitions.{only, places_of}
 use Rattle.cv_facts.proofs.Sitings.{not-once, only-once, places-sites}
 use Rattle.cv_facts.proofs.sites.site.Goals as goal

@@ -1,5 +1,5 @@
 use Rattle.std.proofs.Common.{◌≡◌, sym, Some, None, subst}
-use Rattle.cv_syntax.specs.Tree.{tree_at}
+use Rattle.cv_syntax.specs.PoolTrees.{tree_at}
 use Rattle.cv_group.proofs.Steps as step
 use Rattle.cv_syntax.specs.NameSets.{is_in}
 use Rattle.std.specs.Prelude.{OnOk, IfErr}

@@ -1,6 +1,7 @@
 use Rattle.std.proofs.Common.{◌≡◌, ℕ, ◌||◌, ◌&&◌, length}
 use Rattle.cv_pool.specs.Nodes.{ChildBelow}
-use Rattle.cv_syntax.specs.Tree.{bound_names, tree_at}
+use Rattle.cv_syntax_trees.specs.Tree.{bound_names}
+use Rattle.cv_syntax.specs.PoolTrees.{tree_at}
 use Rattle.cv_syntax.specs.Walks.{above}
 use Rattle.std.specs.Prelude.{◌==◌}
 use Rattle.cv_syntax.specs.NameSets.{is_one_of}

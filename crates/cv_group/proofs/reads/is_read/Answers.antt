@@ -1,6 +1,7 @@
 use Rattle.std.proofs.Common.{◌≡◌, ℕ, false, ◌&&◌, ◌||◌, ◌++◌, refl, ap, sym, ◌∙◌}
-use Rattle.cv_syntax.specs.Tree.{second, tree_at}
-use Rattle.cv_syntax.specs.Tree.{bound_names, first}
+use Rattle.cv_syntax_trees.specs.Tree.{second}
+use Rattle.cv_syntax.specs.PoolTrees.{tree_at}
+use Rattle.cv_syntax_trees.specs.Tree.{bound_names, first}
 use Rattle.cv_group_rules.specs.Rules as rule
 use Rattle.cv_group_shapes.proofs.Steps as side
 use Rattle.cv_group_shapes.proofs.Taking as taking

@@ -1,5 +1,6 @@
 use Rattle.std.proofs.Common.{length, ap, sym, ◌∙◌}
-use Rattle.cv_syntax.specs.Tree.{bound_names, tree_at}
+use Rattle.cv_syntax_trees.specs.Tree.{bound_names}
+use Rattle.cv_syntax.specs.PoolTrees.{tree_at}
 use Rattle.cv_syntax.proofs.Trees.{child_live, node_at}
 use Rattle.cv_syntax.proofs.ChildReads.{bound_names-Binder, bound_names-None, bound_names_other}
 use Rattle.cv_syntax.specs.NameSets.{is_in}

@@ -1,6 +1,7 @@
 use Rattle.std.proofs.Common.{◌≡◌, length}
 use Rattle.cv_pool.specs.Nodes.{ChildBelow}
-use Rattle.cv_syntax.specs.Tree.{bound_names, tree_at}
+use Rattle.cv_syntax_trees.specs.Tree.{bound_names}
+use Rattle.cv_syntax.specs.PoolTrees.{tree_at}
 use Rattle.cv_syntax.specs.Walks.{above}
 use Rattle.cv_syntax.specs.NameSets.{is_in}
 use Rattle.cv_group_shapes.specs.Shapes.{are_taken, without_all}

@@ -1,7 +1,8 @@
 use Rattle.std.proofs.Common.{◌≡◌, [], length}
 use Rattle.cv_pool.specs.Nodes.{ChildBelow}
 use Rattle.cv_syntax.specs.NameSets.{is_in}
-use Rattle.cv_syntax.specs.Tree.{second, tree_at}
+use Rattle.cv_syntax_trees.specs.Tree.{second}
+use Rattle.cv_syntax.specs.PoolTrees.{tree_at}
 use Rattle.cv_syntax.specs.Walks.{above}
 use Rattle.cv_group_rules.specs.Rules as rule
 use Rattle.cv_group.specs.Tables.{around_by}

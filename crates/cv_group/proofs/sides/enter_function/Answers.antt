@@ -1,6 +1,6 @@
 use Rattle.std.proofs.Common.{◌≡◌, ℕ, Bool, ◌||◌, ap, ◌∙◌}
-use Rattle.cv_syntax.specs.Tree.{tree_at}
-use Rattle.cv_syntax.specs.Tree.{bound_names, first}
+use Rattle.cv_syntax.specs.PoolTrees.{tree_at}
+use Rattle.cv_syntax_trees.specs.Tree.{bound_names, first}
 use Rattle.cv_syntax.specs.NameSets.{is_in, is_one_of}
 use Rattle.std.proofs.Math.Path.{fun_ext}
 use Rattle.cv_meaning_contexts.specs.Groups.{bound_of}

@@ -1,4 +1,4 @@
-use Rattle.cv_syntax.specs.Tree.{tree_at}
+use Rattle.cv_syntax.specs.PoolTrees.{tree_at}
 use Rattle.cv_syntax.proofs.Trees.{node_at}
 use Rattle.cv_group_bodies.proofs.Steps as step
 use Rattle.cv_group_bodies.proofs.Sets as set

@@ -1,5 +1,5 @@
 use Rattle.std.proofs.Common.{◌≡◌, ◌∷◌, All, filter, length, map, not, take}
-use Rattle.cv_syntax.specs.Tree.{same_tree}
+use Rattle.cv_syntax_trees.specs.Tree.{same_tree}
 use Rattle.cv_inline_branches.specs.Cells.{IsLiveCell, cell_tree}
 use Rattle.cv_inline_branches.proofs.needed.before_others.Given as goal
 

@@ -1,5 +1,6 @@
 use Rattle.std.proofs.Common.{◌≡◌, ◌++◌, Some, ap, arith, map, ◌∙◌}
-use Rattle.cv_syntax.specs.Tree.{second, size, tree_at}
+use Rattle.cv_syntax_trees.specs.Tree.{second, size}
+use Rattle.cv_syntax.specs.PoolTrees.{tree_at}
 use Rattle.cv_meaning_contexts.specs.Groups.{Right, functions_of, side_group}
 use Rattle.cv_inline_listing.specs.Callings.{callings_in}
 use Rattle.cv_inline_callings.specs.RightFunctions.{function_in}

@@ -1,5 +1,5 @@
 use Rattle.std.proofs.Common.{sym}
-use Rattle.cv_syntax.specs.Tree.{tree_at}
+use Rattle.cv_syntax.specs.PoolTrees.{tree_at}
 use Rattle.cv_inline_callings.specs.FirstCalls.{calls_in}
 use Rattle.cv_inline_callings.proofs.CallWalks.{other_node}
 use Rattle.cv_inline_callings.proofs.calls.note_node.Goals as goal

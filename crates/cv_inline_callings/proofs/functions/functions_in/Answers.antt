@@ -1,5 +1,5 @@
 use Rattle.std.proofs.Common.{ap, arith, length, map}
-use Rattle.cv_syntax.specs.Tree.{tree_at}
+use Rattle.cv_syntax.specs.PoolTrees.{tree_at}
 use Rattle.cv_syntax.proofs.Trees.{child_live, empty_at, node_at}
 use Rattle.cv_syntax.proofs.Walking.{size-at}
 use Rattle.cv_meaning_contexts.specs.Groups.{functions_of}

@@ -1,5 +1,5 @@
 use Rattle.std.proofs.Common.{length}
-use Rattle.cv_syntax.specs.Tree.{tree_at}
+use Rattle.cv_syntax.specs.PoolTrees.{tree_at}
 use Rattle.cv_syntax.proofs.Trees.{child_above, child_live, empty_at, node_at}
 use Rattle.cv_inline_callings.proofs.Lists.{assigned_end, assigned_Let, assigned_New, assigned_other, more, none_left}
 use Rattle.cv_inline_callings.proofs.names.+add_assigned.Goals as goal

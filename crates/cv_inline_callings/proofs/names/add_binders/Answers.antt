@@ -1,5 +1,5 @@
 use Rattle.std.proofs.Common.{length}
-use Rattle.cv_syntax.specs.Tree.{tree_at}
+use Rattle.cv_syntax.specs.PoolTrees.{tree_at}
 use Rattle.cv_syntax.proofs.Trees.{child_live, empty_at, node_at}
 use Rattle.cv_inline_callings.proofs.Lists.{more, none_left, variables_end, variables_more, variables_other}
 use Rattle.cv_inline_callings.proofs.names.add_binders.Goals as goal

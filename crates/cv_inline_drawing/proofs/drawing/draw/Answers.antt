@@ -1,6 +1,6 @@
 use Rattle.std.proofs.Common.{◌∙◌, ap, map, sym}
 use Rattle.std.proofs.lemmas.Result.{IfOk-weaker}
-use Rattle.cv_syntax.specs.Tree.{tree_at}
+use Rattle.cv_syntax.specs.PoolTrees.{tree_at}
 use Rattle.cv_inline_games.specs.Draws as of_games
 use Rattle.cv_inline_games.specs.Draws.{labels_from, labels_in}
 use Rattle.cv_inline_listing.specs.Callings.{callings_in}

@@ -1,5 +1,5 @@
 use Rattle.std.proofs.Common.{List, ◌++◌, length, map}
-use Rattle.cv_syntax.specs.Tree.{tree_at}
+use Rattle.cv_syntax.specs.PoolTrees.{tree_at}
 use Rattle.cv_syntax.proofs.Trees.{child_live, node_at}
 use Rattle.cv_meaning.specs.Correspondences.{typed_names}
 use Rattle.cv_inline_games.specs.Draws.{Draw, argument_draws}

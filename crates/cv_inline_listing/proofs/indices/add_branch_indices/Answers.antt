@@ -1,5 +1,5 @@
 use Rattle.std.proofs.Common.{List, ◌++◌, arith, map}
-use Rattle.cv_syntax.specs.Tree.{tree_at}
+use Rattle.cv_syntax.specs.PoolTrees.{tree_at}
 use Rattle.cv_inline_games.specs.Draws.{Draw, index_draws}
 use Rattle.cv_inline_terms.specs.Callers.{caller_in}
 use Rattle.cv_inline_listing.specs.Listed.{draw_in}

@@ -1,7 +1,7 @@
 use Rattle.std.proofs.Common.{ℕ, ◌≡◌, ◌∷◌, refl, ap, ◌∙◌}
 use Rattle.std.specs.Prelude.{flat_map}
 use Rattle.std.proofs.lemmas.Result.{IfOk-weaker}
-use Rattle.cv_syntax.specs.Tree.{tree_at}
+use Rattle.cv_syntax.specs.PoolTrees.{tree_at}
 use Rattle.cv_meaning_contexts.specs.Inlined.{Own, index_terms}
 use Rattle.cv_inline_extents.specs.Extents.{Extent, of_result, under}
 use Rattle.cv_inline_terms.specs.Drawings.{drawn_in}

@@ -1,5 +1,5 @@
 use Rattle.std.proofs.Common.{ap, arith, sym}
-use Rattle.cv_syntax.specs.Tree.{tree_at}
+use Rattle.cv_syntax.specs.PoolTrees.{tree_at}
 use Rattle.cv_syntax.proofs.Trees.{empty_at, node_at}
 use Rattle.cv_syntax.proofs.Walking.{size-node}
 use Rattle.cv_inline_measure.specs.Settings.{first_argument}

@@ -1,5 +1,6 @@
 use Rattle.std.proofs.Common.{Some, ap, arith}
-use Rattle.cv_syntax.specs.Tree.{size, tree_at}
+use Rattle.cv_syntax_trees.specs.Tree.{size}
+use Rattle.cv_syntax.specs.PoolTrees.{tree_at}
 use Rattle.cv_inline_measure.proofs.Arguments.{second_small}
 use Rattle.cv_inline_measure.proofs.calls.site_call.Goals as goal
 

@@ -1,11 +1,12 @@
 use Rattle.std.proofs.Common.{◌<◌, ◌+◌, ◌*◌, [], rules, length, ap, arith, subst, ◌∙◌}
 use Rattle.std.proofs.lemmas.Result.{IfOk-weaker}
-use Rattle.cv_syntax.specs.Tree.{size, tree_at}
+use Rattle.cv_syntax_trees.specs.Tree.{size}
+use Rattle.cv_syntax.specs.PoolTrees.{tree_at}
 use Rattle.cv_syntax.specs.Walks.{above}
 use Rattle.cv_syntax.proofs.Trees.{child_live, empty_at}
 use Rattle.cv_syntax.proofs.Walking.{above-child, above-some, size-node}
 use Rattle.std.proofs.Common.{ℕ, ◌≡◌}
-use Rattle.cv_syntax.specs.Tree.{Tree}
+use Rattle.cv_syntax_trees.specs.Tree.{Tree}
 use Rattle.cv_meaning_contexts.specs.Groups.{Group}
 use Rattle.cv_inline_games.specs.NextGame.{numbered}
 use Rattle.cv_inline_extents.specs.Extents.{of_call_at, of_game}

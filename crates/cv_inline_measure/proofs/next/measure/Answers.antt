@@ -1,5 +1,5 @@
 use Rattle.std.proofs.Common.{[], Some, ap, ◌∙◌}
-use Rattle.cv_syntax.specs.Tree.{tree_at}
+use Rattle.cv_syntax.specs.PoolTrees.{tree_at}
 use Rattle.cv_inline_games.specs.NextGame.{next_in}
 use Rattle.cv_inline_extents.proofs.Measures.{nodes_are_size, path_is_depth}
 use Rattle.cv_syntax_limits.specs.Limits.{told}

@@ -1,5 +1,6 @@
 use Rattle.std.proofs.Common.{◌≡◌, ap, arith, sym, ◌∙◌}
-use Rattle.cv_syntax.specs.Tree.{depth, size, tree_at}
+use Rattle.cv_syntax_trees.specs.Tree.{depth, size}
+use Rattle.cv_syntax.specs.PoolTrees.{tree_at}
 use Rattle.cv_syntax.proofs.Walking.{depth-le-size}
 use Rattle.cv_inline_extents.specs.Extents.{extent}
 use Rattle.cv_inline_extents.proofs.Measures.{nodes_are_size, path_is_depth}

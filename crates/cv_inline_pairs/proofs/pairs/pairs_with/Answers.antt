@@ -1,5 +1,5 @@
 use Rattle.std.proofs.Common.{◌==◌, arith}
-use Rattle.cv_syntax.specs.Tree.{tree_at}
+use Rattle.cv_syntax.specs.PoolTrees.{tree_at}
 use Rattle.cv_inline_pairs.specs.Branches.{branch_in}
 use Rattle.cv_inline_pairs.specs.Pairs.{IsPairOver}
 use Rattle.cv_inline_pairs.proofs.Branching.{all_pairs, pairs_end, pairs_go, size_by}

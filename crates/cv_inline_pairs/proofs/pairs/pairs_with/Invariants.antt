@@ -1,6 +1,7 @@
 use Rattle.std.proofs.Common.{◌≡◌, ◌+◌, ◌≤◌, ◌++◌, All, length, map}
 use Rattle.cv_pool.specs.Nodes.{ChildBelow}
-use Rattle.cv_syntax.specs.Tree.{size, tree_at}
+use Rattle.cv_syntax_trees.specs.Tree.{size}
+use Rattle.cv_syntax.specs.PoolTrees.{tree_at}
 use Rattle.cv_syntax.specs.Walks.{above}
 use Rattle.cv_inline_pairs.specs.Pairs.{IsPairOver, pair_in, pairs_with}
 use Rattle.cv_inline_pairs.proofs.pairs.pairs_with.Given as goal

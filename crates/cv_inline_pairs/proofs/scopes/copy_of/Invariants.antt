@@ -1,5 +1,5 @@
 use Rattle.std.proofs.Common.{◌≡◌, take}
-use Rattle.cv_syntax.specs.Tree.{Tree}
+use Rattle.cv_syntax_trees.specs.Tree.{Tree}
 use Rattle.cv_inline_terms.specs.Scopes.{scope_in}
 use Rattle.cv_inline_pairs.proofs.scopes.copy_of.Given as goal
 

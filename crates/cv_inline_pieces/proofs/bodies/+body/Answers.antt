@@ -2,7 +2,7 @@ use Rattle.std.proofs.Common.{◌≡◌, ◌<◌, ◌∷◌, List, ap, get_or, l
 use Rattle.std.proofs.lemmas.Bool.Decides.{nat_tests}
 use Rattle.std.proofs.lemmas.Result.{IfOk-weaker}
 use Rattle.cv_syntax.specs.Postorder.{joined}
-use Rattle.cv_syntax.specs.declared.head.Head.TheVariants as head
+use Rattle.cv_syntax_trees.specs.declared.head.Head.TheVariants as head
 use Rattle.cv_meaning_contexts.specs.Inlined.{Own, Scope, index_terms}
 use Rattle.cv_inline_branches.specs.Moves.{closed_branch}
 use Rattle.cv_inline_terms.specs.Callers.{caller_in}

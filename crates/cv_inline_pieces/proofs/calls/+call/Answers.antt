@@ -1,8 +1,9 @@
 use Rattle.std.proofs.Common.{◌≡◌, ◌∷◌, ap, ◌∙◌}
 use Rattle.std.proofs.lemmas.Result.{IfOk-weaker}
-use Rattle.cv_syntax.specs.declared.head.Head.TheVariants as head
+use Rattle.cv_syntax_trees.specs.declared.head.Head.TheVariants as head
 use Rattle.cv_syntax.specs.Postorder.{joined}
-use Rattle.cv_syntax.specs.Tree.{Tree, tree_at}
+use Rattle.cv_syntax_trees.specs.Tree.{Tree}
+use Rattle.cv_syntax.specs.PoolTrees.{tree_at}
 use Rattle.cv_meaning.specs.Correspondences.{typed_names}
 use Rattle.cv_meaning_contexts.specs.Inlined.{Own, Scope, index_terms, inlined_call}
 use Rattle.cv_inline_terms.specs.Callers.{caller_in}

@@ -1,5 +1,5 @@
 use Rattle.std.proofs.Common.{ap, sym}
-use Rattle.cv_syntax.specs.Tree.{tree_at}
+use Rattle.cv_syntax.specs.PoolTrees.{tree_at}
 use Rattle.cv_syntax.proofs.Trees.{empty_at, node_at}
 use Rattle.cv_inline_pieces.specs.Calls.{first_argument}
 use Rattle.cv_inline_pieces.proofs.Arguments.{no_terms}

@@ -1,5 +1,6 @@
 use Rattle.std.proofs.Common.{◌≡◌, ◌∷◌, ◌++◌, [], List, Some, ap, sym, ◌∙◌, arith}
-use Rattle.cv_syntax.specs.Tree.{Tree, size, tree_at}
+use Rattle.cv_syntax_trees.specs.Tree.{Tree, size}
+use Rattle.cv_syntax.specs.PoolTrees.{tree_at}
 use Rattle.cv_meaning.specs.Correspondences.{typed_names}
 use Rattle.cv_meaning_contexts.specs.Inlined.{Scope, TheKey, inlined_call}
 use Rattle.cv_inline_terms.specs.declared.scope.Standing.TheVariants as code

@@ -1,6 +1,6 @@
 use Rattle.std.proofs.Common.{◌<◌, ◌∙◌, ap, arith, length}
 use Rattle.std.proofs.lemmas.List.{take_all}
-use Rattle.cv_syntax.specs.Tree.{tree_at}
+use Rattle.cv_syntax.specs.PoolTrees.{tree_at}
 use Rattle.cv_inline_listing.specs.Callings.{callers_in}
 use Rattle.cv_inline_pieces.specs.Choices.{choices_over}
 use Rattle.cv_inline_pieces.proofs.Choosing.{choices_more, each_more}

@@ -1,5 +1,5 @@
 use Rattle.std.proofs.Common.{◌≡◌, All, map, take}
-use Rattle.cv_syntax.specs.Tree.{tree_at}
+use Rattle.cv_syntax.specs.PoolTrees.{tree_at}
 use Rattle.cv_inline_listing.specs.Callings.{callers_in}
 use Rattle.cv_inline_pieces.specs.Choices.{IsChoice, choice_in, choices_over}
 use Rattle.cv_inline_pieces.proofs.choices.choices.Given as goal

@@ -1,5 +1,5 @@
 use Rattle.std.proofs.lemmas.Result.{IfOk-weaker}
-use Rattle.cv_syntax.specs.declared.head.Head.TheVariants as head
+use Rattle.cv_syntax_trees.specs.declared.head.Head.TheVariants as head
 use Rattle.cv_syntax.specs.Postorder.{joined}
 use Rattle.cv_inline_branches.specs.Moves.{closed_branch}
 use Rattle.cv_inline_pieces.specs.Pieces.{AddsNodes}

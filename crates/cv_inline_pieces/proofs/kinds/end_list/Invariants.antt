@@ -1,5 +1,5 @@
 use Rattle.std.proofs.Common.{◌∷◌}
-use Rattle.cv_syntax.specs.Tree.{Empty}
+use Rattle.cv_syntax_trees.specs.Tree.{Empty}
 use Rattle.cv_inline_pieces.specs.Pieces.{AddsNodes, listed}
 use Rattle.cv_inline_pieces.proofs.kinds.end_list.Given as goal
 

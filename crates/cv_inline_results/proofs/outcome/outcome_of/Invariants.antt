@@ -1,6 +1,6 @@
 use Rattle.std.proofs.Common.{◌≡◌, ◌≤◌, List, length, take}
 use Rattle.cv_pool.specs.KindTree.{KindTree}
-use Rattle.cv_syntax.specs.Tree.{Tree}
+use Rattle.cv_syntax_trees.specs.Tree.{Tree}
 use Rattle.cv_meaning_contexts.specs.Inlined.{Drawn}
 use Rattle.cv_inline_games.specs.NextGame.{result_for}
 use Rattle.cv_inline_terms.specs.declared.calling.Calling.{Calling}

@@ -1,6 +1,6 @@
 use Rattle.cv_inline_sites.proofs.Branching.{no_branch, no_cells, no_condition, no_form, no_list, one_branch}
 use Rattle.std.proofs.Common.{sym, ◌∙◌}
-use Rattle.cv_syntax.specs.Tree.{tree_at}
+use Rattle.cv_syntax.specs.PoolTrees.{tree_at}
 use Rattle.cv_inline_sites.proofs.bodies.branch_at.Goals as goal
 
 pub returns-in_err-item-clause-none : goal.returns-in_err-item-clause-none

@@ -1,5 +1,5 @@
 use Rattle.std.proofs.Common.{map}
-use Rattle.cv_syntax.specs.Tree.{tree_at}
+use Rattle.cv_syntax.specs.PoolTrees.{tree_at}
 use Rattle.cv_inline_listing.specs.Callings.{callers_in}
 use Rattle.cv_inline_listing.specs.Listed.{draw_in}
 use Rattle.cv_inline_sites.specs.Parts.{draws_at}

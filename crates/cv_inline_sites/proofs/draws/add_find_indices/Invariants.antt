@@ -1,6 +1,6 @@
 use Rattle.std.proofs.Common.{◌≡◌, ◌++◌, map, take}
 use Rattle.std.specs.Prelude.{flat_map}
-use Rattle.cv_syntax.specs.Tree.{tree_at}
+use Rattle.cv_syntax.specs.PoolTrees.{tree_at}
 use Rattle.cv_inline_games.specs.Draws.{index_draws}
 use Rattle.cv_inline_listing.specs.Callings.{callers_in}
 use Rattle.cv_inline_listing.specs.Listed.{draw_in}

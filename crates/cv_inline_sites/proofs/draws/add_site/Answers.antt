@@ -1,6 +1,7 @@
 use Rattle.std.proofs.Common.{◌≡◌, ◌++◌, Some, ap, arith, map}
 use Rattle.std.proofs.lemmas.Result.{IfOk-weaker}
-use Rattle.cv_syntax.specs.Tree.{size, tree_at}
+use Rattle.cv_syntax_trees.specs.Tree.{size}
+use Rattle.cv_syntax.specs.PoolTrees.{tree_at}
 use Rattle.cv_inline_games.specs.Draws.{body_draws, site_draws}
 use Rattle.cv_inline_listing.specs.Callings.{callers_in, calling_in}
 use Rattle.cv_inline_listing.specs.Listed.{draw_in}

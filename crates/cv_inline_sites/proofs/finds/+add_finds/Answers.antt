@@ -1,5 +1,6 @@
 use Rattle.std.proofs.Common.{◌≡◌, arith}
-use Rattle.cv_syntax.specs.Tree.{Empty, tree_at}
+use Rattle.cv_syntax_trees.specs.Tree.{Empty}
+use Rattle.cv_syntax.specs.PoolTrees.{tree_at}
 use Rattle.cv_inline_sites.proofs.FindLists.{finds_end, finds_more}
 use Rattle.cv_inline_sites.proofs.Gathering.{none_of}
 use Rattle.cv_inline_sites.proofs.finds.+add_finds.Goals as goal

@@ -1,5 +1,6 @@
 use Rattle.std.proofs.Common.{◌++◌, ◌∙◌, Some, ap, arith, map}
-use Rattle.cv_syntax.specs.Tree.{size, tree_at}
+use Rattle.cv_syntax_trees.specs.Tree.{size}
+use Rattle.cv_syntax.specs.PoolTrees.{tree_at}
 use Rattle.cv_inline_games.specs.Draws.{finds_in}
 use Rattle.cv_inline_games.specs.NextGame.{Calling}
 use Rattle.cv_inline_sites.proofs.Gathering.{callings_step, live_item, second_small}

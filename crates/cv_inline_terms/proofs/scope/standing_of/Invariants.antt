@@ -1,5 +1,5 @@
 use Rattle.std.proofs.Common.{◌≡◌, ◌≤◌, length, take}
-use Rattle.cv_syntax.specs.Tree.{Tree}
+use Rattle.cv_syntax_trees.specs.Tree.{Tree}
 use Rattle.cv_meaning_contexts.specs.Inlined as bodies
 use Rattle.cv_inline_terms.specs.Scopes.{scope_in}
 use Rattle.cv_inline_terms.proofs.scope.standing_of.Given as goal

@@ -1,8 +1,8 @@
 use Rattle.std.proofs.Common.{◌∷◌, ◌∙◌, ap, sym, option_map, Some, None}
 use Rattle.std.proofs.lemmas.Result.{IfOk-equal}
-use Rattle.cv_syntax.specs.declared.head.Head.TheVariants.{Eq}
+use Rattle.cv_syntax_trees.specs.declared.head.Head.TheVariants.{Eq}
 use Rattle.cv_syntax.specs.Postorder.{joined}
-use Rattle.cv_syntax.specs.Tree.{tree_at}
+use Rattle.cv_syntax.specs.PoolTrees.{tree_at}
 use Rattle.cv_syntax.proofs.Trees.{empty_at, node_at}
 use Rattle.cv_meaning_contexts.specs.Inlined as bodies
 use Rattle.cv_meaning_contexts.specs.Inlined.{Caller, Drawn, Scope, array_in_game, call_in, index_terms}

@@ -1,8 +1,9 @@
 use Rattle.std.proofs.Common.{◌∷◌, ◌∙◌, ap, sym}
 use Rattle.std.proofs.lemmas.Result.{IfOk-equal}
-use Rattle.cv_syntax.specs.declared.head.Head.TheVariants.{Read}
+use Rattle.cv_syntax_trees.specs.declared.head.Head.TheVariants.{Read}
 use Rattle.cv_syntax.specs.Postorder.{joined}
-use Rattle.cv_syntax.specs.Tree.{Empty, tree_at}
+use Rattle.cv_syntax_trees.specs.Tree.{Empty}
+use Rattle.cv_syntax.specs.PoolTrees.{tree_at}
 use Rattle.cv_meaning_contexts.specs.Inlined.{read_at}
 use Rattle.cv_inline_terms.specs.Stacks.{stack}
 use Rattle.cv_inline_terms.proofs.InGame.{read_at-Node}

@@ -1,5 +1,5 @@
 use Rattle.std.proofs.Common.{ap, sym, ◌∙◌}
-use Rattle.cv_syntax.specs.declared.head.Head.TheVariants.{Leaf, Read}
+use Rattle.cv_syntax_trees.specs.declared.head.Head.TheVariants.{Leaf, Read}
 use Rattle.cv_inline_walk.specs.Forms as forms
 use Rattle.cv_inline_walk.specs.Steps.{calls_of}
 use Rattle.cv_inline_walk.proofs.forms.head_in.Goals as goal

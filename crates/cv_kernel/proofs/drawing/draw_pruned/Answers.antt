@@ -1,5 +1,5 @@
 use Rattle.std.proofs.Common.{length, refl, subst, sym, Some, None, ◌≡◌}
-use Rattle.cv_syntax.specs.Tree.{tree_at}
+use Rattle.cv_syntax.specs.PoolTrees.{tree_at}
 use Rattle.cv_draw_pruning.specs.Bodies as pruning
 use Rattle.cv_draw_pruning.specs.Bodies.{part_of}
 use Rattle.cv_scenes.specs.Pruning.{pruned}

@@ -1,6 +1,7 @@
 use Rattle.std.proofs.Common.{◌≡◌, subst, sym, Some}
 use Rattle.std.specs.Prelude.{IfSome, IsNone}
-use Rattle.cv_syntax.specs.Tree.{depth, size, tree_at}
+use Rattle.cv_syntax_trees.specs.Tree.{depth, size}
+use Rattle.cv_syntax.specs.PoolTrees.{tree_at}
 use Rattle.cv_draw_pruning.specs.Bodies.{part_of}
 use Rattle.cv_rule.specs.Stated.{step_of}
 use Rattle.cv_kernel.specs.Rules.{HasNoPlace, IsShortRule, next_of}

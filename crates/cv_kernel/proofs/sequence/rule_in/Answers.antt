@@ -1,6 +1,6 @@
 use Rattle.std.proofs.Common.{ap, ◌∙◌, length, Some}
 use Rattle.std.specs.Prelude.{option_and_then, option_map}
-use Rattle.cv_syntax.specs.Tree.{tree_at}
+use Rattle.cv_syntax.specs.PoolTrees.{tree_at}
 use Rattle.cv_kernel.specs.Steps.{narrow, step_of_items}
 use Rattle.cv_kernel.proofs.Pushes.{short_rule}
 use Rattle.cv_kernel.proofs.sequence.rule_in.Goals as goal

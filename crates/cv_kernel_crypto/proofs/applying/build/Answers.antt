@@ -1,6 +1,6 @@
 use Rattle.std.proofs.Common.{◌≡◌, ◌+◌, ◌≤◌, arith, length, subst, sym, Some, Err, ap, ◌∙◌}
 use Rattle.cv_syntax.specs.Declarations.{declarations}
-use Rattle.cv_syntax.specs.Tree.{tree_at}
+use Rattle.cv_syntax.specs.PoolTrees.{tree_at}
 use Rattle.cv_meaning_contexts.specs.Groups.{Right, side_group}
 use Rattle.cv_rule_scenes.specs.Kept.{scene_of}
 use Rattle.cv_scenes.specs.Reductions.{context_of_game}

@@ -1,6 +1,6 @@
 use Rattle.std.proofs.Common.{◌≡◌, ap, subst, Some, ◌∙◌}
 use Rattle.std.specs.Prelude.{IfOk}
-use Rattle.cv_syntax.specs.Tree.{tree_at}
+use Rattle.cv_syntax.specs.PoolTrees.{tree_at}
 use Rattle.cv_meaning_contexts.specs.Sides.{Context}
 use Rattle.cv_context.specs.Roles.{name_at}
 use Rattle.cv_syntax_limits.specs.Limits.{nodes_of}

@@ -1,5 +1,5 @@
 use Rattle.std.proofs.Common.{◌≡◌, ◌+◌, arith, ap, ◌∙◌}
-use Rattle.cv_syntax.specs.Tree.{tree_at}
+use Rattle.cv_syntax.specs.PoolTrees.{tree_at}
 use Rattle.cv_syntax.proofs.ChildReads.{left_over}
 use Rattle.cv_syntax.proofs.Trees.{empty_at}
 use Rattle.cv_syntax_limits.specs.Limits.{nodes_of}

@@ -1,5 +1,6 @@
 use Rattle.std.proofs.Common.{Some, ap, length, ◌∙◌}
-use Rattle.cv_syntax.specs.Tree.{Tree, tree_at}
+use Rattle.cv_syntax_trees.specs.Tree.{Tree}
+use Rattle.cv_syntax.specs.PoolTrees.{tree_at}
 use Rattle.cv_syntax.proofs.Trees.{child_live, empty_at, node_at}
 use Rattle.cv_meaning_contexts.specs.Groups.{function_of}
 use Rattle.cv_scenes.specs.Sights.{variable_of}

@@ -1,5 +1,6 @@
 use Rattle.std.proofs.Common.{ap, refl, ◌∙◌}
-use Rattle.cv_syntax.specs.Tree.{same_tree, tree_at}
+use Rattle.cv_syntax_trees.specs.Tree.{same_tree}
+use Rattle.cv_syntax.specs.PoolTrees.{tree_at}
 use Rattle.cv_scope_rules.specs.Context.{cell_of}
 use Rattle.cv_match_patterns.proofs.Parts.{test-first, test-last, test-second}
 use Rattle.cv_match.specs.Fitting.{is_own_use}

@@ -1,6 +1,6 @@
 use Rattle.std.proofs.Common.{All, List, ap, map, subst, sym, ◌∙◌}
 use Rattle.cv_syntax.specs.Classes.{equiv_in}
-use Rattle.cv_syntax.specs.Tree.{tree_at}
+use Rattle.cv_syntax.specs.PoolTrees.{tree_at}
 use Rattle.cv_scenes.specs.Instances.{Matching}
 use Rattle.cv_scenes.specs.Refusals.{first_refusal}
 use Rattle.cv_match_sites.specs.Matchings.{matching_by}

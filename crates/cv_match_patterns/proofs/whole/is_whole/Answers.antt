@@ -1,5 +1,6 @@
 use Rattle.std.proofs.Common.{ap, ◌∙◌}
-use Rattle.cv_syntax.specs.Tree.{same_tree, tree_at}
+use Rattle.cv_syntax_trees.specs.Tree.{same_tree}
+use Rattle.cv_syntax.specs.PoolTrees.{tree_at}
 use Rattle.cv_meaning_contexts.specs.Groups.{function_of, group_of}
 use Rattle.cv_match_patterns.specs.Searches.{filled_part}
 use Rattle.cv_match_patterns.proofs.Parts.{whole-part}

@@ -1,5 +1,5 @@
 use Rattle.std.proofs.Common.{length, ◌∙◌}
-use Rattle.cv_syntax.specs.Tree.{tree_at}
+use Rattle.cv_syntax.specs.PoolTrees.{tree_at}
 use Rattle.cv_syntax.proofs.Trees.{child_live, empty_at, node_at}
 use Rattle.cv_match_reads.proofs.Rows.{rows-done, rows-missing, rows-right, rows-wrong}
 use Rattle.cv_match_reads.proofs.cells.are_indices.Goals as goal

@@ -1,5 +1,5 @@
 use Rattle.std.proofs.Common.{sym}
-use Rattle.cv_syntax.specs.Tree.{tree_at}
+use Rattle.cv_syntax.specs.PoolTrees.{tree_at}
 use Rattle.cv_syntax.proofs.Trees.{empty_at, node_at}
 use Rattle.cv_match_patterns.proofs.Parts.{test-first, test-last, test-second}
 use Rattle.cv_match_reads.proofs.Rows.{array-empty, array-node}

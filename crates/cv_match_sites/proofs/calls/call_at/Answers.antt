@@ -1,5 +1,6 @@
 use Rattle.std.proofs.Common.{Some, ap, sym, ◌∙◌}
-use Rattle.cv_syntax.specs.Tree.{second, tree_at}
+use Rattle.cv_syntax_trees.specs.Tree.{second}
+use Rattle.cv_syntax.specs.PoolTrees.{tree_at}
 use Rattle.cv_syntax.proofs.Trees.{empty_at}
 use Rattle.cv_syntax.proofs.Walking.{above-child}
 use Rattle.cv_meaning_contexts.specs.Groups.{functions_of}

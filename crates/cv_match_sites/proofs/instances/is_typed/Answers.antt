@@ -1,5 +1,6 @@
 use Rattle.std.proofs.Common.{ap, refl}
-use Rattle.cv_syntax.specs.Tree.{first, second, tree_at}
+use Rattle.cv_syntax_trees.specs.Tree.{first, second}
+use Rattle.cv_syntax.specs.PoolTrees.{tree_at}
 use Rattle.cv_meaning.specs.Correspondences.{typed_names}
 use Rattle.cv_meaning_contexts.specs.Groups.{function_of}
 use Rattle.cv_match_sites.specs.Matchings.{matching_by}

@@ -1,10 +1,11 @@
 use Rattle.std.proofs.Common.{rules, ◌+◌, ◌<◌, ◌≡◌, false, arith, ap, length, refl, sym, ◌∙◌}
 use Rattle.std.specs.Prelude.{is_some}
-use Rattle.cv_syntax.specs.Tree.{first_place, second_place, size, tree_at}
+use Rattle.cv_syntax_trees.specs.Tree.{first_place, second_place, size}
+use Rattle.cv_syntax.specs.PoolTrees.{tree_at}
 use Rattle.cv_syntax.specs.Walks.{above}
 use Rattle.cv_syntax.proofs.Trees.{child_above, child_live, empty_at, node_at}
 use Rattle.cv_syntax.proofs.Walking.{above-child, above-some, size-at, size-end}
-use Rattle.cv_directory.specs.Sites.{first_of}
+use Rattle.cv_directory_sorts.specs.Sites.{first_of}
 use Rattle.cv_scope_rules.specs.Context.{first_position, second_position}
 use Rattle.cv_scenes.specs.Scenes.{head_reads}
 use Rattle.cv_scenes.specs.Instances.{call_at}

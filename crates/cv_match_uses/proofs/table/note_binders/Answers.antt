@@ -1,5 +1,5 @@
 use Rattle.std.proofs.Common.{ap, length, sym, ◌∙◌}
-use Rattle.cv_syntax.specs.Tree.{tree_at}
+use Rattle.cv_syntax.specs.PoolTrees.{tree_at}
 use Rattle.cv_syntax.proofs.Trees.{child_live, empty_at, node_at}
 use Rattle.cv_match_uses.specs.Tallies.{plus, tally_at}
 use Rattle.cv_match_uses.proofs.Joining.{bound-end, bound-more, bound-other, plus-nothing}

@@ -1,5 +1,5 @@
 use Rattle.std.proofs.Common.{ap, sym, ◌∙◌}
-use Rattle.cv_syntax.specs.Tree.{tree_at}
+use Rattle.cv_syntax.specs.PoolTrees.{tree_at}
 use Rattle.cv_match_uses.specs.Tallies.{plus, tally_at}
 use Rattle.cv_match_uses.proofs.Joining.{defined-branch, defined-call, defined-input, defined-key, defined-let, defined-new, defined-nothing, on-ok, plus-nothing}
 use Rattle.cv_match_uses.proofs.table.note_definitions.Goals as goal

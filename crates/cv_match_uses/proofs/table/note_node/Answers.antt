@@ -1,5 +1,5 @@
 use Rattle.std.proofs.Common.{ap, ◌∙◌}
-use Rattle.cv_syntax.specs.Tree.{tree_at}
+use Rattle.cv_syntax.specs.PoolTrees.{tree_at}
 use Rattle.cv_match_uses.specs.Tallies.{defined_here, plus, tally_at, used_here}
 use Rattle.cv_match_uses.proofs.Joining.{on-ok, plus-assoc}
 use Rattle.cv_match_uses.proofs.table.note_node.Goals as goal

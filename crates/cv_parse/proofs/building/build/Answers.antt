@@ -1,6 +1,6 @@
 use Rattle.std.proofs.Common.{◌∷◌, All, length, map, subst, sym, ap, ◌∙◌, arith}
 use Rattle.cv_pool.specs.Nodes.{ChildBelow}
-use Rattle.cv_syntax.specs.Tree.{tree_at}
+use Rattle.cv_syntax.specs.PoolTrees.{tree_at}
 use Rattle.cv_parse_grammar.specs.Identities.{AreDistinct}
 use Rattle.std.specs.Prelude.{flat_map}
 use Rattle.std.specs.List.{AllByRecursion}

@@ -1,6 +1,6 @@
 use Rattle.std.proofs.Common.{◌++◌, ◌≤◌, ap, ap₂, arith, sym, ◌∙◌, length, subst}
 use Rattle.cv_syntax.specs.Postorder.{postorder}
-use Rattle.cv_syntax.specs.Tree.{size}
+use Rattle.cv_syntax_trees.specs.Tree.{size}
 use Rattle.cv_parse_grammar.specs.Filled.{filled}
 use Rattle.cv_parse_grammar.specs.Names.{name_fault}
 use Rattle.cv_parse_terms.specs.Gives.{uses_of}

@@ -1,5 +1,5 @@
 use Rattle.std.proofs.Common.{arith, ap, sym, ◌∙◌, append-nil, [], ◌∷◌, length, Err}
-use Rattle.cv_syntax.specs.Tree.{tree_at}
+use Rattle.cv_syntax.specs.PoolTrees.{tree_at}
 use Rattle.cv_syntax.specs.Postorder.{postorder}
 use Rattle.cv_parse.proofs.Builds.{few_overs}
 use Rattle.cv_pool.specs.declared.pool.PoolError.TheVariants as pool

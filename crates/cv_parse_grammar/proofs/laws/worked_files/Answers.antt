@@ -1,6 +1,6 @@
 use Rattle.std.proofs.Common.{[], refl, Some, None}
-use Rattle.cv_syntax.specs.Tree.{lone}
-use Rattle.cv_syntax.specs.declared.head.Head.TheVariants.{Stop}
+use Rattle.cv_syntax_trees.specs.Tree.{lone}
+use Rattle.cv_syntax_trees.specs.declared.head.Head.TheVariants.{Stop}
 use Rattle.cv_parse_notation.specs.Reads.{read_sort}
 use Rattle.cv_parse_grammar.specs.Expected.{declared, equated, tested, testing, searched, searching, arrayed, arraying}
 use Rattle.cv_parse_grammar.specs.Filled.{first_site, filled_at}

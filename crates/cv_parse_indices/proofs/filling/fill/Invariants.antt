@@ -1,6 +1,6 @@
 use Rattle.std.proofs.Common.{◌≡◌, ◌≤◌, length, reverse}
 use Rattle.cv_syntax.specs.Postorder.{postorder}
-use Rattle.cv_syntax.specs.Tree.{Tree}
+use Rattle.cv_syntax_trees.specs.Tree.{Tree}
 use Rattle.cv_parse_indices.specs.Current.{numbers_of}
 use Rattle.cv_parse_indices.specs.Stacks.{Descends}
 use Rattle.cv_parse_indices.proofs.Pending.{Pending}

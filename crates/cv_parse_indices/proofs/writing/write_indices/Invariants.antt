@@ -1,5 +1,5 @@
 use Rattle.std.proofs.Common.{◌≡◌, ◌++◌, ◌∷◌, ◌≤◌, length, drop, replicate}
-use Rattle.cv_syntax.specs.declared.head.Head.TheVariants.{Cons}
+use Rattle.cv_syntax_trees.specs.declared.head.Head.TheVariants.{Cons}
 use Rattle.cv_syntax.specs.declared.make.Make.TheVariants.{Nothing, Over}
 use Rattle.cv_parse_indices.proofs.Rows.{leaves_back}
 use Rattle.cv_parse_indices.proofs.writing.write_indices.Given as goal

@@ -1,5 +1,5 @@
 use Rattle.std.proofs.Common.{◌≡◌, ◌++◌, ◌∷◌, map, take, replicate}
-use Rattle.cv_syntax.specs.declared.head.Head.TheVariants.{Name}
+use Rattle.cv_syntax_trees.specs.declared.head.Head.TheVariants.{Name}
 use Rattle.cv_syntax.specs.declared.make.Make.TheVariants.{Nothing, Over}
 use Rattle.cv_parse_indices.proofs.writing.write_names.Given as goal
 

@@ -1,6 +1,6 @@
 use Rattle.std.proofs.Common.{drop, false, refl, sym, arith}
-use Rattle.cv_syntax.specs.declared.head.Head.TheVariants.{Par}
-use Rattle.cv_syntax.specs.Tree.{chain}
+use Rattle.cv_syntax_trees.specs.declared.head.Head.TheVariants.{Par}
+use Rattle.cv_syntax_trees.specs.Tree.{chain}
 use Rattle.cv_parse_notation.specs.Form.{deeper, may}
 use Rattle.cv_parse_notation.specs.declared.sign.Mark.TheVariants as mark
 use Rattle.cv_parse_grammar.specs.Phrases.{Inputs, Output}

@@ -1,5 +1,5 @@
 use Rattle.std.proofs.Common.{arith, ap, sym, ◌∙◌, append-nil, [], ◌∷◌}
-use Rattle.cv_syntax.specs.Tree.{tree_at}
+use Rattle.cv_syntax.specs.PoolTrees.{tree_at}
 use Rattle.cv_syntax.specs.Postorder.{postorder}
 use Rattle.cv_parse_script.specs.Scripts.{items}
 use Rattle.cv_parse_script.proofs.Steps.{few_overs, one_root}

@@ -1,7 +1,7 @@
 use Rattle.std.proofs.Common.{◌∷◌, []}
-use Rattle.cv_syntax.specs.Tree.{Node, binders}
-use Rattle.cv_syntax.specs.Declarations.{Equiv}
-use Rattle.cv_syntax.specs.declared.head.Head.TheVariants.{Equivalence}
+use Rattle.cv_syntax_trees.specs.Tree.{Node, binders}
+use Rattle.cv_syntax_trees.specs.Declarations.{Equiv}
+use Rattle.cv_syntax_trees.specs.declared.head.Head.TheVariants.{Equivalence}
 use Rattle.cv_parse_notation.specs.Form.{note, ◌&◌, ◌▸◌, ◌◂◌}
 use Rattle.cv_parse_notation.specs.declared.sign.Mark.TheVariants as mark
 use Rattle.cv_parse_grammar.specs.declared.role.Region.TheVariants.{InEquivalence}

@@ -1,4 +1,4 @@
-use Rattle.cv_syntax.specs.Tree.{binders}
+use Rattle.cv_syntax_trees.specs.Tree.{binders}
 use Rattle.cv_parse_notation.specs.Form.{◌◂◌}
 use Rattle.cv_parse_notation.specs.declared.sign.Mark.TheVariants.{Forall, Semicolon}
 use Rattle.cv_parse_grammar.specs.declared.role.Role.TheVariants.{BindsLocal}

@@ -1,5 +1,5 @@
 use Rattle.std.proofs.Common.{map, false, Some, refl}
-use Rattle.cv_syntax.specs.declared.decls.Class.TheVariants.{Fun}
+use Rattle.cv_syntax_trees.specs.declared.class.Class.TheVariants.{Fun}
 use Rattle.cv_parse_notation.specs.Form.{◌&◌, ◌▸◌}
 use Rattle.cv_parse_notation.specs.declared.sign.Mark.TheVariants as mark
 use Rattle.cv_parse_grammar.specs.declared.role.Role.TheVariants.{Declares}

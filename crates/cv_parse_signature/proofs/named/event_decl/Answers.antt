@@ -1,6 +1,6 @@
 use Rattle.std.proofs.Common.{◌∷◌, [], None, refl}
-use Rattle.cv_syntax.specs.Declarations.{Named}
-use Rattle.cv_syntax.specs.declared.decls.Class.TheVariants.{Event}
+use Rattle.cv_syntax_trees.specs.Declarations.{Named}
+use Rattle.cv_syntax_trees.specs.declared.class.Class.TheVariants.{Event}
 use Rattle.cv_parse_notation.specs.Form.{word, ◌&◌}
 use Rattle.cv_parse_notation.specs.declared.sign.Mark.TheVariants as mark
 use Rattle.cv_parse_grammar.specs.declared.role.Role.TheVariants.{Declares}

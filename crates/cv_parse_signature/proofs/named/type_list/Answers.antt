@@ -1,4 +1,4 @@
-use Rattle.cv_syntax.specs.Tree.{names}
+use Rattle.cv_syntax_trees.specs.Tree.{names}
 use Rattle.cv_parse_notation.specs.Form.{made}
 use Rattle.cv_parse_notation.specs.declared.sign.Mark.TheVariants.{Close, Comma, Open}
 use Rattle.cv_parse_grammar.specs.Phrases.{row, type_name}

@@ -1,5 +1,5 @@
-use Rattle.cv_syntax.specs.Tree.{Node, Empty}
-use Rattle.cv_syntax.specs.declared.head.Head.TheVariants.{OccursOnce}
+use Rattle.cv_syntax_trees.specs.Tree.{Node, Empty}
+use Rattle.cv_syntax_trees.specs.declared.head.Head.TheVariants.{OccursOnce}
 use Rattle.cv_parse_notation.specs.declared.sign.Mark.TheVariants.{Inj}
 use Rattle.cv_parse_grammar.specs.Declarations.{happens}
 use Rattle.cv_parse_terms.specs.Gives.{read_in}

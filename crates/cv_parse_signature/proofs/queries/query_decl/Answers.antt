@@ -1,5 +1,5 @@
 use Rattle.std.proofs.Common.{◌∷◌, [], drop}
-use Rattle.cv_syntax.specs.Declarations.{Query}
+use Rattle.cv_syntax_trees.specs.Declarations.{Query}
 use Rattle.cv_parse_notation.specs.Form.{either, note, ◌&◌}
 use Rattle.cv_parse_notation.specs.declared.sign.Mark.TheVariants as mark
 use Rattle.cv_parse_grammar.specs.declared.role.Region.TheVariants.{InQuery}

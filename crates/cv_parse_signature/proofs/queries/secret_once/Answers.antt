@@ -1,5 +1,5 @@
-use Rattle.cv_syntax.specs.Tree.{lone}
-use Rattle.cv_syntax.specs.declared.head.Head.TheVariants.{SecretOnce}
+use Rattle.cv_syntax_trees.specs.Tree.{lone}
+use Rattle.cv_syntax_trees.specs.declared.head.Head.TheVariants.{SecretOnce}
 use Rattle.cv_parse_notation.specs.Form.{word}
 use Rattle.cv_parse_notation.specs.declared.sign.Mark.TheVariants as mark
 use Rattle.cv_parse_grammar.specs.declared.role.Role.TheVariants.{Unchecked}

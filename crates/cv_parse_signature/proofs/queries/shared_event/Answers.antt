@@ -1,5 +1,5 @@
-use Rattle.cv_syntax.specs.Tree.{Node, Empty}
-use Rattle.cv_syntax.specs.declared.head.Head.TheVariants.{Occurs}
+use Rattle.cv_syntax_trees.specs.Tree.{Node, Empty}
+use Rattle.cv_syntax_trees.specs.declared.head.Head.TheVariants.{Occurs}
 use Rattle.cv_parse_terms.proofs.Chains.{first_made, made_read}
 use Rattle.cv_parse_signature.proofs.queries.shared_event.Goals as goal
 

@@ -1,6 +1,6 @@
 use Rattle.std.proofs.Common.{◌≡◌, ◌++◌}
 use Rattle.std.specs.Prelude.{replicate}
-use Rattle.cv_syntax.specs.declared.head.Head.TheVariants.{Cons}
+use Rattle.cv_syntax_trees.specs.declared.head.Head.TheVariants.{Cons}
 use Rattle.cv_syntax.specs.declared.make.Make.TheVariants.{Over}
 use Rattle.cv_parse_tables.proofs.trees.close_all.Given as goal
 

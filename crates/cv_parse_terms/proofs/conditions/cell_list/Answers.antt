@@ -1,4 +1,4 @@
-use Rattle.cv_syntax.specs.Tree.{chain}
+use Rattle.cv_syntax_trees.specs.Tree.{chain}
 use Rattle.cv_parse_terms.proofs.Made.{row-made}
 use Rattle.cv_parse_terms.proofs.Rows.{mapped_read}
 use Rattle.cv_parse_terms.proofs.conditions.cell_list.Goals as goal

@@ -1,4 +1,4 @@
-use Rattle.cv_syntax.specs.Tree.{chain}
+use Rattle.cv_syntax_trees.specs.Tree.{chain}
 use Rattle.cv_parse_notation.specs.Form.{deeper, made}
 use Rattle.cv_parse_notation.specs.declared.sign.Mark.TheVariants.{Comma, Open, Close}
 use Rattle.cv_parse_grammar.specs.Phrases.{row, OneCell}

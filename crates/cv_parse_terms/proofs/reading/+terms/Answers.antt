@@ -1,5 +1,5 @@
 use Rattle.std.proofs.Common.{Ok, false, refl, sym, drop}
-use Rattle.cv_syntax.specs.declared.head.Head.TheVariants.{And, Apply, Eq, Not, Or, Read}
+use Rattle.cv_syntax_trees.specs.declared.head.Head.TheVariants.{And, Apply, Eq, Not, Or, Read}
 use Rattle.cv_parse_notation.specs.Form.{◌▸◌, deeper, either, may}
 use Rattle.cv_parse_notation.specs.declared.sign.Mark.TheVariants as mark
 use Rattle.cv_parse_grammar.specs.declared.role.Role.TheVariants.{AsArray, AsCall}

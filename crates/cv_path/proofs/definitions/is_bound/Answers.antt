@@ -1,5 +1,5 @@
 use Rattle.std.proofs.Common.{rules, ap, sym, ◌∙◌}
-use Rattle.cv_syntax.specs.Tree.{tree_at}
+use Rattle.cv_syntax.specs.PoolTrees.{tree_at}
 use Rattle.cv_syntax.proofs.Trees.{empty_at}
 use Rattle.cv_path.proofs.Binders.{bound-empty, bound-other, binder-is, binder-differs}
 use Rattle.cv_path.proofs.definitions.is_bound.Goals as goal

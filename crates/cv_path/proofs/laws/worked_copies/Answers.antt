@@ -1,5 +1,5 @@
 use Rattle.std.proofs.Common.{refl}
-use Rattle.cv_syntax.specs.Tree.{size}
+use Rattle.cv_syntax_trees.specs.Tree.{size}
 use Rattle.cv_path.specs.Copies.{copies_at, parameters}
 use Rattle.cv_path.proofs.laws.worked_copies.Goals as goal
 

@@ -1,6 +1,7 @@
 use Rattle.std.proofs.Common.{◌≡◌, ◌+◌, ◌<◌, Some, true, false, rules, arith, ◌∷◌, [], length, length-append, refl, ap, sym, ◌∙◌}
-use Rattle.cv_syntax.specs.Head.{weight}
-use Rattle.cv_syntax.specs.Tree.{size, tree_at}
+use Rattle.cv_syntax_trees.specs.Head.{weight}
+use Rattle.cv_syntax_trees.specs.Tree.{size}
+use Rattle.cv_syntax.specs.PoolTrees.{tree_at}
 use Rattle.cv_syntax.proofs.Walking.{size-node, above-some}
 use Rattle.cv_meaning.specs.Replaced.{replaced}
 use Rattle.cv_path.specs.Ways.{led, turned as turned-by}

@@ -1,7 +1,8 @@
 use Rattle.std.proofs.Common.{◌≡◌, ◌+◌, ◌<◌, ◌≤◌, Some, length}
 use Rattle.std.specs.Prelude.{All}
 use Rattle.cv_pool.specs.Nodes.{ChildBelow}
-use Rattle.cv_syntax.specs.Tree.{Tree, size, subtree, tree_at}
+use Rattle.cv_syntax_trees.specs.Tree.{Tree, size, subtree}
+use Rattle.cv_syntax.specs.PoolTrees.{tree_at}
 use Rattle.cv_syntax.specs.Walks.{above}
 use Rattle.cv_meaning.specs.Replaced.{replaced}
 use Rattle.cv_path.specs.Places.{nodes_above}

@@ -8,7 +8,8 @@ use Rattle.cv_pool.specs.declared.node.NodeId.{NodeId}
 use Rattle.cv_pool.proofs.Growth.{Grows-length, Grows-refl, Grows-trans}
 use Rattle.cv_syntax.specs.declared.decls.Decl.{Decl}
 use Rattle.cv_syntax.specs.Classes.{DeclsView, queries, query_of}
-use Rattle.cv_syntax.specs.Tree.{size, tree_at}
+use Rattle.cv_syntax_trees.specs.Tree.{size}
+use Rattle.cv_syntax.specs.PoolTrees.{tree_at}
 use Rattle.cv_kernel_closed.proofs.QueryLists.{queries-skip, queries-take, queries-past}
 use Rattle.cv_plain.proofs.QueryLists.{query-below}
 use Rattle.cv_query_direct.specs.Plain.{certificate}

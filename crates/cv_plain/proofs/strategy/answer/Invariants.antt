@@ -2,7 +2,7 @@ use Rattle.std.proofs.Common.{◌≡◌, ◌+◌, ◌≤◌, Some, None, drop, l
 use Rattle.std.specs.Prelude.{All}
 use Rattle.cv_pool.specs.PoolView.{Grows}
 use Rattle.cv_syntax.specs.Classes.{queries}
-use Rattle.cv_syntax.specs.Tree.{tree_at}
+use Rattle.cv_syntax.specs.PoolTrees.{tree_at}
 use Rattle.cv_plain.specs.Findings.{IsStepBelow, said, taken}
 use Rattle.cv_plain.proofs.Sayings.{HasAnswered}
 use Rattle.cv_plain.proofs.strategy.answer.Given as goal

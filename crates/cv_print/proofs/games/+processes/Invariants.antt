@@ -1,7 +1,7 @@
 use Rattle.std.proofs.Common.{Some, ◌≡◌, ◌++◌, ◌+◌, ◌*◌, ◌≤◌, [], length, max}
 use Rattle.std.specs.Prelude.{codes, if◌then◌else◌}
 use Rattle.cv_pool.specs.Nodes.{ChildBelow}
-use Rattle.cv_syntax.specs.Tree.{tree_at}
+use Rattle.cv_syntax.specs.PoolTrees.{tree_at}
 use Rattle.cv_print.specs.Games.{line, process_text, bodies_text, branches_text}
 use Rattle.cv_print.specs.Numbers.{above}
 use Rattle.cv_print.proofs.games.+processes.Given as goal

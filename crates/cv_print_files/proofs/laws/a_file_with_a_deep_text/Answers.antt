@@ -1,5 +1,5 @@
 use Rattle.std.proofs.Common.{[], refl, None}
-use Rattle.cv_syntax.specs.Tree.{depth}
+use Rattle.cv_syntax_trees.specs.Tree.{depth}
 use Rattle.cv_parse_notation.specs.Reads.{read_sort}
 use Rattle.cv_parse_grammar.specs.Filled.{first_site, filled_at}
 use Rattle.cv_parse_grammar.specs.InOrder.{first_broken}

@@ -1,5 +1,5 @@
 use Rattle.std.proofs.Common.{[], refl, arith}
-use Rattle.cv_syntax.specs.Tree.{depth}
+use Rattle.cv_syntax_trees.specs.Tree.{depth}
 use Rattle.cv_print_files.proofs.Back.{comes_back, shallow_is_flat}
 use Rattle.cv_print_files.proofs.Small.{file}
 use Rattle.cv_print_files.specs.Worked.{small_content, small_declared, small_file, small_game, small_names}

@@ -1,5 +1,5 @@
 use Rattle.std.proofs.Common.{◌∷◌, None, refl, ap, ap₂, ◌∙◌}
-use Rattle.cv_syntax.specs.Tree.{tree_at}
+use Rattle.cv_syntax.specs.PoolTrees.{tree_at}
 use Rattle.cv_derivations.specs.Ends.{is_end}
 use Rattle.cv_derivations.specs.Lines.{IsDefined, lines_of, statements}
 use Rattle.cv_query_certificates.specs.EventNodes.{arguments_at, only_site}

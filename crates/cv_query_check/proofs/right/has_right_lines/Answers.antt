@@ -1,5 +1,5 @@
 use Rattle.std.proofs.Common.{ap}
-use Rattle.cv_syntax.specs.Tree.{tree_at}
+use Rattle.cv_syntax.specs.PoolTrees.{tree_at}
 use Rattle.cv_query_certificates.specs.Claims.{at_place}
 use Rattle.cv_query_certificates.specs.Failures.{is_right}
 use Rattle.cv_query_entries.specs.Said.{saying_seen}

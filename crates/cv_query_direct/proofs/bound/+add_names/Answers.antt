@@ -1,5 +1,5 @@
 use Rattle.std.proofs.Common.{rules, ap, ◌∙◌}
-use Rattle.cv_syntax.specs.Tree.{tree_at}
+use Rattle.cv_syntax.specs.PoolTrees.{tree_at}
 use Rattle.cv_query_direct.proofs.Matching.{bound-more}
 use Rattle.cv_query_direct.proofs.bound.+add_names.Goals as goal
 

@@ -1,5 +1,5 @@
 use Rattle.std.proofs.Common.{rules, ap, sym, ◌∙◌, ◌≡◌, Some}
-use Rattle.cv_syntax.specs.Tree.{tree_at}
+use Rattle.cv_syntax.specs.PoolTrees.{tree_at}
 use Rattle.cv_meaning.specs.Correspondences.{leaf_names}
 use Rattle.cv_meaning.specs.Direct.{argument, is_argument}
 use Rattle.cv_query_direct.proofs.Matching.{found-here, found-later}

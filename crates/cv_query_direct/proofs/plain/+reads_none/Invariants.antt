@@ -1,6 +1,7 @@
 use Rattle.std.proofs.Common.{◌≡◌, ◌≤◌, length}
 use Rattle.cv_pool.specs.Nodes.{ChildBelow}
-use Rattle.cv_syntax.specs.Tree.{reads_only, tree_at}
+use Rattle.cv_syntax_trees.specs.Tree.{reads_only}
+use Rattle.cv_syntax.specs.PoolTrees.{tree_at}
 use Rattle.cv_syntax.specs.Walks.{above}
 use Rattle.cv_syntax.specs.NameSets.{is_outside}
 use Rattle.cv_query_direct.proofs.plain.+reads_none.Given as goal

@@ -1,5 +1,5 @@
 use Rattle.std.proofs.Common.{sym, ◌∙◌}
-use Rattle.cv_syntax.specs.Tree.{tree_at}
+use Rattle.cv_syntax.specs.PoolTrees.{tree_at}
 use Rattle.cv_syntax.proofs.Trees.{node_at}
 use Rattle.cv_query_direct.proofs.PlainQueries.{sides-read}
 use Rattle.cv_query_direct.proofs.plain.sides_are_plain.Goals as goal

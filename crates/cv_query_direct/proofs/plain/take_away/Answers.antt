@@ -1,5 +1,5 @@
 use Rattle.std.proofs.Common.{length, ◌∙◌}
-use Rattle.cv_syntax.specs.Tree.{tree_at}
+use Rattle.cv_syntax.specs.PoolTrees.{tree_at}
 use Rattle.cv_syntax.proofs.Trees.{child_live, node_at}
 use Rattle.cv_query_direct.proofs.PlainQueries.{one-less, no-argument-more}
 use Rattle.cv_query_direct.proofs.plain.take_away.Goals as goal

@@ -2,8 +2,9 @@ use Rattle.std.proofs.Common.{rules, arith, refl, subst, List, ◌≡◌, ◌+�
 use Rattle.std.specs.Prelude.{All}
 use Rattle.cv_pool.specs.Nodes.{ChildBelow}
 use Rattle.cv_query_direct.specs.declared.search.Seen.{Seen}
-use Rattle.cv_syntax.specs.Head.{weight}
-use Rattle.cv_syntax.specs.Tree.{Node, size, tree_at}
+use Rattle.cv_syntax_trees.specs.Head.{weight}
+use Rattle.cv_syntax_trees.specs.Tree.{Node, size}
+use Rattle.cv_syntax.specs.PoolTrees.{tree_at}
 use Rattle.cv_syntax.proofs.Trees.{tree_of-NoTree, size_open}
 use Rattle.cv_query_direct.specs.Found.{entry_trees, placed, SeenBelow, seen_by, wanted}
 use Rattle.cv_query_direct.specs.Search.{entries_of, head_entries, joined, placed_by}

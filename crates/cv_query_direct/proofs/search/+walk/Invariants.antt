@@ -1,7 +1,8 @@
 use Rattle.std.proofs.Common.{◌≡◌, ◌≤◌, ◌+◌, length, map, take, Some}
 use Rattle.std.specs.Prelude.{All}
 use Rattle.cv_pool.specs.Nodes.{ChildBelow}
-use Rattle.cv_syntax.specs.Tree.{size, tree_at}
+use Rattle.cv_syntax_trees.specs.Tree.{size}
+use Rattle.cv_syntax.specs.PoolTrees.{tree_at}
 use Rattle.cv_syntax.specs.Walks.{above}
 use Rattle.cv_query_direct.specs.Found.{RoutesBelow, entry_trees, placed, SeenBelow, wanted}
 use Rattle.cv_query_direct.specs.Search.{entries_of, joined}

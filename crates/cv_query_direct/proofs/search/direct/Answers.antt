@@ -1,5 +1,5 @@
 use Rattle.std.proofs.Common.{sym, ◌∙◌, Some}
-use Rattle.cv_syntax.specs.Tree.{tree_at}
+use Rattle.cv_syntax.specs.PoolTrees.{tree_at}
 use Rattle.cv_query_direct.specs.Found.{entry_trees}
 use Rattle.cv_query_direct.proofs.Certificates.{closed_by}
 use Rattle.cv_query_direct.proofs.search.direct.Goals as goal

@@ -1,5 +1,5 @@
 use Rattle.std.proofs.Common.{◌≡◌, drop, map}
-use Rattle.cv_syntax.specs.Tree.{tree_at}
+use Rattle.cv_syntax.specs.PoolTrees.{tree_at}
 use Rattle.cv_syntax.specs.NameSets.{is_outside}
 use Rattle.cv_meaning.specs.Correspondences.{leaf_names}
 use Rattle.cv_query_direct.specs.Found.{placed}

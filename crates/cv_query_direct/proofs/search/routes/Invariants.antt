@@ -1,7 +1,7 @@
 use Rattle.std.proofs.Common.{◌≡◌, length, map, Some}
 use Rattle.std.specs.Prelude.{All}
 use Rattle.cv_pool.specs.Nodes.{ChildBelow}
-use Rattle.cv_syntax.specs.Tree.{tree_at}
+use Rattle.cv_syntax.specs.PoolTrees.{tree_at}
 use Rattle.cv_syntax.specs.Walks.{above}
 use Rattle.cv_syntax.specs.NameSets.{is_outside}
 use Rattle.cv_meaning.specs.Correspondences.{atoms_of, leaf_names}

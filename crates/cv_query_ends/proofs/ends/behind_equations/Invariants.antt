@@ -1,6 +1,6 @@
 use Rattle.std.proofs.Common.{◌≡◌, ◌+◌, drop, length}
 use Rattle.cv_pool.specs.Nodes.{ChildBelow}
-use Rattle.cv_syntax.specs.Tree.{tree_at}
+use Rattle.cv_syntax.specs.PoolTrees.{tree_at}
 use Rattle.cv_derivations.specs.Lines.{lines_of, statements}
 use Rattle.cv_query_terms.specs.Parts.{left_of, part_tree}
 use Rattle.cv_query_ends.specs.Said.{said_equal}

@@ -1,5 +1,5 @@
 use Rattle.std.proofs.Common.{◌≡◌, ◌≤◌, ◌<◌, ◌∷◌, Some, suc, drop, length, refl, ap, sym, arith, ◌∙◌}
-use Rattle.cv_syntax.specs.Tree.{tree_at}
+use Rattle.cv_syntax.specs.PoolTrees.{tree_at}
 use Rattle.cv_syntax.proofs.Trees.{empty_at}
 use Rattle.cv_derivations.specs.Ends.{is_end, same_statements}
 use Rattle.cv_derivations.specs.Lines.{IsDefined, lines_of, statements}

@@ -1,6 +1,6 @@
 use Rattle.std.proofs.Common.{ap}
 use Rattle.std.specs.Prelude.{option_map}
-use Rattle.cv_syntax.specs.Tree.{tree_at}
+use Rattle.cv_syntax.specs.PoolTrees.{tree_at}
 use Rattle.cv_derive_inferences.specs.Sides.{both_at}
 use Rattle.cv_derive_lines.specs.Views.{statement_of}
 use Rattle.cv_query_terms.specs.Parts.{part_tree}

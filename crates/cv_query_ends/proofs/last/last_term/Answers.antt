@@ -1,5 +1,5 @@
 use Rattle.std.proofs.Common.{◌≡◌, ◌≤◌, ◌∷◌, [], Some, suc, refl, drop, length, ap, sym, arith, ◌∙◌}
-use Rattle.cv_syntax.specs.Tree.{tree_at}
+use Rattle.cv_syntax.specs.PoolTrees.{tree_at}
 use Rattle.cv_syntax.proofs.Trees.{child_live, empty_at}
 use Rattle.cv_derivations.specs.Ends.{is_end, same_statement}
 use Rattle.cv_derivations.specs.Lines.{Holds, lines_of, statements}

@@ -1,7 +1,7 @@
 use Rattle.std.proofs.Common.{◌≡◌, ◌+◌, ◌++◌, ◌∷◌, [], take, arith, ap, sym, ◌∙◌}
 use Rattle.std.specs.Vec.{vec_len}
 use Rattle.cv_syntax.specs.Declarations.{declarations}
-use Rattle.cv_syntax.specs.Tree.{tree_at}
+use Rattle.cv_syntax.specs.PoolTrees.{tree_at}
 use Rattle.cv_directory.specs.Definitions.{large_in}
 use Rattle.cv_directory.specs.Tables.{entries_in}
 use Rattle.cv_derive_cells.specs.Only.{replications_by}

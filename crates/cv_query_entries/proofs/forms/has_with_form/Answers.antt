@@ -1,5 +1,6 @@
 use Rattle.std.proofs.Common.{refl, ap, ◌∙◌}
-use Rattle.cv_syntax.specs.Tree.{first, tree_at}
+use Rattle.cv_syntax_trees.specs.Tree.{first}
+use Rattle.cv_syntax.specs.PoolTrees.{tree_at}
 use Rattle.cv_query_entries.specs.Views.{asked_of, scene_of, trees_of}
 use Rattle.cv_query_entries.proofs.Formed.{with-few, with-others, with-routes}
 use Rattle.cv_query_entries.proofs.forms.has_with_form.Goals as goal

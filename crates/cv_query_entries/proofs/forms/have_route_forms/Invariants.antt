@@ -1,6 +1,6 @@
 use Rattle.std.proofs.Common.{◌≡◌, length}
 use Rattle.cv_pool.specs.Nodes.{ChildBelow}
-use Rattle.cv_syntax.specs.Tree.{tree_at}
+use Rattle.cv_syntax.specs.PoolTrees.{tree_at}
 use Rattle.cv_syntax.specs.Walks.{above}
 use Rattle.cv_meaning.specs.Correspondences.{atoms_of}
 use Rattle.cv_query_certificates.specs.Forms.{have_route_forms}

@@ -1,5 +1,6 @@
 use Rattle.std.proofs.Common.{rules, ◌≡◌, ◌+◌, ◌<◌, arith, ap, length, ◌∙◌}
-use Rattle.cv_syntax.specs.Tree.{second_place, size, tree_at}
+use Rattle.cv_syntax_trees.specs.Tree.{second_place, size}
+use Rattle.cv_syntax.specs.PoolTrees.{tree_at}
 use Rattle.cv_syntax.specs.Walks.{above}
 use Rattle.cv_syntax.proofs.Trees.{child_above, child_live, empty_at, node_at}
 use Rattle.cv_syntax.proofs.Walking.{above-child, above-some, size-at, size-end}

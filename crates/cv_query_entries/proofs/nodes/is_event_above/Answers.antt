@@ -1,5 +1,5 @@
 use Rattle.std.proofs.Common.{◌≡◌, ◌+◌, ◌-◌, Some, arith, ap₂, sym, ◌∙◌}
-use Rattle.cv_syntax.specs.Tree.{tree_at}
+use Rattle.cv_syntax.specs.PoolTrees.{tree_at}
 use Rattle.cv_syntax.proofs.Walking.{size-node}
 use Rattle.cv_query_certificates.specs.EventNodes.{is_behind}
 use Rattle.cv_query_entries.proofs.Places.{subtree-size, that-part}

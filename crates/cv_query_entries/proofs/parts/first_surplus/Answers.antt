@@ -1,5 +1,5 @@
 use Rattle.std.proofs.Common.{length, ◌∙◌}
-use Rattle.cv_syntax.specs.Tree.{tree_at}
+use Rattle.cv_syntax.specs.PoolTrees.{tree_at}
 use Rattle.cv_syntax.proofs.Trees.{child_live, node_at}
 use Rattle.cv_query_entries.proofs.Formed.{surplus-more}
 use Rattle.cv_query_entries.proofs.parts.first_surplus.Goals as goal

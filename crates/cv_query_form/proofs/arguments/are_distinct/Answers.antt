@@ -1,5 +1,5 @@
 use Rattle.std.proofs.Common.{length, ap, sym, ◌∙◌}
-use Rattle.cv_syntax.specs.Tree.{tree_at}
+use Rattle.cv_syntax.specs.PoolTrees.{tree_at}
 use Rattle.cv_syntax.specs.NameSets.{is_in}
 use Rattle.cv_syntax.proofs.Trees.{child_live, node_at}
 use Rattle.cv_query_form.specs.Tests.{are_distinct}

@@ -1,7 +1,7 @@
 use Rattle.std.proofs.Common.{◌∙◌}
-use Rattle.cv_syntax.specs.Tree.{tree_at}
+use Rattle.cv_syntax.specs.PoolTrees.{tree_at}
 use Rattle.cv_syntax.specs.NameSets.{is_in}
-use Rattle.cv_syntax.specs.Children.{is_empty}
+use Rattle.cv_syntax_trees.specs.Children.{is_empty}
 use Rattle.cv_syntax.proofs.Trees.{node_at}
 use Rattle.cv_query_form.specs.Tests.{are_distinct}
 use Rattle.cv_query_form.proofs.Parts.{and-here, and-nowhere, event-end, event-other, event-passes, none-empty}

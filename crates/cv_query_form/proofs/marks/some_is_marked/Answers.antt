@@ -1,5 +1,5 @@
 use Rattle.std.proofs.Common.{length, sym, ◌∙◌}
-use Rattle.cv_syntax.specs.Tree.{tree_at}
+use Rattle.cv_syntax.specs.PoolTrees.{tree_at}
 use Rattle.cv_syntax.proofs.Trees.{child_live, node_at}
 use Rattle.cv_query_form.proofs.Parts.{marked-end, marked-step, or-false, or-true}
 use Rattle.cv_query_form.proofs.marks.some_is_marked.Goals as goal

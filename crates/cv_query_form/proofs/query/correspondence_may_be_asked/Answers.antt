@@ -1,5 +1,5 @@
 use Rattle.std.proofs.Common.{sym, ◌∙◌}
-use Rattle.cv_syntax.specs.Tree.{tree_at}
+use Rattle.cv_syntax.specs.PoolTrees.{tree_at}
 use Rattle.cv_syntax.specs.NameSets.{is_in}
 use Rattle.cv_syntax.proofs.Trees.{node_at}
 use Rattle.cv_query_form.proofs.Parts.{events-end, events-marked, events-refused}

@@ -1,6 +1,6 @@
 use Rattle.std.proofs.Common.{◌≡◌, ◌&&◌, ◌∙◌, Some, refl}
-use Rattle.cv_syntax.specs.Tree.{tree_at}
-use Rattle.cv_syntax.specs.Children.{is_empty}
+use Rattle.cv_syntax.specs.PoolTrees.{tree_at}
+use Rattle.cv_syntax_trees.specs.Children.{is_empty}
 use Rattle.cv_directory.specs.Tables.{seen}
 use Rattle.cv_query_form.specs.Held.{correspondence_passes, valued}
 use Rattle.cv_query_form.specs.Tests.{passes}

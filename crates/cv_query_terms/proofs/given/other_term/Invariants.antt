@@ -1,6 +1,6 @@
 use Rattle.std.proofs.Common.{◌≡◌, length, drop}
 use Rattle.cv_pool.specs.Nodes.{ChildBelow}
-use Rattle.cv_syntax.specs.Tree.{tree_at}
+use Rattle.cv_syntax.specs.PoolTrees.{tree_at}
 use Rattle.cv_derivations.specs.Given.{term_for}
 use Rattle.cv_query_terms.specs.Given.{names_in}
 use Rattle.cv_query_terms.proofs.given.other_term.Given as goal

@@ -1,5 +1,5 @@
 use Rattle.std.proofs.Common.{rules, ◌∙◌}
-use Rattle.cv_syntax.specs.Tree.{tree_at}
+use Rattle.cv_syntax.specs.PoolTrees.{tree_at}
 use Rattle.cv_syntax.proofs.Trees.{empty_at, node_at}
 use Rattle.cv_query_terms.proofs.Reading.{reads-end, reads-more}
 use Rattle.cv_query_terms.proofs.sides.+add_reads.Goals as goal

@@ -1,6 +1,7 @@
 use Rattle.std.proofs.Common.{◌<◌, ◌^◌, List, length, None, sym, subst, arith}
 use Rattle.cv_pool.specs.KindTree.{KindTree}
-use Rattle.cv_syntax.specs.Tree.{Empty, tree_at}
+use Rattle.cv_syntax_trees.specs.Tree.{Empty}
+use Rattle.cv_syntax.specs.PoolTrees.{tree_at}
 use Rattle.cv_syntax.proofs.Trees.{tree_at-None}
 use Rattle.cv_derivations.specs.Lines.{lines_of, statements}
 use Rattle.cv_rule.proofs.lines.bad_line.Goals as goal

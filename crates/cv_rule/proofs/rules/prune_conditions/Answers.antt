@@ -1,5 +1,5 @@
 use Rattle.std.proofs.Common.{sym, ◌∙◌}
-use Rattle.cv_syntax.specs.Tree.{tree_at}
+use Rattle.cv_syntax.specs.PoolTrees.{tree_at}
 use Rattle.cv_draw_pruning.specs.Bodies.{part_of}
 use Rattle.cv_rule_scenes.specs.Kept.{scene_of}
 use Rattle.cv_rule.proofs.Rowed.{no-body, no-falsity, no-pruning-line, prune-holds}

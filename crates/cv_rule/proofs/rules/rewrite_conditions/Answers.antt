@@ -1,5 +1,5 @@
 use Rattle.std.proofs.Common.{Some, sym, ◌∙◌}
-use Rattle.cv_syntax.specs.Tree.{tree_at}
+use Rattle.cv_syntax.specs.PoolTrees.{tree_at}
 use Rattle.cv_rule_scenes.specs.Kept.{scene_of}
 use Rattle.cv_rule.proofs.Rowed.{has_sort, is_equality, no-end, no-line, no-place, no-sort, rewritable, rewrite-holds}
 use Rattle.cv_rule.proofs.rules.rewrite_conditions.Goals as goal

@@ -1,5 +1,5 @@
 use Rattle.std.proofs.Common.{Some, None, refl}
-use Rattle.cv_syntax.specs.Tree.{tree_at}
+use Rattle.cv_syntax.specs.PoolTrees.{tree_at}
 use Rattle.cv_steps.specs.Changes.{change_at, split_process}
 use Rattle.cv_steps.specs.Rows.{Leads, unless}
 use Rattle.cv_scenes.specs.Scenes.{is_output_at}

@@ -1,5 +1,5 @@
 use Rattle.std.proofs.Common.{Some}
-use Rattle.cv_syntax.specs.Tree.{tree_at}
+use Rattle.cv_syntax.specs.PoolTrees.{tree_at}
 use Rattle.cv_scenes.specs.Scenes.{has_place}
 use Rattle.cv_scenes.specs.Terms.{is_term_at}
 use Rattle.cv_rule_scenes.specs.Kept.{scene_of}

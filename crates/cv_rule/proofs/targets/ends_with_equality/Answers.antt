@@ -1,7 +1,8 @@
 use Rattle.std.proofs.Common.{Some, ap, ◌∙◌}
 use Rattle.std.specs.Prelude.{option_map}
-use Rattle.cv_syntax.specs.declared.head.Head.TheVariants.{Eq}
-use Rattle.cv_syntax.specs.Tree.{Node, tree_at}
+use Rattle.cv_syntax_trees.specs.declared.head.Head.TheVariants.{Eq}
+use Rattle.cv_syntax_trees.specs.Tree.{Node}
+use Rattle.cv_syntax.specs.PoolTrees.{tree_at}
 use Rattle.cv_derive_lines.specs.Views.{statement_of}
 use Rattle.cv_rule.proofs.Endings.{ends-nowhere, ends-so, ends-with-cell}
 use Rattle.cv_rule.proofs.targets.ends_with_equality.Goals as goal

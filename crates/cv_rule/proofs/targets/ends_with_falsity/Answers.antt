@@ -1,6 +1,6 @@
 use Rattle.std.proofs.Common.{Some, ap, ◌∙◌}
 use Rattle.std.specs.Prelude.{option_map}
-use Rattle.cv_syntax.specs.Tree.{tree_at}
+use Rattle.cv_syntax.specs.PoolTrees.{tree_at}
 use Rattle.cv_derivations.specs.Truths.{no}
 use Rattle.cv_derive_lines.specs.Views.{statement_of}
 use Rattle.cv_rule.proofs.Endings.{ends-nowhere, ends-so, ends-with-cell}

@@ -1,8 +1,8 @@
 use Rattle.std.proofs.Common.{ap, ◌∙◌}
 use Rattle.std.specs.Prelude.{is_some}
 use Rattle.cv_syntax.specs.Declarations.{declarations}
-use Rattle.cv_directory.specs.declared.sort.Sort.TheVariants.{OfType}
-use Rattle.cv_typing.specs.Signature.{Function, function_in}
+use Rattle.cv_directory_sorts.specs.declared.sort.Sort.TheVariants.{OfType}
+use Rattle.cv_typing_rules.specs.Signature.{Function, function_in}
 use Rattle.cv_rule_scenes.proofs.Whole.{some-mapped}
 use Rattle.cv_rule_scenes.proofs.games.is_function.Goals as goal
 

@@ -1,6 +1,6 @@
 use Rattle.std.specs.Prelude.{is_some}
 use Rattle.cv_syntax.specs.Declarations.{declarations}
-use Rattle.cv_typing.specs.Signature.{function_in}
+use Rattle.cv_typing_rules.specs.Signature.{function_in}
 use Rattle.cv_rule_scenes.specs.Kept.{has_index_name, has_variable}
 use Rattle.cv_rule_scenes.proofs.Tests.{either-first, either-second, either-third}
 use Rattle.cv_rule_scenes.proofs.games.is_name_there.Goals as goal

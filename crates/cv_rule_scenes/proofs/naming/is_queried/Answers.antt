@@ -1,7 +1,7 @@
 use Rattle.std.proofs.Common.{◌<◌, ◌≤◌, ◌+◌, length, drop, Some, ap, sym, ◌∙◌, arith}
 use Rattle.std.specs.List.{list_any}
 use Rattle.cv_syntax.specs.Declarations.{declarations}
-use Rattle.cv_syntax.specs.Tree.{tree_at}
+use Rattle.cv_syntax.specs.PoolTrees.{tree_at}
 use Rattle.cv_meaning.specs.Queries.{queries_in}
 use Rattle.cv_query_form.proofs.Parts.{queries-past, queries-skip, queries-take, query-below}
 use Rattle.cv_scenes.specs.Scenes.{asks_for}

@@ -2,7 +2,8 @@ use Rattle.std.proofs.Common.{◌≡◌, List, Option, Some, None, refl, ap, ◌
 use Rattle.std.specs.Prelude.{option_map}
 use Rattle.cv_pool.specs.KindTree.{KindTree}
 use Rattle.cv_pool.specs.declared.node.NodeId.{NodeId}
-use Rattle.cv_syntax.specs.Tree.{Tree, Empty, tree_at}
+use Rattle.cv_syntax_trees.specs.Tree.{Tree, Empty}
+use Rattle.cv_syntax.specs.PoolTrees.{tree_at}
 use Rattle.cv_syntax.proofs.Trees.{tree_at-None}
 use Rattle.cv_scenes.specs.Scenes.{or_empty}
 use Rattle.cv_rule_scenes.proofs.places.part_at.Goals as goal

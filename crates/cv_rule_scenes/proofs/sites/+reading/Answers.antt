@@ -1,9 +1,10 @@
 use Rattle.std.proofs.Common.{rules, ◌+◌, ◌<◌, arith, ap, length, sym, ◌∙◌}
-use Rattle.cv_syntax.specs.Tree.{first_place, second_place, size, tree_at}
+use Rattle.cv_syntax_trees.specs.Tree.{first_place, second_place, size}
+use Rattle.cv_syntax.specs.PoolTrees.{tree_at}
 use Rattle.cv_syntax.specs.Walks.{above}
 use Rattle.cv_syntax.proofs.Trees.{child_above, child_live, empty_at, node_at}
 use Rattle.cv_syntax.proofs.Walking.{above-child, above-some, size-at, size-end}
-use Rattle.cv_directory.specs.Sites.{first_of}
+use Rattle.cv_directory_sorts.specs.Sites.{first_of}
 use Rattle.cv_scenes.specs.Scenes.{first_reading, head_reads}
 use Rattle.cv_rule_scenes.proofs.Tested.{reading-end, reading-node, reads-first, reads-here, reads-rest}
 use Rattle.cv_rule_scenes.proofs.sites.+reading.Goals as goal

@@ -1,10 +1,10 @@
 use Rattle.std.proofs.Common.{rules, arith, ap, sym, ◌∙◌, Some}
-use Rattle.cv_syntax.specs.Tree.{tree_at}
+use Rattle.cv_syntax.specs.PoolTrees.{tree_at}
 use Rattle.cv_syntax.proofs.Trees.{empty_at}
 use Rattle.cv_syntax.proofs.Walking.{size-node}
 use Rattle.cv_typing.specs.Tables.{above_of}
 use Rattle.cv_typing.proofs.Files.{nothing-bound}
-use Rattle.cv_typing.specs.Parts.{nothing_above}
+use Rattle.cv_typing_rules.specs.Parts.{nothing_above}
 use Rattle.cv_rule_scenes.specs.Kept.{above_behind}
 use Rattle.cv_rule_scenes.proofs.Above.{above_to, to-behind, to-game, to-here, to-nothing, to-within}
 use Rattle.cv_rule_scenes.proofs.terms.indices_at.Goals as goal

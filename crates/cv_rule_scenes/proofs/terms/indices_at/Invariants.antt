@@ -1,8 +1,9 @@
 use Rattle.std.proofs.Common.{◌≡◌, ◌+◌, ◌≤◌, Some}
 use Rattle.cv_pool.specs.Nodes.{ChildBelow}
-use Rattle.cv_syntax.specs.Tree.{size, tree_at}
+use Rattle.cv_syntax_trees.specs.Tree.{size}
+use Rattle.cv_syntax.specs.PoolTrees.{tree_at}
 use Rattle.cv_syntax.specs.Walks.{above}
-use Rattle.cv_typing.specs.Parts.{nothing_above}
+use Rattle.cv_typing_rules.specs.Parts.{nothing_above}
 use Rattle.cv_typing.specs.Tables.{above_of}
 use Rattle.cv_rule_scenes.proofs.Above.{above_to}
 use Rattle.cv_rule_scenes.proofs.terms.indices_at.Given as goal

@@ -1,8 +1,8 @@
 use Rattle.std.proofs.Common.{Some, ap₂, ap, ◌∙◌}
 use Rattle.cv_syntax.specs.Declarations.{declarations}
-use Rattle.cv_syntax.specs.Tree.{tree_at}
-use Rattle.cv_typing.specs.Signature.{Above, boolean, sort_of}
-use Rattle.cv_typing.specs.Signature as signature
+use Rattle.cv_syntax.specs.PoolTrees.{tree_at}
+use Rattle.cv_typing_rules.specs.Signature.{Above, boolean, sort_of}
+use Rattle.cv_typing_rules.specs.Signature as signature
 use Rattle.cv_scenes.specs.Terms.{is_sort}
 use Rattle.cv_rule_scenes.proofs.terms.is_bool_at.Goals as goal
 

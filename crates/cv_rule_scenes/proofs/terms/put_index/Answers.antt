@@ -1,4 +1,4 @@
-use Rattle.cv_directory.specs.declared.sort.Sort.TheVariants.{BelowParameter}
+use Rattle.cv_directory_sorts.specs.declared.sort.Sort.TheVariants.{BelowParameter}
 use Rattle.cv_typing.proofs.Removals.{inserted}
 use Rattle.cv_rule_scenes.proofs.terms.put_index.Goals as goal
 

@@ -1,7 +1,7 @@
 use Rattle.std.proofs.Common.{ap, sym, subst, length, Some}
 use Rattle.std.proofs.lemmas.Result.{err_from_is_err_and}
 use Rattle.cv_syntax.specs.Declarations.{declarations}
-use Rattle.cv_syntax.specs.Tree.{tree_at}
+use Rattle.cv_syntax.specs.PoolTrees.{tree_at}
 use Rattle.cv_scope.specs.Held.{names_held, state_held}
 use Rattle.cv_scope_rules.specs.Ranges.{EndBy}
 use Rattle.cv_scope.proofs.Agreeing.{game-refusal, no-game-fault, refused-game, scoped-game}

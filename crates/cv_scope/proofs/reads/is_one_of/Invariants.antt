@@ -1,6 +1,7 @@
 use Rattle.std.proofs.Common.{◌≡◌, drop, Some}
 use Rattle.std.specs.List.{list_any}
-use Rattle.cv_syntax.specs.Tree.{same_tree, tree_at}
+use Rattle.cv_syntax_trees.specs.Tree.{same_tree}
+use Rattle.cv_syntax.specs.PoolTrees.{tree_at}
 use Rattle.cv_scope.specs.Held.{cells_held}
 use Rattle.cv_scope.proofs.reads.is_one_of.Given as goal
 

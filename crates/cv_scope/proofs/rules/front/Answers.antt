@@ -1,5 +1,5 @@
 use Rattle.std.proofs.Common.{ap, sym, ◌∙◌}
-use Rattle.cv_syntax.specs.Tree.{first}
+use Rattle.cv_syntax_trees.specs.Tree.{first}
 use Rattle.cv_syntax.proofs.Trees.{empty_at, tree_at-None}
 use Rattle.cv_scope.proofs.rules.front.Goals as goal
 

@@ -1,8 +1,8 @@
 use Rattle.std.proofs.Common.{◌≡◌, ◌<◌, ◌+◌, length}
 use Rattle.cv_pool.specs.Nodes.{ChildBelow}
-use Rattle.cv_syntax.specs.Tree.{tree_at}
+use Rattle.cv_syntax.specs.PoolTrees.{tree_at}
 use Rattle.cv_syntax.specs.Walks.{above}
-use Rattle.cv_directory.specs.Counting.{count}
+use Rattle.cv_directory_sorts.specs.Counting.{count}
 use Rattle.cv_scope.proofs.rules.has_few.Given as goal
 
 abbrev pub invariant-list : goal.invariant-list

@@ -1,5 +1,5 @@
 use Rattle.std.proofs.Common.{ap, sym, ◌∙◌}
-use Rattle.cv_syntax.specs.Tree.{tree_at}
+use Rattle.cv_syntax.specs.PoolTrees.{tree_at}
 use Rattle.cv_scope.specs.Held.{last_held, names_held}
 use Rattle.cv_scope_rules.specs.Rules.{carries_current}
 use Rattle.cv_scope.specs.Seen.{is_well_replicated}

@@ -1,5 +1,5 @@
 use Rattle.std.proofs.Common.{◌∙◌}
-use Rattle.cv_syntax.specs.Tree.{tree_at}
+use Rattle.cv_syntax.specs.PoolTrees.{tree_at}
 use Rattle.cv_syntax.proofs.Trees.{empty_at}
 use Rattle.cv_scope.proofs.Comparing.{carries-end}
 use Rattle.cv_scope.proofs.terms.carries.Goals as goal

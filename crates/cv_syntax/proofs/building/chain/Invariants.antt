@@ -2,7 +2,8 @@ use Rattle.std.proofs.Common.{◌≡◌, ◌+◌, ◌≤◌, drop, length}
 use Rattle.cv_syntax.specs.Layouts.{trees_of}
 use Rattle.cv_pool.specs.Nodes.{ChildBelow}
 use Rattle.cv_pool.specs.PoolView.{Grows}
-use Rattle.cv_syntax.specs.Tree.{chain, tree_at}
+use Rattle.cv_syntax_trees.specs.Tree.{chain}
+use Rattle.cv_syntax.specs.PoolTrees.{tree_at}
 use Rattle.cv_syntax.proofs.building.chain.Given as goal
 
 abbrev pub invariant-items : goal.invariant-items

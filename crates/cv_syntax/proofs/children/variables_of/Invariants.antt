@@ -1,8 +1,8 @@
 use Rattle.std.proofs.Common.{◌≡◌, ◌||◌, ℕ, length}
 use Rattle.cv_pool.specs.Nodes.{ChildBelow}
-use Rattle.cv_syntax.specs.Tree.{tree_at}
+use Rattle.cv_syntax.specs.PoolTrees.{tree_at}
 use Rattle.cv_syntax.specs.Walks.{above}
-use Rattle.cv_syntax.specs.Tree.{bound_names}
+use Rattle.cv_syntax_trees.specs.Tree.{bound_names}
 use Rattle.cv_syntax.specs.NameSets.{is_in, is_one_of}
 use Rattle.cv_syntax.proofs.children.variables_of.Given as goal
 

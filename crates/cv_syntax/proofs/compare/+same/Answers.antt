@@ -1,6 +1,7 @@
 use Rattle.std.proofs.Common.{◌≡◌, true, Some, ap, sym, ◌∙◌, subst, eqb-true}
-use Rattle.cv_syntax.specs.Tree.{same_tree, tree_at}
-use Rattle.cv_syntax.proofs.Sames.{same_tree-self}
+use Rattle.cv_syntax_trees.specs.Tree.{same_tree}
+use Rattle.cv_syntax.specs.PoolTrees.{tree_at}
+use Rattle.cv_syntax_trees.proofs.Equality.{same_tree-self}
 use Rattle.cv_syntax.proofs.compare.+same.Goals as goal
 
 pub returns-then-eq : goal.returns-then-eq

@@ -1,5 +1,5 @@
 use Rattle.std.proofs.Common.{arith, ◌<◌, length, ap, sym, ◌∙◌}
-use Rattle.cv_syntax.specs.Classes.{name_in}
+use Rattle.cv_syntax_trees.specs.Tree.{name_in}
 use Rattle.cv_syntax.proofs.Indexed.{name-here, name-next, name-end, name-other}
 use Rattle.cv_syntax.proofs.Walking.{below-some, live-child}
 use Rattle.cv_syntax.proofs.decls.name.Goals as goal

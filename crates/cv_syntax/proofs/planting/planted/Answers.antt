@@ -2,7 +2,7 @@ use Rattle.std.proofs.Common.{arith, length, map, reverse, drop, ap, sym, ◌∙
 use Rattle.std.proofs.lemmas.List.{reverse-reverse}
 use Rattle.cv_pool.specs.PoolView.{PoolView, Grows}
 use Rattle.cv_syntax.specs.Planting.{overs}
-use Rattle.cv_syntax.specs.Tree.{tree_at}
+use Rattle.cv_syntax.specs.PoolTrees.{tree_at}
 use Rattle.cv_pool.proofs.Growth.{Grows-trans}
 use Rattle.cv_syntax.proofs.Plantings.{step-nothing, step-over, step-live, overs-nothing, overs-over, made-all}
 use Rattle.cv_syntax.proofs.planting.planted.Goals as goal

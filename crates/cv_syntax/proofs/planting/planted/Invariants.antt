@@ -4,7 +4,7 @@ use Rattle.cv_pool.specs.Nodes.{ChildBelow}
 use Rattle.cv_syntax.specs.Planting.{overs}
 use Rattle.cv_pool.specs.PoolView.{Grows}
 use Rattle.cv_syntax.specs.Postorder.{made}
-use Rattle.cv_syntax.specs.Tree.{tree_at}
+use Rattle.cv_syntax.specs.PoolTrees.{tree_at}
 use Rattle.cv_syntax.proofs.planting.planted.Given as goal
 
 abbrev pub invariant-loop-make : goal.invariant-loop-make

@@ -1,5 +1,6 @@
 use Rattle.std.proofs.Common.{rules, arith, max, ◌≡◌, ◌+◌, ◌<◌, Some}
-use Rattle.cv_syntax.specs.Tree.{depth, tree_at}
+use Rattle.cv_syntax_trees.specs.Tree.{depth}
+use Rattle.cv_syntax.specs.PoolTrees.{tree_at}
 use Rattle.cv_syntax.proofs.Walking.{size-at, size-same, depth-at, depth-same, depth-end, depth-le-size, below-some}
 use Rattle.cv_syntax.proofs.walk.+depth.Goals as goal
 use Rattle.cv_syntax.proofs.walk.+depth.Goals.{in-Some-first, in-None}

@@ -1,6 +1,7 @@
 use Rattle.std.proofs.Common.{arith, length, sym, ap, subst, ◌≡◌, ◌-◌, ◌<◌, Ok, Err, List}
-use Rattle.cv_syntax.specs.Head.{weight}
-use Rattle.cv_syntax.specs.Tree.{Tree, tops, tree_at}
+use Rattle.cv_syntax_trees.specs.Head.{weight}
+use Rattle.cv_syntax_trees.specs.Tree.{Tree, tops}
+use Rattle.cv_syntax.specs.PoolTrees.{tree_at}
 use Rattle.cv_syntax.specs.Walks.{above, Reaches}
 use Rattle.cv_syntax.proofs.Walking.{reach-here, reach-past, reach-left, reach-right, tops-at, tops-end, above-child, above-some, below-some, live-child}
 use Rattle.cv_syntax.proofs.walk.+top.Goals as goal

@@ -2,8 +2,8 @@ use Rattle.std.proofs.Common.{◌≤◌, ℕ, length}
 use Rattle.std.specs.Prelude.{Result}
 use Rattle.cv_pool.specs.declared.node.NodeId.{NodeId}
 use Rattle.cv_pool.specs.Nodes.{ChildBelow}
-use Rattle.cv_syntax.specs.Tree as tree
-use Rattle.cv_syntax.specs.Tree.{tree_at}
+use Rattle.cv_syntax_trees.specs.Tree as tree
+use Rattle.cv_syntax.specs.PoolTrees.{tree_at}
 use Rattle.cv_syntax.specs.Walks.{above, Reaches}
 use Rattle.cv_syntax.proofs.walk.+top.Given as goal
 

@@ -1,5 +1,5 @@
 use Rattle.std.proofs.Common.{refl}
-use Rattle.cv_syntax.specs.Tree.{tree_at}
+use Rattle.cv_syntax.specs.PoolTrees.{tree_at}
 use Rattle.cv_typing.specs.Tables.{above_of}
 use Rattle.cv_typing.proofs.Removals.{names-other}
 use Rattle.cv_typing.proofs.above.bind_node.Goals as goal

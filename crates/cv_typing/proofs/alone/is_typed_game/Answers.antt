@@ -1,8 +1,8 @@
 use Rattle.std.proofs.Common.{[], ◌∷◌, Some, length, ◌∙◌}
 use Rattle.cv_syntax.specs.Declarations.{declarations}
-use Rattle.cv_syntax.specs.Tree.{tree_at}
-use Rattle.cv_typing.specs.Parts.{first_in, game_part}
-use Rattle.cv_typing.proofs.Single.{fault-there, none-there, part-alone}
+use Rattle.cv_syntax.specs.PoolTrees.{tree_at}
+use Rattle.cv_typing_rules.specs.Parts.{first_in, game_part}
+use Rattle.cv_typing_rules.proofs.Single.{fault-there, none-there, part-alone}
 use Rattle.cv_typing.proofs.Files.{arguments-live}
 use Rattle.cv_typing.proofs.alone.is_typed_game.Goals as goal
 

@@ -1,10 +1,10 @@
 use Rattle.std.proofs.Common.{Some, length}
-use Rattle.cv_syntax.specs.Tree.{tree_at}
+use Rattle.cv_syntax.specs.PoolTrees.{tree_at}
 use Rattle.cv_typing.specs.Lookups.{signature_in}
 use Rattle.cv_typing.specs.Tables.{above_of}
-use Rattle.cv_typing.specs.Typing.{first_fault}
-use Rattle.cv_typing.specs.Wants.{AnyTerm}
-use Rattle.cv_typing.proofs.Single.{fault-there, none-there}
+use Rattle.cv_typing_rules.specs.Typing.{first_fault}
+use Rattle.cv_typing_rules.specs.Wants.{AnyTerm}
+use Rattle.cv_typing_rules.proofs.Single.{fault-there, none-there}
 use Rattle.cv_typing.proofs.Files.{arguments-live}
 use Rattle.cv_typing.proofs.alone.is_typed_term.Goals as goal
 

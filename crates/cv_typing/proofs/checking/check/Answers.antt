@@ -1,7 +1,7 @@
 use Rattle.std.proofs.Common.{Some}
 use Rattle.cv_syntax.specs.Declarations.{declarations}
-use Rattle.cv_syntax.specs.Tree.{tree_at}
-use Rattle.cv_typing.specs.Parts.{file_parts}
+use Rattle.cv_syntax.specs.PoolTrees.{tree_at}
+use Rattle.cv_typing_rules.specs.Parts.{file_parts}
 use Rattle.cv_typing.proofs.Files.{first-refusals}
 use Rattle.cv_typing.proofs.Sides.{file-typed}
 use Rattle.cv_typing.proofs.checking.check.Goals as goal

@@ -1,8 +1,8 @@
 use Rattle.std.proofs.Common.{[], ◌∷◌, Some, Ok, Err, length}
 use Rattle.std.proofs.lemmas.Result.{err_from_is_err_and}
 use Rattle.cv_syntax.specs.Declarations.{declarations}
-use Rattle.cv_syntax.specs.Tree.{tree_at}
-use Rattle.cv_typing.specs.Parts.{game_part}
+use Rattle.cv_syntax.specs.PoolTrees.{tree_at}
+use Rattle.cv_typing_rules.specs.Parts.{game_part}
 use Rattle.cv_typing.proofs.Files.{arguments-live, first-refusals, game-typed}
 use Rattle.cv_typing.proofs.checking.check_game.Goals as goal
 

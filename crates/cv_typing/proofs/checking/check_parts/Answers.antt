@@ -2,9 +2,9 @@ use Rattle.std.proofs.Common.{◌+◌, length, ap, sym, ◌∙◌, arith, Some}
 use Rattle.std.specs.Option.{option_copied}
 use Rattle.std.proofs.lemmas.Result.{err_from_is_err_and}
 use Rattle.cv_syntax.specs.Declarations.{declarations, declared}
-use Rattle.cv_syntax.specs.Tree.{tree_at}
-use Rattle.cv_typing.specs.Parts.{declaration_parts, first_in}
-use Rattle.cv_typing.specs.Refusals.{parts_size}
+use Rattle.cv_syntax.specs.PoolTrees.{tree_at}
+use Rattle.cv_typing_rules.specs.Parts.{declaration_parts, first_in}
+use Rattle.cv_typing_rules.specs.Refusals.{parts_size}
 use Rattle.cv_typing.proofs.Bodies.{behind-typed, refused-before, size-append}
 use Rattle.cv_typing.proofs.Files.{arguments-live}
 use Rattle.cv_typing.proofs.Sides.{file-start, file-step, live-at, rest-parts}

@@ -1,9 +1,9 @@
 use Rattle.std.proofs.Common.{length, ap₂, sym, ◌∙◌}
-use Rattle.cv_syntax.specs.Tree.{tree_at}
-use Rattle.cv_directory.specs.Sites.{binder_sort}
+use Rattle.cv_syntax.specs.PoolTrees.{tree_at}
+use Rattle.cv_directory_sorts.specs.Sites.{binder_sort}
 use Rattle.cv_typing.specs.Tables.{arrays_of}
-use Rattle.cv_directory.specs.Sorts.{differs_from}
-use Rattle.cv_typing.proofs.Differences.{differ-end, differ-skip, differ-step, or-false, or-true}
+use Rattle.cv_directory_sorts.specs.Sorts.{differs_from}
+use Rattle.cv_typing_rules.proofs.Differences.{differ-end, differ-skip, differ-step, or-false, or-true}
 use Rattle.cv_syntax.proofs.Trees.{child_live, empty_at, node_at}
 use Rattle.cv_typing.proofs.faults.binders_differ.Goals as goal
 

@@ -1,10 +1,10 @@
 use Rattle.std.proofs.Common.{◌≡◌, length}
 use Rattle.cv_pool.specs.Nodes.{ChildBelow}
-use Rattle.cv_syntax.specs.Tree.{tree_at}
+use Rattle.cv_syntax.specs.PoolTrees.{tree_at}
 use Rattle.cv_syntax.specs.Walks.{above}
-use Rattle.cv_directory.specs.Sites.{binder_sort}
+use Rattle.cv_directory_sorts.specs.Sites.{binder_sort}
 use Rattle.cv_typing.specs.Tables.{arrays_of}
-use Rattle.cv_typing.specs.Typing.{binders_differ}
+use Rattle.cv_typing_rules.specs.Typing.{binders_differ}
 use Rattle.cv_typing.proofs.faults.binders_differ.Given as goal
 
 abbrev pub invariant-list : goal.invariant-list

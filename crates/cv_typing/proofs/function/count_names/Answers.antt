@@ -1,7 +1,7 @@
 use Rattle.std.proofs.Common.{length, arith, ap}
-use Rattle.cv_syntax.specs.Tree.{tree_at}
+use Rattle.cv_syntax.specs.PoolTrees.{tree_at}
 use Rattle.cv_syntax.proofs.Walking.{above-child, above-some}
-use Rattle.cv_typing.proofs.Counts.{names-end, names-other, names-step}
+use Rattle.cv_typing_rules.proofs.Counts.{names-end, names-other, names-step}
 use Rattle.cv_syntax.proofs.Trees.{child_live, empty_at, node_at}
 use Rattle.cv_typing.proofs.function.count_names.Goals as goal
 

@@ -1,5 +1,5 @@
 use Rattle.std.proofs.Common.{length, ap, sym, ◌∙◌}
-use Rattle.cv_syntax.specs.Tree.{tree_at}
+use Rattle.cv_syntax.specs.PoolTrees.{tree_at}
 use Rattle.cv_typing.specs.Tables.{above_of, with_body}
 use Rattle.cv_typing.proofs.Binding.{body-end, body-step}
 use Rattle.cv_syntax.proofs.Trees.{child_above, child_live, empty_at, node_at}

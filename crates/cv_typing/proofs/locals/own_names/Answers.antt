@@ -1,4 +1,4 @@
-use Rattle.cv_syntax.specs.Tree.{tree_at}
+use Rattle.cv_syntax.specs.PoolTrees.{tree_at}
 use Rattle.cv_typing.specs.Tables.{above_of}
 use Rattle.cv_typing.proofs.Binding.{own-all}
 use Rattle.cv_typing.proofs.Files.{nothing-bound}

@@ -1,9 +1,10 @@
 use Rattle.std.proofs.Common.{◌+◌, drop, length, ap, ◌∙◌, arith}
 use Rattle.std.proofs.lemmas.Result.{err_from_is_err_and}
 use Rattle.cv_syntax.specs.Declarations.{declarations}
-use Rattle.cv_syntax.specs.Tree.{size, tree_at}
+use Rattle.cv_syntax_trees.specs.Tree.{size}
+use Rattle.cv_syntax.specs.PoolTrees.{tree_at}
 use Rattle.cv_syntax.proofs.Walking.{above-child, above-some}
-use Rattle.cv_typing.specs.Parts.{in_function, names_of}
+use Rattle.cv_typing_rules.specs.Parts.{in_function, names_of}
 use Rattle.cv_typing.specs.Tables.{arrays_of}
 use Rattle.cv_typing.proofs.Bodies.{bodies-end, bodies-next, bodies-refused, bodies-size, body-same, in-another, with-arrays}
 use Rattle.cv_syntax.proofs.Trees.{child_live, empty_at, node_at}

@@ -1,10 +1,11 @@
 use Rattle.std.proofs.Common.{◌≡◌, ◌≤◌, ◌+◌, ◌^◌, drop, length}
 use Rattle.cv_pool.specs.Nodes.{ChildBelow}
 use Rattle.cv_syntax.specs.Declarations.{declarations}
-use Rattle.cv_syntax.specs.Tree.{Tree, tree_at}
+use Rattle.cv_syntax_trees.specs.Tree.{Tree}
+use Rattle.cv_syntax.specs.PoolTrees.{tree_at}
 use Rattle.cv_syntax.specs.Walks.{above}
-use Rattle.cv_typing.specs.Parts.{body_parts, first_in, in_function}
-use Rattle.cv_typing.specs.Refusals.{parts_size}
+use Rattle.cv_typing_rules.specs.Parts.{body_parts, first_in, in_function}
+use Rattle.cv_typing_rules.specs.Refusals.{parts_size}
 use Rattle.cv_typing.specs.Tables.{arrays_of}
 use Rattle.cv_typing.proofs.parts.check_bodies.Given as goal
 

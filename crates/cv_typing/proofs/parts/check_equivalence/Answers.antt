@@ -1,9 +1,9 @@
 use Rattle.std.proofs.Common.{◌++◌, Some, ap, ◌∙◌, arith}
 use Rattle.std.proofs.lemmas.Result.{err_from_is_err_and}
 use Rattle.cv_syntax.specs.Declarations.{declarations}
-use Rattle.cv_syntax.specs.Tree.{tree_at}
-use Rattle.cv_typing.specs.Parts.{body_parts, first_in, equivalence_parts}
-use Rattle.cv_typing.specs.Refusals.{parts_size}
+use Rattle.cv_syntax.specs.PoolTrees.{tree_at}
+use Rattle.cv_typing_rules.specs.Parts.{body_parts, first_in, equivalence_parts}
+use Rattle.cv_typing_rules.specs.Refusals.{parts_size}
 use Rattle.cv_typing.specs.Tables.{arrays_of}
 use Rattle.cv_typing.proofs.Bodies.{refused-before, size-append, then-checked}
 use Rattle.cv_typing.proofs.Sides.{checked-as, equivalence-left, equivalence-whole, right-parts}

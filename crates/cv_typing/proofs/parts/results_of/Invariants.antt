@@ -1,9 +1,9 @@
 use Rattle.std.proofs.Common.{◌≡◌, ◌++◌, length}
 use Rattle.cv_pool.specs.Nodes.{ChildBelow}
-use Rattle.cv_syntax.specs.Tree.{tree_at}
+use Rattle.cv_syntax.specs.PoolTrees.{tree_at}
 use Rattle.cv_syntax.specs.Walks.{above}
 use Rattle.cv_typing.specs.Lookups.{signature_in}
-use Rattle.cv_typing.specs.Parts.{results}
+use Rattle.cv_typing_rules.specs.Parts.{results}
 use Rattle.cv_typing.proofs.parts.results_of.Given as goal
 
 abbrev pub invariant-list : goal.invariant-list

@@ -1,13 +1,13 @@
 use Rattle.std.proofs.Common.{refl, Option, ap, ap₂, sym, ◌∙◌}
 use Rattle.std.specs.Prelude.{option_map}
 use Rattle.std.specs.Option.{option_copied}
-use Rattle.cv_directory.specs.declared.sort.Sort.{Sort}
-use Rattle.cv_directory.specs.declared.sort.Sort.TheVariants.{BelowParameter}
+use Rattle.cv_directory_sorts.specs.declared.sort.Sort.{Sort}
+use Rattle.cv_directory_sorts.specs.declared.sort.Sort.TheVariants.{BelowParameter}
 use Rattle.cv_typing.specs.Lookups.{signature_in}
-use Rattle.cv_directory.specs.Sites.{first_of}
+use Rattle.cv_directory_sorts.specs.Sites.{first_of}
 use Rattle.cv_typing.specs.Tables.{above_of, arrays_of}
-use Rattle.cv_typing.specs.Signature.{index_in}
-use Rattle.cv_typing.proofs.Leaves.{leaf-declared}
+use Rattle.cv_typing_rules.specs.Signature.{index_in}
+use Rattle.cv_typing_rules.proofs.Leaves.{leaf-declared}
 use Rattle.cv_typing.proofs.terms.leaf_sort.Goals as goal
 
 pub returns-in-Some-function_sort : goal.returns-in-Some-function_sort

@@ -1,12 +1,12 @@
 use Rattle.std.proofs.Common.{rules, ◌+◌, ◌<◌, length, arith, refl, ap, sym, ◌∙◌}
 use Rattle.std.proofs.lemmas.Result.{err_from_is_err_and}
-use Rattle.cv_syntax.specs.Tree.{tree_at}
+use Rattle.cv_syntax.specs.PoolTrees.{tree_at}
 use Rattle.cv_syntax.specs.Walks.{above as rank}
 use Rattle.cv_syntax.proofs.Walking.{above-child, above-some, size-at, size-end}
 use Rattle.cv_typing.specs.Lookups.{signature_in, want_of}
 use Rattle.cv_typing.specs.Tables.{above_of, restored}
-use Rattle.cv_typing.specs.Wants.{with_names}
-use Rattle.cv_typing.proofs.Steps.{fault-end, fault-parts, names-bound, none-bound, refused-as, refused-first, refused-here}
+use Rattle.cv_typing_rules.specs.Wants.{with_names}
+use Rattle.cv_typing_rules.proofs.Steps.{fault-end, fault-parts, names-bound, none-bound, refused-as, refused-first, refused-here}
 use Rattle.cv_first_fault.proofs.Steps.{skip-two}
 use Rattle.cv_syntax.proofs.Trees.{child_above, child_live, empty_at, node_at}
 use Rattle.cv_typing.proofs.walk.+walk.Goals as goal

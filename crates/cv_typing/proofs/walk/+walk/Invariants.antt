@@ -1,10 +1,11 @@
 use Rattle.std.proofs.Common.{◌≡◌, ◌≤◌, ◌+◌, length}
 use Rattle.cv_pool.specs.Nodes.{ChildBelow}
-use Rattle.cv_syntax.specs.Tree.{size, tree_at}
+use Rattle.cv_syntax_trees.specs.Tree.{size}
+use Rattle.cv_syntax.specs.PoolTrees.{tree_at}
 use Rattle.cv_syntax.specs.Walks.{above as rank}
 use Rattle.cv_typing.specs.Lookups.{IsLiveWant, signature_in, want_of}
 use Rattle.cv_typing.specs.Tables.{above_of}
-use Rattle.cv_typing.specs.Typing.{first_fault}
+use Rattle.cv_typing_rules.specs.Typing.{first_fault}
 use Rattle.cv_typing.proofs.walk.+walk.Given as goal
 
 abbrev pub decreases-walk : goal.decreases-walk

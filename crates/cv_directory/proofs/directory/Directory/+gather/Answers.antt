@@ -1,10 +1,10 @@
 use Rattle.std.proofs.Common.{rules, ◌+◌, ◌<◌, ◌≤◌, ◌++◌, ◌∷◌, [], length, take, Some, ap, sym, ◌∙◌, arith, length-append}
 use Rattle.std.proofs.lemmas.List.{take-append-le}
-use Rattle.cv_syntax.specs.Tree.{tree_at}
+use Rattle.cv_syntax.specs.PoolTrees.{tree_at}
 use Rattle.cv_syntax.specs.Walks.{above as rank}
 use Rattle.cv_syntax.proofs.Walking.{above-child, above-some, size-at, size-end}
 use Rattle.cv_directory.specs.Definitions.{definitions_at, large_in, replications_below}
-use Rattle.cv_directory.specs.Sites.{index_here}
+use Rattle.cv_directory_sorts.specs.Sites.{index_here}
 use Rattle.cv_directory.specs.Tables.{entries_in, untyped_of, with_entries}
 use Rattle.cv_directory.proofs.Entries.{below-other, gather-step, tree-end}
 use Rattle.cv_syntax.proofs.Trees.{child_above, child_live, empty_at, node_at}

@@ -1,5 +1,5 @@
 use Rattle.std.proofs.Common.{Some, ap, sym, ◌∙◌}
-use Rattle.cv_syntax.specs.Tree.{tree_at}
+use Rattle.cv_syntax.specs.PoolTrees.{tree_at}
 use Rattle.cv_directory.specs.Definitions.{is_other, large_in}
 use Rattle.cv_directory.specs.Tables.{entries_in}
 use Rattle.cv_directory.proofs.Entries.{branch-more, branch-other, index-more, input-more, input-other, let-more, new-more, nothing-here}

@@ -1,7 +1,7 @@
 use Rattle.std.proofs.Common.{◌++◌, ◌∷◌, [], List, arith, ap, ap₂, refl, subst, sym, ◌∙◌, length, Err}
 use Rattle.std.specs.Prelude.{option_map}
 use Rattle.cv_syntax.specs.declared.work.Game.{Game}
-use Rattle.cv_syntax.specs.Tree.{tree_at}
+use Rattle.cv_syntax.specs.PoolTrees.{tree_at}
 use Rattle.cv_bound.specs.declared.terms.Term.{Term}
 use Rattle.cv_query_check.specs.Claimed.{failure_of}
 use Rattle.cv_rule_scenes.specs.Kept.{scene_of}

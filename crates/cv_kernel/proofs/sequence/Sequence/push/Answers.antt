@@ -1,6 +1,6 @@
 use Rattle.std.proofs.Common.{ap, arith, subst, sym, ◌∙◌, Err, Some}
 use Rattle.std.specs.Prelude.{OnOk, option_map}
-use Rattle.cv_syntax.specs.Tree.{tree_at}
+use Rattle.cv_syntax.specs.PoolTrees.{tree_at}
 use Rattle.cv_rule_scenes.specs.Kept.{scene_of}
 use Rattle.cv_rule.specs.Stated.{step_of}
 use Rattle.cv_script.specs.Views.{items_of_step}

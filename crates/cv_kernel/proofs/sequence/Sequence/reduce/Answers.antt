@@ -1,6 +1,6 @@
 use Rattle.std.proofs.Common.{◌+◌, ◌∙◌, List, Some, ap, arith, false, length, refl, subst, sym}
 use Rattle.cv_syntax.specs.declared.work.Game.{Game}
-use Rattle.cv_syntax.specs.Tree.{tree_at}
+use Rattle.cv_syntax.specs.PoolTrees.{tree_at}
 use Rattle.cv_bound.specs.declared.cost.Cost.{Cost}
 use Rattle.cv_bound.specs.declared.terms.Term.{Term}
 use Rattle.cv_bound.specs.Sums.{AllFit, added}

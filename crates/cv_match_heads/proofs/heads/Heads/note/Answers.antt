@@ -1,13 +1,14 @@
 use Rattle.std.proofs.Common.{ap, sym, ◌∙◌}
-use Rattle.cv_syntax.specs.Tree.{second, tree_at}
-use Rattle.cv_match_heads.specs.Beginnings.{kind_of}
-use Rattle.cv_match_heads.proofs.Beginnings.{noted-any, noted-kind}
+use Rattle.cv_syntax_trees.specs.Tree.{second}
+use Rattle.cv_syntax.specs.PoolTrees.{tree_at}
+use Rattle.cv_match_heads.specs.Beginnings.{code_of}
+use Rattle.cv_match_heads.proofs.Beginnings.{noted-any, noted-code}
 use Rattle.cv_match_heads.proofs.heads.Heads.note.Goals as goal
 
 pub returns-in_ok-push-in-Some : goal.returns-in_ok-push-in-Some
 returns-in_ok-push-in-Some c = λ k.
-    noted-kind k (second (tree_at c.args.pool.now.trees c.args.f)) c.args.self.now c.in-Some.kind (sym c.in-Some.is ∙ (c.kind_of.ensures ∙ ap kind_of c.second_of.ensures.tree)) c.push.new.self.items c.in_ok-push-in-Some.ensures.items
+    noted-code k (second (tree_at c.args.pool.now.trees c.args.f)) c.args.self.now c.in-Some.code (sym c.in-Some.is ∙ (c.code_of.ensures ∙ ap code_of c.second_of.ensures.tree)) c.push.new.self.items c.in_ok-push-in-Some.ensures.items
 
 pub returns-in-None : goal.returns-in-None
 returns-in-None c = λ k.
-    noted-any k (second (tree_at c.args.pool.now.trees c.args.f)) c.args.self.now (sym c.in-None.is ∙ (c.kind_of.ensures ∙ ap kind_of c.second_of.ensures.tree))
+    noted-any k (second (tree_at c.args.pool.now.trees c.args.f)) c.args.self.now (sym c.in-None.is ∙ (c.code_of.ensures ∙ ap code_of c.second_of.ensures.tree))

@@ -1,5 +1,5 @@
 use Rattle.std.proofs.Common.{◌≡◌, ℕ, [], Some, arith, ap, ap₂, ◌∙◌}
-use Rattle.cv_syntax.specs.Tree.{tree_at}
+use Rattle.cv_syntax.specs.PoolTrees.{tree_at}
 use Rattle.cv_scenes.specs.Refusals.{definitions_in}
 use Rattle.cv_match_uses.specs.Tallies.{Tally, drawn, plus, tally_at, tally_of}
 use Rattle.cv_match_uses.proofs.Joining.{nothing-plus}

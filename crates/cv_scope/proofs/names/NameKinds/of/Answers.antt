@@ -1,5 +1,5 @@
 use Rattle.std.proofs.Common.{ap, Some, nat_eq, is_some}
-use Rattle.cv_syntax.specs.Tree.{tree_at}
+use Rattle.cv_syntax.specs.PoolTrees.{tree_at}
 use Rattle.cv_scope.proofs.Constants.{names-are}
 use Rattle.cv_scope.proofs.names.NameKinds.of.Goals as goal
 

@@ -1,6 +1,6 @@
 use Rattle.std.proofs.Common.{sym, subst, refl, OnOk}
-use Rattle.cv_syntax.specs.declared.head.Head.TheVariants.{Cons}
-use Rattle.cv_syntax.specs.Tree.{tree_at}
+use Rattle.cv_syntax_trees.specs.declared.head.Head.TheVariants.{Cons}
+use Rattle.cv_syntax.specs.PoolTrees.{tree_at}
 use Rattle.cv_scope_rules.specs.declared.position.Position.{Position}
 use Rattle.cv_scope_rules.specs.declared.position.Position.TheVariants.{Bodies, Branches, Guards, Cells}
 use Rattle.cv_scope.specs.Held.{IsEntered}

@@ -1,6 +1,6 @@
 use Rattle.std.proofs.Common.{◌≡◌, ◌++◌, ◌≤◌, length, take}
 use Rattle.cv_pool.specs.Nodes.{ChildBelow}
-use Rattle.cv_syntax.specs.Tree.{tree_at}
+use Rattle.cv_syntax.specs.PoolTrees.{tree_at}
 use Rattle.cv_syntax.specs.Walks.{above}
 use Rattle.cv_scope_rules.specs.Context.{items}
 use Rattle.cv_scope.specs.Held.{AreListed, cells_held}

@@ -1,5 +1,5 @@
 use Rattle.std.proofs.Common.{ap, sym, ◌∙◌}
-use Rattle.cv_syntax.specs.Tree.{tree_at}
+use Rattle.cv_syntax.specs.PoolTrees.{tree_at}
 use Rattle.cv_scope.specs.Held.{last_held}
 use Rattle.cv_scope.specs.Seen.{with_sites}
 use Rattle.cv_scope.proofs.Noting.{above-again, binder-may, binder-noted, binder-refused, sites-end}

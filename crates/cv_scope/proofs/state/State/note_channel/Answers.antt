@@ -1,6 +1,6 @@
 use Rattle.std.proofs.Common.{ap, sym, subst, ◌∙◌, ◌≡◌, List, IfOk, OnOk}
-use Rattle.cv_syntax.specs.declared.head.Head.{Head}
-use Rattle.cv_syntax.specs.Tree.{tree_at}
+use Rattle.cv_syntax_trees.specs.declared.head.Head.{Head}
+use Rattle.cv_syntax.specs.PoolTrees.{tree_at}
 use Rattle.cv_scope.specs.Held.{last_held, OnlySites}
 use Rattle.cv_scope.specs.Seen.{may_stand_last}
 use Rattle.cv_scope_rules.specs.Sites.{Channel, Site, bound_types, channel_here}

@@ -1,5 +1,5 @@
 use Rattle.std.proofs.Common.{length, ap, sym, ◌∙◌}
-use Rattle.cv_syntax.specs.Tree.{tree_at}
+use Rattle.cv_syntax.specs.PoolTrees.{tree_at}
 use Rattle.cv_typing.specs.Tables.{locals_of, with_functions}
 use Rattle.cv_typing.proofs.Binding.{functions-end, functions-step}
 use Rattle.cv_syntax.proofs.Trees.{child_live, empty_at, node_at}

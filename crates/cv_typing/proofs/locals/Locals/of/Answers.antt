@@ -1,5 +1,5 @@
 use Rattle.std.proofs.Common.{◌∙◌}
-use Rattle.cv_syntax.specs.Tree.{tree_at}
+use Rattle.cv_syntax.specs.PoolTrees.{tree_at}
 use Rattle.cv_typing.proofs.Binding.{from-no-locals}
 use Rattle.cv_typing.proofs.locals.Locals.of.Goals as goal
 

@@ -1,0 +1,4 @@
+pub mod Sites
+pub mod Pairs
+pub mod Counting
+pub mod Sorts

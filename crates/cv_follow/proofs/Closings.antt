@@ -1,0 +1,108 @@
+-- What a sequence holds of the queries that its steps close.
+use Rattle.std.proofs.Common.{◌≡◌, ℕ, suc, Bool, true, false, ◌||◌, ◌==◌, if◌then◌else◌, List, [], ◌∷◌, ◌++◌, length, map, Option, Some, None, is_some, refl, ap, ap₂, ◌∙◌}
+use Rattle.std.specs.List.{list_all}
+use Rattle.cv_bound.specs.declared.cost.Cost.{Cost as SumCost}
+use Rattle.cv_bound.specs.declared.cost.Cost.TheVariants as bound
+use Rattle.cv_bound.specs.declared.terms.Term.{Term}
+use Rattle.cv_bound.specs.Sums.{added, with_terms}
+use Rattle.cv_kernel_closed.specs.declared.queries.ClosedQuery.{ClosedQuery}
+use Rattle.cv_kernel_closed.specs.Queries.{is_among, numbers_of, sum_in}
+use Rattle.cv_kernel.specs.Closings.{Closing, closing_in}
+use Rattle.cv_kernel.specs.Proofs.{Transition, closed_by, number_before, sum_at, sum_behind, sum_from, sum_of}
+use Rattle.cv_plain.specs.Strategy.{is_proved}
+use Rattle.cv_report.specs.declared.report.Verdict.{Verdict}
+use Rattle.cv_syntax_trees.specs.Tree.{Tree}
+use Rattle.cv_report_verdicts.specs.Verdicts.{verdict_by, verdicts_by}
+use Rattle.cv_follow.specs.Scripts.{first_open}
+use Rattle.cv_follow.specs.Walks.{closed_before, closings_from, sum_along}
+
+-- a sum with nothing more is the same
+pub nothing-more : (sum : List Term) → added sum bound.Zero false ≡ sum
+unfolding with_terms
+nothing-more sum = refl
+
+-- a transition more
+
+pub sum-put : (sum : List Term) (ts : List Transition) (t : Transition) → sum_along sum (ts ++ t ∷ []) ≡ sum_behind (sum_along sum ts) (closing_in t.step) t.cost
+sum-put sum [] t = refl
+sum-put sum (u ∷ ts) t = sum-put (sum_behind sum (closing_in u.step) u.cost) ts t
+
+before-put : (sum : List Term) (cost : SumCost) (c : Option Closing) (xs ys : List ClosedQuery) → closed_before sum cost c (xs ++ ys) ≡ closed_before sum cost c xs ++ ys
+before-put sum cost None xs ys = refl
+before-put sum cost (Some c) xs ys = refl
+
+pub closings-put : (sum : List Term) (ts : List Transition) (t : Transition) → closings_from sum (ts ++ t ∷ []) ≡ closings_from sum ts ++ closed_before (sum_along sum ts) t.cost (closing_in t.step) []
+closings-put sum [] t = refl
+closings-put sum (u ∷ ts) t =
+    let s = sum_behind sum (closing_in u.step) u.cost in
+    ap (closed_before sum u.cost (closing_in u.step)) (closings-put s ts t) ∙ before-put sum u.cost (closing_in u.step) (closings_from s ts) (closed_before (sum_along s ts) t.cost (closing_in t.step) [])
+
+-- the numbers and the sums are those of the transitions
+
+numbers-before : (sum : List Term) (cost : SumCost) (c : Option Closing) (xs : List ClosedQuery) → numbers_of (closed_before sum cost c xs) ≡ number_before c (numbers_of xs)
+numbers-before sum cost None xs = refl
+numbers-before sum cost (Some c) xs = refl
+
+pub numbers-same : (sum : List Term) (ts : List Transition) → numbers_of (closings_from sum ts) ≡ closed_by ts
+numbers-same sum [] = refl
+numbers-same sum (t ∷ ts) =
+    let s = sum_behind sum (closing_in t.step) t.cost in
+    numbers-before sum t.cost (closing_in t.step) (closings_from s ts) ∙ ap (number_before (closing_in t.step)) (numbers-same s ts)
+
+sums-before : (sum : List Term) (cost : SumCost) (k : ℕ) (c : Option Closing) (xs : List ClosedQuery) → sum_in (closed_before sum cost c xs) k ≡ sum_at sum cost k c (sum_in xs k)
+sums-before sum cost k None xs = refl
+sums-before sum cost k (Some c) xs = refl
+
+pub sums-same : (sum : List Term) (ts : List Transition) (k : ℕ) → sum_in (closings_from sum ts) k ≡ sum_from sum ts k
+sums-same sum [] k = refl
+sums-same sum (t ∷ ts) k =
+    let s = sum_behind sum (closing_in t.step) t.cost in
+    sums-before sum t.cost k (closing_in t.step) (closings_from s ts) ∙ ap (sum_at sum t.cost k (closing_in t.step)) (sums-same s ts k)
+
+-- a query has a sum exactly where it is closed
+
+among-cons : (n : ℕ) (ks : List ℕ) (k : ℕ) (s : List Term) (o : Option (List Term)) → is_among ks k ≡ is_some o → is_among (n ∷ ks) k ≡ is_some (if n == k then Some s else o)
+among-cons n ks k s o e = by (n == k)
+  where
+    by : (b : Bool) → (b || is_among ks k) ≡ is_some (if b then Some s else o)
+    by true = refl
+    by false = e
+
+among-at : (sum : List Term) (cost : SumCost) (k : ℕ) (c : Option Closing) (ks : List ℕ) (o : Option (List Term)) → is_among ks k ≡ is_some o → is_among (number_before c ks) k ≡ is_some (sum_at sum cost k c o)
+among-at sum cost k None ks o e = e
+among-at sum cost k (Some c) ks o e = among-cons c.query ks k (added sum cost false) o e
+
+pub among-same : (sum : List Term) (ts : List Transition) (k : ℕ) → is_among (closed_by ts) k ≡ is_some (sum_from sum ts k)
+among-same sum [] k = refl
+among-same sum (t ∷ ts) k =
+    let s = sum_behind sum (closing_in t.step) t.cost in
+    among-at sum t.cost k (closing_in t.step) (closed_by ts) (sum_from s ts k) (among-same s ts k)
+
+-- verdicts
+
+pub verdicts-same : {Q : Type 0} (f g : ℕ → Option (List Term)) (k : ℕ) (qs : List Q) → ((n : ℕ) → f n ≡ g n) → verdicts_by f k qs ≡ verdicts_by g k qs
+verdicts-same f g k [] e = refl
+verdicts-same f g k (q ∷ qs) e = ap₂ (λ v vs. verdict_by v ∷ vs) (e k) (verdicts-same f g (suc k) qs e)
+
+pub verdicts-map : {P Q : Type 0} (h : P → Q) (f : ℕ → Option (List Term)) (k : ℕ) (qs : List P) → verdicts_by f k (map h qs) ≡ verdicts_by f k qs
+verdicts-map h f k [] = refl
+verdicts-map h f k (q ∷ qs) = ap (λ vs. verdict_by (f k) ∷ vs) (verdicts-map h f (suc k) qs)
+
+pub verdicts-length : {Q : Type 0} (f : ℕ → Option (List Term)) (k : ℕ) (qs : List Q) → length (verdicts_by f k qs) ≡ length qs
+verdicts-length f k [] = refl
+verdicts-length f k (q ∷ qs) = ap suc (verdicts-length f (suc k) qs)
+
+-- where no query is open, each verdict is `Proved`
+
+proved-by : (o : Option (List Term)) (b : Bool) (k : ℕ) (later : Option ℕ) (vs : List Verdict) → b ≡ is_some o → (if b then later else Some k) ≡ None → (later ≡ None → list_all is_proved vs ≡ true) → list_all is_proved (verdict_by o ∷ vs) ≡ true
+proved-by None true k later vs e h f = absurd (cc)
+proved-by None false k later vs e h f = absurd (cc)
+proved-by (Some s) true k later vs e h f = f h
+proved-by (Some s) false k later vs e h f = absurd (cc)
+
+all-proved-from : (sum : List Term) (ts : List Transition) (k : ℕ) (qs : List Tree) → first_open (closed_by ts) k qs ≡ None → list_all is_proved (verdicts_by (sum_from sum ts) k qs) ≡ true
+all-proved-from sum ts k [] e = refl
+all-proved-from sum ts k (q ∷ qs) e = proved-by (sum_from sum ts k) (is_among (closed_by ts) k) k (first_open (closed_by ts) (suc k) qs) (verdicts_by (sum_from sum ts) (suc k) qs) (among-same sum ts k) e (all-proved-from sum ts (suc k) qs)
+
+pub all-proved : (ts : List Transition) (qs : List Tree) → first_open (closed_by ts) 1 qs ≡ None → list_all is_proved (verdicts_by (sum_of ts) 1 qs) ≡ true
+all-proved ts qs e = all-proved-from [] ts 1 qs e

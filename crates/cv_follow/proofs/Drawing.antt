@@ -1,0 +1,81 @@
+-- The names that are drawn along a trail, step by step.
+use Rattle.std.proofs.Common.{◌≡◌, ℕ, ◌<◌, List, [], ◌∷◌, ◌++◌, length, map, Option, Some, None, option_and_then, refl, ap, ap₂, sym, ◌∙◌, subst, arith}
+use Rattle.std.proofs.lemmas.List.{map-append}
+use Rattle.std.specs.Prelude.{All, option_map}
+use Rattle.cv_pool.specs.PoolView.{PoolView, Grows}
+use Rattle.cv_pool.proofs.Growth.{Grows-length}
+use Rattle.cv_syntax.specs.Classes.{DeclsView}
+use Rattle.cv_syntax.specs.declared.work.Game.{Game}
+use Rattle.cv_syntax.specs.declared.work.Work.{Work}
+use Rattle.cv_syntax_trees.specs.Declarations.{Declaration}
+use Rattle.cv_syntax.specs.Declarations.{declarations}
+use Rattle.cv_syntax_trees.specs.Tree.{Tree}
+use Rattle.cv_syntax.specs.PoolTrees.{tree_at}
+use Rattle.cv_parse.specs.Declaring.{IsBelow}
+use Rattle.cv_accept.proofs.Blocks.{declarations-grown, root-grown}
+use Rattle.cv_kernel.specs.declared.reducing.Reducing.{Reducing}
+use Rattle.cv_kernel.specs.declared.sequence.Sequence.{Sequence}
+use Rattle.cv_kernel.specs.Closings.{closing_of_items}
+use Rattle.cv_kernel.specs.Drawings.{Draws, DrawsAlong, game_after, told}
+use Rattle.cv_kernel.specs.Proofs.{Transition}
+use Rattle.cv_kernel.specs.Reducings.{reducing_in, reducing_of_items}
+use Rattle.cv_kernel.specs.Sequences as kernel
+use Rattle.cv_kernel.proofs.Drawn.{drawn_put, last_told, told_last}
+use Rattle.cv_kernel_crypto.specs.Applied.{DrawsNext}
+use Rattle.cv_report.specs.declared.report.Entry.{Entry}
+use Rattle.cv_rule_scenes.specs.Kept.{scene_of}
+use Rattle.cv_scenes.specs.Scenes.{Scene}
+use Rattle.cv_script.specs.declared.steps.Step.{Step}
+use Rattle.cv_script.specs.Views.{StepItems, items_of_step}
+use Rattle.cv_script.specs.Views as items
+use Rattle.cv_steps.specs.Sequences.{scene}
+use Rattle.cv_follow.specs.Scripts.{entry_in, entry_of, known_to, led}
+use Rattle.cv_follow.specs.Walks.{HasFollowed, IsNoted, next_of}
+use Rattle.cv_follow.proofs.Following.{entries_same}
+
+led_all : (ts : List Transition) → map led (map entry_of ts) ≡ map told ts
+led_all [] = refl
+led_all (t ∷ ts) = ap (λ l. told t ∷ l) (led_all ts)
+
+module _ (before : ℕ) (ds : List Declaration) (own : ℕ) (first : Tree) (old new : PoolView) (decls : DeclsView) (is_ds : declarations old.trees decls.list ≡ ds) (is_own : decls.own ≡ own) where
+  -- one step more draws its names
+  drawn_more : (front : List Tree) (s t : Sequence) (trail after : List Entry) (step : Step) (tree : Tree) (a b c : List (List ℕ)) → HasFollowed before ds own first front old.trees s trail → IsNoted t step tree trail after → Grows old new → tree_at new.trees (Some step.0) ≡ tree
+      → ((r : Reducing) → reducing_in tree ≡ Some r → DrawsNext b c decls.own (scene_of old decls s.game.root) r.equivalence r.key (kernel.game_in new.trees t)) → (reducing_in tree ≡ None → c ≡ b) → DrawsAlong ds (known_to own) own first (map led (map (entry_in old.trees) trail)) a b
+      → DrawsAlong ds (known_to own) own first (map led (map (entry_in new.trees) after)) a c
+  drawn_more front s t trail after step tree a b c h n g is draws keeps along =
+      let one : Tree × Option Tree = led (entry_in new.trees n.entry) in
+      let game : Tree = kernel.game_in old.trees s in
+      let there : last_told first (map led (map (entry_in old.trees) trail)) ≡ game = ap (λ es. last_told first (map led es)) h.entries ∙ (ap (last_told first) (led_all h.proof) ∙ told_last ds (known_to own) first h.proof game h.leads) in
+      let same : items_of_step one.0 ≡ items_of_step tree = ap (λ (x : Step). items_of_step (tree_at new.trees (Some x.0))) n.taken ∙ ap items_of_step is in
+      subst (λ ts. DrawsAlong ds (known_to own) own first ts a c)
+      (sym (ap (λ es. map led (map (entry_in new.trees) es)) n.put ∙ (ap (map led) (map-append (entry_in new.trees) trail (n.entry ∷ [])) ∙ (map-append led (map (entry_in new.trees) trail) (entry_in new.trees n.entry ∷ []) ∙ ap (λ es. map led es ++ one ∷ []) (entries_same old new trail g h.live)))))
+      (drawn_put ds (known_to own) own first (map led (map (entry_in old.trees) trail)) one a b c along
+      (subst (λ (x : Tree). Draws b c own (scene ds (known_to own) x) (items_of_step one.0) (game_after one.1 x)) (sym there) (subst (λ (i : Option StepItems). Draws b c own (scene ds (known_to own) game) i (game_after one.1 game)) (sym same) (by (items_of_step tree) refl))))
+    where
+      scenes : scene_of old decls s.game.root ≡ scene ds (known_to own) (kernel.game_in old.trees s)
+      scenes = ap₂ (λ (x : List Declaration) (k : ℕ). scene x (known_to k) (kernel.game_in old.trees s)) is_ds is_own
+
+      next : (e x : ℕ) → items_of_step tree ≡ Some (items.Crypto e x) → game_after (led (entry_in new.trees n.entry)).1 (kernel.game_in old.trees s) ≡ kernel.game_in new.trees t
+      next e x q =
+          ap (λ (o : Option Game). game_after (option_map (λ k. tree_at new.trees (Some k.root)) o) (kernel.game_in old.trees s)) n.next
+          ∙ ap (λ (i : Option StepItems). game_after (option_map (λ (k : Game). tree_at new.trees (Some k.root)) (next_of (option_and_then closing_of_items i) t.game)) (kernel.game_in old.trees s)) q
+
+      by : (i : Option StepItems) → items_of_step tree ≡ i → Draws b c own (scene ds (known_to own) (kernel.game_in old.trees s)) i (game_after (led (entry_in new.trees n.entry)).1 (kernel.game_in old.trees s))
+      by (Some (items.Crypto e x)) q =
+          subst (λ (y : Tree). DrawsNext b c own (scene ds (known_to own) (kernel.game_in old.trees s)) e x y) (sym (next e x q))
+          (subst (λ (z : Scene). DrawsNext b c own z e x (kernel.game_in new.trees t)) scenes
+          (subst (λ (k : ℕ). DrawsNext b c k (scene_of old decls s.game.root) e x (kernel.game_in new.trees t)) is_own (draws (record { equivalence = e; key = x }) (ap (option_and_then reducing_of_items) q))))
+      by i q = keeps (ap (option_and_then reducing_of_items) q)
+
+module _ (fn now : Work) (first : Tree) (below : All (IsBelow (length fn.pool.trees)) fn.decls.list) (grows : Grows fn.pool now.pool) (same_decls : now.decls ≡ fn.decls) where
+  pub drawn_next : (front : List Tree) (s t : Sequence) (trail after : List Entry) (step : Step) (new : PoolView) (names : List (List ℕ)) → HasFollowed (length fn.pool.trees) (declarations fn.pool.trees fn.decls.list) fn.decls.own first front now.pool.trees s trail → IsNoted t step (tree_at new.trees (Some step.0)) trail after
+      → Grows now.pool new → step.0.0 < length fn.pool.trees → ((r : Reducing) → reducing_in (tree_at now.pool.trees (Some step.0)) ≡ Some r → DrawsNext now.names names now.decls.own (scene_of now.pool now.decls s.game.root) r.equivalence r.key (kernel.game_in new.trees t))
+      → (reducing_in (tree_at now.pool.trees (Some step.0)) ≡ None → names ≡ now.names) → DrawsAlong (declarations fn.pool.trees fn.decls.list) (known_to fn.decls.own) fn.decls.own first (map led (map (entry_in now.pool.trees) trail)) fn.names now.names
+      → DrawsAlong (declarations fn.pool.trees fn.decls.list) (known_to fn.decls.own) fn.decls.own first (map led (map (entry_in new.trees) after)) fn.names names
+  drawn_next front s t trail after step new names h n g l draws keeps along =
+      let more = Grows-length fn.pool now.pool grows in
+      let here : step.0.0 < length now.pool.trees = omega arith in
+      let stays = root-grown now.pool new step.0 g here in
+      drawn_more (length fn.pool.trees) (declarations fn.pool.trees fn.decls.list) fn.decls.own first now.pool new now.decls
+      (ap (λ (v : DeclsView). declarations now.pool.trees v.list) same_decls ∙ declarations-grown fn.pool now.pool fn.decls.list grows below) (ap (λ (v : DeclsView). v.own) same_decls) front s t trail after step (tree_at now.pool.trees (Some step.0)) fn.names now.names names h
+      (subst (λ x. IsNoted t step x trail after) stays n) g stays draws keeps along

@@ -1,0 +1,261 @@
+-- Heads of nodes, and their codes.
+use Rattle.std.specs.Prelude.{◌≡◌, ℕ, ◌+◌, ◌*◌, ◌/◌, ◌%◌, ◌^◌, Bool, ◌&&◌, ◌==◌, nat_lt, if◌then◌else◌, refl}
+use Rattle.std.proofs.Common.{ap, arith}
+use Rattle.cv_syntax_trees.specs.declared.head.Code.{Code}
+use Rattle.cv_syntax_trees.specs.declared.head.Head.{Head}
+use Rattle.cv_syntax_trees.specs.declared.head.Head.TheVariants.{Stop, Yield, Par, Repl, In, Out, Event, New, Let, If, Find, Branch, Leaf, Read, Apply, Eq, And, Or, Not, Yes, No, Cons, Binder, Name, Number, Forall, Query, Occurs, OccursOnce, Secret, SecretOnce, Equivalence, Bound, Single, Oracle, RenameStep, RewriteStep, PruneStep, PickStep, MergeStep, SplitStep, LetStep, NewStep, UnletStep, UnnewStep, MoveStep, ArrayRenameStep, CodefStep, BirthdayStep, GuessStep, FreshStep, CryptoStep, SuccessStep, SimplifyStep, ThenPart, ElsePart, AddPart, DropPart, Line, Defined, Cases, Primed, ByFact, ByHere, ByOf, BySite, ByEquation, ByRefl, BySym, ByTrans, ByCong, ByMp, ByAnd, ByLeft, ByRight, ByContra, ByExfalso, ByData, ByGiven, ByAgain, ByBool, ByOtherFact, ByOtherHere, BySame, ByDistinct, EventsCertificate, SecretCertificate, AtEntry, NeverEntry, WithEntry, AboveRoute, CellRoute, HoldsRoute, DistinctPart, Pair, SecretPair, Key, Call}
+
+-- a tag and two numbers below 2 ^ 32
+abbrev pub numbered : ℕ → ℕ → ℕ → Code
+numbered tag a b = record { tag = tag; a = a; b = b }
+
+-- a number of 64 bits, as its low and its high half
+abbrev pub wide : ℕ → ℕ → Code
+wide tag v = numbered tag (v % 2 ^ 32) (v / 2 ^ 32)
+
+-- the code of a head
+abbrev pub code : Head → Code
+code Stop = numbered 0 0 0
+code Yield = numbered 1 0 0
+code Par = numbered 2 0 0
+code (Repl x y) = numbered 3 x y
+code (In x) = numbered 4 x 0
+code (Out x) = numbered 5 x 0
+code (Event x) = numbered 6 x 0
+code (New x y) = numbered 7 x y
+code (Let x y) = numbered 8 x y
+code If = numbered 9 0 0
+code (Find v) = wide 10 v
+code Branch = numbered 11 0 0
+code (Leaf x) = numbered 12 x 0
+code (Read x) = numbered 13 x 0
+code (Apply x) = numbered 14 x 0
+code Eq = numbered 15 0 0
+code And = numbered 16 0 0
+code Or = numbered 17 0 0
+code Not = numbered 18 0 0
+code Yes = numbered 19 0 0
+code No = numbered 20 0 0
+code Cons = numbered 21 0 0
+code (Binder x y) = numbered 22 x y
+code (Name x) = numbered 23 x 0
+code (Number v) = wide 24 v
+code Forall = numbered 25 0 0
+code Query = numbered 26 0 0
+code (Occurs x) = numbered 27 x 0
+code (OccursOnce x) = numbered 28 x 0
+code (Secret x) = numbered 29 x 0
+code (SecretOnce x) = numbered 30 x 0
+code (Equivalence x) = numbered 31 x 0
+code (Bound x y) = numbered 32 x y
+code (Single x) = numbered 33 x 0
+code (Oracle x) = numbered 34 x 0
+code RenameStep = numbered 35 0 0
+code RewriteStep = numbered 36 0 0
+code PruneStep = numbered 37 0 0
+code PickStep = numbered 38 0 0
+code MergeStep = numbered 39 0 0
+code SplitStep = numbered 40 0 0
+code LetStep = numbered 41 0 0
+code NewStep = numbered 42 0 0
+code UnletStep = numbered 43 0 0
+code UnnewStep = numbered 44 0 0
+code MoveStep = numbered 45 0 0
+code ArrayRenameStep = numbered 46 0 0
+code CodefStep = numbered 47 0 0
+code BirthdayStep = numbered 48 0 0
+code GuessStep = numbered 49 0 0
+code FreshStep = numbered 50 0 0
+code CryptoStep = numbered 51 0 0
+code SuccessStep = numbered 52 0 0
+code SimplifyStep = numbered 53 0 0
+code ThenPart = numbered 54 0 0
+code ElsePart = numbered 55 0 0
+code AddPart = numbered 56 0 0
+code DropPart = numbered 57 0 0
+code Line = numbered 58 0 0
+code Defined = numbered 59 0 0
+code Cases = numbered 60 0 0
+code (Primed x) = numbered 61 x 0
+code ByFact = numbered 62 0 0
+code ByHere = numbered 63 0 0
+code ByOf = numbered 64 0 0
+code BySite = numbered 65 0 0
+code ByEquation = numbered 66 0 0
+code ByRefl = numbered 67 0 0
+code BySym = numbered 68 0 0
+code ByTrans = numbered 69 0 0
+code ByCong = numbered 70 0 0
+code ByMp = numbered 71 0 0
+code ByAnd = numbered 72 0 0
+code ByLeft = numbered 73 0 0
+code ByRight = numbered 74 0 0
+code ByContra = numbered 75 0 0
+code ByExfalso = numbered 76 0 0
+code ByData = numbered 77 0 0
+code ByGiven = numbered 78 0 0
+code ByAgain = numbered 79 0 0
+code ByBool = numbered 80 0 0
+code ByOtherFact = numbered 81 0 0
+code ByOtherHere = numbered 82 0 0
+code BySame = numbered 83 0 0
+code ByDistinct = numbered 84 0 0
+code EventsCertificate = numbered 85 0 0
+code SecretCertificate = numbered 86 0 0
+code AtEntry = numbered 87 0 0
+code NeverEntry = numbered 88 0 0
+code WithEntry = numbered 89 0 0
+code AboveRoute = numbered 90 0 0
+code CellRoute = numbered 91 0 0
+code HoldsRoute = numbered 92 0 0
+code DistinctPart = numbered 93 0 0
+code Pair = numbered 94 0 0
+code SecretPair = numbered 95 0 0
+code (Key x) = numbered 96 x 0
+code (Call x y) = numbered 97 x y
+
+-- the head of a code
+abbrev pub decoded : Code → Head
+decoded k =
+    if nat_lt 96 k.tag then Call k.a k.b else
+    if k.tag == 0 then Stop else if k.tag == 1 then Yield else if k.tag == 2 then Par else if k.tag == 3 then Repl k.a k.b else if k.tag == 4 then In k.a else
+    if k.tag == 5 then Out k.a else if k.tag == 6 then Event k.a else if k.tag == 7 then New k.a k.b else if k.tag == 8 then Let k.a k.b else if k.tag == 9 then If else
+    if k.tag == 10 then Find (k.a + 2 ^ 32 * k.b) else if k.tag == 11 then Branch else if k.tag == 12 then Leaf k.a else if k.tag == 13 then Read k.a else if k.tag == 14 then Apply k.a else
+    if k.tag == 15 then Eq else if k.tag == 16 then And else if k.tag == 17 then Or else if k.tag == 18 then Not else if k.tag == 19 then Yes else
+    if k.tag == 20 then No else if k.tag == 21 then Cons else if k.tag == 22 then Binder k.a k.b else if k.tag == 23 then Name k.a else if k.tag == 24 then Number (k.a + 2 ^ 32 * k.b) else
+    if k.tag == 25 then Forall else if k.tag == 26 then Query else if k.tag == 27 then Occurs k.a else if k.tag == 28 then OccursOnce k.a else if k.tag == 29 then Secret k.a else
+    if k.tag == 30 then SecretOnce k.a else if k.tag == 31 then Equivalence k.a else if k.tag == 32 then Bound k.a k.b else if k.tag == 33 then Single k.a else if k.tag == 34 then Oracle k.a else
+    if k.tag == 35 then RenameStep else if k.tag == 36 then RewriteStep else if k.tag == 37 then PruneStep else if k.tag == 38 then PickStep else if k.tag == 39 then MergeStep else
+    if k.tag == 40 then SplitStep else if k.tag == 41 then LetStep else if k.tag == 42 then NewStep else if k.tag == 43 then UnletStep else if k.tag == 44 then UnnewStep else
+    if k.tag == 45 then MoveStep else if k.tag == 46 then ArrayRenameStep else if k.tag == 47 then CodefStep else if k.tag == 48 then BirthdayStep else if k.tag == 49 then GuessStep else
+    if k.tag == 50 then FreshStep else if k.tag == 51 then CryptoStep else if k.tag == 52 then SuccessStep else if k.tag == 53 then SimplifyStep else if k.tag == 54 then ThenPart else
+    if k.tag == 55 then ElsePart else if k.tag == 56 then AddPart else if k.tag == 57 then DropPart else if k.tag == 58 then Line else if k.tag == 59 then Defined else
+    if k.tag == 60 then Cases else if k.tag == 61 then Primed k.a else if k.tag == 62 then ByFact else if k.tag == 63 then ByHere else if k.tag == 64 then ByOf else
+    if k.tag == 65 then BySite else if k.tag == 66 then ByEquation else if k.tag == 67 then ByRefl else if k.tag == 68 then BySym else if k.tag == 69 then ByTrans else
+    if k.tag == 70 then ByCong else if k.tag == 71 then ByMp else if k.tag == 72 then ByAnd else if k.tag == 73 then ByLeft else if k.tag == 74 then ByRight else
+    if k.tag == 75 then ByContra else if k.tag == 76 then ByExfalso else if k.tag == 77 then ByData else if k.tag == 78 then ByGiven else if k.tag == 79 then ByAgain else
+    if k.tag == 80 then ByBool else if k.tag == 81 then ByOtherFact else if k.tag == 82 then ByOtherHere else if k.tag == 83 then BySame else if k.tag == 84 then ByDistinct else
+    if k.tag == 85 then EventsCertificate else if k.tag == 86 then SecretCertificate else if k.tag == 87 then AtEntry else if k.tag == 88 then NeverEntry else if k.tag == 89 then WithEntry else
+    if k.tag == 90 then AboveRoute else if k.tag == 91 then CellRoute else if k.tag == 92 then HoldsRoute else if k.tag == 93 then DistinctPart else if k.tag == 94 then Pair else
+    if k.tag == 95 then SecretPair else Key k.a
+
+pub decoded-code : (h : Head) → decoded (code h) ≡ h
+decoded-code Stop = refl
+decoded-code Yield = refl
+decoded-code Par = refl
+decoded-code (Repl x y) = refl
+decoded-code (In x) = refl
+decoded-code (Out x) = refl
+decoded-code (Event x) = refl
+decoded-code (New x y) = refl
+decoded-code (Let x y) = refl
+decoded-code If = refl
+decoded-code (Find v) = ap Find (omega arith)
+decoded-code Branch = refl
+decoded-code (Leaf x) = refl
+decoded-code (Read x) = refl
+decoded-code (Apply x) = refl
+decoded-code Eq = refl
+decoded-code And = refl
+decoded-code Or = refl
+decoded-code Not = refl
+decoded-code Yes = refl
+decoded-code No = refl
+decoded-code Cons = refl
+decoded-code (Binder x y) = refl
+decoded-code (Name x) = refl
+decoded-code (Number v) = ap Number (omega arith)
+decoded-code Forall = refl
+decoded-code Query = refl
+decoded-code (Occurs x) = refl
+decoded-code (OccursOnce x) = refl
+decoded-code (Secret x) = refl
+decoded-code (SecretOnce x) = refl
+decoded-code (Equivalence x) = refl
+decoded-code (Bound x y) = refl
+decoded-code (Single x) = refl
+decoded-code (Oracle x) = refl
+decoded-code RenameStep = refl
+decoded-code RewriteStep = refl
+decoded-code PruneStep = refl
+decoded-code PickStep = refl
+decoded-code MergeStep = refl
+decoded-code SplitStep = refl
+decoded-code LetStep = refl
+decoded-code NewStep = refl
+decoded-code UnletStep = refl
+decoded-code UnnewStep = refl
+decoded-code MoveStep = refl
+decoded-code ArrayRenameStep = refl
+decoded-code CodefStep = refl
+decoded-code BirthdayStep = refl
+decoded-code GuessStep = refl
+decoded-code FreshStep = refl
+decoded-code CryptoStep = refl
+decoded-code SuccessStep = refl
+decoded-code SimplifyStep = refl
+decoded-code ThenPart = refl
+decoded-code ElsePart = refl
+decoded-code AddPart = refl
+decoded-code DropPart = refl
+decoded-code Line = refl
+decoded-code Defined = refl
+decoded-code Cases = refl
+decoded-code (Primed x) = refl
+decoded-code ByFact = refl
+decoded-code ByHere = refl
+decoded-code ByOf = refl
+decoded-code BySite = refl
+decoded-code ByEquation = refl
+decoded-code ByRefl = refl
+decoded-code BySym = refl
+decoded-code ByTrans = refl
+decoded-code ByCong = refl
+decoded-code ByMp = refl
+decoded-code ByAnd = refl
+decoded-code ByLeft = refl
+decoded-code ByRight = refl
+decoded-code ByContra = refl
+decoded-code ByExfalso = refl
+decoded-code ByData = refl
+decoded-code ByGiven = refl
+decoded-code ByAgain = refl
+decoded-code ByBool = refl
+decoded-code ByOtherFact = refl
+decoded-code ByOtherHere = refl
+decoded-code BySame = refl
+decoded-code ByDistinct = refl
+decoded-code EventsCertificate = refl
+decoded-code SecretCertificate = refl
+decoded-code AtEntry = refl
+decoded-code NeverEntry = refl
+decoded-code WithEntry = refl
+decoded-code AboveRoute = refl
+decoded-code CellRoute = refl
+decoded-code HoldsRoute = refl
+decoded-code DistinctPart = refl
+decoded-code Pair = refl
+decoded-code SecretPair = refl
+decoded-code (Key x) = refl
+decoded-code (Call x y) = refl
+
+-- 1 for a syntax node, 0 for a list, a binder and what only holds declarations together
+abbrev pub weight : Head → ℕ
+weight Cons = 0
+weight (Binder x y) = 0
+weight (Name x) = 0
+weight (Number x) = 0
+weight Forall = 0
+weight Query = 0
+weight (Occurs x) = 0
+weight (OccursOnce x) = 0
+weight (Secret x) = 0
+weight (SecretOnce x) = 0
+weight (Equivalence x) = 0
+weight (Bound x y) = 0
+weight (Single x) = 0
+weight (Oracle x) = 0
+weight h = 1
+
+abbrev pub same_head : Head → Head → Bool
+same_head h k = ((code h).tag == (code k).tag) && (((code h).a == (code k).a) && ((code h).b == (code k).b))

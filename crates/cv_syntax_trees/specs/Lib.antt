@@ -1,0 +1,5 @@
+pub mod Builders
+pub mod Children
+pub mod Declarations
+pub mod Head
+pub mod Tree
