@@ -11,7 +11,9 @@ use Rattle.cv_syntax_trees.specs.Tree.{Tree}
 use Rattle.cv_syntax.specs.PoolTrees.{tree_at}
 use Rattle.cv_accept.specs.Accepted.{Content, read_of, most_bytes}
 use Rattle.cv_bound.specs.declared.terms.Experiment.TheVariants.{Events}
-use Rattle.cv_bound.specs.Sums.{added}
+use Rattle.cv_bound.specs.Sums.{added, with_terms}
+use Rattle.cv_bound.specs.declared.cost.Cost.TheVariants as bound
+use Rattle.cv_bound.specs.declared.terms.Term.{Term}
 use Rattle.cv_bound_values.specs.Values.{Advantages, sum_value}
 use Rattle.cv_meaning.specs.Advantage.{IsAsked, chance_of}
 use Rattle.cv_meaning.specs.Chances.{AtMost, distance}
@@ -34,7 +36,7 @@ use Rattle.cv_script.specs.declared.steps.Step.{Step}
 use Rattle.cv_script.specs.Views.{items_of_step}
 use Rattle.cv_sequences.specs.Chains.{ByEquivalence, ByStep, HasPrice, IsChain, IsFileOf, IsLink, Link, Prices, cost_behind, costs_behind, game_after, next_behind, summed}
 use Rattle.cv_sequences.specs.Chains as chains
-use Rattle.cv_sequences.proofs.Chains.{chain_ends, summed_put, within}
+use Rattle.cv_sequences.proofs.Chains.{chain_ends, within}
 use Rattle.cv_steps.specs.Sequences.{scene}
 use Rattle.cv_steps_crypto.specs.Conditions.{equivalence_of}
 use Rattle.cv_steps_crypto.specs.Steps.{reduction_of}
@@ -45,7 +47,8 @@ use Rattle.cv.specs.Runs.{Runs}
 use Rattle.cv_follow.specs.Scripts.{Told, entry_in, entry_of, known_to}
 use Rattle.cv.specs.Strategy.{FollowsScript, Proceeds, declared_in, file_in, game_in, steps_in}
 use Rattle.cv.specs.Values.{Contexts, advantage_of, advantages_in, context_of}
-use Rattle.cv_follow.proofs.Closings.{nothing-more}
+use Rattle.cv_sequences_secrets.specs.Sums.{summed_by}
+use Rattle.cv_sequences_secrets.proofs.Sums.{plain, put}
 use Rattle.cv_follow.proofs.StepKinds.{Kind, closure, kind_of, passage, reduction}
 use Rattle.cv_follow.proofs.StepKinds as kind
 use Rattle.cv_accept_sequences.proofs.Ready.{file_of, valued}
@@ -113,9 +116,15 @@ module _ (ds : List Declaration) (known : ℕ → Bool) (first : Tree) where
         }
   ]
 
--- a cost more
-pub summed-on : (before : List Transition) (t : Transition) → summed [] (map (λ x. x.cost) (before ++ t ∷ [])) ≡ added (summed [] (map (λ x. x.cost) before)) t.cost false
-summed-on before t = ap (summed []) (map-append (λ x. x.cost) before (t ∷ [])) ∙ summed_put [] (map (λ x. x.cost) before) t.cost
+-- a cost more, for secrecy or not
+pub summed-on : (b : Bool) (before : List Transition) (t : Transition) → summed_by b [] (map (λ x. x.cost) (before ++ t ∷ [])) ≡ added (summed_by b [] (map (λ x. x.cost) before)) t.cost b
+summed-on b before t = ap (summed_by b []) (map-append (λ x. x.cost) before (t ∷ [])) ∙ put b [] (map (λ x. x.cost) before) t.cost
+
+-- a cost that is nothing changes no sum
+nothing-put : (b : Bool) (sum : List Term) → added sum bound.Zero b ≡ sum
+unfolding with_terms
+nothing-put true sum = refl
+nothing-put false sum = refl
 
 -- contexts by the numbers of their steps
 
@@ -198,7 +207,7 @@ pub record HasLinks (ds : List Declaration) (own : ℕ) (first : Tree) (cs : Con
   pub links : List Link
   pub chain : IsChain ds (known_to own) first links last
   pub contexts : HaveContexts ds own cs first links
-  pub sums : summed [] (costs_behind links) ≡ summed [] (map (λ t. t.cost) ts)
+  pub sums : (b : Bool) → summed_by b [] (costs_behind links) ≡ summed_by b [] (map (λ t. t.cost) ts)
 
 module _ (ds : List Declaration) (own : ℕ) (first : Tree) where
   abbrev at : Tree → Scene
@@ -210,9 +219,10 @@ module _ (ds : List Declaration) (own : ℕ) (first : Tree) where
       links = h.links ++ l ∷ [];
       chain = subst (IsChain ds (known_to own) first (h.links ++ l ∷ [])) n (chains.push h.links game l h.chain k);
       contexts = contexts_put ds own cs first h.links l h.contexts (subst (λ g. HasContext cs (at g) l) (sym (chain_ends ds (known_to own) first h.links game h.chain)) d);
-      sums = ap (summed []) (map-append cost_behind h.links (l ∷ []))
-          ∙ (summed_put [] (costs_behind h.links) (cost_behind l)
-          ∙ (ap₂ (λ sum k. added sum k false) h.sums (sym c) ∙ sym (summed-on before t)));
+      sums = λ b.
+          ap (summed_by b []) (map-append cost_behind h.links (l ∷ []))
+          ∙ (put b [] (costs_behind h.links) (cost_behind l)
+          ∙ (ap₂ (λ sum k. added sum k b) (h.sums b) (sym c) ∙ sym (summed-on b before t)));
     }
 
     -- a step that closes a query is none
@@ -223,7 +233,10 @@ module _ (ds : List Declaration) (own : ℕ) (first : Tree) where
           links = h.links;
           chain = subst (IsChain ds (known_to own) first h.links) (sym k.game) h.chain;
           contexts = h.contexts;
-          sums = h.sums ∙ (sym (nothing-more (summed [] (map (λ x. x.cost) before))) ∙ (ap (λ z. added (summed [] (map (λ x. x.cost) before)) z false) (sym k.costs) ∙ sym (summed-on before t)));
+          sums = λ b.
+              h.sums b
+              ∙ (sym (nothing-put b (summed_by b [] (map (λ x. x.cost) before)))
+              ∙ (ap (λ z. added (summed_by b [] (map (λ x. x.cost) before)) z b) (sym k.costs) ∙ sym (summed-on b before t)));
         }
 
     -- of a cryptographic step this is the context
@@ -251,7 +264,7 @@ module _ (ds : List Declaration) (own : ℕ) (first : Tree) where
       along-put first before t ∙ (ap (λ g. game_kept g (closing_in t.step) t.next) (along_is before game p) ∙ kept_by game t (suc (length before)) (closed_by before) i (closing_in t.step) refl)
 
   pub links_of : (ts : List Transition) (last : Tree) → IsProof ds (known_to own) first ts last → (rest : List Transition) → HasLinks ds own first (contexts_along ds own 1 first (ts ++ rest)) ts last
-  links_of ts last start rest = record { links = []; chain = chains.start; contexts = tt; sums = refl }
+  links_of ts last start rest = record { links = []; chain = chains.start; contexts = tt; sums = λ b. refl }
   links_of ts last (push before game t p i) rest =
       let cs = contexts_along ds own 1 first (before ++ t ∷ rest) in
       let n : 1 + length before ≡ suc (length before) = omega arith in
@@ -266,7 +279,7 @@ module _ (ds : List Declaration) (own : ℕ) (first : Tree) where
       let cs = contexts_along ds own 1 first (ts ++ rest) in
       let h = links_of ts last p rest in
       let advantages = advantages_in ds i cs x a in
-      subst (λ s. AtMost (distance (chance_of (setting_of ds i) x a first) (chance_of (setting_of ds i) x a last)) (sum_value i advantages s)) h.sums
+      subst (λ s. AtMost (distance (chance_of (setting_of ds i) x a first) (chance_of (setting_of ds i) x a last)) (sum_value i advantages s)) (sym (plain [] (costs_behind h.links)) ∙ (h.sums false ∙ plain [] (map (λ t. t.cost) ts)))
       (within ds own first w i sat x q (values i sat x q) a advantages h.links last h.chain (prices ds own cs i x a advantages (λ n. refl) first h.links h.contexts))
 
 -- the trail of a report

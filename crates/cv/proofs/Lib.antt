@@ -10,3 +10,4 @@ pub mod Verdicts
 pub mod Walking
 pub mod Writing
 pub mod Ended
+pub mod Closers

@@ -23,6 +23,7 @@ use cv_accept::{Accepted, read};
 use cv_derivations_reached::derivations_are_sound;
 use cv_query_certificates::accepted_exactly_where_nothing_fails;
 use cv_query_correspondences::accepted_correspondences_are_never_broken;
+use cv_query_secrets::{unread_choices_are_secret, unread_copies_are_secret_for_one_session};
 use cv_report::{Command, Report};
 use cv_report_outcome::refused;
 use cv_syntax::Work;
@@ -75,6 +76,8 @@ pub fn judge(alloc: Global, work: Work, bytes: &[u8]) -> Report
     derivations_are_sound();
     accepted_exactly_where_nothing_fails();
     accepted_correspondences_are_never_broken();
+    unread_choices_are_secret();
+    unread_copies_are_secret_for_one_session();
     let command = Command::Prove { moves: MOVES };
     let mut work = work;
     match read(alloc, &mut work, bytes) {

@@ -1,8 +1,8 @@
 -- A tree that doesn't bind an index: neither do its parts, nor does it with a part changed to one that doesn't.
-use Rattle.std.proofs.Common.{◌≡◌, ℕ, ◌+◌, ◌-◌, Bool, true, false, cond, nat_lt, Option, Some, None, is_some, refl, subst}
+use Rattle.std.proofs.Common.{◌≡◌, ℕ, ◌+◌, ◌-◌, ◌==◌, Bool, true, false, cond, nat_lt, List, [], ◌∷◌, map, Option, Some, None, is_some, refl, subst}
 use Rattle.std.proofs.lemmas.Bool.{both_ways}
 use Rattle.cv_syntax_trees.specs.declared.head.Head.{Head}
-use Rattle.cv_syntax_trees.specs.declared.head.Head.TheVariants.{Find, Repl}
+use Rattle.cv_syntax_trees.specs.declared.head.Head.TheVariants.{Find, Leaf, Let, Repl}
 use Rattle.cv_syntax_trees.specs.Head.{weight}
 use Rattle.cv_syntax_trees.specs.Tree.{Tree, Empty, Node, size, subtree}
 use Rattle.cv_meaning.specs.Replaced.{replaced}
@@ -10,11 +10,15 @@ use Rattle.cv_meaning.specs.Still.{defines}
 use Rattle.cv_directory_sorts.specs.Sites.{first_index, first_of, index_here}
 use Rattle.cv_scope_rules.specs.Phrases.{Phrase, Inputs, Term, parts, is_phrase}
 use Rattle.cv_scenes.specs.Pruning.{Part, Pruned, pruned}
-use Rattle.cv_scenes.specs.Scenes.{or_empty, part_at}
+use Rattle.cv_scenes.specs.Scenes.{head_reads, or_empty, part_at}
 use Rattle.cv_scenes.specs.Terms.{has_index}
-use Rattle.cv_steps.specs.Changes.{without}
+use Rattle.cv_derivations.specs.Given.{given_for, or_node, term_for, with_given}
+use Rattle.cv_scenes.specs.Sights.{at_cell}
+use Rattle.cv_steps.specs.Changes.{only, without}
+use Rattle.cv_steps.specs.Unletting.{Assignment, assigned_in, only_assignment, with_term, without_assignment}
 use Rattle.cv_steps.proofs.Flat.{is_of_terms, open_phrase, rows_still, AreStill, IfStill}
 use Rattle.cv_steps.proofs.Pruned.{left_keeps}
+use Rattle.cv_steps_laws.proofs.Unletted.{only_site}
 
 neither : {A : Type 0} (o u v : Option A) → is_some (first_of o (first_of u v)) ≡ false → (is_some o ≡ false) × (is_some u ≡ false) × (is_some v ≡ false)
 neither (Some a) u v e = absurd (both_ways true e refl)
@@ -110,3 +114,52 @@ module _ (i : ℕ) where
 
   pub lacking_term : (t : Tree) → is_phrase Term t ≡ true → Lacks t
   lacking_term t e = lacking_terms Term t refl e
+
+  -- a term with others for names, and in place of the reads of a variable
+
+  lacking_for : (names : List ℕ) (terms : Tree) (y : ℕ) (t : Tree) → Lacks terms → term_for names terms y ≡ Some t → Lacks t
+  lacking_for [] terms y t d e = absurd (cc)
+  lacking_for (z ∷ names) Empty y t d e = absurd (cc)
+  lacking_for (z ∷ names) (Node h a b) y t d e =
+      let q = lacking_parts h a b d in
+      go (z == y) e q.1 (lacking_for names b y t q.2)
+    where
+      go : (v : Bool) → cond v (Some a) (term_for names b y) ≡ Some t → Lacks a → (term_for names b y ≡ Some t → Lacks t) → Lacks t
+      go true e k l = subst Lacks (let s : a ≡ t = cc in s) k
+      go false e k l = l e
+
+  lacking_given : (names : List ℕ) (terms t : Tree) → Lacks terms → Lacks t → Lacks (with_given names terms t)
+  unfolding with_given
+  lacking_given names terms Empty d e = lacking_empty
+  lacking_given names terms (Node h a b) d e =
+      let q = lacking_parts h a b e in
+      go (given_for names terms h) refl q.0 (lacking_given names terms a d q.1) (lacking_given names terms b d q.2)
+    where
+      leaf : (h : Head) (t : Tree) → given_for names terms h ≡ Some t → Lacks t
+      leaf (Leaf y) t f = lacking_for names terms y t d f
+      leaf h t f = absurd (cc)
+
+      go : (o : Option Tree) → given_for names terms h ≡ o → is_some (index_here i h) ≡ false → Lacks (with_given names terms a) → Lacks (with_given names terms b) → Lacks (or_node o h (with_given names terms a) (with_given names terms b))
+      go None f n k l = lacking_node h (with_given names terms a) (with_given names terms b) n k l
+      go (Some t) f n k l = leaf h t f
+
+  lacking_put : (x : ℕ) (c : Assignment) (t : Tree) → Lacks c.term → Lacks t → Lacks (with_term x c t)
+  unfolding with_term
+  lacking_put x c Empty d e = lacking_empty
+  lacking_put x c (Node h a b) d e =
+      let q = lacking_parts h a b e in
+      go (head_reads x h) (lacking_given (map (λ (r : ℕ × ℕ). r.0) c.behind.replications) a c.term q.1 d) (lacking_put x c a d q.1) (lacking_put x c b d q.2)
+    where
+      go : (v : Bool) → Lacks (at_cell (Node h a b) c.behind c.term) → Lacks (with_term x c a) → Lacks (with_term x c b) → Lacks (cond v (at_cell (Node h a b) c.behind c.term) (Node h (with_term x c a) (with_term x c b)))
+      go true k l n = k
+      go false k l n = lacking_node h (with_term x c a) (with_term x c b) (lacking_parts h a b e).0 l n
+
+  lacking_assigned : (t m : Tree) → assigned_in t ≡ Some m → Lacks t → Lacks m
+  lacking_assigned (Node (Let x T) a b) m e d = subst Lacks (let s : a ≡ m = cc in s) (lacking_parts (Let x T) a b d).1
+  lacking_assigned (Node h a b) m e d = absurd (cc)
+  lacking_assigned Empty m e d = absurd (cc)
+
+  pub lacking_unletted : (x : ℕ) (c : Assignment) (game : Tree) → only_assignment game x ≡ Some c → Lacks game → Lacks (without_assignment x c game)
+  lacking_unletted x c game e d =
+      let s = only_site game x c e in
+      lacking_put x c (without (only x) game) (lacking_assigned (part_at game s.0) c.term s.2 (lacking_part game s.0 d)) (lacking_without (only x) game d)

@@ -9,13 +9,14 @@ use Rattle.cv_scenes.specs.Terms.{has_index, is_bool_at}
 use Rattle.cv_steps.specs.Changes.{after_let, after_new, change_at, only, split_process}
 use Rattle.cv_steps.specs.Judgements.{Accepted, judgement_of}
 use Rattle.cv_steps.specs.Sequences.{IsSequence, Passage, push, scene, start}
-use Rattle.cv_steps.specs.Steps.{Cost, Let, New, Prune, Rewrite, Split, Step, Unnew, Zero}
+use Rattle.cv_steps.specs.Steps.{Cost, Let, New, Prune, Rewrite, Split, Step, Unlet, Unnew, Zero}
 use Rattle.cv_steps.proofs.Pruned.{prune_leads}
 use Rattle.cv_steps.proofs.Rewritten.{rewrite_leads}
 use Rattle.cv_steps.proofs.Rows.{leads_same, unless_at_leads, unless_leads}
 use Rattle.cv_steps_laws.proofs.Keeping.{accepted, term_phrase}
+use Rattle.cv_steps_laws.proofs.Unletted.{unlet_leads}
 use Rattle.cv_context_queries.specs.Asked.{AskForNoIndex}
-use Rattle.cv_context_queries.proofs.Indices.{Lacks, lacking_empty, lacking_left, lacking_node, lacking_part, lacking_replaced, lacking_term, lacking_without}
+use Rattle.cv_context_queries.proofs.Indices.{Lacks, lacking_empty, lacking_left, lacking_node, lacking_part, lacking_replaced, lacking_term, lacking_unletted, lacking_without}
 
 -- a game with what stands at a place changed
 changed : (i : ℕ) (s : Scene) (p : ℕ) (change : Tree → Tree) → Lacks i s.game → (Lacks i (part_at s.game p) → Lacks i (change (part_at s.game p))) → Lacks i (change_at s.game p change)
@@ -50,6 +51,9 @@ lacking_next i s (Unnew x) next cost d e =
     let q = unless_leads (not (is_queried s x)) 2 0 _ next cost a.1 in
     let o = unless_at_leads 2 (first_reading x 0 s.game) _ next cost q.1 in
     subst (Lacks i) (leads_same _ next Zero cost o.1) (lacking_without i (only x) s.game d)
+lacking_next i s (Unlet x) next cost d e =
+    let z = unlet_leads s x next cost (accepted s (Unlet x) next cost e).row in
+    subst (Lacks i) z.leads (lacking_unletted i x z.assignment s.game z.defined d)
 lacking_next i s (Rewrite p m by) next cost d e =
     let r = accepted s (Rewrite p m by) next cost e in
     let z = rewrite_leads s p m by next cost r.row in

@@ -1,6 +1,6 @@
 -- How large changed parts are, and how many nodes stand above a place.
 use Rattle.std.proofs.Common.{◌≡◌, ℕ, ◌+◌, ◌*◌, max, ap, arith}
-use Rattle.cv_syntax_trees.specs.Tree.{Tree, Empty, Node, size, depth}
+use Rattle.cv_syntax_trees.specs.Tree.{Tree, Empty, size, depth}
 use Rattle.cv_syntax.proofs.Walking.{depth-le-size, size-node}
 use Rattle.cv_syntax.proofs.Trees.{empty_at, size-Empty}
 use Rattle.cv_path.specs.Places.{nodes_above}

@@ -1,18 +1,16 @@
-ghost use Rattle.std.specs.Prelude.{◌≡◌, ◌+◌, ◌<◌, ◌≤◌, ◌^◌, ◌++◌, ◌↔◌, ℕ, IfOk, IsErrOf, OnErr, OnOk, Some, length, map, reverse};
+ghost use Rattle.std.specs.Prelude.{◌≡◌, ◌+◌, ◌<◌, ◌≤◌, ◌^◌, ◌++◌, ℕ, IfOk, IsErrOf, OnErr, OnOk, Some, length};
 ghost use Rattle.cv_pool.specs.Nodes.{ChildBelow};
 ghost use Rattle.cv_pool.specs.PoolView.{Grows};
-ghost use Rattle.cv_syntax.specs.Planting.{overs};
 ghost use Rattle.cv_syntax.specs.Postorder.{postorder};
 ghost use Rattle.cv_syntax_trees.specs.Tree as tree;
-ghost use Rattle.cv_syntax_trees.specs.Tree.{Tree};
 ghost use Rattle.cv_syntax.specs.PoolTrees.{tree_at};
 ghost use Rattle.cv_meaning.specs.Still.{defines};
 ghost use Rattle.cv_steps.specs.Changes.{without, only};
 ghost use Rattle.cv_draw.specs.Dropping.{need_without};
-ghost use Rattle.cv_syntax.specs.declared.make.Make.TheVariants as make;
 
+use cv_draw_listing::{close, plant_listed};
 use cv_pool::PoolError;
-use cv_syntax::{Head, Make, NodeId, Pool, plant, read_node};
+use cv_syntax::{Head, Make, NodeId, Pool, read_node};
 use cv_syntax_limits::Extent;
 use std::alloc::{AllocError, Global};
 
@@ -81,18 +79,6 @@ pub fn measure_without(pool: &Pool, root: NodeId, x: u32) -> Extent
     }
 }
 
-/// Makes nodes over what was listed, the newest head first.
-fn close(makes: &mut Vec<Make>, heads: Vec<Head>) -> Result<(), AllocError>
-    ensures { OnOk result (makes.new.items
-        ≡ makes.old.items ++ map make.Over (reverse heads.items)) }
-{
-    let mut left = heads;
-    'up: while let Some(head) = left.pop() {
-        makes.push(Make::Over(head))?;
-    }
-    Ok(())
-}
-
 /// Lists a tree without the definitions of a variable, each node behind its children.
 fn list(
     alloc: Global,
@@ -117,24 +103,6 @@ fn list(
     }
     makes.push(Make::Nothing)?;
     close(makes, heads)
-}
-
-/// Makes a listed tree.
-fn planted(alloc: Global, pool: &mut Pool, makes: &[Make]) -> Result<Option<NodeId>, PoolError>
-    requires { overs makes.now < 2 ^ 32 }
-    ensures tree { (t : Tree) → makes.now ≡ postorder t
-        → IfOk result (λ n. tree_at pool.new.trees n ≡ t) }
-    ensures live { IfOk result (λ n. ChildBelow (length pool.new.trees) n) }
-    ensures grows { OnOk result (Grows pool.old pool.new) }
-    ensures full { IsErrOf result (PoolError.Full (overs makes.now))
-        ↔ (pool.old.limit < length pool.old.trees + overs makes.now) }
-    ensures other { (n : ℕ) → IsErrOf result (PoolError.Full n) → n ≡ overs makes.now }
-    ensures kept { OnErr result (pool.new.trees ≡ pool.old.trees) }
-    ensures limit { pool.new.limit ≡ pool.old.limit }
-    ensures few { length pool.new.trees ≤ length pool.old.trees + overs makes.now }
-{
-    let mut roots = plant(alloc, pool, makes)?;
-    Ok(roots.pop().unwrap_or(None))
 }
 
 /// Makes the game without the definitions of a variable. The pool is asked for room for all of its nodes at once,
@@ -163,14 +131,7 @@ pub fn drop_variable(
 {
     let mut makes = Vec::new(alloc);
     match list(alloc, pool, &mut makes, x, Some(root)) {
-        Ok(()) => {
-            if makes.len() / 2 >= 4_294_967_295 {
-                return Err(PoolError::Full {
-                    need: 4_294_967_295,
-                });
-            }
-            planted(alloc, pool, &makes)
-        }
+        Ok(()) => plant_listed(alloc, pool, &makes),
         Err(AllocError) => Err(PoolError::OutOfMemory),
     }
 }

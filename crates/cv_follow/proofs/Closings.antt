@@ -4,62 +4,64 @@ use Rattle.std.specs.List.{list_all}
 use Rattle.cv_bound.specs.declared.cost.Cost.{Cost as SumCost}
 use Rattle.cv_bound.specs.declared.cost.Cost.TheVariants as bound
 use Rattle.cv_bound.specs.declared.terms.Term.{Term}
-use Rattle.cv_bound.specs.Sums.{added, with_terms}
+use Rattle.cv_bound.specs.Sums.{with_terms}
+use Rattle.cv_kernel_costs.specs.Sums.{no_sums, sum_for, with_cost}
+use Rattle.cv_kernel_costs.specs.declared.sums.Sums.{Sums}
 use Rattle.cv_kernel_closed.specs.declared.queries.ClosedQuery.{ClosedQuery}
 use Rattle.cv_kernel_closed.specs.Queries.{is_among, numbers_of, sum_in}
-use Rattle.cv_kernel.specs.Closings.{Closing, closing_in}
-use Rattle.cv_kernel.specs.Proofs.{Transition, closed_by, number_before, sum_at, sum_behind, sum_from, sum_of}
+use Rattle.cv_kernel.specs.Closings.{Closing, closing_in, is_of_secrecy}
+use Rattle.cv_kernel.specs.Proofs.{Transition, closed_by, number_before, sum_at, sum_from, sum_of, sums_behind}
 use Rattle.cv_plain.specs.Strategy.{is_proved}
 use Rattle.cv_report.specs.declared.report.Verdict.{Verdict}
 use Rattle.cv_syntax_trees.specs.Tree.{Tree}
 use Rattle.cv_report_verdicts.specs.Verdicts.{verdict_by, verdicts_by}
 use Rattle.cv_follow.specs.Scripts.{first_open}
-use Rattle.cv_follow.specs.Walks.{closed_before, closings_from, sum_along}
+use Rattle.cv_follow.specs.Walks.{closed_before, closings_from, sums_along}
 
--- a sum with nothing more is the same
-pub nothing-more : (sum : List Term) → added sum bound.Zero false ≡ sum
+-- a sums with nothing more is the same
+pub nothing-more : (sums : Sums) → with_cost sums bound.Zero ≡ sums
 unfolding with_terms
-nothing-more sum = refl
+nothing-more sums = refl
 
 -- a transition more
 
-pub sum-put : (sum : List Term) (ts : List Transition) (t : Transition) → sum_along sum (ts ++ t ∷ []) ≡ sum_behind (sum_along sum ts) (closing_in t.step) t.cost
-sum-put sum [] t = refl
-sum-put sum (u ∷ ts) t = sum-put (sum_behind sum (closing_in u.step) u.cost) ts t
+pub sum-put : (sums : Sums) (ts : List Transition) (t : Transition) → sums_along sums (ts ++ t ∷ []) ≡ sums_behind (sums_along sums ts) (closing_in t.step) t.cost
+sum-put sums [] t = refl
+sum-put sums (u ∷ ts) t = sum-put (sums_behind sums (closing_in u.step) u.cost) ts t
 
-before-put : (sum : List Term) (cost : SumCost) (c : Option Closing) (xs ys : List ClosedQuery) → closed_before sum cost c (xs ++ ys) ≡ closed_before sum cost c xs ++ ys
-before-put sum cost None xs ys = refl
-before-put sum cost (Some c) xs ys = refl
+before-put : (sums : Sums) (cost : SumCost) (c : Option Closing) (xs ys : List ClosedQuery) → closed_before sums cost c (xs ++ ys) ≡ closed_before sums cost c xs ++ ys
+before-put sums cost None xs ys = refl
+before-put sums cost (Some c) xs ys = refl
 
-pub closings-put : (sum : List Term) (ts : List Transition) (t : Transition) → closings_from sum (ts ++ t ∷ []) ≡ closings_from sum ts ++ closed_before (sum_along sum ts) t.cost (closing_in t.step) []
-closings-put sum [] t = refl
-closings-put sum (u ∷ ts) t =
-    let s = sum_behind sum (closing_in u.step) u.cost in
-    ap (closed_before sum u.cost (closing_in u.step)) (closings-put s ts t) ∙ before-put sum u.cost (closing_in u.step) (closings_from s ts) (closed_before (sum_along s ts) t.cost (closing_in t.step) [])
+pub closings-put : (sums : Sums) (ts : List Transition) (t : Transition) → closings_from sums (ts ++ t ∷ []) ≡ closings_from sums ts ++ closed_before (sums_along sums ts) t.cost (closing_in t.step) []
+closings-put sums [] t = refl
+closings-put sums (u ∷ ts) t =
+    let s = sums_behind sums (closing_in u.step) u.cost in
+    ap (closed_before sums u.cost (closing_in u.step)) (closings-put s ts t) ∙ before-put sums u.cost (closing_in u.step) (closings_from s ts) (closed_before (sums_along s ts) t.cost (closing_in t.step) [])
 
 -- the numbers and the sums are those of the transitions
 
-numbers-before : (sum : List Term) (cost : SumCost) (c : Option Closing) (xs : List ClosedQuery) → numbers_of (closed_before sum cost c xs) ≡ number_before c (numbers_of xs)
-numbers-before sum cost None xs = refl
-numbers-before sum cost (Some c) xs = refl
+numbers-before : (sums : Sums) (cost : SumCost) (c : Option Closing) (xs : List ClosedQuery) → numbers_of (closed_before sums cost c xs) ≡ number_before c (numbers_of xs)
+numbers-before sums cost None xs = refl
+numbers-before sums cost (Some c) xs = refl
 
-pub numbers-same : (sum : List Term) (ts : List Transition) → numbers_of (closings_from sum ts) ≡ closed_by ts
-numbers-same sum [] = refl
-numbers-same sum (t ∷ ts) =
-    let s = sum_behind sum (closing_in t.step) t.cost in
-    numbers-before sum t.cost (closing_in t.step) (closings_from s ts) ∙ ap (number_before (closing_in t.step)) (numbers-same s ts)
+pub numbers-same : (sums : Sums) (ts : List Transition) → numbers_of (closings_from sums ts) ≡ closed_by ts
+numbers-same sums [] = refl
+numbers-same sums (t ∷ ts) =
+    let s = sums_behind sums (closing_in t.step) t.cost in
+    numbers-before sums t.cost (closing_in t.step) (closings_from s ts) ∙ ap (number_before (closing_in t.step)) (numbers-same s ts)
 
-sums-before : (sum : List Term) (cost : SumCost) (k : ℕ) (c : Option Closing) (xs : List ClosedQuery) → sum_in (closed_before sum cost c xs) k ≡ sum_at sum cost k c (sum_in xs k)
-sums-before sum cost k None xs = refl
-sums-before sum cost k (Some c) xs = refl
+sums-before : (sums : Sums) (cost : SumCost) (k : ℕ) (c : Option Closing) (xs : List ClosedQuery) → sum_in (closed_before sums cost c xs) k ≡ sum_at sums cost k c (sum_in xs k)
+sums-before sums cost k None xs = refl
+sums-before sums cost k (Some c) xs = refl
 
-pub sums-same : (sum : List Term) (ts : List Transition) (k : ℕ) → sum_in (closings_from sum ts) k ≡ sum_from sum ts k
-sums-same sum [] k = refl
-sums-same sum (t ∷ ts) k =
-    let s = sum_behind sum (closing_in t.step) t.cost in
-    sums-before sum t.cost k (closing_in t.step) (closings_from s ts) ∙ ap (sum_at sum t.cost k (closing_in t.step)) (sums-same s ts k)
+pub sums-same : (sums : Sums) (ts : List Transition) (k : ℕ) → sum_in (closings_from sums ts) k ≡ sum_from sums ts k
+sums-same sums [] k = refl
+sums-same sums (t ∷ ts) k =
+    let s = sums_behind sums (closing_in t.step) t.cost in
+    sums-before sums t.cost k (closing_in t.step) (closings_from s ts) ∙ ap (sum_at sums t.cost k (closing_in t.step)) (sums-same s ts k)
 
--- a query has a sum exactly where it is closed
+-- a query has a sums exactly where it is closed
 
 among-cons : (n : ℕ) (ks : List ℕ) (k : ℕ) (s : List Term) (o : Option (List Term)) → is_among ks k ≡ is_some o → is_among (n ∷ ks) k ≡ is_some (if n == k then Some s else o)
 among-cons n ks k s o e = by (n == k)
@@ -68,15 +70,15 @@ among-cons n ks k s o e = by (n == k)
     by true = refl
     by false = e
 
-among-at : (sum : List Term) (cost : SumCost) (k : ℕ) (c : Option Closing) (ks : List ℕ) (o : Option (List Term)) → is_among ks k ≡ is_some o → is_among (number_before c ks) k ≡ is_some (sum_at sum cost k c o)
-among-at sum cost k None ks o e = e
-among-at sum cost k (Some c) ks o e = among-cons c.query ks k (added sum cost false) o e
+among-at : (sums : Sums) (cost : SumCost) (k : ℕ) (c : Option Closing) (ks : List ℕ) (o : Option (List Term)) → is_among ks k ≡ is_some o → is_among (number_before c ks) k ≡ is_some (sum_at sums cost k c o)
+among-at sums cost k None ks o e = e
+among-at sums cost k (Some c) ks o e = among-cons c.query ks k (sum_for (is_of_secrecy c) (with_cost sums cost)) o e
 
-pub among-same : (sum : List Term) (ts : List Transition) (k : ℕ) → is_among (closed_by ts) k ≡ is_some (sum_from sum ts k)
-among-same sum [] k = refl
-among-same sum (t ∷ ts) k =
-    let s = sum_behind sum (closing_in t.step) t.cost in
-    among-at sum t.cost k (closing_in t.step) (closed_by ts) (sum_from s ts k) (among-same s ts k)
+pub among-same : (sums : Sums) (ts : List Transition) (k : ℕ) → is_among (closed_by ts) k ≡ is_some (sum_from sums ts k)
+among-same sums [] k = refl
+among-same sums (t ∷ ts) k =
+    let s = sums_behind sums (closing_in t.step) t.cost in
+    among-at sums t.cost k (closing_in t.step) (closed_by ts) (sum_from s ts k) (among-same s ts k)
 
 -- verdicts
 
@@ -100,9 +102,9 @@ proved-by None false k later vs e h f = absurd (cc)
 proved-by (Some s) true k later vs e h f = f h
 proved-by (Some s) false k later vs e h f = absurd (cc)
 
-all-proved-from : (sum : List Term) (ts : List Transition) (k : ℕ) (qs : List Tree) → first_open (closed_by ts) k qs ≡ None → list_all is_proved (verdicts_by (sum_from sum ts) k qs) ≡ true
-all-proved-from sum ts k [] e = refl
-all-proved-from sum ts k (q ∷ qs) e = proved-by (sum_from sum ts k) (is_among (closed_by ts) k) k (first_open (closed_by ts) (suc k) qs) (verdicts_by (sum_from sum ts) (suc k) qs) (among-same sum ts k) e (all-proved-from sum ts (suc k) qs)
+all-proved-from : (sums : Sums) (ts : List Transition) (k : ℕ) (qs : List Tree) → first_open (closed_by ts) k qs ≡ None → list_all is_proved (verdicts_by (sum_from sums ts) k qs) ≡ true
+all-proved-from sums ts k [] e = refl
+all-proved-from sums ts k (q ∷ qs) e = proved-by (sum_from sums ts k) (is_among (closed_by ts) k) k (first_open (closed_by ts) (suc k) qs) (verdicts_by (sum_from sums ts) (suc k) qs) (among-same sums ts k) e (all-proved-from sums ts (suc k) qs)
 
 pub all-proved : (ts : List Transition) (qs : List Tree) → first_open (closed_by ts) 1 qs ≡ None → list_all is_proved (verdicts_by (sum_of ts) 1 qs) ≡ true
-all-proved ts qs e = all-proved-from [] ts 1 qs e
+all-proved ts qs e = all-proved-from no_sums ts 1 qs e

@@ -1,5 +1,5 @@
 -- Scripts that are followed, step by step.
-use Rattle.std.proofs.Common.{◌≡◌, ℕ, zero, suc, ◌+◌, ◌<◌, ◌≤◌, false, List, [], ◌∷◌, ◌++◌, length, length-append, map, drop, take, refl, ap, ap₂, sym, ◌∙◌, subst, arith, append-nil, get_or, Option, Some, None, option_and_then, Ok, Err, inl, inr}
+use Rattle.std.proofs.Common.{◌≡◌, ℕ, zero, suc, ◌+◌, ◌<◌, ◌≤◌, List, [], ◌∷◌, ◌++◌, length, length-append, map, drop, take, refl, ap, ap₂, sym, ◌∙◌, subst, arith, append-nil, get_or, Option, Some, None, option_and_then, Ok, Err, inl, inr}
 use Rattle.std.proofs.lemmas.List.{map-append, map_more}
 use Rattle.std.specs.Prelude.{All, IfSome, option_map, slice_index_or}
 use Rattle.std.proofs.lemmas.List.Elements.{All-cons, All-nil}
@@ -20,7 +20,6 @@ use Rattle.cv_syntax.specs.declared.work.Work.{Work}
 use Rattle.cv_accept.proofs.Blocks.{declarations-grown, root-grown}
 use Rattle.cv_bound.specs.declared.cost.Cost.{Cost}
 use Rattle.cv_bound.specs.declared.cost.Cost.TheVariants as bound
-use Rattle.cv_bound.specs.Sums.{added}
 use Rattle.cv_kernel.specs.declared.error.PushError.{PushError}
 use Rattle.cv_kernel.specs.declared.error.PushError.TheVariants as fault
 use Rattle.cv_kernel.specs.declared.sequence.Sequence.{Sequence}
@@ -36,11 +35,13 @@ use Rattle.cv_steps_crypto.specs.Conditions.{equivalence_by}
 use Rattle.cv_steps_crypto.specs.Steps.{IsOutcome, Outcome}
 use Rattle.cv_steps_crypto.specs.Steps as outcome
 use Rattle.cv_kernel_crypto.specs.Applied as crypto
-use Rattle.cv_kernel.specs.Closings.{Closing, closing_failure, closing_in, closing_of_items, judgement_by_closing, judgement_in, judgement_of_failure}
-use Rattle.cv_kernel.specs.Proofs.{IsProof, IsTransition, Transition, closed_by, game_behind, nodes_along, push, shape_at, shape_by, start, sum_behind, sum_of}
+use Rattle.cv_kernel.specs.Closings.{Closing, closing_failure, closing_in, closing_of_items, judgement_by_closing, judgement_in, judgement_of_failure, is_of_secrecy}
+use Rattle.cv_kernel.specs.Proofs.{IsProof, IsTransition, Transition, closed_by, game_behind, nodes_along, push, shape_at, shape_by, start, sums_behind, sum_of}
 use Rattle.cv_kernel.specs.Rules.{IsDrawn}
 use Rattle.cv_kernel.specs.Sayings.{Accepted, IsSaid, MaySay, saying_by, saying_of}
 use Rattle.cv_kernel_costs.specs.Costs.{advantage_of}
+use Rattle.cv_kernel_costs.specs.Sums.{no_sums, sum_for, with_cost}
+use Rattle.cv_kernel_costs.specs.declared.sums.Sums.{Sums}
 use Rattle.cv_steps.specs.Costs.{cost_of}
 use Rattle.cv_kernel.specs.Sequences as kernel
 use Rattle.cv_kernel.specs.Sequences.{IsPushed, needed, needed_by, needed_for}
@@ -103,7 +104,7 @@ on_none P None e = tt
 on_none P (Some x) e = absurd (cc)
 
 -- no step was taken
-pub followed_none : (before : ℕ) (ds : List Declaration) (own : ℕ) (trees : List KindTree) (s : Sequence) (trail : List Entry) (first : Tree) → trail ≡ [] → s.steps ≡ 0 → s.sum ≡ [] → s.closed ≡ [] → length trees ≤ before → kernel.game_in trees s ≡ first → HasFollowed before ds own first [] trees s trail
+pub followed_none : (before : ℕ) (ds : List Declaration) (own : ℕ) (trees : List KindTree) (s : Sequence) (trail : List Entry) (first : Tree) → trail ≡ [] → s.steps ≡ 0 → s.sum ≡ no_sums → s.closed ≡ [] → length trees ≤ before → kernel.game_in trees s ≡ first → HasFollowed before ds own first [] trees s trail
 followed_none before ds own trees s trail first e c m k l g = record {
   proof = [];
   steps = refl;
@@ -157,7 +158,7 @@ module _ (before : ℕ) (ds : List Declaration) (own : ℕ) (first : Tree) (old 
       ∙ ap (judgement_by_closing (file_scene s) ks step) (sym i))
 
   numbers : (front : List Tree) (s : Sequence) (trail : List Entry) (h : HasFollowed before ds own first front old.trees s trail) → numbers_of s.closed ≡ closed_by h.proof
-  numbers front s trail h = ap numbers_of h.closed ∙ numbers-same [] h.proof
+  numbers front s trail h = ap numbers_of h.closed ∙ numbers-same no_sums h.proof
 
   entry_live : (t : Sequence) (step : Step) (e : Entry) (c : Option Closing) → e.step ≡ step → e.next ≡ next_of c t.game → step.0.0 < length new.trees → t.game.root.0 < length new.trees → EntryLive (length new.trees) e
   entry_live t step e c i j l m = (subst (λ (x : Step). x.0.0 < length new.trees) (sym i) l, subst (λ (o : Option Game). IfSome o (λ q. q.root.0 < length new.trees)) (sym j) (behind c))
@@ -175,7 +176,7 @@ module _ (before : ℕ) (ds : List Declaration) (own : ℕ) (first : Tree) (old 
     pub said : IsSaid (file_scene s) ks (suc s.steps) tree (Accepted (kernel.game_in new.trees t) cost)
     pub shape : option_map shape_in t.context ≡ shape_at (file_scene s) tree
     pub steps : t.steps ≡ suc s.steps
-    pub sum : t.sum ≡ sum_behind s.sum (closing_in tree) cost
+    pub sum : t.sum ≡ sums_behind s.sum (closing_in tree) cost
     pub closed : t.closed ≡ s.closed ++ closed_before s.sum cost (closing_in tree) []
 
   followed_put : (front : List Tree) (s t : Sequence) (trail after : List Entry) (step : Step) (tree : Tree) (h : HasFollowed before ds own first front old.trees s trail) (n : IsNoted t step tree trail after) → Leaves s t tree (closed_by h.proof) n.entry.cost → Grows old new → tree_at new.trees (Some step.0) ≡ tree → step.0.0 < length new.trees → t.game.root.0 < length new.trees
@@ -203,9 +204,9 @@ module _ (before : ℕ) (ds : List Declaration) (own : ℕ) (first : Tree) (old 
             ∙ (map-append (entry_in new.trees) trail (n.entry ∷ [])
             ∙ (ap₂ (λ xs x. xs ++ x ∷ []) (entries_same old new trail g h.live ∙ h.entries) entry ∙ sym (map-append entry_of h.proof (one ∷ []))));
         count = v.steps ∙ (ap suc h.count ∙ sym (length-append h.proof (one ∷ []) ∙ (let e : length h.proof + 1 ≡ suc (length h.proof) = omega arith in e)));
-        sum = v.sum ∙ (ap (λ x. sum_behind x (closing_in tree) n.entry.cost) h.sum ∙ sym (sum-put [] h.proof one));
+        sum = v.sum ∙ (ap (λ x. sums_behind x (closing_in tree) n.entry.cost) h.sum ∙ sym (sum-put no_sums h.proof one));
         closed = v.closed
-            ∙ (ap₂ (λ xs x. xs ++ closed_before x n.entry.cost (closing_in tree) []) h.closed h.sum ∙ sym (closings-put [] h.proof one));
+            ∙ (ap₂ (λ xs x. xs ++ closed_before x n.entry.cost (closing_in tree) []) h.closed h.sum ∙ sym (closings-put no_sums h.proof one));
         nodes = (
             let a = nodes-append ds (known_to own) first h.proof one in
             let m = h.nodes in
@@ -218,12 +219,12 @@ module _ (before : ℕ) (ds : List Declaration) (own : ℕ) (first : Tree) (old 
 
   -- what the sum and the closed queries are behind a step that closes none
   record Adds (s t : Sequence) (tree : Tree) (cost : Cost) : Type 0 where
-    pub sum : t.sum ≡ sum_behind s.sum (closing_in tree) cost
+    pub sum : t.sum ≡ sums_behind s.sum (closing_in tree) cost
     pub closed : t.closed ≡ s.closed ++ closed_before s.sum cost (closing_in tree) []
 
-  adds : (s t : Sequence) (tree : Tree) (cost taken : Cost) → closing_in tree ≡ None → cost ≡ taken → t.sum ≡ added s.sum taken false → t.closed ≡ s.closed → Adds s t tree cost
+  adds : (s t : Sequence) (tree : Tree) (cost taken : Cost) → closing_in tree ≡ None → cost ≡ taken → t.sum ≡ with_cost s.sum taken → t.closed ≡ s.closed → Adds s t tree cost
   adds s t tree cost taken n c m k = record {
-    sum = m ∙ (ap (λ x. added s.sum x false) (sym c) ∙ ap (λ o. sum_behind s.sum o cost) (sym n));
+    sum = m ∙ (ap (with_cost s.sum) (sym c) ∙ ap (λ o. sums_behind s.sum o cost) (sym n));
     closed = k ∙ (sym (append-nil s.closed) ∙ ap (λ o. s.closed ++ closed_before s.sum cost o []) (sym n));
   }
 
@@ -265,9 +266,9 @@ module _ (before : ℕ) (ds : List Declaration) (own : ℕ) (first : Tree) (old 
           said = j.said (file_scene s) ks (suc s.steps) tree _ (ap₂ Accepted game costs ∙ close_said s ks tree c None n k f);
           shape = ap (option_map shape_in) w.context ∙ sym (j.shape (file_scene s));
           steps = w.steps;
-          sum = w.sum ∙ ap (λ o. sum_behind s.sum o cost) (sym n);
+          sum = w.sum ∙ ap (λ o. sums_behind s.sum o cost) (sym n);
           closed = w.closed
-              ∙ (ap (λ x. s.closed ++ record { query = c.query; sum = x } ∷ []) (sym (nothing-more s.sum) ∙ ap (λ x. added s.sum x false) (sym costs))
+              ∙ (ap (λ (x : Sums). s.closed ++ record { query = c.query; sum = sum_for (is_of_secrecy c) x } ∷ []) (sym (nothing-more s.sum) ∙ ap (with_cost s.sum) (sym costs))
               ∙ ap (λ o. s.closed ++ closed_before s.sum cost o []) (sym n));
         }
 
@@ -336,7 +337,7 @@ module _ (before : ℕ) (ds : List Declaration) (own : ℕ) (first : Tree) (old 
 module _ (before : ℕ) (ds : List Declaration) (own : ℕ) (first : Tree) (trees : List KindTree) (s : Sequence) (trail : List Entry) (front : List Tree) (h : HasFollowed before ds own first front trees s trail) where
   -- the verdicts on queries
   verdicts : (queries : List Tree) (vs : List Verdict) → vs ≡ verdicts_by (sum_in s.closed) 1 queries → vs ≡ verdicts_of h.proof queries
-  verdicts queries vs e = e ∙ verdicts-same (sum_in s.closed) (sum_of h.proof) 1 queries (λ k. ap (λ cs. sum_in cs k) h.closed ∙ sums-same [] h.proof k)
+  verdicts queries vs e = e ∙ verdicts-same (sum_in s.closed) (sum_of h.proof) 1 queries (λ k. ap (λ cs. sum_in cs k) h.closed ∙ sums-same no_sums h.proof k)
 
   -- the script ends
   pub walk_ends : (steps queries : List Tree) (w : Walk) → steps ≡ front → w.trail.items ≡ trail → w.verdicts.items ≡ verdicts_by (sum_in s.closed) 1 queries → w.status ≡ ended_with (first_unclosed (numbers_of s.closed) (length w.verdicts.items)) → IsWalk before ds own first steps queries trees w
@@ -349,7 +350,7 @@ module _ (before : ℕ) (ds : List Declaration) (own : ℕ) (first : Tree) (tree
           split = e ∙ (h.steps ∙ sym (append-nil (map (λ x. x.step) h.proof)));
           last = kernel.game_in trees s;
           leads = h.leads;
-          ends = i ∙ ap ended_with (ap₂ first_unclosed (ap numbers_of h.closed ∙ numbers-same [] h.proof) (ap length vs ∙ verdicts-length (sum_of h.proof) 1 queries));
+          ends = i ∙ ap ended_with (ap₂ first_unclosed (ap numbers_of h.closed ∙ numbers-same no_sums h.proof) (ap length vs ∙ verdicts-length (sum_of h.proof) 1 queries));
         };
         trail = ap (map (entry_in trees)) t ∙ h.entries;
         verdicts = vs;
@@ -409,7 +410,7 @@ module _ (fn now : Work) (first : Tree) (script : List Step) (below : All (IsBel
     followed_stops trees queries e w kept limit p i put v =
         let step : Step = get_or script k d in
         let all = ap (trees_of fn.pool.trees) (split_here script k d l) ∙ map-append tree_of (take k script) (step ∷ drop (k + 1) script) in
-        let stops = stops_at (length fn.pool.trees) (declarations fn.pool.trees fn.decls.list) fn.decls.own first now.pool now.pool now.decls is_ds (ap (λ (v : DeclsView). v.own) same_decls) s t (closed_by h.proof) trees (tree_of step) e (length fn.pool.trees + nodes_along (declarations fn.pool.trees fn.decls.list) (known_to fn.decls.own) first h.proof) w.status (ap numbers_of h.closed ∙ numbers-same [] h.proof)
+        let stops = stops_at (length fn.pool.trees) (declarations fn.pool.trees fn.decls.list) fn.decls.own first now.pool now.pool now.decls is_ds (ap (λ (v : DeclsView). v.own) same_decls) s t (closed_by h.proof) trees (tree_of step) e (length fn.pool.trees + nodes_along (declarations fn.pool.trees fn.decls.list) (known_to fn.decls.own) first h.proof) w.status (ap numbers_of h.closed ∙ numbers-same no_sums h.proof)
         (subst (λ x. IsPushed now.pool now.decls trees s t x (Err e)) same p) i limit h.nodes in
         subst (λ ts. IsWalk (length fn.pool.trees) (declarations fn.pool.trees fn.decls.list) fn.decls.own first (trees_of fn.pool.trees script) queries ts w) (sym kept)
         (walk_stops (length fn.pool.trees) (declarations fn.pool.trees fn.decls.list) fn.decls.own first now.pool.trees s trail (trees_of fn.pool.trees (take k script)) h (trees_of fn.pool.trees script) queries (tree_of step) (trees_of fn.pool.trees (drop (k + 1) script)) w all put v stops)

@@ -1,18 +1,18 @@
 -- How far a script was followed.
-use Rattle.std.specs.Prelude.{◌≡◌, ℕ, ◌+◌, ◌≤◌, false, All, List, [], ◌∷◌, ◌++◌, length, map, Option, Some, None, option_map}
+use Rattle.std.specs.Prelude.{◌≡◌, ℕ, ◌+◌, ◌≤◌, All, List, [], ◌∷◌, ◌++◌, length, map, Option, Some, None, option_map}
 use Rattle.cv_script.specs.declared.steps.Step.{Step}
 use Rattle.cv_kernel.specs.declared.error.PushError.{PushError}
 use Rattle.cv_kernel.specs.declared.error.PushError.TheVariants as push
 use Rattle.cv_kernel.specs.declared.sequence.Sequence.{Sequence}
 use Rattle.cv_kernel_closed.specs.declared.queries.ClosedQuery.{ClosedQuery}
-use Rattle.cv_kernel.specs.Closings.{Closing, closing_in}
-use Rattle.cv_kernel.specs.Proofs.{IsProof, Transition, nodes_along, sum_behind}
+use Rattle.cv_kernel.specs.Closings.{Closing, closing_in, is_of_secrecy}
+use Rattle.cv_kernel.specs.Proofs.{IsProof, Transition, nodes_along, sums_behind}
 use Rattle.cv_kernel.specs.Sequences as kernel
 use Rattle.cv_context_products.specs.ShapesInCode.{shape_in}
 use Rattle.cv_pool.specs.KindTree.{KindTree}
 use Rattle.cv_bound.specs.declared.cost.Cost.{Cost}
-use Rattle.cv_bound.specs.declared.terms.Term.{Term}
-use Rattle.cv_bound.specs.Sums.{added}
+use Rattle.cv_kernel_costs.specs.Sums.{no_sums, sum_for, with_cost}
+use Rattle.cv_kernel_costs.specs.declared.sums.Sums.{Sums}
 use Rattle.cv_report.specs.declared.report.Cause.TheVariants.{StepRefused}
 use Rattle.cv_report.specs.declared.report.Entry.{Entry}
 use Rattle.cv_report.specs.declared.report.Status.{Status}
@@ -35,20 +35,20 @@ stop_of (push.Build (build.Depth depth)) count = Some (status.Limit (Depth depth
 stop_of (push.Build (build.Full need)) count = Some (status.Limit (Pool need))
 stop_of (push.Build build.OutOfMemory) count = None
 
--- what a sequence holds behind transitions: the sum of those that close no query, and the queries that others close
+-- what a sequence holds behind transitions: the sums of those that close no query, and the queries that others close
 
-abbrev pub sum_along : (sum : List Term) → List Transition → List Term
-sum_along sum [] = sum
-sum_along sum (t ∷ ts) = sum_along (sum_behind sum (closing_in t.step) t.cost) ts
+abbrev pub sums_along : Sums → List Transition → Sums
+sums_along sums [] = sums
+sums_along sums (t ∷ ts) = sums_along (sums_behind sums (closing_in t.step) t.cost) ts
 
-abbrev pub closed_before : (sum : List Term) → Cost → Option Closing → List ClosedQuery → List ClosedQuery
-closed_before sum cost None later = later
-closed_before sum cost (Some c) later = record { query = c.query; sum = added sum cost false } ∷ later
+abbrev pub closed_before : Sums → Cost → Option Closing → List ClosedQuery → List ClosedQuery
+closed_before sums cost None later = later
+closed_before sums cost (Some c) later = record { query = c.query; sum = sum_for (is_of_secrecy c) (with_cost sums cost) } ∷ later
 
-abbrev pub closings_from : (sum : List Term) → List Transition → List ClosedQuery
-closings_from sum [] = []
-closings_from sum (t ∷ ts) =
-    closed_before sum t.cost (closing_in t.step) (closings_from (sum_behind sum (closing_in t.step) t.cost) ts)
+abbrev pub closings_from : Sums → List Transition → List ClosedQuery
+closings_from sums [] = []
+closings_from sums (t ∷ ts) =
+    closed_before sums t.cost (closing_in t.step) (closings_from (sums_behind sums (closing_in t.step) t.cost) ts)
 
 -- The steps in front were accepted: the sequence and the trail have what they lead to, in a pool that had so many nodes before.
 pub record HasFollowed (before : ℕ) (ds : List Declaration) (own : ℕ) (first : Tree) (front : List Tree) (trees : List KindTree) (s : Sequence) (trail : List Entry) : Type 0 where
@@ -57,8 +57,8 @@ pub record HasFollowed (before : ℕ) (ds : List Declaration) (own : ℕ) (first
   pub leads : IsProof ds (known_to own) first proof (kernel.game_in trees s)
   pub entries : map (entry_in trees) trail ≡ map entry_of proof
   pub count : s.steps ≡ length proof
-  pub sum : s.sum ≡ sum_along [] proof
-  pub closed : s.closed ≡ closings_from [] proof
+  pub sum : s.sum ≡ sums_along no_sums proof
+  pub closed : s.closed ≡ closings_from no_sums proof
   pub nodes : length trees ≤ before + nodes_along ds (known_to own) first proof
   pub live : All (EntryLive (length trees)) trail
 

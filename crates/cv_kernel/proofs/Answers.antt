@@ -6,7 +6,7 @@ use Rattle.cv_syntax.specs.declared.work.BuildError.{BuildError}
 use Rattle.cv_syntax.specs.declared.work.BuildError.TheVariants as build
 use Rattle.cv_syntax_trees.specs.Tree.{Tree, Empty, depth, size}
 use Rattle.cv_syntax.specs.PoolTrees.{tree_at}
-use Rattle.std.specs.Prelude.{IfErr, IfOk, IsErrAnd, OnOk}
+use Rattle.std.specs.Prelude.{◌||◌, IfErr, IfOk, IsErrAnd, OnOk, option_map, unwrap_or}
 use Rattle.cv_pool.specs.declared.node.NodeId.{NodeId}
 use Rattle.cv_syntax_trees.specs.Declarations.{Declaration}
 use Rattle.cv_bound.specs.declared.cost.Cost.TheVariants as bound
@@ -15,7 +15,8 @@ use Rattle.cv_rule.specs.Stated.{failed, failing, failure_of}
 use Rattle.cv_steps.specs.Judgements.{Judgement, Refused, TooLarge, TooDeep, Accepted, judgement_of, judgement_of_row, stands}
 use Rattle.cv_steps.specs.Changes.{change_at, left_or}
 use Rattle.cv_steps.specs.Rewriting.{has_sort_of, is_rewritable_at, sort_at}
-use Rattle.cv_steps.specs.Rows.{Row, Fails, Leads, prune_row, prune_row_by, row_of, unless, unless_at, unless_derived}
+use Rattle.cv_steps.specs.Rows.{Row, Fails, Leads, prune_row, prune_row_by, row_of, unless, unless_at, unless_derived, unlet_row_by}
+use Rattle.cv_steps.specs.Unletting.{Assignment, is_listed, only_assignment, without_assignment}
 use Rattle.cv_derivations.specs.Ends.{ends_with}
 use Rattle.cv_derivations.specs.Targets.{equality, falsity}
 use Rattle.cv_scenes.specs.Derivations.{first_bad_line}
@@ -23,7 +24,7 @@ use Rattle.cv_scenes.specs.Pruning.{Part, Pruned, pruned}
 use Rattle.cv_scenes.specs.Sights.{sight_at}
 use Rattle.cv_meaning.specs.Replaced.{replaced}
 use Rattle.cv_scenes.specs.Scenes.{Scene, first_reading, is_chosen, is_new, is_output_at, is_queried, is_type, part_at}
-use Rattle.cv_steps.specs.Steps.{Step, Split, Let, New, Unnew, Rewrite, Prune, Zero}
+use Rattle.cv_steps.specs.Steps.{Step, Split, Let, New, Unnew, Unlet, Rewrite, Prune, Zero}
 use Rattle.cv_scenes.specs.Terms.{is_bool_at, is_game, is_term_at}
 use Rattle.cv_scope_rules.specs.Phrases.{is_phrase}
 use Rattle.cv_kernel_games.specs.declared.testing.Next.{Next}
@@ -51,6 +52,10 @@ leads_pruned : (s : Scene) (p : ℕ) (by : Tree) (o : Option Pruned) → failing
 leads_pruned s p by None e = absurd (cc)
 leads_pruned s p by (Some b) e = derived s b.body by falsity 2 3 (Leads (change_at s.game p (λ old. b.left)) Zero) e
 
+leads_unlet : (s : Scene) (y : ℕ) (o : Option Assignment) → failing (unlet_row_by s y o) ≡ None → unlet_row_by s y o ≡ Leads (unwrap_or (option_map (λ d. without_assignment y d s.game) o) s.game) Zero
+leads_unlet s y None e = absurd (cc)
+leads_unlet s y (Some d) e = (holds (not (is_queried s y || is_listed y s.game)) 2 0 _ e).0
+
 leads : (s : Scene) (x : Step) → failing (row_of s x) ≡ None → row_of s x ≡ Leads (next_of s.game x) Zero
 leads s (Split p m) e =
     let a = holds (is_output_at s p) 1 0 _ e in
@@ -65,6 +70,7 @@ leads s (Unnew y) e =
     let a = holds (is_chosen s y) 1 0 _ e in
     let b = holds (not (is_queried s y)) 2 0 _ a.1 in
     a.0 ∙ (b.0 ∙ holds_at 2 (first_reading y 0 s.game) _ b.1)
+leads s (Unlet y) e = leads_unlet s y (only_assignment s.game y) e
 leads s (Rewrite p m by) e =
     let a = holds (is_rewritable_at s p) 1 p _ e in
     let b = holds (has_sort_of (sort_at s p (part_at s.game p)) (sort_at s p m)) 2 0 _ a.1 in
@@ -167,6 +173,7 @@ no_stand s (Split p m) h = ap (λ b. b && is_term_at s p m) (placeless p (size s
 no_stand s (Let p y T m) h = ap (λ b. b && (is_type s T && is_term_at s p m)) (placeless p (size s.game) h)
 no_stand s (New p y T) h = ap (λ b. b && is_type s T) (placeless p (size s.game) h)
 no_stand s (Unnew y) h = absurd h
+no_stand s (Unlet y) h = absurd h
 no_stand s (Rewrite p m by) h = ap (λ b. b && is_term_at s p m) (placeless p (size s.game) h)
 no_stand s (Prune p part by) h = placeless p (size s.game) h
 
@@ -185,11 +192,17 @@ no_body : (s : Scene) (p : ℕ) (part : Part) (by : Tree) (b : Bool) → pruned 
 no_body s p part by true e f = let g = sym (ap (λ o. failing (prune_row_by s p by o)) e) ∙ f in cc
 no_body s p part by false e f = absurd (cc)
 
+no_let : (s : Scene) (y : ℕ) (b : Bool) (o : Option Assignment) → option_map (λ d. without_assignment y d s.game) o ≡ None → (if b then failing (unlet_row_by s y o) else Some (failed 0 0)) ≡ None → ⊥
+no_let s y true None e f = cc
+no_let s y false None e f = cc
+no_let s y b (Some d) e f = absurd (cc)
+
 pub placed : (s : Scene) (x : Step) → failure_of s x ≡ None → HasNoPlace s.game x → ⊥
 placed s (Split p m) e h = outside_met s (Split p m) e h
 placed s (Let p y T m) e h = outside_met s (Let p y T m) e h
 placed s (New p y T) e h = outside_met s (New p y T) e h
 placed s (Unnew y) e h = h
+placed s (Unlet y) e h = no_let s y (stands s (Unlet y)) (only_assignment s.game y) h e
 placed s (Rewrite p m by) e h = outside_met s (Rewrite p m by) e h
 placed s (Prune p part by) e h = no_body s p part by (stands s (Prune p part by)) h e
 

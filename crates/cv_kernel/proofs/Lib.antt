@@ -2,6 +2,7 @@ pub mod Answered
 pub mod Countable
 mod Nodes
 mod Pruned
+mod Unlet
 mod Settled
 pub mod Answers
 pub mod Fits

@@ -51,11 +51,11 @@ module _ (game : Tree) (p : ℕ) where
 
 -- the room of a pool
 
-over : (limit live need : ℕ) (b : Bool) → nat_lt limit (live + need) ≡ b → (e : PathError) → (if b then Some (path.Build (build.Full need)) else None) ≡ Some e → (path.Build (build.Full need) ≡ e) × (limit < live + need)
+pub over : (limit live need : ℕ) (b : Bool) → nat_lt limit (live + need) ≡ b → (e : PathError) → (if b then Some (path.Build (build.Full need)) else None) ≡ Some e → (path.Build (build.Full need) ≡ e) × (limit < live + need)
 over limit live need true t e h = (cc, grind (arith, nat_tests))
 over limit live need false t e h = absurd (cc)
 
-within : (limit live need : ℕ) (b : Bool) → nat_lt limit (live + need) ≡ b → (e : PathError) → (if b then Some e else None) ≡ None → live + need ≤ limit
+pub within : (limit live need : ℕ) (b : Bool) → nat_lt limit (live + need) ≡ b → (e : PathError) → (if b then Some e else None) ≡ None → live + need ≤ limit
 within limit live need true t e h = absurd (cc)
 within limit live need false t e h = grind (arith, nat_tests)
 
@@ -76,7 +76,7 @@ module _ (v : PoolView) (need : ℕ) where
   fault_by (Some b) (path.Build (build.Nodes n)) h = let w = (over v.limit (length v.trees) need (nat_lt v.limit (length v.trees + need)) refl (path.Build (build.Nodes n)) h).0 in absurd (cc)
   fault_by (Some b) (path.Build (build.Depth n)) h = let w = (over v.limit (length v.trees) need (nat_lt v.limit (length v.trees + need)) refl (path.Build (build.Depth n)) h).0 in absurd (cc)
 
-  memory : (Missing : Type 0) (e : PathError) → e ≡ no_memory → IsDrawFault v.limit (length v.trees) Missing need (of_path e)
+  pub memory : (Missing : Type 0) (e : PathError) → e ≡ no_memory → IsDrawFault v.limit (length v.trees) Missing need (of_path e)
   memory Missing path.NoSuchPlace h = absurd (cc)
   memory Missing (path.Build (build.Full n)) h = absurd (cc)
   memory Missing (path.Build build.OutOfMemory) h = tt

@@ -17,8 +17,9 @@ use Rattle.cv_syntax.specs.PoolTrees.{tree_at}
 use Rattle.cv_syntax.proofs.Buildings.{child-grown}
 use Rattle.cv_directory.specs.Live.{IsLive}
 use Rattle.cv_bound.specs.declared.cost.Cost.{Cost as SumCost}
-use Rattle.cv_bound.specs.declared.terms.Term.{Term}
-use Rattle.cv_bound.specs.Sums.{AllFit, added, with_terms}
+use Rattle.cv_bound.specs.Sums.{with_terms}
+use Rattle.cv_kernel_costs.specs.Sums.{SumsFit, with_cost}
+use Rattle.cv_kernel_costs.specs.declared.sums.Sums.{Sums}
 use Rattle.cv_rule.specs.declared.rules.Rule.{Rule}
 use Rattle.cv_rule.specs.declared.rules.Rule.TheVariants as code
 use Rattle.cv_rule.specs.Stated.{step_of}
@@ -26,7 +27,7 @@ use Rattle.cv_steps.specs.Costs.{cost_of}
 use Rattle.cv_steps.specs.Judgements.{Judgement, Refused, TooLarge, TooDeep, Accepted, judgement_of, judgement_of_row, stands}
 use Rattle.cv_steps.specs.Rows.{Row, Fails, Leads, row_of}
 use Rattle.cv_scenes.specs.Scenes.{Scene}
-use Rattle.cv_steps.specs.Steps.{Step, Split, Let, New, Unnew, Rewrite, Prune, Cost, Zero}
+use Rattle.cv_steps.specs.Steps.{Step, Split, Let, New, Unnew, Unlet, Rewrite, Prune, Cost, Zero}
 use Rattle.cv_scenes.specs.Terms.{is_game}
 use Rattle.cv_kernel.specs.declared.error.PushError.{PushError}
 use Rattle.cv_kernel.specs.declared.error.PushError.TheVariants as push
@@ -58,6 +59,7 @@ has_narrow t (Split p m) h = h
 has_narrow t (Let p x T m) h = h
 has_narrow t (New p x T) h = h
 has_narrow t (Unnew x) h = h
+has_narrow t (Unlet x) h = h
 has_narrow t (Rewrite p m by) h = h
 has_narrow t (Prune p part by) h = h
 
@@ -66,6 +68,7 @@ short_by trees t (code.Split p m) h l v = short_term trees t m _ h refl l v
 short_by trees t (code.Let p y T m) h l v = short_term trees t m _ h refl l v
 short_by trees t (code.New p y T) h l v = tt
 short_by trees t (code.Unnew y) h l v = tt
+short_by trees t (code.Unlet y) h l v = tt
 short_by trees t (code.Rewrite p m by) h l v = (short_term trees t m _ h.0 refl l v.0, short_derivation trees t by _ h.1 refl l v.1)
 short_by trees t (code.Prune p body by) h l v = short_derivation trees t by _ h refl l v
 
@@ -115,6 +118,7 @@ module _ (s : Scene) (small : size s.game ≤ 50000) where
     | inr l ↦ placeless (New p y T) (omega arith) (omega arith)
   ]
   narrow_same (Unnew y) = inl refl
+  narrow_same (Unlet y) = inl refl
   narrow_same (Rewrite p m by) = elim (below_or_not p 4294967296) as (λ _. IsNarrow (Rewrite p m by)) [
     | inl l ↦ inl (ap (λ q. Rewrite q m by) (same_place p l))
     | inr l ↦ placeless (Rewrite p m by) (omega arith) (omega arith)
@@ -169,9 +173,9 @@ pub accepted_small : (s : Scene) (x : Step) (n : Tree) (c : Cost) → judgement_
 accepted_small s x n c e = small_stand s (row_of s x) (stands s x) n c e
 
 -- a cost that is nothing changes no sum
-pub fits_on : (sum : List Term) (c : SumCost) (cost : Cost) → c ≡ cost_of cost → AllFit sum → AllFit (added sum c false)
+pub fits_on : (sums : Sums) (c : SumCost) (cost : Cost) → c ≡ cost_of cost → SumsFit sums → SumsFit (with_cost sums c)
 unfolding with_terms
-fits_on sum c Zero e h = subst (λ d. AllFit (added sum d false)) (sym e) h
+fits_on sums c Zero e h = subst (λ d. SumsFit (with_cost sums d)) (sym e) h
 
 -- what stays while a pool grows
 
@@ -204,7 +208,7 @@ module _ (pool : PoolView) (decls : DeclsView) (trees more : List KindTree) (old
     accepted = sym f ∙ (w.accepted ∙ ap (λ ts. Accepted (game_in ts new) w.cost) (sym m));
     steps = w.steps ∙ ap suc same.steps;
     costs = w.costs;
-    sum = w.sum ∙ ap (λ ts. added ts (cost_of w.cost) false) same.sum;
+    sum = w.sum ∙ ap (λ (s : Sums). with_cost s (cost_of w.cost)) same.sum;
     closed = w.closed ∙ same.closed;
     context = w.context;
     room = (let l = w.room in let n = ap (λ t. need_of t z) e in omega arith);

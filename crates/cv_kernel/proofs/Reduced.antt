@@ -1,5 +1,5 @@
 -- What a sequence is answered of a cryptographic step.
-use Rattle.std.proofs.Common.{◌≡◌, ℕ, suc, ◌+◌, ◌≤◌, false, List, length, Some, Result, Ok, Err, option_map, refl, sym, ap, subst, ◌∙◌}
+use Rattle.std.proofs.Common.{◌≡◌, ℕ, suc, ◌+◌, ◌≤◌, List, [], ◌∷◌, ◌++◌, length, Some, Result, Ok, Err, option_map, refl, sym, ap, subst, ◌∙◌}
 use Rattle.std.proofs.lemmas.Bool.{and_parts}
 use Rattle.std.specs.Prelude.{All, IsErrAnd}
 use Rattle.cv_lists.proofs.Each.{AllByRecursion-push}
@@ -12,10 +12,11 @@ use Rattle.cv_syntax.specs.Declarations.{declarations}
 use Rattle.cv_syntax_trees.specs.Tree.{Tree}
 use Rattle.cv_syntax.specs.PoolTrees.{tree_at}
 use Rattle.cv_scope_rules.specs.Phrases.{IsWellFormed}
-use Rattle.cv_bound.specs.declared.terms.Experiment.TheVariants.{Events}
+use Rattle.cv_bound.specs.declared.terms.Experiment.{Experiment}
+use Rattle.cv_bound.specs.declared.terms.Experiment.TheVariants.{Events, Real, Random}
 use Rattle.cv_bound.specs.declared.terms.Term.{Term}
 use Rattle.cv_bound.specs.declared.terms.Term.TheVariants as term
-use Rattle.cv_bound.specs.Sums.{AllFit, Fits, added, with_terms}
+use Rattle.cv_bound.specs.Sums.{Fits, with_terms}
 use Rattle.cv_context_products.specs.Shapes.{shape_of}
 use Rattle.cv_context_products.specs.ShapesInCode.{shape_in}
 use Rattle.cv_scenes.specs.Scenes.{Scene}
@@ -33,6 +34,8 @@ use Rattle.cv_kernel_crypto.specs.Faults.{IsRefused}
 use Rattle.cv_kernel.specs.declared.error.PushError.{PushError}
 use Rattle.cv_kernel.specs.declared.sequence.Sequence.{Sequence}
 use Rattle.cv_kernel_costs.specs.Costs.{advantage_of}
+use Rattle.cv_kernel_costs.specs.Sums.{SumsFit, with_cost}
+use Rattle.cv_kernel_costs.specs.declared.sums.Sums.{Sums}
 use Rattle.cv_kernel.specs.Sequences.{IsReduceAnswer, IsReduced, context_nodes, game_in, reduce_fault}
 use Rattle.cv_kernel.proofs.Pushes.{declarations-grown}
 
@@ -45,10 +48,14 @@ pub formed-grown : (old new : PoolView) (d e : DeclsView) (t : Tree) → Grows o
 formed-grown old new d e t g a i w =
     subst (λ ds. IsWellFormed ds t) (sym (ap (λ (v : DeclsView). declarations new.trees v.list) i ∙ declarations-grown old new d.list g a)) w
 
--- a sum with an advantage more
-pub advantage-fits : (sum : List Term) (step e : ℕ) → AllFit sum → AllFit (added sum (advantage_of step e) false)
+-- sums with an advantage more
+pub advantage-fits : (sums : Sums) (step e : ℕ) → SumsFit sums → SumsFit (with_cost sums (advantage_of step e))
 unfolding with_terms
-advantage-fits sum step e h = AllByRecursion-push Fits sum (term.Advantage step (record { 0 = e }) Events) h tt
+advantage-fits sums step e h =
+    let term : Experiment → Term = term.Advantage step (record { 0 = e }) in (
+      AllByRecursion-push Fits sums.plain (term Events) h.0 tt,
+      AllByRecursion-push Fits (sums.secret ++ term Real ∷ []) (term Random) (AllByRecursion-push Fits sums.secret (term Real) h.1 tt) tt,
+    )
 
 -- the answer of a step, as a sequence passes it on; the sequence looked up before what there is to read, so the scene may be that of
 -- another sequence of the same game
@@ -85,7 +92,7 @@ module _ (limit live : ℕ) (s t : Scene) (same : t ≡ s) (e x : ℕ) (trees : 
     nodes : nodes_of w.context ≡ context_nodes t x (equivalence_of t e)
     nodes = ap nodes_of w.made.tree ∙ ap (context_nodes t x) (sym w.made.named)
 
-    pub reduced : new.steps ≡ step → step ≡ suc old.steps → new.cost ≡ Some next.cost → new.sum ≡ added old.sum (advantage_of step e) false → new.closed ≡ old.closed → option_map shape_in new.context ≡ option_map (λ u. shape_of t u x) (equivalence_of t e)
+    pub reduced : new.steps ≡ step → step ≡ suc old.steps → new.cost ≡ Some next.cost → new.sum ≡ with_cost old.sum (advantage_of step e) → new.closed ≡ old.closed → option_map shape_in new.context ≡ option_map (λ u. shape_of t u x) (equivalence_of t e)
         → IsFew live t e x (length trees) (tree_at trees (Some next.game.root)) → IsReduced limit live s e x trees old new
     reduced n m c a k h f =
         let few = f w.context w.made in
@@ -94,7 +101,7 @@ module _ (limit live : ℕ) (s t : Scene) (same : t ≡ s) (e x : ℕ) (trees : 
           accepted = subst (λ g. IsOutcome t e x (outcome.Accepted g)) (sym game) w.accepted;
           steps = n ∙ m;
           costs = c ∙ ap Some (w.cost ∙ ap (λ k. advantage_of k e) (sym n));
-          sum = a ∙ ap (λ k. added old.sum (advantage_of k e) false) (sym n);
+          sum = a ∙ ap (λ k. with_cost old.sum (advantage_of k e)) (sym n);
           closed = k;
           shape = h;
           few = subst (λ c. length trees ≤ live + c + nodes_of (game_in trees new)) nodes (subst (λ g. length trees ≤ live + nodes_of w.context + nodes_of g) (sym game) few);

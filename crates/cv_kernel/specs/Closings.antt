@@ -1,7 +1,8 @@
 -- Steps that close a query. A query is closed once, by a certificate that is accepted in the last game, and the game stays. This
 -- profile's own.
-use Rattle.std.specs.Prelude.{ℕ, if◌then◌else◌, List, Option, Some, None, option_and_then}
-use Rattle.cv_syntax_trees.specs.Tree.{Tree}
+use Rattle.std.specs.Prelude.{ℕ, Bool, true, false, if◌then◌else◌, List, Option, Some, None, option_and_then}
+use Rattle.cv_syntax_trees.specs.declared.head.Head.TheVariants.{SecretCertificate}
+use Rattle.cv_syntax_trees.specs.Tree.{Tree, Node}
 use Rattle.cv_meaning.specs.Queries.{queries_in}
 use Rattle.cv_query_certificates.specs.Failures.{Failure, first_failure}
 use Rattle.cv_scenes.specs.Scenes.{Scene}
@@ -17,6 +18,14 @@ use Rattle.cv_kernel.specs.Steps.{judgement_at}
 pub record Closing : Type 0 where
   pub query : ℕ
   pub certificate : Tree
+
+-- it is a certificate of secrecy
+abbrev pub is_secret : (certificate : Tree) → Bool
+is_secret (Node SecretCertificate parts e) = true
+is_secret certificate = false
+
+abbrev pub is_of_secrecy : Closing → Bool
+is_of_secrecy c = is_secret c.certificate
 
 abbrev pub closing_of_items : StepItems → Option Closing
 closing_of_items (items.Success k certificate) = Some (record { query = k; certificate = certificate })

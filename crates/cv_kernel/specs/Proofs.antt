@@ -1,17 +1,18 @@
 -- Proofs by sequences of games: the trees of steps, with what each costs and the game that it leads to. Blanchet, TDSC 2008.
-use Rattle.std.specs.Prelude.{◌≡◌, ℕ, suc, ◌+◌, ◌==◌, false, if◌then◌else◌, Bool, List, [], ◌∷◌, ◌++◌, length, Option, Some, None, option_map}
+use Rattle.std.specs.Prelude.{◌≡◌, ℕ, suc, ◌+◌, ◌==◌, if◌then◌else◌, Bool, List, [], ◌∷◌, ◌++◌, length, Option, Some, None, option_map}
 use Rattle.cv_syntax_trees.specs.Declarations.{Declaration}
 use Rattle.cv_syntax_trees.specs.Tree.{Tree}
 use Rattle.cv_bound.specs.declared.cost.Cost.{Cost as SumCost}
 use Rattle.cv_bound.specs.declared.terms.Term.{Term}
-use Rattle.cv_bound.specs.Sums.{added}
+use Rattle.cv_kernel_costs.specs.declared.sums.Sums.{Sums}
+use Rattle.cv_kernel_costs.specs.Sums.{no_sums, sum_for, with_cost}
 use Rattle.cv_context_products.specs.Shapes.{Shape, shape_of}
 use Rattle.cv_scenes.specs.Scenes.{Scene}
 use Rattle.cv_script.specs.Views.{StepItems, items_of_step}
 use Rattle.cv_script.specs.Views as items
 use Rattle.cv_steps.specs.Sequences.{scene}
 use Rattle.cv_steps_crypto.specs.Conditions.{equivalence_of}
-use Rattle.cv_kernel.specs.Closings.{Closing, closing_in}
+use Rattle.cv_kernel.specs.Closings.{Closing, closing_in, is_of_secrecy}
 use Rattle.cv_kernel.specs.Sayings.{Accepted, IsSaid}
 use Rattle.cv_kernel.specs.Sequences.{needed_for}
 
@@ -61,20 +62,20 @@ abbrev pub nodes_along : List Declaration → (known : ℕ → Bool) → (first 
 nodes_along ds known first [] = 0
 nodes_along ds known first (t ∷ ts) = needed_for (scene ds known first) t.step t.next (items_of_step t.step) + nodes_along ds known t.next ts
 
--- The sum of a correspondence, where it is closed: the costs of the steps before the one that closes it, but for those of steps that
--- close others, and its own cost.
+-- The sum of a query, where it is closed: the costs of the steps before the one that closes it, but for those of steps that close others,
+-- and its own cost; for secrecy as sums of secrecy count them.
 
-abbrev pub sum_behind : (sum : List Term) → Option Closing → SumCost → List Term
-sum_behind sum None cost = added sum cost false
-sum_behind sum (Some c) cost = sum
+abbrev pub sums_behind : Sums → Option Closing → SumCost → Sums
+sums_behind sums None cost = with_cost sums cost
+sums_behind sums (Some c) cost = sums
 
-abbrev pub sum_at : (sum : List Term) → SumCost → (query : ℕ) → Option Closing → Option (List Term) → Option (List Term)
-sum_at sum cost k None later = later
-sum_at sum cost k (Some c) later = if c.query == k then Some (added sum cost false) else later
+abbrev pub sum_at : Sums → SumCost → (query : ℕ) → Option Closing → Option (List Term) → Option (List Term)
+sum_at sums cost k None later = later
+sum_at sums cost k (Some c) later = if c.query == k then Some (sum_for (is_of_secrecy c) (with_cost sums cost)) else later
 
-abbrev pub sum_from : (sum : List Term) → List Transition → (query : ℕ) → Option (List Term)
-sum_from sum [] k = None
-sum_from sum (t ∷ ts) k = sum_at sum t.cost k (closing_in t.step) (sum_from (sum_behind sum (closing_in t.step) t.cost) ts k)
+abbrev pub sum_from : Sums → List Transition → (query : ℕ) → Option (List Term)
+sum_from sums [] k = None
+sum_from sums (t ∷ ts) k = sum_at sums t.cost k (closing_in t.step) (sum_from (sums_behind sums (closing_in t.step) t.cost) ts k)
 
 abbrev pub sum_of : List Transition → (query : ℕ) → Option (List Term)
-sum_of ts k = sum_from [] ts k
+sum_of ts k = sum_from no_sums ts k

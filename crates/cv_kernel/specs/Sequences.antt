@@ -1,5 +1,5 @@
 -- What a sequence of games holds, and what a step does to it.
-use Rattle.std.specs.Prelude.{◌≡◌, ℕ, suc, ◌+◌, ◌<◌, ◌≤◌, false, List, [], ◌∷◌, ◌++◌, length, Option, Some, None, option_map, IfSome, IsSome, Result, Ok, Err}
+use Rattle.std.specs.Prelude.{◌≡◌, ℕ, suc, ◌+◌, ◌<◌, ◌≤◌, List, [], ◌∷◌, ◌++◌, length, Option, Some, None, option_map, IfSome, IsSome, Result, Ok, Err}
 use Rattle.cv_pool.specs.KindTree.{KindTree}
 use Rattle.cv_pool.specs.PoolView.{PoolView}
 use Rattle.cv_syntax.specs.Classes.{DeclsView}
@@ -9,7 +9,6 @@ use Rattle.cv_syntax.specs.PoolTrees.{tree_at}
 use Rattle.cv_syntax.specs.Declarations.{declarations}
 use Rattle.cv_scope_rules.specs.Phrases.{IsWellFormed}
 use Rattle.cv_bound.specs.declared.cost.Cost.TheVariants as bound
-use Rattle.cv_bound.specs.Sums.{AllFit, added}
 use Rattle.cv_query_certificates.specs.Failures.{Failure}
 use Rattle.cv_rule_scenes.specs.Kept.{scene_of}
 use Rattle.cv_rule.specs.Prepared.{IsPrepared}
@@ -30,8 +29,9 @@ use Rattle.cv_steps_crypto.specs.Steps as outcome
 use Rattle.cv_kernel_crypto.specs.Applied as applied
 use Rattle.cv_kernel_crypto.specs.declared.fault.CryptoFault.{CryptoFault}
 use Rattle.cv_kernel_crypto.specs.declared.fault.CryptoFault.TheVariants as crypto
-use Rattle.cv_kernel.specs.Closings.{Closing, closing_failure}
+use Rattle.cv_kernel.specs.Closings.{Closing, closing_failure, is_of_secrecy}
 use Rattle.cv_kernel_costs.specs.Costs.{advantage_of}
+use Rattle.cv_kernel_costs.specs.Sums.{SumsFit, sum_for, with_cost}
 use Rattle.cv_kernel.specs.Rules.{HasNoRoom, need_of}
 use Rattle.cv_kernel.specs.Steps.{judgement_by, step_in}
 use Rattle.cv_kernel.specs.declared.error.PushError.{PushError}
@@ -57,7 +57,7 @@ pub record Stands (trees : List KindTree) (decls : DeclsView) (s : Sequence) : T
   pub small : size (game_in trees s) ≤ most_nodes
   pub formed : IsWellFormed (declarations trees decls.list) (game_in trees s)
   pub arrays : IfSome s.arrays (IsPrepared trees decls s.game.root)
-  pub fits : AllFit s.sum
+  pub fits : SumsFit s.sum
   pub few : s.steps ≤ 2000
 
 abbrev pub IsReady : List KindTree → Sequence → Type 0
@@ -96,7 +96,7 @@ pub record IsTaken (limit live : ℕ) (need : ℕ) (j : Judgement) (trees : List
   pub accepted : j ≡ Accepted (game_in trees new) cost
   pub steps : new.steps ≡ suc old.steps
   pub costs : new.cost ≡ Some (cost_of cost)
-  pub sum : new.sum ≡ added old.sum (cost_of cost) false
+  pub sum : new.sum ≡ with_cost old.sum (cost_of cost)
   pub closed : new.closed ≡ old.closed
   pub context : new.context ≡ None
   pub room : live + need ≤ limit
@@ -115,14 +115,14 @@ abbrev pub IsAdvanced : PoolView → DeclsView → List KindTree → (old new : 
 IsAdvanced pool decls trees old new step r =
     IsPushAnswer pool.limit (length pool.trees) (need_of (game_in pool.trees old) step) (judgement_of (scene_of pool decls old.game.root) step) trees old new r
 
--- a query is closed up to the sum of the steps before, and the game stays
+-- a query is closed up to the sum of the steps before, that of a query of its kind, and the game stays
 pub record IsClosing (c : Closing) (old new : Sequence) : Type 0 where
   pub game : new.game ≡ old.game
   pub steps : new.steps ≡ suc old.steps
   pub cost : new.cost ≡ Some bound.Zero
   pub sum : new.sum ≡ old.sum
   pub context : new.context ≡ None
-  pub closed : new.closed ≡ old.closed ++ record { query = c.query; sum = old.sum } ∷ []
+  pub closed : new.closed ≡ old.closed ++ record { query = c.query; sum = sum_for (is_of_secrecy c) old.sum } ∷ []
 
 -- A step that closes a query is answered by the first condition that fails; memory may run out anywhere.
 abbrev pub IsCloseAnswer : Option Failure → Closing → (old new : Sequence) → Result (Unit {0}) PushError → Type 0
@@ -136,7 +136,7 @@ pub record IsReduced (limit live : ℕ) (s : Scene) (e x : ℕ) (trees : List Ki
   pub accepted : IsOutcome s e x (outcome.Accepted (game_in trees new))
   pub steps : new.steps ≡ suc old.steps
   pub costs : new.cost ≡ Some (advantage_of new.steps e)
-  pub sum : new.sum ≡ added old.sum (advantage_of new.steps e) false
+  pub sum : new.sum ≡ with_cost old.sum (advantage_of new.steps e)
   pub closed : new.closed ≡ old.closed
   pub shape : option_map shape_in new.context ≡ option_map (λ t. shape_of s t x) (equivalence_of s e)
   pub few : length trees ≤ live + context_nodes s x (equivalence_of s e) + nodes_of (game_in trees new)

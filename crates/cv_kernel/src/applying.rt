@@ -4,20 +4,19 @@ ghost use Rattle.cv_syntax.specs.Declarations.{declarations};
 ghost use Rattle.cv_syntax_trees.specs.Tree as tree;
 ghost use Rattle.cv_syntax.specs.PoolTrees.{tree_at};
 ghost use Rattle.cv_directory.specs.Live.{IsLive};
-ghost use Rattle.cv_scope_rules.specs.Phrases.{IsWellFormed};
 ghost use Rattle.cv_steps.specs.Judgements.{judgement_of};
 ghost use Rattle.cv_scenes.specs.Terms as terms;
 ghost use Rattle.cv_rule_scenes.specs.Kept.{scene_of};
 ghost use Rattle.cv_rule.specs.Prepared.{IsPrepared};
 ghost use Rattle.cv_rule.specs.Stated.{failed, failure_of, step_of};
-ghost use Rattle.cv_kernel.specs.Rules.{IsAnswer, IsNoGame, IsShortRule, need_of, next_of};
+ghost use Rattle.cv_kernel.specs.Rules.{IsAnswer, IsNoGame, IsShortRule, need_of};
 ghost use Rattle.cv_bound.specs.declared.cost.Cost.TheVariants.{Zero};
 
 use crate::drawing::{draw_next, extent_of};
 use crate::error::RuleError;
 use cv_kernel_games::{Next, next_at, settle};
 use cv_rule::{Failure, Rule, conditions};
-use cv_syntax::{NodeId, Work};
+use cv_syntax::{BuildError, NodeId, Work};
 use cv_syntax_limits::check_limits;
 use cv_typing::Arrays;
 use std::alloc::Global;
@@ -55,11 +54,15 @@ fn game_at(alloc: Global, work: &Work, root: NodeId) -> Result<Next, RuleError>
 }
 
 /// Makes the next game of a step whose conditions hold.
-fn make(alloc: Global, work: &mut Work, game: NodeId, rule: Rule) -> Result<Next, RuleError>
-    requires live { game.0 < length work.old.pool.trees }
+fn make(
+    alloc: Global,
+    work: &mut Work,
+    game: NodeId,
+    arrays: &Arrays,
+    rule: Rule,
+) -> Result<Next, RuleError>
+    requires prepared { IsPrepared work.old.pool.trees work.old.decls game arrays.now }
     requires small { tree.size (tree_at work.old.pool.trees (Some game)) ≤ 50000 }
-    requires formed { IsWellFormed (declarations work.old.pool.trees work.old.decls.list)
-        (tree_at work.old.pool.trees (Some game)) }
     requires declared { All (IsLive (length work.old.pool.trees)) work.old.decls.list }
     requires rule { IsShortRule work.old.pool.trees rule }
     requires few { length work.old.pool.trees + 4 < 2 ^ 32 }
@@ -78,11 +81,14 @@ fn make(alloc: Global, work: &mut Work, game: NodeId, rule: Rule) -> Result<Next
     ensures names { work.new.names ≡ work.old.names }
     ensures decls { work.new.decls ≡ work.old.decls }
 {
-    let Some(extent) = extent_of(&work.pool, game, rule) else {
+    let Arrays::OfGame(directory) = arrays else {
+        return Err(RuleError::Build(BuildError::OutOfMemory));
+    };
+    let Some(extent) = extent_of(&work.pool, game, directory, rule) else {
         return Err(refused(0));
     };
     check_limits(extent)?;
-    let Some(root) = draw_next(alloc, &mut work.pool, game, rule)? else {
+    let Some(root) = draw_next(alloc, &mut work.pool, game, directory, rule)? else {
         return Err(refused(9));
     };
     game_at(alloc, work, root)
@@ -117,7 +123,7 @@ pub fn attempt(
     if let Some(failure) = conditions(alloc, work, game, arrays, rule)? {
         return Err(RuleError::Refused(failure));
     }
-    make(alloc, work, game, rule)
+    make(alloc, work, game, arrays, rule)
 }
 
 /// Applies a step in a game. Its conditions are tested first, then the limits of the next game, then the pool is

@@ -2,10 +2,11 @@ ghost use Rattle.std.specs.Prelude.{◌≡◌, ◌<◌, IfSome, Some, length, op
 ghost use Rattle.cv_pool.specs.Nodes.{ChildBelow};
 ghost use Rattle.cv_syntax.specs.PoolTrees.{tree_at};
 ghost use Rattle.cv_kernel.specs.ClosingTrees.{closing_tree};
+ghost use Rattle.cv_kernel.specs.Closings as closings;
 ghost use Rattle.cv_kernel.specs.Closings.{closing_in};
 
 use cv_script::{Step, StepView, view};
-use cv_syntax::{NodeId, Pool};
+use cv_syntax::{Head, NodeId, Pool, read_node};
 
 /// A query by its number, from 1, and a certificate for it.
 #[derive(Clone, Copy)]
@@ -27,5 +28,17 @@ pub fn closing_of(pool: &Pool, step: Step) -> Option<Closing>
             certificate: by,
         }),
         _ => None,
+    }
+}
+
+/// Whether it is a certificate of secrecy.
+#[tactic(auto, using(cv_syntax::proofs::Trees::opened))]
+pub fn is_secret(pool: &Pool, certificate: Option<NodeId>) -> bool
+    requires { ChildBelow (length pool.now.trees) certificate }
+    ensures { result ≡ closings.is_secret (tree_at pool.now.trees certificate) }
+{
+    match certificate {
+        Some(n) => matches!(read_node(pool, n).head, Head::SecretCertificate),
+        None => false,
     }
 }

@@ -1,4 +1,4 @@
-ghost use Rattle.std.specs.Prelude.{◌≡◌, ◌+◌, ◌<◌, ◌≤◌, ◌^◌, IfErr, IfOk, IfSome, IsNone, None, OnErr, OnOk, Some, length};
+ghost use Rattle.std.specs.Prelude.{◌≡◌, ◌+◌, ◌<◌, ◌≤◌, ◌^◌, IfErr, IfOk, IfSome, IsNone, None, OnOk, Some, length, unwrap_or};
 ghost use Rattle.cv_pool.specs.Nodes.{ChildBelow};
 ghost use Rattle.cv_pool.specs.PoolView.{Grows};
 ghost use Rattle.cv_syntax_trees.specs.Tree as tree;
@@ -13,11 +13,15 @@ ghost use Rattle.cv_draw.specs.Changes.{TermIsLive};
 ghost use Rattle.cv_draw.specs.Dropping.{need_without};
 ghost use Rattle.cv_draw_pruning.specs.Bodies as pruning;
 ghost use Rattle.cv_draw_pruning.specs.Bodies.{part_of};
+ghost use Rattle.cv_draw_unletting.specs.Assigned.{IsRead};
+ghost use Rattle.cv_draw_unletting.specs.Games.{need_unletting, unlet};
 ghost use Rattle.cv_kernel.specs.Rules.{HasNoPlace, IsDrawFault, IsShortRule, need_of, next_of, of_path, of_pool};
 
 use crate::error::RuleError;
+use cv_directory::Directory;
 use cv_draw::{Change, draw, drop_variable, measure, measure_without};
 use cv_draw_pruning::{Body, draw_without_body, measure_without_body};
+use cv_draw_unletting::{draw_unletting, measure_unletting};
 use cv_path::PathError;
 use cv_pool::PoolError;
 use cv_rule::{Failure, Rule};
@@ -26,9 +30,10 @@ use cv_syntax_limits::Extent;
 use std::alloc::Global;
 
 /// How large the next game of a step is. There is no answer where the game has no such place.
-pub fn extent_of(pool: &Pool, game: NodeId, rule: Rule) -> Option<Extent>
+pub fn extent_of(pool: &Pool, game: NodeId, directory: &Directory, rule: Rule) -> Option<Extent>
     requires live { game.0 < length pool.now.trees }
     requires small { tree.size (tree_at pool.now.trees (Some game)) ≤ 50000 }
+    requires read { IsRead pool.now.trees (tree_at pool.now.trees (Some game)) directory.now }
     requires rule { IsShortRule pool.now.trees rule }
     ensures nodes { IfSome result (λ e. e.nodes ≡ tree.size
         (next_of (tree_at pool.now.trees (Some game)) (step_of pool.now.trees rule))) }
@@ -62,6 +67,7 @@ pub fn extent_of(pool: &Pool, game: NodeId, rule: Rule) -> Option<Extent>
             of_type,
         } => measure(pool, game, place, Change::AfterNew { name, of_type }),
         Rule::Unnew { name } => Some(measure_without(pool, game, name)),
+        Rule::Unlet { name } => measure_unletting(pool, game, directory, name),
         Rule::Rewrite { place, term, .. } => {
             measure(pool, game, place, Change::Replace { by: term })
         }
@@ -148,6 +154,36 @@ fn draw_without(
     }
 }
 
+/// Makes the game without the `let` of a variable.
+fn draw_unlet(
+    alloc: Global,
+    pool: &mut Pool,
+    game: NodeId,
+    directory: &Directory,
+    x: u32,
+) -> Result<Option<NodeId>, RuleError>
+    requires live { game.0 < length pool.old.trees }
+    requires fits { tree.size (tree_at pool.old.trees (Some game)) < 2 ^ 32 }
+    requires read { IsRead pool.old.trees (tree_at pool.old.trees (Some game)) directory.now }
+    requires limit { pool.old.limit < 4294967295 }
+    ensures tree { IfOk result (λ n. tree_at pool.new.trees n ≡ unwrap_or
+        (unlet x (tree_at pool.old.trees (Some game))) (tree_at pool.old.trees (Some game))) }
+    ensures live { IfOk result (λ n. ChildBelow (length pool.new.trees) n) }
+    ensures grows { Grows pool.old pool.new }
+    ensures few { OnOk result (length pool.new.trees ≤ length pool.old.trees
+        + need_unletting x (tree_at pool.old.trees (Some game))) }
+    ensures room { OnOk result (length pool.old.trees
+        + need_unletting x (tree_at pool.old.trees (Some game)) ≤ pool.old.limit) }
+    ensures fault { IfErr result (IsDrawFault pool.old.limit (length pool.old.trees)
+        (unlet x (tree_at pool.old.trees (Some game)) ≡ None)
+        (need_unletting x (tree_at pool.old.trees (Some game)))) }
+{
+    match draw_unletting(alloc, pool, game, directory, x) {
+        Ok(next) => Ok(next),
+        Err(fault) => Err(no_drawing(fault)),
+    }
+}
+
 /// Makes the game without a body of the construct at a place.
 fn draw_pruned(
     alloc: Global,
@@ -182,10 +218,12 @@ pub fn draw_next(
     alloc: Global,
     pool: &mut Pool,
     game: NodeId,
+    directory: &Directory,
     rule: Rule,
 ) -> Result<Option<NodeId>, RuleError>
     requires live { game.0 < length pool.old.trees }
     requires small { tree.size (tree_at pool.old.trees (Some game)) ≤ 50000 }
+    requires read { IsRead pool.old.trees (tree_at pool.old.trees (Some game)) directory.now }
     requires rule { IsShortRule pool.old.trees rule }
     requires few { length pool.old.trees + 4 < 2 ^ 32 }
     requires limit { pool.old.limit < 4294967295 }
@@ -227,6 +265,7 @@ pub fn draw_next(
             of_type,
         } => draw_at(alloc, pool, game, place, Change::AfterNew { name, of_type }),
         Rule::Unnew { name } => draw_without(alloc, pool, game, name),
+        Rule::Unlet { name } => draw_unlet(alloc, pool, game, directory, name),
         Rule::Rewrite { place, term, .. } => {
             draw_at(alloc, pool, game, place, Change::Replace { by: term })
         }

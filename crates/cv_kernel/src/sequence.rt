@@ -1,4 +1,4 @@
-ghost use Rattle.std.specs.Prelude.{◌≡◌, ◌+◌, ◌<◌, ◌≤◌, ◌^◌, [], All, IfOk, IfSome, None, OnErr, OnOk, Some, false, length, option_map, take};
+ghost use Rattle.std.specs.Prelude.{◌≡◌, ◌+◌, ◌<◌, ◌≤◌, ◌^◌, [], All, IfSome, None, OnErr, OnOk, Some, length, option_map, take};
 ghost use Rattle.cv_pool.specs.PoolView.{Grows};
 ghost use Rattle.cv_syntax.specs.PoolTrees.{tree_at};
 ghost use Rattle.cv_directory.specs.Live.{IsLive};
@@ -6,7 +6,7 @@ ghost use Rattle.cv_rule.specs.Stated.{step_of};
 ghost use Rattle.cv_pool.specs.Nodes.{ChildBelow};
 ghost use Rattle.cv_rule_scenes.specs.Kept.{scene_of};
 ghost use Rattle.cv_script.specs.Views.{items_of_step};
-ghost use Rattle.cv_bound.specs.Sums.{AllFit, added};
+ghost use Rattle.cv_kernel_costs.specs.Sums.{no_sums};
 ghost use Rattle.cv_kernel_crypto.specs.Applied.{DrawsNext, HasEquivalences};
 ghost use Rattle.cv_kernel_closed.specs.Queries.{numbers_of};
 ghost use Rattle.cv_kernel.specs.ClosingTrees.{closing_tree};
@@ -18,15 +18,15 @@ ghost use Rattle.cv_kernel.specs.Steps.{narrow, step_in};
 ghost use Rattle.cv_syntax_limits.specs.Limits.{nodes_of};
 
 use crate::applying::attempt;
-use crate::closing::{Closing, closing_of};
+use crate::closing::{Closing, closing_of, is_secret};
 use crate::error::{PushError, Refusal};
 use crate::reading::rule_of;
 use crate::reducing::{Reducing, reducing_of};
-use cv_bound::{Cost, Sum};
+use cv_bound::Cost;
 use cv_context_products::Shape;
 use cv_directory::Directory;
 use cv_kernel_closed::ClosedQueries;
-use cv_kernel_costs::{advantage, with_cost};
+use cv_kernel_costs::{Sums, advantage};
 use cv_kernel_crypto::{apply, shape_at};
 use cv_kernel_games::{Next, settle};
 use cv_query_built::query_numbered;
@@ -72,7 +72,7 @@ pub struct Sequence {
     cost: Option<Cost>,
     /// How often the context of the last step chooses keys and calls functions, where it was a cryptographic one.
     context: Option<Shape>,
-    sum: Sum,
+    sum: Sums,
     closed: ClosedQueries,
 }
 
@@ -84,7 +84,7 @@ impl Sequence {
         ensures steps { result.steps ≡ 0 }
         ensures cost { result.cost ≡ None }
         ensures context { result.context ≡ None }
-        ensures sum { result.sum ≡ [] }
+        ensures sum { result.sum ≡ no_sums }
         ensures closed { result.closed ≡ [] }
     {
         Sequence {
@@ -93,7 +93,7 @@ impl Sequence {
             steps: 0,
             cost: None,
             context: None,
-            sum: Sum::new(alloc),
+            sum: Sums::new(alloc),
             closed: ClosedQueries::new(alloc),
         }
     }
@@ -170,7 +170,8 @@ impl Sequence {
     {
         let arrays = self.arrays.as_ref().unwrap();
         let next = attempt(alloc, work, self.game.root, arrays, rule)?;
-        self.sum.add(&next.cost, false)?;
+        let sum = self.sum.with_cost(&next.cost)?;
+        self.sum = sum;
         self.game = next.game;
         self.arrays = Some(next.arrays);
         self.cost = Some(next.cost);
@@ -209,7 +210,8 @@ impl Sequence {
                 place: failure.place,
             }));
         }
-        self.closed.note(closing.query, &self.sum)?;
+        let secrecy = is_secret(&work.pool, closing.certificate);
+        self.closed.note(closing.query, self.sum.of(secrecy))?;
         self.cost = Some(Cost::Zero);
         self.context = None;
         self.steps += 1;
@@ -250,7 +252,7 @@ impl Sequence {
         let Reducing { equivalence, key } = reducing;
         let context = shape_at(alloc, work, self.game.root, arrays, equivalence, key)?;
         let step = self.steps + 1;
-        let sum = with_cost(&self.sum, &advantage(step, equivalence))?;
+        let sum = self.sum.with_cost(&advantage(step, equivalence))?;
         let next = apply(alloc, work, self.game.root, equivalence, key, step)?;
         let Next { game, arrays, cost } = next;
         self.game = game;

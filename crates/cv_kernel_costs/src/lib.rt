@@ -1,6 +1,8 @@
-// What steps cost, and sums with a cost more.
+// What steps cost, and the sums of costs.
 #![tactic(auto)]
 
 mod costs;
+mod sums;
 
-pub use costs::{advantage, with_cost};
+pub use costs::advantage;
+pub use sums::Sums;

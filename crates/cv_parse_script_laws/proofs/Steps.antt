@@ -227,8 +227,8 @@ picks l d =
 merges : (l : List Tree) → Made 114 l → HasItems is_any (over head.MergeStep l)
 merges l d = let p = last (skip (skip d)) in with_one is_any head.MergeStep p (has (Merge p.first.0) (bound (λ v. Some (Merge v)) (number_is p.first) refl) refl)
 
-unlets : (l : List Tree) → Made 117 l → HasItems is_any (over head.UnletStep l)
-unlets l d = let x = last (skip (skip d)) in with_one is_any head.UnletStep x (has (Unlet x.first.0) (bound (λ y. Some (Unlet y)) (name_is x.first) refl) refl)
+unlets : (l : List Tree) → Made 117 l → HasItems is_built (over head.UnletStep l)
+unlets l d = let x = last (skip (skip d)) in with_one is_built head.UnletStep x (has (Unlet x.first.0) (bound (λ y. Some (Unlet y)) (name_is x.first) refl) refl)
 
 moves : (l : List Tree) → Made 120 l → HasItems is_any (over head.MoveStep l)
 moves l d = let p = last (skip (skip d)) in with_one is_any head.MoveStep p (has (Move p.first.0) (bound (λ v. Some (Move v)) (number_is p.first) refl) refl)
@@ -296,7 +296,7 @@ any_items d = record { items = d.items; are = d.are; pass = refl }
 any_step : (ts : List Tree) → IsStep is_built ts → IsStep is_any ts
 any_step ts x = record { tree = x.tree; is = x.is; first = any_items x.first }
 
-built_step : (ts : List Tree) → OneOf 152 129 8 ts → IsStep is_built ts
+built_step : (ts : List Tree) → OneOf 152 129 9 ts → IsStep is_built ts
 built_step ts (inl d) = a_step is_built head.SplitStep 129 115 refl splits ts (row 152 129 refl ts d)
 built_step ts (inr (inl d)) = a_step is_built head.LetStep 130 116 refl lets ts (row 152 130 refl ts d)
 built_step ts (inr (inr (inl d))) = a_step is_built head.NewStep 131 118 refl news ts (row 152 131 refl ts d)
@@ -305,14 +305,14 @@ built_step ts (inr (inr (inr (inr (inl d))))) = a_step is_built head.RewriteStep
 built_step ts (inr (inr (inr (inr (inr (inl d)))))) = a_step is_built head.PruneStep 134 112 refl prunes ts (row 152 134 refl ts d)
 built_step ts (inr (inr (inr (inr (inr (inr (inl d))))))) = a_step is_built head.SuccessStep 135 127 refl successes ts (row 152 135 refl ts d)
 built_step ts (inr (inr (inr (inr (inr (inr (inr (inl d)))))))) = a_step is_built head.CryptoStep 136 126 refl cryptos ts (row 152 136 refl ts d)
-built_step ts (inr (inr (inr (inr (inr (inr (inr (inr d)))))))) = absurd d
+built_step ts (inr (inr (inr (inr (inr (inr (inr (inr (inl d))))))))) = a_step is_built head.UnletStep 137 117 refl unlets ts (row 152 137 refl ts d)
+built_step ts (inr (inr (inr (inr (inr (inr (inr (inr (inr d))))))))) = absurd d
 
-later_step : (ts : List Tree) → OneOf 149 137 11 ts → IsStep is_any ts
-later_step ts (inl d) = a_step is_any head.RenameStep 137 110 refl renames ts (row 149 137 refl ts d)
-later_step ts (inr (inl d)) = a_step is_any head.PickStep 138 113 refl picks ts (row 149 138 refl ts d)
-later_step ts (inr (inr (inl d))) = a_step is_any head.MergeStep 139 114 refl merges ts (row 149 139 refl ts d)
-later_step ts (inr (inr (inr (inl d)))) = a_step is_any head.UnletStep 140 117 refl unlets ts (row 149 140 refl ts d)
-later_step ts (inr (inr (inr (inr d)))) = last_step ts d
+later_step : (ts : List Tree) → OneOf 149 138 10 ts → IsStep is_any ts
+later_step ts (inl d) = a_step is_any head.RenameStep 138 110 refl renames ts (row 149 138 refl ts d)
+later_step ts (inr (inl d)) = a_step is_any head.PickStep 139 113 refl picks ts (row 149 139 refl ts d)
+later_step ts (inr (inr (inl d))) = a_step is_any head.MergeStep 140 114 refl merges ts (row 149 140 refl ts d)
+later_step ts (inr (inr (inr d))) = last_step ts d
   where
     last_step : (ts : List Tree) → OneOf 149 141 7 ts → IsStep is_any ts
     last_step ts (inl d) = a_step is_any head.MoveStep 141 120 refl moves ts (row 149 141 refl ts d)
@@ -333,7 +333,8 @@ step ts (inr (inr (inr (inr (inl d))))) = any_step ts (a_step is_built head.Rewr
 step ts (inr (inr (inr (inr (inr (inl d)))))) = any_step ts (a_step is_built head.PruneStep 134 112 refl prunes ts (row 149 134 refl ts d))
 step ts (inr (inr (inr (inr (inr (inr (inl d))))))) = any_step ts (a_step is_built head.SuccessStep 135 127 refl successes ts (row 149 135 refl ts d))
 step ts (inr (inr (inr (inr (inr (inr (inr (inl d)))))))) = any_step ts (a_step is_built head.CryptoStep 136 126 refl cryptos ts (row 149 136 refl ts d))
-step ts (inr (inr (inr (inr (inr (inr (inr (inr d)))))))) = later_step ts d
+step ts (inr (inr (inr (inr (inr (inr (inr (inr (inl d))))))))) = any_step ts (a_step is_built head.UnletStep 137 117 refl unlets ts (row 149 137 refl ts d))
+step ts (inr (inr (inr (inr (inr (inr (inr (inr (inr d))))))))) = later_step ts d
 
 -- scripts
 
@@ -381,4 +382,4 @@ unfolding sorts_pass
 have_rules limit live from signs steps e =
     let r = row_is_read built_script_row refl refl limit live from signs steps e in
     let m = made_so built_script_row refl signs r.script r.uses r.spelled in
-    subst (AllByRecursion (HasItems is_built)) (sym (r.items ∙ ap items_of (sym m.1))) (script_items is_built 154 153 152 (λ ts d. with_end is_built (OneOf 152 129 8) built_step ts (row 153 152 refl ts d)) m.0 m.2 (λ l d. row 154 153 refl l d))
+    subst (AllByRecursion (HasItems is_built)) (sym (r.items ∙ ap items_of (sym m.1))) (script_items is_built 154 153 152 (λ ts d. with_end is_built (OneOf 152 129 9) built_step ts (row 153 152 refl ts d)) m.0 m.2 (λ l d. row 154 153 refl l d))

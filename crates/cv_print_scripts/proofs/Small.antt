@@ -54,7 +54,7 @@ made_so =
         front = small ∷ [];
         back = [];
         parts = refl;
-        first = inr (inr (inr (inr (inr (inr (inr (inr (inl (record {
+        first = inr (inr (inr (inr (inr (inr (inr (inr (inr (inl (record {
           front = small ∷ [];
           back = [];
           parts = refl;
@@ -110,7 +110,7 @@ made_so =
             ),
           );
           second = refl;
-        })))))))));
+        }))))))))));
         second = refl;
       },
     )

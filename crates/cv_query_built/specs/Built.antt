@@ -1,6 +1,6 @@
--- Steps that ask for a certificate that isn't built: of a query of secrecy, of an injective correspondence, or with distinct
+-- Steps that ask for a certificate that isn't built: of secrecy with pairs, of an injective correspondence, or with distinct
 -- variables. This profile's own.
-use Rattle.std.specs.Prelude.{ℕ, Bool, false, not, List, Option, Some, None}
+use Rattle.std.specs.Prelude.{Bool, false, not, List, Option, Some, None}
 use Rattle.std.specs.List.{list_any}
 use Rattle.cv_pool.specs.declared.node.NodeId.{NodeId}
 use Rattle.cv_pool.specs.KindTree.{KindTree}

@@ -5,7 +5,7 @@ ghost use Rattle.cv_syntax.specs.PoolTrees.{tree_at};
 ghost use Rattle.cv_meaning.specs.Correspondences.{is_once};
 ghost use Rattle.cv_query_certificates.specs.Accepted as accepted;
 
-use cv_syntax::children::{first_of, second_of};
+use cv_syntax::children::{first_of, is_empty, second_of};
 use cv_syntax::{Head, NodeId, Pool, read_node};
 
 /// Whether a tree is an event that is marked `inj`.
@@ -65,6 +65,22 @@ fn names_no_distinct(pool: &Pool, certificate: Option<NodeId>) -> bool
     }
 }
 
+/// Whether a certificate of secrecy gives no pair.
+#[tactic(auto, using(cv_syntax::proofs::Trees::opened))]
+fn gives_no_pair(pool: &Pool, certificate: Option<NodeId>) -> bool
+    requires { ChildBelow (length pool.now.trees) certificate }
+    ensures { result ≡ accepted.gives_no_pair (tree_at pool.now.trees certificate) }
+{
+    let Some(k) = certificate else {
+        return true;
+    };
+    let node = read_node(pool, k);
+    match node.head {
+        Head::SecretCertificate => is_empty(pool, node.first),
+        _ => true,
+    }
+}
+
 /// Whether a certificate for a query is of a form that is built.
 #[tactic(auto, using(cv_syntax::proofs::Trees::opened))]
 pub fn is_built(pool: &Pool, query: NodeId, certificate: Option<NodeId>) -> bool
@@ -78,6 +94,9 @@ pub fn is_built(pool: &Pool, query: NodeId, certificate: Option<NodeId>) -> bool
         Head::Query => {
             let left = first_of(pool, node.second);
             !is_marked(pool, left) && names_no_distinct(pool, certificate)
+        }
+        Head::Secret(_) | Head::SecretOnce(_) => {
+            names_no_distinct(pool, certificate) && gives_no_pair(pool, certificate)
         }
         _ => false,
     }

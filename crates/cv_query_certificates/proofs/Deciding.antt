@@ -1,19 +1,20 @@
 -- Where no condition of a certificate fails it is accepted, and the other way round.
-use Rattle.std.proofs.Common.{◌≡◌, ◌↔◌, ℕ, Bool, true, false, List, [], ◌∷◌, Option, Some, None, refl, ap, ◌∙◌}
+use Rattle.std.proofs.Common.{◌≡◌, ◌↔◌, ℕ, Bool, true, false, List, [], ◌∷◌, Option, Some, None, inl, inr, refl, sym, ap, ap₂, ◌∙◌}
 use Rattle.std.specs.Prelude.{not, is_some}
 use Rattle.std.proofs.lemmas.Bool.{both_ways, and_parts, and_from}
 use Rattle.std.specs.List.{AllByRecursion, list_all}
 use Rattle.cv_lists.specs.Options.{first_of}
-use Rattle.cv_syntax_trees.specs.declared.head.Head.TheVariants.{EventsCertificate}
+use Rattle.cv_syntax_trees.specs.declared.head.Head.TheVariants.{EventsCertificate, Secret, SecretCertificate, SecretOnce}
 use Rattle.cv_syntax_trees.specs.Tree.{Tree, Empty, Node}
 use Rattle.cv_meaning.specs.Correspondences.{Correspondence, correspondence_of}
 use Rattle.cv_scenes.specs.Derivations.{first_bad_line, unless}
 use Rattle.cv_scenes.specs.Scenes.{Scene}
 use Rattle.cv_scenes.specs.Sights.{sight_at}
-use Rattle.cv_query_certificates.specs.Accepted.{AreEntries, IsAccepted, IsEventsProof, Proves, is_built}
+use Rattle.cv_query_certificates.specs.Accepted.{AreEntries, IsAccepted, IsEventsProof, IsProofOf, IsSecretProof, Proves, is_built}
 use Rattle.cv_query_certificates.specs.Claims.{Claim, entry_claims}
-use Rattle.cv_query_certificates.specs.Failures.{certificate_failure, failure, first_failing, first_failure, first_surplus, first_unformed, has_end, is_right, parts_failure}
+use Rattle.cv_query_certificates.specs.Failures.{certificate_failure, failure, first_failing, first_failure, first_surplus, first_unformed, forms_failure, has_end, is_right, parts_failure, query_failure, secret_failure}
 use Rattle.cv_query_certificates.specs.Forms.{has_form, left_places}
+use Rattle.cv_query_certificates.specs.Secrets.{AreUnreadChoices, AreUnreadCopies, IsSecret, earlier, first_offence_of_choices, first_offence_of_copies}
 
 some_none : {A : Type 0} (x : A) → ◌≡◌ {A = Option A} (Some x) None → ⊥
 some_none x e = cc
@@ -119,8 +120,71 @@ module _ (s : Scene) (q : Correspondence) where
   certificate_fails_nowhere (Node EventsCertificate parts e) a = nothing_fails (left_places s q) parts a
   certificate_fails_nowhere c a = absurd a
 
+-- secrecy
+
+earlier_none : (p q : Option ℕ) → earlier p q ≡ None → (p ≡ None) × (q ≡ None)
+earlier_none None q e = (refl, e)
+earlier_none (Some p) None e = absurd (some_none p e)
+earlier_none (Some p) (Some q) e = absurd (some_none _ e)
+
+both_earlier : (p q : Option ℕ) → p ≡ None → q ≡ None → earlier p q ≡ None
+both_earlier p q e f = ap₂ earlier e f
+
+module _ (s : Scene) (x : ℕ) where
+  choices_stand : first_offence_of_choices s.game x ≡ None → AreUnreadChoices s.game x
+  choices_stand e = let a = earlier_none _ _ e in record { chosen = a.0; unread = a.1 }
+
+  choices_pass : AreUnreadChoices s.game x → first_offence_of_choices s.game x ≡ None
+  choices_pass a = both_earlier _ _ a.chosen a.unread
+
+  copies_stand : first_offence_of_copies s x ≡ None → AreUnreadCopies s x
+  copies_stand e = let a = earlier_none _ _ e in record { copies = a.0; unread = a.1 }
+
+  copies_pass : AreUnreadCopies s x → first_offence_of_copies s x ≡ None
+  copies_pass a = both_earlier _ _ a.copies a.unread
+
+  -- by the first offences against both forms
+  stands_by : (once : Bool) (p q : Option ℕ) → p ≡ first_offence_of_choices s.game x → q ≡ first_offence_of_copies s x → forms_failure once s.game x p q ≡ None → IsSecret once s x
+  stands_by true None q e f n = inl (choices_stand (sym e))
+  stands_by false None q e f n = choices_stand (sym e)
+  stands_by true (Some p) None e f n = inr (copies_stand (sym f))
+  stands_by false (Some p) None e f n = absurd (some_none _ n)
+  stands_by once (Some p) (Some q) e f n = absurd (some_none _ n)
+
+  no_choices : (once : Bool) (p q : Option ℕ) → p ≡ None → forms_failure once s.game x p q ≡ None
+  no_choices once p q e = ap (λ o. forms_failure once s.game x o q) e
+
+  no_copies : (p q : Option ℕ) → q ≡ None → forms_failure true s.game x p q ≡ None
+  no_copies None q e = refl
+  no_copies (Some p) q e = ap (forms_failure true s.game x (Some p)) e
+
+  passes_by : (once : Bool) → IsSecret once s x → forms_failure once s.game x (first_offence_of_choices s.game x) (first_offence_of_copies s x) ≡ None
+  passes_by true (inl a) = no_choices true _ _ (choices_pass a)
+  passes_by true (inr a) = no_copies _ _ (copies_pass a)
+  passes_by false a = no_choices false _ _ (choices_pass a)
+
+  secret_stands : (once : Bool) (c : Tree) → secret_failure once s x c ≡ None → IsSecretProof once s x c
+  secret_stands once (Node SecretCertificate Empty e) n = stands_by once _ _ refl refl n
+  secret_stands once (Node SecretCertificate (Node h part more) e) n = absurd (some_none _ n)
+  secret_stands once c n = absurd (some_none _ n)
+
+  secret_fails_nowhere : (once : Bool) (c : Tree) → IsSecretProof once s x c → secret_failure once s x c ≡ None
+  secret_fails_nowhere once (Node SecretCertificate Empty e) a = passes_by once a
+  secret_fails_nowhere once c a = absurd a
+
+module _ (s : Scene) where
+  query_stands : (query c : Tree) → query_failure s query c ≡ None → IsProofOf s query c
+  query_stands (Node (Secret x) a b) c n = secret_stands s x false c n
+  query_stands (Node (SecretOnce x) a b) c n = secret_stands s x true c n
+  query_stands query c n = certificate_stands s (correspondence_of query) c n
+
+  query_fails_nowhere : (query c : Tree) → IsProofOf s query c → query_failure s query c ≡ None
+  query_fails_nowhere (Node (Secret x) a b) c p = secret_fails_nowhere s x false c p
+  query_fails_nowhere (Node (SecretOnce x) a b) c p = secret_fails_nowhere s x true c p
+  query_fails_nowhere query c p = certificate_fails_nowhere s (correspondence_of query) c p
+
 pub decided : (s : Scene) (query certificate : Tree) → is_built query certificate ≡ true → IsAccepted s query certificate ↔ (first_failure s (Some query) certificate ≡ None)
 decided s query certificate b = (
-  λ a. certificate_fails_nowhere s (correspondence_of query) certificate a.proof,
-  λ e. record { built = b; proof = certificate_stands s (correspondence_of query) certificate e },
+  λ a. query_fails_nowhere s query certificate a.proof,
+  λ e. record { built = b; proof = query_stands s query certificate e },
 )

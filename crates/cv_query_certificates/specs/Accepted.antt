@@ -1,9 +1,11 @@
--- Accepted certificates of correspondences without `inj`: each left event has an entry, in the order of places. Either its node is
+-- Accepted certificates. Of a correspondence without `inj`: each left event has an entry, in the order of places. Either its node is
 -- never reached, or each right event was executed before, since its node stands above, or above the only definition of a variable
--- that is assigned. Blanchet, CSF 2007, for correspondences; certificates are this profile's own.
+-- that is assigned. Of secrecy: the game itself has the form, and no pair is given. Blanchet, CSF 2007, for correspondences, and
+-- TDSC 2008, for secrecy; certificates are this profile's own.
 use Rattle.std.specs.Prelude.{◌≡◌, ℕ, Bool, true, false, ◌&&◌, ◌||◌, not, List, [], ◌∷◌}
 use Rattle.std.specs.List.{AllByRecursion}
-use Rattle.cv_syntax_trees.specs.declared.head.Head.TheVariants.{DistinctPart, EventsCertificate, Query}
+use Rattle.cv_syntax_trees.specs.declared.head.Head.TheVariants.{DistinctPart, EventsCertificate, Query, Secret, SecretCertificate, SecretOnce}
+use Rattle.cv_syntax_trees.specs.Children.{is_empty}
 use Rattle.cv_syntax_trees.specs.Tree.{Tree, Empty, Node}
 use Rattle.cv_meaning.specs.Correspondences.{Correspondence, correspondence_of}
 use Rattle.cv_scenes.specs.Derivations.{Derives}
@@ -11,6 +13,7 @@ use Rattle.cv_scenes.specs.Scenes.{Scene}
 use Rattle.cv_scenes.specs.Sights.{sight_at}
 use Rattle.cv_query_certificates.specs.Claims.{Claim, entry_claims}
 use Rattle.cv_query_certificates.specs.Forms.{has_form, left_places}
+use Rattle.cv_query_certificates.specs.Secrets.{IsSecret}
 
 -- the derivation is right at the place, and ends with the targets
 abbrev pub Proves : Scene → (place : ℕ) → Claim → Type 0
@@ -31,8 +34,18 @@ abbrev pub IsEventsProof : Scene → Correspondence → (certificate : Tree) →
 IsEventsProof s q (Node EventsCertificate parts e) = AreEntries s q (left_places s q) parts
 IsEventsProof s q certificate = ⊥
 
--- What has a rule by now: certificates of correspondences without `inj` that name no distinct variables. Secrecy, injective
--- correspondences and distinct variables have none yet.
+-- of secrecy, in one session or in many
+abbrev pub IsSecretProof : (once : Bool) → Scene → (x : ℕ) → (certificate : Tree) → Type 0
+IsSecretProof once s x (Node SecretCertificate Empty e) = IsSecret once s x
+IsSecretProof once s x certificate = ⊥
+
+abbrev pub IsProofOf : Scene → (query certificate : Tree) → Type 0
+IsProofOf s (Node (Secret x) a b) certificate = IsSecretProof false s x certificate
+IsProofOf s (Node (SecretOnce x) a b) certificate = IsSecretProof true s x certificate
+IsProofOf s query certificate = IsEventsProof s (correspondence_of query) certificate
+
+-- What has a rule by now: certificates of correspondences without `inj` that name no distinct variables, and of secrecy without
+-- pairs. Pairs, injective correspondences and distinct variables have none yet.
 
 abbrev pub is_distinct_part : Tree → Bool
 is_distinct_part (Node DistinctPart names e) = true
@@ -46,10 +59,17 @@ abbrev pub names_no_distinct : (certificate : Tree) → Bool
 names_no_distinct (Node EventsCertificate parts e) = not (names_distinct parts)
 names_no_distinct certificate = true
 
+-- a certificate of secrecy gives none
+abbrev pub gives_no_pair : (certificate : Tree) → Bool
+gives_no_pair (Node SecretCertificate parts e) = is_empty parts
+gives_no_pair certificate = true
+
 abbrev pub is_built : (query certificate : Tree) → Bool
 is_built (Node Query binders sides) certificate = not (correspondence_of (Node Query binders sides)).inj && names_no_distinct certificate
+is_built (Node (Secret x) a b) certificate = names_no_distinct certificate && gives_no_pair certificate
+is_built (Node (SecretOnce x) a b) certificate = names_no_distinct certificate && gives_no_pair certificate
 is_built query certificate = false
 
 pub record IsAccepted (s : Scene) (query certificate : Tree) : Type 0 where
   pub built : is_built query certificate ≡ true
-  pub proof : IsEventsProof s (correspondence_of query) certificate
+  pub proof : IsProofOf s query certificate

@@ -1,9 +1,9 @@
 -- Which condition of a certificate fails first, and where: each is tested at all entries before the next one is. That a query is
 -- closed only once is the sequence's test. This profile's own.
-use Rattle.std.specs.Prelude.{ℕ, Bool, not, List, [], ◌∷◌, Option, None, Some, is_some, option_map}
+use Rattle.std.specs.Prelude.{ℕ, Bool, true, false, not, if◌then◌else◌, List, [], ◌∷◌, Option, None, Some, is_some, option_map}
 use Rattle.std.specs.List.{list_all}
 use Rattle.cv_lists.specs.Options.{first_of}
-use Rattle.cv_syntax_trees.specs.declared.head.Head.TheVariants.{AtEntry, EventsCertificate}
+use Rattle.cv_syntax_trees.specs.declared.head.Head.TheVariants.{AtEntry, EventsCertificate, Secret, SecretCertificate, SecretOnce}
 use Rattle.cv_syntax_trees.specs.Tree.{Tree, Empty, Node, first}
 use Rattle.cv_meaning.specs.Correspondences.{Correspondence, correspondence_of}
 use Rattle.cv_derivations.specs.Ends.{ends_with}
@@ -13,10 +13,14 @@ use Rattle.cv_scenes.specs.Sights.{sight_at}
 use Rattle.cv_query_certificates.specs.Claims.{Claim, entry_claims}
 use Rattle.cv_query_certificates.specs.EventNodes.{place_in}
 use Rattle.cv_query_certificates.specs.Forms.{has_form, left_places}
+use Rattle.cv_query_certificates.specs.Secrets.{first_definition, first_offence_of_choices, first_offence_of_copies, starts_by_let}
 
 pub record Failure : Type 0 where
   pub condition : ℕ
   pub place : ℕ
+
+abbrev pub failed : (condition place : ℕ) → Option Failure
+failed n p = Some (record { condition = n; place = p })
 
 abbrev pub failure : (condition : ℕ) → Option ℕ → Option Failure
 failure n p = option_map (λ place. record { condition = n; place = place }) p
@@ -63,9 +67,37 @@ least_place (p ∷ ps) = p
 
 abbrev pub certificate_failure : Scene → Correspondence → (certificate : Tree) → Option Failure
 certificate_failure s q (Node EventsCertificate parts e) = parts_failure s q (left_places s q) parts
-certificate_failure s q certificate = Some (record { condition = 2; place = least_place (left_places s q) })
+certificate_failure s q certificate = failed 2 (least_place (left_places s q))
+
+-- Of secrecy, by the first offences against the two forms. Where the first form holds nothing fails. Where the second one alone does,
+-- no pair is needed for one session; for many sessions that of the first definition with itself is, and none is given. Where neither
+-- holds, the first offence is against the form that the first definition has.
+
+-- a place, or 0
+abbrev pub place_or_start : Option ℕ → ℕ
+place_or_start None = 0
+place_or_start (Some p) = p
+
+abbrev pub forms_failure : (once : Bool) → (game : Tree) → (x : ℕ) → (choices copies : Option ℕ) → Option Failure
+forms_failure once game x None q = None
+forms_failure once game x (Some p) None = if once then None else failed 5 (place_or_start (first_definition game x))
+forms_failure once game x (Some p) (Some q) = failed 7 (if starts_by_let game x then q else p)
+
+-- no pair is needed by what has a rule
+abbrev pub pairs_failure : (once : Bool) → Scene → (x : ℕ) → (pairs : Tree) → Option Failure
+pairs_failure once s x pairs =
+    first_of (failure 5 (first_surplus [] pairs)) (forms_failure once s.game x (first_offence_of_choices s.game x) (first_offence_of_copies s x))
+
+abbrev pub secret_failure : (once : Bool) → Scene → (x : ℕ) → (certificate : Tree) → Option Failure
+secret_failure once s x (Node SecretCertificate pairs e) = pairs_failure once s x pairs
+secret_failure once s x certificate = failed 2 0
+
+abbrev pub query_failure : Scene → (query certificate : Tree) → Option Failure
+query_failure s (Node (Secret x) a b) certificate = secret_failure false s x certificate
+query_failure s (Node (SecretOnce x) a b) certificate = secret_failure true s x certificate
+query_failure s query certificate = certificate_failure s (correspondence_of query) certificate
 
 -- of a certificate that has a rule
 abbrev pub first_failure : Scene → (query : Option Tree) → (certificate : Tree) → Option Failure
-first_failure s None certificate = Some (record { condition = 1; place = 0 })
-first_failure s (Some query) certificate = certificate_failure s (correspondence_of query) certificate
+first_failure s None certificate = failed 1 0
+first_failure s (Some query) certificate = query_failure s query certificate

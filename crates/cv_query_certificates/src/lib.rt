@@ -1,4 +1,4 @@
-// Certificates of correspondences without `inj`: which are accepted, and which condition fails first.
+// Certificates of correspondences without `inj` and of secrecy: which are accepted, and which condition fails first.
 #![tactic(auto)]
 
 ghost use Rattle.std.specs.Prelude.{◌≡◌, ◌↔◌, ◌∷◌, [], true, false, Some, None};
@@ -8,6 +8,8 @@ ghost use Rattle.cv_scenes.specs.Scenes.{Scene};
 ghost use Rattle.cv_query_certificates.specs.Accepted.{IsAccepted, is_built};
 ghost use Rattle.cv_query_certificates.specs.Failures.{first_failure};
 ghost use Rattle.cv_query_certificates.specs.Worked.{begun, begun_once, cell_cases, cell_entry, direct, direct_cases, direct_entry, distinct, events, is_true, never, one_site, two_sites, two_sites_cases};
+ghost use Rattle.cv_query_certificates.specs.Secrets.{IsSecret};
+ghost use Rattle.cv_query_certificates.specs.WorkedSecrets.{Fails, by_form, by_pair, chosen, compared, copied, secret, secret_cases, secret_once};
 
 /// A certificate that has a rule is accepted exactly where no condition of it fails.
 pub fn accepted_exactly_where_nothing_fails()
@@ -28,6 +30,20 @@ pub fn worked_certificates()
     ensures never { IsAccepted direct begun (events (never 4 (is_true ∷ []) ∷ [])) → ⊥ }
     ensures injective { is_built begun_once (events (direct_entry ∷ [])) ≡ false }
     ensures distinct { is_built begun (events (direct_entry ∷ distinct 4 ∷ [])) ≡ false }
+{
+    accepted_exactly_where_nothing_fails();
+}
+
+/// Which condition fails first of certificates of secrecy, for many sessions and for one. A variable that is chosen and read
+/// nowhere is accepted; a read of it fails, in a condition or in an output. One that copies another, which is read nowhere
+/// else, is accepted for one session, and for many a pair lacks; a read of the other one fails, and so does a query for it.
+pub fn worked_secrets()
+    ensures fails { AllByRecursion Fails secret_cases }
+    ensures accepted { IsAccepted chosen (secret 4) by_form }
+    ensures read { IsAccepted compared (secret 4) by_form → ⊥ }
+    ensures copied { IsAccepted copied (secret 4) by_form → ⊥ }
+    ensures once { IsAccepted copied (secret_once 4) by_form }
+    ensures pairs { is_built (secret 4) by_pair ≡ false }
 {
     accepted_exactly_where_nothing_fails();
 }

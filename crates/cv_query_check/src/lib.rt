@@ -1,9 +1,10 @@
-// The test of a certificate of a correspondence: which condition fails first, and at which place.
+// The test of a certificate: which condition fails first, and at which place.
 #![tactic(auto)]
 
 mod claims;
 mod ends;
 mod right;
+mod secrets;
 mod testing;
 
 pub use testing::{Failure, check};

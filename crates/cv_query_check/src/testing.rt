@@ -1,5 +1,6 @@
 ghost use Rattle.std.specs.Prelude.{◌≡◌, IfOk, Some, length, option_map};
 ghost use Rattle.cv_pool.specs.Nodes.{ChildBelow};
+ghost use Rattle.cv_syntax_trees.specs.Tree.{Node};
 ghost use Rattle.cv_syntax.specs.PoolTrees.{tree_at};
 ghost use Rattle.cv_query_certificates.specs.EventNodes.{event_places as event_places_of};
 ghost use Rattle.cv_query_certificates.specs.Failures as failures;
@@ -12,10 +13,11 @@ ghost use Rattle.cv_query_check.specs.Countable.{AreCountableParts, IsCountableC
 
 use crate::ends::first_unfinished;
 use crate::right::first_wrong;
+use crate::secrets::{failed, secret_checked};
 use cv_query_entries::{Asked, View, event_places, first_surplus, first_unformed, left_event};
 use cv_query_terms::right_alone;
 use cv_syntax::children::{first_of, second_of};
-use cv_syntax::{Head, NodeId, read_node};
+use cv_syntax::{Head, NodeId, Opened, read_node};
 use std::alloc::{AllocError, Global};
 
 /// A condition of a certificate that fails, and where. The place of an entry too many is that of the text.
@@ -118,9 +120,41 @@ fn certificate_checked(
     }
 }
 
-/// Tests a certificate of a correspondence in a game: the first of its conditions that fails, with its place, and nothing
-/// where it is accepted. It takes memory for the places of the left event, for the indices above each of them, and for the
-/// variables on the right alone; the pool stays as it is.
+/// The first condition that fails of a certificate for a query that is a correspondence.
+#[tactic(auto, using(crate::proofs::Failing::failing))]
+fn correspondence_checked(
+    alloc: Global,
+    view: &View,
+    query: Opened,
+    certificate: Option<NodeId>,
+) -> Result<Option<Failure>, AllocError>
+    requires ready { IsReady view.now }
+    requires first { ChildBelow (length (trees_of view.now)) query.first }
+    requires second { ChildBelow (length (trees_of view.now)) query.second }
+    requires certificate { ChildBelow (length (trees_of view.now)) certificate }
+    requires few { IsCountableCertificate (tree_at (trees_of view.now) certificate) }
+    ensures { IfOk result (λ f. option_map failure_of f ≡ certificate_failure (scene_of view.now)
+        (correspondence_of (Node query.head (tree_at (trees_of view.now) query.first)
+        (tree_at (trees_of view.now) query.second)))
+        (tree_at (trees_of view.now) certificate)) }
+{
+    let pool = &view.work.pool;
+    let left = left_event(pool, first_of(pool, query.second));
+    let atoms = second_of(pool, query.second);
+    let others = right_alone(alloc, pool, query.first, left.variables, atoms)?;
+    let asked = Asked {
+        inj: left.inj,
+        event: left.event,
+        variables: left.variables,
+        others: others.as_slice(),
+        atoms,
+    };
+    certificate_checked(alloc, view, &asked, certificate)
+}
+
+/// Tests a certificate in a game: the first of its conditions that fails, with its place, and nothing where it is accepted.
+/// Of a correspondence it takes memory for the places of the left event, for the indices above each of them, and for the
+/// variables on the right alone; of secrecy for the variables that the variable copies. The pool stays as it is.
 #[tactic(auto, using(crate::proofs::Failing::failing))]
 pub fn check(
     alloc: Global,
@@ -138,22 +172,12 @@ pub fn check(
         (tree_at (trees_of view.now) certificate)) }
 {
     let Some(n) = query else {
-        return Ok(Some(Failure {
-            condition: 1,
-            place: 0,
-        }));
+        return Ok(Some(failed(1, 0)));
     };
-    let pool = &view.work.pool;
-    let node = read_node(pool, n);
-    let left = left_event(pool, first_of(pool, node.second));
-    let atoms = second_of(pool, node.second);
-    let others = right_alone(alloc, pool, node.first, left.variables, atoms)?;
-    let asked = Asked {
-        inj: left.inj,
-        event: left.event,
-        variables: left.variables,
-        others: others.as_slice(),
-        atoms,
-    };
-    certificate_checked(alloc, view, &asked, certificate)
+    let node = read_node(&view.work.pool, n);
+    match node.head {
+        Head::Secret(x) => secret_checked(alloc, view, false, x, certificate),
+        Head::SecretOnce(x) => secret_checked(alloc, view, true, x, certificate),
+        _ => correspondence_checked(alloc, view, node, certificate),
+    }
 }

@@ -35,11 +35,11 @@ use Rattle.cv_scope_runs.proofs.Standing.{stands_known}
 use Rattle.cv_derivations_under.specs.Holding.{HoldAtVisit}
 use Rattle.cv_derivations_under.specs.Reached.{HasTypes}
 use Rattle.cv_scenes.specs.Scenes.{Scene, or_empty}
-use Rattle.cv_query_certificates.specs.Accepted.{AreEntries, IsEntry, IsEventsProof, is_built}
+use Rattle.cv_query_certificates.specs.Accepted.{AreEntries, IsEntry, IsEventsProof, IsProofOf, is_built}
 use Rattle.cv_query_certificates.specs.EventNodes.{arguments_at}
 use Rattle.cv_query_certificates.specs.Forms.{left_places}
 use Rattle.cv_query_correspondences.specs.Happenings.{happening, happening_at, happenings}
-use Rattle.cv_query_correspondences.specs.Premises.{IsProved}
+use Rattle.cv_query_correspondences.specs.Premises.{IsProved, is_correspondence}
 use Rattle.cv_query_correspondences.proofs.Behind.{IsAmong, place-among}
 use Rattle.cv_query_correspondences.proofs.Happening.{run_happens}
 use Rattle.cv_query_correspondences.proofs.Meeting.{entry-met}
@@ -68,9 +68,13 @@ module _ (s : Scene) (q : Correspondence) where
   place-entry p (Node EventsCertificate parts e) a i = entry-of p (left_places s q) parts a i
   place-entry p certificate a i = absurd a
 
-not-injective : (query certificate : Tree) → is_built query certificate ≡ true → (correspondence_of query).inj ≡ false
-not-injective (Node Query bs sides) certificate e = not-true _ (and_parts (not (correspondence_of (Node Query bs sides)).inj) _ e).0
-not-injective query certificate e = absurd (both_ways _ refl e)
+not-injective : (query certificate : Tree) → is_correspondence query ≡ true → is_built query certificate ≡ true → (correspondence_of query).inj ≡ false
+not-injective (Node Query bs sides) certificate k e = not-true _ (and_parts (not (correspondence_of (Node Query bs sides)).inj) _ e).0
+not-injective query certificate k e = absurd (both_ways _ refl k)
+
+events-proof : (s : Scene) (query certificate : Tree) → is_correspondence query ≡ true → IsProofOf s query certificate → IsEventsProof s (correspondence_of query) certificate
+events-proof s (Node Query bs sides) certificate k p = p
+events-proof s query certificate k p = absurd (both_ways _ refl k)
 
 module _ (s : Scene) (query certificate : Tree) (proved : IsProved s query certificate) (i : Interpretation) (model : Satisfies s.declarations i) where
   abbrev g : Setting
@@ -103,11 +107,11 @@ module _ (s : Scene) (query certificate : Tree) (proved : IsProved s query certi
           met : IsFine st.memory.events (record { event = e; values = values_here g l a })
           met same =
               let stands : subtree s.game v.place ≡ Some (Node (Event q.event) a b) = tree refl ∙ ap (λ e. Some (Node (Event e) a b)) same in
-              let entry = place-entry s q v.place certificate proved.accepted.proof (place-among s.game v.place q.event a b stands) in
+              let entry = place-entry s q v.place certificate (events-proof s query certificate proved.correspondence proved.accepted.proof) (place-among s.game v.place q.event a b stands) in
               let args : arguments_at s.game v.place ≡ a = ap (λ o. first (or_empty o)) (tree refl) in
               let r = entry-met s i proved.ready model fine q v.place l
               (record { above = h.above; known = stands_known s.game v.place h.phrase h.above (Node (Event e) a b) refl h.stands; matches = h.matches; holds = h.holds; stores = h.stores; types = types })
-              (λ by targets d. proved.sound.targets s i v.place l.indices l.memory.store l.memory.store by targets (derives refl).0 d) st.memory.events grows.events entry.0 (closed-named s.declarations query certificate proved.accepted.built proved.closed) entry.1 in
+              (λ by targets d. proved.sound.targets s i v.place l.indices l.memory.store l.memory.store by targets (derives refl).0 d) st.memory.events grows.events entry.0 (closed-named s.declarations query proved.correspondence proved.closed) entry.1 in
               subst (λ (x : Happened). IsMet g q st.memory.events x) (λ j. record { event = sym same j; values = values_here g l (args j) }) r
       go t l h grows derives types tree = tt
 
@@ -128,7 +132,7 @@ module _ (s : Scene) (query certificate : Tree) (proved : IsProved s query certi
         let here : AllByRecursion (IsFine st.memory.events) st.memory.events =
         subst (AllByRecursion (IsFine st.memory.events)) (sym (run_happens g Events (a.next (coins_on t 0 a.coins)) t a.moves (start g s.game))) all in
         (says st.memory.events).1
-        (subst (λ b. MatchBool b (HasMatching g q st.memory.events) (AllMet g q st.memory.events)) (sym (not-injective query certificate proved.accepted.built)) (λ n e k. all-at (IsFine st.memory.events) st.memory.events n e here k.0 k.1))
+        (subst (λ b. MatchBool b (HasMatching g q st.memory.events) (AllMet g q st.memory.events)) (sym (not-injective query certificate proved.correspondence proved.accepted.built)) (λ n e k. all-at (IsFine st.memory.events) st.memory.events n e here k.0 k.1))
 
     module _ (typed : All (λ t. AllByRecursion (HasTypes s.declarations s.game i) (visits_of_run g Events a s.game t)) (tapes_of (cells g Events a s.game) blank)) where
       pub never-broken : All (λ t. broken g q (run g Events a s.game t).memory.events ≡ false) (tapes_of (cells g Events a s.game) blank)
@@ -149,6 +153,6 @@ module _ (s : Scene) (query certificate : Tree) (proved : IsProved s query certi
           let e : count (cells g Events a s.game) (holds_on g (Breaks query) a s.game) blank ≡ 0 = count_is (cells g Events a s.game) (holds_on g (Breaks query) a s.game) blank ∙ none-counted (holds_on g (Breaks query) a s.game) (tapes_of (cells g Events a s.game) blank) never-broken in
           omega arith
 
-pub as-advantage : (g : Setting) (query certificate : Tree) (a : Adversary) (game : Tree) → is_built query certificate ≡ true → AtMost (chance_of g (Breaks query) a game) zero_chance → AtMost (advantage g query a game) zero_chance
-as-advantage g (Node Query bs sides) certificate a game b e = e
-as-advantage g query certificate a game b e = absurd (both_ways _ refl b)
+pub as-advantage : (g : Setting) (query : Tree) (a : Adversary) (game : Tree) → is_correspondence query ≡ true → AtMost (chance_of g (Breaks query) a game) zero_chance → AtMost (advantage g query a game) zero_chance
+as-advantage g (Node Query bs sides) a game b e = e
+as-advantage g query a game b e = absurd (both_ways _ refl b)

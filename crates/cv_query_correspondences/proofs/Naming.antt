@@ -9,8 +9,8 @@ use Rattle.cv_syntax_trees.specs.Declarations.{Declaration}
 use Rattle.cv_syntax_trees.specs.Tree.{Tree, Empty, Node, bound_names, head_reads_only, reads_only}
 use Rattle.cv_meaning.specs.Correspondences.{Atom, Correspondence, RightEvent, RightTerm, atom_of, atoms_of, correspondence_from, correspondence_of, reads, typed_names}
 use Rattle.cv_derivations_under.specs.Truth.{AreOver, IsOver, is_name_of}
-use Rattle.cv_query_certificates.specs.Accepted.{is_built}
 use Rattle.cv_query_certificates.specs.Claims.{names_of}
+use Rattle.cv_query_correspondences.specs.Premises.{is_correspondence}
 use Rattle.cv_query_closed.specs.Closed.{AreClosedAtoms, IsClosedAtom, IsClosedQuery, IsKnown}
 
 -- the same of the atoms of a correspondence, by its own variables
@@ -145,7 +145,7 @@ module _ (ds : List Declaration) (bs left whole : Tree) where
   atoms-named Empty f o = tt
   atoms-named (Node h a b) f o = (atom-named a (λ x r. f x (reads-first x h a b r)) o.0, atoms-named b (λ x r. f x (reads-second x h a b r)) o.1)
 
-pub closed-named : (ds : List Declaration) (query certificate : Tree) → is_built query certificate ≡ true → IsClosedQuery ds query → HasNamedAtoms ds (correspondence_of query)
-closed-named ds (Node Query bs (Node h left atoms)) certificate b o = atoms-named ds bs left atoms atoms (λ x r. r) o
-closed-named ds (Node Query bs Empty) certificate b o = tt
-closed-named ds query certificate b o = absurd (both_ways _ refl b)
+pub closed-named : (ds : List Declaration) (query : Tree) → is_correspondence query ≡ true → IsClosedQuery ds query → HasNamedAtoms ds (correspondence_of query)
+closed-named ds (Node Query bs (Node h left atoms)) b o = atoms-named ds bs left atoms atoms (λ x r. r) o
+closed-named ds (Node Query bs Empty) b o = tt
+closed-named ds query b o = absurd (both_ways _ refl b)

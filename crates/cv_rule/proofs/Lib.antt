@@ -2,3 +2,5 @@ pub mod Parts
 pub mod Rowed
 pub mod Endings
 pub mod Terms
+pub mod Readings
+mod Guards

@@ -2,6 +2,7 @@
 #![tactic(auto)]
 
 mod lines;
+mod listing;
 mod rewriting;
 mod rules;
 mod targets;

@@ -1,9 +1,9 @@
-ghost use Rattle.std.specs.Prelude.{◌≡◌, ◌<◌, ◌^◌, ◌&&◌, All, IfOk, Some, length, option_map, ℕ};
+ghost use Rattle.std.specs.Prelude.{◌≡◌, ◌<◌, ◌^◌, ◌&&◌, ◌||◌, All, IfOk, Some, length, option_map, ℕ};
 ghost use Rattle.cv_syntax_trees.specs.Tree.{Tree, size};
 ghost use Rattle.cv_syntax.specs.PoolTrees.{tree_at};
 ghost use Rattle.cv_directory.specs.Live.{IsLive};
 ghost use Rattle.cv_steps.specs.Judgements as judgement_of;
-ghost use Rattle.cv_steps.specs.Rows.{let_row, new_row, prune_row, rewrite_row, row_of, split_row, unnew_row};
+ghost use Rattle.cv_steps.specs.Rows.{let_row, new_row, prune_row, rewrite_row, row_of, split_row, unlet_row, unnew_row};
 ghost use Rattle.cv_draw_pruning.specs.Bodies.{part_of};
 ghost use Rattle.cv_scenes.specs.Pruning.{pruned};
 ghost use Rattle.cv_scenes.specs.Scenes as scenes;
@@ -13,9 +13,11 @@ ghost use Rattle.cv_rule.specs.Prepared.{IsPrepared};
 ghost use Rattle.cv_rule.specs.Stated.{IsLiveDerivation, IsLiveRule, failing, failure_of, step_of};
 
 use crate::lines::bad_line;
+use crate::listing::is_listed;
 use crate::rewriting::{has_sort_of, is_rewritable, sort_at};
 use crate::targets::{ends_with_equality, ends_with_falsity};
 use cv_draw_pruning::{Body, body_to_prune};
+use cv_draw_unletting::only_assignment;
 use cv_rule_scenes::{
     first_reading, has_place, is_bool_at, is_chosen, is_new, is_output_at, is_queried, is_term_at,
     is_type, names, part_at,
@@ -43,6 +45,9 @@ pub enum Rule {
         of_type: u32,
     },
     Unnew {
+        name: u32,
+    },
+    Unlet {
         name: u32,
     },
     Rewrite {
@@ -114,6 +119,15 @@ fn let_stands(
     stands_at(alloc, work, game, arrays, place, term)
 }
 
+/// Whether the file or the game has a name.
+fn is_known(work: &Work, game: NodeId, x: u32) -> bool
+    requires { game.0 < length work.now.pool.trees }
+    ensures { result ≡ ((scene_of work.now.pool work.now.decls game).known x
+        || scenes.names x (tree_at work.now.pool.trees (Some game))) }
+{
+    x < work.decls.own() || names(&work.pool, x, Some(game))
+}
+
 /// Whether what a step speaks of is there.
 pub fn stands(
     alloc: Global,
@@ -139,9 +153,8 @@ pub fn stands(
         Rule::New { place, of_type, .. } => {
             Ok(has_place(work, game, place) && is_type(work, game, of_type))
         }
-        Rule::Unnew { name } => {
-            Ok(name < work.decls.own() || names(&work.pool, name, Some(game)))
-        }
+        Rule::Unnew { name } => Ok(is_known(work, game, name)),
+        Rule::Unlet { name } => Ok(is_known(work, game, name)),
         Rule::Rewrite { place, term, .. } => stands_at(alloc, work, game, arrays, place, term),
         Rule::Prune { place, .. } => Ok(has_place(work, game, place)),
     }
@@ -227,6 +240,36 @@ fn unnew_conditions(work: &Work, game: NodeId, x: u32) -> Option<Failure>
         }),
         None => None,
     }
+}
+
+/// The first condition of `unlet` that fails.
+fn unlet_conditions(
+    work: &Work,
+    game: NodeId,
+    arrays: &Arrays,
+    x: u32,
+) -> Result<Option<Failure>, AllocError>
+    requires prepared { IsPrepared work.now.pool.trees work.now.decls game arrays.now }
+    requires declared { All (IsLive (length work.now.pool.trees)) work.now.decls.list }
+    ensures { IfOk result (λ f. f
+        ≡ failing (unlet_row (scene_of work.now.pool work.now.decls game) x)) }
+{
+    let Arrays::OfGame(directory) = arrays else {
+        return Err(AllocError);
+    };
+    let Some(_) = only_assignment(&work.pool, game, directory, x) else {
+        return Ok(Some(Failure {
+            condition: 1,
+            place: 0,
+        }));
+    };
+    if is_queried(work, game, x) || is_listed(&work.pool, x, Some(game)) {
+        return Ok(Some(Failure {
+            condition: 2,
+            place: 0,
+        }));
+    }
+    Ok(None)
 }
 
 /// The first condition of `rewrite` that fails.
@@ -349,6 +392,7 @@ pub fn unmet(
         Rule::Let { place, name, .. } => Ok(definition_conditions(work, game, place, name)),
         Rule::New { place, name, .. } => Ok(definition_conditions(work, game, place, name)),
         Rule::Unnew { name } => Ok(unnew_conditions(work, game, name)),
+        Rule::Unlet { name } => unlet_conditions(work, game, arrays, name),
         Rule::Rewrite { place, term, by } => {
             rewrite_conditions(alloc, work, game, arrays, place, term, by)
         }

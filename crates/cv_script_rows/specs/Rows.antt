@@ -160,10 +160,10 @@ script_rows =
     (Over head.PruneStep 112 ∷ []) ∷  -- 134 a prune
     (Over head.SuccessStep 127 ∷ []) ∷  -- 135 a success
     (Over head.CryptoStep 126 ∷ []) ∷  -- 136 a crypto
-    (Over head.RenameStep 110 ∷ []) ∷  -- 137 a rename
-    (Over head.PickStep 113 ∷ []) ∷  -- 138 a pick
-    (Over head.MergeStep 114 ∷ []) ∷  -- 139 a merge
-    (Over head.UnletStep 117 ∷ []) ∷  -- 140 a unlet
+    (Over head.UnletStep 117 ∷ []) ∷  -- 137 a unlet
+    (Over head.RenameStep 110 ∷ []) ∷  -- 138 a rename
+    (Over head.PickStep 113 ∷ []) ∷  -- 139 a pick
+    (Over head.MergeStep 114 ∷ []) ∷  -- 140 a merge
     (Over head.MoveStep 120 ∷ []) ∷  -- 141 a move
     (Over head.ArrayRenameStep 121 ∷ []) ∷  -- 142 a array rename
     (Over head.CodefStep 122 ∷ []) ∷  -- 143 a codef
@@ -175,7 +175,7 @@ script_rows =
     (OneOf 129 19 ∷ Sign mark.Semicolon ∷ []) ∷  -- 149 step item
     (Many false 149 ∷ []) ∷  -- 150 steps
     (Chain 150 ∷ []) ∷  -- 151 script
-    (OneOf 129 8 ∷ Sign mark.Semicolon ∷ []) ∷  -- 152 built item
+    (OneOf 129 9 ∷ Sign mark.Semicolon ∷ []) ∷  -- 152 built item
     (Many false 152 ∷ []) ∷  -- 153 built steps
     (Chain 153 ∷ []) ∷  -- 154 built script
     []

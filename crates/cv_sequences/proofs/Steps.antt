@@ -1,5 +1,5 @@
 -- So each choice and test has a value in each game of a sequence.
-use Rattle.std.proofs.Common.{◌≡◌, ℕ, ◌<◌, ◌≤◌, true, not, None, subst, arith}
+use Rattle.std.proofs.Common.{◌≡◌, ℕ, ◌<◌, ◌≤◌, true, not, None, ap, subst, ◌∙◌, arith}
 use Rattle.std.proofs.lemmas.Bool.{and_parts}
 use Rattle.cv_syntax_trees.specs.Tree.{Tree}
 use Rattle.cv_meaning.specs.Interpretation.{Interpretation, setting_of}
@@ -10,7 +10,7 @@ use Rattle.cv_meaning_adequacy.proofs.Sorted.{some_value}
 use Rattle.cv_meaning_runs.specs.Replacement.{Process}
 use Rattle.cv_scope_rules.specs.Phrases.{Inputs, is_phrase}
 use Rattle.cv_scenes.specs.Scenes.{Scene, is_output_at, is_chosen, is_new, is_queried, first_reading, has_place, is_type, part_at}
-use Rattle.cv_steps.specs.Steps.{Step, Split, Let, New, Unnew, Rewrite, Prune, Cost, Zero}
+use Rattle.cv_steps.specs.Steps.{Step, Split, Let, New, Unnew, Unlet, Rewrite, Prune, Cost, Zero}
 use Rattle.cv_steps.specs.Changes.{change_at, split_process, after_let, after_new, without, only}
 use Rattle.cv_scenes.specs.Terms.{is_bool_at}
 use Rattle.cv_steps.specs.Judgements.{Accepted, judgement_of}
@@ -22,9 +22,10 @@ use Rattle.cv_steps.proofs.Rows.{leads_same, unless_leads, unless_at_leads}
 use Rattle.cv_steps.proofs.Comes.{placed}
 use Rattle.cv_steps_laws.proofs.Keeping.{accepted, term_phrase}
 use Rattle.cv_steps_laws.proofs.Sorts.{type_declared}
+use Rattle.cv_steps_laws.proofs.Unletted.{unlet_leads, unletted_kept}
 use Rattle.cv_steps_laws.proofs.Unnamed.{unlisted_unread}
 use Rattle.cv_meaning_values.specs.Values.{HasValuesIn}
-use Rattle.cv_sequences.proofs.Values.{still_values, values_put, values_replaced, values_dropped}
+use Rattle.cv_sequences.proofs.Values.{still_values, values_put, values_replaced, values_dropped, values_kept}
 
 module _ (s : Scene) (i : Interpretation) (sat : Satisfies s.declarations i) (m : Mode) where
   abbrev Valued : Tree → Type 0
@@ -66,6 +67,11 @@ module _ (s : Scene) (i : Interpretation) (sat : Satisfies s.declarations i) (m 
       let o = unless_at_leads 2 (first_reading x 0 s.game) _ next cost q.1 in
       subst Valued (leads_same _ next Zero cost o.1)
       (values_dropped (setting_of s.declarations i) m (only x) Process s.game (without (only x) s.game) (dropped_game (only x) s.game w (unlisted_unread x 0 s.game o.0)) d)
+  next_values (Unlet x) next cost w d e =
+      let r = accepted s (Unlet x) next cost e in
+      let z = unlet_leads s x next cost r.row in
+      let phrase : is_phrase Inputs next ≡ true = (and_parts (is_phrase Inputs next) _ r.game).0 in
+      subst Valued z.leads (unletted_kept Valued (values_kept (setting_of s.declarations i) m) x z.assignment s.game w (ap (is_phrase Inputs) z.leads ∙ phrase) d)
   next_values (Rewrite p t by) next cost w d e =
       let r = accepted s (Rewrite p t by) next cost e in
       let z = rewrite_leads s p t by next cost r.row in

@@ -13,6 +13,8 @@ use Rattle.cv_meaning.specs.Replaced.{replaced}
 use Rattle.cv_meaning_unread.specs.Dropping.{IsDropped, same, gone, kept, in_parallel, in_list, in_find, in_branch, in_later_branch}
 use Rattle.cv_meaning.specs.Still.{is_still, head_is_still}
 use Rattle.cv_meaning_values.specs.Values.{ConstructHasValues, HasValuesIn}
+use Rattle.cv_steps.proofs.Flat.{terms_still}
+use Rattle.cv_steps_laws.proofs.Unletted.{IsKept}
 
 module _ (g : Setting) (m : Mode) where
   still_head : (h : Head) → head_is_still h ≡ true → ConstructHasValues g m h
@@ -65,3 +67,12 @@ module _ (g : Setting) (m : Mode) where
   values_dropped xs part b c (in_branch {b = x} {c = y} {more = more} {rest = rest} e f h w z) d =
       (d.0, (d.1.0, d.1.1, (d.1.2.0, d.1.2.1, (d.1.2.2.0, d.1.2.2.1, values_dropped xs Process x y w d.1.2.2.2))), values_dropped xs at.Branches more rest z d.2)
   values_dropped xs part b c (in_later_branch {b = x} {c = y} e z) d = (d.0, d.1, values_dropped xs at.Branches x y z d.2)
+
+  -- what a step that changes terms keeps
+  pub values_kept : IsKept (HasValuesIn g m)
+  unfolding HasValuesIn
+  values_kept = record {
+    terms = λ σ t f e. still_values t (terms_still σ t f e);
+    children = λ h a b d. (d.1, d.2);
+    node = λ h a b c n e d x y. (d.0, x, y);
+  }

@@ -6,3 +6,4 @@ pub mod Judgements
 pub mod Chances
 pub mod Sequences
 pub mod Costs
+pub mod Unletting

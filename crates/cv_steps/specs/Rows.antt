@@ -1,15 +1,16 @@
 -- The rows of steps: the first condition that fails, with its place, or the next game and the cost. This profile's own.
-use Rattle.std.specs.Prelude.{ℕ, Bool, not, if◌then◌else◌, Option, Some, None}
+use Rattle.std.specs.Prelude.{ℕ, Bool, not, ◌||◌, if◌then◌else◌, Option, Some, None}
 use Rattle.cv_syntax_trees.specs.Tree.{Tree}
 use Rattle.cv_derivations.specs.Ends.{ends_with}
 use Rattle.cv_scenes.specs.Scenes.{Scene, is_output_at, is_new, is_queried, is_chosen, first_reading, part_at}
 use Rattle.cv_scenes.specs.Sights.{sight_at}
 use Rattle.cv_scenes.specs.Derivations.{first_bad_line}
 use Rattle.cv_scenes.specs.Pruning.{Part, Pruned, pruned}
-use Rattle.cv_steps.specs.Steps.{Step, Split, Let, New, Unnew, Rewrite, Prune, Cost, Zero}
+use Rattle.cv_steps.specs.Steps.{Step, Split, Let, New, Unnew, Unlet, Rewrite, Prune, Cost, Zero}
 use Rattle.cv_derivations.specs.Targets.{equality, falsity}
 use Rattle.cv_steps.specs.Rewriting.{has_sort_of, is_rewritable_at, sort_at}
 use Rattle.cv_steps.specs.Changes.{change_at, split_process, after_let, after_new, without, only}
+use Rattle.cv_steps.specs.Unletting.{Assignment, is_listed, only_assignment, without_assignment}
 use Rattle.cv_scenes.specs.Terms.{is_bool_at}
 
 pub data Row : Type 0 where
@@ -41,6 +42,15 @@ unnew_row s x =
     (unless (not (is_queried s x)) 2 0
     (unless_at 2 (first_reading x 0 s.game) (Leads (without (only x) s.game) Zero)))
 
+-- a query and a `defined` list stand before all places
+abbrev pub unlet_row_by : Scene → (x : ℕ) → Option Assignment → Row
+unlet_row_by s x None = Fails 1 0
+unlet_row_by s x (Some d) =
+    unless (not (is_queried s x || is_listed x s.game)) 2 0 (Leads (without_assignment x d s.game) Zero)
+
+abbrev pub unlet_row : Scene → (x : ℕ) → Row
+unlet_row s x = unlet_row_by s x (only_assignment s.game x)
+
 -- a derivation at a place, each line of which is right and which ends with the targets, and else the rest fails: at the number of
 -- a line by one condition, and by the next where only its end is another
 abbrev pub unless_derived : Scene → (place : ℕ) → (by targets : Tree) → (condition end : ℕ) → Row → Row
@@ -66,5 +76,6 @@ row_of s (Split p m) = split_row s p m
 row_of s (Let p x T m) = let_row s p x T m
 row_of s (New p x T) = new_row s p x T
 row_of s (Unnew x) = unnew_row s x
+row_of s (Unlet x) = unlet_row s x
 row_of s (Rewrite p m by) = rewrite_row s p m by
 row_of s (Prune p part by) = prune_row s p part by

@@ -3,3 +3,4 @@ pub mod Unnamed
 pub mod Sorts
 pub mod Keeping
 mod WorkedSteps
+pub mod Unletted

@@ -26,11 +26,12 @@ use Rattle.cv_scenes.specs.Pruning.{Pruned, pruned}
 use Rattle.cv_steps.specs.Rewriting.{has_term_at, parts_of}
 use Rattle.cv_steps.proofs.Places.{Found, IsInFirst, IsInSecond, bare, found, here, in_first, in_second, is_bare, nothing_there}
 use Rattle.cv_steps.proofs.Pruned.{left_keeps}
+use Rattle.cv_steps_laws.proofs.Unletted.{IsKept, has_names}
 use Rattle.cv_steps.proofs.Flat.{AreStill, IfStill, is_of_terms, open_phrase, rows_still}
 
 -- names
 
-oracle_of_parts : (σ : Phrase) (h : Head) (q : Phrase × Phrase) → parts σ h ≡ Some q → oracle_parts σ h ≡ Some q
+pub oracle_of_parts : (σ : Phrase) (h : Head) (q : Phrase × Phrase) → parts σ h ≡ Some q → oracle_parts σ h ≡ Some q
 oracle_of_parts Body (Key x) q e = absurd (cc)
 oracle_of_parts Body (Call x l) q e = absurd (cc)
 oracle_of_parts σ h q e = e
@@ -181,3 +182,18 @@ declared_rewritten ds m k σ (Node h a b) q e d =
     go (here f) x y = subst (HasDeclaredSorts ds) (sym f.next) k
     go (in_first f) x y = subst (HasDeclaredSorts ds) (sym f.next) (head_declared ds m σ h a (q - weight h) f.term d.0, x f, d.2)
     go (in_second f) x y = subst (HasDeclaredSorts ds) (sym f.next) (d.0, d.1, y f)
+
+-- the game without an assignment
+
+names_declared : (ds : List Declaration) (h : Head) (a c : Tree) → (has_names h ≡ true → a ≡ c) → NamesDeclared ds h a → NamesDeclared ds h c
+names_declared ds (In x) a c e d = subst (NamesDeclared ds (In x)) (e refl) d
+names_declared ds Branch a c e d = subst (NamesDeclared ds Branch) (e refl) d
+names_declared ds h a c e d = d
+
+pub sorts_kept : (ds : List Declaration) → IsKept (HasDeclaredSorts ds)
+unfolding HasDeclaredSorts
+sorts_kept ds = record {
+  terms = λ σ t f e. terms_declared ds σ t f e;
+  children = λ h a b d. (d.1, d.2);
+  node = λ h a b c n e d x y. (names_declared ds h a c e d.0, x, y);
+}

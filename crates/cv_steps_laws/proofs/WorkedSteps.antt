@@ -1,15 +1,17 @@
 -- The worked steps are judged as is said.
-use Rattle.std.proofs.Common.{◌≡◌, ◌==◌, ◌||◌, Bool, true, false, refl, subst, eqb-true}
+use Rattle.std.proofs.Common.{◌≡◌, ◌==◌, ◌||◌, Bool, true, false, [], ◌∷◌, None, refl, subst, eqb-true}
 use Rattle.std.proofs.lemmas.Bool.{both_ways}
 use Rattle.std.specs.List.{AllByRecursion}
 use Rattle.cv_first_fault.specs.Walk.{first_fault}
 use Rattle.cv_syntax_trees.specs.declared.head.Head.TheVariants as head
-use Rattle.cv_syntax_trees.specs.declared.head.Head.TheVariants.{Yes}
-use Rattle.cv_syntax_trees.specs.Builders.{leaf}
+use Rattle.cv_syntax_trees.specs.declared.head.Head.TheVariants.{Secret, Yes}
+use Rattle.cv_syntax_trees.specs.declared.class.Class.TheVariants as class
+use Rattle.cv_syntax_trees.specs.Builders.{leaf, read}
+use Rattle.cv_syntax_trees.specs.Declarations.{Named, Query}
 use Rattle.cv_syntax_trees.specs.Tree.{Empty, Node, lone, size, depth, subtree, same_tree}
 use Rattle.cv_meaning_runs.specs.Replacement.{if_tree}
 use Rattle.cv_meaning.specs.Replaced.{replaced}
-use Rattle.cv_directory_sorts.specs.Sites.{first_index, first_site, bound_sort}
+use Rattle.cv_directory_sorts.specs.Sites.{first_index, first_site, bound_sort, is_untyped_in}
 use Rattle.cv_typing_rules.specs.Parts.{first_in}
 use Rattle.cv_typing_rules.specs.Typing.{binders_differ}
 use Rattle.cv_directory_sorts.specs.Counting.{count}
@@ -19,11 +21,14 @@ use Rattle.cv_scope_rules.specs.Sites.{sites_from}
 use Rattle.cv_scope_rules.specs.Made.{is_bound}
 use Rattle.cv_scope_rules.specs.Phrases.{is_phrase, binds_none, IsWellFormed}
 use Rattle.cv_scenes.specs.Scenes.{KnowsQueries, names, first_reading, has_news_alone, has_some_new}
-use Rattle.cv_steps.specs.Steps.{Split, Let, New, Unnew, Zero}
+use Rattle.cv_steps.specs.Steps.{Split, Let, New, Unnew, Unlet, Zero}
+use Rattle.cv_derivations.specs.Given.{with_given}
+use Rattle.cv_scope_rules.specs.Behind.{sites_in}
 use Rattle.cv_steps.specs.Changes.{without}
+use Rattle.cv_steps.specs.Unletting.{is_listed, with_term}
 use Rattle.cv_scenes.specs.Terms.{is_there, is_game}
 use Rattle.cv_steps.specs.Judgements.{Refused, Accepted, judgement_of}
-use Rattle.cv_steps_laws.specs.Worked.{asked, cases, draws, draws_more, equal, more, plain, receives, sends}
+use Rattle.cv_steps_laws.specs.Worked.{asked, assigned_copies, assigns, cases, copies, draws, draws_more, equal, finds_assigned, more, plain, receives, scene_of, sends, sends_assigned, sends_copy, unlets}
 use Rattle.cv_steps_laws.proofs.Keeping.{formed}
 
 case_0 : judgement_of plain (Split 1 (lone Yes)) ≡ Accepted (receives (if_tree (lone Yes) draws draws)) Zero
@@ -110,8 +115,20 @@ case_20 : judgement_of plain (Unnew 40) ≡ Refused 0 0
 unfolding first_fault first_in size depth subtree same_tree replaced first_index first_site bound_sort binders_differ count queries_in context_at sites_from is_bound is_phrase binds_none names first_reading has_news_alone has_some_new without is_there
 case_20 = refl
 
+case_21 : judgement_of plain (Unlet 4) ≡ Refused 1 0
+unfolding first_fault first_in size depth subtree same_tree first_index first_site bound_sort binders_differ count queries_in context_at sites_from sites_in is_bound is_phrase binds_none names without is_there is_listed with_term with_given
+case_21 = refl
+
+case_22 : judgement_of plain (Unlet 9) ≡ Refused 1 0
+unfolding first_fault first_in size depth subtree same_tree first_index first_site bound_sort binders_differ count queries_in context_at sites_from sites_in is_bound is_phrase binds_none names without is_there is_listed with_term with_given
+case_22 = refl
+
+case_23 : judgement_of plain (Unlet 40) ≡ Refused 0 0
+unfolding first_fault first_in size depth subtree same_tree first_index first_site bound_sort binders_differ count queries_in context_at sites_from sites_in is_bound is_phrase binds_none names without is_there is_listed with_term with_given
+case_23 = refl
+
 pub each : AllByRecursion (λ c. judgement_of plain c.0 ≡ c.1) cases
-each = (case_0, (case_1, (case_2, (case_3, (case_4, (case_5, (case_6, (case_7, (case_8, (case_9, (case_10, (case_11, (case_12, (case_13, (case_14, (case_15, (case_16, (case_17, (case_18, (case_19, (case_20, tt)))))))))))))))))))))
+each = (case_0, (case_1, (case_2, (case_3, (case_4, (case_5, (case_6, (case_7, (case_8, (case_9, (case_10, (case_11, (case_12, (case_13, (case_14, (case_15, (case_16, (case_17, (case_18, (case_19, (case_20, (case_21, (case_22, (case_23, tt))))))))))))))))))))))))
 
 game_passes : is_game plain.declarations plain.game ≡ true
 unfolding first_fault first_in size depth subtree same_tree replaced first_index first_site bound_sort binders_differ count queries_in context_at sites_from is_bound is_phrase binds_none names first_reading has_news_alone has_some_new without is_there
@@ -135,3 +152,41 @@ knows x e = go (4 == x) refl e
     go : (b : Bool) → (4 == x) ≡ b → (b || false) ≡ true → asked.known x ≡ true
     go true f e = subst (λ y. asked.known y ≡ true) (eqb-true 4 x f) refl
     go false f e = absurd (both_ways false refl e)
+
+unlet_leaf : judgement_of (scene_of [] (receives (assigns sends_assigned))) (Unlet 11) ≡ Accepted plain.game Zero
+unfolding first_fault first_in size depth subtree same_tree first_index first_site bound_sort binders_differ count queries_in context_at sites_from sites_in is_bound is_phrase binds_none names without is_there is_listed with_term with_given
+unlet_leaf = refl
+
+unlet_copy : judgement_of (scene_of (Named 2 class.Param Empty None ∷ []) assigned_copies) (Unlet 11) ≡ Accepted (copies (sends_copy (read 4 (leaf 1 ∷ [])))) Zero
+unfolding first_fault first_in size depth subtree same_tree first_index first_site bound_sort binders_differ count queries_in context_at sites_from sites_in is_bound is_phrase binds_none names without is_there is_listed with_term with_given is_untyped_in
+unlet_copy = refl
+
+unlet_asked : judgement_of (scene_of (Query (lone (Secret 11)) ∷ []) (receives (assigns sends_assigned))) (Unlet 11) ≡ Refused 2 0
+unfolding first_fault first_in size depth subtree same_tree first_index first_site bound_sort binders_differ count queries_in context_at sites_from sites_in is_bound is_phrase binds_none names without is_there is_listed with_term with_given
+unlet_asked = refl
+
+unlet_listed : judgement_of (scene_of [] (receives (assigns finds_assigned))) (Unlet 11) ≡ Refused 2 0
+unfolding first_fault first_in size depth subtree same_tree first_index first_site bound_sort binders_differ count queries_in context_at sites_from sites_in is_bound is_phrase binds_none names without is_there is_listed with_term with_given
+unlet_listed = refl
+
+pub each_unlet : AllByRecursion (λ c. judgement_of c.0 (Unlet 11) ≡ c.1) unlets
+each_unlet = (unlet_leaf, (unlet_copy, (unlet_asked, (unlet_listed, tt))))
+
+leaf_passes : is_game (scene_of [] (receives (assigns sends_assigned))).declarations (scene_of [] (receives (assigns sends_assigned))).game ≡ true
+unfolding first_fault first_in size depth subtree same_tree first_index first_site bound_sort binders_differ count queries_in context_at sites_from sites_in is_bound is_phrase binds_none names without is_there is_listed with_term with_given is_untyped_in
+leaf_passes = refl
+
+copy_passes : is_game (scene_of (Named 2 class.Param Empty None ∷ []) assigned_copies).declarations (scene_of (Named 2 class.Param Empty None ∷ []) assigned_copies).game ≡ true
+unfolding first_fault first_in size depth subtree same_tree first_index first_site bound_sort binders_differ count queries_in context_at sites_from sites_in is_bound is_phrase binds_none names without is_there is_listed with_term with_given is_untyped_in
+copy_passes = refl
+
+asked_passes : is_game (scene_of (Query (lone (Secret 11)) ∷ []) (receives (assigns sends_assigned))).declarations (scene_of (Query (lone (Secret 11)) ∷ []) (receives (assigns sends_assigned))).game ≡ true
+unfolding first_fault first_in size depth subtree same_tree first_index first_site bound_sort binders_differ count queries_in context_at sites_from sites_in is_bound is_phrase binds_none names without is_there is_listed with_term with_given is_untyped_in
+asked_passes = refl
+
+listed_passes : is_game (scene_of [] (receives (assigns finds_assigned))).declarations (scene_of [] (receives (assigns finds_assigned))).game ≡ true
+unfolding first_fault first_in size depth subtree same_tree first_index first_site bound_sort binders_differ count queries_in context_at sites_from sites_in is_bound is_phrase binds_none names without is_there is_listed with_term with_given is_untyped_in
+listed_passes = refl
+
+pub games : AllByRecursion (λ c. IsWellFormed c.0.declarations c.0.game) unlets
+games = (formed _ _ leaf_passes, (formed _ _ copy_passes, (formed _ _ asked_passes, (formed _ _ listed_passes, tt))))

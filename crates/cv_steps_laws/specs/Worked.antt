@@ -1,15 +1,15 @@
--- Steps in a small game, with what is said of each. Names are numbers: 3 is a channel, 5 a type, 4 a nonce; the file has
--- the names below 10.
+-- Steps in a small game, with what is said of each. Names are numbers: 3 is a channel, 5 a type, 4 a nonce, 1 a replication's
+-- index and 2 its parameter; the file has the names below 10.
 use Rattle.std.specs.Prelude.{true, false, nat_lt, List, [], ◌∷◌, ◌++◌, None}
 use Rattle.cv_syntax_trees.specs.declared.class.Class.TheVariants as class
 use Rattle.cv_syntax_trees.specs.declared.head.Head.TheVariants as head
-use Rattle.cv_syntax_trees.specs.declared.head.Head.TheVariants.{Eq, Secret, Stop, Yes}
-use Rattle.cv_syntax_trees.specs.Builders.{input, leaf, output}
+use Rattle.cv_syntax_trees.specs.declared.head.Head.TheVariants.{Eq, Secret, Stop, Yes, Yield}
+use Rattle.cv_syntax_trees.specs.Builders.{branch, find, input, leaf, output, read}
 use Rattle.cv_syntax_trees.specs.Declarations.{Declaration, Named, Query}
 use Rattle.cv_syntax_trees.specs.Tree.{Tree, Empty, Node, lone}
 use Rattle.cv_meaning_runs.specs.Replacement.{if_tree}
 use Rattle.cv_scenes.specs.Scenes.{Scene}
-use Rattle.cv_steps.specs.Steps.{Step, Split, Let, New, Unnew, Zero}
+use Rattle.cv_steps.specs.Steps.{Step, Split, Let, New, Unnew, Unlet, Zero}
 use Rattle.cv_steps.specs.Judgements.{Judgement, Refused, Accepted}
 
 -- type 0 [fixed]. type 5 [fixed].
@@ -76,4 +76,41 @@ cases =
     ∷ (Unnew 4, Refused 2 3)
     ∷ (Unnew 9, Refused 1 0)
     ∷ (Unnew 40, Refused 0 0)
+    -- the nonce, which is not assigned; a name of the file without a definition; a name that is nowhere
+    ∷ (Unlet 4, Refused 1 0)
+    ∷ (Unlet 9, Refused 1 0)
+    ∷ (Unlet 40, Refused 0 0)
+    ∷ []
+
+-- new 4: 5; let 11: 5 = 4 in the process
+abbrev pub assigns : Tree → Tree
+assigns process = Node (head.New 4 5) Empty (Node (head.Let 11 5) (leaf 4) process)
+
+-- out(3, (11)); 0
+abbrev pub sends_assigned : Tree
+sends_assigned = output 3 [] (leaf 11 ∷ []) (lone Stop)
+
+-- find suchthat defined(11) && 11 = 4 then yield else yield
+abbrev pub finds_assigned : Tree
+finds_assigned = find 1 (branch [] (leaf 11 ∷ []) (Node Eq (leaf 11) (leaf 4)) (lone Yield) ∷ []) (lone Yield)
+
+-- !1<=2 in(3[1], ()); new 4: 5; the process
+abbrev pub copies : Tree → Tree
+copies process = Node (head.Repl 1 2) Empty (input 3 (1 ∷ []) [] (Node (head.New 4 5) Empty process))
+
+-- out(3[1], (the term)); 0
+abbrev pub sends_copy : Tree → Tree
+sends_copy term = output 3 (1 ∷ []) (term ∷ []) (lone Stop)
+
+-- a term that is assigned and sent, at the same indices
+abbrev pub assigned_copies : Tree
+assigned_copies = copies (Node (head.Let 11 5) (read 4 (leaf 1 ∷ [])) (sends_copy (read 11 (leaf 1 ∷ []))))
+
+-- what is said of `unlet 11`: it leaves what was assigned, also below a replication; a query or a `defined` list may ask for it
+abbrev pub unlets : List (Scene × Judgement)
+unlets =
+    (scene_of [] (receives (assigns sends_assigned)), Accepted plain.game Zero)
+    ∷ (scene_of (Named 2 class.Param Empty None ∷ []) assigned_copies, Accepted (copies (sends_copy (read 4 (leaf 1 ∷ [])))) Zero)
+    ∷ (scene_of (Query (lone (Secret 11)) ∷ []) (receives (assigns sends_assigned)), Refused 2 0)
+    ∷ (scene_of [] (receives (assigns finds_assigned)), Refused 2 0)
     ∷ []

@@ -16,12 +16,12 @@ ghost use Rattle.cv_typing_runs.specs.Games.{
   HasNamedFunctionsAndCells,
 };
 ghost use Rattle.cv_scenes.specs.Scenes.{KnowsQueries, Scene, part_at};
-ghost use Rattle.cv_steps.specs.Steps.{Cost, Step, Unnew, Zero};
+ghost use Rattle.cv_steps.specs.Steps.{Cost, Step, Unlet, Unnew, Zero};
 ghost use Rattle.cv_steps.specs.Changes.{change_at, without};
 ghost use Rattle.cv_steps.specs.Rows.{Leads, let_row, new_row, split_row, unnew_row};
 ghost use Rattle.cv_steps.specs.Judgements.{Accepted, Refused, judgement_of};
 ghost use Rattle.cv_steps.specs.Chances.{KeepsChances};
-ghost use Rattle.cv_steps_laws.specs.Worked.{asked, cases, more, plain};
+ghost use Rattle.cv_steps_laws.specs.Worked.{asked, cases, more, plain, unlets};
 
 /// A process may be divided by a condition, whatever the condition says.
 pub fn splitting_keeps_chances()
@@ -84,11 +84,14 @@ pub fn changes_of_games()
 {}
 
 /// What is said of steps in a small game, which is well-formed: each is accepted somewhere, and each of its
-/// conditions fails somewhere. A nonce that a query asks for is not dropped, and one that was put there is.
+/// conditions fails somewhere. A nonce that a query asks for is not dropped, and one that was put there is. So
+/// it is with an assignment, also below a replication, in games that are well-formed too.
 pub fn worked_steps()
     ensures game { IsWellFormed plain.declarations plain.game }
     ensures cases { AllByRecursion (λ c. judgement_of plain c.0 ≡ c.1) cases }
     ensures asked { judgement_of asked (Unnew 4) ≡ Refused 2 0 }
     ensures knows { KnowsQueries asked }
     ensures back { judgement_of more (Unnew 11) ≡ Accepted plain.game Zero }
+    ensures assigned { AllByRecursion (λ c. IsWellFormed c.0.declarations c.0.game) unlets }
+    ensures unlets { AllByRecursion (λ c. judgement_of c.0 (Unlet 11) ≡ c.1) unlets }
 {}

@@ -16,6 +16,6 @@ returns-clause-chance c = λ s query certificate p i model a.
 
 pub returns-clause-query : goal.returns-clause-query
 returns-clause-query c = λ s query certificate p i model a.
-    as-advantage (setting_of s.declarations i) query certificate a s.game p.accepted.built
+    as-advantage (setting_of s.declarations i) query a s.game p.correspondence
     (no-chance s query certificate p i model (λ es. c.broken_says_its_sentence.ensures.kept (setting_of s.declarations i) (correspondence_of query) es) a
     (c.stores_are_typed_at_each_visit.ensures s.declarations s.game p.ready.arguments p.ready.formed p.ready.typed p.ready.names p.ready.sorts i model Events a))

@@ -1,4 +1,4 @@
-use Rattle.cv_steps_laws.proofs.WorkedSteps.{back, each, game, knows, not_dropped}
+use Rattle.cv_steps_laws.proofs.WorkedSteps.{back, each, each_unlet, game, games, knows, not_dropped}
 use Rattle.cv_steps_laws.proofs.worked_steps.Goals as goal
 
 pub returns-clause-game : goal.returns-clause-game
@@ -15,3 +15,9 @@ returns-clause-knows c = knows
 
 pub returns-clause-back : goal.returns-clause-back
 returns-clause-back c = back
+
+pub returns-clause-unlets : goal.returns-clause-unlets
+returns-clause-unlets c = each_unlet
+
+pub returns-clause-assigned : goal.returns-clause-assigned
+returns-clause-assigned c = games

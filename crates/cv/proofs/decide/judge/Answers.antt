@@ -34,7 +34,8 @@ run_accepted-requires-clause-equivalences c = λ y t e.
 pub returns-in-Ok-clause-sound : goal.returns-in-Ok-clause-sound
 returns-in-Ok-clause-sound c =
     run_sound _ c.in-Ok.accepted.file _
-    (script_sound c.derivations_are_sound.ensures.hold c.derivations_are_sound.ensures.unreached c.accepted_correspondences_are_never_broken.ensures.chance c.accepted_exactly_where_nothing_fails.ensures _ c.in-Ok.accepted.file _ c.args.bytes.now (reads_at _ c.args.bytes.now _ c.requires.limit c.in-Ok.ensures.reads) c.requires.few)
+    (script_sound c.derivations_are_sound.ensures.hold c.derivations_are_sound.ensures.unreached c.accepted_correspondences_are_never_broken.ensures.chance c.unread_choices_are_secret.ensures.secrecy c.unread_copies_are_secret_for_one_session.ensures.secrecy
+    c.accepted_exactly_where_nothing_fails.ensures _ c.in-Ok.accepted.file _ c.args.bytes.now (reads_at _ c.args.bytes.now _ c.requires.limit c.in-Ok.ensures.reads) c.requires.few)
     c.run_accepted.ensures.run
 
 pub returns-in-Ok-clause-games : goal.returns-in-Ok-clause-games

@@ -2,7 +2,8 @@ use Rattle.std.proofs.Common.{arith, ap, sym, length, ◌∙◌}
 use Rattle.cv_syntax.specs.PoolTrees.{tree_at}
 use Rattle.cv_syntax.proofs.Trees.{child_live, empty_at}
 use Rattle.cv_syntax.proofs.Walking.{above-child, above-some}
-use Rattle.cv_draw.proofs.Lists.{listed-ends, listed-gone, listed-stays, on-ok}
+use Rattle.cv_draw_listing.proofs.Lists.{on-ok}
+use Rattle.cv_draw.proofs.Lists.{listed-ends, listed-gone, listed-stays}
 use Rattle.cv_draw.proofs.dropping.+list.Goals as goal
 
 pub chain-preserved-in_ok-push : goal.chain-preserved-in_ok-push

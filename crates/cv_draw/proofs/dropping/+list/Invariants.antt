@@ -4,7 +4,7 @@ use Rattle.cv_syntax.specs.Postorder.{postorder}
 use Rattle.cv_syntax.specs.PoolTrees.{tree_at}
 use Rattle.cv_syntax.specs.Walks.{above}
 use Rattle.cv_steps.specs.Changes.{without, only}
-use Rattle.cv_draw.proofs.Lists.{Listed}
+use Rattle.cv_draw_listing.proofs.Lists.{Listed}
 use Rattle.cv_draw.proofs.dropping.+list.Given as goal
 
 abbrev pub decreases-list : goal.decreases-list

@@ -8,7 +8,7 @@ use Rattle.cv_syntax.specs.PoolTrees.{tree_at}
 use Rattle.cv_syntax.specs.declared.work.Game.{Game}
 use Rattle.cv_parse_script.specs.Scripts.{trees_of}
 use Rattle.cv_scope_rules.specs.Phrases.{IsWellFormed}
-use Rattle.cv_bound.specs.Sums.{AllFit}
+use Rattle.cv_kernel_costs.specs.Sums.{SumsFit}
 use Rattle.cv_kernel_closed.specs.Queries.{first_unclosed, numbers_of, sum_in}
 use Rattle.cv_report_verdicts.specs.Verdicts.{ended_with, verdicts_by}
 use Rattle.cv_kernel.specs.Drawings.{DrawsAlong}
@@ -36,7 +36,7 @@ steps-init c =
         small = subst (λ t. size t ≤ 50000) (sym same) c.requires.small;
         formed = subst (IsWellFormed (declarations trees work.decls.list)) (sym same) c.requires.formed;
         arrays = on_none _ _ c.start-sequence.ensures.arrays;
-        fits = subst AllFit (sym c.start-sequence.ensures.sum) tt;
+        fits = subst SumsFit (sym c.start-sequence.ensures.sum) (tt, tt);
         few = (let n = c.start-sequence.ensures.steps in omega arith);
       };
       grows = Grows-refl work.pool;

@@ -7,7 +7,14 @@ use Rattle.cv_steps.specs.Judgements.{judgement_of}
 use Rattle.cv_kernel.specs.Rules.{IsAnswer, need_of, next_of}
 use Rattle.cv_kernel.proofs.Answers.{answer_through, draw_answer, empty_game, game_answer, over_answer, placed, refused}
 use Rattle.cv_kernel.proofs.Pushes.{declarations-grown}
+use Rattle.cv_rule.proofs.Readings.{read-prepared}
 use Rattle.cv_kernel.proofs.applying.make.Goals as goal
+
+pub extent_of-requires-clause-read : goal.extent_of-requires-clause-read
+extent_of-requires-clause-read c = read-prepared c.args.work.now.pool.trees c.args.work.now.decls c.args.game c.args.arrays.now c.in-OfGame.directory c.requires.prepared c.in-OfGame.is
+
+pub draw_next-requires-clause-read : goal.draw_next-requires-clause-read
+draw_next-requires-clause-read c = read-prepared c.args.work.now.pool.trees c.args.work.now.decls c.args.game c.args.arrays.now c.in-OfGame.directory c.requires.prepared c.in-OfGame.is
 
 pub returns-in_err-check_limits-clause-answer : goal.returns-in_err-check_limits-clause-answer
 returns-in_err-check_limits-clause-answer c =

@@ -1,12 +1,12 @@
 use Rattle.std.proofs.Common.{arith, subst, sym}
-use Rattle.cv_bound.specs.Sums.{AllFit}
+use Rattle.cv_kernel_costs.specs.Sums.{SumsFit}
 use Rattle.cv_rule_scenes.specs.Kept.{scene_of}
 use Rattle.cv_rule.specs.Stated.{step_of}
 use Rattle.cv_kernel.proofs.Pushes.{accepted_small, fits_on}
 use Rattle.cv_kernel.proofs.sequence.Sequence.advance.Goals as goal
 
-pub add-requires : goal.add-requires
-add-requires c =
+pub with_cost-requires : goal.with_cost-requires
+with_cost-requires c =
     let w = c.in_ok-next.ensures.answer in
     fits_on c.args.self.now.sum c.in_ok-next.next.cost w.cost w.costs c.requires.stands.fits
 
@@ -19,6 +19,6 @@ returns-clause-stands c =
       small = accepted_small (scene_of pool c.args.work.now.decls c.args.self.now.game.root) (step_of pool.trees c.args.rule) _ w.cost w.accepted;
       formed = c.in_ok-next.ensures.prepared.formed;
       arrays = c.in_ok-next.ensures.prepared;
-      fits = subst AllFit (sym c.in_ok-add.ensures.ok) (fits_on c.args.self.now.sum c.in_ok-next.next.cost w.cost w.costs c.requires.stands.fits);
+      fits = subst SumsFit (sym c.in_ok-sum.ensures) (fits_on c.args.self.now.sum c.in_ok-next.next.cost w.cost w.costs c.requires.stands.fits);
       few = omega (arith, c.requires.steps);
     }

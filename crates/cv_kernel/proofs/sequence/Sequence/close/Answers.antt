@@ -7,6 +7,7 @@ use Rattle.cv_query_check.specs.Claimed.{failure_of}
 use Rattle.cv_rule_scenes.specs.Kept.{scene_of}
 use Rattle.cv_kernel_closed.specs.declared.queries.ClosedQuery.{ClosedQuery}
 use Rattle.cv_kernel_closed.specs.Queries.{numbers_of}
+use Rattle.cv_kernel_costs.specs.Sums.{sum_for}
 use Rattle.cv_kernel.specs.Closings.{closing_failure}
 use Rattle.cv_kernel.specs.ClosingTrees.{closing_tree}
 use Rattle.cv_kernel.specs.Sequences.{IsCloseAnswer}
@@ -51,6 +52,9 @@ returns-clause-answer c =
         cost = refl;
         sum = same.sum;
         context = refl;
-        closed = c.in_ok-note.ensures.put ∙ ap₂ (λ (cs : List ClosedQuery) (s : List Term). cs ++ record { query = c.args.closing.query; sum = s } ∷ []) same.closed same.sum;
+        closed =
+            c.in_ok-note.ensures.put
+            ∙ ap₂ (λ (cs : List ClosedQuery) (s : List Term). cs ++ record { query = c.args.closing.query; sum = s } ∷ []) same.closed
+            (c.of.ensures ∙ ap₂ sum_for c.is_secret-secrecy.ensures same.sum);
       },
     )

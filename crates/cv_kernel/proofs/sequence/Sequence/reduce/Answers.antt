@@ -1,19 +1,19 @@
-use Rattle.std.proofs.Common.{◌+◌, ◌∙◌, List, Some, ap, arith, false, length, refl, subst, sym}
+use Rattle.std.proofs.Common.{◌+◌, ◌∙◌, Some, ap, arith, length, refl, subst, sym}
 use Rattle.cv_syntax.specs.declared.work.Game.{Game}
 use Rattle.cv_syntax.specs.PoolTrees.{tree_at}
 use Rattle.cv_bound.specs.declared.cost.Cost.{Cost}
-use Rattle.cv_bound.specs.declared.terms.Term.{Term}
-use Rattle.cv_bound.specs.Sums.{AllFit, added}
 use Rattle.cv_rule_scenes.specs.Kept.{scene_of}
 use Rattle.cv_kernel_crypto.specs.Applied.{DrawsNext, HasEquivalences}
 use Rattle.cv_kernel_costs.specs.Costs.{advantage_of}
+use Rattle.cv_kernel_costs.specs.Sums.{SumsFit, with_cost}
+use Rattle.cv_kernel_costs.specs.declared.sums.Sums.{Sums}
 use Rattle.cv_kernel.proofs.Reduced.{advantage-fits, failed-answer, formed-grown, next-formed, reduced, refused-answer}
 use Rattle.cv_kernel.proofs.sequence.Sequence.reduce.Goals as goal
 
 pub with_cost-requires : goal.with_cost-requires
 with_cost-requires c =
-    let sum = c.prepare.new.self.sum in
-    subst (λ (k : Cost). AllFit (added sum k false)) (sym c.advantage.ensures) (advantage-fits sum (c.prepare.new.self.steps + 1) c.args.reducing.equivalence c.prepare.ensures.stands.fits)
+    let sums = c.prepare.new.self.sum in
+    subst (λ (k : Cost). SumsFit (with_cost sums k)) (sym c.advantage.ensures) (advantage-fits sums (c.prepare.new.self.steps + 1) c.args.reducing.equivalence c.prepare.ensures.stands.fits)
 
 pub apply-requires-clause-equivalences : goal.apply-requires-clause-equivalences
 apply-requires-clause-equivalences c =
@@ -39,7 +39,7 @@ returns-clause-answer c =
     let mid = c.prepare.new.self in
     let step = mid.steps + 1 in
     reduced w.pool.limit (length w.pool.trees) _ _ (ap (λ (g : Game). scene_of w.pool w.decls g.root) same.game) c.args.reducing.equivalence c.args.reducing.key c.apply.new.work.pool.trees c.args.self.now _ step c.in_ok-next.next refl c.in_ok-next.ensures.answer refl
-    (let e = same.steps in omega arith) refl (c.in_ok-sum.ensures ∙ (ap (λ (k : Cost). added mid.sum k false) c.advantage.ensures ∙ ap (λ (ts : List Term). added ts (advantage_of step c.args.reducing.equivalence) false) same.sum)) same.closed (sym c.in_ok-context.ensures.shape) c.in_ok-next.ensures.few
+    (let e = same.steps in omega arith) refl (c.in_ok-sum.ensures ∙ (ap (with_cost mid.sum) c.advantage.ensures ∙ ap (λ (s : Sums). with_cost s (advantage_of step c.args.reducing.equivalence)) same.sum)) same.closed (sym c.in_ok-context.ensures.shape) c.in_ok-next.ensures.few
 
 pub returns-clause-drawn : goal.returns-clause-drawn
 returns-clause-drawn c =
@@ -61,6 +61,6 @@ returns-clause-stands c =
       small = small;
       formed = formed;
       arrays = record { live = c.in_ok-next.ensures.live; fits = omega (arith, small); formed = formed; arrays = c.in_ok-next.ensures.arrays; entries = c.in_ok-next.ensures.entries };
-      fits = subst AllFit (sym (c.in_ok-sum.ensures ∙ ap (λ (k : Cost). added mid.sum k false) c.advantage.ensures)) (advantage-fits mid.sum (mid.steps + 1) c.args.reducing.equivalence c.prepare.ensures.stands.fits);
+      fits = subst SumsFit (sym (c.in_ok-sum.ensures ∙ ap (with_cost mid.sum) c.advantage.ensures)) (advantage-fits mid.sum (mid.steps + 1) c.args.reducing.equivalence c.prepare.ensures.stands.fits);
       few = (let e = c.prepare.ensures.same.steps in omega (arith, c.requires.steps));
     }

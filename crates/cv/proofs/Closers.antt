@@ -1,0 +1,168 @@
+-- The step that closes a query first, and what is known of it.
+use Rattle.std.proofs.Common.{◌≡◌, ℕ, zero, suc, ◌+◌, ◌≤◌, Bool, true, false, not, ◌||◌, ◌==◌, if◌then◌else◌, List, [], ◌∷◌, ◌++◌, length, map, drop, take, append_assoc, refl, ap, ap₂, sym, ◌∙◌, subst, arith, Option, Some, None, option_and_then, Ok, ◌⊎◌, inl, inr}
+use Rattle.std.specs.Prelude.{◌↔◌, Contains, slice_get}
+use Rattle.std.specs.List.{AllByRecursion, list_any}
+use Rattle.std.proofs.lemmas.Bool.{both_ways}
+use Rattle.std.proofs.lemmas.Bool.Decides.{nat_tests}
+use Rattle.std.proofs.lemmas.List.{take-append-drop}
+use Rattle.cv_syntax_trees.specs.declared.head.Head.TheVariants.{EventsCertificate, Query, Secret, SecretCertificate, SecretOnce}
+use Rattle.cv_syntax_trees.specs.Declarations.{Declaration}
+use Rattle.cv_syntax_trees.specs.Tree.{Tree, Empty, Node}
+use Rattle.cv_bound.specs.declared.terms.Term.{Term}
+use Rattle.cv_bound.specs.Sums.{added}
+use Rattle.cv_bound_values.specs.Values.{Advantages, sum_value}
+use Rattle.cv_meaning.specs.Advantage.{IsAsked, chance_of, secrecy, secrecy_query}
+use Rattle.cv_meaning.specs.Chances.{AtMost, Chance, zero_chance}
+use Rattle.cv_meaning.specs.Experiments.{Breaks, Experiment, Guesses, mode_of}
+use Rattle.cv_meaning.specs.Interpretation.{Interpretation, setting_of}
+use Rattle.cv_meaning.specs.Runs.{Adversary, Random, Real}
+use Rattle.cv_meaning.specs.Satisfies.{Satisfies}
+use Rattle.cv_meaning_chances.specs.Fractions.{HasTapes}
+use Rattle.cv_meaning_contexts.specs.ContextAdvantage.{context_advantage}
+use Rattle.cv_meaning_values.specs.Values.{HasValuesIn}
+use Rattle.cv_meaning.specs.Queries.{queries_in}
+use Rattle.cv_typing_rules.specs.Signature.{declaration_of}
+use Rattle.cv_query_built.specs.Built.{asks_unbuilt, has_unbuilt, is_unbuilt_step, lacks_form}
+use Rattle.cv_query_certificates.specs.Accepted.{IsAccepted, IsEventsProof, IsSecretProof, is_built}
+use Rattle.cv_query_certificates.specs.Failures.{first_failure}
+use Rattle.cv_accept.specs.Accepted.{Content, asks_unbuilt as file_unbuilt, read_of, most_bytes}
+use Rattle.cv_parse.proofs.Exactness.{says_is_said}
+use Rattle.cv_parse_queries.proofs.Closed.{queries_closed}
+use Rattle.cv_parse_terminals.specs.Signs.{signs_of}
+use Rattle.cv_plain.specs.Strategy.{most_pool}
+use Rattle.cv_report.specs.declared.report.Report.{Report}
+use Rattle.cv_report.specs.declared.report.Verdict.TheVariants.{Proved}
+use Rattle.cv_syntax.specs.declared.work.File.{File}
+use Rattle.cv_query_closed.specs.Closed.{HasClosedQueries, IsClosedQuery}
+use Rattle.cv_query_correspondences.specs.Premises.{IsProved}
+use Rattle.cv_scenes.specs.Reductions.{context_of_game}
+use Rattle.cv_scenes.specs.Scenes.{Scene}
+use Rattle.cv_scenes.specs.Sights.{from_one}
+use Rattle.cv_script.specs.Views.{StepItems, items_of_step}
+use Rattle.cv_script.specs.Views as items
+use Rattle.cv_derivations_under.specs.Holding.{IsReady}
+use Rattle.cv_derivations_under.specs.Soundness.{DerivationsHold, DerivedBodiesAreUnreached}
+use Rattle.cv_context_answers.specs.Answers.{file_scene}
+use Rattle.cv_steps.specs.Sequences.{scene}
+use Rattle.cv_steps_crypto.specs.Conditions.{equivalence_by}
+use Rattle.cv_steps_crypto.specs.Steps.{reduction_of}
+use Rattle.cv_steps_crypto.proofs.Accepted.{accepted as accepted_step}
+use Rattle.cv_sequences.specs.Chains.{ByEquivalence, ByStep, HasPrice, HasTapedPrice, HaveTapedPrices, IsChain, IsFileOf, IsLink, Link, Prices, costs_behind}
+use Rattle.cv_sequences.specs.Chains as chains
+use Rattle.cv_sequences.proofs.Chains.{carried, chain_ends, games_ready, taped as taped_sum}
+use Rattle.cv_bound.specs.declared.cost.Cost.{Cost as SumCost}
+use Rattle.cv_bound.specs.declared.terms.Experiment.{Experiment as TermExperiment}
+use Rattle.cv_bound.specs.declared.terms.Experiment.TheVariants as term
+use Rattle.cv_kernel_costs.specs.Sums.{no_sums, sum_for, with_cost}
+use Rattle.cv_kernel_costs.specs.declared.sums.Sums.{Sums}
+use Rattle.cv_sequences_secrets.specs.Sums.{summed_by}
+use Rattle.cv_sequences_secrets.proofs.Sums.{plain}
+use Rattle.cv_query_certificates.specs.Secrets.{AreUnreadChoices, AreUnreadCopies, IsSecret}
+use Rattle.cv_meaning.specs.Correspondences.{Correspondence, correspondence_of}
+use Rattle.cv_scope_rules.specs.Phrases.{IsWellFormed}
+use Rattle.cv_query_form.specs.Rules.{AreAsked, MayBeAsked}
+use Rattle.cv_accept.proofs.Readings.{accepted}
+use Rattle.cv_kernel_closed.specs.Queries.{is_among}
+use Rattle.cv_kernel.specs.Closings.{Closing, closing_failure, closing_in, closing_of_items, is_of_secrecy, is_secret}
+use Rattle.cv_kernel.specs.Proofs.{IsProof, IsTransition, Transition, closed_by, push, start, sum_at, sum_from, sum_of, sums_behind}
+use Rattle.cv.specs.Contexts.{contexts_in}
+use Rattle.cv.specs.Runs.{IsSoundFor}
+use Rattle.cv_report_verdicts.specs.Verdicts.{verdict_by, verdicts_by}
+use Rattle.cv_follow.specs.Scripts.{known_to}
+use Rattle.cv.specs.Strategy.{FollowsScript, HoldsUpTo, declared_in, file_in, game_in, steps_in}
+use Rattle.cv.specs.Values.{Contexts, advantage_of, advantages_of, context_of, is_once, secret_of, value_of}
+use Rattle.cv_follow.specs.Walks.{sums_along}
+use Rattle.cv_follow.proofs.Closings.{nothing-more, sum-put}
+use Rattle.cv_follow.proofs.StepKinds.{IsClosure, closure}
+use Rattle.cv_accept_sequences.proofs.Ready.{events_valued, file, file_of, taped, valued as valued_file}
+
+-- the step that closes a query first, and its sum
+
+pub record Closes (sums : Sums) (ts : List Transition) (k : ℕ) (s : List Term) : Type 0 where
+  pub place : ℕ
+  pub here : Transition
+  pub there : slice_get ts place ≡ Some here
+  pub closing : Closing
+  pub closes : closing_in here.step ≡ Some closing
+  pub number : closing.query ≡ k
+  pub up_to : s ≡ sum_for (is_of_secrecy closing) (with_cost (sums_along sums (take place ts)) here.cost)
+
+closes_here : (sums : Sums) (t : Transition) (ts : List Transition) (k : ℕ) (s : List Term) (c : Closing) (later : Option (List Term)) (b : Bool) → (c.query == k) ≡ b → closing_in t.step ≡ Some c → (if b then Some (sum_for (is_of_secrecy c) (with_cost sums t.cost)) else later) ≡ Some s → (later ≡ Some s → Closes sums (t ∷ ts) k s) → Closes sums (t ∷ ts) k s
+closes_here sums t ts k s c later true b n e f = record { place = zero; here = t; there = refl; closing = c; closes = n; number = grind (arith, nat_tests); up_to = cc }
+closes_here sums t ts k s c later false b n e f = f e
+
+closes_by : (sums : Sums) (t : Transition) (ts : List Transition) (k : ℕ) (s : List Term) (o : Option Closing) (later : Option (List Term)) → closing_in t.step ≡ o → sum_at sums t.cost k o later ≡ Some s → (later ≡ Some s → Closes sums (t ∷ ts) k s) → Closes sums (t ∷ ts) k s
+closes_by sums t ts k s None later n e f = f e
+closes_by sums t ts k s (Some c) later n e f = closes_here sums t ts k s c later (c.query == k) refl n e f
+
+pub first_closing : (sums : Sums) (ts : List Transition) (k : ℕ) (s : List Term) → sum_from sums ts k ≡ Some s → Closes sums ts k s
+first_closing sums [] k s e = absurd (cc)
+first_closing sums (t ∷ ts) k s e =
+    let behind = sums_behind sums (closing_in t.step) t.cost in
+    closes_by sums t ts k s (closing_in t.step) (sum_from behind ts k) refl e (λ h. later (first_closing behind ts k s h))
+  where
+    later : Closes (sums_behind sums (closing_in t.step) t.cost) ts k s → Closes sums (t ∷ ts) k s
+    later c = record { place = suc c.place; here = c.here; there = c.there; closing = c.closing; closes = c.closes; number = c.number; up_to = c.up_to }
+
+-- a step that closes a query, by its items
+pub closing_items : (o : Option StepItems) (c : Closing) → option_and_then closing_of_items o ≡ Some c → o ≡ Some (items.Success c.query c.certificate)
+closing_items None c e = absurd (cc)
+closing_items (Some (items.Rename x to)) c e = absurd (cc)
+closing_items (Some (items.Rewrite p m by)) c e = absurd (cc)
+closing_items (Some (items.Prune p part by)) c e = absurd (cc)
+closing_items (Some (items.Pick p ms d f)) c e = absurd (cc)
+closing_items (Some (items.Merge p)) c e = absurd (cc)
+closing_items (Some (items.Split p m)) c e = absurd (cc)
+closing_items (Some (items.Let p x T m)) c e = absurd (cc)
+closing_items (Some (items.Unlet x)) c e = absurd (cc)
+closing_items (Some (items.New p x T)) c e = absurd (cc)
+closing_items (Some (items.Unnew x)) c e = absurd (cc)
+closing_items (Some (items.Move p)) c e = absurd (cc)
+closing_items (Some (items.ArrayRename x to)) c e = absurd (cc)
+closing_items (Some (items.Codef p add to from)) c e = absurd (cc)
+closing_items (Some (items.Birthday x at)) c e = absurd (cc)
+closing_items (Some (items.Guess x at)) c e = absurd (cc)
+closing_items (Some (items.Fresh p)) c e = absurd (cc)
+closing_items (Some (items.Crypto e x)) c f = absurd (cc)
+closing_items (Some (items.Success k by)) c e = let f : record { query = k; certificate = by } ≡ c = cc in ap (λ (d : Closing). Some (items.Success d.query d.certificate)) f
+closing_items (Some items.Simplify) c e = absurd (cc)
+
+-- its certificate is built, where none of the steps asks for one that isn't
+if-false : (b d : Bool) → (b || d) ≡ false → (b ≡ false) × (d ≡ false)
+if-false true d e = absurd (cc)
+if-false false d e = (refl, e)
+
+pub none-fails : (p : Tree → Bool) (ts : List Transition) (left : List Tree) (n : ℕ) (t : Transition) → list_any p (map (λ x. x.step) ts ++ left) ≡ false → slice_get ts n ≡ Some t → p t.step ≡ false
+none-fails p [] left n t e i = absurd (cc)
+none-fails p (x ∷ ts) left zero t e i = let f : x ≡ t = cc in ap (λ y. p y.step) (sym f) ∙ (if-false (p x.step) (list_any p (map (λ y. y.step) ts ++ left)) e).0
+none-fails p (x ∷ ts) left (suc n) t e i = none-fails p ts left n t (if-false (p x.step) (list_any p (map (λ y. y.step) ts ++ left)) e).1 i
+
+-- a verdict says what the sum of its query is
+verdict-is : (o : Option (List Term)) (s : List Term) → verdict_by o ≡ Proved s → o ≡ Some s
+verdict-is None s e = absurd (cc)
+verdict-is (Some x) s e = let f : x ≡ s = cc in ap Some f
+
+pub verdict-at : (f : ℕ → Option (List Term)) (k : ℕ) (qs : List Tree) (j : ℕ) (s : List Term) → slice_get (verdicts_by f k qs) j ≡ Some (Proved s) → f (k + j) ≡ Some s
+verdict-at f k [] j s e = absurd (cc)
+verdict-at f k (q ∷ qs) zero s e = (let n : k + 0 ≡ k = omega arith in ap f n) ∙ verdict-is (f k) s (cc)
+verdict-at f k (q ∷ qs) (suc j) s e = (let n : k + suc j ≡ suc k + j = omega arith in ap f n) ∙ verdict-at f (suc k) qs j s e
+
+pub is-false : (b : Bool) → not b ≡ false → b ≡ true
+is-false true e = refl
+is-false false e = absurd (cc)
+
+pub closed_at : (P : Tree → Type 0) (qs : List Tree) → AllByRecursion P qs → (j : ℕ) (q : Tree) → slice_get qs j ≡ Some q → P q
+closed_at P [] h j q e = absurd (cc)
+closed_at P (x ∷ qs) h zero q e = let f : x ≡ q = cc in subst P f h.0
+closed_at P (x ∷ qs) h (suc j) q e = closed_at P qs h.1 j q e
+
+pub contains_at : (qs : List Tree) (j : ℕ) (q : Tree) → slice_get qs j ≡ Some q → Contains qs q
+contains_at [] j q e = absurd (cc)
+contains_at (x ∷ qs) zero q e = (0, omega arith, cc)
+contains_at (x ∷ qs) (suc j) q e = let h = contains_at qs j q e in (suc h.0, omega (arith, h.1), h.2)
+
+-- advantages of links have tapes, where those of their contexts have
+
+pub all-put : (P : Link → Type 0) (links : List Link) (l : Link) → AllByRecursion P links → P l → AllByRecursion P (links ++ l ∷ [])
+all-put P [] l h k = (k, tt)
+all-put P (m ∷ links) l h k = (h.0, all-put P links l h.1 k)

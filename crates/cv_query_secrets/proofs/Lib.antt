@@ -1,0 +1,15 @@
+pub mod Quiet
+pub mod Related
+pub mod Served
+pub mod Shapes
+pub mod Exchanged
+pub mod Alone
+pub mod Sizes
+pub mod Chances
+pub mod Places
+pub mod Swaps
+pub mod Told
+pub mod Copies
+pub mod CopySizes
+pub mod Coded
+pub mod CopyChances

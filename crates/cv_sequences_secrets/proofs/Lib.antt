@@ -1,0 +1,4 @@
+pub mod Alike
+pub mod Tapes
+pub mod Sums
+pub mod Secrets

@@ -1,0 +1,10 @@
+pub mod Sites
+pub mod Lists
+pub mod Reach
+pub mod Told
+pub mod Puts
+pub mod Values
+pub mod Branches
+pub mod Reworded
+pub mod Keeping
+pub mod Copies
