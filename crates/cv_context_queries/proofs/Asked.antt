@@ -1,8 +1,9 @@
--- What a query asks for has values of a type, so it is no index.
+-- What a query asks for has values of a type, so it is a variable, and no index.
 use Rattle.std.proofs.Common.{◌≡◌, ℕ, Bool, true, false, List, [], ◌∷◌, inl, inr, is_some, refl, ap, subst, eqb-true}
 use Rattle.std.proofs.lemmas.Bool.{both_ways, or_cases, or_left}
 use Rattle.std.specs.List.{list_any}
 use Rattle.cv_syntax_trees.specs.declared.head.Head.TheVariants.{Secret, SecretOnce}
+use Rattle.cv_syntax_trees.specs.Declarations.{Declaration}
 use Rattle.cv_syntax_trees.specs.Tree.{Tree, Empty, Node}
 use Rattle.cv_directory_sorts.specs.Sites.{first_site, is_untyped_in}
 use Rattle.cv_meaning.specs.Queries.{queries_in}
@@ -33,11 +34,13 @@ queried_valued game x (q ∷ queries) m e = elim (or_cases (asks_for x q) (list_
 valued_variable : (game : Tree) (x : ℕ) → HasValues game x → is_variable game x ≡ true
 valued_variable game x v = or_left (is_some (first_site x [] game)) (is_untyped_in x game) (ap is_some v.site)
 
-pub asked_no_index : (s : Scene) → IsScoped s.declarations s.game → AreAsked s.game (queries_in s.declarations) → AskForNoIndex s
-asked_no_index s scoped asked x e = go (has_index s.game x) refl
+-- a variable is no index
+pub variable_no_index : (ds : List Declaration) (game : Tree) (x : ℕ) → IsScoped ds game → is_variable game x ≡ true → has_index game x ≡ false
+variable_no_index ds game x scoped variable = go (has_index game x) refl
   where
-    go : (b : Bool) → has_index s.game x ≡ b → b ≡ false
+    go : (b : Bool) → has_index game x ≡ b → b ≡ false
     go false i = refl
-    go true i =
-        let variable = valued_variable s.game x (queried_valued s.game x (queries_in s.declarations) asked e) in
-        absurd (both_ways (is_variable s.game x) (index_no_variable (is_variable s.game) x s.game (all_new (names_of s.declarations s.game) at_root s.game scoped) i) variable)
+    go true i = absurd (both_ways (is_variable game x) (index_no_variable (is_variable game) x game (all_new (names_of ds game) at_root game scoped) i) variable)
+
+pub asked_no_index : (s : Scene) → IsScoped s.declarations s.game → AreAsked s.game (queries_in s.declarations) → AskForNoIndex s
+asked_no_index s scoped asked x e = variable_no_index s.declarations s.game x scoped (valued_variable s.game x (queried_valued s.game x (queries_in s.declarations) asked e))

@@ -1,3 +1,4 @@
 pub mod Asked
 pub mod Indices
+pub mod Renamed
 pub mod Steps

@@ -1,22 +1,26 @@
 -- An accepted step binds no new index.
-use Rattle.std.proofs.Common.{◌≡◌, ℕ, Bool, true, false, not, List, refl, subst}
-use Rattle.std.proofs.lemmas.Bool.{and_parts, both_ways}
+use Rattle.std.proofs.Common.{◌≡◌, ℕ, ◌==◌, Bool, true, false, not, List, refl, subst, eqb-true}
+use Rattle.std.proofs.lemmas.Bool.{and_parts, both_ways, or_left}
 use Rattle.cv_syntax_trees.specs.declared.head.Head.TheVariants as head
 use Rattle.cv_syntax_trees.specs.Declarations.{Declaration}
 use Rattle.cv_syntax_trees.specs.Tree.{Tree, Empty, Node}
+use Rattle.cv_directory_sorts.specs.Sites.{is_untyped_in}
 use Rattle.cv_scenes.specs.Scenes.{Scene, first_reading, has_place, is_chosen, is_new, is_output_at, is_queried, is_type, part_at}
-use Rattle.cv_scenes.specs.Terms.{has_index, is_bool_at}
+use Rattle.cv_scenes.specs.Terms.{has_index, has_site, is_bool_at}
 use Rattle.cv_steps.specs.Changes.{after_let, after_new, change_at, only, split_process}
 use Rattle.cv_steps.specs.Judgements.{Accepted, judgement_of}
 use Rattle.cv_steps.specs.Sequences.{IsSequence, Passage, push, scene, start}
-use Rattle.cv_steps.specs.Steps.{Cost, Let, New, Prune, Rewrite, Split, Step, Unlet, Unnew, Zero}
+use Rattle.cv_steps.specs.Steps.{Cost, Let, New, Prune, Rename, Rewrite, Split, Step, Unlet, Unnew, Zero}
 use Rattle.cv_steps.proofs.Pruned.{prune_leads}
 use Rattle.cv_steps.proofs.Rewritten.{rewrite_leads}
 use Rattle.cv_steps.proofs.Rows.{leads_same, unless_at_leads, unless_leads}
-use Rattle.cv_steps_laws.proofs.Keeping.{accepted, term_phrase}
+use Rattle.cv_steps_laws.proofs.Keeping.{accepted, next_formed, term_phrase}
+use Rattle.cv_steps_laws.proofs.Renamed.{LeadsRenamed, rename_leads}
 use Rattle.cv_steps_laws.proofs.Unletted.{unlet_leads}
 use Rattle.cv_context_queries.specs.Asked.{AskForNoIndex}
+use Rattle.cv_context_queries.proofs.Asked.{variable_no_index}
 use Rattle.cv_context_queries.proofs.Indices.{Lacks, lacking_empty, lacking_left, lacking_node, lacking_part, lacking_replaced, lacking_term, lacking_unletted, lacking_without}
+use Rattle.cv_context_queries.proofs.Renamed.{has_site_renamed, lacking_renamed}
 
 -- a game with what stands at a place changed
 changed : (i : ℕ) (s : Scene) (p : ℕ) (change : Tree → Tree) → Lacks i s.game → (Lacks i (part_at s.game p) → Lacks i (change (part_at s.game p))) → Lacks i (change_at s.game p change)
@@ -51,6 +55,19 @@ lacking_next i s (Unnew x) next cost d e =
     let q = unless_leads (not (is_queried s x)) 2 0 _ next cost a.1 in
     let o = unless_at_leads 2 (first_reading x 0 s.game) _ next cost q.1 in
     subst (Lacks i) (leads_same _ next Zero cost o.1) (lacking_without i (only x) s.game d)
+lacking_next i s (Rename x y) next cost d e = go (y == i) refl
+  where
+    z : LeadsRenamed s x y next
+    z = rename_leads s x y next cost (accepted s (Rename x y) next cost e).row
+
+    new : Lacks y next
+    new =
+        variable_no_index s.declarations next y (next_formed s (Rename x y) next cost e).scoped
+        (or_left (has_site next y) (is_untyped_in y next) (subst (λ t. has_site t y ≡ true) z.leads (has_site_renamed x y s.game z.site)))
+
+    go : (v : Bool) → (y == i) ≡ v → Lacks i next
+    go true f = subst (λ j. Lacks j next) (eqb-true y i f) new
+    go false f = subst (Lacks i) z.leads (lacking_renamed i x y s.game f d)
 lacking_next i s (Unlet x) next cost d e =
     let z = unlet_leads s x next cost (accepted s (Unlet x) next cost e).row in
     subst (Lacks i) z.leads (lacking_unletted i x z.assignment s.game z.defined d)

@@ -24,8 +24,8 @@ use Rattle.cv_scenes.specs.Pruning.{Part, Pruned, pruned}
 use Rattle.cv_scenes.specs.Sights.{sight_at}
 use Rattle.cv_meaning.specs.Replaced.{replaced}
 use Rattle.cv_scenes.specs.Scenes.{Scene, first_reading, is_chosen, is_new, is_output_at, is_queried, is_type, part_at}
-use Rattle.cv_steps.specs.Steps.{Step, Split, Let, New, Unnew, Unlet, Rewrite, Prune, Zero}
-use Rattle.cv_scenes.specs.Terms.{is_bool_at, is_game, is_term_at}
+use Rattle.cv_steps.specs.Steps.{Step, Split, Let, New, Unnew, Rename, Unlet, Rewrite, Prune, Zero}
+use Rattle.cv_scenes.specs.Terms.{has_site, is_bool_at, is_game, is_term_at}
 use Rattle.cv_scope_rules.specs.Phrases.{is_phrase}
 use Rattle.cv_kernel_games.specs.declared.testing.Next.{Next}
 use Rattle.cv_kernel.specs.declared.error.RuleError.{RuleError}
@@ -70,6 +70,10 @@ leads s (Unnew y) e =
     let a = holds (is_chosen s y) 1 0 _ e in
     let b = holds (not (is_queried s y)) 2 0 _ a.1 in
     a.0 ∙ (b.0 ∙ holds_at 2 (first_reading y 0 s.game) _ b.1)
+leads s (Rename x y) e =
+    let a = holds (has_site s.game x) 1 0 _ e in
+    let b = holds (is_new s y) 2 0 _ a.1 in
+    a.0 ∙ (b.0 ∙ (holds (not (is_queried s x)) 3 0 _ b.1).0)
 leads s (Unlet y) e = leads_unlet s y (only_assignment s.game y) e
 leads s (Rewrite p m by) e =
     let a = holds (is_rewritable_at s p) 1 p _ e in
@@ -173,6 +177,7 @@ no_stand s (Split p m) h = ap (λ b. b && is_term_at s p m) (placeless p (size s
 no_stand s (Let p y T m) h = ap (λ b. b && (is_type s T && is_term_at s p m)) (placeless p (size s.game) h)
 no_stand s (New p y T) h = ap (λ b. b && is_type s T) (placeless p (size s.game) h)
 no_stand s (Unnew y) h = absurd h
+no_stand s (Rename x y) h = absurd h
 no_stand s (Unlet y) h = absurd h
 no_stand s (Rewrite p m by) h = ap (λ b. b && is_term_at s p m) (placeless p (size s.game) h)
 no_stand s (Prune p part by) h = placeless p (size s.game) h
@@ -202,6 +207,7 @@ placed s (Split p m) e h = outside_met s (Split p m) e h
 placed s (Let p y T m) e h = outside_met s (Let p y T m) e h
 placed s (New p y T) e h = outside_met s (New p y T) e h
 placed s (Unnew y) e h = h
+placed s (Rename x y) e h = h
 placed s (Unlet y) e h = no_let s y (stands s (Unlet y)) (only_assignment s.game y) h e
 placed s (Rewrite p m by) e h = outside_met s (Rewrite p m by) e h
 placed s (Prune p part by) e h = no_body s p part by (stands s (Prune p part by)) h e

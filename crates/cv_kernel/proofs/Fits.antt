@@ -46,6 +46,7 @@ live_rule trees (code.Split p m) h = live_term trees m h
 live_rule trees (code.Let p x T m) h = live_term trees m h
 live_rule trees (code.New p x T) h = tt
 live_rule trees (code.Unnew x) h = tt
+live_rule trees (code.Rename x y) h = tt
 live_rule trees (code.Unlet x) h = tt
 live_rule trees (code.Rewrite p m by) h = (live_term trees m h.0, h.1)
 live_rule trees (code.Prune p body by) h = h

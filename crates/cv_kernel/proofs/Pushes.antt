@@ -27,7 +27,7 @@ use Rattle.cv_steps.specs.Costs.{cost_of}
 use Rattle.cv_steps.specs.Judgements.{Judgement, Refused, TooLarge, TooDeep, Accepted, judgement_of, judgement_of_row, stands}
 use Rattle.cv_steps.specs.Rows.{Row, Fails, Leads, row_of}
 use Rattle.cv_scenes.specs.Scenes.{Scene}
-use Rattle.cv_steps.specs.Steps.{Step, Split, Let, New, Unnew, Unlet, Rewrite, Prune, Cost, Zero}
+use Rattle.cv_steps.specs.Steps.{Step, Split, Let, New, Unnew, Rename, Unlet, Rewrite, Prune, Cost, Zero}
 use Rattle.cv_scenes.specs.Terms.{is_game}
 use Rattle.cv_kernel.specs.declared.error.PushError.{PushError}
 use Rattle.cv_kernel.specs.declared.error.PushError.TheVariants as push
@@ -59,6 +59,7 @@ has_narrow t (Split p m) h = h
 has_narrow t (Let p x T m) h = h
 has_narrow t (New p x T) h = h
 has_narrow t (Unnew x) h = h
+has_narrow t (Rename x y) h = h
 has_narrow t (Unlet x) h = h
 has_narrow t (Rewrite p m by) h = h
 has_narrow t (Prune p part by) h = h
@@ -68,6 +69,7 @@ short_by trees t (code.Split p m) h l v = short_term trees t m _ h refl l v
 short_by trees t (code.Let p y T m) h l v = short_term trees t m _ h refl l v
 short_by trees t (code.New p y T) h l v = tt
 short_by trees t (code.Unnew y) h l v = tt
+short_by trees t (code.Rename x y) h l v = tt
 short_by trees t (code.Unlet y) h l v = tt
 short_by trees t (code.Rewrite p m by) h l v = (short_term trees t m _ h.0 refl l v.0, short_derivation trees t by _ h.1 refl l v.1)
 short_by trees t (code.Prune p body by) h l v = short_derivation trees t by _ h refl l v
@@ -118,6 +120,7 @@ module _ (s : Scene) (small : size s.game ≤ 50000) where
     | inr l ↦ placeless (New p y T) (omega arith) (omega arith)
   ]
   narrow_same (Unnew y) = inl refl
+  narrow_same (Rename x y) = inl refl
   narrow_same (Unlet y) = inl refl
   narrow_same (Rewrite p m by) = elim (below_or_not p 4294967296) as (λ _. IsNarrow (Rewrite p m by)) [
     | inl l ↦ inl (ap (λ q. Rewrite q m by) (same_place p l))

@@ -87,6 +87,7 @@ step_has t (items.Split p m) h = h
 step_has t (items.Let p x T m) h = h
 step_has t (items.New p x T) h = tt
 step_has t (items.Unnew x) h = tt
+step_has t (items.Rename x y) h = tt
 step_has t (items.Unlet x) h = tt
 step_has t (items.Rewrite p m by) h = h
 step_has t (items.Prune p part by) h = h

@@ -14,8 +14,9 @@ use Rattle.cv_path.specs.declared.error.PathError.TheVariants as path
 use Rattle.cv_derivations.specs.Lines.{count, lines_of}
 use Rattle.cv_scenes.specs.Pruning.{pruned}
 use Rattle.cv_scenes.specs.Scenes.{part_at}
-use Rattle.cv_steps.specs.Steps.{Step, Split, Let, New, Unnew, Unlet, Rewrite, Prune, Cost}
+use Rattle.cv_steps.specs.Steps.{Step, Split, Let, New, Unnew, Rename, Unlet, Rewrite, Prune, Cost}
 use Rattle.cv_steps.specs.Changes.{change_at, split_process, after_let, after_new, without, without_body, only}
+use Rattle.cv_steps.specs.Renaming.{renamed}
 use Rattle.cv_steps.specs.Costs.{cost_of}
 use Rattle.cv_steps.specs.Judgements.{Judgement, Refused, TooLarge, TooDeep, Accepted}
 use Rattle.cv_rule.specs.declared.rules.Rule.{Rule}
@@ -23,6 +24,7 @@ use Rattle.cv_rule.specs.declared.rules.Rule.TheVariants as code
 use Rattle.cv_rule.specs.Stated.{failed}
 use Rattle.cv_draw.specs.Dropping.{need_without}
 use Rattle.cv_draw_pruning.specs.Bodies as pruning
+use Rattle.cv_draw_renaming.specs.Needs.{need_renaming}
 use Rattle.cv_draw_unletting.specs.Games.{need_unletting, unlet}
 use Rattle.cv_kernel_games.specs.declared.testing.Next.{Next}
 use Rattle.cv_kernel.specs.declared.error.RuleError.{RuleError}
@@ -34,6 +36,7 @@ next_of game (Split p m) = change_at game p (split_process m)
 next_of game (Let p x T m) = change_at game p (after_let x T m)
 next_of game (New p x T) = change_at game p (after_new x T)
 next_of game (Unnew x) = without (only x) game
+next_of game (Rename x y) = renamed x y game
 next_of game (Unlet x) = unwrap_or (unlet x game) game
 next_of game (Rewrite p m by) = change_at game p (λ old. m)
 next_of game (Prune p part by) = change_at game p (without_body p part)
@@ -44,6 +47,7 @@ need_of game (Split p m) = nodes_above game p + 3
 need_of game (Let p x T m) = nodes_above game p + 1
 need_of game (New p x T) = nodes_above game p + 1
 need_of game (Unnew x) = need_without x game
+need_of game (Rename x y) = need_renaming x game
 need_of game (Unlet x) = need_unletting x game
 need_of game (Rewrite p m by) = nodes_above game p
 need_of game (Prune p part by) = pruning.need_of game p part
@@ -107,6 +111,7 @@ IsOutside game (Split p m) = size game ≤ p
 IsOutside game (Let p x T m) = size game ≤ p
 IsOutside game (New p x T) = size game ≤ p
 IsOutside game (Unnew x) = ⊥
+IsOutside game (Rename x y) = ⊥
 IsOutside game (Unlet x) = ⊥
 IsOutside game (Rewrite p m by) = size game ≤ p
 IsOutside game (Prune p part by) = size game ≤ p

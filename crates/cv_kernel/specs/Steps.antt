@@ -7,7 +7,7 @@ use Rattle.cv_script.specs.Views.{StepItems, items_of_step}
 use Rattle.cv_script.specs.Views as items
 use Rattle.cv_scenes.specs.Scenes.{Scene}
 use Rattle.cv_scenes.specs.Pruning.{Part, Then, Else, Branch}
-use Rattle.cv_steps.specs.Steps.{Step, Split, Let, New, Unnew, Unlet, Rewrite, Prune}
+use Rattle.cv_steps.specs.Steps.{Step, Split, Let, New, Unnew, Rename, Unlet, Rewrite, Prune}
 use Rattle.cv_steps.specs.Judgements.{Judgement, Refused, judgement_of}
 
 -- the body that a text names
@@ -22,6 +22,7 @@ step_of_items (items.Split p m) = Some (Split p m)
 step_of_items (items.Let p x T m) = Some (Let p x T m)
 step_of_items (items.New p x T) = Some (New p x T)
 step_of_items (items.Unnew x) = Some (Unnew x)
+step_of_items (items.Rename x y) = Some (Rename x y)
 step_of_items (items.Unlet x) = Some (Unlet x)
 step_of_items (items.Rewrite p m by) = Some (Rewrite p m by)
 step_of_items (items.Prune p part by) = Some (Prune p (part_of part) by)
@@ -49,6 +50,7 @@ narrow (Split p m) = Split (narrow_place p) m
 narrow (Let p x T m) = Let (narrow_place p) x T m
 narrow (New p x T) = New (narrow_place p) x T
 narrow (Unnew x) = Unnew x
+narrow (Rename x y) = Rename x y
 narrow (Unlet x) = Unlet x
 narrow (Rewrite p m by) = Rewrite (narrow_place p) m by
 narrow (Prune p part by) = Prune (narrow_place p) part by

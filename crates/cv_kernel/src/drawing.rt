@@ -13,6 +13,8 @@ ghost use Rattle.cv_draw.specs.Changes.{TermIsLive};
 ghost use Rattle.cv_draw.specs.Dropping.{need_without};
 ghost use Rattle.cv_draw_pruning.specs.Bodies as pruning;
 ghost use Rattle.cv_draw_pruning.specs.Bodies.{part_of};
+ghost use Rattle.cv_steps.specs.Renaming.{renamed};
+ghost use Rattle.cv_draw_renaming.specs.Needs.{need_renaming};
 ghost use Rattle.cv_draw_unletting.specs.Assigned.{IsRead};
 ghost use Rattle.cv_draw_unletting.specs.Games.{need_unletting, unlet};
 ghost use Rattle.cv_kernel.specs.Rules.{HasNoPlace, IsDrawFault, IsShortRule, need_of, next_of, of_path, of_pool};
@@ -21,6 +23,7 @@ use crate::error::RuleError;
 use cv_directory::Directory;
 use cv_draw::{Change, draw, drop_variable, measure, measure_without};
 use cv_draw_pruning::{Body, draw_without_body, measure_without_body};
+use cv_draw_renaming::{draw_renaming, measure_renaming};
 use cv_draw_unletting::{draw_unletting, measure_unletting};
 use cv_path::PathError;
 use cv_pool::PoolError;
@@ -67,6 +70,7 @@ pub fn extent_of(pool: &Pool, game: NodeId, directory: &Directory, rule: Rule) -
             of_type,
         } => measure(pool, game, place, Change::AfterNew { name, of_type }),
         Rule::Unnew { name } => Some(measure_without(pool, game, name)),
+        Rule::Rename { .. } => Some(measure_renaming(pool, game)),
         Rule::Unlet { name } => measure_unletting(pool, game, directory, name),
         Rule::Rewrite { place, term, .. } => {
             measure(pool, game, place, Change::Replace { by: term })
@@ -150,6 +154,33 @@ fn draw_without(
 {
     match drop_variable(alloc, pool, game, x) {
         Ok(next) => Ok(next),
+        Err(fault) => Err(no_room(fault)),
+    }
+}
+
+/// Makes the game with another name in the place of a variable's.
+fn draw_renamed(
+    alloc: Global,
+    pool: &mut Pool,
+    game: NodeId,
+    x: u32,
+    y: u32,
+) -> Result<Option<NodeId>, RuleError>
+    requires live { game.0 < length pool.old.trees }
+    requires limit { pool.old.limit < 4294967295 }
+    ensures tree { IfOk result (λ n. tree_at pool.new.trees n
+        ≡ renamed x y (tree_at pool.old.trees (Some game))) }
+    ensures live { IfOk result (λ n. ChildBelow (length pool.new.trees) n) }
+    ensures grows { Grows pool.old pool.new }
+    ensures few { OnOk result (length pool.new.trees ≤ length pool.old.trees
+        + need_renaming x (tree_at pool.old.trees (Some game))) }
+    ensures room { OnOk result (length pool.old.trees
+        + need_renaming x (tree_at pool.old.trees (Some game)) ≤ pool.old.limit) }
+    ensures fault { IfErr result (IsDrawFault pool.old.limit (length pool.old.trees) ⊥
+        (need_renaming x (tree_at pool.old.trees (Some game)))) }
+{
+    match draw_renaming(alloc, pool, game, x, y) {
+        Ok(next) => Ok(Some(next)),
         Err(fault) => Err(no_room(fault)),
     }
 }
@@ -265,6 +296,7 @@ pub fn draw_next(
             of_type,
         } => draw_at(alloc, pool, game, place, Change::AfterNew { name, of_type }),
         Rule::Unnew { name } => draw_without(alloc, pool, game, name),
+        Rule::Rename { name, to } => draw_renamed(alloc, pool, game, name, to),
         Rule::Unlet { name } => draw_unlet(alloc, pool, game, directory, name),
         Rule::Rewrite { place, term, .. } => {
             draw_at(alloc, pool, game, place, Change::Replace { by: term })

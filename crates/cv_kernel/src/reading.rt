@@ -52,6 +52,10 @@ pub fn rule_of(view: StepView) -> Option<Rule>
             of_type: ty.0,
         }),
         StepView::Unnew { x } => Some(Rule::Unnew { name: x.0 }),
+        StepView::Rename { x, to } => Some(Rule::Rename {
+            name: x.0,
+            to: to.0,
+        }),
         StepView::Unlet { x } => Some(Rule::Unlet { name: x.0 }),
         StepView::Rewrite { place, term, by } => Some(Rule::Rewrite {
             place: place_of(place),

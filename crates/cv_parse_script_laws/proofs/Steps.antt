@@ -208,11 +208,11 @@ prunes l d =
     has (Prune p.first.0 k.first.0 (single (by.tree ∷ by.rest))) (bound (λ v. part_in k.tree >>= λ q. Some (Prune v q (single (by.tree ∷ by.rest)))) (number_is p.first) (bound (λ q. Some (Prune p.first.0 q (single (by.tree ∷ by.rest)))) k.first.1 refl)) refl
     ))
 
-renames : (l : List Tree) → Made 110 l → HasItems is_any (over head.RenameStep l)
+renames : (l : List Tree) → Made 110 l → HasItems is_built (over head.RenameStep l)
 renames l d =
     let x = take (skip (skip d)) in
     let y = last (skip (skip (skip x.second))) in
-    with_first is_any head.RenameStep x (subst (λ z. HasItems is_any (Node head.RenameStep x.tree (single z))) (sym y.is) (
+    with_first is_built head.RenameStep x (subst (λ z. HasItems is_built (Node head.RenameStep x.tree (single z))) (sym y.is) (
     has (Rename x.first.0 y.first.0) (bound (λ v. name_in y.tree >>= λ w. Some (Rename v w)) (name_is x.first) (bound (λ w. Some (Rename x.first.0 w)) (name_is y.first) refl)) refl
     ))
 
@@ -296,7 +296,7 @@ any_items d = record { items = d.items; are = d.are; pass = refl }
 any_step : (ts : List Tree) → IsStep is_built ts → IsStep is_any ts
 any_step ts x = record { tree = x.tree; is = x.is; first = any_items x.first }
 
-built_step : (ts : List Tree) → OneOf 152 129 9 ts → IsStep is_built ts
+built_step : (ts : List Tree) → OneOf 152 129 10 ts → IsStep is_built ts
 built_step ts (inl d) = a_step is_built head.SplitStep 129 115 refl splits ts (row 152 129 refl ts d)
 built_step ts (inr (inl d)) = a_step is_built head.LetStep 130 116 refl lets ts (row 152 130 refl ts d)
 built_step ts (inr (inr (inl d))) = a_step is_built head.NewStep 131 118 refl news ts (row 152 131 refl ts d)
@@ -306,13 +306,13 @@ built_step ts (inr (inr (inr (inr (inr (inl d)))))) = a_step is_built head.Prune
 built_step ts (inr (inr (inr (inr (inr (inr (inl d))))))) = a_step is_built head.SuccessStep 135 127 refl successes ts (row 152 135 refl ts d)
 built_step ts (inr (inr (inr (inr (inr (inr (inr (inl d)))))))) = a_step is_built head.CryptoStep 136 126 refl cryptos ts (row 152 136 refl ts d)
 built_step ts (inr (inr (inr (inr (inr (inr (inr (inr (inl d))))))))) = a_step is_built head.UnletStep 137 117 refl unlets ts (row 152 137 refl ts d)
-built_step ts (inr (inr (inr (inr (inr (inr (inr (inr (inr d))))))))) = absurd d
+built_step ts (inr (inr (inr (inr (inr (inr (inr (inr (inr (inl d)))))))))) = a_step is_built head.RenameStep 138 110 refl renames ts (row 152 138 refl ts d)
+built_step ts (inr (inr (inr (inr (inr (inr (inr (inr (inr (inr d)))))))))) = absurd d
 
-later_step : (ts : List Tree) → OneOf 149 138 10 ts → IsStep is_any ts
-later_step ts (inl d) = a_step is_any head.RenameStep 138 110 refl renames ts (row 149 138 refl ts d)
-later_step ts (inr (inl d)) = a_step is_any head.PickStep 139 113 refl picks ts (row 149 139 refl ts d)
-later_step ts (inr (inr (inl d))) = a_step is_any head.MergeStep 140 114 refl merges ts (row 149 140 refl ts d)
-later_step ts (inr (inr (inr d))) = last_step ts d
+later_step : (ts : List Tree) → OneOf 149 139 9 ts → IsStep is_any ts
+later_step ts (inl d) = a_step is_any head.PickStep 139 113 refl picks ts (row 149 139 refl ts d)
+later_step ts (inr (inl d)) = a_step is_any head.MergeStep 140 114 refl merges ts (row 149 140 refl ts d)
+later_step ts (inr (inr d)) = last_step ts d
   where
     last_step : (ts : List Tree) → OneOf 149 141 7 ts → IsStep is_any ts
     last_step ts (inl d) = a_step is_any head.MoveStep 141 120 refl moves ts (row 149 141 refl ts d)
@@ -334,7 +334,8 @@ step ts (inr (inr (inr (inr (inr (inl d)))))) = any_step ts (a_step is_built hea
 step ts (inr (inr (inr (inr (inr (inr (inl d))))))) = any_step ts (a_step is_built head.SuccessStep 135 127 refl successes ts (row 149 135 refl ts d))
 step ts (inr (inr (inr (inr (inr (inr (inr (inl d)))))))) = any_step ts (a_step is_built head.CryptoStep 136 126 refl cryptos ts (row 149 136 refl ts d))
 step ts (inr (inr (inr (inr (inr (inr (inr (inr (inl d))))))))) = any_step ts (a_step is_built head.UnletStep 137 117 refl unlets ts (row 149 137 refl ts d))
-step ts (inr (inr (inr (inr (inr (inr (inr (inr (inr d))))))))) = later_step ts d
+step ts (inr (inr (inr (inr (inr (inr (inr (inr (inr (inl d)))))))))) = any_step ts (a_step is_built head.RenameStep 138 110 refl renames ts (row 149 138 refl ts d))
+step ts (inr (inr (inr (inr (inr (inr (inr (inr (inr (inr d)))))))))) = later_step ts d
 
 -- scripts
 
@@ -382,4 +383,4 @@ unfolding sorts_pass
 have_rules limit live from signs steps e =
     let r = row_is_read built_script_row refl refl limit live from signs steps e in
     let m = made_so built_script_row refl signs r.script r.uses r.spelled in
-    subst (AllByRecursion (HasItems is_built)) (sym (r.items ∙ ap items_of (sym m.1))) (script_items is_built 154 153 152 (λ ts d. with_end is_built (OneOf 152 129 9) built_step ts (row 153 152 refl ts d)) m.0 m.2 (λ l d. row 154 153 refl l d))
+    subst (AllByRecursion (HasItems is_built)) (sym (r.items ∙ ap items_of (sym m.1))) (script_items is_built 154 153 152 (λ ts d. with_end is_built (OneOf 152 129 10) built_step ts (row 153 152 refl ts d)) m.0 m.2 (λ l d. row 154 153 refl l d))

@@ -1,7 +1,7 @@
 -- Which steps have items, and which of them have a rule.
 use Rattle.std.specs.Prelude.{◌≡◌, Bool, true, false, Some}
 use Rattle.cv_syntax_trees.specs.Tree.{Tree}
-use Rattle.cv_script.specs.Views.{StepItems, Crypto, Split, Success, Let, New, Unlet, Unnew, Rewrite, Prune, items_of_step}
+use Rattle.cv_script.specs.Views.{StepItems, Crypto, Split, Success, Let, New, Rename, Unlet, Unnew, Rewrite, Prune, items_of_step}
 
 -- the steps that have a rule
 abbrev pub is_built : StepItems → Bool
@@ -9,6 +9,7 @@ is_built (Split p m) = true
 is_built (Let p x T m) = true
 is_built (New p x T) = true
 is_built (Unnew x) = true
+is_built (Rename x y) = true
 is_built (Unlet x) = true
 is_built (Rewrite p m by) = true
 is_built (Prune p part by) = true

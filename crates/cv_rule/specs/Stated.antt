@@ -20,6 +20,7 @@ step_of trees (code.Split p m) = step.Split p (tree_at trees (Some m))
 step_of trees (code.Let p x T m) = step.Let p x T (tree_at trees (Some m))
 step_of trees (code.New p x T) = step.New p x T
 step_of trees (code.Unnew x) = step.Unnew x
+step_of trees (code.Rename x y) = step.Rename x y
 step_of trees (code.Unlet x) = step.Unlet x
 step_of trees (code.Rewrite p m by) = step.Rewrite p (tree_at trees (Some m)) (tree_at trees by)
 step_of trees (code.Prune p body by) = step.Prune p (part_of body) (tree_at trees by)

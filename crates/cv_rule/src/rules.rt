@@ -2,8 +2,11 @@ ghost use Rattle.std.specs.Prelude.{◌≡◌, ◌<◌, ◌^◌, ◌&&◌, ◌||
 ghost use Rattle.cv_syntax_trees.specs.Tree.{Tree, size};
 ghost use Rattle.cv_syntax.specs.PoolTrees.{tree_at};
 ghost use Rattle.cv_directory.specs.Live.{IsLive};
+ghost use Rattle.cv_directory_sorts.specs.Sites.{sites_of};
+ghost use Rattle.cv_typing_rules.specs.Signature.{OfGame};
+ghost use Rattle.cv_typing.specs.Tables.{arrays_of};
 ghost use Rattle.cv_steps.specs.Judgements as judgement_of;
-ghost use Rattle.cv_steps.specs.Rows.{let_row, new_row, prune_row, rewrite_row, row_of, split_row, unlet_row, unnew_row};
+ghost use Rattle.cv_steps.specs.Rows.{let_row, new_row, prune_row, rename_row, rewrite_row, row_of, split_row, unlet_row, unnew_row};
 ghost use Rattle.cv_draw_pruning.specs.Bodies.{part_of};
 ghost use Rattle.cv_scenes.specs.Pruning.{pruned};
 ghost use Rattle.cv_scenes.specs.Scenes as scenes;
@@ -46,6 +49,10 @@ pub enum Rule {
     },
     Unnew {
         name: u32,
+    },
+    Rename {
+        name: u32,
+        to: u32,
     },
     Unlet {
         name: u32,
@@ -154,6 +161,7 @@ pub fn stands(
             Ok(has_place(work, game, place) && is_type(work, game, of_type))
         }
         Rule::Unnew { name } => Ok(is_known(work, game, name)),
+        Rule::Rename { name, .. } => Ok(is_known(work, game, name)),
         Rule::Unlet { name } => Ok(is_known(work, game, name)),
         Rule::Rewrite { place, term, .. } => stands_at(alloc, work, game, arrays, place, term),
         Rule::Prune { place, .. } => Ok(has_place(work, game, place)),
@@ -240,6 +248,41 @@ fn unnew_conditions(work: &Work, game: NodeId, x: u32) -> Option<Failure>
         }),
         None => None,
     }
+}
+
+/// Whether a name is a variable of the game.
+fn has_site(arrays: &Arrays, x: u32) -> bool
+    ensures { (game : Tree) → arrays_of arrays.now ≡ OfGame (sites_of game)
+        → result ≡ terms.has_site game x }
+{
+    arrays.arity(x).is_some()
+}
+
+/// The first condition of `rename` that fails.
+fn rename_conditions(work: &Work, game: NodeId, arrays: &Arrays, x: u32, y: u32) -> Option<Failure>
+    requires prepared { IsPrepared work.now.pool.trees work.now.decls game arrays.now }
+    requires declared { All (IsLive (length work.now.pool.trees)) work.now.decls.list }
+    ensures { result ≡ failing (rename_row (scene_of work.now.pool work.now.decls game) x y) }
+{
+    if !has_site(arrays, x) {
+        return Some(Failure {
+            condition: 1,
+            place: 0,
+        });
+    }
+    if !is_new(work, game, y) {
+        return Some(Failure {
+            condition: 2,
+            place: 0,
+        });
+    }
+    if is_queried(work, game, x) {
+        return Some(Failure {
+            condition: 3,
+            place: 0,
+        });
+    }
+    None
 }
 
 /// The first condition of `unlet` that fails.
@@ -392,6 +435,7 @@ pub fn unmet(
         Rule::Let { place, name, .. } => Ok(definition_conditions(work, game, place, name)),
         Rule::New { place, name, .. } => Ok(definition_conditions(work, game, place, name)),
         Rule::Unnew { name } => Ok(unnew_conditions(work, game, name)),
+        Rule::Rename { name, to } => Ok(rename_conditions(work, game, arrays, name, to)),
         Rule::Unlet { name } => unlet_conditions(work, game, arrays, name),
         Rule::Rewrite { place, term, by } => {
             rewrite_conditions(alloc, work, game, arrays, place, term, by)

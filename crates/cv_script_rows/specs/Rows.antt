@@ -175,7 +175,7 @@ script_rows =
     (OneOf 129 19 ∷ Sign mark.Semicolon ∷ []) ∷  -- 149 step item
     (Many false 149 ∷ []) ∷  -- 150 steps
     (Chain 150 ∷ []) ∷  -- 151 script
-    (OneOf 129 9 ∷ Sign mark.Semicolon ∷ []) ∷  -- 152 built item
+    (OneOf 129 10 ∷ Sign mark.Semicolon ∷ []) ∷  -- 152 built item
     (Many false 152 ∷ []) ∷  -- 153 built steps
     (Chain 153 ∷ []) ∷  -- 154 built script
     []

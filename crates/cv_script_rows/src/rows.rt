@@ -224,7 +224,7 @@ const BUILT_STEPS: u16 = 153;
 /// The row of a script whose steps have a rule.
 pub const BUILT_SCRIPT: u16 = 154;
 /// How many of the steps, from the first one on, have a rule.
-const BUILT: u16 = 9;
+const BUILT: u16 = 10;
 /// How many rows the table has.
 const ROWS: usize = 155;
 

@@ -6,11 +6,12 @@ use Rattle.cv_typing_runs.specs.Games.{HasConstants}
 use Rattle.cv_derivations_under.specs.Holding.{IsReady}
 use Rattle.cv_derivations_under.specs.Soundness.{DerivationsHold, DerivedBodiesAreUnreached}
 use Rattle.cv_scenes.specs.Scenes.{KnowsQueries, Scene, has_place, is_type}
-use Rattle.cv_steps.specs.Steps.{Cost, Let, New, Prune, Rewrite, Split, Step, Unlet, Unnew}
+use Rattle.cv_steps.specs.Steps.{Cost, Let, New, Prune, Rename, Rewrite, Split, Step, Unlet, Unnew}
 use Rattle.cv_steps.specs.Judgements.{Accepted, judgement_of}
 use Rattle.cv_steps.specs.Chances.{KeepsChances}
 use Rattle.cv_steps_laws.proofs.Keeping.{accepted, assigns, chooses, drops, next_declared, next_formed, next_known, next_named, next_typed, splits, term_phrase}
 use Rattle.cv_steps_pruning.proofs.Keeping.{prunes}
+use Rattle.cv_steps_renaming.proofs.Keeping.{renames}
 use Rattle.cv_steps_rewriting.proofs.Keeping.{rewrites}
 use Rattle.cv_steps_unletting.proofs.Keeping.{unlets}
 
@@ -34,6 +35,9 @@ steps_keep s (Let p x T m) next cost w d u k e =
     assigns s p x T m next cost w.formed k (term_phrase s p m (and_parts (is_type s T) _ (and_parts (has_place s p) _ r.stands).1).1) r.row
 steps_keep s (New p x T) next cost w d u k e = chooses s p x T next cost w.formed k (accepted s (New p x T) next cost e).row
 steps_keep s (Unnew x) next cost w d u k e = drops s x next cost w.formed (accepted s (Unnew x) next cost e).row
+steps_keep s (Rename x y) next cost w d u k e =
+    let r = accepted s (Rename x y) next cost e in
+    renames s x y next cost w.formed k (next_formed s (Rename x y) next cost e).constants r.row
 steps_keep s (Unlet x) next cost w d u k e = unlets s x next cost w.formed (accepted s (Unlet x) next cost e).row
 steps_keep s (Rewrite p m by) next cost w d u k e =
     let r = accepted s (Rewrite p m by) next cost e in

@@ -47,7 +47,7 @@ use Rattle.cv_steps_crypto.proofs.Accepted.{accepted}
 use Rattle.cv_sequences.specs.Chains.{ByEquivalence, ByStep, HasPrice, HaveTapedPrices, IsChain, IsFileOf, IsLink, Link, Prices, cost_behind, costs_behind, game_after, names_below, next_behind, push, start, summed}
 use Rattle.cv_sequences.proofs.Accepted.{step_ready, steps_keep}
 use Rattle.cv_sequences.proofs.Asked.{game_choices_valued}
-use Rattle.cv_sequences.proofs.Steps.{next_values}
+use Rattle.cv_sequences.proofs.Steps.{new_untested, next_values}
 use Rattle.cv_sequences.proofs.Sums.{apart, back}
 use Rattle.cv_sequences.proofs.Tested.{tested, unrefused}
 
@@ -178,7 +178,7 @@ module _ (ds : List Declaration) (own : ℕ) (first : Tree) (w : IsFileOf ds own
 
   module _ (i : Interpretation) (sat : Satisfies ds i) (x : Experiment) (asked : IsAsked (queries_in ds) x) (v : HasValuesIn (setting_of ds i) (mode_of x) first) where
     link_valued : (game : Tree) (l : Link) → IsSound game → HasValuesIn (setting_of ds i) (mode_of x) game → IsLink (at game) l → HasValuesIn (setting_of ds i) (mode_of x) (next_behind l)
-    link_valued game (ByStep step cost next) g k e = next_values (at game) i sat (mode_of x) step next cost g.ready.formed.phrase k e
+    link_valued game (ByStep step cost next) g k e = next_values (at game) i sat (mode_of x) (new_untested (at game) x asked w.known_queries) step next cost g.ready.formed.phrase k e
     link_valued game (ByEquivalence n e key next) g k h =
         let t = tested ds next (accepted (at game) e key next h).game in
         game_choices_valued ds next t.game.formed.phrase t.game.typed t.sorts t.asked i sat x asked

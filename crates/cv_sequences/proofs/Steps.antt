@@ -1,16 +1,20 @@
 -- So each choice and test has a value in each game of a sequence.
-use Rattle.std.proofs.Common.{◌≡◌, ℕ, ◌<◌, ◌≤◌, true, not, None, ap, subst, ◌∙◌, arith}
-use Rattle.std.proofs.lemmas.Bool.{and_parts}
+use Rattle.std.proofs.Common.{◌≡◌, ℕ, ◌<◌, ◌≤◌, ◌==◌, true, false, not, None, refl, ap, subst, ◌∙◌, arith}
+use Rattle.std.proofs.lemmas.Bool.{and_parts, not-true}
 use Rattle.cv_syntax_trees.specs.Tree.{Tree}
 use Rattle.cv_meaning.specs.Interpretation.{Interpretation, setting_of}
-use Rattle.cv_meaning.specs.Runs.{Mode}
+use Rattle.cv_meaning.specs.Runs.{Mode, Events, Random, Real}
+use Rattle.cv_meaning.specs.Experiments.{Experiment, mode_of}
+use Rattle.cv_meaning.specs.Advantage.{IsAsked}
+use Rattle.cv_meaning.specs.Queries.{queries_in}
 use Rattle.cv_meaning.specs.Satisfies.{Satisfies}
 use Rattle.cv_meaning_adequacy.specs.Typed as meaning
 use Rattle.cv_meaning_adequacy.proofs.Sorted.{some_value}
 use Rattle.cv_meaning_runs.specs.Replacement.{Process}
+use Rattle.cv_meaning_unread.specs.Dropping.{IsUntested}
 use Rattle.cv_scope_rules.specs.Phrases.{Inputs, is_phrase}
-use Rattle.cv_scenes.specs.Scenes.{Scene, is_output_at, is_chosen, is_new, is_queried, first_reading, has_place, is_type, part_at}
-use Rattle.cv_steps.specs.Steps.{Step, Split, Let, New, Unnew, Unlet, Rewrite, Prune, Cost, Zero}
+use Rattle.cv_scenes.specs.Scenes.{KnowsQueries, Scene, is_output_at, is_chosen, is_new, is_queried, first_reading, has_place, is_type, part_at}
+use Rattle.cv_steps.specs.Steps.{Step, Split, Let, New, Unnew, Rename, Unlet, Rewrite, Prune, Cost, Zero}
 use Rattle.cv_steps.specs.Changes.{change_at, split_process, after_let, after_new, without, only}
 use Rattle.cv_scenes.specs.Terms.{is_bool_at}
 use Rattle.cv_steps.specs.Judgements.{Accepted, judgement_of}
@@ -20,14 +24,28 @@ use Rattle.cv_steps.proofs.Pruned.{left_keeps, prune_leads, pruned_output}
 use Rattle.cv_steps.proofs.Rewritten.{rewrite_leads}
 use Rattle.cv_steps.proofs.Rows.{leads_same, unless_leads, unless_at_leads}
 use Rattle.cv_steps.proofs.Comes.{placed}
-use Rattle.cv_steps_laws.proofs.Keeping.{accepted, term_phrase}
+use Rattle.cv_steps_laws.proofs.Keeping.{accepted, term_phrase, unqueried}
+use Rattle.cv_steps_laws.proofs.Renamed.{rename_leads}
 use Rattle.cv_steps_laws.proofs.Sorts.{type_declared}
 use Rattle.cv_steps_laws.proofs.Unletted.{unlet_leads, unletted_kept}
-use Rattle.cv_steps_laws.proofs.Unnamed.{unlisted_unread}
-use Rattle.cv_meaning_values.specs.Values.{HasValuesIn}
-use Rattle.cv_sequences.proofs.Values.{still_values, values_put, values_replaced, values_dropped, values_kept}
+use Rattle.cv_steps_laws.proofs.Unnamed.{asked_untested, unlisted_unread}
+use Rattle.cv_meaning_values.specs.Values.{HasValuesIn, is_tested}
+use Rattle.cv_sequences.proofs.Values.{still_values, values_put, values_replaced, values_dropped, values_kept, values_renamed}
 
-module _ (s : Scene) (i : Interpretation) (sat : Satisfies s.declarations i) (m : Mode) where
+-- an asked experiment doesn't test a new name
+
+swapped : (a b : ℕ) → (a == b) ≡ false → (b == a) ≡ false
+swapped a b d = grind arith
+
+untested : (y : ℕ) (m : Mode) → IsUntested (only y) m → is_tested m y ≡ false
+untested y Events e = refl
+untested y (Real one x) e = swapped x y e
+untested y (Random one x) e = swapped x y e
+
+pub new_untested : (s : Scene) (x : Experiment) → IsAsked (queries_in s.declarations) x → KnowsQueries s → (y : ℕ) → is_new s y ≡ true → is_tested (mode_of x) y ≡ false
+new_untested s x asked k y n = untested y (mode_of x) (asked_untested s y x asked (unqueried s y k (not-true _ (and_parts (not (s.known y)) _ n).0)))
+
+module _ (s : Scene) (i : Interpretation) (sat : Satisfies s.declarations i) (m : Mode) (new : (y : ℕ) → is_new s y ≡ true → is_tested m y ≡ false) where
   abbrev Valued : Tree → Type 0
   Valued t = HasValuesIn (setting_of s.declarations i) m t
 
@@ -67,6 +85,9 @@ module _ (s : Scene) (i : Interpretation) (sat : Satisfies s.declarations i) (m 
       let o = unless_at_leads 2 (first_reading x 0 s.game) _ next cost q.1 in
       subst Valued (leads_same _ next Zero cost o.1)
       (values_dropped (setting_of s.declarations i) m (only x) Process s.game (without (only x) s.game) (dropped_game (only x) s.game w (unlisted_unread x 0 s.game o.0)) d)
+  next_values (Rename x y) next cost w d e =
+      let z = rename_leads s x y next cost (accepted s (Rename x y) next cost e).row in
+      subst Valued z.leads (values_renamed (setting_of s.declarations i) m x y (new y z.new) s.game d)
   next_values (Unlet x) next cost w d e =
       let r = accepted s (Unlet x) next cost e in
       let z = unlet_leads s x next cost r.row in

@@ -24,7 +24,7 @@ use Rattle.cv_sequences.proofs.Accepted.{step_ready, steps_keep}
 use Rattle.cv_sequences.specs.Sequences.{added_up, costs_of}
 use Rattle.cv_meaning_values.specs.Values.{HasValuesIn}
 use Rattle.cv_meaning_values.proofs.Tapes.{tapes}
-use Rattle.cv_sequences.proofs.Steps.{next_values}
+use Rattle.cv_sequences.proofs.Steps.{new_untested, next_values}
 
 pub same_trans : (p q r : Chance) → 0 < q.all → Same p q → Same q r → Same p r
 same_trans p q r pos e f =
@@ -59,7 +59,7 @@ module _ (ds : List Declaration) (known : ℕ → Bool) (first : Tree) (w : IsRe
     games_valued : (passages : List Passage) (last : Tree) → IsSequence ds known first passages last → HasValuesIn (setting_of ds i) (mode_of x) last
     games_valued passages last start = v
     games_valued passages last (push before game p s e) =
-        next_values (scene ds known game) i sat (mode_of x) p.step p.next p.cost (games_ready before game s).formed.phrase (games_valued before game s) e
+        next_values (scene ds known game) i sat (mode_of x) (new_untested (scene ds known game) x asked k) p.step p.next p.cost (games_ready before game s).formed.phrase (games_valued before game s) e
 
     module _ (a : Adversary) where
       abbrev chance_in : Tree → Chance

@@ -1,5 +1,5 @@
 -- Choices and tests have values in the next game, where they have in the game.
-use Rattle.std.proofs.Common.{◌≡◌, ℕ, ◌+◌, ◌-◌, Bool, true, false, cond, nat_lt, refl}
+use Rattle.std.proofs.Common.{◌≡◌, ℕ, ◌+◌, ◌-◌, ◌==◌, Bool, true, false, cond, nat_lt, refl}
 use Rattle.std.proofs.lemmas.Bool.{both_ways, and_parts}
 use Rattle.cv_syntax_trees.specs.declared.head.Head.{Head}
 use Rattle.cv_syntax_trees.specs.declared.head.Head.TheVariants.{New, Let, Find, Binder, Key, Call}
@@ -12,7 +12,8 @@ use Rattle.cv_meaning_runs.specs.Replacement.{Part, Process, IsReplaced}
 use Rattle.cv_meaning.specs.Replaced.{replaced}
 use Rattle.cv_meaning_unread.specs.Dropping.{IsDropped, same, gone, kept, in_parallel, in_list, in_find, in_branch, in_later_branch}
 use Rattle.cv_meaning.specs.Still.{is_still, head_is_still}
-use Rattle.cv_meaning_values.specs.Values.{ConstructHasValues, HasValuesIn}
+use Rattle.cv_meaning_values.specs.Values.{ConstructHasValues, HasValuesIn, is_tested}
+use Rattle.cv_steps.specs.Renaming.{renamed, renamed_head}
 use Rattle.cv_steps.proofs.Flat.{terms_still}
 use Rattle.cv_steps_laws.proofs.Unletted.{IsKept}
 
@@ -76,3 +77,18 @@ module _ (g : Setting) (m : Mode) where
     children = λ h a b d. (d.1, d.2);
     node = λ h a b c n e d x y. (d.0, x, y);
   }
+
+  -- a variable that gets a name whose values aren't tested
+
+  renamed_head_values : (x y : ℕ) → is_tested m y ≡ false → (h : Head) → ConstructHasValues g m h → ConstructHasValues g m (renamed_head x y h)
+  renamed_head_values x y u (Binder z T) d = go (z == x)
+    where
+      go : (v : Bool) → ConstructHasValues g m (Binder (cond v y z) T)
+      go true e = absurd (both_ways (is_tested m y) u e)
+      go false e = d e
+  renamed_head_values x y u h d = d
+
+  pub values_renamed : (x y : ℕ) → is_tested m y ≡ false → (t : Tree) → HasValuesIn g m t → HasValuesIn g m (renamed x y t)
+  unfolding HasValuesIn renamed
+  values_renamed x y u Empty d = tt
+  values_renamed x y u (Node h a b) d = (renamed_head_values x y u h d.0, values_renamed x y u a d.1, values_renamed x y u b d.2)

@@ -3,7 +3,7 @@ use Rattle.std.specs.Prelude.{ℕ, Bool, ◌&&◌, ◌||◌, nat_lt, if◌then�
 use Rattle.cv_syntax_trees.specs.Tree.{Tree, size, depth}
 use Rattle.cv_syntax_limits.specs.Limits.{most_depth, most_nodes}
 use Rattle.cv_scenes.specs.Scenes.{Scene, has_place, names, is_type}
-use Rattle.cv_steps.specs.Steps.{Step, Split, Let, New, Unnew, Unlet, Rewrite, Prune, Cost}
+use Rattle.cv_steps.specs.Steps.{Step, Split, Let, New, Unnew, Rename, Unlet, Rewrite, Prune, Cost}
 use Rattle.cv_scenes.specs.Terms.{is_term_at, is_game}
 use Rattle.cv_steps.specs.Rows.{Row, Fails, Leads, row_of}
 
@@ -19,6 +19,7 @@ stands s (Split p m) = has_place s p && is_term_at s p m
 stands s (Let p x T m) = has_place s p && (is_type s T && is_term_at s p m)
 stands s (New p x T) = has_place s p && is_type s T
 stands s (Unnew x) = s.known x || names x s.game
+stands s (Rename x y) = s.known x || names x s.game
 stands s (Unlet x) = s.known x || names x s.game
 stands s (Rewrite p m by) = has_place s p && is_term_at s p m
 stands s (Prune p part by) = has_place s p

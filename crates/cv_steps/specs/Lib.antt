@@ -7,3 +7,4 @@ pub mod Chances
 pub mod Sequences
 pub mod Costs
 pub mod Unletting
+pub mod Renaming

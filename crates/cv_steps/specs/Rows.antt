@@ -6,12 +6,13 @@ use Rattle.cv_scenes.specs.Scenes.{Scene, is_output_at, is_new, is_queried, is_c
 use Rattle.cv_scenes.specs.Sights.{sight_at}
 use Rattle.cv_scenes.specs.Derivations.{first_bad_line}
 use Rattle.cv_scenes.specs.Pruning.{Part, Pruned, pruned}
-use Rattle.cv_steps.specs.Steps.{Step, Split, Let, New, Unnew, Unlet, Rewrite, Prune, Cost, Zero}
+use Rattle.cv_steps.specs.Steps.{Step, Split, Let, New, Unnew, Rename, Unlet, Rewrite, Prune, Cost, Zero}
 use Rattle.cv_derivations.specs.Targets.{equality, falsity}
 use Rattle.cv_steps.specs.Rewriting.{has_sort_of, is_rewritable_at, sort_at}
 use Rattle.cv_steps.specs.Changes.{change_at, split_process, after_let, after_new, without, only}
+use Rattle.cv_steps.specs.Renaming.{renamed}
 use Rattle.cv_steps.specs.Unletting.{Assignment, is_listed, only_assignment, without_assignment}
-use Rattle.cv_scenes.specs.Terms.{is_bool_at}
+use Rattle.cv_scenes.specs.Terms.{has_site, is_bool_at}
 
 pub data Row : Type 0 where
   Fails : (condition place : ℕ) → Row
@@ -41,6 +42,10 @@ unnew_row s x =
     unless (is_chosen s x) 1 0
     (unless (not (is_queried s x)) 2 0
     (unless_at 2 (first_reading x 0 s.game) (Leads (without (only x) s.game) Zero)))
+
+abbrev pub rename_row : Scene → (x y : ℕ) → Row
+rename_row s x y =
+    unless (has_site s.game x) 1 0 (unless (is_new s y) 2 0 (unless (not (is_queried s x)) 3 0 (Leads (renamed x y s.game) Zero)))
 
 -- a query and a `defined` list stand before all places
 abbrev pub unlet_row_by : Scene → (x : ℕ) → Option Assignment → Row
@@ -76,6 +81,7 @@ row_of s (Split p m) = split_row s p m
 row_of s (Let p x T m) = let_row s p x T m
 row_of s (New p x T) = new_row s p x T
 row_of s (Unnew x) = unnew_row s x
+row_of s (Rename x y) = rename_row s x y
 row_of s (Unlet x) = unlet_row s x
 row_of s (Rewrite p m by) = rewrite_row s p m by
 row_of s (Prune p part by) = prune_row s p part by

@@ -9,6 +9,7 @@ pub data Step : Type 0 where
   Let : (place x type : ℕ) → (term : Tree) → Step
   New : (place x type : ℕ) → Step
   Unnew : (x : ℕ) → Step
+  Rename : (x y : ℕ) → Step
   Unlet : (x : ℕ) → Step
   Rewrite : (place : ℕ) → (term by : Tree) → Step
   Prune : (place : ℕ) → (part : Part) → (by : Tree) → Step

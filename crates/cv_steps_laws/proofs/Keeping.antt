@@ -19,7 +19,7 @@ use Rattle.cv_scope_rules.specs.Phrases.{Inputs, Term, IsWellFormed, is_phrase, 
 use Rattle.cv_typing_runs.specs.Games.{HasConstants, HasDeclaredSorts, HasKnownNames, HasNamedFunctionsAndCells}
 use Rattle.cv_typing_runs.proofs.Games.{known}
 use Rattle.cv_scenes.specs.Scenes.{Scene, KnowsQueries, is_chosen, is_new, is_output_at, is_queried, first_reading, has_place, is_type, names, part_at}
-use Rattle.cv_steps.specs.Steps.{Step, Split, Let, New, Unnew, Unlet, Rewrite, Prune, Cost, Zero}
+use Rattle.cv_steps.specs.Steps.{Step, Split, Let, New, Unnew, Rename, Unlet, Rewrite, Prune, Cost, Zero}
 use Rattle.cv_steps.specs.Changes.{change_at, split_process, after_let, after_new, without, only}
 use Rattle.cv_scenes.specs.Terms.{is_term_at, is_bool_at, is_there, names_anywhere, has_site, has_index, is_game}
 use Rattle.cv_steps.specs.Rows.{Row, Fails, Leads, unless, split_row, let_row, new_row, unnew_row, row_of}
@@ -33,6 +33,7 @@ use Rattle.cv_steps.proofs.Rows.{leads_same, unless_leads, unless_at_leads}
 use Rattle.cv_steps.proofs.Testable.{game_no_calls, game_testable, local}
 use Rattle.cv_steps_laws.proofs.Gone.{dropped_game}
 use Rattle.cv_steps.proofs.Comes.{placed}
+use Rattle.cv_steps_laws.proofs.Renamed.{declared_renamed, rename_leads}
 use Rattle.cv_steps_laws.proofs.Sorts.{there_named, type_declared, term_declared, declared_replaced, declared_dropped, declared_rewritten, left_declared, sorts_kept}
 use Rattle.cv_steps_laws.proofs.Unletted.{unlet_leads, unletted_kept}
 use Rattle.cv_steps_laws.proofs.Unnamed.{unnamed_unread, unnamed_undrawn, unlisted_unread, dropped_undrawn, dropped_phrase, asked_untested}
@@ -46,7 +47,7 @@ splits s p m next cost w t e =
     subst (KeepsChances s.declarations s.game) (leads_same _ next Zero cost q.1)
     (λ i sat x asked a. split_chance (setting_of s.declarations i) x a m (part_at s.game p) p s.game (change_at s.game p (split_process m)) r.0 (term_still m t) (placed s.game p (split_process m) w.phrase r.0))
 
-unqueried : (s : Scene) (x : ℕ) → KnowsQueries s → s.known x ≡ false → is_queried s x ≡ false
+pub unqueried : (s : Scene) (x : ℕ) → KnowsQueries s → s.known x ≡ false → is_queried s x ≡ false
 unqueried s x k e = go (is_queried s x) refl
   where
     go : (v : Bool) → is_queried s x ≡ v → v ≡ false
@@ -189,6 +190,9 @@ next_declared s (Unnew x) next cost w d e =
     let o = unless_at_leads 2 (first_reading x 0 s.game) _ next cost q.1 in
     subst (HasDeclaredSorts s.declarations) (leads_same _ next Zero cost o.1)
     (declared_dropped s.declarations (only x) Process s.game (without (only x) s.game) (dropped_game (only x) s.game w (unlisted_unread x 0 s.game o.0)) d)
+next_declared s (Rename x y) next cost w d e =
+    let z = rename_leads s x y next cost (accepted s (Rename x y) next cost e).row in
+    subst (HasDeclaredSorts s.declarations) z.leads (declared_renamed s.declarations x y s.game d)
 next_declared s (Unlet x) next cost w d e =
     let r = accepted s (Unlet x) next cost e in
     let z = unlet_leads s x next cost r.row in

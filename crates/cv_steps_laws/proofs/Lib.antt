@@ -4,3 +4,4 @@ pub mod Sorts
 pub mod Keeping
 mod WorkedSteps
 pub mod Unletted
+pub mod Renamed

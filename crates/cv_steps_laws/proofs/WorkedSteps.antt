@@ -4,9 +4,9 @@ use Rattle.std.proofs.lemmas.Bool.{both_ways}
 use Rattle.std.specs.List.{AllByRecursion}
 use Rattle.cv_first_fault.specs.Walk.{first_fault}
 use Rattle.cv_syntax_trees.specs.declared.head.Head.TheVariants as head
-use Rattle.cv_syntax_trees.specs.declared.head.Head.TheVariants.{Secret, Yes}
+use Rattle.cv_syntax_trees.specs.declared.head.Head.TheVariants.{Secret, Stop, Yes}
 use Rattle.cv_syntax_trees.specs.declared.class.Class.TheVariants as class
-use Rattle.cv_syntax_trees.specs.Builders.{leaf, read}
+use Rattle.cv_syntax_trees.specs.Builders.{leaf, output}
 use Rattle.cv_syntax_trees.specs.Declarations.{Named, Query}
 use Rattle.cv_syntax_trees.specs.Tree.{Empty, Node, lone, size, depth, subtree, same_tree}
 use Rattle.cv_meaning_runs.specs.Replacement.{if_tree}
@@ -21,14 +21,15 @@ use Rattle.cv_scope_rules.specs.Sites.{sites_from}
 use Rattle.cv_scope_rules.specs.Made.{is_bound}
 use Rattle.cv_scope_rules.specs.Phrases.{is_phrase, binds_none, IsWellFormed}
 use Rattle.cv_scenes.specs.Scenes.{KnowsQueries, names, first_reading, has_news_alone, has_some_new}
-use Rattle.cv_steps.specs.Steps.{Split, Let, New, Unnew, Unlet, Zero}
+use Rattle.cv_steps.specs.Steps.{Split, Let, New, Unnew, Rename, Unlet, Zero}
 use Rattle.cv_derivations.specs.Given.{with_given}
 use Rattle.cv_scope_rules.specs.Behind.{sites_in}
 use Rattle.cv_steps.specs.Changes.{without}
+use Rattle.cv_steps.specs.Renaming.{renamed}
 use Rattle.cv_steps.specs.Unletting.{is_listed, with_term}
 use Rattle.cv_scenes.specs.Terms.{is_there, is_game}
 use Rattle.cv_steps.specs.Judgements.{Refused, Accepted, judgement_of}
-use Rattle.cv_steps_laws.specs.Worked.{asked, assigned_copies, assigns, cases, copies, draws, draws_more, equal, finds_assigned, more, plain, receives, scene_of, sends, sends_assigned, sends_copy, unlets}
+use Rattle.cv_steps_laws.specs.Worked.{asked, assigned_copies, assigns, assigns_to, cases, copies, copy_of, draws, draws_more, equal, finds, finds_assigned, finds_copy, more, plain, receives, renames, scene_of, sends, sends_assigned, sends_copy, unlets}
 use Rattle.cv_steps_laws.proofs.Keeping.{formed}
 
 case_0 : judgement_of plain (Split 1 (lone Yes)) ≡ Accepted (receives (if_tree (lone Yes) draws draws)) Zero
@@ -115,20 +116,40 @@ case_20 : judgement_of plain (Unnew 40) ≡ Refused 0 0
 unfolding first_fault first_in size depth subtree same_tree replaced first_index first_site bound_sort binders_differ count queries_in context_at sites_from is_bound is_phrase binds_none names first_reading has_news_alone has_some_new without is_there
 case_20 = refl
 
-case_21 : judgement_of plain (Unlet 4) ≡ Refused 1 0
-unfolding first_fault first_in size depth subtree same_tree first_index first_site bound_sort binders_differ count queries_in context_at sites_from sites_in is_bound is_phrase binds_none names without is_there is_listed with_term with_given
+case_21 : judgement_of plain (Rename 4 11) ≡ Accepted (receives (Node (head.New 11 5) Empty (output 3 [] (leaf 11 ∷ []) (lone Stop)))) Zero
+unfolding first_fault first_in size depth subtree same_tree first_index first_site bound_sort binders_differ count queries_in context_at sites_from is_bound is_phrase binds_none names is_there renamed
 case_21 = refl
 
-case_22 : judgement_of plain (Unlet 9) ≡ Refused 1 0
-unfolding first_fault first_in size depth subtree same_tree first_index first_site bound_sort binders_differ count queries_in context_at sites_from sites_in is_bound is_phrase binds_none names without is_there is_listed with_term with_given
+case_22 : judgement_of plain (Rename 4 9) ≡ Refused 2 0
+unfolding first_fault first_in size depth subtree same_tree first_index first_site bound_sort binders_differ count queries_in context_at sites_from is_bound is_phrase binds_none names is_there renamed
 case_22 = refl
 
-case_23 : judgement_of plain (Unlet 40) ≡ Refused 0 0
-unfolding first_fault first_in size depth subtree same_tree first_index first_site bound_sort binders_differ count queries_in context_at sites_from sites_in is_bound is_phrase binds_none names without is_there is_listed with_term with_given
+case_23 : judgement_of plain (Rename 4 4) ≡ Refused 2 0
+unfolding first_fault first_in size depth subtree same_tree first_index first_site bound_sort binders_differ count queries_in context_at sites_from is_bound is_phrase binds_none names is_there renamed
 case_23 = refl
 
+case_24 : judgement_of plain (Rename 9 11) ≡ Refused 1 0
+unfolding first_fault first_in size depth subtree same_tree first_index first_site bound_sort binders_differ count queries_in context_at sites_from is_bound is_phrase binds_none names is_there renamed
+case_24 = refl
+
+case_25 : judgement_of plain (Rename 40 11) ≡ Refused 0 0
+unfolding first_fault first_in size depth subtree same_tree first_index first_site bound_sort binders_differ count queries_in context_at sites_from is_bound is_phrase binds_none names is_there renamed
+case_25 = refl
+
+case_26 : judgement_of plain (Unlet 4) ≡ Refused 1 0
+unfolding first_fault first_in size depth subtree same_tree first_index first_site bound_sort binders_differ count queries_in context_at sites_from sites_in is_bound is_phrase binds_none names without is_there is_listed with_term with_given
+case_26 = refl
+
+case_27 : judgement_of plain (Unlet 9) ≡ Refused 1 0
+unfolding first_fault first_in size depth subtree same_tree first_index first_site bound_sort binders_differ count queries_in context_at sites_from sites_in is_bound is_phrase binds_none names without is_there is_listed with_term with_given
+case_27 = refl
+
+case_28 : judgement_of plain (Unlet 40) ≡ Refused 0 0
+unfolding first_fault first_in size depth subtree same_tree first_index first_site bound_sort binders_differ count queries_in context_at sites_from sites_in is_bound is_phrase binds_none names without is_there is_listed with_term with_given
+case_28 = refl
+
 pub each : AllByRecursion (λ c. judgement_of plain c.0 ≡ c.1) cases
-each = (case_0, (case_1, (case_2, (case_3, (case_4, (case_5, (case_6, (case_7, (case_8, (case_9, (case_10, (case_11, (case_12, (case_13, (case_14, (case_15, (case_16, (case_17, (case_18, (case_19, (case_20, (case_21, (case_22, (case_23, tt))))))))))))))))))))))))
+each = (case_0, (case_1, (case_2, (case_3, (case_4, (case_5, (case_6, (case_7, (case_8, (case_9, (case_10, (case_11, (case_12, (case_13, (case_14, (case_15, (case_16, (case_17, (case_18, (case_19, (case_20, (case_21, (case_22, (case_23, (case_24, (case_25, (case_26, (case_27, (case_28, tt)))))))))))))))))))))))))))))
 
 game_passes : is_game plain.declarations plain.game ≡ true
 unfolding first_fault first_in size depth subtree same_tree replaced first_index first_site bound_sort binders_differ count queries_in context_at sites_from is_bound is_phrase binds_none names first_reading has_news_alone has_some_new without is_there
@@ -157,7 +178,7 @@ unlet_leaf : judgement_of (scene_of [] (receives (assigns sends_assigned))) (Unl
 unfolding first_fault first_in size depth subtree same_tree first_index first_site bound_sort binders_differ count queries_in context_at sites_from sites_in is_bound is_phrase binds_none names without is_there is_listed with_term with_given
 unlet_leaf = refl
 
-unlet_copy : judgement_of (scene_of (Named 2 class.Param Empty None ∷ []) assigned_copies) (Unlet 11) ≡ Accepted (copies (sends_copy (read 4 (leaf 1 ∷ [])))) Zero
+unlet_copy : judgement_of (scene_of (Named 2 class.Param Empty None ∷ []) assigned_copies) (Unlet 11) ≡ Accepted (copies (sends_copy (copy_of 4))) Zero
 unfolding first_fault first_in size depth subtree same_tree first_index first_site bound_sort binders_differ count queries_in context_at sites_from sites_in is_bound is_phrase binds_none names without is_there is_listed with_term with_given is_untyped_in
 unlet_copy = refl
 
@@ -190,3 +211,29 @@ listed_passes = refl
 
 pub games : AllByRecursion (λ c. IsWellFormed c.0.declarations c.0.game) unlets
 games = (formed _ _ leaf_passes, (formed _ _ copy_passes, (formed _ _ asked_passes, (formed _ _ listed_passes, tt))))
+
+rename_listed : judgement_of (scene_of [] (receives (assigns finds_assigned))) (Rename 11 12) ≡ Accepted (receives (assigns_to 12 (finds 12))) Zero
+unfolding first_fault first_in size depth subtree same_tree first_index first_site bound_sort binders_differ count queries_in context_at sites_from is_bound is_phrase binds_none names is_there renamed is_untyped_in
+rename_listed = refl
+
+rename_copy : judgement_of (scene_of (Named 2 class.Param Empty None ∷ []) assigned_copies) (Rename 11 12) ≡ Accepted (copies (Node (head.Let 12 5) (copy_of 4) (sends_copy (copy_of 12)))) Zero
+unfolding first_fault first_in size depth subtree same_tree first_index first_site bound_sort binders_differ count queries_in context_at sites_from is_bound is_phrase binds_none names is_there renamed is_untyped_in
+rename_copy = refl
+
+rename_index : judgement_of (scene_of (Named 2 class.Param Empty None ∷ []) (copies (finds_copy 11))) (Rename 11 12) ≡ Accepted (copies (finds_copy 12)) Zero
+unfolding first_fault first_in size depth subtree same_tree first_index first_site bound_sort binders_differ count queries_in context_at sites_from is_bound is_phrase binds_none names is_there renamed is_untyped_in
+rename_index = refl
+
+rename_asked : judgement_of (scene_of (Query (lone (Secret 11)) ∷ []) (receives (assigns sends_assigned))) (Rename 11 12) ≡ Refused 3 0
+unfolding first_fault first_in size depth subtree same_tree first_index first_site bound_sort binders_differ count queries_in context_at sites_from is_bound is_phrase binds_none names is_there renamed is_untyped_in
+rename_asked = refl
+
+pub each_rename : AllByRecursion (λ c. judgement_of c.0 (Rename 11 12) ≡ c.1) renames
+each_rename = (rename_listed, (rename_copy, (rename_index, (rename_asked, tt))))
+
+index_passes : is_game (scene_of (Named 2 class.Param Empty None ∷ []) (copies (finds_copy 11))).declarations (scene_of (Named 2 class.Param Empty None ∷ []) (copies (finds_copy 11))).game ≡ true
+unfolding first_fault first_in size depth subtree same_tree first_index first_site bound_sort binders_differ count queries_in context_at sites_from is_bound is_phrase binds_none names is_there renamed is_untyped_in
+index_passes = refl
+
+pub renamed_games : AllByRecursion (λ c. IsWellFormed c.0.declarations c.0.game) renames
+renamed_games = (formed _ _ listed_passes, (formed _ _ copy_passes, (formed _ _ index_passes, (formed _ _ asked_passes, tt))))

@@ -1,6 +1,6 @@
 -- Steps in a small game, with what is said of each. Names are numbers: 3 is a channel, 5 a type, 4 a nonce, 1 a replication's
 -- index and 2 its parameter; the file has the names below 10.
-use Rattle.std.specs.Prelude.{true, false, nat_lt, List, [], ◌∷◌, ◌++◌, None}
+use Rattle.std.specs.Prelude.{ℕ, true, false, nat_lt, List, [], ◌∷◌, ◌++◌, None}
 use Rattle.cv_syntax_trees.specs.declared.class.Class.TheVariants as class
 use Rattle.cv_syntax_trees.specs.declared.head.Head.TheVariants as head
 use Rattle.cv_syntax_trees.specs.declared.head.Head.TheVariants.{Eq, Secret, Stop, Yes, Yield}
@@ -9,7 +9,7 @@ use Rattle.cv_syntax_trees.specs.Declarations.{Declaration, Named, Query}
 use Rattle.cv_syntax_trees.specs.Tree.{Tree, Empty, Node, lone}
 use Rattle.cv_meaning_runs.specs.Replacement.{if_tree}
 use Rattle.cv_scenes.specs.Scenes.{Scene}
-use Rattle.cv_steps.specs.Steps.{Step, Split, Let, New, Unnew, Unlet, Zero}
+use Rattle.cv_steps.specs.Steps.{Step, Split, Let, New, Unnew, Rename, Unlet, Zero}
 use Rattle.cv_steps.specs.Judgements.{Judgement, Refused, Accepted}
 
 -- type 0 [fixed]. type 5 [fixed].
@@ -76,23 +76,35 @@ cases =
     ∷ (Unnew 4, Refused 2 3)
     ∷ (Unnew 9, Refused 1 0)
     ∷ (Unnew 40, Refused 0 0)
+    -- the nonce by a new name, by one of the file, by its own; a name of the file without a definition; a name that is nowhere
+    ∷ (Rename 4 11, Accepted (receives (Node (head.New 11 5) Empty (output 3 [] (leaf 11 ∷ []) (lone Stop)))) Zero)
+    ∷ (Rename 4 9, Refused 2 0)
+    ∷ (Rename 4 4, Refused 2 0)
+    ∷ (Rename 9 11, Refused 1 0)
+    ∷ (Rename 40 11, Refused 0 0)
     -- the nonce, which is not assigned; a name of the file without a definition; a name that is nowhere
     ∷ (Unlet 4, Refused 1 0)
     ∷ (Unlet 9, Refused 1 0)
     ∷ (Unlet 40, Refused 0 0)
     ∷ []
 
--- new 4: 5; let 11: 5 = 4 in the process
+-- new 4: 5; let x: 5 = 4 in the process
+abbrev pub assigns_to : (x : ℕ) → Tree → Tree
+assigns_to x process = Node (head.New 4 5) Empty (Node (head.Let x 5) (leaf 4) process)
+
 abbrev pub assigns : Tree → Tree
-assigns process = Node (head.New 4 5) Empty (Node (head.Let 11 5) (leaf 4) process)
+assigns process = assigns_to 11 process
 
 -- out(3, (11)); 0
 abbrev pub sends_assigned : Tree
 sends_assigned = output 3 [] (leaf 11 ∷ []) (lone Stop)
 
--- find suchthat defined(11) && 11 = 4 then yield else yield
+-- find suchthat defined(x) && x = 4 then yield else yield
+abbrev pub finds : (x : ℕ) → Tree
+finds x = find 1 (branch [] (leaf x ∷ []) (Node Eq (leaf x) (leaf 4)) (lone Yield) ∷ []) (lone Yield)
+
 abbrev pub finds_assigned : Tree
-finds_assigned = find 1 (branch [] (leaf 11 ∷ []) (Node Eq (leaf 11) (leaf 4)) (lone Yield) ∷ []) (lone Yield)
+finds_assigned = finds 11
 
 -- !1<=2 in(3[1], ()); new 4: 5; the process
 abbrev pub copies : Tree → Tree
@@ -102,15 +114,38 @@ copies process = Node (head.Repl 1 2) Empty (input 3 (1 ∷ []) [] (Node (head.N
 abbrev pub sends_copy : Tree → Tree
 sends_copy term = output 3 (1 ∷ []) (term ∷ []) (lone Stop)
 
+-- x[1]
+abbrev pub copy_of : (x : ℕ) → Tree
+copy_of x = read x (leaf 1 ∷ [])
+
 -- a term that is assigned and sent, at the same indices
 abbrev pub assigned_copies : Tree
-assigned_copies = copies (Node (head.Let 11 5) (read 4 (leaf 1 ∷ [])) (sends_copy (read 11 (leaf 1 ∷ []))))
+assigned_copies = copies (Node (head.Let 11 5) (copy_of 4) (sends_copy (copy_of 11)))
 
 -- what is said of `unlet 11`: it leaves what was assigned, also below a replication; a query or a `defined` list may ask for it
 abbrev pub unlets : List (Scene × Judgement)
 unlets =
     (scene_of [] (receives (assigns sends_assigned)), Accepted plain.game Zero)
-    ∷ (scene_of (Named 2 class.Param Empty None ∷ []) assigned_copies, Accepted (copies (sends_copy (read 4 (leaf 1 ∷ [])))) Zero)
+    ∷ (scene_of (Named 2 class.Param Empty None ∷ []) assigned_copies, Accepted (copies (sends_copy (copy_of 4))) Zero)
     ∷ (scene_of (Query (lone (Secret 11)) ∷ []) (receives (assigns sends_assigned)), Refused 2 0)
     ∷ (scene_of [] (receives (assigns finds_assigned)), Refused 2 0)
+    ∷ []
+
+-- find x <= 2 suchthat defined(4[x[1]]) && 4[x[1]] = 4[1] then yield else yield
+abbrev pub finds_copy : (x : ℕ) → Tree
+finds_copy x =
+    find 1 (branch ((x, 2) ∷ []) (read 4 (copy_of x ∷ []) ∷ []) (Node Eq (read 4 (copy_of x ∷ [])) (copy_of 4)) (lone Yield) ∷ [])
+    (lone Yield)
+
+-- what is said of `rename 11 12`: the variable has the new name where it is defined and read, at indices, in `defined` lists, and as
+-- an index of a `find`; no query may ask for it
+abbrev pub renames : List (Scene × Judgement)
+renames =
+    (scene_of [] (receives (assigns finds_assigned)), Accepted (receives (assigns_to 12 (finds 12))) Zero)
+    ∷ (
+      scene_of (Named 2 class.Param Empty None ∷ []) assigned_copies,
+      Accepted (copies (Node (head.Let 12 5) (copy_of 4) (sends_copy (copy_of 12)))) Zero,
+    )
+    ∷ (scene_of (Named 2 class.Param Empty None ∷ []) (copies (finds_copy 11)), Accepted (copies (finds_copy 12)) Zero)
+    ∷ (scene_of (Query (lone (Secret 11)) ∷ []) (receives (assigns sends_assigned)), Refused 3 0)
     ∷ []

@@ -16,12 +16,12 @@ ghost use Rattle.cv_typing_runs.specs.Games.{
   HasNamedFunctionsAndCells,
 };
 ghost use Rattle.cv_scenes.specs.Scenes.{KnowsQueries, Scene, part_at};
-ghost use Rattle.cv_steps.specs.Steps.{Cost, Step, Unlet, Unnew, Zero};
+ghost use Rattle.cv_steps.specs.Steps.{Cost, Rename, Step, Unlet, Unnew, Zero};
 ghost use Rattle.cv_steps.specs.Changes.{change_at, without};
 ghost use Rattle.cv_steps.specs.Rows.{Leads, let_row, new_row, split_row, unnew_row};
 ghost use Rattle.cv_steps.specs.Judgements.{Accepted, Refused, judgement_of};
 ghost use Rattle.cv_steps.specs.Chances.{KeepsChances};
-ghost use Rattle.cv_steps_laws.specs.Worked.{asked, cases, more, plain, unlets};
+ghost use Rattle.cv_steps_laws.specs.Worked.{asked, cases, more, plain, renames, unlets};
 
 /// A process may be divided by a condition, whatever the condition says.
 pub fn splitting_keeps_chances()
@@ -85,7 +85,8 @@ pub fn changes_of_games()
 
 /// What is said of steps in a small game, which is well-formed: each is accepted somewhere, and each of its
 /// conditions fails somewhere. A nonce that a query asks for is not dropped, and one that was put there is. So
-/// it is with an assignment, also below a replication, in games that are well-formed too.
+/// it is with an assignment, also below a replication, in games that are well-formed too, and with a variable
+/// that gets another name.
 pub fn worked_steps()
     ensures game { IsWellFormed plain.declarations plain.game }
     ensures cases { AllByRecursion (λ c. judgement_of plain c.0 ≡ c.1) cases }
@@ -94,4 +95,6 @@ pub fn worked_steps()
     ensures back { judgement_of more (Unnew 11) ≡ Accepted plain.game Zero }
     ensures assigned { AllByRecursion (λ c. IsWellFormed c.0.declarations c.0.game) unlets }
     ensures unlets { AllByRecursion (λ c. judgement_of c.0 (Unlet 11) ≡ c.1) unlets }
+    ensures renamed { AllByRecursion (λ c. IsWellFormed c.0.declarations c.0.game) renames }
+    ensures renames { AllByRecursion (λ c. judgement_of c.0 (Rename 11 12) ≡ c.1) renames }
 {}

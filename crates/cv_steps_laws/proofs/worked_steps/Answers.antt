@@ -1,4 +1,4 @@
-use Rattle.cv_steps_laws.proofs.WorkedSteps.{back, each, each_unlet, game, games, knows, not_dropped}
+use Rattle.cv_steps_laws.proofs.WorkedSteps.{back, each, each_rename, each_unlet, game, games, knows, not_dropped, renamed_games}
 use Rattle.cv_steps_laws.proofs.worked_steps.Goals as goal
 
 pub returns-clause-game : goal.returns-clause-game
@@ -21,3 +21,9 @@ returns-clause-unlets c = each_unlet
 
 pub returns-clause-assigned : goal.returns-clause-assigned
 returns-clause-assigned c = games
+
+pub returns-clause-renames : goal.returns-clause-renames
+returns-clause-renames c = each_rename
+
+pub returns-clause-renamed : goal.returns-clause-renamed
+returns-clause-renamed c = renamed_games

@@ -1,0 +1,3 @@
+pub mod Moving
+pub mod Rows
+pub mod Worked
