@@ -1,80 +1,20 @@
 -- The step that closes a query first, and what is known of it.
-use Rattle.std.proofs.Common.{◌≡◌, ℕ, zero, suc, ◌+◌, ◌≤◌, Bool, true, false, not, ◌||◌, ◌==◌, if◌then◌else◌, List, [], ◌∷◌, ◌++◌, length, map, drop, take, append_assoc, refl, ap, ap₂, sym, ◌∙◌, subst, arith, Option, Some, None, option_and_then, Ok, ◌⊎◌, inl, inr}
-use Rattle.std.specs.Prelude.{◌↔◌, Contains, slice_get}
+use Rattle.std.proofs.Common.{◌≡◌, ℕ, zero, suc, ◌+◌, Bool, true, false, not, ◌||◌, ◌==◌, if◌then◌else◌, List, [], ◌∷◌, ◌++◌, map, take, refl, ap, sym, ◌∙◌, subst, arith, Option, Some, None, option_and_then}
+use Rattle.std.specs.Prelude.{Contains, slice_get}
 use Rattle.std.specs.List.{AllByRecursion, list_any}
-use Rattle.std.proofs.lemmas.Bool.{both_ways}
 use Rattle.std.proofs.lemmas.Bool.Decides.{nat_tests}
-use Rattle.std.proofs.lemmas.List.{take-append-drop}
-use Rattle.cv_syntax_trees.specs.declared.head.Head.TheVariants.{EventsCertificate, Query, Secret, SecretCertificate, SecretOnce}
-use Rattle.cv_syntax_trees.specs.Declarations.{Declaration}
-use Rattle.cv_syntax_trees.specs.Tree.{Tree, Empty, Node}
+use Rattle.cv_syntax_trees.specs.Tree.{Tree}
 use Rattle.cv_bound.specs.declared.terms.Term.{Term}
-use Rattle.cv_bound.specs.Sums.{added}
-use Rattle.cv_bound_values.specs.Values.{Advantages, sum_value}
-use Rattle.cv_meaning.specs.Advantage.{IsAsked, chance_of, secrecy, secrecy_query}
-use Rattle.cv_meaning.specs.Chances.{AtMost, Chance, zero_chance}
-use Rattle.cv_meaning.specs.Experiments.{Breaks, Experiment, Guesses, mode_of}
-use Rattle.cv_meaning.specs.Interpretation.{Interpretation, setting_of}
-use Rattle.cv_meaning.specs.Runs.{Adversary, Random, Real}
-use Rattle.cv_meaning.specs.Satisfies.{Satisfies}
-use Rattle.cv_meaning_chances.specs.Fractions.{HasTapes}
-use Rattle.cv_meaning_contexts.specs.ContextAdvantage.{context_advantage}
-use Rattle.cv_meaning_values.specs.Values.{HasValuesIn}
-use Rattle.cv_meaning.specs.Queries.{queries_in}
-use Rattle.cv_typing_rules.specs.Signature.{declaration_of}
-use Rattle.cv_query_built.specs.Built.{asks_unbuilt, has_unbuilt, is_unbuilt_step, lacks_form}
-use Rattle.cv_query_certificates.specs.Accepted.{IsAccepted, IsEventsProof, IsSecretProof, is_built}
-use Rattle.cv_query_certificates.specs.Failures.{first_failure}
-use Rattle.cv_accept.specs.Accepted.{Content, asks_unbuilt as file_unbuilt, read_of, most_bytes}
-use Rattle.cv_parse.proofs.Exactness.{says_is_said}
-use Rattle.cv_parse_queries.proofs.Closed.{queries_closed}
-use Rattle.cv_parse_terminals.specs.Signs.{signs_of}
-use Rattle.cv_plain.specs.Strategy.{most_pool}
-use Rattle.cv_report.specs.declared.report.Report.{Report}
 use Rattle.cv_report.specs.declared.report.Verdict.TheVariants.{Proved}
-use Rattle.cv_syntax.specs.declared.work.File.{File}
-use Rattle.cv_query_closed.specs.Closed.{HasClosedQueries, IsClosedQuery}
-use Rattle.cv_query_correspondences.specs.Premises.{IsProved}
-use Rattle.cv_scenes.specs.Reductions.{context_of_game}
-use Rattle.cv_scenes.specs.Scenes.{Scene}
-use Rattle.cv_scenes.specs.Sights.{from_one}
 use Rattle.cv_script.specs.Views.{StepItems, items_of_step}
 use Rattle.cv_script.specs.Views as items
-use Rattle.cv_derivations_under.specs.Holding.{IsReady}
-use Rattle.cv_derivations_under.specs.Soundness.{DerivationsHold, DerivedBodiesAreUnreached}
-use Rattle.cv_context_answers.specs.Answers.{file_scene}
-use Rattle.cv_steps.specs.Sequences.{scene}
-use Rattle.cv_steps_crypto.specs.Conditions.{equivalence_by}
-use Rattle.cv_steps_crypto.specs.Steps.{reduction_of}
-use Rattle.cv_steps_crypto.proofs.Accepted.{accepted as accepted_step}
-use Rattle.cv_sequences.specs.Chains.{ByEquivalence, ByStep, HasPrice, HasTapedPrice, HaveTapedPrices, IsChain, IsFileOf, IsLink, Link, Prices, costs_behind}
-use Rattle.cv_sequences.specs.Chains as chains
-use Rattle.cv_sequences.proofs.Chains.{carried, chain_ends, games_ready, taped as taped_sum}
-use Rattle.cv_bound.specs.declared.cost.Cost.{Cost as SumCost}
-use Rattle.cv_bound.specs.declared.terms.Experiment.{Experiment as TermExperiment}
-use Rattle.cv_bound.specs.declared.terms.Experiment.TheVariants as term
-use Rattle.cv_kernel_costs.specs.Sums.{no_sums, sum_for, with_cost}
+use Rattle.cv_sequences.specs.Chains.{Link}
+use Rattle.cv_kernel_costs.specs.Sums.{sum_for, with_cost}
 use Rattle.cv_kernel_costs.specs.declared.sums.Sums.{Sums}
-use Rattle.cv_sequences_secrets.specs.Sums.{summed_by}
-use Rattle.cv_sequences_secrets.proofs.Sums.{plain}
-use Rattle.cv_query_certificates.specs.Secrets.{AreUnreadChoices, AreUnreadCopies, IsSecret}
-use Rattle.cv_meaning.specs.Correspondences.{Correspondence, correspondence_of}
-use Rattle.cv_scope_rules.specs.Phrases.{IsWellFormed}
-use Rattle.cv_query_form.specs.Rules.{AreAsked, MayBeAsked}
-use Rattle.cv_accept.proofs.Readings.{accepted}
-use Rattle.cv_kernel_closed.specs.Queries.{is_among}
-use Rattle.cv_kernel.specs.Closings.{Closing, closing_failure, closing_in, closing_of_items, is_of_secrecy, is_secret}
-use Rattle.cv_kernel.specs.Proofs.{IsProof, IsTransition, Transition, closed_by, push, start, sum_at, sum_from, sum_of, sums_behind}
-use Rattle.cv.specs.Contexts.{contexts_in}
-use Rattle.cv.specs.Runs.{IsSoundFor}
+use Rattle.cv_kernel.specs.Closings.{Closing, closing_in, closing_of_items, is_of_secrecy}
+use Rattle.cv_kernel.specs.Proofs.{Transition, sum_at, sum_from, sums_behind}
 use Rattle.cv_report_verdicts.specs.Verdicts.{verdict_by, verdicts_by}
-use Rattle.cv_follow.specs.Scripts.{known_to}
-use Rattle.cv.specs.Strategy.{FollowsScript, HoldsUpTo, declared_in, file_in, game_in, steps_in}
-use Rattle.cv.specs.Values.{Contexts, advantage_of, advantages_of, context_of, is_once, secret_of, value_of}
 use Rattle.cv_follow.specs.Walks.{sums_along}
-use Rattle.cv_follow.proofs.Closings.{nothing-more, sum-put}
-use Rattle.cv_follow.proofs.StepKinds.{IsClosure, closure}
-use Rattle.cv_accept_sequences.proofs.Ready.{events_valued, file, file_of, taped, valued as valued_file}
 
 -- the step that closes a query first, and its sum
 

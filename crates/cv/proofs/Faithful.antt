@@ -49,6 +49,7 @@ use Rattle.cv.specs.Strategy.{FollowsScript, Proceeds, declared_in, file_in, gam
 use Rattle.cv.specs.Values.{Contexts, advantage_of, advantages_in, context_of}
 use Rattle.cv_sequences_secrets.specs.Sums.{summed_by}
 use Rattle.cv_sequences_secrets.proofs.Sums.{plain, put}
+use Rattle.cv_rules.proofs.Sound.{sound}
 use Rattle.cv_follow.proofs.StepKinds.{Kind, closure, kind_of, passage, reduction}
 use Rattle.cv_follow.proofs.StepKinds as kind
 use Rattle.cv_accept_sequences.proofs.Ready.{file_of, valued}
@@ -249,8 +250,8 @@ module _ (ds : List Declaration) (own : ℕ) (first : Tree) where
         link_more (ByEquivalence (suc (length before)) e x t.next) r.leads refl r.costs
         (λ y j. there (context_of_game (reduction_of (at game) y x)) (ap (context_by ds own game) q ∙ ap (option_map (λ z. context_of_game (reduction_of (at game) z x))) j))
     link_by (kind.judged j (kind.changes c)) there i =
-        let p = passage (at game) (closed_by before) t.step t.next t.cost c.closing (j.says (at game) (closed_by before) (suc (length before)) t.step _ i.accepted) in
-        link_more (ByStep p.step p.price t.next) p.accepted refl p.costs tt
+        let p = passage (at game) t.next t.cost (closed_by before) t.step c.closing (j.says (at game) (closed_by before) (suc (length before)) t.step _ i.accepted) in
+        link_more (ByStep p.rule.step p.price t.next) (sound p.told p.rule p.ruled, p.accepted) refl p.costs tt
     link_by (kind.judged j (kind.closes k by q)) there i = link_none (record { query = k; certificate = by }) (ap (option_and_then closing_of_items) q) i
 
   -- the games of a proof

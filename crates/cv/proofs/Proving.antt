@@ -1,9 +1,7 @@
 -- A query that a proof closes holds up to its sum.
-use Rattle.std.proofs.Common.{◌≡◌, ℕ, zero, suc, ◌+◌, ◌≤◌, Bool, true, false, not, ◌||◌, ◌==◌, if◌then◌else◌, List, [], ◌∷◌, ◌++◌, length, map, drop, take, append_assoc, refl, ap, ap₂, sym, ◌∙◌, subst, arith, Option, Some, None, option_and_then, Ok, ◌⊎◌, inl, inr}
+use Rattle.std.proofs.Common.{◌≡◌, ℕ, suc, ◌+◌, ◌≤◌, Bool, true, false, if◌then◌else◌, List, [], ◌∷◌, ◌++◌, length, map, drop, take, append_assoc, refl, ap, ap₂, sym, ◌∙◌, subst, arith, Option, Some, None, Ok, inl, inr}
 use Rattle.std.specs.Prelude.{◌↔◌, Contains, slice_get}
-use Rattle.std.specs.List.{AllByRecursion, list_any}
-use Rattle.std.proofs.lemmas.Bool.{both_ways}
-use Rattle.std.proofs.lemmas.Bool.Decides.{nat_tests}
+use Rattle.std.specs.List.{list_any}
 use Rattle.std.proofs.lemmas.List.{take-append-drop}
 use Rattle.cv_syntax_trees.specs.declared.head.Head.TheVariants.{EventsCertificate, Query, Secret, SecretCertificate, SecretOnce}
 use Rattle.cv_syntax_trees.specs.Declarations.{Declaration}
@@ -12,7 +10,7 @@ use Rattle.cv_bound.specs.declared.terms.Term.{Term}
 use Rattle.cv_bound.specs.Sums.{added}
 use Rattle.cv_bound_values.specs.Values.{Advantages, sum_value}
 use Rattle.cv_meaning.specs.Advantage.{IsAsked, chance_of, secrecy, secrecy_query}
-use Rattle.cv_meaning.specs.Chances.{AtMost, Chance, zero_chance}
+use Rattle.cv_meaning.specs.Chances.{AtMost, zero_chance}
 use Rattle.cv_meaning.specs.Experiments.{Breaks, Experiment, Guesses, mode_of}
 use Rattle.cv_meaning.specs.Interpretation.{Interpretation, setting_of}
 use Rattle.cv_meaning.specs.Runs.{Adversary, Random, Real}
@@ -31,15 +29,13 @@ use Rattle.cv_parse_queries.proofs.Closed.{queries_closed}
 use Rattle.cv_parse_terminals.specs.Signs.{signs_of}
 use Rattle.cv_plain.specs.Strategy.{most_pool}
 use Rattle.cv_report.specs.declared.report.Report.{Report}
-use Rattle.cv_report.specs.declared.report.Verdict.TheVariants.{Proved}
 use Rattle.cv_syntax.specs.declared.work.File.{File}
 use Rattle.cv_query_closed.specs.Closed.{HasClosedQueries, IsClosedQuery}
 use Rattle.cv_query_correspondences.specs.Premises.{IsProved}
 use Rattle.cv_scenes.specs.Reductions.{context_of_game}
 use Rattle.cv_scenes.specs.Scenes.{Scene}
 use Rattle.cv_scenes.specs.Sights.{from_one}
-use Rattle.cv_script.specs.Views.{StepItems, items_of_step}
-use Rattle.cv_script.specs.Views as items
+use Rattle.cv_script.specs.Views.{items_of_step}
 use Rattle.cv_derivations_under.specs.Holding.{IsReady}
 use Rattle.cv_derivations_under.specs.Soundness.{DerivationsHold, DerivedBodiesAreUnreached}
 use Rattle.cv_context_answers.specs.Answers.{file_scene}
@@ -65,11 +61,10 @@ use Rattle.cv_query_form.specs.Rules.{AreAsked, MayBeAsked}
 use Rattle.cv_accept.proofs.Readings.{accepted}
 use Rattle.cv.proofs.Closers.{Closes, all-put, closed_at, closing_items, contains_at, first_closing, is-false, none-fails, verdict-at}
 use Rattle.cv_kernel_closed.specs.Queries.{is_among}
-use Rattle.cv_kernel.specs.Closings.{Closing, closing_failure, closing_in, closing_of_items, is_of_secrecy, is_secret}
-use Rattle.cv_kernel.specs.Proofs.{IsProof, IsTransition, Transition, closed_by, push, start, sum_at, sum_from, sum_of, sums_behind}
+use Rattle.cv_kernel.specs.Closings.{Closing, closing_failure, closing_in, is_secret}
+use Rattle.cv_kernel.specs.Proofs.{IsProof, IsTransition, Transition, closed_by, push, start, sum_of, sums_behind}
 use Rattle.cv.specs.Contexts.{contexts_in}
 use Rattle.cv.specs.Runs.{IsSoundFor}
-use Rattle.cv_report_verdicts.specs.Verdicts.{verdict_by, verdicts_by}
 use Rattle.cv_follow.specs.Scripts.{known_to}
 use Rattle.cv.specs.Strategy.{FollowsScript, HoldsUpTo, declared_in, file_in, game_in, steps_in}
 use Rattle.cv.specs.Values.{Contexts, advantage_of, advantages_of, context_of, is_once, secret_of, value_of}

@@ -1,7 +1,7 @@
 -- Proofs with a step more, and why a run doesn't stop at a step behind which it may go on.
 use Rattle.std.proofs.Common.{◌≡◌, ℕ, suc, ◌+◌, ◌≤◌, nat_lt, Bool, true, false, if◌then◌else◌, List, Some, None, inl, inr, refl, ap, sym, subst, ◌∙◌, arith}
 use Rattle.cv_syntax_trees.specs.Tree.{Tree, depth, size}
-use Rattle.cv_kernel.specs.Rules.{HasNoRoom}
+use Rattle.cv_kernel.specs.Answers.{HasNoRoom}
 use Rattle.cv_kernel.specs.Sayings.{Accepted, MaySay, Refused, TooDeep, TooLarge, saying_by, saying_of}
 use Rattle.cv_kernel_costs.specs.Costs.{advantage_of}
 use Rattle.cv_kernel.specs.Sequences.{context_nodes, needed, needed_for}

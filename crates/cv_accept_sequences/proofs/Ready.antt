@@ -44,7 +44,7 @@ use Rattle.cv_derivations_under.specs.Holding.{IsReady}
 use Rattle.cv_derivations_under.specs.Soundness.{DerivationsHold, DerivedBodiesAreUnreached}
 use Rattle.cv_context_answers.specs.Answers.{KnowsConstants, file_scene}
 use Rattle.cv_context_forms.proofs.Files.{left_forms}
-use Rattle.cv_context_queries.specs.Asked.{AskForNoIndex}
+use Rattle.cv_steps.specs.Asked.{AskForNoIndex}
 use Rattle.cv_context_queries.proofs.Asked.{asked_no_index}
 use Rattle.cv_context_terms.specs.Forms.{HasLeftForm}
 use Rattle.cv_context_types.proofs.Files.{tapes_there}

@@ -1,5 +1,5 @@
 // How often a context chooses keys and calls functions: the parameters of the replications above the key's definition, and above
-// the sites. It is proved and not run.
+// the sites.
 #![tactic(auto)]
 
 mod calls;

@@ -14,7 +14,7 @@ use Rattle.cv_scenes.specs.Scenes.{Scene, asks_for}
 use Rattle.cv_scenes.specs.Terms.{has_index}
 use Rattle.cv_context_indices.proofs.Replications.{all_new}
 use Rattle.cv_context_texts.proofs.Names.{index_no_variable}
-use Rattle.cv_context_queries.specs.Asked.{AskForNoIndex}
+use Rattle.cv_steps.specs.Asked.{AskForNoIndex}
 
 secret_valued : (game : Tree) (x : ℕ) (q : Tree) → asks_for x q ≡ true → MayBeAsked game q → HasValues game x
 unfolding MayBeAsked

@@ -1,4 +1,2 @@
 pub mod Asked
-pub mod Indices
-pub mod Renamed
 pub mod Steps

@@ -1,34 +1,33 @@
 -- The cells that stand at a place are assigned where their indices are read in a later store.
-use Rattle.std.proofs.Common.{◌≡◌, ℕ, ◌+◌, ◌-◌, Bool, true, false, cond, nat_lt, List, [], ◌∷◌, ◌++◌, inl, inr, Option, Some, None, is_some, refl, sym, ap, subst, ◌∙◌}
+use Rattle.std.proofs.Common.{◌≡◌, ℕ, ◌+◌, ◌-◌, Bool, true, false, cond, nat_lt, List, [], ◌∷◌, ◌++◌, inl, inr, Option, Some, is_some, refl, sym, ap, subst, ◌∙◌}
 use Rattle.std.proofs.lemmas.Bool.{both_ways}
 use Rattle.std.specs.List.{AllByRecursion}
 use Rattle.cv_syntax_trees.specs.declared.head.Head.{Head}
 use Rattle.cv_syntax_trees.specs.declared.head.Head.TheVariants.{Repl, In, New, Let, Branch, Leaf, Read, Cons, Key, Call}
 use Rattle.cv_syntax_trees.specs.Head.{weight}
-use Rattle.cv_syntax.specs.Layouts.{IsSyntax}
 use Rattle.cv_syntax_trees.specs.Tree.{Tree, Empty, Node, second, size, first_place, second_place}
 use Rattle.cv_meaning.specs.Interpretation.{Setting}
-use Rattle.cv_meaning.specs.Memory.{Indices, Store, tuple}
+use Rattle.cv_meaning.specs.Memory.{Indices, Store}
 use Rattle.cv_meaning.specs.Candidates.{is_assigned}
 use Rattle.cv_meaning.specs.Serving.{Visit}
 use Rattle.cv_meaning_laws.proofs.Lists.{each_append}
 use Rattle.cv_meaning_runs.proofs.Lists.{all_map, left_part, right_part}
 use Rattle.cv_scope_rules.specs.declared.position.Position.{Position}
 use Rattle.cv_scope_rules.specs.declared.position.Position.TheVariants as position
-use Rattle.cv_scope_rules.specs.Context.{Context, cell_of, cells_of, context_at, first_context, first_position, items, known_at, nothing_known, replications_below, second_context, second_position}
+use Rattle.cv_scope_rules.specs.Context.{Context, cell_of, cells_of, context_at, first_context, first_position, items, nothing_known, second_context, second_position}
 use Rattle.cv_scope_rules.specs.Sites.{Variable}
 use Rattle.cv_scope_rules.specs.Made.{made_by}
 use Rattle.cv_scope_runs.specs.Promises.{AreIndicesOf, IsDefinition, after_site, definitions_in, definitions_of}
 use Rattle.cv_scope_runs.specs.Reads.{IsKept}
-use Rattle.cv_scope_runs.proofs.Contexts.{CellHolds, Matches}
+use Rattle.cv_scope_runs.proofs.Contexts.{CellHolds}
 use Rattle.cv_scope_runs.proofs.Games.{Game}
 use Rattle.cv_scope_runs.proofs.PathRuns.{SiteHolds}
 use Rattle.cv_scope_runs.proofs.ServeRuns.{VisitHolds}
 use Rattle.cv_scope_runs.proofs.Standing.{stands_definition, stands_known}
 use Rattle.cv_scope_runs.proofs.TermsLater.{store_extends, values_kept}
 use Rattle.cv_scope_rules.specs.Behind.{behind_site, sites_in, sites_of}
-use Rattle.cv_scope_rules.specs.Above.{first_standing, second_standing, standing_at, stands_at, with_failed, with_held}
-use Rattle.cv_derivations_under.specs.Reached.{CellsBetween, PlaceCellsBetween, SiteCellsBetween}
+use Rattle.cv_scope_rules.specs.Above.{first_standing, second_standing, standing_at, with_failed, with_held}
+use Rattle.cv_derivations_under.specs.Reached.{PlaceCellsBetween, SiteCellsBetween}
 
 -- what is true of the cells that are known is true of those that stand
 

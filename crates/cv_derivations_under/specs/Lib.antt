@@ -3,3 +3,4 @@ pub mod Truth
 pub mod Holding
 pub mod Unreached
 pub mod Soundness
+pub mod Steps

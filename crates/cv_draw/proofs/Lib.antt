@@ -1,3 +1,5 @@
+pub mod Drawn
 pub mod Extents
+pub mod Laying
 pub mod Lists
-pub mod Room
+pub mod Stacks

@@ -1,2 +1,4 @@
 pub mod Changes
 pub mod Dropping
+pub mod Parts
+pub mod Plans

@@ -37,15 +37,16 @@ use Rattle.cv_steps_crypto.specs.Steps as outcome
 use Rattle.cv_kernel_crypto.specs.Applied as crypto
 use Rattle.cv_kernel.specs.Closings.{Closing, closing_failure, closing_in, closing_of_items, judgement_by_closing, judgement_in, judgement_of_failure, is_of_secrecy}
 use Rattle.cv_kernel.specs.Proofs.{IsProof, IsTransition, Transition, closed_by, game_behind, nodes_along, push, shape_at, shape_by, start, sums_behind, sum_of}
-use Rattle.cv_kernel.specs.Rules.{IsDrawn}
+use Rattle.cv_kernel.specs.Answers.{IsDrawn}
 use Rattle.cv_kernel.specs.Sayings.{Accepted, IsSaid, MaySay, saying_by, saying_of}
 use Rattle.cv_kernel_costs.specs.Costs.{advantage_of}
 use Rattle.cv_kernel_costs.specs.Sums.{no_sums, sum_for, with_cost}
 use Rattle.cv_kernel_costs.specs.declared.sums.Sums.{Sums}
 use Rattle.cv_steps.specs.Costs.{cost_of}
 use Rattle.cv_kernel.specs.Sequences as kernel
-use Rattle.cv_kernel.specs.Sequences.{IsPushed, needed, needed_by, needed_for}
-use Rattle.cv_kernel.specs.Steps.{judgement_at, step_of_items}
+use Rattle.cv_kernel.specs.Rules.{needed_by, rule_of_items}
+use Rattle.cv_kernel.specs.Sequences.{IsPushed, needed, needed_for}
+use Rattle.cv_kernel.specs.Steps.{judgement_at}
 use Rattle.cv_script.specs.Views.{StepItems, items_of_step}
 use Rattle.cv_script.specs.Views as items
 use Rattle.cv_plain.specs.Strategy.{most_pool}
@@ -417,8 +418,8 @@ module _ (fn now : Work) (first : Tree) (script : List Step) (below : All (IsBel
 
 -- an accepted step has the room that it needs; one that closes a query needs none
 
-closing_needs : (game : Tree) (o : Option StepItems) (k : ℕ) (by : Tree) → o ≡ Some (items.Success k by) → needed_by game (option_and_then step_of_items o) ≡ 0
-closing_needs game o k by e = ap (λ i. needed_by game (option_and_then step_of_items i)) e
+closing_needs : (game : Tree) (o : Option StepItems) (k : ℕ) (by : Tree) → o ≡ Some (items.Success k by) → needed_by game (option_and_then rule_of_items o) ≡ 0
+closing_needs game o k by e = ap (λ i. needed_by game (option_and_then rule_of_items i)) e
 
 room_by : (pool : PoolView) (decls : DeclsView) (trees : List KindTree) (s t : Sequence) (step : Tree) (u : Unit {0}) → Kind (items_of_step step) → kernel.IsStepAnswer pool decls trees s t step (items_of_step step) (Ok u) → length trees ≤ length pool.trees + needed_for (scene_of pool decls s.game.root) step (kernel.game_in trees t) (items_of_step step) → length pool.trees ≤ pool.limit
     → length trees ≤ pool.limit

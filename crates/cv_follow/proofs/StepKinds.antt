@@ -15,18 +15,19 @@ use Rattle.cv_script.specs.Views as items
 use Rattle.cv_steps.specs.Costs.{cost_of}
 use Rattle.cv_steps.specs.Judgements.{Judgement, judgement_of}
 use Rattle.cv_steps.specs.Judgements as judgement
-use Rattle.cv_steps.specs.Steps.{Cost, Step}
+use Rattle.cv_steps.specs.Steps.{Cost}
 use Rattle.cv_steps_crypto.specs.Steps.{IsOutcome, Outcome}
 use Rattle.cv_steps_crypto.specs.Steps as outcome
 use Rattle.cv_kernel.specs.declared.error.PushError.{PushError}
 use Rattle.cv_kernel.specs.declared.sequence.Sequence.{Sequence}
 use Rattle.cv_kernel.specs.Closings.{Closing, closing_failure, closing_in, closing_of_items, judgement_by_closing, judgement_in, judgement_of_failure}
 use Rattle.cv_kernel.specs.Proofs.{shape_by}
-use Rattle.cv_kernel.specs.Rules.{HasNoRoom}
+use Rattle.cv_kernel.specs.Answers.{HasNoRoom}
+use Rattle.cv_kernel.specs.Rules.{Rule, rule_in, rule_of_items}
 use Rattle.cv_kernel.specs.Sayings.{Accepted, MaySay, Saying, saying_by, saying_of}
 use Rattle.cv_kernel_costs.specs.Costs.{advantage_of}
 use Rattle.cv_kernel.specs.Sequences.{IsPushAnswer, IsStepAnswer, game_in, needed, needed_for}
-use Rattle.cv_kernel.specs.Steps.{judgement_by, step_in}
+use Rattle.cv_kernel.specs.Steps.{judgement_by}
 use Rattle.cv_plain.specs.Strategy.{most_pool}
 use Rattle.cv_follow.specs.Scripts.{LacksRoomFor}
 
@@ -43,7 +44,7 @@ pub record IsJudged (o : Option StepItems) : Type 0 where
 pub record IsChange (o : Option StepItems) : Type 0 where
   pub closing : option_and_then closing_of_items o ≡ None
   pub answers : (pool : PoolView) (decls : DeclsView) (trees : List KindTree) (old new : Sequence) (step : Tree) (r : Result (Unit {0}) PushError) → IsStepAnswer pool decls trees old new step o r
-      → IsPushAnswer pool.limit (length pool.trees) (needed (game_in pool.trees old) step) (judgement_by (scene_of pool decls old.game.root) (step_in step)) trees old new r
+      → IsPushAnswer pool.limit (length pool.trees) (needed (game_in pool.trees old) step) (judgement_by (scene_of pool decls old.game.root) (rule_in step)) trees old new r
 
 pub data Way (o : Option StepItems) : Type 0 where
   closes : (k : ℕ) (by : Tree) → o ≡ Some (items.Success k by) → Way o
@@ -78,26 +79,33 @@ reduction_by s n e x next cost (outcome.TooDeep d) h i = absurd (cc)
 pub reduction : (s : Scene) (ks : List ℕ) (n e x : ℕ) (t next : Tree) (cost : SumCost) → MaySay s ks n t (Some (items.Crypto e x)) (Accepted next cost) → IsReduction s n e x next cost
 reduction s ks n e x t next cost h = reduction_by s n e x next cost h.0 h.1 h.2
 
--- of a step that changes the game
-pub record IsPassage (s : Scene) (t next : Tree) (cost : SumCost) : Type 0 where
-  pub step : Step
+-- of a step that changes the game: its items have a rule
+pub record IsPassage (s : Scene) (next : Tree) (cost : SumCost) : Type 0 where
+  pub told : StepItems
+  pub rule : Rule
+  pub ruled : rule_of_items told ≡ Some rule
   pub price : Cost
-  pub accepted : judgement_of s step ≡ judgement.Accepted next price
+  pub accepted : judgement_of s rule.step ≡ judgement.Accepted next price
   pub costs : cost ≡ cost_of price
 
-passage_at : (s : Scene) (t next : Tree) (cost : SumCost) (x : Step) (j : Judgement) → judgement_of s x ≡ j → Accepted next cost ≡ saying_of j → IsPassage s t next cost
-passage_at s t next cost x (judgement.Accepted g c) e i =
-    record { step = x; price = c; accepted = e ∙ (let j : g ≡ next = cc in ap (λ m. judgement.Accepted m c) j); costs = cc }
-passage_at s t next cost x (judgement.Refused c p) e i = absurd (cc)
-passage_at s t next cost x (judgement.TooLarge m) e i = absurd (cc)
-passage_at s t next cost x (judgement.TooDeep d) e i = absurd (cc)
+module _ (s : Scene) (next : Tree) (cost : SumCost) where
+  passage_at : (i : StepItems) (r : Rule) → rule_of_items i ≡ Some r → (j : Judgement) → judgement_of s r.step ≡ j → Accepted next cost ≡ saying_of j → IsPassage s next cost
+  passage_at i r u (judgement.Accepted g c) e w =
+      record { told = i; rule = r; ruled = u; price = c; accepted = e ∙ (let j : g ≡ next = cc in ap (λ m. judgement.Accepted m c) j); costs = cc }
+  passage_at i r u (judgement.Refused c p) e w = absurd (cc)
+  passage_at i r u (judgement.TooLarge m) e w = absurd (cc)
+  passage_at i r u (judgement.TooDeep d) e w = absurd (cc)
 
-passage_by : (s : Scene) (t next : Tree) (cost : SumCost) (o : Option Step) → Accepted next cost ≡ saying_of (judgement_by s o) → IsPassage s t next cost
-passage_by s t next cost None i = absurd (cc)
-passage_by s t next cost (Some x) i = passage_at s t next cost x (judgement_of s x) refl i
+  passage_by : (i : StepItems) (o : Option Rule) → rule_of_items i ≡ o → Accepted next cost ≡ saying_of (judgement_by s o) → IsPassage s next cost
+  passage_by i None u w = absurd (cc)
+  passage_by i (Some r) u w = passage_at i r u (judgement_of s r.step) refl w
 
-pub passage : (s : Scene) (ks : List ℕ) (t next : Tree) (cost : SumCost) → closing_in t ≡ None → Accepted next cost ≡ saying_of (judgement_in s ks t) → IsPassage s t next cost
-passage s ks t next cost n i = passage_by s t next cost (step_in t) (i ∙ ap (λ c. saying_of (judgement_by_closing s ks t c)) n)
+  passage_of : (o : Option StepItems) → Accepted next cost ≡ saying_of (judgement_by s (option_and_then rule_of_items o)) → IsPassage s next cost
+  passage_of None w = absurd (cc)
+  passage_of (Some i) w = passage_by i (rule_of_items i) refl w
+
+  pub passage : (ks : List ℕ) (t : Tree) → closing_in t ≡ None → Accepted next cost ≡ saying_of (judgement_in s ks t) → IsPassage s next cost
+  passage ks t n w = passage_of (items_of_step t) (w ∙ ap (λ c. saying_of (judgement_by_closing s ks t c)) n)
 
 -- of a step that closes a query: the game stays, and it costs nothing
 pub record IsClosure (s : Scene) (o : Option Failure) (next : Tree) (cost : SumCost) : Type 0 where

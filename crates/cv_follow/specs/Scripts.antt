@@ -7,7 +7,7 @@ use Rattle.cv_context_products.specs.Shapes.{Shape}
 use Rattle.cv_context_products.specs.ShapesInCode.{shape_in}
 use Rattle.cv_kernel.specs.Closings.{closing_in, judgement_in}
 use Rattle.cv_kernel.specs.Proofs.{IsProof, Transition, closed_by, game_behind, nodes_along, sum_of}
-use Rattle.cv_kernel.specs.Rules.{HasNoRoom}
+use Rattle.cv_kernel.specs.Answers.{HasNoRoom}
 use Rattle.cv_kernel.specs.Sayings.{IsSaid, Refused, TooDeep, TooLarge}
 use Rattle.cv_kernel.specs.Sequences.{needed}
 use Rattle.cv_kernel_crypto.specs.Applied as crypto

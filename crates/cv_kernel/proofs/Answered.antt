@@ -1,5 +1,5 @@
 -- What is answered of a step that closes a query.
-use Rattle.std.proofs.Common.{◌≡◌, ℕ, ◌<◌, ◌≤◌, ◌^◌, Bool, true, false, if◌then◌else◌, List, refl, ap, sym, ◌∙◌, subst, arith, Option, Some, None}
+use Rattle.std.proofs.Common.{◌≡◌, ℕ, ◌<◌, Bool, true, false, if◌then◌else◌, List, refl, ap, sym, ◌∙◌, Option, Some, None}
 use Rattle.std.specs.Prelude.{IfSome, option_and_then, option_map}
 use Rattle.cv_pool.specs.declared.node.NodeId.{NodeId}
 use Rattle.cv_pool.specs.Nodes.{ChildBelow}
@@ -12,10 +12,8 @@ use Rattle.cv_kernel_closed.specs.Queries.{is_among}
 use Rattle.cv_script.specs.Views.{StepItems}
 use Rattle.cv_script.specs.Views as items
 use Rattle.cv_kernel.specs.declared.reducing.Reducing.{Reducing}
-use Rattle.cv_kernel.specs.Closings.{Closing, closing_failure, closing_in, closing_of_items}
+use Rattle.cv_kernel.specs.Closings.{Closing, closing_failure, closing_of_items}
 use Rattle.cv_kernel.specs.Reducings.{reducing_of_items}
-use Rattle.cv_syntax_limits.specs.Limits.{nodes_of}
-use Rattle.cv_kernel.proofs.Steps.{certificate_nodes}
 
 -- a query that is closed fails, and of another one its certificate counts
 
@@ -43,17 +41,10 @@ pub answer-of : (s t : Scene) (ks : List ℕ) (c : Closing) (b : Bool) (q : Opti
 answer-of s t ks c b q f e i h n m =
     open-fails s ks c b n m ∙ (ap (λ o. first_failure s o c.certificate) (sym i) ∙ (ap (λ x. first_failure x q c.certificate) (sym e) ∙ sym h))
 
--- what a step closes, by what is computed of it
+-- nothing comes of nothing
 
-pub closes_none : {A : Type 0} (f : A → Closing) (o : Option A) (c : Option Closing) → option_map f o ≡ c → o ≡ None → c ≡ None
-closes_none f o c e n = sym e ∙ ap (option_map f) n
-
-certificate_short : (t : Tree) (o : Option Closing) (c : Closing) → IfSome o (λ x. nodes_of x.certificate ≤ nodes_of t) → Some c ≡ o → nodes_of t < 2 ^ 31 → nodes_of c.certificate < 2 ^ 31
-certificate_short t None c h e l = absurd (cc)
-certificate_short t (Some x) c h e l = let g : x ≡ c = cc in subst (λ y. nodes_of y.certificate < 2 ^ 31) g (omega (arith, h))
-
-pub closing_short : (t : Tree) (c : Closing) → Some c ≡ closing_in t → nodes_of t < 2 ^ 31 → nodes_of c.certificate < 2 ^ 31
-closing_short t c e l = certificate_short t (closing_in t) c (certificate_nodes t) e l
+pub none_mapped : {A B : Type 0} (f : A → B) (o : Option A) (q : Option B) → option_map f o ≡ q → o ≡ None → q ≡ None
+none_mapped f o q e n = sym e ∙ ap (option_map f) n
 
 -- no step both closes a query and is a cryptographic one
 pub closes_or_reduces : (o : Option StepItems) (c : Closing) (q : Reducing) → Some c ≡ option_and_then closing_of_items o → option_and_then reducing_of_items o ≡ Some q → ⊥

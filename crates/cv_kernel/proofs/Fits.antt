@@ -1,11 +1,5 @@
 -- Changed parts of games can be measured.
-use Rattle.std.proofs.Common.{◌≡◌, ℕ, ◌+◌, ◌<◌, ◌≤◌, ◌^◌, List, Option, Some, None, refl, arith}
-use Rattle.cv_pool.specs.declared.node.NodeId.{NodeId}
-use Rattle.cv_pool.specs.KindTree.{KindTree}
-use Rattle.cv_rule.specs.declared.rules.Rule.{Rule}
-use Rattle.cv_rule.specs.declared.rules.Rule.TheVariants as code
-use Rattle.cv_rule.specs.Stated.{IsLiveRule, IsLiveTerm}
-use Rattle.cv_kernel.specs.Rules.{IsShortRule, IsShortTerm}
+use Rattle.std.proofs.Common.{◌≡◌, ℕ, ◌+◌, ◌<◌, ◌≤◌, ◌^◌, Option, Some, None, refl, arith}
 use Rattle.cv_syntax_trees.specs.Tree.{Tree, Empty, size, subtree}
 use Rattle.cv_steps.specs.Changes.{split_process, after_let, after_new}
 use Rattle.cv_scenes.specs.Scenes.{or_empty, part_at}
@@ -35,18 +29,3 @@ module _ (t : Tree) (p : ℕ) (small : size t ≤ 50000) where
 
   pub replace_fits : (m : Tree) → size m < 2 ^ 31 → size t + size m < 2 ^ 32
   replace_fits m l = omega arith
-
--- a rule whose term is short is a live one
-
-live_term : (trees : List KindTree) (m : NodeId) → IsShortTerm trees m → IsLiveTerm trees m
-live_term trees m h = (h.0, omega (arith, h.1))
-
-pub live_rule : (trees : List KindTree) (rule : Rule) → IsShortRule trees rule → IsLiveRule trees rule
-live_rule trees (code.Split p m) h = live_term trees m h
-live_rule trees (code.Let p x T m) h = live_term trees m h
-live_rule trees (code.New p x T) h = tt
-live_rule trees (code.Unnew x) h = tt
-live_rule trees (code.Rename x y) h = tt
-live_rule trees (code.Unlet x) h = tt
-live_rule trees (code.Rewrite p m by) h = (live_term trees m h.0, h.1)
-live_rule trees (code.Prune p body by) h = h

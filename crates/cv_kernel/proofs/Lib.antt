@@ -1,13 +1,12 @@
 pub mod Answered
 pub mod Countable
 mod Nodes
-mod Pruned
-mod Unlet
+mod Planned
 mod Settled
 pub mod Answers
 pub mod Fits
+mod Steps
 mod StepAnswers
 pub mod Pushes
 mod Reduced
-pub mod Steps
 pub mod Drawn

@@ -1,7 +1,7 @@
 -- The answer of a step, by the kind of step that it is.
-use Rattle.std.proofs.Common.{◌≡◌, ℕ, ◌+◌, ◌<◌, ◌≤◌, List, length, take, Option, Some, None, Result, Ok, Err, refl, subst, sym, arith}
+use Rattle.std.proofs.Common.{◌≡◌, ℕ, ◌+◌, ◌<◌, ◌≤◌, List, length, take, Option, Some, None, Result, Ok, Err, refl, ap, subst, sym, ◌∙◌, arith}
 use Rattle.std.proofs.lemmas.List.{take_all}
-use Rattle.std.specs.Prelude.{IsErrAnd, OnOk, option_and_then}
+use Rattle.std.specs.Prelude.{IfSome, IsErrAnd, OnOk, option_and_then}
 use Rattle.cv_pool.specs.KindTree.{KindTree}
 use Rattle.cv_pool.specs.PoolView.{PoolView}
 use Rattle.cv_syntax.specs.Classes.{DeclsView}
@@ -19,11 +19,25 @@ use Rattle.cv_kernel.specs.declared.sequence.Sequence.{Sequence}
 use Rattle.cv_kernel.specs.Closings.{Closing, closing_failure, closing_in, closing_of_items}
 use Rattle.cv_kernel.specs.Reducings.{reducing_in, reducing_of_items}
 use Rattle.cv_kernel.specs.Sequences.{IsCloseAnswer, IsPushAnswer, IsPushed, IsReduceAnswer, IsReduced, IsStepAnswer, game_in, needed, needed_for}
-use Rattle.cv_kernel.specs.Steps.{judgement_by, step_in}
+use Rattle.cv_kernel.specs.Rules.{rule_in}
+use Rattle.cv_kernel.specs.Steps.{AreShort, IsShort, judgement_by}
+use Rattle.cv_kernel.proofs.Steps.{short_items}
 
 -- the names that are there
 pub names_kept : (names : List (List ℕ)) → take (length names) names ≡ names
 names_kept names = take_all (length names) names (omega arith)
+
+-- what a step is, by its items
+
+module _ (t : Tree) (i : StepItems) (is : Some i ≡ items_of_step t) where
+  pub by_items : {A : Type 0} (f : StepItems → Option A) (o : Option A) → o ≡ f i → o ≡ option_and_then f (items_of_step t)
+  by_items f o e = e ∙ ap (option_and_then f) is
+
+  pub short_by : IsShort t → AreShort i
+  short_by l = subst (λ o. IfSome o AreShort) (sym is) (short_items t l)
+
+pub nothing_in : {A : Type 0} (f : StepItems → Option A) (t : Tree) → items_of_step t ≡ None → option_and_then f (items_of_step t) ≡ None
+nothing_in f t e = ap (option_and_then f) e
 
 -- no kind of step is answered that there are too many
 never_steps : (pool : PoolView) (decls : DeclsView) (trees : List KindTree) (old new : Sequence) (step : Tree) (o : Option StepItems) → IsStepAnswer pool decls trees old new step o (Err push.Steps) → ⊥
@@ -72,7 +86,7 @@ module _ (pool : PoolView) (decls : DeclsView) (trees : List KindTree) (old new 
     -- a step with a rule, and one of no kind
 
     abbrev ByRule : Type 0
-    ByRule = IsPushAnswer pool.limit (length pool.trees) (needed here.game step) (judgement_by here (step_in step)) trees old new r
+    ByRule = IsPushAnswer pool.limit (length pool.trees) (needed here.game step) (judgement_by here (rule_in step)) trees old new r
 
     by_rule : (o : Option StepItems) → option_and_then closing_of_items o ≡ None → option_and_then reducing_of_items o ≡ None → ByRule → IsStepAnswer pool decls trees old new step o r
     by_rule None n m w = w

@@ -1,5 +1,6 @@
-pub mod Steps
 pub mod Rules
+pub mod Steps
+pub mod Answers
 pub mod Closings
 pub mod Sayings
 pub mod ClosingTrees

@@ -13,9 +13,9 @@ use Rattle.cv_query_certificates.specs.Failures.{Failure}
 use Rattle.cv_rule_scenes.specs.Kept.{scene_of}
 use Rattle.cv_rule.specs.Prepared.{IsPrepared}
 use Rattle.cv_steps.specs.Costs.{cost_of}
-use Rattle.cv_steps.specs.Judgements.{Judgement, Refused, TooLarge, TooDeep, Accepted, judgement_of}
+use Rattle.cv_steps.specs.Judgements.{Judgement, Refused, TooLarge, TooDeep, Accepted}
 use Rattle.cv_syntax_limits.specs.Limits.{most_nodes, nodes_of}
-use Rattle.cv_steps.specs.Steps.{Step, Cost}
+use Rattle.cv_steps.specs.Steps.{Cost}
 use Rattle.cv_kernel_closed.specs.Queries.{numbers_of}
 use Rattle.cv_context_products.specs.Shapes.{shape_of}
 use Rattle.cv_context_products.specs.ShapesInCode.{shape_in}
@@ -32,8 +32,9 @@ use Rattle.cv_kernel_crypto.specs.declared.fault.CryptoFault.TheVariants as cryp
 use Rattle.cv_kernel.specs.Closings.{Closing, closing_failure, is_of_secrecy}
 use Rattle.cv_kernel_costs.specs.Costs.{advantage_of}
 use Rattle.cv_kernel_costs.specs.Sums.{SumsFit, sum_for, with_cost}
-use Rattle.cv_kernel.specs.Rules.{HasNoRoom, need_of}
-use Rattle.cv_kernel.specs.Steps.{judgement_by, step_in}
+use Rattle.cv_kernel.specs.Answers.{HasNoRoom}
+use Rattle.cv_kernel.specs.Rules.{Rule, needed_by, rule_in}
+use Rattle.cv_kernel.specs.Steps.{judgement_by}
 use Rattle.cv_kernel.specs.declared.error.PushError.{PushError}
 use Rattle.cv_kernel.specs.declared.error.PushError.TheVariants as push
 use Rattle.cv_kernel.specs.declared.error.RuleError.{RuleError}
@@ -74,12 +75,8 @@ pub record Same (old new : Sequence) : Type 0 where
 
 -- how many nodes a step may add: one with a rule what the rule draws, and a cryptographic one its context and its next game
 
-abbrev pub needed_by : Tree → Option Step → ℕ
-needed_by game None = 0
-needed_by game (Some step) = need_of game step
-
 abbrev pub needed : (game step : Tree) → ℕ
-needed game step = needed_by game (step_in step)
+needed game step = needed_by game (rule_in step)
 
 -- the nodes of the context of a step, where there is one
 abbrev pub context_nodes : Scene → (x : ℕ) → Option Tree → ℕ
@@ -111,9 +108,9 @@ IsPushAnswer limit live need j trees old new (Err (push.Build (build.Depth depth
 IsPushAnswer limit live need j trees old new (Err (push.Build (build.Full asked))) = HasNoRoom limit live need j asked
 IsPushAnswer limit live need j trees old new (Err (push.Build build.OutOfMemory)) = Unit {0}
 
-abbrev pub IsAdvanced : PoolView → DeclsView → List KindTree → (old new : Sequence) → Step → Result (Unit {0}) PushError → Type 0
-IsAdvanced pool decls trees old new step r =
-    IsPushAnswer pool.limit (length pool.trees) (need_of (game_in pool.trees old) step) (judgement_of (scene_of pool decls old.game.root) step) trees old new r
+abbrev pub IsAdvanced : PoolView → DeclsView → List KindTree → (old new : Sequence) → Option Rule → Result (Unit {0}) PushError → Type 0
+IsAdvanced pool decls trees old new o r =
+    IsPushAnswer pool.limit (length pool.trees) (needed_by (game_in pool.trees old) o) (judgement_by (scene_of pool decls old.game.root) o) trees old new r
 
 -- a query is closed up to the sum of the steps before, that of a query of its kind, and the game stays
 pub record IsClosing (c : Closing) (old new : Sequence) : Type 0 where
@@ -160,7 +157,7 @@ IsStepAnswer pool decls trees old new step (Some (items.Success k certificate)) 
 IsStepAnswer pool decls trees old new step (Some (items.Crypto e x)) r =
     IsReduceAnswer pool.limit (length pool.trees) (scene_of pool decls old.game.root) e x trees old new r
 IsStepAnswer pool decls trees old new step other r =
-    IsPushAnswer pool.limit (length pool.trees) (needed (game_in pool.trees old) step) (judgement_by (scene_of pool decls old.game.root) (step_in step)) trees old new r
+    IsPushAnswer pool.limit (length pool.trees) (needed (game_in pool.trees old) step) (judgement_by (scene_of pool decls old.game.root) (rule_in step)) trees old new r
 
 -- as many steps were taken as a proof may have, or the step was answered
 abbrev pub IsPushed : PoolView → DeclsView → List KindTree → (old new : Sequence) → (step : Tree) → Result (Unit {0}) PushError → Type 0

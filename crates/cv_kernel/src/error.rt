@@ -1,5 +1,5 @@
+use cv_draw::Failure;
 use cv_kernel_crypto::CryptoFault;
-use cv_rule::Failure;
 use cv_syntax::BuildError;
 use std::alloc::AllocError;
 

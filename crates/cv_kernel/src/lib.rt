@@ -3,15 +3,14 @@
 
 mod applying;
 mod closing;
-mod drawing;
+mod elementary;
 mod error;
-mod reading;
+mod planning;
 mod reducing;
+mod rooms;
 mod sequence;
 
-pub use applying::apply;
 pub use closing::{Closing, closing_of};
 pub use cv_kernel_games::Next;
 pub use error::{PushError, Refusal, RuleError};
-pub use reading::rule_of;
 pub use sequence::Sequence;

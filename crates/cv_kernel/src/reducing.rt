@@ -1,9 +1,9 @@
-ghost use Rattle.std.specs.Prelude.{◌≡◌, ◌<◌, Some, length};
-ghost use Rattle.cv_syntax.specs.PoolTrees.{tree_at};
-ghost use Rattle.cv_kernel.specs.Reducings.{reducing_in};
+ghost use Rattle.std.specs.Prelude.{◌≡◌, List};
+ghost use Rattle.cv_pool.specs.KindTree.{KindTree};
+ghost use Rattle.cv_script.specs.Views.{items_of_view};
+ghost use Rattle.cv_kernel.specs.Reducings.{reducing_of_items};
 
-use cv_script::{Step, StepView, view};
-use cv_syntax::Pool;
+use cv_script::StepView;
 
 /// An equivalence, and the variable that stands for its key, by their names.
 #[derive(Clone, Copy)]
@@ -12,12 +12,11 @@ pub struct Reducing {
     pub key: u32,
 }
 
-/// The equivalence and the key of a cryptographic step, where it is one.
-pub fn reducing_of(pool: &Pool, step: Step) -> Option<Reducing>
-    requires { step.0.0 < length pool.now.trees }
-    ensures { result ≡ reducing_in (tree_at pool.now.trees (Some step.0)) }
+/// The equivalence and the key of a cryptographic step by its items, where it is one.
+pub(crate) fn reducing_by(view: StepView) -> Option<Reducing>
+    ensures { (trees : List KindTree) → result ≡ reducing_of_items (items_of_view trees view) }
 {
-    match view(pool, step)? {
+    match view {
         StepView::Crypto { equiv, x } => Some(Reducing {
             equivalence: equiv.0,
             key: x.0,

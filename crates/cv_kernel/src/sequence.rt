@@ -2,55 +2,41 @@ ghost use Rattle.std.specs.Prelude.{◌≡◌, ◌+◌, ◌<◌, ◌≤◌, ◌^
 ghost use Rattle.cv_pool.specs.PoolView.{Grows};
 ghost use Rattle.cv_syntax.specs.PoolTrees.{tree_at};
 ghost use Rattle.cv_directory.specs.Live.{IsLive};
-ghost use Rattle.cv_rule.specs.Stated.{step_of};
 ghost use Rattle.cv_pool.specs.Nodes.{ChildBelow};
 ghost use Rattle.cv_rule_scenes.specs.Kept.{scene_of};
-ghost use Rattle.cv_script.specs.Views.{items_of_step};
+ghost use Rattle.cv_script.specs.Views.{AreLive, items_of_step, items_of_view};
 ghost use Rattle.cv_kernel_costs.specs.Sums.{no_sums};
 ghost use Rattle.cv_kernel_crypto.specs.Applied.{DrawsNext, HasEquivalences};
 ghost use Rattle.cv_kernel_closed.specs.Queries.{numbers_of};
 ghost use Rattle.cv_kernel.specs.ClosingTrees.{closing_tree};
 ghost use Rattle.cv_kernel.specs.Closings.{closing_failure};
 ghost use Rattle.cv_kernel.specs.Reducings.{reducing_in};
-ghost use Rattle.cv_kernel.specs.Rules.{IsShortRule, need_of};
+ghost use Rattle.cv_kernel.specs.Rules.{needed_by, rule_of_items};
 ghost use Rattle.cv_kernel.specs.Sequences.{IsAdvanced, IsCloseAnswer, IsPushed, IsReady, IsReduceAnswer, Same, Stands, game_in, needed_for};
-ghost use Rattle.cv_kernel.specs.Steps.{narrow, step_in};
+ghost use Rattle.cv_kernel.specs.Steps.{AreShort};
 ghost use Rattle.cv_syntax_limits.specs.Limits.{nodes_of};
 
 use crate::applying::attempt;
-use crate::closing::{Closing, closing_of, is_secret};
+use crate::closing::{Closing, closing_by, is_secret};
 use crate::error::{PushError, Refusal};
-use crate::reading::rule_of;
-use crate::reducing::{Reducing, reducing_of};
+use crate::reducing::{Reducing, reducing_by};
 use cv_bound::Cost;
 use cv_context_products::Shape;
 use cv_directory::Directory;
 use cv_kernel_closed::ClosedQueries;
 use cv_kernel_costs::{Sums, advantage};
-use cv_kernel_crypto::{apply, shape_at};
+use cv_kernel_crypto::{Basis, apply, plan};
 use cv_kernel_games::{Next, settle};
 use cv_query_built::query_numbered;
 use cv_query_check::check;
 use cv_query_entries::View;
-use cv_rule::Rule;
-use cv_script::{Step, view};
-use cv_syntax::{Game, Pool, Work};
+use cv_script::{Step, StepView, view};
+use cv_syntax::{Game, Work};
 use cv_typing::Arrays;
 use std::alloc::{AllocError, Global};
 
 /// The most steps of a proof.
 const MOST_STEPS: u32 = 2_000;
-
-/// The rule of a step, where it has one.
-fn rule_in(pool: &Pool, step: Step) -> Option<Rule>
-    requires live { step.0.0 < length pool.now.trees }
-    requires short { nodes_of (tree_at pool.now.trees (Some step.0)) < 2 ^ 31 }
-    ensures rule { option_map (step_of pool.now.trees) result
-        ≡ option_map narrow (step_in (tree_at pool.now.trees (Some step.0))) }
-    ensures short { IfSome result (IsShortRule pool.now.trees) }
-{
-    rule_of(view(pool, step)?)
-}
 
 /// A step that fails a condition at no place.
 fn refused(condition: u32) -> PushError
@@ -149,27 +135,27 @@ impl Sequence {
     }
 
     /// Goes to the next game of a step; where there is none, nodes may stay behind.
-    fn advance(&mut self, alloc: Global, work: &mut Work, rule: Rule) -> Result<(), PushError>
+    fn advance(&mut self, alloc: Global, work: &mut Work, view: StepView) -> Result<(), PushError>
         requires ready { IsReady work.old.pool.trees self.old }
         requires stands { Stands work.old.pool.trees work.old.decls self.old }
         requires declared { All (IsLive (length work.old.pool.trees)) work.old.decls.list }
-        requires rule { IsShortRule work.old.pool.trees rule }
-        requires few { length work.old.pool.trees + 4 < 2 ^ 32 }
+        requires live { AreLive (length work.old.pool.trees) view }
+        requires short { AreShort (items_of_view work.old.pool.trees view) }
         requires limit { work.old.pool.limit < 4294967295 }
         requires steps { self.old.steps < 2000 }
         ensures advanced { IsAdvanced work.old.pool work.old.decls work.new.pool.trees self.old
-            self.new (step_of work.old.pool.trees rule) result }
+            self.new (rule_of_items (items_of_view work.old.pool.trees view)) result }
         ensures stands { OnOk result (Stands work.new.pool.trees work.new.decls self.new) }
         ensures same { OnErr result (self.new ≡ self.old) }
         ensures grows { Grows work.old.pool work.new.pool }
-        ensures few { OnOk result (length work.new.pool.trees ≤ length work.old.pool.trees + need_of
-            (tree_at work.old.pool.trees (Some self.old.game.root))
-            (step_of work.old.pool.trees rule)) }
+        ensures few { OnOk result (length work.new.pool.trees ≤ length work.old.pool.trees
+            + needed_by (tree_at work.old.pool.trees (Some self.old.game.root))
+            (rule_of_items (items_of_view work.old.pool.trees view))) }
         ensures names { work.new.names ≡ work.old.names }
         ensures decls { work.new.decls ≡ work.old.decls }
     {
         let arrays = self.arrays.as_ref().unwrap();
-        let next = attempt(alloc, work, self.game.root, arrays, rule)?;
+        let next = attempt(alloc, work, self.game.root, arrays, view)?;
         let sum = self.sum.with_cost(&next.cost)?;
         self.sum = sum;
         self.game = next.game;
@@ -250,15 +236,17 @@ impl Sequence {
         self.prepare(alloc, work)?;
         let arrays = self.arrays.as_ref().unwrap();
         let Reducing { equivalence, key } = reducing;
-        let context = shape_at(alloc, work, self.game.root, arrays, equivalence, key)?;
+        let root = self.game.root;
+        let basis = plan(alloc, work, root, arrays, equivalence, key)?;
+        let Basis { instances, shape } = basis;
         let step = self.steps + 1;
         let sum = self.sum.with_cost(&advantage(step, equivalence))?;
-        let next = apply(alloc, work, self.game.root, equivalence, key, step)?;
+        let next = apply(alloc, work, root, equivalence, key, &instances, step)?;
         let Next { game, arrays, cost } = next;
         self.game = game;
         self.arrays = Some(arrays);
         self.cost = Some(cost);
-        self.context = Some(context);
+        self.context = Some(shape);
         self.sum = sum;
         self.steps = step;
         Ok(())
@@ -298,18 +286,18 @@ impl Sequence {
         if self.steps >= MOST_STEPS {
             return Err(PushError::Steps);
         }
-        if let Some(closing) = closing_of(&work.pool, step) {
-            return self.close(alloc, work, closing);
-        }
-        if let Some(reducing) = reducing_of(&work.pool, step) {
-            return self.reduce(alloc, work, reducing);
-        }
-        let Some(rule) = rule_in(&work.pool, step) else {
+        let Some(items) = view(&work.pool, step) else {
             return Err(refused(0));
         };
+        if let Some(closing) = closing_by(items) {
+            return self.close(alloc, work, closing);
+        }
+        if let Some(reducing) = reducing_by(items) {
+            return self.reduce(alloc, work, reducing);
+        }
         self.prepare(alloc, work)?;
         let before = work.pool.mark();
-        let outcome = self.advance(alloc, work, rule);
+        let outcome = self.advance(alloc, work, items);
         settle(&mut work.pool, before, outcome)
     }
 }

@@ -1,5 +1,6 @@
 -- The first condition of a step that fails, by what is found of its equivalence and of its key.
-use Rattle.std.proofs.Common.{◌≡◌, ℕ, Bool, true, false, ◌||◌, ◌==◌, if◌then◌else◌, List, [], ◌∷◌, map, Option, Some, None, option_map, refl, ap, sym, ◌∙◌}
+use Rattle.std.proofs.Common.{◌≡◌, ℕ, Bool, true, false, ◌||◌, ◌==◌, if◌then◌else◌, List, [], ◌∷◌, map, Option, Some, None, option_map, Result, Ok, Err, refl, ap, subst, sym, ◌∙◌}
+use Rattle.std.specs.Prelude.{IfErr, IsErrAnd}
 use Rattle.cv_pool.specs.KindTree.{KindTree}
 use Rattle.cv_pool.specs.PoolView.{PoolView}
 use Rattle.cv_pool.specs.declared.node.NodeId.{NodeId}
@@ -18,6 +19,7 @@ use Rattle.cv_match.specs.declared.fault.MatchFault.{MatchFault}
 use Rattle.cv_match.specs.declared.fault.MatchFault.TheVariants as match
 use Rattle.cv_match.specs.Matched.{IsFault}
 use Rattle.cv_steps_crypto.specs.Conditions.{Failure, equivalence_by, equivalence_of, failed, failure_by, failure_of, failure_with}
+use Rattle.cv_kernel_crypto.specs.declared.fault.CryptoFault.{CryptoFault}
 use Rattle.cv_kernel_crypto.specs.Faults.{IsRefused, fault_of}
 
 abbrev at_node : List KindTree → NodeId → Tree
@@ -71,3 +73,8 @@ refused_by r (match.InCondition p) h = ap (option_map failure_by) h
 refused_by r (match.CoinUse p) h = ap (option_map failure_by) h
 refused_by r (match.KeyInArgument p) h = ap (option_map failure_by) h
 refused_by r match.OutOfMemory h = tt
+
+-- a fault that was passed on
+pub refused_through : {T : Type 0} (r : Result T CryptoFault) (f : CryptoFault) (o : Option Failure) → IsErrAnd r (λ y. y ≡ f) → IsRefused o f → IfErr r (IsRefused o)
+refused_through (Ok x) f o i h = absurd i
+refused_through (Err y) f o i h = subst (IsRefused o) (sym i) h

@@ -18,16 +18,8 @@ use Rattle.cv_syntax_limits.specs.Limits.{nodes_of, told}
 use Rattle.cv_kernel_crypto.specs.declared.fault.CryptoFault.{CryptoFault}
 use Rattle.cv_kernel_crypto.specs.declared.fault.CryptoFault.TheVariants as crypto
 use Rattle.cv_kernel_crypto.specs.Applied.{IsContext, IsDrawn, IsFaultOf}
-use Rattle.cv_kernel_crypto.specs.Faults.{IsRefused, of_pool}
+use Rattle.cv_kernel_crypto.specs.Faults.{of_pool}
 use Rattle.cv_kernel_crypto.specs.Stages.{IsBuilt}
-
--- the first condition that fails
-pub not_met : (limit live : ℕ) (s : Scene) (e x : ℕ) (f : CryptoFault) → IsRefused (failure_of s e x) f → IsFaultOf limit live s e x f
-not_met limit live s e x (crypto.Refused f) h = subst (λ o. IsOutcomeBy s (equivalence_of s e) x o (Refused f.condition f.place)) (sym h) refl
-not_met limit live s e x (crypto.Build (build.Nodes n)) h = absurd h
-not_met limit live s e x (crypto.Build (build.Depth n)) h = absurd h
-not_met limit live s e x (crypto.Build (build.Full n)) h = absurd h
-not_met limit live s e x (crypto.Build build.OutOfMemory) h = tt
 
 -- a fault that was passed on
 pub built_through : (limit live : ℕ) (s : Scene) (e x : ℕ) (trees : List KindTree) (r : Result NodeId CryptoFault) (f : CryptoFault) → IsErrAnd r (λ y. y ≡ f) → IsFaultOf limit live s e x f → IsBuilt limit live s e x trees r

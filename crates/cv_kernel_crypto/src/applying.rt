@@ -11,13 +11,13 @@ ghost use Rattle.cv_typing_rules.specs.Signature.{OfGame};
 ghost use Rattle.cv_typing.specs.Tables.{arrays_of, directory_in};
 ghost use Rattle.cv_scope_rules.specs.Phrases.{IsWellFormed};
 ghost use Rattle.cv_rule_scenes.specs.Kept.{scene_of};
-ghost use Rattle.cv_kernel_crypto.specs.Applied.{DrawsNext, HasEquivalences, IsAnswer, IsFew};
+ghost use Rattle.cv_kernel_crypto.specs.Applied.{DrawsNext, IsAnswer, IsFew};
 ghost use Rattle.cv_kernel_crypto.specs.Stages.{AreInstances, AreTakenNames, IsBuilt, IsMet};
 
 use crate::contexts::context_for;
 use crate::fault::CryptoFault;
 use crate::inlining::inlining_for;
-use crate::instances::{Instances, instances_for};
+use crate::instances::Instances;
 use crate::naming::names_for;
 use crate::room::{check_room, room_behind};
 use crate::testing::tested;
@@ -91,6 +91,7 @@ fn attempt(
     game: NodeId,
     equivalence: u32,
     key: u32,
+    found: &Instances,
     step: u32,
 ) -> Result<Next, CryptoFault>
     requires live { game.0 < length work.old.pool.trees }
@@ -98,7 +99,10 @@ fn attempt(
     requires formed { IsWellFormed (declarations work.old.pool.trees work.old.decls.list)
         (tree_at work.old.pool.trees (Some game)) }
     requires declared { All (IsLive (length work.old.pool.trees)) work.old.decls.list }
-    requires equivalences { HasEquivalences (scene_of work.old.pool work.old.decls game) }
+    requires found { AreInstances work.old.pool.trees
+        (scene_of work.old.pool work.old.decls game) game key found.now }
+    requires met { IsMet work.old.pool.trees (scene_of work.old.pool work.old.decls game)
+        equivalence key found.now }
     ensures answer { IsAnswer work.old.pool.limit (length work.old.pool.trees)
         (scene_of work.old.pool work.old.decls game) equivalence key step work.new.pool.trees
         result }
@@ -121,21 +125,22 @@ fn attempt(
     ensures names { take (length work.old.names) work.new.names ≡ work.old.names }
     ensures decls { work.new.decls ≡ work.old.decls }
 {
-    let found = instances_for(alloc, work, game, equivalence, key)?;
     let taken = names_for(alloc, work, game)?;
-    let root = build(alloc, work, game, key, &found, taken.as_slice())?;
+    let root = build(alloc, work, game, key, found, taken.as_slice())?;
     tested(alloc, work, root, advantage(step, equivalence))
 }
 
-/// Applies a cryptographic step in a game of a file: for the equivalence of this name, where the variable of the other name stands
-/// for its key. Its conditions are tested first; then its context is made, names are drawn, the next game is measured and made,
-/// and tested last. The step costs the advantage of its context. Where it isn't accepted, pool and names are as before.
+/// Applies a cryptographic step in a game of a file, for the equivalence of this name with the sites that were found, where the
+/// variable of the other name stands for its key: its conditions hold up to those of the next game. Its context is made, names are
+/// drawn, the next game is measured and made, and tested last. The step costs the advantage of its context. Where it isn't accepted,
+/// pool and names are as before.
 pub fn apply(
     alloc: Global,
     work: &mut Work,
     game: NodeId,
     equivalence: u32,
     key: u32,
+    found: &Instances,
     step: u32,
 ) -> Result<Next, CryptoFault>
     requires live { game.0 < length work.old.pool.trees }
@@ -143,7 +148,10 @@ pub fn apply(
     requires formed { IsWellFormed (declarations work.old.pool.trees work.old.decls.list)
         (tree_at work.old.pool.trees (Some game)) }
     requires declared { All (IsLive (length work.old.pool.trees)) work.old.decls.list }
-    requires equivalences { HasEquivalences (scene_of work.old.pool work.old.decls game) }
+    requires found { AreInstances work.old.pool.trees
+        (scene_of work.old.pool work.old.decls game) game key found.now }
+    requires met { IsMet work.old.pool.trees (scene_of work.old.pool work.old.decls game)
+        equivalence key found.now }
     ensures answer { IsAnswer work.old.pool.limit (length work.old.pool.trees)
         (scene_of work.old.pool work.old.decls game) equivalence key step work.new.pool.trees
         result }
@@ -170,7 +178,7 @@ pub fn apply(
 {
     let nodes = work.pool.mark();
     let names = work.names.len();
-    let outcome = attempt(alloc, work, game, equivalence, key, step);
+    let outcome = attempt(alloc, work, game, equivalence, key, found, step);
     settle_names(&mut work.names, names, &outcome);
     settle(&mut work.pool, nodes, outcome)
 }

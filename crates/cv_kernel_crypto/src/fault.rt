@@ -57,6 +57,24 @@ impl From<PoolError> for CryptoFault {
     }
 }
 
+impl From<MatchFault> for CryptoFault {
+    ghost use Rattle.std.specs.Prelude.{◌≡◌};
+    ghost use Rattle.cv_kernel_crypto.specs.Faults.{fault_of};
+
+    ghost from_gives = { λ fault e. e ≡ fault_of fault };
+
+    fn from(fault: MatchFault) -> CryptoFault {
+        match fault {
+            MatchFault::NotOneSite => refused(1, 0),
+            MatchFault::Use(place) => refused(2, place),
+            MatchFault::InCondition(place) => refused(3, place),
+            MatchFault::CoinUse(place) => refused(4, place),
+            MatchFault::KeyInArgument(place) => refused(5, place),
+            MatchFault::OutOfMemory => CryptoFault::Build(BuildError::OutOfMemory),
+        }
+    }
+}
+
 /// A condition that fails at a place.
 pub(crate) fn refused(condition: u32, place: u32) -> CryptoFault
     ensures { result ≡ CryptoFault.Refused (record { condition = condition; place = place }) }

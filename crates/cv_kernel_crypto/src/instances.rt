@@ -1,39 +1,58 @@
-ghost use Rattle.std.specs.Prelude.{◌≡◌, ◌<◌, ◌^◌, All, IfErr, IfOk, Some, length};
+ghost use Rattle.std.specs.Prelude.{◌≡◌, ◌<◌, ◌^◌, ◌||◌, All, IfErr, IfOk, Some, length};
 ghost use Rattle.cv_syntax_trees.specs.Tree.{size};
 ghost use Rattle.cv_syntax.specs.PoolTrees.{tree_at};
 ghost use Rattle.cv_directory.specs.Live.{IsLive};
+ghost use Rattle.cv_directory_sorts.specs.Sites.{sites_of};
+ghost use Rattle.cv_typing_rules.specs.Signature.{OfGame};
+ghost use Rattle.cv_typing.specs.Tables.{arrays_of};
 ghost use Rattle.cv_rule_scenes.specs.Kept.{scene_of};
+ghost use Rattle.cv_scenes.specs.Scenes as scenes;
 ghost use Rattle.cv_steps_crypto.specs.Conditions.{failure_of};
 ghost use Rattle.cv_kernel_crypto.specs.Applied.{HasEquivalences};
 ghost use Rattle.cv_kernel_crypto.specs.Faults.{IsRefused};
 ghost use Rattle.cv_kernel_crypto.specs.Stages.{AreInstances, IsMet};
 
-use crate::conditions::sites_for;
 use crate::fault::{CryptoFault, refused};
 use crate::naming::FIRST_ANSWER;
+use cv_match::matches;
 use cv_match_patterns::Site;
+use cv_rule_scenes::names;
 use cv_syntax::children::room_left;
-use cv_syntax::{BuildError, NameId, NodeId, Work};
+use cv_syntax::{BuildError, Game, NameId, NodeId, Work};
+use cv_typing::Arrays;
 use std::alloc::Global;
 
 /// The equivalence of a step, by its node, with its sites in a game.
 #[derive(Drop)]
-pub(crate) struct Instances {
+pub struct Instances {
     pub(crate) tree: NodeId,
     pub(crate) sites: Vec<Site>,
 }
 
-/// The equivalence of a step with its sites in a game; or the first condition that fails. An equivalence with
-/// more nodes than there are names below the answers is told as want of memory, and so are as many sites.
+/// Whether the file or the game has a name.
+fn is_there(work: &Work, game: NodeId, x: u32) -> bool
+    requires { game.0 < length work.now.pool.trees }
+    ensures { result ≡ ((scene_of work.now.pool work.now.decls game).known x
+        || scenes.names x (scene_of work.now.pool work.now.decls game).game) }
+{
+    x < work.decls.own() || names(&work.pool, x, Some(game))
+}
+
+/// The equivalence of a step with its sites in a game with these variables, by the names of the equivalence and of the variable
+/// for its key; or the first condition that fails. An equivalence with more nodes than there are names below the answers is told
+/// as want of memory, and so are as many sites.
 pub(crate) fn instances_for(
     alloc: Global,
     work: &Work,
     game: NodeId,
+    arrays: &Arrays,
     equivalence: u32,
     key: u32,
 ) -> Result<Instances, CryptoFault>
     requires live { game.0 < length work.now.pool.trees }
     requires fits { size (tree_at work.now.pool.trees (Some game)) < 2 ^ 32 }
+    requires arrays { arrays_of arrays.now
+        ≡ OfGame (sites_of (tree_at work.now.pool.trees (Some game))) }
     requires declared { All (IsLive (length work.now.pool.trees)) work.now.decls.list }
     requires equivalences { HasEquivalences (scene_of work.now.pool work.now.decls game) }
     ensures fault { IfErr result (IsRefused (failure_of
@@ -43,13 +62,17 @@ pub(crate) fn instances_for(
     ensures met { IfOk result (IsMet work.now.pool.trees
         (scene_of work.now.pool work.now.decls game) equivalence key) }
 {
-    let Some(tree) = work.decls.equiv(NameId(equivalence)) else {
+    let name = NameId(equivalence);
+    let Some(tree) = work.decls.equiv(name) else {
         return Err(refused(0, 0));
     };
     let Some(_) = room_left(&work.pool, Some(tree), FIRST_ANSWER) else {
         return Err(CryptoFault::Build(BuildError::OutOfMemory));
     };
-    let found = sites_for(alloc, work, game, equivalence, key)?;
+    if !is_there(work, game, key) {
+        return Err(refused(0, 0));
+    }
+    let found = matches(alloc, work, Game { root: game }, arrays, name, NameId(key))?;
     if found.sites.len() >= FIRST_ANSWER as usize {
         return Err(CryptoFault::Build(BuildError::OutOfMemory));
     }

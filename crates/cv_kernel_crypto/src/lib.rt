@@ -2,18 +2,17 @@
 #![tactic(auto)]
 
 mod applying;
-mod conditions;
 mod contexts;
 mod fault;
 mod inlining;
 mod instances;
 mod naming;
+mod planning;
 mod room;
-mod shapes;
 mod sorts;
 mod testing;
 
 pub use applying::apply;
-pub use conditions::sites_for;
 pub use fault::{CryptoFault, Failure};
-pub use shapes::shape_at;
+pub use instances::Instances;
+pub use planning::{Basis, plan};

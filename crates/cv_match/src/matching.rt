@@ -3,6 +3,9 @@ ghost use Rattle.cv_syntax.specs.Classes.{equiv_in};
 ghost use Rattle.cv_syntax_trees.specs.Tree.{size};
 ghost use Rattle.cv_syntax.specs.PoolTrees.{tree_at};
 ghost use Rattle.cv_directory.specs.Live.{IsLive};
+ghost use Rattle.cv_directory_sorts.specs.Sites as directory;
+ghost use Rattle.cv_typing_rules.specs.Signature.{OfGame};
+ghost use Rattle.cv_typing.specs.Tables.{arrays_of};
 ghost use Rattle.cv_scenes.specs.Refusals.{first_refusal};
 ghost use Rattle.cv_scenes.specs.Sites.{sites_of};
 ghost use Rattle.cv_match_patterns.specs.Searches.{IsReady};
@@ -16,7 +19,6 @@ use crate::arguments::argument_use;
 use crate::coins::coin_use;
 use crate::fault::MatchFault;
 use crate::key::has_key;
-use cv_directory::Directory;
 use cv_match_heads::Heads;
 use cv_match_patterns::{Search, Site};
 use cv_match_reads::condition_use;
@@ -37,29 +39,31 @@ pub struct Match {
     pub sites: Vec<Site>,
 }
 
-/// What is looked for in a game for an equivalence and a key.
-fn search_for(
+/// What is looked for in a game with these variables, for an equivalence and a key.
+fn search_for<'a>(
     alloc: Global,
     work: &Work,
     game: Game,
+    arrays: &'a Arrays,
     equiv: NameId,
     x: NameId,
-) -> Result<Search, AllocError>
+) -> Result<Search<'a>, AllocError>
     requires live { game.root.0 < length work.now.pool.trees }
     requires fits { size (tree_at work.now.pool.trees (Some game.root)) < 2 ^ 32 }
     requires declared { All (IsLive (length work.now.pool.trees)) work.now.decls.list }
+    requires arrays { arrays_of arrays.now
+        ≡ OfGame (directory.sites_of (tree_at work.now.pool.trees (Some game.root))) }
     ensures ready { IfOk result (IsReady work.now.pool) }
     ensures matching { IfOk result (λ s. matching_by work.now.pool work.now.decls s
         ≡ matching_of work.now.pool work.now.decls game.root equiv.0 x.0) }
 {
-    let directory = Directory::of(alloc, &work.pool, &work.decls, game.root)?;
     let side = first_of(&work.pool, work.decls.equiv(equiv));
     let heads = Heads::of(alloc, &work.pool, second_of(&work.pool, side))?;
     Ok(Search {
         game: game.root,
         side,
         key: x.0,
-        arrays: Arrays::OfGame(directory),
+        arrays,
         heads,
         above: HashMap::new(alloc),
     })
@@ -119,12 +123,13 @@ fn check_sites(
     Ok(())
 }
 
-/// The sites of an equivalence's left side in a game, where a variable of the game stands for the key; or the first reason why
-/// it has none that serve.
+/// The sites of an equivalence's left side in a game with these variables, where one of them stands for the key; or the first
+/// reason why it has none that serve.
 pub fn matches(
     alloc: Global,
     work: &Work,
     game: Game,
+    arrays: &Arrays,
     equiv: NameId,
     x: NameId,
 ) -> Result<Match, MatchFault>
@@ -133,6 +138,8 @@ pub fn matches(
     requires declared { All (IsLive (length work.now.pool.trees)) work.now.decls.list }
     requires short { size (tree_at work.now.pool.trees
         (equiv_in work.now.decls.list equiv.0)) < 2 ^ 32 }
+    requires arrays { arrays_of arrays.now
+        ≡ OfGame (directory.sites_of (tree_at work.now.pool.trees (Some game.root))) }
     ensures none { OnOk result (first_refusal
         (matching_of work.now.pool work.now.decls game.root equiv.0 x.0) ≡ None) }
     ensures sites { IfOk result (λ found. map (site_in work.now.pool.trees
@@ -147,7 +154,7 @@ pub fn matches(
     ensures fault { IfErr result (IsFault (first_refusal
         (matching_of work.now.pool work.now.decls game.root equiv.0 x.0))) }
 {
-    let search = search_for(alloc, work, game, equiv, x)?;
+    let search = search_for(alloc, work, game, arrays, equiv, x)?;
     let table = UseTable::of(alloc, &work.pool, game.root)?;
     check_key(work, &search, &table)?;
     let sites = sites(alloc, work, &search)?;

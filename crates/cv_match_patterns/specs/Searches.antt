@@ -27,7 +27,7 @@ pub record IsReady (pool : PoolView) (s : Search) : Type 0 where
   pub game : s.game.0 < length pool.trees
   pub fits : size (tree_at pool.trees (Some s.game)) < 2 ^ 32
   pub side : ChildBelow (length pool.trees) s.side
-  pub arrays : arrays_of s.arrays ≡ OfGame (sites_of (tree_at pool.trees (Some s.game)))
+  pub arrays : arrays_of s.arrays.now ≡ OfGame (sites_of (tree_at pool.trees (Some s.game)))
   pub above : above_of s.above ≡ nothing_above
   pub heads : AreHeadsOf (group_of (tree_at pool.trees s.side)).functions s.heads
 

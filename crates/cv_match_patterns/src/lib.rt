@@ -1,5 +1,5 @@
 // The functions of an equivalence's left side: their names, what stands for these in a term of a game, and whether the term is a
-// function's body with that, and whether that is of the right types. It is proved and not run: no step asks for it yet.
+// function's body with that, and whether that is of the right types.
 #![tactic(auto)]
 
 mod filling;

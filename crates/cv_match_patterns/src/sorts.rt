@@ -45,7 +45,7 @@ fn is_argument(work: &Work, search: &Search, t: u32, term: Option<NodeId>) -> bo
     ensures { result ≡ may_be_argument (signature_by work.now.pool work.now.decls search.now) t
         (tree_at work.now.pool.trees term) }
 {
-    let sort = sort_of_term(&work.pool, &work.decls, &search.arrays, &search.above, term);
+    let sort = sort_of_term(&work.pool, &work.decls, search.arrays, &search.above, term);
     is_of_type(sort, t)
 }
 

@@ -1,5 +1,5 @@
 // Where a term or a condition of a game reads a variable, whether it is a variable's cell, and whether a game uses a variable as
-// often as a function uses a coin. It is proved and not run: no step asks for it yet.
+// often as a function uses a coin.
 #![tactic(auto)]
 
 mod arguments;

@@ -1,5 +1,4 @@
-// The instances of an equivalence's left side in a game, and reads of the key outside them. It is proved and not run: no step asks
-// for it yet.
+// The instances of an equivalence's left side in a game, and reads of the key outside them.
 #![tactic(auto)]
 
 mod calls;

@@ -35,11 +35,11 @@ pub all_expected : {A : Type 0} (xs : List A) → AllByRecursion (λ x. Unit {0}
 all_expected [] = tt
 all_expected (x ∷ xs) = (tt, all_expected xs)
 
-agree_refl : (t : Tape) (cs : List Cell) → AgreeAt cs t t
+pub agree_refl : (t : Tape) (cs : List Cell) → AgreeAt cs t t
 agree_refl t [] = tt
 agree_refl t (c ∷ cs) = (refl, agree_refl t cs)
 
-in_order_flat : {A : Type 0} {B C : Type 0} (R : B → C → Type 0) (f : A → List B) (h : A → List C) → ((x : A) → InOrder R (f x) (h x)) → (xs : List A) → InOrder R (flat_map f xs) (flat_map h xs)
+pub in_order_flat : {A : Type 0} {B C : Type 0} (R : B → C → Type 0) (f : A → List B) (h : A → List C) → ((x : A) → InOrder R (f x) (h x)) → (xs : List A) → InOrder R (flat_map f xs) (flat_map h xs)
 in_order_flat R f h k [] = tt
 in_order_flat R f h k (x ∷ xs) = in_order_append R (f x) _ (h x) _ (k x) (in_order_flat R f h k xs)
 
@@ -60,7 +60,7 @@ module _ (xs : ℕ → Bool) where
   opened_same g (Node (In c) a b) p q at e = (record { channel = refl; indices = refl; binders = refl; dropped = same e }, tt)
   opened_same g (Node h a b) p q at e = tt
 
-  nothing_opened : (g : Setting) (h : Head) (a b : Tree) (p : ℕ) (at : Indices) → defines xs h ≡ true → inputs_of g (Node h a b) p at ≡ []
+  pub nothing_opened : (g : Setting) (h : Head) (a b : Tree) (p : ℕ) (at : Indices) → defines xs h ≡ true → inputs_of g (Node h a b) p at ≡ []
   unfolding inputs_of
   nothing_opened g (New x T) a b p at e = refl
   nothing_opened g (Let x T) a b p at e = refl
@@ -102,24 +102,24 @@ module _ (xs : ℕ → Bool) where
       abbrev s : Local
       s = record { indices = at; memory = n }
 
-      stored : (x y : Store) → AgreeOn (λ z. not (xs z)) x y → Off (record m { store = x }) (record n { store = y })
+      pub stored : (x y : Store) → AgreeOn (λ z. not (xs z)) x y → Off (record m { store = x }) (record n { store = y })
       stored x y e = record { store = e; events = o.events; arrays = o.arrays }
 
-      assigned : (x v w : ℕ) → v ≡ w → Off (with_value r x v).memory (with_value s x w).memory
+      pub assigned : (x v w : ℕ) → v ≡ w → Off (with_value r x v).memory (with_value s x w).memory
       assigned x v w e =
           stored _ _ (λ y u f. put_agrees (λ z. not (xs z)) m.store n.store o.store x (tuple at) v y u f ∙ ap (λ d. put n.store x (tuple at) d y u) e)
 
-      aside : (x v : ℕ) → xs x ≡ true → Off (with_value r x v).memory n
+      pub aside : (x v : ℕ) → xs x ≡ true → Off (with_value r x v).memory n
       aside x v e = record { store = put_aside xs m.store n.store o.store x (tuple at) v e; events = o.events; arrays = o.arrays }
 
-      bound : (bs : Tree) (vs ws : List ℕ) → vs ≡ ws → Off (with_bound r bs vs).memory (with_bound s bs ws).memory
+      pub bound : (bs : Tree) (vs ws : List ℕ) → vs ≡ ws → Off (with_bound r bs vs).memory (with_bound s bs ws).memory
       bound bs vs ws e =
           stored _ _ (λ y u f. bound_agrees (λ z. not (xs z)) m.store n.store o.store (tuple at) bs vs y u f ∙ ap (λ d. bound_to n.store (tuple at) bs d y u) e)
 
-      happened : (e : ℕ) (vs ws : List ℕ) → vs ≡ ws → Off (with_event r e vs).memory (with_event s e ws).memory
+      pub happened : (e : ℕ) (vs ws : List ℕ) → vs ≡ ws → Off (with_event r e vs).memory (with_event s e ws).memory
       happened e vs ws f = record { store = o.store; events = λ i. o.events i ++ (let d : Happened = record { event = e; values = f i } in d) ∷ []; arrays = o.arrays }
 
-      answered : (x : ℕ) (v w : OracleAnswer) → v ≡ w → Off (with_answer r x v).memory (with_answer s x w).memory
+      pub answered : (x : ℕ) (v w : OracleAnswer) → v ≡ w → Off (with_answer r x v).memory (with_answer s x w).memory
       answered x v w e = record {
         store = λ y u f. put_agrees (λ z. not (xs z)) m.store n.store o.store x (tuple at) v.value y u f ∙ ap (λ (d : OracleAnswer). put n.store x (tuple at) d.value y u) e;
         events = o.events;
@@ -167,7 +167,7 @@ module _ (xs : ℕ → Bool) where
       keys (Node (Read x) a b) e = values_same g at xs m.store n.store o.store a (first_reads xs (Read x) a b e)
       keys a e = refl
 
-      calls : (l : ℕ) (a : Tree) → reads_none xs a ≡ true → oracle_call g r l a ≡ oracle_call g s l a
+      pub calls : (l : ℕ) (a : Tree) → reads_none xs a ≡ true → oracle_call g r l a ≡ oracle_call g s l a
       calls l a e =
           let key : key_tuple g r (first a) ≡ key_tuple g s (first a) = keys (first a) (first_part xs a e) in
           let arguments : values g at m.store (second a) ≡ values g at n.store (second a) = values_same g at xs m.store n.store o.store (second a) (second_part xs a e) in

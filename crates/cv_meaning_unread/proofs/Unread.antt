@@ -81,7 +81,7 @@ module _ (g : Setting) (at : Indices) (xs : ℕ → Bool) where
       ap₂ (λ (x y : Bool). elim x [ true ↦ y | false ↦ false ]) (assigned_same m n o p r s a (first_reads xs h a b e)) (all_assigned_same m n o p r s b (second_reads xs h a b e))
 
   -- the same list and condition make the same candidate
-  candidate_same : (m o : Store) → Agree m o → (u : List ℕ) (k : ℕ) (b c : Tree) → first b ≡ first c → first (second b) ≡ first (second c) → first (second (second b)) ≡ first (second (second c))
+  pub candidate_same : (m o : Store) → Agree m o → (u : List ℕ) (k : ℕ) (b c : Tree) → first b ≡ first c → first (second b) ≡ first (second c) → first (second (second b)) ≡ first (second (second c))
       → reads_none xs (first (second c)) ≡ true → reads_none xs (first (second (second c))) ≡ true → candidate g at m u k b ≡ candidate g at o u k c
   candidate_same m o r u k b c x y z e f =
       let n : Store = bound_to m (tuple at) (first c) u in
@@ -100,12 +100,12 @@ module _ (g : Setting) (at : Indices) (xs : ℕ → Bool) where
       ])
       (all_assigned_same m n o p r s (first (second c)) e) (ap is_one (value_same n p s (first (second (second c))) f))
 
-  record SameBranches (m o : Store) (a c : Tree) : Type 0 where
-    offers : (u : List ℕ) (k : ℕ) → candidates_at g at m u k a ≡ candidates_at g at o u k c
-    most : most_indices a ≡ most_indices c
-    wide : widest g.interpretation.parameter_value a ≡ widest g.interpretation.parameter_value c
+  pub record SameBranches (m o : Store) (a c : Tree) : Type 0 where
+    pub offers : (u : List ℕ) (k : ℕ) → candidates_at g at m u k a ≡ candidates_at g at o u k c
+    pub most : most_indices a ≡ most_indices c
+    pub wide : widest g.interpretation.parameter_value a ≡ widest g.interpretation.parameter_value c
 
-  more_branches : (m o : Store) (h : Head) (b c more rest : Tree) → first b ≡ first c → ((u : List ℕ) (k : ℕ) → candidate g at m u k b ≡ candidate g at o u k c) → SameBranches m o more rest → SameBranches m o (Node h b more) (Node h c rest)
+  pub more_branches : (m o : Store) (h : Head) (b c more rest : Tree) → first b ≡ first c → ((u : List ℕ) (k : ℕ) → candidate g at m u k b ≡ candidate g at o u k c) → SameBranches m o more rest → SameBranches m o (Node h b more) (Node h c rest)
   unfolding candidates_at
   more_branches m o h b c more rest x e r = record {
     offers = λ u k. ap₂ ◌++◌ (e u k) (r.offers u (suc k));
@@ -113,10 +113,10 @@ module _ (g : Setting) (at : Indices) (xs : ℕ → Bool) where
     wide = ap₂ (λ bs n. max (widest_binder g.interpretation.parameter_value bs) n) x r.wide;
   }
 
-  one_branch : (m o : Store) → Agree m o → (b : Tree) → reads_none xs b ≡ true → (u : List ℕ) (k : ℕ) → candidate g at m u k b ≡ candidate g at o u k b
+  pub one_branch : (m o : Store) → Agree m o → (b : Tree) → reads_none xs b ≡ true → (u : List ℕ) (k : ℕ) → candidate g at m u k b ≡ candidate g at o u k b
   one_branch m o r b e u k = candidate_same m o r u k b b refl refl refl (first_part xs (second b) (second_part xs b e)) (first_part xs (second (second b)) (second_part xs (second b) (second_part xs b e)))
 
-  same_branches : (m o : Store) → Agree m o → (a : Tree) → reads_none xs a ≡ true → SameBranches m o a a
+  pub same_branches : (m o : Store) → Agree m o → (a : Tree) → reads_none xs a ≡ true → SameBranches m o a a
   unfolding candidates_at
   same_branches m o r Empty e = record { offers = λ u k. refl; most = refl; wide = refl }
   same_branches m o r (Node h b more) e =
@@ -130,9 +130,11 @@ module _ (g : Setting) (at : Indices) (xs : ℕ → Bool) where
       more_branches m o Cons left right more rest refl (λ u k. candidate_same m o r u k left right refl refl refl f h) (branches_same m o r more rest z)
   branches_same m o r a c (in_later_branch {a = b} {b = x} {c = y} e z) = more_branches m o Cons b b x y refl (one_branch m o r b e) (branches_same m o r x y z)
 
-  pub candidates_same : (m o : Store) → Agree m o → (a c : Tree) → IsDropped xs Branches a c → candidates g at m a ≡ candidates g at o c
+  pub same_candidates : (m o : Store) (a c : Tree) → SameBranches m o a c → candidates g at m a ≡ candidates g at o c
   unfolding candidates
-  candidates_same m o r a c x =
-      let s = branches_same m o r a c x in
+  same_candidates m o a c s =
       ap₂ (λ d n. flat_map (λ u. candidates_at g at m u 0 a) (tuples_up_to d n)) s.most s.wide
       ∙ ap (λ f. flat_map f (tuples_up_to (most_indices c) (widest g.interpretation.parameter_value c))) (fun_ext (λ u. s.offers u 0))
+
+  pub candidates_same : (m o : Store) → Agree m o → (a c : Tree) → IsDropped xs Branches a c → candidates g at m a ≡ candidates g at o c
+  candidates_same m o r a c x = same_candidates m o a c (branches_same m o r a c x)

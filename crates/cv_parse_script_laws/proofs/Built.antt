@@ -14,7 +14,7 @@ use Rattle.cv_parse_script.specs.Scripts.{script_of}
 use Rattle.cv_parse_script_laws.proofs.Agreement.{sorts_pass, sort_spelled_back, spells_same}
 use Rattle.cv_parse_script_laws.proofs.Deciding.{agree, closed, takes}
 use Rattle.cv_parse_script_laws.proofs.Fitting.{deep_rule, is_deep}
-use Rattle.cv_script_rows.specs.Rows.{built_script_row, script_row, script_rows}
+use Rattle.cv_script_rows.specs.Rows.{built_script_row, script_row, script_rows, steps_with_a_rule}
 use Rattle.cv_parse_script_laws.proofs.Reading.{row_is_read}
 use Rattle.cv_parse_script_laws.proofs.Texts.{nowhere}
 
@@ -64,7 +64,7 @@ module _ (low : TableSort → Relation Role Tree) (none : (ts : List Sign) (t : 
 abbrev pub step_rows : ℕ → TreesForm
 step_rows r = form script_rows 149 r
 
-pub built_is : table_rule script_rows (Row built_script_row) ≡ script (one_of step_rows 129 10)
+pub built_is : table_rule script_rows (Row built_script_row) ≡ script (one_of step_rows 129 steps_with_a_rule)
 built_is = refl
 
 pub script_is : table_rule script_rows (Row script_row) ≡ script (one_of step_rows 129 19)
@@ -76,7 +76,7 @@ whole limit live from signs steps e =
     let r = row_is_read built_script_row refl refl limit live from signs steps e in
     let low = IsSort (table_heads script_rows) deep_rule levels in
     let b = subst (λ f. Spells (table_heads script_rows) true low f signs r.script r.uses []) built_is r.spelled in
-    let a = a_script low (nowhere levels) (one_of step_rows 129 10) (one_of step_rows 129 19) (more_rows low (nowhere levels) step_rows 129 10 19 (omega arith)) signs r.script r.uses [] b in
+    let a = a_script low (nowhere levels) (one_of step_rows 129 steps_with_a_rule) (one_of step_rows 129 19) (more_rows low (nowhere levels) step_rows 129 steps_with_a_rule 19 (omega arith)) signs r.script r.uses [] b in
     let d = subst (λ f. Spells (table_heads script_rows) true low f signs r.script r.uses []) (sym script_is) a in
     let s = spells_same (table_heads script_rows) is_deep true (IsSort (table_heads script_rows) deep_rule levels) (IsSort (table_heads script_rows) (table_rule script_rows) levels) (sort_spelled_back (table_heads script_rows) is_deep (table_rule script_rows) deep_rule agree closed levels) (table_rule script_rows (Row script_row)) refl signs r.script r.uses [] d in
     takes limit live from signs r.script r.uses s r.room ∙ ap Ok (sym r.items)

@@ -1,7 +1,7 @@
 -- What is refused of a script of the steps that have a rule is refused of a script of all steps.
 use Rattle.std.proofs.Common.{◌≡◌, ℕ, zero, suc, ◌+◌, ◌-◌, ◌≤◌, Bool, true, false, ◌||◌, if◌then◌else◌, ◌⊎◌, inl, inr, List, [], ◌∷◌, length, None, ◌++◌, Result, Ok, Err, refl, sym, ◌∙◌, subst, ap, arith}
 use Rattle.cv_syntax_trees.specs.Tree.{Tree, chain}
-use Rattle.cv_parse_notation.specs.Form.{Form, both, made, many, sign}
+use Rattle.cv_parse_notation.specs.Form.{Form, both, made, sign}
 use Rattle.cv_parse_notation.specs.Reads.{Found, Read, Reader, ◌>>=◌, found, joined, mapped, nothing, one_more, pick, read_many, read_sort, reads}
 use Rattle.cv_parse_notation.specs.declared.sign.Mark.TheVariants as mark
 use Rattle.cv_parse_notation.specs.declared.sign.Sign.{Sign}
@@ -17,7 +17,7 @@ use Rattle.cv_parse_script.specs.Scripts.{begins_step, of_read, read_row, script
 use Rattle.cv_parse_script_laws.specs.Scripts.{IsSomeScript}
 use Rattle.cv_parse_script_laws.proofs.Built.{built_is, item, script, script_is, step_rows}
 use Rattle.cv_parse_script_laws.proofs.Deciding.{refuses}
-use Rattle.cv_script_rows.specs.Rows.{built_script_row, script_row, script_rows, step_row}
+use Rattle.cv_script_rows.specs.Rows.{built_script_row, script_row, script_rows, step_row, steps_with_a_rule}
 
 abbrev heads : TableSort → Kind → Bool
 heads = table_heads script_rows
@@ -151,7 +151,7 @@ module _ (below : TableSort → Reader Role Tree) where
 -- scripts of the steps that have a rule, and of all steps
 
 abbrev built : TreesForm
-built = one_of step_rows 129 10
+built = one_of step_rows 129 steps_with_a_rule
 
 abbrev all : TreesForm
 all = one_of step_rows 129 19
@@ -177,7 +177,7 @@ row_is row f e signs = ap (λ q. reads heads true low q signs) e
 
 rows_same : (signs : List Sign) → Same low all (read_row built_script_row signs) (read_row script_row signs)
 rows_same signs =
-    let s = script_same low all built built_stays all_stays (begins_more step_rows 129 10 19 (omega arith)) (first_same low step_rows 129 10 19 (omega arith)) signs in
+    let s = script_same low all built built_stays all_stays (begins_more step_rows 129 steps_with_a_rule 19 (omega arith)) (first_same low step_rows 129 steps_with_a_rule 19 (omega arith)) signs in
     subst (λ r. Same low all r (read_row script_row signs)) (sym (row_is built_script_row built built_is signs)) (subst (λ q. Same low all (R low (script built) signs) q) (sym (row_is script_row all script_is signs)) s)
 
 unbuilt : (k token : ℕ) (b : Bool) → b ≡ true → (let r : Result (List Tree) ScriptError = Err (if b then Unbuilt k else Script k) in r) ≡ Err (Script token) → ⊥

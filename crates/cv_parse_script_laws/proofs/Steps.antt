@@ -1,5 +1,6 @@
 -- The trees that the rows of steps make have items.
-use Rattle.std.proofs.Common.{◌≡◌, ℕ, Bool, true, false, nat_lt, ◌⊎◌, inl, inr, List, [], ◌∷◌, ◌++◌, Option, Some, Ok, append-nil, refl, ap, sym, ◌∙◌, subst}
+use Rattle.std.proofs.Common.{◌≡◌, ℕ, suc, ◌+◌, ◌≤◌, ◌==◌, ◌&&◌, Bool, true, false, nat_lt, ◌⊎◌, inl, inr, List, [], ◌∷◌, ◌++◌, map, Option, Some, Ok, append-nil, arith, eqb-true, lit≤, lt-ltb, refl, ap, sym, ◌∙◌, subst}
+use Rattle.std.proofs.lemmas.Bool.{and_parts}
 use Rattle.std.specs.List.{AllByRecursion}
 use Rattle.cv_lists.proofs.Each.{AllByRecursion-always}
 use Rattle.cv_syntax_trees.specs.declared.head.Head.{Head}
@@ -15,7 +16,7 @@ use Rattle.cv_parse_script.specs.Scripts.{items as items_of, script_of}
 use Rattle.cv_parse_script_laws.proofs.Agreement.{sorts_pass}
 use Rattle.cv_parse_script_laws.proofs.Fitting.{deep_rule}
 use Rattle.cv_print_steps.specs.Trees.{Behind, JustOne, Makes}
-use Rattle.cv_script_rows.specs.Rows.{built_script_row, script_row, script_rows}
+use Rattle.cv_script_rows.specs.Rows.{built_script_row, script_row, script_rows, steps_with_a_rule}
 use Rattle.cv_script.specs.Views.{ArrayRename, Birthday, Codef, Crypto, Fresh, Guess, Let, Merge, Move, New, Pick, Prune, Rename, Rewrite, Simplify, Split, StepItems, Success, Unlet, Unnew, adds_in, items_of_step, name_in, number_in, part_in, tree_in, ◌>>=◌}
 use Rattle.cv_script.specs.declared.views.Part.{Part}
 use Rattle.cv_script.specs.declared.views.Part.TheVariants as part
@@ -224,14 +225,14 @@ picks l d =
     has (Pick p.first.0 (first b) (first (second b)) (second (second b))) (bound (λ v. Some (Pick v (first b) (first (second b)) (second (second b)))) (number_is p.first) refl) refl
     )
 
-merges : (l : List Tree) → Made 114 l → HasItems is_any (over head.MergeStep l)
-merges l d = let p = last (skip (skip d)) in with_one is_any head.MergeStep p (has (Merge p.first.0) (bound (λ v. Some (Merge v)) (number_is p.first) refl) refl)
+merges : (l : List Tree) → Made 114 l → HasItems is_built (over head.MergeStep l)
+merges l d = let p = last (skip (skip d)) in with_one is_built head.MergeStep p (has (Merge p.first.0) (bound (λ v. Some (Merge v)) (number_is p.first) refl) refl)
 
 unlets : (l : List Tree) → Made 117 l → HasItems is_built (over head.UnletStep l)
 unlets l d = let x = last (skip (skip d)) in with_one is_built head.UnletStep x (has (Unlet x.first.0) (bound (λ y. Some (Unlet y)) (name_is x.first) refl) refl)
 
-moves : (l : List Tree) → Made 120 l → HasItems is_any (over head.MoveStep l)
-moves l d = let p = last (skip (skip d)) in with_one is_any head.MoveStep p (has (Move p.first.0) (bound (λ v. Some (Move v)) (number_is p.first) refl) refl)
+moves : (l : List Tree) → Made 120 l → HasItems is_built (over head.MoveStep l)
+moves l d = let p = last (skip (skip d)) in with_one is_built head.MoveStep p (has (Move p.first.0) (bound (λ v. Some (Move v)) (number_is p.first) refl) refl)
 
 array_renames : (l : List Tree) → Made 121 l → HasItems is_any (over head.ArrayRenameStep l)
 array_renames l d =
@@ -296,46 +297,67 @@ any_items d = record { items = d.items; are = d.are; pass = refl }
 any_step : (ts : List Tree) → IsStep is_built ts → IsStep is_any ts
 any_step ts x = record { tree = x.tree; is = x.is; first = any_items x.first }
 
-built_step : (ts : List Tree) → OneOf 152 129 10 ts → IsStep is_built ts
-built_step ts (inl d) = a_step is_built head.SplitStep 129 115 refl splits ts (row 152 129 refl ts d)
-built_step ts (inr (inl d)) = a_step is_built head.LetStep 130 116 refl lets ts (row 152 130 refl ts d)
-built_step ts (inr (inr (inl d))) = a_step is_built head.NewStep 131 118 refl news ts (row 152 131 refl ts d)
-built_step ts (inr (inr (inr (inl d)))) = a_step is_built head.UnnewStep 132 119 refl unnews ts (row 152 132 refl ts d)
-built_step ts (inr (inr (inr (inr (inl d))))) = a_step is_built head.RewriteStep 133 111 refl rewrites ts (row 152 133 refl ts d)
-built_step ts (inr (inr (inr (inr (inr (inl d)))))) = a_step is_built head.PruneStep 134 112 refl prunes ts (row 152 134 refl ts d)
-built_step ts (inr (inr (inr (inr (inr (inr (inl d))))))) = a_step is_built head.SuccessStep 135 127 refl successes ts (row 152 135 refl ts d)
-built_step ts (inr (inr (inr (inr (inr (inr (inr (inl d)))))))) = a_step is_built head.CryptoStep 136 126 refl cryptos ts (row 152 136 refl ts d)
-built_step ts (inr (inr (inr (inr (inr (inr (inr (inr (inl d))))))))) = a_step is_built head.UnletStep 137 117 refl unlets ts (row 152 137 refl ts d)
-built_step ts (inr (inr (inr (inr (inr (inr (inr (inr (inr (inl d)))))))))) = a_step is_built head.RenameStep 138 110 refl renames ts (row 152 138 refl ts d)
-built_step ts (inr (inr (inr (inr (inr (inr (inr (inr (inr (inr d)))))))))) = absurd d
+-- The rows of steps, each with what it makes: those that have a rule, and the later ones.
 
-later_step : (ts : List Tree) → OneOf 149 139 9 ts → IsStep is_any ts
-later_step ts (inl d) = a_step is_any head.PickStep 139 113 refl picks ts (row 149 139 refl ts d)
-later_step ts (inr (inl d)) = a_step is_any head.MergeStep 140 114 refl merges ts (row 149 140 refl ts d)
-later_step ts (inr (inr d)) = last_step ts d
-  where
-    last_step : (ts : List Tree) → OneOf 149 141 7 ts → IsStep is_any ts
-    last_step ts (inl d) = a_step is_any head.MoveStep 141 120 refl moves ts (row 149 141 refl ts d)
-    last_step ts (inr (inl d)) = a_step is_any head.ArrayRenameStep 142 121 refl array_renames ts (row 149 142 refl ts d)
-    last_step ts (inr (inr (inl d))) = a_step is_any head.CodefStep 143 122 refl codefs ts (row 149 143 refl ts d)
-    last_step ts (inr (inr (inr (inl d)))) = a_step is_any head.BirthdayStep 144 123 refl birthdays ts (row 149 144 refl ts d)
-    last_step ts (inr (inr (inr (inr (inl d))))) = a_step is_any head.GuessStep 145 124 refl guesses ts (row 149 145 refl ts d)
-    last_step ts (inr (inr (inr (inr (inr (inl d)))))) = a_step is_any head.FreshStep 146 125 refl freshes ts (row 149 146 refl ts d)
-    last_step ts (inr (inr (inr (inr (inr (inr (inl d))))))) = a_step is_any head.SimplifyStep 147 128 refl simplifies ts (row 149 147 refl ts d)
-    last_step ts (inr (inr (inr (inr (inr (inr (inr d))))))) = absurd d
+record StepRow (test : StepItems → Bool) : Type 0 where
+  row : ℕ
+  makes : (ts : List Tree) → Made row ts → IsStep test ts
+
+abbrev rows_with_a_rule : List (StepRow is_built)
+rows_with_a_rule =
+    record { row = 129; makes = a_step is_built head.SplitStep 129 115 refl splits }
+    ∷ record { row = 130; makes = a_step is_built head.LetStep 130 116 refl lets }
+    ∷ record { row = 131; makes = a_step is_built head.NewStep 131 118 refl news }
+    ∷ record { row = 132; makes = a_step is_built head.UnnewStep 132 119 refl unnews }
+    ∷ record { row = 133; makes = a_step is_built head.RewriteStep 133 111 refl rewrites }
+    ∷ record { row = 134; makes = a_step is_built head.PruneStep 134 112 refl prunes }
+    ∷ record { row = 135; makes = a_step is_built head.SuccessStep 135 127 refl successes }
+    ∷ record { row = 136; makes = a_step is_built head.CryptoStep 136 126 refl cryptos }
+    ∷ record { row = 137; makes = a_step is_built head.UnletStep 137 117 refl unlets }
+    ∷ record { row = 138; makes = a_step is_built head.RenameStep 138 110 refl renames }
+    ∷ record { row = 139; makes = a_step is_built head.MergeStep 139 114 refl merges }
+    ∷ record { row = 140; makes = a_step is_built head.MoveStep 140 120 refl moves }
+    ∷ []
+
+abbrev later_rows : List (StepRow is_any)
+later_rows =
+    record { row = 141; makes = a_step is_any head.PickStep 141 113 refl picks }
+    ∷ record { row = 142; makes = a_step is_any head.ArrayRenameStep 142 121 refl array_renames }
+    ∷ record { row = 143; makes = a_step is_any head.CodefStep 143 122 refl codefs }
+    ∷ record { row = 144; makes = a_step is_any head.BirthdayStep 144 123 refl birthdays }
+    ∷ record { row = 145; makes = a_step is_any head.GuessStep 145 124 refl guesses }
+    ∷ record { row = 146; makes = a_step is_any head.FreshStep 146 125 refl freshes }
+    ∷ record { row = 147; makes = a_step is_any head.SimplifyStep 147 128 refl simplifies }
+    ∷ []
+
+abbrev any_row : StepRow is_built → StepRow is_any
+any_row s = record { row = s.row; makes = λ ts d. any_step ts (s.makes ts d) }
+
+abbrev all_rows : List (StepRow is_any)
+all_rows = map any_row rows_with_a_rule ++ later_rows
+
+-- one of the rows of a list, which follow each other in the table
+
+abbrev count : {A : Type 0} → List A → ℕ
+count [] = 0
+count (x ∷ xs) = suc (count xs)
+
+abbrev follow_from : {test : StepItems → Bool} → ℕ → List (StepRow test) → Bool
+follow_from r [] = true
+follow_from r (s ∷ l) = (s.row == r) && follow_from (r + 1) l
+
+one_step : (test : StepItems → Bool) (l : List (StepRow test)) (n r : ℕ) → follow_from r l ≡ true → r + count l ≤ n → (ts : List Tree) → OneOf n r (count l) ts → IsStep test ts
+one_step test [] n r e h ts d = absurd d
+one_step test (s ∷ l) n r e h ts (inl d) =
+    let p = and_parts (s.row == r) _ e in
+    s.makes ts (subst (λ k. Made k ts) (sym (eqb-true s.row r p.0)) (row n r (lt-ltb r n (omega (arith, h))) ts d))
+one_step test (s ∷ l) n r e h ts (inr d) = one_step test l n (r + 1) (and_parts (s.row == r) _ e).1 (omega (arith, h)) ts d
+
+built_step : (ts : List Tree) → OneOf 152 129 steps_with_a_rule ts → IsStep is_built ts
+built_step = one_step is_built rows_with_a_rule 152 129 refl (lit≤ tt)
 
 step : (ts : List Tree) → OneOf 149 129 19 ts → IsStep is_any ts
-step ts (inl d) = any_step ts (a_step is_built head.SplitStep 129 115 refl splits ts (row 149 129 refl ts d))
-step ts (inr (inl d)) = any_step ts (a_step is_built head.LetStep 130 116 refl lets ts (row 149 130 refl ts d))
-step ts (inr (inr (inl d))) = any_step ts (a_step is_built head.NewStep 131 118 refl news ts (row 149 131 refl ts d))
-step ts (inr (inr (inr (inl d)))) = any_step ts (a_step is_built head.UnnewStep 132 119 refl unnews ts (row 149 132 refl ts d))
-step ts (inr (inr (inr (inr (inl d))))) = any_step ts (a_step is_built head.RewriteStep 133 111 refl rewrites ts (row 149 133 refl ts d))
-step ts (inr (inr (inr (inr (inr (inl d)))))) = any_step ts (a_step is_built head.PruneStep 134 112 refl prunes ts (row 149 134 refl ts d))
-step ts (inr (inr (inr (inr (inr (inr (inl d))))))) = any_step ts (a_step is_built head.SuccessStep 135 127 refl successes ts (row 149 135 refl ts d))
-step ts (inr (inr (inr (inr (inr (inr (inr (inl d)))))))) = any_step ts (a_step is_built head.CryptoStep 136 126 refl cryptos ts (row 149 136 refl ts d))
-step ts (inr (inr (inr (inr (inr (inr (inr (inr (inl d))))))))) = any_step ts (a_step is_built head.UnletStep 137 117 refl unlets ts (row 149 137 refl ts d))
-step ts (inr (inr (inr (inr (inr (inr (inr (inr (inr (inl d)))))))))) = any_step ts (a_step is_built head.RenameStep 138 110 refl renames ts (row 149 138 refl ts d))
-step ts (inr (inr (inr (inr (inr (inr (inr (inr (inr (inr d)))))))))) = later_step ts d
+step = one_step is_any all_rows 149 129 refl (lit≤ tt)
 
 -- scripts
 
@@ -383,4 +405,4 @@ unfolding sorts_pass
 have_rules limit live from signs steps e =
     let r = row_is_read built_script_row refl refl limit live from signs steps e in
     let m = made_so built_script_row refl signs r.script r.uses r.spelled in
-    subst (AllByRecursion (HasItems is_built)) (sym (r.items ∙ ap items_of (sym m.1))) (script_items is_built 154 153 152 (λ ts d. with_end is_built (OneOf 152 129 10) built_step ts (row 153 152 refl ts d)) m.0 m.2 (λ l d. row 154 153 refl l d))
+    subst (AllByRecursion (HasItems is_built)) (sym (r.items ∙ ap items_of (sym m.1))) (script_items is_built 154 153 152 (λ ts d. with_end is_built (OneOf 152 129 steps_with_a_rule) built_step ts (row 153 152 refl ts d)) m.0 m.2 (λ l d. row 154 153 refl l d))

@@ -4,3 +4,4 @@ pub mod Endings
 pub mod Terms
 pub mod Readings
 mod Guards
+pub mod Leading

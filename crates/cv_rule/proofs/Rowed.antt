@@ -12,10 +12,10 @@ use Rattle.cv_scenes.specs.Scenes.{Scene, part_at}
 use Rattle.cv_scenes.specs.Sights.{sight_at}
 use Rattle.cv_steps.specs.Changes.{change_at}
 use Rattle.cv_steps.specs.Rewriting.{has_sort_of, has_term_at, is_rewritable_at, is_value, sort_at}
-use Rattle.cv_steps.specs.Rows.{Row, Leads, prune_row, prune_row_by, rewrite_row, unless, unless_at, unless_derived}
-use Rattle.cv_steps.specs.Steps.{Zero}
-use Rattle.cv_rule.specs.declared.rules.Failure.{Failure}
-use Rattle.cv_rule.specs.Stated.{failed, failing}
+use Rattle.cv_steps.specs.Rows.{prune_row, prune_row_by, rewrite_row, unless, unless_at, unless_derived}
+use Rattle.cv_steps.specs.Steps.{Leads, Row, Zero}
+use Rattle.cv_draw.specs.declared.plan.Failure.{Failure}
+use Rattle.cv_draw.specs.Plans.{failed, failing}
 
 -- rows
 

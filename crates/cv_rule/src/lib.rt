@@ -7,4 +7,4 @@ mod rewriting;
 mod rules;
 mod targets;
 
-pub use rules::{Failure, Rule, conditions, stands, unmet};
+pub use rules::{Rule, conditions, stands, unmet};

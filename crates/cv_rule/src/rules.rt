@@ -5,20 +5,21 @@ ghost use Rattle.cv_directory.specs.Live.{IsLive};
 ghost use Rattle.cv_directory_sorts.specs.Sites.{sites_of};
 ghost use Rattle.cv_typing_rules.specs.Signature.{OfGame};
 ghost use Rattle.cv_typing.specs.Tables.{arrays_of};
-ghost use Rattle.cv_steps.specs.Judgements as judgement_of;
-ghost use Rattle.cv_steps.specs.Rows.{let_row, new_row, prune_row, rename_row, rewrite_row, row_of, split_row, unlet_row, unnew_row};
+ghost use Rattle.cv_steps.specs.Rows.{let_row, new_row, prune_row, rename_row, rewrite_row, split_row, unlet_row, unnew_row};
 ghost use Rattle.cv_draw_pruning.specs.Bodies.{part_of};
 ghost use Rattle.cv_scenes.specs.Pruning.{pruned};
 ghost use Rattle.cv_scenes.specs.Scenes as scenes;
 ghost use Rattle.cv_scenes.specs.Terms as terms;
 ghost use Rattle.cv_rule_scenes.specs.Kept.{scene_of};
 ghost use Rattle.cv_rule.specs.Prepared.{IsPrepared};
-ghost use Rattle.cv_rule.specs.Stated.{IsLiveDerivation, IsLiveRule, failing, failure_of, step_of};
+ghost use Rattle.cv_draw.specs.Plans.{failing, failure_of};
+ghost use Rattle.cv_rule.specs.Stated.{IsLiveDerivation, IsLiveRule, step_of};
 
 use crate::lines::bad_line;
 use crate::listing::is_listed;
 use crate::rewriting::{has_sort_of, is_rewritable, sort_at};
 use crate::targets::{ends_with_equality, ends_with_falsity};
+use cv_draw::Failure;
 use cv_draw_pruning::{Body, body_to_prune};
 use cv_draw_unletting::only_assignment;
 use cv_rule_scenes::{
@@ -67,13 +68,6 @@ pub enum Rule {
         body: Body,
         by: Option<NodeId>,
     },
-}
-
-/// The number of a condition that fails, and the place where it does; 0, where it names none.
-#[derive(Clone, Copy, Debug, PartialEq, Eq)]
-pub struct Failure {
-    pub condition: u32,
-    pub place: u32,
 }
 
 /// Whether a game has a place, and a tree is a term there.
@@ -146,8 +140,8 @@ pub fn stands(
     requires prepared { IsPrepared work.now.pool.trees work.now.decls game arrays.now }
     requires declared { All (IsLive (length work.now.pool.trees)) work.now.decls.list }
     requires rule { IsLiveRule work.now.pool.trees rule }
-    ensures { IfOk result (λ b. b ≡ judgement_of.stands (scene_of work.now.pool work.now.decls game)
-        (step_of work.now.pool.trees rule)) }
+    ensures { IfOk result (λ b. b ≡ (step_of work.now.pool.trees rule).stands
+        (scene_of work.now.pool work.now.decls game)) }
 {
     match rule {
         Rule::Split { place, condition } => stands_at(alloc, work, game, arrays, place, condition),
@@ -425,8 +419,8 @@ pub fn unmet(
     requires prepared { IsPrepared work.now.pool.trees work.now.decls game arrays.now }
     requires declared { All (IsLive (length work.now.pool.trees)) work.now.decls.list }
     requires rule { IsLiveRule work.now.pool.trees rule }
-    ensures { IfOk result (λ f. f ≡ failing (row_of
-        (scene_of work.now.pool work.now.decls game) (step_of work.now.pool.trees rule))) }
+    ensures { IfOk result (λ f. f ≡ failing ((step_of work.now.pool.trees rule).row
+        (scene_of work.now.pool work.now.decls game))) }
 {
     match rule {
         Rule::Split { place, condition } => {

@@ -21,6 +21,10 @@ script_row = 151
 abbrev pub built_script_row : ℕ
 built_script_row = 154
 
+-- how many of the steps, from the first one on, have a rule
+abbrev pub steps_with_a_rule : ℕ
+steps_with_a_rule = 12
+
 abbrev pub script_rows : Table
 script_rows =
     (Sign mark.Bool ∷ []) ∷  -- 0 bool word
@@ -162,9 +166,9 @@ script_rows =
     (Over head.CryptoStep 126 ∷ []) ∷  -- 136 a crypto
     (Over head.UnletStep 117 ∷ []) ∷  -- 137 a unlet
     (Over head.RenameStep 110 ∷ []) ∷  -- 138 a rename
-    (Over head.PickStep 113 ∷ []) ∷  -- 139 a pick
-    (Over head.MergeStep 114 ∷ []) ∷  -- 140 a merge
-    (Over head.MoveStep 120 ∷ []) ∷  -- 141 a move
+    (Over head.MergeStep 114 ∷ []) ∷  -- 139 a merge
+    (Over head.MoveStep 120 ∷ []) ∷  -- 140 a move
+    (Over head.PickStep 113 ∷ []) ∷  -- 141 a pick
     (Over head.ArrayRenameStep 121 ∷ []) ∷  -- 142 a array rename
     (Over head.CodefStep 122 ∷ []) ∷  -- 143 a codef
     (Over head.BirthdayStep 123 ∷ []) ∷  -- 144 a birthday
@@ -175,7 +179,7 @@ script_rows =
     (OneOf 129 19 ∷ Sign mark.Semicolon ∷ []) ∷  -- 149 step item
     (Many false 149 ∷ []) ∷  -- 150 steps
     (Chain 150 ∷ []) ∷  -- 151 script
-    (OneOf 129 10 ∷ Sign mark.Semicolon ∷ []) ∷  -- 152 built item
+    (OneOf 129 steps_with_a_rule ∷ Sign mark.Semicolon ∷ []) ∷  -- 152 built item
     (Many false 152 ∷ []) ∷  -- 153 built steps
     (Chain 153 ∷ []) ∷  -- 154 built script
     []

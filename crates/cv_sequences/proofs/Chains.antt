@@ -1,6 +1,5 @@
 -- Chains lead to ready games, and are within the sums of their costs.
-use Rattle.std.proofs.Common.{◌≡◌, ℕ, ◌<◌, Bool, true, false, List, [], ◌∷◌, ◌++◌, Some, None, refl, ap, sym, ◌∙◌, subst, arith, append_assoc, mul-pos}
-use Rattle.std.proofs.lemmas.Bool.{both_ways}
+use Rattle.std.proofs.Common.{◌≡◌, ℕ, ◌<◌, Bool, false, List, [], ◌∷◌, ◌++◌, Some, None, refl, ap, sym, ◌∙◌, subst, arith, append_assoc, mul-pos}
 use Rattle.std.proofs.lemmas.List.{map-append}
 use Rattle.cv_syntax_trees.specs.Declarations.{Declaration}
 use Rattle.cv_syntax_trees.specs.Tree.{Tree}
@@ -27,15 +26,15 @@ use Rattle.cv_typing_runs.proofs.Games.{known}
 use Rattle.cv_scenes.specs.Contexts.{AreAnswers}
 use Rattle.cv_scenes.specs.Reductions.{context_of_game}
 use Rattle.cv_scenes.specs.Scenes.{Scene}
-use Rattle.cv_scenes.specs.Terms.{has_index}
 use Rattle.cv_derivations_under.specs.Holding.{IsReady}
+use Rattle.cv_derivations_under.specs.Steps.{IsSound}
 use Rattle.cv_context_answers.specs.Answers.{answer_above}
 use Rattle.cv_context_answers.proofs.Many.{are_answers}
-use Rattle.cv_context_queries.specs.Asked.{AskForNoIndex}
 use Rattle.cv_context_queries.proofs.Asked.{asked_no_index}
-use Rattle.cv_context_queries.proofs.Steps.{bound_before}
+use Rattle.cv_context_queries.proofs.Steps.{next_asks_none}
 use Rattle.cv_context_right.specs.Right.{IsStepOfFile}
 use Rattle.cv_context_right.proofs.Steps.{step_costs}
+use Rattle.cv_steps.specs.Asked.{AskForNoIndex}
 use Rattle.cv_steps.specs.Judgements.{judgement_of}
 use Rattle.cv_steps.specs.Judgements as rule
 use Rattle.cv_steps.specs.Sequences.{scene}
@@ -45,9 +44,9 @@ use Rattle.cv_steps_crypto.specs.Steps.{IsOutcome, first_answer, reduction_of}
 use Rattle.cv_steps_crypto.specs.Steps as crypto
 use Rattle.cv_steps_crypto.proofs.Accepted.{accepted}
 use Rattle.cv_sequences.specs.Chains.{ByEquivalence, ByStep, HasPrice, HaveTapedPrices, IsChain, IsFileOf, IsLink, Link, Prices, cost_behind, costs_behind, game_after, names_below, next_behind, push, start, summed}
-use Rattle.cv_sequences.proofs.Accepted.{step_ready, steps_keep}
+use Rattle.cv_sequences.proofs.Accepted.{step_ready}
 use Rattle.cv_sequences.proofs.Asked.{game_choices_valued}
-use Rattle.cv_sequences.proofs.Steps.{new_untested, next_values}
+use Rattle.cv_sequences.proofs.Steps.{next_values}
 use Rattle.cv_sequences.proofs.Sums.{apart, back}
 use Rattle.cv_sequences.proofs.Tested.{tested, unrefused}
 
@@ -113,21 +112,14 @@ module _ (ds : List Declaration) (own : ℕ) (first : Tree) (w : IsFileOf ds own
 
   -- games
 
-  record IsSound (game : Tree) : Type 0 where
+  record IsOfChain (game : Tree) : Type 0 where
     ready : IsReady ds game
     unasked : AskForNoIndex (at game)
 
-  step_unasked : (game : Tree) (step : Step) (next : Tree) (cost : Cost) → AskForNoIndex (at game) → judgement_of (at game) step ≡ rule.Accepted next cost → AskForNoIndex (at next)
-  step_unasked game step next cost k e x q = go (has_index next x) refl
-    where
-      go : (b : Bool) → has_index next x ≡ b → b ≡ false
-      go true h = absurd (both_ways _ (k x q) (bound_before (at game) step next cost e x h))
-      go false h = refl
-
-  link_sound : (game : Tree) (l : Link) → IsSound game → IsLink (at game) l → IsSound (next_behind l)
-  link_sound game (ByStep step cost next) g e =
-      record { ready = step_ready (at game) step next cost w.constants g.ready e; unasked = step_unasked game step next cost g.unasked e }
-  link_sound game (ByEquivalence n e x next) g h =
+  link_leads : (game : Tree) (l : Link) → IsOfChain game → IsLink (at game) l → IsOfChain (next_behind l)
+  link_leads game (ByStep step cost next) g e =
+      record { ready = step_ready (at game) step next cost e.0 w.constants g.ready e.1; unasked = next_asks_none (at game) step next cost e.0 g.unasked e.1 }
+  link_leads game (ByEquivalence n e x next) g h =
       let t = tested ds next (accepted (at game) e x next h).game in
       record {
         ready = record {
@@ -142,19 +134,19 @@ module _ (ds : List Declaration) (own : ℕ) (first : Tree) (w : IsFileOf ds own
         unasked = asked_no_index (at next) t.game.formed.scoped t.asked;
       }
 
-  sound : (links : List Link) (last : Tree) → IsChain ds (names_below own) first links last → IsSound last
-  sound links last start = record { ready = w.ready; unasked = w.unasked }
-  sound links last (push before game l c e) = link_sound game l (sound before game c) e
+  reached : (links : List Link) (last : Tree) → IsChain ds (names_below own) first links last → IsOfChain last
+  reached links last start = record { ready = w.ready; unasked = w.unasked }
+  reached links last (push before game l c e) = link_leads game l (reached before game c) e
 
   pub games_ready : (links : List Link) (last : Tree) → IsChain ds (names_below own) first links last → IsReady ds last
-  games_ready links last c = (sound links last c).ready
+  games_ready links last c = (reached links last c).ready
 
   pub games_unasked : (links : List Link) (last : Tree) → IsChain ds (names_below own) first links last → AskForNoIndex (at last)
-  games_unasked links last c = (sound links last c).unasked
+  games_unasked links last c = (reached links last c).unasked
 
   -- a cryptographic step
 
-  step_of_file : (game : Tree) (e x : ℕ) (t : Tree) → IsSound game → equivalence_of (at game) e ≡ Some t → failure_of (at game) e x ≡ None → IsStepOfFile (reduction_of (at game) t x)
+  step_of_file : (game : Tree) (e x : ℕ) (t : Tree) → IsOfChain game → equivalence_of (at game) e ≡ Some t → failure_of (at game) e x ≡ None → IsStepOfFile (reduction_of (at game) t x)
   step_of_file game e x t g i f =
       let q = w.equivalences e t i in
       let answers : (sites : ℕ) → AreAnswers (at game) sites (answer_above first_answer game) = λ sites. are_answers ds own first_answer game sites w.names w.known_queries w.known_constants in
@@ -177,15 +169,15 @@ module _ (ds : List Declaration) (own : ℕ) (first : Tree) (w : IsFileOf ds own
       }
 
   module _ (i : Interpretation) (sat : Satisfies ds i) (x : Experiment) (asked : IsAsked (queries_in ds) x) (v : HasValuesIn (setting_of ds i) (mode_of x) first) where
-    link_valued : (game : Tree) (l : Link) → IsSound game → HasValuesIn (setting_of ds i) (mode_of x) game → IsLink (at game) l → HasValuesIn (setting_of ds i) (mode_of x) (next_behind l)
-    link_valued game (ByStep step cost next) g k e = next_values (at game) i sat (mode_of x) (new_untested (at game) x asked w.known_queries) step next cost g.ready.formed.phrase k e
+    link_valued : (game : Tree) (l : Link) → IsOfChain game → HasValuesIn (setting_of ds i) (mode_of x) game → IsLink (at game) l → HasValuesIn (setting_of ds i) (mode_of x) (next_behind l)
+    link_valued game (ByStep step cost next) g k e = next_values (at game) step next cost e.0 w.known_queries g.ready.formed.phrase i sat x asked k e.1
     link_valued game (ByEquivalence n e key next) g k h =
         let t = tested ds next (accepted (at game) e key next h).game in
         game_choices_valued ds next t.game.formed.phrase t.game.typed t.sorts t.asked i sat x asked
 
-    valued : (links : List Link) (last : Tree) → IsChain ds (names_below own) first links last → HasValuesIn (setting_of ds i) (mode_of x) last
+    pub valued : (links : List Link) (last : Tree) → IsChain ds (names_below own) first links last → HasValuesIn (setting_of ds i) (mode_of x) last
     valued links last start = v
-    valued links last (push before game l c e) = link_valued game l (sound before game c) (valued before game c) e
+    valued links last (push before game l c e) = link_valued game l (reached before game c) (valued before game c) e
 
     module _ (a : Adversary) (advantages : Advantages) where
       abbrev chance_in : Tree → Chance
@@ -198,13 +190,13 @@ module _ (ds : List Declaration) (own : ℕ) (first : Tree) (w : IsFileOf ds own
       IsWithin game sum = AtMost (distance (chance_in first) (chance_in game)) (sum_value i advantages sum)
 
       -- a step by a rule
-      by_step : (game : Tree) (step : Step) (next : Tree) (cost : Cost) (sum : List Term) → HasTapes (chance_in game) → IsSound game → judgement_of (at game) step ≡ rule.Accepted next cost → IsWithin game sum → IsWithin next sum
-      by_step game step next cost sum k g e h =
+      by_step : (game : Tree) (step : Step) (next : Tree) (cost : Cost) (sum : List Term) → HasTapes (chance_in game) → IsOfChain game → IsSound step → judgement_of (at game) step ≡ rule.Accepted next cost → IsWithin game sum → IsWithin next sum
+      by_step game step next cost sum k g sound e h =
           same_end (chance_in first) (chance_in game) (chance_in next) (sum_value i advantages sum) (has_tapes [] first start) k h
-          (steps_keep (at game) step next cost g.ready w.derivations w.bodies w.known_queries e i sat x asked a)
+          (sound.keeps (at game) next cost g.ready w.derivations w.bodies w.known_queries e i sat x asked a)
 
       -- one by an equivalence
-      by_equivalence : (game : Tree) (n e key : ℕ) (next : Tree) (sum : List Term) → HasTapes (chance_in game) → HasTapes (chance_in next) → IsSound game → IsOutcome (at game) e key (crypto.Accepted next) → HasPrice (at game) advantages i x a (ByEquivalence n e key next) → IsWithin game sum → IsWithin next (sum ++ advantage n e ∷ [])
+      by_equivalence : (game : Tree) (n e key : ℕ) (next : Tree) (sum : List Term) → HasTapes (chance_in game) → HasTapes (chance_in next) → IsOfChain game → IsOutcome (at game) e key (crypto.Accepted next) → HasPrice (at game) advantages i x a (ByEquivalence n e key next) → IsWithin game sum → IsWithin next (sum ++ advantage n e ∷ [])
       by_equivalence game n e key next sum k l g o p h =
           let y = accepted (at game) e key next o in
           let r = reduction_of (at game) y.equivalence key in
@@ -215,9 +207,9 @@ module _ (ds : List Declaration) (own : ℕ) (first : Tree) (w : IsFileOf ds own
           (one_more (chance_in first) (chance_in game) (chance_in next) (sum_value i advantages sum) (advantages n term.Events) (has_tapes [] first start) k l h
           (subst (AtMost (distance (chance_in game) (chance_in next))) (sym (p y.equivalence y.is_equivalence)) cost))
 
-      by_link : (game : Tree) (l : Link) (sum : List Term) → HasTapes (chance_in game) → HasTapes (chance_in (next_behind l)) → IsSound game → IsLink (at game) l → HasPrice (at game) advantages i x a l → IsWithin game sum → IsWithin (next_behind l) (added sum (cost_behind l) false)
+      by_link : (game : Tree) (l : Link) (sum : List Term) → HasTapes (chance_in game) → HasTapes (chance_in (next_behind l)) → IsOfChain game → IsLink (at game) l → HasPrice (at game) advantages i x a l → IsWithin game sum → IsWithin (next_behind l) (added sum (cost_behind l) false)
       unfolding with_terms
-      by_link game (ByStep step Zero next) sum k j g e p h = by_step game step next Zero sum k g e h
+      by_link game (ByStep step Zero next) sum k j g e p h = by_step game step next Zero sum k g e.0 e.1 h
       by_link game (ByEquivalence n e key next) sum k j g o p h = by_equivalence game n e key next sum k j g o p h
 
       -- the prices of a chain, less its last link
@@ -229,7 +221,7 @@ module _ (ds : List Declaration) (own : ℕ) (first : Tree) (w : IsFileOf ds own
       within links last start p = apart (chance_in first) (chance_in first) refl
       within links last (push before game l c e) p =
           subst (IsWithin (next_behind l)) (sym (summed_more before l))
-          (by_link game l (summed [] (costs_behind before)) (has_tapes before game c) (has_tapes (before ++ l ∷ []) (next_behind l) (push before game l c e)) (sound before game c) e
+          (by_link game l (summed [] (costs_behind before)) (has_tapes before game c) (has_tapes (before ++ l ∷ []) (next_behind l) (push before game l c e)) (reached before game c) e
           (subst (λ t. HasPrice (at t) advantages i x a l) (chain_ends ds (names_below own) first before game c) (p before l [] refl))
           (within before game c (fewer before l p)))
 

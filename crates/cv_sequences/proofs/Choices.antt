@@ -27,7 +27,7 @@ use Rattle.cv_typing_runs.proofs.Terms.{faultless, same_sorts}
 use Rattle.cv_query_form.specs.Rules.{HasValues}
 use Rattle.cv_steps.proofs.Flat.{nil_still, term_still}
 use Rattle.cv_meaning_values.specs.Values.{HasValuesIn, is_tested}
-use Rattle.cv_sequences.proofs.Values.{still_values}
+use Rattle.cv_steps_laws.proofs.Values.{still_values}
 
 module _ (ds : List Declaration) (game : Tree) (i : Interpretation) (sat : Satisfies ds i) (m : Mode) (tested : (x : ℕ) → is_tested m x ≡ true → HasValues game x) where
   abbrev g : Setting

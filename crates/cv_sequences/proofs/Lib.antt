@@ -1,5 +1,4 @@
 pub mod Accepted
-pub mod Values
 pub mod Steps
 pub mod Sums
 pub mod Asked

@@ -20,10 +20,11 @@ use Rattle.cv_scenes.specs.Reductions.{context_of_game}
 use Rattle.cv_scenes.specs.Scenes.{KnowsQueries, Scene}
 use Rattle.cv_derivations_under.specs.Holding.{IsReady}
 use Rattle.cv_derivations_under.specs.Soundness.{DerivationsHold, DerivedBodiesAreUnreached}
+use Rattle.cv_derivations_under.specs.Steps.{IsSound}
 use Rattle.cv_context_answers.specs.Answers.{KnowsConstants, file_scene}
-use Rattle.cv_context_queries.specs.Asked.{AskForNoIndex}
 use Rattle.cv_context_right.specs.Right.{IsRightOfFile}
 use Rattle.cv_context_terms.specs.Forms.{HasLeftForm}
+use Rattle.cv_steps.specs.Asked.{AskForNoIndex}
 use Rattle.cv_steps.specs.Costs.{cost_of}
 use Rattle.cv_steps.specs.Judgements.{judgement_of}
 use Rattle.cv_steps.specs.Judgements as rule
@@ -54,9 +55,9 @@ cost_behind (ByEquivalence n e x next) = bound.Advantage n (record { 0 = e })
 abbrev pub costs_behind : List Link → List SumCost
 costs_behind links = map cost_behind links
 
--- the step leads from the game to the next one
+-- the step leads from the game to the next one, and is sound
 abbrev pub IsLink : Scene → Link → Type 0
-IsLink s (ByStep step cost next) = judgement_of s step ≡ rule.Accepted next cost
+IsLink s (ByStep step cost next) = IsSound step × (judgement_of s step ≡ rule.Accepted next cost)
 IsLink s (ByEquivalence n e x next) = IsOutcome s e x (crypto.Accepted next)
 
 -- From the first game the links lead to this game.

@@ -20,34 +20,40 @@ ghost use Rattle.cv_typing_runs.specs.Games.{HasConstants, HasDeclaredSorts};
 ghost use Rattle.cv_scenes.specs.Scenes.{KnowsQueries, Scene};
 ghost use Rattle.cv_derivations_under.specs.Holding.{IsReady};
 ghost use Rattle.cv_derivations_under.specs.Soundness.{DerivationsHold, DerivedBodiesAreUnreached};
+ghost use Rattle.cv_derivations_under.specs.Steps.{AreSound, IsSound};
 ghost use Rattle.cv_steps.specs.Steps.{Cost, Step};
 ghost use Rattle.cv_steps.specs.Judgements.{Accepted, judgement_of};
 ghost use Rattle.cv_steps.specs.Chances.{KeepsChances};
 ghost use Rattle.cv_steps.specs.Sequences.{IsSequence, Passage, scene};
-ghost use Rattle.cv_context_queries.specs.Asked.{AskForNoIndex};
+ghost use Rattle.cv_steps.specs.Asked.{AskForNoIndex};
 ghost use Rattle.cv_sequences.specs.Chains.{HaveTapedPrices, IsChain, IsFileOf, Link, Prices, costs_behind, names_below, summed};
 ghost use Rattle.cv_sequences.specs.Sequences.{added_up, costs_of};
 ghost use Rattle.cv_meaning_values.specs.Values.{HasValuesIn};
 
-/// Each step that is accepted in a game keeps chances, where derivations are sound.
+/// A sound step that is accepted in a game leads to one with all that the laws of runs ask for, and keeps chances, where
+/// derivations are sound.
 pub fn accepted_steps_keep_chances()
-    ensures { (s : Scene) (step : Step) (next : Tree) (cost : Cost) →
+    ensures ready { (s : Scene) (step : Step) (next : Tree) (cost : Cost) → IsSound step →
+        HasConstants s.declarations → IsReady s.declarations s.game →
+        judgement_of s step ≡ Accepted next cost → IsReady s.declarations next }
+    ensures chances { (s : Scene) (step : Step) (next : Tree) (cost : Cost) → IsSound step →
         IsReady s.declarations s.game → DerivationsHold s.declarations →
         DerivedBodiesAreUnreached s.declarations → KnowsQueries s →
         judgement_of s step ≡ Accepted next cost → KeepsChances s.declarations s.game next }
 {}
 
-/// Each game of a sequence has all that the laws of runs ask for, where the first has it. Where derivations are sound
-/// and the choices of the first game have values, no adversary tells the last game from the first, in an experiment for
-/// which a query asks, by more than the sum of the costs.
+/// Each game of a sequence of sound steps has all that the laws of runs ask for, where the first has it. Where derivations
+/// are sound and the choices of the first game have values, no adversary tells the last game from the first, in an
+/// experiment for which a query asks, by more than the sum of the costs.
 pub fn sequences_are_within_their_sums()
     ensures games { (ds : List Declaration) (known : ℕ → Bool) (first : Tree)
         (passages : List Passage) (last : Tree) → IsReady ds first → HasConstants ds →
-        IsSequence ds known first passages last → IsReady ds last }
+        AreSound passages → IsSequence ds known first passages last → IsReady ds last }
     ensures sums { (ds : List Declaration) (known : ℕ → Bool) (first : Tree)
         (passages : List Passage) (last : Tree) → IsReady ds first → HasConstants ds →
         DerivationsHold ds → DerivedBodiesAreUnreached ds →
-        KnowsQueries (scene ds known first) → IsSequence ds known first passages last →
+        KnowsQueries (scene ds known first) → AreSound passages →
+        IsSequence ds known first passages last →
         (i : Interpretation) → Satisfies ds i → (x : Experiment) → IsAsked (queries_in ds) x →
         HasValuesIn (setting_of ds i) (mode_of x) first →
         (a : Adversary) (advantages : Advantages) →
@@ -62,7 +68,8 @@ pub fn chances_are_carried_back()
     ensures chance { (ds : List Declaration) (known : ℕ → Bool) (first : Tree)
         (passages : List Passage) (last : Tree) → IsReady ds first → HasConstants ds →
         DerivationsHold ds → DerivedBodiesAreUnreached ds →
-        KnowsQueries (scene ds known first) → IsSequence ds known first passages last →
+        KnowsQueries (scene ds known first) → AreSound passages →
+        IsSequence ds known first passages last →
         (i : Interpretation) → Satisfies ds i → (x : Experiment) → IsAsked (queries_in ds) x →
         HasValuesIn (setting_of ds i) (mode_of x) first →
         (a : Adversary) (advantages : Advantages) →

@@ -15,13 +15,8 @@ use Rattle.cv_meaning_values.specs.Values.{HasValuesIn}
 use Rattle.cv_meaning_values.proofs.Tapes.{tapes}
 use Rattle.cv_bound.specs.declared.cost.Cost.{Cost as SumCost}
 use Rattle.cv_bound_values.specs.Values.{Advantages, sum_value}
-use Rattle.cv_steps.specs.Sequences.{scene}
-use Rattle.cv_steps_crypto.proofs.Accepted.{accepted}
-use Rattle.cv_sequences.specs.Chains.{ByEquivalence, ByStep, HaveTapedPrices, IsChain, IsFileOf, IsLink, Link, Prices, costs_behind, names_below, next_behind, push, start, summed}
-use Rattle.cv_sequences.proofs.Asked.{game_choices_valued}
-use Rattle.cv_sequences.proofs.Chains.{games_ready, taped as taped_sum, within}
-use Rattle.cv_sequences.proofs.Steps.{new_untested, next_values}
-use Rattle.cv_sequences.proofs.Tested.{tested}
+use Rattle.cv_sequences.specs.Chains.{HaveTapedPrices, IsChain, IsFileOf, Link, Prices, costs_behind, names_below, summed}
+use Rattle.cv_sequences.proofs.Chains.{taped as taped_sum, valued as chain_valued, within}
 use Rattle.cv_sequences_secrets.specs.Sums.{summed_by}
 use Rattle.cv_sequences_secrets.proofs.Alike.{bounded_alike, fraction}
 use Rattle.cv_sequences_secrets.proofs.Sums.{both, of_both, plain, random, real}
@@ -57,16 +52,8 @@ taped i advantages links h k =
 
 module _ (ds : List Declaration) (own : ℕ) (first : Tree) (w : IsFileOf ds own first) (i : Interpretation) (sat : Satisfies ds i) where
   -- each choice and test of an experiment has a value in each game of the chain
-  link_valued : (x : Experiment) → IsAsked (queries_in ds) x → (links : List Link) (game : Tree) → IsChain ds (names_below own) first links game → (l : Link) → HasValuesIn (setting_of ds i) (mode_of x) game → IsLink (scene ds (names_below own) game) l → HasValuesIn (setting_of ds i) (mode_of x) (next_behind l)
-  link_valued x asked links game c (ByStep step cost next) v e =
-      next_values (scene ds (names_below own) game) i sat (mode_of x) (new_untested (scene ds (names_below own) game) x asked w.known_queries) step next cost (games_ready ds own first w links game c).formed.phrase v e
-  link_valued x asked links game c (ByEquivalence n e key next) v h =
-      let t = tested ds next (accepted (scene ds (names_below own) game) e key next h).game in
-      game_choices_valued ds next t.game.formed.phrase t.game.typed t.sorts t.asked i sat x asked
-
   pub valued : (x : Experiment) → IsAsked (queries_in ds) x → HasValuesIn (setting_of ds i) (mode_of x) first → (links : List Link) (last : Tree) → IsChain ds (names_below own) first links last → HasValuesIn (setting_of ds i) (mode_of x) last
-  valued x asked v links last start = v
-  valued x asked v links last (push before game l c e) = link_valued x asked before game c l (valued x asked v before game c) e
+  valued x asked v links last c = chain_valued ds own first w i sat x asked v links last c
 
   pub carried : (one : Bool) (x : ℕ) → IsAsked (queries_in ds) (Guesses (Real one x)) → IsAsked (queries_in ds) (Guesses (Random one x)) → HasValuesIn (setting_of ds i) (Real one x) first → HasValuesIn (setting_of ds i) (Random one x) first
       → (a : Adversary) (advantages : Advantages) (links : List Link) (last : Tree) → IsChain ds (names_below own) first links last

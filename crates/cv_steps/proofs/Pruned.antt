@@ -11,9 +11,9 @@ use Rattle.cv_scenes.specs.Scenes.{Scene, part_at}
 use Rattle.cv_scenes.specs.Sights.{sight_at}
 use Rattle.cv_scenes.specs.Derivations.{Derives, first_bad_line}
 use Rattle.cv_scenes.specs.Pruning.{Branch, Else, Part, Pruned, Then, branch_body, find_of, pruned, without_branch}
-use Rattle.cv_steps.specs.Steps.{Cost, Zero}
+use Rattle.cv_steps.specs.Steps.{Cost, Leads, Zero}
 use Rattle.cv_steps.specs.Changes.{change_at}
-use Rattle.cv_steps.specs.Rows.{Leads, prune_row, prune_row_by, unless}
+use Rattle.cv_steps.specs.Rows.{prune_row, prune_row_by, unless}
 use Rattle.cv_steps.proofs.Rows.{leads_same, unless_at_leads, unless_leads}
 
 -- the construct at the place without a part, where `false` is derived at the part

@@ -8,10 +8,10 @@ use Rattle.cv_derivations.specs.Targets.{equality}
 use Rattle.cv_scenes.specs.Scenes.{Scene, part_at}
 use Rattle.cv_scenes.specs.Sights.{sight_at}
 use Rattle.cv_scenes.specs.Derivations.{Derives, first_bad_line}
-use Rattle.cv_steps.specs.Steps.{Cost, Zero}
+use Rattle.cv_steps.specs.Steps.{Cost, Leads, Zero}
 use Rattle.cv_steps.specs.Changes.{change_at}
 use Rattle.cv_steps.specs.Rewriting.{has_sort_of, has_term_at, is_rewritable_at, sort_at}
-use Rattle.cv_steps.specs.Rows.{Leads, rewrite_row}
+use Rattle.cv_steps.specs.Rows.{rewrite_row}
 use Rattle.cv_steps.proofs.Rows.{leads_same, unless_at_leads, unless_leads}
 
 -- the game with the term at the place, where the equality with what stands there is derived

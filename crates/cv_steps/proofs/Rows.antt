@@ -1,8 +1,8 @@
 -- What follows of a row that leads to a game: no condition of it fails.
 use Rattle.std.proofs.Common.{◌≡◌, ℕ, Bool, true, false, Option, Some, None, refl}
 use Rattle.cv_syntax_trees.specs.Tree.{Tree}
-use Rattle.cv_steps.specs.Steps.{Cost}
-use Rattle.cv_steps.specs.Rows.{Row, Leads, unless, unless_at}
+use Rattle.cv_steps.specs.Steps.{Cost, Leads, Row}
+use Rattle.cv_steps.specs.Rows.{unless, unless_at}
 
 pub leads_same : (x y : Tree) (c d : Cost) → Leads x c ≡ Leads y d → x ≡ y
 leads_same x y c d e = cc

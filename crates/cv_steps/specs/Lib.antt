@@ -2,9 +2,11 @@ pub mod Steps
 pub mod Changes
 pub mod Rewriting
 pub mod Rows
+pub mod Elementary
 pub mod Judgements
 pub mod Chances
 pub mod Sequences
 pub mod Costs
 pub mod Unletting
 pub mod Renaming
+pub mod Asked

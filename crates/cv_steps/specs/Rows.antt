@@ -6,17 +6,13 @@ use Rattle.cv_scenes.specs.Scenes.{Scene, is_output_at, is_new, is_queried, is_c
 use Rattle.cv_scenes.specs.Sights.{sight_at}
 use Rattle.cv_scenes.specs.Derivations.{first_bad_line}
 use Rattle.cv_scenes.specs.Pruning.{Part, Pruned, pruned}
-use Rattle.cv_steps.specs.Steps.{Step, Split, Let, New, Unnew, Rename, Unlet, Rewrite, Prune, Cost, Zero}
+use Rattle.cv_steps.specs.Steps.{Row, Fails, Leads, Zero}
 use Rattle.cv_derivations.specs.Targets.{equality, falsity}
 use Rattle.cv_steps.specs.Rewriting.{has_sort_of, is_rewritable_at, sort_at}
 use Rattle.cv_steps.specs.Changes.{change_at, split_process, after_let, after_new, without, only}
 use Rattle.cv_steps.specs.Renaming.{renamed}
 use Rattle.cv_steps.specs.Unletting.{Assignment, is_listed, only_assignment, without_assignment}
 use Rattle.cv_scenes.specs.Terms.{has_site, is_bool_at}
-
-pub data Row : Type 0 where
-  Fails : (condition place : ℕ) → Row
-  Leads : (next : Tree) → Cost → Row
 
 -- the rest of a row, unless this condition fails
 abbrev pub unless : Bool → (condition place : ℕ) → Row → Row
@@ -75,13 +71,3 @@ prune_row_by s p by (Some b) = unless_derived s b.body by falsity 2 3 (Leads (ch
 
 abbrev pub prune_row : Scene → (place : ℕ) → Part → (by : Tree) → Row
 prune_row s p part by = prune_row_by s p by (pruned p (part_at s.game p) part)
-
-abbrev pub row_of : Scene → Step → Row
-row_of s (Split p m) = split_row s p m
-row_of s (Let p x T m) = let_row s p x T m
-row_of s (New p x T) = new_row s p x T
-row_of s (Unnew x) = unnew_row s x
-row_of s (Rename x y) = rename_row s x y
-row_of s (Unlet x) = unlet_row s x
-row_of s (Rewrite p m by) = rewrite_row s p m by
-row_of s (Prune p part by) = prune_row s p part by

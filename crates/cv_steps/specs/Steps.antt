@@ -1,19 +1,18 @@
--- Steps of proofs, as trees and names say them. This profile's own.
-use Rattle.std.specs.Prelude.{ℕ}
+-- Steps of proofs: what a step leads to in a game, or which of its conditions fails there. This profile's own.
+use Rattle.std.specs.Prelude.{ℕ, Bool}
 use Rattle.cv_syntax_trees.specs.Tree.{Tree}
-use Rattle.cv_scenes.specs.Pruning.{Part}
+use Rattle.cv_scenes.specs.Scenes.{Scene}
 
--- a place is a preorder number, and what a step goes by is a derivation
-pub data Step : Type 0 where
-  Split : (place : ℕ) → (condition : Tree) → Step
-  Let : (place x type : ℕ) → (term : Tree) → Step
-  New : (place x type : ℕ) → Step
-  Unnew : (x : ℕ) → Step
-  Rename : (x y : ℕ) → Step
-  Unlet : (x : ℕ) → Step
-  Rewrite : (place : ℕ) → (term by : Tree) → Step
-  Prune : (place : ℕ) → (part : Part) → (by : Tree) → Step
-
--- what a step may change the chance of an experiment by: those above by nothing
+-- what a step may change the chance of an experiment by: each so far by nothing
 pub data Cost : Type 0 where
   Zero : Cost
+
+-- the first condition that fails, with its place, or the next game and the cost
+pub data Row : Type 0 where
+  Fails : (condition place : ℕ) → Row
+  Leads : (next : Tree) → Cost → Row
+
+-- A step, by what is said of it in each scene: whether what it speaks of is there, and its row.
+pub record Step : Type 0 where
+  pub stands : Scene → Bool
+  pub row : Scene → Row

@@ -16,26 +16,22 @@ use Rattle.cv_scope_rules.specs.Scope.{names_of}
 use Rattle.cv_scope_rules.specs.Standing.{at_root}
 use Rattle.cv_scope_rules.proofs.First.{scoped_where_none}
 use Rattle.cv_scope_rules.specs.Phrases.{Inputs, Term, IsWellFormed, is_phrase, binds_none}
-use Rattle.cv_typing_runs.specs.Games.{HasConstants, HasDeclaredSorts, HasKnownNames, HasNamedFunctionsAndCells}
+use Rattle.cv_typing_runs.specs.Games.{HasConstants, HasKnownNames, HasNamedFunctionsAndCells}
 use Rattle.cv_typing_runs.proofs.Games.{known}
-use Rattle.cv_scenes.specs.Scenes.{Scene, KnowsQueries, is_chosen, is_new, is_output_at, is_queried, first_reading, has_place, is_type, names, part_at}
-use Rattle.cv_steps.specs.Steps.{Step, Split, Let, New, Unnew, Rename, Unlet, Rewrite, Prune, Cost, Zero}
-use Rattle.cv_steps.specs.Changes.{change_at, split_process, after_let, after_new, without, only}
+use Rattle.cv_scenes.specs.Scenes.{Scene, KnowsQueries, is_chosen, is_new, is_output_at, is_queried, first_reading, names, part_at}
+use Rattle.cv_steps.specs.Steps.{Cost, Fails, Leads, Row, Step, Zero}
+use Rattle.cv_steps.specs.Changes.{change_at, split_process, without, only}
 use Rattle.cv_scenes.specs.Terms.{is_term_at, is_bool_at, is_there, names_anywhere, has_site, has_index, is_game}
-use Rattle.cv_steps.specs.Rows.{Row, Fails, Leads, unless, split_row, let_row, new_row, unnew_row, row_of}
-use Rattle.cv_steps.specs.Judgements.{Refused, TooLarge, TooDeep, Accepted, stands, judgement_of_row, judgement_of}
+use Rattle.cv_steps.specs.Rows.{split_row, let_row, new_row, unnew_row}
+use Rattle.cv_steps.specs.Judgements.{Refused, TooLarge, TooDeep, Accepted, judgement_of_row, judgement_of}
 use Rattle.cv_syntax_limits.specs.Limits.{most_depth, most_nodes}
 use Rattle.cv_steps.specs.Chances.{KeepsChances}
 use Rattle.cv_steps.proofs.Flat.{term_still}
-use Rattle.cv_steps.proofs.Pruned.{prune_leads, pruned_output}
-use Rattle.cv_steps.proofs.Rewritten.{rewrite_leads}
 use Rattle.cv_steps.proofs.Rows.{leads_same, unless_leads, unless_at_leads}
 use Rattle.cv_steps.proofs.Testable.{game_no_calls, game_testable, local}
 use Rattle.cv_steps_laws.proofs.Gone.{dropped_game}
 use Rattle.cv_steps.proofs.Comes.{placed}
-use Rattle.cv_steps_laws.proofs.Renamed.{declared_renamed, rename_leads}
-use Rattle.cv_steps_laws.proofs.Sorts.{there_named, type_declared, term_declared, declared_replaced, declared_dropped, declared_rewritten, left_declared, sorts_kept}
-use Rattle.cv_steps_laws.proofs.Unletted.{unlet_leads, unletted_kept}
+use Rattle.cv_steps_laws.proofs.Sorts.{there_named}
 use Rattle.cv_steps_laws.proofs.Unnamed.{unnamed_unread, unnamed_undrawn, unlisted_unread, dropped_undrawn, dropped_phrase, asked_untested}
 
 -- steps
@@ -90,16 +86,16 @@ drops s x next cost w e =
 -- accepted steps
 
 pub record IsAccepted (s : Scene) (step : Step) (next : Tree) (cost : Cost) : Type 0 where
-  pub stands : stands s step ≡ true
-  pub row : row_of s step ≡ Leads next cost
+  pub stands : step.stands s ≡ true
+  pub row : step.row s ≡ Leads next cost
   pub small : nat_lt most_nodes (size next) ≡ false
   pub low : nat_lt most_depth (depth next) ≡ false
   pub game : is_game s.declarations next ≡ true
 
 pub accepted : (s : Scene) (step : Step) (next : Tree) (cost : Cost) → judgement_of s step ≡ Accepted next cost → IsAccepted s step next cost
-accepted s step next cost e = go (stands s step) refl (row_of s step) refl e
+accepted s step next cost e = go (step.stands s) refl (step.row s) refl e
   where
-    limits : (n : Tree) (c : Cost) (v w z : Bool) → nat_lt most_nodes (size n) ≡ v → nat_lt most_depth (depth n) ≡ w → is_game s.declarations n ≡ z → row_of s step ≡ Leads n c → stands s step ≡ true
+    limits : (n : Tree) (c : Cost) (v w z : Bool) → nat_lt most_nodes (size n) ≡ v → nat_lt most_depth (depth n) ≡ w → is_game s.declarations n ≡ z → step.row s ≡ Leads n c → step.stands s ≡ true
         → cond v (TooLarge (size n)) (cond w (TooDeep (depth n)) (cond z (Accepted n c) (Refused 9 0))) ≡ Accepted next cost → IsAccepted s step next cost
     limits n c true w z f g h r i e = absurd (cc)
     limits n c false true z f g h r i e = absurd (cc)
@@ -109,7 +105,7 @@ accepted s step next cost e = go (stands s step) refl (row_of s step) refl e
         let k : c ≡ cost = cc in
         record { stands = i; row = r ∙ (λ l. Leads (j l) (k l)); small = ap (λ t. nat_lt most_nodes (size t)) (sym j) ∙ f; low = ap (λ t. nat_lt most_depth (depth t)) (sym j) ∙ g; game = ap (is_game s.declarations) (sym j) ∙ h }
 
-    go : (v : Bool) → stands s step ≡ v → (r : Row) → row_of s step ≡ r → cond v (judgement_of_row s r) (Refused 0 0) ≡ Accepted next cost → IsAccepted s step next cost
+    go : (v : Bool) → step.stands s ≡ v → (r : Row) → step.row s ≡ r → cond v (judgement_of_row s r) (Refused 0 0) ≡ Accepted next cost → IsAccepted s step next cost
     go false i r f e = absurd (cc)
     go true i (Fails c p) f e = absurd (cc)
     go true i (Leads n c) f e = limits n c (nat_lt most_nodes (size n)) (nat_lt most_depth (depth n)) (is_game s.declarations n) refl refl refl f i e
@@ -152,63 +148,6 @@ next_named s step next cost e = (game_formed s.declarations next (accepted s ste
 
 pub next_known : (s : Scene) (step : Step) (next : Tree) (cost : Cost) → HasConstants s.declarations → judgement_of s step ≡ Accepted next cost → HasKnownNames s.declarations next
 next_known s step next cost c e = known s.declarations next c (next_formed s step next cost e) (next_named s step next cost e)
-
--- types and parameters
-
-output_at : (s : Scene) (p : ℕ) (rest : Row) (next : Tree) (cost : Cost) → unless (is_output_at s p) 1 0 rest ≡ Leads next cost → is_output_at s p ≡ true
-output_at s p rest next cost e = (unless_leads (is_output_at s p) 1 0 rest next cost e).0
-
--- a game with what stands at a place changed
-declared_there : (s : Scene) (p : ℕ) (change : Tree → Tree) → is_phrase Inputs s.game ≡ true → is_output_at s p ≡ true → (HasDeclaredSorts s.declarations (part_at s.game p) → HasDeclaredSorts s.declarations (change (part_at s.game p))) → HasDeclaredSorts s.declarations s.game → HasDeclaredSorts s.declarations (change_at s.game p change)
-declared_there s p change w o k d = declared_replaced s.declarations (part_at s.game p) (change (part_at s.game p)) p k Process 0 s.game (change_at s.game p change) (placed s.game p change w o) d
-
-pub next_declared : (s : Scene) (step : Step) (next : Tree) (cost : Cost) → is_phrase Inputs s.game ≡ true → HasDeclaredSorts s.declarations s.game → judgement_of s step ≡ Accepted next cost → HasDeclaredSorts s.declarations next
-unfolding HasDeclaredSorts
-next_declared s (Split p m) next cost w d e =
-    let r = accepted s (Split p m) next cost e in
-    let o = unless_leads (is_output_at s p) 1 0 _ next cost r.row in
-    let q = unless_leads (is_bool_at s p m) 2 0 _ next cost o.1 in
-    let t = term_declared s.declarations m (term_phrase s p m (and_parts (has_place s p) _ r.stands).1) in
-    subst (HasDeclaredSorts s.declarations) (leads_same _ next Zero cost q.1) (declared_there s p (split_process m) w o.0 (λ x. (tt, t, (tt, x, (tt, x, tt)))) d)
-next_declared s (Let p x T m) next cost w d e =
-    let r = accepted s (Let p x T m) next cost e in
-    let o = unless_leads (is_output_at s p) 1 0 _ next cost r.row in
-    let q = unless_leads (is_new s x) 2 0 _ next cost o.1 in
-    let i = and_parts (is_type s T) _ (and_parts (has_place s p) _ r.stands).1 in
-    let t = term_declared s.declarations m (term_phrase s p m i.1) in
-    subst (HasDeclaredSorts s.declarations) (leads_same _ next Zero cost q.1) (declared_there s p (after_let x T m) w o.0 (λ y. (type_declared s.declarations T i.0, t, y)) d)
-next_declared s (New p x T) next cost w d e =
-    let r = accepted s (New p x T) next cost e in
-    let o = unless_leads (is_output_at s p) 1 0 _ next cost r.row in
-    let q = unless_leads (is_new s x) 2 0 _ next cost o.1 in
-    let i = and_parts (has_place s p) _ r.stands in
-    subst (HasDeclaredSorts s.declarations) (leads_same _ next Zero cost q.1) (declared_there s p (after_new x T) w o.0 (λ y. (type_declared s.declarations T i.1, tt, y)) d)
-next_declared s (Unnew x) next cost w d e =
-    let r = accepted s (Unnew x) next cost e in
-    let a = unless_leads (is_chosen s x) 1 0 _ next cost r.row in
-    let q = unless_leads (not (is_queried s x)) 2 0 _ next cost a.1 in
-    let o = unless_at_leads 2 (first_reading x 0 s.game) _ next cost q.1 in
-    subst (HasDeclaredSorts s.declarations) (leads_same _ next Zero cost o.1)
-    (declared_dropped s.declarations (only x) Process s.game (without (only x) s.game) (dropped_game (only x) s.game w (unlisted_unread x 0 s.game o.0)) d)
-next_declared s (Rename x y) next cost w d e =
-    let z = rename_leads s x y next cost (accepted s (Rename x y) next cost e).row in
-    subst (HasDeclaredSorts s.declarations) z.leads (declared_renamed s.declarations x y s.game d)
-next_declared s (Unlet x) next cost w d e =
-    let r = accepted s (Unlet x) next cost e in
-    let z = unlet_leads s x next cost r.row in
-    let phrase : is_phrase Inputs next ≡ true = (and_parts (is_phrase Inputs next) _ r.game).0 in
-    subst (HasDeclaredSorts s.declarations) z.leads
-    (unletted_kept (HasDeclaredSorts s.declarations) (sorts_kept s.declarations) x z.assignment s.game w (ap (is_phrase Inputs) z.leads ∙ phrase) d)
-next_declared s (Rewrite p m by) next cost w d e =
-    let r = accepted s (Rewrite p m by) next cost e in
-    let z = rewrite_leads s p m by next cost r.row in
-    let t = term_declared s.declarations m (term_phrase s p m (and_parts (has_place s p) _ r.stands).1) in
-    subst (HasDeclaredSorts s.declarations) z.leads (declared_rewritten s.declarations m t Inputs s.game p z.stands d)
-next_declared s (Prune p part by) next cost w d e =
-    let r = accepted s (Prune p part by) next cost e in
-    let z = prune_leads s p part by next cost r.row in
-    subst (HasDeclaredSorts s.declarations) z.leads
-    (declared_there s p (λ old. z.gone.left) w (pruned_output p (part_at s.game p) part z.gone z.stands) (left_declared s.declarations p (part_at s.game p) part z.gone z.stands) d)
 
 pub formed : (ds : List Declaration) (game : Tree) → is_game ds game ≡ true → IsWellFormed ds game
 formed ds game e = (game_formed ds game e).formed

@@ -10,10 +10,10 @@ use Rattle.cv_scope_rules.specs.Behind.{sites_of}
 use Rattle.cv_scope_rules.specs.Context.{Context}
 use Rattle.cv_scenes.specs.Scenes.{Scene, head_reads, is_queried, part_at}
 use Rattle.cv_scenes.specs.Sights.{at_cell}
-use Rattle.cv_steps.specs.Steps.{Cost, Zero}
+use Rattle.cv_steps.specs.Steps.{Cost, Leads, Zero}
 use Rattle.cv_steps.specs.Changes.{only, without}
 use Rattle.cv_steps.specs.Unletting.{Assignment, assigned_in, assignment_by, is_listed, only_assignment, with_term, without_assignment}
-use Rattle.cv_steps.specs.Rows.{Leads, unlet_row, unlet_row_by}
+use Rattle.cv_steps.specs.Rows.{unlet_row, unlet_row_by}
 use Rattle.cv_steps.proofs.Flat.{Opened, flat_dropped, is_flat, is_of_terms, open_phrase}
 use Rattle.cv_steps.proofs.Rows.{leads_same, unless_leads}
 use Rattle.cv_steps_laws.proofs.Unnamed.{dropped_phrase}

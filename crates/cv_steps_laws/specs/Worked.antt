@@ -9,7 +9,8 @@ use Rattle.cv_syntax_trees.specs.Declarations.{Declaration, Named, Query}
 use Rattle.cv_syntax_trees.specs.Tree.{Tree, Empty, Node, lone}
 use Rattle.cv_meaning_runs.specs.Replacement.{if_tree}
 use Rattle.cv_scenes.specs.Scenes.{Scene}
-use Rattle.cv_steps.specs.Steps.{Step, Split, Let, New, Unnew, Rename, Unlet, Zero}
+use Rattle.cv_steps.specs.Elementary.{let_step, new_step, rename_step, split_step, unlet_step, unnew_step}
+use Rattle.cv_steps.specs.Steps.{Step, Zero}
 use Rattle.cv_steps.specs.Judgements.{Judgement, Refused, Accepted}
 
 -- type 0 [fixed]. type 5 [fixed].
@@ -52,40 +53,40 @@ equal = Node Eq (leaf 4) (leaf 4)
 -- The input stands at 0, the nonce at 1, the output at 2, its term at 3 and the end at 4.
 abbrev pub cases : List (Step × Judgement)
 cases =
-    (Split 1 (lone Yes), Accepted (receives (if_tree (lone Yes) draws draws)) Zero)
-    ∷ (Split 2 equal, Accepted (receives (Node (head.New 4 5) Empty (if_tree equal sends sends))) Zero)
+    (split_step 1 (lone Yes), Accepted (receives (if_tree (lone Yes) draws draws)) Zero)
+    ∷ (split_step 2 equal, Accepted (receives (Node (head.New 4 5) Empty (if_tree equal sends sends))) Zero)
     -- an input; a term; no place; a name that is nowhere; no term of `bool`; a read before the definition
-    ∷ (Split 0 (lone Yes), Refused 1 0)
-    ∷ (Split 3 (lone Yes), Refused 1 0)
-    ∷ (Split 5 (lone Yes), Refused 0 0)
-    ∷ (Split 1 (leaf 40), Refused 0 0)
-    ∷ (Split 2 (leaf 4), Refused 2 0)
-    ∷ (Split 1 equal, Refused 9 0)
-    ∷ (Let 2 11 5 (leaf 4), Accepted (receives (Node (head.New 4 5) Empty (Node (head.Let 11 5) (leaf 4) sends))) Zero)
+    ∷ (split_step 0 (lone Yes), Refused 1 0)
+    ∷ (split_step 3 (lone Yes), Refused 1 0)
+    ∷ (split_step 5 (lone Yes), Refused 0 0)
+    ∷ (split_step 1 (leaf 40), Refused 0 0)
+    ∷ (split_step 2 (leaf 4), Refused 2 0)
+    ∷ (split_step 1 equal, Refused 9 0)
+    ∷ (let_step 2 11 5 (leaf 4), Accepted (receives (Node (head.New 4 5) Empty (Node (head.Let 11 5) (leaf 4) sends))) Zero)
     -- a name of the game; one of the file; no type; another type than that of the term; a read before the definition
-    ∷ (Let 2 4 5 (leaf 4), Refused 2 0)
-    ∷ (Let 2 9 5 (leaf 4), Refused 2 0)
-    ∷ (Let 2 11 6 (leaf 4), Refused 0 0)
-    ∷ (Let 2 11 0 (leaf 4), Refused 9 0)
-    ∷ (Let 1 11 5 (leaf 4), Refused 9 0)
-    ∷ (New 2 11 5, Accepted (receives draws_more) Zero)
-    ∷ (New 4 11 5, Refused 1 0)
-    ∷ (New 2 9 5, Refused 2 0)
-    ∷ (New 2 11 3, Refused 0 0)
+    ∷ (let_step 2 4 5 (leaf 4), Refused 2 0)
+    ∷ (let_step 2 9 5 (leaf 4), Refused 2 0)
+    ∷ (let_step 2 11 6 (leaf 4), Refused 0 0)
+    ∷ (let_step 2 11 0 (leaf 4), Refused 9 0)
+    ∷ (let_step 1 11 5 (leaf 4), Refused 9 0)
+    ∷ (new_step 2 11 5, Accepted (receives draws_more) Zero)
+    ∷ (new_step 4 11 5, Refused 1 0)
+    ∷ (new_step 2 9 5, Refused 2 0)
+    ∷ (new_step 2 11 3, Refused 0 0)
     -- a nonce that is read; a name of the file without a definition; a name that is nowhere
-    ∷ (Unnew 4, Refused 2 3)
-    ∷ (Unnew 9, Refused 1 0)
-    ∷ (Unnew 40, Refused 0 0)
+    ∷ (unnew_step 4, Refused 2 3)
+    ∷ (unnew_step 9, Refused 1 0)
+    ∷ (unnew_step 40, Refused 0 0)
     -- the nonce by a new name, by one of the file, by its own; a name of the file without a definition; a name that is nowhere
-    ∷ (Rename 4 11, Accepted (receives (Node (head.New 11 5) Empty (output 3 [] (leaf 11 ∷ []) (lone Stop)))) Zero)
-    ∷ (Rename 4 9, Refused 2 0)
-    ∷ (Rename 4 4, Refused 2 0)
-    ∷ (Rename 9 11, Refused 1 0)
-    ∷ (Rename 40 11, Refused 0 0)
+    ∷ (rename_step 4 11, Accepted (receives (Node (head.New 11 5) Empty (output 3 [] (leaf 11 ∷ []) (lone Stop)))) Zero)
+    ∷ (rename_step 4 9, Refused 2 0)
+    ∷ (rename_step 4 4, Refused 2 0)
+    ∷ (rename_step 9 11, Refused 1 0)
+    ∷ (rename_step 40 11, Refused 0 0)
     -- the nonce, which is not assigned; a name of the file without a definition; a name that is nowhere
-    ∷ (Unlet 4, Refused 1 0)
-    ∷ (Unlet 9, Refused 1 0)
-    ∷ (Unlet 40, Refused 0 0)
+    ∷ (unlet_step 4, Refused 1 0)
+    ∷ (unlet_step 9, Refused 1 0)
+    ∷ (unlet_step 40, Refused 0 0)
     ∷ []
 
 -- new 4: 5; let x: 5 = 4 in the process

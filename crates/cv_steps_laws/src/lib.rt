@@ -9,18 +9,25 @@ ghost use Rattle.cv_meaning.specs.Replaced.{is_output};
 ghost use Rattle.cv_meaning_unread.specs.Dropping.{IsDropped, reads_none};
 ghost use Rattle.cv_typing_rules.specs.Parts.{IsTypedGame};
 ghost use Rattle.cv_scope_rules.specs.Phrases.{Inputs, IsWellFormed, Term, is_phrase};
-ghost use Rattle.cv_typing_runs.specs.Games.{
-  HasConstants,
-  HasDeclaredSorts,
-  HasKnownNames,
-  HasNamedFunctionsAndCells,
-};
+ghost use Rattle.cv_typing_runs.specs.Games.{HasConstants, HasKnownNames, HasNamedFunctionsAndCells};
+ghost use Rattle.cv_scenes.specs.Pruning.{Part};
 ghost use Rattle.cv_scenes.specs.Scenes.{KnowsQueries, Scene, part_at};
-ghost use Rattle.cv_steps.specs.Steps.{Cost, Rename, Step, Unlet, Unnew, Zero};
+ghost use Rattle.cv_steps.specs.Steps.{Cost, Leads, Step, Zero};
+ghost use Rattle.cv_steps.specs.Elementary.{
+  let_step,
+  new_step,
+  prune_step,
+  rename_step,
+  rewrite_step,
+  split_step,
+  unlet_step,
+  unnew_step,
+};
 ghost use Rattle.cv_steps.specs.Changes.{change_at, without};
-ghost use Rattle.cv_steps.specs.Rows.{Leads, let_row, new_row, split_row, unnew_row};
+ghost use Rattle.cv_steps.specs.Rows.{let_row, new_row, split_row, unnew_row};
 ghost use Rattle.cv_steps.specs.Judgements.{Accepted, Refused, judgement_of};
 ghost use Rattle.cv_steps.specs.Chances.{KeepsChances};
+ghost use Rattle.cv_steps_laws.specs.Keeping.{KeepsDeclaredSorts};
 ghost use Rattle.cv_steps_laws.specs.Worked.{asked, cases, more, plain, renames, unlets};
 
 /// A process may be divided by a condition, whatever the condition says.
@@ -52,8 +59,8 @@ pub fn unread_choices_may_go()
         KeepsChances s.declarations s.game next }
 {}
 
-/// An accepted step leads to a game with all that the laws of runs ask for: it is well-formed and typed, its
-/// names are known, and where the types and parameters of the game are declared, so are those of the next.
+/// An accepted step leads to a game with what the laws of runs ask for: it is well-formed and typed, and its
+/// names are known.
 pub fn accepted_steps_lead_to_games()
     ensures well_formed { (s : Scene) (step : Step) (next : Tree) (cost : Cost) →
         judgement_of s step ≡ Accepted next cost → IsWellFormed s.declarations next }
@@ -64,9 +71,20 @@ pub fn accepted_steps_lead_to_games()
     ensures names { (s : Scene) (step : Step) (next : Tree) (cost : Cost) →
         HasConstants s.declarations → judgement_of s step ≡ Accepted next cost →
         HasKnownNames s.declarations next }
-    ensures sorts { (s : Scene) (step : Step) (next : Tree) (cost : Cost) →
-        is_phrase Inputs s.game ≡ true → HasDeclaredSorts s.declarations s.game →
-        judgement_of s step ≡ Accepted next cost → HasDeclaredSorts s.declarations next }
+{}
+
+/// Where the types and parameters of a game are declared, so are those of the next, by each of the eight
+/// elementary steps.
+pub fn elementary_steps_keep_declared_sorts()
+    ensures split_step { (p : ℕ) (m : Tree) → KeepsDeclaredSorts (split_step p m) }
+    ensures let_step { (p x T : ℕ) (m : Tree) → KeepsDeclaredSorts (let_step p x T m) }
+    ensures new_step { (p x T : ℕ) → KeepsDeclaredSorts (new_step p x T) }
+    ensures unnew_step { (x : ℕ) → KeepsDeclaredSorts (unnew_step x) }
+    ensures rename_step { (x y : ℕ) → KeepsDeclaredSorts (rename_step x y) }
+    ensures unlet_step { (x : ℕ) → KeepsDeclaredSorts (unlet_step x) }
+    ensures rewrite_step { (p : ℕ) (m by : Tree) → KeepsDeclaredSorts (rewrite_step p m by) }
+    ensures prune_step { (p : ℕ) (part : Part) (by : Tree) →
+        KeepsDeclaredSorts (prune_step p part by) }
 {}
 
 /// In a well-formed game a service may come to each output process, so it can be changed by its place; and a
@@ -90,11 +108,11 @@ pub fn changes_of_games()
 pub fn worked_steps()
     ensures game { IsWellFormed plain.declarations plain.game }
     ensures cases { AllByRecursion (λ c. judgement_of plain c.0 ≡ c.1) cases }
-    ensures asked { judgement_of asked (Unnew 4) ≡ Refused 2 0 }
+    ensures asked { judgement_of asked (unnew_step 4) ≡ Refused 2 0 }
     ensures knows { KnowsQueries asked }
-    ensures back { judgement_of more (Unnew 11) ≡ Accepted plain.game Zero }
+    ensures back { judgement_of more (unnew_step 11) ≡ Accepted plain.game Zero }
     ensures assigned { AllByRecursion (λ c. IsWellFormed c.0.declarations c.0.game) unlets }
-    ensures unlets { AllByRecursion (λ c. judgement_of c.0 (Unlet 11) ≡ c.1) unlets }
+    ensures unlets { AllByRecursion (λ c. judgement_of c.0 (unlet_step 11) ≡ c.1) unlets }
     ensures renamed { AllByRecursion (λ c. IsWellFormed c.0.declarations c.0.game) renames }
-    ensures renames { AllByRecursion (λ c. judgement_of c.0 (Rename 11 12) ≡ c.1) renames }
+    ensures renames { AllByRecursion (λ c. judgement_of c.0 (rename_step 11 12) ≡ c.1) renames }
 {}

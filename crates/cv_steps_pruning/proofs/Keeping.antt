@@ -25,15 +25,17 @@ use Rattle.cv_scenes.specs.Pruning.{Branch, Else, Part, Pruned, Then, branch_bod
 use Rattle.cv_derivations_under.specs.Holding.{IsReady}
 use Rattle.cv_derivations_under.specs.Unreached.{DerivesFalse, HasNoneAt, IsElsewhere}
 use Rattle.cv_derivations_under.specs.Soundness.{DerivedBodiesAreUnreached}
-use Rattle.cv_steps.specs.Steps.{Cost}
+use Rattle.cv_steps.specs.Steps.{Cost, Leads}
 use Rattle.cv_steps.specs.Changes.{change_at}
-use Rattle.cv_steps.specs.Rows.{Leads, prune_row}
+use Rattle.cv_steps.specs.Rows.{prune_row}
 use Rattle.cv_steps.specs.Chances.{KeepsChances}
 use Rattle.cv_steps.proofs.Comes.{placed}
 use Rattle.cv_steps.proofs.Pruned.{prune_leads}
-use Rattle.cv_steps_pruning.proofs.Chances.{chance_inside}
-use Rattle.cv_steps_pruning.proofs.Inclusion.{Includes, else_included, find_included, replaced_included, then_included}
-use Rattle.cv_steps_pruning.proofs.Phrases.{Keeps, body_output, else_left, find_left, find_parts, if_bodies, phrase_replaced, phrase_there, then_left}
+use Rattle.cv_steps_chances.proofs.Chances.{chance_inside}
+use Rattle.cv_steps_chances.proofs.Inclusion.{Includes, replaced_included}
+use Rattle.cv_steps_chances.proofs.Phrases.{Keeps, body_output, find_parts, if_bodies, phrase_replaced, phrase_there}
+use Rattle.cv_steps_pruning.proofs.Inclusion.{else_included, find_included, then_included}
+use Rattle.cv_steps_pruning.proofs.Phrases.{else_left, find_left, then_left}
 use Rattle.cv_steps_pruning.proofs.Serving.{branch_goes, else_goes, then_goes}
 use Rattle.cv_steps.proofs.Sizes.{NamesSorts, typed_names}
 

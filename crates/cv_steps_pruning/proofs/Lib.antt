@@ -3,5 +3,4 @@ pub mod Candidates
 pub mod Serving
 pub mod Phrases
 pub mod Inclusion
-pub mod Chances
 pub mod Keeping

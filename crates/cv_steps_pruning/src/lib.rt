@@ -7,8 +7,8 @@ ghost use Rattle.cv_scenes.specs.Scenes.{Scene};
 ghost use Rattle.cv_derivations_under.specs.Holding.{IsReady};
 ghost use Rattle.cv_derivations_under.specs.Soundness.{DerivedBodiesAreUnreached};
 ghost use Rattle.cv_scenes.specs.Pruning.{Part};
-ghost use Rattle.cv_steps.specs.Steps.{Cost};
-ghost use Rattle.cv_steps.specs.Rows.{Leads, prune_row};
+ghost use Rattle.cv_steps.specs.Steps.{Cost, Leads};
+ghost use Rattle.cv_steps.specs.Rows.{prune_row};
 ghost use Rattle.cv_steps.specs.Chances.{KeepsChances};
 
 /// A body at which `false` is derived may go, where such bodies are unreached: an `if` serves as its other

@@ -18,8 +18,8 @@ use Rattle.cv_scenes.specs.Scenes.{KnowsQueries, Scene, asks_for, is_new, is_que
 use Rattle.cv_scenes.specs.Terms.{has_site}
 use Rattle.cv_steps.specs.Chances.{KeepsChances}
 use Rattle.cv_steps.specs.Renaming.{renamed}
-use Rattle.cv_steps.specs.Rows.{Leads, rename_row}
-use Rattle.cv_steps.specs.Steps.{Cost, Zero}
+use Rattle.cv_steps.specs.Rows.{rename_row}
+use Rattle.cv_steps.specs.Steps.{Cost, Leads, Zero}
 use Rattle.cv_steps.proofs.Rows.{leads_same, unless_leads}
 use Rattle.cv_steps_renaming.specs.Naming.{exchanged, with_names, IsNaming, KeepsTested}
 use Rattle.cv_steps_renaming.proofs.Names.{binds_under, exchanged_apart, exchanged_first, exchanged_other, exchanged_second, renamed_exchanged}

@@ -23,11 +23,11 @@ use Rattle.cv_derivations.specs.Lines.{lines_of, statements}
 use Rattle.cv_derivations.specs.Targets.{equality}
 use Rattle.cv_derivations_under.specs.Holding.{HoldAt, HoldAtConditions, HoldAtVisit, IsReady}
 use Rattle.cv_derivations_under.specs.Soundness.{DerivationsHold}
-use Rattle.cv_steps.specs.Steps.{Cost}
+use Rattle.cv_steps.specs.Steps.{Cost, Leads}
 use Rattle.cv_steps.specs.Changes.{change_at}
 use Rattle.cv_steps.specs.Chances.{KeepsChances}
 use Rattle.cv_steps.specs.Rewriting.{has_term_at}
-use Rattle.cv_steps.specs.Rows.{Leads, rewrite_row}
+use Rattle.cv_steps.specs.Rows.{rewrite_row}
 use Rattle.cv_steps.proofs.Flat.{term_still}
 use Rattle.cv_steps.proofs.Rewritten.{rewrite_leads}
 use Rattle.cv_steps_rewriting.proofs.Reworded.{Holds, game_reworded}

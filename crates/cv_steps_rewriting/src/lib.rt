@@ -7,8 +7,8 @@ ghost use Rattle.cv_scenes.specs.Scenes.{Scene};
 ghost use Rattle.cv_scenes.specs.Terms.{is_term_at};
 ghost use Rattle.cv_derivations_under.specs.Holding.{IsReady};
 ghost use Rattle.cv_derivations_under.specs.Soundness.{DerivationsHold};
-ghost use Rattle.cv_steps.specs.Steps.{Cost};
-ghost use Rattle.cv_steps.specs.Rows.{Leads, rewrite_row};
+ghost use Rattle.cv_steps.specs.Steps.{Cost, Leads};
+ghost use Rattle.cv_steps.specs.Rows.{rewrite_row};
 ghost use Rattle.cv_steps.specs.Chances.{KeepsChances};
 
 /// A term may be rewritten to one that a derivation at its place shows to be equal, where derivations hold:

@@ -23,8 +23,8 @@ use Rattle.cv_scope_runs.proofs.Standing.{root}
 use Rattle.cv_scenes.specs.Scenes.{Scene, is_queried}
 use Rattle.cv_steps.specs.Changes.{only, without}
 use Rattle.cv_steps.specs.Chances.{KeepsChances}
-use Rattle.cv_steps.specs.Rows.{Leads, unlet_row}
-use Rattle.cv_steps.specs.Steps.{Cost}
+use Rattle.cv_steps.specs.Rows.{unlet_row}
+use Rattle.cv_steps.specs.Steps.{Cost, Leads}
 use Rattle.cv_steps.specs.Unletting.{Assignment, is_listed, with_term, without_assignment}
 use Rattle.cv_steps.proofs.Testable.{game_no_calls, game_testable, local}
 use Rattle.cv_steps_laws.proofs.Gone.{dropped_game}

@@ -7,8 +7,8 @@ ghost use Rattle.cv_syntax_trees.specs.Tree.{Tree};
 ghost use Rattle.cv_scope_rules.specs.Context.{nothing_known};
 ghost use Rattle.cv_scope_rules.specs.Phrases.{IsWellFormed};
 ghost use Rattle.cv_scenes.specs.Scenes.{Scene};
-ghost use Rattle.cv_steps.specs.Steps.{Cost};
-ghost use Rattle.cv_steps.specs.Rows.{Leads, unlet_row};
+ghost use Rattle.cv_steps.specs.Steps.{Cost, Leads};
+ghost use Rattle.cv_steps.specs.Rows.{unlet_row};
 ghost use Rattle.cv_steps.specs.Chances.{KeepsChances};
 ghost use Rattle.cv_steps.specs.Unletting.{
   Assignment,

@@ -1,4 +1,4 @@
-use Rattle.cv_steps_laws.proofs.Keeping.{next_formed, next_typed, next_named, next_known, next_declared}
+use Rattle.cv_steps_laws.proofs.Keeping.{next_formed, next_typed, next_named, next_known}
 use Rattle.cv_steps_laws.proofs.accepted_steps_lead_to_games.Goals as goal
 
 pub returns-clause-well_formed : goal.returns-clause-well_formed
@@ -12,6 +12,3 @@ returns-clause-cells c = next_named
 
 pub returns-clause-names : goal.returns-clause-names
 returns-clause-names c = next_known
-
-pub returns-clause-sorts : goal.returns-clause-sorts
-returns-clause-sorts c = next_declared

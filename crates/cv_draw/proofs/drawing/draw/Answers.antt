@@ -1,39 +1,27 @@
-use Rattle.std.proofs.Common.{ap, ap₂, sym, refl, ◌∙◌, ◌+◌, ◌<◌, inl, inr, Some, Err, length, arith}
-use Rattle.cv_pool.specs.declared.pool.PoolError.TheVariants as pool
-use Rattle.cv_syntax_trees.specs.Tree.{size}
+use Rattle.std.proofs.Common.{◌≡◌, ◌<◌, ap, ap₂, sym, subst, ◌∙◌, Some, length}
+use Rattle.std.specs.Prelude.{All}
 use Rattle.cv_syntax.specs.PoolTrees.{tree_at}
-use Rattle.cv_syntax.proofs.Buildings.{child-grown}
-use Rattle.cv_draw_extents.proofs.Extents.{some-part}
-use Rattle.cv_draw.proofs.Room.{no-place, room-refused, still-room, none-found, some-found, only-left, with-right, same-error, no-error}
+use Rattle.cv_meaning.specs.Replaced.{replaced}
+use Rattle.cv_path.specs.declared.replacing.Turn.{Turn}
+use Rattle.cv_path.specs.Ways.{led}
+use Rattle.cv_draw.specs.Changes.{change_of}
+use Rattle.cv_draw.proofs.Drawn.{led-grown, part-found}
 use Rattle.cv_draw.proofs.drawing.draw.Goals as goal
 
-pub returns-in_default-clause-refused : goal.returns-in_default-clause-refused
-returns-in_default-clause-refused c =
-    λ e r. inr (no-place c.args.pool.now (tree_at c.args.pool.now.trees (Some c.args.root)) c.args.place c.args.change (none-found _ c.at.result _ c.at.ensures.tree c.in_default.is) ∙ ap Some (same-error _ _ e refl r), refl)
-
-pub returns-in-Ok-clause-refused : goal.returns-in-Ok-clause-refused
-returns-in-Ok-clause-refused c =
-    λ e r.
+pub returns-in-Ok-clause-tree : goal.returns-in-Ok-clause-tree
+returns-in-Ok-clause-tree c =
     let before = c.args.pool.now in
-    let after = c.part-by.new.pool in
     let asked = c.reserve.new.self in
-    let t = tree_at before.trees (Some c.args.root) in
-    let need = ap₂ ◌+◌ c.count_above.ensures.count c.nodes.ensures in
-    let there : c.args.place < size t = some-part t c.args.place _ (some-found _ c.at.result _ c.in-Some.old c.at.ensures.tree c.in-Some.is) in
-    inl (only-left (c.replace.ensures.refused e r) (still-room before after t (tree_at after.trees (Some c.args.root)) c.args.place c.args.change e
-    (child-grown asked after (Some c.args.root) c.part-by.ensures.grows (omega (arith, c.requires.live, ap length c.reserve.ensures.kept)) ∙ ap (λ ts. tree_at ts (Some c.args.root)) c.reserve.ensures.kept)
-    (c.part-by.ensures.grows.limit ∙ c.reserve.ensures.limit)
-    (omega (arith, c.part-by.ensures.few, ap length c.reserve.ensures.kept))
-    there
-    (λ l. no-error c.reserve.result c.in-Ok.field-0 (pool.Full (c.count_above.result + c.nodes.result)) c.in-Ok.is (c.reserve.ensures.full.1 (omega (arith, l, need))))))
-
-pub returns-in-Err-clause-refused : goal.returns-in-Err-clause-refused
-returns-in-Err-clause-refused c =
-    λ e r.
-    let before = c.args.pool.now in
-    let t = tree_at before.trees (Some c.args.root) in
-    let need = ap₂ ◌+◌ c.count_above.ensures.count c.nodes.ensures in
-    let there : c.args.place < size t = some-part t c.args.place _ (some-found _ c.at.result _ c.in-Some.old c.at.ensures.tree c.in-Some.is) in
-    with-right c.reserve.ensures.kept (room-refused before t c.args.place c.args.change c.in-Err.fault e (sym (same-error _ _ e refl r) ∙ c.no_room.ensures) there
-    (λ n f. c.reserve.ensures.other n (c.in-Err.is ∙ ap Err f) ∙ need)
-    (λ f. omega (arith, need, c.reserve.ensures.full.0 (c.in-Err.is ∙ ap Err (f ∙ ap pool.Full (sym need))))))
+    let after = c.part.new.pool in
+    let kept = c.reserve.ensures.kept in
+    let game = tree_at before.trees (Some c.args.root) in
+    let turns = c.in_ok-way.way.turns.items in
+    let end = c.in_ok-way.way.end in
+    let change = change_of before.trees c.args.change.now in
+    let live = subst (λ ts. All (λ (t : Turn). t.node.0 < length ts) turns) (sym kept) c.in_ok-way.ensures.live in
+    let by : tree_at after.trees c.in-Ok.by ≡ change (tree_at before.trees (Some end)) = c.in-Ok.ensures.tree ∙ ap (λ ts. change_of ts c.args.change.now (tree_at ts (Some end))) kept in
+    c.rebuilt.ensures.tree
+    ∙ (led-grown asked after turns (tree_at after.trees c.in-Ok.by) c.part.ensures.grows live
+    ∙ (ap₂ (λ ts t. led ts turns t) kept by
+    ∙ (c.in_ok-way.ensures.leads (change (tree_at before.trees (Some end)))
+    ∙ ap (λ t. replaced game c.args.place (change t)) (sym (part-found game c.args.place _ c.in_ok-way.ensures.end)))))

@@ -1,10 +1,14 @@
-use Rattle.std.proofs.Common.{arith, length, subst, sym, ◌∙◌}
+use Rattle.std.proofs.Common.{ap, arith, length, option_map, subst, sym, ◌∙◌}
 use Rattle.cv_pool.specs.Nodes.{ChildBelow}
+use Rattle.cv_syntax_trees.specs.Tree.{size}
+use Rattle.cv_syntax.specs.PoolTrees.{tree_at}
 use Rattle.cv_rule_scenes.specs.Kept.{scene_of}
+use Rattle.cv_scenes.specs.Refusals.{first_refusal}
 use Rattle.cv_match.proofs.Fitting.{equiv-live}
-use Rattle.cv_steps_crypto.specs.Conditions.{failure_of}
-use Rattle.cv_kernel_crypto.specs.Faults.{IsRefused}
-use Rattle.cv_kernel_crypto.proofs.Failing.{node_named, without_equivalence}
+use Rattle.cv_match.specs.Matched.{matching_of}
+use Rattle.cv_steps_crypto.specs.Conditions.{failure_by, failure_of}
+use Rattle.cv_kernel_crypto.specs.Faults.{IsRefused, fault_of}
+use Rattle.cv_kernel_crypto.proofs.Failing.{node_named, refused_by, refused_through, with_both, without_equivalence, without_variable}
 use Rattle.cv_kernel_crypto.proofs.Found.{calls_found, right_found, sites_found}
 use Rattle.cv_kernel_crypto.proofs.instances.instances_for.Goals as goal
 
@@ -18,6 +22,26 @@ pub room_left-requires : goal.room_left-requires
 room_left-requires c =
     let w = c.args.work.now in
     subst (ChildBelow (length w.pool.trees)) (sym c.equiv.ensures ∙ c.in-Some.is) (equiv-live (length w.pool.trees) w.decls.list c.args.equivalence c.requires.declared)
+
+pub returns-then-not-is_there-clause-fault : goal.returns-then-not-is_there-clause-fault
+returns-then-not-is_there-clause-fault c =
+    let w = c.args.work.now in
+    subst (IsRefused (failure_of (scene_of w.pool w.decls c.args.game) c.args.equivalence c.args.key)) (sym c.refused-then-not-is_there.ensures)
+    (without_variable w.pool w.decls c.args.game c.args.equivalence c.args.key c.in-Some.tree (sym c.equiv.ensures ∙ c.in-Some.is) (sym c.is_there.ensures ∙ c.if-not-is_there.true))
+
+pub matches-requires-clause-short : goal.matches-requires-clause-short
+matches-requires-clause-short c =
+    let e = ap (λ o. size (tree_at c.args.work.now.pool.trees o)) (sym c.equiv.ensures ∙ c.in-Some.is) in
+    omega (arith, c.in-Some-room_left.ensures.left, e)
+
+pub returns-in_err-found-clause-fault : goal.returns-in_err-found-clause-fault
+returns-in_err-found-clause-fault c =
+    let w = c.args.work.now in
+    let M = matching_of w.pool w.decls c.args.game c.args.equivalence c.args.key in
+    let fault = c.in_err-found.field-0.0 in
+    refused_through _ (fault_of fault) (failure_of (scene_of w.pool w.decls c.args.game) c.args.equivalence c.args.key) c.from_residual.ensures.1
+    (subst (λ o. IsRefused o (fault_of fault)) (sym (with_both w.pool w.decls c.args.game c.args.equivalence c.args.key c.in-Some.tree (sym c.equiv.ensures ∙ c.in-Some.is) (sym c.is_there.ensures ∙ c.if-not-is_there.false)))
+    (refused_by (first_refusal M) fault c.in_err-found.ensures.fault))
 
 pub returns-clause-found : goal.returns-clause-found
 returns-clause-found c =
@@ -35,4 +59,10 @@ returns-clause-found c =
     }
 
 pub returns-clause-met : goal.returns-clause-met
-returns-clause-met c = let w = c.args.work.now in record { named = node_named w.pool w.decls c.args.game c.args.equivalence c.in-Some.tree (sym c.equiv.ensures ∙ c.in-Some.is); met = c.in_ok-found.ensures.none }
+returns-clause-met c =
+    let w = c.args.work.now in
+    let i = sym c.equiv.ensures ∙ c.in-Some.is in
+    record {
+      named = node_named w.pool w.decls c.args.game c.args.equivalence c.in-Some.tree i;
+      met = with_both w.pool w.decls c.args.game c.args.equivalence c.args.key c.in-Some.tree i (sym c.is_there.ensures ∙ c.if-not-is_there.false) ∙ ap (option_map failure_by) c.in_ok-found.ensures.none;
+    }

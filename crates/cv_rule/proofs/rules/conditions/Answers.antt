@@ -1,8 +1,7 @@
 use Rattle.cv_rule_scenes.proofs.Tests.{ok-same}
 use Rattle.cv_rule_scenes.specs.Kept.{scene_of}
-use Rattle.cv_steps.specs.Judgements.{stands}
-use Rattle.cv_steps.specs.Rows.{row_of}
-use Rattle.cv_rule.specs.Stated.{failing, failure_of, step_of}
+use Rattle.cv_draw.specs.Plans.{failing, failure_of}
+use Rattle.cv_rule.specs.Stated.{step_of}
 use Rattle.cv_rule.proofs.Rowed.{not-there, there}
 use Rattle.cv_rule.proofs.rules.conditions.Goals as goal
 
@@ -11,11 +10,11 @@ returns-then-not-branch c =
     let trees = c.args.work.now.pool.trees in
     let s = scene_of c.args.work.now.pool c.args.work.now.decls c.args.game in
     let x = step_of trees c.args.rule in
-    not-there (stands s x) (row_of s x) c.in_ok-stands.field-0 c.in_ok-stands.ensures c.if-not-branch.true
+    not-there (x.stands s) (x.row s) c.in_ok-stands.field-0 c.in_ok-stands.ensures c.if-not-branch.true
 
 pub returns : goal.returns
 returns c =
     let trees = c.args.work.now.pool.trees in
     let s = scene_of c.args.work.now.pool c.args.work.now.decls c.args.game in
     let x = step_of trees c.args.rule in
-    ok-same c.unmet.result (failing (row_of s x)) (failure_of s x) (there (stands s x) (row_of s x) c.in_ok-stands.field-0 c.in_ok-stands.ensures c.if-not-branch.false) c.unmet.ensures
+    ok-same c.unmet.result (failing (x.row s)) (failure_of s x) (there (x.stands s) (x.row s) c.in_ok-stands.field-0 c.in_ok-stands.ensures c.if-not-branch.false) c.unmet.ensures

@@ -2,8 +2,7 @@ use Rattle.std.proofs.Common.{None, refl}
 use Rattle.cv_rule_scenes.specs.Kept.{scene_of}
 use Rattle.cv_scenes.specs.Scenes.{is_new, is_output_at}
 use Rattle.cv_steps.specs.Changes.{after_let, after_new, change_at}
-use Rattle.cv_steps.specs.Rows.{Leads}
-use Rattle.cv_steps.specs.Steps.{Zero}
+use Rattle.cv_steps.specs.Steps.{Leads, Zero}
 use Rattle.cv_rule.proofs.Rowed.{both-hold, first-fails, second-fails}
 use Rattle.cv_rule.proofs.rules.definition_conditions.Goals as goal
 

@@ -1,11 +1,10 @@
-use Rattle.std.proofs.Common.{Some, None, not, refl, ap}
-use Rattle.cv_syntax.specs.PoolTrees.{tree_at}
+use Rattle.std.proofs.Common.{None, not, refl, ap}
 use Rattle.cv_rule_scenes.specs.Kept.{scene_of}
 use Rattle.cv_scenes.specs.Scenes.{is_new, is_queried}
 use Rattle.cv_scenes.specs.Terms.{has_site}
 use Rattle.cv_steps.specs.Renaming.{renamed}
-use Rattle.cv_steps.specs.Rows.{Leads, unless}
-use Rattle.cv_steps.specs.Steps.{Zero}
+use Rattle.cv_steps.specs.Rows.{unless}
+use Rattle.cv_steps.specs.Steps.{Leads, Zero}
 use Rattle.cv_rule.proofs.Rowed.{both-hold, denied, fails-here, first-fails, goes-on, second-fails}
 use Rattle.cv_rule.proofs.rules.rename_conditions.Goals as goal
 

@@ -1,9 +1,9 @@
 use Rattle.std.proofs.Common.{Some, None, refl}
 use Rattle.cv_syntax.specs.PoolTrees.{tree_at}
 use Rattle.cv_steps.specs.Changes.{change_at, split_process}
-use Rattle.cv_steps.specs.Rows.{Leads, unless}
+use Rattle.cv_steps.specs.Rows.{unless}
 use Rattle.cv_scenes.specs.Scenes.{is_output_at}
-use Rattle.cv_steps.specs.Steps.{Zero}
+use Rattle.cv_steps.specs.Steps.{Leads, Zero}
 use Rattle.cv_scenes.specs.Terms.{is_bool_at}
 use Rattle.cv_rule_scenes.specs.Kept.{scene_of}
 use Rattle.cv_rule.proofs.Rowed.{fails-here, goes-on}

@@ -1,7 +1,6 @@
 use Rattle.std.proofs.Common.{◌≡◌, subst, sym}
 use Rattle.std.specs.Prelude.{IfOk}
 use Rattle.cv_rule_scenes.specs.Kept.{scene_of}
-use Rattle.cv_steps.specs.Judgements.{stands}
 use Rattle.cv_rule.specs.Stated.{IsLiveRule, step_of}
 use Rattle.cv_rule.proofs.rules.stands.Goals as goal
 
@@ -19,7 +18,7 @@ pub returns-in-Split : goal.returns-in-Split
 returns-in-Split c =
     let trees = c.args.work.now.pool.trees in
     let s = scene_of c.args.work.now.pool c.args.work.now.decls c.args.game in
-    subst (λ r. IfOk c.stands_at.result (λ b. b ≡ stands s (step_of trees r))) (sym c.in-Split.is) c.stands_at.ensures
+    subst (λ r. IfOk c.stands_at.result (λ b. b ≡ (step_of trees r).stands s)) (sym c.in-Split.is) c.stands_at.ensures
 
 pub let_stands-requires-clause-term : goal.let_stands-requires-clause-term
 let_stands-requires-clause-term c =
@@ -35,7 +34,7 @@ pub returns-in-Let : goal.returns-in-Let
 returns-in-Let c =
     let trees = c.args.work.now.pool.trees in
     let s = scene_of c.args.work.now.pool c.args.work.now.decls c.args.game in
-    subst (λ r. IfOk c.let_stands.result (λ b. b ≡ stands s (step_of trees r))) (sym c.in-Let.is) c.let_stands.ensures
+    subst (λ r. IfOk c.let_stands.result (λ b. b ≡ (step_of trees r).stands s)) (sym c.in-Let.is) c.let_stands.ensures
 
 pub stands_at-requires-in-Rewrite-clause-term : goal.stands_at-requires-in-Rewrite-clause-term
 stands_at-requires-in-Rewrite-clause-term c =
@@ -51,4 +50,4 @@ pub returns-in-Rewrite : goal.returns-in-Rewrite
 returns-in-Rewrite c =
     let trees = c.args.work.now.pool.trees in
     let s = scene_of c.args.work.now.pool c.args.work.now.decls c.args.game in
-    subst (λ r. IfOk c.stands_at-in-Rewrite.result (λ b. b ≡ stands s (step_of trees r))) (sym c.in-Rewrite.is) c.stands_at-in-Rewrite.ensures
+    subst (λ r. IfOk c.stands_at-in-Rewrite.result (λ b. b ≡ (step_of trees r).stands s)) (sym c.in-Rewrite.is) c.stands_at-in-Rewrite.ensures

@@ -1,8 +1,8 @@
 use Rattle.std.proofs.Common.{◌≡◌, subst, sym}
 use Rattle.std.specs.Prelude.{IfOk}
 use Rattle.cv_rule_scenes.specs.Kept.{scene_of}
-use Rattle.cv_steps.specs.Rows.{row_of}
-use Rattle.cv_rule.specs.Stated.{IsLiveRule, failing, step_of}
+use Rattle.cv_draw.specs.Plans.{failing}
+use Rattle.cv_rule.specs.Stated.{IsLiveRule, step_of}
 use Rattle.cv_rule.proofs.rules.unmet.Goals as goal
 
 pub split_conditions-requires-clause-term : goal.split_conditions-requires-clause-term
@@ -14,7 +14,7 @@ pub returns-in-Split : goal.returns-in-Split
 returns-in-Split c =
     let trees = c.args.work.now.pool.trees in
     let s = scene_of c.args.work.now.pool c.args.work.now.decls c.args.game in
-    subst (λ r. IfOk c.split_conditions.result (λ f. f ≡ failing (row_of s (step_of trees r)))) (sym c.in-Split.is) c.split_conditions.ensures
+    subst (λ r. IfOk c.split_conditions.result (λ f. f ≡ failing ((step_of trees r).row s))) (sym c.in-Split.is) c.split_conditions.ensures
 
 pub rewrite_conditions-requires-clause-term : goal.rewrite_conditions-requires-clause-term
 rewrite_conditions-requires-clause-term c =
@@ -30,7 +30,7 @@ pub returns-in-Rewrite : goal.returns-in-Rewrite
 returns-in-Rewrite c =
     let trees = c.args.work.now.pool.trees in
     let s = scene_of c.args.work.now.pool c.args.work.now.decls c.args.game in
-    subst (λ r. IfOk c.rewrite_conditions.result (λ f. f ≡ failing (row_of s (step_of trees r)))) (sym c.in-Rewrite.is) c.rewrite_conditions.ensures
+    subst (λ r. IfOk c.rewrite_conditions.result (λ f. f ≡ failing ((step_of trees r).row s))) (sym c.in-Rewrite.is) c.rewrite_conditions.ensures
 
 pub prune_conditions-requires-clause-by : goal.prune_conditions-requires-clause-by
 prune_conditions-requires-clause-by c =
@@ -41,4 +41,4 @@ pub returns-in-Prune : goal.returns-in-Prune
 returns-in-Prune c =
     let trees = c.args.work.now.pool.trees in
     let s = scene_of c.args.work.now.pool c.args.work.now.decls c.args.game in
-    subst (λ r. IfOk c.prune_conditions.result (λ f. f ≡ failing (row_of s (step_of trees r)))) (sym c.in-Prune.is) c.prune_conditions.ensures
+    subst (λ r. IfOk c.prune_conditions.result (λ f. f ≡ failing ((step_of trees r).row s))) (sym c.in-Prune.is) c.prune_conditions.ensures

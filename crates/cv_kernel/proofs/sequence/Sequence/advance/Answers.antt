@@ -1,7 +1,8 @@
 use Rattle.std.proofs.Common.{arith, subst, sym}
 use Rattle.cv_kernel_costs.specs.Sums.{SumsFit}
 use Rattle.cv_rule_scenes.specs.Kept.{scene_of}
-use Rattle.cv_rule.specs.Stated.{step_of}
+use Rattle.cv_script.specs.Views.{items_of_view}
+use Rattle.cv_kernel.specs.Rules.{rule_of_items}
 use Rattle.cv_kernel.proofs.Pushes.{accepted_small, fits_on}
 use Rattle.cv_kernel.proofs.sequence.Sequence.advance.Goals as goal
 
@@ -16,7 +17,7 @@ returns-clause-stands c =
     let pool = c.args.work.now.pool in
     record {
       live = c.in_ok-next.ensures.prepared.live;
-      small = accepted_small (scene_of pool c.args.work.now.decls c.args.self.now.game.root) (step_of pool.trees c.args.rule) _ w.cost w.accepted;
+      small = accepted_small (scene_of pool c.args.work.now.decls c.args.self.now.game.root) (rule_of_items (items_of_view pool.trees c.args.view)) _ w.cost w.accepted;
       formed = c.in_ok-next.ensures.prepared.formed;
       arrays = c.in_ok-next.ensures.prepared;
       fits = subst SumsFit (sym c.in_ok-sum.ensures) (fits_on c.args.self.now.sum c.in_ok-next.next.cost w.cost w.costs c.requires.stands.fits);

@@ -15,16 +15,16 @@ with_cost-requires c =
     let sums = c.prepare.new.self.sum in
     subst (λ (k : Cost). SumsFit (with_cost sums k)) (sym c.advantage.ensures) (advantage-fits sums (c.prepare.new.self.steps + 1) c.args.reducing.equivalence c.prepare.ensures.stands.fits)
 
-pub apply-requires-clause-equivalences : goal.apply-requires-clause-equivalences
-apply-requires-clause-equivalences c =
+pub plan-requires-clause-equivalences : goal.plan-requires-clause-equivalences
+plan-requires-clause-equivalences c =
     let w = c.args.work.now in
     subst (λ (g : Game). HasEquivalences (scene_of w.pool w.decls g.root)) (sym c.prepare.ensures.same.game) c.requires.equivalences
 
-pub returns-in_err-context-clause-answer : goal.returns-in_err-context-clause-answer
-returns-in_err-context-clause-answer c =
+pub returns-in_err-basis-clause-answer : goal.returns-in_err-basis-clause-answer
+returns-in_err-basis-clause-answer c =
     let w = c.args.work.now in
-    refused-answer w.pool.limit (length w.pool.trees) _ _ (ap (λ (g : Game). scene_of w.pool w.decls g.root) c.prepare.ensures.same.game) c.args.reducing.equivalence c.args.reducing.key w.pool.trees c.args.self.now c.prepare.new.self _ c.in_err-context.field-0.0 c.from_residual-in_err-context.ensures.1
-    c.in_err-context.ensures.fault
+    refused-answer w.pool.limit (length w.pool.trees) _ _ (ap (λ (g : Game). scene_of w.pool w.decls g.root) c.prepare.ensures.same.game) c.args.reducing.equivalence c.args.reducing.key w.pool.trees c.args.self.now c.prepare.new.self _ c.in_err-basis.field-0.0 c.from_residual-in_err-basis.ensures.1
+    c.in_err-basis.ensures.fault
 
 pub returns-in_err-next-clause-answer : goal.returns-in_err-next-clause-answer
 returns-in_err-next-clause-answer c =
@@ -39,7 +39,7 @@ returns-clause-answer c =
     let mid = c.prepare.new.self in
     let step = mid.steps + 1 in
     reduced w.pool.limit (length w.pool.trees) _ _ (ap (λ (g : Game). scene_of w.pool w.decls g.root) same.game) c.args.reducing.equivalence c.args.reducing.key c.apply.new.work.pool.trees c.args.self.now _ step c.in_ok-next.next refl c.in_ok-next.ensures.answer refl
-    (let e = same.steps in omega arith) refl (c.in_ok-sum.ensures ∙ (ap (with_cost mid.sum) c.advantage.ensures ∙ ap (λ (s : Sums). with_cost s (advantage_of step c.args.reducing.equivalence)) same.sum)) same.closed (sym c.in_ok-context.ensures.shape) c.in_ok-next.ensures.few
+    (let e = same.steps in omega arith) refl (c.in_ok-sum.ensures ∙ (ap (with_cost mid.sum) c.advantage.ensures ∙ ap (λ (s : Sums). with_cost s (advantage_of step c.args.reducing.equivalence)) same.sum)) same.closed (sym c.in_ok-basis.ensures.shape) c.in_ok-next.ensures.few
 
 pub returns-clause-drawn : goal.returns-clause-drawn
 returns-clause-drawn c =

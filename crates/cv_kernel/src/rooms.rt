@@ -1,0 +1,68 @@
+// The rules that stand in crates of their own.
+ghost use Rattle.std.specs.Prelude.{◌≡◌, ◌<◌, ◌≤◌, ℕ, All, List, Some, length};
+ghost use Rattle.cv_pool.specs.KindTree.{KindTree};
+ghost use Rattle.cv_syntax_trees.specs.Tree.{size};
+ghost use Rattle.cv_syntax.specs.PoolTrees.{tree_at};
+ghost use Rattle.cv_directory.specs.Live.{IsLive};
+ghost use Rattle.cv_scenes.specs.Scenes.{Scene};
+ghost use Rattle.cv_rule_scenes.specs.Kept.{scene_of};
+ghost use Rattle.cv_draw.specs.Changes.{need_at};
+ghost use Rattle.cv_draw.specs.Plans.{IsPlanned};
+ghost use Rattle.cv_script.specs.Views as items;
+ghost use Rattle.cv_kernel.specs.Answers.{IsPlan};
+ghost use Rattle.cv_kernel.specs.Rules as rules;
+ghost use Rattle.cv_kernel.specs.Rules.{rule_of_items};
+
+use crate::error::RuleError;
+use crate::planning::place_in;
+use cv_draw::{Change, Failure};
+use cv_edit::Edit;
+use cv_rule_merge as merging;
+use cv_rule_move as moving;
+use cv_syntax::{NodeId, Work};
+use std::alloc::Global;
+
+/// A change at a place as an edit of the game, where it is planned.
+fn at(place: u32, planned: Result<Change, Failure>) -> Result<Edit, RuleError>
+    ensures { (trees : List KindTree) (s : Scene) (r : rules.Rule) (made : ℕ) →
+        IsPlanned trees s r.step place made planned → r.need s.game ≡ need_at place made s.game →
+        IsPlan trees s (Some r) result }
+{
+    match planned {
+        Ok(change) => Ok(Edit::At { place, change }),
+        Err(failure) => Err(RuleError::Refused(failure)),
+    }
+}
+
+/// How a `move` changes a game.
+pub(crate) fn moved(
+    alloc: Global,
+    work: &Work,
+    game: NodeId,
+    number: u64,
+) -> Result<Edit, RuleError>
+    requires live { game.0 < length work.now.pool.trees }
+    requires small { size (tree_at work.now.pool.trees (Some game)) ≤ 50000 }
+    ensures { IsPlan work.now.pool.trees (scene_of work.now.pool work.now.decls game)
+        (rule_of_items (items.Move number)) result }
+{
+    let place = place_in(number)?;
+    at(place, moving::plan(alloc, work, game, place)?)
+}
+
+/// How a `merge` changes a game.
+pub(crate) fn merged(
+    alloc: Global,
+    work: &Work,
+    game: NodeId,
+    number: u64,
+) -> Result<Edit, RuleError>
+    requires live { game.0 < length work.now.pool.trees }
+    requires small { size (tree_at work.now.pool.trees (Some game)) ≤ 50000 }
+    requires declared { All (IsLive (length work.now.pool.trees)) work.now.decls.list }
+    ensures { IsPlan work.now.pool.trees (scene_of work.now.pool work.now.decls game)
+        (rule_of_items (items.Merge number)) result }
+{
+    let place = place_in(number)?;
+    at(place, merging::plan(alloc, work, game, place)?)
+}

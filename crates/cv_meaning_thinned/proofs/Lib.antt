@@ -1,0 +1,4 @@
+pub mod Guards
+pub mod Branches
+pub mod Alike
+pub mod Placed

@@ -1,0 +1,5 @@
+use Rattle.std.proofs.lemmas.Result.{on_ok_weaker}
+use Rattle.cv_rule_move.proofs.bodies.add_definition.Goals as goal
+
+pub returns-clause-live : goal.returns-clause-live
+returns-clause-live c = on_ok_weaker c.over.result (λ k n a d b. k n (c.in_ok-there-2.ensures.live n (c.in_ok-there.ensures.live n a d) b)) c.over.ensures.live

@@ -1,0 +1,3 @@
+pub mod Inclusion
+pub mod Phrases
+pub mod Chances
