@@ -1,5 +1,4 @@
-// What stands in a context for one node of the game: the calls before a statement, the key's choice, and nothing for a coin. It is
-// proved and not run: no step asks for a context yet.
+// What stands in a context for one node of the game: the calls before a statement, the key's choice, and nothing for a coin.
 #![tactic(auto)]
 
 mod calls;

@@ -1,5 +1,4 @@
-// The names and labels of the next game of a cryptographic step, and the table of them. It is proved and not run: no step asks
-// for it yet.
+// The names and labels of the next game of a cryptographic step, and the table of them.
 #![tactic(auto)]
 
 mod drawing;
