@@ -1,7 +1,6 @@
 -- An index of declarations by their names.
 use Rattle.std.proofs.Common.{◌≡◌, ◌≢◌, ℕ, zero, suc, ◌-◌, ◌<◌, ◌⊎◌, inl, inr, List, [], ◌∷◌, ◌++◌, length, take, get_or, ◌↔◌, refl, ap, sym, ◌∙◌, arith, subst, Option, Some, None, Bool, true, false, cond}
-use Rattle.std.specs.Prelude.{All, slice_get, option_and_then, nat_eq, ◌==◌}
-use Rattle.std.specs.HashMap.{get, Updates}
+use Rattle.std.specs.Prelude.{All, slice_get, option_and_then, ◌==◌}
 use Rattle.std.proofs.lemmas.Bool.{eqb-true, eq-eqb}
 use Rattle.std.proofs.lemmas.List.{length-take, get_or-take}
 use Rattle.std.proofs.lemmas.List.Elements.{All-append}
@@ -11,7 +10,7 @@ use Rattle.cv_syntax.specs.declared.decls.Decl.{Decl}
 use Rattle.cv_syntax.specs.declared.decls.Decl.TheVariants as decl
 use Rattle.cv_pool.specs.declared.node.NodeId.{NodeId}
 use Rattle.cv_syntax_trees.specs.Tree.{name_at, name_in}
-use Rattle.cv_syntax.specs.Classes.{Index, IsIndexed, IsNamed, IsNew, class_by, class_in, id_at, id_of, is_number, declaration_in, from_one}
+use Rattle.cv_syntax.specs.Classes.{IsIndexed, IsNamed, IsNew, class_by, class_in, id_at, id_of, is_number, declaration_in, from_one}
 use Rattle.cv_pool.specs.KindTree.{KindTree}
 use Rattle.cv_syntax_trees.specs.Tree.{Tree, Node}
 use Rattle.cv_syntax.specs.PoolTrees.{tree_of, tree_at}
@@ -30,13 +29,10 @@ if-none true d r e = absurd (cc)
 if-none false d r e = (refl, e)
 
 -- no declaration has a name that is not found
-absent : (ds : List Decl) (x : ℕ) → declaration_in ds x ≡ None → (k y : ℕ) → id_at ds k ≡ Some y → (x == y) ≡ false
+absent : (ds : List Decl) (x : ℕ) → declaration_in ds x ≡ None → (k y : ℕ) → id_at ds k ≡ Some y → y ≢ x
 absent [] x n k y e = absurd (cc)
-absent (d ∷ ds) x n zero y e = ap (is_number x) (sym e) ∙ (if-none (is_number x (id_of d)) d (declaration_in ds x) n).0
+absent (d ∷ ds) x n zero y e = λ s. let t : is_number x (id_of d) ≡ true = ap (is_number x) e ∙ eq-eqb x y (sym s) in absurd (let f = (if-none (is_number x (id_of d)) d (declaration_in ds x) n).0 in cc)
 absent (d ∷ ds) x n (suc k) y e = absent ds x (if-none (is_number x (id_of d)) d (declaration_in ds x) n).1 k y e
-
-pub IsIndexed-insert : (ds : List Decl) (m n : Index) (x : ℕ) (w : Option ℕ) → IsIndexed ds m → declaration_in ds x ≡ None → Updates nat_eq m n x w → IsIndexed ds n
-IsIndexed-insert ds m n x w i a u = λ k y e. u.2 y (absent ds x a k y e) ∙ i k y e
 
 before-or-last : (ds : List Decl) (d : Decl) (k x : ℕ) → id_at (ds ++ d ∷ []) k ≡ Some x → (id_at ds k ≡ Some x) ⊎ ((k ≡ length ds) × (id_of d ≡ Some x))
 before-or-last [] d zero x e = inr (refl, e)
@@ -44,8 +40,8 @@ before-or-last [] d (suc k) x e = absurd (cc)
 before-or-last (c ∷ ds) d zero x e = inl e
 before-or-last (c ∷ ds) d (suc k) x e = elim (before-or-last ds d k x e) [ inl a ↦ inl a | inr b ↦ inr (ap suc b.0, b.1) ]
 
-pub IsIndexed-push : (ds : List Decl) (m : Index) (d : Decl) → IsIndexed ds m → ((x : ℕ) → id_of d ≡ Some x → get nat_eq m x ≡ Some (length ds)) → IsIndexed (ds ++ d ∷ []) m
-IsIndexed-push ds m d i h = λ k x e. elim (before-or-last ds d k x e) [ inl a ↦ i k x a | inr b ↦ h x b.1 ∙ ap (λ j. Some j) (sym b.0) ]
+pub IsIndexed-push : (ds : List Decl) (m : List ℕ) (d : Decl) (place : ℕ) → IsIndexed ds m → place ≡ length ds → ((x : ℕ) → id_of d ≡ Some x → slice_get m x ≡ Some place) → IsIndexed (ds ++ d ∷ []) m
+IsIndexed-push ds m d place i l h = λ k x e. elim (before-or-last ds d k x e) [ inl a ↦ i k x a | inr b ↦ h x b.1 ∙ ap (λ j. Some j) (l ∙ sym b.0) ]
 
 number-other : (x : ℕ) (o : Option ℕ) → o ≢ Some x → is_number x o ≡ false
 number-other x None h = refl
@@ -68,19 +64,19 @@ declared-unique (c ∷ ds) x (suc k) d u g e =
     ap (λ b. cond b (Some c) (declaration_in ds x)) (number-other x (id_of c) (λ s. absurd (let z : zero ≡ suc k = u zero s in omega arith))) ∙ declared-unique ds x k d (λ j s. let z : suc j ≡ suc k = u (suc j) s in omega arith) g e
 
 -- what the index answers
-pub found-none : (ds : List Decl) (m : Index) (x : ℕ) → IsIndexed ds m → get nat_eq m x ≡ None → declaration_in ds x ≡ None
-found-none ds m x i g = declared-none ds x (λ k e. let f : get nat_eq m x ≡ Some k = i k x e in absurd (cc))
+pub found-none : (ds : List Decl) (m : List ℕ) (x : ℕ) → IsIndexed ds m → slice_get m x ≡ None → declaration_in ds x ≡ None
+found-none ds m x i g = declared-none ds x (λ k e. let f : slice_get m x ≡ Some k = i k x e in absurd (cc))
 
-pub found-other : (ds : List Decl) (m : Index) (x k : ℕ) → IsIndexed ds m → get nat_eq m x ≡ Some k → id_at ds k ≢ Some x → declaration_in ds x ≡ None
-found-other ds m x k i g n = declared-none ds x (λ j e. let f : get nat_eq m x ≡ Some j = i j x e in let s : j ≡ k = cc in n (subst (λ a. id_at ds a ≡ Some x) s e))
+pub found-other : (ds : List Decl) (m : List ℕ) (x k : ℕ) → IsIndexed ds m → slice_get m x ≡ Some k → id_at ds k ≢ Some x → declaration_in ds x ≡ None
+found-other ds m x k i g n = declared-none ds x (λ j e. let f : slice_get m x ≡ Some j = i j x e in let s : j ≡ k = cc in n (subst (λ a. id_at ds a ≡ Some x) s e))
 
-pub found-here : (ds : List Decl) (m : Index) (x k : ℕ) (d : Decl) → IsIndexed ds m → get nat_eq m x ≡ Some k → slice_get ds k ≡ Some d → id_of d ≡ Some x → declaration_in ds x ≡ Some d
-found-here ds m x k d i g s e = declared-unique ds x k d (λ j f. let h : get nat_eq m x ≡ Some j = i j x f in cc) s e
+pub found-here : (ds : List Decl) (m : List ℕ) (x k : ℕ) (d : Decl) → IsIndexed ds m → slice_get m x ≡ Some k → slice_get ds k ≡ Some d → id_of d ≡ Some x → declaration_in ds x ≡ Some d
+found-here ds m x k d i g s e = declared-unique ds x k d (λ j f. let h : slice_get m x ≡ Some j = i j x f in cc) s e
 
-pub found-past : (ds : List Decl) (m : Index) (x k : ℕ) → IsIndexed ds m → get nat_eq m x ≡ Some k → slice_get ds k ≡ None → declaration_in ds x ≡ None
+pub found-past : (ds : List Decl) (m : List ℕ) (x k : ℕ) → IsIndexed ds m → slice_get m x ≡ Some k → slice_get ds k ≡ None → declaration_in ds x ≡ None
 found-past ds m x k i g s = found-other ds m x k i g (λ e. let f : option_and_then id_of (slice_get ds k) ≡ None = ap (option_and_then id_of) s in let h : Some x ≡ None = sym e ∙ f in absurd (cc))
 
-pub found-skip : (ds : List Decl) (m : Index) (x k : ℕ) (d : Decl) → IsIndexed ds m → get nat_eq m x ≡ Some k → slice_get ds k ≡ Some d → id_of d ≢ Some x → declaration_in ds x ≡ None
+pub found-skip : (ds : List Decl) (m : List ℕ) (x k : ℕ) (d : Decl) → IsIndexed ds m → slice_get m x ≡ Some k → slice_get ds k ≡ Some d → id_of d ≢ Some x → declaration_in ds x ≡ None
 found-skip ds m x k d i g s n = found-other ds m x k i g (λ e. let f : option_and_then id_of (slice_get ds k) ≡ id_of d = ap (option_and_then id_of) s in n (sym f ∙ e))
 
 -- the item of a list at a place that is counted from 1
@@ -100,17 +96,9 @@ new-absent ds (decl.Equation t) x e n = absurd (cc)
 new-absent ds (decl.Equiv id t) x e n = let f : id.0 ≡ x = cc in subst (λ y. declaration_in ds y ≡ None) f n
 new-absent ds (decl.Query t) x e n = absurd (cc)
 
--- what an index is to be for one declaration more
-abbrev pub IsReady : List Decl → Index → Decl → Type 0
-IsReady ds m d = IsIndexed ds m × ((y : ℕ) → id_of d ≡ Some y → get nat_eq m y ≡ Some (length ds))
-
-pub ready-named : (ds now : List Decl) (m n : Index) (d : Decl) (x place : ℕ) → ds ≡ now → IsIndexed ds m → IsNew now d → Some x ≡ id_of d → Updates nat_eq m n x (Some place) → place ≡ length ds → IsReady ds n d
-ready-named ds now m n d x place v i new e u l =
-    let absent : declaration_in ds x ≡ None = subst (λ ts. declaration_in ts x ≡ None) (sym v) (new-absent now d x (sym e) new) in
-    (IsIndexed-insert ds m n x (Some place) i absent u, λ y f. let s : x ≡ y = cc in subst (λ z. get nat_eq n z ≡ Some (length ds)) s (u.1 ∙ ap (λ j. Some j) l))
-
-pub ready-unnamed : (ds : List Decl) (m : Index) (d : Decl) → IsIndexed ds m → None ≡ id_of d → IsReady ds m d
-ready-unnamed ds m d i e = (i, λ y f. let g : None ≡ Some y = e ∙ f in absurd (cc))
+-- an index in which the place of one declaration more is noted
+pub IsIndexed-note : (ds now : List Decl) (m n : List ℕ) (d : Decl) → ds ≡ now → IsIndexed ds m → IsNew now d → ((x k : ℕ) → id_of d ≢ Some x → slice_get m x ≡ Some k → slice_get n x ≡ Some k) → IsIndexed ds n
+IsIndexed-note ds now m n d v i new others = λ k x e. others x k (λ f. absent ds x (subst (λ ts. declaration_in ts x ≡ None) (sym v) (new-absent now d x f new)) k x e refl) (i k x e)
 
 -- the names of a list
 pub name-here : (trees : List KindTree) (at : Option NodeId) (n : NodeId) (o : Opened) (k : ℕ) → at ≡ Some n → tree_at trees (Some n) ≡ Node o.head (tree_at trees o.first) (tree_at trees o.second) → k ≡ 0 → name_at (tree_at trees at) k ≡ name_in o.head

@@ -1,8 +1,5 @@
 -- What a list of declarations says of a name.
-use Rattle.std.specs.Prelude.{◌≡◌, ℕ, zero, suc, Bool, false, ◌==◌, if◌then◌else◌, List, [], ◌∷◌, Option, Some, None, slice_get, option_and_then, nat_eq}
-use Rattle.std.specs.declared.hash.FoldHasher.{FoldHasher}
-use Rattle.std.specs.declared.hash.BuildHasherDefault.{BuildHasherDefault}
-use Rattle.std.specs.HashMap.{get, HashMap}
+use Rattle.std.specs.Prelude.{◌≡◌, ℕ, zero, suc, Bool, false, ◌==◌, if◌then◌else◌, List, [], ◌∷◌, Option, Some, None, slice_get, option_and_then}
 use Rattle.cv_syntax_trees.specs.declared.class.Class.{Class}
 use Rattle.cv_syntax_trees.specs.declared.class.Class.TheVariants as class
 use Rattle.cv_syntax.specs.declared.decls.Decl.{Decl}
@@ -95,14 +92,11 @@ IsNew ds (decl.Name id class args result) = declaration_in ds id.0 ≡ None
 IsNew ds (decl.Equiv id n) = declaration_in ds id.0 ≡ None
 IsNew ds d = Unit {0}
 
--- an index from numbers of names to places in a list of declarations
-abbrev pub Index : Type 0
-Index = HashMap ℕ ℕ (BuildHasherDefault FoldHasher)
-
 -- the name that is declared at a place
 abbrev pub id_at : List Decl → ℕ → Option ℕ
 id_at ds k = option_and_then id_of (slice_get ds k)
 
--- each declared name has its place in the index; a name that no longer is declared may have one too
-abbrev pub IsIndexed : List Decl → Index → Type 0
-IsIndexed ds m = (k x : ℕ) → id_at ds k ≡ Some x → get nat_eq m x ≡ Some k
+-- Each declared name has its place in the index, which holds places by the numbers of names. A name that is not declared
+-- may have one too.
+abbrev pub IsIndexed : List Decl → List ℕ → Type 0
+IsIndexed ds index = (k x : ℕ) → id_at ds k ≡ Some x → slice_get index x ≡ Some k

@@ -1,4 +1,4 @@
-ghost use Rattle.std.specs.Prelude.{◌↔◌, All, None, ◌≡◌, ◌+◌, ◌<◌, ◌≤◌, ◌^◌, ◌++◌, ◌∷◌, [], length, option_and_then, take, slice_get, OnOk, OnErr};
+ghost use Rattle.std.specs.Prelude.{ℕ, ◌↔◌, All, Some, None, ◌≡◌, ◌≢◌, ◌+◌, ◌<◌, ◌≤◌, ◌^◌, ◌++◌, ◌∷◌, [], length, option_and_then, take, slice_get, OnOk, OnErr};
 ghost use Rattle.std.specs.Option.{option_copied};
 ghost use Rattle.cv_syntax_trees.specs.Tree.{name_at};
 ghost use Rattle.cv_syntax.specs.Classes.{DeclsView, id_of, declaration_in, class_by, class_in, result_in, args_in, equiv_in, equations, queries, query_of, from_one, IsNamed, IsNew};
@@ -11,7 +11,6 @@ use cv_names::NameId;
 use cv_pool::{NodeId, Pool};
 use cv_syntax_trees::{Class, Head};
 use std::alloc::{AllocError, Global};
-use std::collections::HashMap;
 use std::marker::Model;
 
 /// A declaration. Arguments are a list of the names of types.
@@ -60,7 +59,8 @@ fn class_of(decl: Option<&Decl>) -> Class
 #[derive(Drop)]
 pub struct Decls {
     list: Vec<Decl>,
-    index: HashMap<u32, u32>,
+    /// Places in the list, by the numbers of names; of a name that is not declared any place.
+    index: Vec<u32>,
     own: u32,
 }
 
@@ -72,7 +72,7 @@ impl Model for Decls {
 
     ghost view = { λ d. record { list = d.list.items; own = d.own } };
 
-    ghost invariant = { λ d. IsIndexed d.list.items d.index × (length d.list.items < 2 ^ 32) × All IsNamed d.list.items };
+    ghost invariant = { λ d. IsIndexed d.list.items d.index.items × (length d.list.items < 2 ^ 32) × All IsNamed d.list.items };
 }
 
 impl Decls {
@@ -82,7 +82,7 @@ impl Decls {
     {
         Decls {
             list: Vec::new(alloc),
-            index: HashMap::new(alloc),
+            index: Vec::new(alloc),
             own: 0,
         }
     }
@@ -97,9 +97,7 @@ impl Decls {
         ensures err { OnErr result (self.new ≡ self.old) }
     {
         let place = self.list.len() as u32;
-        if let Some(id) = decl.id() {
-            self.index.insert(id.0, place)?;
-        }
+        note(&mut self.index, &decl, place)?;
         self.list.push(decl)?;
         Ok(())
     }
@@ -223,15 +221,31 @@ impl Decls {
     }
 
     /// The declaration of a name.
-    fn find(&self, id: NameId) -> Option<&Decl>
+    pub fn find(&self, id: NameId) -> Option<&Decl>
         ensures found { option_copied result ≡ declaration_in self.now.list id.0 }
         ensures named { All IsNamed self.now.list }
     {
-        let place = *self.index.get(&id.0)?;
+        let place = *self.index.get(id.0 as usize)?;
         let decl = self.get(place)?;
         let declared = decl.id()?;
         if declared.0 == id.0 { Some(decl) } else { None }
     }
+}
+
+/// Notes the place of a declaration, in an index that is made longer where it ends before the name.
+fn note(index: &mut Vec<u32>, decl: &Decl, place: u32) -> Result<(), AllocError>
+    ensures here { OnOk result ((x : ℕ) → id_of decl.now ≡ Some x
+        → slice_get index.new.items x ≡ Some place) }
+    ensures others { (x k : ℕ) → id_of decl.now ≢ Some x → slice_get index.old.items x ≡ Some k
+        → slice_get index.new.items x ≡ Some k }
+{
+    let Some(id) = decl.id() else {
+        return Ok(());
+    };
+    let at = id.0 as usize;
+    index.resize(index.len().max(at + 1), 0)?;
+    index[at] = place;
+    Ok(())
 }
 
 /// The name at a place of a list of names, counted from 0.

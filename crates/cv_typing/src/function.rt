@@ -6,7 +6,7 @@ ghost use Rattle.cv_typing.specs.Lookups.{callee_in, event_args_in, fixed_decl};
 ghost use Rattle.cv_directory_sorts.specs.Counting as counting;
 ghost use Rattle.cv_typing_rules.specs.Signature.{names_in};
 
-use cv_syntax::{Class, Decls, Head, NameId, NodeId, Pool, read_node};
+use cv_syntax::{Class, Decl, Decls, Head, NameId, NodeId, Pool, read_node};
 
 /// A function: the list of the types of its arguments, and the type of its result.
 #[derive(Clone, Copy, Debug)]
@@ -19,16 +19,19 @@ pub struct Callee {
 pub fn find_function(decls: &Decls, f: u32) -> Option<Callee>
     ensures { result ≡ callee_in decls.now.list f }
 {
-    let Class::Fun { .. } = decls.class(NameId(f)) else {
-        return None;
-    };
-    let arguments = decls.args(NameId(f));
-    match decls.result(NameId(f)) {
-        Some(t) => Some(Callee {
-            arguments,
+    match decls.find(NameId(f)) {
+        Some(
+            Decl::Name {
+                class: Class::Fun { .. },
+                args,
+                result: Some(t),
+                ..
+            },
+        ) => Some(Callee {
+            arguments: *args,
             result: t.0,
         }),
-        None => None,
+        _ => None,
     }
 }
 
@@ -36,8 +39,14 @@ pub fn find_function(decls: &Decls, f: u32) -> Option<Callee>
 pub fn event_arguments(decls: &Decls, e: u32) -> Option<NodeId>
     ensures { result ≡ event_args_in decls.now.list e }
 {
-    match decls.class(NameId(e)) {
-        Class::Event => decls.args(NameId(e)),
+    match decls.find(NameId(e)) {
+        Some(
+            Decl::Name {
+                class: Class::Event,
+                args,
+                ..
+            },
+        ) => *args,
         _ => None,
     }
 }
