@@ -1,3 +1,4 @@
+pub mod Branches
 pub mod Steps
 pub mod Sets
 pub mod Scans

@@ -1,4 +1,5 @@
 pub mod Begins
+pub mod Faults
 pub mod Correspondences
 pub mod Listed
 pub mod Gathering

@@ -9,3 +9,4 @@ pub mod Begins
 pub mod Nodes
 pub mod Listing
 pub mod Passing
+pub mod Openings

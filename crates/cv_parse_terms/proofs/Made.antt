@@ -37,6 +37,15 @@ overs-drop (x ∷ hs) (suc n) d h = let e : suc n + 1 ≡ suc (n + 1) = omega ar
 pub push_assoc : (a b c : List Make) (m : Make) → a ≡ b ++ c → a ++ m ∷ [] ≡ b ++ (c ++ m ∷ [])
 push_assoc a b c m e = ap (λ l. l ++ m ∷ []) e ∙ append_assoc b c (m ∷ [])
 
+pub overs-more : (hs : List Head) (n m : ℕ) (d : Head) (a b c : List Make) → m + 1 ≡ n → n ≤ length hs → a ≡ b ++ (replicate (length hs) Nothing ++ Nothing ∷ overs (drop n hs)) → c ≡ a ++ Over (get_or hs m d) ∷ [] → c ≡ b ++ (replicate (length hs) Nothing ++ Nothing ∷ overs (drop m hs))
+overs-more hs n m d a b c h l e f =
+    let nothings = replicate (length hs) Nothing in
+    let last = Over (get_or hs m d) in
+    let one : overs (drop m hs) ≡ overs (drop (m + 1) hs) ++ last ∷ [] = overs-drop hs m d (omega arith) in
+    f
+    ∙ (push_assoc a b (nothings ++ Nothing ∷ overs (drop n hs)) last e
+    ∙ ap (λ l. b ++ l) (append_assoc nothings (Nothing ∷ overs (drop n hs)) (last ∷ []) ∙ ap (λ os. nothings ++ Nothing ∷ os) (ap (λ k. overs (drop k hs) ++ last ∷ []) (sym h) ∙ sym one)))
+
 pub spine-whole : (hs : List Head) (n : ℕ) (a b : List Make) → n ≤ 0 → a ≡ b ++ (replicate (length hs) Nothing ++ Nothing ∷ overs (drop n hs)) → a ≡ b ++ postorder (spine hs)
 spine-whole hs zero a b h e = e ∙ ap (λ l. b ++ l) (sym (spine-made hs))
 spine-whole hs (suc n) a b h e = absurd (omega arith)

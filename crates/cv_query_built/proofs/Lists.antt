@@ -1,8 +1,8 @@
 -- Queries and steps, one after another.
-use Rattle.std.proofs.Common.{◌≡◌, ℕ, zero, suc, ◌+◌, ◌<◌, Bool, false, ◌||◌, List, [], ◌∷◌, ◌++◌, length, map, drop, refl, ap, sym, ◌∙◌, subst, arith, get_or, Option, Some, None, option_and_then, All, append_assoc, append-nil, ap₂, ◌≤◌, ◌-◌}
+use Rattle.std.proofs.Common.{◌≡◌, ℕ, zero, suc, ◌+◌, ◌<◌, Bool, false, true, ◌||◌, List, [], ◌∷◌, ◌++◌, length, map, drop, refl, ap, sym, ◌∙◌, subst, arith, get_or, Option, Some, None, option_and_then, option_map, All, append_assoc, append-nil, ap₂, ◌≤◌, ◌-◌}
 use Rattle.std.specs.Prelude.{slice_get}
 use Rattle.std.specs.List.{list_any}
-use Rattle.std.proofs.lemmas.List.{drop_more, map-append}
+use Rattle.std.proofs.lemmas.List.{drop_all, drop_more, map-append}
 use Rattle.std.proofs.lemmas.List.Elements.{All-append, All-cons, All-head, All-nil, All-tail}
 use Rattle.cv_pool.specs.declared.node.NodeId.{NodeId}
 use Rattle.cv_pool.specs.KindTree.{KindTree}
@@ -16,7 +16,11 @@ use Rattle.cv_scenes.specs.Sights.{from_one}
 use Rattle.cv_meaning.specs.Queries.{queries_in}
 use Rattle.cv_query_form.proofs.Parts.{queries-past, queries-skip, queries-take}
 use Rattle.cv_script.specs.declared.steps.Step.{Step}
-use Rattle.cv_query_built.specs.Built.{is_unbuilt_step, tree_of}
+use Rattle.cv_script.specs.declared.views.StepView.{StepView}
+use Rattle.cv_script.specs.declared.views.StepView.TheVariants as view
+use Rattle.cv_script.specs.Views.{items_of_step, items_of_view}
+use Rattle.cv_syntax.specs.PoolTrees.{tree_at}
+use Rattle.cv_query_built.specs.Built.{asks_unbuilt, is_unbuilt_step, lacks_form, tree_of}
 
 -- a query more was found
 pub query-found : (ds : List Decl) (k : ℕ) (o : Option NodeId) (q : NodeId) (before after : List NodeId) → o ≡ option_and_then query_of (slice_get ds k) → o ≡ Some q → after ≡ before ++ q ∷ [] → (trees : List KindTree) → map (tree_of trees) before ++ queries_in (declarations trees (drop k ds)) ≡ queries_in (declarations trees ds)
@@ -60,6 +64,20 @@ pub step-later : (trees : List KindTree) (queries : List Tree) (ns ms : List Nod
 step-later trees queries ns ms xs k d b total m q l e n h =
     any-later (is_unbuilt_step queries) (λ s. tree_of trees s.0) xs k d b total l (e ∙ ap (λ qs. is_unbuilt_step qs (tree_of trees (get_or xs k d).0)) (ap (map (tree_of trees)) m ∙ q)) n h
 
+-- a step that closes one so
+any-here : {A B : Type 0} (p : B → Bool) (f : A → B) (xs : List A) (k : ℕ) (d : A) (b total : Bool) → k < length xs → b ≡ p (f (get_or xs k d)) → b ≡ true → list_any p (map f (drop k xs)) ≡ total → true ≡ total
+any-here p f xs k d b total l e n h =
+    sym (ap (λ ys. list_any p (map f ys)) (drop_more xs k d l) ∙ ap (λ c. c || list_any p (map f (drop (k + 1) xs))) (sym e ∙ n)) ∙ h
+
+pub step-here : (trees : List KindTree) (queries : List Tree) (ns ms : List NodeId) (xs : List Step) (k : ℕ) (d : Step) (b total : Bool) → ms ≡ ns → map (tree_of trees) ns ≡ queries → k < length xs → b ≡ is_unbuilt_step (map (tree_of trees) ms) (tree_of trees (get_or xs k d).0) → b ≡ true
+    → list_any (is_unbuilt_step queries) (map (λ s. tree_of trees s.0) (drop k xs)) ≡ total → true ≡ total
+step-here trees queries ns ms xs k d b total m q l e n h =
+    any-here (is_unbuilt_step queries) (λ s. tree_of trees s.0) xs k d b total l (e ∙ ap (λ qs. is_unbuilt_step qs (tree_of trees (get_or xs k d).0)) (ap (map (tree_of trees)) m ∙ q)) n h
+
+-- all items were looked at
+pub none-later : {A B : Type 0} (p : B → Bool) (f : A → B) (xs : List A) (k : ℕ) (total : Bool) → length xs ≤ k → list_any p (map f (drop k xs)) ≡ total → false ≡ total
+none-later p f xs k total l h = sym (ap (λ ys. list_any p (map f ys)) (drop_all k xs l)) ∙ h
+
 -- a query by its number
 
 other-number : (q : Tree) (qs : List Tree) (left : ℕ) → (left ≡ 1 → ⊥) → from_one (q ∷ qs) left ≡ from_one qs (left - 1)
@@ -88,3 +106,16 @@ number-past ds k left number l trees h = no-number left ∙ (ap (λ qs. from_one
 
 pub query-live : (n : ℕ) (ds : List Decl) (k : ℕ) (o : Option NodeId) (q : NodeId) → o ≡ option_and_then query_of (slice_get ds k) → o ≡ Some q → All (IsLive n) ds → q.0 < n
 query-live n ds k o q e s a = live-at n ds k q a (sym e ∙ s)
+
+-- a step that closes a query
+
+numbered : {A B : Type 0} (f : A → B) (xs : List A) (k : ℕ) → from_one (map f xs) k ≡ option_map f (from_one xs k)
+numbered f xs zero = refl
+numbered f [] (suc k) = refl
+numbered f (x ∷ xs) (suc zero) = refl
+numbered f (x ∷ xs) (suc (suc k)) = numbered f xs (suc k)
+
+pub step-asks : (trees : List KindTree) (queries : List NodeId) (t : Tree) (v : Option StepView) (k : ℕ) (by o : Option NodeId) → option_map (items_of_view trees) v ≡ items_of_step t → v ≡ Some (view.Success k by) → o ≡ from_one queries k → lacks_form (option_map (tree_of trees) o) (tree_at trees by) ≡ is_unbuilt_step (map (tree_of trees) queries) t
+step-asks trees queries t v k by o e s f =
+    ap (λ q. lacks_form q (tree_at trees by)) (ap (option_map (tree_of trees)) f ∙ sym (numbered (tree_of trees) queries k))
+    ∙ ap (asks_unbuilt (map (tree_of trees) queries)) (sym (ap (option_map (items_of_view trees)) s) ∙ e)

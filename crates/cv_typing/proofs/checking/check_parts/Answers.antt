@@ -1,13 +1,13 @@
-use Rattle.std.proofs.Common.{◌+◌, length, ap, sym, ◌∙◌, arith, Some}
+use Rattle.std.proofs.Common.{◌≡◌, ◌+◌, length, ap, subst, sym, ◌∙◌, arith, Some}
 use Rattle.std.specs.Option.{option_copied}
 use Rattle.std.proofs.lemmas.Result.{err_from_is_err_and}
 use Rattle.cv_syntax.specs.Declarations.{declarations, declared}
 use Rattle.cv_syntax.specs.PoolTrees.{tree_at}
 use Rattle.cv_typing_rules.specs.Parts.{declaration_parts, first_in}
-use Rattle.cv_typing_rules.specs.Refusals.{parts_size}
+use Rattle.cv_typing_rules.specs.Refusals.{IsRefusalOf, parts_size}
 use Rattle.cv_typing.proofs.Bodies.{behind-typed, refused-before, size-append}
 use Rattle.cv_typing.proofs.Files.{arguments-live}
-use Rattle.cv_typing.proofs.Sides.{file-start, file-step, live-at, rest-parts}
+use Rattle.cv_typing.proofs.Sides.{file-end, file-start, file-step, live-at, rest-parts}
 use Rattle.cv_typing.proofs.checking.check_parts.Goals as goal
 
 pub decls-init : goal.decls-init
@@ -61,3 +61,39 @@ decls-preserved c =
 
 pub check_process-requires-clause-arguments : goal.check_process-requires-clause-arguments
 check_process-requires-clause-arguments c = arguments-live (length c.args.pool.now.trees) c.args.decls.now.list c.requires.declared
+
+pub check_process-requires-clause-fits : goal.check_process-requires-clause-fits
+check_process-requires-clause-fits c =
+    let trees = c.args.pool.now.trees in
+    let list = c.args.decls.now.list in
+    let past : c.decls.k ≡ length list = omega arith in
+    omega (arith, ap parts_size (file-end trees (declarations trees list) list c.decls.k (tree_at trees (Some c.args.root)) past), c.decls.invariant.sum, c.requires.fits)
+
+pub returns-in_err-directory : goal.returns-in_err-directory
+returns-in_err-directory c =
+    let trees = c.args.pool.now.trees in
+    let list = c.args.decls.now.list in
+    let ds = declarations trees list in
+    let past : c.decls.k ≡ length list = omega arith in
+    let e = file-end trees ds list c.decls.k (tree_at trees (Some c.args.root)) past in
+    let p = err_from_is_err_and c.from_residual-in_err-directory.result c.from_residual-in_err-directory.ensures.1 in
+    rw (p.1, p.2) (record {
+      place = tt;
+      directory = tt;
+      typed = tt;
+      fault = subst (λ m. IsRefusalOf m c.in_err-directory.field-0.0) (sym (ap (first_in ds c.decls.place) e) ∙ c.decls.invariant.same) c.in_err-directory.ensures.fault;
+    })
+
+pub returns : goal.returns
+returns c =
+    let trees = c.args.pool.now.trees in
+    let list = c.args.decls.now.list in
+    let ds = declarations trees list in
+    let past : c.decls.k ≡ length list = omega arith in
+    let e = file-end trees ds list c.decls.k (tree_at trees (Some c.args.root)) past in
+    record {
+      place = omega (arith, ap parts_size e, c.decls.invariant.sum);
+      directory = c.in_ok-directory.ensures.directory;
+      typed = sym c.decls.invariant.same ∙ (ap (first_in ds c.decls.place) e ∙ c.in_ok-directory.ensures.typed);
+      fault = tt;
+    }
