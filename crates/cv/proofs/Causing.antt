@@ -6,18 +6,18 @@ use Rattle.std.specs.List.{list_all, list_any, zip}
 use Rattle.std.specs.Prelude.{IfSome, IsNone, IsSomeAnd, option_map}
 use Rattle.cv_lex.specs.declared.LexError.{LexError}
 use Rattle.cv_lex.specs.Lexis.{Token, tokens_of}
-use Rattle.cv_parse_terminals.specs.Signs.{signs_of}
-use Rattle.cv_parse_script.specs.declared.error.ScriptError.{ScriptError}
-use Rattle.cv_parse_script.specs.Trees.{in_room, tree_read}
-use Rattle.cv_parse_script.proofs.Steps.{read_in_room}
-use Rattle.cv_parse_script_laws.specs.Scripts.{IsSomeScript}
-use Rattle.cv_parse_script_laws.proofs.Refusals.{dead_end}
+use Rattle.cv_parse_tables.specs.terminals.Signs.{signs_of}
+use Rattle.cv_script_reader.specs.declared.error.ScriptError.{ScriptError}
+use Rattle.cv_script_reader.specs.Trees.{in_room, tree_read}
+use Rattle.cv_script_reader.proofs.Steps.{read_in_room}
+use Rattle.cv_script_laws.specs.forms.Scripts.{IsSomeScript}
+use Rattle.cv_script_laws.proofs.forms.Refusals.{dead_end}
 use Rattle.cv_parse_notation.specs.Whole.{Dead}
-use Rattle.cv_script_rows.specs.Rows.{built_script_row}
-use Rattle.cv_parse_script.specs.declared.error.ScriptError.TheVariants as script
+use Rattle.cv_script.specs.rows.Rows.{built_script_row}
+use Rattle.cv_script_reader.specs.declared.error.ScriptError.TheVariants as script
 use Rattle.cv_parse_notation.specs.declared.sign.Sign.{Sign}
 use Rattle.cv_parse_grammar.specs.Names as names
-use Rattle.cv_parse_depth.specs.Files.{IsDeadAtEveryDepth, IsNestedTooDeep}
+use Rattle.cv_parse_grammar.specs.depth.Files.{IsDeadAtEveryDepth, IsNestedTooDeep}
 use Rattle.cv_syntax.specs.declared.work.BuildError.TheVariants as build
 use Rattle.cv_syntax_trees.specs.Tree.{Tree}
 use Rattle.cv_parse.specs.declared.error.ParseError.{ParseError}
@@ -42,12 +42,12 @@ use Rattle.cv_meaning.specs.Interpretation.{is_constant_of}
 use Rattle.cv_group.specs.declared.fault.GroupFault.{GroupFault}
 use Rattle.cv_group.specs.Refusals.{refused_by}
 use Rattle.cv_group_rules.specs.Faults.{GroupRule, equivalences_in}
-use Rattle.cv_group_rules.proofs.Deciding.{accepted-more as all_accepted, first-refused as first_group_refused}
+use Rattle.cv_group_rules.proofs.Deciding.{accepted_more as all_accepted, first_refused as first_group_refused}
 use Rattle.cv_meaning.specs.Queries.{queries_in}
-use Rattle.cv_query_form.proofs.First.{finds-first as first_refused_is_first}
+use Rattle.cv_query_form.proofs.First.{finds_first_law as first_refused_is_first}
 use Rattle.cv_accept.specs.declared.error.FileError.{FileError}
 use Rattle.cv_accept.specs.declared.error.FileError.TheVariants as fault
-use Rattle.cv_parse_script.specs.Scripts.{items}
+use Rattle.cv_script_reader.specs.Scripts.{items}
 use Rattle.cv_accept.specs.Accepted.{Content, IsFull, Refuses, asks_unbuilt, block_by, block_of, content_of, group_fault, of_block, of_form, of_groups, of_parsed, of_queries, of_scopes, of_script, of_tokens, of_types, query_fault, read_of, scope_fault, stops_at_prime, there, type_fault, with_pairs}
 use Rattle.cv_accept.specs.Places.{nodes_before}
 use Rattle.cv_accept.specs.Works.{script_in}
@@ -64,12 +64,12 @@ use Rattle.cv_syntax.specs.declared.work.File.{File}
 use Rattle.cv.specs.Causes.{ComesFrom, HasCertificate, HasGroupFault, HasManyClosed, HasNoScript, HasOpenQuery, HasQueryFault, HasQueryWithoutStep, HasScopeFault, HasStep, HasStop, HasTypeFault, LacksRoom, OfTokens, Outside, StopsUnbuilt, block_signs, closed_count}
 use Rattle.cv.specs.Causes as cause
 use Rattle.cv.specs.Faults.{parse_ended, status_of as ended_by}
-use Rattle.cv_report_outcome.specs.Words.{AreTold}
+use Rattle.cv_report.specs.outcome.Words.{AreTold}
 use Rattle.cv_query_direct.specs.Plain.{certificate}
 use Rattle.cv_plain.specs.Strategy.{EndsAt, Said, is_closed, is_proved, lacks_step, left_open, most_pool, most_steps, nothing_said, open_verdict, said_of, said_then}
-use Rattle.cv_report_verdicts.specs.Verdicts.{ended_with}
+use Rattle.cv_report.specs.verdicts.Verdicts.{ended_with}
 use Rattle.cv_follow.specs.Scripts.{EndsScript, entry_in, entry_of, first_open, known_to}
-use Rattle.cv_follow.proofs.Closings.{all-proved}
+use Rattle.cv_follow.proofs.Closings.{all_proved_law}
 use Rattle.cv.specs.Strategy.{FollowsScript, FollowsStrategy, declared_in, file_in, game_in, nodes_in, said_in, steps_in}
 use Rattle.cv_kernel.specs.Proofs.{closed_by, nodes_along}
 use Rattle.cv_steps.specs.Sequences.{scene}
@@ -500,7 +500,7 @@ script_cause_of o r f steps s t w = go w.walk.left w.walk.split w.walk.ends
 
     closed : (unclosed : Option ℕ) → first_open (closed_by w.walk.proof) 1 qs ≡ unclosed → steps ≡ map (λ t. t.step) w.walk.proof ++ [] → r.status ≡ ended_with unclosed → ComesFrom o r r.status
     closed None q i e =
-        subst (ComesFrom o r) (sym e) (cause.all_proved (ap (list_all is_proved) w.verdicts ∙ all-proved w.walk.proof qs q))
+        subst (ComesFrom o r) (sym e) (cause.all_proved (ap (list_all is_proved) w.verdicts ∙ all_proved_law w.walk.proof qs q))
     closed (Some k) q i e =
         let asked : HasOpenQuery r f k = record {
           steps = steps;

@@ -9,12 +9,13 @@ use Rattle.cv_report.specs.declared.report.Verdict.TheVariants.{Proved}
 use Rattle.cv_script.specs.Views.{StepItems, items_of_step}
 use Rattle.cv_script.specs.Views as items
 use Rattle.cv_sequences.specs.Chains.{Link}
-use Rattle.cv_kernel_costs.specs.Sums.{sum_for, with_cost}
-use Rattle.cv_kernel_costs.specs.declared.sums.Sums.{Sums}
+use Rattle.cv_bound.specs.costs.Sums.{sum_for, with_cost}
+use Rattle.cv_bound.specs.declared.costs.sums.Sums.{Sums}
 use Rattle.cv_kernel.specs.Closings.{Closing, closing_in, closing_of_items, is_of_secrecy}
 use Rattle.cv_kernel.specs.Proofs.{Transition, sum_at, sum_from, sums_behind}
-use Rattle.cv_report_verdicts.specs.Verdicts.{verdict_by, verdicts_by}
+use Rattle.cv_report.specs.verdicts.Verdicts.{verdict_by, verdicts_by}
 use Rattle.cv_follow.specs.Walks.{sums_along}
+use Rattle.std.proofs.lemmas.Bool.{or_parts}
 
 -- the step that closes a query first, and its sum
 
@@ -67,29 +68,24 @@ closing_items (Some (items.Crypto e x)) c f = absurd (cc)
 closing_items (Some (items.Success k by)) c e = let f : record { query = k; certificate = by } ≡ c = cc in ap (λ (d : Closing). Some (items.Success d.query d.certificate)) f
 closing_items (Some items.Simplify) c e = absurd (cc)
 
--- its certificate is built, where none of the steps asks for one that isn't
-if-false : (b d : Bool) → (b || d) ≡ false → (b ≡ false) × (d ≡ false)
-if-false true d e = absurd (cc)
-if-false false d e = (refl, e)
-
-pub none-fails : (p : Tree → Bool) (ts : List Transition) (left : List Tree) (n : ℕ) (t : Transition) → list_any p (map (λ x. x.step) ts ++ left) ≡ false → slice_get ts n ≡ Some t → p t.step ≡ false
-none-fails p [] left n t e i = absurd (cc)
-none-fails p (x ∷ ts) left zero t e i = let f : x ≡ t = cc in ap (λ y. p y.step) (sym f) ∙ (if-false (p x.step) (list_any p (map (λ y. y.step) ts ++ left)) e).0
-none-fails p (x ∷ ts) left (suc n) t e i = none-fails p ts left n t (if-false (p x.step) (list_any p (map (λ y. y.step) ts ++ left)) e).1 i
+pub none_fails : (p : Tree → Bool) (ts : List Transition) (left : List Tree) (n : ℕ) (t : Transition) → list_any p (map (λ x. x.step) ts ++ left) ≡ false → slice_get ts n ≡ Some t → p t.step ≡ false
+none_fails p [] left n t e i = absurd (cc)
+none_fails p (x ∷ ts) left zero t e i = let f : x ≡ t = cc in ap (λ y. p y.step) (sym f) ∙ (or_parts (p x.step) (list_any p (map (λ y. y.step) ts ++ left)) e).0
+none_fails p (x ∷ ts) left (suc n) t e i = none_fails p ts left n t (or_parts (p x.step) (list_any p (map (λ y. y.step) ts ++ left)) e).1 i
 
 -- a verdict says what the sum of its query is
-verdict-is : (o : Option (List Term)) (s : List Term) → verdict_by o ≡ Proved s → o ≡ Some s
-verdict-is None s e = absurd (cc)
-verdict-is (Some x) s e = let f : x ≡ s = cc in ap Some f
+verdict_is : (o : Option (List Term)) (s : List Term) → verdict_by o ≡ Proved s → o ≡ Some s
+verdict_is None s e = absurd (cc)
+verdict_is (Some x) s e = let f : x ≡ s = cc in ap Some f
 
-pub verdict-at : (f : ℕ → Option (List Term)) (k : ℕ) (qs : List Tree) (j : ℕ) (s : List Term) → slice_get (verdicts_by f k qs) j ≡ Some (Proved s) → f (k + j) ≡ Some s
-verdict-at f k [] j s e = absurd (cc)
-verdict-at f k (q ∷ qs) zero s e = (let n : k + 0 ≡ k = omega arith in ap f n) ∙ verdict-is (f k) s (cc)
-verdict-at f k (q ∷ qs) (suc j) s e = (let n : k + suc j ≡ suc k + j = omega arith in ap f n) ∙ verdict-at f (suc k) qs j s e
+pub verdict_at : (f : ℕ → Option (List Term)) (k : ℕ) (qs : List Tree) (j : ℕ) (s : List Term) → slice_get (verdicts_by f k qs) j ≡ Some (Proved s) → f (k + j) ≡ Some s
+verdict_at f k [] j s e = absurd (cc)
+verdict_at f k (q ∷ qs) zero s e = (let n : k + 0 ≡ k = omega arith in ap f n) ∙ verdict_is (f k) s (cc)
+verdict_at f k (q ∷ qs) (suc j) s e = (let n : k + suc j ≡ suc k + j = omega arith in ap f n) ∙ verdict_at f (suc k) qs j s e
 
-pub is-false : (b : Bool) → not b ≡ false → b ≡ true
-is-false true e = refl
-is-false false e = absurd (cc)
+pub is_false : (b : Bool) → not b ≡ false → b ≡ true
+is_false true e = refl
+is_false false e = absurd (cc)
 
 pub closed_at : (P : Tree → Type 0) (qs : List Tree) → AllByRecursion P qs → (j : ℕ) (q : Tree) → slice_get qs j ≡ Some q → P q
 closed_at P [] h j q e = absurd (cc)
@@ -103,6 +99,6 @@ contains_at (x ∷ qs) (suc j) q e = let h = contains_at qs j q e in (suc h.0, o
 
 -- advantages of links have tapes, where those of their contexts have
 
-pub all-put : (P : Link → Type 0) (links : List Link) (l : Link) → AllByRecursion P links → P l → AllByRecursion P (links ++ l ∷ [])
-all-put P [] l h k = (k, tt)
-all-put P (m ∷ links) l h k = (h.0, all-put P links l h.1 k)
+pub all_put : (P : Link → Type 0) (links : List Link) (l : Link) → AllByRecursion P links → P l → AllByRecursion P (links ++ l ∷ [])
+all_put P [] l h k = (k, tt)
+all_put P (m ∷ links) l h k = (h.0, all_put P links l h.1 k)

@@ -6,9 +6,9 @@ use Rattle.cv_syntax_trees.specs.Declarations.{Declaration}
 use Rattle.cv_syntax_trees.specs.Tree.{Tree}
 use Rattle.cv_kernel.specs.Proofs.{closed_by, nodes_along}
 use Rattle.cv_report.specs.declared.report.Status.{Status}
-use Rattle.cv_scenes.specs.Scenes.{Scene}
+use Rattle.cv_scene.specs.Scenes.{Scene}
 use Rattle.cv_steps.specs.Sequences.{scene}
-use Rattle.cv_report_verdicts.specs.Verdicts.{ended_with}
+use Rattle.cv_report.specs.verdicts.Verdicts.{ended_with}
 use Rattle.cv_follow.specs.Scripts.{EndsScript, Stops, first_open, known_to, no_room, refused, too_deep, too_large, too_many}
 use Rattle.cv_follow.specs.declared.walk.Walk.{Walk}
 use Rattle.cv_follow.specs.Walks.{IsWalk}

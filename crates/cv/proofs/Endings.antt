@@ -17,13 +17,13 @@ use Rattle.cv_accept.specs.Accepted.{Content, IsFile, IsFull, Refuses, read_of, 
 use Rattle.cv_accept.specs.Works.{content_nodes}
 use Rattle.cv_meaning.specs.Queries.{queries_in}
 use Rattle.cv_accept.proofs.Readings.{file_is_read, full_content}
-use Rattle.cv_parse_script.proofs.Steps.{items_nodes}
+use Rattle.cv_script_reader.proofs.Steps.{items_nodes}
 use Rattle.std.proofs.lemmas.List.{length-map}
 use Rattle.cv_kernel.specs.Proofs.{closed_by, nodes_along}
-use Rattle.cv_scenes.specs.Scenes.{Scene}
+use Rattle.cv_scene.specs.Scenes.{Scene}
 use Rattle.cv_steps.specs.Sequences.{scene}
 use Rattle.cv_report.specs.declared.report.Which.TheVariants.{Depth, File, Nodes, Pool, Steps}
-use Rattle.cv_report_verdicts.specs.Verdicts.{ended_with}
+use Rattle.cv_report.specs.verdicts.Verdicts.{ended_with}
 use Rattle.cv_follow.specs.Scripts.{EndsScript, Follows, Stops, first_open, known_to, no_room, refused, too_deep, too_large, too_many}
 use Rattle.cv.proofs.Walking.{never_stops}
 use Rattle.cv_report.specs.declared.report.Status.{Status}
@@ -34,17 +34,17 @@ use Rattle.cv.specs.Answers.{Answers, IsComplete}
 use Rattle.cv.specs.Causes.{ComesFrom, Outside}
 use Rattle.cv.specs.Causes as cause
 use Rattle.cv.specs.Faults.{status_of as ended_by}
-use Rattle.cv_report_outcome.specs.Fetched.{fetch_ended}
+use Rattle.cv_report.specs.outcome.Fetched.{fetch_ended}
 use Rattle.cv_sequences.specs.Chains.{summed}
 use Rattle.cv.specs.Games.{HasCloseGames, IsWithin}
 use Rattle.cv_report.specs.declared.report.Entry.{Entry}
 use Rattle.cv_syntax.specs.declared.work.Game.{Game}
 use Rattle.cv_plain.specs.Strategy.{Course, EndsAt, most_pool, most_steps, nothing_said, said_of, status_by}
 use Rattle.cv.specs.Contexts.{contexts_in}
-use Rattle.cv_report_outcome.specs.Refused.{SaysNothing}
+use Rattle.cv_report.specs.outcome.Refused.{SaysNothing}
 use Rattle.cv.specs.Drawings.{HasDrawn}
 use Rattle.cv.specs.Strategy.{AcceptsAll, EndsBy, EndsWell, HasFile, HoldsUpTo, IsExpected, IsGood, IsSound, Judged, Proceeds, SpeaksOfFile, Succeeds, declared_in, file_in, game_in, steps_in}
-use Rattle.cv_report_outcome.specs.Words.{AreTold, bytes_named, bytes_under}
+use Rattle.cv_report.specs.outcome.Words.{AreTold, bytes_named, bytes_under}
 use Rattle.cv.proofs.Causing.{where_told}
 use Rattle.cv_plain.proofs.Courses.{course_fits}
 use Rattle.cv_plain.proofs.Verdicts.{all_closed}

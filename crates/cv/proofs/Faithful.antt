@@ -23,15 +23,15 @@ use Rattle.cv_meaning.specs.Queries.{queries_in}
 use Rattle.cv_meaning.specs.Runs.{Adversary}
 use Rattle.cv_meaning.specs.Satisfies.{Satisfies}
 use Rattle.cv_meaning_contexts.specs.Sides.{Context}
-use Rattle.cv_meaning_values.specs.Values.{HasValuesIn}
+use Rattle.cv_meaning_chances.specs.values.Values.{HasValuesIn}
 use Rattle.cv_kernel.specs.Closings.{Closing, closing_in, closing_of_items}
 use Rattle.cv_kernel.specs.Proofs.{IsProof, IsTransition, Transition, closed_by, game_behind, push, start}
 use Rattle.cv_kernel.specs.Sayings.{Accepted, MaySay}
 use Rattle.cv_plain.specs.Strategy.{closing, most_pool}
 use Rattle.cv_report.specs.declared.report.Entry.{Entry}
 use Rattle.cv_report.specs.declared.report.Report.{Report}
-use Rattle.cv_scenes.specs.Reductions.{context_of_game}
-use Rattle.cv_scenes.specs.Scenes.{Scene}
+use Rattle.cv_scene.specs.Reductions.{context_of_game}
+use Rattle.cv_scene.specs.Scenes.{Scene}
 use Rattle.cv_script.specs.declared.steps.Step.{Step}
 use Rattle.cv_script.specs.Views.{items_of_step}
 use Rattle.cv_sequences.specs.Chains.{ByEquivalence, ByStep, HasPrice, IsChain, IsFileOf, IsLink, Link, Prices, cost_behind, costs_behind, game_after, next_behind, summed}
@@ -40,19 +40,19 @@ use Rattle.cv_sequences.proofs.Chains.{chain_ends, within}
 use Rattle.cv_steps.specs.Sequences.{scene}
 use Rattle.cv_steps_crypto.specs.Conditions.{equivalence_of}
 use Rattle.cv_steps_crypto.specs.Steps.{reduction_of}
-use Rattle.cv_derivations_under.specs.Soundness.{DerivationsHold, DerivedBodiesAreUnreached}
+use Rattle.cv_derive_laws.specs.stores.Soundness.{DerivationsHold, DerivedBodiesAreUnreached}
 use Rattle.cv.specs.Contexts.{context_by, contexts_from, contexts_in, contexts_of_file, game_behind as game_of_entry, with_context}
 use Rattle.cv.specs.Games.{HasCloseGames, IsWithin}
 use Rattle.cv.specs.Runs.{Runs}
 use Rattle.cv_follow.specs.Scripts.{Told, entry_in, entry_of, known_to}
 use Rattle.cv.specs.Strategy.{FollowsScript, Proceeds, declared_in, file_in, game_in, steps_in}
 use Rattle.cv.specs.Values.{Contexts, advantage_of, advantages_in, context_of}
-use Rattle.cv_sequences_secrets.specs.Sums.{summed_by}
-use Rattle.cv_sequences_secrets.proofs.Sums.{plain, put}
-use Rattle.cv_rules.proofs.Sound.{sound}
+use Rattle.cv_sequences.specs.secrets.Sums.{summed_by}
+use Rattle.cv_sequences.proofs.secrets.Sums.{plain, put}
+use Rattle.cv_kernel_laws.proofs.rules.Sound.{sound}
 use Rattle.cv_follow.proofs.StepKinds.{Kind, closure, kind_of, passage, reduction}
 use Rattle.cv_follow.proofs.StepKinds as kind
-use Rattle.cv_accept_sequences.proofs.Ready.{file_of, valued}
+use Rattle.cv_accept_laws.proofs.Ready.{file_of, valued}
 
 -- the front of a proof
 
@@ -118,14 +118,14 @@ module _ (ds : List Declaration) (known : ℕ → Bool) (first : Tree) where
   ]
 
 -- a cost more, for secrecy or not
-pub summed-on : (b : Bool) (before : List Transition) (t : Transition) → summed_by b [] (map (λ x. x.cost) (before ++ t ∷ [])) ≡ added (summed_by b [] (map (λ x. x.cost) before)) t.cost b
-summed-on b before t = ap (summed_by b []) (map-append (λ x. x.cost) before (t ∷ [])) ∙ put b [] (map (λ x. x.cost) before) t.cost
+pub summed_on : (b : Bool) (before : List Transition) (t : Transition) → summed_by b [] (map (λ x. x.cost) (before ++ t ∷ [])) ≡ added (summed_by b [] (map (λ x. x.cost) before)) t.cost b
+summed_on b before t = ap (summed_by b []) (map-append (λ x. x.cost) before (t ∷ [])) ∙ put b [] (map (λ x. x.cost) before) t.cost
 
 -- a cost that is nothing changes no sum
-nothing-put : (b : Bool) (sum : List Term) → added sum bound.Zero b ≡ sum
+nothing_put : (b : Bool) (sum : List Term) → added sum bound.Zero b ≡ sum
 unfolding with_terms
-nothing-put true sum = refl
-nothing-put false sum = refl
+nothing_put true sum = refl
+nothing_put false sum = refl
 
 -- contexts by the numbers of their steps
 
@@ -156,9 +156,9 @@ abbrev game_along : (game : Tree) → List Transition → Tree
 game_along game [] = game
 game_along game (t ∷ ts) = game_along (game_kept game (closing_in t.step) t.next) ts
 
-along-put : (game : Tree) (ts : List Transition) (t : Transition) → game_along game (ts ++ t ∷ []) ≡ game_kept (game_along game ts) (closing_in t.step) t.next
-along-put game [] t = refl
-along-put game (u ∷ ts) t = along-put (game_kept game (closing_in u.step) u.next) ts t
+along_put : (game : Tree) (ts : List Transition) (t : Transition) → game_along game (ts ++ t ∷ []) ≡ game_kept (game_along game ts) (closing_in t.step) t.next
+along_put game [] t = refl
+along_put game (u ∷ ts) t = along_put (game_kept game (closing_in u.step) u.next) ts t
 
 context_at : (ds : List Declaration) (own step : ℕ) (game : Tree) (before : List Transition) (t : Transition) (behind : List Transition) (c : Context) → context_by ds own (game_along game before) (items_of_step t.step) ≡ Some c
     → context_of (contexts_along ds own step game (before ++ t ∷ behind)) (step + length before) ≡ Some c
@@ -223,7 +223,7 @@ module _ (ds : List Declaration) (own : ℕ) (first : Tree) where
       sums = λ b.
           ap (summed_by b []) (map-append cost_behind h.links (l ∷ []))
           ∙ (put b [] (costs_behind h.links) (cost_behind l)
-          ∙ (ap₂ (λ sum k. added sum k b) (h.sums b) (sym c) ∙ sym (summed-on b before t)));
+          ∙ (ap₂ (λ sum k. added sum k b) (h.sums b) (sym c) ∙ sym (summed_on b before t)));
     }
 
     -- a step that closes a query is none
@@ -236,8 +236,8 @@ module _ (ds : List Declaration) (own : ℕ) (first : Tree) where
           contexts = h.contexts;
           sums = λ b.
               h.sums b
-              ∙ (sym (nothing-put b (summed_by b [] (map (λ x. x.cost) before)))
-              ∙ (ap (λ z. added (summed_by b [] (map (λ x. x.cost) before)) z b) (sym k.costs) ∙ sym (summed-on b before t)));
+              ∙ (sym (nothing_put b (summed_by b [] (map (λ x. x.cost) before)))
+              ∙ (ap (λ z. added (summed_by b [] (map (λ x. x.cost) before)) z b) (sym k.costs) ∙ sym (summed_on b before t)));
         }
 
     -- of a cryptographic step this is the context
@@ -262,7 +262,7 @@ module _ (ds : List Declaration) (own : ℕ) (first : Tree) where
   along_is : (ts : List Transition) (last : Tree) → IsProof ds (known_to own) first ts last → game_along first ts ≡ last
   along_is ts last start = refl
   along_is ts last (push before game t p i) =
-      along-put first before t ∙ (ap (λ g. game_kept g (closing_in t.step) t.next) (along_is before game p) ∙ kept_by game t (suc (length before)) (closed_by before) i (closing_in t.step) refl)
+      along_put first before t ∙ (ap (λ g. game_kept g (closing_in t.step) t.next) (along_is before game p) ∙ kept_by game t (suc (length before)) (closed_by before) i (closing_in t.step) refl)
 
   pub links_of : (ts : List Transition) (last : Tree) → IsProof ds (known_to own) first ts last → (rest : List Transition) → HasLinks ds own first (contexts_along ds own 1 first (ts ++ rest)) ts last
   links_of ts last start rest = record { links = []; chain = chains.start; contexts = tt; sums = λ b. refl }

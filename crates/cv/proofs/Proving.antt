@@ -17,28 +17,28 @@ use Rattle.cv_meaning.specs.Runs.{Adversary, Random, Real}
 use Rattle.cv_meaning.specs.Satisfies.{Satisfies}
 use Rattle.cv_meaning_chances.specs.Fractions.{HasTapes}
 use Rattle.cv_meaning_contexts.specs.ContextAdvantage.{context_advantage}
-use Rattle.cv_meaning_values.specs.Values.{HasValuesIn}
+use Rattle.cv_meaning_chances.specs.values.Values.{HasValuesIn}
 use Rattle.cv_meaning.specs.Queries.{queries_in}
 use Rattle.cv_typing_rules.specs.Signature.{declaration_of}
-use Rattle.cv_query_built.specs.Built.{asks_unbuilt, has_unbuilt, is_unbuilt_step, lacks_form}
+use Rattle.cv_query_direct.specs.forms.Built.{asks_unbuilt, has_unbuilt, is_unbuilt_step, lacks_form}
 use Rattle.cv_query_certificates.specs.Accepted.{IsAccepted, IsEventsProof, IsSecretProof, is_built}
 use Rattle.cv_query_certificates.specs.Failures.{first_failure}
 use Rattle.cv_accept.specs.Accepted.{Content, asks_unbuilt as file_unbuilt, read_of, most_bytes}
 use Rattle.cv_parse.proofs.Exactness.{says_is_said}
-use Rattle.cv_parse_queries.proofs.Closed.{queries_closed}
-use Rattle.cv_parse_terminals.specs.Signs.{signs_of}
+use Rattle.cv_parse_sorts.proofs.queries.Closed.{queries_closed}
+use Rattle.cv_parse_tables.specs.terminals.Signs.{signs_of}
 use Rattle.cv_plain.specs.Strategy.{most_pool}
 use Rattle.cv_report.specs.declared.report.Report.{Report}
 use Rattle.cv_syntax.specs.declared.work.File.{File}
-use Rattle.cv_query_closed.specs.Closed.{HasClosedQueries, IsClosedQuery}
-use Rattle.cv_query_correspondences.specs.Premises.{IsProved}
-use Rattle.cv_scenes.specs.Reductions.{context_of_game}
-use Rattle.cv_scenes.specs.Scenes.{Scene}
-use Rattle.cv_scenes.specs.Sights.{from_one}
+use Rattle.cv_query_direct.specs.closed_terms.Closed.{HasClosedQueries, IsClosedQuery}
+use Rattle.cv_query_laws.specs.correspondences.Premises.{IsProved}
+use Rattle.cv_scene.specs.Reductions.{context_of_game}
+use Rattle.cv_scene.specs.Scenes.{Scene}
+use Rattle.cv_scene.specs.Sights.{from_one}
 use Rattle.cv_script.specs.Views.{items_of_step}
-use Rattle.cv_derivations_under.specs.Holding.{IsReady}
-use Rattle.cv_derivations_under.specs.Soundness.{DerivationsHold, DerivedBodiesAreUnreached}
-use Rattle.cv_context_answers.specs.Answers.{file_scene}
+use Rattle.cv_derive_laws.specs.stores.Holding.{IsReady}
+use Rattle.cv_derive_laws.specs.stores.Soundness.{DerivationsHold, DerivedBodiesAreUnreached}
+use Rattle.cv_match_laws.specs.answers.Answers.{file_scene}
 use Rattle.cv_steps.specs.Sequences.{scene}
 use Rattle.cv_steps_crypto.specs.Conditions.{equivalence_by}
 use Rattle.cv_steps_crypto.specs.Steps.{reduction_of}
@@ -49,18 +49,18 @@ use Rattle.cv_sequences.proofs.Chains.{carried, chain_ends, games_ready, taped a
 use Rattle.cv_bound.specs.declared.cost.Cost.{Cost as SumCost}
 use Rattle.cv_bound.specs.declared.terms.Experiment.{Experiment as TermExperiment}
 use Rattle.cv_bound.specs.declared.terms.Experiment.TheVariants as term
-use Rattle.cv_kernel_costs.specs.Sums.{no_sums, sum_for, with_cost}
-use Rattle.cv_kernel_costs.specs.declared.sums.Sums.{Sums}
-use Rattle.cv_sequences_secrets.specs.Sums.{summed_by}
-use Rattle.cv_sequences_secrets.proofs.Sums.{plain}
-use Rattle.cv_sequences_secrets.proofs.Secrets.{carried as carried_secret, taped as taped_secret, valued}
+use Rattle.cv_bound.specs.costs.Sums.{no_sums, sum_for, with_cost}
+use Rattle.cv_bound.specs.declared.costs.sums.Sums.{Sums}
+use Rattle.cv_sequences.specs.secrets.Sums.{summed_by}
+use Rattle.cv_sequences.proofs.secrets.Sums.{plain}
+use Rattle.cv_sequences.proofs.secrets.Secrets.{carried as carried_secret, taped as taped_secret, valued}
 use Rattle.cv_query_certificates.specs.Secrets.{AreUnreadChoices, AreUnreadCopies, IsSecret}
 use Rattle.cv_meaning.specs.Correspondences.{Correspondence, correspondence_of}
 use Rattle.cv_scope_rules.specs.Phrases.{IsWellFormed}
 use Rattle.cv_query_form.specs.Rules.{AreAsked, MayBeAsked}
 use Rattle.cv_accept.proofs.Readings.{accepted}
-use Rattle.cv.proofs.Closers.{Closes, all-put, closed_at, closing_items, contains_at, first_closing, is-false, none-fails, verdict-at}
-use Rattle.cv_kernel_closed.specs.Queries.{is_among}
+use Rattle.cv.proofs.Closers.{Closes, all_put, closed_at, closing_items, contains_at, first_closing, is_false, none_fails, verdict_at}
+use Rattle.cv_bound.specs.closings.Queries.{is_among}
 use Rattle.cv_kernel.specs.Closings.{Closing, closing_failure, closing_in, is_secret}
 use Rattle.cv_kernel.specs.Proofs.{IsProof, IsTransition, Transition, closed_by, push, start, sum_of, sums_behind}
 use Rattle.cv.specs.Contexts.{contexts_in}
@@ -69,10 +69,10 @@ use Rattle.cv_follow.specs.Scripts.{known_to}
 use Rattle.cv.specs.Strategy.{FollowsScript, HoldsUpTo, declared_in, file_in, game_in, steps_in}
 use Rattle.cv.specs.Values.{Contexts, advantage_of, advantages_of, context_of, is_once, secret_of, value_of}
 use Rattle.cv_follow.specs.Walks.{sums_along}
-use Rattle.cv_follow.proofs.Closings.{nothing-more, sum-put}
-use Rattle.cv.proofs.Faithful.{HasLinks, StandsIn, contexts_along, links_of, prices, script_contexts, stands_in, summed-on}
+use Rattle.cv_follow.proofs.Closings.{nothing_more, sum_put}
+use Rattle.cv.proofs.Faithful.{HasLinks, StandsIn, contexts_along, links_of, prices, script_contexts, stands_in, summed_on}
 use Rattle.cv_follow.proofs.StepKinds.{IsClosure, closure}
-use Rattle.cv_accept_sequences.proofs.Ready.{events_valued, file, file_of, taped, valued as valued_file}
+use Rattle.cv_accept_laws.proofs.Ready.{events_valued, file, file_of, taped, valued as valued_file}
 
 -- what laws say of certificates that are accepted
 
@@ -115,7 +115,7 @@ module _ (ds : List Declaration) (own : ℕ) (first : Tree) (w : IsFileOf ds own
     (never : AreNeverBroken) (chosen : AreSecretChoices) (copied : AreSecretCopies) (decided : AreDecided) where
   built_by : (t : Tree) (c : Closing) (query : Tree) → closing_in t ≡ Some c → from_one (queries_in ds) c.query ≡ Some query → is_unbuilt_step (queries_in ds) t ≡ false → is_built query c.certificate ≡ true
   built_by t c query n q e =
-      is-false (is_built query c.certificate)
+      is_false (is_built query c.certificate)
       (ap (λ o. lacks_form o c.certificate) (sym q) ∙ (ap (asks_unbuilt (queries_in ds)) (sym (closing_items (items_of_step t) c n)) ∙ e))
 
   -- its certificate fails in nothing
@@ -132,7 +132,7 @@ module _ (ds : List Declaration) (own : ℕ) (first : Tree) (w : IsFileOf ds own
 
   -- the sums along transitions are those of all their costs, as those that close a query cost nothing
   costs_nothing : (n : ℕ) (ks : List ℕ) (game : Tree) (t : Transition) (c : Closing) (sums : Sums) → closing_in t.step ≡ Some c → IsTransition ds (known_to own) n ks game t → with_cost sums t.cost ≡ sums
-  costs_nothing n ks game t c sums e i = ap (with_cost sums) (closes_so n ks game t c e i).costs ∙ nothing-more sums
+  costs_nothing n ks game t c sums e i = ap (with_cost sums) (closes_so n ks game t c e i).costs ∙ nothing_more sums
 
   behind_by : (n : ℕ) (ks : List ℕ) (game : Tree) (t : Transition) (sums : Sums) (o : Option Closing) → closing_in t.step ≡ o → IsTransition ds (known_to own) n ks game t → sums_behind sums o t.cost ≡ with_cost sums t.cost
   behind_by n ks game t sums None e i = refl
@@ -141,9 +141,9 @@ module _ (ds : List Declaration) (own : ℕ) (first : Tree) (w : IsFileOf ds own
   sums_alike : (b : Bool) (ts : List Transition) (last : Tree) → IsProof ds (known_to own) first ts last → sum_for b (sums_along no_sums ts) ≡ summed_by b [] (map (λ t. t.cost) ts)
   sums_alike b ts last start = nothing_for b
   sums_alike b ts last (push before game t p i) =
-      ap (sum_for b) (sum-put no_sums before t ∙ behind_by (suc (length before)) (closed_by before) game t (sums_along no_sums before) (closing_in t.step) refl i)
+      ap (sum_for b) (sum_put no_sums before t ∙ behind_by (suc (length before)) (closed_by before) game t (sums_along no_sums before) (closing_in t.step) refl i)
       ∙ (cost_for b (sums_along no_sums before) t.cost
-      ∙ (ap (λ x. added x t.cost b) (sums_alike b before game p) ∙ sym (summed-on b before t)))
+      ∙ (ap (λ x. added x t.cost b) (sums_alike b before game p) ∙ sym (summed_on b before t)))
 
   sum_here : (b : Bool) (ts : List Transition) (n : ℕ) (s : List Term) (here : Transition) (c : Closing) (game : Tree) → IsProof ds (known_to own) first (take n ts) game → closing_in here.step ≡ Some c → IsTransition ds (known_to own) (suc (length (take n ts))) (closed_by (take n ts)) game here → s ≡ sum_for b (with_cost (sums_along no_sums (take n ts)) here.cost)
       → summed_by b [] (map (λ t. t.cost) (take n ts)) ≡ s
@@ -162,7 +162,7 @@ module _ (ds : List Declaration) (own : ℕ) (first : Tree) (w : IsFileOf ds own
     taped_prices : (links : List Link) (last : Tree) → IsChain ds (known_to own) first links last → Prices ds (known_to own) first links advantages i x a → HaveTapedPrices advantages links
     taped_prices links last chains.start p = tt
     taped_prices links last (chains.push before game l c k) p =
-        all-put (HasTapedPrice advantages) before l
+        all_put (HasTapedPrice advantages) before l
         (taped_prices before game c (λ b m d e. p b m (d ++ l ∷ []) (ap (λ z. z ++ l ∷ []) e ∙ append_assoc b (m ∷ d) (l ∷ []))))
         (taped_price before game l c k (subst (λ g. HasPrice (at g) advantages i x a l) (chain_ends ds (known_to own) first before game c) (p before l [] refl)))
 
@@ -272,9 +272,9 @@ module _ (holds : (ds : List Declaration) → DerivationsHold ds) (unreached : (
       let built : file_unbuilt d.declarations d.script ≡ false = subst (λ (x : Content). file_unbuilt x.declarations x.script ≡ false) (sym p.content) p.built in
       let none : has_unbuilt (queries_in d.declarations) steps ≡ false = ap (file_unbuilt d.declarations) (sym e) ∙ built in
       let number : 1 + j ≡ suc j = omega arith in
-      let sum = sym (ap (sum_of w.walk.proof) number) ∙ verdict-at (sum_of w.walk.proof) 1 (queries_in d.declarations) j s (ap (λ vs. slice_get vs j) (sym w.verdicts) ∙ v) in
+      let sum = sym (ap (sum_of w.walk.proof) number) ∙ verdict_at (sum_of w.walk.proof) 1 (queries_in d.declarations) j s (ap (λ vs. slice_get vs j) (sym w.verdicts) ∙ v) in
       closed_holds d.declarations d.own d.game w_file closed (accepted most_pool bytes d here).asked (valued_file bytes d here w_file.ready) (taped bytes d here) never chosen copied decided w.walk.proof w.walk.last w.walk.leads
-      (λ n t i. none-fails (is_unbuilt_step (queries_in d.declarations)) w.walk.proof w.walk.left n t (ap (list_any (is_unbuilt_step (queries_in d.declarations))) (sym w.walk.split) ∙ none) i) j query s q sum
+      (λ n t i. none_fails (is_unbuilt_step (queries_in d.declarations)) w.walk.proof w.walk.left n t (ap (list_any (is_unbuilt_step (queries_in d.declarations))) (sym w.walk.split) ∙ none) i) j query s q sum
 
   pub script_sound : (steps : List Tree) → steps_in r ≡ Some steps → r.file ≡ Some f → file_in r f (length c.names) ≡ c → FollowsScript r f steps → IsSoundFor c (contexts_in r) r.verdicts.items
   script_sound steps e there same w =

@@ -21,10 +21,10 @@ use Rattle.cv.specs.Answers.{Answers}
 use Rattle.cv.specs.Causes.{ComesFrom, Outside}
 use Rattle.cv.specs.Runs.{IsSoundFor, Runs}
 use Rattle.cv.specs.Contexts.{contexts_in}
-use Rattle.cv_report_outcome.specs.Refused.{SaysNothing}
+use Rattle.cv_report.specs.outcome.Refused.{SaysNothing}
 use Rattle.cv.specs.Drawings.{HasDrawn}
 use Rattle.cv.specs.Strategy.{EndsBy, FollowsScript, HoldsUpTo, IsSound, Judged, Proceeds, declared_in, file_in, game_in, steps_in}
-use Rattle.cv_report_outcome.specs.Words.{AreTold}
+use Rattle.cv_report.specs.outcome.Words.{AreTold}
 use Rattle.cv.proofs.Causing.{script_cause_of, verdict_cause}
 use Rattle.cv.proofs.Endings.{memory_answers, memory_cause, sound_without}
 use Rattle.cv.proofs.Verdicts.{judged_file}

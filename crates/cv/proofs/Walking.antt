@@ -3,14 +3,14 @@ use Rattle.std.proofs.Common.{◌≡◌, ℕ, suc, ◌+◌, ◌≤◌, nat_lt, B
 use Rattle.cv_syntax_trees.specs.Tree.{Tree, depth, size}
 use Rattle.cv_kernel.specs.Answers.{HasNoRoom}
 use Rattle.cv_kernel.specs.Sayings.{Accepted, MaySay, Refused, TooDeep, TooLarge, saying_by, saying_of}
-use Rattle.cv_kernel_costs.specs.Costs.{advantage_of}
+use Rattle.cv_bound.specs.costs.Costs.{advantage_of}
 use Rattle.cv_kernel.specs.Sequences.{context_nodes, needed, needed_for}
 use Rattle.cv_kernel.specs.Closings.{judgement_in}
-use Rattle.cv_syntax_limits.specs.Limits.{most_depth, most_nodes, nodes_of, told}
+use Rattle.cv_syntax.specs.limits.Limits.{most_depth, most_nodes, nodes_of, told}
 use Rattle.cv_kernel_crypto.specs.Applied as crypto
 use Rattle.cv_plain.specs.Strategy.{most_pool, most_steps}
 use Rattle.cv_report.specs.declared.report.Status.{Status}
-use Rattle.cv_scenes.specs.Scenes.{Scene}
+use Rattle.cv_scene.specs.Scenes.{Scene}
 use Rattle.cv_script.specs.Views.{items_of_step}
 use Rattle.cv_script.specs.Views as items
 use Rattle.cv_steps.specs.Costs.{cost_of}

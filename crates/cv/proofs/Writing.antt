@@ -4,12 +4,12 @@ use Rattle.std.specs.Prelude.{◌≢◌}
 use Rattle.cv_report.specs.declared.report.Report.{Report}
 use Rattle.cv_report.specs.declared.report.Status.{Status}
 use Rattle.cv_report.specs.declared.report.Status.TheVariants as status
-use Rattle.cv_report_outcome.specs.Refused.{SaysMemory}
+use Rattle.cv_report.specs.outcome.Refused.{SaysMemory}
 use Rattle.cv.specs.Answers.{Answers, IsComplete}
 use Rattle.cv.specs.Causes.{ComesFrom, Outside}
 use Rattle.cv.specs.Causes as cause
 use Rattle.cv.specs.Strategy.{IsSound}
-use Rattle.cv_report_outcome.specs.Words.{SaysOfWords}
+use Rattle.cv_report.specs.outcome.Words.{SaysOfWords}
 use Rattle.cv.specs.Games.{HasCloseGames}
 use Rattle.cv.proofs.Endings.{close_without, memory_answers, sound_without}
 

@@ -6,8 +6,8 @@ use Rattle.cv_report.specs.declared.report.Status.{Status}
 use Rattle.cv_report.specs.declared.report.Status.TheVariants as status
 use Rattle.cv_report.specs.declared.report.Which.TheVariants.{File}
 use Rattle.cv_plain.specs.Strategy.{most_pool}
-use Rattle.cv_report_outcome.specs.Refused.{SaysNothing}
-use Rattle.cv_report_outcome.specs.Words.{AreTold}
+use Rattle.cv_report.specs.outcome.Refused.{SaysNothing}
+use Rattle.cv_report.specs.outcome.Words.{AreTold}
 use Rattle.cv.specs.Drawings.{HasDrawn}
 use Rattle.cv.specs.Strategy.{HasFile, Judged, MayHaveFile, Proceeds, SpeaksOfFile, file_in, steps_in}
 

@@ -5,15 +5,15 @@ use Rattle.cv_outside.specs.Causes.{Rose}
 use Rattle.cv_outside.specs.Told.{Files}
 use Rattle.cv_lex.specs.declared.LexError.{LexError}
 use Rattle.cv_lex.specs.Lexis.{Token, tokens_of}
-use Rattle.cv_parse_terminals.specs.ScriptSigns.{between, script_signs}
-use Rattle.cv_parse_terminals.specs.Signs.{signs_of}
-use Rattle.cv_parse_script_laws.specs.Scripts.{IsSomeScript}
+use Rattle.cv_parse_tables.specs.terminals.ScriptSigns.{between, script_signs}
+use Rattle.cv_parse_tables.specs.terminals.Signs.{signs_of}
+use Rattle.cv_script_laws.specs.forms.Scripts.{IsSomeScript}
 use Rattle.cv_parse_notation.specs.Whole.{Dead}
-use Rattle.cv_parse_script.specs.declared.error.ScriptError.TheVariants as block
+use Rattle.cv_script_reader.specs.declared.error.ScriptError.TheVariants as block
 use Rattle.cv_kernel.specs.Proofs.{IsProof, Transition, closed_by, nodes_along}
 use Rattle.cv_parse_notation.specs.declared.sign.Sign.{Sign}
 use Rattle.cv_parse_grammar.specs.Names as names
-use Rattle.cv_parse_depth.specs.Files.{IsDeadAtEveryDepth, IsNestedTooDeep}
+use Rattle.cv_parse_grammar.specs.depth.Files.{IsDeadAtEveryDepth, IsNestedTooDeep}
 use Rattle.cv_parse.specs.declared.error.ParseError.TheVariants.{Syntax, Nesting, NameTwice, NameUnknown}
 use Rattle.cv_parse.specs.Parsed.{Parsed}
 use Rattle.cv_parse.specs.Says.{HasDepth, HasNodes, HasWeight, IsLarge, IsMisnamedAt, Says}
@@ -33,7 +33,7 @@ use Rattle.cv_query_form.specs.Rules.{IsFirstRefused}
 use Rattle.cv_syntax_trees.specs.Tree.{Tree}
 use Rattle.cv_syntax.specs.declared.work.File.{File}
 use Rattle.cv_accept.specs.Accepted.{Content, IsFile, IsFull, asks_unbuilt, block_of, stops_at_prime, most_bytes}
-use Rattle.cv_parse_script.specs.Scripts.{items}
+use Rattle.cv_script_reader.specs.Scripts.{items}
 use Rattle.cv_accept.specs.Places.{nodes_before}
 use Rattle.cv_report.specs.declared.report.FileFault.TheVariants.{Lex, Parse, Script, Types, Scope, Group, Query}
 use Rattle.cv_report.specs.declared.report.Cause.TheVariants.{NoClose, Stuck}
@@ -45,7 +45,7 @@ use Rattle.cv_plain.specs.Strategy.{IsCrowded, is_closed, is_proved, lacks_step,
 use Rattle.cv_steps.specs.Sequences.{scene}
 use Rattle.cv_follow.specs.Scripts.{Stops, first_open, known_to}
 use Rattle.cv.specs.Strategy.{declared_in, game_in, nodes_in, said_in, steps_in}
-use Rattle.cv_report_outcome.specs.Words.{bytes_named}
+use Rattle.cv_report.specs.outcome.Words.{bytes_named}
 
 -- The bytes have tokens, of which this holds.
 pub record OfTokens (bytes : List ℕ) (Holds : List Token → Type 0) : Type 0 where

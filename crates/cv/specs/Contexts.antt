@@ -10,8 +10,8 @@ use Rattle.cv_syntax.specs.Declarations.{declarations}
 use Rattle.cv_syntax_trees.specs.Tree.{Tree}
 use Rattle.cv_syntax.specs.PoolTrees.{tree_at}
 use Rattle.cv_meaning_contexts.specs.Sides.{Context}
-use Rattle.cv_scenes.specs.Reductions.{context_of_game}
-use Rattle.cv_context_answers.specs.Answers.{file_scene}
+use Rattle.cv_scene.specs.Reductions.{context_of_game}
+use Rattle.cv_match_laws.specs.answers.Answers.{file_scene}
 use Rattle.cv_steps_crypto.specs.Conditions.{equivalence_of}
 use Rattle.cv_steps_crypto.specs.Steps.{reduction_of}
 use Rattle.cv_script.specs.Views.{StepItems, items_of_step}

@@ -10,7 +10,7 @@ use Rattle.cv_report.specs.declared.report.Status.TheVariants as status
 use Rattle.cv_report.specs.declared.report.Verdict.{Verdict}
 use Rattle.cv_report.specs.declared.report.Verdict.TheVariants.{Proved}
 use Rattle.cv_report.specs.Text.{IsLive}
-use Rattle.cv_report_outcome.specs.Refused.{SaysNothing}
+use Rattle.cv_report.specs.outcome.Refused.{SaysNothing}
 use Rattle.cv.specs.Drawings.{HasDrawn}
 use Rattle.cv.specs.Strategy.{HoldsUpTo, MayHaveFile, Proceeds, file_in, steps_in}
 use Rattle.cv.specs.Values.{Contexts}

@@ -9,8 +9,8 @@ ghost use Rattle.cv_plain.specs.Strategy.{most_pool};
 ghost use Rattle.cv.specs.Runs.{Runs};
 
 use cv_plain::{Findings, answer, trail_of};
+use cv_report::outcome::refused;
 use cv_report::{Command, Report, Status};
-use cv_report_outcome::refused;
 use cv_syntax::{File, Work};
 use std::alloc::Global;
 

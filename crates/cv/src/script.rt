@@ -6,14 +6,14 @@ ghost use Rattle.cv_parse.specs.Declaring.{IsBelow};
 ghost use Rattle.cv_scope_rules.specs.Phrases.{IsWellFormed};
 ghost use Rattle.cv_accept.specs.Works.{HasSteps, content_at, content_nodes};
 ghost use Rattle.cv_plain.specs.Strategy.{most_pool};
-ghost use Rattle.cv_rule_scenes.specs.Kept.{scene_of};
+ghost use Rattle.cv_scene_view.specs.Kept.{scene_of};
 ghost use Rattle.cv_kernel_crypto.specs.Applied.{HasEquivalences};
 ghost use Rattle.cv.specs.Runs.{Runs};
 
 use cv_follow::{Walk, follow};
+use cv_report::outcome::refused;
+use cv_report::verdicts::steps_of;
 use cv_report::{Command, Report, Status};
-use cv_report_outcome::refused;
-use cv_report_verdicts::steps_of;
 use cv_script::Step;
 use cv_syntax::{File, Work};
 use std::alloc::Global;

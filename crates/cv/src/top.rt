@@ -5,13 +5,13 @@ ghost use Rattle.cv.specs.Answers.{Answers, IsComplete};
 ghost use Rattle.cv.specs.Causes.{ComesFrom, outside_of};
 ghost use Rattle.cv.specs.Games.{HasCloseGames};
 ghost use Rattle.cv.specs.Strategy.{EndsWell, IsGood, IsSound};
-ghost use Rattle.cv_report_outcome.specs.Words.{AsksOnly, SaysOfWords, bytes_named, file_given};
-ghost use Rattle.cv_report_outcome.specs.Written.{EndsBy, IsWritten};
+ghost use Rattle.cv_report.specs.outcome.Words.{AsksOnly, SaysOfWords, bytes_named, file_given};
+ghost use Rattle.cv_report.specs.outcome.Written.{EndsBy, IsWritten};
 
 use crate::decide::{MOVES, judge};
 use cv_outside::{Shelf, Sink};
+use cv_report::outcome::{Outcome, fetch_status, named, refused, write};
 use cv_report::{Command, Report, Status};
-use cv_report_outcome::{Outcome, fetch_status, named, refused, write};
 use cv_syntax::Work;
 use std::alloc::Global;
 

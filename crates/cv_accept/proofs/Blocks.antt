@@ -8,7 +8,7 @@ use Rattle.cv_lex.specs.Lexis.{Token}
 use Rattle.cv_pool.specs.declared.node.NodeId.{NodeId}
 use Rattle.cv_pool.specs.KindTree.{KindTree}
 use Rattle.cv_pool.specs.PoolView.{PoolView, Grows}
-use Rattle.cv_pool.proofs.Growth.{ChildBelow-more, Grows-length}
+use Rattle.cv_pool.proofs.Growth.{ChildBelow_more, Grows_length}
 use Rattle.cv_syntax.specs.declared.decls.Decl.{Decl}
 use Rattle.cv_syntax.specs.declared.decls.Decl.TheVariants as decl
 use Rattle.cv_syntax.specs.declared.work.BuildError.{BuildError}
@@ -18,29 +18,29 @@ use Rattle.cv_syntax_trees.specs.Declarations.{Named, Equation, Equiv, Query}
 use Rattle.cv_syntax.specs.Declarations.{declared, declarations, number}
 use Rattle.cv_syntax_trees.specs.Tree.{Tree}
 use Rattle.cv_syntax.specs.PoolTrees.{tree_at}
-use Rattle.cv_syntax.proofs.Buildings.{child-grown}
+use Rattle.cv_syntax.proofs.Buildings.{child_grown}
 use Rattle.cv_parse_notation.specs.declared.sign.Sign.{Sign}
 use Rattle.cv_parse_notation.specs.Reads.{Read}
 use Rattle.cv_parse_notation.specs.Reads as fault
 use Rattle.cv_parse_grammar.specs.declared.role.Role.{Role}
-use Rattle.cv_parse_terminals.specs.declared.pass.Counts.{Counts}
-use Rattle.cv_parse_terminals.specs.ScriptSigns.{between, script_signs}
-use Rattle.cv_parse_terminals.specs.Signs.{first_text, no_counts, signs_from, signs_of, step_before}
-use Rattle.cv_parse_terminals.proofs.FileTokens.{length-read_from}
-use Rattle.cv_parse_terminals.proofs.Walk.{signs_from-cons, small}
-use Rattle.cv_parse_terminals.specs.Braces.{file_tokens}
+use Rattle.cv_parse_tables.specs.declared.terminals.pass.Counts.{Counts}
+use Rattle.cv_parse_tables.specs.terminals.ScriptSigns.{between, script_signs}
+use Rattle.cv_parse_tables.specs.terminals.Signs.{first_text, no_counts, signs_from, signs_of, step_before}
+use Rattle.cv_parse_tables.proofs.terminals.FileTokens.{length_read_from}
+use Rattle.cv_parse_tables.proofs.terminals.Walk.{signs_from_cons, small}
+use Rattle.cv_parse_tables.specs.terminals.Braces.{file_tokens}
 use Rattle.cv_parse.specs.Declaring.{IsBelow}
 use Rattle.cv_parse.specs.Parsed.{held_in}
-use Rattle.cv_parse_script.specs.declared.error.ScriptError.{ScriptError}
-use Rattle.cv_parse_script.specs.declared.error.ScriptError.TheVariants as script
+use Rattle.cv_script_reader.specs.declared.error.ScriptError.{ScriptError}
+use Rattle.cv_script_reader.specs.declared.error.ScriptError.TheVariants as script
 use Rattle.cv_parse_notation.specs.Spells.{next_is}
-use Rattle.cv_parse_script.specs.Scripts.{begins_step, items, read_row, script_read, stop_at, trees_of}
-use Rattle.cv_syntax_limits.specs.Limits.{nodes_of}
-use Rattle.cv_parse_script.specs.Scripts as scripts
-use Rattle.cv_parse_script.specs.Trees.{in_room, of_whole, tree_read, whole}
-use Rattle.cv_parse_script.proofs.Steps.{read_in_room}
+use Rattle.cv_script_reader.specs.Scripts.{begins_step, items, read_row, script_read, stop_at, trees_of}
+use Rattle.cv_syntax.specs.limits.Limits.{nodes_of}
+use Rattle.cv_script_reader.specs.Scripts as scripts
+use Rattle.cv_script_reader.specs.Trees.{in_room, of_whole, tree_read, whole}
+use Rattle.cv_script_reader.proofs.Steps.{read_in_room}
 use Rattle.cv_script.specs.declared.steps.Step.{Step}
-use Rattle.cv_script_rows.specs.Rows.{built_script_row}
+use Rattle.cv_script.specs.rows.Rows.{built_script_row}
 use Rattle.cv_accept.specs.declared.error.FileError.{FileError}
 use Rattle.cv_syntax.specs.declared.work.Work.{Work}
 use Rattle.cv_accept.specs.Accepted.{Content, block_by, content_of, names_by, of_block, there}
@@ -144,36 +144,36 @@ unfolding signs_from
 names_few names counts [] = omega arith
 names_few names counts (t ∷ ts) =
     let s = step_before names counts t.kind t.text (first_text ts) in
-    omega (arith, names_few s.names s.counts ts, (small names counts t.kind t.text (first_text ts)).names_more, ap (λ x. length x.names) (signs_from-cons names counts t ts s refl))
+    omega (arith, names_few s.names s.counts ts, (small names counts t.kind t.text (first_text ts)).names_more, ap (λ x. length x.names) (signs_from_cons names counts t ts s refl))
 
 pub few_names : (ts : List Token) → length (signs_of ts).names ≤ length ts + 1
-few_names ts = omega (arith, names_few (codes "bool" ∷ []) no_counts (file_tokens ts), length-read_from 0 ts)
+few_names ts = omega (arith, names_few (codes "bool" ∷ []) no_counts (file_tokens ts), length_read_from 0 ts)
 
 -- what stays while a pool grows
 
-pub root-grown : (old new : PoolView) (n : NodeId) → Grows old new → n.0 < length old.trees → tree_at new.trees (Some n) ≡ tree_at old.trees (Some n)
-root-grown old new n g l = child-grown old new (Some n) g l
+pub root_grown : (old new : PoolView) (n : NodeId) → Grows old new → n.0 < length old.trees → tree_at new.trees (Some n) ≡ tree_at old.trees (Some n)
+root_grown old new n g l = child_grown old new (Some n) g l
 
-decl-grown : (old new : PoolView) (d : Decl) → Grows old new → IsBelow (length old.trees) d → declared new.trees d ≡ declared old.trees d
-decl-grown old new (decl.Name id class args result) g b = ap (λ t. Named id.0 class t (number result)) (child-grown old new args g b)
-decl-grown old new (decl.Equation n) g b = ap Equation (root-grown old new n g b)
-decl-grown old new (decl.Equiv id n) g b = ap (Equiv id.0) (root-grown old new n g b)
-decl-grown old new (decl.Query n) g b = ap Query (root-grown old new n g b)
+decl_grown : (old new : PoolView) (d : Decl) → Grows old new → IsBelow (length old.trees) d → declared new.trees d ≡ declared old.trees d
+decl_grown old new (decl.Name id class args result) g b = ap (λ t. Named id.0 class t (number result)) (child_grown old new args g b)
+decl_grown old new (decl.Equation n) g b = ap Equation (root_grown old new n g b)
+decl_grown old new (decl.Equiv id n) g b = ap (Equiv id.0) (root_grown old new n g b)
+decl_grown old new (decl.Query n) g b = ap Query (root_grown old new n g b)
 
-pub declarations-grown : (old new : PoolView) (ds : List Decl) → Grows old new → All (IsBelow (length old.trees)) ds → declarations new.trees ds ≡ declarations old.trees ds
-declarations-grown old new [] g a = refl
-declarations-grown old new (d ∷ ds) g a = ap₂ (λ t ts. t ∷ ts) (decl-grown old new d g (a zero d (omega arith))) (declarations-grown old new ds g (λ k e l. a (suc k) e (omega arith)))
+pub declarations_grown : (old new : PoolView) (ds : List Decl) → Grows old new → All (IsBelow (length old.trees)) ds → declarations new.trees ds ≡ declarations old.trees ds
+declarations_grown old new [] g a = refl
+declarations_grown old new (d ∷ ds) g a = ap₂ (λ t ts. t ∷ ts) (decl_grown old new d g (a zero d (omega arith))) (declarations_grown old new ds g (λ k e l. a (suc k) e (omega arith)))
 
-decl-more : (m n : ℕ) (d : Decl) → m ≤ n → IsBelow m d → IsBelow n d
-decl-more m n (decl.Name id class args result) l b = ChildBelow-more m n args l b
-decl-more m n (decl.Equation k) l b = omega arith
-decl-more m n (decl.Equiv id k) l b = omega arith
-decl-more m n (decl.Query k) l b = omega arith
+decl_more : (m n : ℕ) (d : Decl) → m ≤ n → IsBelow m d → IsBelow n d
+decl_more m n (decl.Name id class args result) l b = ChildBelow_more m n args l b
+decl_more m n (decl.Equation k) l b = omega arith
+decl_more m n (decl.Equiv id k) l b = omega arith
+decl_more m n (decl.Query k) l b = omega arith
 
-pub below-grown : (old new : PoolView) (ds : List Decl) → Grows old new → All (IsBelow (length old.trees)) ds → All (IsBelow (length new.trees)) ds
-below-grown old new ds g a = λ k d l. decl-more (length old.trees) (length new.trees) (slice_index_or ds k d) (Grows-length old new g) (a k d l)
+pub below_grown : (old new : PoolView) (ds : List Decl) → Grows old new → All (IsBelow (length old.trees)) ds → All (IsBelow (length new.trees)) ds
+below_grown old new ds g a = λ k d l. decl_more (length old.trees) (length new.trees) (slice_index_or ds k d) (Grows_length old new g) (a k d l)
 
-pub held-grown : (old new : PoolView) (ds : List Decl) (f : File) → Grows old new → All (IsBelow (length old.trees)) ds → f.game.root.0 < length old.trees → held_in new.trees ds f ≡ held_in old.trees ds f
-held-grown old new ds f g a l = ap₂ (λ es t. record { declarations = es; script = f.script; game = t }) (declarations-grown old new ds g a) (root-grown old new f.game.root g l)
+pub held_grown : (old new : PoolView) (ds : List Decl) (f : File) → Grows old new → All (IsBelow (length old.trees)) ds → f.game.root.0 < length old.trees → held_in new.trees ds f ≡ held_in old.trees ds f
+held_grown old new ds f g a l = ap₂ (λ es t. record { declarations = es; script = f.script; game = t }) (declarations_grown old new ds g a) (root_grown old new f.game.root g l)
 
 pub ruleset blocks = (few_names)

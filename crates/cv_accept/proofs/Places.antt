@@ -13,7 +13,7 @@ use Rattle.cv_scope_rules.specs.Scope.{first_scope_fault, names_of}
 use Rattle.cv_scope_rules.specs.Standing.{at_root}
 use Rattle.cv_scope_rules.proofs.First.{earlier, finds_first}
 use Rattle.cv_accept.specs.Places.{HasPlace, behind, nodes_before, refused_behind}
-use Rattle.cv_accept.proofs.Weights.{parts_both}
+use Rattle.cv_typing.proofs.Bodies.{size_append}
 
 -- a fault lies in the game
 fault_within : (ds : List Declaration) (game : Tree) (q : ℕ) (f : Fault) → first_scope_fault ds game ≡ Some (q, f) → q ≤ size game
@@ -52,4 +52,4 @@ behind_some n (Some (r, g)) q f e =
 
 -- the process begins behind the declared terms
 pub process_begins : (ds : List Declaration) (game : Tree) (place : ℕ) → place + size game ≡ parts_size (file_parts ds game) → place ≡ nodes_before ds
-process_begins ds game place e = let b = parts_both (flat_map (declaration_parts ds) ds) (game_part game ∷ []) in omega arith
+process_begins ds game place e = let b = size_append (flat_map (declaration_parts ds) ds) (game_part game ∷ []) in omega arith

@@ -9,10 +9,10 @@ use Rattle.cv_lex.proofs.Exact.{computed, said}
 use Rattle.cv_pool.specs.KindTree.{KindTree}
 use Rattle.cv_syntax.specs.declared.work.BuildError.TheVariants as build
 use Rattle.cv_syntax_trees.specs.Tree.{Tree}
-use Rattle.cv_parse_terminals.specs.Signs.{signs_of}
-use Rattle.cv_parse_terminals.proofs.Telling.{count_all}
-use Rattle.cv_parse_script.specs.declared.error.ScriptError.{ScriptError}
-use Rattle.cv_parse_script.specs.Scripts.{items}
+use Rattle.cv_parse_tables.specs.terminals.Signs.{signs_of}
+use Rattle.cv_parse_tables.proofs.terminals.Telling.{count_all}
+use Rattle.cv_script_reader.specs.declared.error.ScriptError.{ScriptError}
+use Rattle.cv_script_reader.specs.Scripts.{items}
 use Rattle.cv_parse.specs.Nodes.{file_nodes}
 use Rattle.cv_parse.specs.declared.error.ParseError.{ParseError}
 use Rattle.cv_parse.specs.declared.error.ParseError.TheVariants as parse
@@ -37,12 +37,12 @@ use Rattle.cv_group.specs.declared.fault.GroupFault.{GroupFault}
 use Rattle.cv_group.specs.declared.fault.GroupFault.TheVariants as group
 use Rattle.cv_group.specs.Refusals.{IsRefusalAt}
 use Rattle.cv_group_rules.specs.Faults.{GroupRule, equivalences_in}
-use Rattle.cv_group_rules.proofs.Deciding.{accepted-more as all-accepted, none-where-all as none-refused}
+use Rattle.cv_group_rules.proofs.Deciding.{accepted_more as all-accepted, none_where_all as none-refused}
 use Rattle.cv_query_form.specs.declared.fault.QueryFault.{QueryFault}
 use Rattle.cv_query_form.specs.declared.fault.QueryFault.TheVariants as query
 use Rattle.cv_meaning.specs.Queries.{queries_in}
 use Rattle.cv_query_form.specs.Refusals.{IsRefusalOf as IsQueryRefusal}
-use Rattle.cv_query_form.proofs.First.{asked-where-none, none-where-asked}
+use Rattle.cv_query_form.proofs.First.{asked_where_none, none_where_asked}
 use Rattle.cv_parse_laws.proofs.Games.{well_formed}
 use Rattle.cv_accept.specs.declared.error.FileError.{FileError}
 use Rattle.cv_accept.specs.declared.error.FileError.TheVariants.{Lex, Parse, Script, Types, Scope, Group, Query, Room, Unbuilt, OutOfMemory}
@@ -235,7 +235,7 @@ from_parsed limit bs ts f (Ok p) l e i =
       typed = parts_typed_where_none p.declarations 0 (file_parts p.declarations p.game) b.types;
       scoped = scoped_where_none (names_of p.declarations p.game) at_root p.game (behind_none (nodes_before p.declarations) (first_scope_fault p.declarations p.game) b.scope);
       groups = all-accepted (is_constant_of p.declarations) (equivalences_in p.declarations) b.groups;
-      asked = asked-where-none p.game (queries_in p.declarations) b.queries;
+      asked = asked_where_none p.game (queries_in p.declarations) b.queries;
       content = sym b.content;
     }
 from_parsed limit bs ts f (Err x) l e i = absurd (cc)
@@ -259,7 +259,7 @@ file_is_read limit bs f w =
     ∙ (ap (of_types c w.said) (none_where_parts_typed w.said.declarations 0 (file_parts w.said.declarations w.said.game) w.typed)
     ∙ (ap (of_scopes c w.said) (none_behind (nodes_before w.said.declarations) (first_scope_fault w.said.declarations w.said.game) (none_where_scoped (names_of w.said.declarations w.said.game) at_root w.said.game w.scoped))
     ∙ (ap (of_groups c w.said) (none-refused (is_constant_of w.said.declarations) (equivalences_in w.said.declarations) w.groups)
-    ∙ (ap (of_queries c) (none-where-asked w.said.game (queries_in w.said.declarations) w.asked)
+    ∙ (ap (of_queries c) (none_where_asked w.said.game (queries_in w.said.declarations) w.asked)
     ∙ ap Ok (sym w.content))))))))
 
 -- a file for whose proof block a pool may have no room

@@ -11,6 +11,7 @@ use Rattle.cv_directory_sorts.specs.declared.sort.Sort.{Sort}
 use Rattle.cv_typing_rules.specs.Parts.{Part, body_parts, declaration_parts, equivalence_parts, file_parts, game_part, more_results, results, side_arrays}
 use Rattle.cv_typing_rules.specs.Refusals.{parts_size}
 use Rattle.cv_typing_rules.specs.Signature.{Arrays}
+use Rattle.cv_typing.proofs.Bodies.{size_append}
 
 size_weight : (t : Tree) → size t ≤ tree_weight t
 unfolding size tree_weight
@@ -27,10 +28,6 @@ unfolding size
 first_second Empty = omega arith
 first_second (Node h a b) = omega arith
 
-pub parts_both : (xs ys : List Part) → parts_size (xs ++ ys) ≡ parts_size xs + parts_size ys
-parts_both [] ys = omega arith
-parts_both (x ∷ xs) ys = let e = parts_both xs ys in omega arith
-
 bodies_size : (arrays : Arrays) (key : Tree) (Ss : List (Option Sort)) (t : Tree) → parts_size (body_parts arrays key Ss t) ≤ size t
 unfolding body_parts size
 bodies_size arrays key Ss Empty = omega arith
@@ -43,7 +40,7 @@ equivalence_size ds t =
     let c = second_size (second t) in
     let d = bodies_size (side_arrays (first t)) (first (first t)) [] (second (first t)) in
     let e = bodies_size (side_arrays (second t)) (first (second t)) (results (record { declarations = ds; arrays = side_arrays (first t) }) (first (first t)) (second (first t))) (second (second t)) in
-    let f = parts_both (body_parts (side_arrays (first t)) (first (first t)) [] (second (first t))) (body_parts (side_arrays (second t)) (first (second t)) (results (record { declarations = ds; arrays = side_arrays (first t) }) (first (first t)) (second (first t))) (second (second t))) in
+    let f = size_append (body_parts (side_arrays (first t)) (first (first t)) [] (second (first t))) (body_parts (side_arrays (second t)) (first (second t)) (results (record { declarations = ds; arrays = side_arrays (first t) }) (first (first t)) (second (first t))) (second (second t))) in
     omega arith
 
 declaration_size : (ds : List Declaration) (d : Declaration) → parts_size (declaration_parts ds d) ≤ size (tree_in d)
@@ -55,12 +52,12 @@ declaration_size ds (Query t) = omega arith
 declarations_size : (ds es : List Declaration) → parts_size (flat_map (declaration_parts ds) es) ≤ declared_weight es
 declarations_size ds [] = omega arith
 declarations_size ds (d ∷ es) =
-    let e = parts_both (declaration_parts ds d) (flat_map (declaration_parts ds) es) in
+    let e = size_append (declaration_parts ds d) (flat_map (declaration_parts ds) es) in
     omega (arith, declaration_size ds d, size_weight (tree_in d), declarations_size ds es)
 
 file_size : (ds : List Declaration) (t : Tree) → parts_size (file_parts ds t) ≤ declared_weight ds + tree_weight t
 file_size ds t =
-    let e = parts_both (flat_map (declaration_parts ds) ds) (game_part t ∷ []) in
+    let e = size_append (flat_map (declaration_parts ds) ds) (game_part t ∷ []) in
     omega (arith, declarations_size ds ds, size_weight t)
 
 -- within the pool's limit

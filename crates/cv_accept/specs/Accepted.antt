@@ -5,15 +5,15 @@ use Rattle.cv_lex.specs.View.{token_at}
 use Rattle.cv_lex.specs.declared.LexError.{LexError}
 use Rattle.cv_parse_notation.specs.declared.sign.Mark.{Mark}
 use Rattle.cv_parse_notation.specs.declared.sign.Mark.TheVariants as mark
-use Rattle.cv_parse_terminals.specs.ScriptSigns.{between, script_signs}
-use Rattle.cv_parse_terminals.specs.Signs.{signs_of}
-use Rattle.cv_parse_spelling.specs.Spelling.{mark_of_text}
-use Rattle.cv_parse_script.specs.declared.error.ScriptError.{ScriptError}
-use Rattle.cv_parse_script.specs.declared.error.ScriptError.TheVariants as script
-use Rattle.cv_parse_script.specs.Scripts.{items}
-use Rattle.cv_syntax_limits.specs.Limits.{nodes_of}
-use Rattle.cv_parse_script.specs.Trees.{tree_read}
-use Rattle.cv_script_rows.specs.Rows.{built_script_row}
+use Rattle.cv_parse_tables.specs.terminals.ScriptSigns.{between, script_signs}
+use Rattle.cv_parse_tables.specs.terminals.Signs.{signs_of}
+use Rattle.cv_parse_tables.specs.spelling.Spelling.{mark_of_text}
+use Rattle.cv_script_reader.specs.declared.error.ScriptError.{ScriptError}
+use Rattle.cv_script_reader.specs.declared.error.ScriptError.TheVariants as script
+use Rattle.cv_script_reader.specs.Scripts.{items}
+use Rattle.cv_syntax.specs.limits.Limits.{nodes_of}
+use Rattle.cv_script_reader.specs.Trees.{tree_read}
+use Rattle.cv_script.specs.rows.Rows.{built_script_row}
 use Rattle.cv_syntax_trees.specs.Declarations.{Declaration}
 use Rattle.cv_syntax_trees.specs.Tree.{Tree}
 use Rattle.cv_parse.specs.declared.error.ParseError.{ParseError}
@@ -29,7 +29,7 @@ use Rattle.cv_scope_rules.specs.Scope.{IsScoped, first_scope_fault}
 use Rattle.cv_meaning.specs.Interpretation.{is_constant_of}
 use Rattle.cv_group.specs.Refusals.{refused_by}
 use Rattle.cv_group_rules.specs.Faults.{AreAccepted, GroupRule, equivalences_in, first_group_fault}
-use Rattle.cv_query_built.specs.Built.{has_unbuilt}
+use Rattle.cv_query_direct.specs.forms.Built.{has_unbuilt}
 use Rattle.cv_meaning.specs.Queries.{queries_in}
 use Rattle.cv_query_form.specs.Rules.{AreAsked}
 use Rattle.cv_query_form.specs.Tests.{first_refused}

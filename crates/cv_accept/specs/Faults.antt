@@ -8,10 +8,10 @@ use Rattle.cv_lex.specs.Lexis.{Token}
 use Rattle.cv_lex.specs.declared.LexError.{LexError}
 use Rattle.cv_lex.specs.declared.LexError.TheVariants as lex
 use Rattle.cv_syntax.specs.declared.work.BuildError.TheVariants as build
-use Rattle.cv_parse_script.specs.declared.error.ScriptError.{ScriptError}
-use Rattle.cv_parse_script.specs.declared.error.ScriptError.TheVariants as script
-use Rattle.cv_parse_script.specs.Scripts.{items}
-use Rattle.cv_syntax_limits.specs.Limits.{nodes_of}
+use Rattle.cv_script_reader.specs.declared.error.ScriptError.{ScriptError}
+use Rattle.cv_script_reader.specs.declared.error.ScriptError.TheVariants as script
+use Rattle.cv_script_reader.specs.Scripts.{items}
+use Rattle.cv_syntax.specs.limits.Limits.{nodes_of}
 use Rattle.cv_script.specs.declared.steps.Step.{Step}
 use Rattle.cv_parse.specs.declared.error.ParseError.{ParseError}
 use Rattle.cv_parse.specs.declared.error.ParseError.TheVariants as parse

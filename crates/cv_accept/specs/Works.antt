@@ -10,9 +10,9 @@ use Rattle.cv_syntax.specs.Declarations.{declarations}
 use Rattle.cv_syntax_trees.specs.Tree.{Tree, depth, size}
 use Rattle.cv_syntax.specs.PoolTrees.{tree_at}
 use Rattle.cv_parse.specs.Nodes.{file_nodes}
-use Rattle.cv_syntax_limits.specs.Limits.{most_depth, most_nodes, nodes_of}
-use Rattle.cv_parse_script.specs.Scripts.{trees_of}
-use Rattle.cv_parse_script.specs.Trees.{script_nodes}
+use Rattle.cv_syntax.specs.limits.Limits.{most_depth, most_nodes, nodes_of}
+use Rattle.cv_script_reader.specs.Scripts.{trees_of}
+use Rattle.cv_script_reader.specs.Trees.{script_nodes}
 use Rattle.cv_script.specs.declared.steps.Step.{Step}
 use Rattle.cv_typing_rules.specs.Parts.{IsTypedFile}
 use Rattle.cv_scope_rules.specs.Phrases.{IsWellFormed}

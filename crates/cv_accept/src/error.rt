@@ -1,9 +1,9 @@
 use cv_group::{EquivFault, GroupFault};
 use cv_lex::LexError;
 use cv_parse::ParseError;
-use cv_parse_script::ScriptError;
 use cv_query_form::QueryFault;
 use cv_scope_rules::ScopeFault;
+use cv_script_reader::ScriptError;
 use cv_syntax::BuildError;
 use cv_typing_rules::TypeFault;
 use std::alloc::AllocError;

@@ -15,13 +15,13 @@ use cv_group::check_all;
 use cv_lex::{Tokens, tokens};
 use cv_parse::file;
 use cv_parse_notation::Mark;
-use cv_parse_script::script;
-use cv_parse_spelling::spelled;
-use cv_query_built::has_unbuilt;
+use cv_parse_tables::spelling::spelled;
+use cv_query_direct::forms::has_unbuilt;
 use cv_query_form::check as check_queries;
 use cv_script::Step;
+use cv_script_reader::script;
+use cv_syntax::filling::empty_again;
 use cv_syntax::{File, Work};
-use cv_syntax_work::empty_again;
 use cv_typing::check as check_types;
 use std::alloc::Global;
 

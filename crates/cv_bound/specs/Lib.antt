@@ -1,3 +1,5 @@
 pub mod Places
 pub mod Sums
 pub mod Texts
+pub mod closings
+pub mod costs

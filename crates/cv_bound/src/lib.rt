@@ -1,7 +1,9 @@
 // What steps cost: sums of chances of collisions and of advantages, with their text.
 #![tactic(auto)]
 
+pub mod closings;
 mod cost;
+pub mod costs;
 mod sum;
 mod terms;
 mod text;

@@ -21,14 +21,14 @@ use Rattle.cv_bound_values.specs.Values.{product_value, over_value, collision_va
 fraction : (a b c d : ℕ) → a ≡ c → b ≡ d → (let p : Chance = record { good = a; all = b } in p) ≡ record { good = c; all = d }
 fraction a b c d e f = ap₂ (λ (x y : ℕ). let p : Chance = record { good = x; all = y } in p) e f
 
-plus-assoc : (p q r : Chance) → plus (plus p q) r ≡ plus p (plus q r)
-plus-assoc p q r = fraction _ _ _ _ (omega arith) (omega arith)
+plus_assoc : (p q r : Chance) → plus (plus p q) r ≡ plus p (plus q r)
+plus_assoc p q r = fraction _ _ _ _ (omega arith) (omega arith)
 
-zero-plus : (p : Chance) → plus zero_chance p ≡ p
-zero-plus p = fraction _ _ _ _ (omega arith) (omega arith)
+zero_plus : (p : Chance) → plus zero_chance p ≡ p
+zero_plus p = fraction _ _ _ _ (omega arith) (omega arith)
 
-plus-zero : (p : Chance) → plus p zero_chance ≡ p
-plus-zero p = fraction _ _ _ _ (omega arith) (omega arith)
+plus_zero : (p : Chance) → plus p zero_chance ≡ p
+plus_zero p = fraction _ _ _ _ (omega arith) (omega arith)
 
 -- the first fraction is the second, with so many times its numbers
 abbrev IsWider : Chance → Chance → Type 0
@@ -46,9 +46,9 @@ wider_left p q r h = (h.0, ap (λ x. plus x r) h.1 ∙ fraction _ _ _ _ (omega a
 wider_right : (p q r : Chance) → IsWider q r → IsWider (plus p q) (plus p r)
 wider_right p q r h = (h.0, ap (plus p) h.1 ∙ fraction _ _ _ _ (omega arith) (omega arith))
 
-pub sum_value-append : (i : Interpretation) (a : Advantages) (ts us : List Term) → sum_value i a (ts ++ us) ≡ plus (sum_value i a ts) (sum_value i a us)
-sum_value-append i a [] us = sym (zero-plus (sum_value i a us))
-sum_value-append i a (t ∷ ts) us = ap (plus (term_value i a t)) (sum_value-append i a ts us) ∙ sym (plus-assoc (term_value i a t) (sum_value i a ts) (sum_value i a us))
+pub sum_value_append : (i : Interpretation) (a : Advantages) (ts us : List Term) → sum_value i a (ts ++ us) ≡ plus (sum_value i a ts) (sum_value i a us)
+sum_value_append i a [] us = sym (zero_plus (sum_value i a us))
+sum_value_append i a (t ∷ ts) us = ap (plus (term_value i a t)) (sum_value_append i a ts us) ∙ sym (plus_assoc (term_value i a t) (sum_value i a ts) (sum_value i a us))
 
 same_factor : (f g : NameId × ℕ) → f.0.0 ≡ g.0.0 → f.1 ≡ g.1 → f ≡ g
 same_factor f g e h = ap₂ (λ (n k : ℕ). let x : NameId = record { 0 = n } in (x, k)) e h
@@ -92,29 +92,29 @@ added_times m n P S P' S' r e f =
 head_adds : (i : Interpretation) (a : Advantages) (c d : Collision) (ts : List Term) (b : Bool) → are_alike d c ≡ b → IsWider (plus (sum_value i a ts) (collision_value i c)) (sum_value i a (merged ts c)) → IsWider (plus (sum_value i a (term.Collision d ∷ ts)) (collision_value i c)) (sum_value i a (merged (term.Collision d ∷ ts) c))
 unfolding merged
 head_adds i a c d ts true e next = rw e (let v = alike_values i d c e in added_times d.times c.times _ _ _ _ (sum_value i a ts) v.0 v.1)
-head_adds i a c d ts false e next = rw e (wider_trans _ _ _ (wider_refl _ _ (plus-assoc (collision_value i d) (sum_value i a ts) (collision_value i c))) (wider_right (collision_value i d) _ _ next))
+head_adds i a c d ts false e next = rw e (wider_trans _ _ _ (wider_refl _ _ (plus_assoc (collision_value i d) (sum_value i a ts) (collision_value i c))) (wider_right (collision_value i d) _ _ next))
 
 merged_adds : (i : Interpretation) (a : Advantages) (ts : List Term) (c : Collision) → IsWider (plus (sum_value i a ts) (collision_value i c)) (sum_value i a (merged ts c))
 unfolding merged
-merged_adds i a [] c = wider_refl _ _ (zero-plus (collision_value i c) ∙ sym (plus-zero (collision_value i c)))
+merged_adds i a [] c = wider_refl _ _ (zero_plus (collision_value i c) ∙ sym (plus_zero (collision_value i c)))
 merged_adds i a (term.Collision d ∷ ts) c = head_adds i a c d ts (are_alike d c) refl (merged_adds i a ts c)
-merged_adds i a (t ∷ ts) c = wider_trans _ _ _ (wider_refl _ _ (plus-assoc (term_value i a t) (sum_value i a ts) (collision_value i c))) (wider_right (term_value i a t) _ _ (merged_adds i a ts c))
+merged_adds i a (t ∷ ts) c = wider_trans _ _ _ (wider_refl _ _ (plus_assoc (term_value i a t) (sum_value i a ts) (collision_value i c))) (wider_right (term_value i a t) _ _ (merged_adds i a ts c))
 
 term_adds : (i : Interpretation) (a : Advantages) (ts : List Term) (t : Term) → IsWider (plus (sum_value i a ts) (term_value i a t)) (sum_value i a (with_term ts t))
 term_adds i a ts (term.Collision c) = merged_adds i a ts c
-term_adds i a ts t = wider_refl _ _ (ap (plus (sum_value i a ts)) (sym (plus-zero (term_value i a t))) ∙ sym (sum_value-append i a ts (t ∷ [])))
+term_adds i a ts t = wider_refl _ _ (ap (plus (sum_value i a ts)) (sym (plus_zero (term_value i a t))) ∙ sym (sum_value_append i a ts (t ∷ [])))
 
 terms_add : (i : Interpretation) (a : Advantages) (ts us : List Term) → IsWider (plus (sum_value i a ts) (sum_value i a us)) (sum_value i a (with_terms ts us))
 unfolding with_terms
-terms_add i a ts [] = wider_refl _ _ (plus-zero (sum_value i a ts))
+terms_add i a ts [] = wider_refl _ _ (plus_zero (sum_value i a ts))
 terms_add i a ts (u ∷ us) =
-    wider_trans _ _ _ (wider_refl _ _ (sym (plus-assoc (sum_value i a ts) (term_value i a u) (sum_value i a us))))
+    wider_trans _ _ _ (wider_refl _ _ (sym (plus_assoc (sum_value i a ts) (term_value i a u) (sum_value i a us))))
     (wider_trans _ _ _ (wider_left _ _ (sum_value i a us) (term_adds i a ts u)) (terms_add i a (with_term ts u) us))
 
 same_as_wider : (p q : Chance) → IsWider p q → Same q p
 same_as_wider p q h = subst (Same q) (sym h.1) (omega arith)
 
-factor_positive : (k n : ℕ) → 0 < k * n → 0 < n
+pub factor_positive : (k n : ℕ) → 0 < k * n → 0 < n
 factor_positive k zero h = absurd (omega arith)
 factor_positive k (suc n) h = omega arith
 

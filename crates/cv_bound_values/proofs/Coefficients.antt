@@ -50,18 +50,9 @@ small_fit [] h = tt
 small_fit (term.Collision c ∷ ts) h = (omega arith, small_fit ts (omega arith))
 small_fit (t ∷ ts) h = (tt, small_fit ts (omega arith))
 
--- a cost can be added where there are few coefficients
-pub added_fits : (ts : List Term) (c : Cost) (secrecy : Bool) → coefficients ts + coefficients (terms_of c secrecy) < 2 ^ 64 → AllFit (added ts c secrecy)
-added_fits ts c secrecy h = small_fit (added ts c secrecy) (let k = coefficients_added ts c secrecy in omega arith)
-
 -- an advantage has none
 pub advantage_counts : (step : ℕ) (q : NameId) (secrecy : Bool) → coefficients (terms_of (cost.Advantage step q) secrecy) ≡ 0
 advantage_counts step q true = refl
 advantage_counts step q false = refl
-
--- a bound on the coefficients holds whether a cost was added or not
-pub still_bounded : {E : Type 0} (old new : List Term) (c : Cost) (secrecy : Bool) (total : ℕ) (r : Result (Unit {0}) E) → OnOk r (new ≡ added old c secrecy) → OnErr r (new ≡ old) → coefficients old + coefficients (terms_of c secrecy) ≤ total → coefficients new ≤ total
-still_bounded old new c secrecy total (Ok u) h k l = let e = ap coefficients h in let f = coefficients_added old c secrecy in omega arith
-still_bounded old new c secrecy total (Err x) h k l = let e = ap coefficients k in omega arith
 
 pub ruleset counts = (counted_once, counted_twice, advantage_counts)

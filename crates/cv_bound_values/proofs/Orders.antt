@@ -15,6 +15,7 @@ use Rattle.cv_bound.specs.declared.terms.Term.{Term}
 use Rattle.cv_bound.specs.declared.terms.Term.TheVariants as term
 use Rattle.cv_bound.specs.Sums.{same_factors, are_alike, merged, with_term, with_terms, counted, terms_of, added}
 use Rattle.cv_bound_values.specs.Orders.{bare, are_like_terms}
+use Rattle.cv_lists.proofs.Tests.{equals_refl}
 
 -- how the terms of a list begin
 abbrev Begins : List Term → List Term → Type 0
@@ -109,19 +110,16 @@ all_distinct ts (u ∷ us) h = all_distinct (with_term ts u) us (with_distinct t
 pub like_terms_are_one : (ts : List Term) (c : Cost) (secrecy : Bool) → IsDistinct are_like_terms ts → IsDistinct are_like_terms (added ts c secrecy)
 like_terms_are_one ts c secrecy h = all_distinct ts (terms_of c secrecy) h
 
-number_same : (n : ℕ) → (n == n) ≡ true
-number_same n = grind (arith, nat_tests)
-
 bit_same : (b : Bool) → beq b b ≡ true
 bit_same true = refl
 bit_same false = refl
 
 factors_same : (fs : List (NameId × ℕ)) → same_factors fs fs ≡ true
 factors_same [] = refl
-factors_same (f ∷ fs) = and_from (f.0.0 == f.0.0) ((f.1 == f.1) && same_factors fs fs) (number_same f.0.0) (and_from (f.1 == f.1) (same_factors fs fs) (number_same f.1) (factors_same fs))
+factors_same (f ∷ fs) = and_from (f.0.0 == f.0.0) ((f.1 == f.1) && same_factors fs fs) (equals_refl f.0.0) (and_from (f.1 == f.1) (same_factors fs fs) (equals_refl f.1) (factors_same fs))
 
 alike_same : (c : Collision) → are_alike c c ≡ true
-alike_same c = and_from (c.over.0 == c.over.0) (beq c.half c.half && same_factors c.factors c.factors) (number_same c.over.0) (and_from (beq c.half c.half) (same_factors c.factors c.factors) (bit_same c.half) (factors_same c.factors))
+alike_same c = and_from (c.over.0 == c.over.0) (beq c.half c.half && same_factors c.factors c.factors) (equals_refl c.over.0) (and_from (beq c.half c.half) (same_factors c.factors c.factors) (bit_same c.half) (factors_same c.factors))
 
 -- with another coefficient
 abbrev pub with_times : Collision → ℕ → Term

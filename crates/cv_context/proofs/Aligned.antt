@@ -13,26 +13,26 @@ use Rattle.cv_syntax.specs.NameSets.{is_in}
 use Rattle.cv_pool.specs.declared.node.NodeId.{NodeId}
 use Rattle.cv_syntax_trees.specs.Tree.{Tree, Empty, Node, first_place, second_place, size}
 use Rattle.cv_syntax.specs.PoolTrees.{tree_at}
-use Rattle.cv_meaning_laws.proofs.Lists.{each_append}
 use Rattle.cv_scope_rules.specs.declared.position.Position.{Position}
 use Rattle.cv_scope_rules.specs.declared.position.Position.TheVariants.{Anywhere}
-use Rattle.cv_scenes.specs.Scenes.{Scene}
+use Rattle.cv_scene.specs.Scenes.{Scene}
 use Rattle.cv_scope_rules.specs.Context.{cell_of, first_position, replications_below, second_position}
-use Rattle.cv_scenes.specs.Instances.{Call, Matching, call_at}
-use Rattle.cv_scenes.specs.Sites as instances
-use Rattle.cv_scenes.specs.Sites.{is_guard, sites_in, sites_of}
-use Rattle.cv_scenes.specs.Contexts.{after_calls, call_terms, context_in, context_of, in_context, is_coin_variable, is_statement, matching_of}
-use Rattle.cv_scenes.specs.Apt.{has_value}
-use Rattle.cv_match_patterns.specs.Sites.{HasInstance, instance_in, site_in}
-use Rattle.cv_match_patterns.specs.declared.site.Site.{Site}
-use Rattle.cv_context_nodes.specs.Calls.{terms_of}
-use Rattle.cv_context_nodes.specs.Written.{answer_in, calls_here}
-use Rattle.cv_context_nodes.specs.declared.calls.Call.{Call as Written}
-use Rattle.cv_context_nodes.specs.declared.roles.Roles.{Roles}
+use Rattle.cv_scene.specs.Instances.{Call, Matching, call_at}
+use Rattle.cv_scene.specs.Sites as instances
+use Rattle.cv_scene.specs.Sites.{is_guard, sites_in, sites_of}
+use Rattle.cv_scene.specs.Contexts.{after_calls, call_terms, context_in, context_of, in_context, is_coin_variable, is_statement, matching_of}
+use Rattle.cv_scene.specs.Apt.{has_value}
+use Rattle.cv_match_terms.specs.patterns.Sites.{HasInstance, instance_in, site_in}
+use Rattle.cv_match_terms.specs.declared.patterns.site.Site.{Site}
+use Rattle.cv_context.specs.nodes.Calls.{terms_of}
+use Rattle.cv_context.specs.nodes.Written.{answer_in, calls_here}
+use Rattle.cv_context.specs.declared.nodes.calls.Call.{Call as Written}
+use Rattle.cv_context.specs.declared.nodes.roles.Roles.{Roles}
 use Rattle.cv_context.specs.Roles.{AreSitesOf, is_coin_at, name_at, reads_at, reads_of}
 use Rattle.cv_context.specs.Written.{Part, before, is_place, is_site, joined, node_in, part_at, part_unless}
 use Rattle.cv_context.proofs.Drawn.{found}
-use Rattle.cv_context.proofs.Walking.{at-node, at-site, skipped, whole}
+use Rattle.cv_context.proofs.Walking.{at_node, at_site, skipped, whole}
+use Rattle.cv_lists.proofs.Each.{AllByRecursion_append}
 
 later : (m n : ℕ) → m ≤ n → (ss : List instances.Site) → AllByRecursion (λ (s : instances.Site). n ≤ s.place) ss → AllByRecursion (λ (s : instances.Site). m ≤ s.place) ss
 later m n l [] e = tt
@@ -57,7 +57,7 @@ sites_behind M w rs p (Node h a b) =
     ])
     go (Some c) z e f = (omega arith, tt)
     go None true e f = f
-    go None false e f = each_append (λ (s : instances.Site). p ≤ s.place) inner outer e f
+    go None false e f = AllByRecursion_append (λ (s : instances.Site). p ≤ s.place) inner outer e f
 
 -- the code's calls are those of these sites
 pub AreSites : List KindTree → List Written → List instances.Site → Type 0
@@ -205,7 +205,7 @@ module _ (trees : List KindTree) (r : Roles) (ss : List Written) (M : Matching) 
           next = s + length (sub ++ outer);
         }
     node_aligned sub inside rest c e f g ih =
-        at-node trees r ss w rs s p (Node h a b) h a b refl false (sym none) refl
+        at_node trees r ss w rs s p (Node h a b) h a b refl false (sym none) refl
         ∙ ap (λ x. joined trees r ss h s x behind) e
         ∙ ap (λ (y : Part). let x : Part = record { tree = before trees r s (calls_here ss h s n) (node_in r h c y.tree); next = y.next } in x) (ih n there)
         ∙ ap₂ (λ t k. let x : Part = record { tree = t; next = k } in x) tree more
@@ -273,7 +273,7 @@ module _ (trees : List KindTree) (r : Roles) (ss : List Written) (M : Matching) 
           → AreSites trees (drop s ss) (sites_by o z ++ rest)
           → At w rs s p (Node h a b) ≡ record { tree = tree_by o z; next = s + length (sites_by o z) }
       go (Some c) i z j ihb iho g =
-          at-site trees r ss w rs s p (Node h a b) h a b refl true (sym here) refl ∙ ap (λ k. let x : Part = record { tree = cell_of rs (answer_in r s); next = k } in x) (let k : suc s ≡ s + 1 = omega arith in k)
+          at_site trees r ss w rs s p (Node h a b) h a b refl true (sym here) refl ∙ ap (λ k. let x : Part = record { tree = cell_of rs (answer_in r s); next = k } in x) (let k : suc s ≡ s + 1 = omega arith in k)
         where
           by : (v : Bool) → has_value (Node h a b) ≡ v → (weight h == 1) ≡ true
           by true v = value_weight h a b v
@@ -285,17 +285,17 @@ module _ (trees : List KindTree) (r : Roles) (ss : List Written) (M : Matching) 
           node_aligned w rs s p h a b none [] [] rest a (skipped trees r ss (is_guard w) (first_position w h) rs s (first_place p h) a j ∙ ap (λ k. let x : Part = record { tree = a; next = k } in x) (let k : s ≡ s + 0 = omega arith in k)) g alike_none (λ n e. iho n rest e (rest_after (second_place p h a + size b) (omega (arith, after))))
         where
           none : is_site ss s p h ≡ false
-          none = elsewhere (last ++ rest) g (λ k. each_append (λ (y : instances.Site). suc p ≤ y.place) last rest (last_after (suc p) (omega (arith, eqb-true (weight h) 1 k))) (rest_after (suc p) (omega (arith, eqb-true (weight h) 1 k, after))))
+          none = elsewhere (last ++ rest) g (λ k. AllByRecursion_append (λ (y : instances.Site). suc p ≤ y.place) last rest (last_after (suc p) (omega (arith, eqb-true (weight h) 1 k))) (rest_after (suc p) (omega (arith, eqb-true (weight h) 1 k, after))))
       go None i false j ihb iho g =
-          node_aligned w rs s p h a b none (inner (first_place p h)) (inner 0) rest (Context (first_position w h) rs s a) (whole trees r ss (is_guard w) (first_position w h) rs s (first_place p h) a j ∙ ihb (last ++ rest) these (each_append (λ (y : instances.Site). first_place p h + size a ≤ y.place) last rest (last_after (first_place p h + size a) (omega arith)) (rest_after (first_place p h + size a) (omega (arith, after))))) these (alike_sites M (first_position w h) rs a (first_place p h) 0) (λ n e. iho n rest e (rest_after (second_place p h a + size b) (omega (arith, after))))
+          node_aligned w rs s p h a b none (inner (first_place p h)) (inner 0) rest (Context (first_position w h) rs s a) (whole trees r ss (is_guard w) (first_position w h) rs s (first_place p h) a j ∙ ihb (last ++ rest) these (AllByRecursion_append (λ (y : instances.Site). first_place p h + size a ≤ y.place) last rest (last_after (first_place p h + size a) (omega arith)) (rest_after (first_place p h + size a) (omega (arith, after))))) these (alike_sites M (first_position w h) rs a (first_place p h) 0) (λ n e. iho n rest e (rest_after (second_place p h a + size b) (omega (arith, after))))
         where
           these : AreSites trees (drop s ss) (inner (first_place p h) ++ (last ++ rest))
           these = subst (AreSites trees (drop s ss)) (append_assoc (inner (first_place p h)) last rest) g
 
           none : is_site ss s p h ≡ false
           none = elsewhere (inner (first_place p h) ++ (last ++ rest)) these (λ k.
-              each_append (λ (y : instances.Site). suc p ≤ y.place) (inner (first_place p h)) (last ++ rest) (later (suc p) (first_place p h) (omega (arith, eqb-true (weight h) 1 k)) (inner (first_place p h)) (sites_behind M (first_position w h) rs (first_place p h) a))
-              (each_append (λ (y : instances.Site). suc p ≤ y.place) last rest (last_after (suc p) (omega (arith, eqb-true (weight h) 1 k))) (rest_after (suc p) (omega (arith, eqb-true (weight h) 1 k, after)))))
+              AllByRecursion_append (λ (y : instances.Site). suc p ≤ y.place) (inner (first_place p h)) (last ++ rest) (later (suc p) (first_place p h) (omega (arith, eqb-true (weight h) 1 k)) (inner (first_place p h)) (sites_behind M (first_position w h) rs (first_place p h) a))
+              (AllByRecursion_append (λ (y : instances.Site). suc p ≤ y.place) last rest (last_after (suc p) (omega (arith, eqb-true (weight h) 1 k))) (rest_after (suc p) (omega (arith, eqb-true (weight h) 1 k, after)))))
 
 -- the sites that a search answers
 answered : (trees : List KindTree) (M : Matching) (cs : List Written) (xs : List Site) → map (reads_at trees) cs ≡ map (reads_of trees) xs → All (HasInstance trees M) xs → AreSites trees cs (map (site_in trees M) xs)

@@ -1,2 +1,5 @@
 pub mod Roles
 pub mod Written
+pub mod indices
+pub mod nodes
+pub mod products

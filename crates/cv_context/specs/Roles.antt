@@ -6,16 +6,16 @@ use Rattle.cv_pool.specs.Nodes.{ChildBelow}
 use Rattle.cv_pool.specs.declared.node.NodeId.{NodeId}
 use Rattle.cv_syntax_trees.specs.Tree.{Tree}
 use Rattle.cv_syntax.specs.PoolTrees.{tree_at}
-use Rattle.cv_scenes.specs.Scenes.{Scene}
-use Rattle.cv_scenes.specs.Sights.{variable_of}
-use Rattle.cv_scenes.specs.Apt.{has_value}
-use Rattle.cv_scenes.specs.Contexts.{call_terms, matching_of}
-use Rattle.cv_scenes.specs.Instances.{call_at, is_read_of}
-use Rattle.cv_scenes.specs.Sites.{sites_of}
-use Rattle.cv_match_patterns.specs.Sites.{HasInstance, instance_in, site_in}
-use Rattle.cv_match_patterns.specs.declared.site.Site.{Site}
-use Rattle.cv_context_nodes.specs.Calls.{terms_of}
-use Rattle.cv_context_nodes.specs.declared.calls.Call.{Call}
+use Rattle.cv_scene.specs.Scenes.{Scene}
+use Rattle.cv_scene.specs.Sights.{variable_of}
+use Rattle.cv_scene.specs.Apt.{has_value}
+use Rattle.cv_scene.specs.Contexts.{call_terms, matching_of}
+use Rattle.cv_scene.specs.Instances.{call_at, is_read_of}
+use Rattle.cv_scene.specs.Sites.{sites_of}
+use Rattle.cv_match_terms.specs.patterns.Sites.{HasInstance, instance_in, site_in}
+use Rattle.cv_match_terms.specs.declared.patterns.site.Site.{Site}
+use Rattle.cv_context.specs.nodes.Calls.{terms_of}
+use Rattle.cv_context.specs.declared.nodes.calls.Call.{Call}
 
 -- the nodes that stand for names stand in a pool with so many
 pub record IsLiveCall (n : ℕ) (s : Site) : Type 0 where

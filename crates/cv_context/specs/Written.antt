@@ -9,11 +9,11 @@ use Rattle.cv_syntax.specs.NameSets.{is_in}
 use Rattle.cv_syntax_trees.specs.Tree.{Tree, Empty, Node, first_place, second_place}
 use Rattle.cv_scope_rules.specs.declared.position.Position.{Position}
 use Rattle.cv_scope_rules.specs.Context.{cell_of, first_position, replications_below, second_position}
-use Rattle.cv_scenes.specs.Sites.{is_guard}
-use Rattle.cv_context_nodes.specs.Calls.{terms_of}
-use Rattle.cv_context_nodes.specs.Written.{answer_in, calls_here}
-use Rattle.cv_context_nodes.specs.declared.calls.Call.{Call}
-use Rattle.cv_context_nodes.specs.declared.roles.Roles.{Roles}
+use Rattle.cv_scene.specs.Sites.{is_guard}
+use Rattle.cv_context.specs.nodes.Calls.{terms_of}
+use Rattle.cv_context.specs.nodes.Written.{answer_in, calls_here}
+use Rattle.cv_context.specs.declared.nodes.calls.Call.{Call}
+use Rattle.cv_context.specs.declared.nodes.roles.Roles.{Roles}
 
 -- calls before a tree, and a node
 

@@ -3,18 +3,18 @@ ghost use Rattle.cv_pool.specs.PoolView.{Grows};
 ghost use Rattle.cv_syntax.specs.Postorder.{postorder};
 ghost use Rattle.cv_syntax_trees.specs.Tree.{Tree, size};
 ghost use Rattle.cv_syntax.specs.PoolTrees.{tree_at};
-ghost use Rattle.cv_scenes.specs.Scenes.{Scene};
-ghost use Rattle.cv_scenes.specs.Contexts.{context_of};
+ghost use Rattle.cv_scene.specs.Scenes.{Scene};
+ghost use Rattle.cv_scene.specs.Contexts.{context_of};
 ghost use Rattle.cv_context.specs.Roles.{AreSitesOf, IsLiveCall, name_at};
-ghost use Rattle.cv_syntax_limits.specs.Limits.{nodes_of};
+ghost use Rattle.cv_syntax.specs.limits.Limits.{nodes_of};
 
 use crate::calls::calls_of;
 use crate::roles::roles_of;
 use crate::walk::{Next, put};
-use cv_match_patterns::Site;
+use cv_match_terms::patterns::Site;
 use cv_scope_rules::Position;
+use cv_syntax::limits::plant_tree;
 use cv_syntax::{Make, NodeId, Pool, PoolError};
-use cv_syntax_limits::plant_tree;
 use std::alloc::{AllocError, Global};
 
 /// The parts of the context of a game.

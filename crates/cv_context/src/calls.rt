@@ -1,10 +1,10 @@
 ghost use Rattle.std.specs.Prelude.{◌≡◌, ℕ, List, All, IfOk, map};
 ghost use Rattle.cv_pool.specs.KindTree.{KindTree};
-ghost use Rattle.cv_context_nodes.specs.Calls.{IsLive};
+ghost use Rattle.cv_context.specs.nodes.Calls.{IsLive};
 ghost use Rattle.cv_context.specs.Roles.{IsLiveCall, reads_at, reads_of};
 
-use cv_context_nodes::Call;
-use cv_match_patterns::Site;
+use crate::nodes::Call;
+use cv_match_terms::patterns::Site;
 use std::alloc::{AllocError, Global};
 
 /// The call that a site is.

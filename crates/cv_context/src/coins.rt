@@ -3,7 +3,7 @@ ghost use Rattle.cv_pool.specs.Nodes.{ChildBelow};
 ghost use Rattle.cv_syntax.specs.NameSets.{is_in};
 ghost use Rattle.cv_context.specs.Roles.{IsLiveCall, is_coin_at, is_read_in};
 
-use cv_match_patterns::{Site, variable_of};
+use cv_match_terms::patterns::{Site, variable_of};
 use cv_syntax::{NodeId, Pool};
 use std::alloc::{AllocError, Global};
 use std::collections::HashSet;

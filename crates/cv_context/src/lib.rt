@@ -4,6 +4,9 @@
 mod building;
 mod calls;
 mod coins;
+pub mod indices;
+pub mod nodes;
+pub mod products;
 mod roles;
 mod walk;
 

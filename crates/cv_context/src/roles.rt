@@ -3,8 +3,8 @@ ghost use Rattle.cv_syntax.specs.NameSets.{is_in};
 ghost use Rattle.cv_context.specs.Roles.{IsLiveCall, is_coin_at};
 
 use crate::coins::coins_of;
-use cv_context_nodes::Roles;
-use cv_match_patterns::Site;
+use crate::nodes::Roles;
+use cv_match_terms::patterns::Site;
 use cv_syntax::Pool;
 use std::alloc::{AllocError, Global};
 

@@ -4,14 +4,14 @@ ghost use Rattle.cv_syntax.specs.Postorder.{postorder};
 ghost use Rattle.cv_syntax_trees.specs.Tree.{size};
 ghost use Rattle.cv_syntax.specs.PoolTrees.{tree_at};
 ghost use Rattle.cv_scope_rules.specs.Context.{replications_below};
-ghost use Rattle.cv_scenes.specs.Sites as instances;
-ghost use Rattle.cv_context_nodes.specs.Calls.{IsLive};
+ghost use Rattle.cv_scene.specs.Sites as instances;
+ghost use Rattle.cv_context.specs.nodes.Calls.{IsLive};
 ghost use Rattle.cv_context.specs.Written.{is_site, part_unless};
 
-use cv_context_nodes::{Call, Roles, answer, push_cell, put_node};
-use cv_context_parts::{close, push_tree};
+use crate::nodes::{Call, Roles, answer, push_cell, put_node};
 use cv_path::size_below;
 use cv_scope_rules::Position;
+use cv_syntax::parts::{close, push_tree};
 use cv_syntax::{Head, Make, NodeId, Pool, read_node};
 use std::alloc::AllocError;
 

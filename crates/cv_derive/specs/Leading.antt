@@ -3,9 +3,9 @@ use Rattle.std.specs.Prelude.{◌≡◌, ℕ, ◌-◌, List, [], ◌++◌, lengt
 use Rattle.cv_pool.specs.KindTree.{KindTree}
 use Rattle.cv_syntax.specs.PoolTrees.{tree_at}
 use Rattle.cv_scope_rules.specs.Context.{Context}
-use Rattle.cv_facts.specs.declared.known.Fact.{Fact}
-use Rattle.cv_facts.specs.Facts.{FactAt, fact_of, facts_from}
-use Rattle.cv_facts.specs.Walks.{Tests, given_facts}
+use Rattle.cv_derive_facts.specs.declared.known.Fact.{Fact}
+use Rattle.cv_derive_facts.specs.Facts.{FactAt, fact_of, facts_from}
+use Rattle.cv_derive_facts.specs.Walks.{Tests, given_facts}
 use Rattle.cv_derive.specs.declared.known.Count.{Count}
 use Rattle.cv_derive.specs.declared.known.Walk.{Walk}
 

@@ -3,11 +3,11 @@ use Rattle.std.specs.Prelude.{ℕ, ◌+◌, Option, None}
 use Rattle.cv_syntax_trees.specs.declared.head.Head.TheVariants.{Not}
 use Rattle.cv_syntax_trees.specs.Tree.{Tree, Empty, Node}
 use Rattle.cv_directory_sorts.specs.Sites.{first_of}
-use Rattle.cv_scenes.specs.Derivations.{is_right_split, unless}
-use Rattle.cv_derivations.specs.Lines.{Lines, End, By, Cases, count}
-use Rattle.cv_scenes.specs.Reasons.{is_right}
-use Rattle.cv_scenes.specs.Sights.{Sight}
-use Rattle.cv_derive_citing.specs.Citing.{cited_from}
+use Rattle.cv_scene.specs.Derivations.{is_right_split, unless}
+use Rattle.cv_derive_rules.specs.Lines.{Lines, End, By, Cases, count}
+use Rattle.cv_scene.specs.Reasons.{is_right}
+use Rattle.cv_scene.specs.Sights.{Sight}
+use Rattle.cv_derive_lines.specs.citing.Citing.{cited_from}
 
 -- of lines that are part of all lines, where the first of them has the number n
 unfoldable pub first_bad_in : (all : Lines) → Sight → (assumed : Tree) → (n : ℕ) → Lines → Option ℕ

@@ -13,16 +13,16 @@ use Rattle.cv_directory.specs.Live.{IsLive}
 use Rattle.cv_typing_rules.specs.Signature.{OfGame}
 use Rattle.cv_typing.specs.Tables.{above_of, arrays_of, directory_in}
 use Rattle.cv_scope_rules.specs.Phrases.{IsWellFormed}
-use Rattle.cv_scenes.specs.Sights as spec
-use Rattle.cv_scenes.specs.Terms.{above_at, replications_at}
-use Rattle.cv_rule_scenes.specs.Kept.{scene_of}
-use Rattle.cv_derivations.specs.Inferences.{Visible}
-use Rattle.cv_derivations.specs.Lines.{count, lines_of}
-use Rattle.cv_derive_citing.specs.declared.citing.Citing.{Citing}
-use Rattle.cv_derive_citing.specs.Bookmarks.{visible_to}
-use Rattle.cv_derive_citing.specs.Citing.{cited_from}
-use Rattle.cv_derive_sizes.specs.Sizes.{AreSizes}
-use Rattle.cv_derive_terms.specs.Typed.{IsSightOf}
+use Rattle.cv_scene.specs.Sights as spec
+use Rattle.cv_scene.specs.Terms.{above_at, replications_at}
+use Rattle.cv_scene_view.specs.Kept.{scene_of}
+use Rattle.cv_derive_rules.specs.Inferences.{Visible}
+use Rattle.cv_derive_rules.specs.Lines.{count, lines_of}
+use Rattle.cv_derive_lines.specs.declared.citing.citing.Citing.{Citing}
+use Rattle.cv_derive_lines.specs.citing.Bookmarks.{visible_to}
+use Rattle.cv_derive_lines.specs.citing.Citing.{cited_from}
+use Rattle.cv_derive_reasons.specs.sizes.Sizes.{AreSizes}
+use Rattle.cv_derive_lines.specs.terms.Typed.{IsSightOf}
 use Rattle.cv_derive.specs.declared.sight.Assumed.{Assumed}
 use Rattle.cv_derive.specs.declared.sight.Assumed.TheVariants as assumed
 use Rattle.cv_derive.specs.declared.sight.Sight.{Sight}

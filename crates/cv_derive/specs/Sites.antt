@@ -4,7 +4,7 @@ use Rattle.cv_syntax_trees.specs.Tree.{Tree}
 use Rattle.cv_scope_rules.specs.Above.{stands_at}
 use Rattle.cv_scope_rules.specs.Behind.{sites_of}
 use Rattle.cv_scope_rules.specs.Context.{Context}
-use Rattle.cv_scenes.specs.Sights.{only_site, variable_of}
+use Rattle.cv_scene.specs.Sights.{only_site, variable_of}
 use Rattle.cv_derive.specs.declared.sites.Site.{Site}
 
 -- what stands behind the only definition of the variable of a cell

@@ -1,9 +1,9 @@
 -- What the checker answers of a derivation.
 use Rattle.std.specs.Prelude.{ℕ, Bool, true, false, Option, Some, None, Result, Ok, Err}
 use Rattle.cv_syntax_trees.specs.Tree.{Tree}
-use Rattle.cv_scenes.specs.Derivations.{first_bad_line}
-use Rattle.cv_scenes.specs.Sights.{Sight}
-use Rattle.cv_derivations.specs.Ends.{ends_with}
+use Rattle.cv_scene.specs.Derivations.{first_bad_line}
+use Rattle.cv_scene.specs.Sights.{Sight}
+use Rattle.cv_derive_rules.specs.Ends.{ends_with}
 use Rattle.cv_derive.specs.declared.checking.DeriveFault.{DeriveFault}
 use Rattle.cv_derive.specs.declared.checking.DeriveFault.TheVariants.{LineBad, Targets}
 

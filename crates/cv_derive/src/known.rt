@@ -3,13 +3,13 @@ ghost use Rattle.cv_pool.specs.KindTree.{KindTree};
 ghost use Rattle.cv_pool.specs.Nodes.{ChildBelow};
 ghost use Rattle.cv_syntax_trees.specs.Tree.{size};
 ghost use Rattle.cv_syntax.specs.PoolTrees.{tree_at};
-ghost use Rattle.cv_facts.specs.Facts.{FactAt, fact_at, fact_of};
-ghost use Rattle.cv_facts.specs.Walks.{given_facts, given_first, given_second, tested_behind, IsLive};
-ghost use Rattle.cv_derive_sizes.specs.Sizes.{AreSizes};
+ghost use Rattle.cv_derive_facts.specs.Facts.{FactAt, fact_at, fact_of};
+ghost use Rattle.cv_derive_facts.specs.Walks.{given_facts, given_first, given_second, tested_behind, IsLive};
+ghost use Rattle.cv_derive_reasons.specs.sizes.Sizes.{AreSizes};
 ghost use Rattle.cv_derive.specs.Leading.{Counts, Goes};
 
-use cv_derive_sizes::{Sizes, place_in};
-use cv_facts::{Fact, above_behind};
+use cv_derive_facts::{Fact, above_behind};
+use cv_derive_reasons::sizes::{Sizes, place_in};
 use cv_path::Lies;
 use cv_scope_rules::Position;
 use cv_syntax::{Game, Head, NodeId, Opened, Pool, read_node};
@@ -74,7 +74,7 @@ fn tested_behind(node: Opened, tested: Option<NodeId>) -> Option<NodeId>
 }
 
 /// One step down, with the fact that it gives, where the place is not the walk's own node.
-#[tactic(auto, using(cv_facts::proofs::Standings::standings))]
+#[tactic(auto, using(cv_derive_facts::proofs::Standings::standings))]
 fn step(pool: &Pool, sizes: &Sizes, walk: Walk, n: NodeId) -> Option<(Walk, Option<Fact>)>
     requires sizes { AreSizes pool.now.trees sizes.now }
     requires at { walk.at ≡ Some n }
@@ -138,7 +138,7 @@ fn count_behind(count: Count, given: Option<Fact>) -> Count
 
 /// The fact of this number, from 1, at a place of a game. There is none where the facts are fewer, or where
 /// the game has no such place.
-#[tactic(auto, using(cv_facts::proofs::Standings::standings))]
+#[tactic(auto, using(cv_derive_facts::proofs::Standings::standings))]
 pub(crate) fn fact(pool: &Pool, sizes: &Sizes, game: Game, place: u32, k: u32) -> Option<Fact>
     requires live { game.root.0 < length pool.now.trees }
     requires fits { size (tree_at pool.now.trees (Some game.root)) < 2 ^ 32 }

@@ -1,8 +1,8 @@
 ghost use Rattle.std.specs.Prelude.{◌≡◌};
 ghost use Rattle.cv_syntax_trees.specs.Tree.{Empty, Tree};
-ghost use Rattle.cv_scenes.specs.Derivations.{first_bad_line};
-ghost use Rattle.cv_derivations.specs.Lines.{lines_of};
-ghost use Rattle.cv_scenes.specs.Sights.{Sight};
+ghost use Rattle.cv_scene.specs.Derivations.{first_bad_line};
+ghost use Rattle.cv_derive_rules.specs.Lines.{lines_of};
+ghost use Rattle.cv_scene.specs.Sights.{Sight};
 ghost use Rattle.cv_derive.specs.Searching.{first_bad_in};
 
 /// A line that is looked for from the first line of a derivation on is found exactly where it may be cited.

@@ -3,13 +3,13 @@ ghost use Rattle.std.specs.List.{list_any};
 ghost use Rattle.cv_pool.specs.Nodes.{ChildBelow};
 ghost use Rattle.cv_syntax_trees.specs.Tree.{same_tree};
 ghost use Rattle.cv_syntax.specs.PoolTrees.{tree_at};
-ghost use Rattle.cv_scenes.specs.Reasons as reasons;
-ghost use Rattle.cv_scenes.specs.Reasons.{is_tree};
-ghost use Rattle.cv_scenes.specs.Sights.{from_one, site_cells, site_facts};
-ghost use Rattle.cv_derivations.specs.Inferences as inferences;
-ghost use Rattle.cv_derivations.specs.Inferences.{number_of};
+ghost use Rattle.cv_scene.specs.Reasons as reasons;
+ghost use Rattle.cv_scene.specs.Reasons.{is_tree};
+ghost use Rattle.cv_scene.specs.Sights.{from_one, site_cells, site_facts};
+ghost use Rattle.cv_derive_rules.specs.Inferences as inferences;
+ghost use Rattle.cv_derive_rules.specs.Inferences.{number_of};
 ghost use Rattle.cv_derive_lines.specs.Views.{IsClaimBelow, statement_of};
-ghost use Rattle.cv_derive_citing.specs.Bookmarks.{CanCite};
+ghost use Rattle.cv_derive_lines.specs.citing.Bookmarks.{CanCite};
 ghost use Rattle.cv_derive.specs.Following.{follows_by};
 ghost use Rattle.cv_derive.specs.Seen.{IsAssumedBelow, Sees, assumed_of, sight_of, trees_of, visible_by};
 
@@ -17,16 +17,16 @@ use crate::defined::is_defined_under;
 use crate::facts::is_fact_under;
 use crate::sight::{Assumed, Sight};
 use crate::sites::{is_site_cell, is_site_fact};
-use cv_derive_cells::front;
-use cv_derive_citing::{Citing, cited_cell, cited_term, number};
-use cv_derive_data::is_injective;
-use cv_derive_inferences::{
+use cv_derive_lines::Claim;
+use cv_derive_lines::citing::{Citing, cited_cell, cited_term, number};
+use cv_derive_lines::terms::{is_congruent, is_instance, is_typed_claim};
+use cv_derive_reasons::cells::front;
+use cv_derive_reasons::inferences::{
     is_alone, is_both, is_left, is_over, is_reflexive, is_refuted, is_replaced_by, is_right_side,
     is_symmetric, is_transitive,
 };
-use cv_derive_lines::Claim;
-use cv_derive_terms::{is_congruent, is_instance, is_typed_claim};
-use cv_derive_truths::is_truth;
+use cv_derive_reasons::injectivity::is_injective;
+use cv_derive_reasons::truths::is_truth;
 use cv_syntax::children::{is_empty, read_child};
 use cv_syntax::{Head, NodeId, Opened, Pool, same};
 use cv_typing::Arrays;

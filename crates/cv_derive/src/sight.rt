@@ -1,4 +1,4 @@
-use cv_derive_sizes::Sizes;
+use cv_derive_reasons::sizes::Sizes;
 use cv_directory_sorts::Sort;
 use cv_syntax::{Game, NodeId, Work};
 use cv_typing::Arrays;

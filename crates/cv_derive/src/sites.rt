@@ -8,18 +8,18 @@ ghost use Rattle.cv_directory.specs.Definitions.{entries_of, large_in};
 ghost use Rattle.cv_directory.specs.Tables.{entries_in};
 ghost use Rattle.cv_scope_rules.specs.Context.{Context};
 ghost use Rattle.cv_scope_rules.specs.Phrases.{IsWellFormed};
-ghost use Rattle.cv_scenes.specs.Reasons.{is_tree};
-ghost use Rattle.cv_scenes.specs.Sights.{at_site, from_one};
-ghost use Rattle.cv_derive_sizes.specs.Sizes.{AreSizes};
+ghost use Rattle.cv_scene.specs.Reasons.{is_tree};
+ghost use Rattle.cv_scene.specs.Sights.{at_site, from_one};
+ghost use Rattle.cv_derive_reasons.specs.sizes.Sizes.{AreSizes};
 ghost use Rattle.cv_derive.specs.Sites.{IsSite, site_in};
 
 use crate::defined::is_defined_under;
 use crate::facts::is_fact_under;
 use arrayvec::ArrayVec;
-use cv_derive_cells::{only_definition, replications_of, variable};
-use cv_derive_sizes::Sizes;
+use cv_derive_facts::behind;
+use cv_derive_reasons::cells::{only_definition, replications_of, variable};
+use cv_derive_reasons::sizes::Sizes;
 use cv_directory::Directory;
-use cv_facts::behind;
 use cv_syntax::children::first_of;
 use cv_syntax::{Game, NodeId, Work};
 

@@ -1,2 +1,4 @@
 pub mod Lasts
 pub mod Views
+pub mod citing
+pub mod terms

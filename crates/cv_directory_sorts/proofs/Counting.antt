@@ -4,10 +4,10 @@ use Rattle.cv_syntax_trees.specs.declared.head.Head.{Head}
 use Rattle.cv_syntax_trees.specs.Tree.{Tree, Empty, Node}
 use Rattle.cv_directory_sorts.specs.Counting.{count}
 
-pub count-step : (t : Tree) (h : Head) (a b : Tree) → t ≡ Node h a b → count t ≡ count b + 1
+pub count_step : (t : Tree) (h : Head) (a b : Tree) → t ≡ Node h a b → count t ≡ count b + 1
 unfolding count
-count-step t h a b e = ap count e
+count_step t h a b e = ap count e
 
-pub count-end : (t : Tree) → t ≡ Empty → count t ≡ 0
+pub count_end : (t : Tree) → t ≡ Empty → count t ≡ 0
 unfolding count
-count-end t e = ap count e
+count_end t e = ap count e

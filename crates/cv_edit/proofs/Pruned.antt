@@ -7,10 +7,10 @@ use Rattle.cv_syntax.specs.declared.work.BuildError.{BuildError}
 use Rattle.cv_syntax.specs.declared.work.BuildError.TheVariants as build
 use Rattle.cv_syntax_trees.specs.Tree.{Tree}
 use Rattle.cv_meaning.specs.Replaced.{replaced}
-use Rattle.cv_scenes.specs.Pruning.{Part, Pruned, pruned}
-use Rattle.cv_scenes.specs.Scenes.{part_at}
+use Rattle.cv_scene.specs.Pruning.{Part, Pruned, pruned}
+use Rattle.cv_scene.specs.Scenes.{part_at}
 use Rattle.cv_steps.specs.Changes.{change_at, left_or, without_body}
-use Rattle.cv_draw_pruning.specs.Bodies.{game_without, need_of, refusal, refusal_by}
+use Rattle.cv_edit_changes.specs.pruning.Bodies.{game_without, need_of, refusal, refusal_by}
 use Rattle.cv_path.specs.declared.error.PathError.{PathError}
 use Rattle.cv_path.specs.declared.error.PathError.TheVariants as path
 use Rattle.cv_path.specs.Refusals.{no_memory}

@@ -5,8 +5,8 @@ use Rattle.cv_pool.specs.PoolView.{PoolView}
 use Rattle.cv_syntax.specs.declared.work.BuildError.{BuildError}
 use Rattle.cv_syntax.specs.declared.work.BuildError.TheVariants as build
 use Rattle.cv_syntax_trees.specs.Tree.{Tree}
-use Rattle.cv_draw_listing.specs.Needs.{need_for}
-use Rattle.cv_draw_unletting.specs.Games.{need_by, need_unletting, refusal, refusal_by, unlet}
+use Rattle.cv_syntax.specs.listing.Needs.{need_for}
+use Rattle.cv_edit_changes.specs.unletting.Games.{need_by, need_unletting, refusal, refusal_by, unlet}
 use Rattle.cv_path.specs.declared.error.PathError.{PathError}
 use Rattle.cv_path.specs.declared.error.PathError.TheVariants as path
 use Rattle.cv_path.specs.Refusals.{no_memory}

@@ -6,18 +6,18 @@ use Rattle.cv_pool.specs.declared.pool.PoolError.TheVariants as pool
 use Rattle.cv_syntax.specs.declared.work.BuildError.{BuildError}
 use Rattle.cv_syntax.specs.declared.work.BuildError.TheVariants as build
 use Rattle.cv_syntax_trees.specs.Tree.{Tree, size}
-use Rattle.cv_scenes.specs.Pruning.{pruned}
-use Rattle.cv_scenes.specs.Scenes.{part_at}
+use Rattle.cv_scene.specs.Pruning.{pruned}
+use Rattle.cv_scene.specs.Scenes.{part_at}
 use Rattle.cv_steps.specs.Changes.{change_at, only, without, without_body}
 use Rattle.cv_steps.specs.Renaming.{renamed}
-use Rattle.cv_draw.specs.declared.change.Change.{Change}
-use Rattle.cv_draw.specs.Changes as changes
-use Rattle.cv_draw.specs.Changes.{TermIsLive, change_of}
-use Rattle.cv_draw.specs.Dropping.{need_without}
-use Rattle.cv_draw_pruning.specs.Bodies as pruning
-use Rattle.cv_draw_pruning.specs.Bodies.{part_of}
-use Rattle.cv_draw_renaming.specs.Needs.{need_renaming}
-use Rattle.cv_draw_unletting.specs.Games.{need_unletting, unlet}
+use Rattle.cv_edit_places.specs.declared.change.Change.{Change}
+use Rattle.cv_edit_places.specs.Changes as changes
+use Rattle.cv_edit_places.specs.Changes.{TermIsLive, change_of}
+use Rattle.cv_edit_places.specs.Dropping.{need_without}
+use Rattle.cv_edit_changes.specs.pruning.Bodies as pruning
+use Rattle.cv_edit_changes.specs.pruning.Bodies.{part_of}
+use Rattle.cv_edit_changes.specs.renaming.Needs.{need_renaming}
+use Rattle.cv_edit_changes.specs.unletting.Games.{need_unletting, unlet}
 use Rattle.cv_edit.specs.declared.edit.Edit.{Edit}
 use Rattle.cv_edit.specs.declared.edit.Edit.TheVariants.{At, Without, Renamed, Unlet, WithoutBody}
 

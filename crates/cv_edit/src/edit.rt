@@ -1,5 +1,5 @@
-use cv_draw::Change;
-use cv_draw_pruning::Body;
+use cv_edit_changes::pruning::Body;
+use cv_edit_places::Change;
 
 /// How a game changes.
 #[derive(Drop)]

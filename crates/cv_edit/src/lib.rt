@@ -1,11 +1,11 @@
 // How a game changes by a step: how large the next game is, before the pool is asked for anything, and its nodes.
 #![tactic(auto)]
 
-mod drawing;
 mod edit;
 mod faults;
+mod making;
 mod measuring;
 
-pub use drawing::draw;
 pub use edit::Edit;
+pub use making::make_game;
 pub use measuring::measure;

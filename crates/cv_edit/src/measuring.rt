@@ -1,22 +1,22 @@
 ghost use Rattle.std.specs.Prelude.{◌≡◌, ◌≤◌, ◌<◌, ◌^◌, IfOk, IsSome, Some, length, unwrap_or};
 ghost use Rattle.cv_syntax_trees.specs.Tree as tree;
 ghost use Rattle.cv_syntax.specs.PoolTrees.{tree_at};
-ghost use Rattle.cv_scenes.specs.Pruning.{pruned};
-ghost use Rattle.cv_scenes.specs.Scenes.{part_at};
+ghost use Rattle.cv_scene.specs.Pruning.{pruned};
+ghost use Rattle.cv_scene.specs.Scenes.{part_at};
 ghost use Rattle.cv_steps.specs.Changes.{change_at, without_body};
-ghost use Rattle.cv_draw_pruning.specs.Bodies.{part_of};
-ghost use Rattle.cv_draw_unletting.specs.Assigned.{IsRead};
-ghost use Rattle.cv_draw_unletting.specs.Games.{unlet};
+ghost use Rattle.cv_edit_changes.specs.pruning.Bodies.{part_of};
+ghost use Rattle.cv_edit_changes.specs.unletting.Assigned.{IsRead};
+ghost use Rattle.cv_edit_changes.specs.unletting.Games.{unlet};
 ghost use Rattle.cv_edit.specs.Edits.{CanBeMade, edited};
 
 use crate::edit::Edit;
 use cv_directory::Directory;
-use cv_draw::measure_without;
-use cv_draw_pruning::{Body, measure_without_body};
-use cv_draw_renaming::measure_renaming;
-use cv_draw_unletting::measure_unletting;
+use cv_edit_changes::pruning::{Body, measure_without_body};
+use cv_edit_changes::renaming::measure_renaming;
+use cv_edit_changes::unletting::measure_unletting;
+use cv_edit_places::measure_without;
+use cv_syntax::limits::Extent;
 use cv_syntax::{NodeId, Pool};
-use cv_syntax_limits::Extent;
 use std::alloc::{AllocError, Global};
 
 /// How large a game is without the `let` of a variable.
@@ -71,7 +71,7 @@ pub fn measure(
         ≡ tree.depth (edited pool.now.trees (tree_at pool.now.trees (Some game)) edit.now)) }
 {
     match edit {
-        Edit::At { place, change } => cv_draw::measure(alloc, pool, game, *place, change),
+        Edit::At { place, change } => cv_edit_places::measure(alloc, pool, game, *place, change),
         Edit::Without { name } => Ok(measure_without(pool, game, *name)),
         Edit::Renamed { .. } => Ok(measure_renaming(pool, game)),
         Edit::Unlet { name } => Ok(measure_unlet(pool, game, directory, *name)),

@@ -5,106 +5,106 @@ use Rattle.cv_bound.specs.declared.cost.Cost.{Cost as SumCost}
 use Rattle.cv_bound.specs.declared.cost.Cost.TheVariants as bound
 use Rattle.cv_bound.specs.declared.terms.Term.{Term}
 use Rattle.cv_bound.specs.Sums.{with_terms}
-use Rattle.cv_kernel_costs.specs.Sums.{no_sums, sum_for, with_cost}
-use Rattle.cv_kernel_costs.specs.declared.sums.Sums.{Sums}
-use Rattle.cv_kernel_closed.specs.declared.queries.ClosedQuery.{ClosedQuery}
-use Rattle.cv_kernel_closed.specs.Queries.{is_among, numbers_of, sum_in}
+use Rattle.cv_bound.specs.costs.Sums.{no_sums, sum_for, with_cost}
+use Rattle.cv_bound.specs.declared.costs.sums.Sums.{Sums}
+use Rattle.cv_bound.specs.declared.closings.queries.ClosedQuery.{ClosedQuery}
+use Rattle.cv_bound.specs.closings.Queries.{is_among, numbers_of, sum_in}
 use Rattle.cv_kernel.specs.Closings.{Closing, closing_in, is_of_secrecy}
 use Rattle.cv_kernel.specs.Proofs.{Transition, closed_by, number_before, sum_at, sum_from, sum_of, sums_behind}
 use Rattle.cv_plain.specs.Strategy.{is_proved}
 use Rattle.cv_report.specs.declared.report.Verdict.{Verdict}
 use Rattle.cv_syntax_trees.specs.Tree.{Tree}
-use Rattle.cv_report_verdicts.specs.Verdicts.{verdict_by, verdicts_by}
+use Rattle.cv_report.specs.verdicts.Verdicts.{verdict_by, verdicts_by}
 use Rattle.cv_follow.specs.Scripts.{first_open}
 use Rattle.cv_follow.specs.Walks.{closed_before, closings_from, sums_along}
 
 -- a sums with nothing more is the same
-pub nothing-more : (sums : Sums) → with_cost sums bound.Zero ≡ sums
+pub nothing_more : (sums : Sums) → with_cost sums bound.Zero ≡ sums
 unfolding with_terms
-nothing-more sums = refl
+nothing_more sums = refl
 
 -- a transition more
 
-pub sum-put : (sums : Sums) (ts : List Transition) (t : Transition) → sums_along sums (ts ++ t ∷ []) ≡ sums_behind (sums_along sums ts) (closing_in t.step) t.cost
-sum-put sums [] t = refl
-sum-put sums (u ∷ ts) t = sum-put (sums_behind sums (closing_in u.step) u.cost) ts t
+pub sum_put : (sums : Sums) (ts : List Transition) (t : Transition) → sums_along sums (ts ++ t ∷ []) ≡ sums_behind (sums_along sums ts) (closing_in t.step) t.cost
+sum_put sums [] t = refl
+sum_put sums (u ∷ ts) t = sum_put (sums_behind sums (closing_in u.step) u.cost) ts t
 
-before-put : (sums : Sums) (cost : SumCost) (c : Option Closing) (xs ys : List ClosedQuery) → closed_before sums cost c (xs ++ ys) ≡ closed_before sums cost c xs ++ ys
-before-put sums cost None xs ys = refl
-before-put sums cost (Some c) xs ys = refl
+before_put : (sums : Sums) (cost : SumCost) (c : Option Closing) (xs ys : List ClosedQuery) → closed_before sums cost c (xs ++ ys) ≡ closed_before sums cost c xs ++ ys
+before_put sums cost None xs ys = refl
+before_put sums cost (Some c) xs ys = refl
 
-pub closings-put : (sums : Sums) (ts : List Transition) (t : Transition) → closings_from sums (ts ++ t ∷ []) ≡ closings_from sums ts ++ closed_before (sums_along sums ts) t.cost (closing_in t.step) []
-closings-put sums [] t = refl
-closings-put sums (u ∷ ts) t =
+pub closings_put : (sums : Sums) (ts : List Transition) (t : Transition) → closings_from sums (ts ++ t ∷ []) ≡ closings_from sums ts ++ closed_before (sums_along sums ts) t.cost (closing_in t.step) []
+closings_put sums [] t = refl
+closings_put sums (u ∷ ts) t =
     let s = sums_behind sums (closing_in u.step) u.cost in
-    ap (closed_before sums u.cost (closing_in u.step)) (closings-put s ts t) ∙ before-put sums u.cost (closing_in u.step) (closings_from s ts) (closed_before (sums_along s ts) t.cost (closing_in t.step) [])
+    ap (closed_before sums u.cost (closing_in u.step)) (closings_put s ts t) ∙ before_put sums u.cost (closing_in u.step) (closings_from s ts) (closed_before (sums_along s ts) t.cost (closing_in t.step) [])
 
 -- the numbers and the sums are those of the transitions
 
-numbers-before : (sums : Sums) (cost : SumCost) (c : Option Closing) (xs : List ClosedQuery) → numbers_of (closed_before sums cost c xs) ≡ number_before c (numbers_of xs)
-numbers-before sums cost None xs = refl
-numbers-before sums cost (Some c) xs = refl
+numbers_before : (sums : Sums) (cost : SumCost) (c : Option Closing) (xs : List ClosedQuery) → numbers_of (closed_before sums cost c xs) ≡ number_before c (numbers_of xs)
+numbers_before sums cost None xs = refl
+numbers_before sums cost (Some c) xs = refl
 
-pub numbers-same : (sums : Sums) (ts : List Transition) → numbers_of (closings_from sums ts) ≡ closed_by ts
-numbers-same sums [] = refl
-numbers-same sums (t ∷ ts) =
+pub numbers_same : (sums : Sums) (ts : List Transition) → numbers_of (closings_from sums ts) ≡ closed_by ts
+numbers_same sums [] = refl
+numbers_same sums (t ∷ ts) =
     let s = sums_behind sums (closing_in t.step) t.cost in
-    numbers-before sums t.cost (closing_in t.step) (closings_from s ts) ∙ ap (number_before (closing_in t.step)) (numbers-same s ts)
+    numbers_before sums t.cost (closing_in t.step) (closings_from s ts) ∙ ap (number_before (closing_in t.step)) (numbers_same s ts)
 
-sums-before : (sums : Sums) (cost : SumCost) (k : ℕ) (c : Option Closing) (xs : List ClosedQuery) → sum_in (closed_before sums cost c xs) k ≡ sum_at sums cost k c (sum_in xs k)
-sums-before sums cost k None xs = refl
-sums-before sums cost k (Some c) xs = refl
+sums_before : (sums : Sums) (cost : SumCost) (k : ℕ) (c : Option Closing) (xs : List ClosedQuery) → sum_in (closed_before sums cost c xs) k ≡ sum_at sums cost k c (sum_in xs k)
+sums_before sums cost k None xs = refl
+sums_before sums cost k (Some c) xs = refl
 
-pub sums-same : (sums : Sums) (ts : List Transition) (k : ℕ) → sum_in (closings_from sums ts) k ≡ sum_from sums ts k
-sums-same sums [] k = refl
-sums-same sums (t ∷ ts) k =
+pub sums_same : (sums : Sums) (ts : List Transition) (k : ℕ) → sum_in (closings_from sums ts) k ≡ sum_from sums ts k
+sums_same sums [] k = refl
+sums_same sums (t ∷ ts) k =
     let s = sums_behind sums (closing_in t.step) t.cost in
-    sums-before sums t.cost k (closing_in t.step) (closings_from s ts) ∙ ap (sum_at sums t.cost k (closing_in t.step)) (sums-same s ts k)
+    sums_before sums t.cost k (closing_in t.step) (closings_from s ts) ∙ ap (sum_at sums t.cost k (closing_in t.step)) (sums_same s ts k)
 
 -- a query has a sums exactly where it is closed
 
-among-cons : (n : ℕ) (ks : List ℕ) (k : ℕ) (s : List Term) (o : Option (List Term)) → is_among ks k ≡ is_some o → is_among (n ∷ ks) k ≡ is_some (if n == k then Some s else o)
-among-cons n ks k s o e = by (n == k)
+among_cons : (n : ℕ) (ks : List ℕ) (k : ℕ) (s : List Term) (o : Option (List Term)) → is_among ks k ≡ is_some o → is_among (n ∷ ks) k ≡ is_some (if n == k then Some s else o)
+among_cons n ks k s o e = by (n == k)
   where
     by : (b : Bool) → (b || is_among ks k) ≡ is_some (if b then Some s else o)
     by true = refl
     by false = e
 
-among-at : (sums : Sums) (cost : SumCost) (k : ℕ) (c : Option Closing) (ks : List ℕ) (o : Option (List Term)) → is_among ks k ≡ is_some o → is_among (number_before c ks) k ≡ is_some (sum_at sums cost k c o)
-among-at sums cost k None ks o e = e
-among-at sums cost k (Some c) ks o e = among-cons c.query ks k (sum_for (is_of_secrecy c) (with_cost sums cost)) o e
+among_at : (sums : Sums) (cost : SumCost) (k : ℕ) (c : Option Closing) (ks : List ℕ) (o : Option (List Term)) → is_among ks k ≡ is_some o → is_among (number_before c ks) k ≡ is_some (sum_at sums cost k c o)
+among_at sums cost k None ks o e = e
+among_at sums cost k (Some c) ks o e = among_cons c.query ks k (sum_for (is_of_secrecy c) (with_cost sums cost)) o e
 
-pub among-same : (sums : Sums) (ts : List Transition) (k : ℕ) → is_among (closed_by ts) k ≡ is_some (sum_from sums ts k)
-among-same sums [] k = refl
-among-same sums (t ∷ ts) k =
+pub among_same : (sums : Sums) (ts : List Transition) (k : ℕ) → is_among (closed_by ts) k ≡ is_some (sum_from sums ts k)
+among_same sums [] k = refl
+among_same sums (t ∷ ts) k =
     let s = sums_behind sums (closing_in t.step) t.cost in
-    among-at sums t.cost k (closing_in t.step) (closed_by ts) (sum_from s ts k) (among-same s ts k)
+    among_at sums t.cost k (closing_in t.step) (closed_by ts) (sum_from s ts k) (among_same s ts k)
 
 -- verdicts
 
-pub verdicts-same : {Q : Type 0} (f g : ℕ → Option (List Term)) (k : ℕ) (qs : List Q) → ((n : ℕ) → f n ≡ g n) → verdicts_by f k qs ≡ verdicts_by g k qs
-verdicts-same f g k [] e = refl
-verdicts-same f g k (q ∷ qs) e = ap₂ (λ v vs. verdict_by v ∷ vs) (e k) (verdicts-same f g (suc k) qs e)
+pub verdicts_same : {Q : Type 0} (f g : ℕ → Option (List Term)) (k : ℕ) (qs : List Q) → ((n : ℕ) → f n ≡ g n) → verdicts_by f k qs ≡ verdicts_by g k qs
+verdicts_same f g k [] e = refl
+verdicts_same f g k (q ∷ qs) e = ap₂ (λ v vs. verdict_by v ∷ vs) (e k) (verdicts_same f g (suc k) qs e)
 
-pub verdicts-map : {P Q : Type 0} (h : P → Q) (f : ℕ → Option (List Term)) (k : ℕ) (qs : List P) → verdicts_by f k (map h qs) ≡ verdicts_by f k qs
-verdicts-map h f k [] = refl
-verdicts-map h f k (q ∷ qs) = ap (λ vs. verdict_by (f k) ∷ vs) (verdicts-map h f (suc k) qs)
+pub verdicts_map : {P Q : Type 0} (h : P → Q) (f : ℕ → Option (List Term)) (k : ℕ) (qs : List P) → verdicts_by f k (map h qs) ≡ verdicts_by f k qs
+verdicts_map h f k [] = refl
+verdicts_map h f k (q ∷ qs) = ap (λ vs. verdict_by (f k) ∷ vs) (verdicts_map h f (suc k) qs)
 
-pub verdicts-length : {Q : Type 0} (f : ℕ → Option (List Term)) (k : ℕ) (qs : List Q) → length (verdicts_by f k qs) ≡ length qs
-verdicts-length f k [] = refl
-verdicts-length f k (q ∷ qs) = ap suc (verdicts-length f (suc k) qs)
+pub verdicts_length : {Q : Type 0} (f : ℕ → Option (List Term)) (k : ℕ) (qs : List Q) → length (verdicts_by f k qs) ≡ length qs
+verdicts_length f k [] = refl
+verdicts_length f k (q ∷ qs) = ap suc (verdicts_length f (suc k) qs)
 
 -- where no query is open, each verdict is `Proved`
 
-proved-by : (o : Option (List Term)) (b : Bool) (k : ℕ) (later : Option ℕ) (vs : List Verdict) → b ≡ is_some o → (if b then later else Some k) ≡ None → (later ≡ None → list_all is_proved vs ≡ true) → list_all is_proved (verdict_by o ∷ vs) ≡ true
-proved-by None true k later vs e h f = absurd (cc)
-proved-by None false k later vs e h f = absurd (cc)
-proved-by (Some s) true k later vs e h f = f h
-proved-by (Some s) false k later vs e h f = absurd (cc)
+proved_by : (o : Option (List Term)) (b : Bool) (k : ℕ) (later : Option ℕ) (vs : List Verdict) → b ≡ is_some o → (if b then later else Some k) ≡ None → (later ≡ None → list_all is_proved vs ≡ true) → list_all is_proved (verdict_by o ∷ vs) ≡ true
+proved_by None true k later vs e h f = absurd (cc)
+proved_by None false k later vs e h f = absurd (cc)
+proved_by (Some s) true k later vs e h f = f h
+proved_by (Some s) false k later vs e h f = absurd (cc)
 
-all-proved-from : (sums : Sums) (ts : List Transition) (k : ℕ) (qs : List Tree) → first_open (closed_by ts) k qs ≡ None → list_all is_proved (verdicts_by (sum_from sums ts) k qs) ≡ true
-all-proved-from sums ts k [] e = refl
-all-proved-from sums ts k (q ∷ qs) e = proved-by (sum_from sums ts k) (is_among (closed_by ts) k) k (first_open (closed_by ts) (suc k) qs) (verdicts_by (sum_from sums ts) (suc k) qs) (among-same sums ts k) e (all-proved-from sums ts (suc k) qs)
+all_proved_from : (sums : Sums) (ts : List Transition) (k : ℕ) (qs : List Tree) → first_open (closed_by ts) k qs ≡ None → list_all is_proved (verdicts_by (sum_from sums ts) k qs) ≡ true
+all_proved_from sums ts k [] e = refl
+all_proved_from sums ts k (q ∷ qs) e = proved_by (sum_from sums ts k) (is_among (closed_by ts) k) k (first_open (closed_by ts) (suc k) qs) (verdicts_by (sum_from sums ts) (suc k) qs) (among_same sums ts k) e (all_proved_from sums ts (suc k) qs)
 
-pub all-proved : (ts : List Transition) (qs : List Tree) → first_open (closed_by ts) 1 qs ≡ None → list_all is_proved (verdicts_by (sum_of ts) 1 qs) ≡ true
-all-proved ts qs e = all-proved-from no_sums ts 1 qs e
+pub all_proved_law : (ts : List Transition) (qs : List Tree) → first_open (closed_by ts) 1 qs ≡ None → list_all is_proved (verdicts_by (sum_of ts) 1 qs) ≡ true
+all_proved_law ts qs e = all_proved_from no_sums ts 1 qs e

@@ -3,7 +3,7 @@ use Rattle.std.proofs.Common.{◌≡◌, ℕ, ◌<◌, List, [], ◌∷◌, ◌+
 use Rattle.std.proofs.lemmas.List.{map-append}
 use Rattle.std.specs.Prelude.{All, option_map}
 use Rattle.cv_pool.specs.PoolView.{PoolView, Grows}
-use Rattle.cv_pool.proofs.Growth.{Grows-length}
+use Rattle.cv_pool.proofs.Growth.{Grows_length}
 use Rattle.cv_syntax.specs.Classes.{DeclsView}
 use Rattle.cv_syntax.specs.declared.work.Game.{Game}
 use Rattle.cv_syntax.specs.declared.work.Work.{Work}
@@ -12,7 +12,7 @@ use Rattle.cv_syntax.specs.Declarations.{declarations}
 use Rattle.cv_syntax_trees.specs.Tree.{Tree}
 use Rattle.cv_syntax.specs.PoolTrees.{tree_at}
 use Rattle.cv_parse.specs.Declaring.{IsBelow}
-use Rattle.cv_accept.proofs.Blocks.{declarations-grown, root-grown}
+use Rattle.cv_accept.proofs.Blocks.{declarations_grown, root_grown}
 use Rattle.cv_kernel.specs.declared.reducing.Reducing.{Reducing}
 use Rattle.cv_kernel.specs.declared.sequence.Sequence.{Sequence}
 use Rattle.cv_kernel.specs.Closings.{closing_of_items}
@@ -23,8 +23,8 @@ use Rattle.cv_kernel.specs.Sequences as kernel
 use Rattle.cv_kernel.proofs.Drawn.{drawn_put, last_told, told_last}
 use Rattle.cv_kernel_crypto.specs.Applied.{DrawsNext}
 use Rattle.cv_report.specs.declared.report.Entry.{Entry}
-use Rattle.cv_rule_scenes.specs.Kept.{scene_of}
-use Rattle.cv_scenes.specs.Scenes.{Scene}
+use Rattle.cv_scene_view.specs.Kept.{scene_of}
+use Rattle.cv_scene.specs.Scenes.{Scene}
 use Rattle.cv_script.specs.declared.steps.Step.{Step}
 use Rattle.cv_script.specs.Views.{StepItems, items_of_step}
 use Rattle.cv_script.specs.Views as items
@@ -33,7 +33,7 @@ use Rattle.cv_follow.specs.Scripts.{entry_in, entry_of, known_to, led}
 use Rattle.cv_follow.specs.Walks.{HasFollowed, IsNoted, next_of}
 use Rattle.cv_follow.proofs.Following.{entries_same}
 
-led_all : (ts : List Transition) → map led (map entry_of ts) ≡ map told ts
+pub led_all : (ts : List Transition) → map led (map entry_of ts) ≡ map told ts
 led_all [] = refl
 led_all (t ∷ ts) = ap (λ l. told t ∷ l) (led_all ts)
 
@@ -73,9 +73,9 @@ module _ (fn now : Work) (first : Tree) (below : All (IsBelow (length fn.pool.tr
       → (reducing_in (tree_at now.pool.trees (Some step.0)) ≡ None → names ≡ now.names) → DrawsAlong (declarations fn.pool.trees fn.decls.list) (known_to fn.decls.own) fn.decls.own first (map led (map (entry_in now.pool.trees) trail)) fn.names now.names
       → DrawsAlong (declarations fn.pool.trees fn.decls.list) (known_to fn.decls.own) fn.decls.own first (map led (map (entry_in new.trees) after)) fn.names names
   drawn_next front s t trail after step new names h n g l draws keeps along =
-      let more = Grows-length fn.pool now.pool grows in
+      let more = Grows_length fn.pool now.pool grows in
       let here : step.0.0 < length now.pool.trees = omega arith in
-      let stays = root-grown now.pool new step.0 g here in
+      let stays = root_grown now.pool new step.0 g here in
       drawn_more (length fn.pool.trees) (declarations fn.pool.trees fn.decls.list) fn.decls.own first now.pool new now.decls
-      (ap (λ (v : DeclsView). declarations now.pool.trees v.list) same_decls ∙ declarations-grown fn.pool now.pool fn.decls.list grows below) (ap (λ (v : DeclsView). v.own) same_decls) front s t trail after step (tree_at now.pool.trees (Some step.0)) fn.names now.names names h
+      (ap (λ (v : DeclsView). declarations now.pool.trees v.list) same_decls ∙ declarations_grown fn.pool now.pool fn.decls.list grows below) (ap (λ (v : DeclsView). v.own) same_decls) front s t trail after step (tree_at now.pool.trees (Some step.0)) fn.names now.names names h
       (subst (λ x. IsNoted t step x trail after) stays n) g stays draws keeps along

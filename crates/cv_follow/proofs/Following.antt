@@ -6,7 +6,7 @@ use Rattle.std.proofs.lemmas.List.Elements.{All-cons, All-nil}
 use Rattle.cv_pool.specs.declared.node.NodeId.{NodeId}
 use Rattle.cv_pool.specs.KindTree.{KindTree}
 use Rattle.cv_pool.specs.PoolView.{PoolView, Grows}
-use Rattle.cv_pool.proofs.Growth.{Grows-length}
+use Rattle.cv_pool.proofs.Growth.{Grows_length}
 use Rattle.cv_syntax.specs.Classes.{DeclsView, queries}
 use Rattle.cv_syntax.specs.declared.work.BuildError.TheVariants as build
 use Rattle.cv_syntax.specs.declared.work.Game.{Game}
@@ -15,22 +15,22 @@ use Rattle.cv_syntax.specs.Declarations.{declarations}
 use Rattle.cv_syntax_trees.specs.Tree.{Tree}
 use Rattle.cv_syntax.specs.PoolTrees.{tree_at}
 use Rattle.cv_parse.specs.Declaring.{IsBelow}
-use Rattle.cv_parse_script.specs.Scripts.{trees_of}
+use Rattle.cv_script_reader.specs.Scripts.{trees_of}
 use Rattle.cv_syntax.specs.declared.work.Work.{Work}
-use Rattle.cv_accept.proofs.Blocks.{declarations-grown, root-grown}
+use Rattle.cv_accept.proofs.Blocks.{declarations_grown, root_grown}
 use Rattle.cv_bound.specs.declared.cost.Cost.{Cost}
 use Rattle.cv_bound.specs.declared.cost.Cost.TheVariants as bound
 use Rattle.cv_kernel.specs.declared.error.PushError.{PushError}
 use Rattle.cv_kernel.specs.declared.error.PushError.TheVariants as fault
 use Rattle.cv_kernel.specs.declared.sequence.Sequence.{Sequence}
-use Rattle.cv_kernel_closed.specs.Queries.{first_unclosed, numbers_of, sum_in}
-use Rattle.cv_context_products.specs.Shapes.{Shape}
-use Rattle.cv_context_products.specs.ShapesInCode.{shape_in}
-use Rattle.cv_context_terms.specs.Forms.{HasLeftForm}
+use Rattle.cv_bound.specs.closings.Queries.{first_unclosed, numbers_of, sum_in}
+use Rattle.cv_context.specs.products.Shapes.{Shape}
+use Rattle.cv_context.specs.products.ShapesInCode.{shape_in}
+use Rattle.cv_match_laws.specs.functions.Forms.{HasLeftForm}
 use Rattle.cv_group_rules.specs.Faults.{IsAccepted}
 use Rattle.cv_meaning.specs.Interpretation.{is_constant_of}
 use Rattle.cv_typing_rules.specs.Signature.{declaration_of}
-use Rattle.cv_rule_scenes.specs.Kept.{scene_of}
+use Rattle.cv_scene_view.specs.Kept.{scene_of}
 use Rattle.cv_steps_crypto.specs.Conditions.{equivalence_by}
 use Rattle.cv_steps_crypto.specs.Steps.{IsOutcome, Outcome}
 use Rattle.cv_steps_crypto.specs.Steps as outcome
@@ -39,9 +39,9 @@ use Rattle.cv_kernel.specs.Closings.{Closing, closing_failure, closing_in, closi
 use Rattle.cv_kernel.specs.Proofs.{IsProof, IsTransition, Transition, closed_by, game_behind, nodes_along, push, shape_at, shape_by, start, sums_behind, sum_of}
 use Rattle.cv_kernel.specs.Answers.{IsDrawn}
 use Rattle.cv_kernel.specs.Sayings.{Accepted, IsSaid, MaySay, saying_by, saying_of}
-use Rattle.cv_kernel_costs.specs.Costs.{advantage_of}
-use Rattle.cv_kernel_costs.specs.Sums.{no_sums, sum_for, with_cost}
-use Rattle.cv_kernel_costs.specs.declared.sums.Sums.{Sums}
+use Rattle.cv_bound.specs.costs.Costs.{advantage_of}
+use Rattle.cv_bound.specs.costs.Sums.{no_sums, sum_for, with_cost}
+use Rattle.cv_bound.specs.declared.costs.sums.Sums.{Sums}
 use Rattle.cv_steps.specs.Costs.{cost_of}
 use Rattle.cv_kernel.specs.Sequences as kernel
 use Rattle.cv_kernel.specs.Rules.{needed_by, rule_of_items}
@@ -58,29 +58,27 @@ use Rattle.cv_report.specs.declared.report.Entry.{Entry}
 use Rattle.cv_report.specs.declared.report.Status.{Status}
 use Rattle.cv_report.specs.Text.{EntryLive}
 use Rattle.cv_script.specs.declared.steps.Step.{Step}
-use Rattle.cv_scenes.specs.Scenes.{Scene}
+use Rattle.cv_scene.specs.Scenes.{Scene}
 use Rattle.cv_steps.specs.Sequences.{scene}
 use Rattle.cv_query_certificates.specs.Failures.{Failure}
 use Rattle.cv_steps.specs.Judgements.{Judgement}
-use Rattle.cv_report_verdicts.specs.Verdicts.{ended_with, verdicts_by}
+use Rattle.cv_report.specs.verdicts.Verdicts.{ended_with, verdicts_by}
 use Rattle.cv_follow.specs.Scripts.{EndsScript, Follows, LacksRoomFor, Stops, Told, entry_in, entry_of, known_to, no_room, refused, too_deep, too_large, too_many, verdicts_of}
 use Rattle.cv_follow.specs.declared.walk.Walk.{Walk}
 use Rattle.cv_follow.specs.Walks.{HasFollowed, IsNoted, IsWalk, closed_before, next_of, stop_of}
-use Rattle.cv_follow.proofs.Closings.{closings-put, nothing-more, numbers-same, sum-put, sums-same, verdicts-length, verdicts-map, verdicts-same}
+use Rattle.cv_follow.proofs.Closings.{closings_put, nothing_more, numbers_same, sum_put, sums_same, verdicts_length, verdicts_map, verdicts_same}
 use Rattle.cv_follow.proofs.StepKinds.{IsJudged, Kind, kind_of}
 use Rattle.cv_follow.proofs.StepKinds as kind
-use Rattle.cv_follow.proofs.Walked.{last_is, nodes-append}
-
-some : {A : Type 0} {x y : A} → Some x ≡ Some y → x ≡ y
-some e = cc
+use Rattle.cv_follow.proofs.Walked.{last_is, nodes_append}
+use Rattle.cv_lists.proofs.Options.{some_injective}
 
 -- entries stay while the pool grows
 entry_same : (old new : PoolView) (e : Entry) → Grows old new → EntryLive (length old.trees) e → entry_in new.trees e ≡ entry_in old.trees e
-entry_same old new e g l = ap₂ (λ (t : Tree) (o : Option Tree). (t, e.cost, option_map shape_in e.context, o)) (root-grown old new e.step.0 g l.0) (next e.next l.1)
+entry_same old new e g l = ap₂ (λ (t : Tree) (o : Option Tree). (t, e.cost, option_map shape_in e.context, o)) (root_grown old new e.step.0 g l.0) (next e.next l.1)
   where
     next : (o : Option Game) → IfSome o (λ h. h.root.0 < length old.trees) → option_map (λ h. tree_at new.trees (Some h.root)) o ≡ option_map (λ h. tree_at old.trees (Some h.root)) o
     next None l = refl
-    next (Some h) l = ap Some (root-grown old new h.root g l)
+    next (Some h) l = ap Some (root_grown old new h.root g l)
 
 pub entries_same : (old new : PoolView) (es : List Entry) → Grows old new → All (EntryLive (length old.trees)) es → map (entry_in new.trees) es ≡ map (entry_in old.trees) es
 entries_same old new [] g a = refl
@@ -159,7 +157,7 @@ module _ (before : ℕ) (ds : List Declaration) (own : ℕ) (first : Tree) (old 
       ∙ ap (judgement_by_closing (file_scene s) ks step) (sym i))
 
   numbers : (front : List Tree) (s : Sequence) (trail : List Entry) (h : HasFollowed before ds own first front old.trees s trail) → numbers_of s.closed ≡ closed_by h.proof
-  numbers front s trail h = ap numbers_of h.closed ∙ numbers-same no_sums h.proof
+  numbers front s trail h = ap numbers_of h.closed ∙ numbers_same no_sums h.proof
 
   entry_live : (t : Sequence) (step : Step) (e : Entry) (c : Option Closing) → e.step ≡ step → e.next ≡ next_of c t.game → step.0.0 < length new.trees → t.game.root.0 < length new.trees → EntryLive (length new.trees) e
   entry_live t step e c i j l m = (subst (λ (x : Step). x.0.0 < length new.trees) (sym i) l, subst (λ (o : Option Game). IfSome o (λ q. q.root.0 < length new.trees)) (sym j) (behind c))
@@ -195,7 +193,7 @@ module _ (before : ℕ) (ds : List Declaration) (own : ℕ) (first : Tree) (old 
         context = refl;
       } in
       let last = last_is ds (known_to own) first h.proof game h.leads in
-      let l = Grows-length old new g in
+      let l = Grows_length old new g in
       let lives = entries_more (length old.trees) (length new.trees) trail l h.live in
       record {
         proof = h.proof ++ one ∷ [];
@@ -205,11 +203,11 @@ module _ (before : ℕ) (ds : List Declaration) (own : ℕ) (first : Tree) (old 
             ∙ (map-append (entry_in new.trees) trail (n.entry ∷ [])
             ∙ (ap₂ (λ xs x. xs ++ x ∷ []) (entries_same old new trail g h.live ∙ h.entries) entry ∙ sym (map-append entry_of h.proof (one ∷ []))));
         count = v.steps ∙ (ap suc h.count ∙ sym (length-append h.proof (one ∷ []) ∙ (let e : length h.proof + 1 ≡ suc (length h.proof) = omega arith in e)));
-        sum = v.sum ∙ (ap (λ x. sums_behind x (closing_in tree) n.entry.cost) h.sum ∙ sym (sum-put no_sums h.proof one));
+        sum = v.sum ∙ (ap (λ x. sums_behind x (closing_in tree) n.entry.cost) h.sum ∙ sym (sum_put no_sums h.proof one));
         closed = v.closed
-            ∙ (ap₂ (λ xs x. xs ++ closed_before x n.entry.cost (closing_in tree) []) h.closed h.sum ∙ sym (closings-put no_sums h.proof one));
+            ∙ (ap₂ (λ xs x. xs ++ closed_before x n.entry.cost (closing_in tree) []) h.closed h.sum ∙ sym (closings_put no_sums h.proof one));
         nodes = (
-            let a = nodes-append ds (known_to own) first h.proof one in
+            let a = nodes_append ds (known_to own) first h.proof one in
             let m = h.nodes in
             let k = ap (λ x. needed_for (scene ds (known_to own) x) tree to (items_of_step tree)) last in
             let c = ap (λ x. needed_for x tree to (items_of_step tree)) (scenes s) in
@@ -233,7 +231,7 @@ module _ (before : ℕ) (ds : List Declaration) (own : ℕ) (first : Tree) (old 
     -- one that changes the game
     change_leaves : IsJudged (items_of_step tree) → closing_in tree ≡ None → kernel.IsTaken old.limit (length old.trees) (needed (kernel.game_in old.trees s) tree) (judgement_at (code_scene s) tree) new.trees s t → Leaves s t tree ks cost
     change_leaves j n w =
-        let costs : cost ≡ cost_of w.cost = some (sym m ∙ w.costs) in
+        let costs : cost ≡ cost_of w.cost = some_injective (sym m ∙ w.costs) in
         let a = adds s t tree cost (cost_of w.cost) n costs w.sum w.closed in
         record {
           said = j.said (file_scene s) ks (suc s.steps) tree _ (ap (Accepted (kernel.game_in new.trees t)) costs ∙ change_said s ks tree _ n w.accepted);
@@ -246,7 +244,7 @@ module _ (before : ℕ) (ds : List Declaration) (own : ℕ) (first : Tree) (old 
     -- a cryptographic one
     reduce_leaves : (e x : ℕ) → items_of_step tree ≡ Some (items.Crypto e x) → kernel.IsReduced old.limit (length old.trees) (code_scene s) e x new.trees s t → Leaves s t tree ks cost
     reduce_leaves e x i w =
-        let costs : cost ≡ advantage_of t.steps e = some (sym m ∙ w.costs) in
+        let costs : cost ≡ advantage_of t.steps e = some_injective (sym m ∙ w.costs) in
         let to : Tree = kernel.game_in new.trees t in
         let a = adds s t tree cost (advantage_of t.steps e) (ap (option_and_then closing_of_items) i) costs w.sum w.closed in
         let leads = subst (λ z. IsOutcome z e x (outcome.Accepted to)) (scenes s) w.accepted in
@@ -261,15 +259,15 @@ module _ (before : ℕ) (ds : List Declaration) (own : ℕ) (first : Tree) (old 
     -- one that closes a query
     close_leaves : (c : Closing) → IsJudged (items_of_step tree) → closing_in tree ≡ Some c → numbers_of s.closed ≡ ks → s.game.root.0 < length old.trees → Grows old new → closing_failure (code_scene s) (numbers_of s.closed) c ≡ None → kernel.IsClosing c s t → Leaves s t tree ks cost
     close_leaves c j n k l g f w =
-        let costs : cost ≡ bound.Zero = some (sym m ∙ w.cost) in
-        let game : kernel.game_in new.trees t ≡ kernel.game_in old.trees s = ap (λ (q : Game). tree_at new.trees (Some q.root)) w.game ∙ root-grown old new s.game.root g l in
+        let costs : cost ≡ bound.Zero = some_injective (sym m ∙ w.cost) in
+        let game : kernel.game_in new.trees t ≡ kernel.game_in old.trees s = ap (λ (q : Game). tree_at new.trees (Some q.root)) w.game ∙ root_grown old new s.game.root g l in
         record {
           said = j.said (file_scene s) ks (suc s.steps) tree _ (ap₂ Accepted game costs ∙ close_said s ks tree c None n k f);
           shape = ap (option_map shape_in) w.context ∙ sym (j.shape (file_scene s));
           steps = w.steps;
           sum = w.sum ∙ ap (λ o. sums_behind s.sum o cost) (sym n);
           closed = w.closed
-              ∙ (ap (λ (x : Sums). s.closed ++ record { query = c.query; sum = sum_for (is_of_secrecy c) x } ∷ []) (sym (nothing-more s.sum) ∙ ap (with_cost s.sum) (sym costs))
+              ∙ (ap (λ (x : Sums). s.closed ++ record { query = c.query; sum = sum_for (is_of_secrecy c) x } ∷ []) (sym (nothing_more s.sum) ∙ ap (with_cost s.sum) (sym costs))
               ∙ ap (λ o. s.closed ++ closed_before s.sum cost o []) (sym n));
         }
 
@@ -291,14 +289,14 @@ module _ (before : ℕ) (ds : List Declaration) (own : ℕ) (first : Tree) (old 
   module _ (s t : Sequence) (ks : List ℕ) (trees : List KindTree) (step : Tree) (taken : ℕ) (b : s.steps < 2000) where
     change_stops : (e : PushError) (end : Status) → IsJudged (items_of_step step) → closing_in step ≡ None → kernel.IsPushAnswer old.limit (length old.trees) (needed (kernel.game_in old.trees s) step) (judgement_at (code_scene s) step) trees s t (Err e) → stop_of e s.steps ≡ Some end → old.limit ≡ most_pool → length old.trees ≤ taken
         → Stops taken s.steps (file_scene s) ks step end
-    change_stops (fault.Refused f) end j n p i l m = subst (Stops taken s.steps _ ks step) (some i) (refused f.condition f.place b (j.said (file_scene s) ks (suc s.steps) step _ (change_said s ks step _ n p)))
+    change_stops (fault.Refused f) end j n p i l m = subst (Stops taken s.steps _ ks step) (some_injective i) (refused f.condition f.place b (j.said (file_scene s) ks (suc s.steps) step _ (change_said s ks step _ n p)))
     change_stops fault.Steps end j n p i l m = absurd p
-    change_stops (fault.Build (build.Nodes k)) end j n p i l m = subst (Stops taken s.steps _ ks step) (some i) (too_large k b (j.said (file_scene s) ks (suc s.steps) step _ (change_said s ks step _ n p)))
-    change_stops (fault.Build (build.Depth k)) end j n p i l m = subst (Stops taken s.steps _ ks step) (some i) (too_deep k b (j.said (file_scene s) ks (suc s.steps) step _ (change_said s ks step _ n p)))
+    change_stops (fault.Build (build.Nodes k)) end j n p i l m = subst (Stops taken s.steps _ ks step) (some_injective i) (too_large k b (j.said (file_scene s) ks (suc s.steps) step _ (change_said s ks step _ n p)))
+    change_stops (fault.Build (build.Depth k)) end j n p i l m = subst (Stops taken s.steps _ ks step) (some_injective i) (too_deep k b (j.said (file_scene s) ks (suc s.steps) step _ (change_said s ks step _ n p)))
     change_stops (fault.Build (build.Full k)) end j n p i l m =
         let o = p.over in
         let same : judgement_at (code_scene s) step ≡ judgement_in (file_scene s) ks step = ap (λ x. judgement_at x step) (scenes s) ∙ ap (judgement_by_closing (file_scene s) ks step) (sym n) in
-        subst (Stops taken s.steps _ ks step) (some i) (no_room k b (j.lacking taken (file_scene s) ks step k (record { drawn = subst IsDrawn same p.drawn; asks = p.asks; over = omega arith })))
+        subst (Stops taken s.steps _ ks step) (some_injective i) (no_room k b (j.lacking taken (file_scene s) ks step k (record { drawn = subst IsDrawn same p.drawn; asks = p.asks; over = omega arith })))
     change_stops (fault.Build build.OutOfMemory) end j n p i l m = absurd (cc)
 
     module _ (e x : ℕ) (q : items_of_step step ≡ Some (items.Crypto e x)) where
@@ -307,17 +305,17 @@ module _ (before : ℕ) (ds : List Declaration) (own : ℕ) (first : Tree) (old 
       outcome_said o h = subst (λ i. MaySay (file_scene s) ks (suc s.steps) step i (saying_by (suc s.steps) e o)) (sym q) (o, subst (λ z. IsOutcome z e x o) (scenes s) h, refl)
 
       reduce_stops : (f : PushError) (end : Status) → kernel.IsReduceAnswer old.limit (length old.trees) (code_scene s) e x trees s t (Err f) → stop_of f s.steps ≡ Some end → old.limit ≡ most_pool → length old.trees ≤ taken → Stops taken s.steps (file_scene s) ks step end
-      reduce_stops (fault.Refused f) end p i l m = subst (Stops taken s.steps _ ks step) (some i) (refused f.condition f.place b (outcome_said (outcome.Refused f.condition f.place) p))
+      reduce_stops (fault.Refused f) end p i l m = subst (Stops taken s.steps _ ks step) (some_injective i) (refused f.condition f.place b (outcome_said (outcome.Refused f.condition f.place) p))
       reduce_stops fault.Steps end p i l m = absurd p
-      reduce_stops (fault.Build (build.Nodes k)) end p i l m = subst (Stops taken s.steps _ ks step) (some i) (too_large k b (outcome_said (outcome.TooLarge k) p))
-      reduce_stops (fault.Build (build.Depth k)) end p i l m = subst (Stops taken s.steps _ ks step) (some i) (too_deep k b (outcome_said (outcome.TooDeep k) p))
+      reduce_stops (fault.Build (build.Nodes k)) end p i l m = subst (Stops taken s.steps _ ks step) (some_injective i) (too_large k b (outcome_said (outcome.TooLarge k) p))
+      reduce_stops (fault.Build (build.Depth k)) end p i l m = subst (Stops taken s.steps _ ks step) (some_injective i) (too_deep k b (outcome_said (outcome.TooDeep k) p))
       reduce_stops (fault.Build (build.Full k)) end p i l m =
           let r = subst (λ n. crypto.HasNoRoom n (length old.trees) (file_scene s) e x k) l (subst (λ z. crypto.HasNoRoom old.limit (length old.trees) z e x k) (scenes s) p) in
-          subst (Stops taken s.steps _ ks step) (some i) (no_room k b (subst (λ o. LacksRoomFor taken (file_scene s) ks step o k) (sym q) (room_wider (length old.trees) taken (file_scene s) e x k m r)))
+          subst (Stops taken s.steps _ ks step) (some_injective i) (no_room k b (subst (λ o. LacksRoomFor taken (file_scene s) ks step o k) (sym q) (room_wider (length old.trees) taken (file_scene s) e x k m r)))
       reduce_stops (fault.Build build.OutOfMemory) end p i l m = absurd (cc)
 
     close_stops : (c : Closing) (e : PushError) (end : Status) → IsJudged (items_of_step step) → closing_in step ≡ Some c → numbers_of s.closed ≡ ks → kernel.IsCloseAnswer (closing_failure (code_scene s) (numbers_of s.closed) c) c s t (Err e) → stop_of e s.steps ≡ Some end → Stops taken s.steps (file_scene s) ks step end
-    close_stops c (fault.Refused f) end j n k p i = subst (Stops taken s.steps _ ks step) (some i) (refused f.condition f.place b (j.said (file_scene s) ks (suc s.steps) step _ (close_said s ks step c _ n k p)))
+    close_stops c (fault.Refused f) end j n k p i = subst (Stops taken s.steps _ ks step) (some_injective i) (refused f.condition f.place b (j.said (file_scene s) ks (suc s.steps) step _ (close_said s ks step c _ n k p)))
     close_stops c fault.Steps end j n k p i = absurd p
     close_stops c (fault.Build (build.Nodes x)) end j n k p i = absurd p
     close_stops c (fault.Build (build.Depth x)) end j n k p i = absurd p
@@ -331,14 +329,14 @@ module _ (before : ℕ) (ds : List Declaration) (own : ℕ) (first : Tree) (old 
         close_stops (record { query = n; certificate = by }) e end j (ap (option_and_then closing_of_items) q) k (subst (λ o. kernel.IsStepAnswer old decls trees s t step o (Err e)) q p) i
 
   pub stops_at : (s t : Sequence) (ks : List ℕ) (trees : List KindTree) (step : Tree) (e : PushError) (taken : ℕ) (end : Status) → numbers_of s.closed ≡ ks → IsPushed old decls trees s t step (Err e) → stop_of e s.steps ≡ Some end → old.limit ≡ most_pool → length old.trees ≤ taken → Stops taken s.steps (file_scene s) ks step end
-  stops_at s t ks trees step fault.Steps taken end k p i l m = subst (Stops taken s.steps _ ks step) (some i) (too_many p)
+  stops_at s t ks trees step fault.Steps taken end k p i l m = subst (Stops taken s.steps _ ks step) (some_injective i) (too_many p)
   stops_at s t ks trees step (fault.Refused f) taken end k p i l m = stops_by s t ks trees step taken p.0 (fault.Refused f) end (kind_of (items_of_step step)) k p.1 i l m
   stops_at s t ks trees step (fault.Build b) taken end k p i l m = stops_by s t ks trees step taken p.0 (fault.Build b) end (kind_of (items_of_step step)) k p.1 i l m
 
 module _ (before : ℕ) (ds : List Declaration) (own : ℕ) (first : Tree) (trees : List KindTree) (s : Sequence) (trail : List Entry) (front : List Tree) (h : HasFollowed before ds own first front trees s trail) where
   -- the verdicts on queries
   verdicts : (queries : List Tree) (vs : List Verdict) → vs ≡ verdicts_by (sum_in s.closed) 1 queries → vs ≡ verdicts_of h.proof queries
-  verdicts queries vs e = e ∙ verdicts-same (sum_in s.closed) (sum_of h.proof) 1 queries (λ k. ap (λ cs. sum_in cs k) h.closed ∙ sums-same no_sums h.proof k)
+  verdicts queries vs e = e ∙ verdicts_same (sum_in s.closed) (sum_of h.proof) 1 queries (λ k. ap (λ cs. sum_in cs k) h.closed ∙ sums_same no_sums h.proof k)
 
   -- the script ends
   pub walk_ends : (steps queries : List Tree) (w : Walk) → steps ≡ front → w.trail.items ≡ trail → w.verdicts.items ≡ verdicts_by (sum_in s.closed) 1 queries → w.status ≡ ended_with (first_unclosed (numbers_of s.closed) (length w.verdicts.items)) → IsWalk before ds own first steps queries trees w
@@ -351,7 +349,7 @@ module _ (before : ℕ) (ds : List Declaration) (own : ℕ) (first : Tree) (tree
           split = e ∙ (h.steps ∙ sym (append-nil (map (λ x. x.step) h.proof)));
           last = kernel.game_in trees s;
           leads = h.leads;
-          ends = i ∙ ap ended_with (ap₂ first_unclosed (ap numbers_of h.closed ∙ numbers-same no_sums h.proof) (ap length vs ∙ verdicts-length (sum_of h.proof) 1 queries));
+          ends = i ∙ ap ended_with (ap₂ first_unclosed (ap numbers_of h.closed ∙ numbers_same no_sums h.proof) (ap length vs ∙ verdicts_length (sum_of h.proof) 1 queries));
         };
         trail = ap (map (entry_in trees)) t ∙ h.entries;
         verdicts = vs;
@@ -386,32 +384,32 @@ module _ (fn now : Work) (first : Tree) (script : List Step) (below : All (IsBel
   tree_of s = tree_at fn.pool.trees (Some s.0)
 
   is_ds : declarations now.pool.trees now.decls.list ≡ declarations fn.pool.trees fn.decls.list
-  is_ds = ap (λ (v : DeclsView). declarations now.pool.trees v.list) same_decls ∙ declarations-grown fn.pool now.pool fn.decls.list grows below
+  is_ds = ap (λ (v : DeclsView). declarations now.pool.trees v.list) same_decls ∙ declarations_grown fn.pool now.pool fn.decls.list grows below
 
   module _ (k : ℕ) (d : Step) (l : k < length script) (s t : Sequence) (trail : List Entry) (h : HasFollowed (length fn.pool.trees) (declarations fn.pool.trees fn.decls.list) fn.decls.own first (trees_of fn.pool.trees (take k script)) now.pool.trees s trail) where
     here : (get_or script k d).0.0 < length fn.pool.trees
     here = live k d l
 
     same : tree_at now.pool.trees (Some (get_or script k d).0) ≡ tree_of (get_or script k d)
-    same = root-grown fn.pool now.pool (get_or script k d).0 grows here
+    same = root_grown fn.pool now.pool (get_or script k d).0 grows here
 
     pub followed_next : (new : PoolView) (after : List Entry) (u : Unit {0}) → IsPushed now.pool now.decls new.trees s t (tree_at now.pool.trees (Some (get_or script k d).0)) (Ok u) → IsNoted t (get_or script k d) (tree_at new.trees (Some (get_or script k d).0)) trail after → Grows now.pool new → s.game.root.0 < length now.pool.trees → t.game.root.0 < length new.trees
         → length new.trees ≤ length now.pool.trees + needed_for (scene_of now.pool now.decls s.game.root) (tree_at now.pool.trees (Some (get_or script k d).0)) (kernel.game_in new.trees t) (items_of_step (tree_at now.pool.trees (Some (get_or script k d).0))) → HasFollowed (length fn.pool.trees) (declarations fn.pool.trees fn.decls.list) fn.decls.own first (trees_of fn.pool.trees (take (k + 1) script)) new.trees t after
     followed_next new after u p n g at live_game few =
-        let m = Grows-length fn.pool now.pool grows in
-        let i = Grows-length now.pool new g in
+        let m = Grows_length fn.pool now.pool grows in
+        let i = Grows_length now.pool new g in
         let step : Step = get_or script k d in
         let place : step.0.0 < length fn.pool.trees = here in
         subst (λ ts. HasFollowed (length fn.pool.trees) (declarations fn.pool.trees fn.decls.list) fn.decls.own first ts new.trees t after) (sym (map_more tree_of script k d l))
         (followed_more (length fn.pool.trees) (declarations fn.pool.trees fn.decls.list) fn.decls.own first now.pool new now.decls is_ds (ap (λ (v : DeclsView). v.own) same_decls) (trees_of fn.pool.trees (take k script)) s t trail after step (tree_of step) u h
-        (subst (λ x. IsPushed now.pool now.decls new.trees s t x (Ok u)) same p) (subst (λ x. IsNoted t step x trail after) (root-grown now.pool new step.0 g (omega arith) ∙ same) n) g (root-grown now.pool new step.0 g (omega arith) ∙ same) (omega arith) at live_game (subst (λ x. length new.trees ≤ length now.pool.trees + needed_for (scene_of now.pool now.decls s.game.root) x (kernel.game_in new.trees t) (items_of_step x)) same few))
+        (subst (λ x. IsPushed now.pool now.decls new.trees s t x (Ok u)) same p) (subst (λ x. IsNoted t step x trail after) (root_grown now.pool new step.0 g (omega arith) ∙ same) n) g (root_grown now.pool new step.0 g (omega arith) ∙ same) (omega arith) at live_game (subst (λ x. length new.trees ≤ length now.pool.trees + needed_for (scene_of now.pool now.decls s.game.root) x (kernel.game_in new.trees t) (items_of_step x)) same few))
 
     pub followed_stops : (trees : List KindTree) (queries : List Tree) (e : PushError) (w : Walk) → trees ≡ now.pool.trees → now.pool.limit ≡ most_pool → IsPushed now.pool now.decls trees s t (tree_at now.pool.trees (Some (get_or script k d).0)) (Err e) → stop_of e s.steps ≡ Some w.status → w.trail.items ≡ trail → w.verdicts.items ≡ verdicts_by (sum_in s.closed) 1 queries
         → IsWalk (length fn.pool.trees) (declarations fn.pool.trees fn.decls.list) fn.decls.own first (trees_of fn.pool.trees script) queries trees w
     followed_stops trees queries e w kept limit p i put v =
         let step : Step = get_or script k d in
         let all = ap (trees_of fn.pool.trees) (split_here script k d l) ∙ map-append tree_of (take k script) (step ∷ drop (k + 1) script) in
-        let stops = stops_at (length fn.pool.trees) (declarations fn.pool.trees fn.decls.list) fn.decls.own first now.pool now.pool now.decls is_ds (ap (λ (v : DeclsView). v.own) same_decls) s t (closed_by h.proof) trees (tree_of step) e (length fn.pool.trees + nodes_along (declarations fn.pool.trees fn.decls.list) (known_to fn.decls.own) first h.proof) w.status (ap numbers_of h.closed ∙ numbers-same no_sums h.proof)
+        let stops = stops_at (length fn.pool.trees) (declarations fn.pool.trees fn.decls.list) fn.decls.own first now.pool now.pool now.decls is_ds (ap (λ (v : DeclsView). v.own) same_decls) s t (closed_by h.proof) trees (tree_of step) e (length fn.pool.trees + nodes_along (declarations fn.pool.trees fn.decls.list) (known_to fn.decls.own) first h.proof) w.status (ap numbers_of h.closed ∙ numbers_same no_sums h.proof)
         (subst (λ x. IsPushed now.pool now.decls trees s t x (Err e)) same p) i limit h.nodes in
         subst (λ ts. IsWalk (length fn.pool.trees) (declarations fn.pool.trees fn.decls.list) fn.decls.own first (trees_of fn.pool.trees script) queries ts w) (sym kept)
         (walk_stops (length fn.pool.trees) (declarations fn.pool.trees fn.decls.list) fn.decls.own first now.pool.trees s trail (trees_of fn.pool.trees (take k script)) h (trees_of fn.pool.trees script) queries (tree_of step) (trees_of fn.pool.trees (drop (k + 1) script)) w all put v stops)
@@ -445,7 +443,7 @@ room_after pool decls trees s t step u p few l = room_by pool decls trees s t st
 pub equivalences_kept : (fn now : Work) (root other : NodeId) → Grows fn.pool now.pool → now.decls ≡ fn.decls → All (IsBelow (length fn.pool.trees)) fn.decls.list → crypto.HasEquivalences (scene_of fn.pool fn.decls root) → crypto.HasEquivalences (scene_of now.pool now.decls other)
 equivalences_kept fn now root other g e b h =
     subst (λ ds. (y : ℕ) (t : Tree) → equivalence_by (declaration_of ds y) ≡ Some t → HasLeftForm t × IsAccepted (is_constant_of ds) t)
-    (sym (ap (λ (v : DeclsView). declarations now.pool.trees v.list) e ∙ declarations-grown fn.pool now.pool fn.decls.list g b)) h
+    (sym (ap (λ (v : DeclsView). declarations now.pool.trees v.list) e ∙ declarations_grown fn.pool now.pool fn.decls.list g b)) h
 
 -- the queries of a file, as trees
 abbrev pub asked : Work → List Tree
@@ -453,7 +451,7 @@ asked w = map (λ n. tree_at w.pool.trees (Some n)) (queries w.decls.list)
 
 pub asked_by : (w : Work) (decls : DeclsView) → decls ≡ w.decls → (sum : ℕ → Option (List Term)) → verdicts_by sum 1 (queries decls.list) ≡ verdicts_by sum 1 (asked w)
 asked_by w decls e sum =
-    ap (λ (v : DeclsView). verdicts_by sum 1 (queries v.list)) e ∙ sym (verdicts-map (λ n. tree_at w.pool.trees (Some n)) sum 1 (queries w.decls.list))
+    ap (λ (v : DeclsView). verdicts_by sum 1 (queries v.list)) e ∙ sym (verdicts_map (λ n. tree_at w.pool.trees (Some n)) sum 1 (queries w.decls.list))
 
 stops_wider : (m n count : ℕ) (s : Scene) (ks : List ℕ) (step : Tree) (end : Status) → m ≤ n → Stops m count s ks step end → Stops n count s ks step end
 stops_wider m n count s ks step end l (too_many k) = too_many k

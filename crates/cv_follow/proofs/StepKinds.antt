@@ -8,8 +8,8 @@ use Rattle.cv_syntax_trees.specs.Tree.{Tree}
 use Rattle.cv_bound.specs.declared.cost.Cost.{Cost as SumCost}
 use Rattle.cv_bound.specs.declared.cost.Cost.TheVariants as bound
 use Rattle.cv_query_certificates.specs.Failures.{Failure}
-use Rattle.cv_rule_scenes.specs.Kept.{scene_of}
-use Rattle.cv_scenes.specs.Scenes.{Scene}
+use Rattle.cv_scene_view.specs.Kept.{scene_of}
+use Rattle.cv_scene.specs.Scenes.{Scene}
 use Rattle.cv_script.specs.Views.{StepItems, items_of_step}
 use Rattle.cv_script.specs.Views as items
 use Rattle.cv_steps.specs.Costs.{cost_of}
@@ -25,7 +25,7 @@ use Rattle.cv_kernel.specs.Proofs.{shape_by}
 use Rattle.cv_kernel.specs.Answers.{HasNoRoom}
 use Rattle.cv_kernel.specs.Rules.{Rule, rule_in, rule_of_items}
 use Rattle.cv_kernel.specs.Sayings.{Accepted, MaySay, Saying, saying_by, saying_of}
-use Rattle.cv_kernel_costs.specs.Costs.{advantage_of}
+use Rattle.cv_bound.specs.costs.Costs.{advantage_of}
 use Rattle.cv_kernel.specs.Sequences.{IsPushAnswer, IsStepAnswer, game_in, needed, needed_for}
 use Rattle.cv_kernel.specs.Steps.{judgement_by}
 use Rattle.cv_plain.specs.Strategy.{most_pool}

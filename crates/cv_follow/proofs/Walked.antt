@@ -21,6 +21,6 @@ module _ (ds : List Declaration) (known : ℕ → Bool) where
   last_is first ts last start = refl
   last_is first ts last (push before game t p i) = last_behind first before t
 
-  pub nodes-append : (first : Tree) (ts : List Transition) (t : Transition) → nodes_along ds known first (ts ++ t ∷ []) ≡ nodes_along ds known first ts + needed_for (scene ds known (last_game first ts)) t.step t.next (items_of_step t.step)
-  nodes-append first [] t = omega arith
-  nodes-append first (u ∷ ts) t = let e = nodes-append u.next ts t in omega arith
+  pub nodes_append : (first : Tree) (ts : List Transition) (t : Transition) → nodes_along ds known first (ts ++ t ∷ []) ≡ nodes_along ds known first ts + needed_for (scene ds known (last_game first ts)) t.step t.next (items_of_step t.step)
+  nodes_append first [] t = omega arith
+  nodes_append first (u ∷ ts) t = let e = nodes_append u.next ts t in omega arith

@@ -2,9 +2,9 @@
 -- there are no more than 2,000, and the pool has room.
 use Rattle.std.specs.Prelude.{◌≡◌, ℕ, suc, ◌+◌, ◌<◌, ◌≤◌, List, [], ◌∷◌, ◌++◌, length, map, nat_lt, Bool, Option, Some, option_map}
 use Rattle.cv_bound.specs.declared.cost.Cost.{Cost}
-use Rattle.cv_kernel_closed.specs.Queries.{first_unclosed_from}
-use Rattle.cv_context_products.specs.Shapes.{Shape}
-use Rattle.cv_context_products.specs.ShapesInCode.{shape_in}
+use Rattle.cv_bound.specs.closings.Queries.{first_unclosed_from}
+use Rattle.cv_context.specs.products.Shapes.{Shape}
+use Rattle.cv_context.specs.products.ShapesInCode.{shape_in}
 use Rattle.cv_kernel.specs.Closings.{closing_in, judgement_in}
 use Rattle.cv_kernel.specs.Proofs.{IsProof, Transition, closed_by, game_behind, nodes_along, sum_of}
 use Rattle.cv_kernel.specs.Answers.{HasNoRoom}
@@ -19,8 +19,8 @@ use Rattle.cv_report.specs.declared.report.Status.{Status}
 use Rattle.cv_report.specs.declared.report.Status.TheVariants as status
 use Rattle.cv_report.specs.declared.report.Verdict.{Verdict}
 use Rattle.cv_report.specs.declared.report.Which.TheVariants.{Depth, Nodes, Pool, Steps}
-use Rattle.cv_scenes.specs.Scenes.{Scene}
-use Rattle.cv_report_verdicts.specs.Verdicts.{ended_with, verdicts_by}
+use Rattle.cv_scene.specs.Scenes.{Scene}
+use Rattle.cv_report.specs.verdicts.Verdicts.{ended_with, verdicts_by}
 use Rattle.cv_script.specs.Views.{StepItems, items_of_step}
 use Rattle.cv_script.specs.Views as items
 use Rattle.cv_steps.specs.Sequences.{scene}

@@ -4,15 +4,15 @@ use Rattle.cv_script.specs.declared.steps.Step.{Step}
 use Rattle.cv_kernel.specs.declared.error.PushError.{PushError}
 use Rattle.cv_kernel.specs.declared.error.PushError.TheVariants as push
 use Rattle.cv_kernel.specs.declared.sequence.Sequence.{Sequence}
-use Rattle.cv_kernel_closed.specs.declared.queries.ClosedQuery.{ClosedQuery}
+use Rattle.cv_bound.specs.declared.closings.queries.ClosedQuery.{ClosedQuery}
 use Rattle.cv_kernel.specs.Closings.{Closing, closing_in, is_of_secrecy}
 use Rattle.cv_kernel.specs.Proofs.{IsProof, Transition, nodes_along, sums_behind}
 use Rattle.cv_kernel.specs.Sequences as kernel
-use Rattle.cv_context_products.specs.ShapesInCode.{shape_in}
+use Rattle.cv_context.specs.products.ShapesInCode.{shape_in}
 use Rattle.cv_pool.specs.KindTree.{KindTree}
 use Rattle.cv_bound.specs.declared.cost.Cost.{Cost}
-use Rattle.cv_kernel_costs.specs.Sums.{no_sums, sum_for, with_cost}
-use Rattle.cv_kernel_costs.specs.declared.sums.Sums.{Sums}
+use Rattle.cv_bound.specs.costs.Sums.{no_sums, sum_for, with_cost}
+use Rattle.cv_bound.specs.declared.costs.sums.Sums.{Sums}
 use Rattle.cv_report.specs.declared.report.Cause.TheVariants.{StepRefused}
 use Rattle.cv_report.specs.declared.report.Entry.{Entry}
 use Rattle.cv_report.specs.declared.report.Status.{Status}

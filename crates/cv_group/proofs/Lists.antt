@@ -22,43 +22,41 @@ use Rattle.cv_group.specs.Refusals.{IsRefusalOf, IsRefusalAt}
 use Rattle.cv_group.specs.declared.fault.GroupFault.{GroupFault}
 use Rattle.cv_group.specs.declared.fault.GroupFault.TheVariants.{LeftNotTerm, TwoIndices, ShapeDiffers, FreeName, Unread, OutOfMemory}
 use Rattle.cv_group_rules.specs.Faults.{GroupRule, LeftIsTerm, OneIndex, SameShape, BoundNames, ReadNames, equivalences_in, first_group_fault, group_fault, later, refused_or}
+use Rattle.cv_lists.proofs.Numbers.{suc_is_plus_one}
 
 abbrev pub is_number : Option ℕ → ℕ → Bool
 is_number None x = false
 is_number (Some y) x = y == x
 
-named-here : (y : ℕ) (d : Bool) (a : Tree) (r : Option ℕ) (ds : List Declaration) (x : ℕ) → is_constant_of (Named y (class.Fun d) a r ∷ ds) x ≡ (is_number (if is_empty a then Some y else None) x || is_constant_of ds x)
-named-here y d Empty r ds x = refl
-named-here y d (Node h a b) r ds x = refl
+named_here : (y : ℕ) (d : Bool) (a : Tree) (r : Option ℕ) (ds : List Declaration) (x : ℕ) → is_constant_of (Named y (class.Fun d) a r ∷ ds) x ≡ (is_number (if is_empty a then Some y else None) x || is_constant_of ds x)
+named_here y d Empty r ds x = refl
+named_here y d (Node h a b) r ds x = refl
 
 -- one declaration
-constant-here : (trees : List KindTree) (d : Decl) (ds : List Declaration) (x : ℕ) → is_constant_of (declared trees d ∷ ds) x ≡ (is_number (constant_in trees (Some d)) x || is_constant_of ds x)
-constant-here trees (decl.Name id (class.Fun d) a r) ds x = named-here id.0 d (tree_at trees a) (number r) ds x
-constant-here trees d ds x = refl
+constant_here : (trees : List KindTree) (d : Decl) (ds : List Declaration) (x : ℕ) → is_constant_of (declared trees d ∷ ds) x ≡ (is_number (constant_in trees (Some d)) x || is_constant_of ds x)
+constant_here trees (decl.Name id (class.Fun d) a r) ds x = named_here id.0 d (tree_at trees a) (number r) ds x
+constant_here trees d ds x = refl
 
-constants-from : (trees : List KindTree) (ds : List Decl) (k x : ℕ) → k < length ds → is_constant_of (declarations trees (drop k ds)) x ≡ (is_number (constant_in trees (slice_get ds k)) x || is_constant_of (declarations trees (drop (suc k) ds)) x)
-constants-from trees [] k x l = absurd (omega arith)
-constants-from trees (d ∷ ds) zero x l = constant-here trees d (declarations trees ds) x
-constants-from trees (d ∷ ds) (suc k) x l = constants-from trees ds k x (omega arith)
+constants_from : (trees : List KindTree) (ds : List Decl) (k x : ℕ) → k < length ds → is_constant_of (declarations trees (drop k ds)) x ≡ (is_number (constant_in trees (slice_get ds k)) x || is_constant_of (declarations trees (drop (suc k) ds)) x)
+constants_from trees [] k x l = absurd (omega arith)
+constants_from trees (d ∷ ds) zero x l = constant_here trees d (declarations trees ds) x
+constants_from trees (d ∷ ds) (suc k) x l = constants_from trees ds k x (omega arith)
 
-next : (k : ℕ) → suc k ≡ k + 1
-next k = omega arith
-
-pub constants-step : (trees : List KindTree) (ds : List Decl) (k : ℕ) (o : Option ℕ) → k < length ds → o ≡ constant_in trees (slice_get ds k) → (x : ℕ) → is_constant_of (declarations trees (drop k ds)) x ≡ (is_number o x || is_constant_of (declarations trees (drop (k + 1) ds)) x)
-constants-step trees ds k o l e x =
-    constants-from trees ds k x l
+pub constants_step : (trees : List KindTree) (ds : List Decl) (k : ℕ) (o : Option ℕ) → k < length ds → o ≡ constant_in trees (slice_get ds k) → (x : ℕ) → is_constant_of (declarations trees (drop k ds)) x ≡ (is_number o x || is_constant_of (declarations trees (drop (k + 1) ds)) x)
+constants_step trees ds k o l e x =
+    constants_from trees ds k x l
     ∙ (ap (λ q. is_number q x || is_constant_of (declarations trees (drop (suc k) ds)) x) (sym e)
-    ∙ ap (λ j. is_number o x || is_constant_of (declarations trees (drop j ds)) x) (next k))
+    ∙ ap (λ j. is_number o x || is_constant_of (declarations trees (drop j ds)) x) (suc_is_plus_one k))
 
-pub constants-past : (trees : List KindTree) (ds : List Decl) (k x : ℕ) → length ds ≤ k → is_constant_of (declarations trees (drop k ds)) x ≡ false
-constants-past trees [] zero x l = refl
-constants-past trees [] (suc k) x l = refl
-constants-past trees (d ∷ ds) zero x l = absurd (omega arith)
-constants-past trees (d ∷ ds) (suc k) x l = constants-past trees ds k x (omega arith)
+pub constants_past : (trees : List KindTree) (ds : List Decl) (k x : ℕ) → length ds ≤ k → is_constant_of (declarations trees (drop k ds)) x ≡ false
+constants_past trees [] zero x l = refl
+constants_past trees [] (suc k) x l = refl
+constants_past trees (d ∷ ds) zero x l = absurd (omega arith)
+constants_past trees (d ∷ ds) (suc k) x l = constants_past trees ds k x (omega arith)
 
 -- of a list all are live, so what stands at a place is
-pub live-at : (n : ℕ) (ds : List Decl) (k : ℕ) (o : Option Decl) → All (IsLive n) ds → o ≡ slice_get ds k → IfSome o (IsLive n)
-live-at n ds k o p e = subst (λ q. IfSome q (IsLive n)) (sym e) (go ds k p)
+pub live_at : (n : ℕ) (ds : List Decl) (k : ℕ) (o : Option Decl) → All (IsLive n) ds → o ≡ slice_get ds k → IfSome o (IsLive n)
+live_at n ds k o p e = subst (λ q. IfSome q (IsLive n)) (sym e) (go ds k p)
   where
     go : (ds : List Decl) (k : ℕ) → All (IsLive n) ds → IfSome (slice_get ds k) (IsLive n)
     go [] k p = tt
@@ -67,44 +65,44 @@ live-at n ds k o p e = subst (λ q. IfSome q (IsLive n)) (sym e) (go ds k p)
 
 -- equivalences
 
-pub equivs-skip : (trees : List KindTree) (ds : List Decl) (k : ℕ) → k < length ds → option_and_then equiv_of (slice_get ds k) ≡ None → equivalences_in (declarations trees (drop k ds)) ≡ equivalences_in (declarations trees (drop (k + 1) ds))
+pub equivs_skip : (trees : List KindTree) (ds : List Decl) (k : ℕ) → k < length ds → option_and_then equiv_of (slice_get ds k) ≡ None → equivalences_in (declarations trees (drop k ds)) ≡ equivalences_in (declarations trees (drop (k + 1) ds))
 unfolding equivalences_in
-equivs-skip trees [] k l e = absurd (omega arith)
-equivs-skip trees (decl.Name id c args result ∷ ds) zero l e = refl
-equivs-skip trees (decl.Equation n ∷ ds) zero l e = refl
-equivs-skip trees (decl.Equiv id n ∷ ds) zero l e = absurd (cc)
-equivs-skip trees (decl.Query n ∷ ds) zero l e = refl
-equivs-skip trees (x ∷ ds) (suc k) l e =
-    let n : suc k + 1 ≡ suc (k + 1) = omega arith in equivs-skip trees ds k (omega arith) e ∙ ap (λ j. equivalences_in (declarations trees (drop j (x ∷ ds)))) (sym n)
+equivs_skip trees [] k l e = absurd (omega arith)
+equivs_skip trees (decl.Name id c args result ∷ ds) zero l e = refl
+equivs_skip trees (decl.Equation n ∷ ds) zero l e = refl
+equivs_skip trees (decl.Equiv id n ∷ ds) zero l e = absurd (cc)
+equivs_skip trees (decl.Query n ∷ ds) zero l e = refl
+equivs_skip trees (x ∷ ds) (suc k) l e =
+    let n : suc k + 1 ≡ suc (k + 1) = omega arith in equivs_skip trees ds k (omega arith) e ∙ ap (λ j. equivalences_in (declarations trees (drop j (x ∷ ds)))) (sym n)
 
-pub equivs-take : (trees : List KindTree) (ds : List Decl) (k : ℕ) (q : NodeId) → option_and_then equiv_of (slice_get ds k) ≡ Some q → equivalences_in (declarations trees (drop k ds)) ≡ tree_at trees (Some q) ∷ equivalences_in (declarations trees (drop (k + 1) ds))
+pub equivs_take : (trees : List KindTree) (ds : List Decl) (k : ℕ) (q : NodeId) → option_and_then equiv_of (slice_get ds k) ≡ Some q → equivalences_in (declarations trees (drop k ds)) ≡ tree_at trees (Some q) ∷ equivalences_in (declarations trees (drop (k + 1) ds))
 unfolding equivalences_in
-equivs-take trees [] k q e = absurd (cc)
-equivs-take trees (decl.Name id c args result ∷ ds) zero q e = absurd (cc)
-equivs-take trees (decl.Equation n ∷ ds) zero q e = absurd (cc)
-equivs-take trees (decl.Equiv id n ∷ ds) zero q e = let h : n ≡ q = cc in ap (λ m. tree_at trees (Some m) ∷ equivalences_in (declarations trees ds)) h
-equivs-take trees (decl.Query n ∷ ds) zero q e = absurd (cc)
-equivs-take trees (x ∷ ds) (suc k) q e =
-    let n : suc k + 1 ≡ suc (k + 1) = omega arith in equivs-take trees ds k q e ∙ ap (λ j. tree_at trees (Some q) ∷ equivalences_in (declarations trees (drop j (x ∷ ds)))) (sym n)
+equivs_take trees [] k q e = absurd (cc)
+equivs_take trees (decl.Name id c args result ∷ ds) zero q e = absurd (cc)
+equivs_take trees (decl.Equation n ∷ ds) zero q e = absurd (cc)
+equivs_take trees (decl.Equiv id n ∷ ds) zero q e = let h : n ≡ q = cc in ap (λ m. tree_at trees (Some m) ∷ equivalences_in (declarations trees ds)) h
+equivs_take trees (decl.Query n ∷ ds) zero q e = absurd (cc)
+equivs_take trees (x ∷ ds) (suc k) q e =
+    let n : suc k + 1 ≡ suc (k + 1) = omega arith in equivs_take trees ds k q e ∙ ap (λ j. tree_at trees (Some q) ∷ equivalences_in (declarations trees (drop j (x ∷ ds)))) (sym n)
 
-pub equivs-past : (trees : List KindTree) (ds : List Decl) (k : ℕ) → length ds ≤ k → equivalences_in (declarations trees (drop k ds)) ≡ []
+pub equivs_past : (trees : List KindTree) (ds : List Decl) (k : ℕ) → length ds ≤ k → equivalences_in (declarations trees (drop k ds)) ≡ []
 unfolding equivalences_in
-equivs-past trees [] zero l = refl
-equivs-past trees [] (suc k) l = refl
-equivs-past trees (x ∷ ds) zero l = absurd (omega arith)
-equivs-past trees (x ∷ ds) (suc k) l = equivs-past trees ds k (omega arith)
+equivs_past trees [] zero l = refl
+equivs_past trees [] (suc k) l = refl
+equivs_past trees (x ∷ ds) zero l = absurd (omega arith)
+equivs_past trees (x ∷ ds) (suc k) l = equivs_past trees ds k (omega arith)
 
-pub equiv-below : (bound : ℕ) (ds : List Decl) (k : ℕ) (q : NodeId) → All (IsLive bound) ds → option_and_then equiv_of (slice_get ds k) ≡ Some q → q.0 < bound
-equiv-below bound [] k q p e = absurd (cc)
-equiv-below bound (decl.Name id c args result ∷ ds) zero q p e = absurd (cc)
-equiv-below bound (decl.Equation n ∷ ds) zero q p e = absurd (cc)
-equiv-below bound (decl.Equiv id n ∷ ds) zero q p e = let h : n ≡ q = cc in subst (λ (m : NodeId). m.0 < bound) h (All-head (IsLive bound) (decl.Equiv id n) ds p)
-equiv-below bound (decl.Query n ∷ ds) zero q p e = absurd (cc)
-equiv-below bound (d ∷ ds) (suc k) q p e = equiv-below bound ds k q (All-tail (IsLive bound) d ds p) e
+pub equiv_below : (bound : ℕ) (ds : List Decl) (k : ℕ) (q : NodeId) → All (IsLive bound) ds → option_and_then equiv_of (slice_get ds k) ≡ Some q → q.0 < bound
+equiv_below bound [] k q p e = absurd (cc)
+equiv_below bound (decl.Name id c args result ∷ ds) zero q p e = absurd (cc)
+equiv_below bound (decl.Equation n ∷ ds) zero q p e = absurd (cc)
+equiv_below bound (decl.Equiv id n ∷ ds) zero q p e = let h : n ≡ q = cc in subst (λ (m : NodeId). m.0 < bound) h (All-head (IsLive bound) (decl.Equiv id n) ds p)
+equiv_below bound (decl.Query n ∷ ds) zero q p e = absurd (cc)
+equiv_below bound (d ∷ ds) (suc k) q p e = equiv_below bound ds k q (All-tail (IsLive bound) d ds p) e
 
-pub equiv-named : (bound : ℕ) (ds : List Decl) (x : ℕ) → All (IsLive bound) ds → ChildBelow bound (equiv_in ds x)
-equiv-named bound [] x p = tt
-equiv-named bound (d ∷ ds) x p = go (classes.is_number x (id_of d)) (equiv-named bound ds x (All-tail (IsLive bound) d ds p))
+pub equiv_named : (bound : ℕ) (ds : List Decl) (x : ℕ) → All (IsLive bound) ds → ChildBelow bound (equiv_in ds x)
+equiv_named bound [] x p = tt
+equiv_named bound (d ∷ ds) x p = go (classes.is_number x (id_of d)) (equiv_named bound ds x (All-tail (IsLive bound) d ds p))
   where
     here : (d : Decl) → IsLive bound d → ChildBelow bound (equiv_by (Some d))
     here (decl.Name id c args result) l = tt
@@ -122,38 +120,38 @@ abbrev pub behind : ℕ → Option (ℕ × GroupRule) → Option (ℕ × GroupRu
 behind n None = None
 behind n (Some (k, r)) = Some (k + n, r)
 
-pub none-before : (o : Option (ℕ × GroupRule)) → behind 0 o ≡ o
-none-before None = refl
-none-before (Some (k, r)) = let n : k + 0 ≡ k = omega arith in ap (λ j. Some (j, r)) n
+pub none_before : (o : Option (ℕ × GroupRule)) → behind 0 o ≡ o
+none_before None = refl
+none_before (Some (k, r)) = let n : k + 0 ≡ k = omega arith in ap (λ j. Some (j, r)) n
 
 module _ (constants : ℕ → Bool) (t : Tree) (ts rest : List Tree) (n : ℕ) (total : Option (ℕ × GroupRule)) where
   -- one that is accepted
-  pub refused-later : rest ≡ t ∷ ts → group_fault constants t ≡ None → behind n (first_group_fault constants rest) ≡ total → behind (n + 1) (first_group_fault constants ts) ≡ total
+  pub refused_later : rest ≡ t ∷ ts → group_fault constants t ≡ None → behind n (first_group_fault constants rest) ≡ total → behind (n + 1) (first_group_fault constants ts) ≡ total
   unfolding first_group_fault
-  refused-later e f h =
-      one-later (first_group_fault constants ts)
+  refused_later e f h =
+      one_later (first_group_fault constants ts)
       ∙ (ap (λ o. behind n (refused_or o (first_group_fault constants ts))) (sym f)
       ∙ (ap (λ l. behind n (first_group_fault constants l)) (sym e) ∙ h))
     where
-      one-later : (o : Option (ℕ × GroupRule)) → behind (n + 1) o ≡ behind n (later o)
-      one-later None = refl
-      one-later (Some (k, r)) = let m : k + (n + 1) ≡ suc k + n = omega arith in ap (λ j. Some (j, r)) m
+      one_later : (o : Option (ℕ × GroupRule)) → behind (n + 1) o ≡ behind n (later o)
+      one_later None = refl
+      one_later (Some (k, r)) = let m : k + (n + 1) ≡ suc k + n = omega arith in ap (λ j. Some (j, r)) m
 
-  refused-here : (r : GroupRule) → rest ≡ t ∷ ts → group_fault constants t ≡ Some r → behind n (first_group_fault constants rest) ≡ total → total ≡ Some (n + 1, r)
+  refused_here : (r : GroupRule) → rest ≡ t ∷ ts → group_fault constants t ≡ Some r → behind n (first_group_fault constants rest) ≡ total → total ≡ Some (n + 1, r)
   unfolding first_group_fault
-  refused-here r e f h =
+  refused_here r e f h =
       let m : 1 + n ≡ n + 1 = omega arith in
       sym h ∙ (ap (λ l. behind n (first_group_fault constants l)) e ∙ (ap (λ o. behind n (refused_or o (first_group_fault constants ts))) f ∙ ap (λ j. Some (j, r)) m))
 
   -- one that is not
-  pub refusal-at : (x : GroupFault) → rest ≡ t ∷ ts → behind n (first_group_fault constants rest) ≡ total → IsRefusalOf (group_fault constants t) x → IsRefusalAt total (n + 1) x
-  refusal-at LeftNotTerm e h f = refused-here LeftIsTerm e f h
-  refusal-at TwoIndices e h f = refused-here OneIndex e f h
-  refusal-at ShapeDiffers e h f = refused-here SameShape e f h
-  refusal-at FreeName e h f = refused-here BoundNames e f h
-  refusal-at Unread e h f = refused-here ReadNames e f h
-  refusal-at OutOfMemory e h f = tt
+  pub refusal_at : (x : GroupFault) → rest ≡ t ∷ ts → behind n (first_group_fault constants rest) ≡ total → IsRefusalOf (group_fault constants t) x → IsRefusalAt total (n + 1) x
+  refusal_at LeftNotTerm e h f = refused_here LeftIsTerm e f h
+  refusal_at TwoIndices e h f = refused_here OneIndex e f h
+  refusal_at ShapeDiffers e h f = refused_here SameShape e f h
+  refusal_at FreeName e h f = refused_here BoundNames e f h
+  refusal_at Unread e h f = refused_here ReadNames e f h
+  refusal_at OutOfMemory e h f = tt
 
-pub refused-none : (constants : ℕ → Bool) (rest : List Tree) (n : ℕ) (total : Option (ℕ × GroupRule)) → rest ≡ [] → behind n (first_group_fault constants rest) ≡ total → total ≡ None
+pub refused_none : (constants : ℕ → Bool) (rest : List Tree) (n : ℕ) (total : Option (ℕ × GroupRule)) → rest ≡ [] → behind n (first_group_fault constants rest) ≡ total → total ≡ None
 unfolding first_group_fault
-refused-none constants rest n total e h = sym (ap (λ l. behind n (first_group_fault constants l)) (sym e) ∙ h)
+refused_none constants rest n total e h = sym (ap (λ l. behind n (first_group_fault constants l)) (sym e) ∙ h)

@@ -6,31 +6,31 @@ use Rattle.cv_group_rules.specs.Rules.{defines, defines_here, names_here, names_
 use Rattle.cv_group_rules.specs.Faults.{group_fault}
 use Rattle.cv_group.specs.Tables.{function_names, sides_fault}
 
-pub names_of-step : (t : Tree) (h : Head) (a b : Tree) → t ≡ Node h a b → (n x : ℕ) → names_of t n x ≡ (function_names a n x || names_of b n x)
+pub names_of_step : (t : Tree) (h : Head) (a b : Tree) → t ≡ Node h a b → (n x : ℕ) → names_of t n x ≡ (function_names a n x || names_of b n x)
 unfolding names_of
-names_of-step t h a b e n x = ap (λ s. names_of s n x) e
+names_of_step t h a b e n x = ap (λ s. names_of s n x) e
 
-pub names_of-end : (t : Tree) → t ≡ Empty → (n x : ℕ) → names_of t n x ≡ false
+pub names_of_end : (t : Tree) → t ≡ Empty → (n x : ℕ) → names_of t n x ≡ false
 unfolding names_of
-names_of-end t e n x = ap (λ s. names_of s n x) e
+names_of_end t e n x = ap (λ s. names_of s n x) e
 
-pub defines-step : (t : Tree) (h : Head) (a b : Tree) → t ≡ Node h a b → (x : ℕ) → defines t x ≡ (defines_here h x || (defines a x || defines b x))
+pub defines_step : (t : Tree) (h : Head) (a b : Tree) → t ≡ Node h a b → (x : ℕ) → defines t x ≡ (defines_here h x || (defines a x || defines b x))
 unfolding defines
-defines-step t h a b e x = ap (λ s. defines s x) e
+defines_step t h a b e x = ap (λ s. defines s x) e
 
-pub defines-end : (t : Tree) → t ≡ Empty → (x : ℕ) → defines t x ≡ false
+pub defines_end : (t : Tree) → t ≡ Empty → (x : ℕ) → defines t x ≡ false
 unfolding defines
-defines-end t e x = ap (λ s. defines s x) e
+defines_end t e x = ap (λ s. defines s x) e
 
-pub reads-step : (t : Tree) (h : Head) (a b : Tree) → t ≡ Node h a b → (x : ℕ) → reads t x ≡ (names_here h x || (reads a x || reads b x))
+pub reads_step : (t : Tree) (h : Head) (a b : Tree) → t ≡ Node h a b → (x : ℕ) → reads t x ≡ (names_here h x || (reads a x || reads b x))
 unfolding reads
-reads-step t h a b e x = ap (λ s. reads s x) e
+reads_step t h a b e x = ap (λ s. reads s x) e
 
-pub reads-end : (t : Tree) → t ≡ Empty → (x : ℕ) → reads t x ≡ false
+pub reads_end : (t : Tree) → t ≡ Empty → (x : ℕ) → reads t x ≡ false
 unfolding reads
-reads-end t e x = ap (λ s. reads s x) e
+reads_end t e x = ap (λ s. reads s x) e
 
 -- an equivalence, by its sides
-pub group-sides : (constants : ℕ → Bool) (t : Tree) (h : Head) (a b : Tree) → t ≡ Node h a b → group_fault constants t ≡ sides_fault constants a b
+pub group_sides : (constants : ℕ → Bool) (t : Tree) (h : Head) (a b : Tree) → t ≡ Node h a b → group_fault constants t ≡ sides_fault constants a b
 unfolding group_fault
-group-sides constants t h a b e = ap (group_fault constants) e
+group_sides constants t h a b e = ap (group_fault constants) e

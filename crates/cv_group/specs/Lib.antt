@@ -1,2 +1,4 @@
 pub mod Tables
 pub mod Refusals
+pub mod shapes
+pub mod bodies

@@ -9,7 +9,7 @@ use Rattle.cv_syntax.specs.PoolTrees.{tree_at}
 use Rattle.cv_syntax_trees.specs.Children.{is_empty}
 use Rattle.cv_pool.specs.KindTree.{KindTree}
 use Rattle.cv_meaning_contexts.specs.Groups.{bound_of}
-use Rattle.cv_group_shapes.specs.Shapes.{sides_agree}
+use Rattle.cv_group.specs.shapes.Shapes.{sides_agree}
 use Rattle.cv_group_rules.specs.Rules as rule
 use Rattle.cv_group_rules.specs.Rules.{takes}
 use Rattle.cv_group_rules.specs.Faults.{GroupRule, LeftIsTerm, OneIndex, SameShape, BoundNames, ReadNames, or_else}

@@ -10,12 +10,12 @@ ghost use Rattle.cv_group.specs.Tables.{equiv_of, sides_fault};
 ghost use Rattle.cv_group.specs.Refusals.{IsRefusalAt, IsRefusalOf};
 ghost use Rattle.cv_group_rules.specs.Faults.{equivalences_in, first_group_fault, group_fault};
 
+use crate::bodies::Around;
 use crate::constants::constants_of;
 use crate::fault::{EquivFault, GroupFault};
 use crate::reads::are_read;
+use crate::shapes::{bodies_are_terms, have_one_index, shapes_agree};
 use crate::sides::side_is_bound;
-use cv_group_bodies::Around;
-use cv_group_shapes::{bodies_are_terms, have_one_index, shapes_agree};
 use cv_syntax::children::{first_of, second_of};
 use cv_syntax::{Decl, Decls, NameId, NodeId, Pool, Work, read_node};
 use std::alloc::Global;

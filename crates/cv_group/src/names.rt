@@ -5,10 +5,10 @@ ghost use Rattle.cv_syntax_trees.specs.Tree.{bound_names};
 ghost use Rattle.cv_syntax.specs.PoolTrees.{tree_at};
 ghost use Rattle.cv_group_rules.specs.Rules.{binds_name, defines, defines_here, names_of as names_in, takes};
 ghost use Rattle.cv_group.specs.Tables.{function_names};
-ghost use Rattle.cv_group_bodies.specs.Levels.{is_paired};
+ghost use Rattle.cv_group.specs.bodies.Levels.{is_paired};
 
-use cv_group_bodies::pair_name;
-use cv_group_shapes::bound_at;
+use crate::bodies::pair_name;
+use crate::shapes::bound_at;
 use cv_syntax::children::{first_of, second_of};
 use cv_syntax::{Head, NodeId, Pool, read_node};
 use std::alloc::{AllocError, Global};

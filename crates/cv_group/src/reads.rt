@@ -3,7 +3,7 @@ ghost use Rattle.cv_pool.specs.Nodes.{ChildBelow};
 ghost use Rattle.cv_syntax.specs.NameSets.{is_in};
 ghost use Rattle.cv_syntax_trees.specs.Tree.{bound_names, second};
 ghost use Rattle.cv_syntax.specs.PoolTrees.{tree_at};
-ghost use Rattle.cv_group_shapes.specs.Shapes.{are_taken, without_all};
+ghost use Rattle.cv_group.specs.shapes.Shapes.{are_taken, without_all};
 ghost use Rattle.cv_group_rules.specs.Rules as rule;
 ghost use Rattle.cv_group_rules.specs.Rules.{each_function, taken_names};
 

@@ -4,13 +4,13 @@ ghost use Rattle.cv_syntax.specs.NameSets.{is_in};
 ghost use Rattle.cv_syntax_trees.specs.Tree.{first, second};
 ghost use Rattle.cv_syntax.specs.PoolTrees.{tree_at};
 ghost use Rattle.cv_group.specs.Tables.{around_by};
-ghost use Rattle.cv_group_bodies.specs.Levels.{around_of, is_paired};
+ghost use Rattle.cv_group.specs.bodies.Levels.{around_of, is_paired};
 ghost use Rattle.cv_group_rules.specs.Rules as rule;
 ghost use Rattle.cv_group_rules.specs.Rules.{names_of as names_in};
 
+use crate::bodies::{Around, body_is_bound};
 use crate::names::{names_of, taken_names};
-use cv_group_bodies::{Around, body_is_bound};
-use cv_group_shapes::bound_at;
+use crate::shapes::bound_at;
 use cv_syntax::children::{first_of, second_of};
 use cv_syntax::{NodeId, Pool, read_node};
 use std::alloc::{AllocError, Global};

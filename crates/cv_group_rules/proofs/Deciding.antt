@@ -36,9 +36,9 @@ module _ (constants : ℕ → Bool) where
   tests : (t : Tree) → Tests t (left_bodies_are_terms t) (branches_have_one_index t) (shapes_agree t) (names_are_bound constants t) (names_are_read t)
   tests t = record { one = refl; two = refl; three = refl; four = refl; five = refl }
 
-  pub accepted-where-none : (t : Tree) → group_fault constants t ≡ None → IsAccepted constants t
+  pub accepted_where_none : (t : Tree) → group_fault constants t ≡ None → IsAccepted constants t
   unfolding group_fault fault_by
-  accepted-where-none t h = accepted_by t _ _ _ _ _ (tests t) h
+  accepted_where_none t h = accepted_by t _ _ _ _ _ (tests t) h
 
   fault_at : (t : Tree) (a b c d e : Bool) → Tests t a b c d e → group_fault constants t ≡ fault_by a b c d e
   unfolding group_fault fault_by
@@ -49,9 +49,9 @@ module _ (constants : ℕ → Bool) where
       ∙ ap (λ x. fault_by a b c x (names_are_read t)) k.four
       ∙ ap (λ x. fault_by a b c d x) k.five
 
-  pub none-where-accepted : (t : Tree) → IsAccepted constants t → group_fault constants t ≡ None
+  pub none_where_accepted : (t : Tree) → IsAccepted constants t → group_fault constants t ≡ None
   unfolding fault_by
-  none-where-accepted t m =
+  none_where_accepted t m =
       fault_at t true true true true true (record { one = m.kept LeftIsTerm; two = m.kept OneIndex; three = m.kept SameShape; four = m.kept BoundNames; five = m.kept ReadNames })
 
   broken_by : (t : Tree) (a b c d e : Bool) → Tests t a b c d e → (r : GroupRule) → fault_by a b c d e ≡ Some r → IsFirstBroken constants t r
@@ -66,37 +66,37 @@ module _ (constants : ℕ → Bool) where
   broken_by t true true true true false k r h =
       let P : GroupRule → Type 0 = λ q. IsFirstBroken constants t q in let s : ReadNames ≡ r = cc in subst P s (record { broken = k.five; kept = (k.one, (k.two, (k.three, (k.four, tt)))) })
 
-  pub first-broken : (t : Tree) (r : GroupRule) → group_fault constants t ≡ Some r → IsFirstBroken constants t r
+  pub first_broken : (t : Tree) (r : GroupRule) → group_fault constants t ≡ Some r → IsFirstBroken constants t r
   unfolding group_fault fault_by
-  first-broken t r h = broken_by t _ _ _ _ _ (tests t) r h
+  first_broken t r h = broken_by t _ _ _ _ _ (tests t) r h
 
-  pub broken-is-found : (t : Tree) (r : GroupRule) → IsFirstBroken constants t r → group_fault constants t ≡ Some r
+  pub broken_is_found : (t : Tree) (r : GroupRule) → IsFirstBroken constants t r → group_fault constants t ≡ Some r
   unfolding fault_by
-  broken-is-found t LeftIsTerm m = fault_at t false _ _ _ _ (record { one = m.broken; two = refl; three = refl; four = refl; five = refl })
-  broken-is-found t OneIndex m = fault_at t true false _ _ _ (record { one = m.kept.0; two = m.broken; three = refl; four = refl; five = refl })
-  broken-is-found t SameShape m = fault_at t true true false _ _ (record { one = m.kept.0; two = m.kept.1.0; three = m.broken; four = refl; five = refl })
-  broken-is-found t BoundNames m = fault_at t true true true false _ (record { one = m.kept.0; two = m.kept.1.0; three = m.kept.1.1.0; four = m.broken; five = refl })
-  broken-is-found t ReadNames m = fault_at t true true true true false (record { one = m.kept.0; two = m.kept.1.0; three = m.kept.1.1.0; four = m.kept.1.1.1.0; five = m.broken })
+  broken_is_found t LeftIsTerm m = fault_at t false _ _ _ _ (record { one = m.broken; two = refl; three = refl; four = refl; five = refl })
+  broken_is_found t OneIndex m = fault_at t true false _ _ _ (record { one = m.kept.0; two = m.broken; three = refl; four = refl; five = refl })
+  broken_is_found t SameShape m = fault_at t true true false _ _ (record { one = m.kept.0; two = m.kept.1.0; three = m.broken; four = refl; five = refl })
+  broken_is_found t BoundNames m = fault_at t true true true false _ (record { one = m.kept.0; two = m.kept.1.0; three = m.kept.1.1.0; four = m.broken; five = refl })
+  broken_is_found t ReadNames m = fault_at t true true true true false (record { one = m.kept.0; two = m.kept.1.0; three = m.kept.1.1.0; four = m.kept.1.1.1.0; five = m.broken })
 
   -- lists
 
-  later-none : (o : Option (ℕ × GroupRule)) → later o ≡ None → o ≡ None
-  later-none None h = refl
-  later-none (Some p) h = absurd (cc)
+  later_none : (o : Option (ℕ × GroupRule)) → later o ≡ None → o ≡ None
+  later_none None h = refl
+  later_none (Some p) h = absurd (cc)
 
-  pub accepted-more : (ts : List Tree) → first_group_fault constants ts ≡ None → AreAccepted constants ts
+  pub accepted_more : (ts : List Tree) → first_group_fault constants ts ≡ None → AreAccepted constants ts
   unfolding first_group_fault
-  accepted-more [] h = tt
-  accepted-more (t ∷ ts) h = go (accepted-more ts) (group_fault constants t) refl h
+  accepted_more [] h = tt
+  accepted_more (t ∷ ts) h = go (accepted_more ts) (group_fault constants t) refl h
     where
       go : (first_group_fault constants ts ≡ None → AreAccepted constants ts) → (o : Option GroupRule) → group_fault constants t ≡ o → first_group_fault constants (t ∷ ts) ≡ None → AreAccepted constants (t ∷ ts)
-      go rest None e h = (accepted-where-none t e, rest (later-none (first_group_fault constants ts) (ap (λ o. refused_or o (first_group_fault constants ts)) (sym e) ∙ h)))
+      go rest None e h = (accepted_where_none t e, rest (later_none (first_group_fault constants ts) (ap (λ o. refused_or o (first_group_fault constants ts)) (sym e) ∙ h)))
       go rest (Some r) e h = absurd (let f : refused_or (Some r) (first_group_fault constants ts) ≡ None = ap (λ o. refused_or o (first_group_fault constants ts)) (sym e) ∙ h in cc)
 
-  pub none-where-all : (ts : List Tree) → AreAccepted constants ts → first_group_fault constants ts ≡ None
+  pub none_where_all : (ts : List Tree) → AreAccepted constants ts → first_group_fault constants ts ≡ None
   unfolding first_group_fault
-  none-where-all [] m = refl
-  none-where-all (t ∷ ts) m = ap (λ o. refused_or o (first_group_fault constants ts)) (none-where-accepted t m.0) ∙ ap later (none-where-all ts m.1)
+  none_where_all [] m = refl
+  none_where_all (t ∷ ts) m = ap (λ o. refused_or o (first_group_fault constants ts)) (none_where_accepted t m.0) ∙ ap later (none_where_all ts m.1)
 
   more : (t : Tree) (ts : List Tree) (k : ℕ) (r : GroupRule) → IsAccepted constants t → IsFirstGroupFault constants ts k r → IsFirstGroupFault constants (t ∷ ts) (suc k) r
   more t ts k r a m = record {
@@ -109,14 +109,14 @@ module _ (constants : ℕ → Bool) where
     broken = m.broken;
   }
 
-  pub first-refused : (ts : List Tree) (k : ℕ) (r : GroupRule) → first_group_fault constants ts ≡ Some (k, r) → IsFirstGroupFault constants ts k r
+  pub first_refused : (ts : List Tree) (k : ℕ) (r : GroupRule) → first_group_fault constants ts ≡ Some (k, r) → IsFirstGroupFault constants ts k r
   unfolding first_group_fault
-  first-refused [] k r h = absurd (cc)
-  first-refused (t ∷ ts) k r h = go (first-refused ts) (group_fault constants t) refl h
+  first_refused [] k r h = absurd (cc)
+  first_refused (t ∷ ts) k r h = go (first_refused ts) (group_fault constants t) refl h
     where
-      later-some : ((j : ℕ) (q : GroupRule) → first_group_fault constants ts ≡ Some (j, q) → IsFirstGroupFault constants ts j q) → (o : Option (ℕ × GroupRule)) → first_group_fault constants ts ≡ o → IsAccepted constants t → later o ≡ Some (k, r) → IsFirstGroupFault constants (t ∷ ts) k r
-      later-some rest None e a f = absurd (cc)
-      later-some rest (Some (j, q)) e a f =
+      later_some : ((j : ℕ) (q : GroupRule) → first_group_fault constants ts ≡ Some (j, q) → IsFirstGroupFault constants ts j q) → (o : Option (ℕ × GroupRule)) → first_group_fault constants ts ≡ o → IsAccepted constants t → later o ≡ Some (k, r) → IsFirstGroupFault constants (t ∷ ts) k r
+      later_some rest None e a f = absurd (cc)
+      later_some rest (Some (j, q)) e a f =
           let both : (suc j, q) ≡ (k, r) = cc in
           let i : suc j ≡ k = ap (λ (p : ℕ × GroupRule). p.0) both in
           let s : q ≡ r = ap (λ (p : ℕ × GroupRule). p.1) both in
@@ -125,23 +125,23 @@ module _ (constants : ℕ → Bool) where
           subst P i (more t ts j r a (subst Q s (rest j q e)))
 
       go : ((j : ℕ) (q : GroupRule) → first_group_fault constants ts ≡ Some (j, q) → IsFirstGroupFault constants ts j q) → (o : Option GroupRule) → group_fault constants t ≡ o → first_group_fault constants (t ∷ ts) ≡ Some (k, r) → IsFirstGroupFault constants (t ∷ ts) k r
-      go rest None e f = later-some rest (first_group_fault constants ts) refl (accepted-where-none t e) (ap (λ o. refused_or o (first_group_fault constants ts)) (sym e) ∙ f)
+      go rest None e f = later_some rest (first_group_fault constants ts) refl (accepted_where_none t e) (ap (λ o. refused_or o (first_group_fault constants ts)) (sym e) ∙ f)
       go rest (Some q) e f =
           let g : refused_or (Some q) (first_group_fault constants ts) ≡ Some (k, r) = ap (λ o. refused_or o (first_group_fault constants ts)) (sym e) ∙ f in
           let both : (1, q) ≡ (k, r) = cc in
           let i : 1 ≡ k = ap (λ (p : ℕ × GroupRule). p.0) both in
           let s : q ≡ r = ap (λ (p : ℕ × GroupRule). p.1) both in
           let Q : GroupRule → Type 0 = λ x. IsFirstBroken constants t x in
-          record { before = []; equivalence = t; behind = ts; parts = refl; number = omega arith; accepted = tt; broken = subst Q s (first-broken t q e) }
+          record { before = []; equivalence = t; behind = ts; parts = refl; number = omega arith; accepted = tt; broken = subst Q s (first_broken t q e) }
 
-  refused-behind : (before : List Tree) (t : Tree) (behind : List Tree) (r : GroupRule) → AreAccepted constants before → IsFirstBroken constants t r → first_group_fault constants (before ++ t ∷ behind) ≡ Some (length before + 1, r)
+  refused_behind : (before : List Tree) (t : Tree) (behind : List Tree) (r : GroupRule) → AreAccepted constants before → IsFirstBroken constants t r → first_group_fault constants (before ++ t ∷ behind) ≡ Some (length before + 1, r)
   unfolding first_group_fault
-  refused-behind [] t behind r m b = ap (λ o. refused_or o (first_group_fault constants behind)) (broken-is-found t r b)
-  refused-behind (p ∷ before) t behind r m b =
+  refused_behind [] t behind r m b = ap (λ o. refused_or o (first_group_fault constants behind)) (broken_is_found t r b)
+  refused_behind (p ∷ before) t behind r m b =
       let l : suc (length before + 1) ≡ length (p ∷ before) + 1 = omega arith in
-      ap (λ o. refused_or o (first_group_fault constants (before ++ t ∷ behind))) (none-where-accepted p m.0)
-      ∙ (ap later (refused-behind before t behind r m.1 b) ∙ ap (λ n. Some (n, r)) l)
+      ap (λ o. refused_or o (first_group_fault constants (before ++ t ∷ behind))) (none_where_accepted p m.0)
+      ∙ (ap later (refused_behind before t behind r m.1 b) ∙ ap (λ n. Some (n, r)) l)
 
-  pub refused-is-found : (ts : List Tree) (k : ℕ) (r : GroupRule) → IsFirstGroupFault constants ts k r → first_group_fault constants ts ≡ Some (k, r)
-  refused-is-found ts k r m =
-      ap (first_group_fault constants) m.parts ∙ (refused-behind m.before m.equivalence m.behind r m.accepted m.broken ∙ ap (λ n. Some (n, r)) (sym m.number))
+  pub refused_is_found : (ts : List Tree) (k : ℕ) (r : GroupRule) → IsFirstGroupFault constants ts k r → first_group_fault constants ts ≡ Some (k, r)
+  refused_is_found ts k r m =
+      ap (first_group_fault constants) m.parts ∙ (refused_behind m.before m.equivalence m.behind r m.accepted m.broken ∙ ap (λ n. Some (n, r)) (sym m.number))

@@ -1,1 +1,5 @@
-pub mod DrawnNames
+pub mod names
+pub mod sites
+pub mod drawing
+pub mod taken_names
+pub mod callings

@@ -1,13 +1,13 @@
 -- What bodies add, as it is told.
 use Rattle.std.proofs.Common.{◌≡◌, ℕ, refl, ap, ◌∙◌}
 use Rattle.cv_syntax_trees.specs.Tree.{Tree}
-use Rattle.cv_inline_extents.specs.Extents as extents
-use Rattle.cv_inline_extents.specs.Extents.{Extent, all_beside, extent, of_result, over_node}
+use Rattle.cv_inline_laws.specs.extents.Extents as extents
+use Rattle.cv_inline_laws.specs.extents.Extents.{Extent, all_beside, extent, of_result, over_node}
 use Rattle.cv_inline_measure.specs.declared.added.Added.{Added}
 use Rattle.cv_inline_measure.specs.declared.measuring.Measure.{Measure}
 use Rattle.cv_inline_measure.specs.declared.measuring.Measure.TheVariants.{Nodes, Path}
 use Rattle.cv_inline_measure.specs.Counts.{IsTold, measure_in}
-use Rattle.cv_syntax_limits.specs.Limits.{told}
+use Rattle.cv_syntax.specs.limits.Limits.{told}
 use Rattle.cv_inline_measure.proofs.Counting.{along_told, join_told, node_alike}
 
 one_told : (m : Measure) → (measure_in m).one_copy ≡ told (measure_in m).one_copy

@@ -5,7 +5,7 @@ use Rattle.cv_syntax_trees.specs.declared.head.Head.TheVariants.{Binder}
 use Rattle.cv_syntax_trees.specs.Tree.{Tree, Empty, Node, second, size}
 use Rattle.cv_meaning.specs.Correspondences.{typed_names}
 use Rattle.cv_meaning_contexts.specs.Inlined.{Caller, Drawn, Own, Scope}
-use Rattle.cv_inline_extents.specs.Extents.{Extent, Measure, extent, of_body, of_call, under}
+use Rattle.cv_inline_laws.specs.extents.Extents.{Extent, Measure, extent, of_body, of_call, under}
 use Rattle.cv_inline_measure.specs.Settings.{Argument, first_argument}
 
 module _ (μ : Measure) (d : Drawn) (ss : List Caller) (c : Caller) (Σ : Scope) (body : Tree) where

@@ -6,18 +6,18 @@ use Rattle.cv_pool.specs.KindTree.{KindTree}
 use Rattle.cv_syntax_trees.specs.declared.head.Head.TheVariants.{Binder, Branch, Cons}
 use Rattle.cv_syntax_trees.specs.Tree.{Tree, Node}
 use Rattle.cv_meaning_contexts.specs.Inlined.{Caller, Drawn, Scope, index_terms, with_call_of}
-use Rattle.cv_inline_extents.specs.Extents as extents
-use Rattle.cv_inline_extents.specs.Extents.{Extent, all_beside, beside, front, of_body, of_branches, of_find, under}
-use Rattle.cv_inline_pairs.specs.declared.pairs.Pair as code
-use Rattle.cv_inline_pairs.specs.Pairs.{Pair, pair_in, pairs_with}
+use Rattle.cv_inline_laws.specs.extents.Extents as extents
+use Rattle.cv_inline_laws.specs.extents.Extents.{Extent, all_beside, beside, front, of_body, of_branches, of_find, under}
+use Rattle.cv_inline_sites.specs.declared.pairs.pairs.Pair as code
+use Rattle.cv_inline_sites.specs.pairs.Pairs.{Pair, pair_in, pairs_with}
 use Rattle.cv_inline_measure.specs.declared.added.Added.{Added}
 use Rattle.cv_inline_measure.specs.declared.found.Found.{Found}
 use Rattle.cv_inline_measure.specs.declared.setting.Setting.{Setting}
 use Rattle.cv_inline_measure.specs.Counts.{IsTold, measure_in}
-use Rattle.cv_inline_terms.specs.declared.calling.Calling.{Calling}
-use Rattle.cv_inline_terms.specs.Callers.{caller_in}
-use Rattle.cv_inline_games.specs.NextGame as game
-use Rattle.cv_inline_listing.specs.Callings.{calling_in, callers_in, callings_in}
+use Rattle.cv_inline.specs.declared.terms.calling.Calling.{Calling}
+use Rattle.cv_inline.specs.terms.Callers.{caller_in}
+use Rattle.cv_inline.specs.NextGame as game
+use Rattle.cv_inline_sites.specs.listing.Callings.{calling_in, callers_in, callings_in}
 use Rattle.cv_inline_measure.specs.Settings.{AreLiveSites, IsFound, IsLiveOther, is_any}
 
 module _ (μ : extents.Measure) (d : Drawn) (ss : List Caller) (c : Caller) (Σ : Scope) (p : ℕ) (s : Caller) where
@@ -98,7 +98,3 @@ site_more s f g trees xs i d x o h e = subst (λ l. IsFound s f l o) whole where
 
 pub sites_whole : (s : Setting) (f : Found) (g : Caller → List Extent) (trees : List KindTree) (xs : List Calling) (i : ℕ) (o : Extent) → length xs ≤ i → IsFound s f (flat_map g (callers_in trees (take i xs))) o → IsFound s f (flat_map g (callers_in trees xs)) o
 sites_whole s f g trees xs i o l = subst (λ x. IsFound s f (flat_map g (callers_in trees x)) o) (take_all i xs l)
-
-pub live_other : (trees : List KindTree) (xs : List Calling) (i : ℕ) (d x : Calling) → AreLiveSites trees xs → i < length xs → x ≡ get_or xs i d → IsLiveOther trees x.caller
-live_other trees xs i d x a h e =
-    subst (λ (k : Calling). IsLiveOther trees k.caller) (sym e) (record { live = a.callers i d h; key = a.keys i d h; few = (a.functions i d h).replications })

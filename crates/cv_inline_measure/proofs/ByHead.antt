@@ -7,10 +7,10 @@ use Rattle.cv_syntax_trees.specs.declared.head.Head.TheVariants.{New, Let, If, F
 use Rattle.cv_syntax_trees.specs.Tree.{Tree, Empty, Node, first_place, second_place}
 use Rattle.cv_syntax.specs.PoolTrees.{tree_at}
 use Rattle.cv_meaning_contexts.specs.Inlined.{Caller, Drawn, Own, Scope, in_game}
-use Rattle.cv_inline_extents.specs.Extents.{Extent, Measure, beside, extent, of_body, of_branches, of_find, of_result, under}
-use Rattle.cv_inline_listing.specs.Subtrees.{IsNodeAt}
-use Rattle.cv_inline_listing.specs.declared.subtree.Subtree.{Subtree}
-use Rattle.cv_inline_listing.specs.declared.subtree.Parent.{Parent}
+use Rattle.cv_inline_laws.specs.extents.Extents.{Extent, Measure, beside, extent, of_body, of_branches, of_find, of_result, under}
+use Rattle.cv_inline_sites.specs.listing.Subtrees.{IsNodeAt}
+use Rattle.cv_inline_sites.specs.declared.listing.subtree.Subtree.{Subtree}
+use Rattle.cv_inline_sites.specs.declared.listing.subtree.Parent.{Parent}
 
 module _ (μ : Measure) (d : Drawn) (ss : List Caller) (c : Caller) (Σ : Scope) where
   abbrev adds : ℕ → Tree → Extent

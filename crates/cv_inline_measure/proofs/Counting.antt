@@ -1,13 +1,13 @@
 -- Counts that are told, joined and over copies.
 use Rattle.std.proofs.Common.{◌≡◌, ℕ, zero, suc, ◌+◌, ◌-◌, ◌*◌, ◌^◌, ◌≤◌, ◌⊎◌, inl, inr, refl, sym, ap, ◌∙◌, arith}
 use Rattle.std.proofs.Math.Nat.{mul_comm, mul-suc}
-use Rattle.cv_inline_extents.specs.Extents as extents
-use Rattle.cv_inline_extents.specs.Extents.{all_nodes, longest_path, over_node}
-use Rattle.cv_inline_extents.proofs.Games.{Keeps}
+use Rattle.cv_inline_laws.specs.extents.Extents as extents
+use Rattle.cv_inline_laws.specs.extents.Extents.{all_nodes, longest_path, over_node}
+use Rattle.cv_inline_laws.proofs.extents.Games.{Keeps}
 use Rattle.cv_inline_measure.specs.declared.measuring.Measure.{Measure}
 use Rattle.cv_inline_measure.specs.declared.measuring.Measure.TheVariants.{Nodes, Path}
 use Rattle.cv_inline_measure.specs.Counts.{measure_in}
-use Rattle.cv_syntax_limits.specs.Limits.{told}
+use Rattle.cv_syntax.specs.limits.Limits.{told}
 
 pub told_again : (n : ℕ) → told (told n) ≡ told n
 told_again n = omega arith

@@ -5,18 +5,18 @@ use Rattle.cv_syntax_trees.specs.declared.head.Head.TheVariants.{No}
 use Rattle.cv_syntax_trees.specs.Tree.{lone}
 use Rattle.cv_syntax.specs.PoolTrees.{tree_at}
 use Rattle.cv_meaning_contexts.specs.Inlined.{Own, Scope}
-use Rattle.cv_inline_terms.specs.declared.caller.Caller.{Caller}
-use Rattle.cv_inline_terms.specs.Drawings.{drawn_in}
-use Rattle.cv_inline_listing.specs.declared.subtree.Subtree.{Subtree}
-use Rattle.cv_inline_pairs.specs.declared.pairs.Pair.{Pair}
-use Rattle.cv_inline_extents.specs.Extents.{Extent, extent, under}
+use Rattle.cv_inline.specs.declared.terms.caller.Caller.{Caller}
+use Rattle.cv_inline.specs.terms.Drawings.{drawn_in}
+use Rattle.cv_inline_sites.specs.declared.listing.subtree.Subtree.{Subtree}
+use Rattle.cv_inline_sites.specs.declared.pairs.pairs.Pair.{Pair}
+use Rattle.cv_inline_laws.specs.extents.Extents.{Extent, extent, under}
 use Rattle.cv_inline_measure.specs.declared.added.Added.{Added}
 use Rattle.cv_inline_measure.specs.declared.calls.Argument as code
 use Rattle.cv_inline_measure.specs.declared.measuring.Measure.{Measure}
 use Rattle.cv_inline_measure.specs.declared.measuring.Measure.TheVariants.{Nodes, Path}
 use Rattle.cv_inline_measure.specs.declared.setting.Setting.{Setting}
 use Rattle.cv_inline_measure.specs.Counts.{IsTold, measure_in}
-use Rattle.cv_syntax_limits.specs.Limits.{told}
+use Rattle.cv_syntax.specs.limits.Limits.{told}
 use Rattle.cv_inline_measure.specs.Settings.{argument_in, body_in, branch_in, branch_scope_in, call_in, caller_at, callers_at, first_argument, front_in, measure_of, trees_of}
 use Rattle.cv_inline_measure.proofs.Arguments.{with_argument, without_arguments}
 

@@ -4,9 +4,9 @@ use Rattle.std.specs.Prelude.{slice_get}
 use Rattle.std.proofs.lemmas.List.{drop_all, drop_more}
 use Rattle.std.proofs.lemmas.Option.{slice_get-get_or, slice_get_past}
 use Rattle.cv_pool.specs.KindTree.{KindTree}
-use Rattle.cv_inline_games.specs.NextGame.{numbered}
-use Rattle.cv_inline_terms.specs.declared.calling.Calling.{Calling}
-use Rattle.cv_inline_listing.specs.Callings.{calling_in, callings_in}
+use Rattle.cv_inline.specs.NextGame.{numbered}
+use Rattle.cv_inline.specs.declared.terms.calling.Calling.{Calling}
+use Rattle.cv_inline_sites.specs.listing.Callings.{calling_in, callings_in}
 
 numbered_at : (trees : List KindTree) (xs : List Calling) (l k : ℕ) (d : Calling) → k < length xs → numbered l (callings_in trees (drop k xs)) ≡ (if (get_or xs k d).caller.number == l then Some (calling_in trees (get_or xs k d)) else numbered l (callings_in trees (drop (k + 1) xs)))
 numbered_at trees xs l k d h = ap (λ ys. numbered l (callings_in trees ys)) (drop_more xs k d h)

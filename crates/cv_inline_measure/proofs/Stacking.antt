@@ -7,12 +7,12 @@ use Rattle.cv_syntax.specs.declared.make.Make.TheVariants as make
 use Rattle.cv_syntax_trees.specs.Head.{weight}
 use Rattle.cv_syntax.specs.Postorder.{joined, made}
 use Rattle.cv_syntax_trees.specs.Tree.{Tree, Empty}
-use Rattle.cv_inline_terms.specs.Stacks.{stack}
-use Rattle.cv_inline_terms.proofs.Pushes.{made_push}
-use Rattle.cv_inline_extents.specs.Extents.{extent, over_node}
+use Rattle.cv_inline.specs.terms.Stacks.{stack}
+use Rattle.cv_inline.proofs.terms.Pushes.{made_push}
+use Rattle.cv_inline_laws.specs.extents.Extents.{extent, over_node}
 use Rattle.cv_inline_measure.specs.declared.measuring.Measure.{Measure}
 use Rattle.cv_inline_measure.specs.Counts.{counts_of, measure_in, newest, newest_count, older_counts, with_part}
-use Rattle.cv_syntax_limits.specs.Limits.{told}
+use Rattle.cv_syntax.specs.limits.Limits.{told}
 use Rattle.cv_inline_measure.proofs.Counting.{node_alike}
 
 zero_count : (m : Measure) → 0 ≡ told (extent (measure_in m) Empty)

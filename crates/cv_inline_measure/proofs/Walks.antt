@@ -4,16 +4,16 @@ use Rattle.cv_syntax_trees.specs.declared.head.Head.{Head}
 use Rattle.cv_syntax_trees.specs.declared.head.Head.TheVariants as head
 use Rattle.cv_syntax_trees.specs.Head.{weight}
 use Rattle.cv_syntax_trees.specs.Tree.{Tree, Empty, Node, second}
-use Rattle.cv_inline_games.specs.NextGame.{InlinedCalls, numbered}
-use Rattle.cv_inline_extents.specs.Extents as extents
-use Rattle.cv_inline_extents.specs.Extents.{Answers, Extent, all_along, answer_or, copies_of, extent, of_call_at, of_game, over_node, with_answers}
-use Rattle.cv_inline_extents.proofs.Games.{AreAlike, game_alike}
-use Rattle.cv_inline_extents.proofs.Measures.{IsMeasure, nodes_measure, path_measure}
+use Rattle.cv_inline.specs.NextGame.{InlinedCalls, numbered}
+use Rattle.cv_inline_laws.specs.extents.Extents as extents
+use Rattle.cv_inline_laws.specs.extents.Extents.{Answers, Extent, all_along, answer_or, copies_of, extent, of_call_at, of_game, over_node, with_answers}
+use Rattle.cv_inline_laws.proofs.extents.Games.{AreAlike, game_alike}
+use Rattle.cv_inline_laws.proofs.extents.Measures.{IsMeasure, nodes_measure, path_measure}
 use Rattle.cv_inline_measure.specs.declared.added.Added.{Added}
 use Rattle.cv_inline_measure.specs.declared.measuring.Measure.{Measure}
 use Rattle.cv_inline_measure.specs.declared.measuring.Measure.TheVariants.{Nodes, Path}
 use Rattle.cv_inline_measure.specs.Counts.{IsTold, measure_in}
-use Rattle.cv_syntax_limits.specs.Limits.{told}
+use Rattle.cv_syntax.specs.limits.Limits.{told}
 use Rattle.cv_inline_measure.specs.Games.{call_of_game, first_child, of_child, second_child, with_call}
 use Rattle.cv_inline_measure.proofs.Counting.{keeps, node_alike, told_again}
 

@@ -4,9 +4,9 @@ use Rattle.cv_syntax.specs.declared.make.Make.{Make}
 use Rattle.cv_syntax.specs.declared.make.Make.TheVariants as make
 use Rattle.cv_syntax.specs.Postorder.{joined}
 use Rattle.cv_syntax_trees.specs.Tree.{Tree, Empty}
-use Rattle.cv_syntax_limits.specs.Limits.{told}
-use Rattle.cv_inline_extents.specs.Extents as extents
-use Rattle.cv_inline_extents.specs.Extents.{Extent, all_nodes, extent, longest_path}
+use Rattle.cv_syntax.specs.limits.Limits.{told}
+use Rattle.cv_inline_laws.specs.extents.Extents as extents
+use Rattle.cv_inline_laws.specs.extents.Extents.{Extent, all_nodes, extent, longest_path}
 use Rattle.cv_inline_measure.specs.declared.added.Added.{Added}
 use Rattle.cv_inline_measure.specs.declared.measuring.Measure.{Measure}
 use Rattle.cv_inline_measure.specs.declared.measuring.Measure.TheVariants.{Nodes, Path}

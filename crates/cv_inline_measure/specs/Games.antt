@@ -3,16 +3,16 @@ use Rattle.std.specs.Prelude.{ℕ, [], ◌∷◌, List, map}
 use Rattle.cv_syntax_trees.specs.declared.head.Head.{Head}
 use Rattle.cv_syntax_trees.specs.declared.head.Head.TheVariants as head
 use Rattle.cv_syntax_trees.specs.Tree.{Tree, second}
-use Rattle.cv_inline_games.specs.NextGame.{InlinedCalls, numbered}
-use Rattle.cv_inline_extents.specs.Extents as extents
-use Rattle.cv_inline_extents.specs.Extents.{Answers, Extent, all_along, copies_of, of_call_at, of_game, with_answers}
+use Rattle.cv_inline.specs.NextGame.{InlinedCalls, numbered}
+use Rattle.cv_inline_laws.specs.extents.Extents as extents
+use Rattle.cv_inline_laws.specs.extents.Extents.{Answers, Extent, all_along, copies_of, of_call_at, of_game, with_answers}
 use Rattle.cv_inline_measure.specs.declared.added.Added.{Added}
 use Rattle.cv_inline_measure.specs.declared.game.Answer.{Answer}
 use Rattle.cv_inline_measure.specs.declared.game.Kind.{Kind}
 use Rattle.cv_inline_measure.specs.declared.game.Kind.TheVariants.{Nothing, Results, Same, Game}
 use Rattle.cv_inline_measure.specs.declared.measuring.Measure.{Measure}
 use Rattle.cv_inline_measure.specs.Counts.{measure_in}
-use Rattle.cv_syntax_limits.specs.Limits.{told}
+use Rattle.cv_syntax.specs.limits.Limits.{told}
 
 abbrev pub answers_in : List Answer → Answers
 answers_in rs = map (λ (r : Answer). (r.name, r.results)) rs

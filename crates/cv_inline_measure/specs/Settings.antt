@@ -8,20 +8,20 @@ use Rattle.cv_syntax_trees.specs.Tree.{Tree, Node}
 use Rattle.cv_syntax.specs.PoolTrees.{tree_at}
 use Rattle.cv_meaning.specs.Correspondences.{typed_names}
 use Rattle.cv_meaning_contexts.specs.Groups.{Group}
-use Rattle.cv_inline_games.specs.NextGame.{InlinedCalls}
+use Rattle.cv_inline.specs.NextGame.{InlinedCalls}
 use Rattle.cv_meaning_contexts.specs.Inlined as bodies
 use Rattle.cv_meaning_contexts.specs.Inlined.{Scope, in_game, index_terms, with_call_of}
-use Rattle.cv_inline_terms.specs.declared.caller.Caller.{Caller}
-use Rattle.cv_inline_terms.specs.declared.calling.Calling.{Calling}
-use Rattle.cv_inline_terms.specs.declared.drawn.Drawing.{Drawing}
-use Rattle.cv_inline_terms.specs.Callers.{HasLiveCaller, caller_in}
-use Rattle.cv_inline_terms.specs.Drawings.{drawn_in}
-use Rattle.cv_inline_branches.specs.Moves.{IsList}
-use Rattle.cv_inline_listing.specs.Callings.{IsLiveCalling, callers_in, callings_in}
-use Rattle.cv_inline_listing.specs.declared.subtree.Subtree.{Subtree}
-use Rattle.cv_inline_pairs.specs.declared.pairs.Pair.{Pair}
-use Rattle.cv_inline_extents.specs.Extents as extents
-use Rattle.cv_inline_extents.specs.Extents.{Extent, all_beside, front, of_body, of_branches, of_call, of_find, under}
+use Rattle.cv_inline.specs.declared.terms.caller.Caller.{Caller}
+use Rattle.cv_inline.specs.declared.terms.calling.Calling.{Calling}
+use Rattle.cv_inline.specs.declared.terms.drawn.Drawing.{Drawing}
+use Rattle.cv_inline.specs.terms.Callers.{HasLiveCaller, caller_in}
+use Rattle.cv_inline.specs.terms.Drawings.{drawn_in}
+use Rattle.cv_inline_sites.specs.branches.Moves.{IsList}
+use Rattle.cv_inline_sites.specs.listing.Callings.{IsLiveCalling, callers_in, callings_in}
+use Rattle.cv_inline_sites.specs.declared.listing.subtree.Subtree.{Subtree}
+use Rattle.cv_inline_sites.specs.declared.pairs.pairs.Pair.{Pair}
+use Rattle.cv_inline_laws.specs.extents.Extents as extents
+use Rattle.cv_inline_laws.specs.extents.Extents.{Extent, all_beside, front, of_body, of_branches, of_call, of_find, under}
 use Rattle.cv_inline_measure.specs.Counts.{IsTold, measure_in}
 use Rattle.cv_inline_measure.specs.declared.calls.Argument as code
 use Rattle.cv_inline_measure.specs.declared.found.Found.{Found}

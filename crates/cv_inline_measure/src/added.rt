@@ -1,9 +1,9 @@
 ghost use Rattle.std.specs.Prelude.{◌≡◌, ℕ};
 ghost use Rattle.cv_syntax_trees.specs.Tree.{Tree};
-ghost use Rattle.cv_inline_extents.specs.Extents as extents;
-ghost use Rattle.cv_inline_extents.specs.Extents.{Extent, extent};
+ghost use Rattle.cv_inline_laws.specs.extents.Extents as extents;
+ghost use Rattle.cv_inline_laws.specs.extents.Extents.{Extent, extent};
 ghost use Rattle.cv_inline_measure.specs.Counts.{IsTold, measure_in};
-ghost use Rattle.cv_syntax_limits.specs.Limits.{told};
+ghost use Rattle.cv_syntax.specs.limits.Limits.{told};
 
 use crate::measuring::Measure;
 

@@ -1,23 +1,23 @@
 ghost use Rattle.std.specs.Prelude.{◌≡◌, ◌∷◌, ◌++◌, [], ℕ, List, IfOk};
 ghost use Rattle.cv_syntax_trees.specs.declared.head.Head.TheVariants as head;
 ghost use Rattle.cv_meaning_contexts.specs.Inlined.{Own};
-ghost use Rattle.cv_inline_extents.specs.Extents as extents;
-ghost use Rattle.cv_inline_extents.specs.Extents.{Extent};
-ghost use Rattle.cv_inline_terms.specs.Callers.{IsLiveCaller};
-ghost use Rattle.cv_inline_listing.specs.Subtrees.{IsNodeAt, IsWithin};
-ghost use Rattle.cv_inline_pairs.specs.Pairs.{IsPairOver};
+ghost use Rattle.cv_inline_laws.specs.extents.Extents as extents;
+ghost use Rattle.cv_inline_laws.specs.extents.Extents.{Extent};
+ghost use Rattle.cv_inline.specs.terms.Callers.{IsLiveCaller};
+ghost use Rattle.cv_inline_sites.specs.listing.Subtrees.{IsNodeAt, IsWithin};
+ghost use Rattle.cv_inline_sites.specs.pairs.Pairs.{IsPairOver};
 ghost use Rattle.cv_inline_measure.specs.Counts.{IsTold};
-ghost use Rattle.cv_syntax_limits.specs.Limits.{told};
-ghost use Rattle.cv_inline_pairs.specs.Scopes.{scope_at};
+ghost use Rattle.cv_syntax.specs.limits.Limits.{told};
+ghost use Rattle.cv_inline_sites.specs.pairs.Scopes.{scope_at};
 ghost use Rattle.cv_inline_measure.specs.Settings.{IsFound, IsLiveOther, IsLiveSetting, body_in, branch_in, branches_in, caller_at, find_in, live_in, measure_of, term_in};
 
 use crate::added::{Added, beside, of_result, under};
 use crate::found::Found;
 use crate::setting::Setting;
 use crate::terms::{front_extent, term_extent};
-use cv_inline_listing::{Parent, Subtree, node_at};
-use cv_inline_pairs::{Pair, branch_scope, pairs_with, with_name};
-use cv_inline_terms::{Caller, Entry, Standing};
+use cv_inline::terms::{Caller, Entry, Standing};
+use cv_inline_sites::listing::{Parent, Subtree, node_at};
+use cv_inline_sites::pairs::{Pair, branch_scope, pairs_with, with_name};
 use cv_syntax::Head;
 use std::alloc::{AllocError, Global};
 

@@ -1,7 +1,7 @@
 ghost use Rattle.std.specs.Prelude.{◌≡◌};
-ghost use Rattle.cv_inline_extents.specs.Extents as extents;
+ghost use Rattle.cv_inline_laws.specs.extents.Extents as extents;
 ghost use Rattle.cv_inline_measure.specs.Counts.{measure_in};
-ghost use Rattle.cv_syntax_limits.specs.Limits.{told};
+ghost use Rattle.cv_syntax.specs.limits.Limits.{told};
 
 /// What trees are measured by: all nodes, or those of the longest path.
 #[derive(Clone, Copy)]

@@ -2,18 +2,18 @@ ghost use Rattle.std.specs.Prelude.{◌≡◌, ◌<◌, ◌^◌, ℕ, [], IfOk, 
 ghost use Rattle.cv_syntax_trees.specs.Tree as tree;
 ghost use Rattle.cv_syntax.specs.PoolTrees.{tree_at};
 ghost use Rattle.cv_meaning_contexts.specs.Groups.{Group};
-ghost use Rattle.cv_inline_games.specs.NextGame.{next_in};
-ghost use Rattle.cv_inline_extents.specs.Extents.{extent};
+ghost use Rattle.cv_inline.specs.NextGame.{next_in};
+ghost use Rattle.cv_inline_laws.specs.extents.Extents.{extent};
 ghost use Rattle.cv_inline_measure.specs.Counts.{measure_in};
-ghost use Rattle.cv_syntax_limits.specs.Limits.{told};
+ghost use Rattle.cv_syntax.specs.limits.Limits.{told};
 ghost use Rattle.cv_inline_measure.specs.Settings.{AreLiveSites, inlined_calls};
 
 use crate::game::game;
 use crate::measuring::Measure;
 use crate::setting::Setting;
-use cv_inline_terms::{Calling, Drawing};
+use cv_inline::terms::{Calling, Drawing};
+use cv_syntax::limits::Extent;
 use cv_syntax::{NodeId, Pool};
-use cv_syntax_limits::Extent;
 use std::alloc::{AllocError, Global};
 
 /// How large and how deep the next game of a context is, where these are the drawn names, the name of the right key and the

@@ -1,9 +1,9 @@
 ghost use Rattle.std.specs.Prelude.{◌≡◌, IfOk, List, map, reverse};
 ghost use Rattle.cv_syntax_trees.specs.Tree.{Tree};
-ghost use Rattle.cv_inline_extents.specs.Extents.{extent};
-ghost use Rattle.cv_inline_terms.specs.Stacks.{stack};
+ghost use Rattle.cv_inline_laws.specs.extents.Extents.{extent};
+ghost use Rattle.cv_inline.specs.terms.Stacks.{stack};
 ghost use Rattle.cv_inline_measure.specs.Counts.{counts_of, measure_in, newest, newest_count, older_counts, with_part};
-ghost use Rattle.cv_syntax_limits.specs.Limits.{told};
+ghost use Rattle.cv_syntax.specs.limits.Limits.{told};
 
 use crate::measuring::Measure;
 use cv_syntax::Make;

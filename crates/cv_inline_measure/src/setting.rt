@@ -1,5 +1,5 @@
 use crate::measuring::Measure;
-use cv_inline_terms::{Calling, Drawing};
+use cv_inline::terms::{Calling, Drawing};
 use cv_syntax::Pool;
 
 /// What a next game is made from: the pool, the drawn names, the sites and the name of the right key. And by what it is

@@ -1,17 +1,17 @@
 ghost use Rattle.std.specs.Prelude.{◌≡◌, ◌<◌, ◌^◌, IfOk, length};
 ghost use Rattle.cv_pool.specs.Nodes.{ChildBelow};
-ghost use Rattle.cv_inline_extents.specs.Extents.{extent};
-ghost use Rattle.cv_inline_terms.specs.Callers.{IsLiveCaller};
-ghost use Rattle.cv_inline_terms.specs.Stacks.{names_from};
-ghost use Rattle.cv_syntax_limits.specs.Limits.{told};
-ghost use Rattle.cv_inline_pairs.specs.Scopes.{scope_at};
+ghost use Rattle.cv_inline_laws.specs.extents.Extents.{extent};
+ghost use Rattle.cv_inline.specs.terms.Callers.{IsLiveCaller};
+ghost use Rattle.cv_inline.specs.terms.Stacks.{names_from};
+ghost use Rattle.cv_syntax.specs.limits.Limits.{told};
+ghost use Rattle.cv_inline_sites.specs.pairs.Scopes.{scope_at};
 ghost use Rattle.cv_inline_measure.specs.Settings.{IsLiveOther, front_in, live_in, measure_of, names_in, term_in};
 
 use crate::parts::extent_of;
 use crate::setting::Setting;
-use cv_inline_branches::branch_front;
-use cv_inline_pairs::{Pair, drawn_indices};
-use cv_inline_terms::{Caller, Entry, in_game, nothing, put};
+use cv_inline::terms::{Caller, Entry, in_game, nothing, put};
+use cv_inline_sites::branches::branch_front;
+use cv_inline_sites::pairs::{Pair, drawn_indices};
 use cv_syntax::{Head, NodeId};
 use std::alloc::{AllocError, Global};
 

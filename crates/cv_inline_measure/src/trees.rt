@@ -2,12 +2,12 @@ ghost use Rattle.std.specs.Prelude.{◌≡◌, ◌<◌, ◌^◌, length};
 ghost use Rattle.cv_pool.specs.Nodes.{ChildBelow};
 ghost use Rattle.cv_syntax_trees.specs.Tree.{size};
 ghost use Rattle.cv_syntax.specs.PoolTrees.{tree_at};
-ghost use Rattle.cv_inline_extents.specs.Extents.{extent};
+ghost use Rattle.cv_inline_laws.specs.extents.Extents.{extent};
 ghost use Rattle.cv_inline_measure.specs.Counts.{measure_in};
-ghost use Rattle.cv_syntax_limits.specs.Limits.{told};
+ghost use Rattle.cv_syntax.specs.limits.Limits.{told};
 
 use crate::measuring::Measure;
-use cv_draw_extents::depth_below;
+use cv_path::extents::depth_below;
 use cv_path::size_below;
 use cv_syntax::{NodeId, Pool};
 

@@ -1,9 +1,7 @@
-// The draws and the finds of the sites of a context.
+// What the next game of a cryptographic step is made of: indices and draws in order, pairs of finds, branches and results.
 #![tactic(auto)]
 
-mod bodies;
-mod draws;
-mod finds;
-
-pub use draws::draws_of;
-pub use finds::label_draws;
+pub mod branches;
+pub mod listing;
+pub mod pairs;
+pub mod results;

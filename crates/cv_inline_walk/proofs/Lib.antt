@@ -1,3 +1,3 @@
 pub mod Keys
 pub mod Nodes
-pub mod Pieces
+pub mod PieceParts

@@ -4,14 +4,14 @@ use Rattle.cv_syntax_trees.specs.declared.head.Head.{Head}
 use Rattle.cv_syntax_trees.specs.declared.head.Head.TheVariants as head
 use Rattle.cv_syntax.specs.Postorder.{joined}
 use Rattle.cv_syntax_trees.specs.Tree.{Tree, Empty, Node}
-use Rattle.cv_inline_games.specs.NextGame.{InlinedCalls, Results, next_in}
-use Rattle.cv_inline_terms.proofs.Pushes.{over_two}
+use Rattle.cv_inline.specs.NextGame.{InlinedCalls, Results, next_in}
+use Rattle.cv_inline.proofs.terms.Pushes.{over_two}
 use Rattle.cv_inline_walk.specs.declared.forms.Form.{Form}
 use Rattle.cv_inline_walk.specs.Forms.{form_of, head_in, node_in}
 
-pub next-Empty : (i : InlinedCalls) (rs : Results) (t : Tree) → t ≡ Empty → next_in i rs t ≡ Empty
+pub next_Empty : (i : InlinedCalls) (rs : Results) (t : Tree) → t ≡ Empty → next_in i rs t ≡ Empty
 unfolding next_in
-next-Empty i rs t e = ap (next_in i rs) e
+next_Empty i rs t e = ap (next_in i rs) e
 
 by_head : (i : InlinedCalls) (rs : Results) (h : Head) (a b : Tree) → next_in i rs (Node h a b) ≡ node_in i rs (form_of h) h a b
 unfolding next_in

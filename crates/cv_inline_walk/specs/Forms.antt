@@ -3,7 +3,7 @@ use Rattle.std.specs.Prelude.{ℕ, [], ◌∷◌}
 use Rattle.cv_syntax_trees.specs.declared.head.Head.{Head}
 use Rattle.cv_syntax_trees.specs.declared.head.Head.TheVariants as head
 use Rattle.cv_syntax_trees.specs.Tree.{Tree, Empty, Node, second}
-use Rattle.cv_inline_games.specs.NextGame.{InlinedCalls, Results, call_in_game, game_name, next_in, numbered, with_results}
+use Rattle.cv_inline.specs.NextGame.{InlinedCalls, Results, call_in_game, game_name, next_in, numbered, with_results}
 use Rattle.cv_inline_walk.specs.declared.forms.First.{First}
 use Rattle.cv_inline_walk.specs.declared.forms.First.TheVariants as of_first
 use Rattle.cv_inline_walk.specs.declared.forms.Form.{Form}

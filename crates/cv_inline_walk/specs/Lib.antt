@@ -1,3 +1,4 @@
 pub mod Steps
 pub mod Forms
 pub mod Made
+pub mod pieces

@@ -9,7 +9,7 @@ use Rattle.cv_syntax.specs.declared.work.BuildError.{BuildError}
 use Rattle.cv_syntax.specs.declared.work.BuildError.TheVariants as build
 use Rattle.cv_syntax_trees.specs.Tree.{Tree, depth, size}
 use Rattle.cv_syntax.specs.PoolTrees.{tree_at}
-use Rattle.cv_syntax_limits.specs.Limits.{most_depth, most_nodes, nodes_of, told}
+use Rattle.cv_syntax.specs.limits.Limits.{most_depth, most_nodes, nodes_of, told}
 
 -- a tree within the limits is made in a pool that had so many nodes
 pub record IsTreeAt (limit live : ℕ) (next : Tree) (trees : List KindTree) (root : NodeId) : Type 0 where

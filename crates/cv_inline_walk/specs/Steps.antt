@@ -5,14 +5,14 @@ use Rattle.cv_pool.specs.declared.node.NodeId.{NodeId}
 use Rattle.cv_syntax_trees.specs.Tree.{Tree}
 use Rattle.cv_syntax.specs.PoolTrees.{tree_at}
 use Rattle.cv_meaning_contexts.specs.Groups.{Group}
-use Rattle.cv_inline_games.specs.NextGame.{InlinedCalls, Results, next_in}
-use Rattle.cv_inline_terms.specs.declared.calling.Calling.{Calling}
-use Rattle.cv_inline_terms.specs.declared.drawn.Drawing.{Drawing}
-use Rattle.cv_inline_terms.specs.Drawings.{drawn_in}
+use Rattle.cv_inline.specs.NextGame.{InlinedCalls, Results, next_in}
+use Rattle.cv_inline.specs.declared.terms.calling.Calling.{Calling}
+use Rattle.cv_inline.specs.declared.terms.drawn.Drawing.{Drawing}
+use Rattle.cv_inline.specs.terms.Drawings.{drawn_in}
 use Rattle.cv_inline_measure.specs.Settings.{AreLiveSites}
-use Rattle.cv_inline_pieces.specs.Calls.{inlined_calls}
-use Rattle.cv_inline_results.specs.Outcomes.{results_in}
-use Rattle.cv_inline_results.specs.declared.outcome.Outcome.{Outcome}
+use Rattle.cv_inline_walk.specs.pieces.Calls.{inlined_calls}
+use Rattle.cv_inline_sites.specs.results.Outcomes.{results_in}
+use Rattle.cv_inline_sites.specs.declared.results.outcome.Outcome.{Outcome}
 use Rattle.cv_inline_walk.specs.Forms.{behind_call}
 use Rattle.cv_inline_walk.specs.declared.step.Call.{Call}
 use Rattle.cv_inline_walk.specs.declared.step.Step.{Step}

@@ -1,15 +1,15 @@
 ghost use Rattle.std.specs.Prelude.{◌≡◌, IfOk, length, slice_get};
-ghost use Rattle.cv_inline_terms.specs.Callers.{IsLiveCaller};
-ghost use Rattle.cv_inline_terms.specs.Drawings.{drawn_in};
-ghost use Rattle.cv_inline_terms.specs.Stacks.{stack};
-ghost use Rattle.cv_inline_pieces.specs.Pieces.{IsLiveFront, front_over};
+ghost use Rattle.cv_inline.specs.terms.Callers.{IsLiveCaller};
+ghost use Rattle.cv_inline.specs.terms.Drawings.{drawn_in};
+ghost use Rattle.cv_inline.specs.terms.Stacks.{stack};
+ghost use Rattle.cv_inline_walk.specs.pieces.Pieces.{IsLiveFront, front_over};
 ghost use Rattle.cv_inline_walk.specs.Steps.{IsLiveStep, live_in};
 
+use crate::pieces::Front;
 use crate::step::Step;
-use cv_inline_branches::branch_front;
-use cv_inline_pairs::drawn_indices;
-use cv_inline_pieces::Front;
-use cv_inline_terms::Caller;
+use cv_inline::terms::Caller;
+use cv_inline_sites::branches::branch_front;
+use cv_inline_sites::pairs::drawn_indices;
 use cv_syntax::Make;
 use std::alloc::{AllocError, Global};
 

@@ -6,6 +6,7 @@ mod fronts;
 mod game;
 mod making;
 mod parts;
+pub mod pieces;
 mod step;
 
 pub use making::next_game;

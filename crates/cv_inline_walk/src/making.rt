@@ -8,10 +8,10 @@ ghost use Rattle.cv_inline_walk.specs.Made.{IsMade, error_of};
 ghost use Rattle.cv_inline_walk.specs.Steps.{next_tree};
 
 use crate::parts::plant_parts;
+use cv_inline::terms::{Calling, Drawing};
 use cv_inline_measure::measure;
-use cv_inline_terms::{Calling, Drawing};
+use cv_syntax::limits::check_limits;
 use cv_syntax::{BuildError, NodeId, Pool, PoolError};
-use cv_syntax_limits::check_limits;
 use std::alloc::Global;
 
 /// Why a game is not built, where the pool makes no tree of it.

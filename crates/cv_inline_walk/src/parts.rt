@@ -2,16 +2,16 @@ ghost use Rattle.std.specs.Prelude.{◌≡◌, ◌∷◌, ◌+◌, ◌<◌, ◌�
 ghost use Rattle.cv_pool.specs.PoolView.{Grows};
 ghost use Rattle.cv_syntax.specs.PoolTrees.{tree_at};
 ghost use Rattle.cv_meaning_contexts.specs.Groups.{Group};
-ghost use Rattle.cv_inline_terms.specs.Stacks.{stack};
-ghost use Rattle.cv_syntax_limits.specs.Limits.{nodes_of};
+ghost use Rattle.cv_inline.specs.terms.Stacks.{stack};
+ghost use Rattle.cv_syntax.specs.limits.Limits.{nodes_of};
 ghost use Rattle.cv_inline_measure.specs.Settings.{AreLiveSites};
 ghost use Rattle.cv_inline_walk.specs.Steps.{next_tree};
 
 use crate::game::game;
 use crate::step::Step;
-use cv_inline_terms::{Calling, Drawing};
+use cv_inline::terms::{Calling, Drawing};
+use cv_syntax::limits::plant_tree;
 use cv_syntax::{Make, NodeId, Pool, PoolError};
-use cv_syntax_limits::plant_tree;
 use std::alloc::{AllocError, Global};
 
 /// The parts of the next game of a context.

@@ -1,4 +1,4 @@
-use cv_inline_terms::{Calling, Drawing};
+use cv_inline::terms::{Calling, Drawing};
 use cv_syntax::{NodeId, Pool};
 
 /// What a cryptographic step has: the pool, the drawn names, the sites, the variable of the key in the context, and the

@@ -8,18 +8,18 @@ use Rattle.cv_syntax.specs.declared.work.BuildError.TheVariants as build
 use Rattle.cv_syntax_trees.specs.Declarations.{Declaration}
 use Rattle.cv_syntax_trees.specs.Tree.{Tree, Empty, depth, size}
 use Rattle.cv_syntax.specs.PoolTrees.{tree_at}
-use Rattle.cv_syntax_limits.specs.Limits.{limit_fault}
+use Rattle.cv_syntax.specs.limits.Limits.{limit_fault}
 use Rattle.cv_scope_rules.specs.Phrases.{is_phrase}
-use Rattle.cv_scenes.specs.Scenes.{Scene}
-use Rattle.cv_scenes.specs.Terms.{is_game}
+use Rattle.cv_scene.specs.Scenes.{Scene}
+use Rattle.cv_scene.specs.Terms.{is_game}
 use Rattle.cv_bound.specs.declared.cost.Cost.TheVariants as bound
 use Rattle.cv_steps.specs.Judgements.{Judgement, Refused, TooLarge, TooDeep, Accepted, judgement_of, judgement_of_row}
 use Rattle.cv_steps.specs.Steps.{Leads, Row, Step, Zero}
-use Rattle.cv_draw.specs.declared.plan.Failure.{Failure}
+use Rattle.cv_edit_places.specs.declared.plan.Failure.{Failure}
 use Rattle.cv_rule.proofs.Leading.{stood}
 use Rattle.cv_edit.specs.declared.edit.Edit.{Edit}
 use Rattle.cv_edit.specs.Edits.{CanBeMade, IsEditFault, edited, need_of}
-use Rattle.cv_kernel_games.specs.declared.testing.Next.{Next}
+use Rattle.cv_kernel_crypto.specs.declared.games.testing.Next.{Next}
 use Rattle.cv_kernel.specs.declared.error.RuleError.{RuleError}
 use Rattle.cv_kernel.specs.declared.error.RuleError.TheVariants as rule
 use Rattle.cv_kernel.specs.Answers.{IsAnswer, IsDrawn, IsEditBy, IsNoGame, IsUnplanned}
@@ -66,11 +66,11 @@ module _ (s : Scene) (next : Tree) where
     drawn = subst IsDrawn (sym judged_within) (drawn_by (is_game s.declarations next))
 
     -- no game is drawn
-    pub draw_answer : (limit live need : ℕ) (trees : List KindTree) (e : BuildError) → IsEditFault limit live need e → IsAnswer limit live need judged trees (Err (rule.Build e))
-    draw_answer limit live need trees (build.Full n) i = record { drawn = drawn; asks = i.0; over = i.1 }
-    draw_answer limit live need trees build.OutOfMemory i = tt
-    draw_answer limit live need trees (build.Nodes n) i = absurd i
-    draw_answer limit live need trees (build.Depth n) i = absurd i
+    pub edit_answer : (limit live need : ℕ) (trees : List KindTree) (e : BuildError) → IsEditFault limit live need e → IsAnswer limit live need judged trees (Err (rule.Build e))
+    edit_answer limit live need trees (build.Full n) i = record { drawn = drawn; asks = i.0; over = i.1 }
+    edit_answer limit live need trees build.OutOfMemory i = tt
+    edit_answer limit live need trees (build.Nodes n) i = absurd i
+    edit_answer limit live need trees (build.Depth n) i = absurd i
 
     -- what is drawn is no game
     no_game_answer : (limit live need : ℕ) (trees : List KindTree) (b : Bool) (e : RuleError) → is_game s.declarations next ≡ b → IsNoGame b e → IsAnswer limit live need judged trees (Err e)

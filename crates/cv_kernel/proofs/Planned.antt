@@ -6,19 +6,19 @@ use Rattle.cv_pool.specs.declared.node.NodeId.{NodeId}
 use Rattle.cv_pool.specs.KindTree.{KindTree}
 use Rattle.cv_syntax_trees.specs.Tree.{Tree, size}
 use Rattle.cv_syntax.specs.PoolTrees.{tree_at}
-use Rattle.cv_scenes.specs.Scenes.{Scene, has_place}
+use Rattle.cv_scene.specs.Scenes.{Scene, has_place}
 use Rattle.cv_steps.specs.Elementary.{let_step, new_step, prune_step, rename_step, rewrite_step, split_step, unlet_step, unnew_step}
 use Rattle.cv_steps.specs.Judgements.{Refused, judgement_of, judgement_of_row}
 use Rattle.cv_steps.specs.Steps.{Step}
 use Rattle.cv_rule.proofs.Leading.{let_leads, new_leads, prune_leads, rename_leads, rewrite_leads, split_leads, unlet_leads, unnew_leads}
-use Rattle.cv_draw.specs.declared.change.Change.TheVariants as change
-use Rattle.cv_draw.specs.Changes.{need_at}
-use Rattle.cv_draw.specs.Dropping.{need_without}
-use Rattle.cv_draw.specs.Plans.{failed, failure_of}
-use Rattle.cv_draw_pruning.specs.declared.body.Body.{Body}
-use Rattle.cv_draw_pruning.specs.Bodies as pruning
-use Rattle.cv_draw_renaming.specs.Needs.{need_renaming}
-use Rattle.cv_draw_unletting.specs.Games.{need_unletting}
+use Rattle.cv_edit_places.specs.declared.change.Change.TheVariants as change
+use Rattle.cv_edit_places.specs.Changes.{need_at}
+use Rattle.cv_edit_places.specs.Dropping.{need_without}
+use Rattle.cv_edit_places.specs.Plans.{failed, failure_of}
+use Rattle.cv_edit_changes.specs.declared.pruning.body.Body.{Body}
+use Rattle.cv_edit_changes.specs.pruning.Bodies as pruning
+use Rattle.cv_edit_changes.specs.renaming.Needs.{need_renaming}
+use Rattle.cv_edit_changes.specs.unletting.Games.{need_unletting}
 use Rattle.cv_edit.specs.declared.edit.Edit.{Edit}
 use Rattle.cv_edit.specs.declared.edit.Edit.TheVariants as edit
 use Rattle.cv_kernel.specs.declared.error.RuleError.{RuleError}
@@ -27,10 +27,10 @@ use Rattle.cv_kernel.specs.Answers.{IsEdit, IsPlan, IsUnplanned}
 use Rattle.cv_kernel.specs.Rules.{Rule}
 use Rattle.cv_kernel.specs.Steps.{IsShort}
 use Rattle.cv_kernel.proofs.Fits.{let_fits, new_fits, replace_fits, split_fits}
-use Rattle.cv_kernel.proofs.Nodes.{size-nodes}
+use Rattle.cv_kernel.proofs.Nodes.{size_nodes}
 
 pub short_size : (t : Tree) → IsShort t → size t < 2 ^ 31
-short_size t l = omega (arith, l, size-nodes t)
+short_size t l = omega (arith, l, size_nodes t)
 
 -- a place that no game has
 pub absent : (p : ℕ) (s : Scene) → size s.game ≤ p → has_place s p ≡ false

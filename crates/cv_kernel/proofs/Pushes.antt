@@ -13,15 +13,15 @@ use Rattle.cv_syntax_trees.specs.Declarations.{Named, Equation, Equiv, Query}
 use Rattle.cv_syntax.specs.Declarations.{declared, declarations, number}
 use Rattle.cv_syntax_trees.specs.Tree.{Tree, depth, size}
 use Rattle.cv_syntax.specs.PoolTrees.{tree_at}
-use Rattle.cv_syntax.proofs.Buildings.{child-grown}
+use Rattle.cv_syntax.proofs.Buildings.{child_grown}
 use Rattle.cv_directory.specs.Live.{IsLive}
 use Rattle.cv_bound.specs.declared.cost.Cost.{Cost as SumCost}
 use Rattle.cv_bound.specs.Sums.{with_terms}
-use Rattle.cv_kernel_costs.specs.Sums.{SumsFit, with_cost}
-use Rattle.cv_kernel_costs.specs.declared.sums.Sums.{Sums}
-use Rattle.cv_rule_scenes.specs.Kept.{scene_of}
-use Rattle.cv_scenes.specs.Scenes.{Scene}
-use Rattle.cv_scenes.specs.Terms.{is_game}
+use Rattle.cv_bound.specs.costs.Sums.{SumsFit, with_cost}
+use Rattle.cv_bound.specs.declared.costs.sums.Sums.{Sums}
+use Rattle.cv_scene_view.specs.Kept.{scene_of}
+use Rattle.cv_scene.specs.Scenes.{Scene}
+use Rattle.cv_scene.specs.Terms.{is_game}
 use Rattle.cv_steps.specs.Costs.{cost_of}
 use Rattle.cv_steps.specs.Judgements.{Judgement, Refused, TooLarge, TooDeep, Accepted, judgement_of_row}
 use Rattle.cv_steps.specs.Steps.{Cost, Fails, Leads, Row, Zero}
@@ -63,18 +63,8 @@ fits_on sums c Zero e h = subst (λ d. SumsFit (with_cost sums d)) (sym e) h
 
 -- what stays while a pool grows
 
-pub root-grown : (old new : PoolView) (n : NodeId) → Grows old new → n.0 < length old.trees → tree_at new.trees (Some n) ≡ tree_at old.trees (Some n)
-root-grown old new n g l = child-grown old new (Some n) g l
-
-decl-grown : (old new : PoolView) (d : Decl) → Grows old new → IsLive (length old.trees) d → declared new.trees d ≡ declared old.trees d
-decl-grown old new (decl.Name id class args result) g b = ap (λ t. Named id.0 class t (number result)) (child-grown old new args g b)
-decl-grown old new (decl.Equation n) g b = ap Equation (root-grown old new n g b)
-decl-grown old new (decl.Equiv id n) g b = ap (Equiv id.0) (root-grown old new n g b)
-decl-grown old new (decl.Query n) g b = ap Query (root-grown old new n g b)
-
-pub declarations-grown : (old new : PoolView) (ds : List Decl) → Grows old new → All (IsLive (length old.trees)) ds → declarations new.trees ds ≡ declarations old.trees ds
-declarations-grown old new [] g a = refl
-declarations-grown old new (d ∷ ds) g a = ap₂ (λ t ts. t ∷ ts) (decl-grown old new d g (a zero d (omega arith))) (declarations-grown old new ds g (λ k e l. a (suc k) e (omega arith)))
+pub root_grown : (old new : PoolView) (n : NodeId) → Grows old new → n.0 < length old.trees → tree_at new.trees (Some n) ≡ tree_at old.trees (Some n)
+root_grown old new n g l = child_grown old new (Some n) g l
 
 -- the same answer, in a sequence that only looked up what there is to read
 

@@ -2,7 +2,7 @@
 use Rattle.std.proofs.Common.{◌≡◌, ℕ, suc, ◌+◌, ◌≤◌, List, [], ◌∷◌, ◌++◌, length, Some, Result, Ok, Err, option_map, refl, sym, ap, subst, ◌∙◌}
 use Rattle.std.proofs.lemmas.Bool.{and_parts}
 use Rattle.std.specs.Prelude.{All, IsErrAnd}
-use Rattle.cv_lists.proofs.Each.{AllByRecursion-push}
+use Rattle.cv_lists.proofs.Each.{AllByRecursion_push}
 use Rattle.cv_pool.specs.KindTree.{KindTree}
 use Rattle.cv_pool.specs.PoolView.{PoolView, Grows}
 use Rattle.cv_directory.specs.Live.{IsLive}
@@ -17,44 +17,44 @@ use Rattle.cv_bound.specs.declared.terms.Experiment.TheVariants.{Events, Real, R
 use Rattle.cv_bound.specs.declared.terms.Term.{Term}
 use Rattle.cv_bound.specs.declared.terms.Term.TheVariants as term
 use Rattle.cv_bound.specs.Sums.{Fits, with_terms}
-use Rattle.cv_context_products.specs.Shapes.{shape_of}
-use Rattle.cv_context_products.specs.ShapesInCode.{shape_in}
-use Rattle.cv_scenes.specs.Scenes.{Scene}
+use Rattle.cv_context.specs.products.Shapes.{shape_of}
+use Rattle.cv_context.specs.products.ShapesInCode.{shape_in}
+use Rattle.cv_scene.specs.Scenes.{Scene}
 use Rattle.cv_steps_laws.proofs.Keeping.{formed}
 use Rattle.cv_steps_crypto.specs.Conditions.{equivalence_of, failure_of}
 use Rattle.cv_steps_crypto.specs.Steps.{IsOutcome, IsOutcomeBy}
 use Rattle.cv_steps_crypto.specs.Steps as outcome
 use Rattle.cv_steps_crypto.proofs.Accepted.{accepted}
-use Rattle.cv_kernel_games.specs.declared.testing.Next.{Next}
+use Rattle.cv_kernel_crypto.specs.declared.games.testing.Next.{Next}
 use Rattle.cv_kernel_crypto.specs.declared.fault.CryptoFault.{CryptoFault}
 use Rattle.cv_kernel_crypto.specs.declared.fault.CryptoFault.TheVariants as crypto
 use Rattle.cv_kernel_crypto.specs.Applied.{IsAnswer, IsApplied, IsFew}
-use Rattle.cv_syntax_limits.specs.Limits.{nodes_of}
+use Rattle.cv_syntax.specs.limits.Limits.{nodes_of}
 use Rattle.cv_kernel_crypto.specs.Faults.{IsRefused}
 use Rattle.cv_kernel.specs.declared.error.PushError.{PushError}
 use Rattle.cv_kernel.specs.declared.sequence.Sequence.{Sequence}
-use Rattle.cv_kernel_costs.specs.Costs.{advantage_of}
-use Rattle.cv_kernel_costs.specs.Sums.{SumsFit, with_cost}
-use Rattle.cv_kernel_costs.specs.declared.sums.Sums.{Sums}
+use Rattle.cv_bound.specs.costs.Costs.{advantage_of}
+use Rattle.cv_bound.specs.costs.Sums.{SumsFit, with_cost}
+use Rattle.cv_bound.specs.declared.costs.sums.Sums.{Sums}
 use Rattle.cv_kernel.specs.Sequences.{IsReduceAnswer, IsReduced, context_nodes, game_in, reduce_fault}
-use Rattle.cv_kernel.proofs.Pushes.{declarations-grown}
+use Rattle.cv_kernel_crypto.proofs.Growing.{declarations_grown}
 
 -- an accepted step leads to a well-formed game
-pub next-formed : (s : Scene) (e x : ℕ) (next : Tree) → IsOutcome s e x (outcome.Accepted next) → IsWellFormed s.declarations next
-next-formed s e x next w = formed s.declarations next (and_parts _ _ (accepted s e x next w).game).0
+pub next_formed : (s : Scene) (e x : ℕ) (next : Tree) → IsOutcome s e x (outcome.Accepted next) → IsWellFormed s.declarations next
+next_formed s e x next w = formed s.declarations next (and_parts _ _ (accepted s e x next w).game).0
 
 -- a game that is well-formed stays so while the pool grows
-pub formed-grown : (old new : PoolView) (d e : DeclsView) (t : Tree) → Grows old new → All (IsLive (length old.trees)) d.list → e ≡ d → IsWellFormed (declarations old.trees d.list) t → IsWellFormed (declarations new.trees e.list) t
-formed-grown old new d e t g a i w =
-    subst (λ ds. IsWellFormed ds t) (sym (ap (λ (v : DeclsView). declarations new.trees v.list) i ∙ declarations-grown old new d.list g a)) w
+pub formed_grown : (old new : PoolView) (d e : DeclsView) (t : Tree) → Grows old new → All (IsLive (length old.trees)) d.list → e ≡ d → IsWellFormed (declarations old.trees d.list) t → IsWellFormed (declarations new.trees e.list) t
+formed_grown old new d e t g a i w =
+    subst (λ ds. IsWellFormed ds t) (sym (ap (λ (v : DeclsView). declarations new.trees v.list) i ∙ declarations_grown old new d.list g a)) w
 
 -- sums with an advantage more
-pub advantage-fits : (sums : Sums) (step e : ℕ) → SumsFit sums → SumsFit (with_cost sums (advantage_of step e))
+pub advantage_fits : (sums : Sums) (step e : ℕ) → SumsFit sums → SumsFit (with_cost sums (advantage_of step e))
 unfolding with_terms
-advantage-fits sums step e h =
+advantage_fits sums step e h =
     let term : Experiment → Term = term.Advantage step (record { 0 = e }) in (
-      AllByRecursion-push Fits sums.plain (term Events) h.0 tt,
-      AllByRecursion-push Fits (sums.secret ++ term Real ∷ []) (term Random) (AllByRecursion-push Fits sums.secret (term Real) h.1 tt) tt,
+      AllByRecursion_push Fits sums.plain (term Events) h.0 tt,
+      AllByRecursion_push Fits (sums.secret ++ term Real ∷ []) (term Random) (AllByRecursion_push Fits sums.secret (term Real) h.1 tt) tt,
     )
 
 -- the answer of a step, as a sequence passes it on; the sequence looked up before what there is to read, so the scene may be that of
@@ -68,25 +68,25 @@ module _ (limit live : ℕ) (s t : Scene) (same : t ≡ s) (e x : ℕ) (trees : 
   passed (Ok u) fault i h = absurd i
   passed (Err y) fault i h = subst (λ u. Answer u (Err y)) same (subst (λ z. Answer t (Err z)) (sym i) h)
 
-  by-refusal : (fault : CryptoFault) → IsRefused (failure_of t e x) fault → Answer t (Err (reduce_fault fault))
-  by-refusal (crypto.Refused f) h = subst (λ o. IsOutcomeBy t (equivalence_of t e) x o (outcome.Refused f.condition f.place)) (sym h) refl
-  by-refusal (crypto.Build build.OutOfMemory) h = tt
-  by-refusal (crypto.Build (build.Full n)) h = absurd h
-  by-refusal (crypto.Build (build.Nodes n)) h = absurd h
-  by-refusal (crypto.Build (build.Depth n)) h = absurd h
+  by_refusal : (fault : CryptoFault) → IsRefused (failure_of t e x) fault → Answer t (Err (reduce_fault fault))
+  by_refusal (crypto.Refused f) h = subst (λ o. IsOutcomeBy t (equivalence_of t e) x o (outcome.Refused f.condition f.place)) (sym h) refl
+  by_refusal (crypto.Build build.OutOfMemory) h = tt
+  by_refusal (crypto.Build (build.Full n)) h = absurd h
+  by_refusal (crypto.Build (build.Nodes n)) h = absurd h
+  by_refusal (crypto.Build (build.Depth n)) h = absurd h
 
-  pub refused-answer : (r : Result (Unit {0}) PushError) (fault : CryptoFault) → IsErrAnd r (λ y. y ≡ reduce_fault fault) → IsRefused (failure_of t e x) fault → Answer s r
-  refused-answer r fault i h = passed r (reduce_fault fault) i (by-refusal fault h)
+  pub refused_answer : (r : Result (Unit {0}) PushError) (fault : CryptoFault) → IsErrAnd r (λ y. y ≡ reduce_fault fault) → IsRefused (failure_of t e x) fault → Answer s r
+  refused_answer r fault i h = passed r (reduce_fault fault) i (by_refusal fault h)
 
-  by-fault : (step : ℕ) (more : List KindTree) (fault : CryptoFault) → IsAnswer limit live t e x step more (Err fault) → Answer t (Err (reduce_fault fault))
-  by-fault step more (crypto.Refused f) h = h
-  by-fault step more (crypto.Build build.OutOfMemory) h = tt
-  by-fault step more (crypto.Build (build.Full n)) h = h
-  by-fault step more (crypto.Build (build.Nodes n)) h = h
-  by-fault step more (crypto.Build (build.Depth n)) h = h
+  by_fault : (step : ℕ) (more : List KindTree) (fault : CryptoFault) → IsAnswer limit live t e x step more (Err fault) → Answer t (Err (reduce_fault fault))
+  by_fault step more (crypto.Refused f) h = h
+  by_fault step more (crypto.Build build.OutOfMemory) h = tt
+  by_fault step more (crypto.Build (build.Full n)) h = h
+  by_fault step more (crypto.Build (build.Nodes n)) h = h
+  by_fault step more (crypto.Build (build.Depth n)) h = h
 
-  pub failed-answer : (step : ℕ) (more : List KindTree) (r : Result (Unit {0}) PushError) (fault : CryptoFault) → IsErrAnd r (λ y. y ≡ reduce_fault fault) → IsAnswer limit live t e x step more (Err fault) → Answer s r
-  failed-answer step more r fault i h = passed r (reduce_fault fault) i (by-fault step more fault h)
+  pub failed_answer : (step : ℕ) (more : List KindTree) (r : Result (Unit {0}) PushError) (fault : CryptoFault) → IsErrAnd r (λ y. y ≡ reduce_fault fault) → IsAnswer limit live t e x step more (Err fault) → Answer s r
+  failed_answer step more r fault i h = passed r (reduce_fault fault) i (by_fault step more fault h)
 
   module _ (step : ℕ) (next : Next) (game : game_in trees new ≡ tree_at trees (Some next.game.root)) (w : IsApplied limit live t e x step trees next) where
     nodes : nodes_of w.context ≡ context_nodes t x (equivalence_of t e)

@@ -11,10 +11,10 @@ use Rattle.cv_syntax.specs.PoolTrees.{tree_at}
 use Rattle.cv_directory.specs.Definitions.{entries_of, large_in}
 use Rattle.cv_directory_sorts.specs.Sites.{sites_of}
 use Rattle.cv_directory.specs.Tables.{entries_in}
-use Rattle.cv_kernel_games.specs.declared.testing.Next.{Next}
+use Rattle.cv_kernel_crypto.specs.declared.games.testing.Next.{Next}
 use Rattle.cv_typing_rules.specs.Signature.{OfGame}
 use Rattle.cv_typing.specs.Tables.{arrays_of, directory_in}
-use Rattle.cv_scenes.specs.Terms.{is_game}
+use Rattle.cv_scene.specs.Terms.{is_game}
 use Rattle.cv_rule.specs.Prepared.{IsPrepared}
 use Rattle.cv_steps_laws.proofs.Keeping.{formed}
 use Rattle.cv_kernel.specs.declared.error.PushError.{PushError}

@@ -6,7 +6,7 @@ use Rattle.cv_syntax_trees.specs.declared.head.Head.TheVariants as head
 use Rattle.cv_syntax_trees.specs.Tree.{Tree, Empty, Node, first, second}
 use Rattle.cv_script.specs.Views.{StepItems, items_of_step, name_in, number_in, part_in, adds_in, tree_in, ◌>>=◌}
 use Rattle.cv_kernel.specs.Steps.{AreShort, IsShort}
-use Rattle.cv_kernel.proofs.Nodes.{first-nodes, nodes-node, second-nodes}
+use Rattle.cv_kernel.proofs.Nodes.{first_nodes, nodes_node, second_nodes}
 
 abbrev Short : Option StepItems → Type 0
 Short o = IfSome o AreShort
@@ -22,19 +22,19 @@ part_bind (Node h a b) f l k = k (Node h a b) l
 
 module _ (h : Head) (a b : Tree) (l : IsShort (Node h a b)) where
   below : IsShort b
-  below = omega (arith, l, nodes-node h a b)
+  below = omega (arith, l, nodes_node h a b)
 
   below_first : IsShort (first b)
-  below_first = omega (arith, l, nodes-node h a b, first-nodes b)
+  below_first = omega (arith, l, nodes_node h a b, first_nodes b)
 
   below_second : IsShort (second b)
-  below_second = omega (arith, l, nodes-node h a b, second-nodes b)
+  below_second = omega (arith, l, nodes_node h a b, second_nodes b)
 
   deep_first : IsShort (first (second b))
-  deep_first = omega (arith, l, nodes-node h a b, second-nodes b, first-nodes (second b))
+  deep_first = omega (arith, l, nodes_node h a b, second_nodes b, first_nodes (second b))
 
   deep : IsShort (second (second b))
-  deep = omega (arith, l, nodes-node h a b, second-nodes b, second-nodes (second b))
+  deep = omega (arith, l, nodes_node h a b, second_nodes b, second_nodes (second b))
 
 pub short_items : (t : Tree) → IsShort t → IfSome (items_of_step t) AreShort
 short_items Empty l = tt

@@ -3,14 +3,14 @@ use Rattle.std.specs.Prelude.{◌≡◌, ℕ, ◌+◌, ◌<◌, ◌≤◌, Bool,
 use Rattle.cv_pool.specs.KindTree.{KindTree}
 use Rattle.cv_syntax.specs.declared.work.BuildError.TheVariants as build
 use Rattle.cv_syntax.specs.PoolTrees.{tree_at}
-use Rattle.cv_scenes.specs.Scenes.{Scene}
+use Rattle.cv_scene.specs.Scenes.{Scene}
 use Rattle.cv_steps.specs.Costs.{cost_of}
 use Rattle.cv_steps.specs.Judgements.{Judgement, Refused, TooLarge, TooDeep, Accepted}
 use Rattle.cv_steps.specs.Steps.{Cost, Leads, Zero}
-use Rattle.cv_draw.specs.Plans.{failed, failure_of}
+use Rattle.cv_edit_places.specs.Plans.{failed, failure_of}
 use Rattle.cv_edit.specs.declared.edit.Edit.{Edit}
 use Rattle.cv_edit.specs.Edits.{CanBeMade, edited, need_of}
-use Rattle.cv_kernel_games.specs.declared.testing.Next.{Next}
+use Rattle.cv_kernel_crypto.specs.declared.games.testing.Next.{Next}
 use Rattle.cv_kernel.specs.declared.error.RuleError.{RuleError}
 use Rattle.cv_kernel.specs.declared.error.RuleError.TheVariants as rule
 use Rattle.cv_kernel.specs.Rules.{Rule}

@@ -5,13 +5,13 @@ use Rattle.cv_syntax_trees.specs.declared.head.Head.TheVariants.{SecretCertifica
 use Rattle.cv_syntax_trees.specs.Tree.{Tree, Node}
 use Rattle.cv_meaning.specs.Queries.{queries_in}
 use Rattle.cv_query_certificates.specs.Failures.{Failure, first_failure}
-use Rattle.cv_scenes.specs.Scenes.{Scene}
-use Rattle.cv_scenes.specs.Sights.{from_one}
+use Rattle.cv_scene.specs.Scenes.{Scene}
+use Rattle.cv_scene.specs.Sights.{from_one}
 use Rattle.cv_script.specs.Views.{StepItems, items_of_step}
 use Rattle.cv_script.specs.Views as items
 use Rattle.cv_steps.specs.Judgements.{Judgement, Accepted, Refused}
 use Rattle.cv_steps.specs.Steps.{Zero}
-use Rattle.cv_kernel_closed.specs.Queries.{is_among}
+use Rattle.cv_bound.specs.closings.Queries.{is_among}
 use Rattle.cv_kernel.specs.Steps.{judgement_at}
 
 -- a query by its number, from 1, and a certificate for it

@@ -4,10 +4,10 @@ use Rattle.cv_syntax_trees.specs.Declarations.{Declaration}
 use Rattle.cv_syntax_trees.specs.Tree.{Tree}
 use Rattle.cv_bound.specs.declared.cost.Cost.{Cost as SumCost}
 use Rattle.cv_bound.specs.declared.terms.Term.{Term}
-use Rattle.cv_kernel_costs.specs.declared.sums.Sums.{Sums}
-use Rattle.cv_kernel_costs.specs.Sums.{no_sums, sum_for, with_cost}
-use Rattle.cv_context_products.specs.Shapes.{Shape, shape_of}
-use Rattle.cv_scenes.specs.Scenes.{Scene}
+use Rattle.cv_bound.specs.declared.costs.sums.Sums.{Sums}
+use Rattle.cv_bound.specs.costs.Sums.{no_sums, sum_for, with_cost}
+use Rattle.cv_context.specs.products.Shapes.{Shape, shape_of}
+use Rattle.cv_scene.specs.Scenes.{Scene}
 use Rattle.cv_script.specs.Views.{StepItems, items_of_step}
 use Rattle.cv_script.specs.Views as items
 use Rattle.cv_steps.specs.Sequences.{scene}

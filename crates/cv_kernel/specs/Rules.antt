@@ -1,18 +1,18 @@
 -- The rules of steps: the step that items name, and for how many nodes the pool is asked where its conditions hold. This profile's own.
 use Rattle.std.specs.Prelude.{ℕ, Option, Some, None, option_and_then}
 use Rattle.cv_syntax_trees.specs.Tree.{Tree}
-use Rattle.cv_scenes.specs.Pruning.{Part, Then, Else, Branch}
+use Rattle.cv_scene.specs.Pruning.{Part, Then, Else, Branch}
 use Rattle.cv_script.specs.declared.views.Part.{Part as Written}
 use Rattle.cv_script.specs.declared.views.Part.TheVariants as written
 use Rattle.cv_script.specs.Views.{StepItems, items_of_step}
 use Rattle.cv_script.specs.Views as items
 use Rattle.cv_steps.specs.Elementary.{let_step, new_step, prune_step, rename_step, rewrite_step, split_step, unlet_step, unnew_step}
 use Rattle.cv_steps.specs.Steps.{Step}
-use Rattle.cv_draw.specs.Changes.{need_at}
-use Rattle.cv_draw.specs.Dropping.{need_without}
-use Rattle.cv_draw_pruning.specs.Bodies as pruning
-use Rattle.cv_draw_renaming.specs.Needs.{need_renaming}
-use Rattle.cv_draw_unletting.specs.Games.{need_unletting}
+use Rattle.cv_edit_places.specs.Changes.{need_at}
+use Rattle.cv_edit_places.specs.Dropping.{need_without}
+use Rattle.cv_edit_changes.specs.pruning.Bodies as pruning
+use Rattle.cv_edit_changes.specs.renaming.Needs.{need_renaming}
+use Rattle.cv_edit_changes.specs.unletting.Games.{need_unletting}
 use Rattle.cv_rule_merge.specs.Row.{merge_step, need_merging}
 use Rattle.cv_rule_move.specs.Steps.{move_step, need_moving}
 

@@ -3,7 +3,7 @@
 use Rattle.std.specs.Prelude.{◌≡◌, ℕ, List, Option, Some}
 use Rattle.cv_syntax_trees.specs.Tree.{Tree}
 use Rattle.cv_bound.specs.declared.cost.Cost.{Cost}
-use Rattle.cv_scenes.specs.Scenes.{Scene}
+use Rattle.cv_scene.specs.Scenes.{Scene}
 use Rattle.cv_script.specs.Views.{StepItems, items_of_step}
 use Rattle.cv_script.specs.Views as items
 use Rattle.cv_steps.specs.Costs.{cost_of}
@@ -11,7 +11,7 @@ use Rattle.cv_steps.specs.Judgements.{Judgement}
 use Rattle.cv_steps.specs.Judgements as judgement
 use Rattle.cv_steps_crypto.specs.Steps.{IsOutcome, Outcome}
 use Rattle.cv_steps_crypto.specs.Steps as outcome
-use Rattle.cv_kernel_costs.specs.Costs.{advantage_of}
+use Rattle.cv_bound.specs.costs.Costs.{advantage_of}
 use Rattle.cv_kernel.specs.Closings.{judgement_in}
 
 pub data Saying : Type 0 where

@@ -10,17 +10,17 @@ use Rattle.cv_syntax.specs.Declarations.{declarations}
 use Rattle.cv_scope_rules.specs.Phrases.{IsWellFormed}
 use Rattle.cv_bound.specs.declared.cost.Cost.TheVariants as bound
 use Rattle.cv_query_certificates.specs.Failures.{Failure}
-use Rattle.cv_rule_scenes.specs.Kept.{scene_of}
+use Rattle.cv_scene_view.specs.Kept.{scene_of}
 use Rattle.cv_rule.specs.Prepared.{IsPrepared}
 use Rattle.cv_steps.specs.Costs.{cost_of}
 use Rattle.cv_steps.specs.Judgements.{Judgement, Refused, TooLarge, TooDeep, Accepted}
-use Rattle.cv_syntax_limits.specs.Limits.{most_nodes, nodes_of}
+use Rattle.cv_syntax.specs.limits.Limits.{most_nodes, nodes_of}
 use Rattle.cv_steps.specs.Steps.{Cost}
-use Rattle.cv_kernel_closed.specs.Queries.{numbers_of}
-use Rattle.cv_context_products.specs.Shapes.{shape_of}
-use Rattle.cv_context_products.specs.ShapesInCode.{shape_in}
-use Rattle.cv_scenes.specs.Reductions.{context_of_game}
-use Rattle.cv_scenes.specs.Scenes.{Scene}
+use Rattle.cv_bound.specs.closings.Queries.{numbers_of}
+use Rattle.cv_context.specs.products.Shapes.{shape_of}
+use Rattle.cv_context.specs.products.ShapesInCode.{shape_in}
+use Rattle.cv_scene.specs.Reductions.{context_of_game}
+use Rattle.cv_scene.specs.Scenes.{Scene}
 use Rattle.cv_script.specs.Views.{StepItems, items_of_step}
 use Rattle.cv_script.specs.Views as items
 use Rattle.cv_steps_crypto.specs.Conditions.{equivalence_of}
@@ -30,8 +30,8 @@ use Rattle.cv_kernel_crypto.specs.Applied as applied
 use Rattle.cv_kernel_crypto.specs.declared.fault.CryptoFault.{CryptoFault}
 use Rattle.cv_kernel_crypto.specs.declared.fault.CryptoFault.TheVariants as crypto
 use Rattle.cv_kernel.specs.Closings.{Closing, closing_failure, is_of_secrecy}
-use Rattle.cv_kernel_costs.specs.Costs.{advantage_of}
-use Rattle.cv_kernel_costs.specs.Sums.{SumsFit, sum_for, with_cost}
+use Rattle.cv_bound.specs.costs.Costs.{advantage_of}
+use Rattle.cv_bound.specs.costs.Sums.{SumsFit, sum_for, with_cost}
 use Rattle.cv_kernel.specs.Answers.{HasNoRoom}
 use Rattle.cv_kernel.specs.Rules.{Rule, needed_by, rule_in}
 use Rattle.cv_kernel.specs.Steps.{judgement_by}

@@ -1,8 +1,8 @@
 -- What is said of the tree of a step in a game. This profile's own.
 use Rattle.std.specs.Prelude.{◌<◌, ◌^◌, Option, Some, None}
 use Rattle.cv_syntax_trees.specs.Tree.{Tree}
-use Rattle.cv_syntax_limits.specs.Limits.{nodes_of}
-use Rattle.cv_scenes.specs.Scenes.{Scene}
+use Rattle.cv_syntax.specs.limits.Limits.{nodes_of}
+use Rattle.cv_scene.specs.Scenes.{Scene}
 use Rattle.cv_script.specs.Views.{StepItems}
 use Rattle.cv_script.specs.Views as items
 use Rattle.cv_steps.specs.Judgements.{Judgement, Refused, judgement_of}

@@ -6,8 +6,8 @@ ghost use Rattle.cv_syntax.specs.PoolTrees.{tree_at};
 ghost use Rattle.cv_directory.specs.Live.{IsLive};
 ghost use Rattle.cv_steps.specs.Judgements.{judgement_of_row};
 ghost use Rattle.cv_steps.specs.Steps.{Leads, Zero as NoCost};
-ghost use Rattle.cv_scenes.specs.Terms as terms;
-ghost use Rattle.cv_rule_scenes.specs.Kept.{scene_of};
+ghost use Rattle.cv_scene.specs.Terms as terms;
+ghost use Rattle.cv_scene_view.specs.Kept.{scene_of};
 ghost use Rattle.cv_rule.specs.Prepared.{IsPrepared};
 ghost use Rattle.cv_edit.specs.Edits.{CanBeMade, edited, need_of};
 ghost use Rattle.cv_script.specs.Views.{AreLive, items_of_view};
@@ -18,11 +18,11 @@ ghost use Rattle.cv_bound.specs.declared.cost.Cost.TheVariants.{Zero};
 
 use crate::error::RuleError;
 use crate::planning::{plan, refused};
-use cv_edit::{Edit, draw, measure};
-use cv_kernel_games::{Next, next_at};
+use cv_edit::{Edit, make_game, measure};
+use cv_kernel_crypto::games::{Next, next_at};
 use cv_script::StepView;
+use cv_syntax::limits::check_limits;
 use cv_syntax::{BuildError, NodeId, Work};
-use cv_syntax_limits::check_limits;
 use cv_typing::Arrays;
 use std::alloc::Global;
 
@@ -81,7 +81,7 @@ fn make(
     };
     let extent = measure(alloc, &work.pool, game, directory, edit)?;
     check_limits(extent)?;
-    let Some(root) = draw(alloc, &mut work.pool, game, directory, edit)? else {
+    let Some(root) = make_game(alloc, &mut work.pool, game, directory, edit)? else {
         return Err(refused(9));
     };
     game_at(alloc, work, root)

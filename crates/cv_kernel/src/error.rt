@@ -1,4 +1,4 @@
-use cv_draw::Failure;
+use cv_edit_places::Failure;
 use cv_kernel_crypto::CryptoFault;
 use cv_syntax::BuildError;
 use std::alloc::AllocError;

@@ -11,6 +11,6 @@ mod rooms;
 mod sequence;
 
 pub use closing::{Closing, closing_of};
-pub use cv_kernel_games::Next;
+pub use cv_kernel_crypto::games::Next;
 pub use error::{PushError, Refusal, RuleError};
 pub use sequence::Sequence;

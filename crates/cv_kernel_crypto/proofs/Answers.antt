@@ -8,16 +8,16 @@ use Rattle.cv_syntax_trees.specs.Declarations.{Declaration}
 use Rattle.cv_syntax_trees.specs.Tree.{Tree, size}
 use Rattle.cv_syntax.specs.PoolTrees.{tree_at}
 use Rattle.cv_bound.specs.declared.cost.Cost.TheVariants as bound
-use Rattle.cv_scenes.specs.Reductions.{context_of_game}
-use Rattle.cv_scenes.specs.Scenes.{Scene}
-use Rattle.cv_kernel_games.specs.declared.testing.Next.{Next}
+use Rattle.cv_scene.specs.Reductions.{context_of_game}
+use Rattle.cv_scene.specs.Scenes.{Scene}
+use Rattle.cv_kernel_crypto.specs.declared.games.testing.Next.{Next}
 use Rattle.cv_steps_crypto.specs.Conditions.{failure_of}
 use Rattle.cv_steps_crypto.specs.Steps.{Accepted, IsOutcome, Refused, is_next, reduction_of}
 use Rattle.cv_kernel_crypto.specs.declared.fault.CryptoFault.{CryptoFault}
 use Rattle.cv_kernel_crypto.specs.declared.fault.Failure.{Failure as CryptoFailure}
 use Rattle.cv_kernel_crypto.specs.declared.fault.CryptoFault.TheVariants as crypto
 use Rattle.cv_kernel_crypto.specs.Applied.{IsAnswer, IsContext, IsFaultOf, IsFew}
-use Rattle.cv_syntax_limits.specs.Limits.{nodes_of}
+use Rattle.cv_syntax.specs.limits.Limits.{nodes_of}
 use Rattle.cv_kernel_crypto.specs.Faults.{IsNoNext}
 use Rattle.cv_kernel_crypto.specs.Stages.{IsBuiltAt}
 use Rattle.cv_kernel_crypto.proofs.Outcomes.{accepted, refused}

@@ -7,14 +7,14 @@ use Rattle.cv_syntax.specs.Classes.{DeclsView}
 use Rattle.cv_syntax_trees.specs.Tree.{Tree}
 use Rattle.cv_syntax.specs.PoolTrees.{tree_at}
 use Rattle.cv_meaning_contexts.specs.Groups.{Right, side_group}
-use Rattle.cv_rule_scenes.specs.Kept.{scene_of}
-use Rattle.cv_scenes.specs.Reductions.{Reduction, context_of_game}
-use Rattle.cv_scenes.specs.Scenes.{Scene}
-use Rattle.cv_context_answers.specs.Drawn.{draws, finds}
-use Rattle.cv_inline_games.specs.NextGame.{next_of}
-use Rattle.cv_inline_names.specs.Fresh.{IsDrawnFor}
-use Rattle.cv_inline_reductions.specs.Tables.{labels}
-use Rattle.cv_inline_taken.specs.Taken.{taken_names}
+use Rattle.cv_scene_view.specs.Kept.{scene_of}
+use Rattle.cv_scene.specs.Reductions.{Reduction, context_of_game}
+use Rattle.cv_scene.specs.Scenes.{Scene}
+use Rattle.cv_match_laws.specs.answers.Drawn.{draws, finds}
+use Rattle.cv_inline.specs.NextGame.{next_of}
+use Rattle.cv_inline_draws.specs.names.Fresh.{IsDrawnFor}
+use Rattle.cv_steps_crypto.specs.reductions.Tables.{labels}
+use Rattle.cv_inline_draws.specs.taken_names.Taken.{taken_names}
 use Rattle.cv_meaning_contexts.specs.Inlined.{Drawn}
 use Rattle.cv_steps_crypto.specs.Conditions.{equivalence_of}
 use Rattle.cv_inline_walk.specs.Made.{IsTreeAt}
@@ -23,10 +23,10 @@ use Rattle.cv_steps_crypto.specs.Steps.{IsNextGame, reduction_of}
 use Rattle.cv_kernel_crypto.specs.declared.inlining.Inlining.{Inlining}
 use Rattle.cv_kernel_crypto.specs.declared.instances.Instances.{Instances}
 use Rattle.cv_kernel_crypto.specs.Applied.{IsDrawn, IsDrawnWith}
-use Rattle.cv_syntax_limits.specs.Limits.{nodes_of}
+use Rattle.cv_syntax.specs.limits.Limits.{nodes_of}
 use Rattle.cv_kernel_crypto.specs.Stages.{AreInstances, HasContext, IsBuiltAt, IsInlining, IsMet}
 use Rattle.cv_kernel_crypto.proofs.Reduced.{functions_same}
-use Rattle.cv_kernel_crypto.proofs.Growing.{root-grown}
+use Rattle.cv_kernel_crypto.proofs.Growing.{root_grown}
 use Rattle.cv_kernel_crypto.proofs.Inlined.{next_made}
 use Rattle.cv_kernel_crypto.proofs.Outcomes.{is_context, is_drawn}
 
@@ -43,8 +43,8 @@ module _ (old mid : PoolView) (decls : DeclsView) (game context : NodeId) (x : �
   -- the context stands behind the game
   pub context_stands : Grows old mid → game.0 < length old.trees → AreInstances old.trees s game x i → tree_at mid.trees (Some context) ≡ (context_of_game r).game → HasContext mid.trees r game context i
   context_stands g l a e = record {
-    game = root-grown old mid game g l;
-    equivalence = root-grown old mid i.tree g a.live;
+    game = root_grown old mid game g l;
+    equivalence = root_grown old mid i.tree g a.live;
     context = e;
     functions = functions_same old.trees s t x i.sites.items (Some game) a.sites;
   }

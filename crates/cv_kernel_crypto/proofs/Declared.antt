@@ -12,10 +12,10 @@ use Rattle.cv_syntax_trees.specs.Declarations.{Declaration}
 use Rattle.cv_syntax.specs.Declarations.{declarations, declared}
 use Rattle.cv_syntax_trees.specs.Tree.{Tree, Empty, Node}
 use Rattle.cv_typing_rules.specs.Signature.{declaration_of}
-use Rattle.cv_typing.proofs.Bridges.{declaration-same}
-use Rattle.cv_scenes.specs.Scenes.{is_type_by}
-use Rattle.cv_rule_scenes.specs.Kept.{is_type_class}
-use Rattle.cv_rule_scenes.proofs.Tested.{type-same}
+use Rattle.cv_typing.proofs.Bridges.{declaration_same}
+use Rattle.cv_scene.specs.Scenes.{is_type_by}
+use Rattle.cv_scene_view.specs.Kept.{is_type_class}
+use Rattle.cv_scene_view.proofs.Tested.{type_same}
 use Rattle.cv_kernel_crypto.specs.declared.sorts.Role.{Role}
 use Rattle.cv_kernel_crypto.specs.declared.sorts.Role.TheVariants.{OfParameter, OfType}
 use Rattle.cv_kernel_crypto.specs.Roles.{binds_one, is_of, is_parameter_class}
@@ -36,13 +36,13 @@ parameter_by trees (Some (decl.Equiv id n)) = refl
 parameter_by trees (Some (decl.Query n)) = refl
 
 pub parameter_same : (trees : List KindTree) (ds : List Decl) (n : ℕ) (k : Class) → k ≡ class_in ds n → is_parameter_class k ≡ is_parameter (declarations trees ds) n
-parameter_same trees ds n k e = ap is_parameter_class e ∙ (parameter_by trees (declaration_in ds n) ∙ ap is_parameter_by (sym (declaration-same trees ds n)))
+parameter_same trees ds n k e = ap is_parameter_class e ∙ (parameter_by trees (declaration_in ds n) ∙ ap is_parameter_by (sym (declaration_same trees ds n)))
 
 -- a name, by its role
 
 pub type_declared : (trees : List KindTree) (ds : List Decl) (x : ℕ) (k : Class) (r : Role) (b : Bool) → r ≡ OfType → (x == 0) ≡ false → k ≡ class_in ds x → b ≡ is_type_class k → b ≡ is_of (declarations trees ds) r x
 type_declared trees ds x k r b i e f g =
-    g ∙ (type-same trees ds x k f ∙ (ap (λ c. c || is_type_by (declaration_of (declarations trees ds) x)) (sym e) ∙ ap (λ q. is_of (declarations trees ds) q x) (sym i)))
+    g ∙ (type_same trees ds x k f ∙ (ap (λ c. c || is_type_by (declaration_of (declarations trees ds) x)) (sym e) ∙ ap (λ q. is_of (declarations trees ds) q x) (sym i)))
 
 pub parameter_declared : (trees : List KindTree) (ds : List Decl) (x : ℕ) (k : Class) (r : Role) (b : Bool) → r ≡ OfParameter → k ≡ class_in ds x → b ≡ is_parameter_class k → b ≡ is_of (declarations trees ds) r x
 parameter_declared trees ds x k r b i f g = g ∙ (parameter_same trees ds x k f ∙ ap (λ q. is_of (declarations trees ds) q x) (sym i))

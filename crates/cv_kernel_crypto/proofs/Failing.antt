@@ -11,10 +11,10 @@ use Rattle.cv_syntax.specs.Declarations.{declared}
 use Rattle.cv_syntax_trees.specs.Tree.{Tree}
 use Rattle.cv_syntax.specs.PoolTrees.{tree_at}
 use Rattle.cv_typing_rules.specs.Signature.{declaration_of}
-use Rattle.cv_scenes.specs.Contexts.{matching_of}
-use Rattle.cv_scenes.specs.Refusals.{Refusal, first_refusal}
-use Rattle.cv_scenes.specs.Scenes.{names}
-use Rattle.cv_rule_scenes.specs.Kept.{scene_of}
+use Rattle.cv_scene.specs.Contexts.{matching_of}
+use Rattle.cv_scene.specs.Refusals.{Refusal, first_refusal}
+use Rattle.cv_scene.specs.Scenes.{names}
+use Rattle.cv_scene_view.specs.Kept.{scene_of}
 use Rattle.cv_match.specs.declared.fault.MatchFault.{MatchFault}
 use Rattle.cv_match.specs.declared.fault.MatchFault.TheVariants as match
 use Rattle.cv_match.specs.Matched.{IsFault}

@@ -9,18 +9,18 @@ use Rattle.cv_syntax.specs.PoolTrees.{tree_at}
 use Rattle.cv_meaning_contexts.specs.Groups.{Left, side_group}
 use Rattle.cv_group_rules.specs.Faults.{SameShape}
 use Rattle.cv_match.specs.Matched as matched
-use Rattle.cv_match_patterns.specs.Sites.{HasInstance, site_in}
-use Rattle.cv_match_patterns.specs.declared.site.Site.{Site}
-use Rattle.cv_rule_scenes.specs.Kept.{scene_of}
-use Rattle.cv_scenes.specs.Contexts.{matching_of}
-use Rattle.cv_scenes.specs.Instances.{Matching}
-use Rattle.cv_scenes.specs.Scenes.{Scene}
-use Rattle.cv_scenes.specs.Sites.{sites_of}
+use Rattle.cv_match_terms.specs.patterns.Sites.{HasInstance, site_in}
+use Rattle.cv_match_terms.specs.declared.patterns.site.Site.{Site}
+use Rattle.cv_scene_view.specs.Kept.{scene_of}
+use Rattle.cv_scene.specs.Contexts.{matching_of}
+use Rattle.cv_scene.specs.Instances.{Matching}
+use Rattle.cv_scene.specs.Scenes.{Scene}
+use Rattle.cv_scene.specs.Sites.{sites_of}
 use Rattle.cv_context.specs.Roles.{AreSitesOf, IsLiveCall}
-use Rattle.cv_context_apt.proofs.Terms.{only_terms}
-use Rattle.cv_context_terms.proofs.Bodies.{left_terms}
-use Rattle.cv_inline_callings.specs.RightFunctions.{HasRightFunctions}
-use Rattle.cv_inline_callings.proofs.Agreement.{have_functions}
+use Rattle.cv_context_runs.proofs.instances.Terms.{only_terms}
+use Rattle.cv_match_laws.proofs.functions.Bodies.{left_terms}
+use Rattle.cv_inline_draws.specs.callings.RightFunctions.{HasRightFunctions}
+use Rattle.cv_inline_draws.proofs.callings.Agreement.{have_functions}
 use Rattle.cv_kernel_crypto.specs.Applied.{HasEquivalences}
 use Rattle.cv_kernel_crypto.proofs.Failing.{node_named}
 

@@ -5,15 +5,15 @@ use Rattle.cv_pool.specs.declared.node.NodeId.{NodeId}
 use Rattle.cv_syntax.specs.PoolTrees.{tree_at}
 use Rattle.cv_meaning_contexts.specs.Groups.{Right, side_group}
 use Rattle.cv_meaning_contexts.specs.Inlined.{Drawn}
-use Rattle.cv_match_patterns.specs.declared.site.Site.{Site}
-use Rattle.cv_scenes.specs.Reductions.{Reduction, context_of_game}
-use Rattle.cv_context_answers.specs.Drawn.{callings, draws, finds}
-use Rattle.cv_inline_games.specs.Draws.{draws_of, label_draws, labels_from, labels_in}
-use Rattle.cv_inline_games.specs.NextGame as game
-use Rattle.cv_inline_games.specs.NextGame.{callings_from, next_in}
-use Rattle.cv_inline_names.specs.Fresh.{IsDrawnFor}
-use Rattle.cv_inline_reductions.specs.Tables.{labels}
-use Rattle.cv_inline_terms.specs.Drawings.{drawn_in}
+use Rattle.cv_match_terms.specs.declared.patterns.site.Site.{Site}
+use Rattle.cv_scene.specs.Reductions.{Reduction, context_of_game}
+use Rattle.cv_match_laws.specs.answers.Drawn.{callings, draws, finds}
+use Rattle.cv_inline.specs.Draws.{draws_of, label_draws, labels_from, labels_in}
+use Rattle.cv_inline.specs.NextGame as game
+use Rattle.cv_inline.specs.NextGame.{callings_from, next_in}
+use Rattle.cv_inline_draws.specs.names.Fresh.{IsDrawnFor}
+use Rattle.cv_steps_crypto.specs.reductions.Tables.{labels}
+use Rattle.cv_inline.specs.terms.Drawings.{drawn_in}
 use Rattle.cv_inline_walk.specs.Steps.{next_tree}
 use Rattle.cv_kernel_crypto.specs.declared.inlining.Inlining.{Inlining}
 use Rattle.cv_kernel_crypto.specs.declared.instances.Instances.{Instances}

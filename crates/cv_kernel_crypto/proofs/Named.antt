@@ -6,11 +6,11 @@ use Rattle.std.proofs.lemmas.List.Elements.{All-head, All-tail}
 use Rattle.cv_syntax_trees.specs.declared.head.Head.{Head}
 use Rattle.cv_syntax_trees.specs.declared.head.Head.TheVariants.{Binder, Call, Key, Leaf, Let, Name, New, Read, Repl}
 use Rattle.cv_syntax_trees.specs.Tree.{Tree, Empty, Node}
-use Rattle.cv_scenes.specs.Scenes.{head_names, names}
-use Rattle.cv_context_answers.specs.Answers.{above_head, above_names}
-use Rattle.cv_inline_names.specs.Texts.{is_listed}
-use Rattle.cv_inline_reductions.specs.Tables.{HasNamesBelow}
-use Rattle.cv_inline_taken.specs.Taken.{taken_names}
+use Rattle.cv_scene.specs.Scenes.{head_names, names}
+use Rattle.cv_match_laws.specs.answers.Answers.{above_head, above_names}
+use Rattle.cv_inline_draws.specs.names.Texts.{is_listed}
+use Rattle.cv_steps_crypto.specs.reductions.Tables.{HasNamesBelow}
+use Rattle.cv_inline_draws.specs.taken_names.Taken.{taken_names}
 use Rattle.cv_steps_crypto.specs.Steps.{first_answer}
 use Rattle.cv_kernel_crypto.specs.Stages.{AreTakenNames}
 

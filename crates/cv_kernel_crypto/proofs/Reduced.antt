@@ -4,16 +4,16 @@ use Rattle.std.proofs.lemmas.List.{length-map}
 use Rattle.cv_pool.specs.KindTree.{KindTree}
 use Rattle.cv_pool.specs.declared.node.NodeId.{NodeId}
 use Rattle.cv_syntax_trees.specs.Tree.{Tree}
-use Rattle.cv_match_patterns.specs.declared.site.Site.{Site}
-use Rattle.cv_match_patterns.specs.Sites.{site_in}
-use Rattle.cv_scenes.specs.Scenes.{Scene}
-use Rattle.cv_scenes.specs.Contexts.{context_of, matching_of}
-use Rattle.cv_scenes.specs.Reductions.{context_of_game}
-use Rattle.cv_scenes.specs.Sites.{sites_of}
-use Rattle.cv_scenes.specs.Sites as instances
+use Rattle.cv_match_terms.specs.declared.patterns.site.Site.{Site}
+use Rattle.cv_match_terms.specs.patterns.Sites.{site_in}
+use Rattle.cv_scene.specs.Scenes.{Scene}
+use Rattle.cv_scene.specs.Contexts.{context_of, matching_of}
+use Rattle.cv_scene.specs.Reductions.{context_of_game}
+use Rattle.cv_scene.specs.Sites.{sites_of}
+use Rattle.cv_scene.specs.Sites as instances
 use Rattle.cv_context.specs.Roles.{AreSitesOf, name_at}
-use Rattle.cv_context_answers.specs.Answers.{above_names, answer_above}
-use Rattle.cv_context_calls.proofs.Alike.{alike_contexts}
+use Rattle.cv_match_laws.specs.answers.Answers.{above_names, answer_above}
+use Rattle.cv_context_laws.proofs.calls.Alike.{alike_contexts}
 use Rattle.cv_steps_crypto.specs.Steps.{first_answer, reduction_of}
 
 module _ (trees : List KindTree) (s : Scene) (e : Tree) (x : ℕ) (sites : List Site) (root : Option NodeId) (a : AreSitesOf trees s e x sites root) where

@@ -6,12 +6,8 @@ use Rattle.cv_syntax.specs.declared.make.Make.TheVariants.{Nothing, Over}
 use Rattle.cv_syntax.specs.Planting.{overs}
 use Rattle.cv_syntax.specs.Postorder.{postorder}
 use Rattle.cv_syntax_trees.specs.Tree.{Tree, Empty, Node}
-use Rattle.cv_syntax_limits.specs.Limits.{nodes_of}
-
-overs_both : (xs ys : List Make) → overs (xs ++ ys) ≡ overs xs + overs ys
-overs_both [] ys = omega arith
-overs_both (Nothing ∷ xs) ys = overs_both xs ys
-overs_both (Over h ∷ xs) ys = omega (arith, overs_both xs ys)
+use Rattle.cv_syntax.specs.limits.Limits.{nodes_of}
+use Rattle.cv_syntax.proofs.listing.Lists.{overs_append}
 
 pub nodes_empty : (t : Tree) → t ≡ Empty → nodes_of t ≡ 0
 unfolding postorder
@@ -19,4 +15,4 @@ nodes_empty t e = ap nodes_of e
 
 pub nodes_node : (t : Tree) (h : Head) (a b : Tree) → t ≡ Node h a b → nodes_of t ≡ nodes_of a + nodes_of b + 1
 unfolding postorder
-nodes_node t h a b e = ap nodes_of e ∙ omega (arith, overs_both (postorder a) (postorder b ++ Over h ∷ []), overs_both (postorder b) (Over h ∷ []))
+nodes_node t h a b e = ap nodes_of e ∙ omega (arith, overs_append (postorder a) (postorder b ++ Over h ∷ []), overs_append (postorder b) (Over h ∷ []))

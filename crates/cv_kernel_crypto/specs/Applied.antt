@@ -7,20 +7,20 @@ use Rattle.cv_syntax.specs.PoolTrees.{tree_at}
 use Rattle.cv_bound.specs.declared.cost.Cost.TheVariants as bound
 use Rattle.cv_meaning.specs.Interpretation.{is_constant_of}
 use Rattle.cv_group_rules.specs.Faults.{IsAccepted}
-use Rattle.cv_context_terms.specs.Forms.{HasLeftForm}
+use Rattle.cv_match_laws.specs.functions.Forms.{HasLeftForm}
 use Rattle.cv_meaning_contexts.specs.Inlined.{Drawn}
-use Rattle.cv_scenes.specs.Reductions.{Reduction, context_of_game}
-use Rattle.cv_scenes.specs.Scenes.{Scene}
-use Rattle.cv_syntax_limits.specs.Limits.{most_depth, most_nodes, nodes_of}
-use Rattle.cv_context_answers.specs.Drawn.{draws, finds}
-use Rattle.cv_inline_games.specs.NextGame.{next_of}
-use Rattle.cv_inline_names.specs.Fresh.{IsDrawnFor}
-use Rattle.cv_inline_reductions.specs.Tables.{labels}
-use Rattle.cv_inline_taken.specs.Taken.{taken_names}
+use Rattle.cv_scene.specs.Reductions.{Reduction, context_of_game}
+use Rattle.cv_scene.specs.Scenes.{Scene}
+use Rattle.cv_syntax.specs.limits.Limits.{most_depth, most_nodes, nodes_of}
+use Rattle.cv_match_laws.specs.answers.Drawn.{draws, finds}
+use Rattle.cv_inline.specs.NextGame.{next_of}
+use Rattle.cv_inline_draws.specs.names.Fresh.{IsDrawnFor}
+use Rattle.cv_steps_crypto.specs.reductions.Tables.{labels}
+use Rattle.cv_inline_draws.specs.taken_names.Taken.{taken_names}
 use Rattle.cv_steps_crypto.specs.Conditions.{equivalence_of, failure_of}
 use Rattle.cv_steps_crypto.specs.Steps.{IsNextGame, IsOutcome, reduction_of}
 use Rattle.cv_steps_crypto.specs.Steps as outcome
-use Rattle.cv_kernel_games.specs.declared.testing.Next.{Next}
+use Rattle.cv_kernel_crypto.specs.declared.games.testing.Next.{Next}
 use Rattle.cv_kernel_crypto.specs.declared.fault.CryptoFault.{CryptoFault}
 use Rattle.cv_kernel_crypto.specs.declared.fault.CryptoFault.TheVariants as crypto
 

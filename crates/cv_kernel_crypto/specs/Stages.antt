@@ -6,17 +6,17 @@ use Rattle.cv_pool.specs.declared.node.NodeId.{NodeId}
 use Rattle.cv_syntax_trees.specs.Tree.{Tree, size}
 use Rattle.cv_syntax.specs.PoolTrees.{tree_at}
 use Rattle.cv_meaning_contexts.specs.Groups.{Right, side_group}
-use Rattle.cv_match_patterns.specs.declared.site.Site.{Site}
+use Rattle.cv_match_terms.specs.declared.patterns.site.Site.{Site}
 use Rattle.cv_context.specs.Roles.{AreSitesOf, IsLiveCall}
-use Rattle.cv_scenes.specs.Scenes.{Scene}
-use Rattle.cv_scenes.specs.Reductions.{Reduction, context_of_game}
-use Rattle.cv_inline_taken.specs.Taken.{taken_names}
-use Rattle.cv_inline_callings.specs.RightFunctions.{HasRightFunctions}
-use Rattle.cv_inline_listing.specs.Callings.{callings_in}
-use Rattle.cv_inline_reductions.specs.Tables.{GivesNextGame, HasNamesBelow}
-use Rattle.cv_inline_terms.specs.Drawings.{drawn_in}
-use Rattle.cv_context_answers.specs.Drawn.{callings}
-use Rattle.cv_syntax_limits.specs.Limits.{nodes_of}
+use Rattle.cv_scene.specs.Scenes.{Scene}
+use Rattle.cv_scene.specs.Reductions.{Reduction, context_of_game}
+use Rattle.cv_inline_draws.specs.taken_names.Taken.{taken_names}
+use Rattle.cv_inline_draws.specs.callings.RightFunctions.{HasRightFunctions}
+use Rattle.cv_inline_sites.specs.listing.Callings.{callings_in}
+use Rattle.cv_steps_crypto.specs.reductions.Tables.{GivesNextGame, HasNamesBelow}
+use Rattle.cv_inline.specs.terms.Drawings.{drawn_in}
+use Rattle.cv_match_laws.specs.answers.Drawn.{callings}
+use Rattle.cv_syntax.specs.limits.Limits.{nodes_of}
 use Rattle.cv_steps_crypto.specs.Conditions.{equivalence_of, failure_of}
 use Rattle.cv_steps_crypto.specs.Steps.{first_answer}
 use Rattle.cv_kernel_crypto.specs.declared.fault.CryptoFault.{CryptoFault}

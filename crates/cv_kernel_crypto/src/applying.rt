@@ -10,20 +10,20 @@ ghost use Rattle.cv_directory.specs.Tables.{entries_in};
 ghost use Rattle.cv_typing_rules.specs.Signature.{OfGame};
 ghost use Rattle.cv_typing.specs.Tables.{arrays_of, directory_in};
 ghost use Rattle.cv_scope_rules.specs.Phrases.{IsWellFormed};
-ghost use Rattle.cv_rule_scenes.specs.Kept.{scene_of};
+ghost use Rattle.cv_scene_view.specs.Kept.{scene_of};
 ghost use Rattle.cv_kernel_crypto.specs.Applied.{DrawsNext, IsAnswer, IsFew};
 ghost use Rattle.cv_kernel_crypto.specs.Stages.{AreInstances, AreTakenNames, IsBuilt, IsMet};
 
 use crate::contexts::context_for;
 use crate::fault::CryptoFault;
+use crate::games::{Next, settle, settle_names};
 use crate::inlining::inlining_for;
 use crate::instances::Instances;
 use crate::naming::names_for;
 use crate::room::{check_room, room_behind};
 use crate::testing::tested;
+use cv_bound::costs::advantage;
 use cv_inline_walk::next_game;
-use cv_kernel_costs::advantage;
-use cv_kernel_games::{Next, settle, settle_names};
 use cv_syntax::{NodeId, Work};
 use std::alloc::Global;
 

@@ -2,17 +2,17 @@ ghost use Rattle.std.specs.Prelude.{◌≡◌, ◌+◌, ◌<◌, ◌≤◌, ◌^
 ghost use Rattle.cv_pool.specs.PoolView.{Grows};
 ghost use Rattle.cv_syntax_trees.specs.Tree.{Tree, size};
 ghost use Rattle.cv_syntax.specs.PoolTrees.{tree_at};
-ghost use Rattle.cv_match_patterns.specs.declared.site.Site.{Site};
-ghost use Rattle.cv_scenes.specs.Scenes.{Scene};
-ghost use Rattle.cv_scenes.specs.Reductions.{context_of_game};
+ghost use Rattle.cv_match_terms.specs.declared.patterns.site.Site.{Site};
+ghost use Rattle.cv_scene.specs.Scenes.{Scene};
+ghost use Rattle.cv_scene.specs.Reductions.{context_of_game};
 ghost use Rattle.cv_context.specs.Roles.{AreSitesOf, IsLiveCall, name_at};
-ghost use Rattle.cv_context_answers.specs.Answers.{above_names};
+ghost use Rattle.cv_match_laws.specs.answers.Answers.{above_names};
 ghost use Rattle.cv_steps_crypto.specs.Steps.{first_answer, reduction_of};
-ghost use Rattle.cv_syntax_limits.specs.Limits.{nodes_of};
+ghost use Rattle.cv_syntax.specs.limits.Limits.{nodes_of};
 
 use crate::naming::FIRST_ANSWER;
 use cv_context::context;
-use cv_match_patterns::Site;
+use cv_match_terms::patterns::Site;
 use cv_syntax::{NodeId, Pool, PoolError};
 use std::alloc::{AllocError, Global};
 

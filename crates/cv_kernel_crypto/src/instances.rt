@@ -1,12 +1,11 @@
-ghost use Rattle.std.specs.Prelude.{◌≡◌, ◌<◌, ◌^◌, ◌||◌, All, IfErr, IfOk, Some, length};
+ghost use Rattle.std.specs.Prelude.{◌≡◌, ◌<◌, ◌^◌, All, IfErr, IfOk, Some, length};
 ghost use Rattle.cv_syntax_trees.specs.Tree.{size};
 ghost use Rattle.cv_syntax.specs.PoolTrees.{tree_at};
 ghost use Rattle.cv_directory.specs.Live.{IsLive};
 ghost use Rattle.cv_directory_sorts.specs.Sites.{sites_of};
 ghost use Rattle.cv_typing_rules.specs.Signature.{OfGame};
 ghost use Rattle.cv_typing.specs.Tables.{arrays_of};
-ghost use Rattle.cv_rule_scenes.specs.Kept.{scene_of};
-ghost use Rattle.cv_scenes.specs.Scenes as scenes;
+ghost use Rattle.cv_scene_view.specs.Kept.{scene_of};
 ghost use Rattle.cv_steps_crypto.specs.Conditions.{failure_of};
 ghost use Rattle.cv_kernel_crypto.specs.Applied.{HasEquivalences};
 ghost use Rattle.cv_kernel_crypto.specs.Faults.{IsRefused};
@@ -15,8 +14,8 @@ ghost use Rattle.cv_kernel_crypto.specs.Stages.{AreInstances, IsMet};
 use crate::fault::{CryptoFault, refused};
 use crate::naming::FIRST_ANSWER;
 use cv_match::matches;
-use cv_match_patterns::Site;
-use cv_rule_scenes::names;
+use cv_match_terms::patterns::Site;
+use cv_scene_view::is_known;
 use cv_syntax::children::room_left;
 use cv_syntax::{BuildError, Game, NameId, NodeId, Work};
 use cv_typing::Arrays;
@@ -27,15 +26,6 @@ use std::alloc::Global;
 pub struct Instances {
     pub(crate) tree: NodeId,
     pub(crate) sites: Vec<Site>,
-}
-
-/// Whether the file or the game has a name.
-fn is_there(work: &Work, game: NodeId, x: u32) -> bool
-    requires { game.0 < length work.now.pool.trees }
-    ensures { result ≡ ((scene_of work.now.pool work.now.decls game).known x
-        || scenes.names x (scene_of work.now.pool work.now.decls game).game) }
-{
-    x < work.decls.own() || names(&work.pool, x, Some(game))
 }
 
 /// The equivalence of a step with its sites in a game with these variables, by the names of the equivalence and of the variable
@@ -69,7 +59,7 @@ pub(crate) fn instances_for(
     let Some(_) = room_left(&work.pool, Some(tree), FIRST_ANSWER) else {
         return Err(CryptoFault::Build(BuildError::OutOfMemory));
     };
-    if !is_there(work, game, key) {
+    if !is_known(work, game, key) {
         return Err(refused(0, 0));
     }
     let found = matches(alloc, work, Game { root: game }, arrays, name, NameId(key))?;

@@ -4,6 +4,7 @@
 mod applying;
 mod contexts;
 mod fault;
+pub mod games;
 mod inlining;
 mod instances;
 mod naming;

@@ -2,8 +2,8 @@ ghost use Rattle.std.specs.Prelude.{◌≡◌, ◌<◌, ◌↔◌, All, IfOk, Is
 ghost use Rattle.cv_syntax.specs.PoolTrees.{tree_at};
 ghost use Rattle.cv_kernel_crypto.specs.Stages.{AreTakenNames};
 
-use cv_inline_reductions::taken_names_are_of_file_and_game;
-use cv_inline_taken::taken_names;
+use cv_inline_draws::taken_names::taken_names;
+use cv_steps_crypto::reductions::taken_names_are_of_file_and_game;
 use cv_syntax::{NodeId, Work};
 use std::alloc::{AllocError, Global};
 

@@ -1,7 +1,7 @@
 ghost use Rattle.std.specs.Prelude.{◌≡◌, ◌+◌, ◌<◌, ◌≤◌, ℕ, IfOk, IfSome, IsErrOf, OnOk, Some, length};
 ghost use Rattle.cv_pool.specs.Nodes.{ChildBelow};
 ghost use Rattle.cv_syntax.specs.PoolTrees.{tree_at};
-ghost use Rattle.cv_syntax_limits.specs.Limits.{nodes_of};
+ghost use Rattle.cv_syntax.specs.limits.Limits.{nodes_of};
 
 use cv_syntax::{NodeId, Pool, PoolError, read_node};
 use std::alloc::AllocError;

@@ -14,9 +14,9 @@ ghost use Rattle.cv_steps_crypto.specs.Steps.{is_next};
 ghost use Rattle.cv_kernel_crypto.specs.Faults.{IsNoNext, IsNotAsked};
 
 use crate::fault::{CryptoFault, refused};
+use crate::games::{Next, next_at};
 use crate::sorts::has_declared_sorts;
 use cv_bound::Cost;
-use cv_kernel_games::{Next, next_at};
 use cv_query_form::{QueryFault, check};
 use cv_syntax::{BuildError, Game, NodeId, Work};
 use cv_typing::Arrays;

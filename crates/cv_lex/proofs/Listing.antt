@@ -13,31 +13,31 @@ use Rattle.cv_lex.specs.View.{token_in, tokens_in, with_token, IsWhole}
 abbrev Within : ℕ → Entry → Type 0
 Within n e = (e.start ≤ e.end) × (e.end ≤ n)
 
-range-append : (buffer more : List ℕ) (start end : ℕ) → start ≤ end → end ≤ length buffer → slice_range (buffer ++ more) start end ≡ slice_range buffer start end
-range-append buffer more start end h k =
+range_append : (buffer more : List ℕ) (start end : ℕ) → start ≤ end → end ≤ length buffer → slice_range (buffer ++ more) start end ≡ slice_range buffer start end
+range_append buffer more start end h k =
     ap (take (end - start)) (drop-append-le start buffer more (omega arith))
     ∙ take-append-le (end - start) (drop start buffer) more (omega (arith, length-drop start buffer))
 
-token_in-append : (buffer more : List ℕ) (e : Entry) → Within (length buffer) e → token_in (buffer ++ more) e ≡ token_in buffer e
-token_in-append buffer more e h = ap (λ t. record { kind = e.kind; text = t; offset = e.offset }) (range-append buffer more e.start e.end h.0 h.1)
+token_in_append : (buffer more : List ℕ) (e : Entry) → Within (length buffer) e → token_in (buffer ++ more) e ≡ token_in buffer e
+token_in_append buffer more e h = ap (λ t. record { kind = e.kind; text = t; offset = e.offset }) (range_append buffer more e.start e.end h.0 h.1)
 
 -- a longer buffer has the same tokens
-pub tokens_in-append : (buffer more : List ℕ) (entries : List Entry) → All (Within (length buffer)) entries → tokens_in (buffer ++ more) entries ≡ tokens_in buffer entries
-tokens_in-append buffer more [] h = refl
-tokens_in-append buffer more (e ∷ es) h =
-    let first = token_in-append buffer more e (All-head (Within (length buffer)) e es h) in
-    let rest = tokens_in-append buffer more es (All-tail (Within (length buffer)) e es h) in
+pub tokens_in_append : (buffer more : List ℕ) (entries : List Entry) → All (Within (length buffer)) entries → tokens_in (buffer ++ more) entries ≡ tokens_in buffer entries
+tokens_in_append buffer more [] h = refl
+tokens_in_append buffer more (e ∷ es) h =
+    let first = token_in_append buffer more e (All-head (Within (length buffer)) e es h) in
+    let rest = tokens_in_append buffer more es (All-tail (Within (length buffer)) e es h) in
     λ i. first i ∷ rest i
 
 within_more : (buffer more : List ℕ) (entries : List Entry) → All (Within (length buffer)) entries → All (Within (length (buffer ++ more))) entries
 within_more buffer more entries h =
     All-weaker (Within (length buffer)) (Within (length (buffer ++ more))) (λ e w. (w.0, omega (arith, length-append buffer more, w.1))) entries h
 
-pub whole-append : (buffer more : List ℕ) (entries : List Entry) → IsWhole buffer entries → IsAscii more → IsWhole (buffer ++ more) entries
-whole-append buffer more entries w a = record {
+pub whole_append : (buffer more : List ℕ) (entries : List Entry) → IsWhole buffer entries → IsAscii more → IsWhole (buffer ++ more) entries
+whole_append buffer more entries w a = record {
   ascii = IsAscii-append buffer more w.ascii a;
   within = within_more buffer more entries w.within;
-  each = subst (All (λ t. IsToken t.kind t.text)) (sym (tokens_in-append buffer more entries w.within)) w.each;
+  each = subst (All (λ t. IsToken t.kind t.text)) (sym (tokens_in_append buffer more entries w.within)) w.each;
   few = w.few;
 }
 
@@ -52,21 +52,21 @@ module _ (buffer text : List ℕ) (entries : List Entry) (kind : TokenKind) (off
       let n : length buffer + length text - length buffer ≡ length text = omega arith in
       ap (λ t. record { kind = kind; text = t; offset = offset }) ((λ i. take (n i) (rest i)) ∙ take_all (length text) text (omega arith))
 
-  pub tokens_in-added : tokens_in (buffer ++ text) (entries ++ Added ∷ []) ≡ tokens_in buffer entries ++ record { kind = kind; text = text; offset = offset } ∷ []
-  tokens_in-added =
-      map_push (token_in (buffer ++ text)) entries Added ∙ (λ i. tokens_in-append buffer text entries w.within i ++ added_token i ∷ [])
+  pub tokens_in_added : tokens_in (buffer ++ text) (entries ++ Added ∷ []) ≡ tokens_in buffer entries ++ record { kind = kind; text = text; offset = offset } ∷ []
+  tokens_in_added =
+      map_push (token_in (buffer ++ text)) entries Added ∙ (λ i. tokens_in_append buffer text entries w.within i ++ added_token i ∷ [])
 
-  pub whole-added : IsToken kind text → IsAscii text → length entries + 1 < 4294967295 → IsWhole (buffer ++ text) (entries ++ Added ∷ [])
-  whole-added token a room = record {
+  pub whole_added : IsToken kind text → IsAscii text → length entries + 1 < 4294967295 → IsWhole (buffer ++ text) (entries ++ Added ∷ [])
+  whole_added token a room = record {
     ascii = IsAscii-append buffer text w.ascii a;
     within = All-push (Within (length (buffer ++ text))) entries Added (within_more buffer text entries w.within) (omega arith, omega (arith, length-append buffer text));
-    each = subst (All (λ t. IsToken t.kind t.text)) (sym tokens_in-added) (All-push (λ t. IsToken t.kind t.text) (tokens_in buffer entries) (record { kind = kind; text = text; offset = offset }) w.each token);
+    each = subst (All (λ t. IsToken t.kind t.text)) (sym tokens_in_added) (All-push (λ t. IsToken t.kind t.text) (tokens_in buffer entries) (record { kind = kind; text = text; offset = offset }) w.each token);
     few = omega (arith, length_push entries Added);
   }
 
 -- the last token stays the last
-pub with_token-append : (front : List Token) (last t : Token) → with_token (front ++ last ∷ []) t ≡ (front ++ t ∷ []) ++ last ∷ []
-with_token-append front last t =
+pub with_token_append : (front : List Token) (last t : Token) → with_token (front ++ last ∷ []) t ≡ (front ++ t ∷ []) ++ last ∷ []
+with_token_append front last t =
     let n : length (front ++ last ∷ []) - 1 ≡ length front = omega (arith, length_push front last) in
     (λ i. take (n i) (front ++ last ∷ []) ++ t ∷ drop (n i) (front ++ last ∷ []))
     ∙ (λ i. take_at front (last ∷ []) (length front) refl i ++ t ∷ drop_at front (last ∷ []) (length front) refl i)

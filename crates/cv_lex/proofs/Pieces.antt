@@ -36,8 +36,8 @@ comment_bounds (suc depth) at (a ∷ b ∷ bs) n =
 pub run_some : (p : ℕ → Bool) (b : ℕ) (bs : List ℕ) → p b ≡ true → 0 < prefix_len p (b ∷ bs)
 run_some p b bs e = rw e (omega arith)
 
-pub run-take : (p : ℕ → Bool) (bs : List ℕ) (n : ℕ) → prefix_len p bs ≡ n → prefix_len p (take n bs) ≡ n
-run-take p bs n e =
+pub run_take : (p : ℕ → Bool) (bs : List ℕ) (n : ℕ) → prefix_len p bs ≡ n → prefix_len p (take n bs) ≡ n
+run_take p bs n e =
     let within : n ≤ length bs = omega (arith, prefix_len-le-length p bs) in
     let whole : length (take n bs) ≡ n = length-take-le n bs within in
     prefix_len_is p (take n bs) n 0 (omega arith) (λ k h. rw (get_or-take n bs k 0 h) (prefix_len_passes p bs k 0 (omega arith))) (λ h. absurd (omega arith))
@@ -64,35 +64,35 @@ front_within [] bs e = omega arith
 front_within (a ∷ s) [] e = absurd (cc)
 front_within (a ∷ s) (b ∷ bs) e = let p = and_parts (b == a) (has_front s bs) e in let i = front_within s bs p.1 in omega arith
 
-front-take : (s bs : List ℕ) (n : ℕ) → length s ≤ n → has_front s bs ≡ true → has_front s (take n bs) ≡ true
-front-take [] bs n h e = refl
-front-take (a ∷ s) [] n h e = absurd (cc)
-front-take (a ∷ s) (b ∷ bs) zero h e = absurd (omega arith)
-front-take (a ∷ s) (b ∷ bs) (suc n) h e = let p = and_parts (b == a) (has_front s bs) e in and_from (b == a) _ p.0 (front-take s bs n (omega arith) p.1)
+front_take : (s bs : List ℕ) (n : ℕ) → length s ≤ n → has_front s bs ≡ true → has_front s (take n bs) ≡ true
+front_take [] bs n h e = refl
+front_take (a ∷ s) [] n h e = absurd (cc)
+front_take (a ∷ s) (b ∷ bs) zero h e = absurd (omega arith)
+front_take (a ∷ s) (b ∷ bs) (suc n) h e = let p = and_parts (b == a) (has_front s bs) e in and_from (b == a) _ p.0 (front_take s bs n (omega arith) p.1)
 
-front-from_take : (s bs : List ℕ) (n : ℕ) → has_front s (take n bs) ≡ true → has_front s bs ≡ true
-front-from_take [] bs n e = refl
-front-from_take (a ∷ s) [] zero e = absurd (cc)
-front-from_take (a ∷ s) [] (suc n) e = absurd (cc)
-front-from_take (a ∷ s) (b ∷ bs) zero e = absurd (cc)
-front-from_take (a ∷ s) (b ∷ bs) (suc n) e = let p = and_parts (b == a) (has_front s (take n bs)) e in and_from (b == a) _ p.0 (front-from_take s bs n p.1)
+front_from_take : (s bs : List ℕ) (n : ℕ) → has_front s (take n bs) ≡ true → has_front s bs ≡ true
+front_from_take [] bs n e = refl
+front_from_take (a ∷ s) [] zero e = absurd (cc)
+front_from_take (a ∷ s) [] (suc n) e = absurd (cc)
+front_from_take (a ∷ s) (b ∷ bs) zero e = absurd (cc)
+front_from_take (a ∷ s) (b ∷ bs) (suc n) e = let p = and_parts (b == a) (has_front s (take n bs)) e in and_from (b == a) _ p.0 (front_from_take s bs n p.1)
 
-no_front-take : (s bs : List ℕ) (n : ℕ) → has_front s bs ≡ false → has_front s (take n bs) ≡ false
-no_front-take s bs n e = false_from_ne_true _ (λ t. let u = front-from_take s bs n t in absurd (cc))
+no_front_take : (s bs : List ℕ) (n : ℕ) → has_front s bs ≡ false → has_front s (take n bs) ≡ false
+no_front_take s bs n e = false_from_ne_true _ (λ t. let u = front_from_take s bs n t in absurd (cc))
 
-longest-take : (ss : List (List ℕ)) (bs : List ℕ) (n : ℕ) → longest ss bs ≤ n → longest ss (take n bs) ≡ longest ss bs
-longest-take [] bs n h = refl
-longest-take (s ∷ ss) bs n h =
+longest_take : (ss : List (List ℕ)) (bs : List ℕ) (n : ℕ) → longest ss bs ≤ n → longest ss (take n bs) ≡ longest ss bs
+longest_take [] bs n h = refl
+longest_take (s ∷ ss) bs n h =
     elim (cases_Bool (has_front s bs)) [
       | inl e ↦
           let l : max (length s) (longest ss bs) ≤ n = rw e at h in
-          let f : has_front s (take n bs) ≡ true = front-take s bs n (omega arith) e in
-          let i : longest ss (take n bs) ≡ longest ss bs = longest-take ss bs n (omega arith) in
+          let f : has_front s (take n bs) ≡ true = front_take s bs n (omega arith) e in
+          let i : longest ss (take n bs) ≡ longest ss bs = longest_take ss bs n (omega arith) in
           rw (e, f) (ap (max (length s)) i)
       | inr e ↦
           let l : longest ss bs ≤ n = rw e at h in
-          let f : has_front s (take n bs) ≡ false = no_front-take s bs n e in
-          rw (e, f) (longest-take ss bs n l)
+          let f : has_front s (take n bs) ≡ false = no_front_take s bs n e in
+          rw (e, f) (longest_take ss bs n l)
     ]
 
 longest_within : (ss : List (List ℕ)) (bs : List ℕ) → longest ss bs ≤ length bs
@@ -168,7 +168,7 @@ symbol_no_gap : (n m : ℕ) → a_symbol n ≡ Between m → ⊥
 symbol_no_gap zero m e = cc
 symbol_no_gap (suc n) m e = cc
 
-comment_no_lexeme : (o : Option ℕ) (kind : TokenKind) (m : ℕ) → a_comment o ≡ Lexeme kind m → ⊥
+pub comment_no_lexeme : (o : Option ℕ) (kind : TokenKind) (m : ℕ) → a_comment o ≡ Lexeme kind m → ⊥
 comment_no_lexeme None kind m e = cc
 comment_no_lexeme (Some n) kind m e = cc
 
@@ -179,7 +179,7 @@ comment_gap (Some n) m e = cc
 module _ (ss : List (List ℕ)) (low : each_ascii ss ≡ true) (b : ℕ) (bs : List ℕ) (blank : is_blank b ≡ false) (comments : opens_comment (b ∷ bs) ≡ false) where
   -- the tests on the text alone
   alone_is : (l d : Bool) (m : ℕ) → is_ascii_alphabetic b ≡ l → is_ascii_digit b ≡ d → decided ss (is_blank b) (opens_comment (b ∷ take m bs)) (is_ascii_alphabetic b) (is_ascii_digit b) (b ∷ take m bs) ≡ decided ss false false l d (b ∷ take m bs)
-  alone_is l d m p q = let o = no_front-take (codes "(*") (b ∷ bs) (suc m) comments in λ i. decided ss (blank i) (o i) (p i) (q i) (b ∷ take m bs)
+  alone_is l d m p q = let o = no_front_take (codes "(*") (b ∷ bs) (suc m) comments in λ i. decided ss (blank i) (o i) (p i) (q i) (b ∷ take m bs)
 
   abbrev Alone : TokenKind → ℕ → Type 0
   Alone kind m = decided ss (is_blank b) (opens_comment (b ∷ take m bs)) (is_ascii_alphabetic b) (is_ascii_digit b) (b ∷ take m bs) ≡ Lexeme kind (suc m)
@@ -190,7 +190,7 @@ module _ (ss : List (List ℕ)) (low : each_ascii ss ≡ true) (b : ℕ) (bs : L
       let kind_is : Ident ≡ kind = cc in
       let some = run_some is_inner b bs (letter_inner b letter) in
       let back : n ≡ suc (n - 1) = omega arith in
-      let again : prefix_len is_inner (b ∷ take (n - 1) bs) ≡ suc (n - 1) = run-take is_inner (b ∷ bs) (suc (n - 1)) (len ∙ back) in (
+      let again : prefix_len is_inner (b ∷ take (n - 1) bs) ≡ suc (n - 1) = run_take is_inner (b ∷ bs) (suc (n - 1)) (len ∙ back) in (
         back,
         omega (arith, prefix_len-le-length is_inner (b ∷ bs)),
         run_ascii is_inner inner_ascii (b ∷ bs) n len,
@@ -204,7 +204,7 @@ module _ (ss : List (List ℕ)) (low : each_ascii ss ≡ true) (b : ℕ) (bs : L
       let back : n ≡ suc (n - 1) = omega arith in
       let bound = prefix_len-le-length is_ascii_digit (b ∷ bs) in
       let whole : take (suc (n - 1)) (b ∷ take (n - 1) bs) ≡ take (suc (n - 1)) (b ∷ bs) = take-take (suc (n - 1)) (suc (n - 1)) (b ∷ bs) (omega arith) in
-      let again : prefix_len is_ascii_digit (b ∷ take (n - 1) bs) ≡ suc (n - 1) = run-take is_ascii_digit (b ∷ bs) (suc (n - 1)) (len ∙ back) in (
+      let again : prefix_len is_ascii_digit (b ∷ take (n - 1) bs) ≡ suc (n - 1) = run_take is_ascii_digit (b ∷ bs) (suc (n - 1)) (len ∙ back) in (
         back,
         omega arith,
         run_ascii is_ascii_digit digit_ascii (b ∷ bs) n len,
@@ -220,7 +220,7 @@ module _ (ss : List (List ℕ)) (low : each_ascii ss ≡ true) (b : ℕ) (bs : L
       let len = symbol_len_is (longest ss (b ∷ bs)) n kind e in
       let back : n ≡ suc (n - 1) = omega arith in
       let bound = longest_within ss (b ∷ bs) in
-      let again : longest ss (b ∷ take (n - 1) bs) ≡ longest ss (b ∷ bs) = longest-take ss (b ∷ bs) (suc (n - 1)) (omega arith) in (
+      let again : longest ss (b ∷ take (n - 1) bs) ≡ longest ss (b ∷ bs) = longest_take ss (b ∷ bs) (suc (n - 1)) (omega arith) in (
         back,
         omega arith,
         subst (λ k. IsAscii (take k (b ∷ bs))) len.0 (longest_ascii ss (b ∷ bs) low),

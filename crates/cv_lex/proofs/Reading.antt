@@ -9,7 +9,7 @@ use Rattle.cv_lex.specs.Lexis.{Token, lexed, piece, put, one, end_token, tokens_
 use Rattle.cv_lex.specs.View.{with_token}
 use Rattle.cv_lex.proofs.Exact.{exact, computed, count_below}
 use Rattle.cv_lex.proofs.Pieces.{lexeme, between_bounds, nothing_left}
-use Rattle.cv_lex.proofs.Listing.{with_token-append}
+use Rattle.cv_lex.proofs.Listing.{with_token_append}
 
 abbrev pub Lexing : Type 0
 Lexing = Result (List Token) LexError
@@ -57,13 +57,13 @@ abbrev after : List Token → Lexing → Lexing
 after front (Ok ts) = Ok (front ++ ts)
 after front (Err e) = Err e
 
-after-nil : (r : Lexing) → after [] r ≡ r
-after-nil (Ok ts) = refl
-after-nil (Err e) = refl
+after_nil : (r : Lexing) → after [] r ≡ r
+after_nil (Ok ts) = refl
+after_nil (Err e) = refl
 
-after-put : (front : List Token) (t : Token) (r : Lexing) → after (front ++ t ∷ []) r ≡ after front (put t r)
-after-put front t (Ok ts) = ap Ok (append_assoc front (t ∷ []) ts)
-after-put front t (Err e) = refl
+after_put : (front : List Token) (t : Token) (r : Lexing) → after (front ++ t ∷ []) r ≡ after front (put t r)
+after_put front t (Ok ts) = ap Ok (append_assoc front (t ∷ []) ts)
+after_put front t (Err e) = refl
 
 -- up to a place the text has these tokens, and an end token is behind them
 pub record Reads (bytes : List ℕ) (found : List Token) (at : ℕ) : Type 0 where
@@ -74,7 +74,7 @@ pub record Reads (bytes : List ℕ) (found : List Token) (at : ℕ) : Type 0 whe
   pub rest : after front (lexed_at at (drop at bytes)) ≡ tokens_of bytes
 
 pub reads_none : (bytes : List ℕ) → Reads bytes (end_token (length bytes) ∷ []) 0
-reads_none bytes = record { within = omega arith; front = []; found_is = refl; few = omega arith; rest = after-nil (tokens_of bytes) }
+reads_none bytes = record { within = omega arith; front = []; found_is = refl; few = omega arith; rest = after_nil (tokens_of bytes) }
 
 module _ (bytes : List ℕ) (found : List Token) (at : ℕ) (r : Reads bytes found at) where
   pub reads_between : (n : ℕ) → piece (drop at bytes) ≡ Between n → Reads bytes found (at + n)
@@ -97,10 +97,10 @@ module _ (bytes : List ℕ) (found : List Token) (at : ℕ) (r : Reads bytes fou
       record {
         within = omega (arith, length-drop at bytes, f.within, r.within);
         front = r.front ++ t ∷ [];
-        found_is = m ∙ ap (λ ts. with_token ts t) r.found_is ∙ with_token-append r.front (end_token (length bytes)) t;
+        found_is = m ∙ ap (λ ts. with_token ts t) r.found_is ∙ with_token_append r.front (end_token (length bytes)) t;
         few = omega (arith, r.few, f.some, length_push r.front t);
         rest =
-            after-put r.front t (lexed_at (at + n) (drop (at + n) bytes))
+            after_put r.front t (lexed_at (at + n) (drop (at + n) bytes))
             ∙ ap (λ bs. after r.front (put t (lexed_at (at + n) bs))) (sym (drop-drop n at bytes))
             ∙ sym (ap (after r.front) (at_lexeme at (drop at bytes) kind n e)) ∙ r.rest;
       }

@@ -1,4 +1,5 @@
 pub mod Each
+pub mod Numbers
 pub mod Options
 pub mod Places
 pub mod Tests

@@ -3,7 +3,7 @@ use Rattle.std.proofs.Common.{◌≡◌, ℕ, suc, ◌+◌, ◌<◌, ◌≤◌, 
 use Rattle.std.proofs.lemmas.List.Elements.{All-head, All-tail}
 use Rattle.std.specs.Prelude.{IfSome, if◌then◌else◌}
 use Rattle.std.specs.List.{All, AllByRecursion}
-use Rattle.cv_lists.proofs.Each.{AllByRecursion-append, AllByRecursion-get_or}
+use Rattle.cv_lists.proofs.Each.{AllByRecursion_append, AllByRecursion_get_or}
 use Rattle.cv_pool.specs.KindTree.{KindTree}
 use Rattle.cv_pool.specs.Nodes.{ChildBelow}
 use Rattle.cv_syntax.specs.Classes.{declaration_in, equiv_by, equiv_in, id_of, is_number}
@@ -16,73 +16,73 @@ use Rattle.cv_meaning_contexts.specs.Groups.{Function, Group, Left, functions_of
 use Rattle.cv_scope_rules.specs.declared.position.Position.{Position}
 use Rattle.cv_scope_rules.specs.declared.position.Position.TheVariants.{Anywhere}
 use Rattle.cv_scope_rules.specs.Context.{first_position, replications_below, second_position}
-use Rattle.cv_scenes.specs.Instances.{Call, Instance, Matching, call_at, call_by, first_call, instance_of}
-use Rattle.cv_scenes.specs.Sites as instances
-use Rattle.cv_scenes.specs.Sites.{is_guard, sites_in, sites_of}
-use Rattle.cv_match_patterns.specs.declared.site.Site.{Site}
-use Rattle.cv_match_patterns.specs.Sites.{site_in}
+use Rattle.cv_scene.specs.Instances.{Call, Instance, Matching, call_at, call_by, first_call, instance_of}
+use Rattle.cv_scene.specs.Sites as instances
+use Rattle.cv_scene.specs.Sites.{is_guard, sites_in, sites_of}
+use Rattle.cv_match_terms.specs.declared.patterns.site.Site.{Site}
+use Rattle.cv_match_terms.specs.patterns.Sites.{site_in}
 use Rattle.cv_match.specs.Fitting.{IsSmallSite}
 
-second-small : (t : Tree) → size (second t) ≤ size t
+second_small : (t : Tree) → size (second t) ≤ size t
 unfolding size
-second-small Empty = omega arith
-second-small (Node h a b) = omega arith
+second_small Empty = omega arith
+second_small (Node h a b) = omega arith
 
-first-small : (t : Tree) → size (first t) ≤ size t
+first_small : (t : Tree) → size (first t) ≤ size t
 unfolding size
-first-small Empty = omega arith
-first-small (Node h a b) = omega arith
+first_small Empty = omega arith
+first_small (Node h a b) = omega arith
 
 abbrev IsShort : ℕ → Function → Type 0
 IsShort n f = size f.body < n
 
-functions-short : (n : ℕ) (t : Tree) → size t < n → AllByRecursion (IsShort n) (functions_of t)
+functions_short : (n : ℕ) (t : Tree) → size t < n → AllByRecursion (IsShort n) (functions_of t)
 unfolding size
-functions-short n Empty l = tt
-functions-short n (Node h f more) l = (omega (arith, second-small f), functions-short n more (omega arith))
+functions_short n Empty l = tt
+functions_short n (Node h f more) l = (omega (arith, second_small f), functions_short n more (omega arith))
 
-call-short : (M : Matching) (n k : ℕ) (fs : List Function) (m : Tree) → AllByRecursion (IsShort n) fs → IfSome (first_call M k fs m) (λ c. IsShort n c.function)
-call-short M n k [] m a = tt
-call-short M n k (f ∷ fs) m a = by-instance (instance_of M f m) (call-short M n (suc k) fs m a.1)
+call_short : (M : Matching) (n k : ℕ) (fs : List Function) (m : Tree) → AllByRecursion (IsShort n) fs → IfSome (first_call M k fs m) (λ c. IsShort n c.function)
+call_short M n k [] m a = tt
+call_short M n k (f ∷ fs) m a = by_instance (instance_of M f m) (call_short M n (suc k) fs m a.1)
   where
-    by-instance : (o : Option Instance) → IfSome (first_call M (suc k) fs m) (λ c. IsShort n c.function) → IfSome (first_of (call_by k f o) (first_call M (suc k) fs m)) (λ c. IsShort n c.function)
-    by-instance None r = r
-    by-instance (Some I) r = a.0
+    by_instance : (o : Option Instance) → IfSome (first_call M (suc k) fs m) (λ c. IsShort n c.function) → IfSome (first_of (call_by k f o) (first_call M (suc k) fs m)) (λ c. IsShort n c.function)
+    by_instance None r = r
+    by_instance (Some I) r = a.0
 
 -- the term ends there, and the function's body is smaller
 abbrev Within : (end n : ℕ) → instances.Site → Type 0
 Within end n s = (s.place + size s.term ≤ end) × (size s.call.function.body < n)
 
-sites-within : (M : Matching) (n : ℕ) → AllByRecursion (IsShort n) M.group.functions → (end : ℕ) (w : Position) (rs : List (ℕ × ℕ)) (p : ℕ) (t : Tree) → p + size t ≤ end → AllByRecursion (Within end n) (sites_in M w rs p t)
+sites_within : (M : Matching) (n : ℕ) → AllByRecursion (IsShort n) M.group.functions → (end : ℕ) (w : Position) (rs : List (ℕ × ℕ)) (p : ℕ) (t : Tree) → p + size t ≤ end → AllByRecursion (Within end n) (sites_in M w rs p t)
 unfolding sites_in size
-sites-within M n a end w rs p Empty l = tt
-sites-within M n a end w rs p (Node h b c) l =
-    by-call (call_at M (Node h b c)) (call-short M n 0 M.group.functions (Node h b c) a) _
-    (AllByRecursion-append (Within end n) (if is_guard w then [] else sites_in M (first_position w h) rs (first_place p h) b) _ (unguarded (is_guard w) (sites-within M n a end (first_position w h) rs (first_place p h) b (omega arith))) (sites-within M n a end (second_position w h) (replications_below h rs) (second_place p h b) c (omega arith)))
+sites_within M n a end w rs p Empty l = tt
+sites_within M n a end w rs p (Node h b c) l =
+    by_call (call_at M (Node h b c)) (call_short M n 0 M.group.functions (Node h b c) a) _
+    (AllByRecursion_append (Within end n) (if is_guard w then [] else sites_in M (first_position w h) rs (first_place p h) b) _ (unguarded (is_guard w) (sites_within M n a end (first_position w h) rs (first_place p h) b (omega arith))) (sites_within M n a end (second_position w h) (replications_below h rs) (second_place p h b) c (omega arith)))
   where
     unguarded : (g : Bool) → AllByRecursion (Within end n) (sites_in M (first_position w h) rs (first_place p h) b) → AllByRecursion (Within end n) (if g then [] else sites_in M (first_position w h) rs (first_place p h) b)
     unguarded true r = tt
     unguarded false r = r
 
-    by-call : (o : Option Call) → IfSome o (λ d. IsShort n d.function) → (ss : List instances.Site) → AllByRecursion (Within end n) ss → AllByRecursion (Within end n) (elim o [ Some d ↦ record { place = p; term = Node h b c; replications = rs; call = d } ∷ [] | None ↦ ss ])
-    by-call (Some d) i ss s = ((l, i), tt)
-    by-call None i ss s = s
+    by_call : (o : Option Call) → IfSome o (λ d. IsShort n d.function) → (ss : List instances.Site) → AllByRecursion (Within end n) ss → AllByRecursion (Within end n) (elim o [ Some d ↦ record { place = p; term = Node h b c; replications = rs; call = d } ∷ [] | None ↦ ss ])
+    by_call (Some d) i ss s = ((l, i), tt)
+    by_call None i ss s = s
 
-each-small : (trees : List KindTree) (M : Matching) (end : ℕ) → end < 2 ^ 32 → (ss : List Site) → AllByRecursion (Within end (2 ^ 32)) (map (site_in trees M) ss) → AllByRecursion (IsSmallSite trees) ss
-each-small trees M end l [] a = tt
-each-small trees M end l (s ∷ ss) a = (record { term = omega arith; body = a.0.1 }, each-small trees M end l ss a.1)
+each_small : (trees : List KindTree) (M : Matching) (end : ℕ) → end < 2 ^ 32 → (ss : List Site) → AllByRecursion (Within end (2 ^ 32)) (map (site_in trees M) ss) → AllByRecursion (IsSmallSite trees) ss
+each_small trees M end l [] a = tt
+each_small trees M end l (s ∷ ss) a = (record { term = omega arith; body = a.0.1 }, each_small trees M end l ss a.1)
 
-pub sites-small : (trees : List KindTree) (M : Matching) (equivalence : Tree) (ss : List Site) → M.group ≡ side_group Left equivalence → size equivalence < 2 ^ 32 → size M.scene.game < 2 ^ 32 → map (site_in trees M) ss ≡ sites_of M → All (IsSmallSite trees) ss
-sites-small trees M equivalence ss e l g f =
-    let short : AllByRecursion (IsShort (2 ^ 32)) (functions_of (second (first equivalence))) = functions-short (2 ^ 32) (second (first equivalence)) (omega (arith, second-small (first equivalence), first-small equivalence)) in
-    let all = sites-within M (2 ^ 32) (subst (λ (G : Group). AllByRecursion (IsShort (2 ^ 32)) G.functions) (sym e) short) (size M.scene.game) Anywhere [] 0 M.scene.game (omega arith) in
-    let each = each-small trees M (size M.scene.game) g ss (subst (AllByRecursion (Within (size M.scene.game) (2 ^ 32))) (sym f) all) in
-    λ k d b. AllByRecursion-get_or (IsSmallSite trees) ss k d each b
+pub sites_small : (trees : List KindTree) (M : Matching) (equivalence : Tree) (ss : List Site) → M.group ≡ side_group Left equivalence → size equivalence < 2 ^ 32 → size M.scene.game < 2 ^ 32 → map (site_in trees M) ss ≡ sites_of M → All (IsSmallSite trees) ss
+sites_small trees M equivalence ss e l g f =
+    let short : AllByRecursion (IsShort (2 ^ 32)) (functions_of (second (first equivalence))) = functions_short (2 ^ 32) (second (first equivalence)) (omega (arith, second_small (first equivalence), first_small equivalence)) in
+    let all = sites_within M (2 ^ 32) (subst (λ (G : Group). AllByRecursion (IsShort (2 ^ 32)) G.functions) (sym e) short) (size M.scene.game) Anywhere [] 0 M.scene.game (omega arith) in
+    let each = each_small trees M (size M.scene.game) g ss (subst (AllByRecursion (Within (size M.scene.game) (2 ^ 32))) (sym f) all) in
+    λ k d b. AllByRecursion_get_or (IsSmallSite trees) ss k d each b
 
 -- the tree of an equivalence stands in the pool
-pub equiv-live : (bound : ℕ) (ds : List Decl) (x : ℕ) → All (IsLive bound) ds → ChildBelow bound (equiv_in ds x)
-equiv-live bound [] x p = tt
-equiv-live bound (d ∷ ds) x p = by-name (is_number x (id_of d)) (equiv-live bound ds x (All-tail (IsLive bound) d ds p))
+pub equiv_live : (bound : ℕ) (ds : List Decl) (x : ℕ) → All (IsLive bound) ds → ChildBelow bound (equiv_in ds x)
+equiv_live bound [] x p = tt
+equiv_live bound (d ∷ ds) x p = by_name (is_number x (id_of d)) (equiv_live bound ds x (All-tail (IsLive bound) d ds p))
   where
     here : (d : Decl) → IsLive bound d → ChildBelow bound (equiv_by (Some d))
     here (decl.Name id c args result) l = tt
@@ -90,6 +90,6 @@ equiv-live bound (d ∷ ds) x p = by-name (is_number x (id_of d)) (equiv-live bo
     here (decl.Equiv id n) l = l
     here (decl.Query n) l = tt
 
-    by-name : (b : Bool) → ChildBelow bound (equiv_in ds x) → ChildBelow bound (equiv_by (if b then Some d else declaration_in ds x))
-    by-name true l = here d (All-head (IsLive bound) d ds p)
-    by-name false l = l
+    by_name : (b : Bool) → ChildBelow bound (equiv_in ds x) → ChildBelow bound (equiv_by (if b then Some d else declaration_in ds x))
+    by_name true l = here d (All-head (IsLive bound) d ds p)
+    by_name false l = l

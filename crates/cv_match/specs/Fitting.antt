@@ -4,12 +4,12 @@ use Rattle.cv_pool.specs.KindTree.{KindTree}
 use Rattle.cv_syntax_trees.specs.Tree.{Tree, same_tree, size}
 use Rattle.cv_syntax.specs.PoolTrees.{tree_at}
 use Rattle.cv_scope_rules.specs.Context.{cell_of}
-use Rattle.cv_scenes.specs.Scenes.{is_queried}
+use Rattle.cv_scene.specs.Scenes.{is_queried}
 use Rattle.cv_meaning_contexts.specs.Groups.{function_of}
-use Rattle.cv_scenes.specs.Instances.{Matching}
-use Rattle.cv_scenes.specs.Refusals.{are_coins, first_in_arguments, uses}
-use Rattle.cv_scenes.specs.Sites as instances
-use Rattle.cv_match_patterns.specs.declared.site.Site.{Site}
+use Rattle.cv_scene.specs.Instances.{Matching}
+use Rattle.cv_scene.specs.Refusals.{are_coins, first_in_arguments, uses}
+use Rattle.cv_scene.specs.Sites as instances
+use Rattle.cv_match_terms.specs.declared.patterns.site.Site.{Site}
 
 -- the places of its term and the size of its function's body fit in 32 bits
 pub record IsSmallSite (trees : List KindTree) (s : Site) : Type 0 where

@@ -1,2 +1,4 @@
 pub mod Fitting
 pub mod Matched
+pub mod reads
+pub mod instances

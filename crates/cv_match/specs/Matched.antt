@@ -7,11 +7,11 @@ use Rattle.cv_syntax.specs.PoolTrees.{tree_at}
 use Rattle.cv_meaning_contexts.specs.Groups.{Left, side_group}
 use Rattle.cv_directory_sorts.specs.Sites.{first_of}
 use Rattle.cv_scope_rules.specs.declared.position.Position.TheVariants.{Anywhere}
-use Rattle.cv_rule_scenes.specs.Kept.{scene_of}
-use Rattle.cv_scenes.specs.Instances.{Matching}
-use Rattle.cv_scenes.specs.Refusals as refusals
-use Rattle.cv_scenes.specs.Refusals.{Refusal, at_place, first_argument_use, first_coin_use, first_in_condition, first_use, has_key}
-use Rattle.cv_scenes.specs.Sites.{Site}
+use Rattle.cv_scene_view.specs.Kept.{scene_of}
+use Rattle.cv_scene.specs.Instances.{Matching}
+use Rattle.cv_scene.specs.Refusals as refusals
+use Rattle.cv_scene.specs.Refusals.{Refusal, at_place, first_argument_use, first_coin_use, first_in_condition, first_use, has_key}
+use Rattle.cv_scene.specs.Sites.{Site}
 use Rattle.cv_match.specs.declared.fault.MatchFault.{MatchFault}
 use Rattle.cv_match.specs.declared.fault.MatchFault.TheVariants as fault
 

@@ -1,11 +1,11 @@
 ghost use Rattle.std.specs.Prelude.{◌≡◌, All, length, map};
-ghost use Rattle.cv_scenes.specs.Refusals as refusals;
-ghost use Rattle.cv_match_patterns.specs.Sites.{IsLiveSite, site_in};
-ghost use Rattle.cv_match_sites.specs.Matchings.{matching_by};
+ghost use Rattle.cv_scene.specs.Refusals as refusals;
+ghost use Rattle.cv_match_terms.specs.patterns.Sites.{IsLiveSite, site_in};
+ghost use Rattle.cv_match.specs.instances.Matchings.{matching_by};
 ghost use Rattle.cv_match.specs.Fitting.{IsSmallSite, use_at};
 
-use cv_match_patterns::{Search, Site, body_of};
-use cv_match_reads::argument_use as use_in_argument;
+use crate::reads::argument_use as use_in_argument;
+use cv_match_terms::patterns::{Search, Site, body_of};
 use cv_syntax::{Pool, Work};
 
 /// The first place of a site where what stands for an argument reads a variable.

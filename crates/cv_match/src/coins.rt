@@ -3,22 +3,22 @@ ghost use Rattle.cv_pool.specs.Nodes.{ChildBelow};
 ghost use Rattle.cv_syntax.specs.PoolTrees.{tree_at};
 ghost use Rattle.cv_meaning.specs.Correspondences.{typed_names};
 ghost use Rattle.cv_meaning_contexts.specs.Groups.{function_of};
-ghost use Rattle.cv_scenes.specs.Scenes.{is_queried};
-ghost use Rattle.cv_scenes.specs.Sights as sights;
+ghost use Rattle.cv_scene.specs.Scenes.{is_queried};
+ghost use Rattle.cv_scene.specs.Sights as sights;
 ghost use Rattle.cv_directory.specs.Live.{IsLive};
-ghost use Rattle.cv_scenes.specs.Instances.{term_for};
-ghost use Rattle.cv_scenes.specs.Refusals as refusals;
-ghost use Rattle.cv_scenes.specs.Refusals.{new_of, stands_under};
-ghost use Rattle.cv_match_patterns.specs.Searches.{IsReady};
-ghost use Rattle.cv_match_patterns.specs.Sites.{IsLiveSite, site_in};
-ghost use Rattle.cv_match_sites.specs.Matchings.{matching_by};
-ghost use Rattle.cv_match_uses.specs.Tallies.{IsTableOf};
+ghost use Rattle.cv_scene.specs.Instances.{term_for};
+ghost use Rattle.cv_scene.specs.Refusals as refusals;
+ghost use Rattle.cv_scene.specs.Refusals.{new_of, stands_under};
+ghost use Rattle.cv_match_terms.specs.patterns.Searches.{IsReady};
+ghost use Rattle.cv_match_terms.specs.patterns.Sites.{IsLiveSite, site_in};
+ghost use Rattle.cv_match.specs.instances.Matchings.{matching_by};
+ghost use Rattle.cv_match_terms.specs.uses.Tallies.{IsTableOf};
 ghost use Rattle.cv_match.specs.Fitting.{IsSmallSite, has_coins, is_own_use};
 
-use cv_match_patterns::{Search, Site, body_of, coins_of, term_of, variable_of};
-use cv_match_reads::{is_cell, is_used_as_often};
-use cv_match_uses::UseTable;
-use cv_rule_scenes::is_queried;
+use crate::reads::{is_cell, is_used_as_often};
+use cv_match_terms::patterns::{Search, Site, body_of, coins_of, term_of, variable_of};
+use cv_match_terms::uses::UseTable;
+use cv_scene_view::is_queried;
 use cv_syntax::{Head, NodeId, Work, read_node};
 
 /// Whether a variable has one definition in the game, a `new` below these replications.

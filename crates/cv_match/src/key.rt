@@ -1,14 +1,14 @@
 ghost use Rattle.std.specs.Prelude.{◌≡◌, All, Some, length};
 ghost use Rattle.cv_syntax.specs.PoolTrees.{tree_at};
 ghost use Rattle.cv_directory.specs.Live.{IsLive};
-ghost use Rattle.cv_scenes.specs.Refusals as refusals;
-ghost use Rattle.cv_match_patterns.specs.Searches.{IsReady};
-ghost use Rattle.cv_match_sites.specs.Matchings.{matching_by};
-ghost use Rattle.cv_match_uses.specs.Tallies.{IsTableOf};
+ghost use Rattle.cv_scene.specs.Refusals as refusals;
+ghost use Rattle.cv_match_terms.specs.patterns.Searches.{IsReady};
+ghost use Rattle.cv_match.specs.instances.Matchings.{matching_by};
+ghost use Rattle.cv_match_terms.specs.uses.Tallies.{IsTableOf};
 
-use cv_match_patterns::{Search, key_of};
-use cv_match_uses::UseTable;
-use cv_rule_scenes::is_queried;
+use cv_match_terms::patterns::{Search, key_of};
+use cv_match_terms::uses::UseTable;
+use cv_scene_view::is_queried;
 use cv_syntax::Work;
 
 /// Whether the key's variable has one definition, a `new` of the key's type, and no query asks for it.

@@ -4,8 +4,10 @@
 mod arguments;
 mod coins;
 mod fault;
+pub mod instances;
 mod key;
 mod matching;
+pub mod reads;
 
 pub use fault::MatchFault;
 pub use matching::{Match, matches};

@@ -4,38 +4,31 @@ use Rattle.std.specs.Prelude.{◌||◌, ◌==◌, if◌then◌else◌}
 use Rattle.cv_syntax_trees.specs.declared.head.Head.TheVariants.{Cons, Leaf}
 use Rattle.cv_syntax_trees.specs.Tree.{Tree, Empty, Node, chain}
 use Rattle.cv_directory_sorts.specs.Sites.{first_of}
-use Rattle.cv_derivations.specs.Given.{or_node, term_for, with_given}
-use Rattle.cv_scenes.specs.Scenes.{or_empty}
-use Rattle.cv_scenes.specs.Instances.{standing_for}
+use Rattle.cv_derive_rules.specs.Given.{or_node, term_for, with_given}
+use Rattle.cv_scene.specs.Scenes.{or_empty}
+use Rattle.cv_scene.specs.Instances.{standing_for}
 use Rattle.cv_match_laws.specs.Named.{AreApart, Each, has_bare_leaves, has_leaf}
+use Rattle.cv_lists.proofs.Tests.{and_first, and_second}
 
-and-first : (a b : Bool) → (a && b) ≡ true → a ≡ true
-and-first true b e = refl
-and-first false b e = absurd (cc)
-
-and-second : (a b : Bool) → (a && b) ≡ true → b ≡ true
-and-second true b e = e
-and-second false b e = absurd (cc)
-
-by-parts : (u : Tree) (o p : Option Tree) (c d : Bool) → o ≡ (if c then Some u else None) → p ≡ (if d then Some u else None) → first_of o p ≡ (if c || d then Some u else None)
-by-parts u o p true d e f = ap (λ q. first_of q p) e
-by-parts u o p false d e f = ap (λ q. first_of q p) e ∙ f
+by_parts : (u : Tree) (o p : Option Tree) (c d : Bool) → o ≡ (if c then Some u else None) → p ≡ (if d then Some u else None) → first_of o p ≡ (if c || d then Some u else None)
+by_parts u o p true d e f = ap (λ q. first_of q p) e
+by_parts u o p false d e f = ap (λ q. first_of q p) e ∙ f
 
 -- where a name is given a term, this term stands for it in the body with the terms
 module _ (ns : List ℕ) (ts : Tree) (x : ℕ) (u : Tree) (given : term_for ns ts x ≡ Some u) where
-  at-leaf : (y : ℕ) (c : Bool) → (y == x) ≡ c → first_of (if c then Some (or_node (term_for ns ts y) (Leaf y) Empty Empty) else None) (first_of None None) ≡ (if c || (false || false) then Some u else None)
-  at-leaf y true e = ap (λ o. Some (or_node o (Leaf y) Empty Empty)) (ap (term_for ns ts) (eqb-true y x e) ∙ given)
-  at-leaf y false e = refl
+  at_leaf : (y : ℕ) (c : Bool) → (y == x) ≡ c → first_of (if c then Some (or_node (term_for ns ts y) (Leaf y) Empty Empty) else None) (first_of None None) ≡ (if c || (false || false) then Some u else None)
+  at_leaf y true e = ap (λ o. Some (or_node o (Leaf y) Empty Empty)) (ap (term_for ns ts) (eqb-true y x e) ∙ given)
+  at_leaf y false e = refl
 
-  pub standing-filled : (t : Tree) → has_bare_leaves t ≡ true → standing_for x t (with_given ns ts t) ≡ (if has_leaf x t then Some u else None)
+  pub standing_filled : (t : Tree) → has_bare_leaves t ≡ true → standing_for x t (with_given ns ts t) ≡ (if has_leaf x t then Some u else None)
   unfolding standing_for with_given has_leaf has_bare_leaves
-  standing-filled Empty e = refl
-  standing-filled (Node (Leaf y) Empty Empty) e = at-leaf y (y == x) refl
-  standing-filled (Node (Leaf y) Empty (Node k c d)) e = absurd (cc)
-  standing-filled (Node (Leaf y) (Node k c d) b) e = absurd (cc)
-  standing-filled (Node h a b) e =
-      by-parts u (standing_for x a (with_given ns ts a)) (standing_for x b (with_given ns ts b)) (has_leaf x a) (has_leaf x b)
-      (standing-filled a (and-first (has_bare_leaves a) (has_bare_leaves b) e)) (standing-filled b (and-second (has_bare_leaves a) (has_bare_leaves b) e))
+  standing_filled Empty e = refl
+  standing_filled (Node (Leaf y) Empty Empty) e = at_leaf y (y == x) refl
+  standing_filled (Node (Leaf y) Empty (Node k c d)) e = absurd (cc)
+  standing_filled (Node (Leaf y) (Node k c d) b) e = absurd (cc)
+  standing_filled (Node h a b) e =
+      by_parts u (standing_for x a (with_given ns ts a)) (standing_for x b (with_given ns ts b)) (has_leaf x a) (has_leaf x b)
+      (standing_filled a (and_first (has_bare_leaves a) (has_bare_leaves b) e)) (standing_filled b (and_second (has_bare_leaves a) (has_bare_leaves b) e))
 
 -- names and terms in one order
 
@@ -58,11 +51,11 @@ pairs (x ∷ xs) (u ∷ us) e a =
     let f : length xs ≡ length us = cc in
     (ap (λ b. if b then Some u else term_for xs (chain us) x) (eq-eqb x x refl), skip x u xs (chain us) xs us a.0 (pairs xs us f a.1))
 
-pub standing-terms : (ns : List ℕ) (ts body : Tree) → has_bare_leaves body ≡ true → (xs : List ℕ) (us : List Tree) → Pairs (term_for ns ts) xs us → Each (λ x. has_leaf x body ≡ true) xs → map (λ x. or_empty (standing_for x body (with_given ns ts body))) xs ≡ us
-standing-terms ns ts body bare [] [] p a = refl
-standing-terms ns ts body bare [] (u ∷ us) p a = absurd p
-standing-terms ns ts body bare (x ∷ xs) [] p a = absurd p
-standing-terms ns ts body bare (x ∷ xs) (u ∷ us) p a =
+pub standing_terms : (ns : List ℕ) (ts body : Tree) → has_bare_leaves body ≡ true → (xs : List ℕ) (us : List Tree) → Pairs (term_for ns ts) xs us → Each (λ x. has_leaf x body ≡ true) xs → map (λ x. or_empty (standing_for x body (with_given ns ts body))) xs ≡ us
+standing_terms ns ts body bare [] [] p a = refl
+standing_terms ns ts body bare [] (u ∷ us) p a = absurd p
+standing_terms ns ts body bare (x ∷ xs) [] p a = absurd p
+standing_terms ns ts body bare (x ∷ xs) (u ∷ us) p a =
     ap₂ (λ v vs. v ∷ vs)
-    (ap or_empty (standing-filled ns ts x u p.0 body bare ∙ ap (λ b. if b then Some u else None) a.0))
-    (standing-terms ns ts body bare xs us p.1 a.1)
+    (ap or_empty (standing_filled ns ts x u p.0 body bare ∙ ap (λ b. if b then Some u else None) a.0))
+    (standing_terms ns ts body bare xs us p.1 a.1)

@@ -4,7 +4,7 @@ use Rattle.cv_syntax_trees.specs.declared.head.Head.{Head}
 use Rattle.cv_syntax_trees.specs.declared.head.Head.TheVariants.{Leaf}
 use Rattle.cv_syntax_trees.specs.Tree.{Tree, Empty, Node}
 use Rattle.cv_meaning_contexts.specs.Groups.{Function, Group}
-use Rattle.cv_scenes.specs.Instances.{names_of}
+use Rattle.cv_scene.specs.Instances.{names_of}
 
 abbrev pub is_leaf_of : ℕ → Head → Bool
 is_leaf_of x (Leaf y) = y == x

@@ -8,9 +8,9 @@ use Rattle.cv_syntax_trees.specs.Builders.{branch, event, find, input, leaf, out
 use Rattle.cv_syntax_trees.specs.Declarations.{Declaration, Named}
 use Rattle.cv_syntax_trees.specs.Tree.{Tree, Empty, Node, binders, chain, lone, names}
 use Rattle.cv_meaning_contexts.specs.Groups.{Left, side_group}
-use Rattle.cv_scenes.specs.Scenes.{Scene}
-use Rattle.cv_scenes.specs.Instances.{Matching}
-use Rattle.cv_scenes.specs.Sites.{Site}
+use Rattle.cv_scene.specs.Scenes.{Scene}
+use Rattle.cv_scene.specs.Instances.{Matching}
+use Rattle.cv_scene.specs.Sites.{Site}
 
 abbrev pub apply : ℕ → List Tree → Tree
 apply f ms = Node (Apply f) (chain ms) Empty

@@ -1,15 +1,21 @@
 // Laws of instances, and small games with their sites, refusals and contexts.
 #![tactic(auto)]
 
+pub mod answers;
+pub mod functions;
+pub mod instances;
+pub mod names;
+pub mod values;
+
 ghost use Rattle.std.specs.Prelude.{◌≡◌, ◌↔◌, [], ◌∷◌, map, None, Some};
 ghost use Rattle.cv_syntax_trees.specs.Builders.{leaf};
 ghost use Rattle.cv_syntax_trees.specs.Tree.{Tree};
 ghost use Rattle.cv_meaning_contexts.specs.Groups.{Function};
-ghost use Rattle.cv_scenes.specs.Instances.{Instance, IsInstance, Matching, instance_of};
+ghost use Rattle.cv_scene.specs.Instances.{Instance, IsInstance, Matching, instance_of};
 ghost use Rattle.cv_match_laws.specs.Named.{ReadsItsNames};
-ghost use Rattle.cv_scenes.specs.Sites.{sites_of};
-ghost use Rattle.cv_scenes.specs.Refusals.{KeyInArgument, NotOneSite, Use, first_refusal};
-ghost use Rattle.cv_scenes.specs.Contexts.{calls_of, context_of};
+ghost use Rattle.cv_scene.specs.Sites.{sites_of};
+ghost use Rattle.cv_scene.specs.Refusals.{KeyInArgument, NotOneSite, Use, first_refusal};
+ghost use Rattle.cv_scene.specs.Contexts.{calls_of, context_of};
 ghost use Rattle.cv_match_laws.specs.Worked.{answer, authentication, context, game, keyless, matching, place_of, scene, tested_with_key};
 
 /// In a small protocol there is a site of each function of an equivalence for authentication; where the key is

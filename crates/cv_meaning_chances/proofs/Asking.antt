@@ -9,10 +9,11 @@ use Rattle.cv_meaning.specs.Tapes.{Cell, Tape, same_cell, cells_of, written, sum
 use Rattle.cv_meaning_laws.proofs.Counts.{sum_same, count_true, count_false}
 use Rattle.cv_meaning_chances.specs.Tests.{HasDistinctCells}
 use Rattle.cv_meaning_chances.specs.Questions.{Questions, Says, Asks, answer, without, AskAlike}
-use Rattle.cv_meaning_chances.proofs.Within.{same_cell_flip, later_distinct, not_later, written_here, count_same_off}
+use Rattle.cv_meaning_chances.proofs.Within.{later_distinct, not_later, written_here, count_same_off}
 use Rattle.cv_meaning_chances.proofs.CellLists.{contains_here, contains_later, contains_cases, not_in_empty, apart_from, distinct_permuted, TakenOut, take_out}
-use Rattle.cv_meaning_chances.proofs.Unread.{total_more}
+use Rattle.cv_meaning_chances.proofs.UnreadCells.{total_more}
 use Rattle.cv_meaning_chances.proofs.Covers.{SameCounts, same_cells, sum_cross, times_cross}
+use Rattle.cv_meaning_laws.proofs.Listed.{apart_back}
 
 -- the list without a cell
 
@@ -44,7 +45,7 @@ all_apart c (e ∷ cs) = go (same_cell e.0 c) refl (all_apart c cs)
   where
     go : (b : Bool) → same_cell e.0 c ≡ b → AllByRecursion (λ d. same_cell c d ≡ false) (cells_of (without c cs)) → AllByRecursion (λ d. same_cell c d ≡ false) (cells_of (cond (not b) (e ∷ without c cs) (without c cs)))
     go true q ih = ih
-    go false q ih = (same_cell_flip e.0 c q, ih)
+    go false q ih = (apart_back e.0 c q, ih)
 
 distinct_without : (c : Cell × ℕ) (cs : List (Cell × ℕ)) → HasDistinctCells cs → HasDistinctCells (c ∷ without c.0 cs)
 distinct_without c cs x = IsDistinct-cons same_cell c.0 (cells_of (without c.0 cs)) (all_apart c.0 cs) (IsDistinct-keys_filter same_cell (λ (d : Cell × ℕ). not (same_cell d.0 c.0)) cs x)

@@ -7,7 +7,8 @@ use Rattle.std.proofs.lemmas.Map.Keys.{IsDistinct-IsPermutation}
 use Rattle.cv_meaning.specs.Tapes.{Cell, Tape, same_cell, cells_of, is_in, written, count, total}
 use Rattle.cv_meaning_laws.proofs.Counts.{same_cell_refl, same_cell_exact, sum_same, count_swap}
 use Rattle.cv_meaning_chances.specs.Tests.{HasDistinctCells}
-use Rattle.cv_meaning_chances.proofs.Within.{same_cell_flip, later_distinct, not_later}
+use Rattle.cv_meaning_chances.proofs.Within.{later_distinct, not_later}
+use Rattle.cv_meaning_laws.proofs.Listed.{apart_back}
 
 -- elements
 
@@ -38,7 +39,7 @@ same_cell_comm c d = go (same_cell c d) refl
   where
     go : (b : Bool) → same_cell c d ≡ b → b ≡ same_cell d c
     go true e = sym (ap (same_cell d) (same_cell_exact c d e) ∙ same_cell_refl d)
-    go false e = sym (same_cell_flip c d e)
+    go false e = sym (apart_back c d e)
 
 pub distinct_permuted : (cs ds : List (Cell × ℕ)) → IsPermutation cs ds → HasDistinctCells cs → HasDistinctCells ds
 distinct_permuted cs ds h = IsDistinct-IsPermutation same_cell same_cell_comm (cells_of cs) (cells_of ds) (IsPermutation-map (λ (c : Cell × ℕ). c.0) cs ds h)
@@ -67,7 +68,7 @@ count_front c [] ys p h t = refl
 count_front c (x ∷ xs) ys p h t =
     count_under x (xs ++ c ∷ ys) (c ∷ (xs ++ ys)) p (count_front c xs ys p (later_distinct x (xs ++ c ∷ ys) h)) t
     ∙ count_swap x c (xs ++ ys) p t
-    (same_cell_flip c.0 x.0 (apart_from (xs ++ c ∷ ys) x.0 c (not_later x (xs ++ c ∷ ys) h) (Contains-append_right xs (c ∷ ys) c (contains_here c ys))))
+    (apart_back c.0 x.0 (apart_from (xs ++ c ∷ ys) x.0 c (not_later x (xs ++ c ∷ ys) h) (Contains-append_right xs (c ∷ ys) c (contains_here c ys))))
 
 total_front : (c : Cell × ℕ) (xs ys : List (Cell × ℕ)) → total (xs ++ c ∷ ys) ≡ c.1 * total (xs ++ ys)
 unfolding total

@@ -6,7 +6,7 @@ use Rattle.cv_meaning.specs.Chances.{chance}
 use Rattle.cv_meaning_chances.specs.Tests.{HasDistinctCells, Ignores, IsCoveredFor}
 use Rattle.cv_meaning_chances.proofs.Within.{later_distinct}
 use Rattle.cv_meaning_chances.proofs.CellLists.{contains_here, contains_later, contains_cases, not_in_empty, not_again, distinct_permuted, count_under, TakenOut, take_out}
-use Rattle.cv_meaning_chances.proofs.Unread.{count_ignored, total_more}
+use Rattle.cv_meaning_chances.proofs.UnreadCells.{count_ignored, total_more}
 
 -- each cell of the first list is in the second or may be left out
 abbrev pub Covers : (Cell → Type 0) → List (Cell × ℕ) → List (Cell × ℕ) → Type 0

@@ -20,8 +20,8 @@ plus_kept p q r s h k =
 abbrev gap : ℕ → ℕ → ℕ
 gap m n = (m - n) + (n - m)
 
-gap-mul : (m n k : ℕ) → gap m n * k ≡ gap (m * k) (n * k)
-gap-mul m n k = rw (mul_comm m k, mul_comm n k, mul_comm (gap m n) k) (mul-add k (m - n) (n - m) ∙ ap₂ ◌+◌ (mul-sub k m n) (mul-sub k n m))
+gap_mul : (m n k : ℕ) → gap m n * k ≡ gap (m * k) (n * k)
+gap_mul m n k = rw (mul_comm m k, mul_comm n k, mul_comm (gap m n) k) (mul-add k (m - n) (n - m) ∙ ap₂ ◌+◌ (mul-sub k m n) (mul-sub k n m))
 
 times_gaps : (a b c x y z : ℕ) → x * b ≤ y * c + z * a → x * (a * b * (b * c)) ≤ (y * (b * c) + z * (a * b)) * (a * c)
 times_gaps a b c x y z h = let k = mul-le-mul_right (a * b * c) h in omega arith
@@ -29,7 +29,7 @@ times_gaps a b c x y z h = let k = mul-le-mul_right (a * b * c) h in omega arith
 pub triangle : (p q r : Chance) → AtMost (distance p r) (plus (distance p q) (distance q r))
 triangle p q r =
     times_gaps p.all q.all r.all (gap (p.good * r.all) (r.good * p.all)) (gap (p.good * q.all) (q.good * p.all)) (gap (q.good * r.all) (r.good * q.all))
-    (rw (gap-mul (p.good * r.all), gap-mul (p.good * q.all), gap-mul (q.good * r.all)) (omega arith))
+    (rw (gap_mul (p.good * r.all), gap_mul (p.good * q.all), gap_mul (q.good * r.all)) (omega arith))
 
 times_gap : (a b m n x : ℕ) → m * b ≤ n * a + x → m * (b * (a * b)) ≤ (n * (a * b) + x * b) * a
 times_gap a b m n x h = let k = mul-le-mul_right (a * b) h in omega arith
@@ -38,12 +38,12 @@ pub within_distance : (p q : Chance) → AtMost p (plus q (distance p q))
 within_distance p q = times_gap p.all q.all p.good q.good (gap (p.good * q.all) (q.good * p.all)) (omega arith)
 
 pub least_distance : (p q r : Chance) → AtMost p (plus q r) → AtMost q (plus p r) → AtMost (distance p q) r
-least_distance p q r h k = rw (gap-mul (p.good * q.all)) (omega arith)
+least_distance p q r h k = rw (gap_mul (p.good * q.all)) (omega arith)
 
 pub distance_kept : (p q r s : Chance) → Same p r → Same q s → Same (distance p q) (distance r s)
 distance_kept p q r s h k =
     let a = ap (λ x. x * (q.all * s.all)) h in
     let b = ap (λ x. x * (p.all * r.all)) k in
-    gap-mul (p.good * q.all) (q.good * p.all) (r.all * s.all)
+    gap_mul (p.good * q.all) (q.good * p.all) (r.all * s.all)
     ∙ ap₂ gap (omega arith) (omega arith)
-    ∙ sym (gap-mul (r.good * s.all) (s.good * r.all) (p.all * q.all))
+    ∙ sym (gap_mul (r.good * s.all) (s.good * r.all) (p.all * q.all))

@@ -9,9 +9,10 @@ use Rattle.cv_meaning.specs.Chances.{chance, AtMost}
 use Rattle.cv_meaning_laws.proofs.Counts.{same_cell_exact, count_le, count_same, sum_same, sum_le, sum_swap, sum_zero, count_or, count_true, count_false}
 use Rattle.cv_meaning_chances.specs.Tests.{HasDistinctCells, Ignores, hits_one_of, some_equal}
 use Rattle.cv_meaning_chances.specs.Fractions.{one_of, birthday_bound}
-use Rattle.cv_meaning_chances.proofs.Within.{count_cases, same_cell_flip, later_distinct, not_later, written_here, written_apart, count_same_off}
+use Rattle.cv_meaning_chances.proofs.Within.{count_cases, later_distinct, not_later, written_here, written_apart, count_same_off}
 use Rattle.cv_meaning_chances.proofs.CellLists.{distinct_permuted, TakenOut, take_out}
-use Rattle.cv_meaning_chances.proofs.Unread.{count_ignored, count_started}
+use Rattle.cv_meaning_chances.proofs.UnreadCells.{count_ignored, count_started}
+use Rattle.cv_meaning_laws.proofs.Listed.{apart_back}
 
 -- at most one of the values
 
@@ -130,7 +131,7 @@ one_of_several : (cs : List (Cell × ℕ)) (c : Cell) (size : ℕ) → HasDistin
 one_of_several cs c size x m [] h = rw (count_false cs blank) (omega arith)
 one_of_several cs c size x m (d ∷ ds) h =
     let a = count_or cs (λ u. u c == u d) (λ u. list_any (λ d. u c == u d) ds) blank in
-    let b = count_equal cs (c, size) (λ u. u d) blank x m (λ u w. written_apart u c w d (same_cell_flip c d h.0)) in
+    let b = count_equal cs (c, size) (λ u. u d) blank x m (λ u w. written_apart u c w d (apart_back c d h.0)) in
     let k = one_of_several cs c size x m ds h.1 in
     let z = mul-le-mul_right size a in
     omega arith

@@ -2,7 +2,7 @@ pub mod FractionLaws
 pub mod Within
 pub mod Unions
 pub mod CellLists
-pub mod Unread
+pub mod UnreadCells
 pub mod Covers
 pub mod Renaming
 pub mod Hits

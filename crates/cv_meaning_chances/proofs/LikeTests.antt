@@ -7,14 +7,14 @@ use Rattle.cv_meaning.specs.Tapes.{Cell, Tape, same_cell, is_in, blank, total}
 use Rattle.cv_meaning.specs.Cells.{without_repeats}
 use Rattle.cv_meaning.specs.Chances.{Chance, chance, Same}
 use Rattle.cv_meaning_laws.proofs.Counts.{same_cell_exact}
-use Rattle.cv_meaning_laws.proofs.Lists.{each_append}
-use Rattle.cv_meaning_laws.proofs.Listed.{distinct-without_repeats}
+use Rattle.cv_meaning_laws.proofs.Listed.{distinct_without_repeats}
 use Rattle.cv_meaning_chances.specs.Tests.{HasDistinctCells, HasValues, HasSizes, IsWithin, Ignores, IgnoresOthers}
 use Rattle.cv_meaning_chances.proofs.CellLists.{contains_here, contains_later, contains_cases, not_in_empty}
 use Rattle.cv_meaning_chances.proofs.Within.{count_same_off, total_above}
 use Rattle.cv_meaning_chances.proofs.Covers.{same_chance}
 use Rattle.cv_meaning_chances.proofs.FractionLaws.{at_most_trans}
 use Rattle.cv_meaning_chances.proofs.Totals.{once_values}
+use Rattle.cv_lists.proofs.Each.{AllByRecursion_append}
 
 abbrev Sized : Type 0
 Sized = Cell × ℕ
@@ -94,7 +94,7 @@ listed_or_not size (d ∷ cs) s c e = go (same_cell d.0 c.0) refl (listed_or_not
     go false k (inl m) = inl (contains_later d c cs m)
     go false k (inr f) = inr (ap₂ ◌||◌ k f)
 
-same_trans : (p q r : Chance) → 0 < q.all → Same p q → Same q r → Same p r
+pub same_trans : (p q r : Chance) → 0 < q.all → Same p q → Same q r → Same p r
 same_trans p q r v e f =
     le_antisymm (at_most_trans p q r v (le_of_eq e) (le_of_eq f)) (at_most_trans r q p v (le_of_eq (sym f)) (le_of_eq (sym e)))
 
@@ -103,7 +103,7 @@ module _ (size : Cell → ℕ) (cs ds : List Sized) (cs_sizes : HasSizes size cs
   joint = without_repeats (cs ++ ds)
 
   sizes : HasSizes size (cs ++ ds)
-  sizes = each_append (λ (x : Sized). x.1 ≡ size x.0) cs ds cs_sizes ds_sizes
+  sizes = AllByRecursion_append (λ (x : Sized). x.1 ≡ size x.0) cs ds cs_sizes ds_sizes
 
   in_left : (c : Sized) → Contains cs c → Contains joint c
   in_left c k = once_has size (cs ++ ds) sizes c (Contains-append_left cs ds c k)
@@ -119,7 +119,7 @@ module _ (size : Cell → ℕ) (cs ds : List Sized) (cs_sizes : HasSizes size cs
 
   over_all : (p : Tape → Bool) (xs : List Sized) → HasSizes size xs → HasDistinctCells xs → ((c : Sized) → Contains xs c → Contains joint c) → IgnoresOthers p xs → Same (chance xs p) (chance joint p)
   over_all p xs s d h i =
-      same_chance p xs joint d (distinct-without_repeats (cs ++ ds)) (λ c k. inl (h c k)) (λ c k. covered c (listed_or_not size xs s c (size_in c k))) blank
+      same_chance p xs joint d (distinct_without_repeats (cs ++ ds)) (λ c k. inl (h c k)) (λ c k. covered c (listed_or_not size xs s c (size_in c k))) blank
     where
       covered : (c : Sized) → Contains xs c ⊎ (is_in xs c.0 ≡ false) → Contains xs c ⊎ Ignores p c.0
       covered c (inl m) = inl m
@@ -127,11 +127,11 @@ module _ (size : Cell → ℕ) (cs ds : List Sized) (cs_sizes : HasSizes size cs
 
   same_over_all : (p q : Tape → Bool) → ((t : Tape) → IsWithin cs t → IsWithin ds t → p t ≡ q t) → chance joint p ≡ chance joint q
   same_over_all p q e =
-      λ i. record { good = count_same_off joint p q blank (distinct-without_repeats (cs ++ ds)) (λ u w off. e u (within cs in_left u w) (within ds in_right u w)) i; all = total joint }
+      λ i. record { good = count_same_off joint p q blank (distinct_without_repeats (cs ++ ds)) (λ u w off. e u (within cs in_left u w) (within ds in_right u w)) i; all = total joint }
 
   pub like_tests : (p q : Tape → Bool) → HasDistinctCells cs → HasDistinctCells ds → HasValues cs → HasValues ds → IgnoresOthers p cs → IgnoresOthers q ds → ((t : Tape) → IsWithin cs t → IsWithin ds t → p t ≡ q t) → Same (chance cs p) (chance ds q)
   like_tests p q x y v w i j e =
-      let some : 0 < total joint = total_above joint (once_values (cs ++ ds) (each_append (λ (c : Sized). 0 < c.1) cs ds v w)) in
+      let some : 0 < total joint = total_above joint (once_values (cs ++ ds) (AllByRecursion_append (λ (c : Sized). 0 < c.1) cs ds v w)) in
       same_trans (chance cs p) (chance joint p) (chance ds q) some
       (over_all p cs cs_sizes x in_left i)
       (subst (λ r. Same r (chance ds q)) (sym (same_over_all p q e)) (sym (over_all q ds ds_sizes y in_right j)))

@@ -10,12 +10,13 @@ use Rattle.cv_meaning.specs.Runs.{Mode, Events, Real, Random, Adversary}
 use Rattle.cv_meaning.specs.Cells.{tuples_below, bounds_under, at_each_copy, cells_at, if_tested, test_cells_at, test_cells, coin_cells, without_repeats, cells}
 use Rattle.cv_meaning.specs.Experiments.{Experiment, Breaks, Guesses, mode_of}
 use Rattle.cv_meaning.specs.Advantage.{chance_of, secrecy, advantage}
-use Rattle.cv_meaning_laws.proofs.Lists.{each_append, each_flat_map}
+use Rattle.cv_meaning_laws.proofs.Lists.{each_flat_map}
 use Rattle.cv_meaning_chances.specs.Tests.{HasValues}
 use Rattle.cv_meaning_chances.specs.Fractions.{HasTapes}
 use Rattle.cv_meaning_chances.specs.Choices.{HeadHasValues, ChoicesHaveValues}
 use Rattle.cv_meaning_chances.proofs.Within.{total_above}
 use Rattle.std.proofs.Common.{mul-pos}
+use Rattle.cv_lists.proofs.Each.{AllByRecursion_append}
 
 abbrev HasValue : Cell × ℕ → Type 0
 HasValue c = 0 < c.1
@@ -41,15 +42,15 @@ copies_values : (g : Setting) (give : Head → List ℕ → List (Cell × ℕ)) 
 unfolding at_each_copy
 copies_values g give k bounds Empty v = tt
 copies_values g give k bounds (Node h a b) v =
-    each_append HasValue _ _ (each_flat_map HasValue (give h) (tuples_below bounds) (k h v.0))
-    (each_append HasValue _ _ (copies_values g give k (bounds_under g bounds h) a v.1) (copies_values g give k (bounds_under g bounds h) b v.2))
+    AllByRecursion_append HasValue _ _ (each_flat_map HasValue (give h) (tuples_below bounds) (k h v.0))
+    (AllByRecursion_append HasValue _ _ (copies_values g give k (bounds_under g bounds h) a v.1) (copies_values g give k (bounds_under g bounds h) b v.2))
 
 tests_values : (g : Setting) (m : Mode) (game : Tree) → ChoicesHaveValues g game → HasValues (test_cells g m game)
 tests_values g Events game v = tt
 tests_values g (Real one x) game v = copies_values g (test_cells_at g x) (test_values g x) [] game v
 tests_values g (Random one x) game v = copies_values g (test_cells_at g x) (test_values g x) [] game v
 
-coins_values : (k : ℕ) (ns : List ℕ) → AllByRecursion (λ n. 1 ≤ n) ns → HasValues (coin_cells k ns)
+pub coins_values : (k : ℕ) (ns : List ℕ) → AllByRecursion (λ n. 1 ≤ n) ns → HasValues (coin_cells k ns)
 coins_values k [] h = tt
 coins_values k (n ∷ ns) h = let v : 1 ≤ n = h.0 in (omega arith, coins_values (suc k) ns h.1)
 
@@ -68,8 +69,8 @@ once_values (c ∷ cs) h = (h.0, each_filter (λ (d : Cell × ℕ). not (same_ce
 pub cells_values : (g : Setting) (m : Mode) (a : Adversary) (game : Tree) → ChoicesHaveValues g game → HasValues (cells g m a game)
 unfolding cells
 cells_values g m a game v =
-    once_values _ (each_append HasValue _ _ (copies_values g (cells_at g) (here_values g) [] game v)
-    (each_append HasValue _ _ (tests_values g m game v) (coins_values 0 a.coins a.coins_have_values)))
+    once_values _ (AllByRecursion_append HasValue _ _ (copies_values g (cells_at g) (here_values g) [] game v)
+    (AllByRecursion_append HasValue _ _ (tests_values g m game v) (coins_values 0 a.coins a.coins_have_values)))
 
 pub chance_has_tapes : (g : Setting) (x : Experiment) (a : Adversary) (game : Tree) → HasValues (cells g (mode_of x) a game) → HasTapes (chance_of g x a game)
 unfolding chance_of

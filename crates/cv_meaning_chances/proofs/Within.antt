@@ -6,15 +6,9 @@ use Rattle.std.specs.List.{AllByRecursion}
 use Rattle.cv_meaning.specs.Tapes.{Cell, Tape, same_cell, cells_of, is_in, written, sum_below, count, total}
 use Rattle.cv_meaning_laws.proofs.Counts.{same_cell_refl, same_cell_exact, sum_same, sum_add, count_le, count_true}
 use Rattle.cv_meaning_chances.specs.Tests.{HasDistinctCells, HasValues, IsWithin}
+use Rattle.cv_meaning_laws.proofs.Listed.{apart_back}
 
 -- cells
-
-pub same_cell_flip : (c d : Cell) → same_cell c d ≡ false → same_cell d c ≡ false
-same_cell_flip c d h = go (same_cell d c) refl
-  where
-    go : (b : Bool) → same_cell d c ≡ b → b ≡ false
-    go true e = absurd (both_ways _ h (ap (same_cell c) (same_cell_exact d c e) ∙ same_cell_refl c))
-    go false e = refl
 
 pub later_distinct : (c : Cell × ℕ) (cs : List (Cell × ℕ)) → HasDistinctCells (c ∷ cs) → HasDistinctCells cs
 later_distinct c cs = IsDistinct-tail same_cell c.0 (cells_of cs)
@@ -24,7 +18,7 @@ not_later c cs h = go cs (IsDistinct-head same_cell c.0 (cells_of cs) h)
   where
     go : (ds : List (Cell × ℕ)) → AllByRecursion (λ d. same_cell c.0 d ≡ false) (cells_of ds) → is_in ds c.0 ≡ false
     go [] k = refl
-    go (d ∷ ds) k = ap₂ ◌||◌ (same_cell_flip c.0 d.0 k.0) (go ds k.1)
+    go (d ∷ ds) k = ap₂ ◌||◌ (apart_back c.0 d.0 k.0) (go ds k.1)
 
 -- tapes
 
@@ -43,7 +37,7 @@ SameOff cs u t = (d : Cell) → is_in cs d ≡ false → u d ≡ t d
 same_off_more : (c : Cell × ℕ) (cs : List (Cell × ℕ)) (u t : Tape) (v : ℕ) → SameOff cs u (written t c.0 v) → SameOff (c ∷ cs) u t
 same_off_more c cs u t v off d h =
     let k = or_parts (same_cell c.0 d) (is_in cs d) h in
-    off d k.1 ∙ written_apart t c.0 v d (same_cell_flip c.0 d k.0)
+    off d k.1 ∙ written_apart t c.0 v d (apart_back c.0 d k.0)
 
 -- sums
 

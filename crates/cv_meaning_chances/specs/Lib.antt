@@ -2,3 +2,9 @@ pub mod Tests
 pub mod Fractions
 pub mod Questions
 pub mod Choices
+pub mod values
+pub mod alignment
+pub mod unread
+pub mod thinning
+pub mod rewording
+pub mod maps

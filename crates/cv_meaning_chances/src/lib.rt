@@ -1,6 +1,14 @@
 // The laws of chances: counts of tapes, and the chances that they make.
 #![tactic(auto)]
 
+pub mod alignment;
+pub mod contexts;
+pub mod maps;
+pub mod rewording;
+pub mod thinning;
+pub mod unread;
+pub mod values;
+
 ghost use Rattle.std.specs.Prelude.{◌≡◌, ℕ, suc, ◌+◌, ◌*◌, ◌≤◌, ◌<◌, ◌↔◌, Bool, true, false, not, ◌&&◌, List, [], ◌∷◌, map, length, sum_by, All, Contains, IsPermutation, ◌==◌};
 ghost use Rattle.std.specs.List.{IsDistinct, list_any};
 ghost use Rattle.cv_meaning.specs.Tapes.{Cell, Coin, Tape, same_cell, written, count, total};

@@ -6,6 +6,7 @@ use Rattle.cv_syntax_trees.specs.declared.head.Head.TheVariants.{Call}
 use Rattle.cv_syntax_trees.specs.Tree.{Tree, Empty, Node}
 use Rattle.cv_meaning.specs.Interpretation.{Setting}
 use Rattle.cv_meaning.specs.Cells.{bounds_under}
+use Rattle.cv_lists.specs.Options.{first_of}
 
 pub record Site : Type 0 where
   pub number : ℕ
@@ -15,10 +16,6 @@ pub record Site : Type 0 where
 abbrev pub is_call : ℕ → Head → Bool
 is_call l (Call x m) = m == l
 is_call l h = false
-
-abbrev pub first_of : {A : Type 0} → Option A → Option A → Option A
-first_of None b = b
-first_of (Some a) b = Some a
 
 -- the bounds above the first call with a site's number; first those above the tree
 unfoldable pub bounds_above : Setting → List ℕ → ℕ → Tree → Option (List ℕ)

@@ -8,16 +8,16 @@ use Rattle.cv_meaning.specs.Memory.{Store, Indices}
 use Rattle.cv_meaning.specs.Terms.{or_zero, found_in, bit, is_one, leaf_value_from, value, values}
 use Rattle.cv_meaning_laws.specs.Agreement.{AgreeOn}
 
-leaf_value-agree : (g : Setting) (at : Indices) (on : ℕ → Bool) (m n : Store) → AgreeOn on m n → (x : ℕ) (o : Option ℕ) → on x ≡ true → leaf_value_from g m x o ≡ leaf_value_from g n x o
-leaf_value-agree g at on m n h x (Some v) e = refl
-leaf_value-agree g at on m n h x None e = ap (λ o. cond (g.is_constant x) (g.interpretation.table x []) (or_zero o)) (h x [] e)
+leaf_value_agree : (g : Setting) (at : Indices) (on : ℕ → Bool) (m n : Store) → AgreeOn on m n → (x : ℕ) (o : Option ℕ) → on x ≡ true → leaf_value_from g m x o ≡ leaf_value_from g n x o
+leaf_value_agree g at on m n h x (Some v) e = refl
+leaf_value_agree g at on m n h x None e = ap (λ o. cond (g.is_constant x) (g.interpretation.table x []) (or_zero o)) (h x [] e)
 
 mutual
   unfolding value reads_only
 
   pub value_agree : (g : Setting) (at : Indices) (on : ℕ → Bool) (m n : Store) → AgreeOn on m n → (a : Tree) → reads_only on a ≡ true → value g at m a ≡ value g at n a
   value_agree g at on m n h Empty e = refl
-  value_agree g at on m n h (Node (Leaf x) a b) e = leaf_value-agree g at on m n h x (found_in at x) (and_parts (on x) _ e).0
+  value_agree g at on m n h (Node (Leaf x) a b) e = leaf_value_agree g at on m n h x (found_in at x) (and_parts (on x) _ e).0
   value_agree g at on m n h (Node (Read x) a b) e =
       let p = and_parts (on x) _ e in
       ap or_zero (h x (values g at m a) p.0) ∙ ap (λ u. or_zero (n x u)) (values_agree g at on m n h a (and_parts (reads_only on a) _ p.1).0)

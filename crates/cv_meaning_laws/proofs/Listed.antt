@@ -16,8 +16,8 @@ use Rattle.cv_meaning.specs.Runs.{Mode, Answer, Move, Calls, Tests, Guesses, Sta
 use Rattle.cv_meaning.specs.Cells.{tuples_below, bounds_under, at_each_copy, cells_at, without_repeats, test_cells, coin_cells, cells}
 use Rattle.cv_meaning.specs.Experiments.{visits_of_run, coins_on}
 use Rattle.cv_meaning_laws.proofs.Counts.{same_cell_refl, same_cell_exact}
-use Rattle.cv_meaning_laws.proofs.Lists.{each_append}
 use Rattle.cv_meaning_laws.proofs.Moves.{TakenEach, admitted_each}
+use Rattle.cv_lists.proofs.Each.{AllByRecursion_weaker, AllByRecursion_append}
 
 abbrev pub Has : {A : Type 0} → List A → A → Type 0
 Has [] a = ⊥
@@ -44,7 +44,7 @@ has_flat_map f (x ∷ xs) a b (inr h) k = has_right (f x) (flat_map f xs) b (has
 
 pub each_flat_map_in : {A B : Type 0} (P : B → Type 0) (f : A → List B) (xs : List A) → ((x : A) → Has xs x → AllByRecursion P (f x)) → AllByRecursion P (flat_map f xs)
 each_flat_map_in P f [] h = tt
-each_flat_map_in P f (x ∷ xs) h = each_append P (f x) (flat_map f xs) (h x (inl refl)) (each_flat_map_in P f xs (λ y k. h y (inr k)))
+each_flat_map_in P f (x ∷ xs) h = AllByRecursion_append P (f x) (flat_map f xs) (h x (inl refl)) (each_flat_map_in P f xs (λ y k. h y (inr k)))
 
 pub each_map_in : {A B : Type 0} (P : B → Type 0) (f : A → B) (xs : List A) → ((x : A) → Has xs x → P (f x)) → AllByRecursion P (map f xs)
 each_map_in P f [] h = tt
@@ -58,14 +58,14 @@ Sized = Cell × ℕ
 abbrev pub is_not : Sized → Sized → Bool
 is_not e d = not (same_cell d.0 e.0)
 
-apart_back : (c d : Cell) → same_cell c d ≡ false → same_cell d c ≡ false
+pub apart_back : (c d : Cell) → same_cell c d ≡ false → same_cell d c ≡ false
 apart_back c d h = go (same_cell d c) refl
   where
     go : (b : Bool) → same_cell d c ≡ b → b ≡ false
     go true e = absurd (both_ways _ h (ap (same_cell c) (same_cell_exact d c e) ∙ same_cell_refl c))
     go false e = refl
 
-all_filtered : (P : Cell → Type 0) (p : Sized → Bool) (cs : List Sized) → AllByRecursion P (cells_of cs) → AllByRecursion P (cells_of (filter p cs))
+pub all_filtered : (P : Cell → Type 0) (p : Sized → Bool) (cs : List Sized) → AllByRecursion P (cells_of cs) → AllByRecursion P (cells_of (filter p cs))
 all_filtered P p [] h = tt
 all_filtered P p (d ∷ cs) h = go (p d) (all_filtered P p cs h.1)
   where
@@ -90,14 +90,14 @@ apart_filtered e (d ∷ cs) = go (same_cell d.0 e.0) refl (apart_filtered e cs)
     go true h k = k
     go false h k = (apart_back d.0 e.0 h, k)
 
-pub distinct-without_repeats : (cs : List Sized) → IsDistinct same_cell (cells_of (without_repeats cs))
+pub distinct_without_repeats : (cs : List Sized) → IsDistinct same_cell (cells_of (without_repeats cs))
 unfolding IsDistinct
-distinct-without_repeats [] = tt
-distinct-without_repeats (d ∷ cs) = (apart_filtered d (without_repeats cs), distinct_filtered (is_not d) (without_repeats cs) (distinct-without_repeats cs))
+distinct_without_repeats [] = tt
+distinct_without_repeats (d ∷ cs) = (apart_filtered d (without_repeats cs), distinct_filtered (is_not d) (without_repeats cs) (distinct_without_repeats cs))
 
-is_in-filter : (e : Sized) (c : Cell) → same_cell c e.0 ≡ false → (cs : List Sized) → is_in cs c ≡ true → is_in (filter (is_not e) cs) c ≡ true
-is_in-filter e c apart [] h = h
-is_in-filter e c apart (d ∷ cs) h = go (same_cell d.0 e.0) (same_cell d.0 c) refl refl (is_in-filter e c apart cs) h
+is_in_filter : (e : Sized) (c : Cell) → same_cell c e.0 ≡ false → (cs : List Sized) → is_in cs c ≡ true → is_in (filter (is_not e) cs) c ≡ true
+is_in_filter e c apart [] h = h
+is_in_filter e c apart (d ∷ cs) h = go (same_cell d.0 e.0) (same_cell d.0 c) refl refl (is_in_filter e c apart cs) h
   where
     go : (b r : Bool) → same_cell d.0 e.0 ≡ b → same_cell d.0 c ≡ r → (is_in cs c ≡ true → is_in (filter (is_not e) cs) c ≡ true) → (r || is_in cs c) ≡ true → is_in (cond (not b) (d ∷ filter (is_not e) cs) (filter (is_not e) cs)) c ≡ true
     go true true x y ih k = absurd (both_ways _ apart (ap (λ z. same_cell z e.0) (sym (same_cell_exact d.0 c y)) ∙ x))
@@ -105,14 +105,14 @@ is_in-filter e c apart (d ∷ cs) h = go (same_cell d.0 e.0) (same_cell d.0 c) r
     go false true x y ih k = ap (λ z. z || is_in (filter (is_not e) cs) c) y
     go false false x y ih k = ap (λ z. z || is_in (filter (is_not e) cs) c) y ∙ ih k
 
-pub is_in-without_repeats : (cs : List Sized) (d : Sized) → Has cs d → is_in (without_repeats cs) d.0 ≡ true
-is_in-without_repeats [] d h = absurd h
-is_in-without_repeats (e ∷ cs) d (inl h) = ap (λ z. z || is_in (filter (is_not e) (without_repeats cs)) d.0) (ap (λ (x : Sized). same_cell x.0 d.0) (sym h) ∙ same_cell_refl d.0)
-is_in-without_repeats (e ∷ cs) d (inr h) = go (same_cell e.0 d.0) refl (is_in-without_repeats cs d h)
+pub is_in_without_repeats : (cs : List Sized) (d : Sized) → Has cs d → is_in (without_repeats cs) d.0 ≡ true
+is_in_without_repeats [] d h = absurd h
+is_in_without_repeats (e ∷ cs) d (inl h) = ap (λ z. z || is_in (filter (is_not e) (without_repeats cs)) d.0) (ap (λ (x : Sized). same_cell x.0 d.0) (sym h) ∙ same_cell_refl d.0)
+is_in_without_repeats (e ∷ cs) d (inr h) = go (same_cell e.0 d.0) refl (is_in_without_repeats cs d h)
   where
     go : (b : Bool) → same_cell e.0 d.0 ≡ b → is_in (without_repeats cs) d.0 ≡ true → (b || is_in (filter (is_not e) (without_repeats cs)) d.0) ≡ true
     go true x k = refl
-    go false x k = is_in-filter e d.0 (apart_back e.0 d.0 x) (without_repeats cs) k
+    go false x k = is_in_filter e d.0 (apart_back e.0 d.0 x) (without_repeats cs) k
 
 -- tuples below bounds
 
@@ -134,7 +134,7 @@ within_push (w ∷ vs) (m ∷ ns) v n h k = (h.0, within_push vs ns v n h.1 k)
 within_push [] (m ∷ ns) v n h k = absurd h
 within_push (w ∷ vs) [] v n h k = absurd h
 
-tuple_push : (at : Indices) (i v : ℕ) → tuple (at ++ (i, v) ∷ []) ≡ tuple at ++ v ∷ []
+pub tuple_push : (at : Indices) (i v : ℕ) → tuple (at ++ (i, v) ∷ []) ≡ tuple at ++ v ∷ []
 tuple_push [] i v = refl
 tuple_push (p ∷ at) i v = ap (λ u. p.1 ∷ u) (tuple_push at i v)
 
@@ -167,7 +167,7 @@ pub inputs_within : (g : Setting) (cs : List Sized) (b : Tree) (p : ℕ) (at : I
 unfolding inputs_of
 inputs_within g cs Empty p at ns w c = tt
 inputs_within g cs (Node Par a b) p at ns w c =
-    each_append (IsWithin g cs) (inputs_of g a _ at) _ (inputs_within g cs a _ at ns w (covers_first g cs ns Par a b c)) (inputs_within g cs b _ at ns w (covers_second g cs ns Par a b c))
+    AllByRecursion_append (IsWithin g cs) (inputs_of g a _ at) _ (inputs_within g cs a _ at ns w (covers_first g cs ns Par a b c)) (inputs_within g cs b _ at ns w (covers_second g cs ns Par a b c))
 inputs_within g cs (Node (Repl i n) a b) p at ns w c =
     each_flat_map_in (IsWithin g cs) _ (below (g.interpretation.parameter_value n))
     (λ v k. inputs_within g cs b _ (at ++ (i, v) ∷ []) (ns ++ g.interpretation.parameter_value n ∷ [])
@@ -199,7 +199,7 @@ with_here : (g : Setting) (cs : List Sized) (h : Head) (a b : Tree) (p : ℕ) (s
     → {r : Served} {ws : List Visit} → IsServedWithin g cs r ws → IsServedWithin g cs r (record { place = p; tree = Node h a b; before = s } ∷ ws)
 unfolding consulted
 with_here g cs h a b p s ns w c {ws = ws} f =
-    record { opened = f.opened; found = each_append (Found cs) (consulted_by g h a s) (consulted g ws) (found_here g cs h a b s ns w c) f.found }
+    record { opened = f.opened; found = AllByRecursion_append (Found cs) (consulted_by g h a s) (consulted g ws) (found_here g cs h a b s ns w c) f.found }
 
 abbrev pub ServesWithin : Setting → Tape → List Sized → Tree → Type 0
 ServesWithin g t cs b = (p k : ℕ) (vs : List ℕ) (s : Local) (ns : List ℕ) → Within (tuple s.indices) ns → Covers g cs ns b → IsServedWithin g cs (serve g t b p k vs s) (visits g t b p k vs s)
@@ -230,10 +230,10 @@ serve_within g t cs (Node h a b) p k vs s ns w c = record { opened = tt; found =
 
 -- runs
 
-consulted-append : (g : Setting) (vs ws : List Visit) → consulted g (vs ++ ws) ≡ consulted g vs ++ consulted g ws
+consulted_append : (g : Setting) (vs ws : List Visit) → consulted g (vs ++ ws) ≡ consulted g vs ++ consulted g ws
 unfolding consulted
-consulted-append g [] ws = refl
-consulted-append g (v ∷ vs) ws = ap (λ cs. consulted_at g v.tree v.before ++ cs) (consulted-append g vs ws) ∙ sym (append_assoc (consulted_at g v.tree v.before) (consulted g vs) (consulted g ws))
+consulted_append g [] ws = refl
+consulted_append g (v ∷ vs) ws = ap (λ cs. consulted_at g v.tree v.before ++ cs) (consulted_append g vs ws) ∙ sym (append_assoc (consulted_at g v.tree v.before) (consulted g vs) (consulted g ws))
 
 abbrev pub InputsWithin : Setting → List Sized → State → Type 0
 InputsWithin g cs st = AllByRecursion (IsWithin g cs) st.inputs
@@ -248,7 +248,7 @@ called_within g t cs st vs f None h = record { inputs = f; found = tt }
 called_within g t cs st vs f (Some k) h =
     let i = (h k refl).input in
     let r = serve_within g t cs k.input.tree k.input.place 0 vs (record { indices = k.input.indices; memory = st.memory }) i.bounds i.within i.covers in
-    record { inputs = each_append (IsWithin g cs) k.others _ (h k refl).others r.opened; found = r.found }
+    record { inputs = AllByRecursion_append (IsWithin g cs) k.others _ (h k refl).others r.opened; found = r.found }
 
 tested_within : (g : Setting) (cs : List Sized) (st : State) → InputsWithin g cs st → (o : Option ℕ) → InputsWithin g cs (tested_with st o)
 tested_within g cs st f None = f
@@ -270,21 +270,17 @@ run_found g m next t cs (suc n) st f = go (next_move next st) (λ a r. run_found
     go None ih = tt
     go (Some a) ih =
         let r : MovesWithin g cs (moved g m t st a) (visits_of_move g t st a) = moved_within g m t cs st a f in
-        subst (AllByRecursion (Found cs)) (sym (consulted-append g (visits_of_move g t st a) _)) (each_append (Found cs) _ _ r.found (ih a r.inputs))
-
-all_mapped : {A : Type 0} (P Q : A → Type 0) → ((x : A) → P x → Q x) → (xs : List A) → AllByRecursion P xs → AllByRecursion Q xs
-all_mapped P Q h [] k = tt
-all_mapped P Q h (x ∷ xs) k = (h x k.0, all_mapped P Q h xs k.1)
+        subst (AllByRecursion (Found cs)) (sym (consulted_append g (visits_of_move g t st a) _)) (AllByRecursion_append (Found cs) _ _ r.found (ih a r.inputs))
 
 pub consulted_listed : (g : Setting) (m : Mode) (a : Adversary) (game : Tree) (t : Tape) → AllByRecursion (IsListed (cells g m a game)) (consulted g (visits_of_run g m a game t))
 unfolding cells visits_of_run
 consulted_listed g m a game t =
     let own : List Sized = at_each_copy g (cells_at g) [] game in
     let rest : List Sized = test_cells g m game ++ coin_cells 0 a.coins in
-    all_mapped (Found own) (IsListed (without_repeats (own ++ rest)))
-    (λ c f k. let d = f k in is_in-without_repeats (own ++ rest) (c, d.0) (has_left own rest (c, d.0) d.1))
+    AllByRecursion_weaker (Found own) (IsListed (without_repeats (own ++ rest)))
+    (λ c f k. let d = f k in is_in_without_repeats (own ++ rest) (c, d.0) (has_left own rest (c, d.0) d.1))
     _ (run_found g m (a.next (coins_on t 0 a.coins)) t own a.moves (start g game) (inputs_within g own game 0 [] [] tt (λ d h. h)))
 
 pub cells_distinct : (g : Setting) (m : Mode) (a : Adversary) (game : Tree) → IsDistinct same_cell (cells_of (cells g m a game))
 unfolding cells
-cells_distinct g m a game = distinct-without_repeats (at_each_copy g (cells_at g) [] game ++ (test_cells g m game ++ coin_cells 0 a.coins))
+cells_distinct g m a game = distinct_without_repeats (at_each_copy g (cells_at g) [] game ++ (test_cells g m game ++ coin_cells 0 a.coins))

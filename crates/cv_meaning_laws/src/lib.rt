@@ -1,6 +1,8 @@
 // Laws of the meaning of the calculus, and cases that are computed from its definitions.
 #![tactic(auto)]
 
+pub mod adequacy;
+
 ghost use Rattle.std.specs.Prelude.{◌≡◌, ℕ, ◌-◌, Bool, List, [], ◌∷◌, true, false};
 ghost use Rattle.std.specs.List.{AllByRecursion, IsDistinct};
 ghost use Rattle.cv_syntax_trees.specs.declared.head.Head.TheVariants.{Secret, SecretOnce};

@@ -13,9 +13,10 @@ use Rattle.cv_meaning.specs.Experiments.{run, visits_of_run}
 use Rattle.cv_meaning_laws.proofs.Counts.{same_tuple_exact, same_tuple_refl}
 use Rattle.cv_meaning_runs.specs.Placed.{IsInputOn, InputHas, IsSubtree}
 use Rattle.cv_meaning_runs.specs.Spots.{same_spot, spot_of_input, spots_of_visits, spots_of_inputs, same_address, HasOwnChannels}
-use Rattle.cv_meaning_runs.proofs.Lists.{distinct_right, all_map}
+use Rattle.cv_meaning_runs.proofs.Lists.{distinct_right}
 use Rattle.cv_meaning_runs.proofs.Placed.{inputs_subtrees}
 use Rattle.cv_meaning_runs.proofs.Spots.{spots_distinct}
+use Rattle.cv_lists.proofs.Each.{AllByRecursion_weaker}
 
 other_address : (c : ℕ) (u : List ℕ) (i j : Input) → is_at c u i ≡ true → same_address i j ≡ false → is_at c u j ≡ false
 other_address c u i j e f = go (is_at c u j) refl
@@ -38,7 +39,7 @@ taken_alone c u (i ∷ is) k d e = go (is_at c u i) refl (taken c u is) (λ r. t
         → AllByRecursion (λ j. is_at c u j ≡ false) k.others
     go true x o ih e =
         let q : record { input = i; others = is } ≡ k = cc in
-        subst (λ (r : Taken). AllByRecursion (λ j. is_at c u j ≡ false) r.others) q (all_map (λ j. same_address i j ≡ false) (λ j. is_at c u j ≡ false) (λ j. other_address c u i j x) is d.0)
+        subst (λ (r : Taken). AllByRecursion (λ j. is_at c u j ≡ false) r.others) q (AllByRecursion_weaker (λ j. same_address i j ≡ false) (λ j. is_at c u j ≡ false) (λ j. other_address c u i j x) is d.0)
     go false x None ih e = cc
     go false x (Some r) ih e =
         let q : record r { others = i ∷ r.others } ≡ k = cc in

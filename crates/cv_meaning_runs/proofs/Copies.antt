@@ -7,9 +7,10 @@ use Rattle.cv_meaning.specs.Interpretation.{Setting}
 use Rattle.cv_meaning.specs.Memory.{Indices, tuple}
 use Rattle.cv_meaning.specs.Candidates.{below}
 use Rattle.cv_meaning.specs.Inputs.{Input, inputs_of}
-use Rattle.cv_meaning_laws.proofs.Lists.{each_append}
-use Rattle.cv_meaning_runs.proofs.Lists.{all_map, all_cross, Pairwise, pairwise_append}
+use Rattle.cv_meaning_runs.proofs.Lists.{Pairwise, pairwise_append}
 use Rattle.cv_meaning_runs.specs.Spots.{Spot, spot_of_input}
+use Rattle.cv_meaning_laws.proofs.Listed.{tuple_push}
+use Rattle.cv_lists.proofs.Each.{AllByRecursion_append, AllByRecursion_weaker, AllByRecursion_cross}
 
 -- the spots below a node, and those of a copy of an input
 
@@ -51,10 +52,6 @@ pub extends_less : (u w x : List ℕ) → Extends u (w ++ x) → Extends u w
 unfolding Extends
 extends_less u w x e = (x ++ e.0, e.1 ∙ append_assoc w x e.0)
 
-pub tuple_push : (at : Indices) (i v : ℕ) → tuple (at ++ (i, v) ∷ []) ≡ tuple at ++ v ∷ []
-tuple_push [] i v = refl
-tuple_push (p ∷ at) i v = ap (λ u. p.1 ∷ u) (tuple_push at i v)
-
 -- copies that are apart, with all of their spots among those of P
 
 pub record Copies (P : Spot → Type 0) (is : List Input) : Type 0 where
@@ -63,13 +60,13 @@ pub record Copies (P : Spot → Type 0) (is : List Input) : Type 0 where
   pub apart : Pairwise Apart is
 
 pub copies_among : (P Q : Spot → Type 0) → ((s : Spot) → P s → Q s) → (is : List Input) → Copies P is → Copies Q is
-copies_among P Q h is c = record { own = c.own; among = all_map (λ i. (s : Spot) → Within i s → P s) _ (λ i k s w. h s (k s w)) is c.among; apart = c.apart }
+copies_among P Q h is c = record { own = c.own; among = AllByRecursion_weaker (λ i. (s : Spot) → Within i s → P s) _ (λ i k s w. h s (k s w)) is c.among; apart = c.apart }
 
 pub copies_append : (P Q R : Spot → Type 0) → ((s : Spot) → P s → R s) → ((s : Spot) → Q s → R s) → ((s : Spot) → P s → Q s → ⊥) → (is js : List Input) → Copies P is → Copies Q js → Copies R (is ++ js)
 copies_append P Q R f k h is js c d = record {
-  own = each_append _ is js c.own d.own;
-  among = each_append _ is js (copies_among P R f is c).among (copies_among Q R k js d).among;
-  apart = pairwise_append Apart is js c.apart d.apart (all_cross (λ i. (s : Spot) → Within i s → P s) (λ j. (s : Spot) → Within j s → Q s) Apart (λ i j x y s a b. h s (x s a) (y s b)) is js c.among d.among);
+  own = AllByRecursion_append _ is js c.own d.own;
+  among = AllByRecursion_append _ is js (copies_among P R f is c).among (copies_among Q R k js d).among;
+  apart = pairwise_append Apart is js c.apart d.apart (AllByRecursion_cross (λ i. (s : Spot) → Within i s → P s) (λ j. (s : Spot) → Within j s → Q s) Apart (λ i j x y s a b. h s (x s a) (y s b)) is js c.among d.among);
 }
 
 abbrev pub InOne : (ℕ → Spot → Type 0) → List ℕ → Spot → Type 0
@@ -92,11 +89,11 @@ in_one P R h (v ∷ vs) s (inr x) = in_one P R h vs s x
 
 pub all_below : (n : ℕ) → AllByRecursion (λ v. v < n) (below n)
 all_below zero = tt
-all_below (suc n) = each_append (λ v. v < suc n) (below n) (n ∷ []) (all_map (λ v. v < n) (λ v. v < suc n) (λ v l. omega arith) (below n) (all_below n)) (omega arith, tt)
+all_below (suc n) = AllByRecursion_append (λ v. v < suc n) (below n) (n ∷ []) (AllByRecursion_weaker (λ v. v < n) (λ v. v < suc n) (λ v l. omega arith) (below n) (all_below n)) (omega arith, tt)
 
 pub below_rises : (n : ℕ) → Pairwise (λ v w. v < w) (below n)
 below_rises zero = tt
-below_rises (suc n) = pairwise_append (λ v w. v < w) (below n) (n ∷ []) (below_rises n) (tt, tt) (all_map (λ v. v < n) (λ v. AllByRecursion (λ w. v < w) (n ∷ [])) (λ v l. (l, tt)) (below n) (all_below n))
+below_rises (suc n) = pairwise_append (λ v w. v < w) (below n) (n ∷ []) (below_rises n) (tt, tt) (AllByRecursion_weaker (λ v. v < n) (λ v. AllByRecursion (λ w. v < w) (n ∷ [])) (λ v l. (l, tt)) (below n) (all_below n))
 
 pub inputs_copies : (g : Setting) (b : Tree) (p : ℕ) (at : Indices) → Copies (Under b p (tuple at)) (inputs_of g b p at)
 unfolding inputs_of size

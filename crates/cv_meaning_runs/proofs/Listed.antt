@@ -13,8 +13,7 @@ use Rattle.cv_meaning.specs.Cells.{at_each_copy, cells_at, test_cells_at, test_c
 use Rattle.cv_meaning.specs.Experiments.{coins_on}
 use Rattle.cv_meaning.specs.Consulted.{consulted_by, consulted_at, consulted, is_key, IsListed}
 use Rattle.cv_meaning_laws.proofs.Counts.{same_cell_exact}
-use Rattle.cv_meaning_laws.proofs.Lists.{each_append}
-use Rattle.cv_meaning_laws.proofs.Listed.{Has, has_left, has_right, is_in-without_repeats, consulted_listed}
+use Rattle.cv_meaning_laws.proofs.Listed.{Has, has_left, has_right, is_in_without_repeats, consulted_listed}
 use Rattle.cv_meaning.specs.Runs.{Mode, Events, Real, Random, Adversary, State, start}
 use Rattle.cv_meaning_runs.specs.Moments.{Moment, Visited, Tested, cells_of_test, cells_of_moment, moments_of_run, visits_among, cells_of_run}
 use Rattle.cv_meaning_runs.specs.Listed.{IsTestable, AreKeysListed, head_is_no_call, has_no_calls}
@@ -22,12 +21,12 @@ use Rattle.cv_meaning_runs.specs.Placed.{IsPassedDown}
 use Rattle.cv_meaning_runs.proofs.Placed.{visits_have}
 use Rattle.cv_meaning_runs.specs.Agreement.{AgreeAt, IsLocal, SameRun}
 use Rattle.cv_meaning_runs.proofs.Together.{visits_among_moments, consulted_same}
-use Rattle.cv_meaning_runs.proofs.Lists.{all_map, left_part, right_part}
 use Rattle.cv_meaning_runs.proofs.Tested.{Sized, nothing_assigned, inputs_tested, IsCellListed, AreTestsListed, run_listed}
+use Rattle.cv_lists.proofs.Each.{AllByRecursion_append, AllByRecursion_weaker, AllByRecursion_left, AllByRecursion_right}
 
 has_listed : (g : Setting) (m : Mode) (a : Adversary) (game : Tree) (c : Cell) (n : ℕ) → Has (at_each_copy g (cells_at g) [] game ++ (test_cells g m game ++ coin_cells 0 a.coins)) (c, n) → IsListed (cells g m a game) c
 unfolding cells
-has_listed g m a game c n h k = is_in-without_repeats (at_each_copy g (cells_at g) [] game ++ (test_cells g m game ++ coin_cells 0 a.coins)) (c, n) h
+has_listed g m a game c n h k = is_in_without_repeats (at_each_copy g (cells_at g) [] game ++ (test_cells g m game ++ coin_cells 0 a.coins)) (c, n) h
 
 -- the cells of tests alone
 abbrev test_cells_of : Mode → Moment → List Cell
@@ -47,7 +46,7 @@ unfolding moments_of_run
 tests_listed g Events a game t h = none_listed g Events Events a game (λ st u. refl) _
 tests_listed g (Real one x) a game t h = none_listed g (Real one x) (Real one x) a game (λ st u. refl) _
 tests_listed g (Random one x) a game t h =
-    all_map (AreTestsListed g x own (Random one x)) (λ y. AllByRecursion (IsListed (cells g (Random one x) a game)) (test_cells_of (Random one x) y)) each _
+    AllByRecursion_weaker (AreTestsListed g x own (Random one x)) (λ y. AllByRecursion (IsListed (cells g (Random one x) a game)) (test_cells_of (Random one x) y)) each _
     (run_listed g x own one (a.next (coins_on t 0 a.coins)) t a.moves (start g game) (record { inputs = inputs_tested g x own game 0 [] [] tt (λ d e. e) h; assigned = nothing_assigned g x own }))
   where
     own : List Sized
@@ -55,24 +54,24 @@ tests_listed g (Random one x) a game t h =
 
     each : (y : Moment) → AreTestsListed g x own (Random one x) y → AllByRecursion (IsListed (cells g (Random one x) a game)) (test_cells_of (Random one x) y)
     each (Visited v) e = tt
-    each (Tested u st) e = all_map (IsCellListed g x own) (IsListed (cells g (Random one x) a game)) (λ c e. has_listed g (Random one x) a game c e.0 (has_right (at_each_copy g (cells_at g) [] game) _ (c, e.0) (has_left own (coin_cells 0 a.coins) (c, e.0) e.1))) (cells_of_test (Random one x) st u) e
+    each (Tested u st) e = AllByRecursion_weaker (IsCellListed g x own) (IsListed (cells g (Random one x) a game)) (λ c e. has_listed g (Random one x) a game c e.0 (has_right (at_each_copy g (cells_at g) [] game) _ (c, e.0) (has_left own (coin_cells 0 a.coins) (c, e.0) e.1))) (cells_of_test (Random one x) st u) e
 
 coins_have : (k : ℕ) (ns : List ℕ) → AllByRecursion (λ c. (n : ℕ) × Has (coin_cells k ns) (c, n)) (cells_of (coin_cells k ns))
 coins_have k [] = tt
-coins_have k (n ∷ ns) = ((n, inl refl), all_map (λ c. (n : ℕ) × Has (coin_cells (suc k) ns) (c, n)) _ (λ c e. (e.0, inr e.1)) _ (coins_have (suc k) ns))
+coins_have k (n ∷ ns) = ((n, inl refl), AllByRecursion_weaker (λ c. (n : ℕ) × Has (coin_cells (suc k) ns) (c, n)) _ (λ c e. (e.0, inr e.1)) _ (coins_have (suc k) ns))
 
 moments_listed : (g : Setting) (m : Mode) (a : Adversary) (game : Tree) (xs : List Moment) → AreListed g m a game (test_cells_of m) xs → AllByRecursion (IsListed (cells g m a game)) (consulted g (visits_among xs)) → AllByRecursion (IsListed (cells g m a game)) (flat_map (cells_of_moment g m) xs)
 unfolding consulted
 moments_listed g m a game [] e f = tt
 moments_listed g m a game (Visited v ∷ xs) e f =
     let P = IsListed (cells g m a game) in
-    each_append P (consulted_at g v.tree v.before) _ (left_part P (consulted_at g v.tree v.before) _ f) (moments_listed g m a game xs e.1 (right_part P (consulted_at g v.tree v.before) _ f))
-moments_listed g m a game (Tested u st ∷ xs) e f = each_append (IsListed (cells g m a game)) (cells_of_test m st u) _ e.0 (moments_listed g m a game xs e.1 f)
+    AllByRecursion_append P (consulted_at g v.tree v.before) _ (AllByRecursion_left P (consulted_at g v.tree v.before) _ f) (moments_listed g m a game xs e.1 (AllByRecursion_right P (consulted_at g v.tree v.before) _ f))
+moments_listed g m a game (Tested u st ∷ xs) e f = AllByRecursion_append (IsListed (cells g m a game)) (cells_of_test m st u) _ e.0 (moments_listed g m a game xs e.1 f)
 
 pub cells_listed : (g : Setting) (m : Mode) (a : Adversary) (game : Tree) (t : Tape) → IsTestable m game → AllByRecursion (IsListed (cells g m a game)) (cells_of_run g m a game t)
 cells_listed g m a game t h =
-    each_append (IsListed (cells g m a game)) (cells_of (coin_cells 0 a.coins)) _
-    (all_map (λ c. (n : ℕ) × Has (coin_cells 0 a.coins) (c, n)) (IsListed (cells g m a game)) (λ c e. has_listed g m a game c e.0 (has_right (at_each_copy g (cells_at g) [] game) _ (c, e.0) (has_right (test_cells g m game) (coin_cells 0 a.coins) (c, e.0) e.1))) _ (coins_have 0 a.coins))
+    AllByRecursion_append (IsListed (cells g m a game)) (cells_of (coin_cells 0 a.coins)) _
+    (AllByRecursion_weaker (λ c. (n : ℕ) × Has (coin_cells 0 a.coins) (c, n)) (IsListed (cells g m a game)) (λ c e. has_listed g m a game c e.0 (has_right (at_each_copy g (cells_at g) [] game) _ (c, e.0) (has_right (test_cells g m game) (coin_cells 0 a.coins) (c, e.0) e.1))) _ (coins_have 0 a.coins))
     (moments_listed g m a game (moments_of_run g m a game t) (tests_listed g m a game t h) (subst (λ vs. AllByRecursion (IsListed (cells g m a game)) (consulted g vs)) (sym (visits_among_moments g m a game t)) (consulted_listed g m a game t)))
 
 -- tapes that agree on the list
@@ -131,8 +130,8 @@ test_no_key (Random one x) st u = go (one && st.tested) (is_some (st.memory.stor
 
 moments_no_key : (g : Setting) (m : Mode) (xs : List Moment) → AllByRecursion (λ (v : Visit). has_no_calls v.tree ≡ true) (visits_among xs) → AllByRecursion no_key (flat_map (cells_of_moment g m) xs)
 moments_no_key g m [] e = tt
-moments_no_key g m (Visited v ∷ xs) e = each_append no_key (consulted_at g v.tree v.before) _ (visit_no_key g v e.0) (moments_no_key g m xs e.1)
-moments_no_key g m (Tested u st ∷ xs) e = each_append no_key (cells_of_test m st u) _ (test_no_key m st u) (moments_no_key g m xs e)
+moments_no_key g m (Visited v ∷ xs) e = AllByRecursion_append no_key (consulted_at g v.tree v.before) _ (visit_no_key g v e.0) (moments_no_key g m xs e.1)
+moments_no_key g m (Tested u st ∷ xs) e = AllByRecursion_append no_key (cells_of_test m st u) _ (test_no_key m st u) (moments_no_key g m xs e)
 
 coins_no_key : (k : ℕ) (ns : List ℕ) → AllByRecursion no_key (cells_of (coin_cells k ns))
 unfolding no_key
@@ -145,6 +144,6 @@ no_calls_down p h a b e = and_parts (has_no_calls a) (has_no_calls b) (and_parts
 pub no_keys_consulted : (g : Setting) (m : Mode) (a : Adversary) (game : Tree) (t : Tape) → has_no_calls game ≡ true → AreKeysListed g m a game t
 unfolding no_key
 no_keys_consulted g m a game t e =
-    all_map no_key (λ c. is_key c ≡ true → is_in (cells g m a game) c ≡ true) (λ c n k. absurd (both_ways _ n k)) (cells_of_run g m a game t)
-    (each_append no_key (cells_of (coin_cells 0 a.coins)) _ (coins_no_key 0 a.coins) (moments_no_key g m (moments_of_run g m a game t)
+    AllByRecursion_weaker no_key (λ c. is_key c ≡ true → is_in (cells g m a game) c ≡ true) (λ c n k. absurd (both_ways _ n k)) (cells_of_run g m a game t)
+    (AllByRecursion_append no_key (cells_of (coin_cells 0 a.coins)) _ (coins_no_key 0 a.coins) (moments_no_key g m (moments_of_run g m a game t)
     (subst (AllByRecursion (λ (v : Visit). has_no_calls v.tree ≡ true)) (sym (visits_among_moments g m a game t)) (visits_have (λ p b. has_no_calls b ≡ true) g m a game t no_calls_down e))))

@@ -11,14 +11,14 @@ use Rattle.cv_meaning.specs.Serving.{Visit}
 use Rattle.cv_meaning.specs.Consulted.{consulted_at, consulted}
 use Rattle.cv_meaning.specs.Runs.{Mode, Adversary}
 use Rattle.cv_meaning.specs.Experiments.{run, visits_of_run}
-use Rattle.cv_meaning_laws.proofs.Lists.{each_append}
 use Rattle.cv_meaning_runs.specs.Listed.{has_no_calls}
 use Rattle.cv_meaning_runs.specs.Placed.{IsSubtreeOrList, VisitHas}
 use Rattle.cv_meaning_runs.specs.Spots.{Spot, same_spot, spots_of_visit, spots_of_visits, spots_of_inputs, HasOwnNames}
-use Rattle.cv_meaning_runs.proofs.Lists.{all_both, left_part, right_part, distinct_left, distinct_right}
+use Rattle.cv_meaning_runs.proofs.Lists.{distinct_left, distinct_right}
 use Rattle.cv_meaning_runs.proofs.Placed.{visits_have, visits_subtrees}
 use Rattle.cv_meaning_runs.proofs.Listed.{no_calls_down}
 use Rattle.cv_meaning_runs.proofs.Spots.{spots_distinct}
+use Rattle.cv_lists.proofs.Each.{AllByRecursion_append, AllByRecursion_both, AllByRecursion_left, AllByRecursion_right}
 
 -- what is known of a visit
 abbrev Stands : Tree → Visit → Type 0
@@ -72,7 +72,7 @@ module _ (g : Setting) (game : Tree) (own : HasOwnNames game) where
   unfolding consulted
   all_apart c r h [] k e = tt
   all_apart c r h (w ∷ ws) k e =
-      each_append (λ d. same_cell c d ≡ false) (consulted_at g w.tree w.before) _ (h w k.0 (left_part (λ q. same_spot r q ≡ false) (spots_of_visit w) _ e)) (all_apart c r h ws k.1 (right_part (λ q. same_spot r q ≡ false) (spots_of_visit w) _ e))
+      AllByRecursion_append (λ d. same_cell c d ≡ false) (consulted_at g w.tree w.before) _ (h w k.0 (AllByRecursion_left (λ q. same_spot r q ≡ false) (spots_of_visit w) _ e)) (all_apart c r h ws k.1 (AllByRecursion_right (λ q. same_spot r q ≡ false) (spots_of_visit w) _ e))
 
   visits_once : (vs : List Visit) → AllByRecursion (Stands game) vs → IsDistinct same_spot (spots_of_visits vs) → IsDistinct same_cell (consulted g vs)
   unfolding consulted IsDistinct
@@ -89,5 +89,5 @@ module _ (g : Setting) (game : Tree) (own : HasOwnNames game) where
 pub cells_once : (g : Setting) (m : Mode) (a : Adversary) (game : Tree) (t : Tape) → HasOwnNames game → has_no_calls game ≡ true → IsDistinct same_cell (consulted g (visits_of_run g m a game t))
 cells_once g m a game t own free =
     visits_once g game own _
-    (all_both (VisitHas (IsSubtreeOrList game)) (λ (v : Visit). has_no_calls v.tree ≡ true) (Stands game) (λ v x y. (x, y)) _ (visits_subtrees g m a game t) (visits_have (λ p b. has_no_calls b ≡ true) g m a game t no_calls_down free))
+    (AllByRecursion_both (VisitHas (IsSubtreeOrList game)) (λ (v : Visit). has_no_calls v.tree ≡ true) (Stands game) (λ v x y. (x, y)) _ (visits_subtrees g m a game t) (visits_have (λ p b. has_no_calls b ≡ true) g m a game t no_calls_down free))
     (distinct_left same_spot (spots_of_visits (visits_of_run g m a game t)) (spots_of_inputs (run g m a game t).inputs) (spots_distinct g m a game t))

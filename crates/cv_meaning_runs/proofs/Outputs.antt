@@ -14,6 +14,7 @@ use Rattle.cv_meaning_runs.specs.Simulation.{InOrder, AreServedAlike}
 use Rattle.cv_meaning_runs.specs.Replacement.{AreLikeInputs, SameMemory, ServeAlike, if_tree, IsDecided}
 use Rattle.cv_meaning.specs.Replaced.{is_output}
 use Rattle.cv_meaning_runs.proofs.Replacement.{inputs_same, serve_same}
+use Rattle.cv_lists.proofs.Each.{AllByRecursion_trivial}
 
 pub output_begins : (g : Setting) (t : Tape) (b : Tree) (p k : ℕ) (vs : List ℕ) (s : Local) → is_output b ≡ true → serve g t b p k vs s ≡ serve g t b p 0 [] s
 unfolding serve step
@@ -41,12 +42,8 @@ output_opens g (Node (Key x) a b) p at e = refl
 output_opens g (Node (Call x l) a b) p at e = refl
 output_opens g b p at e = absurd (both_ways _ refl e)
 
-all_true : {A : Type 0} (xs : List A) → AllByRecursion (λ x. Unit {0}) xs
-all_true [] = tt
-all_true (x ∷ xs) = (tt, all_true xs)
-
 pub served_elsewhere : (g : Setting) (t : Tape) (old new : Tree) (place : ℕ) (b : Tree) (p q k : ℕ) (vs : List ℕ) (s : Local) → AreServedAlike SameMemory (AreLikeInputs old new place) (serve g t b p k vs s) (serve g t b q k vs s)
-served_elsewhere g t old new place b p q k vs s = serve_same old new place (λ v. Unit {0}) g t b p q k vs s (all_true (visits g t b p k vs s))
+served_elsewhere g t old new place b p q k vs s = serve_same old new place (λ v. Unit {0}) g t b p q k vs s (AllByRecursion_trivial (visits g t b p k vs s))
 
 pub opened_elsewhere : (g : Setting) (old new : Tree) (place : ℕ) (b : Tree) (p q : ℕ) (at : Indices) → InOrder (AreLikeInputs old new place) (inputs_of g b p at) (inputs_of g b q at)
 opened_elsewhere g old new place b p q at = inputs_same old new place g b p q at

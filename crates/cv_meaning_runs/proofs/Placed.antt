@@ -13,16 +13,16 @@ use Rattle.cv_meaning.specs.Inputs.{inputs_of}
 use Rattle.cv_meaning.specs.Serving.{Served, Turn, Ends, First, Second, after_find, step, serve, after_turn, Visit, visits}
 use Rattle.cv_meaning.specs.Runs.{Mode, Adversary, Answer, Move, Calls, Tests, Guesses, State, Taken, admitted, called, told, tested_with, moved, run_from, begun, next_move, by_move, visits_of_call, visits_of_move, run_visits, start}
 use Rattle.cv_meaning.specs.Experiments.{run, visits_of_run, coins_on}
-use Rattle.cv_meaning_laws.proofs.Lists.{each_append, each_flat_map}
+use Rattle.cv_meaning_laws.proofs.Lists.{each_flat_map}
 use Rattle.cv_meaning_laws.proofs.Moves.{TakenEach, admitted_each}
-use Rattle.cv_meaning_runs.proofs.Lists.{all_map}
 use Rattle.cv_meaning_runs.specs.Placed.{IsPassedDown, IsInputOn, InputHas, VisitHas, IsSubtree, IsSubtreeOrList}
+use Rattle.cv_lists.proofs.Each.{AllByRecursion_append, AllByRecursion_weaker}
 
 module _ (P : ℕ → Tree → Type 0) (down : IsPassedDown P) where
   inputs_have : (g : Setting) (b : Tree) (p : ℕ) (at : Indices) → P p b → AllByRecursion (InputHas P) (inputs_of g b p at)
   unfolding inputs_of
   inputs_have g Empty p at x = tt
-  inputs_have g (Node Par a b) p at x = each_append (InputHas P) (inputs_of g a _ at) _ (inputs_have g a _ at (down p Par a b x).0) (inputs_have g b _ at (down p Par a b x).1)
+  inputs_have g (Node Par a b) p at x = AllByRecursion_append (InputHas P) (inputs_of g a _ at) _ (inputs_have g a _ at (down p Par a b x).0) (inputs_have g b _ at (down p Par a b x).1)
   inputs_have g (Node (Repl i n) a b) p at x = each_flat_map (InputHas P) _ (below (g.interpretation.parameter_value n)) (λ v. inputs_have g b _ (at ++ (i, v) ∷ []) (down p (Repl i n) a b x).1)
   inputs_have g (Node (In c) a b) p at x = ((refl, x), tt)
   inputs_have g (Node k a b) p at x = tt
@@ -69,7 +69,7 @@ module _ (P : ℕ → Tree → Type 0) (down : IsPassedDown P) where
       go None h = (x, tt)
       go (Some k) h =
           let r = serve_has g t k.input.tree k.input.place 0 vs (begun st k.input) (h k refl).input.1 in
-          (each_append (InputHas P) k.others _ (h k refl).others r.opened, r.visited)
+          (AllByRecursion_append (InputHas P) k.others _ (h k refl).others r.opened, r.visited)
   moved_has g m t st (Tests u) x = (go (told m t st u), tt)
     where
       go : (o : Option ℕ) → AllByRecursion (InputHas P) (tested_with st o).inputs
@@ -85,7 +85,7 @@ module _ (P : ℕ → Tree → Type 0) (down : IsPassedDown P) where
       go : (o : Option Move) → ((a : Move) → AllByRecursion (InputHas P) (run_from g m next t n (moved g m t st a)).inputs × AllByRecursion (VisitHas P) (run_visits g m next t n (moved g m t st a)))
           → AllByRecursion (InputHas P) (by_move st (λ a. run_from g m next t n (moved g m t st a)) o).inputs × AllByRecursion (VisitHas P) (by_move [] (λ a. visits_of_move g t st a ++ run_visits g m next t n (moved g m t st a)) o)
       go None ih = (x, tt)
-      go (Some a) ih = ((ih a).0, each_append (VisitHas P) (visits_of_move g t st a) _ (moved_has g m t st a x).1 (ih a).1)
+      go (Some a) ih = ((ih a).0, AllByRecursion_append (VisitHas P) (visits_of_move g t st a) _ (moved_has g m t st a x).1 (ih a).1)
 
   game_has : (g : Setting) (m : Mode) (a : Adversary) (game : Tree) (t : Tape) → P 0 game → AllByRecursion (InputHas P) (run g m a game t).inputs × AllByRecursion (VisitHas P) (visits_of_run g m a game t)
   unfolding run visits_of_run
@@ -129,7 +129,7 @@ subtree_at game p (Node h a b) x s =
 
 pub visits_subtrees : (g : Setting) (m : Mode) (a : Adversary) (game : Tree) (t : Tape) → AllByRecursion (VisitHas (IsSubtreeOrList game)) (visits_of_run g m a game t)
 visits_subtrees g m a game t =
-    all_map (VisitHas (Hangs game)) (VisitHas (IsSubtreeOrList game)) (λ v x. subtree_at game v.place v.tree x) _
+    AllByRecursion_weaker (VisitHas (Hangs game)) (VisitHas (IsSubtreeOrList game)) (λ v x. subtree_at game v.place v.tree x) _
     (visits_have (Hangs game) g m a game t (hangs_down game) (hangs_root game))
 
 input_subtree : (game : Tree) (c p : ℕ) (b : Tree) → IsInputOn c b → Hangs game p b → IsSubtree game p b
@@ -138,5 +138,5 @@ input_subtree game c p b i x = absurd i
 
 pub inputs_subtrees : (g : Setting) (m : Mode) (a : Adversary) (game : Tree) (t : Tape) → AllByRecursion (InputHas (IsSubtree game)) (run g m a game t).inputs
 inputs_subtrees g m a game t =
-    all_map (InputHas (Hangs game)) (InputHas (IsSubtree game)) (λ i x. (x.0, input_subtree game i.channel i.place i.tree x.0 x.1)) _
+    AllByRecursion_weaker (InputHas (Hangs game)) (InputHas (IsSubtree game)) (λ i x. (x.0, input_subtree game i.channel i.place i.tree x.0 x.1)) _
     (available_have (Hangs game) g m a game t (hangs_down game) (hangs_root game))

@@ -7,23 +7,7 @@ use Rattle.cv_syntax_trees.specs.Head.{weight}
 use Rattle.cv_syntax_trees.specs.Tree.{Tree, Empty, Node, size, subtree, second_place}
 use Rattle.cv_meaning_runs.specs.Replacement.{Part, Process, Branches, IsReplaced, here, in_continuation, in_parallel, in_list, in_find, in_branch, in_later_branch, in_first, before_body, may_come}
 use Rattle.cv_meaning.specs.Replaced.{replaced}
-
-weight_small : (h : Head) → weight h ≤ 1
-weight_small Cons = omega arith
-weight_small (Binder x T) = omega arith
-weight_small (Name x) = omega arith
-weight_small (Number x) = omega arith
-weight_small Forall = omega arith
-weight_small Query = omega arith
-weight_small (Occurs x) = omega arith
-weight_small (OccursOnce x) = omega arith
-weight_small (Secret x) = omega arith
-weight_small (SecretOnce x) = omega arith
-weight_small (Equivalence x) = omega arith
-weight_small (Bound x y) = omega arith
-weight_small (Single x) = omega arith
-weight_small (Oracle x) = omega arith
-weight_small h = omega arith
+use Rattle.cv_syntax.proofs.Walking.{weight_le}
 
 subtree_second : (h : Head) (a b : Tree) (p q : ℕ) → weight h + size a + q ≡ p → subtree (Node h a b) p ≡ subtree b q
 unfolding subtree
@@ -59,7 +43,7 @@ module _ (old new : Tree) where
   replaced_here place r h a b p l f e =
       let q : Node h a b ≡ old = let z : Some (Node h a b) ≡ Some old = sym (ap (λ v. cond v (Some (Node h a b)) (cond (nat_lt p (weight h + size a)) (subtree a (p - weight h)) (subtree b (p - (weight h + size a))))) (lt-ltb p (weight h) l)) ∙ e in cc in
       let n : new ≡ replaced (Node h a b) p new = sym (ap (λ v. cond v new (cond (nat_lt p (weight h + size a)) (Node h (replaced a (p - weight h) new) b) (Node h a (replaced b (p - (weight h + size a)) new)))) (lt-ltb p (weight h) l)) in
-      let w : weight h ≤ 1 = weight_small h in
+      let w : weight h ≤ 1 = weight_le h in
       let d : place ≡ r = omega arith in
       subst (λ x. IsReplaced old new place Process x (Node h a b) (replaced (Node h a b) p new)) d
       (subst (λ t. IsReplaced old new place Process place t (replaced (Node h a b) p new)) (sym q)

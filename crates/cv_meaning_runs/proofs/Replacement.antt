@@ -20,11 +20,11 @@ use Rattle.cv_meaning_runs.specs.Replacement.{Part, Process, Branches, before_bo
 use Rattle.cv_meaning_runs.proofs.Simulation.{in_order_append, games_alike}
 use Rattle.cv_meaning_runs.proofs.Ends.{experiments_alike, holds_alike}
 
-agree_refl : (t : Tape) (cs : List Cell) → AgreeAt cs t t
+pub agree_refl : (t : Tape) (cs : List Cell) → AgreeAt cs t t
 agree_refl t [] = tt
 agree_refl t (c ∷ cs) = (refl, agree_refl t cs)
 
-in_order_flat : {A : Type 0} {B C : Type 0} (R : B → C → Type 0) (f : A → List B) (h : A → List C) → ((x : A) → InOrder R (f x) (h x)) → (xs : List A) → InOrder R (flat_map f xs) (flat_map h xs)
+pub in_order_flat : {A : Type 0} {B C : Type 0} (R : B → C → Type 0) (f : A → List B) (h : A → List C) → ((x : A) → InOrder R (f x) (h x)) → (xs : List A) → InOrder R (flat_map f xs) (flat_map h xs)
 in_order_flat R f h k [] = tt
 in_order_flat R f h k (x ∷ xs) = in_order_append R (f x) _ (h x) _ (k x) (in_order_flat R f h k xs)
 

@@ -11,8 +11,8 @@ use Rattle.cv_meaning.specs.Serving.{Visit}
 use Rattle.cv_meaning.specs.Runs.{Mode, Adversary, Answer, Refused, Replied, Told, Move, Calls, Tests, Guesses, State, Taken, taken, behind, is_at, if_fitting, called, told, tested_with, moved, run_from, next_move, by_move, visits_of_call, visits_of_move, run_visits, start}
 use Rattle.cv_meaning.specs.Experiments.{run, visits_of_run, coins_on}
 use Rattle.cv_meaning_runs.specs.Simulation.{InOrder, AreAlike, IsSimulation, IsGameSimulation}
-use Rattle.cv_meaning_runs.proofs.Lists.{left_part, right_part}
 use Rattle.cv_meaning_runs.proofs.Together.{coins_same}
+use Rattle.cv_lists.proofs.Each.{AllByRecursion_left, AllByRecursion_right}
 
 pub in_order_append : {A B : Type 0} (R : A → B → Type 0) (xs vs : List A) (ys ws : List B) → InOrder R xs ys → InOrder R vs ws → InOrder R (xs ++ vs) (ys ++ ws)
 in_order_append R [] vs [] ws h k = k
@@ -85,7 +85,7 @@ module _ (K : Memory → Memory → Type 0) (L : Input → Input → Type 0) (V 
           → AllByRecursion V (by_move [] (λ a. visits_of_move g t x a ++ run_visits g m next t k (moved g m t x a)) o)
           → AreAlike K L (by_move x (λ a. run_from g m next t k (moved g m t x a)) o) (by_move y (λ a. run_from h n next u k (moved h n u y a)) o)
       go None ih w = s
-      go (Some a) ih w = ih a (left_part V (visits_of_move g t x a) _ w) (right_part V (visits_of_move g t x a) _ w)
+      go (Some a) ih w = ih a (AllByRecursion_left V (visits_of_move g t x a) _ w) (AllByRecursion_right V (visits_of_move g t x a) _ w)
 
 pub games_alike : (K : Memory → Memory → Type 0) (L : Input → Input → Type 0) (V : Visit → Type 0) (a : Adversary) (g h : Setting) (m n : Mode) (x y : Tree) (t u : Tape) → IsGameSimulation K L V a g h m n x y t u → AreAlike K L (run g m a x t) (run h n a y u)
 unfolding run visits_of_run

@@ -16,11 +16,11 @@ use Rattle.cv_meaning.specs.Serving.{Served, Turn, Ends, First, Second, after_fi
 use Rattle.cv_meaning.specs.Runs.{Mode, Adversary, Answer, Move, Calls, Tests, Guesses, State, Taken, taken, behind, is_at, admitted, if_fitting, called, told, tested_with, moved, run_from, begun, next_move, by_move, visits_of_call, visits_of_move, run_visits, start}
 use Rattle.cv_meaning.specs.Experiments.{run, visits_of_run, coins_on}
 use Rattle.cv_meaning_laws.proofs.Counts.{same_tuple_exact}
-use Rattle.cv_meaning_laws.proofs.Lists.{each_append}
-use Rattle.cv_meaning_runs.proofs.Lists.{all_map, all_both, all_cross, Pairwise, pairwise_append}
+use Rattle.cv_meaning_runs.proofs.Lists.{Pairwise, pairwise_append}
 use Rattle.cv_meaning_runs.proofs.Copies.{Extends, IsBetween, Under, Within, Apart, apart_back, extends_refl, Copies, copies_among, copies_append, inputs_copies}
 use Rattle.cv_meaning_laws.proofs.Moves.{TakenEach, taken_each}
 use Rattle.cv_meaning_runs.specs.Spots.{Spot, same_spot, spot_of_input, spots_of_visit, spots_of_visits, spots_of_inputs}
+use Rattle.cv_lists.proofs.Each.{AllByRecursion_append, AllByRecursion_weaker, AllByRecursion_both, AllByRecursion_cross}
 
 -- a service: its visits' spots, and the copies that it opens
 
@@ -34,16 +34,16 @@ fresh_copies : (P : Spot → Type 0) (is : List Input) → Copies P is → Fresh
 fresh_copies P is c = record { copies = c; visited = tt; once = tt; spent = tt }
 
 fresh_among : (P Q : Spot → Type 0) → ((s : Spot) → P s → Q s) → (past : List Spot) (is : List Input) → Fresh P past is → Fresh Q past is
-fresh_among P Q h past is f = record { copies = copies_among P Q h is f.copies; visited = all_map P Q h past f.visited; once = f.once; spent = f.spent }
+fresh_among P Q h past is f = record { copies = copies_among P Q h is f.copies; visited = AllByRecursion_weaker P Q h past f.visited; once = f.once; spent = f.spent }
 
 fresh_append : (P Q R : Spot → Type 0) → ((s : Spot) → P s → R s) → ((s : Spot) → Q s → R s) → ((s : Spot) → P s → Q s → ⊥) → (past more : List Spot) (is js : List Input) → Fresh P past is → Fresh Q more js → Fresh R (past ++ more) (is ++ js)
 fresh_append P Q R f k h past more is js x y = record {
   copies = copies_append P Q R f k h is js x.copies y.copies;
-  visited = each_append R past more (all_map P R f past x.visited) (all_map Q R k more y.visited);
-  once = pairwise_append (λ s r. s ≡ r → ⊥) past more x.once y.once (all_cross P Q (λ s r. s ≡ r → ⊥) (λ s r v w e. h r (subst P e v) w) past more x.visited y.visited);
-  spent = each_append (λ s. AllByRecursion (λ i. Within i s → ⊥) (is ++ js)) past more
-      (all_both P (λ s. AllByRecursion (λ i. Within i s → ⊥) is) _ (λ s v e. each_append (λ i. Within i s → ⊥) is js e (all_map (λ j. (r : Spot) → Within j r → Q r) (λ j. Within j s → ⊥) (λ j c w. h s v (c s w)) js y.copies.among)) past x.visited x.spent)
-      (all_both Q (λ s. AllByRecursion (λ i. Within i s → ⊥) js) _ (λ s v e. each_append (λ i. Within i s → ⊥) is js (all_map (λ i. (r : Spot) → Within i r → P r) (λ i. Within i s → ⊥) (λ i c w. h s (c s w) v) is x.copies.among) e) more y.visited y.spent);
+  visited = AllByRecursion_append R past more (AllByRecursion_weaker P R f past x.visited) (AllByRecursion_weaker Q R k more y.visited);
+  once = pairwise_append (λ s r. s ≡ r → ⊥) past more x.once y.once (AllByRecursion_cross P Q (λ s r. s ≡ r → ⊥) (λ s r v w e. h r (subst P e v) w) past more x.visited y.visited);
+  spent = AllByRecursion_append (λ s. AllByRecursion (λ i. Within i s → ⊥) (is ++ js)) past more
+      (AllByRecursion_both P (λ s. AllByRecursion (λ i. Within i s → ⊥) is) _ (λ s v e. AllByRecursion_append (λ i. Within i s → ⊥) is js e (AllByRecursion_weaker (λ j. (r : Spot) → Within j r → Q r) (λ j. Within j s → ⊥) (λ j c w. h s v (c s w)) js y.copies.among)) past x.visited x.spent)
+      (AllByRecursion_both Q (λ s. AllByRecursion (λ i. Within i s → ⊥) js) _ (λ s v e. AllByRecursion_append (λ i. Within i s → ⊥) is js (AllByRecursion_weaker (λ i. (r : Spot) → Within i r → P r) (λ i. Within i s → ⊥) (λ i c w. h s (c s w) v) is x.copies.among) e) more y.visited y.spent);
 }
 
 -- a node that is visited, and then what is below it
@@ -65,8 +65,8 @@ fresh_node h p a b s past is f = go (weight h == 1) refl
         record {
           copies = rest.copies;
           visited = (record { after = omega arith; before = omega arith; extends = extends_refl (tuple s.indices) }, rest.visited);
-          once = (all_map _ (λ r. here ≡ r → ⊥) (λ r x z. let k : p ≡ r.place = ap (λ (y : Spot). y.place) z in absurd (omega arith)) past f.visited, rest.once);
-          spent = (all_map (λ i. (r : Spot) → Within i r → IsBetween (p + weight h) (p + size (Node h a b)) (tuple s.indices) r) (λ i. Within i here → ⊥) (λ i x z. let k = x here z in absurd (omega arith)) is f.copies.among, rest.spent);
+          once = (AllByRecursion_weaker _ (λ r. here ≡ r → ⊥) (λ r x z. let k : p ≡ r.place = ap (λ (y : Spot). y.place) z in absurd (omega arith)) past f.visited, rest.once);
+          spent = (AllByRecursion_weaker (λ i. (r : Spot) → Within i r → IsBetween (p + weight h) (p + size (Node h a b)) (tuple s.indices) r) (λ i. Within i here → ⊥) (λ i x z. let k = x here z in absurd (omega arith)) is f.copies.among, rest.spent);
         }
 
 abbrev IsNext : Head → Tree → Tree → ℕ → Local → Turn → Type 0
@@ -141,7 +141,7 @@ taken_pairs R back c u (i ∷ is) h k e = go (is_at c u i) (taken c u is) (taken
         let b = y r refl in
         subst (TakenPairs R) q (record { pair = (back i r.input b.input, a.pair); rest = (b.others, a.rest) })
 
-admitted_taken : (P : Taken → Type 0) (g : Setting) (c : ℕ) (u vs : List ℕ) (is : List Input) → ((k : Taken) → taken c u is ≡ Some k → P k) → (k : Taken) → admitted g c u vs is ≡ Some k → P k
+pub admitted_taken : (P : Taken → Type 0) (g : Setting) (c : ℕ) (u vs : List ℕ) (is : List Input) → ((k : Taken) → taken c u is ≡ Some k → P k) → (k : Taken) → admitted g c u vs is ≡ Some k → P k
 admitted_taken P g c u vs is h k e = go (taken c u is) h e
   where
     fitting : (b : Bool) (r : Taken) → P r → cond b (Some r) None ≡ Some k → P k
@@ -167,12 +167,12 @@ taken_fresh c u past is f k e =
     record {
       copies = record {
         own = (taken_each (λ i. Within i (spot_of_input i)) c u is f.copies.own k e).others;
-        among = all_map (Apart k.input) (λ j. (s : Spot) → Within j s → Outside k.input s) (λ j a s x y. a s y x) k.others pairs.pair;
+        among = AllByRecursion_weaker (Apart k.input) (λ j. (s : Spot) → Within j s → Outside k.input s) (λ j a s x y. a s y x) k.others pairs.pair;
         apart = pairs.rest;
       };
-      visited = all_map (λ s. AllByRecursion (λ i. Within i s → ⊥) is) (Outside k.input) (λ s h. (each s h).input) past f.spent;
+      visited = AllByRecursion_weaker (λ s. AllByRecursion (λ i. Within i s → ⊥) is) (Outside k.input) (λ s h. (each s h).input) past f.spent;
       once = f.once;
-      spent = all_map (λ s. AllByRecursion (λ i. Within i s → ⊥) is) (λ s. AllByRecursion (λ i. Within i s → ⊥) k.others) (λ s h. (each s h).others) past f.spent;
+      spent = AllByRecursion_weaker (λ s. AllByRecursion (λ i. Within i s → ⊥) is) (λ s. AllByRecursion (λ i. Within i s → ⊥) k.others) (λ s h. (each s h).others) past f.spent;
     }
 
 abbrev IsFreshAfter : List Spot → List Input → List Visit → Type 0
@@ -224,7 +224,7 @@ differ s r h = go (same_spot s r) refl
 distinct : (ss : List Spot) → Pairwise (λ s r. s ≡ r → ⊥) ss → IsDistinct same_spot ss
 unfolding IsDistinct
 distinct [] p = tt
-distinct (s ∷ ss) p = (all_map (λ r. s ≡ r → ⊥) (λ r. same_spot s r ≡ false) (differ s) ss p.0, distinct ss p.1)
+distinct (s ∷ ss) p = (AllByRecursion_weaker (λ r. s ≡ r → ⊥) (λ r. same_spot s r ≡ false) (differ s) ss p.0, distinct ss p.1)
 
 all_inputs : (P : Spot → Type 0) (Q : Input → Type 0) → ((i : Input) → Q i → P (spot_of_input i)) → (is : List Input) → AllByRecursion Q is → AllByRecursion P (spots_of_inputs is)
 all_inputs P Q h [] k = tt
@@ -233,13 +233,13 @@ all_inputs P Q h (i ∷ is) k = (h i k.0, all_inputs P Q h is k.1)
 inputs_differ : (is : List Input) → AllByRecursion (λ i. Within i (spot_of_input i)) is → Pairwise Apart is → Pairwise (λ s r. s ≡ r → ⊥) (spots_of_inputs is)
 inputs_differ [] o p = tt
 inputs_differ (i ∷ is) o p = (
-  all_inputs (λ r. spot_of_input i ≡ r → ⊥) (λ j. Within j (spot_of_input j) × Apart i j) (λ j q e. q.1 (spot_of_input j) (subst (Within i) e o.0) q.0) is (all_both _ _ (λ j. Within j (spot_of_input j) × Apart i j) (λ j x y. (x, y)) is o.1 p.0),
+  all_inputs (λ r. spot_of_input i ≡ r → ⊥) (λ j. Within j (spot_of_input j) × Apart i j) (λ j q e. q.1 (spot_of_input j) (subst (Within i) e o.0) q.0) is (AllByRecursion_both _ _ (λ j. Within j (spot_of_input j) × Apart i j) (λ j x y. (x, y)) is o.1 p.0),
   inputs_differ is o.1 p.1,
 )
 
 fresh_distinct : (past : List Spot) (is : List Input) → Fresh Any past is → IsDistinct same_spot (past ++ spots_of_inputs is)
 fresh_distinct past is f = distinct (past ++ spots_of_inputs is) (pairwise_append (λ s r. s ≡ r → ⊥) past (spots_of_inputs is) f.once (inputs_differ is f.copies.own f.copies.apart)
-    (all_map (λ s. AllByRecursion (λ i. Within i s → ⊥) is) (λ s. AllByRecursion (λ r. s ≡ r → ⊥) (spots_of_inputs is)) (λ s h. all_inputs (λ r. s ≡ r → ⊥) (λ i. Within i (spot_of_input i) × (Within i s → ⊥)) (λ i q e. q.1 (subst (Within i) (sym e) q.0)) is (all_both _ _ (λ i. Within i (spot_of_input i) × (Within i s → ⊥)) (λ i x y. (x, y)) is f.copies.own h)) past f.spent))
+    (AllByRecursion_weaker (λ s. AllByRecursion (λ i. Within i s → ⊥) is) (λ s. AllByRecursion (λ r. s ≡ r → ⊥) (spots_of_inputs is)) (λ s h. all_inputs (λ r. s ≡ r → ⊥) (λ i. Within i (spot_of_input i) × (Within i s → ⊥)) (λ i q e. q.1 (subst (Within i) (sym e) q.0)) is (AllByRecursion_both _ _ (λ i. Within i (spot_of_input i) × (Within i s → ⊥)) (λ i x y. (x, y)) is f.copies.own h)) past f.spent))
 
 pub spots_distinct : (g : Setting) (m : Mode) (a : Adversary) (game : Tree) (t : Tape) → IsDistinct same_spot (spots_of_visits (visits_of_run g m a game t) ++ spots_of_inputs (run g m a game t).inputs)
 unfolding run visits_of_run

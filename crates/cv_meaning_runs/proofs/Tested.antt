@@ -14,13 +14,12 @@ use Rattle.cv_meaning.specs.Inputs.{Input, inputs_of}
 use Rattle.cv_meaning.specs.Serving.{Served, Turn, Ends, First, Second, after_find, step, serve, after_turn, Visit}
 use Rattle.cv_meaning.specs.Cells.{tuples_below, bounds_under, at_each_copy, if_tested, test_cells_at}
 use Rattle.cv_meaning_laws.proofs.Counts.{same_tuple_exact}
-use Rattle.cv_meaning_laws.proofs.Lists.{each_append}
-use Rattle.cv_meaning_laws.proofs.Listed.{Has, has_left, has_right, has_flat_map, each_flat_map_in, Within, within_has, within_push}
+use Rattle.cv_meaning_laws.proofs.Listed.{Has, has_left, has_right, has_flat_map, each_flat_map_in, Within, within_has, within_push, tuple_push}
 use Rattle.cv_meaning.specs.Runs.{Mode, Random, Answer, Move, Calls, Tests, Guesses, State, Taken, admitted, called, told, tested_with, moved, begun, next_move, by_move, visits_of_move}
 use Rattle.cv_meaning_laws.proofs.Moves.{TakenEach, admitted_each}
 use Rattle.cv_meaning_runs.specs.Moments.{Moment, Visited, Tested, cells_of_test, moments_of_move, run_moments}
 use Rattle.cv_meaning_runs.specs.Listed.{head_is_testable, is_testable}
-use Rattle.cv_meaning_runs.proofs.Copies.{tuple_push}
+use Rattle.cv_lists.proofs.Each.{AllByRecursion_append}
 
 abbrev pub Sized : Type 0
 Sized = Cell × ℕ
@@ -92,7 +91,7 @@ module _ (g : Setting) (x : ℕ) (cs : List Sized) where
   unfolding inputs_of
   inputs_tested Empty p at ns w c e = tt
   inputs_tested (Node Par a b) p at ns w c e =
-      each_append IsTested (inputs_of g a _ at) _ (inputs_tested a _ at ns w (covers_first ns Par a b c) (first_testable Par a b e)) (inputs_tested b _ at ns w (covers_second ns Par a b c) (second_testable Par a b e))
+      AllByRecursion_append IsTested (inputs_of g a _ at) _ (inputs_tested a _ at ns w (covers_first ns Par a b c) (first_testable Par a b e)) (inputs_tested b _ at ns w (covers_second ns Par a b c) (second_testable Par a b e))
   inputs_tested (Node (Repl i n) a b) p at ns w c e =
       let k : ℕ = g.interpretation.parameter_value n in
       each_flat_map_in IsTested (λ v. inputs_of g b (second_place p (Repl i n) a) (at ++ (i, v) ∷ [])) (below k)
@@ -160,7 +159,7 @@ module _ (g : Setting) (x : ℕ) (cs : List Sized) where
   called_tested t st vs f (Some k) h =
       let i = (h k refl).input in
       let r = serve_tested t k.input.tree k.input.place i.bounds i.covers i.testable 0 vs (begun st k.input) i.within f.assigned in
-      record { inputs = each_append IsTested k.others _ (h k refl).others r.opened; assigned = r.assigned }
+      record { inputs = AllByRecursion_append IsTested k.others _ (h k refl).others r.opened; assigned = r.assigned }
 
   moved_tested : (m : Mode) (t : Tape) (st : State) (a : Move) → StateTested st → StateTested (moved g m t st a)
   unfolding moved
@@ -207,7 +206,7 @@ module _ (g : Setting) (x : ℕ) (cs : List Sized) where
       go : (o : Option Move) → ((a : Move) → AllByRecursion (AreTestsListed (Random one x)) (run_moments g (Random one x) next t n (moved g (Random one x) t st a)))
           → AllByRecursion (AreTestsListed (Random one x)) (by_move [] (λ a. moments_of_move g t st a ++ run_moments g (Random one x) next t n (moved g (Random one x) t st a)) o)
       go None ih = tt
-      go (Some a) ih = each_append (AreTestsListed (Random one x)) (moments_of_move g t st a) _ (move_listed one t st a f) (ih a)
+      go (Some a) ih = AllByRecursion_append (AreTestsListed (Random one x)) (moments_of_move g t st a) _ (move_listed one t st a f) (ih a)
 
 pub nothing_assigned : (g : Setting) (x : ℕ) (cs : List Sized) → Assigned g x cs nowhere
 unfolding Assigned

@@ -1,6 +1,6 @@
 -- Two runs on tapes that agree off some cells go together until one of these cells is consulted.
 use Rattle.std.proofs.Common.{◌≡◌, ℕ, zero, suc, Bool, true, false, cond, ◌&&◌, ◌||◌, not, ◌==◌, eqb-true, eq-eqb, List, [], ◌∷◌, ◌++◌, Option, Some, None, refl, sym, ap, ap₂, subst, ◌∙◌, is_some, map, flat_map}
-use Rattle.std.proofs.lemmas.Bool.{both_ways}
+use Rattle.std.proofs.lemmas.Bool.{both_ways, or_parts}
 use Rattle.std.specs.List.{list_any}
 use Rattle.cv_syntax_trees.specs.declared.head.Head.{Head}
 use Rattle.cv_syntax_trees.specs.declared.head.Head.TheVariants.{New, Find, Call, Cons}
@@ -14,18 +14,11 @@ use Rattle.cv_meaning.specs.Consulted.{consulted_by}
 use Rattle.cv_meaning.specs.Runs.{Mode, Events, Real, Random, Adversary, Answer, Move, Calls, Tests, Guesses, State, Taken, admitted, called, told, tested_with, moved, run_from, after_service, begun, next_move, by_move, visits_of_call, visits_of_move, run_visits, start}
 use Rattle.cv_meaning.specs.Cells.{coin_cells}
 use Rattle.cv_meaning.specs.Experiments.{run, visits_of_run, coins_on}
-use Rattle.cv_meaning_laws.proofs.Lists.{or_none}
 use Rattle.cv_meaning_runs.specs.Moments.{Moment, Visited, Tested, cells_of_test, cells_of_moment, moments_of_move, run_moments, moments_of_run, visits_among, cells_of_run}
 use Rattle.cv_meaning_runs.specs.Agreement.{AgreeAt, AgreeOff, AgreeBut, IsLocal, SameRun, SameUpTo, consults, visit_consults}
+use Rattle.cv_lists.proofs.Each.{list_any_append}
 
 -- lists
-
-any_append : {A : Type 0} (p : A → Bool) (xs ys : List A) → list_any p (xs ++ ys) ≡ false → (list_any p xs ≡ false) × (list_any p ys ≡ false)
-any_append p [] ys e = (refl, e)
-any_append p (x ∷ xs) ys e =
-    let d = or_none (p x) _ e in
-    let r = any_append p xs ys d.1 in
-    (ap₂ ◌||◌ d.0 r.0, r.1)
 
 same_append : {A : Type 0} (stops : A → Bool) (xs ys vs ws : List A) → SameUpTo stops xs ys → (list_any stops xs ≡ false → SameUpTo stops vs ws) → SameUpTo stops (xs ++ vs) (ys ++ ws)
 same_append stops [] [] vs ws h k = k refl
@@ -33,13 +26,9 @@ same_append stops (x ∷ xs) (y ∷ ys) vs ws h k = (h.0, λ e. same_append stop
 same_append stops [] (y ∷ ys) vs ws h k = absurd h
 same_append stops (x ∷ xs) [] vs ws h k = absurd h
 
-same_refl : {A : Type 0} (stops : A → Bool) (xs : List A) → SameUpTo stops xs xs
-same_refl stops [] = tt
-same_refl stops (x ∷ xs) = (refl, λ e. same_refl stops xs)
-
 agree_at : (marked : Cell → Bool) (t u : Tape) → AgreeOff marked t u → (cs : List Cell) → list_any marked cs ≡ false → AgreeAt cs t u
 agree_at marked t u h [] e = tt
-agree_at marked t u h (c ∷ cs) e = let d = or_none (marked c) _ e in (h c d.0, agree_at marked t u h cs d.1)
+agree_at marked t u h (c ∷ cs) e = let d = or_parts (marked c) _ e in (h c d.0, agree_at marked t u h cs d.1)
 
 -- services
 
@@ -81,7 +70,7 @@ module _ (g : Setting) (marked : Cell → Bool) (t u : Tape) (l : IsLocal g.side
       (turned_together a b (first_place p k) (second_place p k a) (serve_together a (first_place p k)) (serve_together b (second_place p k a)) (step g t k a b p n vs s)) in
       record {
         visited = (refl, λ e. (go e).visited);
-        served = λ e. let d = or_none (list_any marked (consulted_by g k a s)) _ e in (go d.0).served d.1;
+        served = λ e. let d = or_parts (list_any marked (consulted_by g k a s)) _ e in (go d.0).served d.1;
       }
 
   -- moves
@@ -115,7 +104,7 @@ module _ (g : Setting) (marked : Cell → Bool) (t u : Tape) (l : IsLocal g.side
   moved_together : (m : Mode) (st : State) (a : Move) → MovedTogether g m marked (moved g m t st a) (moved g m u st a) (moments_of_move g t st a) (moments_of_move g u st a)
   unfolding moved visits_of_move moments_of_move
   moved_together m st (Calls c w vs) = called_together m st vs (admitted g c w vs st.inputs)
-  moved_together m st (Tests w) = record { moments = (refl, λ e. tt); state = λ e. ap (tested_with st) (told_together m st w (or_none (list_any marked (cells_of_test m st w)) false e).0) }
+  moved_together m st (Tests w) = record { moments = (refl, λ e. tt); state = λ e. ap (tested_with st) (told_together m st w (or_parts (list_any marked (cells_of_test m st w)) false e).0) }
   moved_together m st (Guesses b) = record { moments = tt; state = λ e. refl }
 
   run_together : (m : Mode) (next : List Answer → Option Move) (n : ℕ) (st : State) → MovedTogether g m marked (run_from g m next t n st) (run_from g m next u n st) (run_moments g m next t n st) (run_moments g m next u n st)
@@ -137,7 +126,7 @@ module _ (g : Setting) (marked : Cell → Bool) (t u : Tape) (l : IsLocal g.side
           = λ e. subst (λ y. MovedTogether g m marked (run_from g m next t n (moved g m t st a)) (run_from g m next u n y) (run_moments g m next t n (moved g m t st a)) (run_moments g m next u n y)) (r.state e) (ih (moved g m t st a)) in
           record {
             moments = same_append (consults g m marked) _ _ _ _ r.moments (λ e. (later e).moments);
-            state = λ e. let d = any_append (consults g m marked) (moments_of_move g t st a) _ e in (later d.0).state d.1;
+            state = λ e. let d = list_any_append (consults g m marked) (moments_of_move g t st a) _ e in (later d.0).state d.1;
           }
 
 -- games
@@ -189,7 +178,7 @@ visits_among_moments g m a game t = among_run g m (a.next (coins_on t 0 a.coins)
 
 same_all : {A : Type 0} (stops : A → Bool) (xs ys : List A) → SameUpTo stops xs ys → list_any stops xs ≡ false → xs ≡ ys
 same_all stops [] [] h e = refl
-same_all stops (x ∷ xs) (y ∷ ys) h e = let d = or_none (stops x) _ e in ap₂ ◌∷◌ h.0 (same_all stops xs ys (h.1 d.0) d.1)
+same_all stops (x ∷ xs) (y ∷ ys) h e = let d = or_parts (stops x) _ e in ap₂ ◌∷◌ h.0 (same_all stops xs ys (h.1 d.0) d.1)
 same_all stops [] (y ∷ ys) h e = absurd h
 same_all stops (x ∷ xs) [] h e = absurd h
 

@@ -5,3 +5,4 @@ pub mod Spots
 pub mod Simulation
 pub mod Replacement
 pub mod Listed
+pub mod simulations

@@ -1,6 +1,8 @@
 // Laws of runs: which cells a run depends on, where its visits stand, and when two runs are alike.
 #![tactic(auto)]
 
+pub mod simulations;
+
 ghost use Rattle.std.specs.Prelude.{◌≡◌, ℕ, Bool, false, true, List, ◌++◌, Option, Some, [], if◌then◌else◌};
 ghost use Rattle.std.specs.List.{AllByRecursion, IsDistinct, list_any};
 ghost use Rattle.cv_syntax_trees.specs.Tree.{Tree, subtree};

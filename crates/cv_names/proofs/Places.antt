@@ -14,8 +14,8 @@ use Rattle.indexmap.specs.IndexSet.{insert_key}
 use Rattle.cv_names.specs.declared.names.NameId.{NameId}
 use Rattle.cv_names.specs.Texts.{NoRepeat, texts_of}
 
-pub length-texts : (keys : List (String Global)) → length (texts_of keys) ≡ length keys
-length-texts keys = length-map keys string_bytes
+pub length_texts : (keys : List (String Global)) → length (texts_of keys) ≡ length keys
+length_texts keys = length-map keys string_bytes
 
 -- the test by which a text is looked up
 abbrev pub has_text : List ℕ → String Global → Bool
@@ -50,20 +50,20 @@ misses [] q e n h = absurd (cc)
 misses (k ∷ keys) q e zero h = or_left (has_text q k) (list_any (has_text q) keys) e ((bytes_eq-Decides q (string_bytes k)).1 (cc))
 misses (k ∷ keys) q e (suc n) h = misses keys q (or_right (has_text q k) (list_any (has_text q) keys) e) n h
 
-last-or-before : (xs : List (List ℕ)) (t s : List ℕ) (i : ℕ) → slice_get (xs ++ t ∷ []) i ≡ Some s → (slice_get xs i ≡ Some s) ⊎ ((i ≡ length xs) × (s ≡ t))
-last-or-before [] t s zero h = inr (refl, cc)
-last-or-before [] t s (suc i) h = absurd (cc)
-last-or-before (x ∷ xs) t s zero h = inl h
-last-or-before (x ∷ xs) t s (suc i) h = elim (last-or-before xs t s i h) [ inl a ↦ inl a | inr b ↦ inr (ap suc b.0, b.1) ]
+last_or_before : (xs : List (List ℕ)) (t s : List ℕ) (i : ℕ) → slice_get (xs ++ t ∷ []) i ≡ Some s → (slice_get xs i ≡ Some s) ⊎ ((i ≡ length xs) × (s ≡ t))
+last_or_before [] t s zero h = inr (refl, cc)
+last_or_before [] t s (suc i) h = absurd (cc)
+last_or_before (x ∷ xs) t s zero h = inl h
+last_or_before (x ∷ xs) t s (suc i) h = elim (last_or_before xs t s i h) [ inl a ↦ inl a | inr b ↦ inr (ap suc b.0, b.1) ]
 
-pub NoRepeat-append : (xs : List (List ℕ)) (t : List ℕ) → NoRepeat xs → ((n : ℕ) → slice_get xs n ≢ Some t) → NoRepeat (xs ++ t ∷ [])
-NoRepeat-append xs t u new i j s hi hj =
-    elim (last-or-before xs t s i hi) [
-      | inl a ↦ elim (last-or-before xs t s j hj) [
+pub NoRepeat_append : (xs : List (List ℕ)) (t : List ℕ) → NoRepeat xs → ((n : ℕ) → slice_get xs n ≢ Some t) → NoRepeat (xs ++ t ∷ [])
+NoRepeat_append xs t u new i j s hi hj =
+    elim (last_or_before xs t s i hi) [
+      | inl a ↦ elim (last_or_before xs t s j hj) [
         | inl b ↦ u i j s a b
         | inr b ↦ absurd (new i (subst (λ r. slice_get xs i ≡ Some r) b.1 a))
       ]
-      | inr a ↦ elim (last-or-before xs t s j hj) [
+      | inr a ↦ elim (last_or_before xs t s j hj) [
         | inl b ↦ absurd (new j (subst (λ r. slice_get xs j ≡ Some r) a.1 b))
         | inr b ↦ a.0 ∙ sym b.0
       ]
@@ -76,14 +76,14 @@ front (x ∷ xs) zero i t h = absurd (cc)
 front (x ∷ xs) (suc n) zero t h = h
 front (x ∷ xs) (suc n) (suc i) t h = front xs n i t h
 
-pub NoRepeat-take : (xs : List (List ℕ)) (n : ℕ) → NoRepeat xs → NoRepeat (take n xs)
-NoRepeat-take xs n u i j t hi hj = u i j t (front xs n i t hi) (front xs n j t hj)
+pub NoRepeat_take : (xs : List (List ℕ)) (n : ℕ) → NoRepeat xs → NoRepeat (take n xs)
+NoRepeat_take xs n u i j t hi hj = u i j t (front xs n i t hi) (front xs n j t hj)
 
-pub texts-take : (keys : List (String Global)) (n : ℕ) → texts_of (take n keys) ≡ take n (texts_of keys)
-texts-take [] zero = refl
-texts-take [] (suc n) = refl
-texts-take (k ∷ keys) zero = refl
-texts-take (k ∷ keys) (suc n) = ap (λ ts. string_bytes k ∷ ts) (texts-take keys n)
+pub texts_take : (keys : List (String Global)) (n : ℕ) → texts_of (take n keys) ≡ take n (texts_of keys)
+texts_take [] zero = refl
+texts_take [] (suc n) = refl
+texts_take (k ∷ keys) zero = refl
+texts_take (k ∷ keys) (suc n) = ap (λ ts. string_bytes k ∷ ts) (texts_take keys n)
 
 -- a text that is nowhere is put at the end
 absent : (keys : List (String Global)) (o : String Global) → ((n : ℕ) → slice_get (texts_of keys) n ≢ Some (string_bytes o)) → list_any (string_eq o) keys ≡ false
@@ -97,4 +97,4 @@ put_last keys o q texts v b h =
     let a : list_any (string_eq o) keys ≡ false = absent keys o (λ n e. h n (subst (λ ts. slice_get ts n ≡ Some q) v (e ∙ ap (λ s. Some s) b))) in
     rw a (map-append string_bytes keys (o ∷ []) ∙ (ap (λ ts. ts ++ string_bytes o ∷ []) v ∙ ap (λ s. texts ++ s ∷ []) b))
 
-pub ruleset places = (length-texts, texts-take, found, hits, misses, NoRepeat-append, NoRepeat-take, put_last)
+pub ruleset places = (length_texts, texts_take, found, hits, misses, NoRepeat_append, NoRepeat_take, put_last)

@@ -17,7 +17,7 @@ use Rattle.cv_syntax.specs.Planting.{overs}
 use Rattle.cv_syntax.specs.Postorder.{postorder}
 use Rattle.cv_syntax_trees.specs.Tree.{Tree, Empty, Node}
 use Rattle.cv_syntax.specs.PoolTrees.{tree_at}
-use Rattle.cv_syntax.proofs.Trees.{tree_at-None}
+use Rattle.cv_syntax.proofs.Trees.{tree_at_None}
 use Rattle.cv_parse_grammar.specs.Filled.{filled}
 use Rattle.cv_parse_grammar.specs.Identities.{AreDistinct, ids_of}
 use Rattle.cv_parse_grammar.specs.Rules.{File}
@@ -27,18 +27,14 @@ use Rattle.cv_parse_declarations.specs.declared.file.Reading.{Reading}
 use Rattle.cv_parse.specs.Building.{Builds}
 use Rattle.cv_parse.specs.Declaring.{IsBelow, IsNameable, all_decls, bool_decl, decl_of, named_by, names_by}
 use Rattle.cv_parse.specs.Parsed.{bool_type}
-
-pub few_overs : (ms : List Make) → overs ms ≤ length ms
-few_overs [] = omega arith
-few_overs (make.Nothing ∷ ms) = omega (arith, few_overs ms)
-few_overs (make.Over h ∷ ms) = omega (arith, few_overs ms)
+use Rattle.cv_syntax.proofs.limits.Counting.{few_overs}
 
 pub ruleset buildings = (few_overs)
 
 -- declarations
 
 bool_same : (trees : List KindTree) → declared trees bool_decl ≡ bool_type
-bool_same trees = ap (λ t. Named 0 (TypeName true false) t None) (tree_at-None trees)
+bool_same trees = ap (λ t. Named 0 (TypeName true false) t None) (tree_at_None trees)
 
 sort_same : (o : Option ℕ) → number (option_map named_by o) ≡ o
 sort_same None = refl
@@ -47,20 +43,20 @@ sort_same (Some x) = refl
 declared_same : (trees : List KindTree) (d : Declaration) (r : Option NodeId) → IsWhole d → tree_at trees r ≡ tree_in d → declared trees (decl_of (heard_of d) r) ≡ d
 declared_same trees (Named id c args result) r w e = ap₂ (λ t o. Named id c t o) e (sort_same result)
 declared_same trees (Equation t) (Some n) w e = ap Equation e
-declared_same trees (Equation t) None w e = absurd (w (sym e ∙ tree_at-None trees))
+declared_same trees (Equation t) None w e = absurd (w (sym e ∙ tree_at_None trees))
 declared_same trees (Equiv id t) (Some n) w e = ap (Equiv id) e
-declared_same trees (Equiv id t) None w e = absurd (w (sym e ∙ tree_at-None trees))
+declared_same trees (Equiv id t) None w e = absurd (w (sym e ∙ tree_at_None trees))
 declared_same trees (Query t) (Some n) w e = ap Query e
-declared_same trees (Query t) None w e = absurd (w (sym e ∙ tree_at-None trees))
+declared_same trees (Query t) None w e = absurd (w (sym e ∙ tree_at_None trees))
 
 below_one : (trees : List KindTree) (bound : ℕ) (d : Declaration) (r : Option NodeId) → IsWhole d → tree_at trees r ≡ tree_in d → ChildBelow bound r → IsBelow bound (decl_of (heard_of d) r)
 below_one trees bound (Named id c args result) r w e l = l
 below_one trees bound (Equation t) (Some n) w e l = l
-below_one trees bound (Equation t) None w e l = absurd (w (sym e ∙ tree_at-None trees))
+below_one trees bound (Equation t) None w e l = absurd (w (sym e ∙ tree_at_None trees))
 below_one trees bound (Equiv id t) (Some n) w e l = l
-below_one trees bound (Equiv id t) None w e l = absurd (w (sym e ∙ tree_at-None trees))
+below_one trees bound (Equiv id t) None w e l = absurd (w (sym e ∙ tree_at_None trees))
 below_one trees bound (Query t) (Some n) w e l = l
-below_one trees bound (Query t) None w e l = absurd (w (sym e ∙ tree_at-None trees))
+below_one trees bound (Query t) None w e l = absurd (w (sym e ∙ tree_at_None trees))
 
 front : {A : Type 0} (x y : A) (xs ys : List A) → x ∷ xs ≡ y ∷ ys → (x ≡ y) × (xs ≡ ys)
 front x y xs ys e = (cc, cc)

@@ -20,7 +20,7 @@ use Rattle.cv_parse_grammar.proofs.Outcome.{accepted_is_read, read_is_accepted, 
 use Rattle.cv_parse.specs.declared.error.ParseError.{ParseError}
 use Rattle.cv_parse.specs.declared.error.ParseError.TheVariants.{Syntax, Nesting, NameTwice, NameUnknown, Build}
 use Rattle.cv_parse.specs.Parsed.{Parsed, limited, of_fault, of_name, of_outcome, parsed, said, sized_first, weight_of}
-use Rattle.cv_syntax_limits.specs.Limits.{most_depth, most_nodes}
+use Rattle.cv_syntax.specs.limits.Limits.{most_depth, most_nodes}
 use Rattle.cv_parse.specs.Says.{HasDepth, HasNodes, HasWeight, IsDead, IsLarge, IsMisnamedAt, Says}
 use Rattle.cv_parse.specs.Weights.{asked, capped}
 

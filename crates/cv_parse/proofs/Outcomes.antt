@@ -21,6 +21,9 @@ use Rattle.cv_parse.specs.Parsed.{Refuses, of_name, sized}
 use Rattle.cv_parse.specs.Games.{ReadsGame, declared_before, game_of, nodes_of, of_reading, read_process, roomed, sized_first, unless}
 use Rattle.cv_parse.specs.Stages.{IsProcess}
 
+pub back_to : (n k : ℕ) → k ≤ n → n - (n - k) ≡ k
+back_to n k h = omega arith
+
 -- an error that was passed on
 pub passed_on : (read : Result Tree ParseError) (trees : List KindTree) (r : Result Game ParseError) (e : ParseError) → IsErrAnd r (λ x. x ≡ e) → Refuses e read → ReadsGame read trees r
 passed_on read trees (Ok g) e i h = absurd i
@@ -36,9 +39,6 @@ refuses_on (Build (build.Full n)) r s f h = f h
 refuses_on (Build (build.Nodes n)) r s f h = f h
 refuses_on (Build (build.Depth n)) r s f h = f h
 refuses_on (Build build.OutOfMemory) r s f h = tt
-
-back_to : (n k : ℕ) → k ≤ n → n - (n - k) ≡ k
-back_to n k h = omega arith
 
 -- a fault of the grammar
 pub fault_refuses : (limit live n : ℕ) (before : Uses) (signs : List Sign) (e : ReadError) (read : _) → n ≡ length signs → Fails signs e read → Refuses (of_read e) (of_reading limit live n before read)

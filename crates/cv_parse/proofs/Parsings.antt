@@ -28,9 +28,10 @@ use Rattle.cv_parse.specs.declared.error.ParseError.TheVariants.{Syntax, Nesting
 use Rattle.cv_parse.specs.Building.{Builds, Crowds, IsBuilt, Misnames}
 use Rattle.cv_parse.specs.Faults.{of_read}
 use Rattle.cv_parse.specs.Parsed.{Parsed, ParsesIn, Refuses, held_in, limited, of_name, of_outcome, parsed, range_of, roomed, said, sized, sized_first, weight_of}
-use Rattle.cv_syntax_limits.specs.Limits.{most_depth, most_nodes}
+use Rattle.cv_syntax.specs.limits.Limits.{most_depth, most_nodes}
 use Rattle.cv_parse.specs.Weights.{asked, capped, parts_weight, tree_weight}
-use Rattle.cv_parse.proofs.Weighing.{declared-weight, tree-weight, weight-both}
+use Rattle.cv_parse.proofs.Weighing.{declared_weight_law, tree_weight_law, weight_both}
+use Rattle.cv_parse.proofs.Outcomes.{back_to, refuses_on}
 
 told_again : {ds es : List Declaration} {s r : Option (ℕ × ℕ)} {t u : Tree} → ds ≡ es → s ≡ r → t ≡ u → (let x : Result Parsed ParseError = Ok (record { declarations = ds; script = s; game = t }) in x) ≡ Ok (record { declarations = es; script = r; game = u })
 told_again {es = es} {s = s} {r = r} {t = t} e f g = ap (λ ds. let x : Result Parsed ParseError = Ok (record { declarations = ds; script = s; game = t }) in x) e ∙ ap₂ (λ p q. Ok (record { declarations = es; script = p; game = q })) f g
@@ -39,20 +40,6 @@ told_again {es = es} {s = s} {r = r} {t = t} e f g = ap (λ ds. let x : Result P
 pub passed_on : (limit : ℕ) (signs : List Sign) (trees : List KindTree) (list : List Decl) (r : Result File ParseError) (e : ParseError) → IsErrAnd r (λ x. x ≡ e) → Refuses e (parsed limit signs) → ParsesIn limit signs trees list r
 passed_on limit signs trees list (Ok f) e i h = absurd i
 passed_on limit signs trees list (Err x) e i h = subst (λ y. Refuses y (parsed limit signs)) (sym i) h
-
--- a stage that is refused, and what comes of it
-refuses_on : {A B : Type 0} (e : ParseError) (r : Result A ParseError) (s : Result B ParseError) → (r ≡ Err e → s ≡ Err e) → Refuses e r → Refuses e s
-refuses_on (Syntax k) r s f h = f h
-refuses_on (Nesting k) r s f h = f h
-refuses_on (NameTwice k) r s f h = f h
-refuses_on (NameUnknown k) r s f h = f h
-refuses_on (Build (build.Full n)) r s f h = f h
-refuses_on (Build (build.Nodes n)) r s f h = f h
-refuses_on (Build (build.Depth n)) r s f h = f h
-refuses_on (Build build.OutOfMemory) r s f h = tt
-
-back_to : (n k : ℕ) → k ≤ n → n - (n - k) ≡ k
-back_to n k h = omega arith
 
 -- by the grammar
 pub read_refuses : (limit : ℕ) (signs : List Sign) (e : ReadError) → Fails signs e (read_whole levels signs) → Refuses (of_read e) (parsed limit signs)
@@ -114,10 +101,10 @@ module _ (limit : ℕ) (signs : List Sign) (r : Reading) (d : IsReading signs r)
   unfolding tree_weight
   weighed makes e =
       let a = ap parts_weight e in
-      let b = weight-both r.trees.items (postorder (filled d.value.game)) in
+      let b = weight_both r.trees.items (postorder (filled d.value.game)) in
       let c = ap parts_weight d.hears.trees in
-      let f = declared-weight d.value.decls in
-      let g = tree-weight (filled d.value.game) in
+      let f = declared_weight_law d.value.decls in
+      let g = tree_weight_law (filled d.value.game) in
       omega arith
 
   full : (need n : ℕ) → need ≡ asked (weight_of content) → limit < n → n ≡ need → roomed limit content ≡ Err (Build (build.Full need))

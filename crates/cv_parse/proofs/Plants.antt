@@ -25,38 +25,34 @@ use Rattle.cv_parse.specs.Faults.{of_pool}
 use Rattle.cv_parse.specs.Games.{declared_before, declared_by, nodes_of}
 use Rattle.cv_parse.specs.Nodes.{declared_nodes, file_nodes}
 use Rattle.cv_parse.specs.Parsed.{bool_type}
+use Rattle.cv_syntax.proofs.listing.Lists.{overs_append}
 
-pub overs-both : (a b : List Make) → overs (a ++ b) ≡ overs a + overs b
-overs-both [] b = omega arith
-overs-both (make.Nothing ∷ a) b = overs-both a b
-overs-both (make.Over h ∷ a) b = let e = overs-both a b in omega arith
-
-pub overs-tree : (t : Tree) → overs (postorder t) ≡ nodes_of t
+pub overs_tree : (t : Tree) → overs (postorder t) ≡ nodes_of t
 unfolding postorder nodes_of
-overs-tree Empty = refl
-overs-tree (Node h a b) =
-    let e = overs-both (postorder a) (postorder b ++ make.Over h ∷ []) in
-    let f = overs-both (postorder b) (make.Over h ∷ []) in
-    let i = overs-tree a in
-    let j = overs-tree b in
+overs_tree Empty = refl
+overs_tree (Node h a b) =
+    let e = overs_append (postorder a) (postorder b ++ make.Over h ∷ []) in
+    let f = overs_append (postorder b) (make.Over h ∷ []) in
+    let i = overs_tree a in
+    let j = overs_tree b in
     omega arith
 
 -- the parts of a tree make so many nodes
-pub overs-of : (ms : List Make) (t : Tree) → ms ≡ postorder t → overs ms ≡ nodes_of t
-overs-of ms t e = ap overs e ∙ overs-tree t
+pub overs_of : (ms : List Make) (t : Tree) → ms ≡ postorder t → overs ms ≡ nodes_of t
+overs_of ms t e = ap overs e ∙ overs_tree t
 
 -- the parts of the trees of declarations make so many nodes
-pub overs-declared : (ds : List Declaration) → overs (flat_map parts_of ds) ≡ declared_nodes ds
-overs-declared [] = refl
-overs-declared (d ∷ ds) = overs-both (parts_of d) (flat_map parts_of ds) ∙ ap₂ (λ m n. m + n) (overs-tree (tree_in d)) (overs-declared ds)
+pub overs_declared : (ds : List Declaration) → overs (flat_map parts_of ds) ≡ declared_nodes ds
+overs_declared [] = refl
+overs_declared (d ∷ ds) = overs_append (parts_of d) (flat_map parts_of ds) ∙ ap₂ (λ m n. m + n) (overs_tree (tree_in d)) (overs_declared ds)
 
 -- so many nodes are built
-pub built-nodes : (r : Reading) (makes : List Make) (b : Builds r makes) → overs makes ≡ file_nodes (bool_type ∷ b.file.decls) (filled b.file.game)
+pub built_nodes : (r : Reading) (makes : List Make) (b : Builds r makes) → overs makes ≡ file_nodes (bool_type ∷ b.file.decls) (filled b.file.game)
 unfolding nodes_of
-built-nodes r makes b =
-    let e = ap overs b.parts ∙ overs-both r.trees.items (postorder (filled b.file.game)) in
-    let f = ap overs b.hears.trees ∙ overs-declared b.file.decls in
-    let g = overs-tree (filled b.file.game) in
+built_nodes r makes b =
+    let e = ap overs b.parts ∙ overs_append r.trees.items (postorder (filled b.file.game)) in
+    let f = ap overs b.hears.trees ∙ overs_declared b.file.decls in
+    let g = overs_tree (filled b.file.game) in
     omega arith
 
 -- one tree is the last one
@@ -90,11 +86,11 @@ take_next (d ∷ ds) (suc k) l =
     let e : suc k + 1 ≡ suc (k + 1) = omega arith in
     (rest.0, rest.1, ap (λ n. take n (d ∷ ds)) e ∙ ap (λ l. d ∷ l) rest.2)
 
-declared-both : (a b : List Decl) → declared_before (a ++ b) ≡ declared_before a ++ declared_before b
-declared-both [] b = refl
-declared-both (d ∷ a) b = ap (λ l. declared_by d ++ l) (declared-both a b) ∙ sym (append_assoc (declared_by d) (declared_before a) (declared_before b))
+declared_both : (a b : List Decl) → declared_before (a ++ b) ≡ declared_before a ++ declared_before b
+declared_both [] b = refl
+declared_both (d ∷ a) b = ap (λ l. declared_by d ++ l) (declared_both a b) ∙ sym (append_assoc (declared_by d) (declared_before a) (declared_before b))
 
 pub declared_next : (ds : List Decl) (k : ℕ) (u v w us : Uses) → k < length ds → v ≡ u ++ declared_before (take k ds) → ((d : Decl) → slice_get ds k ≡ Some d → us ≡ declared_by d) → w ≡ v ++ us → w ≡ u ++ declared_before (take (k + 1) ds)
 declared_next ds k u v w us l e h f =
     let d = take_next ds k l in
-    f ∙ (ap (λ x. x ++ us) e ∙ (append_assoc u (declared_before (take k ds)) us ∙ ap (λ x. u ++ x) (ap (λ x. declared_before (take k ds) ++ x) (h d.0 d.1 ∙ sym (append-nil (declared_by d.0))) ∙ (sym (declared-both (take k ds) (d.0 ∷ [])) ∙ ap declared_before (sym d.2)))))
+    f ∙ (ap (λ x. x ++ us) e ∙ (append_assoc u (declared_before (take k ds)) us ∙ ap (λ x. u ++ x) (ap (λ x. declared_before (take k ds) ++ x) (h d.0 d.1 ∙ sym (append-nil (declared_by d.0))) ∙ (sym (declared_both (take k ds) (d.0 ∷ [])) ∙ ap declared_before (sym d.2)))))

@@ -19,6 +19,7 @@ use Rattle.cv_parse.specs.Games.{nodes_of}
 use Rattle.cv_parse.specs.Stages.{IsTerm, shifted}
 use Rattle.cv_parse.specs.Terms.{ReadsTerm, names_by, names_within, of_term, read_term, roomed_term, term_of}
 use Rattle.cv_parse.proofs.Outcomes.{refuses_on}
+use Rattle.cv_lists.proofs.Tests.{then_branch, else_branch}
 
 -- an error that was passed on
 pub term_passed_on : (read : Result (Tree × ℕ) ParseError) (trees : List KindTree) (r : Result (NodeId × ℕ) ParseError) (e : ParseError) → IsErrAnd r (λ x. x ≡ e) → Refuses e read → ReadsTerm read trees r
@@ -34,19 +35,11 @@ term_fault limit live from signs reading.OutOfMemory l h = tt
 
 -- the room of a pool
 
-first_of : {A : Type 0} (a b : A) (c : Bool) → c ≡ true → (if c then a else b) ≡ a
-first_of a b true e = refl
-first_of a b false e = absurd (cc)
-
-second_of : {A : Type 0} (a b : A) (c : Bool) → c ≡ false → (if c then a else b) ≡ b
-second_of a b false e = refl
-second_of a b true e = absurd (cc)
-
 full : (limit live : ℕ) (t : Tree) (next : ℕ) → limit < live + nodes_of t → roomed_term limit live t next ≡ Err (Build (build.Full (nodes_of t)))
-full limit live t next l = first_of {A = Result (Tree × ℕ) ParseError} (Err (Build (build.Full (nodes_of t)))) (Ok (t, next)) (nat_lt limit (live + nodes_of t)) (grind (arith, nat_tests))
+full limit live t next l = then_branch {A = Result (Tree × ℕ) ParseError} (Err (Build (build.Full (nodes_of t)))) (Ok (t, next)) (nat_lt limit (live + nodes_of t)) (grind (arith, nat_tests))
 
 pub term_room : (limit live : ℕ) (t : Tree) (next : ℕ) → live + nodes_of t ≤ limit → roomed_term limit live t next ≡ Ok (t, next)
-term_room limit live t next l = second_of {A = Result (Tree × ℕ) ParseError} (Err (Build (build.Full (nodes_of t)))) (Ok (t, next)) (nat_lt limit (live + nodes_of t)) (grind (arith, nat_tests))
+term_room limit live t next l = else_branch {A = Result (Tree × ℕ) ParseError} (Err (Build (build.Full (nodes_of t)))) (Ok (t, next)) (nat_lt limit (live + nodes_of t)) (grind (arith, nat_tests))
 
 crowd_refuses : (limit live : ℕ) (t : Tree) (next : ℕ) (e : ParseError) → Crowds limit live (nodes_of t) e → Refuses e (roomed_term limit live t next)
 crowd_refuses limit live t next (Syntax k) h = full limit live t next h.1 ∙ ap Err (sym h.0)

@@ -14,62 +14,59 @@ use Rattle.cv_parse.specs.Measures.{depth_over, depths_behind, depths_in, part_s
 
 -- syntax nodes
 
-size-both : (a b : List Make) → parts_size (a ++ b) ≡ parts_size a + parts_size b
-size-both [] b = omega arith
-size-both (m ∷ a) b = let e = size-both a b in omega arith
+size_both : (a b : List Make) → parts_size (a ++ b) ≡ parts_size a + parts_size b
+size_both [] b = omega arith
+size_both (m ∷ a) b = let e = size_both a b in omega arith
 
-tree-size : (t : Tree) → parts_size (postorder t) ≡ size t
+tree_size : (t : Tree) → parts_size (postorder t) ≡ size t
 unfolding postorder size
-tree-size Empty = refl
-tree-size (Node h a b) =
-    let e = size-both (postorder a) (postorder b ++ Over h ∷ []) in
-    let f = size-both (postorder b) (Over h ∷ []) in
-    let i = tree-size a in
-    let j = tree-size b in
+tree_size Empty = refl
+tree_size (Node h a b) =
+    let e = size_both (postorder a) (postorder b ++ Over h ∷ []) in
+    let f = size_both (postorder b) (Over h ∷ []) in
+    let i = tree_size a in
+    let j = tree_size b in
     omega arith
 
-size-next : (ms : List Make) (d : Make) (k : ℕ) → k < length ms → parts_size (take (k + 1) ms) ≡ parts_size (take k ms) + part_size (get_or ms k d)
-size-next [] d k l = absurd (omega arith)
-size-next (m ∷ ms) d zero l = omega arith
-size-next (m ∷ ms) d (suc k) l = let e : suc k + 1 ≡ suc (k + 1) = omega arith in ap (λ n. parts_size (take n (m ∷ ms))) e ∙ (let i = size-next ms d k (omega arith) in omega arith)
+size_next : (ms : List Make) (d : Make) (k : ℕ) → k < length ms → parts_size (take (k + 1) ms) ≡ parts_size (take k ms) + part_size (get_or ms k d)
+size_next [] d k l = absurd (omega arith)
+size_next (m ∷ ms) d zero l = omega arith
+size_next (m ∷ ms) d (suc k) l = let e : suc k + 1 ≡ suc (k + 1) = omega arith in ap (λ n. parts_size (take n (m ∷ ms))) e ∙ (let i = size_next ms d k (omega arith) in omega arith)
 
 -- depths
 
-capped-over : (h : Head) (a b : ℕ) → depth_over h (capped a) (capped b) ≡ capped (weight h + max a b)
-capped-over h a b = omega arith
+capped_over : (h : Head) (a b : ℕ) → depth_over h (capped a) (capped b) ≡ capped (weight h + max a b)
+capped_over h a b = omega arith
 
-depths-postorder : (t : Tree) (depths : List ℕ) (rest : List Make) → depths_in depths (postorder t ++ rest) ≡ depths_in (capped (depth t) ∷ depths) rest
+depths_postorder : (t : Tree) (depths : List ℕ) (rest : List Make) → depths_in depths (postorder t ++ rest) ≡ depths_in (capped (depth t) ∷ depths) rest
 unfolding postorder depths_in depth
-depths-postorder Empty depths rest = refl
-depths-postorder (Node h a b) depths rest =
+depths_postorder Empty depths rest = refl
+depths_postorder (Node h a b) depths rest =
     ap (depths_in depths) (append_assoc (postorder a) (postorder b ++ Over h ∷ []) rest)
-    ∙ (depths-postorder a depths ((postorder b ++ Over h ∷ []) ++ rest)
+    ∙ (depths_postorder a depths ((postorder b ++ Over h ∷ []) ++ rest)
     ∙ (ap (depths_in (capped (depth a) ∷ depths)) (append_assoc (postorder b) (Over h ∷ []) rest)
-    ∙ (depths-postorder b (capped (depth a) ∷ depths) (Over h ∷ rest)
-    ∙ ap (λ n. depths_in (n ∷ depths) rest) (capped-over h (depth a) (depth b)))))
+    ∙ (depths_postorder b (capped (depth a) ∷ depths) (Over h ∷ rest)
+    ∙ ap (λ n. depths_in (n ∷ depths) rest) (capped_over h (depth a) (depth b)))))
 
 -- So many parts were measured.
 pub record IsMeasured (ms : List Make) (k nodes : ℕ) (depths : List ℕ) : Type 0 where
   pub size : nodes ≡ capped (parts_size (take k ms))
   pub depth : depths_in (reverse depths) (drop k ms) ≡ depths_in [] ms
 
-pub measured_first : (ms : List Make) (depths : List ℕ) → depths ≡ [] → IsMeasured ms 0 0 depths
-measured_first ms depths e = record { size = refl; depth = ap (λ l. depths_in (reverse l) ms) e }
-
 pub measured_next : (ms : List Make) (k nodes more : ℕ) (depths now : List ℕ) → IsMeasured ms k nodes depths → k < length ms → more ≡ capped (nodes + part_size (get_or ms k Nothing)) → reverse now ≡ depths_behind (get_or ms k Nothing) (reverse depths) → IsMeasured ms (k + 1) more now
 unfolding depths_in
 measured_next ms k nodes more depths now d h f g = record {
-  size = (let n = size-next ms Nothing k h in let i = d.size in omega arith);
+  size = (let n = size_next ms Nothing k h in let i = d.size in omega arith);
   depth = ap (λ l. depths_in l (drop (k + 1) ms)) g ∙ (ap (depths_in (reverse depths)) (sym (drop_more ms k Nothing h)) ∙ d.depth);
 }
 
 pub measured_nodes : (ms : List Make) (k nodes : ℕ) (depths : List ℕ) (t : Tree) → IsMeasured ms k nodes depths → length ms ≤ k → ms ≡ postorder t → nodes ≡ capped (size t)
-measured_nodes ms k nodes depths t d h e = d.size ∙ ap capped (ap parts_size (take_all k ms h ∙ e) ∙ tree-size t)
+measured_nodes ms k nodes depths t d h e = d.size ∙ ap capped (ap parts_size (take_all k ms h ∙ e) ∙ tree_size t)
 
 depths_at_end : (ms : List Make) (k nodes : ℕ) (depths : List ℕ) (t : Tree) → IsMeasured ms k nodes depths → length ms ≤ k → ms ≡ postorder t → reverse depths ≡ capped (depth t) ∷ []
 unfolding depths_in
 depths_at_end ms k nodes depths t d h e =
-    ap (depths_in (reverse depths)) (sym (drop_all k ms h)) ∙ (d.depth ∙ (ap (depths_in []) (e ∙ sym (append-nil (postorder t))) ∙ depths-postorder t [] []))
+    ap (depths_in (reverse depths)) (sym (drop_all k ms h)) ∙ (d.depth ∙ (ap (depths_in []) (e ∙ sym (append-nil (postorder t))) ∙ depths_postorder t [] []))
 
 only_one : (d : ℕ) (s : List ℕ) (x : Option ℕ) → d ∷ [] ≡ s ++ option_to_list x → IsSome x → unwrap_or x 0 ≡ d
 only_one d [] (Some v) e i = cc

@@ -10,7 +10,7 @@ use Rattle.cv_syntax.specs.declared.work.BuildError.TheVariants.{Full}
 use Rattle.cv_syntax.specs.declared.work.Game.{Game}
 use Rattle.cv_syntax_trees.specs.Tree.{Tree, Empty, Node}
 use Rattle.cv_syntax.specs.PoolTrees.{tree_at}
-use Rattle.cv_parse_terminals.specs.Signs.{no_counts, signs_from}
+use Rattle.cv_parse_tables.specs.terminals.Signs.{no_counts, signs_from}
 use Rattle.cv_parse_notation.specs.declared.sign.Sign.{Sign}
 use Rattle.cv_parse_notation.specs.Reads.{Read}
 use Rattle.cv_parse_notation.specs.Whole.{reads_whole}

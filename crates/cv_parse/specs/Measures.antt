@@ -5,7 +5,7 @@ use Rattle.cv_syntax.specs.declared.make.Make.{Make}
 use Rattle.cv_syntax.specs.declared.make.Make.TheVariants.{Nothing, Over}
 use Rattle.cv_syntax_trees.specs.Head.{weight}
 use Rattle.cv_syntax_trees.specs.Tree.{Tree, depth as tree_depth, size}
-use Rattle.cv_syntax_limits.specs.declared.games.Extent.{Extent}
+use Rattle.cv_syntax.specs.declared.limits.games.Extent.{Extent}
 use Rattle.cv_parse.specs.Weights.{capped}
 
 -- The sizes of a tree, each as a report carries it.

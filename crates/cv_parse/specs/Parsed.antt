@@ -10,7 +10,7 @@ use Rattle.cv_syntax_trees.specs.Declarations.{Declaration, Named}
 use Rattle.cv_syntax.specs.Declarations.{declarations}
 use Rattle.cv_syntax_trees.specs.Tree.{Tree, Empty, size, depth}
 use Rattle.cv_syntax.specs.PoolTrees.{tree_at}
-use Rattle.cv_syntax_limits.specs.Limits.{most_depth, most_nodes}
+use Rattle.cv_syntax.specs.limits.Limits.{most_depth, most_nodes}
 use Rattle.cv_parse_notation.specs.declared.sign.Sign.{Sign}
 use Rattle.cv_parse_notation.specs.Reads.{Fault}
 use Rattle.cv_parse_notation.specs.Reads as fault

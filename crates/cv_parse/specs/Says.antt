@@ -8,7 +8,7 @@ use Rattle.cv_parse_grammar.specs.Files.{IsSomeFile, levels}
 use Rattle.cv_parse_grammar.specs.Names.{NameFault}
 use Rattle.cv_parse_grammar.specs.Whole.{IsMisnamed, IsRead}
 use Rattle.cv_parse.specs.Parsed.{Parsed, bool_type, range_of, weight_of}
-use Rattle.cv_syntax_limits.specs.Limits.{most_depth, most_nodes}
+use Rattle.cv_syntax.specs.limits.Limits.{most_depth, most_nodes}
 use Rattle.cv_parse.specs.Weights.{asked, capped}
 
 -- The tokens are those of a file by the grammar and the rules of names, within the limits.

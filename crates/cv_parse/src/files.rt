@@ -1,6 +1,6 @@
 ghost use Rattle.std.specs.Prelude.{◌≡◌, ◌+◌, ◌<◌, ◌≤◌, ◌^◌, ◌++◌, [], Some, length, All, OnErr, IfOk, OnOk};
 ghost use Rattle.cv_parse_grammar.specs.Filled.{filled};
-ghost use Rattle.cv_parse_terminals.specs.Signs.{signs_of};
+ghost use Rattle.cv_parse_tables.specs.terminals.Signs.{signs_of};
 ghost use Rattle.cv_syntax.specs.Postorder.{postorder};
 ghost use Rattle.cv_syntax_trees.specs.Tree.{Tree, size};
 ghost use Rattle.cv_syntax.specs.PoolTrees.{tree_at};
@@ -15,11 +15,11 @@ use crate::measuring::check_size;
 use crate::naming::check_names;
 use cv_lex::Tokens;
 use cv_parse_declarations::read;
-use cv_parse_indices::{fill, measure};
+use cv_parse_names::indices::{fill, measure};
 use cv_parse_notation::Sign;
-use cv_parse_terminals::signs;
+use cv_parse_tables::terminals::signs;
+use cv_syntax::filling::{empty_again, own_all_names};
 use cv_syntax::{Decls, File, Game, Make, Pool, Work};
-use cv_syntax_work::{empty_again, own_all_names};
 use std::alloc::{AllocError, Global};
 
 /// The parts of all trees of a file: those of its declarations, and behind them those of its game.

@@ -1,6 +1,6 @@
 ghost use Rattle.std.specs.Prelude.{◌≡◌, ◌+◌, ◌<◌, ◌≤◌, ◌^◌, length, take, drop, Some, IfOk, OnErr, OnOk};
 ghost use Rattle.cv_pool.specs.PoolView.{Grows};
-ghost use Rattle.cv_parse_terminals.specs.Signs.{no_counts, signs_from};
+ghost use Rattle.cv_parse_tables.specs.terminals.Signs.{no_counts, signs_from};
 ghost use Rattle.cv_syntax_trees.specs.Tree.{size};
 ghost use Rattle.cv_syntax.specs.PoolTrees.{tree_at};
 ghost use Rattle.cv_parse.specs.Games.{ReadsGame, game_of, game_read};
@@ -12,7 +12,7 @@ use crate::planting::plant_one;
 use crate::reading::read_game;
 use cv_lex::Tokens;
 use cv_parse_notation::Sign;
-use cv_parse_terminals::more_signs;
+use cv_parse_tables::terminals::more_signs;
 use cv_parse_terms::Trail;
 use cv_syntax::{Decls, Game, Pool, Work};
 use std::alloc::Global;

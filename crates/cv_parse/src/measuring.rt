@@ -6,8 +6,8 @@ ghost use Rattle.cv_parse.specs.Measures.{IsExtent, depths_behind, depths_over, 
 ghost use Rattle.cv_parse.specs.Parsed.{Refuses, sized};
 
 use crate::ParseError;
+use cv_syntax::limits::{Extent, check_limits};
 use cv_syntax::{Head, Make};
-use cv_syntax_limits::{Extent, check_limits};
 use std::alloc::{AllocError, Global};
 
 /// Checks that a game of an extent is no larger than a game may be.

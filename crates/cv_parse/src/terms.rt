@@ -10,7 +10,7 @@ use crate::planting::plant_one;
 use crate::reading::read_term;
 use cv_lex::Tokens;
 use cv_parse_notation::Sign;
-use cv_parse_terminals::more_signs;
+use cv_parse_tables::terminals::more_signs;
 use cv_parse_terms::{ReadError, Trail};
 use cv_syntax::{BuildError, Names, NodeId, Pool, Work};
 use std::alloc::Global;

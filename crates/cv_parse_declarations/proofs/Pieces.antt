@@ -48,22 +48,6 @@ pub ruleset pieces = (piece_begins, past_end)
 abbrev within : Sort → Phrase (Unit {0})
 within s = made (λ _. tt) (deeper s)
 
-pub braces_passed : {all : List Sign} {end : ℕ} (n at : ℕ) → next_is (is_mark mark.OpenBrace) (drop at all) ≡ true → IsPlain all (below n Braces (drop at all)) Empty end → IsPassed all (read_in n piece (drop at all)) end
-braces_passed {all = all} n at h d = record {
-  value = tt;
-  plain =
-      plain_of (read_in n piece (drop at all))
-      (first_read (next_is (starts heads (within Braces)) (drop at all)) (read_in n (within Braces)) (read_in n other) (drop at all) h (made_read (λ _. tt) (plain_read [] d)));
-}
-
-pub token_passed : {all : List Sign} {end : ℕ} (n at : ℕ) → next_is (is_mark mark.OpenBrace) (drop at all) ≡ false → IsPlain all (read_other (drop at all)) tt end → IsPassed all (read_in n piece (drop at all)) end
-token_passed {all = all} n at h d = record {
-  value = tt;
-  plain =
-      plain_of (read_in n piece (drop at all))
-      (second_read (next_is (starts heads (within Braces)) (drop at all)) (read_in n (within Braces)) (read_in n other) (drop at all) h (plain_read [] d));
-}
-
 -- one level down
 pub passes_below : (all : List Sign) (r : Result ℕ ReadError) (n : ℕ) (s : Sort) (ts : List Sign) → 0 < n → PassesTree all r (read_in (n - 1) (rule s) ts) → PassesTree all r (below n s ts)
 passes_below all r n s ts h d = subst (λ x. PassesTree all r x) (sym (below_is n (n - 1) s ts (omega arith))) d

@@ -26,17 +26,17 @@ pub record DeclaredSoFar (n : ℕ) (all : List Sign) (old new : Trail) (before a
   pub makes : new.makes.items ≡ old.makes.items ++ flat_map parts_of (joined value)
   pub sound : AllByRecursion IsWhole (joined value)
 
-joined-last : (xs : List (List Declaration)) (ds : List Declaration) → joined (xs ++ ds ∷ []) ≡ joined xs ++ ds
-joined-last [] ds = append-nil ds
-joined-last (x ∷ xs) ds = ap (λ l. x ++ l) (joined-last xs ds) ∙ sym (append_assoc x (joined xs) ds)
+joined_last : (xs : List (List Declaration)) (ds : List Declaration) → joined (xs ++ ds ∷ []) ≡ joined xs ++ ds
+joined_last [] ds = append-nil ds
+joined_last (x ∷ xs) ds = ap (λ l. x ++ l) (joined_last xs ds) ∙ sym (append_assoc x (joined xs) ds)
 
-parts-append : (xs ys : List Declaration) → flat_map parts_of (xs ++ ys) ≡ flat_map parts_of xs ++ flat_map parts_of ys
-parts-append [] ys = refl
-parts-append (x ∷ xs) ys = ap (λ l. parts_of x ++ l) (parts-append xs ys) ∙ sym (append_assoc (parts_of x) (flat_map parts_of xs) (flat_map parts_of ys))
+parts_append : (xs ys : List Declaration) → flat_map parts_of (xs ++ ys) ≡ flat_map parts_of xs ++ flat_map parts_of ys
+parts_append [] ys = refl
+parts_append (x ∷ xs) ys = ap (λ l. parts_of x ++ l) (parts_append xs ys) ∙ sym (append_assoc (parts_of x) (flat_map parts_of xs) (flat_map parts_of ys))
 
-all-append : (xs ys : List Declaration) → AllByRecursion IsWhole xs → AllByRecursion IsWhole ys → AllByRecursion IsWhole (xs ++ ys)
-all-append [] ys h k = k
-all-append (x ∷ xs) ys h k = (h.0, all-append xs ys h.1 k)
+all_append : (xs ys : List Declaration) → AllByRecursion IsWhole xs → AllByRecursion IsWhole ys → AllByRecursion IsWhole (xs ++ ys)
+all_append [] ys h k = k
+all_append (x ∷ xs) ys h k = (h.0, all_append xs ys h.1 k)
 
 pub decls_begin : (n : ℕ) (all : List Sign) (t : Trail) (h : List Heard) (at : ℕ) → at ≤ length all → DeclaredSoFar n all t t h h (read_in n (many false declaration) (drop at all)) at
 decls_begin n all t h at l = record { value = []; read = many_begins n declaration all t.uses.items at l; heard = sym (append-nil h); makes = sym (append-nil t.makes.items); sound = tt }
@@ -48,12 +48,12 @@ decls_go n all t u v f g h whole p q so b d = record {
   heard =
       d.heard
       ∙ (ap (λ l. l ++ map heard_of d.value) so.heard
-      ∙ (append_assoc f (map heard_of (joined so.value)) (map heard_of d.value) ∙ ap (λ l. f ++ l) (sym (map-append heard_of (joined so.value) d.value) ∙ ap (map heard_of) (sym (joined-last so.value d.value)))));
+      ∙ (append_assoc f (map heard_of (joined so.value)) (map heard_of d.value) ∙ ap (λ l. f ++ l) (sym (map-append heard_of (joined so.value) d.value) ∙ ap (map heard_of) (sym (joined_last so.value d.value)))));
   makes =
       d.makes
       ∙ (ap (λ l. l ++ flat_map parts_of d.value) so.makes
-      ∙ (append_assoc t.makes.items (flat_map parts_of (joined so.value)) (flat_map parts_of d.value) ∙ ap (λ l. t.makes.items ++ l) (sym (parts-append (joined so.value) d.value) ∙ ap (flat_map parts_of) (sym (joined-last so.value d.value)))));
-  sound = let e = joined-last so.value d.value in rw e (all-append (joined so.value) d.value so.sound d.whole);
+      ∙ (append_assoc t.makes.items (flat_map parts_of (joined so.value)) (flat_map parts_of d.value) ∙ ap (λ l. t.makes.items ++ l) (sym (parts_append (joined so.value) d.value) ∙ ap (flat_map parts_of) (sym (joined_last so.value d.value)))));
+  sound = let e = joined_last so.value d.value in rw e (all_append (joined so.value) d.value so.sound d.whole);
 }
 
 pub decls_done : (n : ℕ) (all : List Sign) (t u : Trail) (f g : List Heard) (whole : Read Role (List (List Declaration))) (p : ℕ) → DeclaredSoFar n all t u f g whole p → next_is (starts heads declaration) (drop p all) ≡ false → AreDeclared all t u f g whole p

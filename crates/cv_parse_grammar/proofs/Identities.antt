@@ -29,9 +29,9 @@ use Rattle.cv_parse_grammar.specs.Rules.{File, file, heads, proof_block, rule}
 use Rattle.cv_parse_grammar.specs.Terms.{term}
 use Rattle.cv_parse_grammar.specs.Whole.{IsRead, built_in}
 
-declared-both : (us vs : Uses) → declared_in (us ++ vs) ≡ declared_in us ++ declared_in vs
-declared-both [] vs = refl
-declared-both (u ∷ us) vs = ap (λ l. declared_by u ++ l) (declared-both us vs) ∙ sym (append_assoc (declared_by u) (declared_in us) (declared_in vs))
+declared_both : (us vs : Uses) → declared_in (us ++ vs) ≡ declared_in us ++ declared_in vs
+declared_both [] vs = refl
+declared_both (u ∷ us) vs = ap (λ l. declared_by u ++ l) (declared_both us vs) ∙ sym (append_assoc (declared_by u) (declared_in us) (declared_in vs))
 
 -- phrases that declare nothing
 
@@ -59,7 +59,7 @@ quiet_use (Declares a) x ts h = absurd (cc)
 quiet_use r x ts h = refl
 
 quiet_both : (us vs : Uses) → declared_in us ≡ [] → declared_in vs ≡ [] → declared_in (us ++ vs) ≡ []
-quiet_both us vs e f = declared-both us vs ∙ ap₂ (λ a b. a ++ b) e f
+quiet_both us vs e f = declared_both us vs ∙ ap₂ (λ a b. a ++ b) e f
 
 quiet_perhaps : {A : Type 0} (P : Relation Role A) (near : Bool) (k : Kind → Bool) → Quiet P → Quiet (Perhaps P near k)
 quiet_perhaps P near k q ts None us rest d = ap declared_in d.0.uses
@@ -126,14 +126,6 @@ sorts_quiet (suc n) s = says_nothing true (IsSort heads rule n) (sorts_quiet n) 
 
 -- phrases with the names that they declare
 
-flat-nil : {A B : Type 0} (l : List A) → flat_map (λ (a : A). let e : List B = [] in e) l ≡ []
-flat-nil [] = refl
-flat-nil (a ∷ l) = flat-nil l
-
-flat-one : (l : List ℕ) → flat_map (λ x. x ∷ []) l ≡ l
-flat-one [] = refl
-flat-one (x ∷ l) = ap (λ k. x ∷ k) (flat-one l)
-
 module _ (n : ℕ) where
   -- the names that a phrase declares are those of its value
   abbrev Names : {A : Type 0} → Phrase A → (A → List ℕ) → Type 0
@@ -149,7 +141,7 @@ module _ (n : ℕ) where
   a_collision a ts x us rest d = ap declared_in d.uses
 
   follow : {A B : Type 0} (f : Phrase A) (g : Phrase B) {p : A → List ℕ} {q : B → List ℕ} → Names f p → Names g q → Names (f & g) (λ x. p x.0 ++ q x.1)
-  follow f g h i ts x us rest d = ap declared_in d.uses ∙ (declared-both d.front d.back ∙ ap₂ (λ a b. a ++ b) (h ts x.0 d.front d.mid d.first) (i d.mid x.1 d.back rest d.second))
+  follow f g h i ts x us rest d = ap declared_in d.uses ∙ (declared_both d.front d.back ∙ ap₂ (λ a b. a ++ b) (h ts x.0 d.front d.mid d.first) (i d.mid x.1 d.back rest d.second))
 
   -- the first part alone declares names
   at_first : {A B : Type 0} (f : Phrase A) (g : Phrase B) {p : A → List ℕ} → Names f p → quiet g ≡ true → Names (f & g) (λ x. p x.0)
@@ -167,7 +159,7 @@ module _ (n : ℕ) where
 
   each : {A : Type 0} (P : Relation Role A) (near : Bool) (k : Kind → Bool) (p : A → List ℕ) → ((ts : List Sign) (a : A) (us : Uses) (rest : List Sign) → P ts a us rest → declared_in us ≡ p a) → (ts : List Sign) (l : List A) (us : Uses) (rest : List Sign) → Each P near k ts l us rest → declared_in us ≡ flat_map p l
   each P near k p h ts [] us rest d = ap declared_in d.0.uses
-  each P near k p h ts (a ∷ l) us rest d = ap declared_in d.uses ∙ (declared-both d.front d.back ∙ ap₂ (λ a b. a ++ b) (h ts a d.front d.mid d.first) (each P near k p h d.mid l d.back rest d.second))
+  each P near k p h ts (a ∷ l) us rest d = ap declared_in d.uses ∙ (declared_both d.front d.back ∙ ap₂ (λ a b. a ++ b) (h ts a d.front d.mid d.first) (each P near k p h d.mid l d.back rest d.second))
 
   several : {A : Type 0} (near : Bool) (f : Phrase A) {p : A → List ℕ} → Names f p → Names (many near f) (flat_map p)
   several near f {p = p} h = each (Spells heads true (IsSort heads rule n) f) near (starts heads f) p h
@@ -360,7 +352,7 @@ one_among : (r : Role) (x y : ℕ) (l : List ℕ) (b : Bool) → b ≡ is_among 
 one_among (Declares a) x y l b e = ap (λ c. (x == y) || c) e
 one_among r x y l b e = e
 
-among : (us : Uses) (y : ℕ) → is_used declares y us ≡ is_among (declared_in us) y
+pub among : (us : Uses) (y : ℕ) → is_used declares y us ≡ is_among (declared_in us) y
 among [] y = refl
 among (u ∷ us) y = one_among u.role u.name y (declared_in us) (is_used declares y us) (among us y)
 

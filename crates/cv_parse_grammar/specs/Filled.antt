@@ -4,6 +4,7 @@ use Rattle.std.specs.List.{list_any}
 use Rattle.cv_syntax_trees.specs.declared.head.Head.{Head}
 use Rattle.cv_syntax_trees.specs.declared.head.Head.TheVariants.{Repl, In, Out, New, Let, Leaf, Read, Cons, Binder}
 use Rattle.cv_syntax_trees.specs.Tree.{Tree, Empty, Node, lone, chain, names}
+use Rattle.cv_lists.specs.Options.{first_of}
 
 -- a definition of the variable
 abbrev pub defines : Head → ℕ → Bool
@@ -11,10 +12,6 @@ defines (New y T) x = y == x
 defines (Let y T) x = y == x
 defines (Binder y T) x = y == x
 defines h x = false
-
-abbrev pub first_of : {A : Type 0} → Option A → Option A → Option A
-first_of (Some a) b = Some a
-first_of None b = b
 
 -- how many replications stand above the continuation of a node
 abbrev pub under : Head → ℕ → ℕ

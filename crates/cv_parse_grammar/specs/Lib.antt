@@ -12,3 +12,5 @@ pub mod Rules
 pub mod Terms
 pub mod Whole
 pub mod Worked
+pub mod depth
+pub mod yields

@@ -19,15 +19,16 @@ use Rattle.cv_parse_grammar.specs.Phrases.{Phrase, Sort, inside}
 use Rattle.cv_parse_grammar.specs.Phrases as sort
 use Rattle.cv_parse_grammar.specs.Declarations.{declaration}
 use Rattle.cv_parse_grammar.specs.Rules.{File, heads, matched, proof_block, rule}
-use Rattle.cv_parse_terminals.specs.Braces.{closes, open_behind, opens, outside, outside_from}
-use Rattle.cv_parse_terminals.specs.Signs.{signs_in, signs_of}
-use Rattle.cv_parse_terminals.proofs.FileTokens.{none_behind}
-use Rattle.cv_parse_terminals.proofs.Outside.{names_outside}
-use Rattle.cv_parse_terminals.proofs.Telling.{count_all}
+use Rattle.cv_parse_tables.specs.terminals.Braces.{closes, open_behind, opens, outside, outside_from}
+use Rattle.cv_parse_tables.specs.terminals.Signs.{signs_in, signs_of}
+use Rattle.cv_parse_tables.proofs.terminals.FileTokens.{none_behind}
+use Rattle.cv_parse_tables.proofs.terminals.Outside.{names_outside}
+use Rattle.cv_parse_tables.proofs.terminals.Telling.{count_all}
 use Rattle.cv_parse.specs.Parsed.{Parsed, parsed, range_of}
 use Rattle.cv_parse.proofs.Exactness.{said_is_saying}
 use Rattle.cv_parse_laws.specs.Blocks.{around}
 use Rattle.cv_parse_laws.proofs.Braced.{Alike, file_alike, is_brace, number_plain}
+use Rattle.cv_lists.proofs.Tests.{false_from_not}
 
 -- Tokens whose signs were passed, all outside braces.
 record IsPassed (ts : List Token) (ss rest : List Sign) : Type 0 where
@@ -97,17 +98,13 @@ each_passes S near k p ts ss (x ∷ l) us rest d a =
 token_passes : (ts : List Token) (ss : List Sign) (s : Sign) (rest : List Sign) → ss ≡ s ∷ rest → is_brace mark.OpenBrace s ≡ false → Alike ts ss → IsPassed ts ss rest
 token_passes ts ss s rest e b a = subst (λ l. IsPassed ts l rest) (sym e) (passed_one ts s rest b (subst (Alike ts) e a))
 
-not_true : (b : Bool) → not b ≡ true → b ≡ false
-not_true true e = absurd (cc)
-not_true false e = refl
-
 not_other : (a b : Bool) → not (a || b) ≡ true → a ≡ false
 not_other true b e = absurd (cc)
 not_other false b e = refl
 
 module _ (room : Bool) (below : Sort → Relation Role Tree) (low : (s : Sort) → is_bare_sort s ≡ true → Passes (below s)) where
   passes : {A : Type 0} (f : Phrase A) → is_bare f ≡ true → Passes (Spells heads room below f)
-  passes (sign m) e ts ss x us rest d a = token_passes ts ss _ rest d.tokens (not_true (same_mark m mark.OpenBrace) e) a
+  passes (sign m) e ts ss x us rest d a = token_passes ts ss _ rest d.tokens (false_from_not (same_mark m mark.OpenBrace) e) a
   passes (script_word w) e ts ss x us rest d a = token_passes ts ss _ rest d.tokens refl a
   passes (word r) e ts ss x us rest d a = token_passes ts ss _ rest d.tokens refl a
   passes number e ts ss x us rest d a = token_passes ts ss _ rest d.tokens (number_plain mark.OpenBrace x) a
@@ -248,7 +245,7 @@ Matches {A} S = (depth : ℕ) (ts : List Token) (ss : List Sign) (a : A) (us : L
 
 or_ends : (a b : Bool) → not (a || b) ≡ true → b ≡ false
 or_ends true b e = absurd (cc)
-or_ends false b e = not_true b e
+or_ends false b e = false_from_not b e
 
 module _ (room : Bool) (below : Sort → Relation Role Tree) (low : Matches (below sort.Braces)) where
   piece_matches : Matches (Spells heads room below piece)

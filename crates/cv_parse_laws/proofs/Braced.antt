@@ -17,13 +17,13 @@ use Rattle.cv_parse_notation.specs.declared.sign.Sign.TheVariants as sign
 use Rattle.cv_parse_notation.specs.Marks.{same_mark}
 use Rattle.cv_parse_notation.specs.Spells.{is_mark, kind_of}
 use Rattle.cv_parse_notation.proofs.Sound.{same_mark_eq}
-use Rattle.cv_parse_terminals.specs.Braces.{closes, file_tokens, is_end, is_read, open_behind, opens, read_at, read_from, semicolon}
-use Rattle.cv_parse_terminals.specs.Signs.{Tells, signs_of}
-use Rattle.cv_parse_spelling.specs.Spelling.{mark_of_text, spelling}
-use Rattle.cv_parse_terminals.proofs.FileTokens.{are_read, length-read_from}
-use Rattle.cv_parse_terminals.proofs.Naming.{text_test}
-use Rattle.cv_parse_spelling.proofs.Table.{found}
-use Rattle.cv_parse_terminals.proofs.Telling.{count_all, tell_all}
+use Rattle.cv_parse_tables.specs.terminals.Braces.{closes, file_tokens, is_end, is_read, open_behind, opens, read_at, read_from, semicolon}
+use Rattle.cv_parse_tables.specs.terminals.Signs.{Tells, signs_of}
+use Rattle.cv_parse_tables.specs.spelling.Spelling.{mark_of_text, spelling}
+use Rattle.cv_parse_tables.proofs.terminals.FileTokens.{are_read, length_read_from}
+use Rattle.cv_parse_tables.proofs.terminals.Naming.{text_test}
+use Rattle.cv_parse_tables.proofs.spelling.Table.{found}
+use Rattle.cv_parse_tables.proofs.terminals.Telling.{count_all, tell_all}
 
 -- a sign of a brace
 abbrev pub is_brace : Mark → Sign → Bool
@@ -118,7 +118,7 @@ file_alike ts are =
     let their = are_read ts are in
     let names = (signs_of ts).names in
     let ss = (signs_of ts).signs in
-    let count : length ss + 1 ≡ length us = count_all ts are ∙ sym (length-read_from 0 ts) in
+    let count : length ss + 1 ≡ length us = count_all ts are ∙ sym (length_read_from 0 ts) in
     all_read_alike 0 ts ss (by_places us ss (omega arith) (λ k h.
     let told = tell_all ts are k (omega arith) in
     (told.0, told.1, told_alike names (token_at us k) told.0 (inner_token us their k (omega arith)) told.2)))

@@ -10,21 +10,21 @@ use Rattle.cv_parse_grammar.specs.Identities.{ids_of, is_among}
 use Rattle.cv_parse_grammar.specs.Names.{declares, is_used}
 use Rattle.cv_parse_grammar.specs.Rules.{File, file, heads, rule}
 use Rattle.cv_parse_grammar.specs.Whole.{IsRead, built_in}
-use Rattle.cv_parse_grammar.proofs.Identities.{declared_names}
+use Rattle.cv_parse_grammar.proofs.Identities.{among, declared_names}
 use Rattle.cv_meaning.specs.Interpretation.{is_constant_of}
 use Rattle.cv_parse.specs.Parsed.{Parsed, parsed}
 use Rattle.cv_parse.proofs.Exactness.{said_is_saying}
 use Rattle.cv_scope_rules.specs.Scope.{IsScoped}
 use Rattle.cv_scope_rules.specs.Phrases.{Inputs, IsWellFormed}
 use Rattle.cv_parse_laws.specs.Shapes.{IsFree, IsOfSort, IsShaped}
-use Rattle.cv_parse_yields.specs.Yields.{AllUsed}
+use Rattle.cv_parse_grammar.specs.yields.Yields.{AllUsed}
 use Rattle.cv_parse_laws.proofs.Filling.{filled_is}
-use Rattle.cv_parse_yields.proofs.Naming.{all_used, among, bound_undeclared, undeclared_constant}
+use Rattle.cv_parse_grammar.proofs.yields.Naming.{all_used, bound_undeclared, undeclared_constant}
 use Rattle.cv_parse_laws.proofs.Rows.{of_file, rows}
-use Rattle.cv_parse_yields.proofs.Yielding.{forms_tell}
+use Rattle.cv_parse_grammar.proofs.yields.Yielding.{forms_tell}
 
 -- a name that is bound is no constant of the declarations
-constants_free : (ts : List Sign) (ds : List Declaration) (s : Option (ℕ × ℕ)) (g : Tree) (w : IsRead ts ds s g) → AllUsed (IsFree (is_constant_of ds)) w.uses
+pub constants_free : (ts : List Sign) (ds : List Declaration) (s : Option (ℕ × ℕ)) (g : Tree) (w : IsRead ts ds s g) → AllUsed (IsFree (is_constant_of ds)) w.uses
 constants_free ts ds s g w =
     let f : File = record { decls = ds; script = s; game = w.text } in
     all_used (λ u. IsFree (is_constant_of ds) u.role u.name) w.uses (λ before u behind e b.

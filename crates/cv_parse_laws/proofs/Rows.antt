@@ -15,9 +15,9 @@ use Rattle.cv_parse_grammar.specs.Processes.{stops, yields, channel, channel_ind
 use Rattle.cv_parse_grammar.specs.Rules.{file, rule}
 use Rattle.cv_scope_rules.specs.Phrases.{Phrase, Inputs, Body, Branches, Arm, Indices, Binders, Cells, OneCell, Terms, Term, may_end}
 use Rattle.cv_parse_laws.specs.Shapes.{IsFree, IsOfSort, IsOver, IsShaped}
-use Rattle.cv_parse_yields.specs.Yields.{IfThere, Yields}
+use Rattle.cv_parse_grammar.specs.yields.Yields.{IfThere, Yields}
 use Rattle.cv_parse_laws.proofs.Shaping.{bound, chained, empty, named, nil, node}
-use Rattle.cv_parse_yields.proofs.Yielding.{Gives, a_word, anything, before, behind, below, follow, leveled, one_of, perhaps, several, turned, weaker}
+use Rattle.cv_parse_grammar.proofs.yields.Yielding.{Gives, a_word, anything, before, behind, below, follow, leveled, one_of, perhaps, several, turned, weaker}
 
 module _ (barred : ℕ → Bool) where
   abbrev Makes : {A : Type 0} → Form Role Sort A → (A → Type 0) → Type 0

@@ -11,10 +11,10 @@ use Rattle.cv_parse_notation.specs.declared.sign.Mark.{Mark}
 use Rattle.cv_parse_notation.specs.declared.sign.Mark.TheVariants as mark
 use Rattle.cv_parse_notation.specs.declared.sign.Sign.{Sign}
 use Rattle.cv_parse_notation.specs.declared.sign.Sign.TheVariants as sign
-use Rattle.cv_parse_terminals.specs.Braces.{file_tokens}
-use Rattle.cv_parse_spelling.specs.Spelling.{mark_of_text}
-use Rattle.cv_parse_terminals.specs.Signs.{Step, first_text, is_unnamed, no_counts, one_find, place_of, signs_from, signs_of, step_before, text_step, token_step, unnamed_name, unnamed_step, with_name, word_step}
-use Rattle.cv_print_terminals.specs.Written.{is_name}
+use Rattle.cv_parse_tables.specs.terminals.Braces.{file_tokens}
+use Rattle.cv_parse_tables.specs.spelling.Spelling.{mark_of_text}
+use Rattle.cv_parse_tables.specs.terminals.Signs.{Step, first_text, is_unnamed, no_counts, one_find, place_of, signs_from, signs_of, step_before, text_step, token_step, unnamed_name, unnamed_step, with_name, word_step}
+use Rattle.cv_print_bytes.specs.terminals.Written.{is_name}
 use Rattle.cv_parse_laws.specs.Words.{AreNamed}
 
 -- `bool` stands first among the names

@@ -6,8 +6,8 @@ use Rattle.cv_parse_notation.specs.declared.sign.Sign.{Sign}
 use Rattle.cv_parse_notation.specs.Form.{Form, sign, script_word, word, number, nought, find_word, unnamed, other, note, both, may, many, either, made, level, deeper}
 use Rattle.cv_parse_notation.specs.Spells.{Each, IsSort, Kind, Perhaps, Relation, Spells, Use, no_sort, starts}
 use Rattle.cv_parse_notation.specs.Whole.{SpellsWith}
-use Rattle.cv_parse_yields.specs.Yields.{IfThere, Yields}
-use Rattle.cv_print_terminals.specs.Written.{is_name}
+use Rattle.cv_parse_grammar.specs.yields.Yields.{IfThere, Yields}
+use Rattle.cv_print_bytes.specs.terminals.Written.{is_name}
 use Rattle.cv_parse_laws.specs.Words.{AreNamed}
 
 module _ {R σ : Type 0} (P : σ → Tree → Type 0) where

@@ -6,7 +6,7 @@ use Rattle.cv_syntax_trees.specs.declared.head.Head.{Head}
 use Rattle.cv_syntax_trees.specs.declared.head.Head.TheVariants.{Repl, In, Out, Apply, Find, Branch, Binder, Leaf, Read, Cons}
 use Rattle.cv_syntax_trees.specs.Tree.{Tree, Empty, Node, chain, lone, names}
 use Rattle.cv_parse_grammar.specs.Filled.{filled_at, now_below, on_channel, read_at, read_plainly}
-use Rattle.cv_print_terminals.specs.Written.{has_items, has_parameters, head_is_written, is_name, is_written}
+use Rattle.cv_print_bytes.specs.terminals.Written.{has_items, has_parameters, head_is_written, is_name, is_written}
 use Rattle.cv_parse_laws.specs.Words.{HasWords}
 use Rattle.cv_parse_laws.proofs.WordRows.{alone_words, empty_words, named, node_words}
 

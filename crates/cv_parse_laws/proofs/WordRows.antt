@@ -15,9 +15,9 @@ use Rattle.cv_parse_grammar.specs.Phrases as sort
 use Rattle.cv_parse_grammar.specs.Terms.{terms, arguments, subscript, parentheses, called, indexed, alone, mention, negation, truth, falsehood, primary, unequal, equal_to, unequal_to, equality, conjoined, conjunction, disjoined, term, cell_of, cell, cells, yes, condition}
 use Rattle.cv_parse_grammar.specs.Processes.{stops, yields, channel, channel_indices, find_in, ending, replication, receiving, input, beside, inputs, received, pattern, variables, yielding, sent, sending, payload, continuation, outgoing, restriction, assignment, recording, otherwise, testing, finding, branch, output}
 use Rattle.cv_parse_grammar.specs.Rules.{file, rule}
-use Rattle.cv_parse_yields.specs.Yields.{IfThere, Yields}
-use Rattle.cv_parse_yields.proofs.Yielding.{Gives, a_word, anything, before, behind, below, follow, leveled, one_of, perhaps, several, turned, weaker}
-use Rattle.cv_print_terminals.specs.Written.{has_items, has_parameters, head_is_written, is_name, is_written}
+use Rattle.cv_parse_grammar.specs.yields.Yields.{IfThere, Yields}
+use Rattle.cv_parse_grammar.proofs.yields.Yielding.{Gives, a_word, anything, before, behind, below, follow, leveled, one_of, perhaps, several, turned, weaker}
+use Rattle.cv_print_bytes.specs.terminals.Written.{has_items, has_parameters, head_is_written, is_name, is_written}
 use Rattle.cv_parse_laws.specs.Words.{GoesOver, HasItems, HasWords, WordsOfSort}
 
 -- trees
@@ -90,7 +90,7 @@ squared i = leveled (behind (before i))
 enclosed : {A : Type 0} {r : Region} {f : Form Role Sort A} {p : A → Type 0} → Makes f p → Makes (inside r f) p
 enclosed i = turned (follow anything (follow i anything)) (λ x w. w.1.0)
 
-else_is : {A : Type 0} (p : A → Type 0) (a : A) → p a → (o : Option A) → IfThere p o → p (or_else a o)
+pub else_is : {A : Type 0} (p : A → Type 0) (a : A) → p a → (o : Option A) → IfThere p o → p (or_else a o)
 else_is p a w None v = w
 else_is p a w (Some b) v = v
 

@@ -11,7 +11,7 @@ use Rattle.cv_parse.specs.Parsed.{Parsed, parsed}
 use Rattle.cv_parse.proofs.Exactness.{said_is_saying}
 use Rattle.cv_scope_rules.specs.Phrases.{Inputs}
 use Rattle.cv_parse_laws.proofs.Games.{game_is}
-use Rattle.cv_print_terminals.specs.Written.{IsWritten}
+use Rattle.cv_print_bytes.specs.terminals.Written.{IsWritten}
 use Rattle.cv_parse_laws.specs.Words.{AreNamed, HasWords, WordsOfSort}
 use Rattle.cv_parse_laws.proofs.WordFilling.{filled_words}
 use Rattle.cv_parse_laws.proofs.WordRows.{of_file, rows}

@@ -7,7 +7,7 @@ use Rattle.cv_parse_notation.specs.declared.sign.Sign.TheVariants as token
 use Rattle.cv_parse_grammar.specs.Phrases.{Sort}
 use Rattle.cv_parse_grammar.specs.Phrases as sort
 use Rattle.cv_parse_grammar.specs.Processes.{name_of}
-use Rattle.cv_print_terminals.specs.Written.{has_items, is_name, is_written}
+use Rattle.cv_print_bytes.specs.terminals.Written.{has_items, is_name, is_written}
 
 -- the name of a sign, where it has one, isn't `bool`
 abbrev pub IsNamed : Sign → Type 0

@@ -2,6 +2,8 @@
 // is read back from its text. Its names stand outside its proof block.
 #![tactic(auto)]
 
+pub mod roles;
+
 ghost use Rattle.std.specs.Prelude.{◌≡◌, ℕ, Bool, List, Ok, Option, true};
 ghost use Rattle.cv_syntax_trees.specs.Tree.{Tree};
 ghost use Rattle.cv_parse_notation.specs.declared.sign.Sign.{Sign};
@@ -15,13 +17,13 @@ ghost use Rattle.cv_parse.specs.Parsed.{Parsed, parsed};
 ghost use Rattle.cv_scope_rules.specs.Scope.{IsScoped};
 ghost use Rattle.cv_scope_rules.specs.Phrases.{Phrase, Inputs, IsWellFormed, is_phrase, binds_none};
 ghost use Rattle.cv_parse_laws.specs.Shapes.{IsFree, IsOfSort, IsShaped};
-ghost use Rattle.cv_parse_yields.specs.Yields.{AllUsed};
+ghost use Rattle.cv_parse_grammar.specs.yields.Yields.{AllUsed};
 ghost use Rattle.std.specs.List.{AllByRecursion};
 ghost use Rattle.cv_lex.specs.Lexis.{Token};
 ghost use Rattle.cv_lex.specs.View.{AreTokens};
-ghost use Rattle.cv_parse_terminals.specs.Signs.{signs_in, signs_of};
+ghost use Rattle.cv_parse_tables.specs.terminals.Signs.{signs_in, signs_of};
 ghost use Rattle.cv_parse_laws.specs.Blocks.{around};
-ghost use Rattle.cv_print_terminals.specs.Written.{IsWritten, is_name};
+ghost use Rattle.cv_print_bytes.specs.terminals.Written.{IsWritten, is_name};
 ghost use Rattle.cv_parse_laws.specs.Words.{AreNamed, HasWords, WordsOfSort};
 
 /// What is spelled by the rows of processes and terms is a phrase of a game. Where no barred name is bound

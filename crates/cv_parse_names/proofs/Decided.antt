@@ -1,7 +1,7 @@
 -- The rules by an entry are the rules of names.
 use Rattle.std.proofs.Common.{◌≡◌, ◌==◌, ℕ, Bool, true, false, ◌&&◌, ◌||◌, not, if◌then◌else◌, [], ◌∷◌, ◌++◌, Option, Some, None, refl, ap, ap₂, ◌∙◌}
 use Rattle.std.proofs.lemmas.List.Folds.{list_any-append}
-use Rattle.cv_lists.proofs.Tests.{not-or}
+use Rattle.cv_lists.proofs.Tests.{not_or}
 use Rattle.cv_parse_notation.specs.Spells.{Use}
 use Rattle.cv_parse_grammar.specs.declared.role.Asked.TheVariants.{AParam, AFunction}
 use Rattle.cv_parse_grammar.specs.declared.role.Region.{Region}
@@ -32,7 +32,7 @@ around : (p : Role → Bool) (x : ℕ) (before behind : Uses) (u : Use Role) →
 around p x before behind u e = list_any-append (λ v. p v.role && (v.name == x)) before (u ∷ behind) ∙ ap (λ b. is_used p x before || ((b && (u.name == x)) || is_used p x behind)) e
 
 free_there : (before behind : Uses) (u : Use Role) (x start : ℕ) (e : Entry) → declares u.role ≡ false → IsKnown (before ++ u ∷ behind) before x start e → not e.declared_somewhere ≡ is_free before behind x
-free_there before behind u x start e n k = ap not (k.declared_somewhere ∙ around declares x before behind u n) ∙ not-or (is_declared before x) (is_declared behind x)
+free_there before behind u x start e n k = ap not (k.declared_somewhere ∙ around declares x before behind u n) ∙ not_or (is_declared before x) (is_declared behind x)
 
 variable_there : (before behind : Uses) (u : Use Role) (x start : ℕ) (e : Entry) → binds_variable u.role ≡ false → IsKnown (before ++ u ∷ behind) before x start e → e.variable_somewhere ≡ is_variable before behind x
 variable_there before behind u x start e n k = k.variable_somewhere ∙ around binds_variable x before behind u n

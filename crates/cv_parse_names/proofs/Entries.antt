@@ -16,26 +16,26 @@ use Rattle.cv_parse_names.specs.declared.table.Scope.{Scope}
 use Rattle.cv_parse_names.specs.Table.{is_since, noted, part_behind, was_declared}
 
 -- one more use
-pub is_used-push : (p : Role → Bool) (x : ℕ) (us : Uses) (u : Use Role) → is_used p x (us ++ u ∷ []) ≡ (is_used p x us || (p u.role && (u.name == x)))
-is_used-push p x us u = list_any-append (λ v. p v.role && (v.name == x)) us (u ∷ []) ∙ ap (λ b. is_used p x us || b) (or-false (p u.role && (u.name == x)))
+pub is_used_push : (p : Role → Bool) (x : ℕ) (us : Uses) (u : Use Role) → is_used p x (us ++ u ∷ []) ≡ (is_used p x us || (p u.role && (u.name == x)))
+is_used_push p x us u = list_any-append (λ v. p v.role && (v.name == x)) us (u ∷ []) ∙ ap (λ b. is_used p x us || b) (or-false (p u.role && (u.name == x)))
 
 -- one more use, of this name or of another
 push_same : (p : Role → Bool) (x : ℕ) (us : Uses) (u : Use Role) → (u.name == x) ≡ true → is_used p x (us ++ u ∷ []) ≡ (is_used p x us || p u.role)
-push_same p x us u e = is_used-push p x us u ∙ ap (λ b. is_used p x us || b) (ap (λ b. p u.role && b) e ∙ and-true (p u.role))
+push_same p x us u e = is_used_push p x us u ∙ ap (λ b. is_used p x us || b) (ap (λ b. p u.role && b) e ∙ and-true (p u.role))
 
 push_other : (p : Role → Bool) (x : ℕ) (us : Uses) (u : Use Role) → (u.name == x) ≡ false → is_used p x (us ++ u ∷ []) ≡ is_used p x us
-push_other p x us u e = is_used-push p x us u ∙ (ap (λ b. is_used p x us || b) (ap (λ b. p u.role && b) e ∙ and-false (p u.role)) ∙ or-false (is_used p x us))
+push_other p x us u e = is_used_push p x us u ∙ (ap (λ b. is_used p x us || b) (ap (λ b. p u.role && b) e ∙ and-false (p u.role)) ∙ or-false (is_used p x us))
 
 -- the names of the part that is open, and the part
-own_from-push : (seen us : Uses) (u : Use Role) → own_from seen (us ++ u ∷ []) ≡ since (own_from seen us) u
+own_from_push : (seen us : Uses) (u : Use Role) → own_from seen (us ++ u ∷ []) ≡ since (own_from seen us) u
 unfolding own_from
-own_from-push seen [] u = refl
-own_from-push seen (v ∷ us) u = own_from-push (since seen v) us u
+own_from_push seen [] u = refl
+own_from_push seen (v ∷ us) u = own_from_push (since seen v) us u
 
-pub part_from-push : (q : Option Region) (us : Uses) (u : Use Role) → part_from q (us ++ u ∷ []) ≡ part_after (part_from q us) u.role
+pub part_from_push : (q : Option Region) (us : Uses) (u : Use Role) → part_from q (us ++ u ∷ []) ≡ part_after (part_from q us) u.role
 unfolding part_from
-part_from-push q [] u = refl
-part_from-push q (v ∷ us) u = part_from-push (part_after q v.role) us u
+part_from_push q [] u = refl
+part_from_push q (v ∷ us) u = part_from_push (part_after q v.role) us u
 
 -- the entry of a name says what its uses before do with it, and what all uses say of it wherever they stand
 pub record IsKnown (all before : Uses) (x start : ℕ) (e : Entry) : Type 0 where
@@ -121,7 +121,7 @@ known_noted all before s e u first l k = record {
   declared = note_declared e u.role n ∙ more declares (is_some e.declared) k.declared;
   asked = λ a. note_asked a e u.role n (λ h. k.declared ∙ first h) ∙ more (declares_as a) (was_declared a e.declared) (k.asked a);
   bound = note_bound e u.role n ∙ more binds (is_some e.bound_at) k.bound;
-  own = note_own e s n (own_from [] before) u.role u.name u.left k.early l k.own ∙ ap (is_used binds u.name) (sym (own_from-push [] before u));
+  own = note_own e s n (own_from [] before) u.role u.name u.left k.early l k.own ∙ ap (is_used binds u.name) (sym (own_from_push [] before u));
   early = λ at h. subst (λ m. at < m) (sym (length_push before u)) (note_early e u.role n k.early at h);
   as_bound = note_as_bound e u.role n ∙ more binds_bound e.as_bound k.as_bound;
   as_index = note_as_index e u.role n ∙ more binds_index e.as_index k.as_index;
@@ -140,7 +140,7 @@ known_kept all before s e u x d k = record {
   declared = k.declared ∙ sym (push_other declares x before u d);
   asked = λ a. k.asked a ∙ sym (push_other (declares_as a) x before u d);
   bound = k.bound ∙ sym (push_other binds x before u d);
-  own = keep_own e s (length before) (own_from [] before) u.role u.name u.left x d k.early k.own ∙ ap (is_used binds x) (sym (own_from-push [] before u));
+  own = keep_own e s (length before) (own_from [] before) u.role u.name u.left x d k.early k.own ∙ ap (is_used binds x) (sym (own_from_push [] before u));
   early = λ at h. let i : at < length before = k.early at h in let j = length_push before u in omega arith;
   as_bound = k.as_bound ∙ sym (push_other binds_bound x before u d);
   as_index = k.as_index ∙ sym (push_other binds_index x before u d);

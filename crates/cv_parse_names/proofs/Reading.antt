@@ -16,7 +16,7 @@ use Rattle.cv_parse_names.specs.declared.table.Scope.{Scope}
 use Rattle.cv_parse_names.specs.Table.{IsSurvey, entry_at, name_obeys, next_of, noted, part_behind, unseen, use_at}
 use Rattle.cv_parse_names.proofs.Broken.{broken_behind, broken_here, broken_nowhere, rule_behind}
 use Rattle.cv_parse_names.proofs.Decided.{obeyed}
-use Rattle.cv_parse_names.proofs.Entries.{IsKnown, known_kept, known_noted, part_from-push}
+use Rattle.cv_parse_names.proofs.Entries.{IsKnown, known_kept, known_noted, part_from_push}
 use Rattle.cv_parse_names.proofs.Places.{dropped, entry_kept, entry_read, entry_written, taken, whole}
 
 -- The uses before a place obey their rules, and the table and the scope say what they do.
@@ -85,7 +85,7 @@ reading_goes_on uses at table s l k o = record {
   entries = λ x. subst (λ us. IsKnown all us x (part_behind s u.role at).start (entry_at (set table u.name (noted (entry_at table u.name) u.role at)) x)) (sym (taken uses at l))
       (subst (λ n. IsKnown all (before ++ u ∷ []) x (part_behind s u.role n).start (entry_at (set table u.name (noted (entry_at table u.name) u.role n)) x)) n
       (known_then all before s table u x (u.name == x) refl (k.covers at l) (λ d. first_declared u.role u.name before behind d obeys_now) (subst (λ m. s.start ≤ m) (sym n) k.start) k.entries));
-  region = region_then s u.role at ∙ (ap (λ q. part_after q u.role) k.region ∙ (sym (part_from-push None before u) ∙ ap (part_from None) (sym (taken uses at l))));
+  region = region_then s u.role at ∙ (ap (λ q. part_after q u.role) k.region ∙ (sym (part_from_push None before u) ∙ ap (part_from None) (sym (taken uses at l))));
   start = start_then s u.role at k.start;
   good = k.good ∙ (ap (first_broken (rule_behind name_rule before)) (dropped uses at l) ∙ (broken_behind name_rule before u behind obeys_now ∙ ap (λ us. first_broken (rule_behind name_rule us) behind) (sym (taken uses at l))));
 }

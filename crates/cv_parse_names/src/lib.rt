@@ -2,6 +2,7 @@
 #![tactic(auto)]
 
 mod fault;
+pub mod indices;
 mod rules;
 mod table;
 

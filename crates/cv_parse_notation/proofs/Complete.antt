@@ -43,7 +43,7 @@ nand true true h e = absurd (cc)
 nand true false h e = refl
 nand false b h e = absurd (cc)
 
-apart_next : (p q : Kind → Bool) → apart p q ≡ true → (ts : List Sign) → next_is p ts ≡ true → next_is q ts ≡ false
+pub apart_next : (p q : Kind → Bool) → apart p q ≡ true → (ts : List Sign) → next_is p ts ≡ true → next_is q ts ≡ false
 apart_next p q h [] e = absurd (cc)
 apart_next p q h (t ∷ ts) e = nand (p (kind_of t)) (q (kind_of t)) (kind_in (λ k. not (p k && q k)) h (kind_of t)) e
 
@@ -54,7 +54,7 @@ within_next p q h (t ∷ ts) e = not-false (q (kind_of t)) (nand (p (kind_of t))
 pub outside_next : (p q : Kind → Bool) → within p q ≡ true → (ts : List Sign) → next_is q ts ≡ false → next_is p ts ≡ false
 outside_next p q h ts e = false_from_ne_true (next_is p ts) (λ i. let j = within_next p q h ts i in cc)
 
-next_first : (p q : Kind → Bool) (ts : List Sign) → next_is p ts ≡ true → next_is (λ k. p k || q k) ts ≡ true
+pub next_first : (p q : Kind → Bool) (ts : List Sign) → next_is p ts ≡ true → next_is (λ k. p k || q k) ts ≡ true
 next_first p q [] h = h
 next_first p q (t ∷ ts) h = first (p (kind_of t)) (q (kind_of t)) h
   where
@@ -62,18 +62,13 @@ next_first p q (t ∷ ts) h = first (p (kind_of t)) (q (kind_of t)) h
     first true b h = refl
     first false b h = absurd (cc)
 
-next_second : (p q : Kind → Bool) (ts : List Sign) → next_is q ts ≡ true → next_is (λ k. p k || q k) ts ≡ true
+pub next_second : (p q : Kind → Bool) (ts : List Sign) → next_is q ts ≡ true → next_is (λ k. p k || q k) ts ≡ true
 next_second p q [] h = h
 next_second p q (t ∷ ts) h = second (p (kind_of t)) (q (kind_of t)) h
   where
     second : (a b : Bool) → b ≡ true → (a || b) ≡ true
     second true b h = refl
     second false b h = h
-
-next_and : (v : Bool) (p : Kind → Bool) (ts : List Sign) → v ≡ true → next_is p ts ≡ true → next_is (λ k. v && p k) ts ≡ true
-next_and true p [] e h = h
-next_and true p (t ∷ ts) e h = h
-next_and false p ts e h = absurd (cc)
 
 no_first : (p q : Kind → Bool) (ts : List Sign) → next_is (λ k. p k || q k) ts ≡ false → next_is p ts ≡ false
 no_first p q [] h = h
@@ -122,11 +117,11 @@ each_front : {R A : Type 0} (P : List Sign → A → List (Use R) → List Sign 
 each_front P near k v s ts [] us rest d = inr (d.0.tokens, refl)
 each_front P near k v s ts (a ∷ l) us rest d = elim (s ts a d.front d.mid d.first) [ inl e ↦ inl e | inr e ↦ moved_front k true ts d.mid rest e.0 (each_front P near k v s d.mid l d.back rest d.second) ]
 
-first_both : (v : Bool) (p q : Kind → Bool) (ts : List Sign) → next_is p ts ≡ true → next_is (starts_both v p q) ts ≡ true
+pub first_both : (v : Bool) (p q : Kind → Bool) (ts : List Sign) → next_is p ts ≡ true → next_is (starts_both v p q) ts ≡ true
 first_both true p q ts h = next_first p q ts h
 first_both false p q ts h = h
 
-second_both : (v : Bool) (p q : Kind → Bool) (ts : List Sign) → v ≡ true → next_is q ts ≡ true → next_is (starts_both v p q) ts ≡ true
+pub second_both : (v : Bool) (p q : Kind → Bool) (ts : List Sign) → v ≡ true → next_is q ts ≡ true → next_is (starts_both v p q) ts ≡ true
 second_both true p q ts e h = next_second p q ts h
 second_both false p q ts e h = absurd (cc)
 

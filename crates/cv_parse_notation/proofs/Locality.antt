@@ -18,7 +18,7 @@ use Rattle.cv_parse_notation.proofs.Sound.{no_ok, sound}
 abbrev pub Local : {R A : Type 0} → Reader R A → Type 0
 Local p = (ts : List Sign) → LocalAt p ts (p ts)
 
-same_self : (ts : List Sign) → SameFirst ts ts
+pub same_self : (ts : List Sign) → SameFirst ts ts
 same_self [] = tt
 same_self (t ∷ ts) = refl
 
@@ -91,7 +91,7 @@ pick_true : {R A : Type 0} (b : Bool) (p q : Reader R A) (ts : List Sign) → b 
 pick_true true p q ts e = refl
 pick_true false p q ts e = absurd (cc)
 
-pick_false : {R A : Type 0} (b : Bool) (p q : Reader R A) (ts : List Sign) → b ≡ false → pick b p q ts ≡ q ts
+pub pick_false : {R A : Type 0} (b : Bool) (p q : Reader R A) (ts : List Sign) → b ≡ false → pick b p q ts ≡ q ts
 pick_false true p q ts e = absurd (cc)
 pick_false false p q ts e = refl
 

@@ -22,7 +22,7 @@ use Rattle.cv_parse_terms.specs.declared.trail.NameUse.{NameUse}
 use Rattle.cv_parse_terms.specs.Gives.{IsPlain, IsRead, Opens, Stands, below, parts_of_both, positive, read_in}
 use Rattle.cv_parse_terms.proofs.Places.{plain_read}
 use Rattle.cv_parse_terms.proofs.Levels.{room}
-use Rattle.cv_parse_terms.proofs.Made.{row-made}
+use Rattle.cv_parse_terms.proofs.Made.{row_made}
 use Rattle.cv_parse_terms.proofs.Chains.{both_made, both_read, first_read, made_read, opened_read, over_made, second_made, sign_both}
 use Rattle.cv_parse_processes.proofs.Nodes.{branch_list, branch_pair, branches_apart}
 
@@ -90,7 +90,7 @@ test_made body f {n = n} {l = l} {m = m} {a = a} {b = b} {c = c} {d = d} {e = e}
       opened_read test (deeper Term & (mark.Then ▸ (deeper body & f))) o
       (both_read (read_in n (mark.Then ▸ (deeper body & f))) holds
       (made_read (λ p. p.1) (sign_both mark.Then l m (read_in n (deeper body & f)) sign (both_read (read_in n f) first other))));
-  makes = both_made If x (chain (s ∷ (t ∷ []))) a b e i p (row-made b d e (s ∷ (t ∷ [])) 2 two refl y) z;
+  makes = both_made If x (chain (s ∷ (t ∷ []))) a b e i p (row_made b d e (s ∷ (t ∷ [])) 2 two refl y) z;
 }
   where
     two : d ≡ b ++ flat_map postorder (s ∷ (t ∷ []))

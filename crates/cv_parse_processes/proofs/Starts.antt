@@ -25,9 +25,3 @@ body_begins (t ∷ ts) = refl
 pub branch_begins : (ts : List Sign) → (next_is is_word ts || next_is (is_mark mark.Suchthat) ts) ≡ next_is begins_branch ts
 branch_begins [] = refl
 branch_begins (t ∷ ts) = refl
-
-pub branches_begin : (c : Continuation) (ts : List Sign) → next_is begins_branch ts ≡ next_is (heads (branches_of c)) ts
-branches_begin Process [] = refl
-branches_begin Process (t ∷ ts) = refl
-branches_begin Function [] = refl
-branches_begin Function (t ∷ ts) = refl

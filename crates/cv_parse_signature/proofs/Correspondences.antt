@@ -24,7 +24,7 @@ use Rattle.cv_parse_terms.specs.declared.lookahead.ReadError.{ReadError}
 use Rattle.cv_parse_terms.specs.declared.trail.Trail.{Trail}
 use Rattle.cv_parse_terms.specs.Gives.{Fails, IsMade, IsRead, Makes, MakesRow, Stands, read_in}
 use Rattle.cv_parse_terms.proofs.Places.{fails_bind}
-use Rattle.cv_parse_terms.proofs.Made.{row-made}
+use Rattle.cv_parse_terms.proofs.Made.{row_made}
 use Rattle.cv_parse_terms.proofs.Chains.{both_made, both_read, made_read, sign_both}
 
 abbrev pub atoms : Phrase (List Tree)
@@ -37,7 +37,7 @@ correspondence_made old new n at {count = count} {b = b} {c = c} {d = d} {e = e}
       made_read (λ (l, (e, atoms)). Node Correspondence l (Node Cons e (chain atoms)))
       (both_read (read_in n (event & (mark.Implies ▸ atoms))) binders
       (both_read (read_in n (mark.Implies ▸ atoms)) left rights));
-  makes = both_made Correspondence vs (Node Cons t (chain ts)) old.makes.items b f new.makes.items x1 (both_made Cons t (chain ts) b c e f x2 (row-made c d e ts count x3 many x4) x5) x6;
+  makes = both_made Correspondence vs (Node Cons t (chain ts)) old.makes.items b f new.makes.items x1 (both_made Cons t (chain ts) b c e f x2 (row_made c d e ts count x3 many x4) x5) x6;
 }
 
 -- a word or symbol, and a phrase behind it

@@ -15,8 +15,8 @@ use Rattle.cv_parse_grammar.specs.Phrases.{Phrase, Sort, after, indices, typed, 
 use Rattle.cv_parse_grammar.specs.Phrases as sort
 use Rattle.cv_parse_grammar.specs.Processes.{assignment, beside, branch, continuation, ending, find_in, finding, input, inputs, name_of, otherwise, outgoing, output, pattern, received, receiving, recording, replication, restriction, stops, test, testing, variables, yielding, yields}
 use Rattle.cv_parse_grammar.specs.Rules.{heads, rule}
-use Rattle.cv_parse_yields.specs.Yields.{AllUsed}
-use Rattle.cv_parse_roles.proofs.UsedRoles.{IsIn, form_uses, has_roles, sort_uses}
+use Rattle.cv_parse_grammar.specs.yields.Yields.{AllUsed}
+use Rattle.cv_parse_laws.proofs.roles.UsedRoles.{IsIn, form_uses, has_roles, sort_uses}
 use Rattle.cv_parse_sorts.proofs.DefiningTrees.{Binds, Defines}
 use Rattle.cv_parse_sorts.proofs.Bindings.{Finds, Has, IsBound, Nowhere, SomeHas, a_variable_word, at_first, at_second, behind, bound_parts, bracketed, follow, in_row, leveled, none_bound, one_of, or_this, several, turned, weaker}
 

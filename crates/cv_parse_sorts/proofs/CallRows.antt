@@ -16,7 +16,7 @@ use Rattle.cv_parse_grammar.specs.Phrases as sort
 use Rattle.cv_parse_grammar.specs.Terms.{alone, arguments, called, cell, cell_of, cells, condition, conjoined, conjunction, disjoined, equal_to, equality, falsehood, indexed, mention, negation, parentheses, primary, subscript, term, terms, truth, unequal, unequal_to, yes}
 use Rattle.cv_parse_grammar.specs.Processes.{assignment, beside, branch, channel, channel_indices, continuation, ending, find_in, finding, input, inputs, otherwise, outgoing, output, pattern, payload, received, receiving, recording, replication, restriction, sending, sent, stops, testing, variables, yielding, yields}
 use Rattle.cv_parse_grammar.specs.Rules.{heads, rule}
-use Rattle.cv_parse_yields.specs.Yields.{IfThere}
+use Rattle.cv_parse_grammar.specs.yields.Yields.{IfThere}
 use Rattle.cv_parse_sorts.proofs.Calls.{AllSay, Gives, Says, Tells, anything, at_back, behind, bracketed, follow, in_row, leveled, one_of, or_this, perhaps, several, squared, turned, weaker}
 use Rattle.cv_parse_sorts.proofs.NamedTrees.{AreCells, HasNamed, IsCell, NamesHere}
 

@@ -12,7 +12,8 @@ use Rattle.cv_parse_grammar.specs.declared.role.Role.TheVariants.{Mentions, Ment
 use Rattle.cv_parse_grammar.specs.Names.{Uses, as_call}
 use Rattle.cv_parse_grammar.specs.Phrases.{Phrase, Sort, or_else, row, bracket, square}
 use Rattle.cv_parse_grammar.specs.Rules.{heads}
-use Rattle.cv_parse_yields.specs.Yields.{IfThere}
+use Rattle.cv_parse_grammar.specs.yields.Yields.{IfThere}
+use Rattle.cv_parse_laws.proofs.WordRows.{else_is}
 
 module _ (F V : ℕ → Type 0) where
   -- of a use and those behind it: what is called is a function, the variable of a cell is a variable
@@ -59,10 +60,6 @@ module _ (F V : ℕ → Type 0) where
 -- the values of a phrase are such
 pub record Gives {A : Type 0} (F V : ℕ → Type 0) (room : Bool) (below : Sort → Relation Role Tree) (f : Phrase A) (p : A → Type 0) : Type 0 where
   pub gives : (ts : List Sign) (a : A) (us : Uses) (rest : List Sign) → Spells heads room below f ts a us rest → AllSay F V us → p a
-
-else_is : {A : Type 0} (p : A → Type 0) (a : A) → p a → (o : Option A) → IfThere p o → p (or_else a o)
-else_is p a w None v = w
-else_is p a w (Some b) v = v
 
 module _ {F V : ℕ → Type 0} {room : Bool} {below : Sort → Relation Role Tree} where
   pub anything : {A : Type 0} {f : Phrase A} → Gives F V room below f (λ _. Unit {0})

@@ -27,13 +27,14 @@ use Rattle.cv_typing_rules.specs.Signature.{Above, Function, OfNothing, Signatur
 use Rattle.cv_directory_sorts.specs.Counting.{count}
 use Rattle.cv_typing_rules.specs.Typing.{IsTyped, fault_of, site_differs, value_fault}
 use Rattle.cv_typing_rules.specs.Wants.{Of, Want, all_bound, bound, is_wrong}
-use Rattle.cv_first_fault.specs.Walk.{IsObeyed}
-use Rattle.cv_derivations_under.specs.Truth.{AreOver, HasClosedEquations, IfEquation, IsOver, is_name_of}
-use Rattle.cv_parse_roles.proofs.Constants.{is_constant, kind_of, only_declaration}
-use Rattle.cv_parse_roles.proofs.Declared.{Used, function_declared}
+use Rattle.cv_syntax_faults.specs.Walk.{IsObeyed}
+use Rattle.cv_derive_laws.specs.stores.Truth.{AreOver, HasClosedEquations, IfEquation, IsOver, is_name_of}
+use Rattle.cv_parse_laws.proofs.roles.Constants.{is_constant, kind_of, only_declaration}
+use Rattle.cv_parse_laws.proofs.roles.Declared.{Used, function_declared}
 use Rattle.cv_parse_sorts.proofs.EquationTerms.{AreTermsOver, IsTermOver}
 use Rattle.cv_parse_sorts.proofs.Equations.{All, IfNamed, read_equations}
-use Rattle.cv_parse_roles.proofs.Games.{kinds}
+use Rattle.cv_parse_laws.proofs.roles.Games.{kinds}
+use Rattle.cv_parse_sorts.proofs.queries.Typed.{named_locally}
 
 -- a function that is declared, which is a constant where it has no arguments
 abbrev IsFunction : List Declaration → ℕ → Type 0
@@ -110,13 +111,6 @@ named_above above (b ∷ bs) x S k = go (named_above (bound First above b.0 (OfT
     go : (is_name_of (bound_names (binders bs)) x ≡ true) ⊎ ((R : Sort) × (bound First above b.0 (OfType b.1) x ≡ Some R)) → ((b.0 == x) || is_name_of (bound_names (binders bs)) x) ≡ true ⊎ ((R : Sort) × (above x ≡ Some R))
     go (inl i) = inl (or_right (b.0 == x) _ i)
     go (inr (R, i)) = first R (b.0 == x) refl i
-
-named_locally : (bs : List (ℕ × ℕ)) (x : ℕ) (S : Sort) → local_names (binders bs) x ≡ Some S → is_name_of (bound_names (binders bs)) x ≡ true
-named_locally bs x S k = go (named_above nothing_above bs x S k)
-  where
-    go : (is_name_of (bound_names (binders bs)) x ≡ true) ⊎ ((R : Sort) × (nothing_above x ≡ Some R)) → is_name_of (bound_names (binders bs)) x ≡ true
-    go (inl i) = i
-    go (inr (R, i)) = absurd (cc)
 
 -- parts of lists of parts
 typed_split : (ds : List Declaration) (xs ys : List Part) → AreTyped ds (xs ++ ys) → AreTyped ds xs × AreTyped ds ys

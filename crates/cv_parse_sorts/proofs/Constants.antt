@@ -7,22 +7,22 @@ use Rattle.cv_syntax_trees.specs.declared.class.Class.TheVariants as class
 use Rattle.cv_syntax_trees.specs.Declarations.{Declaration, Named, Equation, Equiv, Query}
 use Rattle.cv_syntax_trees.specs.Tree.{Tree, Empty, Node}
 use Rattle.cv_meaning.specs.Interpretation.{is_constant_of}
-use Rattle.cv_meaning_adequacy.proofs.Lists.{or_cases}
 use Rattle.cv_parse_notation.specs.declared.sign.Sign.{Sign}
 use Rattle.cv_parse_grammar.specs.declared.role.Role.{Role}
 use Rattle.cv_parse_grammar.specs.Files.{levels}
 use Rattle.cv_parse_grammar.specs.Phrases.{Sort}
 use Rattle.cv_parse_grammar.specs.Rules.{File, file, heads, rule}
 use Rattle.cv_parse_grammar.specs.Whole.{IsRead}
-use Rattle.cv_parse_terminals.specs.Signs.{signs_of}
+use Rattle.cv_parse_tables.specs.terminals.Signs.{signs_of}
 use Rattle.cv_parse.specs.Parsed.{Parsed, bool_type}
 use Rattle.cv_parse.specs.Says.{Says}
-use Rattle.cv_parse_yields.proofs.Yielding.{forms_tell}
-use Rattle.cv_parse_roles.proofs.DeclaredKinds.{OfKind, of_declarations}
-use Rattle.cv_context_answers.specs.Answers.{KnowsConstants}
+use Rattle.cv_parse_grammar.proofs.yields.Yielding.{forms_tell}
+use Rattle.cv_parse_laws.proofs.roles.DeclaredKinds.{OfKind, of_declarations}
+use Rattle.cv_match_laws.specs.answers.Answers.{KnowsConstants}
 use Rattle.cv_steps.specs.Sequences.{scene}
 use Rattle.cv_parse_sorts.proofs.SmallNames.{AreBelow, signs_below, some_name}
 use Rattle.cv_parse_sorts.proofs.UsedNames.{forms_keep}
+use Rattle.cv_lists.proofs.Tests.{or_cases}
 
 module _ (bound : ℕ) (some : 0 < bound) where
   abbrev Below : Role → ℕ → Type 0

@@ -8,6 +8,7 @@ use Rattle.cv_directory_sorts.specs.declared.sort.Sort.{Sort}
 use Rattle.cv_directory_sorts.specs.declared.sort.Sort.TheVariants.{BelowParameter, OfType}
 use Rattle.cv_directory_sorts.specs.Sites.{at_parameters, bound_sort, first_of, first_site, parameters_below, site_here}
 use Rattle.cv_parse_grammar.specs.Filled.{filled_at, now_below, on_channel}
+use Rattle.cv_scope_runs.proofs.Games.{first_some, second_some, with_parameters}
 
 -- a list of binders has the variable
 abbrev pub Binds : Tree → ℕ → Type 0
@@ -39,14 +40,6 @@ Defines (Node h a b) x = DefinesHere h a x ⊎ (MayDefine h × (Defines a x ⊎ 
 
 -- sites
 
-first_there : {A : Type 0} (a b : Option A) → is_some a ≡ true → is_some (first_of a b) ≡ true
-first_there (Some a) b e = refl
-first_there None b e = absurd (both_ways false refl e)
-
-second_there : {A : Type 0} (a b : Option A) → is_some b ≡ true → is_some (first_of a b) ≡ true
-second_there (Some a) b e = refl
-second_there None b e = e
-
 named_there : (y x : ℕ) (S : Sort) (o : Option Sort) → y ≡ x → is_some (cond (y == x) (Some S) o) ≡ true
 named_there y x S o e = ap (λ z. is_some (cond z (Some S) o)) (eq-eqb y x e)
 
@@ -72,17 +65,13 @@ here_there (In c) a x w = behind_there a x w
 here_there Branch a x w = binder_there BelowParameter a x w
 here_there h a x w = absurd w
 
-at_there : (ps : List ℕ) (o : Option Sort) → is_some o ≡ true → is_some (at_parameters ps o) ≡ true
-at_there ps (Some S) e = refl
-at_there ps None e = e
-
 pub site_there : (t : Tree) (x : ℕ) (ps : List ℕ) → Defines t x → is_some (first_site x ps t) ≡ true
 unfolding Defines first_site
 site_there Empty x ps w = absurd w
-site_there (Node h a b) x ps (inl w) = first_there (at_parameters ps (site_here x h a)) _ (at_there ps (site_here x h a) (here_there h a x w))
-site_there (Node h a b) x ps (inr (m, inl w)) = second_there (at_parameters ps (site_here x h a)) _ (first_there (first_site x ps a) _ (site_there a x ps w))
+site_there (Node h a b) x ps (inl w) = first_some (at_parameters ps (site_here x h a)) _ (with_parameters ps (site_here x h a) (here_there h a x w))
+site_there (Node h a b) x ps (inr (m, inl w)) = second_some (at_parameters ps (site_here x h a)) _ (first_some (first_site x ps a) _ (site_there a x ps w))
 site_there (Node h a b) x ps (inr (m, inr w)) =
-    second_there (at_parameters ps (site_here x h a)) _ (second_there (first_site x ps a) _ (site_there b x (parameters_below h ps) w))
+    second_some (at_parameters ps (site_here x h a)) _ (second_some (first_site x ps a) _ (site_there b x (parameters_below h ps) w))
 
 -- filling
 

@@ -10,9 +10,9 @@ use Rattle.cv_parse_grammar.specs.Phrases.{Sort}
 use Rattle.cv_parse_grammar.specs.Phrases as sort
 use Rattle.cv_parse_grammar.specs.Rules.{rule}
 use Rattle.cv_parse_grammar.specs.Terms.{terms, arguments, subscript, parentheses, called, indexed, alone, mention, negation, truth, falsehood, primary, unequal, equal_to, unequal_to, equality, conjoined, conjunction, disjoined, term}
-use Rattle.cv_parse_yields.specs.Yields.{Yields}
-use Rattle.cv_parse_yields.proofs.Yielding.{Gives, a_word, anything, behind, below, follow, leveled, one_of, perhaps, several, turned}
-use Rattle.cv_parse_roles.proofs.Forms.{Tail, after_is, bracketed, squared}
+use Rattle.cv_parse_grammar.specs.yields.Yields.{Yields}
+use Rattle.cv_parse_grammar.proofs.yields.Yielding.{Gives, a_word, anything, behind, below, follow, leveled, one_of, perhaps, several, turned}
+use Rattle.cv_parse_laws.proofs.roles.Forms.{Tail, after_is, bracketed, squared}
 
 abbrev pub IsSome : Tree → Type 0
 IsSome Empty = ⊥

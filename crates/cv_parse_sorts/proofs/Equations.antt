@@ -3,7 +3,7 @@ use Rattle.std.proofs.Common.{◌≡◌, ℕ, Bool, true, false, ◌==◌, ◌&&
 use Rattle.std.proofs.lemmas.Bool.{and_parts, both_ways, or_cases, or_left, or_right}
 use Rattle.std.proofs.lemmas.List.Folds.{list_any-append}
 use Rattle.std.specs.List.{AllByRecursion}
-use Rattle.cv_lists.proofs.Each.{AllByRecursion-append, AllByRecursion-flat_map, AllByRecursion-left}
+use Rattle.cv_lists.proofs.Each.{AllByRecursion_append, AllByRecursion_flat_map, AllByRecursion_left}
 use Rattle.cv_syntax_trees.specs.declared.class.Class.{Class}
 use Rattle.cv_syntax_trees.specs.declared.head.Head.TheVariants.{Forall}
 use Rattle.cv_syntax_trees.specs.Declarations.{Declaration, Equation}
@@ -26,12 +26,12 @@ use Rattle.cv_parse_grammar.specs.Rules.{File, heads, rule}
 use Rattle.cv_parse_grammar.specs.Terms.{term}
 use Rattle.cv_parse_grammar.specs.Terms as terms
 use Rattle.cv_parse_grammar.specs.Whole.{IsRead, built_in}
-use Rattle.cv_parse_yields.specs.Yields.{AllUsed}
-use Rattle.cv_parse_yields.proofs.Naming.{all_used}
-use Rattle.cv_parse_yields.proofs.Yielding.{forms_tell}
-use Rattle.cv_derivations_under.specs.Truth.{is_name_of}
+use Rattle.cv_parse_grammar.specs.yields.Yields.{AllUsed}
+use Rattle.cv_parse_grammar.proofs.yields.Naming.{all_used}
+use Rattle.cv_parse_grammar.proofs.yields.Yielding.{forms_tell}
+use Rattle.cv_derive_laws.specs.stores.Truth.{is_name_of}
 use Rattle.cv_parse_sorts.proofs.EquationTerms.{IsTermOver, Mentioned, OfTerms, of_term, term_rows}
-use Rattle.cv_parse_roles.proofs.UsedRoles.{IsIn, form_uses, has_roles, sort_uses}
+use Rattle.cv_parse_laws.proofs.roles.UsedRoles.{IsIn, form_uses, has_roles, sort_uses}
 
 -- roles
 
@@ -152,7 +152,7 @@ asks_bind_none x (u ∷ us) w = go (binds u.role) refl w.0 (asks_bind_none x us 
     go true e n f = absurd (both_ways false refl n)
     go false e n f = ap (λ b. (b && (u.name == x)) || is_used binds x us) e ∙ f
 
-or_alone : (b c : Bool) → ((b || false) || c) ≡ true → (b || c) ≡ true
+pub or_alone : (b c : Bool) → ((b || false) || c) ≡ true → (b || c) ≡ true
 or_alone true c e = refl
 or_alone false c e = e
 
@@ -311,10 +311,10 @@ module _ (ts : List Sign) (ds : List Declaration) (s : Option (ℕ × ℕ)) (g :
       earlier = before ++ enters w.left ∷ (w.bound ++ pre)
 
       pre_used : AllUsed (IsIn is_of_term is_term_sort) pre
-      pre_used = AllByRecursion-left (λ (v : Use Role). is_of_term v.role ≡ true) pre (u ∷ post) (subst (AllUsed (IsIn is_of_term is_term_sort)) e term_used)
+      pre_used = AllByRecursion_left (λ (v : Use Role). is_of_term v.role ≡ true) pre (u ∷ post) (subst (AllUsed (IsIn is_of_term is_term_sort)) e term_used)
 
       inside : AllByRecursion IsInside (w.bound ++ pre)
-      inside = AllByRecursion-append IsInside w.bound pre bound_inside (all_inside is_of_term term_inside pre pre_used)
+      inside = AllByRecursion_append IsInside w.bound pre bound_inside (all_inside is_of_term term_inside pre pre_used)
 
       use_split : All ≡ earlier ++ u ∷ (post ++ after)
       use_split =
@@ -387,4 +387,4 @@ module _ (ts : List Sign) (ds : List Declaration) (s : Option (ℕ × ℕ)) (g :
       let d = r.spelled in
       let k = d.1 in
       subst AreNamedEquations (ap (λ (f : File). f.decls) d.2)
-      (AllByRecursion-flat_map AreNamedEquations IfNamed (λ ds. ds) (λ ds w. w) d.0.0 (each_named (built_in ∷ []) k.back ts d.0.0 k.front k.mid (ap (λ z. built_in ∷ z) k.uses) k.first))
+      (AllByRecursion_flat_map AreNamedEquations IfNamed (λ ds. ds) (λ ds w. w) d.0.0 (each_named (built_in ∷ []) k.back ts d.0.0 k.front k.mid (ap (λ z. built_in ∷ z) k.uses) k.first))

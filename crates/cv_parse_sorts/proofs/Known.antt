@@ -4,13 +4,13 @@ use Rattle.std.proofs.lemmas.Bool.{lt-ltb}
 use Rattle.std.specs.List.{list_any}
 use Rattle.cv_lex.specs.Lexis.{Token}
 use Rattle.cv_syntax_trees.specs.Declarations.{Declaration}
-use Rattle.cv_parse_terminals.specs.Signs.{signs_of}
+use Rattle.cv_parse_tables.specs.terminals.Signs.{signs_of}
 use Rattle.cv_parse.specs.Parsed.{Parsed, bool_type}
 use Rattle.cv_parse.specs.Says.{Says}
 use Rattle.cv_meaning.specs.Queries.{queries_in}
-use Rattle.cv_scenes.specs.Scenes.{KnowsQueries, asks_for}
+use Rattle.cv_scene.specs.Scenes.{KnowsQueries, asks_for}
 use Rattle.cv_steps.specs.Sequences.{scene}
-use Rattle.cv_parse_sorts.proofs.Queries.{names_asked}
+use Rattle.cv_parse_sorts.proofs.AskedQueries.{names_asked}
 use Rattle.cv_parse_sorts.proofs.SmallNames.{signs_below, some_name}
 
 -- `bool` is no query

@@ -1,10 +1,10 @@
-mod Queries
+mod AskedQueries
 mod SmallNames
 mod UsedNames
 pub mod Known
 pub mod Constants
 mod EquationTerms
-mod Equations
+pub mod Equations
 pub mod Closed
 mod NamedTrees
 mod Calls

@@ -15,9 +15,9 @@ use Rattle.cv_parse.specs.Parsed.{Parsed, bool_type, parsed}
 use Rattle.cv_parse.proofs.Exactness.{said_is_saying}
 use Rattle.cv_typing_rules.specs.Signature.{function_by}
 use Rattle.cv_typing_runs.specs.Games.{HasNamedFunctionsAndCells, has_site}
-use Rattle.cv_parse_roles.proofs.Constants.{kind_of, only_declaration}
-use Rattle.cv_parse_roles.proofs.Declared.{Used, function_declared}
-use Rattle.cv_parse_roles.proofs.Games.{kinds}
+use Rattle.cv_parse_laws.proofs.roles.Constants.{kind_of, only_declaration}
+use Rattle.cv_parse_laws.proofs.roles.Declared.{Used, function_declared}
+use Rattle.cv_parse_laws.proofs.roles.Games.{kinds}
 use Rattle.cv_parse_sorts.proofs.Bindings.{IsBound}
 use Rattle.cv_parse_sorts.proofs.BindingRows.{process_defines}
 use Rattle.cv_parse_sorts.proofs.CallRows.{process_named}

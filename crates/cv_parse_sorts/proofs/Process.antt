@@ -2,7 +2,7 @@
 use Rattle.std.proofs.Common.{◌≡◌, ℕ, Bool, true, false, cond, ◌==◌, ◌&&◌, ◌||◌, List, [], ◌∷◌, ◌++◌, append_assoc, length, ◌⊎◌, inl, inr, Option, Some, None, refl, ap, sym, subst, ◌∙◌}
 use Rattle.std.proofs.lemmas.Bool.{both_ways, or_left}
 use Rattle.std.proofs.lemmas.List.Folds.{list_any-append}
-use Rattle.cv_lists.proofs.Each.{AllByRecursion-left}
+use Rattle.cv_lists.proofs.Each.{AllByRecursion_left}
 use Rattle.cv_parse_notation.specs.declared.sign.Mark.TheVariants as mark
 use Rattle.cv_parse_notation.specs.declared.sign.Sign.{Sign}
 use Rattle.cv_parse_notation.specs.Form.{many, may, ◌▸◌}
@@ -20,8 +20,8 @@ use Rattle.cv_parse_grammar.specs.Phrases as sort
 use Rattle.cv_parse_grammar.specs.Processes.{inputs}
 use Rattle.cv_parse_grammar.specs.Rules.{File, heads, proof_block, rule}
 use Rattle.cv_parse_grammar.specs.Whole.{built_in}
-use Rattle.cv_parse_yields.specs.Yields.{AllUsed}
-use Rattle.cv_parse_roles.proofs.UsedRoles.{IsIn, form_uses, has_roles, sort_uses}
+use Rattle.cv_parse_grammar.specs.yields.Yields.{AllUsed}
+use Rattle.cv_parse_laws.proofs.roles.UsedRoles.{IsIn, form_uses, has_roles, sort_uses}
 use Rattle.cv_parse_sorts.proofs.Calls.{AllSay, Says}
 use Rattle.cv_parse_sorts.proofs.Bindings.{IsBound, bound_parts}
 use Rattle.cv_parse_sorts.proofs.BindingRows.{quiet_form}
@@ -170,7 +170,7 @@ module _ (ts : List Sign) (f : File) (uses : Uses) (named : AreNamed (built_in �
           ∙ sym (append_assoc p.before (enters p.left ∷ pre) (u ∷ later))))
 
       part : part_from None earlier ≡ Some InProcess
-      part = part_there (built_in ∷ p.before) pre p.left (AllByRecursion-left (λ (v : Use Role). is_inside v.role ≡ true) pre (u ∷ post) (subst (AllUsed (IsIn is_inside every_sort)) e used_inside))
+      part = part_there (built_in ∷ p.before) pre p.left (AllByRecursion_left (λ (v : Use Role). is_inside v.role ≡ true) pre (u ∷ post) (subst (AllUsed (IsIn is_inside every_sort)) e used_inside))
 
       call_goes_on : (us vs : Uses) → as_call us ≡ true → as_call (us ++ vs) ≡ true
       call_goes_on [] vs k = absurd (both_ways false refl k)

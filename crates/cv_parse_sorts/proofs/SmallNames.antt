@@ -2,7 +2,7 @@
 use Rattle.std.proofs.Common.{ℕ, suc, ◌<◌, ◌≤◌, true, false, if◌then◌else◌, List, [], ◌∷◌, length, Option, Some, None, arith, codes}
 use Rattle.std.specs.List.{AllByRecursion}
 use Rattle.std.specs.Str.{bytes_eq}
-use Rattle.cv_lists.proofs.Each.{AllByRecursion-append, AllByRecursion-weaker}
+use Rattle.cv_lists.proofs.Each.{AllByRecursion_append, AllByRecursion_weaker}
 use Rattle.cv_lex.specs.declared.TokenKind.{TokenKind}
 use Rattle.cv_lex.specs.declared.TokenKind.TheVariants as kind
 use Rattle.cv_lex.specs.Lexis.{Token}
@@ -10,10 +10,10 @@ use Rattle.cv_parse_notation.specs.declared.script.ScriptWord.TheVariants.{Plain
 use Rattle.cv_parse_notation.specs.declared.sign.Mark.{Mark}
 use Rattle.cv_parse_notation.specs.declared.sign.Sign.{Sign}
 use Rattle.cv_parse_notation.specs.declared.sign.Sign.TheVariants as sign
-use Rattle.cv_parse_terminals.specs.declared.pass.Counts.{Counts}
-use Rattle.cv_parse_terminals.specs.Braces.{file_tokens}
-use Rattle.cv_parse_spelling.specs.Spelling.{mark_of_text}
-use Rattle.cv_parse_terminals.specs.Signs.{NumberBelow, Step, first_text, is_unnamed, no_counts, one_find, place_of, signs_from, signs_of, step_before, text_step, token_step, unnamed_name, unnamed_step, with_name, word_step}
+use Rattle.cv_parse_tables.specs.declared.terminals.pass.Counts.{Counts}
+use Rattle.cv_parse_tables.specs.terminals.Braces.{file_tokens}
+use Rattle.cv_parse_tables.specs.spelling.Spelling.{mark_of_text}
+use Rattle.cv_parse_tables.specs.terminals.Signs.{NumberBelow, Step, first_text, is_unnamed, no_counts, one_find, place_of, signs_from, signs_of, step_before, text_step, token_step, unnamed_name, unnamed_step, with_name, word_step}
 
 abbrev pub AreBelow : ℕ → List Sign → Type 0
 AreBelow bound signs = AllByRecursion (NumberBelow bound) signs
@@ -83,8 +83,8 @@ all_fit names counts (t ∷ ts) =
     let r = all_fit s.names s.counts ts in
     let rest = signs_from s.names s.counts ts in
     record {
-      below = AllByRecursion-append (NumberBelow (length rest.names)) s.signs rest.signs
-          (AllByRecursion-weaker (NumberBelow (length s.names)) (NumberBelow (length rest.names)) (raised (length s.names) (length rest.names) r.more) s.signs f.below) r.below;
+      below = AllByRecursion_append (NumberBelow (length rest.names)) s.signs rest.signs
+          (AllByRecursion_weaker (NumberBelow (length s.names)) (NumberBelow (length rest.names)) (raised (length s.names) (length rest.names) r.more) s.signs f.below) r.below;
       more = let m = f.more in let n = r.more in omega arith;
     }
 

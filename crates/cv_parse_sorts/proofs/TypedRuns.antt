@@ -12,7 +12,7 @@ use Rattle.cv_typing_runs.specs.Games.{HasTypedRuns}
 use Rattle.cv_typing_runs.proofs.Games.{known, typed_runs as runs}
 use Rattle.cv_parse_laws.proofs.Games.{well_formed}
 use Rattle.cv_parse_sorts.proofs.NamedGames.{functions_and_cells_named}
-use Rattle.cv_parse_roles.proofs.Games.{arguments_named, constants_declared, sorts_declared}
+use Rattle.cv_parse_laws.proofs.roles.Games.{arguments_named, constants_declared, sorts_declared}
 
 -- the game is the last part of a file
 pub last_typed : (ds : List Declaration) (parts : List Part) (part : Part) → AreTyped ds (parts ++ part ∷ []) → IsTypedPart ds part

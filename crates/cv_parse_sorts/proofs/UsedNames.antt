@@ -1,12 +1,12 @@
 -- What is spelled uses names of its tokens alone: where those are below a bound, so are the names that are used.
 use Rattle.std.proofs.Common.{◌≡◌, ℕ, zero, suc, ◌<◌, Bool, true, false, List, [], ◌∷◌, ◌++◌, Some, None, inl, inr, sym, subst}
-use Rattle.cv_lists.proofs.Each.{AllByRecursion-append}
+use Rattle.cv_lists.proofs.Each.{AllByRecursion_append}
 use Rattle.cv_syntax_trees.specs.Tree.{Tree}
 use Rattle.cv_parse_notation.specs.declared.sign.Sign.{Sign}
 use Rattle.cv_parse_notation.specs.Form.{Form, sign, script_word, word, number, nought, find_word, unnamed, other, note, both, may, many, either, made, level, deeper}
 use Rattle.cv_parse_notation.specs.Spells.{Each, IsSort, Kind, Perhaps, Relation, Spells, Use, no_sort, starts}
 use Rattle.cv_parse_notation.specs.Whole.{SpellsWith}
-use Rattle.cv_parse_yields.specs.Yields.{AllUsed}
+use Rattle.cv_parse_grammar.specs.yields.Yields.{AllUsed}
 use Rattle.cv_parse_sorts.proofs.SmallNames.{AreBelow}
 
 -- a note about names uses the number 0, so that is below the bound too
@@ -19,7 +19,7 @@ module _ {R : Type 0} (bound : ℕ) (some : 0 < bound) where
   Keeps {A} S = (ts : List Sign) (a : A) (us : List (Use R)) (rest : List Sign) → S ts a us rest → AreBelow bound ts → AllUsed IsBelow us × AreBelow bound rest
 
   together : (us front back : List (Use R)) → us ≡ front ++ back → AllUsed IsBelow front → AllUsed IsBelow back → AllUsed IsBelow us
-  together us front back e v w = subst (AllUsed IsBelow) (sym e) (AllByRecursion-append (λ (u : Use R). IsBelow u.role u.name) front back v w)
+  together us front back e v w = subst (AllUsed IsBelow) (sym e) (AllByRecursion_append (λ (u : Use R). IsBelow u.role u.name) front back v w)
 
   perhaps_keeps : {A : Type 0} (S : Relation R A) (near : Bool) (k : Kind → Bool) → Keeps S → Keeps (Perhaps S near k)
   perhaps_keeps S near k q ts None us rest d w = (subst (AllUsed IsBelow) (sym d.0.uses) tt, subst (AreBelow bound) d.0.tokens w)

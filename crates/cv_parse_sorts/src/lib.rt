@@ -2,12 +2,14 @@
 // constants.
 #![tactic(auto)]
 
+pub mod queries;
+
 ghost use Rattle.std.specs.Prelude.{◌≡◌, ℕ, List, Ok, length, nat_lt};
 ghost use Rattle.cv_lex.specs.Lexis.{Token};
-ghost use Rattle.cv_parse_terminals.specs.Signs.{signs_of};
+ghost use Rattle.cv_parse_tables.specs.terminals.Signs.{signs_of};
 ghost use Rattle.cv_parse.specs.Says.{Says};
-ghost use Rattle.cv_scenes.specs.Scenes.{KnowsQueries};
-ghost use Rattle.cv_context_answers.specs.Answers.{KnowsConstants};
+ghost use Rattle.cv_scene.specs.Scenes.{KnowsQueries};
+ghost use Rattle.cv_match_laws.specs.answers.Answers.{KnowsConstants};
 ghost use Rattle.cv_steps.specs.Sequences.{scene};
 ghost use Rattle.cv_parse_notation.specs.declared.sign.Sign.{Sign};
 ghost use Rattle.cv_parse.specs.Parsed.{Parsed, parsed};
@@ -16,7 +18,7 @@ ghost use Rattle.cv_meaning.specs.Runs.{Adversary, Mode};
 ghost use Rattle.cv_meaning.specs.Satisfies.{Satisfies};
 ghost use Rattle.cv_scope_rules.specs.Scope.{IsScoped};
 ghost use Rattle.cv_typing_rules.specs.Parts.{IsTypedFile};
-ghost use Rattle.cv_derivations_under.specs.Truth.{HasClosedEquations};
+ghost use Rattle.cv_derive_laws.specs.stores.Truth.{HasClosedEquations};
 ghost use Rattle.cv_typing_runs.specs.Games.{HasNamedFunctionsAndCells, HasTypedRuns};
 
 /// An equation of a file that is typed says something of functions, of constants and of its own variables

@@ -1,3 +1,5 @@
 pub mod Trees
 pub mod Table
 pub mod Worked
+pub mod spelling
+pub mod terminals

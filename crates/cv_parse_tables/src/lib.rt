@@ -4,6 +4,8 @@
 mod fronts;
 mod piece;
 mod reading;
+pub mod spelling;
+pub mod terminals;
 mod trees;
 mod worked;
 

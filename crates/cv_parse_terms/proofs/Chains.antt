@@ -79,12 +79,6 @@ opened_read {all = all} {n = n} {at = at} {k = k} {m = m} g f o d =
     first_read (positive n) (read_in n (made g (m ▸ f))) (pick (next_is (is_mark m) (drop at all)) no_level no_syntax) (drop at all) (room n o.room)
     (made_read g (made_read (λ p. p.1) (sign_both m at k (read_in n f) (stands o) d)))
 
-pub opened_fails : {A B : Type 0} {all : List Sign} {n at k : ℕ} {m : Mark} (e : ReadError) (g : A → B) (f : Phrase A) → Opens all m n at k → Fails all e (read_in n f (drop k all)) → Fails all e (read_in n (level (made g (m ▸ f))) (drop at all))
-opened_fails {all = all} {n = n} {at = at} {k = k} {m = m} e g f o d =
-    fails_first all e (positive n) (read_in n (made g (m ▸ f))) (pick (next_is (is_mark m) (drop at all)) no_level no_syntax) (drop at all) (room n o.room)
-    (fails_bind all e _ _ (fails_bind all e _ _
-    (subst (λ r. Fails all e (r >>= λ x. read_in n f x.rest >>= joined x)) (sym (o.sign ∙ ap (λ j. found tt [] (drop j all)) (sym o.next))) (fails_bind all e _ _ d))))
-
 -- a phrase between brackets
 pub between : {A : Type 0} {emit : A → List Make} {all : List Sign} {n at k l : ℕ} {s t : Trail} (opens closes : Mark) (f : Phrase A) (r : Result ℕ ReadError) → Opens all opens n at k → IsMade emit all s t (read_in n f (drop k all)) l → IfOk r (λ end. Stands all closes l end) → IfErr r (λ e. Fails all e (read_sign closes (drop l all))) → Makes emit all s t r (read_in n (level (opens ▸ f ◂ closes)) (drop at all))
 between {all = all} {n = n} {at = at} {k = k} opens closes f (Ok end) o d c h = record {

@@ -103,10 +103,6 @@ opening_fails all m (error.Syntax k) n f g ts h d = (d.0, same_fault m n (next_i
 opening_fails all m (error.Nesting k) n f g ts h d = (d.0, same_fault m n (next_is (is_mark m) ts) f g ts _ h d.1)
 opening_fails all m error.OutOfMemory n f g ts h d = tt
 
--- a phrase that wants a level, where none is left
-pub level_missing : {A : Type 0} (all : List Sign) (at n : ℕ) (f : Phrase A) → at ≤ length all → n ≤ 0 → next_is (starts heads f) (drop at all) ≡ true → Fails all (error.Nesting at) (read_in n (level f) (drop at all))
-level_missing all at n f l h e = fails_second all (error.Nesting at) (positive n) (read_in n f) (pick (next_is (starts heads f) (drop at all)) no_level no_syntax) (drop at all) (no_room n h) (too_deep_here all at (next_is (starts heads f) (drop at all)) l e)
-
 -- nothing that begins with the one or the other
 pub neither : (p q : Kind → Bool) (ts : List Sign) → next_is p ts ≡ false → next_is q ts ≡ false → next_is (λ k. p k || q k) ts ≡ false
 neither p q [] h k = refl

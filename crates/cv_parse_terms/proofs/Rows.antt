@@ -114,15 +114,15 @@ pub record TreesSoFar (n : ℕ) (f : Phrase Tree) (all : List Sign) (old new : T
   pub many : count ≡ length value
   pub few : count ≤ place
 
-flat_map-last : (xs : List Tree) (t : Tree) → flat_map postorder (xs ++ t ∷ []) ≡ flat_map postorder xs ++ postorder t
-flat_map-last [] t = append-nil (postorder t)
-flat_map-last (x ∷ xs) t = ap (λ l. postorder x ++ l) (flat_map-last xs t) ∙ sym (append_assoc (postorder x) (flat_map postorder xs) (postorder t))
+flat_map_last : (xs : List Tree) (t : Tree) → flat_map postorder (xs ++ t ∷ []) ≡ flat_map postorder xs ++ postorder t
+flat_map_last [] t = append-nil (postorder t)
+flat_map_last (x ∷ xs) t = ap (λ l. postorder x ++ l) (flat_map_last xs t) ∙ sym (append_assoc (postorder x) (flat_map postorder xs) (postorder t))
 
 pub trees_go : (n : ℕ) (f : Phrase Tree) → is_steady f ≡ true → may_vanish f ≡ false → (all : List Sign) (u v w : Trail) (whole : Read Role (List Tree)) (count p q : ℕ) → TreesSoFar n f all u v whole count p → next_is (starts heads f) (drop p all) ≡ true → IsMade postorder all v w (read_in n f (drop p all)) q → TreesSoFar n f all u w whole (count + 1) q
 trees_go n f s v all a b c whole count p q so h d = record {
   value = so.value ++ d.value ∷ [];
   read = many_goes n f s v all a.uses.items b.uses.items c.uses.items whole so.value _ p d.value q so.read h d.read refl;
-  makes = d.makes ∙ (ap (λ l. l ++ postorder d.value) so.makes ∙ (append_assoc a.makes.items (flat_map postorder so.value) (postorder d.value) ∙ ap (λ l. a.makes.items ++ l) (sym (flat_map-last so.value d.value))));
+  makes = d.makes ∙ (ap (λ l. l ++ postorder d.value) so.makes ∙ (append_assoc a.makes.items (flat_map postorder so.value) (postorder d.value) ∙ ap (λ l. a.makes.items ++ l) (sym (flat_map_last so.value d.value))));
   many = let l = length-append so.value (d.value ∷ []) in let m = so.many in omega arith;
   few =
       let less = reading_shortens n f s v (drop p all) _ d.read.is in

@@ -32,18 +32,6 @@ tail_behind {s = s} n at u put g h (Ok end) d e = record {
 tail_behind {all = all} {k = k} {s = s} {t = t} n at u put g h (Err e) d f =
     fails_bind all e _ _ (fails_behind all s.uses.items t.uses.items e (read_in n g (drop at all)) (λ x. read_in n h x.rest >>= joined x) d.value k d.read (fails_bind all e _ _ f))
 
--- no tail
-pub no_tail : (n : ℕ) (h : Phrase (Tree → Tree)) (all : List Sign) (s : Trail) (at : ℕ) → at ≤ length all → next_is (starts heads h) (drop at all) ≡ false → MakesTail perhaps all s s (Ok at) (read_in n (may false h) (drop at all))
-no_tail n h all s at l e = record {
-  value = None;
-  parts = [];
-  read =
-      second_read (next_is (starts heads h) (drop at all)) (λ us. read_in n h us >>= mapped Some) (nothing None) (drop at all) e
-      (record { uses = []; is = refl; noted = sym (append-nil (uses_of s.uses.items)); within = l });
-  makes = sym (append-nil s.makes.items);
-  behind = λ t. sym (append-nil (postorder t));
-}
-
 -- a tail that is there
 pub some_tail : (n : ℕ) (h : Phrase (Tree → Tree)) (all : List Sign) (s t : Trail) (r : Result ℕ ReadError) (at : ℕ) → next_is (starts heads h) (drop at all) ≡ true → MakesTail applied all s t r (read_in n h (drop at all)) → MakesTail perhaps all s t r (read_in n (may false h) (drop at all))
 some_tail n h all s t (Ok end) at e d = record {
@@ -74,10 +62,5 @@ joining {all = all} {n = n} {s = s} h q u o d e f = let r = made_read (λ (x, r)
   makes = f ∙ (ap (λ l. l ++ Over h ∷ []) d.makes ∙ append_assoc s.makes.items (postorder d.value) (Over h ∷ []));
   behind = λ l. refl;
 }
-
--- where nothing stands behind the symbol
-pub joining_fails : {all : List Sign} {n at k : ℕ} {m : Mark} (e : ReadError) (v : (Unit {0} × Tree) → Tree → Tree) (q : Sort) (us : List NameUse) → Opens all m n at k → Fails all e (below n q (drop k all)) → Fails all e (read_in n (made v (level (sign m) & deeper q)) (drop at all))
-joining_fails {all = all} {n = n} {at = at} {k = k} {m = m} e v q us o d =
-    fails_bind all e _ _ (fails_behind all us us e (read_in n (level (sign m)) (drop at all)) (λ x. below n q x.rest >>= joined x) tt k (level_sign us o) (fails_bind all e _ _ d))
 
 pub ruleset tails = (some_tail, tail_first, tail_second)

@@ -8,12 +8,12 @@ use Rattle.cv_path.specs.declared.place.Lies.{Lies}
 use Rattle.cv_path.specs.declared.place.Lies.TheVariants.{Here, Within, Behind}
 use Rattle.cv_path.specs.Places.{LiesAt}
 use Rattle.cv_path.specs.Copies.{copies_at, added}
-use Rattle.cv_path.proofs.Going.{subtree-empty, subtree-here, subtree-within, subtree-behind}
-use Rattle.cv_path.proofs.Products.{copies-empty, copies-here, copies-within, copies-behind}
+use Rattle.cv_path.proofs.Going.{subtree_empty, subtree_here, subtree_within, subtree_behind}
+use Rattle.cv_path.proofs.Products.{copies_empty, copies_here, copies_within, copies_behind}
 
 -- a place lies somewhere
-pub lies-somewhere : (h : Head) (a : Tree) (p : ℕ) → (l : Lies) × LiesAt h a p l
-lies-somewhere h a p = go (nat_lt p (weight h)) refl (nat_lt p (weight h + size a)) refl
+pub lies_somewhere : (h : Head) (a : Tree) (p : ℕ) → (l : Lies) × LiesAt h a p l
+lies_somewhere h a p = go (nat_lt p (weight h)) refl (nat_lt p (weight h + size a)) refl
   where
     go : (x : Bool) → nat_lt p (weight h) ≡ x → (y : Bool) → nat_lt p (weight h + size a) ≡ y → (l : Lies) × LiesAt h a p l
     go true e y f = (Here, ltb-true p (weight h) e)
@@ -49,13 +49,13 @@ module _ (A : Type 0) (h : Head) (a b : Tree) (p : ℕ) (o : Option A) (f g : �
 
 pub no_subtree : (t : Tree) (p : ℕ) → IsNothing Tree (subtree t p) (size t) p
 unfolding size
-no_subtree Empty p = ((λ n. omega arith), (λ l. subtree-empty Empty p refl))
+no_subtree Empty p = ((λ n. omega arith), (λ l. subtree_empty Empty p refl))
 no_subtree (Node h a b) p =
     missing Tree h a b p (subtree (Node h a b) p) (subtree a) (subtree b)
-    (λ l. (Node h a b, subtree-here (Node h a b) h a b p 0 refl l))
-    (λ q l. same Tree (subtree (Node h a b) p) (subtree a q) (subtree-within (Node h a b) h a b p q refl l))
-    (λ q l. same Tree (subtree (Node h a b) p) (subtree b q) (subtree-behind (Node h a b) h a b p q refl l))
-    (no_subtree a) (no_subtree b) (lies-somewhere h a p)
+    (λ l. (Node h a b, subtree_here (Node h a b) h a b p 0 refl l))
+    (λ q l. same Tree (subtree (Node h a b) p) (subtree a q) (subtree_within (Node h a b) h a b p q refl l))
+    (λ q l. same Tree (subtree (Node h a b) p) (subtree b q) (subtree_behind (Node h a b) h a b p q refl l))
+    (no_subtree a) (no_subtree b) (lies_somewhere h a p)
 
 mapped : (f : List ℕ → List ℕ) (o : Option (List ℕ)) → (option_map f o ≡ None) ↔ (o ≡ None)
 mapped f None = ((λ n. refl), (λ n. refl))
@@ -66,12 +66,12 @@ mapped f (Some x) = ((λ n. absurd (clash (f x) n)), (λ n. absurd (clash x n)))
 
 pub no_copies : (t : Tree) (p : ℕ) → IsNothing (List ℕ) (copies_at t p) (size t) p
 unfolding size
-no_copies Empty p = ((λ n. omega arith), (λ l. copies-empty Empty p refl))
+no_copies Empty p = ((λ n. omega arith), (λ l. copies_empty Empty p refl))
 no_copies (Node h a b) p =
     missing (List ℕ) h a b p (copies_at (Node h a b) p) (copies_at a) (copies_at b)
-    (λ l. ([], copies-here (Node h a b) h a b p 0 refl l))
-    (λ q l. same (List ℕ) (copies_at (Node h a b) p) (copies_at a q) (copies-within (Node h a b) h a b p q refl l))
-    (λ q l. let e = copies-behind (Node h a b) h a b p q refl l in let m = mapped (λ ns. added h a b q ++ ns) (copies_at b q) in ((λ n. m.0 (sym e ∙ n)), (λ n. e ∙ m.1 n)))
-    (no_copies a) (no_copies b) (lies-somewhere h a p)
+    (λ l. ([], copies_here (Node h a b) h a b p 0 refl l))
+    (λ q l. same (List ℕ) (copies_at (Node h a b) p) (copies_at a q) (copies_within (Node h a b) h a b p q refl l))
+    (λ q l. let e = copies_behind (Node h a b) h a b p q refl l in let m = mapped (λ ns. added h a b q ++ ns) (copies_at b q) in ((λ n. m.0 (sym e ∙ n)), (λ n. e ∙ m.1 n)))
+    (no_copies a) (no_copies b) (lies_somewhere h a p)
 
 pub ruleset bounds = (no_subtree, no_copies)

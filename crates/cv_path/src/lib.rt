@@ -4,6 +4,7 @@
 mod counting;
 mod definitions;
 mod error;
+pub mod extents;
 mod laws;
 mod place;
 mod product;
@@ -11,8 +12,8 @@ mod replacing;
 
 pub use counting::{copies, guards};
 pub use definitions::{is_bound, is_definition};
-pub use error::{PathError, no_room};
+pub use error::PathError;
 pub use laws::{places_are_below_the_size, worked_copies};
 pub use place::{Lies, at, place_in, size_below};
 pub use product::Product;
-pub use replacing::{Turn, Way, push, rebuilt, replace, way_to};
+pub use replacing::{Turn, Way, push, rebuilt, way_to};

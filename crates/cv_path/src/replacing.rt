@@ -5,10 +5,10 @@ ghost use Rattle.cv_syntax_trees.specs.Tree.{Node, Tree, size, subtree};
 ghost use Rattle.cv_syntax.specs.PoolTrees.{tree_at};
 ghost use Rattle.cv_meaning.specs.Replaced.{replaced};
 ghost use Rattle.cv_path.specs.Places.{nodes_above};
-ghost use Rattle.cv_path.specs.Refusals.{no_memory, refusal};
+ghost use Rattle.cv_path.specs.Refusals.{no_memory};
 ghost use Rattle.cv_path.specs.Ways.{led, turned};
 
-use crate::error::{PathError, no_room};
+use crate::error::PathError;
 use crate::place::{Lies, place_in};
 use cv_pool::{NodeId, Pool};
 use cv_syntax::{BuildError, Head, kind_of, read_node};
@@ -138,36 +138,4 @@ pub fn rebuilt(pool: &mut Pool, way: Vec<Turn>, by: Option<NodeId>) -> Option<No
         new = Some(turned(pool, turn, new));
     }
     new
-}
-
-/// The tree with another subtree at a place. Only the nodes above the place are new.
-#[tactic(auto, using(crate::proofs::Going::going))]
-pub fn replace(
-    alloc: Global,
-    pool: &mut Pool,
-    root: NodeId,
-    place: u32,
-    by: NodeId,
-) -> Result<NodeId, PathError>
-    requires live { root.0 < length pool.old.trees }
-    requires by { by.0 < length pool.old.trees }
-    requires fits { size (tree_at pool.old.trees (Some root)) < 2 ^ 32 }
-    ensures tree { IfOk result (λ n. tree_at pool.new.trees (Some n)
-        ≡ replaced (tree_at pool.old.trees (Some root)) place (tree_at pool.old.trees (Some by))) }
-    ensures live { IfOk result (λ n. n.0 < length pool.new.trees) }
-    ensures grows { OnOk result (Grows pool.old pool.new) }
-    ensures accepted { OnOk result (refusal pool.old (tree_at pool.old.trees (Some root)) place
-        ≡ None) }
-    ensures refused { (e : PathError) → IsErrOf result e
-        → (e ≡ no_memory) ⊎ (refusal pool.old (tree_at pool.old.trees (Some root)) place ≡ Some e) }
-    ensures kept { OnErr result (pool.new.trees ≡ pool.old.trees) }
-    ensures limit { pool.new.limit ≡ pool.old.limit }
-    ensures few { OnOk result (length pool.new.trees
-        ≤ length pool.old.trees + nodes_above (tree_at pool.old.trees (Some root)) place) }
-{
-    let way = way_to(alloc, pool, root, place)?;
-    match pool.reserve(way.turns.len() as u32) {
-        Ok(()) => Ok(rebuilt(pool, way.turns, Some(by)).unwrap_or(by)),
-        Err(fault) => Err(no_room(fault)),
-    }
 }

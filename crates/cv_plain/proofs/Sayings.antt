@@ -5,8 +5,8 @@ use Rattle.std.proofs.lemmas.List.{map-append, length-map, drop_more}
 use Rattle.std.proofs.lemmas.Bool.{lt-ltb, le-ltb}
 use Rattle.std.specs.declared.vec.Vec.{Vec}
 use Rattle.std.specs.declared.alloc.Global.{Global}
-use Rattle.cv_lists.proofs.Options.{option_map-Some, option_map-None, some_from_is_some}
-use Rattle.cv_kernel_closed.proofs.QueryLists.{queries-skip, queries-take}
+use Rattle.cv_lists.proofs.Options.{option_map_Some, option_map_None, some_from_is_some}
+use Rattle.cv_bound.proofs.closings.QueryLists.{queries_skip, queries_take}
 use Rattle.cv_pool.specs.declared.node.NodeId.{NodeId}
 use Rattle.cv_syntax.specs.declared.decls.Decl.{Decl}
 use Rattle.cv_syntax.specs.Classes.{queries, query_of}
@@ -21,8 +21,8 @@ use Rattle.cv_pool.specs.PoolView.{PoolView, Grows}
 use Rattle.cv_report.specs.declared.report.Entry.{Entry as Trail}
 use Rattle.cv_script.specs.declared.steps.Step.{Step}
 use Rattle.cv_query_direct.specs.Certificates.{nodes_asked, step_by, step_of}
-use Rattle.cv_parse.proofs.Plants.{overs-tree}
-use Rattle.cv_plain.proofs.Growing.{steps-grown}
+use Rattle.cv_parse.proofs.Plants.{overs_tree}
+use Rattle.cv_plain.proofs.Growing.{steps_grown}
 use Rattle.cv_report.specs.declared.report.Verdict.{Verdict}
 use Rattle.cv_report.specs.declared.report.Verdict.TheVariants.{Proved, NotProved}
 use Rattle.cv_plain.specs.Findings.{HasNoRoom, IsFound, IsStepBelow, SaysOf, ended, said, taken}
@@ -36,32 +36,15 @@ made ss vs a f = record { steps = ss; verdicts = vs; all = a; full = f }
 
 pub closed_says : (old new : PoolView) (f : Findings) (ss : List Step) (vs : List Verdict) (step : Step) (n : ℕ) (c : Option (List EntryTree)) → Grows old new → All (IsStepBelow (length old.trees)) f.steps.items → Some (tree_at new.trees (Some step.0)) ≡ option_map (step_of n) c → n ≡ length f.verdicts.items + 1 → length f.steps.items < 2000 → ss ≡ f.steps.items ++ step ∷ [] → vs ≡ f.verdicts.items ++ Proved [] ∷ [] → made (map (said_by new.trees) ss) vs f.all f.full ≡ said_then (said old.trees f) c
 closed_says old new f ss vs step n c g a e k l p q =
-    let one = option_map-Some (step_of n) (tree_at new.trees (Some step.0)) c e in
+    let one = option_map_Some (step_of n) (tree_at new.trees (Some step.0)) c e in
     let old_steps : List Tree = map (said_by old.trees) f.steps.items in
     let last : tree_at new.trees (Some step.0) ≡ step_of (length f.verdicts.items + 1) one.0 = one.2 ∙ ap (λ m. step_of m one.0) k in
     let steps : map (said_by new.trees) ss ≡ old_steps ++ step_of (length f.verdicts.items + 1) one.0 ∷ [] =
-    ap (map (said_by new.trees)) p ∙ (map-append (said_by new.trees) f.steps.items (step ∷ []) ∙ ap₂ (λ ts t. ts ++ t ∷ []) (steps-grown old new f.steps.items g a) last)
+    ap (map (said_by new.trees)) p ∙ (map-append (said_by new.trees) f.steps.items (step ∷ []) ∙ ap₂ (λ ts t. ts ++ t ∷ []) (steps_grown old new f.steps.items g a) last)
     in
     ap₂ (λ ts us. made ts us f.all f.full) steps q
     ∙ (sym (ap (λ b. cond b (made (old_steps ++ step_of (length f.verdicts.items + 1) one.0 ∷ []) (f.verdicts.items ++ Proved [] ∷ []) f.all f.full) (made old_steps (f.verdicts.items ++ NotProved ∷ []) f.all true)) (lt-ltb (length old_steps) most_steps (let m = length-map f.steps.items (said_by old.trees) in omega arith)))
     ∙ ap (said_then (said old.trees f)) (sym one.1))
-
-pub full_says : (trees : List KindTree) (f : Findings) (vs : List Verdict) (es : Vec Entry Global) (c : Option (List EntryTree)) → Some (entry_trees trees es.items) ≡ c → 2000 ≤ length f.steps.items → vs ≡ f.verdicts.items ++ NotProved ∷ [] → made (map (said_by trees) f.steps.items) vs f.all true ≡ said_then (said trees f) c
-full_says trees f vs es c e l q =
-    ap (λ b. made (map (said_by trees) f.steps.items) b f.all true) q
-    ∙ (sym (ap (λ b. cond b (made (map (said_by trees) f.steps.items ++ step_of (length f.verdicts.items + 1) (entry_trees trees es.items) ∷ []) (f.verdicts.items ++ Proved [] ∷ []) f.all f.full) (made (map (said_by trees) f.steps.items) (f.verdicts.items ++ NotProved ∷ []) f.all true)) (le-ltb (length (map (said_by trees) f.steps.items)) most_steps (let n = length-map f.steps.items (said_by trees) in omega arith)))
-    ∙ ap (said_then (said trees f)) e)
-
-pub open_says : (trees : List KindTree) (f : Findings) (vs : List Verdict) (c : Option (List EntryTree)) → None ≡ c → vs ≡ f.verdicts.items ++ NotProved ∷ [] → made (map (said_by trees) f.steps.items) vs false f.full ≡ said_then (said trees f) c
-open_says trees f vs c e q = ap (λ b. made (map (said_by trees) f.steps.items) b false f.full) q ∙ ap (said_then (said trees f)) e
-
-pub left_says : (old new : PoolView) (f : Findings) (vs : List Verdict) (n : ℕ) (c : Option (List EntryTree)) → Grows old new → All (IsStepBelow (length old.trees)) f.steps.items → None ≡ option_map (step_of n) c → vs ≡ f.verdicts.items ++ NotProved ∷ [] → made (map (said_by new.trees) f.steps.items) vs false f.full ≡ said_then (said old.trees f) c
-left_says old new f vs n c g a e q = ap (λ ts. made ts vs false f.full) (steps-grown old new f.steps.items g a) ∙ open_says old.trees f vs c (sym (option_map-None (step_of n) c e)) q
-
--- the trail of steps, one by one
-pub trail-goes : (xs : List Step) (k : ℕ) (d : Step) (out new total : List Trail) → k < length xs → out ++ map closing (drop k xs) ≡ total → new ≡ out ++ closing (get_or xs k d) ∷ [] → new ++ map closing (drop (k + 1) xs) ≡ total
-trail-goes xs k d out new total l i n =
-    ap (λ o. o ++ map closing (drop (k + 1) xs)) n ∙ (append_assoc out (closing (get_or xs k d) ∷ []) (map closing (drop (k + 1) xs)) ∙ (ap (λ ys. out ++ map closing ys) (sym (drop_more xs k d l)) ∙ i))
 
 -- one query more
 pub said_more : (game : Tree) (s t : Said) (q : Tree) (qs : List Tree) → t ≡ said_then s (certificate game q) → said_of game t qs ≡ said_of game s (q ∷ qs)
@@ -74,14 +57,14 @@ said_end game s qs e = ap (said_of game s) e
 
 -- what is said of queries, and of one more behind them
 
-pub said-append : (game : Tree) (s : Said) (a b : List Tree) → said_of game s (a ++ b) ≡ said_of game (said_of game s a) b
+pub said_append : (game : Tree) (s : Said) (a b : List Tree) → said_of game s (a ++ b) ≡ said_of game (said_of game s a) b
 unfolding said_of
-said-append game s [] b = refl
-said-append game s (q ∷ a) b = said-append game (said_then s (certificate game q)) a b
+said_append game s [] b = refl
+said_append game s (q ∷ a) b = said_append game (said_then s (certificate game q)) a b
 
-said-last : (game : Tree) (s : Said) (q : Tree) → said_of game s (q ∷ []) ≡ said_then s (certificate game q)
+said_last : (game : Tree) (s : Said) (q : Tree) → said_of game s (q ∷ []) ≡ said_then s (certificate game q)
 unfolding said_of
-said-last game s q = refl
+said_last game s q = refl
 
 -- Of all queries these are left, and this was said of the others.
 pub record HasAnswered (game : Tree) (all left : List Tree) (s : Said) : Type 0 where
@@ -100,7 +83,7 @@ pub answered_more : (game : Tree) (all left : List Tree) (q : Tree) (s t : Said)
 answered_more game all left q s t h e = record {
   answered = h.answered ++ q ∷ [];
   split = h.split ∙ sym (append_assoc h.answered (q ∷ []) left);
-  said = e ∙ (ap (λ u. said_then u (certificate game q)) h.said ∙ sym (said-append game nothing_said h.answered (q ∷ []) ∙ said-last game (said_of game nothing_said h.answered) q));
+  said = e ∙ (ap (λ u. said_then u (certificate game q)) h.said ∙ sym (said_append game nothing_said h.answered (q ∷ []) ∙ said_last game (said_of game nothing_said h.answered) q));
 }
 
 -- all queries are answered
@@ -113,16 +96,16 @@ found_all before game all left trees f h e n =
       verdicts = ap (λ (t : Said). t.verdicts) h.said ∙ sym (append-nil (said_of game nothing_said h.answered).verdicts);
     }
 
-pub open-all : {A : Type 0} (f : A → Tree) (xs : List A) → map (λ x. NotProved) xs ≡ map open_verdict (map f xs)
-open-all f [] = refl
-open-all f (x ∷ xs) = ap (λ l. NotProved ∷ l) (open-all f xs)
+pub open_all : {A : Type 0} (f : A → Tree) (xs : List A) → map (λ x. NotProved) xs ≡ map open_verdict (map f xs)
+open_all f [] = refl
+open_all f (x ∷ xs) = ap (λ l. NotProved ∷ l) (open_all f xs)
 
 crowded_by : (before live : ℕ) (game q : Tree) (s : Said) (need : ℕ) → HasNoRoom most_pool live game q s need → live ≤ before + steps_nodes s.steps → IsCrowded before game s q need
 crowded_by before live game q s need h l = record {
   few = h.few;
   step = h.step;
   closes = h.closes;
-  asked = h.asked ∙ overs-tree h.step;
+  asked = h.asked ∙ overs_tree h.step;
   over = let o = h.over in omega arith;
 }
 
@@ -136,7 +119,7 @@ found_left t before live game all q ns trees f g need h r l s v n = record {
     ends = (need, ap (λ x. ended x g.full g.all) n, subst (λ u. IsCrowded before game u (t q) need) h.said (crowded_by before live game (t q) (said trees f) need r l));
   };
   steps = ap (λ (x : Vec Step Global). map (said_by trees) x.items) s ∙ ap (λ (u : Said). u.steps) h.said;
-  verdicts = v ∙ ap₂ (λ vs ws. vs ++ ws) (ap (λ (u : Said). u.verdicts) h.said) (open-all t (q ∷ ns));
+  verdicts = v ∙ ap₂ (λ vs ws. vs ++ ws) (ap (λ (u : Said). u.verdicts) h.said) (open_all t (q ∷ ns));
 }
 
 -- the pool has no room for a step
@@ -159,14 +142,14 @@ leave_some ds k vs ws total o e i f h =
     let q = some_from_is_some o i in
     ap (λ l. l ++ map (λ n. NotProved) (queries (drop (k + 1) ds))) f
     ∙ (append_assoc vs (NotProved ∷ []) (map (λ n. NotProved) (queries (drop (k + 1) ds)))
-    ∙ (ap (λ ns. vs ++ map (λ n. NotProved) ns) (sym (queries-take ds k q.0 (sym e ∙ q.1))) ∙ h))
+    ∙ (ap (λ ns. vs ++ map (λ n. NotProved) ns) (sym (queries_take ds k q.0 (sym e ∙ q.1))) ∙ h))
 
 none_from : {A : Type 0} (o : Option A) → is_some o ≡ false → o ≡ None
 none_from None e = refl
 none_from (Some x) e = absurd (cc)
 
 pub leave_none : (ds : List Decl) (k : ℕ) (vs total : List Verdict) (o : Option NodeId) → k < length ds → o ≡ option_and_then query_of (slice_get ds k) → is_some o ≡ false → vs ++ map (λ n. NotProved) (queries (drop k ds)) ≡ total → vs ++ map (λ n. NotProved) (queries (drop (k + 1) ds)) ≡ total
-leave_none ds k vs total o l e i h = ap (λ ns. vs ++ map (λ n. NotProved) ns) (sym (queries-skip ds k l (sym e ∙ none_from o i))) ∙ h
+leave_none ds k vs total o l e i h = ap (λ ns. vs ++ map (λ n. NotProved) ns) (sym (queries_skip ds k l (sym e ∙ none_from o i))) ∙ h
 
 -- three facts of a result, and what follows
 pub all_ok : {A E : Type 0} (P Q R S : A → Type 0) (r : Result A E) → ((x : A) → P x → Q x → R x → S x) → IfOk r P → IfOk r Q → IfOk r R → IfOk r S

@@ -2,7 +2,7 @@
 use Rattle.std.proofs.Common.{◌≡◌, ℕ, ◌+◌, ◌≤◌, nat_lt, Bool, true, false, not, ◌&&◌, ◌||◌, if◌then◌else◌, List, [], ◌∷◌, ◌++◌, length, length-append, map, refl, ap, ap₂, sym, ◌∙◌, append-nil, append_assoc, arith, Option, Some, None, is_some}
 use Rattle.std.proofs.lemmas.Bool.Decides.{nat_tests}
 use Rattle.std.proofs.lemmas.Bool.{lt-ltb, le-ltb}
-use Rattle.cv_lists.proofs.Options.{option_map-Some}
+use Rattle.cv_lists.proofs.Options.{option_map_Some}
 use Rattle.std.specs.List.{list_all, list_any, zip}
 use Rattle.cv_syntax_trees.specs.Tree.{Tree}
 use Rattle.cv_query_direct.specs.Plain.{certificate}
@@ -17,6 +17,7 @@ use Rattle.cv_report.specs.declared.report.Which.{Which}
 use Rattle.cv_report.specs.declared.report.Which.TheVariants.{Pool, Steps}
 use Rattle.cv_plain.specs.Strategy.{Course, EndsAt, IsCrowded, Said, is_closed, is_proved, lacks_step, most_steps, nothing_said, open_verdict, passed_by, said_of, said_then, status_by, status_for, status_of}
 use Rattle.cv_plain.proofs.Verdicts.{closed_some}
+use Rattle.cv_lists.proofs.Tests.{and_true_back, or_false_back}
 
 -- Of the queries from here on: verdicts were added, each is closed, none lacks a step.
 record Tells (game : Tree) (s t : Said) (qs : List Tree) : Type 0 where
@@ -26,14 +27,6 @@ record Tells (game : Tree) (s t : Said) (qs : List Tree) : Type 0 where
   all : t.all ≡ (s.all && closed)
   full : t.full ≡ (s.full || list_any (lacks_step game) (zip qs added))
   proved : list_all is_proved added ≡ (closed && not (list_any (lacks_step game) (zip qs added)))
-
-or_false : (b : Bool) → b ≡ (b || false)
-or_false true = refl
-or_false false = refl
-
-and_true : (b : Bool) → b ≡ (b && true)
-and_true true = refl
-and_true false = refl
 
 or_true : (b : Bool) → true ≡ (b || true)
 or_true true = refl
@@ -95,7 +88,7 @@ next_tells game s q qs more (Some es) e = closed_tells game s q qs more es (sym 
 
 all_tells : (game : Tree) (s : Said) (qs : List Tree) → Tells game s (said_of game s qs) qs
 unfolding said_of
-all_tells game s [] = record { added = []; closed = true; verdicts = sym (append-nil s.verdicts); all = and_true s.all; full = or_false s.full; proved = refl }
+all_tells game s [] = record { added = []; closed = true; verdicts = sym (append-nil s.verdicts); all = and_true_back s.all; full = or_false_back s.full; proved = refl }
 all_tells game s (q ∷ qs) = next_tells game s q qs (λ u. all_tells game u qs) (certificate game q) refl
 
 by_tests : (full all proved lacks : Bool) → full ≡ lacks → proved ≡ (all && not lacks) → status_by full all ≡ (if proved then status.Proved else (if lacks then (status.Limit Steps) else (status.Open Stuck)))
@@ -164,7 +157,7 @@ lacks_later game q left (x ∷ a) (v ∷ vs) ws c l = ap (λ b. lacks_step game 
 
 -- a query for whose step there is no room would be closed
 pub crowded_closed : (taken : ℕ) (game : Tree) (s : Said) (q : Tree) (need : ℕ) → IsCrowded taken game s q need → is_closed game q ≡ true
-crowded_closed taken game s q need h = let one = option_map-Some (step_of (length s.verdicts + 1)) h.step (certificate game q) (sym h.closes) in sym (closed_some game q) ∙ ap is_some one.1
+crowded_closed taken game s q need h = let one = option_map_Some (step_of (length s.verdicts + 1)) h.step (certificate game q) (sym h.closes) in sym (closed_some game q) ∙ ap is_some one.1
 
 -- such a query has no step
 pub crowded_lacks : (taken : ℕ) (game : Tree) (answered left : List Tree) (q : Tree) (need : ℕ) (qs : List Tree) (vs : List Verdict) → IsCrowded taken game (said_of game nothing_said answered) q need → qs ≡ answered ++ q ∷ left → vs ≡ (said_of game nothing_said answered).verdicts ++ map open_verdict (q ∷ left) → list_any (lacks_step game) (zip qs vs) ≡ true

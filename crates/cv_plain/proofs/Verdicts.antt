@@ -55,11 +55,11 @@ open_sound : (game : Tree) (qs : List Tree) → AreSound game qs (map open_verdi
 open_sound game [] = tt
 open_sound game (q ∷ qs) = (λ s e. absurd (cc), open_sound game qs)
 
-pub sound-append : (game : Tree) (a b : List Tree) (vs : List Verdict) → AreSound game a vs → AreSound game (a ++ b) (vs ++ map open_verdict b)
-sound-append game [] b [] h = open_sound game b
-sound-append game [] b (v ∷ vs) h = absurd h
-sound-append game (q ∷ a) b [] h = absurd h
-sound-append game (q ∷ a) b (v ∷ vs) h = (h.0, sound-append game a b vs h.1)
+pub sound_append : (game : Tree) (a b : List Tree) (vs : List Verdict) → AreSound game a vs → AreSound game (a ++ b) (vs ++ map open_verdict b)
+sound_append game [] b [] h = open_sound game b
+sound_append game [] b (v ∷ vs) h = absurd h
+sound_append game (q ∷ a) b [] h = absurd h
+sound_append game (q ∷ a) b (v ∷ vs) h = (h.0, sound_append game a b vs h.1)
 
 -- queries that are all closed, and for which there are steps
 

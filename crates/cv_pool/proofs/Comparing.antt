@@ -15,30 +15,30 @@ same_number m n = nat_eq m.0 n.0
 abbrev pub same_entry : Entry → Entry → Bool
 same_entry c d = same_kind c.kind d.kind && (option_eq same_number c.first d.first && option_eq same_number c.second d.second)
 
-kind-same : (k l : Kind) → same_kind k l ≡ true → k ≡ l
-kind-same k l h =
+kind_same : (k l : Kind) → same_kind k l ≡ true → k ≡ l
+kind_same k l h =
     let p = and_parts (nat_eq k.tag l.tag) _ h in
     let q = and_parts (nat_eq k.a l.a) _ p.1 in
     λ i. record { tag = eqb-true k.tag l.tag p.0 i; a = eqb-true k.a l.a q.0 i; b = eqb-true k.b l.b q.1 i }
 
-same-kind : (k : Kind) → same_kind k k ≡ true
-same-kind k = ap₂ ◌&&◌ (eq-eqb k.tag k.tag refl) (ap₂ ◌&&◌ (eq-eqb k.a k.a refl) (eq-eqb k.b k.b refl))
+same_kind_law : (k : Kind) → same_kind k k ≡ true
+same_kind_law k = ap₂ ◌&&◌ (eq-eqb k.tag k.tag refl) (ap₂ ◌&&◌ (eq-eqb k.a k.a refl) (eq-eqb k.b k.b refl))
 
-child-same : (m n : Option NodeId) → option_eq same_number m n ≡ true → m ≡ n
-child-same None None h = refl
-child-same None (Some n) h = absurd (both_ways _ refl h)
-child-same (Some m) None h = absurd (both_ways _ refl h)
-child-same (Some m) (Some n) h = let e = eqb-true m.0 n.0 h in λ i. Some (record { 0 = e i })
+child_same : (m n : Option NodeId) → option_eq same_number m n ≡ true → m ≡ n
+child_same None None h = refl
+child_same None (Some n) h = absurd (both_ways _ refl h)
+child_same (Some m) None h = absurd (both_ways _ refl h)
+child_same (Some m) (Some n) h = let e = eqb-true m.0 n.0 h in λ i. Some (record { 0 = e i })
 
-same-child : (m : Option NodeId) → option_eq same_number m m ≡ true
-same-child None = refl
-same-child (Some m) = eq-eqb m.0 m.0 refl
+same_child : (m : Option NodeId) → option_eq same_number m m ≡ true
+same_child None = refl
+same_child (Some m) = eq-eqb m.0 m.0 refl
 
-pub entry-same : (c d : Entry) → same_entry c d ≡ true → c ≡ d
-entry-same c d h =
+pub entry_same : (c d : Entry) → same_entry c d ≡ true → c ≡ d
+entry_same c d h =
     let p = and_parts (same_kind c.kind d.kind) _ h in
     let q = and_parts (option_eq same_number c.first d.first) _ p.1 in
-    λ i. record { kind = kind-same c.kind d.kind p.0 i; first = child-same c.first d.first q.0 i; second = child-same c.second d.second q.1 i }
+    λ i. record { kind = kind_same c.kind d.kind p.0 i; first = child_same c.first d.first q.0 i; second = child_same c.second d.second q.1 i }
 
-pub same-entry : (c d : Entry) → c ≡ d → same_entry c d ≡ true
-same-entry c d e = subst (λ x. same_entry c x ≡ true) e (ap₂ ◌&&◌ (same-kind c.kind) (ap₂ ◌&&◌ (same-child c.first) (same-child c.second)))
+pub same_entry_law : (c d : Entry) → c ≡ d → same_entry c d ≡ true
+same_entry_law c d e = subst (λ x. same_entry c x ≡ true) e (ap₂ ◌&&◌ (same_kind_law c.kind) (ap₂ ◌&&◌ (same_child c.first) (same_child c.second)))

@@ -52,16 +52,16 @@ top [] = NoTree
 top (t ∷ ts) = t
 
 -- the steps of a tree make that tree
-pub stacked-steps_of : (t : KindTree) (stack : List KindTree) (rest : Steps) → stacked stack (steps_of t ++ rest) ≡ stacked (t ∷ stack) rest
-stacked-steps_of NoTree stack rest = refl
-stacked-steps_of (Fork k a b) stack rest =
+pub stacked_steps_of : (t : KindTree) (stack : List KindTree) (rest : Steps) → stacked stack (steps_of t ++ rest) ≡ stacked (t ∷ stack) rest
+stacked_steps_of NoTree stack rest = refl
+stacked_steps_of (Fork k a b) stack rest =
     ap (stacked stack) (append_assoc (steps_of a) (steps_of b ++ Some (k.tag, (k.a, k.b)) ∷ []) rest)
-    ∙ (stacked-steps_of a stack ((steps_of b ++ Some (k.tag, (k.a, k.b)) ∷ []) ++ rest)
+    ∙ (stacked_steps_of a stack ((steps_of b ++ Some (k.tag, (k.a, k.b)) ∷ []) ++ rest)
     ∙ (ap (stacked (a ∷ stack)) (append_assoc (steps_of b) (Some (k.tag, (k.a, k.b)) ∷ []) rest)
-    ∙ stacked-steps_of b (a ∷ stack) (Some (k.tag, (k.a, k.b)) ∷ rest)))
+    ∙ stacked_steps_of b (a ∷ stack) (Some (k.tag, (k.a, k.b)) ∷ rest)))
 
 pub steps_back : (t : KindTree) → top (stacked [] (steps_of t ++ [])) ≡ t
-steps_back t = ap top (stacked-steps_of t [] [])
+steps_back t = ap top (stacked_steps_of t [] [])
 
 -- a tree in one code
 abbrev pub coded_tree : Coded KindTree

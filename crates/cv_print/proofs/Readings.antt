@@ -7,7 +7,7 @@ use Rattle.cv_syntax_trees.specs.Tree.{Tree, Empty, Node}
 use Rattle.cv_pool.specs.declared.node.NodeId.{NodeId}
 use Rattle.cv_syntax_trees.specs.declared.head.Head.TheVariants.{Leaf, Read, Apply, Eq, And, Or, Not, Yes, No, Par, Repl, If, Find}
 use Rattle.cv_syntax_trees.specs.Children.{is_empty}
-use Rattle.cv_syntax.proofs.Trees.{tree_of-NoTree}
+use Rattle.cv_syntax.proofs.Trees.{tree_of_NoTree}
 use Rattle.cv_print.specs.Terms.{name_text, binder_text, entry_text, entries_text, term_text, terms_text}
 use Rattle.cv_print.specs.Games.{line, branch_line, step_text, process_text, bodies_text, branches_text, branch_text}
 
@@ -93,10 +93,10 @@ unfolding branch_text
 branch_open names level word (Node h indices (Node i cells (Node j term body))) = refl
 branch_open names level word _ = refl
 
-pub ruleset entry_laws = (entries_open, tree_of-NoTree, append_assoc, append-nil)
+pub ruleset entry_laws = (entries_open, tree_of_NoTree, append_assoc, append-nil)
 
-pub ruleset term_laws = (term_open, terms_open, tree_of-NoTree, append_assoc, append-nil)
+pub ruleset term_laws = (term_open, terms_open, tree_of_NoTree, append_assoc, append-nil)
 
-pub ruleset step_laws = (tree_of-NoTree, append_assoc, append-nil)
+pub ruleset step_laws = (tree_of_NoTree, append_assoc, append-nil)
 
-pub ruleset process_laws = (process_open, bodies_open, branches_open, branch_open, tree_of-NoTree, append_assoc, append-nil)
+pub ruleset process_laws = (process_open, bodies_open, branches_open, branch_open, tree_of_NoTree, append_assoc, append-nil)

@@ -5,7 +5,7 @@ use Rattle.std.proofs.lemmas.List.{append-nil, take_all}
 use Rattle.std.proofs.lemmas.Bool.{le-ltb}
 use Rattle.cv_syntax.specs.declared.decls.Decl.{Decl}
 use Rattle.cv_syntax_trees.specs.Tree.{Tree, depth, size}
-use Rattle.cv_parse_terminals.specs.Signs.{Signed, no_counts, signs_from}
+use Rattle.cv_parse_tables.specs.terminals.Signs.{Signed, no_counts, signs_from}
 use Rattle.cv_parse_notation.specs.declared.sign.Mark.{Mark}
 use Rattle.cv_parse_notation.specs.declared.sign.Mark.TheVariants as mark
 use Rattle.cv_parse_notation.specs.declared.sign.Sign.{Sign}
@@ -24,18 +24,18 @@ use Rattle.cv_parse_grammar.specs.Names.{Uses}
 use Rattle.cv_parse_grammar.specs.Rules.{heads, rule, tails}
 use Rattle.cv_parse_grammar.proofs.Fitting.{all_fit}
 use Rattle.cv_scope_rules.specs.Phrases.{Term}
-use Rattle.cv_print_terminals.specs.Levels.{term_levels}
-use Rattle.cv_print_terminals.specs.Signs.{game_signs, term_signs}
-use Rattle.cv_print_terminals.specs.Told.{game_uses, term_uses}
-use Rattle.cv_print_terminals.specs.Written.{IsWritten, opens}
-use Rattle.cv_print_terminals.proofs.Back.{game_read as signs_are_game, term_back}
+use Rattle.cv_print_bytes.specs.terminals.Levels.{term_levels}
+use Rattle.cv_print_bytes.specs.terminals.Signs.{game_signs, term_signs}
+use Rattle.cv_print_bytes.specs.terminals.Told.{game_uses, term_uses}
+use Rattle.cv_print_bytes.specs.terminals.Written.{IsWritten, opens}
+use Rattle.cv_print_bytes.proofs.terminals.Back.{game_read as signs_are_game, term_back}
 use Rattle.cv_print_bytes.proofs.Read.{game_tokens, term_tokens}
 use Rattle.cv_syntax.specs.declared.work.BuildError.TheVariants.{Depth, Nodes}
 use Rattle.cv_parse.specs.declared.error.ParseError.{ParseError}
 use Rattle.cv_parse.specs.declared.error.ParseError.TheVariants.{Build}
 use Rattle.cv_parse.specs.Weights.{capped}
 use Rattle.cv_parse.specs.Parsed.{sized}
-use Rattle.cv_syntax_limits.specs.Limits.{most_depth, most_nodes}
+use Rattle.cv_syntax.specs.limits.Limits.{most_depth, most_nodes}
 use Rattle.cv_parse.specs.Games.{declared_before, game_of, nodes_of, of_reading, read_process, sized_first, unless}
 use Rattle.cv_parse.specs.Terms.{goes_on, names_by, names_within, of_term, roomed_term, stops, term_of}
 use Rattle.cv_print_back.specs.Texts.{IsGameBack, IsProperGame, IsProperTerm, IsTermBack}

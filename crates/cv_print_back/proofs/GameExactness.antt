@@ -16,12 +16,12 @@ use Rattle.cv_parse_grammar.specs.Names as names
 use Rattle.cv_parse_grammar.specs.Rules.{heads, rule, tails}
 use Rattle.cv_parse_grammar.proofs.Fitting.{all_fit}
 use Rattle.cv_parse_grammar.proofs.Names.{fault_is_first, named_has_none, no_fault}
-use Rattle.cv_parse_depth.proofs.Fitting.{all_firm, process_fine}
-use Rattle.cv_parse_depth.proofs.Laws.{whole_dead, whole_nesting}
+use Rattle.cv_parse_grammar.proofs.depth.Fitting.{all_firm, process_fine}
+use Rattle.cv_parse_grammar.proofs.depth.Laws.{whole_dead, whole_nesting}
 use Rattle.cv_parse.specs.declared.error.ParseError.{ParseError}
 use Rattle.cv_parse.specs.declared.error.ParseError.TheVariants.{Syntax, Nesting, NameTwice, NameUnknown, Build}
 use Rattle.cv_parse.specs.Parsed.{sized}
-use Rattle.cv_syntax_limits.specs.Limits.{most_depth, most_nodes}
+use Rattle.cv_syntax.specs.limits.Limits.{most_depth, most_nodes}
 use Rattle.cv_parse.specs.Weights.{capped}
 use Rattle.cv_parse.specs.Games.{declared_before, game_of, nodes_of, of_reading, process, read_process, sized_first, unless}
 use Rattle.cv_print_back.specs.GameSays.{HasDepth, HasNodes, IsDeadGame, IsGameText, IsLargeGame, IsMisnamedGame, IsNamedGame, IsNestedGame, SaysGame, Takes}

@@ -17,9 +17,9 @@ use Rattle.cv_parse_grammar.specs.Phrases as sort
 use Rattle.cv_parse_grammar.specs.Rules.{heads, rule, tails}
 use Rattle.cv_parse_grammar.specs.Terms.{term}
 use Rattle.cv_parse_grammar.proofs.Fitting.{all_fit}
-use Rattle.cv_parse_depth.specs.Before.{reads_before}
-use Rattle.cv_parse_depth.proofs.Fitting.{all_firm, term_fine}
-use Rattle.cv_parse_depth.proofs.Laws.{before_dead, before_nesting}
+use Rattle.cv_parse_grammar.specs.depth.Before.{reads_before}
+use Rattle.cv_parse_grammar.proofs.depth.Fitting.{all_firm, term_fine}
+use Rattle.cv_parse_grammar.proofs.depth.Laws.{before_dead, before_nesting}
 use Rattle.cv_parse.specs.declared.error.ParseError.{ParseError}
 use Rattle.cv_parse.specs.declared.error.ParseError.TheVariants.{Build, Nesting, NameTwice, NameUnknown, Syntax}
 use Rattle.cv_parse.specs.Games.{nodes_of}

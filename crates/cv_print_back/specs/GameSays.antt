@@ -9,10 +9,10 @@ use Rattle.cv_parse_grammar.specs.Files.{levels}
 use Rattle.cv_parse_grammar.specs.Names.{AreNamed, IsNameFault, NameFault, Uses}
 use Rattle.cv_parse_grammar.specs.Rules.{heads, rule}
 use Rattle.cv_parse_grammar.specs.Terms.{term}
-use Rattle.cv_parse_depth.specs.Before.{IsBefore}
-use Rattle.cv_parse_depth.specs.Depth.{IsTooDeep}
-use Rattle.cv_parse_depth.specs.Files.{most_levels}
-use Rattle.cv_syntax_limits.specs.Limits.{most_depth, most_nodes}
+use Rattle.cv_parse_grammar.specs.depth.Before.{IsBefore}
+use Rattle.cv_parse_grammar.specs.depth.Depth.{IsTooDeep}
+use Rattle.cv_parse_grammar.specs.depth.Files.{most_levels}
+use Rattle.cv_syntax.specs.limits.Limits.{most_depth, most_nodes}
 use Rattle.cv_parse.specs.Weights.{capped}
 use Rattle.cv_parse.specs.Games.{declared_before, nodes_of, process}
 use Rattle.cv_parse.specs.Terms.{goes_on}

@@ -1,2 +1,3 @@
 pub mod GameSays
 pub mod Texts
+pub mod files

@@ -3,7 +3,7 @@ use Rattle.std.specs.Prelude.{◌≡◌, ℕ, ◌+◌, ◌≤◌, true, List, []
 use Rattle.cv_lex.specs.Lexis.{Token, tokens_of}
 use Rattle.cv_syntax.specs.declared.decls.Decl.{Decl}
 use Rattle.cv_syntax_trees.specs.Tree.{Tree, depth, size}
-use Rattle.cv_parse_terminals.specs.Signs.{no_counts, signs_from}
+use Rattle.cv_parse_tables.specs.terminals.Signs.{no_counts, signs_from}
 use Rattle.cv_parse_grammar.specs.declared.role.Region.TheVariants.{InProcess}
 use Rattle.cv_parse_grammar.specs.declared.role.Role.TheVariants.{Enters, Leaves}
 use Rattle.cv_parse_grammar.specs.Files.{levels}
@@ -11,12 +11,12 @@ use Rattle.cv_parse_grammar.specs.Names.{Uses, name_fault}
 use Rattle.cv_scope_rules.specs.Phrases.{Inputs, Term}
 use Rattle.cv_print.specs.Games.{game_text}
 use Rattle.cv_print.specs.Terms.{term_text}
-use Rattle.cv_print_terminals.specs.Levels.{levels_of, term_levels}
-use Rattle.cv_print_terminals.specs.Signs.{game_signs, term_signs}
-use Rattle.cv_print_terminals.specs.Told.{game_uses}
-use Rattle.cv_print_terminals.specs.Written.{IsWritten}
+use Rattle.cv_print_bytes.specs.terminals.Levels.{levels_of, term_levels}
+use Rattle.cv_print_bytes.specs.terminals.Signs.{game_signs, term_signs}
+use Rattle.cv_print_bytes.specs.terminals.Told.{game_uses}
+use Rattle.cv_print_bytes.specs.terminals.Written.{IsWritten}
 use Rattle.cv_print_bytes.specs.Known.{AreNames, is_named}
-use Rattle.cv_syntax_limits.specs.Limits.{most_depth, most_nodes}
+use Rattle.cv_syntax.specs.limits.Limits.{most_depth, most_nodes}
 use Rattle.cv_parse.specs.Games.{declared_before, game_read, nodes_of}
 use Rattle.cv_parse.specs.Terms.{names_behind, term_read}
 

@@ -15,6 +15,7 @@ use Rattle.cv_lex.specs.declared.scan.Piece.{Piece}
 use Rattle.cv_lex.specs.declared.scan.Piece.TheVariants.{Between, Lexeme, WideNumber}
 use Rattle.cv_lex.specs.Lexis.{is_blank, is_inner, has_front, symbols, longest, value_of, comment_end, opens_comment, a_comment, a_number, a_symbol, piece, IsToken}
 use Rattle.cv_print_bytes.proofs.Fronts.{is_apart}
+use Rattle.cv_lex.proofs.Pieces.{comment_no_lexeme}
 
 -- runs of bytes
 
@@ -62,10 +63,6 @@ as_told t c l d b bs blank comment letter digit = λ i. told (blank i) (comment 
 
 -- identifiers
 
-comment_no_token : (o : Option ℕ) (kind : TokenKind) (n : ℕ) → a_comment o ≡ Lexeme kind n → ⊥
-comment_no_token None kind n e = cc
-comment_no_token (Some m) kind n e = cc
-
 number_no_ident : (m v n : ℕ) → a_number m v ≡ Lexeme Ident n → ⊥
 number_no_ident m v n = cond_both (nat_lt v (2 ^ 64)) (Lexeme (Number v) m) WideNumber (λ p. p ≡ Lexeme Ident n → ⊥) (λ _ e. cc) (λ _ e. cc)
 
@@ -80,7 +77,7 @@ record IsWord (t l : Bool) (bs : List ℕ) (n : ℕ) : Type 0 where
 
 word_parts : (t c l d : Bool) (bs : List ℕ) (n : ℕ) → told t c l d bs ≡ Lexeme Ident n → IsWord t l bs n
 word_parts true c l d bs n e = absurd (cc)
-word_parts false true l d bs n e = absurd (comment_no_token (comment_end 0 2 (drop 2 bs)) Ident n e)
+word_parts false true l d bs n e = absurd (comment_no_lexeme (comment_end 0 2 (drop 2 bs)) Ident n e)
 word_parts false false true d bs n e = record { blank = refl; letter = refl; run = cc }
 word_parts false false false true bs n e = absurd (number_no_ident (prefix_len is_ascii_digit bs) (value_of (take (prefix_len is_ascii_digit bs) bs)) n e)
 word_parts false false false false bs n e = absurd (symbol_no_ident (longest symbols bs) n e)
@@ -176,7 +173,7 @@ symbol_is (suc m) n e = cc
 
 longest_is : (t c l d : Bool) (bs : List ℕ) (n : ℕ) → told t c l d bs ≡ Lexeme Symbol n → longest symbols bs ≡ n
 longest_is true c l d bs n e = absurd (cc)
-longest_is false true l d bs n e = absurd (comment_no_token (comment_end 0 2 (drop 2 bs)) Symbol n e)
+longest_is false true l d bs n e = absurd (comment_no_lexeme (comment_end 0 2 (drop 2 bs)) Symbol n e)
 longest_is false false true d bs n e = absurd (cc)
 longest_is false false false true bs n e = absurd (number_no_symbol (prefix_len is_ascii_digit bs) (value_of (take (prefix_len is_ascii_digit bs) bs)) n e)
 longest_is false false false false bs n e = symbol_is (longest symbols bs) n e

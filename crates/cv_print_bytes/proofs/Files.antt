@@ -12,14 +12,14 @@ use Rattle.cv_lex.specs.View.{AreTokens}
 use Rattle.cv_parse_notation.specs.declared.sign.Mark.{Mark}
 use Rattle.cv_parse_notation.specs.declared.sign.Mark.TheVariants as mark
 use Rattle.cv_names.specs.Texts.{NoRepeat}
-use Rattle.cv_parse_terminals.specs.ScriptSigns.{between, script_signs}
-use Rattle.cv_parse_spelling.specs.Spelling.{spelling, mark_of_text}
-use Rattle.cv_parse_terminals.specs.Signs.{Step, no_counts, with_name, is_unnamed, word_step, text_step, token_step, unnamed_step, step_before, unnamed_name, first_text, signs_from, signs_of}
-use Rattle.cv_parse_terminals.specs.Braces.{file_tokens}
-use Rattle.cv_parse_terminals.proofs.FileTokens.{are_read}
-use Rattle.cv_parse_terminals.proofs.Naming.{text_test, with_name-from}
-use Rattle.cv_parse_spelling.proofs.Table.{found}
-use Rattle.cv_parse_terminals.proofs.Telling.{grown}
+use Rattle.cv_parse_tables.specs.terminals.ScriptSigns.{between, script_signs}
+use Rattle.cv_parse_tables.specs.spelling.Spelling.{spelling, mark_of_text}
+use Rattle.cv_parse_tables.specs.terminals.Signs.{Step, no_counts, with_name, is_unnamed, word_step, text_step, token_step, unnamed_step, step_before, unnamed_name, first_text, signs_from, signs_of}
+use Rattle.cv_parse_tables.specs.terminals.Braces.{file_tokens}
+use Rattle.cv_parse_tables.proofs.terminals.FileTokens.{are_read}
+use Rattle.cv_parse_tables.proofs.terminals.Naming.{text_test, with_name_from}
+use Rattle.cv_parse_tables.proofs.spelling.Table.{found}
+use Rattle.cv_parse_tables.proofs.terminals.Telling.{grown}
 use Rattle.cv_print_bytes.specs.Known.{AreNames, IsName}
 use Rattle.cv_print_bytes.proofs.Bytes.{collision_token, symbol_length}
 
@@ -74,7 +74,7 @@ Proper names = (x : ℕ) (text : List ℕ) → slice_get names x ≡ Some text �
 
 proper_more : (names : List (List ℕ)) (text : List ℕ) → IsName text → Proper names → Proper (with_name names text)
 proper_more names text is p x t h =
-    elim (with_name-from names text x t h) [
+    elim (with_name_from names text x t h) [
       | inl old ↦ p x t old
       | inr new ↦ inr (subst IsName (sym new.1) is)
     ]

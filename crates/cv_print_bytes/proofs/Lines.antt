@@ -5,7 +5,7 @@ use Rattle.cv_parse_notation.specs.declared.sign.Mark.TheVariants as mark
 use Rattle.cv_parse_notation.specs.declared.sign.Sign.{Sign}
 use Rattle.cv_print.specs.Games.{line}
 use Rattle.cv_print.specs.Terms.{binder_text, entry_text, entries_text}
-use Rattle.cv_print_terminals.specs.Signs.{one, binder_signs, entry_signs, entries_signs, unless_empty}
+use Rattle.cv_print_bytes.specs.terminals.Signs.{one, binder_signs, entry_signs, entries_signs, unless_empty}
 use Rattle.cv_syntax_trees.specs.Tree.{Tree, Empty, Node}
 use Rattle.cv_syntax_trees.specs.declared.head.Head.{Head}
 use Rattle.cv_syntax_trees.specs.declared.head.Head.TheVariants.{Binder, Name}

@@ -3,7 +3,7 @@ use Rattle.std.proofs.Common.{ℕ, Bool, true, false, List, [], ◌∷◌, ◌++
 use Rattle.cv_lex.specs.declared.TokenKind.TheVariants as kind
 use Rattle.cv_parse_notation.specs.declared.sign.Mark.TheVariants as mark
 use Rattle.cv_parse_notation.specs.declared.sign.Sign.TheVariants as sign
-use Rattle.cv_print_terminals.specs.Signs.{one}
+use Rattle.cv_print_bytes.specs.terminals.Signs.{one}
 use Rattle.cv_print_bytes.proofs.Fronts.{begins, Front, first, ◌and◌, ◌last◌}
 use Rattle.cv_print_bytes.proofs.Shown.{shows_blank, shows_token}
 use Rattle.cv_print_bytes.proofs.Tokens.{symbol, symbol_means, word, space, opening, closing, find_word}

@@ -3,7 +3,7 @@ use Rattle.std.proofs.Common.{◌≡◌, ℕ, ◌+◌, ◌^◌, nat_lt, true, fa
 use Rattle.cv_parse_notation.specs.declared.sign.Mark.TheVariants as mark
 use Rattle.cv_parse_notation.specs.declared.sign.Sign.{Sign}
 use Rattle.cv_print.specs.Games.{channel_text, arguments_text, indices_text, cells_text, step_text, branch_line, process_text, bodies_text, branches_text, branch_text}
-use Rattle.cv_print_terminals.specs.Signs.{one, entries_signs, channel_signs, arguments_signs, cells_signs, step_signs, guard_signs, find_signs, process_signs, bodies_signs, branches_signs, branch_signs}
+use Rattle.cv_print_bytes.specs.terminals.Signs.{one, entries_signs, channel_signs, arguments_signs, cells_signs, step_signs, guard_signs, find_signs, process_signs, bodies_signs, branches_signs, branch_signs}
 use Rattle.cv_syntax_trees.specs.Tree.{Tree, Empty, Node, first as first_of, second as second_of}
 use Rattle.cv_syntax_trees.specs.declared.head.Head.{Head}
 use Rattle.cv_syntax_trees.specs.declared.head.Head.TheVariants.{Stop, Yield, Par, Repl, In, Out, Event, New, Let, If, Find}

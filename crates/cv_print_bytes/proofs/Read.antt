@@ -5,17 +5,17 @@ use Rattle.cv_lex.specs.declared.LexError.{LexError}
 use Rattle.cv_lex.specs.Lexis.{Token, tokens_of}
 use Rattle.cv_lex.proofs.Exact.{said}
 use Rattle.cv_parse_notation.specs.declared.sign.Sign.{Sign}
-use Rattle.cv_parse_terminals.specs.Signs.{no_counts, signs_from}
+use Rattle.cv_parse_tables.specs.terminals.Signs.{no_counts, signs_from}
 use Rattle.cv_parse_grammar.specs.Phrases as sort
 use Rattle.cv_scope_rules.specs.Phrases.{Inputs, Term, is_phrase}
 use Rattle.cv_print.specs.Games.{game_text}
 use Rattle.cv_print.specs.Terms.{term_text}
-use Rattle.cv_print_terminals.specs.Levels.{levels_of, term_levels}
-use Rattle.cv_print_terminals.specs.Signs.{numbered, term_signs, game_signs}
-use Rattle.cv_print_terminals.specs.Told.{game_uses, term_uses}
-use Rattle.cv_print_terminals.specs.Written.{IsWritten}
-use Rattle.cv_print_terminals.proofs.Back.{term_read, game_read, same_term, same_game}
-use Rattle.cv_print_terminals.proofs.Plain.{of_term as plain}
+use Rattle.cv_print_bytes.specs.terminals.Levels.{levels_of, term_levels}
+use Rattle.cv_print_bytes.specs.terminals.Signs.{numbered, term_signs, game_signs}
+use Rattle.cv_print_bytes.specs.terminals.Told.{game_uses, term_uses}
+use Rattle.cv_print_bytes.specs.terminals.Written.{IsWritten}
+use Rattle.cv_print_bytes.proofs.terminals.Back.{term_read, game_read, same_term, same_game}
+use Rattle.cv_print_bytes.proofs.terminals.Plain.{of_term as plain}
 use Rattle.cv_syntax_trees.specs.Tree.{Tree}
 use Rattle.cv_print_bytes.specs.Known.{AreNames, is_named}
 use Rattle.cv_print_bytes.specs.Texts.{HasSigns, IsReadAs}

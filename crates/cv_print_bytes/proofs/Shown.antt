@@ -7,8 +7,8 @@ use Rattle.cv_lex.specs.declared.scan.Piece.TheVariants.{Nothing, Between, Lexem
 use Rattle.cv_lex.specs.Lexis.{Token, Lexed, ends, between, token, has_front, piece, end_token}
 use Rattle.cv_parse_notation.specs.declared.sign.Sign.{Sign}
 use Rattle.cv_parse_notation.specs.declared.sign.Sign.TheVariants as sign
-use Rattle.cv_parse_terminals.specs.Signs.{one_find, join, go_on, step_before, first_text, signs_from}
-use Rattle.cv_print_terminals.specs.Signs.{numbered}
+use Rattle.cv_parse_tables.specs.terminals.Signs.{one_find, join, go_on, step_before, first_text, signs_from}
+use Rattle.cv_print_bytes.specs.terminals.Signs.{numbered}
 
 -- at any offset, and however many words are counted before, the text has these signs, and no name is new
 pub record Shows (names : List (List ℕ)) (text : List ℕ) (ss : List Sign) : Type 0 where
@@ -66,7 +66,7 @@ shows_token names kind w text s ss e m v = record {
 
 -- no such text begins with '*'
 
-star_is_none : (k : ℕ) (bs : List ℕ) (ts : List Token) → Lexed k (42 ∷ bs) (Ok ts) → ⊥
+pub star_is_none : (k : ℕ) (bs : List ℕ) (ts : List Token) → Lexed k (42 ∷ bs) (Ok ts) → ⊥
 star_is_none k bs ts (ends e) = let no : ForeignByte ≡ Nothing = e in cc
 star_is_none k bs ts (between n e d) = let no : ForeignByte ≡ Between n = e in cc
 star_is_none k bs ts (token kind n e d) = let no : ForeignByte ≡ Lexeme kind n = e in cc

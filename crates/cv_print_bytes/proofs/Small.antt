@@ -5,10 +5,10 @@ use Rattle.std.specs.Fmt.{digits}
 use Rattle.cv_scope_rules.specs.Phrases.{Inputs, is_phrase}
 use Rattle.cv_print.specs.Games.{game_text, process_text}
 use Rattle.cv_print.specs.Terms.{entries_text, term_text}
-use Rattle.cv_print_terminals.specs.Signs.{entries_signs, game_signs, numbered, process_signs, term_signs}
-use Rattle.cv_print_terminals.specs.Worked.{small, small_signs}
-use Rattle.cv_parse_terminals.specs.Signs.{place_of}
-use Rattle.cv_parse_spelling.specs.Spelling.{mark_of_text}
+use Rattle.cv_print_bytes.specs.terminals.Signs.{entries_signs, game_signs, numbered, process_signs, term_signs}
+use Rattle.cv_print_bytes.specs.terminals.Worked.{small, small_signs}
+use Rattle.cv_parse_tables.specs.terminals.Signs.{place_of}
+use Rattle.cv_parse_tables.specs.spelling.Spelling.{mark_of_text}
 use Rattle.cv_print_bytes.specs.Known.{AreNames, IsName, is_named}
 use Rattle.cv_print_bytes.specs.Texts.{HasSigns}
 use Rattle.cv_print_bytes.specs.Worked.{small_names, small_text}

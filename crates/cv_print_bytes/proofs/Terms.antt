@@ -3,7 +3,7 @@ use Rattle.std.proofs.Common.{◌≡◌, ℕ, Bool, true, false, List, length, r
 use Rattle.cv_parse_notation.specs.declared.sign.Mark.TheVariants as mark
 use Rattle.cv_parse_notation.specs.declared.sign.Sign.{Sign}
 use Rattle.cv_print.specs.Terms.{term_text, terms_text}
-use Rattle.cv_print_terminals.specs.Signs.{term_signs, terms_signs}
+use Rattle.cv_print_bytes.specs.terminals.Signs.{term_signs, terms_signs}
 use Rattle.cv_syntax_trees.specs.Tree.{Tree, Empty, Node}
 use Rattle.cv_syntax_trees.specs.declared.head.Head.TheVariants.{Leaf, Read, Apply, Eq, And, Or, Not, Yes, No}
 use Rattle.cv_print_bytes.specs.Known.{AreNames, is_named}

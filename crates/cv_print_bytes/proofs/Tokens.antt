@@ -17,11 +17,11 @@ use Rattle.cv_parse_notation.specs.declared.sign.Mark.{Mark}
 use Rattle.cv_parse_notation.specs.declared.sign.Mark.TheVariants as mark
 use Rattle.cv_parse_notation.specs.declared.sign.Sign.TheVariants as sign
 use Rattle.cv_print.specs.Terms.{name_text}
-use Rattle.cv_parse_terminals.specs.Signs.{place_of, with_name, step_before, token_step, text_step, word_step, unnamed_step, one_find}
-use Rattle.cv_parse_spelling.specs.Spelling.{spelling, mark_of_text}
-use Rattle.cv_parse_terminals.proofs.Naming.{only_place, with_name-old}
-use Rattle.cv_parse_spelling.proofs.Table.{found, find_is_none}
-use Rattle.cv_print_terminals.specs.Signs.{name_sign, named, one}
+use Rattle.cv_parse_tables.specs.terminals.Signs.{place_of, with_name, step_before, token_step, text_step, word_step, unnamed_step, one_find}
+use Rattle.cv_parse_tables.specs.spelling.Spelling.{spelling, mark_of_text}
+use Rattle.cv_parse_tables.proofs.terminals.Naming.{only_place, with_name_old}
+use Rattle.cv_parse_tables.proofs.spelling.Table.{found, find_is_none}
+use Rattle.cv_print_bytes.specs.terminals.Signs.{name_sign, named, one}
 use Rattle.cv_print_bytes.specs.Known.{AreNames, IsName}
 use Rattle.cv_print_bytes.proofs.Bytes.{word_before, decimal_before, number_before}
 use Rattle.cv_print_bytes.proofs.Fronts.{is_apart, begins, Front}
@@ -30,7 +30,7 @@ use Rattle.cv_print_bytes.proofs.Shown.{Means, shows_blank, shows_token, no_star
 -- what a token means
 
 -- a word that is no collision means the same before any other
-before_any : (names : List (List ℕ)) (k : TokenKind) (w : List ℕ) (next : List ℕ) (counts : _) → bytes_eq w (codes "collision") ≡ false → step_before names counts k w next ≡ token_step names counts k w
+pub before_any : (names : List (List ℕ)) (k : TokenKind) (w : List ℕ) (next : List ℕ) (counts : _) → bytes_eq w (codes "collision") ≡ false → step_before names counts k w next ≡ token_step names counts k w
 before_any names k w next counts e = ap (λ x. if x && bytes_eq next (codes "new") then unnamed_step names counts else token_step names counts k w) e
 
 word_means : (names : List (List ℕ)) (m : Mark) → bytes_eq (spelling m) (codes "collision") ≡ false → Means names kind.Ident (spelling m) (sign.Mark m)
@@ -45,7 +45,7 @@ number_means names v w e = record { step = λ counts next. before_any names (kin
 find_means : (names : List (List ℕ)) → Means names kind.Ident (codes "find") (sign.Find 0)
 find_means names = record { step = λ counts next. ap (text_step names counts (codes "find")) find_is_none }
 
-differs : (a b : List ℕ) → a ≢ b → bytes_eq a b ≡ false
+pub differs : (a b : List ℕ) → a ≢ b → bytes_eq a b ≡ false
 differs a b n = false_from_ne_true (bytes_eq a b) (λ t. n ((bytes_eq-Decides a b).0 t))
 
 known_word : (names : List (List ℕ)) (counts : _) (text : List ℕ) (n : ℕ) → bytes_eq text (codes "find") ≡ false → n ≡ place_of names text → with_name names text ≡ names → word_step names counts text ≡ record { signs = sign.Word n Plain ∷ []; names = names; counts = counts }
@@ -61,7 +61,7 @@ name_means names are (suc x) text h =
     let is : IsName text = are.each x text h in
     let no_collision : text ≢ codes "collision" = λ e. let m : mark_of_text text ≡ Some mark.Collision = ap mark_of_text e ∙ found mark.Collision in cc (m, is.no_mark) in
     let place : suc x ≡ place_of names text = only_place names text (suc x) h (λ p e. are.apart (suc x) p text h e) in
-    let old : with_name names text ≡ names = with_name-old names text (suc x) h in
+    let old : with_name names text ≡ names = with_name_old names text (suc x) h in
     record { step = λ counts next. before_any names kind.Ident text next counts (differs text (codes "collision") no_collision) ∙ (ap (text_step names counts text) is.no_mark ∙ known_word names counts text (suc x) (differs text (codes "find") is.not_find) place old) }
 
 name_token : (names : List (List ℕ)) → AreNames names → (x : ℕ) (text : List ℕ) → slice_get names x ≡ Some text → IsToken kind.Ident text
@@ -72,9 +72,6 @@ name_token names are (suc x) text h = (are.each x text h).token
 
 pub space : {names : List (List ℕ)} {p q : Bool} → Front names p q (codes " ") []
 space {names = names} {p = p} = record { goes = λ rest more h w. (begins p (32 ∷ rest) refl, shows_blank names 32 rest more refl w) }
-
-pub newline : {names : List (List ℕ)} {p q : Bool} → Front names p q (codes "\n") []
-newline {names = names} {p = p} = record { goes = λ rest more h w. (begins p (10 ∷ rest) refl, shows_blank names 10 rest more refl w) }
 
 pub symbol : {names : List (List ℕ)} {p q : Bool} (m : Mark) → ((rest : List ℕ) → piece (spelling m ++ rest) ≡ Lexeme kind.Symbol (length (spelling m))) → ((rest : List ℕ) → is_apart (spelling m ++ rest) ≡ true) → bytes_eq (spelling m) (codes "collision") ≡ false → Front names p q (spelling m) (one m)
 symbol {names = names} {p = p} m is apart other = record {
@@ -91,7 +88,7 @@ find_word {names = names} = record {
   goes = λ rest more h w. (tt, shows_token names kind.Ident (codes "find") rest (sign.Find 0) more (word_before (codes "find") rest refl h) (find_means names) w);
 }
 
-open_piece : (rest : List ℕ) → has_front (codes "*") rest ≡ false → piece (40 ∷ rest) ≡ Lexeme kind.Symbol 1
+pub open_piece : (rest : List ℕ) → has_front (codes "*") rest ≡ false → piece (40 ∷ rest) ≡ Lexeme kind.Symbol 1
 open_piece rest e = ap (λ c. if c then a_comment (comment_end 0 2 (drop 2 (40 ∷ rest))) else a_symbol (longest symbols (40 ∷ rest))) e
 
 pub opening : {names : List (List ℕ)} {p q : Bool} → Front names p q (codes "(") (one mark.Open)
@@ -105,7 +102,7 @@ name {names = names} are x known =
     let is : slice_get names x ≡ Some (name_text names x) = there ∙ ap Some (sym (ap (λ o. unwrap_or o []) there)) in
     record { goes = λ rest more h w. (tt, shows_token names kind.Ident (name_text names x) rest (name_sign x) more (word_before (name_text names x) rest (name_token names are x (name_text names x) is) h) (name_means names are x (name_text names x) is) w) }
 
-no_word : (v : ℕ) → v < 2 ^ 64 → decimal v ≢ codes "collision"
+pub no_word : (v : ℕ) → v < 2 ^ 64 → decimal v ≢ codes "collision"
 no_word v small e = omega (arith, digit_from_value 99 (subst (AllDigits 10) e (decimal_is_IsNumeral v small).0.1).0)
 
 pub number : {names : List (List ℕ)} (v : ℕ) → nat_lt v (2 ^ 64) ≡ true → Front names false true (decimal v) (sign.Number v ∷ [])

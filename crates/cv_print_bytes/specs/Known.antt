@@ -3,7 +3,7 @@ use Rattle.std.specs.Prelude.{◌≡◌, ◌≢◌, ℕ, suc, ◌^◌, Bool, tru
 use Rattle.cv_lex.specs.declared.TokenKind.TheVariants.{Ident}
 use Rattle.cv_lex.specs.Lexis.{IsToken}
 use Rattle.cv_names.specs.Texts.{NoRepeat}
-use Rattle.cv_parse_spelling.specs.Spelling.{mark_of_text}
+use Rattle.cv_parse_tables.specs.spelling.Spelling.{mark_of_text}
 use Rattle.cv_syntax_trees.specs.Tree.{Tree, Empty, Node}
 use Rattle.cv_syntax_trees.specs.declared.head.Head.{Head}
 use Rattle.cv_syntax_trees.specs.declared.head.Head.TheVariants.{Repl, In, Out, Event, New, Let, Find, Leaf, Read, Apply, Binder, Name}

@@ -1,7 +1,7 @@
 -- The signs of a text, and what is read from it, by names that are known before. This profile's own.
 use Rattle.std.specs.Prelude.{◌≡◌, ℕ, List, [], Ok}
 use Rattle.cv_lex.specs.Lexis.{Token, tokens_of}
-use Rattle.cv_parse_terminals.specs.Signs.{no_counts, signs_from}
+use Rattle.cv_parse_tables.specs.terminals.Signs.{no_counts, signs_from}
 use Rattle.cv_parse_notation.specs.declared.sign.Sign.{Sign}
 use Rattle.cv_parse_notation.specs.Reads.{found, read_sort}
 use Rattle.cv_parse_grammar.specs.Names.{Uses}

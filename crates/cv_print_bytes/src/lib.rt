@@ -1,21 +1,24 @@
 // The tokens of the text of a game are its signs, and so the text is read back as the game.
 #![tactic(auto)]
 
+pub mod numbers;
+pub mod terminals;
+
 ghost use Rattle.std.specs.Prelude.{◌≡◌, ◌≤◌, ℕ, suc, true, List, length};
 ghost use Rattle.cv_syntax_trees.specs.Tree.{Tree};
 ghost use Rattle.cv_lex.specs.Lexis.{Token};
 ghost use Rattle.cv_lex.specs.View.{AreTokens};
-ghost use Rattle.cv_parse_terminals.specs.ScriptSigns.{between, script_signs};
-ghost use Rattle.cv_parse_terminals.specs.Signs.{signs_of};
+ghost use Rattle.cv_parse_tables.specs.terminals.ScriptSigns.{between, script_signs};
+ghost use Rattle.cv_parse_tables.specs.terminals.Signs.{signs_of};
 ghost use Rattle.cv_parse_grammar.specs.Phrases.{Inputs as InputsRow, Term as TermRow};
 ghost use Rattle.cv_scope_rules.specs.Phrases.{Inputs, Term, is_phrase};
 ghost use Rattle.cv_print.specs.Games.{game_text};
 ghost use Rattle.cv_print.specs.Terms.{term_text};
-ghost use Rattle.cv_print_terminals.specs.Levels.{levels_of, term_levels};
-ghost use Rattle.cv_print_terminals.specs.Signs.{game_signs, term_signs};
-ghost use Rattle.cv_print_terminals.specs.Told.{game_uses, term_uses};
-ghost use Rattle.cv_print_terminals.specs.Worked.{small, small_signs};
-ghost use Rattle.cv_print_terminals.specs.Written.{IsWritten};
+ghost use Rattle.cv_print_bytes.specs.terminals.Levels.{levels_of, term_levels};
+ghost use Rattle.cv_print_bytes.specs.terminals.Signs.{game_signs, term_signs};
+ghost use Rattle.cv_print_bytes.specs.terminals.Told.{game_uses, term_uses};
+ghost use Rattle.cv_print_bytes.specs.terminals.Worked.{small, small_signs};
+ghost use Rattle.cv_print_bytes.specs.terminals.Written.{IsWritten};
 ghost use Rattle.cv_print_bytes.specs.Known.{AreNames, is_named};
 ghost use Rattle.cv_print_bytes.specs.Texts.{HasSigns, IsReadAs};
 ghost use Rattle.cv_print_bytes.specs.Worked.{small_names, small_text};

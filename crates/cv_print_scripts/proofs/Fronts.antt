@@ -3,7 +3,7 @@ use Rattle.std.proofs.Common.{◌≡◌, ℕ, Bool, true, false, ◌&&◌, ◌||
 use Rattle.std.specs.Prelude.{⊤}
 use Rattle.std.proofs.lemmas.List.{append-nil, map-append}
 use Rattle.cv_parse_notation.specs.declared.sign.Sign.{Sign}
-use Rattle.cv_print_steps.specs.Shown.{spoken}
+use Rattle.cv_print_scripts.specs.steps.Shown.{spoken}
 use Rattle.cv_print_scripts.specs.Parted.{is_apart}
 use Rattle.cv_print_scripts.specs.Texts.{words_among}
 use Rattle.cv_print_scripts.proofs.Tokens.{Reads}

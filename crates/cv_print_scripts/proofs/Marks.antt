@@ -17,33 +17,24 @@ use Rattle.cv_parse_notation.specs.declared.script.ScriptWord.TheVariants as scr
 use Rattle.cv_parse_notation.specs.declared.sign.Mark.{Mark}
 use Rattle.cv_parse_notation.specs.declared.sign.Mark.TheVariants as mark
 use Rattle.cv_parse_notation.specs.declared.sign.Sign.TheVariants as sign
-use Rattle.cv_parse_spelling.specs.ScriptSpelling.{word_of_text, word_spelling}
-use Rattle.cv_parse_terminals.specs.Signs.{place_of, with_name, step_before, token_step, text_step, unnamed_step, one_find}
-use Rattle.cv_parse_spelling.specs.Spelling.{spelling, mark_of_text}
-use Rattle.cv_parse_terminals.proofs.Naming.{only_place, with_name-apart, with_name-has, with_name-keeps, with_name-old}
-use Rattle.cv_parse_spelling.proofs.ScriptTable.{found as found_word}
-use Rattle.cv_parse_spelling.proofs.Table.{found}
-use Rattle.cv_parse_terminals.proofs.Telling.{IsGrown}
+use Rattle.cv_parse_tables.specs.spelling.ScriptSpelling.{word_of_text, word_spelling}
+use Rattle.cv_parse_tables.specs.terminals.Signs.{place_of, with_name, step_before, token_step, text_step, unnamed_step, one_find}
+use Rattle.cv_parse_tables.specs.spelling.Spelling.{spelling, mark_of_text}
+use Rattle.cv_parse_tables.proofs.terminals.Naming.{only_place, with_name_apart, with_name_has, with_name_keeps, with_name_old}
+use Rattle.cv_parse_tables.proofs.spelling.ScriptTable.{found as found_word}
+use Rattle.cv_parse_tables.proofs.spelling.Table.{found}
+use Rattle.cv_parse_tables.proofs.terminals.Telling.{IsGrown, grown_same}
 use Rattle.cv_print.specs.Terms.{name_text}
-use Rattle.cv_print_terminals.specs.Signs.{name_sign, named}
+use Rattle.cv_print_bytes.specs.terminals.Signs.{name_sign, named}
 use Rattle.cv_print_bytes.specs.Known.{AreNames, IsName}
 use Rattle.cv_print_bytes.proofs.Bytes.{word_before, decimal_before}
-use Rattle.cv_print_steps.specs.Shown.{spoken}
+use Rattle.cv_print_scripts.specs.steps.Shown.{spoken}
 use Rattle.cv_print_scripts.specs.Parted.{has_text, is_apart, is_open, is_sure, is_sure_alone}
 use Rattle.cv_print_scripts.specs.Texts.{with_all_words, words_among}
 use Rattle.cv_print_scripts.proofs.Fronts.{Begins, Front, begins_so, say, weaker}
 use Rattle.cv_print_scripts.proofs.Tokens.{Means, Reads, Steps, no_star, reads_blank, reads_token}
 use Rattle.cv_print_scripts.proofs.Words.{get_front, place_front}
-
-grown_same : (names : List (List ℕ)) → IsGrown names names
-grown_same names = record { keeps = λ n text h. h; apart = λ u. u }
-
--- a word that is no collision means the same before any other
-before_any : (names : List (List ℕ)) (k : TokenKind) (w : List ℕ) (next : List ℕ) (counts : _) → bytes_eq w (codes "collision") ≡ false → step_before names counts k w next ≡ token_step names counts k w
-before_any names k w next counts e = ap (λ x. if x && bytes_eq next (codes "new") then unnamed_step names counts else token_step names counts k w) e
-
-differs : (a b : List ℕ) → a ≢ b → bytes_eq a b ≡ false
-differs a b n = false_from_ne_true (bytes_eq a b) (λ t. n ((bytes_eq-Decides a b).0 t))
+use Rattle.cv_print_bytes.proofs.Tokens.{before_any, differs, open_piece, no_word}
 
 word_means : {names behind : List (List ℕ)} (m : Mark) → bytes_eq (spelling m) (codes "collision") ≡ false → Means names behind kind.Ident (spelling m) (sign.Mark m)
 word_means m e = record {
@@ -75,7 +66,7 @@ name_steps {names = names} {behind = behind} are x text h before counts next g =
     let no_collision : text ≢ codes "collision" = λ e. let m : mark_of_text text ≡ Some mark.Collision = ap mark_of_text e ∙ found mark.Collision in cc (m, is.no_mark) in
     let there : slice_get before (suc x) ≡ Some text = g.keeps (suc x) text h in
     let place : suc x ≡ place_of before text = only_place before text (suc x) there (λ p e. g.apart are.apart (suc x) p text there e) in
-    let old : with_name before text ≡ before = with_name-old before text (suc x) there in
+    let old : with_name before text ≡ before = with_name_old before text (suc x) there in
     let stepped = word_stepped before counts text next (differs text (codes "collision") no_collision) is.no_mark (differs text (codes "find") is.not_find) in
     record {
       sign = sign.Word (suc x) script.Plain;
@@ -103,9 +94,6 @@ name {names = names} {behind = behind} are x known =
 
 -- numbers
 
-no_word : (v : ℕ) → v < 2 ^ 64 → decimal v ≢ codes "collision"
-no_word v small e = omega (arith, digit_from_value 99 (subst (AllDigits 10) e (decimal_is_IsNumeral v small).0.1).0)
-
 pub number : {names behind : List (List ℕ)} (v : ℕ) → nat_lt v (2 ^ 64) ≡ true → Front names behind false true (decimal v) (sign.Number v ∷ [])
 number v known =
     let small : v < 2 ^ 64 = ltb-true v (2 ^ 64) known in
@@ -125,9 +113,6 @@ pub word : {names behind : List (List ℕ)} (m : Mark) → IsToken kind.Ident (s
 word m is other = record {
   goes = λ rest more h w. (tt, reads_token kind.Ident (spelling m) rest (sign.Mark m) more (word_before (spelling m) rest is h) (word_means m other) w);
 }
-
-open_piece : (rest : List ℕ) → has_front (codes "*") rest ≡ false → piece (40 ∷ rest) ≡ Lexeme kind.Symbol 1
-open_piece rest e = ap (λ c. if c then a_comment (comment_end 0 2 (drop 2 (40 ∷ rest))) else a_symbol (longest symbols (40 ∷ rest))) e
 
 pub opening : {names behind : List (List ℕ)} {p q : Bool} → Front names behind p q (codes "(") (sign.Mark mark.Open ∷ [])
 opening {p = p} = record {
@@ -291,10 +276,10 @@ word_steps {behind = behind} are w is before counts next g =
       sign = sign.Word (place_of before text) script.Plain;
       names = with_name before text;
       is = word_stepped before counts text next is.no_collision is.no_mark is.no_find;
-      grows = record { keeps = with_name-keeps before text; apart = with_name-apart before text };
+      grows = record { keeps = with_name_keeps before text; apart = with_name_apart before text };
       says = λ b.
-          let there : slice_get behind (place_of before text) ≡ Some text = b.keeps (place_of before text) text (with_name-has before text) in
-          let place : place_of before text ≡ place_of behind text = only_place behind text (place_of before text) there (λ p e. b.apart (with_name-apart before text (g.apart are.apart)) (place_of before text) p text there e) in
+          let there : slice_get behind (place_of before text) ≡ Some text = b.keeps (place_of before text) text (with_name_has before text) in
+          let place : place_of before text ≡ place_of behind text = only_place behind text (place_of before text) there (λ p e. b.apart (with_name_apart before text (g.apart are.apart)) (place_of before text) p text there e) in
           let all : place_of (with_all_words behind) text ≡ place_of behind text = place_front behind _ text (place_of before text) there in
           let number : place_of before text ≡ place_of (with_all_words behind) text = place ∙ sym all in
           λ i. sign.Word (number i) (found_word w i);

@@ -7,8 +7,8 @@ use Rattle.cv_syntax_trees.specs.declared.head.Head.TheVariants as head
 use Rattle.cv_parse_notation.specs.declared.sign.Mark.{Mark}
 use Rattle.cv_parse_notation.specs.declared.sign.Sign.{Sign}
 use Rattle.cv_parse_notation.specs.declared.sign.Sign.TheVariants as token
-use Rattle.cv_parse_spelling.specs.Spelling.{spelling}
-use Rattle.cv_parse_spelling.specs.ScriptSpelling.{word_spelling}
+use Rattle.cv_parse_tables.specs.spelling.Spelling.{spelling}
+use Rattle.cv_parse_tables.specs.spelling.ScriptSpelling.{word_spelling}
 use Rattle.cv_parse_tables.specs.declared.piece.Outer.{Outer}
 use Rattle.cv_parse_tables.specs.declared.piece.Outer.TheVariants as outer
 use Rattle.cv_parse_tables.specs.declared.piece.Piece.{Piece}
@@ -19,8 +19,8 @@ use Rattle.cv_print_tables.specs.Layout as lay
 use Rattle.cv_print_tables.specs.Prints.{Printer, chain_items, name_of, next_belongs, node_items, number_of, outer_text, printed, prints, single_items, takes, tree_text}
 use Rattle.cv_print_tables.specs.Prints as print
 use Rattle.cv_print_bytes.specs.Known.{AreNames}
-use Rattle.cv_print_steps.specs.Shown.{Shown, Shows, Words, first_of, name_shown, number_shown, one_down, opening, outer_shown, piece_shown, pieces_shown, plain, row_shown, tree_shown}
-use Rattle.cv_print_steps.specs.Shown as show
+use Rattle.cv_print_scripts.specs.steps.Shown.{Shown, Shows, Words, first_of, name_shown, number_shown, one_down, opening, outer_shown, piece_shown, pieces_shown, plain, row_shown, tree_shown}
+use Rattle.cv_print_scripts.specs.steps.Shown as show
 use Rattle.cv_print_scripts.specs.Known.{is_known}
 use Rattle.cv_print_scripts.specs.Parted.{begins, follows, is_apart, is_open, is_parted, is_sure, is_sure_alone, is_told, needs, piece_is_parted, pieces_are_parted, rows_are_parted}
 use Rattle.cv_print_scripts.specs.Texts.{words_among}

@@ -11,8 +11,8 @@ use Rattle.cv_parse_grammar.specs.Names.{Uses}
 use Rattle.cv_parse_terms.specs.Gives.{positive}
 use Rattle.cv_parse_tables.specs.Table.{Nowhere, Row, Table, TableSort, TreesForm, blank, form, many_form, one_of, row_phrase, table_heads, table_rule}
 use Rattle.cv_parse_tables.specs.Trees.{both_of}
-use Rattle.cv_print_steps.proofs.Outer.{below_of}
-use Rattle.cv_script_rows.specs.Rows.{script_row, script_rows, step_row}
+use Rattle.cv_print_scripts.proofs.steps.Outer.{below_of}
+use Rattle.cv_script.specs.rows.Rows.{script_row, script_rows, step_row}
 use Rattle.cv_syntax_trees.specs.Tree.{Tree, chain}
 
 -- the rows of steps of a form: of one, of one with its semicolon, of a list of these, and of the chain

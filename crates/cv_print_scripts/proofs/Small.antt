@@ -2,14 +2,14 @@
 use Rattle.std.proofs.Common.{◌≡◌, ℕ, zero, suc, true, false, List, [], ◌∷◌, length, Some, inl, inr, refl, sym, ◌∙◌, subst, codes}
 use Rattle.std.specs.Prelude.{slice_get}
 use Rattle.std.proofs.lemmas.Slice.Eq.{bytes_eq-Decides}
-use Rattle.cv_parse_spelling.specs.ScriptSpelling.{word_with}
-use Rattle.cv_parse_terminals.specs.Signs.{place_of}
-use Rattle.cv_parse_spelling.specs.Spelling.{mark_of_text}
+use Rattle.cv_parse_tables.specs.spelling.ScriptSpelling.{word_with}
+use Rattle.cv_parse_tables.specs.terminals.Signs.{place_of}
+use Rattle.cv_parse_tables.specs.spelling.Spelling.{mark_of_text}
 use Rattle.cv_print_bytes.specs.Known.{AreNames, IsName}
-use Rattle.cv_print_steps.specs.Shown.{row_signs, tree_shown}
-use Rattle.cv_print_steps.specs.Trees.{IsTree}
+use Rattle.cv_print_scripts.specs.steps.Shown.{row_signs, tree_shown}
+use Rattle.cv_print_scripts.specs.steps.Trees.{IsTree}
 use Rattle.cv_print_tables.specs.Prints.{single_items, tree_text}
-use Rattle.cv_script_rows.specs.Rows.{script_rows, step_row}
+use Rattle.cv_script.specs.rows.Rows.{script_rows, step_row}
 use Rattle.cv_syntax_trees.specs.Tree.{lone}
 use Rattle.cv_syntax_trees.specs.declared.head.Head.TheVariants.{Name}
 use Rattle.cv_print_scripts.specs.Known.{is_known}

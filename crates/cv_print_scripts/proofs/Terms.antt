@@ -7,12 +7,12 @@ use Rattle.cv_lex.specs.declared.scan.Piece.TheVariants.{Lexeme}
 use Rattle.cv_lex.specs.Lexis.{IsToken, piece}
 use Rattle.cv_parse_notation.specs.declared.sign.Mark.{Mark}
 use Rattle.cv_parse_notation.specs.declared.sign.Sign.TheVariants as token
-use Rattle.cv_parse_spelling.specs.Spelling.{spelling}
+use Rattle.cv_parse_tables.specs.spelling.Spelling.{spelling}
 use Rattle.cv_parse_notation.specs.declared.sign.Mark.TheVariants as mark
 use Rattle.cv_parse_notation.specs.declared.sign.Sign.{Sign}
 use Rattle.cv_print.specs.Terms.{name_text, term_text, terms_text}
 use Rattle.cv_print_bytes.specs.Known.{AreNames}
-use Rattle.cv_print_terminals.specs.Signs.{named, one, term_signs, terms_signs}
+use Rattle.cv_print_bytes.specs.terminals.Signs.{named, one, term_signs, terms_signs}
 use Rattle.cv_syntax_trees.specs.Tree.{Tree, Empty, Node}
 use Rattle.cv_syntax_trees.specs.declared.head.Head.{Head}
 use Rattle.cv_syntax_trees.specs.declared.head.Head.TheVariants.{Leaf, Read, Apply, Eq, And, Or, Not, Yes, No}

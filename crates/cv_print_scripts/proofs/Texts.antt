@@ -8,16 +8,16 @@ use Rattle.cv_parse_notation.specs.declared.sign.Mark.TheVariants as mark
 use Rattle.cv_parse_notation.specs.declared.sign.Sign.{Sign}
 use Rattle.cv_parse_notation.specs.Spells.{IsSort}
 use Rattle.cv_parse_grammar.specs.Names.{Uses}
-use Rattle.cv_parse_terminals.specs.ScriptSigns.{script_signs, with_words}
-use Rattle.cv_parse_terminals.specs.Signs.{no_counts, signs_from}
-use Rattle.cv_parse_terminals.proofs.Telling.{IsGrown}
+use Rattle.cv_parse_tables.specs.terminals.ScriptSigns.{script_signs, with_words}
+use Rattle.cv_parse_tables.specs.terminals.Signs.{no_counts, signs_from}
+use Rattle.cv_parse_tables.proofs.terminals.Telling.{IsGrown, grown_same}
 use Rattle.cv_parse_tables.specs.Table.{Row, Table, table_heads, table_rule}
-use Rattle.cv_print_steps.specs.Apart.{is_single, tells_apart}
-use Rattle.cv_print_steps.specs.Shown.{Words, row_levels, row_signs}
-use Rattle.cv_print_steps.specs.Trees.{IsTree}
-use Rattle.cv_print_steps.proofs.Rows.{tree_single}
-use Rattle.cv_print_terminals.specs.Signs.{one}
-use Rattle.cv_script_rows.specs.Rows.{script_row, script_rows, step_row}
+use Rattle.cv_print_scripts.specs.steps.Apart.{is_single, tells_apart}
+use Rattle.cv_print_scripts.specs.steps.Shown.{Words, row_levels, row_signs}
+use Rattle.cv_print_scripts.specs.steps.Trees.{IsTree}
+use Rattle.cv_print_scripts.proofs.steps.Rows.{tree_single}
+use Rattle.cv_print_bytes.specs.terminals.Signs.{one}
+use Rattle.cv_script.specs.rows.Rows.{script_row, script_rows, step_row}
 use Rattle.cv_print_tables.specs.Prints.{tree_text}
 use Rattle.cv_print_bytes.specs.Known.{AreNames}
 use Rattle.cv_syntax_trees.specs.Tree.{Tree, chain, first}
@@ -30,9 +30,6 @@ use Rattle.cv_print_scripts.proofs.Rows.{tree_front}
 use Rattle.cv_print_scripts.proofs.Scripts.{script_of_step}
 use Rattle.cv_print_scripts.proofs.Tokens.{Reads, reads_end}
 use Rattle.cv_print_scripts.proofs.Words.{are_words}
-
-grown_same : (names : List (List ℕ)) → IsGrown names names
-grown_same names = record { keeps = λ n text h. h; apart = λ u. u }
 
 alone : {names behind : List (List ℕ)} (text : List ℕ) (ss : List Sign) → Front names behind false true text ss → Reads names behind text ss
 alone {names = names} {behind = behind} text ss f =

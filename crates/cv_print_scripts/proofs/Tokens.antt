@@ -6,10 +6,11 @@ use Rattle.cv_lex.specs.declared.TokenKind.{TokenKind}
 use Rattle.cv_lex.specs.declared.scan.Piece.TheVariants.{Nothing, Between, Lexeme, ForeignByte}
 use Rattle.cv_lex.specs.Lexis.{Token, Lexed, ends, between, token, has_front, piece, end_token}
 use Rattle.cv_parse_notation.specs.declared.sign.Sign.{Sign}
-use Rattle.cv_parse_terminals.specs.ScriptSigns.{with_word, with_words}
-use Rattle.cv_parse_terminals.specs.Signs.{first_text, join, signs_from, step_before}
-use Rattle.cv_parse_terminals.proofs.Telling.{IsGrown, grown}
-use Rattle.cv_parse_terminals.proofs.Walk.{signs_from-cons}
+use Rattle.cv_parse_tables.specs.terminals.ScriptSigns.{with_word, with_words}
+use Rattle.cv_parse_tables.specs.terminals.Signs.{first_text, join, signs_from, step_before}
+use Rattle.cv_parse_tables.proofs.terminals.Telling.{IsGrown, grown, grown_more}
+use Rattle.cv_parse_tables.proofs.terminals.Walk.{signs_from_cons}
+use Rattle.cv_print_bytes.proofs.Shown.{star_is_none}
 
 -- at any offset, in front of which more names and counted words may stand, the text has these signs, where these names are behind it
 pub record Reads (names behind : List (List ℕ)) (text : List ℕ) (ss : List Sign) : Type 0 where
@@ -42,13 +43,10 @@ pub record Means (names behind : List (List ℕ)) (kind : TokenKind) (w : List �
 abbrev token_of : TokenKind → List ℕ → ℕ → Token
 token_of kind w k = record { kind = kind; text = w; offset = k }
 
-pub grown_more : (a b c : List (List ℕ)) → IsGrown a b → IsGrown b c → IsGrown a c
-grown_more a b c f g = record { keeps = λ n text h. g.keeps n text (f.keeps n text h); apart = λ u. g.apart (f.apart u) }
-
 signed_first : {names behind : List (List ℕ)} (kind : TokenKind) (w : List ℕ) (s : Sign) (k : ℕ) (ts : List Token) (ss : List Sign) (counts : _) (before : List (List ℕ)) → Means names behind kind w s → ((b : List (List ℕ)) → IsGrown names b → (signs_from b counts ts).names ≡ behind → with_words ts (signs_from b counts ts).signs ≡ ss) → IsGrown names before → (signs_from before counts (token_of kind w k ∷ ts)).names ≡ behind → with_words (token_of kind w k ∷ ts) (signs_from before counts (token_of kind w k ∷ ts)).signs ≡ s ∷ ss
 signed_first {names = names} {behind = behind} kind w s k ts ss counts before m later g e =
     let st = m.step before counts (first_text ts) g in
-    let same : signs_from before counts (token_of kind w k ∷ ts) ≡ join (st.sign ∷ []) (signs_from st.names counts ts) = signs_from-cons before counts (token_of kind w k) ts (record { signs = st.sign ∷ []; names = st.names; counts = counts }) st.is in
+    let same : signs_from before counts (token_of kind w k ∷ ts) ≡ join (st.sign ∷ []) (signs_from st.names counts ts) = signs_from_cons before counts (token_of kind w k) ts (record { signs = st.sign ∷ []; names = st.names; counts = counts }) st.is in
     let ended : (signs_from st.names counts ts).names ≡ behind = sym (ap (λ x. x.names) same) ∙ e in
     let more : IsGrown st.names behind = subst (IsGrown st.names) ended (grown st.names counts ts) in
     let here : with_word w st.sign ≡ s = st.says more in
@@ -67,11 +65,6 @@ reads_token kind w text s ss e m v = record {
 }
 
 -- no such text begins with '*'
-
-star_is_none : (k : ℕ) (bs : List ℕ) (ts : List Token) → Lexed k (42 ∷ bs) (Ok ts) → ⊥
-star_is_none k bs ts (ends e) = let no : ForeignByte ≡ Nothing = e in cc
-star_is_none k bs ts (between n e d) = let no : ForeignByte ≡ Between n = e in cc
-star_is_none k bs ts (token kind n e d) = let no : ForeignByte ≡ Lexeme kind n = e in cc
 
 pub no_star : {names behind : List (List ℕ)} (text : List ℕ) (ss : List Sign) → Reads names behind text ss → has_front (codes "*") text ≡ false
 no_star [] ss w = refl

@@ -5,12 +5,12 @@ use Rattle.std.specs.Str.{bytes_eq}
 use Rattle.std.proofs.lemmas.Slice.Eq.{bytes_eq-Decides}
 use Rattle.cv_parse_notation.specs.declared.script.ScriptWord.{ScriptWord}
 use Rattle.cv_parse_notation.specs.declared.script.ScriptWord.TheVariants as script
-use Rattle.cv_parse_spelling.specs.ScriptSpelling.{is_word_spelled, words, word_of_text, word_or_plain, word_spelling, word_with}
-use Rattle.cv_parse_terminals.specs.Signs.{place_of}
-use Rattle.cv_parse_terminals.proofs.Naming.{stands, text_test}
-use Rattle.cv_parse_spelling.proofs.ScriptTable.{found}
+use Rattle.cv_parse_tables.specs.spelling.ScriptSpelling.{is_word_spelled, words, word_of_text, word_or_plain, word_spelling, word_with}
+use Rattle.cv_parse_tables.specs.terminals.Signs.{place_of}
+use Rattle.cv_parse_tables.proofs.terminals.Naming.{stands, text_test}
+use Rattle.cv_parse_tables.proofs.spelling.ScriptTable.{found}
 use Rattle.cv_print.specs.Terms.{name_text}
-use Rattle.cv_print_steps.specs.Shown.{AreWords}
+use Rattle.cv_print_scripts.specs.steps.Shown.{AreWords}
 use Rattle.cv_print_scripts.specs.Texts.{with_all_words, words_among}
 
 -- a name in front keeps its place

@@ -5,11 +5,11 @@ use Rattle.cv_parse_notation.specs.declared.sign.Sign.{Sign}
 use Rattle.cv_parse_notation.specs.Spells.{IsSort}
 use Rattle.cv_parse_grammar.specs.Names.{Uses}
 use Rattle.cv_parse_tables.specs.Table.{Row, Table, table_heads, table_rule}
-use Rattle.cv_parse_terminals.specs.ScriptSigns.{script_signs}
-use Rattle.cv_parse_spelling.specs.ScriptSpelling.{words, word_of_text, word_spelling}
-use Rattle.cv_parse_terminals.specs.Signs.{place_of}
+use Rattle.cv_parse_tables.specs.terminals.ScriptSigns.{script_signs}
+use Rattle.cv_parse_tables.specs.spelling.ScriptSpelling.{words, word_of_text, word_spelling}
+use Rattle.cv_parse_tables.specs.terminals.Signs.{place_of}
 use Rattle.cv_print.specs.Terms.{name_text}
-use Rattle.cv_print_steps.specs.Shown.{Words, row_levels}
+use Rattle.cv_print_scripts.specs.steps.Shown.{Words, row_levels}
 use Rattle.cv_syntax_trees.specs.Tree.{Tree}
 
 -- names, and behind them the words of scripts

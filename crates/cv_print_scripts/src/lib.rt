@@ -1,17 +1,19 @@
 // The tokens of the text of a step or a script are its signs, and so the text is read back.
 #![tactic(auto)]
 
+pub mod steps;
+
 ghost use Rattle.std.specs.Prelude.{◌≡◌, ℕ, true, List, [], ◌∷◌, ◌++◌, length, codes};
 ghost use Rattle.cv_syntax_trees.specs.Tree.{Tree, chain};
 ghost use Rattle.cv_parse_notation.specs.declared.sign.Mark.TheVariants.{Semicolon};
 ghost use Rattle.cv_parse_tables.specs.Table.{Table};
 ghost use Rattle.cv_print_tables.specs.Prints.{tree_text};
-ghost use Rattle.cv_print_terminals.specs.Signs.{one};
-ghost use Rattle.cv_script_rows.specs.Rows.{script_row, script_rows, step_row};
+ghost use Rattle.cv_print_bytes.specs.terminals.Signs.{one};
+ghost use Rattle.cv_script.specs.rows.Rows.{script_row, script_rows, step_row};
 ghost use Rattle.cv_print_bytes.specs.Known.{AreNames};
-ghost use Rattle.cv_print_steps.specs.Apart.{is_single, tells_apart};
-ghost use Rattle.cv_print_steps.specs.Shown.{row_levels, row_signs};
-ghost use Rattle.cv_print_steps.specs.Trees.{IsTree};
+ghost use Rattle.cv_print_scripts.specs.steps.Apart.{is_single, tells_apart};
+ghost use Rattle.cv_print_scripts.specs.steps.Shown.{row_levels, row_signs};
+ghost use Rattle.cv_print_scripts.specs.steps.Trees.{IsTree};
 ghost use Rattle.cv_print_scripts.specs.Known.{is_known};
 ghost use Rattle.cv_print_scripts.specs.Parted.{is_parted};
 ghost use Rattle.cv_print_scripts.specs.Texts.{FitsIn, HasSigns, IsReadAs, IsUnambiguous, words_among};

@@ -1,7 +1,7 @@
 -- Lists of trees, by their first tree and the rest.
 use Rattle.std.proofs.Common.{◌≡◌, ℕ, zero, suc, ◌+◌, ◌-◌, ◌≤◌, List, [], ◌∷◌, ◌++◌, length, refl, ap, sym, ◌∙◌, arith, append_assoc, append-nil}
 use Rattle.cv_syntax_trees.specs.Tree.{Tree, Empty, Node, first, second}
-use Rattle.cv_syntax.proofs.Trees.{tree_of-NoTree}
+use Rattle.cv_syntax.proofs.Trees.{tree_of_NoTree}
 use Rattle.cv_print_tables.specs.Prints.{chain_items, single_items, node_items}
 
 abbrev pub chain_parts : Tree → List Tree
@@ -52,4 +52,4 @@ node_more zero t e = absurd (omega arith)
 node_more (suc zero) t e = absurd (omega arith)
 node_more (suc (suc n)) t e = refl
 
-pub ruleset list_laws = (chain_open, single_none, single_one, single_more, single_length, node_none, node_one, node_more, tree_of-NoTree, append_assoc, append-nil)
+pub ruleset list_laws = (chain_open, single_none, single_one, single_more, single_length, node_none, node_one, node_more, tree_of_NoTree, append_assoc, append-nil)

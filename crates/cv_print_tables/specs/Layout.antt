@@ -1,8 +1,8 @@
 -- What is printed for the rows of a table.
 use Rattle.std.specs.Prelude.{ℕ, zero, suc, ◌+◌, Bool, true, false, ◌==◌, List, [], ◌∷◌, codes, slice_index_or}
 use Rattle.cv_syntax_trees.specs.declared.head.Head.{Head}
-use Rattle.cv_parse_spelling.specs.Spelling.{spelling}
-use Rattle.cv_parse_spelling.specs.ScriptSpelling.{word_spelling}
+use Rattle.cv_parse_tables.specs.spelling.Spelling.{spelling}
+use Rattle.cv_parse_tables.specs.spelling.ScriptSpelling.{word_spelling}
 use Rattle.cv_parse_tables.specs.declared.piece.Outer.{Outer}
 use Rattle.cv_parse_tables.specs.declared.piece.Piece.{Piece}
 use Rattle.cv_parse_tables.specs.declared.piece.Piece.TheVariants as piece

@@ -9,7 +9,7 @@ ghost use Rattle.cv_print_tables.specs.Prints.{name_of, number_of, outer_text, p
 
 use crate::belonging::{alternative, fits, pieces_of, taken};
 use crate::items::{Items, count, items_of, next, next_head};
-use cv_parse_spelling::{spelling, word_spelling};
+use cv_parse_tables::spelling::{spelling, word_spelling};
 use cv_parse_tables::{Outer, Piece};
 use cv_print::{push_decimal, push_name, push_term, push_terms};
 use cv_syntax::{Head, Names, NodeId, Pool, read_node};

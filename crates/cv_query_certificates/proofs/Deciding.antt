@@ -7,21 +7,15 @@ use Rattle.cv_lists.specs.Options.{first_of}
 use Rattle.cv_syntax_trees.specs.declared.head.Head.TheVariants.{EventsCertificate, Secret, SecretCertificate, SecretOnce}
 use Rattle.cv_syntax_trees.specs.Tree.{Tree, Empty, Node}
 use Rattle.cv_meaning.specs.Correspondences.{Correspondence, correspondence_of}
-use Rattle.cv_scenes.specs.Derivations.{first_bad_line, unless}
-use Rattle.cv_scenes.specs.Scenes.{Scene}
-use Rattle.cv_scenes.specs.Sights.{sight_at}
+use Rattle.cv_scene.specs.Derivations.{first_bad_line, unless}
+use Rattle.cv_scene.specs.Scenes.{Scene}
+use Rattle.cv_scene.specs.Sights.{sight_at}
 use Rattle.cv_query_certificates.specs.Accepted.{AreEntries, IsAccepted, IsEventsProof, IsProofOf, IsSecretProof, Proves, is_built}
 use Rattle.cv_query_certificates.specs.Claims.{Claim, entry_claims}
 use Rattle.cv_query_certificates.specs.Failures.{certificate_failure, failure, first_failing, first_failure, first_surplus, first_unformed, forms_failure, has_end, is_right, parts_failure, query_failure, secret_failure}
 use Rattle.cv_query_certificates.specs.Forms.{has_form, left_places}
 use Rattle.cv_query_certificates.specs.Secrets.{AreUnreadChoices, AreUnreadCopies, IsSecret, earlier, first_offence_of_choices, first_offence_of_copies}
-
-some_none : {A : Type 0} (x : A) → ◌≡◌ {A = Option A} (Some x) None → ⊥
-some_none x e = cc
-
-parts_none : {A : Type 0} (x y : Option A) → first_of x y ≡ None → (x ≡ None) × (y ≡ None)
-parts_none None y e = (refl, e)
-parts_none (Some a) y e = absurd (some_none a e)
+use Rattle.cv_lists.proofs.Options.{some_none, none_from_not_some, first_of_none}
 
 both_none : {A : Type 0} (x y : Option A) → x ≡ None → y ≡ None → first_of x y ≡ None
 both_none x y e f = ap (λ z. first_of z y) e ∙ f
@@ -34,17 +28,13 @@ unless_true : (b : Bool) (p : ℕ) → unless b p ≡ None → b ≡ true
 unless_true true p e = refl
 unless_true false p e = absurd (some_none p e)
 
-is_none : {A : Type 0} (o : Option A) → not (is_some o) ≡ true → o ≡ None
-is_none None e = refl
-is_none (Some x) e = absurd (both_ways _ refl e)
-
 module _ (s : Scene) (q : Correspondence) where
   proved : (p : ℕ) (cs : List Claim) → list_all (is_right s p) cs ≡ true → list_all (has_end s p) cs ≡ true → AllByRecursion (Proves s p) cs
   proved p [] r e = tt
   proved p (c ∷ cs) r e =
       let x = and_parts (is_right s p c) _ r in
       let y = and_parts (has_end s p c) _ e in
-      (record { right = is_none (first_bad_line (sight_at s p) c.by) x.0; end = y.0 }, proved p cs x.1 y.1)
+      (record { right = none_from_not_some (first_bad_line (sight_at s p) c.by) x.0; end = y.0 }, proved p cs x.1 y.1)
 
   all_right : (p : ℕ) (cs : List Claim) → AllByRecursion (Proves s p) cs → list_all (is_right s p) cs ≡ true
   all_right p [] a = refl
@@ -59,9 +49,9 @@ module _ (s : Scene) (q : Correspondence) where
   entries_stand [] (Node h part more) u r e n = absurd (some_none _ n)
   entries_stand (p ∷ ps) Empty u r e n = absurd (some_none p u)
   entries_stand (p ∷ ps) (Node h entry more) u r e n =
-      let a = parts_none (unless (has_form s q p entry) p) _ u in
-      let b = parts_none (unless (list_all (is_right s p) (entry_claims s q p entry)) p) _ r in
-      let c = parts_none (unless (list_all (has_end s p) (entry_claims s q p entry)) p) _ e in (
+      let a = first_of_none (unless (has_form s q p entry) p) _ u in
+      let b = first_of_none (unless (list_all (is_right s p) (entry_claims s q p entry)) p) _ r in
+      let c = first_of_none (unless (list_all (has_end s p) (entry_claims s q p entry)) p) _ e in (
         record {
           form = unless_true _ p a.0;
           claims = proved p (entry_claims s q p entry) (unless_true _ p b.0) (unless_true _ p c.0);
@@ -100,9 +90,9 @@ module _ (s : Scene) (q : Correspondence) where
 
   parts_stand : (ps : List ℕ) (parts : Tree) → parts_failure s q ps parts ≡ None → AreEntries s q ps parts
   parts_stand ps parts e =
-      let a = parts_none (failure 2 (first_unformed s q ps parts)) _ e in
-      let b = parts_none (failure 3 (first_failing is_right s q ps parts)) _ a.1 in
-      let c = parts_none (failure 4 (first_failing has_end s q ps parts)) _ b.1 in
+      let a = first_of_none (failure 2 (first_unformed s q ps parts)) _ e in
+      let b = first_of_none (failure 3 (first_failing is_right s q ps parts)) _ a.1 in
+      let c = first_of_none (failure 4 (first_failing has_end s q ps parts)) _ b.1 in
       entries_stand ps parts (failure_none 2 _ a.0) (failure_none 3 _ b.0) (failure_none 4 _ c.0) (failure_none 5 _ c.1)
 
   nothing_fails : (ps : List ℕ) (parts : Tree) → AreEntries s q ps parts → parts_failure s q ps parts ≡ None

@@ -1,7 +1,7 @@
 -- The worked certificates fail as is said.
 use Rattle.std.proofs.Common.{◌≡◌, refl}
 use Rattle.std.specs.List.{AllByRecursion}
-use Rattle.cv_first_fault.specs.Walk.{first_fault}
+use Rattle.cv_syntax_faults.specs.Walk.{first_fault}
 use Rattle.cv_syntax_trees.specs.Tree.{reads_only, size, subtree, same_tree}
 use Rattle.cv_meaning.specs.Queries.{queries_in}
 use Rattle.cv_directory_sorts.specs.Sites.{bound_sort, first_index, first_site}
@@ -13,12 +13,12 @@ use Rattle.cv_scope_rules.specs.Made.{is_bound}
 use Rattle.cv_scope_rules.specs.Phrases.{is_phrase}
 use Rattle.cv_scope_rules.specs.Behind.{sites_in}
 use Rattle.cv_scope_rules.specs.Above.{standing_at}
-use Rattle.cv_scenes.specs.Scenes.{has_some_new}
-use Rattle.cv_scenes.specs.Terms.{is_there}
-use Rattle.cv_scenes.specs.Derivations.{first_bad}
-use Rattle.cv_derivations.specs.Given.{with_given}
-use Rattle.cv_derivations.specs.Lines.{lines_of, statements}
-use Rattle.cv_derivations.specs.Lines as lines
+use Rattle.cv_scene.specs.Scenes.{has_some_new}
+use Rattle.cv_scene.specs.Terms.{is_there}
+use Rattle.cv_scene.specs.Derivations.{first_bad}
+use Rattle.cv_derive_rules.specs.Given.{with_given}
+use Rattle.cv_derive_rules.specs.Lines.{lines_of, statements}
+use Rattle.cv_derive_rules.specs.Lines as lines
 use Rattle.cv_query_certificates.specs.EventNodes.{event_places}
 use Rattle.cv_query_certificates.specs.Failures.{first_failure}
 use Rattle.cv_query_certificates.specs.Secrets.{AreUnreadCopies, first_definition_but, first_other_read, sources}

@@ -8,9 +8,9 @@ use Rattle.cv_syntax_trees.specs.declared.head.Head.TheVariants.{DistinctPart, E
 use Rattle.cv_syntax_trees.specs.Children.{is_empty}
 use Rattle.cv_syntax_trees.specs.Tree.{Tree, Empty, Node}
 use Rattle.cv_meaning.specs.Correspondences.{Correspondence, correspondence_of}
-use Rattle.cv_scenes.specs.Derivations.{Derives}
-use Rattle.cv_scenes.specs.Scenes.{Scene}
-use Rattle.cv_scenes.specs.Sights.{sight_at}
+use Rattle.cv_scene.specs.Derivations.{Derives}
+use Rattle.cv_scene.specs.Scenes.{Scene}
+use Rattle.cv_scene.specs.Sights.{sight_at}
 use Rattle.cv_query_certificates.specs.Claims.{Claim, entry_claims}
 use Rattle.cv_query_certificates.specs.Forms.{has_form, left_places}
 use Rattle.cv_query_certificates.specs.Secrets.{IsSecret}

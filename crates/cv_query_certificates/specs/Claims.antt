@@ -5,10 +5,10 @@ use Rattle.cv_syntax_trees.specs.declared.head.Head.TheVariants.{AboveRoute, AtE
 use Rattle.cv_syntax_trees.specs.Tree.{Tree, Empty, Node}
 use Rattle.cv_meaning.specs.Correspondences.{Atom, Correspondence, RightEvent, RightTerm}
 use Rattle.cv_scope_rules.specs.Context.{Context}
-use Rattle.cv_derivations.specs.Given.{with_given}
-use Rattle.cv_derivations.specs.Targets.{falsity, target}
-use Rattle.cv_scenes.specs.Scenes.{Scene}
-use Rattle.cv_scenes.specs.Sights.{at_cell}
+use Rattle.cv_derive_rules.specs.Given.{with_given}
+use Rattle.cv_derive_rules.specs.Targets.{falsity, target}
+use Rattle.cv_scene.specs.Scenes.{Scene}
+use Rattle.cv_scene.specs.Sights.{at_cell}
 use Rattle.cv_query_certificates.specs.EventNodes.{arguments_at, only_site, place_in}
 
 -- one list of terms behind another

@@ -5,8 +5,8 @@ use Rattle.cv_syntax_trees.specs.declared.head.Head.TheVariants.{Event, Number}
 use Rattle.cv_syntax_trees.specs.Tree.{Tree, Empty, Node, first, first_place, second_place, size}
 use Rattle.cv_scope_rules.specs.Behind.{sites_of}
 use Rattle.cv_scope_rules.specs.Context.{Context}
-use Rattle.cv_scenes.specs.Scenes.{part_at}
-use Rattle.cv_scenes.specs.Sights.{variable_of}
+use Rattle.cv_scene.specs.Scenes.{part_at}
+use Rattle.cv_scene.specs.Sights.{variable_of}
 
 abbrev pub is_event_head : ℕ → Head → Bool
 is_event_head f (Event e) = e == f

@@ -6,10 +6,10 @@ use Rattle.cv_lists.specs.Options.{first_of}
 use Rattle.cv_syntax_trees.specs.declared.head.Head.TheVariants.{AtEntry, EventsCertificate, Secret, SecretCertificate, SecretOnce}
 use Rattle.cv_syntax_trees.specs.Tree.{Tree, Empty, Node, first}
 use Rattle.cv_meaning.specs.Correspondences.{Correspondence, correspondence_of}
-use Rattle.cv_derivations.specs.Ends.{ends_with}
-use Rattle.cv_scenes.specs.Derivations.{first_bad_line, unless}
-use Rattle.cv_scenes.specs.Scenes.{Scene}
-use Rattle.cv_scenes.specs.Sights.{sight_at}
+use Rattle.cv_derive_rules.specs.Ends.{ends_with}
+use Rattle.cv_scene.specs.Derivations.{first_bad_line, unless}
+use Rattle.cv_scene.specs.Scenes.{Scene}
+use Rattle.cv_scene.specs.Sights.{sight_at}
 use Rattle.cv_query_certificates.specs.Claims.{Claim, entry_claims}
 use Rattle.cv_query_certificates.specs.EventNodes.{place_in}
 use Rattle.cv_query_certificates.specs.Forms.{has_form, left_places}

@@ -5,8 +5,8 @@ use Rattle.cv_syntax_trees.specs.Tree.{Tree, Empty, Node}
 use Rattle.cv_directory_sorts.specs.declared.sort.Sort.TheVariants.{OfType}
 use Rattle.cv_meaning.specs.Correspondences.{Atom, Correspondence, RightEvent, RightTerm}
 use Rattle.cv_scope_rules.specs.Context.{Context}
-use Rattle.cv_scenes.specs.Scenes.{Scene}
-use Rattle.cv_scenes.specs.Sights.{Sight, is_cell_at, is_term_of, sight_at}
+use Rattle.cv_scene.specs.Scenes.{Scene}
+use Rattle.cv_scene.specs.Sights.{Sight, is_cell_at, is_term_of, sight_at}
 use Rattle.cv_query_certificates.specs.EventNodes.{are_for, arguments_at, event_places, is_event_above, only_site, place_in}
 
 -- the places of the left event, in preorder

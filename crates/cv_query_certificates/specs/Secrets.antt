@@ -11,8 +11,8 @@ use Rattle.cv_scope_rules.specs.declared.position.Position.TheVariants.{Anywhere
 use Rattle.cv_scope_rules.specs.Context.{first_position, second_position}
 use Rattle.cv_scope_rules.specs.Made.{made_by}
 use Rattle.cv_scope_rules.specs.Sites.{Variable}
-use Rattle.cv_scenes.specs.Scenes.{Scene, has_some_new, head_reads, is_new_head, is_queried, part_at}
-use Rattle.cv_scenes.specs.Sights.{variable_of}
+use Rattle.cv_scene.specs.Scenes.{Scene, has_some_new, head_reads, is_new_head, is_queried, part_at}
+use Rattle.cv_scene.specs.Sights.{variable_of}
 
 -- reads
 

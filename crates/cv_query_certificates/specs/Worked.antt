@@ -7,7 +7,7 @@ use Rattle.cv_syntax_trees.specs.declared.head.Head.TheVariants.{AboveRoute, AtE
 use Rattle.cv_syntax_trees.specs.Builders.{branch, correspondence, event, find, input, leaf, occurs, output, read}
 use Rattle.cv_syntax_trees.specs.Declarations.{Declaration, Named}
 use Rattle.cv_syntax_trees.specs.Tree.{Tree, Empty, Node, chain, lone, names}
-use Rattle.cv_scenes.specs.Scenes.{Scene}
+use Rattle.cv_scene.specs.Scenes.{Scene}
 use Rattle.cv_query_certificates.specs.Failures.{Failure}
 
 abbrev pub declarations : List Declaration

@@ -5,7 +5,7 @@ use Rattle.cv_syntax_trees.specs.declared.head.Head.TheVariants.{EventsCertifica
 use Rattle.cv_syntax_trees.specs.Builders.{branch, find, input, leaf, output, read}
 use Rattle.cv_syntax_trees.specs.Declarations.{Query}
 use Rattle.cv_syntax_trees.specs.Tree.{Tree, Empty, Node, chain, lone}
-use Rattle.cv_scenes.specs.Scenes.{Scene}
+use Rattle.cv_scene.specs.Scenes.{Scene}
 use Rattle.cv_query_certificates.specs.Failures.{Failure, first_failure}
 use Rattle.cv_query_certificates.specs.Worked.{declarations, eq, fails, scene_of}
 

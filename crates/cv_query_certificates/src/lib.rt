@@ -4,7 +4,7 @@
 ghost use Rattle.std.specs.Prelude.{◌≡◌, ◌↔◌, ◌∷◌, [], true, false, Some, None};
 ghost use Rattle.std.specs.List.{AllByRecursion};
 ghost use Rattle.cv_syntax_trees.specs.Tree.{Tree};
-ghost use Rattle.cv_scenes.specs.Scenes.{Scene};
+ghost use Rattle.cv_scene.specs.Scenes.{Scene};
 ghost use Rattle.cv_query_certificates.specs.Accepted.{IsAccepted, is_built};
 ghost use Rattle.cv_query_certificates.specs.Failures.{first_failure};
 ghost use Rattle.cv_query_certificates.specs.Worked.{begun, begun_once, cell_cases, cell_entry, direct, direct_cases, direct_entry, distinct, events, is_true, never, one_site, two_sites, two_sites_cases};

@@ -16,7 +16,8 @@ use Rattle.cv_scope_rules.specs.Phrases.{IsWellFormed}
 use Rattle.cv_scope_runs.proofs.PlainlyDirect.{plainly_at_most}
 use Rattle.cv_query_direct.specs.Plain.{are_plain_events, certificate, has_none, is_plain_event, is_plain_query, is_plainly_direct, none_alone}
 use Rattle.cv_query_direct.specs.Search.{EntryTree, entries_of, wanted_of}
-use Rattle.cv_query_direct.proofs.Searching.{entries_some, map_some}
+use Rattle.cv_query_direct.proofs.Searching.{entries_some}
+use Rattle.cv_lists.proofs.Options.{is_some_map}
 
 -- a query has a certificate where it passes the test
 pub certificate_some : (game q : Tree) → is_some (certificate game q) ≡ is_plainly_direct game q
@@ -30,7 +31,7 @@ certificate_plain : (game q : Tree) → is_plain_query q ≡ true → certificat
 certificate_plain game q e = ap (λ b. cond b (entries_of (wanted_of game (correspondence_of q)) [] 0 game) None) e
 
 pub closed_by : {A E : Type 0} (r : Result (Option A) E) (f : A → List EntryTree) (game q : Tree) → is_plain_query q ≡ true → IfOk r (λ o. option_map f o ≡ entries_of (wanted_of game (correspondence_of q)) [] 0 game) → IfOk r (λ o. is_some o ≡ is_plainly_direct game q)
-closed_by (Ok o) f game q e h = sym (map_some f o) ∙ (ap is_some (h ∙ sym (certificate_plain game q e)) ∙ certificate_some game q)
+closed_by (Ok o) f game q e h = sym (is_some_map f o) ∙ (ap is_some (h ∙ sym (certificate_plain game q e)) ∙ certificate_some game q)
 closed_by (Err x) f game q e h = tt
 
 -- the test and the property

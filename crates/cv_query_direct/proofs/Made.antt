@@ -12,85 +12,81 @@ use Rattle.cv_syntax.specs.Planting.{overs}
 use Rattle.cv_syntax_trees.specs.Tree.{Tree, Empty, Node, chain}
 use Rattle.cv_syntax.specs.PoolTrees.{tree_at}
 use Rattle.cv_syntax.specs.Postorder.{postorder}
-use Rattle.cv_syntax.proofs.Trees.{tree_of-NoTree}
+use Rattle.cv_syntax.proofs.Trees.{tree_of_NoTree}
 use Rattle.cv_script.specs.Steps.{reflexive, reflexive_lines, terms_in}
 use Rattle.cv_query_direct.specs.Closing.{closing}
+use Rattle.cv_syntax.proofs.limits.Counting.{few_overs}
 
-pub closing-last : (hs : List Head) (h : Head) → closing (hs ++ h ∷ []) ≡ Over h ∷ closing hs
-closing-last [] h = refl
-closing-last (g ∷ hs) h = ap (λ l. l ++ Over g ∷ []) (closing-last hs h)
+pub closing_last : (hs : List Head) (h : Head) → closing (hs ++ h ∷ []) ≡ Over h ∷ closing hs
+closing_last [] h = refl
+closing_last (g ∷ hs) h = ap (λ l. l ++ Over g ∷ []) (closing_last hs h)
 
-pub postorder-empty : postorder Empty ≡ Nothing ∷ []
+pub postorder_empty : postorder Empty ≡ Nothing ∷ []
 unfolding postorder
-postorder-empty = refl
+postorder_empty = refl
 
-pub postorder-node : (h : Head) (a b : Tree) → postorder (Node h a b) ≡ postorder a ++ (postorder b ++ Over h ∷ [])
+pub postorder_node : (h : Head) (a b : Tree) → postorder (Node h a b) ≡ postorder a ++ (postorder b ++ Over h ∷ [])
 unfolding postorder
-postorder-node h a b = refl
+postorder_node h a b = refl
 
 -- one node of a chain, and its end
-pub chain-goes : (t : Tree) (h : Head) (a b : Tree) (out new total : List Make) (hs ks : List Head) → t ≡ Node h a b → out ++ (postorder t ++ closing hs) ≡ total → new ≡ out ++ postorder a → ks ≡ hs ++ h ∷ [] → new ++ (postorder b ++ closing ks) ≡ total
-chain-goes t h a b out new total hs ks e i n k =
+pub chain_goes : (t : Tree) (h : Head) (a b : Tree) (out new total : List Make) (hs ks : List Head) → t ≡ Node h a b → out ++ (postorder t ++ closing hs) ≡ total → new ≡ out ++ postorder a → ks ≡ hs ++ h ∷ [] → new ++ (postorder b ++ closing ks) ≡ total
+chain_goes t h a b out new total hs ks e i n k =
     ap (λ l. l ++ (postorder b ++ closing ks)) n
-    ∙ (ap (λ l. (out ++ postorder a) ++ (postorder b ++ l)) (ap closing k ∙ closing-last hs h)
+    ∙ (ap (λ l. (out ++ postorder a) ++ (postorder b ++ l)) (ap closing k ∙ closing_last hs h)
     ∙ (append_assoc out (postorder a) (postorder b ++ (Over h ∷ closing hs))
-    ∙ (ap (λ l. out ++ l) (sym (append_assoc (postorder a) (postorder b ++ Over h ∷ []) (closing hs) ∙ ap (λ l. postorder a ++ l) (append_assoc (postorder b) (Over h ∷ []) (closing hs))) ∙ ap (λ l. l ++ closing hs) (sym (ap postorder e ∙ postorder-node h a b)))
+    ∙ (ap (λ l. out ++ l) (sym (append_assoc (postorder a) (postorder b ++ Over h ∷ []) (closing hs) ∙ ap (λ l. postorder a ++ l) (append_assoc (postorder b) (Over h ∷ []) (closing hs))) ∙ ap (λ l. l ++ closing hs) (sym (ap postorder e ∙ postorder_node h a b)))
     ∙ i)))
 
-pub chain-ends : (t : Tree) (out new total : List Make) (hs : List Head) → t ≡ Empty → out ++ (postorder t ++ closing hs) ≡ total → new ≡ out ++ Nothing ∷ [] → new ++ closing hs ≡ total
-chain-ends t out new total hs e i n = ap (λ l. l ++ closing hs) n ∙ (append_assoc out (Nothing ∷ []) (closing hs) ∙ (ap (λ l. out ++ (l ++ closing hs)) (sym (ap postorder e ∙ postorder-empty)) ∙ i))
+pub chain_ends : (t : Tree) (out new total : List Make) (hs : List Head) → t ≡ Empty → out ++ (postorder t ++ closing hs) ≡ total → new ≡ out ++ Nothing ∷ [] → new ++ closing hs ≡ total
+chain_ends t out new total hs e i n = ap (λ l. l ++ closing hs) n ∙ (append_assoc out (Nothing ∷ []) (closing hs) ∙ (ap (λ l. out ++ (l ++ closing hs)) (sym (ap postorder e ∙ postorder_empty)) ∙ i))
 
 -- a list of trees
-pub list-made : (ts : List Tree) → flat_map postorder ts ++ (Nothing ∷ replicate (length ts) (Over Cons)) ≡ postorder (chain ts)
+pub list_made : (ts : List Tree) → flat_map postorder ts ++ (Nothing ∷ replicate (length ts) (Over Cons)) ≡ postorder (chain ts)
 unfolding postorder
-list-made [] = refl
-list-made (t ∷ ts) =
+list_made [] = refl
+list_made (t ∷ ts) =
     append_assoc (postorder t) (flat_map postorder ts) (Nothing ∷ replicate (suc (length ts)) (Over Cons))
     ∙ ap (λ l. postorder t ++ l) (ap (λ l. flat_map postorder ts ++ Nothing ∷ l) (ap (λ k. replicate k (Over Cons)) (let e : suc (length ts) ≡ length ts + 1 = omega arith in e) ∙ sym (replicate_more (length ts) (Over Cons)))
-    ∙ (sym (append_assoc (flat_map postorder ts) (Nothing ∷ replicate (length ts) (Over Cons)) (Over Cons ∷ [])) ∙ ap (λ l. l ++ Over Cons ∷ []) (list-made ts)))
+    ∙ (sym (append_assoc (flat_map postorder ts) (Nothing ∷ replicate (length ts) (Over Cons)) (Over Cons ∷ [])) ∙ ap (λ l. l ++ Over Cons ∷ []) (list_made ts)))
 
 -- what the items of a list make
 abbrev pub made : {A : Type 0} → (A → Tree) → List A → List Make
 made f xs = flat_map (λ x. postorder (f x)) xs
 
-made-map : {A : Type 0} (f : A → Tree) (xs : List A) → made f xs ≡ flat_map postorder (map f xs)
-made-map f [] = refl
-made-map f (x ∷ xs) = ap (λ l. postorder (f x) ++ l) (made-map f xs)
+made_map : {A : Type 0} (f : A → Tree) (xs : List A) → made f xs ≡ flat_map postorder (map f xs)
+made_map f [] = refl
+made_map f (x ∷ xs) = ap (λ l. postorder (f x) ++ l) (made_map f xs)
 
-pub items-end : {A : Type 0} (f : A → Tree) (xs : List A) (n : ℕ) (out new start : List Make) → out ≡ start ++ made f xs → n ≡ length xs → new ≡ out ++ (Nothing ∷ replicate n (Over Cons)) → new ≡ start ++ postorder (chain (map f xs))
-items-end f xs n out new start i l e =
+pub items_end : {A : Type 0} (f : A → Tree) (xs : List A) (n : ℕ) (out new start : List Make) → out ≡ start ++ made f xs → n ≡ length xs → new ≡ out ++ (Nothing ∷ replicate n (Over Cons)) → new ≡ start ++ postorder (chain (map f xs))
+items_end f xs n out new start i l e =
     e ∙ (ap (λ o. o ++ (Nothing ∷ replicate n (Over Cons))) i
     ∙ (append_assoc start (made f xs) (Nothing ∷ replicate n (Over Cons))
-    ∙ ap (λ o. start ++ o) (ap (λ k. made f xs ++ (Nothing ∷ replicate k (Over Cons))) (l ∙ sym (length-of xs)) ∙ (ap (λ o. o ++ (Nothing ∷ replicate (length (map f xs)) (Over Cons))) (made-map f xs) ∙ list-made (map f xs)))))
+    ∙ ap (λ o. start ++ o) (ap (λ k. made f xs ++ (Nothing ∷ replicate k (Over Cons))) (l ∙ sym (length_of xs)) ∙ (ap (λ o. o ++ (Nothing ∷ replicate (length (map f xs)) (Over Cons))) (made_map f xs) ∙ list_made (map f xs)))))
   where
-    length-of : (ys : List _) → length (map f ys) ≡ length ys
-    length-of [] = refl
-    length-of (y ∷ ys) = ap suc (length-of ys)
-
-pub few_overs : (ms : List Make) → overs ms ≤ length ms
-few_overs [] = omega arith
-few_overs (Nothing ∷ ms) = omega (arith, few_overs ms)
-few_overs (Over h ∷ ms) = omega (arith, few_overs ms)
+    length_of : (ys : List _) → length (map f ys) ≡ length ys
+    length_of [] = refl
+    length_of (y ∷ ys) = ap suc (length_of ys)
 
 -- one head is made, the last one
-pub closing-goes : (hs ks : List Head) (h : Head) (out new total : List Make) → hs ≡ ks ++ h ∷ [] → out ++ closing hs ≡ total → new ≡ out ++ Over h ∷ [] → new ++ closing ks ≡ total
-closing-goes hs ks h out new total e i n = ap (λ l. l ++ closing ks) n ∙ (append_assoc out (Over h ∷ []) (closing ks) ∙ (ap (λ l. out ++ l) (sym (ap closing e ∙ closing-last ks h)) ∙ i))
+pub closing_goes : (hs ks : List Head) (h : Head) (out new total : List Make) → hs ≡ ks ++ h ∷ [] → out ++ closing hs ≡ total → new ≡ out ++ Over h ∷ [] → new ++ closing ks ≡ total
+closing_goes hs ks h out new total e i n = ap (λ l. l ++ closing ks) n ∙ (append_assoc out (Over h ∷ []) (closing ks) ∙ (ap (λ l. out ++ l) (sym (ap closing e ∙ closing_last ks h)) ∙ i))
 
 -- the lines of all terms
-pub lines-end : (t s : Tree) (n : ℕ) (out new start : List Make) → t ≡ Empty → out ++ made reflexive (terms_in t) ≡ start ++ made reflexive (terms_in s) → n + length (terms_in t) ≡ length (terms_in s) → new ≡ out ++ (Nothing ∷ replicate n (Over Cons)) → new ≡ start ++ postorder (reflexive_lines s)
-lines-end t s n out new start e i l f =
+pub lines_end : (t s : Tree) (n : ℕ) (out new start : List Make) → t ≡ Empty → out ++ made reflexive (terms_in t) ≡ start ++ made reflexive (terms_in s) → n + length (terms_in t) ≡ length (terms_in s) → new ≡ out ++ (Nothing ∷ replicate n (Over Cons)) → new ≡ start ++ postorder (reflexive_lines s)
+lines_end t s n out new start e i l f =
     let none : length (terms_in t) ≡ 0 = ap (λ u. length (terms_in u)) e in
     let all : n ≡ length (terms_in s) = omega (arith, none, l) in
-    items-end reflexive (terms_in s) n out new start (sym (append-nil out) ∙ (ap (λ u. out ++ made reflexive (terms_in u)) (sym e) ∙ i)) all f
+    items_end reflexive (terms_in s) n out new start (sym (append-nil out) ∙ (ap (λ u. out ++ made reflexive (terms_in u)) (sym e) ∙ i)) all f
 
 map_twice : {A B C : Type 0} (f : B → C) (g : A → B) (xs : List A) → map (λ x. f (g x)) xs ≡ map f (map g xs)
 map_twice f g [] = refl
 map_twice f g (x ∷ xs) = ap (λ l. f (g x) ∷ l) (map_twice f g xs)
 
 -- the trees of all items
-pub items-past : {A B : Type 0} (f : B → Tree) (g : A → B) (xs : List A) (k : ℕ) (out new start : List Make) → length xs ≤ k → out ++ made (λ x. f (g x)) (drop k xs) ≡ start ++ made (λ x. f (g x)) xs → new ≡ out ++ (Nothing ∷ replicate (length xs) (Over Cons)) → new ≡ start ++ postorder (chain (map f (map g xs)))
-items-past f g xs k out new start h i e =
-    items-end (λ x. f (g x)) xs (length xs) out new start (sym (append-nil out) ∙ (ap (λ ys. out ++ made (λ x. f (g x)) ys) (sym (drop_all k xs h)) ∙ i)) refl e
+pub items_past : {A B : Type 0} (f : B → Tree) (g : A → B) (xs : List A) (k : ℕ) (out new start : List Make) → length xs ≤ k → out ++ made (λ x. f (g x)) (drop k xs) ≡ start ++ made (λ x. f (g x)) xs → new ≡ out ++ (Nothing ∷ replicate (length xs) (Over Cons)) → new ≡ start ++ postorder (chain (map f (map g xs)))
+items_past f g xs k out new start h i e =
+    items_end (λ x. f (g x)) xs (length xs) out new start (sym (append-nil out) ∙ (ap (λ ys. out ++ made (λ x. f (g x)) ys) (sym (drop_all k xs h)) ∙ i)) refl e
     ∙ ap (λ ts. start ++ postorder (chain ts)) (map_twice f g xs)
 
 -- the one tree that is made
@@ -98,4 +94,4 @@ pub only : (trees : List KindTree) (ids : List (Option NodeId)) (o : Option Node
 only trees [] o t e f = absurd (cc)
 only trees (i ∷ ids) o t e f = let same : o ≡ i = cc in let first : tree_at trees i ≡ t = cc in ap (tree_at trees) same ∙ first
 
-pub ruleset making = (tree_of-NoTree, few_overs, replicate_more, append_assoc, append-nil)
+pub ruleset making = (tree_of_NoTree, few_overs, replicate_more, append_assoc, append-nil)

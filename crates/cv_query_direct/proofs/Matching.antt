@@ -8,11 +8,12 @@ use Rattle.cv_pool.specs.declared.node.NodeId.{NodeId}
 use Rattle.std.specs.HashSet.{Updates, contains}
 use Rattle.cv_syntax_trees.specs.Tree.{Tree, Empty, Node}
 use Rattle.cv_syntax.specs.PoolTrees.{tree_at}
-use Rattle.cv_syntax.proofs.Trees.{tree_of-NoTree, same_open, empty_at}
+use Rattle.cv_syntax.proofs.Trees.{tree_of_NoTree, same_open, empty_at}
 use Rattle.cv_meaning.specs.Correspondences.{leaf_name, leaf_names}
 use Rattle.std.specs.Prelude.{nat_eq}
 use Rattle.cv_query_direct.specs.Variables.{is_there}
 use Rattle.cv_meaning.specs.Direct.{argument, stands_for, head_names, is_unbound, is_substituted, is_instance}
+use Rattle.cv_lists.proofs.Tests.{differs}
 
 abbrev pub argument_parts : List ℕ → Tree → ℕ → Option Tree
 argument_parts (x ∷ xs) (Node h m more) y = cond (x == y) (Some m) (argument xs more y)
@@ -68,35 +69,21 @@ instance_open own xs a (Node h m more) (Node k n rest) = refl
 instance_open own xs a _ _ = refl
 
 -- the argument of the first variable, and of a later one
-pub found-here : (ns ms : Tree) (h k : Head) (a b m more : Tree) (y : ℕ) → ns ≡ Node h a b → ms ≡ Node k m more → leaf_name a ≡ y → argument (leaf_names ns) ms y ≡ Some m
-found-here ns ms h k a b m more y e f g =
+pub found_here : (ns ms : Tree) (h k : Head) (a b m more : Tree) (y : ℕ) → ns ≡ Node h a b → ms ≡ Node k m more → leaf_name a ≡ y → argument (leaf_names ns) ms y ≡ Some m
+found_here ns ms h k a b m more y e f g =
     ap₂ (λ s t. argument (leaf_names s) t y) e f ∙ (argument_open (leaf_name a ∷ leaf_names b) (Node k m more) y ∙ ap (λ c. cond c (Some m) (argument (leaf_names b) more y)) (eq-eqb (leaf_name a) y g))
 
-other : (x y : ℕ) → (x ≡ y → ⊥) → (x == y) ≡ false
-other x y n = go (x == y) refl
-  where
-    go : (c : Bool) → (x == y) ≡ c → c ≡ false
-    go true e = absurd (n (eqb-true x y e))
-    go false e = refl
-
-pub found-later : (ns ms : Tree) (h k : Head) (a b m more : Tree) (y : ℕ) → ns ≡ Node h a b → ms ≡ Node k m more → (leaf_name a ≡ y → ⊥) → argument (leaf_names ns) ms y ≡ argument (leaf_names b) more y
-found-later ns ms h k a b m more y e f g =
-    ap₂ (λ s t. argument (leaf_names s) t y) e f ∙ (argument_open (leaf_name a ∷ leaf_names b) (Node k m more) y ∙ ap (λ c. cond c (Some m) (argument (leaf_names b) more y)) (other (leaf_name a) y g))
+pub found_later : (ns ms : Tree) (h k : Head) (a b m more : Tree) (y : ℕ) → ns ≡ Node h a b → ms ≡ Node k m more → (leaf_name a ≡ y → ⊥) → argument (leaf_names ns) ms y ≡ argument (leaf_names b) more y
+found_later ns ms h k a b m more y e f g =
+    ap₂ (λ s t. argument (leaf_names s) t y) e f ∙ (argument_open (leaf_name a ∷ leaf_names b) (Node k m more) y ∙ ap (λ c. cond c (Some m) (argument (leaf_names b) more y)) (differs (leaf_name a) y g))
 
 -- one more name, and the names of a node with its children
 
-pub one-bound : (m n : NameSet) (h : Head) (x : ℕ) → ((y : ℕ) → head_names h y ≡ is_there (Some x) y) → Updates nat_eq m n x true → (y : ℕ) → is_outside n y ≡ (not (head_names h y) && is_outside m y)
-one-bound m n h x e u y = ap not (u.0 y) ∙ (cases (x == y) (is_outside m y) (contains nat_eq m y) refl ∙ ap (λ b. not b && is_outside m y) (sym (e y)))
-  where
-    cases : (b o c : Bool) → o ≡ not c → not (cond b true c) ≡ (not b && o)
-    cases true o c e = refl
-    cases false o c e = sym e
+pub none_bound : (m n : NameSet) (h : Head) (o : Option ℕ) → ((y : ℕ) → head_names h y ≡ is_there o y) → o ≡ None → n ≡ m → (y : ℕ) → is_outside n y ≡ (not (head_names h y) && is_outside m y)
+none_bound m n h o e f g y = ap (λ s. is_outside s y) g ∙ ap (λ b. not b && is_outside m y) (sym (e y ∙ ap (λ p. is_there p y) f))
 
-pub none-bound : (m n : NameSet) (h : Head) (o : Option ℕ) → ((y : ℕ) → head_names h y ≡ is_there o y) → o ≡ None → n ≡ m → (y : ℕ) → is_outside n y ≡ (not (head_names h y) && is_outside m y)
-none-bound m n h o e f g y = ap (λ s. is_outside s y) g ∙ ap (λ b. not b && is_outside m y) (sym (e y ∙ ap (λ p. is_there p y) f))
-
-pub bound-more : (t : Tree) (h : Head) (a b : Tree) (m n k : NameSet) → t ≡ Node h a b → ((y : ℕ) → is_outside n y ≡ (not (head_names h y) && is_outside m y)) → ((y : ℕ) → is_outside k y ≡ (is_unbound a y && is_outside n y)) → (y : ℕ) → (is_unbound b y && is_outside k y) ≡ (is_unbound t y && is_outside m y)
-bound-more t h a b m n k e f g y =
+pub bound_more : (t : Tree) (h : Head) (a b : Tree) (m n k : NameSet) → t ≡ Node h a b → ((y : ℕ) → is_outside n y ≡ (not (head_names h y) && is_outside m y)) → ((y : ℕ) → is_outside k y ≡ (is_unbound a y && is_outside n y)) → (y : ℕ) → (is_unbound b y && is_outside k y) ≡ (is_unbound t y && is_outside m y)
+bound_more t h a b m n k e f g y =
     ap (λ c. is_unbound b y && c) (g y ∙ ap (λ c. is_unbound a y && c) (f y))
     ∙ (cases (is_unbound b y) (is_unbound a y) (not (head_names h y)) (is_outside m y)
     ∙ ap (λ c. c && is_outside m y) (sym (ap (λ s. is_unbound s y) e ∙ unbound_open (Node h a b) y)))
@@ -111,7 +98,7 @@ bound-more t h a b m n k e f g y =
     cases false false true s = refl
     cases false false false s = refl
 
-pub bound-end : (trees : List KindTree) (at : Option NodeId) (m : NameSet) → at ≡ None → (y : ℕ) → (is_unbound (tree_at trees at) y && is_outside m y) ≡ is_outside m y
-bound-end trees at m e y = ap (λ t. is_unbound t y && is_outside m y) (empty_at trees at e) ∙ ap (λ c. c && is_outside m y) (unbound_open Empty y)
+pub bound_end : (trees : List KindTree) (at : Option NodeId) (m : NameSet) → at ≡ None → (y : ℕ) → (is_unbound (tree_at trees at) y && is_outside m y) ≡ is_outside m y
+bound_end trees at m e y = ap (λ t. is_unbound t y && is_outside m y) (empty_at trees at e) ∙ ap (λ c. c && is_outside m y) (unbound_open Empty y)
 
-pub ruleset instance_laws = (tree_of-NoTree, same_open, argument_open, unbound_open, substituted_open, instance_open)
+pub ruleset instance_laws = (tree_of_NoTree, same_open, argument_open, unbound_open, substituted_open, instance_open)

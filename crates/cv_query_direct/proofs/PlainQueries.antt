@@ -11,7 +11,7 @@ use Rattle.cv_pool.specs.KindTree.{KindTree}
 use Rattle.cv_syntax_trees.specs.Tree.{Tree, Empty, Node, first, head_reads_only, reads_only}
 use Rattle.cv_syntax.specs.PoolTrees.{tree_at}
 use Rattle.cv_syntax.specs.NameSets.{NameSet, is_in, is_one_of, is_outside}
-use Rattle.cv_syntax.proofs.Trees.{tree_of-NoTree, reads_open, empty_at}
+use Rattle.cv_syntax.proofs.Trees.{tree_of_NoTree, reads_open, empty_at}
 use Rattle.cv_meaning.specs.Binders.{bound_names}
 use Rattle.cv_meaning.specs.Correspondences.{leaf_name, leaf_names, reads, on_the_right_alone}
 use Rattle.cv_query_direct.specs.Plain.{are_plain_events, has_none, is_plain_event, is_plain_query, none_alone}
@@ -121,8 +121,8 @@ none_read bs ys m = reads_all m
 
 -- sets of variables
 
-pub one-less : (m n : NameSet) (x : ℕ) (t : Tree) (h : Head) (a b : Tree) → t ≡ Node h a b → x ≡ leaf_name a → UpdatesBy nat_eq (nat_eq x) m n false → (y : ℕ) → is_no_argument (is_in n) b y ≡ is_no_argument (is_in m) t y
-one-less m n x t h a b e f u y =
+pub one_less : (m n : NameSet) (x : ℕ) (t : Tree) (h : Head) (a b : Tree) → t ≡ Node h a b → x ≡ leaf_name a → UpdatesBy nat_eq (nat_eq x) m n false → (y : ℕ) → is_no_argument (is_in n) b y ≡ is_no_argument (is_in m) t y
+one_less m n x t h a b e f u y =
     ap (λ c. c && not (is_one_of (leaf_names b) y)) (u.0 y)
     ∙ (cases (x == y) (is_in m y) (is_one_of (leaf_names b) y)
     ∙ (ap (λ z. is_in m y && not ((z == y) || is_one_of (leaf_names b) y)) f
@@ -133,8 +133,8 @@ one-less m n x t h a b e f u y =
     cases true false d = refl
     cases false c d = refl
 
-pub no-argument-more : (m n : NameSet) (trees : List KindTree) (at : Option NodeId) (t : Tree) → at ≡ None → ((y : ℕ) → is_no_argument (is_in m) (tree_at trees at) y ≡ is_no_argument (is_in n) t y) → is_in m ≡ is_no_argument (is_in n) t
-no-argument-more m n trees at t e h = fun_ext (λ y. and_all (is_in m y) ∙ (ap (λ s. is_no_argument (is_in m) s y) (sym (empty_at trees at e)) ∙ h y))
+pub no_argument_more : (m n : NameSet) (trees : List KindTree) (at : Option NodeId) (t : Tree) → at ≡ None → ((y : ℕ) → is_no_argument (is_in m) (tree_at trees at) y ≡ is_no_argument (is_in n) t y) → is_in m ≡ is_no_argument (is_in n) t
+no_argument_more m n trees at t e h = fun_ext (λ y. and_all (is_in m y) ∙ (ap (λ s. is_no_argument (is_in m) s y) (sym (empty_at trees at e)) ∙ h y))
   where
     and_all : (b : Bool) → b ≡ (b && not false)
     and_all true = refl
@@ -145,10 +145,10 @@ no-argument-more m n trees at t e h = fun_ext (λ y. and_all (is_in m y) ∙ (ap
 alone_read : (names : NameSet) (bs left atoms : Tree) → is_in names ≡ is_alone bs left → reads_only (is_outside names) atoms ≡ none_alone bs left atoms
 alone_read names bs left atoms e = ap (λ p. reads_only (λ y. not (p y)) atoms) e ∙ none_read bs (leaf_names (first left)) atoms
 
-pub sides-read : (bs t : Tree) (h : Head) (left atoms : Tree) (names : NameSet) → t ≡ Node h left atoms → h ≡ Cons → (is_plain_event left && are_plain_events atoms) ≡ true → is_in names ≡ is_alone bs left → reads_only (is_outside names) atoms ≡ sides_are_plain bs t
-sides-read bs t h left atoms names e f r n =
+pub sides_read : (bs t : Tree) (h : Head) (left atoms : Tree) (names : NameSet) → t ≡ Node h left atoms → h ≡ Cons → (is_plain_event left && are_plain_events atoms) ≡ true → is_in names ≡ is_alone bs left → reads_only (is_outside names) atoms ≡ sides_are_plain bs t
+sides_read bs t h left atoms names e f r n =
     let both = and_parts (is_plain_event left) _ r in
     alone_read names bs left atoms n
     ∙ sym (ap (sides_are_plain bs) e ∙ (ap (λ k. cell_is_plain bs k left atoms) f ∙ ap₂ (λ c d. c && (d && none_alone bs left atoms)) both.0 both.1))
 
-pub ruleset plain_laws = (tree_of-NoTree, events_open, reads_open, query_open)
+pub ruleset plain_laws = (tree_of_NoTree, events_open, reads_open, query_open)

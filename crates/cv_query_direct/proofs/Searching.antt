@@ -12,12 +12,13 @@ use Rattle.cv_syntax_trees.specs.Head.{weight}
 use Rattle.cv_pool.specs.KindTree.{KindTree}
 use Rattle.cv_syntax_trees.specs.Tree.{Tree, Empty, Node, size, first_place, second_place}
 use Rattle.cv_syntax.specs.PoolTrees.{tree_at}
-use Rattle.cv_syntax.proofs.Trees.{tree_of-NoTree, size_open}
+use Rattle.cv_syntax.proofs.Trees.{tree_of_NoTree, size_open}
 use Rattle.cv_meaning.specs.Correspondences.{Correspondence, Atom, RightEvent, RightTerm, atoms_of}
 use Rattle.cv_meaning.specs.Direct.{Noted, is_noted, is_unbound, atom_noted, event_covered, head_covered, noted_by, plainly_covered}
 use Rattle.cv_query_direct.specs.declared.search.Seen.{Seen}
 use Rattle.cv_query_direct.specs.Found.{placed, SeenBelow, seen_by}
 use Rattle.cv_query_direct.specs.Search.{Wanted, wanted_of, Placed, RouteTree, EntryTree, first_noted, route, joined, alone, routes_of, event_entries, head_entries, placed_by, entries_of}
+use Rattle.cv_lists.proofs.Options.{is_some_map}
 
 abbrev pub entries_parts : Wanted → List Placed → ℕ → Tree → Option (List EntryTree)
 entries_parts w above p Empty = Some []
@@ -39,10 +40,6 @@ joined_step es fs gs (Some h) (Some x) (Some y) e f =
     let u : fs ≡ es ++ h = cc in
     let v : gs ≡ fs ++ x = cc in
     ap (λ l. Some (l ++ y)) (v ∙ ap (λ l. l ++ x) u) ∙ ap Some (ap (λ l. l ++ y) (append_assoc es h x) ∙ (append_assoc es (h ++ x) y ∙ ap (λ l. es ++ l) (append_assoc h x y)))
-
-pub joined_stop : {A : Type 0} (es : List A) (H X : Option (List A)) → joined (Some es) H ≡ None → joined (Some es) (joined H X) ≡ None
-joined_stop es None X e = refl
-joined_stop es (Some h) X e = absurd (cc)
 
 pub joined_stop_first : {A : Type 0} (es fs : List A) (H X Y : Option (List A)) → joined (Some es) H ≡ Some fs → joined (Some fs) X ≡ None → joined (Some es) (joined H (joined X Y)) ≡ None
 joined_stop_first es fs None X Y e f = absurd (cc)
@@ -66,10 +63,6 @@ alone_some : {A : Type 0} (o : Option A) → is_some (alone o) ≡ is_some o
 alone_some None = refl
 alone_some (Some x) = refl
 
-pub map_some : {A B : Type 0} (f : A → B) (o : Option A) → is_some (option_map f o) ≡ is_some o
-map_some f None = refl
-map_some f (Some x) = refl
-
 first_some : (own : ℕ → Bool) (xs : List ℕ) (above : List Placed) (a : Tree) (f : ℕ) (ms : Tree) → is_some (first_noted own xs above a f ms) ≡ list_any (is_noted own xs a f ms) (all_noted above)
 first_some own xs [] a f ms = refl
 first_some own xs (s ∷ above) a f ms = go (is_noted own xs a f ms s.noted) (first_some own xs above a f ms)
@@ -91,7 +84,7 @@ event_some : (game : Tree) (q : Correspondence) (above : List Placed) (p e : ℕ
 event_some game q above p e a = go (e == q.event)
   where
     go : (c : Bool) → is_some {T = List EntryTree} (cond c (option_map (λ rs. (p, rs) ∷ []) (routes_of (is_unbound game) q.variables above a q.atoms)) (Some [])) ≡ cond c (list_all (atom_noted (is_unbound game) q.variables (all_noted above) a) q.atoms) true
-    go true = map_some (λ rs. (p, rs) ∷ []) (routes_of (is_unbound game) q.variables above a q.atoms) ∙ routes_some (is_unbound game) q.variables above a q.atoms
+    go true = is_some_map (λ rs. (p, rs) ∷ []) (routes_of (is_unbound game) q.variables above a q.atoms) ∙ routes_some (is_unbound game) q.variables above a q.atoms
     go false = refl
 
 head_some : (game : Tree) (q : Correspondence) (above : List Placed) (p : ℕ) (h : Head) (a : Tree) → is_some (head_entries (wanted_of game q) above p h a) ≡ head_covered (is_unbound game) q (all_noted above) h a
@@ -123,11 +116,6 @@ entries_step w above here below p q r es fs gs t h a b et e eh eq f eb er =
     ∙ (joined_step es fs gs (head_entries w above p h a) (entries_of w above (first_place p h) a) (entries_of w (above ++ placed_by p h a) (second_place p h a) b) e f2
     ∙ ap (joined (Some es)) (sym (ap (entries_of w above p) et ∙ entries_open w above p (Node h a b))))
 
-pub entries_stop : (w : Wanted) (above : List Placed) (p : ℕ) (es : List EntryTree) (t : Tree) (h : Head) (a b : Tree) → t ≡ Node h a b → joined (Some es) (head_entries w above p h a) ≡ None → joined (Some es) (entries_of w above p t) ≡ None
-entries_stop w above p es t h a b et e =
-    ap (joined (Some es)) (ap (entries_of w above p) et ∙ entries_open w above p (Node h a b))
-    ∙ joined_stop es (head_entries w above p h a) (joined (entries_of w above (first_place p h) a) (entries_of w (above ++ placed_by p h a) (second_place p h a) b)) e
-
 pub entries_stop_first : (w : Wanted) (above here : List Placed) (p q : ℕ) (es fs : List EntryTree) (t : Tree) (h : Head) (a b : Tree) → t ≡ Node h a b → joined (Some es) (head_entries w above p h a) ≡ Some fs → here ≡ above → q ≡ p + weight h → joined (Some fs) (entries_of w here q a) ≡ None → joined (Some es) (entries_of w above p t) ≡ None
 entries_stop_first w above here p q es fs t h a b et e eh eq f =
     ap (joined (Some es)) (ap (entries_of w above p) et ∙ entries_open w above p (Node h a b))
@@ -156,4 +144,4 @@ seen_more n xs p h o a b = subst (All (SeenBelow n)) (sym (append-nil xs)) a
 pub kept_more : {A : Type 0} (xs ys zs more : List A) (n : ℕ) → take n xs ≡ zs → n ≡ length zs → ys ≡ xs ++ more → take n ys ≡ zs
 kept_more xs ys zs more n e l f = grind (arith, common_steps)
 
-pub ruleset search_laws = (tree_of-NoTree, entries_open, size_open)
+pub ruleset search_laws = (tree_of_NoTree, entries_open, size_open)

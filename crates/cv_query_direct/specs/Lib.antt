@@ -4,3 +4,5 @@ pub mod Search
 pub mod Variables
 pub mod Certificates
 pub mod Closing
+pub mod closed_terms
+pub mod forms

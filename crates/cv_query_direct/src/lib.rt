@@ -1,6 +1,9 @@
 // Correspondences that hold by the shape of a game, and the step that closes them.
 #![tactic(auto)]
 
+pub mod closed_terms;
+pub mod forms;
+
 ghost use Rattle.std.specs.Prelude.{◌≡◌, true, List};
 ghost use Rattle.cv_syntax_trees.specs.declared.head.Head.TheVariants.{Cons, Query};
 ghost use Rattle.cv_syntax_trees.specs.Declarations.{Declaration};

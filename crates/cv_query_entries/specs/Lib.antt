@@ -1,3 +1,5 @@
 pub mod Nodes
 pub mod Views
 pub mod Said
+pub mod terms
+pub mod ends

@@ -7,8 +7,8 @@ use Rattle.cv_syntax_trees.specs.Tree.{Tree, Empty, Node}
 use Rattle.cv_syntax.specs.PoolTrees.{tree_at}
 use Rattle.cv_meaning.specs.Correspondences as query
 use Rattle.cv_meaning.specs.Correspondences.{Correspondence, RightEvent, RightTerm}
-use Rattle.cv_scenes.specs.Scenes.{Scene}
-use Rattle.cv_scenes.specs.Sights.{is_cell_at, sight_at}
+use Rattle.cv_scene.specs.Scenes.{Scene}
+use Rattle.cv_scene.specs.Sights.{is_cell_at, sight_at}
 use Rattle.cv_query_certificates.specs.EventNodes.{are_for, arguments_at, is_event_above, only_site, place_in}
 use Rattle.cv_query_certificates.specs.Forms.{have_route_forms, have_types, is_above_site, is_number}
 use Rattle.cv_query_entries.specs.declared.views.Atom.{Atom}

@@ -13,8 +13,8 @@ use Rattle.cv_typing_rules.specs.Signature.{OfGame}
 use Rattle.cv_typing.specs.Tables.{arrays_of, directory_in}
 use Rattle.cv_scope_rules.specs.Phrases.{IsWellFormed}
 use Rattle.cv_meaning.specs.Correspondences.{Correspondence, atoms_of, leaf_names}
-use Rattle.cv_scenes.specs.Scenes.{Scene}
-use Rattle.cv_rule_scenes.specs.Kept as kept
+use Rattle.cv_scene.specs.Scenes.{Scene}
+use Rattle.cv_scene_view.specs.Kept as kept
 use Rattle.cv_query_entries.specs.declared.views.Asked.{Asked}
 use Rattle.cv_query_entries.specs.declared.views.View.{View}
 

@@ -8,7 +8,7 @@ ghost use Rattle.cv_query_entries.specs.Nodes as nodes;
 ghost use Rattle.cv_query_entries.specs.Views.{IsReady, game_of, trees_of};
 
 use crate::views::View;
-use cv_derive_cells::{only_definition, variable};
+use cv_derive_reasons::cells::{only_definition, variable};
 use cv_directory::Directory;
 use cv_syntax::NodeId;
 use cv_typing::Arrays;

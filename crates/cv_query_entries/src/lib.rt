@@ -2,9 +2,11 @@
 #![tactic(auto)]
 
 mod cells;
+pub mod ends;
 mod forms;
 mod nodes;
 mod parts;
+pub mod terms;
 mod views;
 
 pub use cells::{rows_above, site_place};

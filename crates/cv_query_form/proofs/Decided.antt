@@ -12,52 +12,52 @@ use Rattle.cv_directory_sorts.specs.declared.sort.Sort.TheVariants.{OfType, Belo
 use Rattle.cv_directory_sorts.specs.Sites.{Variable, first_site}
 use Rattle.cv_query_form.specs.Rules.{IsLeftEvent, SomeIsMarked, AreMarkedAlike, HasValues, MayBeAsked}
 use Rattle.cv_query_form.specs.Tests.{is_left_event, some_is_marked, are_marked_alike, is_of_type, has_values, passes, may_be_asked}
-use Rattle.cv_query_form.proofs.Distinct.{arguments-found, arguments-tested}
+use Rattle.cv_query_form.proofs.Distinct.{arguments_found, arguments_tested}
 
-event-found : (xs : List ℕ) (t : Tree) → is_left_event (is_one_of xs) t ≡ true → IsLeftEvent xs t
+event_found : (xs : List ℕ) (t : Tree) → is_left_event (is_one_of xs) t ≡ true → IsLeftEvent xs t
 unfolding is_left_event
-event-found xs (Node (Occurs e) terms Empty) h = arguments-found xs terms h
-event-found xs (Node (OccursOnce e) terms Empty) h = arguments-found xs terms h
-event-found xs t h = absurd (both_ways _ refl h)
+event_found xs (Node (Occurs e) terms Empty) h = arguments_found xs terms h
+event_found xs (Node (OccursOnce e) terms Empty) h = arguments_found xs terms h
+event_found xs t h = absurd (both_ways _ refl h)
 
-event-tested : (xs : List ℕ) (t : Tree) → IsLeftEvent xs t → is_left_event (is_one_of xs) t ≡ true
+event_tested : (xs : List ℕ) (t : Tree) → IsLeftEvent xs t → is_left_event (is_one_of xs) t ≡ true
 unfolding is_left_event
-event-tested xs (Node (Occurs e) terms Empty) m = arguments-tested xs terms m
-event-tested xs (Node (OccursOnce e) terms Empty) m = arguments-tested xs terms m
-event-tested xs t m = absurd m
+event_tested xs (Node (Occurs e) terms Empty) m = arguments_tested xs terms m
+event_tested xs (Node (OccursOnce e) terms Empty) m = arguments_tested xs terms m
+event_tested xs t m = absurd m
 
 -- marks
 
-marked-found : (t : Tree) → some_is_marked t ≡ true → SomeIsMarked t
+marked_found : (t : Tree) → some_is_marked t ≡ true → SomeIsMarked t
 unfolding some_is_marked SomeIsMarked
-marked-found Empty e = absurd (both_ways _ refl e)
-marked-found (Node h a b) e = elim (or_cases (is_once a) (some_is_marked b) e) [ inl k ↦ inl k | inr k ↦ inr (marked-found b k) ]
+marked_found Empty e = absurd (both_ways _ refl e)
+marked_found (Node h a b) e = elim (or_cases (is_once a) (some_is_marked b) e) [ inl k ↦ inl k | inr k ↦ inr (marked_found b k) ]
 
-marked-tested : (t : Tree) → SomeIsMarked t → some_is_marked t ≡ true
+marked_tested : (t : Tree) → SomeIsMarked t → some_is_marked t ≡ true
 unfolding some_is_marked SomeIsMarked
-marked-tested Empty m = absurd m
-marked-tested (Node h a b) (inl k) = or_left (is_once a) _ k
-marked-tested (Node h a b) (inr k) = or_right (is_once a) _ (marked-tested b k)
+marked_tested Empty m = absurd m
+marked_tested (Node h a b) (inl k) = or_left (is_once a) _ k
+marked_tested (Node h a b) (inr k) = or_right (is_once a) _ (marked_tested b k)
 
-alike-found : (left atoms : Tree) → are_marked_alike left atoms ≡ true → AreMarkedAlike left atoms
-alike-found left atoms e = cases (is_once left) refl e
+alike_found : (left atoms : Tree) → are_marked_alike left atoms ≡ true → AreMarkedAlike left atoms
+alike_found left atoms e = cases (is_once left) refl e
   where
     cases : (b : Bool) → is_once left ≡ b → cond b (some_is_marked atoms) (not (some_is_marked atoms)) ≡ true → AreMarkedAlike left atoms
-    cases true f e = (λ m. marked-found atoms e, λ m. f)
-    cases false f e = (λ m. absurd (both_ways _ f m), λ m. absurd (both_ways _ (not-true _ e) (marked-tested atoms m)))
+    cases true f e = (λ m. marked_found atoms e, λ m. f)
+    cases false f e = (λ m. absurd (both_ways _ f m), λ m. absurd (both_ways _ (not-true _ e) (marked_tested atoms m)))
 
-alike-tested : (left atoms : Tree) → AreMarkedAlike left atoms → are_marked_alike left atoms ≡ true
-alike-tested left atoms m = ap (λ b. cond b (some_is_marked atoms) (not (some_is_marked atoms))) refl ∙ cases (is_once left) (some_is_marked atoms) refl refl
+alike_tested : (left atoms : Tree) → AreMarkedAlike left atoms → are_marked_alike left atoms ≡ true
+alike_tested left atoms m = ap (λ b. cond b (some_is_marked atoms) (not (some_is_marked atoms))) refl ∙ cases (is_once left) (some_is_marked atoms) refl refl
   where
     cases : (b c : Bool) → is_once left ≡ b → some_is_marked atoms ≡ c → are_marked_alike left atoms ≡ true
-    cases true c e f = ap (λ b. cond b (some_is_marked atoms) (not (some_is_marked atoms))) e ∙ marked-tested atoms (m.0 e)
-    cases false true e f = absurd (both_ways _ e (m.1 (marked-found atoms f)))
+    cases true c e f = ap (λ b. cond b (some_is_marked atoms) (not (some_is_marked atoms))) e ∙ marked_tested atoms (m.0 e)
+    cases false true e f = absurd (both_ways _ e (m.1 (marked_found atoms f)))
     cases false false e f = ap (λ b. cond b (some_is_marked atoms) (not (some_is_marked atoms))) e ∙ not_from_false _ f
 
 -- secrets
 
-values-found : (game : Tree) (x : ℕ) → has_values game x ≡ true → HasValues game x
-values-found game x e = cases (first_site x [] game) refl e
+values_found : (game : Tree) (x : ℕ) → has_values game x ≡ true → HasValues game x
+values_found game x e = cases (first_site x [] game) refl e
   where
     cases : (o : Option Variable) → first_site x [] game ≡ o → is_of_type (option_map (λ (v : Variable). v.sort) o) ≡ true → HasValues game x
     cases None f e = absurd (both_ways _ refl e)
@@ -67,23 +67,23 @@ values-found game x e = cases (first_site x [] game) refl e
         sorts (OfType T) g e = record { parameters = v.parameters; values = T; site = f ∙ ap (λ s. let w : Variable = record { parameters = v.parameters; sort = s } in Some w) g }
         sorts (BelowParameter n) g e = absurd (both_ways _ refl e)
 
-values-tested : (game : Tree) (x : ℕ) → HasValues game x → has_values game x ≡ true
-values-tested game x m = ap (λ o. is_of_type (option_map (λ (v : Variable). v.sort) o)) m.site
+values_tested : (game : Tree) (x : ℕ) → HasValues game x → has_values game x ≡ true
+values_tested game x m = ap (λ o. is_of_type (option_map (λ (v : Variable). v.sort) o)) m.site
 
 -- queries
 
-pub query-found : (game query : Tree) → may_be_asked game query ≡ true → MayBeAsked game query
+pub query_found : (game query : Tree) → may_be_asked game query ≡ true → MayBeAsked game query
 unfolding passes MayBeAsked
-query-found game (Node Query bs (Node Cons left atoms)) e =
+query_found game (Node Query bs (Node Cons left atoms)) e =
     let p = and_parts (is_left_event (is_one_of (bound_names bs)) left) _ e in
-    (event-found (bound_names bs) left p.0, alike-found left atoms p.1)
-query-found game (Node (Secret x) Empty Empty) e = values-found game x e
-query-found game (Node (SecretOnce x) Empty Empty) e = values-found game x e
-query-found game q e = absurd (both_ways _ refl e)
+    (event_found (bound_names bs) left p.0, alike_found left atoms p.1)
+query_found game (Node (Secret x) Empty Empty) e = values_found game x e
+query_found game (Node (SecretOnce x) Empty Empty) e = values_found game x e
+query_found game q e = absurd (both_ways _ refl e)
 
-pub query-tested : (game query : Tree) → MayBeAsked game query → may_be_asked game query ≡ true
+pub query_tested : (game query : Tree) → MayBeAsked game query → may_be_asked game query ≡ true
 unfolding passes MayBeAsked
-query-tested game (Node Query bs (Node Cons left atoms)) m = and_from (is_left_event (is_one_of (bound_names bs)) left) _ (event-tested (bound_names bs) left m.0) (alike-tested left atoms m.1)
-query-tested game (Node (Secret x) Empty Empty) m = values-tested game x m
-query-tested game (Node (SecretOnce x) Empty Empty) m = values-tested game x m
-query-tested game q m = absurd m
+query_tested game (Node Query bs (Node Cons left atoms)) m = and_from (is_left_event (is_one_of (bound_names bs)) left) _ (event_tested (bound_names bs) left m.0) (alike_tested left atoms m.1)
+query_tested game (Node (Secret x) Empty Empty) m = values_tested game x m
+query_tested game (Node (SecretOnce x) Empty Empty) m = values_tested game x m
+query_tested game q m = absurd m

@@ -66,18 +66,18 @@ front_more (Some x) (Some y) xs ys h = let s = front_shorter xs ys h.0 in (s.0, 
 
 pub ruleset texts = (all_then, front_then, front_more)
 
-take-take : (m n : ℕ) (xs : List ℕ) → (k : ℕ) × (take m (take n xs) ≡ take k xs)
-take-take zero n xs = (zero, nothing n xs)
+take_take : (m n : ℕ) (xs : List ℕ) → (k : ℕ) × (take m (take n xs) ≡ take k xs)
+take_take zero n xs = (zero, nothing n xs)
   where
     nothing : (n : ℕ) (xs : List ℕ) → take zero (take n xs) ≡ take zero xs
     nothing zero [] = refl
     nothing zero (x ∷ xs) = refl
     nothing (suc n) [] = refl
     nothing (suc n) (x ∷ xs) = refl
-take-take (suc m) zero [] = (zero, refl)
-take-take (suc m) zero (x ∷ xs) = (zero, refl)
-take-take (suc m) (suc n) [] = (zero, refl)
-take-take (suc m) (suc n) (x ∷ xs) = let k = take-take m n xs in (suc k.0, ap (λ l. x ∷ l) k.1)
+take_take (suc m) zero [] = (zero, refl)
+take_take (suc m) zero (x ∷ xs) = (zero, refl)
+take_take (suc m) (suc n) [] = (zero, refl)
+take_take (suc m) (suc n) (x ∷ xs) = let k = take_take m n xs in (suc k.0, ap (λ l. x ∷ l) k.1)
 
 -- a front of what is left, behind what was taken
 pub front_line : (a b c : Option (List ℕ)) (p : List ℕ) (i n m : ℕ) → (IsSome c → IsSome b) → TakesAll a b (take i p) → TakesFront b c (take n (take m (drop i p))) → TakesFront a c p
@@ -85,8 +85,8 @@ front_line a b None p i n m t h k = tt
 front_line None b (Some z) p i n m t h k = tt
 front_line (Some x) None (Some z) p i n m t h k = absurd (let f : IsSome {T = List ℕ} None = t refl in cc)
 front_line (Some x) (Some y) (Some z) p i n m t h k =
-    let r = take-take n m (drop i p) in
-    let s = take-take k.0 r.0 (drop i p) in
+    let r = take_take n m (drop i p) in
+    let s = take_take k.0 r.0 (drop i p) in
     (i + s.0, k.1 ∙ (ap (λ l. y ++ take k.0 l) r.1 ∙ (ap (λ l. y ++ l) s.1 ∙ (ap (λ l. l ++ take s.0 (drop i p)) h ∙ (append_assoc x (take i p) (take s.0 (drop i p)) ∙ ap (λ l. x ++ l) (sym (take-add i s.0 p)))))))
 
 pub ruleset lines = (takes_none, takes_whole, front_line, takes_slice)

@@ -6,13 +6,11 @@ use Rattle.cv_pool.specs.KindTree.{KindTree}
 use Rattle.cv_report.specs.declared.report.Entry.{Entry}
 use Rattle.cv_report.specs.declared.report.Verdict.{Verdict}
 use Rattle.cv_report.specs.Text.{entry_text, games_after, trail_text, verdict_text, verdicts_text}
+use Rattle.cv_lists.proofs.Numbers.{suc_is_plus_one}
 
 pub extended : {T E : Type 0} (r : Result T E) (old more new total : List ℕ) → new ≡ cond (is_ok r) (old ++ more) old → old ++ more ≡ total → OnOk r (new ≡ total)
 extended (Ok u) old more new total i e = i ∙ e
 extended (Err u) old more new total i e = tt
-
-next : (k : ℕ) → suc k ≡ k + 1
-next k = omega arith
 
 trail_more : (names : List (List ℕ)) (trees : List KindTree) (n g : ℕ) (xs : List Entry) (k : ℕ) (d : Entry) → k < length xs → trail_text names trees n g (drop k xs) ≡ entry_text names trees n g (get_or xs k d) ++ trail_text names trees (n + 1) (games_after g (get_or xs k d)) (drop (suc k) xs)
 unfolding trail_text
@@ -25,7 +23,7 @@ entry_goes names trees g h xs k d out new total l i n e =
     ap (λ o. o ++ trail_text names trees (k + 1 + 1) h (drop (k + 1) xs)) n
     ∙ (append_assoc out (entry_text names trees (k + 1) g (get_or xs k d)) (trail_text names trees (k + 1 + 1) h (drop (k + 1) xs))
     ∙ (ap (λ m. out ++ (entry_text names trees (k + 1) g (get_or xs k d) ++ trail_text names trees (k + 1 + 1) m (drop (k + 1) xs))) e
-    ∙ (sym (ap (λ t. out ++ t) (trail_more names trees (k + 1) g xs k d l ∙ ap (λ m. entry_text names trees (k + 1) g (get_or xs k d) ++ trail_text names trees (k + 1 + 1) (games_after g (get_or xs k d)) (drop m xs)) (next k))) ∙ i)))
+    ∙ (sym (ap (λ t. out ++ t) (trail_more names trees (k + 1) g xs k d l ∙ ap (λ m. entry_text names trees (k + 1) g (get_or xs k d) ++ trail_text names trees (k + 1 + 1) (games_after g (get_or xs k d)) (drop m xs)) (suc_is_plus_one k))) ∙ i)))
 
 pub few_games : (g h k : ℕ) (e : Entry) → h ≡ games_after g e → g ≤ k + 2 → h ≤ k + 1 + 2
 few_games g h k e i l = go (is_some e.next) i
@@ -48,7 +46,7 @@ pub verdict_goes : (names : List (List ℕ)) (xs : List Verdict) (k : ℕ) (d : 
 verdict_goes names xs k d out new total l h n =
     ap (λ o. o ++ verdicts_text names (k + 1 + 1) (drop (k + 1) xs)) n
     ∙ (append_assoc out (verdict_text names (k + 1) (get_or xs k d)) (verdicts_text names (k + 1 + 1) (drop (k + 1) xs))
-    ∙ (sym (ap (λ t. out ++ t) (verdicts_more names (k + 1) xs k d l ∙ ap (λ m. verdict_text names (k + 1) (get_or xs k d) ++ verdicts_text names (k + 1 + 1) (drop m xs)) (next k))) ∙ h))
+    ∙ (sym (ap (λ t. out ++ t) (verdicts_more names (k + 1) xs k d l ∙ ap (λ m. verdict_text names (k + 1) (get_or xs k d) ++ verdicts_text names (k + 1 + 1) (drop m xs)) (suc_is_plus_one k))) ∙ h))
 
 pub verdicts_end : (names : List (List ℕ)) (xs : List Verdict) (k n : ℕ) (out total : List ℕ) → length xs ≤ k → out ++ verdicts_text names n (drop k xs) ≡ total → out ≡ total
 unfolding verdicts_text

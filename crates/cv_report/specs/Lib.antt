@@ -1,3 +1,6 @@
 pub mod Codes
 pub mod Text
 pub mod Writing
+pub mod contexts
+pub mod verdicts
+pub mod outcome

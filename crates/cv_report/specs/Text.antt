@@ -9,7 +9,7 @@ use Rattle.cv_print.specs.Games.{game_text}
 use Rattle.cv_script.specs.Text.{step_text}
 use Rattle.cv_bound.specs.Texts.{listed_text, sum_text}
 use Rattle.cv_bound.specs.declared.cost.Cost.{Cost}
-use Rattle.cv_context_products.specs.ShapesInCode.{shape_in}
+use Rattle.cv_context.specs.products.ShapesInCode.{shape_in}
 use Rattle.cv_lex.specs.declared.LexError.{LexError}
 use Rattle.cv_lex.specs.declared.LexError.TheVariants as lex
 use Rattle.cv_parse.specs.declared.error.ParseError.{ParseError}
@@ -31,7 +31,7 @@ use Rattle.cv_report.specs.declared.report.Entry.{Entry}
 use Rattle.cv_report.specs.declared.report.Verdict.{Verdict}
 use Rattle.cv_report.specs.declared.report.Verdict.TheVariants.{Proved, NotProved}
 use Rattle.cv_report.specs.declared.report.Which.TheVariants.{File as FileLimit, Nodes, Depth, Steps, Pool}
-use Rattle.cv_report_contexts.specs.Contexts.{context_text}
+use Rattle.cv_report.specs.contexts.Contexts.{context_text}
 
 -- the line of a step's cost
 abbrev pub cost_text : List (List ℕ) → Cost → List ℕ

@@ -1,9 +1,12 @@
 // Reports: what was done, the text of it, and its writing.
 #![tactic(auto)]
 
+pub mod contexts;
 mod lines;
+pub mod outcome;
 mod report;
 mod text;
+pub mod verdicts;
 mod writing;
 
 pub use report::{Cause, Command, Entry, FileFault, Report, Status, Verdict, Which};

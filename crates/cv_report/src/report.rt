@@ -2,7 +2,7 @@ ghost use Rattle.std.specs.Prelude.{◌≡◌};
 ghost use Rattle.cv_report.specs.Codes.{code_of};
 
 use cv_bound::{Cost, Sum};
-use cv_context_products::Shape;
+use cv_context::products::Shape;
 use cv_group::GroupFault;
 use cv_lex::LexError;
 use cv_parse::ParseError;

@@ -6,9 +6,9 @@ use Rattle.cv_syntax_trees.specs.Tree.{Tree, Empty, Node}
 use Rattle.cv_steps.specs.Unletting.{has_cell_of, is_listed}
 use Rattle.cv_rule.specs.Listing.{guards_in}
 
-pub no-guards : (h : Head) (t : Tree) → t ≡ Empty → None ≡ guards_in h t
-no-guards Branch t e = sym (ap (guards_in Branch) e)
-no-guards h t e = refl
+pub no_guards : (h : Head) (t : Tree) → t ≡ Empty → None ≡ guards_in h t
+no_guards Branch t e = sym (ap (guards_in Branch) e)
+no_guards h t e = refl
 
 module _ (x : ℕ) where
   abbrev by : (a b : Tree) → Option (Tree × Tree) → Bool
@@ -22,23 +22,23 @@ module _ (x : ℕ) where
   opened h a b = refl
 
   module _ (t : Tree) (h : Head) (a b : Tree) (e : t ≡ Node h a b) where
-    listed-by : (o : Option (Tree × Tree)) → guards_in h b ≡ o → is_listed x t ≡ by a b o
-    listed-by o f = ap (is_listed x) e ∙ (opened h a b ∙ ap (by a b) f)
+    listed_by : (o : Option (Tree × Tree)) → guards_in h b ≡ o → is_listed x t ≡ by a b o
+    listed_by o f = ap (is_listed x) e ∙ (opened h a b ∙ ap (by a b) f)
 
     module _ (cells rest : Tree) (f : guards_in h b ≡ Some (cells, rest)) where
-      pub in-list : has_cell_of x cells ≡ true → is_listed x t ≡ true
-      in-list i = listed-by (Some (cells, rest)) f ∙ ap (λ v. v || is_listed x rest) i
+      pub in_list : has_cell_of x cells ≡ true → is_listed x t ≡ true
+      in_list i = listed_by (Some (cells, rest)) f ∙ ap (λ v. v || is_listed x rest) i
 
-      pub behind-list : has_cell_of x cells ≡ false → is_listed x t ≡ is_listed x rest
-      behind-list i = listed-by (Some (cells, rest)) f ∙ ap (λ v. v || is_listed x rest) i
+      pub behind_list : has_cell_of x cells ≡ false → is_listed x t ≡ is_listed x rest
+      behind_list i = listed_by (Some (cells, rest)) f ∙ ap (λ v. v || is_listed x rest) i
 
     module _ (f : guards_in h b ≡ None) where
-      pub in-first : is_listed x a ≡ true → is_listed x t ≡ true
-      in-first i = listed-by None f ∙ ap (λ v. v || is_listed x b) i
+      pub in_first : is_listed x a ≡ true → is_listed x t ≡ true
+      in_first i = listed_by None f ∙ ap (λ v. v || is_listed x b) i
 
-      pub in-second : is_listed x a ≡ false → is_listed x t ≡ is_listed x b
-      in-second i = listed-by None f ∙ ap (λ v. v || is_listed x b) i
+      pub in_second : is_listed x a ≡ false → is_listed x t ≡ is_listed x b
+      in_second i = listed_by None f ∙ ap (λ v. v || is_listed x b) i
 
-  pub lists-nothing : (t : Tree) → t ≡ Empty → is_listed x t ≡ false
+  pub lists_nothing : (t : Tree) → t ≡ Empty → is_listed x t ≡ false
   unfolding is_listed
-  lists-nothing t e = ap (is_listed x) e
+  lists_nothing t e = ap (is_listed x) e

@@ -3,13 +3,13 @@ use Rattle.std.proofs.Common.{◌≡◌, ℕ, ◌<◌, ◌≤◌, Bool, true, fa
 use Rattle.std.proofs.lemmas.Bool.Decides.{nat_tests}
 use Rattle.std.specs.Prelude.{◌||◌, IsSome, option_map, unwrap_or}
 use Rattle.cv_syntax_trees.specs.Tree.{Tree, size}
-use Rattle.cv_derivations.specs.Ends.{ends_with}
-use Rattle.cv_derivations.specs.Targets.{equality, falsity}
-use Rattle.cv_scenes.specs.Derivations.{first_bad_line}
-use Rattle.cv_scenes.specs.Pruning.{Part, Pruned, pruned}
-use Rattle.cv_scenes.specs.Scenes.{Scene, first_reading, has_place, is_chosen, is_new, is_output_at, is_queried, is_type, part_at}
-use Rattle.cv_scenes.specs.Sights.{sight_at}
-use Rattle.cv_scenes.specs.Terms.{has_site, is_bool_at, is_term_at}
+use Rattle.cv_derive_rules.specs.Ends.{ends_with}
+use Rattle.cv_derive_rules.specs.Targets.{equality, falsity}
+use Rattle.cv_scene.specs.Derivations.{first_bad_line}
+use Rattle.cv_scene.specs.Pruning.{Part, Pruned, pruned}
+use Rattle.cv_scene.specs.Scenes.{Scene, first_reading, has_place, is_chosen, is_new, is_output_at, is_queried, is_type, part_at}
+use Rattle.cv_scene.specs.Sights.{sight_at}
+use Rattle.cv_scene.specs.Terms.{has_site, is_bool_at, is_term_at}
 use Rattle.cv_steps.specs.Changes.{after_let, after_new, change_at, left_or, only, split_process, without, without_body}
 use Rattle.cv_steps.specs.Elementary.{let_step, new_step, prune_step, rename_step, rewrite_step, split_step, unlet_step, unnew_step}
 use Rattle.cv_steps.specs.Renaming.{renamed}
@@ -17,7 +17,8 @@ use Rattle.cv_steps.specs.Rewriting.{has_sort_of, is_rewritable_at, sort_at}
 use Rattle.cv_steps.specs.Rows.{let_row, new_row, prune_row, prune_row_by, rename_row, rewrite_row, split_row, unless, unless_at, unless_derived, unlet_row, unlet_row_by, unnew_row}
 use Rattle.cv_steps.specs.Steps.{Leads, Row, Step, Zero}
 use Rattle.cv_steps.specs.Unletting.{Assignment, is_listed, only_assignment, without_assignment}
-use Rattle.cv_draw.specs.Plans.{failed, failing, failure_of}
+use Rattle.cv_edit_places.specs.Plans.{failed, failing, failure_of}
+use Rattle.cv_lists.proofs.Tests.{and_first}
 
 -- rows of which no condition fails
 
@@ -43,15 +44,11 @@ stood_by row false e = absurd (cc)
 pub stood : (s : Scene) (x : Step) → failure_of s x ≡ None → (x.stands s ≡ true) × (failing (x.row s) ≡ None)
 stood s x e = stood_by (x.row s) (x.stands s) e
 
-first_holds : (a b : Bool) → (a && b) ≡ true → a ≡ true
-first_holds true b e = refl
-first_holds false b e = e
-
 is_there : (s : Scene) (p : ℕ) → has_place s p ≡ true → p < size s.game
 is_there s p e = grind (arith, nat_tests)
 
 has_first : (s : Scene) (p : ℕ) (b : Bool) → (has_place s p && b) ≡ true → p < size s.game
-has_first s p b e = is_there s p (first_holds (has_place s p) b e)
+has_first s p b e = is_there s p (and_first (has_place s p) b e)
 
 -- each step by itself: its row leads to this game, and its place is there
 

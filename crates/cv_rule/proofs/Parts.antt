@@ -5,44 +5,41 @@ use Rattle.cv_syntax_trees.specs.declared.head.Head.{Head}
 use Rattle.cv_syntax_trees.specs.declared.head.Head.TheVariants.{Cons}
 use Rattle.cv_syntax_trees.specs.Head.{weight}
 use Rattle.cv_syntax_trees.specs.Tree.{Tree, Empty, Node, size, subtree}
-use Rattle.cv_scenes.specs.Scenes.{or_empty, part_at}
-
-weight-one : (h : Head) → weight h ≤ 1
-weight-one Cons = lit≤ tt
-weight-one h = lit≤ tt
+use Rattle.cv_scene.specs.Scenes.{or_empty, part_at}
+use Rattle.cv_syntax.proofs.Walking.{weight_le}
 
 module _ (h : Head) (a b : Tree) (p : ℕ) (part : Tree) where
-  at-node : p < weight h → Node h a b ≡ part → p + size part ≤ size (Node h a b)
-  at-node l e = let i = weight-one h in let j = ap size e in omega arith
+  at_node : p < weight h → Node h a b ≡ part → p + size part ≤ size (Node h a b)
+  at_node l e = let i = weight_le h in let j = ap size e in omega arith
 
-  in-first : weight h ≤ p → (p - weight h) + size part ≤ size a → p + size part ≤ size (Node h a b)
+  in_first : weight h ≤ p → (p - weight h) + size part ≤ size a → p + size part ≤ size (Node h a b)
   unfolding size
-  in-first l i = omega arith
+  in_first l i = omega arith
 
-  in-second : weight h + size a ≤ p → (p - (weight h + size a)) + size part ≤ size b → p + size part ≤ size (Node h a b)
+  in_second : weight h + size a ≤ p → (p - (weight h + size a)) + size part ≤ size b → p + size part ≤ size (Node h a b)
   unfolding size
-  in-second l i = omega arith
+  in_second l i = omega arith
 
-  by-place : (c d : Bool) → nat_lt p (weight h) ≡ c → nat_lt p (weight h + size a) ≡ d → (subtree a (p - weight h) ≡ Some part → (p - weight h) + size part ≤ size a)
+  by_place : (c d : Bool) → nat_lt p (weight h) ≡ c → nat_lt p (weight h + size a) ≡ d → (subtree a (p - weight h) ≡ Some part → (p - weight h) + size part ≤ size a)
       → (subtree b (p - (weight h + size a)) ≡ Some part → (p - (weight h + size a)) + size part ≤ size b)
       → (if c then Some (Node h a b) else if d then subtree a (p - weight h) else subtree b (p - (weight h + size a))) ≡ Some part → p + size part ≤ size (Node h a b)
-  by-place true d f g i j e = at-node (grind (arith, nat_tests)) (cc)
-  by-place false true f g i j e = in-first (grind (arith, nat_tests)) (i e)
-  by-place false false f g i j e = in-second (grind (arith, nat_tests)) (j e)
+  by_place true d f g i j e = at_node (grind (arith, nat_tests)) (cc)
+  by_place false true f g i j e = in_first (grind (arith, nat_tests)) (i e)
+  by_place false false f g i j e = in_second (grind (arith, nat_tests)) (j e)
 
-pub part-fits : (t : Tree) (p : ℕ) (part : Tree) → subtree t p ≡ Some part → p + size part ≤ size t
+pub part_fits : (t : Tree) (p : ℕ) (part : Tree) → subtree t p ≡ Some part → p + size part ≤ size t
 unfolding subtree
-part-fits Empty p part e = absurd (cc)
-part-fits (Node h a b) p part e =
-    by-place h a b p part (nat_lt p (weight h)) (nat_lt p (weight h + size a)) refl refl (part-fits a (p - weight h) part) (part-fits b (p - (weight h + size a)) part) e
+part_fits Empty p part e = absurd (cc)
+part_fits (Node h a b) p part e =
+    by_place h a b p part (nat_lt p (weight h)) (nat_lt p (weight h + size a)) refl refl (part_fits a (p - weight h) part) (part_fits b (p - (weight h + size a)) part) e
 
-pub within-limit : (t : Tree) (p n : ℕ) → size t < n → p < n → p + size (part_at t p) < n
+pub within_limit : (t : Tree) (p n : ℕ) → size t < n → p < n → p + size (part_at t p) < n
 unfolding size
-within-limit t p n l i = given (subtree t p) refl
+within_limit t p n l i = given (subtree t p) refl
   where
-    none-weighs : p + size Empty < n
-    none-weighs = omega arith
+    none_weighs : p + size Empty < n
+    none_weighs = omega arith
 
     given : (o : Option Tree) → subtree t p ≡ o → p + size (or_empty o) < n
-    given None e = none-weighs
-    given (Some part) e = let j = part-fits t p part e in omega arith
+    given None e = none_weighs
+    given (Some part) e = let j = part_fits t p part e in omega arith

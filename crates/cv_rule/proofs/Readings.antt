@@ -12,11 +12,11 @@ use Rattle.cv_directory.specs.Tables.{entries_in}
 use Rattle.cv_typing.specs.declared.arrays.Arrays.{Arrays}
 use Rattle.cv_typing.specs.declared.arrays.Arrays.TheVariants as held
 use Rattle.cv_typing.specs.Tables.{directory_in}
-use Rattle.cv_draw_unletting.specs.Assigned.{IsRead}
-use Rattle.cv_draw_unletting.proofs.Reading.{is-read}
+use Rattle.cv_edit_changes.specs.unletting.Assigned.{IsRead}
+use Rattle.cv_edit_changes.proofs.unletting.Reading.{is_read}
 use Rattle.cv_rule.specs.Prepared.{IsPrepared}
 
-pub read-prepared : (trees : List KindTree) (decls : DeclsView) (game : NodeId) (a : Arrays) (d : Directory) → IsPrepared trees decls game a → a ≡ held.OfGame d → IsRead trees (tree_at trees (Some game)) d
-read-prepared trees decls game a d p e =
-    is-read (declarations trees decls.list) (large_in decls.list) trees (tree_at trees (Some game)) d p.formed
+pub read_prepared : (trees : List KindTree) (decls : DeclsView) (game : NodeId) (a : Arrays) (d : Directory) → IsPrepared trees decls game a → a ≡ held.OfGame d → IsRead trees (tree_at trees (Some game)) d
+read_prepared trees decls game a d p e =
+    is_read (declarations trees decls.list) (large_in decls.list) trees (tree_at trees (Some game)) d p.formed
     (subst (λ b. IfSome (directory_in b) (λ i. entries_in trees i ≡ entries_of (large_in decls.list) (tree_at trees (Some game)))) e p.entries)

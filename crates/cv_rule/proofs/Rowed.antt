@@ -4,37 +4,37 @@ use Rattle.std.specs.Prelude.{◌&&◌, option_map}
 use Rattle.cv_directory_sorts.specs.declared.sort.Sort.{Sort}
 use Rattle.cv_scope_rules.specs.Phrases as grammar
 use Rattle.cv_syntax_trees.specs.Tree.{Tree}
-use Rattle.cv_derivations.specs.Ends.{ends_with}
-use Rattle.cv_derivations.specs.Targets.{equality, falsity}
-use Rattle.cv_scenes.specs.Derivations.{first_bad_line}
-use Rattle.cv_scenes.specs.Pruning.{Part, Pruned, pruned}
-use Rattle.cv_scenes.specs.Scenes.{Scene, part_at}
-use Rattle.cv_scenes.specs.Sights.{sight_at}
+use Rattle.cv_derive_rules.specs.Ends.{ends_with}
+use Rattle.cv_derive_rules.specs.Targets.{equality, falsity}
+use Rattle.cv_scene.specs.Derivations.{first_bad_line}
+use Rattle.cv_scene.specs.Pruning.{Part, Pruned, pruned}
+use Rattle.cv_scene.specs.Scenes.{Scene, part_at}
+use Rattle.cv_scene.specs.Sights.{sight_at}
 use Rattle.cv_steps.specs.Changes.{change_at}
 use Rattle.cv_steps.specs.Rewriting.{has_sort_of, has_term_at, is_rewritable_at, is_value, sort_at}
 use Rattle.cv_steps.specs.Rows.{prune_row, prune_row_by, rewrite_row, unless, unless_at, unless_derived}
 use Rattle.cv_steps.specs.Steps.{Leads, Row, Zero}
-use Rattle.cv_draw.specs.declared.plan.Failure.{Failure}
-use Rattle.cv_draw.specs.Plans.{failed, failing}
+use Rattle.cv_edit_places.specs.declared.plan.Failure.{Failure}
+use Rattle.cv_edit_places.specs.Plans.{failed, failing}
 
 -- rows
 
-pub fails-here : (b : Bool) (rest : Row) (k p : ℕ) (d : Bool) → d ≡ b → d ≡ false → Some (failed k p) ≡ failing (unless b k p rest)
-fails-here b rest k p d e f = ap (λ c. failing (unless c k p rest)) (sym f ∙ e)
+pub fails_here : (b : Bool) (rest : Row) (k p : ℕ) (d : Bool) → d ≡ b → d ≡ false → Some (failed k p) ≡ failing (unless b k p rest)
+fails_here b rest k p d e f = ap (λ c. failing (unless c k p rest)) (sym f ∙ e)
 
-pub goes-on : (b : Bool) (rest : Row) (k p : ℕ) (d : Bool) (v : Option Failure) → d ≡ b → d ≡ true → v ≡ failing rest → v ≡ failing (unless b k p rest)
-goes-on b rest k p d v e f h = h ∙ ap (λ c. failing (unless c k p rest)) (sym f ∙ e)
+pub goes_on : (b : Bool) (rest : Row) (k p : ℕ) (d : Bool) (v : Option Failure) → d ≡ b → d ≡ true → v ≡ failing rest → v ≡ failing (unless b k p rest)
+goes_on b rest k p d v e f h = h ∙ ap (λ c. failing (unless c k p rest)) (sym f ∙ e)
 
-pub fails-at : (o : Option ℕ) (rest : Row) (k p : ℕ) → Some p ≡ o → Some (failed k p) ≡ failing (unless_at k o rest)
-fails-at o rest k p e = ap (λ q. failing (unless_at k q rest)) e
+pub fails_at : (o : Option ℕ) (rest : Row) (k p : ℕ) → Some p ≡ o → Some (failed k p) ≡ failing (unless_at k o rest)
+fails_at o rest k p e = ap (λ q. failing (unless_at k q rest)) e
 
-pub goes-past : (o : Option ℕ) (rest : Row) (k : ℕ) (v : Option Failure) → None ≡ o → v ≡ failing rest → v ≡ failing (unless_at k o rest)
-goes-past o rest k v e h = h ∙ ap (λ q. failing (unless_at k q rest)) e
+pub goes_past : (o : Option ℕ) (rest : Row) (k : ℕ) (v : Option Failure) → None ≡ o → v ≡ failing rest → v ≡ failing (unless_at k o rest)
+goes_past o rest k v e h = h ∙ ap (λ q. failing (unless_at k q rest)) e
 
 -- a step that doesn't stand, and one that does
 
-pub not-there : (b : Bool) (row : Row) (d : Bool) → d ≡ b → d ≡ false → Some (failed 0 0) ≡ (if b then failing row else Some (failed 0 0))
-not-there b row d e f = ap (λ c. if c then failing row else Some (failed 0 0)) (sym f ∙ e)
+pub not_there : (b : Bool) (row : Row) (d : Bool) → d ≡ b → d ≡ false → Some (failed 0 0) ≡ (if b then failing row else Some (failed 0 0))
+not_there b row d e f = ap (λ c. if c then failing row else Some (failed 0 0)) (sym f ∙ e)
 
 pub there : (b : Bool) (row : Row) (d : Bool) → d ≡ b → d ≡ true → failing row ≡ (if b then failing row else Some (failed 0 0))
 there b row d e f = ap (λ c. if c then failing row else Some (failed 0 0)) (sym f ∙ e)
@@ -45,14 +45,14 @@ denied a b e = ap not e
 -- two conditions, without places
 
 module _ (a b : Bool) (row : Row) (d : Bool) (e : d ≡ a) where
-  pub first-fails : d ≡ false → Some (failed 1 0) ≡ failing (unless a 1 0 (unless b 2 0 row))
-  first-fails f = fails-here a (unless b 2 0 row) 1 0 d e f
+  pub first_fails : d ≡ false → Some (failed 1 0) ≡ failing (unless a 1 0 (unless b 2 0 row))
+  first_fails f = fails_here a (unless b 2 0 row) 1 0 d e f
 
-  pub second-fails : d ≡ true → (c : Bool) → c ≡ b → c ≡ false → Some (failed 2 0) ≡ failing (unless a 1 0 (unless b 2 0 row))
-  second-fails f c g h = goes-on a (unless b 2 0 row) 1 0 d _ e f (fails-here b row 2 0 c g h)
+  pub second_fails : d ≡ true → (c : Bool) → c ≡ b → c ≡ false → Some (failed 2 0) ≡ failing (unless a 1 0 (unless b 2 0 row))
+  second_fails f c g h = goes_on a (unless b 2 0 row) 1 0 d _ e f (fails_here b row 2 0 c g h)
 
-  pub both-hold : d ≡ true → (c : Bool) → c ≡ b → c ≡ true → (v : Option Failure) → v ≡ failing row → v ≡ failing (unless a 1 0 (unless b 2 0 row))
-  both-hold f c g h v k = goes-on a (unless b 2 0 row) 1 0 d v e f (goes-on b row 2 0 c v g h k)
+  pub both_hold : d ≡ true → (c : Bool) → c ≡ b → c ≡ true → (v : Option Failure) → v ≡ failing row → v ≡ failing (unless a 1 0 (unless b 2 0 row))
+  both_hold f c g h v k = goes_on a (unless b 2 0 row) 1 0 d v e f (goes_on b row 2 0 c v g h k)
 
 -- the row of `rewrite`, condition by condition
 
@@ -60,17 +60,17 @@ module _ (s : Scene) (p : ℕ) (m by : Tree) where
   abbrev leads : Row
   leads = Leads (change_at s.game p (λ old. m)) Zero
 
-  abbrev from-end : Row
-  from-end = unless (ends_with by (equality (part_at s.game p) m)) 4 0 leads
+  abbrev from_end : Row
+  from_end = unless (ends_with by (equality (part_at s.game p) m)) 4 0 leads
 
-  abbrev from-line : Row
-  from-line = unless_at 3 (first_bad_line (sight_at s p) by) from-end
+  abbrev from_line : Row
+  from_line = unless_at 3 (first_bad_line (sight_at s p) by) from_end
 
   abbrev fits : Bool
   fits = has_sort_of (sort_at s p (part_at s.game p)) (sort_at s p m)
 
-  abbrev from-sort : Row
-  from-sort = unless fits 2 0 from-line
+  abbrev from_sort : Row
+  from_sort = unless fits 2 0 from_line
 
   -- by the term there and its sort, as they were found
   module _ (old : Tree) (o : old ≡ part_at s.game p) (S : Option Sort) (q : S ≡ sort_at s p old) where
@@ -84,26 +84,26 @@ module _ (s : Scene) (p : ℕ) (m by : Tree) where
     is_equality c e = e ∙ ap (λ u. ends_with by (equality u m)) o
 
   module _ (a : Bool) (e : a ≡ is_rewritable_at s p) where
-    pub no-place : a ≡ false → Some (failed 1 p) ≡ failing (rewrite_row s p m by)
-    no-place f = fails-here (is_rewritable_at s p) from-sort 1 p a e f
+    pub no_place : a ≡ false → Some (failed 1 p) ≡ failing (rewrite_row s p m by)
+    no_place f = fails_here (is_rewritable_at s p) from_sort 1 p a e f
 
     module _ (f : a ≡ true) (b : Bool) (g : b ≡ has_sort_of (sort_at s p (part_at s.game p)) (sort_at s p m)) where
-      pub no-sort : b ≡ false → Some (failed 2 0) ≡ failing (rewrite_row s p m by)
-      no-sort h = goes-on (is_rewritable_at s p) from-sort 1 p a _ e f (fails-here fits from-line 2 0 b g h)
+      pub no_sort : b ≡ false → Some (failed 2 0) ≡ failing (rewrite_row s p m by)
+      no_sort h = goes_on (is_rewritable_at s p) from_sort 1 p a _ e f (fails_here fits from_line 2 0 b g h)
 
       module _ (h : b ≡ true) where
-        in-row : (v : Option Failure) → v ≡ failing from-line → v ≡ failing (rewrite_row s p m by)
-        in-row v k = goes-on (is_rewritable_at s p) from-sort 1 p a v e f (goes-on fits from-line 2 0 b v g h k)
+        in_row : (v : Option Failure) → v ≡ failing from_line → v ≡ failing (rewrite_row s p m by)
+        in_row v k = goes_on (is_rewritable_at s p) from_sort 1 p a v e f (goes_on fits from_line 2 0 b v g h k)
 
-        pub no-line : (line : ℕ) → Some line ≡ first_bad_line (sight_at s p) by → Some (failed 3 line) ≡ failing (rewrite_row s p m by)
-        no-line line k = in-row _ (fails-at (first_bad_line (sight_at s p) by) from-end 3 line k)
+        pub no_line : (line : ℕ) → Some line ≡ first_bad_line (sight_at s p) by → Some (failed 3 line) ≡ failing (rewrite_row s p m by)
+        no_line line k = in_row _ (fails_at (first_bad_line (sight_at s p) by) from_end 3 line k)
 
         module _ (k : None ≡ first_bad_line (sight_at s p) by) (c : Bool) (i : c ≡ ends_with by (equality (part_at s.game p) m)) where
-          pub no-end : c ≡ false → Some (failed 4 0) ≡ failing (rewrite_row s p m by)
-          no-end j = in-row _ (goes-past (first_bad_line (sight_at s p) by) from-end 3 _ k (fails-here (ends_with by (equality (part_at s.game p) m)) leads 4 0 c i j))
+          pub no_end : c ≡ false → Some (failed 4 0) ≡ failing (rewrite_row s p m by)
+          no_end j = in_row _ (goes_past (first_bad_line (sight_at s p) by) from_end 3 _ k (fails_here (ends_with by (equality (part_at s.game p) m)) leads 4 0 c i j))
 
-          pub rewrite-holds : c ≡ true → None ≡ failing (rewrite_row s p m by)
-          rewrite-holds j = in-row _ (goes-past (first_bad_line (sight_at s p) by) from-end 3 _ k (goes-on (ends_with by (equality (part_at s.game p) m)) leads 4 0 c None i j refl))
+          pub rewrite_holds : c ≡ true → None ≡ failing (rewrite_row s p m by)
+          rewrite_holds j = in_row _ (goes_past (first_bad_line (sight_at s p) by) from_end 3 _ k (goes_on (ends_with by (equality (part_at s.game p) m)) leads 4 0 c None i j refl))
 
 -- the row of `prune`
 
@@ -111,33 +111,33 @@ module _ (s : Scene) (p : ℕ) (part : Part) (by : Tree) where
   abbrev body_in : Option ℕ
   body_in = option_map (λ b. b.body) (pruned p (part_at s.game p) part)
 
-  no-body-by : (o : Option Pruned) → None ≡ option_map (λ b. b.body) o → Some (failed 1 0) ≡ failing (prune_row_by s p by o)
-  no-body-by None e = refl
-  no-body-by (Some b) e = absurd (cc)
+  no_body_by : (o : Option Pruned) → None ≡ option_map (λ b. b.body) o → Some (failed 1 0) ≡ failing (prune_row_by s p by o)
+  no_body_by None e = refl
+  no_body_by (Some b) e = absurd (cc)
 
-  pub no-body : None ≡ body_in → Some (failed 1 0) ≡ failing (prune_row s p part by)
-  no-body e = no-body-by (pruned p (part_at s.game p) part) e
+  pub no_body : None ≡ body_in → Some (failed 1 0) ≡ failing (prune_row s p part by)
+  no_body e = no_body_by (pruned p (part_at s.game p) part) e
 
   module _ (at : ℕ) where
     -- where there is a body, at this place, the row is that of its derivation
     abbrev rest : Pruned → Row
     rest b = Leads (change_at s.game p (λ old. b.left)) Zero
 
-    by-body : (o : Option Pruned) → Some at ≡ option_map (λ b. b.body) o → (v : Option Failure)
+    by_body : (o : Option Pruned) → Some at ≡ option_map (λ b. b.body) o → (v : Option Failure)
         → ((b : Pruned) → v ≡ failing (unless_derived s at by falsity 2 3 (rest b))) → v ≡ failing (prune_row_by s p by o)
-    by-body None e v f = absurd (cc)
-    by-body (Some b) e v f = f b ∙ ap (λ q. failing (unless_derived s q by falsity 2 3 (rest b))) (let g : at ≡ b.body = cc in g)
+    by_body None e v f = absurd (cc)
+    by_body (Some b) e v f = f b ∙ ap (λ q. failing (unless_derived s q by falsity 2 3 (rest b))) (let g : at ≡ b.body = cc in g)
 
     module _ (e : Some at ≡ body_in) where
-      with-body : (v : Option Failure) → ((b : Pruned) → v ≡ failing (unless_derived s at by falsity 2 3 (rest b))) → v ≡ failing (prune_row s p part by)
-      with-body v f = by-body (pruned p (part_at s.game p) part) e v f
+      with_body : (v : Option Failure) → ((b : Pruned) → v ≡ failing (unless_derived s at by falsity 2 3 (rest b))) → v ≡ failing (prune_row s p part by)
+      with_body v f = by_body (pruned p (part_at s.game p) part) e v f
 
-      pub no-pruning-line : (line : ℕ) → Some line ≡ first_bad_line (sight_at s at) by → Some (failed 2 line) ≡ failing (prune_row s p part by)
-      no-pruning-line line k = with-body _ (λ b. fails-at (first_bad_line (sight_at s at) by) (unless (ends_with by falsity) 3 0 (rest b)) 2 line k)
+      pub no_pruning_line : (line : ℕ) → Some line ≡ first_bad_line (sight_at s at) by → Some (failed 2 line) ≡ failing (prune_row s p part by)
+      no_pruning_line line k = with_body _ (λ b. fails_at (first_bad_line (sight_at s at) by) (unless (ends_with by falsity) 3 0 (rest b)) 2 line k)
 
       module _ (k : None ≡ first_bad_line (sight_at s at) by) (c : Bool) (i : c ≡ ends_with by falsity) where
-        pub no-falsity : c ≡ false → Some (failed 3 0) ≡ failing (prune_row s p part by)
-        no-falsity j = with-body _ (λ b. goes-past (first_bad_line (sight_at s at) by) (unless (ends_with by falsity) 3 0 (rest b)) 2 _ k (fails-here (ends_with by falsity) (rest b) 3 0 c i j))
+        pub no_falsity : c ≡ false → Some (failed 3 0) ≡ failing (prune_row s p part by)
+        no_falsity j = with_body _ (λ b. goes_past (first_bad_line (sight_at s at) by) (unless (ends_with by falsity) 3 0 (rest b)) 2 _ k (fails_here (ends_with by falsity) (rest b) 3 0 c i j))
 
-        pub prune-holds : c ≡ true → None ≡ failing (prune_row s p part by)
-        prune-holds j = with-body _ (λ b. goes-past (first_bad_line (sight_at s at) by) (unless (ends_with by falsity) 3 0 (rest b)) 2 _ k (goes-on (ends_with by falsity) (rest b) 3 0 c None i j refl))
+        pub prune_holds : c ≡ true → None ≡ failing (prune_row s p part by)
+        prune_holds j = with_body _ (λ b. goes_past (first_bad_line (sight_at s at) by) (unless (ends_with by falsity) 3 0 (rest b)) 2 _ k (goes_on (ends_with by falsity) (rest b) 3 0 c None i j refl))

@@ -1,14 +1,14 @@
 ghost use Rattle.std.specs.Prelude.{◌≡◌, ◌<◌, All, IfOk, length};
 ghost use Rattle.cv_syntax.specs.PoolTrees.{tree_at};
 ghost use Rattle.cv_directory.specs.Live.{IsLive};
-ghost use Rattle.cv_scenes.specs.Derivations.{first_bad_line};
-ghost use Rattle.cv_scenes.specs.Sights.{sight_at};
-ghost use Rattle.cv_rule_scenes.specs.Kept.{scene_of};
+ghost use Rattle.cv_scene.specs.Derivations.{first_bad_line};
+ghost use Rattle.cv_scene.specs.Sights.{sight_at};
+ghost use Rattle.cv_scene_view.specs.Kept.{scene_of};
 ghost use Rattle.cv_rule.specs.Prepared.{IsPrepared};
 ghost use Rattle.cv_rule.specs.Stated.{IsLiveDerivation};
 
 use cv_derive::{DeriveFault, check};
-use cv_rule_scenes::{indices_at, replications_at};
+use cv_scene_view::{indices_at, replications_at};
 use cv_syntax::{Game, NodeId, Work};
 use cv_typing::Arrays;
 use std::alloc::{AllocError, Global};

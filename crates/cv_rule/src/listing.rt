@@ -2,12 +2,12 @@ ghost use Rattle.std.specs.Prelude.{◌≡◌, ◌<◌, IfSome, length, option_m
 ghost use Rattle.cv_pool.specs.Nodes.{ChildBelow};
 ghost use Rattle.cv_syntax.specs.PoolTrees.{tree_at};
 ghost use Rattle.cv_syntax.specs.Walks.{above};
-ghost use Rattle.cv_scenes.specs.Instances.{is_read_of};
-ghost use Rattle.cv_scenes.specs.Sights.{variable_of};
+ghost use Rattle.cv_scene.specs.Instances.{is_read_of};
+ghost use Rattle.cv_scene.specs.Sights.{variable_of};
 ghost use Rattle.cv_steps.specs.Unletting as unletting;
 ghost use Rattle.cv_rule.specs.Listing.{guards_in};
 
-use cv_derive_cells::variable;
+use cv_derive_reasons::cells::variable;
 use cv_syntax::{Head, NodeId, Opened, Pool, read_node};
 
 /// Whether a cell is one of a variable.

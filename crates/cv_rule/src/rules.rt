@@ -1,4 +1,4 @@
-ghost use Rattle.std.specs.Prelude.{◌≡◌, ◌<◌, ◌^◌, ◌&&◌, ◌||◌, All, IfOk, Some, length, option_map, ℕ};
+ghost use Rattle.std.specs.Prelude.{◌≡◌, ◌<◌, ◌^◌, ◌&&◌, All, IfOk, Some, length, option_map, ℕ};
 ghost use Rattle.cv_syntax_trees.specs.Tree.{Tree, size};
 ghost use Rattle.cv_syntax.specs.PoolTrees.{tree_at};
 ghost use Rattle.cv_directory.specs.Live.{IsLive};
@@ -6,25 +6,25 @@ ghost use Rattle.cv_directory_sorts.specs.Sites.{sites_of};
 ghost use Rattle.cv_typing_rules.specs.Signature.{OfGame};
 ghost use Rattle.cv_typing.specs.Tables.{arrays_of};
 ghost use Rattle.cv_steps.specs.Rows.{let_row, new_row, prune_row, rename_row, rewrite_row, split_row, unlet_row, unnew_row};
-ghost use Rattle.cv_draw_pruning.specs.Bodies.{part_of};
-ghost use Rattle.cv_scenes.specs.Pruning.{pruned};
-ghost use Rattle.cv_scenes.specs.Scenes as scenes;
-ghost use Rattle.cv_scenes.specs.Terms as terms;
-ghost use Rattle.cv_rule_scenes.specs.Kept.{scene_of};
+ghost use Rattle.cv_edit_changes.specs.pruning.Bodies.{part_of};
+ghost use Rattle.cv_scene.specs.Pruning.{pruned};
+ghost use Rattle.cv_scene.specs.Scenes as scenes;
+ghost use Rattle.cv_scene.specs.Terms as terms;
+ghost use Rattle.cv_scene_view.specs.Kept.{scene_of};
 ghost use Rattle.cv_rule.specs.Prepared.{IsPrepared};
-ghost use Rattle.cv_draw.specs.Plans.{failing, failure_of};
+ghost use Rattle.cv_edit_places.specs.Plans.{failing, failure_of};
 ghost use Rattle.cv_rule.specs.Stated.{IsLiveDerivation, IsLiveRule, step_of};
 
 use crate::lines::bad_line;
 use crate::listing::is_listed;
 use crate::rewriting::{has_sort_of, is_rewritable, sort_at};
 use crate::targets::{ends_with_equality, ends_with_falsity};
-use cv_draw::Failure;
-use cv_draw_pruning::{Body, body_to_prune};
-use cv_draw_unletting::only_assignment;
-use cv_rule_scenes::{
-    first_reading, has_place, is_bool_at, is_chosen, is_new, is_output_at, is_queried, is_term_at,
-    is_type, names, part_at,
+use cv_edit_changes::pruning::{Body, body_to_prune};
+use cv_edit_changes::unletting::only_assignment;
+use cv_edit_places::Failure;
+use cv_scene_view::{
+    first_reading, has_place, is_bool_at, is_chosen, is_known, is_new, is_output_at, is_queried,
+    is_term_at, is_type, part_at,
 };
 use cv_syntax::{NodeId, Work};
 use cv_typing::Arrays;
@@ -118,15 +118,6 @@ fn let_stands(
         return Ok(false);
     }
     stands_at(alloc, work, game, arrays, place, term)
-}
-
-/// Whether the file or the game has a name.
-fn is_known(work: &Work, game: NodeId, x: u32) -> bool
-    requires { game.0 < length work.now.pool.trees }
-    ensures { result ≡ ((scene_of work.now.pool work.now.decls game).known x
-        || scenes.names x (tree_at work.now.pool.trees (Some game))) }
-{
-    x < work.decls.own() || names(&work.pool, x, Some(game))
 }
 
 /// Whether what a step speaks of is there.

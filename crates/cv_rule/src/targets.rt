@@ -1,11 +1,11 @@
 ghost use Rattle.std.specs.Prelude.{◌≡◌, ◌<◌, length};
 ghost use Rattle.cv_pool.specs.Nodes.{ChildBelow};
 ghost use Rattle.cv_syntax.specs.PoolTrees.{tree_at};
-ghost use Rattle.cv_derivations.specs.Ends as ends;
-ghost use Rattle.cv_derivations.specs.Targets.{equality, falsity};
+ghost use Rattle.cv_derive_rules.specs.Ends as ends;
+ghost use Rattle.cv_derive_rules.specs.Targets.{equality, falsity};
 
-use cv_derive_inferences::{is_alone, is_over};
 use cv_derive_lines::{Claim, last_claim};
+use cv_derive_reasons::inferences::{is_alone, is_over};
 use cv_syntax::{Head, NodeId, Pool};
 
 /// Whether a derivation ends with the line that two terms are equal.

@@ -8,8 +8,8 @@ use Rattle.cv_meaning.specs.Advantage.{IsAsked}
 use Rattle.cv_meaning.specs.Experiments.{Breaks, Experiment, Guesses, mode_of}
 use Rattle.cv_meaning.specs.Queries.{queries_in}
 use Rattle.cv_meaning.specs.Runs.{Events, Random, Real}
-use Rattle.cv_meaning_unread.specs.Dropping.{IsUntested}
-use Rattle.cv_scenes.specs.Scenes.{Scene, asks_for, is_queried}
+use Rattle.cv_meaning_chances.specs.unread.Dropping.{IsUntested}
+use Rattle.cv_scene.specs.Scenes.{Scene, asks_for, is_queried}
 use Rattle.cv_steps_laws.proofs.Unnamed.{asked_untested}
 use Rattle.cv_rule_merge.specs.Merging.{asks_for_one, is_one_queried}
 

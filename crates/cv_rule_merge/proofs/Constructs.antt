@@ -7,12 +7,12 @@ use Rattle.cv_syntax_trees.specs.declared.head.Head.TheVariants.{Binder, Branch,
 use Rattle.cv_syntax_trees.specs.Tree.{Tree, Empty, Node, first, first_place, same_tree, second, second_place}
 use Rattle.cv_syntax_trees.proofs.Equality.{same_tree_exact}
 use Rattle.cv_meaning.specs.Replaced.{is_output}
-use Rattle.cv_meaning_laws.proofs.Lists.{each_append}
-use Rattle.cv_meaning_thinned.specs.Thinning.{HasBody, binds_only}
+use Rattle.cv_meaning_chances.specs.thinning.Thinning.{HasBody, binds_only}
 use Rattle.cv_scope_rules.specs.Made.{is_bound, is_own_of}
 use Rattle.cv_scope_rules.specs.Phrases.{Arm, Binders, Branches, Nil, is_phrase}
 use Rattle.cv_steps.proofs.Flat.{guarded_of, guards_of}
 use Rattle.cv_rule_merge.specs.Merging.{Body, bodies, branch_bodies, first_other}
+use Rattle.cv_lists.proofs.Each.{AllByRecursion_parts, AllByRecursion_append}
 
 -- what a tree's parts have as it has
 
@@ -38,7 +38,7 @@ module _ (P : Tree → Type 0) (empty : P Empty) (parts : (h : Head) (a b : Tree
       (first_has rest r, (first_has (second rest) (second_has rest r), tt))
   bodies_have p (Node (Find l) branches otherwise) k =
       let q = parts (Find l) branches otherwise k in
-      each_append (λ (b : Body). P b.process) (branch_bodies (first_place p (Find l)) branches) _ (branches_have (first_place p (Find l)) branches q.0) (q.1, tt)
+      AllByRecursion_append (λ (b : Body). P b.process) (branch_bodies (first_place p (Find l)) branches) _ (branches_have (first_place p (Find l)) branches q.0) (q.1, tt)
   bodies_have p t k = tt
 
   -- so has the first body
@@ -68,11 +68,6 @@ none_other x (b ∷ bs) e = go (same_tree x b.process) refl e (none_other x bs)
 pub all_are : (p : ℕ) (t : Tree) (b : Body) (others : List Body) → bodies p t ≡ b ∷ others → first_other b.process others ≡ None → AllAre b.process (bodies p t)
 all_are p t b others e n = subst (AllAre b.process) (sym e) (refl, none_other b.process others n)
 
--- the two lists of a list in two
-both_parts : {A : Type 0} (P : A → Type 0) (xs ys : List A) → AllByRecursion P (xs ++ ys) → AllByRecursion P xs × AllByRecursion P ys
-both_parts P [] ys k = (tt, k)
-both_parts P (x ∷ xs) ys k = let r = both_parts P xs ys k.1 in ((k.0, r.0), r.1)
-
 -- binders bind their own variables alone
 own_binders : (xs : ℕ → Bool) (us : Tree) → is_phrase Binders us ≡ true → ((y : ℕ) → is_bound us y ≡ true → xs y ≡ true) → binds_only xs us ≡ true
 unfolding is_phrase is_bound
@@ -100,5 +95,5 @@ branches_one xs x p t e k a = absurd (both_ways false refl e)
 -- of a `find` with one body the `else` is it, and so is each branch's
 pub find_one : (xs : ℕ → Bool) (x : Tree) (p l : ℕ) (branches otherwise : Tree) → is_phrase Branches branches ≡ true → ((y : ℕ) → is_own_of branches y ≡ true → xs y ≡ true) → AllAre x (bodies p (Node (Find l) branches otherwise)) → (x ≡ otherwise) × HasBody xs x branches
 find_one xs x p l branches otherwise e k a =
-    let r = both_parts (λ (b : Body). x ≡ b.process) (branch_bodies (first_place p (Find l)) branches) _ a in
+    let r = AllByRecursion_parts (λ (b : Body). x ≡ b.process) (branch_bodies (first_place p (Find l)) branches) _ a in
     (r.1.0, branches_one xs x (first_place p (Find l)) branches e k r.0)

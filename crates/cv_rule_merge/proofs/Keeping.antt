@@ -9,27 +9,27 @@ use Rattle.cv_meaning.specs.Experiments.{holds_on, mode_of}
 use Rattle.cv_meaning.specs.Interpretation.{setting_of}
 use Rattle.cv_meaning.specs.Replaced.{is_output}
 use Rattle.cv_meaning.specs.Tapes.{blank}
-use Rattle.cv_meaning_adequacy.specs.Counted.{tapes_of}
+use Rattle.cv_meaning_laws.specs.adequacy.Counted.{tapes_of}
 use Rattle.cv_meaning_runs.specs.Replacement.{IsReplaced, Process}
-use Rattle.cv_meaning_thinned.proofs.Alike.{holds_without}
-use Rattle.cv_meaning_thinned.proofs.Placed.{thinned_at}
-use Rattle.cv_meaning_thinned.specs.Thinning.{IsThinned}
-use Rattle.cv_meaning_unread.specs.Dropping.{reads_none}
+use Rattle.cv_meaning_chances.proofs.thinning.Alike.{holds_without}
+use Rattle.cv_meaning_chances.proofs.thinning.Placed.{thinned_at}
+use Rattle.cv_meaning_chances.specs.thinning.Thinning.{IsThinned}
+use Rattle.cv_meaning_chances.specs.unread.Dropping.{reads_none}
 use Rattle.cv_scope_rules.specs.Made.{is_own_at}
 use Rattle.cv_scope_rules.specs.Phrases.{Inputs, is_phrase}
 use Rattle.cv_typing_runs.proofs.Games.{typed}
 use Rattle.cv_typing_runs.specs.Games.{context_of}
-use Rattle.cv_scenes.specs.Scenes.{Scene, part_at}
-use Rattle.cv_derivations_under.specs.Holding.{IsReady}
+use Rattle.cv_scene.specs.Scenes.{Scene, part_at}
+use Rattle.cv_derive_laws.specs.stores.Holding.{IsReady}
 use Rattle.cv_steps.specs.Changes.{change_at}
 use Rattle.cv_steps.specs.Chances.{KeepsChances}
 use Rattle.cv_steps.specs.Steps.{Cost, Leads, Zero}
 use Rattle.cv_steps.proofs.Comes.{placed}
 use Rattle.cv_steps.proofs.Rows.{leads_same, unless_at_leads, unless_leads}
 use Rattle.cv_steps.proofs.Sizes.{typed_names}
-use Rattle.cv_steps_chances.proofs.Chances.{chance_inside}
-use Rattle.cv_steps_chances.proofs.Inclusion.{replaced_included}
-use Rattle.cv_steps_chances.proofs.Phrases.{phrase_there}
+use Rattle.cv_steps_laws.proofs.chances.Chances.{chance_inside}
+use Rattle.cv_steps_laws.proofs.chances.Inclusion.{replaced_included}
+use Rattle.cv_steps_laws.proofs.chances.Phrases.{phrase_there}
 use Rattle.cv_rule_merge.specs.Merging.{Body, bodies, first_naming, first_other, is_beside, is_one_queried}
 use Rattle.cv_rule_merge.specs.Row.{merge_row, merge_row_by}
 use Rattle.cv_rule_merge.proofs.Asked.{all_untested}

@@ -13,11 +13,12 @@ use Rattle.cv_directory_sorts.specs.Sites.{first_of}
 use Rattle.cv_scope_rules.specs.Made.{is_bound, is_own_at, is_own_of}
 use Rattle.cv_rule_merge.specs.Looks.{arm_in, first_in}
 use Rattle.cv_rule_merge.specs.Merging.{Body, binds_one, bodies, branch_bodies, branch_body, first_naming, first_other, names_one}
+use Rattle.cv_lists.proofs.Tests.{equals_comm}
 
 -- branches
 
-pub some-branch : (p : ℕ) (t : Tree) (h : Head) (a b : Tree) (o : Tree × Tree) → t ≡ Node h a b → Some o ≡ arm_in h a → branch_bodies p t ≡ branch_body p o.0 o.1 ∷ branch_bodies (second_place p h a) b
-some-branch p t h a b o e f = ap (branch_bodies p) e ∙ step h a f
+pub some_branch : (p : ℕ) (t : Tree) (h : Head) (a b : Tree) (o : Tree × Tree) → t ≡ Node h a b → Some o ≡ arm_in h a → branch_bodies p t ≡ branch_body p o.0 o.1 ∷ branch_bodies (second_place p h a) b
+some_branch p t h a b o e f = ap (branch_bodies p) e ∙ step h a f
   where
     step : (h : Head) (a : Tree) → Some o ≡ arm_in h a → branch_bodies p (Node h a b) ≡ branch_body p o.0 o.1 ∷ branch_bodies (second_place p h a) b
     step Cons (Node Branch us rest) f =
@@ -25,78 +26,69 @@ some-branch p t h a b o e f = ap (branch_bodies p) e ∙ step h a f
         ap (λ (q : Tree × Tree). branch_body p q.0 q.1 ∷ branch_bodies (second_place p Cons (Node Branch us rest)) b) (sym k)
     step h a f = absurd (cc)
 
-pub no-branch : (p : ℕ) (t : Tree) (h : Head) (a b : Tree) → t ≡ Node h a b → None ≡ arm_in h a → branch_bodies p t ≡ []
-no-branch p t h a b e f = ap (branch_bodies p) e ∙ step h a f
+pub no_branch : (p : ℕ) (t : Tree) (h : Head) (a b : Tree) → t ≡ Node h a b → None ≡ arm_in h a → branch_bodies p t ≡ []
+no_branch p t h a b e f = ap (branch_bodies p) e ∙ step h a f
   where
     step : (h : Head) (a : Tree) → None ≡ arm_in h a → branch_bodies p (Node h a b) ≡ []
     step Cons (Node Branch us rest) f = absurd (cc)
     step h a f = refl
 
-pub end-branch : (p : ℕ) (t : Tree) → t ≡ Empty → branch_bodies p t ≡ []
-end-branch p t e = ap (branch_bodies p) e
+pub end_branch : (p : ℕ) (t : Tree) → t ≡ Empty → branch_bodies p t ≡ []
+end_branch p t e = ap (branch_bodies p) e
 
-pub branch-size : (h : Head) (a : Tree) (o : Tree × Tree) → Some o ≡ arm_in h a → size a ≡ 1 + size o.0 + size o.1
+pub branch_size : (h : Head) (a : Tree) (o : Tree × Tree) → Some o ≡ arm_in h a → size a ≡ 1 + size o.0 + size o.1
 unfolding size
-branch-size Cons (Node Branch us rest) o f = let k : o ≡ (us, rest) = cc in ap (λ (q : Tree × Tree). 1 + size q.0 + size q.1) (sym k)
-branch-size h a o f = absurd (cc)
+branch_size Cons (Node Branch us rest) o f = let k : o ≡ (us, rest) = cc in ap (λ (q : Tree × Tree). 1 + size q.0 + size q.1) (sym k)
+branch_size h a o f = absurd (cc)
 
-pub some-link : (h : Head) (a : Tree) (o : Tree × Tree) → Some o ≡ arm_in h a → weight h ≡ 0
-some-link Cons a o f = refl
-some-link h a o f = absurd (cc)
+pub some_link : (h : Head) (a : Tree) (o : Tree × Tree) → Some o ≡ arm_in h a → weight h ≡ 0
+some_link Cons a o f = refl
+some_link h a o f = absurd (cc)
 
-pub guards-small : (t : Tree) → size (first t) + size (first (second t)) ≤ size t
+pub guards_small : (t : Tree) → size (first t) + size (first (second t)) ≤ size t
 unfolding size
-guards-small Empty = omega arith
-guards-small (Node h a Empty) = omega arith
-guards-small (Node h a (Node k b c)) = omega arith
+guards_small Empty = omega arith
+guards_small (Node h a Empty) = omega arith
+guards_small (Node h a (Node k b c)) = omega arith
 
-pub first-small : (t : Tree) → size (first t) ≤ size t
+pub first_small : (t : Tree) → size (first t) ≤ size t
 unfolding size
-first-small Empty = omega arith
-first-small (Node h a b) = omega arith
+first_small Empty = omega arith
+first_small (Node h a b) = omega arith
 
 -- the first body of a `find`
 
-pub find-branch : (p l : ℕ) (t e : Tree) (b : Body) (bs : List Body) → branch_bodies (first_place p (Find l)) t ≡ b ∷ bs → Some b ≡ first_in (bodies p (Node (Find l) t e))
-find-branch p l t e b bs f = sym (ap (λ cs. first_in (cs ++ (record { place = second_place p (Find l) t; process = e }) ∷ [])) f)
+pub find_branch : (p l : ℕ) (t e : Tree) (b : Body) (bs : List Body) → branch_bodies (first_place p (Find l)) t ≡ b ∷ bs → Some b ≡ first_in (bodies p (Node (Find l) t e))
+find_branch p l t e b bs f = sym (ap (λ cs. first_in (cs ++ (record { place = second_place p (Find l) t; process = e }) ∷ [])) f)
 
-pub find-else : (p l : ℕ) (t e : Tree) → branch_bodies (first_place p (Find l)) t ≡ [] → ◌≡◌ {A = Option Body} (Some (record { place = second_place p (Find l) t; process = e })) (first_in (bodies p (Node (Find l) t e)))
-find-else p l t e f = sym (ap (λ cs. first_in (cs ++ (record { place = second_place p (Find l) t; process = e }) ∷ [])) f)
+pub find_else : (p l : ℕ) (t e : Tree) → branch_bodies (first_place p (Find l)) t ≡ [] → ◌≡◌ {A = Option Body} (Some (record { place = second_place p (Find l) t; process = e })) (first_in (bodies p (Node (Find l) t e)))
+find_else p l t e f = sym (ap (λ cs. first_in (cs ++ (record { place = second_place p (Find l) t; process = e }) ∷ [])) f)
 
 -- the first other body
 
-pub other-here : (x : Tree) (bs cs : List Body) (b : Body) (v : Bool) → bs ≡ b ∷ cs → v ≡ same_tree x b.process → v ≡ false → Some b.place ≡ first_other x bs
-other-here x bs cs b v e f g = sym (ap (first_other x) e ∙ ap (λ w. cond w (first_other x cs) (Some b.place)) (sym f ∙ g))
+pub other_here : (x : Tree) (bs cs : List Body) (b : Body) (v : Bool) → bs ≡ b ∷ cs → v ≡ same_tree x b.process → v ≡ false → Some b.place ≡ first_other x bs
+other_here x bs cs b v e f g = sym (ap (first_other x) e ∙ ap (λ w. cond w (first_other x cs) (Some b.place)) (sym f ∙ g))
 
-pub other-later : (x : Tree) (bs cs : List Body) (b : Body) (v : Bool) → bs ≡ b ∷ cs → v ≡ same_tree x b.process → v ≡ true → first_other x bs ≡ first_other x cs
-other-later x bs cs b v e f g = ap (first_other x) e ∙ ap (λ w. cond w (first_other x cs) (Some b.place)) (sym f ∙ g)
+pub other_later : (x : Tree) (bs cs : List Body) (b : Body) (v : Bool) → bs ≡ b ∷ cs → v ≡ same_tree x b.process → v ≡ true → first_other x bs ≡ first_other x cs
+other_later x bs cs b v e f g = ap (first_other x) e ∙ ap (λ w. cond w (first_other x cs) (Some b.place)) (sym f ∙ g)
 
-pub other-first : (x : Tree) (bs cs : List Body) (q : ℕ) → Some q ≡ first_other x bs → Some q ≡ first_other x (bs ++ cs)
-other-first x [] cs q e = absurd (cc)
-other-first x (b ∷ bs) cs q e = go (same_tree x b.process) e (other-first x bs cs q)
+pub other_first : (x : Tree) (bs cs : List Body) (q : ℕ) → Some q ≡ first_other x bs → Some q ≡ first_other x (bs ++ cs)
+other_first x [] cs q e = absurd (cc)
+other_first x (b ∷ bs) cs q e = go (same_tree x b.process) e (other_first x bs cs q)
   where
     go : (v : Bool) → Some q ≡ cond v (first_other x bs) (Some b.place) → (Some q ≡ first_other x bs → Some q ≡ first_other x (bs ++ cs)) → Some q ≡ cond v (first_other x (bs ++ cs)) (Some b.place)
     go true e k = k e
     go false e k = e
 
-pub other-second : (x : Tree) (bs cs : List Body) → None ≡ first_other x bs → first_other x cs ≡ first_other x (bs ++ cs)
-other-second x [] cs e = refl
-other-second x (b ∷ bs) cs e = go (same_tree x b.process) e (other-second x bs cs)
+pub other_second : (x : Tree) (bs cs : List Body) → None ≡ first_other x bs → first_other x cs ≡ first_other x (bs ++ cs)
+other_second x [] cs e = refl
+other_second x (b ∷ bs) cs e = go (same_tree x b.process) e (other_second x bs cs)
   where
     go : (v : Bool) → None ≡ cond v (first_other x bs) (Some b.place) → (None ≡ first_other x bs → first_other x cs ≡ first_other x (bs ++ cs)) → first_other x cs ≡ cond v (first_other x (bs ++ cs)) (Some b.place)
     go true e k = k e
     go false e k = absurd (cc)
 
 -- names in a set
-
-eq-swap : (x y : ℕ) → (x == y) ≡ (y == x)
-eq-swap x y = go (x == y) refl (y == x) refl
-  where
-    go : (v : Bool) → (x == y) ≡ v → (w : Bool) → (y == x) ≡ w → v ≡ w
-    go true e true f = refl
-    go false e false f = refl
-    go true e false f = absurd (both_ways (y == x) f (ap (λ z. y == z) (eqb-true x y e) ∙ eq-eqb y y refl))
-    go false e true f = absurd (both_ways (x == y) e (ap (λ z. x == z) (eqb-true y x f) ∙ eq-eqb x x refl))
 
 cond_or : (b c : Bool) → cond b true c ≡ (b || c)
 cond_or true c = refl
@@ -108,67 +100,61 @@ exchange true false c = refl
 exchange false true c = refl
 exchange false false c = refl
 
-pub bound-Binder : (t : Tree) (h : Head) (a b : Tree) (x T y : ℕ) → t ≡ Node h a b → h ≡ Binder x T → is_bound t y ≡ ((y == x) || is_bound b y)
+pub bound_Binder : (t : Tree) (h : Head) (a b : Tree) (x T y : ℕ) → t ≡ Node h a b → h ≡ Binder x T → is_bound t y ≡ ((y == x) || is_bound b y)
 unfolding is_bound
-bound-Binder t h a b x T y e f = ap (λ s. is_bound s y) e ∙ ap (λ k. is_bound (Node k a b) y) f
+bound_Binder t h a b x T y e f = ap (λ s. is_bound s y) e ∙ ap (λ k. is_bound (Node k a b) y) f
 
-pub bound-other : (t : Tree) (h : Head) (a b : Tree) (y : ℕ) → t ≡ Node h a b → ((x T : ℕ) → h ≡ Binder x T → ⊥) → is_bound t y ≡ false
+pub bound_other : (t : Tree) (h : Head) (a b : Tree) (y : ℕ) → t ≡ Node h a b → ((x T : ℕ) → h ≡ Binder x T → ⊥) → is_bound t y ≡ false
 unfolding is_bound
-bound-other t h a b y e n = ap (λ s. is_bound s y) e ∙ step h n
+bound_other t h a b y e n = ap (λ s. is_bound s y) e ∙ step h n
   where
     step : (h : Head) → ((x T : ℕ) → h ≡ Binder x T → ⊥) → is_bound (Node h a b) y ≡ false
     step (Binder x T) n = absurd (n x T refl)
     step h n = refl
 
-pub bound-end : (t : Tree) (y : ℕ) → t ≡ Empty → is_bound t y ≡ false
+pub bound_end : (t : Tree) (y : ℕ) → t ≡ Empty → is_bound t y ≡ false
 unfolding is_bound
-bound-end t y e = ap (λ s. is_bound s y) e
+bound_end t y e = ap (λ s. is_bound s y) e
 
-pub bound-more : (t : Tree) (h : Head) (a b : Tree) (m n : NameSet) (x T : ℕ) → t ≡ Node h a b → h ≡ Binder x T → Updates nat_eq m n x true → (y : ℕ) → (is_bound b y || is_in n y) ≡ (is_bound t y || is_in m y)
-bound-more t h a b m n x T e f u y =
+pub bound_more : (t : Tree) (h : Head) (a b : Tree) (m n : NameSet) (x T : ℕ) → t ≡ Node h a b → h ≡ Binder x T → Updates nat_eq m n x true → (y : ℕ) → (is_bound b y || is_in n y) ≡ (is_bound t y || is_in m y)
+bound_more t h a b m n x T e f u y =
     ap (λ c. is_bound b y || c) (u.0 y ∙ cond_or (x == y) (is_in m y))
     ∙ (exchange (x == y) (is_bound b y) (is_in m y)
-    ∙ ap (λ v. v || is_in m y) (ap (λ v. v || is_bound b y) (eq-swap x y) ∙ sym (bound-Binder t h a b x T y e f)))
+    ∙ ap (λ v. v || is_in m y) (ap (λ v. v || is_bound b y) (equals_comm x y) ∙ sym (bound_Binder t h a b x T y e f)))
 
 -- index variables of branches
 
-pub own-branch : (t : Tree) (h : Head) (a b : Tree) (k : Head) (us rest : Tree) (y : ℕ) → t ≡ Node h a b → a ≡ Node k us rest → k ≡ Branch → is_own_of t y ≡ (is_bound us y || is_own_of b y)
-own-branch t h a b k us rest y e f g = ap (λ s. is_own_of s y) e ∙ (ap (λ s. is_own_of (Node h s b) y) f ∙ ap (λ j. is_own_of (Node h (Node j us rest) b) y) g)
-
-pub own-other : (t : Tree) (h : Head) (a b : Tree) (k : Head) (us rest : Tree) (y : ℕ) → t ≡ Node h a b → a ≡ Node k us rest → (k ≡ Branch → ⊥) → is_own_of t y ≡ false
-own-other t h a b k us rest y e f n = ap (λ s. is_own_of s y) e ∙ (ap (λ s. is_own_of (Node h s b) y) f ∙ step k n)
+pub own_other : (t : Tree) (h : Head) (a b : Tree) (k : Head) (us rest : Tree) (y : ℕ) → t ≡ Node h a b → a ≡ Node k us rest → (k ≡ Branch → ⊥) → is_own_of t y ≡ false
+own_other t h a b k us rest y e f n = ap (λ s. is_own_of s y) e ∙ (ap (λ s. is_own_of (Node h s b) y) f ∙ step k n)
   where
     step : (k : Head) → (k ≡ Branch → ⊥) → is_own_of (Node h (Node k us rest) b) y ≡ false
     step Branch n = absurd (n refl)
     step k n = refl
 
-pub own-none : (t : Tree) (h : Head) (a b : Tree) (y : ℕ) → t ≡ Node h a b → a ≡ Empty → is_own_of t y ≡ false
-own-none t h a b y e f = ap (λ s. is_own_of s y) e ∙ ap (λ s. is_own_of (Node h s b) y) f
+pub own_end : (t : Tree) (y : ℕ) → t ≡ Empty → is_own_of t y ≡ false
+own_end t y e = ap (λ s. is_own_of s y) e
 
-pub own-end : (t : Tree) (y : ℕ) → t ≡ Empty → is_own_of t y ≡ false
-own-end t y e = ap (λ s. is_own_of s y) e
-
-pub own-more : (t more us : Tree) (m n : NameSet) → ((y : ℕ) → is_own_of t y ≡ (is_bound us y || is_own_of more y)) → ((y : ℕ) → is_in n y ≡ (is_bound us y || is_in m y)) → (y : ℕ) → (is_own_of more y || is_in n y) ≡ (is_own_of t y || is_in m y)
-own-more t more us m n e f y = ap (λ c. is_own_of more y || c) (f y) ∙ (exchange (is_bound us y) (is_own_of more y) (is_in m y) ∙ ap (λ v. v || is_in m y) (sym (e y)))
+pub own_more : (t more us : Tree) (m n : NameSet) → ((y : ℕ) → is_own_of t y ≡ (is_bound us y || is_own_of more y)) → ((y : ℕ) → is_in n y ≡ (is_bound us y || is_in m y)) → (y : ℕ) → (is_own_of more y || is_in n y) ≡ (is_own_of t y || is_in m y)
+own_more t more us m n e f y = ap (λ c. is_own_of more y || c) (f y) ∙ (exchange (is_bound us y) (is_own_of more y) (is_in m y) ∙ ap (λ v. v || is_in m y) (sym (e y)))
 
 -- nothing is added
-pub none-more : (u v w z : Bool) → u ≡ false → (u || v) ≡ (w || z) → v ≡ (w || z)
-none-more true v w z e f = absurd (both_ways true e refl)
-none-more false v w z e f = f
+pub none_more : (u v w z : Bool) → u ≡ false → (u || v) ≡ (w || z) → v ≡ (w || z)
+none_more true v w z e f = absurd (both_ways true e refl)
+none_more false v w z e f = f
 
 -- the empty set
-in-empty : (m : NameSet) → IsEmpty m → (y : ℕ) → is_in m y ≡ false
-in-empty m e y = ap (list_any (nat_eq y)) e
+in_empty : (m : NameSet) → IsEmpty m → (y : ℕ) → is_in m y ≡ false
+in_empty m e y = ap (list_any (nat_eq y)) e
 
-pub own-names : (m n : NameSet) (h : Head) (a b : Tree) (l : ℕ) → h ≡ Find l → ((y : ℕ) → is_in n y ≡ (is_own_of a y || is_in m y)) → IsEmpty m → is_in n ≡ is_own_at (Node h a b)
-own-names m n h a b l e f k = fun_ext (λ y. f y ∙ (ap (λ v. is_own_of a y || v) (in-empty m k y) ∙ (drop (is_own_of a y) ∙ sym (ap (λ j. is_own_at (Node j a b) y) e))))
+pub own_names_law : (m n : NameSet) (h : Head) (a b : Tree) (l : ℕ) → h ≡ Find l → ((y : ℕ) → is_in n y ≡ (is_own_of a y || is_in m y)) → IsEmpty m → is_in n ≡ is_own_at (Node h a b)
+own_names_law m n h a b l e f k = fun_ext (λ y. f y ∙ (ap (λ v. is_own_of a y || v) (in_empty m k y) ∙ (drop (is_own_of a y) ∙ sym (ap (λ j. is_own_at (Node j a b) y) e))))
   where
     drop : (v : Bool) → (v || false) ≡ v
     drop true = refl
     drop false = refl
 
-pub no-names : (m : NameSet) (h : Head) (a b : Tree) → ((l : ℕ) → h ≡ Find l → ⊥) → IsEmpty m → is_in m ≡ is_own_at (Node h a b)
-no-names m h a b n k = fun_ext (λ y. in-empty m k y ∙ sym (step h n y))
+pub no_names : (m : NameSet) (h : Head) (a b : Tree) → ((l : ℕ) → h ≡ Find l → ⊥) → IsEmpty m → is_in m ≡ is_own_at (Node h a b)
+no_names m h a b n k = fun_ext (λ y. in_empty m k y ∙ sym (step h n y))
   where
     step : (h : Head) → ((l : ℕ) → h ≡ Find l → ⊥) → (y : ℕ) → is_own_at (Node h a b) y ≡ false
     step (Find l) n y = absurd (n l refl)
@@ -176,37 +162,21 @@ no-names m h a b n k = fun_ext (λ y. in-empty m k y ∙ sym (step h n y))
 
 -- binders that bind one of some
 
-pub binds-Binder : (xs : ℕ → Bool) (t : Tree) (h : Head) (a b : Tree) (x T : ℕ) → t ≡ Node h a b → h ≡ Binder x T → binds_one xs t ≡ (xs x || binds_one xs b)
-binds-Binder xs t h a b x T e f = ap (binds_one xs) e ∙ ap (λ k. binds_one xs (Node k a b)) f
-
-pub binds-other : (xs : ℕ → Bool) (t : Tree) (h : Head) (a b : Tree) → t ≡ Node h a b → ((x T : ℕ) → h ≡ Binder x T → ⊥) → binds_one xs t ≡ false
-binds-other xs t h a b e n = ap (binds_one xs) e ∙ step h n
-  where
-    step : (h : Head) → ((x T : ℕ) → h ≡ Binder x T → ⊥) → binds_one xs (Node h a b) ≡ false
-    step (Binder x T) n = absurd (n x T refl)
-    step h n = refl
-
-pub or-here : (v u w : Bool) → v ≡ (u || w) → u ≡ true → true ≡ v
-or-here v u w e f = sym (e ∙ ap (λ z. z || w) f)
-
-pub or-later : (v u w : Bool) → v ≡ (u || w) → u ≡ false → w ≡ v
-or-later v u w e f = sym (e ∙ ap (λ z. z || w) f)
-
 -- places of names
 
-pub naming-node : (xs skip : ℕ → Bool) (p : ℕ) (t : Tree) (h : Head) (a b : Tree) → t ≡ Node h a b
+pub naming_node : (xs skip : ℕ → Bool) (p : ℕ) (t : Tree) (h : Head) (a b : Tree) → t ≡ Node h a b
     → first_naming xs skip p t ≡ cond (names_one xs h a && not (skip p)) (Some p) (first_of (first_naming xs skip (first_place p h) a) (first_naming xs skip (second_place p h a) b))
 unfolding first_naming
-naming-node xs skip p t h a b e = ap (first_naming xs skip p) e
+naming_node xs skip p t h a b e = ap (first_naming xs skip p) e
 
-pub naming-end : (xs skip : ℕ → Bool) (p : ℕ) (t : Tree) → t ≡ Empty → first_naming xs skip p t ≡ None
+pub naming_end : (xs skip : ℕ → Bool) (p : ℕ) (t : Tree) → t ≡ Empty → first_naming xs skip p t ≡ None
 unfolding first_naming
-naming-end xs skip p t e = ap (first_naming xs skip p) e
+naming_end xs skip p t e = ap (first_naming xs skip p) e
 
 -- queries
 
-pub asked-here : (f : Tree → Bool) (q : Tree) (qs all : List Tree) (d : Bool) → all ≡ q ∷ qs → d ≡ f q → d ≡ true → list_any f all ≡ true
-asked-here f q qs all d e g k = ap (list_any f) e ∙ ap (λ b. b || list_any f qs) (sym g ∙ k)
+pub asked_here : (f : Tree → Bool) (q : Tree) (qs all : List Tree) (d : Bool) → all ≡ q ∷ qs → d ≡ f q → d ≡ true → list_any f all ≡ true
+asked_here f q qs all d e g k = ap (list_any f) e ∙ ap (λ b. b || list_any f qs) (sym g ∙ k)
 
-pub asked-later : (f : Tree → Bool) (q : Tree) (qs all : List Tree) (d : Bool) → all ≡ q ∷ qs → d ≡ f q → d ≡ false → list_any f all ≡ list_any f qs
-asked-later f q qs all d e g k = ap (list_any f) e ∙ ap (λ b. b || list_any f qs) (sym g ∙ k)
+pub asked_later : (f : Tree → Bool) (q : Tree) (qs all : List Tree) (d : Bool) → all ≡ q ∷ qs → d ≡ f q → d ≡ false → list_any f all ≡ list_any f qs
+asked_later f q qs all d e g k = ap (list_any f) e ∙ ap (λ b. b || list_any f qs) (sym g ∙ k)

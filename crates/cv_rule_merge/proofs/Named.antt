@@ -1,4 +1,4 @@
--- Where no place names one of some variables but those that are passed over, what stands at other places reads none.
+-- Where and_false place names one of some variables but those that are passed over, what stands at other places reads none.
 use Rattle.std.proofs.Common.{◌≡◌, ℕ, ◌+◌, ◌<◌, ◌≤◌, Bool, true, false, cond, not, ◌&&◌, ◌||◌, ◌⊎◌, inl, inr, Option, Some, None, refl, ap, ap₂, subst, ◌∙◌, arith, nat_lt, le-ltb, lt-ltb}
 use Rattle.std.proofs.lemmas.Bool.{both_ways}
 use Rattle.cv_directory_sorts.specs.Sites.{first_of}
@@ -8,15 +8,16 @@ use Rattle.cv_syntax_trees.specs.Head.{weight}
 use Rattle.cv_syntax_trees.specs.Tree.{Tree, Empty, Node, first_place, head_reads_only, reads_only, second_place, size}
 use Rattle.cv_meaning_runs.specs.Replacement as at
 use Rattle.cv_meaning_runs.specs.Replacement.{IsReplaced, Part, Process, before_body}
-use Rattle.cv_meaning_unread.specs.Dropping.{reads_none}
+use Rattle.cv_meaning_chances.specs.unread.Dropping.{reads_none}
 use Rattle.cv_rule_merge.specs.Merging.{Body, first_naming, is_beside, names_one}
+use Rattle.cv_lists.proofs.Tests.{and_false}
 
 none_of : (v : Bool) (p : ℕ) (o q : Option ℕ) → cond v (Some p) (first_of o q) ≡ None → (v ≡ false) × (o ≡ None) × (q ≡ None)
 none_of true p o q e = absurd (cc)
 none_of false p None q e = (refl, refl, e)
 none_of false p (Some n) q e = absurd (cc)
 
--- nothing is one of no variables
+-- nothing is one of and_false variables
 pub nothing_reads : (xs : ℕ → Bool) → ((y : ℕ) → xs y ≡ false) → (t : Tree) → reads_none xs t ≡ true
 unfolding reads_only
 nothing_reads xs k Empty = refl
@@ -28,7 +29,7 @@ nothing_reads xs k (Node h a b) = ap₂ ◌&&◌ (head h) (ap₂ ◌&&◌ (nothi
     head h = refl
 
 module _ (xs skip : ℕ → Bool) where
-  -- no place of the tree, which stands at a place, names one
+  -- and_false place of the tree, which stands at a place, names one
   abbrev pub IsUnnamed : ℕ → Tree → Type 0
   IsUnnamed p t = first_naming xs skip p t ≡ None
 
@@ -161,16 +162,12 @@ module _ (xs skip : ℕ → Bool) where
 
 -- the places beside the first body of a construct
 
-no : (v : Bool) → (v && false) ≡ false
-no true = refl
-no false = refl
-
 module _ (p : ℕ) (t : Tree) (b : Body) where
   -- those of the body itself are not among them
   pub body_kept : (q : ℕ) → b.place ≤ q → q < b.place + size b.process → is_beside p t b q ≡ false
-  body_kept q l m = ap₂ ◌||◌ (ap (λ v. not (nat_lt q p) && v) (le-ltb q b.place l) ∙ no (not (nat_lt q p))) (ap (λ v. not v && nat_lt q (p + size t)) (lt-ltb q (b.place + size b.process) m))
+  body_kept q l m = ap₂ ◌||◌ (ap (λ v. not (nat_lt q p) && v) (le-ltb q b.place l) ∙ and_false (not (nat_lt q p))) (ap (λ v. not v && nat_lt q (p + size t)) (lt-ltb q (b.place + size b.process) m))
 
   -- nor are those outside of the construct
   pub outside_kept : p ≤ b.place → b.place + size b.process ≤ p + size t → (q : ℕ) → (q < p) ⊎ (p + size t ≤ q) → is_beside p t b q ≡ false
   outside_kept f g q (inl l) = ap₂ ◌||◌ (ap (λ v. not v && nat_lt q b.place) (lt-ltb q p l)) (ap (λ v. not v && nat_lt q (p + size t)) (lt-ltb q (b.place + size b.process) (omega arith)))
-  outside_kept f g q (inr l) = ap₂ ◌||◌ (ap (λ v. not (nat_lt q p) && v) (le-ltb q b.place (omega arith)) ∙ no (not (nat_lt q p))) (ap (λ v. not (nat_lt q (b.place + size b.process)) && v) (le-ltb q (p + size t) l) ∙ no (not (nat_lt q (b.place + size b.process))))
+  outside_kept f g q (inr l) = ap₂ ◌||◌ (ap (λ v. not (nat_lt q p) && v) (le-ltb q b.place (omega arith)) ∙ and_false (not (nat_lt q p))) (ap (λ v. not (nat_lt q (b.place + size b.process)) && v) (le-ltb q (p + size t) l) ∙ and_false (not (nat_lt q (b.place + size b.process))))

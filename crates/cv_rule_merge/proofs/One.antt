@@ -8,13 +8,13 @@ use Rattle.cv_meaning.specs.Interpretation.{Setting}
 use Rattle.cv_meaning.specs.Replaced.{is_output}
 use Rattle.cv_meaning.specs.Tapes.{Cell}
 use Rattle.cv_meaning_runs.specs.Replacement.{Process}
-use Rattle.cv_meaning_thinned.specs.Thinning.{IsThinned, merged, same, same_bodies}
-use Rattle.cv_meaning_unread.specs.Dropping.{reads_none}
+use Rattle.cv_meaning_chances.specs.thinning.Thinning.{IsThinned, merged, same, same_bodies}
+use Rattle.cv_meaning_chances.specs.unread.Dropping.{reads_none}
 use Rattle.cv_scope_rules.specs.Made.{is_own_at}
 use Rattle.cv_scope_rules.specs.Phrases.{Body as OfBody, Branches, Nil, Phrase, Term, is_phrase}
 use Rattle.cv_steps.proofs.Flat.{guarded_of, guards_of}
-use Rattle.cv_steps_chances.proofs.Inclusion.{Includes, first_in, second_in}
-use Rattle.cv_steps_chances.proofs.Phrases.{body_output, find_parts, if_bodies}
+use Rattle.cv_steps_laws.proofs.chances.Inclusion.{Includes, first_in, second_in}
+use Rattle.cv_steps_laws.proofs.chances.Phrases.{body_output, find_parts, if_bodies}
 use Rattle.cv_rule_merge.specs.Merging.{Body, bodies, first_other}
 use Rattle.cv_rule_merge.proofs.Constructs.{all_are, find_one}
 use Rattle.cv_rule_merge.proofs.Named.{IsUnnamed, parts_unnamed}

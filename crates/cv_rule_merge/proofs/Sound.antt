@@ -3,10 +3,10 @@ use Rattle.std.proofs.Common.{ℕ, subst}
 use Rattle.cv_syntax_trees.specs.Tree.{Tree}
 use Rattle.cv_meaning.specs.Interpretation.{setting_of}
 use Rattle.cv_meaning.specs.Runs.{Mode}
-use Rattle.cv_meaning_values.specs.Values.{HasValuesIn}
+use Rattle.cv_meaning_chances.specs.values.Values.{HasValuesIn}
 use Rattle.cv_typing_runs.specs.Games.{HasDeclaredSorts}
-use Rattle.cv_scenes.specs.Scenes.{Scene, part_at}
-use Rattle.cv_derivations_under.specs.Steps.{IsSound}
+use Rattle.cv_scene.specs.Scenes.{Scene, part_at}
+use Rattle.cv_derive_laws.specs.stores.Steps.{IsSound}
 use Rattle.cv_steps_laws.proofs.Declared.{declared_there}
 use Rattle.cv_steps_laws.proofs.Indices.{Lacks, bound_before, lacking_changed, lacking_empty, lacking_parts}
 use Rattle.cv_steps_laws.proofs.Keeping.{accepted, next_formed}

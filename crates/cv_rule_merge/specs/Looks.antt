@@ -6,7 +6,7 @@ use Rattle.cv_syntax_trees.specs.declared.head.Head.TheVariants.{Branch, Cons}
 use Rattle.cv_syntax_trees.specs.Tree.{Tree, Node}
 use Rattle.cv_syntax.specs.PoolTrees.{tree_at}
 use Rattle.cv_scope_rules.specs.Made.{is_own_at}
-use Rattle.cv_scenes.specs.Scenes.{Scene}
+use Rattle.cv_scene.specs.Scenes.{Scene}
 use Rattle.cv_rule_merge.specs.Merging.{Body, first_naming, is_between, is_one_queried}
 use Rattle.cv_rule_merge.specs.declared.bodies.Body.{Body as Found}
 use Rattle.cv_rule_merge.specs.declared.naming.Skip.{Skip}

@@ -7,7 +7,7 @@ use Rattle.cv_syntax_trees.specs.declared.head.Head.TheVariants.{Binder, Branch,
 use Rattle.cv_syntax_trees.specs.Tree.{Tree, Empty, Node, first, first_place, same_tree, second, second_place, size}
 use Rattle.cv_directory_sorts.specs.Sites.{first_of}
 use Rattle.cv_meaning.specs.Queries.{queries_in}
-use Rattle.cv_scenes.specs.Scenes.{Scene}
+use Rattle.cv_scene.specs.Scenes.{Scene}
 
 -- a body of a construct, with its place
 pub record Body : Type 0 where

@@ -4,8 +4,8 @@ use Rattle.std.specs.Prelude.{ℕ, not, List, [], ◌∷◌}
 use Rattle.cv_syntax_trees.specs.Children.{is_empty}
 use Rattle.cv_syntax_trees.specs.Tree.{Tree}
 use Rattle.cv_scope_rules.specs.Made.{is_own_at}
-use Rattle.cv_scenes.specs.Scenes.{Scene, has_place, part_at}
-use Rattle.cv_draw.specs.Changes.{need_at}
+use Rattle.cv_scene.specs.Scenes.{Scene, has_place, part_at}
+use Rattle.cv_edit_places.specs.Changes.{need_at}
 use Rattle.cv_steps.specs.Changes.{change_at}
 use Rattle.cv_steps.specs.Rows.{unless, unless_at}
 use Rattle.cv_steps.specs.Steps.{Fails, Leads, Row, Step, Zero}

@@ -5,7 +5,7 @@ use Rattle.cv_pool.specs.Nodes.{ChildBelow}
 use Rattle.cv_syntax_trees.specs.Children.{is_empty}
 use Rattle.cv_syntax_trees.specs.Tree.{Node, size}
 use Rattle.cv_syntax.specs.PoolTrees.{tree_at}
-use Rattle.cv_scenes.specs.Scenes.{Scene, part_at}
+use Rattle.cv_scene.specs.Scenes.{Scene, part_at}
 use Rattle.cv_rule_merge.specs.Looks.{first_in}
 use Rattle.cv_rule_merge.specs.Merging.{Body, bodies, first_other}
 use Rattle.cv_rule_merge.specs.declared.planning.Site.{Site}

@@ -7,7 +7,7 @@ use Rattle.cv_syntax_trees.specs.Builders.{branch, find, read}
 use Rattle.cv_syntax_trees.specs.Declarations.{Declaration, Named, Query}
 use Rattle.cv_syntax_trees.specs.Tree.{Tree, Empty, Node, lone}
 use Rattle.cv_meaning_runs.specs.Replacement.{if_tree}
-use Rattle.cv_scenes.specs.Scenes.{Scene}
+use Rattle.cv_scene.specs.Scenes.{Scene}
 use Rattle.cv_steps.specs.Steps.{Zero}
 use Rattle.cv_steps.specs.Judgements.{Accepted, Judgement, Refused}
 use Rattle.cv_steps_laws.specs.Worked.{copies, copy_of, draws, plain, receives, scene_of, sends, sends_copy}

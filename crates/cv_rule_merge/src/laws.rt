@@ -1,6 +1,6 @@
 ghost use Rattle.std.specs.Prelude.{◌≡◌, ℕ};
 ghost use Rattle.std.specs.List.{AllByRecursion};
-ghost use Rattle.cv_derivations_under.specs.Steps.{IsSound};
+ghost use Rattle.cv_derive_laws.specs.stores.Steps.{IsSound};
 ghost use Rattle.cv_steps.specs.Judgements.{judgement_of};
 ghost use Rattle.cv_rule_merge.specs.Row.{merge_step};
 ghost use Rattle.cv_rule_merge.specs.Worked.{merges};

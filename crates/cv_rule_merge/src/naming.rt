@@ -5,7 +5,7 @@ ghost use Rattle.cv_syntax.specs.NameSets.{is_in};
 ghost use Rattle.cv_syntax.specs.PoolTrees.{tree_at};
 ghost use Rattle.cv_directory.specs.Live.{IsLive};
 ghost use Rattle.cv_scope_rules.specs.Made.{is_bound, is_own_at, is_own_of};
-ghost use Rattle.cv_rule_scenes.specs.Kept.{scene_of};
+ghost use Rattle.cv_scene_view.specs.Kept.{scene_of};
 ghost use Rattle.cv_rule_merge.specs.Looks.{first_besides, is_skipped};
 ghost use Rattle.cv_rule_merge.specs.Merging as merging;
 

@@ -11,8 +11,8 @@ use Rattle.cv_meaning.specs.Cells.{at_each_copy, bounds_under, cells, cells_at, 
 use Rattle.cv_meaning.specs.Still.{head_is_still, is_still}
 use Rattle.cv_meaning_runs.specs.Replacement as runs
 use Rattle.cv_meaning_runs.specs.Replacement.{IsReplaced, here, in_branch, in_continuation, in_find, in_later_branch, in_list, in_parallel}
-use Rattle.cv_meaning_unread.specs.Sizes.{size_in}
-use Rattle.cv_meaning_unread.proofs.CellSizes.{size_once, still_size}
+use Rattle.cv_meaning_chances.specs.unread.Sizes.{size_in}
+use Rattle.cv_meaning_chances.proofs.unread.CellSizes.{size_once, still_size, size_each, still_cells, still_tests}
 use Rattle.cv_scope_rules.specs.Made.{is_bound}
 use Rattle.cv_scope_rules.specs.Phrases.{Arm, Binders, Body, Branches, Cells, Nil, Term, Terms, is_phrase}
 use Rattle.cv_steps.proofs.Flat.{guarded_of, guards_of, nil_still, term_still, terms_still}
@@ -32,10 +32,6 @@ size_append (c ∷ cs) ds d = go (same_cell c.0 d) (size_append cs ds d)
     go : (b : Bool) → size_in (cs ++ ds) d ≡ or_else (size_in cs d) (size_in ds d) → cond b (Some c.1) (size_in (cs ++ ds) d) ≡ or_else (cond b (Some c.1) (size_in cs d)) (size_in ds d)
     go true k = refl
     go false k = k
-
-size_each : {A : Type 0} (f : A → List (Cell × ℕ)) (d : Cell) → ((x : A) → size_in (f x) d ≡ None) → (xs : List A) → size_in (flat_map f xs) d ≡ None
-size_each f d e [] = refl
-size_each f d e (x ∷ xs) = size_append (f x) (flat_map f xs) d ∙ ap₂ or_else (e x) (size_each f d e xs)
 
 -- a construct that defines another variable, or none
 abbrev is_other : ℕ → Head → Bool
@@ -245,19 +241,6 @@ module _ (g : Setting) (give : Head → List ℕ → List (Cell × ℕ)) (d : Ce
         construct_size c k f e w = absurd (both_ways false refl f)
 
 -- the cells of experiments
-
-still_cells : (g : Setting) (d : Cell) (h : Head) (u : List ℕ) → head_is_still h ≡ true → size_in (cells_at g h u) d ≡ None
-still_cells g d (New x T) u e = absurd (both_ways false refl e)
-still_cells g d (Find l) u e = absurd (both_ways false refl e)
-still_cells g d (Key x) u e = absurd (both_ways false refl e)
-still_cells g d (Call x l) u e = absurd (both_ways false refl e)
-still_cells g d h u e = refl
-
-still_tests : (g : Setting) (x : ℕ) (d : Cell) (h : Head) (u : List ℕ) → head_is_still h ≡ true → size_in (test_cells_at g x h u) d ≡ None
-still_tests g x d (New y T) u e = absurd (both_ways false refl e)
-still_tests g x d (Let y T) u e = absurd (both_ways false refl e)
-still_tests g x d (Binder y T) u e = absurd (both_ways false refl e)
-still_tests g x d h u e = refl
 
 -- a cell of another variable
 apart_size : (y z n : ℕ) (u w : List ℕ) → (y == z) ≡ false → size_in ((New_at y u, n) ∷ []) (New_at z w) ≡ None

@@ -3,7 +3,7 @@ use Rattle.std.proofs.Common.{◌≡◌, ℕ, true, Some, subst}
 use Rattle.cv_syntax_trees.specs.Tree.{Tree, Empty, Node}
 use Rattle.cv_meaning.specs.Replaced.{is_output}
 use Rattle.cv_scope_rules.specs.Phrases.{Inputs, is_phrase}
-use Rattle.cv_scenes.specs.Scenes.{Scene, part_at}
+use Rattle.cv_scene.specs.Scenes.{Scene, part_at}
 use Rattle.cv_typing_runs.specs.Games.{HasDeclaredSorts}
 use Rattle.cv_steps.specs.Steps.{Cost, Leads}
 use Rattle.cv_steps_laws.proofs.Declared.{declared_there}

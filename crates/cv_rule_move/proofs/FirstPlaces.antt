@@ -8,7 +8,7 @@ use Rattle.cv_syntax_trees.specs.Tree.{Tree, Empty, Node, first, first_place, se
 use Rattle.cv_directory_sorts.specs.Sites.{first_of}
 use Rattle.cv_meaning.specs.Still.{defines}
 use Rattle.cv_scope_rules.specs.Made.{is_bound}
-use Rattle.cv_scenes.specs.Scenes.{first_reading, head_reads}
+use Rattle.cv_scene.specs.Scenes.{first_reading, head_reads}
 use Rattle.cv_steps.specs.Changes.{only}
 use Rattle.cv_rule_move.specs.Moving.{first_naming, first_naming_branch}
 use Rattle.cv_rule_move.specs.Parts.{arm_in, naming_before}
@@ -136,15 +136,6 @@ module _ (x p : ℕ) (t : Tree) (h : Head) (a b us rest : Tree) (e : t ≡ Node 
       ∙ (ap (λ o. first_of o (first_naming_branch x (second_place p Cons (Node Branch us rest)) b)) (sym g)
       ∙ ap (λ m. first_naming_branch x m b) (omega (arith, i, ap size (arm_is h a us rest f).1))))
 
-pub not_arm : (x p : ℕ) (t : Tree) (h : Head) (a b : Tree) → t ≡ Node h a b → None ≡ arm_in h a → None ≡ first_naming_branch x p t
-not_arm x p t h a b e f = sym (ap (first_naming_branch x p) e ∙ go h a f)
-  where
-    go : (k : Head) (u : Tree) → None ≡ arm_in k u → first_naming_branch x p (Node k u b) ≡ None
-    go Cons (Node Branch us rest) g = absurd (cc)
-    go Cons (Node k u v) g = refl
-    go Cons Empty g = refl
-    go k u g = refl
-
 pub no_arms : (x p : ℕ) (t : Tree) → t ≡ Empty → None ≡ first_naming_branch x p t
 no_arms x p t e = sym (ap (first_naming_branch x p) e)
 
@@ -163,16 +154,9 @@ items_small (Node h a (Node k b d)) u v e f = omega (arith, ap size e, ap size f
 
 -- a construct
 
-pub named_in_branches : (x p : ℕ) (h : Head) (l : ℕ) (a b : Tree) → h ≡ Find l → (n : ℕ) → n ≡ p + 1 → first_naming_branch x n a ≡ first_naming x p (Node h a b)
-named_in_branches x p h l a b e n f = ap (λ m. first_naming_branch x m a) f ∙ sym (ap (λ k. first_naming x p (Node k a b)) e)
-
 by_definition : (x p : ℕ) (h : Head) (a b : Tree) → ((l : ℕ) → h ≡ Find l → ⊥) → first_naming x p (Node h a b) ≡ cond (defines (only x) h) (Some p) (first_reading x (first_place p h) a)
 by_definition x p (Find l) a b n = absurd (n l refl)
 by_definition x p h a b n = refl
 
 pub named_there : (x p : ℕ) (h : Head) (a b : Tree) → ((l : ℕ) → h ≡ Find l → ⊥) → (v : Bool) → v ≡ defines (only x) h → v ≡ true → Some p ≡ first_naming x p (Node h a b)
 named_there x p h a b n v e f = sym (by_definition x p h a b n ∙ ap (λ w. cond w (Some p) (first_reading x (first_place p h) a)) (sym e ∙ f))
-
-pub named_inside : (x p : ℕ) (h : Head) (a b : Tree) → ((l : ℕ) → h ≡ Find l → ⊥) → (v : Bool) → v ≡ defines (only x) h → v ≡ false → (n : ℕ) → n ≡ weight h → first_reading x (p + n) a ≡ first_naming x p (Node h a b)
-named_inside x p h a b n v e f m g =
-    ap (λ q. first_reading x (p + q) a) g ∙ sym (by_definition x p h a b n ∙ ap (λ w. cond w (Some p) (first_reading x (first_place p h) a)) (sym e ∙ f))

@@ -14,16 +14,15 @@ use Rattle.cv_meaning.specs.Experiments.{coins_on, holds_on, mode_of, visits_of_
 use Rattle.cv_meaning.specs.Replaced.{is_output}
 use Rattle.cv_meaning_laws.proofs.Listed.{cells_distinct}
 use Rattle.cv_meaning_runs.specs.Replacement.{IsReplaced, Process}
-use Rattle.cv_meaning_runs.proofs.Lists.{all_both}
 use Rattle.cv_meaning_runs.proofs.Replacement.{replaced_holds}
-use Rattle.cv_meaning_unread.proofs.CellSizes.{same_by_sizes}
+use Rattle.cv_meaning_chances.proofs.unread.CellSizes.{same_by_sizes}
 use Rattle.cv_scope_rules.specs.Made.{AssignsNew, OwnUnassigned}
 use Rattle.cv_scope_rules.specs.Phrases.{Inputs, IsWellFormed, Phrase, is_phrase}
 use Rattle.cv_scope_runs.specs.Reads.{VisitReadsAssigned}
 use Rattle.cv_scope_runs.proofs.ConsultedOnce.{all_assign_new, all_own_unassigned}
 use Rattle.cv_scope_runs.proofs.FactsRuns.{all_reads_assigned}
 use Rattle.cv_scope_runs.proofs.Plain.{game_context}
-use Rattle.cv_scenes.specs.Scenes.{Scene, or_empty, part_at}
+use Rattle.cv_scene.specs.Scenes.{Scene, or_empty, part_at}
 use Rattle.cv_steps.specs.Changes.{change_at}
 use Rattle.cv_steps.specs.Chances.{KeepsChances}
 use Rattle.cv_steps.specs.Steps.{Cost, Leads, Zero}
@@ -34,6 +33,7 @@ use Rattle.cv_rule_move.specs.Rows.{move_row, move_row_by}
 use Rattle.cv_rule_move.proofs.CellSizes.{MayMove, moved_sizes}
 use Rattle.cv_rule_move.proofs.Parts.{definition_parts, phrase_at}
 use Rattle.cv_rule_move.proofs.Serving.{Expected, definition_output, moved_alike}
+use Rattle.cv_lists.proofs.Each.{AllByRecursion_both}
 
 -- a row that leads to a game
 
@@ -59,9 +59,9 @@ module _ (s : Scene) (w : IsWellFormed s.declarations s.game) where
   unfolding visits_of_run
   visits_expected g c m a t =
       let context = game_context s.declarations s.game w in
-      all_both (VisitReadsAssigned g) (λ v. AssignsNew v × OwnUnassigned v) (Expected g) (λ v y z. (y, z)) _
+      AllByRecursion_both (VisitReadsAssigned g) (λ v. AssignsNew v × OwnUnassigned v) (Expected g) (λ v y z. (y, z)) _
       (all_reads_assigned s.declarations g m (a.next (coins_on t 0 a.coins)) t a.moves s.game c context)
-      (all_both AssignsNew OwnUnassigned (λ v. AssignsNew v × OwnUnassigned v) (λ v y z. (y, z)) _
+      (AllByRecursion_both AssignsNew OwnUnassigned (λ v. AssignsNew v × OwnUnassigned v) (λ v y z. (y, z)) _
       (all_assign_new s.declarations g m (a.next (coins_on t 0 a.coins)) t a.moves s.game context)
       (all_own_unassigned s.declarations g m (a.next (coins_on t 0 a.coins)) t a.moves s.game context))
 

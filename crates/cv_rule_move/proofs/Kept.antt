@@ -6,7 +6,7 @@ use Rattle.cv_syntax_trees.specs.Declarations.{Declaration}
 use Rattle.cv_syntax_trees.specs.Tree.{Tree, Empty, Node}
 use Rattle.cv_meaning.specs.Interpretation.{Setting}
 use Rattle.cv_meaning.specs.Runs.{Mode}
-use Rattle.cv_meaning_values.specs.Values.{HasValuesIn}
+use Rattle.cv_meaning_chances.specs.values.Values.{HasValuesIn}
 use Rattle.cv_typing_runs.specs.Games.{HasDeclaredSorts}
 use Rattle.cv_steps_laws.proofs.Indices.{Lacks, lacking_node, lacking_parts}
 use Rattle.cv_rule_move.specs.Moving.{in_bodies, in_branches, moved}

@@ -34,9 +34,6 @@ made_arm t = refl
 pub made_step : (t : Tree) (a : ArmTrees) → Some a ≡ arm_of t → made_in_branches a.more + 5 ≡ made_in_branches t
 made_step t a e = ap made_by_arm e ∙ sym (made_arm t)
 
-pub made_end : (t : Tree) → None ≡ arm_of t → 0 ≡ made_in_branches t
-made_end t e = ap made_by_arm e ∙ sym (made_arm t)
-
 -- an `if` that has no two bodies
 
 module _ (before : Tree → Tree) (h : Head) (a b : Tree) (e : h ≡ If) (f : None ≡ items_in b) where

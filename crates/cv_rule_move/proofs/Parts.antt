@@ -8,9 +8,9 @@ use Rattle.cv_syntax_trees.specs.Tree.{Tree, Empty, Node, second_place, size, su
 use Rattle.cv_directory_sorts.specs.Sites.{first_of}
 use Rattle.cv_scope_rules.specs.Made.{is_bound}
 use Rattle.cv_scope_rules.specs.Phrases.{Body, Branches, Else, Nil, Phrase, Term, Terms, Then, is_phrase}
-use Rattle.cv_scenes.specs.Scenes.{first_reading}
+use Rattle.cv_scene.specs.Scenes.{first_reading}
 use Rattle.cv_meaning.specs.Still.{is_still}
-use Rattle.cv_meaning_unread.specs.Dropping.{reads_none}
+use Rattle.cv_meaning_chances.specs.unread.Dropping.{reads_none}
 use Rattle.cv_steps.specs.Changes.{only}
 use Rattle.cv_steps.proofs.Flat.{nil_still, open_phrase, term_still}
 use Rattle.cv_steps_laws.proofs.Unnamed.{unlisted_unread}

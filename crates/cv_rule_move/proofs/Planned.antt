@@ -8,21 +8,18 @@ use Rattle.cv_syntax_trees.specs.Tree.{Tree, Empty, Node, size}
 use Rattle.cv_path.specs.declared.place.Lies.{Lies}
 use Rattle.cv_path.specs.declared.place.Lies.TheVariants.{Here, Within, Behind}
 use Rattle.cv_path.specs.Places.{LiesAt}
-use Rattle.cv_path.proofs.Bounds.{lies-somewhere}
-use Rattle.cv_path.proofs.Going.{subtree-behind, subtree-here, subtree-within}
-use Rattle.cv_scenes.specs.Scenes.{or_empty, part_at}
+use Rattle.cv_path.proofs.Bounds.{lies_somewhere}
+use Rattle.cv_path.proofs.Going.{subtree_behind, subtree_here, subtree_within}
+use Rattle.cv_scene.specs.Scenes.{or_empty, part_at}
 use Rattle.cv_rule_move.specs.Moving.{defined, in_bodies, in_branches, moved}
+use Rattle.cv_syntax.proofs.Walking.{weight_le}
 
 -- what stands at a place ends within the tree
-
-weight_one : (h : Head) → weight h ≤ 1
-weight_one Cons = omega arith
-weight_one h = omega arith
 
 pub part_within : (t : Tree) (p : ℕ) → p < size t → p + size (part_at t p) ≤ size t
 unfolding size
 part_within Empty p l = absurd (omega (arith, l))
-part_within (Node h a b) p l = go (lies-somewhere h a p) (λ q. part_within a q) (λ q. part_within b q)
+part_within (Node h a b) p l = go (lies_somewhere h a p) (λ q. part_within a q) (λ q. part_within b q)
   where
     t : Tree
     t = Node h a b
@@ -30,13 +27,13 @@ part_within (Node h a b) p l = go (lies-somewhere h a p) (λ q. part_within a q)
     go : (k : Lies) × LiesAt h a p k → ((q : ℕ) → q < size a → q + size (part_at a q) ≤ size a) → ((q : ℕ) → q < size b → q + size (part_at b q) ≤ size b) → p + size (part_at t p) ≤ weight h + size a + size b
     go (Here, k) x y =
         let m : p < weight h = k in
-        omega (arith, m, weight_one h, ap (λ o. size (or_empty o)) (subtree-here t h a b p 0 refl k))
+        omega (arith, m, weight_le h, ap (λ o. size (or_empty o)) (subtree_here t h a b p 0 refl k))
     go (Within q, k) x y =
         let m : weight h + q ≡ p = k.0 in
-        omega (arith, m, x q k.1, ap (λ o. size (or_empty o)) (subtree-within t h a b p q refl k))
+        omega (arith, m, x q k.1, ap (λ o. size (or_empty o)) (subtree_within t h a b p q refl k))
     go (Behind q, k) x y =
         let m : weight h + size a + q ≡ p = k in
-        omega (arith, m, y q (omega (arith, l, m)), ap (λ o. size (or_empty o)) (subtree-behind t h a b p q refl k))
+        omega (arith, m, y q (omega (arith, l, m)), ap (λ o. size (or_empty o)) (subtree_behind t h a b p q refl k))
 
 -- a definition there, and the construct behind it
 

@@ -20,8 +20,8 @@ use Rattle.cv_meaning_runs.specs.Replacement as runs
 use Rattle.cv_meaning_runs.specs.Replacement.{AreLikeInputs, SameMemory, ServeAlike}
 use Rattle.cv_meaning_runs.specs.Simulation.{AreServedAlike, InOrder}
 use Rattle.cv_meaning_runs.proofs.Outputs.{output_opens, served_elsewhere}
-use Rattle.cv_meaning_unread.specs.Dropping.{in_branch, reads_none, same, IsDropped}
-use Rattle.cv_meaning_unread.proofs.Unread.{candidates_same, put_aside, value_same, values_same}
+use Rattle.cv_meaning_chances.specs.unread.Dropping.{in_branch, reads_none, same, IsDropped}
+use Rattle.cv_meaning_chances.proofs.unread.Unread.{candidates_same, put_aside, value_same, values_same}
 use Rattle.cv_scope_rules.specs.Made.{AssignsNew, OwnUnassigned, is_bound, is_own_of}
 use Rattle.cv_scope_rules.specs.Phrases.{Arm, Binders, Body, Branches, Nil, is_phrase}
 use Rattle.cv_scope_runs.specs.Reads.{IsKept, ReadsAssigned, VisitReadsAssigned}

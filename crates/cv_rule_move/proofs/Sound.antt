@@ -1,9 +1,9 @@
 -- A move is sound.
 use Rattle.std.proofs.Common.{ℕ, subst}
 use Rattle.cv_meaning.specs.Interpretation.{setting_of}
-use Rattle.cv_meaning_values.specs.Values.{HasValuesIn}
-use Rattle.cv_scenes.specs.Scenes.{part_at}
-use Rattle.cv_derivations_under.specs.Steps.{IsSound}
+use Rattle.cv_meaning_chances.specs.values.Values.{HasValuesIn}
+use Rattle.cv_scene.specs.Scenes.{part_at}
+use Rattle.cv_derive_laws.specs.stores.Steps.{IsSound}
 use Rattle.cv_steps_laws.proofs.Indices.{Lacks, bound_before, lacking_changed}
 use Rattle.cv_steps_laws.proofs.Keeping.{accepted}
 use Rattle.cv_steps_laws.proofs.Values.{values_changed}

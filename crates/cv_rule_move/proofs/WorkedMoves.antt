@@ -4,7 +4,7 @@ use Rattle.std.specs.List.{AllByRecursion}
 use Rattle.cv_syntax_trees.specs.declared.head.Head.TheVariants.{Yes}
 use Rattle.cv_syntax_trees.specs.Builders.{event, leaf}
 use Rattle.cv_syntax_trees.specs.Tree.{lone, size, depth, subtree, same_tree}
-use Rattle.cv_first_fault.specs.Walk.{first_fault}
+use Rattle.cv_syntax_faults.specs.Walk.{first_fault}
 use Rattle.cv_meaning.specs.Replaced.{replaced}
 use Rattle.cv_directory_sorts.specs.Sites.{first_index, first_site, bound_sort, is_untyped_in}
 use Rattle.cv_directory_sorts.specs.Counting.{count}
@@ -15,8 +15,8 @@ use Rattle.cv_scope_rules.specs.Context.{context_at}
 use Rattle.cv_scope_rules.specs.Sites.{sites_from}
 use Rattle.cv_scope_rules.specs.Made.{is_bound}
 use Rattle.cv_scope_rules.specs.Phrases.{is_phrase, binds_none}
-use Rattle.cv_scenes.specs.Scenes.{Scene, first_reading}
-use Rattle.cv_scenes.specs.Terms.{is_there}
+use Rattle.cv_scene.specs.Scenes.{Scene, first_reading}
+use Rattle.cv_scene.specs.Terms.{is_there}
 use Rattle.cv_steps.specs.Steps.{Zero}
 use Rattle.cv_steps.specs.Judgements.{Judgement, Refused, Accepted, judgement_of_row}
 use Rattle.cv_steps_laws.specs.Worked.{assigns, draws, draws_more, equal, plain, receives, sends, sends_assigned}

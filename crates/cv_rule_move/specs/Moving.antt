@@ -5,7 +5,7 @@ use Rattle.cv_syntax_trees.specs.Tree.{Tree, Empty, Node, first, second, first_p
 use Rattle.cv_directory_sorts.specs.Sites.{first_of}
 use Rattle.cv_meaning.specs.Still.{defines}
 use Rattle.cv_scope_rules.specs.Made.{is_bound}
-use Rattle.cv_scenes.specs.Scenes.{first_reading}
+use Rattle.cv_scene.specs.Scenes.{first_reading}
 use Rattle.cv_steps.specs.Changes.{only}
 
 -- the variable of a `new` or a `let`

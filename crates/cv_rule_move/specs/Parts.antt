@@ -5,7 +5,7 @@ use Rattle.cv_syntax_trees.specs.declared.head.Head.TheVariants.{Branch, Cons}
 use Rattle.cv_syntax_trees.specs.Tree.{Tree, Node, first, second, second_place, size}
 use Rattle.cv_directory_sorts.specs.Sites.{first_of}
 use Rattle.cv_scope_rules.specs.Made.{is_bound}
-use Rattle.cv_scenes.specs.Scenes.{first_reading}
+use Rattle.cv_scene.specs.Scenes.{first_reading}
 
 -- the branch of a link of a list: its indices, and what stands behind them
 abbrev pub arm_in : Head → Tree → Option (Tree × Tree)

@@ -4,10 +4,10 @@ use Rattle.cv_pool.specs.KindTree.{KindTree}
 use Rattle.cv_pool.specs.Nodes.{ChildBelow}
 use Rattle.cv_syntax_trees.specs.Tree.{Node, size}
 use Rattle.cv_syntax.specs.PoolTrees.{tree_at}
-use Rattle.cv_scenes.specs.Scenes.{Scene, part_at}
+use Rattle.cv_scene.specs.Scenes.{Scene, part_at}
 use Rattle.cv_steps.specs.Changes.{change_at}
 use Rattle.cv_steps.specs.Steps.{Leads, Zero}
-use Rattle.cv_draw.specs.Plans.{failure_of}
+use Rattle.cv_edit_places.specs.Plans.{failure_of}
 use Rattle.cv_rule_move.specs.Moving.{moved}
 use Rattle.cv_rule_move.specs.Steps.{move_step}
 use Rattle.cv_rule_move.specs.declared.planning.Site.{Site}

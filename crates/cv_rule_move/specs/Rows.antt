@@ -1,7 +1,7 @@
 -- The row of the step that moves a definition: the first condition that fails, with its place, or the next game. This profile's own.
 use Rattle.std.specs.Prelude.{ℕ, Option, Some, None}
 use Rattle.cv_syntax_trees.specs.Tree.{Tree, second}
-use Rattle.cv_scenes.specs.Scenes.{Scene, part_at}
+use Rattle.cv_scene.specs.Scenes.{Scene, part_at}
 use Rattle.cv_steps.specs.Steps.{Fails, Leads, Row, Zero}
 use Rattle.cv_steps.specs.Changes.{change_at}
 use Rattle.cv_steps.specs.Rows.{unless, unless_at}

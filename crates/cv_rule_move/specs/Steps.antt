@@ -2,9 +2,9 @@
 use Rattle.std.specs.Prelude.{ℕ, ◌+◌}
 use Rattle.cv_syntax_trees.specs.declared.head.Head.TheVariants.{Branch, Cons, Find, If}
 use Rattle.cv_syntax_trees.specs.Tree.{Tree, Empty, Node}
-use Rattle.cv_scenes.specs.Scenes.{has_place, part_at}
+use Rattle.cv_scene.specs.Scenes.{has_place, part_at}
 use Rattle.cv_steps.specs.Steps.{Step}
-use Rattle.cv_draw.specs.Changes.{need_at}
+use Rattle.cv_edit_places.specs.Changes.{need_at}
 use Rattle.cv_rule_move.specs.Rows.{move_row}
 
 abbrev pub move_step : (place : ℕ) → Step

@@ -8,7 +8,7 @@ use Rattle.cv_syntax_trees.specs.Builders.{branch, event, find, leaf}
 use Rattle.cv_syntax_trees.specs.Declarations.{Named}
 use Rattle.cv_syntax_trees.specs.Tree.{Tree, Empty, Node, lone}
 use Rattle.cv_meaning_runs.specs.Replacement.{if_tree}
-use Rattle.cv_scenes.specs.Scenes.{Scene}
+use Rattle.cv_scene.specs.Scenes.{Scene}
 use Rattle.cv_steps.specs.Steps.{Zero}
 use Rattle.cv_steps.specs.Judgements.{Judgement, Refused, Accepted}
 use Rattle.cv_steps_laws.specs.Worked.{assigns, draws, draws_more, equal, plain, receives, scene_of, sends, sends_assigned}

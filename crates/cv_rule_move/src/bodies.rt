@@ -5,13 +5,13 @@ ghost use Rattle.cv_pool.specs.Nodes.{ChildBelow};
 ghost use Rattle.cv_syntax_trees.specs.Tree.{Node};
 ghost use Rattle.cv_syntax.specs.PoolTrees.{tree_at};
 ghost use Rattle.cv_syntax.specs.Walks.{above};
-ghost use Rattle.cv_draw.specs.Parts.{AreLive, made_by, stack_of};
+ghost use Rattle.cv_edit_places.specs.Parts.{AreLive, made_by, stack_of};
 ghost use Rattle.cv_rule_move.specs.Moving.{in_bodies, in_branches};
 ghost use Rattle.cv_rule_move.specs.Bodies.{AreLiveItems, IsLiveArm, arm_at, arm_of, arm_with, items_at, items_in};
 ghost use Rattle.cv_rule_move.specs.Steps.{made_in_bodies, made_in_branches};
 
 use crate::naming::branch_in;
-use cv_draw::Parts;
+use cv_edit_places::Parts;
 use cv_syntax::children::read_child;
 use cv_syntax::{Head, NodeId, Opened, Pool, read_node};
 use std::alloc::{AllocError, Global};

@@ -5,13 +5,13 @@ ghost use Rattle.cv_syntax_trees.specs.Tree as tree;
 ghost use Rattle.cv_syntax_trees.specs.Tree.{Node};
 ghost use Rattle.cv_syntax.specs.PoolTrees.{tree_at};
 ghost use Rattle.cv_meaning.specs.Still.{defines};
-ghost use Rattle.cv_scenes.specs.Scenes as scenes;
+ghost use Rattle.cv_scene.specs.Scenes as scenes;
 ghost use Rattle.cv_steps.specs.Changes.{only};
 ghost use Rattle.cv_rule_move.specs.Moving.{first_naming, first_naming_branch};
 ghost use Rattle.cv_rule_move.specs.Parts.{arm_in, naming_before};
 
 use cv_path::{is_bound, size_below};
-use cv_rule_scenes::first_reading;
+use cv_scene_view::first_reading;
 use cv_syntax::children::{first_of, read_child, second_of};
 use cv_syntax::{Head, NodeId, Opened, Pool, read_node};
 

@@ -3,22 +3,22 @@ use Rattle.std.proofs.Common.{◌≡◌, ◌≤◌, ℕ, zero, suc, Bool, true, 
 use Rattle.std.proofs.lemmas.Bool.{eq-eqb, ne_eqb, eqb-false}
 use Rattle.cv_scope_rules.specs.Rules.{carries}
 use Rattle.cv_syntax_trees.specs.Tree.{Tree, Empty}
-use Rattle.cv_syntax.proofs.Trees.{tree_of-NoTree}
+use Rattle.cv_syntax.proofs.Trees.{tree_of_NoTree}
 
-pub ruleset term_laws = (tree_of-NoTree)
+pub ruleset term_laws = (tree_of_NoTree)
 
 -- at the end of a list of names all indices were there
-pub carries-end : (rs : List (ℕ × ℕ)) (n : ℕ) (t : Tree) → n ≤ length rs → t ≡ Empty → nat_eq n (length rs) ≡ carries (drop n rs) t
-carries-end rs n t l e = at-empty rs n l ∙ ap (carries (drop n rs)) (sym e)
+pub carries_end : (rs : List (ℕ × ℕ)) (n : ℕ) (t : Tree) → n ≤ length rs → t ≡ Empty → nat_eq n (length rs) ≡ carries (drop n rs) t
+carries_end rs n t l e = at_empty rs n l ∙ ap (carries (drop n rs)) (sym e)
   where
-    at-empty : (rs : List (ℕ × ℕ)) (n : ℕ) → n ≤ length rs → nat_eq n (length rs) ≡ carries (drop n rs) Empty
-    at-empty [] zero l = eq-eqb 0 0 refl
-    at-empty [] (suc n) l = absurd (omega arith)
-    at-empty (r ∷ rs) zero l = ne_eqb 0 (length (r ∷ rs)) (λ z. omega arith)
-    at-empty (r ∷ rs) (suc n) l = same-suc n (length rs) ∙ at-empty rs n (omega arith)
+    at_empty : (rs : List (ℕ × ℕ)) (n : ℕ) → n ≤ length rs → nat_eq n (length rs) ≡ carries (drop n rs) Empty
+    at_empty [] zero l = eq-eqb 0 0 refl
+    at_empty [] (suc n) l = absurd (omega arith)
+    at_empty (r ∷ rs) zero l = ne_eqb 0 (length (r ∷ rs)) (λ z. omega arith)
+    at_empty (r ∷ rs) (suc n) l = same_suc n (length rs) ∙ at_empty rs n (omega arith)
       where
-        same-suc : (a b : ℕ) → nat_eq (suc a) (suc b) ≡ nat_eq a b
-        same-suc a b = go (nat_eq a b) refl
+        same_suc : (a b : ℕ) → nat_eq (suc a) (suc b) ≡ nat_eq a b
+        same_suc a b = go (nat_eq a b) refl
           where
             go : (c : Bool) → nat_eq a b ≡ c → nat_eq (suc a) (suc b) ≡ c
             go true f = eq-eqb (suc a) (suc b) (ap suc (eqb-true a b f))

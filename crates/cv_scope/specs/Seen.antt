@@ -8,7 +8,7 @@ use Rattle.cv_syntax_trees.specs.Children.{is_empty, is_leaf}
 use Rattle.cv_syntax_trees.specs.Tree.{Tree, Empty, Node, second, same_tree, first_place, second_place}
 use Rattle.cv_meaning.specs.Binders.{bound_names}
 use Rattle.cv_directory_sorts.specs.Sites.{first_of}
-use Rattle.cv_scope_tables.specs.Definitions.{is_defined, with_definition}
+use Rattle.cv_scope.specs.tables.Definitions.{is_defined, with_definition}
 use Rattle.cv_scope_rules.specs.declared.fault.Fault.{Fault}
 use Rattle.cv_scope_rules.specs.declared.fault.Fault.TheVariants.{Unscoped, TwoSites, Channel, Replications}
 use Rattle.cv_scope_rules.specs.declared.position.Position.{Position}
@@ -18,7 +18,7 @@ use Rattle.cv_scope_rules.specs.Sites.{Site, SiteName, named_here, channel_here,
 use Rattle.cv_scope_rules.specs.Standing.{parts_ways}
 use Rattle.cv_scope_rules.specs.Rules.{Names, is_index, carries_current}
 use Rattle.cv_scope_rules.specs.Tests.{same_name, is_in_one_of, are_alike, is_few_indices, binds_new_index}
-use Rattle.cv_first_fault.specs.Walk.{placed}
+use Rattle.cv_syntax_faults.specs.Walk.{placed}
 
 pub record Seen : Type 0 where
   pub replications : List (ℕ × ℕ)

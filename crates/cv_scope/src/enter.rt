@@ -7,11 +7,11 @@ ghost use Rattle.cv_scope_rules.specs.Context.{items};
 ghost use Rattle.cv_scope.specs.Held.{AreListed, DefinesOnly, IsEntered, IsTaken, ListsOnly, state_held};
 ghost use Rattle.cv_scope_rules.specs.Ranges.{EndBy};
 ghost use Rattle.cv_scope.specs.Seen.{with_definitions};
-ghost use Rattle.cv_scope_tables.specs.Definitions.{with_definition};
+ghost use Rattle.cv_scope.specs.tables.Definitions.{with_definition};
 
 use crate::binders::first_binder;
+use crate::heads::variable_of;
 use crate::state::State;
-use cv_scope_heads::variable_of;
 use cv_scope_rules::Position;
 use cv_syntax::children::second_of;
 use cv_syntax::{Head, NodeId, Pool, read_node};

@@ -4,12 +4,14 @@
 mod binders;
 mod checking;
 mod enter;
+pub mod heads;
 mod lasts;
 mod names;
 mod passed;
 mod reads;
 mod rules;
 mod state;
+pub mod tables;
 mod terms;
 mod walk;
 

@@ -7,10 +7,10 @@ ghost use Rattle.cv_scope.specs.Seen.{may_stand_last, nothing_seen, with_sites};
 ghost use Rattle.cv_scope_rules.specs.Sites.{Variable, Label, channel_here, named_here, site_of, variable_sites};
 
 use crate::binders::first_binder;
+use crate::heads::variable_of;
 use crate::lasts::{LastSite, Lasts};
 use crate::passed::Passed;
-use cv_scope_heads::variable_of;
-use cv_scope_tables::{Defined, Listed};
+use crate::tables::{Defined, Listed};
 use cv_syntax::children::second_of;
 use cv_syntax::{Head, NodeId, Pool};
 use std::alloc::{AllocError, Global};

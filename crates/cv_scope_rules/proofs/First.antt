@@ -1,18 +1,18 @@
 -- What is computed is the first fault in preorder, and there is none exactly where all is scoped.
 use Rattle.std.proofs.Common.{◌≡◌, ℕ, ◌+◌, ◌≤◌, Some, None}
 use Rattle.cv_syntax_trees.specs.Tree.{Tree, size}
-use Rattle.cv_first_fault.specs.Walk.{IsDecided}
-use Rattle.cv_first_fault.proofs.First as walk
+use Rattle.cv_syntax_faults.specs.Walk.{IsDecided}
+use Rattle.cv_syntax_faults.proofs.First as walk
 use Rattle.cv_scope_rules.specs.declared.fault.Fault.{Fault}
 use Rattle.cv_scope_rules.specs.Standing.{Standing}
 use Rattle.cv_scope_rules.specs.Rules.{Names}
 use Rattle.cv_scope_rules.specs.Scope.{IsScopedAt, Faulty, IsFirst, first_fault, scope_walk}
-use Rattle.cv_scope_rules.proofs.Decided.{node-obeys, no-node-fault, node-breaks, not-both}
+use Rattle.cv_scope_rules.proofs.Decided.{node_obeys, no_node_fault, node_breaks, not_both_law}
 
 module _ (names : Names) where
   -- the computed fault of a node is what is asked
   scope_decided : IsDecided (scope_walk names)
-  scope_decided = record { obeys = node-obeys names; finds_none = no-node-fault names; breaks = node-breaks names; not_both = not-both names }
+  scope_decided = record { obeys = node_obeys names; finds_none = no_node_fault names; breaks = node_breaks names; not_both = not_both_law names }
 
   module _ (s : Standing) (t : Tree) where
     -- no fault is found only in a scoped tree

@@ -5,6 +5,7 @@ use Rattle.cv_syntax_trees.specs.declared.head.Head.{Head}
 use Rattle.cv_syntax_trees.specs.declared.head.Head.TheVariants.{Key, Call}
 use Rattle.cv_syntax_trees.specs.Tree.{Tree, Empty, Node}
 use Rattle.cv_scope_rules.specs.Phrases.{Phrase, Nil, parts, both_are, is_phrase, head_is_plain, is_plain}
+use Rattle.cv_lists.proofs.Options.{none_some}
 
 no_key : (σ : Phrase) (x : ℕ) → parts σ (Key x) ≡ None
 no_key Nil x = refl
@@ -13,9 +14,6 @@ no_key σ x = refl
 no_call : (σ : Phrase) (x l : ℕ) → parts σ (Call x l) ≡ None
 no_call Nil x l = refl
 no_call σ x l = refl
-
-none_some : {A : Type 0} (q : A) → ◌≡◌ {A = Option A} None (Some q) → ⊥
-none_some q e = cc
 
 head_plain : (σ : Phrase) (h : Head) (q : Phrase × Phrase) → parts σ h ≡ Some q → head_is_plain h ≡ true
 head_plain σ (Key x) q e = absurd (none_some q (sym (no_key σ x) ∙ e))

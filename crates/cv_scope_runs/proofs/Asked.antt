@@ -1,7 +1,7 @@
 -- What array scope asks of the nodes of a tree, without the sites before it; what one node binds is distinct.
 use Rattle.std.proofs.Common.{◌≡◌, ℕ, Bool, true, false, ◌||◌, ◌==◌, List, refl, ap, arith, eqb-true}
 use Rattle.std.specs.List.{AllByRecursion}
-use Rattle.cv_first_fault.specs.Walk.{IsObeyed}
+use Rattle.cv_syntax_faults.specs.Walk.{IsObeyed}
 use Rattle.cv_syntax_trees.specs.declared.head.Head.{Head}
 use Rattle.cv_syntax_trees.specs.declared.head.Head.TheVariants.{In, Branch, Binder}
 use Rattle.cv_syntax_trees.specs.Declarations.{Declaration}
@@ -16,7 +16,7 @@ use Rattle.cv_scope_rules.specs.Rules.{Names, IsInScope, BindsNewIndex}
 use Rattle.cv_scope_rules.specs.Scope.{IsScopedAt, IsScoped, names_of}
 use Rattle.cv_scope_rules.specs.Standing.{Standing, at_root, first_standing, second_standing}
 use Rattle.cv_scope_rules.specs.Branches.{Pairs}
-use Rattle.cv_scope_rules.proofs.Apart.{IsApart, IsBefore, before-first, before-second, past-end, stand-apart}
+use Rattle.cv_scope_rules.proofs.Apart.{IsApart, IsBefore, before_first, before_second, past_end, stand_apart}
 use Rattle.cv_scope_rules.specs.Made.{is_bound}
 
 -- the variables of a list of binders are distinct
@@ -53,7 +53,7 @@ not_bound rs p bs x h = refl
 
 -- no site of a node is in a branch that is passed
 not_passed : (passed rs : List (ℕ × ℕ)) (p x : ℕ) → EndBy p passed → (bs : Tree) → AllByRecursion (IsApart passed (site_of rs p (Variable x))) (variable_sites rs p bs) → AllByRecursion (HasOther x) (variable_sites rs p bs)
-not_passed passed rs p x e (Node (Binder y T) a b) h = (λ q. past-end passed p p e (omega arith) (h.0 q).0, not_passed passed rs p x e b h.1)
+not_passed passed rs p x e (Node (Binder y T) a b) h = (λ q. past_end passed p p e (omega arith) (h.0 q).0, not_passed passed rs p x e b h.1)
 not_passed passed rs p x e bs h = tt
 
 distinct : (passed rs : List (ℕ × ℕ)) (p : ℕ) → EndBy p passed → (bs : Tree) → Pairs (IsApart passed) (variable_sites rs p bs) → AreDistinct bs
@@ -72,10 +72,10 @@ scoped_asked names s (Node h a b) m i = (
   record {
     scope = i.0 fault.Unscoped;
     index = (i.0 fault.Replications).2;
-    distinct = binds_distinct s.passed s.known.replications s.place m.passed h a (stand-apart s.passed (named_here s.known.replications s.place h a) s.sites (i.0 fault.TwoSites)).1;
+    distinct = binds_distinct s.passed s.known.replications s.place m.passed h a (stand_apart s.passed (named_here s.known.replications s.place h a) s.sites (i.0 fault.TwoSites)).1;
   },
-  scoped_asked names (first_standing s h a) a (before-first s h a m) i.1,
-  scoped_asked names (second_standing s h a) b (before-second s h a m) i.2,
+  scoped_asked names (first_standing s h a) a (before_first s h a m) i.1,
+  scoped_asked names (second_standing s h a) b (before_second s h a m) i.2,
 )
 
 pub game_asked : (ds : List Declaration) (game : Tree) → IsScoped ds game → Asked (names_of ds game) Anywhere nothing_known game

@@ -1,6 +1,6 @@
 -- What a find chooses is a candidate, and what a candidate's body may take for granted.
 use Rattle.std.proofs.Common.{◌≡◌, ℕ, zero, suc, ◌+◌, ◌%◌, Bool, true, false, cond, ◌==◌, List, [], ◌∷◌, Some, None, is_some, length, slice_get, nat_lt, map, refl, ap, ap₂, subst, ◌∙◌, eq-eqb, eqb-true, arith}
-use Rattle.std.proofs.lemmas.Bool.{both_ways, and_parts}
+use Rattle.std.proofs.lemmas.Bool.{both_ways, and_parts, or_left, or_right}
 use Rattle.std.specs.List.{AllByRecursion}
 use Rattle.cv_syntax_trees.specs.declared.head.Head.TheVariants.{Leaf, Read, Cons, Binder}
 use Rattle.cv_syntax_trees.specs.Tree.{Tree, Empty, Node, first, second}
@@ -9,17 +9,16 @@ use Rattle.cv_meaning.specs.Memory.{Store, Indices, Happened, put, tuple}
 use Rattle.cv_meaning.specs.Terms.{or_zero, value, values}
 use Rattle.cv_meaning.specs.Binders.{fits, bound_to}
 use Rattle.cv_meaning.specs.Candidates.{Candidate, is_assigned, are_assigned, is_candidate, candidate, candidates_at, candidates, chosen, tuples_up_to, most_indices, widest}
-use Rattle.cv_meaning_laws.proofs.Lists.{each_append, each_flat_map}
-use Rattle.cv_meaning_runs.proofs.Lists.{all_map}
+use Rattle.cv_meaning_laws.proofs.Lists.{each_flat_map}
 use Rattle.cv_scope_rules.specs.declared.position.Position.TheVariants as position
 use Rattle.cv_scope_rules.specs.Context.{Context, cells_of, items, with_cells}
 use Rattle.cv_scope_rules.specs.Phrases.{Terms, Cells, OneCell, is_oracle_phrase}
 use Rattle.cv_scope_runs.specs.Reads.{IsKept, CellAssigned, CellsAssigned}
 use Rattle.cv_scope_rules.specs.Made.{is_bound}
 use Rattle.cv_scope_runs.proofs.Asked.{Asked, AreDistinct}
-use Rattle.cv_scope_runs.proofs.OnceGames.{or_left, or_right}
 use Rattle.cv_scope_runs.proofs.TermsLater.{cell, later_same, all_readable_assigned}
 use Rattle.cv_scope_runs.proofs.Contexts.{Matches, CellHolds, Holds, NamesApart, game_names, own_holds, own_value, not_constant, variable_none, all_scope_readable, put_here, put_other, bound_later}
+use Rattle.cv_lists.proofs.Each.{AllByRecursion_append, AllByRecursion_weaker}
 
 -- the branch is a candidate at the tuple
 pub record IsChosen (g : Setting) (at : Indices) (m : Store) (branch : Tree) (u : List ℕ) : Type 0 where
@@ -53,9 +52,9 @@ candidates_at_fine : (g : Setting) (at : Indices) (m : Store) (u : List ℕ) (k 
 unfolding candidates_at
 candidates_at_fine g at m u k Empty = tt
 candidates_at_fine g at m u k (Node h branch more) =
-    each_append (NumberedFrom g at m k (Node h branch more)) (candidate g at m u k branch) (candidates_at g at m u (suc k) more)
+    AllByRecursion_append (NumberedFrom g at m k (Node h branch more)) (candidate g at m u k branch) (candidates_at g at m u (suc k) more)
     (candidate_fine g at m u k branch (NumberedFrom g at m k (Node h branch more)) (λ c. (0, (let q : k ≡ 0 + k = omega arith in q), c)))
-    (all_map (NumberedFrom g at m (suc k) more) (NumberedFrom g at m k (Node h branch more)) (λ c x. (suc x.0, (let e = x.1 in let q : c.branch ≡ suc x.0 + k = omega arith in q), x.2)) (candidates_at g at m u (suc k) more) (candidates_at_fine g at m u (suc k) more))
+    (AllByRecursion_weaker (NumberedFrom g at m (suc k) more) (NumberedFrom g at m k (Node h branch more)) (λ c x. (suc x.0, (let e = x.1 in let q : c.branch ≡ suc x.0 + k = omega arith in q), x.2)) (candidates_at g at m u (suc k) more) (candidates_at_fine g at m u (suc k) more))
 
 abbrev pub IsBranch : Setting → Indices → Store → Tree → Candidate → Type 0
 IsBranch g at m branches c = BranchAt g at m branches c.branch c.tuple
@@ -64,7 +63,7 @@ pub candidates_fine : (g : Setting) (at : Indices) (m : Store) (branches : Tree)
 unfolding candidates
 candidates_fine g at m branches =
     each_flat_map (IsBranch g at m branches) (λ u. candidates_at g at m u 0 branches) (tuples_up_to (most_indices branches) (widest g.interpretation.parameter_value branches))
-    (λ u. all_map (NumberedFrom g at m 0 branches) (IsBranch g at m branches) (λ c x. let e = x.1 in let q : x.0 ≡ c.branch = omega arith in subst (λ k. BranchAt g at m branches k c.tuple) q x.2) (candidates_at g at m u 0 branches) (candidates_at_fine g at m u 0 branches))
+    (λ u. AllByRecursion_weaker (NumberedFrom g at m 0 branches) (IsBranch g at m branches) (λ c x. let e = x.1 in let q : x.0 ≡ c.branch = omega arith in subst (λ k. BranchAt g at m branches k c.tuple) q x.2) (candidates_at g at m u 0 branches) (candidates_at_fine g at m u 0 branches))
 
 got_fine : (P : Candidate → Type 0) (cs : List Candidate) (i : ℕ) (c : Candidate) → AllByRecursion P cs → slice_get cs i ≡ Some c → P c
 got_fine P [] i c h e = cc
@@ -125,7 +124,7 @@ module _ (g : Setting) (variable : ℕ → Bool) where
   listed_cell apart Γ at m n es k h l o Empty f s z = absurd (both_ways _ refl f)
 
   pub with_cell_holds : (Γ : Context) (at : Indices) (n : Store) (es : List Happened) (c : Tree) → Holds g variable Γ at n es → CellHolds g variable at n c → Holds g variable (with_cells Γ (c ∷ [])) at n es
-  with_cell_holds Γ at n es c h x = record { cells = each_append (CellHolds g variable at n) Γ.cells (c ∷ []) h.cells (x, tt); own = h.own; facts = h.facts; events = h.events }
+  with_cell_holds Γ at n es c h x = record { cells = AllByRecursion_append (CellHolds g variable at n) Γ.cells (c ∷ []) h.cells (x, tt); own = h.own; facts = h.facts; events = h.events }
 
   -- the cells of a list that are all assigned
   pub list_cells : NamesApart g variable → (Γ : Context) (at : Indices) (m n : Store) (es : List Happened) → Matches g variable Γ.replications at → Holds g variable Γ at n es → IsKept m n → OnlyVariables m

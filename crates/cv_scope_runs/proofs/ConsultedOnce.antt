@@ -12,18 +12,17 @@ use Rattle.cv_meaning.specs.Serving.{Visit}
 use Rattle.cv_meaning.specs.Consulted.{consulted, consulted_at}
 use Rattle.cv_meaning.specs.Runs.{Mode, Answer, Move, run_visits, start}
 use Rattle.cv_meaning_laws.proofs.Counts.{same_tuple_exact}
-use Rattle.cv_meaning_laws.proofs.Lists.{each_append}
-use Rattle.cv_meaning_runs.proofs.Lists.{all_map, all_both}
 use Rattle.cv_scope_rules.specs.Sites.{SiteName, Variable, Label}
 use Rattle.cv_scope_rules.specs.Branches.{Pairs, IsApartByBranches}
-use Rattle.cv_scope_rules.proofs.Pairs.{pairs-append}
-use Rattle.cv_scope_rules.proofs.Apart.{game-branches}
+use Rattle.cv_scope_rules.proofs.Pairs.{pairs_append}
+use Rattle.cv_scope_rules.proofs.Apart.{game_branches}
 use Rattle.cv_scope_rules.specs.Phrases.{is_plain, IsWellFormed, IsWellFormedContext}
 use Rattle.cv_scope_rules.specs.Made.{is_bound, is_own_at, is_own_of, made_at, MakeApart, AssignsNew, OwnUnassigned}
 use Rattle.cv_scope_runs.proofs.Plain.{game_context, game_plain, VisitPlain, visits_plain}
 use Rattle.cv_scope_runs.proofs.OnceRuns.{Has, made_has}
 use Rattle.cv_scope_runs.proofs.OnceGames.{MakesName, names_at, made_once}
 use Rattle.cv_scope_runs.proofs.FreshRuns.{IsClear, visits_clear}
+use Rattle.cv_lists.proofs.Each.{AllByRecursion_append, AllByRecursion_weaker, AllByRecursion_both}
 
 abbrev Differ : Cell → Cell → Type 0
 Differ c d = same_cell c d ≡ false
@@ -64,8 +63,8 @@ all_cross_visits g a s [] h = none (consulted_at g a s)
     none [] = tt
     none (c ∷ cs) = (tt, none cs)
 all_cross_visits g a s (v ∷ vs) h =
-    all_both (λ c. AllByRecursion (Differ c) (consulted_at g v.tree v.before)) (λ c. AllByRecursion (Differ c) (consulted g vs)) (λ c. AllByRecursion (Differ c) (consulted_at g v.tree v.before ++ consulted g vs))
-    (λ c p q. each_append (Differ c) (consulted_at g v.tree v.before) (consulted g vs) p q) (consulted_at g a s) h.0 (all_cross_visits g a s vs h.1)
+    AllByRecursion_both (λ c. AllByRecursion (Differ c) (consulted_at g v.tree v.before)) (λ c. AllByRecursion (Differ c) (consulted g vs)) (λ c. AllByRecursion (Differ c) (consulted_at g v.tree v.before ++ consulted g vs))
+    (λ c p q. AllByRecursion_append (Differ c) (consulted_at g v.tree v.before) (consulted g vs) p q) (consulted_at g a s) h.0 (all_cross_visits g a s vs h.1)
 
 one : (g : Setting) (a : Tree) (s : Local) → is_plain a ≡ true → Pairs Differ (consulted_at g a s)
 one g (Node (New x T) a b) s i = (tt, tt)
@@ -78,8 +77,8 @@ all_apart : (g : Setting) (vs : List Visit) → AllByRecursion VisitPlain vs →
 unfolding consulted
 all_apart g [] p h = tt
 all_apart g (v ∷ vs) p h =
-    pairs-append Differ (consulted_at g v.tree v.before) (consulted g vs) (one g v.tree v.before p.0) (all_apart g vs p.1 h.1)
-    (all_cross_visits g v.tree v.before vs (all_both VisitPlain (MakeApart v) (λ (w : Visit). Cross g v.tree v.before w.tree w.before) (λ w j k. cross g v.tree v.before w.tree w.before p.0 j k) vs p.1 h.0))
+    pairs_append Differ (consulted_at g v.tree v.before) (consulted g vs) (one g v.tree v.before p.0) (all_apart g vs p.1 h.1)
+    (all_cross_visits g v.tree v.before vs (AllByRecursion_both VisitPlain (MakeApart v) (λ (w : Visit). Cross g v.tree v.before w.tree w.before) (λ w j k. cross g v.tree v.before w.tree w.before p.0 j k) vs p.1 h.0))
 
 distinct : (cs : List Cell) → Pairs Differ cs → IsDistinct same_cell cs
 unfolding IsDistinct
@@ -108,16 +107,16 @@ own_unassigned v c y e = ap (v.before.memory.store y) (sym (append-nil (tuple v.
 
 module _ (ds : List Declaration) (g : Setting) (m : Mode) (next : List Answer → Option Move) (t : Tape) (n : ℕ) (game : Tree) (well : IsWellFormedContext ds game) where
   branches : IsApartByBranches game
-  branches = game-branches ds game well.scoped
+  branches = game_branches ds game well.scoped
 
   pub all_made_once : Pairs MakeApart (run_visits g m next t n (start g game))
   all_made_once = made_once g m next t n game branches
 
   pub all_assign_new : AllByRecursion AssignsNew (run_visits g m next t n (start g game))
-  all_assign_new = all_map IsClear AssignsNew assigns_new _ (visits_clear g m next t n game branches)
+  all_assign_new = AllByRecursion_weaker IsClear AssignsNew assigns_new _ (visits_clear g m next t n game branches)
 
   pub all_own_unassigned : AllByRecursion OwnUnassigned (run_visits g m next t n (start g game))
-  all_own_unassigned = all_map IsClear OwnUnassigned own_unassigned _ (visits_clear g m next t n game branches)
+  all_own_unassigned = AllByRecursion_weaker IsClear OwnUnassigned own_unassigned _ (visits_clear g m next t n game branches)
 
 pub all_consulted_once : (ds : List Declaration) (g : Setting) (m : Mode) (next : List Answer → Option Move) (t : Tape) (n : ℕ) (game : Tree) → IsWellFormed ds game → IsDistinct same_cell (consulted g (run_visits g m next t n (start g game)))
 all_consulted_once ds g m next t n game w =

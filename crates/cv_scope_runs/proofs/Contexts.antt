@@ -1,6 +1,6 @@
 -- What stands above a node holds in later stores and below more replications.
 use Rattle.std.proofs.Common.{◌≡◌, ℕ, ◌<◌, Bool, true, false, cond, ◌&&◌, ◌||◌, ◌==◌, List, [], ◌∷◌, ◌++◌, inl, inr, Some, None, is_some, refl, sym, ap, ap₂, subst, ◌∙◌, eq-eqb, eqb-true}
-use Rattle.std.proofs.lemmas.Bool.{both_ways, and_parts}
+use Rattle.std.proofs.lemmas.Bool.{both_ways, and_parts, or_left, or_right}
 use Rattle.std.specs.List.{AllByRecursion}
 use Rattle.cv_syntax_trees.specs.declared.head.Head.TheVariants.{Leaf, Read, Apply, Eq, And, Or, Not, Yes, No, Cons, Binder}
 use Rattle.cv_syntax_trees.specs.Tree.{Tree, Empty, Node}
@@ -11,8 +11,6 @@ use Rattle.cv_meaning.specs.Terms.{or_zero, found_in, leaf_value_from, leaf_valu
 use Rattle.cv_meaning.specs.Binders.{bound_to}
 use Rattle.cv_meaning.specs.Candidates.{is_assigned}
 use Rattle.cv_meaning_laws.proofs.Counts.{same_tuple_refl, same_tuple_exact}
-use Rattle.cv_meaning_laws.proofs.Lists.{each_append}
-use Rattle.cv_meaning_runs.proofs.Lists.{all_map}
 use Rattle.cv_scope_rules.specs.declared.position.Position.TheVariants.{Anywhere}
 use Rattle.cv_scope_rules.specs.Context.{Context, index_terms, cell_of}
 use Rattle.cv_scope_rules.specs.Rules.{Names, is_index, IsAmong, InReach, ReadsInReach}
@@ -21,8 +19,8 @@ use Rattle.cv_scope_runs.specs.Reads.{IsKept}
 use Rattle.cv_scope_rules.specs.Made.{is_bound}
 use Rattle.cv_scope_runs.specs.Promises.{IsRecorded, EventsKept, AreIndicesOf}
 use Rattle.cv_scope_runs.proofs.Asked.{Asked, AreDistinct}
-use Rattle.cv_scope_runs.proofs.OnceGames.{or_left, or_right}
 use Rattle.cv_scope_runs.proofs.TermsLater.{LeafReads, index, constant, cell, Readable, AllReadable, Extends, value_kept, values_kept, readable_kept, all_readable_kept, later_same}
+use Rattle.cv_lists.proofs.Each.{AllByRecursion_append, AllByRecursion_weaker}
 
 -- events
 
@@ -81,10 +79,10 @@ apart_none bad (p ∷ ps) x h e = go (p.0 == x) refl (apart_none bad ps x h.1 e)
 
 module _ (g : Setting) (variable : ℕ → Bool) where
   pub constant_none : (rs : List (ℕ × ℕ)) (at : Indices) → Matches g variable rs at → (x : ℕ) → g.is_constant x ≡ true → found_in at x ≡ None
-  constant_none rs at h x e = apart_none g.is_constant at x (all_map _ (λ (p : ℕ × ℕ). g.is_constant p.0 ≡ false) (λ p z. z.0) at h.apart) e
+  constant_none rs at h x e = apart_none g.is_constant at x (AllByRecursion_weaker _ (λ (p : ℕ × ℕ). g.is_constant p.0 ≡ false) (λ p z. z.0) at h.apart) e
 
   pub variable_none : (rs : List (ℕ × ℕ)) (at : Indices) → Matches g variable rs at → (x : ℕ) → variable x ≡ true → found_in at x ≡ None
-  variable_none rs at h x e = apart_none variable at x (all_map _ (λ (p : ℕ × ℕ). variable p.0 ≡ false) (λ p z. z.1) at h.apart) e
+  variable_none rs at h x e = apart_none variable at x (AllByRecursion_weaker _ (λ (p : ℕ × ℕ). variable p.0 ≡ false) (λ p z. z.1) at h.apart) e
 
   -- the index terms have the copy's tuple
   terms_values : (at : Indices) (m : Store) (ps rs : List (ℕ × ℕ)) → AreIndicesOf g ps rs → AllByRecursion (IsFound at) ps → values g at m (index_terms rs) ≡ tuple ps
@@ -168,10 +166,10 @@ module _ (g : Setting) (variable : ℕ → Bool) where
 
   pub holds_kept : (Γ : Context) (at : Indices) (m : Store) (at' : Indices) (n : Store) (es fs : List Happened) → Extends g variable at m at' n → EventsKept es fs → Holds Γ at m es → Holds Γ at' n fs
   holds_kept Γ at m at' n es fs e l h = record {
-    cells = all_map (CellHolds at m) (CellHolds at' n) (cell_kept at m at' n e) Γ.cells h.cells;
-    own = all_map (CellHolds at m) (CellHolds at' n) (cell_kept at m at' n e) Γ.own h.own;
-    facts = all_map (FactHolds at m) (FactHolds at' n) (fact_kept at m at' n e) Γ.facts h.facts;
-    events = all_map (EventHolds at m es) (EventHolds at' n fs) (event_kept at m at' n es fs e l) Γ.events h.events;
+    cells = AllByRecursion_weaker (CellHolds at m) (CellHolds at' n) (cell_kept at m at' n e) Γ.cells h.cells;
+    own = AllByRecursion_weaker (CellHolds at m) (CellHolds at' n) (cell_kept at m at' n e) Γ.own h.own;
+    facts = AllByRecursion_weaker (FactHolds at m) (FactHolds at' n) (fact_kept at m at' n e) Γ.facts h.facts;
+    events = AllByRecursion_weaker (EventHolds at m es) (EventHolds at' n fs) (event_kept at m at' n es fs e l) Γ.events h.events;
   }
 
   -- scope
@@ -261,9 +259,9 @@ module _ (g : Setting) (variable : ℕ → Bool) where
   pub push_matches : (Γ : Context) (at : Indices) (i n v : ℕ) → NewIndex g.is_constant variable Γ.replications i → v < g.interpretation.parameter_value n → Matches g variable Γ.replications at → Matches g variable (Γ.replications ++ (i, n) ∷ []) (at ++ (i, v) ∷ [])
   push_matches Γ at i n v new l h = record {
     named = named_push at Γ.replications i n v l h.named;
-    found = each_append (IsFound (at ++ (i, v) ∷ [])) at ((i, v) ∷ []) (all_map (IsFound at) (IsFound (at ++ (i, v) ∷ [])) (λ p e. found_push at i v p.0 p.1 e) at h.found)
+    found = AllByRecursion_append (IsFound (at ++ (i, v) ∷ [])) at ((i, v) ∷ []) (AllByRecursion_weaker (IsFound at) (IsFound (at ++ (i, v) ∷ [])) (λ p e. found_push at i v p.0 p.1 e) at h.found)
         (none_push at i v i (index_none g at Γ.replications i h.named new.not_above) ∙ ap (λ b. cond b (Some v) None) (eq-eqb i i refl), tt);
-    apart = each_append (λ (p : ℕ × ℕ). (g.is_constant p.0 ≡ false) × (variable p.0 ≡ false)) at ((i, v) ∷ []) h.apart ((new.no_constant, new.no_variable), tt);
+    apart = AllByRecursion_append (λ (p : ℕ × ℕ). (g.is_constant p.0 ≡ false) × (variable p.0 ≡ false)) at ((i, v) ∷ []) h.apart ((new.no_constant, new.no_variable), tt);
   }
 
 -- stores

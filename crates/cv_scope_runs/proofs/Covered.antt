@@ -1,6 +1,6 @@
 -- Where the right events stand above a left one and were recorded, the left event is met.
 use Rattle.std.proofs.Common.{◌≡◌, ℕ, Bool, true, false, cond, ◌||◌, ◌&&◌, not, ◌==◌, List, [], ◌∷◌, ◌++◌, ◌⊎◌, Option, Some, None, refl, sym, ap, ap₂, subst, ◌∙◌, inl, inr, zip, eqb-true}
-use Rattle.std.proofs.lemmas.Bool.{both_ways, and_parts, and_from}
+use Rattle.std.proofs.lemmas.Bool.{both_ways, and_parts, and_from, or_parts, or_right}
 use Rattle.std.specs.List.{AllByRecursion, list_any, list_all}
 use Rattle.cv_syntax_trees.specs.declared.head.Head.TheVariants.{Leaf, Apply, Eq, And, Or, Not, Yes, No}
 use Rattle.cv_syntax_trees.specs.Tree.{Tree, Empty, Node}
@@ -12,11 +12,11 @@ use Rattle.cv_meaning.specs.Correspondences.{Correspondence, Atom, RightEvent, R
 use Rattle.cv_meaning.specs.Direct.{Noted, argument, is_argument, is_leaf, is_one_of, stands_for, is_substituted, is_instance, is_noted, atom_noted, event_covered}
 use Rattle.cv_meaning_laws.proofs.Counts.{same_tuple_refl}
 use Rattle.cv_syntax_trees.proofs.Equality.{same_tree_exact}
-use Rattle.cv_meaning_laws.proofs.Lists.{or_none}
 use Rattle.cv_scope_runs.specs.Promises.{IsRecorded}
-use Rattle.cv_scope_runs.proofs.OnceGames.{or_right}
 use Rattle.cv_scope_runs.proofs.TermsLater.{LeafReads, Readable, AllReadable}
 use Rattle.cv_scope_runs.proofs.Contexts.{EventHolds}
+use Rattle.cv_lists.proofs.Tests.{or_weaker}
+use Rattle.cv_lists.proofs.Each.{list_all_weaker}
 
 -- every left event so far is met
 
@@ -31,17 +31,9 @@ any_recorded p e [] h k = absurd h
 any_recorded p e (x ∷ es) (inl h) k = ap (λ b. b || list_any p es) (ap p (sym h) ∙ k)
 any_recorded p e (x ∷ es) (inr h) k = or_right (p x) _ (any_recorded p e es h k)
 
-or_mono : (a x y : Bool) → (x ≡ true → y ≡ true) → (a || x) ≡ true → (a || y) ≡ true
-or_mono true x y h e = refl
-or_mono false x y h e = h e
-
 any_more : (p : Happened → Bool) (es fs : List Happened) → list_any p es ≡ true → list_any p (es ++ fs) ≡ true
 any_more p [] fs h = absurd (both_ways _ refl h)
-any_more p (x ∷ es) fs h = or_mono (p x) _ _ (any_more p es fs) h
-
-all_mono : {A : Type 0} (p q : A → Bool) → ((x : A) → p x ≡ true → q x ≡ true) → (xs : List A) → list_all p xs ≡ true → list_all q xs ≡ true
-all_mono p q h [] e = refl
-all_mono p q h (x ∷ xs) e = let r = and_parts (p x) _ e in and_from (q x) _ (h x r.0) (all_mono p q h xs r.1)
+any_more p (x ∷ es) fs h = or_weaker (p x) _ _ (any_more p es fs) h
 
 -- a name that is read, and stands for itself, has the value that it has in the query
 abbrev pub StandsForItself : Setting → (ℕ → Bool) → Indices → Store → ℕ → Type 0
@@ -71,7 +63,7 @@ is_argument_value g at m xs a y n e = go (argument xs a y) refl e
 none_among : (xs : List ℕ) (vs : List ℕ) (y : ℕ) → is_one_of xs y ≡ false → found_in (zip xs vs) y ≡ None
 none_among [] vs y e = refl
 none_among (x ∷ xs) [] y e = refl
-none_among (x ∷ xs) (v ∷ vs) y e = let r = or_none (x == y) _ e in ap₂ (λ b o. cond b (Some v) o) r.0 (none_among xs vs y r.1)
+none_among (x ∷ xs) (v ∷ vs) y e = let r = or_parts (x == y) _ e in ap₂ (λ b o. cond b (Some v) o) r.0 (none_among xs vs y r.1)
 
 module _ (g : Setting) (variable own : ℕ → Bool) (at : Indices) (m : Store) (fixed : (y : ℕ) → own y ≡ true → StandsForItself g variable at m y) (xs : List ℕ) (a : Tree) where
   abbrev ρ : Indices
@@ -139,7 +131,7 @@ module _ (g : Setting) (variable own : ℕ → Bool) (at : Indices) (m : Store) 
 pub event_met : (g : Setting) (variable own : ℕ → Bool) (q : Correspondence) (at : Indices) (m : Store) (es : List Happened) (above : List Noted) (e : ℕ) (a : Tree) → ((y : ℕ) → own y ≡ true → StandsForItself g variable at m y) → event_covered own q above e a ≡ true → AllByRecursion (EventHolds g variable at m es) above → IsMetBy g q es (record { event = e; values = values g at m a })
 event_met g variable own q at m es above e a fixed c r l =
     let c' : list_all (atom_noted own q.variables above a) q.atoms ≡ true = subst (λ b. cond b (list_all (atom_noted own q.variables above a) q.atoms) true ≡ true) l c in
-    all_mono _ _ (atom_holds g variable own at m fixed q.variables a es above r) q.atoms c'
+    list_all_weaker _ _ (atom_holds g variable own at m fixed q.variables a es above r) q.atoms c'
 
 -- one more event
 
@@ -158,7 +150,7 @@ holds_more g es fs ρ (RightEvent inj f ms) h = any_more (is_event g ρ f ms) es
 holds_more g es fs ρ (RightTerm m) h = h
 
 met_more : (g : Setting) (q : Correspondence) (es fs : List Happened) (e : Happened) → IsMetBy g q es e → IsMetBy g q (es ++ fs) e
-met_more g q es fs e h k = all_mono _ _ (holds_more g es fs (left_values q e)) q.atoms (h k)
+met_more g q es fs e h k = list_all_weaker _ _ (holds_more g es fs (left_values q e)) q.atoms (h k)
 
 pub met_push : (g : Setting) (q : Correspondence) (es : List Happened) (d : Happened) → AllMet g q es → IsMetBy g q es d → AllMet g q (es ++ d ∷ [])
 met_push g q es d h k e a = go (among_push e d es a)

@@ -13,12 +13,11 @@ use Rattle.cv_meaning.specs.Candidates.{are_assigned}
 use Rattle.cv_meaning.specs.Inputs.{Input}
 use Rattle.cv_meaning.specs.Serving.{Visit}
 use Rattle.cv_meaning.specs.Runs.{Mode, Answer, Move, run_visits, run_from, start}
-use Rattle.cv_meaning_runs.proofs.Lists.{all_map, all_both}
 use Rattle.cv_scope_rules.specs.Context.{Context, known_at}
 use Rattle.cv_scope_rules.specs.Sites.{SiteName, Variable}
 use Rattle.cv_scope_rules.specs.Scope.{is_variable}
 use Rattle.cv_scope_rules.specs.Branches.{Pairs}
-use Rattle.cv_scope_rules.proofs.Apart.{game-branches}
+use Rattle.cv_scope_rules.proofs.Apart.{game_branches}
 use Rattle.cv_scope_rules.specs.declared.position.Position.TheVariants.{Anywhere}
 use Rattle.cv_scope_rules.specs.Context.{nothing_known}
 use Rattle.cv_scope_rules.specs.Phrases.{Phrase, Inputs, Body, Branches, Arm, Message, Binders, Cells, is_oracle_phrase, binds_none, IsWellFormedContext, HasConstantsOf}
@@ -38,14 +37,15 @@ use Rattle.cv_scope_runs.proofs.Games.{Game, variable_site, stands_phrase, stand
 use Rattle.cv_scope_rules.proofs.Unbound.{no_variable}
 use Rattle.cv_scope_runs.proofs.PathRuns.{term_reads, terms_read, later_holds, only_variables, SiteHolds, StoreHolds, InputReady, GuardsShape, shape, guards_shape, own_ready, guarded_holds, branch_holds}
 use Rattle.cv_scope_runs.proofs.ServeRuns.{VisitHolds, Moves, game_holds}
+use Rattle.cv_lists.proofs.Each.{AllByRecursion_weaker, AllByRecursion_both}
 
 module _ (g : Setting) (variable : ℕ → Bool) (game : Tree) (fine : Game g variable game) where
   holds_plain : (Γ : Context) (at : Indices) (x : Memory) → Matches g variable Γ.replications at → Holds g variable Γ at x.store x.events → ContextHolds g Γ at x
   holds_plain Γ at x k h = record {
     indices = k.named;
-    cells = all_map (CellHolds g variable at x.store) _ (λ c z. z.assigned) Γ.cells h.cells;
-    facts = all_map (FactHolds g variable at x.store) _ (λ f z. z.true) Γ.facts h.facts;
-    events = all_map (EventHolds g variable at x.store x.events) _ (λ e z. z.recorded) Γ.events h.events;
+    cells = AllByRecursion_weaker (CellHolds g variable at x.store) _ (λ c z. z.assigned) Γ.cells h.cells;
+    facts = AllByRecursion_weaker (FactHolds g variable at x.store) _ (λ f z. z.true) Γ.facts h.facts;
+    events = AllByRecursion_weaker (EventHolds g variable at x.store x.events) _ (λ e z. z.recorded) Γ.events h.events;
   }
 
   holds_from : (Γ : Context) (at : Indices) (x : Memory) → Matches g variable Γ.replications at → Holds g variable Γ at x.store x.events → HoldsFrom g Γ at x
@@ -213,7 +213,7 @@ pub well_game : (ds : List Declaration) (g : Setting) (game : Tree) → HasConst
 well_game ds g game e w = record {
   asked = subst (λ c. Asked (record { constant = c; variable = is_variable game }) Anywhere nothing_known game) (sym e) (game_asked ds game w.scoped);
   phrase = w.phrase;
-  branches = game-branches ds game w.scoped;
+  branches = game_branches ds game w.scoped;
   constants = free;
   apart = λ x c. no_variable g.is_constant x c game free;
   variables = λ x s. variable_site x game s;
@@ -237,25 +237,25 @@ module _ (ds : List Declaration) (g : Setting) (m : Mode) (next : List Answer �
 
   pub all_reads_assigned : AllByRecursion (VisitReadsAssigned g) (run_visits g m next t n (start g game))
   all_reads_assigned =
-      all_both (VisitHolds g (is_variable game) game fine) IsClear (VisitReadsAssigned g)
+      AllByRecursion_both (VisitHolds g (is_variable game) game fine) IsClear (VisitReadsAssigned g)
       (λ v h c. reads_of g (is_variable game) game fine v.place h.phrase h.above v.tree v.before h.stands (known v h c)) _ moves.passes.visits clear
 
   pub all_places_hold : AllByRecursion (PlaceHolds g game) (run_visits g m next t n (start g game))
-  all_places_hold = all_map (VisitHolds g (is_variable game) game fine) (PlaceHolds g game) (place_holds g (is_variable game) game fine) _ moves.passes.visits
+  all_places_hold = AllByRecursion_weaker (VisitHolds g (is_variable game) game fine) (PlaceHolds g game) (place_holds g (is_variable game) game fine) _ moves.passes.visits
 
   pub all_candidates_hold : AllByRecursion (CandidatesHold g game) (run_visits g m next t n (start g game))
   all_candidates_hold =
-      all_both (VisitHolds g (is_variable game) game fine) IsClear (CandidatesHold g game)
+      AllByRecursion_both (VisitHolds g (is_variable game) game fine) IsClear (CandidatesHold g game)
       (λ v h c. candidates_of g (is_variable game) game fine v.place h.phrase h.above v.tree v.before h.stands (known v h c)) _ moves.passes.visits clear
 
   pub all_values_below : (x k : ℕ) → is_index_below x k game ≡ true → AllByRecursion (VisitHasValuesBelow g x k) (run_visits g m next t n (start g game))
-  all_values_below x k e = all_map (VisitHolds g (is_variable game) game fine) (VisitHasValuesBelow g x k) (λ v h. values_below g (is_variable game) game fine x k e v.before.memory.store v.before.memory.events h.stores) _ moves.passes.visits
+  all_values_below x k e = AllByRecursion_weaker (VisitHolds g (is_variable game) game fine) (VisitHasValuesBelow g x k) (λ v h. values_below g (is_variable game) game fine x k e v.before.memory.store v.before.memory.events h.stores) _ moves.passes.visits
 
   pub last_values_below : (x k : ℕ) → is_index_below x k game ≡ true → StateHasValuesBelow g x k (run_from g m next t n (start g game))
   last_values_below x k e = values_below g (is_variable game) game fine x k e _ _ moves.state.stores
 
   pub all_cells_hold : AllByRecursion (VisitCellsHold g game) (run_visits g m next t n (start g game))
-  all_cells_hold = all_map (VisitHolds g (is_variable game) game fine) (VisitCellsHold g game) (λ v h. cells_hold g (is_variable game) game fine v.before.memory h.stores) _ moves.passes.visits
+  all_cells_hold = AllByRecursion_weaker (VisitHolds g (is_variable game) game fine) (VisitCellsHold g game) (λ v h. cells_hold g (is_variable game) game fine v.before.memory h.stores) _ moves.passes.visits
 
   pub last_cells_hold : CellsHold g game (run_from g m next t n (start g game)).memory
   last_cells_hold = cells_hold g (is_variable game) game fine _ moves.state.stores
@@ -267,7 +267,7 @@ module _ (ds : List Declaration) (g : Setting) (m : Mode) (next : List Answer �
   all_grow_to_last = moves.passes.before
 
   pub all_inputs_hold : AllByRecursion (InputHolds g game (run_from g m next t n (start g game)).memory) (run_from g m next t n (start g game)).inputs
-  all_inputs_hold = all_map (InputReady g (is_variable game) game fine _ _) (InputHolds g game (run_from g m next t n (start g game)).memory) (λ i h. input_holds g (is_variable game) game fine _ i h) _ moves.state.inputs
+  all_inputs_hold = AllByRecursion_weaker (InputReady g (is_variable game) game fine _ _) (InputHolds g game (run_from g m next t n (start g game)).memory) (λ i h. input_holds g (is_variable game) game fine _ i h) _ moves.state.inputs
 
 pub one_definition_holds : (g : Setting) (game : Tree) (x : Memory) → CellsHold g game x → OneDefinitionHolds g game x
 one_definition_holds g game x c y p Δ one u v e = let k = c y u v e in go k.0 (subst (IsDefinition k.0) one k.1) k.2

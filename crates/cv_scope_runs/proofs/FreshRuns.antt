@@ -12,13 +12,13 @@ use Rattle.cv_meaning.specs.Candidates.{Candidate, candidates, chosen}
 use Rattle.cv_meaning.specs.Serving.{Turn, Ends, First, Second, after_find, step, serve, after_turn, Visit, visits}
 use Rattle.cv_meaning.specs.Runs.{Mode, Answer, Move, Calls, Tests, Guesses, State, Taken, admitted, called, told, tested_with, moved, start, begun, next_move, by_move, visits_of_call, visits_of_move, run_visits}
 use Rattle.cv_meaning_laws.proofs.Counts.{same_tuple_exact}
-use Rattle.cv_meaning_laws.proofs.Lists.{each_append}
 use Rattle.cv_scope_rules.specs.Sites.{SiteName, Variable}
 use Rattle.cv_scope_rules.specs.Branches.{Pairs, IsApartByBranches}
-use Rattle.cv_meaning_runs.proofs.Lists.{all_both, left_part}
 use Rattle.cv_scope_rules.specs.Made.{is_bound, made_at}
 use Rattle.cv_scope_runs.proofs.OnceRuns.{Has, VisitsApart, nothing_twice}
-use Rattle.cv_scope_runs.proofs.OnceGames.{MakesName, names_single, names_at, or_left, or_right}
+use Rattle.cv_scope_runs.proofs.OnceGames.{MakesName, names_single, names_at}
+use Rattle.cv_lists.proofs.Each.{AllByRecursion_append, AllByRecursion_both, AllByRecursion_left}
+use Rattle.std.proofs.lemmas.Bool.{or_left, or_right}
 
 -- what a put and a list of binders assign
 
@@ -75,7 +75,7 @@ KnownAfter K v x u = K x u ⊎ ((made_at v.tree (Variable x) ≡ true) × (u ≡
 
 -- after a visit, the later ones are clear of more
 clear_more : (K : Known) (v : Visit) (vs : List Visit) → AllByRecursion (VisitsApart SiteName MakesName v) vs → AllByRecursion (ClearOf K) vs → AllByRecursion (ClearOf (KnownAfter K v)) vs
-clear_more K v vs a c = all_both (VisitsApart SiteName MakesName v) (ClearOf K) (ClearOf (KnownAfter K v)) go vs a c
+clear_more K v vs a c = AllByRecursion_both (VisitsApart SiteName MakesName v) (ClearOf K) (ClearOf (KnownAfter K v)) go vs a c
   where
     go : (x : Visit) → VisitsApart SiteName MakesName v x → ClearOf K x → ClearOf (KnownAfter K v) x
     go x p q = clear
@@ -165,11 +165,11 @@ serve_clear g t (Node h a b) p k vs s K x w c =
 
 -- runs
 
-pairwise_left : {A : Type 0} (R : A → A → Type 0) (xs ys : List A) → Pairs R (xs ++ ys) → Pairs R xs
+pub pairwise_left : {A : Type 0} (R : A → A → Type 0) (xs ys : List A) → Pairs R (xs ++ ys) → Pairs R xs
 pairwise_left R [] ys h = tt
-pairwise_left R (x ∷ xs) ys h = (left_part (R x) xs ys h.0, pairwise_left R xs ys h.1)
+pairwise_left R (x ∷ xs) ys h = (AllByRecursion_left (R x) xs ys h.0, pairwise_left R xs ys h.1)
 
-pairwise_right : {A : Type 0} (R : A → A → Type 0) (xs ys : List A) → Pairs R (xs ++ ys) → Pairs R ys
+pub pairwise_right : {A : Type 0} (R : A → A → Type 0) (xs ys : List A) → Pairs R (xs ++ ys) → Pairs R ys
 pairwise_right R [] ys h = h
 pairwise_right R (x ∷ xs) ys h = pairwise_right R xs ys h.1
 
@@ -207,8 +207,8 @@ run_clear g m next t (suc n) st K x w c = go (next_move next st) (λ a. run_clea
     go None ih p q = tt
     go (Some a) ih p q =
         let ws : List Visit = visits_of_move g t st a in
-        let r = step_of a (pairwise_left (VisitsApart SiteName MakesName) ws (rest a) p) (left_part (ClearOf K) ws (rest a) q) in
-        each_append IsClear ws (rest a) r.clear (ih a (known_more K ws) r.known (pairwise_right (VisitsApart SiteName MakesName) ws (rest a) p) (clear_rest K ws (rest a) p q))
+        let r = step_of a (pairwise_left (VisitsApart SiteName MakesName) ws (rest a) p) (AllByRecursion_left (ClearOf K) ws (rest a) q) in
+        AllByRecursion_append IsClear ws (rest a) r.clear (ih a (known_more K ws) r.known (pairwise_right (VisitsApart SiteName MakesName) ws (rest a) p) (clear_rest K ws (rest a) p q))
 
 all_of_none : (vs : List Visit) → AllByRecursion (ClearOf (λ y w. ⊥)) vs
 all_of_none [] = tt

@@ -1,6 +1,6 @@
 -- What holds of the subtrees of a well-formed game where they stand.
 use Rattle.std.proofs.Common.{◌≡◌, ℕ, Bool, true, false, cond, ◌||◌, not, ◌==◌, List, [], ◌⊎◌, inl, inr, Option, Some, None, is_some, refl, sym, ap, subst, eqb-true, eq-eqb}
-use Rattle.std.proofs.lemmas.Bool.{both_ways, and_parts, not-true}
+use Rattle.std.proofs.lemmas.Bool.{both_ways, and_parts, not-true, or_left, or_right}
 use Rattle.cv_syntax_trees.specs.declared.head.Head.{Head}
 use Rattle.cv_syntax_trees.specs.declared.head.Head.TheVariants.{Repl, In, New, Let, Branch, Binder, Key, Call}
 use Rattle.cv_syntax_trees.specs.Tree.{Tree, Node, second}
@@ -17,7 +17,6 @@ use Rattle.cv_scope_rules.specs.Phrases.{Phrase, Inputs, oracle_parts, both_are,
 use Rattle.cv_scope_rules.specs.Made.{is_bound, made_by}
 use Rattle.cv_scope_rules.proofs.Unbound.{no_variable}
 use Rattle.cv_scope_runs.proofs.Asked.{Asked}
-use Rattle.cv_scope_runs.proofs.OnceGames.{or_left, or_right}
 use Rattle.cv_scope_runs.proofs.Rows.{position_of, placed}
 use Rattle.cv_scope_runs.proofs.Contexts.{NamesApart, game_names, NewIndex}
 use Rattle.cv_scope_runs.proofs.Standing.{Stands, root, in_first, in_second, first_below, second_below}
@@ -27,11 +26,11 @@ use Rattle.cv_scope_runs.proofs.Standing.{Stands, root, in_first, in_second, fir
 abbrev pub HasSite : ℕ → Tree → Type 0
 HasSite x b = ((ps : List ℕ) → is_some (first_site x ps b) ≡ true) ⊎ (is_untyped_in x b ≡ true)
 
-first_some : {A : Type 0} (o q : Option A) → is_some o ≡ true → is_some (first_of o q) ≡ true
+pub first_some : {A : Type 0} (o q : Option A) → is_some o ≡ true → is_some (first_of o q) ≡ true
 first_some (Some a) q e = refl
 first_some None q e = absurd (both_ways _ refl e)
 
-second_some : {A : Type 0} (o q : Option A) → is_some q ≡ true → is_some (first_of o q) ≡ true
+pub second_some : {A : Type 0} (o q : Option A) → is_some q ≡ true → is_some (first_of o q) ≡ true
 second_some (Some a) q e = refl
 second_some None q e = e
 
@@ -73,7 +72,7 @@ site_here_made (In c) a y e = inl (bound_some OfType (second a) y e)
 site_here_made Branch a y e = inl (bound_some BelowParameter a y e)
 site_here_made h a y e = absurd (both_ways _ refl e)
 
-with_parameters : (ps : List ℕ) (o : Option Sort) → is_some o ≡ true → is_some (at_parameters ps o) ≡ true
+pub with_parameters : (ps : List ℕ) (o : Option Sort) → is_some o ≡ true → is_some (at_parameters ps o) ≡ true
 with_parameters ps None e = absurd (both_ways _ refl e)
 with_parameters ps (Some S) e = refl
 

@@ -13,13 +13,13 @@ use Rattle.cv_meaning.specs.Experiments.{run, coins_on}
 use Rattle.cv_meaning_laws.proofs.Counts.{same_tuple_exact}
 use Rattle.cv_meaning_runs.specs.Placed.{IsInputOn, InputHas}
 use Rattle.cv_meaning_runs.specs.Spots.{same_address}
-use Rattle.cv_meaning_runs.proofs.Lists.{all_both}
 use Rattle.cv_meaning_runs.proofs.Placed.{available_have}
 use Rattle.cv_scope_rules.specs.declared.position.Position.TheVariants.{Anywhere}
 use Rattle.cv_scope_rules.specs.Sites.{SiteName, Channel}
 use Rattle.cv_scope_rules.specs.Branches.{Pairs, IsApartByBranches}
 use Rattle.cv_scope_runs.proofs.OnceRuns.{Has, InputsApart, inputs_apart}
 use Rattle.cv_scope_runs.proofs.OnceGames.{MakesName, names_single}
+use Rattle.cv_lists.proofs.Each.{AllByRecursion_both}
 
 IsInput : Input → Type 0
 IsInput i = IsInputOn i.channel i.tree
@@ -43,7 +43,7 @@ differ i j p q h = go (same_address i j) refl
 distinct : (is : List Input) → AllByRecursion IsInput is → Pairs (InputsApart SiteName MakesName) is → IsDistinct same_address is
 unfolding IsDistinct
 distinct [] p h = tt
-distinct (i ∷ is) p h = (all_both IsInput (InputsApart SiteName MakesName i) (λ j. same_address i j ≡ false) (λ j q k. differ i j p.0 q k) is p.1 h.0, distinct is p.1 h.1)
+distinct (i ∷ is) p h = (AllByRecursion_both IsInput (InputsApart SiteName MakesName i) (λ j. same_address i j ≡ false) (λ j q k. differ i j p.0 q k) is p.1 h.0, distinct is p.1 h.1)
 
 each_input : (is : List Input) → AllByRecursion (InputHas (λ p b. Unit {0})) is → AllByRecursion IsInput is
 unfolding IsInput

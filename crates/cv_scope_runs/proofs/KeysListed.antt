@@ -1,6 +1,6 @@
 -- In a run of a well-formed context each consulted key is in the list of cells: it is assigned, and so at a copy of its definition.
 use Rattle.std.proofs.Common.{◌≡◌, ◌≢◌, ℕ, zero, suc, ◌<◌, Bool, true, false, cond, ◌&&◌, ◌==◌, not, is_some, List, [], ◌∷◌, ◌++◌, map, flat_map, ◌⊎◌, inl, inr, Option, Some, None, refl, sym, ap, subst, ◌∙◌, arith, eqb-true}
-use Rattle.std.proofs.lemmas.Bool.{both_ways, and_parts, eqb-false, not-true}
+use Rattle.std.proofs.lemmas.Bool.{both_ways, and_parts, eqb-false, not-true, or_right}
 use Rattle.std.specs.List.{AllByRecursion}
 use Rattle.cv_syntax_trees.specs.declared.head.Head.{Head}
 use Rattle.cv_syntax_trees.specs.declared.head.Head.TheVariants.{Repl, New, Find, Leaf, Read, Key, Call}
@@ -16,22 +16,19 @@ use Rattle.cv_meaning.specs.Runs.{Mode, Random, Real, Events, Adversary, State}
 use Rattle.cv_meaning.specs.Cells.{tuples_below, bounds_under, at_each_copy, cells_at, test_cells, coin_cells, cells}
 use Rattle.cv_meaning.specs.Consulted.{consulted_at, is_key}
 use Rattle.cv_meaning.specs.Experiments.{visits_of_run, coins_on}
-use Rattle.cv_meaning_laws.proofs.Lists.{each_append}
-use Rattle.cv_meaning_laws.proofs.Listed.{Sized, Has, has_left, has_right, has_flat_map, Within, within_has, is_in-without_repeats}
+use Rattle.cv_meaning_laws.proofs.Listed.{Sized, Has, has_left, has_right, has_flat_map, Within, within_has, is_in_without_repeats}
 use Rattle.cv_meaning_runs.specs.Listed.{AreKeysListed}
 use Rattle.cv_meaning_runs.specs.Moments.{Moment, Visited, Tested, cells_of_moment, cells_of_test, moments_of_run, visits_among, cells_of_run}
-use Rattle.cv_meaning_runs.proofs.Lists.{all_map, all_both}
 use Rattle.cv_meaning_runs.proofs.Together.{visits_among_moments}
 use Rattle.cv_scope_rules.specs.Context.{Context, replications_below}
 use Rattle.cv_scope_rules.specs.Scope.{is_untyped_in, is_variable}
 use Rattle.cv_scope_rules.specs.Sites.{Variable}
-use Rattle.cv_scope_rules.proofs.Apart.{first-replications, second-replications}
+use Rattle.cv_scope_rules.proofs.Apart.{first_replications, second_replications}
 use Rattle.cv_scope_rules.specs.Phrases.{Phrase, Nil, Inputs, oracle_parts, is_oracle_phrase, IsWellFormedContext, HasConstantsOf}
 use Rattle.cv_scope_rules.specs.Made.{made_by}
 use Rattle.cv_scope_runs.specs.Keys.{HasOwnCells, calls_read_keys, has_keys_alone, head_keys, head_reads_key, is_key_of, reads_key}
 use Rattle.cv_scope_runs.specs.Promises.{AreIndicesOf, after_site}
 use Rattle.cv_scope_runs.specs.Reads.{LeafAssigned, TermsAssigned, VisitReadsAssigned}
-use Rattle.cv_scope_runs.proofs.OnceGames.{or_right}
 use Rattle.cv_scope_runs.proofs.TermsLater.{some_of}
 use Rattle.cv_scope_runs.proofs.Contexts.{Matches, not_constant, variable_none}
 use Rattle.cv_scope_runs.proofs.Rows.{position_of}
@@ -40,6 +37,8 @@ use Rattle.cv_scope_runs.proofs.Games.{Game, stands_phrase, variable_site}
 use Rattle.cv_scope_runs.proofs.PathRuns.{SiteHolds, StoreHolds}
 use Rattle.cv_scope_runs.proofs.ServeRuns.{VisitHolds, Moves, game_holds}
 use Rattle.cv_scope_runs.proofs.FactsRuns.{all_reads_assigned, well_game}
+use Rattle.cv_meaning_laws.proofs.adequacy.Lists.{has_below}
+use Rattle.cv_lists.proofs.Each.{AllByRecursion_append, AllByRecursion_weaker, AllByRecursion_both}
 
 -- what holds of each node of the tree holds where a subtree stands
 
@@ -60,14 +59,6 @@ stands_calls game e (in_second {h = h} {a = a} i st) = (and_parts (calls_read_ke
 abbrev bounds : Setting → List (ℕ × ℕ) → List ℕ
 bounds g rs = map (λ (r : ℕ × ℕ). g.interpretation.parameter_value r.1) rs
 
-has_below : (n v : ℕ) → v < n → Has (below n) v
-has_below zero v h = absurd (omega arith)
-has_below (suc n) v h = go (v == n) refl (has_below n v)
-  where
-    go : (b : Bool) → (v == n) ≡ b → (v < n → Has (below n) v) → Has (below n ++ n ∷ []) v
-    go true e ih = has_right (below n) (n ∷ []) v (inl (eqb-true v n e))
-    go false e ih = has_left (below n) (n ∷ []) v (ih (let ne : v ≢ n = eqb-false v n e in omega arith))
-
 indices_within : (g : Setting) (at : Indices) (rs : List (ℕ × ℕ)) → AreIndicesOf g at rs → Within (tuple at) (bounds g rs)
 indices_within g [] [] h = tt
 indices_within g [] (r ∷ rs) h = absurd h
@@ -84,7 +75,7 @@ bounds_below g h rs = refl
 
 -- the cells of a subtree are among those of the context
 
-replicated_nil : (σ τ ρ : Phrase) (i n : ℕ) → oracle_parts σ (Repl i n) ≡ Some (τ, ρ) → τ ≡ Nil
+pub replicated_nil : (σ τ ρ : Phrase) (i n : ℕ) → oracle_parts σ (Repl i n) ≡ Some (τ, ρ) → τ ≡ Nil
 replicated_nil Inputs τ ρ i n e = nil τ ρ e
   where
     nil : (τ ρ : Phrase) → ◌≡◌ {A = Option (Phrase × Phrase)} (Some (Nil, Inputs)) (Some (τ, ρ)) → τ ≡ Nil
@@ -114,11 +105,11 @@ module _ (g : Setting) (variable : ℕ → Bool) (game : Tree) (fine : Game g va
   covered (in_first {p = p} {σ = σ} {τ = τ} {ρ = ρ} {Γ = Γ} {h = h} {a = a} {b = b} e st) d k =
       let ns : List ℕ = bounds g Γ.replications in
       covered st d (has_right (flat_map (cells_at g h) (tuples_below ns)) _ d (has_left (at_each_copy g (cells_at g) (bounds_under g ns h) a) (at_each_copy g (cells_at g) (bounds_under g ns h) b) d
-      (first_bounds σ τ ρ h Γ.replications a d e (stands_phrase g variable game fine (in_first e st)) (subst (λ rs. Has (at_each_copy g (cells_at g) (bounds g rs) a) d) (first-replications (position_of σ) h Γ) k))))
+      (first_bounds σ τ ρ h Γ.replications a d e (stands_phrase g variable game fine (in_first e st)) (subst (λ rs. Has (at_each_copy g (cells_at g) (bounds g rs) a) d) (first_replications (position_of σ) h Γ) k))))
   covered (in_second {p = p} {σ = σ} {τ = τ} {ρ = ρ} {Γ = Γ} {h = h} {a = a} {b = b} e st) d k =
       let ns : List ℕ = bounds g Γ.replications in
       covered st d (has_right (flat_map (cells_at g h) (tuples_below ns)) _ d (has_right (at_each_copy g (cells_at g) (bounds_under g ns h) a) (at_each_copy g (cells_at g) (bounds_under g ns h) b) d
-      (subst (λ l. Has (at_each_copy g (cells_at g) l b) d) (ap (bounds g) (second-replications (position_of σ) h a Γ) ∙ bounds_below g h Γ.replications) k)))
+      (subst (λ l. Has (at_each_copy g (cells_at g) l b) d) (ap (bounds g) (second_replications (position_of σ) h a Γ) ∙ bounds_below g h Γ.replications) k)))
 
   -- the cell of a key at a copy of its definition
   key_listed : {p : ℕ} {σ : Phrase} (Γ : Context) (x : ℕ) (a b : Tree) (at : Indices) → Stands game p σ Γ (Node (Key x) a b) → AreIndicesOf g at Γ.replications → Has (at_each_copy g (cells_at g) [] game) (Key_at (tuple at), g.side.key_size)
@@ -169,7 +160,7 @@ IsKeyListed g m a game c = is_key c ≡ true → is_in (cells g m a game) c ≡ 
 
 no_keys : (g : Setting) (m : Mode) (a : Adversary) (game : Tree) (cs : List Cell) → AllByRecursion (λ c. is_key c ≡ false) cs → AllByRecursion (IsKeyListed g m a game) cs
 unfolding IsKeyListed
-no_keys g m a game cs h = all_map (λ c. is_key c ≡ false) (λ c. is_key c ≡ true → is_in (cells g m a game) c ≡ true) (λ c n k. absurd (both_ways _ n k)) cs h
+no_keys g m a game cs h = AllByRecursion_weaker (λ c. is_key c ≡ false) (λ c. is_key c ≡ true → is_in (cells g m a game) c ≡ true) (λ c n k. absurd (both_ways _ n k)) cs h
 
 coins_no_key : (k : ℕ) (ns : List ℕ) → AllByRecursion (λ c. is_key c ≡ false) (cells_of (coin_cells k ns))
 coins_no_key k [] = tt
@@ -187,8 +178,8 @@ tests_no_key (Random one x) st u = go (one && st.tested) (is_some (st.memory.sto
 
 moments_listed : (g : Setting) (m : Mode) (a : Adversary) (game : Tree) (xs : List Moment) → AllByRecursion (λ (v : Visit). AllByRecursion (IsKeyListed g m a game) (consulted_at g v.tree v.before)) (visits_among xs) → AllByRecursion (IsKeyListed g m a game) (flat_map (cells_of_moment g m) xs)
 moments_listed g m a game [] h = tt
-moments_listed g m a game (Visited v ∷ xs) h = each_append (IsKeyListed g m a game) (consulted_at g v.tree v.before) _ h.0 (moments_listed g m a game xs h.1)
-moments_listed g m a game (Tested u st ∷ xs) h = each_append (IsKeyListed g m a game) (cells_of_test m st u) _ (no_keys g m a game _ (tests_no_key m st u)) (moments_listed g m a game xs h)
+moments_listed g m a game (Visited v ∷ xs) h = AllByRecursion_append (IsKeyListed g m a game) (consulted_at g v.tree v.before) _ h.0 (moments_listed g m a game xs h.1)
+moments_listed g m a game (Tested u st ∷ xs) h = AllByRecursion_append (IsKeyListed g m a game) (cells_of_test m st u) _ (no_keys g m a game _ (tests_no_key m st u)) (moments_listed g m a game xs h)
 
 module _ (ds : List Declaration) (g : Setting) (m : Mode) (a : Adversary) (game : Tree) (t : Tape) (same : HasConstantsOf ds g) (well : IsWellFormedContext ds game) (keys : calls_read_keys game game ≡ true) (own : HasOwnCells g.side) where
   fine : Game g (is_variable game) game
@@ -199,7 +190,7 @@ module _ (ds : List Declaration) (g : Setting) (m : Mode) (a : Adversary) (game 
 
   listed_in : (u : List ℕ) → Has (at_each_copy g (cells_at g) [] game) (Key_at u, g.side.key_size) → is_in (cells g m a game) (Key_at u) ≡ true
   unfolding cells
-  listed_in u h = is_in-without_repeats (at_each_copy g (cells_at g) [] game ++ (test_cells g m game ++ coin_cells 0 a.coins)) (Key_at u, g.side.key_size) (has_left (at_each_copy g (cells_at g) [] game) _ (Key_at u, g.side.key_size) h)
+  listed_in u h = is_in_without_repeats (at_each_copy g (cells_at g) [] game ++ (test_cells g m game ++ coin_cells 0 a.coins)) (Key_at u, g.side.key_size) (has_left (at_each_copy g (cells_at g) [] game) _ (Key_at u, g.side.key_size) h)
 
   untyped : (y : ℕ) → is_untyped_in y game ≡ true → is_variable game y ≡ true
   untyped y e = or_right _ (is_untyped_in y game) e
@@ -219,9 +210,9 @@ module _ (ds : List Declaration) (g : Setting) (m : Mode) (a : Adversary) (game 
   pub keys_listed : AreKeysListed g m a game t
   unfolding IsKeyListed Listed visits_of_run
   keys_listed =
-      each_append Listed (cells_of (coin_cells 0 a.coins)) _ (no_keys g m a game _ (coins_no_key 0 a.coins))
+      AllByRecursion_append Listed (cells_of (coin_cells 0 a.coins)) _ (no_keys g m a game _ (coins_no_key 0 a.coins))
       (moments_listed g m a game (moments_of_run g m a game t)
       (subst (AllByRecursion (λ (v : Visit). AllByRecursion Listed (consulted_at g v.tree v.before))) (sym (visits_among_moments g m a game t))
-      (all_both (VisitHolds g (is_variable game) game fine) (VisitReadsAssigned g) (λ (v : Visit). AllByRecursion Listed (consulted_at g v.tree v.before))
+      (AllByRecursion_both (VisitHolds g (is_variable game) game fine) (VisitReadsAssigned g) (λ (v : Visit). AllByRecursion Listed (consulted_at g v.tree v.before))
       (λ v h r. consulted_listed h.above v.tree v.before h.stands h.matches h.stores r) _
       (game_holds g (is_variable game) game fine m (a.next (coins_on t 0 a.coins)) t a.moves).passes.visits (all_reads_assigned ds g m (a.next (coins_on t 0 a.coins)) t a.moves game same well))))

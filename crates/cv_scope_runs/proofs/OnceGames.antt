@@ -12,17 +12,9 @@ use Rattle.cv_scope_rules.specs.declared.position.Position.{Position}
 use Rattle.cv_scope_rules.specs.Context.{first_position, second_position, replications_below}
 use Rattle.cv_scope_rules.specs.Sites.{Site, SiteName, Variable, Channel, Label, sites_here, sites_from, channel_here, variable_sites}
 use Rattle.cv_scope_rules.specs.Branches.{Pairs, Each, HasOtherName, AreInDifferentBranches, IsApartByBranches}
-use Rattle.cv_scope_rules.proofs.Pairs.{pairs-weaker}
+use Rattle.cv_scope_rules.proofs.Pairs.{pairs_weaker}
 use Rattle.cv_scope_rules.specs.Made.{is_bound, made_by, made_at, MakeApart}
 use Rattle.cv_scope_runs.proofs.OnceRuns.{Has, Single, first_apart, makes_at, made_has, VisitsApart, nothing_twice}
-
-pub or_left : (a b : Bool) → a ≡ true → (a || b) ≡ true
-or_left true b e = refl
-or_left false b e = absurd (both_ways _ refl e)
-
-pub or_right : (a b : Bool) → b ≡ true → (a || b) ≡ true
-or_right true b e = refl
-or_right false b e = e
 
 -- names of sites
 
@@ -118,4 +110,4 @@ names_at p (Node h a b) y e = e
 -- in a run no cell is assigned twice, no copy of a channel's input is served twice, no cell of a find consulted twice
 pub made_once : (g : Setting) (m : Mode) (next : List Answer → Option Move) (t : Tape) (n : ℕ) (game : Tree) → IsApartByBranches game → Pairs MakeApart (run_visits g m next t n (start g game))
 made_once g m next t n game s =
-    pairs-weaker (VisitsApart SiteName MakesName) MakeApart _ (λ v w h y d e q. h y (names_at v.place v.tree y d) (made_has SiteName MakesName w.place w.tree y (names_at w.place w.tree y e)) [] (q ∙ sym (append-nil _))) (nothing_twice SiteName MakesName g m next t n game (names_single _ [] 0 game s))
+    pairs_weaker (VisitsApart SiteName MakesName) MakeApart _ (λ v w h y d e q. h y (names_at v.place v.tree y d) (made_has SiteName MakesName w.place w.tree y (names_at w.place w.tree y e)) [] (q ∙ sym (append-nil _))) (nothing_twice SiteName MakesName g m next t n game (names_single _ [] 0 game s))

@@ -11,13 +11,13 @@ use Rattle.cv_meaning.specs.Candidates.{Candidate, below, candidates, chosen}
 use Rattle.cv_meaning.specs.Inputs.{Input, inputs_of}
 use Rattle.cv_meaning.specs.Serving.{Served, Turn, Ends, First, Second, after_find, step, serve, after_turn, Visit, visits}
 use Rattle.cv_meaning.specs.Runs.{Mode, Answer, Move, Calls, Tests, Guesses, State, Taken, admitted, called, told, tested_with, moved, start, begun, run_from, next_move, by_move, visits_of_call, visits_of_move, run_visits}
-use Rattle.cv_meaning_laws.proofs.Lists.{each_append}
 use Rattle.cv_meaning_laws.proofs.Moves.{TakenEach, taken_each, run_keeps}
 use Rattle.cv_scope_rules.specs.Branches.{Pairs}
-use Rattle.cv_scope_rules.proofs.Pairs.{pairs-append}
-use Rattle.cv_meaning_runs.proofs.Lists.{all_map, all_both, all_cross, left_part, right_part}
-use Rattle.cv_meaning_runs.proofs.Copies.{tuple_push}
-use Rattle.cv_scope_runs.proofs.Taking.{TakenPairs, taken_pairs, admitted_taken}
+use Rattle.cv_scope_rules.proofs.Pairs.{pairs_append}
+use Rattle.cv_scope_runs.proofs.Taking.{TakenPairs, taken_pairs}
+use Rattle.cv_lists.proofs.Each.{AllByRecursion_append, AllByRecursion_weaker, AllByRecursion_both, AllByRecursion_cross, AllByRecursion_left, AllByRecursion_right}
+use Rattle.cv_meaning_laws.proofs.Listed.{tuple_push}
+use Rattle.cv_meaning_runs.proofs.Spots.{admitted_taken}
 
 same_next : (u : List ℕ) (a b : ℕ) (v w : List ℕ) → u ++ a ∷ v ≡ u ++ b ∷ w → a ≡ b
 same_next [] a b v w e = cc
@@ -95,7 +95,7 @@ module _ (Made : Type 0) (Makes : ℕ → Head → Tree → Made → Type 0) whe
   opens_none p b u = record { single = tt; below = tt; apart = tt }
 
   opens_more : (p q : ℕ) (b d : Tree) (u : List ℕ) (is : List Input) → ((y : Made) → Has p b y → Has q d y) → Opens p b u is → Opens q d u is
-  opens_more p q b d u is h o = record { single = o.single; below = all_map (Below p b u) (Below q d u) (λ i x. (λ y e. h y (x.0 y e), x.1, x.2)) is o.below; apart = o.apart }
+  opens_more p q b d u is h o = record { single = o.single; below = AllByRecursion_weaker (Below p b u) (Below q d u) (λ i x. (λ y e. h y (x.0 y e), x.1, x.2)) is o.below; apart = o.apart }
 
   -- the copies of a replicated tree
   abbrev pub Copy : ℕ → Tree → List ℕ → ℕ → Input → Type 0
@@ -108,16 +108,16 @@ module _ (Made : Type 0) (Makes : ℕ → Head → Tree → Made → Type 0) whe
 
   copies_more : (p : ℕ) (b : Tree) (u : List ℕ) (f : ℕ → List Input) (n : ℕ) → Opens p b (u ++ n ∷ []) (f n) → Copies p b u n (flat_map f (below n)) → Copies p b u (suc n) (flat_map f (below n) ++ f n)
   copies_more p b u f n h c = record {
-    single = each_append InputSingle _ _ c.single h.single;
-    copy = each_append (Copy p b u (suc n)) _ _ (all_map (Copy p b u n) (Copy p b u (suc n)) wider _ c.copy) (all_map Last (Copy p b u (suc n)) last _ lasts);
-    apart = pairs-append InputsApart _ _ c.apart h.apart (all_cross (Copy p b u n) Last InputsApart differ _ _ c.copy lasts);
+    single = AllByRecursion_append InputSingle _ _ c.single h.single;
+    copy = AllByRecursion_append (Copy p b u (suc n)) _ _ (AllByRecursion_weaker (Copy p b u n) (Copy p b u (suc n)) wider _ c.copy) (AllByRecursion_weaker Last (Copy p b u (suc n)) last _ lasts);
+    apart = pairs_append InputsApart _ _ c.apart h.apart (AllByRecursion_cross (Copy p b u n) Last InputsApart differ _ _ c.copy lasts);
   }
     where
       Last : Input → Type 0
       Last i = ((y : Made) → InputHasMade i y → Has p b y) × (w : List ℕ) × (tuple i.indices ≡ u ++ n ∷ w)
 
       lasts : AllByRecursion Last (f n)
-      lasts = all_map (Below p b (u ++ n ∷ [])) Last (λ i x. (x.0, x.1, x.2 ∙ append_assoc u (n ∷ []) x.1)) (f n) h.below
+      lasts = AllByRecursion_weaker (Below p b (u ++ n ∷ [])) Last (λ i x. (x.0, x.1, x.2 ∙ append_assoc u (n ∷ []) x.1)) (f n) h.below
 
       wider : (i : Input) → Copy p b u n i → Copy p b u (suc n) i
       wider i x = (x.0, x.1, x.2, (let l = x.3 in omega arith), x.4)
@@ -135,7 +135,7 @@ module _ (Made : Type 0) (Makes : ℕ → Head → Tree → Made → Type 0) whe
   copies p b u f h (suc n) = subst (Copies p b u (suc n)) (sym (flat_push f (below n) n)) (copies_more p b u f n (h n) (copies p b u f h n))
 
   copies_open : (p : ℕ) (b : Tree) (u : List ℕ) (n : ℕ) (is : List Input) → Copies p b u n is → Opens p b u is
-  copies_open p b u n is c = record { single = c.single; below = all_map (Copy p b u n) (Below p b u) (λ i x. (x.0, x.1 ∷ x.2, x.4)) is c.copy; apart = c.apart }
+  copies_open p b u n is c = record { single = c.single; below = AllByRecursion_weaker (Copy p b u n) (Below p b u) (λ i x. (x.0, x.1 ∷ x.2, x.4)) is c.copy; apart = c.apart }
 
   pub inputs_open : (g : Setting) (b : Tree) (p : ℕ) (at : Indices) → Single p b → Opens p b (tuple at) (inputs_of g b p at)
   unfolding inputs_of
@@ -144,10 +144,10 @@ module _ (Made : Type 0) (Makes : ℕ → Head → Tree → Made → Type 0) whe
       let o = opens_more (first_place p Par) p a (Node Par a b) (tuple at) _ (λ y e. inr (inl e)) (inputs_open g a _ at s.2) in
       let q = opens_more (second_place p Par a) p b (Node Par a b) (tuple at) _ (λ y e. inr (inr e)) (inputs_open g b _ at s.3) in
       record {
-        single = each_append InputSingle _ _ o.single q.single;
-        below = each_append (Below p (Node Par a b) (tuple at)) _ _ o.below q.below;
-        apart = pairs-append InputsApart _ _ o.apart q.apart
-            (all_cross (Below (first_place p Par) a (tuple at)) (Below (second_place p Par a) b (tuple at)) InputsApart (λ i j x z y e k v w r. s.1 y (x.0 y e) (z.0 y k)) _ _ (inputs_open g a _ at s.2).below (inputs_open g b _ at s.3).below);
+        single = AllByRecursion_append InputSingle _ _ o.single q.single;
+        below = AllByRecursion_append (Below p (Node Par a b) (tuple at)) _ _ o.below q.below;
+        apart = pairs_append InputsApart _ _ o.apart q.apart
+            (AllByRecursion_cross (Below (first_place p Par) a (tuple at)) (Below (second_place p Par a) b (tuple at)) InputsApart (λ i j x z y e k v w r. s.1 y (x.0 y e) (z.0 y k)) _ _ (inputs_open g a _ at s.2).below (inputs_open g b _ at s.3).below);
       }
   inputs_open g (Node (Repl i n) a b) p at s =
       opens_more (second_place p (Repl i n) a) p b (Node (Repl i n) a b) (tuple at) _ (λ y e. inr (inr e)) (copies_open (second_place p (Repl i n) a) b (tuple at) (g.interpretation.parameter_value n) _
@@ -197,10 +197,10 @@ module _ (Made : Type 0) (Makes : ℕ → Head → Tree → Made → Type 0) whe
   serving_child : (p q : ℕ) (h : Head) (a b d : Tree) (s : Local) (u : List ℕ) (r : Served) (vs : List Visit) → tuple s.indices ≡ u → ((y : Made) → Has q d y → Has p (Node h a b) y) → ((y : Made) → Makes p h a y → Has q d y → ⊥) → Serving q d u r vs
       → Serving p (Node h a b) u r (record { place = p; tree = Node h a b; before = s } ∷ vs)
   serving_child p q h a b d s u r vs e up off z = record {
-    within = ((λ y m. m, e), all_map (Within q d u) (Within p (Node h a b) u) (λ v x. (λ y m. up y (x.0 y m), x.1)) vs z.within);
-    apart = (all_map (Within q d u) (VisitsApart (record { place = p; tree = Node h a b; before = s })) (λ v x y m n l k. off y m (x.0 y n)) vs z.within, z.apart);
+    within = ((λ y m. m, e), AllByRecursion_weaker (Within q d u) (Within p (Node h a b) u) (λ v x. (λ y m. up y (x.0 y m), x.1)) vs z.within);
+    apart = (AllByRecursion_weaker (Within q d u) (VisitsApart (record { place = p; tree = Node h a b; before = s })) (λ v x y m n l k. off y m (x.0 y n)) vs z.within, z.apart);
     opens = opens_more q p d (Node h a b) u r.opened up z.opens;
-    cross = (all_map (Below q d u) (VisitInput (record { place = p; tree = Node h a b; before = s })) (λ j x y m n w k. off y m (x.0 y n)) r.opened z.opens.below, z.cross);
+    cross = (AllByRecursion_weaker (Below q d u) (VisitInput (record { place = p; tree = Node h a b; before = s })) (λ j x y m n w k. off y m (x.0 y n)) r.opened z.opens.below, z.cross);
   }
 
   pub Serves : Setting → Tape → Tree → Type 0
@@ -223,7 +223,7 @@ module _ (Made : Type 0) (Makes : ℕ → Head → Tree → Made → Type 0) whe
         within = ((λ y m. m, refl), tt);
         apart = (tt, tt);
         opens = opens_more (second_place p h a) p b (Node h a b) (tuple s.indices) r.opened (λ y e. inr (inr e)) f;
-        cross = (all_map (Below (second_place p h a) b (tuple s.indices)) (VisitInput here) (λ j z y m n w k. x.0 y m (z.0 y n)) r.opened f.below, tt);
+        cross = (AllByRecursion_weaker (Below (second_place p h a) b (tuple s.indices)) (VisitInput here) (λ j z y m n w k. x.0 y m (z.0 y n)) r.opened f.below, tt);
       }
       go (First j ws n) f ia ib =
           serving_child p (first_place p h) h a b a s (tuple s.indices) _ _ refl (λ y e. inr (inl e)) f.1
@@ -245,7 +245,7 @@ module _ (Made : Type 0) (Makes : ℕ → Head → Tree → Made → Type 0) whe
     pub new : Pairs VisitsApart vs
 
   nil_step : (is : List Input) (past : List Visit) → OnceState is past → OnceStep is past []
-  nil_step is past z = record { state = subst (OnceState is) (sym (append-nil past)) z; old = all_map (λ v. AllByRecursion (VisitInput v) is) (λ v. Unit {0}) (λ v e. tt) past z.ahead; new = tt }
+  nil_step is past z = record { state = subst (OnceState is) (sym (append-nil past)) z; old = AllByRecursion_weaker (λ v. AllByRecursion (VisitInput v) is) (λ v. Unit {0}) (λ v e. tt) past z.ahead; new = tt }
 
   call_once : (g : Setting) (t : Tape) (st : State) (vs : List ℕ) (past : List Visit) (k : Taken) → TakenEach InputSingle k → TakenPairs InputsApart k → AllByRecursion (λ v. TakenEach (VisitInput v) k) past → OnceStep (called g t st vs (Some k)).inputs past (visits_of_call g t st vs (Some k))
   unfolding Serves
@@ -257,19 +257,19 @@ module _ (Made : Type 0) (Makes : ℕ → Head → Tree → Made → Type 0) whe
       let ws : List Visit = visits g t i.tree i.place 0 vs (begun st i) in
       record {
         state = record {
-          single = each_append InputSingle k.others r.opened a.others s.opens.single;
-          apart = pairs-append InputsApart k.others r.opened b.rest s.opens.apart
-              (all_cross (InputsApart i) (Below i.place i.tree u) InputsApart (λ j d x y z m n v w q. x z (y.0 z n) m (y.1 ++ w) v (sym (append_assoc u y.1 w) ∙ ap (λ l. l ++ w) (sym y.2) ∙ sym q)) k.others r.opened b.pair s.opens.below);
-          ahead = each_append (λ v. AllByRecursion (VisitInput v) (k.others ++ r.opened)) past ws
-              (all_map (λ v. TakenEach (VisitInput v) k) (λ v. AllByRecursion (VisitInput v) (k.others ++ r.opened))
-              (λ v x. each_append (VisitInput v) k.others r.opened x.others (all_map (Below i.place i.tree u) (VisitInput v) (λ j y z m n w q. x.input z m (y.0 z n) (y.1 ++ w) (q ∙ ap (λ l. l ++ w) y.2 ∙ append_assoc u y.1 w)) r.opened s.opens.below))
+          single = AllByRecursion_append InputSingle k.others r.opened a.others s.opens.single;
+          apart = pairs_append InputsApart k.others r.opened b.rest s.opens.apart
+              (AllByRecursion_cross (InputsApart i) (Below i.place i.tree u) InputsApart (λ j d x y z m n v w q. x z (y.0 z n) m (y.1 ++ w) v (sym (append_assoc u y.1 w) ∙ ap (λ l. l ++ w) (sym y.2) ∙ sym q)) k.others r.opened b.pair s.opens.below);
+          ahead = AllByRecursion_append (λ v. AllByRecursion (VisitInput v) (k.others ++ r.opened)) past ws
+              (AllByRecursion_weaker (λ v. TakenEach (VisitInput v) k) (λ v. AllByRecursion (VisitInput v) (k.others ++ r.opened))
+              (λ v x. AllByRecursion_append (VisitInput v) k.others r.opened x.others (AllByRecursion_weaker (Below i.place i.tree u) (VisitInput v) (λ j y z m n w q. x.input z m (y.0 z n) (y.1 ++ w) (q ∙ ap (λ l. l ++ w) y.2 ∙ append_assoc u y.1 w)) r.opened s.opens.below))
               past c)
-              (all_both (Within i.place i.tree u) (λ v. AllByRecursion (VisitInput v) r.opened) (λ v. AllByRecursion (VisitInput v) (k.others ++ r.opened))
-              (λ v x e. each_append (VisitInput v) k.others r.opened (all_map (InputsApart i) (VisitInput v) (λ j y z m n w q. y z (x.0 z (made_has v.place v.tree z m)) n [] w (append-nil u ∙ sym x.1 ∙ q)) k.others b.pair) e)
+              (AllByRecursion_both (Within i.place i.tree u) (λ v. AllByRecursion (VisitInput v) r.opened) (λ v. AllByRecursion (VisitInput v) (k.others ++ r.opened))
+              (λ v x e. AllByRecursion_append (VisitInput v) k.others r.opened (AllByRecursion_weaker (InputsApart i) (VisitInput v) (λ j y z m n w q. y z (x.0 z (made_has v.place v.tree z m)) n [] w (append-nil u ∙ sym x.1 ∙ q)) k.others b.pair) e)
               ws s.within s.cross);
         };
-        old = all_map (λ v. TakenEach (VisitInput v) k) (λ v. AllByRecursion (VisitsApart v) ws)
-            (λ v x. all_map (Within i.place i.tree u) (VisitsApart v) (λ w y z m n l q. x.input z m (y.0 z n) l (q ∙ ap (λ us. us ++ l) y.1)) ws s.within) past c;
+        old = AllByRecursion_weaker (λ v. TakenEach (VisitInput v) k) (λ v. AllByRecursion (VisitsApart v) ws)
+            (λ v x. AllByRecursion_weaker (Within i.place i.tree u) (VisitsApart v) (λ w y z m n l q. x.input z m (y.0 z n) l (q ∙ ap (λ us. us ++ l) y.1)) ws s.within) past c;
         new = s.apart;
       }
 
@@ -282,7 +282,7 @@ module _ (Made : Type 0) (Makes : ℕ → Head → Tree → Made → Type 0) whe
       go (Some k) e = call_once g t st vs past k
           (admitted_taken (TakenEach InputSingle) g c u vs st.inputs (taken_each InputSingle c u st.inputs z.single) k e)
           (admitted_taken (TakenPairs InputsApart) g c u vs st.inputs (taken_pairs InputsApart inputs_sym c u st.inputs z.apart) k e)
-          (all_map (λ v. AllByRecursion (VisitInput v) st.inputs) (λ v. TakenEach (VisitInput v) k) (λ v h. admitted_taken (TakenEach (VisitInput v)) g c u vs st.inputs (taken_each (VisitInput v) c u st.inputs h) k e) past z.ahead)
+          (AllByRecursion_weaker (λ v. AllByRecursion (VisitInput v) st.inputs) (λ v. TakenEach (VisitInput v) k) (λ v h. admitted_taken (TakenEach (VisitInput v)) g c u vs st.inputs (taken_each (VisitInput v) c u st.inputs h) k e) past z.ahead)
   move_once g m t st (Tests u) past z = go (told m t st u)
     where
       go : (o : Option ℕ) → OnceStep (tested_with st o).inputs past []
@@ -295,7 +295,7 @@ module _ (Made : Type 0) (Makes : ℕ → Head → Tree → Made → Type 0) whe
     pub new : Pairs VisitsApart vs
 
   nil_run : (is : List Input) (past : List Visit) → OnceState is past → OnceRun past []
-  nil_run is past z = record { old = all_map (λ v. AllByRecursion (VisitInput v) is) (λ v. Unit {0}) (λ v e. tt) past z.ahead; new = tt }
+  nil_run is past z = record { old = AllByRecursion_weaker (λ v. AllByRecursion (VisitInput v) is) (λ v. Unit {0}) (λ v e. tt) past z.ahead; new = tt }
 
   run_once : (g : Setting) (m : Mode) (next : List Answer → Option Move) (t : Tape) (n : ℕ) (st : State) (past : List Visit) → OnceState st.inputs past → OnceRun past (run_visits g m next t n st)
   unfolding run_visits
@@ -311,8 +311,8 @@ module _ (Made : Type 0) (Makes : ℕ → Head → Tree → Made → Type 0) whe
           let x = move_once g m t st a past z in
           let y = ih a in
           record {
-            old = all_both (λ v. AllByRecursion (VisitsApart v) ws) (λ v. AllByRecursion (VisitsApart v) rest) (λ v. AllByRecursion (VisitsApart v) (ws ++ rest)) (λ v p q. each_append (VisitsApart v) ws rest p q) past x.old (left_part (λ v. AllByRecursion (VisitsApart v) rest) past ws y.old);
-            new = pairs-append VisitsApart ws rest x.new y.new (right_part (λ v. AllByRecursion (VisitsApart v) rest) past ws y.old);
+            old = AllByRecursion_both (λ v. AllByRecursion (VisitsApart v) ws) (λ v. AllByRecursion (VisitsApart v) rest) (λ v. AllByRecursion (VisitsApart v) (ws ++ rest)) (λ v p q. AllByRecursion_append (VisitsApart v) ws rest p q) past x.old (AllByRecursion_left (λ v. AllByRecursion (VisitsApart v) rest) past ws y.old);
+            new = pairs_append VisitsApart ws rest x.new y.new (AllByRecursion_right (λ v. AllByRecursion (VisitsApart v) rest) past ws y.old);
           }
 
   pub nothing_twice : (g : Setting) (m : Mode) (next : List Answer → Option Move) (t : Tape) (n : ℕ) (game : Tree) → Single 0 game → Pairs VisitsApart (run_visits g m next t n (start g game))

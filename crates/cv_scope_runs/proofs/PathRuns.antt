@@ -1,6 +1,6 @@
 -- In a run of a well-formed game, each construct keeps what is known: what its row of the table promises.
 use Rattle.std.proofs.Common.{◌≡◌, ℕ, zero, suc, ◌<◌, Bool, true, false, cond, ◌&&◌, ◌||◌, not, ◌==◌, nat_lt, List, [], ◌∷◌, ◌++◌, ◌⊎◌, inl, inr, Option, Some, None, is_some, flat_map, refl, sym, ap, ap₂, subst, ◌∙◌, append-nil, eqb-true, eq-eqb, arith}
-use Rattle.std.proofs.lemmas.Bool.{both_ways, and_parts, not-true, ltb-true}
+use Rattle.std.proofs.lemmas.Bool.{both_ways, and_parts, not-true, ltb-true, or_left, or_right}
 use Rattle.std.specs.List.{AllByRecursion}
 use Rattle.cv_syntax_trees.specs.declared.head.Head.{Head}
 use Rattle.cv_syntax_trees.specs.declared.head.Head.TheVariants.{Par, Repl, In, Out, Event, New, Let, If, Find, Branch, Eq, Not, Cons, Binder, Key, Call}
@@ -15,7 +15,6 @@ use Rattle.cv_meaning.specs.Candidates.{Candidate, below, is_candidate, are_assi
 use Rattle.cv_meaning.specs.Inputs.{Input, inputs_of}
 use Rattle.cv_meaning.specs.Serving.{Served, Turn, Ends, First, Second, after_find, step, oracle_call}
 use Rattle.cv_meaning_laws.proofs.Counts.{same_tuple_exact}
-use Rattle.cv_meaning_laws.proofs.Lists.{each_append}
 use Rattle.cv_meaning_runs.proofs.Copies.{all_below}
 use Rattle.cv_scope_rules.specs.Context.{Context, cell_of, cells_of, items, with_cells, with_fact}
 use Rattle.cv_scope_rules.specs.Sites.{Variable}
@@ -23,7 +22,6 @@ use Rattle.cv_scope_rules.specs.Phrases.{Phrase, Nil, Inputs, Body, Then, Else, 
 use Rattle.cv_scope_runs.specs.Reads.{IsKept}
 use Rattle.cv_scope_rules.specs.Made.{is_bound, made_by}
 use Rattle.cv_scope_runs.specs.Indexed.{binds_below, head_indexes}
-use Rattle.cv_scope_runs.proofs.OnceGames.{or_left, or_right}
 use Rattle.cv_scope_runs.specs.Promises.{EventsKept, GrowsTo, after_site}
 use Rattle.cv_scope_runs.proofs.FreshRuns.{put_made, bound_made, IsClear}
 use Rattle.cv_scope_runs.proofs.TermsLater.{Readable, AllReadable, Extends, some_of, store_extends, value_kept, readable_kept}
@@ -33,10 +31,7 @@ use Rattle.cv_scope_runs.proofs.Rows
 use Rattle.cv_scope_runs.proofs.Candidates.{IsChosen, BranchAt, IsBranch, candidates_fine, chosen_fine, OnlyVariables, bound_cells, list_cells}
 use Rattle.cv_scope_runs.proofs.Standing.{Stands, in_first, in_second, first_below, second_below}
 use Rattle.cv_scope_runs.proofs.Games.{Game, stands_phrase, stands_asked, stands_variable, new_index}
-
-all_flat : {A B : Type 0} (Q : A → Type 0) (P : B → Type 0) (f : A → List B) → ((x : A) → Q x → AllByRecursion P (f x)) → (xs : List A) → AllByRecursion Q xs → AllByRecursion P (flat_map f xs)
-all_flat Q P f h [] q = tt
-all_flat Q P f h (x ∷ xs) q = each_append P (f x) (flat_map f xs) (h x q.0) (all_flat Q P f h xs q.1)
+use Rattle.cv_lists.proofs.Each.{AllByRecursion_flat_map, AllByRecursion_append}
 
 pub grows_same : (x : Memory) → GrowsTo x x
 grows_same x = record { store = λ y u v e. e; events = λ e h. h }
@@ -175,10 +170,10 @@ module _ (g : Setting) (variable : ℕ → Bool) (game : Tree) (fine : Game g va
   unfolding inputs_of
   inputs_hold Empty p Γ at m es st k h = tt
   inputs_hold (Node Par a b) p Γ at m es st k h =
-      each_append (InputReady m es) (inputs_of g a (first_place p Par) at) _ (inputs_hold a (first_place p Par) Γ at m es (in_first refl st) k h) (inputs_hold b (second_place p Par a) Γ at m es (in_second refl st) k h)
+      AllByRecursion_append (InputReady m es) (inputs_of g a (first_place p Par) at) _ (inputs_hold a (first_place p Par) Γ at m es (in_first refl st) k h) (inputs_hold b (second_place p Par a) Γ at m es (in_second refl st) k h)
   inputs_hold (Node (Repl i n) a b) p Γ at m es st k h =
       let new : NewIndex g.is_constant variable Γ.replications i = new_index g variable game fine st in
-      all_flat (λ v. v < g.interpretation.parameter_value n) (InputReady m es) (λ v. inputs_of g b (second_place p (Repl i n) a) (at ++ (i, v) ∷ []))
+      AllByRecursion_flat_map (λ v. v < g.interpretation.parameter_value n) (InputReady m es) (λ v. inputs_of g b (second_place p (Repl i n) a) (at ++ (i, v) ∷ []))
       (λ v l. inputs_hold b (second_place p (Repl i n) a) (second_below Inputs (Repl i n) a Γ) (at ++ (i, v) ∷ []) m es (in_second refl st) (push_matches g variable Γ at i n v new l k) (repl_holds Γ at m es i n v a new h))
       (below (g.interpretation.parameter_value n)) (all_below (g.interpretation.parameter_value n))
   inputs_hold (Node (In c) a b) p Γ at m es st k h = (record { above = Γ; node = refl; stands = st; matches = k; holds = h }, tt)
@@ -249,13 +244,13 @@ module _ (g : Setting) (variable : ℕ → Bool) (game : Tree) (fine : Game g va
     pub body : Holds g variable (second_below Guarded Cons c (second_below Guards Cons cells (second_below Arm Branch us Γ))) at n es
 
   pub guarded_holds : (Γ : Context) (at : Indices) (n : Store) (es : List Happened) (cells : Tree) → Holds g variable Γ at n es → AllByRecursion (CellHolds g variable at n) (items cells) → Holds g variable (second_below Guards Cons cells Γ) at n es
-  guarded_holds Γ at n es cells h l = record { cells = each_append (CellHolds g variable at n) Γ.cells (items cells) h.cells l; own = h.own; facts = h.facts; events = h.events }
+  guarded_holds Γ at n es cells h l = record { cells = AllByRecursion_append (CellHolds g variable at n) Γ.cells (items cells) h.cells l; own = h.own; facts = h.facts; events = h.events }
 
   pub body_holds : (Γ : Context) (at : Indices) (n : Store) (es : List Happened) (c : Tree) → Holds g variable Γ at n es → FactHolds g variable at n c → Holds g variable (second_below Guarded Cons c Γ) at n es
   body_holds Γ at n es c h f = record {
-    cells = each_append (CellHolds g variable at n) Γ.cells Γ.own h.cells h.own;
+    cells = AllByRecursion_append (CellHolds g variable at n) Γ.cells Γ.own h.cells h.own;
     own = tt;
-    facts = each_append (FactHolds g variable at n) Γ.facts (c ∷ []) h.facts (f, tt);
+    facts = AllByRecursion_append (FactHolds g variable at n) Γ.facts (c ∷ []) h.facts (f, tt);
     events = h.events;
   }
 
@@ -274,7 +269,7 @@ module _ (g : Setting) (variable : ℕ → Bool) (game : Tree) (fine : Game g va
       let l : IsKept m n = bound_later m (tuple at) us vs (stands_asked g variable game fine st).0.distinct free in
       let old : Holds g variable Γ at n es = later_holds Γ at m es n es l (λ e h. h) h in
       let own : AllByRecursion (CellHolds g variable at n) (cells_of Γ.replications us) = bound_cells g variable fine.apart Γ.replications at k g.interpretation.parameter_value m n us vs (stands_asked g variable game fine st).0.distinct (stands_variable g variable game fine st) free e (λ x u v e. e) in
-      record { cells = old.cells; own = each_append (CellHolds g variable at n) Γ.own (cells_of Γ.replications us) old.own own; facts = old.facts; events = old.events }
+      record { cells = old.cells; own = AllByRecursion_append (CellHolds g variable at n) Γ.own (cells_of Γ.replications us) old.own own; facts = old.facts; events = old.events }
 
   pub branch_holds : (p : ℕ) (Γ : Context) (us cells c body : Tree) (at : Indices) (m : Store) (es : List Happened) (vs : List ℕ) → OnlyVariables g variable m → Stands game p Arm Γ (Node Branch us (Node Cons cells (Node Cons c body))) → Matches g variable Γ.replications at → Holds g variable Γ at m es
       → ((y : ℕ) → is_bound us y ≡ true → m y (tuple at) ≡ None) → IsChosen g at m (Node Branch us (Node Cons cells (Node Cons c body))) vs → BranchHolds Γ us cells c at (bound_to m (tuple at) us vs) es
@@ -316,7 +311,7 @@ module _ (g : Setting) (variable : ℕ → Bool) (game : Tree) (fine : Game g va
 
   with_own : (p : ℕ) (Γ : Context) (h : Head) (a b : Tree) (x v : ℕ) (s : Local) → Assigned p Γ h a b x v s → Holds g variable (with_cells Γ (cell_of Γ.replications x ∷ [])) s.indices (put s.memory.store x (tuple s.indices) v) s.memory.events
   with_own p Γ h a b x v s k = record {
-    cells = each_append (CellHolds g variable s.indices (put s.memory.store x (tuple s.indices) v)) Γ.cells (cell_of Γ.replications x ∷ []) k.old.cells (k.own, tt);
+    cells = AllByRecursion_append (CellHolds g variable s.indices (put s.memory.store x (tuple s.indices) v)) Γ.cells (cell_of Γ.replications x ∷ []) k.old.cells (k.own, tt);
     own = k.old.own;
     facts = k.old.facts;
     events = k.old.events;
@@ -378,7 +373,7 @@ module _ (g : Setting) (variable : ℕ → Bool) (game : Tree) (fine : Game g va
       let new : Holds g variable (second_below Body (Let x T) a Γ) s.indices n s.memory.events = record {
         cells = cell.cells;
         own = cell.own;
-        facts = each_append (FactHolds g variable s.indices n) Γ.facts (Node Eq (cell_of Γ.replications x) a ∷ []) cell.facts (fact, tt);
+        facts = AllByRecursion_append (FactHolds g variable s.indices n) Γ.facts (Node Eq (cell_of Γ.replications x) a ∷ []) cell.facts (fact, tt);
         events = cell.events;
       } in
       record {
@@ -396,7 +391,7 @@ module _ (g : Setting) (variable : ℕ → Bool) (game : Tree) (fine : Game g va
       let l : IsKept s.memory.store n = bound_later s.memory.store u (second a) vs (stands_asked g variable game fine st).0.distinct free in
       let old : Holds g variable Γ s.indices n s.memory.events = later_holds Γ s.indices s.memory.store s.memory.events n s.memory.events l (λ e h. h) come.holds in
       let own : AllByRecursion (CellHolds g variable s.indices n) (cells_of Γ.replications (second a)) = bound_cells g variable fine.apart Γ.replications s.indices come.matches g.interpretation.type_size s.memory.store n (second a) vs (stands_asked g variable game fine st).0.distinct (stands_variable g variable game fine st) free come.promise (λ x u v e. e) in
-      let new : Holds g variable (second_below Inputs (In c) a Γ) s.indices n s.memory.events = record { cells = each_append (CellHolds g variable s.indices n) Γ.cells (cells_of Γ.replications (second a)) old.cells own; own = old.own; facts = old.facts; events = old.events } in
+      let new : Holds g variable (second_below Inputs (In c) a Γ) s.indices n s.memory.events = record { cells = AllByRecursion_append (CellHolds g variable s.indices n) Γ.cells (cells_of Γ.replications (second a)) old.cells own; own = old.own; facts = old.facts; events = old.events } in
       record {
         comes = record { walks = refl; promise = tt; matches = come.matches; holds = new; stores = stores_more p Inputs Γ (In c) a b s.indices s.memory.store n s.memory.events st come.matches l (λ y w z e. made_unindexed g (In c) a s.memory.store u y w z (λ i. refl) (bound_made s.memory.store u (second a) vs y w z e)) new come.stores };
         grown = record { store = l; events = λ e h. h };
@@ -415,7 +410,7 @@ module _ (g : Setting) (variable : ℕ → Bool) (game : Tree) (fine : Game g va
           walks = refl;
           promise = tt;
           matches = come.matches;
-          holds = record { cells = old.cells; own = old.own; facts = old.facts; events = each_append (EventHolds g variable s.indices s.memory.store fs) Γ.events ((e, a) ∷ []) old.events (new, tt) };
+          holds = record { cells = old.cells; own = old.own; facts = old.facts; events = AllByRecursion_append (EventHolds g variable s.indices s.memory.store fs) Γ.events ((e, a) ∷ []) old.events (new, tt) };
           stores = λ x u v i. site_later x u v s.memory.store s.memory.events s.memory.store fs (λ x u v e. e) w (come.stores x u v i);
         };
         grown = record { store = λ x u v e. e; events = w };
@@ -435,7 +430,7 @@ module _ (g : Setting) (variable : ℕ → Bool) (game : Tree) (fine : Game g va
   }
 
   with_fact_holds : (Γ : Context) (at : Indices) (m : Store) (es : List Happened) (f : Tree) → Holds g variable Γ at m es → FactHolds g variable at m f → Holds g variable (with_fact Γ f) at m es
-  with_fact_holds Γ at m es f h x = record { cells = h.cells; own = h.own; facts = each_append (FactHolds g variable at m) Γ.facts (f ∷ []) h.facts (x, tt); events = h.events }
+  with_fact_holds Γ at m es f h x = record { cells = h.cells; own = h.own; facts = AllByRecursion_append (FactHolds g variable at m) Γ.facts (f ∷ []) h.facts (x, tt); events = h.events }
 
   bodies_goes : (t : Tape) (p : ℕ) (Γ : Context) (a b : Tree) (k : ℕ) (vs : List ℕ) (s : Local) → Comes Then Γ (Node Cons a b) k vs s → turn_holds Then Body Else Γ Cons a b s (step g t Cons a b p k vs s)
   unfolding turn_holds step

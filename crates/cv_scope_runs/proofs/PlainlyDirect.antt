@@ -21,7 +21,6 @@ use Rattle.cv_meaning.specs.Advantage.{chance_of}
 use Rattle.cv_meaning.specs.Direct.{head_names, is_unbound, head_covered, noted_by, plainly_covered, IsPlainlyDirect}
 use Rattle.cv_meaning_laws.proofs.Counts.{count_same, count_false}
 use Rattle.cv_scope_runs.proofs.Covered.{IsMetBy, AllMet}
-use Rattle.cv_meaning_runs.proofs.Lists.{all_map, left_part, right_part}
 use Rattle.cv_scope_rules.specs.declared.position.Position.{Position}
 use Rattle.cv_scope_rules.specs.declared.position.Position.TheVariants.{Bodies, ElseBody, Guards, Guarded, Cells}
 use Rattle.cv_scope_rules.specs.Context.{Context, first_context, second_context, item_context, rest_context}
@@ -38,6 +37,8 @@ use Rattle.cv_scope_rules.proofs.Unbound.{no_variable}
 use Rattle.cv_scope_runs.proofs.ServeRuns.{VisitHolds, game_holds}
 use Rattle.cv_scope_runs.proofs.FactsRuns.{well_game}
 use Rattle.cv_scope_runs.proofs.Covered.{StandsForItself, event_met, met_push, none_breaks}
+use Rattle.cv_scope_rules.proofs.Apart.{item_replications, rest_replications}
+use Rattle.cv_lists.proofs.Each.{AllByRecursion_weaker, AllByRecursion_left, AllByRecursion_right}
 
 -- the events that are known at a node are those above it
 
@@ -96,17 +97,6 @@ unbound_none y (Node h a b) e =
     let s = and_parts (is_plain a) _ r.1 in
     ap₂ ◌&&◌ (heads_bind y h r.0) (ap₂ ◌&&◌ (unbound_none y a s.0) (unbound_none y b s.1))
 
-item_replications : (w : Position) (Γ : Context) → (item_context w Γ).replications ≡ Γ.replications
-item_replications Bodies Γ = refl
-item_replications ElseBody Γ = refl
-item_replications w Γ = refl
-
-rest_replications : (w : Position) (a : Tree) (Γ : Context) → (rest_context w a Γ).replications ≡ Γ.replications
-rest_replications Guards a Γ = refl
-rest_replications Guarded a Γ = refl
-rest_replications Cells a Γ = refl
-rest_replications w a Γ = refl
-
 index_push : (rs : List (ℕ × ℕ)) (i n y : ℕ) → is_index rs y ≡ false → (i == y) ≡ false → is_index (rs ++ (i, n) ∷ []) y ≡ false
 index_push [] i n y e k = ap (λ b. b || false) k
 index_push (r ∷ rs) i n y e k = go (r.0 == y) e (λ z. index_push rs i n y z k)
@@ -143,7 +133,7 @@ stands_unbound game y u (in_second {σ = σ} {Γ = Γ} {h = h} {a = a} {b = b} e
     let s = and_parts (not (head_names h y)) _ r.0 in
     ((and_parts (is_unbound a y) _ s.1).1, second_apart (position_of σ) h a Γ y s.0 r.1)
 
-some_none : (v : ℕ) → ◌≡◌ {A = Option ℕ} (Some v) None → ⊥
+pub some_none : (v : ℕ) → ◌≡◌ {A = Option ℕ} (Some v) None → ⊥
 some_none v e = cc
 
 -- so it stands for itself
@@ -236,7 +226,7 @@ module _ (g : Setting) (q : Correspondence) where
           → ((a : Move) → AllByRecursion (VisitMet g q) (run_visits g m next t n (moved g m t st a)) → AllMet g q (moved g m t st a).memory.events → AllMet g q (run_from g m next t n (moved g m t st a)).memory.events)
           → AllMet g q (by_move st (λ a. run_from g m next t n (moved g m t st a)) o).memory.events
       go None i ih = e
-      go (Some a) i ih = ih a (right_part (VisitMet g q) (visits_of_move g t st a) _ i) (moved_met m t st a (left_part (VisitMet g q) (visits_of_move g t st a) _ i) e)
+      go (Some a) i ih = ih a (AllByRecursion_right (VisitMet g q) (visits_of_move g t st a) _ i) (moved_met m t st a (AllByRecursion_left (VisitMet g q) (visits_of_move g t st a) _ i) e)
 
 unbound_no_variable : (game : Tree) → is_plain game ≡ true → (y : ℕ) → is_unbound game y ≡ true → is_variable game y ≡ false
 unbound_no_variable game e y u = no_variable (λ z. z == y) y (eq-eqb y y refl) game (unbound_none y game e ∙ u)
@@ -247,7 +237,7 @@ module _ (ds : List Declaration) (g : Setting) (q : Correspondence) (a : Adversa
   all_met t =
       let fine : Game g (is_variable game) game = well_game ds g game same (game_context ds game well) in
       run_met g q Events (a.next (coins_on t 0 a.coins)) t a.moves (start g game)
-      (all_map (VisitHolds g (is_variable game) game fine) (VisitMet g q) (visit_met g (is_variable game) game fine (unbound_no_variable game (game_plain ds game well)) q direct.covered) _
+      (AllByRecursion_weaker (VisitHolds g (is_variable game) game fine) (VisitMet g q) (visit_met g (is_variable game) game fine (unbound_no_variable game (game_plain ds game well)) q direct.covered) _
       (game_holds g (is_variable game) game fine Events (a.next (coins_on t 0 a.coins)) t a.moves).passes.visits)
       (λ e h. absurd h)
 

@@ -11,12 +11,10 @@ use Rattle.cv_meaning.specs.Binders.{fits}
 use Rattle.cv_meaning.specs.Inputs.{Input, message_binders}
 use Rattle.cv_meaning.specs.Serving.{Served, Turn, Ends, First, Second, step, serve, after_turn, Visit, visits}
 use Rattle.cv_meaning.specs.Runs.{Mode, Answer, Move, Calls, Tests, Guesses, State, Taken, taken, admitted, if_fitting, called, told, tested_with, moved, run_from, start, begun, next_move, by_move, visits_of_call, visits_of_move, run_visits}
-use Rattle.cv_meaning_laws.proofs.Lists.{each_append}
 use Rattle.cv_meaning_laws.proofs.Moves.{TakenEach, admitted_each}
-use Rattle.cv_meaning_runs.proofs.Lists.{all_map, all_cross, left_part, right_part}
 use Rattle.cv_scope_rules.specs.Context.{Context, nothing_known}
 use Rattle.cv_scope_rules.specs.Branches.{Pairs}
-use Rattle.cv_scope_rules.proofs.Pairs.{pairs-append}
+use Rattle.cv_scope_rules.proofs.Pairs.{pairs_append}
 use Rattle.cv_scope_rules.specs.Phrases.{Phrase, Inputs}
 use Rattle.cv_scope_runs.specs.Promises.{GrowsTo, VisitsGrow}
 use Rattle.cv_scope_runs.proofs.FreshRuns.{IsClear, visits_clear}
@@ -25,6 +23,7 @@ use Rattle.cv_scope_runs.proofs.Rows.{row}
 use Rattle.cv_scope_runs.proofs.Standing.{Stands, root, in_first, in_second, first_below, second_below}
 use Rattle.cv_scope_runs.proofs.Games.{Game, has_parts, stands_phrase}
 use Rattle.cv_scope_runs.proofs.PathRuns.{StoreHolds, grows_same, grows_then, InputReady, input_later, inputs_hold, Fits, Comes, Done, turn_holds, done_same, step_goes}
+use Rattle.cv_lists.proofs.Each.{AllByRecursion_append, AllByRecursion_weaker, AllByRecursion_cross, AllByRecursion_left, AllByRecursion_right}
 
 module _ (g : Setting) (variable : ℕ → Bool) (game : Tree) (fine : Game g variable game) where
   -- services
@@ -63,7 +62,7 @@ module _ (g : Setting) (variable : ℕ → Bool) (game : Tree) (fine : Game g va
       child : (n : Local) (r : Served) (ws : List Visit) → GrowsTo s.memory n.memory → Serving n r ws → Serving s r (here ∷ ws)
       child n r ws w z =
           let all : GrowsTo s.memory r.last.memory = grows_then s.memory n.memory r.last.memory w z.done.grown in
-          let from : AllByRecursion (λ (v : Visit). GrowsTo s.memory v.before.memory) ws = all_map (λ (v : Visit). GrowsTo n.memory v.before.memory) (λ (v : Visit). GrowsTo s.memory v.before.memory) (λ v x. grows_then s.memory n.memory v.before.memory w x) ws z.after in
+          let from : AllByRecursion (λ (v : Visit). GrowsTo s.memory v.before.memory) ws = AllByRecursion_weaker (λ (v : Visit). GrowsTo n.memory v.before.memory) (λ (v : Visit). GrowsTo s.memory v.before.memory) (λ v x. grows_then s.memory n.memory v.before.memory w x) ws z.after in
           record {
             done = record { stores = z.done.stores; opened = z.done.opened; grown = all };
             visits = (holding, z.visits);
@@ -96,13 +95,13 @@ module _ (g : Setting) (variable : ℕ → Bool) (game : Tree) (fine : Game g va
   passes_then : (x y z : Memory) (vs ws : List Visit) → Passes x y vs → Passes y z ws → Passes x z (vs ++ ws)
   passes_then x y z vs ws a b = record {
     grown = grows_then x y z a.grown b.grown;
-    visits = each_append VisitHolds vs ws a.visits b.visits;
-    after = each_append (λ (v : Visit). GrowsTo x v.before.memory) vs ws a.after
-        (all_map (λ (v : Visit). GrowsTo y v.before.memory) (λ (v : Visit). GrowsTo x v.before.memory) (λ v k. grows_then x y v.before.memory a.grown k) ws b.after);
-    before = each_append (λ (v : Visit). GrowsTo v.before.memory z) vs ws
-        (all_map (λ (v : Visit). GrowsTo v.before.memory y) (λ (v : Visit). GrowsTo v.before.memory z) (λ v k. grows_then v.before.memory y z k b.grown) vs a.before) b.before;
-    order = pairs-append VisitsGrow vs ws a.order b.order
-        (all_cross (λ (v : Visit). GrowsTo v.before.memory y) (λ (w : Visit). GrowsTo y w.before.memory) VisitsGrow (λ v w k l. grows_then v.before.memory y w.before.memory k l) vs ws a.before b.after);
+    visits = AllByRecursion_append VisitHolds vs ws a.visits b.visits;
+    after = AllByRecursion_append (λ (v : Visit). GrowsTo x v.before.memory) vs ws a.after
+        (AllByRecursion_weaker (λ (v : Visit). GrowsTo y v.before.memory) (λ (v : Visit). GrowsTo x v.before.memory) (λ v k. grows_then x y v.before.memory a.grown k) ws b.after);
+    before = AllByRecursion_append (λ (v : Visit). GrowsTo v.before.memory z) vs ws
+        (AllByRecursion_weaker (λ (v : Visit). GrowsTo v.before.memory y) (λ (v : Visit). GrowsTo v.before.memory z) (λ v k. grows_then v.before.memory y z k b.grown) vs a.before) b.before;
+    order = pairs_append VisitsGrow vs ws a.order b.order
+        (AllByRecursion_cross (λ (v : Visit). GrowsTo v.before.memory y) (λ (w : Visit). GrowsTo y w.before.memory) VisitsGrow (λ v w k l. grows_then v.before.memory y w.before.memory k l) vs ws a.before b.after);
   }
 
   pub record StateHolds (st : State) : Type 0 where
@@ -141,8 +140,8 @@ module _ (g : Setting) (variable : ℕ → Bool) (game : Tree) (fine : Game g va
       record {
         state = record {
           stores = s.done.stores;
-          inputs = each_append (InputReady g variable game fine r.last.memory.store r.last.memory.events) k.others r.opened
-              (all_map (InputReady g variable game fine st.memory.store st.memory.events) (InputReady g variable game fine r.last.memory.store r.last.memory.events) (λ j x. input_later g variable game fine st.memory r.last.memory s.done.grown j x) k.others a.others) s.done.opened;
+          inputs = AllByRecursion_append (InputReady g variable game fine r.last.memory.store r.last.memory.events) k.others r.opened
+              (AllByRecursion_weaker (InputReady g variable game fine st.memory.store st.memory.events) (InputReady g variable game fine r.last.memory.store r.last.memory.events) (λ j x. input_later g variable game fine st.memory r.last.memory s.done.grown j x) k.others a.others) s.done.opened;
         };
         passes = record { grown = s.done.grown; visits = s.visits; after = s.after; before = s.before; order = s.order };
       }
@@ -175,8 +174,8 @@ module _ (g : Setting) (variable : ℕ → Bool) (game : Tree) (fine : Game g va
           let st' : State = moved g m t st a in
           let rest : List Visit = run_visits g m next t n st' in
           let last : State = run_from g m next t n st' in
-          let x : Moves st st' ws = move_holds m t st a z (left_part IsClear ws rest c) in
-          let y : Moves st' last rest = ih a x.state (right_part IsClear ws rest c) in
+          let x : Moves st st' ws = move_holds m t st a z (AllByRecursion_left IsClear ws rest c) in
+          let y : Moves st' last rest = ih a x.state (AllByRecursion_right IsClear ws rest c) in
           record { state = y.state; passes = passes_then st.memory st'.memory last.memory ws rest x.passes y.passes }
 
   pub game_holds : (m : Mode) (next : List Answer → Option Move) (t : Tape) (n : ℕ) → Moves (start g game) (run_from g m next t n (start g game)) (run_visits g m next t n (start g game))

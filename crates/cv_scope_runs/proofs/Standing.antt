@@ -69,11 +69,11 @@ stands_known game p σ Γ (Node h a b) i st =
 
 -- definitions
 
-more_right : (d : ℕ × Context) (xs ys : List (ℕ × Context)) → IsDefinition d ys → IsDefinition d (xs ++ ys)
+pub more_right : (d : ℕ × Context) (xs ys : List (ℕ × Context)) → IsDefinition d ys → IsDefinition d (xs ++ ys)
 more_right d [] ys h = h
 more_right d (x ∷ xs) ys h = inr (more_right d xs ys h)
 
-more_left : (d : ℕ × Context) (xs ys : List (ℕ × Context)) → IsDefinition d xs → IsDefinition d (xs ++ ys)
+pub more_left : (d : ℕ × Context) (xs ys : List (ℕ × Context)) → IsDefinition d xs → IsDefinition d (xs ++ ys)
 more_left d [] ys h = absurd h
 more_left d (x ∷ xs) ys (inl e) = inl e
 more_left d (x ∷ xs) ys (inr h) = inr (more_left d xs ys h)

@@ -26,14 +26,3 @@ taken_pairs R s c u (i ∷ is) h k e = go (is_at c u i) (taken c u is) (taken_pa
         let a = x r refl in
         let b = y r refl in
         subst (TakenPairs R) q (record { pair = (s i r.input b.input, a.pair); rest = (b.others, a.rest) })
-
-pub admitted_taken : (P : Taken → Type 0) (g : Setting) (c : ℕ) (u vs : List ℕ) (is : List Input) → ((k : Taken) → taken c u is ≡ Some k → P k) → (k : Taken) → admitted g c u vs is ≡ Some k → P k
-admitted_taken P g c u vs is h k e = go (taken c u is) h e
-  where
-    fitting : (b : Bool) (r : Taken) → P r → cond b (Some r) None ≡ Some k → P k
-    fitting true r x q = let z : r ≡ k = cc in subst P z x
-    fitting false r x q = cc
-
-    go : (o : Option Taken) → ((k : Taken) → o ≡ Some k → P k) → if_fitting g vs o ≡ Some k → P k
-    go None x q = cc
-    go (Some r) x q = fitting (fits g.interpretation.type_size (message_binders r.input) vs) r (x r refl) q

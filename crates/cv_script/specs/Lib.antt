@@ -1,3 +1,4 @@
 pub mod Steps
 pub mod Text
 pub mod Views
+pub mod rows

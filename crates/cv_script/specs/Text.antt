@@ -2,7 +2,7 @@
 use Rattle.std.specs.Prelude.{ℕ, List}
 use Rattle.cv_syntax_trees.specs.Tree.{Tree}
 use Rattle.cv_print_tables.specs.Prints.{tree_text}
-use Rattle.cv_script_rows.specs.Rows.{script_rows, step_row}
+use Rattle.cv_script.specs.rows.Rows.{script_rows, step_row}
 
 -- how many levels of derivations a text has at most
 abbrev pub text_levels : ℕ

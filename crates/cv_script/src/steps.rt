@@ -2,8 +2,8 @@ ghost use Rattle.std.specs.Prelude.{◌≡◌, ◌<◌, ◌++◌, OnOk, IfOk, So
 ghost use Rattle.cv_syntax.specs.PoolTrees.{tree_at};
 ghost use Rattle.cv_script.specs.Text as text;
 
+use crate::rows::{STEP, script_rows};
 use cv_print_tables::push_phrase;
-use cv_script_rows::{STEP, script_rows};
 use cv_syntax::{Names, NodeId, Pool};
 use std::alloc::{AllocError, Global};
 

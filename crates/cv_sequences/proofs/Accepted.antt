@@ -2,9 +2,9 @@
 use Rattle.std.proofs.Common.{◌≡◌}
 use Rattle.cv_syntax_trees.specs.Tree.{Tree}
 use Rattle.cv_typing_runs.specs.Games.{HasConstants}
-use Rattle.cv_derivations_under.specs.Holding.{IsReady}
-use Rattle.cv_derivations_under.specs.Steps.{IsSound}
-use Rattle.cv_scenes.specs.Scenes.{Scene}
+use Rattle.cv_derive_laws.specs.stores.Holding.{IsReady}
+use Rattle.cv_derive_laws.specs.stores.Steps.{IsSound}
+use Rattle.cv_scene.specs.Scenes.{Scene}
 use Rattle.cv_steps.specs.Steps.{Cost, Step}
 use Rattle.cv_steps.specs.Judgements.{Accepted, judgement_of}
 use Rattle.cv_steps_laws.proofs.Keeping.{next_formed, next_known, next_named, next_typed}

@@ -8,7 +8,7 @@ use Rattle.cv_meaning.specs.Experiments.{Breaks, Experiment, Guesses, mode_of}
 use Rattle.cv_meaning.specs.Interpretation.{Interpretation, setting_of}
 use Rattle.cv_meaning.specs.Runs.{Events, Random, Real}
 use Rattle.cv_meaning.specs.Satisfies.{Satisfies}
-use Rattle.cv_meaning_adequacy.proofs.Lists.{contains_has}
+use Rattle.cv_meaning_laws.proofs.adequacy.Lists.{contains_has}
 use Rattle.cv_meaning_laws.proofs.Listed.{Has}
 use Rattle.cv_typing_rules.specs.declared.form.Form.TheVariants.{InProcess}
 use Rattle.cv_typing_rules.specs.Parts.{AreTyped, IsTypedFile, IsTypedGame, IsTypedPart, Part, declaration_parts, game_part, nothing_above}
@@ -16,7 +16,7 @@ use Rattle.cv_typing_rules.specs.Wants.{Run}
 use Rattle.cv_meaning.specs.Queries.{queries_in}
 use Rattle.cv_query_form.specs.Rules.{AreAsked, HasValues, MayBeAsked}
 use Rattle.cv_typing_runs.specs.Games.{HasDeclaredSorts}
-use Rattle.cv_meaning_values.specs.Values.{HasValuesIn, is_tested}
+use Rattle.cv_meaning_chances.specs.values.Values.{HasValuesIn, is_tested}
 use Rattle.cv_sequences.proofs.Choices.{game_valued}
 use Rattle.cv_scope_rules.specs.Phrases.{Inputs, is_phrase}
 

@@ -13,27 +13,27 @@ use Rattle.cv_meaning.specs.Queries.{queries_in}
 use Rattle.cv_meaning_chances.specs.Fractions.{HasTapes, plus}
 use Rattle.cv_meaning_chances.proofs.FractionLaws.{at_most_trans, distance_kept, plus_kept, triangle}
 use Rattle.cv_meaning_contexts.specs.ContextAdvantage.{context_advantage}
-use Rattle.cv_meaning_values.specs.Values.{HasValuesIn}
-use Rattle.cv_meaning_values.proofs.Tapes.{tapes}
+use Rattle.cv_meaning_chances.specs.values.Values.{HasValuesIn}
+use Rattle.cv_meaning_chances.proofs.values.Tapes.{tapes}
 use Rattle.cv_bound.specs.declared.cost.Cost.{Cost as SumCost}
 use Rattle.cv_bound.specs.declared.terms.Experiment.TheVariants as term
 use Rattle.cv_bound.specs.declared.terms.Term.{Term}
 use Rattle.cv_bound.specs.declared.terms.Term.TheVariants as terms
 use Rattle.cv_bound.specs.Sums.{added, with_terms}
 use Rattle.cv_bound_values.specs.Values.{Advantages, sum_value}
-use Rattle.cv_bound_values.proofs.Adding.{sum_value-append}
+use Rattle.cv_bound_values.proofs.Adding.{sum_value_append}
 use Rattle.cv_typing_runs.proofs.Games.{known}
-use Rattle.cv_scenes.specs.Contexts.{AreAnswers}
-use Rattle.cv_scenes.specs.Reductions.{context_of_game}
-use Rattle.cv_scenes.specs.Scenes.{Scene}
-use Rattle.cv_derivations_under.specs.Holding.{IsReady}
-use Rattle.cv_derivations_under.specs.Steps.{IsSound}
-use Rattle.cv_context_answers.specs.Answers.{answer_above}
-use Rattle.cv_context_answers.proofs.Many.{are_answers}
-use Rattle.cv_context_queries.proofs.Asked.{asked_no_index}
-use Rattle.cv_context_queries.proofs.Steps.{next_asks_none}
-use Rattle.cv_context_right.specs.Right.{IsStepOfFile}
-use Rattle.cv_context_right.proofs.Steps.{step_costs}
+use Rattle.cv_scene.specs.Contexts.{AreAnswers}
+use Rattle.cv_scene.specs.Reductions.{context_of_game}
+use Rattle.cv_scene.specs.Scenes.{Scene}
+use Rattle.cv_derive_laws.specs.stores.Holding.{IsReady}
+use Rattle.cv_derive_laws.specs.stores.Steps.{IsSound}
+use Rattle.cv_match_laws.specs.answers.Answers.{answer_above}
+use Rattle.cv_match_laws.proofs.answers.Many.{are_answers}
+use Rattle.cv_context_right_side.proofs.queries.Asked.{asked_no_index}
+use Rattle.cv_context_right_side.proofs.queries.Steps.{next_asks_none}
+use Rattle.cv_context_right_side.specs.Right.{IsStepOfFile}
+use Rattle.cv_context_right_side.proofs.Steps.{step_costs}
 use Rattle.cv_steps.specs.Asked.{AskForNoIndex}
 use Rattle.cv_steps.specs.Judgements.{judgement_of}
 use Rattle.cv_steps.specs.Judgements as rule
@@ -59,7 +59,7 @@ as_much : (p q v : Chance) → 0 < q.all → Same p q → AtMost q v → AtMost 
 as_much p q v n e h = at_most_trans p q v n (omega (arith, e)) h
 
 -- what a chance is apart from another, it is from one that is the same
-same_end : (p q r v : Chance) → 0 < p.all → 0 < q.all → AtMost (distance p q) v → Same q r → AtMost (distance p r) v
+pub same_end : (p q r v : Chance) → 0 < p.all → 0 < q.all → AtMost (distance p q) v → Same q r → AtMost (distance p r) v
 same_end p q r v m n h e = as_much (distance p r) (distance p q) v (mul-pos m n) (distance_kept p r p q refl (sym e)) h
 
 -- and from one further on it is apart by both distances
@@ -95,7 +95,7 @@ chain_ends ds known first links last (push before game l c e) = ends first befor
 
 -- the sum has tapes where the advantages have
 with_advantage : (i : Interpretation) (advantages : Advantages) (sum : List Term) (n e : ℕ) → HasTapes (sum_value i advantages sum) → HasTapes (advantages n term.Events) → HasTapes (sum_value i advantages (sum ++ advantage n e ∷ []))
-with_advantage i advantages sum n e h k = subst HasTapes (sym (sum_value-append i advantages sum (advantage n e ∷ []))) (mul-pos h (mul-pos k (omega arith)))
+with_advantage i advantages sum n e h k = subst HasTapes (sym (sum_value_append i advantages sum (advantage n e ∷ []))) (mul-pos h (mul-pos k (omega arith)))
 
 taped_behind : (i : Interpretation) (advantages : Advantages) (sum : List Term) (links : List Link) → HasTapes (sum_value i advantages sum) → HaveTapedPrices advantages links → HasTapes (sum_value i advantages (summed sum (costs_behind links)))
 unfolding summed with_terms
@@ -203,7 +203,7 @@ module _ (ds : List Declaration) (own : ℕ) (first : Tree) (w : IsFileOf ds own
           let cost : AtMost (distance (chance_in game) (chance_in next)) (context_advantage ds i (context_of_game r) x a) =
           subst (λ t. AtMost (distance (chance_in game) (chance_in t)) (context_advantage ds i (context_of_game r) x a)) (sym y.drawn.game)
           (step_costs r (step_of_file game e key y.equivalence g y.is_equivalence y.failure) i y.drawn.names y.drawn.labels y.drawn.drawn x a asked) in
-          subst (AtMost (distance (chance_in first) (chance_in next))) (sym (sum_value-append i advantages sum (advantage n e ∷ [])))
+          subst (AtMost (distance (chance_in first) (chance_in next))) (sym (sum_value_append i advantages sum (advantage n e ∷ [])))
           (one_more (chance_in first) (chance_in game) (chance_in next) (sum_value i advantages sum) (advantages n term.Events) (has_tapes [] first start) k l h
           (subst (AtMost (distance (chance_in game) (chance_in next))) (sym (p y.equivalence y.is_equivalence)) cost))
 

@@ -3,16 +3,16 @@
 use Rattle.std.proofs.Common.{◌≡◌, ℕ, ◌<◌, ◌≤◌, true, false, List, None, refl, ap, sym, ◌∙◌, arith}
 use Rattle.std.specs.Prelude.{option_map}
 use Rattle.std.proofs.lemmas.Bool.{both_ways, and_parts, or_parts}
-use Rattle.cv_first_fault.specs.Walk.{IsObeyed}
+use Rattle.cv_syntax_faults.specs.Walk.{IsObeyed}
 use Rattle.cv_syntax_trees.specs.declared.head.Head.TheVariants.{Binder, Branch, Cons, Event, Find, If, In, Leaf, Let, Name, New, Out, Par, Read, Repl, Stop, Yield}
 use Rattle.cv_syntax_trees.specs.Declarations.{Declaration}
 use Rattle.cv_syntax_trees.specs.Tree.{Tree, Empty, Node, second}
 use Rattle.cv_meaning.specs.Interpretation.{Interpretation, Setting, setting_of}
 use Rattle.cv_meaning.specs.Runs.{Mode}
 use Rattle.cv_meaning.specs.Satisfies.{Satisfies}
-use Rattle.cv_meaning_adequacy.specs.Typed as meaning
-use Rattle.cv_meaning_adequacy.specs.Typed.{IsDeclared}
-use Rattle.cv_meaning_adequacy.proofs.Sorted.{some_value}
+use Rattle.cv_meaning_laws.specs.adequacy.Typed as meaning
+use Rattle.cv_meaning_laws.specs.adequacy.Typed.{IsDeclared}
+use Rattle.cv_meaning_laws.proofs.adequacy.Sorted.{some_value}
 use Rattle.cv_scope_rules.specs.Phrases.{Phrase, Arm, Binders, Body, Branches as BranchesPhrase, Cells, Else, Guarded as GuardedPhrase, Guards, Indices as IndicesPhrase, Inputs, Message as MessagePhrase, Nil, OneCell, Pattern, Term, Terms, Then, is_phrase}
 use Rattle.cv_directory_sorts.specs.declared.sort.Sort.{Sort}
 use Rattle.cv_directory_sorts.specs.declared.sort.Sort.TheVariants.{BelowParameter, OfType}
@@ -26,7 +26,7 @@ use Rattle.cv_typing_runs.proofs.SameSites.{input_binders}
 use Rattle.cv_typing_runs.proofs.Terms.{faultless, same_sorts}
 use Rattle.cv_query_form.specs.Rules.{HasValues}
 use Rattle.cv_steps.proofs.Flat.{nil_still, term_still}
-use Rattle.cv_meaning_values.specs.Values.{HasValuesIn, is_tested}
+use Rattle.cv_meaning_chances.specs.values.Values.{HasValuesIn, is_tested}
 use Rattle.cv_steps_laws.proofs.Values.{still_values}
 
 module _ (ds : List Declaration) (game : Tree) (i : Interpretation) (sat : Satisfies ds i) (m : Mode) (tested : (x : ℕ) → is_tested m x ≡ true → HasValues game x) where

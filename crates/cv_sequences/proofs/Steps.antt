@@ -8,24 +8,22 @@ use Rattle.cv_meaning.specs.Experiments.{Experiment, mode_of}
 use Rattle.cv_meaning.specs.Advantage.{IsAsked}
 use Rattle.cv_meaning.specs.Queries.{queries_in}
 use Rattle.cv_meaning.specs.Satisfies.{Satisfies}
-use Rattle.cv_meaning_unread.specs.Dropping.{IsUntested}
-use Rattle.cv_meaning_values.specs.Values.{HasValuesIn, is_tested}
+use Rattle.cv_meaning_chances.specs.unread.Dropping.{IsUntested}
+use Rattle.cv_meaning_chances.specs.values.Values.{HasValuesIn, is_tested}
 use Rattle.cv_scope_rules.specs.Phrases.{Inputs, is_phrase}
-use Rattle.cv_scenes.specs.Scenes.{KnowsQueries, Scene, is_new}
-use Rattle.cv_derivations_under.specs.Steps.{IsSound}
+use Rattle.cv_scene.specs.Scenes.{KnowsQueries, Scene, is_new}
+use Rattle.cv_derive_laws.specs.stores.Steps.{IsSound}
 use Rattle.cv_steps.specs.Changes.{only}
 use Rattle.cv_steps.specs.Judgements.{Accepted, judgement_of}
 use Rattle.cv_steps.specs.Steps.{Cost, Step}
 use Rattle.cv_steps_laws.proofs.Keeping.{unqueried}
 use Rattle.cv_steps_laws.proofs.Unnamed.{asked_untested}
-
-swapped : (a b : ℕ) → (a == b) ≡ false → (b == a) ≡ false
-swapped a b d = grind arith
+use Rattle.cv_lists.proofs.Tests.{differ_comm}
 
 untested : (y : ℕ) (m : Mode) → IsUntested (only y) m → is_tested m y ≡ false
 untested y Events e = refl
-untested y (Real one x) e = swapped x y e
-untested y (Random one x) e = swapped x y e
+untested y (Real one x) e = differ_comm x y e
+untested y (Random one x) e = differ_comm x y e
 
 new_untested : (s : Scene) (x : Experiment) → IsAsked (queries_in s.declarations) x → KnowsQueries s → (y : ℕ) → is_new s y ≡ true → is_tested (mode_of x) y ≡ false
 new_untested s x asked k y n = untested y (mode_of x) (asked_untested s y x asked (unqueried s y k (not-true _ (and_parts (not (s.known y)) _ n).0)))

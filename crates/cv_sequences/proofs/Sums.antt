@@ -8,7 +8,6 @@ use Rattle.cv_meaning.specs.Runs.{Adversary}
 use Rattle.cv_meaning.specs.Experiments.{Experiment, mode_of}
 use Rattle.cv_meaning.specs.Chances.{Chance, Same, AtMost, distance, zero_chance}
 use Rattle.cv_meaning.specs.Advantage.{IsAsked, chance_of}
-use Rattle.cv_meaning_runs.proofs.Lists.{left_part, right_part}
 use Rattle.cv_meaning_chances.specs.Fractions.{HasTapes}
 use Rattle.cv_meaning_chances.proofs.FractionLaws.{at_most_trans}
 use Rattle.cv_bound.specs.declared.terms.Term.{Term}
@@ -16,23 +15,19 @@ use Rattle.cv_bound.specs.Sums.{with_terms}
 use Rattle.cv_bound_values.specs.Values.{Advantages, sum_value}
 use Rattle.cv_meaning.specs.Queries.{queries_in}
 use Rattle.cv_typing_runs.specs.Games.{HasConstants}
-use Rattle.cv_derivations_under.specs.Holding.{IsReady}
-use Rattle.cv_derivations_under.specs.Soundness.{DerivationsHold, DerivedBodiesAreUnreached}
-use Rattle.cv_derivations_under.specs.Steps.{AreSound, IsSound}
-use Rattle.cv_scenes.specs.Scenes.{KnowsQueries}
+use Rattle.cv_derive_laws.specs.stores.Holding.{IsReady}
+use Rattle.cv_derive_laws.specs.stores.Soundness.{DerivationsHold, DerivedBodiesAreUnreached}
+use Rattle.cv_derive_laws.specs.stores.Steps.{AreSound, IsSound}
+use Rattle.cv_scene.specs.Scenes.{KnowsQueries}
 use Rattle.cv_steps.specs.Sequences.{IsSequence, Passage, push, scene, start}
 use Rattle.cv_steps.specs.Steps.{Cost, Zero}
 use Rattle.cv_sequences.proofs.Accepted.{step_ready}
 use Rattle.cv_sequences.specs.Sequences.{added_up, costs_of}
-use Rattle.cv_meaning_values.specs.Values.{HasValuesIn}
-use Rattle.cv_meaning_values.proofs.Tapes.{tapes}
+use Rattle.cv_meaning_chances.specs.values.Values.{HasValuesIn}
+use Rattle.cv_meaning_chances.proofs.values.Tapes.{tapes}
 use Rattle.cv_sequences.proofs.Steps.{next_values}
-
-pub same_trans : (p q r : Chance) → 0 < q.all → Same p q → Same q r → Same p r
-same_trans p q r pos e f =
-    let a : AtMost p r = at_most_trans p q r pos (omega arith) (omega arith) in
-    let b : AtMost r p = at_most_trans r q p pos (omega arith) (omega arith) in
-    omega arith
+use Rattle.cv_meaning_chances.proofs.LikeTests.{same_trans}
+use Rattle.cv_lists.proofs.Each.{AllByRecursion_left, AllByRecursion_right}
 
 pub apart : (p r : Chance) → Same p r → AtMost (distance p r) zero_chance
 apart p r e = omega arith
@@ -54,10 +49,10 @@ no_terms sum (Zero ∷ cs) = no_terms sum cs
 
 -- a sequence with a step more
 last_sound : (before : List Passage) (p : Passage) → AreSound (before ++ p ∷ []) → IsSound p.step
-last_sound before p h = (right_part (λ q. IsSound q.step) before (p ∷ []) h).0
+last_sound before p h = (AllByRecursion_right (λ q. IsSound q.step) before (p ∷ []) h).0
 
 first_sound : (before : List Passage) (p : Passage) → AreSound (before ++ p ∷ []) → AreSound before
-first_sound before p h = left_part (λ q. IsSound q.step) before (p ∷ []) h
+first_sound before p h = AllByRecursion_left (λ q. IsSound q.step) before (p ∷ []) h
 
 module _ (ds : List Declaration) (known : ℕ → Bool) (first : Tree) (w : IsReady ds first) (constants : HasConstants ds) where
   pub games_ready : (passages : List Passage) (last : Tree) → AreSound passages → IsSequence ds known first passages last → IsReady ds last

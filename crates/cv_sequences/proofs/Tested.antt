@@ -5,17 +5,18 @@ use Rattle.cv_syntax_trees.specs.Declarations.{Declaration}
 use Rattle.cv_syntax_trees.specs.Tree.{Tree}
 use Rattle.cv_meaning.specs.Queries.{queries_in}
 use Rattle.cv_query_form.specs.Rules.{AreAsked}
-use Rattle.cv_query_form.proofs.First.{asked-where-none}
+use Rattle.cv_query_form.proofs.First.{asked_where_none}
 use Rattle.cv_typing_runs.specs.Games.{HasDeclaredSorts}
-use Rattle.cv_scenes.specs.Contexts.{matching_of}
-use Rattle.cv_scenes.specs.Refusals.{Refusal, first_refusal}
-use Rattle.cv_scenes.specs.Scenes.{Scene, names}
-use Rattle.cv_scenes.specs.Terms.{is_game}
+use Rattle.cv_scene.specs.Contexts.{matching_of}
+use Rattle.cv_scene.specs.Refusals.{Refusal, first_refusal}
+use Rattle.cv_scene.specs.Scenes.{Scene, names}
+use Rattle.cv_scene.specs.Terms.{is_game}
 use Rattle.cv_steps_crypto.specs.Conditions.{equivalence_of, failed, failure_by, failure_of, failure_with}
 use Rattle.cv_steps_crypto.specs.Sorts.{has_declared_sorts}
 use Rattle.cv_steps_crypto.specs.Steps.{is_next}
 use Rattle.cv_steps_crypto.proofs.Sorts.{sorts_declared}
-use Rattle.cv_steps_laws.proofs.Keeping.{IsGame, game_formed, none_of}
+use Rattle.cv_steps_laws.proofs.Keeping.{IsGame, game_formed}
+use Rattle.cv_lists.proofs.Options.{none_from_not_some}
 
 pub record IsTested (ds : List Declaration) (next : Tree) : Type 0 where
   pub game : IsGame ds next
@@ -26,7 +27,7 @@ pub tested : (ds : List Declaration) (game : Tree) → is_next ds game ≡ true 
 tested ds game e =
     let p = and_parts (is_game ds game) _ e in
     let q = and_parts (has_declared_sorts ds game) _ p.1 in
-    record { game = game_formed ds game p.0; sorts = sorts_declared ds game q.0; asked = asked-where-none game (queries_in ds) (none_of _ q.1) }
+    record { game = game_formed ds game p.0; sorts = sorts_declared ds game q.0; asked = asked_where_none game (queries_in ds) (none_from_not_some _ q.1) }
 
 -- where no condition fails, nothing refuses the game
 pub unrefused : (s : Scene) (e x : ℕ) (t : Tree) → equivalence_of s e ≡ Some t → failure_of s e x ≡ None → first_refusal (matching_of s t x) ≡ None

@@ -16,14 +16,14 @@ use Rattle.cv_bound.specs.Sums.{added}
 use Rattle.cv_bound_values.specs.Values.{Advantages}
 use Rattle.cv_group_rules.specs.Faults.{IsAccepted}
 use Rattle.cv_typing_runs.specs.Games.{HasConstants}
-use Rattle.cv_scenes.specs.Reductions.{context_of_game}
-use Rattle.cv_scenes.specs.Scenes.{KnowsQueries, Scene}
-use Rattle.cv_derivations_under.specs.Holding.{IsReady}
-use Rattle.cv_derivations_under.specs.Soundness.{DerivationsHold, DerivedBodiesAreUnreached}
-use Rattle.cv_derivations_under.specs.Steps.{IsSound}
-use Rattle.cv_context_answers.specs.Answers.{KnowsConstants, file_scene}
-use Rattle.cv_context_right.specs.Right.{IsRightOfFile}
-use Rattle.cv_context_terms.specs.Forms.{HasLeftForm}
+use Rattle.cv_scene.specs.Reductions.{context_of_game}
+use Rattle.cv_scene.specs.Scenes.{KnowsQueries, Scene}
+use Rattle.cv_derive_laws.specs.stores.Holding.{IsReady}
+use Rattle.cv_derive_laws.specs.stores.Soundness.{DerivationsHold, DerivedBodiesAreUnreached}
+use Rattle.cv_derive_laws.specs.stores.Steps.{IsSound}
+use Rattle.cv_match_laws.specs.answers.Answers.{KnowsConstants, file_scene}
+use Rattle.cv_context_right_side.specs.Right.{IsRightOfFile}
+use Rattle.cv_match_laws.specs.functions.Forms.{HasLeftForm}
 use Rattle.cv_steps.specs.Asked.{AskForNoIndex}
 use Rattle.cv_steps.specs.Costs.{cost_of}
 use Rattle.cv_steps.specs.Judgements.{judgement_of}

@@ -1,6 +1,9 @@
 // The laws of accepted steps and of sequences of games.
 #![tactic(auto)]
 
+pub mod secrets;
+pub mod soundness;
+
 ghost use Rattle.std.specs.Prelude.{◌≡◌, ℕ, Bool, false, true, List, []};
 ghost use Rattle.cv_syntax_trees.specs.Declarations.{Declaration};
 ghost use Rattle.cv_syntax_trees.specs.Tree.{Tree};
@@ -17,10 +20,10 @@ ghost use Rattle.cv_query_form.specs.Rules.{AreAsked};
 ghost use Rattle.cv_scope_rules.specs.Phrases.{Inputs, is_phrase};
 ghost use Rattle.cv_typing_rules.specs.Parts.{IsTypedFile};
 ghost use Rattle.cv_typing_runs.specs.Games.{HasConstants, HasDeclaredSorts};
-ghost use Rattle.cv_scenes.specs.Scenes.{KnowsQueries, Scene};
-ghost use Rattle.cv_derivations_under.specs.Holding.{IsReady};
-ghost use Rattle.cv_derivations_under.specs.Soundness.{DerivationsHold, DerivedBodiesAreUnreached};
-ghost use Rattle.cv_derivations_under.specs.Steps.{AreSound, IsSound};
+ghost use Rattle.cv_scene.specs.Scenes.{KnowsQueries, Scene};
+ghost use Rattle.cv_derive_laws.specs.stores.Holding.{IsReady};
+ghost use Rattle.cv_derive_laws.specs.stores.Soundness.{DerivationsHold, DerivedBodiesAreUnreached};
+ghost use Rattle.cv_derive_laws.specs.stores.Steps.{AreSound, IsSound};
 ghost use Rattle.cv_steps.specs.Steps.{Cost, Step};
 ghost use Rattle.cv_steps.specs.Judgements.{Accepted, judgement_of};
 ghost use Rattle.cv_steps.specs.Chances.{KeepsChances};
@@ -28,7 +31,7 @@ ghost use Rattle.cv_steps.specs.Sequences.{IsSequence, Passage, scene};
 ghost use Rattle.cv_steps.specs.Asked.{AskForNoIndex};
 ghost use Rattle.cv_sequences.specs.Chains.{HaveTapedPrices, IsChain, IsFileOf, Link, Prices, costs_behind, names_below, summed};
 ghost use Rattle.cv_sequences.specs.Sequences.{added_up, costs_of};
-ghost use Rattle.cv_meaning_values.specs.Values.{HasValuesIn};
+ghost use Rattle.cv_meaning_chances.specs.values.Values.{HasValuesIn};
 
 /// A sound step that is accepted in a game leads to one with all that the laws of runs ask for, and keeps chances, where
 /// derivations are sound.

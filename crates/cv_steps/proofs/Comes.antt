@@ -10,9 +10,10 @@ use Rattle.cv_meaning_runs.specs.Replacement.{Process, IsReplaced, in_first, bef
 use Rattle.cv_meaning.specs.Replaced.{is_output}
 use Rattle.cv_meaning_runs.proofs.Places.{replaced_where}
 use Rattle.cv_scope_rules.specs.Phrases.{Phrase, Nil, Inputs, Body, Then, Else, Branches, Arm, Pattern, Message, Binders, Cells, Terms, Term, is_phrase}
-use Rattle.cv_scenes.specs.Scenes.{or_empty, part_at}
+use Rattle.cv_scene.specs.Scenes.{or_empty, part_at}
 use Rattle.cv_steps.specs.Changes.{change_at}
 use Rattle.cv_steps.proofs.Flat.{is_flat, flat_output, guarded_of, guards_of}
+use Rattle.cv_lists.proofs.Numbers.{below_or_not}
 
 subtree_second : (h : Head) (a b : Tree) (p q : ℕ) → weight h + size a + q ≡ p → subtree (Node h a b) p ≡ subtree b q
 unfolding subtree
@@ -29,13 +30,6 @@ subtree_first h a b p q e l =
 subtree_here : (h : Head) (a b : Tree) (p : ℕ) → p < weight h → subtree (Node h a b) p ≡ Some (Node h a b)
 unfolding subtree
 subtree_here h a b p l = ap (λ v. cond v (Some (Node h a b)) (cond (nat_lt p (weight h + size a)) (subtree a (p - weight h)) (subtree b (p - (weight h + size a))))) (lt-ltb p (weight h) l)
-
-below_or_not : (m n : ℕ) → (m < n) ⊎ (n ≤ m)
-below_or_not m n = go (ltb m n) refl
-  where
-    go : (v : Bool) → ltb m n ≡ v → (m < n) ⊎ (n ≤ m)
-    go true e = inl (ltb-true m n e)
-    go false e = inr (ltb-false m n e)
 
 module _ (old : Tree) (o : is_output old ≡ true) where
   abbrev StandsAt : Tree → ℕ → Type 0

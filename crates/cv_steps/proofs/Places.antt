@@ -8,7 +8,7 @@ use Rattle.cv_syntax_trees.specs.Tree.{Tree, Empty, Node, size, subtree}
 use Rattle.cv_meaning_runs.specs.Replacement.{before_body}
 use Rattle.cv_meaning.specs.Replaced.{replaced}
 use Rattle.cv_scope_rules.specs.Phrases.{Phrase, Nil, Body, Branches, Arm, Guards, Guarded, Pattern, Indices, Binders, Cells, OneCell, Term}
-use Rattle.cv_scenes.specs.Scenes.{or_empty, part_at}
+use Rattle.cv_scene.specs.Scenes.{or_empty, part_at}
 use Rattle.cv_steps.specs.Rewriting.{has_term_at, is_term, parts_of}
 
 -- at the node itself, or in one of its children

@@ -5,12 +5,12 @@ use Rattle.cv_syntax_trees.specs.declared.head.Head.{Head}
 use Rattle.cv_syntax_trees.specs.declared.head.Head.TheVariants.{Cons, Find, If}
 use Rattle.cv_syntax_trees.specs.Tree.{Tree, Empty, Node, first_place}
 use Rattle.cv_meaning.specs.Replaced.{is_output}
-use Rattle.cv_derivations.specs.Ends.{ends_with}
-use Rattle.cv_derivations.specs.Targets.{falsity}
-use Rattle.cv_scenes.specs.Scenes.{Scene, part_at}
-use Rattle.cv_scenes.specs.Sights.{sight_at}
-use Rattle.cv_scenes.specs.Derivations.{Derives, first_bad_line}
-use Rattle.cv_scenes.specs.Pruning.{Branch, Else, Part, Pruned, Then, branch_body, find_of, pruned, without_branch}
+use Rattle.cv_derive_rules.specs.Ends.{ends_with}
+use Rattle.cv_derive_rules.specs.Targets.{falsity}
+use Rattle.cv_scene.specs.Scenes.{Scene, part_at}
+use Rattle.cv_scene.specs.Sights.{sight_at}
+use Rattle.cv_scene.specs.Derivations.{Derives, first_bad_line}
+use Rattle.cv_scene.specs.Pruning.{Branch, Else, Part, Pruned, Then, branch_body, find_of, pruned, without_branch}
 use Rattle.cv_steps.specs.Steps.{Cost, Leads, Zero}
 use Rattle.cv_steps.specs.Changes.{change_at}
 use Rattle.cv_steps.specs.Rows.{prune_row, prune_row_by, unless}

@@ -3,11 +3,11 @@ use Rattle.std.proofs.Common.{◌≡◌, ℕ, true}
 use Rattle.std.proofs.lemmas.Bool.{and_parts}
 use Rattle.cv_syntax_trees.specs.Tree.{Tree}
 use Rattle.cv_scope_rules.specs.Phrases.{Inputs}
-use Rattle.cv_derivations.specs.Ends.{ends_with}
-use Rattle.cv_derivations.specs.Targets.{equality}
-use Rattle.cv_scenes.specs.Scenes.{Scene, part_at}
-use Rattle.cv_scenes.specs.Sights.{sight_at}
-use Rattle.cv_scenes.specs.Derivations.{Derives, first_bad_line}
+use Rattle.cv_derive_rules.specs.Ends.{ends_with}
+use Rattle.cv_derive_rules.specs.Targets.{equality}
+use Rattle.cv_scene.specs.Scenes.{Scene, part_at}
+use Rattle.cv_scene.specs.Sights.{sight_at}
+use Rattle.cv_scene.specs.Derivations.{Derives, first_bad_line}
 use Rattle.cv_steps.specs.Steps.{Cost, Leads, Zero}
 use Rattle.cv_steps.specs.Changes.{change_at}
 use Rattle.cv_steps.specs.Rewriting.{has_sort_of, has_term_at, is_rewritable_at, sort_at}

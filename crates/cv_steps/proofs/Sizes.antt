@@ -11,11 +11,12 @@ use Rattle.cv_meaning.specs.Tapes.{Cell, Coin, Find_at, Key_at, Made_at, New_at,
 use Rattle.cv_meaning.specs.Interpretation.{Interpretation, Setting, setting_of}
 use Rattle.cv_meaning.specs.Runs.{Adversary, Events, Mode, Random, Real}
 use Rattle.cv_meaning.specs.Cells.{at_each_copy, bounds_under, cells_at, coin_cells, if_tested, test_cells, test_cells_at, tuples_below}
-use Rattle.cv_meaning_laws.proofs.Lists.{each_append, each_flat_map}
-use Rattle.cv_meaning_adequacy.specs.Typed.{AreVariables, BelowParameter, Context, IsTyped, IsVariable, OfType, Scope, Sort, Variable}
+use Rattle.cv_meaning_laws.proofs.Lists.{each_flat_map}
+use Rattle.cv_meaning_laws.specs.adequacy.Typed.{AreVariables, BelowParameter, Context, IsTyped, IsVariable, OfType, Scope, Sort, Variable}
 use Rattle.cv_meaning.specs.Still.{head_is_still, is_still}
 use Rattle.cv_scope_rules.specs.Phrases.{Phrase, Nil, Inputs, Body, Then, Else, Branches, Arm, Guards, Guarded, Pattern, Message, Indices, Binders, Cells, Terms, Term, is_phrase}
 use Rattle.cv_steps.proofs.Flat.{nil_still, term_still, terms_still}
+use Rattle.cv_lists.proofs.Each.{AllByRecursion_append}
 
 -- the name of a sort: of a type, or of a parameter
 abbrev sort_name : Sort → ℕ
@@ -168,8 +169,8 @@ module _ (c : Context) (ds : List Declaration) (i : Interpretation) (m : Mode) (
   unfolding at_each_copy
   copies_sizes give k bounds Empty n = tt
   copies_sizes give k bounds (Node h x y) n =
-      each_append IsSized _ _ (each_flat_map IsSized (give h) (tuples_below bounds) (λ u. k h u n.0))
-      (each_append IsSized _ _ (copies_sizes give k (bounds_under g bounds h) x n.1) (copies_sizes give k (bounds_under g bounds h) y n.2))
+      AllByRecursion_append IsSized _ _ (each_flat_map IsSized (give h) (tuples_below bounds) (λ u. k h u n.0))
+      (AllByRecursion_append IsSized _ _ (copies_sizes give k (bounds_under g bounds h) x n.1) (copies_sizes give k (bounds_under g bounds h) y n.2))
 
   coins_sizes : (k : ℕ) (ns : List ℕ) → ((j : ℕ) → coin_size a.coins (j + k) ≡ coin_size ns j) → AllByRecursion IsSized (coin_cells k ns)
   coins_sizes k [] e = tt
@@ -190,5 +191,5 @@ module _ (c : Context) (ds : List Declaration) (i : Interpretation) (m : Mode) (
 
   pub all_sizes : (game : Tree) → NamesSorts c game → AllByRecursion IsSized (all_cells game)
   all_sizes game n =
-      each_append IsSized _ _ (copies_sizes (cells_at g) node_sizes [] game n)
-      (each_append IsSized _ _ (tests_sizes m refl game n) (coins_sizes 0 a.coins (λ j. ap (coin_size a.coins) (let z : j + 0 ≡ j = omega arith in z))))
+      AllByRecursion_append IsSized _ _ (copies_sizes (cells_at g) node_sizes [] game n)
+      (AllByRecursion_append IsSized _ _ (tests_sizes m refl game n) (coins_sizes 0 a.coins (λ j. ap (coin_size a.coins) (let z : j + 0 ≡ j = omega arith in z))))

@@ -22,7 +22,7 @@ head_testable x σ (In c) (Node (Repl i n) d g) b e f = absurd (both_ways false 
 head_testable x σ (In c) a b e f = refl
 head_testable x σ h a b e f = refl
 
-testable : (x : ℕ) (σ : Phrase) (t : Tree) → is_phrase σ t ≡ true → is_testable x t ≡ true
+pub testable : (x : ℕ) (σ : Phrase) (t : Tree) → is_phrase σ t ≡ true → is_testable x t ≡ true
 testable x σ Empty e = refl
 testable x σ (Node h a b) e =
     let o = open_phrase σ h a b e in

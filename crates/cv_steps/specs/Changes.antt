@@ -5,8 +5,8 @@ use Rattle.cv_syntax_trees.specs.Tree.{Tree, Empty, Node}
 use Rattle.cv_meaning_runs.specs.Replacement.{if_tree}
 use Rattle.cv_meaning.specs.Replaced.{replaced}
 use Rattle.cv_meaning.specs.Still.{defines}
-use Rattle.cv_scenes.specs.Pruning.{Part, Pruned, pruned}
-use Rattle.cv_scenes.specs.Scenes.{part_at}
+use Rattle.cv_scene.specs.Pruning.{Part, Pruned, pruned}
+use Rattle.cv_scene.specs.Scenes.{part_at}
 
 -- the tree with what stands at a place changed
 abbrev pub change_at : Tree → ℕ → (Tree → Tree) → Tree

@@ -2,9 +2,9 @@
 -- is a derivation. This profile's own.
 use Rattle.std.specs.Prelude.{ℕ, ◌&&◌, ◌||◌}
 use Rattle.cv_syntax_trees.specs.Tree.{Tree}
-use Rattle.cv_scenes.specs.Pruning.{Part}
-use Rattle.cv_scenes.specs.Scenes.{has_place, is_type, names}
-use Rattle.cv_scenes.specs.Terms.{is_term_at}
+use Rattle.cv_scene.specs.Pruning.{Part}
+use Rattle.cv_scene.specs.Scenes.{has_place, is_type, names}
+use Rattle.cv_scene.specs.Terms.{is_term_at}
 use Rattle.cv_steps.specs.Rows.{let_row, new_row, prune_row, rename_row, rewrite_row, split_row, unlet_row, unnew_row}
 use Rattle.cv_steps.specs.Steps.{Step}
 

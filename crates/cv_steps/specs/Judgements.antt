@@ -1,9 +1,9 @@
 -- What is said of a step in a game: its conditions in their order, and the limits of the next game. This profile's own.
 use Rattle.std.specs.Prelude.{ℕ, nat_lt, if◌then◌else◌}
 use Rattle.cv_syntax_trees.specs.Tree.{Tree, size, depth}
-use Rattle.cv_syntax_limits.specs.Limits.{most_depth, most_nodes}
-use Rattle.cv_scenes.specs.Scenes.{Scene}
-use Rattle.cv_scenes.specs.Terms.{is_game}
+use Rattle.cv_syntax.specs.limits.Limits.{most_depth, most_nodes}
+use Rattle.cv_scene.specs.Scenes.{Scene}
+use Rattle.cv_scene.specs.Terms.{is_game}
 use Rattle.cv_steps.specs.Steps.{Cost, Fails, Leads, Row, Step}
 
 pub data Judgement : Type 0 where

@@ -8,8 +8,8 @@ use Rattle.cv_scope_rules.specs.Phrases.{Phrase, Inputs, Nil, Term, parts}
 use Rattle.cv_directory_sorts.specs.declared.sort.Sort.{Sort}
 use Rattle.cv_directory_sorts.specs.declared.sort.Sort.TheVariants.{OfType}
 use Rattle.cv_typing_rules.specs.Signature.{sort_of}
-use Rattle.cv_scenes.specs.Scenes.{Scene, part_at}
-use Rattle.cv_scenes.specs.Terms.{above_at, is_sort, signature_in}
+use Rattle.cv_scene.specs.Scenes.{Scene, part_at}
+use Rattle.cv_scene.specs.Terms.{above_at, is_sort, signature_in}
 
 abbrev pub is_term : Phrase → Bool
 is_term Term = true

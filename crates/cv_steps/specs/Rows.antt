@@ -1,18 +1,18 @@
 -- The rows of steps: the first condition that fails, with its place, or the next game and the cost. This profile's own.
 use Rattle.std.specs.Prelude.{ℕ, Bool, not, ◌||◌, if◌then◌else◌, Option, Some, None}
 use Rattle.cv_syntax_trees.specs.Tree.{Tree}
-use Rattle.cv_derivations.specs.Ends.{ends_with}
-use Rattle.cv_scenes.specs.Scenes.{Scene, is_output_at, is_new, is_queried, is_chosen, first_reading, part_at}
-use Rattle.cv_scenes.specs.Sights.{sight_at}
-use Rattle.cv_scenes.specs.Derivations.{first_bad_line}
-use Rattle.cv_scenes.specs.Pruning.{Part, Pruned, pruned}
+use Rattle.cv_derive_rules.specs.Ends.{ends_with}
+use Rattle.cv_scene.specs.Scenes.{Scene, is_output_at, is_new, is_queried, is_chosen, first_reading, part_at}
+use Rattle.cv_scene.specs.Sights.{sight_at}
+use Rattle.cv_scene.specs.Derivations.{first_bad_line}
+use Rattle.cv_scene.specs.Pruning.{Part, Pruned, pruned}
 use Rattle.cv_steps.specs.Steps.{Row, Fails, Leads, Zero}
-use Rattle.cv_derivations.specs.Targets.{equality, falsity}
+use Rattle.cv_derive_rules.specs.Targets.{equality, falsity}
 use Rattle.cv_steps.specs.Rewriting.{has_sort_of, is_rewritable_at, sort_at}
 use Rattle.cv_steps.specs.Changes.{change_at, split_process, after_let, after_new, without, only}
 use Rattle.cv_steps.specs.Renaming.{renamed}
 use Rattle.cv_steps.specs.Unletting.{Assignment, is_listed, only_assignment, without_assignment}
-use Rattle.cv_scenes.specs.Terms.{has_site, is_bool_at}
+use Rattle.cv_scene.specs.Terms.{has_site, is_bool_at}
 
 -- the rest of a row, unless this condition fails
 abbrev pub unless : Bool → (condition place : ℕ) → Row → Row

@@ -2,7 +2,7 @@
 use Rattle.std.specs.Prelude.{◌≡◌, ℕ, Bool, List, [], ◌∷◌, ◌++◌}
 use Rattle.cv_syntax_trees.specs.Declarations.{Declaration}
 use Rattle.cv_syntax_trees.specs.Tree.{Tree}
-use Rattle.cv_scenes.specs.Scenes.{Scene}
+use Rattle.cv_scene.specs.Scenes.{Scene}
 use Rattle.cv_steps.specs.Steps.{Step, Cost}
 use Rattle.cv_steps.specs.Judgements.{Accepted, judgement_of}
 

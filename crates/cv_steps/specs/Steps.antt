@@ -1,7 +1,7 @@
 -- Steps of proofs: what a step leads to in a game, or which of its conditions fails there. This profile's own.
 use Rattle.std.specs.Prelude.{ℕ, Bool}
 use Rattle.cv_syntax_trees.specs.Tree.{Tree}
-use Rattle.cv_scenes.specs.Scenes.{Scene}
+use Rattle.cv_scene.specs.Scenes.{Scene}
 
 -- what a step may change the chance of an experiment by: each so far by nothing
 pub data Cost : Type 0 where

@@ -5,9 +5,9 @@ use Rattle.cv_syntax_trees.specs.declared.head.Head.TheVariants.{Branch, Let}
 use Rattle.cv_syntax_trees.specs.Tree.{Tree, Empty, Node}
 use Rattle.cv_scope_rules.specs.Behind.{sites_of}
 use Rattle.cv_scope_rules.specs.Context.{Context}
-use Rattle.cv_scenes.specs.Instances.{is_read_of}
-use Rattle.cv_scenes.specs.Scenes.{head_reads, part_at}
-use Rattle.cv_scenes.specs.Sights.{at_cell, variable_of}
+use Rattle.cv_scene.specs.Instances.{is_read_of}
+use Rattle.cv_scene.specs.Scenes.{head_reads, part_at}
+use Rattle.cv_scene.specs.Sights.{at_cell, variable_of}
 use Rattle.cv_steps.specs.Changes.{only, without}
 
 -- the term of a `let`

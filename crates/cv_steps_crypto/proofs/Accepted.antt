@@ -2,8 +2,8 @@
 use Rattle.std.proofs.Common.{◌≡◌, ℕ, Bool, true, false, cond, nat_lt, List, Option, Some, None, refl, subst}
 use Rattle.cv_syntax_trees.specs.Declarations.{Declaration}
 use Rattle.cv_syntax_trees.specs.Tree.{Tree, depth, size}
-use Rattle.cv_scenes.specs.Scenes.{Scene}
-use Rattle.cv_syntax_limits.specs.Limits.{most_depth, most_nodes, told}
+use Rattle.cv_scene.specs.Scenes.{Scene}
+use Rattle.cv_syntax.specs.limits.Limits.{most_depth, most_nodes, told}
 use Rattle.cv_steps_crypto.specs.Conditions.{Failure, equivalence_of, failure_of}
 use Rattle.cv_steps_crypto.specs.Steps.{Accepted, IsNextGame, IsOutcome, IsOutcomeBy, Refused, TooDeep, TooLarge, is_next, outcome_with, reduction_of}
 

@@ -7,14 +7,14 @@ use Rattle.cv_syntax_trees.specs.declared.head.Head.TheVariants.{Binder, Branch,
 use Rattle.cv_syntax_trees.specs.Declarations.{Declaration, Named}
 use Rattle.cv_syntax_trees.specs.Tree.{Tree, Empty, Node, second}
 use Rattle.cv_meaning_laws.proofs.Listed.{Has}
-use Rattle.cv_meaning_adequacy.specs.Typed.{IsDeclared}
-use Rattle.cv_meaning_adequacy.specs.Typed as meaning
-use Rattle.cv_meaning_adequacy.proofs.Lists.{has_contains}
+use Rattle.cv_meaning_laws.specs.adequacy.Typed.{IsDeclared}
+use Rattle.cv_meaning_laws.specs.adequacy.Typed as meaning
+use Rattle.cv_meaning_laws.proofs.adequacy.Lists.{has_contains}
 use Rattle.cv_directory_sorts.specs.declared.sort.Sort.{Sort}
 use Rattle.cv_directory_sorts.specs.declared.sort.Sort.TheVariants.{BelowParameter, OfType}
 use Rattle.cv_typing_rules.specs.Signature.{declaration_of, is_of}
 use Rattle.cv_typing_runs.specs.Games.{AreDeclared, HasDeclaredSorts, NamesDeclared, sort_of_meaning}
-use Rattle.cv_scenes.specs.Scenes.{is_type_by}
+use Rattle.cv_scene.specs.Scenes.{is_type_by}
 use Rattle.cv_steps_crypto.specs.Sorts.{are_declared, has_declared_sorts, is_parameter, is_parameter_by, is_type, names_declared}
 
 -- the declaration that is found by a name is one of the list, and of this name

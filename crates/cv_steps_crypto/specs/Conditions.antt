@@ -4,9 +4,9 @@ use Rattle.std.specs.Prelude.{ℕ, ◌||◌, if◌then◌else◌, Option, Some, 
 use Rattle.cv_syntax_trees.specs.Declarations.{Declaration, Equiv}
 use Rattle.cv_syntax_trees.specs.Tree.{Tree}
 use Rattle.cv_typing_rules.specs.Signature.{declaration_of}
-use Rattle.cv_scenes.specs.Contexts.{matching_of}
-use Rattle.cv_scenes.specs.Refusals.{Refusal, NotOneSite, Use, InCondition, CoinUse, KeyInArgument, first_refusal}
-use Rattle.cv_scenes.specs.Scenes.{Scene, names}
+use Rattle.cv_scene.specs.Contexts.{matching_of}
+use Rattle.cv_scene.specs.Refusals.{Refusal, NotOneSite, Use, InCondition, CoinUse, KeyInArgument, first_refusal}
+use Rattle.cv_scene.specs.Scenes.{Scene, names}
 
 -- a condition that fails, with its place; 0 where it has none
 pub record Failure : Type 0 where

@@ -1,3 +1,4 @@
 pub mod Conditions
 pub mod Sorts
 pub mod Steps
+pub mod reductions

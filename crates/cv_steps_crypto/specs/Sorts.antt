@@ -6,7 +6,7 @@ use Rattle.cv_syntax_trees.specs.declared.head.Head.TheVariants.{Binder, Branch,
 use Rattle.cv_syntax_trees.specs.Declarations.{Declaration, Named}
 use Rattle.cv_syntax_trees.specs.Tree.{Tree, Empty, Node, second}
 use Rattle.cv_typing_rules.specs.Signature.{declaration_of}
-use Rattle.cv_scenes.specs.Scenes.{is_type_by}
+use Rattle.cv_scene.specs.Scenes.{is_type_by}
 
 -- `bool` is the type 0
 abbrev pub is_type : List Declaration → ℕ → Bool

@@ -6,12 +6,12 @@ use Rattle.cv_syntax_trees.specs.Declarations.{Declaration}
 use Rattle.cv_syntax_trees.specs.Tree.{Tree, depth, size}
 use Rattle.cv_meaning.specs.Queries.{queries_in}
 use Rattle.cv_query_form.specs.Tests.{first_refused}
-use Rattle.cv_scenes.specs.Reductions.{Reduction}
-use Rattle.cv_scenes.specs.Scenes.{Scene}
-use Rattle.cv_scenes.specs.Terms.{is_game}
-use Rattle.cv_syntax_limits.specs.Limits.{most_depth, most_nodes, told}
-use Rattle.cv_context_answers.specs.Answers.{answer_above}
-use Rattle.cv_context_answers.specs.Drawn.{AreDrawnFor, next_game}
+use Rattle.cv_scene.specs.Reductions.{Reduction}
+use Rattle.cv_scene.specs.Scenes.{Scene}
+use Rattle.cv_scene.specs.Terms.{is_game}
+use Rattle.cv_syntax.specs.limits.Limits.{most_depth, most_nodes, told}
+use Rattle.cv_match_laws.specs.answers.Answers.{answer_above}
+use Rattle.cv_match_laws.specs.answers.Drawn.{AreDrawnFor, next_game}
 use Rattle.cv_steps_crypto.specs.Conditions.{Failure, equivalence_of, failure_of}
 use Rattle.cv_steps_crypto.specs.Sorts.{has_declared_sorts}
 

@@ -1,12 +1,14 @@
 // The cryptographic step: its conditions, and the games that it leads to.
 #![tactic(auto)]
 
+pub mod reductions;
+
 ghost use Rattle.std.specs.Prelude.{◌≡◌, ℕ, List, [], None, Option, Some, false, true};
 ghost use Rattle.cv_syntax_trees.specs.Declarations.{Declaration};
 ghost use Rattle.cv_syntax_trees.specs.Tree.{Tree};
 ghost use Rattle.cv_typing_runs.specs.Games.{HasDeclaredSorts};
 ghost use Rattle.cv_typing_runs.specs.Worked.{declared, found_game};
-ghost use Rattle.cv_scenes.specs.Scenes.{Scene};
+ghost use Rattle.cv_scene.specs.Scenes.{Scene};
 ghost use Rattle.cv_steps_crypto.specs.Conditions.{equivalence_of, failure_of};
 ghost use Rattle.cv_steps_crypto.specs.Sorts.{has_declared_sorts};
 ghost use Rattle.cv_steps_crypto.specs.Steps.{Accepted, IsNextGame, IsOutcome, is_next, reduction_of};

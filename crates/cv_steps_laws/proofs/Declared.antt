@@ -5,9 +5,9 @@ use Rattle.cv_syntax_trees.specs.Tree.{Tree}
 use Rattle.cv_meaning_runs.specs.Replacement.{Process}
 use Rattle.cv_scope_rules.specs.Phrases.{Inputs, is_phrase}
 use Rattle.cv_typing_runs.specs.Games.{HasDeclaredSorts}
-use Rattle.cv_scenes.specs.Pruning.{Part}
-use Rattle.cv_scenes.specs.Scenes.{Scene, is_chosen, is_new, is_output_at, is_queried, first_reading, has_place, is_type, part_at}
-use Rattle.cv_scenes.specs.Terms.{is_bool_at}
+use Rattle.cv_scene.specs.Pruning.{Part}
+use Rattle.cv_scene.specs.Scenes.{Scene, is_chosen, is_new, is_output_at, is_queried, first_reading, has_place, is_type, part_at}
+use Rattle.cv_scene.specs.Terms.{is_bool_at}
 use Rattle.cv_steps.specs.Changes.{change_at, split_process, after_let, after_new, without, only}
 use Rattle.cv_steps.specs.Elementary.{let_step, new_step, prune_step, rename_step, rewrite_step, split_step, unlet_step, unnew_step}
 use Rattle.cv_steps.specs.Steps.{Zero}

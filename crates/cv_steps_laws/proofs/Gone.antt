@@ -8,9 +8,9 @@ use Rattle.cv_meaning_runs.specs.Replacement as runs
 use Rattle.cv_meaning_runs.specs.Replacement.{Part, Process}
 use Rattle.cv_meaning.specs.Replaced.{is_output}
 use Rattle.cv_scope_rules.specs.Phrases.{Phrase, Nil, Inputs, Body, Then, Else, Branches, Arm, Pattern, Message, Binders, Cells, Terms, Term, is_phrase}
-use Rattle.cv_meaning_unread.specs.Dropping.{reads_none, IsDropped, same, gone, kept, in_parallel, in_list, in_find, in_branch}
+use Rattle.cv_meaning_chances.specs.unread.Dropping.{reads_none, IsDropped, same, gone, kept, in_parallel, in_list, in_find, in_branch}
 use Rattle.cv_meaning.specs.Still.{defines}
-use Rattle.cv_meaning_unread.proofs.Unread.{first_reads, second_reads}
+use Rattle.cv_meaning_chances.proofs.unread.Unread.{first_reads, second_reads}
 use Rattle.cv_steps.specs.Changes.{without}
 use Rattle.cv_steps.proofs.Flat.{guarded_of, guards_of, flat_dropped, term_still, nil_still}
 

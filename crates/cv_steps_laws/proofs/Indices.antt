@@ -9,11 +9,11 @@ use Rattle.cv_meaning.specs.Replaced.{replaced}
 use Rattle.cv_meaning.specs.Still.{defines}
 use Rattle.cv_directory_sorts.specs.Sites.{first_index, first_of, index_here}
 use Rattle.cv_scope_rules.specs.Phrases.{Phrase, Inputs, Term, parts, is_phrase}
-use Rattle.cv_scenes.specs.Pruning.{Part, Pruned, pruned}
-use Rattle.cv_scenes.specs.Scenes.{Scene, head_reads, or_empty, part_at}
-use Rattle.cv_scenes.specs.Terms.{has_index}
-use Rattle.cv_derivations.specs.Given.{given_for, or_node, term_for, with_given}
-use Rattle.cv_scenes.specs.Sights.{at_cell}
+use Rattle.cv_scene.specs.Pruning.{Part, Pruned, pruned}
+use Rattle.cv_scene.specs.Scenes.{Scene, head_reads, or_empty, part_at}
+use Rattle.cv_scene.specs.Terms.{has_index}
+use Rattle.cv_derive_rules.specs.Given.{given_for, or_node, term_for, with_given}
+use Rattle.cv_scene.specs.Sights.{at_cell}
 use Rattle.cv_steps.specs.Changes.{change_at, only, without}
 use Rattle.cv_steps.specs.Renaming.{renamed, renamed_head}
 use Rattle.cv_steps.specs.Unletting.{Assignment, assigned_in, only_assignment, with_term, without_assignment}

@@ -8,8 +8,8 @@ use Rattle.cv_syntax_trees.specs.Tree.{Tree, Empty, Node, size, depth}
 use Rattle.cv_meaning.specs.Interpretation.{is_constant_of, setting_of}
 use Rattle.cv_meaning_runs.specs.Replacement.{Process}
 use Rattle.cv_meaning.specs.Still.{defines, is_still}
-use Rattle.cv_meaning_unread.proofs.Chances.{chance_without, split_chance}
-use Rattle.cv_meaning_unread.proofs.PutIn.{put_in}
+use Rattle.cv_meaning_chances.proofs.unread.Chances.{chance_without, split_chance}
+use Rattle.cv_meaning_chances.proofs.unread.PutIn.{put_in}
 use Rattle.cv_typing_rules.specs.Parts.{IsTypedGame, first_in, game_part}
 use Rattle.cv_typing_rules.proofs.First.{game_alone, parts_typed_where_none}
 use Rattle.cv_scope_rules.specs.Scope.{names_of}
@@ -18,13 +18,13 @@ use Rattle.cv_scope_rules.proofs.First.{scoped_where_none}
 use Rattle.cv_scope_rules.specs.Phrases.{Inputs, Term, IsWellFormed, is_phrase, binds_none}
 use Rattle.cv_typing_runs.specs.Games.{HasConstants, HasKnownNames, HasNamedFunctionsAndCells}
 use Rattle.cv_typing_runs.proofs.Games.{known}
-use Rattle.cv_scenes.specs.Scenes.{Scene, KnowsQueries, is_chosen, is_new, is_output_at, is_queried, first_reading, names, part_at}
+use Rattle.cv_scene.specs.Scenes.{Scene, KnowsQueries, is_chosen, is_new, is_output_at, is_queried, first_reading, names, part_at}
 use Rattle.cv_steps.specs.Steps.{Cost, Fails, Leads, Row, Step, Zero}
 use Rattle.cv_steps.specs.Changes.{change_at, split_process, without, only}
-use Rattle.cv_scenes.specs.Terms.{is_term_at, is_bool_at, is_there, names_anywhere, has_site, has_index, is_game}
+use Rattle.cv_scene.specs.Terms.{is_term_at, is_bool_at, is_there, names_anywhere, has_site, has_index, is_game}
 use Rattle.cv_steps.specs.Rows.{split_row, let_row, new_row, unnew_row}
 use Rattle.cv_steps.specs.Judgements.{Refused, TooLarge, TooDeep, Accepted, judgement_of_row, judgement_of}
-use Rattle.cv_syntax_limits.specs.Limits.{most_depth, most_nodes}
+use Rattle.cv_syntax.specs.limits.Limits.{most_depth, most_nodes}
 use Rattle.cv_steps.specs.Chances.{KeepsChances}
 use Rattle.cv_steps.proofs.Flat.{term_still}
 use Rattle.cv_steps.proofs.Rows.{leads_same, unless_leads, unless_at_leads}
@@ -33,6 +33,7 @@ use Rattle.cv_steps_laws.proofs.Gone.{dropped_game}
 use Rattle.cv_steps.proofs.Comes.{placed}
 use Rattle.cv_steps_laws.proofs.Sorts.{there_named}
 use Rattle.cv_steps_laws.proofs.Unnamed.{unnamed_unread, unnamed_undrawn, unlisted_unread, dropped_undrawn, dropped_phrase, asked_untested}
+use Rattle.cv_lists.proofs.Options.{none_from_not_some}
 
 -- steps
 
@@ -116,10 +117,6 @@ term_phrase s p m e = (and_parts (is_phrase Term m) _ e).0
 
 -- next games
 
-pub none_of : {A : Type 0} (o : Option A) → not (is_some o) ≡ true → o ≡ None
-none_of None e = refl
-none_of (Some a) e = absurd (both_ways false refl e)
-
 pub record IsGame (ds : List Declaration) (game : Tree) : Type 0 where
   pub formed : IsWellFormed ds game
   pub typed : IsTypedGame ds game
@@ -132,8 +129,8 @@ game_formed ds game e =
     let r = and_parts (is_there (names_anywhere ds game) Inputs game) _ q.1 in
     let t = and_parts (not (is_some (first_in ds 0 (game_part game ∷ [])))) _ r.1 in
     record {
-      formed = record { scoped = scoped_where_none (names_of ds game) at_root game (none_of _ t.1); phrase = p.0; constants = q.0 };
-      typed = game_alone ds (game_part game) (parts_typed_where_none ds 0 (game_part game ∷ []) (none_of _ t.0));
+      formed = record { scoped = scoped_where_none (names_of ds game) at_root game (none_from_not_some _ t.1); phrase = p.0; constants = q.0 };
+      typed = game_alone ds (game_part game) (parts_typed_where_none ds 0 (game_part game ∷ []) (none_from_not_some _ t.0));
       named = there_named ds (has_site game) (has_index game) Inputs game r.0;
     }
 

@@ -9,8 +9,8 @@ use Rattle.cv_directory_sorts.specs.declared.sort.Sort.{Sort}
 use Rattle.cv_directory_sorts.specs.declared.sort.Sort.TheVariants.{BelowParameter, OfType}
 use Rattle.cv_directory_sorts.specs.Sites.{at_parameters, bound_sort, first_of, first_site, parameters_below, site_here}
 use Rattle.cv_typing_runs.specs.Games.{AreDeclared, HasDeclaredSorts, NamesDeclared}
-use Rattle.cv_scenes.specs.Scenes.{Scene, is_new, is_queried}
-use Rattle.cv_scenes.specs.Terms.{has_site}
+use Rattle.cv_scene.specs.Scenes.{Scene, is_new, is_queried}
+use Rattle.cv_scene.specs.Terms.{has_site}
 use Rattle.cv_steps.specs.Steps.{Cost, Leads, Zero}
 use Rattle.cv_steps.specs.Renaming.{renamed, renamed_head, renamed_name}
 use Rattle.cv_steps.specs.Rows.{rename_row}

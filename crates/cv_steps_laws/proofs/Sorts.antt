@@ -8,26 +8,27 @@ use Rattle.cv_syntax_trees.specs.declared.head.Head.TheVariants.{In, Branch, Lea
 use Rattle.cv_syntax_trees.specs.Declarations.{Declaration, Named, Equation, Equiv, Query}
 use Rattle.cv_syntax_trees.specs.Head.{weight}
 use Rattle.cv_syntax_trees.specs.Tree.{Tree, Empty, Node, size}
-use Rattle.cv_meaning_adequacy.specs.Typed as meaning
-use Rattle.cv_meaning_adequacy.specs.Typed.{IsDeclared}
+use Rattle.cv_meaning_laws.specs.adequacy.Typed as meaning
+use Rattle.cv_meaning_laws.specs.adequacy.Typed.{IsDeclared}
 use Rattle.cv_meaning_runs.specs.Replacement as at
 use Rattle.cv_meaning_runs.specs.Replacement.{Part, Process, IsReplaced}
 use Rattle.cv_meaning.specs.Replaced.{replaced}
-use Rattle.cv_meaning_unread.specs.Dropping.{IsDropped, same, gone, kept, in_parallel, in_list, in_find, in_branch, in_later_branch}
+use Rattle.cv_meaning_chances.specs.unread.Dropping.{IsDropped, same, gone, kept, in_parallel, in_list, in_find, in_branch, in_later_branch}
 use Rattle.cv_scope_rules.specs.Context.{first_position, second_position}
 use Rattle.cv_scope_rules.specs.Phrases.{Phrase, Inputs, Arm, Body, Guards, Cells, OneCell, Term, parts, oracle_parts, both_are, is_phrase}
 use Rattle.cv_scope_runs.proofs.Rows.{position_of, placed}
 use Rattle.cv_typing_rules.specs.Signature.{function_in, declaration_of}
 use Rattle.cv_typing_runs.specs.Games.{HasDeclaredSorts, NamesDeclared, is_variable_cell, are_variable_cells, is_named, are_named}
-use Rattle.cv_scenes.specs.Scenes.{is_type_by}
-use Rattle.cv_scenes.specs.Terms.{Names, is_function, head_is_there, is_there}
-use Rattle.cv_scenes.specs.Pruning as pruning
-use Rattle.cv_scenes.specs.Pruning.{Pruned, pruned}
+use Rattle.cv_scene.specs.Scenes.{is_type_by}
+use Rattle.cv_scene.specs.Terms.{Names, is_function, head_is_there, is_there}
+use Rattle.cv_scene.specs.Pruning as pruning
+use Rattle.cv_scene.specs.Pruning.{Pruned, pruned}
 use Rattle.cv_steps.specs.Rewriting.{has_term_at, parts_of}
 use Rattle.cv_steps.proofs.Places.{Found, IsInFirst, IsInSecond, bare, found, here, in_first, in_second, is_bare, nothing_there}
 use Rattle.cv_steps.proofs.Pruned.{left_keeps}
 use Rattle.cv_steps_laws.proofs.Unletted.{IsKept, has_names}
 use Rattle.cv_steps.proofs.Flat.{AreStill, IfStill, is_of_terms, open_phrase, rows_still}
+use Rattle.cv_typing_runs.proofs.Declared.{head_in, tail_in}
 
 -- names
 
@@ -78,12 +79,6 @@ module _ (ds : List Declaration) (variable index : ℕ → Bool) where
           (ap₂ ◌&&◌ (ap (λ v. are_named ds variable v a) w.0 ∙ k q.0 r.0) (ap (λ v. are_named ds variable v b) w.1 ∙ l q.1 r.1))
 
 -- types and parameters
-
-head_in : (ds : List Declaration) (d : Declaration) → Contains (d ∷ ds) d
-head_in ds d = Contains-append_left (d ∷ []) ds d (Contains-push [] d)
-
-tail_in : (ds : List Declaration) (d e : Declaration) → Contains ds e → Contains (d ∷ ds) e
-tail_in ds d e h = Contains-append_right (d ∷ []) ds e h
 
 abbrev IsTypeOf : List Declaration → ℕ → Type 0
 IsTypeOf ds T = (fixed large : Bool) × (arguments : Tree) × (result : Option ℕ) × Contains ds (Named T (class.TypeName fixed large) arguments result)

@@ -8,8 +8,8 @@ use Rattle.cv_meaning.specs.Still.{defines}
 use Rattle.cv_scope_rules.specs.Phrases.{Phrase, Nil, Inputs, Body, Arm, Guards, Pattern, Indices, Binders, OneCell, Term, parts, both_are, is_phrase}
 use Rattle.cv_scope_rules.specs.Behind.{sites_of}
 use Rattle.cv_scope_rules.specs.Context.{Context}
-use Rattle.cv_scenes.specs.Scenes.{Scene, head_reads, is_queried, part_at}
-use Rattle.cv_scenes.specs.Sights.{at_cell}
+use Rattle.cv_scene.specs.Scenes.{Scene, head_reads, is_queried, part_at}
+use Rattle.cv_scene.specs.Sights.{at_cell}
 use Rattle.cv_steps.specs.Steps.{Cost, Leads, Zero}
 use Rattle.cv_steps.specs.Changes.{only, without}
 use Rattle.cv_steps.specs.Unletting.{Assignment, assigned_in, assignment_by, is_listed, only_assignment, with_term, without_assignment}

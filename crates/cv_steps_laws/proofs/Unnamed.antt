@@ -9,17 +9,14 @@ use Rattle.cv_syntax_trees.specs.Tree.{Tree, Empty, Node, head_reads_only, reads
 use Rattle.cv_meaning.specs.Runs.{Events, Real, Random}
 use Rattle.cv_meaning.specs.Experiments.{Experiment, Breaks, Guesses, mode_of}
 use Rattle.cv_meaning.specs.Advantage.{IsAsked, secrecy_query}
-use Rattle.cv_meaning_unread.specs.Dropping.{reads_none, head_draws_none, draws_none, IsUntested}
+use Rattle.cv_meaning_chances.specs.unread.Dropping.{reads_none, head_draws_none, draws_none, IsUntested}
 use Rattle.cv_meaning.specs.Still.{defines}
 use Rattle.cv_meaning.specs.Queries.{queries_in}
 use Rattle.cv_directory_sorts.specs.Sites.{first_of}
 use Rattle.cv_scope_rules.specs.Phrases.{Phrase, Body, Nil, Term, parts, both_are, is_phrase}
-use Rattle.cv_scenes.specs.Scenes.{Scene, head_names, names, head_reads, first_reading, asks_for, is_queried}
+use Rattle.cv_scene.specs.Scenes.{Scene, head_names, names, head_reads, first_reading, asks_for, is_queried}
 use Rattle.cv_steps.specs.Changes.{without, only}
 use Rattle.cv_steps.proofs.Flat.{open_phrase}
-
-not_false : (b : Bool) → b ≡ false → not b ≡ true
-not_false b e = ap not e
 
 -- a name that is nowhere is read nowhere and drawn nowhere
 

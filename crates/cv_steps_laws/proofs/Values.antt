@@ -8,16 +8,16 @@ use Rattle.cv_syntax_trees.specs.Tree.{Tree, Empty, Node, size}
 use Rattle.cv_meaning.specs.Interpretation.{Interpretation, Setting}
 use Rattle.cv_meaning.specs.Runs.{Mode}
 use Rattle.cv_meaning.specs.Satisfies.{Satisfies}
-use Rattle.cv_meaning_adequacy.specs.Typed as meaning
-use Rattle.cv_meaning_adequacy.proofs.Sorted.{some_value}
+use Rattle.cv_meaning_laws.specs.adequacy.Typed as meaning
+use Rattle.cv_meaning_laws.proofs.adequacy.Sorted.{some_value}
 use Rattle.cv_meaning_runs.specs.Replacement as at
 use Rattle.cv_meaning_runs.specs.Replacement.{Part, Process, IsReplaced}
 use Rattle.cv_meaning.specs.Replaced.{replaced}
-use Rattle.cv_meaning_unread.specs.Dropping.{IsDropped, same, gone, kept, in_parallel, in_list, in_find, in_branch, in_later_branch}
+use Rattle.cv_meaning_chances.specs.unread.Dropping.{IsDropped, same, gone, kept, in_parallel, in_list, in_find, in_branch, in_later_branch}
 use Rattle.cv_meaning.specs.Still.{is_still, head_is_still}
-use Rattle.cv_meaning_values.specs.Values.{ConstructHasValues, HasValuesIn, is_tested}
+use Rattle.cv_meaning_chances.specs.values.Values.{ConstructHasValues, HasValuesIn, is_tested}
 use Rattle.cv_scope_rules.specs.Phrases.{Inputs, is_phrase}
-use Rattle.cv_scenes.specs.Scenes.{Scene, is_output_at, is_type, part_at}
+use Rattle.cv_scene.specs.Scenes.{Scene, is_output_at, is_type, part_at}
 use Rattle.cv_steps.specs.Changes.{change_at}
 use Rattle.cv_steps.specs.Renaming.{renamed, renamed_head}
 use Rattle.cv_steps.proofs.Comes.{placed}

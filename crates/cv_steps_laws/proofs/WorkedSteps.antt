@@ -2,7 +2,7 @@
 use Rattle.std.proofs.Common.{◌≡◌, ◌==◌, ◌||◌, Bool, true, false, [], ◌∷◌, None, refl, subst, eqb-true}
 use Rattle.std.proofs.lemmas.Bool.{both_ways}
 use Rattle.std.specs.List.{AllByRecursion}
-use Rattle.cv_first_fault.specs.Walk.{first_fault}
+use Rattle.cv_syntax_faults.specs.Walk.{first_fault}
 use Rattle.cv_syntax_trees.specs.declared.head.Head.TheVariants as head
 use Rattle.cv_syntax_trees.specs.declared.head.Head.TheVariants.{Secret, Stop, Yes}
 use Rattle.cv_syntax_trees.specs.declared.class.Class.TheVariants as class
@@ -20,15 +20,15 @@ use Rattle.cv_scope_rules.specs.Context.{context_at}
 use Rattle.cv_scope_rules.specs.Sites.{sites_from}
 use Rattle.cv_scope_rules.specs.Made.{is_bound}
 use Rattle.cv_scope_rules.specs.Phrases.{is_phrase, binds_none, IsWellFormed}
-use Rattle.cv_scenes.specs.Scenes.{KnowsQueries, names, first_reading, has_news_alone, has_some_new}
+use Rattle.cv_scene.specs.Scenes.{KnowsQueries, names, first_reading, has_news_alone, has_some_new}
 use Rattle.cv_steps.specs.Elementary.{let_step, new_step, rename_step, split_step, unlet_step, unnew_step}
 use Rattle.cv_steps.specs.Steps.{Zero}
-use Rattle.cv_derivations.specs.Given.{with_given}
+use Rattle.cv_derive_rules.specs.Given.{with_given}
 use Rattle.cv_scope_rules.specs.Behind.{sites_in}
 use Rattle.cv_steps.specs.Changes.{without}
 use Rattle.cv_steps.specs.Renaming.{renamed}
 use Rattle.cv_steps.specs.Unletting.{is_listed, with_term}
-use Rattle.cv_scenes.specs.Terms.{is_there, is_game}
+use Rattle.cv_scene.specs.Terms.{is_there, is_game}
 use Rattle.cv_steps.specs.Judgements.{Refused, Accepted, judgement_of}
 use Rattle.cv_steps_laws.specs.Worked.{asked, assigned_copies, assigns, assigns_to, cases, copies, copy_of, draws, draws_more, equal, finds, finds_assigned, finds_copy, more, plain, receives, renames, scene_of, sends, sends_assigned, sends_copy, unlets}
 use Rattle.cv_steps_laws.proofs.Keeping.{formed}

@@ -8,7 +8,7 @@ use Rattle.cv_syntax_trees.specs.Builders.{branch, find, input, leaf, output, re
 use Rattle.cv_syntax_trees.specs.Declarations.{Declaration, Named, Query}
 use Rattle.cv_syntax_trees.specs.Tree.{Tree, Empty, Node, lone}
 use Rattle.cv_meaning_runs.specs.Replacement.{if_tree}
-use Rattle.cv_scenes.specs.Scenes.{Scene}
+use Rattle.cv_scene.specs.Scenes.{Scene}
 use Rattle.cv_steps.specs.Elementary.{let_step, new_step, rename_step, split_step, unlet_step, unnew_step}
 use Rattle.cv_steps.specs.Steps.{Step, Zero}
 use Rattle.cv_steps.specs.Judgements.{Judgement, Refused, Accepted}

@@ -1,17 +1,20 @@
 // Laws of steps: each step that is accepted keeps the chance of every experiment for which a query asks.
 #![tactic(auto)]
 
+pub mod chances;
+pub mod renaming;
+
 ghost use Rattle.std.specs.Prelude.{◌≡◌, ℕ, Bool, true};
 ghost use Rattle.std.specs.List.{AllByRecursion};
 ghost use Rattle.cv_syntax_trees.specs.Tree.{Tree};
 ghost use Rattle.cv_meaning_runs.specs.Replacement.{IsReplaced, Process};
 ghost use Rattle.cv_meaning.specs.Replaced.{is_output};
-ghost use Rattle.cv_meaning_unread.specs.Dropping.{IsDropped, reads_none};
+ghost use Rattle.cv_meaning_chances.specs.unread.Dropping.{IsDropped, reads_none};
 ghost use Rattle.cv_typing_rules.specs.Parts.{IsTypedGame};
 ghost use Rattle.cv_scope_rules.specs.Phrases.{Inputs, IsWellFormed, Term, is_phrase};
 ghost use Rattle.cv_typing_runs.specs.Games.{HasConstants, HasKnownNames, HasNamedFunctionsAndCells};
-ghost use Rattle.cv_scenes.specs.Pruning.{Part};
-ghost use Rattle.cv_scenes.specs.Scenes.{KnowsQueries, Scene, part_at};
+ghost use Rattle.cv_scene.specs.Pruning.{Part};
+ghost use Rattle.cv_scene.specs.Scenes.{KnowsQueries, Scene, part_at};
 ghost use Rattle.cv_steps.specs.Steps.{Cost, Leads, Step, Zero};
 ghost use Rattle.cv_steps.specs.Elementary.{
   let_step,

@@ -20,8 +20,8 @@ left_over (Some left) small more part rest room e f i = let j : small + left ≡
 
 -- a list of binders
 
-pub bound_names-Binder : (t : Tree) (h : Head) (a b : Tree) (x T : ℕ) → t ≡ Node h a b → h ≡ Binder x T → bound_names t ≡ x ∷ bound_names b
-bound_names-Binder t h a b x T e f = ap bound_names e ∙ ap (λ k. bound_names (Node k a b)) f
+pub bound_names_Binder : (t : Tree) (h : Head) (a b : Tree) (x T : ℕ) → t ≡ Node h a b → h ≡ Binder x T → bound_names t ≡ x ∷ bound_names b
+bound_names_Binder t h a b x T e f = ap bound_names e ∙ ap (λ k. bound_names (Node k a b)) f
 
 pub bound_names_other : (t : Tree) (h : Head) (a b : Tree) → t ≡ Node h a b → ((x T : ℕ) → h ≡ Binder x T → ⊥) → bound_names t ≡ []
 bound_names_other t h a b e n = ap bound_names e ∙ step h a b n
@@ -30,8 +30,8 @@ bound_names_other t h a b e n = ap bound_names e ∙ step h a b n
     step (Binder x T) a b n = absurd (n x T refl)
     step h a b n = refl
 
-pub bound_names-None : (trees : List KindTree) (at : Option NodeId) → at ≡ None → bound_names (tree_at trees at) ≡ []
-bound_names-None trees at e = ap bound_names (empty_at trees at e)
+pub bound_names_None : (trees : List KindTree) (at : Option NodeId) → at ≡ None → bound_names (tree_at trees at) ≡ []
+bound_names_None trees at e = ap bound_names (empty_at trees at e)
 
 -- a name more in a set
 pub one_more : (m n : NameSet) (x : ℕ) (xs : List ℕ) → Updates nat_eq m n x true → (y : ℕ) → (is_in n y || is_one_of xs y) ≡ (is_in m y || is_one_of (x ∷ xs) y)
@@ -43,14 +43,14 @@ one_more m n x xs u y = ap (λ b. b || is_one_of xs y) (u.0 y) ∙ cases (x == y
     cases false c d = refl
 
 pub no_more : (m : NameSet) (xs ys : List ℕ) → ys ≡ [] → ((y : ℕ) → (is_in m y || is_one_of ys y) ≡ is_one_of xs y) → is_in m ≡ is_one_of xs
-no_more m xs ys e h = fun_ext (λ y. or-nothing (is_in m y) ∙ (ap (λ zs. is_in m y || is_one_of zs y) (sym e) ∙ h y))
+no_more m xs ys e h = fun_ext (λ y. or_nothing (is_in m y) ∙ (ap (λ zs. is_in m y || is_one_of zs y) (sym e) ∙ h y))
   where
-    or-nothing : (b : Bool) → b ≡ (b || false)
-    or-nothing true = refl
-    or-nothing false = refl
+    or_nothing : (b : Bool) → b ≡ (b || false)
+    or_nothing true = refl
+    or_nothing false = refl
 
 -- a tree is the empty one where it is empty
-pub same_tree-Empty : (t : Tree) → same_tree Empty t ≡ is_empty t
+pub same_tree_Empty : (t : Tree) → same_tree Empty t ≡ is_empty t
 unfolding same_tree
-same_tree-Empty Empty = refl
-same_tree-Empty (Node h a b) = refl
+same_tree_Empty Empty = refl
+same_tree_Empty (Node h a b) = refl

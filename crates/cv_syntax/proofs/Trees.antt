@@ -9,28 +9,28 @@ use Rattle.cv_syntax_trees.specs.Head.{weight, same_head}
 use Rattle.cv_syntax_trees.specs.Tree.{Tree, Empty, Node, first, second, size, depth, tops, same_tree, head_reads_only, reads_only, head_binds, binds}
 use Rattle.cv_syntax.specs.PoolTrees.{tree_of, tree_at}
 use Rattle.cv_syntax.specs.Walks.{above}
-use Rattle.cv_syntax.proofs.Walking.{below-some, live-child}
+use Rattle.cv_syntax.proofs.Walking.{below_some, live_child}
 
 -- where there is no node
 
-pub tree_of-NoTree : tree_of NoTree ≡ Empty
+pub tree_of_NoTree : tree_of NoTree ≡ Empty
 unfolding tree_of
-tree_of-NoTree = refl
+tree_of_NoTree = refl
 
-pub tree_at-None : (trees : List KindTree) → tree_at trees None ≡ Empty
+pub tree_at_None : (trees : List KindTree) → tree_at trees None ≡ Empty
 unfolding tree_of
-tree_at-None trees = refl
+tree_at_None trees = refl
 
 pub empty_at : (trees : List KindTree) (at : Option NodeId) → at ≡ None → tree_at trees at ≡ Empty
-empty_at trees at e = ap (tree_at trees) e ∙ tree_at-None trees
+empty_at trees at e = ap (tree_at trees) e ∙ tree_at_None trees
 
-pub first-None : (trees : List KindTree) (o : Option NodeId) → o ≡ None → tree_at trees None ≡ first (tree_at trees o)
+pub first_None : (trees : List KindTree) (o : Option NodeId) → o ≡ None → tree_at trees None ≡ first (tree_at trees o)
 unfolding tree_of
-first-None trees o e = sym (ap (λ q. first (tree_at trees q)) e)
+first_None trees o e = sym (ap (λ q. first (tree_at trees q)) e)
 
-pub second-None : (trees : List KindTree) (o : Option NodeId) → o ≡ None → tree_at trees None ≡ second (tree_at trees o)
+pub second_None : (trees : List KindTree) (o : Option NodeId) → o ≡ None → tree_at trees None ≡ second (tree_at trees o)
 unfolding tree_of
-second-None trees o e = sym (ap (λ q. second (tree_at trees q)) e)
+second_None trees o e = sym (ap (λ q. second (tree_at trees q)) e)
 
 -- at a node, and at its children
 
@@ -38,7 +38,7 @@ pub node_at : (trees : List KindTree) (at : Option NodeId) (k : NodeId) (o : Ope
 node_at trees at k o e f = ap (tree_at trees) e ∙ f
 
 pub child_live : (m : ℕ) (at : Option NodeId) (k : NodeId) (child : Option NodeId) → at ≡ Some k → ChildBelow m at → ChildBelow k.0 child → ChildBelow m child
-child_live m at k child e l b = let n : k.0 < m = below-some m at k e l in live-child m k.0 child (omega arith) b
+child_live m at k child e l b = let n : k.0 < m = below_some m at k e l in live_child m k.0 child (omega arith) b
 
 pub child_above : (m : ℕ) (at : Option NodeId) (k : NodeId) (child : Option NodeId) → at ≡ Some k → above at ≤ m → ChildBelow k.0 child → above child ≤ m
 child_above m at k None e l b = omega arith
@@ -103,11 +103,11 @@ unfolding binds
 binds_open Empty y = refl
 binds_open (Node h a b) y = refl
 
-pub size-Empty : (t : Tree) → t ≡ Empty → size t ≡ 0
-size-Empty t e = ap size e ∙ size_open Empty
+pub size_Empty : (t : Tree) → t ≡ Empty → size t ≡ 0
+size_Empty t e = ap size e ∙ size_open Empty
 
 -- what a walk cites at the end of a chain
-pub ruleset opened = (tree_of-NoTree)
+pub ruleset opened = (tree_of_NoTree)
 
 -- the definitions of a tree by its parts
-pub ruleset openings_of_trees = (tree_of-NoTree, size_open, depth_open, same_open, reads_open, binds_open)
+pub ruleset openings_of_trees = (tree_of_NoTree, size_open, depth_open, same_open, reads_open, binds_open)

@@ -6,3 +6,6 @@ pub mod Planting
 pub mod PoolTrees
 pub mod Postorder
 pub mod Walks
+pub mod limits
+pub mod parts
+pub mod listing

@@ -5,7 +5,7 @@ use Rattle.cv_pool.specs.declared.node.NodeId.{NodeId}
 use Rattle.cv_pool.specs.KindTree.{KindTree, NoTree, Fork}
 use Rattle.cv_pool.specs.Nodes.{child}
 use Rattle.cv_syntax_trees.specs.declared.head.Head.{Head}
-use Rattle.cv_syntax_trees.specs.Head.{code, decoded, decoded-code}
+use Rattle.cv_syntax_trees.specs.Head.{code, decoded, decoded_code}
 use Rattle.cv_syntax_trees.specs.Tree.{Tree, Empty, Node}
 
 -- the kind of a head
@@ -16,8 +16,8 @@ kind_of_head h = record { tag = (code h).tag; a = (code h).a; b = (code h).b }
 abbrev pub head_of_kind : Kind → Head
 head_of_kind k = decoded (record { tag = k.tag; a = k.a; b = k.b })
 
-pub head_of_kind-kind_of_head : (h : Head) → head_of_kind (kind_of_head h) ≡ h
-head_of_kind-kind_of_head h = decoded-code h
+pub head_of_kind_kind_of_head : (h : Head) → head_of_kind (kind_of_head h) ≡ h
+head_of_kind_kind_of_head h = decoded_code h
 
 -- the tree that a pool's node stands for
 unfoldable pub tree_of : KindTree → Tree

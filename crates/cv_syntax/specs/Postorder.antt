@@ -22,11 +22,11 @@ made stack [] = stack
 made stack (make.Nothing ∷ steps) = made (Empty ∷ stack) steps
 made stack (make.Over h ∷ steps) = made (joined h stack) steps
 
-pub made-postorder : (t : Tree) (stack : List Tree) (rest : List Make) → made stack (postorder t ++ rest) ≡ made (t ∷ stack) rest
+pub made_postorder : (t : Tree) (stack : List Tree) (rest : List Make) → made stack (postorder t ++ rest) ≡ made (t ∷ stack) rest
 unfolding postorder made
-made-postorder Empty stack rest = refl
-made-postorder (Node h a b) stack rest =
+made_postorder Empty stack rest = refl
+made_postorder (Node h a b) stack rest =
     ap (made stack) (append_assoc (postorder a) (postorder b ++ make.Over h ∷ []) rest)
-    ∙ (made-postorder a stack ((postorder b ++ make.Over h ∷ []) ++ rest)
+    ∙ (made_postorder a stack ((postorder b ++ make.Over h ∷ []) ++ rest)
     ∙ (ap (made (a ∷ stack)) (append_assoc (postorder b) (make.Over h ∷ []) rest)
-    ∙ made-postorder b (a ∷ stack) (make.Over h ∷ rest)))
+    ∙ made_postorder b (a ∷ stack) (make.Over h ∷ rest)))

@@ -147,14 +147,6 @@ impl Decls {
         }
     }
 
-    /// The type of an argument, counted from 0.
-    pub fn arg(&self, pool: &Pool, id: NameId, k: u32) -> Option<NameId>
-        requires { ChildBelow (length pool.now.trees) (args_in self.now.list id.0) }
-        ensures { number result ≡ name_at (tree_at pool.now.trees (args_in self.now.list id.0)) k }
-    {
-        name(pool, self.args(id), k)
-    }
-
     /// The list of the types of a name's arguments.
     pub fn args(&self, id: NameId) -> Option<NodeId>
         ensures { result ≡ args_in self.now.list id.0 }

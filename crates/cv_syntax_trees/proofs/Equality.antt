@@ -2,7 +2,7 @@
 use Rattle.std.proofs.Common.{◌≡◌, true, ◌==◌, refl, sym, ap, ◌∙◌, eq-eqb, eqb-true}
 use Rattle.std.proofs.lemmas.Bool.{and_from, and_parts, both_ways}
 use Rattle.cv_syntax_trees.specs.declared.head.Head.{Head}
-use Rattle.cv_syntax_trees.specs.Head.{code, decoded, decoded-code, same_head}
+use Rattle.cv_syntax_trees.specs.Head.{code, decoded, decoded_code, same_head}
 use Rattle.cv_syntax_trees.specs.Tree.{Tree, Empty, Node, same_tree}
 
 pub same_head_exact : (h k : Head) → same_head h k ≡ true → h ≡ k
@@ -10,7 +10,7 @@ same_head_exact h k e =
     let p = and_parts ((code h).tag == (code k).tag) _ e in
     let r = and_parts ((code h).a == (code k).a) _ p.1 in
     let same : code h ≡ code k = λ i. record { tag = eqb-true (code h).tag (code k).tag p.0 i; a = eqb-true (code h).a (code k).a r.0 i; b = eqb-true (code h).b (code k).b r.1 i } in
-    sym (decoded-code h) ∙ ap decoded same ∙ decoded-code k
+    sym (decoded_code h) ∙ ap decoded same ∙ decoded_code k
 
 pub same_tree_exact : (a b : Tree) → same_tree a b ≡ true → a ≡ b
 unfolding same_tree
@@ -24,10 +24,10 @@ same_tree_exact (Node h a b) Empty e = absurd (both_ways _ refl e)
 
 -- and they find each one equal to itself
 
-same_head-self : (h : Head) → same_head h h ≡ true
-same_head-self h = and_from ((code h).tag == (code h).tag) _ (eq-eqb _ _ refl) (and_from ((code h).a == (code h).a) _ (eq-eqb _ _ refl) (eq-eqb _ _ refl))
+same_head_self : (h : Head) → same_head h h ≡ true
+same_head_self h = and_from ((code h).tag == (code h).tag) _ (eq-eqb _ _ refl) (and_from ((code h).a == (code h).a) _ (eq-eqb _ _ refl) (eq-eqb _ _ refl))
 
-pub same_tree-self : (t : Tree) → same_tree t t ≡ true
+pub same_tree_self : (t : Tree) → same_tree t t ≡ true
 unfolding same_tree
-same_tree-self Empty = refl
-same_tree-self (Node h a b) = and_from (same_head h h) _ (same_head-self h) (and_from (same_tree a a) _ (same_tree-self a) (same_tree-self b))
+same_tree_self Empty = refl
+same_tree_self (Node h a b) = and_from (same_head h h) _ (same_head_self h) (and_from (same_tree a a) _ (same_tree_self a) (same_tree_self b))

@@ -14,63 +14,53 @@ use Rattle.cv_typing_rules.specs.Signature.{Above}
 use Rattle.cv_directory_sorts.specs.Sites.{first_of}
 use Rattle.cv_typing.specs.Tables.{ByBound, above_of, and_else, by_bound_in, with_body, with_function, with_functions, with_here}
 use Rattle.cv_typing_rules.specs.Wants.{bound}
+use Rattle.cv_directory.proofs.Entries.{first_nothing, first_assoc}
 
 pub same_table : (l k : ByBound) → ((n y : ℕ) → l n y ≡ k n y) → l ≡ k
 same_table l k f = fun_ext (λ n. fun_ext (λ y. f n y))
 
-first-nothing : {A : Type 0} (a : Option A) → first_of a None ≡ a
-first-nothing None = refl
-first-nothing (Some x) = refl
-
-first-assoc : {A : Type 0} (a b c : Option A) → first_of (first_of a b) c ≡ first_of a (first_of b c)
-first-assoc None b c = refl
-first-assoc (Some x) b c = refl
-
 -- bodies
 
-here-bound : (above : Above) (x T : ℕ) (h : Head) → ((y : ℕ) → local_here y h ≡ cond (x == y) (Some (OfType T)) None) → bound First above x (OfType T) ≡ with_here above h
-here-bound above x T h e = fun_ext (λ y. cases y (x == y) refl ∙ ap (first_of (above y)) (sym (e y)))
+here_bound : (above : Above) (x T : ℕ) (h : Head) → ((y : ℕ) → local_here y h ≡ cond (x == y) (Some (OfType T)) None) → bound First above x (OfType T) ≡ with_here above h
+here_bound above x T h e = fun_ext (λ y. cases y (x == y) refl ∙ ap (first_of (above y)) (sym (e y)))
   where
     cases : (y : ℕ) (b : Bool) → (x == y) ≡ b → cond b (first_of (above x) (Some (OfType T))) (above y) ≡ first_of (above y) (cond b (Some (OfType T)) None)
     cases y true d = ap (λ z. first_of (above z) (Some (OfType T))) (eqb-true x y d)
-    cases y false d = sym (first-nothing (above y))
+    cases y false d = sym (first_nothing (above y))
 
-pub new-here : (above : Above) (h : Head) (x T : ℕ) → h ≡ New x T → bound First above x (OfType T) ≡ with_here above h
-new-here above h x T e = here-bound above x T (New x T) (λ y. refl) ∙ sym (ap (with_here above) e)
+pub new_here : (above : Above) (h : Head) (x T : ℕ) → h ≡ New x T → bound First above x (OfType T) ≡ with_here above h
+new_here above h x T e = here_bound above x T (New x T) (λ y. refl) ∙ sym (ap (with_here above) e)
 
-pub let-here : (above : Above) (h : Head) (x T : ℕ) → h ≡ Let x T → bound First above x (OfType T) ≡ with_here above h
-let-here above h x T e = here-bound above x T (Let x T) (λ y. refl) ∙ sym (ap (with_here above) e)
-
-pub none-here : (above : Above) (h : Head) → ((x T : ℕ) → h ≡ New x T → ⊥) → ((x T : ℕ) → h ≡ Let x T → ⊥) → above ≡ with_here above h
-none-here above h n k = fun_ext (λ y. sym (first-nothing (above y)) ∙ ap (first_of (above y)) (sym (step h n k y)))
+pub none_here : (above : Above) (h : Head) → ((x T : ℕ) → h ≡ New x T → ⊥) → ((x T : ℕ) → h ≡ Let x T → ⊥) → above ≡ with_here above h
+none_here above h n k = fun_ext (λ y. sym (first_nothing (above y)) ∙ ap (first_of (above y)) (sym (step h n k y)))
   where
     step : (h : Head) → ((x T : ℕ) → h ≡ New x T → ⊥) → ((x T : ℕ) → h ≡ Let x T → ⊥) → (y : ℕ) → local_here y h ≡ None
     step (New x T) n k y = absurd (n x T refl)
     step (Let x T) n k y = absurd (k x T refl)
     step h n k y = refl
 
-pub body-step : (above : Above) (t : Tree) (h : Head) (a b : Tree) → t ≡ Node h a b → with_body above t ≡ with_body (with_body (with_here above h) a) b
+pub body_step : (above : Above) (t : Tree) (h : Head) (a b : Tree) → t ≡ Node h a b → with_body above t ≡ with_body (with_body (with_here above h) a) b
 unfolding local_in
-body-step above t h a b e = ap (with_body above) e ∙ fun_ext (λ y. sym (ap (λ o. first_of o (local_in y b)) (first-assoc (above y) (local_here y h) (local_in y a)) ∙ (first-assoc (above y) (first_of (local_here y h) (local_in y a)) (local_in y b) ∙ ap (first_of (above y)) (first-assoc (local_here y h) (local_in y a) (local_in y b)))))
+body_step above t h a b e = ap (with_body above) e ∙ fun_ext (λ y. sym (ap (λ o. first_of o (local_in y b)) (first_assoc (above y) (local_here y h) (local_in y a)) ∙ (first_assoc (above y) (first_of (local_here y h) (local_in y a)) (local_in y b) ∙ ap (first_of (above y)) (first_assoc (local_here y h) (local_in y a) (local_in y b)))))
 
-pub body-end : (above : Above) (t : Tree) → t ≡ Empty → with_body above t ≡ above
+pub body_end : (above : Above) (t : Tree) → t ≡ Empty → with_body above t ≡ above
 unfolding local_in
-body-end above t e = ap (with_body above) e ∙ fun_ext (λ y. first-nothing (above y))
+body_end above t e = ap (with_body above) e ∙ fun_ext (λ y. first_nothing (above y))
 
 -- what a function binds, by the names that it takes and its body
-pub own-all : (taken named empty : Above) (f a b : Tree) → named ≡ with_body taken b → taken ≡ with_taken empty a → empty ≡ nothing_above → a ≡ first f → b ≡ second f → named ≡ (λ x. own_sort x (first f) (second f))
-own-all taken named empty f a b en et ee ea eb = en ∙ (ap₂ with_body (et ∙ ap₂ with_taken ee ea) eb ∙ fun_ext (λ x. refl))
+pub own_all : (taken named empty : Above) (f a b : Tree) → named ≡ with_body taken b → taken ≡ with_taken empty a → empty ≡ nothing_above → a ≡ first f → b ≡ second f → named ≡ (λ x. own_sort x (first f) (second f))
+own_all taken named empty f a b en et ee ea eb = en ∙ (ap₂ with_body (et ∙ ap₂ with_taken ee ea) eb ∙ fun_ext (λ x. refl))
 
 -- one more function
-pub own-last : (fs : List Own) (o : Own) → by_bound_in (fs ++ o ∷ []) ≡ and_else (by_bound_in fs) o.bound (above_of o.sorts)
-own-last fs o = same_table _ _ (go fs)
+pub own_last : (fs : List Own) (o : Own) → by_bound_in (fs ++ o ∷ []) ≡ and_else (by_bound_in fs) o.bound (above_of o.sorts)
+own_last fs o = same_table _ _ (go fs)
   where
     last : (b : Bool) (p : Option Sort) → cond b (first_of p None) None ≡ cond b p None
-    last true p = first-nothing p
+    last true p = first_nothing p
     last false p = refl
 
     more : (b : Bool) (p q r : Option Sort) → cond b (first_of p (first_of q r)) (first_of q r) ≡ first_of (cond b (first_of p q) q) r
-    more true p q r = sym (first-assoc p q r)
+    more true p q r = sym (first_assoc p q r)
     more false p q r = refl
 
     go : (fs : List Own) (m x : ℕ) → by_bound_in (fs ++ o ∷ []) m x ≡ and_else (by_bound_in fs) o.bound (above_of o.sorts) m x
@@ -78,18 +68,18 @@ own-last fs o = same_table _ _ (go fs)
     go (f ∷ fs) m x = ap (λ r. cond (f.bound == m) (first_of (above_of f.sorts x) r) r) (go fs m x) ∙ more (f.bound == m) (above_of f.sorts x) (by_bound_in fs m x) (cond (o.bound == m) (above_of o.sorts x) None)
 
 -- functions
-pub functions-step : (l : ByBound) (t : Tree) (h : Head) (f more : Tree) → t ≡ Node h f more → with_functions l t ≡ with_functions (with_function l f) more
+pub functions_step : (l : ByBound) (t : Tree) (h : Head) (f more : Tree) → t ≡ Node h f more → with_functions l t ≡ with_functions (with_function l f) more
 unfolding sort_by_bound
-functions-step l t h f more e = ap (with_functions l) e ∙ same_table _ _ (λ n y. cases (l n y) (bound_at (first f) == n) (own_sort y (first f) (second f)) (sort_by_bound more n y))
+functions_step l t h f more e = ap (with_functions l) e ∙ same_table _ _ (λ n y. cases (l n y) (bound_at (first f) == n) (own_sort y (first f) (second f)) (sort_by_bound more n y))
   where
     cases : (o : Option Sort) (b : Bool) (p q : Option Sort) → first_of o (cond b (first_of p q) q) ≡ first_of (first_of o (cond b p None)) q
     cases (Some S) b p q = refl
     cases None true p q = refl
     cases None false p q = refl
 
-pub functions-end : (l : ByBound) (t : Tree) → t ≡ Empty → with_functions l t ≡ l
+pub functions_end : (l : ByBound) (t : Tree) → t ≡ Empty → with_functions l t ≡ l
 unfolding sort_by_bound
-functions-end l t e = ap (with_functions l) e ∙ same_table _ _ (λ n y. first-nothing (l n y))
+functions_end l t e = ap (with_functions l) e ∙ same_table _ _ (λ n y. first_nothing (l n y))
 
-pub from-no-locals : (fs : List Own) (t : Tree) → fs ≡ [] → with_functions (by_bound_in fs) t ≡ sort_by_bound t
-from-no-locals fs t e = ap (λ l. with_functions (by_bound_in l) t) e ∙ same_table _ _ (λ n y. refl)
+pub from_no_locals : (fs : List Own) (t : Tree) → fs ≡ [] → with_functions (by_bound_in fs) t ≡ sort_by_bound t
+from_no_locals fs t e = ap (λ l. with_functions (by_bound_in l) t) e ∙ same_table _ _ (λ n y. refl)

@@ -14,57 +14,57 @@ use Rattle.cv_typing.specs.declared.function.Callee.{Callee}
 use Rattle.cv_pool.specs.Nodes.{ChildBelow}
 use Rattle.cv_typing.specs.Lookups.{callee_by, callee_in, event_args_by, event_args_in, fixed_decl, function_at, HasLiveArguments}
 use Rattle.cv_typing_rules.specs.Signature.{declaration_of, function_by, function_in, event_by, event_in, fixed_by, is_fixed_in, names_in}
-use Rattle.cv_typing_rules.proofs.Counts.{names-end}
-use Rattle.cv_syntax.proofs.Trees.{tree_at-None}
+use Rattle.cv_typing_rules.proofs.Counts.{names_end}
+use Rattle.cv_syntax.proofs.Trees.{tree_at_None}
 
-pub declaration-same : (trees : List KindTree) (ds : List Decl) (x : ℕ) → declaration_of (declarations trees ds) x ≡ option_map (declared trees) (declaration_in ds x)
-declaration-same trees [] x = refl
-declaration-same trees (decl.Name id c args result ∷ ds) x = choose trees (decl.Name id c args result) (nat_eq x id.0) (declaration_in ds x) _ (declaration-same trees ds x)
+pub declaration_same : (trees : List KindTree) (ds : List Decl) (x : ℕ) → declaration_of (declarations trees ds) x ≡ option_map (declared trees) (declaration_in ds x)
+declaration_same trees [] x = refl
+declaration_same trees (decl.Name id c args result ∷ ds) x = choose trees (decl.Name id c args result) (nat_eq x id.0) (declaration_in ds x) _ (declaration_same trees ds x)
   where
     choose : (trees : List KindTree) (d : Decl) (b : Bool) (o : Option Decl) (p : Option Declaration) → p ≡ option_map (declared trees) o → cond b (Some (declared trees d)) p ≡ option_map (declared trees) (cond b (Some d) o)
     choose trees d true o p e = refl
     choose trees d false o p e = e
-declaration-same trees (decl.Equation n ∷ ds) x = declaration-same trees ds x
-declaration-same trees (decl.Equiv id n ∷ ds) x = choose trees (decl.Equiv id n) (nat_eq x id.0) (declaration_in ds x) _ (declaration-same trees ds x)
+declaration_same trees (decl.Equation n ∷ ds) x = declaration_same trees ds x
+declaration_same trees (decl.Equiv id n ∷ ds) x = choose trees (decl.Equiv id n) (nat_eq x id.0) (declaration_in ds x) _ (declaration_same trees ds x)
   where
     choose : (trees : List KindTree) (d : Decl) (b : Bool) (o : Option Decl) (p : Option Declaration) → p ≡ option_map (declared trees) o → cond b (Some (declared trees d)) p ≡ option_map (declared trees) (cond b (Some d) o)
     choose trees d true o p e = refl
     choose trees d false o p e = e
-declaration-same trees (decl.Query n ∷ ds) x = declaration-same trees ds x
+declaration_same trees (decl.Query n ∷ ds) x = declaration_same trees ds x
 
-function-by : (trees : List KindTree) (o : Option Decl) → function_by (option_map (declared trees) o) ≡ option_map (function_at trees) (callee_by o)
-function-by trees None = refl
-function-by trees (Some (decl.Name id (Fun d) args (Some T))) = refl
-function-by trees (Some (decl.Name id (Fun d) args None)) = refl
-function-by trees (Some (decl.Name id c args r)) = refl
-function-by trees (Some (decl.Equation n)) = refl
-function-by trees (Some (decl.Equiv id n)) = refl
-function-by trees (Some (decl.Query n)) = refl
+function_by_law : (trees : List KindTree) (o : Option Decl) → function_by (option_map (declared trees) o) ≡ option_map (function_at trees) (callee_by o)
+function_by_law trees None = refl
+function_by_law trees (Some (decl.Name id (Fun d) args (Some T))) = refl
+function_by_law trees (Some (decl.Name id (Fun d) args None)) = refl
+function_by_law trees (Some (decl.Name id c args r)) = refl
+function_by_law trees (Some (decl.Equation n)) = refl
+function_by_law trees (Some (decl.Equiv id n)) = refl
+function_by_law trees (Some (decl.Query n)) = refl
 
-pub function-same : (trees : List KindTree) (ds : List Decl) (f : ℕ) → function_in (declarations trees ds) f ≡ option_map (function_at trees) (callee_in ds f)
-function-same trees ds f = ap function_by (declaration-same trees ds f) ∙ function-by trees (declaration_in ds f)
+pub function_same : (trees : List KindTree) (ds : List Decl) (f : ℕ) → function_in (declarations trees ds) f ≡ option_map (function_at trees) (callee_in ds f)
+function_same trees ds f = ap function_by (declaration_same trees ds f) ∙ function_by_law trees (declaration_in ds f)
 
-event-by : (trees : List KindTree) (o : Option Decl) → event_by (option_map (declared trees) o) ≡ names_in (tree_at trees (event_args_by o))
-event-by trees None = sym (names-end (tree_at trees None) (tree_at-None trees))
-event-by trees (Some (decl.Name id Event args r)) = refl
-event-by trees (Some (decl.Name id c args r)) = sym (names-end (tree_at trees None) (tree_at-None trees))
-event-by trees (Some (decl.Equation n)) = sym (names-end (tree_at trees None) (tree_at-None trees))
-event-by trees (Some (decl.Equiv id n)) = sym (names-end (tree_at trees None) (tree_at-None trees))
-event-by trees (Some (decl.Query n)) = sym (names-end (tree_at trees None) (tree_at-None trees))
+event_by_law : (trees : List KindTree) (o : Option Decl) → event_by (option_map (declared trees) o) ≡ names_in (tree_at trees (event_args_by o))
+event_by_law trees None = sym (names_end (tree_at trees None) (tree_at_None trees))
+event_by_law trees (Some (decl.Name id Event args r)) = refl
+event_by_law trees (Some (decl.Name id c args r)) = sym (names_end (tree_at trees None) (tree_at_None trees))
+event_by_law trees (Some (decl.Equation n)) = sym (names_end (tree_at trees None) (tree_at_None trees))
+event_by_law trees (Some (decl.Equiv id n)) = sym (names_end (tree_at trees None) (tree_at_None trees))
+event_by_law trees (Some (decl.Query n)) = sym (names_end (tree_at trees None) (tree_at_None trees))
 
-pub event-same : (trees : List KindTree) (ds : List Decl) (e : ℕ) → event_in (declarations trees ds) e ≡ names_in (tree_at trees (event_args_in ds e))
-event-same trees ds e = ap event_by (declaration-same trees ds e) ∙ event-by trees (declaration_in ds e)
+pub event_same : (trees : List KindTree) (ds : List Decl) (e : ℕ) → event_in (declarations trees ds) e ≡ names_in (tree_at trees (event_args_in ds e))
+event_same trees ds e = ap event_by (declaration_same trees ds e) ∙ event_by_law trees (declaration_in ds e)
 
-fixed-by : (trees : List KindTree) (o : Option Decl) → fixed_by (option_map (declared trees) o) ≡ fixed_decl o
-fixed-by trees None = refl
-fixed-by trees (Some (decl.Name id (TypeName f l) args r)) = refl
-fixed-by trees (Some (decl.Name id c args r)) = refl
-fixed-by trees (Some (decl.Equation n)) = refl
-fixed-by trees (Some (decl.Equiv id n)) = refl
-fixed-by trees (Some (decl.Query n)) = refl
+fixed_by_law : (trees : List KindTree) (o : Option Decl) → fixed_by (option_map (declared trees) o) ≡ fixed_decl o
+fixed_by_law trees None = refl
+fixed_by_law trees (Some (decl.Name id (TypeName f l) args r)) = refl
+fixed_by_law trees (Some (decl.Name id c args r)) = refl
+fixed_by_law trees (Some (decl.Equation n)) = refl
+fixed_by_law trees (Some (decl.Equiv id n)) = refl
+fixed_by_law trees (Some (decl.Query n)) = refl
 
-pub fixed-same : (trees : List KindTree) (ds : List Decl) (T : ℕ) → is_fixed_in (declarations trees ds) T ≡ fixed_decl (declaration_in ds T)
-fixed-same trees ds T = ap fixed_by (declaration-same trees ds T) ∙ fixed-by trees (declaration_in ds T)
+pub fixed_same : (trees : List KindTree) (ds : List Decl) (T : ℕ) → is_fixed_in (declarations trees ds) T ≡ fixed_decl (declaration_in ds T)
+fixed_same trees ds T = ap fixed_by (declaration_same trees ds T) ∙ fixed_by_law trees (declaration_in ds T)
 
 -- what is found is live
 
@@ -72,26 +72,26 @@ arguments_or : Option NodeId → Option Callee → Option NodeId
 arguments_or d None = d
 arguments_or d (Some f) = f.arguments
 
-callee-below : (n : ℕ) (o : Option Decl) → ChildBelow n (args_by o) → (f : Callee) → callee_by o ≡ Some f → ChildBelow n f.arguments
+callee_below : (n : ℕ) (o : Option Decl) → ChildBelow n (args_by o) → (f : Callee) → callee_by o ≡ Some f → ChildBelow n f.arguments
 unfolding arguments_or
-callee-below n None l f e = absurd (cc)
-callee-below n (Some (decl.Name id (Fun d) args (Some T))) l f e = let g : args ≡ f.arguments = ap (arguments_or args) e in subst (ChildBelow n) g l
-callee-below n (Some (decl.Name id (Fun d) args None)) l f e = absurd (cc)
-callee-below n (Some (decl.Name id c args r)) l f e = absurd (cc)
-callee-below n (Some (decl.Equation m)) l f e = absurd (cc)
-callee-below n (Some (decl.Equiv id m)) l f e = absurd (cc)
-callee-below n (Some (decl.Query m)) l f e = absurd (cc)
+callee_below n None l f e = absurd (cc)
+callee_below n (Some (decl.Name id (Fun d) args (Some T))) l f e = let g : args ≡ f.arguments = ap (arguments_or args) e in subst (ChildBelow n) g l
+callee_below n (Some (decl.Name id (Fun d) args None)) l f e = absurd (cc)
+callee_below n (Some (decl.Name id c args r)) l f e = absurd (cc)
+callee_below n (Some (decl.Equation m)) l f e = absurd (cc)
+callee_below n (Some (decl.Equiv id m)) l f e = absurd (cc)
+callee_below n (Some (decl.Query m)) l f e = absurd (cc)
 
-pub function-live : (n : ℕ) (ds : List Decl) (x : ℕ) → HasLiveArguments n ds → (f : Callee) → callee_in ds x ≡ Some f → ChildBelow n f.arguments
-function-live n ds x l f e = callee-below n (declaration_in ds x) (l x) f e
+pub function_live : (n : ℕ) (ds : List Decl) (x : ℕ) → HasLiveArguments n ds → (f : Callee) → callee_in ds x ≡ Some f → ChildBelow n f.arguments
+function_live n ds x l f e = callee_below n (declaration_in ds x) (l x) f e
 
-event-below : (n : ℕ) (o : Option Decl) → ChildBelow n (args_by o) → ChildBelow n (event_args_by o)
-event-below n None l = tt
-event-below n (Some (decl.Name id Event args r)) l = l
-event-below n (Some (decl.Name id c args r)) l = tt
-event-below n (Some (decl.Equation m)) l = tt
-event-below n (Some (decl.Equiv id m)) l = tt
-event-below n (Some (decl.Query m)) l = tt
+event_below : (n : ℕ) (o : Option Decl) → ChildBelow n (args_by o) → ChildBelow n (event_args_by o)
+event_below n None l = tt
+event_below n (Some (decl.Name id Event args r)) l = l
+event_below n (Some (decl.Name id c args r)) l = tt
+event_below n (Some (decl.Equation m)) l = tt
+event_below n (Some (decl.Equiv id m)) l = tt
+event_below n (Some (decl.Query m)) l = tt
 
-pub event-live : (n : ℕ) (ds : List Decl) (e : ℕ) → HasLiveArguments n ds → ChildBelow n (event_args_in ds e)
-event-live n ds e l = event-below n (declaration_in ds e) (l e)
+pub event_live : (n : ℕ) (ds : List Decl) (e : ℕ) → HasLiveArguments n ds → ChildBelow n (event_args_in ds e)
+event_live n ds e l = event_below n (declaration_in ds e) (l e)

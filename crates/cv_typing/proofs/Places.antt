@@ -11,8 +11,8 @@ use Rattle.cv_typing_rules.specs.declared.want.Want.TheVariants.{Run, Branches, 
 use Rattle.cv_typing.specs.Lookups.{want_of}
 use Rattle.cv_typing_rules.specs.Wants.{list_wants, place_wants}
 
-pub place-list : (trees : List KindTree) (r : Arrays) (ds : List Declaration) (w : Want) (h : Head) → h ≡ Cons → ((f : Form) → w ≡ Run f → ⊥) → ((f : Form) → w ≡ Branches f → ⊥) → (w ≡ Correspondence → ⊥) → (w ≡ Atoms → ⊥) → list_wants (want_of trees r w) ≡ place_wants ds (want_of trees r w) h
-place-list trees r ds w h e a b c d = step w a b c d ∙ sym (ap (place_wants ds (want_of trees r w)) e)
+pub place_list : (trees : List KindTree) (r : Arrays) (ds : List Declaration) (w : Want) (h : Head) → h ≡ Cons → ((f : Form) → w ≡ Run f → ⊥) → ((f : Form) → w ≡ Branches f → ⊥) → (w ≡ Correspondence → ⊥) → (w ≡ Atoms → ⊥) → list_wants (want_of trees r w) ≡ place_wants ds (want_of trees r w) h
+place_list trees r ds w h e a b c d = step w a b c d ∙ sym (ap (place_wants ds (want_of trees r w)) e)
   where
     step : (w : Want) → ((f : Form) → w ≡ Run f → ⊥) → ((f : Form) → w ≡ Branches f → ⊥) → (w ≡ Correspondence → ⊥) → (w ≡ Atoms → ⊥) → list_wants (want_of trees r w) ≡ place_wants ds (want_of trees r w) Cons
     step (Run f) a b c d = absurd (a f refl)

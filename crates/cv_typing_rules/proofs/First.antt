@@ -1,8 +1,8 @@
 -- What is computed is the first fault in preorder, and there is none exactly where all is typed.
 use Rattle.std.proofs.Common.{◌≡◌, ℕ, ◌+◌, ◌≤◌, List, [], ◌∷◌, Option, Some, None, refl, ◌∙◌, arith, inl, inr}
-use Rattle.cv_first_fault.specs.Walk.{IsDecided, first_of}
-use Rattle.cv_first_fault.proofs.First as walk
-use Rattle.cv_first_fault.proofs.First.{first_none, none_first}
+use Rattle.cv_syntax_faults.specs.Walk.{IsDecided, first_of}
+use Rattle.cv_syntax_faults.proofs.First as walk
+use Rattle.cv_syntax_faults.proofs.First.{first_none, none_first}
 use Rattle.cv_syntax_trees.specs.Declarations.{Declaration}
 use Rattle.cv_syntax_trees.specs.Tree.{Tree, size}
 use Rattle.cv_typing_rules.specs.declared.fault.Fault.{Fault}

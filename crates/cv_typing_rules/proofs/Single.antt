@@ -11,20 +11,20 @@ use Rattle.cv_typing_rules.specs.Refusals.{IsRefusalOf, named}
 use Rattle.cv_typing_rules.specs.Typing.{first_fault}
 
 -- a refusal that names a fault is of one
-pub fault-there : (found : Option (ℕ × Fault)) (t : TypeFault) (b : Bool) → IsRefusalOf found t → b ≡ not (is_some (named t)) → b ≡ false → false ≡ not (is_some found)
-fault-there found (refused.WrongType p) b i e f = ap (λ o. not (is_some o)) (sym i)
-fault-there found (refused.Arity p) b i e f = ap (λ o. not (is_some o)) (sym i)
-fault-there found (refused.IndexAsMessage p) b i e f = ap (λ o. not (is_some o)) (sym i)
-fault-there found (refused.NotFixed p) b i e f = ap (λ o. not (is_some o)) (sym i)
-fault-there found refused.OutOfMemory b i e f = absurd (cc)
+pub fault_there : (found : Option (ℕ × Fault)) (t : TypeFault) (b : Bool) → IsRefusalOf found t → b ≡ not (is_some (named t)) → b ≡ false → false ≡ not (is_some found)
+fault_there found (refused.WrongType p) b i e f = ap (λ o. not (is_some o)) (sym i)
+fault_there found (refused.Arity p) b i e f = ap (λ o. not (is_some o)) (sym i)
+fault_there found (refused.IndexAsMessage p) b i e f = ap (λ o. not (is_some o)) (sym i)
+fault_there found (refused.NotFixed p) b i e f = ap (λ o. not (is_some o)) (sym i)
+fault_there found refused.OutOfMemory b i e f = absurd (cc)
 
-pub none-there : {A : Type 0} (found : Option A) → found ≡ None → true ≡ not (is_some found)
-none-there found e = sym (ap (λ o. not (is_some o)) e)
+pub none_there : {A : Type 0} (found : Option A) → found ≡ None → true ≡ not (is_some found)
+none_there found e = sym (ap (λ o. not (is_some o)) e)
 
 alone : (o : Option (ℕ × Fault)) → is_some (first_of o None) ≡ is_some o
 alone None = refl
 alone (Some x) = refl
 
-pub part-alone : (ds : List Declaration) (p : ℕ) (part : Part) → not (is_some (first_in ds p (part ∷ []))) ≡ not (is_some (first_fault (signature_of ds part) part.above part.want p part.tree))
+pub part_alone : (ds : List Declaration) (p : ℕ) (part : Part) → not (is_some (first_in ds p (part ∷ []))) ≡ not (is_some (first_fault (signature_of ds part) part.above part.want p part.tree))
 unfolding first_in
-part-alone ds p part = ap not (alone (first_fault (signature_of ds part) part.above part.want p part.tree))
+part_alone ds p part = ap not (alone (first_fault (signature_of ds part) part.above part.want p part.tree))

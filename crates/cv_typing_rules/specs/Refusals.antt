@@ -7,7 +7,7 @@ use Rattle.cv_typing_rules.specs.declared.fault.Fault.TheVariants as fault
 use Rattle.cv_typing_rules.specs.declared.fault.TypeFault.{TypeFault}
 use Rattle.cv_typing_rules.specs.declared.fault.TypeFault.TheVariants as refused
 use Rattle.cv_typing_rules.specs.Parts.{Part, IsFirstIn, first_in}
-use Rattle.cv_first_fault.specs.Walk as walk
+use Rattle.cv_syntax_faults.specs.Walk as walk
 
 abbrev pub refusal : ℕ → Fault → TypeFault
 refusal p fault.WrongType = refused.WrongType p

@@ -3,8 +3,8 @@ use Rattle.std.specs.Prelude.{◌≡◌, ℕ, Bool, false, ◌||◌, not, if◌t
 use Rattle.cv_syntax_trees.specs.declared.head.Head.{Head}
 use Rattle.cv_syntax_trees.specs.declared.head.Head.TheVariants.{In, New, Let, Branch, Binder}
 use Rattle.cv_syntax_trees.specs.Tree.{Tree, Empty, Node, second}
-use Rattle.cv_first_fault.specs.Walk.{Walk, IsObeyed}
-use Rattle.cv_first_fault.specs.Walk as walk
+use Rattle.cv_syntax_faults.specs.Walk.{Walk, IsObeyed}
+use Rattle.cv_syntax_faults.specs.Walk as walk
 use Rattle.cv_typing_rules.specs.declared.fault.Fault.{Fault}
 use Rattle.cv_typing_rules.specs.declared.fault.Fault.TheVariants.{WrongType, Arity, IndexAsMessage, NotFixed}
 use Rattle.cv_directory_sorts.specs.declared.sort.Sort.{Sort}

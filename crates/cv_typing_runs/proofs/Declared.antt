@@ -11,10 +11,10 @@ use Rattle.cv_meaning.specs.Interpretation.{is_constant_of}
 use Rattle.cv_typing_rules.specs.Signature.{Function, declaration_of, function_by, function_in, names_in}
 use Rattle.cv_typing_runs.specs.Games.{HasArguments}
 
-head_in : (ds : List Declaration) (d : Declaration) → Contains (d ∷ ds) d
+pub head_in : (ds : List Declaration) (d : Declaration) → Contains (d ∷ ds) d
 head_in ds d = Contains-append_left (d ∷ []) ds d (Contains-push [] d)
 
-tail_in : (ds : List Declaration) (d e : Declaration) → Contains ds e → Contains (d ∷ ds) e
+pub tail_in : (ds : List Declaration) (d e : Declaration) → Contains ds e → Contains (d ∷ ds) e
 tail_in ds d e h = Contains-append_right (d ∷ []) ds e h
 
 abbrev IsFunctionOf : List Declaration → ℕ → Function → Type 0

@@ -11,11 +11,11 @@ use Rattle.cv_meaning.specs.Runs.{Adversary, Mode}
 use Rattle.cv_meaning.specs.Satisfies.{Satisfies}
 use Rattle.cv_meaning.specs.Side.{no_side}
 use Rattle.cv_meaning.specs.Tapes.{blank}
-use Rattle.cv_meaning_adequacy.specs.Counted.{tapes_of}
-use Rattle.cv_meaning_adequacy.specs.Typed.{HasTypedRestrictions, IsTyped as MeansTyped, IsTypedStore, IsTypedTape}
-use Rattle.cv_meaning_adequacy.proofs.TypedRuns.{games_keep, run_typed}
-use Rattle.cv_meaning_adequacy.proofs.TypedTapes.{tapes_typed}
-use Rattle.cv_meaning_adequacy.proofs.Worked.{leaves}
+use Rattle.cv_meaning_laws.specs.adequacy.Counted.{tapes_of}
+use Rattle.cv_meaning_laws.specs.adequacy.Typed.{HasTypedRestrictions, IsTyped as MeansTyped, IsTypedStore, IsTypedTape}
+use Rattle.cv_meaning_laws.proofs.adequacy.TypedRuns.{games_keep, run_typed}
+use Rattle.cv_meaning_laws.proofs.adequacy.TypedTapes.{tapes_typed}
+use Rattle.cv_meaning_laws.proofs.adequacy.Worked.{leaves}
 use Rattle.cv_scope_rules.specs.Sites.{sites_from}
 use Rattle.cv_scope_rules.specs.Scope.{names_of}
 use Rattle.cv_scope_rules.specs.Standing.{at_root}
@@ -31,7 +31,7 @@ use Rattle.cv_typing_runs.proofs.Models.{is_model}
 use Rattle.cv_typing_runs.proofs.SameSites.{Agrees, sites_agree}
 use Rattle.cv_typing_runs.proofs.Typing.{game_means, restrictions_typed}
 
-first_nothing : (o : Option Variable) → o ≡ first_of o None
+pub first_nothing : (o : Option Variable) → o ≡ first_of o None
 first_nothing None = refl
 first_nothing (Some v) = refl
 

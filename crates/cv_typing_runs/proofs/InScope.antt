@@ -2,7 +2,7 @@
 use Rattle.std.proofs.Common.{◌≡◌, ℕ, Bool, true, List, [], ◌∷◌, ◌++◌, map, ◌⊎◌, inl, inr, is_some, Option, refl, ap, sym, subst}
 use Rattle.std.proofs.lemmas.Bool.{and_from, and_parts, or_left, or_right}
 use Rattle.std.specs.List.{AllByRecursion}
-use Rattle.cv_first_fault.specs.Walk.{IsObeyed}
+use Rattle.cv_syntax_faults.specs.Walk.{IsObeyed}
 use Rattle.cv_syntax_trees.specs.declared.head.Head.{Head}
 use Rattle.cv_syntax_trees.specs.declared.head.Head.TheVariants.{Apply, Branch, Call, Cons, Event, If, In, Key, Leaf, Let, New, Read, Repl}
 use Rattle.cv_syntax_trees.specs.Declarations.{Declaration}
@@ -18,9 +18,10 @@ use Rattle.cv_scope_rules.specs.Rules.{InReach, IsAmong, IsInScope, ReadsInReach
 use Rattle.cv_scope_rules.specs.Scope.{IsScopedAt, names_of}
 use Rattle.cv_scope_rules.specs.Sites.{Variable as Named, channel_here, named_here, site_of, sites_from, sites_here}
 use Rattle.cv_scope_rules.specs.Standing.{Standing, at_root, first_standing, second_standing}
-use Rattle.cv_scope_rules.proofs.Pairs.{all-append, all-left, all-right}
 use Rattle.cv_typing_runs.specs.Games.{HasConstants, are_known, are_named, are_variable_cells, has_site, is_known, is_named, is_variable_cell}
-use Rattle.cv_typing_runs.proofs.SameSites.{Agrees, Stands, first_same, second_same}
+use Rattle.cv_typing_runs.proofs.SameSites.{Agrees, Stands}
+use Rattle.cv_lists.proofs.Each.{AllByRecursion_append, AllByRecursion_left, AllByRecursion_right}
+use Rattle.cv_scope_rules.proofs.Apart.{first_replications, second_replications}
 
 module _ (ds : List Declaration) (game : Tree) (constants : HasConstants ds) where
   abbrev V : ℕ → Bool
@@ -92,25 +93,25 @@ module _ (ds : List Declaration) (game : Tree) (constants : HasConstants ds) whe
   reach_first h w Γ r = r
 
   reach_rest : (w : Position) (a b : Tree) (Γ : Context) → is_named ds V w Cons a ≡ true → Here w (Node Cons a b) → Reach Γ → Reach (rest_context w a Γ)
-  reach_rest Guards a b Γ n k r = record { cells = all-append IsCell Γ.cells (items a) r.cells (listed_cells a n); own = r.own }
-  reach_rest Guarded a b Γ n k r = record { cells = all-append IsCell Γ.cells Γ.own r.cells r.own; own = tt }
-  reach_rest Cells a b Γ n k r = record { cells = all-append IsCell Γ.cells (a ∷ []) r.cells ((and_parts (is_variable_cell V a) (are_variable_cells V b) k).0, tt); own = r.own }
+  reach_rest Guards a b Γ n k r = record { cells = AllByRecursion_append IsCell Γ.cells (items a) r.cells (listed_cells a n); own = r.own }
+  reach_rest Guarded a b Γ n k r = record { cells = AllByRecursion_append IsCell Γ.cells Γ.own r.cells r.own; own = tt }
+  reach_rest Cells a b Γ n k r = record { cells = AllByRecursion_append IsCell Γ.cells (a ∷ []) r.cells ((and_parts (is_variable_cell V a) (are_variable_cells V b) k).0, tt); own = r.own }
   reach_rest w a b Γ n k r = r
 
   with_one : (rs : List (ℕ × ℕ)) (p x : ℕ) (Γ : Context) → AllByRecursion (Agrees F) (site_of rs p (Named x) ∷ []) → Reach Γ → AllByRecursion IsCell (Γ.cells ++ cell_of Γ.replications x ∷ [])
-  with_one rs p x Γ A r = all-append IsCell Γ.cells (cell_of Γ.replications x ∷ []) r.cells (one_cell Γ.replications x (stands_site x rs (A.0 x refl)), tt)
+  with_one rs p x Γ A r = AllByRecursion_append IsCell Γ.cells (cell_of Γ.replications x ∷ []) r.cells (one_cell Γ.replications x (stands_site x rs (A.0 x refl)), tt)
 
   reach_second : (h : Head) (w : Position) (a b : Tree) (Γ : Context) (rs : List (ℕ × ℕ)) (p : ℕ) → is_named ds V w h a ≡ true → Here w (Node h a b) → AllByRecursion (Agrees F) (named_here rs p h a) → Reach Γ → Reach (second_context w h a Γ)
   reach_second Cons w a b Γ rs p n k A r = reach_rest w a b Γ n k r
   reach_second (Repl i m) w a b Γ rs p n k A r = record { cells = r.cells; own = r.own }
-  reach_second (In c) w a b Γ rs p n k A r = record { cells = all-append IsCell Γ.cells (cells_of Γ.replications (second a)) r.cells (names_cells Γ.replications rs p (bound_names (second a)) A); own = r.own }
+  reach_second (In c) w a b Γ rs p n k A r = record { cells = AllByRecursion_append IsCell Γ.cells (cells_of Γ.replications (second a)) r.cells (names_cells Γ.replications rs p (bound_names (second a)) A); own = r.own }
   reach_second (New x T) w a b Γ rs p n k A r = record { cells = with_one rs p x Γ A r; own = r.own }
   reach_second (Let x T) w a b Γ rs p n k A r = record { cells = with_one rs p x Γ A r; own = r.own }
   reach_second (Key x) w a b Γ rs p n k A r = record { cells = with_one rs p x Γ A r; own = r.own }
   reach_second (Call x l) w a b Γ rs p n k A r = record { cells = with_one rs p x Γ (A.0, tt) r; own = r.own }
   reach_second (Event e) w a b Γ rs p n k A r = record { cells = r.cells; own = r.own }
   reach_second If w a b Γ rs p n k A r = record { cells = r.cells; own = r.own }
-  reach_second Branch w a b Γ rs p n k A r = record { cells = r.cells; own = all-append IsCell Γ.own (cells_of Γ.replications a) r.own (names_cells Γ.replications rs p (bound_names a) A) }
+  reach_second Branch w a b Γ rs p n k A r = record { cells = r.cells; own = AllByRecursion_append IsCell Γ.own (cells_of Γ.replications a) r.own (names_cells Γ.replications rs p (bound_names a) A) }
   reach_second h w a b Γ rs p n k A r = r
 
   -- a node's name
@@ -152,13 +153,13 @@ module _ (ds : List Declaration) (game : Tree) (constants : HasConstants ds) whe
       let rs = s.known.replications in
       let p = and_parts (is_named ds V s.position h a) _ n in
       let q = and_parts (are_named ds V (first_position s.position h) a) _ p.1 in
-      let here = all-left (Agrees F) (sites_here rs s.place h a) _ A in
-      let named = all-left (Agrees F) (named_here rs s.place h a) (channel_here rs s.place h a) here in
-      let below = all-right (Agrees F) (sites_here rs s.place h a) _ A in
-      let first = all-left (Agrees F) (sites_from rs (first_place s.place h) a) _ below in
-      let second = all-right (Agrees F) (sites_from rs (first_place s.place h) a) _ below in
-      let e = first_same s.position h s.known in
-      let f = second_same s.position h a s.known in
+      let here = AllByRecursion_left (Agrees F) (sites_here rs s.place h a) _ A in
+      let named = AllByRecursion_left (Agrees F) (named_here rs s.place h a) (channel_here rs s.place h a) here in
+      let below = AllByRecursion_right (Agrees F) (sites_here rs s.place h a) _ A in
+      let first = AllByRecursion_left (Agrees F) (sites_from rs (first_place s.place h) a) _ below in
+      let second = AllByRecursion_right (Agrees F) (sites_from rs (first_place s.place h) a) _ below in
+      let e = first_replications s.position h s.known in
+      let f = second_replications s.position h a s.known in
       and_from (is_known ds V rs h) _ (head_known h s.position s.known a b (o.0 Unscoped) p.0 k r)
       (and_from (are_known ds V rs a) (are_known ds V (replications_below h rs) b)
       (subst (λ qs. are_known ds V qs a ≡ true) e (all_known (first_standing s h a) a o.1 q.0 (here_first h s.position a b p.0 k) (reach_first h s.position s.known r) (subst (λ qs. AllByRecursion (Agrees F) (sites_from qs (first_place s.place h) a)) (sym e) first)))

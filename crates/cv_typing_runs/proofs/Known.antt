@@ -6,12 +6,12 @@ use Rattle.cv_syntax_trees.specs.declared.head.Head.TheVariants.{Apply, Leaf, Re
 use Rattle.cv_syntax_trees.specs.Declarations.{Declaration}
 use Rattle.cv_syntax_trees.specs.Tree.{Tree, Empty, Node}
 use Rattle.std.specs.Prelude.{List}
-use Rattle.cv_meaning_adequacy.specs.Typed.{Scope}
-use Rattle.cv_meaning_adequacy.proofs.Lists.{or_cases}
+use Rattle.cv_meaning_laws.specs.adequacy.Typed.{Scope}
 use Rattle.cv_scope_rules.specs.Context.{replications_below}
 use Rattle.cv_scope_rules.specs.Rules.{is_index}
 use Rattle.cv_typing_rules.specs.Signature.{function_in}
 use Rattle.cv_typing_runs.specs.Games.{are_known, is_known}
+use Rattle.cv_lists.proofs.Tests.{or_cases}
 
 abbrev pub IsKnown : List Declaration → (variable : ℕ → Bool) → Scope → Head → Type 0
 IsKnown ds variable rs (Leaf x) = (is_index rs x ≡ true) ⊎ ((is_some (function_in ds x) ≡ true) ⊎ (variable x ≡ true))

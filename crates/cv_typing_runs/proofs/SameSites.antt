@@ -3,7 +3,7 @@ use Rattle.std.proofs.Common.{◌≡◌, ℕ, ◌==◌, Bool, true, false, cond,
 use Rattle.std.proofs.lemmas.Bool.{both_ways, and_parts}
 use Rattle.std.proofs.lemmas.List.{map-append}
 use Rattle.std.specs.List.{AllByRecursion}
-use Rattle.cv_first_fault.specs.Walk.{IsObeyed}
+use Rattle.cv_syntax_faults.specs.Walk.{IsObeyed}
 use Rattle.cv_syntax_trees.specs.declared.head.Head.{Head}
 use Rattle.cv_syntax_trees.specs.declared.head.Head.TheVariants.{Binder, Branch, Call, Cons, Find, In, Key, Let, New, Repl}
 use Rattle.cv_syntax_trees.specs.Tree.{Tree, Empty, Node, second, first_place, second_place}
@@ -15,16 +15,15 @@ use Rattle.cv_scope_rules.specs.Rules.{MayFollow, MayStand, Names}
 use Rattle.cv_scope_rules.specs.Scope.{IsScopedAt}
 use Rattle.cv_scope_rules.specs.Sites.{Site, Variable as Named, channel_here, named_here, sites_from, sites_here, variable_sites}
 use Rattle.cv_scope_rules.specs.Standing.{Standing, first_standing, second_standing}
-use Rattle.cv_scope_rules.proofs.Pairs.{all-append}
 use Rattle.cv_scope_rules.specs.Phrases.{Phrase, Arm, Binders, Inputs, Pattern, both_are, is_phrase, parts}
 use Rattle.cv_scope_rules.proofs.Plain.{phrase_plain}
 use Rattle.cv_directory_sorts.specs.declared.sort.Sort.{Sort}
 use Rattle.cv_directory_sorts.specs.declared.sort.Sort.TheVariants.{BelowParameter, OfType}
 use Rattle.cv_directory_sorts.specs.Sites.{Variable, at_parameters, bound_sort, first_of, first_site, parameters_below, site_here}
 use Rattle.cv_typing_runs.specs.Games.{parameters_of}
-
-pub none_some : {A : Type 0} (a : A) → ◌≡◌ {A = Option A} None (Some a) → ⊥
-none_some a e = cc
+use Rattle.cv_scope_rules.proofs.Apart.{first_replications, second_replications}
+use Rattle.cv_lists.proofs.Options.{none_some}
+use Rattle.cv_lists.proofs.Each.{AllByRecursion_append}
 
 -- phrases
 
@@ -55,22 +54,6 @@ branch_binders Arm a b e = (and_parts (is_phrase Binders a) _ e).0
 branch_binders σ a b e = absurd (both_ways false refl e)
 
 -- replications
-
-pub first_same : (w : Position) (h : Head) (Γ : Context) → (first_context w h Γ).replications ≡ Γ.replications
-first_same Bodies Cons Γ = refl
-first_same ElseBody Cons Γ = refl
-first_same w Cons Γ = refl
-first_same w h Γ = refl
-
-rest_same : (w : Position) (a : Tree) (Γ : Context) → (rest_context w a Γ).replications ≡ Γ.replications
-rest_same ScopeGuards a Γ = refl
-rest_same ScopeGuarded a Γ = refl
-rest_same ScopeCells a Γ = refl
-rest_same w a Γ = refl
-
-pub second_same : (w : Position) (h : Head) (a : Tree) (Γ : Context) → (second_context w h a Γ).replications ≡ replications_below h Γ.replications
-second_same w Cons a Γ = rest_same w a Γ
-second_same w h a Γ = refl
 
 pub below_parameters : (h : Head) (rs : List (ℕ × ℕ)) → parameters_of (replications_below h rs) ≡ parameters_below h (parameters_of rs)
 below_parameters (Repl i n) rs = map-append (λ (r : ℕ × ℕ). r.1) rs ((i, n) ∷ [])
@@ -159,7 +142,7 @@ module _ (F : ℕ → Option Variable) where
 
   agree : (passed : List (ℕ × ℕ)) (sites ss : List Site) → AllByRecursion Agrees sites → MayStand passed sites ss → AllByRecursion (Fresh sites) ss → AllByRecursion Agrees ss
   agree passed sites [] a m f = tt
-  agree passed sites (s ∷ ss) a m f = (here, agree passed (sites ++ s ∷ []) ss (all-append Agrees sites (s ∷ []) a (here, tt)) m.1 (fresh_more sites (s ∷ []) ss f.1))
+  agree passed sites (s ∷ ss) a m f = (here, agree passed (sites ++ s ∷ []) ss (AllByRecursion_append Agrees sites (s ∷ []) a (here, tt)) m.1 (fresh_more sites (s ∷ []) ss f.1))
     where
       one : (x : ℕ) → s.name ≡ Named x → HasSite x sites ⊎ Stands x s.replications → Stands x s.replications
       one x n (inl h) = follow passed s x sites a m.0 h n
@@ -246,13 +229,13 @@ module _ (F : ℕ → Option Variable) where
       let w = phrase_open σ h a b e in
       let stand : MayStand s.passed s.sites (named_here rs s.place h a) = subst (λ qs. MayStand s.passed s.sites (named_here qs s.place h a)) r (o.0 TwoSites) in
       let named = agree s.passed s.sites (named_here rs s.place h a) A stand (here_fresh σ rs s.sites s.place h a b e (found rs s.sites h a b B)) in
-      let here : AllByRecursion Agrees (sites_here rs s.place h a) = all-append Agrees (named_here rs s.place h a) (channel_here rs s.place h a) named (channels_agree rs s.place h a) in
+      let here : AllByRecursion Agrees (sites_here rs s.place h a) = AllByRecursion_append Agrees (named_here rs s.place h a) (channel_here rs s.place h a) named (channels_agree rs s.place h a) in
       let same : sites_here s.known.replications s.place h a ≡ sites_here rs s.place h a = ap (λ qs. sites_here qs s.place h a) r in
-      let first = sites_agree names w.0.0 (first_standing s h a) rs a (first_same s.position h s.known ∙ r) w.2 o.1
-      (subst (λ l. AllByRecursion Agrees (s.sites ++ l)) (sym same) (all-append Agrees s.sites (sites_here rs s.place h a) A here))
+      let first = sites_agree names w.0.0 (first_standing s h a) rs a (first_replications s.position h s.known ∙ r) w.2 o.1
+      (subst (λ l. AllByRecursion Agrees (s.sites ++ l)) (sym same) (AllByRecursion_append Agrees s.sites (sites_here rs s.place h a) A here))
       (λ x. subst (λ l. Before (parameters_of rs) (s.sites ++ l) a x) (sym same) (before_first σ rs s.sites s.place h a b e x (B x))) in
       let both : (sites_here s.known.replications s.place h a ++ sites_from s.known.replications (first_place s.place h) a) ≡ (sites_here rs s.place h a ++ sites_from rs (first_place s.place h) a) = ap (λ qs. sites_here qs s.place h a ++ sites_from qs (first_place s.place h) a) r in
-      let second = sites_agree names w.0.1 (second_standing s h a) (replications_below h rs) b (second_same s.position h a s.known ∙ ap (replications_below h) r) w.3 o.2
-      (subst (λ l. AllByRecursion Agrees (s.sites ++ l)) (sym both) (all-append Agrees s.sites _ A (all-append Agrees (sites_here rs s.place h a) (sites_from rs (first_place s.place h) a) here first)))
+      let second = sites_agree names w.0.1 (second_standing s h a) (replications_below h rs) b (second_replications s.position h a s.known ∙ ap (replications_below h) r) w.3 o.2
+      (subst (λ l. AllByRecursion Agrees (s.sites ++ l)) (sym both) (AllByRecursion_append Agrees s.sites _ A (AllByRecursion_append Agrees (sites_here rs s.place h a) (sites_from rs (first_place s.place h) a) here first)))
       (λ x. subst (λ l. Before (parameters_of (replications_below h rs)) (s.sites ++ l) b x) (sym both) (subst (λ ps. Before ps (s.sites ++ (sites_here rs s.place h a ++ sites_from rs (first_place s.place h) a)) b x) (sym (below_parameters h rs)) (before_second σ rs s.sites s.place h a b e x (B x)))) in
-      all-append Agrees (sites_here rs s.place h a) _ here (all-append Agrees (sites_from rs (first_place s.place h) a) (sites_from (replications_below h rs) (second_place s.place h a) b) first second)
+      AllByRecursion_append Agrees (sites_here rs s.place h a) _ here (AllByRecursion_append Agrees (sites_from rs (first_place s.place h) a) (sites_from (replications_below h rs) (second_place s.place h a) b) first second)

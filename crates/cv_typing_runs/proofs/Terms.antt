@@ -6,10 +6,10 @@ use Rattle.cv_syntax_trees.specs.declared.head.Head.{Head}
 use Rattle.cv_syntax_trees.specs.declared.head.Head.TheVariants.{And, Apply, Cons, Eq, Leaf, No, Not, Or, Read, Yes}
 use Rattle.cv_syntax_trees.specs.Declarations.{Declaration}
 use Rattle.cv_syntax_trees.specs.Tree.{Tree, Empty, Node}
-use Rattle.cv_first_fault.specs.Walk.{IsObeyed}
+use Rattle.cv_syntax_faults.specs.Walk.{IsObeyed}
 use Rattle.cv_meaning.specs.Interpretation.{is_constant_of}
-use Rattle.cv_meaning_adequacy.specs.Typed as meaning
-use Rattle.cv_meaning_adequacy.specs.Typed.{Context, HasSort, HaveSomeSorts, HaveSorts, IsFunction, NameHasSort, Scope, parameter_in}
+use Rattle.cv_meaning_laws.specs.adequacy.Typed as meaning
+use Rattle.cv_meaning_laws.specs.adequacy.Typed.{Context, HasSort, HaveSomeSorts, HaveSorts, IsFunction, NameHasSort, Scope, parameter_in}
 use Rattle.cv_scope_rules.specs.Rules.{is_index}
 use Rattle.cv_scope_rules.specs.Phrases.{Phrase, Nil, Term, Terms, binds_none, is_phrase}
 use Rattle.cv_scope_rules.proofs.Unbound.{no_variable}

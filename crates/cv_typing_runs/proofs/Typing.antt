@@ -6,10 +6,10 @@ use Rattle.std.specs.List.{AllByRecursion}
 use Rattle.cv_syntax_trees.specs.declared.head.Head.TheVariants.{And, Apply, Binder, Branch, Cons, Eq, Event, Find, If, In, Leaf, Let, New, No, Not, Or, Out, Par, Read, Repl, Stop, Yes, Yield}
 use Rattle.cv_syntax_trees.specs.Declarations.{Declaration}
 use Rattle.cv_syntax_trees.specs.Tree.{Tree, Empty, Node, first, second, first_place, second_place}
-use Rattle.cv_first_fault.specs.Walk.{IsObeyed}
+use Rattle.cv_syntax_faults.specs.Walk.{IsObeyed}
 use Rattle.cv_meaning.specs.Interpretation.{is_constant_of}
-use Rattle.cv_meaning_adequacy.specs.Typed as meaning
-use Rattle.cv_meaning_adequacy.specs.Typed.{AreBranches, AreVariables, HasSort, HaveSomeSorts, HasTypedRestrictions, IsVariable, Scope, parameter_in, IsTyped as MeansTyped}
+use Rattle.cv_meaning_laws.specs.adequacy.Typed as meaning
+use Rattle.cv_meaning_laws.specs.adequacy.Typed.{AreBranches, AreVariables, HasSort, HaveSomeSorts, HasTypedRestrictions, IsVariable, Scope, parameter_in, IsTyped as MeansTyped}
 use Rattle.cv_scope_rules.specs.Sites.{channel_here, sites_from, sites_here, variable_sites}
 use Rattle.cv_scope_rules.specs.Phrases.{Phrase, Arm, Binders, Body, Branches as BranchesPhrase, Cells, Else, Guarded as GuardedPhrase, Guards, Indices, Inputs, Message as MessagePhrase, Nil, OneCell, Pattern, Term, Terms, Then, binds_none, is_phrase}
 use Rattle.cv_typing_rules.specs.declared.form.Form.TheVariants.{InProcess}
@@ -22,10 +22,10 @@ use Rattle.cv_typing_rules.specs.Typing.{IsTyped, binders_differ}
 use Rattle.cv_directory_sorts.specs.Sorts.{differs_from}
 use Rattle.cv_typing_rules.specs.Wants.{AllMessages, Branches, EachTerm, Guarded, Message, Of, Run, Sent, Tested, Want, above_second, bound, wants}
 use Rattle.cv_typing_runs.specs.Games.{HasArguments, context_of, has_site, sort_of_meaning, variable_of_meaning}
-use Rattle.cv_scope_rules.proofs.Pairs.{all-left, all-right}
 use Rattle.cv_typing_runs.proofs.Known.{AreKnown}
 use Rattle.cv_typing_runs.proofs.SameSites.{Agrees, Stands, input_binders}
 use Rattle.cv_typing_runs.proofs.Terms.{Matches, asked_sort, faultless, message_sort, nil_empty, same_sorts, some_have, sorted}
+use Rattle.cv_lists.proofs.Each.{AllByRecursion_left, AllByRecursion_right}
 
 -- indices in scope
 
@@ -181,49 +181,49 @@ module _ (ds : List Declaration) (game : Tree) where
     means Inputs above rs p (Node Stop a b) m q h k A = tt
     means Inputs above rs p (Node Par a b) m q h k A =
         let r = and_parts (is_phrase Inputs a) (is_phrase Inputs b) q in
-        (means Inputs above rs (first_place p Par) a m r.0 h.1 k.1 (all-left (Agrees F) (sites_from rs (first_place p Par) a) _ A), means Inputs above rs (second_place p Par a) b m r.1 h.2 k.2 (all-right (Agrees F) (sites_from rs (first_place p Par) a) _ A))
+        (means Inputs above rs (first_place p Par) a m r.0 h.1 k.1 (AllByRecursion_left (Agrees F) (sites_from rs (first_place p Par) a) _ A), means Inputs above rs (second_place p Par a) b m r.1 h.2 k.2 (AllByRecursion_right (Agrees F) (sites_from rs (first_place p Par) a) _ A))
     means Inputs above rs p (Node (Repl i n) a b) m q h k A =
         let r = and_parts (is_phrase Nil a) (is_phrase Inputs b) q in
-        means Inputs (bound First above i (BelowParameter n)) (rs ++ (i, n) ∷ []) (second_place p (Repl i n) a) b (below_more above rs i n m) r.1 h.2 k.2 (all-right (Agrees F) (sites_from rs (first_place p (Repl i n)) a) _ A)
+        means Inputs (bound First above i (BelowParameter n)) (rs ++ (i, n) ∷ []) (second_place p (Repl i n) a) b (below_more above rs i n m) r.1 h.2 k.2 (AllByRecursion_right (Agrees F) (sites_from rs (first_place p (Repl i n)) a) _ A)
     means Inputs above rs p (Node (In x) a b) m q h k A =
         let r = and_parts (is_phrase Pattern a) (is_phrase Body b) q in
         let g = faultless e above (Run InProcess) (In x) a h.0 in (
-          are_variables rs p OfType (second a) (input_binders Inputs x a b q) (all-left (Agrees F) (variable_sites rs p (second a)) (channel_here rs p (In x) a) (all-left (Agrees F) (sites_here rs p (In x) a) _ A)) g.site,
-          means Body above rs (second_place p (In x) a) b m r.1 h.2 k.2 (all-right (Agrees F) (sites_from rs (first_place p (In x)) a) _ (all-right (Agrees F) (sites_here rs p (In x) a) _ A)),
+          are_variables rs p OfType (second a) (input_binders Inputs x a b q) (AllByRecursion_left (Agrees F) (variable_sites rs p (second a)) (channel_here rs p (In x) a) (AllByRecursion_left (Agrees F) (sites_here rs p (In x) a) _ A)) g.site,
+          means Body above rs (second_place p (In x) a) b m r.1 h.2 k.2 (AllByRecursion_right (Agrees F) (sites_from rs (first_place p (In x)) a) _ (AllByRecursion_right (Agrees F) (sites_here rs p (In x) a) _ A)),
         )
     means Body above rs p (Node Yield a b) m q h k A = tt
     means Body above rs p (Node (Out x) a b) m q h k A =
         let r = and_parts (is_phrase MessagePhrase a) (is_phrase Inputs b) q in
-        (of_output above rs m a r.0 h.1 k.1, means Inputs above rs (second_place p (Out x) a) b m r.1 h.2 k.2 (all-right (Agrees F) (sites_from rs (first_place p (Out x)) a) _ A))
+        (of_output above rs m a r.0 h.1 k.1, means Inputs above rs (second_place p (Out x) a) b m r.1 h.2 k.2 (AllByRecursion_right (Agrees F) (sites_from rs (first_place p (Out x)) a) _ A))
     means Body above rs p (Node (New x T) a b) m q h k A =
         let r = and_parts (is_phrase Nil a) (is_phrase Body b) q in
         let g = faultless e above (Run InProcess) (New x T) a h.0 in
-        (is_variable rs x (OfType T) (A.0 x refl) g.site, means Body above rs (second_place p (New x T) a) b m r.1 h.2 k.2 (all-right (Agrees F) (sites_from rs (first_place p (New x T)) a) _ A.1))
+        (is_variable rs x (OfType T) (A.0 x refl) g.site, means Body above rs (second_place p (New x T) a) b m r.1 h.2 k.2 (AllByRecursion_right (Agrees F) (sites_from rs (first_place p (New x T)) a) _ A.1))
     means Body above rs p (Node (Let x T) a b) m q h k A =
         let r = and_parts (is_phrase Term a) (is_phrase Body b) q in
         let g = faultless e above (Run InProcess) (Let x T) a h.0 in
-        (is_variable rs x (OfType T) (A.0 x refl) g.site, of_message above rs m T a r.0 h.1 k.1, means Body above rs (second_place p (Let x T) a) b m r.1 h.2 k.2 (all-right (Agrees F) (sites_from rs (first_place p (Let x T)) a) _ A.1))
+        (is_variable rs x (OfType T) (A.0 x refl) g.site, of_message above rs m T a r.0 h.1 k.1, means Body above rs (second_place p (Let x T) a) b m r.1 h.2 k.2 (AllByRecursion_right (Agrees F) (sites_from rs (first_place p (Let x T)) a) _ A.1))
     means Body above rs p (Node (Event v) a b) m q h k A =
         let r = and_parts (is_phrase Terms a) (is_phrase Body b) q in
-        (of_list above rs m _ a r.0 h.1 k.1, means Body above rs (second_place p (Event v) a) b m r.1 h.2 k.2 (all-right (Agrees F) (sites_from rs (first_place p (Event v)) a) _ A))
+        (of_list above rs m _ a r.0 h.1 k.1, means Body above rs (second_place p (Event v) a) b m r.1 h.2 k.2 (AllByRecursion_right (Agrees F) (sites_from rs (first_place p (Event v)) a) _ A))
     means Body above rs p (Node If a b) m q h k A =
         let r = and_parts (is_phrase Term a) (is_phrase Then b) q in
-        (of_boolean above rs m a r.0 h.1 k.1, means Then above rs (second_place p If a) b m r.1 h.2 k.2 (all-right (Agrees F) (sites_from rs (first_place p If) a) _ A))
+        (of_boolean above rs m a r.0 h.1 k.1, means Then above rs (second_place p If a) b m r.1 h.2 k.2 (AllByRecursion_right (Agrees F) (sites_from rs (first_place p If) a) _ A))
     means Body above rs p (Node (Find l) a b) m q h k A =
         let r = and_parts (is_phrase BranchesPhrase a) (is_phrase Body b) q in
-        let f = means BranchesPhrase above rs (first_place p (Find l)) a m r.0 h.1 k.1 (all-left (Agrees F) (sites_from rs (first_place p (Find l)) a) _ A.1) in
-        (f.0, f.1, means Body above rs (second_place p (Find l) a) b m r.1 h.2 k.2 (all-right (Agrees F) (sites_from rs (first_place p (Find l)) a) _ A.1))
+        let f = means BranchesPhrase above rs (first_place p (Find l)) a m r.0 h.1 k.1 (AllByRecursion_left (Agrees F) (sites_from rs (first_place p (Find l)) a) _ A.1) in
+        (f.0, f.1, means Body above rs (second_place p (Find l) a) b m r.1 h.2 k.2 (AllByRecursion_right (Agrees F) (sites_from rs (first_place p (Find l)) a) _ A.1))
     means Then above rs p (Node Cons a b) m q h k A =
         let r = and_parts (is_phrase Body a) (is_phrase Else b) q in
-        (means Body above rs (first_place p Cons) a m r.0 h.1 k.1 (all-left (Agrees F) (sites_from rs (first_place p Cons) a) _ A), means Else above rs (second_place p Cons a) b m r.1 h.2 k.2 (all-right (Agrees F) (sites_from rs (first_place p Cons) a) _ A))
+        (means Body above rs (first_place p Cons) a m r.0 h.1 k.1 (AllByRecursion_left (Agrees F) (sites_from rs (first_place p Cons) a) _ A), means Else above rs (second_place p Cons a) b m r.1 h.2 k.2 (AllByRecursion_right (Agrees F) (sites_from rs (first_place p Cons) a) _ A))
     means Else above rs p (Node Cons a b) m q h k A =
         let r = and_parts (is_phrase Body a) (is_phrase Nil b) q in
-        (means Body above rs (first_place p Cons) a m r.0 h.1 k.1 (all-left (Agrees F) (sites_from rs (first_place p Cons) a) _ A), subst (MeansTyped c rs) (sym (nil_empty b r.1)) tt)
+        (means Body above rs (first_place p Cons) a m r.0 h.1 k.1 (AllByRecursion_left (Agrees F) (sites_from rs (first_place p Cons) a) _ A), subst (MeansTyped c rs) (sym (nil_empty b r.1)) tt)
     means BranchesPhrase above rs p Empty m q h k A = (tt, tt)
     means BranchesPhrase above rs p (Node Cons a b) m q h k A =
         let r = and_parts (is_phrase Arm a) (is_phrase BranchesPhrase b) q in
-        let f = means Arm above rs (first_place p Cons) a m r.0 h.1 k.1 (all-left (Agrees F) (sites_from rs (first_place p Cons) a) _ A) in
-        let g = means BranchesPhrase above rs (second_place p Cons a) b m r.1 h.2 k.2 (all-right (Agrees F) (sites_from rs (first_place p Cons) a) _ A) in
+        let f = means Arm above rs (first_place p Cons) a m r.0 h.1 k.1 (AllByRecursion_left (Agrees F) (sites_from rs (first_place p Cons) a) _ A) in
+        let g = means BranchesPhrase above rs (second_place p Cons a) b m r.1 h.2 k.2 (AllByRecursion_right (Agrees F) (sites_from rs (first_place p Cons) a) _ A) in
         (front a b f.0 g.0, (f.1, g.1))
       where
         front : (a b : Tree) → AreBranches (Node Cons a Empty) → AreBranches b → AreBranches (Node Cons a b)
@@ -233,15 +233,15 @@ module _ (ds : List Declaration) (game : Tree) where
     means Arm above rs p (Node Branch a b) m q h k A =
         let r = and_parts (is_phrase Binders a) (is_phrase Guards b) q in
         let g = faultless e above (Branches InProcess) Branch a h.0 in
-        let f = means Guards above rs (second_place p Branch a) b m r.1 h.2 k.2 (all-right (Agrees F) (sites_from rs (first_place p Branch) a) _ (all-right (Agrees F) (sites_here rs p Branch a) _ A)) in
-        (tt, (are_variables rs p BelowParameter a r.0 (all-left (Agrees F) (variable_sites rs p a) [] (all-left (Agrees F) (sites_here rs p Branch a) _ A)) g.site, f.0, f.1, f.2))
+        let f = means Guards above rs (second_place p Branch a) b m r.1 h.2 k.2 (AllByRecursion_right (Agrees F) (sites_from rs (first_place p Branch) a) _ (AllByRecursion_right (Agrees F) (sites_here rs p Branch a) _ A)) in
+        (tt, (are_variables rs p BelowParameter a r.0 (AllByRecursion_left (Agrees F) (variable_sites rs p a) [] (AllByRecursion_left (Agrees F) (sites_here rs p Branch a) _ A)) g.site, f.0, f.1, f.2))
     means Guards above rs p (Node Cons a b) m q h k A =
         let r = and_parts (is_phrase Cells a) (is_phrase GuardedPhrase b) q in
-        let f = means GuardedPhrase above rs (second_place p Cons a) b m r.1 h.2 k.2 (all-right (Agrees F) (sites_from rs (first_place p Cons) a) _ A) in
+        let f = means GuardedPhrase above rs (second_place p Cons a) b m r.1 h.2 k.2 (AllByRecursion_right (Agrees F) (sites_from rs (first_place p Cons) a) _ A) in
         (of_list above rs m EachTerm a (cells_terms a r.0) h.1 k.1, f.0, (terms_typed c rs false a (cells_terms a r.0), f.1))
     means GuardedPhrase above rs p (Node Cons a b) m q h k A =
         let r = and_parts (is_phrase Term a) (is_phrase Body b) q in
-        let f = means Body above rs (second_place p Cons a) b m r.1 h.2 k.2 (all-right (Agrees F) (sites_from rs (first_place p Cons) a) _ A) in
+        let f = means Body above rs (second_place p Cons a) b m r.1 h.2 k.2 (AllByRecursion_right (Agrees F) (sites_from rs (first_place p Cons) a) _ A) in
         (of_boolean above rs m a r.0 h.1 k.1, (terms_typed c rs true a r.0, f))
     means Nil above rs p t m q h k A = tt
     means Pattern above rs p t m q h k A = tt

@@ -1,7 +1,7 @@
 -- The worked games meet the premises, or do not.
 use Rattle.std.proofs.Common.{true, false, [], inl, inr, None, refl}
 use Rattle.std.proofs.lemmas.Bool.{both_ways}
-use Rattle.cv_first_fault.specs.Walk.{first_fault}
+use Rattle.cv_syntax_faults.specs.Walk.{first_fault}
 use Rattle.cv_syntax_trees.specs.Tree.{Empty, size, same_tree}
 use Rattle.cv_directory_sorts.specs.Sites.{bound_sort, first_index, first_site}
 use Rattle.cv_typing_rules.specs.Parts.{IsTypedGame, game_part, signature_of}
@@ -14,8 +14,8 @@ use Rattle.cv_scope_rules.specs.Standing.{at_root}
 use Rattle.cv_scope_rules.specs.Scope.{is_untyped_in, names_of}
 use Rattle.cv_scope_rules.proofs.First.{scoped_where_none}
 use Rattle.cv_scope_rules.specs.Phrases.{is_phrase, binds_none, IsWellFormed}
-use Rattle.cv_meaning_adequacy.specs.Typed.{BelowParameter, HasSort, HaveSorts, IsDeclared, IsTyped, OfType}
-use Rattle.cv_meaning_adequacy.proofs.Lists.{has_contains}
+use Rattle.cv_meaning_laws.specs.adequacy.Typed.{BelowParameter, HasSort, HaveSorts, IsDeclared, IsTyped, OfType}
+use Rattle.cv_meaning_laws.proofs.adequacy.Lists.{has_contains}
 use Rattle.cv_typing_runs.specs.Games.{AreDeclared, HasArguments, HasDeclaredSorts, HasKnownNames, are_known, context_of, HasConstants, HasNamedFunctionsAndCells, are_named}
 use Rattle.cv_typing_runs.specs.Worked.{declared, found_game, nameless_game}
 

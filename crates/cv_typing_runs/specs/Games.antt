@@ -11,9 +11,9 @@ use Rattle.cv_meaning.specs.Interpretation.{Interpretation, is_constant_of, sett
 use Rattle.cv_meaning.specs.Runs.{Adversary, Mode}
 use Rattle.cv_meaning.specs.Cells.{cells}
 use Rattle.cv_meaning.specs.Experiments.{run}
-use Rattle.cv_meaning_adequacy.specs.Counted.{tapes_of}
-use Rattle.cv_meaning_adequacy.specs.Typed as meaning
-use Rattle.cv_meaning_adequacy.specs.Typed.{Context, IsDeclared, Scope, IsTypedStore}
+use Rattle.cv_meaning_laws.specs.adequacy.Counted.{tapes_of}
+use Rattle.cv_meaning_laws.specs.adequacy.Typed as meaning
+use Rattle.cv_meaning_laws.specs.adequacy.Typed.{Context, IsDeclared, Scope, IsTypedStore}
 use Rattle.cv_scope_rules.specs.Rules.{is_index}
 use Rattle.cv_scope_rules.specs.declared.position.Position.{Position}
 use Rattle.cv_scope_rules.specs.declared.position.Position.TheVariants.{Anywhere, Guards}

@@ -1,8 +1,8 @@
-use Rattle.cv_bound_values.proofs.Adding.{sum_value-append, collisions_twice, terms_have_tapes, one_coefficient, collision_has_tapes}
+use Rattle.cv_bound_values.proofs.Adding.{sum_value_append, collisions_twice, terms_have_tapes, one_coefficient, collision_has_tapes}
 use Rattle.cv_bound_values.proofs.values_of_sums.Goals as goal
 
 pub returns-clause-both : goal.returns-clause-both
-returns-clause-both c = sum_value-append
+returns-clause-both c = sum_value_append
 
 pub returns-clause-merged : goal.returns-clause-merged
 returns-clause-merged c = one_coefficient

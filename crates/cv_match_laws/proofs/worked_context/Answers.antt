@@ -1,11 +1,11 @@
 use Rattle.std.proofs.Common.{refl}
 use Rattle.cv_syntax_trees.specs.Tree.{same_tree, size}
-use Rattle.cv_derivations.specs.Given.{with_given}
+use Rattle.cv_derive_rules.specs.Given.{with_given}
 use Rattle.cv_directory_sorts.specs.Sites.{bound_sort, first_site}
 use Rattle.cv_typing_rules.specs.Signature.{names_in}
-use Rattle.cv_scenes.specs.Instances.{standing_for}
-use Rattle.cv_scenes.specs.Sites.{sites_in}
-use Rattle.cv_scenes.specs.Contexts.{context_in}
+use Rattle.cv_scene.specs.Instances.{standing_for}
+use Rattle.cv_scene.specs.Sites.{sites_in}
+use Rattle.cv_scene.specs.Contexts.{context_in}
 use Rattle.cv_match_laws.proofs.worked_context.Goals as goal
 
 pub returns-clause-tree : goal.returns-clause-tree

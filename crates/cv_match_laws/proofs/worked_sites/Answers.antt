@@ -1,14 +1,14 @@
 use Rattle.std.proofs.Common.{refl}
 use Rattle.cv_syntax_trees.specs.Tree.{same_tree, size}
-use Rattle.cv_derivations.specs.Given.{with_given}
+use Rattle.cv_derive_rules.specs.Given.{with_given}
 use Rattle.cv_directory_sorts.specs.Sites.{bound_sort, first_site}
 use Rattle.cv_typing_rules.specs.Signature.{names_in}
 use Rattle.cv_meaning.specs.Queries.{queries_in}
 use Rattle.cv_scope_rules.specs.Made.{is_bound}
-use Rattle.cv_scenes.specs.Scenes.{first_reading}
-use Rattle.cv_scenes.specs.Instances.{standing_for}
-use Rattle.cv_scenes.specs.Sites.{sites_in}
-use Rattle.cv_scenes.specs.Refusals.{definitions_in, first_in_arguments, first_in_condition, first_use, uses}
+use Rattle.cv_scene.specs.Scenes.{first_reading}
+use Rattle.cv_scene.specs.Instances.{standing_for}
+use Rattle.cv_scene.specs.Sites.{sites_in}
+use Rattle.cv_scene.specs.Refusals.{definitions_in, first_in_arguments, first_in_condition, first_use, uses}
 use Rattle.cv_match_laws.proofs.worked_sites.Goals as goal
 
 pub returns-clause-sites : goal.returns-clause-sites

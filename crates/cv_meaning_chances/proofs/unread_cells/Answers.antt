@@ -1,4 +1,4 @@
-use Rattle.cv_meaning_chances.proofs.Unread.{ignores_other, ignores_written, count_ignored, total_more, chance_ignored}
+use Rattle.cv_meaning_chances.proofs.UnreadCells.{ignores_other, ignores_written, count_ignored, total_more, chance_ignored}
 use Rattle.cv_meaning_chances.proofs.unread_cells.Goals as goal
 
 pub returns-clause-other_cell : goal.returns-clause-other_cell

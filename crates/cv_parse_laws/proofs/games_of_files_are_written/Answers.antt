@@ -1,4 +1,4 @@
-use Rattle.cv_parse_terminals.specs.Signs.{signs_of}
+use Rattle.cv_parse_tables.specs.terminals.Signs.{signs_of}
 use Rattle.cv_parse_laws.proofs.WrittenGames.{game_written}
 use Rattle.cv_parse_laws.proofs.Signs.{signs_named}
 use Rattle.cv_parse_laws.proofs.games_of_files_are_written.Goals as goal

@@ -1,5 +1,5 @@
 use Rattle.std.proofs.Common.{refl}
-use Rattle.cv_script_rows.specs.Rows.{script_row, script_rows}
+use Rattle.cv_script.specs.rows.Rows.{script_row, script_rows}
 use Rattle.cv_print_scripts.proofs.Texts.{row_is_read, step_is_read}
 use Rattle.cv_print_scripts.proofs.steps_are_read_back.Goals as goal
 

@@ -6,7 +6,7 @@ use Rattle.cv.proofs.Causing.{refusal_cause}
 use Rattle.cv.proofs.Endings.{refusal_answers}
 use Rattle.cv.proofs.Faithful.{run_close}
 use Rattle.cv.proofs.Proving.{script_sound}
-use Rattle.cv_accept_sequences.proofs.Ready.{equivalences}
+use Rattle.cv_accept_laws.proofs.Ready.{equivalences}
 use Rattle.cv.proofs.Running.{run_answers, run_cause, run_judged, run_live, run_sound}
 use Rattle.cv.proofs.Verdicts.{reads_at, refuses_at}
 use Rattle.cv.proofs.decide.judge.Goals as goal

@@ -1,15 +1,15 @@
 use Rattle.std.proofs.Common.{arith, refl, ap, sym, subst, ◌∙◌, Some, inr, length, map}
-use Rattle.cv_pool.proofs.Growth.{Grows-length}
+use Rattle.cv_pool.proofs.Growth.{Grows_length}
 use Rattle.cv_syntax.specs.Declarations.{declarations}
-use Rattle.cv_parse_script.specs.Scripts.{trees_of}
+use Rattle.cv_script_reader.specs.Scripts.{trees_of}
 use Rattle.cv_meaning.specs.Queries.{queries_in}
 use Rattle.cv_accept.specs.Accepted.{Content}
 use Rattle.cv_accept.specs.Works.{content_at, content_nodes}
-use Rattle.cv_plain.proofs.QueryLists.{queries-same}
+use Rattle.cv_plain.proofs.QueryLists.{queries_same}
 use Rattle.cv_follow.specs.Scripts.{entry_in}
 use Rattle.cv.proofs.Ended.{walk_may}
 use Rattle.cv_follow.proofs.Following.{HasTrail, walk_trail}
-use Rattle.cv.proofs.Growing.{content-grown}
+use Rattle.cv.proofs.Growing.{content_grown}
 use Rattle.cv.proofs.script.run_script.Goals as goal
 
 pub returns-clause-run : goal.returns-clause-run
@@ -20,10 +20,10 @@ returns-clause-run c =
     let root = c.args.file.game.root in
     let walk = c.in-Ok.walk in
     let ds = declarations old.pool.trees old.decls.list in
-    let held = content-grown old now root (Some script) c.in-Ok.ensures.grows c.follow.ensures.names c.follow.ensures.decls c.requires.game c.requires.below c.requires.steps.live in
-    let more = Grows-length old.pool now.pool c.in-Ok.ensures.grows in
+    let held = content_grown old now root (Some script) c.in-Ok.ensures.grows c.follow.ensures.names c.follow.ensures.decls c.requires.game c.requires.below c.requires.steps.live in
+    let more = Grows_length old.pool now.pool c.in-Ok.ensures.grows in
     let c_old = content_at old root (Some script) in
-    let same = sym (queries-same old.pool.trees old.decls.list) in
+    let same = sym (queries_same old.pool.trees old.decls.list) in
     let t_old = walk_trail (length old.pool.trees) c_old _ _ (queries_in ds) now.pool.trees walk c.in-Ok.ensures.walk (ap (λ ss. Some (trees_of old.pool.trees ss)) (sym c.deref.ensures.value)) c.requires.nodes same in
     let t = subst (λ (d : Content). HasTrail walk.status (map (entry_in now.pool.trees) walk.trail.items) walk.verdicts.items (content_nodes d) d (queries_in d.declarations) d.script) (sym held) t_old in
     inr (record {

@@ -2,7 +2,7 @@ use Rattle.std.proofs.Common.{ℕ, List, Option, ap, sym, ◌∙◌, subst, inl,
 use Rattle.std.specs.Prelude.{IfSome, IsNone}
 use Rattle.cv.specs.Answers.{Answers, IsComplete}
 use Rattle.cv.specs.Causes.{ComesFrom, outside_of}
-use Rattle.cv_report_outcome.specs.Words.{AsksOnly, bytes_named, command_of}
+use Rattle.cv_report.specs.outcome.Words.{AsksOnly, bytes_named, command_of}
 use Rattle.cv.proofs.Endings.{words_answers, words_cause, words_complete}
 use Rattle.cv.proofs.top.decide.Goals as goal
 

@@ -8,7 +8,7 @@ use Rattle.cv_report.specs.declared.report.Status.TheVariants as status
 use Rattle.cv.specs.Answers.{IsComplete}
 use Rattle.cv.specs.Causes.{ComesFrom}
 use Rattle.cv_accept.specs.Accepted.{most_bytes}
-use Rattle.cv_report_outcome.specs.Words.{bytes_under}
+use Rattle.cv_report.specs.outcome.Words.{bytes_under}
 use Rattle.cv.proofs.Endings.{close_without, fetch_answers, fetch_cause, fetch_complete, fetch_never, fetched_told, judged_complete, judged_speaks, sound_without, speaks_never, under_told}
 use Rattle.cv.proofs.top.prove.Goals as goal
 

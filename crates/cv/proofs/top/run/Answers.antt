@@ -1,6 +1,6 @@
 use Rattle.std.specs.Prelude.{map, string_bytes}
-use Rattle.cv_lists.proofs.Options.{IfSome-weaker}
-use Rattle.cv_report_outcome.specs.Words.{bytes_named, file_named}
+use Rattle.cv_lists.proofs.Options.{IfSome_weaker}
+use Rattle.cv_report.specs.outcome.Words.{bytes_named, file_named}
 use Rattle.cv.proofs.Endings.{ends_well}
 use Rattle.cv.proofs.Writing.{by_sink, ends_either, kept_answers, kept_cause, kept_close, kept_complete, kept_sound, kept_words}
 use Rattle.cv.proofs.top.run.Goals as goal
@@ -22,12 +22,12 @@ returns-clause-cause g c = kept_cause _ _ _ c.write.ensures.kept c.decide-report
 
 pub returns-clause-complete : goal.returns-clause-complete
 returns-clause-complete g c = λ quiet.
-    IfSome-weaker _ _ (bytes_named (g.F.Shelf.told c.args.shelf.now) (file_named (map string_bytes c.args.words.now)))
+    IfSome_weaker _ _ (bytes_named (g.F.Shelf.told c.args.shelf.now) (file_named (map string_bytes c.args.words.now)))
     (λ bytes done. kept_complete bytes _ _ c.write.ensures.kept done) (c.decide-report.ensures.complete quiet)
 
 pub returns-clause-good : goal.returns-clause-good
 returns-clause-good g c = λ quiet still.
-    IfSome-weaker _ _ (bytes_named (g.F.Shelf.told c.args.shelf.now) (file_named (map string_bytes c.args.words.now)))
+    IfSome_weaker _ _ (bytes_named (g.F.Shelf.told c.args.shelf.now) (file_named (map string_bytes c.args.words.now)))
     (λ bytes done good. ends_well _ _ bytes (kept_complete bytes _ _ c.write.ensures.kept done) good (ends_either _ _ _ c.write.ensures.status) (λ w. still (by_sink _ _ _ _ c.write.ensures.kept c.decide-report.ensures.never c.write.ensures.status w))) (c.decide-report.ensures.complete quiet)
 
 pub returns-clause-written : goal.returns-clause-written

@@ -1,5 +1,5 @@
 use Rattle.std.proofs.Common.{ap, arith, subst, sym, ◌≤◌, ◌∙◌, length, Ok, Err, All}
-use Rattle.cv_parse_terminals.specs.Signs.{signs_of}
+use Rattle.cv_parse_tables.specs.terminals.Signs.{signs_of}
 use Rattle.cv_syntax_trees.specs.Tree.{size}
 use Rattle.cv_parse.specs.Declaring.{IsBelow}
 use Rattle.cv_parse.specs.Nodes.{file_nodes}
@@ -9,7 +9,7 @@ use Rattle.cv_scope_rules.specs.Scope.{first_scope_fault}
 use Rattle.cv_accept.specs.Accepted.{Refuses, asks_unbuilt, content_of}
 use Rattle.cv_accept.specs.Faults.{IsUnbuiltFault}
 use Rattle.cv_accept.specs.Places.{behind}
-use Rattle.cv_accept.proofs.Blocks.{below-grown, block_as, content_same, few_names, held-grown, root-grown}
+use Rattle.cv_accept.proofs.Blocks.{below_grown, block_as, content_same, few_names, held_grown, root_grown}
 use Rattle.cv_accept.proofs.Lengths.{few_tokens}
 use Rattle.cv_accept.proofs.Places.{none_behind, process_begins}
 use Rattle.cv_accept.proofs.Readings.{all_reads, block_refuses, block_within, by_block, form_refuses, by_groups, by_scope, by_types, grammar_refuses, group_refuses, lexis_refuses, query_refuses, reads_on, scope_refuses, types_refuse}
@@ -50,7 +50,7 @@ pub check_certificates-requires-clause-declared : goal.check_certificates-requir
 check_certificates-requires-clause-declared c =
     let old = c.file.new.work in
     let new = c.read_proof.new.work in
-    below-grown old.pool new.pool new.decls.list c.read_proof.ensures.grows (subst (λ ds. All (IsBelow (length old.pool.trees)) ds.list) (sym c.read_proof.ensures.decls) c.in_ok-file.ensures.below)
+    below_grown old.pool new.pool new.decls.list c.read_proof.ensures.grows (subst (λ ds. All (IsBelow (length old.pool.trees)) ds.list) (sym c.read_proof.ensures.decls) c.in_ok-file.ensures.below)
 
 pub returns-in_err-check_certificates-clause-reads : goal.returns-in_err-check_certificates-clause-reads
 returns-in_err-check_certificates-clause-reads c =
@@ -61,7 +61,7 @@ returns-in_err-check_certificates-clause-reads c =
     let old = c.file.new.work in
     let new = c.read_proof.new.work in
     let p = held_in new.pool.trees new.decls.list f in
-    let same = ap (λ ds. held_in new.pool.trees ds.list f) c.read_proof.ensures.decls ∙ held-grown old.pool new.pool old.decls.list f c.read_proof.ensures.grows c.in_ok-file.ensures.below c.in_ok-file.ensures.live in
+    let same = ap (λ ds. held_in new.pool.trees ds.list f) c.read_proof.ensures.decls ∙ held_grown old.pool new.pool old.decls.list f c.read_proof.ensures.grows c.in_ok-file.ensures.below c.in_ok-file.ensures.live in
     let parses = c.in_ok-file.ensures.parses ∙ ap Ok (sym same) in
     let block = block_as old.pool.limit limit (length old.pool.trees) ts old.names (signs_of ts).names f.script new.pool.trees (Ok c.in_ok-script.script) c.file.ensures.limit c.in_ok-file.ensures.names c.in_ok-script.ensures.reads in
     let fault = subst (λ steps. IsUnbuiltFault (asks_unbuilt p.declarations steps) c.in_err-check_certificates.field-0.0) block.2 c.in_err-check_certificates.ensures.fault in
@@ -71,31 +71,31 @@ pub check-requires-clause-declared : goal.check-requires-clause-declared
 check-requires-clause-declared c =
     let old = c.file.new.work in
     let new = c.read_proof.new.work in
-    below-grown old.pool new.pool new.decls.list c.read_proof.ensures.grows (subst (λ ds. All (IsBelow (length old.pool.trees)) ds.list) (sym c.read_proof.ensures.decls) c.in_ok-file.ensures.below)
+    below_grown old.pool new.pool new.decls.list c.read_proof.ensures.grows (subst (λ ds. All (IsBelow (length old.pool.trees)) ds.list) (sym c.read_proof.ensures.decls) c.in_ok-file.ensures.below)
 
 pub check_game-requires-clause-declared : goal.check_game-requires-clause-declared
 check_game-requires-clause-declared c =
     let old = c.file.new.work in
     let new = c.read_proof.new.work in
-    below-grown old.pool new.pool new.decls.list c.read_proof.ensures.grows (subst (λ ds. All (IsBelow (length old.pool.trees)) ds.list) (sym c.read_proof.ensures.decls) c.in_ok-file.ensures.below)
+    below_grown old.pool new.pool new.decls.list c.read_proof.ensures.grows (subst (λ ds. All (IsBelow (length old.pool.trees)) ds.list) (sym c.read_proof.ensures.decls) c.in_ok-file.ensures.below)
 
 pub check_all-requires : goal.check_all-requires
 check_all-requires c =
     let old = c.file.new.work in
     let new = c.read_proof.new.work in
-    below-grown old.pool new.pool new.decls.list c.read_proof.ensures.grows (subst (λ ds. All (IsBelow (length old.pool.trees)) ds.list) (sym c.read_proof.ensures.decls) c.in_ok-file.ensures.below)
+    below_grown old.pool new.pool new.decls.list c.read_proof.ensures.grows (subst (λ ds. All (IsBelow (length old.pool.trees)) ds.list) (sym c.read_proof.ensures.decls) c.in_ok-file.ensures.below)
 
 pub check-requires-2-clause-declared : goal.check-requires-2-clause-declared
 check-requires-2-clause-declared c =
     let old = c.file.new.work in
     let new = c.read_proof.new.work in
-    below-grown old.pool new.pool new.decls.list c.read_proof.ensures.grows (subst (λ ds. All (IsBelow (length old.pool.trees)) ds.list) (sym c.read_proof.ensures.decls) c.in_ok-file.ensures.below)
+    below_grown old.pool new.pool new.decls.list c.read_proof.ensures.grows (subst (λ ds. All (IsBelow (length old.pool.trees)) ds.list) (sym c.read_proof.ensures.decls) c.in_ok-file.ensures.below)
 
 pub returns-clause-below : goal.returns-clause-below
 returns-clause-below c =
     let old = c.file.new.work in
     let new = c.read_proof.new.work in
-    below-grown old.pool new.pool new.decls.list c.read_proof.ensures.grows (subst (λ ds. All (IsBelow (length old.pool.trees)) ds.list) (sym c.read_proof.ensures.decls) c.in_ok-file.ensures.below)
+    below_grown old.pool new.pool new.decls.list c.read_proof.ensures.grows (subst (λ ds. All (IsBelow (length old.pool.trees)) ds.list) (sym c.read_proof.ensures.decls) c.in_ok-file.ensures.below)
 
 pub check-requires-clause-fits : goal.check-requires-clause-fits
 check-requires-clause-fits c =
@@ -106,7 +106,7 @@ check-requires-clause-fits c =
     let old = c.file.new.work in
     let new = c.read_proof.new.work in
     let p = held_in new.pool.trees new.decls.list f in
-    let same = ap (λ ds. held_in new.pool.trees ds.list f) c.read_proof.ensures.decls ∙ held-grown old.pool new.pool old.decls.list f c.read_proof.ensures.grows c.in_ok-file.ensures.below c.in_ok-file.ensures.live in
+    let same = ap (λ ds. held_in new.pool.trees ds.list f) c.read_proof.ensures.decls ∙ held_grown old.pool new.pool old.decls.list f c.read_proof.ensures.grows c.in_ok-file.ensures.below c.in_ok-file.ensures.live in
     let parses = c.in_ok-file.ensures.parses ∙ ap Ok (sym same) in
     few_terms limit (signs_of ts).signs p c.requires.limit parses
 
@@ -119,7 +119,7 @@ check_game-requires-clause-fits c =
     let old = c.file.new.work in
     let new = c.read_proof.new.work in
     let p = held_in new.pool.trees new.decls.list f in
-    let same = ap (λ ds. held_in new.pool.trees ds.list f) c.read_proof.ensures.decls ∙ held-grown old.pool new.pool old.decls.list f c.read_proof.ensures.grows c.in_ok-file.ensures.below c.in_ok-file.ensures.live in
+    let same = ap (λ ds. held_in new.pool.trees ds.list f) c.read_proof.ensures.decls ∙ held_grown old.pool new.pool old.decls.list f c.read_proof.ensures.grows c.in_ok-file.ensures.below c.in_ok-file.ensures.live in
     let parses = c.in_ok-file.ensures.parses ∙ ap Ok (sym same) in
     let few = few_terms limit (signs_of ts).signs p c.requires.limit parses in
     omega (arith, few, c.in_ok-nodes.ensures.place)
@@ -133,7 +133,7 @@ returns-in_err-nodes-clause-reads c =
     let old = c.file.new.work in
     let new = c.read_proof.new.work in
     let p = held_in new.pool.trees new.decls.list f in
-    let same = ap (λ ds. held_in new.pool.trees ds.list f) c.read_proof.ensures.decls ∙ held-grown old.pool new.pool old.decls.list f c.read_proof.ensures.grows c.in_ok-file.ensures.below c.in_ok-file.ensures.live in
+    let same = ap (λ ds. held_in new.pool.trees ds.list f) c.read_proof.ensures.decls ∙ held_grown old.pool new.pool old.decls.list f c.read_proof.ensures.grows c.in_ok-file.ensures.below c.in_ok-file.ensures.live in
     let parses = c.in_ok-file.ensures.parses ∙ ap Ok (sym same) in
     let block = block_as old.pool.limit limit (length old.pool.trees) ts old.names (signs_of ts).names f.script new.pool.trees (Ok c.in_ok-script.script) c.file.ensures.limit c.in_ok-file.ensures.names c.in_ok-script.ensures.reads in
     let content = content_of ts p block.0 in
@@ -149,7 +149,7 @@ returns-in_err-directory-2-clause-reads c =
     let old = c.file.new.work in
     let new = c.read_proof.new.work in
     let p = held_in new.pool.trees new.decls.list f in
-    let same = ap (λ ds. held_in new.pool.trees ds.list f) c.read_proof.ensures.decls ∙ held-grown old.pool new.pool old.decls.list f c.read_proof.ensures.grows c.in_ok-file.ensures.below c.in_ok-file.ensures.live in
+    let same = ap (λ ds. held_in new.pool.trees ds.list f) c.read_proof.ensures.decls ∙ held_grown old.pool new.pool old.decls.list f c.read_proof.ensures.grows c.in_ok-file.ensures.below c.in_ok-file.ensures.live in
     let parses = c.in_ok-file.ensures.parses ∙ ap Ok (sym same) in
     let block = block_as old.pool.limit limit (length old.pool.trees) ts old.names (signs_of ts).names f.script new.pool.trees (Ok c.in_ok-script.script) c.file.ensures.limit c.in_ok-file.ensures.names c.in_ok-script.ensures.reads in
     let content = content_of ts p block.0 in
@@ -168,7 +168,7 @@ returns-in_err-check_all-clause-reads c =
     let old = c.file.new.work in
     let new = c.read_proof.new.work in
     let p = held_in new.pool.trees new.decls.list f in
-    let same = ap (λ ds. held_in new.pool.trees ds.list f) c.read_proof.ensures.decls ∙ held-grown old.pool new.pool old.decls.list f c.read_proof.ensures.grows c.in_ok-file.ensures.below c.in_ok-file.ensures.live in
+    let same = ap (λ ds. held_in new.pool.trees ds.list f) c.read_proof.ensures.decls ∙ held_grown old.pool new.pool old.decls.list f c.read_proof.ensures.grows c.in_ok-file.ensures.below c.in_ok-file.ensures.live in
     let parses = c.in_ok-file.ensures.parses ∙ ap Ok (sym same) in
     let block = block_as old.pool.limit limit (length old.pool.trees) ts old.names (signs_of ts).names f.script new.pool.trees (Ok c.in_ok-script.script) c.file.ensures.limit c.in_ok-file.ensures.names c.in_ok-script.ensures.reads in
     let content = content_of ts p block.0 in
@@ -186,7 +186,7 @@ returns-in_err-check-clause-reads c =
     let old = c.file.new.work in
     let new = c.read_proof.new.work in
     let p = held_in new.pool.trees new.decls.list f in
-    let same = ap (λ ds. held_in new.pool.trees ds.list f) c.read_proof.ensures.decls ∙ held-grown old.pool new.pool old.decls.list f c.read_proof.ensures.grows c.in_ok-file.ensures.below c.in_ok-file.ensures.live in
+    let same = ap (λ ds. held_in new.pool.trees ds.list f) c.read_proof.ensures.decls ∙ held_grown old.pool new.pool old.decls.list f c.read_proof.ensures.grows c.in_ok-file.ensures.below c.in_ok-file.ensures.live in
     let parses = c.in_ok-file.ensures.parses ∙ ap Ok (sym same) in
     let block = block_as old.pool.limit limit (length old.pool.trees) ts old.names (signs_of ts).names f.script new.pool.trees (Ok c.in_ok-script.script) c.file.ensures.limit c.in_ok-file.ensures.names c.in_ok-script.ensures.reads in
     let content = content_of ts p block.0 in
@@ -205,7 +205,7 @@ returns-clause-reads c =
     let old = c.file.new.work in
     let new = c.read_proof.new.work in
     let p = held_in new.pool.trees new.decls.list f in
-    let same = ap (λ ds. held_in new.pool.trees ds.list f) c.read_proof.ensures.decls ∙ held-grown old.pool new.pool old.decls.list f c.read_proof.ensures.grows c.in_ok-file.ensures.below c.in_ok-file.ensures.live in
+    let same = ap (λ ds. held_in new.pool.trees ds.list f) c.read_proof.ensures.decls ∙ held_grown old.pool new.pool old.decls.list f c.read_proof.ensures.grows c.in_ok-file.ensures.below c.in_ok-file.ensures.live in
     let parses = c.in_ok-file.ensures.parses ∙ ap Ok (sym same) in
     let block = block_as old.pool.limit limit (length old.pool.trees) ts old.names (signs_of ts).names f.script new.pool.trees (Ok c.in_ok-script.script) c.file.ensures.limit c.in_ok-file.ensures.names c.in_ok-script.ensures.reads in
     let content = content_of ts p block.0 in
@@ -222,7 +222,7 @@ returns-clause-fits c =
     let old = c.file.new.work in
     let new = c.read_proof.new.work in
     let f = c.in_ok-file.file in
-    let same = root-grown old.pool new.pool f.game.root c.read_proof.ensures.grows c.in_ok-file.ensures.live in
+    let same = root_grown old.pool new.pool f.game.root c.read_proof.ensures.grows c.in_ok-file.ensures.live in
     subst (λ t. size t ≤ 50000) (sym same) c.in_ok-file.ensures.fits
 
 pub returns-clause-nodes : goal.returns-clause-nodes
@@ -234,7 +234,7 @@ returns-clause-nodes c =
     let old = c.file.new.work in
     let new = c.read_proof.new.work in
     let p = held_in new.pool.trees new.decls.list f in
-    let same = ap (λ ds. held_in new.pool.trees ds.list f) c.read_proof.ensures.decls ∙ held-grown old.pool new.pool old.decls.list f c.read_proof.ensures.grows c.in_ok-file.ensures.below c.in_ok-file.ensures.live in
+    let same = ap (λ ds. held_in new.pool.trees ds.list f) c.read_proof.ensures.decls ∙ held_grown old.pool new.pool old.decls.list f c.read_proof.ensures.grows c.in_ok-file.ensures.below c.in_ok-file.ensures.live in
     let parses = c.in_ok-file.ensures.parses ∙ ap Ok (sym same) in
     let few = c.in_ok-script.ensures.few in
     let nodes = subst (λ q. length old.pool.trees ≤ file_nodes q.declarations q.game) (sym same) c.in_ok-file.ensures.nodes in

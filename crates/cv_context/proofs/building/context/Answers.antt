@@ -2,7 +2,7 @@ use Rattle.std.proofs.Common.{◌+◌, ◌≤◌, ap, arith, length, subst, ◌�
 use Rattle.std.specs.Prelude.{IsErrOf, OnOk}
 use Rattle.cv_pool.specs.declared.pool.PoolError.TheVariants as pool
 use Rattle.cv_syntax.specs.Planting.{overs}
-use Rattle.cv_scenes.specs.Contexts.{context_of}
+use Rattle.cv_scene.specs.Contexts.{context_of}
 use Rattle.cv_context.specs.Roles.{name_at}
 use Rattle.cv_context.proofs.building.context.Goals as goal
 

@@ -4,9 +4,9 @@ use Rattle.cv_syntax.specs.Postorder.{postorder}
 use Rattle.cv_syntax.specs.PoolTrees.{tree_at}
 use Rattle.cv_scope_rules.specs.declared.position.Position.TheVariants.{Anywhere}
 use Rattle.cv_context.specs.Written.{part_unless}
-use Rattle.cv_context_nodes.specs.Calls.{IsLive}
+use Rattle.cv_context.specs.nodes.Calls.{IsLive}
 use Rattle.cv_context.proofs.Aligned.{context_made}
-use Rattle.cv_context.proofs.Called.{as-many}
+use Rattle.cv_context.proofs.Called.{as_many}
 use Rattle.cv_context.proofs.building.parts.Goals as goal
 
 pub put-requires-clause-calls : goal.put-requires-clause-calls
@@ -16,7 +16,7 @@ put-requires-clause-calls c =
 
 pub put-requires-clause-many : goal.put-requires-clause-many
 put-requires-clause-many c =
-    let same = as-many c.args.pool.now.trees c.in_ok-calls.calls.items c.args.sites.now (c.in_ok-calls.ensures.same c.args.pool.now.trees) in
+    let same = as_many c.args.pool.now.trees c.in_ok-calls.calls.items c.args.sites.now (c.in_ok-calls.ensures.same c.args.pool.now.trees) in
     let there = ap length c.as_slice.ensures.value in
     omega (arith, same, there, c.requires.many)
 

@@ -1,7 +1,7 @@
 use Rattle.std.proofs.Common.{◌≡◌, ◌++◌, ℕ, List, drop, map}
 use Rattle.std.specs.List.{All}
 use Rattle.cv_pool.specs.KindTree.{KindTree}
-use Rattle.cv_context_nodes.specs.Calls.{IsLive}
+use Rattle.cv_context.specs.nodes.Calls.{IsLive}
 use Rattle.cv_context.specs.Roles.{IsLiveCall, reads_at, reads_of}
 use Rattle.cv_context.proofs.calls.calls_of.Given as goal
 

@@ -4,7 +4,7 @@ use Rattle.cv_syntax.specs.Postorder.{postorder}
 use Rattle.cv_syntax_trees.specs.Tree.{size}
 use Rattle.cv_syntax.specs.PoolTrees.{tree_at}
 use Rattle.cv_syntax.specs.Walks.{above}
-use Rattle.cv_context_parts.specs.Closing.{closing}
+use Rattle.cv_syntax.specs.parts.Closing.{closing}
 use Rattle.cv_context.specs.Written.{part_at}
 use Rattle.cv_context.proofs.walk.+put.Given as goal
 

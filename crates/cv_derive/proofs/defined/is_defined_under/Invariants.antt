@@ -5,7 +5,7 @@ use Rattle.cv_syntax.specs.PoolTrees.{tree_at}
 use Rattle.cv_syntax.specs.Walks.{above}
 use Rattle.cv_scope_rules.specs.Above.{standing_at, stands_at}
 use Rattle.cv_scope_rules.specs.Context.{Context}
-use Rattle.cv_derive_cells.specs.Cells.{is_among_under}
+use Rattle.cv_derive_reasons.specs.cells.Cells.{is_among_under}
 use Rattle.cv_derive.specs.Walks.{Knows}
 use Rattle.cv_derive.proofs.defined.is_defined_under.Given as goal
 

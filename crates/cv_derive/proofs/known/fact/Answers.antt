@@ -4,8 +4,8 @@ use Rattle.cv_syntax_trees.specs.Tree.{size}
 use Rattle.cv_syntax.specs.PoolTrees.{tree_at}
 use Rattle.cv_syntax.proofs.Trees.{empty_at}
 use Rattle.cv_scope_rules.specs.Context.{nothing_known}
-use Rattle.cv_facts.specs.Walks.{given_facts}
-use Rattle.cv_facts.proofs.Standings.{facts-empty, passed-append, no_place, none-passed, nothing-tests, passed-nil}
+use Rattle.cv_derive_facts.specs.Walks.{given_facts}
+use Rattle.cv_derive_facts.proofs.Standings.{facts_empty, passed_append, no_place, none_passed, nothing_tests, passed_nil}
 use Rattle.cv_derive.proofs.known.fact.Goals as goal
 
 pub down-init : goal.down-init
@@ -14,11 +14,11 @@ down-init c = record {
   tested = tt;
   within = omega arith;
   context = nothing_known;
-  tests = nothing-tests c.args.pool.now.trees;
+  tests = nothing_tests c.args.pool.now.trees;
   passed = [];
-  counts = let n = none-passed c.args.pool.now.trees c.args.k in record { left = n.left; fact = n.fact };
+  counts = let n = none_passed c.args.pool.now.trees c.args.k in record { left = n.left; fact = n.fact };
   kept = tt;
-  same = passed-nil _;
+  same = passed_nil _;
 }
 
 pub down-preserved : goal.down-preserved
@@ -35,11 +35,11 @@ down-preserved c =
       passed = known.passed ++ given_facts trees c.in-Some-step.given;
       counts = c.count_behind-count.ensures.counts trees c.args.k known.passed c.requires.from_one known.counts;
       kept = c.count_behind-count.ensures.live _ known.kept c.in-Some-step.ensures.live;
-      same = sym (passed-append known.passed (given_facts trees c.in-Some-step.given) _) ∙ (ap (option_map (λ fs. known.passed ++ fs)) (sym next.place) ∙ known.same);
+      same = sym (passed_append known.passed (given_facts trees c.in-Some-step.given) _) ∙ (ap (option_map (λ fs. known.passed ++ fs)) (sym next.place) ∙ known.same);
     }
 
 pub returns : goal.returns
 returns c =
     let trees = c.args.pool.now.trees in
     let known = c.down.invariant in
-    record { fact = no_place c.args.k known.passed _ _ (facts-empty c.down.walk.position known.context (tree_at trees c.down.walk.at) c.down.walk.left (empty_at trees c.down.walk.at c.in_default.is)) known.same; live = tt }
+    record { fact = no_place c.args.k known.passed _ _ (facts_empty c.down.walk.position known.context (tree_at trees c.down.walk.at) c.down.walk.left (empty_at trees c.down.walk.at c.in_default.is)) known.same; live = tt }

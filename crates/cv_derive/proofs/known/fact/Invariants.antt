@@ -5,8 +5,8 @@ use Rattle.cv_syntax_trees.specs.Tree.{size}
 use Rattle.cv_syntax.specs.PoolTrees.{tree_at}
 use Rattle.cv_syntax.specs.Walks.{above}
 use Rattle.cv_scope_rules.specs.Context.{Context}
-use Rattle.cv_facts.specs.Facts.{FactAt, facts_at, facts_from}
-use Rattle.cv_facts.specs.Walks.{IsLive, Tests}
+use Rattle.cv_derive_facts.specs.Facts.{FactAt, facts_at, facts_from}
+use Rattle.cv_derive_facts.specs.Walks.{IsLive, Tests}
 use Rattle.cv_derive.specs.Leading.{Counts}
 use Rattle.cv_derive.proofs.known.fact.Given as goal
 

@@ -1,7 +1,7 @@
 use Rattle.std.proofs.Common.{Some}
 use Rattle.cv_syntax_trees.specs.Tree.{depth, size}
 use Rattle.cv_syntax.specs.PoolTrees.{tree_at}
-use Rattle.cv_draw_pruning.specs.Bodies.{part_of}
+use Rattle.cv_edit_changes.specs.pruning.Bodies.{part_of}
 use Rattle.cv_edit.proofs.Pruned.{pruned_count}
 use Rattle.cv_edit.proofs.measuring.measure_pruned.Goals as goal
 

@@ -1,16 +1,16 @@
 use Rattle.std.proofs.Common.{◌<◌, ◌≤◌, ap, ap₂, arith, length, map, subst, sym, take, refl, ◌∙◌, Some}
 use Rattle.std.proofs.lemmas.List.{take_all}
-use Rattle.cv_pool.proofs.Growth.{Grows-refl, Grows-trans}
+use Rattle.cv_pool.proofs.Growth.{Grows_refl, Grows_trans}
 use Rattle.cv_syntax.specs.Classes.{queries}
 use Rattle.cv_syntax.specs.Declarations.{declarations}
 use Rattle.cv_syntax_trees.specs.Tree.{size}
 use Rattle.cv_syntax.specs.PoolTrees.{tree_at}
 use Rattle.cv_syntax.specs.declared.work.Game.{Game}
-use Rattle.cv_parse_script.specs.Scripts.{trees_of}
+use Rattle.cv_script_reader.specs.Scripts.{trees_of}
 use Rattle.cv_scope_rules.specs.Phrases.{IsWellFormed}
-use Rattle.cv_kernel_costs.specs.Sums.{SumsFit}
-use Rattle.cv_kernel_closed.specs.Queries.{first_unclosed, numbers_of, sum_in}
-use Rattle.cv_report_verdicts.specs.Verdicts.{ended_with, verdicts_by}
+use Rattle.cv_bound.specs.costs.Sums.{SumsFit}
+use Rattle.cv_bound.specs.closings.Queries.{first_unclosed, numbers_of, sum_in}
+use Rattle.cv_report.specs.verdicts.Verdicts.{ended_with, verdicts_by}
 use Rattle.cv_kernel.specs.Drawings.{DrawsAlong}
 use Rattle.cv_follow.specs.Scripts.{entry_in, known_to, led}
 use Rattle.cv_follow.specs.Walks.{stop_of}
@@ -39,7 +39,7 @@ steps-init c =
         fits = subst SumsFit (sym c.start-sequence.ensures.sum) (tt, tt);
         few = (let n = c.start-sequence.ensures.steps in omega arith);
       };
-      grows = Grows-refl work.pool;
+      grows = Grows_refl work.pool;
       room = omega arith;
       names = take_all (length work.names) work.names (omega arith);
       decls = refl;
@@ -73,7 +73,7 @@ steps-preserved c =
           new.pool c.note.new.trail.items _ c.in-Ok.ensures.pushed c.in_ok-note-in-Ok.ensures c.push.ensures.grows i.stands.live c.push.ensures.stands.live few;
       drawn = drawn_next fn now (tree_at fn.pool.trees (Some c.args.game.root)) c.requires.below i.grows i.decls _ c.steps.sequence c.push.new.self c.steps.trail.items c.note.new.trail.items _ new.pool new.names i.followed c.in_ok-note-in-Ok.ensures c.push.ensures.grows (c.requires.steps.live c.steps.step-index _ c.steps-test.true) c.in-Ok.ensures.drawn c.push.ensures.alone i.drawn;
       stands = c.push.ensures.stands;
-      grows = Grows-trans fn.pool now.pool new.pool i.grows c.push.ensures.grows;
+      grows = Grows_trans fn.pool now.pool new.pool i.grows c.push.ensures.grows;
       room = omega (arith, room, limit);
       names = names_kept fn.names now.names new.names i.names c.push.ensures.names;
       decls = c.push.ensures.decls ∙ i.decls;

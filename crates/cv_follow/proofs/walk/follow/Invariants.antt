@@ -2,7 +2,7 @@ use Rattle.std.proofs.Common.{◌≡◌, ◌≤◌, Some, length, map, take}
 use Rattle.cv_pool.specs.PoolView.{Grows}
 use Rattle.cv_syntax.specs.Declarations.{declarations}
 use Rattle.cv_syntax.specs.PoolTrees.{tree_at}
-use Rattle.cv_parse_script.specs.Scripts.{trees_of}
+use Rattle.cv_script_reader.specs.Scripts.{trees_of}
 use Rattle.cv_plain.specs.Strategy.{most_pool}
 use Rattle.cv_kernel.specs.Sequences.{Stands}
 use Rattle.cv_kernel.specs.Drawings.{DrawsAlong}

@@ -12,7 +12,7 @@ use Rattle.cv_group.proofs.Lists as list
 use Rattle.cv_group.proofs.checking.check.Goals as goal
 
 pub check_tree-requires : goal.check_tree-requires
-check_tree-requires c = subst (λ o. ChildBelow (length c.args.work.now.pool.trees) o) (sym c.equiv.ensures ∙ c.in-Some.is) (list.equiv-named (length c.args.work.now.pool.trees) c.args.work.now.decls.list c.args.equiv.0 c.requires.declared)
+check_tree-requires c = subst (λ o. ChildBelow (length c.args.work.now.pool.trees) o) (sym c.equiv.ensures ∙ c.in-Some.is) (list.equiv_named (length c.args.work.now.pool.trees) c.args.work.now.decls.list c.args.equiv.0 c.requires.declared)
 
 pub returns-in-Some-clause-none : goal.returns-in-Some-clause-none
 returns-in-Some-clause-none c =

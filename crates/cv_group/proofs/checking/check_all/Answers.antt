@@ -17,11 +17,11 @@ decls-preserved-in_default c =
     record {
       few = omega arith;
       constants = c.decls.invariant.constants;
-      same = ap (λ ts. list.behind c.decls.equiv (first_group_fault constants ts)) (sym (list.equivs-skip trees ds c.decls.k (omega arith) (sym c.equiv_at.ensures ∙ c.in_default.is))) ∙ c.decls.invariant.same;
+      same = ap (λ ts. list.behind c.decls.equiv (first_group_fault constants ts)) (sym (list.equivs_skip trees ds c.decls.k (omega arith) (sym c.equiv_at.ensures ∙ c.in_default.is))) ∙ c.decls.invariant.same;
     }
 
 pub check_tree-requires : goal.check_tree-requires
-check_tree-requires c = list.equiv-below (length c.args.work.now.pool.trees) c.args.work.now.decls.list c.decls.k c.in-Some.tree c.requires (sym c.equiv_at.ensures ∙ c.in-Some.is)
+check_tree-requires c = list.equiv_below (length c.args.work.now.pool.trees) c.args.work.now.decls.list c.decls.k c.in-Some.tree c.requires (sym c.equiv_at.ensures ∙ c.in-Some.is)
 
 pub returns-in-Err-clause-fault : goal.returns-in-Err-clause-fault
 returns-in-Err-clause-fault c =
@@ -29,7 +29,7 @@ returns-in-Err-clause-fault c =
     let ds = c.args.work.now.decls.list in
     let constants = is_constant_of (declarations trees ds) in
     let whole = first_group_fault constants (equivalences_in (declarations trees ds)) in
-    list.refusal-at constants (tree_at trees (Some c.in-Some.tree)) (equivalences_in (declarations trees (drop (c.decls.k + 1) ds))) (equivalences_in (declarations trees (drop c.decls.k ds))) c.decls.equiv whole c.in-Err.fault (list.equivs-take trees ds c.decls.k c.in-Some.tree (sym c.equiv_at.ensures ∙ c.in-Some.is)) c.decls.invariant.same (subst (λ p. IsRefusalOf (group_fault p (tree_at trees (Some c.in-Some.tree))) c.in-Err.fault) c.decls.invariant.constants c.in-Err.ensures.fault)
+    list.refusal_at constants (tree_at trees (Some c.in-Some.tree)) (equivalences_in (declarations trees (drop (c.decls.k + 1) ds))) (equivalences_in (declarations trees (drop c.decls.k ds))) c.decls.equiv whole c.in-Err.fault (list.equivs_take trees ds c.decls.k c.in-Some.tree (sym c.equiv_at.ensures ∙ c.in-Some.is)) c.decls.invariant.same (subst (λ p. IsRefusalOf (group_fault p (tree_at trees (Some c.in-Some.tree))) c.in-Err.fault) c.decls.invariant.constants c.in-Err.ensures.fault)
 
 pub decls-preserved : goal.decls-preserved
 decls-preserved c =
@@ -40,7 +40,7 @@ decls-preserved c =
     record {
       few = omega arith;
       constants = ap is_in c.check_tree.ensures.constants ∙ c.decls.invariant.constants;
-      same = list.refused-later constants (tree_at trees (Some c.in-Some.tree)) (equivalences_in (declarations trees (drop (c.decls.k + 1) ds))) (equivalences_in (declarations trees (drop c.decls.k ds))) c.decls.equiv whole (list.equivs-take trees ds c.decls.k c.in-Some.tree (sym c.equiv_at.ensures ∙ c.in-Some.is)) (subst (λ p. group_fault p (tree_at trees (Some c.in-Some.tree)) ≡ None) c.decls.invariant.constants c.in_default-check_tree.ensures.none) c.decls.invariant.same;
+      same = list.refused_later constants (tree_at trees (Some c.in-Some.tree)) (equivalences_in (declarations trees (drop (c.decls.k + 1) ds))) (equivalences_in (declarations trees (drop c.decls.k ds))) c.decls.equiv whole (list.equivs_take trees ds c.decls.k c.in-Some.tree (sym c.equiv_at.ensures ∙ c.in-Some.is)) (subst (λ p. group_fault p (tree_at trees (Some c.in-Some.tree)) ≡ None) c.decls.invariant.constants c.in_default-check_tree.ensures.none) c.decls.invariant.same;
     }
 
 pub returns-clause-none : goal.returns-clause-none
@@ -49,4 +49,4 @@ returns-clause-none c =
     let ds = c.args.work.now.decls.list in
     let constants = is_constant_of (declarations trees ds) in
     let whole = first_group_fault constants (equivalences_in (declarations trees ds)) in
-    list.refused-none constants (equivalences_in (declarations trees (drop c.decls.k ds))) c.decls.equiv whole (list.equivs-past trees ds c.decls.k (omega arith)) c.decls.invariant.same
+    list.refused_none constants (equivalences_in (declarations trees (drop c.decls.k ds))) c.decls.equiv whole (list.equivs_past trees ds c.decls.k (omega arith)) c.decls.invariant.same

@@ -5,7 +5,7 @@ use Rattle.cv_syntax.specs.PoolTrees.{tree_at}
 use Rattle.cv_syntax.specs.Walks.{above}
 use Rattle.std.specs.Prelude.{◌==◌}
 use Rattle.cv_syntax.specs.NameSets.{is_one_of}
-use Rattle.cv_group_bodies.specs.Levels.{is_paired}
+use Rattle.cv_group.specs.bodies.Levels.{is_paired}
 use Rattle.cv_group.proofs.names.pair_binders.Given as goal
 
 abbrev pub invariant-binders : goal.invariant-binders

@@ -4,7 +4,7 @@ use Rattle.cv_syntax_trees.specs.Tree.{bound_names}
 use Rattle.cv_syntax.specs.PoolTrees.{tree_at}
 use Rattle.cv_syntax.specs.Walks.{above}
 use Rattle.cv_syntax.specs.NameSets.{is_in}
-use Rattle.cv_group_shapes.specs.Shapes.{are_taken, without_all}
+use Rattle.cv_group.specs.shapes.Shapes.{are_taken, without_all}
 use Rattle.cv_group.proofs.reads.take_names.Given as goal
 
 abbrev pub invariant-binders : goal.invariant-binders

@@ -6,7 +6,7 @@ use Rattle.cv_syntax.specs.PoolTrees.{tree_at}
 use Rattle.cv_syntax.specs.Walks.{above}
 use Rattle.cv_group_rules.specs.Rules as rule
 use Rattle.cv_group.specs.Tables.{around_by}
-use Rattle.cv_group_bodies.specs.Levels.{is_paired}
+use Rattle.cv_group.specs.bodies.Levels.{is_paired}
 use Rattle.cv_group.proofs.sides.bodies_are_bound.Given as goal
 
 abbrev pub invariant-list : goal.invariant-list

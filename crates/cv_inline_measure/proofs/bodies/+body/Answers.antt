@@ -3,11 +3,11 @@ use Rattle.std.specs.Prelude.{flat_map}
 use Rattle.std.proofs.lemmas.Result.{IfOk-weaker}
 use Rattle.cv_syntax.specs.PoolTrees.{tree_at}
 use Rattle.cv_meaning_contexts.specs.Inlined.{Own, index_terms}
-use Rattle.cv_inline_extents.specs.Extents.{Extent, of_result, under}
-use Rattle.cv_inline_terms.specs.Drawings.{drawn_in}
+use Rattle.cv_inline_laws.specs.extents.Extents.{Extent, of_result, under}
+use Rattle.cv_inline.specs.terms.Drawings.{drawn_in}
 use Rattle.cv_inline_measure.specs.Counts.{IsTold}
-use Rattle.cv_syntax_limits.specs.Limits.{told}
-use Rattle.cv_inline_pairs.specs.Scopes.{scope_at}
+use Rattle.cv_syntax.specs.limits.Limits.{told}
+use Rattle.cv_inline_sites.specs.pairs.Scopes.{scope_at}
 use Rattle.cv_inline_measure.specs.Settings.{body_in, branches_in, caller_at, callers_at, find_in, front_in, measure_of, term_in, trees_of}
 use Rattle.cv_inline_measure.proofs.Branching.{branches_by_pairs, of_pair, pair_more, pairs_whole, site_more, sites_whole}
 use Rattle.cv_inline_measure.proofs.ByHead.{find_is, if_is, if_with_one_body, if_without_bodies, let_is, new_is, result_is, without_node}

@@ -1,11 +1,11 @@
 use Rattle.std.proofs.Common.{◌+◌, ◌*◌, ◌++◌, List, [], map, max, take}
 use Rattle.std.specs.Prelude.{flat_map}
 use Rattle.cv_syntax.specs.Walks.{above}
-use Rattle.cv_inline_extents.specs.Extents.{Extent}
-use Rattle.cv_inline_listing.specs.Callings.{callers_in}
-use Rattle.cv_inline_terms.specs.Drawings.{drawn_in}
-use Rattle.cv_inline_pairs.specs.Pairs.{pair_in}
-use Rattle.cv_inline_pairs.specs.Scopes.{scope_at}
+use Rattle.cv_inline_laws.specs.extents.Extents.{Extent}
+use Rattle.cv_inline_sites.specs.listing.Callings.{callers_in}
+use Rattle.cv_inline.specs.terms.Drawings.{drawn_in}
+use Rattle.cv_inline_sites.specs.pairs.Pairs.{pair_in}
+use Rattle.cv_inline_sites.specs.pairs.Scopes.{scope_at}
 use Rattle.cv_inline_measure.specs.Settings.{IsFound, branches_in, caller_at, callers_at, measure_of, trees_of}
 use Rattle.cv_inline_measure.proofs.Branching.{of_pair}
 use Rattle.cv_inline_measure.proofs.bodies.+body.Given as goal

@@ -1,5 +1,5 @@
 use Rattle.std.proofs.Common.{refl}
-use Rattle.cv_inline_extents.specs.Extents.{all_beside}
+use Rattle.cv_inline_laws.specs.extents.Extents.{all_beside}
 use Rattle.cv_inline_measure.specs.Counts.{measure_in}
 use Rattle.cv_inline_measure.proofs.Branching.{found_any, found_none}
 use Rattle.cv_inline_measure.proofs.bodies.find_extent.Goals as goal

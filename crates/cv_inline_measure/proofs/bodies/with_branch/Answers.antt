@@ -1,4 +1,4 @@
-use Rattle.cv_inline_extents.specs.Extents.{all_beside}
+use Rattle.cv_inline_laws.specs.extents.Extents.{all_beside}
 use Rattle.cv_inline_measure.specs.Counts.{measure_in}
 use Rattle.cv_inline_measure.proofs.Branching.{found_more}
 use Rattle.cv_inline_measure.proofs.bodies.with_branch.Goals as goal

@@ -5,10 +5,10 @@ use Rattle.cv_syntax_trees.specs.Tree.{lone}
 use Rattle.cv_syntax.specs.PoolTrees.{tree_at}
 use Rattle.cv_syntax_trees.specs.declared.head.Head.TheVariants.{No}
 use Rattle.cv_meaning_contexts.specs.Groups.{Group}
-use Rattle.cv_inline_games.specs.NextGame.{numbered}
-use Rattle.cv_inline_extents.specs.Extents.{of_call_at}
-use Rattle.cv_inline_listing.specs.Callings.{calling_in, callings_in}
-use Rattle.cv_inline_terms.specs.declared.calling.Calling.{Calling}
+use Rattle.cv_inline.specs.NextGame.{numbered}
+use Rattle.cv_inline_laws.specs.extents.Extents.{of_call_at}
+use Rattle.cv_inline_sites.specs.listing.Callings.{calling_in, callings_in}
+use Rattle.cv_inline.specs.declared.terms.calling.Calling.{Calling}
 use Rattle.cv_inline_measure.specs.Counts.{IsTold}
 use Rattle.cv_inline_measure.specs.Settings.{calls_of, measure_of}
 use Rattle.cv_inline_measure.proofs.Scoped.{false_told}

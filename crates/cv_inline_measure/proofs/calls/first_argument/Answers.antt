@@ -1,7 +1,7 @@
 use Rattle.std.proofs.Common.{ap, arith, sym}
 use Rattle.cv_syntax.specs.PoolTrees.{tree_at}
 use Rattle.cv_syntax.proofs.Trees.{empty_at, node_at}
-use Rattle.cv_syntax.proofs.Walking.{size-node}
+use Rattle.cv_syntax.proofs.Walking.{size_node}
 use Rattle.cv_inline_measure.specs.Settings.{first_argument}
 use Rattle.cv_inline_measure.proofs.Arguments.{no_terms}
 use Rattle.cv_inline_measure.proofs.calls.first_argument.Goals as goal
@@ -23,4 +23,4 @@ returns-clause-small c =
     let trees = c.args.pool.now.trees in
     let node = c.read_node-item.result in
     let e = node_at trees c.args.terms c.in_ok-terms.field-0 node c.in_ok-terms.was c.read_node-item.ensures.tree in
-    omega (arith, size-node (tree_at trees c.args.terms) node.head (tree_at trees node.first) (tree_at trees node.second) e)
+    omega (arith, size_node (tree_at trees c.args.terms) node.head (tree_at trees node.first) (tree_at trees node.second) e)

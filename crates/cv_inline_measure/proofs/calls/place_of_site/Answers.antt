@@ -1,5 +1,5 @@
 use Rattle.std.proofs.Common.{◌<◌, ◌≤◌, length, ap, arith, ◌∙◌}
-use Rattle.cv_inline_terms.specs.declared.calling.Calling.{Calling}
+use Rattle.cv_inline.specs.declared.terms.calling.Calling.{Calling}
 use Rattle.cv_inline_measure.proofs.Sites.{place_found, place_none}
 use Rattle.cv_inline_measure.proofs.calls.place_of_site.Goals as goal
 

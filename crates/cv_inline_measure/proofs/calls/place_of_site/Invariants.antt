@@ -1,7 +1,7 @@
 use Rattle.std.proofs.Common.{◌≡◌, List, drop}
 use Rattle.cv_pool.specs.KindTree.{KindTree}
-use Rattle.cv_inline_games.specs.NextGame.{numbered}
-use Rattle.cv_inline_listing.specs.Callings.{callings_in}
+use Rattle.cv_inline.specs.NextGame.{numbered}
+use Rattle.cv_inline_sites.specs.listing.Callings.{callings_in}
 use Rattle.cv_inline_measure.proofs.calls.place_of_site.Given as goal
 
 abbrev pub invariant-sites : goal.invariant-sites

@@ -4,15 +4,15 @@ use Rattle.cv_syntax_trees.specs.Tree.{size}
 use Rattle.cv_syntax.specs.PoolTrees.{tree_at}
 use Rattle.cv_syntax.specs.Walks.{above}
 use Rattle.cv_syntax.proofs.Trees.{child_live, empty_at}
-use Rattle.cv_syntax.proofs.Walking.{above-child, above-some, size-node}
+use Rattle.cv_syntax.proofs.Walking.{above_child, above_some, size_node}
 use Rattle.std.proofs.Common.{ℕ, ◌≡◌}
 use Rattle.cv_syntax_trees.specs.Tree.{Tree}
 use Rattle.cv_meaning_contexts.specs.Groups.{Group}
-use Rattle.cv_inline_games.specs.NextGame.{numbered}
-use Rattle.cv_inline_extents.specs.Extents.{of_call_at, of_game}
+use Rattle.cv_inline.specs.NextGame.{numbered}
+use Rattle.cv_inline_laws.specs.extents.Extents.{of_call_at, of_game}
 use Rattle.cv_inline_measure.specs.declared.game.Kind.{Kind}
 use Rattle.cv_inline_measure.specs.Counts.{IsTold}
-use Rattle.cv_syntax_limits.specs.Limits.{told}
+use Rattle.cv_syntax.specs.limits.Limits.{told}
 use Rattle.cv_inline_measure.specs.Games.{answers_in, call_of_game, of_child}
 use Rattle.cv_inline_measure.specs.Settings.{calls_of, measure_of}
 use Rattle.cv_inline_measure.proofs.Arguments.{second_small}
@@ -42,8 +42,8 @@ game-call-requires t c =
     let trees = c.args.setting.now.pool.now.trees in
     let node = c.read_node-node.result in
     let e = ap (tree_at trees) c.in-Some.is ∙ c.read_node-node.ensures.tree in
-    let z = size-node (tree_at trees c.args.part) node.head (tree_at trees node.first) (tree_at trees node.second) e in
-    let less : 4 * above node.second + 1 < 4 * above c.args.part = omega (arith, above-some c.args.part c.in-Some.n c.in-Some.is, above-child c.in-Some.n.0 node.second c.read_node-node.ensures.second) in (
+    let z = size_node (tree_at trees c.args.part) node.head (tree_at trees node.first) (tree_at trees node.second) e in
+    let less : 4 * above node.second + 1 < 4 * above c.args.part = omega (arith, above_some c.args.part c.in-Some.n c.in-Some.is, above_child c.in-Some.n.0 node.second c.read_node-node.ensures.second) in (
       search (rules, arith),
       (
         c.requires.setting,
@@ -62,8 +62,8 @@ game-below-requires t c =
     let trees = c.args.setting.now.pool.now.trees in
     let node = c.read_node-node.result in
     let e = ap (tree_at trees) c.in-Some.is ∙ c.read_node-node.ensures.tree in
-    let z = size-node (tree_at trees c.args.part) node.head (tree_at trees node.first) (tree_at trees node.second) e in
-    let less : 4 * above node.first + 1 < 4 * above c.args.part = omega (arith, above-some c.args.part c.in-Some.n c.in-Some.is, above-child c.in-Some.n.0 node.first c.read_node-node.ensures.first) in
+    let z = size_node (tree_at trees c.args.part) node.head (tree_at trees node.first) (tree_at trees node.second) e in
+    let less : 4 * above node.first + 1 < 4 * above c.args.part = omega (arith, above_some c.args.part c.in-Some.n c.in-Some.is, above_child c.in-Some.n.0 node.first c.read_node-node.ensures.first) in
     (search (rules, arith), (c.requires.setting, (child_live (length trees) c.args.part c.in-Some.n node.first c.in-Some.is c.requires.live c.read_node-node.ensures.first, omega (arith, c.requires.fits, z))))
 
 pub game-below-requires-in_default-head : goal.game-below-requires-in_default-head
@@ -71,8 +71,8 @@ game-below-requires-in_default-head t c =
     let trees = c.args.setting.now.pool.now.trees in
     let node = c.read_node-node.result in
     let e = ap (tree_at trees) c.in-Some.is ∙ c.read_node-node.ensures.tree in
-    let z = size-node (tree_at trees c.args.part) node.head (tree_at trees node.first) (tree_at trees node.second) e in
-    let less : 4 * above node.second + 1 < 4 * above c.args.part = omega (arith, above-some c.args.part c.in-Some.n c.in-Some.is, above-child c.in-Some.n.0 node.second c.read_node-node.ensures.second) in
+    let z = size_node (tree_at trees c.args.part) node.head (tree_at trees node.first) (tree_at trees node.second) e in
+    let less : 4 * above node.second + 1 < 4 * above c.args.part = omega (arith, above_some c.args.part c.in-Some.n c.in-Some.is, above_child c.in-Some.n.0 node.second c.read_node-node.ensures.second) in
     (search (rules, arith), (c.requires.setting, (child_live (length trees) c.args.part c.in-Some.n node.second c.in-Some.is c.requires.live c.read_node-node.ensures.second, omega (arith, c.requires.fits, z))))
 
 pub game-returns-in-Call : goal.game-returns-in-Call

@@ -3,9 +3,9 @@ use Rattle.cv_pool.specs.declared.node.NodeId.{NodeId}
 use Rattle.cv_syntax.specs.PoolTrees.{tree_at}
 use Rattle.cv_syntax.specs.Walks.{above}
 use Rattle.cv_syntax.proofs.Trees.{child_live, empty_at}
-use Rattle.cv_syntax.proofs.Walking.{above-child, above-some, size-node}
-use Rattle.cv_inline_extents.specs.Extents.{copies_of, with_answers}
-use Rattle.cv_syntax_limits.specs.Limits.{told}
+use Rattle.cv_syntax.proofs.Walking.{above_child, above_some, size_node}
+use Rattle.cv_inline_laws.specs.extents.Extents.{copies_of, with_answers}
+use Rattle.cv_syntax.specs.limits.Limits.{told}
 use Rattle.cv_inline_measure.specs.Games.{answers_in}
 use Rattle.cv_inline_measure.specs.Settings.{measure_of}
 use Rattle.cv_inline_measure.proofs.Answering.{leaf_with, read_with}
@@ -22,16 +22,16 @@ with_answers-first-requires t c =
     let trees = c.args.setting.now.pool.now.trees in
     let node = c.read_node-node.result in
     let e = ap (tree_at trees) c.in-Some.is ∙ c.read_node-node.ensures.tree in
-    let less : above node.first < above c.args.term = omega (arith, above-some c.args.term c.in-Some.n c.in-Some.is, above-child c.in-Some.n.0 node.first c.read_node-node.ensures.first) in
-    (search rules, (child_live (length trees) c.args.term c.in-Some.n node.first c.in-Some.is c.requires.live c.read_node-node.ensures.first, omega (arith, c.requires.fits, size-node (tree_at trees c.args.term) node.head (tree_at trees node.first) (tree_at trees node.second) e)))
+    let less : above node.first < above c.args.term = omega (arith, above_some c.args.term c.in-Some.n c.in-Some.is, above_child c.in-Some.n.0 node.first c.read_node-node.ensures.first) in
+    (search rules, (child_live (length trees) c.args.term c.in-Some.n node.first c.in-Some.is c.requires.live c.read_node-node.ensures.first, omega (arith, c.requires.fits, size_node (tree_at trees c.args.term) node.head (tree_at trees node.first) (tree_at trees node.second) e)))
 
 pub with_answers-second-requires : goal.with_answers-second-requires
 with_answers-second-requires t c =
     let trees = c.args.setting.now.pool.now.trees in
     let node = c.read_node-node.result in
     let e = ap (tree_at trees) c.in-Some.is ∙ c.read_node-node.ensures.tree in
-    let less : above node.second < above c.args.term = omega (arith, above-some c.args.term c.in-Some.n c.in-Some.is, above-child c.in-Some.n.0 node.second c.read_node-node.ensures.second) in
-    (search rules, (child_live (length trees) c.args.term c.in-Some.n node.second c.in-Some.is c.requires.live c.read_node-node.ensures.second, omega (arith, c.requires.fits, size-node (tree_at trees c.args.term) node.head (tree_at trees node.first) (tree_at trees node.second) e)))
+    let less : above node.second < above c.args.term = omega (arith, above_some c.args.term c.in-Some.n c.in-Some.is, above_child c.in-Some.n.0 node.second c.read_node-node.ensures.second) in
+    (search rules, (child_live (length trees) c.args.term c.in-Some.n node.second c.in-Some.is c.requires.live c.read_node-node.ensures.second, omega (arith, c.requires.fits, size_node (tree_at trees c.args.term) node.head (tree_at trees node.first) (tree_at trees node.second) e)))
 
 pub returns-in-Leaf : goal.returns-in-Leaf
 returns-in-Leaf t c =

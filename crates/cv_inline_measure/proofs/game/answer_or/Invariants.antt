@@ -1,5 +1,5 @@
 use Rattle.std.proofs.Common.{◌≡◌, ℕ, drop}
-use Rattle.cv_inline_extents.specs.Extents as extents
+use Rattle.cv_inline_laws.specs.extents.Extents as extents
 use Rattle.cv_inline_measure.specs.Games.{answers_in}
 use Rattle.cv_inline_measure.proofs.game.answer_or.Given as goal
 

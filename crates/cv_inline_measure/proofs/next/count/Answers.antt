@@ -2,11 +2,11 @@ use Rattle.std.proofs.Common.{ℕ, ◌≡◌, [], Some, ap, sym, ◌∙◌}
 use Rattle.std.proofs.lemmas.Result.{IfOk-weaker}
 use Rattle.cv_syntax.specs.PoolTrees.{tree_at}
 use Rattle.cv_meaning_contexts.specs.Groups.{Group}
-use Rattle.cv_inline_games.specs.NextGame.{next_in}
-use Rattle.cv_inline_extents.specs.Extents.{extent, of_game}
-use Rattle.cv_inline_extents.proofs.Games.{next_measured}
+use Rattle.cv_inline.specs.NextGame.{next_in}
+use Rattle.cv_inline_laws.specs.extents.Extents.{extent, of_game}
+use Rattle.cv_inline_laws.proofs.extents.Games.{next_measured}
 use Rattle.cv_inline_measure.specs.Counts.{measure_in}
-use Rattle.cv_syntax_limits.specs.Limits.{told}
+use Rattle.cv_syntax.specs.limits.Limits.{told}
 use Rattle.cv_inline_measure.specs.Settings.{inlined_calls}
 use Rattle.cv_inline_measure.proofs.Walks.{is_measure}
 use Rattle.cv_inline_measure.proofs.next.count.Goals as goal

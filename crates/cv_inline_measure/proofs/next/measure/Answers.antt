@@ -1,8 +1,8 @@
 use Rattle.std.proofs.Common.{[], Some, ap, ◌∙◌}
 use Rattle.cv_syntax.specs.PoolTrees.{tree_at}
-use Rattle.cv_inline_games.specs.NextGame.{next_in}
-use Rattle.cv_inline_extents.proofs.Measures.{nodes_are_size, path_is_depth}
-use Rattle.cv_syntax_limits.specs.Limits.{told}
+use Rattle.cv_inline.specs.NextGame.{next_in}
+use Rattle.cv_inline_laws.proofs.extents.Measures.{nodes_are_size, path_is_depth}
+use Rattle.cv_syntax.specs.limits.Limits.{told}
 use Rattle.cv_inline_measure.specs.Settings.{inlined_calls}
 use Rattle.cv_inline_measure.proofs.next.measure.Goals as goal
 

@@ -1,5 +1,5 @@
 use Rattle.std.proofs.Common.{◌≡◌, reverse, take}
-use Rattle.cv_inline_terms.specs.Stacks.{stack}
+use Rattle.cv_inline.specs.terms.Stacks.{stack}
 use Rattle.cv_inline_measure.specs.Counts.{counts_of}
 use Rattle.cv_inline_measure.proofs.parts.extent_of.Given as goal
 

@@ -6,25 +6,25 @@ use Rattle.cv_syntax.specs.Postorder.{joined}
 use Rattle.cv_syntax_trees.specs.Tree.{second}
 use Rattle.cv_syntax.specs.PoolTrees.{tree_at}
 use Rattle.cv_syntax.proofs.Trees.{empty_at, node_at}
-use Rattle.cv_inline_games.specs.NextGame.{call_in_game, next_in, numbered}
-use Rattle.cv_inline_terms.specs.Drawings.{drawn_in}
-use Rattle.cv_inline_terms.specs.Stacks.{stack}
-use Rattle.cv_inline_listing.specs.Callings.{calling_in, callings_in}
-use Rattle.cv_inline_pieces.specs.Pieces.{IsLivePiece, piece_over, pieced}
-use Rattle.cv_inline_results.specs.Outcomes.{IsLiveOutcome, term_of}
+use Rattle.cv_inline.specs.NextGame.{call_in_game, next_in, numbered}
+use Rattle.cv_inline.specs.terms.Drawings.{drawn_in}
+use Rattle.cv_inline.specs.terms.Stacks.{stack}
+use Rattle.cv_inline_sites.specs.listing.Callings.{calling_in, callings_in}
+use Rattle.cv_inline_walk.specs.pieces.Pieces.{IsLivePiece, piece_over, pieced}
+use Rattle.cv_inline_sites.specs.results.Outcomes.{IsLiveOutcome, term_of}
 use Rattle.cv_inline_walk.specs.declared.forms.Form.TheVariants as form
 use Rattle.cv_inline_walk.specs.declared.step.Call.{Call}
 use Rattle.cv_inline_walk.specs.Forms.{first_in}
 use Rattle.cv_inline_walk.specs.Steps.{calls_of, goes_on, live_in, results_of}
-use Rattle.cv_inline_walk.proofs.Nodes.{next-Empty, next_by, over_node}
-use Rattle.cv_inline_walk.proofs.Pieces.{at_result, call_made, no_site, of_each, pieced_all, pieced_more, pieced_none}
+use Rattle.cv_inline_walk.proofs.Nodes.{next_Empty, next_by, over_node}
+use Rattle.cv_inline_walk.proofs.PieceParts.{at_result, call_made, no_site, of_each, pieced_all, pieced_more, pieced_none}
 use Rattle.cv_inline_walk.proofs.game.+game.Goals as goal
 
 pub game-returns-in_default : goal.game-returns-in_default
 game-returns-in_default t c = λ g k.
     let s = c.args.step.now in
     let trees = s.pool.now.trees in
-    rw (next-Empty (calls_of s g) (results_of s c.args.results.now) (tree_at trees c.args.part) (empty_at trees c.args.part c.in_default.is)) c.nothing.ensures
+    rw (next_Empty (calls_of s g) (results_of s c.args.results.now) (tree_at trees c.args.part) (empty_at trees c.args.part c.in_default.is)) c.nothing.ensures
 
 pub game-returns-in-Call : goal.game-returns-in-Call
 game-returns-in-Call t c = λ g k.

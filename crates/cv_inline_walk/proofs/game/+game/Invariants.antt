@@ -1,9 +1,9 @@
 use Rattle.std.proofs.Common.{◌≡◌, ◌+◌, ◌*◌, take}
 use Rattle.cv_syntax.specs.Walks.{above}
 use Rattle.cv_meaning_contexts.specs.Groups.{Group}
-use Rattle.cv_inline_terms.specs.Drawings.{drawn_in}
-use Rattle.cv_inline_terms.specs.Stacks.{stack}
-use Rattle.cv_inline_pieces.specs.Pieces.{pieced}
+use Rattle.cv_inline.specs.terms.Drawings.{drawn_in}
+use Rattle.cv_inline.specs.terms.Stacks.{stack}
+use Rattle.cv_inline_walk.specs.pieces.Pieces.{pieced}
 use Rattle.cv_inline_walk.specs.Steps.{HasRightKey, goes_on}
 use Rattle.cv_inline_walk.proofs.game.+game.Given as goal
 

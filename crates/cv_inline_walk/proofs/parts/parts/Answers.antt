@@ -1,6 +1,6 @@
 use Rattle.std.proofs.Common.{◌∷◌, ap, ◌∙◌}
 use Rattle.cv_syntax.specs.Postorder.{made}
-use Rattle.cv_inline_terms.specs.Stacks.{stack}
+use Rattle.cv_inline.specs.terms.Stacks.{stack}
 use Rattle.cv_inline_walk.specs.Steps.{next_tree}
 use Rattle.cv_inline_walk.proofs.parts.parts.Goals as goal
 

@@ -1,9 +1,9 @@
 use Rattle.std.proofs.Common.{◌+◌, ◌≤◌, ap, arith, length, subst, ◌∙◌}
 use Rattle.std.specs.Prelude.{IsErrOf, OnOk}
 use Rattle.cv_pool.specs.declared.pool.PoolError.TheVariants as pool
-use Rattle.cv_inline_terms.specs.Stacks.{stack}
+use Rattle.cv_inline.specs.terms.Stacks.{stack}
 use Rattle.cv_inline_walk.specs.Steps.{next_tree}
-use Rattle.cv_syntax_limits.proofs.Counting.{nodes_made}
+use Rattle.cv_syntax.proofs.limits.Counting.{nodes_made}
 use Rattle.cv_inline_walk.proofs.parts.plant_parts.Goals as goal
 
 pub returns-in-Ok-clause-room : goal.returns-in-Ok-clause-room

@@ -1,6 +1,6 @@
 use Rattle.std.proofs.Common.{length, subst, sym, ◌+◌, ◌≤◌}
 use Rattle.std.specs.Prelude.{OnOk}
-use Rattle.cv_rule_scenes.specs.Kept.{scene_of}
+use Rattle.cv_scene_view.specs.Kept.{scene_of}
 use Rattle.cv_script.specs.Views.{items_of_view}
 use Rattle.cv_edit.specs.Edits.{need_of}
 use Rattle.cv_kernel.specs.Answers.{IsAnswer}

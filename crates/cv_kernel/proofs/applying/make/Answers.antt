@@ -1,21 +1,21 @@
 use Rattle.std.proofs.Common.{ap, length, subst, sym, ◌∙◌, Err}
 use Rattle.cv_syntax.specs.PoolTrees.{tree_at}
-use Rattle.cv_syntax.proofs.Trees.{tree_at-None}
-use Rattle.cv_rule_scenes.specs.Kept.{scene_of}
-use Rattle.cv_rule.proofs.Readings.{read-prepared}
+use Rattle.cv_syntax.proofs.Trees.{tree_at_None}
+use Rattle.cv_scene_view.specs.Kept.{scene_of}
+use Rattle.cv_rule.proofs.Readings.{read_prepared}
 use Rattle.cv_steps.specs.Judgements.{judgement_of_row}
 use Rattle.cv_steps.specs.Steps.{Leads, Zero}
 use Rattle.cv_edit.specs.Edits.{edited, need_of}
 use Rattle.cv_kernel.specs.Answers.{IsAnswer}
-use Rattle.cv_kernel.proofs.Answers.{answer_through, draw_answer, empty_game, game_answer, over_answer, refused}
-use Rattle.cv_kernel.proofs.Pushes.{declarations-grown}
+use Rattle.cv_kernel.proofs.Answers.{answer_through, edit_answer, empty_game, game_answer, over_answer, refused}
 use Rattle.cv_kernel.proofs.applying.make.Goals as goal
+use Rattle.cv_kernel_crypto.proofs.Growing.{declarations_grown}
 
 pub measure-requires-clause-read : goal.measure-requires-clause-read
-measure-requires-clause-read c = read-prepared c.args.work.now.pool.trees c.args.work.now.decls c.args.game c.args.arrays.now c.in-OfGame.directory c.requires.prepared c.in-OfGame.is
+measure-requires-clause-read c = read_prepared c.args.work.now.pool.trees c.args.work.now.decls c.args.game c.args.arrays.now c.in-OfGame.directory c.requires.prepared c.in-OfGame.is
 
-pub draw-requires-clause-read : goal.draw-requires-clause-read
-draw-requires-clause-read c = read-prepared c.args.work.now.pool.trees c.args.work.now.decls c.args.game c.args.arrays.now c.in-OfGame.directory c.requires.prepared c.in-OfGame.is
+pub make_game-requires-clause-read : goal.make_game-requires-clause-read
+make_game-requires-clause-read c = read_prepared c.args.work.now.pool.trees c.args.work.now.decls c.args.game c.args.arrays.now c.in-OfGame.directory c.requires.prepared c.in-OfGame.is
 
 pub returns-in_err-check_limits-clause-answer : goal.returns-in_err-check_limits-clause-answer
 returns-in_err-check_limits-clause-answer c =
@@ -29,32 +29,32 @@ returns-in_err-check_limits-clause-answer c =
 pub returns-in_err-root-clause-answer : goal.returns-in_err-root-clause-answer
 returns-in_err-root-clause-answer c =
     let pool = c.args.work.now.pool in
-    let trees = c.draw.new.pool.trees in
+    let trees = c.make_game.new.pool.trees in
     let s = scene_of pool c.args.work.now.decls c.args.game in
     let next = edited pool.trees s.game c.args.edit.now in
     let need = need_of s.game c.args.edit.now in
     answer_through pool.limit (length pool.trees) need (judgement_of_row s (Leads next Zero)) trees _ _ c.from_residual-in_err-root.ensures.1
-    (draw_answer s next c.in_ok-extent.extent.nodes c.in_ok-extent.extent.depth c.in_ok-extent.ensures.nodes c.in_ok-extent.ensures.depth c.in_ok-check_limits.ensures.within pool.limit (length pool.trees) need trees c.in_err-root.field-0.0 c.in_err-root.ensures.fault)
+    (edit_answer s next c.in_ok-extent.extent.nodes c.in_ok-extent.extent.depth c.in_ok-extent.ensures.nodes c.in_ok-extent.ensures.depth c.in_ok-check_limits.ensures.within pool.limit (length pool.trees) need trees c.in_err-root.field-0.0 c.in_err-root.ensures.fault)
 
 pub returns-in_default-2-clause-answer : goal.returns-in_default-2-clause-answer
 returns-in_default-2-clause-answer c =
     let pool = c.args.work.now.pool in
-    let trees = c.draw.new.pool.trees in
+    let trees = c.make_game.new.pool.trees in
     let s = scene_of pool c.args.work.now.decls c.args.game in
     let next = edited pool.trees s.game c.args.edit.now in
     let need = need_of s.game c.args.edit.now in
-    let empty = sym c.in_ok-root.ensures.tree ∙ (ap (tree_at trees) c.in_default-2.is ∙ tree_at-None trees) in
+    let empty = sym c.in_ok-root.ensures.tree ∙ (ap (tree_at trees) c.in_default-2.is ∙ tree_at_None trees) in
     subst (λ y. IsAnswer pool.limit (length pool.trees) need (judgement_of_row s (Leads next Zero)) trees (Err y)) (sym c.refused.ensures)
     (refused s next c.in_ok-extent.extent.nodes c.in_ok-extent.extent.depth c.in_ok-extent.ensures.nodes c.in_ok-extent.ensures.depth c.in_ok-check_limits.ensures.within (empty_game s next empty))
 
 pub returns-clause-answer : goal.returns-clause-answer
 returns-clause-answer c =
     let pool = c.args.work.now.pool in
-    let trees = c.draw.new.pool.trees in
+    let trees = c.make_game.new.pool.trees in
     let s = scene_of pool c.args.work.now.decls c.args.game in
     let next = edited pool.trees s.game c.args.edit.now in
     let need = need_of s.game c.args.edit.now in
     let tree = ap (tree_at trees) (sym c.in-Some.is) ∙ c.in_ok-root.ensures.tree in
-    let same = declarations-grown pool c.draw.new.pool c.args.work.now.decls.list c.draw.ensures.grows c.requires.declared in
+    let same = declarations_grown pool c.make_game.new.pool c.args.work.now.decls.list c.make_game.ensures.grows c.requires.declared in
     game_answer s next c.in_ok-extent.extent.nodes c.in_ok-extent.extent.depth c.in_ok-extent.ensures.nodes c.in_ok-extent.ensures.depth c.in_ok-check_limits.ensures.within pool.limit (length pool.trees) need trees _ c.in-Some.root same tree c.in_ok-root.ensures.room
     c.game_at.result c.game_at.ensures.root c.game_at.ensures.cost c.game_at.ensures.game c.game_at.ensures.none

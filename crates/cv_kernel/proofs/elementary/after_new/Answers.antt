@@ -1,7 +1,7 @@
 use Rattle.std.proofs.Common.{arith, subst}
-use Rattle.cv_rule_scenes.specs.Kept.{scene_of}
+use Rattle.cv_scene_view.specs.Kept.{scene_of}
 use Rattle.cv_rule.proofs.Leading.{new_stands_not}
-use Rattle.cv_draw.specs.declared.change.Change.TheVariants as change
+use Rattle.cv_edit_places.specs.declared.change.Change.TheVariants as change
 use Rattle.cv_edit.specs.declared.edit.Edit.TheVariants as edit
 use Rattle.cv_script.specs.Views as items
 use Rattle.cv_kernel.specs.Answers.{IsPlan}

@@ -1,20 +1,20 @@
 use Rattle.std.proofs.Common.{arith, subst, Some}
 use Rattle.cv_syntax.specs.PoolTrees.{tree_at}
-use Rattle.cv_rule_scenes.specs.Kept.{scene_of}
+use Rattle.cv_scene_view.specs.Kept.{scene_of}
 use Rattle.cv_rule.proofs.Leading.{prune_stands_not}
-use Rattle.cv_draw_pruning.specs.Bodies.{need_of}
+use Rattle.cv_edit_changes.specs.pruning.Bodies.{need_of}
 use Rattle.cv_edit.specs.declared.edit.Edit.TheVariants as edit
 use Rattle.cv_steps.specs.Elementary.{prune_step}
 use Rattle.cv_kernel.specs.Answers.{IsPlan}
 use Rattle.cv_kernel.specs.Rules.{part_of}
-use Rattle.cv_kernel.proofs.Nodes.{lines-nodes}
+use Rattle.cv_kernel.proofs.Nodes.{lines_nodes}
 use Rattle.cv_kernel.proofs.Planned.{plan_by, prune_edit, unplaced}
 use Rattle.cv_kernel.proofs.elementary.pruned.Goals as goal
 
 pub tested-requires-clause-rule : goal.tested-requires-clause-rule
 tested-requires-clause-rule c =
     let by = tree_at c.args.work.now.pool.trees c.args.by in
-    (c.requires.by, omega (arith, c.requires.lines, lines-nodes by))
+    (c.requires.by, omega (arith, c.requires.lines, lines_nodes by))
 
 pub returns-in_err-place : goal.returns-in_err-place
 returns-in_err-place c =

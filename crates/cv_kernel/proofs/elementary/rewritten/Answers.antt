@@ -1,13 +1,13 @@
 use Rattle.std.proofs.Common.{arith, subst, Some}
 use Rattle.cv_syntax.specs.PoolTrees.{tree_at}
-use Rattle.cv_rule_scenes.specs.Kept.{scene_of}
+use Rattle.cv_scene_view.specs.Kept.{scene_of}
 use Rattle.cv_rule.proofs.Leading.{rewrite_stands_not}
-use Rattle.cv_draw.specs.declared.change.Change.TheVariants as change
+use Rattle.cv_edit_places.specs.declared.change.Change.TheVariants as change
 use Rattle.cv_edit.specs.declared.edit.Edit.TheVariants as edit
 use Rattle.cv_script.specs.Views as items
 use Rattle.cv_kernel.specs.Answers.{IsPlan}
 use Rattle.cv_kernel.specs.Rules.{rule_of_items}
-use Rattle.cv_kernel.proofs.Nodes.{lines-nodes, size-nodes}
+use Rattle.cv_kernel.proofs.Nodes.{lines_nodes, size_nodes}
 use Rattle.cv_kernel.proofs.Planned.{plan_by, rewrite_edit, unplaced}
 use Rattle.cv_kernel.proofs.elementary.rewritten.Goals as goal
 
@@ -16,7 +16,7 @@ tested-requires-clause-rule c =
     let trees = c.args.work.now.pool.trees in
     let t = tree_at trees (Some c.args.term) in
     let by = tree_at trees c.args.by in
-    ((c.requires.live, omega (arith, c.requires.short, size-nodes t)), (c.requires.by, omega (arith, c.requires.lines, lines-nodes by)))
+    ((c.requires.live, omega (arith, c.requires.short, size_nodes t)), (c.requires.by, omega (arith, c.requires.lines, lines_nodes by)))
 
 pub returns-in_err-place : goal.returns-in_err-place
 returns-in_err-place c =

@@ -1,20 +1,20 @@
 use Rattle.std.proofs.Common.{arith, subst, Some}
 use Rattle.cv_syntax.specs.PoolTrees.{tree_at}
-use Rattle.cv_rule_scenes.specs.Kept.{scene_of}
+use Rattle.cv_scene_view.specs.Kept.{scene_of}
 use Rattle.cv_rule.proofs.Leading.{split_stands_not}
-use Rattle.cv_draw.specs.declared.change.Change.TheVariants as change
+use Rattle.cv_edit_places.specs.declared.change.Change.TheVariants as change
 use Rattle.cv_edit.specs.declared.edit.Edit.TheVariants as edit
 use Rattle.cv_script.specs.Views as items
 use Rattle.cv_kernel.specs.Answers.{IsPlan}
 use Rattle.cv_kernel.specs.Rules.{rule_of_items}
-use Rattle.cv_kernel.proofs.Nodes.{size-nodes}
+use Rattle.cv_kernel.proofs.Nodes.{size_nodes}
 use Rattle.cv_kernel.proofs.Planned.{plan_by, split_edit, unplaced}
 use Rattle.cv_kernel.proofs.elementary.split.Goals as goal
 
 pub tested-requires-clause-rule : goal.tested-requires-clause-rule
 tested-requires-clause-rule c =
     let t = tree_at c.args.work.now.pool.trees (Some c.args.condition) in
-    (c.requires.live, omega (arith, c.requires.short, size-nodes t))
+    (c.requires.live, omega (arith, c.requires.short, size_nodes t))
 
 pub returns-in_err-place : goal.returns-in_err-place
 returns-in_err-place c =

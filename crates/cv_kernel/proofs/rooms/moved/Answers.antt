@@ -1,7 +1,7 @@
 use Rattle.std.proofs.Common.{arith, refl, subst}
-use Rattle.cv_rule_scenes.specs.Kept.{scene_of}
+use Rattle.cv_scene_view.specs.Kept.{scene_of}
 use Rattle.cv_rule_move.specs.Steps.{made_of_moved, move_step, need_moving}
-use Rattle.cv_scenes.specs.Scenes.{part_at}
+use Rattle.cv_scene.specs.Scenes.{part_at}
 use Rattle.cv_script.specs.Views as items
 use Rattle.cv_kernel.specs.Answers.{IsPlan}
 use Rattle.cv_kernel.specs.Rules.{rule_of_items}

@@ -3,10 +3,10 @@ use Rattle.std.specs.Prelude.{IfOk}
 use Rattle.cv_bound.specs.declared.cost.Cost.{Cost}
 use Rattle.cv_syntax.specs.Classes.{DeclsView}
 use Rattle.cv_syntax.specs.Declarations.{declarations}
-use Rattle.cv_rule_scenes.specs.Kept.{scene_of}
+use Rattle.cv_scene_view.specs.Kept.{scene_of}
 use Rattle.cv_kernel_crypto.specs.Applied.{DrawsNext}
 use Rattle.cv_kernel_crypto.proofs.Answers.{answer_through, tested_answer, tested_few, tested_game, tested_small}
-use Rattle.cv_kernel_crypto.proofs.Growing.{declarations-grown}
+use Rattle.cv_kernel_crypto.proofs.Growing.{declarations_grown}
 use Rattle.cv_kernel_crypto.proofs.applying.attempt.Goals as goal
 
 pub returns-in_err-root-clause-answer : goal.returns-in_err-root-clause-answer
@@ -22,7 +22,7 @@ returns-clause-answer c =
     let w = c.args.work.now in
     let v = c.build.new.work in
     let met = c.requires.met in
-    let same = ap (λ (d : DeclsView). declarations v.pool.trees d.list) c.in_ok-root.ensures.decls ∙ declarations-grown w.pool v.pool w.decls.list c.in_ok-root.ensures.grows c.requires.declared in
+    let same = ap (λ (d : DeclsView). declarations v.pool.trees d.list) c.in_ok-root.ensures.decls ∙ declarations_grown w.pool v.pool w.decls.list c.in_ok-root.ensures.grows c.requires.declared in
     tested_answer w.pool.limit (length w.pool.trees) (scene_of w.pool w.decls c.args.game) c.args.equivalence c.args.key c.args.step v.pool.trees c.in_ok-root.root met.met (c.in_ok-root.ensures.built c.args.equivalence met) (declarations v.pool.trees v.decls.list) same
     c.tested.result c.tested.ensures.root (subst (λ (k : Cost). IfOk c.tested.result (λ next. next.cost ≡ k)) c.advantage.ensures c.tested.ensures.cost) c.tested.ensures.game c.tested.ensures.fault
 

@@ -3,7 +3,7 @@ use Rattle.std.specs.Prelude.{IfOk}
 use Rattle.cv_syntax.specs.PoolTrees.{tree_at}
 use Rattle.cv_meaning_contexts.specs.Sides.{Context}
 use Rattle.cv_context.specs.Roles.{name_at}
-use Rattle.cv_syntax_limits.specs.Limits.{nodes_of}
+use Rattle.cv_syntax.specs.limits.Limits.{nodes_of}
 use Rattle.cv_kernel_crypto.proofs.Reduced.{context_same}
 use Rattle.cv_kernel_crypto.proofs.contexts.context_for.Goals as goal
 

@@ -1,5 +1,5 @@
 use Rattle.std.proofs.Common.{◌≡◌, map, take}
-use Rattle.cv_match_patterns.specs.declared.site.Site.{Site}
+use Rattle.cv_match_terms.specs.declared.patterns.site.Site.{Site}
 use Rattle.cv_kernel_crypto.proofs.contexts.functions_of.Given as goal
 
 abbrev pub invariant-loop-site : goal.invariant-loop-site

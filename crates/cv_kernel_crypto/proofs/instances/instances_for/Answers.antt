@@ -2,9 +2,9 @@ use Rattle.std.proofs.Common.{ap, arith, length, option_map, subst, sym, ◌∙�
 use Rattle.cv_pool.specs.Nodes.{ChildBelow}
 use Rattle.cv_syntax_trees.specs.Tree.{size}
 use Rattle.cv_syntax.specs.PoolTrees.{tree_at}
-use Rattle.cv_rule_scenes.specs.Kept.{scene_of}
-use Rattle.cv_scenes.specs.Refusals.{first_refusal}
-use Rattle.cv_match.proofs.Fitting.{equiv-live}
+use Rattle.cv_scene_view.specs.Kept.{scene_of}
+use Rattle.cv_scene.specs.Refusals.{first_refusal}
+use Rattle.cv_match.proofs.Fitting.{equiv_live}
 use Rattle.cv_match.specs.Matched.{matching_of}
 use Rattle.cv_steps_crypto.specs.Conditions.{failure_by, failure_of}
 use Rattle.cv_kernel_crypto.specs.Faults.{IsRefused, fault_of}
@@ -21,13 +21,13 @@ returns-in_default-clause-fault c =
 pub room_left-requires : goal.room_left-requires
 room_left-requires c =
     let w = c.args.work.now in
-    subst (ChildBelow (length w.pool.trees)) (sym c.equiv.ensures ∙ c.in-Some.is) (equiv-live (length w.pool.trees) w.decls.list c.args.equivalence c.requires.declared)
+    subst (ChildBelow (length w.pool.trees)) (sym c.equiv.ensures ∙ c.in-Some.is) (equiv_live (length w.pool.trees) w.decls.list c.args.equivalence c.requires.declared)
 
-pub returns-then-not-is_there-clause-fault : goal.returns-then-not-is_there-clause-fault
-returns-then-not-is_there-clause-fault c =
+pub returns-then-not-is_known-clause-fault : goal.returns-then-not-is_known-clause-fault
+returns-then-not-is_known-clause-fault c =
     let w = c.args.work.now in
-    subst (IsRefused (failure_of (scene_of w.pool w.decls c.args.game) c.args.equivalence c.args.key)) (sym c.refused-then-not-is_there.ensures)
-    (without_variable w.pool w.decls c.args.game c.args.equivalence c.args.key c.in-Some.tree (sym c.equiv.ensures ∙ c.in-Some.is) (sym c.is_there.ensures ∙ c.if-not-is_there.true))
+    subst (IsRefused (failure_of (scene_of w.pool w.decls c.args.game) c.args.equivalence c.args.key)) (sym c.refused-then-not-is_known.ensures)
+    (without_variable w.pool w.decls c.args.game c.args.equivalence c.args.key c.in-Some.tree (sym c.equiv.ensures ∙ c.in-Some.is) (sym c.is_known.ensures ∙ c.if-not-is_known.true))
 
 pub matches-requires-clause-short : goal.matches-requires-clause-short
 matches-requires-clause-short c =
@@ -40,7 +40,7 @@ returns-in_err-found-clause-fault c =
     let M = matching_of w.pool w.decls c.args.game c.args.equivalence c.args.key in
     let fault = c.in_err-found.field-0.0 in
     refused_through _ (fault_of fault) (failure_of (scene_of w.pool w.decls c.args.game) c.args.equivalence c.args.key) c.from_residual.ensures.1
-    (subst (λ o. IsRefused o (fault_of fault)) (sym (with_both w.pool w.decls c.args.game c.args.equivalence c.args.key c.in-Some.tree (sym c.equiv.ensures ∙ c.in-Some.is) (sym c.is_there.ensures ∙ c.if-not-is_there.false)))
+    (subst (λ o. IsRefused o (fault_of fault)) (sym (with_both w.pool w.decls c.args.game c.args.equivalence c.args.key c.in-Some.tree (sym c.equiv.ensures ∙ c.in-Some.is) (sym c.is_known.ensures ∙ c.if-not-is_known.false)))
     (refused_by (first_refusal M) fault c.in_err-found.ensures.fault))
 
 pub returns-clause-found : goal.returns-clause-found
@@ -50,7 +50,7 @@ returns-clause-found c =
     let f = c.in_ok-found.ensures in
     let sites = c.in_ok-found.found.sites.items in
     record {
-      live = subst (ChildBelow (length w.pool.trees)) i (equiv-live (length w.pool.trees) w.decls.list c.args.equivalence c.requires.declared);
+      live = subst (ChildBelow (length w.pool.trees)) i (equiv_live (length w.pool.trees) w.decls.list c.args.equivalence c.requires.declared);
       short = omega (arith, c.in-Some-room_left.ensures.left);
       right = right_found w.pool w.decls c.args.game c.args.equivalence c.args.key c.in-Some.tree i c.requires.equivalences;
       sites = sites_found w.pool w.decls c.args.game c.args.equivalence c.args.key c.in-Some.tree i sites c.requires.equivalences f.sites f.instances;
@@ -64,5 +64,5 @@ returns-clause-met c =
     let i = sym c.equiv.ensures ∙ c.in-Some.is in
     record {
       named = node_named w.pool w.decls c.args.game c.args.equivalence c.in-Some.tree i;
-      met = with_both w.pool w.decls c.args.game c.args.equivalence c.args.key c.in-Some.tree i (sym c.is_there.ensures ∙ c.if-not-is_there.false) ∙ ap (option_map failure_by) c.in_ok-found.ensures.none;
+      met = with_both w.pool w.decls c.args.game c.args.equivalence c.args.key c.in-Some.tree i (sym c.is_known.ensures ∙ c.if-not-is_known.false) ∙ ap (option_map failure_by) c.in_ok-found.ensures.none;
     }

@@ -1,6 +1,6 @@
 use Rattle.std.proofs.Common.{arith, length, subst, Some, ◌<◌, All, ap, ◌∙◌}
 use Rattle.cv_syntax.specs.PoolTrees.{tree_at}
-use Rattle.cv_inline_taken.specs.Taken.{taken_names}
+use Rattle.cv_inline_draws.specs.taken_names.Taken.{taken_names}
 use Rattle.cv_kernel_crypto.proofs.Named.{named_below}
 use Rattle.cv_kernel_crypto.proofs.naming.names_for.Goals as goal
 

@@ -1,6 +1,6 @@
 use Rattle.cv_directory.specs.Tables.{seen}
-use Rattle.cv_rule_scenes.specs.Kept.{scene_of}
-use Rattle.cv_kernel_crypto.proofs.Shaping.{directory-is, shape-is}
+use Rattle.cv_scene_view.specs.Kept.{scene_of}
+use Rattle.cv_kernel_crypto.proofs.Shaping.{directory_is, shape_is}
 use Rattle.cv_kernel_crypto.proofs.planning.plan.Goals as goal
 
 pub returns-clause-shape : goal.returns-clause-shape
@@ -8,5 +8,5 @@ returns-clause-shape c =
     let w = c.args.work.now in
     let s = scene_of w.pool w.decls c.args.game in
     let f = c.in_ok-instances.ensures in
-    shape-is w.pool.trees s c.args.game c.args.equivalence c.args.key c.in_ok-instances.instances c.as_slice-sites.result.now (seen c.in-OfGame.directory) c.in_ok-shape.shape c.requires.formed
-    (directory-is c.args.arrays.now c.in-OfGame.directory _ c.requires.arrays c.in-OfGame.is) f.found f.met c.as_slice-sites.ensures.value (c.in_ok-shape.ensures s)
+    shape_is w.pool.trees s c.args.game c.args.equivalence c.args.key c.in_ok-instances.instances c.as_slice-sites.result.now (seen c.in-OfGame.directory) c.in_ok-shape.shape c.requires.formed
+    (directory_is c.args.arrays.now c.in-OfGame.directory _ c.requires.arrays c.in-OfGame.is) f.found f.met c.as_slice-sites.ensures.value (c.in_ok-shape.ensures s)

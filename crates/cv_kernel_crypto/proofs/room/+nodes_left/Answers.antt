@@ -2,7 +2,7 @@ use Rattle.std.proofs.Common.{◌≡◌, ◌+◌, arith, ap, ◌∙◌}
 use Rattle.cv_syntax.specs.PoolTrees.{tree_at}
 use Rattle.cv_syntax.proofs.ChildReads.{left_over}
 use Rattle.cv_syntax.proofs.Trees.{empty_at}
-use Rattle.cv_syntax_limits.specs.Limits.{nodes_of}
+use Rattle.cv_syntax.specs.limits.Limits.{nodes_of}
 use Rattle.cv_kernel_crypto.proofs.Rooms.{nodes_empty, nodes_node}
 use Rattle.cv_kernel_crypto.proofs.room.+nodes_left.Goals as goal
 

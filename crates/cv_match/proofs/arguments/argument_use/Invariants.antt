@@ -1,7 +1,7 @@
 use Rattle.std.proofs.Common.{◌≡◌, drop, map}
-use Rattle.cv_scenes.specs.Refusals.{first_argument_use}
-use Rattle.cv_match_sites.specs.Matchings.{matching_by}
-use Rattle.cv_match_patterns.specs.Sites.{site_in}
+use Rattle.cv_scene.specs.Refusals.{first_argument_use}
+use Rattle.cv_match.specs.instances.Matchings.{matching_by}
+use Rattle.cv_match_terms.specs.patterns.Sites.{site_in}
 use Rattle.cv_match.proofs.arguments.argument_use.Given as goal
 
 abbrev pub invariant-loop-site : goal.invariant-loop-site

@@ -4,10 +4,10 @@ use Rattle.cv_syntax.specs.PoolTrees.{tree_at}
 use Rattle.cv_syntax.specs.Walks.{above}
 use Rattle.cv_meaning.specs.Correspondences.{typed_names}
 use Rattle.cv_meaning_contexts.specs.Groups.{function_of}
-use Rattle.cv_scenes.specs.Instances.{term_for}
-use Rattle.cv_scenes.specs.Refusals.{are_coins}
-use Rattle.cv_match_sites.specs.Matchings.{matching_by}
-use Rattle.cv_match_patterns.specs.Sites.{site_in}
+use Rattle.cv_scene.specs.Instances.{term_for}
+use Rattle.cv_scene.specs.Refusals.{are_coins}
+use Rattle.cv_match.specs.instances.Matchings.{matching_by}
+use Rattle.cv_match_terms.specs.patterns.Sites.{site_in}
 use Rattle.cv_match.proofs.coins.are_coins.Given as goal
 
 abbrev pub invariant-list : goal.invariant-list

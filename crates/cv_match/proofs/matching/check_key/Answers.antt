@@ -1,5 +1,5 @@
-use Rattle.cv_match_sites.specs.Matchings.{matching_by}
-use Rattle.cv_match.proofs.Refusing.{keyless, unused, used, used-within}
+use Rattle.cv_match.specs.instances.Matchings.{matching_by}
+use Rattle.cv_match.proofs.Refusing.{keyless, unused, used, used_within}
 use Rattle.cv_match.proofs.matching.check_key.Goals as goal
 
 pub returns-then-not-has_key-clause-fault : goal.returns-then-not-has_key-clause-fault
@@ -12,7 +12,7 @@ returns-in-Err-clause-fault c =
 
 pub returns-in-Err-condition_use-clause-fault : goal.returns-in-Err-condition_use-clause-fault
 returns-in-Err-condition_use-clause-fault c =
-    used-within (matching_by c.args.work.now.pool c.args.work.now.decls c.args.search.now) c.has_key.result c.has_key.ensures c.if-not-has_key.false c.in-Err-condition_use.place c.in_default.ensures.none c.in-Err-condition_use.ensures.found
+    used_within (matching_by c.args.work.now.pool c.args.work.now.decls c.args.search.now) c.has_key.result c.has_key.ensures c.if-not-has_key.false c.in-Err-condition_use.place c.in_default.ensures.none c.in-Err-condition_use.ensures.found
 
 pub returns-clause-none : goal.returns-clause-none
 returns-clause-none c =

@@ -7,7 +7,7 @@ use Rattle.cv_parse_terms.specs.Gives.{uses_of}
 use Rattle.cv_parse.specs.Measures.{IsExtent}
 use Rattle.cv_parse.specs.Parsed.{range_of}
 use Rattle.cv_parse.specs.Nodes.{file_nodes}
-use Rattle.cv_parse.proofs.Plants.{built-nodes}
+use Rattle.cv_parse.proofs.Plants.{built_nodes}
 use Rattle.cv_parse.proofs.Parsings.{builds, few_nodes, names_refuse_at, parses, passed_on, read_refuses, room_refuses, size_refuses}
 use Rattle.cv_parse.proofs.files.parse.Goals as goal
 
@@ -92,7 +92,7 @@ returns-clause-nodes c =
     let m = c.deref-5.ensures.value ∙ (c.in_ok-makes.ensures d.value.game (c.deref-4.ensures.value ∙ d.hears.process) ∙ ap (λ l. l ++ postorder (filled d.value.game)) c.deref-3.ensures.value) in
     let made = builds limit signs r d n _ m in
     let b = c.in_ok-root.ensures.built made in
-    let few = built-nodes r _ made ∙ sym (ap₂ file_nodes b.declared b.game) in
+    let few = built_nodes r _ made ∙ sym (ap₂ file_nodes b.declared b.game) in
     let none = ap length c.requires.trees in
     let made = c.build.ensures.nodes in
     omega arith

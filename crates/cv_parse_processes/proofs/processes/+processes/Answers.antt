@@ -7,7 +7,7 @@ use Rattle.cv_parse_grammar.specs.Phrases.{Inputs, Output}
 use Rattle.cv_parse_grammar.specs.Processes.{beside, input}
 use Rattle.cv_parse_terms.specs.Gives.{perhaps}
 use Rattle.cv_parse_terms.proofs.Chains.{between}
-use Rattle.cv_parse_terms.proofs.Made.{row-made}
+use Rattle.cv_parse_terms.proofs.Made.{row_made}
 use Rattle.cv_parse_terms.proofs.Rows.{mapped_read, place_grows, trees_begin, trees_go}
 use Rattle.cv_parse_terms.proofs.Tails.{joining, some_tail, tail_behind}
 use Rattle.cv_parse_processes.specs.Continuations.{bounds_of, branches_of, next_branch_of, otherwise_of, sort_of, variables_of}
@@ -92,7 +92,7 @@ branch_row-row-smaller t c = place_grows c.args.depth (next_branch_of c.args.run
 pub branches-returns : goal.branches-returns
 branches-returns t c =
     let d = c.in_ok-count.ensures.makes in
-    record { makes = record { value = chain d.value; read = mapped_read _ _ _ _ chain _ _ d.read; makes = row-made _ _ _ d.value _ d.makes d.many c.in_ok-close_chain.ensures } }
+    record { makes = record { value = chain d.value; read = mapped_read _ _ _ _ chain _ _ d.read; makes = row_made _ _ _ d.value _ d.makes d.many c.in_ok-close_chain.ensures } }
 
 pub find_in-returns : goal.find_in-returns
 find_in-returns t c =

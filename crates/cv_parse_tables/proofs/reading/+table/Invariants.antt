@@ -1,10 +1,10 @@
 use Rattle.std.proofs.Common.{false, ◌+◌, ◌*◌, drop}
 use Rattle.cv_parse_tables.specs.Table.{rows_of, form, row_form, many_form, table_reads}
-use Rattle.cv_parse_tables.proofs.Readers.{SoFar, turns-read}
+use Rattle.cv_parse_tables.proofs.Readers.{SoFar, turns_read}
 use Rattle.cv_parse_tables.proofs.reading.+table.Given as goal
 
 abbrev pub invariant-repeated-turns : goal.invariant-repeated-turns
-invariant-repeated-turns l = SoFar l.signs l.fn.trail l.trail (table_reads (rows_of l.rows) l.depth (many_form false (form (rows_of l.rows) l.bound l.row)) (drop l.fn.at l.signs)) (turns-read (rows_of l.rows) l.depth (form (rows_of l.rows) l.bound l.row) l.turns (drop l.place l.signs)) l.count l.place
+invariant-repeated-turns l = SoFar l.signs l.fn.trail l.trail (table_reads (rows_of l.rows) l.depth (many_form false (form (rows_of l.rows) l.bound l.row)) (drop l.fn.at l.signs)) (turns_read (rows_of l.rows) l.depth (form (rows_of l.rows) l.bound l.row) l.turns (drop l.place l.signs)) l.count l.place
 
 abbrev pub decreases-repeated-turns : goal.decreases-repeated-turns
 decreases-repeated-turns l = l.turns

@@ -2,7 +2,7 @@ use Rattle.std.proofs.Common.{◌≡◌, ◌∷◌, ◌++◌, ◌∙◌, ap, ap�
 use Rattle.std.proofs.lemmas.List.{drop_all, replicate_more}
 use Rattle.std.specs.Prelude.{replicate}
 use Rattle.cv_syntax.specs.declared.make.Make.TheVariants.{Nothing}
-use Rattle.cv_parse_terms.proofs.Made.{overs, overs-more, push_assoc, spine-whole}
+use Rattle.cv_parse_terms.proofs.Made.{overs, overs_more, push_assoc, spine_whole}
 use Rattle.cv_parse_terms.proofs.trail.make_spine.Goals as goal
 
 pub ends-preserved : goal.ends-preserved
@@ -20,8 +20,8 @@ heads-init c =
 pub heads-preserved : goal.heads-preserved
 heads-preserved c = record {
   within = omega arith;
-  makes = overs-more c.args.heads.now c.heads.at _ _ _ _ _ (omega arith) c.heads.invariant.within c.heads.invariant.makes c.in_ok-push-3.ensures.items;
+  makes = overs_more c.args.heads.now c.heads.at _ _ _ _ _ (omega arith) c.heads.invariant.within c.heads.invariant.makes c.in_ok-push-3.ensures.items;
 }
 
 pub returns : goal.returns
-returns c = spine-whole c.args.heads.now c.heads.at _ _ (omega arith) c.heads.invariant.makes
+returns c = spine_whole c.args.heads.now c.heads.at _ _ (omega arith) c.heads.invariant.makes

@@ -1,22 +1,22 @@
 use Rattle.std.proofs.Common.{rules, arith, ap, sym, ◌∙◌, Some}
 use Rattle.cv_syntax.specs.PoolTrees.{tree_at}
 use Rattle.cv_syntax.proofs.Trees.{empty_at}
-use Rattle.cv_syntax.proofs.Walking.{size-node}
-use Rattle.cv_path.proofs.Going.{subtree-here, subtree-within, subtree-behind, subtree-empty}
+use Rattle.cv_syntax.proofs.Walking.{size_node}
+use Rattle.cv_path.proofs.Going.{subtree_here, subtree_within, subtree_behind, subtree_empty}
 use Rattle.cv_path.proofs.place.at.Goals as goal
 
 pub place_in-requires-clause-fits : goal.place_in-requires-clause-fits
 place_in-requires-clause-fits c =
     let trees = c.args.pool.now.trees in
     let node = c.read_node-node.result in
-    omega (arith, size-node (tree_at trees c.down.at) node.head (tree_at trees node.first) (tree_at trees node.second) (ap (tree_at trees) c.in-Some.is ∙ c.read_node-node.ensures.tree))
+    omega (arith, size_node (tree_at trees c.down.at) node.head (tree_at trees node.first) (tree_at trees node.second) (ap (tree_at trees) c.in-Some.is ∙ c.read_node-node.ensures.tree))
 
 pub returns-in-Here-clause-tree : goal.returns-in-Here-clause-tree
 returns-in-Here-clause-tree c =
     let trees = c.args.pool.now.trees in
     let node = c.read_node-node.result in
     let e = ap (tree_at trees) c.in-Some.is ∙ c.read_node-node.ensures.tree in
-    ap (λ o. Some (tree_at trees o)) (sym c.in-Some.is) ∙ (sym (subtree-here (tree_at trees c.down.at) node.head (tree_at trees node.first) (tree_at trees node.second) c.down.left 0 e c.in-Here.ensures) ∙ c.down.invariant.same)
+    ap (λ o. Some (tree_at trees o)) (sym c.in-Some.is) ∙ (sym (subtree_here (tree_at trees c.down.at) node.head (tree_at trees node.first) (tree_at trees node.second) c.down.left 0 e c.in-Here.ensures) ∙ c.down.invariant.same)
 
 pub down-preserved-in-Within : goal.down-preserved-in-Within
 down-preserved-in-Within c =
@@ -25,8 +25,8 @@ down-preserved-in-Within c =
     let e = ap (tree_at trees) c.in-Some.is ∙ c.read_node-node.ensures.tree in
     record {
       live = search rules;
-      within = omega (arith, size-node (tree_at trees c.down.at) node.head (tree_at trees node.first) (tree_at trees node.second) e);
-      same = sym (subtree-within (tree_at trees c.down.at) node.head (tree_at trees node.first) (tree_at trees node.second) c.down.left c.in-Within.rest e c.in-Within.ensures) ∙ c.down.invariant.same;
+      within = omega (arith, size_node (tree_at trees c.down.at) node.head (tree_at trees node.first) (tree_at trees node.second) e);
+      same = sym (subtree_within (tree_at trees c.down.at) node.head (tree_at trees node.first) (tree_at trees node.second) c.down.left c.in-Within.rest e c.in-Within.ensures) ∙ c.down.invariant.same;
     }
 
 pub down-preserved : goal.down-preserved
@@ -36,9 +36,9 @@ down-preserved c =
     let e = ap (tree_at trees) c.in-Some.is ∙ c.read_node-node.ensures.tree in
     record {
       live = search rules;
-      within = omega (arith, size-node (tree_at trees c.down.at) node.head (tree_at trees node.first) (tree_at trees node.second) e);
-      same = sym (subtree-behind (tree_at trees c.down.at) node.head (tree_at trees node.first) (tree_at trees node.second) c.down.left c.in-Behind.rest e c.in-Behind.ensures) ∙ c.down.invariant.same;
+      within = omega (arith, size_node (tree_at trees c.down.at) node.head (tree_at trees node.first) (tree_at trees node.second) e);
+      same = sym (subtree_behind (tree_at trees c.down.at) node.head (tree_at trees node.first) (tree_at trees node.second) c.down.left c.in-Behind.rest e c.in-Behind.ensures) ∙ c.down.invariant.same;
     }
 
 pub returns-clause-tree : goal.returns-clause-tree
-returns-clause-tree c = sym (subtree-empty _ c.down.left (empty_at c.args.pool.now.trees c.down.at c.in_default.is)) ∙ c.down.invariant.same
+returns-clause-tree c = sym (subtree_empty _ c.down.left (empty_at c.args.pool.now.trees c.down.at c.in_default.is)) ∙ c.down.invariant.same

@@ -5,7 +5,7 @@ use Rattle.cv_pool.specs.declared.pool.PoolError.TheVariants as pool
 use Rattle.cv_report.specs.declared.report.Verdict.TheVariants.{Proved}
 use Rattle.cv_plain.specs.Findings.{need_of, said}
 use Rattle.cv_plain.specs.Strategy.{said_by}
-use Rattle.cv_plain.proofs.Growing.{nodes-more, steps-below, steps-more}
+use Rattle.cv_plain.proofs.Growing.{nodes_more, steps_below, steps_more}
 use Rattle.cv_plain.proofs.Sayings.{closed_says, no_room}
 use Rattle.cv_plain.proofs.strategy.find.Goals as goal
 
@@ -24,13 +24,13 @@ returns-in_ok-push-in-Ok-Some-2-clause-said c =
 pub returns-in_ok-push-in-Ok-Some-2-clause-live : goal.returns-in_ok-push-in-Ok-Some-2-clause-live
 returns-in_ok-push-in-Ok-Some-2-clause-live c =
     let done = rw c.in-Ok-Some.field-0-is at c.in-Ok-Some.ensures in
-    steps-more (length c.success.new.pool.trees) c.args.found.now.steps.items c.push.new.self.items c.in-Ok-Some.step c.in_ok-push-in-Ok-Some.ensures.items
-    (steps-below c.args.pool.now c.success.new.pool c.args.found.now.steps.items done.grows c.requires.live) done.live
+    steps_more (length c.success.new.pool.trees) c.args.found.now.steps.items c.push.new.self.items c.in-Ok-Some.step c.in_ok-push-in-Ok-Some.ensures.items
+    (steps_below c.args.pool.now c.success.new.pool c.args.found.now.steps.items done.grows c.requires.live) done.live
 
 pub returns-in_ok-push-in-Ok-Some-2-clause-nodes : goal.returns-in_ok-push-in-Ok-Some-2-clause-nodes
 returns-in_ok-push-in-Ok-Some-2-clause-nodes c =
     let done = rw c.in-Ok-Some.field-0-is at c.in-Ok-Some.ensures in
-    nodes-more c.args.pool.now c.success.new.pool c.args.found.now.steps.items c.push.new.self.items c.in-Ok-Some.step _ done.grows c.requires.live
+    nodes_more c.args.pool.now c.success.new.pool c.args.found.now.steps.items c.push.new.self.items c.in-Ok-Some.step _ done.grows c.requires.live
     c.in_ok-push-in-Ok-Some.ensures.items done.step done.few
 
 pub returns-in-Some-clause-said : goal.returns-in-Some-clause-said

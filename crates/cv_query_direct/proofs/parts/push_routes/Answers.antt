@@ -2,9 +2,9 @@ use Rattle.std.proofs.Common.{arith}
 use Rattle.std.proofs.lemmas.Result.{on_ok_weaker}
 use Rattle.cv_query_direct.specs.Found.{route_tree}
 use Rattle.cv_query_direct.specs.Certificates.{route_of}
-use Rattle.cv_query_direct.proofs.Made.{items-past}
+use Rattle.cv_query_direct.proofs.Made.{items_past}
 use Rattle.cv_query_direct.proofs.parts.push_routes.Goals as goal
 
 pub returns : goal.returns
 returns c =
-    on_ok_weaker c.close_list.result (λ e. items-past route_of (route_tree c.args.pool.now.trees) c.args.routes.now c.routes.k c.routes.makes.items c.close_list.new.makes.items c.args.makes.now.items (omega arith) c.routes.invariant e) c.close_list.ensures
+    on_ok_weaker c.close_list.result (λ e. items_past route_of (route_tree c.args.pool.now.trees) c.args.routes.now c.routes.k c.routes.makes.items c.close_list.new.makes.items c.args.makes.now.items (omega arith) c.routes.invariant e) c.close_list.ensures

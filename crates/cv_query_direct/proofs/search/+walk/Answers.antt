@@ -5,7 +5,7 @@ use Rattle.cv_query_direct.specs.declared.search.Seen.{Seen}
 use Rattle.cv_syntax_trees.specs.Head.{weight}
 use Rattle.cv_syntax_trees.specs.Tree.{Node, size}
 use Rattle.cv_syntax.specs.PoolTrees.{tree_at}
-use Rattle.cv_syntax.proofs.Trees.{tree_of-NoTree, size_open}
+use Rattle.cv_syntax.proofs.Trees.{tree_of_NoTree, size_open}
 use Rattle.cv_query_direct.specs.Found.{entry_trees, placed, SeenBelow, seen_by, wanted}
 use Rattle.cv_query_direct.specs.Search.{entries_of, head_entries, joined, placed_by}
 use Rattle.cv_query_direct.proofs.Searching.{entries_step, entries_stop_first, entries_end, kept_more, placed_more, seen_more}
@@ -58,4 +58,4 @@ pub returns-clause-entries : goal.returns-clause-entries
 returns-clause-entries t c =
     let trees = c.args.pool.now.trees in
     sym c.path.invariant.entries
-    ∙ entries_end (wanted trees c.args.bound.now c.args.sought) (map (placed trees) c.path.search.above.items) c.path.search.place (entry_trees trees c.path.search.entries.items) (tree_at trees c.path.at) (ap (tree_at trees) c.in_default.is ∙ tree_of-NoTree)
+    ∙ entries_end (wanted trees c.args.bound.now c.args.sought) (map (placed trees) c.path.search.above.items) c.path.search.place (entry_trees trees c.path.search.entries.items) (tree_at trees c.path.at) (ap (tree_at trees) c.in_default.is ∙ tree_of_NoTree)

@@ -2,10 +2,10 @@ use Rattle.std.proofs.Common.{◌∙◌}
 use Rattle.cv_syntax.specs.PoolTrees.{tree_at}
 use Rattle.cv_syntax.proofs.Trees.{empty_at}
 use Rattle.cv_query_entries.specs.Views.{asked_of, scene_of, trees_of}
-use Rattle.cv_query_entries.proofs.Formed.{no-entry}
+use Rattle.cv_query_entries.proofs.Formed.{no_entry}
 use Rattle.cv_query_entries.proofs.forms.first_unformed.Goals as goal
 
 pub returns-in_default : goal.returns-in_default
 returns-in_default c =
     let trees = trees_of c.args.view.now in
-    no-entry (scene_of c.args.view.now) (asked_of trees c.args.asked.now) c.args.places.now c.places.k (tree_at trees c.places.at) c.places-test.true (empty_at trees c.places.at c.in_default.is) ∙ c.places.invariant.same
+    no_entry (scene_of c.args.view.now) (asked_of trees c.args.asked.now) c.args.places.now c.places.k (tree_at trees c.places.at) c.places-test.true (empty_at trees c.places.at c.in_default.is) ∙ c.places.invariant.same

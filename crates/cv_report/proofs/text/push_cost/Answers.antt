@@ -1,7 +1,7 @@
 use Rattle.std.proofs.Common.{◌++◌, ◌∙◌, ap, codes}
 use Rattle.cv_bound.specs.Texts.{listed_text}
 use Rattle.cv_report.proofs.Texts.{extended}
-use Rattle.cv_report_contexts.proofs.Powers.{framed}
+use Rattle.cv_report.proofs.contexts.Powers.{framed}
 use Rattle.cv_report.proofs.text.push_cost.Goals as goal
 
 pub returns : goal.returns

@@ -2,8 +2,8 @@ use Rattle.std.proofs.Common.{◌<◌, ◌^◌, List, length, None, sym, subst, 
 use Rattle.cv_pool.specs.KindTree.{KindTree}
 use Rattle.cv_syntax_trees.specs.Tree.{Empty}
 use Rattle.cv_syntax.specs.PoolTrees.{tree_at}
-use Rattle.cv_syntax.proofs.Trees.{tree_at-None}
-use Rattle.cv_derivations.specs.Lines.{lines_of, statements}
+use Rattle.cv_syntax.proofs.Trees.{tree_at_None}
+use Rattle.cv_derive_rules.specs.Lines.{lines_of, statements}
 use Rattle.cv_rule.proofs.lines.bad_line.Goals as goal
 
 none-few : length (statements (lines_of Empty)) < 2 ^ 32
@@ -11,7 +11,7 @@ unfolding lines_of statements
 none-few = omega arith
 
 few : (trees : List KindTree) → length (statements (lines_of (tree_at trees None))) < 2 ^ 32
-few trees = subst (λ t. length (statements (lines_of t)) < 2 ^ 32) (sym (tree_at-None trees)) none-few
+few trees = subst (λ t. length (statements (lines_of t)) < 2 ^ 32) (sym (tree_at_None trees)) none-few
 
 pub check-requires-clause-few_targets : goal.check-requires-clause-few_targets
 check-requires-clause-few_targets c = few c.args.work.now.pool.trees

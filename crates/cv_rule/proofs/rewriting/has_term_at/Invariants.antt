@@ -5,7 +5,7 @@ use Rattle.cv_syntax.specs.PoolTrees.{tree_at}
 use Rattle.cv_syntax.specs.Walks.{above}
 use Rattle.cv_scope_rules.specs.Phrases as grammar
 use Rattle.cv_steps.specs.Rewriting.{has_term_at}
-use Rattle.cv_rule_phrases.specs.Phrases.{phrase_of}
+use Rattle.cv_scene_view.specs.phrases.Phrases.{phrase_of}
 use Rattle.cv_rule.proofs.rewriting.has_term_at.Given as goal
 
 abbrev pub invariant-down : goal.invariant-down

@@ -1,8 +1,8 @@
-use Rattle.cv_rule_scenes.proofs.Tests.{ok-same}
-use Rattle.cv_rule_scenes.specs.Kept.{scene_of}
-use Rattle.cv_draw.specs.Plans.{failing, failure_of}
+use Rattle.cv_scene_view.proofs.Tests.{ok_same}
+use Rattle.cv_scene_view.specs.Kept.{scene_of}
+use Rattle.cv_edit_places.specs.Plans.{failing, failure_of}
 use Rattle.cv_rule.specs.Stated.{step_of}
-use Rattle.cv_rule.proofs.Rowed.{not-there, there}
+use Rattle.cv_rule.proofs.Rowed.{not_there, there}
 use Rattle.cv_rule.proofs.rules.conditions.Goals as goal
 
 pub returns-then-not-branch : goal.returns-then-not-branch
@@ -10,11 +10,11 @@ returns-then-not-branch c =
     let trees = c.args.work.now.pool.trees in
     let s = scene_of c.args.work.now.pool c.args.work.now.decls c.args.game in
     let x = step_of trees c.args.rule in
-    not-there (x.stands s) (x.row s) c.in_ok-stands.field-0 c.in_ok-stands.ensures c.if-not-branch.true
+    not_there (x.stands s) (x.row s) c.in_ok-stands.field-0 c.in_ok-stands.ensures c.if-not-branch.true
 
 pub returns : goal.returns
 returns c =
     let trees = c.args.work.now.pool.trees in
     let s = scene_of c.args.work.now.pool c.args.work.now.decls c.args.game in
     let x = step_of trees c.args.rule in
-    ok-same c.unmet.result (failing (x.row s)) (failure_of s x) (there (x.stands s) (x.row s) c.in_ok-stands.field-0 c.in_ok-stands.ensures c.if-not-branch.false) c.unmet.ensures
+    ok_same c.unmet.result (failing (x.row s)) (failure_of s x) (there (x.stands s) (x.row s) c.in_ok-stands.field-0 c.in_ok-stands.ensures c.if-not-branch.false) c.unmet.ensures

@@ -1,7 +1,7 @@
 use Rattle.std.proofs.Common.{Some, sym, ◌∙◌}
 use Rattle.cv_syntax.specs.PoolTrees.{tree_at}
-use Rattle.cv_rule_scenes.specs.Kept.{scene_of}
-use Rattle.cv_rule.proofs.Rowed.{has_sort, is_equality, no-end, no-line, no-place, no-sort, rewritable, rewrite-holds}
+use Rattle.cv_scene_view.specs.Kept.{scene_of}
+use Rattle.cv_rule.proofs.Rowed.{has_sort, is_equality, no_end, no_line, no_place, no_sort, rewritable, rewrite_holds}
 use Rattle.cv_rule.proofs.rules.rewrite_conditions.Goals as goal
 
 pub returns-then-not-is_rewritable : goal.returns-then-not-is_rewritable
@@ -16,7 +16,7 @@ returns-then-not-is_rewritable c =
     let S = c.in_ok-sort.sort in
     let q = c.in_ok-sort.ensures in
     let a = rewritable s p m by old o S q c.is_rewritable.result c.is_rewritable.ensures in
-    no-place s p m by c.is_rewritable.result a c.if-not-is_rewritable.true
+    no_place s p m by c.is_rewritable.result a c.if-not-is_rewritable.true
 
 pub returns-then-not-has_sort_of : goal.returns-then-not-has_sort_of
 returns-then-not-has_sort_of c =
@@ -31,7 +31,7 @@ returns-then-not-has_sort_of c =
     let q = c.in_ok-sort.ensures in
     let a = rewritable s p m by old o S q c.is_rewritable.result c.is_rewritable.ensures in
     let b = has_sort s p m by old o S q c.has_sort_of.result c.in_ok-new.new c.in_ok-new.ensures c.has_sort_of.ensures in
-    no-sort s p m by c.is_rewritable.result a c.if-not-is_rewritable.false c.has_sort_of.result b c.if-not-has_sort_of.true
+    no_sort s p m by c.is_rewritable.result a c.if-not-is_rewritable.false c.has_sort_of.result b c.if-not-has_sort_of.true
 
 pub returns-in-Some : goal.returns-in-Some
 returns-in-Some c =
@@ -46,7 +46,7 @@ returns-in-Some c =
     let q = c.in_ok-sort.ensures in
     let a = rewritable s p m by old o S q c.is_rewritable.result c.is_rewritable.ensures in
     let b = has_sort s p m by old o S q c.has_sort_of.result c.in_ok-new.new c.in_ok-new.ensures c.has_sort_of.ensures in
-    no-line s p m by c.is_rewritable.result a c.if-not-is_rewritable.false c.has_sort_of.result b c.if-not-has_sort_of.false c.in-Some.line (sym c.in-Some.is ∙ c.in_ok-line.ensures)
+    no_line s p m by c.is_rewritable.result a c.if-not-is_rewritable.false c.has_sort_of.result b c.if-not-has_sort_of.false c.in-Some.line (sym c.in-Some.is ∙ c.in_ok-line.ensures)
 
 pub returns-then-not-ends_with_equality : goal.returns-then-not-ends_with_equality
 returns-then-not-ends_with_equality c =
@@ -63,7 +63,7 @@ returns-then-not-ends_with_equality c =
     let b = has_sort s p m by old o S q c.has_sort_of.result c.in_ok-new.new c.in_ok-new.ensures c.has_sort_of.ensures in
     let e = is_equality s p m by old o S q c.ends_with_equality.result c.ends_with_equality.ensures in
     let k = sym c.in_default.is ∙ c.in_ok-line.ensures in
-    no-end s p m by c.is_rewritable.result a c.if-not-is_rewritable.false c.has_sort_of.result b c.if-not-has_sort_of.false k c.ends_with_equality.result e c.if-not-ends_with_equality.true
+    no_end s p m by c.is_rewritable.result a c.if-not-is_rewritable.false c.has_sort_of.result b c.if-not-has_sort_of.false k c.ends_with_equality.result e c.if-not-ends_with_equality.true
 
 pub returns : goal.returns
 returns c =
@@ -80,4 +80,4 @@ returns c =
     let b = has_sort s p m by old o S q c.has_sort_of.result c.in_ok-new.new c.in_ok-new.ensures c.has_sort_of.ensures in
     let e = is_equality s p m by old o S q c.ends_with_equality.result c.ends_with_equality.ensures in
     let k = sym c.in_default.is ∙ c.in_ok-line.ensures in
-    rewrite-holds s p m by c.is_rewritable.result a c.if-not-is_rewritable.false c.has_sort_of.result b c.if-not-has_sort_of.false k c.ends_with_equality.result e c.if-not-ends_with_equality.false
+    rewrite_holds s p m by c.is_rewritable.result a c.if-not-is_rewritable.false c.has_sort_of.result b c.if-not-has_sort_of.false k c.ends_with_equality.result e c.if-not-ends_with_equality.false

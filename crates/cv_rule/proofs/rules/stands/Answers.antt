@@ -1,6 +1,6 @@
 use Rattle.std.proofs.Common.{◌≡◌, subst, sym}
 use Rattle.std.specs.Prelude.{IfOk}
-use Rattle.cv_rule_scenes.specs.Kept.{scene_of}
+use Rattle.cv_scene_view.specs.Kept.{scene_of}
 use Rattle.cv_rule.specs.Stated.{IsLiveRule, step_of}
 use Rattle.cv_rule.proofs.rules.stands.Goals as goal
 

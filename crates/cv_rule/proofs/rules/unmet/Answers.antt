@@ -1,7 +1,7 @@
 use Rattle.std.proofs.Common.{◌≡◌, subst, sym}
 use Rattle.std.specs.Prelude.{IfOk}
-use Rattle.cv_rule_scenes.specs.Kept.{scene_of}
-use Rattle.cv_draw.specs.Plans.{failing}
+use Rattle.cv_scene_view.specs.Kept.{scene_of}
+use Rattle.cv_edit_places.specs.Plans.{failing}
 use Rattle.cv_rule.specs.Stated.{IsLiveRule, step_of}
 use Rattle.cv_rule.proofs.rules.unmet.Goals as goal
 

@@ -1,15 +1,15 @@
-use Rattle.cv_rule_scenes.specs.Kept.{scene_of}
-use Rattle.cv_rule_merge.proofs.Planned.{naming-there, planned-change}
+use Rattle.cv_scene_view.specs.Kept.{scene_of}
+use Rattle.cv_rule_merge.proofs.Planned.{naming_there, planned_change}
 use Rattle.cv_rule_merge.proofs.planning.plan.Goals as goal
 
 pub returns-in-Some : goal.returns-in-Some
 returns-in-Some c =
     let trees = c.args.work.now.pool.trees in
     let s = scene_of c.args.work.now.pool c.args.work.now.decls c.args.game in
-    naming-there trees s c.args.place c.in-Ok.site c.in-Ok.ensures.site c.in_ok-naming.field-0 c.in-Some.naming c.failed.result c.in_ok-naming.ensures c.in-Some.is c.failed.ensures
+    naming_there trees s c.args.place c.in-Ok.site c.in-Ok.ensures.site c.in_ok-naming.field-0 c.in-Some.naming c.failed.result c.in_ok-naming.ensures c.in-Some.is c.failed.ensures
 
 pub returns-in-None : goal.returns-in-None
 returns-in-None c =
     let trees = c.args.work.now.pool.trees in
     let s = scene_of c.args.work.now.pool c.args.work.now.decls c.args.game in
-    planned-change trees s c.args.place c.in-Ok.site c.in-Ok.ensures.site c.in_ok-naming.field-0 c.requires.small c.in_ok-naming.ensures c.in-None.is
+    planned_change trees s c.args.place c.in-Ok.site c.in-Ok.ensures.site c.in_ok-naming.field-0 c.requires.small c.in_ok-naming.ensures c.in-None.is

@@ -4,8 +4,8 @@ use Rattle.cv_syntax_trees.specs.declared.head.Head.TheVariants.{Cons}
 use Rattle.cv_syntax_trees.specs.Tree.{Node}
 use Rattle.cv_syntax.specs.PoolTrees.{tree_at}
 use Rattle.cv_syntax.specs.Postorder.{joined}
-use Rattle.cv_draw.specs.Parts.{closed, stack_of}
-use Rattle.cv_draw.proofs.Stacks.{closed-push}
+use Rattle.cv_edit_places.specs.Parts.{closed, stack_of}
+use Rattle.cv_edit_places.proofs.Stacks.{closed_push}
 use Rattle.cv_rule_move.specs.Bodies.{arm_at}
 use Rattle.cv_rule_move.specs.Moving.{in_branches}
 use Rattle.cv_rule_move.proofs.Listing.{branches_step, made_step}
@@ -25,7 +25,7 @@ branches-preserved c =
       at = c.in-Some.ensures.live.more;
       stack =
           ap (λ hs. closed hs (more ∷ stack_of trees c.add_branch.new.parts)) pushed
-          ∙ (closed-push links Cons (more ∷ stack_of trees c.add_branch.new.parts)
+          ∙ (closed_push links Cons (more ∷ stack_of trees c.add_branch.new.parts)
           ∙ (ap (λ s. closed links (joined Cons (more ∷ s))) (c.in_ok-add_branch.ensures.stack trees)
           ∙ (ap (λ t. closed links (t ∷ old)) (branches_step before (tree_at trees c.branches.at) arm e)
           ∙ c.branches.invariant.stack)));

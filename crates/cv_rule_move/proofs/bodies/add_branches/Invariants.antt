@@ -3,7 +3,7 @@ use Rattle.cv_pool.specs.Nodes.{ChildBelow}
 use Rattle.cv_syntax_trees.specs.Tree.{Node}
 use Rattle.cv_syntax.specs.PoolTrees.{tree_at}
 use Rattle.cv_syntax.specs.Walks.{above}
-use Rattle.cv_draw.specs.Parts.{AreLive, closed, made_by, stack_of}
+use Rattle.cv_edit_places.specs.Parts.{AreLive, closed, made_by, stack_of}
 use Rattle.cv_rule_move.specs.Moving.{in_branches}
 use Rattle.cv_rule_move.specs.Steps.{made_in_branches}
 use Rattle.cv_rule_move.proofs.bodies.add_branches.Given as goal

@@ -2,7 +2,7 @@ use Rattle.std.proofs.Common.{◌∷◌, ◌∙◌, ap, length, sym}
 use Rattle.std.proofs.lemmas.Result.{on_ok_weaker}
 use Rattle.cv_syntax_trees.specs.Tree.{Node}
 use Rattle.cv_syntax.specs.PoolTrees.{tree_at}
-use Rattle.cv_draw.specs.Parts.{stack_of}
+use Rattle.cv_edit_places.specs.Parts.{stack_of}
 use Rattle.cv_rule_move.proofs.Listing.{if_without_bodies}
 use Rattle.cv_rule_move.proofs.bodies.add_if.Goals as goal
 

@@ -1,7 +1,7 @@
 use Rattle.std.proofs.Common.{ap, arith, sym, ◌∙◌}
 use Rattle.cv_syntax.specs.PoolTrees.{tree_at}
 use Rattle.cv_syntax.proofs.Trees.{empty_at}
-use Rattle.cv_scenes.specs.Scenes.{first_reading}
+use Rattle.cv_scene.specs.Scenes.{first_reading}
 use Rattle.cv_rule_move.proofs.FirstPlaces.{reading_below, reading_from, reading_nowhere}
 use Rattle.cv_rule_move.proofs.naming.reading.Goals as goal
 

@@ -2,9 +2,9 @@ use Rattle.std.proofs.Common.{◌∙◌, ap, arith, length, Some, sym}
 use Rattle.cv_syntax_trees.specs.Tree.{size}
 use Rattle.cv_syntax.specs.PoolTrees.{tree_at}
 use Rattle.cv_meaning.specs.Replaced.{replaced}
-use Rattle.cv_scenes.specs.Scenes.{part_at}
+use Rattle.cv_scene.specs.Scenes.{part_at}
 use Rattle.cv_steps.specs.Steps.{Leads, Zero}
-use Rattle.cv_draw.specs.Parts.{top_of}
+use Rattle.cv_edit_places.specs.Parts.{top_of}
 use Rattle.cv_rule_move.specs.Moving.{moved}
 use Rattle.cv_rule_move.specs.Steps.{made_of_moved}
 use Rattle.cv_rule_move.proofs.Planned.{moved_size, part_within}

@@ -1,7 +1,7 @@
 use Rattle.std.proofs.Common.{length, arith, ap}
 use Rattle.cv_syntax.specs.PoolTrees.{tree_at}
-use Rattle.cv_syntax.proofs.Walking.{above-child, above-some}
-use Rattle.cv_typing_rules.proofs.Counts.{names-end, names-other, names-step}
+use Rattle.cv_syntax.proofs.Walking.{above_child, above_some}
+use Rattle.cv_typing_rules.proofs.Counts.{names_end, names_other, names_step}
 use Rattle.cv_syntax.proofs.Trees.{child_live, empty_at, node_at}
 use Rattle.cv_typing.proofs.function.count_names.Goals as goal
 
@@ -9,16 +9,16 @@ pub returns-in_default-head : goal.returns-in_default-head
 returns-in_default-head c =
     let trees = c.args.pool.now.trees in
     let node = c.read_node-cell.result in
-    let end = ap length (names-other (tree_at trees c.list.at) node.head (tree_at trees node.first) (tree_at trees node.second) (node_at trees c.list.at c.in-Some.k node c.in-Some.is c.read_node-cell.ensures.tree) c.in_default-head.not-Name) in
+    let end = ap length (names_other (tree_at trees c.list.at) node.head (tree_at trees node.first) (tree_at trees node.second) (node_at trees c.list.at c.in-Some.k node c.in-Some.is c.read_node-cell.ensures.tree) c.in_default-head.not-Name) in
     omega (arith, end, c.list.invariant.sum)
 
 pub list-preserved : goal.list-preserved
 list-preserved c =
     let trees = c.args.pool.now.trees in
     let node = c.read_node-cell.result in
-    let step = ap length (names-step (tree_at trees c.list.at) node.head (tree_at trees node.first) (tree_at trees node.second) c.in-Name.field-0 (node_at trees c.list.at c.in-Some.k node c.in-Some.is c.read_node-cell.ensures.tree) c.in-Name.is) in
-    let less = above-child c.in-Some.k.0 node.second c.read_node-cell.ensures.second in
-    let here = above-some c.list.at c.in-Some.k c.in-Some.is in
+    let step = ap length (names_step (tree_at trees c.list.at) node.head (tree_at trees node.first) (tree_at trees node.second) c.in-Name.field-0 (node_at trees c.list.at c.in-Some.k node c.in-Some.is c.read_node-cell.ensures.tree) c.in-Name.is) in
+    let less = above_child c.in-Some.k.0 node.second c.read_node-cell.ensures.second in
+    let here = above_some c.list.at c.in-Some.k c.in-Some.is in
     record {
       live = child_live (length trees) c.list.at c.in-Some.k node.second c.in-Some.is c.list.invariant.live c.read_node-cell.ensures.second;
       sum = omega (arith, step, c.list.invariant.sum);
@@ -27,5 +27,5 @@ list-preserved c =
 
 pub returns : goal.returns
 returns c =
-    let end = ap length (names-end (tree_at c.args.pool.now.trees c.list.at) (empty_at c.args.pool.now.trees c.list.at c.in_default.is)) in
+    let end = ap length (names_end (tree_at c.args.pool.now.trees c.list.at) (empty_at c.args.pool.now.trees c.list.at c.in_default.is)) in
     omega (arith, end, c.list.invariant.sum)

@@ -1,8 +1,8 @@
 use Rattle.std.proofs.Common.{ap}
 use Rattle.cv_syntax.specs.Declarations.{declarations, declared}
 use Rattle.cv_typing_rules.specs.Parts.{declaration_parts}
-use Rattle.cv_typing.proofs.Bodies.{named-checked}
+use Rattle.cv_typing.proofs.Bodies.{named_checked}
 use Rattle.cv_typing.proofs.parts.check_declaration.Goals as goal
 
 pub returns-in-Name : goal.returns-in-Name
-returns-in-Name c = named-checked (declarations c.args.pool.now.trees c.args.decls.now.list) c.args.from _ (ap (λ d. declaration_parts (declarations c.args.pool.now.trees c.args.decls.now.list) (declared c.args.pool.now.trees d)) c.in-Name.is)
+returns-in-Name c = named_checked (declarations c.args.pool.now.trees c.args.decls.now.list) c.args.from _ (ap (λ d. declaration_parts (declarations c.args.pool.now.trees c.args.decls.now.list) (declared c.args.pool.now.trees d)) c.in-Name.is)

@@ -6,7 +6,7 @@ use Rattle.cv_typing_rules.specs.Parts.{equation_part, local_names}
 use Rattle.cv_typing_rules.specs.Signature.{Above, OfNothing, boolean}
 use Rattle.cv_typing_rules.specs.Typing.{first_fault}
 use Rattle.cv_typing_rules.specs.Wants.{Of}
-use Rattle.cv_typing.proofs.Bodies.{checked-at}
+use Rattle.cv_typing.proofs.Bodies.{checked_at}
 use Rattle.cv_typing.proofs.parts.check_equation.Goals as goal
 
 pub returns : goal.returns
@@ -17,4 +17,4 @@ returns c =
     let names = c.in_ok-above.ensures ∙ ap local_names (sym (ap first c.read_node-node.ensures.tree)) in
     let body = sym (ap second c.read_node-node.ensures.tree) in
     let same = ap₂ (λ (f : Above) (t : Tree). first_fault (record { declarations = ds; arrays = OfNothing }) f (Of boolean) c.args.from t) names body in
-    checked-at ds c.args.from (equation_part (tree_at trees (Some c.args.tree))) _ (tree_at trees node.second) c.walk.result same body c.walk.ensures.typed c.walk.ensures.next c.walk.ensures.fault
+    checked_at ds c.args.from (equation_part (tree_at trees (Some c.args.tree))) _ (tree_at trees node.second) c.walk.result same body c.walk.ensures.typed c.walk.ensures.next c.walk.ensures.fault

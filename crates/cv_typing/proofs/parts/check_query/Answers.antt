@@ -6,7 +6,7 @@ use Rattle.cv_typing_rules.specs.Parts.{local_names, query_part}
 use Rattle.cv_typing_rules.specs.Signature.{Above, OfNothing}
 use Rattle.cv_typing_rules.specs.Typing.{first_fault}
 use Rattle.cv_typing_rules.specs.Wants.{Correspondence}
-use Rattle.cv_typing.proofs.Bodies.{checked-at}
+use Rattle.cv_typing.proofs.Bodies.{checked_at}
 use Rattle.cv_typing.proofs.parts.check_query.Goals as goal
 
 pub returns : goal.returns
@@ -16,4 +16,4 @@ returns c =
     let t = tree_at trees (Some c.args.tree) in
     let names = c.in_ok-above.ensures ∙ ap local_names (sym (ap first c.read_node-node.ensures.tree)) in
     let same = ap (λ (f : Above). first_fault (record { declarations = ds; arrays = OfNothing }) f Correspondence c.args.from t) names in
-    checked-at ds c.args.from (query_part t) _ t c.walk.result same refl c.walk.ensures.typed c.walk.ensures.next c.walk.ensures.fault
+    checked_at ds c.args.from (query_part t) _ t c.walk.result same refl c.walk.ensures.typed c.walk.ensures.next c.walk.ensures.fault

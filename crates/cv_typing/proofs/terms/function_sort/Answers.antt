@@ -3,11 +3,11 @@ use Rattle.std.specs.Prelude.{option_map}
 use Rattle.cv_directory_sorts.specs.declared.sort.Sort.TheVariants.{OfType}
 use Rattle.cv_typing.specs.Lookups.{function_at}
 use Rattle.cv_typing_rules.specs.Signature.{Function}
-use Rattle.cv_typing.proofs.Bridges.{function-same}
+use Rattle.cv_typing.proofs.Bridges.{function_same}
 use Rattle.cv_typing.proofs.terms.function_sort.Goals as goal
 
 pub returns-in-Some : goal.returns-in-Some
-returns-in-Some c = λ trees. sym (ap (option_map (λ (f : Function). OfType f.result)) (function-same trees c.args.decls.now.list c.args.f ∙ ap (option_map (function_at trees)) (sym c.find_function.ensures ∙ c.in-Some.is)))
+returns-in-Some c = λ trees. sym (ap (option_map (λ (f : Function). OfType f.result)) (function_same trees c.args.decls.now.list c.args.f ∙ ap (option_map (function_at trees)) (sym c.find_function.ensures ∙ c.in-Some.is)))
 
 pub returns-in-None : goal.returns-in-None
-returns-in-None c = λ trees. sym (ap (option_map (λ (f : Function). OfType f.result)) (function-same trees c.args.decls.now.list c.args.f ∙ ap (option_map (function_at trees)) (sym c.find_function.ensures ∙ c.in-None.is)))
+returns-in-None c = λ trees. sym (ap (option_map (λ (f : Function). OfType f.result)) (function_same trees c.args.decls.now.list c.args.f ∙ ap (option_map (function_at trees)) (sym c.find_function.ensures ∙ c.in-None.is)))

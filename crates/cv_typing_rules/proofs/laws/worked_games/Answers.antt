@@ -1,6 +1,6 @@
 use Rattle.std.proofs.Common.{refl}
 use Rattle.cv_syntax_trees.specs.Tree.{size}
-use Rattle.cv_first_fault.specs.Walk.{first_fault}
+use Rattle.cv_syntax_faults.specs.Walk.{first_fault}
 use Rattle.cv_typing_rules.specs.Parts.{body_parts, first_in, local_in, results, sort_by_bound}
 use Rattle.cv_typing_rules.specs.Signature.{names_in}
 use Rattle.cv_directory_sorts.specs.Counting.{count}

@@ -1,6 +1,6 @@
 use Rattle.std.proofs.Common.{arith, subst, sym}
-use Rattle.cv_kernel_costs.specs.Sums.{SumsFit}
-use Rattle.cv_rule_scenes.specs.Kept.{scene_of}
+use Rattle.cv_bound.specs.costs.Sums.{SumsFit}
+use Rattle.cv_scene_view.specs.Kept.{scene_of}
 use Rattle.cv_script.specs.Views.{items_of_view}
 use Rattle.cv_kernel.specs.Rules.{rule_of_items}
 use Rattle.cv_kernel.proofs.Pushes.{accepted_small, fits_on}

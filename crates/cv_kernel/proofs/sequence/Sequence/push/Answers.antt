@@ -2,7 +2,7 @@ use Rattle.std.proofs.Common.{ap, arith, length, refl, subst, sym, ◌≡◌, �
 use Rattle.std.specs.Prelude.{IfSome, OnOk, option_map}
 use Rattle.cv_pool.specs.Nodes.{ChildBelow}
 use Rattle.cv_syntax.specs.PoolTrees.{tree_at}
-use Rattle.cv_rule_scenes.specs.Kept.{scene_of}
+use Rattle.cv_scene_view.specs.Kept.{scene_of}
 use Rattle.cv_script.specs.Views.{items_of_step, items_of_view}
 use Rattle.cv_kernel_crypto.specs.Applied.{DrawsNext}
 use Rattle.cv_kernel.specs.declared.reducing.Reducing.{Reducing}
@@ -13,11 +13,12 @@ use Rattle.cv_kernel.specs.Reducings.{reducing_of_items}
 use Rattle.cv_kernel.specs.Rules.{rule_of_items}
 use Rattle.cv_kernel.specs.Sequences.{IsPushed, game_in}
 use Rattle.cv_kernel.specs.Steps.{IsShort, judgement_by}
-use Rattle.cv_kernel.proofs.Answered.{closes_or_reduces, no_reducing, none_mapped, one_reducing}
+use Rattle.cv_kernel.proofs.Answered.{closes_or_reduces, no_reducing, one_reducing}
 use Rattle.cv_kernel.proofs.StepAnswers.{by_items, closing_pushed, few_reduced, few_ruled, memory_pushed, nothing_in, reducing_pushed, rule_pushed, short_by}
 use Rattle.cv_kernel.proofs.Pushes.{few_pushed, ok_trees, pushed, settled_trees}
 use Rattle.cv_kernel.proofs.Settled.{stands_settled}
 use Rattle.cv_kernel.proofs.sequence.Sequence.push.Goals as goal
+use Rattle.cv_edit_changes.proofs.unletting.Substituted.{none_found}
 
 pub returns-in_default-clause-pushed : goal.returns-in_default-clause-pushed
 returns-in_default-clause-pushed c =
@@ -25,7 +26,7 @@ returns-in_default-clause-pushed c =
     let t = tree_at pool.trees (Some c.args.step.0) in
     let old = c.args.self.now in
     let decls = c.args.work.now.decls in
-    let none = none_mapped _ _ _ c.view.ensures.items c.in_default.is in
+    let none = none_found _ _ _ c.view.ensures.items c.in_default.is in
     subst (λ e. IsPushed pool decls pool.trees old old t (Err e)) (sym c.refused.ensures)
     (rule_pushed pool decls pool.trees old old t (Err (push.Refused (record { condition = 0; place = 0 }))) (nothing_in closing_of_items t none) (nothing_in reducing_of_items t none) (omega (arith, c.if-self-ge-MOST_STEPS.false))
     (ap (judgement_by (scene_of pool decls old.game.root)) (nothing_in rule_of_items t none)))

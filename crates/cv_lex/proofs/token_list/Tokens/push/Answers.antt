@@ -4,14 +4,14 @@ use Rattle.std.specs.Prelude.{string_bytes}
 use Rattle.cv_lex.specs.Lexis.{end_token}
 use Rattle.cv_lex.specs.View.{token_in, tokens_in}
 use Rattle.cv_lex.proofs.Pieces.{token_ascii}
-use Rattle.cv_lex.proofs.Listing.{tokens_in-append, whole-append, tokens_in-added, whole-added, with_token-append}
+use Rattle.cv_lex.proofs.Listing.{tokens_in_append, whole_append, tokens_in_added, whole_added, with_token_append}
 use Rattle.cv_lex.proofs.token_list.Tokens.push.Goals as goal
 use Rattle.cv_lex.proofs.token_list.Tokens.push.Goals.{In_ok-push}
 
 pub invariant_of-self-in_err-push : goal.invariant_of-self-in_err-push
 invariant_of-self-in_err-push c =
     rw (c.in_ok-push_str.ensures.bytes, c.in_err-push.ensures.items)
-    (whole-append _ c.args.text.now _ c.self.invariant (token_ascii c.args.kind c.args.text.now c.requires.token))
+    (whole_append _ c.args.text.now _ c.self.invariant (token_ascii c.args.kind c.args.text.now c.requires.token))
 
 on_err : {X E P : Type 0} (r : Result X E) → P → OnErr r P
 on_err (Ok x) p = tt
@@ -21,7 +21,7 @@ pub returns-in_err-push-clause-err : goal.returns-in_err-push-clause-err
 returns-in_err-push-clause-err c =
     on_err c.from_residual-in_err-push.result
     (rw (c.in_ok-push_str.ensures.bytes, c.in_err-push.ensures.items)
-    (ap (λ ts. ts ++ end_token c.self.inside.end ∷ []) (tokens_in-append (string_bytes c.self.inside.buffer) c.args.text.now c.self.inside.entries.items c.self.invariant.within) ∙ c.self.view_is))
+    (ap (λ ts. ts ++ end_token c.self.inside.end ∷ []) (tokens_in_append (string_bytes c.self.inside.buffer) c.args.text.now c.self.inside.entries.items c.self.invariant.within) ∙ c.self.view_is))
 
 -- the text lies behind the buffer
 start_is : (c : In_ok-push) → c.len-start.result ≡ length (string_bytes c.self.inside.buffer)
@@ -43,10 +43,10 @@ invariant_of-self-2 c =
     let count = length_push (tokens_in (string_bytes c.self.inside.buffer) c.self.inside.entries.items) (end_token c.self.inside.end) in
     let entries = length-map c.self.inside.entries.items (token_in (string_bytes c.self.inside.buffer)) in
     rw (c.in_ok-push_str.ensures.bytes, entries_are c)
-    (whole-added (string_bytes c.self.inside.buffer) c.args.text.now c.self.inside.entries.items c.args.kind c.args.offset c.self.invariant c.requires.token (token_ascii c.args.kind c.args.text.now c.requires.token) (omega arith))
+    (whole_added (string_bytes c.self.inside.buffer) c.args.text.now c.self.inside.entries.items c.args.kind c.args.offset c.self.invariant c.requires.token (token_ascii c.args.kind c.args.text.now c.requires.token) (omega arith))
 
 pub returns-clause-ok : goal.returns-clause-ok
 returns-clause-ok c =
     rw (c.in_ok-push_str.ensures.bytes, entries_are c, ← c.self.view_is)
-    (ap (λ ts. ts ++ end_token c.self.inside.end ∷ []) (tokens_in-added (string_bytes c.self.inside.buffer) c.args.text.now c.self.inside.entries.items c.args.kind c.args.offset c.self.invariant)
-    ∙ sym (with_token-append (tokens_in (string_bytes c.self.inside.buffer) c.self.inside.entries.items) (end_token c.self.inside.end) (record { kind = c.args.kind; text = c.args.text.now; offset = c.args.offset })))
+    (ap (λ ts. ts ++ end_token c.self.inside.end ∷ []) (tokens_in_added (string_bytes c.self.inside.buffer) c.args.text.now c.self.inside.entries.items c.args.kind c.args.offset c.self.invariant)
+    ∙ sym (with_token_append (tokens_in (string_bytes c.self.inside.buffer) c.self.inside.entries.items) (end_token c.self.inside.end) (record { kind = c.args.kind; text = c.args.text.now; offset = c.args.offset })))

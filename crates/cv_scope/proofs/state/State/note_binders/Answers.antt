@@ -2,14 +2,14 @@ use Rattle.std.proofs.Common.{ap, sym, ◌∙◌}
 use Rattle.cv_syntax.specs.PoolTrees.{tree_at}
 use Rattle.cv_scope.specs.Held.{last_held}
 use Rattle.cv_scope.specs.Seen.{with_sites}
-use Rattle.cv_scope.proofs.Noting.{above-again, binder-may, binder-noted, binder-refused, sites-end}
+use Rattle.cv_scope.proofs.Noting.{above_again, binder_may, binder_noted, binder_refused, sites_end}
 use Rattle.cv_scope.proofs.state.State.note_binders.Goals as goal
 
 pub returns-then-not-branch-clause-may : goal.returns-then-not-branch-clause-may
 returns-then-not-branch-clause-may c =
     let trees = c.args.pool.now.trees in
     let i = c.binders.invariant in
-    binder-refused c.args.self.now.passed c.binders.self.passed c.args.self.now.replications.items c.binders.self.replications.items c.args.place (tree_at trees c.binders.at) (tree_at trees c.in-Some.binder.rest) c.in-Some.binder.name (last_held trees c.binders.self.last) i.above.passed i.above.replications c.in-Some.ensures.0 c.in_ok-note_variable.field-0 c.in_ok-note_variable.ensures.may c.if-not-branch.true
+    binder_refused c.args.self.now.passed c.binders.self.passed c.args.self.now.replications.items c.binders.self.replications.items c.args.place (tree_at trees c.binders.at) (tree_at trees c.in-Some.binder.rest) c.in-Some.binder.name (last_held trees c.binders.self.last) i.above.passed i.above.replications c.in-Some.ensures.0 c.in_ok-note_variable.field-0 c.in_ok-note_variable.ensures.may c.if-not-branch.true
     ∙ i.may
 
 pub binders-preserved : goal.binders-preserved
@@ -20,12 +20,12 @@ binders-preserved c =
     record {
       list = c.in-Some.ensures.2;
       live = noted.live;
-      above = above-again c.args.self.now c.binders.self c.note_variable.new.self i.above noted.above;
+      above = above_again c.args.self.now c.binders.self c.note_variable.new.self i.above noted.above;
       may =
-          binder-may c.args.self.now.passed c.binders.self.passed c.args.self.now.replications.items c.binders.self.replications.items c.args.place (tree_at trees c.binders.at) (tree_at trees c.in-Some.binder.rest) c.in-Some.binder.name (last_held trees c.binders.self.last) i.above.passed i.above.replications c.in-Some.ensures.0 c.in_ok-note_variable.field-0 (last_held trees c.note_variable.new.self.last) c.in_ok-note_variable.ensures.may c.if-not-branch.false noted.last
+          binder_may c.args.self.now.passed c.binders.self.passed c.args.self.now.replications.items c.binders.self.replications.items c.args.place (tree_at trees c.binders.at) (tree_at trees c.in-Some.binder.rest) c.in-Some.binder.name (last_held trees c.binders.self.last) i.above.passed i.above.replications c.in-Some.ensures.0 c.in_ok-note_variable.field-0 (last_held trees c.note_variable.new.self.last) c.in_ok-note_variable.ensures.may c.if-not-branch.false noted.last
           ∙ i.may;
       noted =
-          binder-noted c.args.self.now.passed c.binders.self.passed c.args.self.now.replications.items c.binders.self.replications.items c.args.place (tree_at trees c.binders.at) (tree_at trees c.in-Some.binder.rest) c.in-Some.binder.name (last_held trees c.binders.self.last) i.above.passed i.above.replications c.in-Some.ensures.0 (last_held trees c.note_variable.new.self.last) noted.last
+          binder_noted c.args.self.now.passed c.binders.self.passed c.args.self.now.replications.items c.binders.self.replications.items c.args.place (tree_at trees c.binders.at) (tree_at trees c.in-Some.binder.rest) c.in-Some.binder.name (last_held trees c.binders.self.last) i.above.passed i.above.replications c.in-Some.ensures.0 (last_held trees c.note_variable.new.self.last) noted.last
           ∙ i.noted;
     }
 
@@ -35,6 +35,6 @@ returns-clause-noted c = λ t.
     let i = c.binders.invariant in
     record {
       above = i.above;
-      last = sym (ap (with_sites (last_held trees c.binders.self.last)) (sites-end c.args.self.now.replications.items c.args.place (tree_at trees c.binders.at) c.in_default.ensures.0)) ∙ i.noted;
+      last = sym (ap (with_sites (last_held trees c.binders.self.last)) (sites_end c.args.self.now.replications.items c.args.place (tree_at trees c.binders.at) c.in_default.ensures.0)) ∙ i.noted;
       live = i.live;
     }

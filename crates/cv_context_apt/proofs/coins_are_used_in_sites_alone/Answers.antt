@@ -1,8 +1,0 @@
-use Rattle.cv_context_apt.proofs.Own.{key_no_coin, unused_outside}
-use Rattle.cv_context_apt.proofs.coins_are_used_in_sites_alone.Goals as goal
-
-pub returns-clause-outside : goal.returns-clause-outside
-returns-clause-outside c r y left coins e = unused_outside r left coins y e
-
-pub returns-clause-key : goal.returns-clause-key
-returns-clause-key c r left coins = key_no_coin r left coins

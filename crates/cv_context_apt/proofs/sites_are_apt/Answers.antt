@@ -1,5 +1,0 @@
-use Rattle.cv_context_apt.proofs.Own.{site_without_refusal}
-use Rattle.cv_context_apt.proofs.sites_are_apt.Goals as goal
-
-pub returns : goal.returns
-returns c r s number own at none = site_without_refusal r own.left own.coins number s at own.formed own.arguments own.answers none

@@ -1,5 +1,0 @@
-use Rattle.cv_context_calls.proofs.Found.{site_found}
-use Rattle.cv_context_calls.proofs.calls_are_found_by_number.Goals as goal
-
-pub returns : goal.returns
-returns c = λ r g l s apt p less at. site_found r l g s apt.terms apt.formed.phrase p less at

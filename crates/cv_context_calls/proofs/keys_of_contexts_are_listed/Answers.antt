@@ -1,5 +1,0 @@
-use Rattle.cv_context_calls.proofs.Keys.{listed_keys}
-use Rattle.cv_context_calls.proofs.keys_of_contexts_are_listed.Goals as goal
-
-pub returns : goal.returns
-returns c = listed_keys

@@ -1,0 +1,4 @@
+pub mod right_forms
+pub mod right_names
+pub mod worked
+pub mod tapes

@@ -1,5 +1,0 @@
-use Rattle.cv_context_formed.proofs.Games.{context_part}
-use Rattle.cv_context_formed.proofs.contexts_are_in_the_grammar.Goals as goal
-
-pub returns : goal.returns
-returns c = context_part

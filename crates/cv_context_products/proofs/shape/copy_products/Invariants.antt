@@ -1,6 +1,0 @@
-use Rattle.std.proofs.Common.{◌≡◌, take}
-use Rattle.cv_context_products.specs.Products.{products}
-use Rattle.cv_context_products.proofs.shape.copy_products.Given as goal
-
-abbrev pub invariant-sites : goal.invariant-sites
-invariant-sites l = products l.copy.items ≡ products (take l.k l.sites)

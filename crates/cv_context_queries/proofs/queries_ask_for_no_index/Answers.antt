@@ -1,5 +1,0 @@
-use Rattle.cv_context_queries.proofs.Asked.{asked_no_index}
-use Rattle.cv_context_queries.proofs.queries_ask_for_no_index.Goals as goal
-
-pub returns : goal.returns
-returns c = asked_no_index

@@ -1,5 +1,0 @@
-use Rattle.cv_context_queries.proofs.Steps.{last_asks_none}
-use Rattle.cv_context_queries.proofs.sequences_ask_for_no_index.Goals as goal
-
-pub returns : goal.returns
-returns c = last_asks_none

@@ -1,5 +1,0 @@
-use Rattle.cv_context_reducible.proofs.Whole.{apt_test}
-use Rattle.cv_context_reducible.proofs.asked_experiments_test_no_key.Goals as goal
-
-pub returns : goal.returns
-returns c r x h a = apt_test r h x a

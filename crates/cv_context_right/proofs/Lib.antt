@@ -1,8 +1,0 @@
-pub mod Numbers
-pub mod Agreed
-pub mod Texts
-pub mod Whole
-pub mod Equality
-pub mod Costs
-pub mod Drawn
-pub mod Steps

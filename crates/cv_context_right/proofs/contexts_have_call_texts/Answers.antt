@@ -1,5 +1,0 @@
-use Rattle.cv_context_right.proofs.Texts.{call_texts}
-use Rattle.cv_context_right.proofs.contexts_have_call_texts.Goals as goal
-
-pub returns : goal.returns
-returns c = call_texts

@@ -1,5 +1,0 @@
-use Rattle.cv_context_right.proofs.Costs.{costs}
-use Rattle.cv_context_right.proofs.reductions_cost_the_advantage.Goals as goal
-
-pub returns : goal.returns
-returns c = costs

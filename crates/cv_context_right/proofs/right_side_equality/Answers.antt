@@ -1,5 +1,0 @@
-use Rattle.cv_context_right.proofs.Equality.{equal_chances}
-use Rattle.cv_context_right.proofs.right_side_equality.Goals as goal
-
-pub returns : goal.returns
-returns c r k types i x a right setting asked = equal_chances r k types right i setting x a asked

@@ -1,0 +1,4 @@
+pub mod Right
+pub mod texts
+pub mod queries
+pub mod worked

@@ -1,0 +1,2 @@
+pub mod visits
+pub mod instances

@@ -1,5 +1,0 @@
-use Rattle.cv_context_tapes.proofs.Fixed.{bodies_choose_declared}
-use Rattle.cv_context_tapes.proofs.typed_bodies_choose_declared_types.Goals as goal
-
-pub returns : goal.returns
-returns c = bodies_choose_declared

@@ -1,5 +1,0 @@
-use Rattle.cv_context_texts.proofs.Texts.{apt_site}
-use Rattle.cv_context_texts.proofs.sites_of_games_are_apt.Goals as goal
-
-pub returns : goal.returns
-returns c r given formed typed known form accepted free answers l s at = apt_site r given formed typed known form accepted free answers l s at

@@ -1,5 +1,0 @@
-use Rattle.cv_context_typed.proofs.Own.{no_own}
-use Rattle.cv_context_typed.proofs.calls_bind_what_their_side_binds.Goals as goal
-
-pub returns : goal.returns
-returns c = no_own

@@ -1,5 +1,0 @@
-use Rattle.cv_context_types.proofs.Files.{types_declared}
-use Rattle.cv_context_types.proofs.equivalences_of_files_have_declared_types.Goals as goal
-
-pub returns : goal.returns
-returns c = types_declared

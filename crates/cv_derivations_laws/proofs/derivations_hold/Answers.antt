@@ -1,5 +1,0 @@
-use Rattle.cv_derivations_laws.proofs.Blocks.{derivation-holds}
-use Rattle.cv_derivations_laws.proofs.derivations_hold.Goals as goal
-
-pub returns : goal.returns
-returns c = λ s i at m n by term_for well model closed r e. derivation-holds s i at m n r term_for well model closed by e

@@ -1,2 +1,0 @@
-mod Patterns
-mod Rows

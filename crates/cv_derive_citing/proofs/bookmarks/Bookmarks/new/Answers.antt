@@ -1,7 +1,0 @@
-use Rattle.std.proofs.Common.{IfSome, None}
-use Rattle.std.proofs.lemmas.List.Elements.{All-replicate}
-use Rattle.cv_derive_citing.specs.Bookmarks.{IsKept}
-use Rattle.cv_derive_citing.proofs.bookmarks.Bookmarks.new.Goals as goal
-
-pub returns : goal.returns
-returns c trees all n = All-replicate (λ o. IfSome o (IsKept trees all n)) 256 None tt

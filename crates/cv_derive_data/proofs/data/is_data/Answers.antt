@@ -1,8 +1,0 @@
-use Rattle.cv_derive_data.proofs.Injective.{data-function, no-function}
-use Rattle.cv_derive_data.proofs.data.is_data.Goals as goal
-
-pub returns-in-Fun : goal.returns-in-Fun
-returns-in-Fun c = λ trees. data-function trees c.args.decls.now.list c.args.f c.class.result c.class.ensures.class c.in-Fun.data_like c.in-Fun.is
-
-pub returns-in_default : goal.returns-in_default
-returns-in_default c = λ trees. no-function trees c.args.decls.now.list c.args.f c.class.result c.class.ensures.class c.in_default.not-Fun

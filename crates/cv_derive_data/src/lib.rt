@@ -1,6 +1,0 @@
-// Functions with `[data]`: a term says that they have one value at equal arguments alone.
-#![tactic(auto)]
-
-mod data;
-
-pub use data::is_injective;

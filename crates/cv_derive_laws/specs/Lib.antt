@@ -1,0 +1,3 @@
+pub mod stores
+pub mod reached
+pub mod worked

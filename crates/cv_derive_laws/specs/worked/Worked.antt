@@ -1,0 +1,183 @@
+-- Derivations at a place of a small game, with the first line that isn't right. Names are numbers: 0 is `bool`, 5 a type, 7 a
+-- parameter, 3 a channel.
+use Rattle.std.specs.Prelude.{ℕ, true, false, nat_lt, List, [], ◌∷◌, Option, Some, None}
+use Rattle.cv_syntax_trees.specs.declared.class.Class.TheVariants as class
+use Rattle.cv_syntax_trees.specs.declared.head.Head.{Head}
+use Rattle.cv_syntax_trees.specs.declared.head.Head.TheVariants as head
+use Rattle.cv_syntax_trees.specs.declared.head.Head.TheVariants.{And, Apply, ByAgain, ByAnd, ByBool, ByCong, ByContra, ByData, ByEquation, ByExfalso, ByFact, ByGiven, ByHere, ByLeft, ByMp, ByOf, ByOtherHere, ByRefl, ByRight, BySite, BySym, ByTrans, Cons, Eq, Forall, Not, Number, Stop, Yield}
+use Rattle.cv_syntax_trees.specs.Builders.{branch, find, input, leaf, output, read}
+use Rattle.cv_syntax_trees.specs.Declarations.{Declaration, Named, Equation}
+use Rattle.cv_syntax_trees.specs.Tree.{Tree, Empty, Node, binders, chain, lone, names}
+use Rattle.cv_scene.specs.Scenes.{Scene}
+use Rattle.cv_scene.specs.Sights.{Sight, sight_at}
+use Rattle.cv_derive_rules.specs.Truths.{no, yes}
+
+abbrev pub eq : Tree → Tree → Tree
+eq m n = Node Eq m n
+
+abbrev pub and : Tree → Tree → Tree
+and m n = Node And m n
+
+abbrev pub function : ℕ → Tree → Tree
+function f m = Node (Apply f) (chain (m ∷ [])) Empty
+
+-- g(5): 5 [data]. h(5): 5. p(5): bool.
+
+abbrev pub g : Tree → Tree
+g m = function 20 m
+
+abbrev pub h : Tree → Tree
+h m = function 21 m
+
+abbrev pub p : Tree → Tree
+p m = function 22 m
+
+-- and equation forall 40: 5; g(40) = 40
+abbrev pub declarations : List Declaration
+declarations =
+    Named 0 (class.TypeName true false) Empty None
+    ∷ Named 5 (class.TypeName true false) Empty None
+    ∷ Named 7 class.Param Empty None
+    ∷ Named 3 class.Channel Empty None
+    ∷ Named 20 (class.Fun true) (names (5 ∷ [])) (Some 5)
+    ∷ Named 21 (class.Fun false) (names (5 ∷ [])) (Some 5)
+    ∷ Named 22 (class.Fun false) (names (5 ∷ [])) (Some 0)
+    ∷ Equation (Node Forall (binders ((40, 5) ∷ [])) (eq (g (leaf 40)) (leaf 40)))
+    ∷ []
+
+-- 4[8], 6[8], 9[8], and what 4 and 6 are at 9[8]
+
+abbrev pub a : Tree
+a = read 4 (leaf 8 ∷ [])
+
+abbrev pub x : Tree
+x = read 6 (leaf 8 ∷ [])
+
+abbrev pub u : Tree
+u = read 9 (leaf 8 ∷ [])
+
+abbrev pub au : Tree
+au = read 4 (u ∷ [])
+
+abbrev pub xu : Tree
+xu = read 6 (u ∷ [])
+
+-- !8 <= 7 in(3[8], (4: 5)); let 6: 5 = 4[8] in find 9 <= 7 suchthat defined(6[9[8]]) && 6[9[8]] = 4[8] then out(3[8], ()); 0
+-- else yield
+abbrev pub game : Tree
+game =
+    Node (head.Repl 8 7) Empty (input 3 (8 ∷ []) ((4, 5) ∷ [])
+    (Node (head.Let 6 5) a (find 1 (branch ((9, 7) ∷ []) (xu ∷ []) (eq xu a) (output 3 (8 ∷ []) [] (lone Stop)) ∷ []) (lone Yield))))
+
+-- at the output
+abbrev pub sight : Sight
+sight = sight_at (record { declarations = declarations; known = λ y. nat_lt y 100; game = game }) 16
+
+abbrev pub number : ℕ → Tree
+number n = lone (Number n)
+
+abbrev pub one : Head → ℕ → Tree
+one r k = Node r (number k) Empty
+
+abbrev pub two : Head → ℕ → ℕ → Tree
+two r k l = Node r (number k) (number l)
+
+abbrev pub line : (term reason : Tree) → Tree
+line t r = Node head.Line t r
+
+abbrev pub is_there : (cell reason : Tree) → Tree
+is_there c r = Node head.Defined c r
+
+abbrev pub cases_of : (condition : Tree) → (first second : List Tree) → (conclusion : Tree) → Tree
+cases_of c d e t = Node head.Cases c (Node Cons (chain d) (Node Cons (chain e) t))
+
+abbrev pub not_p : Tree
+not_p = Node Not (p a) Empty
+
+-- by cases of p(a), with a reason for its third line, what the second block says is given, a conclusion, and a reason for a
+-- line behind
+abbrev pub split : (third term_for conclusion behind : Tree) → List Tree
+split third term_for conclusion behind =
+    cases_of (p a)
+    (line (p a) (lone ByGiven)
+    ∷ line (eq (p a) (eq (p a) yes)) (lone ByBool)
+    ∷ line (eq (p a) yes) third
+    ∷ line (and (p a) (eq (p a) yes)) (two ByAnd 1 3)
+    ∷ line (p a) (one ByLeft 4)
+    ∷ line (eq (p a) yes) (one ByRight 4)
+    ∷ line (eq x a) (one ByFact 1)
+    ∷ [])
+    (line term_for (lone ByGiven) ∷ line (eq x a) (one ByFact 1) ∷ [])
+    conclusion
+    ∷ line conclusion behind
+    ∷ []
+
+-- by cases of p(a), where the second block of an inner one is refuted
+abbrev pub refutes : (contra : Tree) → (absurd : ℕ) → List Tree
+refutes contra line_of_false =
+    cases_of (p a)
+    (line (p a) (lone ByGiven)
+    ∷ cases_of (p a)
+    (line (eq x a) (one ByFact 1) ∷ [])
+    (line not_p (lone ByGiven) ∷ line no contra ∷ line (eq x a) (one ByExfalso line_of_false) ∷ [])
+    (eq x a)
+    ∷ [])
+    (line (eq x a) (one ByFact 1) ∷ [])
+    (eq x a)
+    ∷ []
+
+abbrev pub cases : List (List Tree × Option ℕ)
+cases =
+    -- facts
+    (line (eq x a) (one ByFact 1) ∷ [], None)
+    ∷ (line (eq x a) (one ByFact 2) ∷ [], Some 1)
+    ∷ (line (eq xu a) (one ByFact 2) ∷ [], None)
+    -- cells that are defined here; at its only site
+    ∷ (is_there u (lone ByHere) ∷ is_there xu (lone ByHere) ∷ [], None)
+    ∷ (is_there au (lone ByHere) ∷ [], Some 1)
+    ∷ (is_there xu (lone ByHere) ∷ is_there au (one ByOf 1) ∷ line (eq xu au) (two BySite 1 1) ∷ [], None)
+    ∷ (is_there xu (lone ByHere) ∷ is_there u (one ByOf 1) ∷ [], Some 2)
+    ∷ (is_there xu (lone ByHere) ∷ line (eq xu a) (two BySite 1 1) ∷ [], Some 2)
+    -- equations
+    ∷ (line (eq (g a) a) (Node ByEquation (number 1) (chain (a ∷ []))) ∷ [], None)
+    ∷ (line (eq (g a) x) (Node ByEquation (number 1) (chain (a ∷ []))) ∷ [], Some 1)
+    ∷ (line (eq (g a) a) (Node ByEquation (number 1) Empty) ∷ [], Some 1)
+    -- equality
+    ∷ (line (eq x a) (one ByFact 1) ∷ line (eq a x) (one BySym 1) ∷ line (eq x x) (two ByTrans 1 2) ∷ line (eq x x) (lone ByRefl) ∷ [], None)
+    ∷ (line (eq x a) (one ByFact 1) ∷ line (eq x a) (one BySym 1) ∷ [], Some 2)
+    ∷ (line (eq x a) (one ByFact 1) ∷ line (eq x a) (two ByTrans 1 1) ∷ [], Some 2)
+    ∷ (line (eq x a) (lone ByRefl) ∷ [], Some 1)
+    ∷ (line (eq x a) (one ByFact 1) ∷ line (eq (g x) (g a)) (Node ByCong (chain (number 1 ∷ [])) Empty) ∷ [], None)
+    ∷ (line (eq x a) (one ByFact 1) ∷ line (eq (g x) (h a)) (Node ByCong (chain (number 1 ∷ [])) Empty) ∷ [], Some 2)
+    ∷ (line (eq (leaf 8) (leaf 8)) (Node ByCong Empty Empty) ∷ [], Some 1)
+    -- injective functions
+    ∷ (line (eq (eq (g a) (g x)) (eq a x)) (lone ByData) ∷ [], None)
+    ∷ (line (eq (eq (h a) (h x)) (eq a x)) (lone ByData) ∷ [], Some 1)
+    -- truth values
+    ∷ (line (eq (p a) (eq (p a) yes)) (lone ByBool) ∷ line (eq (and (p a) no) no) (lone ByBool) ∷ [], None)
+    ∷ (line (eq (and (p a) no) (p a)) (lone ByBool) ∷ [], Some 1)
+    -- blocks: the second assumes the negation, and no line behind cites what stands in them
+    ∷ (split (two ByMp 1 2) (not_p) (eq x a) (one ByAgain 10), None)
+    ∷ (split (two ByMp 2 1) (not_p) (eq x a) (one ByAgain 10), Some 3)
+    ∷ (split (two ByMp 1 2) (p a) (eq x a) (one ByAgain 10), Some 8)
+    ∷ (split (two ByMp 1 2) (not_p) (eq a x) (one ByAgain 10), Some 10)
+    ∷ (split (two ByMp 1 2) (not_p) (eq x a) (one ByAgain 7), Some 11)
+    ∷ (refutes (two ByContra 1 3) 4, None)
+    ∷ (refutes (two ByContra 3 1) 4, Some 4)
+    ∷ (refutes (two ByContra 1 3) 3, Some 5)
+    -- names and terms that aren't there
+    ∷ (line (eq (leaf 99) (leaf 99)) (lone ByRefl) ∷ [], Some 1)
+    ∷ (line (eq a (leaf 8)) (one ByFact 1) ∷ [], Some 1)
+    ∷ (line (eq x a) (lone ByOtherHere) ∷ [], Some 1)
+    ∷ (line (eq x a) (one ByAgain 1) ∷ [], Some 1)
+    ∷ []
+
+-- what the last lines say
+abbrev pub two_lines : Tree
+two_lines = chain (line (eq x a) (one ByFact 1) ∷ is_there x (lone ByHere) ∷ [])
+
+abbrev pub ends : List (List Tree)
+ends = [] ∷ (is_there x Empty ∷ []) ∷ (line (eq x a) Empty ∷ is_there x Empty ∷ []) ∷ []
+
+abbrev pub no_ends : List (List Tree)
+no_ends = (line x Empty ∷ []) ∷ (line (eq x a) Empty ∷ []) ∷ (is_there x Empty ∷ line (eq x a) Empty ∷ []) ∷ []

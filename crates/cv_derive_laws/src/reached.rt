@@ -1,0 +1,95 @@
+// Derivations hold at the places that a run visits.
+
+ghost use Rattle.std.specs.Prelude.{ℕ, List};
+ghost use Rattle.std.specs.List.{All, AllByRecursion};
+ghost use Rattle.cv_syntax_trees.specs.Declarations.{Declaration};
+ghost use Rattle.cv_syntax_trees.specs.Tree.{Tree};
+ghost use Rattle.cv_meaning.specs.Tapes.{blank};
+ghost use Rattle.cv_meaning.specs.Interpretation.{Interpretation, setting_of};
+ghost use Rattle.cv_meaning.specs.Cells.{cells};
+ghost use Rattle.cv_meaning.specs.Memory.{Indices, Store};
+ghost use Rattle.cv_meaning.specs.Runs.{Adversary, Mode};
+ghost use Rattle.cv_meaning.specs.Experiments.{visits_of_run};
+ghost use Rattle.cv_meaning.specs.Satisfies.{Satisfies};
+ghost use Rattle.cv_meaning_laws.specs.adequacy.Counted.{tapes_of};
+ghost use Rattle.cv_scene.specs.Scenes.{Scene};
+ghost use Rattle.cv_scene.specs.Derivations.{Derives};
+ghost use Rattle.cv_derive_rules.specs.Lines.{lines_of, statements};
+ghost use Rattle.cv_scene.specs.Sights.{sight_at};
+ghost use Rattle.cv_derive_laws.specs.stores.Truth.{IsTrue};
+ghost use Rattle.cv_derive_laws.specs.stores.Holding.{HoldAt, HoldAtConditions, HoldAtFind, HoldAtVisit, IsReady};
+ghost use Rattle.cv_derive_laws.specs.stores.Soundness.{DerivationsHold, DerivedBodiesAreUnreached};
+ghost use Rattle.cv_derive_laws.specs.stores.Unreached.{DerivesFalse, HasNoneAt, IsElsewhere};
+
+use crate::stores::{
+    cells_stand_between_stores, sites_stand_at_candidates, stores_are_typed_at_each_visit,
+};
+use cv_derive_facts::{facts_hold_where_they_stand, sites_stand_in_the_game};
+use cv_scope_runs::{cells_are_assigned_once, games_are_contexts};
+
+/// In each run of a game that is typed and in array scope, on each tape that is counted, each line outside
+/// blocks of a derivation whose lines are right is true at each visited place, and at the places of the
+/// construct's own terms: a term is 1 in the store before the visit, and a cell is assigned there. At a
+/// visited `find` it is so in the body of each branch, with each tuple with which it is a candidate, taken
+/// or not; and in its condition, with each tuple with which the cells of its list are assigned, where cells
+/// are looked up before the visit.
+pub fn derivations_hold_at_visits()
+    ensures places { (s : Scene) → IsReady s.declarations s.game →
+        (i : Interpretation) → Satisfies s.declarations i → (m : Mode) (a : Adversary) →
+        All (λ t. AllByRecursion (HoldAtVisit s i)
+        (visits_of_run (setting_of s.declarations i) m a s.game t))
+        (tapes_of (cells (setting_of s.declarations i) m a s.game) blank) }
+    ensures candidates { (s : Scene) → IsReady s.declarations s.game →
+        (i : Interpretation) → Satisfies s.declarations i → (m : Mode) (a : Adversary) →
+        All (λ t. AllByRecursion (HoldAtFind s i)
+        (visits_of_run (setting_of s.declarations i) m a s.game t))
+        (tapes_of (cells (setting_of s.declarations i) m a s.game) blank) }
+    ensures conditions { (s : Scene) → IsReady s.declarations s.game →
+        (i : Interpretation) → Satisfies s.declarations i → (m : Mode) (a : Adversary) →
+        All (λ t. AllByRecursion (HoldAtConditions s i)
+        (visits_of_run (setting_of s.declarations i) m a s.game t))
+        (tapes_of (cells (setting_of s.declarations i) m a s.game) blank) }
+{
+    games_are_contexts();
+    sites_stand_in_the_game();
+    facts_hold_where_they_stand();
+    stores_are_typed_at_each_visit();
+    sites_stand_at_candidates();
+    cells_stand_between_stores();
+    cells_are_assigned_once();
+}
+
+/// So what a derivation ends with is true wherever its lines are.
+pub fn targets_hold()
+    ensures { (s : Scene) (i : Interpretation) (place : ℕ) (at : Indices) (m n : Store)
+        (by targets : Tree) → HoldAt s i place at m n → Derives (sight_at s place) by targets →
+        AllByRecursion (IsTrue (setting_of s.declarations i) at m n)
+        (statements (lines_of targets)) }
+{}
+
+/// Where `false` is derived at a place, no construct is visited there, and a branch whose body stands there is
+/// a candidate of its `find` with no tuple.
+pub fn bodies_that_derive_false_are_unreached()
+    ensures visits { (s : Scene) (place : ℕ) (by : Tree) → IsReady s.declarations s.game →
+        DerivesFalse s place by → (i : Interpretation) → Satisfies s.declarations i →
+        (m : Mode) (a : Adversary) → All (λ t. AllByRecursion (IsElsewhere place)
+        (visits_of_run (setting_of s.declarations i) m a s.game t))
+        (tapes_of (cells (setting_of s.declarations i) m a s.game) blank) }
+    ensures candidates { (s : Scene) (place : ℕ) (by : Tree) → IsReady s.declarations s.game →
+        DerivesFalse s place by → (i : Interpretation) → Satisfies s.declarations i →
+        (m : Mode) (a : Adversary) → All (λ t. AllByRecursion (HasNoneAt s i place)
+        (visits_of_run (setting_of s.declarations i) m a s.game t))
+        (tapes_of (cells (setting_of s.declarations i) m a s.game) blank) }
+{
+    derivations_hold_at_visits();
+}
+
+/// So derivations are sound, as the laws of steps take it, for the games of each file.
+pub fn derivations_are_sound()
+    ensures hold { (ds : List Declaration) → DerivationsHold ds }
+    ensures unreached { (ds : List Declaration) → DerivedBodiesAreUnreached ds }
+{
+    derivations_hold_at_visits();
+    targets_hold();
+    bodies_that_derive_false_are_unreached();
+}

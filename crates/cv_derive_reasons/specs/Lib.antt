@@ -1,0 +1,5 @@
+pub mod inferences
+pub mod substitution
+pub mod cells
+pub mod sizes
+pub mod injectivity

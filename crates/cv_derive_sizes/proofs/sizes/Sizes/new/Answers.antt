@@ -1,7 +1,0 @@
-use Rattle.std.proofs.Common.{IfSome, None}
-use Rattle.std.proofs.lemmas.List.Elements.{All-replicate}
-use Rattle.cv_derive_sizes.specs.Sizes.{IsSize}
-use Rattle.cv_derive_sizes.proofs.sizes.Sizes.new.Goals as goal
-
-pub returns : goal.returns
-returns c trees = All-replicate (λ o. IfSome o (IsSize trees)) 2039 None tt

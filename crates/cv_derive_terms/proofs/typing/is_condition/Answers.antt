@@ -1,4 +1,0 @@
-use Rattle.cv_derive_terms.proofs.typing.is_condition.Goals as goal
-
-pub returns : goal.returns
-returns c = λ s e. c.is_term_of.ensures s e

@@ -1,5 +1,0 @@
-pub mod Drawn
-pub mod Extents
-pub mod Laying
-pub mod Lists
-pub mod Stacks

@@ -1,7 +1,0 @@
-use Rattle.std.proofs.Common.{sym}
-use Rattle.cv_syntax.proofs.Trees.{empty_at}
-use Rattle.cv_draw_extents.proofs.Extents.{depth-Empty}
-use Rattle.cv_draw_extents.proofs.measuring.depth_below.Goals as goal
-
-pub returns-in-None : goal.returns-in-None
-returns-in-None c = sym (depth-Empty _ (empty_at c.args.pool.now.trees c.args.child c.in-None.is))

@@ -1,0 +1,23 @@
+use Rattle.std.proofs.Common.{◌≡◌, ◌+◌, ◌≤◌, max, length}
+use Rattle.cv_pool.specs.Nodes.{ChildBelow}
+use Rattle.cv_syntax_trees.specs.Tree as tree
+use Rattle.cv_syntax.specs.PoolTrees.{tree_at}
+use Rattle.cv_syntax.specs.Walks.{above}
+use Rattle.cv_derive_rules.specs.Given.{with_given}
+use Rattle.cv_edit_changes.specs.unletting.Assigned.{names_above}
+use Rattle.cv_edit_changes.proofs.unletting.under.+depth_under.Given as goal
+
+abbrev pub decreases-depth_under : goal.decreases-depth_under
+decreases-depth_under l = above l.start
+
+abbrev pub decreases-chain : goal.decreases-chain
+decreases-chain l = above l.at
+
+abbrev pub invariant-chain : goal.invariant-chain
+invariant-chain l = record {
+  below : above l.at ≤ above l.fn.start;
+  live : ChildBelow (length l.pool.trees) l.at;
+  small : tree.size (with_given (names_above l.pool.trees l.directory l.x) (tree_at l.pool.trees l.terms) (tree_at l.pool.trees l.at)) ≤ tree.size (with_given (names_above l.pool.trees l.directory l.x) (tree_at l.pool.trees l.terms) (tree_at l.pool.trees l.fn.start));
+  deepest : max l.deepest (l.above + tree.depth (with_given (names_above l.pool.trees l.directory l.x) (tree_at l.pool.trees l.terms) (tree_at l.pool.trees l.at))) ≡ tree.depth (with_given (names_above l.pool.trees l.directory l.x) (tree_at l.pool.trees l.terms) (tree_at l.pool.trees l.fn.start));
+  over : l.above ≤ l.deepest;
+}

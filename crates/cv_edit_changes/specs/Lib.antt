@@ -1,0 +1,4 @@
+pub mod Faults
+pub mod pruning
+pub mod unletting
+pub mod renaming

@@ -1,0 +1,5 @@
+pub mod MadeGames
+pub mod Extents
+pub mod Laying
+pub mod Lists
+pub mod Stacks

@@ -1,5 +1,0 @@
-use Rattle.cv_follow_sequences.proofs.Settled.{one_text}
-use Rattle.cv_follow_sequences.proofs.settled_reports_are_one.Goals as goal
-
-pub returns : goal.returns
-returns c = λ bytes r q f g w v h k. one_text bytes r q f g w v h k

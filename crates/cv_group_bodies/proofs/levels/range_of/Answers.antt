@@ -1,8 +1,0 @@
-use Rattle.cv_group_bodies.proofs.Scans as scan
-use Rattle.cv_group_bodies.proofs.levels.range_of.Goals as goal
-
-pub levels-preserved : goal.levels-preserved
-levels-preserved c = record { same = scan.range-step c.args.u c.levels.over c.args.levels.now c.levels.k c.index-levels-k.result c.ranging-over.result _ c.levels-test.true c.ranging-over.ensures c.index-levels-k.is c.levels.invariant.same }
-
-pub returns : goal.returns
-returns c = scan.range-end c.args.u c.levels.over _ c.args.levels.now c.levels.k c.levels-test.false c.levels.invariant.same

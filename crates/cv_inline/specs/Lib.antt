@@ -1,0 +1,5 @@
+pub mod NextGame
+pub mod Draws
+pub mod Worked
+pub mod bodies
+pub mod terms

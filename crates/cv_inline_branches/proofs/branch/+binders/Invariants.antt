@@ -1,5 +1,0 @@
-use Rattle.std.proofs.Common.{length}
-use Rattle.cv_inline_branches.proofs.branch.+binders.Given as goal
-
-abbrev pub decreases-binders : goal.decreases-binders
-decreases-binders l = length l.others.now

@@ -1,5 +1,0 @@
-use Rattle.cv_syntax.specs.Walks.{above}
-use Rattle.cv_inline_branches.proofs.key.+condition.Given as goal
-
-abbrev pub decreases-condition : goal.decreases-condition
-decreases-condition l = above l.left

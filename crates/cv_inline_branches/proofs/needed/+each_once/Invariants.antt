@@ -1,5 +1,0 @@
-use Rattle.std.proofs.Common.{length}
-use Rattle.cv_inline_branches.proofs.needed.+each_once.Given as goal
-
-abbrev pub decreases-each_once : goal.decreases-each_once
-decreases-each_once l = length l.cells.now

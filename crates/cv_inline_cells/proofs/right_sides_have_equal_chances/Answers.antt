@@ -1,8 +1,0 @@
-use Rattle.cv_inline_cells.proofs.Chances.{chances_of_context, chances_on_tapes}
-use Rattle.cv_inline_cells.proofs.right_sides_have_equal_chances.Goals as goal
-
-pub returns-clause-texts : goal.returns-clause-texts
-returns-clause-texts c = chances_on_tapes
-
-pub returns-clause-contexts : goal.returns-clause-contexts
-returns-clause-contexts c = chances_of_context

@@ -1,3 +1,0 @@
-pub mod NextGame
-pub mod Draws
-pub mod Worked

@@ -1,0 +1,3 @@
+pub mod extents
+pub mod runs
+pub mod worked

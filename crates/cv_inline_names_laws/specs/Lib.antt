@@ -1,0 +1,5 @@
+pub mod draws
+pub mod accepted
+pub mod cells
+pub mod covered
+pub mod drawn

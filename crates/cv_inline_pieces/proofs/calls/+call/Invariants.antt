@@ -1,5 +1,0 @@
-use Rattle.cv_syntax.specs.Walks.{above}
-use Rattle.cv_inline_pieces.proofs.calls.+call.Given as goal
-
-abbrev pub decreases-call : goal.decreases-call
-decreases-call l = above l.binders

@@ -1,6 +1,0 @@
-use Rattle.std.proofs.Common.{◌≡◌, ◌++◌, map, take}
-use Rattle.cv_inline_pieces.specs.Choices.{choose}
-use Rattle.cv_inline_pieces.proofs.choices.add_choices.Given as goal
-
-abbrev pub invariant-loop-pair : goal.invariant-loop-pair
-invariant-loop-pair l = l.found.items ≡ l.fn.found.items ++ map (choose l.other) (take l.pair-index l.pairs)

@@ -1,7 +1,0 @@
-use Rattle.cv_meaning_contexts.specs.Inlined.{index_terms}
-use Rattle.cv_inline_pieces.proofs.ByKind.{result_added}
-use Rattle.cv_inline_pieces.proofs.kinds.add_result.Goals as goal
-
-pub returns : goal.returns
-returns c = λ trees d callings k live.
-    result_added trees d callings k c.args.pieces.now.items c.push.new.self.items c.in_ok-phrase.phrase c.args.scope.now c.args.term c.in_ok-push.ensures.items c.in_ok-phrase.ensures.term (c.in_ok-phrase.ensures.scope (index_terms k.replications.items)) live

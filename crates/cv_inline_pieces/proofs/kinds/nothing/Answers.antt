@@ -1,5 +1,0 @@
-use Rattle.cv_inline_pieces.proofs.ByKind.{nothing_added}
-use Rattle.cv_inline_pieces.proofs.kinds.nothing.Goals as goal
-
-pub returns : goal.returns
-returns c = nothing_added c.args.pieces.now.items c.push.new.self.items c.in_ok-push.ensures.items

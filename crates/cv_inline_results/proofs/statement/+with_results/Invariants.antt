@@ -1,5 +1,0 @@
-use Rattle.cv_syntax.specs.Walks.{above}
-use Rattle.cv_inline_results.proofs.statement.+with_results.Given as goal
-
-abbrev pub decreases-with_results : goal.decreases-with_results
-decreases-with_results l = above l.term

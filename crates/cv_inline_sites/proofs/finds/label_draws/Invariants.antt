@@ -1,7 +1,0 @@
-use Rattle.std.proofs.Common.{◌≡◌, take}
-use Rattle.cv_inline_games.specs.Draws as draws
-use Rattle.cv_inline_listing.specs.Callings.{callings_in}
-use Rattle.cv_inline_sites.proofs.finds.label_draws.Given as goal
-
-abbrev pub invariant-loop-calling : goal.invariant-loop-calling
-invariant-loop-calling l = l.finds.items ≡ draws.label_draws (callings_in l.pool.trees (take l.calling-index l.callings))

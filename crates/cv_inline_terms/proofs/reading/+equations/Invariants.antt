@@ -1,5 +1,0 @@
-use Rattle.std.proofs.Common.{length}
-use Rattle.cv_inline_terms.proofs.reading.+equations.Given as goal
-
-abbrev pub decreases-equations : goal.decreases-equations
-decreases-equations l = length l.xs.now

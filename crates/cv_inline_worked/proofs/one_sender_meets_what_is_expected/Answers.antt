@@ -1,5 +1,0 @@
-use Rattle.cv_inline_worked.proofs.OneSender.{is_met}
-use Rattle.cv_inline_worked.proofs.one_sender_meets_what_is_expected.Goals as goal
-
-pub returns : goal.returns
-returns c = is_met

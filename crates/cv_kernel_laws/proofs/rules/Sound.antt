@@ -1,0 +1,25 @@
+-- Each step with a rule is sound: one arm a rule, by the law of its own.
+use Rattle.std.proofs.Common.{◌≡◌, Some, None, subst}
+use Rattle.cv_script.specs.Views.{StepItems}
+use Rattle.cv_script.specs.Views as items
+use Rattle.cv_derive_laws.specs.stores.Steps.{IsSound}
+use Rattle.cv_rule_merge.proofs.Sound.{merge_sound}
+use Rattle.cv_rule_move.proofs.Sound.{move_sound}
+use Rattle.cv_sequences.proofs.soundness.Sound.{let_sound, new_sound, prune_sound, rename_sound, rewrite_sound, split_sound, unlet_sound, unnew_sound}
+use Rattle.cv_kernel.specs.Rules.{Rule, part_of, rule_of_items}
+
+that : (q r : Rule) → Some q ≡ Some r → IsSound q.step → IsSound r.step
+that q r e h = let f : q ≡ r = cc in subst (λ (x : Rule). IsSound x.step) f h
+
+pub sound : (i : StepItems) (r : Rule) → rule_of_items i ≡ Some r → IsSound r.step
+sound (items.Split p m) r e = that _ r e (split_sound p m)
+sound (items.Let p x T m) r e = that _ r e (let_sound p x T m)
+sound (items.New p x T) r e = that _ r e (new_sound p x T)
+sound (items.Unnew x) r e = that _ r e (unnew_sound x)
+sound (items.Rename x y) r e = that _ r e (rename_sound x y)
+sound (items.Unlet x) r e = that _ r e (unlet_sound x)
+sound (items.Rewrite p m by) r e = that _ r e (rewrite_sound p m by)
+sound (items.Prune p part by) r e = that _ r e (prune_sound p (part_of part) by)
+sound (items.Move p) r e = that _ r e (move_sound p)
+sound (items.Merge p) r e = that _ r e (merge_sound p)
+sound i r e = absurd (cc)

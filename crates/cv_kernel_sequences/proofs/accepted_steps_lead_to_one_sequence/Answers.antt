@@ -1,7 +1,0 @@
-use Rattle.cv_kernel_sequences.proofs.OneSequence.{alike}
-use Rattle.cv_kernel_sequences.proofs.accepted_steps_lead_to_one_sequence.Goals as goal
-
-pub returns : goal.returns
-returns c = λ ds known own first g h ts us before after other apart p q steps k l.
-    let r = alike ds known own first g h ts us before after other apart p q steps k l in
-    (r.one, r.names)

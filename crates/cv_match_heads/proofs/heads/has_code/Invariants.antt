@@ -1,6 +1,0 @@
-use Rattle.std.proofs.Common.{◌≡◌, drop}
-use Rattle.cv_match_heads.specs.Beginnings.{has_code}
-use Rattle.cv_match_heads.proofs.heads.has_code.Given as goal
-
-abbrev pub invariant-loop-other : goal.invariant-loop-other
-invariant-loop-other l = has_code l.code (drop l.other-index l.codes) ≡ has_code l.code l.codes

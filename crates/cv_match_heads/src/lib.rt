@@ -1,6 +1,0 @@
-// What the bodies of functions begin with, for a test of a term's head before any body is compared with the term.
-#![tactic(auto)]
-
-mod heads;
-
-pub use heads::{Heads, is_head};

@@ -1,0 +1,3 @@
+pub mod uses
+pub mod heads
+pub mod patterns

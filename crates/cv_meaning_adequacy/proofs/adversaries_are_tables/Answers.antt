@@ -1,8 +1,0 @@
-use Rattle.cv_meaning_adequacy.proofs.Tabled.{table_for, table_against}
-use Rattle.cv_meaning_adequacy.proofs.adversaries_are_tables.Goals as goal
-
-pub returns-clause-runs : goal.returns-clause-runs
-returns-clause-runs c = table_for
-
-pub returns-clause-advantage : goal.returns-clause-advantage
-returns-clause-advantage c = table_against

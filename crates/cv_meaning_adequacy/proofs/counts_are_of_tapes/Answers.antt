@@ -1,8 +1,0 @@
-use Rattle.cv_meaning_adequacy.proofs.Counting.{count_is, total_is}
-use Rattle.cv_meaning_adequacy.proofs.counts_are_of_tapes.Goals as goal
-
-pub returns-clause-count : goal.returns-clause-count
-returns-clause-count c = count_is
-
-pub returns-clause-total : goal.returns-clause-total
-returns-clause-total c = total_is

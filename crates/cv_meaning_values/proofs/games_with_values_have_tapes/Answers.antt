@@ -1,8 +1,0 @@
-use Rattle.cv_meaning_values.proofs.Tapes.{cells_values, tapes}
-use Rattle.cv_meaning_values.proofs.games_with_values_have_tapes.Goals as goal
-
-pub returns-clause-cells : goal.returns-clause-cells
-returns-clause-cells c = cells_values
-
-pub returns-clause-chance : goal.returns-clause-chance
-returns-clause-chance c = tapes

@@ -1,6 +1,0 @@
-use Rattle.std.proofs.Common.{arith}
-use Rattle.cv_parse_indices.proofs.Rows.{ends_end}
-use Rattle.cv_parse_indices.proofs.writing.write_names.Goals as goal
-
-pub returns : goal.returns
-returns c = ends_end c.args.parts.now.items c.ends.parts.items c.args.indices.now c.ends.index (omega arith) c.ends.invariant

@@ -1,5 +1,0 @@
-use Rattle.cv_parse_spelling.proofs.Table.{found, only, find_is_none}
-use Rattle.cv_parse_spelling.proofs.marks.spelling_is_unique.Goals as goal
-
-pub returns : goal.returns
-returns c = record { found = found; only = only; find_is_none = find_is_none }

@@ -1,5 +1,0 @@
-use Rattle.cv_parse_terminals.proofs.Walk.{IsReached}
-use Rattle.cv_parse_terminals.proofs.pass.signs_in_order.Given as goal
-
-abbrev pub invariant-loop-k : goal.invariant-loop-k
-invariant-loop-k l = IsReached l.fn.names l.tokens l.from l.signs.items l.names l.counts l.k

@@ -1,5 +1,0 @@
-use Rattle.cv_parse_terminals.proofs.ScriptWalk.{IsWorded}
-use Rattle.cv_parse_terminals.proofs.scripts.signs_between.Given as goal
-
-abbrev pub invariant-loop-k : goal.invariant-loop-k
-invariant-loop-k l = IsWorded l.fn.names l.tokens l.from l.to l.signs.items l.names l.counts l.k

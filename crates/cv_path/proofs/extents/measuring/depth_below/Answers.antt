@@ -1,0 +1,7 @@
+use Rattle.std.proofs.Common.{sym}
+use Rattle.cv_syntax.proofs.Trees.{empty_at}
+use Rattle.cv_path.proofs.extents.Extents.{depth_Empty}
+use Rattle.cv_path.proofs.extents.measuring.depth_below.Goals as goal
+
+pub returns-in-None : goal.returns-in-None
+returns-in-None c = sym (depth_Empty _ (empty_at c.args.pool.now.trees c.args.child c.in-None.is))

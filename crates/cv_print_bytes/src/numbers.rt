@@ -1,0 +1,1 @@
+// Laws of the numbers in what is read: names are below their count, and labels fit.

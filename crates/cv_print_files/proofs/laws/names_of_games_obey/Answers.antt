@@ -1,5 +1,0 @@
-use Rattle.cv_print_files.proofs.Back.{names_obey}
-use Rattle.cv_print_files.proofs.laws.names_of_games_obey.Goals as goal
-
-pub returns : goal.returns
-returns c = λ limit signs p w trees ds d. names_obey limit signs p trees ds w d

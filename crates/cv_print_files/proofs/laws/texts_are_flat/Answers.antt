@@ -1,5 +1,0 @@
-use Rattle.cv_print_files.proofs.Flat.{game_flat}
-use Rattle.cv_print_files.proofs.laws.texts_are_flat.Goals as goal
-
-pub returns : goal.returns
-returns c = λ t. game_flat t

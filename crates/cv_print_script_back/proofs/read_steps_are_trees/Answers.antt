@@ -1,5 +1,0 @@
-use Rattle.cv_print_script_back.proofs.Scripts.{read_known}
-use Rattle.cv_print_script_back.proofs.read_steps_are_trees.Goals as goal
-
-pub returns : goal.returns
-returns c = λ limit live from to names tokens steps are within few proper e. read_known names tokens from to are within few proper limit live steps e

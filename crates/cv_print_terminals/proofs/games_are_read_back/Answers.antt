@@ -1,8 +1,0 @@
-use Rattle.cv_print_terminals.proofs.Back.{game_back, game_read}
-use Rattle.cv_print_terminals.proofs.games_are_read_back.Goals as goal
-
-pub returns-clause-spelled : goal.returns-clause-spelled
-returns-clause-spelled c = λ n finds t rest w l. game_back n finds t rest w l
-
-pub returns-clause-computed : goal.returns-clause-computed
-returns-clause-computed c = λ n t w l. game_read n 0 t w l

@@ -1,0 +1,3 @@
+pub mod Countable
+pub mod Claimed
+pub mod offences

@@ -1,8 +1,0 @@
-use Rattle.std.proofs.Common.{◌∙◌}
-use Rattle.cv_syntax.proofs.Trees.{tree_at-None}
-use Rattle.cv_query_entries.specs.Views.{game_of, trees_of}
-use Rattle.cv_query_check.proofs.Naming.{far-away}
-use Rattle.cv_query_check.proofs.claims.arguments_at.Goals as goal
-
-pub returns-then-place-gt4294967295-clause-tree : goal.returns-then-place-gt4294967295-clause-tree
-returns-then-place-gt4294967295-clause-tree c = tree_at-None (trees_of c.args.view.now) ∙ far-away (game_of c.args.view.now) c.args.place c.requires.fits c.if-place-gt4294967295.true

@@ -1,2 +1,0 @@
-pub mod Countable
-pub mod Claimed

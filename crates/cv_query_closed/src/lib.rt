@@ -1,2 +1,0 @@
-// Queries whose right sides name what they may. Definitions alone, in `specs/`.
-#![tactic(auto)]

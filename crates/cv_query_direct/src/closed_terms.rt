@@ -1,0 +1,1 @@
+// Queries whose right sides name what they may. Definitions alone, in `specs/`.

@@ -1,7 +1,0 @@
-// What a derivation ends with, where the terms that it is to end with have terms for names that aren't put.
-#![tactic(auto)]
-
-mod ends;
-mod last;
-
-pub use ends::{ends_with_cell, ends_with_equations, ends_with_falsity, ends_with_term};

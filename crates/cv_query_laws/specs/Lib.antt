@@ -1,0 +1,2 @@
+pub mod correspondences
+pub mod secrets

@@ -1,0 +1,7 @@
+// The lines of reports that say how often the contexts of steps choose keys and call functions.
+
+mod contexts;
+mod laws;
+
+pub use contexts::push_context;
+pub use laws::{factors_have_the_value, worked_contexts};

@@ -1,6 +1,0 @@
-use Rattle.std.proofs.Common.{◌≡◌, ◌++◌, take, flat_map, codes}
-use Rattle.cv_report_contexts.specs.Contexts.{parameters_text}
-use Rattle.cv_report_contexts.proofs.contexts.push_more_sites.Given as goal
-
-abbrev pub invariant-sites : goal.invariant-sites
-invariant-sites l = l.out.items ≡ l.fn.out.items ++ flat_map (λ ns. codes " + " ++ parameters_text l.names ns.items) (take l.k l.sites)

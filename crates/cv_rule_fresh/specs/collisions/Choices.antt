@@ -1,0 +1,66 @@
+-- The `new` of a variable above a place in the same body, and what is in scope there. Blanchet, TDSC 2008, section 2.
+use Rattle.std.specs.Prelude.{ℕ, ◌+◌, ◌-◌, Bool, true, false, ◌&&◌, ◌==◌, nat_lt, if◌then◌else◌, List, map, Option, Some, None}
+use Rattle.cv_syntax_trees.specs.declared.class.Class.TheVariants as class
+use Rattle.cv_syntax_trees.specs.declared.head.Head.{Head}
+use Rattle.cv_syntax_trees.specs.declared.head.Head.TheVariants.{In, New}
+use Rattle.cv_syntax_trees.specs.Declarations.{Declaration, Named}
+use Rattle.cv_syntax_trees.specs.Head.{weight}
+use Rattle.cv_syntax_trees.specs.Tree.{Tree, Empty, Node, first_place, second_place, size}
+use Rattle.cv_typing_rules.specs.Signature.{declaration_of}
+use Rattle.cv_scope_rules.specs.Context.{Context, known_at}
+use Rattle.cv_scope_rules.specs.Rules.{Names}
+use Rattle.cv_scope_rules.specs.Scope.{names_of}
+use Rattle.cv_scope_rules.specs.Tests.{reads_in_reach}
+use Rattle.cv_scene.specs.Scenes.{Scene}
+use Rattle.cv_scene.specs.Terms.{replications_at}
+
+-- a `new` by its place, with its type
+pub record Choice : Type 0 where
+  pub place : ℕ
+  pub type : ℕ
+
+-- The last `new` of the variable on the way down to a place. An input begins another body.
+
+abbrev pub choice_behind : (x : ℕ) → Option Choice → (place : ℕ) → Head → Option Choice
+choice_behind x last q (In c) = None
+choice_behind x last q (New y T) = if y == x then Some (record { place = q; type = T }) else last
+choice_behind x last q h = last
+
+-- in a tree that stands at a place, behind the last one above it
+unfoldable pub choice_in : (x : ℕ) → (last : Option Choice) → (at : ℕ) → Tree → (place : ℕ) → Option Choice
+choice_in x last q Empty p = None
+choice_in x last q (Node h a b) p =
+    if nat_lt p (weight h) then last
+    else if nat_lt p (weight h + size a) then choice_in x last (first_place q h) a (p - weight h)
+    else choice_in x (choice_behind x last q h) (second_place q h a) b (p - (weight h + size a))
+
+abbrev pub choice_above : Tree → (x place : ℕ) → Option Choice
+choice_above game x p = choice_in x None 0 game p
+
+-- large types
+
+abbrev pub is_large_by : Option Declaration → Bool
+is_large_by (Some (Named T (class.TypeName fixed large) arguments result)) = large
+is_large_by d = false
+
+-- the type is declared as `[large]`
+abbrev pub is_large : Scene → (type : ℕ) → Bool
+is_large s T = is_large_by (declaration_of s.declarations T)
+
+-- A term is in scope where each name that it reads is a current index, a constant, or a cell in reach.
+
+unfoldable pub is_in_scope : Names → Context → Tree → Bool
+is_in_scope names Γ Empty = true
+is_in_scope names Γ (Node h a b) = reads_in_reach names Γ h a b && (is_in_scope names Γ a && is_in_scope names Γ b)
+
+abbrev pub is_in_scope_by : Names → Option Context → Tree → Bool
+is_in_scope_by names None m = false
+is_in_scope_by names (Some Γ) m = is_in_scope names Γ m
+
+-- before the construct at a place
+abbrev pub is_in_scope_at : Scene → (place : ℕ) → (term : Tree) → Bool
+is_in_scope_at s p m = is_in_scope_by (names_of s.declarations s.game) (known_at s.game p) m
+
+-- the parameters of the replications above a place, from the outermost on
+abbrev pub parameters_at : Scene → (place : ℕ) → List ℕ
+parameters_at s p = map (λ (r : ℕ × ℕ). r.1) (replications_at s p)

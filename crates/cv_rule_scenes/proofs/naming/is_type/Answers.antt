@@ -1,6 +1,0 @@
-use Rattle.std.proofs.Common.{◌∙◌}
-use Rattle.cv_rule_scenes.proofs.Tested.{type-same}
-use Rattle.cv_rule_scenes.proofs.naming.is_type.Goals as goal
-
-pub returns : goal.returns
-returns c = c.is_type_name.ensures ∙ type-same c.args.work.now.pool.trees c.args.work.now.decls.list c.args.t _ c.class.ensures.class

@@ -1,6 +1,0 @@
-use Rattle.cv_directory_sorts.specs.declared.sort.Sort.TheVariants.{BelowParameter}
-use Rattle.cv_typing.proofs.Removals.{inserted}
-use Rattle.cv_rule_scenes.proofs.terms.put_index.Goals as goal
-
-pub returns : goal.returns
-returns c = inserted c.args.i (BelowParameter c.args.n) c.args.above.now c.insert.new.self c.in_ok-insert.ensures.updates

@@ -1,9 +1,0 @@
-// Lists with tables: the variables that are defined above a node, and the cells that are listed around it.
-#![tactic(auto)]
-
-mod defined;
-mod listed;
-mod places;
-
-pub use defined::Defined;
-pub use listed::Listed;

@@ -1,0 +1,5 @@
+// The table of scripts: the rows from which steps are read and printed.
+
+mod rows;
+
+pub use rows::{BUILT_SCRIPT, SCRIPT, STEP, script_rows};

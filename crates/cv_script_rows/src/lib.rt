@@ -1,6 +1,0 @@
-// The table of scripts: the rows from which steps are read and printed.
-#![tactic(auto)]
-
-mod rows;
-
-pub use rows::{BUILT_SCRIPT, SCRIPT, STEP, script_rows};

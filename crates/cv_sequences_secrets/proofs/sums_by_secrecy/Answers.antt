@@ -1,8 +1,0 @@
-use Rattle.cv_sequences_secrets.proofs.Sums.{plain, put}
-use Rattle.cv_sequences_secrets.proofs.sums_by_secrecy.Goals as goal
-
-pub returns-clause-plain : goal.returns-clause-plain
-returns-clause-plain c = plain
-
-pub returns-clause-put : goal.returns-clause-put
-returns-clause-put c = put

@@ -1,5 +1,0 @@
-use Rattle.cv_steps_renaming.proofs.Chances.{chances_under}
-use Rattle.cv_steps_renaming.proofs.games_under_other_names_have_equal_chances.Goals as goal
-
-pub returns : goal.returns
-returns c = chances_under

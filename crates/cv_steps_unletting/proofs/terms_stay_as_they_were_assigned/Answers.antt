@@ -1,5 +1,0 @@
-use Rattle.cv_steps_unletting.proofs.Copies.{copied_game}
-use Rattle.cv_steps_unletting.proofs.terms_stay_as_they_were_assigned.Goals as goal
-
-pub returns : goal.returns
-returns c = copied_game
