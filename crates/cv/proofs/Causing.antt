@@ -38,9 +38,9 @@ use Rattle.cv_scope_rules.specs.Refusals.{refusal as scope_refusal}
 use Rattle.cv_scope_rules.specs.Scope.{first_scope_fault, names_of}
 use Rattle.cv_scope_rules.specs.Standing.{at_root}
 use Rattle.cv_scope_rules.proofs.First.{finds_first, scoped_where_none}
-use Rattle.cv_meaning.specs.Interpretation.{is_constant_of}
 use Rattle.cv_group.specs.declared.fault.GroupFault.{GroupFault}
 use Rattle.cv_group.specs.Refusals.{refused_by}
+use Rattle.cv_group_rules.specs.Symbols.{symbols_of}
 use Rattle.cv_group_rules.specs.Faults.{GroupRule, equivalences_in}
 use Rattle.cv_group_rules.proofs.Deciding.{accepted_more as all_accepted, first_refused as first_group_refused}
 use Rattle.cv_meaning.specs.Queries.{queries_in}
@@ -278,7 +278,7 @@ module _ (ts : List Token) (p : Parsed) (e : parsed most_pool (signs_of ts).sign
         scoped = scoped_where_none (names_of p.declarations p.game) at_root p.game (behind_none (nodes_before p.declarations) (first_scope_fault p.declarations p.game) u.0);
         rule = v.0;
         refused = sym v.2;
-        first = first_group_refused (is_constant_of p.declarations) (equivalences_in p.declarations) k v.0 v.1;
+        first = first_group_refused (symbols_of p.declarations) (equivalences_in p.declarations) k v.0 v.1;
       }
 
   query_cause : (k : ℕ) → of_script ts p (block_of ts p) ≡ Err (fault.Query k) → HasQueryFault ts k
@@ -295,7 +295,7 @@ module _ (ts : List Token) (p : Parsed) (e : parsed most_pool (signs_of ts).sign
         block = s.1;
         typed = parts_typed_where_none p.declarations 0 (file_parts p.declarations p.game) t.0;
         scoped = scoped_where_none (names_of p.declarations p.game) at_root p.game (behind_none (nodes_before p.declarations) (first_scope_fault p.declarations p.game) u.0);
-        groups = all_accepted (is_constant_of p.declarations) (equivalences_in p.declarations) v.0;
+        groups = all_accepted (symbols_of p.declarations) (equivalences_in p.declarations) v.0;
         first = first_refused_is_first p.game (queries_in p.declarations) k (by_queries c p (query_fault p) k v.1);
       }
 

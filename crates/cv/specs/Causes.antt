@@ -24,9 +24,9 @@ use Rattle.cv_scope_rules.specs.declared.fault.ScopeFault.{ScopeFault}
 use Rattle.cv_scope_rules.specs.declared.fault.Fault.{Fault}
 use Rattle.cv_scope_rules.specs.Refusals.{refusal}
 use Rattle.cv_scope_rules.specs.Scope.{IsFirstFault, IsScoped}
-use Rattle.cv_meaning.specs.Interpretation.{is_constant_of}
 use Rattle.cv_group.specs.declared.fault.GroupFault.{GroupFault}
 use Rattle.cv_group.specs.Refusals.{refused_by}
+use Rattle.cv_group_rules.specs.Symbols.{symbols_of}
 use Rattle.cv_group_rules.specs.Faults.{AreAccepted, GroupRule, IsFirstGroupFault, equivalences_in}
 use Rattle.cv_meaning.specs.Queries.{queries_in}
 use Rattle.cv_query_form.specs.Rules.{IsFirstRefused}
@@ -104,7 +104,7 @@ pub record HasGroupFault (tokens : List Token) (k : ℕ) (e : GroupFault) : Type
   pub scoped : IsScoped said.declarations said.game
   pub rule : GroupRule
   pub refused : e ≡ refused_by rule
-  pub first : IsFirstGroupFault (is_constant_of said.declarations) (equivalences_in said.declarations) k rule
+  pub first : IsFirstGroupFault (symbols_of said.declarations) (equivalences_in said.declarations) k rule
 
 -- The tokens are those of such a file that is typed and scoped, whose equivalences are accepted, and the k-th of its queries is
 -- the first that may not be asked.
@@ -115,7 +115,7 @@ pub record HasQueryFault (tokens : List Token) (k : ℕ) : Type 0 where
   pub block : block_of tokens said ≡ Ok script
   pub typed : IsTypedFile said.declarations said.game
   pub scoped : IsScoped said.declarations said.game
-  pub groups : AreAccepted (is_constant_of said.declarations) (equivalences_in said.declarations)
+  pub groups : AreAccepted (symbols_of said.declarations) (equivalences_in said.declarations)
   pub first : IsFirstRefused said.game (queries_in said.declarations) k
 
 -- reading a proof block stops at this token: a step begins there that isn't built, or it is the mark of a second copy

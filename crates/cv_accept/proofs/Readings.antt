@@ -32,10 +32,10 @@ use Rattle.cv_scope_rules.specs.Refusals.{IsRefusalOf as IsRefusal}
 use Rattle.cv_scope_rules.specs.Scope.{first_scope_fault, names_of}
 use Rattle.cv_scope_rules.specs.Standing.{at_root}
 use Rattle.cv_scope_rules.proofs.First.{none_where_scoped, scoped_where_none}
-use Rattle.cv_meaning.specs.Interpretation.{is_constant_of}
 use Rattle.cv_group.specs.declared.fault.GroupFault.{GroupFault}
 use Rattle.cv_group.specs.declared.fault.GroupFault.TheVariants as group
 use Rattle.cv_group.specs.Refusals.{IsRefusalAt}
+use Rattle.cv_group_rules.specs.Symbols.{symbols_of}
 use Rattle.cv_group_rules.specs.Faults.{GroupRule, equivalences_in}
 use Rattle.cv_group_rules.proofs.Deciding.{accepted_more as all-accepted, none_where_all as none-refused}
 use Rattle.cv_query_form.specs.declared.fault.QueryFault.{QueryFault}
@@ -234,7 +234,7 @@ from_parsed limit bs ts f (Ok p) l e i =
       built = s.2;
       typed = parts_typed_where_none p.declarations 0 (file_parts p.declarations p.game) b.types;
       scoped = scoped_where_none (names_of p.declarations p.game) at_root p.game (behind_none (nodes_before p.declarations) (first_scope_fault p.declarations p.game) b.scope);
-      groups = all-accepted (is_constant_of p.declarations) (equivalences_in p.declarations) b.groups;
+      groups = all-accepted (symbols_of p.declarations) (equivalences_in p.declarations) b.groups;
       asked = asked_where_none p.game (queries_in p.declarations) b.queries;
       content = sym b.content;
     }
@@ -258,7 +258,7 @@ file_is_read limit bs f w =
     ∙ (ap (of_form w.tokens w.said w.script) w.built
     ∙ (ap (of_types c w.said) (none_where_parts_typed w.said.declarations 0 (file_parts w.said.declarations w.said.game) w.typed)
     ∙ (ap (of_scopes c w.said) (none_behind (nodes_before w.said.declarations) (first_scope_fault w.said.declarations w.said.game) (none_where_scoped (names_of w.said.declarations w.said.game) at_root w.said.game w.scoped))
-    ∙ (ap (of_groups c w.said) (none-refused (is_constant_of w.said.declarations) (equivalences_in w.said.declarations) w.groups)
+    ∙ (ap (of_groups c w.said) (none-refused (symbols_of w.said.declarations) (equivalences_in w.said.declarations) w.groups)
     ∙ (ap (of_queries c) (none_where_asked w.said.game (queries_in w.said.declarations) w.asked)
     ∙ ap Ok (sym w.content))))))))
 

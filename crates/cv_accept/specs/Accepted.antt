@@ -26,8 +26,8 @@ use Rattle.cv_typing_rules.specs.Refusals.{refusal}
 use Rattle.cv_scope_rules.specs.declared.fault.Fault.{Fault as ScopeRules}
 use Rattle.cv_scope_rules.specs.Refusals.{refusal as scope_refusal}
 use Rattle.cv_scope_rules.specs.Scope.{IsScoped, first_scope_fault}
-use Rattle.cv_meaning.specs.Interpretation.{is_constant_of}
 use Rattle.cv_group.specs.Refusals.{refused_by}
+use Rattle.cv_group_rules.specs.Symbols.{symbols_of}
 use Rattle.cv_group_rules.specs.Faults.{AreAccepted, GroupRule, equivalences_in, first_group_fault}
 use Rattle.cv_query_direct.specs.forms.Built.{has_unbuilt}
 use Rattle.cv_meaning.specs.Queries.{queries_in}
@@ -97,7 +97,7 @@ pub record IsFile (limit : ℕ) (bytes : List ℕ) (f : Content) : Type 0 where
   pub built : asks_unbuilt said.declarations (option_map items script) ≡ false
   pub typed : IsTypedFile said.declarations said.game
   pub scoped : IsScoped said.declarations said.game
-  pub groups : AreAccepted (is_constant_of said.declarations) (equivalences_in said.declarations)
+  pub groups : AreAccepted (symbols_of said.declarations) (equivalences_in said.declarations)
   pub asked : AreAsked said.game (queries_in said.declarations)
   pub content : f ≡ content_of tokens said script
 
@@ -124,7 +124,7 @@ query_fault p = first_refused p.game (queries_in p.declarations)
 
 -- the number of the first equivalence that is not accepted, with the first rule that it breaks
 abbrev pub group_fault : Parsed → Option (ℕ × GroupRule)
-group_fault p = first_group_fault (is_constant_of p.declarations) (equivalences_in p.declarations)
+group_fault p = first_group_fault (symbols_of p.declarations) (equivalences_in p.declarations)
 
 abbrev pub of_queries : Content → Option ℕ → Result Content FileError
 of_queries f None = Ok f

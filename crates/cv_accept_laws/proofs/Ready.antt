@@ -30,6 +30,7 @@ use Rattle.cv_meaning.specs.Satisfies.{Satisfies}
 use Rattle.cv_meaning_chances.specs.Fractions.{HasTapes}
 use Rattle.cv_meaning_contexts.specs.ContextAdvantage.{context_advantage}
 use Rattle.cv_meaning_chances.specs.values.Values.{HasValuesIn}
+use Rattle.cv_group_rules.specs.Symbols.{symbols_of}
 use Rattle.cv_group_rules.specs.Faults.{IsAccepted, OneIndex, equivalences_in}
 use Rattle.cv_group_rules.specs.Rules.{branches_have_one_index}
 use Rattle.cv_scope_rules.specs.Scope.{IsScoped}
@@ -133,7 +134,7 @@ module _ (bytes : List ℕ) (c : Content) (reads : read_of most_pool bytes ≡ O
   equivalence_said : (y : ℕ) (t : Tree) → equivalence_by (declaration_of file.said.declarations y) ≡ Some t → IsEquivalenceOfFile file.said.declarations t
   equivalence_said y t e =
       let ds = file.said.declarations in
-      let a = of_each (IsAccepted (is_constant_of ds)) ds file.groups y t e in
+      let a = of_each (IsAccepted (symbols_of ds)) ds file.groups y t e in
       let one = a.kept OneIndex in
       let n = of_each (λ u. HasFreeNames (is_constant_of ds) (second u)) ds (free_sides most_pool (signs_of file.tokens).signs file.said parses) y t e in
       record {

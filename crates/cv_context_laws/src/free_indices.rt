@@ -3,7 +3,7 @@
 ghost use Rattle.std.specs.Prelude.{◌≡◌, None, true};
 ghost use Rattle.cv_syntax_trees.specs.Declarations.{Declaration};
 ghost use Rattle.cv_syntax_trees.specs.Tree.{Tree};
-ghost use Rattle.cv_meaning.specs.Interpretation.{is_constant_of};
+ghost use Rattle.cv_group_rules.specs.Symbols.{symbols_of};
 ghost use Rattle.cv_group_rules.specs.Faults.{IsAccepted};
 ghost use Rattle.cv_scope_rules.specs.Phrases.{IsWellFormed};
 ghost use Rattle.cv_typing_rules.specs.Parts.{IsTypedGame};
@@ -19,7 +19,7 @@ pub fn indices_have_no_instance()
     ensures { (r : Reduction) → IsWellFormed r.scene.declarations r.scene.game →
         IsTypedGame r.scene.declarations r.scene.game →
         HasKnownNames r.scene.declarations r.scene.game → HasLeftForm r.equivalence →
-        IsAccepted (is_constant_of r.scene.declarations) r.equivalence →
+        IsAccepted (symbols_of r.scene.declarations) r.equivalence →
         first_refusal (matching r) ≡ None →
         has_free_indices (matching r) r.scene.game ≡ true }
 {}

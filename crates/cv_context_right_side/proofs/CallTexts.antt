@@ -3,12 +3,12 @@ use Rattle.std.proofs.Common.{◌≡◌, ℕ, ◌+◌, Bool, true, false, cond, 
 use Rattle.std.proofs.lemmas.Bool.{and_parts, both_ways, false_from_ne_true}
 use Rattle.std.specs.Prelude.{slice_get}
 use Rattle.cv_syntax_trees.specs.Tree.{Tree, Empty, Node, chain, first, second}
-use Rattle.cv_meaning.specs.Interpretation.{is_constant_of}
 use Rattle.cv_meaning.specs.Memory.{Indices}
 use Rattle.cv_meaning.specs.Tapes.{Tape, blank}
 use Rattle.cv_meaning_laws.proofs.Listed.{Has}
 use Rattle.cv_meaning_contexts.specs.Groups.{Group, Left, Right, function_at, functions_of, side_group}
 use Rattle.cv_meaning_contexts.specs.Sides.{Context}
+use Rattle.cv_group_rules.specs.Symbols.{symbols_of}
 use Rattle.cv_group_rules.specs.Faults.{SameShape}
 use Rattle.cv_group_rules.specs.Rules.{all_agree, functions_in, groups_agree, same_bound}
 use Rattle.cv_scope_rules.specs.Phrases.{Inputs, is_oracle_phrase}
@@ -138,10 +138,10 @@ module _ (r : Reduction) (c : NamedContext) (n : IsNamedFor r c) (tape : Tape) w
       record {
         function = λ w. (each_called c.g G K.game 0 K.functions k m).function;
         no_coins = right.coins;
-        body = λ at' h. accepted_fine (is_constant_of r.scene.declarations) K.equivalence s.call.position o.function (inlining_at T k.caller at' h) (callers_of cs) (chain s.call.instance.arguments)
+        body = λ at' h. accepted_fine (symbols_of r.scene.declarations) K.equivalence s.call.position o.function (inlining_at T k.caller at' h) (callers_of cs) (chain s.call.instance.arguments)
             n.form.accepted n.form.side o.there
             (subst (λ xs. are_as_many xs (chain s.call.instance.arguments) ≡ true) (sym o.arguments) (many s.call.function.arguments s.call.instance.arguments (n.sites_apt l s at).many))
-            (drawn_for (is_constant_of r.scene.declarations) K.equivalence K.game K.functions c.names c.labels c.game_role n.form.accepted n.form.side n.form.functions n.form.bare k m (inlining_at T k.caller at' h)
+            (drawn_for (symbols_of r.scene.declarations) K.equivalence K.game K.functions c.names c.labels c.game_role n.form.accepted n.form.side n.form.functions n.form.bare k m (inlining_at T k.caller at' h)
             (record {
               caller = refl;
               names = λ z x e. e;

@@ -6,6 +6,7 @@ use Rattle.cv_syntax_trees.specs.Tree.{Tree, second}
 use Rattle.cv_meaning.specs.Interpretation.{is_constant_of}
 use Rattle.cv_meaning.specs.Tapes.{blank}
 use Rattle.cv_meaning_contexts.specs.Groups.{Right, side_group}
+use Rattle.cv_group_rules.specs.Symbols.{symbols_of}
 use Rattle.cv_group_rules.specs.Faults.{IsAccepted}
 use Rattle.cv_scope_rules.specs.Phrases.{IsWellFormedContext, binds_none}
 use Rattle.cv_typing_runs.specs.Games.{HasArguments}
@@ -31,7 +32,7 @@ use Rattle.cv_context_right_side.specs.texts.SiteTexts.{HasSiteText}
 
 -- the equivalence is accepted and in the grammar of files, and its right side binds no constant
 pub record HasRightForm (ds : List Declaration) (c : NamedContext) : Type 0 where
-  pub accepted : IsAccepted (is_constant_of ds) c.context.equivalence
+  pub accepted : IsAccepted (symbols_of ds) c.context.equivalence
   pub side : is_right_side (second c.context.equivalence) ≡ true
   pub functions : AllByRecursion IsRightFunction (side_group Right c.context.equivalence).functions
   pub bare : names_stand_bare (second c.context.equivalence) ≡ true

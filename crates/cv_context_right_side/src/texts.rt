@@ -2,8 +2,9 @@
 // apart from the game's.
 
 ghost use Rattle.std.specs.Prelude.{◌≡◌, ℕ, List, length, slice_get, None, Some, true};
-ghost use Rattle.cv_meaning.specs.Interpretation.{Interpretation, is_constant_of};
+ghost use Rattle.cv_meaning.specs.Interpretation.{Interpretation};
 ghost use Rattle.cv_meaning.specs.Tapes.{Find_at};
+ghost use Rattle.cv_group_rules.specs.Symbols.{symbols_of};
 ghost use Rattle.cv_group_rules.specs.Faults.{IsAccepted};
 ghost use Rattle.cv_scope_rules.specs.Phrases.{IsWellFormed};
 ghost use Rattle.cv_typing_rules.specs.Parts.{IsTypedGame};
@@ -44,7 +45,7 @@ pub fn sites_of_games_are_apt()
         IsWellFormed r.scene.declarations r.scene.game →
         IsTypedGame r.scene.declarations r.scene.game →
         HasKnownNames r.scene.declarations r.scene.game → HasLeftForm r.equivalence →
-        IsAccepted (is_constant_of r.scene.declarations) r.equivalence →
+        IsAccepted (symbols_of r.scene.declarations) r.equivalence →
         first_refusal (matching r) ≡ None → AreAnswers r.scene (length (sites r)) r.answer →
         (l : ℕ) (s : Site) → slice_get (sites r) l ≡ Some s → IsSiteApt r s.replications l s }
 {}
@@ -56,7 +57,7 @@ pub fn sites_of_games_have_texts()
         IsWellFormed r.scene.declarations r.scene.game →
         IsTypedGame r.scene.declarations r.scene.game →
         HasKnownNames r.scene.declarations r.scene.game → HasLeftForm r.equivalence →
-        IsAccepted (is_constant_of r.scene.declarations) r.equivalence →
+        IsAccepted (symbols_of r.scene.declarations) r.equivalence →
         first_refusal (matching r) ≡ None → AreAnswers r.scene (length (sites r)) r.answer →
         (l : ℕ) (s : Site) → slice_get (sites r) l ≡ Some s → HasSiteText T s }
 {}

@@ -27,8 +27,8 @@ use Rattle.cv_bound.specs.closings.Queries.{first_unclosed, numbers_of, sum_in}
 use Rattle.cv_context.specs.products.Shapes.{Shape}
 use Rattle.cv_context.specs.products.ShapesInCode.{shape_in}
 use Rattle.cv_match_laws.specs.functions.Forms.{HasLeftForm}
+use Rattle.cv_group_rules.specs.Symbols.{symbols_of}
 use Rattle.cv_group_rules.specs.Faults.{IsAccepted}
-use Rattle.cv_meaning.specs.Interpretation.{is_constant_of}
 use Rattle.cv_typing_rules.specs.Signature.{declaration_of}
 use Rattle.cv_scene_view.specs.Kept.{scene_of}
 use Rattle.cv_steps_crypto.specs.Conditions.{equivalence_by}
@@ -442,7 +442,7 @@ room_after pool decls trees s t step u p few l = room_by pool decls trees s t st
 -- the equivalences of the file stay, in whichever game
 pub equivalences_kept : (fn now : Work) (root other : NodeId) → Grows fn.pool now.pool → now.decls ≡ fn.decls → All (IsBelow (length fn.pool.trees)) fn.decls.list → crypto.HasEquivalences (scene_of fn.pool fn.decls root) → crypto.HasEquivalences (scene_of now.pool now.decls other)
 equivalences_kept fn now root other g e b h =
-    subst (λ ds. (y : ℕ) (t : Tree) → equivalence_by (declaration_of ds y) ≡ Some t → HasLeftForm t × IsAccepted (is_constant_of ds) t)
+    subst (λ ds. (y : ℕ) (t : Tree) → equivalence_by (declaration_of ds y) ≡ Some t → HasLeftForm t × IsAccepted (symbols_of ds) t)
     (sym (ap (λ (v : DeclsView). declarations now.pool.trees v.list) e ∙ declarations_grown fn.pool now.pool fn.decls.list g b)) h
 
 -- the queries of a file, as trees

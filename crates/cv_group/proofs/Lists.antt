@@ -1,4 +1,4 @@
--- Constants and equivalences of a list of declarations, from a place on.
+-- Constants, functions and equivalences of a list of declarations, from a place on.
 use Rattle.std.proofs.Common.{◌≡◌, ℕ, zero, suc, ◌+◌, ◌<◌, ◌≤◌, Bool, true, false, ◌||◌, List, [], ◌∷◌, length, drop, refl, ap, sym, ◌∙◌, arith, subst, All, Option, Some, None, IfSome, option_and_then}
 use Rattle.std.specs.Prelude.{◌==◌, slice_get, if◌then◌else◌}
 use Rattle.std.proofs.lemmas.List.Elements.{All-head, All-tail}
@@ -17,10 +17,11 @@ use Rattle.cv_syntax_trees.specs.Tree.{Tree, Empty, Node}
 use Rattle.cv_syntax.specs.PoolTrees.{tree_at}
 use Rattle.cv_meaning.specs.Interpretation.{is_constant_of}
 use Rattle.cv_directory.specs.Live.{IsLive}
-use Rattle.cv_group.specs.Tables.{constant_in, equiv_of}
+use Rattle.cv_group.specs.Tables.{constant_in, equiv_of, function_in}
 use Rattle.cv_group.specs.Refusals.{IsRefusalOf, IsRefusalAt}
 use Rattle.cv_group.specs.declared.fault.GroupFault.{GroupFault}
 use Rattle.cv_group.specs.declared.fault.GroupFault.TheVariants.{LeftNotTerm, TwoIndices, ShapeDiffers, FreeName, Unread, OutOfMemory}
+use Rattle.cv_group_rules.specs.Symbols.{Symbols, is_function_of}
 use Rattle.cv_group_rules.specs.Faults.{GroupRule, LeftIsTerm, OneIndex, SameShape, BoundNames, ReadNames, equivalences_in, first_group_fault, group_fault, later, refused_or}
 use Rattle.cv_lists.proofs.Numbers.{suc_is_plus_one}
 
@@ -53,6 +54,29 @@ constants_past trees [] zero x l = refl
 constants_past trees [] (suc k) x l = refl
 constants_past trees (d ∷ ds) zero x l = absurd (omega arith)
 constants_past trees (d ∷ ds) (suc k) x l = constants_past trees ds k x (omega arith)
+
+-- the same of functions
+
+function_here : (trees : List KindTree) (d : Decl) (ds : List Declaration) (x : ℕ) → is_function_of (declared trees d ∷ ds) x ≡ (is_number (function_in (Some d)) x || is_function_of ds x)
+function_here trees (decl.Name id (class.Fun d) a r) ds x = refl
+function_here trees d ds x = refl
+
+functions_from : (trees : List KindTree) (ds : List Decl) (k x : ℕ) → k < length ds → is_function_of (declarations trees (drop k ds)) x ≡ (is_number (function_in (slice_get ds k)) x || is_function_of (declarations trees (drop (suc k) ds)) x)
+functions_from trees [] k x l = absurd (omega arith)
+functions_from trees (d ∷ ds) zero x l = function_here trees d (declarations trees ds) x
+functions_from trees (d ∷ ds) (suc k) x l = functions_from trees ds k x (omega arith)
+
+pub functions_step : (trees : List KindTree) (ds : List Decl) (k : ℕ) (o : Option ℕ) → k < length ds → o ≡ function_in (slice_get ds k) → (x : ℕ) → is_function_of (declarations trees (drop k ds)) x ≡ (is_number o x || is_function_of (declarations trees (drop (k + 1) ds)) x)
+functions_step trees ds k o l e x =
+    functions_from trees ds k x l
+    ∙ (ap (λ q. is_number q x || is_function_of (declarations trees (drop (suc k) ds)) x) (sym e)
+    ∙ ap (λ j. is_number o x || is_function_of (declarations trees (drop j ds)) x) (suc_is_plus_one k))
+
+pub functions_past : (trees : List KindTree) (ds : List Decl) (k x : ℕ) → length ds ≤ k → is_function_of (declarations trees (drop k ds)) x ≡ false
+functions_past trees [] zero x l = refl
+functions_past trees [] (suc k) x l = refl
+functions_past trees (d ∷ ds) zero x l = absurd (omega arith)
+functions_past trees (d ∷ ds) (suc k) x l = functions_past trees ds k x (omega arith)
 
 -- of a list all are live, so what stands at a place is
 pub live_at : (n : ℕ) (ds : List Decl) (k : ℕ) (o : Option Decl) → All (IsLive n) ds → o ≡ slice_get ds k → IfSome o (IsLive n)
@@ -124,27 +148,27 @@ pub none_before : (o : Option (ℕ × GroupRule)) → behind 0 o ≡ o
 none_before None = refl
 none_before (Some (k, r)) = let n : k + 0 ≡ k = omega arith in ap (λ j. Some (j, r)) n
 
-module _ (constants : ℕ → Bool) (t : Tree) (ts rest : List Tree) (n : ℕ) (total : Option (ℕ × GroupRule)) where
+module _ (symbols : Symbols) (t : Tree) (ts rest : List Tree) (n : ℕ) (total : Option (ℕ × GroupRule)) where
   -- one that is accepted
-  pub refused_later : rest ≡ t ∷ ts → group_fault constants t ≡ None → behind n (first_group_fault constants rest) ≡ total → behind (n + 1) (first_group_fault constants ts) ≡ total
+  pub refused_later : rest ≡ t ∷ ts → group_fault symbols t ≡ None → behind n (first_group_fault symbols rest) ≡ total → behind (n + 1) (first_group_fault symbols ts) ≡ total
   unfolding first_group_fault
   refused_later e f h =
-      one_later (first_group_fault constants ts)
-      ∙ (ap (λ o. behind n (refused_or o (first_group_fault constants ts))) (sym f)
-      ∙ (ap (λ l. behind n (first_group_fault constants l)) (sym e) ∙ h))
+      one_later (first_group_fault symbols ts)
+      ∙ (ap (λ o. behind n (refused_or o (first_group_fault symbols ts))) (sym f)
+      ∙ (ap (λ l. behind n (first_group_fault symbols l)) (sym e) ∙ h))
     where
       one_later : (o : Option (ℕ × GroupRule)) → behind (n + 1) o ≡ behind n (later o)
       one_later None = refl
       one_later (Some (k, r)) = let m : k + (n + 1) ≡ suc k + n = omega arith in ap (λ j. Some (j, r)) m
 
-  refused_here : (r : GroupRule) → rest ≡ t ∷ ts → group_fault constants t ≡ Some r → behind n (first_group_fault constants rest) ≡ total → total ≡ Some (n + 1, r)
+  refused_here : (r : GroupRule) → rest ≡ t ∷ ts → group_fault symbols t ≡ Some r → behind n (first_group_fault symbols rest) ≡ total → total ≡ Some (n + 1, r)
   unfolding first_group_fault
   refused_here r e f h =
       let m : 1 + n ≡ n + 1 = omega arith in
-      sym h ∙ (ap (λ l. behind n (first_group_fault constants l)) e ∙ (ap (λ o. behind n (refused_or o (first_group_fault constants ts))) f ∙ ap (λ j. Some (j, r)) m))
+      sym h ∙ (ap (λ l. behind n (first_group_fault symbols l)) e ∙ (ap (λ o. behind n (refused_or o (first_group_fault symbols ts))) f ∙ ap (λ j. Some (j, r)) m))
 
   -- one that is not
-  pub refusal_at : (x : GroupFault) → rest ≡ t ∷ ts → behind n (first_group_fault constants rest) ≡ total → IsRefusalOf (group_fault constants t) x → IsRefusalAt total (n + 1) x
+  pub refusal_at : (x : GroupFault) → rest ≡ t ∷ ts → behind n (first_group_fault symbols rest) ≡ total → IsRefusalOf (group_fault symbols t) x → IsRefusalAt total (n + 1) x
   refusal_at LeftNotTerm e h f = refused_here LeftIsTerm e f h
   refusal_at TwoIndices e h f = refused_here OneIndex e f h
   refusal_at ShapeDiffers e h f = refused_here SameShape e f h
@@ -152,6 +176,6 @@ module _ (constants : ℕ → Bool) (t : Tree) (ts rest : List Tree) (n : ℕ) (
   refusal_at Unread e h f = refused_here ReadNames e f h
   refusal_at OutOfMemory e h f = tt
 
-pub refused_none : (constants : ℕ → Bool) (rest : List Tree) (n : ℕ) (total : Option (ℕ × GroupRule)) → rest ≡ [] → behind n (first_group_fault constants rest) ≡ total → total ≡ None
+pub refused_none : (symbols : Symbols) (rest : List Tree) (n : ℕ) (total : Option (ℕ × GroupRule)) → rest ≡ [] → behind n (first_group_fault symbols rest) ≡ total → total ≡ None
 unfolding first_group_fault
-refused_none constants rest n total e h = sym (ap (λ l. behind n (first_group_fault constants l)) (sym e) ∙ h)
+refused_none symbols rest n total e h = sym (ap (λ l. behind n (first_group_fault symbols l)) (sym e) ∙ h)

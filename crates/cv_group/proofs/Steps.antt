@@ -3,6 +3,7 @@ use Rattle.std.proofs.Common.{◌≡◌, ℕ, Bool, false, ◌||◌, ap}
 use Rattle.cv_syntax_trees.specs.declared.head.Head.{Head}
 use Rattle.cv_syntax_trees.specs.Tree.{Tree, Empty, Node}
 use Rattle.cv_group_rules.specs.Rules.{defines, defines_here, names_here, names_of, reads}
+use Rattle.cv_group_rules.specs.Symbols.{Symbols}
 use Rattle.cv_group_rules.specs.Faults.{group_fault}
 use Rattle.cv_group.specs.Tables.{function_names, sides_fault}
 
@@ -31,6 +32,6 @@ unfolding reads
 reads_end t e x = ap (λ s. reads s x) e
 
 -- an equivalence, by its sides
-pub group_sides : (constants : ℕ → Bool) (t : Tree) (h : Head) (a b : Tree) → t ≡ Node h a b → group_fault constants t ≡ sides_fault constants a b
+pub group_sides : (symbols : Symbols) (t : Tree) (h : Head) (a b : Tree) → t ≡ Node h a b → group_fault symbols t ≡ sides_fault symbols a b
 unfolding group_fault
-group_sides constants t h a b e = ap (group_fault constants) e
+group_sides symbols t h a b e = ap (group_fault symbols) e

@@ -2,20 +2,19 @@ ghost use Rattle.std.specs.Prelude.{◌≡◌, ◌<◌, All, length, option_and_
 ghost use Rattle.cv_pool.specs.Nodes.{ChildBelow};
 ghost use Rattle.cv_syntax.specs.Classes.{equiv_in};
 ghost use Rattle.cv_syntax.specs.Declarations.{declarations};
-ghost use Rattle.cv_syntax.specs.NameSets.{is_in};
 ghost use Rattle.cv_syntax.specs.PoolTrees.{tree_at};
-ghost use Rattle.cv_meaning.specs.Interpretation.{is_constant_of};
 ghost use Rattle.cv_directory.specs.Live.{IsLive};
-ghost use Rattle.cv_group.specs.Tables.{equiv_of, sides_fault};
+ghost use Rattle.cv_group.specs.Tables.{equiv_of, sides_fault, symbols_in};
 ghost use Rattle.cv_group.specs.Refusals.{IsRefusalAt, IsRefusalOf};
 ghost use Rattle.cv_group_rules.specs.Faults.{equivalences_in, first_group_fault, group_fault};
+ghost use Rattle.cv_group_rules.specs.Symbols.{symbols_of};
 
 use crate::bodies::Around;
-use crate::constants::constants_of;
 use crate::fault::{EquivFault, GroupFault};
 use crate::reads::are_read;
 use crate::shapes::{bodies_are_terms, have_one_index, shapes_agree};
 use crate::sides::side_is_bound;
+use crate::symbols::symbols_of;
 use cv_syntax::children::{first_of, second_of};
 use cv_syntax::{Decl, Decls, NameId, NodeId, Pool, Work, read_node};
 use std::alloc::Global;
@@ -30,11 +29,11 @@ fn check_sides(
 ) -> Result<(), GroupFault>
     requires left { ChildBelow (length pool.now.trees) left }
     requires right { ChildBelow (length pool.now.trees) right }
-    ensures none { OnOk result (sides_fault (is_in around.old.constants)
+    ensures none { OnOk result (sides_fault (symbols_in around.old.symbols)
         (tree_at pool.now.trees left) (tree_at pool.now.trees right) ≡ None) }
-    ensures fault { IfErr result (IsRefusalOf (sides_fault (is_in around.old.constants)
+    ensures fault { IfErr result (IsRefusalOf (sides_fault (symbols_in around.old.symbols)
         (tree_at pool.now.trees left) (tree_at pool.now.trees right))) }
-    ensures constants { around.new.constants ≡ around.old.constants }
+    ensures symbols { around.new.symbols ≡ around.old.symbols }
 {
     if !bodies_are_terms(pool, second_of(pool, left)) {
         return Err(GroupFault::LeftNotTerm);
@@ -57,7 +56,7 @@ fn check_sides(
     Ok(())
 }
 
-/// Whether an equivalence keeps the rules, around which stand the constants of its file.
+/// Whether an equivalence keeps the rules, around which stands what its file declares.
 fn check_tree(
     alloc: Global,
     pool: &Pool,
@@ -65,11 +64,11 @@ fn check_tree(
     tree: NodeId,
 ) -> Result<(), GroupFault>
     requires { tree.0 < length pool.now.trees }
-    ensures none { OnOk result (group_fault (is_in around.old.constants)
+    ensures none { OnOk result (group_fault (symbols_in around.old.symbols)
         (tree_at pool.now.trees (Some tree)) ≡ None) }
-    ensures fault { IfErr result (IsRefusalOf (group_fault (is_in around.old.constants)
+    ensures fault { IfErr result (IsRefusalOf (group_fault (symbols_in around.old.symbols)
         (tree_at pool.now.trees (Some tree)))) }
-    ensures constants { around.new.constants ≡ around.old.constants }
+    ensures symbols { around.new.symbols ≡ around.old.symbols }
 {
     let sides = read_node(pool, tree);
     check_sides(alloc, pool, around, sides.first, sides.second)
@@ -80,14 +79,14 @@ pub fn check(alloc: Global, work: &Work, equiv: NameId) -> Result<(), GroupFault
     requires declared { All (IsLive (length work.now.pool.trees)) work.now.decls.list }
     requires there { IsSome (equiv_in work.now.decls.list equiv.0) }
     ensures none { OnOk result (group_fault
-        (is_constant_of (declarations work.now.pool.trees work.now.decls.list))
+        (symbols_of (declarations work.now.pool.trees work.now.decls.list))
         (tree_at work.now.pool.trees (equiv_in work.now.decls.list equiv.0)) ≡ None) }
     ensures fault { IfErr result (IsRefusalOf (group_fault
-        (is_constant_of (declarations work.now.pool.trees work.now.decls.list))
+        (symbols_of (declarations work.now.pool.trees work.now.decls.list))
         (tree_at work.now.pool.trees (equiv_in work.now.decls.list equiv.0)))) }
 {
-    let constants = constants_of(alloc, &work.pool, &work.decls)?;
-    let mut around = Around::new(alloc, constants);
+    let symbols = symbols_of(alloc, &work.pool, &work.decls)?;
+    let mut around = Around::new(alloc, symbols);
     match work.decls.equiv(equiv) {
         Some(tree) => check_tree(alloc, &work.pool, &mut around, tree),
         None => Ok(()),
@@ -108,14 +107,14 @@ fn equiv_at(decls: &Decls, k: u32) -> Option<NodeId>
 pub fn check_all(alloc: Global, work: &Work) -> Result<(), EquivFault>
     requires { All (IsLive (length work.now.pool.trees)) work.now.decls.list }
     ensures none { OnOk result (first_group_fault
-        (is_constant_of (declarations work.now.pool.trees work.now.decls.list))
+        (symbols_of (declarations work.now.pool.trees work.now.decls.list))
         (equivalences_in (declarations work.now.pool.trees work.now.decls.list)) ≡ None) }
     ensures fault { IfErr result (λ e. IsRefusalAt (first_group_fault
-        (is_constant_of (declarations work.now.pool.trees work.now.decls.list))
+        (symbols_of (declarations work.now.pool.trees work.now.decls.list))
         (equivalences_in (declarations work.now.pool.trees work.now.decls.list))) e.equiv e.fault) }
 {
-    let constants = constants_of(alloc, &work.pool, &work.decls)?;
-    let mut around = Around::new(alloc, constants);
+    let symbols = symbols_of(alloc, &work.pool, &work.decls)?;
+    let mut around = Around::new(alloc, symbols);
     let mut equiv = 0;
     'decls: for k in 0..work.decls.len() {
         let Some(tree) = equiv_at(&work.decls, k) else {

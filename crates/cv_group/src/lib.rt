@@ -3,12 +3,12 @@
 
 pub mod bodies;
 mod checking;
-mod constants;
 mod fault;
 mod names;
 mod reads;
 pub mod shapes;
 mod sides;
+mod symbols;
 
 pub use checking::{check, check_all};
 pub use fault::{EquivFault, GroupFault};

@@ -1,9 +1,8 @@
 ghost use Rattle.std.specs.Prelude.{◌≡◌, [], length, IfOk, OnOk};
 ghost use Rattle.cv_pool.specs.Nodes.{ChildBelow};
-ghost use Rattle.cv_syntax.specs.NameSets.{is_in};
 ghost use Rattle.cv_syntax_trees.specs.Tree.{first, second};
 ghost use Rattle.cv_syntax.specs.PoolTrees.{tree_at};
-ghost use Rattle.cv_group.specs.Tables.{around_by};
+ghost use Rattle.cv_group.specs.Tables.{around_by, symbols_in};
 ghost use Rattle.cv_group.specs.bodies.Levels.{around_of, is_paired};
 ghost use Rattle.cv_group_rules.specs.Rules as rule;
 ghost use Rattle.cv_group_rules.specs.Rules.{names_of as names_in};
@@ -25,7 +24,7 @@ fn enter_side(
     requires { ChildBelow (length pool.now.trees) functions }
     ensures names { OnOk result (is_paired around.new.names
         ≡ names_in (tree_at pool.now.trees functions)) }
-    ensures constants { around.new.constants ≡ around.old.constants }
+    ensures symbols { around.new.symbols ≡ around.old.symbols }
 {
     around.names = names_of(alloc, pool, functions)?;
     Ok(())
@@ -42,9 +41,9 @@ fn enter_function(
     requires key { ChildBelow (length pool.now.trees) key }
     requires function { ChildBelow (length pool.now.trees) function }
     ensures around { OnOk result (around_of around.new
-        ≡ around_by (is_in around.old.constants) (is_paired around.old.names)
+        ≡ around_by (symbols_in around.old.symbols) (is_paired around.old.names)
         (tree_at pool.now.trees key) (tree_at pool.now.trees function)) }
-    ensures constants { around.new.constants ≡ around.old.constants }
+    ensures symbols { around.new.symbols ≡ around.old.symbols }
     ensures names { around.new.names ≡ around.old.names }
 {
     let taken = first_of(pool, function);
@@ -64,10 +63,10 @@ fn function_is_bound(
     requires key { ChildBelow (length pool.now.trees) key }
     requires function { ChildBelow (length pool.now.trees) function }
     ensures bound { IfOk result (λ yes. yes ≡ rule.is_bound
-        (around_by (is_in around.old.constants) (is_paired around.old.names)
+        (around_by (symbols_in around.old.symbols) (is_paired around.old.names)
         (tree_at pool.now.trees key) (tree_at pool.now.trees function)) []
         (second (tree_at pool.now.trees function))) }
-    ensures constants { around.new.constants ≡ around.old.constants }
+    ensures symbols { around.new.symbols ≡ around.old.symbols }
     ensures names { around.new.names ≡ around.old.names }
 {
     enter_function(alloc, pool, around, key, function)?;
@@ -85,9 +84,9 @@ fn bodies_are_bound(
     requires key { ChildBelow (length pool.now.trees) key }
     requires functions { ChildBelow (length pool.now.trees) functions }
     ensures bound { IfOk result (λ yes. yes ≡ rule.each_function
-        (λ f. rule.is_bound (around_by (is_in around.old.constants) (is_paired around.old.names)
+        (λ f. rule.is_bound (around_by (symbols_in around.old.symbols) (is_paired around.old.names)
         (tree_at pool.now.trees key) f) [] (second f)) (tree_at pool.now.trees functions)) }
-    ensures constants { around.new.constants ≡ around.old.constants }
+    ensures symbols { around.new.symbols ≡ around.old.symbols }
     ensures names { around.new.names ≡ around.old.names }
 {
     let mut at = functions;
@@ -109,9 +108,9 @@ pub fn side_is_bound(
     group: Option<NodeId>,
 ) -> Result<bool, AllocError>
     requires { ChildBelow (length pool.now.trees) group }
-    ensures bound { IfOk result (λ yes. yes ≡ rule.side_is_bound (is_in around.old.constants)
+    ensures bound { IfOk result (λ yes. yes ≡ rule.side_is_bound (symbols_in around.old.symbols)
         (first (tree_at pool.now.trees group)) (second (tree_at pool.now.trees group))) }
-    ensures constants { around.new.constants ≡ around.old.constants }
+    ensures symbols { around.new.symbols ≡ around.old.symbols }
 {
     let functions = second_of(pool, group);
     enter_side(alloc, pool, around, functions)?;

@@ -1,3 +1,4 @@
+pub mod Symbols
 pub mod Rules
 pub mod Faults
 pub mod Worked

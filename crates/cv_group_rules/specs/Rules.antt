@@ -9,6 +9,7 @@ use Rattle.cv_syntax_trees.specs.Tree.{Tree, Empty, Node, first, second, bound_n
 use Rattle.cv_syntax.specs.NameSets.{is_one_of}
 use Rattle.cv_meaning_contexts.specs.Groups.{Which, Left, Right, side_tree, bound_of}
 use Rattle.cv_meaning_contexts.specs.Made.{has_cell_at}
+use Rattle.cv_group_rules.specs.Symbols.{Symbols}
 
 -- a side's key, and its functions
 abbrev pub key_in : Which → Tree → Tree
@@ -97,7 +98,7 @@ are_distinct (x ∷ xs) = not (is_one_of xs x) && are_distinct xs
 abbrev pub shapes_agree : Tree → Bool
 shapes_agree t = groups_agree (first t) (second t) && (are_distinct (bounds (functions_in Left t)) && are_distinct (bounds (functions_in Right t)))
 
--- What a body names is bound there.
+-- What a body names is bound there, and what it calls is declared.
 
 -- what a body binds on the way to a node
 pub data Level : Type 0 where
@@ -108,6 +109,7 @@ pub data Level : Type 0 where
 -- what a body may name besides
 pub record Around : Type 0 where
   pub outside : ℕ → Bool  -- constants, the key, and what is chosen for the function and its arguments
+  pub callable : ℕ → Bool  -- the functions of the file
   pub bound : ℕ  -- of the function
   pub names : ℕ → ℕ → Bool  -- what the functions of the side with a bound bind
 
@@ -201,6 +203,7 @@ has_own_cell indices cells = false
 abbrev pub names_bound : Around → List Level → Head → Tree → Tree → Bool
 names_bound o ls (Leaf x) a b = is_readable o ls x
 names_bound o ls (Read v) a b = is_asked_at ls v (index_in a)
+names_bound o ls (Apply f) a b = o.callable f
 names_bound o ls Branch a b = has_own_cell a (first b) && are_cells o (ls ++ found a (first b)) (first b)
 names_bound o ls h a b = true
 
@@ -214,6 +217,19 @@ behind h a b = []
 unfoldable pub is_bound : Around → List Level → Tree → Bool
 is_bound o ls Empty = true
 is_bound o ls (Node h a b) = names_bound o ls h a b && (is_bound o ls a && is_bound o (ls ++ behind h a b) b)
+
+-- the functions that a tree calls, and that the bodies of a side call
+abbrev pub calls_here : Head → ℕ → Bool
+calls_here (Apply g) f = g == f
+calls_here h f = false
+
+unfoldable pub calls : Tree → ℕ → Bool
+calls Empty f = false
+calls (Node h a b) f = calls_here h f || (calls a f || calls b f)
+
+unfoldable pub bodies_call : Tree → ℕ → Bool
+bodies_call Empty f = false
+bodies_call (Node h g more) f = calls (second g) f || bodies_call more f
 
 -- the names that a body defines, and those that a function binds
 abbrev pub defines_here : Head → ℕ → Bool
@@ -235,19 +251,20 @@ unfoldable pub names_of : Tree → ℕ → ℕ → Bool
 names_of Empty n x = false
 names_of (Node h f more) n x = ((bound_of (first f) == n) && binds_name f x) || names_of more n x
 
-abbrev pub around : (constants : ℕ → Bool) → (key functions f : Tree) → Around
-around constants key functions f = record {
-  outside = λ x. constants x || (is_one_of (bound_names key) x || takes (first f) x);
+abbrev pub around : Symbols → (key functions f : Tree) → Around
+around symbols key functions f = record {
+  outside = λ x. symbols.constant x || (is_one_of (bound_names key) x || takes (first f) x);
+  callable = symbols.function;
   bound = bound_of (first f);
   names = names_of functions;
 }
 
-abbrev pub side_is_bound : (constants : ℕ → Bool) → (key functions : Tree) → Bool
-side_is_bound constants key functions = each_function (λ f. is_bound (around constants key functions f) [] (second f)) functions
+abbrev pub side_is_bound : Symbols → (key functions : Tree) → Bool
+side_is_bound symbols key functions = each_function (λ f. is_bound (around symbols key functions f) [] (second f)) functions
 
-abbrev pub names_are_bound : (constants : ℕ → Bool) → Tree → Bool
-names_are_bound constants t =
-    side_is_bound constants (key_in Left t) (functions_in Left t) && side_is_bound constants (key_in Right t) (functions_in Right t)
+abbrev pub names_are_bound : Symbols → Tree → Bool
+names_are_bound symbols t =
+    side_is_bound symbols (key_in Left t) (functions_in Left t) && side_is_bound symbols (key_in Right t) (functions_in Right t)
 
 -- Each body on the left reads its key, what is chosen for its function, and the function's arguments. Of two of these with one
 -- name the newest is meant, so an older one isn't read.

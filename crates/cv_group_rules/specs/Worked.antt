@@ -1,14 +1,15 @@
 -- Worked equivalences.
 -- Names are numbers: 20 to 29 are functions with their indices and bounds, 30 is a key, 31 to 35 are variables, 36 and 37 are
--- indices of finds. 40 and 41 are functions, 6 is a constant.
-use Rattle.std.specs.Prelude.{ℕ, Bool, ◌==◌, List, [], ◌∷◌}
-use Rattle.cv_syntax_trees.specs.declared.head.Head.TheVariants.{New, Let, Yes, No, Bound, Single}
-use Rattle.cv_syntax_trees.specs.Tree.{Tree, Empty, Node, lone}
-use Rattle.cv_syntax_trees.specs.Builders.{leaf, read, branch, find}
-use Rattle.cv_meaning_contexts.specs.Worked.{any_put, apply, argument_at, equal, equivalence, group, oracle, test}
+-- indices of finds. 40 and 41 are functions, 6 is a constant, 42 is nothing that is declared.
+use Rattle.std.specs.Prelude.{ℕ, ◌==◌, ◌||◌, List, [], ◌∷◌}
+use Rattle.cv_syntax_trees.specs.declared.head.Head.TheVariants.{Let, Yes, No, Bound}
+use Rattle.cv_syntax_trees.specs.Tree.{Tree, Node, lone}
+use Rattle.cv_syntax_trees.specs.Builders.{leaf, branch, find}
+use Rattle.cv_group_rules.specs.Symbols.{Symbols}
+use Rattle.cv_meaning_contexts.specs.Worked.{apply, equivalence, group, oracle}
 
-abbrev pub is_six : ℕ → Bool
-is_six x = x == 6
+abbrev pub file_symbols : Symbols
+file_symbols = record { constant = λ x. x == 6; function = λ f. (f == 6) || ((f == 40) || (f == 41)) }
 
 -- 22: !23<=24 (31: 5) -> body
 abbrev pub putting : Tree → Tree
@@ -33,6 +34,10 @@ search cells condition body = find 1 (branch ((36, 24) ∷ []) cells condition b
 -- a body that defines 33 by `let`, and then goes on
 abbrev pub defining : Tree → Tree
 defining rest = Node (Let 33 0) (lone Yes) rest
+
+-- a call of what nothing declares
+abbrev pub undeclared : Tree → Tree
+undeclared m = apply 42 (m ∷ [])
 
 -- one function alone on the left, and on the right
 abbrev pub alone : Tree → Tree → Tree

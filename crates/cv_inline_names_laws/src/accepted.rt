@@ -1,6 +1,6 @@
 // Laws of accepted equivalences: their right bodies can stand in a game.
 
-ghost use Rattle.std.specs.Prelude.{◌≡◌, ℕ, Bool, List, Some, [], ◌∷◌, true};
+ghost use Rattle.std.specs.Prelude.{◌≡◌, ℕ, List, Some, [], ◌∷◌, true};
 ghost use Rattle.cv_syntax_trees.specs.Tree.{Tree, second};
 ghost use Rattle.cv_meaning_contexts.specs.Groups.{Function, Right, function_at, side_group};
 ghost use Rattle.cv_meaning_contexts.specs.Worked.{
@@ -8,6 +8,7 @@ ghost use Rattle.cv_meaning_contexts.specs.Worked.{
   encryption_equivalence,
   guess_equivalence,
 };
+ghost use Rattle.cv_group_rules.specs.Symbols.{Symbols};
 ghost use Rattle.cv_group_rules.specs.Faults.{IsAccepted};
 ghost use Rattle.cv_group_rules.specs.Rules.{functions_in};
 ghost use Rattle.cv_inline.specs.bodies.Accepted.{IsFineCall};
@@ -19,12 +20,12 @@ ghost use Rattle.cv_inline_names_laws.specs.accepted.RightBodies.{are_as_many, i
 /// Each function of the right side of an accepted equivalence, in the grammar of files, has a body that can stand
 /// in a game behind as many arguments as it takes, wherever it is inlined with what is drawn for its sites.
 pub fn accepted_bodies_are_fine()
-    ensures { (constants : ℕ → Bool) (equivalence : Tree) (k : ℕ) (f : Function) (p : Inlining)
-        (callers : List Caller) (arguments : Tree) → IsAccepted constants equivalence →
+    ensures { (symbols : Symbols) (equivalence : Tree) (k : ℕ) (f : Function) (p : Inlining)
+        (callers : List Caller) (arguments : Tree) → IsAccepted symbols equivalence →
         is_right_side (second equivalence) ≡ true →
         function_at (side_group Right equivalence) k ≡ Some f →
         are_as_many f.arguments arguments ≡ true →
-        IsDrawnFor constants (functions_in Right equivalence) f p callers →
+        IsDrawnFor symbols.constant (functions_in Right equivalence) f p callers →
         IsFineCall p callers (((side_group Right equivalence).key.0, TheKey) ∷ [])
         f.arguments arguments f.body }
 {}

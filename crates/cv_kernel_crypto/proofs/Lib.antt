@@ -10,3 +10,4 @@ pub mod Rooms
 pub mod Outcomes
 pub mod Answers
 pub mod Shaping
+pub mod Kept

@@ -5,7 +5,7 @@ use Rattle.cv_syntax.specs.declared.work.BuildError.TheVariants as build
 use Rattle.cv_syntax_trees.specs.Tree.{Tree, depth, size}
 use Rattle.cv_syntax.specs.PoolTrees.{tree_at}
 use Rattle.cv_bound.specs.declared.cost.Cost.TheVariants as bound
-use Rattle.cv_meaning.specs.Interpretation.{is_constant_of}
+use Rattle.cv_group_rules.specs.Symbols.{symbols_of}
 use Rattle.cv_group_rules.specs.Faults.{IsAccepted}
 use Rattle.cv_match_laws.specs.functions.Forms.{HasLeftForm}
 use Rattle.cv_meaning_contexts.specs.Inlined.{Drawn}
@@ -26,7 +26,7 @@ use Rattle.cv_kernel_crypto.specs.declared.fault.CryptoFault.TheVariants as cryp
 
 -- the equivalences of the file are accepted, and their left sides are in the grammar of files
 abbrev pub HasEquivalences : Scene → Type 0
-HasEquivalences s = (e : ℕ) (t : Tree) → equivalence_of s e ≡ Some t → HasLeftForm t × IsAccepted (is_constant_of s.declarations) t
+HasEquivalences s = (e : ℕ) (t : Tree) → equivalence_of s e ≡ Some t → HasLeftForm t × IsAccepted (symbols_of s.declarations) t
 
 -- the context of a step
 pub record IsContext (s : Scene) (e x : ℕ) (context : Tree) : Type 0 where

@@ -1,5 +1,5 @@
 -- How a cryptographic step is refused by the code.
-use Rattle.std.specs.Prelude.{◌≡◌, ℕ, Bool, false, true, is_some, Option, Some}
+use Rattle.std.specs.Prelude.{◌≡◌, ℕ, Bool, false, true, Option, Some}
 use Rattle.cv_pool.specs.declared.pool.PoolError.{PoolError}
 use Rattle.cv_pool.specs.declared.pool.PoolError.TheVariants as pool
 use Rattle.cv_syntax.specs.declared.work.BuildError.TheVariants as build
@@ -34,8 +34,8 @@ IsNoNext is_next (crypto.Refused f) = (f ≡ record { condition = 9; place = 0 }
 IsNoNext is_next (crypto.Build build.OutOfMemory) = Unit {0}
 IsNoNext is_next (crypto.Build e) = ⊥
 
--- the queries may not be asked, where this is the first of them that may not
-abbrev pub IsNotAsked : Option ℕ → CryptoFault → Type 0
-IsNotAsked first (crypto.Refused f) = (f ≡ record { condition = 9; place = 0 }) × (is_some first ≡ true)
-IsNotAsked first (crypto.Build build.OutOfMemory) = Unit {0}
-IsNotAsked first (crypto.Build e) = ⊥
+-- a query asks for the secrecy of a name without values, where this says so: condition 9
+abbrev pub IsNotKept : Bool → CryptoFault → Type 0
+IsNotKept asks (crypto.Refused f) = (f ≡ record { condition = 9; place = 0 }) × (asks ≡ true)
+IsNotKept asks (crypto.Build build.OutOfMemory) = Unit {0}
+IsNotKept asks (crypto.Build e) = ⊥

@@ -1,51 +1,98 @@
-ghost use Rattle.std.specs.Prelude.{◌≡◌, ◌<◌, ◌^◌, All, IfErr, IfOk, IfSome, OnOk, Some, length, true};
+ghost use Rattle.std.specs.Prelude.{◌≡◌, ◌<◌, ◌^◌, All, IfErr, IfOk, IfSome, OnOk, Some, false, length, true};
 ghost use Rattle.cv_syntax.specs.Declarations.{declarations};
 ghost use Rattle.cv_syntax_trees.specs.Tree.{size};
 ghost use Rattle.cv_syntax.specs.PoolTrees.{tree_at};
 ghost use Rattle.cv_directory.specs.Definitions.{entries_of, large_in};
 ghost use Rattle.cv_directory.specs.Live.{IsLive};
 ghost use Rattle.cv_directory_sorts.specs.Sites.{sites_of};
-ghost use Rattle.cv_directory.specs.Tables.{entries_in};
+ghost use Rattle.cv_directory.specs.Tables.{entries_in, seen};
 ghost use Rattle.cv_typing_rules.specs.Signature.{OfGame};
 ghost use Rattle.cv_typing.specs.Tables.{arrays_of, directory_in};
 ghost use Rattle.cv_meaning.specs.Queries.{queries_in};
-ghost use Rattle.cv_query_form.specs.Tests.{first_refused};
+ghost use Rattle.cv_steps_crypto.specs.Secrets as secrets;
 ghost use Rattle.cv_steps_crypto.specs.Steps.{is_next};
-ghost use Rattle.cv_kernel_crypto.specs.Faults.{IsNoNext, IsNotAsked};
+ghost use Rattle.cv_kernel_crypto.specs.Faults.{IsNoNext, IsNotKept};
 
 use crate::fault::{CryptoFault, refused};
 use crate::games::{Next, next_at};
 use crate::sorts::has_declared_sorts;
 use cv_bound::Cost;
-use cv_query_form::{QueryFault, check};
-use cv_syntax::{BuildError, Game, NodeId, Work};
+use cv_directory::Directory;
+use cv_query_form::has_values;
+use cv_scene_view::names;
+use cv_syntax::{BuildError, Game, Head, NodeId, Pool, Work, query_at, read_node};
 use cv_typing::Arrays;
 use std::alloc::Global;
 
-/// Whether the queries of the file may be asked of a game.
-fn check_queries(alloc: Global, work: &Work, game: Game, arrays: &Arrays) -> Result<(), CryptoFault>
+/// Whether a game has a name, but not as that of a variable with values of a type.
+#[tactic(auto, using(crate::proofs::Kept::game_values))]
+fn is_without_values(pool: &Pool, game: NodeId, sites: &Directory, x: u32) -> bool
+    requires live { game.0 < length pool.now.trees }
+    requires sites { seen sites.now ≡ sites_of (tree_at pool.now.trees (Some game)) }
+    ensures { result ≡ secrets.is_without_values (tree_at pool.now.trees (Some game)) x }
+{
+    !has_values(sites, x) && names(pool, x, Some(game))
+}
+
+/// Whether a query asks for the secrecy of such a name.
+fn asks_without_values(pool: &Pool, game: NodeId, sites: &Directory, query: NodeId) -> bool
+    requires live { game.0 < length pool.now.trees }
+    requires sites { seen sites.now ≡ sites_of (tree_at pool.now.trees (Some game)) }
+    requires query { query.0 < length pool.now.trees }
+    ensures { result ≡ secrets.asks_without_values (tree_at pool.now.trees (Some game))
+        (tree_at pool.now.trees (Some query)) }
+{
+    match read_node(pool, query).head {
+        Head::Secret(x) => is_without_values(pool, game, sites, x),
+        Head::SecretOnce(x) => is_without_values(pool, game, sites, x),
+        _ => false,
+    }
+}
+
+/// Whether a query of the file does.
+fn some_asks_without_values(work: &Work, game: NodeId, sites: &Directory) -> bool
+    requires live { game.0 < length work.now.pool.trees }
+    requires declared { All (IsLive (length work.now.pool.trees)) work.now.decls.list }
+    requires sites { seen sites.now ≡ sites_of (tree_at work.now.pool.trees (Some game)) }
+    ensures { result
+        ≡ secrets.some_asks_without_values (tree_at work.now.pool.trees (Some game))
+        (queries_in (declarations work.now.pool.trees work.now.decls.list)) }
+{
+    'decls: for k in 0..work.decls.len() {
+        let Some(query) = query_at(&work.decls, k) else {
+            continue;
+        };
+        if asks_without_values(&work.pool, game, sites, query) {
+            return true;
+        }
+    }
+    false
+}
+
+/// Whether no query of the file asks for the secrecy of a name that the game has without values.
+fn check_queries(work: &Work, game: Game, arrays: &Arrays) -> Result<(), CryptoFault>
     requires live { game.root.0 < length work.now.pool.trees }
     requires declared { All (IsLive (length work.now.pool.trees)) work.now.decls.list }
     requires arrays { arrays_of arrays.now
         ≡ OfGame (sites_of (tree_at work.now.pool.trees (Some game.root))) }
-    ensures none { OnOk result (first_refused (tree_at work.now.pool.trees (Some game.root))
-        (queries_in (declarations work.now.pool.trees work.now.decls.list)) ≡ None) }
-    ensures fault { IfErr result (IsNotAsked
-        (first_refused (tree_at work.now.pool.trees (Some game.root))
+    ensures none { OnOk result (secrets.some_asks_without_values
+        (tree_at work.now.pool.trees (Some game.root))
+        (queries_in (declarations work.now.pool.trees work.now.decls.list)) ≡ false) }
+    ensures fault { IfErr result (IsNotKept (secrets.some_asks_without_values
+        (tree_at work.now.pool.trees (Some game.root))
         (queries_in (declarations work.now.pool.trees work.now.decls.list)))) }
 {
     let Arrays::OfGame(directory) = arrays else {
         return Err(CryptoFault::Build(BuildError::OutOfMemory));
     };
-    match check(alloc, work, game, directory) {
-        Ok(()) => Ok(()),
-        Err(QueryFault::Query(_)) => Err(refused(9, 0)),
-        Err(QueryFault::OutOfMemory) => Err(CryptoFault::Build(BuildError::OutOfMemory)),
+    if some_asks_without_values(work, game.root, directory) {
+        return Err(refused(9, 0));
     }
+    Ok(())
 }
 
 /// The game at a node, as a step leads to it that has a cost: where it is a game, the types and parameters that it names are
-/// declared, and the queries of the file may be asked of it.
+/// declared, and no query of the file asks for the secrecy of a name that it has without values.
 pub(crate) fn tested(
     alloc: Global,
     work: &Work,
@@ -74,7 +121,7 @@ pub(crate) fn tested(
     if !has_declared_sorts(&work.pool, &work.decls, Some(root)) {
         return Err(refused(9, 0));
     }
-    check_queries(alloc, work, next.game, &next.arrays)?;
+    check_queries(work, next.game, &next.arrays)?;
     next.cost = cost;
     Ok(next)
 }

@@ -39,7 +39,7 @@ two_sites_judged = (refl, tt)
 
 pub secrets_judged : AllByRecursion Fails secret_cases
 unfolding size subtree is_bound has_some_new queries_in first_other_read first_definition_but sources
-secrets_judged = ((refl, refl), ((refl, refl), ((refl, refl), ((refl, refl), ((refl, refl), ((refl, refl), ((refl, refl), ((refl, refl), tt))))))))
+secrets_judged = ((refl, refl), ((refl, refl), ((refl, refl), ((refl, refl), ((refl, refl), ((refl, refl), ((refl, refl), ((refl, refl), ((refl, refl), ((refl, refl), tt))))))))))
 
 -- where the variable copies another one, each of the second form's conditions holds
 pub copies_unread : AreUnreadCopies copied 4

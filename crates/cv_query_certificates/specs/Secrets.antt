@@ -1,7 +1,7 @@
 -- When a variable is secret: in each of two forms nothing of its values reaches an adversary but by tests. Blanchet, TDSC 2008, for
 -- secrecy; the two forms, and which node offends against them first, are this profile's own.
 use Rattle.std.specs.Prelude.{◌≡◌, ◌⊎◌, ℕ, Bool, true, false, not, min, ◌&&◌, ◌==◌, if◌then◌else◌, List, [], ◌∷◌, ◌++◌, Option, Some, None, is_some}
-use Rattle.std.specs.List.{list_any}
+use Rattle.std.specs.List.{filter, list_any}
 use Rattle.cv_lists.specs.Options.{first_of}
 use Rattle.cv_syntax_trees.specs.declared.head.Head.{Head}
 use Rattle.cv_syntax_trees.specs.declared.head.Head.TheVariants.{Let, New}
@@ -101,7 +101,7 @@ abbrev pub is_copy : Scene → Head → Tree → Bool
 is_copy s (Let x T) m = is_source s T (variable_of m)
 is_copy s h m = false
 
--- the variables that the `let`s of a variable copy
+-- the names that the `let`s of a variable copy
 
 abbrev pub put_source : Option ℕ → List ℕ → List ℕ
 put_source None ys = ys
@@ -111,13 +111,21 @@ unfoldable pub sources : ℕ → Tree → List ℕ
 sources x Empty = []
 sources x (Node h a b) = put_source (if is_let_of x h then variable_of a else None) (sources x a ++ sources x b)
 
+-- those of variables: a constant and an index have no definition in the game
+
+abbrev pub has_definition : (game : Tree) → (y : ℕ) → Bool
+has_definition game y = is_some (first_definition game y)
+
+abbrev pub copied_variables : (game : Tree) → (x : ℕ) → List ℕ
+copied_variables game x = filter (has_definition game) (sources x game)
+
 abbrev pub first_offence_of_copies : Scene → (x : ℕ) → Option ℕ
 first_offence_of_copies s x =
-    earlier (first_definition_but (is_copy s) x 0 s.game) (first_other_read x (x ∷ sources x s.game) false Anywhere 0 s.game)
+    earlier (first_definition_but (is_copy s) x 0 s.game) (first_other_read x (x ∷ copied_variables s.game x) false Anywhere 0 s.game)
 
 pub record AreUnreadCopies (s : Scene) (x : ℕ) : Type 0 where
   pub copies : first_definition_but (is_copy s) x 0 s.game ≡ None
-  pub unread : first_other_read x (x ∷ sources x s.game) false Anywhere 0 s.game ≡ None
+  pub unread : first_other_read x (x ∷ copied_variables s.game x) false Anywhere 0 s.game ≡ None
 
 -- Of one session the variable is secret in either form; of many sessions this is known in the first form alone.
 abbrev pub IsSecret : (once : Bool) → Scene → (x : ℕ) → Type 0

@@ -72,6 +72,17 @@ copied_on = scene_of (served (choose 9 (copy 4 9 (copy 10 9 (answer [])))))
 abbrev pub source_sent : Scene
 source_sent = scene_of (served (choose 9 (copy 4 9 (answer (read 9 (leaf 1 ∷ []) ∷ [])))))
 
+-- it has the value of a constant, or of an index, which is sent before: neither is copied, so the `let` is the first offence
+
+abbrev pub sent_before : ℕ → Tree
+sent_before y = served (output 6 (1 ∷ []) (leaf y ∷ []) (input 8 (1 ∷ []) [] (Node (Let 4 5) (leaf y) (answer []))))
+
+abbrev pub constant_sent : Scene
+constant_sent = scene_of (sent_before 20)
+
+abbrev pub index_sent : Scene
+index_sent = scene_of (sent_before 1)
+
 -- another query asks for the other one
 abbrev pub source_asked : Scene
 source_asked = record { declarations = declarations ++ Query (secret 9) ∷ []; known = λ y. true; game = served (choose 9 (copy 4 9 (answer []))) }
@@ -93,5 +104,7 @@ secret_cases =
     ∷ (copied, by_form, fails 5 5, None)
     ∷ (copied_on, by_form, fails 7 7, fails 7 7)
     ∷ (source_sent, by_form, fails 7 7, fails 7 7)
+    ∷ (constant_sent, by_form, fails 7 5, fails 7 5)
+    ∷ (index_sent, by_form, fails 7 5, fails 7 5)
     ∷ (source_asked, by_form, fails 7 3, fails 7 3)
     ∷ []

@@ -13,4 +13,5 @@ mod worked;
 pub use checking::check;
 pub use fault::QueryFault;
 pub use laws::queries_are_decided;
+pub use secrets::has_values;
 pub use worked::{worked_correspondences, worked_secrets};

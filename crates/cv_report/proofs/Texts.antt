@@ -12,18 +12,18 @@ pub extended : {T E : Type 0} (r : Result T E) (old more new total : List ℕ) �
 extended (Ok u) old more new total i e = i ∙ e
 extended (Err u) old more new total i e = tt
 
-trail_more : (names : List (List ℕ)) (trees : List KindTree) (n g : ℕ) (xs : List Entry) (k : ℕ) (d : Entry) → k < length xs → trail_text names trees n g (drop k xs) ≡ entry_text names trees n g (get_or xs k d) ++ trail_text names trees (n + 1) (games_after g (get_or xs k d)) (drop (suc k) xs)
+trail_more : (names : List (List ℕ)) (order : List ℕ) (trees : List KindTree) (n g : ℕ) (xs : List Entry) (k : ℕ) (d : Entry) → k < length xs → trail_text names order trees n g (drop k xs) ≡ entry_text names order trees n g (get_or xs k d) ++ trail_text names order trees (n + 1) (games_after g (get_or xs k d)) (drop (suc k) xs)
 unfolding trail_text
-trail_more names trees n g [] k d l = absurd (omega arith)
-trail_more names trees n g (x ∷ xs) zero d l = refl
-trail_more names trees n g (x ∷ xs) (suc k) d l = trail_more names trees n g xs k d (omega arith)
+trail_more names order trees n g [] k d l = absurd (omega arith)
+trail_more names order trees n g (x ∷ xs) zero d l = refl
+trail_more names order trees n g (x ∷ xs) (suc k) d l = trail_more names order trees n g xs k d (omega arith)
 
-pub entry_goes : (names : List (List ℕ)) (trees : List KindTree) (g h : ℕ) (xs : List Entry) (k : ℕ) (d : Entry) (out new total : List ℕ) → k < length xs → out ++ trail_text names trees (k + 1) g (drop k xs) ≡ total → new ≡ out ++ entry_text names trees (k + 1) g (get_or xs k d) → h ≡ games_after g (get_or xs k d) → new ++ trail_text names trees (k + 1 + 1) h (drop (k + 1) xs) ≡ total
-entry_goes names trees g h xs k d out new total l i n e =
-    ap (λ o. o ++ trail_text names trees (k + 1 + 1) h (drop (k + 1) xs)) n
-    ∙ (append_assoc out (entry_text names trees (k + 1) g (get_or xs k d)) (trail_text names trees (k + 1 + 1) h (drop (k + 1) xs))
-    ∙ (ap (λ m. out ++ (entry_text names trees (k + 1) g (get_or xs k d) ++ trail_text names trees (k + 1 + 1) m (drop (k + 1) xs))) e
-    ∙ (sym (ap (λ t. out ++ t) (trail_more names trees (k + 1) g xs k d l ∙ ap (λ m. entry_text names trees (k + 1) g (get_or xs k d) ++ trail_text names trees (k + 1 + 1) (games_after g (get_or xs k d)) (drop m xs)) (suc_is_plus_one k))) ∙ i)))
+pub entry_goes : (names : List (List ℕ)) (order : List ℕ) (trees : List KindTree) (g h : ℕ) (xs : List Entry) (k : ℕ) (d : Entry) (out new total : List ℕ) → k < length xs → out ++ trail_text names order trees (k + 1) g (drop k xs) ≡ total → new ≡ out ++ entry_text names order trees (k + 1) g (get_or xs k d) → h ≡ games_after g (get_or xs k d) → new ++ trail_text names order trees (k + 1 + 1) h (drop (k + 1) xs) ≡ total
+entry_goes names order trees g h xs k d out new total l i n e =
+    ap (λ o. o ++ trail_text names order trees (k + 1 + 1) h (drop (k + 1) xs)) n
+    ∙ (append_assoc out (entry_text names order trees (k + 1) g (get_or xs k d)) (trail_text names order trees (k + 1 + 1) h (drop (k + 1) xs))
+    ∙ (ap (λ m. out ++ (entry_text names order trees (k + 1) g (get_or xs k d) ++ trail_text names order trees (k + 1 + 1) m (drop (k + 1) xs))) e
+    ∙ (sym (ap (λ t. out ++ t) (trail_more names order trees (k + 1) g xs k d l ∙ ap (λ m. entry_text names order trees (k + 1) g (get_or xs k d) ++ trail_text names order trees (k + 1 + 1) (games_after g (get_or xs k d)) (drop m xs)) (suc_is_plus_one k))) ∙ i)))
 
 pub few_games : (g h k : ℕ) (e : Entry) → h ≡ games_after g e → g ≤ k + 2 → h ≤ k + 1 + 2
 few_games g h k e i l = go (is_some e.next) i
@@ -32,9 +32,9 @@ few_games g h k e i l = go (is_some e.next) i
     go true j = omega arith
     go false j = omega arith
 
-pub trail_end : (names : List (List ℕ)) (trees : List KindTree) (xs : List Entry) (k n g : ℕ) (out total : List ℕ) → length xs ≤ k → out ++ trail_text names trees n g (drop k xs) ≡ total → out ≡ total
+pub trail_end : (names : List (List ℕ)) (order : List ℕ) (trees : List KindTree) (xs : List Entry) (k n g : ℕ) (out total : List ℕ) → length xs ≤ k → out ++ trail_text names order trees n g (drop k xs) ≡ total → out ≡ total
 unfolding trail_text
-trail_end names trees xs k n g out total l h = sym (append-nil out) ∙ (sym (ap (λ t. out ++ trail_text names trees n g t) (drop_all k xs l)) ∙ h)
+trail_end names order trees xs k n g out total l h = sym (append-nil out) ∙ (sym (ap (λ t. out ++ trail_text names order trees n g t) (drop_all k xs l)) ∙ h)
 
 verdicts_more : (names : List (List ℕ)) (n : ℕ) (xs : List Verdict) (k : ℕ) (d : Verdict) → k < length xs → verdicts_text names n (drop k xs) ≡ verdict_text names n (get_or xs k d) ++ verdicts_text names (n + 1) (drop (suc k) xs)
 unfolding verdicts_text

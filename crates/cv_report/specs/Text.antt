@@ -32,6 +32,7 @@ use Rattle.cv_report.specs.declared.report.Verdict.{Verdict}
 use Rattle.cv_report.specs.declared.report.Verdict.TheVariants.{Proved, NotProved}
 use Rattle.cv_report.specs.declared.report.Which.TheVariants.{File as FileLimit, Nodes, Depth, Steps, Pool}
 use Rattle.cv_report.specs.contexts.Contexts.{context_text}
+use Rattle.cv_report.specs.contexts.Factors.{parameters_in}
 
 -- the line of a step's cost
 abbrev pub cost_text : List (List ℕ) → Cost → List ℕ
@@ -43,18 +44,18 @@ next_text names trees g None = []
 next_text names trees g (Some game) = codes "game " ++ decimal g ++ codes "\n" ++ game_text names (tree_at trees (Some game.root))
 
 -- the k-th step, with its cost and its context, and the game that it leads to, which would be the g-th
-abbrev pub entry_text : List (List ℕ) → List KindTree → (k g : ℕ) → Entry → List ℕ
-entry_text names trees k g e =
+abbrev pub entry_text : List (List ℕ) → (order : List ℕ) → List KindTree → (k g : ℕ) → Entry → List ℕ
+entry_text names order trees k g e =
     codes "step " ++ decimal k ++ codes ": " ++ step_text names (tree_at trees (Some e.step.0)) ++ codes ";\n"
-    ++ cost_text names e.cost ++ context_text names k (option_map shape_in e.context) ++ next_text names trees g e.next
+    ++ cost_text names e.cost ++ context_text names order k (option_map shape_in e.context) ++ next_text names trees g e.next
 
 -- the number of the next game
 abbrev pub games_after : ℕ → Entry → ℕ
 games_after g e = if is_some e.next then g + 1 else g
 
-unfoldable pub trail_text : List (List ℕ) → List KindTree → (k g : ℕ) → List Entry → List ℕ
-trail_text names trees k g [] = []
-trail_text names trees k g (e ∷ es) = entry_text names trees k g e ++ trail_text names trees (k + 1) (games_after g e) es
+unfoldable pub trail_text : List (List ℕ) → (order : List ℕ) → List KindTree → (k g : ℕ) → List Entry → List ℕ
+trail_text names order trees k g [] = []
+trail_text names order trees k g (e ∷ es) = entry_text names order trees k g e ++ trail_text names order trees (k + 1) (games_after g e) es
 
 abbrev pub said_text : List (List ℕ) → Verdict → List ℕ
 said_text names (Proved s) = codes " proved up to " ++ sum_text names s ++ codes "\n"
@@ -167,7 +168,7 @@ abbrev pub body_text : Report → Option File → List ℕ
 body_text r None = []
 body_text r (Some f) =
     codes "game 1\n" ++ game_text r.work.names (tree_at r.work.pool.trees (Some f.game.root))
-    ++ trail_text r.work.names r.work.pool.trees 1 2 r.trail.items ++ verdicts_text r.work.names 1 r.verdicts.items
+    ++ trail_text r.work.names (parameters_in r.work.decls.list) r.work.pool.trees 1 2 r.trail.items ++ verdicts_text r.work.names 1 r.verdicts.items
 
 -- The text is a function of the report.
 abbrev pub text_of : Report → List ℕ

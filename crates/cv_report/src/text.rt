@@ -2,7 +2,7 @@
 ghost use Rattle.std.specs.Prelude.{◌≡◌, ◌+◌, ◌<◌, ◌^◌, ◌++◌, [], All, length, IfOk, OnOk, IfSome};
 ghost use Rattle.cv_report.specs.Text.{EntryLive, IsLive, condition_text, cost_text, end_text, entry_text, fault_text, games_after, grammar_text, group_text, lexis_text, next_text, no_close_text, numbered_text, open_text, place_text, query_text, refused_text, said_text, scope_text, script_text, step_refused_text, text_of, trail_text, types_text, verdict_text, verdicts_text};
 
-use crate::contexts::push_context;
+use crate::contexts::{order_of, push_context};
 use crate::report::{Cause, Entry, FileFault, Report, Status, Verdict, Which};
 use cv_bound::{Cost, listed_text};
 use cv_group::GroupFault;
@@ -52,13 +52,14 @@ fn push_entry(
     out: &mut Vec<u8>,
     pool: &Pool,
     names: &Names,
+    order: &[u32],
     number: u64,
     game: u64,
     entry: &Entry,
 ) -> Result<(), AllocError>
     requires { EntryLive (length pool.now.trees) entry.now }
     ensures { OnOk result (out.new.items
-        ≡ out.old.items ++ entry_text names.now pool.now.trees number game entry.now) }
+        ≡ out.old.items ++ entry_text names.now order.now pool.now.trees number game entry.now) }
 {
     out.extend_from_slice(b"step ")?;
     push_decimal(out, number)?;
@@ -66,7 +67,7 @@ fn push_entry(
     push_step(out, pool, names, entry.step)?;
     out.extend_from_slice(b";\n")?;
     push_cost(out, names, &entry.cost)?;
-    push_context(out, names, number, &entry.context)?;
+    push_context(out, names, order, number, &entry.context)?;
     push_next(out, pool, names, game, entry.next)
 }
 
@@ -87,15 +88,16 @@ fn push_trail(
     out: &mut Vec<u8>,
     pool: &Pool,
     names: &Names,
+    order: &[u32],
     trail: &[Entry],
 ) -> Result<(), AllocError>
     requires { All (EntryLive (length pool.now.trees)) trail.now }
     ensures { OnOk result (out.new.items
-        ≡ out.old.items ++ trail_text names.now pool.now.trees 1 2 trail.now) }
+        ≡ out.old.items ++ trail_text names.now order.now pool.now.trees 1 2 trail.now) }
 {
     let mut game = 2;
     'trail: for k in 0..trail.len() {
-        push_entry(out, pool, names, k as u64 + 1, game, &trail[k])?;
+        push_entry(out, pool, names, order, k as u64 + 1, game, &trail[k])?;
         game = game_after(game, &trail[k]);
     }
     Ok(())
@@ -343,7 +345,8 @@ pub fn report_text(alloc: Global, report: &Report) -> Result<Vec<u8>, AllocError
         let work = &report.work;
         out.extend_from_slice(b"game 1\n")?;
         push_game(&mut out, &work.pool, &work.names, file.game.root)?;
-        push_trail(&mut out, &work.pool, &work.names, &report.trail)?;
+        let order = order_of(alloc, &work.decls)?;
+        push_trail(&mut out, &work.pool, &work.names, &order, &report.trail)?;
         push_verdicts(&mut out, &work.names, &report.verdicts)?;
     }
     push_end(&mut out, report.status)?;

@@ -11,7 +11,7 @@ use Rattle.cv_meaning.specs.Satisfies.{Satisfies}
 use Rattle.cv_meaning_laws.proofs.adequacy.Lists.{contains_has}
 use Rattle.cv_meaning_laws.proofs.Listed.{Has}
 use Rattle.cv_typing_rules.specs.declared.form.Form.TheVariants.{InProcess}
-use Rattle.cv_typing_rules.specs.Parts.{AreTyped, IsTypedFile, IsTypedGame, IsTypedPart, Part, declaration_parts, game_part, nothing_above}
+use Rattle.cv_typing_rules.specs.Parts.{AreTyped, IsTypedFile, IsTypedPart, Part, declaration_parts, game_part, nothing_above}
 use Rattle.cv_typing_rules.specs.Wants.{Run}
 use Rattle.cv_meaning.specs.Queries.{queries_in}
 use Rattle.cv_query_form.specs.Rules.{AreAsked, HasValues, MayBeAsked}
@@ -46,10 +46,6 @@ tests_valued game queries a (Guesses Events) h y e = absurd h
 tests_valued game queries a (Guesses (Real one x)) h y e = tested_valued game queries a one x h y e
 tests_valued game queries a (Guesses (Random one x)) h y e = tested_valued game queries a one x h y e
 
-pub game_choices_valued : (ds : List Declaration) (game : Tree) → is_phrase Inputs game ≡ true → IsTypedGame ds game → HasDeclaredSorts ds game → AreAsked game (queries_in ds) → (i : Interpretation) → Satisfies ds i → (x : Experiment) → IsAsked (queries_in ds) x
-    → HasValuesIn (setting_of ds i) (mode_of x) game
-game_choices_valued ds game p t d a i sat x h = game_valued ds game i sat (mode_of x) (tests_valued game (queries_in ds) a x h) nothing_above (Run InProcess) p t d
-
 pub choices_valued : (ds : List Declaration) (game : Tree) → is_phrase Inputs game ≡ true → IsTypedFile ds game → HasDeclaredSorts ds game → AreAsked game (queries_in ds) → (i : Interpretation) → Satisfies ds i → (x : Experiment) → IsAsked (queries_in ds) x
     → HasValuesIn (setting_of ds i) (mode_of x) game
-choices_valued ds game p t = game_choices_valued ds game p (last_typed ds (flat_map (declaration_parts ds) ds) (game_part game) t)
+choices_valued ds game p t d a i sat x h = game_valued ds game i sat (mode_of x) (tests_valued game (queries_in ds) a x h) nothing_above (Run InProcess) p (last_typed ds (flat_map (declaration_parts ds) ds) (game_part game) t) d

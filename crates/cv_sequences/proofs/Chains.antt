@@ -30,7 +30,6 @@ use Rattle.cv_derive_laws.specs.stores.Holding.{IsReady}
 use Rattle.cv_derive_laws.specs.stores.Steps.{IsSound}
 use Rattle.cv_match_laws.specs.answers.Answers.{answer_above}
 use Rattle.cv_match_laws.proofs.answers.Many.{are_answers}
-use Rattle.cv_context_right_side.proofs.queries.Asked.{asked_no_index}
 use Rattle.cv_context_right_side.proofs.queries.Steps.{next_asks_none}
 use Rattle.cv_context_right_side.specs.Right.{IsStepOfFile}
 use Rattle.cv_context_right_side.proofs.Steps.{step_costs}
@@ -45,7 +44,7 @@ use Rattle.cv_steps_crypto.specs.Steps as crypto
 use Rattle.cv_steps_crypto.proofs.Accepted.{accepted}
 use Rattle.cv_sequences.specs.Chains.{ByEquivalence, ByStep, HasPrice, HaveTapedPrices, IsChain, IsFileOf, IsLink, Link, Prices, cost_behind, costs_behind, game_after, names_below, next_behind, push, start, summed}
 use Rattle.cv_sequences.proofs.Accepted.{step_ready}
-use Rattle.cv_sequences.proofs.Asked.{game_choices_valued}
+use Rattle.cv_sequences.proofs.Kept.{next_asks_no_index, next_valued}
 use Rattle.cv_sequences.proofs.Steps.{next_values}
 use Rattle.cv_sequences.proofs.Sums.{apart, back}
 use Rattle.cv_sequences.proofs.Tested.{tested, unrefused}
@@ -131,7 +130,7 @@ module _ (ds : List Declaration) (own : ℕ) (first : Tree) (w : IsFileOf ds own
           cells = t.game.named;
           sorts = t.sorts;
         };
-        unasked = asked_no_index (at next) t.game.formed.scoped t.asked;
+        unasked = next_asks_no_index (at next) t.game.formed.scoped t.secrets;
       }
 
   reached : (links : List Link) (last : Tree) → IsChain ds (names_below own) first links last → IsOfChain last
@@ -173,7 +172,7 @@ module _ (ds : List Declaration) (own : ℕ) (first : Tree) (w : IsFileOf ds own
     link_valued game (ByStep step cost next) g k e = next_values (at game) step next cost e.0 w.known_queries g.ready.formed.phrase i sat x asked k e.1
     link_valued game (ByEquivalence n e key next) g k h =
         let t = tested ds next (accepted (at game) e key next h).game in
-        game_choices_valued ds next t.game.formed.phrase t.game.typed t.sorts t.asked i sat x asked
+        next_valued ds next t.game.formed.phrase t.game.typed t.sorts t.secrets i sat x asked
 
     pub valued : (links : List Link) (last : Tree) → IsChain ds (names_below own) first links last → HasValuesIn (setting_of ds i) (mode_of x) last
     valued links last start = v

@@ -3,5 +3,6 @@ pub mod Steps
 pub mod Sums
 pub mod Asked
 pub mod Choices
+pub mod Kept
 pub mod Tested
 pub mod Chains

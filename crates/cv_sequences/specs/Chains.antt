@@ -4,7 +4,7 @@ use Rattle.std.specs.List.{AllByRecursion}
 use Rattle.cv_syntax_trees.specs.Declarations.{Declaration}
 use Rattle.cv_syntax_trees.specs.Tree.{Tree}
 use Rattle.cv_meaning.specs.Experiments.{Experiment}
-use Rattle.cv_meaning.specs.Interpretation.{Interpretation, is_constant_of}
+use Rattle.cv_meaning.specs.Interpretation.{Interpretation}
 use Rattle.cv_meaning.specs.Runs.{Adversary}
 use Rattle.cv_meaning_chances.specs.Fractions.{HasTapes}
 use Rattle.cv_meaning_contexts.specs.ContextAdvantage.{context_advantage}
@@ -14,6 +14,7 @@ use Rattle.cv_bound.specs.declared.terms.Experiment.TheVariants as term
 use Rattle.cv_bound.specs.declared.terms.Term.{Term}
 use Rattle.cv_bound.specs.Sums.{added}
 use Rattle.cv_bound_values.specs.Values.{Advantages}
+use Rattle.cv_group_rules.specs.Symbols.{symbols_of}
 use Rattle.cv_group_rules.specs.Faults.{IsAccepted}
 use Rattle.cv_typing_runs.specs.Games.{HasConstants}
 use Rattle.cv_scene.specs.Reductions.{context_of_game}
@@ -98,7 +99,7 @@ HaveTapedPrices advantages links = AllByRecursion (HasTapedPrice advantages) lin
 -- what an accepted file gives of an equivalence
 pub record IsEquivalenceOfFile (ds : List Declaration) (t : Tree) : Type 0 where
   pub left : HasLeftForm t
-  pub accepted : IsAccepted (is_constant_of ds) t
+  pub accepted : IsAccepted (symbols_of ds) t
   pub right : IsRightOfFile ds t
 
 -- What it gives of its declarations and of its game, where it has so many names.

@@ -1,4 +1,5 @@
 pub mod Conditions
+pub mod Secrets
 pub mod Sorts
 pub mod Steps
 pub mod reductions

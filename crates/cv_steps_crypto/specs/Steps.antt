@@ -1,11 +1,10 @@
 -- What is said of a cryptographic step: the first of its conditions that fails; and where none does, for the game that it leads to, with
 -- names and labels that are drawn for it, the limits and whether it is a game. Blanchet and Pointcheval, CRYPTO 2006; the limits and the
 -- numbers of the conditions are this profile's own.
-use Rattle.std.specs.Prelude.{◌≡◌, ℕ, Bool, ◌&&◌, not, is_some, nat_lt, if◌then◌else◌, List, Option, Some, None}
+use Rattle.std.specs.Prelude.{◌≡◌, ℕ, Bool, ◌&&◌, not, nat_lt, if◌then◌else◌, List, Option, Some, None}
 use Rattle.cv_syntax_trees.specs.Declarations.{Declaration}
 use Rattle.cv_syntax_trees.specs.Tree.{Tree, depth, size}
 use Rattle.cv_meaning.specs.Queries.{queries_in}
-use Rattle.cv_query_form.specs.Tests.{first_refused}
 use Rattle.cv_scene.specs.Reductions.{Reduction}
 use Rattle.cv_scene.specs.Scenes.{Scene}
 use Rattle.cv_scene.specs.Terms.{is_game}
@@ -13,6 +12,7 @@ use Rattle.cv_syntax.specs.limits.Limits.{most_depth, most_nodes, told}
 use Rattle.cv_match_laws.specs.answers.Answers.{answer_above}
 use Rattle.cv_match_laws.specs.answers.Drawn.{AreDrawnFor, next_game}
 use Rattle.cv_steps_crypto.specs.Conditions.{Failure, equivalence_of, failure_of}
+use Rattle.cv_steps_crypto.specs.Secrets.{some_asks_without_values}
 use Rattle.cv_steps_crypto.specs.Sorts.{has_declared_sorts}
 
 -- The answers of a context's calls have the names from this one on. No table has so many names.
@@ -29,9 +29,9 @@ pub record IsNextGame (r : Reduction) (next : Tree) : Type 0 where
   pub drawn : AreDrawnFor r names labels
   pub game : next ≡ next_game r names labels
 
--- condition 9: it is a game of the file, whose types and parameters are declared, and of which the queries may be asked
+-- condition 9: it is a game of the file, whose types and parameters are declared, and no query asks there for what has no values
 abbrev pub is_next : List Declaration → Tree → Bool
-is_next ds next = is_game ds next && (has_declared_sorts ds next && not (is_some (first_refused next (queries_in ds))))
+is_next ds next = is_game ds next && (has_declared_sorts ds next && not (some_asks_without_values next (queries_in ds)))
 
 -- what a step comes to; sizes from the greatest number of 32 bits on are told as that number
 pub data Outcome : Type 0 where

@@ -132,6 +132,10 @@ pub body_same : (d e : Signature) (p : ℕ) (f g : Above) (S R : Option Sort) (t
 body_same d e p f g S R t u z a b c =
     ap₂ (λ (s : Signature) (x : Above). first_fault s x (Run (InBody S)) p t) z a ∙ (ap (λ (x : Option Sort). first_fault e g (Run (InBody x)) p t) b ∙ ap (λ (x : Tree). first_fault e g (Run (InBody R)) p x) c)
 
+-- behind the last part
+pub all_checked : (ds : List Declaration) (p n : ℕ) (rest parts : List Part) → rest ≡ [] → first_in ds n rest ≡ first_in ds p parts → n + parts_size rest ≡ p + parts_size parts → (first_in ds p parts ≡ None) × (n ≡ p + parts_size parts)
+all_checked ds p n rest parts e f s = (sym f ∙ (ap (first_in ds n) e ∙ parts_end ds n), let z = ap parts_size e in omega arith)
+
 -- from the body of one function to that of another
 pub in_another : (r : Arrays) (f g : Tree) → in_function (in_function r f) g ≡ in_function r g
 in_another (OfGame s) f g = refl

@@ -5,7 +5,7 @@ use Rattle.cv_syntax_trees.specs.declared.head.Head.{Head}
 use Rattle.cv_syntax_trees.specs.declared.head.Head.TheVariants.{Read}
 use Rattle.cv_syntax_trees.specs.Declarations.{Declaration}
 use Rattle.cv_syntax_trees.specs.Tree.{Tree, Empty, Node}
-use Rattle.cv_meaning.specs.Interpretation.{is_constant_of}
+use Rattle.cv_group_rules.specs.Symbols.{symbols_of}
 use Rattle.cv_group_rules.specs.Faults.{IsAccepted}
 use Rattle.cv_scope_rules.specs.Phrases.{IsWellFormed}
 use Rattle.cv_scope_rules.specs.Scope.{names_of as scope_names}
@@ -65,7 +65,7 @@ refused : (M : Matching) (rest : Option Refusal) (b : Bool) → has_key M ≡ b 
 refused M rest true e i = e
 refused M rest false e i = absurd (cc)
 
-pub game_free : (r : Reduction) → IsWellFormed r.scene.declarations r.scene.game → IsTypedGame r.scene.declarations r.scene.game → HasKnownNames r.scene.declarations r.scene.game → HasLeftForm r.equivalence → IsAccepted (is_constant_of r.scene.declarations) r.equivalence
+pub game_free : (r : Reduction) → IsWellFormed r.scene.declarations r.scene.game → IsTypedGame r.scene.declarations r.scene.game → HasKnownNames r.scene.declarations r.scene.game → HasLeftForm r.equivalence → IsAccepted (symbols_of r.scene.declarations) r.equivalence
     → first_refusal (matching r) ≡ None → has_free_indices (matching r) r.scene.game ≡ true
 game_free r well typed known form accepted allowed = go (new_of r.scene.game r.key) refl (and_parts (is_of_type (matching r).group.key.1 (new_of r.scene.game r.key)) (not (is_queried r.scene r.key)) (refused (matching r) _ (has_key (matching r)) refl allowed)).0
   where

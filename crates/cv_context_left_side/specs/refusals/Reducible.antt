@@ -1,6 +1,6 @@
 -- What an accepted file and the conditions of the cryptographic step give of a game, an equivalence and a key. This profile's own.
 use Rattle.std.specs.Prelude.{◌≡◌, List, length, None}
-use Rattle.cv_meaning.specs.Interpretation.{is_constant_of}
+use Rattle.cv_group_rules.specs.Symbols.{symbols_of}
 use Rattle.cv_group_rules.specs.Faults.{IsAccepted}
 use Rattle.cv_scope_rules.specs.Phrases.{IsWellFormed}
 use Rattle.cv_typing_rules.specs.Parts.{IsTypedGame}
@@ -17,7 +17,7 @@ pub record IsReducible (r : Reduction) : Type 0 where
   pub names : HasKnownNames r.scene.declarations r.scene.game
   -- the equivalence is one of the file's, and accepted
   pub form : HasLeftForm r.equivalence
-  pub accepted : IsAccepted (is_constant_of r.scene.declarations) r.equivalence
+  pub accepted : IsAccepted (symbols_of r.scene.declarations) r.equivalence
   -- the conditions of the step
   pub allowed : first_refusal (matching r) ≡ None
   -- the answers of calls have names of their own

@@ -9,6 +9,7 @@ use Rattle.cv_syntax_trees.specs.Declarations.{Declaration}
 use Rattle.cv_syntax_trees.specs.Tree.{Tree, Empty, Node, chain, first, head_reads_only, reads_only}
 use Rattle.cv_meaning.specs.Interpretation.{is_constant_of}
 use Rattle.cv_directory_sorts.specs.Sites.{first_site}
+use Rattle.cv_group_rules.specs.Symbols.{symbols_of}
 use Rattle.cv_group_rules.specs.Faults.{IsAccepted}
 use Rattle.cv_scope_rules.specs.Phrases.{Inputs, IsWellFormed}
 use Rattle.cv_scope_rules.specs.Rules.{is_index}
@@ -80,7 +81,7 @@ more_read p q (Node h a b) f e =
     (more_read p q b (λ x n. f x (or_right (head_names x h) _ (or_right (names x a) (names x b) n))) s.1))
 
 module _ (r : Reduction) (given : HasArguments r.scene.declarations) (formed : IsWellFormed r.scene.declarations r.scene.game) (typed : IsTypedGame r.scene.declarations r.scene.game) (known : HasKnownNames r.scene.declarations r.scene.game)
-    (form : HasLeftForm r.equivalence) (accepted : IsAccepted (is_constant_of r.scene.declarations) r.equivalence) (free : first_refusal (matching r) ≡ None) (answers : AreAnswers r.scene (length (sites r)) r.answer) where
+    (form : HasLeftForm r.equivalence) (accepted : IsAccepted (symbols_of r.scene.declarations) r.equivalence) (free : first_refusal (matching r) ≡ None) (answers : AreAnswers r.scene (length (sites r)) r.answer) where
   abbrev ds : List Declaration
   ds = r.scene.declarations
 

@@ -9,7 +9,6 @@ use Rattle.cv_derive_rules.specs.Given.{with_given}
 use Rattle.cv_directory_sorts.specs.Sites.{bound_sort, first_index, first_site}
 use Rattle.cv_meaning.specs.Advantage.{IsAsked}
 use Rattle.cv_meaning.specs.Experiments.{Breaks}
-use Rattle.cv_meaning.specs.Interpretation.{is_constant_of}
 use Rattle.cv_typing_rules.specs.Parts.{IsTypedGame, game_part, signature_of}
 use Rattle.cv_typing_rules.specs.Signature.{names_in}
 use Rattle.cv_directory_sorts.specs.Counting.{count}
@@ -23,6 +22,7 @@ use Rattle.cv_scope_rules.specs.Sites.{sites_from}
 use Rattle.cv_scope_rules.specs.Standing.{at_root}
 use Rattle.cv_scope_rules.proofs.First.{scoped_where_none}
 use Rattle.cv_typing_runs.specs.Games.{HasArguments, HasKnownNames, are_known}
+use Rattle.cv_group_rules.specs.Symbols.{symbols_of}
 use Rattle.cv_group_rules.specs.Faults.{BoundNames, IsAccepted, LeftIsTerm, OneIndex, ReadNames, SameShape, keeps}
 use Rattle.cv_group_rules.specs.Rules as rules
 use Rattle.cv_group_rules.specs.Rules.{all_agree, are_cells, defines, each_function, has_name, has_read, have_one_index, is_asked, range_of, reads}
@@ -62,9 +62,9 @@ form : HasLeftForm authentication
 unfolding each_function is_phrase
 form = record { key = refl; bodies = refl }
 
-accepted : IsAccepted (is_constant_of declarations) authentication
+accepted : IsAccepted (symbols_of declarations) authentication
 unfolding each_function have_one_index all_agree rules.is_bound is_asked range_of are_cells has_read has_name defines rules.names_of reads same_tree
-accepted = record { kept = λ r. elim r as (λ q. keeps (is_constant_of declarations) q authentication ≡ true) [ LeftIsTerm ↦ refl | OneIndex ↦ refl | SameShape ↦ refl | BoundNames ↦ refl | ReadNames ↦ refl ] }
+accepted = record { kept = λ r. elim r as (λ q. keeps (symbols_of declarations) q authentication ≡ true) [ LeftIsTerm ↦ refl | OneIndex ↦ refl | SameShape ↦ refl | BoundNames ↦ refl | ReadNames ↦ refl ] }
 
 allowed : first_refusal (matching accepting) ≡ None
 unfolding size same_tree with_given bound_sort first_site names_in standing_for sites_in first_reading definitions_in first_in_arguments first_in_condition first_use uses is_bound queries_in

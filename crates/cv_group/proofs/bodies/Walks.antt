@@ -2,7 +2,7 @@
 use Rattle.std.proofs.Common.{◌≡◌, Bool, true, false, ◌&&◌, List, ◌++◌, map, refl, ap, sym, ◌∙◌}
 use Rattle.std.proofs.lemmas.List.{map-append}
 use Rattle.cv_syntax_trees.specs.declared.head.Head.{Head}
-use Rattle.cv_syntax_trees.specs.declared.head.Head.TheVariants.{Leaf, Read}
+use Rattle.cv_syntax_trees.specs.declared.head.Head.TheVariants.{Apply, Leaf, Read}
 use Rattle.cv_syntax_trees.specs.Tree.{Tree, Empty, Node}
 use Rattle.cv_group.specs.declared.bodies.levels.Level as code
 use Rattle.cv_group.specs.bodies.Levels.{HasBound, level_of, node_passes, term_passes}
@@ -15,6 +15,11 @@ names_parts o ls (Leaf x) a b = alone _
     alone true = refl
     alone false = refl
 names_parts o ls (Read v) a b = alone _
+  where
+    alone : (c : Bool) → c ≡ (c && true)
+    alone true = refl
+    alone false = refl
+names_parts o ls (Apply f) a b = alone _
   where
     alone : (c : Bool) → c ≡ (c && true)
     alone true = refl

@@ -4,7 +4,7 @@ use Rattle.std.specs.HashSet.{HashSet, contains}
 use Rattle.std.specs.declared.hash.FoldHasher.{FoldHasher}
 use Rattle.std.specs.declared.hash.BuildHasherDefault.{BuildHasherDefault}
 use Rattle.cv_syntax_trees.specs.declared.head.Head.{Head}
-use Rattle.cv_syntax_trees.specs.declared.head.Head.TheVariants.{Branch, Leaf, Read}
+use Rattle.cv_syntax_trees.specs.declared.head.Head.TheVariants.{Apply, Branch, Leaf, Read}
 use Rattle.cv_syntax.specs.NameSets.{is_in}
 use Rattle.cv_syntax_trees.specs.Tree.{Tree, Node, first}
 use Rattle.cv_directory_sorts.specs.Pairs.{same_pair}
@@ -23,7 +23,7 @@ is_paired s n x = contains same_pair s (n, x)
 
 -- what a body may name
 abbrev pub around_of : Around → rule.Around
-around_of a = record { outside = λ x. is_in a.constants x || is_in a.taken x; bound = a.bound; names = is_paired a.names }
+around_of a = record { outside = λ x. is_in a.symbols.constants x || is_in a.taken x; callable = is_in a.symbols.functions; bound = a.bound; names = is_paired a.names }
 
 abbrev pub level_of : Level → rule.Level
 level_of (level.Defined x) = rule.Defined x
@@ -39,6 +39,7 @@ is_cell_at u t = false
 abbrev pub term_passes : rule.Around → List rule.Level → Head → Tree → Bool
 term_passes o ls (Leaf x) a = rule.is_readable o ls x
 term_passes o ls (Read v) a = rule.is_asked_at ls v (rule.index_in a)
+term_passes o ls (Apply f) a = o.callable f
 term_passes o ls h a = true
 
 abbrev pub branch_passes : rule.Around → List rule.Level → Tree → Tree → Bool

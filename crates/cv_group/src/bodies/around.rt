@@ -1,14 +1,15 @@
 ghost use Rattle.std.specs.Prelude.{◌≡◌};
 ghost use Rattle.cv_group.specs.bodies.Levels.{around_of};
 
+use crate::symbols::Symbols;
 use std::alloc::Global;
 use std::collections::HashSet;
 
 /// What the body of a function may name besides what it binds.
 #[derive(Drop)]
 pub struct Around {
-    /// The constants of the file.
-    pub constants: HashSet<u32>,
+    /// What the file declares.
+    pub symbols: Symbols,
     /// The names of the key and of what the function takes.
     pub taken: HashSet<u32>,
     /// The bound of the function.
@@ -19,11 +20,11 @@ pub struct Around {
 
 impl Around {
     /// Around no function.
-    pub fn new(alloc: Global, constants: HashSet<u32>) -> Around
-        ensures { result.constants ≡ constants }
+    pub fn new(alloc: Global, symbols: Symbols) -> Around
+        ensures { result.symbols ≡ symbols }
     {
         Around {
-            constants,
+            symbols,
             taken: HashSet::new(alloc),
             bound: 0,
             names: HashSet::new(alloc),
@@ -34,7 +35,14 @@ impl Around {
     pub fn is_outside(&self, x: u32) -> bool
         ensures { result ≡ (around_of self.now).outside x }
     {
-        self.constants.contains(&x) || self.taken.contains(&x)
+        self.symbols.constants.contains(&x) || self.taken.contains(&x)
+    }
+
+    /// Whether a name may be called.
+    pub fn is_callable(&self, f: u32) -> bool
+        ensures { result ≡ (around_of self.now).callable f }
+    {
+        self.symbols.functions.contains(&f)
     }
 
     /// Whether the functions with a bound bind a name.

@@ -11,7 +11,7 @@ use cv_syntax::children::first_of;
 use cv_syntax::{Head, NodeId, Opened, Pool, read_node};
 use std::alloc::{AllocError, Global};
 
-/// Whether a name, with the indices at which it is read, is bound below these levels.
+/// Whether a name, with the indices at which it is read, is bound below these levels, or may be called.
 fn term_passes(
     pool: &Pool,
     around: &Around,
@@ -26,6 +26,7 @@ fn term_passes(
     match head {
         Head::Leaf(x) => is_readable(around, levels, x),
         Head::Read(v) => is_asked_at(pool, levels, v, indices),
+        Head::Apply(f) => around.is_callable(f),
         _ => true,
     }
 }

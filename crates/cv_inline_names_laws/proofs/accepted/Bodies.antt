@@ -37,7 +37,7 @@ module _ (p : Inlining) (o : Around) (own : (x : ℕ) → o.names o.bound x ≡ 
     pub term_fine : (ls : List Level) (Σ : Scope) → Agree p o own ls Σ → (t : Tree) → is_body_term t ≡ true → is_bound o ls t ≡ true → IsFineTerm p Σ t
     term_fine ls Σ h (Node (Leaf x) a b) g e = λ n. h.readable x (and_parts (is_readable o ls x) _ e).0 n
     term_fine ls Σ h (Node (Read v) a b) g e = array_fine ls Σ h v a (and_parts (is_asked_at ls v (index_in a)) _ e).0
-    term_fine ls Σ h (Node (Apply f) a b) g e = terms_fine ls Σ h a g (and_parts (is_bound o ls a) _ e).0
+    term_fine ls Σ h (Node (Apply f) a b) g e = terms_fine ls Σ h a g (and_parts (is_bound o ls a) _ (and_parts (o.callable f) _ e).1).0
     term_fine ls Σ h (Node Eq a b) g e =
         let q = and_parts (is_body_term a) (is_body_term b) g in
         let s = and_parts (is_bound o ls a) _ e in (term_fine ls Σ h a q.0 s.0, term_fine ls Σ h b q.1 (same_levels ls b s.1))

@@ -6,6 +6,7 @@ use Rattle.cv_syntax.specs.NameSets.{is_one_of}
 use Rattle.cv_syntax_trees.specs.Tree.{Tree, Empty, Node, bound_names, first, second}
 use Rattle.cv_meaning.specs.Correspondences.{typed_names}
 use Rattle.cv_meaning_contexts.specs.Groups.{Function, Right, bound_of, function_at, function_of, functions_of, key_of, side_group}
+use Rattle.cv_group_rules.specs.Symbols.{Symbols}
 use Rattle.cv_group_rules.specs.Faults.{BoundNames, IsAccepted}
 use Rattle.cv_group_rules.specs.Rules.{Around, around, binds_name, defines, each_function, functions_in, is_asked, is_bound, is_readable, key_in, names_of, range_of, side_is_bound, takes}
 use Rattle.cv_inline.specs.bodies.Accepted.{IsFineBody, IsFineCall}
@@ -109,9 +110,9 @@ nothing_taken : (t : Tree) → is_empty t ≡ true → (x : ℕ) → is_one_of (
 nothing_taken Empty e x i = both_ways _ refl i
 nothing_taken (Node h a b) e x i = both_ways _ refl e
 
-module _ (constants : ℕ → Bool) (key functions tree : Tree) (p : Inlining) (callers : List Caller) where
+module _ (symbols : Symbols) (key functions tree : Tree) (p : Inlining) (callers : List Caller) where
   abbrev o : Around
-  o = around constants key functions tree
+  o = around symbols key functions tree
 
   no_level : (own : (x : ℕ) → o.names o.bound x ≡ true → p.has p.c.number x ≡ true) (Τ : Scope) → ((x : ℕ) → is_readable o [] x ≡ true → standing_of Τ x ≡ None → p.constant x ≡ true) → Agree p o own [] Τ
   unfolding range_of is_asked
@@ -120,7 +121,7 @@ module _ (constants : ℕ → Bool) (key functions tree : Tree) (p : Inlining) (
       none : (n : ℕ) → ◌≡◌ {A = Option ℕ} None (Some n) → ⊥
       none n e = cc
 
-  readable_in : IsDrawnFor constants functions (function_of tree) p callers → is_empty (first (first tree)) ≡ true → is_one_name key ≡ true → (Τ : Scope)
+  readable_in : IsDrawnFor symbols.constant functions (function_of tree) p callers → is_empty (first (first tree)) ≡ true → is_one_name key ≡ true → (Τ : Scope)
       → ((x : ℕ) → (is_one_of (bound_names (second (first tree))) x ≡ true) ⊎ IsIn x (((key_of (typed_names key)).0, TheKey) ∷ []) → IsIn x Τ) → (x : ℕ) → is_readable o [] x ≡ true → standing_of Τ x ≡ None → p.constant x ≡ true
   readable_in d none one Τ all x e n = go (or_cases (o.outside x) false e)
     where
@@ -131,7 +132,7 @@ module _ (constants : ℕ → Bool) (key functions tree : Tree) (p : Inlining) (
           by (inl j) = nothing_taken (first (first tree)) none x j
           by (inr j) = all x (inl j) n
 
-      outside : (constants x ≡ true) ⊎ ((is_one_of (bound_names key) x || takes (first tree) x) ≡ true) → p.constant x ≡ true
+      outside : (symbols.constant x ≡ true) ⊎ ((is_one_of (bound_names key) x || takes (first tree) x) ≡ true) → p.constant x ≡ true
       outside (inl i) = d.constant x i
       outside (inr i) = by (or_cases (is_one_of (bound_names key) x) _ i)
         where
@@ -140,11 +141,11 @@ module _ (constants : ℕ → Bool) (key functions tree : Tree) (p : Inlining) (
           by (inr j) = absurd (taken j)
 
       go : (o.outside x ≡ true) ⊎ (false ≡ true) → p.constant x ≡ true
-      go (inl i) = outside (or_cases (constants x) _ i)
+      go (inl i) = outside (or_cases (symbols.constant x) _ i)
       go (inr i) = absurd (both_ways _ refl i)
 
   tree_fine : is_bound o [] (second tree) ≡ true → is_empty (first (first tree)) ≡ true → is_right_body (second tree) ≡ true → ((x : ℕ) → binds_name tree x ≡ true → names_of functions (bound_of (first tree)) x ≡ true) → is_one_name key ≡ true
-      → IsDrawnFor constants functions (function_of tree) p callers → (arguments : Tree) → are_as_many (typed_names (second (first tree))) arguments ≡ true
+      → IsDrawnFor symbols.constant functions (function_of tree) p callers → (arguments : Tree) → are_as_many (typed_names (second (first tree))) arguments ≡ true
       → IsFineCall p callers (((key_of (typed_names key)).0, TheKey) ∷ []) (typed_names (second (first tree))) arguments (second tree)
   tree_fine bound none body names one d arguments many =
       behind p callers (second (first tree)) arguments (second tree) (((key_of (typed_names key)).0, TheKey) ∷ []) many
@@ -152,12 +153,12 @@ module _ (constants : ℕ → Bool) (key functions tree : Tree) (p : Inlining) (
       (λ Τ all. body_fine p o d.own callers d.sites [] Τ (no_level d.own Τ (readable_in d none one Τ all)) 0 (second tree) body bound
       (record { names = λ x i. d.own x (names x (or_right (takes (first tree) x) _ i)); finds = d.finds; opens = d.opens }))
 
-pub accepted_fine : (constants : ℕ → Bool) (t : Tree) (k : ℕ) (f : Function) (p : Inlining) (callers : List Caller) (arguments : Tree) → IsAccepted constants t → is_right_side (second t) ≡ true → function_at (side_group Right t) k ≡ Some f
-    → are_as_many f.arguments arguments ≡ true → IsDrawnFor constants (functions_in Right t) f p callers → IsFineCall p callers (((side_group Right t).key.0, TheKey) ∷ []) f.arguments arguments f.body
-accepted_fine constants t k f p callers arguments acc g i many d =
+pub accepted_fine : (symbols : Symbols) (t : Tree) (k : ℕ) (f : Function) (p : Inlining) (callers : List Caller) (arguments : Tree) → IsAccepted symbols t → is_right_side (second t) ≡ true → function_at (side_group Right t) k ≡ Some f
+    → are_as_many f.arguments arguments ≡ true → IsDrawnFor symbols.constant (functions_in Right t) f p callers → IsFineCall p callers (((side_group Right t).key.0, TheKey) ∷ []) f.arguments arguments f.body
+accepted_fine symbols t k f p callers arguments acc g i many d =
     let side = and_parts (is_one_name (key_in Right t)) (are_right_functions (functions_in Right t)) g in
-    let bound = (and_parts _ (side_is_bound constants (key_in Right t) (functions_in Right t)) (acc.kept BoundNames)).1 in
-    let r = there (λ u. is_bound (around constants (key_in Right t) (functions_in Right t) u) [] (second u)) (functions_in Right t) bound side.1 k f i in
+    let bound = (and_parts _ (side_is_bound symbols (key_in Right t) (functions_in Right t)) (acc.kept BoundNames)).1 in
+    let r = there (λ u. is_bound (around symbols (key_in Right t) (functions_in Right t) u) [] (second u)) (functions_in Right t) bound side.1 k f i in
     subst (λ (h : Function). IsFineCall p callers (((side_group Right t).key.0, TheKey) ∷ []) h.arguments arguments h.body) (sym r.is)
-    (tree_fine constants (key_in Right t) (functions_in Right t) r.tree p callers r.passed r.takes_none r.body r.names side.0
-    (subst (λ h. IsDrawnFor constants (functions_in Right t) h p callers) r.is d) arguments (subst (λ (h : Function). are_as_many h.arguments arguments ≡ true) r.is many))
+    (tree_fine symbols (key_in Right t) (functions_in Right t) r.tree p callers r.passed r.takes_none r.body r.names side.0
+    (subst (λ h. IsDrawnFor symbols.constant (functions_in Right t) h p callers) r.is d) arguments (subst (λ (h : Function). are_as_many h.arguments arguments ≡ true) r.is many))

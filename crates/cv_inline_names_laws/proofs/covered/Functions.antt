@@ -8,6 +8,7 @@ use Rattle.cv_syntax_trees.specs.Tree.{Tree, Empty, Node, bound_names, first, se
 use Rattle.cv_meaning.specs.Correspondences.{typed_names}
 use Rattle.cv_meaning_laws.proofs.Listed.{Has}
 use Rattle.cv_meaning_contexts.specs.Groups.{Function, Group, Right, bound_of, function_at, function_of, functions_of, side_group}
+use Rattle.cv_group_rules.specs.Symbols.{Symbols}
 use Rattle.cv_group_rules.specs.Faults.{IsAccepted, SameShape}
 use Rattle.cv_group_rules.specs.Rules.{are_distinct, binds_name, bounds, defines, functions_in, groups_agree, names_of, takes}
 use Rattle.cv_meaning_contexts.specs.Inlined.{Caller}
@@ -152,15 +153,15 @@ all_finds : (P Q : ℕ → Type 0) → ((q : ℕ) → P q → Q q) → (qs : Lis
 all_finds P Q f [] h = tt
 all_finds P Q f (q ∷ qs) h = (f q h.0, all_finds P Q f qs h.1)
 
-distinct_right : (e : Tree) (constants : ℕ → Bool) → IsAccepted constants e → are_distinct (bounds (functions_in Right e)) ≡ true
-distinct_right e constants acc = (and_parts _ (are_distinct (bounds (functions_in Right e))) (and_parts (groups_agree (first e) (second e)) _ (acc.kept SameShape)).1).1
+distinct_right : (e : Tree) (symbols : Symbols) → IsAccepted symbols e → are_distinct (bounds (functions_in Right e)) ≡ true
+distinct_right e symbols acc = (and_parts _ (are_distinct (bounds (functions_in Right e))) (and_parts (groups_agree (first e) (second e)) _ (acc.kept SameShape)).1).1
 
 bare_second : (t : Tree) → names_stand_bare t ≡ true → names_stand_bare (second t) ≡ true
 unfolding names_stand_bare
 bare_second Empty u = refl
 bare_second (Node h a b) u = (and_parts (names_stand_bare a) (names_stand_bare b) (and_parts _ (names_stand_bare a && names_stand_bare b) u).1).1
 
-module _ (constants : ℕ → Bool) (e context : Tree) (functions names labels : List ℕ) (role : ℕ → Role) (accepted : IsAccepted constants e) (side : is_right_side (second e) ≡ true)
+module _ (symbols : Symbols) (e context : Tree) (functions names labels : List ℕ) (role : ℕ → Role) (accepted : IsAccepted symbols e) (side : is_right_side (second e) ≡ true)
     (right : AllByRecursion IsRightFunction (side_group Right e).functions) (bare : names_stand_bare (second e) ≡ true) where
   abbrev G : Group
   G = side_group Right e
@@ -180,7 +181,7 @@ module _ (constants : ℕ → Bool) (e context : Tree) (functions names labels :
       → AllByRecursion (λ (s : Caller). (q b : ℕ) → has_indices d k.caller.number q s.number b 0 (length s.replications) ≡ true → opens q s.number b ≡ true) (callers_of cs) → IsBound k opens
   bound_there k h opens there =
       let f = of_function G context 0 functions k h in
-      let t = at (functions_in Right e) (distinct_right e constants accepted) (and_parts (is_one_name _) (are_right_functions (functions_in Right e)) side).1 (bare_second (second e) bare) f.position k.function f.function in
+      let t = at (functions_in Right e) (distinct_right e symbols accepted) (and_parts (is_one_name _) (are_right_functions (functions_in Right e)) side).1 (bare_second (second e) bare) f.position k.function f.function in
       let r : IsRightFunction k.function = AllByRecursion_slice_get IsRightFunction G.functions right f.position k.function f.function in
       let drawn : IsCallDrawn d (callers_of cs) k = all_has (IsCallDrawn d (callers_of cs)) cs (calls_covered G cs names labels role) k h in
       let c = body_covered d (callers_of cs) k.caller.number opens there 0 k.function.body (ap (λ (z : Function). is_right_body z.body) t.is ∙ t.body) r.body (ap (λ (z : Function). names_stand_bare z.body) t.is ∙ t.bare) drawn.body in
@@ -197,7 +198,7 @@ module _ (constants : ℕ → Bool) (e context : Tree) (functions names labels :
               argument_in (λ y. has_name d k.caller.number y ≡ true) (second (first t)) x j
               (subst (λ (z : Function). AllByRecursion (λ (y : ℕ × ℕ). has_name d k.caller.number y.0 ≡ true) z.arguments) same drawn.arguments)
 
-  pub drawn_for : (k : Calling) → Has cs k → (p : Inlining) → HasDraws constants d cs k p → IsDrawnFor constants (functions_in Right e) k.function p (callers_of cs)
+  pub drawn_for : (k : Calling) → Has cs k → (p : Inlining) → HasDraws symbols.constant d cs k p → IsDrawnFor symbols.constant (functions_in Right e) k.function p (callers_of cs)
   drawn_for k h p v =
       let b = bound_there k h p.opens v.opens in
       record {

@@ -1,7 +1,9 @@
 -- The variables that the `let`s of a variable copy.
-use Rattle.std.proofs.Common.{◌≡◌, ℕ, List, [], ◌++◌, append_assoc, Option, Some, None, refl, sym, ap, ◌∙◌}
+use Rattle.std.proofs.Common.{◌≡◌, ℕ, Bool, List, [], ◌++◌, append_assoc, Option, Some, None, refl, sym, ap, ◌∙◌}
 use Rattle.std.specs.Prelude.{if◌then◌else◌}
 use Rattle.std.proofs.lemmas.List.{append-nil}
+use Rattle.std.proofs.lemmas.List.Elements.{filter-append}
+use Rattle.std.specs.List.{filter}
 use Rattle.cv_syntax_trees.specs.declared.head.Head.{Head}
 use Rattle.cv_syntax_trees.specs.Tree.{Tree, Empty, Node}
 use Rattle.cv_scene.specs.Sights.{variable_of}
@@ -22,13 +24,17 @@ put_before : (o : Option ℕ) (ys : List ℕ) → put_source o ys ≡ put_source
 put_before None ys = refl
 put_before (Some y) ys = refl
 
-pub no_sources : (x : ℕ) (t : Tree) (found : List ℕ) → t ≡ Empty → found ≡ found ++ sources x t
-no_sources x t found e = sym (append-nil found) ∙ ap (λ ps. found ++ ps) (sym (ap (sources x) e ∙ sources_empty x))
+-- of those that pass a test
 
-pub sources_more : (x : ℕ) (t : Tree) (h : Head) (a b : Tree) (found one more : List ℕ) → t ≡ Node h a b → one ≡ found ++ put_source (copied x h a) [] → more ≡ one ++ sources x a → more ++ sources x b ≡ found ++ sources x t
-sources_more x t h a b found one more e f g =
+pub no_sources : (p : ℕ → Bool) (x : ℕ) (t : Tree) (found : List ℕ) → t ≡ Empty → found ≡ found ++ filter p (sources x t)
+no_sources p x t found e = sym (append-nil found) ∙ ap (λ ps. found ++ filter p ps) (sym (ap (sources x) e ∙ sources_empty x))
+
+pub sources_more : (p : ℕ → Bool) (x : ℕ) (t : Tree) (h : Head) (a b : Tree) (found one more : List ℕ) → t ≡ Node h a b → one ≡ found ++ filter p (put_source (copied x h a) []) → more ≡ one ++ filter p (sources x a) → more ++ filter p (sources x b) ≡ found ++ filter p (sources x t)
+sources_more p x t h a b found one more e f g =
     let H = put_source (copied x h a) [] in
     let A = sources x a in
     let B = sources x b in
-    ap (λ l. l ++ B) (g ∙ ap (λ l. l ++ A) f)
-    ∙ (append_assoc (found ++ H) A B ∙ (append_assoc found H (A ++ B) ∙ ap (λ ps. found ++ ps) (sym (put_before (copied x h a) (A ++ B)) ∙ sym (ap (sources x) e ∙ sources_node x h a b))))
+    let whole = sym (put_before (copied x h a) (A ++ B)) ∙ sym (ap (sources x) e ∙ sources_node x h a b) in
+    ap (λ l. l ++ filter p B) (g ∙ ap (λ l. l ++ filter p A) f)
+    ∙ (append_assoc (found ++ filter p H) (filter p A) (filter p B) ∙ (append_assoc found (filter p H) (filter p A ++ filter p B)
+    ∙ ap (λ ps. found ++ ps) (ap (λ ps. filter p H ++ ps) (sym (filter-append p A B)) ∙ (sym (filter-append p H (A ++ B)) ∙ ap (filter p) whole))))

@@ -88,7 +88,7 @@ pub fn first_offence_of_copies(
 {
     let mut names = Vec::new(alloc);
     names.push(x)?;
-    add_sources(&work.pool, &mut names, x, Some(game))?;
+    add_sources(&work.pool, game, &mut names, x, Some(game))?;
     let read = first_other_read(&work.pool, game, x, names.as_slice());
     Ok(earlier(first_uncopied(work, game, x), read))
 }

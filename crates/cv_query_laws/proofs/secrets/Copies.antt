@@ -3,19 +3,21 @@ use Rattle.std.proofs.Common.{◌≡◌, ℕ, ◌==◌, ◌||◌, ◌&&◌, Bool
 use Rattle.std.proofs.lemmas.Bool.{MatchBool-at_false, both_ways, and_parts, or_cases, or_left, or_right, eq-eqb, not-true}
 use Rattle.std.proofs.lemmas.List.{map-append}
 use Rattle.std.specs.Prelude.{MatchOption}
-use Rattle.std.specs.List.{list_any}
+use Rattle.std.specs.List.{filter, list_any}
+use Rattle.cv_lists.specs.Options.{first_of}
 use Rattle.cv_syntax_trees.specs.declared.head.Head.{Head}
 use Rattle.cv_syntax_trees.specs.declared.head.Head.TheVariants.{Par, Repl, In, Out, Event, New, Let, If, Find, Branch, Cons, Leaf, Read}
 use Rattle.cv_syntax_trees.specs.Tree.{Tree, Empty, Node, first, second, first_place, second_place}
 use Rattle.cv_meaning.specs.Interpretation.{is_constant_of}
 use Rattle.cv_meaning_laws.specs.adequacy.Typed.{Context, Scope, Variable, OfType, BelowParameter, parameter_in, NameHasSort, HasSort, IsVariable, IsTyped}
 use Rattle.cv_meaning_runs.specs.Replacement.{Process, in_first}
+use Rattle.cv_scope_rules.specs.declared.position.Position.TheVariants.{Anywhere}
 use Rattle.cv_scope_rules.specs.Made.{is_bound, made_by}
 use Rattle.cv_scope_rules.specs.Phrases.{Inputs, head_binds_none, binds_none, is_phrase}
 use Rattle.cv_scope_rules.specs.Sites as site
 use Rattle.cv_scene.specs.Scenes.{Scene, has_some_new, is_new_head, is_queried}
 use Rattle.cv_scene.specs.Sights.{variable_of}
-use Rattle.cv_query_certificates.specs.Secrets.{AreUnreadCopies, first_definition_but, is_choice_of, is_copy, is_let_of, is_source, put_source, sources}
+use Rattle.cv_query_certificates.specs.Secrets.{AreUnreadCopies, first_definition_but, first_other_read, has_definition, is_choice_of, is_copy, is_let_of, is_none_of_them, is_source, put_source, sources}
 use Rattle.cv_query_laws.proofs.secrets.Quiet.{Kind, IsQuiet}
 use Rattle.cv_query_laws.proofs.secrets.Shapes.{IsShaped, defined_parts, head_goes_on, indices_below, left_false, one_of, quiet_game, ReadsNone}
 
@@ -76,6 +78,39 @@ not_above (p ∷ ps) y e = go (p.0 == y) e (not_above ps y)
     go : (b : Bool) → cond b (Some p.1) (parameter_in ps y) ≡ None → (parameter_in ps y ≡ None → list_any (λ i. i == y) (map (λ (q : ℕ × ℕ). q.0) ps) ≡ false) → (b || list_any (λ i. i == y) (map (λ (q : ℕ × ℕ). q.0) ps)) ≡ false
     go true f ih = absurd (cc)
     go false f ih = ih f
+
+-- what a `new` defines has a definition
+
+some_first : (o q : Option ℕ) → is_some o ≡ true → is_some (first_of o q) ≡ true
+some_first None q e = absurd (both_ways false refl e)
+some_first (Some n) q e = refl
+
+some_second : (o q : Option ℕ) → is_some q ≡ true → is_some (first_of o q) ≡ true
+some_second None q e = e
+some_second (Some n) q e = refl
+
+some_here : (chosen made : Bool) (p : ℕ) (o q : Option ℕ) (k l : Bool) → (k ≡ true → is_some o ≡ true) → (l ≡ true → is_some q ≡ true) → ((chosen && made) || (k || l)) ≡ true → is_some (cond (made && true) (Some p) (first_of o q)) ≡ true
+some_here chosen true p o q k l f g e = refl
+some_here true false p o q true l f g e = some_first o q (f refl)
+some_here false false p o q true l f g e = some_first o q (f refl)
+some_here true false p o q false true f g e = some_second o q (g refl)
+some_here false false p o q false true f g e = some_second o q (g refl)
+some_here true false p o q false false f g e = absurd (both_ways false refl e)
+some_here false false p o q false false f g e = absurd (both_ways false refl e)
+
+new_defined : (y p : ℕ) (t : Tree) → has_some_new y t ≡ true → is_some (first_definition_but is_none_of_them y p t) ≡ true
+unfolding has_some_new first_definition_but
+new_defined y p Empty e = absurd (both_ways false refl e)
+new_defined y p (Node h a b) e =
+    some_here (is_new_head h) (made_by h a (site.Variable y)) p (first_definition_but is_none_of_them y (first_place p h) a) (first_definition_but is_none_of_them y (second_place p h a) b) (has_some_new y a) (has_some_new y b)
+    (new_defined y (first_place p h) a) (new_defined y (second_place p h a) b) e
+
+-- a list all of which passes a test
+all_pass : (test : ℕ → Bool) (l : List ℕ) → ((y : ℕ) → list_any (λ z. y == z) l ≡ true → test y ≡ true) → filter test l ≡ l
+all_pass test [] f = refl
+all_pass test (z ∷ l) f =
+    ap (λ b. cond b (z ∷ filter test l) (filter test l)) (f z (or_left (z == z) (list_any (λ w. z == w) l) (eq-eqb z z refl)))
+    ∙ ap (λ m. z ∷ m) (all_pass test l (λ y e. f y (or_right (y == z) (list_any (λ w. y == w) l) e)))
 
 module _ (s : Scene) (x : ℕ) (c : Context) where
   abbrev pub names : List ℕ
@@ -165,6 +200,13 @@ module _ (s : Scene) (x : ℕ) (c : Context) where
   module _ (unread : AreUnreadCopies s x) (constants : binds_none (is_constant_of s.declarations) s.game ≡ true) where
     chosen : (y : ℕ) → is_from y ≡ true → IsChosenAlone y
     chosen = sources_chosen 0 s.game unread.copies
+
+    -- each name that is copied is that of a variable
+    all_defined : filter (has_definition s.game) names ≡ names
+    all_defined = all_pass (has_definition s.game) names (λ y e. new_defined y 0 s.game (chosen y e).some)
+
+    names_unread : first_other_read x (x ∷ names) false Anywhere 0 s.game ≡ None
+    names_unread = sym (ap (λ ys. first_other_read x (x ∷ ys) false Anywhere 0 s.game) all_defined) ∙ unread.unread
 
     record AreDefined (p : ℕ) (b : Tree) : Type 0 where
       copies : first_definition_but (is_copy s) x p b ≡ None
@@ -310,5 +352,5 @@ module _ (s : Scene) (x : ℕ) (c : Context) where
 
       pub quiet_copies : is_phrase Inputs s.game ≡ true → IsTyped c [] s.game → IsQuiet copying_kind [] Process s.game
       quiet_copies e t =
-          quiet_game x (x ∷ names) Drawn Copied AreDefined AreHere IsTypedBelow copies_shape s.game e unread.unread
+          quiet_game x (x ∷ names) Drawn Copied AreDefined AreHere IsTypedBelow copies_shape s.game e names_unread
           (record { copies = unread.copies; draws = λ y f. (chosen y f).alone; among = λ y f. f }) (record { scope = []; indices = refl; typed = t })

@@ -1,15 +1,15 @@
 // The text of the contexts of steps.
-ghost use Rattle.std.specs.Prelude.{◌≡◌, ◌+◌, ◌<◌, ◌^◌, ◌++◌, All, codes, flat_map, map, option_map, IfOk, OnOk};
+ghost use Rattle.std.specs.Prelude.{◌≡◌, ◌++◌, codes, flat_map, map, option_map, OnOk};
 ghost use Rattle.cv_context.specs.products.Products.{products};
 ghost use Rattle.cv_context.specs.products.ShapesInCode.{calls_in, shape_in};
 ghost use Rattle.cv_bound.specs.Texts.{joined_by, power_text, product_text};
-ghost use Rattle.cv_report.specs.contexts.Contexts as contexts;
-ghost use Rattle.cv_report.specs.contexts.Contexts.{calls_text, context_text, parameters_text, sites_text, with_parameter};
+ghost use Rattle.cv_report.specs.contexts.Contexts.{calls_text, context_text, parameters_text, sites_text};
 
+use crate::contexts::products::factors_of;
 use cv_context::products::{Calls, Shape};
 use cv_print::{push_decimal, push_name};
 use cv_syntax::{NameId, Names};
-use std::alloc::{AllocError, Global};
+use std::alloc::AllocError;
 
 /// Appends a parameter with its exponent.
 fn push_power(out: &mut Vec<u8>, names: &Names, factor: (NameId, u64)) -> Result<(), AllocError>
@@ -56,107 +56,106 @@ fn push_product(
     }
 }
 
-/// Adds a parameter to the factors of a product.
-fn add_parameter(factors: &mut Vec<(NameId, u64)>, n: u32) -> Result<(), AllocError>
-    requires { All (λ f. f.1 + 1 < 2 ^ 64) factors.old.items }
-    ensures { OnOk result (factors.new.items ≡ with_parameter n factors.old.items) }
-{
-    'factors: for k in 0..factors.len() {
-        let x = factors[k].0.0;
-        if n == x {
-            factors[k].1 += 1;
-            return Ok(());
-        }
-        if n < x {
-            factors.insert(k, (NameId(n), 1))?;
-            return Ok(());
-        }
-    }
-    factors.push((NameId(n), 1))?;
-    Ok(())
-}
-
-/// The factors of a product of parameters.
-fn factors_of(alloc: Global, parameters: &[u32]) -> Result<Vec<(NameId, u64)>, AllocError>
-    ensures { IfOk result (λ factors. factors.items ≡ contexts.factors_of parameters.now) }
-{
-    let mut factors = Vec::new(alloc);
-    let mut left = parameters.len();
-    'parameters: while left > 0 {
-        left -= 1;
-        add_parameter(&mut factors, parameters[left])?;
-    }
-    Ok(factors)
-}
-
 /// Appends a product of parameters.
-fn push_parameters(out: &mut Vec<u8>, names: &Names, parameters: &[u32]) -> Result<(), AllocError>
+fn push_parameters(
+    out: &mut Vec<u8>,
+    names: &Names,
+    order: &[u32],
+    parameters: &[u32],
+) -> Result<(), AllocError>
     ensures { OnOk result (out.new.items
-        ≡ out.old.items ++ parameters_text names.now parameters.now) }
+        ≡ out.old.items ++ parameters_text names.now order.now parameters.now) }
 {
     let alloc = *out.allocator();
-    let factors = factors_of(alloc, parameters)?;
+    let factors = factors_of(alloc, order, parameters)?;
     push_product(out, names, &factors)
 }
 
 /// Appends products with a mark before each.
-fn push_more_sites(out: &mut Vec<u8>, names: &Names, sites: &[Vec<u32>]) -> Result<(), AllocError>
+fn push_more_sites(
+    out: &mut Vec<u8>,
+    names: &Names,
+    order: &[u32],
+    sites: &[Vec<u32>],
+) -> Result<(), AllocError>
     ensures { OnOk result (out.new.items ≡ out.old.items
-        ++ flat_map (λ ns. codes " + " ++ parameters_text names.now ns) (products sites.now)) }
+        ++ flat_map (λ ns. codes " + " ++ parameters_text names.now order.now ns)
+        (products sites.now)) }
 {
     'sites: for k in 0..sites.len() {
         out.extend_from_slice(b" + ")?;
-        push_parameters(out, names, sites[k].as_slice())?;
+        push_parameters(out, names, order, sites[k].as_slice())?;
     }
     Ok(())
 }
 
 /// Appends the sum of a product for each site.
-fn push_sites(out: &mut Vec<u8>, names: &Names, sites: &[Vec<u32>]) -> Result<(), AllocError>
+fn push_sites(
+    out: &mut Vec<u8>,
+    names: &Names,
+    order: &[u32],
+    sites: &[Vec<u32>],
+) -> Result<(), AllocError>
     ensures { OnOk result (out.new.items
-        ≡ out.old.items ++ sites_text names.now (products sites.now)) }
+        ≡ out.old.items ++ sites_text names.now order.now (products sites.now)) }
 {
     match sites {
         [] => out.extend_from_slice(b"0"),
         [first, more @ ..] => {
-            push_parameters(out, names, first.as_slice())?;
-            push_more_sites(out, names, more)
+            push_parameters(out, names, order, first.as_slice())?;
+            push_more_sites(out, names, order, more)
         }
     }
 }
 
 /// Appends a function with its calls.
-fn push_calls(out: &mut Vec<u8>, names: &Names, calls: &Calls) -> Result<(), AllocError>
+fn push_calls(
+    out: &mut Vec<u8>,
+    names: &Names,
+    order: &[u32],
+    calls: &Calls,
+) -> Result<(), AllocError>
     ensures { OnOk result (out.new.items
-        ≡ out.old.items ++ calls_text names.now (calls_in calls.now)) }
+        ≡ out.old.items ++ calls_text names.now order.now (calls_in calls.now)) }
 {
     push_name(out, names, calls.function)?;
     out.extend_from_slice(b" ")?;
-    push_sites(out, names, calls.sites.as_slice())
+    push_sites(out, names, order, calls.sites.as_slice())
 }
 
 /// Appends functions with a mark before each.
-fn push_more_functions(out: &mut Vec<u8>, names: &Names, calls: &[Calls]) -> Result<(), AllocError>
+fn push_more_functions(
+    out: &mut Vec<u8>,
+    names: &Names,
+    order: &[u32],
+    calls: &[Calls],
+) -> Result<(), AllocError>
     ensures { OnOk result (out.new.items ≡ out.old.items
-        ++ flat_map (λ c. codes ", " ++ calls_text names.now c) (map calls_in calls.now)) }
+        ++ flat_map (λ c. codes ", " ++ calls_text names.now order.now c)
+        (map calls_in calls.now)) }
 {
     'calls: for k in 0..calls.len() {
         out.extend_from_slice(b", ")?;
-        push_calls(out, names, &calls[k])?;
+        push_calls(out, names, order, &calls[k])?;
     }
     Ok(())
 }
 
 /// Appends functions with their calls.
-fn push_functions(out: &mut Vec<u8>, names: &Names, calls: &[Calls]) -> Result<(), AllocError>
+fn push_functions(
+    out: &mut Vec<u8>,
+    names: &Names,
+    order: &[u32],
+    calls: &[Calls],
+) -> Result<(), AllocError>
     ensures { OnOk result (out.new.items ≡ out.old.items
-        ++ joined_by (codes ", ") (calls_text names.now) (map calls_in calls.now)) }
+        ++ joined_by (codes ", ") (calls_text names.now order.now) (map calls_in calls.now)) }
 {
     match calls {
         [] => Ok(()),
         [first, more @ ..] => {
-            push_calls(out, names, first)?;
-            push_more_functions(out, names, more)
+            push_calls(out, names, order, first)?;
+            push_more_functions(out, names, order, more)
         }
     }
 }
@@ -165,11 +164,12 @@ fn push_functions(out: &mut Vec<u8>, names: &Names, calls: &[Calls]) -> Result<(
 pub fn push_context(
     out: &mut Vec<u8>,
     names: &Names,
+    order: &[u32],
     number: u64,
     context: &Option<Shape>,
 ) -> Result<(), AllocError>
-    ensures { OnOk result (out.new.items
-        ≡ out.old.items ++ context_text names.now number (option_map shape_in context.now)) }
+    ensures { OnOk result (out.new.items ≡ out.old.items
+        ++ context_text names.now order.now number (option_map shape_in context.now)) }
 {
     let Some(shape) = context else {
         return Ok(());
@@ -179,8 +179,8 @@ pub fn push_context(
     out.extend_from_slice(b": key ")?;
     push_name(out, names, shape.key)?;
     out.extend_from_slice(b", keys ")?;
-    push_parameters(out, names, shape.keys.as_slice())?;
+    push_parameters(out, names, order, shape.keys.as_slice())?;
     out.extend_from_slice(b", calls ")?;
-    push_functions(out, names, shape.calls.as_slice())?;
+    push_functions(out, names, order, shape.calls.as_slice())?;
     out.extend_from_slice(b"\n")
 }

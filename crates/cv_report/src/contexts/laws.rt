@@ -1,22 +1,26 @@
 ghost use Rattle.std.specs.Prelude.{◌≡◌, ℕ, ◌*◌, List, [], ◌∷◌, Some, codes};
 ghost use Rattle.cv_meaning.specs.Interpretation.{Interpretation};
 ghost use Rattle.cv_bound_values.specs.Values.{product_value};
-ghost use Rattle.cv_report.specs.contexts.Contexts.{context_text, factors_of};
+ghost use Rattle.cv_report.specs.contexts.Contexts.{context_text};
+ghost use Rattle.cv_report.specs.contexts.Factors.{factors_of};
 ghost use Rattle.cv_report.specs.contexts.Worked.{checks, names, sessions};
 
-/// The factors of parameters have the value of their product.
+/// The factors of parameters have the value of their product, in whatever order the parameters are declared.
 pub fn factors_have_the_value()
-    ensures none { (i : Interpretation) → product_value i (factors_of []) ≡ 1 }
-    ensures more { (i : Interpretation) (n : ℕ) (ns : List ℕ) →
-        product_value i (factors_of (n ∷ ns))
-        ≡ i.parameter_value n * product_value i (factors_of ns) }
+    ensures none { (order : List ℕ) (i : Interpretation) →
+        product_value i (factors_of order []) ≡ 1 }
+    ensures more { (order : List ℕ) (i : Interpretation) (n : ℕ) (ns : List ℕ) →
+        product_value i (factors_of order (n ∷ ns))
+        ≡ i.parameter_value n * product_value i (factors_of order ns) }
 {}
 
 /// Worked lines of contexts: a function without sites has `0`, a place below no replication `1`, and a parameter that stands
-/// above a place more than once its exponent; parameters stand in the order of their declarations.
+/// above a place more than once its exponent; parameters stand in the order of their declarations, whatever their numbers.
 pub fn worked_contexts()
-    ensures none { context_text names 1 (Some checks)
+    ensures none { context_text names (0 ∷ 1 ∷ []) 1 (Some checks)
         ≡ codes "context C1: key k, keys 1, calls Omac 0, Ochk N\n" }
-    ensures powers { context_text names 12 (Some sessions)
+    ensures powers { context_text names (0 ∷ 1 ∷ []) 12 (Some sessions)
         ≡ codes "context C12: key k, keys N, calls Omac N^2 + N*M, Ochk N^2*M + 1\n" }
+    ensures order { context_text names (1 ∷ 0 ∷ []) 12 (Some sessions)
+        ≡ codes "context C12: key k, keys N, calls Omac N^2 + M*N, Ochk M*N^2 + 1\n" }
 {}

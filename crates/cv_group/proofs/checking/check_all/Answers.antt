@@ -1,8 +1,8 @@
 use Rattle.std.proofs.Common.{◌≡◌, ◌+◌, length, drop, ap, sym, ◌∙◌, arith, Some, None, subst}
 use Rattle.cv_syntax.specs.PoolTrees.{tree_at}
 use Rattle.cv_syntax.specs.Declarations.{declarations}
-use Rattle.cv_syntax.specs.NameSets.{is_in}
-use Rattle.cv_meaning.specs.Interpretation.{is_constant_of}
+use Rattle.cv_group.specs.Tables.{symbols_in}
+use Rattle.cv_group_rules.specs.Symbols.{symbols_of}
 use Rattle.cv_group.specs.Refusals.{IsRefusalOf}
 use Rattle.cv_group_rules.specs.Faults.{equivalences_in, first_group_fault, group_fault}
 use Rattle.cv_group.proofs.Lists as list
@@ -12,12 +12,12 @@ pub decls-preserved-in_default : goal.decls-preserved-in_default
 decls-preserved-in_default c =
     let trees = c.args.work.now.pool.trees in
     let ds = c.args.work.now.decls.list in
-    let constants = is_constant_of (declarations trees ds) in
-    let whole = first_group_fault constants (equivalences_in (declarations trees ds)) in
+    let symbols = symbols_of (declarations trees ds) in
+    let whole = first_group_fault symbols (equivalences_in (declarations trees ds)) in
     record {
       few = omega arith;
-      constants = c.decls.invariant.constants;
-      same = ap (λ ts. list.behind c.decls.equiv (first_group_fault constants ts)) (sym (list.equivs_skip trees ds c.decls.k (omega arith) (sym c.equiv_at.ensures ∙ c.in_default.is))) ∙ c.decls.invariant.same;
+      symbols = c.decls.invariant.symbols;
+      same = ap (λ ts. list.behind c.decls.equiv (first_group_fault symbols ts)) (sym (list.equivs_skip trees ds c.decls.k (omega arith) (sym c.equiv_at.ensures ∙ c.in_default.is))) ∙ c.decls.invariant.same;
     }
 
 pub check_tree-requires : goal.check_tree-requires
@@ -27,26 +27,26 @@ pub returns-in-Err-clause-fault : goal.returns-in-Err-clause-fault
 returns-in-Err-clause-fault c =
     let trees = c.args.work.now.pool.trees in
     let ds = c.args.work.now.decls.list in
-    let constants = is_constant_of (declarations trees ds) in
-    let whole = first_group_fault constants (equivalences_in (declarations trees ds)) in
-    list.refusal_at constants (tree_at trees (Some c.in-Some.tree)) (equivalences_in (declarations trees (drop (c.decls.k + 1) ds))) (equivalences_in (declarations trees (drop c.decls.k ds))) c.decls.equiv whole c.in-Err.fault (list.equivs_take trees ds c.decls.k c.in-Some.tree (sym c.equiv_at.ensures ∙ c.in-Some.is)) c.decls.invariant.same (subst (λ p. IsRefusalOf (group_fault p (tree_at trees (Some c.in-Some.tree))) c.in-Err.fault) c.decls.invariant.constants c.in-Err.ensures.fault)
+    let symbols = symbols_of (declarations trees ds) in
+    let whole = first_group_fault symbols (equivalences_in (declarations trees ds)) in
+    list.refusal_at symbols (tree_at trees (Some c.in-Some.tree)) (equivalences_in (declarations trees (drop (c.decls.k + 1) ds))) (equivalences_in (declarations trees (drop c.decls.k ds))) c.decls.equiv whole c.in-Err.fault (list.equivs_take trees ds c.decls.k c.in-Some.tree (sym c.equiv_at.ensures ∙ c.in-Some.is)) c.decls.invariant.same (subst (λ p. IsRefusalOf (group_fault p (tree_at trees (Some c.in-Some.tree))) c.in-Err.fault) c.decls.invariant.symbols c.in-Err.ensures.fault)
 
 pub decls-preserved : goal.decls-preserved
 decls-preserved c =
     let trees = c.args.work.now.pool.trees in
     let ds = c.args.work.now.decls.list in
-    let constants = is_constant_of (declarations trees ds) in
-    let whole = first_group_fault constants (equivalences_in (declarations trees ds)) in
+    let symbols = symbols_of (declarations trees ds) in
+    let whole = first_group_fault symbols (equivalences_in (declarations trees ds)) in
     record {
       few = omega arith;
-      constants = ap is_in c.check_tree.ensures.constants ∙ c.decls.invariant.constants;
-      same = list.refused_later constants (tree_at trees (Some c.in-Some.tree)) (equivalences_in (declarations trees (drop (c.decls.k + 1) ds))) (equivalences_in (declarations trees (drop c.decls.k ds))) c.decls.equiv whole (list.equivs_take trees ds c.decls.k c.in-Some.tree (sym c.equiv_at.ensures ∙ c.in-Some.is)) (subst (λ p. group_fault p (tree_at trees (Some c.in-Some.tree)) ≡ None) c.decls.invariant.constants c.in_default-check_tree.ensures.none) c.decls.invariant.same;
+      symbols = ap symbols_in c.check_tree.ensures.symbols ∙ c.decls.invariant.symbols;
+      same = list.refused_later symbols (tree_at trees (Some c.in-Some.tree)) (equivalences_in (declarations trees (drop (c.decls.k + 1) ds))) (equivalences_in (declarations trees (drop c.decls.k ds))) c.decls.equiv whole (list.equivs_take trees ds c.decls.k c.in-Some.tree (sym c.equiv_at.ensures ∙ c.in-Some.is)) (subst (λ p. group_fault p (tree_at trees (Some c.in-Some.tree)) ≡ None) c.decls.invariant.symbols c.in_default-check_tree.ensures.none) c.decls.invariant.same;
     }
 
 pub returns-clause-none : goal.returns-clause-none
 returns-clause-none c =
     let trees = c.args.work.now.pool.trees in
     let ds = c.args.work.now.decls.list in
-    let constants = is_constant_of (declarations trees ds) in
-    let whole = first_group_fault constants (equivalences_in (declarations trees ds)) in
-    list.refused_none constants (equivalences_in (declarations trees (drop c.decls.k ds))) c.decls.equiv whole (list.equivs_past trees ds c.decls.k (omega arith)) c.decls.invariant.same
+    let symbols = symbols_of (declarations trees ds) in
+    let whole = first_group_fault symbols (equivalences_in (declarations trees ds)) in
+    list.refused_none symbols (equivalences_in (declarations trees (drop c.decls.k ds))) c.decls.equiv whole (list.equivs_past trees ds c.decls.k (omega arith)) c.decls.invariant.same

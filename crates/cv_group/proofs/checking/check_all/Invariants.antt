@@ -1,7 +1,7 @@
 use Rattle.std.proofs.Common.{◌≡◌, ◌≤◌, drop}
 use Rattle.cv_syntax.specs.Declarations.{declarations}
-use Rattle.cv_syntax.specs.NameSets.{is_in}
-use Rattle.cv_meaning.specs.Interpretation.{is_constant_of}
+use Rattle.cv_group.specs.Tables.{symbols_in}
+use Rattle.cv_group_rules.specs.Symbols.{symbols_of}
 use Rattle.cv_group_rules.specs.Faults.{equivalences_in, first_group_fault}
 use Rattle.cv_group.proofs.Lists.{behind}
 use Rattle.cv_group.proofs.checking.check_all.Given as goal
@@ -9,6 +9,6 @@ use Rattle.cv_group.proofs.checking.check_all.Given as goal
 abbrev pub invariant-decls : goal.invariant-decls
 invariant-decls l = record {
   few : l.equiv ≤ l.k;
-  constants : is_in l.around.constants ≡ is_constant_of (declarations l.work.pool.trees l.work.decls.list);
-  same : behind l.equiv (first_group_fault (is_constant_of (declarations l.work.pool.trees l.work.decls.list)) (equivalences_in (declarations l.work.pool.trees (drop l.k l.work.decls.list)))) ≡ first_group_fault (is_constant_of (declarations l.work.pool.trees l.work.decls.list)) (equivalences_in (declarations l.work.pool.trees l.work.decls.list));
+  symbols : symbols_in l.around.symbols ≡ symbols_of (declarations l.work.pool.trees l.work.decls.list);
+  same : behind l.equiv (first_group_fault (symbols_of (declarations l.work.pool.trees l.work.decls.list)) (equivalences_in (declarations l.work.pool.trees (drop l.k l.work.decls.list)))) ≡ first_group_fault (symbols_of (declarations l.work.pool.trees l.work.decls.list)) (equivalences_in (declarations l.work.pool.trees l.work.decls.list));
 }

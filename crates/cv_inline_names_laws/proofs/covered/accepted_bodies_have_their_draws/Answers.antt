@@ -10,6 +10,6 @@ use Rattle.cv_inline_names_laws.proofs.covered.Functions.{all_callings, drawn_fo
 use Rattle.cv_inline_names_laws.proofs.covered.accepted_bodies_have_their_draws.Goals as goal
 
 pub returns : goal.returns
-returns c constants k names labels role accepted side right bare =
-    all_callings (λ (l : Calling). (p : Inlining) → HasDraws constants (names_of_draws (side_group Right k.equivalence) (callings_of k) names labels role) (callings_of k) l p → IsDrawnFor constants (functions_in Right k.equivalence) l.function p (callers_of (callings_of k)))
-    (callings_of k) (drawn_for constants k.equivalence k.game k.functions names labels role accepted side right bare)
+returns c symbols k names labels role accepted side right bare =
+    all_callings (λ (l : Calling). (p : Inlining) → HasDraws symbols.constant (names_of_draws (side_group Right k.equivalence) (callings_of k) names labels role) (callings_of k) l p → IsDrawnFor symbols.constant (functions_in Right k.equivalence) l.function p (callers_of (callings_of k)))
+    (callings_of k) (drawn_for symbols k.equivalence k.game k.functions names labels role accepted side right bare)

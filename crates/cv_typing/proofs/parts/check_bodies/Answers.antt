@@ -59,4 +59,4 @@ pub returns : goal.returns
 returns c =
     let trees = c.args.pool.now.trees in
     let end = bodies_end (arrays_of c.args.arrays.now) (tree_at trees c.args.key) (drop c.list.n c.args.sorts.now) (tree_at trees c.list.at) (empty_at trees c.list.at c.in_default.is) in
-    Rattle.cv_typing.proofs.Bodies.all-checked (declarations trees c.args.decls.now.list) c.args.from c.list.place _ _ end c.list.invariant.same c.list.invariant.sum
+    Rattle.cv_typing.proofs.Bodies.all_checked (declarations trees c.args.decls.now.list) c.args.from c.list.place _ _ end c.list.invariant.same c.list.invariant.sum

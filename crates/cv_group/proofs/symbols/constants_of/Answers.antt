@@ -7,7 +7,7 @@ use Rattle.cv_syntax.specs.Declarations.{declarations}
 use Rattle.cv_meaning.specs.Interpretation.{is_constant_of}
 use Rattle.std.proofs.Math.Path.{fun_ext}
 use Rattle.cv_group.specs.Tables.{constant_in}
-use Rattle.cv_group.proofs.constants.constants_of.Goals as goal
+use Rattle.cv_group.proofs.symbols.constants_of.Goals as goal
 
 pub constant-requires : goal.constant-requires
 constant-requires c = list.live_at (length c.args.pool.now.trees) c.args.decls.now.list c.decls.k _ c.requires c.get.ensures

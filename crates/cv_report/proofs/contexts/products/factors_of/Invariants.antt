@@ -1,11 +1,11 @@
 use Rattle.std.proofs.Common.{◌≡◌, ◌≤◌, drop, length}
-use Rattle.cv_report.specs.contexts.Contexts.{factors_of}
-use Rattle.cv_report.proofs.contexts.contexts.factors_of.Given as goal
+use Rattle.cv_report.specs.contexts.Factors.{factors_of}
+use Rattle.cv_report.proofs.contexts.products.factors_of.Given as goal
 
 abbrev pub invariant-parameters : goal.invariant-parameters
 invariant-parameters l = record {
   within : l.left ≤ length l.parameters;
-  same : l.factors.items ≡ factors_of (drop l.left l.parameters);
+  same : l.factors.items ≡ factors_of l.order (drop l.left l.parameters);
 }
 
 abbrev pub decreases-parameters : goal.decreases-parameters
