@@ -43,6 +43,7 @@ use Rattle.cv_plain.specs.Strategy.{Course, EndsAt, most_pool, most_steps, nothi
 use Rattle.cv.specs.Contexts.{contexts_in}
 use Rattle.cv_report.specs.outcome.Refused.{SaysNothing}
 use Rattle.cv.specs.Drawings.{HasDrawn}
+use Rattle.cv.specs.Steps.{HasCloseSteps, IsCloseStep, game_along}
 use Rattle.cv.specs.Strategy.{AcceptsAll, EndsBy, EndsWell, HasFile, HoldsUpTo, IsExpected, IsGood, IsSound, Judged, Proceeds, SpeaksOfFile, Succeeds, declared_in, file_in, game_in, steps_in}
 use Rattle.cv_report.specs.outcome.Words.{AreTold, bytes_named, bytes_under}
 use Rattle.cv.proofs.Causing.{where_told}
@@ -203,6 +204,9 @@ sound_without r e = subst (λ (o : Option SourceFile). IfSome o (λ f. (k : ℕ)
 pub close_without : (r : Report) → r.file ≡ None → HasCloseGames r
 close_without r e = subst (λ (o : Option SourceFile). IfSome o (λ f. (k : ℕ) (x : Entry) (g : Game) → slice_get r.trail.items k ≡ Some x → x.next ≡ Some g → IsWithin (declared_in r) (contexts_in r) (game_in r f) (tree_at r.work.pool.trees (Some g.root)) (summed [] (map (λ x. x.cost) (take (k + 1) r.trail.items))))) (sym e) tt
 
+pub steps_without : (r : Report) → r.file ≡ None → HasCloseSteps r
+steps_without r e = subst (λ (o : Option SourceFile). IfSome o (λ f. (k : ℕ) (x : Entry) (g : Game) → slice_get r.trail.items k ≡ Some x → x.next ≡ Some g → IsCloseStep (declared_in r) (contexts_in r) (game_along r.work.pool.trees (game_in r f) (take k r.trail.items)) (tree_at r.work.pool.trees (Some g.root)) x.cost)) (sym e) tt
+
 -- no file is read from bytes, the told ones where there are any
 abbrev told_bytes : Option (List ℕ) → List ℕ
 told_bytes None = []
@@ -235,7 +239,7 @@ memory_answers told r e n s = answers_without told r e n (λ h. subst HasFile s 
 pub memory_cause : (o : Outside) (r : Report) → r.status ≡ status.Memory → ComesFrom o r r.status
 memory_cause o r s = subst (ComesFrom o r) (sym s) cause.memory
 
-pub ruleset without_file = (sound_without, close_without, memory_answers, memory_cause)
+pub ruleset without_file = (sound_without, close_without, steps_without, memory_answers, memory_cause)
 
 -- bytes that are refused
 

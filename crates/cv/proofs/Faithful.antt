@@ -15,15 +15,13 @@ use Rattle.cv_bound.specs.Sums.{added, with_terms}
 use Rattle.cv_bound.specs.declared.cost.Cost.TheVariants as bound
 use Rattle.cv_bound.specs.declared.terms.Term.{Term}
 use Rattle.cv_bound_values.specs.Values.{Advantages, sum_value}
-use Rattle.cv_meaning.specs.Advantage.{IsAsked, chance_of}
+use Rattle.cv_meaning.specs.Advantage.{chance_of}
 use Rattle.cv_meaning.specs.Chances.{AtMost, distance}
-use Rattle.cv_meaning.specs.Experiments.{Experiment, mode_of}
+use Rattle.cv_meaning.specs.Experiments.{Experiment}
 use Rattle.cv_meaning.specs.Interpretation.{Interpretation, setting_of}
-use Rattle.cv_meaning.specs.Queries.{queries_in}
 use Rattle.cv_meaning.specs.Runs.{Adversary}
-use Rattle.cv_meaning.specs.Satisfies.{Satisfies}
 use Rattle.cv_meaning_contexts.specs.Sides.{Context}
-use Rattle.cv_meaning_chances.specs.values.Values.{HasValuesIn}
+use Rattle.cv_meaning_chances.specs.Fractions.{HasTapes}
 use Rattle.cv_kernel.specs.Closings.{Closing, closing_in, closing_of_items}
 use Rattle.cv_kernel.specs.Proofs.{IsProof, IsTransition, Transition, closed_by, game_behind, push, start}
 use Rattle.cv_kernel.specs.Sayings.{Accepted, MaySay}
@@ -36,7 +34,7 @@ use Rattle.cv_script.specs.declared.steps.Step.{Step}
 use Rattle.cv_script.specs.Views.{items_of_step}
 use Rattle.cv_sequences.specs.Chains.{ByEquivalence, ByStep, HasPrice, IsChain, IsFileOf, IsLink, Link, Prices, cost_behind, costs_behind, game_after, next_behind, summed}
 use Rattle.cv_sequences.specs.Chains as chains
-use Rattle.cv_sequences.proofs.Chains.{chain_ends, within}
+use Rattle.cv_sequences.proofs.Chains.{chain_ends, has_tapes, taped as taped_sum, valued as valued_along, within}
 use Rattle.cv_steps.specs.Sequences.{scene}
 use Rattle.cv_steps_crypto.specs.Conditions.{equivalence_of}
 use Rattle.cv_steps_crypto.specs.Steps.{reduction_of}
@@ -52,7 +50,8 @@ use Rattle.cv_sequences.proofs.secrets.Sums.{plain, put}
 use Rattle.cv_kernel_laws.proofs.rules.Sound.{sound}
 use Rattle.cv_follow.proofs.StepKinds.{Kind, closure, kind_of, passage, reduction}
 use Rattle.cv_follow.proofs.StepKinds as kind
-use Rattle.cv_accept_laws.proofs.Ready.{file_of, valued}
+use Rattle.cv_accept_laws.proofs.Ready.{file_of, taped, valued}
+use Rattle.cv.proofs.Taped.{HaveTapedContexts, HaveValues, taped_prices}
 
 -- the front of a proof
 
@@ -152,7 +151,7 @@ module _ (ds : List Declaration) (own : ℕ) where
   contexts_along step game [] = []
   contexts_along step game (t ∷ ts) = with_context step (context_by ds own game (items_of_step t.step)) (contexts_along (suc step) (game_kept game (closing_in t.step) t.next) ts)
 
-abbrev game_along : (game : Tree) → List Transition → Tree
+abbrev pub game_along : (game : Tree) → List Transition → Tree
 game_along game [] = game
 game_along game (t ∷ ts) = game_along (game_kept game (closing_in t.step) t.next) ts
 
@@ -174,7 +173,7 @@ context_at ds own step game (u ∷ before) t behind c e =
 
 -- the contexts of links are those of a list by their numbers
 
-abbrev HasContext : Contexts → Scene → Link → Type 0
+abbrev pub HasContext : Contexts → Scene → Link → Type 0
 HasContext cs s (ByStep step cost next) = Unit {0}
 HasContext cs s (ByEquivalence n e key next) = (t : Tree) → equivalence_of s e ≡ Some t → context_of cs n ≡ Some (context_of_game (reduction_of s t key))
 
@@ -195,12 +194,42 @@ module _ (ds : List Declaration) (own : ℕ) (cs : Contexts) where
 
   -- so their prices are the advantages of the contexts
   module _ (i : Interpretation) (x : Experiment) (a : Adversary) (advantages : Advantages) (are : (n : ℕ) → advantages n Events ≡ advantage_of ds i x a (context_of cs n)) where
-    price_of : (game : Tree) (l : Link) → HasContext cs (scene ds (known_to own) game) l → HasPrice (scene ds (known_to own) game) advantages i x a l
+    pub price_of : (game : Tree) (l : Link) → HasContext cs (scene ds (known_to own) game) l → HasPrice (scene ds (known_to own) game) advantages i x a l
     price_of game (ByStep step cost next) h = tt
     price_of game (ByEquivalence n e key next) h = λ t q. are n ∙ ap (advantage_of ds i x a) (h t q)
 
     pub prices : (first : Tree) (links : List Link) → HaveContexts first links → Prices ds (known_to own) first links advantages i x a
     prices first links h before l behind e = price_of (game_after first before) l (context_there first before l behind (subst (HaveContexts first) e h))
+
+-- a step that changes the game is a link, whose context is that with the step's number
+
+pub record HasLink (ds : List Declaration) (own : ℕ) (cs : Contexts) (game : Tree) (t : Transition) : Type 0 where
+  pub link : Link
+  pub leads : IsLink (scene ds (known_to own) game) link
+  pub next : next_behind link ≡ t.next
+  pub costs : t.cost ≡ cost_behind link
+  pub context : HasContext cs (scene ds (known_to own) game) link
+
+-- of a cryptographic step this is the context
+abbrev pub HasContextAt : List Declaration → (own : ℕ) → Contexts → (number : ℕ) → (game : Tree) → Transition → Type 0
+HasContextAt ds own cs n game t = (c : Context) → context_by ds own game (items_of_step t.step) ≡ Some c → context_of cs n ≡ Some c
+
+pub link_of : (ds : List Declaration) (own : ℕ) (cs : Contexts) (n : ℕ) (ks : List ℕ) (game : Tree) (t : Transition) → closing_in t.step ≡ None → HasContextAt ds own cs n game t → IsTransition ds (known_to own) n ks game t → Kind (items_of_step t.step) → HasLink ds own cs game t
+link_of ds own cs n ks game t none there i (kind.reduces e x q) =
+    let at : Scene = scene ds (known_to own) game in
+    let r = reduction at ks n e x t.step t.next t.cost (subst (λ o. MaySay at ks n t.step o (Accepted t.next t.cost)) q i.accepted) in
+    record {
+      link = ByEquivalence n e x t.next;
+      leads = r.leads;
+      next = refl;
+      costs = r.costs;
+      context = λ y j. there (context_of_game (reduction_of at y x)) (ap (context_by ds own game) q ∙ ap (option_map (λ z. context_of_game (reduction_of at z x))) j);
+    }
+link_of ds own cs n ks game t none there i (kind.judged j (kind.changes c)) =
+    let at : Scene = scene ds (known_to own) game in
+    let p = passage at t.next t.cost ks t.step c.closing (j.says at ks n t.step _ i.accepted) in
+    record { link = ByStep p.rule.step p.price t.next; leads = (sound p.told p.rule p.ruled, p.accepted); next = refl; costs = p.costs; context = tt }
+link_of ds own cs n ks game t none there i (kind.judged j (kind.closes k by q)) = absurd (let z = sym none ∙ ap (option_and_then closing_of_items) q in cc)
 
 -- the steps of a proof that change the game are the links of a chain, with the same sum, whose contexts are those of the whole proof
 
@@ -215,15 +244,15 @@ module _ (ds : List Declaration) (own : ℕ) (first : Tree) where
   at game = scene ds (known_to own) game
 
   module _ (cs : Contexts) (before : List Transition) (game : Tree) (t : Transition) (h : HasLinks ds own first cs before game) where
-    link_more : (l : Link) → IsLink (at game) l → next_behind l ≡ t.next → t.cost ≡ cost_behind l → HasContext cs (at game) l → HasLinks ds own first cs (before ++ t ∷ []) t.next
-    link_more l k n c d = record {
-      links = h.links ++ l ∷ [];
-      chain = subst (IsChain ds (known_to own) first (h.links ++ l ∷ [])) n (chains.push h.links game l h.chain k);
-      contexts = contexts_put ds own cs first h.links l h.contexts (subst (λ g. HasContext cs (at g) l) (sym (chain_ends ds (known_to own) first h.links game h.chain)) d);
+    link_more : HasLink ds own cs game t → HasLinks ds own first cs (before ++ t ∷ []) t.next
+    link_more k = record {
+      links = h.links ++ k.link ∷ [];
+      chain = subst (IsChain ds (known_to own) first (h.links ++ k.link ∷ [])) k.next (chains.push h.links game k.link h.chain k.leads);
+      contexts = contexts_put ds own cs first h.links k.link h.contexts (subst (λ g. HasContext cs (at g) k.link) (sym (chain_ends ds (known_to own) first h.links game h.chain)) k.context);
       sums = λ b.
-          ap (summed_by b []) (map-append cost_behind h.links (l ∷ []))
-          ∙ (put b [] (costs_behind h.links) (cost_behind l)
-          ∙ (ap₂ (λ sum k. added sum k b) (h.sums b) (sym c) ∙ sym (summed_on b before t)));
+          ap (summed_by b []) (map-append cost_behind h.links (k.link ∷ []))
+          ∙ (put b [] (costs_behind h.links) (cost_behind k.link)
+          ∙ (ap₂ (λ sum c. added sum c b) (h.sums b) (sym k.costs) ∙ sym (summed_on b before t)));
     }
 
     -- a step that closes a query is none
@@ -240,53 +269,52 @@ module _ (ds : List Declaration) (own : ℕ) (first : Tree) where
               ∙ (ap (λ z. added (summed_by b [] (map (λ x. x.cost) before)) z b) (sym k.costs) ∙ sym (summed_on b before t)));
         }
 
-    -- of a cryptographic step this is the context
-    abbrev IsThere : Type 0
-    IsThere = (c : Context) → context_by ds own game (items_of_step t.step) ≡ Some c → context_of cs (suc (length before)) ≡ Some c
-
-    link_by : Kind (items_of_step t.step) → IsThere → IsTransition ds (known_to own) (suc (length before)) (closed_by before) game t → HasLinks ds own first cs (before ++ t ∷ []) t.next
-    link_by (kind.reduces e x q) there i =
-        let r = reduction (at game) (closed_by before) (suc (length before)) e x t.step t.next t.cost (subst (λ o. MaySay (at game) (closed_by before) (suc (length before)) t.step o (Accepted t.next t.cost)) q i.accepted) in
-        link_more (ByEquivalence (suc (length before)) e x t.next) r.leads refl r.costs
-        (λ y j. there (context_of_game (reduction_of (at game) y x)) (ap (context_by ds own game) q ∙ ap (option_map (λ z. context_of_game (reduction_of (at game) z x))) j))
-    link_by (kind.judged j (kind.changes c)) there i =
-        let p = passage (at game) t.next t.cost (closed_by before) t.step c.closing (j.says (at game) (closed_by before) (suc (length before)) t.step _ i.accepted) in
-        link_more (ByStep p.rule.step p.price t.next) (sound p.told p.rule p.ruled, p.accepted) refl p.costs tt
-    link_by (kind.judged j (kind.closes k by q)) there i = link_none (record { query = k; certificate = by }) (ap (option_and_then closing_of_items) q) i
+    link_by : (o : Option Closing) → closing_in t.step ≡ o → HasContextAt ds own cs (suc (length before)) game t → IsTransition ds (known_to own) (suc (length before)) (closed_by before) game t → HasLinks ds own first cs (before ++ t ∷ []) t.next
+    link_by None n there i = link_more (link_of ds own cs (suc (length before)) (closed_by before) game t n there i (kind_of (items_of_step t.step)))
+    link_by (Some c) n there i = link_none c n i
 
   -- the games of a proof
   kept_by : (game : Tree) (t : Transition) (n : ℕ) (ks : List ℕ) → IsTransition ds (known_to own) n ks game t → (o : Option Closing) → closing_in t.step ≡ o → game_kept game o t.next ≡ t.next
   kept_by game t n ks i None e = refl
   kept_by game t n ks i (Some c) e = sym (closure (at game) ks n t.step c t.next t.cost e i.accepted).game
 
-  along_is : (ts : List Transition) (last : Tree) → IsProof ds (known_to own) first ts last → game_along first ts ≡ last
+  pub along_is : (ts : List Transition) (last : Tree) → IsProof ds (known_to own) first ts last → game_along first ts ≡ last
   along_is ts last start = refl
   along_is ts last (push before game t p i) =
       along_put first before t ∙ (ap (λ g. game_kept g (closing_in t.step) t.next) (along_is before game p) ∙ kept_by game t (suc (length before)) (closed_by before) i (closing_in t.step) refl)
+
+  pub context_numbered : (before : List Transition) (game : Tree) → IsProof ds (known_to own) first before game → (t : Transition) (rest : List Transition) → HasContextAt ds own (contexts_along ds own 1 first (before ++ t ∷ rest)) (suc (length before)) game t
+  context_numbered before game p t rest c e =
+      let n : 1 + length before ≡ suc (length before) = omega arith in
+      sym (ap (context_of (contexts_along ds own 1 first (before ++ t ∷ rest))) n) ∙ context_at ds own 1 first before t rest c (ap (λ g. context_by ds own g (items_of_step t.step)) (along_is before game p) ∙ e)
 
   pub links_of : (ts : List Transition) (last : Tree) → IsProof ds (known_to own) first ts last → (rest : List Transition) → HasLinks ds own first (contexts_along ds own 1 first (ts ++ rest)) ts last
   links_of ts last start rest = record { links = []; chain = chains.start; contexts = tt; sums = λ b. refl }
   links_of ts last (push before game t p i) rest =
       let cs = contexts_along ds own 1 first (before ++ t ∷ rest) in
-      let n : 1 + length before ≡ suc (length before) = omega arith in
       subst (λ all. HasLinks ds own first (contexts_along ds own 1 first all) (before ++ t ∷ []) t.next) (sym (append_assoc before (t ∷ []) rest))
-      (link_by cs before game t (links_of before game p (t ∷ rest)) (kind_of (items_of_step t.step))
-      (λ c e. sym (ap (context_of cs) n) ∙ context_at ds own 1 first before t rest c (ap (λ g. context_by ds own g (items_of_step t.step)) (along_is before game p) ∙ e)) i)
+      (link_by cs before game t (links_of before game p (t ∷ rest)) (closing_in t.step) refl (context_numbered before game p t rest) i)
 
   -- so no adversary tells its games
-  pub close : IsFileOf ds own first → ((i : Interpretation) → Satisfies ds i → (x : Experiment) → IsAsked (queries_in ds) x → HasValuesIn (setting_of ds i) (mode_of x) first)
-      → (ts : List Transition) (last : Tree) → IsProof ds (known_to own) first ts last → (rest : List Transition) → IsWithin ds (contexts_along ds own 1 first (ts ++ rest)) first last (summed [] (map (λ t. t.cost) ts))
-  close w values ts last p rest = λ i sat x q a.
+  pub close : IsFileOf ds own first → HaveValues ds first → HaveTapedContexts ds own → (ts : List Transition) (last : Tree) → IsProof ds (known_to own) first ts last → (rest : List Transition) → IsWithin ds (contexts_along ds own 1 first (ts ++ rest)) first last (summed [] (map (λ t. t.cost) ts))
+  close w values taped ts last p rest = λ i sat x q a.
       let cs = contexts_along ds own 1 first (ts ++ rest) in
       let h = links_of ts last p rest in
+      let v = values i sat x q in
       let advantages = advantages_in ds i cs x a in
-      subst (λ s. AtMost (distance (chance_of (setting_of ds i) x a first) (chance_of (setting_of ds i) x a last)) (sum_value i advantages s)) (sym (plain [] (costs_behind h.links)) ∙ (h.sums false ∙ plain [] (map (λ t. t.cost) ts)))
-      (within ds own first w i sat x q (values i sat x q) a advantages h.links last h.chain (prices ds own cs i x a advantages (λ n. refl) first h.links h.contexts))
+      let priced = prices ds own cs i x a advantages (λ n. refl) first h.links h.contexts in
+      let sum = sym (plain [] (costs_behind h.links)) ∙ (h.sums false ∙ plain [] (map (λ t. t.cost) ts)) in (
+        has_tapes ds own first w i sat x q v a [] first chains.start,
+        has_tapes ds own first w i sat x q v a h.links last h.chain,
+        subst (λ s. HasTapes (sum_value i advantages s)) sum (taped_sum i advantages h.links (taped_prices ds own first taped i sat x a advantages (valued_along ds own first w i sat x q v) h.links last h.chain priced)),
+        subst (λ s. AtMost (distance (chance_of (setting_of ds i) x a first) (chance_of (setting_of ds i) x a last)) (sum_value i advantages s)) sum
+            (within ds own first w i sat x q v a advantages h.links last h.chain priced),
+      )
 
 -- the trail of a report
 
 -- what stands in one list stands in the other, where they say the same
-matched : (trees : List KindTree) (es : List Entry) (ts : List Transition) (k : ℕ) (e : Entry) → map (entry_in trees) es ≡ map entry_of ts → slice_get es k ≡ Some e → (t : Transition) × (slice_get ts k ≡ Some t) × (entry_in trees e ≡ entry_of t)
+pub matched : (trees : List KindTree) (es : List Entry) (ts : List Transition) (k : ℕ) (e : Entry) → map (entry_in trees) es ≡ map entry_of ts → slice_get es k ≡ Some e → (t : Transition) × (slice_get ts k ≡ Some t) × (entry_in trees e ≡ entry_of t)
 matched trees [] ts k e m h = absurd (cc)
 matched trees (x ∷ es) [] k e m h = absurd (cc)
 matched trees (x ∷ es) (t ∷ ts) zero e m h = let f : x ≡ e = cc in (t, refl, ap (entry_in trees) (sym f) ∙ (cc))
@@ -305,19 +333,19 @@ next_behind_step : (c : Option Closing) (t g : Tree) → game_behind c t ≡ Som
 next_behind_step None t g e = cc
 next_behind_step (Some d) t g e = absurd (cc)
 
-next_tree : (trees : List KindTree) (e : Entry) (t : Transition) (g : Game) → entry_in trees e ≡ entry_of t → e.next ≡ Some g → t.next ≡ tree_at trees (Some g.root)
+pub next_tree : (trees : List KindTree) (e : Entry) (t : Transition) (g : Game) → entry_in trees e ≡ entry_of t → e.next ≡ Some g → t.next ≡ tree_at trees (Some g.root)
 next_tree trees e t g m n =
     next_behind_step (closing_in t.step) t.next (tree_at trees (Some g.root))
     (sym (ap (λ (y : Told). y.3) m) ∙ ap (option_map (λ h. tree_at trees (Some h.root))) n)
 
-none_next : (ss : List Step) (k : ℕ) (e : Entry) (g : Game) → slice_get (map closing ss) k ≡ Some e → e.next ≡ Some g → ⊥
+pub none_next : (ss : List Step) (k : ℕ) (e : Entry) (g : Game) → slice_get (map closing ss) k ≡ Some e → e.next ≡ Some g → ⊥
 none_next [] k e g h n = cc
 none_next (s ∷ ss) zero e g h n = let f : closing s ≡ e = cc in let m = ap (λ x. x.next) f ∙ n in cc
 none_next (s ∷ ss) (suc k) e g h n = none_next ss k e g h n
 
 -- the contexts of its entries are those of the transitions
 
-same_game : (trees : List KindTree) (game next : Tree) (o : Option Game) (c : Option Closing) → option_map (λ h. tree_at trees (Some h.root)) o ≡ game_behind c next → game_of_entry trees game o ≡ game_kept game c next
+pub same_game : (trees : List KindTree) (game next : Tree) (o : Option Game) (c : Option Closing) → option_map (λ h. tree_at trees (Some h.root)) o ≡ game_behind c next → game_of_entry trees game o ≡ game_kept game c next
 same_game trees game next None None e = absurd (cc)
 same_game trees game next None (Some c) e = refl
 same_game trees game next (Some g) None e = cc
@@ -347,7 +375,7 @@ module _ (holds : (ds : List Declaration) → DerivationsHold ds) (unreached : (
   close_content : (ts : List Transition) (last : Tree) → IsProof c.declarations (known_to c.own) c.game ts last → (rest : List Transition) → IsWithin c.declarations (contexts_along c.declarations c.own 1 c.game (ts ++ rest)) c.game last (summed [] (map (λ t. t.cost) ts))
   close_content ts last p rest =
       let w = file_of bytes c reads holds unreached few in
-      close c.declarations c.own c.game w (valued bytes c reads w.ready) ts last p rest
+      close c.declarations c.own c.game w (valued bytes c reads w.ready) (taped bytes c reads) ts last p rest
 
   script_close : (steps : List Tree) → r.file ≡ Some f → file_in r f (length c.names) ≡ c → FollowsScript r f steps → AreClose r f
   script_close steps there held w k e g h n =

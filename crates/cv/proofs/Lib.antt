@@ -11,3 +11,5 @@ pub mod Walking
 pub mod Writing
 pub mod Ended
 pub mod Closers
+pub mod Taped
+pub mod Stepping

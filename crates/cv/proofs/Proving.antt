@@ -1,5 +1,5 @@
 -- A query that a proof closes holds up to its sum.
-use Rattle.std.proofs.Common.{◌≡◌, ℕ, suc, ◌+◌, ◌≤◌, Bool, true, false, if◌then◌else◌, List, [], ◌∷◌, ◌++◌, length, map, drop, take, append_assoc, refl, ap, ap₂, sym, ◌∙◌, subst, arith, Option, Some, None, Ok, inl, inr}
+use Rattle.std.proofs.Common.{◌≡◌, ℕ, suc, ◌+◌, ◌≤◌, Bool, true, false, if◌then◌else◌, List, [], length, map, drop, take, refl, ap, ap₂, sym, ◌∙◌, subst, arith, Option, Some, None, Ok, inl, inr}
 use Rattle.std.specs.Prelude.{◌↔◌, Contains, slice_get}
 use Rattle.std.specs.List.{list_any}
 use Rattle.std.proofs.lemmas.List.{take-append-drop}
@@ -8,18 +8,15 @@ use Rattle.cv_syntax_trees.specs.Declarations.{Declaration}
 use Rattle.cv_syntax_trees.specs.Tree.{Tree, Empty, Node}
 use Rattle.cv_bound.specs.declared.terms.Term.{Term}
 use Rattle.cv_bound.specs.Sums.{added}
-use Rattle.cv_bound_values.specs.Values.{Advantages, sum_value}
-use Rattle.cv_meaning.specs.Advantage.{IsAsked, chance_of, secrecy, secrecy_query}
+use Rattle.cv_bound_values.specs.Values.{sum_value}
+use Rattle.cv_meaning.specs.Advantage.{chance_of, secrecy, secrecy_query}
 use Rattle.cv_meaning.specs.Chances.{AtMost, zero_chance}
-use Rattle.cv_meaning.specs.Experiments.{Breaks, Experiment, Guesses, mode_of}
+use Rattle.cv_meaning.specs.Experiments.{Breaks, Experiment, Guesses}
 use Rattle.cv_meaning.specs.Interpretation.{Interpretation, setting_of}
 use Rattle.cv_meaning.specs.Runs.{Adversary, Random, Real}
 use Rattle.cv_meaning.specs.Satisfies.{Satisfies}
 use Rattle.cv_meaning_chances.specs.Fractions.{HasTapes}
-use Rattle.cv_meaning_contexts.specs.ContextAdvantage.{context_advantage}
-use Rattle.cv_meaning_chances.specs.values.Values.{HasValuesIn}
 use Rattle.cv_meaning.specs.Queries.{queries_in}
-use Rattle.cv_typing_rules.specs.Signature.{declaration_of}
 use Rattle.cv_query_direct.specs.forms.Built.{asks_unbuilt, has_unbuilt, is_unbuilt_step, lacks_form}
 use Rattle.cv_query_certificates.specs.Accepted.{IsAccepted, IsEventsProof, IsSecretProof, is_built}
 use Rattle.cv_query_certificates.specs.Failures.{first_failure}
@@ -32,20 +29,14 @@ use Rattle.cv_report.specs.declared.report.Report.{Report}
 use Rattle.cv_syntax.specs.declared.work.File.{File}
 use Rattle.cv_query_direct.specs.closed_terms.Closed.{HasClosedQueries, IsClosedQuery}
 use Rattle.cv_query_laws.specs.correspondences.Premises.{IsProved}
-use Rattle.cv_scene.specs.Reductions.{context_of_game}
 use Rattle.cv_scene.specs.Scenes.{Scene}
 use Rattle.cv_scene.specs.Sights.{from_one}
 use Rattle.cv_script.specs.Views.{items_of_step}
 use Rattle.cv_derive_laws.specs.stores.Holding.{IsReady}
 use Rattle.cv_derive_laws.specs.stores.Soundness.{DerivationsHold, DerivedBodiesAreUnreached}
-use Rattle.cv_match_laws.specs.answers.Answers.{file_scene}
 use Rattle.cv_steps.specs.Sequences.{scene}
-use Rattle.cv_steps_crypto.specs.Conditions.{equivalence_by}
-use Rattle.cv_steps_crypto.specs.Steps.{reduction_of}
-use Rattle.cv_steps_crypto.proofs.Accepted.{accepted as accepted_step}
-use Rattle.cv_sequences.specs.Chains.{ByEquivalence, ByStep, HasPrice, HasTapedPrice, HaveTapedPrices, IsChain, IsFileOf, IsLink, Link, Prices, costs_behind}
-use Rattle.cv_sequences.specs.Chains as chains
-use Rattle.cv_sequences.proofs.Chains.{carried, chain_ends, games_ready, taped as taped_sum}
+use Rattle.cv_sequences.specs.Chains.{IsChain, IsFileOf, Link, costs_behind}
+use Rattle.cv_sequences.proofs.Chains.{carried, games_ready, taped as taped_sum}
 use Rattle.cv_bound.specs.declared.cost.Cost.{Cost as SumCost}
 use Rattle.cv_bound.specs.declared.terms.Experiment.{Experiment as TermExperiment}
 use Rattle.cv_bound.specs.declared.terms.Experiment.TheVariants as term
@@ -59,17 +50,18 @@ use Rattle.cv_meaning.specs.Correspondences.{Correspondence, correspondence_of}
 use Rattle.cv_scope_rules.specs.Phrases.{IsWellFormed}
 use Rattle.cv_query_form.specs.Rules.{AreAsked, MayBeAsked}
 use Rattle.cv_accept.proofs.Readings.{accepted}
-use Rattle.cv.proofs.Closers.{Closes, all_put, closed_at, closing_items, contains_at, first_closing, is_false, none_fails, verdict_at}
+use Rattle.cv.proofs.Closers.{Closes, closed_at, closing_items, contains_at, first_closing, is_false, none_fails, verdict_at}
 use Rattle.cv_bound.specs.closings.Queries.{is_among}
 use Rattle.cv_kernel.specs.Closings.{Closing, closing_failure, closing_in, is_secret}
 use Rattle.cv_kernel.specs.Proofs.{IsProof, IsTransition, Transition, closed_by, push, start, sum_of, sums_behind}
 use Rattle.cv.specs.Contexts.{contexts_in}
-use Rattle.cv.specs.Runs.{IsSoundFor}
+use Rattle.cv.specs.Runs.{IsBounded, IsSoundFor}
 use Rattle.cv_follow.specs.Scripts.{known_to}
-use Rattle.cv.specs.Strategy.{FollowsScript, HoldsUpTo, declared_in, file_in, game_in, steps_in}
+use Rattle.cv.specs.Strategy.{FollowsScript, declared_in, file_in, game_in, steps_in}
 use Rattle.cv.specs.Values.{Contexts, advantage_of, advantages_of, context_of, is_once, secret_of, value_of}
 use Rattle.cv_follow.specs.Walks.{sums_along}
 use Rattle.cv_follow.proofs.Closings.{nothing_more, sum_put}
+use Rattle.cv.proofs.Taped.{HaveTapedContexts, HaveValues, taped_prices}
 use Rattle.cv.proofs.Faithful.{HasLinks, StandsIn, contexts_along, links_of, prices, script_contexts, stands_in, summed_on}
 use Rattle.cv_follow.proofs.StepKinds.{IsClosure, closure}
 use Rattle.cv_accept_laws.proofs.Ready.{events_valued, file, file_of, taped, valued as valued_file}
@@ -110,8 +102,7 @@ cost_for true sums c = refl
 cost_for false sums c = refl
 
 module _ (ds : List Declaration) (own : ℕ) (first : Tree) (w : IsFileOf ds own first) (closed : HasClosedQueries ds) (asked : AreAsked first (queries_in ds))
-    (values : (i : Interpretation) → Satisfies ds i → (x : Experiment) → IsAsked (queries_in ds) x → HasValuesIn (setting_of ds i) (mode_of x) first)
-    (taped : (game : Tree) (y : ℕ) (t : Tree) (key : ℕ) → equivalence_by (declaration_of ds y) ≡ Some t → (i : Interpretation) → Satisfies ds i → (x : Experiment) (a : Adversary) → HasValuesIn (setting_of ds i) (mode_of x) game → HasTapes (context_advantage ds i (context_of_game (reduction_of (file_scene ds own game) t key)) x a))
+    (values : HaveValues ds first) (taped : HaveTapedContexts ds own)
     (never : AreNeverBroken) (chosen : AreSecretChoices) (copied : AreSecretCopies) (decided : AreDecided) where
   built_by : (t : Tree) (c : Closing) (query : Tree) → closing_in t ≡ Some c → from_one (queries_in ds) c.query ≡ Some query → is_unbuilt_step (queries_in ds) t ≡ false → is_built query c.certificate ≡ true
   built_by t c query n q e =
@@ -151,21 +142,6 @@ module _ (ds : List Declaration) (own : ℕ) (first : Tree) (w : IsFileOf ds own
       sym (sums_alike b (take n ts) game p)
       ∙ (ap (sum_for b) (sym (costs_nothing (suc (length (take n ts))) (closed_by (take n ts)) game here c (sums_along no_sums (take n ts)) e i)) ∙ sym u)
 
-  -- the prices of links have tapes
-  module _ (i : Interpretation) (sat : Satisfies ds i) (x : Experiment) (a : Adversary) (advantages : Advantages) (v : (links : List Link) (game : Tree) → IsChain ds (known_to own) first links game → HasValuesIn (setting_of ds i) (mode_of x) game) where
-    taped_price : (links : List Link) (game : Tree) (l : Link) → IsChain ds (known_to own) first links game → IsLink (at game) l → HasPrice (at game) advantages i x a l → HasTapedPrice advantages l
-    taped_price links game (ByStep step cost next) r k p = tt
-    taped_price links game (ByEquivalence n e key next) r k p =
-        let y = accepted_step (at game) e key next k in
-        subst HasTapes (sym (p y.equivalence y.is_equivalence)) (taped game e y.equivalence key y.is_equivalence i sat x a (v links game r))
-
-    taped_prices : (links : List Link) (last : Tree) → IsChain ds (known_to own) first links last → Prices ds (known_to own) first links advantages i x a → HaveTapedPrices advantages links
-    taped_prices links last chains.start p = tt
-    taped_prices links last (chains.push before game l c k) p =
-        all_put (HasTapedPrice advantages) before l
-        (taped_prices before game c (λ b m d e. p b m (d ++ l ∷ []) (ap (λ z. z ++ l ∷ []) e ∙ append_assoc b (m ∷ d) (l ∷ []))))
-        (taped_price before game l c k (subst (λ g. HasPrice (at g) advantages i x a l) (chain_ends ds (known_to own) first before game c) (p before l [] refl)))
-
   -- the transition that closes a query first, in its game, with the links to it
   module _ (ts : List Transition) (last : Tree) (p : IsProof ds (known_to own) first ts last) (k : ℕ) (s : List Term) (c : Closes no_sums ts k s) where
     abbrev here : StandsIn ds (known_to own) first ts c.place c.here
@@ -191,7 +167,7 @@ module _ (ds : List Declaration) (own : ℕ) (first : Tree) (w : IsFileOf ds own
         let advantages = advantages_of ds i cs query a in
         let priced = prices ds own cs i (Breaks query) a advantages (λ n. refl) first h.links h.contexts in
         let valued_along = λ (links : List Link) (game : Tree) (chain : IsChain ds (known_to own) first links game). events_valued ds game (games_ready ds own first w links game chain) i sat in (
-          subst (λ x. HasTapes (sum_value i advantages x)) sum (taped_sum i advantages h.links (taped_prices i sat (Breaks query) a advantages valued_along h.links here.game h.chain priced)),
+          subst (λ x. HasTapes (sum_value i advantages x)) sum (taped_sum i advantages h.links (taped_prices ds own first taped i sat (Breaks query) a advantages valued_along h.links here.game h.chain priced)),
           subst (λ x. AtMost (chance_of (setting_of ds i) (Breaks query) a first) (sum_value i advantages x)) sum
               (carried ds own first w i sat (Breaks query) asks (events_valued ds first w.ready i sat) a advantages h.links here.game h.chain priced (never (at here.game) query certificate proved i sat a)),
         )
@@ -213,14 +189,14 @@ module _ (ds : List Declaration) (own : ℕ) (first : Tree) (w : IsFileOf ds own
         let v_random = values i sat drawn asks in
         let along = valued ds own first w i sat in (
           subst (λ z. HasTapes (sum_value i advantages z)) sum
-              (taped_secret i advantages h.links (taped_prices i sat shown a real (along shown asks v) h.links here.game h.chain priced)
-              (taped_prices i sat drawn a random (along drawn asks v_random) h.links here.game h.chain priced_random)),
+              (taped_secret i advantages h.links (taped_prices ds own first taped i sat shown a real (along shown asks v) h.links here.game h.chain priced)
+              (taped_prices ds own first taped i sat drawn a random (along drawn asks v_random) h.links here.game h.chain priced_random)),
           subst (λ z. AtMost (secrecy (setting_of ds i) one x a first) (sum_value i advantages z)) sum
               (carried_secret ds own first w i sat one x asks asks v v_random a advantages h.links here.game h.chain priced priced_random (none i a)),
         )
 
     -- by the kind of the query
-    by_kind : (h : HasLinks ds own first cs front here.game) (query : Tree) → Contains (queries_in ds) query → MayBeAsked first query → IsClosedQuery ds query → (certificate : Tree) → c.closing.certificate ≡ certificate → IsAccepted (at here.game) query certificate → HoldsUpTo ds cs first query s
+    by_kind : (h : HasLinks ds own first cs front here.game) (query : Tree) → Contains (queries_in ds) query → MayBeAsked first query → IsClosedQuery ds query → (certificate : Tree) → c.closing.certificate ≡ certificate → IsAccepted (at here.game) query certificate → IsBounded ds cs first query s
     unfolding MayBeAsked
     by_kind h (Node Query bs sides) asks may is_closed certificate same accepted i sat a =
         breaks h (Node Query bs sides) certificate (record { correspondence = refl; ready = ready_here h; sound = w.derivations; closed = is_closed; accepted = accepted }) asks
@@ -240,7 +216,7 @@ module _ (ds : List Declaration) (own : ℕ) (first : Tree) (w : IsFileOf ds own
 
   -- where each step that closes the query is built, it holds up to the sum, with the contexts of the whole proof
   pub closed_holds : (ts : List Transition) (last : Tree) → IsProof ds (known_to own) first ts last → ((n : ℕ) (t : Transition) → slice_get ts n ≡ Some t → is_unbuilt_step (queries_in ds) t.step ≡ false)
-      → (j : ℕ) (query : Tree) (s : List Term) → slice_get (queries_in ds) j ≡ Some query → sum_of ts (suc j) ≡ Some s → HoldsUpTo ds (contexts_along ds own 1 first ts) first query s
+      → (j : ℕ) (query : Tree) (s : List Term) → slice_get (queries_in ds) j ≡ Some query → sum_of ts (suc j) ≡ Some s → IsBounded ds (contexts_along ds own 1 first ts) first query s
   closed_holds ts last p built j query s q e =
       let c = first_closing no_sums ts (suc j) s e in
       let here = stands_in ds (known_to own) first ts last p c.place c.here c.there in

@@ -21,12 +21,14 @@ use Rattle.cv.specs.Answers.{Answers}
 use Rattle.cv.specs.Causes.{ComesFrom, Outside}
 use Rattle.cv.specs.Runs.{IsSoundFor, Runs}
 use Rattle.cv.specs.Contexts.{contexts_in}
+use Rattle.cv.specs.Values.{Contexts}
 use Rattle.cv_report.specs.outcome.Refused.{SaysNothing}
 use Rattle.cv.specs.Drawings.{HasDrawn}
 use Rattle.cv.specs.Strategy.{EndsBy, FollowsScript, HoldsUpTo, IsSound, Judged, Proceeds, declared_in, file_in, game_in, steps_in}
 use Rattle.cv_report.specs.outcome.Words.{AreTold}
 use Rattle.cv.proofs.Causing.{script_cause_of, verdict_cause}
 use Rattle.cv.proofs.Endings.{memory_answers, memory_cause, sound_without}
+use Rattle.cv.proofs.Taped.{HaveTapedAdvantages}
 use Rattle.cv.proofs.Verdicts.{judged_file}
 
 module _ (c : Content) (f : File) (r : Report) where
@@ -34,11 +36,16 @@ module _ (c : Content) (f : File) (r : Report) where
   ends None p = p.course
   ends (Some s) p = p.walk
 
-  pub run_sound : ((steps : List Tree) → steps_in r ≡ Some steps → r.file ≡ Some f → file_in r f (length c.names) ≡ c → FollowsScript r f steps → IsSoundFor c (contexts_in r) r.verdicts.items) → Runs c f r → IsSound r
-  run_sound k (inl s) = sound_without r s.file
-  run_sound k (inr h) =
+  -- a query with a bound holds up to it, as its advantages have tapes
+  bounded : HaveTapedAdvantages c → (cs : Contexts) → IsSoundFor c cs r.verdicts.items → (k : ℕ) (query : Tree) (s : List Term) → slice_get (queries_in c.declarations) k ≡ Some query → slice_get r.verdicts.items k ≡ Some (Proved s) → HoldsUpTo c.declarations cs c.game query s
+  bounded taped cs h k query s q v i sat a = let b = h k query s q v i sat a in (taped k query q i sat a, b.0, b.1)
+
+  pub run_sound : HaveTapedAdvantages c → ((steps : List Tree) → steps_in r ≡ Some steps → r.file ≡ Some f → file_in r f (length c.names) ≡ c → FollowsScript r f steps → IsSoundFor c (contexts_in r) r.verdicts.items) → Runs c f r → IsSound r
+  run_sound taped k (inl s) = sound_without r s.file
+  run_sound taped k (inr h) =
       subst (λ (o : Option File). IfSome o (λ g. (k : ℕ) (query : Tree) (s : List Term) → slice_get (queries_in (declared_in r)) k ≡ Some query → slice_get r.verdicts.items k ≡ Some (Proved s) → HoldsUpTo (declared_in r) (contexts_in r) (game_in r g) query s)) (sym h.file)
-      (subst (λ (d : Content). IsSoundFor d (contexts_in r) r.verdicts.items) (sym h.content) (by_script (steps_in r) refl h.proceeds))
+      (subst (λ (d : Content). (k : ℕ) (query : Tree) (s : List Term) → slice_get (queries_in d.declarations) k ≡ Some query → slice_get r.verdicts.items k ≡ Some (Proved s) → HoldsUpTo d.declarations (contexts_in r) d.game query s) (sym h.content)
+      (bounded taped (contexts_in r) (by_script (steps_in r) refl h.proceeds)))
     where
       by_script : (o : Option (List Tree)) → steps_in r ≡ o → Proceeds r f o → IsSoundFor c (contexts_in r) r.verdicts.items
       by_script None e p = h.sound e (contexts_in r)

@@ -22,8 +22,9 @@ use Rattle.cv.specs.Faults.{status_of as ended_by}
 use Rattle.cv_plain.specs.Findings.{ended}
 use Rattle.cv_plain.specs.Strategy.{most_pool}
 use Rattle.cv_plain.proofs.Verdicts.{AreSound, sound_in}
-use Rattle.cv.specs.Strategy.{EndsBy, HoldsUpTo, IsExpected, Judged, MayHaveFile}
+use Rattle.cv.specs.Strategy.{EndsBy, IsExpected, Judged, MayHaveFile}
 use Rattle.cv_report.specs.declared.report.Which.TheVariants.{Depth, File, Nodes, Pool, Steps}
+use Rattle.cv.specs.Runs.{IsBounded}
 use Rattle.cv.specs.Values.{Contexts, value_of}
 
 -- what is at most zero is at most anything
@@ -37,7 +38,7 @@ at_most_any p q h =
 no_terms : (ds : List Declaration) (cs : Contexts) (i : Interpretation) (query : Tree) (a : Adversary) (s : List Term) → s ≡ [] → HasTapes (value_of ds i cs query a s)
 no_terms ds cs i query a s e = subst (λ (x : List Term). HasTapes (value_of ds i cs query a x)) (sym e) (omega arith)
 
-pub sound_at : (ds : List Declaration) (game : Tree) (qs : List Tree) (vs : List Verdict) → IsWellFormed ds game → AreSound game qs vs → (cs : Contexts) (k : ℕ) (query : Tree) (s : List Term) → slice_get qs k ≡ Some query → slice_get vs k ≡ Some (Proved s) → HoldsUpTo ds cs game query s
+pub sound_at : (ds : List Declaration) (game : Tree) (qs : List Tree) (vs : List Verdict) → IsWellFormed ds game → AreSound game qs vs → (cs : Contexts) (k : ℕ) (query : Tree) (s : List Term) → slice_get qs k ≡ Some query → slice_get vs k ≡ Some (Proved s) → IsBounded ds cs game query s
 sound_at ds game qs vs w v cs k query s e h i sat a =
     let found = sound_in game qs vs v k query s e h in
     (no_terms ds cs i query a s found.1, at_most_any (advantage (setting_of ds i) query a game) (value_of ds i cs query a s) (no_advantage ds game query w found.0 i a))

@@ -11,7 +11,8 @@ use Rattle.cv.specs.Causes as cause
 use Rattle.cv.specs.Strategy.{IsSound}
 use Rattle.cv_report.specs.outcome.Words.{SaysOfWords}
 use Rattle.cv.specs.Games.{HasCloseGames}
-use Rattle.cv.proofs.Endings.{close_without, memory_answers, sound_without}
+use Rattle.cv.specs.Steps.{HasCloseSteps}
+use Rattle.cv.proofs.Endings.{close_without, memory_answers, sound_without, steps_without}
 
 -- what is kept of a report, or of one that memory ran out in
 
@@ -22,6 +23,10 @@ kept_sound old new (inr m) h = sound_without new m.file
 pub kept_close : (old new : Report) → (new ≡ old) ⊎ SaysMemory old.command new → HasCloseGames old → HasCloseGames new
 kept_close old new (inl e) h = subst HasCloseGames (sym e) h
 kept_close old new (inr m) h = close_without new m.file
+
+pub kept_steps : (old new : Report) → (new ≡ old) ⊎ SaysMemory old.command new → HasCloseSteps old → HasCloseSteps new
+kept_steps old new (inl e) h = subst HasCloseSteps (sym e) h
+kept_steps old new (inr m) h = steps_without new m.file
 
 pub kept_words : (words : List (List ℕ)) (old new : Report) → (new ≡ old) ⊎ SaysMemory old.command new → SaysOfWords words old → SaysOfWords words new
 kept_words words old new (inl e) h = subst (SaysOfWords words) (sym e) h

@@ -4,12 +4,13 @@ use Rattle.std.specs.Prelude.{◌≡◌, ℕ, ◌+◌, List, [], map, take, Some
 use Rattle.cv_bound.specs.declared.terms.Term.{Term}
 use Rattle.cv_bound_values.specs.Values.{sum_value}
 use Rattle.cv_meaning.specs.Advantage.{IsAsked, chance_of}
-use Rattle.cv_meaning.specs.Chances.{AtMost, distance}
+use Rattle.cv_meaning.specs.Chances.{AtMost, Chance, distance}
 use Rattle.cv_meaning.specs.Experiments.{Experiment}
 use Rattle.cv_meaning.specs.Interpretation.{Interpretation, setting_of}
 use Rattle.cv_meaning.specs.Runs.{Adversary}
 use Rattle.cv_meaning.specs.Satisfies.{Satisfies}
 use Rattle.cv_meaning.specs.Queries.{queries_in}
+use Rattle.cv_meaning_chances.specs.Fractions.{HasTapes}
 use Rattle.cv_report.specs.declared.report.Entry.{Entry}
 use Rattle.cv_report.specs.declared.report.Report.{Report}
 use Rattle.cv_sequences.specs.Chains.{summed}
@@ -21,12 +22,16 @@ use Rattle.cv.specs.Contexts.{contexts_in}
 use Rattle.cv.specs.Strategy.{declared_in, game_in}
 use Rattle.cv.specs.Values.{Contexts, advantages_in}
 
+-- Each has tapes, so that it is a number, and the first two differ by at most the third.
+abbrev pub AreWithin : (p q value : Chance) → Type 0
+AreWithin p q value = HasTapes p × HasTapes q × HasTapes value × AtMost (distance p q) value
+
 -- In each experiment for which a query of the file asks, no adversary tells the games by more than the sum, in which the advantages
 -- are those of the contexts in that experiment.
 abbrev pub IsWithin : List Declaration → Contexts → (first next : Tree) → List Term → Type 0
 IsWithin ds cs first next sum =
     (i : Interpretation) → Satisfies ds i → (x : Experiment) → IsAsked (queries_in ds) x → (a : Adversary)
-    → AtMost (distance (chance_of (setting_of ds i) x a first) (chance_of (setting_of ds i) x a next)) (sum_value i (advantages_in ds i cs x a) sum)
+    → AreWithin (chance_of (setting_of ds i) x a first) (chance_of (setting_of ds i) x a next) (sum_value i (advantages_in ds i cs x a) sum)
 
 -- So it is with the game of the file and that of each entry of the trail, by the costs of the entries through it.
 abbrev pub HasCloseGames : Report → Type 0

@@ -4,6 +4,7 @@ pub mod Contexts
 pub mod Faults
 pub mod Games
 pub mod Runs
+pub mod Steps
 pub mod Strategy
 pub mod Values
 pub mod Drawings

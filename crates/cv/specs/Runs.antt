@@ -4,7 +4,14 @@ use Rattle.cv_syntax.specs.declared.work.File.{File}
 use Rattle.cv_syntax_trees.specs.Tree.{Tree}
 use Rattle.cv_bound.specs.declared.terms.Term.{Term}
 use Rattle.cv_accept.specs.Accepted.{Content}
+use Rattle.cv_meaning.specs.Advantage.{advantage}
+use Rattle.cv_meaning.specs.Chances.{AtMost}
+use Rattle.cv_meaning.specs.Interpretation.{Interpretation, setting_of}
 use Rattle.cv_meaning.specs.Queries.{queries_in}
+use Rattle.cv_meaning.specs.Runs.{Adversary}
+use Rattle.cv_meaning.specs.Satisfies.{Satisfies}
+use Rattle.cv_meaning_chances.specs.Fractions.{HasTapes}
+use Rattle.cv_syntax_trees.specs.Declarations.{Declaration}
 use Rattle.cv_report.specs.declared.report.Report.{Report}
 use Rattle.cv_report.specs.declared.report.Status.TheVariants as status
 use Rattle.cv_report.specs.declared.report.Verdict.{Verdict}
@@ -12,14 +19,20 @@ use Rattle.cv_report.specs.declared.report.Verdict.TheVariants.{Proved}
 use Rattle.cv_report.specs.Text.{IsLive}
 use Rattle.cv_report.specs.outcome.Refused.{SaysNothing}
 use Rattle.cv.specs.Drawings.{HasDrawn}
-use Rattle.cv.specs.Strategy.{HoldsUpTo, MayHaveFile, Proceeds, file_in, steps_in}
-use Rattle.cv.specs.Values.{Contexts}
+use Rattle.cv.specs.Strategy.{MayHaveFile, Proceeds, file_in, steps_in}
+use Rattle.cv.specs.Values.{Contexts, value_of}
 
--- where the verdict on a query is `Proved`, the query holds up to the sum, with the advantages of these contexts
+-- the sum's value has tapes, and no adversary has a greater advantage against the query
+abbrev pub IsBounded : List Declaration → Contexts → Tree → Tree → List Term → Type 0
+IsBounded ds cs game query s =
+    (i : Interpretation) → Satisfies ds i → (a : Adversary)
+    → HasTapes (value_of ds i cs query a s) × AtMost (advantage (setting_of ds i) query a game) (value_of ds i cs query a s)
+
+-- where the verdict on a query is `Proved`, the query has the sum as a bound, with the advantages of these contexts
 abbrev pub IsSoundFor : Content → Contexts → List Verdict → Type 0
 IsSoundFor c cs vs =
     (k : ℕ) (query : Tree) (s : List Term)
-    → slice_get (queries_in c.declarations) k ≡ Some query → slice_get vs k ≡ Some (Proved s) → HoldsUpTo c.declarations cs c.game query s
+    → slice_get (queries_in c.declarations) k ≡ Some query → slice_get vs k ≡ Some (Proved s) → IsBounded c.declarations cs c.game query s
 
 -- The report has the file, which holds the same as before, with what comes of its queries or of its proof block. Without a proof block
 -- its verdicts hold whatever contexts advantages in the sums are of: they have none.

@@ -175,11 +175,11 @@ EndsWell status.Proved = Unit {0}
 EndsWell status.Memory = Unit {0}
 EndsWell s = ⊥
 
--- No adversary has a greater advantage against the query than the sum's value, and the value has tapes.
+-- No adversary has a greater advantage against the query than the sum's value. Both have tapes, so that they are numbers.
 abbrev pub HoldsUpTo : List Declaration → Contexts → Tree → Tree → List Term → Type 0
 HoldsUpTo ds cs game query s =
     (i : Interpretation) → Satisfies ds i → (a : Adversary)
-    → HasTapes (value_of ds i cs query a s) × AtMost (advantage (setting_of ds i) query a game) (value_of ds i cs query a s)
+    → HasTapes (advantage (setting_of ds i) query a game) × HasTapes (value_of ds i cs query a s) × AtMost (advantage (setting_of ds i) query a game) (value_of ds i cs query a s)
 
 -- Where the verdict on a query is `Proved`, the query holds up to the sum.
 abbrev pub IsSound : Report → Type 0

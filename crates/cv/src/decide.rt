@@ -13,6 +13,7 @@ ghost use Rattle.cv.specs.Answers.{Answers};
 ghost use Rattle.cv.specs.Causes.{ComesFrom, Outside};
 ghost use Rattle.cv.specs.Games.{HasCloseGames};
 ghost use Rattle.cv.specs.Runs.{Runs};
+ghost use Rattle.cv.specs.Steps.{HasCloseSteps};
 ghost use Rattle.cv.specs.Strategy.{IsSound, Judged};
 ghost use Rattle.cv_report.specs.outcome.Words.{AreTold};
 
@@ -67,6 +68,7 @@ pub fn judge(alloc: Global, work: Work, bytes: &[u8]) -> Report
     requires few { length bytes.now ≤ 1048576 }
     ensures sound { IsSound result }
     ensures games { HasCloseGames result }
+    ensures steps { HasCloseSteps result }
     ensures command { result.command ≡ Command.Prove 32 }
     ensures live { IsLive result }
     ensures answers { (told : Option (List ℕ)) → AreTold told bytes.now → Answers told result }

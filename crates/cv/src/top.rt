@@ -4,6 +4,7 @@ ghost use Rattle.cv_report.specs.Text.{IsLive};
 ghost use Rattle.cv.specs.Answers.{Answers, IsComplete};
 ghost use Rattle.cv.specs.Causes.{ComesFrom, outside_of};
 ghost use Rattle.cv.specs.Games.{HasCloseGames};
+ghost use Rattle.cv.specs.Steps.{HasCloseSteps};
 ghost use Rattle.cv.specs.Strategy.{EndsWell, IsGood, IsSound};
 ghost use Rattle.cv_report.specs.outcome.Words.{AsksOnly, SaysOfWords, bytes_named, file_given};
 ghost use Rattle.cv_report.specs.outcome.Written.{EndsBy, IsWritten};
@@ -25,6 +26,7 @@ const MOST_NODES: u32 = 16_000_000;
 fn prove<F: Shelf>(alloc: Global, name: &str, shelf: &mut F) -> Report
     ensures sound { IsSound result }
     ensures games { HasCloseGames result }
+    ensures steps { HasCloseSteps result }
     ensures command { result.command ≡ Command.Prove 32 }
     ensures live { IsLive result }
     ensures never { (result.status ≢ Status.Words) × (result.status ≢ Status.Write) }
@@ -52,6 +54,7 @@ fn prove<F: Shelf>(alloc: Global, name: &str, shelf: &mut F) -> Report
 fn decide<F: Shelf>(alloc: Global, words: &[String], shelf: &mut F) -> Report
     ensures sound { IsSound result }
     ensures games { HasCloseGames result }
+    ensures steps { HasCloseSteps result }
     ensures words { SaysOfWords (map string_bytes words.now) result }
     ensures live { IsLive result }
     ensures never { result.status ≢ Status.Write }
@@ -84,6 +87,10 @@ pub fn run<F: Shelf, K: Sink>(
     // No adversary tells a game of the report from the first by more than the costs of the steps between, with the
     // advantages of the contexts of the cryptographic ones.
     ensures games { HasCloseGames result.report }
+    // No adversary tells a game of the report from the one before it by more than the cost of its own step. Without a
+    // cost both have one chance; those of a cryptographic step have the chances of its context with the left and with
+    // the right side.
+    ensures steps { HasCloseSteps result.report }
     // The command is the one that the words give. The file that they name is asked for alone, at most once.
     ensures words { SaysOfWords (map string_bytes words.now) result.report }
     ensures asked { AsksOnly (file_given words.now) (F.asked shelf.old) (F.asked shelf.new) }

@@ -24,8 +24,8 @@ use Rattle.cv_meaning_contexts.specs.KeyTerms.{AreFineKeyTerms}
 use Rattle.cv_meaning_contexts.specs.Inlined.{Caller, is_index_of, is_own}
 use Rattle.cv_meaning_contexts.specs.Roles.{Replication, is_plain}
 use Rattle.cv_inline.specs.NextGame.{Calling, call_of, callers_of, callings_of, numbered}
-use Rattle.cv_inline_names_laws.specs.draws.DrawnNames.{find_in, has_indices}
-use Rattle.cv_inline_names_laws.proofs.draws.Names.{label_again}
+use Rattle.cv_inline_draws_laws.specs.DrawnNames.{find_in, has_indices}
+use Rattle.cv_inline_draws_laws.proofs.Names.{label_again}
 use Rattle.cv_inline_laws.specs.runs.Texts.{IsHere, Text, inlining_at, oracles_in, plain_in}
 use Rattle.cv_context_runs.specs.visits.CallTexts.{HasCallTexts, IsAnswered, IsCallText, IsKeyRead}
 use Rattle.cv_inline_names_laws.proofs.accepted.Functions.{accepted_fine}

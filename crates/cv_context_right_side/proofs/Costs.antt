@@ -15,7 +15,7 @@ use Rattle.cv_context_left_side.specs.refusals.Reducible.{IsReducible}
 use Rattle.cv_context_left_side.proofs.refusals.Whole.{apt_game, apt_test}
 use Rattle.cv_context_left_side.proofs.cells.Chances as left
 use Rattle.cv_inline.specs.NextGame.{next_of}
-use Rattle.cv_inline_names_laws.specs.draws.DrawnNames.{drawn_in}
+use Rattle.cv_inline_draws_laws.specs.DrawnNames.{drawn_in}
 use Rattle.cv_inline_laws.specs.runs.Contexts.{IsAskedAlike}
 use Rattle.cv_inline_names_laws.specs.drawn.Named.{NamedContext, names_of, text_of}
 use Rattle.cv_context_right_side.specs.Right.{IsRightGame}

@@ -18,8 +18,8 @@ use Rattle.cv_context_right_side.proofs.texts.Names.{index_named}
 use Rattle.cv_match_laws.specs.answers.Drawn.{AreDrawnFor, callings}
 use Rattle.cv_context_laws.proofs.next_games.Labels.{labels_apart, many_labels}
 use Rattle.cv_meaning_contexts.specs.Roles.{Gone, Plain, Replication, Role}
-use Rattle.cv_inline_names_laws.specs.draws.DrawnNames.{AreApart, DrawnNames, is_new, names_of_draws, role_in}
-use Rattle.cv_inline_names_laws.proofs.draws.Names.{other_role}
+use Rattle.cv_inline_draws_laws.specs.DrawnNames.{AreApart, DrawnNames, is_new, names_of_draws, role_in}
+use Rattle.cv_inline_draws_laws.proofs.Names.{other_role}
 use Rattle.cv_inline_names_laws.specs.drawn.Named.{NamedContext}
 
 -- what holds of each name of a list

@@ -11,8 +11,8 @@ use Rattle.cv_meaning_contexts.specs.Groups.{Right}
 use Rattle.cv_meaning_contexts.specs.Sides.{Context}
 use Rattle.cv_scene.specs.Reductions.{Reduction, context_of_game}
 use Rattle.cv_inline.specs.NextGame.{next_of}
-use Rattle.cv_inline_names_laws.specs.draws.DrawnNames.{drawn_in, find_in}
-use Rattle.cv_inline_names_laws.proofs.draws.Names.{other_label}
+use Rattle.cv_inline_draws_laws.specs.DrawnNames.{drawn_in, find_in}
+use Rattle.cv_inline_draws_laws.proofs.Names.{other_label}
 use Rattle.cv_inline_laws.specs.runs.Contexts.{IsAskedAlike, IsTextOf}
 use Rattle.cv_context_runs.specs.visits.CallTexts.{HasCallTexts}
 use Rattle.cv_context_runs.proofs.visits.FineGames.{context_fine}

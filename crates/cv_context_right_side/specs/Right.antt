@@ -22,7 +22,7 @@ use Rattle.cv_context_left_side.specs.refusals.Reducible.{IsReducible}
 use Rattle.cv_meaning_contexts.specs.Inlined.{is_own}
 use Rattle.cv_meaning_contexts.specs.Roles.{Gone}
 use Rattle.cv_inline.specs.NextGame.{Calling, callings_of}
-use Rattle.cv_inline_names_laws.specs.draws.DrawnNames.{role_in}
+use Rattle.cv_inline_draws_laws.specs.DrawnNames.{role_in}
 use Rattle.cv_context_runs.specs.visits.Fine.{HasRolesOf, has_free_indices, has_label}
 use Rattle.cv_inline_names_laws.specs.accepted.RightBodies.{is_right_side}
 use Rattle.cv_inline_names_laws.specs.cells.Layout.{IsContextText, IsRightFunction}

@@ -19,7 +19,7 @@ ghost use Rattle.cv_typing_runs.specs.Games.{HasArguments};
 ghost use Rattle.cv_scene.specs.Reductions.{Reduction, context_of_game, in_game};
 ghost use Rattle.cv_context_left_side.specs.refusals.Reducible.{IsReducible};
 ghost use Rattle.cv_inline.specs.NextGame.{next_of};
-ghost use Rattle.cv_inline_names_laws.specs.draws.DrawnNames.{drawn_in};
+ghost use Rattle.cv_inline_draws_laws.specs.DrawnNames.{drawn_in};
 ghost use Rattle.cv_inline_laws.specs.runs.Contexts.{IsAskedAlike};
 ghost use Rattle.cv_context_runs.specs.visits.CallTexts.{HasCallTexts};
 ghost use Rattle.cv_inline_names_laws.specs.drawn.Named.{NamedContext, named_on_tape, names_of, text_of};

@@ -1,4 +1,3 @@
-pub mod draws
 pub mod accepted
 pub mod cells
 pub mod covered

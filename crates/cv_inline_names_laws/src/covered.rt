@@ -11,7 +11,7 @@ ghost use Rattle.cv_group_rules.specs.Rules.{functions_in};
 ghost use Rattle.cv_inline.specs.bodies.Inlining.{Inlining};
 ghost use Rattle.cv_meaning_contexts.specs.Roles.{Role};
 ghost use Rattle.cv_inline.specs.NextGame.{Calling, callers_of, callings_of};
-ghost use Rattle.cv_inline_names_laws.specs.draws.DrawnNames.{names_of_draws};
+ghost use Rattle.cv_inline_draws_laws.specs.DrawnNames.{names_of_draws};
 ghost use Rattle.cv_inline_names_laws.specs.accepted.Drawn.{IsDrawnFor};
 ghost use Rattle.cv_inline_names_laws.specs.accepted.RightBodies.{is_right_side};
 ghost use Rattle.cv_inline_names_laws.specs.cells.Layout.{IsRightFunction};

@@ -14,7 +14,7 @@ ghost use Rattle.cv_meaning_contexts.specs.Groups.{Right, side_group};
 ghost use Rattle.cv_meaning_contexts.specs.Worked.{parity};
 ghost use Rattle.cv_meaning_contexts.specs.ContextAdvantage.{context_chance};
 ghost use Rattle.cv_inline.specs.NextGame.{next_of};
-ghost use Rattle.cv_inline_names_laws.specs.draws.DrawnNames.{drawn_in, find_in, has_find};
+ghost use Rattle.cv_inline_draws_laws.specs.DrawnNames.{drawn_in, find_in, has_find};
 ghost use Rattle.cv_inline.specs.Worked.{one_sender};
 ghost use Rattle.cv_inline_laws.specs.runs.Contexts.{IsTextOf};
 ghost use Rattle.cv_inline_names_laws.specs.cells.Cells.{on_tape};

@@ -5,4 +5,3 @@ pub mod accepted;
 pub mod cells;
 pub mod covered;
 pub mod drawn;
-pub mod draws;

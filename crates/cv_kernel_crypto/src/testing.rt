@@ -20,12 +20,11 @@ use cv_bound::Cost;
 use cv_directory::Directory;
 use cv_query_form::has_values;
 use cv_scene_view::names;
-use cv_syntax::{BuildError, Game, Head, NodeId, Pool, Work, query_at, read_node};
+use cv_syntax::{BuildError, Head, NodeId, Pool, Work, query_at, read_node};
 use cv_typing::Arrays;
 use std::alloc::Global;
 
 /// Whether a game has a name, but not as that of a variable with values of a type.
-#[tactic(auto, using(crate::proofs::Kept::game_values))]
 fn is_without_values(pool: &Pool, game: NodeId, sites: &Directory, x: u32) -> bool
     requires live { game.0 < length pool.now.trees }
     requires sites { seen sites.now ≡ sites_of (tree_at pool.now.trees (Some game)) }
@@ -70,22 +69,22 @@ fn some_asks_without_values(work: &Work, game: NodeId, sites: &Directory) -> boo
 }
 
 /// Whether no query of the file asks for the secrecy of a name that the game has without values.
-fn check_queries(work: &Work, game: Game, arrays: &Arrays) -> Result<(), CryptoFault>
-    requires live { game.root.0 < length work.now.pool.trees }
+fn check_queries(work: &Work, game: NodeId, arrays: &Arrays) -> Result<(), CryptoFault>
+    requires live { game.0 < length work.now.pool.trees }
     requires declared { All (IsLive (length work.now.pool.trees)) work.now.decls.list }
     requires arrays { arrays_of arrays.now
-        ≡ OfGame (sites_of (tree_at work.now.pool.trees (Some game.root))) }
+        ≡ OfGame (sites_of (tree_at work.now.pool.trees (Some game))) }
     ensures none { OnOk result (secrets.some_asks_without_values
-        (tree_at work.now.pool.trees (Some game.root))
+        (tree_at work.now.pool.trees (Some game))
         (queries_in (declarations work.now.pool.trees work.now.decls.list)) ≡ false) }
     ensures fault { IfErr result (IsNotKept (secrets.some_asks_without_values
-        (tree_at work.now.pool.trees (Some game.root))
+        (tree_at work.now.pool.trees (Some game))
         (queries_in (declarations work.now.pool.trees work.now.decls.list)))) }
 {
     let Arrays::OfGame(directory) = arrays else {
         return Err(CryptoFault::Build(BuildError::OutOfMemory));
     };
-    if some_asks_without_values(work, game.root, directory) {
+    if some_asks_without_values(work, game, directory) {
         return Err(refused(9, 0));
     }
     Ok(())
@@ -121,7 +120,11 @@ pub(crate) fn tested(
     if !has_declared_sorts(&work.pool, &work.decls, Some(root)) {
         return Err(refused(9, 0));
     }
-    check_queries(work, next.game, &next.arrays)?;
-    next.cost = cost;
-    Ok(next)
+    match check_queries(work, root, &next.arrays) {
+        Ok(()) => {
+            next.cost = cost;
+            Ok(next)
+        }
+        Err(fault) => Err(fault),
+    }
 }

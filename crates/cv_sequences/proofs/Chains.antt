@@ -12,7 +12,8 @@ use Rattle.cv_meaning.specs.Advantage.{IsAsked, chance_of}
 use Rattle.cv_meaning.specs.Queries.{queries_in}
 use Rattle.cv_meaning_chances.specs.Fractions.{HasTapes, plus}
 use Rattle.cv_meaning_chances.proofs.FractionLaws.{at_most_trans, distance_kept, plus_kept, triangle}
-use Rattle.cv_meaning_contexts.specs.ContextAdvantage.{context_advantage}
+use Rattle.cv_meaning_contexts.specs.ContextAdvantage.{context_chance}
+use Rattle.cv_meaning_contexts.specs.Groups.{Left, Right}
 use Rattle.cv_meaning_chances.specs.values.Values.{HasValuesIn}
 use Rattle.cv_meaning_chances.proofs.values.Tapes.{tapes}
 use Rattle.cv_bound.specs.declared.cost.Cost.{Cost as SumCost}
@@ -20,31 +21,27 @@ use Rattle.cv_bound.specs.declared.terms.Experiment.TheVariants as term
 use Rattle.cv_bound.specs.declared.terms.Term.{Term}
 use Rattle.cv_bound.specs.declared.terms.Term.TheVariants as terms
 use Rattle.cv_bound.specs.Sums.{added, with_terms}
-use Rattle.cv_bound_values.specs.Values.{Advantages, sum_value}
+use Rattle.cv_bound_values.specs.Values.{Advantages, cost_value, sum_value}
 use Rattle.cv_bound_values.proofs.Adding.{sum_value_append}
 use Rattle.cv_typing_runs.proofs.Games.{known}
 use Rattle.cv_scene.specs.Contexts.{AreAnswers}
 use Rattle.cv_scene.specs.Reductions.{context_of_game}
 use Rattle.cv_scene.specs.Scenes.{Scene}
 use Rattle.cv_derive_laws.specs.stores.Holding.{IsReady}
-use Rattle.cv_derive_laws.specs.stores.Steps.{IsSound}
 use Rattle.cv_match_laws.specs.answers.Answers.{answer_above}
 use Rattle.cv_match_laws.proofs.answers.Many.{are_answers}
 use Rattle.cv_context_right_side.proofs.queries.Steps.{next_asks_none}
 use Rattle.cv_context_right_side.specs.Right.{IsStepOfFile}
-use Rattle.cv_context_right_side.proofs.Steps.{step_costs}
 use Rattle.cv_steps.specs.Asked.{AskForNoIndex}
-use Rattle.cv_steps.specs.Judgements.{judgement_of}
-use Rattle.cv_steps.specs.Judgements as rule
 use Rattle.cv_steps.specs.Sequences.{scene}
-use Rattle.cv_steps.specs.Steps.{Cost, Step, Zero}
+use Rattle.cv_steps.specs.Steps.{Zero}
 use Rattle.cv_steps_crypto.specs.Conditions.{equivalence_of, failure_of}
-use Rattle.cv_steps_crypto.specs.Steps.{IsOutcome, first_answer, reduction_of}
-use Rattle.cv_steps_crypto.specs.Steps as crypto
-use Rattle.cv_steps_crypto.proofs.Accepted.{accepted}
-use Rattle.cv_sequences.specs.Chains.{ByEquivalence, ByStep, HasPrice, HaveTapedPrices, IsChain, IsFileOf, IsLink, Link, Prices, cost_behind, costs_behind, game_after, names_below, next_behind, push, start, summed}
+use Rattle.cv_steps_crypto.specs.Steps.{first_answer, reduction_of}
+use Rattle.cv_steps_crypto.proofs.Accepted.{accepted, next_drawn}
+use Rattle.cv_sequences.specs.Chains.{ByEquivalence, ByStep, HasPrice, HasSides, HaveTapedPrices, IsChain, IsClose, IsFileOf, IsLink, Link, Prices, cost_behind, costs_behind, game_after, names_below, next_behind, push, start, summed}
 use Rattle.cv_sequences.proofs.Accepted.{step_ready}
 use Rattle.cv_sequences.proofs.Kept.{next_asks_no_index, next_valued}
+use Rattle.cv_sequences.proofs.Sides.{left_side, right_side}
 use Rattle.cv_sequences.proofs.Steps.{next_values}
 use Rattle.cv_sequences.proofs.Sums.{apart, back}
 use Rattle.cv_sequences.proofs.Tested.{tested, unrefused}
@@ -54,18 +51,22 @@ use Rattle.cv_sequences.proofs.Tested.{tested, unrefused}
 more : (d p : Chance) → AtMost d p → AtMost d (plus p zero_chance)
 more d p h = omega (arith, h)
 
+less : (d p : Chance) → AtMost d (plus p zero_chance) → AtMost d p
+less d p h = omega (arith, h)
+
 as_much : (p q v : Chance) → 0 < q.all → Same p q → AtMost q v → AtMost p v
 as_much p q v n e h = at_most_trans p q v n (omega (arith, e)) h
+
+at_most : (p q : Chance) → Same p q → AtMost p q
+at_most p q e = omega (arith, e)
 
 -- what a chance is apart from another, it is from one that is the same
 pub same_end : (p q r v : Chance) → 0 < p.all → 0 < q.all → AtMost (distance p q) v → Same q r → AtMost (distance p r) v
 same_end p q r v m n h e = as_much (distance p r) (distance p q) v (mul-pos m n) (distance_kept p r p q refl (sym e)) h
 
 -- and from one further on it is apart by both distances
-one_more : (p q r v c : Chance) → 0 < p.all → 0 < q.all → 0 < r.all → AtMost (distance p q) v → AtMost (distance q r) c → AtMost (distance p r) (plus v (plus c zero_chance))
-one_more p q r v c l m n h k =
-    at_most_trans (distance p r) (plus (distance p q) (distance q r)) (plus v (plus c zero_chance)) (mul-pos (mul-pos l m) (mul-pos m n)) (triangle p q r)
-    (plus_kept (distance p q) v (distance q r) (plus c zero_chance) h (more (distance q r) c k))
+further : (p q r v c : Chance) → 0 < p.all → 0 < q.all → 0 < r.all → AtMost (distance p q) v → AtMost (distance q r) c → AtMost (distance p r) (plus v c)
+further p q r v c l m n h k = at_most_trans (distance p r) (plus (distance p q) (distance q r)) (plus v c) (mul-pos (mul-pos l m) (mul-pos m n)) (triangle p q r) (plus_kept (distance p q) v (distance q r) c h k)
 
 -- sums
 
@@ -178,52 +179,74 @@ module _ (ds : List Declaration) (own : ℕ) (first : Tree) (w : IsFileOf ds own
     valued links last start = v
     valued links last (push before game l c e) = link_valued game l (reached before game c) (valued before game c) e
 
-    module _ (a : Adversary) (advantages : Advantages) where
+    module _ (a : Adversary) where
       abbrev chance_in : Tree → Chance
       chance_in game = chance_of (setting_of ds i) x a game
 
-      has_tapes : (links : List Link) (last : Tree) → IsChain ds (names_below own) first links last → HasTapes (chance_in last)
+      pub has_tapes : (links : List Link) (last : Tree) → IsChain ds (names_below own) first links last → HasTapes (chance_in last)
       has_tapes links last c = tapes (setting_of ds i) x a last (valued links last c)
 
-      abbrev IsWithin : Tree → List Term → Type 0
-      IsWithin game sum = AtMost (distance (chance_in first) (chance_in game)) (sum_value i advantages sum)
+      -- one link
 
-      -- a step by a rule
-      by_step : (game : Tree) (step : Step) (next : Tree) (cost : Cost) (sum : List Term) → HasTapes (chance_in game) → IsOfChain game → IsSound step → judgement_of (at game) step ≡ rule.Accepted next cost → IsWithin game sum → IsWithin next sum
-      by_step game step next cost sum k g sound e h =
-          same_end (chance_in first) (chance_in game) (chance_in next) (sum_value i advantages sum) (has_tapes [] first start) k h
-          (sound.keeps (at game) next cost g.ready w.derivations w.bodies w.known_queries e i sat x asked a)
+      link_sides : (game : Tree) (l : Link) → IsOfChain game → IsLink (at game) l → HasSides (at game) i x a l (chance_in game) (chance_in (next_behind l))
+      link_sides game (ByStep step cost next) g e = e.0.keeps (at game) next cost g.ready w.derivations w.bodies w.known_queries e.1 i sat x asked a
+      link_sides game (ByEquivalence n e key next) g o = λ t is.
+          let r = reduction_of (at game) t key in
+          let step = step_of_file game e key t g is (accepted (at game) e key next o).failure in
+          let d = next_drawn (at game) e key next t o is in (
+            left_side r step i x a asked,
+            subst (λ u. Same (chance_in u) (context_chance ds i (context_of_game r) Right x a)) (sym d.game) (right_side r step i x a asked d.names d.labels d.drawn),
+          )
 
-      -- one by an equivalence
-      by_equivalence : (game : Tree) (n e key : ℕ) (next : Tree) (sum : List Term) → HasTapes (chance_in game) → HasTapes (chance_in next) → IsOfChain game → IsOutcome (at game) e key (crypto.Accepted next) → HasPrice (at game) advantages i x a (ByEquivalence n e key next) → IsWithin game sum → IsWithin next (sum ++ advantage n e ∷ [])
-      by_equivalence game n e key next sum k l g o p h =
+      link_within : (game : Tree) (l : Link) → IsLink (at game) l → HasSides (at game) i x a l (chance_in game) (chance_in (next_behind l)) → (advantages : Advantages) → HasPrice (at game) advantages i x a l
+          → AtMost (distance (chance_in game) (chance_in (next_behind l))) (cost_value i advantages (cost_behind l) false)
+      link_within game (ByStep step Zero next) e h advantages p = apart (chance_in game) (chance_in next) h
+      link_within game (ByEquivalence n e key next) o h advantages p =
           let y = accepted (at game) e key next o in
-          let r = reduction_of (at game) y.equivalence key in
-          let cost : AtMost (distance (chance_in game) (chance_in next)) (context_advantage ds i (context_of_game r) x a) =
-          subst (λ t. AtMost (distance (chance_in game) (chance_in t)) (context_advantage ds i (context_of_game r) x a)) (sym y.drawn.game)
-          (step_costs r (step_of_file game e key y.equivalence g y.is_equivalence y.failure) i y.drawn.names y.drawn.labels y.drawn.drawn x a asked) in
-          subst (AtMost (distance (chance_in first) (chance_in next))) (sym (sum_value_append i advantages sum (advantage n e ∷ [])))
-          (one_more (chance_in first) (chance_in game) (chance_in next) (sum_value i advantages sum) (advantages n term.Events) (has_tapes [] first start) k l h
-          (subst (AtMost (distance (chance_in game) (chance_in next))) (sym (p y.equivalence y.is_equivalence)) cost))
+          let c = context_of_game (reduction_of (at game) y.equivalence key) in
+          let both = h y.equivalence y.is_equivalence in
+          more (distance (chance_in game) (chance_in next)) (advantages n term.Events)
+          (subst (AtMost (distance (chance_in game) (chance_in next))) (sym (p y.equivalence y.is_equivalence))
+          (at_most _ _ (distance_kept (chance_in game) (chance_in next) (context_chance ds i c Left x a) (context_chance ds i c Right x a) both.0 both.1)))
 
-      by_link : (game : Tree) (l : Link) (sum : List Term) → HasTapes (chance_in game) → HasTapes (chance_in (next_behind l)) → IsOfChain game → IsLink (at game) l → HasPrice (at game) advantages i x a l → IsWithin game sum → IsWithin (next_behind l) (added sum (cost_behind l) false)
-      unfolding with_terms
-      by_link game (ByStep step Zero next) sum k j g e p h = by_step game step next Zero sum k g e.0 e.1 h
-      by_link game (ByEquivalence n e key next) sum k j g o p h = by_equivalence game n e key next sum k j g o p h
+      pub link_close : (links : List Link) (game : Tree) → IsChain ds (names_below own) first links game → (l : Link) → IsLink (at game) l → IsClose (at game) i x a l
+      link_close links game c l e =
+          let sides = link_sides game l (reached links game c) e in
+          record {
+            before = has_tapes links game c;
+            behind = has_tapes (links ++ l ∷ []) (next_behind l) (push links game l c e);
+            sides = sides;
+            within = link_within game l e sides;
+          }
 
-      -- the prices of a chain, less its last link
-      fewer : (before : List Link) (l : Link) → Prices ds (names_below own) first (before ++ l ∷ []) advantages i x a → Prices ds (names_below own) first before advantages i x a
-      fewer before l p front m behind e = p front m (behind ++ l ∷ []) (ap (λ links. links ++ l ∷ []) e ∙ append_assoc front (m ∷ behind) (l ∷ []))
+      -- many links
 
-      pub within : (links : List Link) (last : Tree) → IsChain ds (names_below own) first links last → Prices ds (names_below own) first links advantages i x a → IsWithin last (summed [] (costs_behind links))
-      unfolding summed
-      within links last start p = apart (chance_in first) (chance_in first) refl
-      within links last (push before game l c e) p =
-          subst (IsWithin (next_behind l)) (sym (summed_more before l))
-          (by_link game l (summed [] (costs_behind before)) (has_tapes before game c) (has_tapes (before ++ l ∷ []) (next_behind l) (push before game l c e)) (reached before game c) e
-          (subst (λ t. HasPrice (at t) advantages i x a l) (chain_ends ds (names_below own) first before game c) (p before l [] refl))
-          (within before game c (fewer before l p)))
+      module _ (advantages : Advantages) where
+        abbrev IsWithin : Tree → List Term → Type 0
+        IsWithin game sum = AtMost (distance (chance_in first) (chance_in game)) (sum_value i advantages sum)
 
-      -- what is no chance in the last game is at most the sum in the first
-      pub carried : (links : List Link) (last : Tree) → IsChain ds (names_below own) first links last → Prices ds (names_below own) first links advantages i x a → AtMost (chance_in last) zero_chance → AtMost (chance_in first) (sum_value i advantages (summed [] (costs_behind links)))
-      carried links last c p h = back (chance_in first) (chance_in last) (sum_value i advantages (summed [] (costs_behind links))) (has_tapes links last c) (within links last c p) h
+        -- what a sum and a cost bound together, the sum with that cost more bounds
+        with_cost : (l : Link) (sum : List Term) (p : Chance) → AtMost p (plus (sum_value i advantages sum) (cost_value i advantages (cost_behind l) false)) → AtMost p (sum_value i advantages (added sum (cost_behind l) false))
+        unfolding with_terms
+        with_cost (ByStep step Zero next) sum p h = less p (sum_value i advantages sum) h
+        with_cost (ByEquivalence n e key next) sum p h = subst (AtMost p) (sym (sum_value_append i advantages sum (advantage n e ∷ []))) h
+
+        -- the prices of a chain, less its last link
+        fewer : (before : List Link) (l : Link) → Prices ds (names_below own) first (before ++ l ∷ []) advantages i x a → Prices ds (names_below own) first before advantages i x a
+        fewer before l p front m behind e = p front m (behind ++ l ∷ []) (ap (λ links. links ++ l ∷ []) e ∙ append_assoc front (m ∷ behind) (l ∷ []))
+
+        pub within : (links : List Link) (last : Tree) → IsChain ds (names_below own) first links last → Prices ds (names_below own) first links advantages i x a → IsWithin last (summed [] (costs_behind links))
+        unfolding summed
+        within links last start p = apart (chance_in first) (chance_in first) refl
+        within links last (push before game l c e) p =
+            let k = link_close before game c l e in
+            let sum = summed [] (costs_behind before) in
+            let price = subst (λ t. HasPrice (at t) advantages i x a l) (chain_ends ds (names_below own) first before game c) (p before l [] refl) in
+            subst (IsWithin (next_behind l)) (sym (summed_more before l))
+            (with_cost l sum (distance (chance_in first) (chance_in (next_behind l)))
+            (further (chance_in first) (chance_in game) (chance_in (next_behind l)) (sum_value i advantages sum) (cost_value i advantages (cost_behind l) false) (has_tapes [] first start) k.before k.behind
+            (within before game c (fewer before l p)) (k.within advantages price)))
+
+        -- what is no chance in the last game is at most the sum in the first
+        pub carried : (links : List Link) (last : Tree) → IsChain ds (names_below own) first links last → Prices ds (names_below own) first links advantages i x a → AtMost (chance_in last) zero_chance → AtMost (chance_in first) (sum_value i advantages (summed [] (costs_behind links)))
+        carried links last c p h = back (chance_in first) (chance_in last) (sum_value i advantages (summed [] (costs_behind links))) (has_tapes links last c) (within links last c p) h

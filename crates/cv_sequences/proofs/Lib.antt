@@ -5,4 +5,5 @@ pub mod Asked
 pub mod Choices
 pub mod Kept
 pub mod Tested
+pub mod Sides
 pub mod Chains

@@ -3,17 +3,20 @@ use Rattle.std.specs.Prelude.{◌≡◌, ◌≤◌, ℕ, Bool, false, nat_lt, Li
 use Rattle.std.specs.List.{AllByRecursion}
 use Rattle.cv_syntax_trees.specs.Declarations.{Declaration}
 use Rattle.cv_syntax_trees.specs.Tree.{Tree}
+use Rattle.cv_meaning.specs.Advantage.{chance_of}
+use Rattle.cv_meaning.specs.Chances.{AtMost, Chance, Same, distance}
 use Rattle.cv_meaning.specs.Experiments.{Experiment}
-use Rattle.cv_meaning.specs.Interpretation.{Interpretation}
+use Rattle.cv_meaning.specs.Interpretation.{Interpretation, setting_of}
 use Rattle.cv_meaning.specs.Runs.{Adversary}
 use Rattle.cv_meaning_chances.specs.Fractions.{HasTapes}
-use Rattle.cv_meaning_contexts.specs.ContextAdvantage.{context_advantage}
+use Rattle.cv_meaning_contexts.specs.ContextAdvantage.{context_advantage, context_chance}
+use Rattle.cv_meaning_contexts.specs.Groups.{Left, Right}
 use Rattle.cv_bound.specs.declared.cost.Cost.{Cost as SumCost}
 use Rattle.cv_bound.specs.declared.cost.Cost.TheVariants as bound
 use Rattle.cv_bound.specs.declared.terms.Experiment.TheVariants as term
 use Rattle.cv_bound.specs.declared.terms.Term.{Term}
 use Rattle.cv_bound.specs.Sums.{added}
-use Rattle.cv_bound_values.specs.Values.{Advantages}
+use Rattle.cv_bound_values.specs.Values.{Advantages, cost_value}
 use Rattle.cv_group_rules.specs.Symbols.{symbols_of}
 use Rattle.cv_group_rules.specs.Faults.{IsAccepted}
 use Rattle.cv_typing_runs.specs.Games.{HasConstants}
@@ -86,6 +89,23 @@ HasPrice s advantages i x a (ByEquivalence n e key next) =
 abbrev pub Prices : List Declaration → (known : ℕ → Bool) → (first : Tree) → List Link → Advantages → Interpretation → Experiment → Adversary → Type 0
 Prices ds known first links advantages i x a =
     (before : List Link) (l : Link) (behind : List Link) → links ≡ before ++ l ∷ behind → HasPrice (scene ds known (game_after first before)) advantages i x a l
+
+-- What a link leaves of the chances of the games before and behind it. By a rule they are the same; by an equivalence they are those of
+-- the context of the game before it, with the left and with the right side.
+abbrev pub HasSides : Scene → Interpretation → Experiment → Adversary → Link → (before behind : Chance) → Type 0
+HasSides s i x a (ByStep step cost next) p q = Same p q
+HasSides s i x a (ByEquivalence n e key next) p q =
+    (t : Tree) → equivalence_of s e ≡ Some t
+    → Same p (context_chance s.declarations i (context_of_game (reduction_of s t key)) Left x a) × Same q (context_chance s.declarations i (context_of_game (reduction_of s t key)) Right x a)
+
+-- Both chances have tapes, and differ by at most the value of the link's own cost, wherever the advantage with its number is that of its context.
+pub record IsClose (s : Scene) (i : Interpretation) (x : Experiment) (a : Adversary) (l : Link) : Type 0 where
+  pub before : HasTapes (chance_of (setting_of s.declarations i) x a s.game)
+  pub behind : HasTapes (chance_of (setting_of s.declarations i) x a (next_behind l))
+  pub sides : HasSides s i x a l (chance_of (setting_of s.declarations i) x a s.game) (chance_of (setting_of s.declarations i) x a (next_behind l))
+  pub within :
+      (advantages : Advantages) → HasPrice s advantages i x a l
+      → AtMost (distance (chance_of (setting_of s.declarations i) x a s.game) (chance_of (setting_of s.declarations i) x a (next_behind l))) (cost_value i advantages (cost_behind l) false)
 
 -- the advantages of links have tapes
 

@@ -29,7 +29,7 @@ ghost use Rattle.cv_steps.specs.Judgements.{Accepted, judgement_of};
 ghost use Rattle.cv_steps.specs.Chances.{KeepsChances};
 ghost use Rattle.cv_steps.specs.Sequences.{IsSequence, Passage, scene};
 ghost use Rattle.cv_steps.specs.Asked.{AskForNoIndex};
-ghost use Rattle.cv_sequences.specs.Chains.{HaveTapedPrices, IsChain, IsFileOf, Link, Prices, costs_behind, names_below, summed};
+ghost use Rattle.cv_sequences.specs.Chains.{HaveTapedPrices, IsChain, IsClose, IsFileOf, IsLink, Link, Prices, costs_behind, names_below, summed};
 ghost use Rattle.cv_sequences.specs.Sequences.{added_up, costs_of};
 ghost use Rattle.cv_meaning_chances.specs.values.Values.{HasValuesIn};
 
@@ -103,6 +103,19 @@ pub fn chains_lead_to_ready_games()
         (last : Tree) → IsFileOf ds own first →
         IsChain ds (names_below own) first links last →
         AskForNoIndex (scene ds (names_below own) last) }
+{}
+
+/// Behind a chain each link is within its own cost: no adversary tells its game from the one before it, in an experiment
+/// for which a query asks, by more than the value of its cost. By a rule both have one chance; by an equivalence they
+/// have those of the context of the game before it, with the left and with the right side.
+pub fn links_are_within_their_costs()
+    ensures { (ds : List Declaration) (own : ℕ) (first : Tree) (links : List Link)
+        (game : Tree) (l : Link) → IsFileOf ds own first →
+        IsChain ds (names_below own) first links game →
+        IsLink (scene ds (names_below own) game) l →
+        (i : Interpretation) → Satisfies ds i → (x : Experiment) → IsAsked (queries_in ds) x →
+        HasValuesIn (setting_of ds i) (mode_of x) first →
+        (a : Adversary) → IsClose (scene ds (names_below own) game) i x a l }
 {}
 
 /// So no adversary tells the last game from the first, in an experiment for which a query asks, by more than the sum of

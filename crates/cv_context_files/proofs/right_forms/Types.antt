@@ -23,16 +23,16 @@ use Rattle.cv_inline_names_laws.specs.cells.Layout.{IsTypedBy, new_type, type_in
 
 -- the first of two options
 
-some_first : (o p : Option ℕ) (q r : Option Sort) → (is_some o ≡ true → is_some q ≡ true) → (is_some p ≡ true → is_some r ≡ true) → is_some (sites.first_of o p) ≡ true → is_some (first_of q r) ≡ true
+some_first : (o p : Option ℕ) (q r : Option Sort) → (is_some o ≡ true → is_some q ≡ true) → (is_some p ≡ true → is_some r ≡ true) → is_some (first_of o p) ≡ true → is_some (first_of q r) ≡ true
 some_first o p (Some S) r i j e = refl
 some_first (Some U) p None r i j e = absurd (both_ways false refl (i refl))
 some_first None p None r i j e = j e
 
-some_left : (o p : Option ℕ) → is_some o ≡ true → is_some (sites.first_of o p) ≡ true
+some_left : (o p : Option ℕ) → is_some o ≡ true → is_some (first_of o p) ≡ true
 some_left (Some U) p e = refl
 some_left None p e = absurd (both_ways false refl e)
 
-some_right : (o p : Option ℕ) → is_some p ≡ true → is_some (sites.first_of o p) ≡ true
+some_right : (o p : Option ℕ) → is_some p ≡ true → is_some (first_of o p) ≡ true
 some_right (Some U) p e = refl
 some_right None p e = e
 
@@ -54,13 +54,13 @@ HasNews P (Node h a b) = HasNews P a × HasNews P b
 
 new_there :
     (v : Bool) (U : ℕ) (o p : Option ℕ) (q r : Option Sort) → (is_some o ≡ true → is_some q ≡ true) → (is_some p ≡ true → is_some r ≡ true)
-    → is_some (cond v (Some U) (sites.first_of o p)) ≡ true → is_some (first_of (cond v (Some (OfType U)) None) (first_of q r)) ≡ true
+    → is_some (cond v (Some U) (first_of o p)) ≡ true → is_some (first_of (cond v (Some (OfType U)) None) (first_of q r)) ≡ true
 new_there true U o p q r i j e = refl
 new_there false U o p q r i j e = some_first o p q r i j e
 
 let_there :
     (v : Bool) (U : ℕ) (o p : Option ℕ) (q r : Option Sort) → (is_some o ≡ true → is_some q ≡ true) → (is_some p ≡ true → is_some r ≡ true)
-    → is_some (sites.first_of o p) ≡ true → is_some (first_of (cond v (Some (OfType U)) None) (first_of q r)) ≡ true
+    → is_some (first_of o p) ≡ true → is_some (first_of (cond v (Some (OfType U)) None) (first_of q r)) ≡ true
 let_there true U o p q r i j e = refl
 let_there false U o p q r i j e = some_first o p q r i j e
 
@@ -71,13 +71,13 @@ local_there z (Node (New x U) a b) e = new_there (x == z) U (new_type z a) (new_
 local_there z (Node (Let x U) a b) e = let_there (x == z) U (new_type z a) (new_type z b) (local_in z a) (local_in z b) (local_there z a) (local_there z b) e
 local_there z (Node h a b) e = some_first (new_type z a) (new_type z b) (local_in z a) (local_in z b) (local_there z a) (local_there z b) e
 
-of_either : (Q : Type 0) (V : ℕ) (o p : Option ℕ) → (o ≡ Some V → Q) → (p ≡ Some V → Q) → sites.first_of o p ≡ Some V → Q
+of_either : (Q : Type 0) (V : ℕ) (o p : Option ℕ) → (o ≡ Some V → Q) → (p ≡ Some V → Q) → first_of o p ≡ Some V → Q
 of_either Q V (Some W) p f g e = f e
 of_either Q V None p f g e = g e
 
 of_new :
     (P : ℕ → ℕ → Type 0) (z V x U : ℕ) (o p : Option ℕ) → P x U → (o ≡ Some V → P z V) → (p ≡ Some V → P z V) → (v : Bool)
-    → (x == z) ≡ v → cond v (Some U) (sites.first_of o p) ≡ Some V → P z V
+    → (x == z) ≡ v → cond v (Some U) (first_of o p) ≡ Some V → P z V
 of_new P z V x U o p w f g true i e = subst (P z) (same e) (subst (λ y. P y U) (eqb-true x z i) w)
   where
     same : ◌≡◌ {A = Option ℕ} (Some U) (Some V) → U ≡ V
@@ -134,9 +134,9 @@ module _ (ds : List Declaration) (by_bound : ℕ → ℕ → Option Sort) (own :
     unfolding new_type
     all_chosen Empty inside w = tt
     all_chosen (Node (New x U) a b) inside w = (
-      chosen x U (inside x (ap (λ v. is_some (cond v (Some U) (sites.first_of (new_type x a) (new_type x b)))) (eq-eqb x x refl))) w.0,
-      all_chosen a (λ z e. inside z (some_else (x == z) U (sites.first_of (new_type z a) (new_type z b)) (some_left (new_type z a) (new_type z b) e))) w.1,
-      all_chosen b (λ z e. inside z (some_else (x == z) U (sites.first_of (new_type z a) (new_type z b)) (some_right (new_type z a) (new_type z b) e))) w.2,
+      chosen x U (inside x (ap (λ v. is_some (cond v (Some U) (first_of (new_type x a) (new_type x b)))) (eq-eqb x x refl))) w.0,
+      all_chosen a (λ z e. inside z (some_else (x == z) U (first_of (new_type z a) (new_type z b)) (some_left (new_type z a) (new_type z b) e))) w.1,
+      all_chosen b (λ z e. inside z (some_else (x == z) U (first_of (new_type z a) (new_type z b)) (some_right (new_type z a) (new_type z b) e))) w.2,
     )
     all_chosen (Node h a b) inside w = (all_chosen a (λ z e. inside z (some_left (new_type z a) (new_type z b) e)) w.0, all_chosen b (λ z e. inside z (some_right (new_type z a) (new_type z b) e)) w.1)
 

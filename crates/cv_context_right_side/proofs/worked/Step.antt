@@ -42,7 +42,6 @@ use Rattle.cv_inline_names_laws.specs.cells.Layout.{IsTypedBy, are_right_texts, 
 use Rattle.cv_inline_names_laws.specs.covered.Covered.{names_stand_bare}
 use Rattle.cv_context_right_side.specs.Right.{IsRightOfFile, IsStepOfFile}
 use Rattle.cv_context_right_side.specs.worked.Worked.{accepted_query, accepting, declarations}
-use Rattle.cv_inline_names_laws.proofs.drawn.OneSender.{chooses_none}
 
 -- the game, the equivalence and the conditions
 
@@ -102,6 +101,11 @@ unfolding HasArguments names_in
 arguments = (refl, (refl, (refl, (refl, (refl, (refl, (refl, (refl, (refl, (refl, (refl, (refl, tt))))))))))))
 
 -- the right side
+
+chooses_none : Tree → Bool
+chooses_none Empty = true
+chooses_none (Node (New z U) a b) = false
+chooses_none (Node h a b) = chooses_none a && chooses_none b
 
 typed_by : (type : ℕ → ℕ) (t : Tree) → chooses_none t ≡ true → IsTypedBy type t
 unfolding chooses_none IsTypedBy

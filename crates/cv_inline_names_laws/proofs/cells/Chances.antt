@@ -40,7 +40,7 @@ use Rattle.cv_inline_names_laws.specs.cells.Cells.{RightNames, at_right, find_fo
 use Rattle.cv_inline_names_laws.specs.cells.Layout.{IsLaidOut, Types}
 use Rattle.cv_inline_names_laws.proofs.cells.Swaps.{back, one_to_one}
 use Rattle.cv_inline_names_laws.proofs.cells.Sizes.{IsAskedPlain, IsKnown, IsOfKey, context_sized, context_testable, next_known, next_no_calls, next_testable, same_size, size_of}
-use Rattle.cv_inline_names_laws.proofs.draws.Fresh.{either_way}
+use Rattle.cv_inline_draws_laws.proofs.Fresh.{either_way}
 
 -- lists
 

@@ -15,8 +15,8 @@ use Rattle.cv_meaning_contexts.specs.Inlined.{Caller}
 use Rattle.cv_inline.specs.bodies.Inlining.{Inlining}
 use Rattle.cv_meaning_contexts.specs.Roles.{Role}
 use Rattle.cv_inline.specs.NextGame.{Calling, call_of, callers_of, calling, callings_from}
-use Rattle.cv_inline_names_laws.specs.draws.DrawnNames.{DrawnNames, IsCallDrawn, has_find, has_indices, has_name, names_of_draws}
-use Rattle.cv_inline_names_laws.proofs.draws.Covered.{calls_covered}
+use Rattle.cv_inline_draws_laws.specs.DrawnNames.{DrawnNames, IsCallDrawn, has_find, has_indices, has_name, names_of_draws}
+use Rattle.cv_inline_draws_laws.proofs.Covered.{calls_covered}
 use Rattle.cv_inline_names_laws.specs.accepted.Drawn.{IsDrawnFor}
 use Rattle.cv_inline_names_laws.specs.accepted.RightBodies.{are_right_functions, is_empty, is_one_name, is_right_body, is_right_side}
 use Rattle.cv_inline_names_laws.specs.cells.Layout.{IsRightFunction}

@@ -13,7 +13,7 @@ use Rattle.cv_meaning_contexts.specs.Roles.{Gone}
 use Rattle.cv_inline.specs.NextGame.{call_of, callings_from, names_assigned}
 use Rattle.cv_inline.specs.Draws.{body_draws, finds_in, index_draws}
 use Rattle.cv_inline.specs.Worked.{one_sender}
-use Rattle.cv_inline_names_laws.specs.draws.DrawnNames.{role_in}
+use Rattle.cv_inline_draws_laws.specs.DrawnNames.{role_in}
 use Rattle.cv_inline_names_laws.specs.cells.Layout.{IsContextText, IsPattern, IsRightFunction, IsTypedBy, is_right_text, is_term}
 use Rattle.cv_inline_names_laws.specs.drawn.Named.{NamedContext, drawn_for_context, text_of}
 use Rattle.cv_inline_names_laws.specs.drawn.Worked.{answer_there, drawn_numbers, role_there, type_there}

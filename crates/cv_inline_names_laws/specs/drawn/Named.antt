@@ -10,8 +10,8 @@ use Rattle.cv_meaning_contexts.specs.Sides.{Context, oracles_of}
 use Rattle.cv_meaning_contexts.specs.Sites.{sites_of}
 use Rattle.cv_meaning_contexts.specs.Roles.{Role, Gone, TheKeyName, Variable, Index}
 use Rattle.cv_inline.specs.NextGame.{Calling, callings_of, inlined_calls_of, numbered}
-use Rattle.cv_inline_names_laws.specs.draws.DrawnNames.{AreApart, DrawnNames, drawn_in, find_in, has_find, has_indices, has_name, is_new, names_of_draws, role_in}
-use Rattle.cv_inline_names_laws.proofs.draws.Names.{index_among, name_again, name_new}
+use Rattle.cv_inline_draws_laws.specs.DrawnNames.{AreApart, DrawnNames, drawn_in, find_in, has_find, has_indices, has_name, is_new, names_of_draws, role_in}
+use Rattle.cv_inline_draws_laws.proofs.Names.{index_among, name_again, name_new}
 use Rattle.cv_inline_laws.specs.runs.Texts.{Text}
 use Rattle.cv_inline_names_laws.specs.cells.Cells.{on_tape}
 use Rattle.cv_inline_names_laws.specs.cells.Layout.{Types, type_in}

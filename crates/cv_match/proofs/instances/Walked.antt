@@ -39,9 +39,19 @@ use_split M w p h a b = by_call (call_at M (Node h a b)) (use_here M w p h a b)
     by_call (Some c) v = refl
     by_call None v = refl
 
+pub use_node : (M : Matching) (w : Position) (p : ℕ) (t : Tree) (h : Head) (a b : Tree) → t ≡ Node h a b → use_unless false M w p t ≡ unless_call (call_at M t) (use_here M w p h a b)
+use_node M w p t h a b e = ap (use_unless false M w p) e ∙ (use_split M w p h a b ∙ ap (λ u. unless_call (call_at M u) (use_here M w p h a b)) (sym e))
+
 pub called : {A : Type 0} (o : Option Call) (v : Option A) (b : Bool) → b ≡ is_some o → b ≡ true → unless_call o v ≡ None
 called (Some c) v b e f = refl
 called None v b e f = absurd (cc)
+
+pub not_called : {A : Type 0} (o : Option Call) (v : Option A) (b : Bool) → b ≡ is_some o → b ≡ false → unless_call o v ≡ v
+not_called (Some c) v b e f = absurd (cc)
+not_called None v b e f = refl
+
+pub use_moved : (M : Matching) (t : Tree) (i j : Bool) (v w : Position) (p q : ℕ) → i ≡ j → v ≡ w → p ≡ q → use_unless j M w q t ≡ use_unless i M v p t
+use_moved M t i j v w p q e f g = ap (λ b. use_unless b M w q t) (sym e) ∙ (ap (λ u. use_unless i M u q t) (sym f) ∙ ap (λ n. use_unless i M v n t) (sym g))
 
 -- sites
 

@@ -9,7 +9,7 @@ use Rattle.std.proofs.lemmas.List.Elements.{All-head, All-tail, All-take}
 use Rattle.std.proofs.lemmas.Map.Steps.{length-le_from_distinct_below}
 use Rattle.std.specs.List.{AllByRecursion, IsDistinct, list_any}
 use Rattle.cv_inline.specs.Draws.{drawn_texts, greatest_end, is_among, least_free, numbered_text, same_text, texts_from}
-use Rattle.cv_inline_names_laws.proofs.draws.Texts.{as_many_texts, drawn_fit, texts_differ, texts_free}
+use Rattle.cv_inline_draws_laws.proofs.Texts.{as_many_texts, drawn_fit, texts_differ, texts_free}
 use Rattle.cv_inline_draws.specs.names.Texts.{is_listed, text_at, texts_at, with_texts}
 use Rattle.cv_inline_draws.proofs.names.Texts.{same_text_refl}
 

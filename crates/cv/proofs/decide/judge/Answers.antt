@@ -8,6 +8,8 @@ use Rattle.cv.proofs.Faithful.{run_close}
 use Rattle.cv.proofs.Proving.{script_sound}
 use Rattle.cv_accept_laws.proofs.Ready.{equivalences}
 use Rattle.cv.proofs.Running.{run_answers, run_cause, run_judged, run_live, run_sound}
+use Rattle.cv.proofs.Stepping.{run_steps}
+use Rattle.cv.proofs.Taped.{advantages_of_file}
 use Rattle.cv.proofs.Verdicts.{reads_at, refuses_at}
 use Rattle.cv.proofs.decide.judge.Goals as goal
 
@@ -34,12 +36,16 @@ run_accepted-requires-clause-equivalences c = λ y t e.
 pub returns-in-Ok-clause-sound : goal.returns-in-Ok-clause-sound
 returns-in-Ok-clause-sound c =
     run_sound _ c.in-Ok.accepted.file _
+    (advantages_of_file c.derivations_are_sound.ensures.hold c.derivations_are_sound.ensures.unreached _ c.args.bytes.now (reads_at _ c.args.bytes.now _ c.requires.limit c.in-Ok.ensures.reads) c.requires.few)
     (script_sound c.derivations_are_sound.ensures.hold c.derivations_are_sound.ensures.unreached c.accepted_correspondences_are_never_broken.ensures.chance c.unread_choices_are_secret.ensures.secrecy c.unread_copies_are_secret_for_one_session.ensures.secrecy
     c.accepted_exactly_where_nothing_fails.ensures _ c.in-Ok.accepted.file _ c.args.bytes.now (reads_at _ c.args.bytes.now _ c.requires.limit c.in-Ok.ensures.reads) c.requires.few)
     c.run_accepted.ensures.run
 
 pub returns-in-Ok-clause-games : goal.returns-in-Ok-clause-games
 returns-in-Ok-clause-games c = run_close c.derivations_are_sound.ensures.hold c.derivations_are_sound.ensures.unreached _ c.in-Ok.accepted.file _ c.args.bytes.now (reads_at _ c.args.bytes.now _ c.requires.limit c.in-Ok.ensures.reads) c.requires.few c.run_accepted.ensures.run
+
+pub returns-in-Ok-clause-steps : goal.returns-in-Ok-clause-steps
+returns-in-Ok-clause-steps c = run_steps c.derivations_are_sound.ensures.hold c.derivations_are_sound.ensures.unreached _ c.in-Ok.accepted.file _ c.args.bytes.now (reads_at _ c.args.bytes.now _ c.requires.limit c.in-Ok.ensures.reads) c.requires.few c.run_accepted.ensures.run
 
 pub returns-in-Ok-clause-live : goal.returns-in-Ok-clause-live
 returns-in-Ok-clause-live c = run_live _ c.in-Ok.accepted.file _ c.run_accepted.ensures.run

@@ -16,7 +16,7 @@ decls-preserved-in_default c =
     record { same = ap (some_asks_without_values game) (sym (queries_skip trees list c.decls.k here (sym c.query_at.ensures ∙ c.in_default.is))) ∙ c.decls.invariant.same }
 
 pub asks_without_values-requires : goal.asks_without_values-requires
-asks_without_values-requires c = (c.requires.live, (c.requires.sites, query_below (length c.args.work.now.pool.trees) c.args.work.now.decls.list c.decls.k c.in-Some.query c.requires.declared (sym c.query_at.ensures ∙ c.in-Some.is)))
+asks_without_values-requires c = record { live = c.requires.live; sites = c.requires.sites; query = query_below (length c.args.work.now.pool.trees) c.args.work.now.decls.list c.decls.k c.in-Some.query c.requires.declared (sym c.query_at.ensures ∙ c.in-Some.is) }
 
 pub returns-then-asks_without_values : goal.returns-then-asks_without_values
 returns-then-asks_without_values c =

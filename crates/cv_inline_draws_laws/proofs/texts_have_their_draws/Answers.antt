@@ -1,6 +1,6 @@
 use Rattle.std.proofs.Common.{refl}
-use Rattle.cv_inline_names_laws.proofs.draws.Covered.{calls_covered}
-use Rattle.cv_inline_names_laws.proofs.draws.texts_have_their_draws.Goals as goal
+use Rattle.cv_inline_draws_laws.proofs.Covered.{calls_covered}
+use Rattle.cv_inline_draws_laws.proofs.texts_have_their_draws.Goals as goal
 
 pub returns-clause-key : goal.returns-clause-key
 returns-clause-key c g cs names labels role = refl

@@ -1,7 +1,7 @@
-use Rattle.cv_inline_names_laws.proofs.draws.Texts.{as_many_texts, drawn_fit, texts_differ, texts_free}
+use Rattle.cv_inline_draws_laws.proofs.Texts.{as_many_texts, drawn_fit, texts_differ, texts_free}
 use Rattle.std.proofs.Common.{suc}
 use Rattle.cv_inline.specs.Draws.{greatest_end}
-use Rattle.cv_inline_names_laws.proofs.draws.drawn_texts_are_new.Goals as goal
+use Rattle.cv_inline_draws_laws.proofs.drawn_texts_are_new.Goals as goal
 
 pub returns-clause-many : goal.returns-clause-many
 returns-clause-many c = as_many_texts

@@ -1,5 +1,6 @@
 // Laws of the names, labels and texts that are drawn for a next game: they are new and differ, and whatever the
 // right side binds has its own.
+#![tactic(auto)]
 
 ghost use Rattle.std.specs.Prelude.{◌≡◌, ℕ, ◌+◌, ◌*◌, ◌^◌, suc, ◌<◌, ◌≤◌, ◌==◌, true, false, List, length, Some, None};
 ghost use Rattle.std.specs.List.{AllByRecursion, IsDistinct, list_any};
@@ -17,7 +18,7 @@ ghost use Rattle.cv_inline.specs.Draws.{
   same_text,
   texts_from,
 };
-ghost use Rattle.cv_inline_names_laws.specs.draws.DrawnNames.{
+ghost use Rattle.cv_inline_draws_laws.specs.DrawnNames.{
   AreApart,
   DrawnNames,
   IsCallDrawn,

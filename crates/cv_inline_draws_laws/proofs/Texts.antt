@@ -8,7 +8,7 @@ use Rattle.std.specs.Str.Parse.{AllDigits, digits_value}
 use Rattle.std.specs.List.{AllByRecursion, IsDistinct}
 use Rattle.cv_inline.specs.Draws.{end_number, greatest_end, is_among, is_digit, least_free, number_behind, number_written, numbered_text, same_text, texts_from}
 use Rattle.cv_lex.specs.Lexis.{value_of}
-use Rattle.cv_inline_names_laws.proofs.draws.Fresh.{either_way, free_below, free_from, is_free}
+use Rattle.cv_inline_draws_laws.proofs.Fresh.{either_way, free_below, free_from, is_free}
 
 same_text_exact : (a b : List ℕ) → same_text a b ≡ true → a ≡ b
 same_text_exact [] [] e = refl

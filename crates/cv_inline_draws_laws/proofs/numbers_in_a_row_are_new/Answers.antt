@@ -1,6 +1,6 @@
 use Rattle.std.proofs.Common.{arith}
-use Rattle.cv_inline_names_laws.proofs.draws.Names.{as_many_numbers, numbers_above, numbers_differ}
-use Rattle.cv_inline_names_laws.proofs.draws.numbers_in_a_row_are_new.Goals as goal
+use Rattle.cv_inline_draws_laws.proofs.Names.{as_many_numbers, numbers_above, numbers_differ}
+use Rattle.cv_inline_draws_laws.proofs.numbers_in_a_row_are_new.Goals as goal
 
 pub returns-clause-many : goal.returns-clause-many
 returns-clause-many c = as_many_numbers

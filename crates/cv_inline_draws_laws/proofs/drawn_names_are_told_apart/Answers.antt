@@ -1,5 +1,5 @@
-use Rattle.cv_inline_names_laws.proofs.draws.Names.{index_among, label_again, name_again, name_new, new_above, other_label, other_role}
-use Rattle.cv_inline_names_laws.proofs.draws.drawn_names_are_told_apart.Goals as goal
+use Rattle.cv_inline_draws_laws.proofs.Names.{index_among, label_again, name_again, name_new, new_above, other_label, other_role}
+use Rattle.cv_inline_draws_laws.proofs.drawn_names_are_told_apart.Goals as goal
 
 pub returns-clause-roles : goal.returns-clause-roles
 returns-clause-roles c = name_again

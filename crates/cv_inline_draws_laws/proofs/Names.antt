@@ -6,9 +6,8 @@ use Rattle.std.specs.List.{AllByRecursion, IsDistinct, list_any}
 use Rattle.cv_meaning_contexts.specs.Roles.{Role, Index}
 use Rattle.cv_inline.specs.Draws.{drawn_for, is_drawn, name_for, roles_of, same_find, same_role}
 use Rattle.cv_inline.proofs.Named.{found_again, same_find_exact, same_role_exact}
-use Rattle.cv_inline_names_laws.specs.draws.DrawnNames.{AreApart, DrawnNames, drawn_in, find_in, has_find, has_indices, is_drawn_for, is_new, numbers_from, role_in}
-use Rattle.cv_inline_names_laws.proofs.draws.Fresh.{above_apart}
-use Rattle.cv_inline_laws.proofs.worked.OneSender.{among}
+use Rattle.cv_inline_draws_laws.specs.DrawnNames.{AreApart, DrawnNames, drawn_in, find_in, has_find, has_indices, is_drawn_for, is_new, numbers_from, role_in}
+use Rattle.cv_inline_draws_laws.proofs.Fresh.{above_apart}
 use Rattle.cv_lists.proofs.Tests.{differ_comm}
 
 -- numbers in a row
@@ -33,6 +32,20 @@ not_drawn other [] xs y e = refl
 not_drawn other (d ∷ ds) [] y e = refl
 not_drawn other (d ∷ ds) (x ∷ xs) y e =
     let p = or_parts (x == y) _ e in ap (λ b. cond b d (drawn_for other ds xs y)) (differ_comm x y p.0) ∙ not_drawn other ds xs y p.1
+
+-- the name of what is drawn is one of the names
+among : {A : Type 0} (same : A → A → Bool) (ds : List A) (xs : List ℕ) (r : A) → length xs ≡ length ds → is_drawn same ds r ≡ true → list_any (λ x. x == name_for same ds xs r) xs ≡ true
+among same [] xs r l i = absurd (both_ways _ refl i)
+among same (d ∷ ds) [] r l i = absurd (omega arith)
+among same (d ∷ ds) (x ∷ xs) r l i = go (same d r) i (among same ds xs r (omega arith))
+  where
+    or_right : (c : Bool) {e : Bool} → e ≡ true → (c || e) ≡ true
+    or_right true j = refl
+    or_right false j = j
+
+    go : (b : Bool) → (b || is_drawn same ds r) ≡ true → (is_drawn same ds r ≡ true → list_any (λ y. y == name_for same ds xs r) xs ≡ true) → ((x == cond b x (name_for same ds xs r)) || list_any (λ y. y == cond b x (name_for same ds xs r)) xs) ≡ true
+    go true i h = ap (λ c. c || list_any (λ y. y == x) xs) (eq-eqb x x refl)
+    go false i h = or_right (x == name_for same ds xs r) (h i)
 
 -- finds
 

@@ -1,5 +1,5 @@
-use Rattle.cv_inline_names_laws.proofs.draws.Fresh.{as_many_labels, labels_differ, labels_free}
-use Rattle.cv_inline_names_laws.proofs.draws.drawn_labels_are_new.Goals as goal
+use Rattle.cv_inline_draws_laws.proofs.Fresh.{as_many_labels, labels_differ, labels_free}
+use Rattle.cv_inline_draws_laws.proofs.drawn_labels_are_new.Goals as goal
 
 pub returns-clause-many : goal.returns-clause-many
 returns-clause-many c = as_many_labels

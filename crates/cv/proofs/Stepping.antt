@@ -1,0 +1,160 @@
+-- Each step of a report is close by itself: it is a link behind a chain, and its advantage is that of its context.
+use Rattle.std.proofs.Common.{◌≡◌, ℕ, zero, suc, ◌≤◌, List, [], ◌∷◌, ◌++◌, length, map, drop, take, refl, ap, sym, ◌∙◌, subst, arith, mul-pos, Option, Some, None, Ok, inl, inr}
+use Rattle.std.specs.Prelude.{IfSome, MatchOption, option_map, slice_get}
+use Rattle.cv_pool.specs.KindTree.{KindTree}
+use Rattle.cv_syntax.specs.declared.work.File.{File}
+use Rattle.cv_syntax.specs.declared.work.Game.{Game}
+use Rattle.cv_syntax_trees.specs.Declarations.{Declaration}
+use Rattle.cv_syntax_trees.specs.Tree.{Tree}
+use Rattle.cv_syntax.specs.PoolTrees.{tree_at}
+use Rattle.cv_accept.specs.Accepted.{Content, read_of, most_bytes}
+use Rattle.cv_accept_laws.proofs.Ready.{file_of, taped, valued}
+use Rattle.cv_derive_laws.specs.stores.Soundness.{DerivationsHold, DerivedBodiesAreUnreached}
+use Rattle.cv_bound_values.proofs.Adding.{factor_positive}
+use Rattle.cv_follow.specs.Scripts.{Told, entry_in, entry_of, known_to}
+use Rattle.cv_follow.proofs.StepKinds.{kind_of}
+use Rattle.cv_kernel.specs.Closings.{Closing, closing_in}
+use Rattle.cv_kernel.specs.Proofs.{IsProof, IsTransition, Transition, closed_by, game_behind}
+use Rattle.cv_meaning.specs.Advantage.{chance_of}
+use Rattle.cv_meaning.specs.Chances.{Chance}
+use Rattle.cv_meaning.specs.Experiments.{Experiment, mode_of}
+use Rattle.cv_meaning.specs.Interpretation.{Interpretation, setting_of}
+use Rattle.cv_meaning.specs.Runs.{Adversary}
+use Rattle.cv_meaning.specs.Satisfies.{Satisfies}
+use Rattle.cv_meaning_chances.specs.Fractions.{HasTapes}
+use Rattle.cv_meaning_chances.specs.values.Values.{HasValuesIn}
+use Rattle.cv_meaning_contexts.specs.ContextAdvantage.{context_chance}
+use Rattle.cv_meaning_contexts.specs.Groups.{Left, Right}
+use Rattle.cv_plain.specs.Strategy.{most_pool}
+use Rattle.cv_report.specs.declared.report.Entry.{Entry}
+use Rattle.cv_report.specs.declared.report.Report.{Report}
+use Rattle.cv_scene.specs.Reductions.{context_of_game}
+use Rattle.cv_scene.specs.Scenes.{Scene}
+use Rattle.cv_script.specs.Views.{items_of_step}
+use Rattle.cv_sequences.specs.Chains.{ByEquivalence, ByStep, IsClose, IsFileOf, IsLink, Link, cost_behind, next_behind}
+use Rattle.cv_sequences.proofs.Chains.{link_close, valued as valued_along}
+use Rattle.cv_sequences.proofs.secrets.Alike.{left_positive}
+use Rattle.cv_steps.specs.Sequences.{scene}
+use Rattle.cv_steps.specs.Steps.{Zero}
+use Rattle.cv_steps_crypto.specs.Steps.{reduction_of}
+use Rattle.cv_steps_crypto.proofs.Accepted.{accepted}
+use Rattle.cv.specs.Contexts.{contexts_in}
+use Rattle.cv.specs.Runs.{Runs}
+use Rattle.cv.specs.Steps.{AreEqual, AreOfCost, HasCloseSteps, IsCloseStep, game_along}
+use Rattle.cv.specs.Strategy.{FollowsScript, Proceeds, declared_in, file_in, game_in, steps_in}
+use Rattle.cv.specs.Values.{Contexts, advantage_of, advantages_in}
+use Rattle.cv.proofs.Faithful.{HasContext, along_is, context_numbered, contexts_along, game_kept, link_of, links_of, matched, next_tree, none_next, price_of, same_game, script_contexts, stands_in}
+use Rattle.cv.proofs.Faithful as faithful
+use Rattle.cv.proofs.Taped.{HaveTapedContexts, HaveValues}
+
+-- what stands at a place stands between what is before and behind it
+split_at : (ts : List Transition) (k : ℕ) (t : Transition) → slice_get ts k ≡ Some t → take k ts ++ t ∷ drop (suc k) ts ≡ ts
+split_at [] k t e = absurd (cc)
+split_at (u ∷ ts) zero t e = let f : u ≡ t = cc in ap (λ x. x ∷ ts) (sym f)
+split_at (u ∷ ts) (suc k) t e = ap (λ xs. u ∷ xs) (split_at ts k t e)
+
+-- a step with a game of its own closes no query
+
+none_closed : (c : Option Closing) (t g : Tree) → game_behind c t ≡ Some g → c ≡ None
+none_closed None t g e = refl
+none_closed (Some d) t g e = absurd (cc)
+
+no_closing : (trees : List KindTree) (e : Entry) (t : Transition) (g : Game) → entry_in trees e ≡ entry_of t → e.next ≡ Some g → closing_in t.step ≡ None
+no_closing trees e t g m n =
+    none_closed (closing_in t.step) t.next (tree_at trees (Some g.root))
+    (sym (ap (λ (y : Told). y.3) m) ∙ ap (option_map (λ h. tree_at trees (Some h.root))) n)
+
+-- entries lead to the games of their transitions
+same_along : (trees : List KindTree) (game : Tree) (es : List Entry) (ts : List Transition) (n : ℕ) → map (entry_in trees) es ≡ map entry_of ts → game_along trees game (take n es) ≡ faithful.game_along game (take n ts)
+same_along trees game es ts zero m = refl
+same_along trees game [] [] (suc n) m = refl
+same_along trees game [] (t ∷ ts) (suc n) m = absurd (cc)
+same_along trees game (e ∷ es) [] (suc n) m = absurd (cc)
+same_along trees game (e ∷ es) (t ∷ ts) (suc n) m =
+    let f : entry_in trees e ≡ entry_of t = cc in
+    let to = same_game trees game t.next e.next (closing_in t.step) (ap (λ (y : Told). y.3) f) in
+    ap (λ g. game_along trees g (take n es)) to ∙ same_along trees (game_kept game (closing_in t.step) t.next) es ts n (cc)
+
+module _ (ds : List Declaration) (own : ℕ) (first : Tree) (w : IsFileOf ds own first) (values : HaveValues ds first) (taped : HaveTapedContexts ds own) where
+  abbrev at : Tree → Scene
+  at game = scene ds (known_to own) game
+
+  -- a link that is close is as its cost says, with its context
+  module _ (cs : Contexts) (i : Interpretation) (sat : Satisfies ds i) (x : Experiment) (a : Adversary) where
+    abbrev chance_in : Tree → Chance
+    chance_in game = chance_of (setting_of ds i) x a game
+
+    of_cost : (game : Tree) (l : Link) → HasContext cs (at game) l → IsLink (at game) l → HasValuesIn (setting_of ds i) (mode_of x) game → IsClose (at game) i x a l → AreOfCost ds i cs x a (cost_behind l) (chance_in game) (chance_in (next_behind l))
+    of_cost game (ByStep step Zero next) h o v k = ((k.before, k.behind, omega arith, k.within (advantages_in ds i cs x a) tt), (k.before, k.behind, k.sides))
+    of_cost game (ByEquivalence n e key next) h o v k =
+        let y = accepted (at game) e key next o in
+        let c = context_of_game (reduction_of (at game) y.equivalence key) in
+        let there = h y.equivalence y.is_equivalence in
+        let priced = price_of ds own cs i x a (advantages_in ds i cs x a) (λ m. refl) game (ByEquivalence n e key next) h in
+        let all = taped game e y.equivalence key y.is_equivalence i sat x a v in
+        let worth = subst (λ o. HasTapes (advantage_of ds i x a o)) (sym there) all in
+        let both = k.sides y.equivalence y.is_equivalence in (
+          (k.before, k.behind, mul-pos worth (omega arith), k.within (advantages_in ds i cs x a) priced),
+          subst (λ o. MatchOption o ⊥ (λ d. AreEqual (chance_in game) (context_chance ds i d Left x a) × AreEqual (chance_in next) (context_chance ds i d Right x a))) (sym there) (
+            (k.before, left_positive (context_chance ds i c Left x a).all (context_chance ds i c Right x a).all all, both.0),
+            (k.behind, factor_positive (context_chance ds i c Left x a).all (context_chance ds i c Right x a).all all, both.1),
+          ),
+        )
+
+  -- so is each step of a proof that changes the game
+  pub close_step : (before : List Transition) (game : Tree) → IsProof ds (known_to own) first before game → (t : Transition) (rest : List Transition) → closing_in t.step ≡ None → IsTransition ds (known_to own) (suc (length before)) (closed_by before) game t
+      → IsCloseStep ds (contexts_along ds own 1 first (before ++ t ∷ rest)) game t.next t.cost
+  close_step before game p t rest n j = λ i sat x q a.
+      let cs = contexts_along ds own 1 first (before ++ t ∷ rest) in
+      let h = links_of ds own first before game p (t ∷ rest) in
+      let k = link_of ds own cs (suc (length before)) (closed_by before) game t n (context_numbered ds own first before game p t rest) j (kind_of (items_of_step t.step)) in
+      let v = values i sat x q in
+      subst (λ next. AreOfCost ds i cs x a t.cost (chance_of (setting_of ds i) x a game) (chance_of (setting_of ds i) x a next)) k.next
+      (subst (λ cost. AreOfCost ds i cs x a cost (chance_of (setting_of ds i) x a game) (chance_of (setting_of ds i) x a (next_behind k.link))) (sym k.costs)
+      (of_cost cs i sat x a game k.link k.context k.leads (valued_along ds own first w i sat x q v h.links game h.chain) (link_close ds own first w i sat x q v a h.links game h.chain k.link k.leads)))
+
+-- the steps of a report
+
+abbrev HasStepsFrom : List Declaration → (own : ℕ) → Tree → Type 0
+HasStepsFrom ds own first =
+    (before : List Transition) (game : Tree) → IsProof ds (known_to own) first before game → (t : Transition) (rest : List Transition) → closing_in t.step ≡ None → IsTransition ds (known_to own) (suc (length before)) (closed_by before) game t
+    → IsCloseStep ds (contexts_along ds own 1 first (before ++ t ∷ rest)) game t.next t.cost
+
+abbrev AreCloseSteps : Report → File → Type 0
+AreCloseSteps r f =
+    (k : ℕ) (e : Entry) (g : Game) → slice_get r.trail.items k ≡ Some e → e.next ≡ Some g
+    → IsCloseStep (declared_in r) (contexts_in r) (game_along r.work.pool.trees (game_in r f) (take k r.trail.items)) (tree_at r.work.pool.trees (Some g.root)) e.cost
+
+module _ (holds : (ds : List Declaration) → DerivationsHold ds) (unreached : (ds : List Declaration) → DerivedBodiesAreUnreached ds) (c : Content) (f : File) (r : Report) (bytes : List ℕ) (reads : read_of most_pool bytes ≡ Ok c) (few : length bytes ≤ most_bytes) where
+  content_steps : HasStepsFrom c.declarations c.own c.game
+  content_steps =
+      let w = file_of bytes c reads holds unreached few in
+      close_step c.declarations c.own c.game w (valued bytes c reads w.ready) (taped bytes c reads)
+
+  script_steps : (steps : List Tree) → r.file ≡ Some f → file_in r f (length c.names) ≡ c → FollowsScript r f steps → AreCloseSteps r f
+  script_steps steps there held w k e g h n =
+      let trees = r.work.pool.trees in
+      let ds = declared_in r in
+      let own = r.work.decls.own in
+      let first = game_in r f in
+      let ts = w.walk.proof in
+      let m = matched trees r.trail.items ts k e w.trail h in
+      let t = m.0 in
+      let s = stands_in ds (known_to own) first ts w.walk.last w.walk.leads k t m.1 in
+      let here = subst (λ (d : Content). HasStepsFrom d.declarations d.own d.game) (sym held) content_steps in
+      let alone = here (take k ts) s.game s.before t (drop (suc k) ts) (no_closing trees e t g m.2 n) s.here in
+      let among = subst (λ us. IsCloseStep ds (contexts_along ds own 1 first us) s.game t.next t.cost) (split_at ts k t m.1) alone in
+      let in_report = subst (λ cs. IsCloseStep ds cs s.game t.next t.cost) (sym (script_contexts r f steps w there)) among in
+      let led = same_along trees first r.trail.items ts k w.trail ∙ along_is ds own first (take k ts) s.game s.before in
+      let game = game_along trees first (take k r.trail.items) in
+      subst (IsCloseStep ds (contexts_in r) game (tree_at trees (Some g.root))) (sym (ap (λ (y : Told). y.1) m.2))
+      (subst (λ next. IsCloseStep ds (contexts_in r) game next t.cost) (next_tree trees e t g m.2 n)
+      (subst (λ before. IsCloseStep ds (contexts_in r) before t.next t.cost) (sym led) in_report))
+
+  by_script : (o : Option (List Tree)) → r.file ≡ Some f → file_in r f (length c.names) ≡ c → Proceeds r f o → AreCloseSteps r f
+  by_script None there held p k e g h n = absurd (none_next r.steps.items k e g (ap (λ es. slice_get es k) (sym p.trail) ∙ h) n)
+  by_script (Some steps) there held p k e g h n = script_steps steps there held p k e g h n
+
+  pub run_steps : Runs c f r → HasCloseSteps r
+  run_steps (inl s) = subst (λ (o : Option File). IfSome o (AreCloseSteps r)) (sym s.file) tt
+  run_steps (inr h) = subst (λ (o : Option File). IfSome o (AreCloseSteps r)) (sym h.file) (by_script (steps_in r) h.file h.content h.proceeds)
