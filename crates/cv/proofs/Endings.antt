@@ -40,10 +40,14 @@ use Rattle.cv.specs.Games.{HasCloseGames, IsWithin}
 use Rattle.cv_report.specs.declared.report.Entry.{Entry}
 use Rattle.cv_syntax.specs.declared.work.Game.{Game}
 use Rattle.cv_plain.specs.Strategy.{Course, EndsAt, most_pool, most_steps, nothing_said, said_of, status_by}
+use Rattle.cv_context.specs.declared.products.shape.Shape.{Shape}
+use Rattle.cv_context.specs.products.ShapesInCode.{shape_in}
+use Rattle.cv.specs.Calls.{AreBounded, HasBoundedCalls}
 use Rattle.cv.specs.Contexts.{contexts_in}
 use Rattle.cv_report.specs.outcome.Refused.{SaysNothing}
 use Rattle.cv.specs.Drawings.{HasDrawn}
 use Rattle.cv.specs.Steps.{HasCloseSteps, IsCloseStep, game_along}
+use Rattle.cv.specs.Values.{context_of}
 use Rattle.cv.specs.Strategy.{AcceptsAll, EndsBy, EndsWell, HasFile, HoldsUpTo, IsExpected, IsGood, IsSound, Judged, Proceeds, SpeaksOfFile, Succeeds, declared_in, file_in, game_in, steps_in}
 use Rattle.cv_report.specs.outcome.Words.{AreTold, bytes_named, bytes_under}
 use Rattle.cv.proofs.Causing.{where_told}
@@ -207,6 +211,9 @@ close_without r e = subst (λ (o : Option SourceFile). IfSome o (λ f. (k : ℕ)
 pub steps_without : (r : Report) → r.file ≡ None → HasCloseSteps r
 steps_without r e = subst (λ (o : Option SourceFile). IfSome o (λ f. (k : ℕ) (x : Entry) (g : Game) → slice_get r.trail.items k ≡ Some x → x.next ≡ Some g → IsCloseStep (declared_in r) (contexts_in r) (game_along r.work.pool.trees (game_in r f) (take k r.trail.items)) (tree_at r.work.pool.trees (Some g.root)) x.cost)) (sym e) tt
 
+pub calls_without : (r : Report) → r.file ≡ None → HasBoundedCalls r
+calls_without r e = subst (λ (o : Option SourceFile). IfSome o (λ f. (k : ℕ) (x : Entry) (h : Shape) → slice_get r.trail.items k ≡ Some x → x.context ≡ Some h → MatchOption (context_of (contexts_in r) (suc k)) ⊥ (AreBounded (declared_in r) (shape_in h)))) (sym e) tt
+
 -- no file is read from bytes, the told ones where there are any
 abbrev told_bytes : Option (List ℕ) → List ℕ
 told_bytes None = []
@@ -239,7 +246,7 @@ memory_answers told r e n s = answers_without told r e n (λ h. subst HasFile s 
 pub memory_cause : (o : Outside) (r : Report) → r.status ≡ status.Memory → ComesFrom o r r.status
 memory_cause o r s = subst (ComesFrom o r) (sym s) cause.memory
 
-pub ruleset without_file = (sound_without, close_without, steps_without, memory_answers, memory_cause)
+pub ruleset without_file = (sound_without, close_without, steps_without, calls_without, memory_answers, memory_cause)
 
 -- bytes that are refused
 

@@ -32,6 +32,7 @@ use Rattle.cv_scene.specs.Reductions.{context_of_game}
 use Rattle.cv_scene.specs.Scenes.{Scene}
 use Rattle.cv_script.specs.declared.steps.Step.{Step}
 use Rattle.cv_script.specs.Views.{items_of_step}
+use Rattle.cv_script.specs.Views as items
 use Rattle.cv_sequences.specs.Chains.{ByEquivalence, ByStep, HasPrice, IsChain, IsFileOf, IsLink, Link, Prices, cost_behind, costs_behind, game_after, next_behind, summed}
 use Rattle.cv_sequences.specs.Chains as chains
 use Rattle.cv_sequences.proofs.Chains.{chain_ends, has_tapes, taped as taped_sum, valued as valued_along, within}
@@ -39,7 +40,7 @@ use Rattle.cv_steps.specs.Sequences.{scene}
 use Rattle.cv_steps_crypto.specs.Conditions.{equivalence_of}
 use Rattle.cv_steps_crypto.specs.Steps.{reduction_of}
 use Rattle.cv_derive_laws.specs.stores.Soundness.{DerivationsHold, DerivedBodiesAreUnreached}
-use Rattle.cv.specs.Contexts.{context_by, contexts_from, contexts_in, contexts_of_file, game_behind as game_of_entry, with_context}
+use Rattle.cv.specs.Contexts.{context_by, context_for, contexts_from, contexts_in, contexts_of_file, game_behind as game_of_entry, with_context}
 use Rattle.cv.specs.Games.{HasCloseGames, IsWithin}
 use Rattle.cv.specs.Runs.{Runs}
 use Rattle.cv_follow.specs.Scripts.{Told, entry_in, entry_of, known_to}
@@ -51,6 +52,7 @@ use Rattle.cv_kernel_laws.proofs.rules.Sound.{sound}
 use Rattle.cv_follow.proofs.StepKinds.{Kind, closure, kind_of, passage, reduction}
 use Rattle.cv_follow.proofs.StepKinds as kind
 use Rattle.cv_accept_laws.proofs.Ready.{file_of, taped, valued}
+use Rattle.cv.proofs.Naming.{named_in, same_names}
 use Rattle.cv.proofs.Taped.{HaveTapedContexts, HaveValues, taped_prices}
 
 -- the front of a proof
@@ -149,7 +151,7 @@ game_kept game (Some c) next = game
 module _ (ds : List Declaration) (own : ℕ) where
   abbrev pub contexts_along : (step : ℕ) → (game : Tree) → List Transition → Contexts
   contexts_along step game [] = []
-  contexts_along step game (t ∷ ts) = with_context step (context_by ds own game (items_of_step t.step)) (contexts_along (suc step) (game_kept game (closing_in t.step) t.next) ts)
+  contexts_along step game (t ∷ ts) = with_context step (context_by ds own game t.step) (contexts_along (suc step) (game_kept game (closing_in t.step) t.next) ts)
 
 abbrev pub game_along : (game : Tree) → List Transition → Tree
 game_along game [] = game
@@ -159,7 +161,7 @@ along_put : (game : Tree) (ts : List Transition) (t : Transition) → game_along
 along_put game [] t = refl
 along_put game (u ∷ ts) t = along_put (game_kept game (closing_in u.step) u.next) ts t
 
-context_at : (ds : List Declaration) (own step : ℕ) (game : Tree) (before : List Transition) (t : Transition) (behind : List Transition) (c : Context) → context_by ds own (game_along game before) (items_of_step t.step) ≡ Some c
+context_at : (ds : List Declaration) (own step : ℕ) (game : Tree) (before : List Transition) (t : Transition) (behind : List Transition) (c : Context) → context_by ds own (game_along game before) t.step ≡ Some c
     → context_of (contexts_along ds own step game (before ++ t ∷ behind)) (step + length before) ≡ Some c
 context_at ds own step game [] t behind c e =
     let n : step + 0 ≡ step = omega arith in
@@ -169,7 +171,7 @@ context_at ds own step game (u ∷ before) t behind c e =
     let n : step + suc (length before) ≡ suc step + length before = omega arith in
     let to = game_kept game (closing_in u.step) u.next in
     let rest = contexts_along ds own (suc step) to (before ++ t ∷ behind) in
-    found_later step (step + suc (length before)) (context_by ds own game (items_of_step u.step)) rest (omega arith) ∙ (ap (context_of rest) n ∙ context_at ds own (suc step) to before t behind c e)
+    found_later step (step + suc (length before)) (context_by ds own game u.step) rest (omega arith) ∙ (ap (context_of rest) n ∙ context_at ds own (suc step) to before t behind c e)
 
 -- the contexts of links are those of a list by their numbers
 
@@ -210,9 +212,13 @@ pub record HasLink (ds : List Declaration) (own : ℕ) (cs : Contexts) (game : T
   pub costs : t.cost ≡ cost_behind link
   pub context : HasContext cs (scene ds (known_to own) game) link
 
+-- a cryptographic step has the context of what it names
+pub named_context : (ds : List Declaration) (own : ℕ) (game step : Tree) (e x : ℕ) → items_of_step step ≡ Some (items.Crypto e x) → context_by ds own game step ≡ context_for ds own game (Some (e, x))
+named_context ds own game step e x q = ap (context_for ds own game) (same_names step ∙ ap named_in q)
+
 -- of a cryptographic step this is the context
 abbrev pub HasContextAt : List Declaration → (own : ℕ) → Contexts → (number : ℕ) → (game : Tree) → Transition → Type 0
-HasContextAt ds own cs n game t = (c : Context) → context_by ds own game (items_of_step t.step) ≡ Some c → context_of cs n ≡ Some c
+HasContextAt ds own cs n game t = (c : Context) → context_by ds own game t.step ≡ Some c → context_of cs n ≡ Some c
 
 pub link_of : (ds : List Declaration) (own : ℕ) (cs : Contexts) (n : ℕ) (ks : List ℕ) (game : Tree) (t : Transition) → closing_in t.step ≡ None → HasContextAt ds own cs n game t → IsTransition ds (known_to own) n ks game t → Kind (items_of_step t.step) → HasLink ds own cs game t
 link_of ds own cs n ks game t none there i (kind.reduces e x q) =
@@ -223,7 +229,7 @@ link_of ds own cs n ks game t none there i (kind.reduces e x q) =
       leads = r.leads;
       next = refl;
       costs = r.costs;
-      context = λ y j. there (context_of_game (reduction_of at y x)) (ap (context_by ds own game) q ∙ ap (option_map (λ z. context_of_game (reduction_of at z x))) j);
+      context = λ y j. there (context_of_game (reduction_of at y x)) (named_context ds own game t.step e x q ∙ ap (option_map (λ z. context_of_game (reduction_of at z x))) j);
     }
 link_of ds own cs n ks game t none there i (kind.judged j (kind.changes c)) =
     let at : Scene = scene ds (known_to own) game in
@@ -286,7 +292,7 @@ module _ (ds : List Declaration) (own : ℕ) (first : Tree) where
   pub context_numbered : (before : List Transition) (game : Tree) → IsProof ds (known_to own) first before game → (t : Transition) (rest : List Transition) → HasContextAt ds own (contexts_along ds own 1 first (before ++ t ∷ rest)) (suc (length before)) game t
   context_numbered before game p t rest c e =
       let n : 1 + length before ≡ suc (length before) = omega arith in
-      sym (ap (context_of (contexts_along ds own 1 first (before ++ t ∷ rest))) n) ∙ context_at ds own 1 first before t rest c (ap (λ g. context_by ds own g (items_of_step t.step)) (along_is before game p) ∙ e)
+      sym (ap (context_of (contexts_along ds own 1 first (before ++ t ∷ rest))) n) ∙ context_at ds own 1 first before t rest c (ap (λ g. context_by ds own g t.step) (along_is before game p) ∙ e)
 
   pub links_of : (ts : List Transition) (last : Tree) → IsProof ds (known_to own) first ts last → (rest : List Transition) → HasLinks ds own first (contexts_along ds own 1 first (ts ++ rest)) ts last
   links_of ts last start rest = record { links = []; chain = chains.start; contexts = tt; sums = λ b. refl }
@@ -359,7 +365,7 @@ same_contexts ds own trees step game (e ∷ es) [] m = absurd (cc)
 same_contexts ds own trees step game (e ∷ es) (t ∷ ts) m =
     let f : entry_in trees e ≡ entry_of t = cc in
     let to = same_game trees game t.next e.next (closing_in t.step) (ap (λ (y : Told). y.3) f) in
-    ap₂ (λ s cs. with_context step (context_by ds own game (items_of_step s)) cs) (ap (λ (y : Told). y.0) f)
+    ap₂ (λ s cs. with_context step (context_by ds own game s) cs) (ap (λ (y : Told). y.0) f)
     (ap (λ g. contexts_from ds own trees (suc step) g es) to ∙ same_contexts ds own trees (suc step) (game_kept game (closing_in t.step) t.next) es ts (cc))
 
 -- those of a report that follows a script

@@ -2,6 +2,7 @@ pub mod Causing
 pub mod Courses
 pub mod Endings
 pub mod Faithful
+pub mod Naming
 pub mod Growing
 pub mod Proving
 pub mod Running
@@ -13,3 +14,4 @@ pub mod Ended
 pub mod Closers
 pub mod Taped
 pub mod Stepping
+pub mod Bounded

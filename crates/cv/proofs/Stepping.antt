@@ -48,7 +48,7 @@ use Rattle.cv.proofs.Faithful as faithful
 use Rattle.cv.proofs.Taped.{HaveTapedContexts, HaveValues}
 
 -- what stands at a place stands between what is before and behind it
-split_at : (ts : List Transition) (k : ℕ) (t : Transition) → slice_get ts k ≡ Some t → take k ts ++ t ∷ drop (suc k) ts ≡ ts
+pub split_at : (ts : List Transition) (k : ℕ) (t : Transition) → slice_get ts k ≡ Some t → take k ts ++ t ∷ drop (suc k) ts ≡ ts
 split_at [] k t e = absurd (cc)
 split_at (u ∷ ts) zero t e = let f : u ≡ t = cc in ap (λ x. x ∷ ts) (sym f)
 split_at (u ∷ ts) (suc k) t e = ap (λ xs. u ∷ xs) (split_at ts k t e)

@@ -11,8 +11,9 @@ use Rattle.cv.specs.Causes as cause
 use Rattle.cv.specs.Strategy.{IsSound}
 use Rattle.cv_report.specs.outcome.Words.{SaysOfWords}
 use Rattle.cv.specs.Games.{HasCloseGames}
+use Rattle.cv.specs.Calls.{HasBoundedCalls}
 use Rattle.cv.specs.Steps.{HasCloseSteps}
-use Rattle.cv.proofs.Endings.{close_without, memory_answers, sound_without, steps_without}
+use Rattle.cv.proofs.Endings.{close_without, memory_answers, calls_without, sound_without, steps_without}
 
 -- what is kept of a report, or of one that memory ran out in
 
@@ -27,6 +28,10 @@ kept_close old new (inr m) h = close_without new m.file
 pub kept_steps : (old new : Report) → (new ≡ old) ⊎ SaysMemory old.command new → HasCloseSteps old → HasCloseSteps new
 kept_steps old new (inl e) h = subst HasCloseSteps (sym e) h
 kept_steps old new (inr m) h = steps_without new m.file
+
+pub kept_calls : (old new : Report) → (new ≡ old) ⊎ SaysMemory old.command new → HasBoundedCalls old → HasBoundedCalls new
+kept_calls old new (inl e) h = subst HasBoundedCalls (sym e) h
+kept_calls old new (inr m) h = calls_without new m.file
 
 pub kept_words : (words : List (List ℕ)) (old new : Report) → (new ≡ old) ⊎ SaysMemory old.command new → SaysOfWords words old → SaysOfWords words new
 kept_words words old new (inl e) h = subst (SaysOfWords words) (sym e) h

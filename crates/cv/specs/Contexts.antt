@@ -7,24 +7,32 @@ use Rattle.cv_syntax.specs.declared.work.File.{File}
 use Rattle.cv_syntax.specs.declared.work.Game.{Game}
 use Rattle.cv_syntax_trees.specs.Declarations.{Declaration}
 use Rattle.cv_syntax.specs.Declarations.{declarations}
-use Rattle.cv_syntax_trees.specs.Tree.{Tree}
+use Rattle.cv_syntax_trees.specs.declared.head.Head.TheVariants as head
+use Rattle.cv_syntax_trees.specs.Tree.{Tree, Node}
 use Rattle.cv_syntax.specs.PoolTrees.{tree_at}
 use Rattle.cv_meaning_contexts.specs.Sides.{Context}
 use Rattle.cv_scene.specs.Reductions.{context_of_game}
 use Rattle.cv_match_laws.specs.answers.Answers.{file_scene}
 use Rattle.cv_steps_crypto.specs.Conditions.{equivalence_of}
 use Rattle.cv_steps_crypto.specs.Steps.{reduction_of}
-use Rattle.cv_script.specs.Views.{StepItems, items_of_step}
-use Rattle.cv_script.specs.Views as items
 use Rattle.cv_report.specs.declared.report.Entry.{Entry}
 use Rattle.cv_report.specs.declared.report.Report.{Report}
 use Rattle.cv.specs.Values.{Contexts}
 
+-- the equivalence and the key that a cryptographic step names; another step names none
+abbrev pub reduced_by : (step : Tree) → Option (ℕ × ℕ)
+reduced_by (Node head.CryptoStep (Node (head.Name e) a b) (Node (head.Name x) c d)) = Some (e, x)
+reduced_by t = None
+
 -- the context of a step in a game of a file, where the step is a cryptographic one
-abbrev pub context_by : List Declaration → (own : ℕ) → (game : Tree) → Option StepItems → Option Context
-context_by ds own game (Some (items.Crypto e x)) =
-    option_map (λ t. context_of_game (reduction_of (file_scene ds own game) t x)) (equivalence_of (file_scene ds own game) e)
-context_by ds own game other = None
+
+abbrev pub context_for : List Declaration → (own : ℕ) → (game : Tree) → Option (ℕ × ℕ) → Option Context
+context_for ds own game None = None
+context_for ds own game (Some n) =
+    option_map (λ t. context_of_game (reduction_of (file_scene ds own game) t n.1)) (equivalence_of (file_scene ds own game) n.0)
+
+abbrev pub context_by : List Declaration → (own : ℕ) → (game step : Tree) → Option Context
+context_by ds own game step = context_for ds own game (reduced_by step)
 
 abbrev pub with_context : (step : ℕ) → Option Context → Contexts → Contexts
 with_context step None cs = cs
@@ -39,7 +47,7 @@ game_behind trees game (Some next) = tree_at trees (Some next.root)
 unfoldable pub contexts_from : List Declaration → (own : ℕ) → List KindTree → (step : ℕ) → (game : Tree) → List Entry → Contexts
 contexts_from ds own trees step game [] = []
 contexts_from ds own trees step game (e ∷ es) =
-    with_context step (context_by ds own game (items_of_step (tree_at trees (Some e.step.0)))) (contexts_from ds own trees (suc step) (game_behind trees game e.next) es)
+    with_context step (context_by ds own game (tree_at trees (Some e.step.0))) (contexts_from ds own trees (suc step) (game_behind trees game e.next) es)
 
 -- those of a report; its steps are numbered from 1
 abbrev pub contexts_of_file : Report → Option File → Contexts

@@ -13,6 +13,7 @@ ghost use Rattle.cv.specs.Answers.{Answers};
 ghost use Rattle.cv.specs.Causes.{ComesFrom, Outside};
 ghost use Rattle.cv.specs.Games.{HasCloseGames};
 ghost use Rattle.cv.specs.Runs.{Runs};
+ghost use Rattle.cv.specs.Calls.{HasBoundedCalls};
 ghost use Rattle.cv.specs.Steps.{HasCloseSteps};
 ghost use Rattle.cv.specs.Strategy.{IsSound, Judged};
 ghost use Rattle.cv_report.specs.outcome.Words.{AreTold};
@@ -69,6 +70,7 @@ pub fn judge(alloc: Global, work: Work, bytes: &[u8]) -> Report
     ensures sound { IsSound result }
     ensures games { HasCloseGames result }
     ensures steps { HasCloseSteps result }
+    ensures calls { HasBoundedCalls result }
     ensures command { result.command ≡ Command.Prove 32 }
     ensures live { IsLive result }
     ensures answers { (told : Option (List ℕ)) → AreTold told bytes.now → Answers told result }

@@ -4,6 +4,7 @@ ghost use Rattle.cv_report.specs.Text.{IsLive};
 ghost use Rattle.cv.specs.Answers.{Answers, IsComplete};
 ghost use Rattle.cv.specs.Causes.{ComesFrom, outside_of};
 ghost use Rattle.cv.specs.Games.{HasCloseGames};
+ghost use Rattle.cv.specs.Calls.{HasBoundedCalls};
 ghost use Rattle.cv.specs.Steps.{HasCloseSteps};
 ghost use Rattle.cv.specs.Strategy.{EndsWell, IsGood, IsSound};
 ghost use Rattle.cv_report.specs.outcome.Words.{AsksOnly, SaysOfWords, bytes_named, file_given};
@@ -27,6 +28,7 @@ fn prove<F: Shelf>(alloc: Global, name: &str, shelf: &mut F) -> Report
     ensures sound { IsSound result }
     ensures games { HasCloseGames result }
     ensures steps { HasCloseSteps result }
+    ensures calls { HasBoundedCalls result }
     ensures command { result.command ≡ Command.Prove 32 }
     ensures live { IsLive result }
     ensures never { (result.status ≢ Status.Words) × (result.status ≢ Status.Write) }
@@ -55,6 +57,7 @@ fn decide<F: Shelf>(alloc: Global, words: &[String], shelf: &mut F) -> Report
     ensures sound { IsSound result }
     ensures games { HasCloseGames result }
     ensures steps { HasCloseSteps result }
+    ensures calls { HasBoundedCalls result }
     ensures words { SaysOfWords (map string_bytes words.now) result }
     ensures live { IsLive result }
     ensures never { result.status ≢ Status.Write }
@@ -91,6 +94,9 @@ pub fn run<F: Shelf, K: Sink>(
     // cost both have one chance; those of a cryptographic step have the chances of its context with the left and with
     // the right side.
     ensures steps { HasCloseSteps result.report }
+    // The line of a context bounds its runs, whoever plays and whichever side answers: they choose at most as many keys,
+    // and call each function at most as often, as its products are worth.
+    ensures calls { HasBoundedCalls result.report }
     // The command is the one that the words give. The file that they name is asked for alone, at most once.
     ensures words { SaysOfWords (map string_bytes words.now) result.report }
     ensures asked { AsksOnly (file_given words.now) (F.asked shelf.old) (F.asked shelf.new) }

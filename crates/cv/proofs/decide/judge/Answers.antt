@@ -2,6 +2,7 @@ use Rattle.std.proofs.Common.{sym, subst, ◌∙◌}
 use Rattle.cv_accept.proofs.Readings.{accepted}
 use Rattle.cv_plain.specs.Strategy.{most_pool}
 use Rattle.cv.specs.Causes.{ComesFrom}
+use Rattle.cv.proofs.Bounded.{run_calls}
 use Rattle.cv.proofs.Causing.{refusal_cause}
 use Rattle.cv.proofs.Endings.{refusal_answers}
 use Rattle.cv.proofs.Faithful.{run_close}
@@ -46,6 +47,9 @@ returns-in-Ok-clause-games c = run_close c.derivations_are_sound.ensures.hold c.
 
 pub returns-in-Ok-clause-steps : goal.returns-in-Ok-clause-steps
 returns-in-Ok-clause-steps c = run_steps c.derivations_are_sound.ensures.hold c.derivations_are_sound.ensures.unreached _ c.in-Ok.accepted.file _ c.args.bytes.now (reads_at _ c.args.bytes.now _ c.requires.limit c.in-Ok.ensures.reads) c.requires.few c.run_accepted.ensures.run
+
+pub returns-in-Ok-clause-calls : goal.returns-in-Ok-clause-calls
+returns-in-Ok-clause-calls c = run_calls c.derivations_are_sound.ensures.hold c.derivations_are_sound.ensures.unreached _ c.in-Ok.accepted.file _ c.args.bytes.now (reads_at _ c.args.bytes.now _ c.requires.limit c.in-Ok.ensures.reads) c.requires.few c.run_accepted.ensures.run
 
 pub returns-in-Ok-clause-live : goal.returns-in-Ok-clause-live
 returns-in-Ok-clause-live c = run_live _ c.in-Ok.accepted.file _ c.run_accepted.ensures.run

@@ -3,7 +3,7 @@ use Rattle.std.specs.Prelude.{IfSome, IsNone}
 use Rattle.cv.specs.Answers.{Answers, IsComplete}
 use Rattle.cv.specs.Causes.{ComesFrom, outside_of}
 use Rattle.cv_report.specs.outcome.Words.{AsksOnly, bytes_named, command_of}
-use Rattle.cv.proofs.Endings.{steps_without, words_answers, words_cause, words_complete}
+use Rattle.cv.proofs.Endings.{calls_without, steps_without, words_answers, words_cause, words_complete}
 use Rattle.cv.proofs.top.decide.Goals as goal
 
 pub returns-in-Some-clause-words : goal.returns-in-Some-clause-words
@@ -38,6 +38,9 @@ returns-in-None-clause-words g c =
 
 pub returns-in-None-clause-steps : goal.returns-in-None-clause-steps
 returns-in-None-clause-steps g c = steps_without c.refused.result c.refused.ensures.file
+
+pub returns-in-None-clause-calls : goal.returns-in-None-clause-calls
+returns-in-None-clause-calls g c = calls_without c.refused.result c.refused.ensures.file
 
 pub returns-in-None-clause-answers : goal.returns-in-None-clause-answers
 returns-in-None-clause-answers g c = words_answers _ _ c.refused.ensures.file c.refused.ensures.nothing c.refused.ensures.status

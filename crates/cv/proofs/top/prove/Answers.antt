@@ -9,7 +9,7 @@ use Rattle.cv.specs.Answers.{IsComplete}
 use Rattle.cv.specs.Causes.{ComesFrom}
 use Rattle.cv_accept.specs.Accepted.{most_bytes}
 use Rattle.cv_report.specs.outcome.Words.{bytes_under}
-use Rattle.cv.proofs.Endings.{close_without, fetch_answers, fetch_cause, fetch_complete, fetch_never, fetched_told, judged_complete, judged_speaks, sound_without, speaks_never, steps_without, under_told}
+use Rattle.cv.proofs.Endings.{close_without, fetch_answers, fetch_cause, fetch_complete, fetch_never, fetched_told, judged_complete, judged_speaks, calls_without, sound_without, speaks_never, steps_without, under_told}
 use Rattle.cv.proofs.top.prove.Goals as goal
 
 -- an error as an answer
@@ -35,6 +35,9 @@ returns-in-Err-clause-sound g c = sound_without c.refused.result c.refused.ensur
 
 pub returns-in-Err-clause-games : goal.returns-in-Err-clause-games
 returns-in-Err-clause-games g c = close_without c.refused.result c.refused.ensures.file
+
+pub returns-in-Err-clause-calls : goal.returns-in-Err-clause-calls
+returns-in-Err-clause-calls g c = calls_without c.refused.result c.refused.ensures.file
 
 pub returns-in-Err-clause-steps : goal.returns-in-Err-clause-steps
 returns-in-Err-clause-steps g c = steps_without c.refused.result c.refused.ensures.file

@@ -2,7 +2,7 @@ use Rattle.std.specs.Prelude.{map, string_bytes}
 use Rattle.cv_lists.proofs.Options.{IfSome_weaker}
 use Rattle.cv_report.specs.outcome.Words.{bytes_named, file_named}
 use Rattle.cv.proofs.Endings.{ends_well}
-use Rattle.cv.proofs.Writing.{by_sink, ends_either, kept_answers, kept_cause, kept_close, kept_complete, kept_sound, kept_steps, kept_words}
+use Rattle.cv.proofs.Writing.{by_sink, ends_either, kept_answers, kept_calls, kept_cause, kept_close, kept_complete, kept_sound, kept_steps, kept_words}
 use Rattle.cv.proofs.top.run.Goals as goal
 
 pub returns-clause-headline : goal.returns-clause-headline
@@ -13,6 +13,9 @@ returns-clause-games g c = kept_close _ _ c.write.ensures.kept c.decide-report.e
 
 pub returns-clause-steps : goal.returns-clause-steps
 returns-clause-steps g c = kept_steps _ _ c.write.ensures.kept c.decide-report.ensures.steps
+
+pub returns-clause-calls : goal.returns-clause-calls
+returns-clause-calls g c = kept_calls _ _ c.write.ensures.kept c.decide-report.ensures.calls
 
 pub returns-clause-words : goal.returns-clause-words
 returns-clause-words g c = kept_words _ _ _ c.write.ensures.kept c.decide-report.ensures.words

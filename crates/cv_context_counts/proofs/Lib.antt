@@ -1,0 +1,6 @@
+mod Copies
+mod Spots
+mod Nodes
+mod Sites
+mod Keys
+pub mod Runs
