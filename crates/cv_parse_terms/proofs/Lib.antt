@@ -6,7 +6,10 @@ pub mod Rows
 pub mod Steady
 pub mod Tails
 pub mod Begins
-pub mod Nodes
 pub mod Listing
 pub mod Passing
 pub mod Openings
+pub mod Walks
+pub mod Saying
+pub mod TermSays
+pub mod Entries

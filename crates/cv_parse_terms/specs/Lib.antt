@@ -1,4 +1,5 @@
 pub mod Gives
+pub mod Tables
+pub mod TermRows
 pub mod Items
 pub mod Spines
-pub mod Mentions

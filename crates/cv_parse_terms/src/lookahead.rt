@@ -1,6 +1,8 @@
 ghost use Rattle.std.specs.Prelude.{◌≡◌, ◌+◌, ◌<◌, ◌≤◌, ◌^◌, ℕ, length, drop, IfOk, IfErr, OnErr, [], true, false};
 ghost use Rattle.cv_parse_notation.specs.Spells.{next_is, is_mark, is_script_word, is_word, is_zero, is_find, is_unnamed, kind_of};
 ghost use Rattle.cv_parse_notation.specs.Reads.{read_sign};
+ghost use Rattle.cv_parse_grammar.specs.Phrases.{Term};
+ghost use Rattle.cv_parse_grammar.specs.Rules.{heads};
 ghost use Rattle.cv_parse_terms.specs.Gives.{Fails, IsSign, Opens, Shallow, read_opening, read_too_deep, next_value, word_in as word_of, find_in as find_of, unnamed_in as unnamed_of};
 ghost use Rattle.cv_parse_terms.specs.declared.lookahead.ReadError.TheVariants.{OutOfMemory};
 
@@ -175,6 +177,17 @@ pub fn is_zero_at(signs: &[Sign], at: usize) -> bool
     ensures { result ≡ next_is is_zero (drop at signs.now) }
 {
     at < signs.len() && is_nought(signs[at])
+}
+
+/// Whether a term begins at a place.
+#[tactic(auto, using(crate::proofs::Begins::term_begins))]
+pub fn begins_term(signs: &[Sign], at: usize) -> bool
+    ensures { result ≡ next_is (heads Term) (drop at signs.now) }
+{
+    is_word_at(signs, at)
+        || (is_at(signs, at, Mark::Not)
+            || (is_at(signs, at, Mark::True)
+                || (is_at(signs, at, Mark::False) || is_at(signs, at, Mark::Open))))
 }
 
 /// The place behind an opening bracket, which opens a level.

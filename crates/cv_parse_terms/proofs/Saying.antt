@@ -1,0 +1,362 @@
+-- Pieces that read what a form reads, and make what its value stands for.
+use Rattle.std.proofs.Common.{◌≡◌, ℕ, zero, suc, ◌+◌, ◌<◌, Bool, true, false, ◌||◌, List, [], ◌∷◌, ◌++◌, length, drop, refl, ap, ap₂, sym, ◌∙◌, arith, subst, append_assoc, append-nil, flat_map, Option, Some, None, Result, Ok, Err}
+use Rattle.std.specs.Prelude.{replicate}
+use Rattle.cv_syntax_trees.specs.Tree.{Tree, Empty, chain}
+use Rattle.cv_syntax_trees.specs.declared.head.Head.TheVariants.{Cons}
+use Rattle.cv_syntax.specs.Postorder.{postorder}
+use Rattle.cv_syntax.specs.declared.make.Make.{Make}
+use Rattle.cv_syntax.specs.declared.make.Make.TheVariants.{Nothing, Over}
+use Rattle.cv_parse_notation.specs.declared.sign.Sign.{Sign}
+use Rattle.cv_parse_notation.specs.declared.sign.Mark.{Mark}
+use Rattle.cv_parse_notation.specs.Spells.{Kind, next_is, is_mark, starts}
+use Rattle.cv_parse_notation.specs.Form.{sign, word, note, may, many, either, made, level, deeper, ◌&◌, ◌▸◌, ◌◂◌}
+use Rattle.cv_parse_notation.specs.Reads.{Read, Reader, Found, Fault, ◌>>=◌, found, joined, mapped, one_more, nothing, pick, no_level, no_syntax, read_many, read_sign}
+use Rattle.cv_parse_grammar.specs.declared.role.Role.{Role}
+use Rattle.cv_parse_grammar.specs.Phrases.{Sort, Phrase, after, row}
+use Rattle.cv_parse_grammar.specs.Rules.{heads}
+use Rattle.cv_parse_terms.specs.declared.piece.Ahead.{Ahead}
+use Rattle.cv_parse_terms.specs.declared.piece.Naming.{Naming}
+use Rattle.cv_parse_terms.specs.declared.piece.Piece.{Piece}
+use Rattle.cv_parse_terms.specs.declared.piece.Piece.TheVariants as piece
+use Rattle.cv_parse_terms.specs.Gives.{positive, below, read_in}
+use Rattle.cv_parse_terms.specs.Tables.{Parts, Work, Step, and_then, begins, below_step, changed, chosen, closed, made_no_part, more, named, no_room, part, piece_in, pieces_in, pieces_step, put, refused, row_in, waits}
+use Rattle.cv_parse_terms.specs.TermRows.{row_of, term_rows}
+use Rattle.cv_parse_terms.proofs.Made.{chain_made}
+use Rattle.cv_parse_terms.proofs.Walks.{row_law}
+
+-- parts behind those that are there
+abbrev pub adds : List Make → Parts → Parts
+adds l q = record { names = q.names; makes = q.makes ++ l }
+
+abbrev pub grows : Tree → Parts → Parts
+grows t = adds (postorder t)
+
+pub record Says {A : Type 0} (n bound : ℕ) (ps : List Piece) (f : Phrase A) (e : A → Parts → Parts) : Type 0 where
+  pub law : (w : Work) → pieces_in term_rows n bound ps w ≡ put e w (read_in n f w.rest)
+
+-- steps one behind another
+
+then_nothing : (r : Result Work Fault) → and_then r (λ w. Ok w) ≡ r
+then_nothing (Ok w) = refl
+then_nothing (Err e) = refl
+
+pieces_append : (one : Piece → Step) (ps qs : List Piece) (w : Work) → pieces_step one (ps ++ qs) w ≡ and_then (pieces_step one ps w) (pieces_step one qs)
+pieces_append one [] qs w = refl
+pieces_append one (p ∷ ps) qs w = go (one p w) (λ v. pieces_append one ps qs v) where
+  go : (r : Result Work Fault) → ((v : Work) → pieces_step one (ps ++ qs) v ≡ and_then (pieces_step one ps v) (pieces_step one qs)) → and_then r (pieces_step one (ps ++ qs)) ≡ and_then (and_then r (pieces_step one ps)) (pieces_step one qs)
+  go (Ok v) h = h v
+  go (Err x) h = refl
+
+put_joined : {A B : Type 0} (e : A → Parts → Parts) (d : B → Parts → Parts) (w : Work) (x : Found Role A) (s : Read Role B) → put d (record { parts = e x.value w.parts; uses = w.uses ++ x.uses; rest = x.rest }) s ≡ put (λ (c : A × B) q. d c.1 (e c.0 q)) w (s >>= joined x)
+put_joined e d w x (Ok y) = ap (λ us. let v : Result Work Fault = Ok (record { parts = d y.value (e x.value w.parts); uses = us; rest = y.rest }) in v) (append_assoc w.uses x.uses y.uses)
+put_joined e d w x (Err f) = refl
+
+put_both : {A B : Type 0} (e : A → Parts → Parts) (d : B → Parts → Parts) (w : Work) (r : Read Role A) (p : Step) (s : Reader Role B) → ((v : Work) → p v ≡ put d v (s v.rest)) → and_then (put e w r) p ≡ put (λ (c : A × B) q. d c.1 (e c.0 q)) w (r >>= λ x. s x.rest >>= joined x)
+put_both e d w (Ok x) p s h = h (record { parts = e x.value w.parts; uses = w.uses ++ x.uses; rest = x.rest }) ∙ put_joined e d w x (s x.rest)
+put_both e d w (Err f) p s h = refl
+
+put_mapped : {A B : Type 0} (v : A → B) (e : B → Parts → Parts) (w : Work) (r : Read Role A) → put (λ a. e (v a)) w r ≡ put e w (r >>= mapped v)
+put_mapped v e w (Ok x) = refl
+put_mapped v e w (Err f) = refl
+
+put_same : {A : Type 0} (e d : A → Parts → Parts) (w : Work) (r : Read Role A) → ((x : Found Role A) → r ≡ Ok x → e x.value w.parts ≡ d x.value w.parts) → put e w r ≡ put d w r
+put_same e d w (Ok x) h = ap (λ q. let v : Result Work Fault = Ok (record { parts = q; uses = w.uses ++ x.uses; rest = x.rest }) in v) (h x refl)
+put_same e d w (Err f) h = refl
+
+put_changed : {A : Type 0} (c : Parts → Parts) (e : A → Parts → Parts) (w : Work) (r : Read Role A) → and_then (put e w r) (changed c) ≡ put (λ a q. c (e a q)) w r
+put_changed c e w (Ok x) = refl
+put_changed c e w (Err f) = refl
+
+-- one piece
+
+pub sign_says : (n b : ℕ) (m : Mark) → Says n b (piece.Sign m ∷ []) (sign m) made_no_part
+sign_says n b m = record { law = λ w. then_nothing (put made_no_part w (read_sign m w.rest)) }
+
+pub word_says : (n b : ℕ) (r : Role) → Says n b (piece.Word r ∷ []) (word r) waits
+word_says n b r = record { law = λ w. then_nothing (put waits w (read_in n (word r) w.rest)) }
+
+pub note_says : (n b : ℕ) (r : Role) → Says n b (piece.Note r ∷ []) (note r) made_no_part
+note_says n b r = record { law = λ w. then_nothing (put made_no_part w (read_in n (note r) w.rest)) }
+
+pub row_says : {A : Type 0} {n : ℕ} {f : Phrase A} {e : A → Parts → Parts} (b r : ℕ) → r < b → Says n r (row_of r) f e → Says n b (piece.Row r ∷ []) f e
+row_says {n = n} b r h s = record { law = λ w. then_nothing (row_in term_rows n b r w) ∙ (row_law term_rows n b r w h ∙ s.law w) }
+
+-- how forms go together
+
+pub both_says : {A B : Type 0} {n b : ℕ} {f : Phrase A} {g : Phrase B} {e : A → Parts → Parts} {d : B → Parts → Parts} (ps qs : List Piece) → Says n b ps f e → Says n b qs g d → Says n b (ps ++ qs) (f & g) (λ c q. d c.1 (e c.0 q))
+both_says {n = n} {b = b} {f = f} {g = g} {e = e} {d = d} ps qs s t = record {
+  law = λ w.
+      pieces_append (piece_in term_rows n b) ps qs w
+      ∙ (ap (λ r. and_then r (pieces_in term_rows n b qs)) (s.law w) ∙ put_both e d w (read_in n f w.rest) (pieces_in term_rows n b qs) (read_in n g) t.law);
+}
+
+pub made_says : {A B : Type 0} {n b : ℕ} {ps : List Piece} {f : Phrase A} (v : A → B) (e : B → Parts → Parts) → Says n b ps f (λ a. e (v a)) → Says n b ps (made v f) e
+made_says {n = n} {f = f} v e s = record { law = λ w. s.law w ∙ put_mapped v e w (read_in n f w.rest) }
+
+pub same_says : {A : Type 0} {n b : ℕ} {ps : List Piece} {f : Phrase A} {e : A → Parts → Parts} (d : A → Parts → Parts) → ((a : A) (q : Parts) → e a q ≡ d a q) → Says n b ps f e → Says n b ps f d
+same_says {n = n} {f = f} {e = e} d h s = record { law = λ w. s.law w ∙ put_same e d w (read_in n f w.rest) (λ x i. h x.value w.parts) }
+
+pub sign_before : {A : Type 0} {n b : ℕ} {f : Phrase A} {e : A → Parts → Parts} (m : Mark) (ps : List Piece) → Says n b ps f e → Says n b (piece.Sign m ∷ ps) (m ▸ f) e
+sign_before {n = n} {b = b} {e = e} m ps s = made_says (λ p. p.1) e (both_says (piece.Sign m ∷ []) ps (sign_says n b m) s)
+
+pub sign_behind : {A : Type 0} {n b : ℕ} {f : Phrase A} {e : A → Parts → Parts} (m : Mark) (ps : List Piece) → Says n b ps f e → Says n b (ps ++ piece.Sign m ∷ []) (f ◂ m) e
+sign_behind {n = n} {b = b} {e = e} m ps s = made_says (λ p. p.0) e (both_says ps (piece.Sign m ∷ []) s (sign_says n b m))
+
+pub between : {A : Type 0} {n b : ℕ} {f : Phrase A} {e : A → Parts → Parts} (m k : Mark) (ps : List Piece) → Says n b ps f e → Says n b (piece.Sign m ∷ (ps ++ piece.Sign k ∷ [])) (m ▸ f ◂ k) e
+between m k ps s = sign_before m (ps ++ piece.Sign k ∷ []) (sign_behind k ps s)
+
+-- parts and heads behind a form, and a part before it
+
+changes : {A : Type 0} {n b : ℕ} {f : Phrase A} {e : A → Parts → Parts} (c : Parts → Parts) (one : Piece) (ps : List Piece) → ((w : Work) → piece_in term_rows n b one w ≡ changed c w) → Says n b ps f e → Says n b (ps ++ one ∷ []) f (λ a q. c (e a q))
+changes {A} {n = n} {b = b} {f = f} {e = e} c one ps h s = record {
+  law = λ w.
+      pieces_append (piece_in term_rows n b) ps (one ∷ []) w
+      ∙ (ap (λ r. and_then r (pieces_in term_rows n b (one ∷ []))) (s.law w)
+      ∙ (go w (read_in n f w.rest) ∙ put_changed c e w (read_in n f w.rest)));
+} where
+  go : (w : Work) (r : Read Role A) → and_then (put e w r) (pieces_in term_rows n b (one ∷ [])) ≡ and_then (put e w r) (changed c)
+  go w (Ok x) =
+      let v : Work = record { parts = e x.value w.parts; uses = w.uses ++ x.uses; rest = x.rest } in
+      then_nothing (piece_in term_rows n b one v) ∙ h v
+  go w (Err y) = refl
+
+pub part_behind : {A : Type 0} {n b : ℕ} {f : Phrase A} {e : A → Parts → Parts} (m : Make) (ps : List Piece) → Says n b ps f e → Says n b (ps ++ piece.Part m ∷ []) f (λ a q. part m (e a q))
+part_behind m ps s = changes (part m) (piece.Part m) ps (λ w. refl) s
+
+pub head_behind : {A : Type 0} {n b : ℕ} {f : Phrase A} {e : A → Parts → Parts} (h : Naming) (ps : List Piece) → Says n b ps f e → Says n b (ps ++ piece.Named h ∷ []) f (λ a q. named h (e a q))
+head_behind h ps s = changes (named h) (piece.Named h) ps (λ w. refl) s
+
+pub part_before : {A : Type 0} {n b : ℕ} {f : Phrase A} {e : A → Parts → Parts} (m : Make) (ps : List Piece) → Says n b ps f e → Says n b (piece.Part m ∷ ps) f (λ a q. e a (part m q))
+part_before {A} {n = n} {f = f} {e = e} m ps s = record { law = λ w. s.law (record { parts = part m w.parts; uses = w.uses; rest = w.rest }) ∙ go w (read_in n f w.rest) } where
+  go : (w : Work) (r : Read Role A) → put e (record { parts = part m w.parts; uses = w.uses; rest = w.rest }) r ≡ put (λ a q. e a (part m q)) w r
+  go w (Ok x) = refl
+  go w (Err y) = refl
+
+-- choices by the next token
+
+pub next_same : (p q : Kind → Bool) → ((k : Kind) → p k ≡ q k) → (ts : List Sign) → next_is p ts ≡ next_is q ts
+next_same p q h [] = refl
+next_same p q h (t ∷ ts) = h _
+
+chosen_put : {A : Type 0} (c d : Bool) (p q : Step) (e : A → Parts → Parts) (w : Work) (r s : Reader Role A) → c ≡ d → p w ≡ put e w (r w.rest) → q w ≡ put e w (s w.rest) → chosen c p q w ≡ put e w (pick d r s w.rest)
+chosen_put true true p q e w r s i h k = h
+chosen_put false false p q e w r s i h k = k
+chosen_put true false p q e w r s i h k = absurd (cc)
+chosen_put false true p q e w r s i h k = absurd (cc)
+
+refused_put : {A : Type 0} (b c : Bool) (e : A → Parts → Parts) (w : Work) → b ≡ c → Err (no_room b (length w.rest)) ≡ put e w (pick c no_level no_syntax w.rest)
+refused_put true true e w h = refl
+refused_put false false e w h = refl
+refused_put true false e w h = absurd (cc)
+refused_put false true e w h = absurd (cc)
+
+pub either_says : {A : Type 0} {n : ℕ} {f g : Phrase A} {e : A → Parts → Parts} (b : ℕ) (a : Ahead) (r s : ℕ) → r < b → s < b → ((k : Kind) → begins a k ≡ starts heads f k) → Says n r (row_of r) f e → Says n s (row_of s) g e → Says n b (piece.Choice a r s ∷ []) (either f g) e
+either_says {n = n} {f = f} {g = g} {e = e} b a r s h i k x y = record {
+  law = λ w.
+      then_nothing (chosen (next_is (begins a) w.rest) (row_in term_rows n b r) (row_in term_rows n b s) w)
+      ∙ chosen_put (next_is (begins a) w.rest) (next_is (starts heads f) w.rest) (row_in term_rows n b r) (row_in term_rows n b s) e w (read_in n f) (read_in n g)
+      (next_same (begins a) (starts heads f) k w.rest) (row_law term_rows n b r w h ∙ x.law w) (row_law term_rows n b s w i ∙ y.law w);
+}
+
+-- a part that may be missing; the other row reads nothing, and makes what stands for it
+pub may_says : {A : Type 0} {n : ℕ} {f : Phrase A} (b : ℕ) (a : Ahead) (r s : ℕ) (near : Bool) (e : Option A → Parts → Parts) → r < b → s < b → ((k : Kind) → begins a k ≡ starts heads f k) → Says n r (row_of r) f (λ x. e (Some x)) → ((w : Work) → pieces_in term_rows n s (row_of s) w ≡ changed (e None) w) → Says n b (piece.Choice a r s ∷ []) (may near f) e
+may_says {n = n} {f = f} b a r s near e h i k x y = record {
+  law = λ w.
+      then_nothing (chosen (next_is (begins a) w.rest) (row_in term_rows n b r) (row_in term_rows n b s) w)
+      ∙ chosen_put (next_is (begins a) w.rest) (next_is (starts heads f) w.rest) (row_in term_rows n b r) (row_in term_rows n b s) e w (λ us. read_in n f us >>= mapped Some) (nothing None)
+      (next_same (begins a) (starts heads f) k w.rest)
+      (row_law term_rows n b r w h ∙ (x.law w ∙ put_mapped Some e w (read_in n f w.rest)))
+      (row_law term_rows n b s w i ∙ (y w ∙ ap (λ us. let v : Result Work Fault = Ok (record { parts = e None w.parts; uses = us; rest = w.rest }) in v) (sym (append-nil w.uses))));
+}
+
+pub level_says : {A : Type 0} {n : ℕ} {f : Phrase A} {e : A → Parts → Parts} (b : ℕ) (a : Ahead) (r : ℕ) → r < b → ((k : Kind) → begins a k ≡ starts heads f k) → Says n r (row_of r) f e → Says n b (piece.Level a r ∷ []) (level f) e
+level_says {n = n} {f = f} {e = e} b a r h k s = record {
+  law = λ w.
+      then_nothing (chosen (positive n) (row_in term_rows n b r) (refused a) w)
+      ∙ chosen_put (positive n) (positive n) (row_in term_rows n b r) (refused a) e w (read_in n f) (pick (next_is (starts heads f) w.rest) no_level no_syntax)
+      refl (row_law term_rows n b r w h ∙ s.law w) (refused_put (next_is (begins a) w.rest) (next_is (starts heads f) w.rest) e w (next_same (begins a) (starts heads f) k w.rest));
+}
+
+-- one level down
+
+pub record IsBelow (n : ℕ) (a : Ahead) (r : ℕ) (s : Sort) : Type 0 where
+  pub law : (w : Work) → below_step term_rows n a r w ≡ put grows w (below n s w.rest)
+
+pub deeper_says : {n : ℕ} {s : Sort} (b : ℕ) (a : Ahead) (r : ℕ) → IsBelow n a r s → Says n b (piece.Deeper a r ∷ []) (deeper s) grows
+deeper_says {n = n} b a r h = record { law = λ w. then_nothing (below_step term_rows n a r w) ∙ h.law w }
+
+pub none_below : (a : Ahead) (r : ℕ) (s : Sort) → ((k : Kind) → begins a k ≡ heads s k) → IsBelow 0 a r s
+none_below a r s h = record { law = λ w. refused_put (next_is (begins a) w.rest) (next_is (heads s) w.rest) grows w (next_same (begins a) (heads s) h w.rest) }
+
+-- lists
+
+abbrev pub grown : List Tree → Parts → Parts
+grown ts = adds (flat_map postorder ts)
+
+adds_more : (l k : List Make) (q : Parts) → adds l (adds k q) ≡ adds (k ++ l) q
+adds_more l k q = ap (λ x. let p : Parts = record { names = q.names; makes = x } in p) (append_assoc q.makes k l)
+
+none_more : (k : ℕ) (w : Work) → changed (closed k) w ≡ put (λ (ts : List Tree) q. closed (length ts + k) (grown ts q)) w (found [] [] w.rest)
+none_more k w =
+    let e : k ≡ 0 + k = omega arith in
+    ap₂ (λ j l. let v : Result Work Fault = Ok (record { parts = record { names = w.parts.names; makes = l ++ Nothing ∷ replicate j (Over Cons) }; uses = w.uses; rest = w.rest }) in v) e (sym (append-nil w.parts.makes))
+    ∙ ap (λ us. let v : Result Work Fault = Ok (record { parts = closed (0 + k) (grown [] w.parts); uses = us; rest = w.rest }) in v) (sym (append-nil w.uses))
+
+one_closed : (a : Tree) (l : List Tree) (k : ℕ) (q : Parts) → closed (length l + (k + 1)) (grown l (grows a q)) ≡ closed (length (a ∷ l) + k) (grown (a ∷ l) q)
+one_closed a l k q =
+    let e : length l + (k + 1) ≡ length (a ∷ l) + k = omega arith in
+    ap₂ closed e (adds_more (flat_map postorder l) (postorder a) q)
+
+one_more_put : (k : ℕ) (w : Work) (x : Found Role Tree) (s : Read Role (List Tree)) → put (λ (ts : List Tree) q. closed (length ts + (k + 1)) (grown ts q)) (record { parts = grows x.value w.parts; uses = w.uses ++ x.uses; rest = x.rest }) s ≡ put (λ (ts : List Tree) q. closed (length ts + k) (grown ts q)) w (s >>= one_more x)
+one_more_put k w x (Ok y) =
+    ap₂ (λ q us. let v : Result Work Fault = Ok (record { parts = q; uses = us; rest = y.rest }) in v) (one_closed x.value y.value k w.parts) (append_assoc w.uses x.uses y.uses)
+one_more_put k w x (Err f) = refl
+
+more_says : (n b : ℕ) (m : Mark) (r : ℕ) (f : Phrase Tree) → ((w : Work) → row_in term_rows n b r w ≡ put grows w (read_in n f w.rest)) → (turns k : ℕ) (w : Work) → more m (row_in term_rows n b r) turns k w ≡ put (λ (ts : List Tree) q. closed (length ts + k) (grown ts q)) w (read_many (starts heads (m ▸ f)) (read_in n (m ▸ f)) turns w.rest)
+more_says n b m r f h zero k w = none_more k w
+more_says n b m r f h (suc turns) k w =
+    chosen_put (next_is (is_mark m) w.rest) (next_is (starts heads (m ▸ f)) w.rest)
+    (λ v. and_then (and_then (put made_no_part v (read_sign m v.rest)) (row_in term_rows n b r)) (more m (row_in term_rows n b r) turns (k + 1))) (changed (closed k))
+    (λ (ts : List Tree) q. closed (length ts + k) (grown ts q)) w
+    (λ us. read_in n (m ▸ f) us >>= λ x. read_many (starts heads (m ▸ f)) (read_in n (m ▸ f)) turns x.rest >>= one_more x) (nothing [])
+    (next_same (is_mark m) (starts heads (m ▸ f)) (λ j. refl) w.rest)
+    (ap (λ y. and_then y (more m (row_in term_rows n b r) turns (k + 1))) (put_both made_no_part grows w (read_sign m w.rest) (row_in term_rows n b r) (read_in n f) h ∙ put_mapped (λ (p : Unit {0} × Tree). p.1) grows w (read_in n (sign m & f) w.rest))
+    ∙ go (read_in n (m ▸ f) w.rest) (λ v. more_says n b m r f h turns (k + 1) v))
+    (none_more k w)
+  where
+    go : (s : Read Role Tree) → ((v : Work) → more m (row_in term_rows n b r) turns (k + 1) v ≡ put (λ (ts : List Tree) q. closed (length ts + (k + 1)) (grown ts q)) v (read_many (starts heads (m ▸ f)) (read_in n (m ▸ f)) turns v.rest)) → and_then (put grows w s) (more m (row_in term_rows n b r) turns (k + 1)) ≡ put (λ (ts : List Tree) q. closed (length ts + k) (grown ts q)) w (s >>= λ x. read_many (starts heads (m ▸ f)) (read_in n (m ▸ f)) turns x.rest >>= one_more x)
+    go (Ok x) i =
+        i (record { parts = grows x.value w.parts; uses = w.uses ++ x.uses; rest = x.rest })
+        ∙ one_more_put k w x (read_many (starts heads (m ▸ f)) (read_in n (m ▸ f)) turns x.rest)
+    go (Err e) i = refl
+
+chain_closed : (c : Tree × List Tree) (q : Parts) → closed (length c.1 + 1) (grown c.1 (grows c.0 q)) ≡ grows (chain (c.0 ∷ c.1)) q
+chain_closed c q =
+    let e : length c.1 + 1 ≡ length (c.0 ∷ c.1) = omega arith in
+    let l = postorder c.0 ++ flat_map postorder c.1 in
+    ap₂ closed e (adds_more (flat_map postorder c.1) (postorder c.0) q)
+    ∙ ap (λ x. let p : Parts = record { names = q.names; makes = x } in p) (append_assoc q.makes l (Nothing ∷ replicate (length (c.0 ∷ c.1)) (Over Cons)) ∙ ap (λ x. q.makes ++ x) (chain_made (c.0 ∷ c.1)))
+
+pub list_says : {n : ℕ} {f : Phrase Tree} (b : ℕ) (m : Mark) (r : ℕ) → r < b → Says n r (row_of r) f grows → Says n b (piece.List m r ∷ []) (made chain (row m f)) grows
+list_says {n = n} {f = f} b m r h s = made_says chain grows (made_says (λ (a, l). a ∷ l) (λ ts. grows (chain ts)) (same_says (λ c. grows (chain (c.0 ∷ c.1))) chain_closed one)) where
+  row_is : (w : Work) → row_in term_rows n b r w ≡ put grows w (read_in n f w.rest)
+  row_is w = row_law term_rows n b r w h ∙ s.law w
+
+  one : Says n b (piece.List m r ∷ []) (f & many false (m ▸ f)) (λ c q. closed (length c.1 + 1) (grown c.1 (grows c.0 q)))
+  one = record {
+    law = λ w.
+        then_nothing (and_then (row_in term_rows n b r w) (λ v. more m (row_in term_rows n b r) (length v.rest) 1 v))
+        ∙ (ap (λ x. and_then x (λ v. more m (row_in term_rows n b r) (length v.rest) 1 v)) (row_is w)
+        ∙ put_both grows (λ (ts : List Tree) q. closed (length ts + 1) (grown ts q)) w (read_in n f w.rest) (λ v. more m (row_in term_rows n b r) (length v.rest) 1 v) (read_in n (many false (m ▸ f))) (λ v. more_says n b m r f row_is (length v.rest) 1 v));
+  }
+
+-- tails: what may stand behind a tree, and goes around it
+
+abbrev pub tail_parts : (Tree → Tree) → List Make
+tail_parts h = drop 1 (postorder (h Empty))
+
+abbrev pub joins : (Tree → Tree) → Parts → Parts
+joins h = adds (tail_parts h)
+
+abbrev pub maybe_joins : Option (Tree → Tree) → Parts → Parts
+maybe_joins None q = q
+maybe_joins (Some h) q = joins h q
+
+abbrev pub IsTail : (Tree → Tree) → Type 0
+IsTail h = (t : Tree) → postorder (h t) ≡ postorder t ++ tail_parts h
+
+abbrev pub IsMaybeTail : Option (Tree → Tree) → Type 0
+IsMaybeTail None = Unit {0}
+IsMaybeTail (Some h) = IsTail h
+
+pub record AllTails (n : ℕ) (g : Phrase (Tree → Tree)) : Type 0 where
+  pub law : (ts : List Sign) (x : Found Role (Tree → Tree)) → read_in n g ts ≡ Ok x → IsTail x.value
+
+abbrev value_or : {A : Type 0} → A → Read Role A → A
+value_or a (Ok x) = x.value
+value_or a (Err e) = a
+
+from_ok : {A : Type 0} (x y : Found Role A) → (let r : Read Role A = Ok x in r) ≡ Ok y → x.value ≡ y.value
+from_ok x y e = ap (value_or x.value) e
+
+mapped_all : {A B : Type 0} (v : A → B) (r : Read Role A) (y : Found Role B) (P : B → Type 0) → ((x : Found Role A) → r ≡ Ok x → P (v x.value)) → (r >>= mapped v) ≡ Ok y → P y.value
+mapped_all v (Ok x) y P h i = subst P (from_ok (record { value = v x.value; uses = x.uses; rest = x.rest }) y i) (h x refl)
+mapped_all v (Err e) y P h i = absurd (cc)
+
+pick_all : {A : Type 0} (b : Bool) (p q : Reader Role A) (ts : List Sign) (y : Found Role A) (P : A → Type 0) → (p ts ≡ Ok y → P y.value) → (q ts ≡ Ok y → P y.value) → pick b p q ts ≡ Ok y → P y.value
+pick_all true p q ts y P h k i = h i
+pick_all false p q ts y P h k i = k i
+
+second_all : {A B : Type 0} (r : Read Role A) (q : Reader Role B) (y : Found Role (A × B)) (P : B → Type 0) → ((ts : List Sign) (z : Found Role B) → q ts ≡ Ok z → P z.value) → (r >>= λ x. q x.rest >>= joined x) ≡ Ok y → P y.value.1
+second_all {A} {B} (Ok x) q y P h i = go (q x.rest) refl i where
+  go : (s : Read Role B) → q x.rest ≡ s → (s >>= joined x) ≡ Ok y → P y.value.1
+  go (Ok z) j k = subst P (ap (λ (c : A × B). c.1) (from_ok (record { value = (x.value, z.value); uses = x.uses ++ z.uses; rest = z.rest }) y k)) (h x.rest z j)
+  go (Err e) j k = absurd (cc)
+second_all (Err e) q y P h i = absurd (cc)
+
+pub made_tails : {B : Type 0} {n : ℕ} {g : Phrase B} (v : B → Tree → Tree) → ((b : B) → IsTail (v b)) → AllTails n (made v g)
+made_tails {n = n} {g = g} v h = record { law = λ ts x i. mapped_all v (read_in n g ts) x IsTail (λ y j. h y.value) i }
+
+pub either_tails : {n : ℕ} {f g : Phrase (Tree → Tree)} → AllTails n f → AllTails n g → AllTails n (either f g)
+either_tails {n = n} {f = f} {g = g} s t = record { law = λ ts x i. pick_all (next_is (starts heads f) ts) (read_in n f) (read_in n g) ts x IsTail (s.law ts x) (t.law ts x) i }
+
+maybe_tails : {n : ℕ} {g : Phrase (Tree → Tree)} → AllTails n g → (ts : List Sign) (x : Found Role (Option (Tree → Tree))) → read_in n (may false g) ts ≡ Ok x → IsMaybeTail x.value
+maybe_tails {n = n} {g = g} s ts x i =
+    pick_all (next_is (starts heads g) ts) (λ us. read_in n g us >>= mapped Some) (nothing None) ts x IsMaybeTail
+    (λ j. mapped_all Some (read_in n g ts) x IsMaybeTail (s.law ts) j)
+    (λ j. subst IsMaybeTail (from_ok (record { value = None; uses = []; rest = ts }) x j) tt) i
+
+after_made : (t : Tree) (o : Option (Tree → Tree)) (q : Parts) → IsMaybeTail o → maybe_joins o (grows t q) ≡ grows (after t o) q
+after_made t None q h = refl
+after_made t (Some g) q h = adds_more (tail_parts g) (postorder t) q ∙ ap (λ l. adds l q) (sym (h t))
+
+pub after_says : {n b : ℕ} {f : Phrase Tree} {g : Phrase (Tree → Tree)} (ps qs : List Piece) → Says n b ps f grows → Says n b qs (may false g) maybe_joins → AllTails n g → Says n b (ps ++ qs) (made (λ (t, f). after t f) (f & may false g)) grows
+after_says {n = n} {b = b} {f = f} {g = g} ps qs s t a = made_says (λ (t, f). after t f) grows (record {
+  law = λ w.
+      (both_says ps qs s t).law w
+      ∙ put_same (λ (c : Tree × Option (Tree → Tree)) q. maybe_joins c.1 (grows c.0 q)) (λ c. grows (after c.0 c.1)) w (read_in n (f & may false g) w.rest)
+      (λ x i. after_made x.value.0 x.value.1 w.parts (second_all (read_in n f w.rest) (read_in n (may false g)) x IsMaybeTail (maybe_tails a) i));
+})
+
+-- a tail, or what another choice reads
+
+sel : {A : Type 0} → Bool → A → A → A
+sel true x y = x
+sel false x y = y
+
+pick_is : {A : Type 0} (b : Bool) (p q : Reader Role A) (ts : List Sign) → pick b p q ts ≡ sel b (p ts) (q ts)
+unfolding sel
+pick_is true p q ts = refl
+pick_is false p q ts = refl
+
+sel_or : {A : Type 0} (b c : Bool) (x y : Read Role A) (z : Read Role (Option A)) → sel (b || c) (sel b x y >>= mapped Some) z ≡ sel b (x >>= mapped Some) (sel c (y >>= mapped Some) z)
+unfolding sel
+sel_or true c x y z = refl
+sel_or false true x y z = refl
+sel_or false false x y z = refl
+
+next_or : (p q : Kind → Bool) (ts : List Sign) → next_is (λ k. p k || q k) ts ≡ (next_is p ts || next_is q ts)
+next_or p q [] = refl
+next_or p q (t ∷ ts) = refl
+
+either_may : {A : Type 0} (n : ℕ) (near : Bool) (f g : Phrase A) (ts : List Sign) → read_in n (may near (either f g)) ts ≡ pick (next_is (starts heads f) ts) (λ us. read_in n f us >>= mapped Some) (read_in n (may near g)) ts
+either_may n near f g ts =
+    let b = next_is (starts heads f) ts in
+    let c = next_is (starts heads g) ts in
+    let x = read_in n f ts in
+    let y = read_in n g ts in
+    pick_is (next_is (starts heads (either f g)) ts) (λ us. read_in n (either f g) us >>= mapped Some) (nothing None) ts
+    ∙ (ap₂ (λ d r. sel d (r >>= mapped Some) (found None [] ts)) (next_or (starts heads f) (starts heads g) ts) (pick_is b (read_in n f) (read_in n g) ts)
+    ∙ (sel_or b c x y (found None [] ts)
+    ∙ (ap (λ r. sel b (x >>= mapped Some) r) (sym (pick_is c (λ us. read_in n g us >>= mapped Some) (nothing None) ts)) ∙ sym (pick_is b (λ us. read_in n f us >>= mapped Some) (read_in n (may near g)) ts))))
+
+pub either_may_says : {A : Type 0} {n : ℕ} {f g : Phrase A} (b : ℕ) (a : Ahead) (r s : ℕ) (near : Bool) (e : Option A → Parts → Parts) → r < b → s < b → ((k : Kind) → begins a k ≡ starts heads f k) → Says n r (row_of r) f (λ x. e (Some x)) → Says n s (row_of s) (may near g) e → Says n b (piece.Choice a r s ∷ []) (may near (either f g)) e
+either_may_says {n = n} {f = f} {g = g} b a r s near e h i k x y = record {
+  law = λ w.
+      then_nothing (chosen (next_is (begins a) w.rest) (row_in term_rows n b r) (row_in term_rows n b s) w)
+      ∙ (chosen_put (next_is (begins a) w.rest) (next_is (starts heads f) w.rest) (row_in term_rows n b r) (row_in term_rows n b s) e w (λ us. read_in n f us >>= mapped Some) (read_in n (may near g))
+      (next_same (begins a) (starts heads f) k w.rest)
+      (row_law term_rows n b r w h ∙ (x.law w ∙ put_mapped Some e w (read_in n f w.rest)))
+      (row_law term_rows n b s w i ∙ y.law w)
+      ∙ ap (put e w) (sym (either_may n near f g w.rest)));
+}

@@ -1,0 +1,168 @@
+-- What the rows of a table do with tokens, names and parts of trees. This profile's own.
+use Rattle.std.specs.Prelude.{ℕ, zero, suc, Bool, true, false, ◌+◌, ◌-◌, ◌≤◌, ◌==◌, ◌≡◌, List, [], ◌∷◌, ◌++◌, length, map, drop, reverse, replicate, slice_index_or, Result, Ok, Err}
+use Rattle.std.specs.Borrow.{Bor}
+use Rattle.cv_syntax_trees.specs.declared.head.Head.{Head}
+use Rattle.cv_syntax_trees.specs.declared.head.Head.TheVariants as head
+use Rattle.cv_syntax.specs.declared.make.Make.{Make}
+use Rattle.cv_syntax.specs.declared.make.Make.TheVariants.{Nothing, Over}
+use Rattle.cv_parse_notation.specs.declared.sign.Sign.{Sign}
+use Rattle.cv_parse_notation.specs.declared.sign.Mark.{Mark}
+use Rattle.cv_parse_notation.specs.Spells.{Kind, Use, next_is, is_mark, is_word}
+use Rattle.cv_parse_notation.specs.Reads.{Fault, Syntax, Nesting, Read, read_sign, read_word}
+use Rattle.cv_parse_grammar.specs.declared.role.Role.{Role}
+use Rattle.cv_parse_grammar.specs.Phrases.{Term}
+use Rattle.cv_parse_grammar.specs.Rules.{heads}
+use Rattle.cv_parse_terms.specs.declared.lookahead.ReadError.{ReadError}
+use Rattle.cv_parse_terms.specs.declared.lookahead.ReadError.TheVariants as error
+use Rattle.cv_parse_terms.specs.declared.trail.Trail.{Trail}
+use Rattle.cv_parse_terms.specs.declared.piece.Ahead.{Ahead}
+use Rattle.cv_parse_terms.specs.declared.piece.Ahead.TheVariants as ahead
+use Rattle.cv_parse_terms.specs.declared.piece.Naming.{Naming}
+use Rattle.cv_parse_terms.specs.declared.piece.Naming.TheVariants as naming
+use Rattle.cv_parse_terms.specs.declared.piece.Piece.{Piece}
+use Rattle.cv_parse_terms.specs.declared.piece.Piece.TheVariants as piece
+use Rattle.cv_parse_terms.specs.Gives.{uses_of, positive, read_note}
+
+abbrev pub Table : Type 0
+Table = List (List Piece)
+
+-- the rows of the program's table
+abbrev pub rows_of : List (Bor (List Piece)) → Table
+rows_of rows = map (λ r. r.now) rows
+
+-- the names that wait for a head, the last one first, and the parts of trees
+pub record Parts : Type 0 where
+  pub names : List ℕ
+  pub makes : List Make
+
+-- what was made, the names that were used, and the tokens that are left
+pub record Work : Type 0 where
+  pub parts : Parts
+  pub uses : List (Use Role)
+  pub rest : List Sign
+
+abbrev pub Step : Type 0
+Step = Work → Result Work Fault
+
+abbrev pub and_then : Result Work Fault → Step → Result Work Fault
+and_then (Ok w) p = p w
+and_then (Err e) p = Err e
+
+abbrev pub chosen : Bool → Step → Step → Step
+chosen true p q w = p w
+chosen false p q w = q w
+
+-- what was read, and what its value makes
+abbrev pub put : {A : Type 0} → (A → Parts → Parts) → Work → Read Role A → Result Work Fault
+put e w (Ok x) = Ok (record { parts = e x.value w.parts; uses = w.uses ++ x.uses; rest = x.rest })
+put e w (Err f) = Err f
+
+abbrev pub made_no_part : {A : Type 0} → A → Parts → Parts
+made_no_part a q = q
+
+-- no token
+abbrev pub changed : (Parts → Parts) → Step
+changed f w = Ok (record { parts = f w.parts; uses = w.uses; rest = w.rest })
+
+-- a name waits
+abbrev pub waits : ℕ → Parts → Parts
+waits x q = record { names = x ∷ q.names; makes = q.makes }
+
+abbrev pub last_name : List ℕ → ℕ
+last_name [] = 0
+last_name (x ∷ xs) = x
+
+abbrev pub other_names : List ℕ → List ℕ
+other_names [] = []
+other_names (x ∷ xs) = xs
+
+abbrev pub head_of : Naming → ℕ → Head
+head_of naming.Leaf x = head.Leaf x
+head_of naming.Read x = head.Read x
+head_of naming.Apply x = head.Apply x
+
+abbrev pub part : Make → Parts → Parts
+part m q = record { names = q.names; makes = q.makes ++ m ∷ [] }
+
+abbrev pub named : Naming → Parts → Parts
+named h q = record { names = other_names q.names; makes = q.makes ++ Over (head_of h (last_name q.names)) ∷ [] }
+
+-- a list of so many trees
+abbrev pub closed : ℕ → Parts → Parts
+closed n q = record { names = q.names; makes = q.makes ++ Nothing ∷ replicate n (Over head.Cons) }
+
+-- the tokens with which it begins
+abbrev pub begins : Ahead → Kind → Bool
+begins (ahead.Mark m) k = is_mark m k
+begins ahead.Word k = is_word k
+begins ahead.Term k = heads Term k
+
+-- no level is left
+abbrev pub no_room : Bool → ℕ → Fault
+no_room true n = Nesting n
+no_room false n = Syntax n
+
+abbrev pub refused : Ahead → Step
+refused a w = Err (no_room (next_is (begins a) w.rest) (length w.rest))
+
+-- what stands behind a symbol, again and again; so many were read, and n bounds how many more
+abbrev pub more : Mark → Step → ℕ → ℕ → Step
+more m p zero k w = changed (closed k) w
+more m p (suc n) k w = chosen (next_is (is_mark m) w.rest) (λ v. and_then (and_then (put made_no_part v (read_sign m v.rest)) p) (more m p n (k + 1))) (changed (closed k)) w
+
+-- a piece, where room says whether a level is left, below what a row does one level down, and row what a row does
+abbrev pub piece_step : Bool → (Ahead → ℕ → Step) → (ℕ → Step) → Piece → Step
+piece_step room below row (piece.Sign m) w = put made_no_part w (read_sign m w.rest)
+piece_step room below row (piece.Word r) w = put waits w (read_word r w.rest)
+piece_step room below row (piece.Note r) w = put made_no_part w (read_note r w.rest)
+piece_step room below row (piece.Part m) w = changed (part m) w
+piece_step room below row (piece.Named h) w = changed (named h) w
+piece_step room below row (piece.Row r) w = row r w
+piece_step room below row (piece.Level a r) w = chosen room (row r) (refused a) w
+piece_step room below row (piece.Deeper a r) w = below a r w
+piece_step room below row (piece.Choice a r s) w = chosen (next_is (begins a) w.rest) (row r) (row s) w
+piece_step room below row (piece.List m r) w = and_then (row r w) (λ v. more m (row r) (length v.rest) 1 v)
+
+-- pieces one behind another
+abbrev pub pieces_step : (Piece → Step) → List Piece → Step
+pieces_step one [] w = Ok w
+pieces_step one (p ∷ ps) w = and_then (one p w) (pieces_step one ps)
+
+-- the row of the number, where only so many rows are looked at: those before it are what it speaks of
+abbrev pub row_step : Bool → (Ahead → ℕ → Step) → Table → ℕ → ℕ → Step
+row_step room below table zero r w = Err (Syntax (length w.rest))
+row_step room below table (suc n) r w = chosen (r == n) (pieces_step (piece_step room below (row_step room below table n)) (slice_index_or table n [])) (row_step room below table n r) w
+
+-- a row one level down, with so many levels left
+abbrev pub below_step : Table → ℕ → Ahead → ℕ → Step
+below_step table zero a r w = refused a w
+below_step table (suc n) a r w = row_step (positive n) (below_step table n) table (length table) r w
+
+-- a row of the first so many, a piece and pieces over them, with n levels left
+abbrev pub row_in : Table → ℕ → ℕ → ℕ → Step
+row_in table n bound r w = row_step (positive n) (below_step table n) table bound r w
+
+abbrev pub piece_in : Table → ℕ → ℕ → Piece → Step
+piece_in table n bound p w = piece_step (positive n) (below_step table n) (row_in table n bound) p w
+
+abbrev pub pieces_in : Table → ℕ → ℕ → List Piece → Step
+pieces_in table n bound ps w = pieces_step (piece_in table n bound) ps w
+
+-- what the code has in its hands
+
+abbrev pub parts_of : Trail → List ℕ → Parts
+parts_of t names = record { names = reverse names; makes = t.makes.items }
+
+abbrev pub work_of : Trail → List ℕ → List Sign → Work
+work_of t names ts = record { parts = parts_of t names; uses = uses_of t.uses.items; rest = ts }
+
+-- The error is the fault, at its place among all tokens; memory may run out anywhere.
+abbrev pub Stops : List Sign → ReadError → Result Work Fault → Type 0
+Stops all (error.Syntax k) r = (k ≤ length all) × (r ≡ Err (Syntax (length all - k)))
+Stops all (error.Nesting k) r = (k ≤ length all) × (r ≡ Err (Nesting (length all - k)))
+Stops all error.OutOfMemory r = Unit {0}
+
+-- what was to be done was done, up to a place
+abbrev pub Runs : List Sign → Result ℕ ReadError → Trail → List ℕ → Result Work Fault → Type 0
+Runs all (Ok end) t names r = (end ≤ length all) × (r ≡ Ok (work_of t names (drop end all)))
+Runs all (Err e) t names r = Stops all e r

@@ -1,0 +1,48 @@
+use cv_parse_grammar::Role;
+use cv_parse_notation::Mark;
+use cv_syntax::Make;
+
+/// What the next token may be.
+#[derive(Clone, Copy)]
+pub enum Ahead {
+    /// This word or symbol.
+    Mark(Mark),
+    /// A name.
+    Word,
+    /// What a term begins with.
+    Term,
+}
+
+/// A head that takes a name.
+#[derive(Clone, Copy)]
+pub enum Naming {
+    Leaf,
+    Read,
+    Apply,
+}
+
+/// A piece of a row. Rows go by their numbers, and speak of rows with smaller numbers; only a phrase
+/// one level down may be of any row.
+#[derive(Clone, Copy)]
+pub enum Piece {
+    /// A word or symbol.
+    Sign(Mark),
+    /// A name, which is used so, and waits for a head.
+    Word(Role),
+    /// A note about names, which is no token.
+    Note(Role),
+    /// A part of a tree, which is no token.
+    Part(Make),
+    /// A node with a head of the name that waits.
+    Named(Naming),
+    /// What a row reads.
+    Row(u16),
+    /// What a row reads, which opens a level, and begins so.
+    Level(Ahead, u16),
+    /// What a row reads one level down, which begins so.
+    Deeper(Ahead, u16),
+    /// What the first row reads where the next token is such, or else the second.
+    Choice(Ahead, u16, u16),
+    /// What a row reads, once and again behind each such symbol: a list of the trees.
+    List(Mark, u16),
+}
