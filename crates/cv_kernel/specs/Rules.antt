@@ -13,6 +13,8 @@ use Rattle.cv_edit_places.specs.Dropping.{need_without}
 use Rattle.cv_edit_changes.specs.pruning.Bodies as pruning
 use Rattle.cv_edit_changes.specs.renaming.Needs.{need_renaming}
 use Rattle.cv_edit_changes.specs.unletting.Games.{need_unletting}
+use Rattle.cv_rule_codef.specs.Needs.{need_codef}
+use Rattle.cv_rule_codef.specs.Row.{codef_step}
 use Rattle.cv_rule_merge.specs.Row.{merge_step, need_merging}
 use Rattle.cv_rule_move.specs.Steps.{move_step, need_moving}
 
@@ -38,6 +40,7 @@ rule_of_items (items.Rewrite p m by) = Some (record { step = rewrite_step p m by
 rule_of_items (items.Prune p part by) = Some (record { step = prune_step p (part_of part) by; need = λ game. pruning.need_of game p (part_of part) })
 rule_of_items (items.Move p) = Some (record { step = move_step p; need = need_moving p })
 rule_of_items (items.Merge p) = Some (record { step = merge_step p; need = need_merging p })
+rule_of_items (items.Codef p adds to from) = Some (record { step = codef_step p adds to from; need = need_codef p adds to })
 rule_of_items other = None
 
 -- that of the step that a tree is

@@ -12,7 +12,7 @@ ghost use Rattle.cv_kernel.specs.Steps.{AreShort};
 
 use crate::elementary::{after_let, after_new, pruned, rewritten, split, tested};
 use crate::error::RuleError;
-use crate::rooms::{merged, moved};
+use crate::rooms::{codefined, merged, moved};
 use cv_edit::Edit;
 use cv_edit_places::Failure;
 use cv_rule::Rule;
@@ -90,6 +90,12 @@ pub(crate) fn plan(
         StepView::Prune { place, part, by } => pruned(alloc, work, game, arrays, place, part, by),
         StepView::Move { place } => moved(alloc, work, game, place),
         StepView::Merge { place } => merged(alloc, work, game, place),
+        StepView::Codef {
+            place,
+            add,
+            to,
+            from,
+        } => { codefined(alloc, work, game, arrays, place, add, to, from) }
         _ => Err(refused(0)),
     }
 }

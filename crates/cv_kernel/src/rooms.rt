@@ -12,14 +12,18 @@ ghost use Rattle.cv_script.specs.Views as items;
 ghost use Rattle.cv_kernel.specs.Answers.{IsPlan};
 ghost use Rattle.cv_kernel.specs.Rules as rules;
 ghost use Rattle.cv_kernel.specs.Rules.{rule_of_items};
+ghost use Rattle.cv_kernel.specs.Steps.{IsShort};
+ghost use Rattle.cv_rule.specs.Prepared.{IsPrepared};
 
 use crate::error::RuleError;
 use crate::planning::place_in;
 use cv_edit::Edit;
 use cv_edit_places::{Change, Failure};
+use cv_rule_codef as codefining;
 use cv_rule_merge as merging;
 use cv_rule_move as moving;
 use cv_syntax::{NodeId, Work};
+use cv_typing::Arrays;
 use std::alloc::Global;
 
 /// A change at a place as an edit of the game, where it is planned.
@@ -65,4 +69,30 @@ pub(crate) fn merged(
 {
     let place = place_in(number)?;
     at(place, merging::plan(alloc, work, game, place)?)
+}
+
+/// How a `codef` changes a game.
+pub(crate) fn codefined(
+    alloc: Global,
+    work: &Work,
+    game: NodeId,
+    arrays: &Arrays,
+    number: u64,
+    adds: bool,
+    to: NodeId,
+    from: NodeId,
+) -> Result<Edit, RuleError>
+    requires prepared { IsPrepared work.now.pool.trees work.now.decls game arrays.now }
+    requires small { size (tree_at work.now.pool.trees (Some game)) ≤ 50000 }
+    requires declared { All (IsLive (length work.now.pool.trees)) work.now.decls.list }
+    requires to { to.0 < length work.now.pool.trees }
+    requires from { from.0 < length work.now.pool.trees }
+    requires short { IsShort (tree_at work.now.pool.trees (Some to)) }
+    ensures { IsPlan work.now.pool.trees (scene_of work.now.pool work.now.decls game)
+        (rule_of_items (items.Codef number adds (tree_at work.now.pool.trees (Some to))
+        (tree_at work.now.pool.trees (Some from)))) result }
+{
+    let place = place_in(number)?;
+    let planned = codefining::plan(alloc, work, game, arrays, place, adds, to, from)?;
+    at(place, planned)
 }

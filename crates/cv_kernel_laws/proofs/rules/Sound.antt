@@ -3,6 +3,7 @@ use Rattle.std.proofs.Common.{◌≡◌, Some, None, subst}
 use Rattle.cv_script.specs.Views.{StepItems}
 use Rattle.cv_script.specs.Views as items
 use Rattle.cv_derive_laws.specs.stores.Steps.{IsSound}
+use Rattle.cv_rule_codef.proofs.Sound.{codef_sound}
 use Rattle.cv_rule_merge.proofs.Sound.{merge_sound}
 use Rattle.cv_rule_move.proofs.Sound.{move_sound}
 use Rattle.cv_sequences.proofs.soundness.Sound.{let_sound, new_sound, prune_sound, rename_sound, rewrite_sound, split_sound, unlet_sound, unnew_sound}
@@ -22,4 +23,5 @@ sound (items.Rewrite p m by) r e = that _ r e (rewrite_sound p m by)
 sound (items.Prune p part by) r e = that _ r e (prune_sound p (part_of part) by)
 sound (items.Move p) r e = that _ r e (move_sound p)
 sound (items.Merge p) r e = that _ r e (merge_sound p)
+sound (items.Codef p adds to from) r e = that _ r e (codef_sound p adds to from)
 sound i r e = absurd (cc)

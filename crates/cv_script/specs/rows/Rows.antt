@@ -23,7 +23,7 @@ built_script_row = 154
 
 -- how many of the steps, from the first one on, have a rule
 abbrev pub steps_with_a_rule : ℕ
-steps_with_a_rule = 12
+steps_with_a_rule = 13
 
 abbrev pub script_rows : Table
 script_rows =
@@ -168,9 +168,9 @@ script_rows =
     (Over head.RenameStep 110 ∷ []) ∷  -- 138 a rename
     (Over head.MergeStep 114 ∷ []) ∷  -- 139 a merge
     (Over head.MoveStep 120 ∷ []) ∷  -- 140 a move
-    (Over head.PickStep 113 ∷ []) ∷  -- 141 a pick
-    (Over head.ArrayRenameStep 121 ∷ []) ∷  -- 142 a array rename
-    (Over head.CodefStep 122 ∷ []) ∷  -- 143 a codef
+    (Over head.CodefStep 122 ∷ []) ∷  -- 141 a codef
+    (Over head.PickStep 113 ∷ []) ∷  -- 142 a pick
+    (Over head.ArrayRenameStep 121 ∷ []) ∷  -- 143 a array rename
     (Over head.BirthdayStep 123 ∷ []) ∷  -- 144 a birthday
     (Over head.GuessStep 124 ∷ []) ∷  -- 145 a guess
     (Over head.FreshStep 125 ∷ []) ∷  -- 146 a fresh

@@ -224,7 +224,7 @@ const BUILT_STEPS: u16 = 153;
 /// The row of a script whose steps have a rule.
 pub const BUILT_SCRIPT: u16 = 154;
 /// How many of the steps, from the first one on, have a rule.
-const BUILT: u16 = 12;
+const BUILT: u16 = 13;
 /// How many rows the table has.
 const ROWS: usize = 155;
 
@@ -596,9 +596,9 @@ static STEP_ROWS: [&[Piece]; 45] = [
     &[Over(Head::RenameStep, RENAME)],
     &[Over(Head::MergeStep, MERGE)],
     &[Over(Head::MoveStep, MOVE)],
+    &[Over(Head::CodefStep, CODEF)],
     &[Over(Head::PickStep, PICK)],
     &[Over(Head::ArrayRenameStep, ARRAY_RENAME)],
-    &[Over(Head::CodefStep, CODEF)],
     &[Over(Head::BirthdayStep, BIRTHDAY)],
     &[Over(Head::GuessStep, GUESS)],
     &[Over(Head::FreshStep, FRESH)],

@@ -239,13 +239,13 @@ array_renames l d =
     let x = take (skip (skip d)) in
     with_first is_any head.ArrayRenameStep x (has (ArrayRename x.first.0 (single x.rest)) (bound (λ y. Some (ArrayRename y (single x.rest))) (name_is x.first) refl) refl)
 
-codefs : (l : List Tree) → Made 122 l → HasItems is_any (over head.CodefStep l)
+codefs : (l : List Tree) → Made 122 l → HasItems is_built (over head.CodefStep l)
 codefs l d =
     let p = take (skip (skip d)) in
     let k = taken additions (skip p.second) in
     let y = take (skip k.second) in
     let x = last (skip (skip (skip y.second))) in
-    with_first is_any head.CodefStep p (subst (λ z. HasItems is_any (Node head.CodefStep p.tree (single z))) (sym (k.is ∙ ap (λ z. k.tree ∷ z) (y.is ∙ ap (λ z. y.tree ∷ z) x.is))) (
+    with_first is_built head.CodefStep p (subst (λ z. HasItems is_built (Node head.CodefStep p.tree (single z))) (sym (k.is ∙ ap (λ z. k.tree ∷ z) (y.is ∙ ap (λ z. y.tree ∷ z) x.is))) (
     has (Codef p.first.0 k.first.0 y.tree x.tree) (
     bound (λ v. adds_in k.tree >>= λ add. tree_in y.tree >>= λ s. tree_in x.tree >>= λ t. Some (Codef v add s t)) (number_is p.first) (
     bound (λ add. tree_in y.tree >>= λ s. tree_in x.tree >>= λ t. Some (Codef p.first.0 add s t)) k.first.1 (
@@ -317,13 +317,13 @@ rows_with_a_rule =
     ∷ record { row = 138; makes = a_step is_built head.RenameStep 138 110 refl renames }
     ∷ record { row = 139; makes = a_step is_built head.MergeStep 139 114 refl merges }
     ∷ record { row = 140; makes = a_step is_built head.MoveStep 140 120 refl moves }
+    ∷ record { row = 141; makes = a_step is_built head.CodefStep 141 122 refl codefs }
     ∷ []
 
 abbrev later_rows : List (StepRow is_any)
 later_rows =
-    record { row = 141; makes = a_step is_any head.PickStep 141 113 refl picks }
-    ∷ record { row = 142; makes = a_step is_any head.ArrayRenameStep 142 121 refl array_renames }
-    ∷ record { row = 143; makes = a_step is_any head.CodefStep 143 122 refl codefs }
+    record { row = 142; makes = a_step is_any head.PickStep 142 113 refl picks }
+    ∷ record { row = 143; makes = a_step is_any head.ArrayRenameStep 143 121 refl array_renames }
     ∷ record { row = 144; makes = a_step is_any head.BirthdayStep 144 123 refl birthdays }
     ∷ record { row = 145; makes = a_step is_any head.GuessStep 145 124 refl guesses }
     ∷ record { row = 146; makes = a_step is_any head.FreshStep 146 125 refl freshes }

@@ -1,7 +1,7 @@
 -- Which steps have items, and which of them have a rule.
 use Rattle.std.specs.Prelude.{◌≡◌, Bool, true, false, Some}
 use Rattle.cv_syntax_trees.specs.Tree.{Tree}
-use Rattle.cv_script.specs.Views.{StepItems, Crypto, Split, Success, Let, Merge, Move, New, Rename, Unlet, Unnew, Rewrite, Prune, items_of_step}
+use Rattle.cv_script.specs.Views.{StepItems, Codef, Crypto, Split, Success, Let, Merge, Move, New, Rename, Unlet, Unnew, Rewrite, Prune, items_of_step}
 
 -- the steps that have a rule
 abbrev pub is_built : StepItems → Bool
@@ -17,6 +17,7 @@ is_built (Success k by) = true
 is_built (Crypto e x) = true
 is_built (Merge p) = true
 is_built (Move p) = true
+is_built (Codef p add y x) = true
 is_built i = false
 
 -- all steps
