@@ -1,0 +1,12 @@
+use Rattle.std.proofs.Common.{◌≡◌, ◌++◌, List, ap, ◌∙◌}
+use Rattle.cv_syntax.specs.Postorder.{postorder}
+use Rattle.cv_step_writer.specs.declared.lines.Line.{Line}
+use Rattle.cv_step_writer.specs.Derivations.{derivation}
+use Rattle.cv_step_writer.proofs.Making.{over_four}
+use Rattle.cv_step_writer.proofs.parts.certificates.push_pair.Goals as goal
+
+pub returns : goal.returns
+returns c =
+    let same : c.deref.result.now ≡ c.args.pair.now.by.items = cc (c.deref.ensures.value) in
+    let lines = c.in_ok-push_lines.ensures ∙ ap (λ (ls : List Line). c.push_number-3.new.makes.items ++ postorder (derivation c.args.pool.now.trees ls)) same in
+    over_four _ _ _ _ _ _ _ _ _ _ _ _ _ c.in_ok-push_number.ensures c.in_ok-push_number-2.ensures c.in_ok-push_number-3.ensures lines c.in_ok-push.ensures.items c.in_ok-push-2.ensures.items c.in_ok-push-3.ensures.items

@@ -1,0 +1,4 @@
+pub mod Items
+pub mod Derivations
+pub mod Certificates
+pub mod Proposals
