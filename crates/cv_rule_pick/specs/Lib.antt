@@ -1,0 +1,4 @@
+pub mod Picking
+pub mod Row
+pub mod Settling
+pub mod Worked
