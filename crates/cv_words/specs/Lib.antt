@@ -1,0 +1,3 @@
+pub mod Clap
+pub mod Forms
+pub mod Words

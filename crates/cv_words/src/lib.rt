@@ -1,0 +1,9 @@
+// The words of a command: what they ask for, read with `clap`.
+#![tactic(auto)]
+
+mod app;
+mod laws;
+mod words;
+
+pub use laws::plain_forms_are_read;
+pub use words::{Request, command};
