@@ -1,0 +1,15 @@
+// The closure of what is known at a place under equality: classes of terms with a proof forest.
+#![tactic(auto)]
+
+mod classes;
+mod closure;
+mod rounds;
+mod terms;
+mod theory;
+mod truths;
+mod uses;
+
+pub use classes::{Classes, Join, Step, Why};
+pub use closure::{Cell, Closure, MOST_TERMS, Source};
+pub use terms::{TermId, Terms};
+pub use theory::{Equation, Theory};

@@ -1,0 +1,11 @@
+// Derivations of what follows in a closure: lines with their reasons, over a table of terms.
+#![tactic(auto)]
+
+mod lines;
+mod scribe;
+mod targets;
+#[cfg(test)]
+mod tests;
+
+pub use lines::{Claim, Derivation, Line, Reason};
+pub use targets::{Target, all_follow, copied, derive, follows};

@@ -1,0 +1,59 @@
+use cv_closure::{TermId, Terms};
+
+/// What a line of a derivation says, over the terms of its table.
+#[derive(Clone, Copy)]
+pub enum Claim {
+    /// The term is true.
+    Holds(TermId),
+    /// The cell is defined.
+    Defined(TermId),
+}
+
+/// Why a line is right. Numbers of lines and of facts count from 1, lines within the derivation.
+#[derive(Drop)]
+pub enum Reason {
+    /// It is the fact of this number at the place.
+    Fact(u64),
+    /// The cell is directly defined at the place.
+    Here,
+    /// The cell is directly defined at the only site of the line's cell.
+    Of(u64),
+    /// It is the fact of the second number at the only site of the first line's cell.
+    Site(u64, u64),
+    /// It is the equation of this number, with these terms for its variables.
+    Equation(u64, Vec<TermId>),
+    /// Both sides are one term.
+    Refl,
+    /// It is the line turned round.
+    Sym(u64),
+    /// It is the first line's left side and the second line's right side, which meet.
+    Trans(u64, u64),
+    /// Both sides have one head, and these lines say that their arguments are equal.
+    Cong(Vec<u64>),
+    /// The second line says that it is equal to the first line.
+    Mp(u64, u64),
+    /// It is the left side of a conjunction.
+    Left(u64),
+    /// It is the right side of a conjunction.
+    Right(u64),
+    /// A function that is `[data]` has one value at equal arguments alone.
+    Data,
+    /// It is the line again.
+    Again(u64),
+    /// It is an equation of truth values, or `true`.
+    Bool,
+}
+
+/// A line of a derivation.
+#[derive(Drop)]
+pub struct Line {
+    pub claim: Claim,
+    pub by: Reason,
+}
+
+/// Lines with the table of their terms. There are no blocks of cases.
+#[derive(Drop)]
+pub struct Derivation {
+    pub terms: Terms,
+    pub lines: Vec<Line>,
+}

@@ -1,0 +1,261 @@
+// What is known at a place of a game, in a closure.
+use crate::survey::{Known, Link, Survey};
+use crate::translating::{Given, translate};
+use cv_closure::{Cell, Closure, Source, TermId, Theory};
+use cv_syntax::{Head, NodeId, Pool};
+use std::alloc::{AllocError, Global};
+
+/// How many cells' sites are looked at, at most.
+const MOST_CELLS: usize = 200;
+
+/// How far a cell that is looked at may be from the place, by sites of sites.
+const MOST_DEEP: u32 = 3;
+
+/// The closure of what is known at a place: its facts, those at the only sites of the cells that are defined there, and those
+/// at the sites of cells there, with how far each cell is from the place.
+#[derive(Drop)]
+pub struct Grounds {
+    pub closure: Closure,
+    depths: Vec<u32>,
+}
+
+/// Whose facts are added: the place's own, or those at the site of a cell, with the cell's index terms and how far cells are
+/// that stand there.
+#[derive(Drop)]
+struct Origin {
+    of: Option<usize>,
+    indices: Vec<TermId>,
+    depth: u32,
+}
+
+impl Origin {
+    /// How a fact of this number is right.
+    fn source(&self, fact: u32) -> Source {
+        match self.of {
+            None => Source::Fact(fact),
+            Some(cell) => Source::Site { cell, fact },
+        }
+    }
+}
+
+/// The variable of a cell.
+fn variable_of(closure: &Closure, cell: TermId) -> Option<u32> {
+    match closure.terms().head(cell) {
+        Some(Head::Leaf(x) | Head::Read(x)) => Some(x),
+        _ => None,
+    }
+}
+
+impl Grounds {
+    /// What is known at a place, and what follows from it.
+    pub fn at(
+        alloc: Global,
+        pool: &Pool,
+        survey: &Survey,
+        theory: &Theory,
+        last: u32,
+    ) -> Result<Grounds, AllocError> {
+        let mut grounds = Grounds {
+            closure: Closure::new(alloc)?,
+            depths: Vec::new(alloc),
+        };
+        let place = Origin {
+            of: None,
+            indices: Vec::new(alloc),
+            depth: 0,
+        };
+        grounds.add_known(alloc, pool, survey, last, &place)?;
+        grounds.add_sites(alloc, pool, survey)?;
+        grounds.closure.saturate(theory)?;
+        Ok(grounds)
+    }
+
+    /// Adds an index: at the place it is itself, at a site the cell's index term stands for it.
+    fn add_index(
+        &mut self,
+        given: &mut Given,
+        origin: &Origin,
+        index: u32,
+    ) -> Result<(), AllocError> {
+        let there = match origin.of {
+            Some(_) => origin.indices.get(given.len()).copied(),
+            None => self.closure.term(Head::Leaf(index), &[])?,
+        };
+        match there {
+            Some(term) => given.add(index, term),
+            None => Ok(()),
+        }
+    }
+
+    /// Adds a cell that is defined, where it isn't known to be.
+    fn add_cell(
+        &mut self,
+        alloc: Global,
+        pool: &Pool,
+        given: &Given,
+        origin: &Origin,
+        n: NodeId,
+    ) -> Result<(), AllocError> {
+        let Some(term) = translate(alloc, &mut self.closure, pool, given, n)? else {
+            return Ok(());
+        };
+        if self.closure.cell_of(term).is_some() {
+            return Ok(());
+        }
+        let of = origin.of;
+        let _number = self.closure.add_cell(Cell { term, of })?;
+        self.depths.push(origin.depth)?;
+        Ok(())
+    }
+
+    /// A variable at the current indices.
+    fn variable(&mut self, given: &Given, x: u32) -> Result<Option<TermId>, AllocError> {
+        if given.len() == 0 {
+            return self.closure.term(Head::Leaf(x), &[]);
+        }
+        self.closure.term(Head::Read(x), given.terms())
+    }
+
+    /// The term of a fact.
+    fn fact(
+        &mut self,
+        alloc: Global,
+        pool: &Pool,
+        given: &Given,
+        known: Known,
+    ) -> Result<Option<TermId>, AllocError> {
+        match known {
+            Known::Equal { variable, term } => {
+                let Some(value) = translate(alloc, &mut self.closure, pool, given, term)? else {
+                    return Ok(None);
+                };
+                match self.variable(given, variable)? {
+                    Some(cell) => self.closure.term(Head::Eq, &[cell, value]),
+                    None => Ok(None),
+                }
+            }
+            Known::Holds(n) => translate(alloc, &mut self.closure, pool, given, n),
+            Known::Fails(n) => match translate(alloc, &mut self.closure, pool, given, n)? {
+                Some(term) => self.closure.term(Head::Not, &[term]),
+                None => Ok(None),
+            },
+            _ => Ok(None),
+        }
+    }
+
+    /// Adds what a construct gives.
+    fn add_link(
+        &mut self,
+        alloc: Global,
+        pool: &Pool,
+        given: &mut Given,
+        origin: &Origin,
+        link: Link,
+    ) -> Result<(), AllocError> {
+        match link.known {
+            Known::Index(index) => self.add_index(given, origin, index),
+            Known::Cell(n) => self.add_cell(alloc, pool, given, origin, n),
+            known => match self.fact(alloc, pool, given, known)? {
+                Some(term) => self.closure.assume_ground(term, origin.source(link.facts)),
+                None => Ok(()),
+            },
+        }
+    }
+
+    /// Adds all that is known at a place or at the site of a cell, from the root down.
+    fn add_known(
+        &mut self,
+        alloc: Global,
+        pool: &Pool,
+        survey: &Survey,
+        last: u32,
+        origin: &Origin,
+    ) -> Result<Given, AllocError> {
+        let mut given = Given::new(alloc);
+        for link in survey.known(last)?.iter().rev() {
+            self.add_link(alloc, pool, &mut given, origin, *link)?;
+        }
+        Ok(given)
+    }
+
+    /// The index terms of a cell.
+    fn indices(&self, alloc: Global, cell: TermId) -> Result<Vec<TermId>, AllocError> {
+        let mut indices = Vec::new(alloc);
+        for index in self.closure.terms().arguments(cell) {
+            indices.push(*index)?;
+        }
+        Ok(indices)
+    }
+
+    /// Adds what is known at the only site of a cell.
+    fn add_site(
+        &mut self,
+        alloc: Global,
+        pool: &Pool,
+        survey: &Survey,
+        k: usize,
+    ) -> Result<(), AllocError> {
+        let Some(last) = self.site(survey, k) else {
+            return Ok(());
+        };
+        let (Some(cell), Some(depth)) = (
+            self.closure.cells().get(k).copied(),
+            self.depths.get(k).copied(),
+        ) else {
+            return Ok(());
+        };
+        if depth >= MOST_DEEP {
+            return Ok(());
+        }
+        let origin = Origin {
+            of: Some(k),
+            indices: self.indices(alloc, cell.term)?,
+            depth: depth.saturating_add(1),
+        };
+        let _given = self.add_known(alloc, pool, survey, last, &origin)?;
+        Ok(())
+    }
+
+    /// Adds what is known at the sites of cells, of those too that are found so.
+    fn add_sites(&mut self, alloc: Global, pool: &Pool, survey: &Survey) -> Result<(), AllocError> {
+        for k in 0..MOST_CELLS {
+            if k >= self.closure.cells().len() {
+                return Ok(());
+            }
+            self.add_site(alloc, pool, survey, k)?;
+        }
+        Ok(())
+    }
+
+    /// What is known behind the only definition of a cell's variable, where there is one alone.
+    pub fn site(&self, survey: &Survey, k: usize) -> Option<u32> {
+        let cell = self.closure.cells().get(k)?;
+        survey.site(variable_of(&self.closure, cell.term)?)
+    }
+
+    /// The indices that are current at the place, or at the site of a cell, with what stands for them.
+    pub fn given(
+        &mut self,
+        alloc: Global,
+        survey: &Survey,
+        last: u32,
+        cell: Option<usize>,
+    ) -> Result<Given, AllocError> {
+        let indices = match cell.and_then(|k| self.closure.cells().get(k).copied()) {
+            Some(there) => self.indices(alloc, there.term)?,
+            None => Vec::new(alloc),
+        };
+        let origin = Origin {
+            of: cell,
+            indices,
+            depth: 0,
+        };
+        let mut given = Given::new(alloc);
+        for link in survey.known(last)?.iter().rev() {
+            if let Known::Index(index) = link.known {
+                self.add_index(&mut given, &origin, index)?;
+            }
+        }
+        Ok(given)
+    }
+}

@@ -1,0 +1,78 @@
+ghost use Rattle.std.specs.Prelude.{IfSome};
+ghost use Rattle.cv_pool.specs.Nodes.{ChildBelow};
+
+use cv_syntax::{Head, NodeId, Opened, Pool, read_node};
+use std::alloc::{AllocError, Global};
+
+/// Reads a node, where the pool has it. Its children have smaller numbers.
+pub fn open(pool: &Pool, n: NodeId) -> Option<Opened>
+    ensures first { IfSome result (λ o. ChildBelow n.0 o.first) }
+    ensures second { IfSome result (λ o. ChildBelow n.0 o.second) }
+{
+    if n.0 < pool.live() {
+        Some(read_node(pool, n))
+    } else {
+        None
+    }
+}
+
+/// The items of a list.
+pub fn items(alloc: Global, pool: &Pool, list: Option<NodeId>) -> Result<Vec<NodeId>, AllocError> {
+    let mut items = Vec::new(alloc);
+    let mut at = list;
+    for _ in 0..pool.live() {
+        let Some(n) = at else {
+            return Ok(items);
+        };
+        let Some(cell) = open(pool, n) else {
+            return Ok(items);
+        };
+        if let Some(item) = cell.first {
+            items.push(item)?;
+        }
+        at = cell.second;
+    }
+    Ok(items)
+}
+
+/// The names of a list of binders.
+pub fn binders(alloc: Global, pool: &Pool, list: Option<NodeId>) -> Result<Vec<u32>, AllocError> {
+    let mut names = Vec::new(alloc);
+    let mut at = list;
+    for _ in 0..pool.live() {
+        let Some(n) = at else {
+            return Ok(names);
+        };
+        let Some(cell) = open(pool, n) else {
+            return Ok(names);
+        };
+        if let Head::Binder(x, _) = cell.head {
+            names.push(x)?;
+        }
+        at = cell.second;
+    }
+    Ok(names)
+}
+
+/// The arguments of a term, by its head; none of a tree that is no term.
+pub fn arguments(
+    alloc: Global,
+    pool: &Pool,
+    node: Opened,
+) -> Result<Option<Vec<NodeId>>, AllocError> {
+    match node.head {
+        Head::Read(_) | Head::Apply(_) => Ok(Some(items(alloc, pool, node.first)?)),
+        Head::Leaf(_) | Head::Yes | Head::No => Ok(Some(Vec::new(alloc))),
+        Head::Not | Head::Eq | Head::And | Head::Or => {
+            let mut both = Vec::new(alloc);
+            if let Some(first) = node.first {
+                both.push(first)?;
+            }
+            if let Some(second) = node.second {
+                both.push(second)?;
+            }
+            Ok(Some(both))
+        }
+        _ => Ok(None),
+    }
+}

@@ -1,0 +1,341 @@
+// One walk over a game: what is known at each place, the sites of variables, and the events.
+use crate::nodes::{binders, items, open};
+use cv_scope_rules::Position;
+use cv_syntax::{Game, Head, NodeId, Opened, Pool};
+use std::alloc::{AllocError, Global};
+use std::collections::HashMap;
+
+/// What a construct gives to the places below it.
+#[derive(Clone, Copy)]
+pub enum Known {
+    /// The index of a replication.
+    Index(u32),
+    /// A cell of a `defined` list.
+    Cell(NodeId),
+    /// A variable, at the current indices, is equal to a term.
+    Equal {
+        variable: u32,
+        term: NodeId,
+    },
+    /// A condition holds.
+    Holds(NodeId),
+    /// A condition doesn't hold.
+    Fails(NodeId),
+    /// An event was executed.
+    Event {
+        event: u32,
+        place: u32,
+        arguments: Option<NodeId>,
+    },
+}
+
+/// What is known at a place: the newest, how many facts there are with it, and the link to what is known besides, counted from
+/// 1, or 0.
+#[derive(Clone, Copy)]
+pub struct Link {
+    pub known: Known,
+    pub facts: u32,
+    before: u32,
+}
+
+/// The definitions of a variable that were seen: whether there is one alone, and what is known behind the last one.
+#[derive(Clone, Copy)]
+struct Site {
+    is_only: bool,
+    last: u32,
+}
+
+/// An event of a game: its name, its place, its arguments, and what is known there.
+#[derive(Clone, Copy)]
+pub struct Event {
+    pub event: u32,
+    pub place: u32,
+    pub arguments: Option<NodeId>,
+    pub last: u32,
+}
+
+/// A node on the way: what the tree is for the node above, what is known there, the condition of the `if` around, and the
+/// indices of the branch around.
+#[derive(Clone, Copy)]
+struct Walk {
+    position: Position,
+    last: u32,
+    tested: Option<NodeId>,
+    own: Option<NodeId>,
+}
+
+/// What is known at each place of a game. A link that isn't there stands for nothing known.
+#[derive(Drop)]
+pub struct Survey {
+    alloc: Global,
+    links: Vec<Link>,
+    sites: HashMap<u32, Site>,
+    events: Vec<Event>,
+    place: u32,
+}
+
+impl Survey {
+    /// The survey of a game.
+    pub fn of(alloc: Global, pool: &Pool, game: Game) -> Result<Survey, AllocError> {
+        let mut survey = Survey {
+            alloc,
+            links: Vec::new(alloc),
+            sites: HashMap::new(alloc),
+            events: Vec::new(alloc),
+            place: 0,
+        };
+        let walk = Walk {
+            position: Position::Anywhere,
+            last: 0,
+            tested: None,
+            own: None,
+        };
+        survey.walk(pool, game.root, walk)?;
+        Ok(survey)
+    }
+
+    /// The events, in the order of their places.
+    pub fn events(&self) -> &[Event] {
+        &self.events
+    }
+
+    /// What is known behind the only definition of a variable, where there is one alone.
+    pub fn site(&self, variable: u32) -> Option<u32> {
+        match self.sites.get(&variable) {
+            Some(site) if site.is_only => Some(site.last),
+            _ => None,
+        }
+    }
+
+    /// The link of this number.
+    fn link(&self, number: u32) -> Option<Link> {
+        if number == 0 {
+            return None;
+        }
+        self.links.get(number as usize - 1).copied()
+    }
+
+    /// All that is known, from the newest to the oldest.
+    pub fn known(&self, last: u32) -> Result<Vec<Link>, AllocError> {
+        let mut known = Vec::new(self.alloc);
+        let mut number = last;
+        for _ in 0..self.links.len() {
+            let Some(link) = self.link(number) else {
+                return Ok(known);
+            };
+            known.push(link)?;
+            number = link.before;
+        }
+        Ok(known)
+    }
+
+    /// Adds what is known to what is known besides.
+    fn add(&mut self, before: u32, known: Known) -> Result<u32, AllocError> {
+        let there = match self.link(before) {
+            Some(link) => link.facts,
+            None => 0,
+        };
+        let facts = match known {
+            Known::Equal { .. } | Known::Holds(_) | Known::Fails(_) => there.saturating_add(1),
+            _ => there,
+        };
+        self.links.push(Link {
+            known,
+            facts,
+            before,
+        })?;
+        Ok(u32::try_from(self.links.len()).unwrap_or(0))
+    }
+
+    /// Adds a condition that is known, where there is one.
+    fn add_condition(
+        &mut self,
+        before: u32,
+        condition: Option<NodeId>,
+        holds: bool,
+    ) -> Result<u32, AllocError> {
+        match condition {
+            Some(n) if holds => self.add(before, Known::Holds(n)),
+            Some(n) => self.add(before, Known::Fails(n)),
+            None => Ok(before),
+        }
+    }
+
+    /// Notes a definition of a variable.
+    fn note(&mut self, variable: u32, last: u32) -> Result<(), AllocError> {
+        let is_only = self.sites.get(&variable).is_none();
+        self.sites.insert(variable, Site { is_only, last })?;
+        Ok(())
+    }
+
+    /// Notes a definition of each variable of a list of binders.
+    fn note_all(&mut self, pool: &Pool, list: Option<NodeId>, last: u32) -> Result<(), AllocError> {
+        for variable in &binders(self.alloc, pool, list)? {
+            self.note(*variable, last)?;
+        }
+        Ok(())
+    }
+
+    /// Adds the cells of a `defined` list.
+    fn add_cells(
+        &mut self,
+        pool: &Pool,
+        before: u32,
+        list: Option<NodeId>,
+    ) -> Result<u32, AllocError> {
+        let mut last = before;
+        for cell in &items(self.alloc, pool, list)? {
+            last = self.add(last, Known::Cell(*cell))?;
+        }
+        Ok(last)
+    }
+
+    /// How the walk goes on at a node's first child.
+    fn first(&mut self, walk: Walk, node: Opened) -> Result<Walk, AllocError> {
+        let position = walk.position.first(node.head);
+        let last = match (node.head, walk.position) {
+            (Head::Cons, Position::Bodies) => self.add_condition(walk.last, walk.tested, true)?,
+            (Head::Cons, Position::ElseBody) => {
+                self.add_condition(walk.last, walk.tested, false)?
+            }
+            _ => walk.last,
+        };
+        Ok(Walk {
+            position,
+            last,
+            ..walk
+        })
+    }
+
+    /// What is known at the rest of a list.
+    fn rest(&mut self, pool: &Pool, walk: Walk, node: Opened) -> Result<u32, AllocError> {
+        match walk.position {
+            Position::Guards => self.add_cells(pool, walk.last, node.first),
+            Position::Guarded => {
+                let last = self.add_condition(walk.last, node.first, true)?;
+                self.note_all(pool, walk.own, last)?;
+                Ok(last)
+            }
+            _ => Ok(walk.last),
+        }
+    }
+
+    /// Adds the definition of a variable by a term.
+    fn define(
+        &mut self,
+        before: u32,
+        variable: u32,
+        term: Option<NodeId>,
+    ) -> Result<u32, AllocError> {
+        let last = match term {
+            Some(term) => self.add(before, Known::Equal { variable, term })?,
+            None => before,
+        };
+        self.note(variable, last)?;
+        Ok(last)
+    }
+
+    /// What is known at a node's second child.
+    fn behind(
+        &mut self,
+        pool: &Pool,
+        walk: Walk,
+        node: Opened,
+        place: u32,
+    ) -> Result<u32, AllocError> {
+        match node.head {
+            Head::Cons => self.rest(pool, walk, node),
+            Head::Repl(index, _) => self.add(walk.last, Known::Index(index)),
+            Head::In(_) => {
+                let list = node.first.and_then(|n| open(pool, n));
+                if let Some(inputs) = list {
+                    self.note_all(pool, inputs.second, walk.last)?;
+                }
+                Ok(walk.last)
+            }
+            Head::New(variable, _) => {
+                self.note(variable, walk.last)?;
+                Ok(walk.last)
+            }
+            Head::Let(variable, _) => self.define(walk.last, variable, node.first),
+            Head::Event(event) => {
+                let arguments = node.first;
+                self.add(
+                    walk.last,
+                    Known::Event {
+                        event,
+                        place,
+                        arguments,
+                    },
+                )
+            }
+            _ => Ok(walk.last),
+        }
+    }
+
+    /// How the walk goes on at a node's second child.
+    fn second(
+        &mut self,
+        pool: &Pool,
+        walk: Walk,
+        node: Opened,
+        place: u32,
+    ) -> Result<Walk, AllocError> {
+        let last = self.behind(pool, walk, node, place)?;
+        let position = walk.position.second(node.head);
+        let tested = match node.head {
+            Head::If => node.first,
+            _ => walk.tested,
+        };
+        let own = match node.head {
+            Head::Branch => node.first,
+            _ => walk.own,
+        };
+        Ok(Walk {
+            position,
+            last,
+            tested,
+            own,
+        })
+    }
+
+    /// Notes an event at its place.
+    fn note_event(&mut self, walk: Walk, node: Opened) -> Result<(), AllocError> {
+        if let Head::Event(event) = node.head {
+            self.events.push(Event {
+                event,
+                place: self.place,
+                arguments: node.first,
+                last: walk.last,
+            })?;
+        }
+        Ok(())
+    }
+
+    /// Walks over a tree.
+    fn walk(&mut self, pool: &Pool, start: NodeId, from: Walk) -> Result<(), AllocError> {
+        let mut at = Some(start);
+        let mut walk = from;
+        for _ in 0..pool.live() {
+            let Some(n) = at else {
+                return Ok(());
+            };
+            let Some(node) = open(pool, n) else {
+                return Ok(());
+            };
+            let place = self.place;
+            self.note_event(walk, node)?;
+            self.place = self.place.saturating_add(node.head.weight());
+            if let Some(child) = node.first {
+                if child.0 >= start.0 {
+                    return Ok(());
+                }
+                let inside = self.first(walk, node)?;
+                self.walk(pool, child, inside)?;
+            }
+            walk = self.second(pool, walk, node, place)?;
+            at = node.second;
+        }
+        Ok(())
+    }
+}

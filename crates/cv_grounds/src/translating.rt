@@ -1,0 +1,108 @@
+// Terms of the pool as terms of a table or of a closure.
+use crate::nodes::{arguments, open};
+use cv_closure::{Closure, TermId, Terms};
+use cv_syntax::{Head, NodeId, Pool};
+use std::alloc::{AllocError, Global};
+
+/// Names with the terms that stand for them. Of two equal names the first counts.
+#[derive(Drop)]
+pub struct Given {
+    names: Vec<u32>,
+    terms: Vec<TermId>,
+}
+
+impl Given {
+    /// No names.
+    pub fn new(alloc: Global) -> Given {
+        Given {
+            names: Vec::new(alloc),
+            terms: Vec::new(alloc),
+        }
+    }
+
+    /// How many names there are.
+    pub fn len(&self) -> usize {
+        self.names.len()
+    }
+
+    /// Adds a name with its term behind the others.
+    pub fn add(&mut self, name: u32, term: TermId) -> Result<(), AllocError> {
+        self.names.push(name)?;
+        self.terms.push(term)?;
+        Ok(())
+    }
+
+    /// The terms, in the order of the names.
+    pub fn terms(&self) -> &[TermId] {
+        &self.terms
+    }
+
+    /// The term that stands for a name.
+    pub fn get(&self, name: u32) -> Option<TermId> {
+        for (k, there) in self.names.iter().enumerate() {
+            if *there == name {
+                return self.terms.get(k).copied();
+            }
+        }
+        None
+    }
+}
+
+/// A term of the pool as one of a closure, with terms for names. There is none where the tree is no term, or where the closure
+/// is full.
+pub fn translate(
+    alloc: Global,
+    closure: &mut Closure,
+    pool: &Pool,
+    given: &Given,
+    n: NodeId,
+) -> Result<Option<TermId>, AllocError> {
+    let Some(node) = open(pool, n) else {
+        return Ok(None);
+    };
+    if let Head::Leaf(x) = node.head {
+        if let Some(term) = given.get(x) {
+            return Ok(Some(term));
+        }
+    }
+    let Some(children) = arguments(alloc, pool, node)? else {
+        return Ok(None);
+    };
+    let mut terms = Vec::new(alloc);
+    for child in &children {
+        if child.0 >= n.0 {
+            return Ok(None);
+        }
+        let Some(term) = translate(alloc, closure, pool, given, *child)? else {
+            return Ok(None);
+        };
+        terms.push(term)?;
+    }
+    closure.term(node.head, &terms)
+}
+
+/// A term of the pool as one of a table. There is none where the tree is no term, or where the table is full.
+pub fn translate_pattern(
+    alloc: Global,
+    patterns: &mut Terms,
+    pool: &Pool,
+    n: NodeId,
+) -> Result<Option<TermId>, AllocError> {
+    let Some(node) = open(pool, n) else {
+        return Ok(None);
+    };
+    let Some(children) = arguments(alloc, pool, node)? else {
+        return Ok(None);
+    };
+    let mut terms = Vec::new(alloc);
+    for child in &children {
+        if child.0 >= n.0 {
+            return Ok(None);
+        }
+        let Some(term) = translate_pattern(alloc, patterns, pool, *child)? else {
+            return Ok(None);
+        };
+        terms.push(term)?;
+    }
+    patterns.add(node.head, &terms)
+}
