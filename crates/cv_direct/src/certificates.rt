@@ -1,0 +1,50 @@
+use cv_closure::{TermId, Terms};
+use cv_closure_lines::Derivation;
+
+/// Why a right event or a right term of a correspondence holds.
+#[derive(Drop)]
+pub enum Route {
+    /// The event stands at a place above; the derivation ends with the equations of its arguments.
+    Above {
+        place: u32,
+        by: Derivation,
+    },
+    /// The event stands at a place above the only definition of a cell's variable. The cell is a term of the derivation, which
+    /// ends with the line that it is defined, and then the equations.
+    Cell {
+        cell: TermId,
+        place: u32,
+        by: Derivation,
+    },
+    /// The term is true; the derivation ends with it.
+    Holds {
+        by: Derivation,
+    },
+}
+
+/// What is said of a left event's node.
+#[derive(Drop)]
+pub enum Entry {
+    /// No run comes to its place; the derivation ends with `false`.
+    Never {
+        place: u32,
+        by: Derivation,
+    },
+    /// There are terms for the variables on the right alone, over a table of their own, and a route for each right event and
+    /// term, in order.
+    With {
+        place: u32,
+        table: Terms,
+        terms: Vec<TermId>,
+        routes: Vec<Route>,
+    },
+}
+
+/// What closes a query.
+#[derive(Drop)]
+pub enum Certificate {
+    /// Of a correspondence: an entry for each place of its left event, in order.
+    Events(Vec<Entry>),
+    /// Of secrecy, where the game itself has the form that is asked for: no pairs.
+    Secret,
+}

@@ -1,0 +1,12 @@
+// Proposals of certificates: of correspondences without `inj`, by what is known at each place of the left event, and of
+// secrecy without pairs.
+#![tactic(auto)]
+
+mod certificates;
+mod queries;
+mod routes;
+mod searching;
+
+pub use certificates::{Certificate, Entry, Route};
+pub use queries::{Atom, Correspondence, correspondence_of};
+pub use searching::direct;
