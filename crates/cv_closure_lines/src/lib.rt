@@ -4,8 +4,6 @@
 mod lines;
 mod scribe;
 mod targets;
-#[cfg(test)]
-mod tests;
 
 pub use lines::{Claim, Derivation, Line, Reason};
 pub use targets::{Target, all_follow, copied, derive, follows};
