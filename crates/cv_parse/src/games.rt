@@ -34,7 +34,7 @@ fn game_in(
 {
     let mut trail = Trail::new(alloc);
     note_declared(decls, &mut trail.uses)?;
-    read_game(alloc, signs, &mut trail)?;
+    read_game(signs, &mut trail)?;
     check_names(alloc, &trail.uses, signs.len())?;
     let extent = measure(alloc, &trail.makes)?;
     check_size(extent)?;

@@ -10,38 +10,31 @@ use cv_parse_grammar::{Region, Role};
 use cv_parse_notation::{Mark, Sign};
 use cv_parse_processes::inputs;
 use cv_parse_terms::{ReadError, Trail, is_at, note, term};
-use std::alloc::Global;
 
 /// How deep brackets and syntax nodes may stand.
 pub const DEPTH: u32 = 200;
 
 /// A process, with what is told about names at its ends.
 #[tactic(auto, using(cv_parse_terms::proofs::Places::places))]
-fn process(
-    alloc: Global,
-    signs: &[Sign],
-    at: usize,
-    trail: &mut Trail,
-    depth: u32,
-) -> Result<usize, ReadError>
+fn process(signs: &[Sign], at: usize, trail: &mut Trail, depth: u32) -> Result<usize, ReadError>
     requires at { at ≤ length signs.now }
     requires few { length signs.now < 2 ^ 32 }
     ensures makes { Makes postorder signs.now trail.old trail.new result
         (read_in depth process_form (drop at signs.now)) }
 {
     note(signs, at, &mut trail.uses, Role::Enters(Region::InProcess))?;
-    let place = inputs(alloc, signs, at, trail, depth)?;
+    let place = inputs(signs, at, trail, depth)?;
     note(signs, place, &mut trail.uses, Role::Leaves)?;
     Ok(place)
 }
 
 /// Reads a game by the grammar, to the end of its tokens.
 #[tactic(auto, using(cv_parse_terms::proofs::Places::places))]
-pub fn read_game(alloc: Global, signs: &[Sign], trail: &mut Trail) -> Result<(), ReadError>
+pub fn read_game(signs: &[Sign], trail: &mut Trail) -> Result<(), ReadError>
     requires few { length signs.now < 2 ^ 32 }
     ensures gives { GivesProcess signs.now trail.old trail.new result }
 {
-    let place = process(alloc, signs, 0, trail, DEPTH)?;
+    let place = process(signs, 0, trail, DEPTH)?;
     if place < signs.len() {
         return Err(ReadError::Syntax(place as u32));
     }

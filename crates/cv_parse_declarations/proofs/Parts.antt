@@ -11,15 +11,21 @@ use Rattle.cv_syntax.specs.Postorder.{postorder}
 use Rattle.cv_parse_notation.specs.declared.sign.Sign.{Sign}
 use Rattle.cv_parse_notation.specs.declared.sign.Mark.TheVariants as mark
 use Rattle.cv_parse_notation.specs.Form.{deeper, many, may, word, ◌&◌, ◌▸◌, ◌◂◌}
-use Rattle.cv_parse_notation.specs.Reads.{read_word}
+use Rattle.cv_parse_notation.specs.Reads.{Read, read_word}
+use Rattle.cv_parse_grammar.specs.declared.role.Role.{Role}
 use Rattle.cv_parse_grammar.specs.declared.role.Role.TheVariants.{BindsBound, BindsLocal}
 use Rattle.cv_parse_grammar.specs.Phrases.{Phrase, RightRest, Sort, typed, var_list}
 use Rattle.cv_parse_grammar.specs.Equivalences.{arguments_and_body, body, bound_of, copies, function_of, functions, group, left_function, new_before, right_function, right_rest}
 use Rattle.cv_parse_terms.specs.declared.trail.NameUse.{NameUse}
 use Rattle.cv_parse_terms.specs.Gives.{IsRead, Opens, Stands, below, read_in}
 use Rattle.cv_parse_terms.proofs.Chains.{both_made, both_read, made_read, opened_read, sign_both}
-use Rattle.cv_parse_processes.proofs.Productions.{Made}
 use Rattle.cv_parse_declarations.specs.Around.{parts_around, parts_of_keyed}
+
+-- a tree that was read, with its parts
+pub record Made (all : List Sign) (u v : List NameUse) (a b : List Make) (reading : Read Role Tree) (end : ℕ) : Type 0 where
+  pub value : Tree
+  pub read : IsRead all u v reading value end
+  pub makes : b ≡ a ++ postorder value
 
 abbrev pub choice : Phrase (ℕ × ℕ)
 choice = mark.New ▸ typed BindsLocal ◂ mark.Semicolon

@@ -45,13 +45,7 @@ pub struct Reading {
 
 /// The word `process`, and the process.
 #[tactic(auto, using(cv_parse_terms::proofs::Places::places))]
-fn process(
-    alloc: Global,
-    signs: &[Sign],
-    at: usize,
-    trail: &mut Trail,
-    depth: u32,
-) -> Result<usize, ReadError>
+fn process(signs: &[Sign], at: usize, trail: &mut Trail, depth: u32) -> Result<usize, ReadError>
     requires at { at ≤ length signs.now }
     requires few { length signs.now < 2 ^ 32 }
     ensures makes { Makes postorder signs.now trail.old trail.new result
@@ -64,7 +58,7 @@ fn process(
         &mut trail.uses,
         Role::Enters(Region::InProcess),
     )?;
-    let place = inputs(alloc, signs, place, trail, depth)?;
+    let place = inputs(signs, place, trail, depth)?;
     note(signs, place, &mut trail.uses, Role::Leaves)?;
     Ok(place)
 }
@@ -85,7 +79,7 @@ pub fn read(alloc: Global, signs: &[Sign]) -> Result<Reading, ReadError>
         uses,
         makes: Vec::new(alloc),
     };
-    let place = process(alloc, signs, place, &mut rest, DEPTH)?;
+    let place = process(signs, place, &mut rest, DEPTH)?;
     if place < signs.len() {
         return Err(ReadError::Syntax(place as u32));
     }

@@ -135,20 +135,14 @@ fn choices(
 
 /// An arrow, and the body of a function.
 #[tactic(auto, using(cv_parse_terms::proofs::Places::places))]
-fn arrow_body(
-    alloc: Global,
-    signs: &[Sign],
-    at: usize,
-    trail: &mut Trail,
-    depth: u32,
-) -> Result<usize, ReadError>
+fn arrow_body(signs: &[Sign], at: usize, trail: &mut Trail, depth: u32) -> Result<usize, ReadError>
     requires at { at ≤ length signs.now }
     requires few { length signs.now < 2 ^ 32 }
     ensures makes { Makes postorder signs.now trail.old trail.new result
         (read_in depth (Arrow ▸ body_form) (drop at signs.now)) }
 {
     let place = expect(signs, at, Mark::Arrow)?;
-    body(alloc, signs, place, trail, depth)
+    body(signs, place, trail, depth)
 }
 
 /// A function of the left side.
@@ -171,7 +165,7 @@ fn left_function(
     let place = choices(alloc, signs, place, trail, depth)?;
     let place = var_list(alloc, signs, place, trail, Role::BindsLocal, depth)?;
     trail.makes.push(Make::Over(bound_of(name, copied)))?;
-    let place = arrow_body(alloc, signs, place, trail, depth)?;
+    let place = arrow_body(signs, place, trail, depth)?;
     trail.makes.push(Make::Over(Head::Oracle(name)))?;
     Ok(place)
 }
@@ -226,7 +220,7 @@ fn arguments_and_body(
     let place = var_list(alloc, signs, at, trail, Role::BindsLocal, depth)?;
     trail.makes.push(Make::Over(bounds))?;
     empties(&mut trail.makes, count)?;
-    let end = arrow_body(alloc, signs, place, trail, depth)?;
+    let end = arrow_body(signs, place, trail, depth)?;
     Ok(end)
 }
 

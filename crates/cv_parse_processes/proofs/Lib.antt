@@ -1,4 +1,2 @@
-pub mod Starts
-pub mod Branches
-pub mod Nodes
-pub mod Productions
+pub mod Says
+pub mod Entries

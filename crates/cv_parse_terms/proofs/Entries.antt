@@ -16,7 +16,7 @@ use Rattle.cv_parse_terms.specs.declared.piece.Ahead.TheVariants as ahead
 use Rattle.cv_parse_terms.specs.declared.trail.Trail.{Trail}
 use Rattle.cv_parse_terms.specs.Gives.{Fails, IsMade, Makes, below, parts_of_both, read_in}
 use Rattle.cv_parse_terms.specs.Tables.{Parts, Runs, Stops, Work, put, row_in, work_of}
-use Rattle.cv_parse_terms.specs.TermRows.{Enters, row_of, term_rows}
+use Rattle.cv_parse_terms.specs.TermRows.{Enters, row_count, row_of, term_rows}
 use Rattle.cv_parse_terms.proofs.Walks.{row_law}
 use Rattle.cv_parse_terms.proofs.Saying.{Says, adds, deeper_says}
 use Rattle.cv_parse_terms.proofs.TermSays.{deep, says_arguments, says_cell, says_condition, says_equality, says_inner, says_inner_cell, says_maybe_terms, says_one, says_term, says_terms}
@@ -54,16 +54,16 @@ fails_of e all (error.Syntax k) w r s i h = (h.0, failed_of e w r (Syntax (lengt
 fails_of e all (error.Nesting k) w r s i h = (h.0, failed_of e w r (Nesting (length all - k)) (sym i ∙ h.1))
 fails_of e all error.OutOfMemory w r s i h = tt
 
-enters_says : {A : Type 0} {f : Phrase A} (emit : A → List Make) (n r : ℕ) (all : List Sign) (at : ℕ) (old new : Trail) (result : Result ℕ ReadError) → r < 56 → Says n r (row_of r) f (λ a. adds (emit a)) → Enters r n all at old result new → Makes emit all old new result (read_in n f (drop at all))
+pub enters_says : {A : Type 0} {f : Phrase A} (emit : A → List Make) (n r : ℕ) (all : List Sign) (at : ℕ) (old new : Trail) (result : Result ℕ ReadError) → r < row_count → Says n r (row_of r) f (λ a. adds (emit a)) → Enters r n all at old result new → Makes emit all old new result (read_in n f (drop at all))
 enters_says {f = f} emit n r all at old new (Ok end) h s (ns, (l, e)) =
-    made_of emit all old new at end ns (read_in n f (drop at all)) l (sym (row_law term_rows n 56 r (work_of old [] (drop at all)) h ∙ s.law (work_of old [] (drop at all))) ∙ e)
+    made_of emit all old new at end ns (read_in n f (drop at all)) l (sym (row_law term_rows n row_count r (work_of old [] (drop at all)) h ∙ s.law (work_of old [] (drop at all))) ∙ e)
 enters_says {f = f} emit n r all at old new (Err x) h s (ns, e) =
-    fails_of (λ a. adds (emit a)) all x (work_of old [] (drop at all)) (read_in n f (drop at all)) (row_in term_rows n 56 r (work_of old [] (drop at all)))
-    (row_law term_rows n 56 r (work_of old [] (drop at all)) h ∙ s.law (work_of old [] (drop at all))) e
+    fails_of (λ a. adds (emit a)) all x (work_of old [] (drop at all)) (read_in n f (drop at all)) (row_in term_rows n row_count r (work_of old [] (drop at all)))
+    (row_law term_rows n row_count r (work_of old [] (drop at all)) h ∙ s.law (work_of old [] (drop at all))) e
 
 -- no name waits before a row
-pub enters : (all : List Sign) (result : Result ℕ ReadError) (s t : Trail) (ns ms : List ℕ) (n r at : ℕ) → ns ≡ [] → Runs all result t ms (row_in term_rows n 56 r (work_of s ns (drop at all))) → Enters r n all at s result t
-enters all result s t ns ms n r at e h = (ms, subst (λ l. Runs all result t ms (row_in term_rows n 56 r (work_of s l (drop at all)))) e h)
+pub enters : (all : List Sign) (result : Result ℕ ReadError) (s t : Trail) (ns ms : List ℕ) (n r at : ℕ) → ns ≡ [] → Runs all result t ms (row_in term_rows n row_count r (work_of s ns (drop at all))) → Enters r n all at s result t
+enters all result s t ns ms n r at e h = (ms, subst (λ l. Runs all result t ms (row_in term_rows n row_count r (work_of s l (drop at all)))) e h)
 
 pub enters_term : (n : ℕ) (all : List Sign) (at : ℕ) (old new : Trail) (result : Result ℕ ReadError) → Enters 37 n all at old result new → Makes postorder all old new result (read_in n term (drop at all))
 enters_term n all at old new result h = enters_says postorder n 37 all at old new result (lit< tt) (says_term n (deep n)) h
@@ -77,17 +77,8 @@ enters_equality n all at old new result h = enters_says postorder n 31 all at ol
 pub enters_terms : (n : ℕ) (all : List Sign) (at : ℕ) (old new : Trail) (result : Result ℕ ReadError) → Enters 2 n all at old result new → Makes postorder all old new result (read_in n terms (drop at all))
 enters_terms n all at old new result h = enters_says postorder n 2 all at old new result (lit< tt) (says_terms n (deep n)) h
 
-pub enters_maybe_terms : (n : ℕ) (all : List Sign) (at : ℕ) (old new : Trail) (result : Result ℕ ReadError) → Enters 55 n all at old result new → Makes postorder all old new result (read_in n (listed terms) (drop at all))
-enters_maybe_terms n all at old new result h = enters_says postorder n 55 all at old new result (lit< tt) (says_maybe_terms n (deep n)) h
-
-pub enters_one_term : (n : ℕ) (all : List Sign) (at : ℕ) (old new : Trail) (result : Result ℕ ReadError) → Enters 53 n all at old result new → Makes postorder all old new result (read_in n (made (λ t. chain (t ∷ [])) (deeper Term)) (drop at all))
-enters_one_term n all at old new result h = enters_says postorder n 53 all at old new result (lit< tt) (says_one n (deep n)) h
-
 pub enters_arguments : (n : ℕ) (all : List Sign) (at : ℕ) (old new : Trail) (result : Result ℕ ReadError) → Enters 4 n all at old result new → Makes postorder all old new result (read_in n arguments (drop at all))
 enters_arguments n all at old new result h = enters_says postorder n 4 all at old new result (lit< tt) (says_arguments n (deep n)) h
-
-pub enters_inner_arguments : (n : ℕ) (all : List Sign) (at : ℕ) (old new : Trail) (result : Result ℕ ReadError) → Enters 51 n all at old result new → Makes postorder all old new result (below n Arguments (drop at all))
-enters_inner_arguments n all at old new result h = enters_says postorder n 51 all at old new result (lit< tt) (deeper_says 51 (ahead.Mark mark.Open) 4 (deep n).arguments) h
 
 pub enters_inner_subscript : (n : ℕ) (all : List Sign) (at : ℕ) (old new : Trail) (result : Result ℕ ReadError) → Enters 52 n all at old result new → Makes postorder all old new result (below n Subscript (drop at all))
 enters_inner_subscript n all at old new result h = enters_says postorder n 52 all at old new result (lit< tt) (deeper_says 52 (ahead.Mark mark.OpenSquare) 6 (deep n).subscript) h
@@ -98,7 +89,4 @@ enters_cell n all at old new result h = enters_says postorder n 41 all at old ne
 pub enters_inner_cell : (n : ℕ) (all : List Sign) (at : ℕ) (old new : Trail) (result : Result ℕ ReadError) → Enters 42 n all at old result new → Makes postorder all old new result (below n OneCell (drop at all))
 enters_inner_cell n all at old new result h = enters_says postorder n 42 all at old new result (lit< tt) (says_inner_cell n (deep n)) h
 
-pub enters_condition : (n : ℕ) (all : List Sign) (at : ℕ) (old new : Trail) (result : Result ℕ ReadError) → Enters 50 n all at old result new → Makes parts_of_both all old new result (read_in n condition (drop at all))
-enters_condition n all at old new result h = enters_says parts_of_both n 50 all at old new result (lit< tt) (says_condition n (deep n)) h
-
-pub ruleset entries = (enters_term, enters_inner_term, enters_equality, enters_terms, enters_maybe_terms, enters_one_term, enters_arguments, enters_inner_arguments, enters_inner_subscript, enters_cell, enters_inner_cell, enters_condition)
+pub ruleset entries = (enters_term, enters_inner_term, enters_equality, enters_terms, enters_arguments, enters_inner_subscript, enters_cell, enters_inner_cell)

@@ -15,7 +15,7 @@ use Rattle.cv_parse_grammar.specs.declared.role.Role.{Role}
 use Rattle.cv_parse_terms.specs.declared.trail.Trail.{Trail}
 use Rattle.cv_parse_grammar.specs.Phrases.{Sort, Phrase, listed, or_else}
 use Rattle.cv_parse_grammar.specs.Rules.{rule, heads}
-use Rattle.cv_parse_terms.specs.Gives.{uses_of, MakesOver, Fails, Makes, positive, below, read_in, read_opening, IsMade, Shallow}
+use Rattle.cv_parse_terms.specs.Gives.{uses_of, Fails, Makes, positive, below, read_in, read_opening, IsMade, Shallow}
 
 pub room : (n : ℕ) → 0 < n → positive n ≡ true
 room zero h = absurd (omega arith)
@@ -75,9 +75,6 @@ made_less {all = all} {s = s} {t = t} {l = l} n m q ts h d = makes_less all post
 
 pub fails_less : (all : List Sign) (e : ReadError) (n m : ℕ) (s : Sort) (ts : List Sign) → m + 1 ≡ n → Fails all e (read_in m (rule s) ts) → Fails all e (below n s ts)
 fails_less all e n m s ts h d = subst (λ x. Fails all e x) (sym (below_is n m s ts (omega arith))) d
-
-pub over_less : (all : List Sign) (old new : Trail) (r : Result (ℕ × ℕ) ReadError) (n m : ℕ) (s : Sort) (ts : List Sign) → m + 1 ≡ n → MakesOver all old new r (read_in m (rule s) ts) → MakesOver all old new r (below n s ts)
-over_less all old new r n m s ts h d = subst (λ x. MakesOver all old new r x) (sym (below_is n m s ts (omega arith))) d
 
 pub fails_none : (all : List Sign) (e : ReadError) (n : ℕ) (s : Sort) (ts : List Sign) → n ≡ 0 → Fails all e (too_deep heads s ts) → Fails all e (below n s ts)
 fails_none all e zero s ts h d = d
@@ -141,4 +138,4 @@ there d (Err e) = refl
 pub some_tree : (near : Bool) (d : Tree) (n : ℕ) (f : Phrase Tree) (all : List Sign) (old new : Trail) (r : Result ℕ ReadError) (ts : List Sign) → next_is (starts heads f) ts ≡ true → Makes postorder all old new r (read_in n f ts) → Makes postorder all old new r (read_in n (made (or_else d) (may near f)) ts)
 some_tree near d n f all old new r ts h m = subst (λ x. Makes postorder all old new r x) (sym (ap (λ x. x >>= mapped (or_else d)) (some_read (next_is (starts heads f) ts) (read_in n f) ts h) ∙ there d (read_in n f ts))) m
 
-pub ruleset levels = (some_tree, no_tree, opening_too_deep, opening_missing, room, no_room, fails_first, fails_second, makes_first, makes_second, too_deep_here, not_here, makes_below, fails_below, shallow_below, makes_less, fails_less, over_less, fails_none)
+pub ruleset levels = (some_tree, no_tree, opening_too_deep, opening_missing, room, no_room, fails_first, fails_second, makes_first, makes_second, too_deep_here, not_here, makes_below, fails_below, shallow_below, makes_less, fails_less, fails_none)

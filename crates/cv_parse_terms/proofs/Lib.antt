@@ -4,7 +4,6 @@ pub mod Made
 pub mod Places
 pub mod Rows
 pub mod Steady
-pub mod Tails
 pub mod Begins
 pub mod Listing
 pub mod Passing

@@ -1,27 +1,31 @@
 -- Pieces that read what a form reads, and make what its value stands for.
-use Rattle.std.proofs.Common.{◌≡◌, ℕ, zero, suc, ◌+◌, ◌<◌, Bool, true, false, ◌||◌, List, [], ◌∷◌, ◌++◌, length, drop, refl, ap, ap₂, sym, ◌∙◌, arith, subst, append_assoc, append-nil, flat_map, Option, Some, None, Result, Ok, Err}
-use Rattle.std.specs.Prelude.{replicate}
-use Rattle.cv_syntax_trees.specs.Tree.{Tree, Empty, chain}
-use Rattle.cv_syntax_trees.specs.declared.head.Head.TheVariants.{Cons}
+use Rattle.std.proofs.Common.{◌≡◌, ℕ, zero, suc, ◌+◌, ◌<◌, Bool, true, false, ◌||◌, List, [], ◌∷◌, ◌++◌, length, drop, refl, ap, ap₂, sym, ◌∙◌, arith, subst, append_assoc, append-nil, Option, Some, None, Result, Ok, Err}
+use Rattle.cv_syntax_trees.specs.Tree.{Tree, Empty, chain, binders, names}
+use Rattle.cv_syntax_trees.specs.declared.head.Head.{Head}
+use Rattle.cv_syntax_trees.specs.declared.head.Head.TheVariants as head
 use Rattle.cv_syntax.specs.Postorder.{postorder}
 use Rattle.cv_syntax.specs.declared.make.Make.{Make}
 use Rattle.cv_syntax.specs.declared.make.Make.TheVariants.{Nothing, Over}
 use Rattle.cv_parse_notation.specs.declared.sign.Sign.{Sign}
 use Rattle.cv_parse_notation.specs.declared.sign.Mark.{Mark}
 use Rattle.cv_parse_notation.specs.Spells.{Kind, next_is, is_mark, starts}
-use Rattle.cv_parse_notation.specs.Form.{sign, word, note, may, many, either, made, level, deeper, ◌&◌, ◌▸◌, ◌◂◌}
+use Rattle.cv_parse_notation.specs.Form.{sign, word, note, number, nought, find_word, may, many, either, made, level, deeper, ◌&◌, ◌▸◌, ◌◂◌}
 use Rattle.cv_parse_notation.specs.Reads.{Read, Reader, Found, Fault, ◌>>=◌, found, joined, mapped, one_more, nothing, pick, no_level, no_syntax, read_many, read_sign}
 use Rattle.cv_parse_grammar.specs.declared.role.Role.{Role}
 use Rattle.cv_parse_grammar.specs.Phrases.{Sort, Phrase, after, row}
 use Rattle.cv_parse_grammar.specs.Rules.{heads}
 use Rattle.cv_parse_terms.specs.declared.piece.Ahead.{Ahead}
 use Rattle.cv_parse_terms.specs.declared.piece.Naming.{Naming}
+use Rattle.cv_parse_terms.specs.declared.piece.Naming.TheVariants as naming
+use Rattle.cv_parse_terms.specs.declared.piece.Pairing.{Pairing}
+use Rattle.cv_parse_terms.specs.declared.piece.Pairing.TheVariants as pairing
+use Rattle.cv_parse_terms.specs.declared.piece.Closing.{Closing}
+use Rattle.cv_parse_terms.specs.declared.piece.Closing.TheVariants as closing
 use Rattle.cv_parse_terms.specs.declared.piece.Piece.{Piece}
 use Rattle.cv_parse_terms.specs.declared.piece.Piece.TheVariants as piece
 use Rattle.cv_parse_terms.specs.Gives.{positive, below, read_in}
-use Rattle.cv_parse_terms.specs.Tables.{Parts, Work, Step, and_then, begins, below_step, changed, chosen, closed, made_no_part, more, named, no_room, part, piece_in, pieces_in, pieces_step, put, refused, row_in, waits}
+use Rattle.cv_parse_terms.specs.Tables.{Parts, Work, Step, and_then, begins, below_step, changed, chosen, closed, instead, made_no_part, more, named, no_room, paired, part, piece_in, pieces_in, pieces_step, put, refused, row_in, waits}
 use Rattle.cv_parse_terms.specs.TermRows.{row_of, term_rows}
-use Rattle.cv_parse_terms.proofs.Made.{chain_made}
 use Rattle.cv_parse_terms.proofs.Walks.{row_law}
 
 -- parts behind those that are there
@@ -78,6 +82,15 @@ word_says n b r = record { law = λ w. then_nothing (put waits w (read_in n (wor
 pub note_says : (n b : ℕ) (r : Role) → Says n b (piece.Note r ∷ []) (note r) made_no_part
 note_says n b r = record { law = λ w. then_nothing (put made_no_part w (read_in n (note r) w.rest)) }
 
+pub zero_says : (n b : ℕ) → Says n b (piece.Zero ∷ []) nought made_no_part
+zero_says n b = record { law = λ w. then_nothing (put made_no_part w (read_in n nought w.rest)) }
+
+pub find_says : (n b : ℕ) → Says n b (piece.Find ∷ []) find_word waits
+find_says n b = record { law = λ w. then_nothing (put waits w (read_in n find_word w.rest)) }
+
+pub number_says : (n b : ℕ) → Says n b (piece.Instead ∷ []) number instead
+number_says n b = record { law = λ w. then_nothing (put instead w (read_in n number w.rest)) }
+
 pub row_says : {A : Type 0} {n : ℕ} {f : Phrase A} {e : A → Parts → Parts} (b r : ℕ) → r < b → Says n r (row_of r) f e → Says n b (piece.Row r ∷ []) f e
 row_says {n = n} b r h s = record { law = λ w. then_nothing (row_in term_rows n b r w) ∙ (row_law term_rows n b r w h ∙ s.law w) }
 
@@ -125,6 +138,12 @@ part_behind m ps s = changes (part m) (piece.Part m) ps (λ w. refl) s
 
 pub head_behind : {A : Type 0} {n b : ℕ} {f : Phrase A} {e : A → Parts → Parts} (h : Naming) (ps : List Piece) → Says n b ps f e → Says n b (ps ++ piece.Named h ∷ []) f (λ a q. named h (e a q))
 head_behind h ps s = changes (named h) (piece.Named h) ps (λ w. refl) s
+
+pub pair_behind : {A : Type 0} {n b : ℕ} {f : Phrase A} {e : A → Parts → Parts} (h : Pairing) (ps : List Piece) → Says n b ps f e → Says n b (ps ++ piece.Paired h ∷ []) f (λ a q. paired h (e a q))
+pair_behind h ps s = changes (paired h) (piece.Paired h) ps (λ w. refl) s
+
+pub zero_waits : {A : Type 0} {n b : ℕ} {f : Phrase A} {e : A → Parts → Parts} (ps : List Piece) → Says n b ps f e → Says n b (ps ++ piece.Nameless ∷ []) f (λ a q. waits 0 (e a q))
+zero_waits ps s = changes (waits 0) piece.Nameless ps (λ w. refl) s
 
 pub part_before : {A : Type 0} {n b : ℕ} {f : Phrase A} {e : A → Parts → Parts} (m : Make) (ps : List Piece) → Says n b ps f e → Says n b (piece.Part m ∷ ps) f (λ a q. e a (part m q))
 part_before {A} {n = n} {f = f} {e = e} m ps s = record { law = λ w. s.law (record { parts = part m w.parts; uses = w.uses; rest = w.rest }) ∙ go w (read_in n f w.rest) } where
@@ -179,76 +198,114 @@ level_says {n = n} {f = f} {e = e} b a r h k s = record {
 
 -- one level down
 
-pub record IsBelow (n : ℕ) (a : Ahead) (r : ℕ) (s : Sort) : Type 0 where
-  pub law : (w : Work) → below_step term_rows n a r w ≡ put grows w (below n s w.rest)
+pub record IsBelow (n : ℕ) (a : Ahead) (r : ℕ) (s : Sort) (e : Tree → Parts → Parts) : Type 0 where
+  pub law : (w : Work) → below_step term_rows n a r w ≡ put e w (below n s w.rest)
 
-pub deeper_says : {n : ℕ} {s : Sort} (b : ℕ) (a : Ahead) (r : ℕ) → IsBelow n a r s → Says n b (piece.Deeper a r ∷ []) (deeper s) grows
+pub deeper_says : {n : ℕ} {s : Sort} {e : Tree → Parts → Parts} (b : ℕ) (a : Ahead) (r : ℕ) → IsBelow n a r s e → Says n b (piece.Deeper a r ∷ []) (deeper s) e
 deeper_says {n = n} b a r h = record { law = λ w. then_nothing (below_step term_rows n a r w) ∙ h.law w }
 
-pub none_below : (a : Ahead) (r : ℕ) (s : Sort) → ((k : Kind) → begins a k ≡ heads s k) → IsBelow 0 a r s
-none_below a r s h = record { law = λ w. refused_put (next_is (begins a) w.rest) (next_is (heads s) w.rest) grows w (next_same (begins a) (heads s) h w.rest) }
+pub none_below : (a : Ahead) (r : ℕ) (s : Sort) (e : Tree → Parts → Parts) → ((k : Kind) → begins a k ≡ heads s k) → IsBelow 0 a r s e
+none_below a r s e h = record { law = λ w. refused_put (next_is (begins a) w.rest) (next_is (heads s) w.rest) e w (next_same (begins a) (heads s) h w.rest) }
 
 -- lists
 
-abbrev pub grown : List Tree → Parts → Parts
-grown ts = adds (flat_map postorder ts)
+-- what the items of a list make, one behind another
+abbrev pub each : {A : Type 0} → (A → Parts → Parts) → List A → Parts → Parts
+each e [] q = q
+each e (a ∷ l) q = each e l (e a q)
+
+abbrev pub listed_parts : {A : Type 0} → Closing → (A → Parts → Parts) → ℕ → List A → Parts → Parts
+listed_parts c e k l q = closed c (length l + k) (each e l q)
+
+none_more : {A : Type 0} (c : Closing) (e : A → Parts → Parts) (k : ℕ) (w : Work) → changed (closed c k) w ≡ put (listed_parts c e k) w (found [] [] w.rest)
+none_more c e k w =
+    let i : k ≡ 0 + k = omega arith in
+    ap₂ (λ j us. let v : Result Work Fault = Ok (record { parts = closed c j w.parts; uses = us; rest = w.rest }) in v) i (sym (append-nil w.uses))
+
+one_more_put : {A : Type 0} (c : Closing) (e : A → Parts → Parts) (k : ℕ) (w : Work) (x : Found Role A) (s : Read Role (List A)) → put (listed_parts c e (k + 1)) (record { parts = e x.value w.parts; uses = w.uses ++ x.uses; rest = x.rest }) s ≡ put (listed_parts c e k) w (s >>= one_more x)
+one_more_put c e k w x (Ok y) =
+    let i : length y.value + (k + 1) ≡ length (x.value ∷ y.value) + k = omega arith in
+    ap₂ (λ j us. let v : Result Work Fault = Ok (record { parts = closed c j (each e y.value (e x.value w.parts)); uses = us; rest = y.rest }) in v) i (append_assoc w.uses x.uses y.uses)
+one_more_put c e k w x (Err f) = refl
+
+more_says : {A : Type 0} (n b : ℕ) (c : Closing) (m : Mark) (r : ℕ) (f : Phrase A) (e : A → Parts → Parts) → ((w : Work) → row_in term_rows n b r w ≡ put e w (read_in n f w.rest)) → (turns k : ℕ) (w : Work) → more c m (row_in term_rows n b r) turns k w ≡ put (listed_parts c e k) w (read_many (starts heads (m ▸ f)) (read_in n (m ▸ f)) turns w.rest)
+more_says n b c m r f e h zero k w = none_more c e k w
+more_says {A} n b c m r f e h (suc turns) k w =
+    chosen_put (next_is (is_mark m) w.rest) (next_is (starts heads (m ▸ f)) w.rest)
+    (λ v. and_then (and_then (put made_no_part v (read_sign m v.rest)) (row_in term_rows n b r)) (more c m (row_in term_rows n b r) turns (k + 1))) (changed (closed c k))
+    (listed_parts c e k) w
+    (λ us. read_in n (m ▸ f) us >>= λ x. read_many (starts heads (m ▸ f)) (read_in n (m ▸ f)) turns x.rest >>= one_more x) (nothing [])
+    (next_same (is_mark m) (starts heads (m ▸ f)) (λ j. refl) w.rest)
+    (ap (λ y. and_then y (more c m (row_in term_rows n b r) turns (k + 1))) (put_both made_no_part e w (read_sign m w.rest) (row_in term_rows n b r) (read_in n f) h ∙ put_mapped (λ (p : Unit {0} × A). p.1) e w (read_in n (sign m & f) w.rest))
+    ∙ go (read_in n (m ▸ f) w.rest) (λ v. more_says n b c m r f e h turns (k + 1) v))
+    (none_more c e k w)
+  where
+    go : (s : Read Role A) → ((v : Work) → more c m (row_in term_rows n b r) turns (k + 1) v ≡ put (listed_parts c e (k + 1)) v (read_many (starts heads (m ▸ f)) (read_in n (m ▸ f)) turns v.rest)) → and_then (put e w s) (more c m (row_in term_rows n b r) turns (k + 1)) ≡ put (listed_parts c e k) w (s >>= λ x. read_many (starts heads (m ▸ f)) (read_in n (m ▸ f)) turns x.rest >>= one_more x)
+    go (Ok x) i =
+        i (record { parts = e x.value w.parts; uses = w.uses ++ x.uses; rest = x.rest })
+        ∙ one_more_put c e k w x (read_many (starts heads (m ▸ f)) (read_in n (m ▸ f)) turns x.rest)
+    go (Err y) i = refl
+
+-- an item, and others behind a symbol, where what closes the list makes its tree
+pub items_says : {A : Type 0} {n : ℕ} {f : Phrase A} {e : A → Parts → Parts} (b : ℕ) (near : Bool) (c : Closing) (m : Mark) (r : ℕ) (t : List A → Tree) → r < b → ((l : List A) (q : Parts) → closed c (length l) (each e l q) ≡ grows (t l) q) → Says n r (row_of r) f e → Says n b (piece.List c m r ∷ []) (f & many near (m ▸ f)) (λ p. grows (t (p.0 ∷ p.1)))
+items_says {A} {n = n} {f = f} {e = e} b near c m r t h k s = same_says (λ p. grows (t (p.0 ∷ p.1))) closes one where
+  row_is : (w : Work) → row_in term_rows n b r w ≡ put e w (read_in n f w.rest)
+  row_is w = row_law term_rows n b r w h ∙ s.law w
+
+  closes : (p : A × List A) (q : Parts) → listed_parts c e 1 p.1 (e p.0 q) ≡ grows (t (p.0 ∷ p.1)) q
+  closes p q =
+      let i : length p.1 + 1 ≡ length (p.0 ∷ p.1) = omega arith in
+      ap (λ j. closed c j (each e (p.0 ∷ p.1) q)) i ∙ k (p.0 ∷ p.1) q
+
+  one : Says n b (piece.List c m r ∷ []) (f & many near (m ▸ f)) (λ p q. listed_parts c e 1 p.1 (e p.0 q))
+  one = record {
+    law = λ w.
+        then_nothing (and_then (row_in term_rows n b r w) (λ v. more c m (row_in term_rows n b r) (length v.rest) 1 v))
+        ∙ (ap (λ x. and_then x (λ v. more c m (row_in term_rows n b r) (length v.rest) 1 v)) (row_is w)
+        ∙ put_both e (listed_parts c e 1) w (read_in n f w.rest) (λ v. more c m (row_in term_rows n b r) (length v.rest) 1 v) (read_in n (many near (m ▸ f))) (λ v. more_says n b c m r f e row_is (length v.rest) 1 v));
+  }
+
+pub list_says : {A : Type 0} {n : ℕ} {f : Phrase A} {e : A → Parts → Parts} (b : ℕ) (c : Closing) (m : Mark) (r : ℕ) (t : List A → Tree) → r < b → ((l : List A) (q : Parts) → closed c (length l) (each e l q) ≡ grows (t l) q) → Says n r (row_of r) f e → Says n b (piece.List c m r ∷ []) (made t (row m f)) grows
+list_says b c m r t h k s = made_says t grows (made_says (λ (a, l). a ∷ l) (λ ts. grows (t ts)) (items_says b false c m r t h k s))
+
+-- lists of trees, of pairs of names, and of names
+
+pub chain_closes : (l : List Tree) (q : Parts) → closed closing.Trees (length l) (each grows l q) ≡ grows (chain l) q
+unfolding postorder
+chain_closes [] q = refl
+chain_closes (t ∷ l) q =
+    ap (part (Over head.Cons)) (chain_closes l (grows t q))
+    ∙ ap (λ x. let p : Parts = record { names = q.names; makes = x } in p) (append_assoc (q.makes ++ postorder t) (postorder (chain l)) (Over head.Cons ∷ []) ∙ append_assoc q.makes (postorder t) (postorder (chain l) ++ Over head.Cons ∷ []))
+
+-- two names wait, the first one below
+abbrev pub both_wait : ℕ × ℕ → Parts → Parts
+both_wait p q = waits p.1 (waits p.0 q)
+
+abbrev pub item_waits : ℕ × ℕ → Parts → Parts
+item_waits p q = part Nothing (both_wait p q)
+
+abbrev pub name_waits : ℕ → Parts → Parts
+name_waits x q = part Nothing (waits x q)
+
+under_second : (m k : List Make) (h : Head) → ((m ++ Nothing ∷ []) ++ k) ++ Over h ∷ [] ≡ m ++ (Nothing ∷ (k ++ Over h ∷ []))
+under_second m k h = append_assoc (m ++ Nothing ∷ []) k (Over h ∷ []) ∙ append_assoc m (Nothing ∷ []) (k ++ Over h ∷ [])
+
+pub binders_close : (l : List (ℕ × ℕ)) (q : Parts) → closed closing.Binders (length l) (each item_waits l q) ≡ grows (binders l) q
+unfolding postorder
+binders_close [] q = refl
+binders_close (b ∷ l) q =
+    ap (paired pairing.Binder) (binders_close l (item_waits b q))
+    ∙ ap (λ x. let p : Parts = record { names = q.names; makes = x } in p) (under_second q.makes (postorder (binders l)) (head.Binder b.0 b.1))
+
+pub names_close : (l : List ℕ) (q : Parts) → closed closing.Names (length l) (each name_waits l q) ≡ grows (names l) q
+unfolding postorder
+names_close [] q = refl
+names_close (x ∷ l) q =
+    ap (named naming.Name) (names_close l (name_waits x q))
+    ∙ ap (λ y. let p : Parts = record { names = q.names; makes = y } in p) (under_second q.makes (postorder (names l)) (head.Name x))
 
 adds_more : (l k : List Make) (q : Parts) → adds l (adds k q) ≡ adds (k ++ l) q
 adds_more l k q = ap (λ x. let p : Parts = record { names = q.names; makes = x } in p) (append_assoc q.makes k l)
-
-none_more : (k : ℕ) (w : Work) → changed (closed k) w ≡ put (λ (ts : List Tree) q. closed (length ts + k) (grown ts q)) w (found [] [] w.rest)
-none_more k w =
-    let e : k ≡ 0 + k = omega arith in
-    ap₂ (λ j l. let v : Result Work Fault = Ok (record { parts = record { names = w.parts.names; makes = l ++ Nothing ∷ replicate j (Over Cons) }; uses = w.uses; rest = w.rest }) in v) e (sym (append-nil w.parts.makes))
-    ∙ ap (λ us. let v : Result Work Fault = Ok (record { parts = closed (0 + k) (grown [] w.parts); uses = us; rest = w.rest }) in v) (sym (append-nil w.uses))
-
-one_closed : (a : Tree) (l : List Tree) (k : ℕ) (q : Parts) → closed (length l + (k + 1)) (grown l (grows a q)) ≡ closed (length (a ∷ l) + k) (grown (a ∷ l) q)
-one_closed a l k q =
-    let e : length l + (k + 1) ≡ length (a ∷ l) + k = omega arith in
-    ap₂ closed e (adds_more (flat_map postorder l) (postorder a) q)
-
-one_more_put : (k : ℕ) (w : Work) (x : Found Role Tree) (s : Read Role (List Tree)) → put (λ (ts : List Tree) q. closed (length ts + (k + 1)) (grown ts q)) (record { parts = grows x.value w.parts; uses = w.uses ++ x.uses; rest = x.rest }) s ≡ put (λ (ts : List Tree) q. closed (length ts + k) (grown ts q)) w (s >>= one_more x)
-one_more_put k w x (Ok y) =
-    ap₂ (λ q us. let v : Result Work Fault = Ok (record { parts = q; uses = us; rest = y.rest }) in v) (one_closed x.value y.value k w.parts) (append_assoc w.uses x.uses y.uses)
-one_more_put k w x (Err f) = refl
-
-more_says : (n b : ℕ) (m : Mark) (r : ℕ) (f : Phrase Tree) → ((w : Work) → row_in term_rows n b r w ≡ put grows w (read_in n f w.rest)) → (turns k : ℕ) (w : Work) → more m (row_in term_rows n b r) turns k w ≡ put (λ (ts : List Tree) q. closed (length ts + k) (grown ts q)) w (read_many (starts heads (m ▸ f)) (read_in n (m ▸ f)) turns w.rest)
-more_says n b m r f h zero k w = none_more k w
-more_says n b m r f h (suc turns) k w =
-    chosen_put (next_is (is_mark m) w.rest) (next_is (starts heads (m ▸ f)) w.rest)
-    (λ v. and_then (and_then (put made_no_part v (read_sign m v.rest)) (row_in term_rows n b r)) (more m (row_in term_rows n b r) turns (k + 1))) (changed (closed k))
-    (λ (ts : List Tree) q. closed (length ts + k) (grown ts q)) w
-    (λ us. read_in n (m ▸ f) us >>= λ x. read_many (starts heads (m ▸ f)) (read_in n (m ▸ f)) turns x.rest >>= one_more x) (nothing [])
-    (next_same (is_mark m) (starts heads (m ▸ f)) (λ j. refl) w.rest)
-    (ap (λ y. and_then y (more m (row_in term_rows n b r) turns (k + 1))) (put_both made_no_part grows w (read_sign m w.rest) (row_in term_rows n b r) (read_in n f) h ∙ put_mapped (λ (p : Unit {0} × Tree). p.1) grows w (read_in n (sign m & f) w.rest))
-    ∙ go (read_in n (m ▸ f) w.rest) (λ v. more_says n b m r f h turns (k + 1) v))
-    (none_more k w)
-  where
-    go : (s : Read Role Tree) → ((v : Work) → more m (row_in term_rows n b r) turns (k + 1) v ≡ put (λ (ts : List Tree) q. closed (length ts + (k + 1)) (grown ts q)) v (read_many (starts heads (m ▸ f)) (read_in n (m ▸ f)) turns v.rest)) → and_then (put grows w s) (more m (row_in term_rows n b r) turns (k + 1)) ≡ put (λ (ts : List Tree) q. closed (length ts + k) (grown ts q)) w (s >>= λ x. read_many (starts heads (m ▸ f)) (read_in n (m ▸ f)) turns x.rest >>= one_more x)
-    go (Ok x) i =
-        i (record { parts = grows x.value w.parts; uses = w.uses ++ x.uses; rest = x.rest })
-        ∙ one_more_put k w x (read_many (starts heads (m ▸ f)) (read_in n (m ▸ f)) turns x.rest)
-    go (Err e) i = refl
-
-chain_closed : (c : Tree × List Tree) (q : Parts) → closed (length c.1 + 1) (grown c.1 (grows c.0 q)) ≡ grows (chain (c.0 ∷ c.1)) q
-chain_closed c q =
-    let e : length c.1 + 1 ≡ length (c.0 ∷ c.1) = omega arith in
-    let l = postorder c.0 ++ flat_map postorder c.1 in
-    ap₂ closed e (adds_more (flat_map postorder c.1) (postorder c.0) q)
-    ∙ ap (λ x. let p : Parts = record { names = q.names; makes = x } in p) (append_assoc q.makes l (Nothing ∷ replicate (length (c.0 ∷ c.1)) (Over Cons)) ∙ ap (λ x. q.makes ++ x) (chain_made (c.0 ∷ c.1)))
-
-pub list_says : {n : ℕ} {f : Phrase Tree} (b : ℕ) (m : Mark) (r : ℕ) → r < b → Says n r (row_of r) f grows → Says n b (piece.List m r ∷ []) (made chain (row m f)) grows
-list_says {n = n} {f = f} b m r h s = made_says chain grows (made_says (λ (a, l). a ∷ l) (λ ts. grows (chain ts)) (same_says (λ c. grows (chain (c.0 ∷ c.1))) chain_closed one)) where
-  row_is : (w : Work) → row_in term_rows n b r w ≡ put grows w (read_in n f w.rest)
-  row_is w = row_law term_rows n b r w h ∙ s.law w
-
-  one : Says n b (piece.List m r ∷ []) (f & many false (m ▸ f)) (λ c q. closed (length c.1 + 1) (grown c.1 (grows c.0 q)))
-  one = record {
-    law = λ w.
-        then_nothing (and_then (row_in term_rows n b r w) (λ v. more m (row_in term_rows n b r) (length v.rest) 1 v))
-        ∙ (ap (λ x. and_then x (λ v. more m (row_in term_rows n b r) (length v.rest) 1 v)) (row_is w)
-        ∙ put_both grows (λ (ts : List Tree) q. closed (length ts + 1) (grown ts q)) w (read_in n f w.rest) (λ v. more m (row_in term_rows n b r) (length v.rest) 1 v) (read_in n (many false (m ▸ f))) (λ v. more_says n b m r f row_is (length v.rest) 1 v));
-  }
 
 -- tails: what may stand behind a tree, and goes around it
 

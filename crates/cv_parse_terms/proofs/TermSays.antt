@@ -16,40 +16,41 @@ use Rattle.cv_parse_grammar.specs.Terms.{yes, terms, arguments, subscript, paren
 use Rattle.cv_parse_terms.specs.declared.piece.Ahead.{Ahead}
 use Rattle.cv_parse_terms.specs.declared.piece.Ahead.TheVariants as ahead
 use Rattle.cv_parse_terms.specs.declared.piece.Naming.TheVariants as naming
+use Rattle.cv_parse_terms.specs.declared.piece.Closing.TheVariants as closing
 use Rattle.cv_parse_terms.specs.declared.piece.Piece.{Piece}
 use Rattle.cv_parse_terms.specs.declared.piece.Piece.TheVariants as piece
 use Rattle.cv_parse_terms.specs.Gives.{below, read_in, parts_of_both}
 use Rattle.cv_parse_terms.specs.Tables.{Parts, Work, changed, last_name, made_no_part, named, other_names, part, pieces_in, put, row_in, waits}
-use Rattle.cv_parse_terms.specs.TermRows.{row_of, term_rows}
+use Rattle.cv_parse_terms.specs.TermRows.{row_count, row_of, term_rows}
 use Rattle.cv_parse_terms.proofs.Levels.{below_is as sort_below}
 use Rattle.cv_parse_terms.proofs.Walks.{row_law}
-use Rattle.cv_parse_terms.proofs.Saying.{AllTails, IsBelow, Says, adds, after_says, between, both_says, deeper_says, either_may_says, either_says, either_tails, grows, head_behind, joins, level_says, list_says, made_says, made_tails, may_says, maybe_joins, none_below, note_says, part_before, part_behind, row_says, same_says, sign_before, sign_says, word_says}
+use Rattle.cv_parse_terms.proofs.Saying.{AllTails, IsBelow, Says, adds, after_says, between, both_says, chain_closes, deeper_says, either_may_says, either_says, either_tails, grows, head_behind, joins, level_says, list_says, made_says, made_tails, may_says, maybe_joins, none_below, note_says, part_before, part_behind, row_says, same_says, sign_before, sign_says, word_says}
 
 -- the phrases one level down
 pub record Deep (n : ℕ) : Type 0 where
-  pub term : IsBelow n ahead.Term 37 Term
-  pub conjunction : IsBelow n ahead.Term 34 Conjunction
-  pub primary : IsBelow n ahead.Term 24 Primary
-  pub unequal : IsBelow n (ahead.Mark mark.Differ) 26 Unequal
-  pub arguments : IsBelow n (ahead.Mark mark.Open) 4 Arguments
-  pub subscript : IsBelow n (ahead.Mark mark.OpenSquare) 6 Subscript
-  pub parentheses : IsBelow n (ahead.Mark mark.Open) 8 Parentheses
-  pub cells : IsBelow n (ahead.Mark mark.Open) 44 Cells
-  pub cell : IsBelow n ahead.Word 41 OneCell
+  pub term : IsBelow n ahead.Term 37 Term grows
+  pub conjunction : IsBelow n ahead.Term 34 Conjunction grows
+  pub primary : IsBelow n ahead.Term 24 Primary grows
+  pub unequal : IsBelow n (ahead.Mark mark.Differ) 26 Unequal grows
+  pub arguments : IsBelow n (ahead.Mark mark.Open) 4 Arguments grows
+  pub subscript : IsBelow n (ahead.Mark mark.OpenSquare) 6 Subscript grows
+  pub parentheses : IsBelow n (ahead.Mark mark.Open) 8 Parentheses grows
+  pub cells : IsBelow n (ahead.Mark mark.Open) 44 Cells grows
+  pub cell : IsBelow n ahead.Word 41 OneCell grows
 
 -- parts of nodes
 
-three : (m a : List Make) (x y : Make) → ((m ++ a) ++ x ∷ []) ++ y ∷ [] ≡ m ++ (a ++ (x ∷ (y ∷ [])))
+pub three : (m a : List Make) (x y : Make) → ((m ++ a) ++ x ∷ []) ++ y ∷ [] ≡ m ++ (a ++ (x ∷ (y ∷ [])))
 three m a x y = append_assoc (m ++ a) (x ∷ []) (y ∷ []) ∙ append_assoc m a (x ∷ (y ∷ []))
 
-with_makes : (q : Parts) (l k : List Make) → l ≡ k → (let p : Parts = record { names = q.names; makes = l } in p) ≡ record { names = q.names; makes = k }
+pub with_makes : (q : Parts) (l k : List Make) → l ≡ k → (let p : Parts = record { names = q.names; makes = l } in p) ≡ record { names = q.names; makes = k }
 with_makes q l k e = ap (λ x. let p : Parts = record { names = q.names; makes = x } in p) e
 
-closes_node : (h : Head) (t : Tree) (q : Parts) → part (Over h) (part Nothing (grows t q)) ≡ grows (Node h t Empty) q
+pub closes_node : (h : Head) (t : Tree) (q : Parts) → part (Over h) (part Nothing (grows t q)) ≡ grows (Node h t Empty) q
 unfolding postorder
 closes_node h t q = with_makes q _ _ (three q.makes (postorder t) Nothing (Over h))
 
-closes_leaf : (h : Head) (q : Parts) → part (Over h) (part Nothing (part Nothing q)) ≡ grows (lone h) q
+pub closes_leaf : (h : Head) (q : Parts) → part (Over h) (part Nothing (part Nothing q)) ≡ grows (lone h) q
 unfolding postorder
 closes_leaf h q = with_makes q _ _ (three q.makes (Nothing ∷ []) Nothing (Over h))
 
@@ -78,12 +79,12 @@ pub says_inner : (n : ℕ) → Deep n → Says n 1 (row_of 1) (deeper Term) grow
 says_inner n d = deeper_says 1 ahead.Term 37 d.term
 
 pub says_terms : (n : ℕ) → Deep n → Says n 2 (row_of 2) terms grows
-says_terms n d = list_says 2 mark.Comma 1 (lit< tt) (says_inner n d)
+says_terms n d = list_says 2 closing.Trees mark.Comma 1 chain (lit< tt) chain_closes (says_inner n d)
 
 pub says_arguments : (n : ℕ) → Deep n → Says n 4 (row_of 4) arguments grows
 says_arguments n d = level_says 4 (ahead.Mark mark.Open) 3 (lit< tt) (λ k. refl) (between mark.Open mark.Close (piece.Row 2 ∷ []) (row_says 3 2 (lit< tt) (says_terms n d)))
 
-says_subscript : (n : ℕ) → Deep n → Says n 6 (row_of 6) subscript grows
+pub says_subscript : (n : ℕ) → Deep n → Says n 6 (row_of 6) subscript grows
 says_subscript n d = level_says 6 (ahead.Mark mark.OpenSquare) 5 (lit< tt) (λ k. refl) (between mark.OpenSquare mark.CloseSquare (piece.Row 2 ∷ []) (row_says 5 2 (lit< tt) (says_terms n d)))
 
 says_parentheses : (n : ℕ) → Deep n → Says n 8 (row_of 8) parentheses grows
@@ -141,7 +142,7 @@ says_negation n d =
     (part_behind (Over head.Not) (not_one ++ piece.Part Nothing ∷ []) (part_behind Nothing not_one
     (sign_before mark.Not (piece.Deeper (ahead.Mark mark.Open) 8 ∷ []) (deeper_says 15 (ahead.Mark mark.Open) 8 d.parentheses))))))
 
-says_constant : (n b : ℕ) (m : Mark) (h : Head) → Says n b (piece.Sign m ∷ (piece.Part Nothing ∷ (piece.Part Nothing ∷ (piece.Part (Over h) ∷ [])))) (made (λ _. lone h) (sign m)) grows
+pub says_constant : (n b : ℕ) (m : Mark) (h : Head) → Says n b (piece.Sign m ∷ (piece.Part Nothing ∷ (piece.Part Nothing ∷ (piece.Part (Over h) ∷ [])))) (made (λ _. lone h) (sign m)) grows
 says_constant n b m h =
     made_says (λ _. lone h) grows
     (same_says (λ _. grows (lone h)) (λ _ q. closes_leaf h q)
@@ -167,14 +168,14 @@ joined_tail : (h : Head) (r t : Tree) → postorder (joined_to h r t) ≡ postor
 unfolding postorder
 joined_tail h r t = refl
 
-says_joining : {n : ℕ} {s : Sort} (b : ℕ) (m : Mark) (i : ℕ) (a : Ahead) (r : ℕ) (h : Head) → i < b → Says n i (row_of i) (sign m) made_no_part → IsBelow n a r s → Says n b (piece.Level (ahead.Mark m) i ∷ (piece.Deeper a r ∷ (piece.Part (Over h) ∷ []))) (made (λ (x, r) l. Node h l r) (level (sign m) & deeper s)) joins
+pub says_joining : {n : ℕ} {s : Sort} (b : ℕ) (m : Mark) (i : ℕ) (a : Ahead) (r : ℕ) (h : Head) → i < b → Says n i (row_of i) (sign m) made_no_part → IsBelow n a r s grows → Says n b (piece.Level (ahead.Mark m) i ∷ (piece.Deeper a r ∷ (piece.Part (Over h) ∷ []))) (made (λ (x, r) l. Node h l r) (level (sign m) & deeper s)) joins
 says_joining b m i a r h l s d =
     made_says (λ (x, r) l. Node h l r) joins
     (same_says (λ c. joins (joined_to h c.1)) (λ c q. closes_tail h c.1 q)
     (part_behind (Over h) (piece.Level (ahead.Mark m) i ∷ (piece.Deeper a r ∷ []))
     (both_says (piece.Level (ahead.Mark m) i ∷ []) (piece.Deeper a r ∷ []) (level_says b (ahead.Mark m) i l (λ k. refl) s) (deeper_says b a r d))))
 
-joining_tails : (n : ℕ) (m : Mark) (s : Sort) (h : Head) → AllTails n (made (λ (x, r) l. Node h l r) (level (sign m) & deeper s))
+pub joining_tails : (n : ℕ) (m : Mark) (s : Sort) (h : Head) → AllTails n (made (λ (x, r) l. Node h l r) (level (sign m) & deeper s))
 unfolding postorder
 joining_tails n m s h = made_tails (λ (x, r) l. Node h l r) (λ c t. joined_tail h c.1 t)
 
@@ -243,7 +244,7 @@ says_cell_index n d =
     same_says (λ l. behind_cell (Some l)) closes_read
     (head_behind naming.Read (cell_index ++ piece.Part Nothing ∷ []) (part_behind Nothing cell_index (deeper_says 38 (ahead.Mark mark.OpenSquare) 6 d.subscript)))
 
-changed_same : (c e : Parts → Parts) (w : Work) → c w.parts ≡ e w.parts → changed c w ≡ changed e w
+pub changed_same : (c e : Parts → Parts) (w : Work) → c w.parts ≡ e w.parts → changed c w ≡ changed e w
 changed_same c e w h = ap (λ q. changed (λ p. q) w) h
 
 pub says_cell : (n : ℕ) → Deep n → Says n 41 (row_of 41) cell grows
@@ -260,7 +261,7 @@ says_inner_cell n d = deeper_says 42 ahead.Word 41 d.cell
 says_cells : (n : ℕ) → Deep n → Says n 44 (row_of 44) cells grows
 says_cells n d =
     level_says 44 (ahead.Mark mark.Open) 43 (lit< tt) (λ k. refl)
-    (between mark.Open mark.Close (piece.List mark.Comma 42 ∷ []) (list_says 43 mark.Comma 42 (lit< tt) (says_inner_cell n d)))
+    (between mark.Open mark.Close (piece.List closing.Trees mark.Comma 42 ∷ []) (list_says 43 closing.Trees mark.Comma 42 chain (lit< tt) chain_closes (says_inner_cell n d)))
 
 -- conditions
 
@@ -302,7 +303,7 @@ says_one n d =
     (same_says (λ t. grows (chain (t ∷ []))) (λ t q. closes_node head.Cons t q)
     (part_behind (Over head.Cons) (piece.Row 1 ∷ (piece.Part Nothing ∷ [])) (part_behind Nothing (piece.Row 1 ∷ []) (row_says 53 1 (lit< tt) (says_inner n d)))))
 
-no_list : (w : Work) → changed (part Nothing) w ≡ changed (grows Empty) w
+pub no_list : (w : Work) → changed (part Nothing) w ≡ changed (grows Empty) w
 unfolding postorder
 no_list w = refl
 
@@ -313,22 +314,22 @@ says_maybe_terms n d =
 
 -- by the levels that are left
 
-one_below : (n : ℕ) (a : Ahead) (r : ℕ) (s : Sort) → r < 56 → Says n r (row_of r) (rule s) grows → IsBelow (suc n) a r s
-one_below n a r s h x = record {
-  law = λ w. row_law term_rows n 56 r w h ∙ (x.law w ∙ ap (put grows w) (sym (sort_below (suc n) n s w.rest refl)));
+pub one_below : {e : Tree → Parts → Parts} (n : ℕ) (a : Ahead) (r : ℕ) (s : Sort) → r < row_count → Says n r (row_of r) (rule s) e → IsBelow (suc n) a r s e
+one_below {e = e} n a r s h x = record {
+  law = λ w. row_law term_rows n row_count r w h ∙ (x.law w ∙ ap (put e w) (sym (sort_below (suc n) n s w.rest refl)));
 }
 
 pub deep : (n : ℕ) → Deep n
 deep zero = record {
-  term = none_below ahead.Term 37 Term (λ k. refl);
-  conjunction = none_below ahead.Term 34 Conjunction (λ k. refl);
-  primary = none_below ahead.Term 24 Primary (λ k. refl);
-  unequal = none_below (ahead.Mark mark.Differ) 26 Unequal (λ k. refl);
-  arguments = none_below (ahead.Mark mark.Open) 4 Arguments (λ k. refl);
-  subscript = none_below (ahead.Mark mark.OpenSquare) 6 Subscript (λ k. refl);
-  parentheses = none_below (ahead.Mark mark.Open) 8 Parentheses (λ k. refl);
-  cells = none_below (ahead.Mark mark.Open) 44 Cells (λ k. refl);
-  cell = none_below ahead.Word 41 OneCell (λ k. refl);
+  term = none_below ahead.Term 37 Term grows (λ k. refl);
+  conjunction = none_below ahead.Term 34 Conjunction grows (λ k. refl);
+  primary = none_below ahead.Term 24 Primary grows (λ k. refl);
+  unequal = none_below (ahead.Mark mark.Differ) 26 Unequal grows (λ k. refl);
+  arguments = none_below (ahead.Mark mark.Open) 4 Arguments grows (λ k. refl);
+  subscript = none_below (ahead.Mark mark.OpenSquare) 6 Subscript grows (λ k. refl);
+  parentheses = none_below (ahead.Mark mark.Open) 8 Parentheses grows (λ k. refl);
+  cells = none_below (ahead.Mark mark.Open) 44 Cells grows (λ k. refl);
+  cell = none_below ahead.Word 41 OneCell grows (λ k. refl);
 }
 deep (suc n) =
     let d : Deep n = deep n in

@@ -1,16 +1,16 @@
 -- Steps over the tokens, as the code takes them.
 use Rattle.std.proofs.Common.{◌≡◌, ℕ, zero, suc, ◌+◌, ◌-◌, ◌<◌, ◌≤◌, Bool, true, false, List, [], ◌∷◌, ◌++◌, length, drop, refl, ap, ap₂, sym, ◌∙◌, arith, subst, append-nil, reverse, length-drop, get_or, slice_index_or, eqb, eqb-true, Option, Some, None, Result, Ok, Err, IfOk, IfErr, IsErrAnd}
-use Rattle.std.specs.Prelude.{MatchOption, option_to_list, replicate, unwrap_or}
+use Rattle.std.specs.Prelude.{MatchOption, option_to_list, unwrap_or}
 use Rattle.std.proofs.lemmas.Bool.{eqb-false}
 use Rattle.std.proofs.lemmas.List.{length-map, reverse-append}
 use Rattle.std.specs.Borrow.{Bor}
 use Rattle.cv_syntax.specs.declared.make.Make.{Make}
 use Rattle.cv_syntax.specs.declared.make.Make.TheVariants.{Nothing, Over}
-use Rattle.cv_syntax_trees.specs.declared.head.Head.TheVariants.{Cons}
+use Rattle.cv_syntax_trees.specs.declared.head.Head.{Head}
 use Rattle.cv_parse_notation.specs.declared.sign.Sign.{Sign}
 use Rattle.cv_parse_notation.specs.declared.sign.Mark.{Mark}
 use Rattle.cv_parse_notation.specs.Spells.{next_is, is_mark}
-use Rattle.cv_parse_notation.specs.Reads.{Fault, Syntax, Nesting, Read, Found, read_sign, read_word}
+use Rattle.cv_parse_notation.specs.Reads.{Fault, Syntax, Nesting, Read, Found, read_sign, read_word, read_nought, read_find, read_number}
 use Rattle.cv_parse_grammar.specs.declared.role.Role.{Role}
 use Rattle.cv_parse_terms.specs.declared.lookahead.ReadError.{ReadError}
 use Rattle.cv_parse_terms.specs.declared.lookahead.ReadError.TheVariants as error
@@ -18,10 +18,12 @@ use Rattle.cv_parse_terms.specs.declared.trail.NameUse.{NameUse}
 use Rattle.cv_parse_terms.specs.declared.trail.Trail.{Trail}
 use Rattle.cv_parse_terms.specs.declared.piece.Ahead.{Ahead}
 use Rattle.cv_parse_terms.specs.declared.piece.Naming.{Naming}
+use Rattle.cv_parse_terms.specs.declared.piece.Pairing.{Pairing}
+use Rattle.cv_parse_terms.specs.declared.piece.Closing.{Closing}
 use Rattle.cv_parse_terms.specs.declared.piece.Piece.{Piece}
 use Rattle.cv_parse_terms.specs.declared.piece.Piece.TheVariants as node
-use Rattle.cv_parse_terms.specs.Gives.{Fails, IsRead, Shallow, Stands, positive, read_note, uses_of}
-use Rattle.cv_parse_terms.specs.Tables.{Parts, Work, Step, Runs, Stops, Table, and_then, begins, below_step, changed, chosen, closed, made_no_part, more, named, head_of, no_room, parts_of, piece_in, pieces_in, pieces_step, put, refused, row_in, rows_of, waits, work_of}
+use Rattle.cv_parse_terms.specs.Gives.{Fails, IsPlain, IsRead, Passes, Shallow, Stands, positive, read_note, uses_of}
+use Rattle.cv_parse_terms.specs.Tables.{Parts, Work, Step, Runs, Stops, Table, and_then, begins, below_step, changed, chosen, closed, closer, instead, last_name, made_no_part, more, named, head_of, other_names, pair_of, paired, part, repeated, no_room, parts_of, piece_in, pieces_in, pieces_step, put, refused, row_in, rows_of, waits, work_of}
 
 -- faults
 
@@ -66,6 +68,23 @@ sign_runs all t ns m at (Err x) s f = fails_put made_no_part all x (work_of t ns
 pub word_runs : (all : List Sign) (s t : Trail) (ns ms : List ℕ) (role : Role) (at x p : ℕ) → IsRead all s.uses.items t.uses.items (read_word role (drop at all)) x p → t.makes ≡ s.makes → ms ≡ ns ++ x ∷ [] → Runs all (Ok p) t ms (put waits (work_of s ns (drop at all)) (read_word role (drop at all)))
 word_runs all s t ns ms role at x p d m n = put_read waits all s t ns ms (drop at all) (read_word role (drop at all)) x p d (ap₂ (λ xs v. let q : Parts = record { names = xs; makes = v.items } in q) (ap reverse n ∙ reverse-append ns (x ∷ [])) m)
 
+pub zero_runs : (all : List Sign) (t : Trail) (ns : List ℕ) (at : ℕ) (r : Result ℕ ReadError) → Passes all r (read_nought (drop at all)) → Runs all r t ns (put made_no_part (work_of t ns (drop at all)) (read_nought (drop at all)))
+zero_runs all t ns at (Ok end) d = (d.within, ap (put made_no_part (work_of t ns (drop at all))) d.is ∙ ap (λ us. let w : Result Work Fault = Ok (record { parts = parts_of t ns; uses = us; rest = drop end all }) in w) (append-nil (uses_of t.uses.items)))
+zero_runs all t ns at (Err x) d = fails_put made_no_part all x (work_of t ns (drop at all)) (read_nought (drop at all)) d
+
+plain_runs : (e : ℕ → Parts → Parts) (all : List Sign) (s t : Trail) (ns ms : List ℕ) (ts : List Sign) (r : Read Role ℕ) (x p : ℕ) → IsPlain all r x p → t.uses ≡ s.uses → parts_of t ms ≡ e x (parts_of s ns) → Runs all (Ok p) t ms (put e (work_of s ns ts) r)
+plain_runs e all s t ns ms ts r x p d u h =
+    (d.within, ap (put e (work_of s ns ts)) d.is ∙ ap₂ (λ q us. let w : Result Work Fault = Ok (record { parts = q; uses = us; rest = drop p all }) in w) (sym h) (append-nil (uses_of s.uses.items) ∙ sym (ap (λ v. uses_of v.items) u)))
+
+pub find_runs : (all : List Sign) (t : Trail) (ns ms : List ℕ) (at x p : ℕ) → IsPlain all (read_find (drop at all)) x p → ms ≡ ns ++ x ∷ [] → Runs all (Ok p) t ms (put waits (work_of t ns (drop at all)) (read_find (drop at all)))
+find_runs all t ns ms at x p d n = plain_runs waits all t t ns ms (drop at all) (read_find (drop at all)) x p d refl (ap (λ xs. let q : Parts = record { names = xs; makes = t.makes.items } in q) (ap reverse n ∙ reverse-append ns (x ∷ [])))
+
+pub number_runs : (all : List Sign) (t : Trail) (ns ms ls : List ℕ) (at x p : ℕ) → IsPlain all (read_number (drop at all)) x p → reverse ms ≡ other_names (reverse ns) → ls ≡ ms ++ x ∷ [] → Runs all (Ok p) t ls (put instead (work_of t ns (drop at all)) (read_number (drop at all)))
+number_runs all t ns ms ls at x p d n m = plain_runs instead all t t ns ls (drop at all) (read_number (drop at all)) x p d refl (ap (λ xs. let q : Parts = record { names = xs; makes = t.makes.items } in q) (ap reverse m ∙ (reverse-append ms (x ∷ []) ∙ ap (λ l. x ∷ l) n)))
+
+pub nameless_runs : (all : List Sign) (t : Trail) (ns ms : List ℕ) (at : ℕ) → at ≤ length all → ms ≡ ns ++ 0 ∷ [] → Runs all (Ok at) t ms (changed (waits 0) (work_of t ns (drop at all)))
+nameless_runs all t ns ms at l n = (l, ap (λ xs. let w : Result Work Fault = Ok (record { parts = record { names = xs; makes = t.makes.items }; uses = uses_of t.uses.items; rest = drop at all }) in w) (sym (ap reverse n ∙ reverse-append ns (0 ∷ []))))
+
 pub note_runs : (all : List Sign) (s t : Trail) (ns : List ℕ) (role : Role) (at n : ℕ) → IsRead all s.uses.items t.uses.items (read_note role (drop at all)) n at → t.makes ≡ s.makes → Runs all (Ok at) t ns (put made_no_part (work_of s ns (drop at all)) (read_note role (drop at all)))
 note_runs all s t ns role at n d m = put_read made_no_part all s t ns ns (drop at all) (read_note role (drop at all)) n at d (ap (λ v. let q : Parts = record { names = reverse ns; makes = v.items } in q) m)
 
@@ -75,16 +94,28 @@ none_waits : (ns : List ℕ) → length ns ≡ 0 → ns ≡ []
 none_waits [] h = refl
 none_waits (x ∷ ns) h = absurd (omega (arith, h))
 
-pub name_leaves : (h : Naming) (s t : Trail) (ns ms : List ℕ) (o : Option ℕ) (x : ℕ) → ns ≡ ms ++ option_to_list o → MatchOption o ((length ns ≡ 0) × (length ms ≡ 0)) (λ _. length ms + 1 ≡ length ns) → x ≡ unwrap_or o 0 → t.makes.items ≡ s.makes.items ++ Over (head_of h x) ∷ [] → parts_of t ms ≡ named h (parts_of s ns)
-name_leaves h s t ns ms (Some y) x e n i m =
+pub last_leaves : (ns ms : List ℕ) (o : Option ℕ) (x : ℕ) → ns ≡ ms ++ option_to_list o → MatchOption o ((length ns ≡ 0) × (length ms ≡ 0)) (λ _. length ms + 1 ≡ length ns) → x ≡ unwrap_or o 0 → (x ≡ last_name (reverse ns)) × (reverse ms ≡ other_names (reverse ns))
+last_leaves ns ms (Some y) x e n i =
     let r : reverse ns ≡ y ∷ reverse ms = ap reverse e ∙ reverse-append ms (y ∷ []) in
-    ap (λ l. let q : Parts = record { names = reverse ms; makes = l } in q) (m ∙ ap (λ z. s.makes.items ++ Over (head_of h z) ∷ []) i)
-    ∙ ap (λ l. named h (record { names = l; makes = s.makes.items })) (sym r)
-name_leaves h s t ns ms None x e n i m =
+    (i ∙ sym (ap last_name r), sym (ap other_names r))
+last_leaves ns ms None x e n i =
     let empty : ns ≡ [] = none_waits ns n.0 in
     let same : ms ≡ [] = none_waits ms n.1 in
-    ap₂ (λ l k. let q : Parts = record { names = reverse l; makes = k } in q) same (m ∙ ap (λ z. s.makes.items ++ Over (head_of h z) ∷ []) i)
-    ∙ ap (λ l. named h (record { names = reverse l; makes = s.makes.items })) (sym empty)
+    (i ∙ sym (ap (λ l. last_name (reverse l)) empty), ap reverse same ∙ sym (ap (λ l. other_names (reverse l)) empty))
+
+pub name_leaves : (h : Naming) (s t : Trail) (ns ms : List ℕ) (x : ℕ) (k : Head) → x ≡ last_name (reverse ns) → reverse ms ≡ other_names (reverse ns) → k ≡ head_of h x → t.makes.items ≡ s.makes.items ++ Over k ∷ [] → parts_of t ms ≡ named h (parts_of s ns)
+name_leaves h s t ns ms x k a b d m =
+    ap₂ (λ l y. let q : Parts = record { names = l; makes = y } in q) b (m ∙ ap (λ z. s.makes.items ++ Over z ∷ []) (d ∙ ap (head_of h) a))
+
+pub pair_leaves : (h : Pairing) (s t : Trail) (ns ms ls : List ℕ) (x y : ℕ) (k : Head) → y ≡ last_name (reverse ns) → reverse ms ≡ other_names (reverse ns) → x ≡ last_name (reverse ms) → reverse ls ≡ other_names (reverse ms) → k ≡ pair_of h x y → t.makes.items ≡ s.makes.items ++ Over k ∷ [] → parts_of t ls ≡ paired h (parts_of s ns)
+pair_leaves h s t ns ms ls x y k a b d e f m =
+    ap₂ (λ l z. let q : Parts = record { names = l; makes = z } in q) (e ∙ ap other_names b) (m ∙ ap (λ z. s.makes.items ++ Over z ∷ []) (f ∙ ap₂ (pair_of h) (d ∙ ap last_name b) a))
+
+pub repeated_more : (n : ℕ) (f : Parts → Parts) (q : Parts) → repeated (n + 1) f q ≡ f (repeated n f q)
+repeated_more n f q = let i : n + 1 ≡ suc n = omega arith in ap (λ k. repeated k f q) i
+
+pub closes_more : (n : ℕ) (c : Closing) (s t u : Trail) (ns ms ls : List ℕ) → parts_of t ms ≡ closed c n (parts_of s ns) → parts_of u ls ≡ closer c (parts_of t ms) → parts_of u ls ≡ closed c (n + 1) (parts_of s ns)
+closes_more n c s t u ns ms ls e d = d ∙ (ap (closer c) e ∙ sym (repeated_more n (closer c) (part Nothing (parts_of s ns))))
 
 -- pieces one behind another
 
@@ -120,44 +151,44 @@ chosen_second : (b : Bool) (p q : Step) (w : Work) → b ≡ false → chosen b 
 chosen_second true p q w h = absurd (cc)
 chosen_second false p q w h = refl
 
-more_first : (m : Mark) (p : Step) (n k : ℕ) (w : Work) → 0 < n → next_is (is_mark m) w.rest ≡ true → more m p n k w ≡ and_then (and_then (put made_no_part w (read_sign m w.rest)) p) (more m p (n - 1) (k + 1))
-more_first m p zero k w h e = absurd (omega arith)
-more_first m p (suc n) k w h e =
+more_first : (c : Closing) (m : Mark) (p : Step) (n k : ℕ) (w : Work) → 0 < n → next_is (is_mark m) w.rest ≡ true → more c m p n k w ≡ and_then (and_then (put made_no_part w (read_sign m w.rest)) p) (more c m p (n - 1) (k + 1))
+more_first c m p zero k w h e = absurd (omega arith)
+more_first c m p (suc n) k w h e =
     let i : n ≡ suc n - 1 = omega arith in
-    chosen_first (next_is (is_mark m) w.rest) (λ v. and_then (and_then (put made_no_part v (read_sign m v.rest)) p) (more m p n (k + 1))) (changed (closed k)) w e
-    ∙ ap (λ j. and_then (and_then (put made_no_part w (read_sign m w.rest)) p) (more m p j (k + 1))) i
+    chosen_first (next_is (is_mark m) w.rest) (λ v. and_then (and_then (put made_no_part v (read_sign m v.rest)) p) (more c m p n (k + 1))) (changed (closed c k)) w e
+    ∙ ap (λ j. and_then (and_then (put made_no_part w (read_sign m w.rest)) p) (more c m p j (k + 1))) i
 
-more_second : (m : Mark) (p : Step) (n k : ℕ) (w : Work) → next_is (is_mark m) w.rest ≡ false → more m p n k w ≡ changed (closed k) w
-more_second m p zero k w e = refl
-more_second m p (suc n) k w e = chosen_second (next_is (is_mark m) w.rest) (λ v. and_then (and_then (put made_no_part v (read_sign m v.rest)) p) (more m p n (k + 1))) (changed (closed k)) w e
+more_second : (c : Closing) (m : Mark) (p : Step) (n k : ℕ) (w : Work) → next_is (is_mark m) w.rest ≡ false → more c m p n k w ≡ changed (closed c k) w
+more_second c m p zero k w e = refl
+more_second c m p (suc n) k w e = chosen_second (next_is (is_mark m) w.rest) (λ v. and_then (and_then (put made_no_part v (read_sign m v.rest)) p) (more c m p n (k + 1))) (changed (closed c k)) w e
 
-more_zero : (m : Mark) (p : Step) (n k : ℕ) (w : Work) → n ≤ 0 → more m p n k w ≡ changed (closed k) w
-more_zero m p zero k w h = refl
-more_zero m p (suc n) k w h = absurd (omega arith)
+more_zero : (c : Closing) (m : Mark) (p : Step) (n k : ℕ) (w : Work) → n ≤ 0 → more c m p n k w ≡ changed (closed c k) w
+more_zero c m p zero k w h = refl
+more_zero c m p (suc n) k w h = absurd (omega arith)
 
-pub list_goes : (m : Mark) (p : Step) (all : List Sign) (s t : Trail) (ns ms : List ℕ) (at next end n k : ℕ) (whole : Result Work Fault) → 0 < n → next_is (is_mark m) (drop at all) ≡ true → Runs all (Ok next) s ns (put made_no_part (work_of s ns (drop at all)) (read_sign m (drop at all))) → Runs all (Ok end) t ms (p (work_of s ns (drop next all))) → more m p n k (work_of s ns (drop at all)) ≡ whole → more m p (n - 1) (k + 1) (work_of t ms (drop end all)) ≡ whole
-list_goes m p all s t ns ms at next end n k whole h e a b i =
-    sym (more_first m p n k (work_of s ns (drop at all)) h e
-    ∙ (ap (λ y. and_then (and_then y p) (more m p (n - 1) (k + 1))) a.1 ∙ ap (λ y. and_then y (more m p (n - 1) (k + 1))) b.1)) ∙ i
+pub list_goes : (c : Closing) (m : Mark) (p : Step) (all : List Sign) (s t : Trail) (ns ms : List ℕ) (at next end n k : ℕ) (whole : Result Work Fault) → 0 < n → next_is (is_mark m) (drop at all) ≡ true → Runs all (Ok next) s ns (put made_no_part (work_of s ns (drop at all)) (read_sign m (drop at all))) → Runs all (Ok end) t ms (p (work_of s ns (drop next all))) → more c m p n k (work_of s ns (drop at all)) ≡ whole → more c m p (n - 1) (k + 1) (work_of t ms (drop end all)) ≡ whole
+list_goes c m p all s t ns ms at next end n k whole h e a b i =
+    sym (more_first c m p n k (work_of s ns (drop at all)) h e
+    ∙ (ap (λ y. and_then (and_then y p) (more c m p (n - 1) (k + 1))) a.1 ∙ ap (λ y. and_then y (more c m p (n - 1) (k + 1))) b.1)) ∙ i
 
-pub list_sign_stops : (m : Mark) (p : Step) (all : List Sign) (s : Trail) (ns : List ℕ) (at n k : ℕ) (x : ReadError) (whole : Result Work Fault) → 0 < n → next_is (is_mark m) (drop at all) ≡ true → Stops all x (put made_no_part (work_of s ns (drop at all)) (read_sign m (drop at all))) → more m p n k (work_of s ns (drop at all)) ≡ whole → Stops all x whole
-list_sign_stops m p all s ns at n k x whole h e a i =
-    stops_same all x _ whole (sym i ∙ more_first m p n k (work_of s ns (drop at all)) h e)
-    (stops_then all x _ (more m p (n - 1) (k + 1)) (stops_then all x _ p a))
+pub list_sign_stops : (c : Closing) (m : Mark) (p : Step) (all : List Sign) (s : Trail) (ns : List ℕ) (at n k : ℕ) (x : ReadError) (whole : Result Work Fault) → 0 < n → next_is (is_mark m) (drop at all) ≡ true → Stops all x (put made_no_part (work_of s ns (drop at all)) (read_sign m (drop at all))) → more c m p n k (work_of s ns (drop at all)) ≡ whole → Stops all x whole
+list_sign_stops c m p all s ns at n k x whole h e a i =
+    stops_same all x _ whole (sym i ∙ more_first c m p n k (work_of s ns (drop at all)) h e)
+    (stops_then all x _ (more c m p (n - 1) (k + 1)) (stops_then all x _ p a))
 
-pub list_row_stops : (m : Mark) (p : Step) (all : List Sign) (s : Trail) (ns : List ℕ) (at next n k : ℕ) (x : ReadError) (whole : Result Work Fault) → 0 < n → next_is (is_mark m) (drop at all) ≡ true → Runs all (Ok next) s ns (put made_no_part (work_of s ns (drop at all)) (read_sign m (drop at all))) → Stops all x (p (work_of s ns (drop next all))) → more m p n k (work_of s ns (drop at all)) ≡ whole → Stops all x whole
-list_row_stops m p all s ns at next n k x whole h e a b i =
-    stops_same all x _ whole (sym i ∙ (more_first m p n k (work_of s ns (drop at all)) h e ∙ ap (λ y. and_then (and_then y p) (more m p (n - 1) (k + 1))) a.1))
-    (stops_then all x _ (more m p (n - 1) (k + 1)) b)
+pub list_row_stops : (c : Closing) (m : Mark) (p : Step) (all : List Sign) (s : Trail) (ns : List ℕ) (at next n k : ℕ) (x : ReadError) (whole : Result Work Fault) → 0 < n → next_is (is_mark m) (drop at all) ≡ true → Runs all (Ok next) s ns (put made_no_part (work_of s ns (drop at all)) (read_sign m (drop at all))) → Stops all x (p (work_of s ns (drop next all))) → more c m p n k (work_of s ns (drop at all)) ≡ whole → Stops all x whole
+list_row_stops c m p all s ns at next n k x whole h e a b i =
+    stops_same all x _ whole (sym i ∙ (more_first c m p n k (work_of s ns (drop at all)) h e ∙ ap (λ y. and_then (and_then y p) (more c m p (n - 1) (k + 1))) a.1))
+    (stops_then all x _ (more c m p (n - 1) (k + 1)) b)
 
-closes : (k at : ℕ) (all : List Sign) (s t : Trail) (ns : List ℕ) → t.uses ≡ s.uses → t.makes.items ≡ s.makes.items ++ Nothing ∷ replicate k (Over Cons) → changed (closed k) (work_of s ns (drop at all)) ≡ Ok (work_of t ns (drop at all))
-closes k at all s t ns u m = ap₂ (λ l v. let w : Result Work Fault = Ok (record { parts = record { names = reverse ns; makes = l }; uses = uses_of v.items; rest = drop at all }) in w) (sym m) (sym u)
+closes : (c : Closing) (k at : ℕ) (all : List Sign) (s t : Trail) (ns ms : List ℕ) → t.uses ≡ s.uses → parts_of t ms ≡ closed c k (parts_of s ns) → changed (closed c k) (work_of s ns (drop at all)) ≡ Ok (work_of t ms (drop at all))
+closes c k at all s t ns ms u m = ap₂ (λ q v. let w : Result Work Fault = Ok (record { parts = q; uses = uses_of v.items; rest = drop at all }) in w) (sym m) (sym u)
 
-pub list_ends : (m : Mark) (p : Step) (all : List Sign) (s t : Trail) (ns : List ℕ) (at n k : ℕ) (whole : Result Work Fault) → at ≤ length all → next_is (is_mark m) (drop at all) ≡ false → t.uses ≡ s.uses → t.makes.items ≡ s.makes.items ++ Nothing ∷ replicate k (Over Cons) → more m p n k (work_of s ns (drop at all)) ≡ whole → Runs all (Ok at) t ns whole
-list_ends m p all s t ns at n k whole l e u c i = (l, sym i ∙ (more_second m p n k (work_of s ns (drop at all)) e ∙ closes k at all s t ns u c))
+pub list_ends : (c : Closing) (m : Mark) (p : Step) (all : List Sign) (s t : Trail) (ns ms : List ℕ) (at n k : ℕ) (whole : Result Work Fault) → at ≤ length all → next_is (is_mark m) (drop at all) ≡ false → t.uses ≡ s.uses → parts_of t ms ≡ closed c k (parts_of s ns) → more c m p n k (work_of s ns (drop at all)) ≡ whole → Runs all (Ok at) t ms whole
+list_ends c m p all s t ns ms at n k whole l e u d i = (l, sym i ∙ (more_second c m p n k (work_of s ns (drop at all)) e ∙ closes c k at all s t ns ms u d))
 
-pub list_is_full : (m : Mark) (p : Step) (all : List Sign) (s t : Trail) (ns : List ℕ) (at n k : ℕ) (whole : Result Work Fault) → at ≤ length all → n ≤ 0 → t.uses ≡ s.uses → t.makes.items ≡ s.makes.items ++ Nothing ∷ replicate k (Over Cons) → more m p n k (work_of s ns (drop at all)) ≡ whole → Runs all (Ok at) t ns whole
-list_is_full m p all s t ns at n k whole l h u c i = (l, sym i ∙ (more_zero m p n k (work_of s ns (drop at all)) h ∙ closes k at all s t ns u c))
+pub list_is_full : (c : Closing) (m : Mark) (p : Step) (all : List Sign) (s t : Trail) (ns ms : List ℕ) (at n k : ℕ) (whole : Result Work Fault) → at ≤ length all → n ≤ 0 → t.uses ≡ s.uses → parts_of t ms ≡ closed c k (parts_of s ns) → more c m p n k (work_of s ns (drop at all)) ≡ whole → Runs all (Ok at) t ms whole
+list_is_full c m p all s t ns ms at n k whole l h u d i = (l, sym i ∙ (more_zero c m p n k (work_of s ns (drop at all)) h ∙ closes c k at all s t ns ms u d))
 
 -- rows
 
@@ -223,4 +254,4 @@ pub passed_on : (all : List Sign) (r : Result ℕ ReadError) (e : ReadError) (t 
 passed_on all (Ok x) e t ns q i h = absurd i
 passed_on all (Err x) e t ns q i h = subst (λ y. Stops all y q) (sym i) h
 
-pub ruleset walks = (refused_stops, fails_put, sign_runs, word_runs, note_runs, name_leaves)
+pub ruleset walks = (refused_stops, fails_put, sign_runs, word_runs, note_runs, zero_runs, find_runs, number_runs, nameless_runs, last_leaves, name_leaves, pair_leaves)

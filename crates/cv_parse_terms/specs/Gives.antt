@@ -2,9 +2,8 @@
 use Rattle.std.specs.Prelude.{ℕ, zero, suc, Bool, false, true, ◌-◌, ◌+◌, ◌<◌, ◌≤◌, ◌≡◌, List, [], length, drop, ◌++◌, ◌∷◌, map, flat_map, Option, Some, None, Result, Ok, Err}
 use Rattle.std.specs.declared.vec.Vec.{Vec}
 use Rattle.std.specs.declared.alloc.Global.{Global}
-use Rattle.cv_syntax_trees.specs.Tree.{Tree, Node}
+use Rattle.cv_syntax_trees.specs.Tree.{Tree}
 use Rattle.cv_syntax.specs.Postorder.{postorder}
-use Rattle.cv_syntax_trees.specs.declared.head.Head.TheVariants.{Name}
 use Rattle.cv_syntax.specs.declared.make.Make.{Make}
 use Rattle.cv_parse_notation.specs.declared.sign.Sign.{Sign}
 use Rattle.cv_parse_notation.specs.declared.sign.Sign.TheVariants as token
@@ -12,7 +11,7 @@ use Rattle.cv_parse_notation.specs.declared.sign.Mark.{Mark}
 use Rattle.cv_parse_notation.specs.Spells.{Use, used, next_is, is_mark}
 use Rattle.cv_parse_notation.specs.Reads.{Read, Syntax, Nesting, found, pick, no_level, no_syntax, read_sign, reads, read_sort, too_deep}
 use Rattle.cv_parse_grammar.specs.declared.role.Role.{Role}
-use Rattle.cv_parse_grammar.specs.Phrases.{Sort, Phrase, after}
+use Rattle.cv_parse_grammar.specs.Phrases.{Sort, Phrase}
 use Rattle.cv_parse_grammar.specs.Rules.{rule, heads}
 use Rattle.cv_parse_terms.specs.declared.trail.NameUse.{NameUse}
 use Rattle.cv_parse_terms.specs.declared.trail.Trail.{Trail}
@@ -133,17 +132,6 @@ abbrev pub MakesWith : {A : Type 0} → (A → List Make) → List Sign → Trai
 MakesWith emit all old new (Ok x) read = IsMadeWith emit all old new read x.0 x.1
 MakesWith emit all old new (Err e) read = Fails all e read
 
--- A channel, its indices and what goes over it were read; the latter two were made.
-pub record IsOver (all : List Sign) (old new : Trail) (reading : Read Role Tree) (channel end : ℕ) : Type 0 where
-  pub indices : Tree
-  pub message : Tree
-  pub read : IsRead all old.uses.items new.uses.items reading (Node (Name channel) indices message) end
-  pub makes : new.makes.items ≡ old.makes.items ++ (postorder indices ++ postorder message)
-
-abbrev pub MakesOver : List Sign → Trail → Trail → Result (ℕ × ℕ) ReadError → Read Role Tree → Type 0
-MakesOver all old new (Ok x) read = IsOver all old new read x.0 x.1
-MakesOver all old new (Err e) read = Fails all e read
-
 -- So many phrases were read, and their trees were made, one after another.
 pub record IsRow (all : List Sign) (old new : Trail) (reading : Read Role (List Tree)) (count end : ℕ) : Type 0 where
   pub value : List Tree
@@ -155,25 +143,6 @@ abbrev pub MakesRow : List Sign → Trail → Trail → Result (ℕ × ℕ) Read
 MakesRow all old new (Ok x) read = IsRow all old new read x.0 x.1
 MakesRow all old new (Err e) read = Fails all e read
 
--- A tail was read: whatever tree stands before it, its parts are put behind those of that tree.
-pub record IsTail {A : Type 0} (put : A → Tree → Tree) (all : List Sign) (old new : Trail) (reading : Read Role A) (end : ℕ) : Type 0 where
-  pub value : A
-  pub parts : List Make
-  pub read : IsRead all old.uses.items new.uses.items reading value end
-  pub makes : new.makes.items ≡ old.makes.items ++ parts
-  pub behind : (left : Tree) → postorder (put value left) ≡ postorder left ++ parts
-
-abbrev pub MakesTail : {A : Type 0} → (A → Tree → Tree) → List Sign → Trail → Trail → Result ℕ ReadError → Read Role A → Type 0
-MakesTail put all old new (Ok end) read = IsTail put all old new read end
-MakesTail put all old new (Err e) read = Fails all e read
-
--- a tail, and one that may be missing, put behind a tree
-abbrev pub applied : (Tree → Tree) → Tree → Tree
-applied f t = f t
-
-abbrev pub perhaps : Option (Tree → Tree) → Tree → Tree
-perhaps f t = after t f
-
 -- an opening bracket, which wants a level
 abbrev pub read_opening : Mark → ℕ → List Sign → Read Role (Unit {0})
 read_opening m n ts = pick (positive n) (read_sign m) (pick (next_is (is_mark m) ts) no_level no_syntax) ts
@@ -183,10 +152,6 @@ pub record Opens (all : List Sign) (m : Mark) (n at end : ℕ) : Type 0 where
   pub next : end ≡ at + 1
   pub within : end ≤ length all
   pub sign : IsSign all m at
-
--- no level is left for a phrase that begins so
-abbrev pub read_too_deep : Mark → List Sign → Read Role Tree
-read_too_deep m ts = pick (next_is (is_mark m) ts) no_level no_syntax ts
 
 -- no level is left for a phrase, which begins here or doesn't
 abbrev pub Shallow : List Sign → ReadError → Bool → ℕ → Type 0

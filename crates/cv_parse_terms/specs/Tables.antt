@@ -1,5 +1,5 @@
 -- What the rows of a table do with tokens, names and parts of trees. This profile's own.
-use Rattle.std.specs.Prelude.{ℕ, zero, suc, Bool, true, false, ◌+◌, ◌-◌, ◌≤◌, ◌==◌, ◌≡◌, List, [], ◌∷◌, ◌++◌, length, map, drop, reverse, replicate, slice_index_or, Result, Ok, Err}
+use Rattle.std.specs.Prelude.{ℕ, zero, suc, Bool, true, false, ◌+◌, ◌-◌, ◌≤◌, ◌==◌, ◌≡◌, List, [], ◌∷◌, ◌++◌, length, map, drop, reverse, slice_index_or, Result, Ok, Err}
 use Rattle.std.specs.Borrow.{Bor}
 use Rattle.cv_syntax_trees.specs.declared.head.Head.{Head}
 use Rattle.cv_syntax_trees.specs.declared.head.Head.TheVariants as head
@@ -7,10 +7,10 @@ use Rattle.cv_syntax.specs.declared.make.Make.{Make}
 use Rattle.cv_syntax.specs.declared.make.Make.TheVariants.{Nothing, Over}
 use Rattle.cv_parse_notation.specs.declared.sign.Sign.{Sign}
 use Rattle.cv_parse_notation.specs.declared.sign.Mark.{Mark}
-use Rattle.cv_parse_notation.specs.Spells.{Kind, Use, next_is, is_mark, is_word}
-use Rattle.cv_parse_notation.specs.Reads.{Fault, Syntax, Nesting, Read, read_sign, read_word}
+use Rattle.cv_parse_notation.specs.Spells.{Kind, Use, next_is, is_mark, is_word, is_zero, is_find}
+use Rattle.cv_parse_notation.specs.Reads.{Fault, Syntax, Nesting, Read, read_sign, read_word, read_nought, read_find, read_number}
 use Rattle.cv_parse_grammar.specs.declared.role.Role.{Role}
-use Rattle.cv_parse_grammar.specs.Phrases.{Term}
+use Rattle.cv_parse_grammar.specs.Phrases.{Term, Input, Output, Body, ProcessBranch}
 use Rattle.cv_parse_grammar.specs.Rules.{heads}
 use Rattle.cv_parse_terms.specs.declared.lookahead.ReadError.{ReadError}
 use Rattle.cv_parse_terms.specs.declared.lookahead.ReadError.TheVariants as error
@@ -19,6 +19,10 @@ use Rattle.cv_parse_terms.specs.declared.piece.Ahead.{Ahead}
 use Rattle.cv_parse_terms.specs.declared.piece.Ahead.TheVariants as ahead
 use Rattle.cv_parse_terms.specs.declared.piece.Naming.{Naming}
 use Rattle.cv_parse_terms.specs.declared.piece.Naming.TheVariants as naming
+use Rattle.cv_parse_terms.specs.declared.piece.Pairing.{Pairing}
+use Rattle.cv_parse_terms.specs.declared.piece.Pairing.TheVariants as pairing
+use Rattle.cv_parse_terms.specs.declared.piece.Closing.{Closing}
+use Rattle.cv_parse_terms.specs.declared.piece.Closing.TheVariants as closing
 use Rattle.cv_parse_terms.specs.declared.piece.Piece.{Piece}
 use Rattle.cv_parse_terms.specs.declared.piece.Piece.TheVariants as piece
 use Rattle.cv_parse_terms.specs.Gives.{uses_of, positive, read_note}
@@ -80,6 +84,17 @@ abbrev pub head_of : Naming → ℕ → Head
 head_of naming.Leaf x = head.Leaf x
 head_of naming.Read x = head.Read x
 head_of naming.Apply x = head.Apply x
+head_of naming.Name x = head.Name x
+head_of naming.In x = head.In x
+head_of naming.Out x = head.Out x
+head_of naming.Event x = head.Event x
+head_of naming.Find x = head.Find x
+
+abbrev pub pair_of : Pairing → ℕ → ℕ → Head
+pair_of pairing.Binder x y = head.Binder x y
+pair_of pairing.New x y = head.New x y
+pair_of pairing.Let x y = head.Let x y
+pair_of pairing.Repl x y = head.Repl x y
 
 abbrev pub part : Make → Parts → Parts
 part m q = record { names = q.names; makes = q.makes ++ m ∷ [] }
@@ -87,15 +102,37 @@ part m q = record { names = q.names; makes = q.makes ++ m ∷ [] }
 abbrev pub named : Naming → Parts → Parts
 named h q = record { names = other_names q.names; makes = q.makes ++ Over (head_of h (last_name q.names)) ∷ [] }
 
--- a list of so many trees
-abbrev pub closed : ℕ → Parts → Parts
-closed n q = record { names = q.names; makes = q.makes ++ Nothing ∷ replicate n (Over head.Cons) }
+abbrev pub paired : Pairing → Parts → Parts
+paired h q = record { names = other_names (other_names q.names); makes = q.makes ++ Over (pair_of h (last_name (other_names q.names)) (last_name q.names)) ∷ [] }
+
+-- in place of the name that waits last
+abbrev pub instead : ℕ → Parts → Parts
+instead x q = record { names = x ∷ other_names q.names; makes = q.makes }
+
+-- a list of so many: its end, and a node for each
+abbrev pub closer : Closing → Parts → Parts
+closer closing.Trees q = part (Over head.Cons) q
+closer closing.Binders q = paired pairing.Binder q
+closer closing.Names q = named naming.Name q
+
+abbrev pub repeated : ℕ → (Parts → Parts) → Parts → Parts
+repeated zero f q = q
+repeated (suc n) f q = f (repeated n f q)
+
+abbrev pub closed : Closing → ℕ → Parts → Parts
+closed c n q = repeated n (closer c) (part Nothing q)
 
 -- the tokens with which it begins
 abbrev pub begins : Ahead → Kind → Bool
 begins (ahead.Mark m) k = is_mark m k
 begins ahead.Word k = is_word k
+begins ahead.Zero k = is_zero k
+begins ahead.Find k = is_find k
 begins ahead.Term k = heads Term k
+begins ahead.Input k = heads Input k
+begins ahead.Output k = heads Output k
+begins ahead.Body k = heads Body k
+begins ahead.Branch k = heads ProcessBranch k
 
 -- no level is left
 abbrev pub no_room : Bool → ℕ → Fault
@@ -106,22 +143,27 @@ abbrev pub refused : Ahead → Step
 refused a w = Err (no_room (next_is (begins a) w.rest) (length w.rest))
 
 -- what stands behind a symbol, again and again; so many were read, and n bounds how many more
-abbrev pub more : Mark → Step → ℕ → ℕ → Step
-more m p zero k w = changed (closed k) w
-more m p (suc n) k w = chosen (next_is (is_mark m) w.rest) (λ v. and_then (and_then (put made_no_part v (read_sign m v.rest)) p) (more m p n (k + 1))) (changed (closed k)) w
+abbrev pub more : Closing → Mark → Step → ℕ → ℕ → Step
+more c m p zero k w = changed (closed c k) w
+more c m p (suc n) k w = chosen (next_is (is_mark m) w.rest) (λ v. and_then (and_then (put made_no_part v (read_sign m v.rest)) p) (more c m p n (k + 1))) (changed (closed c k)) w
 
 -- a piece, where room says whether a level is left, below what a row does one level down, and row what a row does
 abbrev pub piece_step : Bool → (Ahead → ℕ → Step) → (ℕ → Step) → Piece → Step
 piece_step room below row (piece.Sign m) w = put made_no_part w (read_sign m w.rest)
 piece_step room below row (piece.Word r) w = put waits w (read_word r w.rest)
+piece_step room below row piece.Zero w = put made_no_part w (read_nought w.rest)
+piece_step room below row piece.Find w = put waits w (read_find w.rest)
+piece_step room below row piece.Instead w = put instead w (read_number w.rest)
+piece_step room below row piece.Nameless w = changed (waits 0) w
 piece_step room below row (piece.Note r) w = put made_no_part w (read_note r w.rest)
 piece_step room below row (piece.Part m) w = changed (part m) w
 piece_step room below row (piece.Named h) w = changed (named h) w
+piece_step room below row (piece.Paired h) w = changed (paired h) w
 piece_step room below row (piece.Row r) w = row r w
 piece_step room below row (piece.Level a r) w = chosen room (row r) (refused a) w
 piece_step room below row (piece.Deeper a r) w = below a r w
 piece_step room below row (piece.Choice a r s) w = chosen (next_is (begins a) w.rest) (row r) (row s) w
-piece_step room below row (piece.List m r) w = and_then (row r w) (λ v. more m (row r) (length v.rest) 1 v)
+piece_step room below row (piece.List c m r) w = and_then (row r w) (λ v. more c m (row r) (length v.rest) 1 v)
 
 -- pieces one behind another
 abbrev pub pieces_step : (Piece → Step) → List Piece → Step

@@ -1,23 +1,26 @@
--- The rows of terms and of the conditions of `find`, as a table. This profile's own.
+-- The rows of terms, processes and the bodies of functions, as a table. This profile's own.
 use Rattle.std.specs.Prelude.{ℕ, List, [], ◌∷◌, drop, slice_index_or, Result}
 use Rattle.cv_syntax.specs.declared.make.Make.TheVariants.{Nothing, Over}
-use Rattle.cv_syntax_trees.specs.declared.head.Head.TheVariants.{Eq, And, Or, Not, Yes, No, Cons}
+use Rattle.cv_syntax_trees.specs.declared.head.Head.TheVariants.{Eq, And, Or, Not, Yes, No, Cons, Stop, Yield, Par, If, Branch}
 use Rattle.cv_parse_notation.specs.declared.sign.Sign.{Sign}
 use Rattle.cv_parse_notation.specs.declared.sign.Mark.TheVariants as mark
-use Rattle.cv_parse_grammar.specs.declared.role.Role.TheVariants.{Mentions, AsCall, AsArray, AsBare, MentionsCell}
+use Rattle.cv_parse_grammar.specs.declared.role.Role.TheVariants.{Mentions, AsCall, AsArray, AsBare, MentionsCell, Asks, AsksBound, AsksIndex, BindsIndex, BindsLocal, BindsVariable}
+use Rattle.cv_parse_grammar.specs.declared.role.Asked.TheVariants.{AParam, AChannel, AnEvent, AType}
 use Rattle.cv_parse_terms.specs.declared.lookahead.ReadError.{ReadError}
 use Rattle.cv_parse_terms.specs.declared.trail.Trail.{Trail}
 use Rattle.cv_parse_terms.specs.declared.piece.Ahead.TheVariants as ahead
 use Rattle.cv_parse_terms.specs.declared.piece.Naming.TheVariants as naming
+use Rattle.cv_parse_terms.specs.declared.piece.Pairing.TheVariants as pairing
+use Rattle.cv_parse_terms.specs.declared.piece.Closing.TheVariants as closing
 use Rattle.cv_parse_terms.specs.declared.piece.Piece.{Piece}
-use Rattle.cv_parse_terms.specs.declared.piece.Piece.TheVariants.{Sign as Says, Word, Note, Part, Named, Row, Level, Deeper, Choice, List as Items}
+use Rattle.cv_parse_terms.specs.declared.piece.Piece.TheVariants.{Sign as Says, Word, Zero, Find, Instead, Nameless, Note, Part, Named, Paired, Row, Level, Deeper, Choice, List as Items}
 use Rattle.cv_parse_terms.specs.Tables.{Table, Runs, row_in, work_of}
 
 abbrev pub term_rows : Table
 term_rows =
     [] ∷  -- 0 nothing
     (Deeper ahead.Term 37 ∷ []) ∷  -- 1 a term one level down
-    (Items mark.Comma 1 ∷ []) ∷  -- 2 terms
+    (Items closing.Trees mark.Comma 1 ∷ []) ∷  -- 2 terms
     (Says mark.Open ∷ Row 2 ∷ Says mark.Close ∷ []) ∷  -- 3
     (Level (ahead.Mark mark.Open) 3 ∷ []) ∷  -- 4 arguments
     (Says mark.OpenSquare ∷ Row 2 ∷ Says mark.CloseSquare ∷ []) ∷  -- 5
@@ -58,7 +61,7 @@ term_rows =
     (Word MentionsCell ∷ Choice (ahead.Mark mark.OpenSquare) 38 39 ∷ []) ∷  -- 40
     (Level ahead.Word 40 ∷ []) ∷  -- 41 a cell
     (Deeper ahead.Word 41 ∷ []) ∷  -- 42 a cell one level down
-    (Says mark.Open ∷ Items mark.Comma 42 ∷ Says mark.Close ∷ []) ∷  -- 43
+    (Says mark.Open ∷ Items closing.Trees mark.Comma 42 ∷ Says mark.Close ∷ []) ∷  -- 43
     (Level (ahead.Mark mark.Open) 43 ∷ []) ∷  -- 44 cells
     (Deeper (ahead.Mark mark.Open) 44 ∷ []) ∷  -- 45 cells one level down
     (Says mark.Both ∷ Row 1 ∷ []) ∷  -- 46 what is to hold
@@ -70,11 +73,104 @@ term_rows =
     (Deeper (ahead.Mark mark.OpenSquare) 6 ∷ []) ∷  -- 52 a subscript one level down
     (Row 1 ∷ Part Nothing ∷ Part (Over Cons) ∷ []) ∷  -- 53 a list of one term
     (Part Nothing ∷ []) ∷  -- 54 the empty list
-    (Choice ahead.Term 2 54 ∷ []) ∷ []  -- 55 terms, where there are some
+    (Choice ahead.Term 2 54 ∷ []) ∷  -- 55 terms, where there are some
+    (Says mark.Bool ∷ Nameless ∷ []) ∷  -- 56
+    (Word (Asks AType) ∷ []) ∷  -- 57
+    (Choice (ahead.Mark mark.Bool) 56 57 ∷ []) ∷  -- 58 a type
+    (Word BindsVariable ∷ Says mark.Colon ∷ Row 58 ∷ []) ∷  -- 59 a variable of a process, with its type
+    (Word BindsLocal ∷ Says mark.Colon ∷ Row 58 ∷ []) ∷  -- 60 a variable of a function, with its type
+    (Row 59 ∷ Part Nothing ∷ []) ∷  -- 61
+    (Items closing.Binders mark.Comma 61 ∷ []) ∷  -- 62 variables
+    (Says mark.Open ∷ Choice ahead.Word 62 54 ∷ Says mark.Close ∷ []) ∷  -- 63
+    (Level (ahead.Mark mark.Open) 63 ∷ []) ∷  -- 64 variables in parentheses
+    (Deeper (ahead.Mark mark.Open) 64 ∷ []) ∷  -- 65
+    (Row 59 ∷ Part Nothing ∷ Part Nothing ∷ Paired pairing.Binder ∷ []) ∷  -- 66 one variable
+    (Choice (ahead.Mark mark.Open) 65 66 ∷ []) ∷  -- 67 what an input binds
+    (Word AsksIndex ∷ Part Nothing ∷ []) ∷  -- 68
+    (Says mark.OpenSquare ∷ Items closing.Names mark.Comma 68 ∷ Says mark.CloseSquare ∷ []) ∷  -- 69
+    (Level (ahead.Mark mark.OpenSquare) 69 ∷ []) ∷  -- 70 the indices of a channel
+    (Deeper (ahead.Mark mark.OpenSquare) 70 ∷ []) ∷  -- 71
+    (Word (Asks AChannel) ∷ Choice (ahead.Mark mark.OpenSquare) 71 54 ∷ []) ∷  -- 72 a channel
+    (Says mark.Open ∷ Row 72 ∷ Says mark.Comma ∷ Row 67 ∷ Says mark.Close ∷ []) ∷  -- 73
+    (Level (ahead.Mark mark.Open) 73 ∷ []) ∷  -- 74 a channel, and what an input binds
+    (Says mark.Open ∷ Row 55 ∷ Says mark.Close ∷ []) ∷  -- 75
+    (Level (ahead.Mark mark.Open) 75 ∷ []) ∷  -- 76 a list that is sent
+    (Deeper (ahead.Mark mark.Open) 76 ∷ []) ∷  -- 77
+    (Choice (ahead.Mark mark.Open) 77 53 ∷ []) ∷  -- 78 what an output sends
+    (Says mark.Open ∷ Row 72 ∷ Says mark.Comma ∷ Row 78 ∷ Says mark.Close ∷ []) ∷  -- 79
+    (Level (ahead.Mark mark.Open) 79 ∷ []) ∷  -- 80 a channel, and what an output sends
+    (Zero ∷ Part Nothing ∷ Part Nothing ∷ Part (Over Stop) ∷ []) ∷  -- 81
+    (Level ahead.Zero 81 ∷ []) ∷  -- 82 the process 0
+    (Says mark.Open ∷ Deeper ahead.Input 94 ∷ Says mark.Close ∷ []) ∷  -- 83
+    (Level (ahead.Mark mark.Open) 83 ∷ []) ∷  -- 84 input processes in parentheses
+    (Says mark.Bang ∷ Word BindsIndex ∷ Says mark.AtMost ∷ Word (Asks AParam) ∷ Part Nothing ∷ Deeper ahead.Input 91 ∷ Paired pairing.Repl ∷ []) ∷  -- 85
+    (Level (ahead.Mark mark.Bang) 85 ∷ []) ∷  -- 86 a replication
+    (Says mark.In ∷ Deeper (ahead.Mark mark.Open) 74 ∷ Part (Over Cons) ∷ Says mark.Semicolon ∷ Deeper ahead.Output 127 ∷ Named naming.In ∷ []) ∷  -- 87
+    (Level (ahead.Mark mark.In) 87 ∷ []) ∷  -- 88 an input
+    (Choice (ahead.Mark mark.Bang) 86 88 ∷ []) ∷  -- 89
+    (Choice (ahead.Mark mark.Open) 84 89 ∷ []) ∷  -- 90
+    (Choice ahead.Zero 82 90 ∷ []) ∷  -- 91 an input process
+    (Says mark.Bar ∷ []) ∷  -- 92
+    (Level (ahead.Mark mark.Bar) 92 ∷ Deeper ahead.Input 94 ∷ Part (Over Par) ∷ []) ∷  -- 93 | behind a process
+    (Row 91 ∷ Choice (ahead.Mark mark.Bar) 93 0 ∷ []) ∷  -- 94 input processes
+    (Says mark.Yield ∷ Part Nothing ∷ Part Nothing ∷ Part (Over Yield) ∷ []) ∷  -- 95
+    (Level (ahead.Mark mark.Yield) 95 ∷ []) ∷  -- 96 yield
+    (Says mark.Open ∷ Deeper ahead.Output 127 ∷ Says mark.Close ∷ []) ∷  -- 97
+    (Level (ahead.Mark mark.Open) 97 ∷ []) ∷  -- 98 an output process in parentheses
+    (Says mark.Semicolon ∷ Deeper ahead.Input 91 ∷ []) ∷  -- 99 what follows an output
+    (Part Nothing ∷ Part Nothing ∷ Part (Over Stop) ∷ []) ∷  -- 100 nothing follows
+    (Says mark.Out ∷ Deeper (ahead.Mark mark.Open) 80 ∷ Part (Over Cons) ∷ Choice (ahead.Mark mark.Semicolon) 99 100 ∷ Named naming.Out ∷ []) ∷  -- 101
+    (Level (ahead.Mark mark.Out) 101 ∷ []) ∷  -- 102 an output
+    (Says mark.New ∷ Row 59 ∷ Says mark.Semicolon ∷ Part Nothing ∷ Deeper ahead.Output 127 ∷ Paired pairing.New ∷ []) ∷  -- 103
+    (Level (ahead.Mark mark.New) 103 ∷ []) ∷  -- 104 a restriction
+    (Says mark.Let ∷ Row 59 ∷ Says mark.Equal ∷ Row 1 ∷ Says mark.In ∷ Deeper ahead.Output 127 ∷ Paired pairing.Let ∷ []) ∷  -- 105
+    (Level (ahead.Mark mark.Let) 105 ∷ []) ∷  -- 106 an assignment
+    (Says mark.EventWord ∷ Word (Asks AnEvent) ∷ Choice (ahead.Mark mark.Open) 51 54 ∷ Says mark.Semicolon ∷ Deeper ahead.Output 127 ∷ Named naming.Event ∷ []) ∷  -- 107
+    (Level (ahead.Mark mark.EventWord) 107 ∷ []) ∷  -- 108 an event
+    (Says mark.Else ∷ Deeper ahead.Output 127 ∷ []) ∷  -- 109 else
+    (Part Nothing ∷ Part Nothing ∷ Part (Over Yield) ∷ []) ∷  -- 110 no else
+    (Says mark.If ∷ Row 1 ∷ Says mark.Then ∷ Deeper ahead.Output 127 ∷ Choice (ahead.Mark mark.Else) 109 110 ∷ Part Nothing ∷ Part (Over Cons) ∷ Part (Over Cons) ∷ Part (Over If) ∷ []) ∷  -- 111
+    (Level (ahead.Mark mark.If) 111 ∷ []) ∷  -- 112 a test
+    (Says mark.At ∷ Instead ∷ []) ∷  -- 113 a label
+    (Word BindsVariable ∷ Says mark.AtMost ∷ Word (Asks AParam) ∷ Part Nothing ∷ []) ∷  -- 114
+    (Items closing.Binders mark.Comma 114 ∷ []) ∷  -- 115 the indices of a branch
+    (Choice ahead.Word 115 54 ∷ Says mark.Suchthat ∷ Row 50 ∷ Says mark.Then ∷ Deeper ahead.Output 127 ∷ Part (Over Cons) ∷ Part (Over Cons) ∷ Part (Over Branch) ∷ []) ∷  -- 116
+    (Level ahead.Branch 116 ∷ []) ∷  -- 117 a branch
+    (Deeper ahead.Branch 117 ∷ []) ∷  -- 118
+    (Find ∷ Choice (ahead.Mark mark.At) 113 0 ∷ Items closing.Trees mark.Orfind 118 ∷ Choice (ahead.Mark mark.Else) 109 110 ∷ Named naming.Find ∷ []) ∷  -- 119
+    (Level ahead.Find 119 ∷ []) ∷  -- 120 a find
+    (Choice (ahead.Mark mark.If) 112 120 ∷ []) ∷  -- 121
+    (Choice (ahead.Mark mark.EventWord) 108 121 ∷ []) ∷  -- 122
+    (Choice (ahead.Mark mark.Let) 106 122 ∷ []) ∷  -- 123
+    (Choice (ahead.Mark mark.New) 104 123 ∷ []) ∷  -- 124
+    (Choice (ahead.Mark mark.Out) 102 124 ∷ []) ∷  -- 125
+    (Choice (ahead.Mark mark.Open) 98 125 ∷ []) ∷  -- 126
+    (Choice (ahead.Mark mark.Yield) 96 126 ∷ []) ∷  -- 127 an output process
+    (Says mark.New ∷ Row 60 ∷ Says mark.Semicolon ∷ Part Nothing ∷ Deeper ahead.Body 145 ∷ Paired pairing.New ∷ []) ∷  -- 128
+    (Level (ahead.Mark mark.New) 128 ∷ []) ∷  -- 129
+    (Says mark.Let ∷ Row 60 ∷ Says mark.Equal ∷ Row 1 ∷ Says mark.In ∷ Deeper ahead.Body 145 ∷ Paired pairing.Let ∷ []) ∷  -- 130
+    (Level (ahead.Mark mark.Let) 130 ∷ []) ∷  -- 131
+    (Says mark.Else ∷ Deeper ahead.Body 145 ∷ []) ∷  -- 132
+    (Says mark.If ∷ Row 1 ∷ Says mark.Then ∷ Deeper ahead.Body 145 ∷ Row 132 ∷ Part Nothing ∷ Part (Over Cons) ∷ Part (Over Cons) ∷ Part (Over If) ∷ []) ∷  -- 133
+    (Level (ahead.Mark mark.If) 133 ∷ []) ∷  -- 134
+    (Word BindsLocal ∷ Says mark.AtMost ∷ Word AsksBound ∷ Part Nothing ∷ []) ∷  -- 135
+    (Items closing.Binders mark.Comma 135 ∷ []) ∷  -- 136
+    (Choice ahead.Word 136 54 ∷ Says mark.Suchthat ∷ Row 50 ∷ Says mark.Then ∷ Deeper ahead.Body 145 ∷ Part (Over Cons) ∷ Part (Over Cons) ∷ Part (Over Branch) ∷ []) ∷  -- 137
+    (Level ahead.Branch 137 ∷ []) ∷  -- 138 a branch of a function
+    (Deeper ahead.Branch 138 ∷ []) ∷  -- 139
+    (Find ∷ Choice (ahead.Mark mark.At) 113 0 ∷ Items closing.Trees mark.Orfind 139 ∷ Row 132 ∷ Named naming.Find ∷ []) ∷  -- 140
+    (Level ahead.Find 140 ∷ []) ∷  -- 141
+    (Choice ahead.Find 141 37 ∷ []) ∷  -- 142
+    (Choice (ahead.Mark mark.If) 134 142 ∷ []) ∷  -- 143
+    (Choice (ahead.Mark mark.Let) 131 143 ∷ []) ∷  -- 144
+    (Choice (ahead.Mark mark.New) 129 144 ∷ []) ∷ []  -- 145 the body of a function
+
+abbrev pub row_count : ℕ
+row_count = 146
 
 abbrev pub row_of : ℕ → List Piece
 row_of r = slice_index_or term_rows r []
 
 -- The row was read from a place on, with so many levels left; no name waits before it.
 abbrev pub Enters : ℕ → ℕ → List Sign → ℕ → Trail → Result ℕ ReadError → Trail → Type 0
-Enters r n all at old result new = (names : List ℕ) × Runs all result new names (row_in term_rows n 56 r (work_of old [] (drop at all)))
+Enters r n all at old result new = (names : List ℕ) × Runs all result new names (row_in term_rows n row_count r (work_of old [] (drop at all)))

@@ -4,7 +4,7 @@ ghost use Rattle.cv_parse_notation.specs.declared.sign.Mark.TheVariants.{Comma};
 ghost use Rattle.cv_syntax_trees.specs.Tree.{binders, names};
 ghost use Rattle.cv_syntax_trees.specs.declared.head.Head.TheVariants.{Binder, Name};
 ghost use Rattle.cv_syntax.specs.Postorder.{postorder};
-ghost use Rattle.cv_parse_grammar.specs.Phrases.{row, listed, typed as typed_form, vars as vars_form, var_list as var_list_form, indices as indices_form};
+ghost use Rattle.cv_parse_grammar.specs.Phrases.{row, listed, vars as vars_form, var_list as var_list_form};
 ghost use Rattle.cv_parse_terms.specs.Items.{item_form, pair_form};
 ghost use Rattle.cv_parse_terms.specs.Gives.{Makes, read_in};
 
@@ -109,44 +109,6 @@ pub fn vars(
     pair_list(alloc, signs, at, trail, Pair::Typed(role), depth)
 }
 
-/// A list of indices with their bounds.
-pub fn indices(
-    alloc: Global,
-    signs: &[Sign],
-    at: usize,
-    trail: &mut Trail,
-    index: Role,
-    bound: Role,
-    depth: u32,
-) -> Result<usize, ReadError>
-    requires at { at ≤ length signs.now }
-    requires few { length signs.now < 2 ^ 32 }
-    ensures makes { Makes postorder signs.now trail.old trail.new result
-        (read_in depth (indices_form index bound) (drop at signs.now)) }
-{
-    pair_list(alloc, signs, at, trail, Pair::Within(index, bound), depth)
-}
-
-/// One name with its type, as a list.
-#[tactic(auto, using(crate::proofs::Places::places))]
-pub fn one_binder(
-    alloc: Global,
-    signs: &[Sign],
-    at: usize,
-    trail: &mut Trail,
-    role: Role,
-    depth: u32,
-) -> Result<usize, ReadError>
-    requires at { at ≤ length signs.now }
-    requires few { length signs.now < 2 ^ 32 }
-    ensures makes { Makes postorder signs.now trail.old trail.new result
-        (read_in depth (made (λ b. binders (b ∷ [])) (typed_form role)) (drop at signs.now)) }
-{
-    let (variable, place) = typed(signs, at, &mut trail.uses, role, depth)?;
-    make_binders(alloc, &mut trail.makes, &[variable])?;
-    Ok(place)
-}
-
 /// The names with their types, where there are some.
 #[tactic(auto, using(crate::proofs::Places::places, crate::proofs::Levels::levels))]
 pub fn maybe_vars(
@@ -164,29 +126,6 @@ pub fn maybe_vars(
 {
     if is_word_at(signs, at) {
         return vars(alloc, signs, at, trail, role, depth);
-    }
-    trail.makes.push(Make::Nothing)?;
-    Ok(at)
-}
-
-/// Indices with their bounds, where there are some.
-#[tactic(auto, using(crate::proofs::Places::places, crate::proofs::Levels::levels))]
-pub fn maybe_indices(
-    alloc: Global,
-    signs: &[Sign],
-    at: usize,
-    trail: &mut Trail,
-    index: Role,
-    bound: Role,
-    depth: u32,
-) -> Result<usize, ReadError>
-    requires at { at ≤ length signs.now }
-    requires few { length signs.now < 2 ^ 32 }
-    ensures makes { Makes postorder signs.now trail.old trail.new result
-        (read_in depth (listed (indices_form index bound)) (drop at signs.now)) }
-{
-    if is_word_at(signs, at) {
-        return indices(alloc, signs, at, trail, index, bound, depth);
     }
     trail.makes.push(Make::Nothing)?;
     Ok(at)

@@ -1,17 +1,20 @@
-ghost use Rattle.std.specs.Prelude.{◌≡◌, ◌+◌, ◌-◌, ◌<◌, ◌≤◌, ◌^◌, length, drop, OnOk};
+ghost use Rattle.std.specs.Prelude.{◌≡◌, ◌+◌, ◌-◌, ◌<◌, ◌≤◌, ◌^◌, length, drop, reverse, IfErr, IfOk, OnOk};
 ghost use Rattle.cv_parse_notation.specs.Spells.{next_is};
-ghost use Rattle.cv_parse_notation.specs.Reads.{read_word, read_sign};
+ghost use Rattle.cv_parse_notation.specs.Reads.{read_find, read_nought, read_number, read_sign, read_word};
 ghost use Rattle.cv_parse_terms.specs.Gives.{read_note};
-ghost use Rattle.cv_parse_terms.specs.Tables.{Runs, Stops, begins, head_of as head_form, made_no_part, more, named as named_parts, parts_of, piece_in, pieces_in, put, refused as refused_step, row_in, rows_of, waits, work_of};
+ghost use Rattle.cv_parse_terms.specs.Tables.{Runs, Stops, begins, changed, closed, closer as closer_parts, head_of as head_form, instead as instead_of, last_name, made_no_part, more, named as named_parts, other_names, pair_of as pair_form, paired as paired_parts, parts_of, piece_in, pieces_in, put, refused as refused_step, row_in, rows_of, waits, work_of};
+ghost use Rattle.cv_parse_terms.specs.declared.lookahead.ReadError.TheVariants.{OutOfMemory};
 
-use crate::lookahead::{ReadError, begins_term, expect, is_at, is_word_at, shallow};
-use crate::piece::{Ahead, Naming, Piece};
-use crate::tokens::{note, word};
-use crate::trail::{Trail, close_chain};
+use crate::lookahead::{
+    ReadError, begins_body, begins_branch, begins_input, begins_output, begins_term, expect, is_at,
+    is_find_at, is_word_at, is_zero_at, shallow,
+};
+use crate::piece::{Ahead, Closing, Naming, Pairing, Piece};
+use crate::tokens::{find_word, note, number, word, zero};
+use crate::trail::Trail;
 use cv_parse_grammar::Role;
 use cv_parse_notation::{Mark, Sign};
 use cv_syntax::{Head, Make};
-use std::alloc::AllocError;
 
 /// Whether the next token is such.
 fn is_ahead(signs: &[Sign], at: usize, ahead: Ahead) -> bool
@@ -20,13 +23,19 @@ fn is_ahead(signs: &[Sign], at: usize, ahead: Ahead) -> bool
     match ahead {
         Ahead::Mark(mark) => is_at(signs, at, mark),
         Ahead::Word => is_word_at(signs, at),
+        Ahead::Zero => is_zero_at(signs, at),
+        Ahead::Find => is_find_at(signs, at),
         Ahead::Term => begins_term(signs, at),
+        Ahead::Input => begins_input(signs, at),
+        Ahead::Output => begins_output(signs, at),
+        Ahead::Body => begins_body(signs, at),
+        Ahead::Branch => begins_branch(signs, at),
     }
 }
 
 /// The fault of what begins so, where no level is left.
 #[tactic(auto, using(crate::proofs::Walks::walks))]
-fn refused(signs: &[Sign], at: usize, trail: &Trail, names: &Vec<u32>, ahead: Ahead) -> ReadError
+fn refused(signs: &[Sign], at: usize, trail: &Trail, names: &Vec<u64>, ahead: Ahead) -> ReadError
     requires at { at ≤ length signs.now }
     requires few { length signs.now < 2 ^ 32 }
     ensures { Stops signs.now result (refused_step ahead
@@ -41,7 +50,7 @@ fn passed(
     signs: &[Sign],
     at: usize,
     trail: &Trail,
-    names: &Vec<u32>,
+    names: &Vec<u64>,
     mark: Mark,
 ) -> Result<usize, ReadError>
     requires at { at ≤ length signs.now }
@@ -59,7 +68,7 @@ fn waiting(
     signs: &[Sign],
     at: usize,
     trail: &mut Trail,
-    names: &mut Vec<u32>,
+    names: &mut Vec<u64>,
     role: Role,
 ) -> Result<usize, ReadError>
     requires at { at ≤ length signs.now }
@@ -69,7 +78,7 @@ fn waiting(
         (read_word role (drop at signs.now))) }
 {
     let (x, place) = word(signs, at, &mut trail.uses, role)?;
-    names.push(x)?;
+    names.push(u64::from(x))?;
     Ok(place)
 }
 
@@ -79,7 +88,7 @@ fn noted(
     signs: &[Sign],
     at: usize,
     trail: &mut Trail,
-    names: &Vec<u32>,
+    names: &Vec<u64>,
     role: Role,
 ) -> Result<usize, ReadError>
     requires at { at ≤ length signs.now }
@@ -92,6 +101,88 @@ fn noted(
     Ok(at)
 }
 
+/// The number 0.
+#[tactic(auto, using(crate::proofs::Walks::walks))]
+fn nought(signs: &[Sign], at: usize, trail: &Trail, names: &Vec<u64>) -> Result<usize, ReadError>
+    requires at { at ≤ length signs.now }
+    requires few { length signs.now < 2 ^ 32 }
+    ensures { Runs signs.now result trail.now names.now.items (put made_no_part
+        (work_of trail.now names.now.items (drop at signs.now))
+        (read_nought (drop at signs.now))) }
+{
+    zero(signs, at)
+}
+
+/// The word `find`, whose number waits as a name.
+#[tactic(auto, using(crate::proofs::Walks::walks))]
+fn found(signs: &[Sign], at: usize, trail: &Trail, names: &mut Vec<u64>) -> Result<usize, ReadError>
+    requires at { at ≤ length signs.now }
+    requires few { length signs.now < 2 ^ 32 }
+    ensures { Runs signs.now result trail.now names.new.items (put waits
+        (work_of trail.now names.old.items (drop at signs.now))
+        (read_find (drop at signs.now))) }
+{
+    let (count, place) = find_word(signs, at)?;
+    names.push(count)?;
+    Ok(place)
+}
+
+/// The name that waits last, which leaves.
+#[tactic(auto, using(crate::proofs::Walks::walks))]
+fn taken(names: &mut Vec<u64>) -> u64
+    ensures leaves { (result ≡ last_name (reverse names.old.items))
+        × (reverse names.new.items ≡ other_names (reverse names.old.items)) }
+{
+    names.pop().unwrap_or(0)
+}
+
+/// A number, in place of the name that waits last.
+#[tactic(auto, using(crate::proofs::Walks::walks))]
+fn instead(
+    signs: &[Sign],
+    at: usize,
+    trail: &Trail,
+    names: &mut Vec<u64>,
+) -> Result<usize, ReadError>
+    requires at { at ≤ length signs.now }
+    requires few { length signs.now < 2 ^ 32 }
+    ensures { Runs signs.now result trail.now names.new.items (put instead_of
+        (work_of trail.now names.old.items (drop at signs.now))
+        (read_number (drop at signs.now))) }
+{
+    let (value, place) = number(signs, at)?;
+    taken(names);
+    names.push(value)?;
+    Ok(place)
+}
+
+/// The name 0 waits.
+#[tactic(auto, using(crate::proofs::Walks::walks))]
+fn nameless(
+    signs: &[Sign],
+    at: usize,
+    trail: &Trail,
+    names: &mut Vec<u64>,
+) -> Result<usize, ReadError>
+    requires at { at ≤ length signs.now }
+    ensures { Runs signs.now result trail.now names.new.items (changed (waits 0)
+        (work_of trail.now names.old.items (drop at signs.now))) }
+{
+    names.push(0)?;
+    Ok(at)
+}
+
+/// A name as heads have it. No name is longer.
+fn short(x: u64) -> Result<u32, ReadError>
+    ensures value { IfOk result (λ y. y ≡ x) }
+    ensures full { IfErr result (λ e. e ≡ OutOfMemory) }
+{
+    if x < 4294967296 {
+        return Ok(x as u32);
+    }
+    Err(ReadError::OutOfMemory)
+}
+
 /// The head of a name.
 fn head_of(naming: Naming, x: u32) -> Head
     ensures { result ≡ head_form naming x }
@@ -100,18 +191,104 @@ fn head_of(naming: Naming, x: u32) -> Head
         Naming::Leaf => Head::Leaf(x),
         Naming::Read => Head::Read(x),
         Naming::Apply => Head::Apply(x),
+        Naming::Name => Head::Name(x),
+        Naming::In => Head::In(x),
+        Naming::Out => Head::Out(x),
+        Naming::Event => Head::Event(x),
+        Naming::Find => Head::Find(u64::from(x)),
     }
+}
+
+/// The head of a name or of a label, which may be longer.
+#[tactic(auto)]
+fn long_head(naming: Naming, x: u64) -> Result<Head, ReadError>
+    ensures head { IfOk result (λ h. h ≡ head_form naming x) }
+    ensures full { IfErr result (λ e. e ≡ OutOfMemory) }
+{
+    if let Naming::Find = naming {
+        return Ok(Head::Find(x));
+    }
+    let name = short(x)?;
+    Ok(head_of(naming, name))
 }
 
 /// A node with a head of the name that waits.
 #[tactic(auto, using(crate::proofs::Walks::walks))]
-fn named(trail: &mut Trail, names: &mut Vec<u32>, naming: Naming) -> Result<(), AllocError>
+fn named(trail: &mut Trail, names: &mut Vec<u64>, naming: Naming) -> Result<(), ReadError>
     ensures parts { OnOk result (parts_of trail.new names.new.items
         ≡ named_parts naming (parts_of trail.old names.old.items)) }
+    ensures full { IfErr result (λ e. e ≡ OutOfMemory) }
     ensures uses { trail.new.uses ≡ trail.old.uses }
 {
-    let x = names.pop().unwrap_or(0);
-    trail.makes.push(Make::Over(head_of(naming, x)))?;
+    let x = taken(names);
+    let head = long_head(naming, x)?;
+    trail.makes.push(Make::Over(head))?;
+    Ok(())
+}
+
+/// The head of two names.
+fn pair_of(pairing: Pairing, x: u32, y: u32) -> Head
+    ensures { result ≡ pair_form pairing x y }
+{
+    match pairing {
+        Pairing::Binder => Head::Binder(x, y),
+        Pairing::New => Head::New(x, y),
+        Pairing::Let => Head::Let(x, y),
+        Pairing::Repl => Head::Repl(x, y),
+    }
+}
+
+/// A node with a head of the two names that wait.
+#[tactic(auto, using(crate::proofs::Walks::walks))]
+fn paired(trail: &mut Trail, names: &mut Vec<u64>, pairing: Pairing) -> Result<(), ReadError>
+    ensures parts { OnOk result (parts_of trail.new names.new.items
+        ≡ paired_parts pairing (parts_of trail.old names.old.items)) }
+    ensures full { IfErr result (λ e. e ≡ OutOfMemory) }
+    ensures uses { trail.new.uses ≡ trail.old.uses }
+{
+    let last = taken(names);
+    let first = taken(names);
+    let y = short(last)?;
+    let x = short(first)?;
+    trail.makes.push(Make::Over(pair_of(pairing, x, y)))?;
+    Ok(())
+}
+
+/// A node of a list.
+#[tactic(auto)]
+fn closer(trail: &mut Trail, names: &mut Vec<u64>, closing: Closing) -> Result<(), ReadError>
+    ensures parts { OnOk result (parts_of trail.new names.new.items
+        ≡ closer_parts closing (parts_of trail.old names.old.items)) }
+    ensures full { IfErr result (λ e. e ≡ OutOfMemory) }
+    ensures uses { trail.new.uses ≡ trail.old.uses }
+{
+    match closing {
+        Closing::Trees => {
+            trail.makes.push(Make::Over(Head::Cons))?;
+            Ok(())
+        }
+        Closing::Binders => paired(trail, names, Pairing::Binder),
+        Closing::Names => named(trail, names, Naming::Name),
+    }
+}
+
+/// The end of a list, and so many nodes.
+#[tactic(auto)]
+fn close(
+    trail: &mut Trail,
+    names: &mut Vec<u64>,
+    closing: Closing,
+    count: usize,
+) -> Result<(), ReadError>
+    ensures parts { OnOk result (parts_of trail.new names.new.items
+        ≡ closed closing count (parts_of trail.old names.old.items)) }
+    ensures full { IfErr result (λ e. e ≡ OutOfMemory) }
+    ensures uses { trail.new.uses ≡ trail.old.uses }
+{
+    trail.makes.push(Make::Nothing)?;
+    'items: for _ in 0..count {
+        closer(trail, names, closing)?;
+    }
     Ok(())
 }
 
@@ -120,19 +297,20 @@ fn named(trail: &mut Trail, names: &mut Vec<u32>, naming: Naming) -> Result<(), 
 fn list(
     rows: &[&[Piece]],
     bound: usize,
+    closing: Closing,
     mark: Mark,
     row: usize,
     signs: &[Sign],
     at: usize,
     trail: &mut Trail,
-    names: &mut Vec<u32>,
+    names: &mut Vec<u64>,
     depth: u32,
 ) -> Result<usize, ReadError>
     requires bound { bound ≤ length rows.now }
     requires table { length rows.now ≤ 65536 }
     requires at { at ≤ length signs.now }
     requires few { length signs.now < 2 ^ 32 }
-    ensures { Runs signs.now result trail.new names.new.items (more mark
+    ensures { Runs signs.now result trail.new names.new.items (more closing mark
         (row_in (rows_of rows.now) depth bound row) (length signs.now - at) 1
         (work_of trail.old names.old.items (drop at signs.now))) }
 {
@@ -141,7 +319,7 @@ fn list(
     let mut turns = signs.len() - at;
     'turns: while turns > 0 {
         if !is_at(signs, place, mark) {
-            close_chain(&mut trail.makes, count)?;
+            close(trail, names, closing, count)?;
             return Ok(place);
         }
         let next = passed(signs, place, trail, names, mark)?;
@@ -149,7 +327,7 @@ fn list(
         count += 1;
         turns -= 1;
     }
-    close_chain(&mut trail.makes, count)?;
+    close(trail, names, closing, count)?;
     Ok(place)
 }
 
@@ -162,7 +340,7 @@ fn read_piece(
     signs: &[Sign],
     at: usize,
     trail: &mut Trail,
-    names: &mut Vec<u32>,
+    names: &mut Vec<u64>,
     depth: u32,
 ) -> Result<usize, ReadError>
     requires bound { bound ≤ length rows.now }
@@ -176,6 +354,10 @@ fn read_piece(
     match piece {
         Piece::Sign(mark) => passed(signs, at, trail, names, mark),
         Piece::Word(role) => waiting(signs, at, trail, names, role),
+        Piece::Zero => nought(signs, at, trail, names),
+        Piece::Find => found(signs, at, trail, names),
+        Piece::Instead => instead(signs, at, trail, names),
+        Piece::Nameless => nameless(signs, at, trail, names),
         Piece::Note(role) => noted(signs, at, trail, names, role),
         Piece::Part(make) => {
             trail.makes.push(make)?;
@@ -183,6 +365,10 @@ fn read_piece(
         }
         Piece::Named(naming) => {
             named(trail, names, naming)?;
+            Ok(at)
+        }
+        Piece::Paired(pairing) => {
+            paired(trail, names, pairing)?;
             Ok(at)
         }
         Piece::Row(r) => read_row(rows, bound, r as usize, signs, at, trail, names, depth),
@@ -202,10 +388,12 @@ fn read_piece(
             let row = if is_ahead(signs, at, ahead) { r } else { s };
             read_row(rows, bound, row as usize, signs, at, trail, names, depth)
         }
-        Piece::List(mark, r) => {
+        Piece::List(closing, mark, r) => {
             let row = r as usize;
             let place = read_row(rows, bound, row, signs, at, trail, names, depth)?;
-            list(rows, bound, mark, row, signs, place, trail, names, depth)
+            list(
+                rows, bound, closing, mark, row, signs, place, trail, names, depth,
+            )
         }
     }
 }
@@ -219,7 +407,7 @@ fn read_pieces(
     signs: &[Sign],
     at: usize,
     trail: &mut Trail,
-    names: &mut Vec<u32>,
+    names: &mut Vec<u64>,
     depth: u32,
 ) -> Result<usize, ReadError>
     requires bound { bound ≤ length rows.now }
@@ -246,7 +434,7 @@ fn read_row(
     signs: &[Sign],
     at: usize,
     trail: &mut Trail,
-    names: &mut Vec<u32>,
+    names: &mut Vec<u64>,
     depth: u32,
 ) -> Result<usize, ReadError>
     requires bound { bound ≤ length rows.now }
@@ -271,7 +459,7 @@ pub fn read_table(
     signs: &[Sign],
     at: usize,
     trail: &mut Trail,
-    names: &mut Vec<u32>,
+    names: &mut Vec<u64>,
     depth: u32,
 ) -> Result<usize, ReadError>
     requires table { length rows.now ≤ 65536 }

@@ -1,9 +1,9 @@
-ghost use Rattle.std.specs.Prelude.{◌≡◌, ◌+◌, ◌<◌, ◌≤◌, ◌^◌, ℕ, length, drop, IfOk, IfErr, OnErr, [], true, false};
+ghost use Rattle.std.specs.Prelude.{◌≡◌, ◌+◌, ◌<◌, ◌≤◌, ◌^◌, ℕ, length, drop, IfOk, IfErr, [], true, false};
 ghost use Rattle.cv_parse_notation.specs.Spells.{next_is, is_mark, is_script_word, is_word, is_zero, is_find, is_unnamed, kind_of};
 ghost use Rattle.cv_parse_notation.specs.Reads.{read_sign};
-ghost use Rattle.cv_parse_grammar.specs.Phrases.{Term};
+ghost use Rattle.cv_parse_grammar.specs.Phrases.{Body, Input, Output, ProcessBranch, Term};
 ghost use Rattle.cv_parse_grammar.specs.Rules.{heads};
-ghost use Rattle.cv_parse_terms.specs.Gives.{Fails, IsSign, Opens, Shallow, read_opening, read_too_deep, next_value, word_in as word_of, find_in as find_of, unnamed_in as unnamed_of};
+ghost use Rattle.cv_parse_terms.specs.Gives.{Fails, IsSign, Opens, Shallow, read_opening, next_value, word_in as word_of, find_in as find_of, unnamed_in as unnamed_of};
 ghost use Rattle.cv_parse_terms.specs.declared.lookahead.ReadError.TheVariants.{OutOfMemory};
 
 use cv_parse_notation::{Mark, ScriptWord, Sign};
@@ -190,6 +190,48 @@ pub fn begins_term(signs: &[Sign], at: usize) -> bool
                 || (is_at(signs, at, Mark::False) || is_at(signs, at, Mark::Open))))
 }
 
+/// Whether an output process begins at a place.
+#[tactic(auto, using(crate::proofs::Begins::output_begins))]
+pub fn begins_output(signs: &[Sign], at: usize) -> bool
+    ensures { result ≡ next_is (heads Output) (drop at signs.now) }
+{
+    is_at(signs, at, Mark::Yield)
+        || (is_at(signs, at, Mark::Open)
+            || (is_at(signs, at, Mark::Out)
+                || (is_at(signs, at, Mark::New)
+                    || (is_at(signs, at, Mark::Let)
+                        || (is_at(signs, at, Mark::EventWord)
+                            || (is_at(signs, at, Mark::If) || is_find_at(signs, at)))))))
+}
+
+/// Whether an input process begins at a place.
+#[tactic(auto, using(crate::proofs::Begins::input_begins))]
+pub fn begins_input(signs: &[Sign], at: usize) -> bool
+    ensures { result ≡ next_is (heads Input) (drop at signs.now) }
+{
+    is_zero_at(signs, at)
+        || (is_at(signs, at, Mark::Open)
+            || (is_at(signs, at, Mark::Bang) || is_at(signs, at, Mark::In)))
+}
+
+/// Whether the body of a function begins at a place.
+#[tactic(auto, using(crate::proofs::Begins::body_begins))]
+pub fn begins_body(signs: &[Sign], at: usize) -> bool
+    ensures { result ≡ next_is (heads Body) (drop at signs.now) }
+{
+    is_at(signs, at, Mark::New)
+        || (is_at(signs, at, Mark::Let)
+            || (is_at(signs, at, Mark::If) || (is_find_at(signs, at) || begins_term(signs, at))))
+}
+
+/// Whether a branch of `find` begins at a place.
+#[tactic(auto, using(crate::proofs::Begins::branch_begins))]
+pub fn begins_branch(signs: &[Sign], at: usize) -> bool
+    ensures { result ≡ next_is (heads ProcessBranch) (drop at signs.now) }
+{
+    is_word_at(signs, at) || is_at(signs, at, Mark::Suchthat)
+}
+
 /// The place behind an opening bracket, which opens a level.
 #[tactic(auto, using(crate::proofs::Places::places, crate::proofs::Levels::levels))]
 pub fn open(signs: &[Sign], at: usize, depth: u32, mark: Mark) -> Result<usize, ReadError>
@@ -201,24 +243,6 @@ pub fn open(signs: &[Sign], at: usize, depth: u32, mark: Mark) -> Result<usize, 
 {
     if depth > 0 {
         return expect(signs, at, mark);
-    }
-    if is_at(signs, at, mark) {
-        return Err(ReadError::Nesting(at as u32));
-    }
-    Err(ReadError::Syntax(at as u32))
-}
-
-/// The levels that are left one level down, for a phrase that begins with this word or symbol.
-#[tactic(auto, using(crate::proofs::Places::places, crate::proofs::Levels::levels))]
-pub fn descend(signs: &[Sign], at: usize, depth: u32, mark: Mark) -> Result<u32, ReadError>
-    requires at { at ≤ length signs.now }
-    requires few { length signs.now < 2 ^ 32 }
-    ensures less { IfOk result (λ less. less + 1 ≡ depth) }
-    ensures none { OnErr result (depth ≡ 0) }
-    ensures fails { IfErr result (λ e. Fails signs.now e (read_too_deep mark (drop at signs.now))) }
-{
-    if depth > 0 {
-        return Ok(depth - 1);
     }
     if is_at(signs, at, mark) {
         return Err(ReadError::Nesting(at as u32));

@@ -1,181 +1,397 @@
-ghost use Rattle.std.specs.Prelude.{◌≡◌, false, ◌∷◌, [], ◌+◌, ◌<◌, ◌≤◌, ◌^◌, length, drop};
-ghost use Rattle.cv_parse_notation.specs.Form.{deeper, made};
-ghost use Rattle.cv_syntax_trees.specs.Tree.{chain};
+ghost use Rattle.std.specs.Prelude.{◌<◌, ◌≤◌, ◌^◌, length, drop};
 ghost use Rattle.cv_syntax.specs.Postorder.{postorder};
-ghost use Rattle.cv_parse_grammar.specs.Phrases.{Term, Arguments, Subscript, OneCell, listed};
-ghost use Rattle.cv_parse_grammar.specs.Terms.{arguments as arguments_form, equality as equality_form, term as term_form, terms as terms_form, cell as cell_form, condition as condition_form};
-ghost use Rattle.cv_parse_terms.specs.Gives.{Makes, below, parts_of_both, read_in};
+ghost use Rattle.cv_parse_grammar.specs.Phrases.{Term, Subscript, OneCell};
+ghost use Rattle.cv_parse_grammar.specs.Terms.{arguments as arguments_form, equality as equality_form, term as term_form, terms as terms_form, cell as cell_form};
+ghost use Rattle.cv_parse_terms.specs.Gives.{Makes, below, read_in};
 ghost use Rattle.cv_parse_terms.specs.TermRows.{Enters};
 
 use crate::interpreter::read_table;
 use crate::lookahead::ReadError;
-use crate::piece::Ahead::{Mark as Next, Term as TermNext, Word as WordNext};
-use crate::piece::Naming::{Apply, Leaf, Read};
-use crate::piece::Piece;
 use crate::piece::Piece::{
-    Choice, Deeper, Level, List, Named, Note, Part, Row, Sign as Says, Word,
+    Choice, Deeper, Find, Instead, Level, List as Items, Named, Nameless, Note, Paired, Part, Row,
+    Sign as Says, Word, Zero,
 };
+use crate::piece::{Ahead as Next, Closing, Naming, Pairing, Piece};
 use crate::trail::Trail;
-use cv_parse_grammar::Role;
+use cv_parse_grammar::{Asked, Role};
 use cv_parse_notation::{Mark, Sign};
 use cv_syntax::Head;
 use cv_syntax::Make::{Nothing, Over};
 
-/// The rows of terms and of the conditions of `find`. A row without a name of its own is the inside of
-/// the next one.
-const ROWS: [&[Piece]; 56] = [
+/// The rows of terms, processes and the bodies of functions. A row that stands before one that only
+/// opens a level is the inside of it.
+const ROWS: [&[Piece]; 146] = [
     &[],
-    &[Deeper(TermNext, TERM)],
-    &[List(Mark::Comma, INNER_TERM)],
-    &[Says(Mark::Open), Row(TERMS), Says(Mark::Close)],
-    &[Level(Next(Mark::Open), 3)],
-    &[Says(Mark::OpenSquare), Row(TERMS), Says(Mark::CloseSquare)],
-    &[Level(Next(Mark::OpenSquare), 5)],
-    &[Says(Mark::Open), Row(INNER_TERM), Says(Mark::Close)],
-    &[Level(Next(Mark::Open), 7)],
+    &[Deeper(Next::Term, 37)],
+    &[Items(Closing::Trees, Mark::Comma, 1)],
+    &[Says(Mark::Open), Row(2), Says(Mark::Close)],
+    &[Level(Next::Mark(Mark::Open), 3)],
+    &[Says(Mark::OpenSquare), Row(2), Says(Mark::CloseSquare)],
+    &[Level(Next::Mark(Mark::OpenSquare), 5)],
+    &[Says(Mark::Open), Row(1), Says(Mark::Close)],
+    &[Level(Next::Mark(Mark::Open), 7)],
     &[
         Note(Role::AsCall),
-        Deeper(Next(Mark::Open), ARGUMENTS),
+        Deeper(Next::Mark(Mark::Open), 4),
         Part(Nothing),
-        Named(Apply),
+        Named(Naming::Apply),
     ],
     &[
         Note(Role::AsArray),
-        Deeper(Next(Mark::OpenSquare), SUBSCRIPT),
+        Deeper(Next::Mark(Mark::OpenSquare), 6),
         Part(Nothing),
-        Named(Read),
+        Named(Naming::Read),
     ],
     &[
         Note(Role::AsBare),
         Part(Nothing),
         Part(Nothing),
-        Named(Leaf),
+        Named(Naming::Leaf),
     ],
-    &[Choice(Next(Mark::OpenSquare), 10, 11)],
-    &[Word(Role::Mentions), Choice(Next(Mark::Open), 9, 12)],
-    &[Level(WordNext, 13)],
+    &[Choice(Next::Mark(Mark::OpenSquare), 10, 11)],
+    &[Word(Role::Mentions), Choice(Next::Mark(Mark::Open), 9, 12)],
+    &[Level(Next::Word, 13)],
     &[
         Says(Mark::Not),
-        Deeper(Next(Mark::Open), 8),
+        Deeper(Next::Mark(Mark::Open), 8),
         Part(Nothing),
         Part(Over(Head::Not)),
     ],
-    &[Level(Next(Mark::Not), 15)],
+    &[Level(Next::Mark(Mark::Not), 15)],
     &[
         Says(Mark::True),
         Part(Nothing),
         Part(Nothing),
         Part(Over(Head::Yes)),
     ],
-    &[Level(Next(Mark::True), 17)],
+    &[Level(Next::Mark(Mark::True), 17)],
     &[
         Says(Mark::False),
         Part(Nothing),
         Part(Nothing),
         Part(Over(Head::No)),
     ],
-    &[Level(Next(Mark::False), 19)],
-    &[Choice(Next(Mark::False), 20, 8)],
-    &[Choice(Next(Mark::True), 18, 21)],
-    &[Choice(Next(Mark::Not), 16, 22)],
-    &[Choice(WordNext, 14, 23)],
-    &[Says(Mark::Differ), Deeper(TermNext, PRIMARY)],
-    &[Level(Next(Mark::Differ), 25)],
+    &[Level(Next::Mark(Mark::False), 19)],
+    &[Choice(Next::Mark(Mark::False), 20, 8)],
+    &[Choice(Next::Mark(Mark::True), 18, 21)],
+    &[Choice(Next::Mark(Mark::Not), 16, 22)],
+    &[Choice(Next::Word, 14, 23)],
+    &[Says(Mark::Differ), Deeper(Next::Term, 24)],
+    &[Level(Next::Mark(Mark::Differ), 25)],
     &[
-        Deeper(Next(Mark::Differ), 26),
+        Deeper(Next::Mark(Mark::Differ), 26),
         Part(Over(Head::Eq)),
         Part(Nothing),
         Part(Over(Head::Not)),
     ],
     &[Says(Mark::Equal)],
     &[
-        Level(Next(Mark::Equal), 28),
-        Deeper(TermNext, PRIMARY),
+        Level(Next::Mark(Mark::Equal), 28),
+        Deeper(Next::Term, 24),
         Part(Over(Head::Eq)),
     ],
-    &[Choice(Next(Mark::Differ), 27, 0)],
-    &[Row(PRIMARY), Choice(Next(Mark::Equal), 29, 30)],
+    &[Choice(Next::Mark(Mark::Differ), 27, 0)],
+    &[Row(24), Choice(Next::Mark(Mark::Equal), 29, 30)],
     &[Says(Mark::Both)],
     &[
-        Level(Next(Mark::Both), 32),
-        Deeper(TermNext, 34),
+        Level(Next::Mark(Mark::Both), 32),
+        Deeper(Next::Term, 34),
         Part(Over(Head::And)),
     ],
-    &[Row(EQUALITY), Choice(Next(Mark::Both), 33, 0)],
+    &[Row(31), Choice(Next::Mark(Mark::Both), 33, 0)],
     &[Says(Mark::Either)],
     &[
-        Level(Next(Mark::Either), 35),
-        Deeper(TermNext, TERM),
+        Level(Next::Mark(Mark::Either), 35),
+        Deeper(Next::Term, 37),
         Part(Over(Head::Or)),
     ],
-    &[Row(34), Choice(Next(Mark::Either), 36, 0)],
+    &[Row(34), Choice(Next::Mark(Mark::Either), 36, 0)],
     &[
-        Deeper(Next(Mark::OpenSquare), SUBSCRIPT),
+        Deeper(Next::Mark(Mark::OpenSquare), 6),
         Part(Nothing),
-        Named(Read),
+        Named(Naming::Read),
     ],
-    &[Part(Nothing), Part(Nothing), Named(Leaf)],
+    &[Part(Nothing), Part(Nothing), Named(Naming::Leaf)],
     &[
         Word(Role::MentionsCell),
-        Choice(Next(Mark::OpenSquare), 38, 39),
+        Choice(Next::Mark(Mark::OpenSquare), 38, 39),
     ],
-    &[Level(WordNext, 40)],
-    &[Deeper(WordNext, CELL)],
+    &[Level(Next::Word, 40)],
+    &[Deeper(Next::Word, 41)],
     &[
         Says(Mark::Open),
-        List(Mark::Comma, INNER_CELL),
+        Items(Closing::Trees, Mark::Comma, 42),
         Says(Mark::Close),
     ],
-    &[Level(Next(Mark::Open), 43)],
-    &[Deeper(Next(Mark::Open), 44)],
-    &[Says(Mark::Both), Row(INNER_TERM)],
+    &[Level(Next::Mark(Mark::Open), 43)],
+    &[Deeper(Next::Mark(Mark::Open), 44)],
+    &[Says(Mark::Both), Row(1)],
     &[Part(Nothing), Part(Nothing), Part(Over(Head::Yes))],
     &[
         Says(Mark::Defined),
-        Row(INNER_CELLS),
-        Choice(Next(Mark::Both), 46, 47),
+        Row(45),
+        Choice(Next::Mark(Mark::Both), 46, 47),
     ],
-    &[Part(Nothing), Row(INNER_TERM)],
-    &[Choice(Next(Mark::Defined), 48, 49)],
-    &[Deeper(Next(Mark::Open), ARGUMENTS)],
-    &[Deeper(Next(Mark::OpenSquare), SUBSCRIPT)],
-    &[Row(INNER_TERM), Part(Nothing), Part(Over(Head::Cons))],
+    &[Part(Nothing), Row(1)],
+    &[Choice(Next::Mark(Mark::Defined), 48, 49)],
+    &[Deeper(Next::Mark(Mark::Open), 4)],
+    &[Deeper(Next::Mark(Mark::OpenSquare), 6)],
+    &[Row(1), Part(Nothing), Part(Over(Head::Cons))],
     &[Part(Nothing)],
-    &[Choice(TermNext, TERMS, 54)],
+    &[Choice(Next::Term, 2, 54)],
+    &[Says(Mark::Bool), Nameless],
+    &[Word(Role::Asks(Asked::AType))],
+    &[Choice(Next::Mark(Mark::Bool), 56, 57)],
+    &[Word(Role::BindsVariable), Says(Mark::Colon), Row(58)],
+    &[Word(Role::BindsLocal), Says(Mark::Colon), Row(58)],
+    &[Row(59), Part(Nothing)],
+    &[Items(Closing::Binders, Mark::Comma, 61)],
+    &[
+        Says(Mark::Open),
+        Choice(Next::Word, 62, 54),
+        Says(Mark::Close),
+    ],
+    &[Level(Next::Mark(Mark::Open), 63)],
+    &[Deeper(Next::Mark(Mark::Open), 64)],
+    &[
+        Row(59),
+        Part(Nothing),
+        Part(Nothing),
+        Paired(Pairing::Binder),
+    ],
+    &[Choice(Next::Mark(Mark::Open), 65, 66)],
+    &[Word(Role::AsksIndex), Part(Nothing)],
+    &[
+        Says(Mark::OpenSquare),
+        Items(Closing::Names, Mark::Comma, 68),
+        Says(Mark::CloseSquare),
+    ],
+    &[Level(Next::Mark(Mark::OpenSquare), 69)],
+    &[Deeper(Next::Mark(Mark::OpenSquare), 70)],
+    &[
+        Word(Role::Asks(Asked::AChannel)),
+        Choice(Next::Mark(Mark::OpenSquare), 71, 54),
+    ],
+    &[
+        Says(Mark::Open),
+        Row(72),
+        Says(Mark::Comma),
+        Row(67),
+        Says(Mark::Close),
+    ],
+    &[Level(Next::Mark(Mark::Open), 73)],
+    &[Says(Mark::Open), Row(55), Says(Mark::Close)],
+    &[Level(Next::Mark(Mark::Open), 75)],
+    &[Deeper(Next::Mark(Mark::Open), 76)],
+    &[Choice(Next::Mark(Mark::Open), 77, 53)],
+    &[
+        Says(Mark::Open),
+        Row(72),
+        Says(Mark::Comma),
+        Row(78),
+        Says(Mark::Close),
+    ],
+    &[Level(Next::Mark(Mark::Open), 79)],
+    &[Zero, Part(Nothing), Part(Nothing), Part(Over(Head::Stop))],
+    &[Level(Next::Zero, 81)],
+    &[Says(Mark::Open), Deeper(Next::Input, 94), Says(Mark::Close)],
+    &[Level(Next::Mark(Mark::Open), 83)],
+    &[
+        Says(Mark::Bang),
+        Word(Role::BindsIndex),
+        Says(Mark::AtMost),
+        Word(Role::Asks(Asked::AParam)),
+        Part(Nothing),
+        Deeper(Next::Input, 91),
+        Paired(Pairing::Repl),
+    ],
+    &[Level(Next::Mark(Mark::Bang), 85)],
+    &[
+        Says(Mark::In),
+        Deeper(Next::Mark(Mark::Open), 74),
+        Part(Over(Head::Cons)),
+        Says(Mark::Semicolon),
+        Deeper(Next::Output, 127),
+        Named(Naming::In),
+    ],
+    &[Level(Next::Mark(Mark::In), 87)],
+    &[Choice(Next::Mark(Mark::Bang), 86, 88)],
+    &[Choice(Next::Mark(Mark::Open), 84, 89)],
+    &[Choice(Next::Zero, 82, 90)],
+    &[Says(Mark::Bar)],
+    &[
+        Level(Next::Mark(Mark::Bar), 92),
+        Deeper(Next::Input, 94),
+        Part(Over(Head::Par)),
+    ],
+    &[Row(91), Choice(Next::Mark(Mark::Bar), 93, 0)],
+    &[
+        Says(Mark::Yield),
+        Part(Nothing),
+        Part(Nothing),
+        Part(Over(Head::Yield)),
+    ],
+    &[Level(Next::Mark(Mark::Yield), 95)],
+    &[
+        Says(Mark::Open),
+        Deeper(Next::Output, 127),
+        Says(Mark::Close),
+    ],
+    &[Level(Next::Mark(Mark::Open), 97)],
+    &[Says(Mark::Semicolon), Deeper(Next::Input, 91)],
+    &[Part(Nothing), Part(Nothing), Part(Over(Head::Stop))],
+    &[
+        Says(Mark::Out),
+        Deeper(Next::Mark(Mark::Open), 80),
+        Part(Over(Head::Cons)),
+        Choice(Next::Mark(Mark::Semicolon), 99, 100),
+        Named(Naming::Out),
+    ],
+    &[Level(Next::Mark(Mark::Out), 101)],
+    &[
+        Says(Mark::New),
+        Row(59),
+        Says(Mark::Semicolon),
+        Part(Nothing),
+        Deeper(Next::Output, 127),
+        Paired(Pairing::New),
+    ],
+    &[Level(Next::Mark(Mark::New), 103)],
+    &[
+        Says(Mark::Let),
+        Row(59),
+        Says(Mark::Equal),
+        Row(1),
+        Says(Mark::In),
+        Deeper(Next::Output, 127),
+        Paired(Pairing::Let),
+    ],
+    &[Level(Next::Mark(Mark::Let), 105)],
+    &[
+        Says(Mark::EventWord),
+        Word(Role::Asks(Asked::AnEvent)),
+        Choice(Next::Mark(Mark::Open), 51, 54),
+        Says(Mark::Semicolon),
+        Deeper(Next::Output, 127),
+        Named(Naming::Event),
+    ],
+    &[Level(Next::Mark(Mark::EventWord), 107)],
+    &[Says(Mark::Else), Deeper(Next::Output, 127)],
+    &[Part(Nothing), Part(Nothing), Part(Over(Head::Yield))],
+    &[
+        Says(Mark::If),
+        Row(1),
+        Says(Mark::Then),
+        Deeper(Next::Output, 127),
+        Choice(Next::Mark(Mark::Else), 109, 110),
+        Part(Nothing),
+        Part(Over(Head::Cons)),
+        Part(Over(Head::Cons)),
+        Part(Over(Head::If)),
+    ],
+    &[Level(Next::Mark(Mark::If), 111)],
+    &[Says(Mark::At), Instead],
+    &[
+        Word(Role::BindsVariable),
+        Says(Mark::AtMost),
+        Word(Role::Asks(Asked::AParam)),
+        Part(Nothing),
+    ],
+    &[Items(Closing::Binders, Mark::Comma, 114)],
+    &[
+        Choice(Next::Word, 115, 54),
+        Says(Mark::Suchthat),
+        Row(50),
+        Says(Mark::Then),
+        Deeper(Next::Output, 127),
+        Part(Over(Head::Cons)),
+        Part(Over(Head::Cons)),
+        Part(Over(Head::Branch)),
+    ],
+    &[Level(Next::Branch, 116)],
+    &[Deeper(Next::Branch, 117)],
+    &[
+        Find,
+        Choice(Next::Mark(Mark::At), 113, 0),
+        Items(Closing::Trees, Mark::Orfind, 118),
+        Choice(Next::Mark(Mark::Else), 109, 110),
+        Named(Naming::Find),
+    ],
+    &[Level(Next::Find, 119)],
+    &[Choice(Next::Mark(Mark::If), 112, 120)],
+    &[Choice(Next::Mark(Mark::EventWord), 108, 121)],
+    &[Choice(Next::Mark(Mark::Let), 106, 122)],
+    &[Choice(Next::Mark(Mark::New), 104, 123)],
+    &[Choice(Next::Mark(Mark::Out), 102, 124)],
+    &[Choice(Next::Mark(Mark::Open), 98, 125)],
+    &[Choice(Next::Mark(Mark::Yield), 96, 126)],
+    &[
+        Says(Mark::New),
+        Row(60),
+        Says(Mark::Semicolon),
+        Part(Nothing),
+        Deeper(Next::Body, 145),
+        Paired(Pairing::New),
+    ],
+    &[Level(Next::Mark(Mark::New), 128)],
+    &[
+        Says(Mark::Let),
+        Row(60),
+        Says(Mark::Equal),
+        Row(1),
+        Says(Mark::In),
+        Deeper(Next::Body, 145),
+        Paired(Pairing::Let),
+    ],
+    &[Level(Next::Mark(Mark::Let), 130)],
+    &[Says(Mark::Else), Deeper(Next::Body, 145)],
+    &[
+        Says(Mark::If),
+        Row(1),
+        Says(Mark::Then),
+        Deeper(Next::Body, 145),
+        Row(132),
+        Part(Nothing),
+        Part(Over(Head::Cons)),
+        Part(Over(Head::Cons)),
+        Part(Over(Head::If)),
+    ],
+    &[Level(Next::Mark(Mark::If), 133)],
+    &[
+        Word(Role::BindsLocal),
+        Says(Mark::AtMost),
+        Word(Role::AsksBound),
+        Part(Nothing),
+    ],
+    &[Items(Closing::Binders, Mark::Comma, 135)],
+    &[
+        Choice(Next::Word, 136, 54),
+        Says(Mark::Suchthat),
+        Row(50),
+        Says(Mark::Then),
+        Deeper(Next::Body, 145),
+        Part(Over(Head::Cons)),
+        Part(Over(Head::Cons)),
+        Part(Over(Head::Branch)),
+    ],
+    &[Level(Next::Branch, 137)],
+    &[Deeper(Next::Branch, 138)],
+    &[
+        Find,
+        Choice(Next::Mark(Mark::At), 113, 0),
+        Items(Closing::Trees, Mark::Orfind, 139),
+        Row(132),
+        Named(Naming::Find),
+    ],
+    &[Level(Next::Find, 140)],
+    &[Choice(Next::Find, 141, 37)],
+    &[Choice(Next::Mark(Mark::If), 134, 142)],
+    &[Choice(Next::Mark(Mark::Let), 131, 143)],
+    &[Choice(Next::Mark(Mark::New), 129, 144)],
 ];
 
-const INNER_TERM: u16 = 1;
-
-const TERMS: u16 = 2;
-
-const ARGUMENTS: u16 = 4;
-
-const SUBSCRIPT: u16 = 6;
-
-const PRIMARY: u16 = 24;
-
-const EQUALITY: u16 = 31;
-
-const TERM: u16 = 37;
-
-const CELL: u16 = 41;
-
-const INNER_CELL: u16 = 42;
-
-const INNER_CELLS: u16 = 45;
-
-const CONDITION: u16 = 50;
-
-const INNER_ARGUMENTS: u16 = 51;
-
-const INNER_SUBSCRIPT: u16 = 52;
-
-const ONE_TERM: u16 = 53;
-
-const MAYBE_TERMS: u16 = 55;
-
-/// What a row reads.
-fn enter(
+/// What a row of the table reads.
+pub fn enter(
     row: u16,
     signs: &[Sign],
     at: usize,
@@ -198,7 +414,7 @@ pub fn term(signs: &[Sign], at: usize, trail: &mut Trail, depth: u32) -> Result<
     ensures makes { Makes postorder signs.now trail.old trail.new result
         (read_in depth term_form (drop at signs.now)) }
 {
-    enter(TERM, signs, at, trail, depth)
+    enter(37, signs, at, trail, depth)
 }
 
 /// A term one level down.
@@ -214,7 +430,7 @@ pub fn inner_term(
     ensures makes { Makes postorder signs.now trail.old trail.new result
         (below depth Term (drop at signs.now)) }
 {
-    enter(INNER_TERM, signs, at, trail, depth)
+    enter(1, signs, at, trail, depth)
 }
 
 /// A term without `&&` and `||`.
@@ -230,7 +446,7 @@ pub fn equality(
     ensures makes { Makes postorder signs.now trail.old trail.new result
         (read_in depth equality_form (drop at signs.now)) }
 {
-    enter(EQUALITY, signs, at, trail, depth)
+    enter(31, signs, at, trail, depth)
 }
 
 /// A list of terms.
@@ -241,39 +457,7 @@ pub fn terms(signs: &[Sign], at: usize, trail: &mut Trail, depth: u32) -> Result
     ensures makes { Makes postorder signs.now trail.old trail.new result
         (read_in depth terms_form (drop at signs.now)) }
 {
-    enter(TERMS, signs, at, trail, depth)
-}
-
-/// Terms with commas between them, where there are some.
-#[tactic(auto, using(crate::proofs::Entries::entries))]
-pub fn maybe_terms(
-    signs: &[Sign],
-    at: usize,
-    trail: &mut Trail,
-    depth: u32,
-) -> Result<usize, ReadError>
-    requires at { at ≤ length signs.now }
-    requires few { length signs.now < 2 ^ 32 }
-    ensures makes { Makes postorder signs.now trail.old trail.new result
-        (read_in depth (listed terms_form) (drop at signs.now)) }
-{
-    enter(MAYBE_TERMS, signs, at, trail, depth)
-}
-
-/// A list of one term, one level down.
-#[tactic(auto, using(crate::proofs::Entries::entries))]
-pub fn one_term(
-    signs: &[Sign],
-    at: usize,
-    trail: &mut Trail,
-    depth: u32,
-) -> Result<usize, ReadError>
-    requires at { at ≤ length signs.now }
-    requires few { length signs.now < 2 ^ 32 }
-    ensures makes { Makes postorder signs.now trail.old trail.new result
-        (read_in depth (made (λ t. chain (t ∷ [])) (deeper Term)) (drop at signs.now)) }
-{
-    enter(ONE_TERM, signs, at, trail, depth)
+    enter(2, signs, at, trail, depth)
 }
 
 /// Arguments in parentheses.
@@ -289,23 +473,7 @@ pub fn arguments(
     ensures makes { Makes postorder signs.now trail.old trail.new result
         (read_in depth arguments_form (drop at signs.now)) }
 {
-    enter(ARGUMENTS, signs, at, trail, depth)
-}
-
-/// Arguments in parentheses, one level down.
-#[tactic(auto, using(crate::proofs::Entries::entries))]
-pub fn inner_arguments(
-    signs: &[Sign],
-    at: usize,
-    trail: &mut Trail,
-    depth: u32,
-) -> Result<usize, ReadError>
-    requires at { at ≤ length signs.now }
-    requires few { length signs.now < 2 ^ 32 }
-    ensures makes { Makes postorder signs.now trail.old trail.new result
-        (below depth Arguments (drop at signs.now)) }
-{
-    enter(INNER_ARGUMENTS, signs, at, trail, depth)
+    enter(4, signs, at, trail, depth)
 }
 
 /// Indices in square brackets, one level down.
@@ -321,7 +489,7 @@ pub fn inner_subscript(
     ensures makes { Makes postorder signs.now trail.old trail.new result
         (below depth Subscript (drop at signs.now)) }
 {
-    enter(INNER_SUBSCRIPT, signs, at, trail, depth)
+    enter(52, signs, at, trail, depth)
 }
 
 /// A cell of `defined`.
@@ -332,7 +500,7 @@ pub fn cell(signs: &[Sign], at: usize, trail: &mut Trail, depth: u32) -> Result<
     ensures makes { Makes postorder signs.now trail.old trail.new result
         (read_in depth cell_form (drop at signs.now)) }
 {
-    enter(CELL, signs, at, trail, depth)
+    enter(41, signs, at, trail, depth)
 }
 
 /// A cell of `defined`, one level down.
@@ -348,21 +516,5 @@ pub fn inner_cell(
     ensures makes { Makes postorder signs.now trail.old trail.new result
         (below depth OneCell (drop at signs.now)) }
 {
-    enter(INNER_CELL, signs, at, trail, depth)
-}
-
-/// The condition of a branch of `find`: the cells that are to be defined, and what is to hold.
-#[tactic(auto, using(crate::proofs::Entries::entries))]
-pub fn condition(
-    signs: &[Sign],
-    at: usize,
-    trail: &mut Trail,
-    depth: u32,
-) -> Result<usize, ReadError>
-    requires at { at ≤ length signs.now }
-    requires few { length signs.now < 2 ^ 32 }
-    ensures makes { Makes parts_of_both signs.now trail.old trail.new result
-        (read_in depth condition_form (drop at signs.now)) }
-{
-    enter(CONDITION, signs, at, trail, depth)
+    enter(42, signs, at, trail, depth)
 }

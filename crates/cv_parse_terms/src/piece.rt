@@ -9,8 +9,20 @@ pub enum Ahead {
     Mark(Mark),
     /// A name.
     Word,
+    /// The number 0.
+    Zero,
+    /// The word `find`.
+    Find,
     /// What a term begins with.
     Term,
+    /// What an input process begins with.
+    Input,
+    /// What an output process begins with.
+    Output,
+    /// What the body of a function begins with.
+    Body,
+    /// What a branch of `find` begins with.
+    Branch,
 }
 
 /// A head that takes a name.
@@ -19,6 +31,31 @@ pub enum Naming {
     Leaf,
     Read,
     Apply,
+    Name,
+    In,
+    Out,
+    Event,
+    Find,
+}
+
+/// A head that takes two names.
+#[derive(Clone, Copy)]
+pub enum Pairing {
+    Binder,
+    New,
+    Let,
+    Repl,
+}
+
+/// What a list is made of.
+#[derive(Clone, Copy)]
+pub enum Closing {
+    /// Trees.
+    Trees,
+    /// Pairs of names that wait.
+    Binders,
+    /// Names that wait.
+    Names,
 }
 
 /// A piece of a row. Rows go by their numbers, and speak of rows with smaller numbers; only a phrase
@@ -29,12 +66,22 @@ pub enum Piece {
     Sign(Mark),
     /// A name, which is used so, and waits for a head.
     Word(Role),
+    /// The number 0.
+    Zero,
+    /// The word `find`: its number waits as a name.
+    Find,
+    /// A number, in place of the name that waits last.
+    Instead,
+    /// The name 0 waits, which is no token.
+    Nameless,
     /// A note about names, which is no token.
     Note(Role),
     /// A part of a tree, which is no token.
     Part(Make),
     /// A node with a head of the name that waits.
     Named(Naming),
+    /// A node with a head of the two names that wait.
+    Paired(Pairing),
     /// What a row reads.
     Row(u16),
     /// What a row reads, which opens a level, and begins so.
@@ -43,6 +90,6 @@ pub enum Piece {
     Deeper(Ahead, u16),
     /// What the first row reads where the next token is such, or else the second.
     Choice(Ahead, u16, u16),
-    /// What a row reads, once and again behind each such symbol: a list of the trees.
-    List(Mark, u16),
+    /// What a row reads, once and again behind each such symbol: a list.
+    List(Closing, Mark, u16),
 }

@@ -6,12 +6,12 @@ use Rattle.cv_parse_terms.proofs.interpreter.+walk.Goals as goal
 pub list-returns-in_err-place : goal.list-returns-in_err-place
 list-returns-in_err-place t c =
     passed_on c.args.signs.now c.from_residual-in_err-place.result _ _ _ _ c.from_residual-in_err-place.ensures.1
-    (list_row_stops c.args.mark _ c.args.signs.now c.turns.trail c.turns.names.items c.turns.place c.in_ok-next.next c.turns.turns c.turns.count _ _ c.turns-test.true (sym c.if-not-is_at.ensures) c.in_ok-next.ensures c.in_err-place.ensures c.turns.invariant.same)
+    (list_row_stops c.args.closing c.args.mark _ c.args.signs.now c.turns.trail c.turns.names.items c.turns.place c.in_ok-next.next c.turns.turns c.turns.count _ _ c.turns-test.true (sym c.if-not-is_at.ensures) c.in_ok-next.ensures c.in_err-place.ensures c.turns.invariant.same)
 
 pub list-turns-preserved : goal.list-turns-preserved
 list-turns-preserved t c = record {
   within = c.in_ok-place.ensures.0;
-  same = list_goes c.args.mark _ c.args.signs.now c.turns.trail c.read_row.new.trail c.turns.names.items c.read_row.new.names.items c.turns.place _ _ c.turns.turns c.turns.count _ c.turns-test.true (sym c.if-not-is_at.ensures) c.in_ok-next.ensures c.in_ok-place.ensures c.turns.invariant.same;
+  same = list_goes c.args.closing c.args.mark _ c.args.signs.now c.turns.trail c.read_row.new.trail c.turns.names.items c.read_row.new.names.items c.turns.place _ _ c.turns.turns c.turns.count _ c.turns-test.true (sym c.if-not-is_at.ensures) c.in_ok-next.ensures c.in_ok-place.ensures c.turns.invariant.same;
   fits = let f = c.turns.invariant.fits in let h = c.turns-test.true in omega arith;
 }
 

@@ -1,8 +1,0 @@
-use Rattle.cv_parse_notation.specs.Form.{◌&◌, ◌▸◌, made}
-use Rattle.cv_parse_notation.specs.declared.sign.Mark.TheVariants.{Comma}
-use Rattle.cv_parse_grammar.specs.Processes.{channel, over, received}
-use Rattle.cv_parse_processes.proofs.Nodes.{over_between}
-use Rattle.cv_parse_processes.proofs.messages.pattern.Goals as goal
-
-pub returns : goal.returns
-returns c = record { makes = over_between (made over (channel & (Comma ▸ received))) c.in_ok-place.ensures.opens c.in_ok-name.ensures.makes c.in_ok-place-2.ensures.read }

@@ -1,8 +1,0 @@
-use Rattle.std.proofs.Common.{refl, sym}
-use Rattle.cv_parse_notation.specs.Form.{deeper}
-use Rattle.cv_parse_grammar.specs.Phrases.{Arguments}
-use Rattle.cv_parse_terms.proofs.Levels.{no_tree}
-use Rattle.cv_parse_processes.proofs.processes.maybe_arguments.Goals as goal
-
-pub returns : goal.returns
-returns c = record { makes = no_tree c.args.depth (deeper Arguments) c.args.signs.now c.args.trail.now _ c.args.at c.requires.at (sym c.if-is_at.ensures) refl c.in_ok-push.ensures.items }
