@@ -1,18 +1,16 @@
 -- Pieces of a proof block, one after another.
 use Rattle.std.proofs.Common.{◌≡◌, ℕ, ◌-◌, ◌<◌, ◌≤◌, Bool, true, false, not, ◌||◌, List, [], ◌∷◌, ◌++◌, length, drop, refl, sym, arith, subst, length-drop, Result}
-use Rattle.cv_syntax_trees.specs.Tree.{Empty}
 use Rattle.cv_parse_notation.specs.declared.sign.Sign.{Sign}
 use Rattle.cv_parse_notation.specs.declared.sign.Mark.TheVariants as mark
-use Rattle.cv_parse_notation.specs.Form.{deeper, made, other}
+use Rattle.cv_parse_notation.specs.Form.{deeper, made}
 use Rattle.cv_parse_notation.specs.Spells.{AFind, AMark, ANumber, AWord, AnUnnamed, Kind, Zero, is_mark, kind_of, next_is, starts}
-use Rattle.cv_parse_notation.specs.Reads.{Read, read_other}
+use Rattle.cv_parse_notation.specs.Reads.{Read}
 use Rattle.cv_parse_notation.proofs.Sound.{same_mark_eq}
 use Rattle.cv_parse_grammar.specs.declared.role.Role.{Role}
-use Rattle.cv_parse_grammar.specs.Phrases.{Braces, Phrase, Sort}
+use Rattle.cv_parse_grammar.specs.Phrases.{Phrase, Sort}
 use Rattle.cv_parse_grammar.specs.Rules.{heads, matched, rule}
 use Rattle.cv_parse_terms.specs.declared.lookahead.ReadError.{ReadError}
-use Rattle.cv_parse_terms.specs.Gives.{IsPlain, below, read_in}
-use Rattle.cv_parse_terms.proofs.Chains.{first_read, made_read, second_read}
+use Rattle.cv_parse_terms.specs.Gives.{below, read_in}
 use Rattle.cv_parse_terms.proofs.Levels.{below_is}
 use Rattle.cv_parse_terms.proofs.Places.{past_end, plain_read}
 use Rattle.cv_parse_terms.proofs.Rows.{SoFar, many_begins, many_done, many_goes, read_grows}

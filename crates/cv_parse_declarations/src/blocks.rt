@@ -1,4 +1,4 @@
-ghost use Rattle.std.specs.Prelude.{◌≡◌, false, ◌+◌, ◌<◌, ◌≤◌, ◌^◌, ◌∷◌, [], ℕ, length, drop};
+ghost use Rattle.std.specs.Prelude.{◌≡◌, false, ◌<◌, ◌≤◌, ◌^◌, length, drop};
 ghost use Rattle.cv_parse_notation.specs.Form.{many, may, ◌▸◌};
 ghost use Rattle.cv_parse_notation.specs.Spells.{next_is, starts};
 ghost use Rattle.cv_parse_notation.specs.declared.sign.Mark.TheVariants.{Proof};

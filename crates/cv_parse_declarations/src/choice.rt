@@ -1,8 +1,8 @@
-ghost use Rattle.std.specs.Prelude.{◌≡◌, false, ◌+◌, ◌<◌, ◌≤◌, ◌^◌, ◌++◌, ◌∷◌, [], ℕ, length, drop};
-ghost use Rattle.cv_parse_notation.specs.Form.{either, many};
+ghost use Rattle.std.specs.Prelude.{◌≡◌, false, ◌<◌, ◌≤◌, ◌^◌, length, drop};
+ghost use Rattle.cv_parse_notation.specs.Form.{many};
 ghost use Rattle.cv_parse_notation.specs.Spells.{next_is, starts};
 ghost use Rattle.cv_parse_grammar.specs.Rules.{heads};
-ghost use Rattle.cv_parse_grammar.specs.Declarations.{collision_decl as collision_form, const_decl as const_form, declaration as declaration_form, equation_decl as equation_form, equiv_decl as equiv_form, event_decl as event_form, fun_decl as fun_form, query_decl as query_form, type_decl as type_form};
+ghost use Rattle.cv_parse_grammar.specs.Declarations.{collision_decl as collision_form, declaration as declaration_form};
 ghost use Rattle.cv_parse_terms.specs.Gives.{read_in};
 ghost use Rattle.cv_parse_signature.specs.Declares.{Declares};
 ghost use Rattle.cv_parse_declarations.specs.Sequences.{DeclareAll};
@@ -10,10 +10,7 @@ ghost use Rattle.cv_parse_declarations.specs.Choices.{ending, middle};
 
 use crate::equivalences::equiv_decl;
 use cv_parse_notation::{Mark, Sign};
-use cv_parse_signature::{
-    Heard, channel_decl, collision_decl, const_decl, equation_decl, event_decl, fun_decl,
-    param_decl, proba_decl, query_decl, type_decl,
-};
+use cv_parse_signature::{DeclarationKind, Heard, collision_decl, declare};
 use cv_parse_terms::{ReadError, Trail, is_at, is_unnamed_at};
 use std::alloc::Global;
 
@@ -41,7 +38,7 @@ fn last_decl(
         result (read_in depth ending (drop at signs.now)) }
 {
     if is_at(signs, at, Mark::EquationWord) {
-        return equation_decl(alloc, signs, at, trail, heard, depth);
+        return declare(DeclarationKind::Equation, signs, at, trail, heard, depth);
     }
     if begins_collision(signs, at) {
         return collision_decl(alloc, signs, at, trail, heard, depth);
@@ -49,7 +46,7 @@ fn last_decl(
     if is_at(signs, at, Mark::Equiv) {
         return equiv_decl(alloc, signs, at, trail, heard, depth);
     }
-    query_decl(alloc, signs, at, trail, heard, depth)
+    declare(DeclarationKind::Query, signs, at, trail, heard, depth)
 }
 
 /// A declaration of a type, of constants, of a function or of an event, or one of those behind them.
@@ -68,16 +65,16 @@ fn next_decl(
         result (read_in depth middle (drop at signs.now)) }
 {
     if is_at(signs, at, Mark::TypeWord) {
-        return type_decl(alloc, signs, at, trail, heard, depth);
+        return declare(DeclarationKind::TypeName, signs, at, trail, heard, depth);
     }
     if is_at(signs, at, Mark::ConstWord) {
-        return const_decl(alloc, signs, at, trail, heard, depth);
+        return declare(DeclarationKind::Constants, signs, at, trail, heard, depth);
     }
     if is_at(signs, at, Mark::Fun) {
-        return fun_decl(alloc, signs, at, trail, heard, depth);
+        return declare(DeclarationKind::Function, signs, at, trail, heard, depth);
     }
     if is_at(signs, at, Mark::EventWord) {
-        return event_decl(alloc, signs, at, trail, heard, depth);
+        return declare(DeclarationKind::Event, signs, at, trail, heard, depth);
     }
     last_decl(alloc, signs, at, trail, heard, depth)
 }
@@ -98,13 +95,13 @@ fn decl(
         result (read_in depth declaration_form (drop at signs.now)) }
 {
     if is_at(signs, at, Mark::Param) {
-        return param_decl(alloc, signs, at, trail, heard, depth);
+        return declare(DeclarationKind::Parameters, signs, at, trail, heard, depth);
     }
     if is_at(signs, at, Mark::Channel) {
-        return channel_decl(alloc, signs, at, trail, heard, depth);
+        return declare(DeclarationKind::Channels, signs, at, trail, heard, depth);
     }
     if is_at(signs, at, Mark::Proba) {
-        return proba_decl(signs, at, trail, heard, depth);
+        return declare(DeclarationKind::Probability, signs, at, trail, heard, depth);
     }
     next_decl(alloc, signs, at, trail, heard, depth)
 }

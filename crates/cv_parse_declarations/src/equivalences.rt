@@ -1,11 +1,9 @@
-ghost use Rattle.std.specs.Prelude.{◌≡◌, ◌+◌, ◌<◌, ◌≤◌, ◌^◌, ◌++◌, ◌∷◌, [], ℕ, length, drop};
-ghost use Rattle.cv_parse_notation.specs.Form.{◌&◌, word as word_form};
-ghost use Rattle.cv_parse_grammar.specs.declared.role.Asked.TheVariants.{AProbability};
-ghost use Rattle.cv_parse_grammar.specs.declared.role.Role.TheVariants.{Asks};
-ghost use Rattle.cv_parse_grammar.specs.Phrases.{LeftFunction, RightFunction, bracket};
+ghost use Rattle.std.specs.Prelude.{◌<◌, ◌≤◌, ◌^◌, length, drop};
+ghost use Rattle.cv_parse_notation.specs.Form.{◌&◌};
+ghost use Rattle.cv_parse_grammar.specs.Phrases.{LeftFunction, RightFunction};
 ghost use Rattle.cv_parse_grammar.specs.Equivalences.{group as group_form};
 ghost use Rattle.cv_parse_grammar.specs.Declarations.{equiv_decl as equiv_form, probability as probability_form};
-ghost use Rattle.cv_parse_terms.specs.Gives.{Gives, read_in};
+ghost use Rattle.cv_parse_terms.specs.Gives.{read_in};
 ghost use Rattle.cv_parse_signature.specs.Declares.{Declares};
 ghost use Rattle.cv_parse_signature.specs.Sides.{MakesSides};
 

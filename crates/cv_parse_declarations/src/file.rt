@@ -1,4 +1,4 @@
-ghost use Rattle.std.specs.Prelude.{◌≡◌, ◌+◌, ◌<◌, ◌≤◌, ◌^◌, ◌++◌, ◌∷◌, [], ℕ, length, drop};
+ghost use Rattle.std.specs.Prelude.{◌<◌, ◌≤◌, ◌^◌, length, drop};
 ghost use Rattle.cv_parse_notation.specs.Form.{◌▸◌};
 ghost use Rattle.cv_parse_notation.specs.declared.sign.Mark.TheVariants.{Process};
 ghost use Rattle.cv_syntax.specs.Postorder.{postorder};

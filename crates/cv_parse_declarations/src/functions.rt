@@ -1,4 +1,4 @@
-ghost use Rattle.std.specs.Prelude.{◌≡◌, false, ◌+◌, ◌<◌, ◌≤◌, ◌^◌, ◌++◌, ◌∷◌, [], ℕ, length, drop, replicate, OnOk};
+ghost use Rattle.std.specs.Prelude.{◌≡◌, false, ◌+◌, ◌<◌, ◌≤◌, ◌^◌, ◌++◌, length, drop, replicate, OnOk};
 ghost use Rattle.cv_parse_notation.specs.Form.{◌&◌, ◌▸◌, ◌◂◌, many, may};
 ghost use Rattle.cv_parse_notation.specs.Spells.{next_is};
 ghost use Rattle.cv_parse_notation.specs.declared.sign.Mark.TheVariants.{Arrow, New, Semicolon};
@@ -15,8 +15,8 @@ use cv_parse_grammar::Role;
 use cv_parse_notation::{Mark, Sign};
 use cv_parse_processes::body;
 use cv_parse_terms::{
-    NameUse, ReadError, Trail, expect, is_at, is_word_at, make_binders, open, shallow, typed,
-    var_list, word,
+    NameUse, ReadError, Trail, expect, is_at, is_word_at, local_variables, make_binders, open,
+    shallow, typed, word,
 };
 use cv_syntax::{Head, Make};
 use std::alloc::{AllocError, Global};
@@ -163,7 +163,7 @@ fn left_function(
     let place = expect(signs, place, Mark::Colon)?;
     let (copied, place) = maybe_copies(signs, place, &mut trail.uses, depth)?;
     let place = choices(alloc, signs, place, trail, depth)?;
-    let place = var_list(alloc, signs, place, trail, Role::BindsLocal, depth)?;
+    let place = local_variables(signs, place, trail, depth)?;
     trail.makes.push(Make::Over(bound_of(name, copied)))?;
     let place = arrow_body(signs, place, trail, depth)?;
     trail.makes.push(Make::Over(Head::Oracle(name)))?;
@@ -204,7 +204,6 @@ fn empties(makes: &mut Vec<Make>, count: usize) -> Result<(), AllocError>
 /// The arguments and the body of a function of the right side.
 #[tactic(auto, using(cv_parse_terms::proofs::Places::places))]
 fn arguments_and_body(
-    alloc: Global,
     signs: &[Sign],
     at: usize,
     trail: &mut Trail,
@@ -217,7 +216,7 @@ fn arguments_and_body(
     ensures makes { Makes (parts_around bounds count) signs.now trail.old trail.new result
         (read_in depth arguments_form (drop at signs.now)) }
 {
-    let place = var_list(alloc, signs, at, trail, Role::BindsLocal, depth)?;
+    let place = local_variables(signs, at, trail, depth)?;
     trail.makes.push(Make::Over(bounds))?;
     empties(&mut trail.makes, count)?;
     let end = arrow_body(signs, place, trail, depth)?;
@@ -236,7 +235,6 @@ fn begins_rest(signs: &[Sign], at: usize) -> bool
 #[cycle(rest)]
 #[tactic(auto, using(cv_parse_terms::proofs::Places::places, cv_parse_terms::proofs::Levels::levels))]
 fn new_before(
-    alloc: Global,
     signs: &[Sign],
     at: usize,
     trail: &mut Trail,
@@ -253,7 +251,7 @@ fn new_before(
     let place = open(signs, at, depth, Mark::New)?;
     let ((x, t), place) = typed(signs, place, &mut trail.uses, Role::BindsLocal, depth)?;
     let place = expect(signs, place, Mark::Semicolon)?;
-    let place = inner_rest(alloc, signs, place, trail, bounds, count + 1, depth)?;
+    let place = inner_rest(signs, place, trail, bounds, count + 1, depth)?;
     trail.makes.push(Make::Over(Head::New(x, t)))?;
     Ok(place)
 }
@@ -262,7 +260,6 @@ fn new_before(
 #[cycle(rest)]
 #[tactic(auto, using(cv_parse_terms::proofs::Levels::levels))]
 fn right_rest(
-    alloc: Global,
     signs: &[Sign],
     at: usize,
     trail: &mut Trail,
@@ -277,16 +274,15 @@ fn right_rest(
         (read_in depth rest_form (drop at signs.now)) }
 {
     if is_at(signs, at, Mark::New) {
-        return new_before(alloc, signs, at, trail, bounds, count, depth);
+        return new_before(signs, at, trail, bounds, count, depth);
     }
-    arguments_and_body(alloc, signs, at, trail, bounds, count, depth)
+    arguments_and_body(signs, at, trail, bounds, count, depth)
 }
 
 /// The same, one level down.
 #[cycle(rest)]
 #[tactic(auto, using(cv_parse_terms::proofs::Places::places, cv_parse_terms::proofs::Levels::levels))]
 fn inner_rest(
-    alloc: Global,
     signs: &[Sign],
     at: usize,
     trail: &mut Trail,
@@ -301,7 +297,7 @@ fn inner_rest(
         (below depth RightRest (drop at signs.now)) }
 {
     if depth > 0 {
-        return right_rest(alloc, signs, at, trail, bounds, count, depth - 1);
+        return right_rest(signs, at, trail, bounds, count, depth - 1);
     }
     Err(shallow(signs, at, begins_rest(signs, at)))
 }
@@ -309,7 +305,6 @@ fn inner_rest(
 /// A function of the right side.
 #[tactic(auto, using(cv_parse_terms::proofs::Places::places))]
 fn right_function(
-    alloc: Global,
     signs: &[Sign],
     at: usize,
     trail: &mut Trail,
@@ -324,7 +319,7 @@ fn right_function(
     let place = expect(signs, place, Mark::Colon)?;
     let (copied, place) = maybe_copies(signs, place, &mut trail.uses, depth)?;
     trail.makes.push(Make::Nothing)?;
-    let place = right_rest(alloc, signs, place, trail, bound_of(name, copied), 0, depth)?;
+    let place = right_rest(signs, place, trail, bound_of(name, copied), 0, depth)?;
     trail.makes.push(Make::Over(Head::Oracle(name)))?;
     Ok(place)
 }
@@ -332,7 +327,6 @@ fn right_function(
 /// A function of the right side, one level down.
 #[tactic(auto, using(cv_parse_terms::proofs::Places::places, cv_parse_terms::proofs::Levels::levels))]
 pub fn inner_right_function(
-    alloc: Global,
     signs: &[Sign],
     at: usize,
     trail: &mut Trail,
@@ -344,7 +338,7 @@ pub fn inner_right_function(
         (below depth RightFunction (drop at signs.now)) }
 {
     if depth > 0 {
-        return right_function(alloc, signs, at, trail, depth - 1);
+        return right_function(signs, at, trail, depth - 1);
     }
     Err(shallow(signs, at, is_word_at(signs, at)))
 }

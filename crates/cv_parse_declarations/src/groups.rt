@@ -1,4 +1,4 @@
-ghost use Rattle.std.specs.Prelude.{◌≡◌, false, ◌+◌, ◌<◌, ◌≤◌, ◌^◌, ◌++◌, ◌∷◌, [], ℕ, length, drop};
+ghost use Rattle.std.specs.Prelude.{◌+◌, ◌<◌, ◌≤◌, ◌^◌, length, drop};
 ghost use Rattle.cv_parse_notation.specs.Form.{◌&◌, ◌▸◌, deeper, made, many};
 ghost use Rattle.cv_parse_notation.specs.declared.sign.Mark.TheVariants.{Bar, New, Semicolon};
 ghost use Rattle.cv_syntax_trees.specs.Tree.{chain};
@@ -42,7 +42,7 @@ fn inner_function(
 {
     match side {
         Side::Left => inner_left_function(alloc, signs, at, trail, depth),
-        Side::Right => inner_right_function(alloc, signs, at, trail, depth),
+        Side::Right => inner_right_function(signs, at, trail, depth),
     }
 }
 

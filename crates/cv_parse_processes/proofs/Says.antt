@@ -1,23 +1,20 @@
 -- The rows of processes and of the bodies of functions read what the forms of the grammar read.
-use Rattle.std.proofs.Common.{◌≡◌, ℕ, zero, suc, ◌+◌, ◌<◌, Bool, true, false, List, [], ◌∷◌, ◌++◌, refl, ap, sym, ◌∙◌, lit<, append_assoc, Option, Some, None}
-use Rattle.cv_syntax_trees.specs.Tree.{Tree, Empty, Node, first, second, lone, chain, binders, names}
-use Rattle.cv_syntax_trees.specs.declared.head.Head.{Head}
+use Rattle.std.proofs.Common.{◌≡◌, ℕ, zero, suc, ◌+◌, ◌<◌, true, false, [], ◌∷◌, ◌++◌, refl, ap, lit<, append_assoc, Option, Some, None}
+use Rattle.cv_syntax_trees.specs.Tree.{Tree, Empty, Node, first, second, chain, binders, names}
 use Rattle.cv_syntax_trees.specs.declared.head.Head.TheVariants as head
 use Rattle.cv_syntax.specs.Postorder.{postorder}
-use Rattle.cv_syntax.specs.declared.make.Make.{Make}
 use Rattle.cv_syntax.specs.declared.make.Make.TheVariants.{Nothing, Over}
-use Rattle.cv_parse_notation.specs.declared.sign.Mark.{Mark}
 use Rattle.cv_parse_notation.specs.declared.sign.Mark.TheVariants as mark
 use Rattle.cv_parse_notation.specs.Spells.{Kind, starts}
-use Rattle.cv_parse_notation.specs.Form.{sign, word, number, nought, find_word, may, many, either, made, level, deeper, ◌&◌, ◌▸◌, ◌◂◌}
-use Rattle.cv_parse_grammar.specs.declared.role.Asked.TheVariants.{AParam, AChannel, AnEvent, AType}
+use Rattle.cv_parse_notation.specs.Form.{word, number, made, level, deeper, ◌&◌, ◌▸◌, ◌◂◌}
+use Rattle.cv_parse_grammar.specs.declared.role.Asked.TheVariants.{AParam, AChannel, AnEvent}
 use Rattle.cv_parse_grammar.specs.declared.role.Role.{Role}
 use Rattle.cv_parse_grammar.specs.declared.role.Role.TheVariants.{Asks, AsksBound, AsksIndex, BindsIndex, BindsLocal, BindsVariable}
-use Rattle.cv_parse_grammar.specs.Phrases.{Sort, Phrase, Term, Arguments, Inputs, Input, Output, Pattern, Sending, Payload, Variables, Indices, ProcessBranch, Body, BodyBranch, or_else, row, bracket, square, listed, type_name, typed, vars, var_list, indices}
-use Rattle.cv_parse_grammar.specs.Rules.{heads, rule}
+use Rattle.cv_parse_grammar.specs.Phrases.{Sort, Phrase, Term, Inputs, Input, Output, Pattern, Sending, Payload, Variables, Indices, ProcessBranch, Body, BodyBranch, or_else, listed, typed, vars, indices}
+use Rattle.cv_parse_grammar.specs.Rules.{heads}
 use Rattle.cv_parse_grammar.specs.Terms.{condition}
-use Rattle.cv_parse_grammar.specs.Processes.{stops, yields, channel, channel_indices, over, name_of, indices_and, new_in, let_in, test, branch_in, find_in, ending, replication, receiving, input, beside, inputs, received, pattern, variables, yielding, sent, sending, payload, continuation, outgoing, restriction, assignment, recording, otherwise, testing, finding, branch, output}
-use Rattle.cv_parse_grammar.specs.Equivalences.{body_test, body_find, body_branch, body}
+use Rattle.cv_parse_grammar.specs.Processes.{stops, yields, channel, channel_indices, over, name_of, indices_and, test, find_in, ending, replication, receiving, input, inputs, received, pattern, variables, sent, sending, payload, continuation, outgoing, recording, otherwise, branch, output}
+use Rattle.cv_parse_grammar.specs.Equivalences.{body_branch, body}
 use Rattle.cv_parse_terms.specs.declared.piece.Ahead.{Ahead}
 use Rattle.cv_parse_terms.specs.declared.piece.Ahead.TheVariants as ahead
 use Rattle.cv_parse_terms.specs.declared.piece.Naming.{Naming}
@@ -27,10 +24,10 @@ use Rattle.cv_parse_terms.specs.declared.piece.Pairing.TheVariants as pairing
 use Rattle.cv_parse_terms.specs.declared.piece.Closing.TheVariants as closing
 use Rattle.cv_parse_terms.specs.declared.piece.Piece.{Piece}
 use Rattle.cv_parse_terms.specs.declared.piece.Piece.TheVariants as piece
-use Rattle.cv_parse_terms.specs.Tables.{Parts, Work, begins, changed, head_of, instead, made_no_part, named, pair_of, paired, part, waits}
-use Rattle.cv_parse_terms.specs.TermRows.{row_count, row_of}
-use Rattle.cv_parse_terms.proofs.Saying.{IsBelow, Says, adds, after_says, between, binders_close, both_says, both_wait, chain_closes, deeper_says, either_says, find_says, grows, head_behind, item_waits, items_says, level_says, list_says, made_says, may_says, maybe_joins, name_waits, names_close, none_below, number_says, pair_behind, part_before, part_behind, row_says, same_says, sign_before, sign_says, word_says, zero_says, zero_waits}
-use Rattle.cv_parse_terms.proofs.TermSays.{both_trees, changed_same, closes_leaf, deep, joining_tails, no_list, one_below, says_condition, says_constant, says_inner, says_joining, says_maybe_terms, says_one, says_term, three, with_makes}
+use Rattle.cv_parse_terms.specs.Tables.{Parts, begins, head_of, instead, named, pair_of, paired, part, waits}
+use Rattle.cv_parse_terms.specs.TermRows.{row_of}
+use Rattle.cv_parse_terms.proofs.Saying.{IsBelow, Says, after_says, between, binders_close, both_says, both_wait, chain_closes, deeper_says, either_says, find_says, grows, head_behind, item_waits, items_says, level_says, list_says, made_says, may_says, maybe_joins, names_close, none_below, number_says, pair_behind, part_before, part_behind, row_says, same_says, sign_before, sign_says, word_says, zero_says}
+use Rattle.cv_parse_terms.proofs.TermSays.{both_trees, changed_same, closes_leaf, deep, joining_tails, one_below, says_condition, says_constant, says_inner, says_joining, says_listed, says_local, says_maybe_terms, says_one, says_term, says_variable, with_makes}
 
 -- a channel waits; its indices, and what goes over it, were made
 abbrev pub overs : Tree → Parts → Parts
@@ -80,28 +77,10 @@ closes_one : (b : ℕ × ℕ) (q : Parts) → paired pairing.Binder (part Nothin
 unfolding postorder
 closes_one b q = with_makes q _ _ (simp append_assoc refl)
 
--- types and variables
-
-says_type : (n : ℕ) → Says n 58 (row_of 58) type_name waits
-says_type n =
-    either_says 58 (ahead.Mark mark.Bool) 56 57 (lit< tt) (lit< tt) (λ k. refl)
-    (made_says (λ _. 0) waits (zero_waits (piece.Sign mark.Bool ∷ []) (sign_says n 56 mark.Bool))) (word_says n 57 (Asks AType))
-
-says_typed : (n b : ℕ) (r : Role) → 58 < b → Says n b (piece.Word r ∷ (piece.Sign mark.Colon ∷ (piece.Row 58 ∷ []))) (typed r) both_wait
-says_typed n b r h =
-    both_says (piece.Word r ∷ []) (piece.Sign mark.Colon ∷ (piece.Row 58 ∷ [])) (word_says n b r) (sign_before mark.Colon (piece.Row 58 ∷ []) (row_says b 58 h (says_type n)))
-
-says_variable : (n : ℕ) → Says n 59 (row_of 59) (typed BindsVariable) both_wait
-says_variable n = says_typed n 59 BindsVariable (lit< tt)
-
-says_local : (n : ℕ) → Says n 60 (row_of 60) (typed BindsLocal) both_wait
-says_local n = says_typed n 60 BindsLocal (lit< tt)
+-- variables
 
 says_vars : (n : ℕ) → Says n 62 (row_of 62) (vars BindsVariable) grows
 says_vars n = list_says 62 closing.Binders mark.Comma 61 binders (lit< tt) binders_close (part_behind Nothing (piece.Row 59 ∷ []) (row_says 61 59 (lit< tt) (says_variable n)))
-
-says_listed : {n : ℕ} {f : Phrase Tree} (b : ℕ) (a : Ahead) (r : ℕ) → r < b → 54 < b → ((k : Kind) → begins a k ≡ starts heads f k) → Says n r (row_of r) f grows → Says n b (piece.Choice a r 54 ∷ []) (listed f) grows
-says_listed b a r h i k s = made_says (or_else Empty) grows (may_says b a r 54 false (λ o. grows (or_else Empty o)) h i k s no_list)
 
 says_variables : (n : ℕ) → Says n 64 (row_of 64) variables grows
 says_variables n =
@@ -264,7 +243,7 @@ says_find {n = n} b i h z k x =
     (both_says (piece.Find ∷ []) rest (find_says n b)
     (both_says (piece.Choice (ahead.Mark mark.At) 113 0 ∷ []) (piece.List closing.Trees mark.Orfind i ∷ [])
     (may_says b (ahead.Mark mark.At) 113 0 false relabel h z (λ k. refl) (sign_before mark.At (piece.Instead ∷ []) (number_says n 113)) (λ w. refl))
-    (items_says b true closing.Trees mark.Orfind i chain k chain_closes x))))
+    (items_says b true closing.Trees mark.Orfind i (λ l. grows (chain l)) k chain_closes x))))
 
 says_finding : {n : ℕ} {s : Sort} {f : Phrase Tree} (b i : ℕ) (otherwise : Piece) → 113 < b → 0 < b → i < b → Says n i (row_of i) (deeper s) grows → Says n b (otherwise ∷ []) f grows → Says n b (piece.Find ∷ (piece.Choice (ahead.Mark mark.At) 113 0 ∷ (piece.List closing.Trees mark.Orfind i ∷ (otherwise ∷ (piece.Named naming.Find ∷ []))))) (made (λ ((k, bs), t). Node (head.Find k) bs t) (find_in s & f)) grows
 says_finding b i otherwise h z k x y =

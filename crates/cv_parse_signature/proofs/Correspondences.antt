@@ -1,56 +1,34 @@
--- Queries, from their parts.
-use Rattle.std.proofs.Common.{◌≡◌, ◌≢◌, subst, ℕ, Bool, true, false, List, [], ◌∷◌, ◌++◌, drop, length, ap, sym, ◌∙◌, flat_map}
-use Rattle.std.specs.Prelude.{replicate, Result, Ok, Err}
+-- A phrase behind a word or symbol, and that a query is a tree that is there.
+use Rattle.std.proofs.Common.{◌≡◌, ◌≢◌, subst, ℕ, Bool, true, false, List, [], ◌++◌, drop, ap, sym, ◌∙◌}
+use Rattle.std.specs.Prelude.{Result, Ok, Err}
 use Rattle.cv_syntax_trees.specs.declared.head.Head.TheVariants.{Cons, Query as Correspondence, Secret, SecretOnce}
 use Rattle.cv_syntax.specs.declared.make.Make.{Make}
-use Rattle.cv_syntax.specs.declared.make.Make.TheVariants.{Nothing, Over}
 use Rattle.cv_syntax_trees.specs.Tree.{Tree, Empty, Node, chain, lone}
-use Rattle.cv_syntax.specs.Postorder.{postorder}
 use Rattle.cv_parse_notation.specs.declared.sign.Sign.{Sign}
 use Rattle.cv_parse_notation.specs.declared.sign.Mark.{Mark}
 use Rattle.cv_parse_notation.specs.declared.sign.Mark.TheVariants as mark
-use Rattle.cv_parse_notation.specs.Form.{either, made, word, ◌&◌, ◌▸◌, ◌◂◌}
+use Rattle.cv_parse_notation.specs.Form.{either, made, note, sign, word, ◌&◌, ◌▸◌, ◌◂◌}
 use Rattle.cv_parse_notation.specs.Spells.{next_is, starts}
-use Rattle.cv_parse_notation.specs.Reads.{Found, Reader, ◌>>=◌, found, joined, mapped, pick}
+use Rattle.cv_parse_notation.specs.Reads.{Found, Read, Reader, ◌>>=◌, found, joined, mapped, pick}
 use Rattle.cv_parse_notation.proofs.Sound.{bind_ok, same_found}
 use Rattle.cv_parse_grammar.specs.declared.role.Role.{Role}
-use Rattle.cv_parse_grammar.specs.declared.role.Role.TheVariants.{BindsLocal, Unchecked}
-use Rattle.cv_parse_grammar.specs.Phrases.{Phrase, listed, row, vars}
+use Rattle.cv_parse_grammar.specs.declared.role.Role.TheVariants.{BindsLocal, Enters, Leaves, Unchecked}
+use Rattle.cv_parse_grammar.specs.declared.role.Region.TheVariants.{InQuery}
+use Rattle.cv_parse_grammar.specs.Phrases.{Phrase, inside, listed, row, vars}
 use Rattle.cv_parse_grammar.specs.Rules.{heads}
 use Rattle.cv_parse_grammar.specs.Terms.{equality}
 use Rattle.cv_parse_grammar.specs.Declarations.{correspondence, event, secrecy}
-use Rattle.cv_parse_terms.specs.declared.trail.NameUse.{NameUse}
 use Rattle.cv_parse_terms.specs.declared.lookahead.ReadError.{ReadError}
 use Rattle.cv_parse_terms.specs.declared.trail.Trail.{Trail}
-use Rattle.cv_parse_terms.specs.Gives.{Fails, IsMade, IsRead, Makes, MakesRow, Stands, read_in}
+use Rattle.cv_parse_terms.specs.Gives.{Fails, Makes, Stands, read_in}
 use Rattle.cv_parse_terms.proofs.Places.{fails_bind}
-use Rattle.cv_parse_terms.proofs.Made.{row_made}
-use Rattle.cv_parse_terms.proofs.Chains.{both_made, both_read, made_read, sign_both}
-
-abbrev pub atoms : Phrase (List Tree)
-atoms = row mark.Both (either event equality)
-
-pub correspondence_made : {all : List Sign} (old new : Trail) (n at : ℕ) {k l i count : ℕ} {v w : List NameUse} {b c d e f : List Make} {vs t : Tree} {ts : List Tree} → IsRead all old.uses.items v (read_in n (listed (vars BindsLocal ◂ mark.Semicolon)) (drop at all)) vs k → IsRead all v w (read_in n event (drop k all)) t l → IsRead all w new.uses.items (read_in n (mark.Implies ▸ atoms) (drop l all)) ts i → b ≡ old.makes.items ++ postorder vs → c ≡ b ++ postorder t → d ≡ c ++ flat_map postorder ts → count ≡ length ts → e ≡ d ++ (Nothing ∷ replicate count (Over Cons)) → f ≡ e ++ Over Cons ∷ [] → new.makes.items ≡ f ++ Over Correspondence ∷ [] → IsMade postorder all old new (read_in n correspondence (drop at all)) i
-correspondence_made old new n at {count = count} {b = b} {c = c} {d = d} {e = e} {f = f} {vs = vs} {t = t} {ts = ts} binders left rights x1 x2 x3 many x4 x5 x6 = record {
-  value = Node Correspondence vs (Node Cons t (chain ts));
-  read =
-      made_read (λ (l, (e, atoms)). Node Correspondence l (Node Cons e (chain atoms)))
-      (both_read (read_in n (event & (mark.Implies ▸ atoms))) binders
-      (both_read (read_in n (mark.Implies ▸ atoms)) left rights));
-  makes = both_made Correspondence vs (Node Cons t (chain ts)) old.makes.items b f new.makes.items x1 (both_made Cons t (chain ts) b c e f x2 (row_made c d e ts count x3 many x4) x5) x6;
-}
+use Rattle.cv_parse_terms.proofs.Saying.{mapped_all, second_all}
+use Rattle.cv_parse_terms.proofs.Chains.{made_read, sign_both}
 
 -- a word or symbol, and a phrase behind it
 pub behind_sign : {A : Type 0} (emit : A → List Make) (all : List Sign) (s t : Trail) (n at : ℕ) {k : ℕ} (m : Mark) (f : Phrase A) (r : Result ℕ ReadError) → Stands all m at k → Makes emit all s t r (read_in n f (drop k all)) → Makes emit all s t r (read_in n (m ▸ f) (drop at all))
 behind_sign emit all s t n at {k = k} m f (Ok end) st d = record { value = d.value; read = made_read (λ p. p.1) (sign_both m at k (read_in n f) st d.read); makes = d.makes }
 behind_sign emit all s t n at m f (Err e) st d =
-    fails_bind all e _ _
-    (subst (λ r. Fails all e (r >>= λ x. read_in n f x.rest >>= joined x)) (sym (st.2 ∙ ap (λ j. found tt [] (drop j all)) (sym st.0))) (fails_bind all e _ _ d))
-
--- a word or symbol, and a row behind it
-pub row_behind : (all : List Sign) (s t : Trail) (n at : ℕ) {k : ℕ} (m : Mark) (f : Phrase (List Tree)) (r : Result (ℕ × ℕ) ReadError) → Stands all m at k → MakesRow all s t r (read_in n f (drop k all)) → MakesRow all s t r (read_in n (m ▸ f) (drop at all))
-row_behind all s t n at {k = k} m f (Ok x) st d = record { value = d.value; read = made_read (λ p. p.1) (sign_both m at k (read_in n f) st d.read); makes = d.makes; many = d.many }
-row_behind all s t n at m f (Err e) st d =
     fails_bind all e _ _
     (subst (λ r. Fails all e (r >>= λ x. read_in n f x.rest >>= joined x)) (sym (st.2 ∙ ap (λ j. found tt [] (drop j all)) (sym st.0))) (fails_bind all e _ _ d))
 
@@ -75,7 +53,29 @@ secrecy_gives n ts x e =
     either_gives (next_is (starts heads (made (λ x. lone (Secret x)) (mark.Secret ▸ word Unchecked))) ts) (read_in n (made (λ x. lone (Secret x)) (mark.Secret ▸ word Unchecked))) (read_in n (made (λ x. lone (SecretOnce x)) (mark.SecretOnce ▸ word Unchecked))) ts x
     (not_empty n (mark.Secret ▸ word Unchecked) (λ x. lone (Secret x)) (λ x e. absurd (cc))) (not_empty n (mark.SecretOnce ▸ word Unchecked) (λ x. lone (SecretOnce x)) (λ x e. absurd (cc))) e
 
-pub query_gives : (n : ℕ) → GivesTrees (read_in n (either secrecy correspondence))
+query_gives : (n : ℕ) → GivesTrees (read_in n (either secrecy correspondence))
 query_gives n ts x e =
     either_gives (next_is (starts heads secrecy) ts) (read_in n secrecy) (read_in n correspondence) ts x (secrecy_gives n)
-    (not_empty n (listed (vars BindsLocal ◂ mark.Semicolon) & (event & (mark.Implies ▸ atoms))) (λ (l, (e, atoms)). Node Correspondence l (Node Cons e (chain atoms))) (λ x e. absurd (cc))) e
+    (not_empty n (listed (vars BindsLocal ◂ mark.Semicolon) & (event & (mark.Implies ▸ row mark.Both (either event equality)))) (λ (l, (e, atoms)). Node Correspondence l (Node Cons e (chain atoms))) (λ x e. absurd (cc))) e
+
+first_all : {A B : Type 0} (r : Read Role A) (q : Reader Role B) (y : Found Role (A × B)) (P : A → Type 0) → ((x : Found Role A) → r ≡ Ok x → P x.value) → (r >>= λ x. q x.rest >>= joined x) ≡ Ok y → P y.value.0
+first_all r q y P h i =
+    let b = bind_ok r (λ x. q x.rest >>= joined x) y i in
+    let c = bind_ok (q b.0.rest) (joined b.0) y b.2 in
+    let s = same_found (record { value = (b.0.value, c.0.value); uses = b.0.uses ++ c.0.uses; rest = c.0.rest }) y c.2 in
+    subst P (ap (λ z. z.value.0) s) (h b.0 b.1)
+
+abbrev asked : Phrase Tree
+asked = either secrecy correspondence
+
+-- what a declaration of a query gives is there
+pub query_there : (n : ℕ) → GivesTrees (read_in n (mark.QueryWord ▸ inside InQuery asked ◂ mark.Dot))
+query_there n ts y e =
+    let there = λ (t : Tree). t ≢ Empty in
+    mapped_all (λ p. p.1) (read_in n (sign mark.QueryWord & (inside InQuery asked ◂ mark.Dot)) ts) y there
+    (λ x i. second_all (read_in n (sign mark.QueryWord) ts) (read_in n (inside InQuery asked ◂ mark.Dot)) x there
+    (λ us z j. mapped_all (λ p. p.0) (read_in n (inside InQuery asked & sign mark.Dot) us) z there
+    (λ x i. first_all (read_in n (inside InQuery asked) us) (read_in n (sign mark.Dot)) x there
+    (λ z j. mapped_all (λ (m, (a, k)). a) (read_in n (note (Enters InQuery) & (asked & note Leaves)) us) z there
+    (λ x i. second_all (read_in n (note (Enters InQuery)) us) (read_in n (asked & note Leaves)) x (λ c. c.0 ≢ Empty)
+    (λ vs z j. first_all (read_in n asked vs) (read_in n (note Leaves)) z there (λ w l. query_gives n vs w l) j) i) j) i) j) i) e

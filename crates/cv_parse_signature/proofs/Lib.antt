@@ -1,5 +1,7 @@
-pub mod Begins
 pub mod Faults
 pub mod Correspondences
 pub mod Listed
 pub mod Gathering
+pub mod Hearing
+pub mod Says
+pub mod Declaring

@@ -1,8 +1,6 @@
 -- What a reader of declarations gives. This profile's own.
 use Rattle.std.specs.Prelude.{ℕ, ◌≡◌, ◌≢◌, Bool, true, false, List, ◌++◌, map, flat_map, Result, Ok, Err}
 use Rattle.std.specs.List.{AllByRecursion}
-use Rattle.std.specs.declared.vec.Vec.{Vec}
-use Rattle.std.specs.declared.alloc.Global.{Global}
 use Rattle.cv_syntax_trees.specs.Tree.{Tree, Empty}
 use Rattle.cv_syntax.specs.Postorder.{postorder}
 use Rattle.cv_syntax_trees.specs.declared.class.Class.{Class}
@@ -14,7 +12,7 @@ use Rattle.cv_parse_notation.specs.Reads.{Read}
 use Rattle.cv_parse_grammar.specs.declared.role.Role.{Role}
 use Rattle.cv_parse_terms.specs.declared.trail.Trail.{Trail}
 use Rattle.cv_parse_terms.specs.declared.lookahead.ReadError.{ReadError}
-use Rattle.cv_parse_terms.specs.Gives.{Fails, IsPlain, IsRead}
+use Rattle.cv_parse_terms.specs.Gives.{Fails, IsRead}
 use Rattle.cv_parse_signature.specs.declared.heard.Heard.{Heard}
 use Rattle.cv_parse_signature.specs.declared.heard.Heard.TheVariants as heard
 
@@ -58,8 +56,3 @@ pub record IsDeclared (all : List Sign) (old new : Trail) (before after : List H
 abbrev pub Declares : List Sign → Trail → Trail → List Heard → List Heard → Result ℕ ReadError → Read Role (List Declaration) → Type 0
 Declares all old new before after (Ok end) read = IsDeclared all old new before after read end
 Declares all old new before after (Err e) read = Fails all e read
-
--- a list was read, and no name was used
-abbrev pub GivesPlainList : {A : Type 0} → List Sign → Result (Vec A Global × ℕ) ReadError → Read Role (List A) → Type 0
-GivesPlainList all (Ok x) read = IsPlain all read x.0.items x.1
-GivesPlainList all (Err e) read = Fails all e read

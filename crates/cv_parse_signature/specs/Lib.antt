@@ -1,2 +1,3 @@
 pub mod Declares
 pub mod Sides
+pub mod Kinds

@@ -1,6 +1,6 @@
-ghost use Rattle.std.specs.Prelude.{◌≡◌, false, ◌+◌, ◌<◌, ◌≤◌, ◌^◌, ◌++◌, ◌∷◌, [], ℕ, length, drop, OnOk};
+ghost use Rattle.std.specs.Prelude.{◌≡◌, ◌+◌, ◌<◌, ◌≤◌, ◌^◌, ◌++◌, length, drop, OnOk};
 ghost use Rattle.cv_parse_notation.specs.Form.{◌&◌, ◌▸◌, ◌◂◌};
-ghost use Rattle.cv_parse_notation.specs.declared.sign.Mark.TheVariants.{Comma, Dot, Forall, Semicolon};
+ghost use Rattle.cv_parse_notation.specs.declared.sign.Mark.TheVariants.{Dot, Forall, Semicolon};
 ghost use Rattle.cv_parse_grammar.specs.declared.role.Role.TheVariants.{BindsLocal};
 ghost use Rattle.cv_parse_grammar.specs.Phrases.{vars as vars_form};
 ghost use Rattle.cv_parse_grammar.specs.Terms.{term as term_form};
@@ -14,8 +14,8 @@ use crate::probabilities::probability;
 use cv_parse_grammar::{Asked, Region, Role};
 use cv_parse_notation::{Mark, Sign};
 use cv_parse_terms::{
-    NameUse, Pair, ReadError, Trail, expect, is_at, make_binders, note, pair_row, term, typed,
-    unnamed, word,
+    NameUse, ReadError, Trail, expect, is_at, make_binders, note, term, typed, typed_row, unnamed,
+    word,
 };
 use cv_syntax::{Head, Make};
 use std::alloc::{AllocError, Global};
@@ -63,8 +63,7 @@ fn some_variables(
         (read_in depth (Forall ▸ (vars_form BindsLocal ◂ Semicolon)) (drop at signs.now)) }
 {
     let place = expect(signs, at, Mark::Forall)?;
-    let kind = Pair::Typed(Role::BindsLocal);
-    let (pairs, place) = pair_row(alloc, signs, place, uses, kind, depth)?;
+    let (pairs, place) = typed_row(alloc, signs, place, uses, Role::BindsLocal, depth)?;
     let place = expect(signs, place, Mark::Semicolon)?;
     Ok((pairs, place))
 }

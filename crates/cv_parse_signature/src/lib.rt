@@ -1,21 +1,14 @@
-// Reading of a file's signature: types, parameters, channels, constants, functions, events and probabilities, and of
-// its equations, its collisions and its queries.
+// Reading of a file's signature by the rows of the table: types, parameters, channels, constants, functions, events and
+// probabilities, and of its equations and its queries. Collisions are read by hand, since their arguments stand in two
+// groups.
 #![tactic(auto)]
 
 mod collisions;
-mod equations;
-mod functions;
+mod declarations;
 mod heard;
-mod named;
 mod probabilities;
-mod queries;
-mod types;
 
 pub use collisions::collision_decl;
-pub use equations::equation_decl;
-pub use functions::fun_decl;
+pub use declarations::{DeclarationKind, declare};
 pub use heard::Heard;
-pub use named::{channel_decl, const_decl, event_decl, param_decl, proba_decl};
 pub use probabilities::probability;
-pub use queries::query_decl;
-pub use types::type_decl;

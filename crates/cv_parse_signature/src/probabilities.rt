@@ -1,4 +1,4 @@
-ghost use Rattle.std.specs.Prelude.{◌≡◌, ◌+◌, ◌<◌, ◌≤◌, ◌^◌, ℕ, length, drop};
+ghost use Rattle.std.specs.Prelude.{◌<◌, ◌≤◌, ◌^◌, length, drop};
 ghost use Rattle.cv_parse_notation.specs.Form.{word as word_form};
 ghost use Rattle.cv_parse_grammar.specs.declared.role.Asked.TheVariants.{AProbability};
 ghost use Rattle.cv_parse_grammar.specs.declared.role.Role.TheVariants.{Asks};

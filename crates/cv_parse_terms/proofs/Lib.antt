@@ -3,7 +3,6 @@ pub mod Levels
 pub mod Made
 pub mod Places
 pub mod Rows
-pub mod Steady
 pub mod Begins
 pub mod Listing
 pub mod Passing

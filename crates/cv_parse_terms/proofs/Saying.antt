@@ -142,8 +142,8 @@ head_behind h ps s = changes (named h) (piece.Named h) ps (λ w. refl) s
 pub pair_behind : {A : Type 0} {n b : ℕ} {f : Phrase A} {e : A → Parts → Parts} (h : Pairing) (ps : List Piece) → Says n b ps f e → Says n b (ps ++ piece.Paired h ∷ []) f (λ a q. paired h (e a q))
 pair_behind h ps s = changes (paired h) (piece.Paired h) ps (λ w. refl) s
 
-pub zero_waits : {A : Type 0} {n b : ℕ} {f : Phrase A} {e : A → Parts → Parts} (ps : List Piece) → Says n b ps f e → Says n b (ps ++ piece.Nameless ∷ []) f (λ a q. waits 0 (e a q))
-zero_waits ps s = changes (waits 0) piece.Nameless ps (λ w. refl) s
+pub value_behind : {A : Type 0} {n b : ℕ} {f : Phrase A} {e : A → Parts → Parts} (x : ℕ) (ps : List Piece) → Says n b ps f e → Says n b (ps ++ piece.Value x ∷ []) f (λ a q. waits x (e a q))
+value_behind x ps s = changes (waits x) (piece.Value x) ps (λ w. refl) s
 
 pub part_before : {A : Type 0} {n b : ℕ} {f : Phrase A} {e : A → Parts → Parts} (m : Make) (ps : List Piece) → Says n b ps f e → Says n b (piece.Part m ∷ ps) f (λ a q. e a (part m q))
 part_before {A} {n = n} {f = f} {e = e} m ps s = record { law = λ w. s.law (record { parts = part m w.parts; uses = w.uses; rest = w.rest }) ∙ go w (read_in n f w.rest) } where
@@ -246,13 +246,13 @@ more_says {A} n b c m r f e h (suc turns) k w =
         ∙ one_more_put c e k w x (read_many (starts heads (m ▸ f)) (read_in n (m ▸ f)) turns x.rest)
     go (Err y) i = refl
 
--- an item, and others behind a symbol, where what closes the list makes its tree
-pub items_says : {A : Type 0} {n : ℕ} {f : Phrase A} {e : A → Parts → Parts} (b : ℕ) (near : Bool) (c : Closing) (m : Mark) (r : ℕ) (t : List A → Tree) → r < b → ((l : List A) (q : Parts) → closed c (length l) (each e l q) ≡ grows (t l) q) → Says n r (row_of r) f e → Says n b (piece.List c m r ∷ []) (f & many near (m ▸ f)) (λ p. grows (t (p.0 ∷ p.1)))
-items_says {A} {n = n} {f = f} {e = e} b near c m r t h k s = same_says (λ p. grows (t (p.0 ∷ p.1))) closes one where
+-- an item, and others behind a symbol, with what closes the list
+pub items_says : {A : Type 0} {n : ℕ} {f : Phrase A} {e : A → Parts → Parts} (b : ℕ) (near : Bool) (c : Closing) (m : Mark) (r : ℕ) (d : List A → Parts → Parts) → r < b → ((l : List A) (q : Parts) → closed c (length l) (each e l q) ≡ d l q) → Says n r (row_of r) f e → Says n b (piece.List c m r ∷ []) (f & many near (m ▸ f)) (λ p. d (p.0 ∷ p.1))
+items_says {A} {n = n} {f = f} {e = e} b near c m r d h k s = same_says (λ p. d (p.0 ∷ p.1)) closes one where
   row_is : (w : Work) → row_in term_rows n b r w ≡ put e w (read_in n f w.rest)
   row_is w = row_law term_rows n b r w h ∙ s.law w
 
-  closes : (p : A × List A) (q : Parts) → listed_parts c e 1 p.1 (e p.0 q) ≡ grows (t (p.0 ∷ p.1)) q
+  closes : (p : A × List A) (q : Parts) → listed_parts c e 1 p.1 (e p.0 q) ≡ d (p.0 ∷ p.1) q
   closes p q =
       let i : length p.1 + 1 ≡ length (p.0 ∷ p.1) = omega arith in
       ap (λ j. closed c j (each e (p.0 ∷ p.1) q)) i ∙ k (p.0 ∷ p.1) q
@@ -265,8 +265,11 @@ items_says {A} {n = n} {f = f} {e = e} b near c m r t h k s = same_says (λ p. g
         ∙ put_both e (listed_parts c e 1) w (read_in n f w.rest) (λ v. more c m (row_in term_rows n b r) (length v.rest) 1 v) (read_in n (many near (m ▸ f))) (λ v. more_says n b c m r f e row_is (length v.rest) 1 v));
   }
 
+pub some_says : {A : Type 0} {n : ℕ} {f : Phrase A} {e : A → Parts → Parts} (b : ℕ) (c : Closing) (m : Mark) (r : ℕ) (d : List A → Parts → Parts) → r < b → ((l : List A) (q : Parts) → closed c (length l) (each e l q) ≡ d l q) → Says n r (row_of r) f e → Says n b (piece.List c m r ∷ []) (row m f) d
+some_says b c m r d h k s = made_says (λ (a, l). a ∷ l) d (items_says b false c m r d h k s)
+
 pub list_says : {A : Type 0} {n : ℕ} {f : Phrase A} {e : A → Parts → Parts} (b : ℕ) (c : Closing) (m : Mark) (r : ℕ) (t : List A → Tree) → r < b → ((l : List A) (q : Parts) → closed c (length l) (each e l q) ≡ grows (t l) q) → Says n r (row_of r) f e → Says n b (piece.List c m r ∷ []) (made t (row m f)) grows
-list_says b c m r t h k s = made_says t grows (made_says (λ (a, l). a ∷ l) (λ ts. grows (t ts)) (items_says b false c m r t h k s))
+list_says b c m r t h k s = made_says t grows (some_says b c m r (λ l. grows (t l)) h k s)
 
 -- lists of trees, of pairs of names, and of names
 
@@ -336,7 +339,7 @@ value_or a (Err e) = a
 from_ok : {A : Type 0} (x y : Found Role A) → (let r : Read Role A = Ok x in r) ≡ Ok y → x.value ≡ y.value
 from_ok x y e = ap (value_or x.value) e
 
-mapped_all : {A B : Type 0} (v : A → B) (r : Read Role A) (y : Found Role B) (P : B → Type 0) → ((x : Found Role A) → r ≡ Ok x → P (v x.value)) → (r >>= mapped v) ≡ Ok y → P y.value
+pub mapped_all : {A B : Type 0} (v : A → B) (r : Read Role A) (y : Found Role B) (P : B → Type 0) → ((x : Found Role A) → r ≡ Ok x → P (v x.value)) → (r >>= mapped v) ≡ Ok y → P y.value
 mapped_all v (Ok x) y P h i = subst P (from_ok (record { value = v x.value; uses = x.uses; rest = x.rest }) y i) (h x refl)
 mapped_all v (Err e) y P h i = absurd (cc)
 
@@ -344,7 +347,7 @@ pick_all : {A : Type 0} (b : Bool) (p q : Reader Role A) (ts : List Sign) (y : F
 pick_all true p q ts y P h k i = h i
 pick_all false p q ts y P h k i = k i
 
-second_all : {A B : Type 0} (r : Read Role A) (q : Reader Role B) (y : Found Role (A × B)) (P : B → Type 0) → ((ts : List Sign) (z : Found Role B) → q ts ≡ Ok z → P z.value) → (r >>= λ x. q x.rest >>= joined x) ≡ Ok y → P y.value.1
+pub second_all : {A B : Type 0} (r : Read Role A) (q : Reader Role B) (y : Found Role (A × B)) (P : B → Type 0) → ((ts : List Sign) (z : Found Role B) → q ts ≡ Ok z → P z.value) → (r >>= λ x. q x.rest >>= joined x) ≡ Ok y → P y.value.1
 second_all {A} {B} (Ok x) q y P h i = go (q x.rest) refl i where
   go : (s : Read Role B) → q x.rest ≡ s → (s >>= joined x) ≡ Ok y → P y.value.1
   go (Ok z) j k = subst P (ap (λ (c : A × B). c.1) (from_ok (record { value = (x.value, z.value); uses = x.uses ++ z.uses; rest = z.rest }) y k)) (h x.rest z j)
@@ -392,7 +395,7 @@ sel_or true c x y z = refl
 sel_or false true x y z = refl
 sel_or false false x y z = refl
 
-next_or : (p q : Kind → Bool) (ts : List Sign) → next_is (λ k. p k || q k) ts ≡ (next_is p ts || next_is q ts)
+pub next_or : (p q : Kind → Bool) (ts : List Sign) → next_is (λ k. p k || q k) ts ≡ (next_is p ts || next_is q ts)
 next_or p q [] = refl
 next_or p q (t ∷ ts) = refl
 

@@ -1,6 +1,6 @@
 -- The rows of terms read what the forms of the grammar read.
-use Rattle.std.proofs.Common.{◌≡◌, ℕ, zero, suc, ◌+◌, ◌<◌, Bool, false, List, [], ◌∷◌, ◌++◌, refl, ap, sym, ◌∙◌, lit<, append_assoc, Option, Some, None, Ok}
-use Rattle.cv_syntax_trees.specs.Tree.{Tree, Empty, Node, lone, chain}
+use Rattle.std.proofs.Common.{◌≡◌, ℕ, zero, suc, ◌+◌, ◌<◌, false, List, [], ◌∷◌, ◌++◌, refl, ap, sym, ◌∙◌, lit<, append_assoc, Option, Some, None}
+use Rattle.cv_syntax_trees.specs.Tree.{Tree, Empty, Node, lone, chain, binders}
 use Rattle.cv_syntax_trees.specs.declared.head.Head.{Head}
 use Rattle.cv_syntax_trees.specs.declared.head.Head.TheVariants as head
 use Rattle.cv_syntax.specs.Postorder.{postorder}
@@ -8,23 +8,26 @@ use Rattle.cv_syntax.specs.declared.make.Make.{Make}
 use Rattle.cv_syntax.specs.declared.make.Make.TheVariants.{Nothing, Over}
 use Rattle.cv_parse_notation.specs.declared.sign.Mark.{Mark}
 use Rattle.cv_parse_notation.specs.declared.sign.Mark.TheVariants as mark
-use Rattle.cv_parse_notation.specs.Form.{sign, word, note, may, either, made, level, deeper, ◌&◌, ◌▸◌, ◌◂◌}
-use Rattle.cv_parse_grammar.specs.declared.role.Role.TheVariants.{Mentions, AsCall, AsArray, AsBare, MentionsCell}
-use Rattle.cv_parse_grammar.specs.Phrases.{Sort, Phrase, Term, Conjunction, Primary, Unequal, Arguments, Subscript, Parentheses, Cells, OneCell, or_else, row, listed}
-use Rattle.cv_parse_grammar.specs.Rules.{rule}
-use Rattle.cv_parse_grammar.specs.Terms.{yes, terms, arguments, subscript, parentheses, called, indexed, alone, mention, negation, truth, falsehood, primary, unequal, equal_to, unequal_to, equality, conjoined, conjunction, disjoined, term, cell_of, cell, cells, defined_condition, plain_condition, condition}
+use Rattle.cv_parse_notation.specs.Spells.{Kind, starts}
+use Rattle.cv_parse_notation.specs.Form.{sign, may, made, level, deeper, ◌&◌, ◌▸◌}
+use Rattle.cv_parse_grammar.specs.declared.role.Asked.TheVariants.{AType}
+use Rattle.cv_parse_grammar.specs.declared.role.Role.{Role}
+use Rattle.cv_parse_grammar.specs.declared.role.Role.TheVariants.{Asks, Mentions, AsCall, AsArray, AsBare, MentionsCell, BindsLocal, BindsVariable}
+use Rattle.cv_parse_grammar.specs.Phrases.{Sort, Phrase, Term, Conjunction, Primary, Unequal, Arguments, Subscript, Parentheses, Cells, OneCell, or_else, listed, type_name, typed, vars, var_list}
+use Rattle.cv_parse_grammar.specs.Rules.{heads, rule}
+use Rattle.cv_parse_grammar.specs.Terms.{yes, terms, arguments, subscript, parentheses, called, indexed, alone, mention, negation, primary, unequal, unequal_to, equality, conjunction, term, cell_of, cell, cells, defined_condition, plain_condition, condition}
 use Rattle.cv_parse_terms.specs.declared.piece.Ahead.{Ahead}
 use Rattle.cv_parse_terms.specs.declared.piece.Ahead.TheVariants as ahead
 use Rattle.cv_parse_terms.specs.declared.piece.Naming.TheVariants as naming
 use Rattle.cv_parse_terms.specs.declared.piece.Closing.TheVariants as closing
 use Rattle.cv_parse_terms.specs.declared.piece.Piece.{Piece}
 use Rattle.cv_parse_terms.specs.declared.piece.Piece.TheVariants as piece
-use Rattle.cv_parse_terms.specs.Gives.{below, read_in, parts_of_both}
-use Rattle.cv_parse_terms.specs.Tables.{Parts, Work, changed, last_name, made_no_part, named, other_names, part, pieces_in, put, row_in, waits}
+use Rattle.cv_parse_terms.specs.Gives.{parts_of_both}
+use Rattle.cv_parse_terms.specs.Tables.{Parts, Work, begins, changed, last_name, made_no_part, named, other_names, part, put, waits}
 use Rattle.cv_parse_terms.specs.TermRows.{row_count, row_of, term_rows}
 use Rattle.cv_parse_terms.proofs.Levels.{below_is as sort_below}
 use Rattle.cv_parse_terms.proofs.Walks.{row_law}
-use Rattle.cv_parse_terms.proofs.Saying.{AllTails, IsBelow, Says, adds, after_says, between, both_says, chain_closes, deeper_says, either_may_says, either_says, either_tails, grows, head_behind, joins, level_says, list_says, made_says, made_tails, may_says, maybe_joins, none_below, note_says, part_before, part_behind, row_says, same_says, sign_before, sign_says, word_says}
+use Rattle.cv_parse_terms.proofs.Saying.{AllTails, IsBelow, Says, adds, after_says, between, binders_close, both_says, both_wait, chain_closes, deeper_says, either_may_says, either_says, either_tails, grows, head_behind, item_waits, joins, level_says, list_says, made_says, made_tails, may_says, maybe_joins, none_below, note_says, part_before, part_behind, row_says, same_says, sign_before, sign_says, value_behind, word_says}
 
 -- the phrases one level down
 pub record Deep (n : ℕ) : Type 0 where
@@ -311,6 +314,41 @@ pub says_maybe_terms : (n : ℕ) → Deep n → Says n 55 (row_of 55) (listed te
 says_maybe_terms n d =
     made_says (or_else Empty) grows
     (may_says 55 ahead.Term 2 54 false (λ o. grows (or_else Empty o)) (lit< tt) (lit< tt) (λ k. refl) (says_terms n d) no_list)
+
+-- types and variables
+
+pub says_type : (n : ℕ) → Says n 58 (row_of 58) type_name waits
+says_type n =
+    either_says 58 (ahead.Mark mark.Bool) 56 57 (lit< tt) (lit< tt) (λ k. refl)
+    (made_says (λ _. 0) waits (value_behind 0 (piece.Sign mark.Bool ∷ []) (sign_says n 56 mark.Bool))) (word_says n 57 (Asks AType))
+
+pub says_typed : (n b : ℕ) (r : Role) → 58 < b → Says n b (piece.Word r ∷ (piece.Sign mark.Colon ∷ (piece.Row 58 ∷ []))) (typed r) both_wait
+says_typed n b r h =
+    both_says (piece.Word r ∷ []) (piece.Sign mark.Colon ∷ (piece.Row 58 ∷ [])) (word_says n b r) (sign_before mark.Colon (piece.Row 58 ∷ []) (row_says b 58 h (says_type n)))
+
+pub says_variable : (n : ℕ) → Says n 59 (row_of 59) (typed BindsVariable) both_wait
+says_variable n = says_typed n 59 BindsVariable (lit< tt)
+
+pub says_local : (n : ℕ) → Says n 60 (row_of 60) (typed BindsLocal) both_wait
+says_local n = says_typed n 60 BindsLocal (lit< tt)
+
+-- a phrase, or the empty list
+
+pub says_listed : {n : ℕ} {f : Phrase Tree} (b : ℕ) (a : Ahead) (r : ℕ) → r < b → 54 < b → ((k : Kind) → begins a k ≡ starts heads f k) → Says n r (row_of r) f grows → Says n b (piece.Choice a r 54 ∷ []) (listed f) grows
+says_listed b a r h i k s = made_says (or_else Empty) grows (may_says b a r 54 false (λ o. grows (or_else Empty o)) h i k s no_list)
+
+-- variables of a function
+
+says_local_item : (n : ℕ) → Says n 146 (row_of 146) (typed BindsLocal) item_waits
+says_local_item n = part_behind Nothing (piece.Row 60 ∷ []) (row_says 146 60 (lit< tt) (says_local n))
+
+pub says_local_vars : (n : ℕ) → Says n 147 (row_of 147) (vars BindsLocal) grows
+says_local_vars n = list_says 147 closing.Binders mark.Comma 146 binders (lit< tt) binders_close (says_local_item n)
+
+pub says_local_list : (n : ℕ) → Says n 149 (row_of 149) (var_list BindsLocal) grows
+says_local_list n =
+    level_says 149 (ahead.Mark mark.Open) 148 (lit< tt) (λ k. refl)
+    (between mark.Open mark.Close (piece.Choice ahead.Word 147 54 ∷ []) (says_listed 148 ahead.Word 147 (lit< tt) (lit< tt) (λ k. refl) (says_local_vars n)))
 
 -- by the levels that are left
 

@@ -4,17 +4,15 @@ use Rattle.std.specs.Prelude.{MatchOption, option_to_list, unwrap_or}
 use Rattle.std.proofs.lemmas.Bool.{eqb-false}
 use Rattle.std.proofs.lemmas.List.{length-map, reverse-append}
 use Rattle.std.specs.Borrow.{Bor}
-use Rattle.cv_syntax.specs.declared.make.Make.{Make}
-use Rattle.cv_syntax.specs.declared.make.Make.TheVariants.{Nothing, Over}
+use Rattle.cv_syntax.specs.declared.make.Make.TheVariants.{Over}
 use Rattle.cv_syntax_trees.specs.declared.head.Head.{Head}
 use Rattle.cv_parse_notation.specs.declared.sign.Sign.{Sign}
 use Rattle.cv_parse_notation.specs.declared.sign.Mark.{Mark}
 use Rattle.cv_parse_notation.specs.Spells.{next_is, is_mark}
-use Rattle.cv_parse_notation.specs.Reads.{Fault, Syntax, Nesting, Read, Found, read_sign, read_word, read_nought, read_find, read_number}
+use Rattle.cv_parse_notation.specs.Reads.{Fault, Syntax, Nesting, Read, read_sign, read_word, read_nought, read_find, read_number}
 use Rattle.cv_parse_grammar.specs.declared.role.Role.{Role}
 use Rattle.cv_parse_terms.specs.declared.lookahead.ReadError.{ReadError}
 use Rattle.cv_parse_terms.specs.declared.lookahead.ReadError.TheVariants as error
-use Rattle.cv_parse_terms.specs.declared.trail.NameUse.{NameUse}
 use Rattle.cv_parse_terms.specs.declared.trail.Trail.{Trail}
 use Rattle.cv_parse_terms.specs.declared.piece.Ahead.{Ahead}
 use Rattle.cv_parse_terms.specs.declared.piece.Naming.{Naming}
@@ -23,7 +21,7 @@ use Rattle.cv_parse_terms.specs.declared.piece.Closing.{Closing}
 use Rattle.cv_parse_terms.specs.declared.piece.Piece.{Piece}
 use Rattle.cv_parse_terms.specs.declared.piece.Piece.TheVariants as node
 use Rattle.cv_parse_terms.specs.Gives.{Fails, IsPlain, IsRead, Passes, Shallow, Stands, positive, read_note, uses_of}
-use Rattle.cv_parse_terms.specs.Tables.{Parts, Work, Step, Runs, Stops, Table, and_then, begins, below_step, changed, chosen, closed, closer, instead, last_name, made_no_part, more, named, head_of, other_names, pair_of, paired, part, repeated, no_room, parts_of, piece_in, pieces_in, pieces_step, put, refused, row_in, rows_of, waits, work_of}
+use Rattle.cv_parse_terms.specs.Tables.{Parts, Work, Step, Runs, Stops, Table, and_then, begins, below_step, changed, chosen, closed, closer, ended, instead, last_name, made_no_part, more, named, head_of, other_names, pair_of, paired, repeated, no_room, parts_of, piece_in, pieces_in, pieces_step, put, refused, row_in, rows_of, waits, work_of}
 
 -- faults
 
@@ -82,8 +80,8 @@ find_runs all t ns ms at x p d n = plain_runs waits all t t ns ms (drop at all) 
 pub number_runs : (all : List Sign) (t : Trail) (ns ms ls : List ℕ) (at x p : ℕ) → IsPlain all (read_number (drop at all)) x p → reverse ms ≡ other_names (reverse ns) → ls ≡ ms ++ x ∷ [] → Runs all (Ok p) t ls (put instead (work_of t ns (drop at all)) (read_number (drop at all)))
 number_runs all t ns ms ls at x p d n m = plain_runs instead all t t ns ls (drop at all) (read_number (drop at all)) x p d refl (ap (λ xs. let q : Parts = record { names = xs; makes = t.makes.items } in q) (ap reverse m ∙ (reverse-append ms (x ∷ []) ∙ ap (λ l. x ∷ l) n)))
 
-pub nameless_runs : (all : List Sign) (t : Trail) (ns ms : List ℕ) (at : ℕ) → at ≤ length all → ms ≡ ns ++ 0 ∷ [] → Runs all (Ok at) t ms (changed (waits 0) (work_of t ns (drop at all)))
-nameless_runs all t ns ms at l n = (l, ap (λ xs. let w : Result Work Fault = Ok (record { parts = record { names = xs; makes = t.makes.items }; uses = uses_of t.uses.items; rest = drop at all }) in w) (sym (ap reverse n ∙ reverse-append ns (0 ∷ []))))
+pub value_runs : (all : List Sign) (t : Trail) (ns ms : List ℕ) (x at : ℕ) → at ≤ length all → ms ≡ ns ++ x ∷ [] → Runs all (Ok at) t ms (changed (waits x) (work_of t ns (drop at all)))
+value_runs all t ns ms x at l n = (l, ap (λ xs. let w : Result Work Fault = Ok (record { parts = record { names = xs; makes = t.makes.items }; uses = uses_of t.uses.items; rest = drop at all }) in w) (sym (ap reverse n ∙ reverse-append ns (x ∷ []))))
 
 pub note_runs : (all : List Sign) (s t : Trail) (ns : List ℕ) (role : Role) (at n : ℕ) → IsRead all s.uses.items t.uses.items (read_note role (drop at all)) n at → t.makes ≡ s.makes → Runs all (Ok at) t ns (put made_no_part (work_of s ns (drop at all)) (read_note role (drop at all)))
 note_runs all s t ns role at n d m = put_read made_no_part all s t ns ns (drop at all) (read_note role (drop at all)) n at d (ap (λ v. let q : Parts = record { names = reverse ns; makes = v.items } in q) m)
@@ -115,7 +113,7 @@ pub repeated_more : (n : ℕ) (f : Parts → Parts) (q : Parts) → repeated (n 
 repeated_more n f q = let i : n + 1 ≡ suc n = omega arith in ap (λ k. repeated k f q) i
 
 pub closes_more : (n : ℕ) (c : Closing) (s t u : Trail) (ns ms ls : List ℕ) → parts_of t ms ≡ closed c n (parts_of s ns) → parts_of u ls ≡ closer c (parts_of t ms) → parts_of u ls ≡ closed c (n + 1) (parts_of s ns)
-closes_more n c s t u ns ms ls e d = d ∙ (ap (closer c) e ∙ sym (repeated_more n (closer c) (part Nothing (parts_of s ns))))
+closes_more n c s t u ns ms ls e d = d ∙ (ap (closer c) e ∙ sym (repeated_more n (closer c) (ended c (parts_of s ns))))
 
 -- pieces one behind another
 
@@ -254,4 +252,4 @@ pub passed_on : (all : List Sign) (r : Result ℕ ReadError) (e : ReadError) (t 
 passed_on all (Ok x) e t ns q i h = absurd i
 passed_on all (Err x) e t ns q i h = subst (λ y. Stops all y q) (sym i) h
 
-pub ruleset walks = (refused_stops, fails_put, sign_runs, word_runs, note_runs, zero_runs, find_runs, number_runs, nameless_runs, last_leaves, name_leaves, pair_leaves)
+pub ruleset walks = (refused_stops, fails_put, sign_runs, word_runs, note_runs, zero_runs, find_runs, number_runs, value_runs, last_leaves, name_leaves, pair_leaves)

@@ -1,5 +1,4 @@
 pub mod Gives
 pub mod Tables
 pub mod TermRows
-pub mod Items
 pub mod Spines

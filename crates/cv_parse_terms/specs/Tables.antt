@@ -89,6 +89,10 @@ head_of naming.In x = head.In x
 head_of naming.Out x = head.Out x
 head_of naming.Event x = head.Event x
 head_of naming.Find x = head.Find x
+head_of naming.Occurs x = head.Occurs x
+head_of naming.OccursOnce x = head.OccursOnce x
+head_of naming.Secret x = head.Secret x
+head_of naming.SecretOnce x = head.SecretOnce x
 
 abbrev pub pair_of : Pairing → ℕ → ℕ → Head
 pair_of pairing.Binder x y = head.Binder x y
@@ -110,17 +114,24 @@ abbrev pub instead : ℕ → Parts → Parts
 instead x q = record { names = x ∷ other_names q.names; makes = q.makes }
 
 -- a list of so many: its end, and a node for each
+abbrev pub ended : Closing → Parts → Parts
+ended closing.Trees q = part Nothing q
+ended closing.Binders q = part Nothing q
+ended closing.Names q = part Nothing q
+ended closing.Apart q = q
+
 abbrev pub closer : Closing → Parts → Parts
 closer closing.Trees q = part (Over head.Cons) q
 closer closing.Binders q = paired pairing.Binder q
 closer closing.Names q = named naming.Name q
+closer closing.Apart q = q
 
 abbrev pub repeated : ℕ → (Parts → Parts) → Parts → Parts
 repeated zero f q = q
 repeated (suc n) f q = f (repeated n f q)
 
 abbrev pub closed : Closing → ℕ → Parts → Parts
-closed c n q = repeated n (closer c) (part Nothing q)
+closed c n q = repeated n (closer c) (ended c q)
 
 -- the tokens with which it begins
 abbrev pub begins : Ahead → Kind → Bool
@@ -154,7 +165,7 @@ piece_step room below row (piece.Word r) w = put waits w (read_word r w.rest)
 piece_step room below row piece.Zero w = put made_no_part w (read_nought w.rest)
 piece_step room below row piece.Find w = put waits w (read_find w.rest)
 piece_step room below row piece.Instead w = put instead w (read_number w.rest)
-piece_step room below row piece.Nameless w = changed (waits 0) w
+piece_step room below row (piece.Value x) w = changed (waits x) w
 piece_step room below row (piece.Note r) w = put made_no_part w (read_note r w.rest)
 piece_step room below row (piece.Part m) w = changed (part m) w
 piece_step room below row (piece.Named h) w = changed (named h) w

@@ -1,11 +1,12 @@
--- The rows of terms, processes and the bodies of functions, as a table. This profile's own.
+-- The rows of terms, processes, the bodies of functions and declarations, as a table. This profile's own.
 use Rattle.std.specs.Prelude.{ℕ, List, [], ◌∷◌, drop, slice_index_or, Result}
 use Rattle.cv_syntax.specs.declared.make.Make.TheVariants.{Nothing, Over}
-use Rattle.cv_syntax_trees.specs.declared.head.Head.TheVariants.{Eq, And, Or, Not, Yes, No, Cons, Stop, Yield, Par, If, Branch}
+use Rattle.cv_syntax_trees.specs.declared.head.Head.TheVariants.{Eq, And, Or, Not, Yes, No, Cons, Stop, Yield, Par, If, Branch, Forall, Query}
 use Rattle.cv_parse_notation.specs.declared.sign.Sign.{Sign}
 use Rattle.cv_parse_notation.specs.declared.sign.Mark.TheVariants as mark
-use Rattle.cv_parse_grammar.specs.declared.role.Role.TheVariants.{Mentions, AsCall, AsArray, AsBare, MentionsCell, Asks, AsksBound, AsksIndex, BindsIndex, BindsLocal, BindsVariable}
-use Rattle.cv_parse_grammar.specs.declared.role.Asked.TheVariants.{AParam, AChannel, AnEvent, AType}
+use Rattle.cv_parse_grammar.specs.declared.role.Role.TheVariants.{Mentions, AsCall, AsArray, AsBare, MentionsCell, Asks, AsksBound, AsksIndex, BindsIndex, BindsLocal, BindsVariable, Declares, Enters as Enters_in, Leaves, Unchecked}
+use Rattle.cv_parse_grammar.specs.declared.role.Region.TheVariants.{InEquation, InQuery}
+use Rattle.cv_parse_grammar.specs.declared.role.Asked.TheVariants.{AParam, AChannel, AFunction, AnEvent, AProbability, AType}
 use Rattle.cv_parse_terms.specs.declared.lookahead.ReadError.{ReadError}
 use Rattle.cv_parse_terms.specs.declared.trail.Trail.{Trail}
 use Rattle.cv_parse_terms.specs.declared.piece.Ahead.TheVariants as ahead
@@ -13,7 +14,7 @@ use Rattle.cv_parse_terms.specs.declared.piece.Naming.TheVariants as naming
 use Rattle.cv_parse_terms.specs.declared.piece.Pairing.TheVariants as pairing
 use Rattle.cv_parse_terms.specs.declared.piece.Closing.TheVariants as closing
 use Rattle.cv_parse_terms.specs.declared.piece.Piece.{Piece}
-use Rattle.cv_parse_terms.specs.declared.piece.Piece.TheVariants.{Sign as Says, Word, Zero, Find, Instead, Nameless, Note, Part, Named, Paired, Row, Level, Deeper, Choice, List as Items}
+use Rattle.cv_parse_terms.specs.declared.piece.Piece.TheVariants.{Sign as Says, Word, Zero, Find, Instead, Value, Note, Part, Named, Paired, Row, Level, Deeper, Choice, List as Items}
 use Rattle.cv_parse_terms.specs.Tables.{Table, Runs, row_in, work_of}
 
 abbrev pub term_rows : Table
@@ -74,7 +75,7 @@ term_rows =
     (Row 1 ∷ Part Nothing ∷ Part (Over Cons) ∷ []) ∷  -- 53 a list of one term
     (Part Nothing ∷ []) ∷  -- 54 the empty list
     (Choice ahead.Term 2 54 ∷ []) ∷  -- 55 terms, where there are some
-    (Says mark.Bool ∷ Nameless ∷ []) ∷  -- 56
+    (Says mark.Bool ∷ Value 0 ∷ []) ∷  -- 56
     (Word (Asks AType) ∷ []) ∷  -- 57
     (Choice (ahead.Mark mark.Bool) 56 57 ∷ []) ∷  -- 58 a type
     (Word BindsVariable ∷ Says mark.Colon ∷ Row 58 ∷ []) ∷  -- 59 a variable of a process, with its type
@@ -163,14 +164,62 @@ term_rows =
     (Choice ahead.Find 141 37 ∷ []) ∷  -- 142
     (Choice (ahead.Mark mark.If) 134 142 ∷ []) ∷  -- 143
     (Choice (ahead.Mark mark.Let) 131 143 ∷ []) ∷  -- 144
-    (Choice (ahead.Mark mark.New) 129 144 ∷ []) ∷ []  -- 145 the body of a function
+    (Choice (ahead.Mark mark.New) 129 144 ∷ []) ∷  -- 145 the body of a function
+    (Row 60 ∷ Part Nothing ∷ []) ∷  -- 146
+    (Items closing.Binders mark.Comma 146 ∷ []) ∷  -- 147 variables of a function
+    (Says mark.Open ∷ Choice ahead.Word 147 54 ∷ Says mark.Close ∷ []) ∷  -- 148
+    (Level (ahead.Mark mark.Open) 148 ∷ []) ∷  -- 149 variables of a function in parentheses
+    (Row 147 ∷ Says mark.Semicolon ∷ []) ∷  -- 150
+    (Says mark.Forall ∷ Row 150 ∷ []) ∷  -- 151
+    (Says mark.EquationWord ∷ Note (Enters_in InEquation) ∷ Choice (ahead.Mark mark.Forall) 151 54 ∷ Row 37 ∷ Part (Over Forall) ∷ Note Leaves ∷ Says mark.Dot ∷ []) ∷  -- 152 the declaration of an equation
+    (Row 58 ∷ Part Nothing ∷ []) ∷  -- 153
+    (Says mark.Open ∷ Items closing.Names mark.Comma 153 ∷ Says mark.Close ∷ []) ∷  -- 154
+    (Level (ahead.Mark mark.Open) 154 ∷ []) ∷  -- 155 a list of types
+    (Word (Declares AParam) ∷ Part Nothing ∷ []) ∷  -- 156
+    (Says mark.Param ∷ Items closing.Apart mark.Comma 156 ∷ Says mark.Dot ∷ []) ∷  -- 157 the declaration of parameters
+    (Word (Declares AChannel) ∷ Part Nothing ∷ []) ∷  -- 158
+    (Says mark.Channel ∷ Items closing.Apart mark.Comma 158 ∷ Says mark.Dot ∷ []) ∷  -- 159 the declaration of channels
+    (Says mark.Proba ∷ Word (Declares AProbability) ∷ Part Nothing ∷ Says mark.Dot ∷ []) ∷  -- 160 the declaration of a probability
+    (Says mark.Fixed ∷ Value 0 ∷ []) ∷  -- 161
+    (Says mark.Large ∷ Value 1 ∷ []) ∷  -- 162
+    (Says mark.Bounded ∷ Value 2 ∷ []) ∷  -- 163
+    (Choice (ahead.Mark mark.Large) 162 163 ∷ []) ∷  -- 164
+    (Choice (ahead.Mark mark.Fixed) 161 164 ∷ []) ∷  -- 165 what a type is declared as
+    (Says mark.OpenSquare ∷ Items closing.Apart mark.Comma 165 ∷ Says mark.CloseSquare ∷ []) ∷  -- 166
+    (Level (ahead.Mark mark.OpenSquare) 166 ∷ []) ∷  -- 167
+    (Says mark.TypeWord ∷ Word (Declares AType) ∷ Choice (ahead.Mark mark.OpenSquare) 167 0 ∷ Part Nothing ∷ Says mark.Dot ∷ []) ∷  -- 168 the declaration of a type
+    (Word (Declares AFunction) ∷ Part Nothing ∷ []) ∷  -- 169
+    (Says mark.ConstWord ∷ Items closing.Apart mark.Comma 169 ∷ Says mark.Colon ∷ Row 58 ∷ Says mark.Dot ∷ []) ∷  -- 170 the declaration of constants
+    (Says mark.Data ∷ []) ∷  -- 171
+    (Says mark.Compos ∷ []) ∷  -- 172
+    (Says mark.OpenSquare ∷ Choice (ahead.Mark mark.Data) 171 172 ∷ Says mark.CloseSquare ∷ []) ∷  -- 173
+    (Level (ahead.Mark mark.OpenSquare) 173 ∷ Value 1 ∷ []) ∷  -- 174 a function is data
+    (Value 0 ∷ []) ∷  -- 175 a function isn't data
+    (Says mark.Fun ∷ Word (Declares AFunction) ∷ Row 155 ∷ Says mark.Colon ∷ Row 58 ∷ Choice (ahead.Mark mark.OpenSquare) 174 175 ∷ Says mark.Dot ∷ []) ∷  -- 176 the declaration of a function
+    (Says mark.EventWord ∷ Word (Declares AnEvent) ∷ Choice (ahead.Mark mark.Open) 155 54 ∷ Says mark.Dot ∷ []) ∷  -- 177 the declaration of an event
+    (Says mark.Secret ∷ Word Unchecked ∷ Part Nothing ∷ Part Nothing ∷ Named naming.Secret ∷ []) ∷  -- 178 secrecy of all cells
+    (Says mark.SecretOnce ∷ Word Unchecked ∷ Part Nothing ∷ Part Nothing ∷ Named naming.SecretOnce ∷ []) ∷  -- 179 secrecy of each cell
+    (Says mark.EventWord ∷ Word (Asks AnEvent) ∷ Choice (ahead.Mark mark.Open) 4 54 ∷ Part Nothing ∷ []) ∷  -- 180 an event with its arguments
+    (Says mark.Inj ∷ Row 180 ∷ Named naming.OccursOnce ∷ []) ∷  -- 181
+    (Row 180 ∷ Named naming.Occurs ∷ []) ∷  -- 182
+    (Choice (ahead.Mark mark.Inj) 181 182 ∷ []) ∷  -- 183 an event of a query
+    (Choice (ahead.Mark mark.EventWord) 182 31 ∷ []) ∷  -- 184
+    (Choice (ahead.Mark mark.Inj) 181 184 ∷ []) ∷  -- 185 an event of a query, or an equality
+    (Choice ahead.Word 150 54 ∷ Row 183 ∷ Says mark.Implies ∷ Items closing.Trees mark.Both 185 ∷ Part (Over Cons) ∷ Part (Over Query) ∷ []) ∷  -- 186 a correspondence
+    (Choice (ahead.Mark mark.SecretOnce) 179 186 ∷ []) ∷  -- 187
+    (Choice (ahead.Mark mark.Secret) 178 187 ∷ []) ∷  -- 188 what a query asks
+    (Says mark.QueryWord ∷ Note (Enters_in InQuery) ∷ Row 188 ∷ Note Leaves ∷ Says mark.Dot ∷ []) ∷ []  -- 189 the declaration of a query
 
 abbrev pub row_count : ℕ
-row_count = 146
+row_count = 190
 
 abbrev pub row_of : ℕ → List Piece
 row_of r = slice_index_or term_rows r []
 
--- The row was read from a place on, with so many levels left; no name waits before it.
+-- The row was read from a place on, with so many levels left; some names wait before it, and others behind it.
+abbrev pub EntersWith : ℕ → ℕ → List Sign → ℕ → Trail → (before : List ℕ) → Result ℕ ReadError → Trail → (behind : List ℕ) → Type 0
+EntersWith r n all at old before result new behind = Runs all result new behind (row_in term_rows n row_count r (work_of old before (drop at all)))
+
+-- no name waits before it
 abbrev pub Enters : ℕ → ℕ → List Sign → ℕ → Trail → Result ℕ ReadError → Trail → Type 0
-Enters r n all at old result new = (names : List ℕ) × Runs all result new names (row_in term_rows n row_count r (work_of old [] (drop at all)))
+Enters r n all at old result new = (names : List ℕ) × EntersWith r n all at old [] result new names

@@ -2,7 +2,7 @@ ghost use Rattle.std.specs.Prelude.{◌≡◌, ◌+◌, ◌-◌, ◌<◌, ◌≤
 ghost use Rattle.cv_parse_notation.specs.Spells.{next_is};
 ghost use Rattle.cv_parse_notation.specs.Reads.{read_find, read_nought, read_number, read_sign, read_word};
 ghost use Rattle.cv_parse_terms.specs.Gives.{read_note};
-ghost use Rattle.cv_parse_terms.specs.Tables.{Runs, Stops, begins, changed, closed, closer as closer_parts, head_of as head_form, instead as instead_of, last_name, made_no_part, more, named as named_parts, other_names, pair_of as pair_form, paired as paired_parts, parts_of, piece_in, pieces_in, put, refused as refused_step, row_in, rows_of, waits, work_of};
+ghost use Rattle.cv_parse_terms.specs.Tables.{Runs, Stops, begins, changed, closed, closer as closer_parts, ended as ended_parts, head_of as head_form, instead as instead_of, last_name, made_no_part, more, named as named_parts, other_names, pair_of as pair_form, paired as paired_parts, parts_of, piece_in, pieces_in, put, refused as refused_step, row_in, rows_of, waits, work_of};
 ghost use Rattle.cv_parse_terms.specs.declared.lookahead.ReadError.TheVariants.{OutOfMemory};
 
 use crate::lookahead::{
@@ -129,7 +129,7 @@ fn found(signs: &[Sign], at: usize, trail: &Trail, names: &mut Vec<u64>) -> Resu
 
 /// The name that waits last, which leaves.
 #[tactic(auto, using(crate::proofs::Walks::walks))]
-fn taken(names: &mut Vec<u64>) -> u64
+pub fn taken(names: &mut Vec<u64>) -> u64
     ensures leaves { (result ≡ last_name (reverse names.old.items))
         × (reverse names.new.items ≡ other_names (reverse names.old.items)) }
 {
@@ -156,24 +156,25 @@ fn instead(
     Ok(place)
 }
 
-/// The name 0 waits.
+/// A number waits.
 #[tactic(auto, using(crate::proofs::Walks::walks))]
-fn nameless(
+fn value(
     signs: &[Sign],
     at: usize,
     trail: &Trail,
     names: &mut Vec<u64>,
+    number: u64,
 ) -> Result<usize, ReadError>
     requires at { at ≤ length signs.now }
-    ensures { Runs signs.now result trail.now names.new.items (changed (waits 0)
+    ensures { Runs signs.now result trail.now names.new.items (changed (waits number)
         (work_of trail.now names.old.items (drop at signs.now))) }
 {
-    names.push(0)?;
+    names.push(number)?;
     Ok(at)
 }
 
 /// A name as heads have it. No name is longer.
-fn short(x: u64) -> Result<u32, ReadError>
+pub fn short(x: u64) -> Result<u32, ReadError>
     ensures value { IfOk result (λ y. y ≡ x) }
     ensures full { IfErr result (λ e. e ≡ OutOfMemory) }
 {
@@ -196,6 +197,10 @@ fn head_of(naming: Naming, x: u32) -> Head
         Naming::Out => Head::Out(x),
         Naming::Event => Head::Event(x),
         Naming::Find => Head::Find(u64::from(x)),
+        Naming::Occurs => Head::Occurs(x),
+        Naming::OccursOnce => Head::OccursOnce(x),
+        Naming::Secret => Head::Secret(x),
+        Naming::SecretOnce => Head::SecretOnce(x),
     }
 }
 
@@ -269,6 +274,24 @@ fn closer(trail: &mut Trail, names: &mut Vec<u64>, closing: Closing) -> Result<(
         }
         Closing::Binders => paired(trail, names, Pairing::Binder),
         Closing::Names => named(trail, names, Naming::Name),
+        Closing::Apart => Ok(()),
+    }
+}
+
+/// The end of a list.
+#[tactic(auto)]
+fn list_end(trail: &mut Trail, names: &Vec<u64>, closing: Closing) -> Result<(), ReadError>
+    ensures parts { OnOk result (parts_of trail.new names.now.items
+        ≡ ended_parts closing (parts_of trail.old names.now.items)) }
+    ensures full { IfErr result (λ e. e ≡ OutOfMemory) }
+    ensures uses { trail.new.uses ≡ trail.old.uses }
+{
+    match closing {
+        Closing::Trees | Closing::Binders | Closing::Names => {
+            trail.makes.push(Make::Nothing)?;
+            Ok(())
+        }
+        Closing::Apart => Ok(()),
     }
 }
 
@@ -285,7 +308,7 @@ fn close(
     ensures full { IfErr result (λ e. e ≡ OutOfMemory) }
     ensures uses { trail.new.uses ≡ trail.old.uses }
 {
-    trail.makes.push(Make::Nothing)?;
+    list_end(trail, names, closing)?;
     'items: for _ in 0..count {
         closer(trail, names, closing)?;
     }
@@ -357,7 +380,7 @@ fn read_piece(
         Piece::Zero => nought(signs, at, trail, names),
         Piece::Find => found(signs, at, trail, names),
         Piece::Instead => instead(signs, at, trail, names),
-        Piece::Nameless => nameless(signs, at, trail, names),
+        Piece::Value(number) => value(signs, at, trail, names, number),
         Piece::Note(role) => noted(signs, at, trail, names, role),
         Piece::Part(make) => {
             trail.makes.push(make)?;

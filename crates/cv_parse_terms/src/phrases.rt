@@ -1,26 +1,28 @@
-ghost use Rattle.std.specs.Prelude.{◌<◌, ◌≤◌, ◌^◌, length, drop};
+ghost use Rattle.std.specs.Prelude.{◌≡◌, ◌<◌, ◌≤◌, ◌^◌, length, drop};
 ghost use Rattle.cv_syntax.specs.Postorder.{postorder};
-ghost use Rattle.cv_parse_grammar.specs.Phrases.{Term, Subscript, OneCell};
-ghost use Rattle.cv_parse_grammar.specs.Terms.{arguments as arguments_form, equality as equality_form, term as term_form, terms as terms_form, cell as cell_form};
+ghost use Rattle.cv_parse_grammar.specs.Phrases.{Term, Subscript, OneCell, var_list};
+ghost use Rattle.cv_parse_grammar.specs.Terms.{cell as cell_form, term as term_form, terms as terms_form};
+ghost use Rattle.cv_parse_grammar.specs.declared.role.Role.TheVariants.{BindsLocal};
 ghost use Rattle.cv_parse_terms.specs.Gives.{Makes, below, read_in};
-ghost use Rattle.cv_parse_terms.specs.TermRows.{Enters};
+ghost use Rattle.cv_parse_terms.specs.Tables.{rows_of};
+ghost use Rattle.cv_parse_terms.specs.TermRows.{Enters, EntersWith, term_rows};
 
 use crate::interpreter::read_table;
 use crate::lookahead::ReadError;
 use crate::piece::Piece::{
-    Choice, Deeper, Find, Instead, Level, List as Items, Named, Nameless, Note, Paired, Part, Row,
-    Sign as Says, Word, Zero,
+    Choice, Deeper, Find, Instead, Level, List as Items, Named, Note, Paired, Part, Row,
+    Sign as Says, Value, Word, Zero,
 };
 use crate::piece::{Ahead as Next, Closing, Naming, Pairing, Piece};
 use crate::trail::Trail;
-use cv_parse_grammar::{Asked, Role};
+use cv_parse_grammar::{Asked, Region, Role};
 use cv_parse_notation::{Mark, Sign};
 use cv_syntax::Head;
 use cv_syntax::Make::{Nothing, Over};
 
-/// The rows of terms, processes and the bodies of functions. A row that stands before one that only
-/// opens a level is the inside of it.
-const ROWS: [&[Piece]; 146] = [
+/// The rows of terms, processes, the bodies of functions and declarations. A row that stands before
+/// one that only opens a level is the inside of it.
+const ROWS: [&[Piece]; 190] = [
     &[],
     &[Deeper(Next::Term, 37)],
     &[Items(Closing::Trees, Mark::Comma, 1)],
@@ -139,7 +141,7 @@ const ROWS: [&[Piece]; 146] = [
     &[Row(1), Part(Nothing), Part(Over(Head::Cons))],
     &[Part(Nothing)],
     &[Choice(Next::Term, 2, 54)],
-    &[Says(Mark::Bool), Nameless],
+    &[Says(Mark::Bool), Value(0)],
     &[Word(Role::Asks(Asked::AType))],
     &[Choice(Next::Mark(Mark::Bool), 56, 57)],
     &[Word(Role::BindsVariable), Says(Mark::Colon), Row(58)],
@@ -388,7 +390,167 @@ const ROWS: [&[Piece]; 146] = [
     &[Choice(Next::Mark(Mark::If), 134, 142)],
     &[Choice(Next::Mark(Mark::Let), 131, 143)],
     &[Choice(Next::Mark(Mark::New), 129, 144)],
+    &[Row(60), Part(Nothing)],
+    &[Items(Closing::Binders, Mark::Comma, 146)],
+    &[
+        Says(Mark::Open),
+        Choice(Next::Word, 147, 54),
+        Says(Mark::Close),
+    ],
+    &[Level(Next::Mark(Mark::Open), 148)],
+    &[Row(147), Says(Mark::Semicolon)],
+    &[Says(Mark::Forall), Row(150)],
+    &[
+        Says(Mark::EquationWord),
+        Note(Role::Enters(Region::InEquation)),
+        Choice(Next::Mark(Mark::Forall), 151, 54),
+        Row(37),
+        Part(Over(Head::Forall)),
+        Note(Role::Leaves),
+        Says(Mark::Dot),
+    ],
+    &[Row(58), Part(Nothing)],
+    &[
+        Says(Mark::Open),
+        Items(Closing::Names, Mark::Comma, 153),
+        Says(Mark::Close),
+    ],
+    &[Level(Next::Mark(Mark::Open), 154)],
+    &[Word(Role::Declares(Asked::AParam)), Part(Nothing)],
+    &[
+        Says(Mark::Param),
+        Items(Closing::Apart, Mark::Comma, 156),
+        Says(Mark::Dot),
+    ],
+    &[Word(Role::Declares(Asked::AChannel)), Part(Nothing)],
+    &[
+        Says(Mark::Channel),
+        Items(Closing::Apart, Mark::Comma, 158),
+        Says(Mark::Dot),
+    ],
+    &[
+        Says(Mark::Proba),
+        Word(Role::Declares(Asked::AProbability)),
+        Part(Nothing),
+        Says(Mark::Dot),
+    ],
+    &[Says(Mark::Fixed), Value(0)],
+    &[Says(Mark::Large), Value(1)],
+    &[Says(Mark::Bounded), Value(2)],
+    &[Choice(Next::Mark(Mark::Large), 162, 163)],
+    &[Choice(Next::Mark(Mark::Fixed), 161, 164)],
+    &[
+        Says(Mark::OpenSquare),
+        Items(Closing::Apart, Mark::Comma, 165),
+        Says(Mark::CloseSquare),
+    ],
+    &[Level(Next::Mark(Mark::OpenSquare), 166)],
+    &[
+        Says(Mark::TypeWord),
+        Word(Role::Declares(Asked::AType)),
+        Choice(Next::Mark(Mark::OpenSquare), 167, 0),
+        Part(Nothing),
+        Says(Mark::Dot),
+    ],
+    &[Word(Role::Declares(Asked::AFunction)), Part(Nothing)],
+    &[
+        Says(Mark::ConstWord),
+        Items(Closing::Apart, Mark::Comma, 169),
+        Says(Mark::Colon),
+        Row(58),
+        Says(Mark::Dot),
+    ],
+    &[Says(Mark::Data)],
+    &[Says(Mark::Compos)],
+    &[
+        Says(Mark::OpenSquare),
+        Choice(Next::Mark(Mark::Data), 171, 172),
+        Says(Mark::CloseSquare),
+    ],
+    &[Level(Next::Mark(Mark::OpenSquare), 173), Value(1)],
+    &[Value(0)],
+    &[
+        Says(Mark::Fun),
+        Word(Role::Declares(Asked::AFunction)),
+        Row(155),
+        Says(Mark::Colon),
+        Row(58),
+        Choice(Next::Mark(Mark::OpenSquare), 174, 175),
+        Says(Mark::Dot),
+    ],
+    &[
+        Says(Mark::EventWord),
+        Word(Role::Declares(Asked::AnEvent)),
+        Choice(Next::Mark(Mark::Open), 155, 54),
+        Says(Mark::Dot),
+    ],
+    &[
+        Says(Mark::Secret),
+        Word(Role::Unchecked),
+        Part(Nothing),
+        Part(Nothing),
+        Named(Naming::Secret),
+    ],
+    &[
+        Says(Mark::SecretOnce),
+        Word(Role::Unchecked),
+        Part(Nothing),
+        Part(Nothing),
+        Named(Naming::SecretOnce),
+    ],
+    &[
+        Says(Mark::EventWord),
+        Word(Role::Asks(Asked::AnEvent)),
+        Choice(Next::Mark(Mark::Open), 4, 54),
+        Part(Nothing),
+    ],
+    &[Says(Mark::Inj), Row(180), Named(Naming::OccursOnce)],
+    &[Row(180), Named(Naming::Occurs)],
+    &[Choice(Next::Mark(Mark::Inj), 181, 182)],
+    &[Choice(Next::Mark(Mark::EventWord), 182, 31)],
+    &[Choice(Next::Mark(Mark::Inj), 181, 184)],
+    &[
+        Choice(Next::Word, 150, 54),
+        Row(183),
+        Says(Mark::Implies),
+        Items(Closing::Trees, Mark::Both, 185),
+        Part(Over(Head::Cons)),
+        Part(Over(Head::Query)),
+    ],
+    &[Choice(Next::Mark(Mark::SecretOnce), 179, 186)],
+    &[Choice(Next::Mark(Mark::Secret), 178, 187)],
+    &[
+        Says(Mark::QueryWord),
+        Note(Role::Enters(Region::InQuery)),
+        Row(188),
+        Note(Role::Leaves),
+        Says(Mark::Dot),
+    ],
 ];
+
+/// The table.
+fn table() -> [&'static [Piece]; 190]
+    ensures { rows_of result ≡ term_rows }
+{
+    ROWS
+}
+
+/// What a row of the table reads, where some names wait already.
+pub fn enter_with_names(
+    row: u16,
+    signs: &[Sign],
+    at: usize,
+    trail: &mut Trail,
+    names: &mut Vec<u64>,
+    depth: u32,
+) -> Result<usize, ReadError>
+    requires at { at ≤ length signs.now }
+    requires few { length signs.now < 2 ^ 32 }
+    ensures { EntersWith row depth signs.now at trail.old names.old.items result trail.new
+        names.new.items }
+{
+    read_table(&table(), row as usize, signs, at, trail, names, depth)
+}
 
 /// What a row of the table reads.
 pub fn enter(
@@ -403,7 +565,7 @@ pub fn enter(
     ensures { Enters row depth signs.now at trail.old result trail.new }
 {
     let mut names = Vec::new(*trail.makes.allocator());
-    read_table(&ROWS, row as usize, signs, at, trail, &mut names, depth)
+    enter_with_names(row, signs, at, trail, &mut names, depth)
 }
 
 /// A term.
@@ -433,22 +595,6 @@ pub fn inner_term(
     enter(1, signs, at, trail, depth)
 }
 
-/// A term without `&&` and `||`.
-#[tactic(auto, using(crate::proofs::Entries::entries))]
-pub fn equality(
-    signs: &[Sign],
-    at: usize,
-    trail: &mut Trail,
-    depth: u32,
-) -> Result<usize, ReadError>
-    requires at { at ≤ length signs.now }
-    requires few { length signs.now < 2 ^ 32 }
-    ensures makes { Makes postorder signs.now trail.old trail.new result
-        (read_in depth equality_form (drop at signs.now)) }
-{
-    enter(31, signs, at, trail, depth)
-}
-
 /// A list of terms.
 #[tactic(auto, using(crate::proofs::Entries::entries))]
 pub fn terms(signs: &[Sign], at: usize, trail: &mut Trail, depth: u32) -> Result<usize, ReadError>
@@ -458,22 +604,6 @@ pub fn terms(signs: &[Sign], at: usize, trail: &mut Trail, depth: u32) -> Result
         (read_in depth terms_form (drop at signs.now)) }
 {
     enter(2, signs, at, trail, depth)
-}
-
-/// Arguments in parentheses.
-#[tactic(auto, using(crate::proofs::Entries::entries))]
-pub fn arguments(
-    signs: &[Sign],
-    at: usize,
-    trail: &mut Trail,
-    depth: u32,
-) -> Result<usize, ReadError>
-    requires at { at ≤ length signs.now }
-    requires few { length signs.now < 2 ^ 32 }
-    ensures makes { Makes postorder signs.now trail.old trail.new result
-        (read_in depth arguments_form (drop at signs.now)) }
-{
-    enter(4, signs, at, trail, depth)
 }
 
 /// Indices in square brackets, one level down.
@@ -517,4 +647,20 @@ pub fn inner_cell(
         (below depth OneCell (drop at signs.now)) }
 {
     enter(42, signs, at, trail, depth)
+}
+
+/// Variables of a function with their types, in parentheses.
+#[tactic(auto, using(crate::proofs::Entries::entries))]
+pub fn local_variables(
+    signs: &[Sign],
+    at: usize,
+    trail: &mut Trail,
+    depth: u32,
+) -> Result<usize, ReadError>
+    requires at { at ≤ length signs.now }
+    requires few { length signs.now < 2 ^ 32 }
+    ensures makes { Makes postorder signs.now trail.old trail.new result
+        (read_in depth (var_list BindsLocal) (drop at signs.now)) }
+{
+    enter(149, signs, at, trail, depth)
 }

@@ -36,6 +36,10 @@ pub enum Naming {
     Out,
     Event,
     Find,
+    Occurs,
+    OccursOnce,
+    Secret,
+    SecretOnce,
 }
 
 /// A head that takes two names.
@@ -56,6 +60,8 @@ pub enum Closing {
     Binders,
     /// Names that wait.
     Names,
+    /// Parts and names that stay apart.
+    Apart,
 }
 
 /// A piece of a row. Rows go by their numbers, and speak of rows with smaller numbers; only a phrase
@@ -72,8 +78,8 @@ pub enum Piece {
     Find,
     /// A number, in place of the name that waits last.
     Instead,
-    /// The name 0 waits, which is no token.
-    Nameless,
+    /// This number waits as a name, which is no token.
+    Value(u64),
     /// A note about names, which is no token.
     Note(Role),
     /// A part of a tree, which is no token.

@@ -1,4 +1,4 @@
-ghost use Rattle.std.specs.Prelude.{◌≡◌, ◌++◌, ◌+◌, ◌<◌, ◌≤◌, ◌^◌, ℕ, length, drop, OnOk, IfOk};
+ghost use Rattle.std.specs.Prelude.{◌≡◌, ◌++◌, ◌+◌, ◌<◌, ◌≤◌, ◌^◌, length, drop, OnOk, IfOk};
 ghost use Rattle.cv_parse_notation.specs.Spells.{used};
 ghost use Rattle.cv_parse_notation.specs.Reads.{read_word, read_script_word, read_number, read_nought, read_find, read_unnamed, read_other};
 ghost use Rattle.cv_parse_terms.specs.Gives.{Gives, uses_of, GivesPlain, IsRead, Passes, next_value, read_note, number_in as number_of};

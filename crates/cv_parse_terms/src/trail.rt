@@ -1,4 +1,4 @@
-ghost use Rattle.std.specs.Prelude.{◌≡◌, ◌+◌, ◌++◌, ◌∷◌, [], ℕ, length, OnOk, replicate};
+ghost use Rattle.std.specs.Prelude.{◌≡◌, ◌+◌, ◌++◌, ◌∷◌, [], OnOk, replicate};
 ghost use Rattle.cv_syntax_trees.specs.Tree.{lone};
 ghost use Rattle.cv_syntax.specs.Postorder.{postorder};
 ghost use Rattle.cv_syntax.specs.declared.make.Make.TheVariants.{Nothing, Over};

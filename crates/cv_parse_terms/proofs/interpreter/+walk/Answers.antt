@@ -1,4 +1,4 @@
-use Rattle.std.proofs.Common.{arith, sym, ◌+◌, ◌<◌}
+use Rattle.std.proofs.Common.{arith, sym}
 use Rattle.cv_parse_terms.specs.Tables.{rows_of}
 use Rattle.cv_parse_terms.proofs.Walks.{deeper_runs, list_goes, list_row_stops, no_row_stops, passed_on, row_runs}
 use Rattle.cv_parse_terms.proofs.interpreter.+walk.Goals as goal
