@@ -33,6 +33,9 @@ module _ (h : Head) (a b : Tree) (l : IsShort (Node h a b)) where
   deep_first : IsShort (first (second b))
   deep_first = omega (arith, l, nodes_node h a b, second_nodes b, first_nodes (second b))
 
+  deepest_first : IsShort (first (second (second b)))
+  deepest_first = omega (arith, l, nodes_node h a b, second_nodes b, second_nodes (second b), first_nodes (second (second b)))
+
   deep : IsShort (second (second b))
   deep = omega (arith, l, nodes_node h a b, second_nodes b, second_nodes (second b))
 
@@ -52,7 +55,7 @@ short_items (Node head.UnnewStep a b) l = bind (name_in a) _ (λ x. tt)
 short_items (Node head.MoveStep a b) l = bind (number_in a) _ (λ p. tt)
 short_items (Node head.ArrayRenameStep a b) l = bind (name_in a) _ (λ x. below head.ArrayRenameStep a b l)
 short_items (Node head.CodefStep a b) l =
-    bind (number_in a) _ (λ p. bind (adds_in (first b)) _ (λ add. part_bind (first (second b)) _ (deep_first head.CodefStep a b l) (λ y k. part_bind (second (second b)) _ (deep head.CodefStep a b l) (λ x j. (k, j)))))
+    bind (number_in a) _ (λ p. bind (adds_in (first b)) _ (λ add. part_bind (first (second b)) _ (deep_first head.CodefStep a b l) (λ y k. part_bind (first (second (second b))) _ (deepest_first head.CodefStep a b l) (λ x j. (k, j)))))
 short_items (Node head.BirthdayStep a b) l = bind (name_in a) _ (λ x. below head.BirthdayStep a b l)
 short_items (Node head.GuessStep a b) l = bind (name_in a) _ (λ x. below head.GuessStep a b l)
 short_items (Node head.FreshStep a b) l = bind (number_in a) _ (λ p. tt)

@@ -40,7 +40,7 @@ rule_of_items (items.Rewrite p m by) = Some (record { step = rewrite_step p m by
 rule_of_items (items.Prune p part by) = Some (record { step = prune_step p (part_of part) by; need = λ game. pruning.need_of game p (part_of part) })
 rule_of_items (items.Move p) = Some (record { step = move_step p; need = need_moving p })
 rule_of_items (items.Merge p) = Some (record { step = merge_step p; need = need_merging p })
-rule_of_items (items.Codef p adds to from) = Some (record { step = codef_step p adds to from; need = need_codef p adds to })
+rule_of_items (items.Codef p adds to from above) = Some (record { step = codef_step p adds above to from; need = need_codef p adds to })
 rule_of_items other = None
 
 -- that of the step that a tree is

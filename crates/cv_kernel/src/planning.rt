@@ -95,7 +95,8 @@ pub(crate) fn plan(
             add,
             to,
             from,
-        } => { codefined(alloc, work, game, arrays, place, add, to, from) }
+            above,
+        } => { codefined(alloc, work, game, arrays, place, add, to, from, above) }
         _ => Err(refused(0)),
     }
 }

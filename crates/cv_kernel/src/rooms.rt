@@ -81,6 +81,7 @@ pub(crate) fn codefined(
     adds: bool,
     to: NodeId,
     from: NodeId,
+    above: bool,
 ) -> Result<Edit, RuleError>
     requires prepared { IsPrepared work.now.pool.trees work.now.decls game arrays.now }
     requires small { size (tree_at work.now.pool.trees (Some game)) ≤ 50000 }
@@ -90,9 +91,9 @@ pub(crate) fn codefined(
     requires short { IsShort (tree_at work.now.pool.trees (Some to)) }
     ensures { IsPlan work.now.pool.trees (scene_of work.now.pool work.now.decls game)
         (rule_of_items (items.Codef number adds (tree_at work.now.pool.trees (Some to))
-        (tree_at work.now.pool.trees (Some from)))) result }
+        (tree_at work.now.pool.trees (Some from)) above)) result }
 {
     let place = place_in(number)?;
-    let planned = codefining::plan(alloc, work, game, arrays, place, adds, to, from)?;
+    let planned = codefining::plan(alloc, work, game, arrays, place, adds, above, to, from)?;
     at(place, planned)
 }

@@ -119,6 +119,14 @@ impl Sequence {
         &self.closed
     }
 
+    /// Forgets what was looked up in the game, whose pool may then grow. The next step looks it up again.
+    pub fn forget(&mut self)
+        ensures arrays { self.new.arrays ≡ None }
+        ensures same { Same self.old self.new }
+    {
+        self.arrays = None;
+    }
+
     /// Looks up what there is to read in the game.
     fn prepare(&mut self, alloc: Global, work: &Work) -> Result<(), AllocError>
         requires stands { Stands work.now.pool.trees work.now.decls self.old }

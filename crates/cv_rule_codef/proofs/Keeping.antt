@@ -35,29 +35,28 @@ use Rattle.cv_steps.proofs.Comes.{output_comes}
 use Rattle.cv_steps.proofs.Flat.{open_phrase, terms_still}
 use Rattle.cv_steps.proofs.Rows.{leads_same, unless_leads}
 use Rattle.cv_lists.proofs.Each.{AllByRecursion_always}
-use Rattle.cv_rule_codef.specs.Adjacent.{are_adjacent}
 use Rattle.cv_rule_codef.specs.Lists.{has_cell, lists, relisted, with_cell, with_list, without_cell}
-use Rattle.cv_rule_codef.specs.Row.{adjacent_by, are_codefined, codef_row, may_relist, stands_codef}
+use Rattle.cv_rule_codef.specs.Row.{are_codefined, are_related, codef_row, may_relist, related_by, stands_codef}
 use Rattle.cv_rule_codef.specs.Standing.{AssignsAfter}
 use Rattle.cv_rule_codef.proofs.Around.{IsAround, find_around}
 use Rattle.cv_rule_codef.proofs.Listed.{says_the_same}
 use Rattle.cv_rule_codef.proofs.Reworded.{find_reworded, game_reworded}
-use Rattle.cv_rule_codef.proofs.Together.{assigned_after}
+use Rattle.cv_rule_codef.proofs.Together.{assigned_related}
 
 -- a row that leads to a game: no condition of it fails
 
-pub record IsCodef (s : Scene) (place : ℕ) (adds : Bool) (to from next : Tree) : Type 0 where
+pub record IsCodef (s : Scene) (place : ℕ) (adds above : Bool) (to from next : Tree) : Type 0 where
   pub listed : lists from (part_at s.game place) ≡ true
-  pub adjacent : are_codefined s.game from to ≡ true
+  pub related : are_codefined above s.game from to ≡ true
   pub free : may_relist adds to (part_at s.game place) ≡ true
   pub leads : change_at s.game place (with_list (relisted adds to)) ≡ next
 
-pub codef_leads : (s : Scene) (place : ℕ) (adds : Bool) (to from next : Tree) (cost : Cost) → codef_row s place adds to from ≡ Leads next cost → IsCodef s place adds to from next
-codef_leads s place adds to from next cost e =
+pub codef_leads : (s : Scene) (place : ℕ) (adds above : Bool) (to from next : Tree) (cost : Cost) → codef_row s place adds above to from ≡ Leads next cost → IsCodef s place adds above to from next
+codef_leads s place adds above to from next cost e =
     let r = unless_leads (lists from (part_at s.game place)) 1 0 _ next cost e in
-    let q = unless_leads (are_codefined s.game from to) 2 0 _ next cost r.1 in
+    let q = unless_leads (are_codefined above s.game from to) 2 0 _ next cost r.1 in
     let o = unless_leads (may_relist adds to (part_at s.game place)) 3 0 _ next cost q.1 in
-    record { listed = r.0; adjacent = q.0; free = o.0; leads = leads_same _ next Zero cost o.1 }
+    record { listed = r.0; related = q.0; free = o.0; leads = leads_same _ next Zero cost o.1 }
 
 -- what the step speaks of
 
@@ -155,8 +154,12 @@ pub list_phrase : (adds : Bool) (c cells : Tree) → is_phrase OneCell c ≡ tru
 list_phrase true c cells e f = cells_with c cells e f
 list_phrase false c cells e f = cells_without c cells f
 
+related_apart : (above : Bool) (x y : ℕ) (game : Tree) → are_related above x y game ≡ true → (x == y) ≡ false
+related_apart true x y game e = not-true _ (and_parts (not (x == y)) _ e).0
+related_apart false x y game e = not-true _ (and_parts (not (x == y)) _ e).0
+
 -- the step at the branch
-module _ (s : Scene) (place : ℕ) (adds : Bool) (to from next : Tree) (k : IsCodef s place adds to from next) (cs : AreCells to from) (arm : IsArm (part_at s.game place)) (formed : is_phrase Inputs s.game ≡ true) where
+module _ (s : Scene) (place : ℕ) (adds above : Bool) (to from next : Tree) (k : IsCodef s place adds above to from next) (cs : AreCells to from) (arm : IsArm (part_at s.game place)) (formed : is_phrase Inputs s.game ≡ true) where
   abbrev old : Tree
   old = Node Branch arm.indices (Node Cons arm.cells (Node Cons arm.condition arm.body))
 
@@ -203,14 +206,14 @@ module _ (s : Scene) (place : ℕ) (adds : Bool) (to from next : Tree) (k : IsCo
   pub to_cell : IsCell to
   to_cell = cell_of_phrase to cs.to_cell
 
-  pub adjacent : are_adjacent from_cell.variable to_cell.variable s.game ≡ true
-  adjacent = (λ i. adjacent_by s.game (sym from_cell.named i) (sym to_cell.named i)) ∙ k.adjacent
+  pub related : are_related above from_cell.variable to_cell.variable s.game ≡ true
+  related = (λ i. related_by above s.game (sym from_cell.named i) (sym to_cell.named i)) ∙ k.related
 
   others : same_tree to from ≡ false
   others = false_from_ne_true (same_tree to from) (λ e.
       let i : Some to_cell.variable ≡ Some from_cell.variable = sym to_cell.named ∙ (ap variable_of (same_tree_exact to from e) ∙ from_cell.named) in
       let j : from_cell.variable ≡ to_cell.variable = cc in
-      both_ways (from_cell.variable == to_cell.variable) (not-true _ (and_parts (not (from_cell.variable == to_cell.variable)) _ adjacent).0) (eq-eqb from_cell.variable to_cell.variable j))
+      both_ways (from_cell.variable == to_cell.variable) (related_apart above from_cell.variable to_cell.variable s.game related) (eq-eqb from_cell.variable to_cell.variable j))
 
   abbrev Holds : Visit → Type 0
   Holds v = AssignsAfter from_cell.variable to_cell.variable v
@@ -237,10 +240,10 @@ module _ (s : Scene) (place : ℕ) (adds : Bool) (to from next : Tree) (k : IsCo
       subst (λ c. Same (chance_of g x a s.game) c)
       (reworded_chances g (λ t. Holds) x a s.game (replaced s.game around.place new_find) (λ t. reworded g)
       (All-from_recursion (λ t. AllByRecursion Holds (visits_of_run g (mode_of x) a s.game t)) (tapes_of (cells_of_game g (mode_of x) a s.game) blank)
-      (AllByRecursion_always (λ t. AllByRecursion Holds (visits_of_run g (mode_of x) a s.game t)) (λ t. assigned_after s.declarations g s.game refl ready.formed (mode_of x) a t from_cell.variable to_cell.variable adjacent) _))
+      (AllByRecursion_always (λ t. AllByRecursion Holds (visits_of_run g (mode_of x) a s.game t)) (λ t. assigned_related s.declarations g s.game refl ready.formed (mode_of x) a t above from_cell.variable to_cell.variable related) _))
       ∙ ap (chance_of g x a) next_find) refl
 
-pub codef_keeps : (s : Scene) (place : ℕ) (adds : Bool) (to from next : Tree) (cost : Cost) → IsReady s.declarations s.game → stands_codef s place to from ≡ true → codef_row s place adds to from ≡ Leads next cost → KeepsChances s.declarations s.game next
-codef_keeps s place adds to from next cost ready there e =
-    let k = codef_leads s place adds to from next cost e in
-    step_keeps s place adds to from next k (cells_there s place to from there) (arm_there s place from ready.formed.phrase k.listed) ready.formed.phrase ready
+pub codef_keeps : (s : Scene) (place : ℕ) (adds above : Bool) (to from next : Tree) (cost : Cost) → IsReady s.declarations s.game → stands_codef s place to from ≡ true → codef_row s place adds above to from ≡ Leads next cost → KeepsChances s.declarations s.game next
+codef_keeps s place adds above to from next cost ready there e =
+    let k = codef_leads s place adds above to from next cost e in
+    step_keeps s place adds above to from next k (cells_there s place to from there) (arm_there s place from ready.formed.phrase k.listed) ready.formed.phrase ready

@@ -1,12 +1,12 @@
 -- Trees as the code goes through them.
-use Rattle.std.proofs.Common.{◌≡◌, ℕ, ◌+◌, ◌≤◌, ◌||◌, Bool, true, false, cond, refl, ap, ◌∙◌, arith}
+use Rattle.std.proofs.Common.{◌≡◌, ℕ, ◌+◌, ◌≤◌, ◌&&◌, ◌||◌, Bool, true, false, cond, not, refl, ap, ◌∙◌, arith}
 use Rattle.cv_syntax_trees.specs.declared.head.Head.{Head}
 use Rattle.cv_syntax_trees.specs.declared.head.Head.TheVariants.{Branch, Call, Cons, In, Key, Let, New}
 use Rattle.cv_syntax_trees.specs.Head.{weight}
 use Rattle.cv_syntax_trees.specs.Tree.{Tree, Empty, Node, same_tree, size}
 use Rattle.cv_scope_rules.specs.Made.{made_by}
 use Rattle.cv_scope_rules.specs.Sites.{Variable}
-use Rattle.cv_rule_codef.specs.Adjacent.{are_joined, behind_item, defines_both, sites}
+use Rattle.cv_rule_codef.specs.Adjacent.{are_joined, behind_item, defines_both, following, is_defined_below, is_replication, sites, stands_above}
 use Rattle.cv_rule_codef.specs.Lists.{has_cell, with_cell, without_cell}
 use Rattle.cv_rule_codef.specs.Needs.{made_with, made_without}
 
@@ -60,6 +60,54 @@ module _ (x y : ℕ) (t : Tree) (h : Head) (a b : Tree) (e : t ≡ Node h a b) w
 
   pub joined_second : defines_both x y h a b ≡ false → are_joined x y a ≡ false → are_joined x y t ≡ are_joined x y b
   joined_second f g = joined_node ∙ (λ i. f i || (g i || are_joined x y b))
+
+-- definitions below others
+
+pub below_empty : (x : ℕ) (t : Tree) → t ≡ Empty → is_defined_below x t ≡ false
+unfolding is_defined_below
+below_empty x t e = ap (is_defined_below x) e
+
+module _ (x : ℕ) (t : Tree) (h : Head) (a b : Tree) (e : t ≡ Node h a b) where
+  below_node : is_defined_below x t ≡ (not (is_replication h) && (made_by h a (Variable x) || (is_defined_below x a || is_defined_below x b)))
+  unfolding is_defined_below
+  below_node = ap (is_defined_below x) e
+
+  pub below_none : is_replication h ≡ true → is_defined_below x t ≡ false
+  below_none f = below_node ∙ ap (λ v. not v && (made_by h a (Variable x) || (is_defined_below x a || is_defined_below x b))) f
+
+  module _ (f : is_replication h ≡ false) where
+    below_rest : is_defined_below x t ≡ (made_by h a (Variable x) || (is_defined_below x a || is_defined_below x b))
+    below_rest = below_node ∙ ap (λ v. not v && (made_by h a (Variable x) || (is_defined_below x a || is_defined_below x b))) f
+
+    pub below_here : made_by h a (Variable x) ≡ true → is_defined_below x t ≡ true
+    below_here g = below_rest ∙ ap (λ v. v || (is_defined_below x a || is_defined_below x b)) g
+
+    pub below_first : made_by h a (Variable x) ≡ false → is_defined_below x a ≡ true → is_defined_below x t ≡ true
+    below_first g k = below_rest ∙ (λ i. g i || (k i || is_defined_below x b))
+
+    pub below_second : made_by h a (Variable x) ≡ false → is_defined_below x a ≡ false → is_defined_below x t ≡ is_defined_below x b
+    below_second g k = below_rest ∙ (λ i. g i || (k i || is_defined_below x b))
+
+pub above_empty : (x y : ℕ) (t : Tree) → t ≡ Empty → stands_above x y t ≡ false
+unfolding stands_above
+above_empty x y t e = ap (stands_above x y) e
+
+module _ (x y : ℕ) (t : Tree) (h : Head) (a b : Tree) (e : t ≡ Node h a b) where
+  abbrev stands_here : Bool
+  stands_here = made_by h a (Variable y) && is_defined_below x (following h b)
+
+  above_node : stands_above x y t ≡ (stands_here || (stands_above x y a || stands_above x y b))
+  unfolding stands_above
+  above_node = ap (stands_above x y) e
+
+  pub above_here : stands_here ≡ true → stands_above x y t ≡ true
+  above_here f = above_node ∙ ap (λ v. v || (stands_above x y a || stands_above x y b)) f
+
+  pub above_first : stands_here ≡ false → stands_above x y a ≡ true → stands_above x y t ≡ true
+  above_first f g = above_node ∙ (λ i. f i || (g i || stands_above x y b))
+
+  pub above_second : stands_here ≡ false → stands_above x y a ≡ false → stands_above x y t ≡ stands_above x y b
+  above_second f g = above_node ∙ (λ i. f i || (g i || stands_above x y b))
 
 -- lists
 

@@ -27,7 +27,7 @@ met : (v : Bool) (condition : ℕ) (rest : Row) → v ≡ true → unless v cond
 met true condition rest e = refl
 met false condition rest e = absurd (both_ways false refl e)
 
-module _ (s : Scene) (p : ℕ) (adds : Bool) (to from : Tree) where
+module _ (s : Scene) (p : ℕ) (adds above : Bool) (to from : Tree) where
   abbrev next : Row
   next = Leads (change_at s.game p (with_list (relisted adds to))) Zero
 
@@ -35,21 +35,21 @@ module _ (s : Scene) (p : ℕ) (adds : Bool) (to from : Tree) where
   third = unless (may_relist adds to (part_at s.game p)) 3 0 next
 
   abbrev second : Row
-  second = unless (are_codefined s.game from to) 2 0 third
+  second = unless (are_codefined above s.game from to) 2 0 third
 
-  pub first_fails : lists from (part_at s.game p) ≡ false → failing (codef_row s p adds to from) ≡ Some (failed 1 0)
+  pub first_fails : lists from (part_at s.game p) ≡ false → failing (codef_row s p adds above to from) ≡ Some (failed 1 0)
   first_fails e = unmet (lists from (part_at s.game p)) 1 second e
 
   module _ (e : lists from (part_at s.game p) ≡ true) where
-    pub second_fails : are_codefined s.game from to ≡ false → failing (codef_row s p adds to from) ≡ Some (failed 2 0)
-    second_fails f = ap failing (met (lists from (part_at s.game p)) 1 second e) ∙ unmet (are_codefined s.game from to) 2 third f
+    pub second_fails : are_codefined above s.game from to ≡ false → failing (codef_row s p adds above to from) ≡ Some (failed 2 0)
+    second_fails f = ap failing (met (lists from (part_at s.game p)) 1 second e) ∙ unmet (are_codefined above s.game from to) 2 third f
 
-    module _ (f : are_codefined s.game from to ≡ true) where
-      pub third_fails : may_relist adds to (part_at s.game p) ≡ false → failing (codef_row s p adds to from) ≡ Some (failed 3 0)
-      third_fails h = ap failing (met (lists from (part_at s.game p)) 1 second e ∙ met (are_codefined s.game from to) 2 third f) ∙ unmet (may_relist adds to (part_at s.game p)) 3 next h
+    module _ (f : are_codefined above s.game from to ≡ true) where
+      pub third_fails : may_relist adds to (part_at s.game p) ≡ false → failing (codef_row s p adds above to from) ≡ Some (failed 3 0)
+      third_fails h = ap failing (met (lists from (part_at s.game p)) 1 second e ∙ met (are_codefined above s.game from to) 2 third f) ∙ unmet (may_relist adds to (part_at s.game p)) 3 next h
 
-      pub none_fails : may_relist adds to (part_at s.game p) ≡ true → failing (codef_row s p adds to from) ≡ None
-      none_fails h = ap failing (met (lists from (part_at s.game p)) 1 second e ∙ (met (are_codefined s.game from to) 2 third f ∙ met (may_relist adds to (part_at s.game p)) 3 next h))
+      pub none_fails : may_relist adds to (part_at s.game p) ≡ true → failing (codef_row s p adds above to from) ≡ None
+      none_fails h = ap failing (met (lists from (part_at s.game p)) 1 second e ∙ (met (are_codefined above s.game from to) 2 third f ∙ met (may_relist adds to (part_at s.game p)) 3 next h))
 
   -- a cell that is added isn't listed, and one that is dropped is
   pub relist_fails : (v : Bool) → v ≡ lists to (part_at s.game p) → v ≡ adds → may_relist adds to (part_at s.game p) ≡ false
@@ -68,8 +68,8 @@ module _ (s : Scene) (p : ℕ) (adds : Bool) (to from : Tree) where
       go false true i k = i
       go false false i k = absurd (k i)
 
-  row_leads : failing (codef_row s p adds to from) ≡ None → codef_row s p adds to from ≡ next
-  row_leads e = go (lists from (part_at s.game p)) (are_codefined s.game from to) (may_relist adds to (part_at s.game p)) e
+  row_leads : failing (codef_row s p adds above to from) ≡ None → codef_row s p adds above to from ≡ next
+  row_leads e = go (lists from (part_at s.game p)) (are_codefined above s.game from to) (may_relist adds to (part_at s.game p)) e
     where
       go : (u v w : Bool) → failing (unless u 1 0 (unless v 2 0 (unless w 3 0 next))) ≡ None → unless u 1 0 (unless v 2 0 (unless w 3 0 next)) ≡ next
       go true true true e = refl
@@ -77,16 +77,16 @@ module _ (s : Scene) (p : ℕ) (adds : Bool) (to from : Tree) where
       go true false w e = absurd (cc)
       go false v w e = absurd (cc)
 
-  pub leads_to : (new : Tree) → failing (codef_row s p adds to from) ≡ None → with_list (relisted adds to) (part_at s.game p) ≡ new → codef_row s p adds to from ≡ Leads (change_at s.game p (λ old. new)) Zero
+  pub leads_to : (new : Tree) → failing (codef_row s p adds above to from) ≡ None → with_list (relisted adds to) (part_at s.game p) ≡ new → codef_row s p adds above to from ≡ Leads (change_at s.game p (λ old. new)) Zero
   leads_to new e f = row_leads e ∙ ap (λ t. Leads (change_at s.game p (λ old. t)) Zero) f
 
   -- the step
 
-  pub not_standing : (v : Bool) → v ≡ stands_codef s p to from → v ≡ false → failure_of s (codef_step p adds to from) ≡ Some (failed 0 0)
-  not_standing v e f = ap (λ w. cond w (failing (codef_row s p adds to from)) (Some (failed 0 0))) (sym e ∙ f)
+  pub not_standing : (v : Bool) → v ≡ stands_codef s p to from → v ≡ false → failure_of s (codef_step p adds above to from) ≡ Some (failed 0 0)
+  not_standing v e f = ap (λ w. cond w (failing (codef_row s p adds above to from)) (Some (failed 0 0))) (sym e ∙ f)
 
-  pub standing : (v : Bool) → v ≡ stands_codef s p to from → v ≡ true → failure_of s (codef_step p adds to from) ≡ failing (codef_row s p adds to from)
-  standing v e f = ap (λ w. cond w (failing (codef_row s p adds to from)) (Some (failed 0 0))) (sym e ∙ f)
+  pub standing : (v : Bool) → v ≡ stands_codef s p to from → v ≡ true → failure_of s (codef_step p adds above to from) ≡ failing (codef_row s p adds above to from)
+  standing v e f = ap (λ w. cond w (failing (codef_row s p adds above to from)) (Some (failed 0 0))) (sym e ∙ f)
 
   pub there : (v : Bool) → v ≡ stands_codef s p to from → v ≡ true → p < size s.game
   there v e f = ltb-true p (size s.game) (and_parts (has_place s p) _ (sym e ∙ f)).0

@@ -44,25 +44,25 @@ module _ (P : Tree → Type 0) (kept : IsKept P) where
       let q = kept.children (Find l) b otherwise p in
       kept.node (Find l) b otherwise c otherwise (λ e. absurd (both_ways false refl e)) p (items_kept old new b c k z q.0) q.1
 
-module _ (s : Scene) (place : ℕ) (adds : Bool) (to from next : Tree) (k : IsCodef s place adds to from next) (cs : AreCells to from) (arm : IsArm (part_at s.game place)) (formed : is_phrase Inputs s.game ≡ true) where
+module _ (s : Scene) (place : ℕ) (adds above : Bool) (to from next : Tree) (k : IsCodef s place adds above to from next) (cs : AreCells to from) (arm : IsArm (part_at s.game place)) (formed : is_phrase Inputs s.game ≡ true) where
   changed_kept : (P : Tree → Type 0) → IsKept P
-      → P (Node (Find (around s place adds to from next k cs arm formed).label) (around s place adds to from next k cs arm formed).arms (around s place adds to from next k cs arm formed).otherwise)
-      → P (Node (Find (around s place adds to from next k cs arm formed).label) (around s place adds to from next k cs arm formed).changed (around s place adds to from next k cs arm formed).otherwise)
+      → P (Node (Find (around s place adds above to from next k cs arm formed).label) (around s place adds above to from next k cs arm formed).arms (around s place adds above to from next k cs arm formed).otherwise)
+      → P (Node (Find (around s place adds above to from next k cs arm formed).label) (around s place adds above to from next k cs arm formed).changed (around s place adds above to from next k cs arm formed).otherwise)
   changed_kept P kept =
-      let a = around s place adds to from next k cs arm formed in
-      find_kept P kept _ _ a.arms a.changed a.otherwise a.label (arm_kept P kept arm.indices arm.cells (relisted adds to arm.cells) arm.condition arm.body (list_cells s place adds to from next k cs arm formed)) a.one
+      let a = around s place adds above to from next k cs arm formed in
+      find_kept P kept _ _ a.arms a.changed a.otherwise a.label (arm_kept P kept arm.indices arm.cells (relisted adds to arm.cells) arm.condition arm.body (list_cells s place adds above to from next k cs arm formed)) a.one
 
   next_declared : HasDeclaredSorts s.declarations s.game → HasDeclaredSorts s.declarations next
   next_declared d =
-      let a = around s place adds to from next k cs arm formed in
-      subst (HasDeclaredSorts s.declarations) (next_find s place adds to from next k cs arm formed)
-      (declared_replaced s.declarations _ _ a.place (changed_kept (HasDeclaredSorts s.declarations) (sorts_kept s.declarations)) Process 0 s.game _ (placed_find s place adds to from next k cs arm formed) d)
+      let a = around s place adds above to from next k cs arm formed in
+      subst (HasDeclaredSorts s.declarations) (next_find s place adds above to from next k cs arm formed)
+      (declared_replaced s.declarations _ _ a.place (changed_kept (HasDeclaredSorts s.declarations) (sorts_kept s.declarations)) Process 0 s.game _ (placed_find s place adds above to from next k cs arm formed) d)
 
   next_valued : (g : _) (m : Mode) → HasValuesIn g m s.game → HasValuesIn g m next
   next_valued g m d =
-      let a = around s place adds to from next k cs arm formed in
-      subst (HasValuesIn g m) (next_find s place adds to from next k cs arm formed)
-      (values_replaced g m _ _ a.place (changed_kept (HasValuesIn g m) (values_kept g m)) Process 0 s.game _ (placed_find s place adds to from next k cs arm formed) d)
+      let a = around s place adds above to from next k cs arm formed in
+      subst (HasValuesIn g m) (next_find s place adds above to from next k cs arm formed)
+      (values_replaced g m _ _ a.place (changed_kept (HasValuesIn g m) (values_kept g m)) Process 0 s.game _ (placed_find s place adds above to from next k cs arm formed) d)
 
 -- no index is bound in a cell
 
@@ -96,20 +96,20 @@ module _ (i : ℕ) where
       lacking_node i Branch us (Node h (relisted adds c cells) rest) q.0 q.1 (lacking_node i h (relisted adds c cells) rest r.0 (lacking_relisted adds c cells e r.1) r.2)
   lacking_list adds c t e f = f
 
-pub codef_sound : (p : ℕ) (adds : Bool) (to from : Tree) → IsSound (codef_step p adds to from)
-codef_sound p adds to from = record {
-  keeps = λ s next cost ready holds unreached knows e. let a = accepted s (codef_step p adds to from) next cost e in codef_keeps s p adds to from next cost ready a.stands a.row;
+pub codef_sound : (p : ℕ) (adds above : Bool) (to from : Tree) → IsSound (codef_step p adds above to from)
+codef_sound p adds above to from = record {
+  keeps = λ s next cost ready holds unreached knows e. let a = accepted s (codef_step p adds above to from) next cost e in codef_keeps s p adds above to from next cost ready a.stands a.row;
   declared = λ s next cost w d e.
-      let a = accepted s (codef_step p adds to from) next cost e in
-      let k = codef_leads s p adds to from next cost a.row in
-      next_declared s p adds to from next k (cells_there s p to from a.stands) (arm_there s p from w k.listed) w d;
+      let a = accepted s (codef_step p adds above to from) next cost e in
+      let k = codef_leads s p adds above to from next cost a.row in
+      next_declared s p adds above to from next k (cells_there s p to from a.stands) (arm_there s p from w k.listed) w d;
   valued = λ s next cost w i sat m fresh d e.
-      let a = accepted s (codef_step p adds to from) next cost e in
-      let k = codef_leads s p adds to from next cost a.row in
-      next_valued s p adds to from next k (cells_there s p to from a.stands) (arm_there s p from w k.listed) w (setting_of s.declarations i) m d;
+      let a = accepted s (codef_step p adds above to from) next cost e in
+      let k = codef_leads s p adds above to from next cost a.row in
+      next_valued s p adds above to from next k (cells_there s p to from a.stands) (arm_there s p from w k.listed) w (setting_of s.declarations i) m d;
   bound = λ s next cost e i h.
-      let a = accepted s (codef_step p adds to from) next cost e in
-      let k = codef_leads s p adds to from next cost a.row in
+      let a = accepted s (codef_step p adds above to from) next cost e in
+      let k = codef_leads s p adds above to from next cost a.row in
       let c = cells_there s p to from a.stands in
       bound_before i s.game next (λ l. subst (Lacks i) k.leads (lacking_changed i s p (with_list (relisted adds to)) l (lacking_list i adds to (part_at s.game p) (lacking_term i to (cell_term to c.to_cell))))) h;
 }

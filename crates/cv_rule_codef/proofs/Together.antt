@@ -17,10 +17,11 @@ use Rattle.cv_scope_runs.proofs.Games.{Game}
 use Rattle.cv_scope_runs.proofs.Plain.{game_context}
 use Rattle.cv_scope_runs.proofs.ServeRuns.{VisitHolds, game_holds}
 use Rattle.cv_lists.proofs.Each.{AllByRecursion_both, AllByRecursion_weaker}
-use Rattle.cv_rule_codef.specs.Adjacent.{are_adjacent, are_joined, sites}
+use Rattle.cv_rule_codef.specs.Adjacent.{are_adjacent, are_joined, is_above, sites, stands_above}
+use Rattle.cv_rule_codef.specs.Row.{are_related}
 use Rattle.cv_rule_codef.specs.Standing.{AreAssignedTogether, AssignsAfter, AssignsAfterAt}
 use Rattle.cv_rule_codef.proofs.Following.{IsFollowed, followed_at_finds}
-use Rattle.cv_rule_codef.proofs.Known.{known_there}
+use Rattle.cv_rule_codef.proofs.Known.{above_there, known_there}
 use Rattle.cv_rule_codef.proofs.Sites.{joined_either}
 
 module _ (ds : List Declaration) (g : Setting) (game : Tree) (constants : HasConstantsOf ds g) (w : IsWellFormed ds game) (m : Mode) (a : Adversary) (t : Tape) where
@@ -62,6 +63,24 @@ module _ (ds : List Declaration) (g : Setting) (game : Tree) (constants : HasCon
       let q = and_parts (sites x game == 1) _ p.1 in
       let r = and_parts (sites y game == 1) _ q.1 in
       after x y (eqb-true (sites x game) 1 q.0) r.1
+
+  above_at_find : (x y : ℕ) → sites x game ≡ 1 → stands_above x y game ≡ true → (v : Visit) → VisitHolds g (is_variable game) game fine v → AssignsAfter x y v
+  above_at_find x y n e v h = go v.tree
+    where
+      go : (b : Tree) → AssignsAfterAt x y b v.before
+      go (Node (Find l) c d) = above_there g (is_variable game) game fine y x w.phrase n e v.before.memory.store v.before.memory.events h.stores
+      go b = tt
+
+  pub assigned_above : (x y : ℕ) → is_above x y game ≡ true → AllByRecursion (AssignsAfter x y) visited
+  assigned_above x y e =
+      let p = and_parts (not (x == y)) _ e in
+      let q = and_parts (sites x game == 1) _ p.1 in
+      let r = and_parts (sites y game == 1) _ q.1 in
+      AllByRecursion_weaker (VisitHolds g (is_variable game) game fine) (AssignsAfter x y) (above_at_find x y (eqb-true (sites x game) 1 q.0) r.1) visited holds
+
+  pub assigned_related : (above : Bool) (x y : ℕ) → are_related above x y game ≡ true → AllByRecursion (AssignsAfter x y) visited
+  assigned_related true x y e = assigned_above x y e
+  assigned_related false x y e = assigned_after x y e
 
   other_way : (v w : Bool) → (v || w) ≡ true → (w || v) ≡ true
   other_way true true e = refl

@@ -19,6 +19,6 @@ pub record IsBranch (trees : List KindTree) (t : Tree) (m : Site) : Type 0 where
   pub rest : ChildBelow (length trees) m.link.second
 
 -- The branch stands at the place, and no condition of the row fails.
-pub record IsSite (trees : List KindTree) (s : Scene) (place : ℕ) (adds : Bool) (to from : Tree) (m : Site) : Type 0 where
+pub record IsSite (trees : List KindTree) (s : Scene) (place : ℕ) (adds above : Bool) (to from : Tree) (m : Site) : Type 0 where
   pub branch : IsBranch trees (part_at s.game place) m
-  pub met : failing (codef_row s place adds to from) ≡ None
+  pub met : failing (codef_row s place adds above to from) ≡ None

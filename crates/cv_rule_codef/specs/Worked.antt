@@ -39,10 +39,14 @@ abbrev pub game_of : Tree → Scene
 game_of process = scene_of (Named 2 class.Param Empty None ∷ []) (copies process)
 
 abbrev pub add : (place to from : ℕ) → Step
-add p y x = codef_step p true (other y) (other x)
+add p y x = codef_step p true false (other y) (other x)
 
 abbrev pub drop : (place to from : ℕ) → Step
-drop p y x = codef_step p false (other y) (other x)
+drop p y x = codef_step p false false (other y) (other x)
+
+-- from a variable below
+abbrev pub add_above : (place to from : ℕ) → Step
+add_above p y x = codef_step p true true (other y) (other x)
 
 -- The input stands at 1; without a definition behind it the `find` stands at 2, and its branch at 3.
 abbrev pub codefs : List (Scene × Step × Judgement)
@@ -52,10 +56,17 @@ codefs =
     ∷ (game_of (finds (other 13 ∷ other 12 ∷ [])), drop 3 13 12, Accepted (copies (finds (other 12 ∷ []))) Zero)
     ∷ (game_of (assigned 14 (finds (other 12 ∷ []))), add 6 14 12, Accepted (copies (assigned 14 (finds (other 12 ∷ other 14 ∷ [])))) Zero)
     ∷ (game_of (new 4 (new 14 (finds (other 14 ∷ [])))), add 5 4 14, Accepted (copies (new 4 (new 14 (finds (other 14 ∷ other 4 ∷ []))))) Zero)
+    -- a `let` between, and a test
+    ∷ (game_of (assigned 4 (assigned 14 (finds (other 14 ∷ [])))), add_above 9 12 14, Accepted (copies (assigned 4 (assigned 14 (finds (other 14 ∷ other 12 ∷ []))))) Zero)
+    ∷ (
+      game_of (new 4 (if_tree (lone Yes) (new 14 (finds (other 14 ∷ []))) (lone Yield))),
+      add_above 7 4 14,
+      Accepted (copies (new 4 (if_tree (lone Yes) (new 14 (finds (other 14 ∷ other 4 ∷ []))) (lone Yield)))) Zero,
+    )
     -- no place; a name that is nowhere; other indices
     ∷ (game_of (finds (other 12 ∷ [])), add 10 13 12, Refused 0 0)
     ∷ (game_of (finds (other 12 ∷ [])), add 3 40 12, Refused 0 0)
-    ∷ (game_of (finds (other 12 ∷ [])), codef_step 3 true (copy_of 13) (other 12), Refused 0 0)
+    ∷ (game_of (finds (other 12 ∷ [])), codef_step 3 true false (copy_of 13) (other 12), Refused 0 0)
     -- the `find`; a cell that isn't in the list
     ∷ (game_of (finds (other 12 ∷ [])), add 2 13 12, Refused 1 0)
     ∷ (game_of (finds (other 12 ∷ [])), add 3 12 13, Refused 1 0)
@@ -67,6 +78,8 @@ codefs =
       add 7 14 4,
       Refused 2 0,
     )
+    -- the variable below
+    ∷ (game_of (assigned 4 (assigned 14 (finds (other 12 ∷ [])))), add_above 9 14 12, Refused 2 0)
     -- a cell that is there; one that isn't
     ∷ (game_of (finds (other 13 ∷ other 12 ∷ [])), add 3 13 12, Refused 3 0)
     ∷ (game_of (finds (other 12 ∷ [])), drop 3 13 12, Refused 3 0)

@@ -1,4 +1,4 @@
-ghost use Rattle.std.specs.Prelude.{◌≡◌, ◌<◌, ◌^◌, Some, if◌then◌else◌, length};
+ghost use Rattle.std.specs.Prelude.{◌≡◌, ◌<◌, ◌^◌, ◌&&◌, Some, if◌then◌else◌, length};
 ghost use Rattle.cv_pool.specs.Nodes.{ChildBelow};
 ghost use Rattle.cv_syntax_trees.specs.Tree.{size};
 ghost use Rattle.cv_syntax.specs.PoolTrees.{tree_at};
@@ -141,6 +141,101 @@ fn are_adjacent(pool: &Pool, game: NodeId, x: u32, y: u32) -> bool
     are_joined(pool, y, x, Some(game))
 }
 
+/// Whether a construct is a replication.
+fn is_replication(head: Head) -> bool
+    ensures { result ≡ adjacent.is_replication head }
+{
+    match head {
+        Head::Repl(_, _) => true,
+        _ => false,
+    }
+}
+
+/// Whether a construct of a tree defines a variable, below no replication of the tree.
+fn is_defined_below(pool: &Pool, x: u32, tree: Option<NodeId>) -> bool
+    requires { ChildBelow (length pool.now.trees) tree }
+    ensures { result ≡ adjacent.is_defined_below x (tree_at pool.now.trees tree) }
+{
+    let mut at = tree;
+    'tree: while let Some(k) = at {
+        let node = read_node(pool, k);
+        if is_replication(node.head) {
+            return false;
+        }
+        if is_definition(pool, node, x) {
+            return true;
+        }
+        if is_defined_below(pool, x, node.first) {
+            return true;
+        }
+        at = node.second;
+    }
+    false
+}
+
+/// Whether a construct defines the second variable, and the first one is defined behind it.
+fn is_defined_behind(pool: &Pool, x: u32, y: u32, node: Opened) -> bool
+    requires first { ChildBelow (length pool.now.trees) node.first }
+    requires second { ChildBelow (length pool.now.trees) node.second }
+    ensures { result ≡ (made_by node.head (tree_at pool.now.trees node.first) (Variable y)
+        && adjacent.is_defined_below x (adjacent.following node.head
+        (tree_at pool.now.trees node.second))) }
+{
+    if !is_definition(pool, node, y) {
+        return false;
+    }
+    is_defined_below(pool, x, following(pool, node))
+}
+
+/// Whether the second variable's definition stands above one of the first.
+fn stands_above(pool: &Pool, x: u32, y: u32, tree: Option<NodeId>) -> bool
+    requires { ChildBelow (length pool.now.trees) tree }
+    ensures { result ≡ adjacent.stands_above x y (tree_at pool.now.trees tree) }
+{
+    let mut at = tree;
+    'tree: while let Some(k) = at {
+        let node = read_node(pool, k);
+        if is_defined_behind(pool, x, y, node) {
+            return true;
+        }
+        if stands_above(pool, x, y, node.first) {
+            return true;
+        }
+        at = node.second;
+    }
+    false
+}
+
+/// Whether the second of two variables of a game is defined above the first.
+fn is_above(pool: &Pool, game: NodeId, x: u32, y: u32) -> bool
+    requires live { game.0 < length pool.now.trees }
+    requires fits { size (tree_at pool.now.trees (Some game)) < 2 ^ 32 }
+    ensures { result ≡ adjacent.is_above x y (tree_at pool.now.trees (Some game)) }
+{
+    if x == y {
+        return false;
+    }
+    if sites(pool, x, Some(game)) != 1 {
+        return false;
+    }
+    if sites(pool, y, Some(game)) != 1 {
+        return false;
+    }
+    stands_above(pool, x, y, Some(game))
+}
+
+/// Whether two variables of a game are adjacent, or the second one is defined above the first.
+fn are_related(pool: &Pool, game: NodeId, above: bool, x: u32, y: u32) -> bool
+    requires live { game.0 < length pool.now.trees }
+    requires fits { size (tree_at pool.now.trees (Some game)) < 2 ^ 32 }
+    ensures { result ≡ row.are_related above x y (tree_at pool.now.trees (Some game)) }
+{
+    if above {
+        return is_above(pool, game, x, y);
+    }
+    are_adjacent(pool, game, x, y)
+}
+
 /// The variable of a cell.
 fn variable_of(pool: &Pool, cell: NodeId) -> Option<u32>
     requires { cell.0 < length pool.now.trees }
@@ -153,13 +248,19 @@ fn variable_of(pool: &Pool, cell: NodeId) -> Option<u32>
     }
 }
 
-/// Whether the variables of two cells are adjacent in a game.
-pub(crate) fn are_codefined(pool: &Pool, game: NodeId, from: NodeId, to: NodeId) -> bool
+/// Whether the variables of two cells are adjacent in a game, or the second one is defined above the first.
+pub(crate) fn are_codefined(
+    pool: &Pool,
+    game: NodeId,
+    above: bool,
+    from: NodeId,
+    to: NodeId,
+) -> bool
     requires live { game.0 < length pool.now.trees }
     requires fits { size (tree_at pool.now.trees (Some game)) < 2 ^ 32 }
     requires from { from.0 < length pool.now.trees }
     requires to { to.0 < length pool.now.trees }
-    ensures { result ≡ row.are_codefined (tree_at pool.now.trees (Some game))
+    ensures { result ≡ row.are_codefined above (tree_at pool.now.trees (Some game))
         (tree_at pool.now.trees (Some from)) (tree_at pool.now.trees (Some to)) }
 {
     let Some(x) = variable_of(pool, from) else {
@@ -168,5 +269,5 @@ pub(crate) fn are_codefined(pool: &Pool, game: NodeId, from: NodeId, to: NodeId)
     let Some(y) = variable_of(pool, to) else {
         return false;
     };
-    are_adjacent(pool, game, x, y)
+    are_related(pool, game, above, x, y)
 }

@@ -7,5 +7,8 @@ mod laws;
 mod lists;
 mod planning;
 
-pub use laws::{adjacent_variables_are_assigned_together, codef_is_sound, worked_codefs};
+pub use laws::{
+    adjacent_variables_are_assigned_together, codef_is_sound, variables_above_are_assigned_before,
+    worked_codefs,
+};
 pub use planning::plan;

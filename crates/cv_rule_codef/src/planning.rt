@@ -75,6 +75,7 @@ fn site_at(
     game: NodeId,
     place: u32,
     adds: bool,
+    above: bool,
     to: NodeId,
     from: NodeId,
 ) -> Result<Site, Failure>
@@ -83,10 +84,10 @@ fn site_at(
     requires to { to.0 < length work.now.pool.trees }
     requires from { from.0 < length work.now.pool.trees }
     ensures site { IfOk result (IsSite work.now.pool.trees
-        (scene_of work.now.pool work.now.decls game) place adds
+        (scene_of work.now.pool work.now.decls game) place adds above
         (tree_at work.now.pool.trees (Some to)) (tree_at work.now.pool.trees (Some from))) }
     ensures refused { IfErr result (λ f. failing (codef_row
-        (scene_of work.now.pool work.now.decls game) place adds
+        (scene_of work.now.pool work.now.decls game) place adds above
         (tree_at work.now.pool.trees (Some to)) (tree_at work.now.pool.trees (Some from)))
         ≡ Some f) }
 {
@@ -95,7 +96,7 @@ fn site_at(
     let Some(site) = site_of(pool, from, branch) else {
         return Err(refusal(1));
     };
-    if !are_codefined(pool, game, from, to) {
+    if !are_codefined(pool, game, above, from, to) {
         return Err(refusal(2));
     }
     if lists(pool, to, branch) == adds {
@@ -113,6 +114,7 @@ pub fn plan(
     arrays: &Arrays,
     place: u32,
     adds: bool,
+    above: bool,
     to: NodeId,
     from: NodeId,
 ) -> Result<Result<Change, Failure>, AllocError>
@@ -126,7 +128,7 @@ pub fn plan(
     requires short { tree.size (tree_at work.now.pool.trees (Some to)) < 2 ^ 31 }
     ensures { IfOk result (IsPlanned work.now.pool.trees
         (scene_of work.now.pool work.now.decls game)
-        (codef_step place adds (tree_at work.now.pool.trees (Some to))
+        (codef_step place adds above (tree_at work.now.pool.trees (Some to))
         (tree_at work.now.pool.trees (Some from))) place
         (made_of_codef adds (tree_at work.now.pool.trees (Some to))
         (part_at (tree_at work.now.pool.trees (Some game)) place))) }
@@ -134,7 +136,7 @@ pub fn plan(
     if !stands(alloc, work, game, arrays, place, to, from)? {
         return Ok(Err(refusal(0)));
     }
-    match site_at(work, game, place, adds, to, from) {
+    match site_at(work, game, place, adds, above, to, from) {
         Ok(site) => {
             let pool = &work.pool;
             let parts = relisted_parts(alloc, pool, adds, to, site.branch, site.link)?;

@@ -1,8 +1,9 @@
 -- A step by its items.
-use Rattle.std.specs.Prelude.{ℕ, ◌<◌, Bool, true, false, List, Option, Some, None}
+use Rattle.std.specs.Prelude.{ℕ, ◌<◌, Bool, true, false, not, List, Option, Some, None}
 use Rattle.cv_pool.specs.KindTree.{KindTree}
 use Rattle.cv_pool.specs.Nodes.{ChildBelow}
 use Rattle.cv_syntax_trees.specs.declared.head.Head.TheVariants as head
+use Rattle.cv_syntax_trees.specs.Children.{is_empty}
 use Rattle.cv_syntax_trees.specs.Tree.{Tree, Empty, Node, first, second}
 use Rattle.cv_syntax.specs.PoolTrees.{tree_at}
 use Rattle.cv_script.specs.declared.views.Part.{Part}
@@ -24,7 +25,7 @@ pub data StepItems : Type 0 where
   Unnew : (x : ℕ) → StepItems
   Move : (place : ℕ) → StepItems
   ArrayRename : (x : ℕ) → (to : Tree) → StepItems
-  Codef : (place : ℕ) → (add : Bool) → (to from : Tree) → StepItems
+  Codef : (place : ℕ) → (add : Bool) → (to from : Tree) → (above : Bool) → StepItems
   Birthday : (x : ℕ) → (at : Tree) → StepItems
   Guess : (x : ℕ) → (at : Tree) → StepItems
   Fresh : (place : ℕ) → StepItems
@@ -76,7 +77,7 @@ items_of_step (Node head.NewStep a b) = number_in a >>= λ p. name_in (first b) 
 items_of_step (Node head.UnnewStep a b) = name_in a >>= λ x. Some (Unnew x)
 items_of_step (Node head.MoveStep a b) = number_in a >>= λ p. Some (Move p)
 items_of_step (Node head.ArrayRenameStep a b) = name_in a >>= λ x. Some (ArrayRename x b)
-items_of_step (Node head.CodefStep a b) = number_in a >>= λ p. adds_in (first b) >>= λ add. tree_in (first (second b)) >>= λ y. tree_in (second (second b)) >>= λ x. Some (Codef p add y x)
+items_of_step (Node head.CodefStep a b) = number_in a >>= λ p. adds_in (first b) >>= λ add. tree_in (first (second b)) >>= λ y. tree_in (first (second (second b))) >>= λ x. Some (Codef p add y x (not (is_empty (second (second (second b))))))
 items_of_step (Node head.BirthdayStep a b) = name_in a >>= λ x. Some (Birthday x b)
 items_of_step (Node head.GuessStep a b) = name_in a >>= λ x. Some (Guess x b)
 items_of_step (Node head.FreshStep a b) = number_in a >>= λ p. Some (Fresh p)
@@ -99,7 +100,7 @@ items_of_view trees (view.New p x T) = New p x.0 T.0
 items_of_view trees (view.Unnew x) = Unnew x.0
 items_of_view trees (view.Move p) = Move p
 items_of_view trees (view.ArrayRename x xs) = ArrayRename x.0 (tree_at trees xs)
-items_of_view trees (view.Codef p add y x) = Codef p add (tree_at trees (Some y)) (tree_at trees (Some x))
+items_of_view trees (view.Codef p add y x above) = Codef p add (tree_at trees (Some y)) (tree_at trees (Some x)) above
 items_of_view trees (view.Birthday x ps) = Birthday x.0 (tree_at trees ps)
 items_of_view trees (view.Guess x ps) = Guess x.0 (tree_at trees ps)
 items_of_view trees (view.Fresh p) = Fresh p
@@ -115,7 +116,7 @@ AreLive n (view.Pick p ms d e) = ChildBelow n ms × ChildBelow n d × ChildBelow
 AreLive n (view.Split p m) = m.0 < n
 AreLive n (view.Let p x T m) = m.0 < n
 AreLive n (view.ArrayRename x xs) = ChildBelow n xs
-AreLive n (view.Codef p add y x) = (y.0 < n) × (x.0 < n)
+AreLive n (view.Codef p add y x above) = (y.0 < n) × (x.0 < n)
 AreLive n (view.Birthday x ps) = ChildBelow n ps
 AreLive n (view.Guess x ps) = ChildBelow n ps
 AreLive n (view.Success k by) = ChildBelow n by

@@ -74,12 +74,14 @@ pub enum StepView {
         x: NameId,
         to: Option<NodeId>,
     },
-    /// To add cell `to` where cell `from` is asked for, or to drop it.
+    /// To add cell `to` where cell `from` is asked for, or to drop it. The variable of `to` is adjacent to that of `from`, or
+    /// stands above it.
     Codef {
         place: u64,
         add: bool,
         to: NodeId,
         from: NodeId,
+        above: bool,
     },
     Birthday {
         x: NameId,
@@ -356,11 +358,13 @@ fn codef(pool: &Pool, first: Option<NodeId>, second: Option<NodeId>) -> Option<S
     ensures live { IfSome result (AreLive (length pool.now.trees)) }
 {
     let rest = second_of(pool, second);
+    let last = second_of(pool, rest);
     Some(StepView::Codef {
         place: number(pool, first)?,
         add: adds(pool, first_of(pool, second))?,
         to: node_of(pool, first_of(pool, rest))?,
-        from: node_of(pool, second_of(pool, rest))?,
+        from: node_of(pool, first_of(pool, last))?,
+        above: !is_empty(pool, second_of(pool, last)),
     })
 }
 

@@ -66,12 +66,14 @@ pub enum Proposal {
         x: NameId,
         to: Vec<NameId>,
     },
-    /// To add cell `to` where cell `from` is asked for, or to drop it.
+    /// To add cell `to` where cell `from` is asked for, or to drop it. The variable of `to` is adjacent to that of `from`, or
+    /// stands above it.
     Codef {
         place: u64,
         add: bool,
         to: NodeId,
         from: NodeId,
+        above: bool,
     },
     Birthday {
         x: NameId,

@@ -13,13 +13,13 @@ use Rattle.cv_parse_tables.specs.Table.{Table}
 -- the rows of a step, of a script, and of a script whose steps have a rule
 
 abbrev pub step_row : ℕ
-step_row = 148
+step_row = 151
 
 abbrev pub script_row : ℕ
-script_row = 151
+script_row = 154
 
 abbrev pub built_script_row : ℕ
-built_script_row = 154
+built_script_row = 157
 
 -- how many of the steps, from the first one on, have a rule
 abbrev pub steps_with_a_rule : ℕ
@@ -110,76 +110,79 @@ script_rows =
     (Number ∷ []) ∷  -- 80 branch part
     (Over head.AddPart 76 ∷ []) ∷  -- 81 add part
     (Over head.DropPart 77 ∷ []) ∷  -- 82 drop part
-    (Says word.Above ∷ Blank ∷ Number ∷ Blank ∷ Level 18 ∷ []) ∷  -- 83 above
-    (Says word.Cell ∷ Blank ∷ Phrase outer.Cell ∷ Blank ∷ Number ∷ Blank ∷ Level 18 ∷ []) ∷  -- 84 cell
-    (Over head.AboveRoute 83 ∷ []) ∷  -- 85 a above
-    (Over head.CellRoute 84 ∷ []) ∷  -- 86 a cell
-    (Says word.Holds ∷ Blank ∷ Level 18 ∷ []) ∷  -- 87 holds
-    (Sign mark.EventWord ∷ Blank ∷ OneOf 85 2 ∷ []) ∷  -- 88 event route
-    (Over head.HoldsRoute 87 ∷ []) ∷  -- 89 holds route
-    (Blank ∷ OneOf 88 2 ∷ []) ∷  -- 90 route item
-    (Many false 90 ∷ []) ∷  -- 91 routes
-    (Says word.Never ∷ Blank ∷ Level 18 ∷ []) ∷  -- 92 never
-    (Says word.With ∷ Blank ∷ Level 14 ∷ Chain 91 ∷ []) ∷  -- 93 with
-    (Over head.NeverEntry 92 ∷ []) ∷  -- 94 a never
-    (Over head.WithEntry 93 ∷ []) ∷  -- 95 a with
-    (Says word.At ∷ Blank ∷ Number ∷ Blank ∷ OneOf 94 2 ∷ []) ∷  -- 96 at
-    (Blank ∷ Over head.AtEntry 96 ∷ []) ∷  -- 97 entry item
-    (Says word.Distinct ∷ Blank ∷ Chain 4 ∷ []) ∷  -- 98 distinct
-    (Blank ∷ Over head.DistinctPart 98 ∷ []) ∷  -- 99 distinct item
-    (Says word.Pair ∷ Blank ∷ Number ∷ Blank ∷ Number ∷ Blank ∷ Number ∷ Blank ∷ Level 18 ∷ []) ∷  -- 100 pair
-    (Blank ∷ Over head.Pair 100 ∷ []) ∷  -- 101 pair item
-    (Says word.Pair ∷ Blank ∷ Number ∷ Blank ∷ Number ∷ Blank ∷ Level 18 ∷ []) ∷  -- 102 secret pair
-    (Blank ∷ Over head.SecretPair 102 ∷ []) ∷  -- 103 secret pair item
-    (Many false 97 ∷ May false 99 ∷ Many false 101 ∷ []) ∷  -- 104 events parts
-    (Many false 103 ∷ []) ∷  -- 105 secret parts
-    (Says word.Events ∷ Chain 104 ∷ []) ∷  -- 106 events
-    (Sign mark.Secret ∷ Chain 105 ∷ []) ∷  -- 107 secret
-    (Over head.EventsCertificate 106 ∷ []) ∷  -- 108 a events
-    (Over head.SecretCertificate 107 ∷ []) ∷  -- 109 a secret
-    (Says word.Rename ∷ Blank ∷ Word role.Nothing ∷ Blank ∷ Says word.To ∷ Blank ∷ Word role.Nothing ∷ []) ∷  -- 110 rename
-    (Says word.Rewrite ∷ Blank ∷ Number ∷ Blank ∷ Says word.To ∷ Blank ∷ Phrase outer.Term ∷ Blank ∷ Says word.By ∷ Blank ∷ Level 18 ∷ []) ∷  -- 111 rewrite
-    (Says word.Prune ∷ Blank ∷ Number ∷ Blank ∷ OneOf 78 3 ∷ Blank ∷ Says word.By ∷ Blank ∷ Level 18 ∷ []) ∷  -- 112 prune
-    (Says word.Pick ∷ Blank ∷ Number ∷ Blank ∷ Level 14 ∷ Blank ∷ Says word.By ∷ Blank ∷ Level 18 ∷ Blank ∷ Level 18 ∷ []) ∷  -- 113 pick
-    (Says word.Merge ∷ Blank ∷ Number ∷ []) ∷  -- 114 merge
-    (Says word.Split ∷ Blank ∷ Number ∷ Blank ∷ Phrase outer.Term ∷ []) ∷  -- 115 split
-    (Sign mark.Let ∷ Blank ∷ Number ∷ Blank ∷ Word role.Nothing ∷ Sign mark.Colon ∷ Blank ∷ Either 1 2 ∷ Blank ∷ Sign mark.Equal ∷ Blank ∷ Phrase outer.Term ∷ []) ∷  -- 116 let
-    (Says word.Unlet ∷ Blank ∷ Word role.Nothing ∷ []) ∷  -- 117 unlet
-    (Sign mark.New ∷ Blank ∷ Number ∷ Blank ∷ Word role.Nothing ∷ Sign mark.Colon ∷ Blank ∷ Either 1 2 ∷ []) ∷  -- 118 new
-    (Says word.Unnew ∷ Blank ∷ Word role.Nothing ∷ []) ∷  -- 119 unnew
-    (Says word.Move ∷ Blank ∷ Number ∷ []) ∷  -- 120 move
-    (Says word.ArrayRename ∷ Blank ∷ Word role.Nothing ∷ Blank ∷ Says word.To ∷ Blank ∷ Level 6 ∷ []) ∷  -- 121 array rename
-    (Says word.Codef ∷ Blank ∷ Number ∷ Blank ∷ OneOf 81 2 ∷ Blank ∷ Phrase outer.Cell ∷ Blank ∷ Says word.From ∷ Blank ∷ Phrase outer.Cell ∷ []) ∷  -- 122 codef
-    (Says word.Birthday ∷ Blank ∷ Word role.Nothing ∷ Blank ∷ Says word.At ∷ Blank ∷ Level 10 ∷ []) ∷  -- 123 birthday
-    (Says word.Guess ∷ Blank ∷ Word role.Nothing ∷ Blank ∷ Says word.At ∷ Blank ∷ Level 10 ∷ []) ∷  -- 124 guess
-    (Says word.Fresh ∷ Blank ∷ Number ∷ []) ∷  -- 125 fresh
-    (Says word.Crypto ∷ Blank ∷ Word role.Nothing ∷ Blank ∷ Word role.Nothing ∷ []) ∷  -- 126 crypto
-    (Says word.Success ∷ Blank ∷ Number ∷ Blank ∷ OneOf 108 2 ∷ []) ∷  -- 127 success
-    (Says word.Simplify ∷ []) ∷  -- 128 simplify
-    (Over head.SplitStep 115 ∷ []) ∷  -- 129 a split
-    (Over head.LetStep 116 ∷ []) ∷  -- 130 a let
-    (Over head.NewStep 118 ∷ []) ∷  -- 131 a new
-    (Over head.UnnewStep 119 ∷ []) ∷  -- 132 a unnew
-    (Over head.RewriteStep 111 ∷ []) ∷  -- 133 a rewrite
-    (Over head.PruneStep 112 ∷ []) ∷  -- 134 a prune
-    (Over head.SuccessStep 127 ∷ []) ∷  -- 135 a success
-    (Over head.CryptoStep 126 ∷ []) ∷  -- 136 a crypto
-    (Over head.UnletStep 117 ∷ []) ∷  -- 137 a unlet
-    (Over head.RenameStep 110 ∷ []) ∷  -- 138 a rename
-    (Over head.MergeStep 114 ∷ []) ∷  -- 139 a merge
-    (Over head.MoveStep 120 ∷ []) ∷  -- 140 a move
-    (Over head.CodefStep 122 ∷ []) ∷  -- 141 a codef
-    (Over head.PickStep 113 ∷ []) ∷  -- 142 a pick
-    (Over head.ArrayRenameStep 121 ∷ []) ∷  -- 143 a array rename
-    (Over head.BirthdayStep 123 ∷ []) ∷  -- 144 a birthday
-    (Over head.GuessStep 124 ∷ []) ∷  -- 145 a guess
-    (Over head.FreshStep 125 ∷ []) ∷  -- 146 a fresh
-    (Over head.SimplifyStep 128 ∷ []) ∷  -- 147 a simplify
-    (OneOf 129 19 ∷ []) ∷  -- 148 step
-    (OneOf 129 19 ∷ Sign mark.Semicolon ∷ []) ∷  -- 149 step item
-    (Many false 149 ∷ []) ∷  -- 150 steps
-    (Chain 150 ∷ []) ∷  -- 151 script
-    (OneOf 129 steps_with_a_rule ∷ Sign mark.Semicolon ∷ []) ∷  -- 152 built item
-    (Many false 152 ∷ []) ∷  -- 153 built steps
-    (Chain 153 ∷ []) ∷  -- 154 built script
+    (Says word.Above ∷ []) ∷  -- 83 above word
+    (Blank ∷ Over head.AboveRoute 83 ∷ []) ∷  -- 84 above part
+    (May false 84 ∷ []) ∷  -- 85 above or not
+    (Says word.Above ∷ Blank ∷ Number ∷ Blank ∷ Level 18 ∷ []) ∷  -- 86 above
+    (Says word.Cell ∷ Blank ∷ Phrase outer.Cell ∷ Blank ∷ Number ∷ Blank ∷ Level 18 ∷ []) ∷  -- 87 cell
+    (Over head.AboveRoute 86 ∷ []) ∷  -- 88 a above
+    (Over head.CellRoute 87 ∷ []) ∷  -- 89 a cell
+    (Says word.Holds ∷ Blank ∷ Level 18 ∷ []) ∷  -- 90 holds
+    (Sign mark.EventWord ∷ Blank ∷ OneOf 88 2 ∷ []) ∷  -- 91 event route
+    (Over head.HoldsRoute 90 ∷ []) ∷  -- 92 holds route
+    (Blank ∷ OneOf 91 2 ∷ []) ∷  -- 93 route item
+    (Many false 93 ∷ []) ∷  -- 94 routes
+    (Says word.Never ∷ Blank ∷ Level 18 ∷ []) ∷  -- 95 never
+    (Says word.With ∷ Blank ∷ Level 14 ∷ Chain 94 ∷ []) ∷  -- 96 with
+    (Over head.NeverEntry 95 ∷ []) ∷  -- 97 a never
+    (Over head.WithEntry 96 ∷ []) ∷  -- 98 a with
+    (Says word.At ∷ Blank ∷ Number ∷ Blank ∷ OneOf 97 2 ∷ []) ∷  -- 99 at
+    (Blank ∷ Over head.AtEntry 99 ∷ []) ∷  -- 100 entry item
+    (Says word.Distinct ∷ Blank ∷ Chain 4 ∷ []) ∷  -- 101 distinct
+    (Blank ∷ Over head.DistinctPart 101 ∷ []) ∷  -- 102 distinct item
+    (Says word.Pair ∷ Blank ∷ Number ∷ Blank ∷ Number ∷ Blank ∷ Number ∷ Blank ∷ Level 18 ∷ []) ∷  -- 103 pair
+    (Blank ∷ Over head.Pair 103 ∷ []) ∷  -- 104 pair item
+    (Says word.Pair ∷ Blank ∷ Number ∷ Blank ∷ Number ∷ Blank ∷ Level 18 ∷ []) ∷  -- 105 secret pair
+    (Blank ∷ Over head.SecretPair 105 ∷ []) ∷  -- 106 secret pair item
+    (Many false 100 ∷ May false 102 ∷ Many false 104 ∷ []) ∷  -- 107 events parts
+    (Many false 106 ∷ []) ∷  -- 108 secret parts
+    (Says word.Events ∷ Chain 107 ∷ []) ∷  -- 109 events
+    (Sign mark.Secret ∷ Chain 108 ∷ []) ∷  -- 110 secret
+    (Over head.EventsCertificate 109 ∷ []) ∷  -- 111 a events
+    (Over head.SecretCertificate 110 ∷ []) ∷  -- 112 a secret
+    (Says word.Rename ∷ Blank ∷ Word role.Nothing ∷ Blank ∷ Says word.To ∷ Blank ∷ Word role.Nothing ∷ []) ∷  -- 113 rename
+    (Says word.Rewrite ∷ Blank ∷ Number ∷ Blank ∷ Says word.To ∷ Blank ∷ Phrase outer.Term ∷ Blank ∷ Says word.By ∷ Blank ∷ Level 18 ∷ []) ∷  -- 114 rewrite
+    (Says word.Prune ∷ Blank ∷ Number ∷ Blank ∷ OneOf 78 3 ∷ Blank ∷ Says word.By ∷ Blank ∷ Level 18 ∷ []) ∷  -- 115 prune
+    (Says word.Pick ∷ Blank ∷ Number ∷ Blank ∷ Level 14 ∷ Blank ∷ Says word.By ∷ Blank ∷ Level 18 ∷ Blank ∷ Level 18 ∷ []) ∷  -- 116 pick
+    (Says word.Merge ∷ Blank ∷ Number ∷ []) ∷  -- 117 merge
+    (Says word.Split ∷ Blank ∷ Number ∷ Blank ∷ Phrase outer.Term ∷ []) ∷  -- 118 split
+    (Sign mark.Let ∷ Blank ∷ Number ∷ Blank ∷ Word role.Nothing ∷ Sign mark.Colon ∷ Blank ∷ Either 1 2 ∷ Blank ∷ Sign mark.Equal ∷ Blank ∷ Phrase outer.Term ∷ []) ∷  -- 119 let
+    (Says word.Unlet ∷ Blank ∷ Word role.Nothing ∷ []) ∷  -- 120 unlet
+    (Sign mark.New ∷ Blank ∷ Number ∷ Blank ∷ Word role.Nothing ∷ Sign mark.Colon ∷ Blank ∷ Either 1 2 ∷ []) ∷  -- 121 new
+    (Says word.Unnew ∷ Blank ∷ Word role.Nothing ∷ []) ∷  -- 122 unnew
+    (Says word.Move ∷ Blank ∷ Number ∷ []) ∷  -- 123 move
+    (Says word.ArrayRename ∷ Blank ∷ Word role.Nothing ∷ Blank ∷ Says word.To ∷ Blank ∷ Level 6 ∷ []) ∷  -- 124 array rename
+    (Says word.Codef ∷ Blank ∷ Number ∷ Blank ∷ OneOf 81 2 ∷ Blank ∷ Phrase outer.Cell ∷ Blank ∷ Says word.From ∷ Blank ∷ Phrase outer.Cell ∷ Chain 85 ∷ []) ∷  -- 125 codef
+    (Says word.Birthday ∷ Blank ∷ Word role.Nothing ∷ Blank ∷ Says word.At ∷ Blank ∷ Level 10 ∷ []) ∷  -- 126 birthday
+    (Says word.Guess ∷ Blank ∷ Word role.Nothing ∷ Blank ∷ Says word.At ∷ Blank ∷ Level 10 ∷ []) ∷  -- 127 guess
+    (Says word.Fresh ∷ Blank ∷ Number ∷ []) ∷  -- 128 fresh
+    (Says word.Crypto ∷ Blank ∷ Word role.Nothing ∷ Blank ∷ Word role.Nothing ∷ []) ∷  -- 129 crypto
+    (Says word.Success ∷ Blank ∷ Number ∷ Blank ∷ OneOf 111 2 ∷ []) ∷  -- 130 success
+    (Says word.Simplify ∷ []) ∷  -- 131 simplify
+    (Over head.SplitStep 118 ∷ []) ∷  -- 132 a split
+    (Over head.LetStep 119 ∷ []) ∷  -- 133 a let
+    (Over head.NewStep 121 ∷ []) ∷  -- 134 a new
+    (Over head.UnnewStep 122 ∷ []) ∷  -- 135 a unnew
+    (Over head.RewriteStep 114 ∷ []) ∷  -- 136 a rewrite
+    (Over head.PruneStep 115 ∷ []) ∷  -- 137 a prune
+    (Over head.SuccessStep 130 ∷ []) ∷  -- 138 a success
+    (Over head.CryptoStep 129 ∷ []) ∷  -- 139 a crypto
+    (Over head.UnletStep 120 ∷ []) ∷  -- 140 a unlet
+    (Over head.RenameStep 113 ∷ []) ∷  -- 141 a rename
+    (Over head.MergeStep 117 ∷ []) ∷  -- 142 a merge
+    (Over head.MoveStep 123 ∷ []) ∷  -- 143 a move
+    (Over head.CodefStep 125 ∷ []) ∷  -- 144 a codef
+    (Over head.PickStep 116 ∷ []) ∷  -- 145 a pick
+    (Over head.ArrayRenameStep 124 ∷ []) ∷  -- 146 a array rename
+    (Over head.BirthdayStep 126 ∷ []) ∷  -- 147 a birthday
+    (Over head.GuessStep 127 ∷ []) ∷  -- 148 a guess
+    (Over head.FreshStep 128 ∷ []) ∷  -- 149 a fresh
+    (Over head.SimplifyStep 131 ∷ []) ∷  -- 150 a simplify
+    (OneOf 132 19 ∷ []) ∷  -- 151 step
+    (OneOf 132 19 ∷ Sign mark.Semicolon ∷ []) ∷  -- 152 step item
+    (Many false 152 ∷ []) ∷  -- 153 steps
+    (Chain 153 ∷ []) ∷  -- 154 script
+    (OneOf 132 steps_with_a_rule ∷ Sign mark.Semicolon ∷ []) ∷  -- 155 built item
+    (Many false 155 ∷ []) ∷  -- 156 built steps
+    (Chain 156 ∷ []) ∷  -- 157 built script
     []

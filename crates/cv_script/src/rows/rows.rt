@@ -124,109 +124,115 @@ const THEN_PART: u16 = 78;
 
 const ADD_PART: u16 = 81;
 
-const ABOVE: u16 = 83;
+const ABOVE_WORD: u16 = 83;
 
-const CELL: u16 = 84;
+const ABOVE_PART: u16 = 84;
 
-const A_ABOVE: u16 = 85;
+const ABOVE_OR_NOT: u16 = 85;
 
-const HOLDS: u16 = 87;
+const ABOVE: u16 = 86;
 
-const EVENT_ROUTE: u16 = 88;
+const CELL: u16 = 87;
 
-const ROUTE_ITEM: u16 = 90;
+const A_ABOVE: u16 = 88;
 
-const ROUTES: u16 = 91;
+const HOLDS: u16 = 90;
 
-const NEVER: u16 = 92;
+const EVENT_ROUTE: u16 = 91;
 
-const WITH: u16 = 93;
+const ROUTE_ITEM: u16 = 93;
 
-const A_NEVER: u16 = 94;
+const ROUTES: u16 = 94;
 
-const AT: u16 = 96;
+const NEVER: u16 = 95;
 
-const ENTRY_ITEM: u16 = 97;
+const WITH: u16 = 96;
 
-const DISTINCT: u16 = 98;
+const A_NEVER: u16 = 97;
 
-const DISTINCT_ITEM: u16 = 99;
+const AT: u16 = 99;
 
-const PAIR: u16 = 100;
+const ENTRY_ITEM: u16 = 100;
 
-const PAIR_ITEM: u16 = 101;
+const DISTINCT: u16 = 101;
 
-const SECRET_PAIR: u16 = 102;
+const DISTINCT_ITEM: u16 = 102;
 
-const SECRET_PAIR_ITEM: u16 = 103;
+const PAIR: u16 = 103;
 
-const EVENTS_PARTS: u16 = 104;
+const PAIR_ITEM: u16 = 104;
 
-const SECRET_PARTS: u16 = 105;
+const SECRET_PAIR: u16 = 105;
 
-const EVENTS: u16 = 106;
+const SECRET_PAIR_ITEM: u16 = 106;
 
-const SECRET: u16 = 107;
+const EVENTS_PARTS: u16 = 107;
 
-const A_EVENTS: u16 = 108;
+const SECRET_PARTS: u16 = 108;
 
-const RENAME: u16 = 110;
+const EVENTS: u16 = 109;
 
-const REWRITE: u16 = 111;
+const SECRET: u16 = 110;
 
-const PRUNE: u16 = 112;
+const A_EVENTS: u16 = 111;
 
-const PICK: u16 = 113;
+const RENAME: u16 = 113;
 
-const MERGE: u16 = 114;
+const REWRITE: u16 = 114;
 
-const SPLIT: u16 = 115;
+const PRUNE: u16 = 115;
 
-const LET: u16 = 116;
+const PICK: u16 = 116;
 
-const UNLET: u16 = 117;
+const MERGE: u16 = 117;
 
-const NEW: u16 = 118;
+const SPLIT: u16 = 118;
 
-const UNNEW: u16 = 119;
+const LET: u16 = 119;
 
-const MOVE: u16 = 120;
+const UNLET: u16 = 120;
 
-const ARRAY_RENAME: u16 = 121;
+const NEW: u16 = 121;
 
-const CODEF: u16 = 122;
+const UNNEW: u16 = 122;
 
-const BIRTHDAY: u16 = 123;
+const MOVE: u16 = 123;
 
-const GUESS: u16 = 124;
+const ARRAY_RENAME: u16 = 124;
 
-const FRESH: u16 = 125;
+const CODEF: u16 = 125;
 
-const CRYPTO: u16 = 126;
+const BIRTHDAY: u16 = 126;
 
-const SUCCESS: u16 = 127;
+const GUESS: u16 = 127;
 
-const SIMPLIFY: u16 = 128;
+const FRESH: u16 = 128;
 
-const FIRST_STEP: u16 = 129;
+const CRYPTO: u16 = 129;
+
+const SUCCESS: u16 = 130;
+
+const SIMPLIFY: u16 = 131;
+
+const FIRST_STEP: u16 = 132;
 /// The row of a step.
-pub const STEP: u16 = 148;
+pub const STEP: u16 = 151;
 
-const STEP_ITEM: u16 = 149;
+const STEP_ITEM: u16 = 152;
 
-const STEPS: u16 = 150;
+const STEPS: u16 = 153;
 /// The row of a script: steps with a semicolon behind each.
-pub const SCRIPT: u16 = 151;
+pub const SCRIPT: u16 = 154;
 
-const BUILT_ITEM: u16 = 152;
+const BUILT_ITEM: u16 = 155;
 
-const BUILT_STEPS: u16 = 153;
+const BUILT_STEPS: u16 = 156;
 /// The row of a script whose steps have a rule.
-pub const BUILT_SCRIPT: u16 = 154;
+pub const BUILT_SCRIPT: u16 = 157;
 /// How many of the steps, from the first one on, have a rule.
 const BUILT: u16 = 13;
 /// How many rows the table has.
-const ROWS: usize = 155;
+const ROWS: usize = 158;
 
 /// Lists of names, numbers, terms and lines.
 static LIST_ROWS: [&[Piece]; 21] = [
@@ -365,7 +371,7 @@ static LINE_ROWS: [&[Piece]; 7] = [
 ];
 
 /// Parts of steps, and certificates.
-static CERTIFICATE_ROWS: [&[Piece]; 36] = [
+static CERTIFICATE_ROWS: [&[Piece]; 39] = [
     &[Sign(Mark::Then)],
     &[Sign(Mark::Else)],
     &[Says(ScriptWord::Add)],
@@ -375,6 +381,9 @@ static CERTIFICATE_ROWS: [&[Piece]; 36] = [
     &[Number],
     &[Over(Head::AddPart, ADD_WORD)],
     &[Over(Head::DropPart, DROP_WORD)],
+    &[Says(ScriptWord::Above)],
+    &[Blank, Over(Head::AboveRoute, ABOVE_WORD)],
+    &[May(false, ABOVE_PART)],
     &[Says(ScriptWord::Above), Blank, Number, Blank, Level(BRACES)],
     &[
         Says(ScriptWord::Cell),
@@ -549,6 +558,7 @@ static STEP_ROWS: [&[Piece]; 45] = [
         Says(ScriptWord::From),
         Blank,
         Phrase(Outer::Cell),
+        Chain(ABOVE_OR_NOT),
     ],
     &[
         Says(ScriptWord::Birthday),

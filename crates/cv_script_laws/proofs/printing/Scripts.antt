@@ -56,32 +56,32 @@ module _ (count : ℕ) (some : nat_lt 0 count ≡ true) where
   one_over ts d = (d.first.0, d.parts ∙ (ap (λ z. z ++ d.back) d.first.1 ∙ ap (λ z. d.first.0 ∷ z) d.second))
 
   -- a row of steps makes one tree
-  one_tree : (ts : List Tree) → OneOf 149 129 19 ts → (t : Tree) × (ts ≡ t ∷ [])
-  one_tree ts (inl d) = one_over ts (row 149 129 refl ts d)
-  one_tree ts (inr (inl d)) = one_over ts (row 149 130 refl ts d)
-  one_tree ts (inr (inr (inl d))) = one_over ts (row 149 131 refl ts d)
-  one_tree ts (inr (inr (inr (inl d)))) = one_over ts (row 149 132 refl ts d)
-  one_tree ts (inr (inr (inr (inr (inl d))))) = one_over ts (row 149 133 refl ts d)
-  one_tree ts (inr (inr (inr (inr (inr (inl d)))))) = one_over ts (row 149 134 refl ts d)
-  one_tree ts (inr (inr (inr (inr (inr (inr (inl d))))))) = one_over ts (row 149 135 refl ts d)
-  one_tree ts (inr (inr (inr (inr (inr (inr (inr (inl d)))))))) = one_over ts (row 149 136 refl ts d)
-  one_tree ts (inr (inr (inr (inr (inr (inr (inr (inr (inl d))))))))) = one_over ts (row 149 137 refl ts d)
-  one_tree ts (inr (inr (inr (inr (inr (inr (inr (inr (inr (inl d)))))))))) = one_over ts (row 149 138 refl ts d)
-  one_tree ts (inr (inr (inr (inr (inr (inr (inr (inr (inr (inr (inl d))))))))))) = one_over ts (row 149 139 refl ts d)
-  one_tree ts (inr (inr (inr (inr (inr (inr (inr (inr (inr (inr (inr (inl d)))))))))))) = one_over ts (row 149 140 refl ts d)
-  one_tree ts (inr (inr (inr (inr (inr (inr (inr (inr (inr (inr (inr (inr (inl d))))))))))))) = one_over ts (row 149 141 refl ts d)
-  one_tree ts (inr (inr (inr (inr (inr (inr (inr (inr (inr (inr (inr (inr (inr (inl d)))))))))))))) = one_over ts (row 149 142 refl ts d)
-  one_tree ts (inr (inr (inr (inr (inr (inr (inr (inr (inr (inr (inr (inr (inr (inr (inl d))))))))))))))) = one_over ts (row 149 143 refl ts d)
-  one_tree ts (inr (inr (inr (inr (inr (inr (inr (inr (inr (inr (inr (inr (inr (inr (inr (inl d)))))))))))))))) = one_over ts (row 149 144 refl ts d)
-  one_tree ts (inr (inr (inr (inr (inr (inr (inr (inr (inr (inr (inr (inr (inr (inr (inr (inr (inl d))))))))))))))))) = one_over ts (row 149 145 refl ts d)
-  one_tree ts (inr (inr (inr (inr (inr (inr (inr (inr (inr (inr (inr (inr (inr (inr (inr (inr (inr (inl d)))))))))))))))))) = one_over ts (row 149 146 refl ts d)
-  one_tree ts (inr (inr (inr (inr (inr (inr (inr (inr (inr (inr (inr (inr (inr (inr (inr (inr (inr (inr (inl d))))))))))))))))))) = one_over ts (row 149 147 refl ts d)
+  one_tree : (ts : List Tree) → OneOf 152 132 19 ts → (t : Tree) × (ts ≡ t ∷ [])
+  one_tree ts (inl d) = one_over ts (row 152 132 refl ts d)
+  one_tree ts (inr (inl d)) = one_over ts (row 152 133 refl ts d)
+  one_tree ts (inr (inr (inl d))) = one_over ts (row 152 134 refl ts d)
+  one_tree ts (inr (inr (inr (inl d)))) = one_over ts (row 152 135 refl ts d)
+  one_tree ts (inr (inr (inr (inr (inl d))))) = one_over ts (row 152 136 refl ts d)
+  one_tree ts (inr (inr (inr (inr (inr (inl d)))))) = one_over ts (row 152 137 refl ts d)
+  one_tree ts (inr (inr (inr (inr (inr (inr (inl d))))))) = one_over ts (row 152 138 refl ts d)
+  one_tree ts (inr (inr (inr (inr (inr (inr (inr (inl d)))))))) = one_over ts (row 152 139 refl ts d)
+  one_tree ts (inr (inr (inr (inr (inr (inr (inr (inr (inl d))))))))) = one_over ts (row 152 140 refl ts d)
+  one_tree ts (inr (inr (inr (inr (inr (inr (inr (inr (inr (inl d)))))))))) = one_over ts (row 152 141 refl ts d)
+  one_tree ts (inr (inr (inr (inr (inr (inr (inr (inr (inr (inr (inl d))))))))))) = one_over ts (row 152 142 refl ts d)
+  one_tree ts (inr (inr (inr (inr (inr (inr (inr (inr (inr (inr (inr (inl d)))))))))))) = one_over ts (row 152 143 refl ts d)
+  one_tree ts (inr (inr (inr (inr (inr (inr (inr (inr (inr (inr (inr (inr (inl d))))))))))))) = one_over ts (row 152 144 refl ts d)
+  one_tree ts (inr (inr (inr (inr (inr (inr (inr (inr (inr (inr (inr (inr (inr (inl d)))))))))))))) = one_over ts (row 152 145 refl ts d)
+  one_tree ts (inr (inr (inr (inr (inr (inr (inr (inr (inr (inr (inr (inr (inr (inr (inl d))))))))))))))) = one_over ts (row 152 146 refl ts d)
+  one_tree ts (inr (inr (inr (inr (inr (inr (inr (inr (inr (inr (inr (inr (inr (inr (inr (inl d)))))))))))))))) = one_over ts (row 152 147 refl ts d)
+  one_tree ts (inr (inr (inr (inr (inr (inr (inr (inr (inr (inr (inr (inr (inr (inr (inr (inr (inl d))))))))))))))))) = one_over ts (row 152 148 refl ts d)
+  one_tree ts (inr (inr (inr (inr (inr (inr (inr (inr (inr (inr (inr (inr (inr (inr (inr (inr (inr (inl d)))))))))))))))))) = one_over ts (row 152 149 refl ts d)
+  one_tree ts (inr (inr (inr (inr (inr (inr (inr (inr (inr (inr (inr (inr (inr (inr (inr (inr (inr (inr (inl d))))))))))))))))))) = one_over ts (row 152 150 refl ts d)
   one_tree ts (inr (inr (inr (inr (inr (inr (inr (inr (inr (inr (inr (inr (inr (inr (inr (inr (inr (inr (inr d))))))))))))))))))) = absurd d
 
   -- one of so many rows, and of more of them
-  one_below : (n r : ℕ) → r + n ≤ 148 → (ts : List Tree) → OneOf 149 r n ts → OneOf 148 r n ts
+  one_below : (n r : ℕ) → r + n ≤ 151 → (ts : List Tree) → OneOf 152 r n ts → OneOf 151 r n ts
   one_below zero r h ts d = d
-  one_below (suc n) r h ts (inl d) = inl (back 148 r (lt-ltb r 148 (omega arith)) ts (row 149 r (lt-ltb r 149 (omega arith)) ts d))
+  one_below (suc n) r h ts (inl d) = inl (back 151 r (lt-ltb r 151 (omega arith)) ts (row 152 r (lt-ltb r 152 (omega arith)) ts d))
   one_below (suc n) r h ts (inr d) = inr (one_below n (r + 1) (omega arith) ts d)
 
   -- a step that may be printed
@@ -89,25 +89,25 @@ module _ (count : ℕ) (some : nat_lt 0 count ≡ true) where
   IsStep t = IsTree script_rows text_levels step_row t
 
   -- a step with its semicolon
-  a_step : (ts : List Tree) → InRow 150 149 ts → (t : Tree) × (ts ≡ t ∷ []) × IsStep t
+  a_step : (ts : List Tree) → InRow 153 152 ts → (t : Tree) × (ts ≡ t ∷ []) × IsStep t
   a_step ts e =
-      let d = row 150 149 refl ts e in
+      let d = row 153 152 refl ts e in
       let x = one_tree d.front d.first in
       let rest : d.back ≡ [] = d.second.parts ∙ (ap (λ z. z ++ d.second.back) d.second.first ∙ d.second.second) in
-      let made = back 155 148 refl d.front (record { front = d.front; back = []; parts = sym (append-nil d.front); first = one_below 19 129 (omega arith) d.front d.first; second = refl }) in
+      let made = back 158 151 refl d.front (record { front = d.front; back = []; parts = sym (append-nil d.front); first = one_below 19 132 (omega arith) d.front d.first; second = refl }) in
       let y = script_tree count some levels step_row d.front made in
       (x.0, d.parts ∙ (ap (λ z. d.front ++ z) rest ∙ ap (λ z. z ++ []) x.1), subst (λ z. IsStep (single z)) x.1 y.0)
 
-  all_steps : (l : List (List Tree)) → AllByRecursion (InRow 150 149) l → AllByRecursion IsStep (all_of l)
+  all_steps : (l : List (List Tree)) → AllByRecursion (InRow 153 152) l → AllByRecursion IsStep (all_of l)
   all_steps [] d = tt
   all_steps (ts ∷ l) d = let x = a_step ts d.0 in subst (λ z. AllByRecursion IsStep (z ++ all_of l)) (sym x.1) (x.2, all_steps l d.1)
 
   -- the steps of a script
-  script_steps : (ts : List Tree) → InRow 155 151 ts → (l : List Tree) × (ts ≡ chain l ∷ []) × AllByRecursion IsStep l
+  script_steps : (ts : List Tree) → InRow 158 154 ts → (l : List Tree) × (ts ≡ chain l ∷ []) × AllByRecursion IsStep l
   script_steps ts e =
-      let d = row 155 151 refl ts e in
+      let d = row 158 154 refl ts e in
       let l = d.first.2.0 in
-      let b = row 151 150 refl l d.first.2.2 in
+      let b = row 154 153 refl l d.first.2.2 in
       let is : l ≡ all_of b.first.0 = b.parts ∙ (ap (λ z. b.front ++ z) b.second ∙ (append-nil b.front ∙ b.first.1)) in
       (l, d.parts ∙ (ap (λ z. z ++ d.back) d.first.1 ∙ ap (λ z. d.first.0 ∷ z) d.second) ∙ ap (λ t. t ∷ []) d.first.2.1, subst (AllByRecursion IsStep) (sym is) (all_steps b.first.0 b.first.2))
 

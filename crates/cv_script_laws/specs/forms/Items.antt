@@ -17,7 +17,7 @@ is_built (Success k by) = true
 is_built (Crypto e x) = true
 is_built (Merge p) = true
 is_built (Move p) = true
-is_built (Codef p add y x) = true
+is_built (Codef p add y x above) = true
 is_built i = false
 
 -- all steps

@@ -4,8 +4,8 @@ ghost use Rattle.cv_syntax.specs.Postorder.{postorder};
 ghost use Rattle.cv_step_writer.specs.Certificates.{IsCertificateBelow, certificate_tree};
 ghost use Rattle.cv_step_writer.specs.Derivations.{AreLinesBelow, IsBelow, derivation};
 ghost use Rattle.cv_step_writer.specs.Items as items;
-ghost use Rattle.cv_step_writer.specs.Items.{over};
-ghost use Rattle.cv_step_writer.specs.Proposals.{IsProposalBelow, body_tree, change, step_tree};
+ghost use Rattle.cv_step_writer.specs.Items.{over, single};
+ghost use Rattle.cv_step_writer.specs.Proposals.{IsProposalBelow, body_tree, change, standing, step_tree};
 
 use crate::certificates::Certificate;
 use crate::lines::Line;
@@ -232,6 +232,45 @@ fn push_change(makes: &mut Vec<Make>, add: bool) -> Result<(), AllocError>
     }
 }
 
+/// Makes the word behind a `codef` whose variable stands above.
+#[tactic(auto, unfolding(cv_syntax::specs::Postorder::postorder), using(crate::proofs::Making::making))]
+fn push_standing(makes: &mut Vec<Make>, above: bool) -> Result<(), AllocError>
+    ensures { OnOk result (makes.new.items ≡ makes.old.items ++ postorder (standing above)) }
+{
+    if above {
+        push_leaf(makes, Head::AboveRoute)?;
+        makes.push(Make::Nothing)?;
+        makes.push(Make::Over(Head::Cons))?;
+        Ok(())
+    } else {
+        makes.push(Make::Nothing)?;
+        Ok(())
+    }
+}
+
+/// Makes the two cells of a `codef`, and the word behind them.
+#[tactic(auto, unfolding(cv_syntax::specs::Postorder::postorder), using(crate::proofs::Making::making))]
+fn push_cells(
+    makes: &mut Vec<Make>,
+    pool: &Pool,
+    to: NodeId,
+    from: NodeId,
+    above: bool,
+) -> Result<(), AllocError>
+    requires to { to.0 < length pool.now.trees }
+    requires from { from.0 < length pool.now.trees }
+    ensures { OnOk result (makes.new.items ≡ makes.old.items
+        ++ postorder (single (items.term pool.now.trees to ∷ items.term pool.now.trees from
+        ∷ standing above ∷ []))) }
+{
+    push_term(makes, pool, to)?;
+    push_term(makes, pool, from)?;
+    push_standing(makes, above)?;
+    makes.push(Make::Over(Head::Cons))?;
+    makes.push(Make::Over(Head::Cons))?;
+    Ok(())
+}
+
 /// Makes a step `codef`.
 #[tactic(auto, unfolding(cv_syntax::specs::Postorder::postorder), using(crate::proofs::Making::making))]
 fn push_codef(
@@ -241,18 +280,18 @@ fn push_codef(
     add: bool,
     to: NodeId,
     from: NodeId,
+    above: bool,
 ) -> Result<(), AllocError>
     requires to { to.0 < length pool.now.trees }
     requires from { from.0 < length pool.now.trees }
     ensures { OnOk result (makes.new.items ≡ makes.old.items
         ++ postorder (over CodefStep (items.number place ∷ change add
-        ∷ items.term pool.now.trees to ∷ items.term pool.now.trees from ∷ []))) }
+        ∷ items.term pool.now.trees to ∷ items.term pool.now.trees from
+        ∷ standing above ∷ []))) }
 {
     push_number(makes, place)?;
     push_change(makes, add)?;
-    push_term(makes, pool, to)?;
-    push_term(makes, pool, from)?;
-    makes.push(Make::Over(Head::Cons))?;
+    push_cells(makes, pool, to, from, above)?;
     makes.push(Make::Over(Head::Cons))?;
     makes.push(Make::Over(Head::CodefStep))?;
     Ok(())
@@ -311,7 +350,8 @@ pub(crate) fn push_step(
             add,
             to,
             from,
-        } => push_codef(makes, pool, *place, *add, *to, *from),
+            above,
+        } => push_codef(makes, pool, *place, *add, *to, *from, *above),
         Proposal::Birthday { x, at } => push_over_places(makes, Head::BirthdayStep, *x, at),
         Proposal::Guess { x, at } => push_over_places(makes, Head::GuessStep, *x, at),
         Proposal::Fresh { place } => push_one(makes, Head::FreshStep, *place),

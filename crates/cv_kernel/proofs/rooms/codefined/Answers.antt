@@ -28,5 +28,5 @@ returns c =
     let p = c.in_ok-place.place in
     let to = tree_at pool.trees (Some c.args.to) in
     let from = tree_at pool.trees (Some c.args.from) in
-    subst (λ q. IsPlan pool.trees s (rule_of_items (items.Codef q c.args.adds to from)) c.at.result) c.in_ok-place.ensures.place
-    (c.at.ensures pool.trees s (record { step = codef_step p c.args.adds to from; need = need_codef p c.args.adds to }) (made_of_codef c.args.adds to (part_at s.game p)) c.in_ok-planned.ensures refl)
+    subst (λ q. IsPlan pool.trees s (rule_of_items (items.Codef q c.args.adds to from c.args.above)) c.at.result) c.in_ok-place.ensures.place
+    (c.at.ensures pool.trees s (record { step = codef_step p c.args.adds c.args.above to from; need = need_codef p c.args.adds to }) (made_of_codef c.args.adds to (part_at s.game p)) c.in_ok-planned.ensures refl)

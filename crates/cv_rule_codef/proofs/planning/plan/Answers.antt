@@ -13,6 +13,7 @@ returns-in_ok-parts-in-Ok c =
     let s = scene_of c.args.work.now.pool c.args.work.now.decls c.args.game in
     let p = c.args.place in
     let adds = c.args.adds in
+    let above = c.args.above in
     let to = tree_at trees (Some c.args.to) in
     let from = tree_at trees (Some c.args.from) in
     let t = part_at s.game p in
@@ -21,10 +22,10 @@ returns-in_ok-parts-in-Ok c =
     let r = c.in_ok-parts-in-Ok.ensures in
     let e = built trees t m site.branch adds to ∙ sym (ap top_of r.stack) in
     record {
-      met = standing s p adds to from c.in_ok-stands.field-0 c.in_ok-stands.ensures c.if-not-branch.false ∙ site.met;
-      leads = leads_to s p adds to from _ site.met e;
+      met = standing s p adds above to from c.in_ok-stands.field-0 c.in_ok-stands.ensures c.if-not-branch.false ∙ site.met;
+      leads = leads_to s p adds above to from _ site.met e;
       made = r.made ∙ sym (made_is trees t m site.branch adds to);
       live = (r.live, omega (arith, ap length r.stack));
       fits = omega (arith, change_small adds to s.game p c.requires.small c.requires.short, ap size e);
-      there = there s p adds to from c.in_ok-stands.field-0 c.in_ok-stands.ensures c.if-not-branch.false;
+      there = there s p adds above to from c.in_ok-stands.field-0 c.in_ok-stands.ensures c.if-not-branch.false;
     }
