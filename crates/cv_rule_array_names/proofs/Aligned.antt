@@ -33,7 +33,7 @@ use Rattle.cv_scene.specs.Scenes.{names}
 use Rattle.cv_steps.specs.Renaming.{renamed}
 use Rattle.cv_rule_array_names.specs.Cells.{with_names}
 use Rattle.cv_rule_array_names.specs.Sites.{Naming, name_at}
-use Rattle.cv_rule_array_names.specs.Splitting.{Around, behind, known, message_with_name, split_branches, split_in, with_name}
+use Rattle.cv_rule_array_names.specs.Splitting.{Around, behind, names_known, message_with_name, split_branches, split_in, with_name}
 use Rattle.cv_rule_array_names.proofs.Arms.{Arm, IsAt, IsNth, arm_tree, copy_of, here, later, there, this}
 use Rattle.cv_rule_array_names.proofs.Around.{IsTold, among_left, among_right, stands_free, told_owner, tuple_kept, among_holds}
 use Rattle.cv_rule_array_names.proofs.Branches.{CopyFact}
@@ -241,22 +241,22 @@ module _ (g : Setting) (variable : ℕ → Bool) (game : Tree) (fine : Game g va
         owned_at : (d : Tree × ℕ) → IsTold g variable x o end Γ at d → IsOwned g x ys o at m.store d
         owned_at d t = record { cell = t.cell; owner = told_owner g variable x o end Γ at m.store m.events hh.holds ex.kept d t m.store (λ y w v e. e) }
 
-        all_owned : AllByRecursion (IsOwned g x ys o at m.store) (known e)
+        all_owned : AllByRecursion (IsOwned g x ys o at m.store) (names_known e)
         all_owned =
             AllByRecursion_append (IsOwned g x ys o at m.store) e.looked_for e.defined
             (AllByRecursion_weaker (IsTold g variable x o end Γ at) (IsOwned g x ys o at m.store) owned_at e.looked_for ar.looked_for)
             (AllByRecursion_weaker (IsTold g variable x o end Γ at) (IsOwned g x ys o at m.store) owned_at e.defined ar.defined)
 
-        value_like : Unread x (with_names (known e) a) → value g at m.store a ≡ value g at k.store (with_names (known e) a)
-        value_like w = value_named g x ys o owns at ex.vars m.store k.store like.store (known e) all_owned a (free_first ys h a b free) w
+        value_like : Unread x (with_names (names_known e) a) → value g at m.store a ≡ value g at k.store (with_names (names_known e) a)
+        value_like w = value_named g x ys o owns at ex.vars m.store k.store like.store (names_known e) all_owned a (free_first ys h a b free) w
 
-        values_like : Unread x (with_names (known e) a) → values g at m.store a ≡ values g at k.store (with_names (known e) a)
-        values_like w = values_named g x ys o owns at ex.vars m.store k.store like.store (known e) all_owned a (free_first ys h a b free) w
+        values_like : Unread x (with_names (names_known e) a) → values g at m.store a ≡ values g at k.store (with_names (names_known e) a)
+        values_like w = values_named g x ys o owns at ex.vars m.store k.store like.store (names_known e) all_owned a (free_first ys h a b free) w
 
-        message_like : Unread x (with_names (known e) a) → values g at m.store (second a) ≡ values g at k.store (second (with_names (known e) a))
+        message_like : Unread x (with_names (names_known e) a) → values g at m.store (second a) ≡ values g at k.store (second (with_names (names_known e) a))
         message_like w =
-            values_named g x ys o owns at ex.vars m.store k.store like.store (known e) all_owned (second a) (free_second_part ys a (free_first ys h a b free)) (subst (λ b. Unread x b) (second_named (known e) a) (unread_second_part x (with_names (known e) a) w))
-            ∙ ap (values g at k.store) (sym (second_named (known e) a))
+            values_named g x ys o owns at ex.vars m.store k.store like.store (names_known e) all_owned (second a) (free_second_part ys a (free_first ys h a b free)) (subst (λ b. Unread x b) (second_named (names_known e) a) (unread_second_part x (with_names (names_known e) a) w))
+            ∙ ap (values g at k.store) (sym (second_named (names_known e) a))
 
       -- one variable is assigned
       assigns : (z y : ℕ) → is_name ys z ≡ false → ((z == x) ≡ true → o (tuple at) ≡ y) → (v w : ℕ) → v ≡ w → AreLikeMemories (with_value r z v).memory (with_value s (cond (z == x) y z) w).memory
@@ -306,7 +306,7 @@ module _ (g : Setting) (variable : ℕ → Bool) (game : Tree) (fine : Game g va
       unfolding step split_in
       output_goes q c Γ a b st e ar ex w =
           let hh : HoldsHere g variable game fine n p o end Γ r = holds_here g variable game fine n p o end q Body Γ (Node (Out c) a b) r refl st ex in
-          let same : values g at m.store (second a) ≡ values g at k.store (second (with_names (known e) a)) = message_like q Body Γ (Out c) a b st e ar ex hh (unread_first x (Out c) _ _ w) in
+          let same : values g at m.store (second a) ≡ values g at k.store (second (with_names (names_known e) a)) = message_like q Body Γ (Out c) a b st e ar ex hh (unread_first x (Out c) _ _ w) in
           both_end (record {
             reply = λ l. Sent c (tuple at) (same l);
             memory = like;
@@ -456,8 +456,8 @@ module _ (g : Setting) (variable : ℕ → Bool) (game : Tree) (fine : Game g va
           cells = arm.cells;
           condition = arm.condition;
           body = arm.body;
-          list = with_names (known d) arm.cells;
-          other = with_names (known d) arm.condition;
+          list = with_names (names_known d) arm.cells;
+          other = with_names (names_known d) arm.condition;
           copy = d;
           stands = in_second refl st;
           known_names = body_names Γ e arm q vs st ar ch ex kept d fact;
@@ -516,9 +516,9 @@ module _ (g : Setting) (variable : ℕ → Bool) (game : Tree) (fine : Game g va
       subst (λ (z : Tree × Tree × Indices × ℕ × ℕ). GoesOnAt (record a { tree = z.0; number = z.3 }) (record b { tree = z.1; number = z.4 }) r (record s { indices = z.2 })) (λ i. (sym l.left i, sym l.right i, l.indices i, sym l.number i, sym l.numbers i))
       (guarded_goes r.indices r.memory s.memory l.memory l.above l.condition l.body l.other l.copy a.place b.place a.bound b.bound (subst (Stands game a.place Guarded l.above) l.left l.stands) l.known_names (subst (Unread x) l.right l.unread) l.bound)
 
-  pub aligned : IsAligned AreLikeMemories Like Go Expected g g t u
-  aligned a b r s (together l) all = together_goes a b r s l all
-  aligned a b r s (towards l) all = to_branch a b r s l
-  aligned a b r s (arrived l) all = at_branch a b r s l all
-  aligned a b r s (at_guards l) all = guards_at a b r s l
-  aligned a b r s (at_guarded l) all = guarded_at a b r s l
+  pub services_aligned : IsAligned AreLikeMemories Like Go Expected g g t u
+  services_aligned a b r s (together l) all = together_goes a b r s l all
+  services_aligned a b r s (towards l) all = to_branch a b r s l
+  services_aligned a b r s (arrived l) all = at_branch a b r s l all
+  services_aligned a b r s (at_guards l) all = guards_at a b r s l
+  services_aligned a b r s (at_guarded l) all = guarded_at a b r s l

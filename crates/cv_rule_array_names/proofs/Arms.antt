@@ -6,7 +6,7 @@ use Rattle.cv_meaning.specs.Binders.{binder_count, fits, widest_binder}
 use Rattle.cv_steps.specs.Renaming.{renamed}
 use Rattle.cv_rule_array_names.specs.Cells.{with_names}
 use Rattle.cv_rule_array_names.specs.Sites.{Naming}
-use Rattle.cv_rule_array_names.specs.Splitting.{Around, body_place, known, split_in, with_name}
+use Rattle.cv_rule_array_names.specs.Splitting.{Around, body_place, names_known, split_in, with_name}
 
 -- a branch by its parts
 pub record Arm : Type 0 where
@@ -22,7 +22,7 @@ arm_tree a = Node Branch a.indices (Node Cons a.cells (Node Cons a.condition a.b
 abbrev pub copy_of : Naming → (place : ℕ) → Arm → Around → Tree
 copy_of n p a e =
     Node Branch (with_name n p a.indices)
-    (Node Cons (with_names (known e) a.cells) (Node Cons (with_names (known e) a.condition) (split_in n e (body_place p a.indices a.cells a.condition) a.body)))
+    (Node Cons (with_names (names_known e) a.cells) (Node Cons (with_names (names_known e) a.condition) (split_in n e (body_place p a.indices a.cells a.condition) a.body)))
 
 -- the k-th branch of a list that stands at a place, with its own place
 pub data IsNth : (k place : ℕ) → (branches : Tree) → (at : ℕ) → (branch : Tree) → Type 0 where

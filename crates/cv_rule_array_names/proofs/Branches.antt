@@ -20,13 +20,13 @@ use Rattle.cv_scope_runs.proofs.Games.{Game, stands_asked}
 use Rattle.cv_scope_runs.proofs.Standing.{Stands}
 use Rattle.cv_rule_array_names.specs.Cells.{are_mixed, cells_in, first_unnamed, is_cell_of, with_names}
 use Rattle.cv_rule_array_names.specs.Sites.{Naming, name_at}
-use Rattle.cv_rule_array_names.specs.Splitting.{Around, behind, body_place, known, looking_for, split_in, with_name}
+use Rattle.cv_rule_array_names.specs.Splitting.{Around, behind, body_place, names_known, looking_for, split_in, with_name}
 use Rattle.cv_rule_array_names.proofs.Stores.{AreSplit, Free, bound_split, free_first, free_second, is_name}
 use Rattle.cv_rule_array_names.proofs.Values.{AreVariables, IsOwned, Unread, tuple_in, unread_first, unread_second}
 use Rattle.cv_rule_array_names.proofs.Lists.{all_unnamed, both, both_false, candidate_fails, candidate_same, named_with, none_unnamed, unnamed_cell}
 use Rattle.cv_rule_array_names.proofs.Arms.{Arm, arm_tree, copy_of}
 use Rattle.cv_rule_array_names.proofs.Around.{IsAround, IsTold, among_left, among_right, own_cell, own_tuple, told_owner, told_there, unnamed_among}
-use Rattle.cv_rule_array_names.proofs.Found.{Tried, tried}
+use Rattle.cv_rule_array_names.proofs.Found.{Tried, branch_tried}
 
 -- what is known of the cells that a copy looks for, at a tuple
 pub record CopyFact (g : Setting) (n : Naming) (o : List ℕ → ℕ) (Γ : Context) (at : Indices) (m : Store) (e : Around) (q : ℕ) (a : Arm) (d : Around) (u : List ℕ) : Type 0 where
@@ -103,7 +103,7 @@ module _ (g : Setting) (variable : ℕ → Bool) (game : Tree) (fine : Game g va
     attempt = go (is_name ys (name_at n q)) refl
       where
         go : (b : Bool) → is_name ys (name_at n q) ≡ b → Attempt
-        go true i = tried x ys o owns m k s a.indices u (tuple at) (name_at n q) i (free_first ys Branch a.indices _ free) (clear x)
+        go true i = branch_tried x ys o owns m k s a.indices u (tuple at) (name_at n q) i (free_first ys Branch a.indices _ free) (clear x)
         go false i = record {
           owner = o;
           owns = owns;
@@ -157,7 +157,7 @@ module _ (g : Setting) (variable : ℕ → Bool) (game : Tree) (fine : Game g va
     here_tried : AllByRecursion (OwnedBy attempt.owner) here.looked_for
     here_tried = subst (AllByRecursion (OwnedBy attempt.owner)) (sym looked_here) looked_tried
 
-    known_tried : AllByRecursion (OwnedBy attempt.owner) (known here)
+    known_tried : AllByRecursion (OwnedBy attempt.owner) (names_known here)
     known_tried = AllByRecursion_append (OwnedBy attempt.owner) here.looked_for here.defined here_tried defined_tried
 
     free_cells : Free ys a.cells
@@ -177,7 +177,7 @@ module _ (g : Setting) (variable : ℕ → Bool) (game : Tree) (fine : Game g va
     -- a branch whose cells all have names
     pub plain_same : first_unnamed here.looked_for (cells_in x a.cells) ≡ None → Unread x (copy_of n q a here) → Same g at m k n q a here u
     plain_same i unread =
-        candidate_same g x ys o attempt.owner owns attempt.owns at vars m k tried_store other_store s attempt.split (known here) known_tried here.looked_for here.defined refl here_owned
+        candidate_same g x ys o attempt.owner owns attempt.owns at vars m k tried_store other_store s attempt.split (names_known here) known_tried here.looked_for here.defined refl here_owned
         Cons Cons a.cells a.condition a.body (split_in n here (body_place q a.indices a.cells a.condition) a.body) (none_unnamed here.looked_for (cells_in x a.cells) i) free_cells free_condition
         (unread_first x Cons _ _ (unread_second x Branch _ _ unread)) (unread_first x Cons _ _ (unread_second x Cons _ _ (unread_second x Branch _ _ unread)))
 
@@ -194,7 +194,7 @@ module _ (g : Setting) (variable : ℕ → Bool) (game : Tree) (fine : Game g va
 
       fails : (y : ℕ) → k y where_to ≡ None → Unread x (copy_of n q a (looking_for here d y)) → NoCopy g at k n q a (looking_for here d y) u
       fails y i unread =
-          candidate_fails g x ys o attempt.owner owns attempt.owns at vars m k tried_store other_store s attempt.split (known here) known_tried here.looked_for d y Cons Cons a.cells (with_names (known (looking_for here d y)) a.condition) (split_in n (looking_for here d y) (body_place q a.indices a.cells a.condition) a.body) looks is_cell free_cells
+          candidate_fails g x ys o attempt.owner owns attempt.owns at vars m k tried_store other_store s attempt.split (names_known here) known_tried here.looked_for d y Cons Cons a.cells (with_names (names_known (looking_for here d y)) a.condition) (split_in n (looking_for here d y) (body_place q a.indices a.cells a.condition) a.body) looks is_cell free_cells
           (unread_first x Cons _ _ (unread_second x Branch _ _ unread)) i
 
       pub other_fails : (y : ℕ) → is_name ys y ≡ true → (y == o where_to) ≡ false → Unread x (copy_of n q a (looking_for here d y)) → NoCopy g at k n q a (looking_for here d y) u
@@ -208,7 +208,7 @@ module _ (g : Setting) (variable : ℕ → Bool) (game : Tree) (fine : Game g va
               ap (λ p. both p (is_one (value g at tried_store a.condition))) (lacks g x at m tried_store here.looked_for d a.cells looks (cell_lacks g x at m tried_store d is_cell i))
               ∙ sym (fails (o where_to) (sym (s.owned where_to) ∙ i) unread)
           go (Some v) i =
-              candidate_same g x ys o attempt.owner owns attempt.owns at vars m k tried_store other_store s attempt.split ((d, o where_to) ∷ known here)
+              candidate_same g x ys o attempt.owner owns attempt.owns at vars m k tried_store other_store s attempt.split ((d, o where_to) ∷ names_known here)
               (record { cell = is_cell; owner = attempt.agrees where_to (ap is_some i) }, known_tried) ((d, o where_to) ∷ here.looked_for) here.defined refl (record { cell = is_cell; owner = refl }, here_owned)
               Cons Cons a.cells a.condition a.body (split_in n (looking_for here d (o where_to)) (body_place q a.indices a.cells a.condition) a.body) (named_with here.looked_for (cells_in x a.cells) d (o where_to) (all_unnamed here.looked_for (cells_in x a.cells) d unmixed looks)) free_cells free_condition
               (unread_first x Cons _ _ (unread_second x Branch _ _ unread)) (unread_first x Cons _ _ (unread_second x Cons _ _ (unread_second x Branch _ _ unread)))

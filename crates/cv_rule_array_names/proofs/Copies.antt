@@ -84,8 +84,8 @@ module _ (g : Setting) (x : ℕ) (ys : List ℕ) (o : List ℕ → ℕ) (owns : 
   NoneAt q a e u =
       fits g.interpretation.parameter_value a.indices u ≡ true → is_candidate g at n (bound_to n (tuple at) (with_name names q a.indices) u) (second (copy_of names q a e)) ≡ false
 
-  abbrev pub offered : Bool → Bool → Candidate → List Candidate
-  offered fit is c = elim fit as (λ _. List Candidate) [ true ↦ (cond is (c ∷ []) []) | false ↦ [] ]
+  abbrev pub candidates_offered : Bool → Bool → Candidate → List Candidate
+  candidates_offered fit is c = elim fit as (λ _. List Candidate) [ true ↦ (cond is (c ∷ []) []) | false ↦ [] ]
 
   module _ (u : List ℕ) (q : ℕ) (a : Arm) (k : ℕ) (nth : IsNth k place branches q (arm_tree a)) where
     abbrev pub range : ℕ → ℕ
@@ -99,32 +99,32 @@ module _ (g : Setting) (x : ℕ) (ys : List ℕ) (o : List ℕ → ℕ) (owns : 
 
     pub one_copied : (e : Around) (j : ℕ) → IsAt j others (copy_of names q a e) → SameAt q a e u → (is_here ≡ true → Fact q a e u) → InOrder Copied (candidate g at m u k (arm_tree a)) (candidate g at n u j (copy_of names q a e))
     one_copied e j i same fact =
-        subst (λ b. InOrder Copied (candidate g at m u k (arm_tree a)) (offered b (is_there e) (record { branch = j; tuple = u }))) (fits_renamed names.variable (name_at names q) range a.indices u)
+        subst (λ b. InOrder Copied (candidate g at m u k (arm_tree a)) (candidates_offered b (is_there e) (record { branch = j; tuple = u }))) (fits_renamed names.variable (name_at names q) range a.indices u)
         (go (fits range a.indices u) refl)
       where
-        inner : (b : Bool) → is_here ≡ b → (c : Bool) → b ≡ c → fits range a.indices u ≡ true → InOrder Copied (offered true b (record { branch = k; tuple = u })) (offered true c (record { branch = j; tuple = u }))
+        inner : (b : Bool) → is_here ≡ b → (c : Bool) → b ≡ c → fits range a.indices u ≡ true → InOrder Copied (candidates_offered true b (record { branch = k; tuple = u })) (candidates_offered true c (record { branch = j; tuple = u }))
         inner true h true z f = (record { arm = a; stands = q; around = e; nth = nth; copy = i; tuple = refl; chosen = record { fitting = f; candidate = h }; fact = fact h }, tt)
         inner true h false z f = absurd (cc)
         inner false h true z f = absurd (cc)
         inner false h false z f = tt
 
-        go : (b : Bool) → fits range a.indices u ≡ b → InOrder Copied (offered b is_here (record { branch = k; tuple = u })) (offered b (is_there e) (record { branch = j; tuple = u }))
+        go : (b : Bool) → fits range a.indices u ≡ b → InOrder Copied (candidates_offered b is_here (record { branch = k; tuple = u })) (candidates_offered b (is_there e) (record { branch = j; tuple = u }))
         go true f = inner is_here refl (is_there e) (same f) f
         go false f = tt
 
     pub none_copied : (e : Around) (j : ℕ) → NoneAt q a e u → candidate g at n u j (copy_of names q a e) ≡ []
     none_copied e j none =
-        ap (λ b. offered b (is_there e) (record { branch = j; tuple = u })) (sym (fits_renamed names.variable (name_at names q) range a.indices u)) ∙ go (fits range a.indices u) refl
+        ap (λ b. candidates_offered b (is_there e) (record { branch = j; tuple = u })) (sym (fits_renamed names.variable (name_at names q) range a.indices u)) ∙ go (fits range a.indices u) refl
       where
-        go : (b : Bool) → fits range a.indices u ≡ b → offered b (is_there e) (record { branch = j; tuple = u }) ≡ []
-        go true f = ap (λ b. offered true b (record { branch = j; tuple = u })) (none f)
+        go : (b : Bool) → fits range a.indices u ≡ b → candidates_offered b (is_there e) (record { branch = j; tuple = u }) ≡ []
+        go true f = ap (λ b. candidates_offered true b (record { branch = j; tuple = u })) (none f)
         go false f = refl
 
     pub none_here : (fits range a.indices u ≡ true → is_here ≡ false) → candidate g at m u k (arm_tree a) ≡ []
     none_here none = go (fits range a.indices u) refl
       where
-        go : (b : Bool) → fits range a.indices u ≡ b → offered b is_here (record { branch = k; tuple = u }) ≡ []
-        go true f = ap (λ b. offered true b (record { branch = k; tuple = u })) (none f)
+        go : (b : Bool) → fits range a.indices u ≡ b → candidates_offered b is_here (record { branch = k; tuple = u }) ≡ []
+        go true f = ap (λ b. candidates_offered true b (record { branch = k; tuple = u })) (none f)
         go false f = refl
 
     -- of the copies with these names at most the owner's is one

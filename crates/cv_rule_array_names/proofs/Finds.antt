@@ -82,12 +82,12 @@ widest_copies size n q a d (f ∷ ds) rest =
     ap (max (widest_binder size (first (copy_of n q a d)))) (widest_copies size n q a f ds rest) ∙ max_twice _ (widest_binder size a.indices) (widest size rest) (widest_renamed n.variable (name_at n q) size a.indices)
 
 -- there is a copy at least
-record HasCopy (ds : List Around) : Type 0 where
-  one : Around
-  more : List Around
-  is : ds ≡ one ∷ more
+pub record HasCopy (ds : List Around) : Type 0 where
+  pub one : Around
+  pub more : List Around
+  pub is : ds ≡ one ∷ more
 
-has_copy : (n : Naming) (game : Tree) → IsSplitting game n → (e : Around) (w : Option Tree) → HasCopy (copies_for n e w)
+pub has_copy : (n : Naming) (game : Tree) → IsSplitting game n → (e : Around) (w : Option Tree) → HasCopy (copies_for n e w)
 has_copy n game p e None = record { one = e; more = []; is = refl }
 has_copy n game p e (Some c) = record { one = looking_for e c p.one; more = map (looking_for e c) p.more; is = ap (map (looking_for e c)) p.names }
 

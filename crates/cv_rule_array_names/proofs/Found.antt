@@ -21,9 +21,9 @@ pub record Tried (x : ℕ) (ys : List ℕ) (o : List ℕ → ℕ) (us : Tree) (h
 none_some : (q : Option ℕ) → q ≡ None → is_some q ≡ true → ⊥
 none_some q e f = both_ways (is_some q) (ap is_some e) f
 
-pub tried : (x : ℕ) (ys : List ℕ) (o : List ℕ → ℕ) → ((w : List ℕ) → is_name ys (o w) ≡ true) → (m n : Store) → AreSplit x ys o m n → (us : Tree) (vs u : List ℕ) (y : ℕ) → is_name ys y ≡ true → Free ys us → (is_bound us x ≡ true → m x u ≡ None)
+pub branch_tried : (x : ℕ) (ys : List ℕ) (o : List ℕ → ℕ) → ((w : List ℕ) → is_name ys (o w) ≡ true) → (m n : Store) → AreSplit x ys o m n → (us : Tree) (vs u : List ℕ) (y : ℕ) → is_name ys y ≡ true → Free ys us → (is_bound us x ≡ true → m x u ≡ None)
     → Tried x ys o us u y m (bound_to m u us vs) (bound_to n u (renamed x y us) vs)
-tried x ys o owns m n s us vs u y named f free = go (is_bound us x) refl
+branch_tried x ys o owns m n s us vs u y named f free = go (is_bound us x) refl
   where
     other : List ℕ → ℕ
     other w = cond (same_tuple w u) y (o w)

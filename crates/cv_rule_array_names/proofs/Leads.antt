@@ -22,10 +22,10 @@ use Rattle.cv_steps.proofs.Rows.{leads_same, unless_at_leads, unless_leads}
 use Rattle.cv_steps_laws.proofs.Keeping.{unqueried}
 use Rattle.cv_steps_laws.proofs.Unnamed.{asked_untested}
 use Rattle.cv_rule_array_names.specs.Cells.{first_mixed}
-use Rattle.cv_rule_array_names.specs.Owners.{exchanged, exchanged_tape, first_name, owner_in}
+use Rattle.cv_rule_array_names.specs.Owners.{exchanged_cell, exchanged_tape, first_name, owner_in}
 use Rattle.cv_rule_array_names.specs.Row.{array_names_row}
 use Rattle.cv_rule_array_names.specs.Sites.{AreNoConstants, Naming, are_apart, has_names, naming_of}
-use Rattle.cv_rule_array_names.specs.Splitting.{split}
+use Rattle.cv_rule_array_names.specs.Splitting.{split_game}
 use Rattle.cv_rule_array_names.proofs.Finds.{IsSplitting}
 use Rattle.cv_rule_array_names.proofs.Owners.{holds_exchanged}
 use Rattle.cv_rule_array_names.proofs.Places.{site_named, site_variable, unnamed_sites}
@@ -54,16 +54,16 @@ pub record IsLed (s : Scene) (x : ℕ) (ys : List ℕ) (next : Tree) : Type 0 wh
   pub apart : are_apart ys ≡ true
   pub unasked : is_queried s x ≡ false
   pub unmixed : first_mixed x 0 s.game ≡ None
-  pub leads : split x ys s.game ≡ next
+  pub leads : split_game x ys s.game ≡ next
 
-pub led : (s : Scene) (x : ℕ) (ys : List ℕ) (next : Tree) (cost : Cost) → array_names_row s x ys ≡ Leads next cost → IsLed s x ys next
-led s x ys next cost e =
+pub row_leads : (s : Scene) (x : ℕ) (ys : List ℕ) (next : Tree) (cost : Cost) → array_names_row s x ys ≡ Leads next cost → IsLed s x ys next
+row_leads s x ys next cost e =
     let r = unless_leads (has_names s x ys) 1 0 _ next cost e in
     let q = unless_leads (not (is_queried s x)) 2 0 _ next cost r.1 in
     let o = unless_at_leads 3 (first_mixed x 0 s.game) _ next cost q.1 in
-    go ys (sites_of s.game x) refl (and_parts (nat_lt 1 (length ys)) _ r.0) refl (not-true _ q.0) o.0 (leads_same (split x ys s.game) next Zero cost o.1)
+    go ys (sites_of s.game x) refl (and_parts (nat_lt 1 (length ys)) _ r.0) refl (not-true _ q.0) o.0 (leads_same (split_game x ys s.game) next Zero cost o.1)
   where
-    go : (zs : List ℕ) (ds : List (ℕ × Context)) → sites_of s.game x ≡ ds → (nat_lt 1 (length zs) ≡ true) × ((length (sites_of s.game x) == length zs) && (list_all (is_new s) zs && are_apart zs) ≡ true) → zs ≡ ys → is_queried s x ≡ false → first_mixed x 0 s.game ≡ None → split x ys s.game ≡ next → IsLed s x ys next
+    go : (zs : List ℕ) (ds : List (ℕ × Context)) → sites_of s.game x ≡ ds → (nat_lt 1 (length zs) ≡ true) × ((length (sites_of s.game x) == length zs) && (list_all (is_new s) zs && are_apart zs) ≡ true) → zs ≡ ys → is_queried s x ≡ false → first_mixed x 0 s.game ≡ None → split_game x ys s.game ≡ next → IsLed s x ys next
     go [] ds f n z u v w = absurd (both_ways false refl n.0)
     go (y ∷ zs) [] f n z u v w = absurd (let k : 0 ≡ suc (length zs) = ap length (sym f) ∙ eqb-true (length (sites_of s.game x)) (suc (length zs)) (and_parts (length (sites_of s.game x) == suc (length zs)) _ n.1).0 in (cc))
     go (y ∷ zs) (d ∷ ds) f n z u v w =
@@ -84,8 +84,8 @@ led s x ys next cost e =
           leads = w;
         }
 
-module _ (s : Scene) (x : ℕ) (ys : List ℕ) (next : Tree) (l : IsLed s x ys next) (well : IsWellFormed s.declarations s.game) where
-  free : Free ys s.game
+module _ (s : Scene) (x : ℕ) (ys : List ℕ) (next : Tree) (l : IsLed s x ys next) where
+  pub free : Free ys s.game
   free y h = not-true _ (and_parts (not (s.known y)) _ (l.new y h)).1
 
   pub splitting : IsSplitting s.game (naming_of s.game x ys)
@@ -99,8 +99,8 @@ module _ (s : Scene) (x : ℕ) (ys : List ℕ) (next : Tree) (l : IsLed s x ys n
     sites = λ q σ Γ h a b st e. site_named s.game x ys l.many q σ Γ h a b st e;
   }
 
-  pub known_variable : (i : Interpretation) → is_variable s.game x ≡ true
-  known_variable i = site_variable (setting_of s.declarations i) (is_variable s.game) s.game (well_game s.declarations (setting_of s.declarations i) s.game refl (game_context s.declarations s.game well)) x l.site l.sites l.there
+  pub known_variable : IsWellFormed s.declarations s.game → (i : Interpretation) → is_variable s.game x ≡ true
+  known_variable well i = site_variable (setting_of s.declarations i) (is_variable s.game) s.game (well_game s.declarations (setting_of s.declarations i) s.game refl (game_context s.declarations s.game well)) x l.site l.sites l.there
 
   -- the variable has a definition, so it is none of the new names
   pub old_name : is_name ys x ≡ false
@@ -126,13 +126,13 @@ module _ (s : Scene) (x : ℕ) (ys : List ℕ) (next : Tree) (l : IsLed s x ys n
 
 pub alike : (s : Scene) (x : ℕ) (ys : List ℕ) (next : Tree) (cost : Cost) → IsWellFormed s.declarations s.game → KnowsQueries s → AreNoConstants s ys → Unread x next → array_names_row s x ys ≡ Leads next cost
     → (i : Interpretation) (e : Experiment) (a : Adversary) (t : Tape) → IsAsked (queries_in s.declarations) e → holds_on (setting_of s.declarations i) e a s.game t ≡ holds_on (setting_of s.declarations i) e a next (exchanged_tape (setting_of s.declarations i) (mode_of e) a s.game x ys t)
-unfolding visits_of_run led splitting
+unfolding visits_of_run row_leads splitting
 alike s x ys next cost well knows constants unread row i e a t asked =
-    let l : IsLed s x ys next = led s x ys next cost row in
+    let l : IsLed s x ys next = row_leads s x ys next cost row in
     let g : Setting = setting_of s.declarations i in
     let n : Naming = naming_of s.game x ys in
     let start_of : List Visit = visits_of_run g (mode_of e) a s.game t in
     subst (λ z. holds_on g e a s.game t ≡ holds_on g e a z (exchanged_tape g (mode_of e) a s.game x ys t)) l.leads
-    (subst (λ z. holds_on g e a s.game t ≡ holds_on g e a (split x ys s.game) (λ c. t (exchanged x (λ w. owner_in n z start_of w) c))) (sym (ap first_name l.names))
-    (holds_exchanged s.declarations g s.game refl well n (splitting s x ys next l well) (known_variable s x ys next l well i) constants (old_name s x ys next l well) e a (asks_others s x ys next l well knows e asked)
+    (subst (λ z. holds_on g e a s.game t ≡ holds_on g e a (split_game x ys s.game) (λ c. t (exchanged_cell x (λ w. owner_in n z start_of w) c))) (sym (ap first_name l.names))
+    (holds_exchanged s.declarations g s.game refl well n (splitting s x ys next l) (known_variable s x ys next l well i) constants (old_name s x ys next l) e a (asks_others s x ys next l knows e asked)
     (subst (Unread x) (sym l.leads) unread) t))

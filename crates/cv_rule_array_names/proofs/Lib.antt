@@ -13,6 +13,4 @@ pub mod Runs
 pub mod Places
 pub mod Owners
 pub mod Leads
-pub mod Exchange
-pub mod Counting
 pub mod WorkedSplits

@@ -11,9 +11,9 @@ use Rattle.cv_meaning.specs.Memory.{Indices, Store}
 use Rattle.cv_meaning.specs.Terms.{is_one, value, values}
 use Rattle.cv_meaning.specs.Candidates.{are_assigned, is_assigned, is_candidate}
 use Rattle.cv_lists.proofs.Each.{AllByRecursion_weaker}
-use Rattle.cv_rule_array_names.specs.Cells.{are_mixed, called, cells_in, first_unnamed, is_cell_of, name_of, with_names}
+use Rattle.cv_rule_array_names.specs.Cells.{are_mixed, called_head, cells_in, first_unnamed, is_cell_of, name_of, with_names}
 use Rattle.cv_rule_array_names.proofs.Stores.{AreSplit, Free, free_first, free_second, head_free, is_name}
-use Rattle.cv_rule_array_names.proofs.Values.{AreVariables, IsOwned, Unread, told, tuple_in, unread_first, unread_head, unread_second, value_named, values_named}
+use Rattle.cv_rule_array_names.proofs.Values.{AreVariables, IsOwned, Unread, name_holds, tuple_in, unread_first, unread_head, unread_second, value_named, values_named}
 
 -- names of cells
 
@@ -96,7 +96,7 @@ smaller_named c y A (Node h a b) l =
     let e : name_of ((c, y) ∷ A) (Node h a b) ≡ name_of A (Node h a b) = ap (λ q. cond q (Some y) (name_of A (Node h a b))) (smaller_not c (Node h a b) l) in
     let i : with_names ((c, y) ∷ A) a ≡ with_names A a = smaller_named c y A a (part_smaller (nodes a) (nodes b) (nodes c) l) in
     let j : with_names ((c, y) ∷ A) b ≡ with_names A b = smaller_named c y A b (rest_smaller (nodes a) (nodes b) (nodes c) l) in
-    λ k. Node (called h (e k)) (i k) (j k)
+    λ k. Node (called_head h (e k)) (i k) (j k)
 
 below_read : (z : ℕ) (a b : Tree) → nodes a < nodes (Node (Read z) a b)
 unfolding nodes
@@ -119,15 +119,15 @@ module _ (g : Setting) (x : ℕ) (ys : List ℕ) (o r : List ℕ → ℕ) (owns 
   abbrev Tested : Tree × ℕ → Type 0
   Tested d = IsOwned g x ys o at k d
 
-  leaf_assigned : (y : ℕ) (a b : Tree) (q : Option ℕ) → is_name ys y ≡ false → head_reads_only (λ v. not (v == x)) (called (Leaf y) q) ≡ true → ((v : ℕ) → q ≡ Some v → Tested (Node (Leaf y) a b, v))
-      → (c d : Tree) → is_some (m y []) ≡ is_assigned g at n l (Node (called (Leaf y) q) c d)
+  leaf_assigned : (y : ℕ) (a b : Tree) (q : Option ℕ) → is_name ys y ≡ false → head_reads_only (λ v. not (v == x)) (called_head (Leaf y) q) ≡ true → ((v : ℕ) → q ≡ Some v → Tested (Node (Leaf y) a b, v))
+      → (c d : Tree) → is_some (m y []) ≡ is_assigned g at n l (Node (called_head (Leaf y) q) c d)
   leaf_assigned y a b None f e h c d = ap is_some (s.same y (not-true _ e) f [])
   leaf_assigned y a b (Some v) f e h c d =
       let t : Tested (Node (Leaf y) a b, v) = h v refl in
       ap (λ q. is_some (m q [])) (eqb-true y x t.cell) ∙ ap is_some (s.owned []) ∙ ap (λ q. is_some (n q [])) t.owner
 
-  read_assigned : (y : ℕ) (a b c : Tree) (q : Option ℕ) → is_name ys y ≡ false → head_reads_only (λ v. not (v == x)) (called (Read y) q) ≡ true → ((v : ℕ) → q ≡ Some v → Tested (Node (Read y) a b, v))
-      → values g at k a ≡ values g at l c → (d : Tree) → is_some (m y (values g at k a)) ≡ is_assigned g at n l (Node (called (Read y) q) c d)
+  read_assigned : (y : ℕ) (a b c : Tree) (q : Option ℕ) → is_name ys y ≡ false → head_reads_only (λ v. not (v == x)) (called_head (Read y) q) ≡ true → ((v : ℕ) → q ≡ Some v → Tested (Node (Read y) a b, v))
+      → values g at k a ≡ values g at l c → (d : Tree) → is_some (m y (values g at k a)) ≡ is_assigned g at n l (Node (called_head (Read y) q) c d)
   read_assigned y a b c None f e h i d = ap is_some (s.same y (not-true _ e) f (values g at k a) ∙ ap (n y) i)
   read_assigned y a b c (Some v) f e h i d =
       let t : Tested (Node (Read y) a b, v) = h v refl in
@@ -163,8 +163,8 @@ module _ (g : Setting) (x : ℕ) (ys : List ℕ) (o r : List ℕ → ℕ) (owns 
 
         first_tested : (v : ℕ) → name_of named c ≡ Some v → Tested (c, v)
         first_tested v i =
-            let d : Told (c, v) = told Told named c v owned i in
-            told Tested A c v t (sym (named_before A B c (this (is_cell_of x c) d.cell a)) ∙ ap (λ q. name_of q c) (sym e) ∙ i)
+            let d : Told (c, v) = name_holds Told named c v owned i in
+            name_holds Tested A c v t (sym (named_before A B c (this (is_cell_of x c) d.cell a)) ∙ ap (λ q. name_of q c) (sym e) ∙ i)
 
     pub candidate_same : (A B : List (Tree × ℕ)) → named ≡ A ++ B → AllByRecursion Tested A → (h i : Head) (cells c body other : Tree) → AreNamed A (cells_in x cells) → Free ys cells → Free ys c → Unread x (with_names named cells) → Unread x (with_names named c)
         → is_candidate g at m k (Node h cells (Node i c body)) ≡ is_candidate g at n l (Node h (with_names named cells) (Node i (with_names named c) other))
@@ -176,13 +176,13 @@ module _ (g : Setting) (x : ℕ) (ys : List ℕ) (o r : List ℕ → ℕ) (owns 
     unfolding with_names
     lone_cell Empty y e f u i = refl
     lone_cell (Node (Leaf v) a b) y e f u i =
-        ap (λ q. is_assigned g at n l (Node (called (Leaf v) (cond q (Some y) (name_of named (Node (Leaf v) a b)))) (with_names ((Node (Leaf v) a b, y) ∷ named) a) (with_names ((Node (Leaf v) a b, y) ∷ named) b))) (same_tree_self (Node (Leaf v) a b))
+        ap (λ q. is_assigned g at n l (Node (called_head (Leaf v) (cond q (Some y) (name_of named (Node (Leaf v) a b)))) (with_names ((Node (Leaf v) a b, y) ∷ named) a) (with_names ((Node (Leaf v) a b, y) ∷ named) b))) (same_tree_self (Node (Leaf v) a b))
         ∙ ap is_some i
     lone_cell (Node (Read v) a b) y e f u i =
         let small : with_names ((Node (Read v) a b, y) ∷ named) a ≡ with_names named a = smaller_named (Node (Read v) a b) y named a (below_read v a b) in
         let same : values g at k a ≡ values g at l (with_names ((Node (Read v) a b, y) ∷ named) a) =
         values_named g x ys r inner at vars k l z named owned a (free_first ys (Read v) a b f) (subst (λ q. Unread x q) small (unread_first x _ _ _ u)) ∙ ap (values g at l) (sym small) in
-        ap (λ q. is_assigned g at n l (Node (called (Read v) (cond q (Some y) (name_of named (Node (Read v) a b)))) (with_names ((Node (Read v) a b, y) ∷ named) a) (with_names ((Node (Read v) a b, y) ∷ named) b))) (same_tree_self (Node (Read v) a b))
+        ap (λ q. is_assigned g at n l (Node (called_head (Read v) (cond q (Some y) (name_of named (Node (Read v) a b)))) (with_names ((Node (Read v) a b, y) ∷ named) a) (with_names ((Node (Read v) a b, y) ∷ named) b))) (same_tree_self (Node (Read v) a b))
         ∙ ap (λ w. is_some (n y w)) (sym same) ∙ ap is_some i
     lone_cell (Node h a b) y e f u i = refl
 

@@ -27,7 +27,7 @@ use Rattle.cv_scope_runs.proofs.Plain.{game_context, game_plain, plain_no_calls}
 use Rattle.cv_scope_runs.proofs.ServeRuns.{VisitHolds, game_holds}
 use Rattle.cv_scope_runs.proofs.Standing.{Stands}
 use Rattle.cv_rule_array_names.specs.Sites.{Naming, name_at}
-use Rattle.cv_rule_array_names.specs.Owners.{exchanged, makes_at, owner_in}
+use Rattle.cv_rule_array_names.specs.Owners.{exchanged_cell, makes_at, owner_in}
 use Rattle.cv_rule_array_names.specs.Splitting.{nothing_around, split_in}
 use Rattle.cv_rule_array_names.proofs.Aligned.{AreTapes, is_moved}
 use Rattle.cv_rule_array_names.proofs.Finds.{IsSplitting}
@@ -44,7 +44,7 @@ name_apart ys y z e f = go (z == y) refl
     go true i = absurd (both_ways (is_name ys z) f (ap (is_name ys) (eqb-true z y i) ∙ e))
     go false i = i
 
-pub exchanged_tapes : (x : ℕ) (ys : List ℕ) (o : List ℕ → ℕ) → ((w : List ℕ) → is_name ys (o w) ≡ true) → is_name ys x ≡ false → (t : Tape) → AreTapes x ys o t (λ c. t (exchanged x o c))
+pub exchanged_tapes : (x : ℕ) (ys : List ℕ) (o : List ℕ → ℕ) → ((w : List ℕ) → is_name ys (o w) ≡ true) → is_name ys x ≡ false → (t : Tape) → AreTapes x ys o t (λ c. t (exchanged_cell x o c))
 exchanged_tapes x ys o owns old t = record {
   owned = λ w.
       let apart : (o w == x) ≡ false = sym_apart (o w) (name_apart ys (o w) x (owns w) old) in
@@ -59,10 +59,10 @@ exchanged_tapes x ys o owns old t = record {
         go true i = absurd (both_ways (x == y) e (eq-eqb x y (sym (eqb-true y x i))))
         go false i = i
 
-    new : (z : ℕ) (w : List ℕ) → ((z == x) ≡ false) × (is_name ys z ≡ false) → t (New_at z w) ≡ t (exchanged x o (New_at z w))
+    new : (z : ℕ) (w : List ℕ) → ((z == x) ≡ false) × (is_name ys z ≡ false) → t (New_at z w) ≡ t (exchanged_cell x o (New_at z w))
     new z w e = sym (ap (λ b. t (cond b (New_at (o w) w) (cond (z == o w) (New_at x w) (New_at z w)))) e.0 ∙ ap (λ b. t (cond b (New_at x w) (New_at z w))) (name_apart ys (o w) z (owns w) e.1))
 
-    other : (c : Cell) → is_moved x ys c ≡ false → t c ≡ t (exchanged x o c)
+    other : (c : Cell) → is_moved x ys c ≡ false → t c ≡ t (exchanged_cell x o c)
     other (New_at z w) e = new z w (or_parts (z == x) _ e)
     other (Find_at z w) e = refl
     other (Test_at w) e = refl
@@ -152,8 +152,8 @@ module _ (ds : List Declaration) (g : Setting) (game : Tree) (same : HasConstant
     pub owner_is_named : (w : List ℕ) → is_name n.names (owner w) ≡ true
     owner_is_named w = owner_named g (is_variable game) game fine n p the_visits holding w
 
-    pub expected : AllByRecursion (IsExpected g (is_variable game) game fine n p owner the_end) the_visits
-    expected =
+    pub visits_expected : AllByRecursion (IsExpected g (is_variable game) game fine n p owner the_end) the_visits
+    visits_expected =
         AllByRecursion_both Holding (λ v. Grows v × AssignsNew v × OwnUnassigned v × Owned g (is_variable game) game fine n p the_visits v) (IsExpected g (is_variable game) game fine n p owner the_end)
         (λ v h r. record { holds = h; new = r.1; own = r.2; kept = r.0.store; owned = r.3; vars = variables_of g (is_variable game) game fine n p known new v h }) the_visits holding
         (AllByRecursion_both Grows (λ v. AssignsNew v × OwnUnassigned v × Owned g (is_variable game) game fine n p the_visits v) (λ v. Grows v × AssignsNew v × OwnUnassigned v × Owned g (is_variable game) game fine n p the_visits v) (λ v h r. (h, r.0, r.1, r.2)) the_visits
@@ -165,8 +165,8 @@ module _ (ds : List Declaration) (g : Setting) (game : Tree) (same : HasConstant
 
   -- the second run reads the tape with the cells of owners in the places of the variable's
   pub holds_exchanged : (e : Experiment) (a : Adversary) → IsOther n.variable n.names (mode_of e) → Unread n.variable (split_in n nothing_around 0 game) → (t : Tape)
-      → holds_on g e a game t ≡ holds_on g e a (split_in n nothing_around 0 game) (λ c. t (exchanged n.variable (owner (mode_of e) a t) c))
+      → holds_on g e a game t ≡ holds_on g e a (split_in n nothing_around 0 game) (λ c. t (exchanged_cell n.variable (owner (mode_of e) a t) c))
   unfolding visits_of_run
   holds_exchanged e a other unread t =
-      holds_split g (is_variable game) game fine (plain_no_calls game (game_plain ds game well)) n p (owner (mode_of e) a t) (owner_is_named (mode_of e) a t) (the_end (mode_of e) a t) t (λ c. t (exchanged n.variable (owner (mode_of e) a t) c))
-      (exchanged_tapes n.variable n.names (owner (mode_of e) a t) (owner_is_named (mode_of e) a t) old t) e a other unread (expected (mode_of e) a t)
+      holds_split g (is_variable game) game fine (plain_no_calls game (game_plain ds game well)) n p (owner (mode_of e) a t) (owner_is_named (mode_of e) a t) (the_end (mode_of e) a t) t (λ c. t (exchanged_cell n.variable (owner (mode_of e) a t) c))
+      (exchanged_tapes n.variable n.names (owner (mode_of e) a t) (owner_is_named (mode_of e) a t) old t) e a other unread (visits_expected (mode_of e) a t)

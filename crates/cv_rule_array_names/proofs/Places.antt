@@ -4,13 +4,14 @@ use Rattle.std.proofs.lemmas.Bool.{both_ways, or_left, or_parts, or_right}
 use Rattle.std.proofs.lemmas.List.{map-append}
 use Rattle.std.specs.List.{list_any}
 use Rattle.cv_syntax_trees.specs.declared.head.Head.{Head}
-use Rattle.cv_syntax_trees.specs.declared.head.Head.TheVariants.{Binder, Branch, Call, Cons, In, Key, Let, New, Repl}
+use Rattle.cv_syntax_trees.specs.declared.head.Head.TheVariants.{Binder, Branch, Call, In, Key, Let, New, Repl}
 use Rattle.cv_syntax_trees.specs.Tree.{Tree, Empty, Node, first_place, second, second_place}
 use Rattle.cv_meaning.specs.Interpretation.{Setting}
 use Rattle.cv_meaning.specs.Terms.{found_in, or_zero}
+use Rattle.cv_scope_rules.proofs.Apart.{first_replications, second_replications}
 use Rattle.cv_scope_rules.specs.Above as above
 use Rattle.cv_scope_rules.specs.Behind.{behind_site, sites_in, sites_of}
-use Rattle.cv_scope_rules.specs.Context.{Context, first_context, first_position, item_context, nothing_known, replications_below, rest_context, second_context, second_position}
+use Rattle.cv_scope_rules.specs.Context.{Context, first_position, nothing_known, replications_below, second_position}
 use Rattle.cv_scope_rules.specs.Made.{is_bound, made_by}
 use Rattle.cv_scope_rules.specs.Phrases.{Phrase}
 use Rattle.cv_scope_rules.specs.Rules.{is_index}
@@ -27,14 +28,14 @@ use Rattle.cv_rule_array_names.proofs.Stores.{Free, is_name}
 
 -- places of definitions
 
-site_places : (x p : ℕ) → Tree → List ℕ
+unfoldable pub site_places : (x p : ℕ) → Tree → List ℕ
 site_places x p Empty = []
 site_places x p (Node h a b) = (cond (made_by h a (Variable x)) (p ∷ []) []) ++ (site_places x (first_place p h) a ++ site_places x (second_place p h a) b)
 
-abbrev place_of : ℕ × Context → ℕ
+abbrev pub place_of : ℕ × Context → ℕ
 place_of d = d.0
 
-same_places : (x : ℕ) (w : Position) (Γ : Context) (p : ℕ) (t : Tree) → map place_of (sites_in x w Γ p t) ≡ site_places x p t
+pub same_places : (x : ℕ) (w : Position) (Γ : Context) (p : ℕ) (t : Tree) → map place_of (sites_in x w Γ p t) ≡ site_places x p t
 unfolding sites_in site_places
 same_places x w Γ p Empty = refl
 same_places x w Γ p (Node h a b) =
@@ -52,10 +53,10 @@ same_places x w Γ p (Node h a b) =
 
 -- a place is one of them
 
-abbrev is_place : List ℕ → ℕ → Bool
+abbrev pub is_place : List ℕ → ℕ → Bool
 is_place ps q = list_any (λ p. p == q) ps
 
-place_left : (ps qs : List ℕ) (q : ℕ) → is_place ps q ≡ true → is_place (ps ++ qs) q ≡ true
+pub place_left : (ps qs : List ℕ) (q : ℕ) → is_place ps q ≡ true → is_place (ps ++ qs) q ≡ true
 place_left [] qs q e = absurd (both_ways false refl e)
 place_left (p ∷ ps) qs q e = go (p == q) (place_left ps qs q) e
   where
@@ -63,7 +64,7 @@ place_left (p ∷ ps) qs q e = go (p == q) (place_left ps qs q) e
     go true ih k = refl
     go false ih k = ih k
 
-place_right : (ps qs : List ℕ) (q : ℕ) → is_place qs q ≡ true → is_place (ps ++ qs) q ≡ true
+pub place_right : (ps qs : List ℕ) (q : ℕ) → is_place qs q ≡ true → is_place (ps ++ qs) q ≡ true
 place_right [] qs q e = e
 place_right (p ∷ ps) qs q e = or_right (p == q) (is_place (ps ++ qs) q) (place_right ps qs q e)
 
@@ -78,7 +79,7 @@ unfolding site_places
 place_there game x q σ Γ h a b st e =
     place_up game x q st (place_left (cond (made_by h a (Variable x)) (q ∷ []) []) _ q (ap (λ c. is_place (cond c (q ∷ []) []) q) e ∙ ap (λ c. c || false) (eq-eqb q q refl)))
 
-named_at : (ds : List (ℕ × Context)) (ys : List ℕ) (q : ℕ) → length ds ≡ length ys → is_place (map place_of ds) q ≡ true → is_name ys (or_zero (found_in (named_places ds ys) q)) ≡ true
+pub named_at : (ds : List (ℕ × Context)) (ys : List ℕ) (q : ℕ) → length ds ≡ length ys → is_place (map place_of ds) q ≡ true → is_name ys (or_zero (found_in (named_places ds ys) q)) ≡ true
 named_at [] ys q l e = absurd (both_ways false refl e)
 named_at (d ∷ ds) [] q l e = absurd (cc)
 named_at (d ∷ ds) (y ∷ ys) q l e = go (d.0 == q) (named_at ds ys q (let i : length ds ≡ length ys = cc in i)) e
@@ -112,26 +113,7 @@ module _ (g : Setting) (variable : ℕ → Bool) (game : Tree) (fine : Game g va
 
 -- no replication above a place has a new name
 
-rest_replications : (w : Position) (a : Tree) (Γ : Context) → (rest_context w a Γ).replications ≡ Γ.replications
-rest_replications position.Guards a Γ = refl
-rest_replications position.Guarded a Γ = refl
-rest_replications position.Cells a Γ = refl
-rest_replications w a Γ = refl
-
-item_replications : (w : Position) (Γ : Context) → (item_context w Γ).replications ≡ Γ.replications
-item_replications position.Bodies Γ = refl
-item_replications position.ElseBody Γ = refl
-item_replications w Γ = refl
-
-second_replications : (w : Position) (h : Head) (a : Tree) (Γ : Context) → (second_context w h a Γ).replications ≡ replications_below h Γ.replications
-second_replications w Cons a Γ = rest_replications w a Γ
-second_replications w h a Γ = refl
-
-first_replications : (w : Position) (h : Head) (Γ : Context) → (first_context w h Γ).replications ≡ Γ.replications
-first_replications w Cons Γ = item_replications w Γ
-first_replications w h Γ = refl
-
-index_pushed : (rs : List (ℕ × ℕ)) (i n y : ℕ) → is_index rs y ≡ false → (i == y) ≡ false → is_index (rs ++ (i, n) ∷ []) y ≡ false
+pub index_pushed : (rs : List (ℕ × ℕ)) (i n y : ℕ) → is_index rs y ≡ false → (i == y) ≡ false → is_index (rs ++ (i, n) ∷ []) y ≡ false
 index_pushed [] i n y e f = ap (λ b. b || false) f
 index_pushed (r ∷ rs) i n y e f = go (r.0 == y) (index_pushed rs i n y) e
   where

@@ -22,7 +22,7 @@ use Rattle.cv_scope_runs.proofs.Games.{Game}
 use Rattle.cv_scope_runs.proofs.Standing.{root}
 use Rattle.cv_rule_array_names.specs.Sites.{Naming}
 use Rattle.cv_rule_array_names.specs.Splitting.{nothing_around, split_in}
-use Rattle.cv_rule_array_names.proofs.Aligned.{AreLikeMemories, AreTapes, Expected, Go, Like, aligned, together}
+use Rattle.cv_rule_array_names.proofs.Aligned.{AreLikeMemories, AreTapes, Expected, Go, Like, services_aligned, together}
 use Rattle.cv_rule_array_names.proofs.Finds.{IsSplitting}
 use Rattle.cv_rule_array_names.proofs.Points.{opened_alike}
 use Rattle.cv_rule_array_names.proofs.Stores.{is_name}
@@ -67,7 +67,7 @@ module _ (g : Setting) (variable : ℕ → Bool) (game : Tree) (fine : Game g va
 
   simulation : (a : Adversary) (m : Mode) → IsOther n.variable n.names m → Unread n.variable next → AllByRecursion (Expected g variable game fine plain n p o owns end t u tapes) (visits_of_run g m a game t) → IsGameSimulation K L (Expected g variable game fine plain n p o owns end t u tapes) a g g m m game next t u
   simulation a m e unread visited = record {
-    steps = simulates K L (Go g variable game fine plain n p o owns end t u tapes) (Expected g variable game fine plain n p o owns end t u tapes) g g t u (aligned g variable game fine plain n p o owns end t u tapes) m m (begun_alike m e);
+    steps = simulates K L (Go g variable game fine plain n p o owns end t u tapes) (Expected g variable game fine plain n p o owns end t u tapes) g g t u (services_aligned g variable game fine plain n p o owns end t u tapes) m m (begun_alike m e);
     memory = record { store = record { same = λ z h f w. refl; owned = λ w. refl; others = λ y h w f. refl }; events = refl; arrays = refl };
     begun = opened_alike g variable game fine n p o end game 0 0 nothing_known [] [] nothing_around root (record { named = tt; found = tt; apart = tt }) (record { cells = tt; own = tt; facts = tt; events = tt })
         (record { replications = refl; looked_for = tt; defined = tt }) unread;

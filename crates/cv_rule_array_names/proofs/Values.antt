@@ -9,7 +9,7 @@ use Rattle.cv_syntax_trees.proofs.Equality.{same_tree_exact}
 use Rattle.cv_meaning.specs.Interpretation.{Setting}
 use Rattle.cv_meaning.specs.Memory.{Indices, Store}
 use Rattle.cv_meaning.specs.Terms.{bit, found_in, is_one, leaf_value, leaf_value_from, or_zero, value, values}
-use Rattle.cv_rule_array_names.specs.Cells.{called, is_cell_of, name_of, with_names}
+use Rattle.cv_rule_array_names.specs.Cells.{called_head, is_cell_of, name_of, with_names}
 use Rattle.cv_rule_array_names.proofs.Stores.{AreSplit, Free, free_first, free_second, head_free, is_name}
 
 -- the tuple of a cell
@@ -18,9 +18,9 @@ tuple_in g at m (Node (Read x) a b) = values g at m a
 tuple_in g at m t = []
 
 -- a name that is told of a cell is one of those
-pub told : (P : Tree × ℕ → Type 0) (named : List (Tree × ℕ)) (t : Tree) (y : ℕ) → AllByRecursion P named → name_of named t ≡ Some y → P (t, y)
-told P [] t y h e = absurd (cc)
-told P (d ∷ ds) t y h e = go (same_tree d.0 t) refl (told P ds t y h.1) e
+pub name_holds : (P : Tree × ℕ → Type 0) (named : List (Tree × ℕ)) (t : Tree) (y : ℕ) → AllByRecursion P named → name_of named t ≡ Some y → P (t, y)
+name_holds P [] t y h e = absurd (cc)
+name_holds P (d ∷ ds) t y h e = go (same_tree d.0 t) refl (name_holds P ds t y h.1) e
   where
     go : (b : Bool) → same_tree d.0 t ≡ b → (name_of ds t ≡ Some y → P (t, y)) → cond b (Some d.1) (name_of ds t) ≡ Some y → P (t, y)
     go true i ih k = let j : d.1 ≡ y = cc in subst (λ (q : Tree × ℕ). P q) (λ n. (same_tree_exact d.0 t i n, j n)) h.0
@@ -66,8 +66,8 @@ module _ (g : Setting) (x : ℕ) (ys : List ℕ) (o : List ℕ → ℕ) (owns : 
   plain_leaf : (k : Store) (z : ℕ) → found_in at z ≡ None → g.is_constant z ≡ false → leaf_value g at k z ≡ or_zero (k z [])
   plain_leaf k z e f = ap (leaf_value_from g k z) e ∙ ap (λ b. cond b (g.interpretation.table z []) (or_zero (k z []))) f
 
-  leaf_named : (z : ℕ) (a b : Tree) (q : Option ℕ) → is_name ys z ≡ false → head_reads_only (λ z. not (z == x)) (called (Leaf z) q) ≡ true → ((y : ℕ) → q ≡ Some y → Owned (Node (Leaf z) a b, y))
-      → (c e : Tree) → leaf_value g at m z ≡ value g at n (Node (called (Leaf z) q) c e)
+  leaf_named : (z : ℕ) (a b : Tree) (q : Option ℕ) → is_name ys z ≡ false → head_reads_only (λ z. not (z == x)) (called_head (Leaf z) q) ≡ true → ((y : ℕ) → q ≡ Some y → Owned (Node (Leaf z) a b, y))
+      → (c e : Tree) → leaf_value g at m z ≡ value g at n (Node (called_head (Leaf z) q) c e)
   unfolding value
   leaf_named z a b None f e h c l = leaf_from z (found_in at z) (s.same z (not-true _ e) f [])
   leaf_named z a b (Some y) f e h c l =
@@ -76,8 +76,8 @@ module _ (g : Setting) (x : ℕ) (ys : List ℕ) (o : List ℕ → ℕ) (owns : 
       ap (leaf_value g at m) same ∙ plain_leaf m x vars.no_index vars.no_constant ∙ ap or_zero (s.owned []) ∙ ap (λ k. or_zero (n k [])) d.owner
       ∙ sym (plain_leaf n y (vars.no_indices y (ap (is_name ys) (sym d.owner) ∙ owns [])) (vars.no_constants y (ap (is_name ys) (sym d.owner) ∙ owns [])))
 
-  read_named : (z : ℕ) (a b c : Tree) (q : Option ℕ) → is_name ys z ≡ false → head_reads_only (λ z. not (z == x)) (called (Read z) q) ≡ true → ((y : ℕ) → q ≡ Some y → Owned (Node (Read z) a b, y))
-      → values g at m a ≡ values g at n c → (e : Tree) → or_zero (m z (values g at m a)) ≡ value g at n (Node (called (Read z) q) c e)
+  read_named : (z : ℕ) (a b c : Tree) (q : Option ℕ) → is_name ys z ≡ false → head_reads_only (λ z. not (z == x)) (called_head (Read z) q) ≡ true → ((y : ℕ) → q ≡ Some y → Owned (Node (Read z) a b, y))
+      → values g at m a ≡ values g at n c → (e : Tree) → or_zero (m z (values g at m a)) ≡ value g at n (Node (called_head (Read z) q) c e)
   unfolding value
   read_named z a b c None f e h i r = ap or_zero (s.same z (not-true _ e) f (values g at m a) ∙ ap (n z) i)
   read_named z a b c (Some y) f e h i r =
@@ -92,10 +92,10 @@ module _ (g : Setting) (x : ℕ) (ys : List ℕ) (o : List ℕ → ℕ) (owns : 
       pub value_named : (t : Tree) → Free ys t → Unread x (with_names named t) → value g at m t ≡ value g at n (with_names named t)
       value_named Empty f u = refl
       value_named (Node (Leaf z) a b) f u =
-          leaf_named z a b (name_of named (Node (Leaf z) a b)) (head_free ys (Leaf z) a b z (eq-eqb z z refl) f) (unread_head x _ _ _ u) (λ y e. told Owned named (Node (Leaf z) a b) y owned e)
+          leaf_named z a b (name_of named (Node (Leaf z) a b)) (head_free ys (Leaf z) a b z (eq-eqb z z refl) f) (unread_head x _ _ _ u) (λ y e. name_holds Owned named (Node (Leaf z) a b) y owned e)
           (with_names named a) (with_names named b)
       value_named (Node (Read z) a b) f u =
-          read_named z a b (with_names named a) (name_of named (Node (Read z) a b)) (head_free ys (Read z) a b z (eq-eqb z z refl) f) (unread_head x _ _ _ u) (λ y e. told Owned named (Node (Read z) a b) y owned e)
+          read_named z a b (with_names named a) (name_of named (Node (Read z) a b)) (head_free ys (Read z) a b z (eq-eqb z z refl) f) (unread_head x _ _ _ u) (λ y e. name_holds Owned named (Node (Read z) a b) y owned e)
           (values_named a (free_first ys (Read z) a b f) (unread_first x _ _ _ u)) (with_names named b)
       value_named (Node (Apply q) a b) f u = ap (g.interpretation.table q) (values_named a (free_first ys (Apply q) a b f) (unread_first x _ _ _ u))
       value_named (Node Eq a b) f u = ap₂ (λ p q. bit (p == q)) (value_named a (free_first ys Eq a b f) (unread_first x _ _ _ u)) (value_named b (free_second ys Eq a b f) (unread_second x _ _ _ u))

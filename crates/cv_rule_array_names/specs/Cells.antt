@@ -40,12 +40,12 @@ first_unnamed named [] = None
 first_unnamed named (c ∷ cs) = if is_some (name_of named c) then first_unnamed named cs else Some c
 
 -- a read of the variable becomes one of the name
-abbrev pub called : Head → Option ℕ → Head
-called (Leaf x) (Some y) = Leaf y
-called (Read x) (Some y) = Read y
-called h name = h
+abbrev pub called_head : Head → Option ℕ → Head
+called_head (Leaf x) (Some y) = Leaf y
+called_head (Read x) (Some y) = Read y
+called_head h name = h
 
 -- the tree where each read of a cell that has a name is one of that name; cells in its indices too
 unfoldable pub with_names : List (Tree × ℕ) → Tree → Tree
 with_names named Empty = Empty
-with_names named (Node h a b) = Node (called h (name_of named (Node h a b))) (with_names named a) (with_names named b)
+with_names named (Node h a b) = Node (called_head h (name_of named (Node h a b))) (with_names named a) (with_names named b)

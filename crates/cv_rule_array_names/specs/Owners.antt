@@ -30,9 +30,9 @@ abbrev pub owner_on : Setting → Mode → Adversary → (game : Tree) → (x : 
 owner_on g m a game x ys t w = owner_in (naming_of game x ys) (first_name ys) (visits_of_run g m a game t) w
 
 -- the cells of the variable and of the owners change places
-abbrev pub exchanged : (x : ℕ) → (owner : List ℕ → ℕ) → Cell → Cell
-exchanged x o (New_at z w) = if z == x then New_at (o w) w else if z == o w then New_at x w else New_at z w
-exchanged x o c = c
+abbrev pub exchanged_cell : (x : ℕ) → (owner : List ℕ → ℕ) → Cell → Cell
+exchanged_cell x o (New_at z w) = if z == x then New_at (o w) w else if z == o w then New_at x w else New_at z w
+exchanged_cell x o c = c
 
 abbrev pub exchanged_tape : Setting → Mode → Adversary → (game : Tree) → (x : ℕ) → (names : List ℕ) → Tape → Tape
-exchanged_tape g m a game x ys t c = t (exchanged x (owner_on g m a game x ys t) c)
+exchanged_tape g m a game x ys t c = t (exchanged_cell x (owner_on g m a game x ys t) c)

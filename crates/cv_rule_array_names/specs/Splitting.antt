@@ -22,8 +22,8 @@ abbrev pub nothing_around : Around
 nothing_around = record { replications = []; looked_for = []; defined = [] }
 
 -- what is looked for comes first
-abbrev pub known : Around → List (Tree × ℕ)
-known e = e.looked_for ++ e.defined
+abbrev pub names_known : Around → List (Tree × ℕ)
+names_known e = e.looked_for ++ e.defined
 
 abbrev pub in_replication : Head → Around → Around
 in_replication h e = record e { replications = replications_below h e.replications }
@@ -71,7 +71,7 @@ unfoldable mutual
   split_in n e p (Node (In c) a b) = Node (In c) (message_with_name n p a) (split_in n (behind n p (In c) a e) (second_place p (In c) a) b)
   split_in n e p (Node (Find l) a b) = Node (Find l) (split_branches n e (first_place p (Find l)) a) (split_in n e (second_place p (Find l) a) b)
   split_in n e p (Node h a b) =
-      Node (renamed_head n.variable (name_at n p) h) (with_names (known e) a) (split_in n (behind n p h a e) (second_place p h a) b)
+      Node (renamed_head n.variable (name_at n p) h) (with_names (names_known e) a) (split_in n (behind n p h a e) (second_place p h a) b)
 
   -- the branches of a `find`
   pub split_branches : Naming → Around → (place : ℕ) → Tree → Tree
@@ -80,11 +80,11 @@ unfoldable mutual
       (map
       (λ d.
       Node Branch (with_name n (first_place p Cons) us)
-      (Node Cons (with_names (known d) cells)
-      (Node Cons (with_names (known d) c) (split_in n d (body_place (first_place p Cons) us cells c) body))))
+      (Node Cons (with_names (names_known d) cells)
+      (Node Cons (with_names (names_known d) c) (split_in n d (body_place (first_place p Cons) us cells c) body))))
       (copies_of n (behind n (first_place p Cons) Branch us e) cells))
       (split_branches n e (second_place p Cons (Node Branch us (Node Cons cells (Node Cons c body)))) more)
   split_branches n e p branches = branches
 
-abbrev pub split : (x : ℕ) → (names : List ℕ) → (game : Tree) → Tree
-split x ys game = split_in (naming_of game x ys) nothing_around 0 game
+abbrev pub split_game : (x : ℕ) → (names : List ℕ) → (game : Tree) → Tree
+split_game x ys game = split_in (naming_of game x ys) nothing_around 0 game

@@ -14,11 +14,11 @@ use Rattle.cv_steps.specs.Judgements.{Accepted, Judgement, Refused}
 use Rattle.cv_steps.specs.Steps.{Zero}
 
 -- type 0 [fixed]. type 5 [fixed]. param 2.
-abbrev pub declared : List Declaration
-declared = Named 0 (class.TypeName true false) Empty None ∷ Named 5 (class.TypeName true false) Empty None ∷ Named 2 class.Param Empty None ∷ []
+abbrev pub types_declared : List Declaration
+types_declared = Named 0 (class.TypeName true false) Empty None ∷ Named 5 (class.TypeName true false) Empty None ∷ Named 2 class.Param Empty None ∷ []
 
 abbrev pub scene_of : List Declaration → Tree → Scene
-scene_of queries game = record { declarations = declared ++ queries; known = λ x. nat_lt x 10; game = game }
+scene_of queries game = record { declarations = types_declared ++ queries; known = λ x. nat_lt x 10; game = game }
 
 -- !1<=2 in(3[1], ()); new 4: 5; and the process
 abbrev pub copies : Tree → Tree

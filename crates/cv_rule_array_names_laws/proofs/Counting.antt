@@ -19,10 +19,10 @@ use Rattle.cv_meaning_runs.specs.Agreement.{IsLocal}
 use Rattle.cv_meaning_runs.specs.Listed.{IsTestable, has_no_calls}
 use Rattle.cv_scope_rules.specs.Phrases.{HasConstantsOf, IsWellFormed}
 use Rattle.cv_scope_rules.specs.Scope.{is_variable}
-use Rattle.cv_rule_array_names.specs.Owners.{exchanged}
+use Rattle.cv_rule_array_names.specs.Owners.{exchanged_cell}
 use Rattle.cv_rule_array_names.specs.Sites.{Naming}
 use Rattle.cv_rule_array_names.specs.Splitting.{nothing_around, split_in}
-use Rattle.cv_rule_array_names.proofs.Exchange.{IsClosed, agree_before, each_of, of_each}
+use Rattle.cv_rule_array_names_laws.proofs.Exchange.{IsClosed, agree_before, each_of, of_each}
 use Rattle.cv_rule_array_names.proofs.Finds.{IsSplitting}
 use Rattle.cv_rule_array_names.proofs.Owners.{holds_exchanged, owner, owner_is_named}
 use Rattle.cv_rule_array_names.proofs.Runs.{IsOther}
@@ -38,22 +38,22 @@ pub record IsCommon (g : Setting) (m : Mode) (a : Adversary) (game next : Tree) 
   pub next_cells : AllByRecursion (Has (cells_of E)) (cells_of (cells g m a next))
 
 module _ (x : ℕ) (ys : List ℕ) (o : List ℕ → ℕ) (owns : (w : List ℕ) → is_name ys (o w) ≡ true) (g : Setting) (m : Mode) (a : Adversary) (game next : Tree) (E : List (Cell × ℕ)) (common : IsCommon g m a game next x ys E) where
-  sized : (c : Cell) (k : ℕ) → Has E (c, k) → Has E (exchanged x o c, k)
-  sized (New_at z w) k h = go (z == x) (z == o w) refl refl
+  exchanged_sized : (c : Cell) (k : ℕ) → Has E (c, k) → Has E (exchanged_cell x o c, k)
+  exchanged_sized (New_at z w) k h = go (z == x) (z == o w) refl refl
     where
       go : (b c : Bool) → (z == x) ≡ b → (z == o w) ≡ c → Has E (cond b (New_at (o w) w) (cond c (New_at x w) (New_at z w)), k)
       go true c e f = common.there (o w) w k (owns w) (subst (λ q. Has E (New_at q w, k)) (eqb-true z x e) h)
       go false true e f = common.back (o w) w k (owns w) (subst (λ q. Has E (New_at q w, k)) (eqb-true z (o w) f) h)
       go false false e f = h
-  sized (Find_at z w) k h = h
-  sized (Test_at w) k h = h
-  sized (Key_at w) k h = h
-  sized (Made_at z w j) k h = h
-  sized (Picked_at z w j) k h = h
-  sized (Coin j) k h = h
+  exchanged_sized (Find_at z w) k h = h
+  exchanged_sized (Test_at w) k h = h
+  exchanged_sized (Key_at w) k h = h
+  exchanged_sized (Made_at z w j) k h = h
+  exchanged_sized (Picked_at z w j) k h = h
+  exchanged_sized (Coin j) k h = h
 
-  pub within_kept : (t : Tape) → IsWithin E t → IsWithin E (λ c. t (exchanged x o c))
-  within_kept t h = of_each (λ (c : Cell × ℕ). t (exchanged x o c.0) < c.1) E (λ c k. each_of (λ (c : Cell × ℕ). t c.0 < c.1) E (exchanged x o c.0, c.1) h (sized c.0 c.1 k))
+  pub within_kept : (t : Tape) → IsWithin E t → IsWithin E (λ c. t (exchanged_cell x o c))
+  within_kept t h = of_each (λ (c : Cell × ℕ). t (exchanged_cell x o c.0) < c.1) E (λ c k. each_of (λ (c : Cell × ℕ). t c.0 < c.1) E (exchanged_cell x o c.0, c.1) h (exchanged_sized c.0 c.1 k))
 
 module _ (ds : List Declaration) (g : Setting) (game : Tree) (same : HasConstantsOf ds g) (well : IsWellFormed ds game) (n : Naming) (p : IsSplitting game n) (known : is_variable game n.variable ≡ true) (new : (y : ℕ) → is_name n.names y ≡ true → g.is_constant y ≡ false) (old : is_name n.names n.variable ≡ false)
     (e : Experiment) (a : Adversary) (local : IsLocal g.side) (testable : IsTestable (mode_of e) game) (E : List (Cell × ℕ)) where
@@ -70,7 +70,7 @@ module _ (ds : List Declaration) (g : Setting) (game : Tree) (same : HasConstant
   pub chance_split : IsOther n.variable n.names (mode_of e) → Unread n.variable next → IsTestable (mode_of e) next → has_no_calls next ≡ true → IsCommon g (mode_of e) a game next n.variable n.names E
       → chance E (holds_on g e a game) ≡ chance E (holds_on g e a next)
   chance_split other unread tests plain common =
-      chance_same_along E E (λ t c. t (exchanged n.variable (owner ds g game same well n p known new old (mode_of e) a t) c)) (holds_on g e a game) (holds_on g e a next) common.distinct
+      chance_same_along E E (λ t c. t (exchanged_cell n.variable (owner ds g game same well n p known new old (mode_of e) a t) c)) (holds_on g e a game) (holds_on g e a next) common.distinct
       (record {
         within = λ t h. within_kept n.variable n.names (owner ds g game same well n p known new old (mode_of e) a t) (owner_is_named ds g game same well n p known new old (mode_of e) a t) g (mode_of e) a game next E common t h;
         one_to_one = λ t u h k agree. agree_before ds g game same well n p known new old (mode_of e) a local testable E common.closed t u agree;

@@ -1,0 +1,11 @@
+pub mod Exchange
+pub mod Counting
+pub mod Parts
+pub mod CellsBefore
+pub mod CommonCells
+pub mod NotRead
+pub mod NamesUsed
+pub mod Kept
+pub mod Bound
+pub mod Keeping
+pub mod Sound
