@@ -1,12 +1,11 @@
 -- What a call adds, by its first argument.
-use Rattle.std.proofs.Common.{◌≡◌, ℕ, ◌≤◌, List, ◌∷◌, Some, None, refl, ap, sym, ◌∙◌, arith}
-use Rattle.cv_syntax_trees.specs.declared.head.Head.{Head}
+use Rattle.std.proofs.Common.{◌≡◌, ◌≤◌, List, ◌∷◌, Some, None, refl, ap, arith}
 use Rattle.cv_syntax_trees.specs.declared.head.Head.TheVariants.{Binder}
 use Rattle.cv_syntax_trees.specs.Tree.{Tree, Empty, Node, second, size}
 use Rattle.cv_meaning.specs.Correspondences.{typed_names}
 use Rattle.cv_meaning_contexts.specs.Inlined.{Caller, Drawn, Own, Scope}
 use Rattle.cv_inline_laws.specs.extents.Extents.{Extent, Measure, extent, of_body, of_call, under}
-use Rattle.cv_inline_measure.specs.Settings.{Argument, first_argument}
+use Rattle.cv_inline_sites.specs.Calls.{Argument, first_argument}
 
 module _ (μ : Measure) (d : Drawn) (ss : List Caller) (c : Caller) (Σ : Scope) (body : Tree) where
   abbrev called : Tree → Tree → Extent
@@ -21,13 +20,10 @@ module _ (μ : Measure) (d : Drawn) (ss : List Caller) (c : Caller) (Σ : Scope)
   pub with_argument : (bs ms : Tree) (a : Argument) → Some a ≡ first_argument bs ms → under μ 1 (extent μ a.term) (of_call μ d ss c ((a.name, Own) ∷ Σ) (typed_names a.binders) a.terms body) ≡ called bs ms
   unfolding of_call
   with_argument (Node (Binder x T) b more) (Node h m rest) a e =
-      let A : Argument = record { name = x; term = m; binders = more; terms = rest } in
+      let A : Argument = record { name = x; of = T; term = m; binders = more; terms = rest } in
       let g : a ≡ A = cc in
       ap (λ (r : Argument). under μ 1 (extent μ r.term) (of_call μ d ss c ((r.name, Own) ∷ Σ) (typed_names r.binders) r.terms body)) g
   with_argument bs ms a e = absurd (cc)
-
-pub no_terms : (t u a b : Tree) (h : Head) (x T : ℕ) → t ≡ Node h a b → h ≡ Binder x T → u ≡ Empty → None ≡ first_argument t u
-no_terms t u a b h x T e f g = sym (λ i. first_argument ((e ∙ ap (λ k. Node k a b) f) i) (g i))
 
 pub second_small : (t : Tree) → size (second t) ≤ size t
 unfolding size

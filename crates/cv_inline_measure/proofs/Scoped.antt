@@ -7,17 +7,18 @@ use Rattle.cv_syntax.specs.PoolTrees.{tree_at}
 use Rattle.cv_meaning_contexts.specs.Inlined.{Own, Scope}
 use Rattle.cv_inline.specs.declared.terms.caller.Caller.{Caller}
 use Rattle.cv_inline.specs.terms.Drawings.{drawn_in}
+use Rattle.cv_inline_sites.specs.Calls.{argument_in, first_argument}
+use Rattle.cv_inline_sites.specs.declared.calls.Argument as code
 use Rattle.cv_inline_sites.specs.declared.listing.subtree.Subtree.{Subtree}
 use Rattle.cv_inline_sites.specs.declared.pairs.pairs.Pair.{Pair}
 use Rattle.cv_inline_laws.specs.extents.Extents.{Extent, extent, under}
 use Rattle.cv_inline_measure.specs.declared.added.Added.{Added}
-use Rattle.cv_inline_measure.specs.declared.calls.Argument as code
 use Rattle.cv_inline_measure.specs.declared.measuring.Measure.{Measure}
 use Rattle.cv_inline_measure.specs.declared.measuring.Measure.TheVariants.{Nodes, Path}
 use Rattle.cv_inline_measure.specs.declared.setting.Setting.{Setting}
 use Rattle.cv_inline_measure.specs.Counts.{IsTold, measure_in}
 use Rattle.cv_syntax.specs.limits.Limits.{told}
-use Rattle.cv_inline_measure.specs.Settings.{argument_in, body_in, branch_in, branch_scope_in, call_in, caller_at, callers_at, first_argument, front_in, measure_of, trees_of}
+use Rattle.cv_inline_measure.specs.Settings.{body_in, branch_in, branch_scope_in, call_in, caller_at, callers_at, front_in, measure_of, trees_of}
 use Rattle.cv_inline_measure.proofs.Arguments.{with_argument, without_arguments}
 
 pub branch_told : (s : Setting) (c : Caller) (Σ Τ : Scope) (p : ℕ) (o : Caller) (q : Pair) (f : ℕ) (a r : Added) → Τ ≡ branch_scope_in s c Σ p o q → f ≡ told (front_in s c Τ p o q) → IsTold a (body_in s c Τ (record { place = q.place; root = q.body })) →

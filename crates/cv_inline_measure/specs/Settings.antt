@@ -1,10 +1,9 @@
 -- Bodies of a cryptographic step of the code, as those of the definitions. This profile's own.
-use Rattle.std.specs.Prelude.{◌≡◌, ◌<◌, ◌^◌, ℕ, [], ◌∷◌, List, All, flat_map, Some, None, Bool, true, false, length, Option}
+use Rattle.std.specs.Prelude.{◌≡◌, ◌<◌, ◌^◌, ℕ, [], ◌∷◌, List, All, flat_map, Bool, true, false, length, Option}
 use Rattle.cv_pool.specs.KindTree.{KindTree}
 use Rattle.cv_pool.specs.Nodes.{ChildBelow}
 use Rattle.cv_pool.specs.declared.node.NodeId.{NodeId}
-use Rattle.cv_syntax_trees.specs.declared.head.Head.TheVariants.{Binder}
-use Rattle.cv_syntax_trees.specs.Tree.{Tree, Node}
+use Rattle.cv_syntax_trees.specs.Tree.{Tree}
 use Rattle.cv_syntax.specs.PoolTrees.{tree_at}
 use Rattle.cv_meaning.specs.Correspondences.{typed_names}
 use Rattle.cv_meaning_contexts.specs.Groups.{Group}
@@ -23,7 +22,6 @@ use Rattle.cv_inline_sites.specs.declared.pairs.pairs.Pair.{Pair}
 use Rattle.cv_inline_laws.specs.extents.Extents as extents
 use Rattle.cv_inline_laws.specs.extents.Extents.{Extent, all_beside, front, of_body, of_branches, of_call, of_find, under}
 use Rattle.cv_inline_measure.specs.Counts.{IsTold, measure_in}
-use Rattle.cv_inline_measure.specs.declared.calls.Argument as code
 use Rattle.cv_inline_measure.specs.declared.found.Found.{Found}
 use Rattle.cv_inline_measure.specs.declared.setting.Setting.{Setting}
 
@@ -94,23 +92,9 @@ pub record IsFound (s : Setting) (f : Found) (es : List Extent) (otherwise : Ext
   pub any : f.any ≡ is_any es
   pub all : IsTold f.all (all_beside (measure_in s.measure) es otherwise)
 
--- the first argument of a call, and what stands behind
-pub record Argument : Type 0 where
-  pub name : ℕ
-  pub term : Tree
-  pub binders : Tree
-  pub terms : Tree
-
-abbrev pub first_argument : (binders terms : Tree) → Option Argument
-first_argument (Node (Binder x T) a more) (Node h m rest) = Some (record { name = x; term = m; binders = more; terms = rest })
-first_argument _ _ = None
-
 -- a find at a place, with its list of branches and its other body
 abbrev pub find_in : Setting → Caller → Scope → (p : ℕ) → (list otherwise : Subtree) → Extent
 find_in s c Σ p l o = of_find (measure_in s.measure) (flat_map (λ b. branches_in s c Σ p b l) (callers_in s.pool.now.trees s.callings.now)) (body_in s c Σ o)
-
-abbrev pub argument_in : List KindTree → code.Argument → Argument
-argument_in trees a = record { name = a.name; term = tree_at trees a.term; binders = tree_at trees a.binders; terms = tree_at trees a.terms }
 
 -- a call of a function with these arguments, of which the body stands here
 abbrev pub call_in : Setting → Caller → Scope → (binders terms : Option NodeId) → Subtree → Extent

@@ -1,9 +1,8 @@
-ghost use Rattle.std.specs.Prelude.{◌≡◌, ◌<◌, ◌≤◌, ◌+◌, ◌^◌, ℕ, List, Some, IfOk, IfSome, length, option_map, slice_get};
+ghost use Rattle.std.specs.Prelude.{◌≡◌, ◌<◌, ◌^◌, ℕ, List, Some, IfOk, option_map, slice_get};
 ghost use Rattle.cv_pool.specs.KindTree.{KindTree};
 ghost use Rattle.cv_pool.specs.Nodes.{ChildBelow};
 ghost use Rattle.cv_syntax_trees.specs.Tree.{size};
 ghost use Rattle.cv_syntax.specs.PoolTrees.{tree_at};
-ghost use Rattle.cv_syntax.specs.Walks.{above};
 ghost use Rattle.cv_meaning_contexts.specs.Groups.{Group};
 ghost use Rattle.cv_inline.specs.NextGame.{numbered};
 ghost use Rattle.cv_inline_laws.specs.extents.Extents.{of_call_at};
@@ -12,53 +11,19 @@ ghost use Rattle.cv_inline_sites.specs.listing.Callings.{IsLiveCalling, calling_
 ghost use Rattle.cv_inline_sites.specs.listing.Subtrees.{IsWithin};
 ghost use Rattle.cv_inline_measure.specs.Counts.{IsTold};
 ghost use Rattle.cv_inline_sites.specs.pairs.Scopes.{scope_at};
-ghost use Rattle.cv_inline_measure.specs.Settings.{IsLiveSetting, argument_in, call_in, calls_of, first_argument, live_in, measure_of};
+ghost use Rattle.cv_inline_measure.specs.Settings.{IsLiveSetting, call_in, calls_of, live_in, measure_of};
 
 use crate::added::{Added, of_result, under};
 use crate::bodies::body;
 use crate::setting::Setting;
 use crate::trees::extent_below;
 use cv_inline::terms::{Caller, Calling, Entry, Standing};
+use cv_inline_sites::calls::first_argument;
 use cv_inline_sites::listing::Subtree;
 use cv_inline_sites::pairs::with_name;
 use cv_syntax::children::{first_of, second_of};
 use cv_syntax::{Head, NodeId, Pool, read_node};
 use std::alloc::{AllocError, Global};
-
-/// The first argument of a call, with its name, and what stands behind.
-#[derive(Clone, Copy)]
-struct Argument {
-    name: u32,
-    term: Option<NodeId>,
-    binders: Option<NodeId>,
-    terms: Option<NodeId>,
-}
-
-/// The first argument of a call, where these are the arguments of the function and the terms that stand for them.
-fn first_argument(pool: &Pool, binders: Option<NodeId>, terms: Option<NodeId>) -> Option<Argument>
-    requires binders { ChildBelow (length pool.now.trees) binders }
-    requires terms { ChildBelow (length pool.now.trees) terms }
-    ensures argument { option_map (argument_in pool.now.trees) result
-        ≡ first_argument (tree_at pool.now.trees binders) (tree_at pool.now.trees terms) }
-    ensures term { IfSome result (λ a. ChildBelow (length pool.now.trees) a.term) }
-    ensures binders { IfSome result (λ a. ChildBelow (length pool.now.trees) a.binders) }
-    ensures terms { IfSome result (λ a. ChildBelow (length pool.now.trees) a.terms) }
-    ensures below { IfSome result (λ a. above a.binders < above binders) }
-    ensures small { IfSome result (λ a. size (tree_at pool.now.trees a.term)
-        + size (tree_at pool.now.trees a.terms) ≤ size (tree_at pool.now.trees terms)) }
-{
-    let binder = read_node(pool, binders?);
-    let Head::Binder(name, _) = binder.head else {
-        return None;
-    };
-    let item = read_node(pool, terms?);
-    Some(Argument {
-        name,
-        term: item.first,
-        binders: binder.second,
-        terms: item.second,
-    })
-}
 
 /// What a call adds: the arguments that are assigned, and then the body.
 fn call(

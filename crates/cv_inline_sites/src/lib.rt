@@ -2,6 +2,7 @@
 #![tactic(auto)]
 
 pub mod branches;
+pub mod calls;
 pub mod listing;
 pub mod pairs;
 pub mod results;

@@ -20,9 +20,11 @@ use cv_parse_notation::{Mark, Sign};
 use cv_syntax::Head;
 use cv_syntax::Make::{Nothing, Over};
 
-/// The rows of terms, processes, the bodies of functions and declarations. A row that stands before
-/// one that only opens a level is the inside of it.
-const ROWS: [&[Piece]; 190] = [
+/// How many rows there are. A row that stands before one that only opens a level is the inside of it.
+const ROWS: usize = 190;
+
+/// Terms, and types with their variables.
+const TERM_ROWS: [&[Piece]; 64] = [
     &[],
     &[Deeper(Next::Term, 37)],
     &[Items(Closing::Trees, Mark::Comma, 1)],
@@ -153,6 +155,10 @@ const ROWS: [&[Piece]; 190] = [
         Choice(Next::Word, 62, 54),
         Says(Mark::Close),
     ],
+];
+
+/// Processes.
+const PROCESS_ROWS: [&[Piece]; 64] = [
     &[Level(Next::Mark(Mark::Open), 63)],
     &[Deeper(Next::Mark(Mark::Open), 64)],
     &[
@@ -327,6 +333,10 @@ const ROWS: [&[Piece]; 190] = [
     &[Choice(Next::Mark(Mark::Out), 102, 124)],
     &[Choice(Next::Mark(Mark::Open), 98, 125)],
     &[Choice(Next::Mark(Mark::Yield), 96, 126)],
+];
+
+/// The bodies of functions, and their variables.
+const BODY_ROWS: [&[Piece]; 22] = [
     &[
         Says(Mark::New),
         Row(60),
@@ -398,6 +408,10 @@ const ROWS: [&[Piece]; 190] = [
         Says(Mark::Close),
     ],
     &[Level(Next::Mark(Mark::Open), 148)],
+];
+
+/// Declarations.
+const DECLARATION_ROWS: [&[Piece]; 40] = [
     &[Row(147), Says(Mark::Semicolon)],
     &[Says(Mark::Forall), Row(150)],
     &[
@@ -528,11 +542,17 @@ const ROWS: [&[Piece]; 190] = [
     ],
 ];
 
-/// The table.
-fn table() -> [&'static [Piece]; 190]
+/// The rows of terms, processes, the bodies of functions and declarations.
+fn table() -> [&'static [Piece]; ROWS]
     ensures { rows_of result ≡ term_rows }
 {
-    ROWS
+    let none: &[Piece] = &[];
+    let mut rows = [none; ROWS];
+    rows[..64].copy_from_slice(&TERM_ROWS);
+    rows[64..128].copy_from_slice(&PROCESS_ROWS);
+    rows[128..150].copy_from_slice(&BODY_ROWS);
+    rows[150..].copy_from_slice(&DECLARATION_ROWS);
+    rows
 }
 
 /// What a row of the table reads, where some names wait already.

@@ -1,11 +1,10 @@
 -- A call by its first argument.
-use Rattle.std.proofs.Common.{◌≡◌, ℕ, List, ◌∷◌, Some, None, refl, ap, sym, ◌∙◌}
-use Rattle.cv_syntax_trees.specs.declared.head.Head.{Head}
+use Rattle.std.proofs.Common.{◌≡◌, List, ◌∷◌, Some, None, refl, ap}
 use Rattle.cv_syntax_trees.specs.declared.head.Head.TheVariants.{Binder, Let}
 use Rattle.cv_syntax_trees.specs.Tree.{Tree, Empty, Node}
 use Rattle.cv_meaning.specs.Correspondences.{typed_names}
 use Rattle.cv_meaning_contexts.specs.Inlined.{Caller, Drawn, Own, Scope, inlined_body, inlined_call}
-use Rattle.cv_inline_walk.specs.pieces.Calls.{Argument, first_argument}
+use Rattle.cv_inline_sites.specs.Calls.{Argument, first_argument}
 
 module _ (d : Drawn) (ss : List Caller) (c : Caller) (Σ : Scope) (body : Tree) (k : Tree → Tree) where
   abbrev called : Tree → Tree → Tree
@@ -24,6 +23,3 @@ module _ (d : Drawn) (ss : List Caller) (c : Caller) (Σ : Scope) (body : Tree) 
       let g : a ≡ A = cc in
       ap (λ (r : Argument). Node (Let (d.variable c.number r.name) r.of) r.term (inlined_call d ss c ((r.name, Own) ∷ Σ) (typed_names r.binders) r.terms body k)) g
   with_argument bs ms a e = absurd (cc)
-
-pub no_terms : (t u a b : Tree) (h : Head) (x T : ℕ) → t ≡ Node h a b → h ≡ Binder x T → u ≡ Empty → None ≡ first_argument t u
-no_terms t u a b h x T e f g = sym (λ i. first_argument ((e ∙ ap (λ k. Node k a b) f) i) (g i))

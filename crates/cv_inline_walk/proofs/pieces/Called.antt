@@ -12,11 +12,12 @@ use Rattle.cv_inline.specs.declared.terms.caller.Caller.{Caller}
 use Rattle.cv_inline.specs.declared.terms.calling.Calling.{Calling}
 use Rattle.cv_inline.specs.terms.Callers.{caller_in}
 use Rattle.cv_inline_sites.specs.listing.Callings.{callers_in}
+use Rattle.cv_inline_sites.specs.Calls.{argument_in, first_argument}
+use Rattle.cv_inline_sites.specs.declared.calls.Argument as code
 use Rattle.cv_inline_sites.specs.declared.listing.subtree.Subtree.{Subtree}
-use Rattle.cv_inline_walk.specs.declared.pieces.calls.Argument as code
 use Rattle.cv_inline_walk.specs.declared.pieces.piece.Piece.{Piece}
 use Rattle.cv_inline_walk.specs.declared.pieces.piece.Piece.TheVariants as pieces
-use Rattle.cv_inline_walk.specs.pieces.Calls.{argument_in, body_in, first_argument}
+use Rattle.cv_inline_walk.specs.pieces.Calls.{body_in}
 use Rattle.cv_inline_walk.specs.pieces.Pieces.{Adds, AddsNodes, pieced}
 use Rattle.cv_inline_walk.proofs.pieces.Adding.{both, pushed}
 use Rattle.cv_inline_walk.proofs.pieces.Arguments.{with_argument, without_arguments}

@@ -1,8 +1,7 @@
 -- Calls, bodies and branches of the code as those of the definitions. This profile's own.
-use Rattle.std.specs.Prelude.{ℕ, List, Option, Some, None}
+use Rattle.std.specs.Prelude.{ℕ, List}
 use Rattle.cv_pool.specs.KindTree.{KindTree}
-use Rattle.cv_syntax_trees.specs.declared.head.Head.TheVariants.{Binder}
-use Rattle.cv_syntax_trees.specs.Tree.{Tree, Node}
+use Rattle.cv_syntax_trees.specs.Tree.{Tree}
 use Rattle.cv_syntax.specs.PoolTrees.{tree_at}
 use Rattle.cv_meaning_contexts.specs.Groups.{Group}
 use Rattle.cv_meaning_contexts.specs.Inlined.{Drawn, Scope, expanded, find_or_else, inlined_body, inlined_branch}
@@ -12,28 +11,12 @@ use Rattle.cv_inline.specs.declared.terms.calling.Calling.{Calling}
 use Rattle.cv_inline.specs.terms.Callers.{caller_in}
 use Rattle.cv_inline_sites.specs.declared.listing.subtree.Subtree.{Subtree}
 use Rattle.cv_inline_sites.specs.listing.Callings.{callers_in, callings_in}
-use Rattle.cv_inline_walk.specs.declared.pieces.calls.Argument as code
 use Rattle.cv_inline_walk.specs.declared.pieces.choices.Choice.{Choice}
 use Rattle.cv_inline_walk.specs.pieces.Choices.{branch_by, choice_in}
 
 -- the calls that are inlined, where x is the variable of the key
 abbrev pub inlined_calls : List KindTree → Drawn → (x : ℕ) → Group → List Calling → InlinedCalls
 inlined_calls trees d x g callings = record { drawn = d; key = x; group = g; callings = callings_in trees callings }
-
--- the first argument of a call, with its name and its type, and what stands behind
-pub record Argument : Type 0 where
-  pub name : ℕ
-  pub of : ℕ
-  pub term : Tree
-  pub binders : Tree
-  pub terms : Tree
-
-abbrev pub first_argument : (binders terms : Tree) → Option Argument
-first_argument (Node (Binder x T) a more) (Node h m rest) = Some (record { name = x; of = T; term = m; binders = more; terms = rest })
-first_argument _ _ = None
-
-abbrev pub argument_in : List KindTree → code.Argument → Argument
-argument_in trees a = record { name = a.name; of = a.of; term = tree_at trees a.term; binders = tree_at trees a.binders; terms = tree_at trees a.terms }
 
 -- a body in a scope, where k makes something of its results
 abbrev pub body_in : List KindTree → Drawn → List Calling → Caller → Scope → Subtree → (k : Tree → Tree) → Tree

@@ -1,8 +1,7 @@
-ghost use Rattle.std.specs.Prelude.{◌≡◌, ◌∷◌, ◌<◌, ℕ, List, Some, All, IfOk, IfSome, length, option_map};
+ghost use Rattle.std.specs.Prelude.{◌≡◌, ◌∷◌, ◌<◌, ℕ, List, Some, All, IfOk, length};
 ghost use Rattle.cv_pool.specs.Nodes.{ChildBelow};
 ghost use Rattle.cv_syntax_trees.specs.Tree.{Tree};
 ghost use Rattle.cv_syntax.specs.PoolTrees.{tree_at};
-ghost use Rattle.cv_syntax.specs.Walks.{above};
 ghost use Rattle.cv_meaning.specs.Correspondences.{typed_names};
 ghost use Rattle.cv_meaning_contexts.specs.Groups.{Group};
 ghost use Rattle.cv_meaning_contexts.specs.Inlined.{inlined_call};
@@ -11,7 +10,7 @@ ghost use Rattle.cv_inline.specs.terms.Callers.{caller_in};
 ghost use Rattle.cv_inline.specs.terms.Drawings.{drawn_in};
 ghost use Rattle.cv_inline_sites.specs.listing.Callings.{IsLiveCalling, callers_in, calling_in};
 ghost use Rattle.cv_inline_sites.specs.listing.Subtrees.{IsWithin};
-ghost use Rattle.cv_inline_walk.specs.pieces.Calls.{argument_in, first_argument, inlined_calls};
+ghost use Rattle.cv_inline_walk.specs.pieces.Calls.{inlined_calls};
 ghost use Rattle.cv_inline_sites.specs.pairs.Scopes.{scope_at};
 ghost use Rattle.cv_inline_walk.specs.pieces.Pieces.{Adds, IsLivePiece, pieced};
 
@@ -19,46 +18,12 @@ use crate::pieces::bodies::body;
 use crate::pieces::kinds::put;
 use crate::pieces::piece::Piece;
 use cv_inline::terms::{Caller, Calling, Drawing, Entry, Standing};
+use cv_inline_sites::calls::first_argument;
 use cv_inline_sites::listing::Subtree;
 use cv_inline_sites::pairs::with_name;
 use cv_syntax::children::{first_of, second_of};
 use cv_syntax::{Head, NodeId, Pool, read_node};
 use std::alloc::{AllocError, Global};
-
-/// The first argument of a call, with its name and its type, and what stands behind.
-#[derive(Clone, Copy)]
-struct Argument {
-    name: u32,
-    of: u32,
-    term: Option<NodeId>,
-    binders: Option<NodeId>,
-    terms: Option<NodeId>,
-}
-
-/// The first argument of a call, where these are the arguments of the function and the terms that stand for them.
-fn first_argument(pool: &Pool, binders: Option<NodeId>, terms: Option<NodeId>) -> Option<Argument>
-    requires binders { ChildBelow (length pool.now.trees) binders }
-    requires terms { ChildBelow (length pool.now.trees) terms }
-    ensures argument { option_map (argument_in pool.now.trees) result
-        ≡ first_argument (tree_at pool.now.trees binders) (tree_at pool.now.trees terms) }
-    ensures term { IfSome result (λ a. ChildBelow (length pool.now.trees) a.term) }
-    ensures binders { IfSome result (λ a. ChildBelow (length pool.now.trees) a.binders) }
-    ensures terms { IfSome result (λ a. ChildBelow (length pool.now.trees) a.terms) }
-    ensures below { IfSome result (λ a. above a.binders < above binders) }
-{
-    let binder = read_node(pool, binders?);
-    let Head::Binder(name, of) = binder.head else {
-        return None;
-    };
-    let item = read_node(pool, terms?);
-    Some(Argument {
-        name,
-        of,
-        term: item.first,
-        binders: binder.second,
-        terms: item.second,
-    })
-}
 
 /// Adds the pieces of a call: the arguments that are assigned, and then the body.
 fn call(
