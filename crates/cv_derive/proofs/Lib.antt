@@ -1,3 +1,4 @@
+mod Current
 mod Defining
 mod Descending
 mod Judging

@@ -1,4 +1,5 @@
 pub mod Following
+pub mod Current
 pub mod Leading
 pub mod Searching
 pub mod Seen

@@ -4,6 +4,7 @@
 mod checking;
 mod defined;
 mod facts;
+mod indices;
 mod known;
 mod laws;
 mod reasons;

@@ -1,13 +1,15 @@
-ghost use Rattle.std.specs.Prelude.{◌≡◌, ◌<◌, length};
+ghost use Rattle.std.specs.Prelude.{◌≡◌, ◌<◌, ◌&&◌, length};
 ghost use Rattle.std.specs.List.{list_any};
 ghost use Rattle.cv_pool.specs.Nodes.{ChildBelow};
 ghost use Rattle.cv_syntax_trees.specs.Tree.{same_tree};
 ghost use Rattle.cv_syntax.specs.PoolTrees.{tree_at};
+ghost use Rattle.cv_scene.specs.Late as late;
 ghost use Rattle.cv_scene.specs.Reasons as reasons;
 ghost use Rattle.cv_scene.specs.Reasons.{is_tree};
 ghost use Rattle.cv_scene.specs.Sights.{from_one, site_cells, site_facts};
 ghost use Rattle.cv_derive_rules.specs.Inferences as inferences;
 ghost use Rattle.cv_derive_rules.specs.Inferences.{number_of};
+ghost use Rattle.cv_derive_rules.specs.Truths.{no};
 ghost use Rattle.cv_derive_lines.specs.Views.{IsClaimBelow, statement_of};
 ghost use Rattle.cv_derive_lines.specs.citing.Bookmarks.{CanCite};
 ghost use Rattle.cv_derive.specs.Following.{follows_by};
@@ -15,19 +17,21 @@ ghost use Rattle.cv_derive.specs.Seen.{IsAssumedBelow, Sees, assumed_of, sight_o
 
 use crate::defined::is_defined_under;
 use crate::facts::is_fact_under;
+use crate::indices::are_current;
 use crate::sight::{Assumed, Sight};
 use crate::sites::{is_site_cell, is_site_fact};
 use cv_derive_lines::Claim;
 use cv_derive_lines::citing::{Citing, cited_cell, cited_term, number};
 use cv_derive_lines::terms::{is_congruent, is_instance, is_typed_claim};
-use cv_derive_reasons::cells::front;
+use cv_derive_reasons::cells::{front, variable};
 use cv_derive_reasons::inferences::{
     is_alone, is_both, is_left, is_over, is_reflexive, is_refuted, is_replaced_by, is_right_side,
     is_symmetric, is_transitive,
 };
 use cv_derive_reasons::injectivity::is_injective;
+use cv_derive_reasons::late::is_late;
 use cv_derive_reasons::truths::is_truth;
-use cv_syntax::children::{is_empty, read_child};
+use cv_syntax::children::{first_of, is_empty, read_child};
 use cv_syntax::{Head, NodeId, Opened, Pool, same};
 use cv_typing::Arrays;
 
@@ -119,6 +123,52 @@ fn is_there(s: &Sight, citing: &Citing, line: Option<NodeId>, cell: Option<NodeI
     }
 }
 
+/// Whether a cited cell is one at current indices of a variable that comes later than the place.
+fn is_late_cell(s: &Sight, citing: &Citing, line: Option<NodeId>, lines: Option<NodeId>) -> bool
+    requires sees { Sees s.now }
+    requires citing { CanCite (trees_of s.now) citing.now }
+    requires line { ChildBelow (length (trees_of s.now)) line }
+    requires lines { ChildBelow (length (trees_of s.now)) lines }
+    ensures { result ≡ late.is_late_cell (sight_of s.now) (visible_by s.now citing.now)
+        (inferences.cited_cell (visible_by s.now citing.now) (tree_at (trees_of s.now) line))
+        (tree_at (trees_of s.now) lines) }
+{
+    let pool = &s.work.pool;
+    let cell = cited_cell(pool, citing, line);
+    let Some(x) = variable(pool, cell) else {
+        return false;
+    };
+    if !is_late(pool, s.sizes, s.game, s.place, x) {
+        return false;
+    }
+    let indices = first_of(pool, cell);
+    are_current(pool, citing, s.replications, indices, lines)
+}
+
+/// Whether a term is `false`, and a cited cell one that isn't defined yet.
+fn is_early(
+    s: &Sight,
+    citing: &Citing,
+    line: Option<NodeId>,
+    lines: Option<NodeId>,
+    term: Option<NodeId>,
+) -> bool
+    requires sees { Sees s.now }
+    requires citing { CanCite (trees_of s.now) citing.now }
+    requires line { ChildBelow (length (trees_of s.now)) line }
+    requires lines { ChildBelow (length (trees_of s.now)) lines }
+    requires term { ChildBelow (length (trees_of s.now)) term }
+    ensures { result ≡ (same_tree (tree_at (trees_of s.now) term) no
+        && late.is_late_cell (sight_of s.now) (visible_by s.now citing.now)
+        (inferences.cited_cell (visible_by s.now citing.now) (tree_at (trees_of s.now) line))
+        (tree_at (trees_of s.now) lines)) }
+{
+    if !is_alone(&s.work.pool, Head::No, term) {
+        return false;
+    }
+    is_late_cell(s, citing, line, lines)
+}
+
 /// Whether a term is what is assumed.
 #[tactic(auto, using(crate::proofs::Patterns::assumptions))]
 fn is_assumed(pool: &Pool, assumed: Assumed, term: Option<NodeId>) -> bool
@@ -206,6 +256,7 @@ fn is_reason(
         Head::ByCong => is_congruent(pool, s.above, citing, node.first, term),
         Head::ByData => is_injective(s.work, term),
         Head::ByGiven => is_assumed(pool, assumed, term),
+        Head::ByLate => is_early(s, citing, node.first, node.second, term),
         _ => follows(s, citing, term, node),
     }
 }

@@ -4,7 +4,7 @@ use Rattle.std.proofs.lemmas.Bool.{both_ways, and_parts}
 use Rattle.std.specs.List.{AllByRecursion}
 use Rattle.cv_syntax_trees.specs.declared.head.Head.TheVariants as head
 use Rattle.cv_syntax_trees.specs.declared.head.Head.TheVariants.{Not}
-use Rattle.cv_syntax_trees.specs.Tree.{Tree, Empty, Node}
+use Rattle.cv_syntax_trees.specs.Tree.{Tree, Empty, Node, same_tree}
 use Rattle.cv_syntax_trees.proofs.Equality.{same_tree_exact}
 use Rattle.cv_meaning.specs.Interpretation.{Interpretation}
 use Rattle.cv_meaning.specs.Memory.{Indices, Store}
@@ -21,6 +21,7 @@ use Rattle.cv_scene.specs.Terms.{above_at, is_term_at, signature_in}
 use Rattle.cv_scene.specs.Derivations.{first_bad, first_bad_line, is_right_split, nothing_visible, unless, with_line}
 use Rattle.cv_derive_rules.specs.Ends.{ends_in, same_statement}
 use Rattle.cv_derive_rules.specs.Inferences.{Visible, number_of, cited_term}
+use Rattle.cv_derive_rules.specs.Truths.{no}
 use Rattle.cv_derive_rules.specs.Lines.{Lines, End, By, Cases, Statement, Holds, IsDefined, count, lines_of, statements}
 use Rattle.cv_scene.specs.Reasons.{is_reason, is_right}
 use Rattle.cv_scene.specs.Sights.{Sight, is_condition, is_typed}
@@ -69,6 +70,7 @@ module _ (s : Sight) (i : Interpretation) (at : Indices) (m n : Store) (r : IsRe
   term_holds a v t (Node head.ByLeft l b) h f k e = reasons.by_left s i at m n r term_for well model closed v f l (cited_term v l) t refl e
   term_holds a v t (Node head.ByRight l b) h f k e = reasons.by_right s i at m n r term_for well model closed v f l (cited_term v l) t refl e
   term_holds a v t (Node head.ByContra l b) h f k e = reasons.by_contra s i at m n r term_for well model closed v f l b (cited_term v l) (cited_term v b) t refl refl e
+  term_holds a v t (Node head.ByLate l ls) h f k e = absurd (reasons.by_late s i at m n r term_for well model closed v f l ls (and_parts (same_tree t no) _ e).1)
   term_holds a v t (Node head.ByExfalso l b) h f k e = absurd (reasons.said_no s i at m n r term_for well model closed v f l e)
   term_holds a v t (Node head.ByData l b) h f k e = by_data s i at m n r term_for well model closed t k e
   term_holds a v t (Node head.ByGiven l b) h f k e = reasons.by_given s i at m n r term_for well model closed v f a t h k e

@@ -1,5 +1,5 @@
 -- A line that is right by its reason is true, where the lines that it cites are.
-use Rattle.std.proofs.Common.{◌≡◌, ℕ, zero, suc, ◌<◌, Bool, true, false, cond, ◌&&◌, ◌||◌, ◌==◌, not, nat_lt, lt-ltb, List, [], ◌∷◌, map, zip, ◌⊎◌, inl, inr, Option, Some, None, refl, sym, ap, ap₂, subst, ◌∙◌, eqb-true, eq-eqb}
+use Rattle.std.proofs.Common.{◌≡◌, ℕ, zero, suc, ◌<◌, Bool, true, false, cond, is_some, ◌&&◌, ◌||◌, ◌==◌, not, nat_lt, lt-ltb, List, [], ◌∷◌, ◌++◌, map, zip, ◌⊎◌, inl, inr, Option, Some, None, refl, sym, ap, ap₂, subst, ◌∙◌, eqb-true, eq-eqb}
 use Rattle.std.specs.Prelude.{slice_get}
 use Rattle.std.proofs.lemmas.Bool.{both_ways, and_from, and_parts}
 use Rattle.std.specs.List.{AllByRecursion, list_any}
@@ -12,7 +12,7 @@ use Rattle.cv_syntax_trees.specs.Tree.{Tree, Empty, Node, bound_names, first, se
 use Rattle.cv_syntax_trees.proofs.Equality.{same_head_exact, same_tree_exact}
 use Rattle.cv_meaning.specs.Interpretation.{Interpretation, Setting, is_constant_of, setting_of}
 use Rattle.cv_meaning.specs.Memory.{Indices, Store, nowhere, tuple}
-use Rattle.cv_meaning.specs.Terms.{bit, found_in, is_one, leaf_value_from, or_zero, value, values}
+use Rattle.cv_meaning.specs.Terms.{bit, found_in, is_one, leaf_value, leaf_value_from, or_zero, value, values}
 use Rattle.cv_meaning.specs.Binders.{fits}
 use Rattle.cv_meaning.specs.Candidates.{is_assigned}
 use Rattle.cv_meaning.specs.Satisfies.{DeclarationHolds, EquationHolds, Satisfies}
@@ -24,6 +24,7 @@ use Rattle.cv_directory_sorts.specs.declared.sort.Sort.{Sort}
 use Rattle.cv_directory_sorts.specs.declared.sort.Sort.TheVariants.{BelowParameter, OfType}
 use Rattle.cv_typing_rules.specs.Signature.{sort_of}
 use Rattle.cv_directory_sorts.specs.Sorts.{same_sort}
+use Rattle.cv_scope_runs.specs.Promises.{AreIndicesOf}
 use Rattle.cv_typing_runs.specs.Games.{HasArguments, context_of, sort_of_meaning}
 use Rattle.cv_typing_runs.proofs.Terms.{same_sorts}
 use Rattle.cv_scene.specs.Terms.{above_at, is_sort, is_term_at, replications_at, signature_in}
@@ -31,6 +32,7 @@ use Rattle.cv_derive_laws.proofs.stores.Terms.{term_sorted}
 use Rattle.cv_derive_rules.specs.Given.{with_given}
 use Rattle.cv_derive_rules.specs.Inferences.{Visible, are_equal_by, cell_in, cited_cell, is_both, is_left, is_refuted, is_reflexive, is_replaced_by, is_right_side, is_symmetric, is_transitive, number_of, cited_term, term_in}
 use Rattle.cv_derive_rules.specs.Lines.{Statement, Holds, IsDefined}
+use Rattle.cv_scene.specs.Late.{are_current, index_term, is_late, is_late_cell, is_next, without_next}
 use Rattle.cv_scene.specs.Reasons.{are_congruent_by, are_of_types, arguments, equations_in, is_congruent, is_instance, is_reason_of_cell, is_tree}
 use Rattle.cv_scene.specs.Sights.{Sight, from_one, is_cell_at, is_term_of, is_typed, site_cells, site_facts}
 use Rattle.cv_derive_rules.specs.Truths.{is_truth, no}
@@ -290,6 +292,53 @@ module _ (s : Sight) (i : Interpretation) (at : Indices) (m n : Store) (r : IsRe
 
     pub by_again : (l t : Tree) → IsTerm t → same_tree t (cited_term v l) ≡ true → V t ≡ 1
     by_again l t k e = let q = same_tree_exact t (cited_term v l) e in ap V q ∙ said_true l (λ z. term_there t k (q ∙ z))
+
+    -- what comes later than the place isn't assigned
+
+    index_value : (q p : ℕ × ℕ) → p.0 ≡ q.0 → found_in at p.0 ≡ Some p.1 → V (index_term q) ≡ p.1
+    unfolding value
+    index_value q p e f = ap (leaf_value g at n) (sym e) ∙ ap (leaf_value_from g n p.0) f
+
+    next_said : (ls : List Tree) (a b : Tree) → is_next v ls (Node Eq a b) ≡ true → V a ≡ V b
+    next_said [] a b e = absurd (both_ways false refl e)
+    next_said (l ∷ ls) a b e = equals a b (said_is l (Node Eq a b) Eq a b (same_tree_exact (cited_term v l) (Node Eq a b) e) refl)
+
+    -- terms that are the outermost current indices have their values
+    current_values : (qs : List (ℕ × ℕ)) (ix : Indices) → AreIndicesOf g ix qs → AllByRecursion (λ (p : ℕ × ℕ). found_in at p.0 ≡ Some p.1) ix → (ms ls : List Tree) → are_current v qs ms ls ≡ true → (more : List ℕ) × (map V ms ++ more ≡ tuple ix)
+    current_values qs ix k f [] ls e = (tuple ix, refl)
+    current_values [] ix k f (a ∷ ms) ls e = absurd (both_ways false refl e)
+    current_values (q ∷ qs) [] k f (a ∷ ms) ls e = absurd k
+    current_values (q ∷ qs) (p ∷ ix) k f (a ∷ ms) ls e = go (same_tree a (index_term q)) refl e (λ js h. current_values qs ix k.2 f.1 ms js h)
+      where
+        behind : ((js : List Tree) → are_current v qs ms js ≡ true → (more : List ℕ) × (map V ms ++ more ≡ tuple ix)) → (js : List Tree) → are_current v qs ms js ≡ true → V a ≡ p.1 → (more : List ℕ) × (V a ∷ (map V ms ++ more) ≡ p.1 ∷ tuple ix)
+        behind rest js h z = let y = rest js h in (y.0, ap₂ ◌∷◌ z y.1)
+
+        go : (b : Bool) → same_tree a (index_term q) ≡ b → cond b (are_current v qs ms ls) (is_next v ls (Node Eq a (index_term q)) && are_current v qs ms (without_next ls)) ≡ true → ((js : List Tree) → are_current v qs ms js ≡ true → (more : List ℕ) × (map V ms ++ more ≡ tuple ix)) → (more : List ℕ) × (V a ∷ (map V ms ++ more) ≡ p.1 ∷ tuple ix)
+        go true h z rest = behind rest ls z (ap V (same_tree_exact a (index_term q) h) ∙ index_value q p k.0 f.0)
+        go false h z rest =
+            let w = and_parts (is_next v ls (Node Eq a (index_term q))) _ z in
+            behind rest (without_next ls) w.1 (next_said ls a (index_term q) w.0 ∙ index_value q p k.0 f.0)
+
+    unassigned : (o : Option ℕ) → o ≡ None → is_some o ≡ true → ⊥
+    unassigned o e f = both_ways (is_some o) (ap is_some e) f
+
+    late_cell : (d ls : Tree) → is_assigned g at m n d ≡ true → is_late_cell s v d ls ≡ true → ⊥
+    late_cell Empty ls h e = both_ways false refl e
+    late_cell (Node (Leaf y) a b) ls h e =
+        let p = and_parts (is_late y s.scene.game s.place) _ e in
+        unassigned (m y []) (r.late y [] (tuple at) p.0 refl) h
+    late_cell (Node (Read y) a b) ls h e =
+        let p = and_parts (is_late y s.scene.game s.place) _ e in
+        let q = current_values (replications_at s.scene s.place) at r.indices r.found (items a) (items ls) p.1 in
+        unassigned (m y (values g at n a)) (r.late y (values g at n a) q.0 p.0 (ap (λ us. us ++ q.0) (items_values a) ∙ q.1)) h
+    late_cell (Node k a b) ls h e = both_ways false refl h
+
+    late_line : (d ls : Tree) → ((d ≡ Empty → ⊥) → IsFine (IsDefined d)) → is_late_cell s v d ls ≡ true → ⊥
+    late_line Empty ls f e = both_ways false refl e
+    late_line (Node k a b) ls f e = late_cell (Node k a b) ls (f (λ z. cc)).holds e
+
+    pub by_late : (l ls : Tree) → is_late_cell s v (cited_cell v l) ls ≡ true → ⊥
+    by_late l ls e = late_line (cited_cell v l) ls (cell_said l) e
 
     pub by_given : (a t : Tree) → IsAssumed a → IsTerm t → same_tree t a ≡ true → V t ≡ 1
     by_given a t h k e = let q = same_tree_exact t a e in ap V q ∙ h (λ z. term_there t k (q ∙ z))

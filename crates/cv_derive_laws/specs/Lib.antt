@@ -1,3 +1,4 @@
 pub mod stores
+pub mod late
 pub mod reached
 pub mod worked

@@ -1,6 +1,7 @@
 // The soundness of derivations: what they say is true.
 #![tactic(auto)]
 
+pub mod late;
 pub mod reached;
 pub mod stores;
 pub mod worked;

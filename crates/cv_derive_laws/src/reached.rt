@@ -21,6 +21,7 @@ ghost use Rattle.cv_derive_laws.specs.stores.Holding.{HoldAt, HoldAtConditions, 
 ghost use Rattle.cv_derive_laws.specs.stores.Soundness.{DerivationsHold, DerivedBodiesAreUnreached};
 ghost use Rattle.cv_derive_laws.specs.stores.Unreached.{DerivesFalse, HasNoneAt, IsElsewhere};
 
+use crate::late::late_variables_are_unassigned;
 use crate::stores::{
     cells_stand_between_stores, sites_stand_at_candidates, stores_are_typed_at_each_visit,
 };
@@ -57,6 +58,7 @@ pub fn derivations_hold_at_visits()
     sites_stand_at_candidates();
     cells_stand_between_stores();
     cells_are_assigned_once();
+    late_variables_are_unassigned();
 }
 
 /// So what a derivation ends with is true wherever its lines are.

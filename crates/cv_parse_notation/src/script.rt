@@ -59,6 +59,7 @@ pub enum ScriptWord {
     /// The word `here2`.
     OtherHere,
     Same,
+    Late,
 }
 
 impl ScriptWord {
@@ -118,6 +119,7 @@ impl ScriptWord {
             ScriptWord::OtherFact => 48,
             ScriptWord::OtherHere => 49,
             ScriptWord::Same => 50,
+            ScriptWord::Late => 51,
         }
     }
 }

@@ -268,6 +268,7 @@ is_text script.Again e = record { token = refl; no_mark = refl; no_find = refl; 
 is_text script.OtherFact e = record { token = refl; no_mark = refl; no_find = refl; no_collision = refl; begins = refl; ends = refl }
 is_text script.OtherHere e = record { token = refl; no_mark = refl; no_find = refl; no_collision = refl; begins = refl; ends = refl }
 is_text script.Same e = record { token = refl; no_mark = refl; no_find = refl; no_collision = refl; begins = refl; ends = refl }
+is_text script.Late e = record { token = refl; no_mark = refl; no_find = refl; no_collision = refl; begins = refl; ends = refl }
 
 word_steps : {names behind : List (List ℕ)} → AreNames names → (w : ScriptWord) → IsText (word_spelling w) → (before : List (List ℕ)) (counts : _) (next : List ℕ) → IsGrown names before → Steps behind before counts kind.Ident (word_spelling w) next (sign.Word (place_of (with_all_words behind) (word_spelling w)) w)
 word_steps {behind = behind} are w is before counts next g =

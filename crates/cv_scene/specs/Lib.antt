@@ -1,6 +1,7 @@
 pub mod Scenes
 pub mod Terms
 pub mod Sights
+pub mod Late
 pub mod Reasons
 pub mod Derivations
 pub mod Pruning

@@ -16,6 +16,7 @@ use Rattle.cv_scene.specs.Terms.{replications_at}
 use Rattle.cv_derive_rules.specs.Given.{with_given}
 use Rattle.cv_derive_rules.specs.Inferences.{Visible, are_equal_by, cited_cell, equations_of, is_both, is_left, is_refuted, is_reflexive, is_replaced_by, is_right_side, is_symmetric, is_transitive, number_of, cited_term}
 use Rattle.cv_derive_rules.specs.Lines.{Statement, Holds, IsDefined}
+use Rattle.cv_scene.specs.Late.{is_late_cell}
 use Rattle.cv_scene.specs.Sights.{Sight, from_one, is_term_of, is_typed, site_cells, site_facts}
 use Rattle.cv_derive_rules.specs.Truths.{is_truth, no}
 
@@ -85,6 +86,7 @@ is_reason s g v t (Node head.ByAnd l k) = is_both (cited_term v l) (cited_term v
 is_reason s g v t (Node head.ByLeft l b) = is_left (cited_term v l) t
 is_reason s g v t (Node head.ByRight l b) = is_right_side (cited_term v l) t
 is_reason s g v t (Node head.ByContra l k) = is_refuted (cited_term v l) (cited_term v k) t
+is_reason s g v t (Node head.ByLate l ls) = same_tree t no && is_late_cell s v (cited_cell v l) ls
 is_reason s g v t (Node head.ByExfalso l b) = same_tree (cited_term v l) no
 is_reason s g v t (Node head.ByData a b) = is_injective s t
 is_reason s g v t (Node head.ByGiven a b) = same_tree t g

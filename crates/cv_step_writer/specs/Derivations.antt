@@ -36,6 +36,7 @@ reason_tree trees (reason.OtherFact k) = over head.ByOtherFact (number k ∷ [])
 reason_tree trees reason.OtherHere = over head.ByOtherHere []
 reason_tree trees (reason.Same k) = over head.BySame (number k ∷ [])
 reason_tree trees (reason.Distinct l d e k) = over head.ByDistinct (number l ∷ number d ∷ number e ∷ number k ∷ [])
+reason_tree trees (reason.Late l ls) = over head.ByLate (number l ∷ numbers ls.items ∷ [])
 
 abbrev pub line_tree : List KindTree → Line → Tree
 line_tree trees (line.Holds m by) = over head.Line (term trees m ∷ reason_tree trees by ∷ [])

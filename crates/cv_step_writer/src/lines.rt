@@ -27,6 +27,8 @@ pub enum Reason {
     OtherHere,
     Same(u64),
     Distinct(u64, u64, u64, u64),
+    /// The line of the cell, and those of its indices.
+    Late(u64, Vec<u64>),
 }
 
 /// A line of a derivation, over terms and cells that stand in the pool.

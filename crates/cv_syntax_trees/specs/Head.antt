@@ -3,7 +3,7 @@ use Rattle.std.specs.Prelude.{◌≡◌, ℕ, ◌+◌, ◌*◌, ◌/◌, ◌%◌
 use Rattle.std.proofs.Common.{ap, arith}
 use Rattle.cv_syntax_trees.specs.declared.head.Code.{Code}
 use Rattle.cv_syntax_trees.specs.declared.head.Head.{Head}
-use Rattle.cv_syntax_trees.specs.declared.head.Head.TheVariants.{Stop, Yield, Par, Repl, In, Out, Event, New, Let, If, Find, Branch, Leaf, Read, Apply, Eq, And, Or, Not, Yes, No, Cons, Binder, Name, Number, Forall, Query, Occurs, OccursOnce, Secret, SecretOnce, Equivalence, Bound, Single, Oracle, RenameStep, RewriteStep, PruneStep, PickStep, MergeStep, SplitStep, LetStep, NewStep, UnletStep, UnnewStep, MoveStep, ArrayRenameStep, CodefStep, BirthdayStep, GuessStep, FreshStep, CryptoStep, SuccessStep, SimplifyStep, ThenPart, ElsePart, AddPart, DropPart, Line, Defined, Cases, Primed, ByFact, ByHere, ByOf, BySite, ByEquation, ByRefl, BySym, ByTrans, ByCong, ByMp, ByAnd, ByLeft, ByRight, ByContra, ByExfalso, ByData, ByGiven, ByAgain, ByBool, ByOtherFact, ByOtherHere, BySame, ByDistinct, EventsCertificate, SecretCertificate, AtEntry, NeverEntry, WithEntry, AboveRoute, CellRoute, HoldsRoute, DistinctPart, Pair, SecretPair, Key, Call}
+use Rattle.cv_syntax_trees.specs.declared.head.Head.TheVariants.{Stop, Yield, Par, Repl, In, Out, Event, New, Let, If, Find, Branch, Leaf, Read, Apply, Eq, And, Or, Not, Yes, No, Cons, Binder, Name, Number, Forall, Query, Occurs, OccursOnce, Secret, SecretOnce, Equivalence, Bound, Single, Oracle, RenameStep, RewriteStep, PruneStep, PickStep, MergeStep, SplitStep, LetStep, NewStep, UnletStep, UnnewStep, MoveStep, ArrayRenameStep, CodefStep, BirthdayStep, GuessStep, FreshStep, CryptoStep, SuccessStep, SimplifyStep, ThenPart, ElsePart, AddPart, DropPart, Line, Defined, Cases, Primed, ByFact, ByHere, ByOf, BySite, ByEquation, ByRefl, BySym, ByTrans, ByCong, ByMp, ByAnd, ByLeft, ByRight, ByContra, ByExfalso, ByData, ByGiven, ByAgain, ByBool, ByOtherFact, ByOtherHere, BySame, ByDistinct, ByLate, EventsCertificate, SecretCertificate, AtEntry, NeverEntry, WithEntry, AboveRoute, CellRoute, HoldsRoute, DistinctPart, Pair, SecretPair, Key, Call}
 
 -- a tag and two numbers below 2 ^ 32
 abbrev pub numbered : ℕ → ℕ → ℕ → Code
@@ -100,6 +100,7 @@ code ByOtherFact = numbered 81 0 0
 code ByOtherHere = numbered 82 0 0
 code BySame = numbered 83 0 0
 code ByDistinct = numbered 84 0 0
+code ByLate = numbered 97 0 0
 code EventsCertificate = numbered 85 0 0
 code SecretCertificate = numbered 86 0 0
 code AtEntry = numbered 87 0 0
@@ -112,12 +113,12 @@ code DistinctPart = numbered 93 0 0
 code Pair = numbered 94 0 0
 code SecretPair = numbered 95 0 0
 code (Key x) = numbered 96 x 0
-code (Call x y) = numbered 97 x y
+code (Call x y) = numbered 98 x y
 
 -- the head of a code
 abbrev pub decoded : Code → Head
 decoded k =
-    if nat_lt 96 k.tag then Call k.a k.b else
+    if nat_lt 97 k.tag then Call k.a k.b else
     if k.tag == 0 then Stop else if k.tag == 1 then Yield else if k.tag == 2 then Par else if k.tag == 3 then Repl k.a k.b else if k.tag == 4 then In k.a else
     if k.tag == 5 then Out k.a else if k.tag == 6 then Event k.a else if k.tag == 7 then New k.a k.b else if k.tag == 8 then Let k.a k.b else if k.tag == 9 then If else
     if k.tag == 10 then Find (k.a + 2 ^ 32 * k.b) else if k.tag == 11 then Branch else if k.tag == 12 then Leaf k.a else if k.tag == 13 then Read k.a else if k.tag == 14 then Apply k.a else
@@ -137,7 +138,7 @@ decoded k =
     if k.tag == 80 then ByBool else if k.tag == 81 then ByOtherFact else if k.tag == 82 then ByOtherHere else if k.tag == 83 then BySame else if k.tag == 84 then ByDistinct else
     if k.tag == 85 then EventsCertificate else if k.tag == 86 then SecretCertificate else if k.tag == 87 then AtEntry else if k.tag == 88 then NeverEntry else if k.tag == 89 then WithEntry else
     if k.tag == 90 then AboveRoute else if k.tag == 91 then CellRoute else if k.tag == 92 then HoldsRoute else if k.tag == 93 then DistinctPart else if k.tag == 94 then Pair else
-    if k.tag == 95 then SecretPair else Key k.a
+    if k.tag == 95 then SecretPair else if k.tag == 96 then Key k.a else ByLate
 
 pub decoded_code : (h : Head) → decoded (code h) ≡ h
 decoded_code Stop = refl
@@ -225,6 +226,7 @@ decoded_code ByOtherFact = refl
 decoded_code ByOtherHere = refl
 decoded_code BySame = refl
 decoded_code ByDistinct = refl
+decoded_code ByLate = refl
 decoded_code EventsCertificate = refl
 decoded_code SecretCertificate = refl
 decoded_code AtEntry = refl

@@ -147,6 +147,7 @@ pub enum Head {
     ByOtherHere,
     BySame,
     ByDistinct,
+    ByLate,
     // Certificates.
     EventsCertificate,
     SecretCertificate,
@@ -261,6 +262,7 @@ impl Head {
             Head::ByOtherHere => (82, 0, 0),
             Head::BySame => (83, 0, 0),
             Head::ByDistinct => (84, 0, 0),
+            Head::ByLate => (97, 0, 0),
             Head::EventsCertificate => (85, 0, 0),
             Head::SecretCertificate => (86, 0, 0),
             Head::AtEntry => (87, 0, 0),
@@ -273,7 +275,7 @@ impl Head {
             Head::Pair => (94, 0, 0),
             Head::SecretPair => (95, 0, 0),
             Head::Key(x) => (96, x, 0),
-            Head::Call(x, y) => (97, x, y),
+            Head::Call(x, y) => (98, x, y),
         };
         Code { tag, a, b }
     }
@@ -405,7 +407,8 @@ impl Head {
             94 => Head::Pair,
             95 => Head::SecretPair,
             96 => Head::Key(a),
-            97..=255 => Head::Call(a, b),
+            97 => Head::ByLate,
+            98..=255 => Head::Call(a, b),
         }
     }
 }

@@ -1,10 +1,12 @@
 -- The places of derivations are reached where they are visited.
-use Rattle.std.proofs.Common.{◌≡◌, ℕ, ◌+◌, Bool, true, false, cond, ◌||◌, ◌==◌, List, [], ◌∷◌, map, inl, inr, Option, Some, None, is_some, refl, sym, ap, subst, ◌∙◌, eqb-true}
+use Rattle.std.proofs.Common.{◌≡◌, ℕ, ◌+◌, ◌-◌, ◌≤◌, ◌<◌, Bool, true, false, cond, ◌||◌, ◌==◌, List, [], ◌∷◌, ◌++◌, map, inl, inr, Option, Some, None, is_some, refl, sym, ap, subst, ◌∙◌, eqb-true, arith}
 use Rattle.std.specs.Prelude.{option_and_then}
 use Rattle.std.proofs.lemmas.Bool.{both_ways, and_parts, or_left, or_right}
 use Rattle.std.specs.List.{AllByRecursion}
-use Rattle.cv_syntax_trees.specs.declared.head.Head.TheVariants.{Branch, Cons, Find, Leaf, Read}
+use Rattle.cv_syntax_trees.specs.declared.head.Head.TheVariants.{Branch, Cons, Find, Leaf, Par, Read}
 use Rattle.cv_syntax_trees.specs.Declarations.{Declaration}
+use Rattle.cv_syntax_trees.specs.Head.{weight}
+use Rattle.cv_syntax.specs.Layouts.{IsSyntax}
 use Rattle.cv_syntax_trees.specs.Tree.{Tree, Empty, Node, first, first_place, second, second_place, size}
 use Rattle.cv_meaning.specs.Side.{no_side}
 use Rattle.cv_meaning.specs.Interpretation.{Interpretation, Setting, is_constant_of, setting_of}
@@ -23,7 +25,7 @@ use Rattle.cv_scope_rules.specs.Rules.{is_index}
 use Rattle.cv_scope_rules.specs.Scope.{is_variable}
 use Rattle.cv_scope_rules.specs.Scope as scope
 use Rattle.cv_scope_rules.specs.Standing.{at_root}
-use Rattle.cv_scope_rules.specs.Phrases.{Nil, OneCell, is_phrase}
+use Rattle.cv_scope_rules.specs.Phrases.{Phrase, Branches, Nil, OneCell, is_oracle_phrase, is_phrase}
 use Rattle.cv_scope_rules.specs.Made.{OwnUnassigned, is_bound, is_own_of}
 use Rattle.cv_scope_runs.specs.Promises.{AreIndicesOf, GrowsTo}
 use Rattle.cv_scope_runs.specs.Reads.{IsKept}
@@ -34,14 +36,17 @@ use Rattle.cv_typing_runs.proofs.Models.{is_model}
 use Rattle.cv_typing_runs.proofs.Terms.{nil_empty}
 use Rattle.cv_derive_facts.specs.Definitions.{IsBehind, behind_at}
 use Rattle.cv_scope_rules.specs.Behind.{in_body, in_condition, sites_of}
-use Rattle.cv_derive_facts.specs.Promises.{BranchesPlaces, BranchesStand, CandidatesStand, PlaceStands, SitesStand, StandsIn, VisitSitesStand}
+use Rattle.cv_derive_facts.specs.Promises.{BranchesPlaces, BranchesStand, CandidatesStand, IsOwnTerm, PlaceStands, SitesStand, StandsIn, VisitSitesStand}
 use Rattle.cv_scope_rules.specs.Above.{stands_at}
 use Rattle.cv_scene.specs.Scenes.{Scene}
 use Rattle.cv_scene.specs.Terms.{replications_at, replications_by}
 use Rattle.cv_derive_rules.specs.Given.{term_for, or_node, with_given}
 use Rattle.cv_scene.specs.Sights.{Sight, at_site, cells_by, facts_by, only_site, sight_at, site_of}
 use Rattle.cv_derive_laws.specs.stores.Reached.{BranchSitesStand, CandidateSitesStand, CellsBetween, HasTypes, PlaceCellsBetween, SiteCellsBetween, SitesStandNow}
-use Rattle.cv_derive_laws.proofs.stores.Sites.{bound_keeps}
+use Rattle.cv_scene.specs.Late.{is_late}
+use Rattle.cv_derive_laws.specs.late.Unassigned.{IsWellVisited, LateAreUnassigned}
+use Rattle.cv_derive_laws.proofs.late.Branches.{AreLate, body_late, branch_phrase, condition_late, find_phrase, first_late, more_phrase, second_late}
+use Rattle.cv_derive_laws.proofs.stores.Sites.{bound_keeps, bound_other}
 use Rattle.cv_derive_laws.specs.stores.Truth.{AreAssigned, AreTrue, IsReached, is_name_of}
 use Rattle.cv_derive_laws.proofs.Blocks.{derivation_holds}
 use Rattle.cv_derive_laws.proofs.Substitution.{names_of, put_value, put_values}
@@ -130,7 +135,15 @@ module _ (s : Scene) (i : Interpretation) (ready : IsReady s.declarations s.game
   abbrev SitesBetween : Store → Store → Type 0
   SitesBetween m n = (y p : ℕ) (Γ : Context) → sites_of s.game y ≡ (p, Γ) ∷ [] → (u : List ℕ) (v : ℕ) → m y u ≡ Some v → (ix : Indices) × (tuple ix ≡ u) × IsBetween Γ ix m n
 
-  module _ (p : ℕ) (Γ : Context) (at : Indices) (m n : Store) (there : stands_at s.game p ≡ Some Γ) (stands : IsBetween Γ at m n) (sites : SitesBetween m n) (types : IsTypedStore (context_of s.declarations s.game) i n) where
+  -- each current index is found by its name
+  abbrev AreFound : Indices → Type 0
+  AreFound at = AllByRecursion (λ (q : ℕ × ℕ). found_in at q.0 ≡ Some q.1) at
+
+  -- a variable that comes later than a place is assigned at no outer part of the copy
+  abbrev AreUnassigned : ℕ → Indices → Store → Type 0
+  AreUnassigned p at m = (x : ℕ) (u more : List ℕ) → is_late x s.game p ≡ true → u ++ more ≡ tuple at → m x u ≡ None
+
+  module _ (p : ℕ) (Γ : Context) (at : Indices) (m n : Store) (there : stands_at s.game p ≡ Some Γ) (stands : IsBetween Γ at m n) (sites : SitesBetween m n) (types : IsTypedStore (context_of s.declarations s.game) i n) (found : AreFound at) (late : AreUnassigned p at m) where
     constant_none : (y : ℕ) → is_constant_of s.declarations y ≡ true → found_in at y ≡ None
     constant_none y e = index_none g at Γ.replications y stands.indices (no_index (is_constant_of s.declarations) Γ.replications y (constants_apart p Γ there) e)
 
@@ -208,25 +221,31 @@ module _ (s : Scene) (i : Interpretation) (ready : IsReady s.declarations s.game
     cell_serves (Node (Read y) a b) f e = one_site (Node (Read y) a b) y (values g at n a) (sites_of s.game y) refl refl e
     cell_serves (Node h a b) f e = absurd (both_ways false refl f)
 
+    known_there : Γ.replications ≡ replications_at s p
+    known_there = sym (above_known (known_at s.game p) Γ.replications (same_replications s.game p ∙ ap above there))
+
     reached : IsReached here i at m n
     reached = record {
+      indices = subst (AreIndicesOf g at) known_there stands.indices;
+      found = found;
       facts = subst (λ o. AreTrue g at m n (facts_by o)) (sym there) stands.facts;
       cells = subst (λ o. AreAssigned g at m n (cells_by o)) (sym there) stands.cells;
       constants = constant_none;
       types = λ t S h.
           typed_value (context_of s.declarations s.game) i no_side (is_model s.declarations s.game i model ready.sorts) (replications_at s p) at n
-          (subst (λ rs. meaning.AreIndicesOf i rs at) (sym (above_known (known_at s.game p) Γ.replications (same_replications s.game p ∙ ap above there))) (same_indices s.declarations i at Γ.replications stands.indices)) types t S h;
+          (subst (λ rs. meaning.AreIndicesOf i rs at) known_there (same_indices s.declarations i at Γ.replications stands.indices)) types t S h;
       sites = λ c k e. cell_serves c (and_parts (is_phrase OneCell c) _ k).0 e;
+      late = late;
     }
 
     holds_between : HoldAt s i p at m n
     holds_between by e = derivation_holds here i at m n reached ready.arguments ready.formed model ready.equations by e
 
   -- in one store
-  holds_there : (p : ℕ) (Γ : Context) (at : Indices) (x : Memory) → stands_at s.game p ≡ Some Γ → StandsIn g Γ at x → SitesStandNow g s.game x → IsTypedStore (context_of s.declarations s.game) i x.store → HoldAt s i p at x.store x.store
-  holds_there p Γ at x there stands sites types =
+  holds_there : (p : ℕ) (Γ : Context) (at : Indices) (x : Memory) → stands_at s.game p ≡ Some Γ → StandsIn g Γ at x → SitesStandNow g s.game x → IsTypedStore (context_of s.declarations s.game) i x.store → AreFound at → AreUnassigned p at x.store → HoldAt s i p at x.store x.store
+  holds_there p Γ at x there stands sites types found late =
       holds_between p Γ at x.store x.store there (record { indices = stands.indices; facts = stands.facts; cells = stands.cells })
-      (λ y q Δ e u v k. let r = sites y q Δ e u v k in (r.0, r.1, record { indices = r.2.indices; facts = r.2.facts; cells = r.2.cells })) types
+      (λ y q Δ e u v k. let r = sites y q Δ e u v k in (r.0, r.1, record { indices = r.2.indices; facts = r.2.facts; cells = r.2.cells })) types found late
 
   -- at visits
 
@@ -236,54 +255,87 @@ module _ (s : Scene) (i : Interpretation) (ready : IsReady s.declarations s.game
   now : (x : Memory) → SitesStand g s.game x → SitesStandNow g s.game x
   now x h y p Γ e u v k = let r = h y p Γ e u v k in (r.0, r.1, r.2 x (grows_same x))
 
-  visit_holds : (v : Visit) → PlaceStands g s.game v → VisitSitesStand g s.game v → HasTypes s.declarations s.game i v → HoldAtVisit s i v
-  visit_holds v h k t is =
-      let r = h is in (
-        holds_there v.place r.0 v.before.indices v.before.memory r.1 (r.3 v.before.memory (grows_same v.before.memory)) (now v.before.memory k) t,
-        λ q o. holds_there q r.0 v.before.indices v.before.memory (r.2 q o) (r.3 v.before.memory (grows_same v.before.memory)) (now v.before.memory k) t,
+  -- the places of a construct: its own, and those of its terms
+
+  own_place : (p : ℕ) (t : Tree) → IsSyntax t → (p ≡ p + 0) × (0 < size t)
+  unfolding size
+  own_place p Empty is = absurd is
+  own_place p (Node h a b) is = let e : weight h ≡ 1 = is in (omega arith, omega arith)
+
+  rest_of : (p w s t q : ℕ) → p + w ≤ q → q < p + w + s → (r : ℕ) × (q ≡ p + r) × (r < w + s + t)
+  rest_of p w s t q l k = (q - p, omega arith, omega arith)
+
+  term_place : (p : ℕ) (t : Tree) (q : ℕ) → IsOwnTerm p t q → (r : ℕ) × (q ≡ p + r) × (r < size t)
+  unfolding size
+  term_place p Empty q o = absurd o
+  term_place p (Node (Find l) a b) q o = absurd o
+  term_place p (Node Par a b) q o = absurd o
+  term_place p (Node h a b) q o = rest_of p (weight h) (size a) (size b) q o.0 o.1
+
+  late_there : (v : Visit) → LateAreUnassigned s.game v → IsSyntax v.tree → (q r : ℕ) → q ≡ v.place + r → r < size v.tree → AreUnassigned q v.before.indices v.before.memory.store
+  late_there v f is q r e l x u more k i = (f is x r l (subst (λ n. is_late x s.game n ≡ true) e k)).unassigned u more i
+
+  visit_holds : (v : Visit) → PlaceStands g s.game v → VisitSitesStand g s.game v → HasTypes s.declarations s.game i v → LateAreUnassigned s.game v → IsWellVisited v → HoldAtVisit s i v
+  visit_holds v h k t f w is =
+      let r = h is in
+      let o = own_place v.place v.tree is in (
+        holds_there v.place r.0 v.before.indices v.before.memory r.1 (r.3 v.before.memory (grows_same v.before.memory)) (now v.before.memory k) t w.found (late_there v f is v.place 0 o.0 o.1),
+        λ q z.
+            let y = term_place v.place v.tree q z in
+            holds_there q r.0 v.before.indices v.before.memory (r.2 q z) (r.3 v.before.memory (grows_same v.before.memory)) (now v.before.memory k) t w.found (late_there v f is q y.0 y.1 y.2),
       )
 
-  pub visits_hold : (vs : List Visit) → AllByRecursion (PlaceStands g s.game) vs → AllByRecursion (VisitSitesStand g s.game) vs → AllByRecursion (HasTypes s.declarations s.game i) vs → AllByRecursion (HoldAtVisit s i) vs
-  visits_hold [] a b d = tt
-  visits_hold (v ∷ vs) a b d = (visit_holds v a.0 b.0 d.0, visits_hold vs a.1 b.1 d.1)
+  pub visits_hold : (vs : List Visit) → AllByRecursion (PlaceStands g s.game) vs → AllByRecursion (VisitSitesStand g s.game) vs → AllByRecursion (HasTypes s.declarations s.game i) vs
+      → AllByRecursion (LateAreUnassigned s.game) vs → AllByRecursion IsWellVisited vs → AllByRecursion (HoldAtVisit s i) vs
+  visits_hold [] a b d e f = tt
+  visits_hold (v ∷ vs) a b d e f = (visit_holds v a.0 b.0 d.0 e.0 f.0, visits_hold vs a.1 b.1 d.1 e.1 f.1)
 
   -- in the bodies of candidates
 
   abbrev T : meaning.Context
   T = context_of s.declarations s.game
 
-  bodies_hold : (Γ : Context) (p : ℕ) (at : Indices) (x : Memory) (t : Tree) → AreIndicesOf g at Γ.replications → IsTypedStore T i x.store → IsGood s.declarations s.game Γ.replications t → BranchesPlaces s.game Γ p t → BranchesStand g Γ at x t → BranchSitesStand g s.game at x t → HoldInBodies s i p at x t
-  bodies_hold Γ p at x Empty a h k b d f = tt
-  bodies_hold Γ p at x (Node Cons (Node Branch us rest) more) a h k b d f = (
+  bodies_hold : (Γ : Context) (p : ℕ) (at : Indices) (x : Memory) (t : Tree) → AreIndicesOf g at Γ.replications → IsTypedStore T i x.store → IsGood s.declarations s.game Γ.replications t → BranchesPlaces s.game Γ p t → BranchesStand g Γ at x t → BranchSitesStand g s.game at x t
+      → AreFound at → AreLate s.game at x.store p t → is_oracle_phrase Branches t ≡ true → HoldInBodies s i p at x t
+  bodies_hold Γ p at x Empty a h k b d f found late phrase = tt
+  bodies_hold Γ p at x (Node Cons (Node Branch us rest) more) a h k b d f found late phrase = (
     λ u fitting candidate.
         holds_there (second_place (first_place p Cons) Branch us + size (first rest) + size (first (second rest))) (in_body Γ us (first rest) (first (second rest))) at (record x { store = bound_to x.store (tuple at) us u }) b.0.body
         ((d.0 u fitting).body candidate) (f.0 u fitting candidate)
-        (candidate_typed s.declarations s.game i Γ.replications at us rest u x.store (first_good s.declarations s.game Γ.replications (Node Branch us rest) more k) a fitting h),
-    bodies_hold Γ (second_place p Cons (Node Branch us rest)) at x more a h (rest_good s.declarations s.game Γ.replications (Node Branch us rest) more k) b.1 d.1 f.1,
+        (candidate_typed s.declarations s.game i Γ.replications at us rest u x.store (first_good s.declarations s.game Γ.replications (Node Branch us rest) more k) a fitting h) found
+        (λ y w last e j.
+        let z = body_late s.game at x.store (first_place p Cons) us rest (branch_phrase us rest more phrase) (first_late s.game at x.store p Cons (Node Branch us rest) more late) y e in
+        bound_other x.store (tuple at) us u y w (λ k l. both_ways (is_bound us y) z.free k) ∙ z.unassigned w last j),
+    bodies_hold Γ (second_place p Cons (Node Branch us rest)) at x more a h (rest_good s.declarations s.game Γ.replications (Node Branch us rest) more k) b.1 d.1 f.1 found
+        (second_late s.game at x.store p Cons (Node Branch us rest) more late) (more_phrase (Node Branch us rest) more phrase),
   )
-  bodies_hold Γ p at x t a h k b d f = tt
+  bodies_hold Γ p at x t a h k b d f found late phrase = tt
 
-  candidates_hold : (v : Visit) → PlaceStands g s.game v → CandidatesStand g s.game v → CandidateSitesStand g s.game v → HasTypes s.declarations s.game i v → VisitHas (IsSubtreeOrList s.game) v → HoldAtFind s i v
-  candidates_hold v place stands sites types tree = go v.tree v.before place stands sites types tree
+  -- a visited `find` has branches in the grammar, in which variables come later
+  find_late : (p l : ℕ) (a b : Tree) (k : Local) → LateAreUnassigned s.game (record { place = p; tree = Node (Find l) a b; before = k }) → AreLate s.game k.indices k.memory.store (first_place p (Find l)) a
+  find_late p l a b k f = first_late s.game k.indices k.memory.store p (Find l) a b (λ x r less e. let z = f refl x r less e in (z.tree, z.unassigned))
+
+  candidates_hold : (v : Visit) → PlaceStands g s.game v → CandidatesStand g s.game v → CandidateSitesStand g s.game v → HasTypes s.declarations s.game i v → VisitHas (IsSubtreeOrList s.game) v → LateAreUnassigned s.game v → IsWellVisited v → HoldAtFind s i v
+  candidates_hold v place stands sites types tree late well = go v.tree v.before place stands sites types tree late well.found well.phrase well.is
     where
       go : (t : Tree) (k : Local) → PlaceStands g s.game (record { place = v.place; tree = t; before = k }) → CandidatesStand g s.game (record { place = v.place; tree = t; before = k }) → CandidateSitesStand g s.game (record { place = v.place; tree = t; before = k })
-          → IsTypedStore T i k.memory.store → IsSubtreeOrList s.game v.place t → HoldAtCandidates s i v.place t k
-      go (Node (Find l) a b) k place stands sites types tree =
+          → IsTypedStore T i k.memory.store → IsSubtreeOrList s.game v.place t → LateAreUnassigned s.game (record { place = v.place; tree = t; before = k }) → AreFound k.indices → (σ : Phrase) → is_oracle_phrase σ t ≡ true → HoldAtCandidates s i v.place t k
+      go (Node (Find l) a b) k place stands sites types tree late found σ phrase =
           let r = stands refl in
           let q = place refl in
           let same : q.0 ≡ r.0 = one_context q.0 r.0 (sym q.1 ∙ r.1) in
           bodies_hold r.0 (first_place v.place (Find l)) k.indices k.memory a
           (subst (λ (Γ : Context). AreIndicesOf g k.indices Γ.replications) same (q.3 k.memory (grows_same k.memory)).indices) types
-          (find_good s.declarations s.game v.place l a b r.0 ready.formed ready.typed (tree refl) r.1) r.2 r.3 sites
+          (find_good s.declarations s.game v.place l a b r.0 ready.formed ready.typed (tree refl) r.1) r.2 r.3 sites found (find_late v.place l a b k late) (find_phrase σ l a b phrase)
         where
           one_context : (Γ Δ : Context) → ◌≡◌ {A = Option Context} (Some Γ) (Some Δ) → Γ ≡ Δ
           one_context Γ Δ e = cc
-      go t k place stands sites types tree = tt
+      go t k place stands sites types tree late found σ phrase = tt
 
   pub finds_hold : (vs : List Visit) → AllByRecursion (PlaceStands g s.game) vs → AllByRecursion (CandidatesStand g s.game) vs → AllByRecursion (CandidateSitesStand g s.game) vs → AllByRecursion (VisitHas (IsSubtreeOrList s.game)) vs → AllByRecursion (HasTypes s.declarations s.game i) vs
-      → AllByRecursion (HoldAtFind s i) vs
-  finds_hold [] a b d e f = tt
-  finds_hold (v ∷ vs) a b d e f = (candidates_hold v a.0 b.0 d.0 f.0 e.0, finds_hold vs a.1 b.1 d.1 e.1 f.1)
+      → AllByRecursion (LateAreUnassigned s.game) vs → AllByRecursion IsWellVisited vs → AllByRecursion (HoldAtFind s i) vs
+  finds_hold [] a b d e f h k = tt
+  finds_hold (v ∷ vs) a b d e f h k = (candidates_hold v a.0 b.0 d.0 f.0 e.0 h.0 k.0, finds_hold vs a.1 b.1 d.1 e.1 f.1 h.1 k.1)
 
   -- in conditions
 
@@ -319,6 +371,8 @@ module _ (s : Scene) (i : Interpretation) (ready : IsReady s.declarations s.game
     own : OwnUnassigned v
     types : HasTypes s.declarations s.game i v
     tree : VisitHas (IsSubtreeOrList s.game) v
+    late : LateAreUnassigned s.game v
+    well : IsWellVisited v
 
   -- the stores of a visited `find`, the second one with the values of a tuple
   module _ (at : Indices) (x : Memory) (stand : SitesStand g s.game x)
@@ -336,41 +390,44 @@ module _ (s : Scene) (i : Interpretation) (ready : IsReady s.declarations s.game
 
   conditions_hold : (Γ : Context) (p : ℕ) (at : Indices) (x : Memory) (t : Tree) → AreIndicesOf g at Γ.replications → IsTypedStore T i x.store → SitesStand g s.game x
       → ((y p : ℕ) (Γ : Context) → sites_of s.game y ≡ (p, Γ) ∷ [] → (u : List ℕ) (k : ℕ) → x.store y u ≡ Some k → (ix : Indices) × (tuple ix ≡ u) × AreIndicesOf g ix Γ.replications × CellsBetween g ix x.store Γ.cells)
-      → CellsBetween g at x.store Γ.cells → ((y : ℕ) → is_own_of t y ≡ true → x.store y (tuple at) ≡ None) → IsGood s.declarations s.game Γ.replications t → BranchesPlaces s.game Γ p t → BranchesStand g Γ at x t → HoldInConditions s i p at x t
-  conditions_hold Γ p at x Empty a h stand sites cells free k b d = tt
-  conditions_hold Γ p at x (Node Cons (Node Branch us rest) more) a h stand sites cells free k b d = (
+      → CellsBetween g at x.store Γ.cells → ((y : ℕ) → is_own_of t y ≡ true → x.store y (tuple at) ≡ None) → IsGood s.declarations s.game Γ.replications t → BranchesPlaces s.game Γ p t → BranchesStand g Γ at x t
+      → AreFound at → AreLate s.game at x.store p t → HoldInConditions s i p at x t
+  conditions_hold Γ p at x Empty a h stand sites cells free k b d found late = tt
+  conditions_hold Γ p at x (Node Cons (Node Branch us rest) more) a h stand sites cells free k b d found late = (
     λ u fitting listed q less.
         let n : Store = bound_to x.store (tuple at) us u in
         let kept : IsKept x.store n = bound_keeps x.store (tuple at) us u (λ y e. free y (or_left (is_bound us y) (is_own_of more y) e)) in
         let here = (d.0 u fitting).condition listed in
         holds_between (second_place (first_place p Cons) Branch us + size (first rest) + q) (in_condition Γ us (first rest)) at x.store n (b.0.condition q less)
         (record { indices = here.indices; facts = here.facts; cells = AllByRecursion_append (λ c. is_assigned g at x.store n c ≡ true) Γ.cells (items (first rest)) (cells n kept) (items_assigned at x.store n (first rest) listed) })
-        (sites_between at x stand sites n kept) (candidate_typed s.declarations s.game i Γ.replications at us rest u x.store (first_good s.declarations s.game Γ.replications (Node Branch us rest) more k) a fitting h),
-    conditions_hold Γ (second_place p Cons (Node Branch us rest)) at x more a h stand sites cells (λ y e. free y (or_right (is_bound us y) (is_own_of more y) e)) (rest_good s.declarations s.game Γ.replications (Node Branch us rest) more k) b.1 d.1,
+        (sites_between at x stand sites n kept) (candidate_typed s.declarations s.game i Γ.replications at us rest u x.store (first_good s.declarations s.game Γ.replications (Node Branch us rest) more k) a fitting h) found
+        (λ y w last e j. condition_late s.game at x.store (first_place p Cons) us rest q less (first_late s.game at x.store p Cons (Node Branch us rest) more late) y e w last j),
+    conditions_hold Γ (second_place p Cons (Node Branch us rest)) at x more a h stand sites cells (λ y e. free y (or_right (is_bound us y) (is_own_of more y) e)) (rest_good s.declarations s.game Γ.replications (Node Branch us rest) more k) b.1 d.1 found
+        (second_late s.game at x.store p Cons (Node Branch us rest) more late),
   )
-  conditions_hold Γ p at x t a h stand sites cells free k b d = tt
+  conditions_hold Γ p at x t a h stand sites cells free k b d found late = tt
 
   tests_hold : (v : Visit) → IsVisited v → HoldAtConditions s i v
-  tests_hold v z = go v.tree v.before z.place z.candidates z.sites z.cells z.site_cells z.own z.types z.tree
+  tests_hold v z = go v.tree v.before z.place z.candidates z.sites z.cells z.site_cells z.own z.types z.tree z.late z.well.found
     where
       go : (t : Tree) (k : Local) → PlaceStands g s.game (record { place = v.place; tree = t; before = k }) → CandidatesStand g s.game (record { place = v.place; tree = t; before = k }) → VisitSitesStand g s.game (record { place = v.place; tree = t; before = k }) → PlaceCellsBetween g s.game (record { place = v.place; tree = t; before = k }) → SiteCellsBetween g s.game (record { place = v.place; tree = t; before = k }) → OwnUnassigned (record { place = v.place; tree = t; before = k }) → IsTypedStore T i k.memory.store → IsSubtreeOrList s.game v.place t
-          → HoldAtTests s i v.place t k
-      go (Node (Find l) a b) k place stands sites cells site_cells own types tree =
+          → LateAreUnassigned s.game (record { place = v.place; tree = t; before = k }) → AreFound k.indices → HoldAtTests s i v.place t k
+      go (Node (Find l) a b) k place stands sites cells site_cells own types tree late found =
           let r = stands refl in
           let q = place refl in
           let same : q.0 ≡ r.0 = one_context q.0 r.0 (sym q.1 ∙ r.1) in
           conditions_hold r.0 (first_place v.place (Find l)) k.indices k.memory a
           (subst (λ (Γ : Context). AreIndicesOf g k.indices Γ.replications) same (q.3 k.memory (grows_same k.memory)).indices) types sites site_cells (cells refl r.0 r.1) own
-          (find_good s.declarations s.game v.place l a b r.0 ready.formed ready.typed (tree refl) r.1) r.2 r.3
+          (find_good s.declarations s.game v.place l a b r.0 ready.formed ready.typed (tree refl) r.1) r.2 r.3 found (find_late v.place l a b k late)
         where
           one_context : (Γ Δ : Context) → ◌≡◌ {A = Option Context} (Some Γ) (Some Δ) → Γ ≡ Δ
           one_context Γ Δ e = cc
-      go t k place stands sites cells site_cells own types tree = tt
+      go t k place stands sites cells site_cells own types tree late found = tt
 
   pub all_tests_hold : (vs : List Visit) → AllByRecursion (PlaceStands g s.game) vs → AllByRecursion (CandidatesStand g s.game) vs → AllByRecursion (VisitSitesStand g s.game) vs → AllByRecursion (PlaceCellsBetween g s.game) vs → AllByRecursion (SiteCellsBetween g s.game) vs → AllByRecursion OwnUnassigned vs
-      → AllByRecursion (VisitHas (IsSubtreeOrList s.game)) vs → AllByRecursion (HasTypes s.declarations s.game i) vs → AllByRecursion (HoldAtConditions s i) vs
-  all_tests_hold [] a b c d e f h k = tt
-  all_tests_hold (v ∷ vs) a b c d e f h k = (
-    tests_hold v (record { place = a.0; candidates = b.0; sites = c.0; cells = d.0; site_cells = e.0; own = f.0; tree = h.0; types = k.0 }),
-    all_tests_hold vs a.1 b.1 c.1 d.1 e.1 f.1 h.1 k.1,
+      → AllByRecursion (VisitHas (IsSubtreeOrList s.game)) vs → AllByRecursion (HasTypes s.declarations s.game i) vs → AllByRecursion (LateAreUnassigned s.game) vs → AllByRecursion IsWellVisited vs → AllByRecursion (HoldAtConditions s i) vs
+  all_tests_hold [] a b c d e f h k l w = tt
+  all_tests_hold (v ∷ vs) a b c d e f h k l w = (
+    tests_hold v (record { place = a.0; candidates = b.0; sites = c.0; cells = d.0; site_cells = e.0; own = f.0; tree = h.0; types = k.0; late = l.0; well = w.0 }),
+    all_tests_hold vs a.1 b.1 c.1 d.1 e.1 f.1 h.1 k.1 l.1 w.1,
   )

@@ -35,7 +35,7 @@ use Rattle.std.proofs.lemmas.Bool.{or_left, or_right}
 
 -- the store with the values of binders keeps the cells that they don't assign
 
-bound_other : (m : Store) (u : List ℕ) (bs : Tree) (vs : List ℕ) (y : ℕ) (w : List ℕ) → (is_bound bs y ≡ true → w ≡ u → ⊥) → bound_to m u bs vs y w ≡ m y w
+pub bound_other : (m : Store) (u : List ℕ) (bs : Tree) (vs : List ℕ) (y : ℕ) (w : List ℕ) → (is_bound bs y ≡ true → w ≡ u → ⊥) → bound_to m u bs vs y w ≡ m y w
 unfolding bound_to is_bound
 bound_other m u (Node (Binder x T) a b) (v ∷ vs) y w h =
     bound_other (put m x u v) u b vs y w (λ i j. h (or_right (y == x) _ i) j) ∙ put_other m x u v y w (λ i j. h (or_left (y == x) _ i) j)

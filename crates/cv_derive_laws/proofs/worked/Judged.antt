@@ -14,6 +14,7 @@ use Rattle.cv_scope_rules.specs.Made.{is_bound}
 use Rattle.cv_scope_rules.specs.Phrases.{is_phrase}
 use Rattle.cv_scope_rules.specs.Behind.{sites_in}
 use Rattle.cv_scope_rules.specs.Above.{standing_at}
+use Rattle.cv_scene.specs.Late.{is_defined_in, is_late}
 use Rattle.cv_scene.specs.Terms.{is_there}
 use Rattle.cv_scene.specs.Derivations.{first_bad, first_bad_line}
 use Rattle.cv_derive_rules.specs.Ends.{ends_with}
@@ -21,7 +22,7 @@ use Rattle.cv_derive_rules.specs.Given.{with_given}
 use Rattle.cv_derive_rules.specs.Lines.{lines_of, statements}
 use Rattle.cv_derive_rules.specs.Lines as lines
 use Rattle.cv_derive_rules.specs.Truths.{no, yes}
-use Rattle.cv_derive_laws.specs.worked.Worked.{a, and, au, cases, ends, eq, g, h, line, no_ends, not_p, number, one, p, refutes, sight, split, two, two_lines, u, x, xu}
+use Rattle.cv_derive_laws.specs.worked.Worked.{a, and, au, cases, ends, eq, g, h, late, late_cases, late_sight, line, no_ends, not_p, number, one, p, refutes, sight, split, two, two_lines, u, x, xu}
 use Rattle.cv_derive_laws.specs.worked.Worked as worked
 
 case_0 : first_bad_line sight (chain (line (eq x a) (one ByFact 1) ∷ [])) ≡ None
@@ -162,6 +163,29 @@ case_33 = refl
 
 pub each : AllByRecursion (λ c. first_bad_line sight (chain c.0) ≡ c.1) cases
 each = (case_0, (case_1, (case_2, (case_3, (case_4, (case_5, (case_6, (case_7, (case_8, (case_9, (case_10, (case_11, (case_12, (case_13, (case_14, (case_15, (case_16, (case_17, (case_18, (case_19, (case_20, (case_21, (case_22, (case_23, (case_24, (case_25, (case_26, (case_27, (case_28, (case_29, (case_30, (case_31, (case_32, (case_33, tt))))))))))))))))))))))))))))))))))
+
+late_0 : first_bad_line (late_sight 7) (chain (worked.is_there x (lone ByHere) ∷ line no (late 1 []) ∷ [])) ≡ None
+unfolding first_fault size subtree same_tree first_index first_site bound_sort binders_differ counting.count context_at is_bound is_phrase is_there standing_at names_in sites_in with_given lines_of lines.count statements first_bad is_defined_in is_late
+late_0 = refl
+
+late_1 : first_bad_line (late_sight 6) (chain (worked.is_there x (lone ByHere) ∷ line no (late 1 []) ∷ [])) ≡ None
+unfolding first_fault size subtree same_tree first_index first_site bound_sort binders_differ counting.count context_at is_bound is_phrase is_there standing_at names_in sites_in with_given lines_of lines.count statements first_bad is_defined_in is_late
+late_1 = refl
+
+late_2 : first_bad_line (late_sight 9) (chain (worked.is_there x (lone ByHere) ∷ line no (late 1 []) ∷ [])) ≡ Some 2
+unfolding first_fault size subtree same_tree first_index first_site bound_sort binders_differ counting.count context_at is_bound is_phrase is_there standing_at names_in sites_in with_given lines_of lines.count statements first_bad is_defined_in is_late
+late_2 = refl
+
+late_3 : first_bad_line (late_sight 7) (chain (worked.is_there x (lone ByHere) ∷ line no (late 1 (1 ∷ [])) ∷ [])) ≡ Some 2
+unfolding first_fault size subtree same_tree first_index first_site bound_sort binders_differ counting.count context_at is_bound is_phrase is_there standing_at names_in sites_in with_given lines_of lines.count statements first_bad is_defined_in is_late
+late_3 = refl
+
+late_4 : first_bad_line (late_sight 7) (chain (worked.is_there x (lone ByHere) ∷ line yes (late 1 []) ∷ [])) ≡ Some 2
+unfolding first_fault size subtree same_tree first_index first_site bound_sort binders_differ counting.count context_at is_bound is_phrase is_there standing_at names_in sites_in with_given lines_of lines.count statements first_bad is_defined_in is_late
+late_4 = refl
+
+pub each_late : AllByRecursion (λ c. first_bad_line (late_sight c.0) (chain c.1) ≡ c.2) late_cases
+each_late = (late_0, (late_1, (late_2, (late_3, (late_4, tt)))))
 
 pub end_with : AllByRecursion (λ t. ends_with two_lines (chain t) ≡ true) ends
 unfolding same_tree lines_of statements

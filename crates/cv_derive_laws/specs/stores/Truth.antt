@@ -1,15 +1,17 @@
 -- When what a derivation says is true: at a copy of its place, in the stores in which it is read. This profile's own.
-use Rattle.std.specs.Prelude.{◌≡◌, ◌⊎◌, ℕ, ◌<◌, Bool, true, ◌==◌, List, None}
+use Rattle.std.specs.Prelude.{◌≡◌, ◌⊎◌, ℕ, ◌<◌, Bool, true, ◌==◌, List, ◌++◌, Some, None}
 use Rattle.std.specs.List.{AllByRecursion, list_any}
 use Rattle.cv_syntax_trees.specs.declared.head.Head.TheVariants.{Forall, Leaf, Read, Apply, Eq, And, Or, Not, Yes, No, Cons}
 use Rattle.cv_syntax_trees.specs.Declarations.{Declaration, Equation}
 use Rattle.cv_syntax_trees.specs.Tree.{Tree, Empty, Node, bound_names}
 use Rattle.cv_meaning.specs.Interpretation.{Interpretation, Setting, is_constant_of, setting_of}
-use Rattle.cv_meaning.specs.Memory.{Indices, Store}
+use Rattle.cv_meaning.specs.Memory.{Indices, Store, tuple}
 use Rattle.cv_meaning.specs.Terms.{found_in, value}
 use Rattle.cv_meaning.specs.Candidates.{is_assigned}
 use Rattle.cv_meaning_laws.specs.adequacy.Typed.{HasSort, Sort, size_of}
 use Rattle.cv_typing_runs.specs.Games.{context_of}
+use Rattle.cv_scope_runs.specs.Promises.{AreIndicesOf}
+use Rattle.cv_scene.specs.Late.{is_late}
 use Rattle.cv_scene.specs.Terms.{replications_at}
 use Rattle.cv_derive_rules.specs.Lines.{Statement, Holds, IsDefined}
 use Rattle.cv_scene.specs.Sights.{Sight, is_cell_at, site_cells, site_facts}
@@ -26,9 +28,11 @@ abbrev pub AreAssigned : Setting → Indices → (m n : Store) → List Tree →
 AreAssigned g at m n cs = AllByRecursion (λ c. is_assigned g at m n c ≡ true) cs
 
 -- The place is reached at a copy: the facts there are true, and the cells that are directly defined are assigned; no current
--- index is named as a constant; a typed term has a value of its sort; and of the variable of an assigned cell with one site what
--- stands there holds, with the cell's index terms.
+-- index is named as a constant; a typed term has a value of its sort; of the variable of an assigned cell with one site what
+-- stands there holds, with the cell's index terms; and a variable that comes later than the place is assigned at no outer part of the copy.
 pub record IsReached (s : Sight) (i : Interpretation) (at : Indices) (m n : Store) : Type 0 where
+  pub indices : AreIndicesOf (setting_of s.scene.declarations i) at (replications_at s.scene s.place)
+  pub found : AllByRecursion (λ (p : ℕ × ℕ). found_in at p.0 ≡ Some p.1) at
   pub facts : AreTrue (setting_of s.scene.declarations i) at m n s.facts
   pub cells : AreAssigned (setting_of s.scene.declarations i) at m n s.cells
   pub constants : (x : ℕ) → is_constant_of s.scene.declarations x ≡ true → found_in at x ≡ None
@@ -38,6 +42,7 @@ pub record IsReached (s : Sight) (i : Interpretation) (at : Indices) (m n : Stor
   pub sites :
       (c : Tree) → is_cell_at s.scene s.place c ≡ true → is_assigned (setting_of s.scene.declarations i) at m n c ≡ true
       → AreTrue (setting_of s.scene.declarations i) at m n (site_facts s c) × AreAssigned (setting_of s.scene.declarations i) at m n (site_cells s c)
+  pub late : (x : ℕ) (u more : List ℕ) → is_late x s.scene.game s.place ≡ true → u ++ more ≡ tuple at → m x u ≡ None
 
 -- terms over these names, with reads at indices where they may be
 abbrev mutual

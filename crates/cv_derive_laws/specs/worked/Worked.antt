@@ -1,6 +1,6 @@
 -- Derivations at a place of a small game, with the first line that isn't right. Names are numbers: 0 is `bool`, 5 a type, 7 a
 -- parameter, 3 a channel.
-use Rattle.std.specs.Prelude.{ℕ, true, false, nat_lt, List, [], ◌∷◌, Option, Some, None}
+use Rattle.std.specs.Prelude.{ℕ, true, false, nat_lt, List, [], ◌∷◌, map, Option, Some, None}
 use Rattle.cv_syntax_trees.specs.declared.class.Class.TheVariants as class
 use Rattle.cv_syntax_trees.specs.declared.head.Head.{Head}
 use Rattle.cv_syntax_trees.specs.declared.head.Head.TheVariants as head
@@ -170,6 +170,27 @@ cases =
     ∷ (line (eq a (leaf 8)) (one ByFact 1) ∷ [], Some 1)
     ∷ (line (eq x a) (lone ByOtherHere) ∷ [], Some 1)
     ∷ (line (eq x a) (one ByAgain 1) ∷ [], Some 1)
+    ∷ []
+
+-- !8 <= 7 in(3[8], (4: 5)); find suchthat defined(6[8]) then yield else new 6: 5; yield
+abbrev pub late_sight : ℕ → Sight
+late_sight q = sight_at (record {
+  declarations = declarations;
+  known = λ y. nat_lt y 100;
+  game = Node (head.Repl 8 7) Empty (input 3 (8 ∷ []) ((4, 5) ∷ []) (find 1 (branch [] (x ∷ []) yes (lone Yield) ∷ []) (Node (head.New 6 5) Empty (lone Yield))));
+}) q
+
+abbrev pub late : ℕ → List ℕ → Tree
+late l ms = Node head.ByLate (number l) (chain (map number ms))
+
+abbrev pub late_cases : List (ℕ × List Tree × Option ℕ)
+late_cases =
+    -- in the body and in the condition; where it is defined above; with a line too many; of another term
+    (7, is_there x (lone ByHere) ∷ line no (late 1 []) ∷ [], None)
+    ∷ (6, is_there x (lone ByHere) ∷ line no (late 1 []) ∷ [], None)
+    ∷ (9, is_there x (lone ByHere) ∷ line no (late 1 []) ∷ [], Some 2)
+    ∷ (7, is_there x (lone ByHere) ∷ line no (late 1 (1 ∷ [])) ∷ [], Some 2)
+    ∷ (7, is_there x (lone ByHere) ∷ line yes (late 1 []) ∷ [], Some 2)
     ∷ []
 
 -- what the last lines say

@@ -59,6 +59,7 @@ found script.Again = refl
 found script.OtherFact = refl
 found script.OtherHere = refl
 found script.Same = refl
+found script.Late = refl
 
 -- what is found among words passes the test
 passes_at : (b : Bool) (text : List ℕ) (k w : ScriptWord) (rest : Option ScriptWord) → is_word_spelled text k ≡ b → (rest ≡ Some w → is_word_spelled text w ≡ true) → cond b (Some k) rest ≡ Some w → is_word_spelled text w ≡ true

@@ -8,7 +8,7 @@ ghost use Rattle.cv_parse_tables.specs.spelling.ScriptSpelling.{word_spelling, w
 use cv_parse_notation::ScriptWord;
 
 // The words of scripts.
-static WORDS: [ScriptWord; 50] = [
+static WORDS: [ScriptWord; 51] = [
     ScriptWord::Rename,
     ScriptWord::To,
     ScriptWord::Rewrite,
@@ -59,6 +59,7 @@ static WORDS: [ScriptWord; 50] = [
     ScriptWord::OtherFact,
     ScriptWord::OtherHere,
     ScriptWord::Same,
+    ScriptWord::Late,
 ];
 
 /// How a word of a script is written. A plain word has no text of its own.
@@ -117,6 +118,7 @@ pub fn word_spelling(word: ScriptWord) -> &'static str
         ScriptWord::OtherFact => "fact2",
         ScriptWord::OtherHere => "here2",
         ScriptWord::Same => "same",
+        ScriptWord::Late => "late",
     }
 }
 

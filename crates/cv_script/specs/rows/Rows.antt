@@ -13,13 +13,13 @@ use Rattle.cv_parse_tables.specs.Table.{Table}
 -- the rows of a step, of a script, and of a script whose steps have a rule
 
 abbrev pub step_row : ℕ
-step_row = 151
+step_row = 153
 
 abbrev pub script_row : ℕ
-script_row = 154
+script_row = 156
 
 abbrev pub built_script_row : ℕ
-built_script_row = 157
+built_script_row = 159
 
 -- how many of the steps, from the first one on, have a rule
 abbrev pub steps_with_a_rule : ℕ
@@ -43,7 +43,7 @@ script_rows =
     (May false 12 ∷ []) ∷  -- 13 some terms
     (Sign mark.Open ∷ Chain 13 ∷ Sign mark.Close ∷ []) ∷  -- 14 term list
     (Sign mark.Open ∷ Phrase outer.InnerCell ∷ Sign mark.Close ∷ []) ∷  -- 15 inner cell
-    (Deeper 73 ∷ Sign mark.Semicolon ∷ Blank ∷ []) ∷  -- 16 line item
+    (Deeper 75 ∷ Sign mark.Semicolon ∷ Blank ∷ []) ∷  -- 16 line item
     (Many false 16 ∷ []) ∷  -- 17 lines
     (Sign mark.OpenBrace ∷ Blank ∷ Chain 17 ∷ Sign mark.CloseBrace ∷ []) ∷  -- 18 braces
     (Blank ∷ Number ∷ []) ∷  -- 19 cited
@@ -71,118 +71,120 @@ script_rows =
     (Says word.OtherHere ∷ []) ∷  -- 41 other here
     (Says word.Same ∷ Blank ∷ Number ∷ []) ∷  -- 42 same
     (Says word.Distinct ∷ Blank ∷ Number ∷ Blank ∷ Number ∷ Blank ∷ Number ∷ Blank ∷ Number ∷ []) ∷  -- 43 distinct reason
-    (Over head.ByFact 21 ∷ []) ∷  -- 44 by fact
-    (Over head.ByHere 22 ∷ []) ∷  -- 45 by here
-    (Over head.ByOf 23 ∷ []) ∷  -- 46 by of
-    (Over head.BySite 24 ∷ []) ∷  -- 47 by site
-    (Over head.ByEquation 25 ∷ []) ∷  -- 48 by equation
-    (Over head.ByRefl 26 ∷ []) ∷  -- 49 by refl
-    (Over head.BySym 27 ∷ []) ∷  -- 50 by sym
-    (Over head.ByTrans 28 ∷ []) ∷  -- 51 by trans
-    (Over head.ByCong 29 ∷ []) ∷  -- 52 by cong
-    (Over head.ByMp 30 ∷ []) ∷  -- 53 by mp
-    (Over head.ByAnd 31 ∷ []) ∷  -- 54 by and
-    (Over head.ByLeft 32 ∷ []) ∷  -- 55 by left
-    (Over head.ByRight 33 ∷ []) ∷  -- 56 by right
-    (Over head.ByContra 34 ∷ []) ∷  -- 57 by contra
-    (Over head.ByExfalso 35 ∷ []) ∷  -- 58 by exfalso
-    (Over head.ByData 36 ∷ []) ∷  -- 59 by data
-    (Over head.ByGiven 37 ∷ []) ∷  -- 60 by given
-    (Over head.ByAgain 38 ∷ []) ∷  -- 61 by again
-    (Over head.ByBool 39 ∷ []) ∷  -- 62 by truth
-    (Over head.ByOtherFact 40 ∷ []) ∷  -- 63 by other fact
-    (Over head.ByOtherHere 41 ∷ []) ∷  -- 64 by other here
-    (Over head.BySame 42 ∷ []) ∷  -- 65 by same
-    (Over head.ByDistinct 43 ∷ []) ∷  -- 66 by distinct reason
-    (Sign mark.Defined ∷ Level 15 ∷ Blank ∷ Says word.By ∷ Blank ∷ OneOf 44 23 ∷ []) ∷  -- 67 defined line
-    (Sign mark.Cases ∷ Blank ∷ Phrase outer.Term ∷ Blank ∷ Level 18 ∷ Blank ∷ Level 18 ∷ Blank ∷ Sign mark.Colon ∷ Blank ∷ Phrase outer.Term ∷ []) ∷  -- 68 cases line
-    (Phrase outer.Term ∷ Blank ∷ Says word.By ∷ Blank ∷ OneOf 44 23 ∷ []) ∷  -- 69 term line
-    (Over head.Defined 67 ∷ []) ∷  -- 70 a defined line
-    (Over head.Cases 68 ∷ []) ∷  -- 71 a cases line
-    (Over head.Line 69 ∷ []) ∷  -- 72 a term line
-    (OneOf 70 3 ∷ []) ∷  -- 73 line
-    (Sign mark.Then ∷ []) ∷  -- 74 then word
-    (Sign mark.Else ∷ []) ∷  -- 75 else word
-    (Says word.Add ∷ []) ∷  -- 76 add word
-    (Says word.Drop ∷ []) ∷  -- 77 drop word
-    (Over head.ThenPart 74 ∷ []) ∷  -- 78 then part
-    (Over head.ElsePart 75 ∷ []) ∷  -- 79 else part
-    (Number ∷ []) ∷  -- 80 branch part
-    (Over head.AddPart 76 ∷ []) ∷  -- 81 add part
-    (Over head.DropPart 77 ∷ []) ∷  -- 82 drop part
-    (Says word.Above ∷ []) ∷  -- 83 above word
-    (Blank ∷ Over head.AboveRoute 83 ∷ []) ∷  -- 84 above part
-    (May false 84 ∷ []) ∷  -- 85 above or not
-    (Says word.Above ∷ Blank ∷ Number ∷ Blank ∷ Level 18 ∷ []) ∷  -- 86 above
-    (Says word.Cell ∷ Blank ∷ Phrase outer.Cell ∷ Blank ∷ Number ∷ Blank ∷ Level 18 ∷ []) ∷  -- 87 cell
-    (Over head.AboveRoute 86 ∷ []) ∷  -- 88 a above
-    (Over head.CellRoute 87 ∷ []) ∷  -- 89 a cell
-    (Says word.Holds ∷ Blank ∷ Level 18 ∷ []) ∷  -- 90 holds
-    (Sign mark.EventWord ∷ Blank ∷ OneOf 88 2 ∷ []) ∷  -- 91 event route
-    (Over head.HoldsRoute 90 ∷ []) ∷  -- 92 holds route
-    (Blank ∷ OneOf 91 2 ∷ []) ∷  -- 93 route item
-    (Many false 93 ∷ []) ∷  -- 94 routes
-    (Says word.Never ∷ Blank ∷ Level 18 ∷ []) ∷  -- 95 never
-    (Says word.With ∷ Blank ∷ Level 14 ∷ Chain 94 ∷ []) ∷  -- 96 with
-    (Over head.NeverEntry 95 ∷ []) ∷  -- 97 a never
-    (Over head.WithEntry 96 ∷ []) ∷  -- 98 a with
-    (Says word.At ∷ Blank ∷ Number ∷ Blank ∷ OneOf 97 2 ∷ []) ∷  -- 99 at
-    (Blank ∷ Over head.AtEntry 99 ∷ []) ∷  -- 100 entry item
-    (Says word.Distinct ∷ Blank ∷ Chain 4 ∷ []) ∷  -- 101 distinct
-    (Blank ∷ Over head.DistinctPart 101 ∷ []) ∷  -- 102 distinct item
-    (Says word.Pair ∷ Blank ∷ Number ∷ Blank ∷ Number ∷ Blank ∷ Number ∷ Blank ∷ Level 18 ∷ []) ∷  -- 103 pair
-    (Blank ∷ Over head.Pair 103 ∷ []) ∷  -- 104 pair item
-    (Says word.Pair ∷ Blank ∷ Number ∷ Blank ∷ Number ∷ Blank ∷ Level 18 ∷ []) ∷  -- 105 secret pair
-    (Blank ∷ Over head.SecretPair 105 ∷ []) ∷  -- 106 secret pair item
-    (Many false 100 ∷ May false 102 ∷ Many false 104 ∷ []) ∷  -- 107 events parts
-    (Many false 106 ∷ []) ∷  -- 108 secret parts
-    (Says word.Events ∷ Chain 107 ∷ []) ∷  -- 109 events
-    (Sign mark.Secret ∷ Chain 108 ∷ []) ∷  -- 110 secret
-    (Over head.EventsCertificate 109 ∷ []) ∷  -- 111 a events
-    (Over head.SecretCertificate 110 ∷ []) ∷  -- 112 a secret
-    (Says word.Rename ∷ Blank ∷ Word role.Nothing ∷ Blank ∷ Says word.To ∷ Blank ∷ Word role.Nothing ∷ []) ∷  -- 113 rename
-    (Says word.Rewrite ∷ Blank ∷ Number ∷ Blank ∷ Says word.To ∷ Blank ∷ Phrase outer.Term ∷ Blank ∷ Says word.By ∷ Blank ∷ Level 18 ∷ []) ∷  -- 114 rewrite
-    (Says word.Prune ∷ Blank ∷ Number ∷ Blank ∷ OneOf 78 3 ∷ Blank ∷ Says word.By ∷ Blank ∷ Level 18 ∷ []) ∷  -- 115 prune
-    (Says word.Pick ∷ Blank ∷ Number ∷ Blank ∷ Level 14 ∷ Blank ∷ Says word.By ∷ Blank ∷ Level 18 ∷ Blank ∷ Level 18 ∷ []) ∷  -- 116 pick
-    (Says word.Merge ∷ Blank ∷ Number ∷ []) ∷  -- 117 merge
-    (Says word.Split ∷ Blank ∷ Number ∷ Blank ∷ Phrase outer.Term ∷ []) ∷  -- 118 split
-    (Sign mark.Let ∷ Blank ∷ Number ∷ Blank ∷ Word role.Nothing ∷ Sign mark.Colon ∷ Blank ∷ Either 1 2 ∷ Blank ∷ Sign mark.Equal ∷ Blank ∷ Phrase outer.Term ∷ []) ∷  -- 119 let
-    (Says word.Unlet ∷ Blank ∷ Word role.Nothing ∷ []) ∷  -- 120 unlet
-    (Sign mark.New ∷ Blank ∷ Number ∷ Blank ∷ Word role.Nothing ∷ Sign mark.Colon ∷ Blank ∷ Either 1 2 ∷ []) ∷  -- 121 new
-    (Says word.Unnew ∷ Blank ∷ Word role.Nothing ∷ []) ∷  -- 122 unnew
-    (Says word.Move ∷ Blank ∷ Number ∷ []) ∷  -- 123 move
-    (Says word.ArrayRename ∷ Blank ∷ Word role.Nothing ∷ Blank ∷ Says word.To ∷ Blank ∷ Level 6 ∷ []) ∷  -- 124 array rename
-    (Says word.Codef ∷ Blank ∷ Number ∷ Blank ∷ OneOf 81 2 ∷ Blank ∷ Phrase outer.Cell ∷ Blank ∷ Says word.From ∷ Blank ∷ Phrase outer.Cell ∷ Chain 85 ∷ []) ∷  -- 125 codef
-    (Says word.Birthday ∷ Blank ∷ Word role.Nothing ∷ Blank ∷ Says word.At ∷ Blank ∷ Level 10 ∷ []) ∷  -- 126 birthday
-    (Says word.Guess ∷ Blank ∷ Word role.Nothing ∷ Blank ∷ Says word.At ∷ Blank ∷ Level 10 ∷ []) ∷  -- 127 guess
-    (Says word.Fresh ∷ Blank ∷ Number ∷ []) ∷  -- 128 fresh
-    (Says word.Crypto ∷ Blank ∷ Word role.Nothing ∷ Blank ∷ Word role.Nothing ∷ []) ∷  -- 129 crypto
-    (Says word.Success ∷ Blank ∷ Number ∷ Blank ∷ OneOf 111 2 ∷ []) ∷  -- 130 success
-    (Says word.Simplify ∷ []) ∷  -- 131 simplify
-    (Over head.SplitStep 118 ∷ []) ∷  -- 132 a split
-    (Over head.LetStep 119 ∷ []) ∷  -- 133 a let
-    (Over head.NewStep 121 ∷ []) ∷  -- 134 a new
-    (Over head.UnnewStep 122 ∷ []) ∷  -- 135 a unnew
-    (Over head.RewriteStep 114 ∷ []) ∷  -- 136 a rewrite
-    (Over head.PruneStep 115 ∷ []) ∷  -- 137 a prune
-    (Over head.SuccessStep 130 ∷ []) ∷  -- 138 a success
-    (Over head.CryptoStep 129 ∷ []) ∷  -- 139 a crypto
-    (Over head.UnletStep 120 ∷ []) ∷  -- 140 a unlet
-    (Over head.RenameStep 113 ∷ []) ∷  -- 141 a rename
-    (Over head.MergeStep 117 ∷ []) ∷  -- 142 a merge
-    (Over head.MoveStep 123 ∷ []) ∷  -- 143 a move
-    (Over head.CodefStep 125 ∷ []) ∷  -- 144 a codef
-    (Over head.PickStep 116 ∷ []) ∷  -- 145 a pick
-    (Over head.ArrayRenameStep 124 ∷ []) ∷  -- 146 a array rename
-    (Over head.BirthdayStep 126 ∷ []) ∷  -- 147 a birthday
-    (Over head.GuessStep 127 ∷ []) ∷  -- 148 a guess
-    (Over head.FreshStep 128 ∷ []) ∷  -- 149 a fresh
-    (Over head.SimplifyStep 131 ∷ []) ∷  -- 150 a simplify
-    (OneOf 132 19 ∷ []) ∷  -- 151 step
-    (OneOf 132 19 ∷ Sign mark.Semicolon ∷ []) ∷  -- 152 step item
-    (Many false 152 ∷ []) ∷  -- 153 steps
-    (Chain 153 ∷ []) ∷  -- 154 script
-    (OneOf 132 steps_with_a_rule ∷ Sign mark.Semicolon ∷ []) ∷  -- 155 built item
-    (Many false 155 ∷ []) ∷  -- 156 built steps
-    (Chain 156 ∷ []) ∷  -- 157 built script
+    (Says word.Late ∷ Blank ∷ Number ∷ Chain 20 ∷ []) ∷  -- 44 late
+    (Over head.ByFact 21 ∷ []) ∷  -- 45 by fact
+    (Over head.ByHere 22 ∷ []) ∷  -- 46 by here
+    (Over head.ByOf 23 ∷ []) ∷  -- 47 by of
+    (Over head.BySite 24 ∷ []) ∷  -- 48 by site
+    (Over head.ByEquation 25 ∷ []) ∷  -- 49 by equation
+    (Over head.ByRefl 26 ∷ []) ∷  -- 50 by refl
+    (Over head.BySym 27 ∷ []) ∷  -- 51 by sym
+    (Over head.ByTrans 28 ∷ []) ∷  -- 52 by trans
+    (Over head.ByCong 29 ∷ []) ∷  -- 53 by cong
+    (Over head.ByMp 30 ∷ []) ∷  -- 54 by mp
+    (Over head.ByAnd 31 ∷ []) ∷  -- 55 by and
+    (Over head.ByLeft 32 ∷ []) ∷  -- 56 by left
+    (Over head.ByRight 33 ∷ []) ∷  -- 57 by right
+    (Over head.ByContra 34 ∷ []) ∷  -- 58 by contra
+    (Over head.ByExfalso 35 ∷ []) ∷  -- 59 by exfalso
+    (Over head.ByData 36 ∷ []) ∷  -- 60 by data
+    (Over head.ByGiven 37 ∷ []) ∷  -- 61 by given
+    (Over head.ByAgain 38 ∷ []) ∷  -- 62 by again
+    (Over head.ByBool 39 ∷ []) ∷  -- 63 by truth
+    (Over head.ByOtherFact 40 ∷ []) ∷  -- 64 by other fact
+    (Over head.ByOtherHere 41 ∷ []) ∷  -- 65 by other here
+    (Over head.BySame 42 ∷ []) ∷  -- 66 by same
+    (Over head.ByDistinct 43 ∷ []) ∷  -- 67 by distinct reason
+    (Over head.ByLate 44 ∷ []) ∷  -- 68 by late
+    (Sign mark.Defined ∷ Level 15 ∷ Blank ∷ Says word.By ∷ Blank ∷ OneOf 45 24 ∷ []) ∷  -- 69 defined line
+    (Sign mark.Cases ∷ Blank ∷ Phrase outer.Term ∷ Blank ∷ Level 18 ∷ Blank ∷ Level 18 ∷ Blank ∷ Sign mark.Colon ∷ Blank ∷ Phrase outer.Term ∷ []) ∷  -- 70 cases line
+    (Phrase outer.Term ∷ Blank ∷ Says word.By ∷ Blank ∷ OneOf 45 24 ∷ []) ∷  -- 71 term line
+    (Over head.Defined 69 ∷ []) ∷  -- 72 a defined line
+    (Over head.Cases 70 ∷ []) ∷  -- 73 a cases line
+    (Over head.Line 71 ∷ []) ∷  -- 74 a term line
+    (OneOf 72 3 ∷ []) ∷  -- 75 line
+    (Sign mark.Then ∷ []) ∷  -- 76 then word
+    (Sign mark.Else ∷ []) ∷  -- 77 else word
+    (Says word.Add ∷ []) ∷  -- 78 add word
+    (Says word.Drop ∷ []) ∷  -- 79 drop word
+    (Over head.ThenPart 76 ∷ []) ∷  -- 80 then part
+    (Over head.ElsePart 77 ∷ []) ∷  -- 81 else part
+    (Number ∷ []) ∷  -- 82 branch part
+    (Over head.AddPart 78 ∷ []) ∷  -- 83 add part
+    (Over head.DropPart 79 ∷ []) ∷  -- 84 drop part
+    (Says word.Above ∷ []) ∷  -- 85 above word
+    (Blank ∷ Over head.AboveRoute 85 ∷ []) ∷  -- 86 above part
+    (May false 86 ∷ []) ∷  -- 87 above or not
+    (Says word.Above ∷ Blank ∷ Number ∷ Blank ∷ Level 18 ∷ []) ∷  -- 88 above
+    (Says word.Cell ∷ Blank ∷ Phrase outer.Cell ∷ Blank ∷ Number ∷ Blank ∷ Level 18 ∷ []) ∷  -- 89 cell
+    (Over head.AboveRoute 88 ∷ []) ∷  -- 90 a above
+    (Over head.CellRoute 89 ∷ []) ∷  -- 91 a cell
+    (Says word.Holds ∷ Blank ∷ Level 18 ∷ []) ∷  -- 92 holds
+    (Sign mark.EventWord ∷ Blank ∷ OneOf 90 2 ∷ []) ∷  -- 93 event route
+    (Over head.HoldsRoute 92 ∷ []) ∷  -- 94 holds route
+    (Blank ∷ OneOf 93 2 ∷ []) ∷  -- 95 route item
+    (Many false 95 ∷ []) ∷  -- 96 routes
+    (Says word.Never ∷ Blank ∷ Level 18 ∷ []) ∷  -- 97 never
+    (Says word.With ∷ Blank ∷ Level 14 ∷ Chain 96 ∷ []) ∷  -- 98 with
+    (Over head.NeverEntry 97 ∷ []) ∷  -- 99 a never
+    (Over head.WithEntry 98 ∷ []) ∷  -- 100 a with
+    (Says word.At ∷ Blank ∷ Number ∷ Blank ∷ OneOf 99 2 ∷ []) ∷  -- 101 at
+    (Blank ∷ Over head.AtEntry 101 ∷ []) ∷  -- 102 entry item
+    (Says word.Distinct ∷ Blank ∷ Chain 4 ∷ []) ∷  -- 103 distinct
+    (Blank ∷ Over head.DistinctPart 103 ∷ []) ∷  -- 104 distinct item
+    (Says word.Pair ∷ Blank ∷ Number ∷ Blank ∷ Number ∷ Blank ∷ Number ∷ Blank ∷ Level 18 ∷ []) ∷  -- 105 pair
+    (Blank ∷ Over head.Pair 105 ∷ []) ∷  -- 106 pair item
+    (Says word.Pair ∷ Blank ∷ Number ∷ Blank ∷ Number ∷ Blank ∷ Level 18 ∷ []) ∷  -- 107 secret pair
+    (Blank ∷ Over head.SecretPair 107 ∷ []) ∷  -- 108 secret pair item
+    (Many false 102 ∷ May false 104 ∷ Many false 106 ∷ []) ∷  -- 109 events parts
+    (Many false 108 ∷ []) ∷  -- 110 secret parts
+    (Says word.Events ∷ Chain 109 ∷ []) ∷  -- 111 events
+    (Sign mark.Secret ∷ Chain 110 ∷ []) ∷  -- 112 secret
+    (Over head.EventsCertificate 111 ∷ []) ∷  -- 113 a events
+    (Over head.SecretCertificate 112 ∷ []) ∷  -- 114 a secret
+    (Says word.Rename ∷ Blank ∷ Word role.Nothing ∷ Blank ∷ Says word.To ∷ Blank ∷ Word role.Nothing ∷ []) ∷  -- 115 rename
+    (Says word.Rewrite ∷ Blank ∷ Number ∷ Blank ∷ Says word.To ∷ Blank ∷ Phrase outer.Term ∷ Blank ∷ Says word.By ∷ Blank ∷ Level 18 ∷ []) ∷  -- 116 rewrite
+    (Says word.Prune ∷ Blank ∷ Number ∷ Blank ∷ OneOf 80 3 ∷ Blank ∷ Says word.By ∷ Blank ∷ Level 18 ∷ []) ∷  -- 117 prune
+    (Says word.Pick ∷ Blank ∷ Number ∷ Blank ∷ Level 14 ∷ Blank ∷ Says word.By ∷ Blank ∷ Level 18 ∷ Blank ∷ Level 18 ∷ []) ∷  -- 118 pick
+    (Says word.Merge ∷ Blank ∷ Number ∷ []) ∷  -- 119 merge
+    (Says word.Split ∷ Blank ∷ Number ∷ Blank ∷ Phrase outer.Term ∷ []) ∷  -- 120 split
+    (Sign mark.Let ∷ Blank ∷ Number ∷ Blank ∷ Word role.Nothing ∷ Sign mark.Colon ∷ Blank ∷ Either 1 2 ∷ Blank ∷ Sign mark.Equal ∷ Blank ∷ Phrase outer.Term ∷ []) ∷  -- 121 let
+    (Says word.Unlet ∷ Blank ∷ Word role.Nothing ∷ []) ∷  -- 122 unlet
+    (Sign mark.New ∷ Blank ∷ Number ∷ Blank ∷ Word role.Nothing ∷ Sign mark.Colon ∷ Blank ∷ Either 1 2 ∷ []) ∷  -- 123 new
+    (Says word.Unnew ∷ Blank ∷ Word role.Nothing ∷ []) ∷  -- 124 unnew
+    (Says word.Move ∷ Blank ∷ Number ∷ []) ∷  -- 125 move
+    (Says word.ArrayRename ∷ Blank ∷ Word role.Nothing ∷ Blank ∷ Says word.To ∷ Blank ∷ Level 6 ∷ []) ∷  -- 126 array rename
+    (Says word.Codef ∷ Blank ∷ Number ∷ Blank ∷ OneOf 83 2 ∷ Blank ∷ Phrase outer.Cell ∷ Blank ∷ Says word.From ∷ Blank ∷ Phrase outer.Cell ∷ Chain 87 ∷ []) ∷  -- 127 codef
+    (Says word.Birthday ∷ Blank ∷ Word role.Nothing ∷ Blank ∷ Says word.At ∷ Blank ∷ Level 10 ∷ []) ∷  -- 128 birthday
+    (Says word.Guess ∷ Blank ∷ Word role.Nothing ∷ Blank ∷ Says word.At ∷ Blank ∷ Level 10 ∷ []) ∷  -- 129 guess
+    (Says word.Fresh ∷ Blank ∷ Number ∷ []) ∷  -- 130 fresh
+    (Says word.Crypto ∷ Blank ∷ Word role.Nothing ∷ Blank ∷ Word role.Nothing ∷ []) ∷  -- 131 crypto
+    (Says word.Success ∷ Blank ∷ Number ∷ Blank ∷ OneOf 113 2 ∷ []) ∷  -- 132 success
+    (Says word.Simplify ∷ []) ∷  -- 133 simplify
+    (Over head.SplitStep 120 ∷ []) ∷  -- 134 a split
+    (Over head.LetStep 121 ∷ []) ∷  -- 135 a let
+    (Over head.NewStep 123 ∷ []) ∷  -- 136 a new
+    (Over head.UnnewStep 124 ∷ []) ∷  -- 137 a unnew
+    (Over head.RewriteStep 116 ∷ []) ∷  -- 138 a rewrite
+    (Over head.PruneStep 117 ∷ []) ∷  -- 139 a prune
+    (Over head.SuccessStep 132 ∷ []) ∷  -- 140 a success
+    (Over head.CryptoStep 131 ∷ []) ∷  -- 141 a crypto
+    (Over head.UnletStep 122 ∷ []) ∷  -- 142 a unlet
+    (Over head.RenameStep 115 ∷ []) ∷  -- 143 a rename
+    (Over head.MergeStep 119 ∷ []) ∷  -- 144 a merge
+    (Over head.MoveStep 125 ∷ []) ∷  -- 145 a move
+    (Over head.CodefStep 127 ∷ []) ∷  -- 146 a codef
+    (Over head.PickStep 118 ∷ []) ∷  -- 147 a pick
+    (Over head.ArrayRenameStep 126 ∷ []) ∷  -- 148 a array rename
+    (Over head.BirthdayStep 128 ∷ []) ∷  -- 149 a birthday
+    (Over head.GuessStep 129 ∷ []) ∷  -- 150 a guess
+    (Over head.FreshStep 130 ∷ []) ∷  -- 151 a fresh
+    (Over head.SimplifyStep 133 ∷ []) ∷  -- 152 a simplify
+    (OneOf 134 19 ∷ []) ∷  -- 153 step
+    (OneOf 134 19 ∷ Sign mark.Semicolon ∷ []) ∷  -- 154 step item
+    (Many false 154 ∷ []) ∷  -- 155 steps
+    (Chain 155 ∷ []) ∷  -- 156 script
+    (OneOf 134 steps_with_a_rule ∷ Sign mark.Semicolon ∷ []) ∷  -- 157 built item
+    (Many false 157 ∷ []) ∷  -- 158 built steps
+    (Chain 158 ∷ []) ∷  -- 159 built script
     []

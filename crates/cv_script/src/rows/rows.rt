@@ -100,139 +100,141 @@ const SAME: u16 = 42;
 
 const DISTINCT_REASON: u16 = 43;
 
-const BY_FACT: u16 = 44;
+const LATE: u16 = 44;
 
-const DEFINED_LINE: u16 = 67;
+const BY_FACT: u16 = 45;
 
-const CASES_LINE: u16 = 68;
+const DEFINED_LINE: u16 = 69;
 
-const TERM_LINE: u16 = 69;
+const CASES_LINE: u16 = 70;
 
-const A_DEFINED_LINE: u16 = 70;
+const TERM_LINE: u16 = 71;
 
-const LINE: u16 = 73;
+const A_DEFINED_LINE: u16 = 72;
 
-const THEN_WORD: u16 = 74;
+const LINE: u16 = 75;
 
-const ELSE_WORD: u16 = 75;
+const THEN_WORD: u16 = 76;
 
-const ADD_WORD: u16 = 76;
+const ELSE_WORD: u16 = 77;
 
-const DROP_WORD: u16 = 77;
+const ADD_WORD: u16 = 78;
 
-const THEN_PART: u16 = 78;
+const DROP_WORD: u16 = 79;
 
-const ADD_PART: u16 = 81;
+const THEN_PART: u16 = 80;
 
-const ABOVE_WORD: u16 = 83;
+const ADD_PART: u16 = 83;
 
-const ABOVE_PART: u16 = 84;
+const ABOVE_WORD: u16 = 85;
 
-const ABOVE_OR_NOT: u16 = 85;
+const ABOVE_PART: u16 = 86;
 
-const ABOVE: u16 = 86;
+const ABOVE_OR_NOT: u16 = 87;
 
-const CELL: u16 = 87;
+const ABOVE: u16 = 88;
 
-const A_ABOVE: u16 = 88;
+const CELL: u16 = 89;
 
-const HOLDS: u16 = 90;
+const A_ABOVE: u16 = 90;
 
-const EVENT_ROUTE: u16 = 91;
+const HOLDS: u16 = 92;
 
-const ROUTE_ITEM: u16 = 93;
+const EVENT_ROUTE: u16 = 93;
 
-const ROUTES: u16 = 94;
+const ROUTE_ITEM: u16 = 95;
 
-const NEVER: u16 = 95;
+const ROUTES: u16 = 96;
 
-const WITH: u16 = 96;
+const NEVER: u16 = 97;
 
-const A_NEVER: u16 = 97;
+const WITH: u16 = 98;
 
-const AT: u16 = 99;
+const A_NEVER: u16 = 99;
 
-const ENTRY_ITEM: u16 = 100;
+const AT: u16 = 101;
 
-const DISTINCT: u16 = 101;
+const ENTRY_ITEM: u16 = 102;
 
-const DISTINCT_ITEM: u16 = 102;
+const DISTINCT: u16 = 103;
 
-const PAIR: u16 = 103;
+const DISTINCT_ITEM: u16 = 104;
 
-const PAIR_ITEM: u16 = 104;
+const PAIR: u16 = 105;
 
-const SECRET_PAIR: u16 = 105;
+const PAIR_ITEM: u16 = 106;
 
-const SECRET_PAIR_ITEM: u16 = 106;
+const SECRET_PAIR: u16 = 107;
 
-const EVENTS_PARTS: u16 = 107;
+const SECRET_PAIR_ITEM: u16 = 108;
 
-const SECRET_PARTS: u16 = 108;
+const EVENTS_PARTS: u16 = 109;
 
-const EVENTS: u16 = 109;
+const SECRET_PARTS: u16 = 110;
 
-const SECRET: u16 = 110;
+const EVENTS: u16 = 111;
 
-const A_EVENTS: u16 = 111;
+const SECRET: u16 = 112;
 
-const RENAME: u16 = 113;
+const A_EVENTS: u16 = 113;
 
-const REWRITE: u16 = 114;
+const RENAME: u16 = 115;
 
-const PRUNE: u16 = 115;
+const REWRITE: u16 = 116;
 
-const PICK: u16 = 116;
+const PRUNE: u16 = 117;
 
-const MERGE: u16 = 117;
+const PICK: u16 = 118;
 
-const SPLIT: u16 = 118;
+const MERGE: u16 = 119;
 
-const LET: u16 = 119;
+const SPLIT: u16 = 120;
 
-const UNLET: u16 = 120;
+const LET: u16 = 121;
 
-const NEW: u16 = 121;
+const UNLET: u16 = 122;
 
-const UNNEW: u16 = 122;
+const NEW: u16 = 123;
 
-const MOVE: u16 = 123;
+const UNNEW: u16 = 124;
 
-const ARRAY_RENAME: u16 = 124;
+const MOVE: u16 = 125;
 
-const CODEF: u16 = 125;
+const ARRAY_RENAME: u16 = 126;
 
-const BIRTHDAY: u16 = 126;
+const CODEF: u16 = 127;
 
-const GUESS: u16 = 127;
+const BIRTHDAY: u16 = 128;
 
-const FRESH: u16 = 128;
+const GUESS: u16 = 129;
 
-const CRYPTO: u16 = 129;
+const FRESH: u16 = 130;
 
-const SUCCESS: u16 = 130;
+const CRYPTO: u16 = 131;
 
-const SIMPLIFY: u16 = 131;
+const SUCCESS: u16 = 132;
 
-const FIRST_STEP: u16 = 132;
+const SIMPLIFY: u16 = 133;
+
+const FIRST_STEP: u16 = 134;
 /// The row of a step.
-pub const STEP: u16 = 151;
+pub const STEP: u16 = 153;
 
-const STEP_ITEM: u16 = 152;
+const STEP_ITEM: u16 = 154;
 
-const STEPS: u16 = 153;
+const STEPS: u16 = 155;
 /// The row of a script: steps with a semicolon behind each.
-pub const SCRIPT: u16 = 154;
+pub const SCRIPT: u16 = 156;
 
-const BUILT_ITEM: u16 = 155;
+const BUILT_ITEM: u16 = 157;
 
-const BUILT_STEPS: u16 = 156;
+const BUILT_STEPS: u16 = 158;
 /// The row of a script whose steps have a rule.
-pub const BUILT_SCRIPT: u16 = 157;
+pub const BUILT_SCRIPT: u16 = 159;
 /// How many of the steps, from the first one on, have a rule.
 const BUILT: u16 = 13;
 /// How many rows the table has.
-const ROWS: usize = 158;
+const ROWS: usize = 160;
 
 /// Lists of names, numbers, terms and lines.
 static LIST_ROWS: [&[Piece]; 21] = [
@@ -269,7 +271,7 @@ static LIST_ROWS: [&[Piece]; 21] = [
 ];
 
 /// Reasons.
-static REASON_ROWS: [&[Piece]; 46] = [
+static REASON_ROWS: [&[Piece]; 48] = [
     &[Says(ScriptWord::Fact), Blank, Number],
     &[Says(ScriptWord::Here)],
     &[Says(ScriptWord::Of), Blank, Number],
@@ -309,6 +311,7 @@ static REASON_ROWS: [&[Piece]; 46] = [
         Blank,
         Number,
     ],
+    &[Says(ScriptWord::Late), Blank, Number, Chain(ALL_CITED)],
     &[Over(Head::ByFact, FACT)],
     &[Over(Head::ByHere, HERE)],
     &[Over(Head::ByOf, OF)],
@@ -332,6 +335,7 @@ static REASON_ROWS: [&[Piece]; 46] = [
     &[Over(Head::ByOtherHere, OTHER_HERE)],
     &[Over(Head::BySame, SAME)],
     &[Over(Head::ByDistinct, DISTINCT_REASON)],
+    &[Over(Head::ByLate, LATE)],
 ];
 
 /// Lines of derivations.
@@ -342,7 +346,7 @@ static LINE_ROWS: [&[Piece]; 7] = [
         Blank,
         Says(ScriptWord::By),
         Blank,
-        OneOf(BY_FACT, 23),
+        OneOf(BY_FACT, 24),
     ],
     &[
         Sign(Mark::Cases),
@@ -362,7 +366,7 @@ static LINE_ROWS: [&[Piece]; 7] = [
         Blank,
         Says(ScriptWord::By),
         Blank,
-        OneOf(BY_FACT, 23),
+        OneOf(BY_FACT, 24),
     ],
     &[Over(Head::Defined, DEFINED_LINE)],
     &[Over(Head::Cases, CASES_LINE)],

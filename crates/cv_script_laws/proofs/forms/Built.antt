@@ -62,12 +62,12 @@ module _ (low : TableSort → Relation Role Tree) (none : (ts : List Sign) (t : 
         (d.0, (b.0, record { mid = c.mid; front = c.front; back = c.back; first = (m.0, all_items ts m.0 c.front c.mid m.1, m.2); second = c.second; uses = c.uses }, b.2), d.2)
 
 abbrev pub step_rows : ℕ → TreesForm
-step_rows r = form script_rows 152 r
+step_rows r = form script_rows 154 r
 
-pub built_is : table_rule script_rows (Row built_script_row) ≡ script (one_of step_rows 132 steps_with_a_rule)
+pub built_is : table_rule script_rows (Row built_script_row) ≡ script (one_of step_rows 134 steps_with_a_rule)
 built_is = refl
 
-pub script_is : table_rule script_rows (Row script_row) ≡ script (one_of step_rows 132 19)
+pub script_is : table_rule script_rows (Row script_row) ≡ script (one_of step_rows 134 19)
 script_is = refl
 
 pub whole : (limit live from : ℕ) (signs : List Sign) (steps : List Tree) → script_of built_script_row limit live from signs ≡ Ok steps → script_of script_row limit live from signs ≡ Ok steps
@@ -76,7 +76,7 @@ whole limit live from signs steps e =
     let r = row_is_read built_script_row refl refl limit live from signs steps e in
     let low = IsSort (table_heads script_rows) deep_rule levels in
     let b = subst (λ f. Spells (table_heads script_rows) true low f signs r.script r.uses []) built_is r.spelled in
-    let a = a_script low (nowhere levels) (one_of step_rows 132 steps_with_a_rule) (one_of step_rows 132 19) (more_rows low (nowhere levels) step_rows 132 steps_with_a_rule 19 (omega arith)) signs r.script r.uses [] b in
+    let a = a_script low (nowhere levels) (one_of step_rows 134 steps_with_a_rule) (one_of step_rows 134 19) (more_rows low (nowhere levels) step_rows 134 steps_with_a_rule 19 (omega arith)) signs r.script r.uses [] b in
     let d = subst (λ f. Spells (table_heads script_rows) true low f signs r.script r.uses []) (sym script_is) a in
     let s = spells_same (table_heads script_rows) is_deep true (IsSort (table_heads script_rows) deep_rule levels) (IsSort (table_heads script_rows) (table_rule script_rows) levels) (sort_spelled_back (table_heads script_rows) is_deep (table_rule script_rows) deep_rule agree closed levels) (table_rule script_rows (Row script_row)) refl signs r.script r.uses [] d in
     takes limit live from signs r.script r.uses s r.room ∙ ap Ok (sym r.items)

@@ -50,7 +50,7 @@ carried_deep (unnamed r) = refl
 carried_deep other = refl
 carried_deep (note r) = refl
 
-line_deep : sorts_pass is_deep (table_rule script_rows (Row 73)) ≡ true
+line_deep : sorts_pass is_deep (table_rule script_rows (Row 75)) ≡ true
 unfolding sorts_pass
 line_deep = refl
 

@@ -148,10 +148,10 @@ module _ (below : TableSort → Reader Role Tree) where
 -- scripts of the steps that have a rule, and of all steps
 
 abbrev built : TreesForm
-built = one_of step_rows 132 steps_with_a_rule
+built = one_of step_rows 134 steps_with_a_rule
 
 abbrev all : TreesForm
-all = one_of step_rows 132 19
+all = one_of step_rows 134 19
 
 built_stays : may_vanish built ≡ false
 built_stays = refl
@@ -174,7 +174,7 @@ row_is row f e signs = ap (λ q. reads heads true low q signs) e
 
 rows_same : (signs : List Sign) → Same low all (read_row built_script_row signs) (read_row script_row signs)
 rows_same signs =
-    let s = script_same low all built built_stays all_stays (begins_more step_rows 132 steps_with_a_rule 19 (omega arith)) (first_same low step_rows 132 steps_with_a_rule 19 (omega arith)) signs in
+    let s = script_same low all built built_stays all_stays (begins_more step_rows 134 steps_with_a_rule 19 (omega arith)) (first_same low step_rows 134 steps_with_a_rule 19 (omega arith)) signs in
     subst (λ r. Same low all r (read_row script_row signs)) (sym (row_is built_script_row built built_is signs)) (subst (λ q. Same low all (R low (script built) signs) q) (sym (row_is script_row all script_is signs)) s)
 
 unbuilt : (k token : ℕ) (b : Bool) → b ≡ true → (let r : Result (List Tree) ScriptError = Err (if b then Unbuilt k else Script k) in r) ≡ Err (Script token) → ⊥

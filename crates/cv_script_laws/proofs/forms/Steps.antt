@@ -125,18 +125,18 @@ over_node h (t ∷ ts) = (t, single ts, refl)
 abbrev IsPart : Tree → Type 0
 IsPart t = (p : Part) × (part_in t ≡ Some p)
 
-parts : (l : List Tree) → OneOf 115 78 3 l → One IsPart l
-parts l (inl d) = let x = last (row 115 78 refl l d) in record { tree = x.tree; is = x.is; first = (let y = over_node head.ThenPart x.first.0 in (part.Then, ap part_in (x.first.1 ∙ y.2))) }
-parts l (inr (inl d)) = let x = last (row 115 79 refl l d) in record { tree = x.tree; is = x.is; first = (let y = over_node head.ElsePart x.first.0 in (part.Else, ap part_in (x.first.1 ∙ y.2))) }
-parts l (inr (inr (inl d))) = let x = last (row 115 80 refl l d) in record { tree = x.tree; is = x.is; first = (part.Branch x.first.0, ap part_in x.first.1) }
+parts : (l : List Tree) → OneOf 117 80 3 l → One IsPart l
+parts l (inl d) = let x = last (row 117 80 refl l d) in record { tree = x.tree; is = x.is; first = (let y = over_node head.ThenPart x.first.0 in (part.Then, ap part_in (x.first.1 ∙ y.2))) }
+parts l (inr (inl d)) = let x = last (row 117 81 refl l d) in record { tree = x.tree; is = x.is; first = (let y = over_node head.ElsePart x.first.0 in (part.Else, ap part_in (x.first.1 ∙ y.2))) }
+parts l (inr (inr (inl d))) = let x = last (row 117 82 refl l d) in record { tree = x.tree; is = x.is; first = (part.Branch x.first.0, ap part_in x.first.1) }
 parts l (inr (inr (inr d))) = absurd d
 
 abbrev Adds : Tree → Type 0
 Adds t = (b : Bool) × (adds_in t ≡ Some b)
 
-additions : (l : List Tree) → OneOf 125 81 2 l → One Adds l
-additions l (inl d) = let x = last (row 125 81 refl l d) in record { tree = x.tree; is = x.is; first = (let y = over_node head.AddPart x.first.0 in (true, ap adds_in (x.first.1 ∙ y.2))) }
-additions l (inr (inl d)) = let x = last (row 125 82 refl l d) in record { tree = x.tree; is = x.is; first = (let y = over_node head.DropPart x.first.0 in (false, ap adds_in (x.first.1 ∙ y.2))) }
+additions : (l : List Tree) → OneOf 127 83 2 l → One Adds l
+additions l (inl d) = let x = last (row 127 83 refl l d) in record { tree = x.tree; is = x.is; first = (let y = over_node head.AddPart x.first.0 in (true, ap adds_in (x.first.1 ∙ y.2))) }
+additions l (inr (inl d)) = let x = last (row 127 84 refl l d) in record { tree = x.tree; is = x.is; first = (let y = over_node head.DropPart x.first.0 in (false, ap adds_in (x.first.1 ∙ y.2))) }
 additions l (inr (inr d)) = absurd d
 
 -- the trees of a row, as many as are asked for
@@ -153,7 +153,7 @@ module _ (test : StepItems → Bool) (h : Head) where
 
 -- steps
 
-splits : (l : List Tree) → Made 118 l → HasItems is_built (over head.SplitStep l)
+splits : (l : List Tree) → Made 120 l → HasItems is_built (over head.SplitStep l)
 splits l d =
     let p = take (skip (skip d)) in
     let m = last (skip p.second) in
@@ -161,11 +161,11 @@ splits l d =
     has (Split p.first.0 m.tree) (bound (λ v. tree_in m.tree >>= λ t. Some (Split v t)) (number_is p.first) (bound (λ t. Some (Split p.first.0 t)) m.first refl)) refl
     ))
 
-lets : (l : List Tree) → Made 119 l → HasItems is_built (over head.LetStep l)
+lets : (l : List Tree) → Made 121 l → HasItems is_built (over head.LetStep l)
 lets l d =
     let p = take (skip (skip d)) in
     let x = take (skip p.second) in
-    let ty = taken (types 119 refl refl) (skip (skip x.second)) in
+    let ty = taken (types 121 refl refl) (skip (skip x.second)) in
     let m = last (skip (skip (skip ty.second))) in
     with_first is_built head.LetStep p (subst (λ z. HasItems is_built (Node head.LetStep p.tree (single z))) (sym (x.is ∙ ap (λ z. x.tree ∷ z) (ty.is ∙ ap (λ z. ty.tree ∷ z) m.is))) (
     has (Let p.first.0 x.first.0 ty.first.0 m.tree) (
@@ -176,11 +176,11 @@ lets l d =
     )))) refl
     ))
 
-news : (l : List Tree) → Made 121 l → HasItems is_built (over head.NewStep l)
+news : (l : List Tree) → Made 123 l → HasItems is_built (over head.NewStep l)
 news l d =
     let p = take (skip (skip d)) in
     let x = take (skip p.second) in
-    let ty = taken (types 121 refl refl) (skip (skip x.second)) in
+    let ty = taken (types 123 refl refl) (skip (skip x.second)) in
     with_first is_built head.NewStep p (subst (λ z. HasItems is_built (Node head.NewStep p.tree (single z))) (sym (x.is ∙ ap (λ z. x.tree ∷ z) (ty.is ∙ ap (λ z. ty.tree ∷ z) ty.second))) (
     has (New p.first.0 x.first.0 ty.first.0) (
     bound (λ v. name_in x.tree >>= λ y. name_in ty.tree >>= λ T. Some (New v y T)) (number_is p.first) (
@@ -189,28 +189,28 @@ news l d =
     ))) refl
     ))
 
-unnews : (l : List Tree) → Made 122 l → HasItems is_built (over head.UnnewStep l)
+unnews : (l : List Tree) → Made 124 l → HasItems is_built (over head.UnnewStep l)
 unnews l d = let x = last (skip (skip d)) in with_one is_built head.UnnewStep x (has (Unnew x.first.0) (bound (λ y. Some (Unnew y)) (name_is x.first) refl) refl)
 
-rewrites : (l : List Tree) → Made 114 l → HasItems is_built (over head.RewriteStep l)
+rewrites : (l : List Tree) → Made 116 l → HasItems is_built (over head.RewriteStep l)
 rewrites l d =
     let p = take (skip (skip d)) in
     let m = take (skip (skip (skip p.second))) in
-    let by = taken (braces 114 refl) (skip (skip (skip m.second))) in
+    let by = taken (braces 116 refl) (skip (skip (skip m.second))) in
     with_first is_built head.RewriteStep p (subst (λ z. HasItems is_built (Node head.RewriteStep p.tree (single z))) (sym (m.is ∙ ap (λ z. m.tree ∷ z) by.is)) (
     has (Rewrite p.first.0 m.tree (single (by.tree ∷ by.rest))) (bound (λ v. tree_in m.tree >>= λ t. Some (Rewrite v t (single (by.tree ∷ by.rest)))) (number_is p.first) (bound (λ t. Some (Rewrite p.first.0 t (single (by.tree ∷ by.rest)))) m.first refl)) refl
     ))
 
-prunes : (l : List Tree) → Made 115 l → HasItems is_built (over head.PruneStep l)
+prunes : (l : List Tree) → Made 117 l → HasItems is_built (over head.PruneStep l)
 prunes l d =
     let p = take (skip (skip d)) in
     let k = taken parts (skip p.second) in
-    let by = taken (braces 115 refl) (skip (skip (skip k.second))) in
+    let by = taken (braces 117 refl) (skip (skip (skip k.second))) in
     with_first is_built head.PruneStep p (subst (λ z. HasItems is_built (Node head.PruneStep p.tree (single z))) (sym (k.is ∙ ap (λ z. k.tree ∷ z) by.is)) (
     has (Prune p.first.0 k.first.0 (single (by.tree ∷ by.rest))) (bound (λ v. part_in k.tree >>= λ q. Some (Prune v q (single (by.tree ∷ by.rest)))) (number_is p.first) (bound (λ q. Some (Prune p.first.0 q (single (by.tree ∷ by.rest)))) k.first.1 refl)) refl
     ))
 
-renames : (l : List Tree) → Made 113 l → HasItems is_built (over head.RenameStep l)
+renames : (l : List Tree) → Made 115 l → HasItems is_built (over head.RenameStep l)
 renames l d =
     let x = take (skip (skip d)) in
     let y = last (skip (skip (skip x.second))) in
@@ -218,7 +218,7 @@ renames l d =
     has (Rename x.first.0 y.first.0) (bound (λ v. name_in y.tree >>= λ w. Some (Rename v w)) (name_is x.first) (bound (λ w. Some (Rename x.first.0 w)) (name_is y.first) refl)) refl
     ))
 
-picks : (l : List Tree) → Made 116 l → HasItems is_any (over head.PickStep l)
+picks : (l : List Tree) → Made 118 l → HasItems is_any (over head.PickStep l)
 picks l d =
     let p = take (skip (skip d)) in
     with_first is_any head.PickStep p (
@@ -226,21 +226,21 @@ picks l d =
     has (Pick p.first.0 (first b) (first (second b)) (second (second b))) (bound (λ v. Some (Pick v (first b) (first (second b)) (second (second b)))) (number_is p.first) refl) refl
     )
 
-merges : (l : List Tree) → Made 117 l → HasItems is_built (over head.MergeStep l)
+merges : (l : List Tree) → Made 119 l → HasItems is_built (over head.MergeStep l)
 merges l d = let p = last (skip (skip d)) in with_one is_built head.MergeStep p (has (Merge p.first.0) (bound (λ v. Some (Merge v)) (number_is p.first) refl) refl)
 
-unlets : (l : List Tree) → Made 120 l → HasItems is_built (over head.UnletStep l)
+unlets : (l : List Tree) → Made 122 l → HasItems is_built (over head.UnletStep l)
 unlets l d = let x = last (skip (skip d)) in with_one is_built head.UnletStep x (has (Unlet x.first.0) (bound (λ y. Some (Unlet y)) (name_is x.first) refl) refl)
 
-moves : (l : List Tree) → Made 123 l → HasItems is_built (over head.MoveStep l)
+moves : (l : List Tree) → Made 125 l → HasItems is_built (over head.MoveStep l)
 moves l d = let p = last (skip (skip d)) in with_one is_built head.MoveStep p (has (Move p.first.0) (bound (λ v. Some (Move v)) (number_is p.first) refl) refl)
 
-array_renames : (l : List Tree) → Made 124 l → HasItems is_any (over head.ArrayRenameStep l)
+array_renames : (l : List Tree) → Made 126 l → HasItems is_any (over head.ArrayRenameStep l)
 array_renames l d =
     let x = take (skip (skip d)) in
     with_first is_any head.ArrayRenameStep x (has (ArrayRename x.first.0 (single x.rest)) (bound (λ y. Some (ArrayRename y (single x.rest))) (name_is x.first) refl) refl)
 
-codefs : (l : List Tree) → Made 125 l → HasItems is_built (over head.CodefStep l)
+codefs : (l : List Tree) → Made 127 l → HasItems is_built (over head.CodefStep l)
 codefs l d =
     let p = take (skip (skip d)) in
     let k = taken additions (skip p.second) in
@@ -257,20 +257,20 @@ codefs l d =
     )))) refl
     ))
 
-birthdays : (l : List Tree) → Made 126 l → HasItems is_any (over head.BirthdayStep l)
+birthdays : (l : List Tree) → Made 128 l → HasItems is_any (over head.BirthdayStep l)
 birthdays l d =
     let x = take (skip (skip d)) in
     with_first is_any head.BirthdayStep x (has (Birthday x.first.0 (single x.rest)) (bound (λ y. Some (Birthday y (single x.rest))) (name_is x.first) refl) refl)
 
-guesses : (l : List Tree) → Made 127 l → HasItems is_any (over head.GuessStep l)
+guesses : (l : List Tree) → Made 129 l → HasItems is_any (over head.GuessStep l)
 guesses l d =
     let x = take (skip (skip d)) in
     with_first is_any head.GuessStep x (has (Guess x.first.0 (single x.rest)) (bound (λ y. Some (Guess y (single x.rest))) (name_is x.first) refl) refl)
 
-freshes : (l : List Tree) → Made 128 l → HasItems is_any (over head.FreshStep l)
+freshes : (l : List Tree) → Made 130 l → HasItems is_any (over head.FreshStep l)
 freshes l d = let p = last (skip (skip d)) in with_one is_any head.FreshStep p (has (Fresh p.first.0) (bound (λ v. Some (Fresh v)) (number_is p.first) refl) refl)
 
-cryptos : (l : List Tree) → Made 129 l → HasItems is_built (over head.CryptoStep l)
+cryptos : (l : List Tree) → Made 131 l → HasItems is_built (over head.CryptoStep l)
 cryptos l d =
     let e = take (skip (skip d)) in
     let x = last (skip e.second) in
@@ -278,12 +278,12 @@ cryptos l d =
     has (Crypto e.first.0 x.first.0) (bound (λ v. name_in x.tree >>= λ w. Some (Crypto v w)) (name_is e.first) (bound (λ w. Some (Crypto e.first.0 w)) (name_is x.first) refl)) refl
     ))
 
-successes : (l : List Tree) → Made 130 l → HasItems is_built (over head.SuccessStep l)
+successes : (l : List Tree) → Made 132 l → HasItems is_built (over head.SuccessStep l)
 successes l d =
     let k = take (skip (skip d)) in
     with_first is_built head.SuccessStep k (has (Success k.first.0 (single k.rest)) (bound (λ v. Some (Success v (single k.rest))) (number_is k.first) refl) refl)
 
-simplifies : (l : List Tree) → Made 131 l → HasItems is_any (over head.SimplifyStep l)
+simplifies : (l : List Tree) → Made 133 l → HasItems is_any (over head.SimplifyStep l)
 simplifies l d = let y = over_node head.SimplifyStep l in has Simplify (ap items_of_step y.2) refl
 
 -- a row of one step
@@ -308,29 +308,29 @@ record StepRow (test : StepItems → Bool) : Type 0 where
 
 abbrev rows_with_a_rule : List (StepRow is_built)
 rows_with_a_rule =
-    record { row = 132; makes = a_step is_built head.SplitStep 132 118 refl splits }
-    ∷ record { row = 133; makes = a_step is_built head.LetStep 133 119 refl lets }
-    ∷ record { row = 134; makes = a_step is_built head.NewStep 134 121 refl news }
-    ∷ record { row = 135; makes = a_step is_built head.UnnewStep 135 122 refl unnews }
-    ∷ record { row = 136; makes = a_step is_built head.RewriteStep 136 114 refl rewrites }
-    ∷ record { row = 137; makes = a_step is_built head.PruneStep 137 115 refl prunes }
-    ∷ record { row = 138; makes = a_step is_built head.SuccessStep 138 130 refl successes }
-    ∷ record { row = 139; makes = a_step is_built head.CryptoStep 139 129 refl cryptos }
-    ∷ record { row = 140; makes = a_step is_built head.UnletStep 140 120 refl unlets }
-    ∷ record { row = 141; makes = a_step is_built head.RenameStep 141 113 refl renames }
-    ∷ record { row = 142; makes = a_step is_built head.MergeStep 142 117 refl merges }
-    ∷ record { row = 143; makes = a_step is_built head.MoveStep 143 123 refl moves }
-    ∷ record { row = 144; makes = a_step is_built head.CodefStep 144 125 refl codefs }
+    record { row = 134; makes = a_step is_built head.SplitStep 134 120 refl splits }
+    ∷ record { row = 135; makes = a_step is_built head.LetStep 135 121 refl lets }
+    ∷ record { row = 136; makes = a_step is_built head.NewStep 136 123 refl news }
+    ∷ record { row = 137; makes = a_step is_built head.UnnewStep 137 124 refl unnews }
+    ∷ record { row = 138; makes = a_step is_built head.RewriteStep 138 116 refl rewrites }
+    ∷ record { row = 139; makes = a_step is_built head.PruneStep 139 117 refl prunes }
+    ∷ record { row = 140; makes = a_step is_built head.SuccessStep 140 132 refl successes }
+    ∷ record { row = 141; makes = a_step is_built head.CryptoStep 141 131 refl cryptos }
+    ∷ record { row = 142; makes = a_step is_built head.UnletStep 142 122 refl unlets }
+    ∷ record { row = 143; makes = a_step is_built head.RenameStep 143 115 refl renames }
+    ∷ record { row = 144; makes = a_step is_built head.MergeStep 144 119 refl merges }
+    ∷ record { row = 145; makes = a_step is_built head.MoveStep 145 125 refl moves }
+    ∷ record { row = 146; makes = a_step is_built head.CodefStep 146 127 refl codefs }
     ∷ []
 
 abbrev later_rows : List (StepRow is_any)
 later_rows =
-    record { row = 145; makes = a_step is_any head.PickStep 145 116 refl picks }
-    ∷ record { row = 146; makes = a_step is_any head.ArrayRenameStep 146 124 refl array_renames }
-    ∷ record { row = 147; makes = a_step is_any head.BirthdayStep 147 126 refl birthdays }
-    ∷ record { row = 148; makes = a_step is_any head.GuessStep 148 127 refl guesses }
-    ∷ record { row = 149; makes = a_step is_any head.FreshStep 149 128 refl freshes }
-    ∷ record { row = 150; makes = a_step is_any head.SimplifyStep 150 131 refl simplifies }
+    record { row = 147; makes = a_step is_any head.PickStep 147 118 refl picks }
+    ∷ record { row = 148; makes = a_step is_any head.ArrayRenameStep 148 126 refl array_renames }
+    ∷ record { row = 149; makes = a_step is_any head.BirthdayStep 149 128 refl birthdays }
+    ∷ record { row = 150; makes = a_step is_any head.GuessStep 150 129 refl guesses }
+    ∷ record { row = 151; makes = a_step is_any head.FreshStep 151 130 refl freshes }
+    ∷ record { row = 152; makes = a_step is_any head.SimplifyStep 152 133 refl simplifies }
     ∷ []
 
 abbrev any_row : StepRow is_built → StepRow is_any
@@ -356,11 +356,11 @@ one_step test (s ∷ l) n r e h ts (inl d) =
     s.makes ts (subst (λ k. Made k ts) (sym (eqb-true s.row r p.0)) (row n r (lt-ltb r n (omega (arith, h))) ts d))
 one_step test (s ∷ l) n r e h ts (inr d) = one_step test l n (r + 1) (and_parts (s.row == r) _ e).1 (omega (arith, h)) ts d
 
-built_step : (ts : List Tree) → OneOf 155 132 steps_with_a_rule ts → IsStep is_built ts
-built_step = one_step is_built rows_with_a_rule 155 132 refl (lit≤ tt)
+built_step : (ts : List Tree) → OneOf 157 134 steps_with_a_rule ts → IsStep is_built ts
+built_step = one_step is_built rows_with_a_rule 157 134 refl (lit≤ tt)
 
-step : (ts : List Tree) → OneOf 152 132 19 ts → IsStep is_any ts
-step = one_step is_any all_rows 152 132 refl (lit≤ tt)
+step : (ts : List Tree) → OneOf 154 134 19 ts → IsStep is_any ts
+step = one_step is_any all_rows 154 134 refl (lit≤ tt)
 
 -- scripts
 
@@ -390,8 +390,8 @@ module _ (test : StepItems → Bool) where
       ))
 
 -- what a row of the table of scripts spells it makes
-made_so : (row : ℕ) → nat_lt row 158 ≡ true → (signs : List Sign) (t : Tree) (us : _) → SpellsWith (table_heads script_rows) deep_rule (table_rule script_rows (Row row)) levels signs t us [] → (ts : List Tree) × (single ts ≡ t) × Made row ts
-made_so r e signs t us d = (d.0, d.2, row 158 r e d.0 (of_row AnyName AnyName IsNode AnyTree (λ s. Unit {0}) (table_heads script_rows) true (IsSort (table_heads script_rows) deep_rule levels) (λ x w g. tt) (λ v g. tt) (λ p ts a us rest e w. (text_is_node p ts a us rest e, good rest)) (λ r ts a us rest e w. (tt, good rest)) (nowhere levels) script_rows 158 r signs d.0 us [] d.1 (good signs)).0)
+made_so : (row : ℕ) → nat_lt row 160 ≡ true → (signs : List Sign) (t : Tree) (us : _) → SpellsWith (table_heads script_rows) deep_rule (table_rule script_rows (Row row)) levels signs t us [] → (ts : List Tree) × (single ts ≡ t) × Made row ts
+made_so r e signs t us d = (d.0, d.2, row 160 r e d.0 (of_row AnyName AnyName IsNode AnyTree (λ s. Unit {0}) (table_heads script_rows) true (IsSort (table_heads script_rows) deep_rule levels) (λ x w g. tt) (λ v g. tt) (λ p ts a us rest e w. (text_is_node p ts a us rest e, good rest)) (λ r ts a us rest e w. (tt, good rest)) (nowhere levels) script_rows 160 r signs d.0 us [] d.1 (good signs)).0)
   where
     good : (ts : List Sign) → AllByRecursion (λ s. Unit {0}) ts
     good ts = AllByRecursion_always (λ s. Unit {0}) (λ s. tt) ts
@@ -401,11 +401,11 @@ unfolding sorts_pass
 have_items limit live from signs steps e =
     let r = row_is_read script_row refl refl limit live from signs steps e in
     let m = made_so script_row refl signs r.script r.uses r.spelled in
-    subst (AllByRecursion (HasItems is_any)) (sym (r.items ∙ ap items_of (sym m.1))) (script_items is_any 154 153 152 (λ ts d. with_end is_any (OneOf 152 132 19) step ts (row 153 152 refl ts d)) m.0 m.2 (λ l d. row 154 153 refl l d))
+    subst (AllByRecursion (HasItems is_any)) (sym (r.items ∙ ap items_of (sym m.1))) (script_items is_any 156 155 154 (λ ts d. with_end is_any (OneOf 154 134 19) step ts (row 155 154 refl ts d)) m.0 m.2 (λ l d. row 156 155 refl l d))
 
 pub have_rules : (limit live from : ℕ) (signs : List Sign) (steps : List Tree) → script_of built_script_row limit live from signs ≡ Ok steps → AllByRecursion (HasItems is_built) steps
 unfolding sorts_pass
 have_rules limit live from signs steps e =
     let r = row_is_read built_script_row refl refl limit live from signs steps e in
     let m = made_so built_script_row refl signs r.script r.uses r.spelled in
-    subst (AllByRecursion (HasItems is_built)) (sym (r.items ∙ ap items_of (sym m.1))) (script_items is_built 157 156 155 (λ ts d. with_end is_built (OneOf 155 132 steps_with_a_rule) built_step ts (row 156 155 refl ts d)) m.0 m.2 (λ l d. row 157 156 refl l d))
+    subst (AllByRecursion (HasItems is_built)) (sym (r.items ∙ ap items_of (sym m.1))) (script_items is_built 159 158 157 (λ ts d. with_end is_built (OneOf 157 134 steps_with_a_rule) built_step ts (row 158 157 refl ts d)) m.0 m.2 (λ l d. row 159 158 refl l d))

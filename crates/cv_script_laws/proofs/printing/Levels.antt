@@ -33,7 +33,7 @@ no_room h (level f) e ts a us rest d = let r : false ≡ true = d.0 in cc
 no_room h (deeper s) e ts a us rest d = d
 no_room h f e ts a us rest d = absurd (cc)
 
-line_needs_room : needs_room (table_rule script_rows (Row 73)) ≡ true
+line_needs_room : needs_room (table_rule script_rows (Row 75)) ≡ true
 line_needs_room = refl
 
 module _ (count : ℕ) (some : nat_lt 0 count ≡ true) where
@@ -46,14 +46,14 @@ module _ (count : ℕ) (some : nat_lt 0 count ≡ true) where
   MadeOver n k r l = RowMade (NameIs count some) (NumberIs count some) (IsText count some) (BelowIs count some (IsTree script_rows n)) script_rows k r l
 
   -- the trees of a row with n levels and one, where those below are such
-  made_over : (n : ℕ) → ((r : ℕ) (ts : List Sign) (t : Tree) (us : Uses) (rest : List Sign) → IsSort (table_heads script_rows) deep_rule n (Row r) ts t us rest → AreGood count ts → IsKnownTree n r t × AreGood count rest) → (r : ℕ) (ts : List Sign) (l : List Tree) (us : Uses) (rest : List Sign) → SpellsWith (table_heads script_rows) deep_rule (row_phrase script_rows r) n ts l us rest → AreGood count ts → MadeOver n 158 r l × AreGood count rest
-  made_over n low r ts l us rest d w = of_row (NameIs count some) (NumberIs count some) (IsText count some) (BelowIs count some (IsTree script_rows n)) (IsGood count) (table_heads script_rows) true (IsSort (table_heads script_rows) deep_rule n) (λ x s g. g) (λ v g. g.1) (text_is_known count some n) low (nowhere n) script_rows 158 r ts l us rest d w
+  made_over : (n : ℕ) → ((r : ℕ) (ts : List Sign) (t : Tree) (us : Uses) (rest : List Sign) → IsSort (table_heads script_rows) deep_rule n (Row r) ts t us rest → AreGood count ts → IsKnownTree n r t × AreGood count rest) → (r : ℕ) (ts : List Sign) (l : List Tree) (us : Uses) (rest : List Sign) → SpellsWith (table_heads script_rows) deep_rule (row_phrase script_rows r) n ts l us rest → AreGood count ts → MadeOver n 160 r l × AreGood count rest
+  made_over n low r ts l us rest d w = of_row (NameIs count some) (NumberIs count some) (IsText count some) (BelowIs count some (IsTree script_rows n)) (IsGood count) (table_heads script_rows) true (IsSort (table_heads script_rows) deep_rule n) (λ x s g. g) (λ v g. g.1) (text_is_known count some n) low (nowhere n) script_rows 160 r ts l us rest d w
 
   pub line_is_tree : (n r : ℕ) (ts : List Sign) (t : Tree) (us : Uses) (rest : List Sign) → IsSort (table_heads script_rows) deep_rule n (Row r) ts t us rest → AreGood count ts → IsKnownTree n r t × AreGood count rest
   unfolding IsSort
   line_is_tree zero r ts t us rest d w = by_test (eqb r line_row) refl d where
     by_test : (b : Bool) → eqb r line_row ≡ b → Spells (table_heads script_rows) false no_sort (when_deep b (Row r)) ts t us rest → IsKnownTree zero r t × AreGood count rest
-    by_test true e d = absurd (no_room (table_heads script_rows) (table_rule script_rows (Row 73)) line_needs_room ts t us rest (subst (λ k. Spells (table_heads script_rows) false no_sort (table_rule script_rows (Row k)) ts t us rest) (eqb-true r line_row e) d))
+    by_test true e d = absurd (no_room (table_heads script_rows) (table_rule script_rows (Row 75)) line_needs_room ts t us rest (subst (λ k. Spells (table_heads script_rows) false no_sort (table_rule script_rows (Row k)) ts t us rest) (eqb-true r line_row e) d))
     by_test false e d = absurd d
   line_is_tree (suc n) r ts t us rest d w = by_test (eqb r line_row) d (line_is_tree n) where
     by_test : (b : Bool) → Spells (table_heads script_rows) true (IsSort (table_heads script_rows) deep_rule n) (when_deep b (Row r)) ts t us rest → ((r : ℕ) (ts : List Sign) (t : Tree) (us : Uses) (rest : List Sign) → IsSort (table_heads script_rows) deep_rule n (Row r) ts t us rest → AreGood count ts → IsKnownTree n r t × AreGood count rest) → IsKnownTree (suc n) r t × AreGood count rest
@@ -64,5 +64,5 @@ module _ (count : ℕ) (some : nat_lt 0 count ≡ true) where
     by_test false d low = absurd (nowhere n ts t us rest d)
 
   -- what is made of a row, with n levels and one
-  pub row_is_made : (n r : ℕ) (ts : List Sign) (l : List Tree) (us : Uses) (rest : List Sign) → SpellsWith (table_heads script_rows) deep_rule (row_phrase script_rows r) n ts l us rest → AreGood count ts → MadeOver n 158 r l
+  pub row_is_made : (n r : ℕ) (ts : List Sign) (l : List Tree) (us : Uses) (rest : List Sign) → SpellsWith (table_heads script_rows) deep_rule (row_phrase script_rows r) n ts l us rest → AreGood count ts → MadeOver n 160 r l
   row_is_made n r ts l us rest d w = (made_over n (line_is_tree n) r ts l us rest d w).0

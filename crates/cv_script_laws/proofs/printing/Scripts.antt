@@ -56,32 +56,32 @@ module _ (count : ℕ) (some : nat_lt 0 count ≡ true) where
   one_over ts d = (d.first.0, d.parts ∙ (ap (λ z. z ++ d.back) d.first.1 ∙ ap (λ z. d.first.0 ∷ z) d.second))
 
   -- a row of steps makes one tree
-  one_tree : (ts : List Tree) → OneOf 152 132 19 ts → (t : Tree) × (ts ≡ t ∷ [])
-  one_tree ts (inl d) = one_over ts (row 152 132 refl ts d)
-  one_tree ts (inr (inl d)) = one_over ts (row 152 133 refl ts d)
-  one_tree ts (inr (inr (inl d))) = one_over ts (row 152 134 refl ts d)
-  one_tree ts (inr (inr (inr (inl d)))) = one_over ts (row 152 135 refl ts d)
-  one_tree ts (inr (inr (inr (inr (inl d))))) = one_over ts (row 152 136 refl ts d)
-  one_tree ts (inr (inr (inr (inr (inr (inl d)))))) = one_over ts (row 152 137 refl ts d)
-  one_tree ts (inr (inr (inr (inr (inr (inr (inl d))))))) = one_over ts (row 152 138 refl ts d)
-  one_tree ts (inr (inr (inr (inr (inr (inr (inr (inl d)))))))) = one_over ts (row 152 139 refl ts d)
-  one_tree ts (inr (inr (inr (inr (inr (inr (inr (inr (inl d))))))))) = one_over ts (row 152 140 refl ts d)
-  one_tree ts (inr (inr (inr (inr (inr (inr (inr (inr (inr (inl d)))))))))) = one_over ts (row 152 141 refl ts d)
-  one_tree ts (inr (inr (inr (inr (inr (inr (inr (inr (inr (inr (inl d))))))))))) = one_over ts (row 152 142 refl ts d)
-  one_tree ts (inr (inr (inr (inr (inr (inr (inr (inr (inr (inr (inr (inl d)))))))))))) = one_over ts (row 152 143 refl ts d)
-  one_tree ts (inr (inr (inr (inr (inr (inr (inr (inr (inr (inr (inr (inr (inl d))))))))))))) = one_over ts (row 152 144 refl ts d)
-  one_tree ts (inr (inr (inr (inr (inr (inr (inr (inr (inr (inr (inr (inr (inr (inl d)))))))))))))) = one_over ts (row 152 145 refl ts d)
-  one_tree ts (inr (inr (inr (inr (inr (inr (inr (inr (inr (inr (inr (inr (inr (inr (inl d))))))))))))))) = one_over ts (row 152 146 refl ts d)
-  one_tree ts (inr (inr (inr (inr (inr (inr (inr (inr (inr (inr (inr (inr (inr (inr (inr (inl d)))))))))))))))) = one_over ts (row 152 147 refl ts d)
-  one_tree ts (inr (inr (inr (inr (inr (inr (inr (inr (inr (inr (inr (inr (inr (inr (inr (inr (inl d))))))))))))))))) = one_over ts (row 152 148 refl ts d)
-  one_tree ts (inr (inr (inr (inr (inr (inr (inr (inr (inr (inr (inr (inr (inr (inr (inr (inr (inr (inl d)))))))))))))))))) = one_over ts (row 152 149 refl ts d)
-  one_tree ts (inr (inr (inr (inr (inr (inr (inr (inr (inr (inr (inr (inr (inr (inr (inr (inr (inr (inr (inl d))))))))))))))))))) = one_over ts (row 152 150 refl ts d)
+  one_tree : (ts : List Tree) → OneOf 154 134 19 ts → (t : Tree) × (ts ≡ t ∷ [])
+  one_tree ts (inl d) = one_over ts (row 154 134 refl ts d)
+  one_tree ts (inr (inl d)) = one_over ts (row 154 135 refl ts d)
+  one_tree ts (inr (inr (inl d))) = one_over ts (row 154 136 refl ts d)
+  one_tree ts (inr (inr (inr (inl d)))) = one_over ts (row 154 137 refl ts d)
+  one_tree ts (inr (inr (inr (inr (inl d))))) = one_over ts (row 154 138 refl ts d)
+  one_tree ts (inr (inr (inr (inr (inr (inl d)))))) = one_over ts (row 154 139 refl ts d)
+  one_tree ts (inr (inr (inr (inr (inr (inr (inl d))))))) = one_over ts (row 154 140 refl ts d)
+  one_tree ts (inr (inr (inr (inr (inr (inr (inr (inl d)))))))) = one_over ts (row 154 141 refl ts d)
+  one_tree ts (inr (inr (inr (inr (inr (inr (inr (inr (inl d))))))))) = one_over ts (row 154 142 refl ts d)
+  one_tree ts (inr (inr (inr (inr (inr (inr (inr (inr (inr (inl d)))))))))) = one_over ts (row 154 143 refl ts d)
+  one_tree ts (inr (inr (inr (inr (inr (inr (inr (inr (inr (inr (inl d))))))))))) = one_over ts (row 154 144 refl ts d)
+  one_tree ts (inr (inr (inr (inr (inr (inr (inr (inr (inr (inr (inr (inl d)))))))))))) = one_over ts (row 154 145 refl ts d)
+  one_tree ts (inr (inr (inr (inr (inr (inr (inr (inr (inr (inr (inr (inr (inl d))))))))))))) = one_over ts (row 154 146 refl ts d)
+  one_tree ts (inr (inr (inr (inr (inr (inr (inr (inr (inr (inr (inr (inr (inr (inl d)))))))))))))) = one_over ts (row 154 147 refl ts d)
+  one_tree ts (inr (inr (inr (inr (inr (inr (inr (inr (inr (inr (inr (inr (inr (inr (inl d))))))))))))))) = one_over ts (row 154 148 refl ts d)
+  one_tree ts (inr (inr (inr (inr (inr (inr (inr (inr (inr (inr (inr (inr (inr (inr (inr (inl d)))))))))))))))) = one_over ts (row 154 149 refl ts d)
+  one_tree ts (inr (inr (inr (inr (inr (inr (inr (inr (inr (inr (inr (inr (inr (inr (inr (inr (inl d))))))))))))))))) = one_over ts (row 154 150 refl ts d)
+  one_tree ts (inr (inr (inr (inr (inr (inr (inr (inr (inr (inr (inr (inr (inr (inr (inr (inr (inr (inl d)))))))))))))))))) = one_over ts (row 154 151 refl ts d)
+  one_tree ts (inr (inr (inr (inr (inr (inr (inr (inr (inr (inr (inr (inr (inr (inr (inr (inr (inr (inr (inl d))))))))))))))))))) = one_over ts (row 154 152 refl ts d)
   one_tree ts (inr (inr (inr (inr (inr (inr (inr (inr (inr (inr (inr (inr (inr (inr (inr (inr (inr (inr (inr d))))))))))))))))))) = absurd d
 
   -- one of so many rows, and of more of them
-  one_below : (n r : ℕ) → r + n ≤ 151 → (ts : List Tree) → OneOf 152 r n ts → OneOf 151 r n ts
+  one_below : (n r : ℕ) → r + n ≤ 153 → (ts : List Tree) → OneOf 154 r n ts → OneOf 153 r n ts
   one_below zero r h ts d = d
-  one_below (suc n) r h ts (inl d) = inl (back 151 r (lt-ltb r 151 (omega arith)) ts (row 152 r (lt-ltb r 152 (omega arith)) ts d))
+  one_below (suc n) r h ts (inl d) = inl (back 153 r (lt-ltb r 153 (omega arith)) ts (row 154 r (lt-ltb r 154 (omega arith)) ts d))
   one_below (suc n) r h ts (inr d) = inr (one_below n (r + 1) (omega arith) ts d)
 
   -- a step that may be printed
@@ -89,25 +89,25 @@ module _ (count : ℕ) (some : nat_lt 0 count ≡ true) where
   IsStep t = IsTree script_rows text_levels step_row t
 
   -- a step with its semicolon
-  a_step : (ts : List Tree) → InRow 153 152 ts → (t : Tree) × (ts ≡ t ∷ []) × IsStep t
+  a_step : (ts : List Tree) → InRow 155 154 ts → (t : Tree) × (ts ≡ t ∷ []) × IsStep t
   a_step ts e =
-      let d = row 153 152 refl ts e in
+      let d = row 155 154 refl ts e in
       let x = one_tree d.front d.first in
       let rest : d.back ≡ [] = d.second.parts ∙ (ap (λ z. z ++ d.second.back) d.second.first ∙ d.second.second) in
-      let made = back 158 151 refl d.front (record { front = d.front; back = []; parts = sym (append-nil d.front); first = one_below 19 132 (omega arith) d.front d.first; second = refl }) in
+      let made = back 160 153 refl d.front (record { front = d.front; back = []; parts = sym (append-nil d.front); first = one_below 19 134 (omega arith) d.front d.first; second = refl }) in
       let y = script_tree count some levels step_row d.front made in
       (x.0, d.parts ∙ (ap (λ z. d.front ++ z) rest ∙ ap (λ z. z ++ []) x.1), subst (λ z. IsStep (single z)) x.1 y.0)
 
-  all_steps : (l : List (List Tree)) → AllByRecursion (InRow 153 152) l → AllByRecursion IsStep (all_of l)
+  all_steps : (l : List (List Tree)) → AllByRecursion (InRow 155 154) l → AllByRecursion IsStep (all_of l)
   all_steps [] d = tt
   all_steps (ts ∷ l) d = let x = a_step ts d.0 in subst (λ z. AllByRecursion IsStep (z ++ all_of l)) (sym x.1) (x.2, all_steps l d.1)
 
   -- the steps of a script
-  script_steps : (ts : List Tree) → InRow 158 154 ts → (l : List Tree) × (ts ≡ chain l ∷ []) × AllByRecursion IsStep l
+  script_steps : (ts : List Tree) → InRow 160 156 ts → (l : List Tree) × (ts ≡ chain l ∷ []) × AllByRecursion IsStep l
   script_steps ts e =
-      let d = row 158 154 refl ts e in
+      let d = row 160 156 refl ts e in
       let l = d.first.2.0 in
-      let b = row 154 153 refl l d.first.2.2 in
+      let b = row 156 155 refl l d.first.2.2 in
       let is : l ≡ all_of b.first.0 = b.parts ∙ (ap (λ z. b.front ++ z) b.second ∙ (append-nil b.front ∙ b.first.1)) in
       (l, d.parts ∙ (ap (λ z. z ++ d.back) d.first.1 ∙ ap (λ z. d.first.0 ∷ z) d.second) ∙ ap (λ t. t ∷ []) d.first.2.1, subst (AllByRecursion IsStep) (sym is) (all_steps b.first.0 b.first.2))
 

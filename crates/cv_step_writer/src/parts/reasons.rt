@@ -1,5 +1,5 @@
 ghost use Rattle.std.specs.Prelude.{◌≡◌, ◌++◌, [], ◌∷◌, All, OnOk, length};
-ghost use Rattle.cv_syntax_trees.specs.declared.head.Head.TheVariants.{ByCong, ByDistinct, ByEquation};
+ghost use Rattle.cv_syntax_trees.specs.declared.head.Head.TheVariants.{ByCong, ByDistinct, ByEquation, ByLate};
 ghost use Rattle.cv_syntax.specs.Postorder.{postorder};
 ghost use Rattle.cv_step_writer.specs.Derivations.{IsBelow, IsReasonBelow, reason_tree};
 ghost use Rattle.cv_step_writer.specs.Items.{number, numbers, over, terms};
@@ -62,6 +62,18 @@ fn push_congruence(makes: &mut Vec<Make>, lines: &[u64]) -> Result<(), AllocErro
     Ok(())
 }
 
+/// Makes the reason `late`.
+#[tactic(auto, unfolding(cv_syntax::specs::Postorder::postorder), using(crate::proofs::Making::making))]
+fn push_late(makes: &mut Vec<Make>, cell: u64, lines: &[u64]) -> Result<(), AllocError>
+    ensures { OnOk result (makes.new.items ≡ makes.old.items
+        ++ postorder (over ByLate (number cell ∷ numbers lines.now ∷ []))) }
+{
+    push_number(makes, cell)?;
+    push_numbers(makes, lines)?;
+    makes.push(Make::Over(Head::ByLate))?;
+    Ok(())
+}
+
 /// Makes the reason `equation`.
 #[tactic(auto, unfolding(cv_syntax::specs::Postorder::postorder), using(crate::proofs::Making::making))]
 fn push_instance(
@@ -116,5 +128,6 @@ pub(crate) fn push_reason(
         Reason::OtherHere => push_leaf(makes, Head::ByOtherHere),
         Reason::Same(k) => push_one(makes, Head::BySame, *k),
         Reason::Distinct(l, d, e, k) => push_distinct(makes, *l, *d, *e, *k),
+        Reason::Late(l, lines) => push_late(makes, *l, lines),
     }
 }

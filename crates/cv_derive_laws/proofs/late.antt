@@ -1,0 +1,4 @@
+pub mod Looking
+pub mod Runs
+pub mod Visits
+pub mod Branches

@@ -1,4 +1,0 @@
-pub mod Picking
-pub mod Row
-pub mod Settling
-pub mod Worked
