@@ -1,11 +1,10 @@
 -- The calls of each step's context are bounded by its line: the context is that of a game that nothing refuses.
 use Rattle.std.proofs.Common.{◌≡◌, ℕ, zero, suc, List, [], ◌∷◌, ◌++◌, length, map, drop, take, refl, ap, sym, ◌∙◌, subst, Option, Some, None, Ok, ◌≤◌, inl, inr}
 use Rattle.std.specs.Prelude.{IfSome, MatchOption, option_map, slice_get}
-use Rattle.cv_pool.specs.KindTree.{KindTree}
 use Rattle.cv_syntax.specs.declared.work.File.{File}
 use Rattle.cv_syntax_trees.specs.Declarations.{Declaration}
 use Rattle.cv_syntax_trees.specs.Tree.{Tree}
-use Rattle.cv_accept.specs.Accepted.{Content, most_bytes, read_of}
+use Rattle.cv_accept.specs.Accepted.{Content, most_bytes, most_pool, read_of}
 use Rattle.cv_accept_laws.proofs.Ready.{file_of}
 use Rattle.cv_context.specs.declared.products.shape.Shape.{Shape as ShapeInCode}
 use Rattle.cv_context.specs.products.Shapes.{Shape, shape_of}
@@ -13,19 +12,17 @@ use Rattle.cv_context.specs.products.ShapesInCode.{shape_in}
 use Rattle.cv_context_counts.proofs.Runs.{runs}
 use Rattle.cv_context_left_side.specs.refusals.Reducible.{IsReducible}
 use Rattle.cv_derive_laws.specs.stores.Soundness.{DerivationsHold, DerivedBodiesAreUnreached}
-use Rattle.cv_follow.specs.Scripts.{Told, entry_in, entry_of, known_to}
+use Rattle.cv_follow.specs.Scripts.{Told, known_to}
 use Rattle.cv_follow.proofs.StepKinds.{reduction}
 use Rattle.cv_kernel.specs.Proofs.{IsProof, IsTransition, Transition, closed_by, shape_by}
 use Rattle.cv_kernel.specs.Sayings.{Accepted, MaySay}
 use Rattle.cv_match_laws.proofs.answers.Many.{are_answers}
 use Rattle.cv_meaning.specs.Interpretation.{setting_with}
 use Rattle.cv_meaning_contexts.specs.Sides.{side_of}
-use Rattle.cv_plain.specs.Strategy.{closing, most_pool}
 use Rattle.cv_report.specs.declared.report.Entry.{Entry}
 use Rattle.cv_report.specs.declared.report.Report.{Report}
 use Rattle.cv_scene.specs.Reductions.{context_of_game}
 use Rattle.cv_scene.specs.Scenes.{Scene}
-use Rattle.cv_script.specs.declared.steps.Step.{Step}
 use Rattle.cv_script.specs.Views.{StepItems, items_of_step}
 use Rattle.cv_script.specs.Views as items
 use Rattle.cv_sequences.specs.Chains.{IsChain, IsFileOf, Link}
@@ -38,9 +35,10 @@ use Rattle.cv_steps_crypto.proofs.Accepted.{accepted}
 use Rattle.cv.specs.Calls.{AreBounded, HasBoundedCalls}
 use Rattle.cv.specs.Contexts.{contexts_in}
 use Rattle.cv.specs.Runs.{Runs}
-use Rattle.cv.specs.Strategy.{FollowsScript, Proceeds, declared_in, file_in, game_in, steps_in}
+use Rattle.cv.specs.Strategy.{TakesSteps, declared_in, file_in, game_in, steps_in}
 use Rattle.cv.specs.Values.{Contexts, context_of}
-use Rattle.cv.proofs.Faithful.{context_numbered, contexts_along, links_of, matched, named_context, script_contexts, stands_in}
+use Rattle.cv.proofs.Commands.{Taken, taken}
+use Rattle.cv.proofs.Faithful.{context_numbered, contexts_along, links_of, matched, named_context, contexts_taken, stands_in}
 use Rattle.cv.proofs.Stepping.{split_at}
 
 -- what stands at a place has so many before it
@@ -112,34 +110,27 @@ module _ (holds : (ds : List Declaration) → DerivationsHold ds) (unreached : (
   content_bounds : HasBoundsFrom c.declarations c.own c.game
   content_bounds = bounded c.declarations c.own c.game (file_of bytes c reads holds unreached few)
 
-  script_calls : (steps : List Tree) → r.file ≡ Some f → file_in r f (length c.names) ≡ c → FollowsScript r f steps → AreBoundedCalls r f
-  script_calls steps there held w k e h at e₁ =
+  steps_calls : r.file ≡ Some f → file_in r f (length c.names) ≡ c → TakesSteps r f → AreBoundedCalls r f
+  steps_calls there held w k e h at e₁ =
       let trees = r.work.pool.trees in
       let ds = declared_in r in
       let own = r.work.decls.own in
       let first = game_in r f in
-      let ts = w.walk.proof in
+      let ts = w.proof in
       let m = matched trees r.trail.items ts k e w.trail at in
       let t = m.0 in
-      let s = stands_in ds (known_to own) first ts w.walk.last w.walk.leads k t m.1 in
+      let s = stands_in ds (known_to own) first ts w.last w.leads k t m.1 in
       let here = subst (λ (d : Content). HasBoundsFrom d.declarations d.own d.game) (sym held) content_bounds in
       let shape = sym (ap (λ (y : Told). y.2) m.2) ∙ ap (option_map shape_in) e₁ in
       let alone = here (take k ts) s.game s.before t (drop (suc k) ts) s.here (shape_in h) shape in
       let among = subst (λ us. Bounds ds (contexts_along ds own 1 first us) (suc (length (take k ts))) (shape_in h)) (split_at ts k t m.1) alone in
       let numbered = subst (λ n. Bounds ds (contexts_along ds own 1 first ts) (suc n) (shape_in h)) (before_it ts k t m.1) among in
-      subst (λ cs. Bounds ds cs (suc k) (shape_in h)) (sym (script_contexts r f steps w there)) numbered
+      subst (λ cs. Bounds ds cs (suc k) (shape_in h)) (sym (contexts_taken r f w there)) numbered
 
-  -- the plain strategy takes no step with a context
-
-  none_context : (ss : List Step) (k : ℕ) (e : Entry) (h : ShapeInCode) → slice_get (map closing ss) k ≡ Some e → e.context ≡ Some h → ⊥
-  none_context [] k e h at n = cc
-  none_context (s ∷ ss) zero e h at n = let f : closing s ≡ e = cc in let m = ap (λ x. x.context) f ∙ n in cc
-  none_context (s ∷ ss) (suc k) e h at n = none_context ss k e h at n
-
-  by_script : (o : Option (List Tree)) → r.file ≡ Some f → file_in r f (length c.names) ≡ c → Proceeds r f o → AreBoundedCalls r f
-  by_script None there held p k e h at e₁ = absurd (none_context r.steps.items k e h (ap (λ es. slice_get es k) (sym p.trail) ∙ at) e₁)
-  by_script (Some steps) there held p k e h at e₁ = script_calls steps there held p k e h at e₁
+  by_report : Taken r f → r.file ≡ Some f → file_in r f (length c.names) ≡ c → AreBoundedCalls r f
+  by_report (inl n) there held k e h at e₁ = absurd (let x = sym (ap (λ es. slice_get es k) n) ∙ at in cc)
+  by_report (inr w) there held k e h at e₁ = steps_calls there held w k e h at e₁
 
   pub run_calls : Runs c f r → HasBoundedCalls r
   run_calls (inl s) = subst (λ (o : Option File). IfSome o (AreBoundedCalls r)) (sym s.file) tt
-  run_calls (inr h) = subst (λ (o : Option File). IfSome o (AreBoundedCalls r)) (sym h.file) (by_script (steps_in r) h.file h.content h.proceeds)
+  run_calls (inr h) = subst (λ (o : Option File). IfSome o (AreBoundedCalls r)) (sym h.file) (by_report (taken r f (steps_in r) h.proceeds) h.file h.content)

@@ -1,9 +1,9 @@
 -- What each answer about bytes comes from.
-use Rattle.std.proofs.Common.{◌≡◌, ℕ, suc, ◌+◌, ◌-◌, ◌<◌, ◌≤◌, min, nat_lt, Bool, true, false, if◌then◌else◌, List, [], ◌∷◌, ◌++◌, append-nil, length, length-append, map, refl, ap, sym, ◌∙◌, subst, arith, Option, Some, None, is_some, Result, Ok, Err, ◌⊎◌, inl, inr}
+use Rattle.std.proofs.Common.{◌≡◌, ℕ, ◌+◌, ◌-◌, ◌<◌, ◌≤◌, min, nat_lt, Bool, true, false, if◌then◌else◌, List, [], ◌∷◌, ◌++◌, append-nil, length, map, refl, ap, sym, ◌∙◌, subst, arith, Option, Some, None, Result, Ok, Err, ◌⊎◌, inl, inr}
 use Rattle.std.proofs.lemmas.Bool.Decides.{nat_tests}
 use Rattle.std.proofs.lemmas.List.{length-map}
-use Rattle.std.specs.List.{list_all, list_any, zip}
-use Rattle.std.specs.Prelude.{IfSome, IsNone, IsSomeAnd, option_map}
+use Rattle.std.specs.List.{list_all}
+use Rattle.std.specs.Prelude.{IfSome, IsNone, IsSome, IsSomeAnd, option_map}
 use Rattle.cv_lex.specs.declared.LexError.{LexError}
 use Rattle.cv_lex.specs.Lexis.{Token, tokens_of}
 use Rattle.cv_parse_tables.specs.terminals.Signs.{signs_of}
@@ -50,32 +50,30 @@ use Rattle.cv_accept.specs.declared.error.FileError.TheVariants as fault
 use Rattle.cv_script_reader.specs.Scripts.{items}
 use Rattle.cv_accept.specs.Accepted.{Content, IsFull, Refuses, asks_unbuilt, block_by, block_of, content_of, group_fault, of_block, of_form, of_groups, of_parsed, of_queries, of_scopes, of_script, of_tokens, of_types, query_fault, read_of, scope_fault, stops_at_prime, there, type_fault, with_pairs}
 use Rattle.cv_accept.specs.Places.{nodes_before}
-use Rattle.cv_accept.specs.Works.{script_in}
 use Rattle.cv_accept.proofs.Places.{behind_none, behind_some}
-use Rattle.cv_accept.proofs.Readings.{read_is_file}
-use Rattle.cv_query_direct.specs.Search.{EntryTree}
-use Rattle.cv_query_direct.specs.Certificates.{step_of}
-use Rattle.cv_report.specs.declared.report.Cause.TheVariants.{Stuck}
+use Rattle.cv_report.specs.declared.report.Cause.TheVariants.{Moves, Stuck}
+use Rattle.cv_report.specs.declared.report.Command.{Command}
+use Rattle.cv_report.specs.declared.report.Command.TheVariants as command
 use Rattle.cv_report.specs.declared.report.Report.{Report}
 use Rattle.cv_report.specs.declared.report.Status.TheVariants as status
-use Rattle.cv_report.specs.declared.report.Verdict.TheVariants.{Proved, NotProved}
-use Rattle.cv_report.specs.declared.report.Which.TheVariants.{Steps}
 use Rattle.cv_syntax.specs.declared.work.File.{File}
-use Rattle.cv.specs.Causes.{ComesFrom, HasCertificate, HasGroupFault, HasManyClosed, HasNoScript, HasOpenQuery, HasQueryFault, HasQueryWithoutStep, HasScopeFault, HasStep, HasStop, HasTypeFault, LacksRoom, OfTokens, Outside, StopsUnbuilt, block_signs, closed_count}
+use Rattle.cv.specs.Causes.{ComesFrom, HasAllSteps, HasCertificate, HasGroupFault, HasNoScript, HasOpenQuery, HasQueryFault, HasScopeFault, HasStep, HasStop, HasTypeFault, LeavesOpen, OfTokens, Outside, PassesLimit, StopsUnbuilt, block_signs}
 use Rattle.cv.specs.Causes as cause
 use Rattle.cv.specs.Faults.{parse_ended, status_of as ended_by}
-use Rattle.cv_report.specs.outcome.Words.{AreTold}
-use Rattle.cv_query_direct.specs.Plain.{certificate}
-use Rattle.cv_plain.specs.Strategy.{EndsAt, Said, is_closed, is_proved, lacks_step, left_open, most_pool, most_steps, nothing_said, open_verdict, said_of, said_then}
+use Rattle.cv.specs.Words.{AreTold}
+use Rattle.cv_accept.specs.Accepted.{most_pool}
 use Rattle.cv_report.specs.verdicts.Verdicts.{ended_with}
-use Rattle.cv_follow.specs.Scripts.{EndsScript, entry_in, entry_of, first_open, known_to}
+use Rattle.cv_follow.specs.Scripts.{EndsScript, entry_in, entry_of, first_open, is_proved, known_to}
 use Rattle.cv_follow.proofs.Closings.{all_proved_law}
-use Rattle.cv.specs.Strategy.{FollowsScript, FollowsStrategy, declared_in, file_in, game_in, nodes_in, said_in, steps_in}
+use Rattle.cv.specs.Strategy.{FollowsScript, FollowsStrategy, TakesSteps, declared_in, ends_under, game_in, moves_in, nodes_in, steps_in}
 use Rattle.cv_kernel.specs.Proofs.{closed_by, nodes_along}
 use Rattle.cv_steps.specs.Sequences.{scene}
-use Rattle.cv_plain.proofs.Telling.{crowded_lacks, whole_told}
+use Rattle.cv_kernel.specs.Proofs.{Transition}
+use Rattle.cv_follow.specs.Searches.{AreMoves, EndsSearch, Passes, by_limit, end_of_search, without_more}
+use Rattle.cv_report.specs.declared.report.Status.{Status}
+use Rattle.cv_report.specs.declared.report.Which.{Which}
+use Rattle.cv.proofs.Commands.{stops_under}
 use Rattle.cv.proofs.Unread.{dead_anywhere, nested_at}
-use Rattle.cv_plain.proofs.Verdicts.{closed_some}
 
 -- bytes that are refused
 
@@ -375,43 +373,6 @@ told bytes x Holds h e =
     let t = by_tokens most_pool (tokens_of bytes) x e in
     record { tokens = t.0; lexed = t.1; holds = h (signs_of t.0).signs t.2 }
 
--- steps that ran out
-
-not_closed : (game q : Tree) (qs : List Tree) → is_closed game q ≡ false → closed_count game (q ∷ qs) ≡ closed_count game qs
-unfolding closed_count
-not_closed game q qs e = ap (λ b. if b then suc (closed_count game qs) else closed_count game qs) e
-
-one_closed : (game q : Tree) (qs : List Tree) → is_closed game q ≡ true → closed_count game (q ∷ qs) ≡ suc (closed_count game qs)
-unfolding closed_count
-one_closed game q qs e = ap (λ b. if b then suc (closed_count game qs) else closed_count game qs) e
-
--- of the queries behind one this is known
-abbrev Behind : Tree → List Tree → Type 0
-Behind game qs = (t : Said) → t.full ≡ false → (said_of game t qs).full ≡ true → most_steps < length t.steps + closed_count game qs
-
-full_step : (game : Tree) (s : Said) (q : Tree) (qs : List Tree) → s.full ≡ false → Behind game qs → (es : List EntryTree) (b : Bool) → nat_lt (length s.steps) most_steps ≡ b → is_closed game q ≡ true → (said_of game (if b then record s { steps = s.steps ++ step_of (length s.verdicts + 1) es ∷ []; verdicts = s.verdicts ++ Proved [] ∷ [] } else record s { verdicts = s.verdicts ++ NotProved ∷ []; full = true }) qs).full ≡ true → most_steps < length s.steps + closed_count game (q ∷ qs)
-full_step game s q qs f more es true l c h =
-    let i = more (record s { steps = s.steps ++ step_of (length s.verdicts + 1) es ∷ []; verdicts = s.verdicts ++ Proved [] ∷ [] }) f h in
-    let j = length-append s.steps (step_of (length s.verdicts + 1) es ∷ []) in
-    let k = one_closed game q qs c in
-    omega arith
-full_step game s q qs f more es false l c h =
-    let i : most_steps ≤ length s.steps = grind (arith, nat_tests) in
-    let k = one_closed game q qs c in
-    omega arith
-
-full_next : (game : Tree) (s : Said) (q : Tree) (qs : List Tree) → s.full ≡ false → Behind game qs → (c : Option (List EntryTree)) → certificate game q ≡ c → (said_of game (said_then s c) qs).full ≡ true → most_steps < length s.steps + closed_count game (q ∷ qs)
-full_next game s q qs f more None i h =
-    let j = more (left_open s) f h in
-    let k = not_closed game q qs (sym (closed_some game q) ∙ ap is_some i) in
-    omega arith
-full_next game s q qs f more (Some es) i h = full_step game s q qs f more es (nat_lt (length s.steps) most_steps) refl (sym (closed_some game q) ∙ ap is_some i) h
-
-pub full_many : (game : Tree) (s : Said) (qs : List Tree) → s.full ≡ false → (said_of game s qs).full ≡ true → most_steps < length s.steps + closed_count game qs
-unfolding said_of
-full_many game s [] f e = absurd (let g : false ≡ true = sym f ∙ e in cc)
-full_many game s (q ∷ qs) f e = full_next game s q qs f (λ t g h. full_many game t qs g h) (certificate game q) refl e
-
 -- of told bytes this holds
 pub where_told : (told : Option (List ℕ)) (bytes : List ℕ) (P : List ℕ → Type 0) → AreTold told bytes → P bytes → IfSome told P
 where_told None bytes P a p = tt
@@ -448,84 +409,130 @@ refusal_cause o r bytes a none x e = go x e
     go fault.Unbuilt e = cause.unbuilt (in_told _ (refused_later bytes fault.Unbuilt (λ ts. HasStep ts ⊎ HasCertificate ts) (omega arith) (λ ts p i j. unbuilt_cause ts p i j) e))
     go fault.OutOfMemory e = cause.memory
 
--- more queries are closed than there may be steps
-many_closed : (bytes : List ℕ) (c : Content) → read_of most_pool bytes ≡ Ok c → c.script ≡ None → (said_of c.game nothing_said (queries_in c.declarations)).full ≡ true → HasManyClosed bytes
-many_closed bytes c e n f = record { content = c; file = read_is_file most_pool bytes c e; plain = n; many = (let m = full_many c.game nothing_said (queries_in c.declarations) refl f in omega arith) }
+-- as many steps were taken as are told
+steps_counted : (r : Report) (f : File) (w : TakesSteps r f) → length r.steps.items ≡ length w.proof
+steps_counted r f w = ap length w.steps ∙ (length-map r.trail.items (λ e. e.step) ∙ (sym (length-map r.trail.items (entry_in r.work.pool.trees)) ∙ (ap length w.trail ∙ length-map w.proof entry_of)))
 
 -- the cause of what is said of a file without a proof block
-pub verdict_cause : (o : Outside) (r : Report) (f : File) (bytes : List ℕ) → AreTold o.told bytes → r.file ≡ Some f → r.script ≡ None → FollowsStrategy r f → (names : ℕ) → read_of most_pool bytes ≡ Ok (file_in r f names) → ComesFrom o r r.status
-verdict_cause o r f bytes a s n h names e = go h.course.left h.course.split h.course.ends h.verdicts
-  where
-    game : Tree
-    game = game_in r f
-
-    asked : List Tree
-    asked = queries_in (declared_in r)
-
-    there : (has : Bool) → HasQueryWithoutStep r f has → IfSome r.file (λ (g : File). HasQueryWithoutStep r g has)
-    there has l = subst (λ (x : Option File). IfSome x (λ (g : File). HasQueryWithoutStep r g has)) (sym s) l
-
-    whole : (said_of game nothing_said asked).full ≡ list_any (lacks_step game) (zip asked r.verdicts.items) → (p : Bool) → list_all is_proved r.verdicts.items ≡ p → (l : Bool) → HasQueryWithoutStep r f l → ComesFrom o r (if p then status.Proved else (if l then status.Limit Steps else status.Open Stuck))
-    whole full true i l j = cause.all_proved i
-    whole full false i true j = cause.steps (there true j) (where_told o.told bytes HasManyClosed a (many_closed bytes (file_in r f names) e (ap (script_in r.work.pool.trees) n) (full ∙ j)))
-    whole full false i false j = cause.stuck n i (there false j)
-
-    go : (left : List Tree) → asked ≡ h.course.answered ++ left → EndsAt (nodes_in r f) game (said_in r f h.course.answered) left r.status → r.verdicts.items ≡ (said_in r f h.course.answered).verdicts ++ map open_verdict left → ComesFrom o r r.status
-    go [] i t v =
-        let told = whole_told game asked h.course.answered r.status r.verdicts.items i t v in
-        subst (ComesFrom o r) (sym told.0) (whole told.1 (list_all is_proved r.verdicts.items) refl (list_any (lacks_step game) (zip asked r.verdicts.items)) refl)
-    go (q ∷ left) i t v =
-        let room : LacksRoom r f t.0 = record {
-          answered = h.course.answered;
-          query = q;
-          left = left;
-          split = i;
-          crowded = t.2;
-          lacks = crowded_lacks (nodes_in r f) game h.course.answered left q t.0 asked r.verdicts.items t.2 i v;
-        } in
-        subst (ComesFrom o r) (sym t.1) (cause.room (subst (λ (x : Option File). IsSomeAnd x (λ (g : File). LacksRoom r g t.0)) (sym s) room))
-
--- the cause of what is said of a file with a proof block
-pub script_cause_of : (o : Outside) (r : Report) (f : File) (steps : List Tree) → r.file ≡ Some f → steps_in r ≡ Some steps → FollowsScript r f steps → ComesFrom o r r.status
-script_cause_of o r f steps s t w = go w.walk.left w.walk.split w.walk.ends
+pub found_cause : (o : Outside) (r : Report) (f : File) → r.file ≡ Some f → r.script ≡ None → FollowsStrategy r f → ComesFrom o r r.status
+found_cause o r f s n w = by_end r.status w.ends
   where
     there : (Holds : File → Type 0) → Holds f → IsSomeAnd r.file Holds
     there Holds h = subst (λ (x : Option File). IsSomeAnd x Holds) (sym s) h
 
-    count : length r.steps.items ≡ length w.walk.proof
-    count = ap length w.steps ∙ (length-map r.trail.items (λ e. e.step) ∙ (sym (length-map r.trail.items (entry_in r.work.pool.trees)) ∙ (ap length w.trail ∙ length-map w.walk.proof entry_of)))
+    ts : List Transition
+    ts = w.took.proof
+
+    found : List Tree
+    found = map (λ t. t.step) ts
 
     qs : List Tree
     qs = queries_in (declared_in r)
 
-    closed : (unclosed : Option ℕ) → first_open (closed_by w.walk.proof) 1 qs ≡ unclosed → steps ≡ map (λ t. t.step) w.walk.proof ++ [] → r.status ≡ ended_with unclosed → ComesFrom o r r.status
-    closed None q i e =
-        subst (ComesFrom o r) (sym e) (cause.all_proved (ap (list_all is_proved) w.verdicts ∙ all_proved_law w.walk.proof qs q))
-    closed (Some k) q i e =
+    count : length r.steps.items ≡ length ts
+    count = steps_counted r f w.took
+
+    -- a query is open
+    left : (made : ℕ) → AreMoves found made → (k : ℕ) → first_open (closed_by ts) 1 qs ≡ Some k → IsSomeAnd r.file (λ (g : File). LeavesOpen r g made)
+    left made m k q = there (λ (g : File). LeavesOpen r g made) (record {
+      plain = n;
+      proof = ts;
+      last = w.took.last;
+      leads = w.took.leads;
+      count = count;
+      unclosed = subst (λ (x : Option ℕ). IsSome x) (sym q) refl;
+      counted = m;
+    })
+
+    open_by : (k : ℕ) → first_open (closed_by ts) 1 qs ≡ Some k → (b : Bool) → nat_lt w.made (moves_in r.command) ≡ b → ComesFrom o r (if b then status.Open Stuck else status.Open Moves)
+    open_by k q true e = cause.stuck (let l : w.made < moves_in r.command = grind (arith, nat_tests) in l) (left w.made w.counted k q)
+    open_by k q false e =
+        let few = w.few in
+        let more : moves_in r.command ≤ w.made = grind (arith, nat_tests) in
+        let all : w.made ≡ moves_in r.command = omega arith in
+        cause.moves (left (moves_in r.command) (subst (AreMoves found) all w.counted) k q)
+
+    nothing : (unclosed : Option ℕ) → first_open (closed_by ts) 1 qs ≡ unclosed → ComesFrom o r (end_of_search (moves_in r.command) w.made unclosed)
+    nothing None q = cause.all_proved (ap (list_all is_proved) w.took.verdicts ∙ all_proved_law ts qs q)
+    nothing (Some k) q = open_by k q (nat_lt w.made (moves_in r.command)) refl
+
+    passed : (which : Which) → Passes (length r.work.pool.trees) (length found) (scene (declared_in r) (known_to r.work.decls.own) w.took.last) (closed_by ts) which → ComesFrom o r (status.Limit which)
+    passed which h = cause.passes (there (λ (g : File). PassesLimit r g which) (record {
+      plain = n;
+      proof = ts;
+      last = w.took.last;
+      leads = w.took.leads;
+      count = count;
+      passes = subst (λ k. Passes (length r.work.pool.trees) k (scene (declared_in r) (known_to r.work.decls.own) w.took.last) (closed_by ts) which) (length-map ts (λ t. t.step)) h;
+    }))
+
+    by_end : (end : Status) → EndsSearch (moves_in r.command) w.made (length r.work.pool.trees) (scene (declared_in r) (known_to r.work.decls.own) w.took.last) found (closed_by ts) qs end → ComesFrom o r end
+    by_end _ without_more = nothing (first_open (closed_by ts) 1 qs) refl
+    by_end _ (by_limit which h) = passed which h
+
+-- the cause of what is said of a file with a proof block
+pub script_cause_of : (o : Outside) (r : Report) (f : File) (steps : List Tree) → r.file ≡ Some f → steps_in r ≡ Some steps → FollowsScript r f steps → ComesFrom o r r.status
+script_cause_of o r f steps s t w = go w.left w.split w.ends
+  where
+    there : (Holds : File → Type 0) → Holds f → IsSomeAnd r.file Holds
+    there Holds h = subst (λ (x : Option File). IsSomeAnd x Holds) (sym s) h
+
+    count : length r.steps.items ≡ length w.took.proof
+    count = steps_counted r f w.took
+
+    qs : List Tree
+    qs = queries_in (declared_in r)
+
+    -- the verdicts on the queries
+    closed : (unclosed : Option ℕ) → first_open (closed_by w.took.proof) 1 qs ≡ unclosed → steps ≡ map (λ t. t.step) w.took.proof ++ [] → ComesFrom o r (ended_with unclosed)
+    closed None q i = cause.all_proved (ap (list_all is_proved) w.took.verdicts ∙ all_proved_law w.took.proof qs q)
+    closed (Some k) q i =
         let asked : HasOpenQuery r f k = record {
           steps = steps;
           there = t;
-          proof = w.walk.proof;
-          all = i ∙ append-nil (map (λ t. t.step) w.walk.proof);
-          last = w.walk.last;
-          leads = w.walk.leads;
+          proof = w.took.proof;
+          all = i ∙ append-nil (map (λ t. t.step) w.took.proof);
+          last = w.took.last;
+          leads = w.took.leads;
           first = q;
         } in
-        subst (ComesFrom o r) (sym e) (cause.no_close (there (λ (g : File). HasOpenQuery r g k) asked))
+        cause.no_close (there (λ (g : File). HasOpenQuery r g k) asked)
 
-    go : (left : List Tree) → steps ≡ map (λ t. t.step) w.walk.proof ++ left → EndsScript (nodes_in r f + nodes_along (declared_in r) (known_to r.work.decls.own) (game_in r f) w.walk.proof) (length w.walk.proof) (scene (declared_in r) (known_to r.work.decls.own) w.walk.last) (closed_by w.walk.proof) qs left r.status → ComesFrom o r r.status
-    go [] i e = closed (first_open (closed_by w.walk.proof) 1 qs) refl i e
-    go (next ∷ left) i e =
-        let stop : HasStop r f r.status = record {
+    -- or none are asked for
+    done : r.command ≡ command.Games → steps ≡ map (λ t. t.step) w.took.proof ++ [] → ComesFrom o r status.Done
+    done g i =
+        let all : HasAllSteps r f = record {
           steps = steps;
           there = t;
-          proof = w.walk.proof;
+          proof = w.took.proof;
+          all = i ∙ append-nil (map (λ t. t.step) w.took.proof);
+          last = w.took.last;
+          leads = w.took.leads;
+        } in
+        cause.done g (there (λ (g : File). HasAllSteps r g) all)
+
+    by_command : (c : Command) → r.command ≡ c → (unclosed : Option ℕ) → first_open (closed_by w.took.proof) 1 qs ≡ unclosed → steps ≡ map (λ t. t.step) w.took.proof ++ [] → ComesFrom o r (ends_under c (ended_with unclosed))
+    by_command command.Games g None q i = done g i
+    by_command command.Games g (Some k) q i = done g i
+    by_command (command.Prove n) g u q i = closed u q i
+    by_command (command.Sample n p) g u q i = closed u q i
+    by_command command.Nothing g u q i = closed u q i
+
+    go : (left : List Tree) → steps ≡ map (λ t. t.step) w.took.proof ++ left → EndsScript (nodes_in r f + nodes_along (declared_in r) (known_to r.work.decls.own) (game_in r f) w.took.proof) (length w.took.proof) (scene (declared_in r) (known_to r.work.decls.own) w.took.last) (closed_by w.took.proof) qs left w.end → ComesFrom o r r.status
+    go [] i e =
+        subst (ComesFrom o r) (sym (w.ended ∙ ap (ends_under r.command) e)) (by_command r.command refl (first_open (closed_by w.took.proof) 1 qs) refl i)
+    go (next ∷ left) i e =
+        let stop : HasStop r f w.end = record {
+          steps = steps;
+          there = t;
+          proof = w.took.proof;
           next = next;
           left = left;
           split = i;
-          last = w.walk.last;
-          leads = w.walk.leads;
+          last = w.took.last;
+          leads = w.took.leads;
           count = count;
           stops = e;
         } in
-        cause.stops (there (λ (g : File). HasStop r g r.status) stop)
+        let same = w.ended ∙ stops_under r.command (nodes_in r f + nodes_along (declared_in r) (known_to r.work.decls.own) (game_in r f) w.took.proof) (length w.took.proof) (scene (declared_in r) (known_to r.work.decls.own) w.took.last) (closed_by w.took.proof) next w.end e in
+        subst (ComesFrom o r) (sym same) (cause.stops (there (λ (g : File). HasStop r g w.end) stop))

@@ -1,16 +1,20 @@
--- How a run ends that followed a script.
-use Rattle.std.proofs.Common.{ℕ, ◌+◌, List, [], ◌∷◌, length, sym, subst, Option, Some, None}
+-- How a run ends that followed a script, or that found steps.
+use Rattle.std.proofs.Common.{ℕ, ◌+◌, nat_lt, Bool, true, false, if◌then◌else◌, List, [], ◌∷◌, length, sym, subst, Option, Some, None}
 use Rattle.cv_pool.specs.KindTree.{KindTree}
 use Rattle.cv_syntax.specs.Classes.{queries}
 use Rattle.cv_syntax_trees.specs.Declarations.{Declaration}
 use Rattle.cv_syntax_trees.specs.Tree.{Tree}
 use Rattle.cv_kernel.specs.Proofs.{closed_by, nodes_along}
+use Rattle.cv_report.specs.declared.report.Cause.TheVariants.{Moves, Stuck}
 use Rattle.cv_report.specs.declared.report.Status.{Status}
+use Rattle.cv_report.specs.declared.report.Status.TheVariants as status
+use Rattle.cv_report.specs.declared.report.Which.{Which}
 use Rattle.cv_scene.specs.Scenes.{Scene}
 use Rattle.cv_steps.specs.Sequences.{scene}
 use Rattle.cv_report.specs.verdicts.Verdicts.{ended_with}
 use Rattle.cv_follow.specs.Scripts.{EndsScript, Stops, first_open, known_to, no_room, refused, too_deep, too_large, too_many}
 use Rattle.cv_follow.specs.declared.walk.Walk.{Walk}
+use Rattle.cv_follow.specs.Searches.{EndsSearch, Passes, by_limit, by_room, by_step, end_of_search, without_more}
 use Rattle.cv_follow.specs.Walks.{IsWalk}
 use Rattle.cv.specs.Strategy.{MayHaveFile}
 
@@ -35,3 +39,21 @@ pub walk_may : (before : ℕ) (ds : List Declaration) (own : ℕ) (first : Tree)
 walk_may before ds own first steps queries trees w h =
     let f = h.follows in
     ends_may (before + nodes_along ds (known_to own) first f.proof) (length f.proof) (scene ds (known_to own) f.last) (closed_by f.proof) queries f.left w.status f.ends
+
+-- how a search ends
+
+finish_may : (b : Bool) → MayHaveFile (if b then status.Open Stuck else status.Open Moves)
+finish_may true = tt
+finish_may false = tt
+
+without_more_may : (moves made : ℕ) (o : Option ℕ) → MayHaveFile (end_of_search moves made o)
+without_more_may moves made None = tt
+without_more_may moves made (Some k) = finish_may (nat_lt made moves)
+
+passes_may : (taken count : ℕ) (s : Scene) (ks : List ℕ) (which : Which) → Passes taken count s ks which → MayHaveFile (status.Limit which)
+passes_may taken count s ks which (by_step _ next h) = stops_may taken count s ks next (status.Limit which) h
+passes_may taken count s ks _ (by_room need l) = tt
+
+pub search_may : (moves made taken : ℕ) (s : Scene) (found : List Tree) (ks : List ℕ) (queries : List Tree) (end : Status) → EndsSearch moves made taken s found ks queries end → MayHaveFile end
+search_may moves made taken s found ks queries _ without_more = without_more_may moves made (first_open ks 1 queries)
+search_may moves made taken s found ks queries _ (by_limit which h) = passes_may taken (length found) s ks which h

@@ -1,8 +1,8 @@
 -- How runs end.
-use Rattle.std.proofs.Common.{◌≡◌, ℕ, suc, ◌+◌, ◌<◌, ◌≤◌, arith, refl, ap, Bool, true, false, List, [], ◌∷◌, ◌++◌, length, length-append, map, take, Option, Some, None, Result, Ok, Err, sym, ◌∙◌, subst, ◌⊎◌, inl, inr, append-nil}
-use Rattle.std.specs.Prelude.{IfSome, IsNone, IsSome, MatchOption, slice_get, ◌≢◌}
+use Rattle.std.proofs.Common.{◌≡◌, ℕ, suc, ◌+◌, ◌<◌, ◌≤◌, arith, refl, ap, nat_lt, Bool, true, false, if◌then◌else◌, List, [], ◌∷◌, ◌++◌, length, length-append, map, take, Option, Some, None, Result, Ok, Err, sym, ◌∙◌, subst, ◌⊎◌, inl, inr, append-nil}
+use Rattle.std.specs.Prelude.{IfSome, IsNone, IsSome, MatchOption, option_and_then, slice_get, ◌≢◌}
 use Rattle.cv_outside.specs.Causes.{NoFault, Rose}
-use Rattle.cv_outside.specs.Told.{Files, bytes_of}
+use Rattle.cv_outside.specs.Told.{Files}
 use Rattle.cv_outside.specs.declared.shelf.FetchError.{FetchError}
 use Rattle.cv_outside.specs.declared.shelf.FetchError.TheVariants as fetch
 use Rattle.cv_syntax.specs.declared.work.BuildError.TheVariants as build
@@ -13,7 +13,7 @@ use Rattle.cv_bound.specs.declared.terms.Term.{Term}
 use Rattle.cv_parse.specs.declared.error.ParseError.TheVariants as parse
 use Rattle.cv_accept.specs.declared.error.FileError.{FileError}
 use Rattle.cv_accept.specs.declared.error.FileError.TheVariants as fault
-use Rattle.cv_accept.specs.Accepted.{Content, IsFile, IsFull, Refuses, read_of, most_bytes}
+use Rattle.cv_accept.specs.Accepted.{Content, IsFile, IsFull, Refuses, read_of, most_bytes, most_pool}
 use Rattle.cv_accept.specs.Works.{content_nodes}
 use Rattle.cv_meaning.specs.Queries.{queries_in}
 use Rattle.cv_accept.proofs.Readings.{file_is_read, full_content}
@@ -24,10 +24,12 @@ use Rattle.cv_scene.specs.Scenes.{Scene}
 use Rattle.cv_steps.specs.Sequences.{scene}
 use Rattle.cv_report.specs.declared.report.Which.TheVariants.{Depth, File, Nodes, Pool, Steps}
 use Rattle.cv_report.specs.verdicts.Verdicts.{ended_with}
-use Rattle.cv_follow.specs.Scripts.{EndsScript, Follows, Stops, first_open, known_to, no_room, refused, too_deep, too_large, too_many}
+use Rattle.cv_follow.specs.Scripts.{EndsScript, Follows, Stops, first_open, known_to, most_steps, no_room, refused, too_deep, too_large, too_many}
 use Rattle.cv.proofs.Walking.{never_stops}
 use Rattle.cv_report.specs.declared.report.Status.{Status}
 use Rattle.cv_report.specs.declared.report.Status.TheVariants as status
+use Rattle.cv_report.specs.declared.report.Command.{Command}
+use Rattle.cv_report.specs.declared.report.Command.TheVariants as command
 use Rattle.cv_report.specs.declared.report.Report.{Report}
 use Rattle.cv_report.specs.declared.report.Verdict.TheVariants.{Proved}
 use Rattle.cv.specs.Answers.{Answers, IsComplete}
@@ -39,7 +41,6 @@ use Rattle.cv_sequences.specs.Chains.{summed}
 use Rattle.cv.specs.Games.{HasCloseGames, IsWithin}
 use Rattle.cv_report.specs.declared.report.Entry.{Entry}
 use Rattle.cv_syntax.specs.declared.work.Game.{Game}
-use Rattle.cv_plain.specs.Strategy.{Course, EndsAt, most_pool, most_steps, nothing_said, said_of, status_by}
 use Rattle.cv_context.specs.declared.products.shape.Shape.{Shape}
 use Rattle.cv_context.specs.products.ShapesInCode.{shape_in}
 use Rattle.cv.specs.Calls.{AreBounded, HasBoundedCalls}
@@ -48,11 +49,15 @@ use Rattle.cv_report.specs.outcome.Refused.{SaysNothing}
 use Rattle.cv.specs.Drawings.{HasDrawn}
 use Rattle.cv.specs.Steps.{HasCloseSteps, IsCloseStep, game_along}
 use Rattle.cv.specs.Values.{context_of}
-use Rattle.cv.specs.Strategy.{AcceptsAll, EndsBy, EndsWell, HasFile, HoldsUpTo, IsExpected, IsGood, IsSound, Judged, Proceeds, SpeaksOfFile, Succeeds, declared_in, file_in, game_in, steps_in}
-use Rattle.cv_report.specs.outcome.Words.{AreTold, bytes_named, bytes_under}
+use Rattle.cv.specs.Strategy.{AcceptsAll, EndsBy, EndsWell, EndsWithout, HasFile, HoldsUpTo, IsExpected, IsGood, IsSound, Judged, Proceeds, SpeaksOfFile, declared_in, ends_under, file_in, game_in, is_games, moves_in, steps_in}
+use Rattle.cv.specs.Words.{AreTold, bytes_asked, command_of, text_asked}
+use Rattle.cv_words.specs.Forms.{Asked, Games, Prove, Sample}
 use Rattle.cv.proofs.Causing.{where_told}
-use Rattle.cv_plain.proofs.Courses.{course_fits}
-use Rattle.cv_plain.proofs.Verdicts.{all_closed}
+use Rattle.cv.proofs.Commands.{Speaks, speaks_under}
+use Rattle.cv_follow.specs.Searches.{EndsSearch, Passes, by_limit, by_room, by_step, end_of_search, without_more}
+use Rattle.cv_lists.proofs.Options.{some_injective}
+use Rattle.cv_report.specs.declared.report.Cause.TheVariants.{Moves, Stuck}
+use Rattle.cv_report.specs.declared.report.Which.{Which}
 use Rattle.cv.proofs.Verdicts.{judged_fault}
 
 -- a good file is proved
@@ -71,69 +76,51 @@ script_proved s f steps g w = go w.left w.split w.ends
         ) in
         absurd (never_stops (content_nodes f + nodes_along f.declarations (known_to f.own) f.game w.proof) (length w.proof) (scene f.declarations (known_to f.own) w.last) (closed_by w.proof) next (g.goes w.proof w.last next left i w.leads) few s e)
 
-file_proved : (s : Status) (f : Content) (script : Option (List Tree)) → f.script ≡ script → Succeeds f script → EndsBy f script s → s ≡ status.Proved
-file_proved s f None e g h =
-    course_fits (content_nodes f) f.game (queries_in f.declarations) s h g.fits
-    ∙ all_closed f.game nothing_said (queries_in f.declarations) g.closed (omega (arith, g.few)) refl refl
-file_proved s f (Some steps) e g h = script_proved s f steps g h
+file_proved : (c : Command) (s : Status) (f : Content) (script : Option (List Tree)) (steps : List Tree) → script ≡ Some steps → AcceptsAll f steps → EndsBy c f script s → s ≡ ends_under c status.Proved
+file_proved c s f None steps e g h = absurd (cc)
+file_proved c s f (Some given) steps e g h = h.ends ∙ ap (ends_under c) (script_proved h.walked f given (subst (AcceptsAll f) (sym (some_injective e)) g) h.follows)
 
-good_proved : (s : Status) (bytes : List ℕ) → IsGood bytes → IsExpected (read_of most_pool bytes) s → s ≡ status.Proved
-good_proved s bytes g h = file_proved s g.content g.content.script refl g.succeeds (subst (λ r. IsExpected r s) (file_is_read most_pool bytes g.content g.file) h)
+good_proved : (c : Command) (s : Status) (bytes : List ℕ) → IsGood bytes → IsExpected c (read_of most_pool bytes) s → s ≡ ends_under c status.Proved
+good_proved c s bytes g h = file_proved c s g.content g.content.script g.steps g.script g.succeeds (subst (λ r. IsExpected c r s) (file_is_read most_pool bytes g.content g.file) h)
 
 -- a pool has room for the proof block of a good file
-
-fits_in : (f : Content) (script : Option (List Tree)) → Succeeds f script → content_nodes f ≤ most_pool
-fits_in f None g = let l = g.fits in omega arith
-fits_in f (Some steps) g = g.fits
 
 good_room : (bytes : List ℕ) (need : ℕ) → IsGood bytes → IsFull most_pool bytes need → ⊥
 good_room bytes need g w =
     let same = full_content most_pool bytes need g.content w (file_is_read most_pool bytes g.content g.file) in
     let nodes = ap content_nodes same in
-    let l = fits_in g.content g.content.script g.succeeds in
+    let l = g.succeeds.fits in
     let o = w.over in
     let a = w.asked in
     let n = items_nodes w.script in
     omega arith
 
-judged_well : (s : Status) (bytes : List ℕ) → IsGood bytes → Judged s bytes → (IsExpected (read_of most_pool bytes) s → s ≡ status.Proved) → EndsWell s
-judged_well status.Proved bytes g j e = tt
-judged_well status.Memory bytes g j e = tt
-judged_well (status.FileRefused fault) bytes g j e = absurd (let h = e j in cc)
-judged_well (status.Limit (Pool need)) bytes g (inl j) e = absurd (let h = e j in cc)
-judged_well (status.Limit (Pool need)) bytes g (inr j) e = absurd (good_room bytes need g j)
-judged_well (status.Limit (Nodes n)) bytes g j e = absurd (let h = e j in cc)
-judged_well (status.Limit (Depth n)) bytes g j e = absurd (let h = e j in cc)
-judged_well (status.Limit Steps) bytes g j e = absurd (let h = e j in cc)
-judged_well (status.Limit File) bytes g j e = absurd (let h = e j in cc)
-judged_well (status.Open cause) bytes g j e = absurd (let h = e j in cc)
-judged_well status.Words bytes g j e = absurd (let h = e j in cc)
-judged_well status.Read bytes g j e = absurd (let h = e j in cc)
-judged_well status.Write bytes g j e = absurd (let h = e j in cc)
-judged_well status.Unbuilt bytes g j e = absurd (let h = e j in cc)
+judged_well : (c : Command) (s : Status) (bytes : List ℕ) → IsGood bytes → Judged c s bytes → (IsExpected c (read_of most_pool bytes) s → s ≡ ends_under c status.Proved) → EndsWell c s
+judged_well c status.Memory bytes g j e = inr refl
+judged_well c status.Proved bytes g j e = inl (e j)
+judged_well c status.Done bytes g j e = inl (e j)
+judged_well c (status.FileRefused fault) bytes g j e = inl (e j)
+judged_well c (status.Limit (Pool need)) bytes g (inl j) e = inl (e j)
+judged_well c (status.Limit (Pool need)) bytes g (inr j) e = absurd (good_room bytes need g j)
+judged_well c (status.Limit (Nodes n)) bytes g j e = inl (e j)
+judged_well c (status.Limit (Depth n)) bytes g j e = inl (e j)
+judged_well c (status.Limit Steps) bytes g j e = inl (e j)
+judged_well c (status.Limit File) bytes g j e = inl (e j)
+judged_well c (status.Open cause) bytes g j e = inl (e j)
+judged_well c status.Words bytes g j e = inl (e j)
+judged_well c status.Read bytes g j e = inl (e j)
+judged_well c status.Write bytes g j e = inl (e j)
+judged_well c status.Unbuilt bytes g j e = inl (e j)
 
-pub ends_well : (s r : Status) (bytes : List ℕ) → IsComplete bytes r → IsGood bytes → (s ≡ r) ⊎ (s ≡ status.Write) → s ≢ status.Write → EndsWell s
-ends_well s r bytes c g (inl e) n = subst EndsWell (sym e) (judged_well r bytes g (c.short g.short) (good_proved r bytes g))
-ends_well s r bytes c g (inr e) n = absurd (n e)
+pub ends_well : (c : Command) (s r : Status) (bytes : List ℕ) → IsComplete c bytes r → IsGood bytes → (s ≡ r) ⊎ (s ≡ status.Write) → s ≢ status.Write → EndsWell c s
+ends_well c s r bytes k g (inl e) n = subst (EndsWell c) (sym e) (judged_well c r bytes g (k.short g.short) (good_proved c r bytes g))
+ends_well c s r bytes k g (inr e) n = absurd (n e)
 
 -- what is said of told bytes
-pub judged_complete : (told : Option (List ℕ)) (bytes : List ℕ) (s : Status) → AreTold told bytes → length bytes ≤ most_bytes → Judged s bytes → IfSome told (λ (b : List ℕ). IsComplete b s)
-judged_complete told bytes s a l j = where_told told bytes (λ (b : List ℕ). IsComplete b s) a (record { short = λ k. j; long = λ k. absurd (let m : most_bytes < length bytes = k in omega arith) })
+pub judged_complete : (c : Command) (told : Option (List ℕ)) (bytes : List ℕ) (s : Status) → AreTold told bytes → length bytes ≤ most_bytes → Judged c s bytes → IfSome told (λ (b : List ℕ). IsComplete c b s)
+judged_complete c told bytes s a l j = where_told told bytes (λ (b : List ℕ). IsComplete c b s) a (record { short = λ k. j; long = λ k. absurd (let m : most_bytes < length bytes = k in omega arith) })
 
 -- what is read speaks of a file, unless memory ran out
-
-course_speaks : (taken : ℕ) (game : Tree) (qs : List Tree) (s : Status) → Course taken game qs s → SpeaksOfFile s
-course_speaks taken game qs s c = go c.left c.ends
-  where
-    by_tests : (full all : Bool) → SpeaksOfFile (status_by full all)
-    by_tests true true = tt
-    by_tests true false = tt
-    by_tests false true = tt
-    by_tests false false = tt
-
-    go : (left : List Tree) → EndsAt taken game (said_of game nothing_said c.answered) left s → SpeaksOfFile s
-    go [] h = subst SpeaksOfFile (sym h) (by_tests (said_of game nothing_said c.answered).full (said_of game nothing_said c.answered).all)
-    go (q ∷ left) h = subst SpeaksOfFile (sym h.1) tt
 
 -- a script stops by a status that speaks of its file
 
@@ -148,13 +135,38 @@ ended_speaks : (o : Option ℕ) → SpeaksOfFile (ended_with o)
 ended_speaks None = tt
 ended_speaks (Some k) = tt
 
-ends_speak : (f : Content) (script : Option (List Tree)) (s : Status) → EndsBy f script s → SpeaksOfFile s
-ends_speak f None s h = course_speaks (content_nodes f) f.game (queries_in f.declarations) s h
-ends_speak f (Some steps) s h = go h.left h.ends
+follows_speak : (f : Content) (steps : List Tree) (s : Status) → Follows (content_nodes f) f.declarations f.own f.game steps (queries_in f.declarations) s → SpeaksOfFile s
+follows_speak f steps s h = go h.left h.ends
   where
     go : (left : List Tree) → EndsScript (content_nodes f + nodes_along f.declarations (known_to f.own) f.game h.proof) (length h.proof) (scene f.declarations (known_to f.own) h.last) (closed_by h.proof) (queries_in f.declarations) left s → SpeaksOfFile s
     go [] e = subst SpeaksOfFile (sym e) (ended_speaks (first_open (closed_by h.proof) 1 (queries_in f.declarations)))
     go (next ∷ left) e = stop_speaks _ _ _ _ next s e
+
+-- so does a search
+
+finish_speaks : (b : Bool) → SpeaksOfFile (if b then status.Open Stuck else status.Open Moves)
+finish_speaks true = tt
+finish_speaks false = tt
+
+without_more_speaks : (moves made : ℕ) (o : Option ℕ) → SpeaksOfFile (end_of_search moves made o)
+without_more_speaks moves made None = tt
+without_more_speaks moves made (Some k) = finish_speaks (nat_lt made moves)
+
+passes_speak : (taken count : ℕ) (sc : Scene) (ks : List ℕ) (which : Which) → Passes taken count sc ks which → SpeaksOfFile (status.Limit which)
+passes_speak taken count sc ks which (by_step _ next h) = stop_speaks taken count sc ks next (status.Limit which) h
+passes_speak taken count sc ks _ (by_room need l) = tt
+
+search_speaks : (moves made taken : ℕ) (sc : Scene) (found : List Tree) (ks : List ℕ) (queries : List Tree) (s : Status) → EndsSearch moves made taken sc found ks queries s → SpeaksOfFile s
+search_speaks moves made taken sc found ks queries _ without_more = without_more_speaks moves made (first_open ks 1 queries)
+search_speaks moves made taken sc found ks queries _ (by_limit which h) = passes_speak taken (length found) sc ks which h
+
+without_speaks : (f : Content) (games : Bool) (moves : ℕ) (s : Status) → EndsWithout games moves f s → Speaks s
+without_speaks f true moves s h = inl h
+without_speaks f false moves s h = inr (search_speaks _ _ _ _ _ _ _ s h.1.ends)
+
+ends_speak : (c : Command) (f : Content) (script : Option (List Tree)) (s : Status) → EndsBy c f script s → Speaks s
+ends_speak c f None s h = without_speaks f (is_games c) (moves_in c) s h
+ends_speak c f (Some steps) s h = subst Speaks (sym h.ends) (speaks_under c h.walked (follows_speak f steps h.walked h.follows))
 
 refusal_speaks : (x : FileError) → (ended_by x ≡ status.Memory) ⊎ SpeaksOfFile (ended_by x)
 refusal_speaks (fault.Lex x) = inr tt
@@ -175,30 +187,37 @@ refusal_speaks (fault.Room need) = inr tt
 refusal_speaks fault.Unbuilt = inr tt
 refusal_speaks fault.OutOfMemory = inl refl
 
-expected_speaks : (s : Status) (r : Result Content FileError) → IsExpected r s → (s ≡ status.Memory) ⊎ SpeaksOfFile s
-expected_speaks s (Ok c) h = inr (ends_speak c c.script s h)
-expected_speaks s (Err x) h = subst (λ y. (y ≡ status.Memory) ⊎ SpeaksOfFile y) (sym h) (refusal_speaks x)
+-- of two kinds of statuses, the second speaks
+refused_speaks : (s : Status) → (s ≡ status.Memory) ⊎ SpeaksOfFile s → (s ≡ status.Memory) ⊎ Speaks s
+refused_speaks s (inl m) = inl m
+refused_speaks s (inr h) = inr (inr h)
 
-pub judged_speaks : (s : Status) (bytes : List ℕ) → Judged s bytes → (s ≡ status.Memory) ⊎ SpeaksOfFile s
-judged_speaks status.Memory bytes j = inl refl
-judged_speaks status.Proved bytes j = expected_speaks status.Proved (read_of most_pool bytes) j
-judged_speaks (status.Open c) bytes j = expected_speaks (status.Open c) (read_of most_pool bytes) j
-judged_speaks (status.FileRefused f) bytes j = expected_speaks (status.FileRefused f) (read_of most_pool bytes) j
-judged_speaks status.Words bytes j = expected_speaks status.Words (read_of most_pool bytes) j
-judged_speaks status.Read bytes j = expected_speaks status.Read (read_of most_pool bytes) j
-judged_speaks status.Write bytes j = expected_speaks status.Write (read_of most_pool bytes) j
-judged_speaks (status.Limit (Pool need)) bytes (inl j) = expected_speaks (status.Limit (Pool need)) (read_of most_pool bytes) j
-judged_speaks (status.Limit (Pool need)) bytes (inr j) = inr tt
-judged_speaks (status.Limit (Nodes n)) bytes j = expected_speaks (status.Limit (Nodes n)) (read_of most_pool bytes) j
-judged_speaks (status.Limit (Depth n)) bytes j = expected_speaks (status.Limit (Depth n)) (read_of most_pool bytes) j
-judged_speaks (status.Limit Steps) bytes j = expected_speaks (status.Limit Steps) (read_of most_pool bytes) j
-judged_speaks (status.Limit File) bytes j = expected_speaks (status.Limit File) (read_of most_pool bytes) j
-judged_speaks status.Unbuilt bytes j = expected_speaks status.Unbuilt (read_of most_pool bytes) j
+expected_speaks : (c : Command) (s : Status) (r : Result Content FileError) → IsExpected c r s → (s ≡ status.Memory) ⊎ Speaks s
+expected_speaks c s (Ok f) h = inr (ends_speak c f f.script s h)
+expected_speaks c s (Err x) h = subst (λ y. (y ≡ status.Memory) ⊎ Speaks y) (sym h) (refused_speaks (ended_by x) (refusal_speaks x))
+
+pub judged_speaks : (c : Command) (s : Status) (bytes : List ℕ) → Judged c s bytes → (s ≡ status.Memory) ⊎ Speaks s
+judged_speaks c status.Memory bytes j = inl refl
+judged_speaks c status.Proved bytes j = expected_speaks c status.Proved (read_of most_pool bytes) j
+judged_speaks c status.Done bytes j = inr (inl refl)
+judged_speaks c (status.Open x) bytes j = expected_speaks c (status.Open x) (read_of most_pool bytes) j
+judged_speaks c (status.FileRefused f) bytes j = expected_speaks c (status.FileRefused f) (read_of most_pool bytes) j
+judged_speaks c status.Words bytes j = expected_speaks c status.Words (read_of most_pool bytes) j
+judged_speaks c status.Read bytes j = expected_speaks c status.Read (read_of most_pool bytes) j
+judged_speaks c status.Write bytes j = expected_speaks c status.Write (read_of most_pool bytes) j
+judged_speaks c (status.Limit (Pool need)) bytes (inl j) = expected_speaks c (status.Limit (Pool need)) (read_of most_pool bytes) j
+judged_speaks c (status.Limit (Pool need)) bytes (inr j) = inr (inr tt)
+judged_speaks c (status.Limit (Nodes n)) bytes j = expected_speaks c (status.Limit (Nodes n)) (read_of most_pool bytes) j
+judged_speaks c (status.Limit (Depth n)) bytes j = expected_speaks c (status.Limit (Depth n)) (read_of most_pool bytes) j
+judged_speaks c (status.Limit Steps) bytes j = expected_speaks c (status.Limit Steps) (read_of most_pool bytes) j
+judged_speaks c (status.Limit File) bytes j = expected_speaks c (status.Limit File) (read_of most_pool bytes) j
+judged_speaks c status.Unbuilt bytes j = expected_speaks c status.Unbuilt (read_of most_pool bytes) j
 
 -- neither Words nor Write
-pub speaks_never : (s : Status) → (s ≡ status.Memory) ⊎ SpeaksOfFile s → (s ≢ status.Words) × (s ≢ status.Write)
+pub speaks_never : (s : Status) → (s ≡ status.Memory) ⊎ Speaks s → (s ≢ status.Words) × (s ≢ status.Write)
 speaks_never s (inl m) = (λ e. (let h = sym m ∙ e in cc), λ e. (let h = sym m ∙ e in cc))
-speaks_never s (inr h) = (λ e. subst SpeaksOfFile e h, λ e. subst SpeaksOfFile e h)
+speaks_never s (inr (inl d)) = (λ e. (let h = sym d ∙ e in cc), λ e. (let h = sym d ∙ e in cc))
+speaks_never s (inr (inr h)) = (λ e. subst SpeaksOfFile e h, λ e. subst SpeaksOfFile e h)
 
 -- reports without a file
 
@@ -223,8 +242,8 @@ are_told : (told : Option (List ℕ)) → AreTold told (told_bytes told)
 are_told None = tt
 are_told (Some bytes) = refl
 
-answers_of : (told : Option (List ℕ)) (bytes : List ℕ) (r : Report) → AreTold told bytes → r.file ≡ None → SaysNothing r → (HasFile r.status → ⊥) → (SpeaksOfFile r.status → Judged r.status bytes) → Answers told r
-answers_of told bytes r a e n h j = record {
+answers_of : (told : Option (List ℕ)) (bytes : List ℕ) (r : Report) → AreTold told bytes → r.file ≡ None → SaysNothing r → (HasFile r.status → ⊥) → (r.command ≡ command.Games → r.status ≡ status.Done → ⊥) → (SpeaksOfFile r.status → Judged r.command r.status bytes) → Answers told r
+answers_of told bytes r a e n h d j = record {
   bytes = bytes;
   agree = a;
   short = λ s. absurd (let t = subst (λ (o : Option SourceFile). IsSome o) e s in cc);
@@ -234,19 +253,18 @@ answers_of told bytes r a e n h j = record {
   follows = subst (λ (o : Option SourceFile). MatchOption o (SaysNothing r) (λ f. Proceeds r f (steps_in r))) (sym e) n;
   given = λ s. absurd (h s);
   only = λ s. absurd (let t = subst (λ (o : Option SourceFile). IsSome o) e s in cc);
+  shown = λ g s. absurd (d g s);
   judged = j;
 }
 
-answers_without : (told : Option (List ℕ)) (r : Report) → r.file ≡ None → SaysNothing r → (HasFile r.status → ⊥) → (SpeaksOfFile r.status → ⊥) → Answers told r
-answers_without told r e n h j = answers_of told (told_bytes told) r (are_told told) e n h (λ s. absurd (j s))
+answers_without : (told : Option (List ℕ)) (r : Report) → r.file ≡ None → SaysNothing r → (HasFile r.status → ⊥) → (r.command ≡ command.Games → r.status ≡ status.Done → ⊥) → (SpeaksOfFile r.status → ⊥) → Answers told r
+answers_without told r e n h d j = answers_of told (told_bytes told) r (are_told told) e n h d (λ s. absurd (j s))
 
 pub memory_answers : (told : Option (List ℕ)) (r : Report) → r.file ≡ None → SaysNothing r → r.status ≡ status.Memory → Answers told r
-memory_answers told r e n s = answers_without told r e n (λ h. subst HasFile s h) (λ h. subst SpeaksOfFile s h)
+memory_answers told r e n s = answers_without told r e n (λ h. subst HasFile s h) (λ g d. (let h = sym s ∙ d in cc)) (λ h. subst SpeaksOfFile s h)
 
 pub memory_cause : (o : Outside) (r : Report) → r.status ≡ status.Memory → ComesFrom o r r.status
 memory_cause o r s = subst (ComesFrom o r) (sym s) cause.memory
-
-pub ruleset without_file = (sound_without, close_without, steps_without, calls_without, memory_answers, memory_cause)
 
 -- bytes that are refused
 
@@ -269,15 +287,39 @@ refusal_has_none (fault.Room need) h = h
 refusal_has_none fault.Unbuilt h = h
 refusal_has_none fault.OutOfMemory h = h
 
+refusal_not_done : (x : FileError) → ended_by x ≡ status.Done → ⊥
+refusal_not_done (fault.Lex x) e = (cc)
+refusal_not_done (fault.Parse (parse.Syntax k)) e = (cc)
+refusal_not_done (fault.Parse (parse.Nesting k)) e = (cc)
+refusal_not_done (fault.Parse (parse.NameTwice k)) e = (cc)
+refusal_not_done (fault.Parse (parse.NameUnknown k)) e = (cc)
+refusal_not_done (fault.Parse (parse.Build (build.Full n))) e = (cc)
+refusal_not_done (fault.Parse (parse.Build (build.Nodes n))) e = (cc)
+refusal_not_done (fault.Parse (parse.Build (build.Depth n))) e = (cc)
+refusal_not_done (fault.Parse (parse.Build build.OutOfMemory)) e = (cc)
+refusal_not_done (fault.Script k) e = (cc)
+refusal_not_done (fault.Types x) e = (cc)
+refusal_not_done (fault.Scope x) e = (cc)
+refusal_not_done (fault.Group k x) e = (cc)
+refusal_not_done (fault.Query k) e = (cc)
+refusal_not_done (fault.Room need) e = (cc)
+refusal_not_done fault.Unbuilt e = (cc)
+refusal_not_done fault.OutOfMemory e = (cc)
+
 pub refusal_answers : (told : Option (List ℕ)) (r : Report) (bytes : List ℕ) (x : FileError) → AreTold told bytes → Refuses most_pool bytes x → r.status ≡ ended_by x → r.file ≡ None → SaysNothing r → Answers told r
 refusal_answers told r bytes x a f s e n =
-    answers_of told bytes r a e n (λ h. refusal_has_none x (subst HasFile s h)) (λ h. subst (λ y. Judged y bytes) (sym s) (judged_fault x bytes f))
+    answers_of told bytes r a e n (λ h. refusal_has_none x (subst HasFile s h)) (λ g d. refusal_not_done x (sym s ∙ d)) (λ h. subst (λ y. Judged r.command y bytes) (sym s) (judged_fault r.command x bytes f))
 
 -- a file that isn't fetched
 
 pub fetch_answers : (told : Option (List ℕ)) (r : Report) (x : FetchError) → r.status ≡ fetch_ended x → r.file ≡ None → SaysNothing r → Answers told r
-fetch_answers told r x s e n = answers_without told r e n (λ h. no_file x (subst HasFile s h)) (λ h. speaks_not x (subst SpeaksOfFile s h))
+fetch_answers told r x s e n = answers_without told r e n (λ h. no_file x (subst HasFile s h)) (λ g d. not_done x (sym s ∙ d)) (λ h. speaks_not x (subst SpeaksOfFile s h))
   where
+    not_done : (x : FetchError) → fetch_ended x ≡ status.Done → ⊥
+    not_done fetch.Failed d = (cc)
+    not_done fetch.Long d = (cc)
+    not_done fetch.OutOfMemory d = (cc)
+
     no_file : (x : FetchError) → HasFile (fetch_ended x) → ⊥
     no_file fetch.Failed h = h
     no_file fetch.Long h = h
@@ -298,29 +340,58 @@ fetch_never fetch.Failed = (λ e. (cc), λ e. (cc))
 fetch_never fetch.Long = (λ e. (cc), λ e. (cc))
 fetch_never fetch.OutOfMemory = (λ e. (cc), λ e. (cc))
 
-pub fetch_complete : (told : Option (List ℕ)) (x : FetchError) (before after : ℕ) → (x ≡ fetch.Failed → Rose before after) → (x ≡ fetch.Long → IfSome told (λ bytes. most_bytes < length bytes)) → NoFault before after → IfSome told (λ (b : List ℕ). IsComplete b (fetch_ended x))
-fetch_complete None x before after f l n = tt
-fetch_complete (Some b) fetch.Failed before after f l n = absurd (n (f refl))
-fetch_complete (Some b) fetch.Long before after f l n = record { short = λ k. absurd (let m : most_bytes < length b = l refl in let j : length b ≤ most_bytes = k in omega arith); long = λ k. inl refl }
-fetch_complete (Some b) fetch.OutOfMemory before after f l n = record { short = λ k. tt; long = λ k. inr refl }
+pub fetch_complete : (c : Command) (told : Option (List ℕ)) (x : FetchError) (before after : ℕ) → (x ≡ fetch.Failed → Rose before after) → (x ≡ fetch.Long → IfSome told (λ bytes. most_bytes < length bytes)) → NoFault before after → IfSome told (λ (b : List ℕ). IsComplete c b (fetch_ended x))
+fetch_complete c None x before after f l n = tt
+fetch_complete c (Some b) fetch.Failed before after f l n = absurd (n (f refl))
+fetch_complete c (Some b) fetch.Long before after f l n = record { short = λ k. absurd (let m : most_bytes < length b = l refl in let j : length b ≤ most_bytes = k in omega arith); long = λ k. inl refl }
+fetch_complete c (Some b) fetch.OutOfMemory before after f l n = record { short = λ k. tt; long = λ k. inr refl }
 
--- told bytes under a name
-
-pub under_told : (told : Option Files) (name : List ℕ) (P : List ℕ → Type 0) → IfSome told (λ files. P (bytes_of files name)) → IfSome (bytes_under told name) P
-under_told None name P h = tt
-under_told (Some files) name P h = h
-
-pub fetched_told : (files : Option Files) (name slice items : List ℕ) → slice ≡ items → IfSome files (λ fs. items ≡ bytes_of fs name) → AreTold (bytes_under files name) slice
-fetched_told None name slice items e h = tt
-fetched_told (Some fs) name slice items e h = sym (e ∙ h)
-
--- words that name no file
+-- words that give no command, and a sample whose text is asked for
 
 pub words_answers : (told : Option (List ℕ)) (r : Report) → r.file ≡ None → SaysNothing r → r.status ≡ status.Words → Answers told r
-words_answers told r e n s = answers_without told r e n (λ h. subst HasFile s h) (λ h. subst SpeaksOfFile s h)
+words_answers told r e n s = answers_without told r e n (λ h. subst HasFile s h) (λ g d. (let h = sym s ∙ d in cc)) (λ h. subst SpeaksOfFile s h)
 
-pub words_cause : (o : Outside) (r : Report) → r.status ≡ status.Words → o.name ≡ None → ComesFrom o r r.status
-words_cause o r s e = subst (ComesFrom o r) (sym s) (cause.words (subst (λ (n : Option (List ℕ)). IsNone n) (sym e) refl))
+pub words_cause : (o : Outside) (r : Report) → r.status ≡ status.Words → o.asked ≡ None → ComesFrom o r r.status
+words_cause o r s e = subst (ComesFrom o r) (sym s) (cause.words (subst (λ (n : Option Asked). IsNone n) (sym e) refl))
 
-pub words_complete : (told : Option Files) (name : Option (List ℕ)) (P : List ℕ → Type 0) → name ≡ None → IfSome (bytes_named told name) P
-words_complete told name P e = subst (λ (n : Option (List ℕ)). IfSome (bytes_named told n) P) (sym e) tt
+pub text_answers : (told : Option (List ℕ)) (r : Report) → r.file ≡ None → SaysNothing r → (r.command ≡ command.Games → ⊥) → r.status ≡ status.Done → Answers told r
+text_answers told r e n g s = answers_without told r e n (λ h. subst HasFile s h) (λ c d. g c) (λ h. subst SpeaksOfFile s h)
+
+pub text_cause : (o : Outside) (r : Report) (asked : Asked) (n : ℕ) → r.status ≡ status.Done → o.asked ≡ Some asked → text_asked asked ≡ Some n → ComesFrom o r r.status
+text_cause o r asked n s e t =
+    subst (ComesFrom o r) (sym s)
+    (cause.sampled (subst (λ (a : Option Asked). IsSome (option_and_then text_asked a)) (sym e) (subst (λ (x : Option ℕ). IsSome x) (sym t) refl)))
+
+-- where no bytes are told nothing is called for
+pub untold_complete : (told : Option (List ℕ)) (P : List ℕ → Type 0) → told ≡ None → IfSome told P
+untold_complete told P e = subst (λ (t : Option (List ℕ)). IfSome t P) (sym e) tt
+
+pub text_untold : (told : Option Files) (asked : Asked) (n : ℕ) → text_asked asked ≡ Some n → bytes_asked told (Some asked) ≡ None
+text_untold told (Prove file moves) n e = absurd (cc)
+text_untold told (Games file) n e = absurd (cc)
+text_untold told (Sample m true) n e = absurd (cc)
+text_untold told (Sample m false) n e = refl
+
+pub text_no_games : (asked : Asked) (n : ℕ) → text_asked asked ≡ Some n → command_of (Some asked) ≡ command.Games → ⊥
+text_no_games (Prove file moves) n e g = absurd (cc)
+text_no_games (Games file) n e g = absurd (cc)
+text_no_games (Sample m true) n e g = absurd (cc)
+text_no_games (Sample m false) n e g = (cc)
+
+-- want of memory is complete
+pub memory_complete : (c : Command) (told : Option (List ℕ)) (s : Status) → s ≡ status.Memory → IfSome told (λ (b : List ℕ). IsComplete c b s)
+memory_complete c None s e = tt
+memory_complete c (Some b) s e = subst (λ (x : Status). IsComplete c b x) (sym e) (record { short = λ k. tt; long = λ k. inr refl })
+
+-- words that give a command
+
+pub some_given : (asked : Option Asked) (given : Asked) → Some given ≡ asked → IsNone asked → ⊥
+some_given asked given e n = (let none = subst (λ (a : Option Asked). IsNone a) (sym e) n in cc)
+
+pub other_text : (asked : Option Asked) (given : Asked) → Some given ≡ asked → text_asked given ≡ None → IsSome (option_and_then text_asked asked) → ⊥
+other_text asked given e t h =
+    let there = subst (λ (a : Option Asked). IsSome (option_and_then text_asked a)) (sym e) h in
+    let none = subst (λ (x : Option ℕ). IsSome x) t there in
+    (cc)
+
+pub ruleset without_file = (sound_without, close_without, steps_without, calls_without, memory_answers, memory_cause, words_answers, words_cause, text_answers, text_cause, text_untold, text_no_games, untold_complete)

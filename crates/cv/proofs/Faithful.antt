@@ -9,7 +9,7 @@ use Rattle.cv_syntax.specs.declared.work.Game.{Game}
 use Rattle.cv_syntax_trees.specs.Declarations.{Declaration}
 use Rattle.cv_syntax_trees.specs.Tree.{Tree}
 use Rattle.cv_syntax.specs.PoolTrees.{tree_at}
-use Rattle.cv_accept.specs.Accepted.{Content, read_of, most_bytes}
+use Rattle.cv_accept.specs.Accepted.{Content, read_of, most_bytes, most_pool}
 use Rattle.cv_bound.specs.declared.terms.Experiment.TheVariants.{Events}
 use Rattle.cv_bound.specs.Sums.{added, with_terms}
 use Rattle.cv_bound.specs.declared.cost.Cost.TheVariants as bound
@@ -25,12 +25,10 @@ use Rattle.cv_meaning_chances.specs.Fractions.{HasTapes}
 use Rattle.cv_kernel.specs.Closings.{Closing, closing_in, closing_of_items}
 use Rattle.cv_kernel.specs.Proofs.{IsProof, IsTransition, Transition, closed_by, game_behind, push, start}
 use Rattle.cv_kernel.specs.Sayings.{Accepted, MaySay}
-use Rattle.cv_plain.specs.Strategy.{closing, most_pool}
 use Rattle.cv_report.specs.declared.report.Entry.{Entry}
 use Rattle.cv_report.specs.declared.report.Report.{Report}
 use Rattle.cv_scene.specs.Reductions.{context_of_game}
 use Rattle.cv_scene.specs.Scenes.{Scene}
-use Rattle.cv_script.specs.declared.steps.Step.{Step}
 use Rattle.cv_script.specs.Views.{items_of_step}
 use Rattle.cv_script.specs.Views as items
 use Rattle.cv_sequences.specs.Chains.{ByEquivalence, ByStep, HasPrice, IsChain, IsFileOf, IsLink, Link, Prices, cost_behind, costs_behind, game_after, next_behind, summed}
@@ -44,7 +42,8 @@ use Rattle.cv.specs.Contexts.{context_by, context_for, contexts_from, contexts_i
 use Rattle.cv.specs.Games.{HasCloseGames, IsWithin}
 use Rattle.cv.specs.Runs.{Runs}
 use Rattle.cv_follow.specs.Scripts.{Told, entry_in, entry_of, known_to}
-use Rattle.cv.specs.Strategy.{FollowsScript, Proceeds, declared_in, file_in, game_in, steps_in}
+use Rattle.cv.proofs.Commands.{Taken, taken}
+use Rattle.cv.specs.Strategy.{TakesSteps, declared_in, file_in, game_in, steps_in}
 use Rattle.cv.specs.Values.{Contexts, advantage_of, advantages_in, context_of}
 use Rattle.cv_sequences.specs.secrets.Sums.{summed_by}
 use Rattle.cv_sequences.proofs.secrets.Sums.{plain, put}
@@ -344,11 +343,6 @@ next_tree trees e t g m n =
     next_behind_step (closing_in t.step) t.next (tree_at trees (Some g.root))
     (sym (ap (λ (y : Told). y.3) m) ∙ ap (option_map (λ h. tree_at trees (Some h.root))) n)
 
-pub none_next : (ss : List Step) (k : ℕ) (e : Entry) (g : Game) → slice_get (map closing ss) k ≡ Some e → e.next ≡ Some g → ⊥
-none_next [] k e g h n = cc
-none_next (s ∷ ss) zero e g h n = let f : closing s ≡ e = cc in let m = ap (λ x. x.next) f ∙ n in cc
-none_next (s ∷ ss) (suc k) e g h n = none_next ss k e g h n
-
 -- the contexts of its entries are those of the transitions
 
 pub same_game : (trees : List KindTree) (game next : Tree) (o : Option Game) (c : Option Closing) → option_map (λ h. tree_at trees (Some h.root)) o ≡ game_behind c next → game_of_entry trees game o ≡ game_kept game c next
@@ -368,9 +362,9 @@ same_contexts ds own trees step game (e ∷ es) (t ∷ ts) m =
     ap₂ (λ s cs. with_context step (context_by ds own game s) cs) (ap (λ (y : Told). y.0) f)
     (ap (λ g. contexts_from ds own trees (suc step) g es) to ∙ same_contexts ds own trees (suc step) (game_kept game (closing_in t.step) t.next) es ts (cc))
 
--- those of a report that follows a script
-pub script_contexts : (r : Report) (f : File) (steps : List Tree) (w : FollowsScript r f steps) → r.file ≡ Some f → contexts_in r ≡ contexts_along (declared_in r) r.work.decls.own 1 (game_in r f) w.walk.proof
-script_contexts r f steps w e = ap (contexts_of_file r) e ∙ same_contexts (declared_in r) r.work.decls.own r.work.pool.trees 1 (game_in r f) r.trail.items w.walk.proof w.trail
+-- those of a report that took steps
+pub contexts_taken : (r : Report) (f : File) (w : TakesSteps r f) → r.file ≡ Some f → contexts_in r ≡ contexts_along (declared_in r) r.work.decls.own 1 (game_in r f) w.proof
+contexts_taken r f w e = ap (contexts_of_file r) e ∙ same_contexts (declared_in r) r.work.decls.own r.work.pool.trees 1 (game_in r f) r.trail.items w.proof w.trail
 
 abbrev AreClose : Report → File → Type 0
 AreClose r f =
@@ -383,26 +377,26 @@ module _ (holds : (ds : List Declaration) → DerivationsHold ds) (unreached : (
       let w = file_of bytes c reads holds unreached few in
       close c.declarations c.own c.game w (valued bytes c reads w.ready) (taped bytes c reads) ts last p rest
 
-  script_close : (steps : List Tree) → r.file ≡ Some f → file_in r f (length c.names) ≡ c → FollowsScript r f steps → AreClose r f
-  script_close steps there held w k e g h n =
+  steps_close : r.file ≡ Some f → file_in r f (length c.names) ≡ c → TakesSteps r f → AreClose r f
+  steps_close there held w k e g h n =
       let trees = r.work.pool.trees in
       let ds = declared_in r in
       let own = r.work.decls.own in
       let first = game_in r f in
-      let ts = w.walk.proof in
+      let ts = w.proof in
       let m = matched trees r.trail.items ts k e w.trail h in
-      let p = front ds (known_to own) first ts w.walk.last w.walk.leads k m.0 m.1 in
+      let p = front ds (known_to own) first ts w.last w.leads k m.0 m.1 in
       let here = subst (λ d. (us : List Transition) (last : Tree) → IsProof d.declarations (known_to d.own) d.game us last → (rest : List Transition) → IsWithin d.declarations (contexts_along d.declarations d.own 1 d.game (us ++ rest)) d.game last (summed [] (map (λ t. t.cost) us))) (sym held) close_content in
       let whole = here (take (k + 1) ts) m.0.next p (drop (k + 1) ts) in
       let within_all = subst (λ us. IsWithin ds (contexts_along ds own 1 first us) first m.0.next (summed [] (map (λ t. t.cost) (take (k + 1) ts)))) (take-append-drop (k + 1) ts) whole in
-      let within_trail = subst (λ cs. IsWithin ds cs first m.0.next (summed [] (map (λ t. t.cost) (take (k + 1) ts)))) (sym (script_contexts r f steps w there)) within_all in
+      let within_trail = subst (λ cs. IsWithin ds cs first m.0.next (summed [] (map (λ t. t.cost) (take (k + 1) ts)))) (sym (contexts_taken r f w there)) within_all in
       subst (λ cs. IsWithin ds (contexts_in r) first (tree_at trees (Some g.root)) (summed [] cs)) (sym (same_costs trees r.trail.items ts (k + 1) w.trail))
       (subst (λ t. IsWithin ds (contexts_in r) first t (summed [] (map (λ x. x.cost) (take (k + 1) ts)))) (next_tree trees e m.0 g m.2 n) within_trail)
 
-  by_script : (o : Option (List Tree)) → r.file ≡ Some f → file_in r f (length c.names) ≡ c → Proceeds r f o → AreClose r f
-  by_script None there held p k e g h n = absurd (none_next r.steps.items k e g (ap (λ es. slice_get es k) (sym p.trail) ∙ h) n)
-  by_script (Some steps) there held p k e g h n = script_close steps there held p k e g h n
+  by_report : Taken r f → r.file ≡ Some f → file_in r f (length c.names) ≡ c → AreClose r f
+  by_report (inl n) there held k e g h m = absurd (let x = sym (ap (λ es. slice_get es k) n) ∙ h in cc)
+  by_report (inr w) there held k e g h m = steps_close there held w k e g h m
 
   pub run_close : Runs c f r → HasCloseGames r
   run_close (inl s) = subst (λ (o : Option File). IfSome o (AreClose r)) (sym s.file) tt
-  run_close (inr h) = subst (λ (o : Option File). IfSome o (AreClose r)) (sym h.file) (by_script (steps_in r) h.file h.content h.proceeds)
+  run_close (inr h) = subst (λ (o : Option File). IfSome o (AreClose r)) (sym h.file) (by_report (taken r f (steps_in r) h.proceeds) h.file h.content)

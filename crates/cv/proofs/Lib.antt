@@ -1,11 +1,13 @@
 pub mod Causing
-pub mod Courses
+pub mod Commands
 pub mod Endings
 pub mod Faithful
 pub mod Naming
 pub mod Growing
+pub mod OpenQueries
 pub mod Proving
 pub mod Running
+pub mod Sources
 pub mod Unread
 pub mod Verdicts
 pub mod Walking

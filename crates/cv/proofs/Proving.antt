@@ -1,5 +1,5 @@
 -- A query that a proof closes holds up to its sum.
-use Rattle.std.proofs.Common.{◌≡◌, ℕ, suc, ◌+◌, ◌≤◌, Bool, true, false, if◌then◌else◌, List, [], length, map, drop, take, refl, ap, ap₂, sym, ◌∙◌, subst, arith, Option, Some, None, Ok, inl, inr}
+use Rattle.std.proofs.Common.{◌≡◌, ℕ, suc, ◌+◌, ◌≤◌, append-nil, Bool, true, false, if◌then◌else◌, List, [], length, map, drop, take, refl, ap, ap₂, sym, ◌∙◌, subst, arith, Option, Some, None, Ok, inl, inr}
 use Rattle.std.specs.Prelude.{◌↔◌, Contains, slice_get}
 use Rattle.std.specs.List.{list_any}
 use Rattle.std.proofs.lemmas.List.{take-append-drop}
@@ -24,7 +24,7 @@ use Rattle.cv_accept.specs.Accepted.{Content, asks_unbuilt as file_unbuilt, read
 use Rattle.cv_parse.proofs.Exactness.{says_is_said}
 use Rattle.cv_parse_sorts.proofs.queries.Closed.{queries_closed}
 use Rattle.cv_parse_tables.specs.terminals.Signs.{signs_of}
-use Rattle.cv_plain.specs.Strategy.{most_pool}
+use Rattle.cv_accept.specs.Accepted.{most_pool}
 use Rattle.cv_report.specs.declared.report.Report.{Report}
 use Rattle.cv_syntax.specs.declared.work.File.{File}
 use Rattle.cv_query_direct.specs.closed_terms.Closed.{HasClosedQueries, IsClosedQuery}
@@ -57,12 +57,13 @@ use Rattle.cv_kernel.specs.Proofs.{IsProof, IsTransition, Transition, closed_by,
 use Rattle.cv.specs.Contexts.{contexts_in}
 use Rattle.cv.specs.Runs.{IsBounded, IsSoundFor}
 use Rattle.cv_follow.specs.Scripts.{known_to}
-use Rattle.cv.specs.Strategy.{FollowsScript, declared_in, file_in, game_in, steps_in}
+use Rattle.cv.specs.Strategy.{FollowsScript, FollowsStrategy, Proceeds, ProceedsWithout, TakesSteps, declared_in, file_in, game_in, is_games, steps_in}
+use Rattle.cv.proofs.OpenQueries.{none_proved}
 use Rattle.cv.specs.Values.{Contexts, advantage_of, advantages_of, context_of, is_once, secret_of, value_of}
 use Rattle.cv_follow.specs.Walks.{sums_along}
 use Rattle.cv_follow.proofs.Closings.{nothing_more, sum_put}
 use Rattle.cv.proofs.Taped.{HaveTapedContexts, HaveValues, taped_prices}
-use Rattle.cv.proofs.Faithful.{HasLinks, StandsIn, contexts_along, links_of, prices, script_contexts, stands_in, summed_on}
+use Rattle.cv.proofs.Faithful.{HasLinks, StandsIn, contexts_along, links_of, prices, contexts_taken, stands_in, summed_on}
 use Rattle.cv_follow.proofs.StepKinds.{IsClosure, closure}
 use Rattle.cv_accept_laws.proofs.Ready.{events_valued, file, file_of, taped, valued as valued_file}
 
@@ -228,31 +229,58 @@ module _ (ds : List Declaration) (own : ℕ) (first : Tree) (w : IsFileOf ds own
       let accepted = (decided sc query c.closing.certificate is).1 (ap (λ o. first_failure sc o c.closing.certificate) (sym number) ∙ passes) in
       by_kind ts last p (suc j) s c (linked ts last p (suc j) s c) query (contains_at (queries_in ds) j query q) (closed_at (MayBeAsked first) (queries_in ds) asked j query q) (closed_at (IsClosedQuery ds) (queries_in ds) closed j query q) c.closing.certificate refl accepted
 
--- the verdicts of a report that follows a script
+-- the verdicts of a report that took steps
 
 module _ (holds : (ds : List Declaration) → DerivationsHold ds) (unreached : (ds : List Declaration) → DerivedBodiesAreUnreached ds)
     (never : AreNeverBroken) (chosen : AreSecretChoices) (copied : AreSecretCopies) (decided : AreDecided)
     (c : Content) (f : File) (r : Report) (bytes : List ℕ) (reads : read_of most_pool bytes ≡ Ok c) (few : length bytes ≤ most_bytes) where
-  -- what its proof block's steps prove, with the contexts of the steps that were followed
-  abbrev along : (r : Report) (f : File) (steps : List Tree) → FollowsScript r f steps → Contexts
-  along r f steps w = contexts_along (declared_in r) r.work.decls.own 1 (game_in r f) w.walk.proof
+  -- what its steps prove, with the contexts of the steps that were taken
+  abbrev along : (r : Report) (f : File) → TakesSteps r f → Contexts
+  along r f w = contexts_along (declared_in r) r.work.decls.own 1 (game_in r f) w.proof
 
-  sound_here : (steps : List Tree) → steps_in r ≡ Some steps → read_of most_pool bytes ≡ Ok (file_in r f (length c.names)) → (w : FollowsScript r f steps) → IsSoundFor (file_in r f (length c.names)) (along r f steps w) r.verdicts.items
-  sound_here steps e here w j query s q v =
+  -- no step asks for a certificate that isn't built
+  abbrev pub AreBuilt : List Transition → Type 0
+  AreBuilt ts = (n : ℕ) (t : Transition) → slice_get ts n ≡ Some t → is_unbuilt_step (queries_in (declared_in r)) t.step ≡ false
+
+  sound_here : read_of most_pool bytes ≡ Ok (file_in r f (length c.names)) → (w : TakesSteps r f) → AreBuilt w.proof → IsSoundFor (file_in r f (length c.names)) (along r f w) r.verdicts.items
+  sound_here here w built j query s q v =
       let d : Content = file_in r f (length c.names) in
       let w_file = file_of bytes d here holds unreached few in
       let p = file bytes d here in
       let signs = (signs_of p.tokens).signs in
       let said = says_is_said most_pool signs p.said p.says in
       let closed = subst (λ (x : Content). HasClosedQueries x.declarations) (sym p.content) (queries_closed most_pool signs p.said said p.typed) in
+      let number : 1 + j ≡ suc j = omega arith in
+      let sum = sym (ap (sum_of w.proof) number) ∙ verdict_at (sum_of w.proof) 1 (queries_in d.declarations) j s (ap (λ vs. slice_get vs j) (sym w.verdicts) ∙ v) in
+      closed_holds d.declarations d.own d.game w_file closed (accepted most_pool bytes d here).asked (valued_file bytes d here w_file.ready) (taped bytes d here) never chosen copied decided w.proof w.last w.leads built j query s q sum
+
+  sound_taken : r.file ≡ Some f → file_in r f (length c.names) ≡ c → (w : TakesSteps r f) → AreBuilt w.proof → IsSoundFor c (contexts_in r) r.verdicts.items
+  sound_taken there same w built =
+      subst (λ (d : Content). IsSoundFor d (contexts_in r) r.verdicts.items) same
+      (subst (λ cs. IsSoundFor (file_in r f (length c.names)) cs r.verdicts.items) (sym (contexts_taken r f w there)) (sound_here (reads ∙ ap Ok (sym same)) w built))
+
+  -- those of a proof block are built, as the file is accepted; so are those that were found
+
+  block_built : (steps : List Tree) → steps_in r ≡ Some steps → read_of most_pool bytes ≡ Ok (file_in r f (length c.names)) → (w : FollowsScript r f steps) → AreBuilt w.took.proof
+  block_built steps e here w n t i =
+      let d : Content = file_in r f (length c.names) in
+      let p = file bytes d here in
       let built : file_unbuilt d.declarations d.script ≡ false = subst (λ (x : Content). file_unbuilt x.declarations x.script ≡ false) (sym p.content) p.built in
       let none : has_unbuilt (queries_in d.declarations) steps ≡ false = ap (file_unbuilt d.declarations) (sym e) ∙ built in
-      let number : 1 + j ≡ suc j = omega arith in
-      let sum = sym (ap (sum_of w.walk.proof) number) ∙ verdict_at (sum_of w.walk.proof) 1 (queries_in d.declarations) j s (ap (λ vs. slice_get vs j) (sym w.verdicts) ∙ v) in
-      closed_holds d.declarations d.own d.game w_file closed (accepted most_pool bytes d here).asked (valued_file bytes d here w_file.ready) (taped bytes d here) never chosen copied decided w.walk.proof w.walk.last w.walk.leads
-      (λ n t i. none_fails (is_unbuilt_step (queries_in d.declarations)) w.walk.proof w.walk.left n t (ap (list_any (is_unbuilt_step (queries_in d.declarations))) (sym w.walk.split) ∙ none) i) j query s q sum
+      none_fails (is_unbuilt_step (queries_in d.declarations)) w.took.proof w.left n t (ap (list_any (is_unbuilt_step (queries_in d.declarations))) (sym w.split) ∙ none) i
 
-  pub script_sound : (steps : List Tree) → steps_in r ≡ Some steps → r.file ≡ Some f → file_in r f (length c.names) ≡ c → FollowsScript r f steps → IsSoundFor c (contexts_in r) r.verdicts.items
-  script_sound steps e there same w =
+  found_built : (w : FollowsStrategy r f) → AreBuilt w.took.proof
+  found_built w n t i =
+      none_fails (is_unbuilt_step (queries_in (declared_in r))) w.took.proof [] n t (ap (list_any (is_unbuilt_step (queries_in (declared_in r)))) (append-nil (map (λ x. x.step) w.took.proof)) ∙ w.built) i
+
+  -- so the verdicts hold, whatever they come of
+
+  without_sound : (games : Bool) → r.file ≡ Some f → file_in r f (length c.names) ≡ c → ProceedsWithout games r f → IsSoundFor c (contexts_in r) r.verdicts.items
+  without_sound true there same w =
       subst (λ (d : Content). IsSoundFor d (contexts_in r) r.verdicts.items) same
-      (subst (λ cs. IsSoundFor (file_in r f (length c.names)) cs r.verdicts.items) (sym (script_contexts r f steps w there)) (sound_here steps e (reads ∙ ap Ok (sym same)) w))
+      (λ k query s q v. absurd (none_proved (queries_in (declared_in r)) k s (ap (λ vs. slice_get vs k) (sym w.verdicts) ∙ v)))
+  without_sound false there same w = sound_taken there same w.took (found_built w)
+
+  pub report_sound : (o : Option (List Tree)) → steps_in r ≡ o → r.file ≡ Some f → file_in r f (length c.names) ≡ c → Proceeds r f o → IsSoundFor c (contexts_in r) r.verdicts.items
+  report_sound None e there same w = without_sound (is_games r.command) there same w
+  report_sound (Some steps) e there same w = sound_taken there same w.took (block_built steps e (reads ∙ ap Ok (sym same)) w)

@@ -25,7 +25,7 @@ use Rattle.cv_meaning_chances.specs.Fractions.{HasTapes}
 use Rattle.cv_meaning_chances.specs.values.Values.{HasValuesIn}
 use Rattle.cv_meaning_contexts.specs.ContextAdvantage.{context_chance}
 use Rattle.cv_meaning_contexts.specs.Groups.{Left, Right}
-use Rattle.cv_plain.specs.Strategy.{most_pool}
+use Rattle.cv_accept.specs.Accepted.{most_pool}
 use Rattle.cv_report.specs.declared.report.Entry.{Entry}
 use Rattle.cv_report.specs.declared.report.Report.{Report}
 use Rattle.cv_scene.specs.Reductions.{context_of_game}
@@ -41,9 +41,10 @@ use Rattle.cv_steps_crypto.proofs.Accepted.{accepted}
 use Rattle.cv.specs.Contexts.{contexts_in}
 use Rattle.cv.specs.Runs.{Runs}
 use Rattle.cv.specs.Steps.{AreEqual, AreOfCost, HasCloseSteps, IsCloseStep, game_along}
-use Rattle.cv.specs.Strategy.{FollowsScript, Proceeds, declared_in, file_in, game_in, steps_in}
+use Rattle.cv.proofs.Commands.{Taken, taken}
+use Rattle.cv.specs.Strategy.{TakesSteps, declared_in, file_in, game_in, steps_in}
 use Rattle.cv.specs.Values.{Contexts, advantage_of, advantages_in}
-use Rattle.cv.proofs.Faithful.{HasContext, along_is, context_numbered, contexts_along, game_kept, link_of, links_of, matched, next_tree, none_next, price_of, same_game, script_contexts, stands_in}
+use Rattle.cv.proofs.Faithful.{HasContext, along_is, context_numbered, contexts_along, game_kept, link_of, links_of, matched, next_tree, price_of, same_game, contexts_taken, stands_in}
 use Rattle.cv.proofs.Faithful as faithful
 use Rattle.cv.proofs.Taped.{HaveTapedContexts, HaveValues}
 
@@ -131,30 +132,30 @@ module _ (holds : (ds : List Declaration) → DerivationsHold ds) (unreached : (
       let w = file_of bytes c reads holds unreached few in
       close_step c.declarations c.own c.game w (valued bytes c reads w.ready) (taped bytes c reads)
 
-  script_steps : (steps : List Tree) → r.file ≡ Some f → file_in r f (length c.names) ≡ c → FollowsScript r f steps → AreCloseSteps r f
-  script_steps steps there held w k e g h n =
+  steps_step : r.file ≡ Some f → file_in r f (length c.names) ≡ c → TakesSteps r f → AreCloseSteps r f
+  steps_step there held w k e g h n =
       let trees = r.work.pool.trees in
       let ds = declared_in r in
       let own = r.work.decls.own in
       let first = game_in r f in
-      let ts = w.walk.proof in
+      let ts = w.proof in
       let m = matched trees r.trail.items ts k e w.trail h in
       let t = m.0 in
-      let s = stands_in ds (known_to own) first ts w.walk.last w.walk.leads k t m.1 in
+      let s = stands_in ds (known_to own) first ts w.last w.leads k t m.1 in
       let here = subst (λ (d : Content). HasStepsFrom d.declarations d.own d.game) (sym held) content_steps in
       let alone = here (take k ts) s.game s.before t (drop (suc k) ts) (no_closing trees e t g m.2 n) s.here in
       let among = subst (λ us. IsCloseStep ds (contexts_along ds own 1 first us) s.game t.next t.cost) (split_at ts k t m.1) alone in
-      let in_report = subst (λ cs. IsCloseStep ds cs s.game t.next t.cost) (sym (script_contexts r f steps w there)) among in
+      let in_report = subst (λ cs. IsCloseStep ds cs s.game t.next t.cost) (sym (contexts_taken r f w there)) among in
       let led = same_along trees first r.trail.items ts k w.trail ∙ along_is ds own first (take k ts) s.game s.before in
       let game = game_along trees first (take k r.trail.items) in
       subst (IsCloseStep ds (contexts_in r) game (tree_at trees (Some g.root))) (sym (ap (λ (y : Told). y.1) m.2))
       (subst (λ next. IsCloseStep ds (contexts_in r) game next t.cost) (next_tree trees e t g m.2 n)
       (subst (λ before. IsCloseStep ds (contexts_in r) before t.next t.cost) (sym led) in_report))
 
-  by_script : (o : Option (List Tree)) → r.file ≡ Some f → file_in r f (length c.names) ≡ c → Proceeds r f o → AreCloseSteps r f
-  by_script None there held p k e g h n = absurd (none_next r.steps.items k e g (ap (λ es. slice_get es k) (sym p.trail) ∙ h) n)
-  by_script (Some steps) there held p k e g h n = script_steps steps there held p k e g h n
+  by_report : Taken r f → r.file ≡ Some f → file_in r f (length c.names) ≡ c → AreCloseSteps r f
+  by_report (inl n) there held k e g h m = absurd (let x = sym (ap (λ es. slice_get es k) n) ∙ h in cc)
+  by_report (inr w) there held k e g h m = steps_step there held w k e g h m
 
   pub run_steps : Runs c f r → HasCloseSteps r
   run_steps (inl s) = subst (λ (o : Option File). IfSome o (AreCloseSteps r)) (sym s.file) tt
-  run_steps (inr h) = subst (λ (o : Option File). IfSome o (AreCloseSteps r)) (sym h.file) (by_script (steps_in r) h.file h.content h.proceeds)
+  run_steps (inr h) = subst (λ (o : Option File). IfSome o (AreCloseSteps r)) (sym h.file) (by_report (taken r f (steps_in r) h.proceeds) h.file h.content)

@@ -21,7 +21,7 @@ use Rattle.cv_meaning_chances.specs.Fractions.{HasTapes}
 use Rattle.cv_meaning_chances.specs.values.Values.{HasValuesIn}
 use Rattle.cv_meaning_chances.proofs.values.Tapes.{tapes}
 use Rattle.cv_meaning_contexts.specs.ContextAdvantage.{context_advantage}
-use Rattle.cv_plain.specs.Strategy.{most_pool}
+use Rattle.cv_accept.specs.Accepted.{most_pool}
 use Rattle.cv_query_form.specs.Rules.{AreAsked, MayBeAsked}
 use Rattle.cv_scene.specs.Reductions.{context_of_game}
 use Rattle.cv_scene.specs.Scenes.{Scene}

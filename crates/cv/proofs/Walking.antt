@@ -8,7 +8,7 @@ use Rattle.cv_kernel.specs.Sequences.{context_nodes, needed, needed_for}
 use Rattle.cv_kernel.specs.Closings.{judgement_in}
 use Rattle.cv_syntax.specs.limits.Limits.{most_depth, most_nodes, nodes_of, told}
 use Rattle.cv_kernel_crypto.specs.Applied as crypto
-use Rattle.cv_plain.specs.Strategy.{most_pool, most_steps}
+use Rattle.cv_accept.specs.Accepted.{most_pool}
 use Rattle.cv_report.specs.declared.report.Status.{Status}
 use Rattle.cv_scene.specs.Scenes.{Scene}
 use Rattle.cv_script.specs.Views.{items_of_step}
@@ -19,7 +19,7 @@ use Rattle.cv_steps.specs.Judgements as judgement
 use Rattle.cv_steps_crypto.specs.Conditions.{equivalence_of, failure_of}
 use Rattle.cv_steps_crypto.specs.Steps.{IsOutcome, IsOutcomeBy, is_next, outcome_with}
 use Rattle.cv_steps_crypto.specs.Steps as outcome
-use Rattle.cv_follow.specs.Scripts.{LacksRoomFor, Stops, no_room, refused, too_deep, too_large, too_many}
+use Rattle.cv_follow.specs.Scripts.{LacksRoomFor, Stops, most_steps, no_room, refused, too_deep, too_large, too_many}
 use Rattle.cv.specs.Strategy.{GoesOn, IsAcceptance, context_needs}
 use Rattle.cv_follow.proofs.StepKinds.{IsJudged, Kind, kind_of}
 use Rattle.cv_follow.proofs.StepKinds as kind

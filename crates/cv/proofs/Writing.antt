@@ -1,6 +1,8 @@
 -- How a run ends whose report isn't written to its end.
 use Rattle.std.proofs.Common.{◌≡◌, ℕ, List, Option, refl, sym, ◌∙◌, subst, ◌⊎◌, inl, inr}
 use Rattle.std.specs.Prelude.{◌≢◌}
+use Rattle.cv_report.specs.declared.report.Command.{Command}
+use Rattle.cv_report.specs.declared.report.Command.TheVariants as command
 use Rattle.cv_report.specs.declared.report.Report.{Report}
 use Rattle.cv_report.specs.declared.report.Status.{Status}
 use Rattle.cv_report.specs.declared.report.Status.TheVariants as status
@@ -9,7 +11,9 @@ use Rattle.cv.specs.Answers.{Answers, IsComplete}
 use Rattle.cv.specs.Causes.{ComesFrom, Outside}
 use Rattle.cv.specs.Causes as cause
 use Rattle.cv.specs.Strategy.{IsSound}
-use Rattle.cv_report.specs.outcome.Words.{SaysOfWords}
+use Rattle.cv.specs.Words.{SaysOfWords, command_of}
+use Rattle.cv_words.specs.Forms.{Text}
+use Rattle.cv_words.specs.Words.{command_read}
 use Rattle.cv.specs.Games.{HasCloseGames}
 use Rattle.cv.specs.Calls.{HasBoundedCalls}
 use Rattle.cv.specs.Steps.{HasCloseSteps}
@@ -33,12 +37,19 @@ pub kept_calls : (old new : Report) → (new ≡ old) ⊎ SaysMemory old.command
 kept_calls old new (inl e) h = subst HasBoundedCalls (sym e) h
 kept_calls old new (inr m) h = calls_without new m.file
 
-pub kept_words : (words : List (List ℕ)) (old new : Report) → (new ≡ old) ⊎ SaysMemory old.command new → SaysOfWords words old → SaysOfWords words new
+kept_command : (words : List Text) (old new : Report) → SaysMemory old.command new → (old.command ≡ command_of (command_read words)) ⊎ ((old.command ≡ command.Nothing) × (old.status ≡ status.Memory))
+    → (new.command ≡ command_of (command_read words)) ⊎ ((new.command ≡ command.Nothing) × (new.status ≡ status.Memory))
+kept_command words old new m (inl e) = inl (m.command ∙ e)
+kept_command words old new m (inr e) = inr (m.command ∙ e.0, m.status)
+
+pub kept_words : (words : List Text) (old new : Report) → (new ≡ old) ⊎ SaysMemory old.command new → SaysOfWords words old → SaysOfWords words new
 kept_words words old new (inl e) h = subst (SaysOfWords words) (sym e) h
 kept_words words old new (inr m) h = record {
-  command = m.command ∙ h.command;
+  plain = h.plain;
+  command = kept_command words old new m h.command;
   refused = λ n. inr m.status;
   only = λ e. absurd (let f = sym m.status ∙ e in cc);
+  sample = λ s. inr m.status;
 }
 
 pub kept_answers : (told : Option (List ℕ)) (old new : Report) → (new ≡ old) ⊎ SaysMemory old.command new → Answers told old → Answers told new
@@ -49,9 +60,9 @@ pub kept_cause : (o : Outside) (old new : Report) → (new ≡ old) ⊎ SaysMemo
 kept_cause o old new (inl e) h = subst (λ (r : Report). ComesFrom o r r.status) (sym e) h
 kept_cause o old new (inr m) h = subst (ComesFrom o new) (sym m.status) cause.memory
 
-pub kept_complete : (bytes : List ℕ) (old new : Report) → (new ≡ old) ⊎ SaysMemory old.command new → IsComplete bytes old.status → IsComplete bytes new.status
-kept_complete bytes old new (inl e) h = subst (λ (r : Report). IsComplete bytes r.status) (sym e) h
-kept_complete bytes old new (inr m) h = subst (IsComplete bytes) (sym m.status) (record { short = λ k. tt; long = λ k. inr refl })
+pub kept_complete : (c : Command) (bytes : List ℕ) (old new : Report) → (new ≡ old) ⊎ SaysMemory old.command new → IsComplete c bytes old.status → IsComplete c bytes new.status
+kept_complete c bytes old new (inl e) h = subst (λ (r : Report). IsComplete c bytes r.status) (sym e) h
+kept_complete c bytes old new (inr m) h = subst (IsComplete c bytes) (sym m.status) (record { short = λ k. tt; long = λ k. inr refl })
 
 -- a status of writing comes of a fault of the sink
 pub by_sink : (s : Status) (old new : Report) (Faulted : Type 0) → (new ≡ old) ⊎ SaysMemory old.command new → old.status ≢ status.Write → (s ≡ new.status) ⊎ ((s ≡ status.Write) × Faulted) → s ≡ status.Write → Faulted

@@ -1,6 +1,6 @@
 -- What each answer comes from.
-use Rattle.std.specs.Prelude.{◌≡◌, ℕ, suc, ◌+◌, ◌-◌, ◌<◌, ◌⊎◌, min, Bool, false, true, map, if◌then◌else◌, List, [], ◌∷◌, ◌++◌, length, Option, Some, None, option_map, Ok, Err, IfSome, IsNone, IsSomeAnd}
-use Rattle.std.specs.List.{list_all, list_any, zip}
+use Rattle.std.specs.Prelude.{◌≡◌, ℕ, ◌+◌, ◌-◌, ◌<◌, ◌⊎◌, min, true, map, List, [], ◌∷◌, ◌++◌, length, Option, Some, None, option_map, Ok, Err, IfSome, IsNone, IsSome, IsSomeAnd, option_and_then}
+use Rattle.std.specs.List.{list_all}
 use Rattle.cv_outside.specs.Causes.{Rose}
 use Rattle.cv_outside.specs.Told.{Files}
 use Rattle.cv_lex.specs.declared.LexError.{LexError}
@@ -32,31 +32,29 @@ use Rattle.cv_meaning.specs.Queries.{queries_in}
 use Rattle.cv_query_form.specs.Rules.{IsFirstRefused}
 use Rattle.cv_syntax_trees.specs.Tree.{Tree}
 use Rattle.cv_syntax.specs.declared.work.File.{File}
-use Rattle.cv_accept.specs.Accepted.{Content, IsFile, IsFull, asks_unbuilt, block_of, stops_at_prime, most_bytes}
+use Rattle.cv_accept.specs.Accepted.{IsFull, asks_unbuilt, block_of, stops_at_prime, most_bytes, most_pool}
 use Rattle.cv_script_reader.specs.Scripts.{items}
 use Rattle.cv_accept.specs.Places.{nodes_before}
+use Rattle.cv_words.specs.Forms.{Asked}
 use Rattle.cv_report.specs.declared.report.FileFault.TheVariants.{Lex, Parse, Script, Types, Scope, Group, Query}
-use Rattle.cv_report.specs.declared.report.Cause.TheVariants.{NoClose, Stuck}
+use Rattle.cv_report.specs.declared.report.Cause.TheVariants.{Moves, NoClose, Stuck}
+use Rattle.cv_report.specs.declared.report.Command.TheVariants as command
 use Rattle.cv_report.specs.declared.report.Report.{Report}
 use Rattle.cv_report.specs.declared.report.Status.{Status}
 use Rattle.cv_report.specs.declared.report.Status.TheVariants as status
-use Rattle.cv_report.specs.declared.report.Which.TheVariants.{Depth, Nodes, Pool, Steps, File as FileLimit}
-use Rattle.cv_plain.specs.Strategy.{IsCrowded, is_closed, is_proved, lacks_step, most_pool, most_steps}
+use Rattle.cv_report.specs.declared.report.Which.TheVariants.{Depth, Nodes, Pool, File as FileLimit}
+use Rattle.cv_report.specs.declared.report.Which.{Which}
 use Rattle.cv_steps.specs.Sequences.{scene}
-use Rattle.cv_follow.specs.Scripts.{Stops, first_open, known_to}
-use Rattle.cv.specs.Strategy.{declared_in, game_in, nodes_in, said_in, steps_in}
-use Rattle.cv_report.specs.outcome.Words.{bytes_named}
+use Rattle.cv_follow.specs.Scripts.{Stops, first_open, is_proved, known_to}
+use Rattle.cv_follow.specs.Searches.{AreMoves, Passes}
+use Rattle.cv.specs.Strategy.{declared_in, game_in, moves_in, nodes_in, steps_in}
+use Rattle.cv.specs.Words.{bytes_asked, text_asked}
 
 -- The bytes have tokens, of which this holds.
 pub record OfTokens (bytes : List ℕ) (Holds : List Token → Type 0) : Type 0 where
   pub tokens : List Token
   pub lexed : tokens_of bytes ≡ Ok tokens
   pub holds : Holds tokens
-
--- how many queries are closed in a game
-unfoldable pub closed_count : Tree → List Tree → ℕ
-closed_count game [] = 0
-closed_count game (q ∷ qs) = if is_closed game q then suc (closed_count game qs) else closed_count game qs
 
 -- the signs of a proof block
 abbrev pub block_signs : List Token → ℕ × ℕ → List Sign
@@ -138,26 +136,25 @@ pub record HasCertificate (tokens : List Token) : Type 0 where
   pub block : block_of tokens said ≡ Ok script
   pub unbuilt : asks_unbuilt said.declarations (option_map items script) ≡ true
 
--- A file without a proof block has more queries that are closed than there may be steps.
-pub record HasManyClosed (bytes : List ℕ) : Type 0 where
-  pub content : Content
-  pub file : IsFile most_pool bytes content
-  pub plain : content.script ≡ None
-  pub many : most_steps < closed_count content.game (queries_in content.declarations)
+-- Without a proof block steps were found, each accepted in turn, of which so many were counted as moves, and a query is open.
+pub record LeavesOpen (r : Report) (f : File) (made : ℕ) : Type 0 where
+  pub plain : r.script ≡ None
+  pub proof : List Transition
+  pub last : Tree
+  pub leads : IsProof (declared_in r) (known_to r.work.decls.own) (game_in r f) proof last
+  pub count : length r.steps.items ≡ length proof
+  pub unclosed : IsSome (first_open (closed_by proof) 1 (queries_in (declared_in r)))
+  pub counted : AreMoves (map (λ t. t.step) proof) made
 
--- whether a query that would be closed has no step
-abbrev pub HasQueryWithoutStep : Report → File → Bool → Type 0
-HasQueryWithoutStep r f has =
-    list_any (lacks_step (game_in r f)) (zip (queries_in (declared_in r)) r.verdicts.items) ≡ has
-
--- The pool has no room for the step of a query that would be closed.
-pub record LacksRoom (r : Report) (f : File) (need : ℕ) : Type 0 where
-  pub answered : List Tree
-  pub query : Tree
-  pub left : List Tree
-  pub split : queries_in (declared_in r) ≡ answered ++ query ∷ left
-  pub crowded : IsCrowded (nodes_in r f) (game_in r f) (said_in r f answered) query need
-  pub lacks : HasQueryWithoutStep r f true
+-- Without a proof block steps were found, each accepted in turn, and this limit is passed behind them: by the step that was proposed next,
+-- or by the room that it asked for.
+pub record PassesLimit (r : Report) (f : File) (which : Which) : Type 0 where
+  pub plain : r.script ≡ None
+  pub proof : List Transition
+  pub last : Tree
+  pub leads : IsProof (declared_in r) (known_to r.work.decls.own) (game_in r f) proof last
+  pub count : length r.steps.items ≡ length proof
+  pub passes : Passes (length r.work.pool.trees) (length proof) (scene (declared_in r) (known_to r.work.decls.own) last) (closed_by proof) which
 
 -- The steps of a report are the front of the proof block of its file, each accepted in turn; the next one stops the run so.
 pub record HasStop (r : Report) (f : File) (s : Status) : Type 0 where
@@ -182,15 +179,24 @@ pub record HasOpenQuery (r : Report) (f : File) (q : ℕ) : Type 0 where
   pub leads : IsProof (declared_in r) (known_to r.work.decls.own) (game_in r f) proof last
   pub first : first_open (closed_by proof) 1 (queries_in (declared_in r)) ≡ Some q
 
--- what is known of the outside: the file that the words name, its told bytes, and the faults of the shelf, before and after
+-- All steps of the proof block are accepted in turn.
+pub record HasAllSteps (r : Report) (f : File) : Type 0 where
+  pub steps : List Tree
+  pub there : steps_in r ≡ Some steps
+  pub proof : List Transition
+  pub all : steps ≡ map (λ t. t.step) proof
+  pub last : Tree
+  pub leads : IsProof (declared_in r) (known_to r.work.decls.own) (game_in r f) proof last
+
+-- what is known of the outside: what the words ask for, the told bytes that this reads, and the faults of the shelf, before and after
 pub record Outside : Type 0 where
-  pub name : Option (List ℕ)
+  pub asked : Option Asked
   pub told : Option (List ℕ)
   pub before : ℕ
   pub after : ℕ
 
-abbrev pub outside_of : Option Files → Option (List ℕ) → ℕ → ℕ → Outside
-outside_of files name before after = record { name = name; told = bytes_named files name; before = before; after = after }
+abbrev pub outside_of : Option Files → Option Asked → ℕ → ℕ → Outside
+outside_of files asked before after = record { asked = asked; told = bytes_asked files asked; before = before; after = after }
 
 -- where bytes are told, they have tokens of which this holds, or tokens with signs of which this holds
 
@@ -203,11 +209,15 @@ OfSigns o Holds = OfTold o (λ tokens. Holds (signs_of tokens).signs)
 -- The table of causes: what each answer comes from. What is said of bytes is said of told ones.
 pub data ComesFrom (o : Outside) (r : Report) : Status → Type 0 where
   all_proved : list_all is_proved r.verdicts.items ≡ true → ComesFrom o r status.Proved
-  stuck : r.script ≡ None → list_all is_proved r.verdicts.items ≡ false → IfSome r.file (λ f. HasQueryWithoutStep r f false) → ComesFrom o r (status.Open Stuck)
+  stuck : {made : ℕ} → made < moves_in r.command → IsSomeAnd r.file (λ f. LeavesOpen r f made) → ComesFrom o r (status.Open Stuck)
+  moves : IsSomeAnd r.file (λ f. LeavesOpen r f (moves_in r.command)) → ComesFrom o r (status.Open Moves)
+  passes : {which : Which} → IsSomeAnd r.file (λ f. PassesLimit r f which) → ComesFrom o r (status.Limit which)
   stops : {s : Status} → IsSomeAnd r.file (λ f. HasStop r f s) → ComesFrom o r s
   no_close : {q : ℕ} → IsSomeAnd r.file (λ f. HasOpenQuery r f q) → ComesFrom o r (status.Open (NoClose q))
-  steps : IfSome r.file (λ f. HasQueryWithoutStep r f true) → IfSome o.told HasManyClosed → ComesFrom o r (status.Limit Steps)
-  words : IsNone o.name → ComesFrom o r status.Words
+  done : r.command ≡ command.Games → IsSomeAnd r.file (λ f. HasAllSteps r f) → ComesFrom o r status.Done
+  shown : r.command ≡ command.Games → r.script ≡ None → ComesFrom o r status.Done
+  sampled : IsSome (option_and_then text_asked o.asked) → ComesFrom o r status.Done
+  words : IsNone o.asked → ComesFrom o r status.Words
   read : Rose o.before o.after → ComesFrom o r status.Read
   long : IfSome o.told (λ bytes. most_bytes < length bytes) → ComesFrom o r (status.Limit FileLimit)
   no_tokens : {e : LexError} → IfSome o.told (λ bytes. tokens_of bytes ≡ Err e) → ComesFrom o r (status.FileRefused (Lex e))
@@ -225,5 +235,4 @@ pub data ComesFrom (o : Outside) (r : Report) : Status → Type 0 where
   deep : {depth : ℕ} → OfSigns o (λ signs. IsLarge signs (HasDepth depth)) → ComesFrom o r (status.Limit (Depth depth))
   pool : {need : ℕ} → IsNone r.file → most_pool < need → OfSigns o (λ signs. IsLarge signs (HasWeight most_pool need)) → ComesFrom o r (status.Limit (Pool need))
   script_room : {need : ℕ} → IsNone r.file → IfSome o.told (λ bytes. IsFull most_pool bytes need) → ComesFrom o r (status.Limit (Pool need))
-  room : {need : ℕ} → IsSomeAnd r.file (λ f. LacksRoom r f need) → ComesFrom o r (status.Limit (Pool need))
   memory : ComesFrom o r status.Memory

@@ -1,18 +1,10 @@
 -- The names that are drawn along the trail of a report. This profile's own.
-use Rattle.std.specs.Prelude.{◌≡◌, List, map, Option, Some, None}
-use Rattle.cv_syntax_trees.specs.Tree.{Tree}
+use Rattle.std.specs.Prelude.{map}
 use Rattle.cv_accept.specs.Accepted.{Content}
 use Rattle.cv_kernel.specs.Drawings.{DrawsAlong}
 use Rattle.cv_report.specs.declared.report.Report.{Report}
 use Rattle.cv_follow.specs.Scripts.{entry_in, known_to, led}
 
--- The names of a report are those of what its file holds, and behind them those that were drawn along its trail; without a proof block
--- there is none of these.
-
-abbrev pub HasDrawnBy : Report → Content → Option (List Tree) → Type 0
-HasDrawnBy r c None = r.work.names ≡ c.names
-HasDrawnBy r c (Some steps) =
-    DrawsAlong c.declarations (known_to c.own) c.own c.game (map led (map (entry_in r.work.pool.trees) r.trail.items)) c.names r.work.names
-
+-- The names of a report are those of what its file holds, and behind them those that were drawn along its trail.
 abbrev pub HasDrawn : Report → Content → Type 0
-HasDrawn r c = HasDrawnBy r c c.script
+HasDrawn r c = DrawsAlong c.declarations (known_to c.own) c.own c.game (map led (map (entry_in r.work.pool.trees) r.trail.items)) c.names r.work.names

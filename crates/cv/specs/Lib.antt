@@ -8,4 +8,5 @@ pub mod Runs
 pub mod Steps
 pub mod Strategy
 pub mod Values
+pub mod Words
 pub mod Drawings

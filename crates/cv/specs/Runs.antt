@@ -34,14 +34,12 @@ IsSoundFor c cs vs =
     (k : ℕ) (query : Tree) (s : List Term)
     → slice_get (queries_in c.declarations) k ≡ Some query → slice_get vs k ≡ Some (Proved s) → IsBounded c.declarations cs c.game query s
 
--- The report has the file, which holds the same as before, with what comes of its queries or of its proof block. Without a proof block
--- its verdicts hold whatever contexts advantages in the sums are of: they have none.
+-- The report has the file, which holds the same as before, with what comes of its queries or of its proof block.
 pub record HasRun (c : Content) (f : File) (r : Report) : Type 0 where
   pub file : r.file ≡ Some f
   pub content : file_in r f (length c.names) ≡ c
   pub drawn : HasDrawn r c
   pub proceeds : Proceeds r f (steps_in r)
-  pub sound : steps_in r ≡ None → (cs : Contexts) → IsSoundFor c cs r.verdicts.items
   pub status : MayHaveFile r.status
   pub live : IsLive r
 

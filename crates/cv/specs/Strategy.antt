@@ -1,7 +1,6 @@
--- What is said of a file. Without a proof block the plain strategy goes over its queries; the steps of a proof block are
--- followed, and those of them that close queries prove these.
-use Rattle.std.specs.Prelude.{◌≡◌, ℕ, suc, ◌+◌, ◌≤◌, ◌⊎◌, true, List, ◌∷◌, ◌++◌, length, map, take, Option, Some, None, Result, Ok, Err, slice_get, IfSome}
-use Rattle.std.specs.List.{list_all}
+-- What is said of a file. The steps of its proof block are followed, and without one steps are found that are said as those of a block;
+-- those of them that close queries prove these.
+use Rattle.std.specs.Prelude.{◌≡◌, ℕ, suc, ◌+◌, ◌≤◌, ◌⊎◌, Bool, true, false, List, [], ◌∷◌, ◌++◌, length, map, take, Option, Some, None, Result, Ok, Err, slice_get, IfSome}
 use Rattle.cv_syntax.specs.declared.work.File.{File}
 use Rattle.cv_syntax_trees.specs.Declarations.{Declaration}
 use Rattle.cv_syntax.specs.Declarations.{declarations}
@@ -18,15 +17,18 @@ use Rattle.cv_bound.specs.declared.cost.Cost.{Cost}
 use Rattle.cv_kernel.specs.Proofs.{IsProof, Transition, closed_by, nodes_along}
 use Rattle.cv_kernel.specs.Sayings.{Accepted, IsSaid, Saying}
 use Rattle.cv_kernel.specs.Sequences.{context_nodes, needed_for}
-use Rattle.cv_plain.specs.Strategy.{Course, Said, closing, is_closed, most_pool, most_steps, nothing_said, open_verdict, passed_by, said_by, said_of, status_for, steps_nodes}
 use Rattle.cv_accept.specs.declared.error.FileError.{FileError}
-use Rattle.cv_accept.specs.Accepted.{Content, IsFile, IsFull, most_bytes, read_of}
+use Rattle.cv_accept.specs.Accepted.{Content, IsFile, IsFull, most_bytes, most_pool, read_of}
 use Rattle.cv_accept.specs.Works.{content_at, content_in, content_nodes, script_in}
 use Rattle.cv_meaning.specs.Queries.{queries_in}
+use Rattle.cv_report.specs.declared.report.Cause.TheVariants.{NoClose}
+use Rattle.cv_report.specs.declared.report.Command.{Command}
+use Rattle.cv_report.specs.declared.report.Command.TheVariants as command
 use Rattle.cv_report.specs.declared.report.Report.{Report}
 use Rattle.cv_report.specs.declared.report.Status.{Status}
 use Rattle.cv_report.specs.declared.report.Status.TheVariants as status
-use Rattle.cv_report.specs.declared.report.Verdict.TheVariants.{Proved}
+use Rattle.cv_report.specs.declared.report.Verdict.{Verdict}
+use Rattle.cv_report.specs.declared.report.Verdict.TheVariants.{NotProved, Proved}
 use Rattle.cv_report.specs.declared.report.Which.TheVariants.{Depth, Nodes, Pool, Steps}
 use Rattle.cv_scene.specs.Scenes.{Scene}
 use Rattle.cv_script.specs.Views.{StepItems, items_of_step}
@@ -35,25 +37,61 @@ use Rattle.cv_steps.specs.Sequences.{scene}
 use Rattle.cv_steps_crypto.specs.Conditions.{equivalence_of}
 use Rattle.cv.specs.Contexts.{contexts_in}
 use Rattle.cv.specs.Faults.{status_of as ended_by}
-use Rattle.cv_follow.specs.Scripts.{Follows, entry_in, entry_of, first_open, known_to, verdicts_of}
+use Rattle.cv_follow.specs.Scripts.{EndsScript, Follows, entry_in, entry_of, first_open, known_to, most_steps, verdicts_of}
+use Rattle.cv_follow.specs.Searches.{AreMoves, EndsSearch, Finds}
+use Rattle.cv_query_direct.specs.forms.Built.{has_unbuilt}
 use Rattle.cv.specs.Values.{Contexts, value_of}
 
--- how a run over a file ends
+-- `games` asks for no verdicts
 
-abbrev pub EndsBy : Content → Option (List Tree) → Status → Type 0
-EndsBy f None end = Course (content_nodes f) f.game (queries_in f.declarations) end
-EndsBy f (Some steps) end = Follows (content_nodes f) f.declarations f.own f.game steps (queries_in f.declarations) end
+abbrev pub is_games : Command → Bool
+is_games command.Games = true
+is_games c = false
+
+abbrev pub shown : Status → Status
+shown status.Proved = status.Done
+shown (status.Open (NoClose k)) = status.Done
+shown s = s
+
+-- how many moves a command allows
+abbrev pub moves_in : Command → ℕ
+moves_in (command.Prove moves) = moves
+moves_in (command.Sample n prove) = 32
+moves_in command.Games = 0
+moves_in command.Nothing = 0
+
+-- how a run ends under a command whose proof block was followed to such an end
+abbrev pub ends_under : Command → Status → Status
+ends_under command.Games s = shown s
+ends_under c s = s
+
+-- how a run over a file ends under a command
+
+-- the steps of a proof block were followed
+pub record EndsBlock (c : Command) (f : Content) (steps : List Tree) (end : Status) : Type 0 where
+  pub walked : Status
+  pub follows : Follows (content_nodes f) f.declarations f.own f.game steps (queries_in f.declarations) walked
+  pub ends : end ≡ ends_under c walked
+
+-- without a proof block `games` takes no step, and else steps are found, in a pool that has some number of nodes in the end
+abbrev pub EndsWithout : (games : Bool) → (moves : ℕ) → Content → Status → Type 0
+EndsWithout true moves f end = end ≡ status.Done
+EndsWithout false moves f end = (taken : ℕ) × Finds taken moves f.declarations f.own f.game end
+
+abbrev pub EndsBy : Command → Content → Option (List Tree) → Status → Type 0
+EndsBy c f None end = EndsWithout (is_games c) (moves_in c) f end
+EndsBy c f (Some steps) end = EndsBlock c f steps end
 
 -- the status is one of a file, or of bytes that are refused
-abbrev pub IsExpected : Result Content FileError → Status → Type 0
-IsExpected (Err e) s = s ≡ ended_by e
-IsExpected (Ok f) s = EndsBy f f.script s
+abbrev pub IsExpected : Command → Result Content FileError → Status → Type 0
+IsExpected c (Err e) s = s ≡ ended_by e
+IsExpected c (Ok f) s = EndsBy c f f.script s
 
 -- The status is one that these bytes have, unless memory ended the run. The pool may have no room for a proof block.
-abbrev pub Judged : Status → List ℕ → Type 0
-Judged status.Memory bytes = Unit {0}
-Judged (status.Limit (Pool need)) bytes = IsExpected (read_of most_pool bytes) (status.Limit (Pool need)) ⊎ IsFull most_pool bytes need
-Judged s bytes = IsExpected (read_of most_pool bytes) s
+abbrev pub Judged : Command → Status → List ℕ → Type 0
+Judged c status.Memory bytes = Unit {0}
+Judged c (status.Limit (Pool need)) bytes = IsExpected c (read_of most_pool bytes) (status.Limit (Pool need)) ⊎ IsFull most_pool bytes need
+Judged c s bytes = IsExpected c (read_of most_pool bytes) s
 
 -- the status speaks of the bytes of a file
 abbrev pub SpeaksOfFile : Status → Type 0
@@ -86,30 +124,52 @@ file_in r f n = content_in (take n r.work.names) r.work.decls.own r.work.pool.tr
 abbrev pub nodes_in : Report → File → ℕ
 nodes_in r f = content_nodes (content_at r.work f.game.root r.script)
 
--- what the plain strategy says of queries in the game of a report's file
-abbrev pub said_in : Report → File → List Tree → Said
-said_in r f qs = said_of (game_in r f) nothing_said qs
-
--- The steps, the verdicts and the status are those of the plain strategy, and the status is the one that the report's own
--- verdicts call for.
-pub record FollowsStrategy (r : Report) (f : File) : Type 0 where
-  pub course : Course (nodes_in r f) (game_in r f) (queries_in (declared_in r)) r.status
-  pub trail : r.trail.items ≡ map closing r.steps.items
-  pub steps : map (said_by r.work.pool.trees) r.steps.items ≡ (said_in r f course.answered).steps
-  pub verdicts : r.verdicts.items ≡ (said_in r f course.answered).verdicts ++ map open_verdict course.left
-  pub need : ℕ
-  pub told : r.status ≡ status_for (passed_by (length r.steps.items) need) (game_in r f) (queries_in (declared_in r)) r.verdicts.items
-
--- The steps are those of the proof block that are accepted in turn, each with its cost and its next game; the status is
--- that of the first that isn't accepted, or of the end of the block; and a query is proved where one of them closes it.
-pub record FollowsScript (r : Report) (f : File) (script : List Tree) : Type 0 where
-  pub walk : Follows (nodes_in r f) (declared_in r) r.work.decls.own (game_in r f) script (queries_in (declared_in r)) r.status
-  pub trail : map (entry_in r.work.pool.trees) r.trail.items ≡ map entry_of walk.proof
+-- What a report says of steps, whether they are those of a proof block or were found: each is accepted in turn, with its cost, the shape
+-- of its context and its next game, and a query is proved where one of them closes it.
+pub record TakesSteps (r : Report) (f : File) : Type 0 where
+  pub proof : List Transition
+  pub last : Tree
+  pub leads : IsProof (declared_in r) (known_to r.work.decls.own) (game_in r f) proof last
+  pub trail : map (entry_in r.work.pool.trees) r.trail.items ≡ map entry_of proof
   pub steps : r.steps.items ≡ map (λ e. e.step) r.trail.items
-  pub verdicts : r.verdicts.items ≡ verdicts_of walk.proof (queries_in (declared_in r))
+  pub verdicts : r.verdicts.items ≡ verdicts_of proof (queries_in (declared_in r))
+
+-- Steps were found without a proof block, no more of them counted as moves than the command allows, and the search for more ended so.
+pub record FollowsStrategy (r : Report) (f : File) : Type 0 where
+  pub took : TakesSteps r f
+  pub made : ℕ
+  pub counted : AreMoves (map (λ t. t.step) took.proof) made
+  pub few : made ≤ moves_in r.command
+  pub built : has_unbuilt (queries_in (declared_in r)) (map (λ t. t.step) took.proof) ≡ false
+  pub ends : EndsSearch (moves_in r.command) made (length r.work.pool.trees) (scene (declared_in r) (known_to r.work.decls.own) took.last) (map (λ t. t.step) took.proof) (closed_by took.proof) (queries_in (declared_in r)) r.status
+
+-- The steps are those of the proof block that are accepted in turn; the end is that of the first that isn't accepted, or of the end of
+-- the block.
+pub record FollowsScript (r : Report) (f : File) (script : List Tree) : Type 0 where
+  pub took : TakesSteps r f
+  pub left : List Tree
+  pub split : script ≡ map (λ t. t.step) took.proof ++ left
+  pub end : Status
+  pub ends : EndsScript (nodes_in r f + nodes_along (declared_in r) (known_to r.work.decls.own) (game_in r f) took.proof) (length took.proof) (scene (declared_in r) (known_to r.work.decls.own) took.last) (closed_by took.proof) (queries_in (declared_in r)) left end
+  pub ended : r.status ≡ ends_under r.command end
+
+-- what is left is open
+abbrev pub open_verdict : Tree → Verdict
+open_verdict q = NotProved
+
+-- Without a proof block `games` takes no step, and each query stays open.
+pub record ShowsFile (r : Report) : Type 0 where
+  pub steps : r.steps.items ≡ []
+  pub trail : r.trail.items ≡ []
+  pub verdicts : r.verdicts.items ≡ map open_verdict (queries_in (declared_in r))
+  pub status : r.status ≡ status.Done
+
+abbrev pub ProceedsWithout : (games : Bool) → Report → File → Type 0
+ProceedsWithout true r f = ShowsFile r
+ProceedsWithout false r f = FollowsStrategy r f
 
 abbrev pub Proceeds : Report → File → Option (List Tree) → Type 0
-Proceeds r f None = FollowsStrategy r f
+Proceeds r f None = ProceedsWithout (is_games r.command) r f
 Proceeds r f (Some script) = FollowsScript r f script
 
 -- the status says that there is a file
@@ -124,14 +184,8 @@ abbrev pub MayHaveFile : Status → Type 0
 MayHaveFile (status.Limit (Pool need)) = Unit {0}
 MayHaveFile (status.Limit (Nodes count)) = Unit {0}
 MayHaveFile (status.Limit (Depth depth)) = Unit {0}
+MayHaveFile status.Done = Unit {0}
 MayHaveFile s = HasFile s
-
--- The queries of a file are all closed by the events above, and are no more than there may be steps; the nodes of its trees
--- and of all steps are no more than a pool may have.
-pub record ClosesAll (f : Content) : Type 0 where
-  pub closed : list_all (is_closed f.game) (queries_in f.declarations) ≡ true
-  pub few : length (queries_in f.declarations) ≤ most_steps
-  pub fits : content_nodes f + steps_nodes (said_of f.game nothing_said (queries_in f.declarations)).steps ≤ most_pool
 
 abbrev pub IsAcceptance : Saying → Type 0
 IsAcceptance (Accepted next cost) = Unit {0}
@@ -158,22 +212,18 @@ pub record AcceptsAll (f : Content) (steps : List Tree) : Type 0 where
       → GoesOn (content_nodes f + nodes_along f.declarations (known_to f.own) f.game front) (length front) (scene f.declarations (known_to f.own) last) (closed_by front) next
   pub closed : (proof : List Transition) (last : Tree) → steps ≡ map (λ t. t.step) proof → IsProof f.declarations (known_to f.own) f.game proof last → first_open (closed_by proof) 1 (queries_in f.declarations) ≡ None
 
-abbrev pub Succeeds : Content → Option (List Tree) → Type 0
-Succeeds f None = ClosesAll f
-Succeeds f (Some steps) = AcceptsAll f steps
-
--- A file within the limits that is proved: its queries are all closed, or its steps all accepted.
+-- A file within the limits that is proved: the steps of its proof block are all accepted.
 pub record IsGood (bytes : List ℕ) : Type 0 where
   pub short : length bytes ≤ most_bytes
   pub content : Content
   pub file : IsFile most_pool bytes content
-  pub succeeds : Succeeds content content.script
+  pub steps : List Tree
+  pub script : content.script ≡ Some steps
+  pub succeeds : AcceptsAll content steps
 
--- proved, unless memory ended the run
-abbrev pub EndsWell : Status → Type 0
-EndsWell status.Proved = Unit {0}
-EndsWell status.Memory = Unit {0}
-EndsWell s = ⊥
+-- proved, or done where no verdicts are asked for, unless memory ended the run
+abbrev pub EndsWell : Command → Status → Type 0
+EndsWell c s = (s ≡ ends_under c status.Proved) ⊎ (s ≡ status.Memory)
 
 -- No adversary has a greater advantage against the query than the sum's value. Both have tapes, so that they are numbers.
 abbrev pub HoldsUpTo : List Declaration → Contexts → Tree → Tree → List Term → Type 0

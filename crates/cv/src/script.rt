@@ -5,11 +5,12 @@ ghost use Rattle.cv_syntax.specs.PoolTrees.{tree_at};
 ghost use Rattle.cv_parse.specs.Declaring.{IsBelow};
 ghost use Rattle.cv_scope_rules.specs.Phrases.{IsWellFormed};
 ghost use Rattle.cv_accept.specs.Works.{HasSteps, content_at, content_nodes};
-ghost use Rattle.cv_plain.specs.Strategy.{most_pool};
+ghost use Rattle.cv_accept.specs.Accepted.{most_pool};
 ghost use Rattle.cv_scene_view.specs.Kept.{scene_of};
 ghost use Rattle.cv_kernel_crypto.specs.Applied.{HasEquivalences};
 ghost use Rattle.cv.specs.Runs.{Runs};
 
+use crate::asked::end_under;
 use cv_follow::{Walk, follow};
 use cv_report::outcome::refused;
 use cv_report::verdicts::steps_of;
@@ -49,8 +50,9 @@ pub fn run_script(
     let Walk {
         trail,
         verdicts,
-        status,
+        status: end,
     } = walk;
+    let status = end_under(command, end);
     Report {
         work,
         file: Some(file),

@@ -1,58 +1,68 @@
-ghost use Rattle.std.specs.Prelude.{◌≡◌, ◌≢◌, Some, map, IfSome, string_bytes};
+ghost use Rattle.std.specs.Prelude.{◌≡◌, ◌≢◌, Some, map, IfSome, None, string_bytes};
 ghost use Rattle.cv_outside.specs.Causes.{NoFault};
 ghost use Rattle.cv_report.specs.Text.{IsLive};
+ghost use Rattle.cv_report.specs.outcome.Refused.{SaysNothing};
+ghost use Rattle.cv_report.specs.outcome.Written.{EndsBy, IsWritten};
+ghost use Rattle.cv_words.specs.Words.{asked_of};
 ghost use Rattle.cv.specs.Answers.{Answers, IsComplete};
 ghost use Rattle.cv.specs.Causes.{ComesFrom, outside_of};
 ghost use Rattle.cv.specs.Games.{HasCloseGames};
 ghost use Rattle.cv.specs.Calls.{HasBoundedCalls};
 ghost use Rattle.cv.specs.Steps.{HasCloseSteps};
 ghost use Rattle.cv.specs.Strategy.{EndsWell, IsGood, IsSound};
-ghost use Rattle.cv_report.specs.outcome.Words.{AsksOnly, SaysOfWords, bytes_named, file_given};
-ghost use Rattle.cv_report.specs.outcome.Written.{EndsBy, IsWritten};
+ghost use Rattle.cv.specs.Words.{AsksOnly, SaysOfWords, asked_by, bytes_asked, command_of as command_by, file_asked, text_asked as text_by};
 
-use crate::decide::{MOVES, judge};
+use crate::asked::{command_of, source, text_asked};
+use crate::decide::judge;
 use cv_outside::{Shelf, Sink};
-use cv_report::outcome::{Outcome, fetch_status, named, refused, write};
+use cv_report::outcome::{Outcome, fetch_status, refused, write};
 use cv_report::{Command, Report, Status};
 use cv_syntax::Work;
+use cv_words::{Request, command, plain_forms_are_read};
 use std::alloc::Global;
-
-/// The most bytes of a file.
-const MOST_BYTES: usize = 1_048_576;
 
 /// The most nodes of the pool.
 const MOST_NODES: u32 = 16_000_000;
 
-/// All but the writing, where the words name a file.
-fn prove<F: Shelf>(alloc: Global, name: &str, shelf: &mut F) -> Report
+/// All but the writing, where the words ask for more than the text of a sample.
+fn answer<F: Shelf>(alloc: Global, request: Request<'_>, shelf: &mut F) -> Report
+    requires more { text_by (asked_of request) ≡ None }
     ensures sound { IsSound result }
     ensures games { HasCloseGames result }
     ensures steps { HasCloseSteps result }
     ensures calls { HasBoundedCalls result }
-    ensures command { result.command ≡ Command.Prove 32 }
+    ensures command { result.command ≡ command_by (Some (asked_of request.entry)) }
     ensures live { IsLive result }
     ensures never { (result.status ≢ Status.Words) × (result.status ≢ Status.Write) }
-    ensures asked { AsksOnly (Some name.now) (F.asked shelf.old) (F.asked shelf.new) }
-    ensures answers { Answers (bytes_named (F.told shelf.old) (Some name.now)) result }
-    ensures cause { ComesFrom (outside_of (F.told shelf.old) (Some name.now)
+    ensures asked { AsksOnly (file_asked (Some (asked_of request.entry)))
+        (F.asked shelf.old) (F.asked shelf.new) }
+    ensures answers { Answers (bytes_asked (F.told shelf.old) (Some (asked_of request.entry))) result }
+    ensures cause { ComesFrom (outside_of (F.told shelf.old) (Some (asked_of request.entry))
         (F.faults shelf.old) (F.faults shelf.new)) result result.status }
     ensures complete { NoFault (F.faults shelf.old) (F.faults shelf.new)
-        → IfSome (bytes_named (F.told shelf.old) (Some name.now))
-        (λ bytes. IsComplete bytes result.status) }
+        → IfSome (bytes_asked (F.told shelf.old) (Some (asked_of request.entry)))
+        (λ bytes. IsComplete (command_by (Some (asked_of request.entry))) bytes result.status) }
 {
     let work = Work::new(alloc, MOST_NODES);
-    match shelf.fetch(alloc, name, MOST_BYTES) {
-        Ok(bytes) => judge(alloc, work, &bytes),
-        Err(fault) => refused(
-            alloc,
-            work,
-            Command::Prove { moves: MOVES },
-            fetch_status(fault),
-        ),
+    let command = command_of(request);
+    match source(alloc, request, shelf) {
+        Ok(bytes) => judge(alloc, work, command, &bytes),
+        Err(fault) => refused(alloc, work, command, fetch_status(fault)),
     }
 }
 
+/// The report of a run that reads no bytes.
+fn report_without_file(alloc: Global, command: Command, status: Status) -> Report
+    ensures status { result.status ≡ status }
+    ensures command { result.command ≡ command }
+    ensures file { result.file ≡ None }
+    ensures nothing { SaysNothing result }
+{
+    refused(alloc, Work::new(alloc, MOST_NODES), command, status)
+}
+
 /// All but the writing.
+#[tactic(auto, using(crate::proofs::Endings::without_file))]
 fn decide<F: Shelf>(alloc: Global, words: &[String], shelf: &mut F) -> Report
     ensures sound { IsSound result }
     ensures games { HasCloseGames result }
@@ -61,20 +71,25 @@ fn decide<F: Shelf>(alloc: Global, words: &[String], shelf: &mut F) -> Report
     ensures words { SaysOfWords (map string_bytes words.now) result }
     ensures live { IsLive result }
     ensures never { result.status ≢ Status.Write }
-    ensures asked { AsksOnly (file_given words.now) (F.asked shelf.old) (F.asked shelf.new) }
-    ensures answers { Answers (bytes_named (F.told shelf.old) (file_given words.now)) result }
-    ensures cause { ComesFrom (outside_of (F.told shelf.old) (file_given words.now)
+    ensures asked { AsksOnly (file_asked (asked_by words.now))
+        (F.asked shelf.old) (F.asked shelf.new) }
+    ensures answers { Answers (bytes_asked (F.told shelf.old) (asked_by words.now)) result }
+    ensures cause { ComesFrom (outside_of (F.told shelf.old) (asked_by words.now)
         (F.faults shelf.old) (F.faults shelf.new)) result result.status }
     ensures complete { NoFault (F.faults shelf.old) (F.faults shelf.new)
-        → IfSome (bytes_named (F.told shelf.old) (file_given words.now))
-        (λ bytes. IsComplete bytes result.status) }
+        → IfSome (bytes_asked (F.told shelf.old) (asked_by words.now))
+        (λ bytes. IsComplete (command_by (asked_by words.now)) bytes result.status) }
 {
-    match named(words) {
-        Some(name) => prove(alloc, name, shelf),
-        None => {
-            let work = Work::new(alloc, MOST_NODES);
-            refused(alloc, work, Command::Nothing, Status::Words)
-        }
+    plain_forms_are_read();
+    let Ok(asked) = command(alloc, words) else {
+        return report_without_file(alloc, Command::Nothing, Status::Memory);
+    };
+    let Some(request) = asked else {
+        return report_without_file(alloc, Command::Nothing, Status::Words);
+    };
+    match text_asked(request) {
+        Some(_) => report_without_file(alloc, command_of(request), Status::Done),
+        None => answer(alloc, request, shelf),
     }
 }
 
@@ -97,27 +112,30 @@ pub fn run<F: Shelf, K: Sink>(
     // The line of a context bounds its runs, whoever plays and whichever side answers: they choose at most as many keys,
     // and call each function at most as often, as its products are worth.
     ensures calls { HasBoundedCalls result.report }
-    // The command is the one that the words give. The file that they name is asked for alone, at most once.
+    // The command is the one that the words give, and each plain form of words gives what it says. The file that they name
+    // is asked for alone, at most once.
     ensures words { SaysOfWords (map string_bytes words.now) result.report }
-    ensures asked { AsksOnly (file_given words.now) (F.asked shelf.old) (F.asked shelf.new) }
+    ensures asked { AsksOnly (file_asked (asked_by words.now))
+        (F.asked shelf.old) (F.asked shelf.new) }
 
     // Whatever the shelf, there are bytes of which the report's file is the reading: those under that name, where it
-    // tells them. The steps, verdicts and status are those of the proof block, or of the plain strategy.
-    ensures answers { Answers (bytes_named (F.told shelf.old) (file_given words.now))
+    // tells them, or those of the sample of which a proof is asked. The steps, verdicts and status are those of the
+    // proof block, or without one of steps that were found; under `games` none are looked for.
+    ensures answers { Answers (bytes_asked (F.told shelf.old) (asked_by words.now))
         result.report }
     // Each answer has its cause.
-    ensures cause { ComesFrom (outside_of (F.told shelf.old) (file_given words.now)
+    ensures cause { ComesFrom (outside_of (F.told shelf.old) (asked_by words.now)
         (F.faults shelf.old) (F.faults shelf.new)) result.report result.report.status }
     // What the told bytes call for is said, unless a fault or want of memory comes.
     ensures complete { NoFault (F.faults shelf.old) (F.faults shelf.new)
-        → IfSome (bytes_named (F.told shelf.old) (file_given words.now))
-        (λ bytes. IsComplete bytes result.report.status) }
-    // A file within the limits whose queries are all closed by the events above is proved; so is one each step of
-    // whose proof block is accepted, whatever names are drawn, and whose queries are closed by these.
+        → IfSome (bytes_asked (F.told shelf.old) (asked_by words.now))
+        (λ bytes. IsComplete (command_by (asked_by words.now)) bytes result.report.status) }
+    // A file within the limits is proved each step of whose proof block is accepted, whatever names are drawn, and whose
+    // queries are closed by these. Under `games` the run is done.
     ensures good { NoFault (F.faults shelf.old) (F.faults shelf.new)
         → NoFault (K.faults sink.old) (K.faults sink.new)
-        → IfSome (bytes_named (F.told shelf.old) (file_given words.now))
-        (λ bytes. IsGood bytes → EndsWell result.status) }
+        → IfSome (bytes_asked (F.told shelf.old) (asked_by words.now))
+        (λ bytes. IsGood bytes → EndsWell (command_by (asked_by words.now)) result.status) }
 
     // What was taken is a front of the report's text, and the run ends by the report's status, or by Write.
     ensures written { IsWritten (K.taken sink.old) (K.taken sink.new) result.status result.report }

@@ -41,6 +41,10 @@ use Rattle.cv_accept.specs.Places.{behind, nodes_before}
 abbrev pub most_bytes : ℕ
 most_bytes = 1048576
 
+-- the most nodes of a pool
+abbrev pub most_pool : ℕ
+most_pool = 16000000
+
 -- what a file holds: its names, behind them those of its proof block, what it declares, its game, and the steps of the block,
 -- where it has one
 pub record Content : Type 0 where

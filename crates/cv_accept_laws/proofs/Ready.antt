@@ -56,7 +56,7 @@ use Rattle.cv_context_files.specs.right_forms.Forms.{HasRightForm}
 use Rattle.cv_context_files.proofs.right_forms.Files.{right_forms}
 use Rattle.cv_context_files.proofs.right_forms.TypedFiles.{right}
 use Rattle.cv_meaning_contexts.specs.Groups.{Right, side_group}
-use Rattle.cv_plain.specs.Strategy.{most_pool}
+use Rattle.cv_accept.specs.Accepted.{most_pool}
 use Rattle.cv_scene.specs.Scenes.{KnowsQueries}
 use Rattle.cv_sequences.specs.Chains.{IsEquivalenceOfFile, IsFileOf}
 use Rattle.cv_sequences.proofs.Asked.{choices_valued}

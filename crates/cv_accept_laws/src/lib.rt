@@ -5,7 +5,7 @@ ghost use Rattle.std.specs.Prelude.{◌≡◌, ◌≤◌, ℕ, List, Ok, Some, l
 ghost use Rattle.cv_syntax_trees.specs.Declarations.{Declaration};
 ghost use Rattle.cv_syntax_trees.specs.Tree.{Tree};
 ghost use Rattle.cv_accept.specs.Accepted.{Content, most_bytes, read_of};
-ghost use Rattle.cv_plain.specs.Strategy.{most_pool};
+ghost use Rattle.cv_accept.specs.Accepted.{most_pool};
 ghost use Rattle.cv_derive_laws.specs.stores.Soundness.{DerivationsHold, DerivedBodiesAreUnreached};
 ghost use Rattle.cv_sequences.specs.Chains.{IsFileOf};
 

@@ -30,16 +30,21 @@ pub struct Join {
     pub why: Why,
 }
 
-/// A term in its class: the class by its number, the next member in a circle, how many there are, and the edge of the proof
-/// forest to the term that is nearer to the root: that term, counted from 1, or 0, and the join that made the edge.
+/// A term in its class: the class by its number, the next member in a circle, how many there are and how much they count, and the
+/// edge of the proof forest to the term that is nearer to the root: that term, counted from 1, or 0, and the join that made the
+/// edge.
 #[derive(Clone, Copy)]
 struct Member {
     class: u32,
     next: u32,
     count: u32,
+    rank: u32,
     nearer: u32,
     join: usize,
 }
+
+/// How much a term counts that is favoured.
+const FAVOURED: u32 = 1_000_000_000;
 
 /// Classes of equal terms, with a forest of the joins that made them.
 #[derive(Drop)]
@@ -130,10 +135,22 @@ impl Classes {
             class: number,
             next: number,
             count: 1,
+            rank: 1,
             nearer: 0,
             join: 0,
         })?;
         Ok(())
+    }
+
+    /// The members of a term's class.
+    pub(crate) fn members(&self, alloc: Global, t: TermId) -> Result<Vec<TermId>, AllocError> {
+        let mut members = Vec::new(alloc);
+        let mut at = t;
+        for _ in 0..self.count(t) {
+            members.push(at)?;
+            at = self.next(at);
+        }
+        Ok(members)
     }
 
     /// The number of a term's class; the term's own where it has none.
@@ -162,6 +179,21 @@ impl Classes {
         match self.members.get(self.class(t) as usize) {
             Some(member) => member.count,
             None => 1,
+        }
+    }
+
+    /// How much the members of a term's class count.
+    fn rank(&self, t: TermId) -> u32 {
+        match self.members.get(self.class(t) as usize) {
+            Some(member) => member.rank,
+            None => 1,
+        }
+    }
+
+    /// Lets a term count more than all those together that aren't favoured, so that its class is hung below none of theirs.
+    pub(crate) fn favour(&mut self, t: TermId) {
+        if let Some(member) = self.members.get_mut(t.0 as usize) {
+            member.rank = FAVOURED;
         }
     }
 
@@ -237,23 +269,25 @@ impl Classes {
         }
     }
 
-    /// Joins the classes of two terms, of which the first one's has no more members: its tree is turned round and hung below
-    /// the other term.
+    /// Joins the classes of two terms, of which the first one's counts no more: its tree is turned round and hung below the
+    /// other term.
     fn hang(&mut self, small: TermId, large: TermId, join: usize) {
         let class = self.class(large);
         let count = self.count(large).saturating_add(self.count(small));
+        let rank = self.rank(large).saturating_add(self.rank(small));
         self.turn_round(small);
         let _ = self.put_edge(small, Some(Edge { to: large, join }));
         self.put_class(small, class);
         self.put_together(small, large);
         if let Some(member) = self.members.get_mut(class as usize) {
             member.count = count;
+            member.rank = rank;
         }
     }
 
-    /// The one of two terms whose class has no more members than the other's.
+    /// The one of two terms whose class doesn't count more than the other's.
     pub(crate) fn smaller(&self, a: TermId, b: TermId) -> TermId {
-        if self.count(a) <= self.count(b) { a } else { b }
+        if self.rank(a) <= self.rank(b) { a } else { b }
     }
 
     /// Joins the classes of two terms, and keeps why. Where they are one class, nothing changes.

@@ -1,5 +1,6 @@
 ghost use Rattle.std.specs.Prelude.{◌≡◌};
 
+use crate::agenda::Agenda;
 use crate::classes::{Classes, Join, Why};
 use crate::terms::{TermId, Terms};
 use crate::uses::Links;
@@ -38,49 +39,81 @@ pub const MOST_TERMS: u32 = 4_000;
 /// How many joins are made at most before a closure is left as it is.
 const MOST_TURNS: u32 = 1_000_000;
 
+/// How many buckets there are for terms by their heads alone.
+const HEADS: usize = 512;
+
 /// How many buckets there are for terms by their heads and the classes of their arguments.
 const BUCKETS: usize = 4096;
 
-/// Terms in classes of equal ones, closed under congruence, with what is known to be true. Each join keeps why.
+/// Terms in classes of equal ones, closed under congruence, with what is known to be true. Each join keeps why. What is done for
+/// it is counted, and it grows no more once it was given so much effort as it may take.
 #[derive(Drop)]
 pub struct Closure {
     pub(crate) alloc: Global,
     pub(crate) terms: Terms,
     pub(crate) classes: Classes,
     cells: Vec<Cell>,
+    places: Vec<usize>,
     instances: Vec<Vec<TermId>>,
     pub(crate) yes: TermId,
     pub(crate) no: TermId,
     known: Vec<Option<Source>>,
     uses: Links,
     signed: Links,
+    heads: Links,
+    pub(crate) agenda: Agenda,
     waiting: Vec<Join>,
     made: usize,
+    pub(crate) tried: Tried,
+    effort: u32,
     pub grounds: u32,
     heaviest: u64,
 }
 
+/// Up to which term, and after how many joins, the equations were tried.
+#[derive(Clone, Copy)]
+pub(crate) struct Tried {
+    pub(crate) terms: u32,
+    pub(crate) joins: usize,
+}
+
+/// A bucket for a head.
+fn bucket_of(head: Head) -> usize {
+    let code = head.code();
+    let sum = u64::from(code.tag)
+        .wrapping_mul(31)
+        .wrapping_add(u64::from(code.a));
+    (sum % 512) as usize
+}
+
 impl Closure {
-    /// The closure of nothing: `true` and `false`, each in its class.
-    pub fn new(alloc: Global) -> Result<Closure, AllocError> {
+    /// The closure of nothing: `true` and `false`, each in its class. It may take so much effort.
+    pub fn new(alloc: Global, effort: u32) -> Result<Closure, AllocError> {
         let mut closure = Closure {
             alloc,
             terms: Terms::new(alloc, MOST_TERMS)?,
             classes: Classes::new(alloc),
             cells: Vec::new(alloc),
+            places: Vec::new(alloc),
             instances: Vec::new(alloc),
             yes: TermId(0),
             no: TermId(1),
             known: Vec::new(alloc),
             uses: Links::new(alloc, MOST_TERMS as usize)?,
             signed: Links::new(alloc, BUCKETS)?,
+            heads: Links::new(alloc, HEADS)?,
+            agenda: Agenda::new(alloc),
             waiting: Vec::new(alloc),
             made: 0,
+            tried: Tried { terms: 0, joins: 0 },
+            effort,
             grounds: 0,
             heaviest: 0,
         };
         let _yes = closure.term(Head::Yes, &[])?;
         let _no = closure.term(Head::No, &[])?;
+        closure.classes.favour(TermId(0));
+        closure.classes.favour(TermId(1));
         closure.assume(TermId(0), Source::Yes)?;
         Ok(closure)
     }
@@ -145,6 +178,22 @@ impl Closure {
             .saturating_add(self.terms.len() as usize)
     }
 
+    /// How much effort it may still take.
+    pub fn effort(&self) -> u32 {
+        self.effort
+    }
+
+    /// Counts an effort, and tells whether it may be taken.
+    pub fn spend(&mut self, effort: usize) -> bool {
+        let effort = u32::try_from(effort).unwrap_or(u32::MAX);
+        if self.effort < effort {
+            self.effort = 0;
+            return false;
+        }
+        self.effort -= effort;
+        true
+    }
+
     /// How many facts were given, their conjuncts counted.
     pub fn grounds(&self) -> u32
         ensures { result ≡ self.now.grounds }
@@ -163,8 +212,11 @@ impl Closure {
     }
 
     /// The term with this head and these arguments. It joins the class of a term with this head and equal arguments once the
-    /// closure is settled. There is none where the closure is full.
+    /// closure is settled. There is none where the closure is full, or may take no more effort.
     pub fn term(&mut self, head: Head, arguments: &[TermId]) -> Result<Option<TermId>, AllocError> {
+        if !self.spend(arguments.len().saturating_add(1)) {
+            return Ok(None);
+        }
         let before = self.terms.len();
         let Some(t) = self.terms.add(head, arguments)? else {
             return Ok(None);
@@ -172,25 +224,45 @@ impl Closure {
         if self.terms.len() > before {
             self.classes.add()?;
             self.known.push(None)?;
+            self.places.push(0)?;
+            self.heads.add(bucket_of(head), t)?;
+            self.agenda.add(t)?;
             self.note_uses(t, arguments)?;
             self.sign(t)?;
         }
         Ok(Some(t))
     }
 
-    /// Notes a new term at each of its arguments.
+    /// Notes a new term at each of its arguments, once.
     fn note_uses(&mut self, t: TermId, arguments: &[TermId]) -> Result<(), AllocError> {
         for argument in arguments {
-            self.uses.add(argument.0 as usize, t)?;
+            self.uses.add_once(argument.0 as usize, t)?;
         }
         Ok(())
+    }
+
+    /// The terms with a number from this one on that may have a head, the oldest first.
+    pub(crate) fn terms_of(&self, head: Head, from: u32) -> Result<Vec<TermId>, AllocError> {
+        let mut newest = Vec::new(self.alloc);
+        self.heads.collect(bucket_of(head), &mut newest)?;
+        let mut terms = Vec::new(self.alloc);
+        for t in newest.iter().rev() {
+            if t.0 >= from {
+                terms.push(*t)?;
+            }
+        }
+        Ok(terms)
     }
 
     /// Notes a cell that is defined, and gives its number.
     pub fn add_cell(&mut self, cell: Cell) -> Result<usize, AllocError> {
         self.weigh(cell.term);
         self.cells.push(cell)?;
-        Ok(self.cells.len() - 1)
+        let count = self.cells.len();
+        if let Some(place) = self.places.get_mut(cell.term.0 as usize) {
+            *place = count;
+        }
+        Ok(count - 1)
     }
 
     /// The cells that are known to be defined.
@@ -200,12 +272,10 @@ impl Closure {
 
     /// The number of a cell, where it is known to be defined.
     pub fn cell_of(&self, term: TermId) -> Option<usize> {
-        for (k, cell) in self.cells.iter().enumerate() {
-            if cell.term == term {
-                return Some(k);
-            }
+        match self.places.get(term.0 as usize).copied().unwrap_or(0) {
+            0 => None,
+            place => Some(place - 1),
         }
-        None
     }
 
     /// Keeps the terms of an instance, and gives its number.
@@ -268,6 +338,10 @@ impl Closure {
 
     /// Puts a term where its head and the classes of its arguments say; a term that is there waits to be joined with it.
     fn sign(&mut self, t: TermId) -> Result<(), AllocError> {
+        let arity = self.terms.arguments(t).len();
+        if !self.spend(arity) {
+            return Ok(());
+        }
         if let Some(other) = self.congruent(t) {
             return self.equate(t, other, Why::Congruent);
         }
@@ -289,13 +363,11 @@ impl Closure {
         Ok(())
     }
 
-    /// The terms that have a member of a term's class as an argument.
-    fn users(&self, t: TermId) -> Result<Vec<TermId>, AllocError> {
+    /// The terms that have one of these as an argument.
+    fn users(&self, members: &[TermId]) -> Result<Vec<TermId>, AllocError> {
         let mut users = Vec::new(self.alloc);
-        let mut at = t;
-        for _ in 0..self.classes.count(t) {
-            self.uses.collect(at.0 as usize, &mut users)?;
-            at = self.classes.next(at);
+        for t in members {
+            self.uses.collect(t.0 as usize, &mut users)?;
         }
         Ok(users)
     }
@@ -308,14 +380,21 @@ impl Closure {
         Ok(())
     }
 
-    /// Joins two terms, and finds what is congruent by that.
+    /// Joins two terms, and finds what is congruent by that. What stands in the class that counts less, and what is made of it, is
+    /// to be looked at again.
     fn merge(&mut self, join: Join) -> Result<(), AllocError> {
         if self.classes.are_joined(join.left, join.right) {
             return Ok(());
         }
         let smaller = self.classes.smaller(join.left, join.right);
-        let users = self.users(smaller)?;
+        let members = self.classes.members(self.alloc, smaller)?;
+        let users = self.users(&members)?;
+        if !self.spend(members.len().saturating_add(users.len())) {
+            return Ok(());
+        }
         self.classes.join(join)?;
+        self.agenda.add_all(&members)?;
+        self.agenda.add_all(&users)?;
         self.sign_all(&users)
     }
 
@@ -327,6 +406,9 @@ impl Closure {
                 self.made = 0;
                 return Ok(());
             };
+            if !self.spend(1) {
+                return Ok(());
+            }
             self.made = self.made.saturating_add(1);
             self.merge(join)?;
         }

@@ -1,6 +1,7 @@
 // The closure of what is known at a place under equality: classes of terms with a proof forest.
 #![tactic(auto)]
 
+mod agenda;
 mod classes;
 mod closure;
 mod rounds;

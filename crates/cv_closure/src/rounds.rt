@@ -6,18 +6,23 @@ use std::alloc::AllocError;
 /// How many rounds there are at most.
 const MOST_ROUNDS: u32 = 4;
 
-/// How often the equations of truth values are gone over in a round at most.
-const MOST_PASSES: u32 = 16;
+/// How many terms are looked at in a round at most.
+const MOST_TURNS: u32 = 1_000_000;
 
 impl Closure {
-    /// Goes over the equations of truth values until nothing new follows.
-    fn pass(&mut self) -> Result<(), AllocError> {
-        for _ in 0..MOST_PASSES {
-            let before = self.progress();
-            self.open_terms()?;
-            if self.progress() == before {
+    /// Takes what follows of the terms on the agenda by truth values and functions that are `[data]`, until there are none.
+    fn look(&mut self, theory: &Theory) -> Result<(), AllocError> {
+        self.settle()?;
+        for _ in 0..MOST_TURNS {
+            let Some(t) = self.agenda.take() else {
+                return Ok(());
+            };
+            if !self.spend(1) {
                 return Ok(());
             }
+            self.open_truth(t)?;
+            self.open_call(&theory.data, t)?;
+            self.settle()?;
         }
         Ok(())
     }
@@ -25,16 +30,15 @@ impl Closure {
     /// Takes what follows from what is known, by congruence, truth values, functions that are `[data]` and declared equations,
     /// in at most four rounds.
     pub fn saturate(&mut self, theory: &Theory) -> Result<(), AllocError> {
-        self.settle()?;
+        self.look(theory)?;
         for _ in 0..MOST_ROUNDS {
             let before = self.progress();
-            self.pass()?;
-            self.open_calls(&theory.data)?;
             self.try_equations(theory)?;
+            self.look(theory)?;
             if self.progress() == before {
                 return Ok(());
             }
         }
-        self.pass()
+        Ok(())
     }
 }

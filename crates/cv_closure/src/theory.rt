@@ -1,5 +1,5 @@
 // The equations that a file declares, and their instances among the terms of a closure.
-use crate::closure::{Closure, Source};
+use crate::closure::{Closure, Source, Tried};
 use crate::terms::{TermId, Terms};
 use cv_syntax_trees::Head;
 use std::alloc::{AllocError, Global};
@@ -50,14 +50,14 @@ fn slot_of(patterns: &Terms, variables: &[u32], p: TermId) -> Option<usize> {
 }
 
 impl Matching {
-    /// Nothing is found yet, for so many variables.
-    fn new(alloc: Global, count: usize) -> Result<Matching, AllocError> {
+    /// Nothing is found yet, for so many variables. So many terms may be compared.
+    fn new(alloc: Global, count: usize, left: u32) -> Result<Matching, AllocError> {
         let mut found = Vec::new(alloc);
         found.resize(count, None)?;
         Ok(Matching {
             found,
             trail: Vec::new(alloc),
-            left: MOST_TRIES,
+            left,
         })
     }
 
@@ -148,6 +148,9 @@ impl Closure {
         }
         let mut at = t;
         for _ in 0..self.classes.count(t) {
+            if !matching.try_one() {
+                return Ok(false);
+            }
             if self.matches_itself(patterns, variables, p, at, matching)? {
                 return Ok(true);
             }
@@ -166,7 +169,7 @@ impl Closure {
         t: TermId,
         matching: &mut Matching,
     ) -> Result<bool, AllocError> {
-        if !self.has_head_of(patterns, p, t) || !matching.try_one() {
+        if !self.has_head_of(patterns, p, t) {
             return Ok(false);
         }
         let mark = matching.trail.len();
@@ -247,6 +250,9 @@ impl Closure {
     ) -> Result<bool, AllocError> {
         let variables = equation.variables.as_slice();
         matching.undo(0);
+        if !matching.try_one() {
+            return Ok(false);
+        }
         if !self.matches_itself(patterns, variables, pattern, t, matching)? {
             return Ok(false);
         }
@@ -258,6 +264,29 @@ impl Closure {
         self.take_instance(patterns, equation, matching)
     }
 
+    /// Takes the instances of an equation among terms by a pattern, and where it is given by another one of an equal term.
+    fn try_terms(
+        &mut self,
+        patterns: &Terms,
+        equation: &Equation,
+        pattern: TermId,
+        other: Option<TermId>,
+        terms: &[TermId],
+        matching: &mut Matching,
+    ) -> Result<(), AllocError> {
+        let mut taken = 0;
+        for t in terms {
+            if taken >= MOST_INSTANCES {
+                return Ok(());
+            }
+            if self.try_term(patterns, equation, pattern, other, *t, matching)? {
+                taken += 1;
+                self.settle()?;
+            }
+        }
+        Ok(())
+    }
+
     /// Takes the instances of an equation by a pattern, and where it is given by another one of an equal term.
     fn try_pattern(
         &mut self,
@@ -265,19 +294,20 @@ impl Closure {
         equation: &Equation,
         pattern: TermId,
         other: Option<TermId>,
+        from: u32,
     ) -> Result<(), AllocError> {
-        let mut matching = Matching::new(self.alloc, equation.variables.len())?;
-        let mut taken = 0;
-        for number in 0..self.terms.len() {
-            if taken >= MOST_INSTANCES {
-                return Ok(());
-            }
-            let t = TermId(number);
-            if self.try_term(patterns, equation, pattern, other, t, &mut matching)? {
-                taken += 1;
-                self.settle()?;
-            }
+        let Some(head) = patterns.head(pattern) else {
+            return Ok(());
+        };
+        let most = self.effort().min(MOST_TRIES);
+        if most == 0 {
+            return Ok(());
         }
+        let terms = self.terms_of(head, from)?;
+        let mut matching = Matching::new(self.alloc, equation.variables.len(), most)?;
+        self.try_terms(patterns, equation, pattern, other, &terms, &mut matching)?;
+        let spent = most.saturating_sub(matching.left);
+        let _may_go_on = self.spend((spent as usize).saturating_add(1));
         Ok(())
     }
 
@@ -287,11 +317,12 @@ impl Closure {
         patterns: &Terms,
         equation: &Equation,
         left: TermId,
+        from: u32,
     ) -> Result<(), AllocError> {
         if slot_of(patterns, &equation.variables, left).is_some() {
             return Ok(());
         }
-        self.try_pattern(patterns, equation, left, None)?;
+        self.try_pattern(patterns, equation, left, None, from)?;
         let (Some(Head::Eq), Some(m), Some(n)) = (
             patterns.head(left),
             patterns.argument(left, 0),
@@ -304,29 +335,48 @@ impl Closure {
         {
             return Ok(());
         }
-        self.try_pattern(patterns, equation, m, Some(n))
+        self.try_pattern(patterns, equation, m, Some(n), from)
     }
 
-    /// Takes the instances of an equation.
-    fn try_equation(&mut self, patterns: &Terms, equation: &Equation) -> Result<(), AllocError> {
+    /// Takes the instances of an equation by terms with a number from this one on.
+    fn try_equation(
+        &mut self,
+        patterns: &Terms,
+        equation: &Equation,
+        from: u32,
+    ) -> Result<(), AllocError> {
         let term = equation.term;
         let Some(first) = patterns.argument(term, 0) else {
             return Ok(());
         };
         match patterns.head(term) {
-            Some(Head::Eq) => self.try_left_side(patterns, equation, first),
+            Some(Head::Eq) => self.try_left_side(patterns, equation, first, from),
             Some(Head::Not) => {
-                self.try_pattern(patterns, equation, term, None)?;
-                self.try_left_side(patterns, equation, first)
+                self.try_pattern(patterns, equation, term, None, from)?;
+                self.try_left_side(patterns, equation, first, from)
             }
-            _ => self.try_pattern(patterns, equation, term, None),
+            _ => self.try_pattern(patterns, equation, term, None, from),
         }
     }
 
-    /// Takes the instances of all equations.
+    /// From which term on equations are to be tried: where nothing was joined since they were, by the terms that came since.
+    fn untried(&self) -> u32 {
+        if self.tried.joins == self.classes.joined() {
+            self.tried.terms
+        } else {
+            0
+        }
+    }
+
+    /// Takes the instances of all equations that weren't tried.
     pub(crate) fn try_equations(&mut self, theory: &Theory) -> Result<(), AllocError> {
+        let from = self.untried();
+        self.tried = Tried {
+            terms: self.terms.len(),
+            joins: self.classes.joined(),
+        };
         for equation in &theory.equations {
-            self.try_equation(&theory.patterns, equation)?;
+            self.try_equation(&theory.patterns, equation, from)?;
         }
         self.settle()
     }

@@ -126,19 +126,15 @@ impl Closure {
         }
     }
 
-    /// What follows of each term by equations of truth values.
-    pub(crate) fn open_terms(&mut self) -> Result<(), AllocError> {
-        for number in 0..self.terms.len() {
-            let t = TermId(number);
-            if self.is_of_truths(t) {
-                if self.is_true(t) && !self.is_reflexive(t) {
-                    self.assume(t, Source::Equal)?;
-                }
-                self.open_term(t)?;
-                self.settle()?;
-            }
+    /// What follows of a term by equations of truth values.
+    pub(crate) fn open_truth(&mut self, t: TermId) -> Result<(), AllocError> {
+        if !self.is_of_truths(t) {
+            return Ok(());
         }
-        Ok(())
+        if self.is_true(t) && !self.is_reflexive(t) {
+            self.assume(t, Source::Equal)?;
+        }
+        self.open_term(t)
     }
 
     /// The next member of a term's class that is a call of the same function.
@@ -172,26 +168,18 @@ impl Closure {
         Ok(())
     }
 
-    /// What follows of a term, where it is a call of a function that is `[data]`.
-    fn open_call(&mut self, data: &HashSet<u32>, t: TermId) -> Result<(), AllocError> {
+    /// What follows of a term, where it is a call of a function that is `[data]`: its arguments are those of an equal call.
+    pub(crate) fn open_call(&mut self, data: &HashSet<u32>, t: TermId) -> Result<(), AllocError> {
         let Some(Head::Apply(function)) = self.terms.head(t) else {
             return Ok(());
         };
-        if !data.contains(&function) {
+        let count = self.classes.count(t) as usize;
+        if !data.contains(&function) || !self.spend(count) {
             return Ok(());
         }
         match self.next_call(t, function) {
             Some(other) => self.join_arguments(t, other),
             None => Ok(()),
         }
-    }
-
-    /// Joins the arguments of equal calls of functions that are `[data]`.
-    pub(crate) fn open_calls(&mut self, data: &HashSet<u32>) -> Result<(), AllocError> {
-        for number in 0..self.terms.len() {
-            self.open_call(data, TermId(number))?;
-            self.settle()?;
-        }
-        Ok(())
     }
 }

@@ -62,6 +62,14 @@ impl Links {
         Ok(())
     }
 
+    /// Puts a term at the head of a chain, unless it stands there.
+    pub fn add_once(&mut self, chain: usize, item: TermId) -> Result<(), AllocError> {
+        match self.first(chain) {
+            Some(link) if link.item == item => Ok(()),
+            _ => self.add(chain, item),
+        }
+    }
+
     /// Adds the terms of a chain to a list.
     pub fn collect(&self, chain: usize, list: &mut Vec<TermId>) -> Result<(), AllocError> {
         let mut here = self.first(chain);

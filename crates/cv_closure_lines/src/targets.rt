@@ -6,6 +6,9 @@ use crate::scribe::{Scribe, Stop};
 use cv_closure::{Closure, TermId, Terms};
 use std::alloc::{AllocError, Global};
 
+/// How many lines a derivation has at most, whatever is known.
+pub const MOST_LINES: u64 = 20_000;
+
 /// What a derivation is to end with.
 #[derive(Clone, Copy)]
 pub enum Target {
@@ -138,8 +141,8 @@ fn heaviest(closure: &Closure, targets: &[Target]) -> u64 {
 }
 
 /// A derivation that ends with the targets, in order, where each follows and the derivation is within the bounds: so many
-/// lines for each conjunct of a fact and for each target, and no line that weighs more than three times the heaviest fact,
-/// cell or target, and 20. That its lines are right is tested by whoever takes it.
+/// lines for each conjunct of a fact and for each target, 20,000 in all, and no line that weighs more than three times the heaviest
+/// fact, cell or target, and 20. That its lines are right is tested by whoever takes it.
 pub fn derive(
     alloc: Global,
     closure: &Closure,
@@ -153,7 +156,8 @@ pub fn derive(
     }
     let lines = 210_u64
         .saturating_add(u64::from(closure.grounds()).saturating_mul(210))
-        .saturating_add((targets.len() as u64).saturating_mul(10));
+        .saturating_add((targets.len() as u64).saturating_mul(10))
+        .min(MOST_LINES);
     let weight = 20_u64.saturating_add(heaviest(closure, targets).saturating_mul(3));
     let mut scribe = Scribe::new(alloc, closure, lines as usize, weight)?;
     match write_all(alloc, &mut scribe, closure, targets) {

@@ -3,10 +3,12 @@
 #![tactic(auto)]
 
 mod certificates;
+mod proposing;
 mod queries;
 mod routes;
 mod searching;
 
 pub use certificates::{Certificate, Entry, Route};
+pub use proposing::{Proposer, propose};
 pub use queries::{Atom, Correspondence, correspondence_of};
-pub use searching::direct;
+pub use searching::{Effort, direct};

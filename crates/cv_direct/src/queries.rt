@@ -1,7 +1,8 @@
 // The parts of a correspondence.
 use cv_grounds::{binders, items, open};
-use cv_syntax::{Head, NodeId, Pool};
+use cv_syntax::{Head, NodeId, Opened, Pool};
 use std::alloc::{AllocError, Global};
+use std::collections::HashSet;
 
 /// What stands on the right: an event with its arguments, or a term.
 #[derive(Clone, Copy)]
@@ -14,13 +15,31 @@ pub enum Atom {
 }
 
 /// A correspondence without `inj`: its left event with the variables there, the variables that stand on the right alone, in
-/// the order of their declaration, and what stands on the right.
+/// the order of their declaration and as a set, and what stands on the right.
 #[derive(Drop)]
 pub struct Correspondence {
     pub event: u32,
     pub variables: Vec<u32>,
     pub others: Vec<u32>,
+    pub alone: HashSet<u32>,
     pub atoms: Vec<Atom>,
+}
+
+impl Correspondence {
+    /// Whether events alone stand on the right, and no variables that stand there alone.
+    pub(crate) fn is_of_events(&self) -> bool {
+        for atom in &self.atoms {
+            if let Atom::Term(_) = atom {
+                return false;
+            }
+        }
+        self.others.is_empty()
+    }
+}
+
+/// Reads a node that is there.
+fn open_part(pool: &Pool, part: Option<NodeId>) -> Option<Opened> {
+    open(pool, part?)
 }
 
 /// The name of a variable.
@@ -40,16 +59,6 @@ fn leaves(alloc: Global, pool: &Pool, list: Option<NodeId>) -> Result<Vec<u32>, 
         }
     }
     Ok(names)
-}
-
-/// Whether a name is in a list.
-fn is_in(names: &[u32], name: u32) -> bool {
-    for there in names {
-        if *there == name {
-            return true;
-        }
-    }
-    false
 }
 
 /// What an item on the right is; none where it is marked `inj`.
@@ -81,49 +90,96 @@ fn right_sides(
     Ok(Some(atoms))
 }
 
-/// Whether a tree reads a name.
-fn reads(pool: &Pool, start: NodeId, name: u32) -> bool {
+/// Adds the name that a node reads.
+fn add_name(names: &mut HashSet<u32>, head: Head) -> Result<(), AllocError> {
+    if let Head::Leaf(x) = head {
+        names.insert(x)?;
+    }
+    Ok(())
+}
+
+/// Adds the names that a tree reads.
+fn add_reads(pool: &Pool, start: NodeId, names: &mut HashSet<u32>) -> Result<(), AllocError> {
     let mut at = Some(start);
     for _ in 0..pool.live() {
-        let Some(n) = at else {
-            return false;
+        let Some(node) = open_part(pool, at) else {
+            return Ok(());
         };
-        let Some(node) = open(pool, n) else {
-            return false;
-        };
-        if let Head::Leaf(x) = node.head {
-            if x == name {
-                return true;
-            }
-        }
+        add_name(names, node.head)?;
         if let Some(child) = node.first {
-            if child.0 < start.0 && reads(pool, child, name) {
-                return true;
+            if child.0 < start.0 {
+                add_reads(pool, child, names)?;
             }
         }
         at = node.second;
     }
-    false
+    Ok(())
+}
+
+/// The names of a list as a set.
+fn set_of(alloc: Global, names: &[u32]) -> Result<HashSet<u32>, AllocError> {
+    let mut set = HashSet::new(alloc);
+    for name in names {
+        set.insert(*name)?;
+    }
+    Ok(set)
+}
+
+/// The names that are read on the right.
+fn right_reads(
+    alloc: Global,
+    pool: &Pool,
+    rights: Option<NodeId>,
+) -> Result<HashSet<u32>, AllocError> {
+    let mut read = HashSet::new(alloc);
+    if let Some(list) = rights {
+        add_reads(pool, list, &mut read)?;
+    }
+    Ok(read)
 }
 
 /// The variables of a query that are read on the right and are no argument of the left event.
 fn right_alone(
     alloc: Global,
-    pool: &Pool,
     declared: &[u32],
-    variables: &[u32],
-    rights: Option<NodeId>,
+    left: &HashSet<u32>,
+    read: &HashSet<u32>,
 ) -> Result<Vec<u32>, AllocError> {
     let mut others = Vec::new(alloc);
-    let Some(list) = rights else {
-        return Ok(others);
-    };
     for x in declared {
-        if !is_in(variables, *x) && reads(pool, list, *x) {
+        if read.contains(x) && !left.contains(x) {
             others.push(*x)?;
         }
     }
     Ok(others)
+}
+
+/// The parts of a query's tree: the variables that it declares, its left event with the arguments, and what stands on the right.
+#[derive(Clone, Copy)]
+struct Parts {
+    declared: Option<NodeId>,
+    event: u32,
+    arguments: Option<NodeId>,
+    rights: Option<NodeId>,
+}
+
+/// The parts of a query's tree, where it is a correspondence whose left event isn't marked `inj`.
+fn parts_of(pool: &Pool, query: NodeId) -> Option<Parts> {
+    let node = open(pool, query)?;
+    let Head::Query = node.head else {
+        return None;
+    };
+    let sides = open(pool, node.second?)?;
+    let left = open(pool, sides.first?)?;
+    let Head::Occurs(event) = left.head else {
+        return None;
+    };
+    Some(Parts {
+        declared: node.first,
+        event,
+        arguments: left.first,
+        rights: sides.second,
+    })
 }
 
 /// The parts of a query, where it is a correspondence without `inj`.
@@ -132,31 +188,23 @@ pub fn correspondence_of(
     pool: &Pool,
     query: NodeId,
 ) -> Result<Option<Correspondence>, AllocError> {
-    let Some(node) = open(pool, query) else {
+    let Some(parts) = parts_of(pool, query) else {
         return Ok(None);
     };
-    let Head::Query = node.head else {
+    let Some(atoms) = right_sides(alloc, pool, parts.rights)? else {
         return Ok(None);
     };
-    let Some(list) = node.second.and_then(|n| open(pool, n)) else {
-        return Ok(None);
-    };
-    let Some(left) = list.first.and_then(|n| open(pool, n)) else {
-        return Ok(None);
-    };
-    let Head::Occurs(event) = left.head else {
-        return Ok(None);
-    };
-    let Some(atoms) = right_sides(alloc, pool, list.second)? else {
-        return Ok(None);
-    };
-    let variables = leaves(alloc, pool, left.first)?;
-    let declared = binders(alloc, pool, node.first)?;
-    let others = right_alone(alloc, pool, &declared, &variables, list.second)?;
+    let variables = leaves(alloc, pool, parts.arguments)?;
+    let declared = binders(alloc, pool, parts.declared)?;
+    let left = set_of(alloc, &variables)?;
+    let read = right_reads(alloc, pool, parts.rights)?;
+    let others = right_alone(alloc, &declared, &left, &read)?;
+    let alone = set_of(alloc, &others)?;
     Ok(Some(Correspondence {
-        event,
+        event: parts.event,
         variables,
         others,
+        alone,
         atoms,
     }))
 }

@@ -2,13 +2,13 @@
 use crate::certificates::{Entry, Route};
 use crate::queries::{Atom, Correspondence};
 use cv_closure::{TermId, Theory};
-use cv_closure_lines::{Claim, Derivation, Target, copied, derive};
-use cv_grounds::{Given, Grounds, Known, Survey, items, open, translate};
+use cv_closure_lines::{Claim, Derivation, MOST_LINES, Target, all_follow, copied, derive};
+use cv_grounds::{Event, Given, Grounds, Known, Survey, items, open, translate};
 use cv_syntax::{Head, NodeId, Pool};
 use std::alloc::{AllocError, Global};
 
 /// What a search from a place of the left event reads: the pool, the survey of the game, what the file declares, the query,
-/// and what is known at the place.
+/// what is known at the place, and whether an event counts only above the place and with the very terms that the query asks for.
 #[derive(Clone, Copy)]
 pub(crate) struct Scene<'a> {
     pub(crate) alloc: Global,
@@ -17,6 +17,7 @@ pub(crate) struct Scene<'a> {
     pub(crate) theory: &'a Theory,
     pub(crate) query: &'a Correspondence,
     pub(crate) last: u32,
+    pub(crate) is_plain: bool,
 }
 
 /// A search from a place: what is known there, and what stands for the query's variables so far.
@@ -35,7 +36,18 @@ struct Candidate {
     arguments: Option<NodeId>,
 }
 
-/// The variable that a term is, where nothing stands for it yet.
+/// Whether each target is that a term is equal to itself.
+fn are_plain(targets: &[Target]) -> bool {
+    for target in targets {
+        match target {
+            Target::Equal(a, b) if *a == *b => {}
+            _ => return false,
+        }
+    }
+    true
+}
+
+/// The variable on the right alone that a term is, where nothing stands for it yet.
 fn open_variable(scene: Scene, given: &Given, n: NodeId) -> Option<u32> {
     let Some(node) = open(scene.pool, n) else {
         return None;
@@ -43,27 +55,28 @@ fn open_variable(scene: Scene, given: &Given, n: NodeId) -> Option<u32> {
     let Head::Leaf(x) = node.head else {
         return None;
     };
-    if given.get(x).is_some() {
-        return None;
+    if given.get(x).is_none() && scene.query.alone.contains(&x) {
+        Some(x)
+    } else {
+        None
     }
-    for other in &scene.query.others {
-        if *other == x {
-            return Some(x);
-        }
-    }
-    None
 }
 
 impl Search {
-    /// The candidates for an event among what is known at a place, the nearest first.
+    /// The candidates for an event among what is known at a place, the one that is nearest to the root first.
     fn add_candidates(
+        &mut self,
         scene: Scene,
         event: u32,
         last: u32,
         cell: Option<usize>,
         list: &mut Vec<Candidate>,
     ) -> Result<(), AllocError> {
-        for link in &scene.survey.known(last)? {
+        let known = scene.survey.known(last)?;
+        if !self.grounds.closure.spend(known.len()) {
+            return Ok(());
+        }
+        for link in known.iter().rev() {
             if let Known::Event {
                 event: there,
                 place,
@@ -82,13 +95,16 @@ impl Search {
         Ok(())
     }
 
-    /// The candidates for an event: above the place, the nearest first, and then above the only sites of cells.
-    fn candidates(&self, scene: Scene, event: u32) -> Result<Vec<Candidate>, AllocError> {
+    /// The candidates for an event: above the place, and then above the only sites of cells, each from the root down.
+    fn candidates(&mut self, scene: Scene, event: u32) -> Result<Vec<Candidate>, AllocError> {
         let mut list = Vec::new(scene.alloc);
-        Search::add_candidates(scene, event, scene.last, None, &mut list)?;
+        self.add_candidates(scene, event, scene.last, None, &mut list)?;
+        if scene.is_plain {
+            return Ok(list);
+        }
         for cell in 0..self.grounds.closure.cells().len() {
             if let Some(last) = self.grounds.site(scene.survey, cell) {
-                Search::add_candidates(scene, event, last, Some(cell), &mut list)?;
+                self.add_candidates(scene, event, last, Some(cell), &mut list)?;
             }
         }
         Ok(list)
@@ -178,14 +194,22 @@ impl Search {
         Ok(Some(targets))
     }
 
-    /// Notes what stands for variables.
-    fn note(&mut self, scene: Scene, fresh: &Given) -> Result<(), AllocError> {
-        for x in &scene.query.others {
-            if let Some(term) = fresh.get(*x) {
-                self.given.add(*x, term)?;
-            }
+    /// A derivation that ends with the targets, where they follow and effort is left.
+    fn derive(
+        &mut self,
+        scene: Scene,
+        targets: &[Target],
+    ) -> Result<Option<Derivation>, AllocError> {
+        if self.grounds.closure.effort() == 0 || !all_follow(&self.grounds.closure, targets) {
+            return Ok(None);
         }
-        Ok(())
+        let derivation = derive(scene.alloc, &self.grounds.closure, targets)?;
+        let lines = match &derivation {
+            Some(by) => by.lines.len(),
+            None => MOST_LINES as usize,
+        };
+        let _may_go_on = self.grounds.closure.spend(lines);
+        Ok(derivation)
     }
 
     /// The derivation by which a candidate is a right event, where there is one.
@@ -200,12 +224,15 @@ impl Search {
         let Some(targets) = self.targets(scene, arguments, candidate, &mut fresh)? else {
             return Ok(None);
         };
-        self.take(scene, before)?;
-        let found = derive(scene.alloc, &self.grounds.closure, &targets)?;
-        if found.is_some() {
-            self.note(scene, &fresh)?;
+        if scene.is_plain && !are_plain(&targets) {
+            return Ok(None);
         }
-        Ok(found)
+        self.take(scene, before)?;
+        let derivation = self.derive(scene, &targets)?;
+        if derivation.is_some() {
+            self.given.add_all(&fresh)?;
+        }
+        Ok(derivation)
     }
 
     /// The route to a right event.
@@ -230,7 +257,7 @@ impl Search {
             return Ok(None);
         };
         self.take(scene, before)?;
-        match derive(scene.alloc, &self.grounds.closure, &[Target::Holds(term)])? {
+        match self.derive(scene, &[Target::Holds(term)])? {
             Some(by) => Ok(Some(Route::Holds { by })),
             None => Ok(None),
         }
@@ -255,7 +282,7 @@ impl Search {
     }
 
     /// The routes to all that stands on the right: to events first, since they say what variables stand for.
-    pub(crate) fn routes(&mut self, scene: Scene) -> Result<Option<Vec<Route>>, AllocError> {
+    fn routes(&mut self, scene: Scene) -> Result<Option<Vec<Route>>, AllocError> {
         let Some(found) = self.event_routes(scene)? else {
             return Ok(None);
         };
@@ -286,12 +313,64 @@ impl Search {
         Ok(Some(terms))
     }
 
-    /// The entry of a place by routes.
-    pub(crate) fn with_routes(
+    /// Puts a left event's arguments for the query's variables, and tells whether they are as many.
+    fn put_arguments(&mut self, scene: Scene, event: Event) -> Result<bool, AllocError> {
+        let indices = self
+            .grounds
+            .given(scene.alloc, scene.survey, event.last, None)?;
+        let list = items(scene.alloc, scene.pool, event.arguments)?;
+        if list.len() != scene.query.variables.len() {
+            return Ok(false);
+        }
+        for (x, n) in scene.query.variables.iter().zip(&list) {
+            let closure = &mut self.grounds.closure;
+            let Some(term) = translate(scene.alloc, closure, scene.pool, &indices, *n)? else {
+                return Ok(false);
+            };
+            self.given.add(*x, term)?;
+        }
+        Ok(true)
+    }
+
+    /// The entry of a place by events above it that have the very terms that the query asks for, where it asks for events alone.
+    fn plain_entry(&mut self, scene: Scene, place: u32) -> Result<Option<Entry>, AllocError> {
+        if !scene.query.is_of_events() {
+            return Ok(None);
+        }
+        let plain = Scene {
+            is_plain: true,
+            ..scene
+        };
+        self.with_routes(plain, place)
+    }
+
+    /// What is said of a place of the left event, where enough follows from what is known there: that the right events plainly stand
+    /// above, else that no run comes to it, else by any routes.
+    pub(crate) fn entry(
         &mut self,
         scene: Scene,
-        place: u32,
+        event: Event,
     ) -> Result<Option<Entry>, AllocError> {
+        let place = event.place;
+        let before = self.grounds.closure.terms().len();
+        let are_put = self.put_arguments(scene, event)?;
+        if are_put {
+            if let Some(entry) = self.plain_entry(scene, place)? {
+                return Ok(Some(entry));
+            }
+        }
+        if let Some(by) = self.derive(scene, &[Target::Never])? {
+            return Ok(Some(Entry::Never { place, by }));
+        }
+        if !are_put {
+            return Ok(None);
+        }
+        self.take(scene, before)?;
+        self.with_routes(scene, place)
+    }
+
+    /// The entry of a place by routes.
+    fn with_routes(&mut self, scene: Scene, place: u32) -> Result<Option<Entry>, AllocError> {
         let Some(routes) = self.routes(scene)? else {
             return Ok(None);
         };

@@ -11,11 +11,10 @@ use Rattle.cv_bound.specs.declared.closings.queries.ClosedQuery.{ClosedQuery}
 use Rattle.cv_bound.specs.closings.Queries.{is_among, numbers_of, sum_in}
 use Rattle.cv_kernel.specs.Closings.{Closing, closing_in, is_of_secrecy}
 use Rattle.cv_kernel.specs.Proofs.{Transition, closed_by, number_before, sum_at, sum_from, sum_of, sums_behind}
-use Rattle.cv_plain.specs.Strategy.{is_proved}
 use Rattle.cv_report.specs.declared.report.Verdict.{Verdict}
 use Rattle.cv_syntax_trees.specs.Tree.{Tree}
 use Rattle.cv_report.specs.verdicts.Verdicts.{verdict_by, verdicts_by}
-use Rattle.cv_follow.specs.Scripts.{first_open}
+use Rattle.cv_follow.specs.Scripts.{first_open, is_proved}
 use Rattle.cv_follow.specs.Walks.{closed_before, closings_from, sums_along}
 
 -- a sums with nothing more is the same

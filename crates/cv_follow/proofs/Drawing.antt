@@ -39,7 +39,7 @@ led_all (t ∷ ts) = ap (λ l. told t ∷ l) (led_all ts)
 
 module _ (before : ℕ) (ds : List Declaration) (own : ℕ) (first : Tree) (old new : PoolView) (decls : DeclsView) (is_ds : declarations old.trees decls.list ≡ ds) (is_own : decls.own ≡ own) where
   -- one step more draws its names
-  drawn_more : (front : List Tree) (s t : Sequence) (trail after : List Entry) (step : Step) (tree : Tree) (a b c : List (List ℕ)) → HasFollowed before ds own first front old.trees s trail → IsNoted t step tree trail after → Grows old new → tree_at new.trees (Some step.0) ≡ tree
+  pub drawn_more : (front : List Tree) (s t : Sequence) (trail after : List Entry) (step : Step) (tree : Tree) (a b c : List (List ℕ)) → HasFollowed before ds own first front old.trees s trail → IsNoted t step tree trail after → Grows old new → tree_at new.trees (Some step.0) ≡ tree
       → ((r : Reducing) → reducing_in tree ≡ Some r → DrawsNext b c decls.own (scene_of old decls s.game.root) r.equivalence r.key (kernel.game_in new.trees t)) → (reducing_in tree ≡ None → c ≡ b) → DrawsAlong ds (known_to own) own first (map led (map (entry_in old.trees) trail)) a b
       → DrawsAlong ds (known_to own) own first (map led (map (entry_in new.trees) after)) a c
   drawn_more front s t trail after step tree a b c h n g is draws keeps along =

@@ -49,7 +49,7 @@ use Rattle.cv_kernel.specs.Sequences.{IsPushed, needed, needed_for}
 use Rattle.cv_kernel.specs.Steps.{judgement_at}
 use Rattle.cv_script.specs.Views.{StepItems, items_of_step}
 use Rattle.cv_script.specs.Views as items
-use Rattle.cv_plain.specs.Strategy.{most_pool}
+use Rattle.cv_accept.specs.Accepted.{most_pool}
 use Rattle.cv_accept.specs.Accepted.{Content}
 use Rattle.cv_accept.specs.Works.{content_nodes}
 use Rattle.cv_bound.specs.declared.terms.Term.{Term}
@@ -91,7 +91,7 @@ entry_more m n e l h = (let s = h.0 in omega arith, next e.next h.1)
     next None x = tt
     next (Some g) x = omega arith
 
-entries_more : (m n : ℕ) (es : List Entry) → m ≤ n → All (EntryLive m) es → All (EntryLive n) es
+pub entries_more : (m n : ℕ) (es : List Entry) → m ≤ n → All (EntryLive m) es → All (EntryLive n) es
 entries_more m n es l a = λ k e i. entry_more m n (slice_index_or es k e) l (a k e i)
 
 entries_put : (n : ℕ) (es : List Entry) (e : Entry) → All (EntryLive n) es → EntryLive n e → All (EntryLive n) (es ++ e ∷ [])
@@ -335,7 +335,7 @@ module _ (before : ℕ) (ds : List Declaration) (own : ℕ) (first : Tree) (old 
 
 module _ (before : ℕ) (ds : List Declaration) (own : ℕ) (first : Tree) (trees : List KindTree) (s : Sequence) (trail : List Entry) (front : List Tree) (h : HasFollowed before ds own first front trees s trail) where
   -- the verdicts on queries
-  verdicts : (queries : List Tree) (vs : List Verdict) → vs ≡ verdicts_by (sum_in s.closed) 1 queries → vs ≡ verdicts_of h.proof queries
+  pub verdicts : (queries : List Tree) (vs : List Verdict) → vs ≡ verdicts_by (sum_in s.closed) 1 queries → vs ≡ verdicts_of h.proof queries
   verdicts queries vs e = e ∙ verdicts_same (sum_in s.closed) (sum_of h.proof) 1 queries (λ k. ap (λ cs. sum_in cs k) h.closed ∙ sums_same no_sums h.proof k)
 
   -- the script ends

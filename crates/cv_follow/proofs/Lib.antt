@@ -4,3 +4,6 @@ pub mod StepKinds
 pub mod Drawing
 pub mod Walked
 pub mod NamesKept
+pub mod QueryLists
+pub mod Growing
+pub mod Tries

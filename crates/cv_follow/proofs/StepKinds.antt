@@ -28,7 +28,7 @@ use Rattle.cv_kernel.specs.Sayings.{Accepted, MaySay, Saying, saying_by, saying_
 use Rattle.cv_bound.specs.costs.Costs.{advantage_of}
 use Rattle.cv_kernel.specs.Sequences.{IsPushAnswer, IsStepAnswer, game_in, needed, needed_for}
 use Rattle.cv_kernel.specs.Steps.{judgement_by}
-use Rattle.cv_plain.specs.Strategy.{most_pool}
+use Rattle.cv_accept.specs.Accepted.{most_pool}
 use Rattle.cv_follow.specs.Scripts.{LacksRoomFor}
 
 -- of a step with these items one judgement is said, and it has no context

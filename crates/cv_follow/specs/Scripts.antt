@@ -1,6 +1,6 @@
 -- What the steps of a proof block lead to: each is taken in the game that those before it lead to, as long as it is accepted,
 -- there are no more than 2,000, and the pool has room.
-use Rattle.std.specs.Prelude.{◌≡◌, ℕ, suc, ◌+◌, ◌<◌, ◌≤◌, List, [], ◌∷◌, ◌++◌, length, map, nat_lt, Bool, Option, Some, option_map}
+use Rattle.std.specs.Prelude.{◌≡◌, ℕ, suc, ◌+◌, ◌<◌, ◌≤◌, List, [], ◌∷◌, ◌++◌, length, map, nat_lt, Bool, true, false, Option, Some, option_map}
 use Rattle.cv_bound.specs.declared.cost.Cost.{Cost}
 use Rattle.cv_bound.specs.closings.Queries.{first_unclosed_from}
 use Rattle.cv_context.specs.products.Shapes.{Shape}
@@ -11,13 +11,14 @@ use Rattle.cv_kernel.specs.Answers.{HasNoRoom}
 use Rattle.cv_kernel.specs.Sayings.{IsSaid, Refused, TooDeep, TooLarge}
 use Rattle.cv_kernel.specs.Sequences.{needed}
 use Rattle.cv_kernel_crypto.specs.Applied as crypto
-use Rattle.cv_plain.specs.Strategy.{most_pool, most_steps}
+use Rattle.cv_accept.specs.Accepted.{most_pool}
 use Rattle.cv_pool.specs.KindTree.{KindTree}
 use Rattle.cv_report.specs.declared.report.Cause.TheVariants.{StepRefused}
 use Rattle.cv_report.specs.declared.report.Entry.{Entry}
 use Rattle.cv_report.specs.declared.report.Status.{Status}
 use Rattle.cv_report.specs.declared.report.Status.TheVariants as status
 use Rattle.cv_report.specs.declared.report.Verdict.{Verdict}
+use Rattle.cv_report.specs.declared.report.Verdict.TheVariants.{NotProved, Proved}
 use Rattle.cv_report.specs.declared.report.Which.TheVariants.{Depth, Nodes, Pool, Steps}
 use Rattle.cv_scene.specs.Scenes.{Scene}
 use Rattle.cv_report.specs.verdicts.Verdicts.{ended_with, verdicts_by}
@@ -27,6 +28,10 @@ use Rattle.cv_steps.specs.Sequences.{scene}
 use Rattle.cv_syntax_trees.specs.Declarations.{Declaration}
 use Rattle.cv_syntax_trees.specs.Tree.{Tree}
 use Rattle.cv_syntax.specs.PoolTrees.{tree_at}
+
+-- the most steps of a proof
+abbrev pub most_steps : ℕ
+most_steps = 2000
 
 -- the names of a file are the first ones
 abbrev pub known_to : (own : ℕ) → ℕ → Bool
@@ -84,6 +89,11 @@ entry_of t = (t.step, t.cost, t.context, game_behind (closing_in t.step) t.next)
 -- the step of an entry, with the game of its own that it leads to
 abbrev pub led : Told → Tree × Option Tree
 led t = (t.0, t.3)
+
+-- the verdict is `Proved`
+abbrev pub is_proved : Verdict → Bool
+is_proved (Proved s) = true
+is_proved NotProved = false
 
 abbrev pub verdicts_of : List Transition → (queries : List Tree) → List Verdict
 verdicts_of ts queries = verdicts_by (sum_of ts) 1 queries

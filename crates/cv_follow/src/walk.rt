@@ -8,7 +8,7 @@ ghost use Rattle.cv_parse.specs.Declaring.{IsBelow};
 ghost use Rattle.cv_scope_rules.specs.Phrases.{IsWellFormed};
 ghost use Rattle.cv_script_reader.specs.Scripts.{trees_of};
 ghost use Rattle.cv_accept.specs.Works.{HasSteps};
-ghost use Rattle.cv_plain.specs.Strategy.{most_pool};
+ghost use Rattle.cv_accept.specs.Accepted.{most_pool};
 ghost use Rattle.cv_context.specs.products.ShapesInCode.{shape_in};
 ghost use Rattle.cv_scene_view.specs.Kept.{scene_of};
 ghost use Rattle.cv_kernel_crypto.specs.Applied.{HasEquivalences};
@@ -93,7 +93,7 @@ fn next_of(pool: &Pool, sequence: &Sequence, step: Step) -> Option<Game>
 
 /// Puts an accepted step on the trail, with its cost, the shape of its context, and the game that it leads to, where it
 /// closes no query.
-fn note(
+pub(crate) fn note(
     alloc: Global,
     pool: &Pool,
     sequence: &Sequence,

@@ -1,7 +1,6 @@
 pub mod Names
 pub mod Fronts
 pub mod Scripted
-pub mod Strategies
 pub mod Alike
 pub mod Printed
 pub mod Outcomes

@@ -2,7 +2,7 @@
 -- the game where it stands.
 use Rattle.std.proofs.Common.{◌≡◌, ℕ, suc, ◌+◌, ◌<◌, inl, inr, List, [], ◌∷◌, ◌++◌, length, map, take, Option, Some, None, refl, ap, ap₂, sym, ◌∙◌, subst, arith}
 use Rattle.std.proofs.lemmas.Bool.{cases_order}
-use Rattle.std.proofs.lemmas.List.{append-nil, append_assoc, append_cancel_left, length-append, length-map, map-append, take_at}
+use Rattle.std.proofs.lemmas.List.{append_assoc, append_cancel_left, length-append, length-map, map-append, take_at}
 use Rattle.cv_names.specs.Texts.{NoRepeat}
 use Rattle.cv_syntax.specs.declared.work.File.{File}
 use Rattle.cv_syntax_trees.specs.Tree.{Tree}
@@ -11,11 +11,16 @@ use Rattle.cv_scene.specs.Scenes.{Scene}
 use Rattle.cv_script.specs.Views.{items_of_step}
 use Rattle.cv_steps.specs.Sequences.{scene}
 use Rattle.cv_accept.specs.Accepted.{Content}
+use Rattle.cv_accept.specs.Works.{script_in}
+use Rattle.cv_pool.specs.KindTree.{KindTree}
+use Rattle.cv_script.specs.declared.steps.Step.{Step}
+use Rattle.std.specs.Prelude.{IsNone, IsSome}
+use Rattle.std.specs.declared.alloc.Global.{Global}
+use Rattle.std.specs.declared.vec.Vec.{Vec}
 use Rattle.cv_kernel.specs.Drawings.{DrawsAlong, told}
 use Rattle.cv_kernel.specs.Proofs.{IsProof, Transition, closed_by, nodes_along}
 use Rattle.cv_kernel.specs.Sayings.{Accepted, IsSaid, Refused, Saying, TooDeep, TooLarge}
 use Rattle.cv_kernel.proofs.Drawn.{last_told, told_last}
-use Rattle.cv_plain.specs.Strategy.{EndsAt, Said, nothing_said, said_of, status_of}
 use Rattle.cv_report.specs.declared.report.Cause.TheVariants.{StepRefused}
 use Rattle.cv_report.specs.declared.report.Report.{Report}
 use Rattle.cv_report.specs.declared.report.Status.{Status}
@@ -23,11 +28,11 @@ use Rattle.cv_report.specs.declared.report.Status.TheVariants as status
 use Rattle.cv_report.specs.declared.report.Which.TheVariants.{Depth, Nodes}
 use Rattle.cv_report.specs.Text.{end_text, text_of}
 use Rattle.cv_follow.specs.Scripts.{EndsScript, Stops, known_to, no_room, refused, too_deep, too_large, too_many}
-use Rattle.cv_follow_laws.specs.Reports.{FollowsScript, FollowsStrategy, HasDrawn, IsReportOf, IsSettled, Proceeds, file_in}
+use Rattle.cv_follow_laws.specs.Reports.{AreFront, FollowsScript, HasDrawn, IsReportOf, IsSettled, Proceeds, file_in, said_along}
 use Rattle.cv_follow_laws.proofs.Fronts.{proof_at}
 use Rattle.cv_follow_laws.proofs.Outcomes.{IsFixedSaying, one_saying}
 use Rattle.cv_follow_laws.proofs.Scripted.{front_is, same_is}
-use Rattle.cv_follow_laws.proofs.Alike.{apart, drawn, plain_count, proceeds, script_count, script_drawn}
+use Rattle.cv_follow_laws.proofs.Alike.{apart, count_of, drawn, drawn_along, proceeds}
 use Rattle.cv_follow_laws.proofs.Printed.{body_is}
 
 -- a settled run whose script stops before its end stops at a step of which one thing is said
@@ -104,62 +109,60 @@ module _ (c : Content) (unlike : NoRepeat c.names) where
 
   -- of a file with a proof block: two settled runs go equally far, and end alike
 
-  module _ (script : List Tree) (r q : Report) (w : FollowsScript r c script) (v : FollowsScript q c script) (d : HasDrawn r c (Some script)) (e : HasDrawn q c (Some script)) (h : IsSettled r.status) (k : IsSettled q.status) where
-    script_lengths : length w.walk.proof ≡ length v.walk.proof
+  module _ (script : List Tree) (r q : Report) (w : FollowsScript r c script) (v : FollowsScript q c script) (d : HasDrawn r c) (e : HasDrawn q c) (h : IsSettled r.status) (k : IsSettled q.status) where
+    script_lengths : length w.took.proof ≡ length v.took.proof
     script_lengths =
-        elim (cases_order (length w.walk.proof) (length v.walk.proof)) [
+        elim (cases_order (length w.took.proof) (length v.took.proof)) [
           | inl same ↦ same
           | inr differ ↦ elim differ [
-            | inl less ↦ absurd (no_further (w.taken + nodes_along c.declarations (known_to c.own) c.game w.walk.proof) w.walk.proof v.walk.proof w.walk.last v.walk.last r.work.names q.work.names (queries_in c.declarations) w.walk.left v.walk.left r.status w.walk.leads v.walk.leads (script_drawn c r script w d) (script_drawn c q script v e) (sym w.walk.split ∙ v.walk.split) w.walk.ends h less)
-            | inr more ↦ absurd (no_further (v.taken + nodes_along c.declarations (known_to c.own) c.game v.walk.proof) v.walk.proof w.walk.proof v.walk.last w.walk.last q.work.names r.work.names (queries_in c.declarations) v.walk.left w.walk.left q.status v.walk.leads w.walk.leads (script_drawn c q script v e) (script_drawn c r script w d) (sym v.walk.split ∙ w.walk.split) v.walk.ends k more)
+            | inl less ↦ absurd (no_further (w.room + nodes_along c.declarations (known_to c.own) c.game w.took.proof) w.took.proof v.took.proof w.took.last v.took.last r.work.names q.work.names (queries_in c.declarations) w.left v.left r.status w.took.leads v.took.leads (drawn_along c r w.took d) (drawn_along c q v.took e) (sym w.split ∙ v.split) w.ends h less)
+            | inr more ↦ absurd (no_further (v.room + nodes_along c.declarations (known_to c.own) c.game v.took.proof) v.took.proof w.took.proof v.took.last w.took.last q.work.names r.work.names (queries_in c.declarations) v.left w.left q.status v.took.leads w.took.leads (drawn_along c q v.took e) (drawn_along c r w.took d) (sym v.split ∙ w.split) v.ends k more)
           ]
         ]
 
-    script_same : w.walk.proof ≡ v.walk.proof
-    script_same = (same_is c unlike w.walk.proof v.walk.proof w.walk.last v.walk.last r.work.names q.work.names w.walk.left v.walk.left w.walk.leads v.walk.leads (script_drawn c r script w d) (script_drawn c q script v e) (sym w.walk.split ∙ v.walk.split) script_lengths).0
+    script_same : w.took.proof ≡ v.took.proof
+    script_same = (same_is c unlike w.took.proof v.took.proof w.took.last v.took.last r.work.names q.work.names w.left v.left w.took.leads v.took.leads (drawn_along c r w.took d) (drawn_along c q v.took e) (sym w.split ∙ v.split) script_lengths).0
 
-    script_left : w.walk.left ≡ v.walk.left
-    script_left = append_cancel_left (steps w.walk.proof) w.walk.left v.walk.left (sym w.walk.split ∙ (v.walk.split ∙ ap (λ xs. steps xs ++ v.walk.left) (sym script_same)))
+    script_left : w.left ≡ v.left
+    script_left = append_cancel_left (steps w.took.proof) w.left v.left (sym w.split ∙ (v.split ∙ ap (λ xs. steps xs ++ v.left) (sym script_same)))
 
     script_ends : r.status ≡ q.status
     script_ends =
-        let room : ℕ = v.taken + nodes_along c.declarations (known_to c.own) c.game v.walk.proof in
-        let last : v.walk.last ≡ w.walk.last = one_end v.walk.proof w.walk.proof v.walk.last w.walk.last v.walk.leads w.walk.leads (sym script_same) in
-        let one : EndsScript room (length w.walk.proof) (here v.walk.last) (closed_by w.walk.proof) (queries_in c.declarations) v.walk.left q.status = subst (λ xs. EndsScript room (length xs) (here v.walk.last) (closed_by xs) (queries_in c.declarations) v.walk.left q.status) (sym script_same) v.walk.ends in
-        let two : EndsScript room (length w.walk.proof) (here w.walk.last) (closed_by w.walk.proof) (queries_in c.declarations) v.walk.left q.status = subst (λ x. EndsScript room (length w.walk.proof) (here x) (closed_by w.walk.proof) (queries_in c.declarations) v.walk.left q.status) last one in
-        let three : EndsScript room (length w.walk.proof) (here w.walk.last) (closed_by w.walk.proof) (queries_in c.declarations) w.walk.left q.status = subst (λ xs. EndsScript room (length w.walk.proof) (here w.walk.last) (closed_by w.walk.proof) (queries_in c.declarations) xs q.status) (sym script_left) two in
-        ends_alike (w.taken + nodes_along c.declarations (known_to c.own) c.game w.walk.proof) room (length w.walk.proof) (here w.walk.last) (closed_by w.walk.proof) (queries_in c.declarations) w.walk.left r.status q.status w.walk.ends three h k
-
-  -- of a file without one: a settled run goes over all queries
-
-  none_left : (taken : ℕ) (s : Said) (left : List Tree) (end : Status) → EndsAt taken c.game s left end → IsSettled end → left ≡ []
-  none_left taken s [] end w h = refl
-  none_left taken s (x ∷ left) end w h = absurd (subst IsSettled w.1 h)
-
-  all_said : (r : Report) (w : FollowsStrategy r c) → IsSettled r.status → (w.course.answered ≡ queries_in c.declarations) × (r.status ≡ status_of (said_of c.game nothing_said (queries_in c.declarations)))
-  all_said r w h =
-      let none : w.course.left ≡ [] = none_left w.taken (said_of c.game nothing_said w.course.answered) w.course.left r.status w.course.ends h in
-      let all : w.course.answered ≡ queries_in c.declarations = sym (w.course.split ∙ (ap (λ xs. w.course.answered ++ xs) none ∙ append-nil w.course.answered)) in
-      let end : r.status ≡ status_of (said_of c.game nothing_said w.course.answered) = subst (λ xs. EndsAt w.taken c.game (said_of c.game nothing_said w.course.answered) xs r.status) none w.course.ends in
-      (all, end ∙ ap (λ qs. status_of (said_of c.game nothing_said qs)) all)
-
-  -- so it is whatever the file
+        let room : ℕ = v.room + nodes_along c.declarations (known_to c.own) c.game v.took.proof in
+        let last : v.took.last ≡ w.took.last = one_end v.took.proof w.took.proof v.took.last w.took.last v.took.leads w.took.leads (sym script_same) in
+        let one : EndsScript room (length w.took.proof) (here v.took.last) (closed_by w.took.proof) (queries_in c.declarations) v.left q.status = subst (λ xs. EndsScript room (length xs) (here v.took.last) (closed_by xs) (queries_in c.declarations) v.left q.status) (sym script_same) v.ends in
+        let two : EndsScript room (length w.took.proof) (here w.took.last) (closed_by w.took.proof) (queries_in c.declarations) v.left q.status = subst (λ x. EndsScript room (length w.took.proof) (here x) (closed_by w.took.proof) (queries_in c.declarations) v.left q.status) last one in
+        let three : EndsScript room (length w.took.proof) (here w.took.last) (closed_by w.took.proof) (queries_in c.declarations) w.left q.status = subst (λ xs. EndsScript room (length w.took.proof) (here w.took.last) (closed_by w.took.proof) (queries_in c.declarations) xs q.status) (sym script_left) two in
+        ends_alike (w.room + nodes_along c.declarations (known_to c.own) c.game w.took.proof) room (length w.took.proof) (here w.took.last) (closed_by w.took.proof) (queries_in c.declarations) w.left r.status q.status w.ends three h k
 
   module _ (r q : Report) where
-    lengths_by : (o : Option (List Tree)) → Proceeds r c o → Proceeds q c o → HasDrawn r c o → HasDrawn q c o → IsSettled r.status → IsSettled q.status → length r.trail.items ≡ length q.trail.items
-    lengths_by None w v d e h k =
-        plain_count c r w ∙ (ap (λ qs. length (said_of c.game nothing_said qs).steps) ((all_said r w h).0 ∙ sym (all_said q v k).0) ∙ sym (plain_count c q v))
-    lengths_by (Some script) w v d e h k =
-        script_count c r script w ∙ (script_lengths script r q w v d e h k ∙ sym (script_count c q script v))
+    lengths_by : (o : Option (List Tree)) → IsSome o → Proceeds r c o → Proceeds q c o → HasDrawn r c → HasDrawn q c → IsSettled r.status → IsSettled q.status → length r.trail.items ≡ length q.trail.items
+    lengths_by None n w v d e h k = absurd (cc)
+    lengths_by (Some script) n w v d e h k =
+        count_of c r w.took ∙ (script_lengths script r q w v d e h k ∙ sym (count_of c q v.took))
 
-    ends_by : (o : Option (List Tree)) → Proceeds r c o → Proceeds q c o → HasDrawn r c o → HasDrawn q c o → IsSettled r.status → IsSettled q.status → r.status ≡ q.status
-    ends_by None w v d e h k = (all_said r w h).1 ∙ sym (all_said q v k).1
-    ends_by (Some script) w v d e h k = script_ends script r q w v d e h k
+    ends_by : (o : Option (List Tree)) → IsSome o → Proceeds r c o → Proceeds q c o → HasDrawn r c → HasDrawn q c → IsSettled r.status → IsSettled q.status → r.status ≡ q.status
+    ends_by None n w v d e h k = absurd (cc)
+    ends_by (Some script) n w v d e h k = script_ends script r q w v d e h k
 
-pub one_text : (bytes : List ℕ) (r q : Report) (f g : File) → IsReportOf bytes r f → IsReportOf bytes q g → IsSettled r.status → IsSettled q.status → text_of r ≡ text_of q
-one_text bytes r q f g w v h k =
+-- a report with a proof block has a file with one
+
+script_some : (trees : List KindTree) (v : Option (Vec Step Global)) → IsSome v → IsSome (script_in trees v)
+script_some trees None s = absurd (cc)
+script_some trees (Some v) s = refl
+
+none_asked : (r q : Report) → IsSome r.script → AreFront r q
+none_asked r q s = by_script r.script s
+  where
+    by_script : (v : Option (Vec Step Global)) → IsSome v → IsNone v → map (λ t. t.0) (said_along r) ≡ take (length r.trail.items) (map (λ t. t.0) (said_along q))
+    by_script None s n = absurd (cc)
+    by_script (Some v) s n = absurd (cc)
+
+pub one_text : (bytes : List ℕ) (r q : Report) (f g : File) → IsReportOf bytes r f → IsReportOf bytes q g → IsSome r.script → IsSettled r.status → IsSettled q.status → text_of r ≡ text_of q
+one_text bytes r q f g w v s h k =
     let c : Content = file_in r f w.names in
     let goes = proceeds bytes r q f g w v in
     let draws = drawn bytes r q f g w v in
-    ap₂ ◌++◌ (body_is bytes r q f g w v (lengths_by c (apart bytes r q f g w v) r q c.script w.follows goes w.drawn draws h k))
-    (ap end_text (ends_by c (apart bytes r q f g w v) r q c.script w.follows goes w.drawn draws h k))
+    let some = script_some r.work.pool.trees r.script s in
+    ap₂ ◌++◌ (body_is bytes r q f g w v (none_asked r q s) (lengths_by c (apart bytes r q f g w v) r q c.script some w.follows goes w.drawn draws h k))
+    (ap end_text (ends_by c (apart bytes r q f g w v) r q c.script some w.follows goes w.drawn draws h k))

@@ -1,19 +1,20 @@
--- What the clauses of a run say of its report, where it has a file: the bytes that the file is the reading of, the steps and the verdicts,
--- and the names that were drawn. This profile's own.
-use Rattle.std.specs.Prelude.{◌≡◌, ◌≢◌, ℕ, List, ◌++◌, map, take, Option, Some, None}
+-- What the clauses of a run say of its report on a proof, where it has a file: the bytes that the file is the reading of, the steps and the
+-- verdicts, and the names that were drawn. Under `games` a run ends otherwise. This profile's own.
+use Rattle.std.specs.Prelude.{◌≡◌, ◌≢◌, ℕ, ◌+◌, IsNone, List, ◌++◌, length, map, take, Option, Some, None}
 use Rattle.cv_syntax.specs.declared.work.File.{File}
 use Rattle.cv_syntax_trees.specs.Tree.{Tree}
 use Rattle.cv_meaning.specs.Queries.{queries_in}
 use Rattle.cv_kernel.specs.Drawings.{DrawsAlong}
-use Rattle.cv_accept.specs.Accepted.{Content, IsFile}
+use Rattle.cv_accept.specs.Accepted.{Content, IsFile, most_pool}
 use Rattle.cv_accept.specs.Works.{content_in}
-use Rattle.cv_plain.specs.Strategy.{Course, closing, most_pool, nothing_said, open_verdict, said_by, said_of}
 use Rattle.cv_report.specs.declared.report.Cause.TheVariants.{StepRefused}
 use Rattle.cv_report.specs.declared.report.Report.{Report}
 use Rattle.cv_report.specs.declared.report.Status.{Status}
 use Rattle.cv_report.specs.declared.report.Status.TheVariants as status
 use Rattle.cv_report.specs.declared.report.Which.TheVariants.{Depth, Nodes}
-use Rattle.cv_follow.specs.Scripts.{Follows, Told, entry_in, entry_of, known_to, led, verdicts_of}
+use Rattle.cv_follow.specs.Scripts.{EndsScript, Told, entry_in, entry_of, known_to, led, verdicts_of}
+use Rattle.cv_kernel.specs.Proofs.{IsProof, Transition, closed_by, nodes_along}
+use Rattle.cv_steps.specs.Sequences.{scene}
 
 -- what a report's file holds, with so many of the report's names: those behind them were drawn
 abbrev pub file_in : Report → File → (names : ℕ) → Content
@@ -24,27 +25,27 @@ abbrev pub said_along : Report → List Told
 said_along r = map (entry_in r.work.pool.trees) r.trail.items
 
 -- the names of a report are those of its file, and behind them those that were drawn along its trail
-abbrev pub HasDrawn : Report → Content → Option (List Tree) → Type 0
-HasDrawn r c None = r.work.names ≡ c.names
-HasDrawn r c (Some steps) = DrawsAlong c.declarations (known_to c.own) c.own c.game (map led (said_along r)) c.names r.work.names
+abbrev pub HasDrawn : Report → Content → Type 0
+HasDrawn r c = DrawsAlong c.declarations (known_to c.own) c.own c.game (map led (said_along r)) c.names r.work.names
 
--- without a proof block the plain strategy went over the queries
-pub record FollowsStrategy (r : Report) (c : Content) : Type 0 where
-  pub taken : ℕ  -- how many nodes the pool had before
-  pub course : Course taken c.game (queries_in c.declarations) r.status
-  pub trail : r.trail.items ≡ map closing r.steps.items
-  pub steps : map (said_by r.work.pool.trees) r.steps.items ≡ (said_of c.game nothing_said course.answered).steps
-  pub verdicts : r.verdicts.items ≡ (said_of c.game nothing_said course.answered).verdicts ++ map open_verdict course.left
+-- what a report says of steps, whether they are those of a proof block or were found
+pub record TakesSteps (r : Report) (c : Content) : Type 0 where
+  pub proof : List Transition
+  pub last : Tree
+  pub leads : IsProof c.declarations (known_to c.own) c.game proof last
+  pub trail : said_along r ≡ map entry_of proof
+  pub verdicts : r.verdicts.items ≡ verdicts_of proof (queries_in c.declarations)
 
 -- the steps of the proof block were followed as far as they are accepted
 pub record FollowsScript (r : Report) (c : Content) (script : List Tree) : Type 0 where
-  pub taken : ℕ
-  pub walk : Follows taken c.declarations c.own c.game script (queries_in c.declarations) r.status
-  pub trail : said_along r ≡ map entry_of walk.proof
-  pub verdicts : r.verdicts.items ≡ verdicts_of walk.proof (queries_in c.declarations)
+  pub room : ℕ  -- how many nodes the pool had before
+  pub took : TakesSteps r c
+  pub left : List Tree
+  pub split : script ≡ map (λ t. t.step) took.proof ++ left
+  pub ends : EndsScript (room + nodes_along c.declarations (known_to c.own) c.game took.proof) (length took.proof) (scene c.declarations (known_to c.own) took.last) (closed_by took.proof) (queries_in c.declarations) left r.status
 
 abbrev pub Proceeds : Report → Content → Option (List Tree) → Type 0
-Proceeds r c None = FollowsStrategy r c
+Proceeds r c None = TakesSteps r c
 Proceeds r c (Some script) = FollowsScript r c script
 
 -- The report has this file, of which these bytes are the reading with so many of its names, and goes on as a run does.
@@ -52,8 +53,12 @@ pub record IsReportOf (bytes : List ℕ) (r : Report) (f : File) : Type 0 where
   pub there : r.file ≡ Some f
   pub names : ℕ
   pub file : IsFile most_pool bytes (file_in r f names)
-  pub drawn : HasDrawn r (file_in r f names) (file_in r f names).script
+  pub drawn : HasDrawn r (file_in r f names)
   pub follows : Proceeds r (file_in r f names) (file_in r f names).script
+
+-- The steps of the one report are the first of those of the other. Of a file with a proof block nothing is asked, as they are its front.
+abbrev pub AreFront : Report → Report → Type 0
+AreFront r q = IsNone r.script → map (λ t. t.0) (said_along r) ≡ take (length r.trail.items) (map (λ t. t.0) (said_along q))
 
 -- The run ended by the verdicts on its queries, by the end of the proof block, by a limit of a game, or by a condition of a step other than
 -- 9: that of the game which a step leads to. Its other ends depend on the names that are drawn for this game, on the room of a pool, or on

@@ -47,16 +47,17 @@ fn variable_of(closure: &Closure, cell: TermId) -> Option<u32> {
 }
 
 impl Grounds {
-    /// What is known at a place, and what follows from it.
+    /// What is known at a place, and what follows from it with so much effort.
     pub fn at(
         alloc: Global,
         pool: &Pool,
         survey: &Survey,
         theory: &Theory,
         last: u32,
+        effort: u32,
     ) -> Result<Grounds, AllocError> {
         let mut grounds = Grounds {
-            closure: Closure::new(alloc)?,
+            closure: Closure::new(alloc, effort)?,
             depths: Vec::new(alloc),
         };
         let place = Origin {
@@ -172,7 +173,11 @@ impl Grounds {
         origin: &Origin,
     ) -> Result<Given, AllocError> {
         let mut given = Given::new(alloc);
-        for link in survey.known(last)?.iter().rev() {
+        let known = survey.known(last)?;
+        if !self.closure.spend(known.len()) {
+            return Ok(given);
+        }
+        for link in known.iter().rev() {
             self.add_link(alloc, pool, &mut given, origin, *link)?;
         }
         Ok(given)
@@ -251,7 +256,11 @@ impl Grounds {
             depth: 0,
         };
         let mut given = Given::new(alloc);
-        for link in survey.known(last)?.iter().rev() {
+        let known = survey.known(last)?;
+        if !self.closure.spend(known.len()) {
+            return Ok(given);
+        }
+        for link in known.iter().rev() {
             if let Known::Index(index) = link.known {
                 self.add_index(&mut given, &origin, index)?;
             }

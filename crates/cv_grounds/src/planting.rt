@@ -1,5 +1,5 @@
 // Terms of a table as nodes of the pool.
-ghost use Rattle.std.specs.Prelude.{◌≡◌, ◌<◌, ℕ, All, IfOk, OnErr, OnOk, length};
+ghost use Rattle.std.specs.Prelude.{◌≡◌, ◌<◌, ℕ, All, IfOk, OnErr, length};
 ghost use Rattle.cv_pool.specs.PoolView.{Grows};
 
 use cv_closure::{TermId, Terms};
@@ -73,10 +73,10 @@ fn plant_all(alloc: Global, pool: &mut Pool, terms: &Terms) -> Result<Vec<NodeId
 
 /// Makes the terms of a table in the pool: the node of each, in order. One reservation asks for all nodes; where it fails, or
 /// memory runs out, the pool's nodes are as before.
-#[tactic(auto, using(cv_pool::proofs::Growth::growth))]
+#[tactic(auto, using(crate::proofs::Growing::growing))]
 pub fn plant_terms(alloc: Global, pool: &mut Pool, terms: &Terms) -> Result<Vec<NodeId>, PoolError>
     ensures live { IfOk result (λ ns. All (λ n. n.0 < length pool.new.trees) ns.items) }
-    ensures grows { OnOk result (Grows pool.old pool.new) }
+    ensures grows { Grows pool.old pool.new }
     ensures kept { OnErr result (pool.new.trees ≡ pool.old.trees) }
     ensures limit { pool.new.limit ≡ pool.old.limit }
 {

@@ -3,12 +3,14 @@ use crate::nodes::{arguments, open};
 use cv_closure::{Closure, TermId, Terms};
 use cv_syntax::{Head, NodeId, Pool};
 use std::alloc::{AllocError, Global};
+use std::collections::HashMap;
 
-/// Names with the terms that stand for them. Of two equal names the first counts.
+/// Names with the terms that stand for them, in order. Of two equal names the last counts.
 #[derive(Drop)]
 pub struct Given {
     names: Vec<u32>,
     terms: Vec<TermId>,
+    by_name: HashMap<u32, TermId>,
 }
 
 impl Given {
@@ -17,18 +19,28 @@ impl Given {
         Given {
             names: Vec::new(alloc),
             terms: Vec::new(alloc),
+            by_name: HashMap::new(alloc),
         }
     }
 
     /// How many names there are.
     pub fn len(&self) -> usize {
-        self.names.len()
+        self.terms.len()
     }
 
     /// Adds a name with its term behind the others.
     pub fn add(&mut self, name: u32, term: TermId) -> Result<(), AllocError> {
+        self.by_name.insert(name, term)?;
         self.names.push(name)?;
         self.terms.push(term)?;
+        Ok(())
+    }
+
+    /// Adds all of another list behind the others.
+    pub fn add_all(&mut self, more: &Given) -> Result<(), AllocError> {
+        for (name, term) in more.names.iter().zip(&more.terms) {
+            self.add(*name, *term)?;
+        }
         Ok(())
     }
 
@@ -39,12 +51,10 @@ impl Given {
 
     /// The term that stands for a name.
     pub fn get(&self, name: u32) -> Option<TermId> {
-        for (k, there) in self.names.iter().enumerate() {
-            if *there == name {
-                return self.terms.get(k).copied();
-            }
+        match self.by_name.get(&name) {
+            Some(term) => Some(*term),
+            None => None,
         }
-        None
     }
 }
 

@@ -5,6 +5,7 @@ use Rattle.cv_report.specs.declared.report.Status.TheVariants as status
 
 abbrev pub code_of : Status → ℕ
 code_of status.Proved = 0
+code_of status.Done = 0
 code_of (status.Open cause) = 1
 code_of (status.FileRefused fault) = 2
 code_of status.Words = 3

@@ -1,4 +1,5 @@
 pub mod Codes
+pub mod Printed
 pub mod Text
 pub mod Writing
 pub mod contexts

@@ -21,7 +21,7 @@ use Rattle.cv_group.specs.declared.fault.GroupFault.TheVariants as group
 use Rattle.cv_scope_rules.specs.declared.fault.ScopeFault.{ScopeFault}
 use Rattle.cv_scope_rules.specs.declared.fault.ScopeFault.TheVariants as scope
 use Rattle.cv_report.specs.declared.report.Cause.{Cause}
-use Rattle.cv_report.specs.declared.report.Cause.TheVariants.{Stuck, StepRefused, NoClose}
+use Rattle.cv_report.specs.declared.report.Cause.TheVariants.{Moves, Stuck, StepRefused, NoClose}
 use Rattle.cv_report.specs.declared.report.FileFault.{FileFault}
 use Rattle.cv_report.specs.declared.report.FileFault.TheVariants.{Lex, Parse, Script, Types, Scope, Group, Query}
 use Rattle.cv_report.specs.declared.report.Report.{Report}
@@ -145,11 +145,13 @@ no_close_text k = numbered_text (codes "end 1 open: no close of query ") k ++ co
 -- the end lines of runs that leave a query open
 abbrev pub open_text : Cause → List ℕ
 open_text Stuck = codes "end 1 open: stuck\n"
+open_text Moves = codes "end 1 open: moves\n"
 open_text (StepRefused step condition place) = step_refused_text step condition place
 open_text (NoClose k) = no_close_text k
 
 abbrev pub end_text : Status → List ℕ
 end_text status.Proved = codes "end 0 proved\n"
+end_text status.Done = codes "end 0 done\n"
 end_text (status.Open cause) = open_text cause
 end_text (status.FileRefused fault) = fault_text fault
 end_text status.Words = codes "end 3 words\n"
@@ -163,14 +165,18 @@ end_text (status.Limit Steps) = codes "end 7 limit: steps\n"
 end_text (status.Limit (Pool need)) = codes "end 7 limit: pool\n"
 end_text status.Unbuilt = codes "end 8 unbuilt\n"
 
--- the game, the steps and the verdicts, where the file was accepted
+-- the game of a file and the steps, with the games that they lead to
+abbrev pub games_text : Report → File → List ℕ
+games_text r f =
+    codes "game 1\n" ++ game_text r.work.names (tree_at r.work.pool.trees (Some f.game.root))
+    ++ trail_text r.work.names (parameters_in r.work.decls.list) r.work.pool.trees 1 2 r.trail.items
+
+-- the same with the verdicts, where the file was accepted
 abbrev pub body_text : Report → Option File → List ℕ
 body_text r None = []
-body_text r (Some f) =
-    codes "game 1\n" ++ game_text r.work.names (tree_at r.work.pool.trees (Some f.game.root))
-    ++ trail_text r.work.names (parameters_in r.work.decls.list) r.work.pool.trees 1 2 r.trail.items ++ verdicts_text r.work.names 1 r.verdicts.items
+body_text r (Some f) = games_text r f ++ verdicts_text r.work.names 1 r.verdicts.items
 
--- The text is a function of the report.
+-- The text of a proof is a function of the report.
 abbrev pub text_of : Report → List ℕ
 text_of r = body_text r r.file ++ end_text r.status
 

@@ -1,4 +1,3 @@
 pub mod Fetched
 pub mod Refused
-pub mod Words
 pub mod Written

@@ -16,6 +16,10 @@ use cv_typing_rules::TypeFault;
 pub enum Command {
     /// A proof of the file's queries, in at most so many moves.
     Prove { moves: u32 },
+    /// The games of the file's proof block, without verdicts.
+    Games,
+    /// The text of the sample with this number, or a proof of its queries.
+    Sample { number: u32, prove: bool },
     /// The words ask for nothing.
     Nothing,
 }
@@ -41,8 +45,10 @@ pub enum Verdict {
 /// Why a query is left open.
 #[derive(Clone, Copy, Debug, PartialEq, Eq)]
 pub enum Cause {
-    /// The strategy has no step.
+    /// The strategy proposes nothing more.
     Stuck,
+    /// As many moves were made as the command allows.
+    Moves,
     /// A step of the script, counted from 1, fails this condition at this place.
     StepRefused {
         step: u32,
@@ -91,6 +97,8 @@ pub enum Which {
 #[derive(Clone, Copy, Debug, PartialEq, Eq)]
 pub enum Status {
     Proved,
+    /// No verdicts were asked for: each step of the proof block was accepted, or the text is that of a sample.
+    Done,
     Open(Cause),
     /// The bytes are no file.
     FileRefused(FileFault),
@@ -110,6 +118,7 @@ impl Status {
     {
         match self {
             Status::Proved => 0,
+            Status::Done => 0,
             Status::Open(_) => 1,
             Status::FileRefused(_) => 2,
             Status::Words => 3,

@@ -1,6 +1,6 @@
 // The text of a report.
 ghost use Rattle.std.specs.Prelude.{◌≡◌, ◌+◌, ◌<◌, ◌^◌, ◌++◌, [], All, length, IfOk, OnOk, IfSome};
-ghost use Rattle.cv_report.specs.Text.{EntryLive, IsLive, condition_text, cost_text, end_text, entry_text, fault_text, games_after, grammar_text, group_text, lexis_text, next_text, no_close_text, numbered_text, open_text, place_text, query_text, refused_text, said_text, scope_text, script_text, step_refused_text, text_of, trail_text, types_text, verdict_text, verdicts_text};
+ghost use Rattle.cv_report.specs.Text.{EntryLive, IsLive, body_text as body_of, condition_text, cost_text, end_text, entry_text, fault_text, games_after, games_text as games_of, grammar_text, group_text, lexis_text, next_text, no_close_text, numbered_text, open_text, place_text, query_text, refused_text, said_text, scope_text, script_text, step_refused_text, text_of, trail_text, types_text, verdict_text, verdicts_text};
 
 use crate::contexts::{order_of, push_context};
 use crate::report::{Cause, Entry, FileFault, Report, Status, Verdict, Which};
@@ -11,7 +11,7 @@ use cv_parse::ParseError;
 use cv_print::{push_decimal, push_game};
 use cv_scope_rules::ScopeFault;
 use cv_script::push_step;
-use cv_syntax::{Game, Names, Pool};
+use cv_syntax::{File, Game, Names, Pool};
 use cv_typing_rules::TypeFault;
 use std::alloc::{AllocError, Global};
 
@@ -305,6 +305,7 @@ fn push_open(out: &mut Vec<u8>, cause: Cause) -> Result<(), AllocError>
 {
     match cause {
         Cause::Stuck => out.extend_from_slice(b"end 1 open: stuck\n"),
+        Cause::Moves => out.extend_from_slice(b"end 1 open: moves\n"),
         Cause::StepRefused {
             step,
             condition,
@@ -315,11 +316,12 @@ fn push_open(out: &mut Vec<u8>, cause: Cause) -> Result<(), AllocError>
 }
 
 /// Appends the end line.
-fn push_end(out: &mut Vec<u8>, status: Status) -> Result<(), AllocError>
+pub(crate) fn push_end(out: &mut Vec<u8>, status: Status) -> Result<(), AllocError>
     ensures { OnOk result (out.new.items ≡ out.old.items ++ end_text status) }
 {
     match status {
         Status::Proved => out.extend_from_slice(b"end 0 proved\n"),
+        Status::Done => out.extend_from_slice(b"end 0 done\n"),
         Status::Open(cause) => push_open(out, cause),
         Status::FileRefused(fault) => push_fault(out, fault),
         Status::Words => out.extend_from_slice(b"end 3 words\n"),
@@ -335,20 +337,40 @@ fn push_end(out: &mut Vec<u8>, status: Status) -> Result<(), AllocError>
     }
 }
 
-/// The text of a report.
+/// The text of the game of a file and of the steps, with the games that they lead to.
+pub(crate) fn games_text(alloc: Global, report: &Report, file: File) -> Result<Vec<u8>, AllocError>
+    requires file { file.game.root.0 < length report.now.work.pool.trees }
+    requires trail { All (EntryLive (length report.now.work.pool.trees)) report.now.trail.items }
+    ensures { IfOk result (λ v. v.items ≡ games_of report.now file) }
+{
+    let work = &report.work;
+    let mut out = Vec::new(alloc);
+    out.extend_from_slice(b"game 1\n")?;
+    push_game(&mut out, &work.pool, &work.names, file.game.root)?;
+    let order = order_of(alloc, &work.decls)?;
+    push_trail(&mut out, &work.pool, &work.names, &order, &report.trail)?;
+    Ok(out)
+}
+
+/// The same with the verdicts, where the file was accepted.
+fn body_text(alloc: Global, report: &Report) -> Result<Vec<u8>, AllocError>
+    requires { IsLive report.now }
+    ensures { IfOk result (λ v. v.items ≡ body_of report.now report.now.file) }
+{
+    let Some(file) = report.file else {
+        return Ok(Vec::new(alloc));
+    };
+    let mut out = games_text(alloc, report, file)?;
+    push_verdicts(&mut out, &report.work.names, &report.verdicts)?;
+    Ok(out)
+}
+
+/// The text of a report on a proof.
 pub fn report_text(alloc: Global, report: &Report) -> Result<Vec<u8>, AllocError>
     requires { IsLive report.now }
     ensures { IfOk result (λ v. v.items ≡ text_of report.now) }
 {
-    let mut out = Vec::new(alloc);
-    if let Some(file) = report.file {
-        let work = &report.work;
-        out.extend_from_slice(b"game 1\n")?;
-        push_game(&mut out, &work.pool, &work.names, file.game.root)?;
-        let order = order_of(alloc, &work.decls)?;
-        push_trail(&mut out, &work.pool, &work.names, &order, &report.trail)?;
-        push_verdicts(&mut out, &work.names, &report.verdicts)?;
-    }
+    let mut out = body_text(alloc, report)?;
     push_end(&mut out, report.status)?;
     Ok(out)
 }

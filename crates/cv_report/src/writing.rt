@@ -1,11 +1,12 @@
 ghost use Rattle.std.specs.Prelude.{◌≡◌, ◌≢◌, ◌≤◌, Err, OnErr, OnOk, IsSome};
 ghost use Rattle.cv_outside.specs.Causes.{Rose};
-ghost use Rattle.cv_report.specs.Text.{IsLive, text_of};
+ghost use Rattle.cv_report.specs.Printed.{printed};
+ghost use Rattle.cv_report.specs.Text.{IsLive};
 ghost use Rattle.cv_report.specs.Writing.{TakesAll, TakesFront};
 
 use crate::lines::put_lines;
+use crate::printed::printed_text;
 use crate::report::Report;
-use crate::text::report_text;
 use cv_outside::{PutError, Sink};
 use std::alloc::{AllocError, Global};
 
@@ -42,14 +43,14 @@ impl From<PutError> for WriteError {
 pub fn write<K: Sink>(alloc: Global, sink: &mut K, report: &Report) -> Result<(), WriteError>
     requires { IsLive report.now }
     ensures all { OnOk result (TakesAll (K.taken sink.old) (K.taken sink.new)
-        (text_of report.now)) }
-    ensures front { TakesFront (K.taken sink.old) (K.taken sink.new) (text_of report.now) }
+        (printed report.now)) }
+    ensures front { TakesFront (K.taken sink.old) (K.taken sink.new) (printed report.now) }
     ensures failed { result ≡ Err WriteError.Failed → Rose (K.faults sink.old) (K.faults sink.new) }
     ensures untouched { result ≡ Err WriteError.OutOfMemory → K.taken sink.new ≡ K.taken sink.old }
     ensures later { K.faults sink.old ≤ K.faults sink.new }
     ensures tells { IsSome (K.taken sink.new) → IsSome (K.taken sink.old) }
 {
-    let text = report_text(alloc, report)?;
+    let text = printed_text(alloc, report)?;
     put_lines(sink, &text)?;
     Ok(())
 }

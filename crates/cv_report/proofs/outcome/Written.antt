@@ -9,6 +9,7 @@ use Rattle.cv_report.specs.outcome.Written.{unwritten}
 pub unwritten_either : (s : Status) → (unwritten s ≡ s) ⊎ (unwritten s ≡ status.Write)
 unwritten_either status.Memory = inl refl
 unwritten_either status.Proved = inr refl
+unwritten_either status.Done = inr refl
 unwritten_either (status.Open c) = inr refl
 unwritten_either (status.FileRefused f) = inr refl
 unwritten_either status.Words = inr refl
@@ -23,6 +24,7 @@ unwritten_memory s e = subst (λ x. unwritten x ≡ status.Memory) (sym e) refl
 pub unwritten_ends : (s : Status) → unwritten s ≢ status.Write → unwritten s ≡ status.Memory
 unwritten_ends status.Memory n = refl
 unwritten_ends status.Proved n = absurd (n refl)
+unwritten_ends status.Done n = absurd (n refl)
 unwritten_ends (status.Open c) n = absurd (n refl)
 unwritten_ends (status.FileRefused f) n = absurd (n refl)
 unwritten_ends status.Words n = absurd (n refl)

@@ -1,6 +1,7 @@
 ghost use Rattle.std.specs.Prelude.{◌≡◌, ◌≢◌, ◌⊎◌};
 ghost use Rattle.cv_outside.specs.Causes.{Rose};
-ghost use Rattle.cv_report.specs.Text.{IsLive, text_of};
+ghost use Rattle.cv_report.specs.Printed.{printed};
+ghost use Rattle.cv_report.specs.Text.{IsLive};
 ghost use Rattle.cv_report.specs.Writing.{TakesAll, TakesFront};
 ghost use Rattle.cv_report.specs.outcome.Refused.{SaysMemory};
 ghost use Rattle.cv_report.specs.outcome.Written.{unwritten as unwritten_status};
@@ -44,9 +45,9 @@ fn spent(alloc: Global, report: Report) -> Outcome
 pub fn write<K: Sink>(alloc: Global, report: Report, sink: &mut K) -> Outcome
     requires { IsLive report }
     ensures kept { (result.report ≡ report) ⊎ SaysMemory report.command result.report }
-    ensures front { TakesFront (K.taken sink.old) (K.taken sink.new) (text_of result.report) }
+    ensures front { TakesFront (K.taken sink.old) (K.taken sink.new) (printed result.report) }
     ensures all { result.status ≢ Status.Write → result.status ≢ Status.Memory
-        → TakesAll (K.taken sink.old) (K.taken sink.new) (text_of result.report) }
+        → TakesAll (K.taken sink.old) (K.taken sink.new) (printed result.report) }
     ensures status { (result.status ≡ result.report.status)
         ⊎ ((result.status ≡ Status.Write) × Rose (K.faults sink.old) (K.faults sink.new)) }
     ensures memory { result.report.status ≡ Status.Memory → result.status ≡ Status.Memory }

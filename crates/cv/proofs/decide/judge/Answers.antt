@@ -1,17 +1,19 @@
 use Rattle.std.proofs.Common.{sym, subst, ◌∙◌}
 use Rattle.cv_accept.proofs.Readings.{accepted}
-use Rattle.cv_plain.specs.Strategy.{most_pool}
+use Rattle.cv_accept.specs.Accepted.{most_pool}
+use Rattle.cv_report.specs.declared.report.Status.{Status}
 use Rattle.cv.specs.Causes.{ComesFrom}
+use Rattle.cv.specs.Strategy.{Judged}
 use Rattle.cv.proofs.Bounded.{run_calls}
 use Rattle.cv.proofs.Causing.{refusal_cause}
 use Rattle.cv.proofs.Endings.{refusal_answers}
 use Rattle.cv.proofs.Faithful.{run_close}
-use Rattle.cv.proofs.Proving.{script_sound}
+use Rattle.cv.proofs.Proving.{report_sound}
 use Rattle.cv_accept_laws.proofs.Ready.{equivalences}
-use Rattle.cv.proofs.Running.{run_answers, run_cause, run_judged, run_live, run_sound}
+use Rattle.cv.proofs.Running.{judged_under, run_answers, run_cause, run_live, run_sound}
 use Rattle.cv.proofs.Stepping.{run_steps}
 use Rattle.cv.proofs.Taped.{advantages_of_file}
-use Rattle.cv.proofs.Verdicts.{reads_at, refuses_at}
+use Rattle.cv.proofs.Verdicts.{judged_fault, reads_at, refuses_at}
 use Rattle.cv.proofs.decide.judge.Goals as goal
 
 pub returns-in-Err-clause-answers : goal.returns-in-Err-clause-answers
@@ -22,6 +24,11 @@ pub returns-in-Err-clause-cause : goal.returns-in-Err-clause-cause
 returns-in-Err-clause-cause c = λ o given.
     subst (ComesFrom o _) (sym (c.refused.ensures.status ∙ c.status_of.ensures))
     (refusal_cause o _ c.args.bytes.now given c.refused.ensures.file c.in-Err.fault (refuses_at _ c.args.bytes.now c.in-Err.fault c.requires.limit c.in-Err.ensures.reads))
+
+pub returns-in-Err-clause-judged : goal.returns-in-Err-clause-judged
+returns-in-Err-clause-judged c =
+    subst (λ (s : Status). Judged c.args.command s c.args.bytes.now) (sym (c.refused.ensures.status ∙ c.status_of.ensures))
+    (judged_fault c.args.command c.in-Err.fault c.args.bytes.now (refuses_at _ c.args.bytes.now c.in-Err.fault c.requires.limit c.in-Err.ensures.reads))
 
 pub run_accepted-requires-clause-formed : goal.run_accepted-requires-clause-formed
 run_accepted-requires-clause-formed c = (accepted most_pool c.args.bytes.now _ (reads_at _ c.args.bytes.now _ c.requires.limit c.in-Ok.ensures.reads)).well_formed
@@ -38,7 +45,7 @@ pub returns-in-Ok-clause-sound : goal.returns-in-Ok-clause-sound
 returns-in-Ok-clause-sound c =
     run_sound _ c.in-Ok.accepted.file _
     (advantages_of_file c.derivations_are_sound.ensures.hold c.derivations_are_sound.ensures.unreached _ c.args.bytes.now (reads_at _ c.args.bytes.now _ c.requires.limit c.in-Ok.ensures.reads) c.requires.few)
-    (script_sound c.derivations_are_sound.ensures.hold c.derivations_are_sound.ensures.unreached c.accepted_correspondences_are_never_broken.ensures.chance c.unread_choices_are_secret.ensures.secrecy c.unread_copies_are_secret_for_one_session.ensures.secrecy
+    (report_sound c.derivations_are_sound.ensures.hold c.derivations_are_sound.ensures.unreached c.accepted_correspondences_are_never_broken.ensures.chance c.unread_choices_are_secret.ensures.secrecy c.unread_copies_are_secret_for_one_session.ensures.secrecy
     c.accepted_exactly_where_nothing_fails.ensures _ c.in-Ok.accepted.file _ c.args.bytes.now (reads_at _ c.args.bytes.now _ c.requires.limit c.in-Ok.ensures.reads) c.requires.few)
     c.run_accepted.ensures.run
 
@@ -61,4 +68,4 @@ pub returns-in-Ok-clause-cause : goal.returns-in-Ok-clause-cause
 returns-in-Ok-clause-cause c = λ o given. run_cause _ c.in-Ok.accepted.file _ c.args.bytes.now (reads_at _ c.args.bytes.now _ c.requires.limit c.in-Ok.ensures.reads) o given c.run_accepted.ensures.run
 
 pub returns-in-Ok-clause-judged : goal.returns-in-Ok-clause-judged
-returns-in-Ok-clause-judged c = run_judged _ c.in-Ok.accepted.file _ c.args.bytes.now (reads_at _ c.args.bytes.now _ c.requires.limit c.in-Ok.ensures.reads) c.run_accepted.ensures.run
+returns-in-Ok-clause-judged c = judged_under _ c.in-Ok.accepted.file _ c.args.bytes.now (reads_at _ c.args.bytes.now _ c.requires.limit c.in-Ok.ensures.reads) c.args.command c.run_accepted.ensures.command c.run_accepted.ensures.run

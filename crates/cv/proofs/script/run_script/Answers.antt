@@ -5,8 +5,10 @@ use Rattle.cv_script_reader.specs.Scripts.{trees_of}
 use Rattle.cv_meaning.specs.Queries.{queries_in}
 use Rattle.cv_accept.specs.Accepted.{Content}
 use Rattle.cv_accept.specs.Works.{content_at, content_nodes}
-use Rattle.cv_plain.proofs.QueryLists.{queries_same}
+use Rattle.cv_follow.proofs.QueryLists.{queries_same}
 use Rattle.cv_follow.specs.Scripts.{entry_in}
+use Rattle.cv.specs.Strategy.{MayHaveFile}
+use Rattle.cv.proofs.Commands.{may_under}
 use Rattle.cv.proofs.Ended.{walk_may}
 use Rattle.cv_follow.proofs.Following.{HasTrail, walk_trail}
 use Rattle.cv.proofs.Growing.{content_grown}
@@ -30,8 +32,14 @@ returns-clause-run c =
       file = refl;
       content = held;
       drawn = c.in-Ok.ensures.drawn;
-      proceeds = record { walk = t.0; trail = t.1; steps = c.in-Ok-steps_of.ensures ∙ ap (map (λ e. e.step)) c.deref-2.ensures.value; verdicts = t.2 };
-      sound = λ e. absurd (cc);
-      status = walk_may _ _ _ _ _ _ _ walk c.in-Ok.ensures.walk;
+      proceeds = record {
+        took = record { proof = t.0.proof; last = t.0.last; leads = t.0.leads; trail = t.1; steps = c.in-Ok-steps_of.ensures ∙ ap (map (λ e. e.step)) c.deref-2.ensures.value; verdicts = t.2 };
+        left = t.0.left;
+        split = t.0.split;
+        end = walk.status;
+        ends = t.0.ends;
+        ended = c.end_under-status.ensures;
+      };
+      status = subst MayHaveFile (sym c.end_under-status.ensures) (may_under c.args.command walk.status (walk_may _ _ _ _ _ _ _ walk c.in-Ok.ensures.walk));
       live = record { file = (let here = c.requires.game in omega arith); trail = c.in-Ok.ensures.walk.live };
     })

@@ -1,6 +1,5 @@
-use Rattle.std.specs.Prelude.{map, string_bytes}
 use Rattle.cv_lists.proofs.Options.{IfSome_weaker}
-use Rattle.cv_report.specs.outcome.Words.{bytes_named, file_named}
+use Rattle.cv.specs.Words.{asked_by, bytes_asked, command_of}
 use Rattle.cv.proofs.Endings.{ends_well}
 use Rattle.cv.proofs.Writing.{by_sink, ends_either, kept_answers, kept_calls, kept_cause, kept_close, kept_complete, kept_sound, kept_steps, kept_words}
 use Rattle.cv.proofs.top.run.Goals as goal
@@ -28,13 +27,13 @@ returns-clause-cause g c = kept_cause _ _ _ c.write.ensures.kept c.decide-report
 
 pub returns-clause-complete : goal.returns-clause-complete
 returns-clause-complete g c = λ quiet.
-    IfSome_weaker _ _ (bytes_named (g.F.Shelf.told c.args.shelf.now) (file_named (map string_bytes c.args.words.now)))
-    (λ bytes done. kept_complete bytes _ _ c.write.ensures.kept done) (c.decide-report.ensures.complete quiet)
+    IfSome_weaker _ _ (bytes_asked (g.F.Shelf.told c.args.shelf.now) (asked_by c.args.words.now))
+    (λ bytes done. kept_complete (command_of (asked_by c.args.words.now)) bytes _ _ c.write.ensures.kept done) (c.decide-report.ensures.complete quiet)
 
 pub returns-clause-good : goal.returns-clause-good
 returns-clause-good g c = λ quiet still.
-    IfSome_weaker _ _ (bytes_named (g.F.Shelf.told c.args.shelf.now) (file_named (map string_bytes c.args.words.now)))
-    (λ bytes done good. ends_well _ _ bytes (kept_complete bytes _ _ c.write.ensures.kept done) good (ends_either _ _ _ c.write.ensures.status) (λ w. still (by_sink _ _ _ _ c.write.ensures.kept c.decide-report.ensures.never c.write.ensures.status w))) (c.decide-report.ensures.complete quiet)
+    IfSome_weaker _ _ (bytes_asked (g.F.Shelf.told c.args.shelf.now) (asked_by c.args.words.now))
+    (λ bytes done good. ends_well (command_of (asked_by c.args.words.now)) _ _ bytes (kept_complete (command_of (asked_by c.args.words.now)) bytes _ _ c.write.ensures.kept done) good (ends_either _ _ _ c.write.ensures.status) (λ w. still (by_sink _ _ _ _ c.write.ensures.kept c.decide-report.ensures.never c.write.ensures.status w))) (c.decide-report.ensures.complete quiet)
 
 pub returns-clause-written : goal.returns-clause-written
 returns-clause-written g c = record { front = c.write.ensures.front; all = c.write.ensures.all }

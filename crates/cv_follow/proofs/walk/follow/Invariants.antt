@@ -3,7 +3,7 @@ use Rattle.cv_pool.specs.PoolView.{Grows}
 use Rattle.cv_syntax.specs.Declarations.{declarations}
 use Rattle.cv_syntax.specs.PoolTrees.{tree_at}
 use Rattle.cv_script_reader.specs.Scripts.{trees_of}
-use Rattle.cv_plain.specs.Strategy.{most_pool}
+use Rattle.cv_accept.specs.Accepted.{most_pool}
 use Rattle.cv_kernel.specs.Sequences.{Stands}
 use Rattle.cv_kernel.specs.Drawings.{DrawsAlong}
 use Rattle.cv_follow.specs.Scripts.{entry_in, known_to, led}

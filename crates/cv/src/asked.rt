@@ -1,0 +1,151 @@
+ghost use Rattle.std.specs.Prelude.{◌≡◌, ◌<◌, ◌≤◌, IfOk, IfSome, IsErrOf, Some, length};
+ghost use Rattle.cv_outside.specs.Causes.{Rose};
+ghost use Rattle.cv_sample.specs.Samples.{file_of as sample_of};
+ghost use Rattle.cv_words.specs.Words.{asked_of};
+ghost use Rattle.cv.specs.Strategy.{ends_under, is_games as games, moves_in, shown};
+ghost use Rattle.cv.specs.Words.{AreTold, AsksOnly, bytes_asked, command_of as command_by, file_asked, text_asked as text_by};
+
+use cv_outside::{FetchError, Shelf};
+use cv_report::{Cause, Command, Status};
+use cv_sample::file_of;
+use cv_words::Request;
+use std::alloc::Global;
+
+/// The most bytes of a file.
+const MOST_BYTES: usize = 1_048_576;
+
+/// The command of a request.
+pub fn command_of(request: Request<'_>) -> Command
+    ensures { result ≡ command_by (Some (asked_of request.entry)) }
+{
+    match request {
+        Request::Prove { file: _, moves } => Command::Prove { moves },
+        Request::Games { file: _ } => Command::Games,
+        Request::Sample { number, prove } => Command::Sample { number, prove },
+    }
+}
+
+/// The number of a sample whose text is asked for.
+pub fn text_asked(request: Request<'_>) -> Option<u32>
+    ensures { result ≡ text_by (asked_of request.entry) }
+{
+    match request {
+        Request::Sample {
+            number,
+            prove: false,
+        } => Some(number),
+        Request::Sample {
+            number: _,
+            prove: true,
+        } => None,
+        Request::Prove { file: _, moves: _ } => None,
+        Request::Games { file: _ } => None,
+    }
+}
+
+/// Whether a command asks for games without verdicts.
+pub fn is_games(command: Command) -> bool
+    ensures { result ≡ games command }
+{
+    match command {
+        Command::Games => true,
+        Command::Prove { moves: _ } => false,
+        Command::Sample {
+            number: _,
+            prove: _,
+        } => false,
+        Command::Nothing => false,
+    }
+}
+
+/// The moves of a proof where the words don't say.
+const MOVES: u32 = 32;
+
+/// How many moves a command allows.
+pub fn moves_of(command: Command) -> u32
+    ensures { result ≡ moves_in command }
+{
+    match command {
+        Command::Prove { moves } => moves,
+        Command::Games => 0,
+        Command::Sample {
+            number: _,
+            prove: _,
+        } => MOVES,
+        Command::Nothing => 0,
+    }
+}
+
+/// How a run ends that asks for no verdicts.
+fn end_of_games(status: Status) -> Status
+    ensures { result ≡ shown status }
+{
+    match status {
+        Status::Proved => Status::Done,
+        Status::Open(Cause::NoClose(_)) => Status::Done,
+        other => other,
+    }
+}
+
+/// How a run ends under a command whose proof block was followed to such an end.
+pub fn end_under(command: Command, status: Status) -> Status
+    ensures { result ≡ ends_under command status }
+{
+    match command {
+        Command::Games => end_of_games(status),
+        Command::Prove { moves: _ } => status,
+        Command::Sample {
+            number: _,
+            prove: _,
+        } => status,
+        Command::Nothing => status,
+    }
+}
+
+/// The bytes of a sample.
+fn sample(alloc: Global, number: u32) -> Result<Vec<u8>, FetchError>
+    ensures bytes { IfOk result (λ v. v.items ≡ sample_of number) }
+    ensures few { IfOk result (λ v. length v.items ≤ 1048576) }
+    ensures never { ¬ IsErrOf result FetchError.Failed }
+    ensures long { IsErrOf result FetchError.Long → 1048576 < length (sample_of number) }
+{
+    let Ok(bytes) = file_of(alloc, number) else {
+        return Err(FetchError::OutOfMemory);
+    };
+    if bytes.len() > MOST_BYTES {
+        return Err(FetchError::Long);
+    }
+    Ok(bytes)
+}
+
+/// The bytes that a request reads: those of its file, for which the shelf is asked, or of a sample.
+#[tactic(auto, using(crate::proofs::Sources::sources))]
+pub fn source<F: Shelf>(
+    alloc: Global,
+    request: Request<'_>,
+    shelf: &mut F,
+) -> Result<Vec<u8>, FetchError>
+    ensures told { IfOk result (λ v.
+        AreTold (bytes_asked (F.told shelf.old) (Some (asked_of request.entry))) v.items) }
+    ensures few { IfOk result (λ v. length v.items ≤ 1048576) }
+    ensures failed { IsErrOf result FetchError.Failed
+        → Rose (F.faults shelf.old) (F.faults shelf.new) }
+    ensures long { IsErrOf result FetchError.Long
+        → IfSome (bytes_asked (F.told shelf.old) (Some (asked_of request.entry)))
+        (λ bytes. 1048576 < length bytes) }
+    ensures asked { AsksOnly (file_asked (Some (asked_of request.entry)))
+        (F.asked shelf.old) (F.asked shelf.new) }
+{
+    match request {
+        Request::Prove { file, moves: _ } => shelf.fetch(alloc, file, MOST_BYTES),
+        Request::Games { file } => shelf.fetch(alloc, file, MOST_BYTES),
+        Request::Sample {
+            number,
+            prove: true,
+        } => sample(alloc, number),
+        Request::Sample {
+            number,
+            prove: false,
+        } => sample(alloc, number),
+    }
+}

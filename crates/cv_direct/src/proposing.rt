@@ -1,0 +1,134 @@
+// A step that closes a query, with its terms in the pool.
+ghost use Rattle.std.specs.Prelude.{IfOk, IfSome, length};
+ghost use Rattle.cv_pool.specs.PoolView.{Grows};
+ghost use Rattle.cv_step_writer.specs.Proposals.{IsProposalBelow};
+
+mod certificates;
+mod lines;
+mod shortage;
+
+use crate::proposing::certificates::plant_certificate;
+use crate::proposing::shortage::Shortage;
+use crate::searching::{Effort, direct};
+use cv_closure::Theory;
+use cv_grounds::{Survey, theory_of};
+use cv_step_writer::Proposal;
+use cv_syntax::{Decls, Game, NodeId, Pool, PoolError, query_at};
+use std::alloc::{AllocError, Global};
+
+/// How much effort is taken in one game.
+const MOST_EFFORT: u32 = 3_000_000;
+
+/// What searches in one game share: its survey, what the file declares, and how much effort they may still take together.
+#[derive(Drop)]
+pub struct Proposer {
+    survey: Survey,
+    theory: Theory,
+    effort: Effort,
+}
+
+impl Proposer {
+    /// For a game of a file.
+    pub fn of(
+        alloc: Global,
+        pool: &Pool,
+        decls: &Decls,
+        game: NodeId,
+    ) -> Result<Proposer, AllocError> {
+        Ok(Proposer {
+            survey: Survey::of(alloc, pool, Game { root: game })?,
+            theory: theory_of(alloc, pool, decls)?,
+            effort: Effort { left: MOST_EFFORT },
+        })
+    }
+
+    /// Lets all searches together take no more than a share of the effort.
+    fn share(&mut self, count: u32) {
+        if count > 0 {
+            self.effort.left /= count;
+        }
+    }
+
+    /// The step that closes a query of this number.
+    #[tactic(auto, using(crate::proofs::Below::planting))]
+    fn plant_proposal(
+        &mut self,
+        alloc: Global,
+        pool: &mut Pool,
+        query: NodeId,
+        number: u64,
+    ) -> Result<Option<Proposal>, Shortage>
+        ensures below { IfOk result (λ o. IfSome o (IsProposalBelow (length pool.new.trees))) }
+        ensures grows { Grows pool.old pool.new }
+    {
+        let there = direct(
+            alloc,
+            pool,
+            &self.survey,
+            &self.theory,
+            query,
+            &mut self.effort,
+        )?;
+        let Some(there) = there else {
+            return Ok(None);
+        };
+        let certificate = plant_certificate(alloc, pool, &there)?;
+        Ok(Some(Proposal::Success {
+            query: number,
+            certificate,
+        }))
+    }
+
+    /// The step that closes a query in the game, the query by its node and by its number from 1: where a certificate is found, of
+    /// which the kernel tests whether it is one. Its terms are made in the pool; what was there stays, also where there is no room
+    /// for them.
+    #[tactic(auto, using(crate::proofs::Below::planting))]
+    pub fn propose(
+        &mut self,
+        alloc: Global,
+        pool: &mut Pool,
+        query: NodeId,
+        number: u64,
+    ) -> Result<Option<Proposal>, PoolError>
+        ensures below { IfOk result (λ o. IfSome o (IsProposalBelow (length pool.new.trees))) }
+        ensures grows { Grows pool.old pool.new }
+    {
+        match self.plant_proposal(alloc, pool, query, number) {
+            Ok(proposal) => Ok(proposal),
+            Err(Shortage(fault)) => Err(fault),
+        }
+    }
+}
+
+/// How many queries a file has.
+fn queries(decls: &Decls) -> u32 {
+    let mut count = 0_u32;
+    for k in 0..decls.len() {
+        if query_at(decls, k).is_some() {
+            count = count.saturating_add(1);
+        }
+    }
+    count
+}
+
+/// The step that closes a query in a game, the query by its node and by its number from 1, as a proposer of the game gives it. It
+/// takes the query's share of the effort.
+#[tactic(auto, using(crate::proofs::Below::planting))]
+pub fn propose(
+    alloc: Global,
+    pool: &mut Pool,
+    decls: &Decls,
+    game: NodeId,
+    query: NodeId,
+    number: u64,
+) -> Result<Option<Proposal>, PoolError>
+    ensures below { IfOk result (λ o. IfSome o (IsProposalBelow (length pool.new.trees))) }
+    ensures grows { Grows pool.old pool.new }
+{
+    let mut proposer = match Proposer::of(alloc, pool, decls, game) {
+        Ok(proposer) => proposer,
+        Err(AllocError) => return Err(PoolError::OutOfMemory),
+    };
+    proposer.share(queries(decls));
+    proposer.propose(alloc, pool, query, number)
+}

@@ -1,0 +1,55 @@
+use Rattle.std.proofs.Common.{ap, arith, length, refl}
+use Rattle.cv_pool.proofs.Growth.{Grows_trans}
+use Rattle.cv_report.specs.declared.report.Which.TheVariants.{Pool}
+use Rattle.cv_follow.proofs.Growing.{Grows_same}
+use Rattle.cv_syntax.specs.declared.work.Work.{Work}
+use Rattle.cv_syntax.specs.limits.Limits.{nodes_of}
+use Rattle.cv_follow.proofs.Tries.{comes_result, comes_short, kept_by, may_again}
+use Rattle.cv_follow.proofs.searching.write_and_take.Goals as goal
+
+pub take-requires-clause-may : goal.take-requires-clause-may
+take-requires-clause-may c =
+    let old = c.args.work.now in
+    let mid : Work = record old { pool = c.write.new.pool } in
+    may_again old mid c.args.sequence.now c.args.sequence.now c.args.trail.now.items c.args.trail.now.items c.requires.may (kept_by old mid c.args.sequence.now c.args.trail.now.items c.in-Ok.ensures.grows refl refl)
+
+pub take-requires-clause-short : goal.take-requires-clause-short
+take-requires-clause-short c =
+    let l = c.requires.may.limit in
+    let r = c.in-Ok.ensures.room in
+    let e = ap nodes_of c.in-Ok.ensures.tree in
+    omega arith
+
+pub take-requires-clause-few : goal.take-requires-clause-few
+take-requires-clause-few c =
+    let l = c.requires.may.limit in
+    let r = c.in-Ok.ensures.room in
+    let f = c.write.ensures.few in
+    omega arith
+
+pub returns-in-Ok-clause-tried : goal.returns-in-Ok-clause-tried
+returns-in-Ok-clause-tried c =
+    let old = c.args.work.now in
+    let mid : Work = record old { pool = c.write.new.pool } in
+    comes_result old mid c.take.new.work c.args.may_move c.args.sequence.now c.args.sequence.now c.take.new.sequence c.args.trail.now.items c.args.trail.now.items c.take.new.trail.items c.requires.may.stands.live
+    (kept_by old mid c.args.sequence.now c.args.trail.now.items c.in-Ok.ensures.grows refl refl) c.take.result c.take.ensures.tried
+
+pub returns-in-Ok-clause-grows : goal.returns-in-Ok-clause-grows
+returns-in-Ok-clause-grows c = Grows_trans c.args.work.now.pool c.write.new.pool c.take.new.work.pool c.in-Ok.ensures.grows c.take.ensures.grows
+
+pub returns-in-Err-Full-clause-tried : goal.returns-in-Err-Full-clause-tried
+returns-in-Err-Full-clause-tried c =
+    let old = c.args.work.now in
+    let new : Work = record old { pool = c.write.new.pool } in
+    let e = rw c.in-Err-Full.field-0-is at c.in-Err-Full.ensures in
+    let over = (e.full c.in-Err-Full.need refl).1 in
+    let same = ap length e.kept in
+    rw c.in-Err-Full.field-0-is
+    (comes_short old new c.args.may_move c.args.sequence.now c.args.sequence.now c.args.trail.now.items c.args.trail.now.items (Pool c.in-Err-Full.need)
+    (kept_by old new c.args.sequence.now c.args.trail.now.items (Grows_same old.pool new.pool e.kept c.write.ensures.limit) refl refl) c.requires.may.limit (omega arith))
+
+pub returns-in-Err-Full-clause-grows : goal.returns-in-Err-Full-clause-grows
+returns-in-Err-Full-clause-grows c = let e = rw c.in-Err-Full.field-0-is at c.in-Err-Full.ensures in Grows_same c.args.work.now.pool c.write.new.pool e.kept c.write.ensures.limit
+
+pub returns-in-Err-OutOfMemory-clause-grows : goal.returns-in-Err-OutOfMemory-clause-grows
+returns-in-Err-OutOfMemory-clause-grows c = let e = rw c.in-Err-OutOfMemory.field-0-is at c.in-Err-OutOfMemory.ensures in Grows_same c.args.work.now.pool c.write.new.pool e.kept c.write.ensures.limit

@@ -1,6 +1,0 @@
-pub mod Courses
-pub mod Growing
-pub mod QueryLists
-pub mod Sayings
-pub mod Telling
-pub mod Verdicts

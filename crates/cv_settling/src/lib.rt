@@ -1,0 +1,20 @@
+// Steps that settle a game, in the order of the strategy, as proposals that the kernel may refuse: bodies that are not reached,
+// tests with equal bodies, variables that nothing names, `let`s that are read once, and terms that an equation makes smaller.
+#![tactic(auto)]
+
+mod checking;
+mod equations;
+mod matching;
+mod measure;
+mod merge;
+mod prune;
+mod rewrite;
+mod stop;
+mod suggesting;
+mod tally;
+mod terms;
+mod truths;
+mod unlet;
+mod unnew;
+
+pub use suggesting::suggest;

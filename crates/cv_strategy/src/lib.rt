@@ -1,0 +1,6 @@
+// The order in which steps are proposed: those that settle the game, those that close queries, and moves.
+#![tactic(auto)]
+
+mod strategy;
+
+pub use strategy::Strategy;

@@ -1,0 +1,174 @@
+ghost use Rattle.std.specs.Prelude.{IfOk, IfSome, length};
+ghost use Rattle.cv_pool.specs.PoolView.{Grows};
+ghost use Rattle.cv_step_writer.specs.Proposals.{IsProposalBelow};
+
+use cv_bound::closings::ClosedQueries;
+use cv_direct::Proposer;
+use cv_moves::suggest as suggest_move;
+use cv_settling::suggest as suggest_settling;
+use cv_step_writer::Proposal;
+use cv_syntax::{Decls, NodeId, Pool, PoolError, query_at};
+use std::alloc::{AllocError, Global};
+
+/// What is proposed at present.
+#[derive(Clone, Copy)]
+enum Phase {
+    /// A step that settles the game.
+    Settling,
+    /// A step that closes a query.
+    Closing,
+    /// A move.
+    Moving,
+}
+
+/// How far the strategy has come: a game is settled first, then queries are closed, and then a move is made, behind which it
+/// begins again. Proposals of a phase are numbered; the query of a number is counted from 1. What closes queries is made for the
+/// first one that is asked for, and kept while queries are closed.
+#[derive(Drop)]
+pub struct Strategy {
+    phase: Phase,
+    number: u32,
+    proposer: Option<Proposer>,
+}
+
+/// Whether a query isn't closed.
+fn is_some_open(decls: &Decls, closed: &ClosedQueries) -> bool {
+    let mut number: u64 = 0;
+    'decls: for k in 0..decls.len() {
+        if query_at(decls, k).is_none() {
+            continue;
+        }
+        number = number.saturating_add(1);
+        if !closed.is_closed(number) {
+            return true;
+        }
+    }
+    false
+}
+
+impl Strategy {
+    /// The strategy at a first game.
+    pub fn new() -> Strategy {
+        Strategy {
+            phase: Phase::Settling,
+            number: 0,
+            proposer: None,
+        }
+    }
+
+    /// Whether moves are proposed.
+    pub fn is_moving(&self) -> bool {
+        matches!(self.phase, Phase::Moving)
+    }
+
+    /// Goes to the first proposal of a phase.
+    fn begin(&mut self, phase: Phase) {
+        self.phase = phase;
+        self.number = 0;
+        self.proposer = None;
+    }
+
+    /// The step that was proposed last was accepted: it leads to another game, but for one that closes a query.
+    pub fn accept(&mut self) {
+        match self.phase {
+            Phase::Settling => self.begin(Phase::Settling),
+            Phase::Closing => self.pass_over(),
+            Phase::Moving => self.begin(Phase::Settling),
+        }
+    }
+
+    /// The step that was proposed last isn't taken.
+    pub fn pass_over(&mut self) {
+        self.number = self.number.saturating_add(1);
+    }
+
+    /// The step that closes the query of the number, if one is found.
+    #[tactic(auto, using(crate::proofs::Growing::growing))]
+    fn close_query(
+        &mut self,
+        alloc: Global,
+        pool: &mut Pool,
+        decls: &Decls,
+        game: NodeId,
+        query: NodeId,
+    ) -> Result<Option<Proposal>, PoolError>
+        ensures below { IfOk result (λ o. IfSome o (IsProposalBelow (length pool.new.trees))) }
+        ensures grows { Grows pool.old pool.new }
+    {
+        let mut proposer = match self.proposer.take() {
+            Some(proposer) => proposer,
+            None => match Proposer::of(alloc, pool, decls, game) {
+                Ok(proposer) => proposer,
+                Err(AllocError) => return Err(PoolError::OutOfMemory),
+            },
+        };
+        let step = proposer.propose(alloc, pool, query, u64::from(self.number));
+        self.proposer = Some(proposer);
+        step
+    }
+
+    /// A step for the next open query that has one.
+    #[tactic(auto, using(crate::proofs::Growing::growing))]
+    fn close(
+        &mut self,
+        alloc: Global,
+        pool: &mut Pool,
+        decls: &Decls,
+        game: NodeId,
+        closed: &ClosedQueries,
+    ) -> Result<Option<Proposal>, PoolError>
+        ensures below { IfOk result (λ o. IfSome o (IsProposalBelow (length pool.new.trees))) }
+        ensures grows { Grows pool.old pool.new }
+    {
+        let mut number: u32 = 0;
+        'decls: for k in 0..decls.len() {
+            let Some(query) = query_at(decls, k) else {
+                continue;
+            };
+            number = number.saturating_add(1);
+            if number < self.number || closed.is_closed(u64::from(number)) {
+                continue;
+            }
+            self.number = number;
+            let step = self.close_query(alloc, pool, decls, game, query)?;
+            if step.is_some() {
+                return Ok(step);
+            }
+        }
+        Ok(None)
+    }
+
+    /// The next step to try in a game where these queries are closed, if there is one: moves come only where a query is open.
+    #[tactic(auto, using(crate::proofs::Growing::growing))]
+    pub fn propose(
+        &mut self,
+        alloc: Global,
+        pool: &mut Pool,
+        decls: &Decls,
+        game: NodeId,
+        closed: &ClosedQueries,
+        may_move: bool,
+    ) -> Result<Option<Proposal>, PoolError>
+        ensures below { IfOk result (λ o. IfSome o (IsProposalBelow (length pool.new.trees))) }
+        ensures grows { Grows pool.old pool.new }
+    {
+        if let Phase::Settling = self.phase {
+            let step = suggest_settling(alloc, pool, decls, game, self.number)?;
+            if step.is_some() {
+                return Ok(step);
+            }
+            self.begin(Phase::Closing);
+        }
+        if let Phase::Closing = self.phase {
+            let step = self.close(alloc, pool, decls, game, closed)?;
+            if step.is_some() {
+                return Ok(step);
+            }
+            self.begin(Phase::Moving);
+        }
+        if !may_move || !is_some_open(decls, closed) {
+            return Ok(None);
+        }
+        suggest_move(alloc, pool, decls, game, self.number)
+    }
+}
