@@ -1,9 +1,8 @@
--- How declarations begin, and the arguments of a function of the right side.
+-- How declarations begin.
 use Rattle.std.proofs.Common.{◌≡◌, List, [], ◌∷◌, ◌||◌, refl}
 use Rattle.cv_parse_notation.specs.declared.sign.Sign.{Sign}
 use Rattle.cv_parse_notation.specs.declared.sign.Mark.TheVariants as mark
 use Rattle.cv_parse_notation.specs.Spells.{next_is, is_mark, is_unnamed, starts}
-use Rattle.cv_parse_grammar.specs.Phrases.{RightRest}
 use Rattle.cv_parse_grammar.specs.Rules.{heads}
 use Rattle.cv_parse_grammar.specs.Declarations.{collision_decl, declaration}
 
@@ -14,7 +13,3 @@ collision_begins (t ∷ ts) = refl
 pub declaration_begins : (ts : List Sign) → (next_is (is_mark mark.Param) ts || (next_is (is_mark mark.Channel) ts || (next_is (is_mark mark.Proba) ts || (next_is (is_mark mark.TypeWord) ts || (next_is (is_mark mark.ConstWord) ts || (next_is (is_mark mark.Fun) ts || (next_is (is_mark mark.EventWord) ts || (next_is (is_mark mark.EquationWord) ts || (next_is (starts heads collision_decl) ts || (next_is (is_mark mark.Equiv) ts || next_is (is_mark mark.QueryWord) ts)))))))))) ≡ next_is (starts heads declaration) ts
 declaration_begins [] = refl
 declaration_begins (t ∷ ts) = refl
-
-pub rest_begins : (ts : List Sign) → (next_is (is_mark mark.New) ts || next_is (is_mark mark.Open) ts) ≡ next_is (heads RightRest) ts
-rest_begins [] = refl
-rest_begins (t ∷ ts) = refl

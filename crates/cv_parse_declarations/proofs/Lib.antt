@@ -1,6 +1,8 @@
 pub mod Begins
 pub mod Choices
-pub mod Parts
+pub mod Says
+pub mod DeclaredEquivalence
 pub mod Sequences
+pub mod Others
 pub mod Pieces
 pub mod Wholes

@@ -1,4 +1,3 @@
-pub mod Around
 pub mod Choices
 pub mod Sequences
 pub mod Blocks

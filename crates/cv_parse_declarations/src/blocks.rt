@@ -1,15 +1,16 @@
 ghost use Rattle.std.specs.Prelude.{◌≡◌, false, ◌<◌, ◌≤◌, ◌^◌, length, drop};
 ghost use Rattle.cv_parse_notation.specs.Form.{many, may, ◌▸◌};
 ghost use Rattle.cv_parse_notation.specs.Spells.{next_is, starts};
+ghost use Rattle.cv_parse_notation.specs.Reads.{read_other};
 ghost use Rattle.cv_parse_notation.specs.declared.sign.Mark.TheVariants.{Proof};
 ghost use Rattle.cv_parse_grammar.specs.Phrases.{Braces};
 ghost use Rattle.cv_parse_grammar.specs.Rules.{braces as braces_form, heads, matched as matched_form, proof_block as block_form};
-ghost use Rattle.cv_parse_terms.specs.Gives.{Gives, below, read_in};
+ghost use Rattle.cv_parse_terms.specs.Gives.{Gives, Passes, below, read_in};
 ghost use Rattle.cv_parse_declarations.specs.Blocks.{PassesSome, PassesTree, piece as piece_form};
 
 use cv_parse_grammar::Role;
 use cv_parse_notation::{Mark, Sign};
-use cv_parse_terms::{NameUse, ReadError, expect, is_at, note, open, other, shallow};
+use cv_parse_terms::{NameUse, ReadError, expect, is_at, note, open, shallow};
 
 /// Whether a piece of a proof block begins at a place: any token but a closing brace.
 #[tactic(auto, using(crate::proofs::Pieces::pieces))]
@@ -17,6 +18,22 @@ fn begins_piece(signs: &[Sign], at: usize) -> bool
     ensures { result ≡ next_is (starts heads piece_form) (drop at signs.now) }
 {
     at < signs.len() && !is_at(signs, at, Mark::CloseBrace)
+}
+
+/// The place behind a token that is no brace.
+#[tactic(auto, using(crate::proofs::Others::others))]
+fn other(signs: &[Sign], at: usize) -> Result<usize, ReadError>
+    requires at { at ≤ length signs.now }
+    requires few { length signs.now < 2 ^ 32 }
+    ensures passes { Passes signs.now result (read_other (drop at signs.now)) }
+{
+    if at >= signs.len() {
+        return Err(ReadError::Syntax(at as u32));
+    }
+    if is_at(signs, at, Mark::OpenBrace) || is_at(signs, at, Mark::CloseBrace) {
+        return Err(ReadError::Syntax(at as u32));
+    }
+    Ok(at + 1)
 }
 
 /// A piece of a proof block: braces with what stands in them, or one token.

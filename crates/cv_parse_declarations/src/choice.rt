@@ -44,7 +44,7 @@ fn last_decl(
         return collision_decl(alloc, signs, at, trail, heard, depth);
     }
     if is_at(signs, at, Mark::Equiv) {
-        return equiv_decl(alloc, signs, at, trail, heard, depth);
+        return equiv_decl(signs, at, trail, heard, depth);
     }
     declare(DeclarationKind::Query, signs, at, trail, heard, depth)
 }

@@ -1,13 +1,11 @@
-// Reading of groups of functions, of declarations, of each kind and one after another, and of whole files:
-// declarations, a proof block and a process.
+// Reading of declarations, of each kind and one after another, and of whole files: declarations, a proof block and a
+// process.
 #![tactic(auto)]
 
 mod blocks;
 mod choice;
 mod equivalences;
 mod file;
-mod functions;
-mod groups;
 
 pub use choice::{begins_decl, decls};
 pub use file::{Reading, read};

@@ -53,7 +53,7 @@ closes_second : (h : Pairing) (x y : ℕ) (t : Tree) (q : Parts) → paired h (g
 unfolding postorder
 closes_second h x y t q = with_makes q _ _ (simp append_assoc refl)
 
-closes_both : (h : Pairing) (x y : ℕ) (m t : Tree) (q : Parts) → paired h (grows t (grows m (waits y (waits x q)))) ≡ grows (Node (pair_of h x y) m t) q
+pub closes_both : (h : Pairing) (x y : ℕ) (m t : Tree) (q : Parts) → paired h (grows t (grows m (waits y (waits x q)))) ≡ grows (Node (pair_of h x y) m t) q
 unfolding postorder
 closes_both h x y m t q = with_makes q _ _ (simp append_assoc refl)
 
@@ -73,7 +73,7 @@ closes_branch : (l c m t : Tree) (q : Parts) → part (Over head.Branch) (part (
 unfolding postorder
 closes_branch l c m t q = with_makes q _ _ (simp append_assoc refl)
 
-closes_one : (b : ℕ × ℕ) (q : Parts) → paired pairing.Binder (part Nothing (part Nothing (both_wait b q))) ≡ grows (binders (b ∷ [])) q
+pub closes_one : (b : ℕ × ℕ) (q : Parts) → paired pairing.Binder (part Nothing (part Nothing (both_wait b q))) ≡ grows (binders (b ∷ [])) q
 unfolding postorder
 closes_one b q = with_makes q _ _ (simp append_assoc refl)
 

@@ -45,26 +45,26 @@ use Rattle.cv_parse_signature.proofs.Listed.{is_there, names_whole, one_made, pl
 use Rattle.cv_parse_signature.proofs.Says.{data_number, data_waits, number_of, option_waits, says_channels, says_constants, says_equation, says_event_decl, says_function, says_parameters, says_probability, says_query, says_type_decl}
 
 -- a row that reads declarations: what is heard by the names that wait behind it, and the parts that it makes
-pub record Told {A : Type 0} (n : ℕ) (k : DeclarationKind) (f : Phrase A) (v : A → List Declaration) (e : A → Parts → Parts) : Type 0 where
-  pub within : row_number k < row_count
-  pub says : Says n (row_number k) (row_of (row_number k)) f e
-  pub hears : (a : A) (q : Parts) → q.names ≡ [] → heard_in k (e a q).names ≡ map heard_of (v a)
+pub record Told {A : Type 0} (n r : ℕ) (hear : List ℕ → List Heard) (f : Phrase A) (v : A → List Declaration) (e : A → Parts → Parts) : Type 0 where
+  pub within : r < row_count
+  pub says : Says n r (row_of r) f e
+  pub hears : (a : A) (q : Parts) → q.names ≡ [] → hear (e a q).names ≡ map heard_of (v a)
   pub makes : (a : A) (q : Parts) → (e a q).makes ≡ q.makes ++ flat_map tree_parts (v a)
   pub whole : (ts : List Sign) (x : Found Role A) → read_in n f ts ≡ Ok x → AllByRecursion IsWhole (v x.value)
 
-told : {A : Type 0} {n : ℕ} {k : DeclarationKind} {f : Phrase A} {v : A → List Declaration} {e : A → Parts → Parts} → Told n k f v e → (all : List Sign) (at end : ℕ) (old new : Trail) (ns : List ℕ) (before after : List Heard) → EntersWith (row_number k) n all at old [] (Ok end) new ns → after ≡ before ++ heard_in k (reverse ns) → IsDeclared all old new before after (read_in n (made v f) (drop at all)) end
-told {n = n} {k = k} {f = f} {v = v} t all at end old new ns before after r h =
-    let d = enters_put n (row_number k) all at end old new ns t.within t.says r in
+pub told : {A : Type 0} {n r : ℕ} {hear : List ℕ → List Heard} {f : Phrase A} {v : A → List Declaration} {e : A → Parts → Parts} → Told n r hear f v e → (all : List Sign) (at end : ℕ) (old new : Trail) (ns : List ℕ) (before after : List Heard) → EntersWith r n all at old [] (Ok end) new ns → after ≡ before ++ hear (reverse ns) → IsDeclared all old new before after (read_in n (made v f) (drop at all)) end
+told {n = n} {r = r} {hear = hear} {v = v} t all at end old new ns before after k h =
+    let d = enters_put n r all at end old new ns t.within t.says k in
     record {
       value = v d.value;
       read = made_read v d.read;
-      heard = h ∙ ap (λ l. before ++ l) (ap (λ (q : Parts). heard_in k q.names) d.parts ∙ t.hears d.value (parts_of old []) refl);
+      heard = h ∙ ap (λ l. before ++ l) (ap (λ (q : Parts). hear q.names) d.parts ∙ t.hears d.value (parts_of old []) refl);
       makes = ap (λ (q : Parts). q.makes) d.parts ∙ t.makes d.value (parts_of old []);
       whole = t.whole (drop at all) (record { value = d.value; uses = d.read.uses; rest = drop end all }) d.read.is;
     }
 
-not_told : {A : Type 0} {n : ℕ} {k : DeclarationKind} {f : Phrase A} {v : A → List Declaration} {e : A → Parts → Parts} → Told n k f v e → (all : List Sign) (at : ℕ) (old : Trail) (x : ReadError) → Stops all x (row_in term_rows n row_count (row_number k) (work_of old [] (drop at all))) → Fails all x (read_in n (made v f) (drop at all))
-not_told {n = n} {k = k} t all at old x h = fails_bind all x _ _ (enters_fails n (row_number k) all at old x t.within t.says h)
+pub not_told : {A : Type 0} {n r : ℕ} {hear : List ℕ → List Heard} {f : Phrase A} {v : A → List Declaration} {e : A → Parts → Parts} → Told n r hear f v e → (all : List Sign) (at : ℕ) (old : Trail) (x : ReadError) → Stops all x (row_in term_rows n row_count r (work_of old [] (drop at all))) → Fails all x (read_in n (made v f) (drop at all))
+not_told {n = n} {r = r} t all at old x h = fails_bind all x _ _ (enters_fails n r all at old x t.within t.says h)
 
 -- names that wait, and their parts
 
@@ -83,16 +83,16 @@ unfolding postorder
 names_made c r [] q = sym (append-nil q.makes)
 names_made c r (x ∷ l) q = names_made c r l (name_waits x q) ∙ append_assoc q.makes (Nothing ∷ []) (flat_map tree_parts (map (plain c r) l))
 
-of_parameters : (n : ℕ) → Told n kind.Parameters (mark.Param ▸ ids (Declares AParam) ◂ mark.Dot) (map (named class.Param)) (each name_waits)
+of_parameters : (n : ℕ) → Told n 157 (heard_in kind.Parameters) (mark.Param ▸ ids (Declares AParam) ◂ mark.Dot) (map (named class.Param)) (each name_waits)
 of_parameters n = record { within = lit< tt; says = says_parameters n; hears = names_heard class.Param None; makes = names_made class.Param None; whole = λ ts x i. names_whole class.Param None x.value refl }
 
-of_channels : (n : ℕ) → Told n kind.Channels (mark.Channel ▸ ids (Declares AChannel) ◂ mark.Dot) (map (named class.Channel)) (each name_waits)
+of_channels : (n : ℕ) → Told n 159 (heard_in kind.Channels) (mark.Channel ▸ ids (Declares AChannel) ◂ mark.Dot) (map (named class.Channel)) (each name_waits)
 of_channels n = record { within = lit< tt; says = says_channels n; hears = names_heard class.Channel None; makes = names_made class.Channel None; whole = λ ts x i. names_whole class.Channel None x.value refl }
 
-of_probability : (n : ℕ) → Told n kind.Probability (mark.Proba ▸ word (Declares AProbability) ◂ mark.Dot) (λ x. named class.Proba x ∷ []) name_waits
+of_probability : (n : ℕ) → Told n 160 (heard_in kind.Probability) (mark.Proba ▸ word (Declares AProbability) ◂ mark.Dot) (λ x. named class.Proba x ∷ []) name_waits
 of_probability n = record { within = lit< tt; says = says_probability n; hears = λ x. names_heard class.Proba None (x ∷ []); makes = λ x. names_made class.Proba None (x ∷ []); whole = λ ts x i. (refl, tt) }
 
-of_constants : (n : ℕ) → Told n kind.Constants (mark.ConstWord ▸ (ids (Declares AFunction) & (mark.Colon ▸ type_name)) ◂ mark.Dot) (λ (l, T). map (constant T) l) (λ c q. waits c.1 (each name_waits c.0 q))
+of_constants : (n : ℕ) → Told n 170 (heard_in kind.Constants) (mark.ConstWord ▸ (ids (Declares AFunction) & (mark.Colon ▸ type_name)) ◂ mark.Dot) (λ (l, T). map (constant T) l) (λ c q. waits c.1 (each name_waits c.0 q))
 of_constants n = record {
   within = lit< tt;
   says = says_constants n;
@@ -135,7 +135,7 @@ type_made : (x : ℕ) (l : List TypeOption) (q : Parts) → (each option_waits l
 unfolding postorder
 type_made x l q = ap (λ m. m ++ Nothing ∷ []) (options_make l (waits x q))
 
-of_type : (n : ℕ) → Told n kind.TypeName (mark.TypeWord ▸ (word (Declares AType) & type_options) ◂ mark.Dot) (λ (x, l). named (class_of l) x ∷ []) (λ c q. part Nothing (each option_waits c.1 (waits c.0 q)))
+of_type : (n : ℕ) → Told n 168 (heard_in kind.TypeName) (mark.TypeWord ▸ (word (Declares AType) & type_options) ◂ mark.Dot) (λ (x, l). named (class_of l) x ∷ []) (λ c q. part Nothing (each option_waits c.1 (waits c.0 q)))
 of_type n = record {
   within = lit< tt;
   says = says_type_decl n;
@@ -153,7 +153,7 @@ data_is : (d : Bool) → (data_number d == 1) ≡ d
 data_is true = refl
 data_is false = refl
 
-of_function : (n : ℕ) → Told n kind.Function (mark.Fun ▸ (word (Declares AFunction) & (type_list & (mark.Colon ▸ (type_name & data_option)))) ◂ mark.Dot) (λ (f, (l, (T, d))). Named f (class.Fun d) l (Some T) ∷ []) (λ c q. data_waits c.1.1.1 (waits c.1.1.0 (grows c.1.0 (waits c.0 q))))
+of_function : (n : ℕ) → Told n 176 (heard_in kind.Function) (mark.Fun ▸ (word (Declares AFunction) & (type_list & (mark.Colon ▸ (type_name & data_option)))) ◂ mark.Dot) (λ (f, (l, (T, d))). Named f (class.Fun d) l (Some T) ∷ []) (λ c q. data_waits c.1.1.1 (waits c.1.1.0 (grows c.1.0 (waits c.0 q))))
 of_function n = record {
   within = lit< tt;
   says = says_function n;
@@ -162,7 +162,7 @@ of_function n = record {
   whole = λ ts x i. (refl, tt);
 }
 
-of_event : (n : ℕ) → Told n kind.Event (mark.EventWord ▸ (word (Declares AnEvent) & listed type_list) ◂ mark.Dot) (λ (e, l). Named e class.Event l None ∷ []) (λ c q. grows c.1 (waits c.0 q))
+of_event : (n : ℕ) → Told n 177 (heard_in kind.Event) (mark.EventWord ▸ (word (Declares AnEvent) & listed type_list) ◂ mark.Dot) (λ (e, l). Named e class.Event l None ∷ []) (λ c q. grows c.1 (waits c.0 q))
 of_event n = record {
   within = lit< tt;
   says = says_event_decl n;
@@ -173,7 +173,7 @@ of_event n = record {
 
 -- equations and queries
 
-of_equation : (n : ℕ) → Told n kind.Equation (mark.EquationWord ▸ inside InEquation (forall_vars & term) ◂ mark.Dot) (λ (l, t). Equation (Node Forall l t) ∷ []) (λ c. grows (Node Forall c.0 c.1))
+of_equation : (n : ℕ) → Told n 152 (heard_in kind.Equation) (mark.EquationWord ▸ inside InEquation (forall_vars & term) ◂ mark.Dot) (λ (l, t). Equation (Node Forall l t) ∷ []) (λ c. grows (Node Forall c.0 c.1))
 of_equation n = record {
   within = lit< tt;
   says = says_equation n;
@@ -182,7 +182,7 @@ of_equation n = record {
   whole = λ ts x i. (is_there Forall x.value.0 x.value.1, tt);
 }
 
-of_query : (n : ℕ) → Told n kind.Query (mark.QueryWord ▸ inside InQuery (either secrecy correspondence) ◂ mark.Dot) (λ t. Query t ∷ []) grows
+of_query : (n : ℕ) → Told n 189 (heard_in kind.Query) (mark.QueryWord ▸ inside InQuery (either secrecy correspondence) ◂ mark.Dot) (λ t. Query t ∷ []) grows
 of_query n = record {
   within = lit< tt;
   says = says_query n;

@@ -1,3 +1,5 @@
+pub mod Spines
+pub mod Listing
 pub mod Faults
 pub mod Correspondences
 pub mod Listed

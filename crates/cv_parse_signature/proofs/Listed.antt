@@ -9,8 +9,7 @@ use Rattle.cv_syntax_trees.specs.Declarations.{Declaration, Named}
 use Rattle.cv_syntax_trees.specs.Tree.{Tree, Empty, Node}
 use Rattle.cv_parse_notation.specs.declared.sign.Sign.{Sign}
 use Rattle.cv_parse_notation.specs.declared.sign.Mark.{Mark}
-use Rattle.cv_parse_notation.specs.declared.sign.Mark.TheVariants as mark
-use Rattle.cv_parse_notation.specs.Form.{level, made, ◌▸◌, ◌◂◌}
+use Rattle.cv_parse_notation.specs.Form.{level, ◌▸◌, ◌◂◌}
 use Rattle.cv_parse_notation.specs.Spells.{is_mark, next_is}
 use Rattle.cv_parse_notation.specs.Reads.{Read, found, no_level, no_syntax, pick}
 use Rattle.cv_parse_grammar.specs.declared.role.Role.{Role}
@@ -21,10 +20,6 @@ use Rattle.cv_parse_terms.proofs.Levels.{room}
 use Rattle.cv_parse_terms.proofs.Chains.{both_sign, first_read, made_read, sign_both, stands}
 use Rattle.cv_parse_signature.specs.declared.heard.Heard.TheVariants as heard
 use Rattle.cv_parse_signature.specs.Declares.{IsWhole, heard_of, is_of_name, parts_of}
-
--- a word, a phrase and a dot
-pub ended_read : {A B : Type 0} {all : List Sign} {k l end : ℕ} {u v : List NameUse} {a : A} (n at : ℕ) (m : Mark) (g : A → B) (f : Phrase A) → Stands all m at k → IsRead all u v (read_in n f (drop k all)) a l → Stands all mark.Dot l end → IsRead all u v (read_in n (made g (m ▸ f ◂ mark.Dot)) (drop at all)) (g a) end
-ended_read {k = k} {end = end} n at m g f s d e = made_read g (made_read (λ p. p.1) (sign_both m at k (read_in n (f ◂ mark.Dot)) s (made_read (λ p. p.0) (both_sign mark.Dot end d e))))
 
 -- names of one class, without arguments
 abbrev pub plain : Class → Option ℕ → ℕ → Declaration

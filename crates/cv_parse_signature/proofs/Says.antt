@@ -50,7 +50,7 @@ choice_says {n = n} {f = f} {g = g} {h = h} {e = e} s = record {
 }
 
 -- a phrase with names of its own
-inside_says : {A : Type 0} {n b : ℕ} {f : Phrase A} {e : A → Parts → Parts} (r : Region) (ps : List Piece) → Says n b ps f e → Says n b (piece.Note (Enters r) ∷ (ps ++ piece.Note Leaves ∷ [])) (inside r f) e
+pub inside_says : {A : Type 0} {n b : ℕ} {f : Phrase A} {e : A → Parts → Parts} (r : Region) (ps : List Piece) → Says n b ps f e → Says n b (piece.Note (Enters r) ∷ (ps ++ piece.Note Leaves ∷ [])) (inside r f) e
 inside_says {n = n} {b = b} {e = e} r ps s =
     made_says (λ (m, (a, k)). a) e
     (both_says (piece.Note (Enters r) ∷ []) (ps ++ piece.Note Leaves ∷ []) (note_says n b (Enters r)) (both_says ps (piece.Note Leaves ∷ []) s (note_says n b Leaves)))

@@ -1,3 +1,4 @@
 pub mod Declares
 pub mod Sides
 pub mod Kinds
+pub mod Spines

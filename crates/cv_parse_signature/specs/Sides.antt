@@ -1,4 +1,4 @@
--- What the readers of equivalences and collisions give. This profile's own.
+-- What the readers of collisions give. This profile's own.
 use Rattle.std.specs.Prelude.{ℕ, ◌≡◌, List, [], ◌∷◌, ◌++◌, Result, Ok, Err}
 use Rattle.std.specs.declared.vec.Vec.{Vec}
 use Rattle.std.specs.declared.alloc.Global.{Global}
@@ -15,17 +15,6 @@ use Rattle.cv_parse_terms.specs.declared.trail.NameUse.{NameUse}
 use Rattle.cv_parse_terms.specs.declared.trail.Trail.{Trail}
 use Rattle.cv_parse_terms.specs.declared.lookahead.ReadError.{ReadError}
 use Rattle.cv_parse_terms.specs.Gives.{Fails, IsRead}
-
--- Two sides were read, with a probability between them, and made one after another.
-pub record AreSides (all : List Sign) (old new : Trail) (reading : Read Role (Tree × (ℕ × Tree))) (bound end : ℕ) : Type 0 where
-  pub left : Tree
-  pub right : Tree
-  pub read : IsRead all old.uses.items new.uses.items reading (left, (bound, right)) end
-  pub makes : new.makes.items ≡ old.makes.items ++ (postorder left ++ postorder right)
-
-abbrev pub MakesSides : List Sign → Trail → Trail → Result (ℕ × ℕ) ReadError → Read Role (Tree × (ℕ × Tree)) → Type 0
-MakesSides all old new (Ok x) read = AreSides all old new read x.0 x.1
-MakesSides all old new (Err e) read = Fails all e read
 
 -- a list of binders was read
 abbrev pub GivesBinders : List Sign → List NameUse → List NameUse → Result (Vec (ℕ × ℕ) Global × ℕ) ReadError → Read Role Tree → Type 0

@@ -9,14 +9,13 @@ ghost use Rattle.cv_parse_terms.specs.Gives.{Gives, Makes, read_in};
 ghost use Rattle.cv_parse_signature.specs.Declares.{Declares};
 ghost use Rattle.cv_parse_signature.specs.Sides.{GivesBinders, MakesTerms, parts_before, parts_behind, parts_of_side};
 
+use crate::binders::make_binders;
 use crate::heard::Heard;
 use crate::probabilities::probability;
+use crate::variables::{typed, typed_row};
 use cv_parse_grammar::{Asked, Region, Role};
 use cv_parse_notation::{Mark, Sign};
-use cv_parse_terms::{
-    NameUse, ReadError, Trail, expect, is_at, make_binders, note, term, typed, typed_row, unnamed,
-    word,
-};
+use cv_parse_terms::{NameUse, ReadError, Trail, expect, is_at, note, term, unnamed, word};
 use cv_syntax::{Head, Make};
 use std::alloc::{AllocError, Global};
 

@@ -3,12 +3,13 @@
 // groups.
 #![tactic(auto)]
 
+mod binders;
 mod collisions;
 mod declarations;
 mod heard;
 mod probabilities;
+mod variables;
 
 pub use collisions::collision_decl;
 pub use declarations::{DeclarationKind, declare};
 pub use heard::Heard;
-pub use probabilities::probability;

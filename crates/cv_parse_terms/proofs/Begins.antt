@@ -3,7 +3,7 @@ use Rattle.std.proofs.Common.{◌≡◌, List, [], ◌∷◌, ◌||◌, refl}
 use Rattle.cv_parse_notation.specs.declared.sign.Sign.{Sign}
 use Rattle.cv_parse_notation.specs.declared.sign.Mark.TheVariants as mark
 use Rattle.cv_parse_notation.specs.Spells.{next_is, is_mark, is_word, is_find, is_zero}
-use Rattle.cv_parse_grammar.specs.Phrases.{Body, Input, Output, ProcessBranch, Term}
+use Rattle.cv_parse_grammar.specs.Phrases.{Body, Input, Output, ProcessBranch, RightRest, Term}
 use Rattle.cv_parse_grammar.specs.Rules.{heads}
 
 pub term_begins : (ts : List Sign) → (next_is is_word ts || (next_is (is_mark mark.Not) ts || (next_is (is_mark mark.True) ts || (next_is (is_mark mark.False) ts || next_is (is_mark mark.Open) ts)))) ≡ next_is (heads Term) ts
@@ -26,3 +26,7 @@ body_begins (t ∷ ts) = refl
 pub branch_begins : (ts : List Sign) → (next_is is_word ts || next_is (is_mark mark.Suchthat) ts) ≡ next_is (heads ProcessBranch) ts
 branch_begins [] = refl
 branch_begins (t ∷ ts) = refl
+
+pub rest_begins : (ts : List Sign) → (next_is (is_mark mark.New) ts || next_is (is_mark mark.Open) ts) ≡ next_is (heads RightRest) ts
+rest_begins [] = refl
+rest_begins (t ∷ ts) = refl

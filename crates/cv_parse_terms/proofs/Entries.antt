@@ -8,8 +8,7 @@ use Rattle.cv_parse_notation.specs.declared.sign.Sign.{Sign}
 use Rattle.cv_parse_notation.specs.declared.sign.Mark.TheVariants as mark
 use Rattle.cv_parse_notation.specs.Reads.{Fault, Read, Syntax, Nesting}
 use Rattle.cv_parse_grammar.specs.declared.role.Role.{Role}
-use Rattle.cv_parse_grammar.specs.declared.role.Role.TheVariants.{BindsLocal}
-use Rattle.cv_parse_grammar.specs.Phrases.{Phrase, Term, Subscript, OneCell, var_list}
+use Rattle.cv_parse_grammar.specs.Phrases.{Phrase, Term, Subscript, OneCell}
 use Rattle.cv_parse_grammar.specs.Terms.{cell, term, terms}
 use Rattle.cv_parse_terms.specs.declared.lookahead.ReadError.{ReadError}
 use Rattle.cv_parse_terms.specs.declared.lookahead.ReadError.TheVariants as error
@@ -21,7 +20,7 @@ use Rattle.cv_parse_terms.specs.Tables.{Parts, Runs, Stops, Work, parts_of, put,
 use Rattle.cv_parse_terms.specs.TermRows.{Enters, EntersWith, row_count, row_of, term_rows}
 use Rattle.cv_parse_terms.proofs.Walks.{row_law}
 use Rattle.cv_parse_terms.proofs.Saying.{Says, adds, deeper_says}
-use Rattle.cv_parse_terms.proofs.TermSays.{deep, says_cell, says_inner, says_inner_cell, says_local_list, says_term, says_terms}
+use Rattle.cv_parse_terms.proofs.TermSays.{deep, says_cell, says_inner, says_inner_cell, says_term, says_terms}
 
 -- what was put is what was read, with its parts
 
@@ -104,7 +103,4 @@ enters_cell n all at old new result h = enters_says postorder n 41 all at old ne
 pub enters_inner_cell : (n : ℕ) (all : List Sign) (at : ℕ) (old new : Trail) (result : Result ℕ ReadError) → Enters 42 n all at old result new → Makes postorder all old new result (below n OneCell (drop at all))
 enters_inner_cell n all at old new result h = enters_says postorder n 42 all at old new result (lit< tt) (says_inner_cell n (deep n)) h
 
-pub enters_local_variables : (n : ℕ) (all : List Sign) (at : ℕ) (old new : Trail) (result : Result ℕ ReadError) → Enters 149 n all at old result new → Makes postorder all old new result (read_in n (var_list BindsLocal) (drop at all))
-enters_local_variables n all at old new result h = enters_says postorder n 149 all at old new result (lit< tt) (says_local_list n) h
-
-pub ruleset entries = (enters_term, enters_inner_term, enters_terms, enters_inner_subscript, enters_cell, enters_inner_cell, enters_local_variables)
+pub ruleset entries = (enters_term, enters_inner_term, enters_terms, enters_inner_subscript, enters_cell, enters_inner_cell)

@@ -4,9 +4,7 @@ pub mod Made
 pub mod Places
 pub mod Rows
 pub mod Begins
-pub mod Listing
 pub mod Passing
-pub mod Openings
 pub mod Walks
 pub mod Saying
 pub mod TermSays

@@ -1,13 +1,12 @@
 -- Places in the list of tokens, and readers one after another.
-use Rattle.std.proofs.Common.{◌≡◌, ℕ, zero, suc, ◌+◌, ◌-◌, ◌<◌, ◌≤◌, Bool, true, false, List, [], ◌∷◌, ◌++◌, length, drop, refl, ap, sym, ◌∙◌, arith, subst, get_or, length-drop, append-nil, not, ◌||◌, ◌⊎◌, inl, inr, Err, Option, Some, None, is_some}
+use Rattle.std.proofs.Common.{◌≡◌, ℕ, zero, suc, ◌+◌, ◌-◌, ◌<◌, ◌≤◌, Bool, true, false, List, [], ◌∷◌, ◌++◌, length, drop, refl, ap, sym, ◌∙◌, arith, subst, get_or, length-drop, append-nil, Err, Option, Some, None, is_some}
 use Rattle.std.proofs.lemmas.List.{map-append}
 use Rattle.cv_parse_notation.specs.declared.script.ScriptWord.{ScriptWord}
 use Rattle.cv_parse_notation.specs.declared.sign.Sign.{Sign}
 use Rattle.cv_parse_notation.specs.declared.sign.Sign.TheVariants as token
 use Rattle.cv_parse_notation.specs.declared.sign.Mark.{Mark}
-use Rattle.cv_parse_notation.specs.declared.sign.Mark.TheVariants as mark
 use Rattle.cv_parse_notation.specs.Spells.{Kind, kind_of, next_is, is_mark, is_script_word, is_word, is_zero, is_find, is_unnamed, used}
-use Rattle.cv_parse_notation.specs.Reads.{Read, Found, Syntax, ◌>>=◌, found, pick, no_syntax, read_sign, read_script_word, read_word, read_number, read_nought, read_find, read_unnamed, read_other}
+use Rattle.cv_parse_notation.specs.Reads.{Read, Found, Syntax, ◌>>=◌, found, pick, no_syntax, read_sign, read_script_word, read_word, read_number, read_nought, read_find, read_unnamed}
 use Rattle.cv_parse_terms.specs.declared.lookahead.ReadError.{ReadError}
 use Rattle.cv_parse_terms.specs.declared.lookahead.ReadError.TheVariants as error
 use Rattle.cv_parse_grammar.specs.declared.role.Role.{Role}
@@ -90,7 +89,7 @@ unnamed_stands (token.Number (suc n) ∷ ts) = refl
 unnamed_stands (t ∷ ts) = refl
 
 -- a fault at a place
-fault_at : {A : Type 0} (at : ℕ) (all : List Sign) (r : Read Role A) → at ≤ length all → r ≡ Err (Syntax (length (drop at all))) → Fails all (error.Syntax at) r
+pub fault_at : {A : Type 0} (at : ℕ) (all : List Sign) (r : Read Role A) → at ≤ length all → r ≡ Err (Syntax (length (drop at all))) → Fails all (error.Syntax at) r
 fault_at at all r l e = (l, e ∙ ap (λ n. let r : Read Role _ = Err (Syntax n) in r) (length-drop at all))
 
 -- a use of a name that is noted
@@ -236,48 +235,6 @@ zero_gives at all h = record {
 pub zero_stops : (at : ℕ) (all : List Sign) → at ≤ length all → next_is is_zero (drop at all) ≡ false → Fails all (error.Syntax at) (read_nought (drop at all))
 zero_stops at all l h = fault_at at all (read_nought (drop at all)) l (zero_fails (drop at all) h)
 
--- a token that is no brace
-
-no_brace : (a b : Bool) → a ≡ false → b ≡ false → not (a || b) ≡ true
-no_brace false false h k = refl
-no_brace true b h k = absurd (cc)
-no_brace false true h k = absurd (cc)
-
-some_brace : (a b : Bool) → (a ≡ true) ⊎ (b ≡ true) → not (a || b) ≡ false
-some_brace true b h = refl
-some_brace false true h = refl
-some_brace false false (inl h) = absurd (cc)
-some_brace false false (inr h) = absurd (cc)
-
-other_read : (ts : List Sign) → 0 < length ts → next_is (is_mark mark.OpenBrace) ts ≡ false → next_is (is_mark mark.CloseBrace) ts ≡ false → read_other {R = Role} ts ≡ found tt [] (drop 1 ts)
-other_read [] l h k = absurd (omega arith)
-other_read (t ∷ ts) l h k = ap (λ b. pick b (λ us. found tt [] ts) no_syntax (t ∷ ts)) (no_brace (is_mark mark.OpenBrace (kind_of t)) (is_mark mark.CloseBrace (kind_of t)) h k)
-
-other_fails : (ts : List Sign) → (next_is (is_mark mark.OpenBrace) ts ≡ true) ⊎ (next_is (is_mark mark.CloseBrace) ts ≡ true) → read_other {R = Role} ts ≡ Err (Syntax (length ts))
-other_fails [] h = refl
-other_fails (t ∷ ts) h = ap (λ b. pick b (λ us. found tt [] ts) no_syntax (t ∷ ts)) (some_brace (is_mark mark.OpenBrace (kind_of t)) (is_mark mark.CloseBrace (kind_of t)) h)
-
-other_ends : (at : ℕ) (all : List Sign) → length all ≤ at → read_other {R = Role} (drop at all) ≡ Err (Syntax (length (drop at all)))
-other_ends zero [] h = refl
-other_ends (suc n) [] h = refl
-other_ends zero (t ∷ ts) h = absurd (omega arith)
-other_ends (suc n) (t ∷ ts) h = other_ends n ts (omega arith)
-
-pub other_gives : (at : ℕ) (all : List Sign) → at < length all → next_is (is_mark mark.OpenBrace) (drop at all) ≡ false → next_is (is_mark mark.CloseBrace) (drop at all) ≡ false → IsPlain all (read_other (drop at all)) tt (at + 1)
-other_gives at all l h k = record {
-  is = other_read (drop at all) (let e = length-drop at all in omega arith) h k ∙ ap (λ ts. found tt [] ts) (drop_one at all);
-  within = omega arith;
-}
-
-pub other_past : (at : ℕ) (all : List Sign) → at ≤ length all → length all ≤ at → Fails all (error.Syntax at) (read_other (drop at all))
-other_past at all l h = fault_at at all (read_other (drop at all)) l (other_ends at all h)
-
-pub brace_opens : (at : ℕ) (all : List Sign) → at ≤ length all → next_is (is_mark mark.OpenBrace) (drop at all) ≡ true → Fails all (error.Syntax at) (read_other (drop at all))
-brace_opens at all l h = fault_at at all (read_other (drop at all)) l (other_fails (drop at all) (inl h))
-
-pub brace_closes : (at : ℕ) (all : List Sign) → at ≤ length all → next_is (is_mark mark.CloseBrace) (drop at all) ≡ true → Fails all (error.Syntax at) (read_other (drop at all))
-brace_closes at all l h = fault_at at all (read_other (drop at all)) l (other_fails (drop at all) (inr h))
-
 -- readers one after another
 
 pub fails_bind : {A B : Type 0} (all : List Sign) (e : ReadError) (r : Read Role A) (f : Found Role A → Read Role B) → Fails all e r → Fails all e (r >>= f)
@@ -303,4 +260,4 @@ plain_read us d = record { uses = []; is = d.is; noted = sym (append-nil (uses_o
 pub ruleset places = (past_end, sign_gives, sign_stops, value_next, no_value_past, word_gives, word_stops, fails_bind, fails_after_sign, read_after_sign, fails_behind)
 
 -- for the readers of single tokens
-pub ruleset tokens = (past_end, value_next, no_value_past, word_stands, find_stands, unnamed_stands, use_noted, word_gives, word_stops, script_word_gives, script_word_stops, unnamed_gives, unnamed_stops, note_gives, number_gives, number_stops, find_gives, find_stops, zero_gives, zero_stops, other_gives, other_past, brace_opens, brace_closes)
+pub ruleset tokens = (past_end, value_next, no_value_past, word_stands, find_stands, unnamed_stands, use_noted, word_gives, word_stops, script_word_gives, script_word_stops, unnamed_gives, unnamed_stops, note_gives, number_gives, number_stops, find_gives, find_stops, zero_gives, zero_stops)

@@ -1,6 +1,5 @@
 -- Reading many, one after another.
-use Rattle.std.proofs.Common.{◌≡◌, ℕ, zero, suc, ◌+◌, ◌-◌, ◌<◌, ◌≤◌, true, false, List, [], ◌∷◌, ◌++◌, length, drop, refl, ap, ap₂, sym, ◌∙◌, arith, subst, Err, Ok, append_assoc, append-nil, length-append, length-drop, flat_map}
-use Rattle.cv_syntax_trees.specs.Tree.{Tree}
+use Rattle.std.proofs.Common.{◌≡◌, ℕ, zero, suc, ◌+◌, ◌-◌, ◌<◌, ◌≤◌, true, false, List, [], ◌∷◌, ◌++◌, length, drop, refl, ap, ap₂, sym, ◌∙◌, arith, subst, Err, Ok, append_assoc, append-nil, length-drop}
 use Rattle.cv_parse_notation.specs.declared.sign.Sign.{Sign}
 use Rattle.cv_parse_notation.specs.declared.sign.Mark.{Mark}
 use Rattle.cv_parse_notation.specs.Form.{◌▸◌, many}
@@ -14,11 +13,9 @@ use Rattle.cv_parse_terms.specs.declared.lookahead.ReadError.{ReadError}
 use Rattle.cv_parse_terms.specs.declared.lookahead.ReadError.TheVariants as error
 use Rattle.cv_parse_grammar.specs.declared.role.Role.{Role}
 use Rattle.cv_parse_terms.specs.declared.trail.NameUse.{NameUse}
-use Rattle.cv_parse_terms.specs.declared.trail.Trail.{Trail}
-use Rattle.cv_syntax.specs.Postorder.{postorder}
 use Rattle.cv_parse_grammar.specs.Phrases.{Phrase, row}
 use Rattle.cv_parse_grammar.specs.Rules.{rule, heads, tails}
-use Rattle.cv_parse_terms.specs.Gives.{Fails, IsRead, IsMade, IsRow, uses_of, read_in}
+use Rattle.cv_parse_terms.specs.Gives.{Fails, IsRead, uses_of, read_in}
 use Rattle.cv_parse_grammar.proofs.Fitting.{all_fit}
 
 -- what is read takes a token
@@ -105,67 +102,6 @@ row_begins n m f all u v at a p d =
     }
 
 pub ruleset rows = (row_begins, many_begins, many_goes, many_done, many_stops)
-
--- trees so far, with their parts; each took a token at least
-pub record TreesSoFar (n : ℕ) (f : Phrase Tree) (all : List Sign) (old new : Trail) (whole : Read Role (List Tree)) (count place : ℕ) : Type 0 where
-  pub value : List Tree
-  pub read : SoFar n f all old.uses.items new.uses.items whole value place
-  pub makes : new.makes.items ≡ old.makes.items ++ flat_map postorder value
-  pub many : count ≡ length value
-  pub few : count ≤ place
-
-flat_map_last : (xs : List Tree) (t : Tree) → flat_map postorder (xs ++ t ∷ []) ≡ flat_map postorder xs ++ postorder t
-flat_map_last [] t = append-nil (postorder t)
-flat_map_last (x ∷ xs) t = ap (λ l. postorder x ++ l) (flat_map_last xs t) ∙ sym (append_assoc (postorder x) (flat_map postorder xs) (postorder t))
-
-pub trees_go : (n : ℕ) (f : Phrase Tree) → is_steady f ≡ true → may_vanish f ≡ false → (all : List Sign) (u v w : Trail) (whole : Read Role (List Tree)) (count p q : ℕ) → TreesSoFar n f all u v whole count p → next_is (starts heads f) (drop p all) ≡ true → IsMade postorder all v w (read_in n f (drop p all)) q → TreesSoFar n f all u w whole (count + 1) q
-trees_go n f s v all a b c whole count p q so h d = record {
-  value = so.value ++ d.value ∷ [];
-  read = many_goes n f s v all a.uses.items b.uses.items c.uses.items whole so.value _ p d.value q so.read h d.read refl;
-  makes = d.makes ∙ (ap (λ l. l ++ postorder d.value) so.makes ∙ (append_assoc a.makes.items (flat_map postorder so.value) (postorder d.value) ∙ ap (λ l. a.makes.items ++ l) (sym (flat_map_last so.value d.value))));
-  many = let l = length-append so.value (d.value ∷ []) in let m = so.many in omega arith;
-  few =
-      let less = reading_shortens n f s v (drop p all) _ d.read.is in
-      let x = length-drop p all in
-      let y = length-drop q all in
-      let z = so.few in
-      let i = so.read.within in
-      let j = d.read.within in
-      omega arith;
-}
-
-pub trees_begin : (n : ℕ) (m : Mark) (f : Phrase Tree) → is_steady f ≡ true → may_vanish f ≡ false → (all : List Sign) (u v : Trail) (at p : ℕ) → at ≤ length all → IsMade postorder all u v (read_in n f (drop at all)) p → TreesSoFar n (m ▸ f) all u v (read_in n (row m f) (drop at all)) 1 p
-trees_begin n m f s v all a b at p h d = record {
-  value = d.value ∷ [];
-  read = row_begins n m f all a.uses.items b.uses.items at d.value p d.read;
-  makes = d.makes ∙ ap (λ l. a.makes.items ++ l) (sym (append-nil (postorder d.value)));
-  many = refl;
-  few =
-      let less = reading_shortens n f s v (drop at all) _ d.read.is in
-      let x = length-drop at all in
-      let y = length-drop p all in
-      let j = d.read.within in
-      omega arith;
-}
-
-pub trees_done : (n : ℕ) (f : Phrase Tree) → is_steady f ≡ true → may_vanish f ≡ false → (all : List Sign) (u v : Trail) (whole : Read Role (List Tree)) (count place : ℕ) → TreesSoFar n f all u v whole count place → next_is (starts heads f) (drop place all) ≡ false → IsRow all u v whole count place
-trees_done n f s v all a b whole count place so h = record {
-  value = so.value;
-  read = many_done n f s v all a.uses.items b.uses.items whole so.value place so.read h;
-  makes = so.makes;
-  many = so.many;
-}
-
--- reading goes on
-pub place_grows : (n : ℕ) (f : Phrase Tree) → is_steady f ≡ true → may_vanish f ≡ false → (all : List Sign) (u v : Trail) (p q : ℕ) → p ≤ length all → IsMade postorder all u v (read_in n f (drop p all)) q → length all - q < length all - p
-place_grows n f s v all a b p q h d =
-    let less = reading_shortens n f s v (drop p all) _ d.read.is in
-    let x = length-drop p all in
-    let y = length-drop q all in
-    omega arith
-
-pub mapped_read : {A B : Type 0} (all : List Sign) (u v : List NameUse) (r : Read Role A) (f : A → B) (a : A) (end : ℕ) → IsRead all u v r a end → IsRead all u v (r >>= mapped f) (f a) end
-mapped_read all u v r f a end d = record { uses = d.uses; is = ap (λ x. x >>= mapped f) d.is; noted = d.noted; within = d.within }
 
 pub read_grows : {A : Type 0} (n : ℕ) (f : Phrase A) → is_steady f ≡ true → may_vanish f ≡ false → (all : List Sign) (u v : List NameUse) (p q : ℕ) (a : A) → p ≤ length all → IsRead all u v (read_in n f (drop p all)) a q → length all - q < length all - p
 read_grows n f s v all a b p q x h d =

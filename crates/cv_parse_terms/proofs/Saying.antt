@@ -24,7 +24,7 @@ use Rattle.cv_parse_terms.specs.declared.piece.Closing.TheVariants as closing
 use Rattle.cv_parse_terms.specs.declared.piece.Piece.{Piece}
 use Rattle.cv_parse_terms.specs.declared.piece.Piece.TheVariants as piece
 use Rattle.cv_parse_terms.specs.Gives.{positive, below, read_in}
-use Rattle.cv_parse_terms.specs.Tables.{Parts, Work, Step, and_then, begins, below_step, changed, chosen, closed, instead, made_no_part, more, named, no_room, paired, part, piece_in, pieces_in, pieces_step, put, refused, row_in, waits}
+use Rattle.cv_parse_terms.specs.Tables.{Parts, Work, Step, and_then, before, begins, below_step, bounds, changed, chosen, closed, instead, made_no_part, more, named, no_room, paired, part, piece_in, pieces_in, pieces_step, put, refused, row_in, waits}
 use Rattle.cv_parse_terms.specs.TermRows.{row_of, term_rows}
 use Rattle.cv_parse_terms.proofs.Walks.{row_law}
 
@@ -141,6 +141,12 @@ head_behind h ps s = changes (named h) (piece.Named h) ps (λ w. refl) s
 
 pub pair_behind : {A : Type 0} {n b : ℕ} {f : Phrase A} {e : A → Parts → Parts} (h : Pairing) (ps : List Piece) → Says n b ps f e → Says n b (ps ++ piece.Paired h ∷ []) f (λ a q. paired h (e a q))
 pair_behind h ps s = changes (paired h) (piece.Paired h) ps (λ w. refl) s
+
+pub before_behind : {A : Type 0} {n b : ℕ} {f : Phrase A} {e : A → Parts → Parts} (ps : List Piece) → Says n b ps f e → Says n b (ps ++ piece.Before ∷ []) f (λ a q. before (e a q))
+before_behind ps s = changes before piece.Before ps (λ w. refl) s
+
+pub bounds_behind : {A : Type 0} {n b : ℕ} {f : Phrase A} {e : A → Parts → Parts} (ps : List Piece) → Says n b ps f e → Says n b (ps ++ piece.Bounds ∷ []) f (λ a q. bounds (e a q))
+bounds_behind ps s = changes bounds piece.Bounds ps (λ w. refl) s
 
 pub value_behind : {A : Type 0} {n b : ℕ} {f : Phrase A} {e : A → Parts → Parts} (x : ℕ) (ps : List Piece) → Says n b ps f e → Says n b (ps ++ piece.Value x ∷ []) f (λ a q. waits x (e a q))
 value_behind x ps s = changes (waits x) (piece.Value x) ps (λ w. refl) s
@@ -270,6 +276,16 @@ some_says b c m r d h k s = made_says (λ (a, l). a ∷ l) d (items_says b false
 
 pub list_says : {A : Type 0} {n : ℕ} {f : Phrase A} {e : A → Parts → Parts} (b : ℕ) (c : Closing) (m : Mark) (r : ℕ) (t : List A → Tree) → r < b → ((l : List A) (q : Parts) → closed c (length l) (each e l q) ≡ grows (t l) q) → Says n r (row_of r) f e → Says n b (piece.List c m r ∷ []) (made t (row m f)) grows
 list_says b c m r t h k s = made_says t grows (some_says b c m r (λ l. grows (t l)) h k s)
+
+-- nothing, or others behind a symbol
+pub many_says : {A : Type 0} {n : ℕ} {f : Phrase A} {e : A → Parts → Parts} (b : ℕ) (near : Bool) (c : Closing) (m : Mark) (r : ℕ) (d : List A → Parts → Parts) → r < b → ((l : List A) (q : Parts) → closed c (length l) (each e l q) ≡ d l q) → Says n r (row_of r) f e → Says n b (piece.Many c m r ∷ []) (many near (m ▸ f)) d
+many_says {A} {n = n} {f = f} {e = e} b near c m r d h k s = same_says d closes (record {
+  law = λ w. then_nothing (more c m (row_in term_rows n b r) (length w.rest) 0 w) ∙ more_says n b c m r f e (λ v. row_law term_rows n b r v h ∙ s.law v) (length w.rest) 0 w;
+}) where
+  closes : (l : List A) (q : Parts) → listed_parts c e 0 l q ≡ d l q
+  closes l q =
+      let i : length l + 0 ≡ length l = omega arith in
+      ap (λ j. closed c j (each e l q)) i ∙ k l q
 
 -- lists of trees, of pairs of names, and of names
 

@@ -1,10 +1,11 @@
 -- Steps over the tokens, as the code takes them.
-use Rattle.std.proofs.Common.{◌≡◌, ℕ, zero, suc, ◌+◌, ◌-◌, ◌<◌, ◌≤◌, Bool, true, false, List, [], ◌∷◌, ◌++◌, length, drop, refl, ap, ap₂, sym, ◌∙◌, arith, subst, append-nil, reverse, length-drop, get_or, slice_index_or, eqb, eqb-true, Option, Some, None, Result, Ok, Err, IfOk, IfErr, IsErrAnd}
-use Rattle.std.specs.Prelude.{MatchOption, option_to_list, unwrap_or}
+use Rattle.std.proofs.Common.{◌≡◌, ℕ, zero, suc, ◌+◌, ◌-◌, ◌<◌, ◌≤◌, Bool, true, false, List, [], ◌∷◌, ◌++◌, length, drop, refl, ap, ap₂, sym, ◌∙◌, arith, subst, append-nil, append_assoc, reverse, length-drop, get_or, slice_index_or, eqb, eqb-true, Option, Some, None, Result, Ok, Err, IfOk, IfErr, IsErrAnd}
+use Rattle.std.specs.Prelude.{replicate, MatchOption, option_to_list, unwrap_or}
 use Rattle.std.proofs.lemmas.Bool.{eqb-false}
 use Rattle.std.proofs.lemmas.List.{length-map, reverse-append}
 use Rattle.std.specs.Borrow.{Bor}
-use Rattle.cv_syntax.specs.declared.make.Make.TheVariants.{Over}
+use Rattle.cv_syntax.specs.declared.make.Make.{Make}
+use Rattle.cv_syntax.specs.declared.make.Make.TheVariants.{Nothing, Over}
 use Rattle.cv_syntax_trees.specs.declared.head.Head.{Head}
 use Rattle.cv_parse_notation.specs.declared.sign.Sign.{Sign}
 use Rattle.cv_parse_notation.specs.declared.sign.Mark.{Mark}
@@ -21,7 +22,7 @@ use Rattle.cv_parse_terms.specs.declared.piece.Closing.{Closing}
 use Rattle.cv_parse_terms.specs.declared.piece.Piece.{Piece}
 use Rattle.cv_parse_terms.specs.declared.piece.Piece.TheVariants as node
 use Rattle.cv_parse_terms.specs.Gives.{Fails, IsPlain, IsRead, Passes, Shallow, Stands, positive, read_note, uses_of}
-use Rattle.cv_parse_terms.specs.Tables.{Parts, Work, Step, Runs, Stops, Table, and_then, begins, below_step, changed, chosen, closed, closer, ended, instead, last_name, made_no_part, more, named, head_of, other_names, pair_of, paired, repeated, no_room, parts_of, piece_in, pieces_in, pieces_step, put, refused, row_in, rows_of, waits, work_of}
+use Rattle.cv_parse_terms.specs.Tables.{Parts, Work, Step, Runs, Stops, Table, and_then, begins, below_step, bounds, bounds_head, changed, chosen, closed, closer, ended, instead, last_name, made_no_part, more, named, head_of, other_names, pair_of, paired, repeated, no_room, parts_of, piece_in, pieces_in, pieces_step, put, put_before, refused, row_in, rows_of, twice, waits, work_of}
 
 -- faults
 
@@ -108,6 +109,22 @@ name_leaves h s t ns ms x k a b d m =
 pub pair_leaves : (h : Pairing) (s t : Trail) (ns ms ls : List ℕ) (x y : ℕ) (k : Head) → y ≡ last_name (reverse ns) → reverse ms ≡ other_names (reverse ns) → x ≡ last_name (reverse ms) → reverse ls ≡ other_names (reverse ms) → k ≡ pair_of h x y → t.makes.items ≡ s.makes.items ++ Over k ∷ [] → parts_of t ls ≡ paired h (parts_of s ns)
 pair_leaves h s t ns ms ls x y k a b d e f m =
     ap₂ (λ l z. let q : Parts = record { names = l; makes = z } in q) (e ∙ ap other_names b) (m ∙ ap (λ z. s.makes.items ++ Over z ∷ []) (f ∙ ap₂ (pair_of h) (d ∙ ap last_name b) a))
+
+-- names in another order
+
+pub name_pushed : (ns ms : List ℕ) (x : ℕ) → ms ≡ ns ++ x ∷ [] → reverse ms ≡ x ∷ reverse ns
+name_pushed ns ms x e = ap reverse e ∙ reverse-append ns (x ∷ [])
+
+pub goes_twice : (ns ms ls ks : List ℕ) (x : ℕ) → x ≡ last_name (reverse ns) → reverse ms ≡ other_names (reverse ns) → reverse ls ≡ x ∷ reverse ms → reverse ks ≡ x ∷ reverse ls → reverse ks ≡ twice (reverse ns)
+goes_twice ns ms ls ks x a b d e = e ∙ (ap (λ l. x ∷ l) (d ∙ ap (λ l. x ∷ l) b) ∙ ap (λ y. y ∷ (y ∷ other_names (reverse ns))) a)
+
+pub goes_before : (n0 n1 n2 n3 n4 n5 n6 m1 m2 m3 m4 m5 m6 : List ℕ) (x1 x2 x3 x4 x5 x6 y : ℕ) → x1 ≡ last_name n0 → n1 ≡ other_names n0 → x2 ≡ last_name n1 → n2 ≡ other_names n1 → x3 ≡ last_name n2 → n3 ≡ other_names n2 → y ≡ x3 → x4 ≡ last_name n3 → n4 ≡ other_names n3 → x5 ≡ last_name n4 → n5 ≡ other_names n4 → x6 ≡ last_name n5 → n6 ≡ other_names n5 → m1 ≡ x2 ∷ n6 → m2 ≡ x1 ∷ m1 → m3 ≡ x6 ∷ m2 → m4 ≡ x5 ∷ m3 → m5 ≡ x4 ∷ m4 → m6 ≡ (y + 1) ∷ m5 → m6 ≡ put_before n0
+goes_before n0 n1 n2 n3 n4 n5 n6 m1 m2 m3 m4 m5 m6 x1 x2 x3 x4 x5 x6 y a1 b1 a2 b2 a3 b3 c a4 b4 a5 b5 a6 b6 d1 d2 d3 d4 d5 d6 = rw (d6, d5, d4, d3, d2, d1, a4, a5, a6, a1, a2, c, a3, b6, b5, b4, b3, b2, b1) refl
+
+pub bounds_leave : (s t : Trail) (ns ms : List ℕ) (n1 n2 n3 : List ℕ) (k x4 x3 x2 : ℕ) (h : Head) (makes : List Make) → k ≡ last_name (reverse ns) → n1 ≡ other_names (reverse ns) → x4 ≡ last_name n1 → n2 ≡ other_names n1 → x3 ≡ last_name n2 → n3 ≡ other_names n2 → x2 ≡ last_name n3 → reverse ms ≡ other_names n3 → h ≡ bounds_head x4 x2 x3 → makes ≡ s.makes.items ++ Over h ∷ [] → t.makes.items ≡ makes ++ replicate k Nothing → parts_of t ms ≡ bounds (parts_of s ns)
+bounds_leave s t ns ms n1 n2 n3 k x4 x3 x2 h makes a1 b1 a2 b2 a3 b3 a4 b4 i d e =
+    ap₂ (λ l y. let q : Parts = record { names = l; makes = y } in q) (rw (b4, b3, b2, b1) refl)
+    (e ∙ (ap (λ m. m ++ replicate k Nothing) d ∙ (append_assoc s.makes.items (Over h ∷ []) (replicate k Nothing) ∙ rw (i, a4, a3, a2, a1, b3, b2, b1) refl)))
 
 pub repeated_more : (n : ℕ) (f : Parts → Parts) (q : Parts) → repeated (n + 1) f q ≡ f (repeated n f q)
 repeated_more n f q = let i : n + 1 ≡ suc n = omega arith in ap (λ k. repeated k f q) i
@@ -252,4 +269,4 @@ pub passed_on : (all : List Sign) (r : Result ℕ ReadError) (e : ReadError) (t 
 passed_on all (Ok x) e t ns q i h = absurd i
 passed_on all (Err x) e t ns q i h = subst (λ y. Stops all y q) (sym i) h
 
-pub ruleset walks = (refused_stops, fails_put, sign_runs, word_runs, note_runs, zero_runs, find_runs, number_runs, value_runs, last_leaves, name_leaves, pair_leaves)
+pub ruleset walks = (refused_stops, fails_put, sign_runs, word_runs, note_runs, zero_runs, find_runs, number_runs, value_runs, last_leaves, name_leaves, pair_leaves, name_pushed, goes_twice, bounds_leave)

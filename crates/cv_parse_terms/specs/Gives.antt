@@ -122,16 +122,6 @@ Makes emit all old new (Err e) read = Fails all e read
 abbrev pub parts_of_both : Tree × Tree → List Make
 parts_of_both p = postorder p.0 ++ postorder p.1
 
--- a number was read too
-pub record IsMadeWith {A : Type 0} (emit : A → List Make) (all : List Sign) (old new : Trail) (reading : Read Role (ℕ × A)) (number end : ℕ) : Type 0 where
-  pub value : A
-  pub read : IsRead all old.uses.items new.uses.items reading (number, value) end
-  pub makes : new.makes.items ≡ old.makes.items ++ emit value
-
-abbrev pub MakesWith : {A : Type 0} → (A → List Make) → List Sign → Trail → Trail → Result (ℕ × ℕ) ReadError → Read Role (ℕ × A) → Type 0
-MakesWith emit all old new (Ok x) read = IsMadeWith emit all old new read x.0 x.1
-MakesWith emit all old new (Err e) read = Fails all e read
-
 -- So many phrases were read, and their trees were made, one after another.
 pub record IsRow (all : List Sign) (old new : Trail) (reading : Read Role (List Tree)) (count end : ℕ) : Type 0 where
   pub value : List Tree

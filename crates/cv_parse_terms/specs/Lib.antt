@@ -1,4 +1,3 @@
 pub mod Gives
 pub mod Tables
 pub mod TermRows
-pub mod Spines

@@ -1,5 +1,5 @@
 -- What the rows of a table do with tokens, names and parts of trees. This profile's own.
-use Rattle.std.specs.Prelude.{ℕ, zero, suc, Bool, true, false, ◌+◌, ◌-◌, ◌≤◌, ◌==◌, ◌≡◌, List, [], ◌∷◌, ◌++◌, length, map, drop, reverse, slice_index_or, Result, Ok, Err}
+use Rattle.std.specs.Prelude.{ℕ, zero, suc, Bool, true, false, ◌+◌, ◌-◌, ◌≤◌, ◌==◌, ◌≡◌, List, [], ◌∷◌, ◌++◌, length, map, drop, reverse, slice_index_or, replicate, Result, Ok, Err}
 use Rattle.std.specs.Borrow.{Bor}
 use Rattle.cv_syntax_trees.specs.declared.head.Head.{Head}
 use Rattle.cv_syntax_trees.specs.declared.head.Head.TheVariants as head
@@ -10,7 +10,7 @@ use Rattle.cv_parse_notation.specs.declared.sign.Mark.{Mark}
 use Rattle.cv_parse_notation.specs.Spells.{Kind, Use, next_is, is_mark, is_word, is_zero, is_find}
 use Rattle.cv_parse_notation.specs.Reads.{Fault, Syntax, Nesting, Read, read_sign, read_word, read_nought, read_find, read_number}
 use Rattle.cv_parse_grammar.specs.declared.role.Role.{Role}
-use Rattle.cv_parse_grammar.specs.Phrases.{Term, Input, Output, Body, ProcessBranch}
+use Rattle.cv_parse_grammar.specs.Phrases.{Term, Input, Output, Body, ProcessBranch, RightRest}
 use Rattle.cv_parse_grammar.specs.Rules.{heads}
 use Rattle.cv_parse_terms.specs.declared.lookahead.ReadError.{ReadError}
 use Rattle.cv_parse_terms.specs.declared.lookahead.ReadError.TheVariants as error
@@ -93,12 +93,15 @@ head_of naming.Occurs x = head.Occurs x
 head_of naming.OccursOnce x = head.OccursOnce x
 head_of naming.Secret x = head.Secret x
 head_of naming.SecretOnce x = head.SecretOnce x
+head_of naming.Oracle x = head.Oracle x
+head_of naming.Equivalence x = head.Equivalence x
 
 abbrev pub pair_of : Pairing → ℕ → ℕ → Head
 pair_of pairing.Binder x y = head.Binder x y
 pair_of pairing.New x y = head.New x y
 pair_of pairing.Let x y = head.Let x y
 pair_of pairing.Repl x y = head.Repl x y
+pair_of pairing.Bound x y = head.Bound x y
 
 abbrev pub part : Make → Parts → Parts
 part m q = record { names = q.names; makes = q.makes ++ m ∷ [] }
@@ -108,6 +111,38 @@ named h q = record { names = other_names q.names; makes = q.makes ++ Over (head_
 
 abbrev pub paired : Pairing → Parts → Parts
 paired h q = record { names = other_names (other_names q.names); makes = q.makes ++ Over (pair_of h (last_name (other_names q.names)) (last_name q.names)) ∷ [] }
+
+-- a name again
+abbrev pub twice : List ℕ → List ℕ
+twice xs = last_name xs ∷ (last_name xs ∷ other_names xs)
+
+abbrev pub again : Parts → Parts
+again q = record { names = twice q.names; makes = q.makes }
+
+-- the two last names before the four before them, the last of which counts such pairs
+abbrev pub put_before : List ℕ → List ℕ
+put_before xs =
+    let fours = other_names (other_names xs) in
+    let threes = other_names fours in
+    let twos = other_names threes in
+    let ones = other_names twos in
+    (last_name fours + 1) ∷ (last_name threes ∷ (last_name twos ∷ (last_name ones ∷ (last_name xs ∷ (last_name (other_names xs) ∷ other_names ones)))))
+
+abbrev pub before : Parts → Parts
+before q = record { names = put_before q.names; makes = q.makes }
+
+-- the bounds of a function: an index and its bound, or the function's name
+abbrev pub bounds_head : ℕ → ℕ → ℕ → Head
+bounds_head zero x y = head.Single x
+bounds_head (suc n) x y = head.Bound x y
+
+-- the bounds, and so many empty trees, by four numbers that wait
+abbrev pub bounds : Parts → Parts
+bounds q =
+    let threes = other_names q.names in
+    let twos = other_names threes in
+    let ones = other_names twos in
+    record { names = other_names ones; makes = q.makes ++ Over (bounds_head (last_name threes) (last_name ones) (last_name twos)) ∷ replicate (last_name q.names) Nothing }
 
 -- in place of the name that waits last
 abbrev pub instead : ℕ → Parts → Parts
@@ -144,6 +179,7 @@ begins ahead.Input k = heads Input k
 begins ahead.Output k = heads Output k
 begins ahead.Body k = heads Body k
 begins ahead.Branch k = heads ProcessBranch k
+begins ahead.Arguments k = heads RightRest k
 
 -- no level is left
 abbrev pub no_room : Bool → ℕ → Fault
@@ -166,6 +202,9 @@ piece_step room below row piece.Zero w = put made_no_part w (read_nought w.rest)
 piece_step room below row piece.Find w = put waits w (read_find w.rest)
 piece_step room below row piece.Instead w = put instead w (read_number w.rest)
 piece_step room below row (piece.Value x) w = changed (waits x) w
+piece_step room below row piece.Again w = changed again w
+piece_step room below row piece.Before w = changed before w
+piece_step room below row piece.Bounds w = changed bounds w
 piece_step room below row (piece.Note r) w = put made_no_part w (read_note r w.rest)
 piece_step room below row (piece.Part m) w = changed (part m) w
 piece_step room below row (piece.Named h) w = changed (named h) w
@@ -175,6 +214,7 @@ piece_step room below row (piece.Level a r) w = chosen room (row r) (refused a) 
 piece_step room below row (piece.Deeper a r) w = below a r w
 piece_step room below row (piece.Choice a r s) w = chosen (next_is (begins a) w.rest) (row r) (row s) w
 piece_step room below row (piece.List c m r) w = and_then (row r w) (λ v. more c m (row r) (length v.rest) 1 v)
+piece_step room below row (piece.Many c m r) w = more c m (row r) (length w.rest) 0 w
 
 -- pieces one behind another
 abbrev pub pieces_step : (Piece → Step) → List Piece → Step

@@ -4,9 +4,9 @@ use Rattle.cv_syntax.specs.declared.make.Make.TheVariants.{Nothing, Over}
 use Rattle.cv_syntax_trees.specs.declared.head.Head.TheVariants.{Eq, And, Or, Not, Yes, No, Cons, Stop, Yield, Par, If, Branch, Forall, Query}
 use Rattle.cv_parse_notation.specs.declared.sign.Sign.{Sign}
 use Rattle.cv_parse_notation.specs.declared.sign.Mark.TheVariants as mark
-use Rattle.cv_parse_grammar.specs.declared.role.Role.TheVariants.{Mentions, AsCall, AsArray, AsBare, MentionsCell, Asks, AsksBound, AsksIndex, BindsIndex, BindsLocal, BindsVariable, Declares, Enters as Enters_in, Leaves, Unchecked}
-use Rattle.cv_parse_grammar.specs.declared.role.Region.TheVariants.{InEquation, InQuery}
-use Rattle.cv_parse_grammar.specs.declared.role.Asked.TheVariants.{AParam, AChannel, AFunction, AnEvent, AProbability, AType}
+use Rattle.cv_parse_grammar.specs.declared.role.Role.TheVariants.{Mentions, AsCall, AsArray, AsBare, MentionsCell, Asks, AsksBound, AsksIndex, BindsBound, BindsIndex, BindsLocal, BindsVariable, Declares, Enters as Enters_in, Leaves, Unchecked}
+use Rattle.cv_parse_grammar.specs.declared.role.Region.TheVariants.{InEquation, InEquivalence, InQuery}
+use Rattle.cv_parse_grammar.specs.declared.role.Asked.TheVariants.{AParam, AChannel, AFunction, AnEquivalence, AnEvent, AProbability, AType}
 use Rattle.cv_parse_terms.specs.declared.lookahead.ReadError.{ReadError}
 use Rattle.cv_parse_terms.specs.declared.trail.Trail.{Trail}
 use Rattle.cv_parse_terms.specs.declared.piece.Ahead.TheVariants as ahead
@@ -14,7 +14,7 @@ use Rattle.cv_parse_terms.specs.declared.piece.Naming.TheVariants as naming
 use Rattle.cv_parse_terms.specs.declared.piece.Pairing.TheVariants as pairing
 use Rattle.cv_parse_terms.specs.declared.piece.Closing.TheVariants as closing
 use Rattle.cv_parse_terms.specs.declared.piece.Piece.{Piece}
-use Rattle.cv_parse_terms.specs.declared.piece.Piece.TheVariants.{Sign as Says, Word, Zero, Find, Instead, Value, Note, Part, Named, Paired, Row, Level, Deeper, Choice, List as Items}
+use Rattle.cv_parse_terms.specs.declared.piece.Piece.TheVariants.{Sign as Says, Word, Zero, Find, Instead, Value, Again, Before, Bounds, Note, Part, Named, Paired, Row, Level, Deeper, Choice, List as Items, Many}
 use Rattle.cv_parse_terms.specs.Tables.{Table, Runs, row_in, work_of}
 
 abbrev pub term_rows : Table
@@ -208,10 +208,31 @@ term_rows =
     (Choice ahead.Word 150 54 ∷ Row 183 ∷ Says mark.Implies ∷ Items closing.Trees mark.Both 185 ∷ Part (Over Cons) ∷ Part (Over Query) ∷ []) ∷  -- 186 a correspondence
     (Choice (ahead.Mark mark.SecretOnce) 179 186 ∷ []) ∷  -- 187
     (Choice (ahead.Mark mark.Secret) 178 187 ∷ []) ∷  -- 188 what a query asks
-    (Says mark.QueryWord ∷ Note (Enters_in InQuery) ∷ Row 188 ∷ Note Leaves ∷ Says mark.Dot ∷ []) ∷ []  -- 189 the declaration of a query
+    (Says mark.QueryWord ∷ Note (Enters_in InQuery) ∷ Row 188 ∷ Note Leaves ∷ Says mark.Dot ∷ []) ∷  -- 189 the declaration of a query
+    (Says mark.Open ∷ Word (Asks AProbability) ∷ Says mark.Close ∷ []) ∷  -- 190
+    (Says mark.AtMost ∷ Level (ahead.Mark mark.Open) 190 ∷ Says mark.Gives ∷ []) ∷  -- 191 a probability, between two sides
+    (Says mark.Bang ∷ Word BindsLocal ∷ Says mark.AtMost ∷ Word BindsBound ∷ Value 1 ∷ Value 0 ∷ []) ∷  -- 192 a replication of a function
+    (Again ∷ Value 0 ∷ Value 0 ∷ Value 0 ∷ []) ∷  -- 193 no replication
+    (Row 60 ∷ Says mark.Semicolon ∷ Part Nothing ∷ []) ∷  -- 194 a variable that is chosen, behind `new`
+    (Row 149 ∷ Bounds ∷ Says mark.Arrow ∷ Row 145 ∷ []) ∷  -- 195 the arguments and the body of a function
+    (Word BindsLocal ∷ Says mark.Colon ∷ Choice (ahead.Mark mark.Bang) 192 193 ∷ Many closing.Binders mark.New 194 ∷ Row 195 ∷ Named naming.Oracle ∷ []) ∷  -- 196 a function of the left side
+    (Says mark.New ∷ Row 60 ∷ Before ∷ Says mark.Semicolon ∷ Deeper ahead.Arguments 199 ∷ Paired pairing.New ∷ []) ∷  -- 197
+    (Level (ahead.Mark mark.New) 197 ∷ []) ∷  -- 198
+    (Choice (ahead.Mark mark.New) 198 195 ∷ []) ∷  -- 199 the arguments and the body, with `new` before them
+    (Word BindsLocal ∷ Says mark.Colon ∷ Choice (ahead.Mark mark.Bang) 192 193 ∷ Part Nothing ∷ Row 199 ∷ Named naming.Oracle ∷ []) ∷  -- 200 a function of the right side
+    (Deeper ahead.Word 196 ∷ []) ∷  -- 201
+    (Says mark.Open ∷ Items closing.Trees mark.Bar 201 ∷ Says mark.Close ∷ []) ∷  -- 202
+    (Level (ahead.Mark mark.Open) 202 ∷ []) ∷  -- 203 functions of the left side
+    (Deeper ahead.Word 200 ∷ []) ∷  -- 204
+    (Says mark.Open ∷ Items closing.Trees mark.Bar 204 ∷ Says mark.Close ∷ []) ∷  -- 205
+    (Level (ahead.Mark mark.Open) 205 ∷ []) ∷  -- 206 functions of the right side
+    (Row 60 ∷ Part Nothing ∷ Part Nothing ∷ Paired pairing.Binder ∷ []) ∷  -- 207 the key of a group
+    (Says mark.Bang ∷ Word BindsLocal ∷ Says mark.AtMost ∷ Word BindsBound ∷ Says mark.New ∷ Row 207 ∷ Says mark.Semicolon ∷ Row 203 ∷ Paired pairing.Bound ∷ []) ∷  -- 208 a group of the left side
+    (Says mark.Bang ∷ Word BindsLocal ∷ Says mark.AtMost ∷ Word BindsBound ∷ Says mark.New ∷ Row 207 ∷ Says mark.Semicolon ∷ Row 206 ∷ Paired pairing.Bound ∷ []) ∷  -- 209 a group of the right side
+    (Says mark.Equiv ∷ Word (Declares AnEquivalence) ∷ Note (Enters_in InEquivalence) ∷ Row 208 ∷ Row 191 ∷ Row 209 ∷ Named naming.Equivalence ∷ Note Leaves ∷ Says mark.Dot ∷ []) ∷ []  -- 210 the declaration of an equivalence
 
 abbrev pub row_count : ℕ
-row_count = 190
+row_count = 211
 
 abbrev pub row_of : ℕ → List Piece
 row_of r = slice_index_or term_rows r []

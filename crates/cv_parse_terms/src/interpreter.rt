@@ -1,13 +1,14 @@
-ghost use Rattle.std.specs.Prelude.{◌≡◌, ◌+◌, ◌-◌, ◌<◌, ◌≤◌, ◌^◌, length, drop, reverse, IfErr, IfOk, OnOk};
+ghost use Rattle.std.specs.Prelude.{◌≡◌, ◌++◌, ◌∷◌, ◌+◌, ◌-◌, ◌<◌, ◌≤◌, ◌^◌, length, drop, replicate, reverse, IfErr, IfOk, OnOk};
+ghost use Rattle.cv_syntax.specs.declared.make.Make.TheVariants.{Nothing};
 ghost use Rattle.cv_parse_notation.specs.Spells.{next_is};
 ghost use Rattle.cv_parse_notation.specs.Reads.{read_find, read_nought, read_number, read_sign, read_word};
 ghost use Rattle.cv_parse_terms.specs.Gives.{read_note};
-ghost use Rattle.cv_parse_terms.specs.Tables.{Runs, Stops, begins, changed, closed, closer as closer_parts, ended as ended_parts, head_of as head_form, instead as instead_of, last_name, made_no_part, more, named as named_parts, other_names, pair_of as pair_form, paired as paired_parts, parts_of, piece_in, pieces_in, put, refused as refused_step, row_in, rows_of, waits, work_of};
+ghost use Rattle.cv_parse_terms.specs.Tables.{Runs, Stops, begins, bounds as bounds_parts, bounds_head as bounds_form, changed, closed, closer as closer_parts, ended as ended_parts, head_of as head_form, instead as instead_of, last_name, made_no_part, more, named as named_parts, other_names, pair_of as pair_form, paired as paired_parts, parts_of, piece_in, pieces_in, put, put_before, refused as refused_step, row_in, rows_of, twice, waits, work_of};
 ghost use Rattle.cv_parse_terms.specs.declared.lookahead.ReadError.TheVariants.{OutOfMemory};
 
 use crate::lookahead::{
-    ReadError, begins_body, begins_branch, begins_input, begins_output, begins_term, expect, is_at,
-    is_find_at, is_word_at, is_zero_at, shallow,
+    ReadError, begins_body, begins_branch, begins_input, begins_output, begins_rest, begins_term,
+    expect, is_at, is_find_at, is_word_at, is_zero_at, shallow,
 };
 use crate::piece::{Ahead, Closing, Naming, Pairing, Piece};
 use crate::tokens::{find_word, note, number, word, zero};
@@ -15,6 +16,7 @@ use crate::trail::Trail;
 use cv_parse_grammar::Role;
 use cv_parse_notation::{Mark, Sign};
 use cv_syntax::{Head, Make};
+use std::alloc::AllocError;
 
 /// Whether the next token is such.
 fn is_ahead(signs: &[Sign], at: usize, ahead: Ahead) -> bool
@@ -30,6 +32,7 @@ fn is_ahead(signs: &[Sign], at: usize, ahead: Ahead) -> bool
         Ahead::Output => begins_output(signs, at),
         Ahead::Body => begins_body(signs, at),
         Ahead::Branch => begins_branch(signs, at),
+        Ahead::Arguments => begins_rest(signs, at),
     }
 }
 
@@ -201,6 +204,8 @@ fn head_of(naming: Naming, x: u32) -> Head
         Naming::OccursOnce => Head::OccursOnce(x),
         Naming::Secret => Head::Secret(x),
         Naming::SecretOnce => Head::SecretOnce(x),
+        Naming::Oracle => Head::Oracle(x),
+        Naming::Equivalence => Head::Equivalence(x),
     }
 }
 
@@ -240,6 +245,7 @@ fn pair_of(pairing: Pairing, x: u32, y: u32) -> Head
         Pairing::New => Head::New(x, y),
         Pairing::Let => Head::Let(x, y),
         Pairing::Repl => Head::Repl(x, y),
+        Pairing::Bound => Head::Bound(x, y),
     }
 }
 
@@ -256,6 +262,86 @@ fn paired(trail: &mut Trail, names: &mut Vec<u64>, pairing: Pairing) -> Result<(
     let y = short(last)?;
     let x = short(first)?;
     trail.makes.push(Make::Over(pair_of(pairing, x, y)))?;
+    Ok(())
+}
+
+/// A number waits behind the others.
+#[tactic(auto, using(crate::proofs::Walks::walks))]
+fn push(names: &mut Vec<u64>, number: u64) -> Result<(), ReadError>
+    ensures waits { OnOk result (reverse names.new.items ≡ number ∷ reverse names.old.items) }
+    ensures full { IfErr result (λ e. e ≡ OutOfMemory) }
+{
+    names.push(number)?;
+    Ok(())
+}
+
+/// The name that waits last waits twice.
+#[tactic(auto, using(crate::proofs::Walks::walks))]
+fn again(names: &mut Vec<u64>) -> Result<(), ReadError>
+    ensures names { OnOk result (reverse names.new.items ≡ twice (reverse names.old.items)) }
+    ensures full { IfErr result (λ e. e ≡ OutOfMemory) }
+{
+    let x = taken(names);
+    push(names, x)?;
+    push(names, x)
+}
+
+/// The two names that wait last go before the four before them, the last of which counts such pairs.
+#[tactic(auto, using(crate::proofs::Walks::walks))]
+fn before(names: &mut Vec<u64>) -> Result<(), ReadError>
+    ensures names { OnOk result (reverse names.new.items ≡ put_before (reverse names.old.items)) }
+    ensures full { IfErr result (λ e. e ≡ OutOfMemory) }
+{
+    let second = taken(names);
+    let first = taken(names);
+    let count = short(taken(names))?;
+    let copied = taken(names);
+    let bound = taken(names);
+    let index = taken(names);
+    push(names, first)?;
+    push(names, second)?;
+    push(names, index)?;
+    push(names, bound)?;
+    push(names, copied)?;
+    push(names, u64::from(count) + 1)?;
+    Ok(())
+}
+
+/// The head of a function's bounds: an index and its bound, or the function's name.
+fn bounds_head(copied: u64, x: u32, y: u32) -> Head
+    ensures { result ≡ bounds_form copied x y }
+{
+    if copied == 0 {
+        return Head::Single(x);
+    }
+    Head::Bound(x, y)
+}
+
+/// So many empty trees.
+#[tactic(auto, using(crate::proofs::Made::makes))]
+fn empties(makes: &mut Vec<Make>, count: u64) -> Result<(), AllocError>
+    ensures { OnOk result (makes.new.items ≡ makes.old.items ++ replicate count Nothing) }
+{
+    'empty: for _ in 0..count {
+        makes.push(Make::Nothing)?;
+    }
+    Ok(())
+}
+
+/// A node with the bounds of a function, and so many empty trees.
+#[tactic(auto, using(crate::proofs::Walks::walks))]
+fn bounds(trail: &mut Trail, names: &mut Vec<u64>) -> Result<(), ReadError>
+    ensures parts { OnOk result (parts_of trail.new names.new.items
+        ≡ bounds_parts (parts_of trail.old names.old.items)) }
+    ensures full { IfErr result (λ e. e ≡ OutOfMemory) }
+    ensures uses { trail.new.uses ≡ trail.old.uses }
+{
+    let count = taken(names);
+    let copied = taken(names);
+    let y = short(taken(names))?;
+    let x = short(taken(names))?;
+    trail.makes.push(Make::Over(bounds_head(copied, x, y)))?;
+    empties(&mut trail.makes, count)?;
     Ok(())
 }
 
@@ -315,7 +401,7 @@ fn close(
     Ok(())
 }
 
-/// What a row reads, once and again behind each such symbol.
+/// What a row reads, again behind each such symbol, where so many were read.
 #[cycle(walk)]
 fn list(
     rows: &[&[Piece]],
@@ -323,6 +409,7 @@ fn list(
     closing: Closing,
     mark: Mark,
     row: usize,
+    read: usize,
     signs: &[Sign],
     at: usize,
     trail: &mut Trail,
@@ -333,11 +420,12 @@ fn list(
     requires table { length rows.now ≤ 65536 }
     requires at { at ≤ length signs.now }
     requires few { length signs.now < 2 ^ 32 }
+    requires read { read ≤ 1 }
     ensures { Runs signs.now result trail.new names.new.items (more closing mark
-        (row_in (rows_of rows.now) depth bound row) (length signs.now - at) 1
+        (row_in (rows_of rows.now) depth bound row) (length signs.now - at) read
         (work_of trail.old names.old.items (drop at signs.now))) }
 {
-    let mut count = 1;
+    let mut count = read;
     let mut place = at;
     let mut turns = signs.len() - at;
     'turns: while turns > 0 {
@@ -394,6 +482,18 @@ fn read_piece(
             paired(trail, names, pairing)?;
             Ok(at)
         }
+        Piece::Again => {
+            again(names)?;
+            Ok(at)
+        }
+        Piece::Before => {
+            before(names)?;
+            Ok(at)
+        }
+        Piece::Bounds => {
+            bounds(trail, names)?;
+            Ok(at)
+        }
         Piece::Row(r) => read_row(rows, bound, r as usize, signs, at, trail, names, depth),
         Piece::Level(ahead, r) => {
             if depth > 0 {
@@ -415,7 +515,13 @@ fn read_piece(
             let row = r as usize;
             let place = read_row(rows, bound, row, signs, at, trail, names, depth)?;
             list(
-                rows, bound, closing, mark, row, signs, place, trail, names, depth,
+                rows, bound, closing, mark, row, 1, signs, place, trail, names, depth,
+            )
+        }
+        Piece::Many(closing, mark, r) => {
+            let row = r as usize;
+            list(
+                rows, bound, closing, mark, row, 0, signs, at, trail, names, depth,
             )
         }
     }

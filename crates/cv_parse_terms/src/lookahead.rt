@@ -1,7 +1,7 @@
 ghost use Rattle.std.specs.Prelude.{◌≡◌, ◌+◌, ◌<◌, ◌≤◌, ◌^◌, length, drop, IfOk, IfErr, false};
 ghost use Rattle.cv_parse_notation.specs.Spells.{next_is, is_mark, is_script_word, is_word, is_zero, is_find, is_unnamed, kind_of};
 ghost use Rattle.cv_parse_notation.specs.Reads.{read_sign};
-ghost use Rattle.cv_parse_grammar.specs.Phrases.{Body, Input, Output, ProcessBranch, Term};
+ghost use Rattle.cv_parse_grammar.specs.Phrases.{Body, Input, Output, ProcessBranch, RightRest, Term};
 ghost use Rattle.cv_parse_grammar.specs.Rules.{heads};
 ghost use Rattle.cv_parse_terms.specs.Gives.{Fails, IsSign, Opens, Shallow, read_opening, next_value, word_in as word_of, find_in as find_of, unnamed_in as unnamed_of};
 ghost use Rattle.cv_parse_terms.specs.declared.lookahead.ReadError.TheVariants.{OutOfMemory};
@@ -230,6 +230,14 @@ pub fn begins_branch(signs: &[Sign], at: usize) -> bool
     ensures { result ≡ next_is (heads ProcessBranch) (drop at signs.now) }
 {
     is_word_at(signs, at) || is_at(signs, at, Mark::Suchthat)
+}
+
+/// Whether the arguments of a function of the right side begin at a place, or a `new` before them.
+#[tactic(auto, using(crate::proofs::Begins::rest_begins))]
+pub fn begins_rest(signs: &[Sign], at: usize) -> bool
+    ensures { result ≡ next_is (heads RightRest) (drop at signs.now) }
+{
+    is_at(signs, at, Mark::New) || is_at(signs, at, Mark::Open)
 }
 
 /// The place behind an opening bracket, which opens a level.

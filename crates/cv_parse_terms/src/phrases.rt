@@ -1,8 +1,7 @@
 ghost use Rattle.std.specs.Prelude.{◌≡◌, ◌<◌, ◌≤◌, ◌^◌, length, drop};
 ghost use Rattle.cv_syntax.specs.Postorder.{postorder};
-ghost use Rattle.cv_parse_grammar.specs.Phrases.{Term, Subscript, OneCell, var_list};
+ghost use Rattle.cv_parse_grammar.specs.Phrases.{Term, Subscript, OneCell};
 ghost use Rattle.cv_parse_grammar.specs.Terms.{cell as cell_form, term as term_form, terms as terms_form};
-ghost use Rattle.cv_parse_grammar.specs.declared.role.Role.TheVariants.{BindsLocal};
 ghost use Rattle.cv_parse_terms.specs.Gives.{Makes, below, read_in};
 ghost use Rattle.cv_parse_terms.specs.Tables.{rows_of};
 ghost use Rattle.cv_parse_terms.specs.TermRows.{Enters, EntersWith, term_rows};
@@ -10,8 +9,8 @@ ghost use Rattle.cv_parse_terms.specs.TermRows.{Enters, EntersWith, term_rows};
 use crate::interpreter::read_table;
 use crate::lookahead::ReadError;
 use crate::piece::Piece::{
-    Choice, Deeper, Find, Instead, Level, List as Items, Named, Note, Paired, Part, Row,
-    Sign as Says, Value, Word, Zero,
+    Again, Before, Bounds, Choice, Deeper, Find, Instead, Level, List as Items, Many, Named, Note,
+    Paired, Part, Row, Sign as Says, Value, Word, Zero,
 };
 use crate::piece::{Ahead as Next, Closing, Naming, Pairing, Piece};
 use crate::trail::Trail;
@@ -21,7 +20,7 @@ use cv_syntax::Head;
 use cv_syntax::Make::{Nothing, Over};
 
 /// How many rows there are. A row that stands before one that only opens a level is the inside of it.
-const ROWS: usize = 190;
+const ROWS: usize = 211;
 
 /// Terms, and types with their variables.
 const TERM_ROWS: [&[Piece]; 64] = [
@@ -411,7 +410,7 @@ const BODY_ROWS: [&[Piece]; 22] = [
 ];
 
 /// Declarations.
-const DECLARATION_ROWS: [&[Piece]; 40] = [
+const DECLARATION_ROWS: [&[Piece]; 61] = [
     &[Row(147), Says(Mark::Semicolon)],
     &[Says(Mark::Forall), Row(150)],
     &[
@@ -537,6 +536,106 @@ const DECLARATION_ROWS: [&[Piece]; 40] = [
         Says(Mark::QueryWord),
         Note(Role::Enters(Region::InQuery)),
         Row(188),
+        Note(Role::Leaves),
+        Says(Mark::Dot),
+    ],
+    &[
+        Says(Mark::Open),
+        Word(Role::Asks(Asked::AProbability)),
+        Says(Mark::Close),
+    ],
+    &[
+        Says(Mark::AtMost),
+        Level(Next::Mark(Mark::Open), 190),
+        Says(Mark::Gives),
+    ],
+    &[
+        Says(Mark::Bang),
+        Word(Role::BindsLocal),
+        Says(Mark::AtMost),
+        Word(Role::BindsBound),
+        Value(1),
+        Value(0),
+    ],
+    &[Again, Value(0), Value(0), Value(0)],
+    &[Row(60), Says(Mark::Semicolon), Part(Nothing)],
+    &[Row(149), Bounds, Says(Mark::Arrow), Row(145)],
+    &[
+        Word(Role::BindsLocal),
+        Says(Mark::Colon),
+        Choice(Next::Mark(Mark::Bang), 192, 193),
+        Many(Closing::Binders, Mark::New, 194),
+        Row(195),
+        Named(Naming::Oracle),
+    ],
+    &[
+        Says(Mark::New),
+        Row(60),
+        Before,
+        Says(Mark::Semicolon),
+        Deeper(Next::Arguments, 199),
+        Paired(Pairing::New),
+    ],
+    &[Level(Next::Mark(Mark::New), 197)],
+    &[Choice(Next::Mark(Mark::New), 198, 195)],
+    &[
+        Word(Role::BindsLocal),
+        Says(Mark::Colon),
+        Choice(Next::Mark(Mark::Bang), 192, 193),
+        Part(Nothing),
+        Row(199),
+        Named(Naming::Oracle),
+    ],
+    &[Deeper(Next::Word, 196)],
+    &[
+        Says(Mark::Open),
+        Items(Closing::Trees, Mark::Bar, 201),
+        Says(Mark::Close),
+    ],
+    &[Level(Next::Mark(Mark::Open), 202)],
+    &[Deeper(Next::Word, 200)],
+    &[
+        Says(Mark::Open),
+        Items(Closing::Trees, Mark::Bar, 204),
+        Says(Mark::Close),
+    ],
+    &[Level(Next::Mark(Mark::Open), 205)],
+    &[
+        Row(60),
+        Part(Nothing),
+        Part(Nothing),
+        Paired(Pairing::Binder),
+    ],
+    &[
+        Says(Mark::Bang),
+        Word(Role::BindsLocal),
+        Says(Mark::AtMost),
+        Word(Role::BindsBound),
+        Says(Mark::New),
+        Row(207),
+        Says(Mark::Semicolon),
+        Row(203),
+        Paired(Pairing::Bound),
+    ],
+    &[
+        Says(Mark::Bang),
+        Word(Role::BindsLocal),
+        Says(Mark::AtMost),
+        Word(Role::BindsBound),
+        Says(Mark::New),
+        Row(207),
+        Says(Mark::Semicolon),
+        Row(206),
+        Paired(Pairing::Bound),
+    ],
+    &[
+        Says(Mark::Equiv),
+        Word(Role::Declares(Asked::AnEquivalence)),
+        Note(Role::Enters(Region::InEquivalence)),
+        Row(208),
+        Row(191),
+        Row(209),
+        Named(Naming::Equivalence),
         Note(Role::Leaves),
         Says(Mark::Dot),
     ],
@@ -667,20 +766,4 @@ pub fn inner_cell(
         (below depth OneCell (drop at signs.now)) }
 {
     enter(42, signs, at, trail, depth)
-}
-
-/// Variables of a function with their types, in parentheses.
-#[tactic(auto, using(crate::proofs::Entries::entries))]
-pub fn local_variables(
-    signs: &[Sign],
-    at: usize,
-    trail: &mut Trail,
-    depth: u32,
-) -> Result<usize, ReadError>
-    requires at { at ≤ length signs.now }
-    requires few { length signs.now < 2 ^ 32 }
-    ensures makes { Makes postorder signs.now trail.old trail.new result
-        (read_in depth (var_list BindsLocal) (drop at signs.now)) }
-{
-    enter(149, signs, at, trail, depth)
 }

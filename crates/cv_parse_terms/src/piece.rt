@@ -23,6 +23,8 @@ pub enum Ahead {
     Body,
     /// What a branch of `find` begins with.
     Branch,
+    /// What the arguments of a function of the right side begin with, or a `new` before them.
+    Arguments,
 }
 
 /// A head that takes a name.
@@ -40,6 +42,8 @@ pub enum Naming {
     OccursOnce,
     Secret,
     SecretOnce,
+    Oracle,
+    Equivalence,
 }
 
 /// A head that takes two names.
@@ -49,6 +53,7 @@ pub enum Pairing {
     New,
     Let,
     Repl,
+    Bound,
 }
 
 /// What a list is made of.
@@ -80,6 +85,13 @@ pub enum Piece {
     Instead,
     /// This number waits as a name, which is no token.
     Value(u64),
+    /// The name that waits last waits twice.
+    Again,
+    /// The two names that wait last go before the four before them, the last of which counts such pairs.
+    Before,
+    /// A node with the bounds of a function, and so many empty trees: the four numbers that wait last are
+    /// two names, whether they are an index and its bound, and how many empty trees.
+    Bounds,
     /// A note about names, which is no token.
     Note(Role),
     /// A part of a tree, which is no token.
@@ -98,4 +110,6 @@ pub enum Piece {
     Choice(Ahead, u16, u16),
     /// What a row reads, once and again behind each such symbol: a list.
     List(Closing, Mark, u16),
+    /// What a row reads behind each such symbol: a list, which may be empty.
+    Many(Closing, Mark, u16),
 }

@@ -1,14 +1,12 @@
 ghost use Rattle.std.specs.Prelude.{◌≡◌, ◌++◌, ◌+◌, ◌<◌, ◌≤◌, ◌^◌, length, drop, OnOk, IfOk};
 ghost use Rattle.cv_parse_notation.specs.Spells.{used};
-ghost use Rattle.cv_parse_notation.specs.Reads.{read_word, read_script_word, read_number, read_nought, read_find, read_unnamed, read_other};
+ghost use Rattle.cv_parse_notation.specs.Reads.{read_word, read_script_word, read_number, read_nought, read_find, read_unnamed};
 ghost use Rattle.cv_parse_terms.specs.Gives.{Gives, uses_of, GivesPlain, IsRead, Passes, next_value, read_note, number_in as number_of};
 
-use crate::lookahead::{
-    ReadError, find_at, is_at, is_script_word_at, is_zero_at, unnamed_at, word_at,
-};
+use crate::lookahead::{ReadError, find_at, is_script_word_at, is_zero_at, unnamed_at, word_at};
 use crate::trail::NameUse;
 use cv_parse_grammar::Role;
-use cv_parse_notation::{Mark, ScriptWord, Sign};
+use cv_parse_notation::{ScriptWord, Sign};
 use std::alloc::AllocError;
 
 /// Notes a use of a name at a place.
@@ -156,20 +154,4 @@ pub fn zero(signs: &[Sign], at: usize) -> Result<usize, ReadError>
         return Ok(at + 1);
     }
     Err(ReadError::Syntax(at as u32))
-}
-
-/// The place behind a token that is no brace.
-#[tactic(auto, using(crate::proofs::Places::tokens))]
-pub fn other(signs: &[Sign], at: usize) -> Result<usize, ReadError>
-    requires at { at ≤ length signs.now }
-    requires few { length signs.now < 2 ^ 32 }
-    ensures passes { Passes signs.now result (read_other (drop at signs.now)) }
-{
-    if at >= signs.len() {
-        return Err(ReadError::Syntax(at as u32));
-    }
-    if is_at(signs, at, Mark::OpenBrace) || is_at(signs, at, Mark::CloseBrace) {
-        return Err(ReadError::Syntax(at as u32));
-    }
-    Ok(at + 1)
 }

@@ -3,7 +3,6 @@ ghost use Rattle.cv_syntax_trees.specs.Tree.{lone};
 ghost use Rattle.cv_syntax.specs.Postorder.{postorder};
 ghost use Rattle.cv_syntax.specs.declared.make.Make.TheVariants.{Nothing, Over};
 ghost use Rattle.cv_syntax_trees.specs.declared.head.Head.TheVariants.{Cons};
-ghost use Rattle.cv_parse_terms.specs.Spines.{spine};
 
 use cv_parse_grammar::Role;
 use cv_syntax::{Head, Make};
@@ -57,23 +56,6 @@ pub fn close_chain(makes: &mut Vec<Make>, count: usize) -> Result<(), AllocError
     makes.push(Make::Nothing)?;
     'cells: for _ in 0..count {
         makes.push(Make::Over(Head::Cons))?;
-    }
-    Ok(())
-}
-
-/// Makes a node without children for each head, each under the one before it.
-#[tactic(auto, using(crate::proofs::Made::makes))]
-pub fn make_spine(makes: &mut Vec<Make>, heads: &[Head]) -> Result<(), AllocError>
-    ensures { OnOk result (makes.new.items ≡ makes.old.items ++ postorder (spine heads.now)) }
-{
-    'ends: for _ in heads {
-        makes.push(Make::Nothing)?;
-    }
-    makes.push(Make::Nothing)?;
-    let mut at = heads.len();
-    'heads: while at > 0 {
-        at -= 1;
-        makes.push(Make::Over(heads[at]))?;
     }
     Ok(())
 }

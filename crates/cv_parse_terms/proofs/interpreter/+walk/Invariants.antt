@@ -5,8 +5,8 @@ use Rattle.cv_parse_terms.proofs.interpreter.+walk.Given as goal
 abbrev pub invariant-list-turns : goal.invariant-list-turns
 invariant-list-turns l = record {
   within : l.place ≤ length l.signs;
-  same : more l.closing l.mark (row_in (rows_of l.rows) l.depth l.bound l.row) l.turns l.count (work_of l.trail l.names.items (drop l.place l.signs)) ≡ more l.closing l.mark (row_in (rows_of l.rows) l.depth l.bound l.row) (length l.signs - l.fn.at) 1 (work_of l.fn.trail l.fn.names.items (drop l.fn.at l.signs));
-  fits : l.count + l.turns ≡ (length l.signs - l.fn.at) + 1;
+  same : more l.closing l.mark (row_in (rows_of l.rows) l.depth l.bound l.row) l.turns l.count (work_of l.trail l.names.items (drop l.place l.signs)) ≡ more l.closing l.mark (row_in (rows_of l.rows) l.depth l.bound l.row) (length l.signs - l.fn.at) l.read (work_of l.fn.trail l.fn.names.items (drop l.fn.at l.signs));
+  fits : l.count + l.turns ≡ (length l.signs - l.fn.at) + l.read;
 }
 
 abbrev pub decreases-list-turns : goal.decreases-list-turns
