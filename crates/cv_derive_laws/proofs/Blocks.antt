@@ -1,5 +1,5 @@
 -- Each line outside blocks is true where all lines are right.
-use Rattle.std.proofs.Common.{◌≡◌, ℕ, ◌+◌, Bool, true, false, cond, ◌==◌, not, List, [], ◌∷◌, inl, inr, Option, Some, None, refl, ap, subst, ◌∙◌}
+use Rattle.std.proofs.Common.{◌≡◌, ℕ, ◌+◌, Bool, true, false, cond, ◌==◌, not, List, [], ◌∷◌, ◌⊎◌, inl, inr, Option, Some, None, refl, ap, subst, ◌∙◌}
 use Rattle.std.proofs.lemmas.Bool.{both_ways, and_parts}
 use Rattle.std.specs.List.{AllByRecursion}
 use Rattle.cv_syntax_trees.specs.declared.head.Head.TheVariants as head
@@ -25,7 +25,8 @@ use Rattle.cv_derive_rules.specs.Truths.{no}
 use Rattle.cv_derive_rules.specs.Lines.{Lines, End, By, Cases, Statement, Holds, IsDefined, count, lines_of, statements}
 use Rattle.cv_scene.specs.Reasons.{is_reason, is_right}
 use Rattle.cv_scene.specs.Sights.{Sight, is_condition, is_typed}
-use Rattle.cv_derive_laws.specs.stores.Truth.{HasClosedEquations, IsReached, IsTrue}
+use Rattle.cv_derive_laws.specs.stores.Truth.{HasClosedEquations, IsReached, IsTrue, WasReached}
+use Rattle.cv_derive_laws.specs.late.Lasting.{first_late, first_late_line, is_lasting}
 use Rattle.cv_derive_laws.proofs.Data.{by_data}
 use Rattle.cv_derive_laws.proofs.Reasons as reasons
 use Rattle.cv_derive_laws.proofs.Truths.{IsBit}
@@ -41,7 +42,7 @@ same_statement_law (IsDefined t) (IsDefined u) e = ap IsDefined (same_tree_exact
 same_statement_law (Holds t) (IsDefined u) e = absurd (both_ways false refl e)
 same_statement_law (IsDefined t) (Holds u) e = absurd (both_ways false refl e)
 
-module _ (s : Sight) (i : Interpretation) (at : Indices) (m n : Store) (r : IsReached s i at m n) (term_for : HasArguments s.scene.declarations) (well : IsWellFormed s.scene.declarations s.scene.game) (model : Satisfies s.scene.declarations i) (closed : HasClosedEquations s.scene.declarations) where
+module _ (s : Sight) (i : Interpretation) (at : Indices) (m n : Store) (r : WasReached s i at m n) (term_for : HasArguments s.scene.declarations) (well : IsWellFormed s.scene.declarations s.scene.game) (model : Satisfies s.scene.declarations i) (closed : HasClosedEquations s.scene.declarations) where
   abbrev Fine : Statement → Type 0
   Fine t = reasons.IsFine s i at m n r term_for well model closed t
 
@@ -54,33 +55,38 @@ module _ (s : Sight) (i : Interpretation) (at : Indices) (m n : Store) (r : IsRe
   abbrev V : Tree → ℕ
   V t = reasons.V s i at m n r term_for well model closed t
 
-  term_holds : (a : Tree) (v : Visible) (t reason : Tree) → Assumed a → AllFine v → is_term_at s.scene s.place t ≡ true → is_reason s a v t reason ≡ true → V t ≡ 1
-  term_holds a v t Empty h f k e = absurd (both_ways false refl e)
-  term_holds a v t (Node head.ByFact l b) h f k e = reasons.by_fact s i at m n r term_for well model closed v f (number_of l) t e
-  term_holds a v t (Node head.BySite l b) h f k e = reasons.by_site s i at m n r term_for well model closed v f l (number_of b) t e
-  term_holds a v t (Node head.ByEquation l ms) h f k e = reasons.by_equation s i at m n r term_for well model closed v f (number_of l) ms t e
-  term_holds a v t (Node head.ByRefl l b) h f k e = reasons.by_refl s i at m n r term_for well model closed v f t e
-  term_holds a v t (Node head.BySym l b) h f k e = reasons.by_sym s i at m n r term_for well model closed v f l (cited_term v l) t refl e
-  term_holds a v t (Node head.ByTrans l b) h f k e = reasons.by_trans s i at m n r term_for well model closed v f l b (cited_term v l) (cited_term v b) t refl refl e
-  term_holds a v t (Node head.ByCong ls b) h f k e = reasons.by_cong s i at m n r term_for well model closed v f ls t e
-  term_holds a v t (Node head.ByMp l b) h f k e = reasons.by_mp s i at m n r term_for well model closed v f l b (cited_term v l) (cited_term v b) t refl refl e
-  term_holds a v t (Node head.ByAnd l b) h f k e =
+  -- a line may be by `late` where the place is reached now
+  abbrev MayBe : Tree → Type 0
+  MayBe reason = IsReached s i at m n ⊎ (is_lasting reason ≡ true)
+
+  term_holds : (a : Tree) (v : Visible) (t reason : Tree) → MayBe reason → Assumed a → AllFine v → is_term_at s.scene s.place t ≡ true → is_reason s a v t reason ≡ true → V t ≡ 1
+  term_holds a v t Empty w h f k e = absurd (both_ways false refl e)
+  term_holds a v t (Node head.ByFact l b) w h f k e = reasons.by_fact s i at m n r term_for well model closed v f (number_of l) t e
+  term_holds a v t (Node head.BySite l b) w h f k e = reasons.by_site s i at m n r term_for well model closed v f l (number_of b) t e
+  term_holds a v t (Node head.ByEquation l ms) w h f k e = reasons.by_equation s i at m n r term_for well model closed v f (number_of l) ms t e
+  term_holds a v t (Node head.ByRefl l b) w h f k e = reasons.by_refl s i at m n r term_for well model closed v f t e
+  term_holds a v t (Node head.BySym l b) w h f k e = reasons.by_sym s i at m n r term_for well model closed v f l (cited_term v l) t refl e
+  term_holds a v t (Node head.ByTrans l b) w h f k e = reasons.by_trans s i at m n r term_for well model closed v f l b (cited_term v l) (cited_term v b) t refl refl e
+  term_holds a v t (Node head.ByCong ls b) w h f k e = reasons.by_cong s i at m n r term_for well model closed v f ls t e
+  term_holds a v t (Node head.ByMp l b) w h f k e = reasons.by_mp s i at m n r term_for well model closed v f l b (cited_term v l) (cited_term v b) t refl refl e
+  term_holds a v t (Node head.ByAnd l b) w h f k e =
       let x = reasons.sorted_term s i at m n r term_for well model closed t k in
       reasons.by_and s i at m n r term_for well model closed v f l b (cited_term v l) (cited_term v b) t (sort_of_meaning x.0) x.2 refl refl e
-  term_holds a v t (Node head.ByLeft l b) h f k e = reasons.by_left s i at m n r term_for well model closed v f l (cited_term v l) t refl e
-  term_holds a v t (Node head.ByRight l b) h f k e = reasons.by_right s i at m n r term_for well model closed v f l (cited_term v l) t refl e
-  term_holds a v t (Node head.ByContra l b) h f k e = reasons.by_contra s i at m n r term_for well model closed v f l b (cited_term v l) (cited_term v b) t refl refl e
-  term_holds a v t (Node head.ByLate l ls) h f k e = absurd (reasons.by_late s i at m n r term_for well model closed v f l ls (and_parts (same_tree t no) _ e).1)
-  term_holds a v t (Node head.ByExfalso l b) h f k e = absurd (reasons.said_no s i at m n r term_for well model closed v f l e)
-  term_holds a v t (Node head.ByData l b) h f k e = by_data s i at m n r term_for well model closed t k e
-  term_holds a v t (Node head.ByGiven l b) h f k e = reasons.by_given s i at m n r term_for well model closed v f a t h k e
-  term_holds a v t (Node head.ByAgain l b) h f k e = reasons.by_again s i at m n r term_for well model closed v f l t k e
-  term_holds a v t (Node head.ByBool l b) h f k e = reasons.by_truth s i at m n r term_for well model closed v f t k e
-  term_holds a v t (Node q l b) h f k e = absurd (both_ways false refl e)
+  term_holds a v t (Node head.ByLeft l b) w h f k e = reasons.by_left s i at m n r term_for well model closed v f l (cited_term v l) t refl e
+  term_holds a v t (Node head.ByRight l b) w h f k e = reasons.by_right s i at m n r term_for well model closed v f l (cited_term v l) t refl e
+  term_holds a v t (Node head.ByContra l b) w h f k e = reasons.by_contra s i at m n r term_for well model closed v f l b (cited_term v l) (cited_term v b) t refl refl e
+  term_holds a v t (Node head.ByLate l ls) (inl now) h f k e = absurd (reasons.by_late s i at m n r term_for well model closed v f now l ls (and_parts (same_tree t no) _ e).1)
+  term_holds a v t (Node head.ByLate l ls) (inr w) h f k e = absurd (both_ways false refl w)
+  term_holds a v t (Node head.ByExfalso l b) w h f k e = absurd (reasons.said_no s i at m n r term_for well model closed v f l e)
+  term_holds a v t (Node head.ByData l b) w h f k e = by_data s i at m n r term_for well model closed t k e
+  term_holds a v t (Node head.ByGiven l b) w h f k e = reasons.by_given s i at m n r term_for well model closed v f a t h k e
+  term_holds a v t (Node head.ByAgain l b) w h f k e = reasons.by_again s i at m n r term_for well model closed v f l t k e
+  term_holds a v t (Node head.ByBool l b) w h f k e = reasons.by_truth s i at m n r term_for well model closed v f t k e
+  term_holds a v t (Node q l b) w h f k e = absurd (both_ways false refl e)
 
-  statement_holds : (a : Tree) (v : Visible) (t : Statement) (reason : Tree) → Assumed a → AllFine v → is_right s a v t reason ≡ true → Fine t
-  statement_holds a v (Holds t) reason h f e = let p = and_parts (is_typed s (Holds t)) _ e in record { holds = term_holds a v t reason h f p.0 p.1; typed = p.0 }
-  statement_holds a v (IsDefined d) reason h f e = let p = and_parts (is_typed s (IsDefined d)) _ e in record { holds = reasons.cell_holds s i at m n r term_for well model closed v f d reason p.0 p.1; typed = p.0 }
+  statement_holds : (a : Tree) (v : Visible) (t : Statement) (reason : Tree) → MayBe reason → Assumed a → AllFine v → is_right s a v t reason ≡ true → Fine t
+  statement_holds a v (Holds t) reason w h f e = let p = and_parts (is_typed s (Holds t)) _ e in record { holds = term_holds a v t reason w h f p.0 p.1; typed = p.0 }
+  statement_holds a v (IsDefined d) reason w h f e = let p = and_parts (is_typed s (IsDefined d)) _ e in record { holds = reasons.cell_holds s i at m n r term_for well model closed v f d reason p.0 p.1; typed = p.0 }
 
   -- with one line more
   more_fine : (v : Visible) (k : ℕ) (t : Statement) → AllFine v → Fine t → AllFine (with_line v k t)
@@ -117,25 +123,46 @@ module _ (s : Sight) (i : Interpretation) (at : Indices) (m n : Store) (r : IsRe
       go (inl x) y z = ends_fine (statements e) (Holds t) (k (λ w. not_true c x)) z
       go (inr x) y z = ends_fine (statements d) (Holds t) (h (λ w. x)) y
 
-  lines_hold : (a : Tree) (v : Visible) (k : ℕ) (ls : Lines) → Assumed a → AllFine v → first_bad s a v k ls ≡ None → AllByRecursion Fine (statements ls)
+  -- so may lines
+  abbrev MayHave : ℕ → Lines → Type 0
+  MayHave k ls = IsReached s i at m n ⊎ (first_late k ls ≡ None)
+
+  line_parts : (k : ℕ) (t : Statement) (reason : Tree) (rest : Lines) → MayHave k (By t reason rest) → MayBe reason × MayHave (k + 1) rest
+  unfolding first_late
+  line_parts k t reason rest (inl now) = (inl now, inl now)
+  line_parts k t reason rest (inr e) =
+      let p = none_first (unless (is_lasting reason) k) _ e in
+      (inr (unless_none (is_lasting reason) k p.0), inr p.1)
+
+  case_parts : (k : ℕ) (c : Tree) (d e : Lines) (t : Tree) (rest : Lines) → MayHave k (Cases c d e t rest) → MayHave k d × MayHave (k + count d) e × MayHave (k + count d + count e + 1) rest
+  unfolding first_late
+  case_parts k c d e t rest (inl now) = (inl now, inl now, inl now)
+  case_parts k c d e t rest (inr z) =
+      let p = none_first (first_late k d) _ z in
+      let q = none_first (first_late (k + count d) e) _ p.1 in
+      (inr p.0, inr q.0, inr q.1)
+
+  lines_hold : (a : Tree) (v : Visible) (k : ℕ) (ls : Lines) → MayHave k ls → Assumed a → AllFine v → first_bad s a v k ls ≡ None → AllByRecursion Fine (statements ls)
   unfolding first_bad statements
-  lines_hold a v k End h f e = tt
-  lines_hold a v k (By t reason rest) h f e =
+  lines_hold a v k End l h f e = tt
+  lines_hold a v k (By t reason rest) l h f e =
+      let o = line_parts k t reason rest l in
       let p = none_first (unless (is_right s a v t reason) k) _ e in
-      let x : Fine t = statement_holds a v t reason h f (unless_none (is_right s a v t reason) k p.0) in
-      (x, lines_hold a (with_line v k t) (k + 1) rest h (more_fine v k t f x) p.1)
-  lines_hold a v k (Cases c d e t rest) h f z =
+      let x : Fine t = statement_holds a v t reason o.0 h f (unless_none (is_right s a v t reason) k p.0) in
+      (x, lines_hold a (with_line v k t) (k + 1) rest o.1 h (more_fine v k t f x) p.1)
+  lines_hold a v k (Cases c d e t rest) l h f z =
       let middle : ℕ = k + count d in
       let end : ℕ = middle + count e in
+      let o = case_parts k c d e t rest l in
       let p = none_first (first_bad s c v k d) _ z in
       let q = none_first (first_bad s (Node Not c Empty) v middle e) _ p.1 in
       let w = none_first (unless (is_right_split s c d e t) end) _ q.1 in
-      let x : Fine (Holds t) = split_holds c d e t (unless_none (is_right_split s c d e t) end w.0) (λ y. lines_hold c v k d y f p.0) (λ y. lines_hold (Node Not c Empty) v middle e y f q.0) in
-      (x, lines_hold a (with_line v end (Holds t)) (end + 1) rest h (more_fine v end (Holds t) f x) w.1)
+      let x : Fine (Holds t) = split_holds c d e t (unless_none (is_right_split s c d e t) end w.0) (λ y. lines_hold c v k d o.0 y f p.0) (λ y. lines_hold (Node Not c Empty) v middle e o.1 y f q.0) in
+      (x, lines_hold a (with_line v end (Holds t)) (end + 1) rest o.2 h (more_fine v end (Holds t) f x) w.1)
 
   all_true : (ts : List Statement) → AllByRecursion Fine ts → AllByRecursion (IsTrue (reasons.g s i at m n r term_for well model closed) at m n) ts
   all_true [] h = tt
   all_true (t ∷ ts) h = (h.0.holds, all_true ts h.1)
 
-  pub derivation_holds : (by : Tree) → first_bad_line s by ≡ None → AllByRecursion (IsTrue (reasons.g s i at m n r term_for well model closed) at m n) (statements (lines_of by))
-  derivation_holds by e = all_true (statements (lines_of by)) (lines_hold Empty nothing_visible 1 (lines_of by) (λ k. absurd (k refl)) (λ k t z. absurd (cc)) e)
+  pub derivation_holds : (by : Tree) → IsReached s i at m n ⊎ (first_late_line by ≡ None) → first_bad_line s by ≡ None → AllByRecursion (IsTrue (reasons.g s i at m n r term_for well model closed) at m n) (statements (lines_of by))
+  derivation_holds by l e = all_true (statements (lines_of by)) (lines_hold Empty nothing_visible 1 (lines_of by) l (λ k. absurd (k refl)) (λ k t z. absurd (cc)) e)

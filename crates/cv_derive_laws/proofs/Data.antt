@@ -31,7 +31,7 @@ use Rattle.cv_derive_laws.proofs.stores.Terms.{above_matches, term_known, term_t
 use Rattle.cv_derive_rules.specs.Inferences.{equations_of}
 use Rattle.cv_scene.specs.Reasons.{is_data_by, is_injective}
 use Rattle.cv_scene.specs.Sights.{Sight}
-use Rattle.cv_derive_laws.specs.stores.Truth.{HasClosedEquations, IsReached}
+use Rattle.cv_derive_laws.specs.stores.Truth.{HasClosedEquations, WasReached}
 use Rattle.cv_derive_laws.proofs.Reasons as reasons
 use Rattle.cv_derive_laws.proofs.Truths.{IsBit, bit_true, nought_one}
 
@@ -74,7 +74,7 @@ data_declared g f (Equiv y t ∷ ds) h a e = go (f == y) refl e (data_declared g
     go false j e k = let d = k e in record { arguments = d.arguments; result = d.result; declared = ap (λ b. cond b (Some (Equiv y t)) (declaration_of ds f)) j ∙ d.declared; injective = d.injective; named = d.named }
 data_declared g f (Query t ∷ ds) h a e = let d = data_declared g f ds h a.1 e in record { arguments = d.arguments; result = d.result; declared = d.declared; injective = d.injective; named = d.named }
 
-module _ (s : Sight) (i : Interpretation) (at : Indices) (m n : Store) (r : IsReached s i at m n) (term_for : HasArguments s.scene.declarations) (well : IsWellFormed s.scene.declarations s.scene.game) (model : Satisfies s.scene.declarations i) (closed : HasClosedEquations s.scene.declarations) where
+module _ (s : Sight) (i : Interpretation) (at : Indices) (m n : Store) (r : WasReached s i at m n) (term_for : HasArguments s.scene.declarations) (well : IsWellFormed s.scene.declarations s.scene.game) (model : Satisfies s.scene.declarations i) (closed : HasClosedEquations s.scene.declarations) where
   abbrev g : Setting
   g = setting_of s.scene.declarations i
 

@@ -36,7 +36,7 @@ use Rattle.cv_scene.specs.Late.{are_current, index_term, is_late, is_late_cell, 
 use Rattle.cv_scene.specs.Reasons.{are_congruent_by, are_of_types, arguments, equations_in, is_congruent, is_instance, is_reason_of_cell, is_tree}
 use Rattle.cv_scene.specs.Sights.{Sight, from_one, is_cell_at, is_term_of, is_typed, site_cells, site_facts}
 use Rattle.cv_derive_rules.specs.Truths.{is_truth, no}
-use Rattle.cv_derive_laws.specs.stores.Truth.{AreAssigned, AreTrue, HasClosedEquations, IfEquation, IsClosedEquation, IsReached, IsTrue, is_name_of}
+use Rattle.cv_derive_laws.specs.stores.Truth.{AreAssigned, AreTrue, HasClosedEquations, IfEquation, IsClosedEquation, IsReached, IsTrue, WasReached, is_name_of}
 use Rattle.cv_derive_laws.proofs.Substitution.{names_of, put_value}
 use Rattle.cv_derive_laws.proofs.Truths.{IsBit, below_two, bit_true, equal_true, nought_one, true_equal, truth_holds}
 use Rattle.cv_lists.proofs.Tests.{or_cases}
@@ -87,7 +87,7 @@ unfolding is_phrase
 no_cell_empty Empty e f = both_ways false refl e
 no_cell_empty (Node h a b) e f = cc
 
-module _ (s : Sight) (i : Interpretation) (at : Indices) (m n : Store) (r : IsReached s i at m n) (term_for : HasArguments s.scene.declarations) (well : IsWellFormed s.scene.declarations s.scene.game) (model : Satisfies s.scene.declarations i) (closed : HasClosedEquations s.scene.declarations) where
+module _ (s : Sight) (i : Interpretation) (at : Indices) (m n : Store) (r : WasReached s i at m n) (term_for : HasArguments s.scene.declarations) (well : IsWellFormed s.scene.declarations s.scene.game) (model : Satisfies s.scene.declarations i) (closed : HasClosedEquations s.scene.declarations) where
   abbrev pub g : Setting
   g = setting_of s.scene.declarations i
 
@@ -322,23 +322,23 @@ module _ (s : Sight) (i : Interpretation) (at : Indices) (m n : Store) (r : IsRe
     unassigned : (o : Option ℕ) → o ≡ None → is_some o ≡ true → ⊥
     unassigned o e f = both_ways (is_some o) (ap is_some e) f
 
-    late_cell : (d ls : Tree) → is_assigned g at m n d ≡ true → is_late_cell s v d ls ≡ true → ⊥
-    late_cell Empty ls h e = both_ways false refl e
-    late_cell (Node (Leaf y) a b) ls h e =
+    late_cell : IsReached s i at m n → (d ls : Tree) → is_assigned g at m n d ≡ true → is_late_cell s v d ls ≡ true → ⊥
+    late_cell now Empty ls h e = both_ways false refl e
+    late_cell now (Node (Leaf y) a b) ls h e =
         let p = and_parts (is_late y s.scene.game s.place) _ e in
-        unassigned (m y []) (r.late y [] (tuple at) p.0 refl) h
-    late_cell (Node (Read y) a b) ls h e =
+        unassigned (m y []) (now.late y [] (tuple at) p.0 refl) h
+    late_cell now (Node (Read y) a b) ls h e =
         let p = and_parts (is_late y s.scene.game s.place) _ e in
-        let q = current_values (replications_at s.scene s.place) at r.indices r.found (items a) (items ls) p.1 in
-        unassigned (m y (values g at n a)) (r.late y (values g at n a) q.0 p.0 (ap (λ us. us ++ q.0) (items_values a) ∙ q.1)) h
-    late_cell (Node k a b) ls h e = both_ways false refl h
+        let q = current_values (replications_at s.scene s.place) at r.indices now.found (items a) (items ls) p.1 in
+        unassigned (m y (values g at n a)) (now.late y (values g at n a) q.0 p.0 (ap (λ us. us ++ q.0) (items_values a) ∙ q.1)) h
+    late_cell now (Node k a b) ls h e = both_ways false refl h
 
-    late_line : (d ls : Tree) → ((d ≡ Empty → ⊥) → IsFine (IsDefined d)) → is_late_cell s v d ls ≡ true → ⊥
-    late_line Empty ls f e = both_ways false refl e
-    late_line (Node k a b) ls f e = late_cell (Node k a b) ls (f (λ z. cc)).holds e
+    late_line : IsReached s i at m n → (d ls : Tree) → ((d ≡ Empty → ⊥) → IsFine (IsDefined d)) → is_late_cell s v d ls ≡ true → ⊥
+    late_line now Empty ls f e = both_ways false refl e
+    late_line now (Node k a b) ls f e = late_cell now (Node k a b) ls (f (λ z. cc)).holds e
 
-    pub by_late : (l ls : Tree) → is_late_cell s v (cited_cell v l) ls ≡ true → ⊥
-    by_late l ls e = late_line (cited_cell v l) ls (cell_said l) e
+    pub by_late : IsReached s i at m n → (l ls : Tree) → is_late_cell s v (cited_cell v l) ls ≡ true → ⊥
+    by_late now l ls e = late_line now (cited_cell v l) ls (cell_said l) e
 
     pub by_given : (a t : Tree) → IsAssumed a → IsTerm t → same_tree t a ≡ true → V t ≡ 1
     by_given a t h k e = let q = same_tree_exact t a e in ap V q ∙ h (λ z. term_there t k (q ∙ z))

@@ -7,7 +7,7 @@ ghost use Rattle.cv_syntax_trees.specs.Tree.{Tree};
 ghost use Rattle.cv_meaning.specs.Tapes.{blank};
 ghost use Rattle.cv_meaning.specs.Interpretation.{Interpretation, setting_of};
 ghost use Rattle.cv_meaning.specs.Cells.{cells};
-ghost use Rattle.cv_meaning.specs.Memory.{Indices, Store};
+ghost use Rattle.cv_meaning.specs.Memory.{Indices, Memory, Store};
 ghost use Rattle.cv_meaning.specs.Runs.{Adversary, Mode};
 ghost use Rattle.cv_meaning.specs.Experiments.{visits_of_run};
 ghost use Rattle.cv_meaning.specs.Satisfies.{Satisfies};
@@ -16,6 +16,7 @@ ghost use Rattle.cv_scene.specs.Scenes.{Scene};
 ghost use Rattle.cv_scene.specs.Derivations.{Derives};
 ghost use Rattle.cv_derive_rules.specs.Lines.{lines_of, statements};
 ghost use Rattle.cv_scene.specs.Sights.{sight_at};
+ghost use Rattle.cv_derive_laws.specs.late.Lasting.{LastingHoldAt, WasVisited};
 ghost use Rattle.cv_derive_laws.specs.stores.Truth.{IsTrue};
 ghost use Rattle.cv_derive_laws.specs.stores.Holding.{HoldAt, HoldAtConditions, HoldAtFind, HoldAtVisit, IsReady};
 ghost use Rattle.cv_derive_laws.specs.stores.Soundness.{DerivationsHold, DerivedBodiesAreUnreached};
@@ -68,6 +69,17 @@ pub fn targets_hold()
         AllByRecursion (IsTrue (setting_of s.declarations i) at m n)
         (statements (lines_of targets)) }
 {}
+
+/// At a copy of a place that was visited, what a derivation there ends with stays true as the run goes on, if its
+/// lines are right and none is by `late`, also inside blocks.
+pub fn derivations_without_late_hold_later()
+    ensures { (s : Scene) → IsReady s.declarations s.game → (i : Interpretation) →
+        Satisfies s.declarations i → (place : ℕ) (at : Indices) (x : Memory) →
+        WasVisited s i place at x → LastingHoldAt s i place at x }
+{
+    games_are_contexts();
+    sites_stand_in_the_game();
+}
 
 /// Where `false` is derived at a place, no construct is visited there, and a branch whose body stands there is
 /// a candidate of its `find` with no tuple.

@@ -11,7 +11,7 @@ use Rattle.cv_meaning.specs.Runs.{Events, Random, Real}
 use Rattle.cv_meaning_chances.specs.unread.Dropping.{IsUntested}
 use Rattle.cv_scene.specs.Scenes.{Scene, asks_for, is_queried}
 use Rattle.cv_steps_laws.proofs.Unnamed.{asked_untested}
-use Rattle.cv_rule_merge.specs.Merging.{asks_for_one, is_one_queried}
+use Rattle.cv_rule_names.specs.Naming.{asks_for_one, is_one_queried}
 
 one_asked : (xs : ℕ → Bool) (y : ℕ) → xs y ≡ true → (q : Tree) → asks_for y q ≡ true → asks_for_one xs q ≡ true
 one_asked xs y k (Node (Secret z) a b) e = ap xs (eqb-true z y e) ∙ k

@@ -30,7 +30,8 @@ use Rattle.cv_steps.proofs.Sizes.{typed_names}
 use Rattle.cv_steps_laws.proofs.chances.Chances.{chance_inside}
 use Rattle.cv_steps_laws.proofs.chances.Inclusion.{replaced_included}
 use Rattle.cv_steps_laws.proofs.chances.Phrases.{phrase_there}
-use Rattle.cv_rule_merge.specs.Merging.{Body, bodies, first_naming, first_other, is_beside, is_one_queried}
+use Rattle.cv_rule_merge.specs.Merging.{Body, bodies, first_other, is_beside}
+use Rattle.cv_rule_names.specs.Naming.{first_naming, is_one_queried}
 use Rattle.cv_rule_merge.specs.Row.{merge_row, merge_row_by}
 use Rattle.cv_rule_merge.proofs.Asked.{all_untested}
 use Rattle.cv_rule_merge.proofs.Constructs.{bodies_output}

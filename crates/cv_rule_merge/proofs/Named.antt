@@ -9,7 +9,8 @@ use Rattle.cv_syntax_trees.specs.Tree.{Tree, Empty, Node, first_place, head_read
 use Rattle.cv_meaning_runs.specs.Replacement as at
 use Rattle.cv_meaning_runs.specs.Replacement.{IsReplaced, Part, Process, before_body}
 use Rattle.cv_meaning_chances.specs.unread.Dropping.{reads_none}
-use Rattle.cv_rule_merge.specs.Merging.{Body, first_naming, is_beside, names_one}
+use Rattle.cv_rule_merge.specs.Merging.{Body, is_beside}
+use Rattle.cv_rule_names.specs.Naming.{first_naming, names_one}
 use Rattle.cv_lists.proofs.Tests.{and_false}
 
 none_of : (v : Bool) (p : ℕ) (o q : Option ℕ) → cond v (Some p) (first_of o q) ≡ None → (v ≡ false) × (o ≡ None) × (q ≡ None)

@@ -18,7 +18,8 @@ use Rattle.cv_steps.specs.Steps.{Leads, Row, Zero}
 use Rattle.cv_rule_merge.specs.declared.naming.Skip.{Skip}
 use Rattle.cv_rule_merge.specs.declared.planning.Site.{Site}
 use Rattle.cv_rule_merge.specs.Looks.{first_besides, first_in, is_skipped}
-use Rattle.cv_rule_merge.specs.Merging.{Body, bodies, branch_bodies, first_naming, first_other, is_beside, is_between, is_one_queried}
+use Rattle.cv_rule_merge.specs.Merging.{Body, bodies, branch_bodies, first_other, is_beside}
+use Rattle.cv_rule_names.specs.Naming.{first_naming, is_between, is_one_queried}
 use Rattle.cv_rule_merge.specs.Row.{merge_row, merge_row_by, merge_step}
 use Rattle.cv_rule_merge.specs.Site.{IsSite, body_of}
 use Rattle.cv_lists.proofs.Each.{AllByRecursion_append}

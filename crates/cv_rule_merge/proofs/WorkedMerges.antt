@@ -20,7 +20,7 @@ use Rattle.cv_scene.specs.Terms.{is_there}
 use Rattle.cv_steps.specs.Steps.{Zero}
 use Rattle.cv_steps.specs.Judgements.{Accepted, Judgement, Refused, judgement_of}
 use Rattle.cv_steps_laws.specs.Worked.{copies, draws, plain, receives, scene_of, sends}
-use Rattle.cv_rule_merge.specs.Merging.{first_naming}
+use Rattle.cv_rule_names.specs.Naming.{first_naming}
 use Rattle.cv_rule_merge.specs.Row.{merge_step}
 use Rattle.cv_rule_merge.specs.Worked.{copies_of, copies_with, found, found_two, merges, sends_other, tested, yields}
 

@@ -7,7 +7,8 @@ use Rattle.cv_syntax_trees.specs.Tree.{Tree, Node}
 use Rattle.cv_syntax.specs.PoolTrees.{tree_at}
 use Rattle.cv_scope_rules.specs.Made.{is_own_at}
 use Rattle.cv_scene.specs.Scenes.{Scene}
-use Rattle.cv_rule_merge.specs.Merging.{Body, first_naming, is_between, is_one_queried}
+use Rattle.cv_rule_merge.specs.Merging.{Body}
+use Rattle.cv_rule_names.specs.Naming.{first_naming, is_between, is_one_queried}
 use Rattle.cv_rule_merge.specs.declared.bodies.Body.{Body as Found}
 use Rattle.cv_rule_merge.specs.declared.naming.Skip.{Skip}
 

@@ -9,7 +9,8 @@ use Rattle.cv_edit_places.specs.Changes.{need_at}
 use Rattle.cv_steps.specs.Changes.{change_at}
 use Rattle.cv_steps.specs.Rows.{unless, unless_at}
 use Rattle.cv_steps.specs.Steps.{Fails, Leads, Row, Step, Zero}
-use Rattle.cv_rule_merge.specs.Merging.{Body, bodies, first_naming, first_other, is_beside, is_one_queried}
+use Rattle.cv_rule_merge.specs.Merging.{Body, bodies, first_other, is_beside}
+use Rattle.cv_rule_names.specs.Naming.{first_naming, is_one_queried}
 
 -- that of a construct, by its bodies. An index variable that a query names stands before all places: a file has no such query, but
 -- what the step keeps is said of all scenes.

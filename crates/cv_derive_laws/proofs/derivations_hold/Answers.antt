@@ -1,5 +1,9 @@
+use Rattle.std.proofs.Common.{inl, inr}
 use Rattle.cv_derive_laws.proofs.Blocks.{derivation_holds}
 use Rattle.cv_derive_laws.proofs.derivations_hold.Goals as goal
 
-pub returns : goal.returns
-returns c = λ s i at m n by term_for well model closed r e. derivation_holds s i at m n r term_for well model closed by e
+pub returns-clause-reached : goal.returns-clause-reached
+returns-clause-reached c = λ s i at m n by term_for well model closed r e. derivation_holds s i at m n r.was term_for well model closed by (inl r) e
+
+pub returns-clause-lasting : goal.returns-clause-lasting
+returns-clause-lasting c = λ s i at m n by term_for well model closed r e l. derivation_holds s i at m n r term_for well model closed by (inr l) e

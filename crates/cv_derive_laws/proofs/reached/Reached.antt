@@ -38,21 +38,25 @@ use Rattle.cv_derive_facts.specs.Definitions.{IsBehind, behind_at}
 use Rattle.cv_scope_rules.specs.Behind.{in_body, in_condition, sites_of}
 use Rattle.cv_derive_facts.specs.Promises.{BranchesPlaces, BranchesStand, CandidatesStand, IsOwnTerm, PlaceStands, SitesStand, StandsIn, VisitSitesStand}
 use Rattle.cv_scope_rules.specs.Above.{stands_at}
+use Rattle.cv_scene.specs.Derivations.{first_bad_line}
 use Rattle.cv_scene.specs.Scenes.{Scene}
 use Rattle.cv_scene.specs.Terms.{replications_at, replications_by}
+use Rattle.cv_derive_rules.specs.Lines.{lines_of, statements}
 use Rattle.cv_derive_rules.specs.Given.{term_for, or_node, with_given}
 use Rattle.cv_scene.specs.Sights.{Sight, at_site, cells_by, facts_by, only_site, sight_at, site_of}
 use Rattle.cv_derive_laws.specs.stores.Reached.{BranchSitesStand, CandidateSitesStand, CellsBetween, HasTypes, PlaceCellsBetween, SiteCellsBetween, SitesStandNow}
 use Rattle.cv_scene.specs.Late.{is_late}
+use Rattle.cv_derive_laws.specs.late.Lasting.{LastingHoldAt, WasVisited, first_late_line}
 use Rattle.cv_derive_laws.specs.late.Unassigned.{IsWellVisited, LateAreUnassigned}
 use Rattle.cv_derive_laws.proofs.late.Branches.{AreLate, body_late, branch_phrase, condition_late, find_phrase, first_late, more_phrase, second_late}
 use Rattle.cv_derive_laws.proofs.stores.Sites.{bound_keeps, bound_other}
-use Rattle.cv_derive_laws.specs.stores.Truth.{AreAssigned, AreTrue, IsReached, is_name_of}
+use Rattle.cv_derive_laws.specs.stores.Truth.{AreAssigned, AreTrue, IsTrue, WasReached, is_name_of}
 use Rattle.cv_derive_laws.proofs.Blocks.{derivation_holds}
 use Rattle.cv_derive_laws.proofs.Substitution.{names_of, put_value, put_values}
 use Rattle.cv_derive_laws.specs.reached.Fine.{IsFine, IsFineCell, IsFineTerm, IsNamed}
 use Rattle.cv_derive_laws.specs.stores.Holding.{HoldAt, HoldAtCandidates, HoldAtConditions, HoldAtFind, HoldAtTests, HoldAtVisit, HoldInBodies, HoldInConditions, IsReady}
 use Rattle.cv_derive_laws.proofs.reached.Bound.{IsGood, candidate_typed, find_good, first_good, rest_good}
+use Rattle.cv_derive_laws.proofs.reached.Targets.{ends_hold}
 use Rattle.cv_derive_laws.proofs.reached.Replications.{Each, above, each_above, no_constants, no_variables, same_replications}
 use Rattle.cv_derive_laws.proofs.reached.Walks.{sites_fine}
 use Rattle.cv_lists.proofs.Each.{AllByRecursion_append}
@@ -143,7 +147,7 @@ module _ (s : Scene) (i : Interpretation) (ready : IsReady s.declarations s.game
   abbrev AreUnassigned : ℕ → Indices → Store → Type 0
   AreUnassigned p at m = (x : ℕ) (u more : List ℕ) → is_late x s.game p ≡ true → u ++ more ≡ tuple at → m x u ≡ None
 
-  module _ (p : ℕ) (Γ : Context) (at : Indices) (m n : Store) (there : stands_at s.game p ≡ Some Γ) (stands : IsBetween Γ at m n) (sites : SitesBetween m n) (types : IsTypedStore (context_of s.declarations s.game) i n) (found : AreFound at) (late : AreUnassigned p at m) where
+  module _ (p : ℕ) (Γ : Context) (at : Indices) (m n : Store) (there : stands_at s.game p ≡ Some Γ) (stands : IsBetween Γ at m n) (sites : SitesBetween m n) (types : IsTypedStore (context_of s.declarations s.game) i n) where
     constant_none : (y : ℕ) → is_constant_of s.declarations y ≡ true → found_in at y ≡ None
     constant_none y e = index_none g at Γ.replications y stands.indices (no_index (is_constant_of s.declarations) Γ.replications y (constants_apart p Γ there) e)
 
@@ -224,10 +228,9 @@ module _ (s : Scene) (i : Interpretation) (ready : IsReady s.declarations s.game
     known_there : Γ.replications ≡ replications_at s p
     known_there = sym (above_known (known_at s.game p) Γ.replications (same_replications s.game p ∙ ap above there))
 
-    reached : IsReached here i at m n
-    reached = record {
+    was_reached : WasReached here i at m n
+    was_reached = record {
       indices = subst (AreIndicesOf g at) known_there stands.indices;
-      found = found;
       facts = subst (λ o. AreTrue g at m n (facts_by o)) (sym there) stands.facts;
       cells = subst (λ o. AreAssigned g at m n (cells_by o)) (sym there) stands.cells;
       constants = constant_none;
@@ -235,17 +238,30 @@ module _ (s : Scene) (i : Interpretation) (ready : IsReady s.declarations s.game
           typed_value (context_of s.declarations s.game) i no_side (is_model s.declarations s.game i model ready.sorts) (replications_at s p) at n
           (subst (λ rs. meaning.AreIndicesOf i rs at) known_there (same_indices s.declarations i at Γ.replications stands.indices)) types t S h;
       sites = λ c k e. cell_serves c (and_parts (is_phrase OneCell c) _ k).0 e;
-      late = late;
     }
 
-    holds_between : HoldAt s i p at m n
-    holds_between by e = derivation_holds here i at m n reached ready.arguments ready.formed model ready.equations by e
+    holds_between : AreFound at → AreUnassigned p at m → HoldAt s i p at m n
+    holds_between found late by e = derivation_holds here i at m n was_reached ready.arguments ready.formed model ready.equations by (inl (record { was = was_reached; found = found; late = late })) e
+
+    lasting_between : (by : Tree) → first_late_line by ≡ None → first_bad_line here by ≡ None → AllByRecursion (IsTrue g at m n) (statements (lines_of by))
+    lasting_between by l e = derivation_holds here i at m n was_reached ready.arguments ready.formed model ready.equations by (inr l) e
 
   -- in one store
+
+  one_stands : (Γ : Context) (at : Indices) (x : Memory) → StandsIn g Γ at x → IsBetween Γ at x.store x.store
+  one_stands Γ at x stands = record { indices = stands.indices; facts = stands.facts; cells = stands.cells }
+
+  one_sites : (x : Memory) → SitesStandNow g s.game x → SitesBetween x.store x.store
+  one_sites x sites y q Δ e u v k = let r = sites y q Δ e u v k in (r.0, r.1, one_stands Δ r.0 x r.2)
+
   holds_there : (p : ℕ) (Γ : Context) (at : Indices) (x : Memory) → stands_at s.game p ≡ Some Γ → StandsIn g Γ at x → SitesStandNow g s.game x → IsTypedStore (context_of s.declarations s.game) i x.store → AreFound at → AreUnassigned p at x.store → HoldAt s i p at x.store x.store
   holds_there p Γ at x there stands sites types found late =
-      holds_between p Γ at x.store x.store there (record { indices = stands.indices; facts = stands.facts; cells = stands.cells })
-      (λ y q Δ e u v k. let r = sites y q Δ e u v k in (r.0, r.1, record { indices = r.2.indices; facts = r.2.facts; cells = r.2.cells })) types found late
+      holds_between p Γ at x.store x.store there (one_stands Γ at x stands) (one_sites x sites) types found late
+
+  pub lasting_hold : (p : ℕ) (at : Indices) (x : Memory) → WasVisited s i p at x → LastingHoldAt s i p at x
+  lasting_hold p at x v by targets d l =
+      ends_hold (IsTrue g at x.store x.store) (statements (lines_of by)) (statements (lines_of targets)) d.end
+      (lasting_between p v.context at x.store x.store v.known (one_stands v.context at x v.stands) (one_sites x v.sites) v.types by l d.right)
 
   -- at visits
 

@@ -39,7 +39,7 @@ module _ (P : Statement → Type 0) where
   same_all [] (u ∷ us) e h = absurd (both_ways false refl e)
   same_all (t ∷ ts) [] e h = absurd (both_ways false refl e)
 
-  ends_hold : (ts us : List Statement) → is_end ts us ≡ true → AllByRecursion P ts → AllByRecursion P us
+  pub ends_hold : (ts us : List Statement) → is_end ts us ≡ true → AllByRecursion P ts → AllByRecursion P us
   ends_hold ts us e h =
       let p = and_parts (not (nat_lt (length ts) (length us))) _ e in
       same_all (drop (length ts - length us) ts) us p.1 (dropped (length ts - length us) ts h)

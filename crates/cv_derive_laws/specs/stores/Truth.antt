@@ -27,12 +27,11 @@ AreTrue g at m n ts = AllByRecursion (λ t. value g at n t ≡ 1) ts
 abbrev pub AreAssigned : Setting → Indices → (m n : Store) → List Tree → Type 0
 AreAssigned g at m n cs = AllByRecursion (λ c. is_assigned g at m n c ≡ true) cs
 
--- The place is reached at a copy: the facts there are true, and the cells that are directly defined are assigned; no current
--- index is named as a constant; a typed term has a value of its sort; of the variable of an assigned cell with one site what
--- stands there holds, with the cell's index terms; and a variable that comes later than the place is assigned at no outer part of the copy.
-pub record IsReached (s : Sight) (i : Interpretation) (at : Indices) (m n : Store) : Type 0 where
+-- The place was reached at a copy, now or before: the facts there are true, and the cells that are directly defined are assigned; no
+-- current index is named as a constant; a typed term has a value of its sort; and of the variable of an assigned cell with one site
+-- what stands there holds, with the cell's index terms.
+pub record WasReached (s : Sight) (i : Interpretation) (at : Indices) (m n : Store) : Type 0 where
   pub indices : AreIndicesOf (setting_of s.scene.declarations i) at (replications_at s.scene s.place)
-  pub found : AllByRecursion (λ (p : ℕ × ℕ). found_in at p.0 ≡ Some p.1) at
   pub facts : AreTrue (setting_of s.scene.declarations i) at m n s.facts
   pub cells : AreAssigned (setting_of s.scene.declarations i) at m n s.cells
   pub constants : (x : ℕ) → is_constant_of s.scene.declarations x ≡ true → found_in at x ≡ None
@@ -42,6 +41,12 @@ pub record IsReached (s : Sight) (i : Interpretation) (at : Indices) (m n : Stor
   pub sites :
       (c : Tree) → is_cell_at s.scene s.place c ≡ true → is_assigned (setting_of s.scene.declarations i) at m n c ≡ true
       → AreTrue (setting_of s.scene.declarations i) at m n (site_facts s c) × AreAssigned (setting_of s.scene.declarations i) at m n (site_cells s c)
+
+-- It is reached now: each current index is found by its name, and a variable that comes later than the place is assigned at no outer
+-- part of the copy.
+pub record IsReached (s : Sight) (i : Interpretation) (at : Indices) (m n : Store) : Type 0 where
+  pub was : WasReached s i at m n
+  pub found : AllByRecursion (λ (p : ℕ × ℕ). found_in at p.0 ≡ Some p.1) at
   pub late : (x : ℕ) (u more : List ℕ) → is_late x s.scene.game s.place ≡ true → u ++ more ≡ tuple at → m x u ≡ None
 
 -- terms over these names, with reads at indices where they may be

@@ -8,8 +8,8 @@ use Rattle.cv_directory_sorts.specs.Sites.{first_of}
 use Rattle.cv_syntax.specs.NameSets.{is_in}
 use Rattle.cv_scene_view.proofs.Tested.{reads_first, reads_here, reads_rest}
 use Rattle.cv_rule_merge.specs.Looks.{is_skipped}
-use Rattle.cv_rule_merge.specs.Merging.{first_naming, names_one}
-use Rattle.cv_rule_merge.proofs.Looks.{naming_end, naming_node}
+use Rattle.cv_rule_names.specs.Naming.{first_naming, names_one}
+use Rattle.cv_rule_names.proofs.Looks.{naming_end, naming_node}
 use Rattle.cv_rule_merge.proofs.naming.+naming.Goals as goal
 
 pub returns-then-is_named-clause-found : goal.returns-then-is_named-clause-found

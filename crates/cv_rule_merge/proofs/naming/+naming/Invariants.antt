@@ -5,7 +5,7 @@ use Rattle.cv_syntax.specs.NameSets.{is_in}
 use Rattle.cv_syntax.specs.PoolTrees.{tree_at}
 use Rattle.cv_syntax.specs.Walks.{above}
 use Rattle.cv_rule_merge.specs.Looks.{is_skipped}
-use Rattle.cv_rule_merge.specs.Merging.{first_naming}
+use Rattle.cv_rule_names.specs.Naming.{first_naming}
 use Rattle.cv_rule_merge.proofs.naming.+naming.Given as goal
 
 abbrev pub decreases-naming : goal.decreases-naming

@@ -1,0 +1,15 @@
+pub mod WithTerms
+pub mod OnlyBranches
+pub mod Lates
+pub mod Listing
+pub mod Descent
+pub mod Elsewhere
+pub mod Reached
+pub mod Small
+pub mod InScope
+pub mod Standing
+pub mod Sides
+pub mod Saying
+pub mod Ends
+pub mod Sizes
+pub mod Planned

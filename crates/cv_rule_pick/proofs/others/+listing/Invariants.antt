@@ -1,0 +1,22 @@
+use Rattle.std.proofs.Common.{◌≡◌, ◌+◌, ◌≤◌, length}
+use Rattle.cv_pool.specs.Nodes.{ChildBelow}
+use Rattle.cv_syntax_trees.specs.Tree.{size}
+use Rattle.cv_syntax.specs.NameSets.{is_in}
+use Rattle.cv_syntax.specs.PoolTrees.{tree_at}
+use Rattle.cv_syntax.specs.Walks.{above}
+use Rattle.cv_rule_pick.specs.Picking.{first_listed}
+use Rattle.cv_rule_pick.proofs.others.+listing.Given as goal
+
+abbrev pub decreases-listing : goal.decreases-listing
+decreases-listing l = above l.tree
+
+abbrev pub invariant-tree : goal.invariant-tree
+invariant-tree l = record {
+  live : ChildBelow (length l.pool.trees) l.at;
+  less : above l.at ≤ above l.fn.tree;
+  sum : l.place + size (tree_at l.pool.trees l.at) ≡ l.fn.from + size (tree_at l.pool.trees l.fn.tree);
+  same : first_listed (is_in l.names) l.place (tree_at l.pool.trees l.at) ≡ first_listed (is_in l.names) l.fn.from (tree_at l.pool.trees l.fn.tree);
+}
+
+abbrev pub decreases-tree : goal.decreases-tree
+decreases-tree l = above l.at
