@@ -1,5 +1,5 @@
 -- How games change, when that can be done, and for how many nodes a pool is asked then. This profile's own.
-use Rattle.std.specs.Prelude.{◌≡◌, ℕ, ◌+◌, ◌<◌, ◌^◌, List, unwrap_or, IsSome}
+use Rattle.std.specs.Prelude.{◌≡◌, ℕ, ◌+◌, ◌<◌, ◌^◌, List, length, unwrap_or, IsSome}
 use Rattle.cv_pool.specs.KindTree.{KindTree}
 use Rattle.cv_pool.specs.declared.pool.PoolError.{PoolError}
 use Rattle.cv_pool.specs.declared.pool.PoolError.TheVariants as pool
@@ -18,8 +18,10 @@ use Rattle.cv_edit_changes.specs.pruning.Bodies as pruning
 use Rattle.cv_edit_changes.specs.pruning.Bodies.{part_of}
 use Rattle.cv_edit_changes.specs.renaming.Needs.{need_renaming}
 use Rattle.cv_edit_changes.specs.unletting.Games.{need_unletting, unlet}
+use Rattle.cv_edit_names.specs.Needs.{need_splitting}
+use Rattle.cv_edit_names.specs.Splitting.{split_game}
 use Rattle.cv_edit.specs.declared.edit.Edit.{Edit}
-use Rattle.cv_edit.specs.declared.edit.Edit.TheVariants.{At, Without, Renamed, Unlet, WithoutBody}
+use Rattle.cv_edit.specs.declared.edit.Edit.TheVariants.{At, Without, Renamed, Unlet, Split, WithoutBody}
 
 -- the game that an edit makes of a game
 abbrev pub edited : List KindTree → Tree → Edit → Tree
@@ -27,6 +29,7 @@ edited trees game (At p c) = change_at game p (change_of trees c)
 edited trees game (Without x) = without (only x) game
 edited trees game (Renamed x y) = renamed x y game
 edited trees game (Unlet x) = unwrap_or (unlet x game) game
+edited trees game (Split x names) = split_game x names.items game
 edited trees game (WithoutBody p body) = change_at game p (without_body p (part_of body))
 
 -- for how many nodes the pool is asked then
@@ -35,6 +38,7 @@ need_of game (At p c) = changes.need_of game p c
 need_of game (Without x) = need_without x game
 need_of game (Renamed x y) = need_renaming x game
 need_of game (Unlet x) = need_unletting x game
+need_of game (Split x names) = need_splitting x names.items game
 need_of game (WithoutBody p body) = pruning.need_of game p (part_of body)
 
 -- the place is in the game, what is put there is in the pool, and the game with it can be measured
@@ -49,6 +53,7 @@ CanBeMade trees game (At p c) = CanChange trees game p c
 CanBeMade trees game (Without x) = Unit {0}
 CanBeMade trees game (Renamed x y) = Unit {0}
 CanBeMade trees game (Unlet x) = IsSome (unlet x game)
+CanBeMade trees game (Split x names) = 0 < length names.items
 CanBeMade trees game (WithoutBody p body) = IsSome (pruned p (part_at game p) (part_of body))
 
 abbrev pub of_pool : PoolError → BuildError

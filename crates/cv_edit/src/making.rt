@@ -14,6 +14,8 @@ ghost use Rattle.cv_edit_changes.specs.pruning.Bodies.{part_of};
 ghost use Rattle.cv_edit_changes.specs.renaming.Needs.{need_renaming};
 ghost use Rattle.cv_edit_changes.specs.unletting.Assigned.{IsRead};
 ghost use Rattle.cv_edit_changes.specs.unletting.Games.{need_unletting, unlet};
+ghost use Rattle.cv_edit_names.specs.Needs.{need_splitting};
+ghost use Rattle.cv_edit_names.specs.Splitting.{split_game};
 ghost use Rattle.cv_edit.specs.Edits.{CanBeMade, CanChange, IsEditFault, edited, need_of};
 
 use crate::edit::Edit;
@@ -22,6 +24,7 @@ use cv_directory::Directory;
 use cv_edit_changes::pruning::{Body, make_without_body};
 use cv_edit_changes::renaming::make_renaming;
 use cv_edit_changes::unletting::make_unletting;
+use cv_edit_names::make_splitting;
 use cv_edit_places::{Change, drop_variable};
 use cv_syntax::{BuildError, NodeId, Pool};
 use std::alloc::Global;
@@ -140,6 +143,34 @@ fn make_unlet(
     }
 }
 
+/// Makes the game in which each definition of a variable has a name of its own.
+fn make_split(
+    alloc: Global,
+    pool: &mut Pool,
+    game: NodeId,
+    x: u32,
+    names: &[u32],
+) -> Result<Option<NodeId>, BuildError>
+    requires live { game.0 < length pool.old.trees }
+    requires fits { size (tree_at pool.old.trees (Some game)) < 2 ^ 32 }
+    requires limit { pool.old.limit < 4294967295 }
+    ensures tree { IfOk result (λ n. tree_at pool.new.trees n
+        ≡ split_game x names.now (tree_at pool.old.trees (Some game))) }
+    ensures live { IfOk result (λ n. ChildBelow (length pool.new.trees) n) }
+    ensures grows { Grows pool.old pool.new }
+    ensures few { OnOk result (length pool.new.trees ≤ length pool.old.trees
+        + need_splitting x names.now (tree_at pool.old.trees (Some game))) }
+    ensures room { OnOk result (length pool.old.trees
+        + need_splitting x names.now (tree_at pool.old.trees (Some game)) ≤ pool.old.limit) }
+    ensures fault { IfErr result (IsEditFault pool.old.limit (length pool.old.trees)
+        (need_splitting x names.now (tree_at pool.old.trees (Some game)))) }
+{
+    match make_splitting(alloc, pool, game, x, names) {
+        Ok(next) => Ok(next),
+        Err(fault) => Err(no_room(fault)),
+    }
+}
+
 /// Makes the game without a body of the construct at a place.
 fn make_pruned(
     alloc: Global,
@@ -199,6 +230,7 @@ pub fn make_game(
         Edit::Without { name } => make_without(alloc, pool, game, *name),
         Edit::Renamed { name, to } => make_renamed(alloc, pool, game, *name, *to),
         Edit::Unlet { name } => make_unlet(alloc, pool, game, directory, *name),
+        Edit::Split { name, names } => make_split(alloc, pool, game, *name, names),
         Edit::WithoutBody { place, body } => make_pruned(alloc, pool, game, *place, *body),
     }
 }

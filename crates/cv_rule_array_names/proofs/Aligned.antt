@@ -31,9 +31,9 @@ use Rattle.cv_scope_runs.proofs.Rows.{Row, bodies, branch, branches, call, defin
 use Rattle.cv_scope_runs.proofs.Standing.{Stands, first_below, in_first, in_second, second_below}
 use Rattle.cv_scene.specs.Scenes.{names}
 use Rattle.cv_steps.specs.Renaming.{renamed}
-use Rattle.cv_rule_array_names.specs.Cells.{with_names}
-use Rattle.cv_rule_array_names.specs.Sites.{Naming, name_at}
-use Rattle.cv_rule_array_names.specs.Splitting.{Around, behind, names_known, message_with_name, split_branches, split_in, with_name}
+use Rattle.cv_edit_names.specs.Cells.{with_names}
+use Rattle.cv_edit_names.specs.Naming.{Naming, name_at}
+use Rattle.cv_edit_names.specs.Splitting.{Around, behind, names_known, message_with_name, split_branches, split_in, with_name}
 use Rattle.cv_rule_array_names.proofs.Arms.{Arm, IsAt, IsNth, arm_tree, copy_of, here, later, there, this}
 use Rattle.cv_rule_array_names.proofs.Around.{IsTold, among_left, among_right, stands_free, told_owner, tuple_kept, among_holds}
 use Rattle.cv_rule_array_names.proofs.Branches.{CopyFact}

@@ -4,9 +4,9 @@ use Rattle.cv_syntax_trees.specs.declared.head.Head.TheVariants.{Binder, Branch,
 use Rattle.cv_syntax_trees.specs.Tree.{Tree, Empty, Node, first_place, second_place}
 use Rattle.cv_meaning.specs.Binders.{binder_count, fits, widest_binder}
 use Rattle.cv_steps.specs.Renaming.{renamed}
-use Rattle.cv_rule_array_names.specs.Cells.{with_names}
-use Rattle.cv_rule_array_names.specs.Sites.{Naming}
-use Rattle.cv_rule_array_names.specs.Splitting.{Around, body_place, names_known, split_in, with_name}
+use Rattle.cv_edit_names.specs.Cells.{with_names}
+use Rattle.cv_edit_names.specs.Naming.{Naming}
+use Rattle.cv_edit_names.specs.Splitting.{Around, body_place, names_known, split_in, with_name}
 
 -- a branch by its parts
 pub record Arm : Type 0 where

@@ -17,8 +17,8 @@ use Rattle.cv_scope_runs.specs.Reads.{IsKept}
 use Rattle.cv_scope_runs.proofs.Contexts.{CellHolds, Holds, IsFound, Matches}
 use Rattle.cv_scope_runs.proofs.Standing.{Stands, in_first, in_second, root}
 use Rattle.cv_scope_runs.proofs.TermsLater.{store_extends, values_kept}
-use Rattle.cv_rule_array_names.specs.Cells.{are_mixed, cells_in, first_mixed, first_unnamed, is_cell_of}
-use Rattle.cv_rule_array_names.specs.Splitting.{Around}
+use Rattle.cv_edit_names.specs.Cells.{are_mixed, cells_in, first_mixed, first_unnamed, is_cell_of}
+use Rattle.cv_edit_names.specs.Splitting.{Around}
 use Rattle.cv_rule_array_names.proofs.Lists.{unnamed_is}
 use Rattle.cv_rule_array_names.proofs.Stores.{Free, free_first, free_second}
 use Rattle.cv_rule_array_names.proofs.Values.{tuple_in}

@@ -18,9 +18,9 @@ use Rattle.cv_scope_runs.specs.Reads.{IsKept}
 use Rattle.cv_scope_runs.proofs.Contexts.{Holds, Matches, bound_later}
 use Rattle.cv_scope_runs.proofs.Games.{Game, stands_asked}
 use Rattle.cv_scope_runs.proofs.Standing.{Stands}
-use Rattle.cv_rule_array_names.specs.Cells.{are_mixed, cells_in, first_unnamed, is_cell_of, with_names}
-use Rattle.cv_rule_array_names.specs.Sites.{Naming, name_at}
-use Rattle.cv_rule_array_names.specs.Splitting.{Around, behind, body_place, names_known, looking_for, split_in, with_name}
+use Rattle.cv_edit_names.specs.Cells.{are_mixed, cells_in, first_unnamed, is_cell_of, with_names}
+use Rattle.cv_edit_names.specs.Naming.{Naming, name_at}
+use Rattle.cv_edit_names.specs.Splitting.{Around, behind, body_place, names_known, looking_for, split_in, with_name}
 use Rattle.cv_rule_array_names.proofs.Stores.{AreSplit, Free, bound_split, free_first, free_second, is_name}
 use Rattle.cv_rule_array_names.proofs.Values.{AreVariables, IsOwned, Unread, tuple_in, unread_first, unread_second}
 use Rattle.cv_rule_array_names.proofs.Lists.{all_unnamed, both, both_false, candidate_fails, candidate_same, named_with, none_unnamed, unnamed_cell}

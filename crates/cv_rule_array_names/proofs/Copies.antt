@@ -9,8 +9,9 @@ use Rattle.cv_meaning.specs.Binders.{bound_to, fits}
 use Rattle.cv_meaning.specs.Candidates.{Candidate, candidate, candidates_at, chosen, is_candidate}
 use Rattle.cv_meaning_runs.specs.Simulation.{InOrder}
 use Rattle.cv_scope_runs.proofs.Candidates.{IsChosen}
-use Rattle.cv_rule_array_names.specs.Sites.{Naming, are_apart, name_at}
-use Rattle.cv_rule_array_names.specs.Splitting.{Around, followed_by, with_name}
+use Rattle.cv_edit_names.specs.Naming.{Naming, name_at}
+use Rattle.cv_rule_array_names.specs.Sites.{are_apart}
+use Rattle.cv_edit_names.specs.Splitting.{Around, followed_by, with_name}
 use Rattle.cv_rule_array_names.proofs.Stores.{is_name}
 use Rattle.cv_rule_array_names.proofs.Arms.{Arm, IsAt, IsNth, arm_tree, copy_of, fits_renamed, here, there}
 

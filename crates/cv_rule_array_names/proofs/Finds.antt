@@ -20,9 +20,10 @@ use Rattle.cv_scope_runs.proofs.Contexts.{Holds, Matches}
 use Rattle.cv_scope_runs.proofs.Games.{Game, stands_phrase}
 use Rattle.cv_scope_runs.proofs.PathRuns.{GuardsShape, guards_shape, shape}
 use Rattle.cv_scope_runs.proofs.Standing.{Stands, in_first, in_second}
-use Rattle.cv_rule_array_names.specs.Cells.{are_mixed, cells_in, first_mixed, first_unnamed}
-use Rattle.cv_rule_array_names.specs.Sites.{Naming, are_apart, name_at}
-use Rattle.cv_rule_array_names.specs.Splitting.{Around, behind, copies_for, copies_of, followed_by, looking_for, split_branches}
+use Rattle.cv_edit_names.specs.Cells.{are_mixed, cells_in, first_mixed, first_unnamed}
+use Rattle.cv_edit_names.specs.Naming.{Naming, name_at}
+use Rattle.cv_rule_array_names.specs.Sites.{are_apart}
+use Rattle.cv_edit_names.specs.Splitting.{Around, behind, copies_for, copies_of, followed_by, looking_for, split_branches}
 use Rattle.cv_rule_array_names.proofs.Stores.{AreSplit, Free, is_name}
 use Rattle.cv_rule_array_names.proofs.Values.{AreVariables, Unread, unread_first, unread_second}
 use Rattle.cv_rule_array_names.proofs.Arms.{Arm, IsAt, IsNth, arm_tree, copy_of, count_renamed, here, later, this, widest_renamed}

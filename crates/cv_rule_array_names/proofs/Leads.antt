@@ -21,11 +21,12 @@ use Rattle.cv_steps.specs.Steps.{Cost, Leads, Zero}
 use Rattle.cv_steps.proofs.Rows.{leads_same, unless_at_leads, unless_leads}
 use Rattle.cv_steps_laws.proofs.Keeping.{unqueried}
 use Rattle.cv_steps_laws.proofs.Unnamed.{asked_untested}
-use Rattle.cv_rule_array_names.specs.Cells.{first_mixed}
+use Rattle.cv_edit_names.specs.Cells.{first_mixed}
 use Rattle.cv_rule_array_names.specs.Owners.{exchanged_cell, exchanged_tape, first_name, owner_in}
 use Rattle.cv_rule_array_names.specs.Row.{array_names_row}
-use Rattle.cv_rule_array_names.specs.Sites.{AreNoConstants, Naming, are_apart, has_names, naming_of}
-use Rattle.cv_rule_array_names.specs.Splitting.{split_game}
+use Rattle.cv_edit_names.specs.Naming.{Naming, naming_of}
+use Rattle.cv_rule_array_names.specs.Sites.{AreNoConstants, are_apart, has_names}
+use Rattle.cv_edit_names.specs.Splitting.{split_game}
 use Rattle.cv_rule_array_names.proofs.Finds.{IsSplitting}
 use Rattle.cv_rule_array_names.proofs.Owners.{holds_exchanged}
 use Rattle.cv_rule_array_names.proofs.Places.{site_named, site_variable, unnamed_sites}

@@ -14,3 +14,6 @@ pub mod Places
 pub mod Owners
 pub mod Leads
 pub mod WorkedSplits
+pub mod Planned
+pub mod MixedLists
+pub mod NewNames

@@ -26,9 +26,9 @@ use Rattle.cv_scope_runs.proofs.Games.{Game}
 use Rattle.cv_scope_runs.proofs.Plain.{game_context, game_plain, plain_no_calls}
 use Rattle.cv_scope_runs.proofs.ServeRuns.{VisitHolds, game_holds}
 use Rattle.cv_scope_runs.proofs.Standing.{Stands}
-use Rattle.cv_rule_array_names.specs.Sites.{Naming, name_at}
+use Rattle.cv_edit_names.specs.Naming.{Naming, name_at}
 use Rattle.cv_rule_array_names.specs.Owners.{exchanged_cell, makes_at, owner_in}
-use Rattle.cv_rule_array_names.specs.Splitting.{nothing_around, split_in}
+use Rattle.cv_edit_names.specs.Splitting.{nothing_around, split_in}
 use Rattle.cv_rule_array_names.proofs.Aligned.{AreTapes, is_moved}
 use Rattle.cv_rule_array_names.proofs.Finds.{IsSplitting}
 use Rattle.cv_rule_array_names.proofs.Places.{no_new_index}

@@ -22,7 +22,7 @@ use Rattle.cv_scope_runs.proofs.Games.{Game, has_parts, stands_phrase, stands_va
 use Rattle.cv_scope_runs.proofs.Rows.{position_of}
 use Rattle.cv_scope_runs.proofs.Standing.{Stands, in_first, in_second, root}
 use Rattle.cv_scene.specs.Scenes.{head_names, names}
-use Rattle.cv_rule_array_names.specs.Sites.{named_places}
+use Rattle.cv_edit_names.specs.Naming.{named_places}
 use Rattle.cv_rule_array_names.proofs.Around.{stands_free}
 use Rattle.cv_rule_array_names.proofs.Stores.{Free, is_name}
 

@@ -28,8 +28,8 @@ use Rattle.cv_scope_runs.proofs.Games.{Game, new_index}
 use Rattle.cv_scope_runs.proofs.ServeRuns.{VisitHolds}
 use Rattle.cv_scope_runs.proofs.Standing.{Stands, in_first, in_second, root, second_below, stands_known}
 use Rattle.cv_scope_runs.proofs.TermsLater.{Extends, values_kept}
-use Rattle.cv_rule_array_names.specs.Sites.{Naming, name_at}
-use Rattle.cv_rule_array_names.specs.Splitting.{Around, behind, in_replication, message_with_name, split_in}
+use Rattle.cv_edit_names.specs.Naming.{Naming, name_at}
+use Rattle.cv_edit_names.specs.Splitting.{Around, behind, in_replication, message_with_name, split_in}
 use Rattle.cv_rule_array_names.proofs.Arms.{fits_renamed}
 use Rattle.cv_rule_array_names.proofs.Around.{IsAround, IsTold, among_holds, own_cell, own_tuple}
 use Rattle.cv_rule_array_names.proofs.Finds.{IsSplitting}

@@ -20,8 +20,8 @@ use Rattle.cv_scope_rules.specs.Context.{nothing_known}
 use Rattle.cv_scope_rules.specs.Phrases.{Inputs}
 use Rattle.cv_scope_runs.proofs.Games.{Game}
 use Rattle.cv_scope_runs.proofs.Standing.{root}
-use Rattle.cv_rule_array_names.specs.Sites.{Naming}
-use Rattle.cv_rule_array_names.specs.Splitting.{nothing_around, split_in}
+use Rattle.cv_edit_names.specs.Naming.{Naming}
+use Rattle.cv_edit_names.specs.Splitting.{nothing_around, split_in}
 use Rattle.cv_rule_array_names.proofs.Aligned.{AreLikeMemories, AreTapes, Expected, Go, Like, services_aligned, together}
 use Rattle.cv_rule_array_names.proofs.Finds.{IsSplitting}
 use Rattle.cv_rule_array_names.proofs.Points.{opened_alike}

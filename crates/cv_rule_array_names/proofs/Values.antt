@@ -9,7 +9,7 @@ use Rattle.cv_syntax_trees.proofs.Equality.{same_tree_exact}
 use Rattle.cv_meaning.specs.Interpretation.{Setting}
 use Rattle.cv_meaning.specs.Memory.{Indices, Store}
 use Rattle.cv_meaning.specs.Terms.{bit, found_in, is_one, leaf_value, leaf_value_from, or_zero, value, values}
-use Rattle.cv_rule_array_names.specs.Cells.{called_head, is_cell_of, name_of, with_names}
+use Rattle.cv_edit_names.specs.Cells.{called_head, is_cell_of, name_of, with_names}
 use Rattle.cv_rule_array_names.proofs.Stores.{AreSplit, Free, free_first, free_second, head_free, is_name}
 
 -- the tuple of a cell

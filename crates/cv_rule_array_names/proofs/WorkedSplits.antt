@@ -16,9 +16,9 @@ use Rattle.cv_scene.specs.Scenes.{names}
 use Rattle.cv_scene.specs.Terms.{is_there}
 use Rattle.cv_steps.specs.Judgements.{judgement_of}
 use Rattle.cv_steps.specs.Renaming.{renamed}
-use Rattle.cv_rule_array_names.specs.Cells.{first_mixed, with_names}
+use Rattle.cv_edit_names.specs.Cells.{first_mixed, with_names}
 use Rattle.cv_rule_array_names.specs.Row.{array_names_step}
-use Rattle.cv_rule_array_names.specs.Splitting.{split_in, split_branches}
+use Rattle.cv_edit_names.specs.Splitting.{split_in, split_branches}
 use Rattle.cv_rule_array_names.specs.Worked.{cases}
 
 pub each : AllByRecursion (λ c. judgement_of c.0 (array_names_step c.1 c.2) ≡ c.3) cases

@@ -1,6 +1,6 @@
 pub mod Sites
-pub mod Cells
-pub mod Splitting
 pub mod Owners
 pub mod Row
+pub mod Planned
+pub mod Mixed
 pub mod Worked

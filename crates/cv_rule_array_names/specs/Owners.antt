@@ -10,7 +10,7 @@ use Rattle.cv_meaning.specs.Serving.{Visit}
 use Rattle.cv_meaning.specs.Tapes.{Cell, New_at, Tape, same_tuple}
 use Rattle.cv_scope_rules.specs.Made.{made_at}
 use Rattle.cv_scope_rules.specs.Sites.{Variable}
-use Rattle.cv_rule_array_names.specs.Sites.{Naming, name_at, naming_of}
+use Rattle.cv_edit_names.specs.Naming.{Naming, name_at, naming_of}
 
 -- a visit defines the variable at a copy
 abbrev pub makes_at : (x : ℕ) → Visit → (copy : List ℕ) → Bool

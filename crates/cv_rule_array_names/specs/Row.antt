@@ -4,9 +4,9 @@ use Rattle.std.specs.Prelude.{ℕ, ◌||◌, not, List}
 use Rattle.cv_scene.specs.Scenes.{Scene, is_queried, names}
 use Rattle.cv_steps.specs.Rows.{unless, unless_at}
 use Rattle.cv_steps.specs.Steps.{Leads, Row, Step, Zero}
-use Rattle.cv_rule_array_names.specs.Cells.{first_mixed}
+use Rattle.cv_edit_names.specs.Cells.{first_mixed}
 use Rattle.cv_rule_array_names.specs.Sites.{has_names}
-use Rattle.cv_rule_array_names.specs.Splitting.{split_game}
+use Rattle.cv_edit_names.specs.Splitting.{split_game}
 
 abbrev pub array_names_row : Scene → (x : ℕ) → (names : List ℕ) → Row
 array_names_row s x ys =

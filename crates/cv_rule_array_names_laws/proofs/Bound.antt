@@ -10,9 +10,9 @@ use Rattle.cv_steps.specs.Renaming.{renamed_head}
 use Rattle.cv_steps.proofs.Flat.{open_phrase}
 use Rattle.cv_steps_laws.proofs.Indices.{Lacks, lacking_empty, lacking_node, lacking_parts}
 use Rattle.cv_steps_laws.proofs.Unletted.{has_names, is_bare}
-use Rattle.cv_rule_array_names.specs.Cells.{called_head, name_of, with_names}
-use Rattle.cv_rule_array_names.specs.Sites.{Naming, name_at}
-use Rattle.cv_rule_array_names.specs.Splitting.{Around, behind, body_place, copies_of, followed_by, in_replication, names_known, message_with_name, split_branches, split_in, with_name}
+use Rattle.cv_edit_names.specs.Cells.{called_head, name_of, with_names}
+use Rattle.cv_edit_names.specs.Naming.{Naming, name_at}
+use Rattle.cv_edit_names.specs.Splitting.{Around, behind, body_place, copies_of, followed_by, in_replication, names_known, message_with_name, split_branches, split_in, with_name}
 
 names_bare : (σ : Phrase) (h : Head) (q : Phrase × Phrase) → parts σ h ≡ Some q → has_names h ≡ true → is_bare q.0 ≡ true
 names_bare Inputs (In c) q e f = let i : (let p : Phrase × Phrase = (Pattern, Body) in p) ≡ q = cc in ap (λ (p : Phrase × Phrase). is_bare p.0) (sym i)

@@ -15,7 +15,7 @@ use Rattle.cv_meaning_laws.specs.adequacy.Typed.{Context}
 use Rattle.cv_scene.specs.Scenes.{head_names, names}
 use Rattle.cv_steps.proofs.Sizes.{all_cells}
 use Rattle.cv_steps_laws.proofs.chances.Inclusion.{first_in, second_in}
-use Rattle.cv_rule_array_names.specs.Sites.{Naming}
+use Rattle.cv_edit_names.specs.Naming.{Naming}
 use Rattle.cv_rule_array_names_laws.proofs.Parts.{HeadFor, PartFor, again, for_binder, for_leaf, for_let, for_new, for_read, node, nothing, same}
 use Rattle.cv_rule_array_names.proofs.Runs.{IsOther}
 use Rattle.cv_rule_array_names.proofs.Stores.{Free, free_first, free_second, is_name}

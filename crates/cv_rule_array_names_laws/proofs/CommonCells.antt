@@ -26,7 +26,7 @@ use Rattle.cv_meaning_runs.specs.Listed.{has_no_calls}
 use Rattle.cv_steps.proofs.Sizes.{IsSized, NamesSorts, all_cells, all_sizes}
 use Rattle.cv_steps.specs.Changes.{only}
 use Rattle.cv_steps_laws.proofs.Unnamed.{unnamed_undrawn}
-use Rattle.cv_rule_array_names.specs.Sites.{Naming}
+use Rattle.cv_edit_names.specs.Naming.{Naming}
 use Rattle.cv_rule_array_names_laws.proofs.CellsBefore.{all_before, cell_before, named_before, other_before}
 use Rattle.cv_rule_array_names_laws.proofs.Counting.{IsCommon}
 use Rattle.cv_rule_array_names_laws.proofs.Exchange.{of_each}

@@ -20,8 +20,8 @@ use Rattle.cv_meaning_runs.specs.Listed.{IsTestable, has_no_calls}
 use Rattle.cv_scope_rules.specs.Phrases.{HasConstantsOf, IsWellFormed}
 use Rattle.cv_scope_rules.specs.Scope.{is_variable}
 use Rattle.cv_rule_array_names.specs.Owners.{exchanged_cell}
-use Rattle.cv_rule_array_names.specs.Sites.{Naming}
-use Rattle.cv_rule_array_names.specs.Splitting.{nothing_around, split_in}
+use Rattle.cv_edit_names.specs.Naming.{Naming}
+use Rattle.cv_edit_names.specs.Splitting.{nothing_around, split_in}
 use Rattle.cv_rule_array_names_laws.proofs.Exchange.{IsClosed, agree_before, each_of, of_each}
 use Rattle.cv_rule_array_names.proofs.Finds.{IsSplitting}
 use Rattle.cv_rule_array_names.proofs.Owners.{holds_exchanged, owner, owner_is_named}

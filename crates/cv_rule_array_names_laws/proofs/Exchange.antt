@@ -26,7 +26,7 @@ use Rattle.cv_scope_rules.specs.Scope.{is_variable}
 use Rattle.cv_scope_rules.specs.Sites.{Variable}
 use Rattle.cv_scope_runs.proofs.Plain.{VisitPlain, game_plain, plain_no_calls, visits_plain}
 use Rattle.cv_rule_array_names.specs.Owners.{exchanged_cell, owner_in}
-use Rattle.cv_rule_array_names.specs.Sites.{Naming}
+use Rattle.cv_edit_names.specs.Naming.{Naming}
 use Rattle.cv_rule_array_names.proofs.Around.{stands_free}
 use Rattle.cv_rule_array_names.proofs.Finds.{IsSplitting}
 use Rattle.cv_rule_array_names.proofs.Owners.{visits_expected, fine, name_apart, owner, owner_is_named, the_end, the_visits}

@@ -19,8 +19,9 @@ use Rattle.cv_steps.proofs.Testable.{game_no_calls, game_testable, local}
 use Rattle.cv_typing_runs.proofs.Games.{typed}
 use Rattle.cv_typing_runs.specs.Games.{context_of}
 use Rattle.cv_derive_laws.specs.stores.Holding.{IsReady}
-use Rattle.cv_rule_array_names.specs.Sites.{AreNoConstants, Naming, naming_of}
-use Rattle.cv_rule_array_names.specs.Splitting.{nothing_around, split_game}
+use Rattle.cv_edit_names.specs.Naming.{Naming, naming_of}
+use Rattle.cv_rule_array_names.specs.Sites.{AreNoConstants}
+use Rattle.cv_edit_names.specs.Splitting.{nothing_around, split_game}
 use Rattle.cv_rule_array_names_laws.proofs.CommonCells.{common, common_cells, equal_chances}
 use Rattle.cv_rule_array_names_laws.proofs.Counting.{chance_split}
 use Rattle.cv_rule_array_names.proofs.Finds.{has_copy}

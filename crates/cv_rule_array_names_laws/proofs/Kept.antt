@@ -21,7 +21,7 @@ use Rattle.cv_scope_rules.specs.declared.fault.Fault.TheVariants.{Replications}
 use Rattle.cv_steps.specs.Changes.{only}
 use Rattle.cv_steps_laws.proofs.Indices.{Lacks, lacking_empty, lacking_node, lacking_parts}
 use Rattle.cv_typing_runs.specs.Games.{AreDeclared, HasDeclaredSorts, NamesDeclared}
-use Rattle.cv_rule_array_names.specs.Sites.{Naming}
+use Rattle.cv_edit_names.specs.Naming.{Naming}
 use Rattle.cv_rule_array_names_laws.proofs.Parts.{HeadFor, PartFor, defines_other, again, for_binder, for_leaf, for_let, for_new, for_read, node, nothing, same}
 use Rattle.cv_rule_array_names.proofs.Stores.{is_name}
 

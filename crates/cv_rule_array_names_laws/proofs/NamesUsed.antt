@@ -12,7 +12,7 @@ use Rattle.cv_scope_rules.specs.Made.{is_bound, made_by}
 use Rattle.cv_scope_rules.specs.Phrases.{binds_none, head_binds_none}
 use Rattle.cv_scope_rules.specs.Sites.{Variable}
 use Rattle.cv_scope_rules.specs.declared.position.Position.TheVariants as position
-use Rattle.cv_rule_array_names.specs.Sites.{Naming, name_at, named_places, naming_of}
+use Rattle.cv_edit_names.specs.Naming.{Naming, name_at, named_places, naming_of}
 use Rattle.cv_rule_array_names_laws.proofs.Parts.{PartFor, again, node, nothing}
 use Rattle.cv_rule_array_names.proofs.Places.{is_place, place_of, same_places, site_places}
 use Rattle.cv_rule_array_names.proofs.Stores.{is_name}

@@ -21,7 +21,7 @@ use Rattle.cv_scope_rules.specs.declared.position.Position.{Position}
 use Rattle.cv_scope_rules.specs.declared.position.Position.TheVariants.{Anywhere, Bodies, Cells, ElseBody, Guarded, Guards, OneCell}
 use Rattle.cv_steps.specs.Changes.{only}
 use Rattle.cv_typing_runs.specs.Games.{are_named, are_variable_cells, has_site, is_named, is_variable_cell}
-use Rattle.cv_rule_array_names.specs.Cells.{is_cell_of}
+use Rattle.cv_edit_names.specs.Cells.{is_cell_of}
 use Rattle.cv_rule_array_names.proofs.Places.{index_pushed}
 use Rattle.cv_rule_array_names.proofs.Values.{Unread}
 

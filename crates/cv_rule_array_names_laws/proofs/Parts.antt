@@ -12,9 +12,9 @@ use Rattle.cv_scope_rules.specs.Sites.{Variable}
 use Rattle.cv_steps.specs.Renaming.{renamed, renamed_head, renamed_name}
 use Rattle.cv_steps.proofs.Flat.{AreStill, IfStill, is_of_terms, open_phrase, rows_still}
 use Rattle.cv_steps_laws.proofs.Unletted.{has_names}
-use Rattle.cv_rule_array_names.specs.Cells.{called_head, cells_in, first_unnamed, name_of, with_names}
-use Rattle.cv_rule_array_names.specs.Sites.{Naming, name_at}
-use Rattle.cv_rule_array_names.specs.Splitting.{Around, behind, copies_for, followed_by, in_replication, names_known, message_with_name, split_branches, split_in, with_name}
+use Rattle.cv_edit_names.specs.Cells.{called_head, cells_in, first_unnamed, name_of, with_names}
+use Rattle.cv_edit_names.specs.Naming.{Naming, name_at}
+use Rattle.cv_edit_names.specs.Splitting.{Around, behind, copies_for, followed_by, in_replication, names_known, message_with_name, split_branches, split_in, with_name}
 use Rattle.cv_rule_array_names.proofs.Arms.{arm_tree, copy_of}
 use Rattle.cv_rule_array_names.proofs.Finds.{ArmShape, HasCopy, arm, arm_of}
 use Rattle.cv_rule_array_names.proofs.Places.{is_place, place_left, place_right, site_places}

@@ -15,8 +15,9 @@ use Rattle.cv_steps_laws.proofs.Keeping.{IsGame, accepted, game_formed}
 use Rattle.cv_derive_laws.specs.stores.Holding.{IsReady}
 use Rattle.cv_derive_laws.specs.stores.Steps.{IsSound}
 use Rattle.cv_rule_array_names.specs.Row.{array_names_step}
-use Rattle.cv_rule_array_names.specs.Sites.{AreNoConstants, naming_of}
-use Rattle.cv_rule_array_names.specs.Splitting.{nothing_around}
+use Rattle.cv_edit_names.specs.Naming.{naming_of}
+use Rattle.cv_rule_array_names.specs.Sites.{AreNoConstants}
+use Rattle.cv_edit_names.specs.Splitting.{nothing_around}
 use Rattle.cv_rule_array_names_laws.proofs.Bound.{split_lacks}
 use Rattle.cv_rule_array_names_laws.proofs.Keeping.{keeps_chances, next_part}
 use Rattle.cv_rule_array_names_laws.proofs.Kept.{has_values, no_index, sorts_declared, variable_bound_nowhere}

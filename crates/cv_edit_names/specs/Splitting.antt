@@ -9,8 +9,8 @@ use Rattle.cv_scope_rules.specs.Context.{cell_of, replications_below}
 use Rattle.cv_scope_rules.specs.Made.{made_by}
 use Rattle.cv_scope_rules.specs.Sites.{Variable}
 use Rattle.cv_steps.specs.Renaming.{renamed, renamed_head}
-use Rattle.cv_rule_array_names.specs.Cells.{cells_in, first_unnamed, with_names}
-use Rattle.cv_rule_array_names.specs.Sites.{Naming, name_at, naming_of}
+use Rattle.cv_edit_names.specs.Cells.{cells_in, first_unnamed, with_names}
+use Rattle.cv_edit_names.specs.Naming.{Naming, name_at, naming_of}
 
 -- the replications above, the cells that lists around look for with the names that they have there, and the cell of the definition above
 pub record Around : Type 0 where

@@ -1,0 +1,8 @@
+mod Nodes
+mod Renamed
+mod ListedCells
+mod BranchSizes
+mod NamedPlaces
+mod Lists
+mod Told
+mod Sized

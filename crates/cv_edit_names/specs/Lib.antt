@@ -1,0 +1,7 @@
+pub mod Naming
+pub mod Cells
+pub mod Splitting
+pub mod Parts
+pub mod Sizes
+pub mod Kept
+pub mod Needs
