@@ -6,4 +6,4 @@ mod scribe;
 mod targets;
 
 pub use lines::{Claim, Derivation, Line, Reason};
-pub use targets::{MOST_LINES, Target, all_follow, copied, derive, follows};
+pub use targets::{MOST_LINES, Target, all_follow, copied, derive, derive_late, follows};

@@ -42,6 +42,8 @@ pub enum Reason {
     Again(u64),
     /// It is an equation of truth values, or `true`.
     Bool,
+    /// The first line's cell is one of a variable that comes later than the place, at current indices, as the other lines say.
+    Late(u64, Vec<u64>),
 }
 
 /// A line of a derivation.

@@ -1,9 +1,10 @@
 // Derivations of what follows in a closure, within the bounds of their length and of the weight of their lines.
 ghost use Rattle.std.specs.Prelude.{◌+◌, ◌*◌, ◌≤◌, IfOk, IfSome, length, vec_len};
 
-use crate::lines::{Derivation, Reason};
+use crate::lines::{Claim, Derivation, Line, Reason};
 use crate::scribe::{Scribe, Stop};
 use cv_closure::{Closure, TermId, Terms};
+use cv_syntax_trees::Head;
 use std::alloc::{AllocError, Global};
 
 /// How many lines a derivation has at most, whatever is known.
@@ -171,4 +172,51 @@ pub fn derive(
     } else {
         Ok(None)
     }
+}
+
+/// The targets that a cell is defined, and before that that terms are equal to indices.
+fn targets_of_cell(
+    alloc: Global,
+    cell: usize,
+    indices: &[(TermId, TermId)],
+) -> Result<Vec<Target>, AllocError> {
+    let mut targets = Vec::new(alloc);
+    for (term, index) in indices {
+        targets.push(Target::Equal(*term, *index))?;
+    }
+    targets.push(Target::Defined(cell))?;
+    Ok(targets)
+}
+
+/// The numbers of the lines before the last one, so many.
+fn lines_before(alloc: Global, last: u64, count: usize) -> Result<Vec<u64>, AllocError> {
+    let mut lines = Vec::new(alloc);
+    for line in last.saturating_sub(count as u64)..last {
+        lines.push(line)?;
+    }
+    Ok(lines)
+}
+
+/// A derivation that ends with `false`, where a cell is defined, these terms are equal to these indices, and the derivation is within
+/// the bounds: the cell is one of a variable that comes later than the place, at the current indices by these equations.
+pub fn derive_late(
+    alloc: Global,
+    closure: &Closure,
+    cell: usize,
+    indices: &[(TermId, TermId)],
+) -> Result<Option<Derivation>, AllocError> {
+    let targets = targets_of_cell(alloc, cell, indices)?;
+    let Some(mut derivation) = derive(alloc, closure, &targets)? else {
+        return Ok(None);
+    };
+    let Some(no) = derivation.terms.add(Head::No, &[])? else {
+        return Ok(None);
+    };
+    let last = derivation.lines.len() as u64;
+    let equations = lines_before(alloc, last, indices.len())?;
+    derivation.lines.push(Line {
+        claim: Claim::Holds(no),
+        by: Reason::Late(last, equations),
+    })?;
+    Ok(Some(derivation))
 }

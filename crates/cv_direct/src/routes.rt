@@ -2,7 +2,9 @@
 use crate::certificates::{Entry, Route};
 use crate::queries::{Atom, Correspondence};
 use cv_closure::{TermId, Theory};
-use cv_closure_lines::{Claim, Derivation, MOST_LINES, Target, all_follow, copied, derive};
+use cv_closure_lines::{
+    Claim, Derivation, MOST_LINES, Target, all_follow, copied, derive, derive_late,
+};
 use cv_grounds::{Event, Given, Grounds, Known, Survey, items, open, translate};
 use cv_syntax::{Head, NodeId, Pool};
 use std::alloc::{AllocError, Global};
@@ -212,6 +214,20 @@ impl Search {
         Ok(derivation)
     }
 
+    /// A derivation that no run comes to a place: what is known there contradicts itself, or a cell is defined that comes later.
+    fn never(&mut self, scene: Scene, place: u32) -> Result<Option<Derivation>, AllocError> {
+        if let Some(by) = self.derive(scene, &[Target::Never])? {
+            return Ok(Some(by));
+        }
+        let found = self
+            .grounds
+            .late_cell(scene.alloc, scene.survey, scene.last, place)?;
+        match found {
+            Some(late) => derive_late(scene.alloc, &self.grounds.closure, late.cell, &late.indices),
+            None => Ok(None),
+        }
+    }
+
     /// The derivation by which a candidate is a right event, where there is one.
     fn try_candidate(
         &mut self,
@@ -359,7 +375,7 @@ impl Search {
                 return Ok(Some(entry));
             }
         }
-        if let Some(by) = self.derive(scene, &[Target::Never])? {
+        if let Some(by) = self.never(scene, place)? {
             return Ok(Some(Entry::Never { place, by }));
         }
         if !are_put {

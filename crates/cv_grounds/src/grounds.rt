@@ -19,6 +19,14 @@ pub struct Grounds {
     depths: Vec<u32>,
 }
 
+/// A cell at current indices of a variable that comes later than the place: its number, and of each of its index terms that is another
+/// term than the current index, but equal to it, both.
+#[derive(Drop)]
+pub struct LateCell {
+    pub cell: usize,
+    pub indices: Vec<(TermId, TermId)>,
+}
+
 /// Whose facts are added: the place's own, or those at the site of a cell, with the cell's index terms and how far cells are
 /// that stand there.
 #[derive(Drop)]
@@ -266,5 +274,64 @@ impl Grounds {
             }
         }
         Ok(given)
+    }
+
+    /// The index terms of a cell that are other terms than the current indices, each with the one to which it is equal. There are none
+    /// where some index term isn't known to be equal to the current index.
+    fn current_indices(
+        &self,
+        alloc: Global,
+        cell: TermId,
+        current: &Given,
+    ) -> Result<Option<Vec<(TermId, TermId)>>, AllocError> {
+        let mut others = Vec::new(alloc);
+        let terms = self.closure.terms().arguments(cell);
+        if terms.len() > current.len() {
+            return Ok(None);
+        }
+        for (term, index) in terms.iter().zip(current.terms()) {
+            if !self.closure.are_equal(*term, *index) {
+                return Ok(None);
+            }
+            if *term != *index {
+                others.push((*term, *index))?;
+            }
+        }
+        Ok(Some(others))
+    }
+
+    /// Whether a variable comes later than a place.
+    fn is_late(&mut self, survey: &Survey, x: u32, place: u32) -> bool {
+        let effort = self.closure.effort();
+        let mut left = effort;
+        let is_late = survey.lateness().is_late(x, place, &mut left);
+        let _may_go_on = self.closure.spend(effort.saturating_sub(left) as usize);
+        is_late
+    }
+
+    /// The first cell that is defined at the place, by what is known there, and can't be: one at current indices of a variable that
+    /// comes later.
+    pub fn late_cell(
+        &mut self,
+        alloc: Global,
+        survey: &Survey,
+        last: u32,
+        place: u32,
+    ) -> Result<Option<LateCell>, AllocError> {
+        let current = self.given(alloc, survey, last, None)?;
+        for cell in 0..self.closure.cells().len() {
+            let Some(term) = self.closure.cells().get(cell).map(|c| c.term) else {
+                return Ok(None);
+            };
+            let Some(x) = variable_of(&self.closure, term) else {
+                return Ok(None);
+            };
+            if let Some(indices) = self.current_indices(alloc, term, &current)? {
+                if self.is_late(survey, x, place) {
+                    return Ok(Some(LateCell { cell, indices }));
+                }
+            }
+        }
+        Ok(None)
     }
 }

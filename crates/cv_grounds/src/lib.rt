@@ -3,14 +3,16 @@
 #![tactic(auto)]
 
 mod grounds;
+mod lateness;
 mod nodes;
 mod planting;
 mod survey;
 mod theories;
 mod translating;
 
-pub use grounds::Grounds;
-pub use nodes::{binders, items, open};
+pub use grounds::{Grounds, LateCell};
+pub use lateness::Lateness;
+pub use nodes::{binders, items, nodes_up_to, open};
 pub use planting::plant_terms;
 pub use survey::{Event, Known, Link, Survey};
 pub use theories::theory_of;

@@ -76,3 +76,29 @@ pub fn arguments(
         _ => Ok(None),
     }
 }
+
+/// How many nodes a tree has, where it has no more than so many; or a number that is greater.
+pub fn nodes_up_to(pool: &Pool, start: NodeId, most: u32) -> u32 {
+    let mut total = 0_u32;
+    let mut at = Some(start);
+    for _ in 0..pool.live() {
+        let Some(n) = at else {
+            return total;
+        };
+        let Some(node) = open(pool, n) else {
+            return total;
+        };
+        total = total.saturating_add(node.head.weight());
+        if let Some(child) = node.first {
+            if child.0 >= start.0 {
+                return total;
+            }
+            total = total.saturating_add(nodes_up_to(pool, child, most));
+        }
+        if total > most {
+            return total;
+        }
+        at = node.second;
+    }
+    total
+}

@@ -1,4 +1,5 @@
-// One walk over a game: what is known at each place, the sites of variables, and the events.
+// What is known at each place of a game, the sites of variables, and the events.
+use crate::lateness::Lateness;
 use crate::nodes::{binders, items, open};
 use cv_scope_rules::Position;
 use cv_syntax::{Game, Head, NodeId, Opened, Pool};
@@ -71,6 +72,7 @@ pub struct Survey {
     links: Vec<Link>,
     sites: HashMap<u32, Site>,
     events: Vec<Event>,
+    lateness: Lateness,
     place: u32,
 }
 
@@ -82,6 +84,7 @@ impl Survey {
             links: Vec::new(alloc),
             sites: HashMap::new(alloc),
             events: Vec::new(alloc),
+            lateness: Lateness::of(alloc, pool, game.root)?,
             place: 0,
         };
         let walk = Walk {
@@ -97,6 +100,11 @@ impl Survey {
     /// The events, in the order of their places.
     pub fn events(&self) -> &[Event] {
         &self.events
+    }
+
+    /// Which variables come later than a place.
+    pub fn lateness(&self) -> &Lateness {
+        &self.lateness
     }
 
     /// What is known behind the only definition of a variable, where there is one alone.

@@ -26,6 +26,8 @@ fn is_reason_below(count: u32, by: &Reason) -> bool
         Reason::Right(_) => true,
         Reason::Contra(_, _) => true,
         Reason::Bool => true,
+        Reason::Sym(_) => true,
+        Reason::Late(_, _) => true,
         _ => false,
     }
 }

@@ -5,7 +5,7 @@ use crate::stop::Stop;
 use crate::tally::Tally;
 use crate::terms::{Given, made, put};
 use cv_grounds::{items, open};
-use cv_settling_overview::facts::Citation;
+use cv_settling_overview::facts::{Citation, Equated};
 use cv_settling_overview::walk::{Falsehood, Overview, Pruning, Why};
 use cv_step_writer::{Body, Line, Proposal, Reason};
 use cv_syntax::{Head, NodeId, Pool};
@@ -31,6 +31,7 @@ fn is_unreached(pool: &Pool, overview: &Overview, why: &Why) -> bool {
         Why::Held(_) => true,
         Why::Denied(_) => true,
         Why::Cell(cell) => falsehood_of(pool, overview, *cell).is_some(),
+        Why::Late { .. } => true,
     }
 }
 
@@ -250,6 +251,75 @@ fn add_cell(
     cite(alloc, pool, lines, &given, &falsehood.citation, by)
 }
 
+/// Writes that an index term is the current index, and gives the number of the line.
+#[tactic(auto, using(crate::proofs::Growing::growing))]
+fn add_index(
+    alloc: Global,
+    pool: &mut Pool,
+    lines: &mut Vec<Line>,
+    equated: &Equated,
+) -> Result<u64, Stop>
+    ensures { Grows pool.old pool.new }
+{
+    let by = Reason::Fact(u64::from(equated.citation.fact));
+    cite(alloc, pool, lines, &[], &equated.citation, by)?;
+    let above = last_of(lines);
+    if !equated.is_turned {
+        return Ok(above);
+    }
+    if let Some(node) = open(pool, equated.equation) {
+        if let (Some(left), Some(right)) = (node.first, node.second) {
+            lines.push(Line::Equal {
+                left: right,
+                right: left,
+                by: Reason::Sym(above),
+            })?;
+        }
+    }
+    Ok(last_of(lines))
+}
+
+/// Writes that index terms are the current indices, and gives the numbers of the lines.
+#[tactic(auto, using(crate::proofs::Growing::growing))]
+fn add_indices(
+    alloc: Global,
+    pool: &mut Pool,
+    lines: &mut Vec<Line>,
+    indices: &[Equated],
+) -> Result<Vec<u64>, Stop>
+    ensures { Grows pool.old pool.new }
+{
+    let mut numbers = Vec::new(alloc);
+    for equated in indices {
+        let number = add_index(alloc, pool, lines, equated)?;
+        numbers.push(number)?;
+    }
+    Ok(numbers)
+}
+
+/// Writes that a cell comes later.
+#[tactic(auto, using(crate::proofs::Growing::growing))]
+fn add_late(
+    alloc: Global,
+    pool: &mut Pool,
+    lines: &mut Vec<Line>,
+    cell: NodeId,
+    indices: &[Equated],
+) -> Result<(), Stop>
+    ensures { Grows pool.old pool.new }
+{
+    let numbers = add_indices(alloc, pool, lines, indices)?;
+    lines.push(Line::Defined {
+        cell,
+        by: Reason::Here,
+    })?;
+    let at = last_of(lines);
+    let term = made(pool, Head::No, &[])?;
+    let by = Reason::Late(at, numbers);
+    lines.push(Line::Holds { term, by })?;
+    Ok(())
+}
+
 /// The step that drops a body, by its number among those that a walk noted.
 #[tactic(auto, using(crate::proofs::Growing::growing))]
 pub(crate) fn propose(
@@ -269,6 +339,7 @@ pub(crate) fn propose(
         Why::Held(there) => add_opposed(alloc, pool, &mut by, pruning, there, true)?,
         Why::Denied(there) => add_opposed(alloc, pool, &mut by, pruning, there, false)?,
         Why::Cell(cell) => add_cell(alloc, pool, overview, &mut by, *cell)?,
+        Why::Late { cell, indices } => add_late(alloc, pool, &mut by, *cell, indices)?,
     }
     Ok(Some(Proposal::Prune {
         place: u64::from(pruning.place),

@@ -1,35 +1,9 @@
 // The `let`s whose term may stand for their variable.
-use cv_grounds::open;
+use cv_grounds::{nodes_up_to, open};
 use cv_settling_overview::variables::Variable;
 use cv_settling_overview::walk::Overview;
 use cv_syntax::{Head, NodeId, Pool};
 use std::collections::HashSet;
-
-/// How many nodes a term has, where it has no more than so many; or a number that is greater.
-fn nodes_up_to(pool: &Pool, start: NodeId, most: u32) -> u32 {
-    let mut total = 0_u32;
-    let mut at = Some(start);
-    for _ in 0..pool.live() {
-        let Some(n) = at else {
-            return total;
-        };
-        let Some(node) = open(pool, n) else {
-            return total;
-        };
-        total = total.saturating_add(node.head.weight());
-        if let Some(child) = node.first {
-            if child.0 >= start.0 {
-                return total;
-            }
-            total = total.saturating_add(nodes_up_to(pool, child, most));
-        }
-        if total > most {
-            return total;
-        }
-        at = node.second;
-    }
-    total
-}
 
 /// Whether a term is a constant, or a read of at most as many nodes as a read of a variable below so many indices.
 fn is_short(pool: &Pool, term: NodeId, indices: u32) -> bool {

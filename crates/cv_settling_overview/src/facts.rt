@@ -51,6 +51,14 @@ pub struct Citation {
     pub sides: Vec<Side>,
 }
 
+/// Where an equation of a term with a name stands as a conjunct, and whether the name is its left side.
+#[derive(Drop)]
+pub struct Equated {
+    pub citation: Citation,
+    pub equation: NodeId,
+    pub is_turned: bool,
+}
+
 /// How much is known at a place, to come back to it.
 #[derive(Clone, Copy)]
 pub struct Mark {
@@ -90,7 +98,7 @@ fn key_of(n: NodeId, node: Opened) -> u64 {
 }
 
 /// Whether a term is this name without indices.
-fn is_name(pool: &Pool, term: Option<NodeId>, name: u32) -> bool {
+pub(crate) fn is_name(pool: &Pool, term: Option<NodeId>, name: u32) -> bool {
     let Some(node) = term.and_then(|n| open(pool, n)) else {
         return false;
     };
@@ -261,10 +269,15 @@ impl Facts {
 
     /// Where the conjunct with a key stands.
     fn cited(&self, key: u64) -> Result<Option<Citation>, AllocError> {
-        let mut number = match self.conjuncts.get(&key) {
-            Some(k) => k.saturating_add(1),
-            None => return Ok(None),
-        };
+        match self.conjuncts.get(&key) {
+            Some(k) => self.cited_part(k.saturating_add(1)),
+            None => Ok(None),
+        }
+    }
+
+    /// Where the part of a number stands, counted from 1.
+    fn cited_part(&self, start: usize) -> Result<Option<Citation>, AllocError> {
+        let mut number = start;
         let mut sides = Vec::new(self.alloc);
         for _ in 0..self.parts.len() {
             let Some(part) = self.part(number) else {
@@ -346,5 +359,53 @@ impl Facts {
             })),
             None => Ok(None),
         }
+    }
+
+    /// Whether a part is the equation of a term with a name, and if so whether the name is its left side.
+    fn is_turned(&self, pool: &Pool, part: Part, term: NodeId, name: u32) -> Option<bool> {
+        if part.is_denied {
+            return None;
+        }
+        let Entry::Conjunct(_) = part.entry else {
+            return None;
+        };
+        let node = open(pool, part.term)?;
+        let Head::Eq = node.head else {
+            return None;
+        };
+        if node.first? == term && is_name(pool, node.second, name) {
+            return Some(false);
+        }
+        if node.second? == term && is_name(pool, node.first, name) {
+            return Some(true);
+        }
+        None
+    }
+
+    /// Where the equation of a term with a name stands as a conjunct, where one is found with the effort that is left.
+    pub fn equating(
+        &self,
+        pool: &Pool,
+        term: NodeId,
+        name: u32,
+        left: &mut u32,
+    ) -> Result<Option<Equated>, AllocError> {
+        for (k, part) in self.parts.iter().enumerate() {
+            if *left == 0 {
+                return Ok(None);
+            }
+            *left -= 1;
+            if let Some(is_turned) = self.is_turned(pool, *part, term, name) {
+                let Some(citation) = self.cited_part(k.saturating_add(1))? else {
+                    return Ok(None);
+                };
+                return Ok(Some(Equated {
+                    citation,
+                    equation: part.term,
+                    is_turned,
+                }));
+            }
+        }
+        Ok(None)
     }
 }

@@ -1,7 +1,7 @@
 // One walk over a game, which collects what settling steps may be of.
-use crate::facts::{Citation, Facts};
+use crate::facts::{Citation, Equated, Facts, is_name};
 use crate::variables::{Site, Variables};
-use cv_grounds::{items, open};
+use cv_grounds::{Lateness, binders, items, open};
 use cv_scope_rules::Position;
 use cv_step_writer::Body;
 use cv_syntax::{Head, NodeId, Opened, Pool};
@@ -19,7 +19,13 @@ pub enum Why {
     Denied(Citation),
     /// Its list has this cell, whose only definition may be one that is not reached.
     Cell(NodeId),
+    /// Its list has this cell of a variable that comes later, at the current indices: of each of its index terms that isn't one, the
+    /// equation.
+    Late { cell: NodeId, indices: Vec<Equated> },
 }
+
+/// How much effort it may take to see which cells come later, in a game.
+const MOST_EFFORT: u32 = 500_000;
 
 /// A body that may be dropped: the place of its test, which body it is, the condition, the tree that goes, which is the body of an
 /// `if` or a branch, the number of the body's own fact, and why it is not reached.
@@ -130,6 +136,8 @@ pub struct Overview {
     pub terms: Vec<Placed>,
     falsehoods: Vec<Falsehood>,
     unreached: HashMap<u32, usize>,
+    lateness: Lateness,
+    left: u32,
     facts: Facts,
     place: u32,
 }
@@ -145,6 +153,8 @@ impl Overview {
             terms: Vec::new(alloc),
             falsehoods: Vec::new(alloc),
             unreached: HashMap::new(alloc),
+            lateness: Lateness::of(alloc, pool, game)?,
+            left: MOST_EFFORT,
             facts: Facts::new(alloc),
             place: 0,
         };
@@ -246,6 +256,74 @@ impl Overview {
         Ok(())
     }
 
+    /// The equations of the index terms of a cell with the current indices, of those that are no current index themselves. There are
+    /// none where for some index term no equation is a fact.
+    fn current_indices(
+        &mut self,
+        pool: &Pool,
+        cell: NodeId,
+    ) -> Result<Option<Vec<Equated>>, AllocError> {
+        let mut equations = Vec::new(self.alloc);
+        let Some(node) = open(pool, cell) else {
+            return Ok(None);
+        };
+        let terms = items(self.alloc, pool, node.first)?;
+        if terms.len() > self.facts.indices().len() {
+            return Ok(None);
+        }
+        for (term, index) in terms.iter().zip(self.facts.indices()) {
+            if !is_name(pool, Some(*term), *index) {
+                let equated = self.facts.equating(pool, *term, *index, &mut self.left)?;
+                let Some(equated) = equated else {
+                    return Ok(None);
+                };
+                equations.push(equated)?;
+            }
+        }
+        Ok(Some(equations))
+    }
+
+    /// Whether a cell is one of a variable that comes later, and not an index of the branch.
+    fn is_late(&mut self, pool: &Pool, branch: Branch, cell: NodeId) -> Result<bool, AllocError> {
+        let Some(node) = open(pool, cell) else {
+            return Ok(false);
+        };
+        let x = match node.head {
+            Head::Leaf(x) | Head::Read(x) => x,
+            _ => return Ok(false),
+        };
+        if !self.lateness.is_late(x, self.place, &mut self.left) {
+            return Ok(false);
+        }
+        let own = binders(self.alloc, pool, branch.indices)?;
+        Ok(!own.contains(&x))
+    }
+
+    /// Notes that a branch may be dropped, where a cell of its list comes later.
+    fn note_late_cell(
+        &mut self,
+        pool: &Pool,
+        number: u64,
+        n: NodeId,
+        branch: Branch,
+        cell: NodeId,
+    ) -> Result<(), AllocError> {
+        if !self.is_late(pool, branch, cell)? {
+            return Ok(());
+        }
+        let before = self.facts.mark();
+        self.facts.hold(pool, branch.condition)?;
+        let indices = self.current_indices(pool, cell)?;
+        self.facts.release(before);
+        match indices {
+            Some(indices) => {
+                let why = Why::Late { cell, indices };
+                self.note_pruning(Body::Branch(number), branch.condition, n, why)
+            }
+            None => Ok(()),
+        }
+    }
+
     /// Notes why a branch may be dropped.
     fn note_branch(
         &mut self,
@@ -260,6 +338,7 @@ impl Overview {
         }
         for cell in &items(self.alloc, pool, branch.cells)? {
             self.note_pruning(Body::Branch(number), condition, n, Why::Cell(*cell))?;
+            self.note_late_cell(pool, number, n, branch, *cell)?;
         }
         Ok(())
     }

@@ -1,9 +1,12 @@
-ghost use Rattle.std.specs.Prelude.{IfOk, IfSome, length};
+ghost use Rattle.std.specs.Prelude.{◌≡◌, IfOk, IfSome, length};
 ghost use Rattle.cv_pool.specs.PoolView.{Grows};
 ghost use Rattle.cv_step_writer.specs.Proposals.{IsProposalBelow};
+ghost use Rattle.cv_strategy.specs.declared.strategy.Phase.TheVariants.{Settling};
+ghost use Rattle.cv_strategy.specs.Phases.{phase_behind};
 
 use cv_bound::closings::ClosedQueries;
 use cv_direct::Proposer;
+use cv_grounds::nodes_up_to;
 use cv_moves::suggest as suggest_move;
 use cv_settling::suggest as suggest_settling;
 use cv_step_writer::Proposal;
@@ -21,6 +24,9 @@ enum Phase {
     Moving,
 }
 
+/// How many nodes the games have together, in which steps that settle and moves are proposed, each counted as often as one is.
+const MOST_NODES: u32 = 5_000_000;
+
 /// How far the strategy has come: a game is settled first, then queries are closed, and then a move is made, behind which it
 /// begins again. Proposals of a phase are numbered; the query of a number is counted from 1. What closes queries is made for the
 /// first one that is asked for, and kept while queries are closed.
@@ -29,6 +35,7 @@ pub struct Strategy {
     phase: Phase,
     number: u32,
     proposer: Option<Proposer>,
+    left: u32,
 }
 
 /// Whether a query isn't closed.
@@ -48,11 +55,51 @@ fn is_some_open(decls: &Decls, closed: &ClosedQueries) -> bool {
 
 impl Strategy {
     /// The strategy at a first game.
-    pub fn new() -> Strategy {
+    pub fn new() -> Strategy
+        ensures { result.phase ≡ Settling }
+    {
         Strategy {
             phase: Phase::Settling,
             number: 0,
             proposer: None,
+            left: MOST_NODES,
+        }
+    }
+
+    /// Counts the nodes of a game, and tells whether a step may be proposed in it.
+    fn may_look(&mut self, pool: &Pool, game: NodeId) -> bool {
+        let nodes = nodes_up_to(pool, game, self.left);
+        if nodes > self.left {
+            self.left = 0;
+            return false;
+        }
+        self.left -= nodes;
+        true
+    }
+
+    /// Goes to the first step that settles a game.
+    pub fn restart(&mut self)
+        ensures { self.new.phase ≡ Settling }
+    {
+        self.begin(Phase::Settling);
+    }
+
+    /// The next step to try that settles a game, as long as one may be proposed.
+    #[tactic(auto, using(crate::proofs::Growing::growing))]
+    pub fn settle(
+        &mut self,
+        alloc: Global,
+        pool: &mut Pool,
+        decls: &Decls,
+        game: NodeId,
+    ) -> Result<Option<Proposal>, PoolError>
+        ensures below { IfOk result (λ o. IfSome o (IsProposalBelow (length pool.new.trees))) }
+        ensures grows { Grows pool.old pool.new }
+    {
+        if self.may_look(pool, game) {
+            suggest_settling(alloc, pool, decls, game, self.number)
+        } else {
+            Ok(None)
         }
     }
 
@@ -62,14 +109,18 @@ impl Strategy {
     }
 
     /// Goes to the first proposal of a phase.
-    fn begin(&mut self, phase: Phase) {
+    fn begin(&mut self, phase: Phase)
+        ensures { self.new.phase ≡ phase }
+    {
         self.phase = phase;
         self.number = 0;
         self.proposer = None;
     }
 
     /// The step that was proposed last was accepted: it leads to another game, but for one that closes a query.
-    pub fn accept(&mut self) {
+    pub fn accept(&mut self)
+        ensures { self.new.phase ≡ phase_behind self.old.phase }
+    {
         match self.phase {
             Phase::Settling => self.begin(Phase::Settling),
             Phase::Closing => self.pass_over(),
@@ -78,7 +129,9 @@ impl Strategy {
     }
 
     /// The step that was proposed last isn't taken.
-    pub fn pass_over(&mut self) {
+    pub fn pass_over(&mut self)
+        ensures { self.new.phase ≡ self.old.phase }
+    {
         self.number = self.number.saturating_add(1);
     }
 
@@ -153,7 +206,7 @@ impl Strategy {
         ensures grows { Grows pool.old pool.new }
     {
         if let Phase::Settling = self.phase {
-            let step = suggest_settling(alloc, pool, decls, game, self.number)?;
+            let step = self.settle(alloc, pool, decls, game)?;
             if step.is_some() {
                 return Ok(step);
             }
@@ -166,7 +219,7 @@ impl Strategy {
             }
             self.begin(Phase::Moving);
         }
-        if !may_move || !is_some_open(decls, closed) {
+        if !may_move || !is_some_open(decls, closed) || !self.may_look(pool, game) {
             return Ok(None);
         }
         suggest_move(alloc, pool, decls, game, self.number)

@@ -61,6 +61,10 @@ fn reason_of(alloc: Global, nodes: &[NodeId], by: &Reason) -> Result<writer::Rea
         Reason::Data => Ok(writer::Reason::Data),
         Reason::Again(l) => Ok(writer::Reason::Again(*l)),
         Reason::Bool => Ok(writer::Reason::Bool),
+        Reason::Late(l, lines) => {
+            let list = Vec::from_slice(alloc, lines.as_slice())?;
+            Ok(writer::Reason::Late(*l, list))
+        }
     }
 }
 

@@ -1,4 +1,4 @@
-use Rattle.cv_settling.proofs.unlet.+nodes_up_to.Given as goal
+use Rattle.cv_grounds.proofs.nodes.+nodes_up_to.Given as goal
 
 abbrev pub decreases-nodes_up_to : goal.decreases-nodes_up_to
 decreases-nodes_up_to l = l.start.0
