@@ -65,7 +65,7 @@ use Rattle.cv_accept.specs.Accepted.{most_pool}
 use Rattle.cv_report.specs.verdicts.Verdicts.{ended_with}
 use Rattle.cv_follow.specs.Scripts.{EndsScript, entry_in, entry_of, first_open, is_proved, known_to}
 use Rattle.cv_follow.proofs.Closings.{all_proved_law}
-use Rattle.cv.specs.Strategy.{FollowsScript, FollowsStrategy, TakesSteps, declared_in, ends_under, game_in, moves_in, nodes_in, steps_in}
+use Rattle.cv.specs.Strategy.{FollowsScript, FollowsStrategy, TakesSteps, declared_in, ends_under, game_in, moves_in, steps_in}
 use Rattle.cv_kernel.specs.Proofs.{closed_by, nodes_along}
 use Rattle.cv_steps.specs.Sequences.{scene}
 use Rattle.cv_kernel.specs.Proofs.{Transition}
@@ -471,8 +471,8 @@ found_cause o r f s n w = by_end r.status w.ends
     by_end _ (by_limit which h) = passed which h
 
 -- the cause of what is said of a file with a proof block
-pub script_cause_of : (o : Outside) (r : Report) (f : File) (steps : List Tree) → r.file ≡ Some f → steps_in r ≡ Some steps → FollowsScript r f steps → ComesFrom o r r.status
-script_cause_of o r f steps s t w = go w.left w.split w.ends
+pub script_cause_of : (o : Outside) (r : Report) (f : File) (block : List Tree) → r.file ≡ Some f → steps_in r ≡ Some block → FollowsScript r f block → ComesFrom o r r.status
+script_cause_of o r f block s t w = go w.left w.split w.ends
   where
     there : (Holds : File → Type 0) → Holds f → IsSomeAnd r.file Holds
     there Holds h = subst (λ (x : Option File). IsSomeAnd x Holds) (sym s) h
@@ -484,12 +484,15 @@ script_cause_of o r f steps s t w = go w.left w.split w.ends
     qs = queries_in (declared_in r)
 
     -- the verdicts on the queries
-    closed : (unclosed : Option ℕ) → first_open (closed_by w.took.proof) 1 qs ≡ unclosed → steps ≡ map (λ t. t.step) w.took.proof ++ [] → ComesFrom o r (ended_with unclosed)
+    closed : (unclosed : Option ℕ) → first_open (closed_by w.took.proof) 1 qs ≡ unclosed → w.steps ≡ map (λ t. t.step) w.took.proof ++ [] → ComesFrom o r (ended_with unclosed)
     closed None q i = cause.all_proved (ap (list_all is_proved) w.took.verdicts ∙ all_proved_law w.took.proof qs q)
     closed (Some k) q i =
         let asked : HasOpenQuery r f k = record {
-          steps = steps;
+          block = block;
           there = t;
+          steps = w.steps;
+          room = w.room;
+          stands = w.stands;
           proof = w.took.proof;
           all = i ∙ append-nil (map (λ t. t.step) w.took.proof);
           last = w.took.last;
@@ -499,11 +502,14 @@ script_cause_of o r f steps s t w = go w.left w.split w.ends
         cause.no_close (there (λ (g : File). HasOpenQuery r g k) asked)
 
     -- or none are asked for
-    done : r.command ≡ command.Games → steps ≡ map (λ t. t.step) w.took.proof ++ [] → ComesFrom o r status.Done
+    done : r.command ≡ command.Games → w.steps ≡ map (λ t. t.step) w.took.proof ++ [] → ComesFrom o r status.Done
     done g i =
         let all : HasAllSteps r f = record {
-          steps = steps;
+          block = block;
           there = t;
+          steps = w.steps;
+          room = w.room;
+          stands = w.stands;
           proof = w.took.proof;
           all = i ∙ append-nil (map (λ t. t.step) w.took.proof);
           last = w.took.last;
@@ -511,20 +517,23 @@ script_cause_of o r f steps s t w = go w.left w.split w.ends
         } in
         cause.done g (there (λ (g : File). HasAllSteps r g) all)
 
-    by_command : (c : Command) → r.command ≡ c → (unclosed : Option ℕ) → first_open (closed_by w.took.proof) 1 qs ≡ unclosed → steps ≡ map (λ t. t.step) w.took.proof ++ [] → ComesFrom o r (ends_under c (ended_with unclosed))
+    by_command : (c : Command) → r.command ≡ c → (unclosed : Option ℕ) → first_open (closed_by w.took.proof) 1 qs ≡ unclosed → w.steps ≡ map (λ t. t.step) w.took.proof ++ [] → ComesFrom o r (ends_under c (ended_with unclosed))
     by_command command.Games g None q i = done g i
     by_command command.Games g (Some k) q i = done g i
     by_command (command.Prove n) g u q i = closed u q i
     by_command (command.Sample n p) g u q i = closed u q i
     by_command command.Nothing g u q i = closed u q i
 
-    go : (left : List Tree) → steps ≡ map (λ t. t.step) w.took.proof ++ left → EndsScript (nodes_in r f + nodes_along (declared_in r) (known_to r.work.decls.own) (game_in r f) w.took.proof) (length w.took.proof) (scene (declared_in r) (known_to r.work.decls.own) w.took.last) (closed_by w.took.proof) qs left w.end → ComesFrom o r r.status
+    go : (left : List Tree) → w.steps ≡ map (λ t. t.step) w.took.proof ++ left → EndsScript (w.room + nodes_along (declared_in r) (known_to r.work.decls.own) (game_in r f) w.took.proof) (length w.took.proof) (scene (declared_in r) (known_to r.work.decls.own) w.took.last) (closed_by w.took.proof) qs left w.end → ComesFrom o r r.status
     go [] i e =
         subst (ComesFrom o r) (sym (w.ended ∙ ap (ends_under r.command) e)) (by_command r.command refl (first_open (closed_by w.took.proof) 1 qs) refl i)
     go (next ∷ left) i e =
         let stop : HasStop r f w.end = record {
-          steps = steps;
+          block = block;
           there = t;
+          steps = w.steps;
+          room = w.room;
+          stands = w.stands;
           proof = w.took.proof;
           next = next;
           left = left;
@@ -534,5 +543,5 @@ script_cause_of o r f steps s t w = go w.left w.split w.ends
           count = count;
           stops = e;
         } in
-        let same = w.ended ∙ stops_under r.command (nodes_in r f + nodes_along (declared_in r) (known_to r.work.decls.own) (game_in r f) w.took.proof) (length w.took.proof) (scene (declared_in r) (known_to r.work.decls.own) w.took.last) (closed_by w.took.proof) next w.end e in
+        let same = w.ended ∙ stops_under r.command (w.room + nodes_along (declared_in r) (known_to r.work.decls.own) (game_in r f) w.took.proof) (length w.took.proof) (scene (declared_in r) (known_to r.work.decls.own) w.took.last) (closed_by w.took.proof) next w.end e in
         subst (ComesFrom o r) (sym same) (cause.stops (there (λ (g : File). HasStop r g w.end) stop))

@@ -20,18 +20,6 @@ games_is (command.Prove n) e = absurd (cc)
 games_is (command.Sample n p) e = absurd (cc)
 games_is command.Nothing e = absurd (cc)
 
--- another command ends as the proof block does
-pub others_end : (c : Command) (s : Status) → is_games c ≡ false → ends_under c s ≡ s
-others_end command.Games s e = absurd (cc)
-others_end (command.Prove n) s e = refl
-others_end (command.Sample n p) s e = refl
-others_end command.Nothing s e = refl
-
--- `games` is done where each step was accepted
-pub shown_ended : (o : Option ℕ) → shown (ended_with o) ≡ status.Done
-shown_ended None = refl
-shown_ended (Some k) = refl
-
 -- a step that isn't accepted ends each command alike
 
 shown_stops : (taken count : ℕ) (sc : Scene) (ks : List ℕ) (step : Tree) (s : Status) → Stops taken count sc ks step s → shown s ≡ s

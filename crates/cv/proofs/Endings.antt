@@ -54,6 +54,7 @@ use Rattle.cv.specs.Words.{AreTold, bytes_asked, command_of, text_asked}
 use Rattle.cv_words.specs.Forms.{Asked, Games, Prove, Sample}
 use Rattle.cv.proofs.Causing.{where_told}
 use Rattle.cv.proofs.Commands.{Speaks, speaks_under}
+use Rattle.cv_follow.specs.Fillings.{StandsBy, StandsFor, has_word}
 use Rattle.cv_follow.specs.Searches.{EndsSearch, Passes, by_limit, by_room, by_step, end_of_search, without_more}
 use Rattle.cv_lists.proofs.Options.{some_injective}
 use Rattle.cv_report.specs.declared.report.Cause.TheVariants.{Moves, Stuck}
@@ -76,12 +77,21 @@ script_proved s f steps g w = go w.left w.split w.ends
         ) in
         absurd (never_stops (content_nodes f + nodes_along f.declarations (known_to f.own) f.game w.proof) (length w.proof) (scene f.declarations (known_to f.own) w.last) (closed_by w.proof) next (g.goes w.proof w.last next left i w.leads) few s e)
 
-file_proved : (c : Command) (s : Status) (f : Content) (script : Option (List Tree)) (steps : List Tree) → script ≡ Some steps → AcceptsAll f steps → EndsBy c f script s → s ≡ ends_under c status.Proved
-file_proved c s f None steps e g h = absurd (cc)
-file_proved c s f (Some given) steps e g h = h.ends ∙ ap (ends_under c) (script_proved h.walked f given (subst (AcceptsAll f) (sym (some_injective e)) g) h.follows)
+-- a script without the word is followed itself
+plain_follows : (f : Content) (block steps : List Tree) (room : ℕ) (s : Status) → has_word block ≡ false → StandsFor (content_nodes f) block steps room → Follows room f.declarations f.own f.game steps (queries_in f.declarations) s → Follows (content_nodes f) f.declarations f.own f.game block (queries_in f.declarations) s
+plain_follows f block steps room s n h w =
+    let both = subst (λ b. StandsBy b (content_nodes f) block steps room) n h in
+    subst (λ k. Follows k f.declarations f.own f.game block (queries_in f.declarations) s) both.1
+    (subst (λ ts. Follows room f.declarations f.own f.game ts (queries_in f.declarations) s) both.0 w)
+
+file_proved : (c : Command) (s : Status) (f : Content) (script : Option (List Tree)) (steps : List Tree) → script ≡ Some steps → has_word steps ≡ false → AcceptsAll f steps → EndsBy c f script s → s ≡ ends_under c status.Proved
+file_proved c s f None steps e n g h = absurd (cc)
+file_proved c s f (Some given) steps e n g h =
+    let same : steps ≡ given = sym (some_injective e) in
+    h.ends ∙ ap (ends_under c) (script_proved h.walked f given (subst (AcceptsAll f) same g) (plain_follows f given h.steps h.room h.walked (ap has_word (sym same) ∙ n) h.stands h.follows))
 
 good_proved : (c : Command) (s : Status) (bytes : List ℕ) → IsGood bytes → IsExpected c (read_of most_pool bytes) s → s ≡ ends_under c status.Proved
-good_proved c s bytes g h = file_proved c s g.content g.content.script g.steps g.script g.succeeds (subst (λ r. IsExpected c r s) (file_is_read most_pool bytes g.content g.file) h)
+good_proved c s bytes g h = file_proved c s g.content g.content.script g.steps g.script g.plain g.succeeds (subst (λ r. IsExpected c r s) (file_is_read most_pool bytes g.content g.file) h)
 
 -- a pool has room for the proof block of a good file
 
@@ -135,10 +145,10 @@ ended_speaks : (o : Option ℕ) → SpeaksOfFile (ended_with o)
 ended_speaks None = tt
 ended_speaks (Some k) = tt
 
-follows_speak : (f : Content) (steps : List Tree) (s : Status) → Follows (content_nodes f) f.declarations f.own f.game steps (queries_in f.declarations) s → SpeaksOfFile s
-follows_speak f steps s h = go h.left h.ends
+follows_speak : (f : Content) (room : ℕ) (steps : List Tree) (s : Status) → Follows room f.declarations f.own f.game steps (queries_in f.declarations) s → SpeaksOfFile s
+follows_speak f room steps s h = go h.left h.ends
   where
-    go : (left : List Tree) → EndsScript (content_nodes f + nodes_along f.declarations (known_to f.own) f.game h.proof) (length h.proof) (scene f.declarations (known_to f.own) h.last) (closed_by h.proof) (queries_in f.declarations) left s → SpeaksOfFile s
+    go : (left : List Tree) → EndsScript (room + nodes_along f.declarations (known_to f.own) f.game h.proof) (length h.proof) (scene f.declarations (known_to f.own) h.last) (closed_by h.proof) (queries_in f.declarations) left s → SpeaksOfFile s
     go [] e = subst SpeaksOfFile (sym e) (ended_speaks (first_open (closed_by h.proof) 1 (queries_in f.declarations)))
     go (next ∷ left) e = stop_speaks _ _ _ _ next s e
 
@@ -166,7 +176,7 @@ without_speaks f false moves s h = inr (search_speaks _ _ _ _ _ _ _ s h.1.ends)
 
 ends_speak : (c : Command) (f : Content) (script : Option (List Tree)) (s : Status) → EndsBy c f script s → Speaks s
 ends_speak c f None s h = without_speaks f (is_games c) (moves_in c) s h
-ends_speak c f (Some steps) s h = subst Speaks (sym h.ends) (speaks_under c h.walked (follows_speak f steps h.walked h.follows))
+ends_speak c f (Some steps) s h = subst Speaks (sym h.ends) (speaks_under c h.walked (follows_speak f h.room h.steps h.walked h.follows))
 
 refusal_speaks : (x : FileError) → (ended_by x ≡ status.Memory) ⊎ SpeaksOfFile (ended_by x)
 refusal_speaks (fault.Lex x) = inr tt
@@ -384,14 +394,5 @@ memory_complete c None s e = tt
 memory_complete c (Some b) s e = subst (λ (x : Status). IsComplete c b x) (sym e) (record { short = λ k. tt; long = λ k. inr refl })
 
 -- words that give a command
-
-pub some_given : (asked : Option Asked) (given : Asked) → Some given ≡ asked → IsNone asked → ⊥
-some_given asked given e n = (let none = subst (λ (a : Option Asked). IsNone a) (sym e) n in cc)
-
-pub other_text : (asked : Option Asked) (given : Asked) → Some given ≡ asked → text_asked given ≡ None → IsSome (option_and_then text_asked asked) → ⊥
-other_text asked given e t h =
-    let there = subst (λ (a : Option Asked). IsSome (option_and_then text_asked a)) (sym e) h in
-    let none = subst (λ (x : Option ℕ). IsSome x) t there in
-    (cc)
 
 pub ruleset without_file = (sound_without, close_without, steps_without, calls_without, memory_answers, memory_cause, words_answers, words_cause, text_answers, text_cause, text_untold, text_no_games, untold_complete)

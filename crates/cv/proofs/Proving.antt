@@ -17,7 +17,7 @@ use Rattle.cv_meaning.specs.Runs.{Adversary, Random, Real}
 use Rattle.cv_meaning.specs.Satisfies.{Satisfies}
 use Rattle.cv_meaning_chances.specs.Fractions.{HasTapes}
 use Rattle.cv_meaning.specs.Queries.{queries_in}
-use Rattle.cv_query_direct.specs.forms.Built.{asks_unbuilt, has_unbuilt, is_unbuilt_step, lacks_form}
+use Rattle.cv_query_kinds.specs.Built.{asks_unbuilt, has_unbuilt, is_unbuilt_step, lacks_form}
 use Rattle.cv_query_certificates.specs.Accepted.{IsAccepted, IsEventsProof, IsSecretProof, is_built}
 use Rattle.cv_query_certificates.specs.Failures.{first_failure}
 use Rattle.cv_accept.specs.Accepted.{Content, asks_unbuilt as file_unbuilt, read_of, most_bytes}
@@ -27,7 +27,7 @@ use Rattle.cv_parse_tables.specs.terminals.Signs.{signs_of}
 use Rattle.cv_accept.specs.Accepted.{most_pool}
 use Rattle.cv_report.specs.declared.report.Report.{Report}
 use Rattle.cv_syntax.specs.declared.work.File.{File}
-use Rattle.cv_query_direct.specs.closed_terms.Closed.{HasClosedQueries, IsClosedQuery}
+use Rattle.cv_query_kinds.specs.Closed.{HasClosedQueries, IsClosedQuery}
 use Rattle.cv_query_laws.specs.correspondences.Premises.{IsProved}
 use Rattle.cv_scene.specs.Scenes.{Scene}
 use Rattle.cv_scene.specs.Sights.{from_one}
@@ -57,7 +57,8 @@ use Rattle.cv_kernel.specs.Proofs.{IsProof, IsTransition, Transition, closed_by,
 use Rattle.cv.specs.Contexts.{contexts_in}
 use Rattle.cv.specs.Runs.{IsBounded, IsSoundFor}
 use Rattle.cv_follow.specs.Scripts.{known_to}
-use Rattle.cv.specs.Strategy.{FollowsScript, FollowsStrategy, Proceeds, ProceedsWithout, TakesSteps, declared_in, file_in, game_in, is_games, steps_in}
+use Rattle.cv_follow.proofs.Fillings.{stands_built}
+use Rattle.cv.specs.Strategy.{FollowsScript, FollowsStrategy, Proceeds, ProceedsWithout, TakesSteps, declared_in, file_in, game_in, is_games, nodes_in, steps_in}
 use Rattle.cv.proofs.OpenQueries.{none_proved}
 use Rattle.cv.specs.Values.{Contexts, advantage_of, advantages_of, context_of, is_once, secret_of, value_of}
 use Rattle.cv_follow.specs.Walks.{sums_along}
@@ -261,12 +262,12 @@ module _ (holds : (ds : List Declaration) → DerivationsHold ds) (unreached : (
 
   -- those of a proof block are built, as the file is accepted; so are those that were found
 
-  block_built : (steps : List Tree) → steps_in r ≡ Some steps → read_of most_pool bytes ≡ Ok (file_in r f (length c.names)) → (w : FollowsScript r f steps) → AreBuilt w.took.proof
-  block_built steps e here w n t i =
+  block_built : (block : List Tree) → steps_in r ≡ Some block → read_of most_pool bytes ≡ Ok (file_in r f (length c.names)) → (w : FollowsScript r f block) → AreBuilt w.took.proof
+  block_built block e here w n t i =
       let d : Content = file_in r f (length c.names) in
       let p = file bytes d here in
       let built : file_unbuilt d.declarations d.script ≡ false = subst (λ (x : Content). file_unbuilt x.declarations x.script ≡ false) (sym p.content) p.built in
-      let none : has_unbuilt (queries_in d.declarations) steps ≡ false = ap (file_unbuilt d.declarations) (sym e) ∙ built in
+      let none : has_unbuilt (queries_in d.declarations) w.steps ≡ false = stands_built (queries_in d.declarations) (nodes_in r f) block w.steps w.room w.stands (ap (file_unbuilt d.declarations) (sym e) ∙ built) in
       none_fails (is_unbuilt_step (queries_in d.declarations)) w.took.proof w.left n t (ap (list_any (is_unbuilt_step (queries_in d.declarations))) (sym w.split) ∙ none) i
 
   found_built : (w : FollowsStrategy r f) → AreBuilt w.took.proof

@@ -43,6 +43,9 @@ module _ (c : Content) (f : File) (r : Report) where
   ends None p = ends_without (is_games r.command) p
   ends (Some s) p = record {
     walked = p.end;
+    steps = p.steps;
+    room = p.room;
+    stands = p.stands;
     follows = record { proof = p.took.proof; left = p.left; split = p.split; last = p.took.last; leads = p.took.leads; ends = p.ends };
     ends = p.ended;
   }

@@ -46,6 +46,7 @@ use Rattle.cv_report.specs.declared.report.Which.TheVariants.{Depth, Nodes, Pool
 use Rattle.cv_report.specs.declared.report.Which.{Which}
 use Rattle.cv_steps.specs.Sequences.{scene}
 use Rattle.cv_follow.specs.Scripts.{Stops, first_open, is_proved, known_to}
+use Rattle.cv_follow.specs.Fillings.{StandsFor}
 use Rattle.cv_follow.specs.Searches.{AreMoves, Passes}
 use Rattle.cv.specs.Strategy.{declared_in, game_in, moves_in, nodes_in, steps_in}
 use Rattle.cv.specs.Words.{bytes_asked, text_asked}
@@ -156,10 +157,14 @@ pub record PassesLimit (r : Report) (f : File) (which : Which) : Type 0 where
   pub count : length r.steps.items ≡ length proof
   pub passes : Passes (length r.work.pool.trees) (length proof) (scene (declared_in r) (known_to r.work.decls.own) last) (closed_by proof) which
 
--- The steps of a report are the front of the proof block of its file, each accepted in turn; the next one stops the run so.
+-- The steps of a report are the front of the proof block of its file, with those that were found in the place of the word, each accepted in
+-- turn; the next one stops the run so.
 pub record HasStop (r : Report) (f : File) (s : Status) : Type 0 where
+  pub block : List Tree
+  pub there : steps_in r ≡ Some block
   pub steps : List Tree
-  pub there : steps_in r ≡ Some steps
+  pub room : ℕ
+  pub stands : StandsFor (nodes_in r f) block steps room
   pub proof : List Transition
   pub next : Tree
   pub left : List Tree
@@ -167,22 +172,29 @@ pub record HasStop (r : Report) (f : File) (s : Status) : Type 0 where
   pub last : Tree
   pub leads : IsProof (declared_in r) (known_to r.work.decls.own) (game_in r f) proof last
   pub count : length r.steps.items ≡ length proof
-  pub stops : Stops (nodes_in r f + nodes_along (declared_in r) (known_to r.work.decls.own) (game_in r f) proof) (length proof) (scene (declared_in r) (known_to r.work.decls.own) last) (closed_by proof) next s
+  pub stops : Stops (room + nodes_along (declared_in r) (known_to r.work.decls.own) (game_in r f) proof) (length proof) (scene (declared_in r) (known_to r.work.decls.own) last) (closed_by proof) next s
 
--- All steps of the proof block are accepted in turn, and this is the first query that none of them closes.
+-- All steps of the proof block, and those that were found in the place of the word, are accepted in turn, and this is the first query that
+-- none of them closes.
 pub record HasOpenQuery (r : Report) (f : File) (q : ℕ) : Type 0 where
+  pub block : List Tree
+  pub there : steps_in r ≡ Some block
   pub steps : List Tree
-  pub there : steps_in r ≡ Some steps
+  pub room : ℕ
+  pub stands : StandsFor (nodes_in r f) block steps room
   pub proof : List Transition
   pub all : steps ≡ map (λ t. t.step) proof
   pub last : Tree
   pub leads : IsProof (declared_in r) (known_to r.work.decls.own) (game_in r f) proof last
   pub first : first_open (closed_by proof) 1 (queries_in (declared_in r)) ≡ Some q
 
--- All steps of the proof block are accepted in turn.
+-- All steps of the proof block, and those that were found in the place of the word, are accepted in turn.
 pub record HasAllSteps (r : Report) (f : File) : Type 0 where
+  pub block : List Tree
+  pub there : steps_in r ≡ Some block
   pub steps : List Tree
-  pub there : steps_in r ≡ Some steps
+  pub room : ℕ
+  pub stands : StandsFor (nodes_in r f) block steps room
   pub proof : List Transition
   pub all : steps ≡ map (λ t. t.step) proof
   pub last : Tree

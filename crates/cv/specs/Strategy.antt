@@ -38,8 +38,9 @@ use Rattle.cv_steps_crypto.specs.Conditions.{equivalence_of}
 use Rattle.cv.specs.Contexts.{contexts_in}
 use Rattle.cv.specs.Faults.{status_of as ended_by}
 use Rattle.cv_follow.specs.Scripts.{EndsScript, Follows, entry_in, entry_of, first_open, known_to, most_steps, verdicts_of}
+use Rattle.cv_follow.specs.Fillings.{StandsFor, has_word}
 use Rattle.cv_follow.specs.Searches.{AreMoves, EndsSearch, Finds}
-use Rattle.cv_query_direct.specs.forms.Built.{has_unbuilt}
+use Rattle.cv_query_kinds.specs.Built.{has_unbuilt}
 use Rattle.cv.specs.Values.{Contexts, value_of}
 
 -- `games` asks for no verdicts
@@ -67,10 +68,13 @@ ends_under c s = s
 
 -- how a run over a file ends under a command
 
--- the steps of a proof block were followed
-pub record EndsBlock (c : Command) (f : Content) (steps : List Tree) (end : Status) : Type 0 where
+-- the steps of a proof block were followed, with those that were found in the place of the word `simplify`
+pub record EndsBlock (c : Command) (f : Content) (block : List Tree) (end : Status) : Type 0 where
   pub walked : Status
-  pub follows : Follows (content_nodes f) f.declarations f.own f.game steps (queries_in f.declarations) walked
+  pub steps : List Tree
+  pub room : ℕ
+  pub stands : StandsFor (content_nodes f) block steps room
+  pub follows : Follows room f.declarations f.own f.game steps (queries_in f.declarations) walked
   pub ends : end ≡ ends_under c walked
 
 -- without a proof block `games` takes no step, and else steps are found, in a pool that has some number of nodes in the end
@@ -143,14 +147,17 @@ pub record FollowsStrategy (r : Report) (f : File) : Type 0 where
   pub built : has_unbuilt (queries_in (declared_in r)) (map (λ t. t.step) took.proof) ≡ false
   pub ends : EndsSearch (moves_in r.command) made (length r.work.pool.trees) (scene (declared_in r) (known_to r.work.decls.own) took.last) (map (λ t. t.step) took.proof) (closed_by took.proof) (queries_in (declared_in r)) r.status
 
--- The steps are those of the proof block that are accepted in turn; the end is that of the first that isn't accepted, or of the end of
--- the block.
+-- The steps are those of the proof block that are accepted in turn, and in the place of the word `simplify` some that settle the game; the
+-- end is that of the first that isn't accepted, or of the end of the block.
 pub record FollowsScript (r : Report) (f : File) (script : List Tree) : Type 0 where
   pub took : TakesSteps r f
+  pub steps : List Tree
+  pub room : ℕ
+  pub stands : StandsFor (nodes_in r f) script steps room
   pub left : List Tree
-  pub split : script ≡ map (λ t. t.step) took.proof ++ left
+  pub split : steps ≡ map (λ t. t.step) took.proof ++ left
   pub end : Status
-  pub ends : EndsScript (nodes_in r f + nodes_along (declared_in r) (known_to r.work.decls.own) (game_in r f) took.proof) (length took.proof) (scene (declared_in r) (known_to r.work.decls.own) took.last) (closed_by took.proof) (queries_in (declared_in r)) left end
+  pub ends : EndsScript (room + nodes_along (declared_in r) (known_to r.work.decls.own) (game_in r f) took.proof) (length took.proof) (scene (declared_in r) (known_to r.work.decls.own) took.last) (closed_by took.proof) (queries_in (declared_in r)) left end
   pub ended : r.status ≡ ends_under r.command end
 
 -- what is left is open
@@ -212,13 +219,14 @@ pub record AcceptsAll (f : Content) (steps : List Tree) : Type 0 where
       → GoesOn (content_nodes f + nodes_along f.declarations (known_to f.own) f.game front) (length front) (scene f.declarations (known_to f.own) last) (closed_by front) next
   pub closed : (proof : List Transition) (last : Tree) → steps ≡ map (λ t. t.step) proof → IsProof f.declarations (known_to f.own) f.game proof last → first_open (closed_by proof) 1 (queries_in f.declarations) ≡ None
 
--- A file within the limits that is proved: the steps of its proof block are all accepted.
+-- A file within the limits that is proved: the steps of its proof block are all accepted, and the word isn't among them.
 pub record IsGood (bytes : List ℕ) : Type 0 where
   pub short : length bytes ≤ most_bytes
   pub content : Content
   pub file : IsFile most_pool bytes content
   pub steps : List Tree
   pub script : content.script ≡ Some steps
+  pub plain : has_word steps ≡ false
   pub succeeds : AcceptsAll content steps
 
 -- proved, or done where no verdicts are asked for, unless memory ended the run

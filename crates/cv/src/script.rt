@@ -11,7 +11,7 @@ ghost use Rattle.cv_kernel_crypto.specs.Applied.{HasEquivalences};
 ghost use Rattle.cv.specs.Runs.{Runs};
 
 use crate::asked::end_under;
-use cv_follow::{Walk, follow};
+use cv_follow::{Walk, follow_block};
 use cv_report::outcome::refused;
 use cv_report::verdicts::steps_of;
 use cv_report::{Command, Report, Status};
@@ -41,7 +41,7 @@ pub fn run_script(
     ensures command { result.command ≡ command }
 {
     let mut work = work;
-    let Ok(walk) = follow(alloc, &mut work, file.game, &script) else {
+    let Ok(walk) = follow_block(alloc, &mut work, file.game, &script) else {
         return refused(alloc, work, command, Status::Memory);
     };
     let Ok(steps) = steps_of(alloc, &walk.trail) else {

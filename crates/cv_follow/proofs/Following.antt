@@ -13,6 +13,7 @@ use Rattle.cv_syntax.specs.declared.work.Game.{Game}
 use Rattle.cv_syntax_trees.specs.Declarations.{Declaration}
 use Rattle.cv_syntax.specs.Declarations.{declarations}
 use Rattle.cv_syntax_trees.specs.Tree.{Tree}
+use Rattle.cv_syntax.specs.limits.Limits.{told}
 use Rattle.cv_syntax.specs.PoolTrees.{tree_at}
 use Rattle.cv_parse.specs.Declaring.{IsBelow}
 use Rattle.cv_script_reader.specs.Scripts.{trees_of}
@@ -37,12 +38,14 @@ use Rattle.cv_steps_crypto.specs.Steps as outcome
 use Rattle.cv_kernel_crypto.specs.Applied as crypto
 use Rattle.cv_kernel.specs.Closings.{Closing, closing_failure, closing_in, closing_of_items, judgement_by_closing, judgement_in, judgement_of_failure, is_of_secrecy}
 use Rattle.cv_kernel.specs.Proofs.{IsProof, IsTransition, Transition, closed_by, game_behind, nodes_along, push, shape_at, shape_by, start, sums_behind, sum_of}
-use Rattle.cv_kernel.specs.Answers.{IsDrawn}
+use Rattle.cv_kernel.specs.Answers.{IsDrawn, as_told}
 use Rattle.cv_kernel.specs.Sayings.{Accepted, IsSaid, MaySay, saying_by, saying_of}
+use Rattle.cv_kernel.specs.Sayings as saying
 use Rattle.cv_bound.specs.costs.Costs.{advantage_of}
 use Rattle.cv_bound.specs.costs.Sums.{no_sums, sum_for, with_cost}
 use Rattle.cv_bound.specs.declared.costs.sums.Sums.{Sums}
 use Rattle.cv_steps.specs.Costs.{cost_of}
+use Rattle.cv_steps.specs.Judgements as judgement
 use Rattle.cv_kernel.specs.Sequences as kernel
 use Rattle.cv_kernel.specs.Rules.{needed_by, rule_of_items}
 use Rattle.cv_kernel.specs.Sequences.{IsPushed, needed, needed_for}
@@ -50,8 +53,6 @@ use Rattle.cv_kernel.specs.Steps.{judgement_at}
 use Rattle.cv_script.specs.Views.{StepItems, items_of_step}
 use Rattle.cv_script.specs.Views as items
 use Rattle.cv_accept.specs.Accepted.{most_pool}
-use Rattle.cv_accept.specs.Accepted.{Content}
-use Rattle.cv_accept.specs.Works.{content_nodes}
 use Rattle.cv_bound.specs.declared.terms.Term.{Term}
 use Rattle.cv_report.specs.declared.report.Verdict.{Verdict}
 use Rattle.cv_report.specs.declared.report.Entry.{Entry}
@@ -63,7 +64,7 @@ use Rattle.cv_steps.specs.Sequences.{scene}
 use Rattle.cv_query_certificates.specs.Failures.{Failure}
 use Rattle.cv_steps.specs.Judgements.{Judgement}
 use Rattle.cv_report.specs.verdicts.Verdicts.{ended_with, verdicts_by}
-use Rattle.cv_follow.specs.Scripts.{EndsScript, Follows, LacksRoomFor, Stops, Told, entry_in, entry_of, known_to, no_room, refused, too_deep, too_large, too_many, verdicts_of}
+use Rattle.cv_follow.specs.Scripts.{EndsScript, LacksRoomFor, Stops, Told, entry_in, entry_of, known_to, no_room, refused, too_deep, too_large, too_many, verdicts_of}
 use Rattle.cv_follow.specs.declared.walk.Walk.{Walk}
 use Rattle.cv_follow.specs.Walks.{HasFollowed, IsNoted, IsWalk, closed_before, next_of, stop_of}
 use Rattle.cv_follow.proofs.Closings.{closings_put, nothing_more, numbers_same, sum_put, sums_same, verdicts_length, verdicts_map, verdicts_same}
@@ -117,6 +118,19 @@ followed_none before ds own trees s trail first e c m k l g = record {
 }
 
 -- behind more nodes there is no more room
+
+-- a size or a depth is said as it is told
+told_large : (j : Judgement) (k : ℕ) → as_told j ≡ judgement.TooLarge k → saying_of j ≡ saying.TooLarge k
+told_large (judgement.Refused condition place) k e = absurd (cc)
+told_large (judgement.TooLarge n) k e = let f : told n ≡ k = cc in ap saying.TooLarge f
+told_large (judgement.TooDeep n) k e = absurd (cc)
+told_large (judgement.Accepted next cost) k e = absurd (cc)
+
+told_deep : (j : Judgement) (k : ℕ) → as_told j ≡ judgement.TooDeep k → saying_of j ≡ saying.TooDeep k
+told_deep (judgement.Refused condition place) k e = absurd (cc)
+told_deep (judgement.TooLarge n) k e = absurd (cc)
+told_deep (judgement.TooDeep n) k e = let f : told n ≡ k = cc in ap saying.TooDeep f
+told_deep (judgement.Accepted next cost) k e = absurd (cc)
 
 room_wider : (m n : ℕ) (s : Scene) (e x need : ℕ) → m ≤ n → crypto.HasNoRoom most_pool m s e x need → crypto.HasNoRoom most_pool n s e x need
 room_wider m n s e x need l h = record {
@@ -291,8 +305,8 @@ module _ (before : ℕ) (ds : List Declaration) (own : ℕ) (first : Tree) (old 
         → Stops taken s.steps (file_scene s) ks step end
     change_stops (fault.Refused f) end j n p i l m = subst (Stops taken s.steps _ ks step) (some_injective i) (refused f.condition f.place b (j.said (file_scene s) ks (suc s.steps) step _ (change_said s ks step _ n p)))
     change_stops fault.Steps end j n p i l m = absurd p
-    change_stops (fault.Build (build.Nodes k)) end j n p i l m = subst (Stops taken s.steps _ ks step) (some_injective i) (too_large k b (j.said (file_scene s) ks (suc s.steps) step _ (change_said s ks step _ n p)))
-    change_stops (fault.Build (build.Depth k)) end j n p i l m = subst (Stops taken s.steps _ ks step) (some_injective i) (too_deep k b (j.said (file_scene s) ks (suc s.steps) step _ (change_said s ks step _ n p)))
+    change_stops (fault.Build (build.Nodes k)) end j n p i l m = subst (Stops taken s.steps _ ks step) (some_injective i) (too_large k b (j.said (file_scene s) ks (suc s.steps) step _ (sym (told_large (judgement_at (code_scene s) step) k p) ∙ change_said s ks step _ n refl)))
+    change_stops (fault.Build (build.Depth k)) end j n p i l m = subst (Stops taken s.steps _ ks step) (some_injective i) (too_deep k b (j.said (file_scene s) ks (suc s.steps) step _ (sym (told_deep (judgement_at (code_scene s) step) k p) ∙ change_said s ks step _ n refl)))
     change_stops (fault.Build (build.Full k)) end j n p i l m =
         let o = p.over in
         let same : judgement_at (code_scene s) step ≡ judgement_in (file_scene s) ks step = ap (λ x. judgement_at x step) (scenes s) ∙ ap (judgement_by_closing (file_scene s) ks step) (sym n) in
@@ -374,7 +388,7 @@ module _ (before : ℕ) (ds : List Declaration) (own : ℕ) (first : Tree) (tree
 
 -- step after step of a list
 
-split_here : (xs : List Step) (k : ℕ) (d : Step) → k < length xs → xs ≡ take k xs ++ get_or xs k d ∷ drop (k + 1) xs
+pub split_here : (xs : List Step) (k : ℕ) (d : Step) → k < length xs → xs ≡ take k xs ++ get_or xs k d ∷ drop (k + 1) xs
 split_here [] k d l = absurd (omega arith)
 split_here (x ∷ xs) zero d l = refl
 split_here (x ∷ xs) (suc k) d l = let n : suc k + 1 ≡ suc (k + 1) = omega arith in ap (λ ys. x ∷ ys) (split_here xs k d (omega arith)) ∙ ap (λ j. x ∷ (take k xs ++ get_or xs k d ∷ drop j (x ∷ xs))) (sym n)
@@ -453,34 +467,13 @@ pub asked_by : (w : Work) (decls : DeclsView) → decls ≡ w.decls → (sum : �
 asked_by w decls e sum =
     ap (λ (v : DeclsView). verdicts_by sum 1 (queries v.list)) e ∙ sym (verdicts_map (λ n. tree_at w.pool.trees (Some n)) sum 1 (queries w.decls.list))
 
-stops_wider : (m n count : ℕ) (s : Scene) (ks : List ℕ) (step : Tree) (end : Status) → m ≤ n → Stops m count s ks step end → Stops n count s ks step end
+pub stops_wider : (m n count : ℕ) (s : Scene) (ks : List ℕ) (step : Tree) (end : Status) → m ≤ n → Stops m count s ks step end → Stops n count s ks step end
 stops_wider m n count s ks step end l (too_many k) = too_many k
 stops_wider m n count s ks step end l (refused condition place k e) = refused condition place k e
 stops_wider m n count s ks step end l (too_large nodes k e) = too_large nodes k e
 stops_wider m n count s ks step end l (too_deep depth k e) = too_deep depth k e
 stops_wider m n count s ks step end l (no_room need k r) = no_room need k (lacks_wider m n s ks step need (kind_of (items_of_step step)) l r)
 
-ends_wider : (m n count : ℕ) (s : Scene) (ks : List ℕ) (queries left : List Tree) (end : Status) → m ≤ n → EndsScript m count s ks queries left end → EndsScript n count s ks queries left end
+pub ends_wider : (m n count : ℕ) (s : Scene) (ks : List ℕ) (queries left : List Tree) (end : Status) → m ≤ n → EndsScript m count s ks queries left end → EndsScript n count s ks queries left end
 ends_wider m n count s ks queries [] end l h = h
 ends_wider m n count s ks queries (step ∷ left) end l h = stops_wider m n count s ks step end l h
-
--- What a file holds, with a trail of what its script leads to, and the verdicts.
-abbrev pub HasTrail : (end : Status) → List Told → List Verdict → (nodes : ℕ) → (c : Content) → (queries : List Tree) → Option (List Tree) → Type 0
-HasTrail end trail vs nodes c queries None = ⊥
-HasTrail end trail vs nodes c queries (Some steps) =
-    (w : Follows nodes c.declarations c.own c.game steps queries end) × (trail ≡ map entry_of w.proof) × (vs ≡ verdicts_of w.proof queries)
-
--- so it is of what was walked in the pool before
-pub walk_trail : (before : ℕ) (c : Content) (steps queries asked : List Tree) (trees : List KindTree) (w : Walk) → IsWalk before c.declarations c.own c.game steps queries trees w → c.script ≡ Some steps → before ≤ content_nodes c → queries ≡ asked → HasTrail w.status (map (entry_in trees) w.trail.items) w.verdicts.items (content_nodes c) c asked c.script
-walk_trail before c steps queries asked trees w h s l q =
-    let f = h.follows in
-    let wide : Follows (content_nodes c) c.declarations c.own c.game steps queries w.status = record {
-      proof = f.proof;
-      left = f.left;
-      split = f.split;
-      last = f.last;
-      leads = f.leads;
-      ends = ends_wider (before + nodes_along c.declarations (known_to c.own) c.game f.proof) (content_nodes c + nodes_along c.declarations (known_to c.own) c.game f.proof) (length f.proof) (scene c.declarations (known_to c.own) f.last) (closed_by f.proof) queries f.left w.status (omega arith) f.ends;
-    } in
-    subst (λ o. HasTrail w.status (map (entry_in trees) w.trail.items) w.verdicts.items (content_nodes c) c asked o) (sym s)
-    (subst (λ qs. HasTrail w.status (map (entry_in trees) w.trail.items) w.verdicts.items (content_nodes c) c qs (Some steps)) q (wide, h.trail, h.verdicts))

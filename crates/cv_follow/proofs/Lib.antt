@@ -7,3 +7,4 @@ pub mod NamesKept
 pub mod QueryLists
 pub mod Growing
 pub mod Tries
+pub mod Fillings

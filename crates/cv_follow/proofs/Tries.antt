@@ -23,8 +23,9 @@ use Rattle.cv_parse.specs.Declaring.{IsBelow}
 use Rattle.cv_pool.proofs.Growth.{Grows_length, Grows_refl, Grows_trans}
 use Rattle.cv_pool.specs.KindTree.{KindTree}
 use Rattle.cv_pool.specs.PoolView.{PoolView, Grows}
-use Rattle.cv_query_direct.specs.forms.Built.{has_unbuilt, is_unbuilt_step}
+use Rattle.cv_query_kinds.specs.Built.{has_unbuilt, is_unbuilt_step}
 use Rattle.cv_report.specs.declared.report.Entry.{Entry}
+use Rattle.cv_report.specs.declared.report.Status.{Status}
 use Rattle.cv_report.specs.declared.report.Status.TheVariants as status
 use Rattle.cv_report.specs.declared.report.Which.{Which}
 use Rattle.cv_report.specs.declared.report.Which.TheVariants.{Depth, Nodes, Pool, Steps}
@@ -119,7 +120,7 @@ pub stands_bare : (trees : List KindTree) (decls : DeclsView) (s : Sequence) →
 stands_bare trees decls s h = record { live = h.live; small = h.small; formed = h.formed; arrays = tt; fits = h.fits; few = h.few }
 
 -- the game of a sequence stays
-game_stays : (old new : Work) (s t : Sequence) → Grows old.pool new.pool → Same s t → s.game.root.0 < length old.pool.trees → game_in new.pool.trees t ≡ game_in old.pool.trees s
+pub game_stays : (old new : Work) (s t : Sequence) → Grows old.pool new.pool → Same s t → s.game.root.0 < length old.pool.trees → game_in new.pool.trees t ≡ game_in old.pool.trees s
 game_stays old new s t g k l = ap (λ (q : Game). tree_at new.pool.trees (Some q.root)) k.game ∙ root_grown old.pool new.pool s.game.root g l
 
 pub may_again : (old new : Work) (s t : Sequence) (trail after : List Entry) → MayTry old s → IsKept old new s t trail after → MayTry new t
@@ -142,6 +143,15 @@ may_again old new s t trail after m k =
       equivalences = equivalences_kept old new s.game.root t.game.root k.grows k.decls m.declared m.equivalences;
       limit = k.grows.limit ∙ m.limit;
     }
+
+-- another step may be tried behind one that was taken
+pub may_next : (old new : Work) (s t : Sequence) → MayTry old s → Grows old.pool new.pool → Stands new.pool.trees new.decls t → new.decls ≡ old.decls → MayTry new t
+may_next old new s t m g stands decls = record {
+  stands = stands_bare new.pool.trees new.decls t stands;
+  declared = subst (λ (v : DeclsView). All (IsBelow (length new.pool.trees)) v.list) (sym decls) (below_grown old.pool new.pool old.decls.list g m.declared);
+  equivalences = equivalences_kept old new s.game.root t.game.root g decls m.declared m.equivalences;
+  limit = g.limit ∙ m.limit;
+}
 
 -- what was found is there again where no step was taken
 
@@ -177,7 +187,6 @@ found_again start old new first s t trail after h at k =
         grows = Grows_trans start.pool old.pool new.pool h.grows k.grows;
         names = ap (take (length start.names)) k.names ∙ h.names;
         decls = k.decls ∙ h.decls;
-        built = h.built;
       };
       found = refl;
       proof = refl;
@@ -196,7 +205,7 @@ module _ (start old mid new : Work) (first : Tree) (allowed : Bool) (s t u : Seq
       (subst (λ (xs : List Tree). Passes n (length xs) (scene ds (known_to start.decls.own) (game_in mid.pool.trees t)) (closed_by i.followed.proof) which) e w))
 
   comes_by : (tried : Tried) (i : HasFound start mid first t middle) → i.found ≡ h.found → i.followed.proof ≡ h.followed.proof → Comes start mid new first allowed t u middle after i tried → Comes start old new first allowed s u trail after h tried
-  comes_by (Accepted moved) i e p w = record { next = w.next; again = w.again; step = w.step; put = w.put ∙ ap (λ xs. xs ++ w.step ∷ []) e; advised = w.advised; told = w.told; may = w.may }
+  comes_by (Accepted moved) i e p w = record { next = w.next; again = w.again; step = w.step; put = w.put ∙ ap (λ xs. xs ++ w.step ∷ []) e; unbuilt = w.unbuilt; advised = w.advised; told = w.told; may = w.may }
   comes_by Refused i e p w = kept_both old mid new s t u trail middle after k w
   comes_by Nothing i e p w = kept_both old mid new s t u trail middle after k w
   comes_by (Passed which) i e p w = (kept_both old mid new s t u trail middle after k w.0, passes_before which i e p w.1)
@@ -230,6 +239,10 @@ comes_refused old new allowed s t trail after k start first below h = k
 pub comes_nothing : (old new : Work) (allowed : Bool) (s t : Sequence) (trail after : List Entry) → IsKept old new s t trail after → ComesTo old new allowed s t trail after Nothing
 comes_nothing old new allowed s t trail after k start first below h = k
 
+-- as many steps are counted as were found
+pub steps_counted : (start now : Work) (first : Tree) (s : Sequence) (trail : List Entry) (h : HasFound start now first s trail) → s.steps ≡ length h.found
+steps_counted start now first s trail h = h.followed.count ∙ (sym (length-map h.followed.proof (λ (x : Transition). x.step)) ∙ ap length (sym h.followed.steps))
+
 -- a step that is accepted is found
 
 any_put : (p : Tree → Bool) (xs : List Tree) (x : Tree) → list_any p xs ≡ false → list_any p (x ∷ []) ≡ false → list_any p (xs ++ x ∷ []) ≡ false
@@ -249,8 +262,7 @@ module _ (start old new : Work) (first : Tree) (below : All (IsBelow (length sta
 
     module _ (after : List Entry) (u : Unit {0}) (m : MayTry old s) (p : IsPushed old.pool old.decls new.pool.trees s t tree (Ok u)) (n : IsNoted t step (tree_at new.pool.trees (Some step.0)) trail after) (g : Grows old.pool new.pool) (stands : Stands new.pool.trees new.decls t)
         (few : length new.pool.trees ≤ length old.pool.trees + needed_for (scene_of old.pool old.decls s.game.root) tree (game_in new.pool.trees t) (items_of_step tree)) (names : take (length old.names) new.names ≡ old.names) (decls : new.decls ≡ old.decls)
-        (draws : (r : Reducing) → reducing_in tree ≡ Some r → DrawsNext old.names new.names old.decls.own (scene_of old.pool old.decls s.game.root) r.equivalence r.key (game_in new.pool.trees t)) (alone : reducing_in tree ≡ None → new.names ≡ old.names)
-        (built : has_unbuilt (queries_in (declarations old.pool.trees old.decls.list)) (tree ∷ []) ≡ false) where
+        (draws : (r : Reducing) → reducing_in tree ≡ Some r → DrawsNext old.names new.names old.decls.own (scene_of old.pool old.decls s.game.root) r.equivalence r.key (game_in new.pool.trees t)) (alone : reducing_in tree ≡ None → new.names ≡ old.names) where
       noted : IsNoted t step tree trail after
       noted = subst (λ x. IsNoted t step x trail after) (root_grown old.pool new.pool step.0 g live) n
 
@@ -269,21 +281,20 @@ module _ (start old new : Work) (first : Tree) (below : All (IsBelow (length sta
         grows = Grows_trans start.pool old.pool new.pool h.grows g;
         names = names_kept start.names old.names new.names h.names names;
         decls = decls ∙ h.decls;
-        built = any_put (is_unbuilt_step (queries_in (declarations start.pool.trees start.decls.list))) h.found tree h.built (subst (λ ds. has_unbuilt (queries_in ds) (tree ∷ []) ≡ false) is_ds built);
       }
 
-      pub comes_more : (advised moved allowed : Bool) → moved ≡ is_move advised tree → (moved ≡ true → allowed ≡ true) → Comes start old new first allowed s t trail after h (Accepted moved)
+      pub found_put : found_more.found ≡ h.found ++ tree ∷ []
       unfolding found_more
-      comes_more advised moved allowed e f = record {
+      found_put = refl
+
+      pub comes_more : has_unbuilt (queries_in (declarations old.pool.trees old.decls.list)) (tree ∷ []) ≡ false → (advised moved allowed : Bool) → moved ≡ is_move advised tree → (moved ≡ true → allowed ≡ true) → Comes start old new first allowed s t trail after h (Accepted moved)
+      unfolding found_more
+      comes_more built advised moved allowed e f = record {
         next = found_more;
-        again = record {
-          stands = stands_bare new.pool.trees new.decls t stands;
-          declared = subst (λ (v : DeclsView). All (IsBelow (length new.pool.trees)) v.list) (sym decls) (below_grown old.pool new.pool old.decls.list g m.declared);
-          equivalences = equivalences_kept old new s.game.root t.game.root g decls m.declared m.equivalences;
-          limit = g.limit ∙ m.limit;
-        };
+        again = may_next old new s t m g stands decls;
         step = tree;
         put = refl;
+        unbuilt = subst (λ ds. has_unbuilt (queries_in ds) (tree ∷ []) ≡ false) is_ds built;
         advised = advised;
         told = e;
         may = f;
@@ -293,15 +304,18 @@ module _ (start old new : Work) (first : Tree) (below : All (IsBelow (length sta
 
     module _ (e : PushError) (m : MayTry old s) (p : IsPushed old.pool old.decls new.pool.trees s t tree (Err e)) (kept : new.pool.trees ≡ old.pool.trees) (k : IsKept old new s t trail trail) where
       counted : s.steps ≡ length h.found
-      counted = h.followed.count ∙ (sym (length-map h.followed.proof (λ (x : Transition). x.step)) ∙ ap length (sym h.followed.steps))
+      counted = steps_counted start old first s trail h
+
+      pub stops_by : (end : Status) → stop_of e s.steps ≡ Some end
+          → Stops (length new.pool.trees) (length h.found) (scene (declarations start.pool.trees start.decls.list) (known_to start.decls.own) (game_in old.pool.trees s)) (closed_by h.followed.proof) tree end
+      stops_by end i =
+          let same : length old.pool.trees ≡ length new.pool.trees = ap length (sym kept) in
+          subst (λ n. Stops (length new.pool.trees) n (scene (declarations start.pool.trees start.decls.list) (known_to start.decls.own) (game_in old.pool.trees s)) (closed_by h.followed.proof) tree end) counted
+          (stops_at (length old.pool.trees) (declarations start.pool.trees start.decls.list) start.decls.own first old.pool new.pool old.decls is_ds is_own s t (closed_by h.followed.proof) new.pool.trees tree e (length new.pool.trees) end (ap numbers_of h.followed.closed ∙ numbers_same no_sums h.followed.proof) p i m.limit (omega arith))
 
       stops : (which : Which) → stop_of e s.steps ≡ Some (status.Limit which)
           → Passes (length new.pool.trees) (length h.found) (scene (declarations start.pool.trees start.decls.list) (known_to start.decls.own) (game_in old.pool.trees s)) (closed_by h.followed.proof) which
-      stops which i =
-          let same : length old.pool.trees ≡ length new.pool.trees = ap length (sym kept) in
-          by_step which tree
-          (subst (λ n. Stops (length new.pool.trees) n (scene (declarations start.pool.trees start.decls.list) (known_to start.decls.own) (game_in old.pool.trees s)) (closed_by h.followed.proof) tree (status.Limit which)) counted
-          (stops_at (length old.pool.trees) (declarations start.pool.trees start.decls.list) start.decls.own first old.pool new.pool old.decls is_ds is_own s t (closed_by h.followed.proof) new.pool.trees tree e (length new.pool.trees) (status.Limit which) (ap numbers_of h.followed.closed ∙ numbers_same no_sums h.followed.proof) p i m.limit (omega arith)))
+      stops which i = by_step which tree (stops_by (status.Limit which) i)
 
     pub comes_otherwise : (e : PushError) (allowed : Bool) (tried : Tried) → tried_of e ≡ Some tried → MayTry old s → IsPushed old.pool old.decls new.pool.trees s t tree (Err e) → new.pool.trees ≡ old.pool.trees → IsKept old new s t trail trail → Comes start old new first allowed s t trail trail h tried
     comes_otherwise (fault.Refused f) allowed tried i m p kept k = subst (Comes start old new first allowed s t trail trail h) (some_injective i) k
@@ -374,7 +388,7 @@ moves_few false made moves l f = l
 
 -- a search begins, and goes on
 
-pub found_none : (w : Work) (first : Tree) (s : Sequence) (trail : List Entry) → trail ≡ [] → s.steps ≡ 0 → s.sum ≡ no_sums → s.closed ≡ [] → game_in w.pool.trees s ≡ first → HasFound w w first s trail
+unfoldable pub found_none : (w : Work) (first : Tree) (s : Sequence) (trail : List Entry) → trail ≡ [] → s.steps ≡ 0 → s.sum ≡ no_sums → s.closed ≡ [] → game_in w.pool.trees s ≡ first → HasFound w w first s trail
 found_none w first s trail e n m k g = record {
   found = [];
   followed = followed_none (length w.pool.trees) (declarations w.pool.trees w.decls.list) w.decls.own w.pool.trees s trail first e n m k (omega arith) g;
@@ -382,7 +396,6 @@ found_none w first s trail e n m k g = record {
   grows = Grows_refl w.pool;
   names = take_all (length w.names) w.names (omega arith);
   decls = refl;
-  built = refl;
 }
 
 pub may_begin : (w : Work) (game : Game) (s : Sequence) → s.game ≡ game → s.steps ≡ 0 → s.sum ≡ no_sums
@@ -408,6 +421,7 @@ pub search_begins : (w : Work) (moves : ℕ) (s : Sequence) (trail : List Entry)
 unfolding found_none
 search_begins w moves s trail e n m k may = record {
   found = found_none w (game_in w.pool.trees s) s trail e n m k refl;
+  built = refl;
   counted = record { least = omega arith; most = omega arith };
   few = omega arith;
   again = may;
@@ -426,8 +440,10 @@ moves_fit start old new first made moves s t trail after tried below h w e =
 found_more_moves : (start old new : Work) (first : Tree) (made moves : ℕ) (moved : Bool) (s t : Sequence) (trail after : List Entry) → All (IsBelow (length start.pool.trees)) start.decls.list → IsSearching start old first made moves s trail → ComesTo old new (nat_lt made moves) s t trail after (Accepted moved) → IsSearching start new first (moves_more moved made) moves t after
 found_more_moves start old new first made moves moved s t trail after below h w =
     let m = w start first below h.found in
+    let queries : List Tree = queries_in (declarations start.pool.trees start.decls.list) in
     record {
       found = m.next;
+      built = ap (has_unbuilt queries) m.put ∙ any_put (is_unbuilt_step queries) h.found.found m.step h.built m.unbuilt;
       counted = moves_counted h.found.found m.next.found m.step m.advised moved made m.put m.told h.counted;
       few = moves_few moved made moves h.few (λ i. (let l = m.may i in grind (arith, nat_tests)));
       again = m.again;
@@ -436,7 +452,7 @@ found_more_moves start old new first made moves moved s t trail after below h w 
 pub search_on : (start old new : Work) (first : Tree) (made moves : ℕ) (s t : Sequence) (trail after : List Entry) → (h : IsSearching start old first made moves s trail) → IsKept old new s t trail after → IsSearching start new first made moves t after
 search_on start old new first made moves s t trail after h k =
     let a = found_again start old new first s t trail after h.found h.again.stands.live k in
-    record { found = a.again; counted = subst (λ (xs : List Tree). AreMoves xs made) (sym a.found) h.counted; few = h.few; again = may_again old new s t trail after h.again k }
+    record { found = a.again; built = ap (has_unbuilt (queries_in (declarations start.pool.trees start.decls.list))) a.found ∙ h.built; counted = subst (λ (xs : List Tree). AreMoves xs made) (sym a.found) h.counted; few = h.few; again = may_again old new s t trail after h.again k }
 
 -- the search goes on, or ends
 
@@ -475,7 +491,7 @@ search_exhausted start now first made moves s trail h = record { made = made; se
 
 -- what a search leaves
 
-module _ (start now : Work) (first : Tree) (moves : ℕ) (below : All (IsBelow (length start.pool.trees)) start.decls.list) (s : Sequence) (trail : List Entry) (h : HasFound start now first s trail) (made : ℕ) (counted : AreMoves h.found made) (few : made ≤ moves) (w : Walk) (put : w.trail.items ≡ trail) (said : w.verdicts.items ≡ verdicts_by (sum_in s.closed) 1 (queries now.decls.list)) where
+module _ (start now : Work) (first : Tree) (moves : ℕ) (below : All (IsBelow (length start.pool.trees)) start.decls.list) (s : Sequence) (trail : List Entry) (h : HasFound start now first s trail) (built : has_unbuilt (queries_in (declarations start.pool.trees start.decls.list)) h.found ≡ false) (made : ℕ) (counted : AreMoves h.found made) (few : made ≤ moves) (w : Walk) (put : w.trail.items ≡ trail) (said : w.verdicts.items ≡ verdicts_by (sum_in s.closed) 1 (queries now.decls.list)) where
   abbrev ds : List Declaration
   ds = declarations start.pool.trees start.decls.list
 
@@ -494,7 +510,7 @@ module _ (start now : Work) (first : Tree) (moves : ℕ) (below : All (IsBelow (
         made = made;
         counted = subst (λ ts. AreMoves ts made) h.followed.steps counted;
         few = few;
-        built = subst (λ ts. has_unbuilt (queries_in ds) ts ≡ false) h.followed.steps h.built;
+        built = subst (λ ts. has_unbuilt (queries_in ds) ts ≡ false) h.followed.steps built;
         ends = subst (λ ts. EndsSearch moves made (length now.pool.trees) (scene ds (known_to start.decls.own) (game_in now.pool.trees s)) ts (closed_by h.followed.proof) (queries_in ds) w.status) h.followed.steps ends;
       };
       trail = ap (map (entry_in now.pool.trees)) put ∙ h.followed.entries;
@@ -522,7 +538,7 @@ module _ (start now : Work) (first : Tree) (moves : ℕ) (below : All (IsBelow (
 search_leaves : (start now : Work) (first : Tree) (moves : ℕ) (s : Sequence) (trail : List Entry) (ending : Ending) (w : Walk) → All (IsBelow (length start.pool.trees)) start.decls.list → HasEnded start now first moves s trail ending → w.trail.items ≡ trail → w.verdicts.items ≡ verdicts_by (sum_in s.closed) 1 (queries now.decls.list)
     → w.status ≡ status_of moves ending (first_unclosed (numbers_of s.closed) (length w.verdicts.items)) → HasSearched start now first moves w
 search_leaves start now first moves s trail ending w below h put said e =
-    leaves_by start now first moves below s trail h.searching.found h.made h.searching.counted h.searching.few w put said ending h.ended e
+    leaves_by start now first moves below s trail h.searching.found h.searching.built h.made h.searching.counted h.searching.few w put said ending h.ended e
 
 pub searched : {E : Type 0} (start now : Work) (first : Tree) (moves : ℕ) (s : Sequence) (trail : List Entry) (ending : Ending) (closed : List ClosedQuery) → All (IsBelow (length start.pool.trees)) start.decls.list → HasEnded start now first moves s trail ending → closed ≡ s.closed → (r : Result Walk E) → IfOk r (λ w. w.trail.items ≡ trail) → IfOk r (λ w. w.verdicts.items ≡ verdicts_by (sum_in closed) 1 (queries now.decls.list))
     → IfOk r (λ w. w.status ≡ status_of moves ending (first_unclosed (numbers_of closed) (length w.verdicts.items))) → IfOk r (HasSearched start now first moves)

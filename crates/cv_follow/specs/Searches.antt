@@ -13,7 +13,7 @@ use Rattle.cv_meaning.specs.Queries.{queries_in}
 use Rattle.cv_parse.specs.Declaring.{IsBelow}
 use Rattle.cv_pool.specs.KindTree.{KindTree}
 use Rattle.cv_pool.specs.PoolView.{PoolView, Grows}
-use Rattle.cv_query_direct.specs.forms.Built.{has_unbuilt}
+use Rattle.cv_query_kinds.specs.Built.{has_unbuilt}
 use Rattle.cv_report.specs.declared.report.Cause.TheVariants.{Moves, Stuck}
 use Rattle.cv_report.specs.declared.report.Entry.{Entry}
 use Rattle.cv_report.specs.declared.report.Status.{Status}
@@ -119,7 +119,6 @@ pub record HasFound (start now : Work) (first : Tree) (s : Sequence) (trail : Li
   pub grows : Grows start.pool now.pool
   pub names : take (length start.names) now.names ≡ start.names
   pub decls : now.decls ≡ start.decls
-  pub built : has_unbuilt (queries_in (declarations start.pool.trees start.decls.list)) found ≡ false
 
 -- A try that takes no step leaves the sequence, the trail, the names and the declarations; the pool may have grown.
 pub record IsKept (old new : Work) (s t : Sequence) (trail after : List Entry) : Type 0 where
@@ -135,6 +134,7 @@ pub record IsFoundMore (start now : Work) (first : Tree) (allowed : Bool) (found
   pub again : MayTry now s
   pub step : Tree
   pub put : next.found ≡ found ++ step ∷ []
+  pub unbuilt : has_unbuilt (queries_in (declarations start.pool.trees start.decls.list)) (step ∷ []) ≡ false
   pub advised : Bool
   pub told : moved ≡ is_move advised step
   pub may : moved ≡ true → allowed ≡ true
@@ -154,9 +154,10 @@ ComesTo old new allowed s t trail after tried =
     (start : Work) (first : Tree) → All (IsBelow (length start.pool.trees)) start.decls.list
     → (h : HasFound start old first s trail) → Comes start old new first allowed s t trail after h tried
 
--- while a search goes on: so many of the steps that were found were counted as moves
+-- while a search goes on: so many of the steps that were found were counted as moves, and each certificate is of a form that is built
 pub record IsSearching (start now : Work) (first : Tree) (made moves : ℕ) (s : Sequence) (trail : List Entry) : Type 0 where
   pub found : HasFound start now first s trail
+  pub built : has_unbuilt (queries_in (declarations start.pool.trees start.decls.list)) found.found ≡ false
   pub counted : AreMoves found.found made
   pub few : made ≤ moves
   pub again : MayTry now s

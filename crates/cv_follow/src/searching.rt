@@ -19,7 +19,7 @@ ghost use Rattle.cv_follow.specs.Searches.{ComesTo, HasEnded, HasSearched, IsFai
 use crate::walk::{Walk, note};
 use cv_bound::closings::ClosedQueries;
 use cv_kernel::{PushError, Sequence};
-use cv_query_direct::forms::has_unbuilt;
+use cv_query_kinds::has_unbuilt;
 use cv_report::verdicts::verdicts_of;
 use cv_report::{Cause, Entry, Status, Which};
 use cv_script::Step;

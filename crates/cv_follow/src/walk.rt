@@ -36,7 +36,7 @@ pub struct Walk {
 }
 
 /// How a run ends whose next step isn't accepted, behind so many. Want of memory is no end of these.
-fn stop_of(fault: PushError, count: u32) -> Option<Status>
+pub(crate) fn stop_of(fault: PushError, count: u32) -> Option<Status>
     requires { count < 2 ^ 31 }
     ensures { result ≡ stop_of fault count }
 {
@@ -116,8 +116,9 @@ pub(crate) fn note(
     Ok(())
 }
 
-/// Follows a script from a game on, as long as its steps are accepted. The names that steps draw stand behind the others.
-pub fn follow(
+/// Follows a script without the word from a game on, as long as its steps are accepted. The names that steps draw stand behind the
+/// others.
+pub(crate) fn follow(
     alloc: Global,
     work: &mut Work,
     game: Game,

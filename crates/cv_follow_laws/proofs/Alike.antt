@@ -1,21 +1,17 @@
 -- Two reports on the same bytes: what they say along their trails, and of the queries.
-use Rattle.std.proofs.Common.{◌≡◌, ℕ, ◌≤◌, List, [], ◌∷◌, ◌++◌, append-nil, drop, length, map, take, Option, Some, None, refl, ap, ap₂, sym, ◌∙◌, subst, arith}
+use Rattle.std.proofs.Common.{◌≡◌, ℕ, ◌≤◌, Bool, true, false, List, [], ◌∷◌, ◌++◌, append-nil, drop, length, map, take, Option, Some, None, refl, ap, ap₂, sym, ◌∙◌, subst, arith}
 use Rattle.std.proofs.lemmas.List.{length-map, take-append-drop, take-map, take_all}
-use Rattle.std.specs.Prelude.{IsNone}
-use Rattle.std.specs.declared.alloc.Global.{Global}
-use Rattle.std.specs.declared.vec.Vec.{Vec}
 use Rattle.cv_names.specs.Texts.{NoRepeat}
 use Rattle.cv_syntax.specs.declared.work.File.{File}
 use Rattle.cv_syntax_trees.specs.Tree.{Tree}
 use Rattle.cv_meaning.specs.Queries.{queries_in}
-use Rattle.cv_script.specs.declared.steps.Step.{Step}
 use Rattle.cv_accept.specs.Accepted.{Content, most_pool}
-use Rattle.cv_accept.specs.Works.{script_in}
 use Rattle.cv_kernel.specs.Drawings.{DrawsAlong, told}
 use Rattle.cv_kernel.specs.Proofs.{Transition}
 use Rattle.cv_report.specs.declared.report.Report.{Report}
 use Rattle.cv_follow.specs.Scripts.{Told, entry_in, entry_of, known_to, led, verdicts_of}
-use Rattle.cv_follow_laws.specs.Reports.{AreFront, HasDrawn, IsReportOf, Proceeds, TakesSteps, file_in, said_along}
+use Rattle.cv_follow.specs.Fillings.{StandsBy, has_word}
+use Rattle.cv_follow_laws.specs.Reports.{AreFound, AreFront, FollowsScript, HasDrawn, IsReportOf, Proceeds, TakesSteps, file_in, said_along}
 use Rattle.cv_follow_laws.proofs.Names.{one_file, stand_once}
 use Rattle.cv_follow_laws.proofs.Scripted.{front_is, same_is}
 use Rattle.cv_follow.proofs.Drawing.{led_all}
@@ -48,12 +44,26 @@ module _ (c : Content) where
     pub rest : List Tree
     pub one : steps ts ++ left ≡ steps us ++ rest
 
-  one_list : (r q : Report) (o : Option (List Tree)) (w : Proceeds r c o) (v : Proceeds q c o) → (IsNone o → map (λ (t : Told). t.0) (said_along r) ≡ take (length r.trail.items) (map (λ (t : Told). t.0) (said_along q))) → HaveOneList (steps_of r o w).proof (steps_of q o v).proof
-  one_list r q None w v e =
+  found_list : (r q : Report) (w : TakesSteps r c) (v : TakesSteps q c) → map (λ (t : Told). t.0) (said_along r) ≡ take (length r.trail.items) (map (λ (t : Told). t.0) (said_along q)) → HaveOneList w.proof v.proof
+  found_list r q w v e =
       let n : ℕ = length r.trail.items in
-      let front : steps w.proof ≡ take n (steps v.proof) = sym (steps_told r w) ∙ (e refl ∙ ap (take n) (steps_told q v)) in
+      let front : steps w.proof ≡ take n (steps v.proof) = sym (steps_told r w) ∙ (e ∙ ap (take n) (steps_told q v)) in
       record { left = drop n (steps v.proof); rest = []; one = ap (λ xs. xs ++ drop n (steps v.proof)) front ∙ (take-append-drop n (steps v.proof) ∙ sym (append-nil (steps v.proof))) }
-  one_list r q (Some script) w v e = record { left = w.left; rest = v.left; one = sym w.split ∙ v.split }
+
+  -- a script without the word is followed itself
+  pub one_script : (script : List Tree) (r q : Report) → has_word script ≡ false → (w : FollowsScript r c script) (v : FollowsScript q c script) → w.steps ≡ v.steps
+  one_script script r q n w v =
+      let one = subst (λ b. StandsBy b w.nodes script w.steps w.room) n w.stands in
+      let two = subst (λ b. StandsBy b v.nodes script v.steps v.room) n v.stands in
+      one.0 ∙ sym two.0
+
+  script_list : (script : List Tree) (r q : Report) (w : FollowsScript r c script) (v : FollowsScript q c script) → (b : Bool) → has_word script ≡ b → (has_word script ≡ true → map (λ (t : Told). t.0) (said_along r) ≡ take (length r.trail.items) (map (λ (t : Told). t.0) (said_along q))) → HaveOneList w.took.proof v.took.proof
+  script_list script r q w v true i e = found_list r q w.took v.took (e i)
+  script_list script r q w v false i e = record { left = w.left; rest = v.left; one = sym w.split ∙ (one_script script r q i w v ∙ v.split) }
+
+  one_list : (r q : Report) (o : Option (List Tree)) (w : Proceeds r c o) (v : Proceeds q c o) → (AreFound o → map (λ (t : Told). t.0) (said_along r) ≡ take (length r.trail.items) (map (λ (t : Told). t.0) (said_along q))) → HaveOneList (steps_of r o w).proof (steps_of q o v).proof
+  one_list r q None w v e = found_list r q w v (e tt)
+  one_list r q (Some script) w v e = script_list script r q w v (has_word script) refl e
 
   module _ (r q : Report) (u : NoRepeat c.names) (w : TakesSteps r c) (v : TakesSteps q c) (d : HasDrawn r c) (e : HasDrawn q c) (l : HaveOneList w.proof v.proof) where
     -- the trail of a report that has fewer steps is the front of the other's
@@ -88,20 +98,12 @@ module _ (bytes : List ℕ) (r q : Report) (f g : File) (w : IsReportOf bytes r 
   pub drawn : HasDrawn q (file_in r f w.names)
   drawn = subst (HasDrawn q) (sym file_is) v.drawn
 
-  -- the script of the file is that of the report
-  none_given : IsNone (file_in r f w.names).script → IsNone r.script
-  none_given n = by_script r.script n
-    where
-      by_script : (v : Option (Vec Step Global)) → IsNone (script_in r.work.pool.trees v) → IsNone v
-      by_script None n = refl
-      by_script (Some v) n = absurd (cc)
-
   module _ (front : AreFront r q) where
     abbrev c : Content
     c = file_in r f w.names
 
     list_of : HaveOneList c (steps_of c r c.script w.follows).proof (steps_of c q c.script proceeds).proof
-    list_of = one_list c r q c.script w.follows proceeds (λ n. front (none_given n))
+    list_of = one_list c r q c.script w.follows proceeds front
 
     pub front_of : length r.trail.items ≤ length q.trail.items → said_along r ≡ take (length r.trail.items) (said_along q)
     front_of l = front_taken c r q apart (steps_of c r c.script w.follows) (steps_of c q c.script proceeds) w.drawn drawn list_of l

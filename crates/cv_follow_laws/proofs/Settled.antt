@@ -1,6 +1,6 @@
 -- Two runs on the same bytes that are settled go equally far, and end alike: of a step by which one of them ends nothing else is said in
 -- the game where it stands.
-use Rattle.std.proofs.Common.{◌≡◌, ℕ, suc, ◌+◌, ◌<◌, inl, inr, List, [], ◌∷◌, ◌++◌, length, map, take, Option, Some, None, refl, ap, ap₂, sym, ◌∙◌, subst, arith}
+use Rattle.std.proofs.Common.{◌≡◌, ℕ, suc, ◌+◌, ◌<◌, inl, inr, false, List, [], ◌∷◌, ◌++◌, length, map, take, Option, Some, None, refl, ap, ap₂, sym, ◌∙◌, subst, arith}
 use Rattle.std.proofs.lemmas.Bool.{cases_order}
 use Rattle.std.proofs.lemmas.List.{append_assoc, append_cancel_left, length-append, length-map, map-append, take_at}
 use Rattle.cv_names.specs.Texts.{NoRepeat}
@@ -11,12 +11,7 @@ use Rattle.cv_scene.specs.Scenes.{Scene}
 use Rattle.cv_script.specs.Views.{items_of_step}
 use Rattle.cv_steps.specs.Sequences.{scene}
 use Rattle.cv_accept.specs.Accepted.{Content}
-use Rattle.cv_accept.specs.Works.{script_in}
 use Rattle.cv_pool.specs.KindTree.{KindTree}
-use Rattle.cv_script.specs.declared.steps.Step.{Step}
-use Rattle.std.specs.Prelude.{IsNone, IsSome}
-use Rattle.std.specs.declared.alloc.Global.{Global}
-use Rattle.std.specs.declared.vec.Vec.{Vec}
 use Rattle.cv_kernel.specs.Drawings.{DrawsAlong, told}
 use Rattle.cv_kernel.specs.Proofs.{IsProof, Transition, closed_by, nodes_along}
 use Rattle.cv_kernel.specs.Sayings.{Accepted, IsSaid, Refused, Saying, TooDeep, TooLarge}
@@ -28,11 +23,12 @@ use Rattle.cv_report.specs.declared.report.Status.TheVariants as status
 use Rattle.cv_report.specs.declared.report.Which.TheVariants.{Depth, Nodes}
 use Rattle.cv_report.specs.Text.{end_text, text_of}
 use Rattle.cv_follow.specs.Scripts.{EndsScript, Stops, known_to, no_room, refused, too_deep, too_large, too_many}
-use Rattle.cv_follow_laws.specs.Reports.{AreFront, FollowsScript, HasDrawn, IsReportOf, IsSettled, Proceeds, file_in, said_along}
+use Rattle.cv_follow.specs.Fillings.{has_word}
+use Rattle.cv_follow_laws.specs.Reports.{AreFound, AreFront, FollowsScript, HasDrawn, IsPlain, IsReportOf, IsSettled, Proceeds, block_of, file_in}
 use Rattle.cv_follow_laws.proofs.Fronts.{proof_at}
 use Rattle.cv_follow_laws.proofs.Outcomes.{IsFixedSaying, one_saying}
 use Rattle.cv_follow_laws.proofs.Scripted.{front_is, same_is}
-use Rattle.cv_follow_laws.proofs.Alike.{apart, count_of, drawn, drawn_along, proceeds}
+use Rattle.cv_follow_laws.proofs.Alike.{apart, count_of, drawn, drawn_along, one_script, proceeds}
 use Rattle.cv_follow_laws.proofs.Printed.{body_is}
 
 -- a settled run whose script stops before its end stops at a step of which one thing is said
@@ -109,22 +105,25 @@ module _ (c : Content) (unlike : NoRepeat c.names) where
 
   -- of a file with a proof block: two settled runs go equally far, and end alike
 
-  module _ (script : List Tree) (r q : Report) (w : FollowsScript r c script) (v : FollowsScript q c script) (d : HasDrawn r c) (e : HasDrawn q c) (h : IsSettled r.status) (k : IsSettled q.status) where
+  module _ (script : List Tree) (plain : has_word script ≡ false) (r q : Report) (w : FollowsScript r c script) (v : FollowsScript q c script) (d : HasDrawn r c) (e : HasDrawn q c) (h : IsSettled r.status) (k : IsSettled q.status) where
+    one_steps : w.steps ≡ v.steps
+    one_steps = one_script c script r q plain w v
+
     script_lengths : length w.took.proof ≡ length v.took.proof
     script_lengths =
         elim (cases_order (length w.took.proof) (length v.took.proof)) [
           | inl same ↦ same
           | inr differ ↦ elim differ [
-            | inl less ↦ absurd (no_further (w.room + nodes_along c.declarations (known_to c.own) c.game w.took.proof) w.took.proof v.took.proof w.took.last v.took.last r.work.names q.work.names (queries_in c.declarations) w.left v.left r.status w.took.leads v.took.leads (drawn_along c r w.took d) (drawn_along c q v.took e) (sym w.split ∙ v.split) w.ends h less)
-            | inr more ↦ absurd (no_further (v.room + nodes_along c.declarations (known_to c.own) c.game v.took.proof) v.took.proof w.took.proof v.took.last w.took.last q.work.names r.work.names (queries_in c.declarations) v.left w.left q.status v.took.leads w.took.leads (drawn_along c q v.took e) (drawn_along c r w.took d) (sym v.split ∙ w.split) v.ends k more)
+            | inl less ↦ absurd (no_further (w.room + nodes_along c.declarations (known_to c.own) c.game w.took.proof) w.took.proof v.took.proof w.took.last v.took.last r.work.names q.work.names (queries_in c.declarations) w.left v.left r.status w.took.leads v.took.leads (drawn_along c r w.took d) (drawn_along c q v.took e) (sym w.split ∙ (one_steps ∙ v.split)) w.ends h less)
+            | inr more ↦ absurd (no_further (v.room + nodes_along c.declarations (known_to c.own) c.game v.took.proof) v.took.proof w.took.proof v.took.last w.took.last q.work.names r.work.names (queries_in c.declarations) v.left w.left q.status v.took.leads w.took.leads (drawn_along c q v.took e) (drawn_along c r w.took d) (sym v.split ∙ (sym one_steps ∙ w.split)) v.ends k more)
           ]
         ]
 
     script_same : w.took.proof ≡ v.took.proof
-    script_same = (same_is c unlike w.took.proof v.took.proof w.took.last v.took.last r.work.names q.work.names w.left v.left w.took.leads v.took.leads (drawn_along c r w.took d) (drawn_along c q v.took e) (sym w.split ∙ v.split) script_lengths).0
+    script_same = (same_is c unlike w.took.proof v.took.proof w.took.last v.took.last r.work.names q.work.names w.left v.left w.took.leads v.took.leads (drawn_along c r w.took d) (drawn_along c q v.took e) (sym w.split ∙ (one_steps ∙ v.split)) script_lengths).0
 
     script_left : w.left ≡ v.left
-    script_left = append_cancel_left (steps w.took.proof) w.left v.left (sym w.split ∙ (v.split ∙ ap (λ xs. steps xs ++ v.left) (sym script_same)))
+    script_left = append_cancel_left (steps w.took.proof) w.left v.left (sym w.split ∙ (one_steps ∙ (v.split ∙ ap (λ xs. steps xs ++ v.left) (sym script_same))))
 
     script_ends : r.status ≡ q.status
     script_ends =
@@ -136,33 +135,28 @@ module _ (c : Content) (unlike : NoRepeat c.names) where
         ends_alike (w.room + nodes_along c.declarations (known_to c.own) c.game w.took.proof) room (length w.took.proof) (here w.took.last) (closed_by w.took.proof) (queries_in c.declarations) w.left r.status q.status w.ends three h k
 
   module _ (r q : Report) where
-    lengths_by : (o : Option (List Tree)) → IsSome o → Proceeds r c o → Proceeds q c o → HasDrawn r c → HasDrawn q c → IsSettled r.status → IsSettled q.status → length r.trail.items ≡ length q.trail.items
-    lengths_by None n w v d e h k = absurd (cc)
+    lengths_by : (o : Option (List Tree)) → IsPlain o → Proceeds r c o → Proceeds q c o → HasDrawn r c → HasDrawn q c → IsSettled r.status → IsSettled q.status → length r.trail.items ≡ length q.trail.items
+    lengths_by None n w v d e h k = absurd n
     lengths_by (Some script) n w v d e h k =
-        count_of c r w.took ∙ (script_lengths script r q w v d e h k ∙ sym (count_of c q v.took))
+        count_of c r w.took ∙ (script_lengths script n r q w v d e h k ∙ sym (count_of c q v.took))
 
-    ends_by : (o : Option (List Tree)) → IsSome o → Proceeds r c o → Proceeds q c o → HasDrawn r c → HasDrawn q c → IsSettled r.status → IsSettled q.status → r.status ≡ q.status
-    ends_by None n w v d e h k = absurd (cc)
-    ends_by (Some script) n w v d e h k = script_ends script r q w v d e h k
+    ends_by : (o : Option (List Tree)) → IsPlain o → Proceeds r c o → Proceeds q c o → HasDrawn r c → HasDrawn q c → IsSettled r.status → IsSettled q.status → r.status ≡ q.status
+    ends_by None n w v d e h k = absurd n
+    ends_by (Some script) n w v d e h k = script_ends script n r q w v d e h k
 
--- a report with a proof block has a file with one
+-- of a proof block without the word nothing is asked
 
-script_some : (trees : List KindTree) (v : Option (Vec Step Global)) → IsSome v → IsSome (script_in trees v)
-script_some trees None s = absurd (cc)
-script_some trees (Some v) s = refl
+plain_found : (o : Option (List Tree)) → IsPlain o → AreFound o → ⊥
+plain_found None n f = n
+plain_found (Some script) n f = (let e = sym n ∙ f in cc)
 
-none_asked : (r q : Report) → IsSome r.script → AreFront r q
-none_asked r q s = by_script r.script s
-  where
-    by_script : (v : Option (Vec Step Global)) → IsSome v → IsNone v → map (λ t. t.0) (said_along r) ≡ take (length r.trail.items) (map (λ t. t.0) (said_along q))
-    by_script None s n = absurd (cc)
-    by_script (Some v) s n = absurd (cc)
+none_asked : (r q : Report) → IsPlain (block_of r) → AreFront r q
+none_asked r q n = λ f. absurd (plain_found (block_of r) n f)
 
-pub one_text : (bytes : List ℕ) (r q : Report) (f g : File) → IsReportOf bytes r f → IsReportOf bytes q g → IsSome r.script → IsSettled r.status → IsSettled q.status → text_of r ≡ text_of q
+pub one_text : (bytes : List ℕ) (r q : Report) (f g : File) → IsReportOf bytes r f → IsReportOf bytes q g → IsPlain (block_of r) → IsSettled r.status → IsSettled q.status → text_of r ≡ text_of q
 one_text bytes r q f g w v s h k =
     let c : Content = file_in r f w.names in
     let goes = proceeds bytes r q f g w v in
     let draws = drawn bytes r q f g w v in
-    let some = script_some r.work.pool.trees r.script s in
-    ap₂ ◌++◌ (body_is bytes r q f g w v (none_asked r q s) (lengths_by c (apart bytes r q f g w v) r q c.script some w.follows goes w.drawn draws h k))
-    (ap end_text (ends_by c (apart bytes r q f g w v) r q c.script some w.follows goes w.drawn draws h k))
+    ap₂ ◌++◌ (body_is bytes r q f g w v (none_asked r q s) (lengths_by c (apart bytes r q f g w v) r q c.script s w.follows goes w.drawn draws h k))
+    (ap end_text (ends_by c (apart bytes r q f g w v) r q c.script s w.follows goes w.drawn draws h k))

@@ -1,7 +1,7 @@
 // From the bytes of a file and the number of its accepted steps, what a report prints is one.
 #![tactic(auto)]
 
-ghost use Rattle.std.specs.Prelude.{◌≡◌, ◌≤◌, ℕ, Bool, IsSome, List, length, map, take};
+ghost use Rattle.std.specs.Prelude.{◌≡◌, ◌≤◌, ℕ, Bool, List, length, map, take};
 ghost use Rattle.cv_names.specs.Texts.{NoRepeat};
 ghost use Rattle.cv_syntax.specs.declared.work.File.{File};
 ghost use Rattle.cv_syntax_trees.specs.Tree.{Tree};
@@ -10,7 +10,7 @@ ghost use Rattle.cv_kernel.specs.Drawings.{DrawsAlong, told};
 ghost use Rattle.cv_kernel.specs.Proofs.{IsProof, Transition};
 ghost use Rattle.cv_report.specs.declared.report.Report.{Report};
 ghost use Rattle.cv_report.specs.Text.{body_text, text_of};
-ghost use Rattle.cv_follow_laws.specs.Reports.{AreFront, IsReportOf, IsSettled, file_in, said_along};
+ghost use Rattle.cv_follow_laws.specs.Reports.{AreFront, IsPlain, IsReportOf, IsSettled, block_of, file_in, said_along};
 
 /// No text stands twice among the names of a file, those of its proof block included, and bytes are one file at most.
 pub fn names_of_files_stand_once()
@@ -35,8 +35,8 @@ pub fn a_file_and_its_steps_fix_the_games()
 
 /// Two reports on the same bytes with equally many steps have the same names, say the same along their trails and of
 /// the queries, and have one text but for the last line. Where one has fewer steps, its trail is the front of the
-/// other's. Without a proof block it is so of reports that found the same steps. How many of the names are the file's is
-/// told by the bytes.
+/// other's. Without a proof block, or where it has the word `simplify`, it is so of reports that found the same steps. How
+/// many of the names are the file's is told by the bytes.
 pub fn reports_of_a_file_say_the_same()
     ensures trail { (bytes : List ℕ) (r q : Report) (f g : File) → IsReportOf bytes r f
         → IsReportOf bytes q g → AreFront r q → length r.trail.items ≡ length q.trail.items
@@ -57,10 +57,10 @@ pub fn reports_of_a_file_say_the_same()
         (v : IsReportOf bytes q g) → file_in r f w.names ≡ file_in q g v.names }
 {}
 
-/// So two runs on the same bytes with a proof block print one text, where each ends by the verdicts on its queries, by the
+/// So two runs on the same bytes with a proof block without the word print one text, where each ends by the verdicts on its queries, by the
 /// end of the block, by a limit of a game, or by a condition of a step other than 9.
 pub fn settled_reports_are_one()
     ensures { (bytes : List ℕ) (r q : Report) (f g : File) → IsReportOf bytes r f
-        → IsReportOf bytes q g → IsSome r.script → IsSettled r.status → IsSettled q.status
+        → IsReportOf bytes q g → IsPlain (block_of r) → IsSettled r.status → IsSettled q.status
         → text_of r ≡ text_of q }
 {}

@@ -1,5 +1,6 @@
 -- What is answered of a step whose conditions hold, by its next game.
-use Rattle.std.proofs.Common.{◌≡◌, ℕ, ◌+◌, ◌≤◌, Bool, true, false, nat_lt, if◌then◌else◌, List, Option, Some, None, Result, Ok, Err, refl, sym, ap, ap₂, ◌∙◌, subst}
+use Rattle.std.proofs.Common.{◌≡◌, ℕ, ◌+◌, ◌≤◌, Bool, true, false, nat_lt, if◌then◌else◌, List, Option, Some, None, Result, Ok, Err, refl, sym, ap, ap₂, ◌∙◌, subst, arith}
+use Rattle.std.proofs.lemmas.Bool.Decides.{nat_tests}
 use Rattle.std.specs.Prelude.{IfErr, IfOk, IsErrAnd, OnOk}
 use Rattle.cv_pool.specs.KindTree.{KindTree}
 use Rattle.cv_pool.specs.declared.node.NodeId.{NodeId}
@@ -8,7 +9,7 @@ use Rattle.cv_syntax.specs.declared.work.BuildError.TheVariants as build
 use Rattle.cv_syntax_trees.specs.Declarations.{Declaration}
 use Rattle.cv_syntax_trees.specs.Tree.{Tree, Empty, depth, size}
 use Rattle.cv_syntax.specs.PoolTrees.{tree_at}
-use Rattle.cv_syntax.specs.limits.Limits.{limit_fault}
+use Rattle.cv_syntax.specs.limits.Limits.{limit_fault, told}
 use Rattle.cv_scope_rules.specs.Phrases.{is_phrase}
 use Rattle.cv_scene.specs.Scenes.{Scene}
 use Rattle.cv_scene.specs.Terms.{is_game}
@@ -30,27 +31,41 @@ module _ (s : Scene) (next : Tree) where
   abbrev judged : Judgement
   judged = judgement_of_row s (Leads next Zero)
 
-  -- a limit is passed
-  over_by : (a b g : Bool) (e : BuildError) → (if a then Some (build.Nodes (size next)) else if b then Some (build.Depth (depth next)) else None) ≡ Some e
-      → (limit live need : ℕ) (trees : List KindTree) → IsAnswer limit live need (if a then TooLarge (size next) else if b then TooDeep (depth next) else if g then Accepted next Zero else Refused 9 0) trees (Err (rule.Build e))
-  over_by true b g e h limit live need trees = subst (λ y. IsAnswer limit live need (TooLarge (size next)) trees (Err (rule.Build y))) (let f : build.Nodes (size next) ≡ e = cc in f) refl
-  over_by false true g e h limit live need trees = subst (λ y. IsAnswer limit live need (TooDeep (depth next)) trees (Err (rule.Build y))) (let f : build.Depth (depth next) ≡ e = cc in f) refl
-  over_by false false g e h limit live need trees = absurd (cc)
+  -- a number that is told passes a limit where the number does
+  over_nodes : (n : ℕ) → nat_lt 50000 (told n) ≡ nat_lt 50000 n
+  over_nodes n = grind (arith, nat_tests)
 
-  pub over_answer : (e : BuildError) (nodes deep : ℕ) → nodes ≡ size next → deep ≡ depth next → limit_fault nodes deep ≡ Some e → (limit live need : ℕ) (trees : List KindTree) → IsAnswer limit live need judged trees (Err (rule.Build e))
-  over_answer e nodes deep f g h limit live need trees =
-      over_by (nat_lt 50000 (size next)) (nat_lt 200 (depth next)) (is_game s.declarations next) e (ap (λ n. limit_fault n (depth next)) (sym f) ∙ (ap (limit_fault nodes) (sym g) ∙ h)) limit live need trees
+  over_depth : (n : ℕ) → nat_lt 200 (told n) ≡ nat_lt 200 n
+  over_depth n = grind (arith, nat_tests)
 
-  -- the limits hold
-  within_by : (a b g : Bool) → (if a then Some (build.Nodes (size next)) else if b then Some (build.Depth (depth next)) else None) ≡ None
-      → (if a then TooLarge (size next) else if b then TooDeep (depth next) else if g then Accepted next Zero else Refused 9 0) ≡ (if g then Accepted next Zero else Refused 9 0)
-  within_by true b g h = absurd (cc)
-  within_by false true g h = absurd (cc)
-  within_by false false g h = refl
+  abbrev fault_by : (nodes deep : ℕ) → (a b : Bool) → Option BuildError
+  fault_by nodes deep a b = if a then Some (build.Nodes nodes) else if b then Some (build.Depth deep) else None
 
-  module _ (nodes deep : ℕ) (f : nodes ≡ size next) (h : deep ≡ depth next) (w : limit_fault nodes deep ≡ None) where
+  module _ (nodes deep : ℕ) (f : nodes ≡ told (size next)) (h : deep ≡ told (depth next)) where
+    fault_same : limit_fault nodes deep ≡ fault_by nodes deep (nat_lt 50000 (size next)) (nat_lt 200 (depth next))
+    fault_same = ap₂ (fault_by nodes deep) (ap (nat_lt 50000) f ∙ over_nodes (size next)) (ap (nat_lt 200) h ∙ over_depth (depth next))
+
+    -- a limit is passed
+    over_by : (a b g : Bool) (e : BuildError) → fault_by nodes deep a b ≡ Some e
+        → (limit live need : ℕ) (trees : List KindTree) → IsAnswer limit live need (if a then TooLarge (size next) else if b then TooDeep (depth next) else if g then Accepted next Zero else Refused 9 0) trees (Err (rule.Build e))
+    over_by true b g e w limit live need trees = subst (λ y. IsAnswer limit live need (TooLarge (size next)) trees (Err (rule.Build y))) (let i : build.Nodes nodes ≡ e = cc in i) (ap TooLarge (sym f))
+    over_by false true g e w limit live need trees = subst (λ y. IsAnswer limit live need (TooDeep (depth next)) trees (Err (rule.Build y))) (let i : build.Depth deep ≡ e = cc in i) (ap TooDeep (sym h))
+    over_by false false g e w limit live need trees = absurd (cc)
+
+    pub over_answer : (e : BuildError) → limit_fault nodes deep ≡ Some e → (limit live need : ℕ) (trees : List KindTree) → IsAnswer limit live need judged trees (Err (rule.Build e))
+    over_answer e w limit live need trees =
+        over_by (nat_lt 50000 (size next)) (nat_lt 200 (depth next)) (is_game s.declarations next) e (sym fault_same ∙ w) limit live need trees
+
+    -- the limits hold
+    within_by : (a b g : Bool) → fault_by nodes deep a b ≡ None
+        → (if a then TooLarge (size next) else if b then TooDeep (depth next) else if g then Accepted next Zero else Refused 9 0) ≡ (if g then Accepted next Zero else Refused 9 0)
+    within_by true b g w = absurd (cc)
+    within_by false true g w = absurd (cc)
+    within_by false false g w = refl
+
+  module _ (nodes deep : ℕ) (f : nodes ≡ told (size next)) (h : deep ≡ told (depth next)) (w : limit_fault nodes deep ≡ None) where
     judged_within : judged ≡ (if is_game s.declarations next then Accepted next Zero else Refused 9 0)
-    judged_within = within_by (nat_lt 50000 (size next)) (nat_lt 200 (depth next)) (is_game s.declarations next) (ap (λ n. limit_fault n (depth next)) (sym f) ∙ (ap (limit_fault nodes) (sym h) ∙ w))
+    judged_within = within_by nodes deep f h (nat_lt 50000 (size next)) (nat_lt 200 (depth next)) (is_game s.declarations next) (sym (fault_same nodes deep f h) ∙ w)
 
     accepted : is_game s.declarations next ≡ true → judged ≡ Accepted next Zero
     accepted e = judged_within ∙ ap (λ b. if b then Accepted next Zero else Refused 9 0) e

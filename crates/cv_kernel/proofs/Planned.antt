@@ -80,14 +80,3 @@ module _ (trees : List KindTree) (s : Scene) where
   prune_edit p body by e =
       let w = prune_leads s p (pruning.part_of body) by e in
       record { met = e; leads = w.0; need = refl; can = w.1 }
-
-  pub unnew_edit : (x : ℕ) → failure_of s (unnew_step x) ≡ None → IsEdit trees s (record { step = unnew_step x; need = need_without x }) (edit.Without x)
-  unnew_edit x e = record { met = e; leads = unnew_leads s x e; need = refl; can = tt }
-
-  pub rename_edit : (x y : ℕ) → failure_of s (rename_step x y) ≡ None → IsEdit trees s (record { step = rename_step x y; need = need_renaming x }) (edit.Renamed x y)
-  rename_edit x y e = record { met = e; leads = rename_leads s x y e; need = refl; can = tt }
-
-  pub unlet_edit : (x : ℕ) → failure_of s (unlet_step x) ≡ None → IsEdit trees s (record { step = unlet_step x; need = need_unletting x }) (edit.Unlet x)
-  unlet_edit x e =
-      let w = unlet_leads s x e in
-      record { met = e; leads = w.0; need = refl; can = w.1 }

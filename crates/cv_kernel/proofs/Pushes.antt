@@ -28,13 +28,14 @@ use Rattle.cv_steps.specs.Steps.{Cost, Fails, Leads, Row, Zero}
 use Rattle.cv_kernel.specs.declared.error.PushError.{PushError}
 use Rattle.cv_kernel.specs.declared.error.PushError.TheVariants as push
 use Rattle.cv_kernel.specs.declared.sequence.Sequence.{Sequence}
-use Rattle.cv_kernel.specs.Answers.{IsDrawn}
+use Rattle.cv_kernel.specs.Answers.{IsDrawn, as_told}
 use Rattle.cv_kernel.specs.Closings.{closing_in}
 use Rattle.cv_kernel.specs.Reducings.{reducing_in}
 use Rattle.cv_kernel.specs.Rules.{Rule, needed_by, rule_in}
 use Rattle.cv_kernel.specs.Sequences.{IsAdvanced, IsPushAnswer, IsPushed, Same, game_in, needed}
 use Rattle.cv_kernel.specs.Steps.{judgement_by}
 use Rattle.cv_kernel.proofs.StepAnswers.{rule_pushed}
+use Rattle.cv_kernel_crypto.proofs.Growing.{root_grown}
 
 -- an accepted step leads to a game within the limits
 
@@ -63,9 +64,6 @@ fits_on sums c Zero e h = subst (λ d. SumsFit (with_cost sums d)) (sym e) h
 
 -- what stays while a pool grows
 
-pub root_grown : (old new : PoolView) (n : NodeId) → Grows old new → n.0 < length old.trees → tree_at new.trees (Some n) ≡ tree_at old.trees (Some n)
-root_grown old new n g l = child_grown old new (Some n) g l
-
 -- the same answer, in a sequence that only looked up what there is to read
 
 module _ (pool : PoolView) (decls : DeclsView) (trees more : List KindTree) (old mid new : Sequence) (step : Tree) (o : Option Rule) (same : Same old mid) (is : rule_in step ≡ o) where
@@ -92,8 +90,8 @@ module _ (pool : PoolView) (decls : DeclsView) (trees more : List KindTree) (old
   }
   answer_of g h j k (Err (push.Refused q)) e f m w = sym f ∙ w
   answer_of g h j k (Err push.Steps) e f m w = w
-  answer_of g h j k (Err (push.Build (build.Nodes n))) e f m w = sym f ∙ w
-  answer_of g h j k (Err (push.Build (build.Depth n))) e f m w = sym f ∙ w
+  answer_of g h j k (Err (push.Build (build.Nodes n))) e f m w = ap as_told (sym f) ∙ w
+  answer_of g h j k (Err (push.Build (build.Depth n))) e f m w = ap as_told (sym f) ∙ w
   answer_of g h j k (Err (push.Build (build.Full n))) e f m w = record { drawn = subst IsDrawn f w.drawn; asks = w.asks ∙ ap (λ t. needed_by t o) e; over = w.over }
   answer_of g h j k (Err (push.Build build.OutOfMemory)) e f m w = tt
 

@@ -2,6 +2,7 @@
 use Rattle.std.specs.Prelude.{◌≡◌, ℕ, ◌+◌, ◌<◌, ◌≤◌, Bool, false, List, Option, Some, None, Result, Ok, Err}
 use Rattle.cv_pool.specs.KindTree.{KindTree}
 use Rattle.cv_syntax.specs.declared.work.BuildError.TheVariants as build
+use Rattle.cv_syntax.specs.limits.Limits.{told}
 use Rattle.cv_syntax.specs.PoolTrees.{tree_at}
 use Rattle.cv_scene.specs.Scenes.{Scene}
 use Rattle.cv_steps.specs.Costs.{cost_of}
@@ -35,12 +36,19 @@ pub record IsNext (limit live need : ℕ) (j : Judgement) (trees : List KindTree
   pub costs : next.cost ≡ cost_of cost
   pub room : live + need ≤ limit
 
+-- what is said of a step, with the size or the depth of a game that passes a limit as it is told
+abbrev pub as_told : Judgement → Judgement
+as_told (Refused condition place) = Refused condition place
+as_told (TooLarge nodes) = TooLarge (told nodes)
+as_told (TooDeep depth) = TooDeep (told depth)
+as_told (Accepted next cost) = Accepted next cost
+
 -- Each answer is what is said of the step; memory may run out anywhere.
 abbrev pub IsAnswer : (limit live need : ℕ) → Judgement → List KindTree → Result Next RuleError → Type 0
 IsAnswer limit live need j trees (Ok next) = IsNext limit live need j trees next
 IsAnswer limit live need j trees (Err (rule.Refused f)) = j ≡ Refused f.condition f.place
-IsAnswer limit live need j trees (Err (rule.Build (build.Nodes count))) = j ≡ TooLarge count
-IsAnswer limit live need j trees (Err (rule.Build (build.Depth depth))) = j ≡ TooDeep depth
+IsAnswer limit live need j trees (Err (rule.Build (build.Nodes count))) = as_told j ≡ TooLarge count
+IsAnswer limit live need j trees (Err (rule.Build (build.Depth depth))) = as_told j ≡ TooDeep depth
 IsAnswer limit live need j trees (Err (rule.Build (build.Full asked))) = HasNoRoom limit live need j asked
 IsAnswer limit live need j trees (Err (rule.Build build.OutOfMemory)) = Unit {0}
 

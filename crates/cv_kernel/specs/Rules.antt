@@ -13,10 +13,15 @@ use Rattle.cv_edit_places.specs.Dropping.{need_without}
 use Rattle.cv_edit_changes.specs.pruning.Bodies as pruning
 use Rattle.cv_edit_changes.specs.renaming.Needs.{need_renaming}
 use Rattle.cv_edit_changes.specs.unletting.Games.{need_unletting}
+use Rattle.cv_edit_names.specs.Needs.{need_splitting}
+use Rattle.cv_rule_array_names.specs.Row.{array_names_step}
+use Rattle.cv_rule_array_names.specs.Sites.{listed_names}
 use Rattle.cv_rule_codef.specs.Needs.{need_codef}
 use Rattle.cv_rule_codef.specs.Row.{codef_step}
 use Rattle.cv_rule_merge.specs.Row.{merge_step, need_merging}
 use Rattle.cv_rule_move.specs.Steps.{move_step, need_moving}
+use Rattle.cv_rule_pick.specs.Needs.{need_picking}
+use Rattle.cv_rule_pick.specs.Row.{pick_step}
 
 pub record Rule : Type 0 where
   pub step : Step
@@ -41,6 +46,8 @@ rule_of_items (items.Prune p part by) = Some (record { step = prune_step p (part
 rule_of_items (items.Move p) = Some (record { step = move_step p; need = need_moving p })
 rule_of_items (items.Merge p) = Some (record { step = merge_step p; need = need_merging p })
 rule_of_items (items.Codef p adds to from above) = Some (record { step = codef_step p adds above to from; need = need_codef p adds to })
+rule_of_items (items.ArrayRename x to) = Some (record { step = array_names_step x (listed_names to); need = need_splitting x (listed_names to) })
+rule_of_items (items.Pick p ms d e) = Some (record { step = pick_step p ms d e; need = need_picking p ms })
 rule_of_items other = None
 
 -- that of the step that a tree is

@@ -1,6 +1,7 @@
 -- What may be said of the tree of a step: of a cryptographic step what it may come to, and of every other step the one judgement. This
 -- profile's own.
 use Rattle.std.specs.Prelude.{◌≡◌, ℕ, List, Option, Some}
+use Rattle.cv_syntax.specs.limits.Limits.{told}
 use Rattle.cv_syntax_trees.specs.Tree.{Tree}
 use Rattle.cv_bound.specs.declared.cost.Cost.{Cost}
 use Rattle.cv_scene.specs.Scenes.{Scene}
@@ -20,10 +21,11 @@ pub data Saying : Type 0 where
   TooDeep : (depth : ℕ) → Saying
   Accepted : (next : Tree) → Cost → Saying
 
+-- sizes as they are told
 abbrev pub saying_of : Judgement → Saying
 saying_of (judgement.Refused condition place) = Refused condition place
-saying_of (judgement.TooLarge nodes) = TooLarge nodes
-saying_of (judgement.TooDeep depth) = TooDeep depth
+saying_of (judgement.TooLarge nodes) = TooLarge (told nodes)
+saying_of (judgement.TooDeep depth) = TooDeep (told depth)
 saying_of (judgement.Accepted next cost) = Accepted next (cost_of cost)
 
 abbrev pub saying_by : (number equivalence : ℕ) → Outcome → Saying

@@ -32,7 +32,7 @@ use Rattle.cv_kernel_crypto.specs.declared.fault.CryptoFault.TheVariants as cryp
 use Rattle.cv_kernel.specs.Closings.{Closing, closing_failure, is_of_secrecy}
 use Rattle.cv_bound.specs.costs.Costs.{advantage_of}
 use Rattle.cv_bound.specs.costs.Sums.{SumsFit, sum_for, with_cost}
-use Rattle.cv_kernel.specs.Answers.{HasNoRoom}
+use Rattle.cv_kernel.specs.Answers.{HasNoRoom, as_told}
 use Rattle.cv_kernel.specs.Rules.{Rule, needed_by, rule_in}
 use Rattle.cv_kernel.specs.Steps.{judgement_by}
 use Rattle.cv_kernel.specs.declared.error.PushError.{PushError}
@@ -103,8 +103,8 @@ abbrev pub IsPushAnswer : (limit live need : ℕ) → Judgement → List KindTre
 IsPushAnswer limit live need j trees old new (Ok u) = IsTaken limit live need j trees old new
 IsPushAnswer limit live need j trees old new (Err (push.Refused f)) = j ≡ Refused f.condition f.place
 IsPushAnswer limit live need j trees old new (Err push.Steps) = ⊥
-IsPushAnswer limit live need j trees old new (Err (push.Build (build.Nodes count))) = j ≡ TooLarge count
-IsPushAnswer limit live need j trees old new (Err (push.Build (build.Depth depth))) = j ≡ TooDeep depth
+IsPushAnswer limit live need j trees old new (Err (push.Build (build.Nodes count))) = as_told j ≡ TooLarge count
+IsPushAnswer limit live need j trees old new (Err (push.Build (build.Depth depth))) = as_told j ≡ TooDeep depth
 IsPushAnswer limit live need j trees old new (Err (push.Build (build.Full asked))) = HasNoRoom limit live need j asked
 IsPushAnswer limit live need j trees old new (Err (push.Build build.OutOfMemory)) = Unit {0}
 

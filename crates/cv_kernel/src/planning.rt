@@ -12,10 +12,11 @@ ghost use Rattle.cv_kernel.specs.Steps.{AreShort};
 
 use crate::elementary::{after_let, after_new, pruned, rewritten, split, tested};
 use crate::error::RuleError;
-use crate::rooms::{codefined, merged, moved};
+use crate::rooms::{codefined, merged, moved, picked, split_definitions};
 use cv_edit::Edit;
 use cv_edit_places::Failure;
 use cv_rule::Rule;
+use cv_rule_pick::Derivations;
 use cv_script::StepView;
 use cv_syntax::{NodeId, Work};
 use cv_typing::Arrays;
@@ -97,6 +98,16 @@ pub(crate) fn plan(
             from,
             above,
         } => { codefined(alloc, work, game, arrays, place, add, to, from, above) }
+        StepView::ArrayRename { x, to } => split_definitions(alloc, work, game, x.0, to),
+        StepView::Pick {
+            place,
+            terms,
+            at_body,
+            at_find,
+        } => {
+            let by = Derivations { at_body, at_find };
+            picked(alloc, work, game, arrays, place, terms, by)
+        }
         _ => Err(refused(0)),
     }
 }

@@ -1,6 +1,7 @@
 // The rules that stand in crates of their own.
 ghost use Rattle.std.specs.Prelude.{◌≡◌, ◌<◌, ◌≤◌, ℕ, All, List, Some, length};
 ghost use Rattle.cv_pool.specs.KindTree.{KindTree};
+ghost use Rattle.cv_pool.specs.Nodes.{ChildBelow};
 ghost use Rattle.cv_syntax_trees.specs.Tree.{size};
 ghost use Rattle.cv_syntax.specs.PoolTrees.{tree_at};
 ghost use Rattle.cv_directory.specs.Live.{IsLive};
@@ -19,9 +20,12 @@ use crate::error::RuleError;
 use crate::planning::place_in;
 use cv_edit::Edit;
 use cv_edit_places::{Change, Failure};
+use cv_rule_array_names as array_names;
 use cv_rule_codef as codefining;
 use cv_rule_merge as merging;
 use cv_rule_move as moving;
+use cv_rule_pick as picking;
+use cv_rule_pick::Derivations;
 use cv_syntax::{NodeId, Work};
 use cv_typing::Arrays;
 use std::alloc::Global;
@@ -95,5 +99,56 @@ pub(crate) fn codefined(
 {
     let place = place_in(number)?;
     let planned = codefining::plan(alloc, work, game, arrays, place, adds, above, to, from)?;
+    at(place, planned)
+}
+
+/// How a `SArename` changes a game.
+pub(crate) fn split_definitions(
+    alloc: Global,
+    work: &Work,
+    game: NodeId,
+    x: u32,
+    to: Option<NodeId>,
+) -> Result<Edit, RuleError>
+    requires live { game.0 < length work.now.pool.trees }
+    requires small { size (tree_at work.now.pool.trees (Some game)) ≤ 50000 }
+    requires declared { All (IsLive (length work.now.pool.trees)) work.now.decls.list }
+    requires names { ChildBelow (length work.now.pool.trees) to }
+    ensures { IsPlan work.now.pool.trees (scene_of work.now.pool work.now.decls game)
+        (rule_of_items (items.ArrayRename x (tree_at work.now.pool.trees to))) result }
+{
+    let planned = array_names::plan(alloc, work, game, x, to)?;
+    match planned {
+        Ok(names) => Ok(Edit::Split { name: x, names }),
+        Err(failure) => Err(RuleError::Refused(failure)),
+    }
+}
+
+/// How a `pick` changes a game.
+pub(crate) fn picked(
+    alloc: Global,
+    work: &Work,
+    game: NodeId,
+    arrays: &Arrays,
+    number: u64,
+    terms: Option<NodeId>,
+    by: Derivations,
+) -> Result<Edit, RuleError>
+    requires prepared { IsPrepared work.now.pool.trees work.now.decls game arrays.now }
+    requires small { size (tree_at work.now.pool.trees (Some game)) ≤ 50000 }
+    requires declared { All (IsLive (length work.now.pool.trees)) work.now.decls.list }
+    requires terms { ChildBelow (length work.now.pool.trees) terms }
+    requires at_body { ChildBelow (length work.now.pool.trees) by.at_body }
+    requires at_find { ChildBelow (length work.now.pool.trees) by.at_find }
+    requires short { IsShort (tree_at work.now.pool.trees terms) }
+    requires short_body { IsShort (tree_at work.now.pool.trees by.at_body) }
+    requires short_find { IsShort (tree_at work.now.pool.trees by.at_find) }
+    ensures { IsPlan work.now.pool.trees (scene_of work.now.pool work.now.decls game)
+        (rule_of_items (items.Pick number (tree_at work.now.pool.trees terms)
+        (tree_at work.now.pool.trees by.at_body) (tree_at work.now.pool.trees by.at_find)))
+        result }
+{
+    let place = place_in(number)?;
+    let planned = picking::plan(alloc, work, game, arrays, place, terms, by)?;
     at(place, planned)
 }

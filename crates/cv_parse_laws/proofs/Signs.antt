@@ -36,7 +36,7 @@ placed names text f e = subst (λ l. Placed l text) (sym f.1) (go f.0 (bytes_eq 
       first = (with_name more text, ap (λ b. if b then codes "bool" ∷ more else codes "bool" ∷ with_name more text) i);
     }
 
-bool_is : mark_of_text (codes "bool") ≡ Some mark.Bool
+pub bool_is : mark_of_text (codes "bool") ≡ Some mark.Bool
 unfolding mark_of_text
 bool_is = refl
 

@@ -34,11 +34,7 @@ use Rattle.cv_parse_laws.proofs.roles.Declared.{Used, function_declared}
 use Rattle.cv_parse_sorts.proofs.EquationTerms.{AreTermsOver, IsTermOver}
 use Rattle.cv_parse_sorts.proofs.Equations.{All, IfNamed, read_equations}
 use Rattle.cv_parse_laws.proofs.roles.Games.{kinds}
-use Rattle.cv_parse_sorts.proofs.queries.Typed.{named_locally}
-
--- a function that is declared, which is a constant where it has no arguments
-abbrev IsFunction : List Declaration → ℕ → Type 0
-IsFunction ds x = (f : Function) × (function_in ds x ≡ Some f) × (f.arguments ≡ [] → is_constant_of ds x ≡ true)
+use Rattle.cv_parse_sorts.proofs.queries.Typed.{named_locally, named_above, typed_split, IsFunction}
 
 module _ (ds : List Declaration) (own known : ℕ → Type 0) (above : Above) (bound_above : (x : ℕ) (S : Sort) → above x ≡ Some S → own x) (functions : (x : ℕ) → known x → IsFunction ds x) where
   abbrev e : Signature
@@ -97,26 +93,6 @@ module _ (ds : List Declaration) (own known : ℕ → Type 0) (above : Above) (b
     terms_closed Empty w k n = tt
     terms_closed (Node Cons a b) w k n = (term_closed a _ k.1 n.0, terms_closed b _ k.2 n.1)
     terms_closed (Node h a b) w k n = absurd n
-
--- the variables of an equation are the names above its term
-named_above : (above : Above) (bs : List (ℕ × ℕ)) (x : ℕ) (S : Sort) → all_bound First above OfType (binders bs) x ≡ Some S → (is_name_of (bound_names (binders bs)) x ≡ true) ⊎ ((R : Sort) × (above x ≡ Some R))
-unfolding all_bound
-named_above above [] x S k = inr (S, k)
-named_above above (b ∷ bs) x S k = go (named_above (bound First above b.0 (OfType b.1)) bs x S k)
-  where
-    first : (R : Sort) → (v : Bool) → (b.0 == x) ≡ v → bound First above b.0 (OfType b.1) x ≡ Some R → ((b.0 == x) || is_name_of (bound_names (binders bs)) x) ≡ true ⊎ ((R : Sort) × (above x ≡ Some R))
-    first R true i k = inl (or_left (b.0 == x) _ i)
-    first R false i k = inr (R, sym (ap (λ v. cond v (first_of (above b.0) (Some (OfType b.1))) (above x)) i) ∙ k)
-
-    go : (is_name_of (bound_names (binders bs)) x ≡ true) ⊎ ((R : Sort) × (bound First above b.0 (OfType b.1) x ≡ Some R)) → ((b.0 == x) || is_name_of (bound_names (binders bs)) x) ≡ true ⊎ ((R : Sort) × (above x ≡ Some R))
-    go (inl i) = inl (or_right (b.0 == x) _ i)
-    go (inr (R, i)) = first R (b.0 == x) refl i
-
--- parts of lists of parts
-typed_split : (ds : List Declaration) (xs ys : List Part) → AreTyped ds (xs ++ ys) → AreTyped ds xs × AreTyped ds ys
-unfolding AreTyped
-typed_split ds [] ys h = (tt, h)
-typed_split ds (x ∷ xs) ys h = let r = typed_split ds xs ys h.1 in ((h.0, r.0), r.1)
 
 module _ (ts : List Sign) (ds : List Declaration) (s : Option (ℕ × ℕ)) (g : Tree) (r : IsRead ts ds s g) where
   abbrev D : List Declaration

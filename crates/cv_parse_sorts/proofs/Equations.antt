@@ -35,19 +35,19 @@ use Rattle.cv_parse_laws.proofs.roles.UsedRoles.{IsIn, form_uses, has_roles, sor
 
 -- roles
 
-abbrev is_of_term : Role → Bool
+abbrev pub is_of_term : Role → Bool
 is_of_term Mentions = true
 is_of_term AsCall = true
 is_of_term AsArray = true
 is_of_term AsBare = true
 is_of_term r = false
 
-abbrev is_of_binder : Role → Bool
+abbrev pub is_of_binder : Role → Bool
 is_of_binder BindsLocal = true
 is_of_binder (Asks a) = true
 is_of_binder r = false
 
-abbrev is_term_sort : Sort → Bool
+abbrev pub is_term_sort : Sort → Bool
 is_term_sort sort.Term = true
 is_term_sort sort.Conjunction = true
 is_term_sort sort.Primary = true
@@ -57,7 +57,7 @@ is_term_sort sort.Arguments = true
 is_term_sort sort.Subscript = true
 is_term_sort s = false
 
-abbrev no_sorts : Sort → Bool
+abbrev pub no_sorts : Sort → Bool
 no_sorts s = false
 
 term_roles : (s : Sort) → is_term_sort s ≡ true → has_roles is_of_term is_term_sort (rule s) ≡ true
@@ -71,10 +71,10 @@ term_roles sort.Subscript e = refl
 term_roles s e = absurd (both_ways false refl e)
 
 -- a use that neither begins nor ends a part
-abbrev IsInside : Use Role → Type 0
+abbrev pub IsInside : Use Role → Type 0
 IsInside u = ((p : Option Region) → part_after p u.role ≡ p) × ((seen : Uses) → since seen u ≡ seen ++ u ∷ [])
 
-term_inside : (u : Use Role) → is_of_term u.role ≡ true → IsInside u
+pub term_inside : (u : Use Role) → is_of_term u.role ≡ true → IsInside u
 term_inside u e = go u.role refl e
   where
     go : (r : Role) → u.role ≡ r → is_of_term r ≡ true → IsInside u
@@ -84,7 +84,7 @@ term_inside u e = go u.role refl e
     go AsBare f e = ((λ p. ap (part_after p) f), (λ seen. ap (λ r. elim r [ Enters q ↦ [] | r ↦ seen ++ u ∷ [] ]) f))
     go r f e = absurd (both_ways false refl e)
 
-binder_inside : (u : Use Role) → is_of_binder u.role ≡ true → IsInside u
+pub binder_inside : (u : Use Role) → is_of_binder u.role ≡ true → IsInside u
 binder_inside u e = go u.role refl e
   where
     go : (r : Role) → u.role ≡ r → is_of_binder r ≡ true → IsInside u
@@ -92,28 +92,28 @@ binder_inside u e = go u.role refl e
     go (Asks a) f e = ((λ p. ap (part_after p) f), (λ seen. ap (λ r. elim r [ Enters q ↦ [] | r ↦ seen ++ u ∷ [] ]) f))
     go r f e = absurd (both_ways false refl e)
 
-all_inside : (p : Role → Bool) → ((u : Use Role) → p u.role ≡ true → IsInside u) → (us : Uses) → AllUsed (IsIn p no_sorts) us → AllByRecursion IsInside us
+pub all_inside : (p : Role → Bool) → ((u : Use Role) → p u.role ≡ true → IsInside u) → (us : Uses) → AllUsed (IsIn p no_sorts) us → AllByRecursion IsInside us
 all_inside p f [] w = tt
 all_inside p f (u ∷ us) w = (f u w.0, all_inside p f us w.1)
 
 -- the part that is open, and what was used there
 
-part_append : (p : Option Region) (us vs : Uses) → part_from p (us ++ vs) ≡ part_from (part_from p us) vs
+pub part_append : (p : Option Region) (us vs : Uses) → part_from p (us ++ vs) ≡ part_from (part_from p us) vs
 unfolding part_from
 part_append p [] vs = refl
 part_append p (u ∷ us) vs = part_append (part_after p u.role) us vs
 
-part_kept : (p : Option Region) (us : Uses) → AllByRecursion IsInside us → part_from p us ≡ p
+pub part_kept : (p : Option Region) (us : Uses) → AllByRecursion IsInside us → part_from p us ≡ p
 unfolding part_from
 part_kept p [] w = refl
 part_kept p (u ∷ us) w = ap (λ q. part_from q us) (w.0.0 p) ∙ part_kept p us w.1
 
-own_append : (seen us vs : Uses) → own_from seen (us ++ vs) ≡ own_from (own_from seen us) vs
+pub own_append : (seen us vs : Uses) → own_from seen (us ++ vs) ≡ own_from (own_from seen us) vs
 unfolding own_from
 own_append seen [] vs = refl
 own_append seen (u ∷ us) vs = own_append (since seen u) us vs
 
-own_kept : (seen us : Uses) → AllByRecursion IsInside us → own_from seen us ≡ seen ++ us
+pub own_kept : (seen us : Uses) → AllByRecursion IsInside us → own_from seen us ≡ seen ++ us
 unfolding own_from
 own_kept [] [] w = refl
 own_kept (s ∷ seen) [] w = ap (λ l. s ∷ l) (own_kept seen [] w)
@@ -144,7 +144,7 @@ binds_none x (u ∷ us) w = go u.role w.0 (binds_none x us w.1)
 
 -- what the binders of an equation bind
 
-asks_bind_none : (x : ℕ) (us : Uses) → AllUsed (IsIn (λ r. not (binds r)) no_sorts) us → is_used binds x us ≡ false
+pub asks_bind_none : (x : ℕ) (us : Uses) → AllUsed (IsIn (λ r. not (binds r)) no_sorts) us → is_used binds x us ≡ false
 asks_bind_none x [] w = refl
 asks_bind_none x (u ∷ us) w = go (binds u.role) refl w.0 (asks_bind_none x us w.1)
   where

@@ -25,6 +25,7 @@ use Rattle.cv_parse_laws.proofs.roles.UsedRoles.{IsIn, form_uses, has_roles, sor
 use Rattle.cv_parse_sorts.proofs.Calls.{AllSay, Says}
 use Rattle.cv_parse_sorts.proofs.Bindings.{IsBound, bound_parts}
 use Rattle.cv_parse_sorts.proofs.BindingRows.{quiet_form}
+use Rattle.cv_parse_sorts.proofs.Equations.{part_append}
 
 -- the part that is open
 
@@ -72,11 +73,6 @@ part_kept : (p : Option Region) (us : Uses) → AllUsed (IsIn is_inside every_so
 unfolding part_from
 part_kept p [] w = refl
 part_kept p (u ∷ us) w = ap (λ q. part_from q us) (part_same u.role p w.0) ∙ part_kept p us w.1
-
-part_append : (p : Option Region) (us vs : Uses) → part_from p (us ++ vs) ≡ part_from (part_from p us) vs
-unfolding part_from
-part_append p [] vs = refl
-part_append p (u ∷ us) vs = part_append (part_after p u.role) us vs
 
 abbrev enters : ℕ → Use Role
 enters n = record { role = Enters InProcess; name = 0; left = n }

@@ -104,7 +104,7 @@ proper_token names counts kind.Symbol text is p = proper_text names counts text 
 proper_token names counts (kind.Number v) text is p = p
 proper_token names counts kind.End text is p = p
 
-no_mark : (rest : List ℕ) → mark_of_text (codes "collision_" ++ rest) ≡ None
+pub no_mark : (rest : List ℕ) → mark_of_text (codes "collision_" ++ rest) ≡ None
 unfolding mark_of_text
 no_mark rest = refl
 

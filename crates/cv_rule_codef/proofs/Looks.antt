@@ -119,12 +119,6 @@ pub behind_other : (t : Tree) (h : Head) (a b : Tree) → t ≡ Node h a b → (
 behind_other t h a b e f = ap behind_item e ∙ other_item h a b f
 
 module _ (c t : Tree) (h : Head) (item more : Tree) (e : t ≡ Node h item more) where
-  pub listed_here : same_tree item c ≡ true → has_cell c t ≡ true
-  listed_here f = ap (has_cell c) e ∙ ap (λ v. v || has_cell c more) f
-
-  pub listed_later : same_tree item c ≡ false → has_cell c t ≡ has_cell c more
-  listed_later f = ap (has_cell c) e ∙ ap (λ v. v || has_cell c more) f
-
   pub with_later : with_cell c t ≡ Node h item (with_cell c more)
   with_later = ap (with_cell c) e
 

@@ -45,28 +45,8 @@ module _ (s : Scene) (p : ℕ) (adds above : Bool) (to from : Tree) where
     second_fails f = ap failing (met (lists from (part_at s.game p)) 1 second e) ∙ unmet (are_codefined above s.game from to) 2 third f
 
     module _ (f : are_codefined above s.game from to ≡ true) where
-      pub third_fails : may_relist adds to (part_at s.game p) ≡ false → failing (codef_row s p adds above to from) ≡ Some (failed 3 0)
-      third_fails h = ap failing (met (lists from (part_at s.game p)) 1 second e ∙ met (are_codefined above s.game from to) 2 third f) ∙ unmet (may_relist adds to (part_at s.game p)) 3 next h
-
       pub none_fails : may_relist adds to (part_at s.game p) ≡ true → failing (codef_row s p adds above to from) ≡ None
       none_fails h = ap failing (met (lists from (part_at s.game p)) 1 second e ∙ (met (are_codefined above s.game from to) 2 third f ∙ met (may_relist adds to (part_at s.game p)) 3 next h))
-
-  -- a cell that is added isn't listed, and one that is dropped is
-  pub relist_fails : (v : Bool) → v ≡ lists to (part_at s.game p) → v ≡ adds → may_relist adds to (part_at s.game p) ≡ false
-  relist_fails v e f = go adds (sym e ∙ f)
-    where
-      go : (w : Bool) → lists to (part_at s.game p) ≡ w → may_relist w to (part_at s.game p) ≡ false
-      go true i = ap not i
-      go false i = i
-
-  pub relist_holds : (v : Bool) → v ≡ lists to (part_at s.game p) → (v ≡ adds → ⊥) → may_relist adds to (part_at s.game p) ≡ true
-  relist_holds v e f = go adds (lists to (part_at s.game p)) refl (λ i. f (e ∙ i))
-    where
-      go : (w u : Bool) → lists to (part_at s.game p) ≡ u → (lists to (part_at s.game p) ≡ w → ⊥) → may_relist w to (part_at s.game p) ≡ true
-      go true true i k = absurd (k i)
-      go true false i k = ap not i
-      go false true i k = i
-      go false false i k = absurd (k i)
 
   row_leads : failing (codef_row s p adds above to from) ≡ None → codef_row s p adds above to from ≡ next
   row_leads e = go (lists from (part_at s.game p)) (are_codefined above s.game from to) (may_relist adds to (part_at s.game p)) e
@@ -81,9 +61,6 @@ module _ (s : Scene) (p : ℕ) (adds above : Bool) (to from : Tree) where
   leads_to new e f = row_leads e ∙ ap (λ t. Leads (change_at s.game p (λ old. t)) Zero) f
 
   -- the step
-
-  pub not_standing : (v : Bool) → v ≡ stands_codef s p to from → v ≡ false → failure_of s (codef_step p adds above to from) ≡ Some (failed 0 0)
-  not_standing v e f = ap (λ w. cond w (failing (codef_row s p adds above to from)) (Some (failed 0 0))) (sym e ∙ f)
 
   pub standing : (v : Bool) → v ≡ stands_codef s p to from → v ≡ true → failure_of s (codef_step p adds above to from) ≡ failing (codef_row s p adds above to from)
   standing v e f = ap (λ w. cond w (failing (codef_row s p adds above to from)) (Some (failed 0 0))) (sym e ∙ f)

@@ -127,9 +127,6 @@ module _ (x p : ℕ) (t : Tree) (h : Head) (a b us rest : Tree) (e : t ≡ Node 
   by_parts : first_naming_branch x p t ≡ first_of (naming_before x p us rest) (first_naming_branch x (second_place p Cons (Node Branch us rest)) b)
   by_parts = ap (first_naming_branch x p) arm_node ∙ by_arm x p us rest b
 
-  pub named_in_arm : (q : ℕ) → Some q ≡ naming_before x p us rest → Some q ≡ first_naming_branch x p t
-  named_in_arm q g = sym (by_parts ∙ ap (λ o. first_of o (first_naming_branch x (second_place p Cons (Node Branch us rest)) b)) (sym g))
-
   pub named_later : None ≡ naming_before x p us rest → (n : ℕ) → n ≡ size a → first_naming_branch x (p + n) b ≡ first_naming_branch x p t
   named_later g n i =
       sym (by_parts

@@ -48,9 +48,6 @@ module _ (before : Tree → Tree) (h : Head) (a b : Tree) (e : h ≡ If) (f : No
   pub if_without_bodies : in_bodies before (Node h a b) ≡ Node h a (before b)
   if_without_bodies = ap (λ k. in_bodies before (Node k a b)) e ∙ (alone b f ∙ ap (λ k. Node k a (before b)) (sym e))
 
-  pub made_without_bodies : made_in_bodies (Node h a b) ≡ 2
-  made_without_bodies = ap (λ k. made_in_bodies (Node k a b)) e ∙ two_made b f
-
 -- a construct with one body
 
 pub one_body : (before : Tree → Tree) (h : Head) (a b : Tree) → ((l : ℕ) → h ≡ Find l → ⊥) → (h ≡ If → ⊥) → in_bodies before (Node h a b) ≡ Node h a (before b)

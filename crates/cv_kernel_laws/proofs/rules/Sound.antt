@@ -3,9 +3,12 @@ use Rattle.std.proofs.Common.{◌≡◌, Some, None, subst}
 use Rattle.cv_script.specs.Views.{StepItems}
 use Rattle.cv_script.specs.Views as items
 use Rattle.cv_derive_laws.specs.stores.Steps.{IsSound}
+use Rattle.cv_rule_array_names_laws.proofs.Sound.{array_names_sound}
 use Rattle.cv_rule_codef.proofs.Sound.{codef_sound}
 use Rattle.cv_rule_merge.proofs.Sound.{merge_sound}
 use Rattle.cv_rule_move.proofs.Sound.{move_sound}
+use Rattle.cv_rule_array_names.specs.Sites.{listed_names}
+use Rattle.cv_rule_pick_laws.proofs.Facts.{picked_sound}
 use Rattle.cv_sequences.proofs.soundness.Sound.{let_sound, new_sound, prune_sound, rename_sound, rewrite_sound, split_sound, unlet_sound, unnew_sound}
 use Rattle.cv_kernel.specs.Rules.{Rule, part_of, rule_of_items}
 
@@ -24,4 +27,6 @@ sound (items.Prune p part by) r e = that _ r e (prune_sound p (part_of part) by)
 sound (items.Move p) r e = that _ r e (move_sound p)
 sound (items.Merge p) r e = that _ r e (merge_sound p)
 sound (items.Codef p adds to from above) r e = that _ r e (codef_sound p adds above to from)
+sound (items.ArrayRename x to) r e = that _ r e (array_names_sound x (listed_names to))
+sound (items.Pick p ms d f) r e = that _ r e (picked_sound p ms d f)
 sound i r e = absurd (cc)

@@ -15,7 +15,7 @@ use Rattle.cv_typing_rules.specs.Typing.{IsTyped}
 use Rattle.cv_typing_rules.specs.Wants.{Atoms}
 use Rattle.cv_syntax_faults.specs.Walk.{IsObeyed}
 use Rattle.cv_derive_laws.specs.stores.Truth.{is_name_of}
-use Rattle.cv_query_direct.specs.closed_terms.Closed.{AreClosedAtoms, HasClosedQueries, IsClosedAtom, IsClosedQuery, IsKnown}
+use Rattle.cv_query_kinds.specs.Closed.{AreClosedAtoms, HasClosedQueries, IsClosedAtom, IsClosedQuery, IsKnown}
 use Rattle.cv_parse_sorts.proofs.queries.Typed.{D, IsUsed, named_locally, term_closed, terms_closed, typed_split, used_functions}
 use Rattle.cv_parse_sorts.proofs.queries.Names.{AreAtomsOver, IfNamed, IsAtomOver, IsNamedQuery, read_queries}
 

@@ -29,9 +29,10 @@ use Rattle.cv_parse_grammar.proofs.yields.Naming.{all_used}
 use Rattle.cv_parse_grammar.proofs.yields.Yielding.{Gives, anything, behind, follow, forms_tell, one_of, turned, weaker}
 use Rattle.cv_derive_laws.specs.stores.Truth.{is_name_of}
 use Rattle.cv_parse_sorts.proofs.queries.Terms.{AreTermsOver, IsTermOver, Mentioned, OfTerms, of_arguments, of_equality, term_rows}
-use Rattle.cv_parse_sorts.proofs.queries.Parts.{AreBinders, IsInside, Spelled, all_inside, binder_inside, is_of_binder, is_of_term, is_term_sort, no_sorts, only_front, own_append, own_kept, part_append, part_kept, term_inside, vars_bind}
+use Rattle.cv_parse_sorts.proofs.queries.Parts.{AreBinders, Spelled, only_front, vars_bind}
 use Rattle.cv_parse_laws.proofs.roles.Forms.{in_row, or_this}
 use Rattle.cv_parse_laws.proofs.roles.UsedRoles.{IsIn, form_uses, has_roles, sort_uses}
+use Rattle.cv_parse_sorts.proofs.Equations.{IsInside, all_inside, binder_inside, is_of_binder, is_of_term, is_term_sort, no_sorts, own_append, own_kept, part_append, part_kept, term_inside}
 
 -- the right side of a correspondence over names of L
 

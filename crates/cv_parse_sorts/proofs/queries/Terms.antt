@@ -13,10 +13,7 @@ use Rattle.cv_parse_grammar.specs.Terms.{terms, arguments, subscript, parenthese
 use Rattle.cv_parse_grammar.specs.yields.Yields.{Yields}
 use Rattle.cv_parse_grammar.proofs.yields.Yielding.{Gives, a_word, anything, behind, below, follow, leveled, one_of, perhaps, several, turned}
 use Rattle.cv_parse_laws.proofs.roles.Forms.{Tail, after_is, bracketed, squared}
-
-abbrev pub IsSome : Tree → Type 0
-IsSome Empty = ⊥
-IsSome t = Unit {0}
+use Rattle.cv_parse_sorts.proofs.EquationTerms.{IsSome}
 
 -- a term with bare names of L
 abbrev mutual

@@ -95,7 +95,7 @@ module _ (ds : List Declaration) (own known : ℕ → Type 0) (above : Above) (b
     terms_closed (Node h a b) w k n = absurd n
 
 -- the variables of an equation are the names above its term
-named_above : (above : Above) (bs : List (ℕ × ℕ)) (x : ℕ) (S : Sort) → all_bound First above OfType (binders bs) x ≡ Some S → (is_name_of (bound_names (binders bs)) x ≡ true) ⊎ ((R : Sort) × (above x ≡ Some R))
+pub named_above : (above : Above) (bs : List (ℕ × ℕ)) (x : ℕ) (S : Sort) → all_bound First above OfType (binders bs) x ≡ Some S → (is_name_of (bound_names (binders bs)) x ≡ true) ⊎ ((R : Sort) × (above x ≡ Some R))
 unfolding all_bound
 named_above above [] x S k = inr (S, k)
 named_above above (b ∷ bs) x S k = go (named_above (bound First above b.0 (OfType b.1)) bs x S k)

@@ -23,7 +23,7 @@ built_script_row = 159
 
 -- how many of the steps, from the first one on, have a rule
 abbrev pub steps_with_a_rule : ℕ
-steps_with_a_rule = 13
+steps_with_a_rule = 16
 
 abbrev pub script_rows : Table
 script_rows =
@@ -174,12 +174,12 @@ script_rows =
     (Over head.MergeStep 119 ∷ []) ∷  -- 144 a merge
     (Over head.MoveStep 125 ∷ []) ∷  -- 145 a move
     (Over head.CodefStep 127 ∷ []) ∷  -- 146 a codef
-    (Over head.PickStep 118 ∷ []) ∷  -- 147 a pick
-    (Over head.ArrayRenameStep 126 ∷ []) ∷  -- 148 a array rename
-    (Over head.BirthdayStep 128 ∷ []) ∷  -- 149 a birthday
-    (Over head.GuessStep 129 ∷ []) ∷  -- 150 a guess
-    (Over head.FreshStep 130 ∷ []) ∷  -- 151 a fresh
-    (Over head.SimplifyStep 133 ∷ []) ∷  -- 152 a simplify
+    (Over head.ArrayRenameStep 126 ∷ []) ∷  -- 147 a array rename
+    (Over head.SimplifyStep 133 ∷ []) ∷  -- 148 a simplify
+    (Over head.PickStep 118 ∷ []) ∷  -- 149 a pick
+    (Over head.BirthdayStep 128 ∷ []) ∷  -- 150 a birthday
+    (Over head.GuessStep 129 ∷ []) ∷  -- 151 a guess
+    (Over head.FreshStep 130 ∷ []) ∷  -- 152 a fresh
     (OneOf 134 19 ∷ []) ∷  -- 153 step
     (OneOf 134 19 ∷ Sign mark.Semicolon ∷ []) ∷  -- 154 step item
     (Many false 154 ∷ []) ∷  -- 155 steps

@@ -218,10 +218,10 @@ renames l d =
     has (Rename x.first.0 y.first.0) (bound (λ v. name_in y.tree >>= λ w. Some (Rename v w)) (name_is x.first) (bound (λ w. Some (Rename x.first.0 w)) (name_is y.first) refl)) refl
     ))
 
-picks : (l : List Tree) → Made 118 l → HasItems is_any (over head.PickStep l)
+picks : (l : List Tree) → Made 118 l → HasItems is_built (over head.PickStep l)
 picks l d =
     let p = take (skip (skip d)) in
-    with_first is_any head.PickStep p (
+    with_first is_built head.PickStep p (
     let b = single p.rest in
     has (Pick p.first.0 (first b) (first (second b)) (second (second b))) (bound (λ v. Some (Pick v (first b) (first (second b)) (second (second b)))) (number_is p.first) refl) refl
     )
@@ -235,10 +235,10 @@ unlets l d = let x = last (skip (skip d)) in with_one is_built head.UnletStep x 
 moves : (l : List Tree) → Made 125 l → HasItems is_built (over head.MoveStep l)
 moves l d = let p = last (skip (skip d)) in with_one is_built head.MoveStep p (has (Move p.first.0) (bound (λ v. Some (Move v)) (number_is p.first) refl) refl)
 
-array_renames : (l : List Tree) → Made 126 l → HasItems is_any (over head.ArrayRenameStep l)
+array_renames : (l : List Tree) → Made 126 l → HasItems is_built (over head.ArrayRenameStep l)
 array_renames l d =
     let x = take (skip (skip d)) in
-    with_first is_any head.ArrayRenameStep x (has (ArrayRename x.first.0 (single x.rest)) (bound (λ y. Some (ArrayRename y (single x.rest))) (name_is x.first) refl) refl)
+    with_first is_built head.ArrayRenameStep x (has (ArrayRename x.first.0 (single x.rest)) (bound (λ y. Some (ArrayRename y (single x.rest))) (name_is x.first) refl) refl)
 
 codefs : (l : List Tree) → Made 127 l → HasItems is_built (over head.CodefStep l)
 codefs l d =
@@ -283,7 +283,7 @@ successes l d =
     let k = take (skip (skip d)) in
     with_first is_built head.SuccessStep k (has (Success k.first.0 (single k.rest)) (bound (λ v. Some (Success v (single k.rest))) (number_is k.first) refl) refl)
 
-simplifies : (l : List Tree) → Made 133 l → HasItems is_any (over head.SimplifyStep l)
+simplifies : (l : List Tree) → Made 133 l → HasItems is_built (over head.SimplifyStep l)
 simplifies l d = let y = over_node head.SimplifyStep l in has Simplify (ap items_of_step y.2) refl
 
 -- a row of one step
@@ -321,16 +321,16 @@ rows_with_a_rule =
     ∷ record { row = 144; makes = a_step is_built head.MergeStep 144 119 refl merges }
     ∷ record { row = 145; makes = a_step is_built head.MoveStep 145 125 refl moves }
     ∷ record { row = 146; makes = a_step is_built head.CodefStep 146 127 refl codefs }
+    ∷ record { row = 147; makes = a_step is_built head.ArrayRenameStep 147 126 refl array_renames }
+    ∷ record { row = 148; makes = a_step is_built head.SimplifyStep 148 133 refl simplifies }
+    ∷ record { row = 149; makes = a_step is_built head.PickStep 149 118 refl picks }
     ∷ []
 
 abbrev later_rows : List (StepRow is_any)
 later_rows =
-    record { row = 147; makes = a_step is_any head.PickStep 147 118 refl picks }
-    ∷ record { row = 148; makes = a_step is_any head.ArrayRenameStep 148 126 refl array_renames }
-    ∷ record { row = 149; makes = a_step is_any head.BirthdayStep 149 128 refl birthdays }
-    ∷ record { row = 150; makes = a_step is_any head.GuessStep 150 129 refl guesses }
-    ∷ record { row = 151; makes = a_step is_any head.FreshStep 151 130 refl freshes }
-    ∷ record { row = 152; makes = a_step is_any head.SimplifyStep 152 133 refl simplifies }
+    record { row = 150; makes = a_step is_any head.BirthdayStep 150 128 refl birthdays }
+    ∷ record { row = 151; makes = a_step is_any head.GuessStep 151 129 refl guesses }
+    ∷ record { row = 152; makes = a_step is_any head.FreshStep 152 130 refl freshes }
     ∷ []
 
 abbrev any_row : StepRow is_built → StepRow is_any

@@ -27,14 +27,8 @@ use Rattle.cv_parse_tables.proofs.terminals.Telling.{Keeps, grown}
 use Rattle.cv_print_bytes.proofs.numbers.SmallSigns.{number_fits}
 use Rattle.cv_print_bytes.specs.terminals.Written.{is_name}
 use Rattle.cv_script_laws.proofs.printing.Files.{AreGood, IsGood}
-
-bool_is : mark_of_text (codes "bool") ≡ Some mark.Bool
-unfolding mark_of_text
-bool_is = refl
-
-no_mark : (rest : List ℕ) → mark_of_text (codes "collision_" ++ rest) ≡ None
-unfolding mark_of_text
-no_mark rest = refl
+use Rattle.cv_parse_laws.proofs.Signs.{bool_is}
+use Rattle.cv_print_bytes.proofs.Files.{no_mark}
 
 -- names with `bool` first, and a bound for labels
 module _ (names : List (List ℕ)) (bool : slice_get names 0 ≡ Some (codes "bool")) (n : ℕ) (few : n < 18446744073709551616) where

@@ -1,7 +1,7 @@
 -- Which steps have items, and which of them have a rule.
 use Rattle.std.specs.Prelude.{◌≡◌, Bool, true, false, Some}
 use Rattle.cv_syntax_trees.specs.Tree.{Tree}
-use Rattle.cv_script.specs.Views.{StepItems, Codef, Crypto, Split, Success, Let, Merge, Move, New, Rename, Unlet, Unnew, Rewrite, Prune, items_of_step}
+use Rattle.cv_script.specs.Views.{StepItems, ArrayRename, Codef, Crypto, Split, Success, Let, Merge, Move, New, Pick, Rename, Simplify, Unlet, Unnew, Rewrite, Prune, items_of_step}
 
 -- the steps that have a rule
 abbrev pub is_built : StepItems → Bool
@@ -18,6 +18,9 @@ is_built (Crypto e x) = true
 is_built (Merge p) = true
 is_built (Move p) = true
 is_built (Codef p add y x above) = true
+is_built (ArrayRename x to) = true
+is_built (Pick p ms d e) = true
+is_built Simplify = true
 is_built i = false
 
 -- all steps

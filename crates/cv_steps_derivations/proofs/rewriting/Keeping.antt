@@ -37,7 +37,7 @@ both_all P Q R f [] p q = All-nil R
 both_all P Q R f (x ∷ xs) p q = All-cons R x xs (f x (All-head P x xs p) (All-head Q x xs q)) (both_all P Q R f xs (All-tail P x xs p) (All-tail Q x xs q))
 
 -- an equation is 1 where both sides have one value
-sides_equal : (g : Setting) (at : Indices) (n : Store) (a b : Tree) → value g at n (Node Eq a b) ≡ 1 → value g at n a ≡ value g at n b
+pub sides_equal : (g : Setting) (at : Indices) (n : Store) (a b : Tree) → value g at n (Node Eq a b) ≡ 1 → value g at n a ≡ value g at n b
 unfolding value
 sides_equal g at n a b e = go (value g at n a == value g at n b) refl e
   where

@@ -22,20 +22,12 @@ use Rattle.cv_steps_derivations.proofs.unletting.Puts.{put_kept, put_read}
 use Rattle.cv_steps_derivations.proofs.unletting.Reach.{plain}
 use Rattle.cv_steps_derivations.proofs.unletting.Sites.{OneDefinition}
 use Rattle.cv_steps_derivations.proofs.unletting.Told.{told}
+use Rattle.cv_steps_derivations.proofs.rewriting.Keeping.{sides_equal}
 
 among_true : (P : Tree → Type 0) (f : Tree) (fs : List Tree) → IsAmong f fs → AllByRecursion P fs → P f
 among_true P f [] i k = absurd i
 among_true P f (c ∷ fs) (inl i) k = subst P (sym i) k.0
 among_true P f (c ∷ fs) (inr i) k = among_true P f fs i k.1
-
--- an equation is 1 where both sides have one value
-sides_equal : (g : Setting) (at : Indices) (n : Store) (a b : Tree) → value g at n (Node Eq a b) ≡ 1 → value g at n a ≡ value g at n b
-unfolding value
-sides_equal g at n a b e = go (value g at n a == value g at n b) refl e
-  where
-    go : (v : Bool) → (value g at n a == value g at n b) ≡ v → bit v ≡ 1 → value g at n a ≡ value g at n b
-    go true f e = eqb-true (value g at n a) (value g at n b) f
-    go false f e = absurd (cc)
 
 module _ (g : Setting) (game : Tree) (x : ℕ) (d : Assignment) (fine : Game g (is_variable game) game) (well : is_phrase Inputs game ≡ true) (one : OneDefinition game x d) (free : is_listed x game ≡ false) (at : Indices) (n : Store) where
   -- the facts that are known hold in the store

@@ -24,7 +24,7 @@ returns-in_err-check_limits-clause-answer c =
     let next = edited pool.trees s.game c.args.edit.now in
     let need = need_of s.game c.args.edit.now in
     answer_through pool.limit (length pool.trees) need (judgement_of_row s (Leads next Zero)) pool.trees _ _ c.from_residual-in_err-check_limits.ensures.1
-    (over_answer s next c.in_err-check_limits.field-0.0 c.in_ok-extent.extent.nodes c.in_ok-extent.extent.depth c.in_ok-extent.ensures.nodes c.in_ok-extent.ensures.depth c.in_err-check_limits.ensures.over pool.limit (length pool.trees) need pool.trees)
+    (over_answer s next c.in_ok-extent.extent.nodes c.in_ok-extent.extent.depth c.in_ok-extent.ensures.nodes c.in_ok-extent.ensures.depth c.in_err-check_limits.field-0.0 c.in_err-check_limits.ensures.over pool.limit (length pool.trees) need pool.trees)
 
 pub returns-in_err-root-clause-answer : goal.returns-in_err-root-clause-answer
 returns-in_err-root-clause-answer c =

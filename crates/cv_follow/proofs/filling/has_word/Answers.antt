@@ -1,0 +1,8 @@
+use Rattle.std.proofs.Common.{sym, ◌∙◌, map}
+use Rattle.cv_syntax.specs.PoolTrees.{tree_at}
+use Rattle.std.specs.Prelude.{Some}
+use Rattle.cv_follow.proofs.Fillings.{word_found}
+use Rattle.cv_follow.proofs.filling.has_word.Goals as goal
+
+pub returns-then-is_word : goal.returns-then-is_word
+returns-then-is_word c = sym (word_found c.args.pool.now.trees c.args.script.now c.steps.step-index _ c.steps-test.true (sym c.is_word.ensures ∙ c.if-is_word.true))

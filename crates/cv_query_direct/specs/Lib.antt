@@ -1,8 +1,0 @@
-pub mod Found
-pub mod Plain
-pub mod Search
-pub mod Variables
-pub mod Certificates
-pub mod Closing
-pub mod closed_terms
-pub mod forms

@@ -1,1 +1,0 @@
-// Queries whose right sides name what they may. Definitions alone, in `specs/`.
